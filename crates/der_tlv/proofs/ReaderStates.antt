@@ -1,0 +1,36 @@
+-- What is left in a reader, after each of its calls.
+use Rattle.std.proofs.Common.{◌≡◌, ℕ, ◌+◌, ◌<◌, ◌≤◌, ◌^◌, List, length, take, drop, Bool, true, false, refl, sym, ap, ◌∙◌, arith, [], ◌∷◌, nat_eq, IsTrue, ◌↔◌, not, ◌&&◌, nat_le}
+use Rattle.std.proofs.lemmas.List.{drop-drop, drop-take, take-take, length-take, length-drop}
+use Rattle.std.proofs.lemmas.Bool.Decides.{nat_tests}
+use Rattle.std.proofs.lemmas.Bool.{leb-true}
+use Rattle.der_tlv.specs.ReaderState.{ReaderState, IsReaderState, rest, after_read, nested, can_read}
+
+pub rest-after_read : (s : ReaderState) (n : ℕ) → rest (after_read s n) ≡ drop n (rest s)
+rest-after_read s n = sym (drop-drop n s.position (take s.end s.input))
+
+pub length-rest : (s : ReaderState) → IsReaderState s → s.position + length (rest s) ≡ s.end
+length-rest s h = let a = length-drop s.position (take s.end s.input) in let b = length-take s.end s.input in let o = h.ordered in let i = h.inside in omega arith
+
+pub rest-nested : (s : ReaderState) (n : ℕ) → s.position + n ≤ s.end → rest (nested s n) ≡ take n (rest s)
+rest-nested s n h =
+    ap (drop s.position) (sym (take-take (s.position + n) s.end s.input h)) ∙ drop-take s.position n (take s.end s.input)
+
+pub room_from_can_read : (s : ReaderState) (n : ℕ) → can_read s n ≡ true → s.position + n ≤ s.end
+room_from_can_read s n h = leb-true (s.position + n) s.end (and_right (not s.failed) (nat_le (s.position + n) s.end) h)
+  where
+    and_right : (a b : Bool) → (a && b) ≡ true → b ≡ true
+    and_right true b e = e
+    and_right false b e = absurd (cc)
+
+nothing : (c : List ℕ) → length c ≡ 0 → c ≡ []
+nothing [] h = refl
+nothing (x ∷ c) h = absurd (omega arith)
+
+-- the position is the end where nothing is left
+pub finished : (s : ReaderState) → IsReaderState s → IsTrue (nat_eq s.position s.end) ↔ (rest s ≡ [])
+finished s h =
+    let l = length-rest s h in
+    (λ e. let k : s.position ≡ s.end = grind (arith, nat_tests) in nothing (rest s) (omega arith), λ e. let k = ap length e in let m : s.position ≡ s.end = omega arith in grind (arith, nat_tests))
+
+pub end_reached : (s : ReaderState) → IsReaderState s → rest s ≡ [] → s.position ≡ s.end
+end_reached s h e = let l = length-rest s h in let n = ap length e in omega arith

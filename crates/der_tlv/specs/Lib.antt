@@ -1,0 +1,11 @@
+pub mod Octets
+pub mod TagParts
+pub mod Identifier
+pub mod LengthOctets
+pub mod HeaderOctets
+pub mod ReaderState
+pub mod HeaderReading
+pub mod Reading
+pub mod Writing
+pub mod ErrorNumber
+pub mod Fitting

@@ -1,0 +1,97 @@
+-- What the calls of readers answer, and what stands after each.
+use Rattle.std.specs.Prelude.{◌≡◌, ℕ, ◌+◌, ◌^◌, ◌<◌, ◌≤◌, List, [], ◌∷◌, length, take, Bool, true, false, nat_lt, nat_eq, ◌==◌, ◌&&◌, if◌then◌else◌, Result, Ok, Err, IsTrue, ◌↔◌}
+use Rattle.std.specs.Borrow.{Bor}
+use Rattle.der_tlv.specs.declared.error.ErrorKind.{ErrorKind}
+use Rattle.der_tlv.specs.declared.error.ErrorKind.TheVariants.{Overflow, Failed, TrailingData, TagUnexpected}
+use Rattle.der_tlv.specs.declared.error.Error.{Error}
+use Rattle.der_tlv.specs.declared.header.Header.{Header}
+use Rattle.der_tlv.specs.declared.tag.Tag.{Tag}
+use Rattle.der_tlv.specs.declared.encoding_rules.EncodingRules.{EncodingRules}
+use Rattle.der_tlv.specs.TagParts.{IsTag, class_of, number_of}
+use Rattle.der_tlv.specs.ReaderState.{ReaderState, rest, after_read, after_fault, can_read, read_fault, nested, unnested, can_unnest, unnest_fault, opened, seen}
+
+-- a refusal: its kind, and the reader failed and otherwise as it was
+pub record Refuses (old new : ReaderState) (kind fault : ErrorKind) : Type 0 where
+  pub fault_is : kind ≡ fault
+  pub after : new ≡ after_fault old
+
+-- one octet was read
+pub record OctetRead (old new : ReaderState) (octet : ℕ) : Type 0 where
+  pub ready : old.failed ≡ false
+  pub first : rest old ≡ octet ∷ rest new
+  pub after : new ≡ after_read old 1
+
+-- what reading an octet answers
+abbrev pub ReadsOctet : ReaderState → ReaderState → Result ℕ Error → Type 0
+ReadsOctet old new (Ok octet) = OctetRead old new octet
+ReadsOctet old new (Err e) = Refuses old new e.kind (read_fault old 1) × (old.failed ≡ false → rest old ≡ [])
+
+-- so many octets were read
+pub record OctetsRead (old new : ReaderState) (n : ℕ) (octets : List ℕ) : Type 0 where
+  pub readable : can_read old n ≡ true
+  pub value : octets ≡ take n (rest old)
+  pub count : length octets ≡ n
+  pub after : new ≡ after_read old n
+
+-- a refusal of so many octets
+pub record OctetsRefused (old new : ReaderState) (n : ℕ) (kind : ErrorKind) : Type 0 where
+  pub unreadable : can_read old n ≡ false
+  pub fault_is : kind ≡ read_fault old n
+  pub after : new ≡ after_fault old
+
+-- what nesting answers: the end so far
+pub record Nested (old new : ReaderState) (n end : ℕ) : Type 0 where
+  pub readable : can_read old n ≡ true
+  pub end_is : end ≡ old.end
+  pub after : new ≡ nested old n
+
+abbrev pub Nests : ReaderState → ReaderState → ℕ → Result ℕ Error → Type 0
+Nests old new n (Ok end) = Nested old new n end
+Nests old new n (Err e) = OctetsRefused old new n e.kind
+
+-- the end was put back
+pub record Unnested (old new : ReaderState) (end : ℕ) : Type 0 where
+  pub possible : can_unnest old end ≡ true
+  pub after : new ≡ unnested old end
+
+pub record UnnestRefused (old new : ReaderState) (end : ℕ) (kind : ErrorKind) : Type 0 where
+  pub impossible : can_unnest old end ≡ false
+  pub fault_is : kind ≡ unnest_fault old
+  pub after : new ≡ after_fault old
+
+abbrev pub Unnests : ReaderState → ReaderState → ℕ → Result (Unit {0}) Error → Type 0
+Unnests old new end (Ok u) = Unnested old new end
+Unnests old new end (Err e) = UnnestRefused old new end e.kind
+
+-- something was read that takes these octets
+pub record HeadRead {A : Type 0} (parse : ℕ → List ℕ → Result (ℕ × A) ErrorKind) (octets : List ℕ) (old new : ReaderState) (v : A) : Type 0 where
+  pub ready : old.failed ≡ false
+  pub parsed : parse old.position (rest old) ≡ Ok (length octets, v)
+  pub taken : take (length octets) (rest old) ≡ octets
+  pub after : new ≡ after_read old (length octets)
+
+-- the first fault of what should have been read, and the reader failed
+pub record HeadFault {A : Type 0} (parse : ℕ → List ℕ → Result (ℕ × A) ErrorKind) (old new : ReaderState) (kind : ErrorKind) : Type 0 where
+  pub fault_is : seen parse old ≡ Err kind
+  pub failed : new.failed ≡ true
+
+-- what a call answers that reads a value from these octets
+abbrev pub ReadsHead : {A : Type 0} → (ℕ → List ℕ → Result (ℕ × A) ErrorKind) → (A → List ℕ) → ReaderState → ReaderState → Result A Error → Type 0
+ReadsHead parse octets_of old new (Ok v) = HeadRead parse (octets_of v) old new v
+ReadsHead parse octets_of old new (Err e) = HeadFault parse old new e.kind
+
+-- looking at what comes next: the reader stays, or has failed
+pub record HeadSeen {A : Type 0} (parse : ℕ → List ℕ → Result (ℕ × A) ErrorKind) (octets : List ℕ) (old new : ReaderState) (v : A) : Type 0 where
+  pub ready : old.failed ≡ false
+  pub parsed : parse old.position (rest old) ≡ Ok (length octets, v)
+  pub taken : take (length octets) (rest old) ≡ octets
+  pub after : new ≡ old
+
+abbrev pub PeeksHead : {A : Type 0} → (ℕ → List ℕ → Result (ℕ × A) ErrorKind) → (A → List ℕ) → ReaderState → ReaderState → Result A Error → Type 0
+PeeksHead parse octets_of old new (Ok v) = HeadSeen parse (octets_of v) old new v
+PeeksHead parse octets_of old new (Err e) = HeadFault parse old new e.kind
+
+-- a reader of all of the octets, where a length can say how many they are
+abbrev pub Opens : List ℕ → EncodingRules → Result ReaderState Error → Type 0
+Opens octets rules (Ok s) = (s ≡ opened octets rules) × (length octets < 2 ^ 32)
+Opens octets rules (Err e) = (e.kind ≡ Overflow) × (2 ^ 32 ≤ length octets)

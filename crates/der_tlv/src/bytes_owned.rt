@@ -1,0 +1,68 @@
+//! Owned octets whose number a length can say.
+
+ghost use Rattle.std.specs.Prelude.{◌≡◌, ◌↔◌, ◌^◌, ◌<◌, ℕ, List, [], length, IsTrue, IsOk, IfOk, IfErr};
+ghost use Rattle.der_tlv.specs.declared.error.ErrorKind.TheVariants.{Overflow};
+
+use crate::bytes_ref::BytesRef;
+use crate::error::Error;
+use crate::length::Length;
+
+/// Owned octets, of which there are at most 4294967295.
+#[derive(Debug, Drop, PartialEq, Eq, PartialOrd, Ord, Hash)]
+pub struct BytesOwned {
+    /// The octets.
+    pub octets: Vec<u8>,
+    ghost short: { length octets.items < 2 ^ 32 },
+}
+
+impl BytesOwned {
+    /// These octets.
+    ///
+    /// # Errors
+    /// (9) for more than 4294967295 octets.
+    pub fn new(octets: Vec<u8>) -> Result<BytesOwned, Error>
+        ensures ok { IsOk result ↔ (length octets.items < 2 ^ 32) }
+        ensures value { IfOk result (λ b. b.octets.items ≡ octets.items) }
+        ensures err { IfErr result (λ e. e.kind ≡ Overflow) }
+    {
+        let _len = Length::of(octets.len())?;
+        Ok(BytesOwned { octets })
+    }
+
+    /// The octets.
+    pub fn as_slice(&self) -> &[u8]
+        ensures { result.now ≡ self.now.octets.items }
+    {
+        &self.octets
+    }
+
+    /// The octets, borrowed.
+    pub fn to_ref(&self) -> BytesRef<'_>
+        ensures { result.octets.now ≡ self.now.octets.items }
+    {
+        BytesRef {
+            octets: self.as_slice(),
+        }
+    }
+
+    /// The octets, in their vector.
+    pub fn into_vec(self) -> Vec<u8>
+        ensures { result.items ≡ self.octets.items }
+    {
+        self.octets
+    }
+
+    /// How many there are.
+    pub fn len(&self) -> Length
+        ensures { result ≡ length self.now.octets.items }
+    {
+        Length::new(self.octets.len() as u32)
+    }
+
+    /// Whether there are none.
+    pub fn is_empty(&self) -> bool
+        ensures { IsTrue result ↔ (self.now.octets.items ≡ []) }
+    {
+        self.octets.is_empty()
+    }
+}

@@ -1,0 +1,170 @@
+//! Lengths, and their octets.
+
+ghost use Rattle.std.specs.Prelude.{◌≡◌, ℕ, ◌+◌, ◌-◌, ◌^◌, ◌<◌, ◌≤◌, ◌↔◌, IsTrue, IfOk, IfErr, IsOk};
+ghost use Rattle.der_tlv.specs.LengthOctets.{length_octets};
+ghost use Rattle.der_tlv.specs.HeaderReading.{read_length};
+ghost use Rattle.der_tlv.specs.Reading.{ReadsHead};
+ghost use Rattle.der_tlv.specs.Fitting.{FitsLength};
+ghost use Rattle.der_tlv.specs.declared.error.ErrorKind.TheVariants.{Overflow};
+
+use std::marker::Model;
+
+use crate::error::{Error, ErrorKind};
+use crate::reader::Reader;
+
+/// A number of octets, 0 to 4294967295.
+///
+/// Its length octets are the number itself below 128, as 05 for 5; else 80 plus the count of the
+/// octets that follow, and the number in these, high octet first, as 81 80 for 128
+/// (X.690 8.1.3, 10.1).
+#[derive(Clone, Copy, Debug, PartialEq, Eq, PartialOrd, Ord, Hash)]
+pub struct Length(u32);
+
+impl Model for Length {
+    ghost use Rattle.std.specs.Prelude.{ℕ, ◌<◌, ◌^◌};
+
+    ghost Value = { ℕ };
+
+    ghost view = { λ l. l.0 };
+
+    ghost invariant = { λ l. l.0 < 2 ^ 32 };
+
+    ghost inverse = { λ n. record { 0 = n } };
+}
+
+impl Length {
+    /// No octets.
+    pub const ZERO: Length = Length(0);
+
+    /// One octet.
+    pub const ONE: Length = Length(1);
+
+    /// The greatest length, 4294967295.
+    pub const MAX: Length = Length(u32::MAX);
+
+    /// A length of that many octets.
+    pub const fn new(value: u32) -> Length
+        ensures { result ≡ value }
+    {
+        Length(value)
+    }
+
+    /// Whether there are no octets.
+    pub const fn is_zero(self) -> bool
+        ensures { IsTrue result ↔ (self ≡ 0) }
+    {
+        self.0 == 0
+    }
+
+    /// The number of octets.
+    pub const fn value(self) -> u32
+        ensures value { result ≡ self }
+        ensures bounded { self < 2 ^ 32 }
+    {
+        self.0
+    }
+
+    /// A length of that many octets.
+    ///
+    /// # Errors
+    /// (9) above 4294967295.
+    pub fn of(len: usize) -> Result<Length, Error>
+        ensures { FitsLength len result }
+    {
+        match u32::try_from(len) {
+            Ok(len) => Ok(Length(len)),
+            Err(_) => Err(Error::from_kind(ErrorKind::Overflow)),
+        }
+    }
+
+    /// The sum of two lengths.
+    ///
+    /// # Errors
+    /// (9) for a sum above 4294967295.
+    pub fn add(self, other: Length) -> Result<Length, Error>
+        ensures { FitsLength (self + other) result }
+    {
+        match self.0.checked_add(other.0) {
+            Some(sum) => Ok(Length(sum)),
+            None => Err(Error::from_kind(ErrorKind::Overflow)),
+        }
+    }
+
+    /// The difference of two lengths.
+    ///
+    /// # Errors
+    /// (9) for a difference below 0.
+    pub fn sub(self, other: Length) -> Result<Length, Error>
+        ensures ok { IsOk result ↔ (other ≤ self) }
+        ensures value { IfOk result (λ l. l ≡ self - other) }
+        ensures err { IfErr result (λ e. e.kind ≡ Overflow) }
+    {
+        match self.0.checked_sub(other.0) {
+            Some(difference) => Ok(Length(difference)),
+            None => Err(Error::from_kind(ErrorKind::Overflow)),
+        }
+    }
+
+    /// Reads length octets.
+    ///
+    /// # Errors
+    /// (17) on a failed reader. Else, in this order: no octet (2); 80, an indefinite length (16);
+    /// 85 to FF, more than four octets (10); one of the octets missing (2); a length that fewer
+    /// octets could say (10).
+    pub fn decode<'a, R: Reader<'a>>(reader: &mut R) -> Result<Length, Error>
+        ensures { ReadsHead read_length length_octets (R.state reader.old) (R.state reader.new) result }
+    {
+        let first = reader.read_byte()?;
+        match first {
+            0..=0x7f => Ok(Length(u32::from(first))),
+            0x80 => Err(reader.error(ErrorKind::IndefiniteLength)),
+            0x81..=0x84 => decode_long(reader, first - 0x80),
+            _ => Err(reader.error(ErrorKind::Overlength)),
+        }
+    }
+}
+
+/// Reads the octets of a length of 128 and more, of which there are `count`.
+fn decode_long<'a, R: Reader<'a>>(reader: &mut R, count: u8) -> Result<Length, Error> {
+    let mut length = 0u32;
+    for _ in 0..count {
+        length = length * 256 + u32::from(reader.read_byte()?);
+    }
+    Ok(Length(length))
+}
+
+impl TryFrom<usize> for Length {
+    type Error = Error;
+
+    ghost try_from_gives = { FitsLength };
+
+    /// # Errors
+    /// (9) above 4294967295.
+    fn try_from(len: usize) -> Result<Length, Error> {
+        Length::of(len)
+    }
+}
+
+impl From<Length> for usize {
+    ghost from_gives = { λ l n. n ≡ l };
+
+    fn from(len: Length) -> usize {
+        len.0 as usize
+    }
+}
+
+impl From<Length> for u32 {
+    ghost from_gives = { λ l n. n ≡ l };
+
+    fn from(len: Length) -> u32 {
+        len.0
+    }
+}
+
+impl From<u32> for Length {
+    ghost from_gives = { λ n l. l ≡ n };
+
+    fn from(len: u32) -> Length {
+        Length(len)
+    }
+}

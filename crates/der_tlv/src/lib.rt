@@ -1,0 +1,24 @@
+//! Tags, lengths and headers of X.690 DER, and the readers and writers of their octets.
+//!
+//! Identifier octets, length octets and contents octets make an encoding, as 02 01 05 does for the
+//! INTEGER 5. This crate reads and writes the first two, and hands out the contents octets as they
+//! stand in the input.
+#![tactic(auto)]
+
+mod bytes_owned;
+mod bytes_ref;
+mod encoding_rules;
+mod error;
+mod header;
+mod length;
+mod reader;
+mod tag;
+
+pub use bytes_owned::BytesOwned;
+pub use bytes_ref::BytesRef;
+pub use encoding_rules::EncodingRules;
+pub use error::{Error, ErrorKind};
+pub use header::Header;
+pub use length::Length;
+pub use reader::{Reader, SliceReader};
+pub use tag::{Class, Tag, TagMode, TagNumber};

@@ -1,0 +1,82 @@
+//! Readers of octets.
+
+mod slice;
+
+ghost use Rattle.std.specs.Prelude.{◌≡◌, ℕ, ◌-◌, ◌≤◌, ◌↔◌, [], false, IfOk, IfErr, IsTrue};
+ghost use Rattle.der_tlv.specs.ReaderState.{ReaderState, IsReaderState, rest, after_fault, rewound};
+ghost use Rattle.der_tlv.specs.Reading.{ReadsOctet, OctetsRead, OctetsRefused, Nests, Unnests};
+
+pub use slice::SliceReader;
+
+use crate::encoding_rules::EncodingRules;
+use crate::error::{Error, ErrorKind};
+use crate::length::Length;
+
+/// A source of octets, which stands at a position and shows the octets up to an end.
+///
+/// A reader that a call has refused on is failed: from then on every call that reads, nests or
+/// unnests is refused (17), and `position`, `remaining_len` and `is_finished` keep their answers.
+pub trait Reader<'a> {
+    ghost state: { Self → ReaderState };
+
+    /// Reads one octet.
+    ///
+    /// # Errors
+    /// (17) on a failed reader; where no octet is left (2), or (9) where the position is the
+    /// greatest length.
+    fn read_byte(&mut self) -> Result<u8, Error>
+        ensures { ReadsOctet (state self.old) (state self.new) result };
+
+    /// Reads that many octets, as they stand in the input.
+    ///
+    /// # Errors
+    /// (17) on a failed reader; where fewer octets are left (2), or (9) where the position and
+    /// their number pass the greatest length.
+    fn read_slice(&mut self, len: Length) -> Result<&'a [u8], Error>
+        ensures ok { IfOk result (λ octets. OctetsRead (state self.old) (state self.new) len octets.now) }
+        ensures err { IfErr result (λ e. OctetsRefused (state self.old) (state self.new) len e.kind) };
+
+    /// Shows only that many of the octets that are left, and answers the end so far.
+    ///
+    /// # Errors
+    /// As `read_slice`.
+    fn nest(&mut self, len: Length) -> Result<Length, Error>
+        ensures { Nests (state self.old) (state self.new) len result };
+
+    /// Puts back the end that `nest` answered.
+    ///
+    /// # Errors
+    /// (17) on a failed reader; (3) where octets are left before the end of now; (9) where the end
+    /// to be put back is below it, or behind the input.
+    fn unnest(&mut self, end: Length) -> Result<(), Error>
+        ensures { Unnests (state self.old) (state self.new) end result };
+
+    /// Goes back to a position where the reader has been.
+    fn rewind(&mut self, position: Length)
+        requires ready { (state self.old).failed ≡ false }
+        requires behind { position ≤ (state self.old).position }
+        ensures { state self.new ≡ rewound (state self.old) position };
+
+    /// Whether no octet is left before the end.
+    fn is_finished(&self) -> bool
+        ensures { IsTrue result ↔ (rest (state self.now) ≡ []) };
+
+    /// How many octets stand before the position.
+    fn position(&self) -> Length
+        ensures { result ≡ (state self.now).position };
+
+    /// How many octets are left before the end.
+    fn remaining_len(&self) -> Length
+        ensures { result ≡ (state self.now).end - (state self.now).position };
+
+    /// The rules that are followed.
+    fn encoding_rules(&self) -> EncodingRules
+        ensures { result ≡ (state self.now).rules };
+
+    /// Makes the reader failed, and gives an error of this kind at its position.
+    fn error(&mut self, kind: ErrorKind) -> Error
+        ensures kind { result.kind ≡ kind }
+        ensures failed { state self.new ≡ after_fault (state self.old) };
+
+    ghost sound: { (r : Self) → IsReaderState (state r) };
+}

@@ -1,0 +1,216 @@
+//! A reader of octets in memory.
+
+ghost use Rattle.std.specs.Prelude.{⊤, ◌≡◌, ◌↔◌, ◌^◌, ◌<◌, ◌≤◌, List, length, Result, Ok, Err, IsOk, IfOk, IfErr, OnOk, true, false};
+ghost use Rattle.der_tlv.specs.ReaderState.{ReaderState, opened, IsReaderState, finish_fault, can_finish, can_read, read_fault, after_fault};
+ghost use Rattle.der_tlv.specs.declared.error.ErrorKind.TheVariants.{Overflow};
+ghost use Rattle.der_tlv.specs.declared.encoding_rules.EncodingRules.{EncodingRules};
+ghost use Rattle.der_tlv.specs.declared.encoding_rules.EncodingRules.TheVariants.{Der};
+
+use std::alloc::AllocError;
+
+use crate::encoding_rules::EncodingRules;
+use crate::error::{Error, ErrorKind};
+use crate::length::Length;
+use crate::reader::Reader;
+
+/// A reader of octets in memory, which hands them out as they stand there.
+#[derive(Debug, Drop)]
+pub struct SliceReader<'a> {
+    bytes: &'a [u8],
+    position: u32,
+    end: u32,
+    failed: bool,
+    rules: EncodingRules,
+    ghost short: { length bytes.now < 2 ^ 32 },
+    ghost ordered: { position ≤ end },
+    ghost inside: { end ≤ length bytes.now },
+}
+
+impl<'a> SliceReader<'a> {
+    /// A reader of all of the octets, under DER.
+    ///
+    /// # Errors
+    /// (9) for more than 4294967295 octets.
+    pub fn new(bytes: &'a [u8]) -> Result<SliceReader<'a>, Error>
+        ensures ok { IsOk result ↔ (length bytes.now < 2 ^ 32) }
+        ensures state { IfOk result (λ r. ⟦<SliceReader<'a> as Reader<'a>>⟧.state r ≡ opened bytes.now Der) }
+        ensures err { IfErr result (λ e. e.kind ≡ Overflow) }
+    {
+        SliceReader::new_with_encoding_rules(bytes, EncodingRules::Der)
+    }
+
+    /// A reader of all of the octets, under these rules.
+    ///
+    /// # Errors
+    /// (9) for more than 4294967295 octets.
+    pub fn new_with_encoding_rules(
+        bytes: &'a [u8],
+        rules: EncodingRules,
+    ) -> Result<SliceReader<'a>, Error>
+        ensures ok { IsOk result ↔ (length bytes.now < 2 ^ 32) }
+        ensures state { IfOk result (λ r. ⟦<SliceReader<'a> as Reader<'a>>⟧.state r ≡ opened bytes.now rules) }
+        ensures err { IfErr result (λ e. e.kind ≡ Overflow) }
+    {
+        if bytes.len() > 0xffff_ffff {
+            return Err(Error::from_kind(ErrorKind::Overflow));
+        }
+        Ok(SliceReader {
+            bytes,
+            position: 0,
+            end: bytes.len() as u32,
+            failed: false,
+            rules,
+        })
+    }
+
+    /// Ends the reading.
+    ///
+    /// # Errors
+    /// (17) on a failed reader; (3) where the position is not the end of the whole input, whatever
+    /// is nested.
+    pub fn finish(self) -> Result<(), Error>
+        ensures ok { IsOk result ↔ (can_finish (⟦<SliceReader<'a> as Reader<'a>>⟧.state self.entry) ≡ true) }
+        ensures err { IfErr result (λ e. e.kind ≡ finish_fault (⟦<SliceReader<'a> as Reader<'a>>⟧.state self.entry)) }
+    {
+        if self.failed {
+            return Err(Error {
+                kind: ErrorKind::Failed,
+                position: Some(Length::new(self.position)),
+            });
+        }
+        let remaining = self.bytes.len() - self.position as usize;
+        if remaining != 0 {
+            let decoded = Length::new(self.position);
+            return Err(Error {
+                kind: ErrorKind::TrailingData {
+                    decoded,
+                    remaining: Length::of(remaining)?,
+                },
+                position: Some(decoded),
+            });
+        }
+        Ok(())
+    }
+
+    /// Refuses a read of so many octets.
+    #[cold]
+    fn refusal(&mut self, len: u32) -> Error
+        requires { can_read (⟦<SliceReader<'a> as Reader<'a>>⟧.state self.old) len ≡ false }
+        ensures kind { result.kind ≡ read_fault (⟦<SliceReader<'a> as Reader<'a>>⟧.state self.old) len }
+        ensures failed { ⟦<SliceReader<'a> as Reader<'a>>⟧.state self.new ≡ after_fault (⟦<SliceReader<'a> as Reader<'a>>⟧.state self.old) }
+    {
+        let kind = if self.failed {
+            ErrorKind::Failed
+        } else {
+            match self.position.checked_add(len) {
+                Some(expected_len) => ErrorKind::Incomplete {
+                    expected_len: Length::new(expected_len),
+                    actual_len: Length::new(self.end),
+                },
+                None => ErrorKind::Overflow,
+            }
+        };
+        self.error(kind)
+    }
+}
+
+impl<'a> Clone for SliceReader<'a> {
+    ghost is_clone = { λ s r. ⟦<SliceReader<'a> as Reader<'a>>⟧.state r ≡ ⟦<SliceReader<'a> as Reader<'a>>⟧.state s };
+
+    ghost is_infallible = { λ _. ⊤ };
+
+    fn clone(&self) -> Result<SliceReader<'a>, AllocError> {
+        Ok(SliceReader {
+            bytes: self.bytes,
+            position: self.position,
+            end: self.end,
+            failed: self.failed,
+            rules: self.rules,
+        })
+    }
+}
+
+impl<'a> Reader<'a> for SliceReader<'a> {
+    ghost state = { λ r. record { input = r.bytes.now; position = r.position; end = r.end; failed = r.failed; rules = r.rules } };
+
+    ghost sound = { λ r. record { ordered = r.ordered; inside = r.inside; short = r.short } };
+
+    #[inline]
+    fn read_byte(&mut self) -> Result<u8, Error> {
+        if self.failed || self.position == self.end {
+            return Err(self.refusal(1));
+        }
+        let octet = self.bytes[self.position as usize];
+        self.position += 1;
+        Ok(octet)
+    }
+
+    #[inline]
+    fn read_slice(&mut self, len: Length) -> Result<&'a [u8], Error> {
+        let len = len.value();
+        if self.failed || len > self.end - self.position {
+            return Err(self.refusal(len));
+        }
+        let start = self.position as usize;
+        self.position += len;
+        Ok(&self.bytes[start..self.position as usize])
+    }
+
+    #[inline]
+    fn nest(&mut self, len: Length) -> Result<Length, Error> {
+        let len = len.value();
+        if self.failed || len > self.end - self.position {
+            return Err(self.refusal(len));
+        }
+        let end = self.end;
+        self.end = self.position + len;
+        Ok(Length::new(end))
+    }
+
+    #[inline]
+    fn unnest(&mut self, end: Length) -> Result<(), Error> {
+        let end = end.value();
+        if self.failed {
+            return Err(self.error(ErrorKind::Failed));
+        }
+        if self.position != self.end {
+            let decoded = self.position();
+            let remaining = self.remaining_len();
+            return Err(self.error(ErrorKind::TrailingData { decoded, remaining }));
+        }
+        if end < self.end || end as usize > self.bytes.len() {
+            return Err(self.error(ErrorKind::Overflow));
+        }
+        self.end = end;
+        Ok(())
+    }
+
+    fn rewind(&mut self, position: Length) {
+        self.position = position.value();
+    }
+
+    #[inline]
+    fn is_finished(&self) -> bool {
+        self.position == self.end
+    }
+
+    fn position(&self) -> Length {
+        Length::new(self.position)
+    }
+
+    fn remaining_len(&self) -> Length {
+        Length::new(self.end - self.position)
+    }
+
+    fn encoding_rules(&self) -> EncodingRules {
+        self.rules
+    }
+
+    fn error(&mut self, kind: ErrorKind) -> Error {
+        self.failed = true;
+        Error {
+            kind,
+            position: Some(self.position()),
+        }
+    }
+}

@@ -1,0 +1,204 @@
+//! Tags, and their identifier octets.
+
+mod class;
+mod mode;
+mod number;
+
+ghost use Rattle.std.specs.Prelude.{◌≡◌, ℕ, ◌+◌, ◌^◌, ◌<◌, ◌↔◌, IsTrue, IfOk, IfErr, IsOk, Option, Some, None, OnOk};
+ghost use Rattle.std.specs.Ordering.{on, as_partial_cmp};
+ghost use Rattle.der_tlv.specs.declared.error.ErrorKind.TheVariants.{TagUnexpected};
+ghost use Rattle.der_tlv.specs.Octets.{lex};
+ghost use Rattle.der_tlv.specs.TagParts.{IsTag, class_of, is_constructed, number_of};
+ghost use Rattle.der_tlv.specs.Identifier.{identifier};
+ghost use Rattle.der_tlv.specs.HeaderReading.{read_tag};
+ghost use Rattle.der_tlv.specs.Reading.{ReadsHead, PeeksHead};
+
+pub use class::Class;
+pub use mode::TagMode;
+pub use number::TagNumber;
+
+use crate::error::{Error, ErrorKind};
+use crate::reader::Reader;
+
+/// A tag: a class, whether the encoding is constructed, and a number.
+///
+/// The identifier octets of a number of at most 30 are one: the class in bits 8 and 7, the
+/// constructed bit in bit 6, the number in the others, as 30 for SEQUENCE. For a greater number
+/// those are ones, and the number follows in base 128, highest digit first, with bit 8 set in all
+/// octets but the last, as BF 1F for the constructed context-specific tag 31 (X.690 8.1.2).
+#[derive(Clone, Copy, Debug, PartialEq, Eq, Hash)]
+pub enum Tag {
+    /// BOOLEAN, 01.
+    Boolean,
+    /// INTEGER, 02.
+    Integer,
+    /// BIT STRING, 03.
+    BitString,
+    /// OCTET STRING, 04.
+    OctetString,
+    /// NULL, 05.
+    Null,
+    /// OBJECT IDENTIFIER, 06.
+    ObjectIdentifier,
+    /// REAL, 09.
+    Real,
+    /// ENUMERATED, 0A.
+    Enumerated,
+    /// UTF8String, 0C.
+    Utf8String,
+    /// RELATIVE-OID, 0D.
+    RelativeOid,
+    /// SEQUENCE and SEQUENCE OF, 30.
+    Sequence,
+    /// SET and SET OF, 31.
+    Set,
+    /// NumericString, 12.
+    NumericString,
+    /// PrintableString, 13.
+    PrintableString,
+    /// TeletexString, 14.
+    TeletexString,
+    /// VideotexString, 15.
+    VideotexString,
+    /// IA5String, 16.
+    Ia5String,
+    /// UTCTime, 17.
+    UtcTime,
+    /// GeneralizedTime, 18.
+    GeneralizedTime,
+    /// VisibleString, 1A.
+    VisibleString,
+    /// GeneralString, 1B.
+    GeneralString,
+    /// BMPString, 1E.
+    BmpString,
+    /// An application tag.
+    Application {
+        /// Whether the encoding is constructed.
+        constructed: bool,
+        /// The number.
+        number: TagNumber,
+    },
+    /// A context-specific tag.
+    ContextSpecific {
+        /// Whether the encoding is constructed.
+        constructed: bool,
+        /// The number.
+        number: TagNumber,
+    },
+    /// A private tag.
+    Private {
+        /// Whether the encoding is constructed.
+        constructed: bool,
+        /// The number.
+        number: TagNumber,
+    },
+}
+
+impl Tag {
+    /// The class.
+    pub fn class(self) -> Class
+        ensures { result ≡ class_of self }
+    {
+        match self {
+            Tag::Application { .. } => Class::Application,
+            Tag::ContextSpecific { .. } => Class::ContextSpecific,
+            Tag::Private { .. } => Class::Private,
+            _ => Class::Universal,
+        }
+    }
+
+    /// Whether the encoding is constructed, so that its contents are encodings.
+    pub fn is_constructed(self) -> bool
+        ensures { result ≡ is_constructed self }
+    {
+        match self {
+            Tag::Sequence | Tag::Set => true,
+            Tag::Application { constructed, .. }
+            | Tag::ContextSpecific { constructed, .. }
+            | Tag::Private { constructed, .. } => constructed,
+            _ => false,
+        }
+    }
+
+    /// The number within the class.
+    pub fn number(self) -> TagNumber
+        ensures value { result.0 ≡ number_of self }
+        ensures bounded { IsTag self }
+    {
+        match self {
+            Tag::Boolean => TagNumber(1),
+            Tag::Integer => TagNumber(2),
+            Tag::BitString => TagNumber(3),
+            Tag::OctetString => TagNumber(4),
+            Tag::Null => TagNumber(5),
+            Tag::ObjectIdentifier => TagNumber(6),
+            Tag::Real => TagNumber(9),
+            Tag::Enumerated => TagNumber(10),
+            Tag::Utf8String => TagNumber(12),
+            Tag::RelativeOid => TagNumber(13),
+            Tag::Sequence => TagNumber(16),
+            Tag::Set => TagNumber(17),
+            Tag::NumericString => TagNumber(18),
+            Tag::PrintableString => TagNumber(19),
+            Tag::TeletexString => TagNumber(20),
+            Tag::VideotexString => TagNumber(21),
+            Tag::Ia5String => TagNumber(22),
+            Tag::UtcTime => TagNumber(23),
+            Tag::GeneralizedTime => TagNumber(24),
+            Tag::VisibleString => TagNumber(26),
+            Tag::GeneralString => TagNumber(27),
+            Tag::BmpString => TagNumber(30),
+            Tag::Application { number, .. }
+            | Tag::ContextSpecific { number, .. }
+            | Tag::Private { number, .. } => number,
+        }
+    }
+
+    /// Asks that the tag is the expected one.
+    ///
+    /// # Errors
+    /// (4) with the expected tag for another.
+    pub fn assert_eq(self, expected: Tag) -> Result<Tag, Error>
+        ensures ok { IsOk result ↔ (self ≡ expected) }
+        ensures value { IfOk result (λ t. t ≡ self) }
+        ensures err { IfErr result (λ e. e.kind ≡ TagUnexpected (Some expected) self) }
+    {
+        if self == expected {
+            Ok(self)
+        } else {
+            Err(Error::from_kind(self.unexpected_error(Some(expected))))
+        }
+    }
+
+    /// (4): this tag stands where another, or one of others, is expected.
+    pub fn unexpected_error(self, expected: Option<Tag>) -> ErrorKind
+        ensures { result ≡ TagUnexpected expected self }
+    {
+        ErrorKind::TagUnexpected {
+            expected,
+            actual: self,
+        }
+    }
+
+    /// (13) for a type with this tag.
+    pub fn value_error(self) -> ErrorKind
+        ensures { result ≡ ErrorKind.Value self }
+    {
+        ErrorKind::Value { tag: self }
+    }
+
+    /// (7) for a type with this tag.
+    pub fn length_error(self) -> ErrorKind
+        ensures { result ≡ ErrorKind.Length self }
+    {
+        ErrorKind::Length { tag: self }
+    }
+
+    /// (8) for a type with this tag.
+    pub fn non_canonical_error(self) -> ErrorKind
+        ensures { result ≡ ErrorKind.Noncanonical self }
+    {
+        ErrorKind::Noncanonical { tag: self }
+    }
+}
