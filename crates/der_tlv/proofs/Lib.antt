@@ -1,1 +1,4 @@
 pub mod ReaderStates
+pub mod Lengths
+pub mod LongLengths
+pub mod ShortLengths

@@ -1,5 +1,5 @@
 -- What reading an identifier, a length and a header comes to, in the order of their faults.
-use Rattle.std.specs.Prelude.{ℕ, ◌+◌, ◌-◌, ◌/◌, ◌%◌, ◌^◌, nat_lt, nat_le, ◌==◌, nat_eq, if◌then◌else◌, Bool, List, [], ◌∷◌, length, take, drop, map, take_while, Option, Some, None, Result, Ok, Err}
+use Rattle.std.specs.Prelude.{ℕ, suc, ◌+◌, ◌-◌, ◌/◌, ◌%◌, ◌^◌, nat_lt, nat_le, ◌==◌, nat_eq, if◌then◌else◌, Bool, List, [], ◌∷◌, length, take, drop, map, take_while, Option, Some, None, Result, Ok, Err}
 use Rattle.std.specs.Int.Digits.{number_from_digits}
 use Rattle.std.specs.Cmp.Lexicographic.{pointwise}
 use Rattle.std.specs.Bool.{beq}
@@ -62,9 +62,20 @@ read_tag p [] = Err (octet_missing p [])
 read_tag p (x ∷ xs) =
     if x % 32 == 31 then tag_with_number x (read_number (p + 1) xs) else counted_tag 1 (tag_of_octets x (x % 32))
 
--- a length whose octets are these, if fewer octets could not say it
-abbrev pub fewest_octets : List ℕ → ℕ → Result (ℕ × ℕ) ErrorKind
-fewest_octets octets n = if pointwise nat_eq (length_octets n) octets then Ok (length octets, n) else Err Overlength
+-- a length of so many octets, these, if fewer octets could not say it
+abbrev pub fewest_octets : ℕ → List ℕ → ℕ → Result (ℕ × ℕ) ErrorKind
+fewest_octets count octets n =
+    if pointwise nat_eq (length_octets n) ((128 + count) ∷ octets) then Ok (count, n) else Err Overlength
+
+-- The octets of a length of 128 and more behind the octet that counts them, at position p.
+unfoldable pub read_long_length : ℕ → ℕ → List ℕ → Result (ℕ × ℕ) ErrorKind
+read_long_length count p octets =
+    if nat_lt (length octets) count then Err (octet_missing p octets)
+    else fewest_octets count (take count octets) (number_from_digits 256 (take count octets))
+
+abbrev pub behind_one : Result (ℕ × ℕ) ErrorKind → Result (ℕ × ℕ) ErrorKind
+behind_one (Ok (count, n)) = Ok (suc count, n)
+behind_one (Err k) = Err k
 
 -- Length octets at position p: how many there are and the length, or the first fault.
 unfoldable pub read_length : ℕ → List ℕ → Result (ℕ × ℕ) ErrorKind
@@ -72,9 +83,7 @@ read_length p [] = Err (octet_missing p [])
 read_length p (x ∷ xs) =
     if nat_lt x 128 then Ok (1, x)
     else (if x == 128 then Err IndefiniteLength
-    else (if nat_lt 132 x then Err Overlength
-    else (if nat_lt (length xs) (x - 128) then Err (octet_missing (p + 1) xs)
-    else fewest_octets (x ∷ take (x - 128) xs) (number_from_digits 256 (take (x - 128) xs)))))
+    else (if nat_lt 132 x then Err Overlength else behind_one (read_long_length (x - 128) (p + 1) xs)))
 
 abbrev pub header : Tag → ℕ → Header
 header t n = record { tag = t; length = n }

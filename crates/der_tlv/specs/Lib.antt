@@ -9,3 +9,4 @@ pub mod Reading
 pub mod Writing
 pub mod ErrorNumber
 pub mod Fitting
+pub mod LengthLaws

@@ -8,7 +8,7 @@ use Rattle.der_tlv.specs.declared.header.Header.{Header}
 use Rattle.der_tlv.specs.declared.tag.Tag.{Tag}
 use Rattle.der_tlv.specs.declared.encoding_rules.EncodingRules.{EncodingRules}
 use Rattle.der_tlv.specs.TagParts.{IsTag, class_of, number_of}
-use Rattle.der_tlv.specs.ReaderState.{ReaderState, rest, after_read, after_fault, can_read, read_fault, nested, unnested, can_unnest, unnest_fault, opened, seen}
+use Rattle.der_tlv.specs.ReaderState.{ReaderState, rest, after_read, after_fault, can_read, read_fault, read_fault_at, nested, unnested, can_unnest, unnest_fault, opened, seen}
 
 -- a refusal: its kind, and the reader failed and otherwise as it was
 pub record Refuses (old new : ReaderState) (kind fault : ErrorKind) : Type 0 where
@@ -24,7 +24,8 @@ pub record OctetRead (old new : ReaderState) (octet : ℕ) : Type 0 where
 -- what reading an octet answers
 abbrev pub ReadsOctet : ReaderState → ReaderState → Result ℕ Error → Type 0
 ReadsOctet old new (Ok octet) = OctetRead old new octet
-ReadsOctet old new (Err e) = Refuses old new e.kind (read_fault old 1) × (old.failed ≡ false → rest old ≡ [])
+ReadsOctet old new (Err e) =
+    Refuses old new e.kind (read_fault old 1) × (old.failed ≡ false → rest old ≡ []) × (old.failed ≡ false → e.kind ≡ read_fault_at old.position 1 0)
 
 -- so many octets were read
 pub record OctetsRead (old new : ReaderState) (n : ℕ) (octets : List ℕ) : Type 0 where

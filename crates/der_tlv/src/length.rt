@@ -1,8 +1,9 @@
 //! Lengths, and their octets.
 
-ghost use Rattle.std.specs.Prelude.{◌≡◌, ℕ, ◌+◌, ◌-◌, ◌^◌, ◌<◌, ◌≤◌, ◌↔◌, IsTrue, IfOk, IfErr, IsOk};
+ghost use Rattle.std.specs.Prelude.{◌≡◌, ℕ, ◌+◌, ◌-◌, ◌∷◌, ◌^◌, ◌<◌, ◌≤◌, ◌↔◌, IsTrue, IfOk, IfErr, IsOk};
+ghost use Rattle.std.specs.Int.Digits.{digits_of};
 ghost use Rattle.der_tlv.specs.LengthOctets.{length_octets};
-ghost use Rattle.der_tlv.specs.HeaderReading.{read_length};
+ghost use Rattle.der_tlv.specs.HeaderReading.{read_length, read_long_length};
 ghost use Rattle.der_tlv.specs.Reading.{ReadsHead};
 ghost use Rattle.der_tlv.specs.Fitting.{FitsLength};
 ghost use Rattle.der_tlv.specs.declared.error.ErrorKind.TheVariants.{Overflow};
@@ -125,10 +126,19 @@ impl Length {
 }
 
 /// Reads the octets of a length of 128 and more, of which there are `count`.
-fn decode_long<'a, R: Reader<'a>>(reader: &mut R, count: u8) -> Result<Length, Error> {
-    let mut length = 0u32;
-    for _ in 0..count {
+fn decode_long<'a, R: Reader<'a>>(reader: &mut R, count: u8) -> Result<Length, Error>
+    requires some { 1 ≤ count }
+    requires few { count ≤ 4 }
+    ensures head { ReadsHead (read_long_length count) (digits_of 256) (R.state reader.old) (R.state reader.new) result }
+    ensures whole { IfOk result (λ n. length_octets n ≡ (128 + count) ∷ digits_of 256 n) }
+{
+    let first = reader.read_byte()?;
+    let mut length = u32::from(first);
+    'octets: for read in 1..count {
         length = length * 256 + u32::from(reader.read_byte()?);
+    }
+    if first == 0 || length < 128 {
+        return Err(reader.error(ErrorKind::Overlength));
     }
     Ok(Length(length))
 }
