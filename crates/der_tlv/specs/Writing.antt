@@ -1,31 +1,53 @@
 -- What a writer shows, and what a call that writes answers.
-use Rattle.std.specs.Prelude.{◌≡◌, ℕ, ◌+◌, ◌<◌, ◌≤◌, List, ◌++◌, length, take, Bool, true, Result, Ok, Err, ◌⊎◌, IsTrue}
+use Rattle.std.specs.Prelude.{◌≡◌, ℕ, ◌+◌, ◌<◌, ◌≤◌, List, ◌++◌, length, take, Bool, true, false, Result, Ok, Err, IsTrue}
 use Rattle.der_tlv.specs.declared.error.ErrorKind.{ErrorKind}
+use Rattle.der_tlv.specs.declared.error.ErrorKind.TheVariants.{Memory, Overlength, Failed}
 use Rattle.der_tlv.specs.declared.error.Error.{Error}
 
--- the octets that it has taken, how often it has refused, how many more it surely takes, and the kinds with which it may refuse now
+-- the octets that it has taken, whether it has refused, how many more it surely takes, and the kinds with which it may refuse now
 pub record WriterState : Type 0 where
   pub taken : List ℕ
-  pub refusals : ℕ
+  pub failed : Bool
   pub room : ℕ
   pub may_refuse : ErrorKind → Bool
 
 -- all of the octets were taken
 pub record Wrote (octets : List ℕ) (old new : WriterState) : Type 0 where
   pub taken : new.taken ≡ old.taken ++ octets
-  pub refusals : new.refusals ≡ old.refusals
+  pub failed : new.failed ≡ old.failed
   pub room : old.room ≤ new.room + length octets
   pub may_refuse : new.may_refuse ≡ old.may_refuse
 
--- a beginning of the octets was taken, and then the writer refused, for want of room
+-- a beginning of the octets was taken, and then the writer refused: it had refused before, or wants room
 pub record WriterRefused (octets : List ℕ) (old new : WriterState) (kind : ErrorKind) : Type 0 where
   pub count : ℕ
   pub beginning : new.taken ≡ old.taken ++ take count octets
-  pub refused : old.refusals < new.refusals
-  pub short : old.room < length octets
+  pub failed : new.failed ≡ true
+  pub short : old.failed ≡ false → old.room < length octets
   pub permitted : IsTrue (old.may_refuse kind)
 
 -- a call of a writer with these octets
 abbrev pub Writes : {A : Type 0} → List ℕ → WriterState → WriterState → Result A Error → Type 0
 Writes octets old new (Ok v) = Wrote octets old new
 Writes octets old new (Err e) = WriterRefused octets old new e.kind
+
+abbrev pub is_failed : ErrorKind → Bool
+is_failed Failed = true
+is_failed _ = false
+
+abbrev pub is_overlength : ErrorKind → Bool
+is_overlength Overlength = true
+is_overlength _ = false
+
+abbrev pub is_memory : ErrorKind → Bool
+is_memory Memory = true
+is_memory _ = false
+
+-- a writer that refuses with (17) once it has refused
+abbrev pub refuses_first_with : (ErrorKind → Bool) → Bool → ErrorKind → Bool
+refuses_first_with first true = is_failed
+refuses_first_with first false = first
+
+abbrev pub room_unless_failed : Bool → ℕ → ℕ
+room_unless_failed true room = 0
+room_unless_failed false room = room

@@ -13,6 +13,7 @@ mod header;
 mod length;
 mod reader;
 mod tag;
+mod writer;
 
 pub use bytes_owned::BytesOwned;
 pub use bytes_ref::BytesRef;
@@ -22,3 +23,4 @@ pub use header::Header;
 pub use length::Length;
 pub use reader::{Reader, SliceReader};
 pub use tag::{Class, Tag, TagMode, TagNumber};
+pub use writer::{SliceWriter, VecWriter, Writer};

@@ -1,0 +1,37 @@
+//! Writers of octets.
+
+mod slice;
+mod vec;
+
+ghost use Rattle.std.specs.Prelude.{◌≡◌, ℕ, ◌≤◌, [], ◌∷◌, length, IsOk};
+ghost use Rattle.der_tlv.specs.Writing.{WriterState, Writes};
+
+pub use slice::SliceWriter;
+pub use vec::VecWriter;
+
+use crate::error::Error;
+
+/// A sink of octets.
+///
+/// A writer that has refused holds what it held, followed by a beginning of the octets that it
+/// refused.
+pub trait Writer {
+    ghost state: { Self → WriterState };
+
+    /// Takes these octets, behind those that it holds.
+    ///
+    /// # Errors
+    /// The writer's own, where there is not enough room.
+    fn write(&mut self, octets: &[u8]) -> Result<(), Error>
+        ensures { Writes octets.now (state self.old) (state self.new) result };
+
+    /// Takes one octet.
+    ///
+    /// # Errors
+    /// As `write`.
+    fn write_byte(&mut self, octet: u8) -> Result<(), Error>
+        ensures { Writes (octet ∷ []) (state self.old) (state self.new) result }
+    {
+        self.write(&[octet])
+    }
+}

@@ -1,0 +1,61 @@
+//! A writer into memory that is there.
+
+ghost use Rattle.std.specs.Prelude.{◌≡◌, ◌-◌, ◌≤◌, [], length, take, false};
+ghost use Rattle.der_tlv.specs.Writing.{WriterState, is_overlength, refuses_first_with, room_unless_failed};
+
+use crate::error::{Error, ErrorKind};
+use crate::writer::Writer;
+
+/// A writer into a slice.
+///
+/// A write that does not fit writes none of its octets and is refused (10); from then on each
+/// write is refused (17).
+#[derive(Drop)]
+pub struct SliceWriter<'a> {
+    bytes: &'a mut [u8],
+    position: usize,
+    failed: bool,
+    ghost inside: { position ≤ length bytes.now },
+}
+
+impl<'a> SliceWriter<'a> {
+    /// A writer into these octets, from the first on.
+    pub fn new(bytes: &'a mut [u8]) -> SliceWriter<'a>
+        ensures taken { (⟦<SliceWriter<'a> as Writer>⟧.state result).taken ≡ [] }
+        ensures ready { (⟦<SliceWriter<'a> as Writer>⟧.state result).failed ≡ false }
+        ensures room { (⟦<SliceWriter<'a> as Writer>⟧.state result).room ≡ length bytes.entry.now }
+    {
+        SliceWriter {
+            bytes,
+            position: 0,
+            failed: false,
+        }
+    }
+
+    /// The octets that were written.
+    pub fn finish(self) -> &'a [u8]
+        ensures { result.now ≡ (⟦<SliceWriter<'a> as Writer>⟧.state self.entry).taken }
+    {
+        let position = self.position;
+        let bytes = self.bytes;
+        &bytes[..position]
+    }
+}
+
+impl<'a> Writer for SliceWriter<'a> {
+    ghost state = { λ w. record { taken = take w.position w.bytes.now; failed = w.failed; room = room_unless_failed w.failed (length w.bytes.now - w.position); may_refuse = refuses_first_with is_overlength w.failed } };
+
+    fn write(&mut self, octets: &[u8]) -> Result<(), Error> {
+        if self.failed {
+            return Err(Error::from_kind(ErrorKind::Failed));
+        }
+        if octets.len() > self.bytes.len() - self.position {
+            self.failed = true;
+            return Err(Error::from_kind(ErrorKind::Overlength));
+        }
+        let end = self.position + octets.len();
+        self.bytes[self.position..end].copy_from_slice(octets);
+        self.position = end;
+        Ok(())
+    }
+}

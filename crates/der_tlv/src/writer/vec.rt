@@ -1,0 +1,77 @@
+//! A writer into a vector.
+
+ghost use Rattle.std.specs.Prelude.{◌≡◌, ◌-◌, ◌≤◌, [], IfOk, IfErr, vec_len, vec_capacity, false};
+ghost use Rattle.der_tlv.specs.Writing.{WriterState, is_memory, refuses_first_with, room_unless_failed};
+
+ghost use Rattle.der_tlv.specs.declared.error.ErrorKind.TheVariants.{Memory};
+
+use std::alloc::Global;
+
+use crate::error::{Error, ErrorKind};
+use crate::writer::Writer;
+
+/// A writer into a vector, which grows as it has to.
+///
+/// A growth that is refused (1) leaves the octets as they were; from then on each write is
+/// refused (17).
+#[derive(Drop)]
+pub struct VecWriter {
+    octets: Vec<u8>,
+    failed: bool,
+}
+
+impl VecWriter {
+    /// A writer that holds nothing. It takes no memory yet.
+    pub fn new(alloc: Global) -> VecWriter
+        ensures taken { (⟦<VecWriter as Writer>⟧.state result).taken ≡ [] }
+        ensures ready { (⟦<VecWriter as Writer>⟧.state result).failed ≡ false }
+    {
+        VecWriter {
+            octets: Vec::new(alloc),
+            failed: false,
+        }
+    }
+
+    /// A writer that holds nothing and has room for so many octets.
+    ///
+    /// # Errors
+    /// (1) where memory runs out.
+    pub fn with_capacity(alloc: Global, capacity: usize) -> Result<VecWriter, Error>
+        ensures taken { IfOk result (λ w. (⟦<VecWriter as Writer>⟧.state w).taken ≡ []) }
+        ensures ready { IfOk result (λ w. (⟦<VecWriter as Writer>⟧.state w).failed ≡ false) }
+        ensures room { IfOk result (λ w. capacity ≤ (⟦<VecWriter as Writer>⟧.state w).room) }
+        ensures err { IfErr result (λ e. e.kind ≡ Memory) }
+    {
+        match Vec::with_capacity(alloc, capacity) {
+            Ok(octets) => Ok(VecWriter {
+                octets,
+                failed: false,
+            }),
+            Err(_) => Err(Error::from_kind(ErrorKind::Memory)),
+        }
+    }
+
+    /// The octets.
+    pub fn finish(self) -> Vec<u8>
+        ensures { result.items ≡ (⟦<VecWriter as Writer>⟧.state self).taken }
+    {
+        self.octets
+    }
+}
+
+impl Writer for VecWriter {
+    ghost state = { λ w. record { taken = w.octets.items; failed = w.failed; room = room_unless_failed w.failed (vec_capacity w.octets - vec_len w.octets); may_refuse = refuses_first_with is_memory w.failed } };
+
+    fn write(&mut self, octets: &[u8]) -> Result<(), Error> {
+        if self.failed {
+            return Err(Error::from_kind(ErrorKind::Failed));
+        }
+        match self.octets.extend_from_slice(octets) {
+            Ok(()) => Ok(()),
+            Err(_) => {
+                self.failed = true;
+                Err(Error::from_kind(ErrorKind::Memory))
+            }
+        }
+    }
+}
