@@ -2,7 +2,7 @@
 
 mod slice;
 
-ghost use Rattle.std.specs.Prelude.{◌≡◌, ℕ, ◌-◌, ◌≤◌, ◌↔◌, [], false, IfOk, IfErr, IsTrue};
+ghost use Rattle.std.specs.Prelude.{◌≡◌, ℕ, ◌-◌, ◌≤◌, ◌↔◌, [], length, false, IfOk, IfErr, IsTrue};
 ghost use Rattle.der_tlv.specs.ReaderState.{ReaderState, IsReaderState, rest, after_fault, rewound};
 ghost use Rattle.der_tlv.specs.Reading.{ReadsOctet, OctetsRead, OctetsRefused, Nests, Unnests};
 
@@ -35,6 +35,14 @@ pub trait Reader<'a> {
     fn read_slice(&mut self, len: Length) -> Result<&'a [u8], Error>
         ensures ok { IfOk result (λ octets. OctetsRead (state self.old) (state self.new) len octets.now) }
         ensures err { IfErr result (λ e. OctetsRefused (state self.old) (state self.new) len e.kind) };
+
+    /// Reads as many octets as the buffer has, into the buffer.
+    ///
+    /// # Errors
+    /// As `read_slice`.
+    fn read_into<'b>(&mut self, buffer: &'b mut [u8]) -> Result<&'b [u8], Error>
+        ensures ok { IfOk result (λ octets. OctetsRead (state self.old) (state self.new) (length buffer.entry.now) octets.now) }
+        ensures err { IfErr result (λ e. OctetsRefused (state self.old) (state self.new) (length buffer.entry.now) e.kind) };
 
     /// Shows only that many of the octets that are left, and answers the end so far.
     ///

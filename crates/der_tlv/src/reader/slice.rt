@@ -94,7 +94,7 @@ impl<'a> SliceReader<'a> {
 
     /// Refuses a read of so many octets.
     #[cold]
-    fn refusal(&mut self, len: u32) -> Error
+    fn refusal(&mut self, len: usize) -> Error
         requires { can_read (⟦<SliceReader<'a> as Reader<'a>>⟧.state self.old) len ≡ false }
         ensures kind { result.kind ≡ read_fault (⟦<SliceReader<'a> as Reader<'a>>⟧.state self.old) len }
         ensures failed { ⟦<SliceReader<'a> as Reader<'a>>⟧.state self.new ≡ after_fault (⟦<SliceReader<'a> as Reader<'a>>⟧.state self.old) }
@@ -102,12 +102,12 @@ impl<'a> SliceReader<'a> {
         let kind = if self.failed {
             ErrorKind::Failed
         } else {
-            match self.position.checked_add(len) {
-                Some(expected_len) => ErrorKind::Incomplete {
-                    expected_len: Length::new(expected_len),
+            match Length::of(len.saturating_add(self.position as usize)) {
+                Ok(expected_len) => ErrorKind::Incomplete {
+                    expected_len,
                     actual_len: Length::new(self.end),
                 },
-                None => ErrorKind::Overflow,
+                Err(_) => ErrorKind::Overflow,
             }
         };
         self.error(kind)
@@ -149,18 +149,28 @@ impl<'a> Reader<'a> for SliceReader<'a> {
     fn read_slice(&mut self, len: Length) -> Result<&'a [u8], Error> {
         let len = len.value();
         if self.failed || len > self.end - self.position {
-            return Err(self.refusal(len));
+            return Err(self.refusal(len as usize));
         }
         let start = self.position as usize;
         self.position += len;
         Ok(&self.bytes[start..self.position as usize])
     }
 
+    fn read_into<'b>(&mut self, buffer: &'b mut [u8]) -> Result<&'b [u8], Error> {
+        if self.failed || buffer.len() > (self.end - self.position) as usize {
+            return Err(self.refusal(buffer.len()));
+        }
+        let start = self.position as usize;
+        self.position += buffer.len() as u32;
+        buffer.copy_from_slice(&self.bytes[start..self.position as usize]);
+        Ok(buffer)
+    }
+
     #[inline]
     fn nest(&mut self, len: Length) -> Result<Length, Error> {
         let len = len.value();
         if self.failed || len > self.end - self.position {
-            return Err(self.refusal(len));
+            return Err(self.refusal(len as usize));
         }
         let end = self.end;
         self.end = self.position + len;
