@@ -1,5 +1,6 @@
 -- The identifier octets (X.690 8.1.2).
-use Rattle.std.specs.Prelude.{ℕ, ◌+◌, ◌*◌, ◌/◌, ◌%◌, Bool, true, false, nat_lt, if◌then◌else◌, List, [], ◌∷◌, ◌++◌, map}
+use Rattle.std.specs.Prelude.{ℕ, ◌+◌, ◌*◌, ◌/◌, ◌%◌, Bool, true, false, nat_lt, nat_eq, if◌then◌else◌, List, [], ◌∷◌, ◌++◌, map}
+use Rattle.std.specs.Cmp.Lexicographic.{pointwise}
 use Rattle.std.specs.Int.Digits.{digits_of}
 use Rattle.der_tlv.specs.declared.tag.class.Class.{Class}
 use Rattle.der_tlv.specs.declared.tag.class.Class.TheVariants.{Universal, Application, ContextSpecific, Private}
@@ -34,3 +35,7 @@ identifier_octets class constructed n =
 -- the identifier octets of a tag
 unfoldable pub identifier : Tag → List ℕ
 identifier t = identifier_octets (class_of t) (is_constructed t) (number_of t)
+
+-- whether two tags have the same identifier octets, and so are one
+unfoldable pub same_identifier : Tag → Tag → Bool
+same_identifier t u = pointwise nat_eq (identifier t) (identifier u)

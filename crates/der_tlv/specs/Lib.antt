@@ -10,3 +10,8 @@ pub mod Writing
 pub mod ErrorNumber
 pub mod Fitting
 pub mod LengthLaws
+pub mod OctetLaws
+pub mod IdentifierLaws
+pub mod TagDigits
+pub mod TagReadingLaws
+pub mod HeaderLaws

@@ -1,0 +1,54 @@
+-- No header and no encoding is a proper beginning of another, and what is written is read.
+use Rattle.std.proofs.Common.{◌≡◌, ℕ, ◌+◌, ◌<◌, ◌≤◌, ◌^◌, Bool, true, false, List, [], ◌∷◌, ◌++◌, length, take, drop, Ok, Err, refl, sym, ap, ◌∙◌, subst, arith, append_assoc, nat_eq, IsTrue, ◌↔◌, Ordering}
+use Rattle.std.proofs.lemmas.List.{length-append}
+use Rattle.std.proofs.Math.Seq.{drop-append_seam, take-append_seam}
+use Rattle.std.specs.Cmp.Lexicographic.{pointwise, bytes_decides}
+use Rattle.std.specs.Ordering.{ordering_then}
+use Rattle.der_tlv.specs.declared.tag.Tag.{Tag}
+use Rattle.der_tlv.specs.Octets.{lex}
+use Rattle.der_tlv.specs.OctetLaws.{SameBeginning, lex-append}
+use Rattle.der_tlv.specs.TagParts.{IsTag}
+use Rattle.der_tlv.specs.Identifier.{identifier, same_identifier}
+use Rattle.der_tlv.specs.IdentifierLaws.{identifier-unique, identifier-injective}
+use Rattle.der_tlv.specs.LengthOctets.{length_octets}
+use Rattle.der_tlv.specs.LengthLaws.{length_octets-unique, read_length-octets, split_same_length}
+use Rattle.der_tlv.specs.HeaderOctets.{header_octets, tlv}
+use Rattle.der_tlv.specs.TagReadingLaws.{read_tag-identifier}
+use Rattle.der_tlv.specs.HeaderReading.{read_header, read_length, header, header_with_tag, header_with_length}
+
+-- a header is found again in what it begins
+pub header_octets-unique : (t u : Tag) (m n : ℕ) (x y : List ℕ) → header_octets t m ++ x ≡ header_octets u n ++ y → (t ≡ u) × (m ≡ n) × (x ≡ y)
+header_octets-unique t u m n x y e =
+    let f = sym (append_assoc (identifier t) (length_octets m) x) ∙ e ∙ append_assoc (identifier u) (length_octets n) y in
+    let tags = identifier-unique t u (length_octets m ++ x) (length_octets n ++ y) f in
+    let lengths = length_octets-unique m n x y tags.1 in
+    (tags.0, lengths.0, lengths.1)
+
+-- an encoding is found again in what it begins
+pub tlv-unique : (t u : Tag) (c d x y : List ℕ) → tlv t c ++ x ≡ tlv u d ++ y → (t ≡ u) × (c ≡ d) × (x ≡ y)
+tlv-unique t u c d x y e =
+    let f = sym (append_assoc (header_octets t (length c)) c x) ∙ e ∙ append_assoc (header_octets u (length d)) d y in
+    let headers = header_octets-unique t u (length c) (length d) (c ++ x) (d ++ y) f in
+    let contents = split_same_length c d x y headers.1 headers.2 in
+    (headers.0, contents.0, contents.1)
+
+pub tlv-injective : (t u : Tag) (c d : List ℕ) → tlv t c ≡ tlv u d → (t ≡ u) × (c ≡ d)
+tlv-injective t u c d e = let same = tlv-unique t u c d [] [] (ap (λ o. o ++ []) e) in (same.0, same.1)
+
+pub same_identifier-same : (t : Tag) → same_identifier t t ≡ true
+unfolding same_identifier
+same_identifier-same t = (bytes_decides (identifier t) (identifier t)).1 refl
+
+pub same_identifier-true : (t u : Tag) → same_identifier t u ≡ true → t ≡ u
+unfolding same_identifier
+same_identifier-true t u h = identifier-injective t u ((bytes_decides (identifier t) (identifier u)).0 h)
+
+-- what is written is read, whatever follows
+pub read_header-octets : (t : Tag) (n p : ℕ) (x : List ℕ) → IsTag t → n < 2 ^ 32 → read_header p (header_octets t n ++ x) ≡ Ok (length (header_octets t n), header t n)
+unfolding read_header
+read_header-octets t n p x small short =
+    let regroup : header_octets t n ++ x ≡ identifier t ++ (length_octets n ++ x) = append_assoc (identifier t) (length_octets n) x in
+    let tag = ap (header_with_tag p (identifier t ++ (length_octets n ++ x))) (read_tag-identifier t p (length_octets n ++ x) small) in
+    let left = ap (λ o. header_with_length (length (identifier t)) t (read_length (p + length (identifier t)) o)) (drop-append_seam (identifier t) (length_octets n ++ x)) in
+    let len = ap (header_with_length (length (identifier t)) t) (read_length-octets n (p + length (identifier t)) x short) in
+    ap (read_header p) regroup ∙ tag ∙ left ∙ len ∙ ap (λ k. Ok (k, header t n)) (sym (length-append (identifier t) (length_octets n)))
