@@ -18,7 +18,6 @@ Parse = EncodingRules → ℕ → List ℕ → Result (ℕ × List ℕ) ErrorKin
 abbrev pub ContentsParse : Type 0
 ContentsParse = EncodingRules → ℕ → List ℕ → Result (List ℕ) ErrorKind
 
--- Whether a value's octets are told from what follows: where it has none, what follows is not parsed as one of its values.
 abbrev pub tagged_contents : Tag → ℕ → Result (List ℕ) ErrorKind → Result (ℕ × List ℕ) ErrorKind
 tagged_contents t n (Ok contents) = Ok (n, tlv t contents)
 tagged_contents t n (Err k) = Err k

@@ -1,0 +1,61 @@
+-- What the calls that read answer, and where the reader stands after each.
+use Rattle.std.specs.Prelude.{◌≡◌, ℕ, ◌+◌, ◌<◌, ◌≤◌, ◌^◌, List, [], length, take, Bool, true, false, ◌⊎◌, Result, Ok, Err}
+use Rattle.der_tlv.specs.declared.error.ErrorKind.{ErrorKind}
+use Rattle.der_tlv.specs.declared.error.ErrorKind.TheVariants.{Memory, Overflow, TrailingData}
+use Rattle.der_tlv.specs.declared.error.Error.{Error}
+use Rattle.der_tlv.specs.declared.header.Header.{Header}
+use Rattle.der_tlv.specs.declared.encoding_rules.EncodingRules.TheVariants.{Der}
+use Rattle.der_tlv.specs.ReaderState.{ReaderState, after_read, rest, seen}
+use Rattle.der_elem.specs.declared.form.FormValue as value
+use Rattle.der_elem.specs.declared.form.Form as form
+
+-- why there is no value: memory ran out where that can be, or this is the first fault
+abbrev pub Faults : {A : Type 0} → Bool → Result A ErrorKind → ErrorKind → Type 0
+Faults memory parsed kind = ((kind ≡ Memory) × (memory ≡ true)) ⊎ (parsed ≡ Err kind)
+
+-- a value was decoded: how many octets it took, what they are parsed as, and the reader behind them
+pub record Decoded {T : Type 0} (F : form.Ghosts T) (old new : ReaderState) (v : T) : Type 0 where
+  pub taken : ℕ
+  pub ready : old.failed ≡ false
+  pub parsed : F.parse old.rules old.position (rest old) ≡ Ok (taken, F.encoding v)
+  pub accepted : F.accepts old.rules v (take taken (rest old))
+  pub after : new ≡ after_read old taken
+
+-- no value was decoded, and the reader has failed
+pub record NotDecoded {T : Type 0} (F : form.Ghosts T) (old new : ReaderState) (kind : ErrorKind) : Type 0 where
+  pub reason : Faults F.TAKES_MEMORY (seen (F.parse old.rules) old) kind
+  pub failed : new.failed ≡ true
+
+-- what decoding a value answers
+abbrev pub Decodes : {T : Type 0} → form.Ghosts T → ReaderState → ReaderState → Result T Error → Type 0
+Decodes F old new (Ok v) = Decoded F old new v
+Decodes F old new (Err e) = NotDecoded F old new e.kind
+
+-- a value was decoded from contents octets
+pub record ValueDecoded {T : Type 0} (F : value.Ghosts T) (header : Header) (old new : ReaderState) (v : T) : Type 0 where
+  pub ready : old.failed ≡ false
+  pub parsed : F.parse_value old.rules old.position (rest old) ≡ Ok (F.contents v)
+  pub accepted : F.accepts_value old.rules v (rest old)
+  pub tag : F.has_tag v header.tag
+  pub after : new ≡ after_read old (length (rest old))
+
+-- no value was decoded from contents octets, and the reader has failed
+pub record ValueNotDecoded {T : Type 0} (F : value.Ghosts T) (old new : ReaderState) (kind : ErrorKind) : Type 0 where
+  pub reason : Faults F.VALUE_TAKES_MEMORY (seen (F.parse_value old.rules) old) kind
+  pub failed : new.failed ≡ true
+
+-- what decoding contents octets answers, of a reader that shows as many octets as the header says
+abbrev pub DecodesValue : {T : Type 0} → value.Ghosts T → Header → ReaderState → ReaderState → Result T Error → Type 0
+DecodesValue F header old new (Ok v) = ValueDecoded F header old new v
+DecodesValue F header old new (Err e) = ValueNotDecoded F old new e.kind
+
+-- Reading all of the octets answers a value that is read from them; or nothing is, or memory ran out where that can be,
+-- or there are more than a length can count.
+abbrev pub ReadsAll : {T : Type 0} → form.Ghosts T → List ℕ → Result T Error → Type 0
+ReadsAll F octets (Ok v) = F.accepts Der v octets × (length octets < 2 ^ 32)
+ReadsAll {T} F octets (Err e) =
+    ((w : T) → F.accepts Der w octets → ⊥) ⊎ (((e.kind ≡ Memory) × (F.TAKES_MEMORY ≡ true)) ⊎ ((e.kind ≡ Overflow) × (2 ^ 32 ≤ length octets)))
+
+-- the fault of octets that are left behind a value
+abbrev pub left_over : ReaderState → ErrorKind
+left_over s = TrailingData s.position (length (rest s))

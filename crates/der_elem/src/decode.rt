@@ -1,0 +1,45 @@
+//! Reading values.
+
+ghost use Rattle.std.specs.Prelude.{◌≡◌, length};
+ghost use Rattle.der_tlv.specs.ReaderState.{ReaderState, rest};
+ghost use Rattle.der_elem.specs.Decoding.{Decodes, DecodesValue, ReadsAll};
+
+use std::alloc::Global;
+
+use der_tlv::{Error, Header, Reader, SliceReader};
+
+use crate::form::{Form, FormValue};
+
+/// Reading a value from its contents octets.
+pub trait DecodeValue<'a, R: Reader<'a>>: FormValue {
+    /// Reads the value from all of the octets that the reader shows, of which the header says how
+    /// many there are.
+    ///
+    /// # Errors
+    /// (17) on a failed reader; the first fault of the contents octets, in the type's order; (1)
+    /// where the type takes memory.
+    fn decode_value(alloc: Global, reader: &mut R, header: Header) -> Result<Self, Error>
+        ensures { length (rest (R.state reader.old)) ≡ header.length → DecodesValue Self.FormValue header (R.state reader.old) (R.state reader.new) result };
+}
+
+/// Reading a value from its encoding.
+pub trait Decode<'a, R: Reader<'a>>: Form {
+    /// Reads the value whose encoding stands at the reader's position.
+    ///
+    /// # Errors
+    /// (17) on a failed reader; the first fault of the octets, in reading order; (1) where the type
+    /// takes memory.
+    fn decode(alloc: Global, reader: &mut R) -> Result<Self, Error>
+        ensures { Decodes Self.Form (R.state reader.old) (R.state reader.new) result };
+}
+
+/// Reading a value from octets that are its encoding and nothing else, under DER.
+pub trait FromDer<'a>: Form {
+    /// The value that these octets encode.
+    ///
+    /// # Errors
+    /// (9) for more than 4294967295 octets; the first fault of the octets, in reading order; (3)
+    /// where octets are left over; (1) where the type takes memory.
+    fn from_der(alloc: Global, bytes: &'a [u8]) -> Result<Self, Error>
+        ensures { ReadsAll Self.Form bytes.now result };
+}

@@ -1,0 +1,31 @@
+//! The order of values, which is that of their encodings.
+
+ghost use Rattle.der_elem.specs.Comparing.{Compares, ComparesValues};
+
+use std::cmp::Ordering;
+
+use der_tlv::Error;
+
+use crate::form::{Form, FormValue};
+
+/// The order of contents octets.
+pub trait ValueOrd: FormValue {
+    /// The lexicographic order of the contents octets of two values.
+    ///
+    /// # Errors
+    /// (9) where one has more than 4294967295 octets, (13) where the two are not of one form, (1)
+    /// where one reads items again.
+    fn value_cmp(&self, other: &Self) -> Result<Ordering, Error>
+        ensures { ComparesValues Self.FormValue self.now other.now result };
+}
+
+/// The order of encodings.
+pub trait DerOrd: Form {
+    /// The lexicographic order of the encodings of two values.
+    ///
+    /// # Errors
+    /// (9) where one has more than 4294967295 octets, (13) where the two are not of one form and
+    /// their headers are equal, (1) where one reads items again.
+    fn der_cmp(&self, other: &Self) -> Result<Ordering, Error>
+        ensures { Compares Self.Form self.now other.now result };
+}

@@ -1,0 +1,61 @@
+//! The tags of values.
+
+ghost use Rattle.std.specs.Prelude.{◌≡◌, List, ℕ, Bool, true, refl};
+ghost use Rattle.der_tlv.specs.declared.tag.Tag.{Tag};
+ghost use Rattle.der_tlv.specs.TagParts.{IsTag};
+ghost use Rattle.der_tlv.specs.HeaderOctets.{tlv};
+
+use der_tlv::Tag;
+
+use crate::form::{FixedTag, Form, FormValue};
+
+/// A value with a tag.
+pub trait Tagged: FormValue + Form {
+    ghost tag_of: { Self → Tag };
+
+    /// The tag of the value's encoding.
+    fn tag(&self) -> Tag
+        ensures value { result ≡ tag_of self.now }
+        ensures bounded { IsTag (tag_of self.now) };
+
+    ghost encoding_is: { (v : Self) → Self.encoding v ≡ tlv (tag_of v) (Self.contents v) };
+
+    ghost re_reads_alike: { (v : Self) → Self.re_reads_value v ≡ true → Self.re_reads v ≡ true };
+
+    ghost one_form_alike: { (v w : Self) → Self.one_form v w → Self.one_form_value v w };
+}
+
+impl<T: FormValue + FixedTag> Tagged for T {
+    ghost tag_of = { λ _. T.TAG };
+
+    fn tag(&self) -> Tag {
+        T::TAG
+    }
+
+    ghost encoding_is = { λ v. refl };
+
+    ghost re_reads_alike = { λ v h. h };
+
+    ghost one_form_alike = { λ v w h. h };
+}
+
+/// A type whose values are told from others by their tags.
+pub trait Choice: Form {
+    /// Whether an encoding of a value of the type may begin with this tag.
+    fn can_decode(tag: Tag) -> bool
+        ensures { result ≡ Self.tags tag };
+}
+
+impl<T: FormValue + FixedTag> Choice for T {
+    fn can_decode(tag: Tag) -> bool {
+        tag == T::TAG
+    }
+}
+
+/// A type whose encodings are all constructed, or all primitive.
+pub trait IsConstructed {
+    ghost CONSTRUCTED: { Bool };
+
+    /// Whether the encodings are constructed.
+    const CONSTRUCTED: bool;
+}
