@@ -1,14 +1,21 @@
 //! The traits of encodings, with their laws, and the built-in types.
 #![tactic(auto)]
 
+mod boolean;
 mod decode;
+mod duplicate;
 mod encode;
+mod equality;
 mod form;
 mod ord;
+mod sequence;
 mod tag;
 
 pub use decode::{Decode, DecodeValue, FromDer};
+pub use duplicate::Duplicate;
 pub use encode::{Encode, EncodeValue};
+pub use equality::EncodingEq;
 pub use form::{FixedTag, Form, FormValue};
-pub use ord::{DerOrd, ValueOrd};
+pub use ord::{DerOrd, OrdIsValueOrd, ValueOrd};
+pub use sequence::Sequence;
 pub use tag::{Choice, IsConstructed, Tagged};

@@ -1,5 +1,7 @@
 //! The order of values, which is that of their encodings.
 
+ghost use Rattle.std.specs.Prelude.{◌≡◌};
+ghost use Rattle.der_tlv.specs.Octets.{lex};
 ghost use Rattle.der_elem.specs.Comparing.{Compares, ComparesValues};
 
 use std::cmp::Ordering;
@@ -28,4 +30,15 @@ pub trait DerOrd: Form {
     /// their headers are equal, (1) where one reads items again.
     fn der_cmp(&self, other: &Self) -> Result<Ordering, Error>
         ensures { Compares Self.Form self.now other.now result };
+}
+
+/// A type whose `Ord` is the lexicographic order of contents octets.
+pub trait OrdIsValueOrd: FormValue + Ord {
+    ghost ord_is_value_ord: { (v w : Self) → Self.cmp v w ≡ lex (Self.contents v) (Self.contents w) };
+}
+
+impl<T: OrdIsValueOrd> ValueOrd for T {
+    fn value_cmp(&self, other: &T) -> Result<Ordering, Error> {
+        Ok(self.cmp(other))
+    }
 }

@@ -2,7 +2,7 @@
 
 ghost use Rattle.std.specs.Prelude.{◌≡◌, List, ℕ, Bool, true, refl};
 ghost use Rattle.der_tlv.specs.declared.tag.Tag.{Tag};
-ghost use Rattle.der_tlv.specs.TagParts.{IsTag};
+ghost use Rattle.der_tlv.specs.TagParts.{IsTag, is_constructed};
 ghost use Rattle.der_tlv.specs.HeaderOctets.{tlv};
 
 use der_tlv::Tag;
@@ -48,7 +48,7 @@ pub trait Choice: Form {
 
 impl<T: FormValue + FixedTag> Choice for T {
     fn can_decode(tag: Tag) -> bool {
-        tag == T::TAG
+        tag.is(T::TAG)
     }
 }
 
@@ -58,4 +58,16 @@ pub trait IsConstructed {
 
     /// Whether the encodings are constructed.
     const CONSTRUCTED: bool;
+}
+
+impl<T: FixedTag> IsConstructed for T {
+    ghost CONSTRUCTED = { is_constructed T.TAG };
+
+    const CONSTRUCTED: bool = match T::TAG {
+        Tag::Sequence | Tag::Set => true,
+        Tag::Application { constructed, .. } => constructed,
+        Tag::ContextSpecific { constructed, .. } => constructed,
+        Tag::Private { constructed, .. } => constructed,
+        _ => false,
+    };
 }

@@ -52,3 +52,13 @@ read_header-octets t n p x small short =
     let left = ap (λ o. header_with_length (length (identifier t)) t (read_length (p + length (identifier t)) o)) (drop-append_seam (identifier t) (length_octets n ++ x)) in
     let len = ap (header_with_length (length (identifier t)) t) (read_length-octets n (p + length (identifier t)) x short) in
     ap (read_header p) regroup ∙ tag ∙ left ∙ len ∙ ap (λ k. Ok (k, header t n)) (sym (length-append (identifier t) (length_octets n)))
+
+-- a test of two tags that is true exactly where they are one is that of their identifier octets
+pub same_identifier-test : (b : Bool) (t u : Tag) → (IsTrue b ↔ (t ≡ u)) → b ≡ same_identifier t u
+same_identifier-test b t u h = at b (same_identifier t u) refl refl
+  where
+    at : (x y : Bool) → b ≡ x → same_identifier t u ≡ y → b ≡ same_identifier t u
+    at true true e f = e ∙ sym f
+    at false false e f = e ∙ sym f
+    at true false e f = let k : same_identifier t u ≡ true = subst (λ v. same_identifier t v ≡ true) (h.0 e) (same_identifier-same t) in absurd (cc)
+    at false true e f = let k : b ≡ true = h.1 (same_identifier-true t u f) in absurd (cc)

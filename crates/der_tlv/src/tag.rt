@@ -9,7 +9,7 @@ ghost use Rattle.std.specs.Ordering.{on, as_partial_cmp};
 ghost use Rattle.der_tlv.specs.declared.error.ErrorKind.TheVariants.{TagUnexpected};
 ghost use Rattle.der_tlv.specs.Octets.{lex};
 ghost use Rattle.der_tlv.specs.TagParts.{IsTag, class_of, is_constructed, number_of};
-ghost use Rattle.der_tlv.specs.Identifier.{identifier};
+ghost use Rattle.der_tlv.specs.Identifier.{identifier, same_identifier};
 ghost use Rattle.der_tlv.specs.HeaderReading.{read_tag};
 ghost use Rattle.der_tlv.specs.Reading.{ReadsHead, PeeksHead};
 
@@ -153,6 +153,13 @@ impl Tag {
             | Tag::ContextSpecific { number, .. }
             | Tag::Private { number, .. } => number,
         }
+    }
+
+    /// Whether this is that tag.
+    pub fn is(self, other: Tag) -> bool
+        ensures { result ≡ same_identifier self other }
+    {
+        self.assert_eq(other).is_ok()
     }
 
     /// Asks that the tag is the expected one.
