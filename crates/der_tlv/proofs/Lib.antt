@@ -3,3 +3,8 @@ pub mod Lengths
 pub mod LongLengths
 pub mod ShortLengths
 pub mod Headers
+pub mod LengthCounts
+pub mod TagNumbers
+pub mod TagsOfOctets
+pub mod TagHeads
+pub mod TagOctets

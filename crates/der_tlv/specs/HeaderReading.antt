@@ -10,6 +10,7 @@ use Rattle.der_tlv.specs.declared.tag.Tag.TheVariants.{Application, ContextSpeci
 use Rattle.der_tlv.specs.declared.header.Header.{Header}
 use Rattle.der_tlv.specs.TagParts.{is_constructed, universal_tag}
 use Rattle.der_tlv.specs.LengthOctets.{length_octets}
+use Rattle.der_tlv.specs.HeaderOctets.{header_octets}
 use Rattle.der_tlv.specs.ReaderState.{read_fault_at}
 
 -- the fault of a read of one octet behind all that are left at position p
@@ -84,6 +85,10 @@ read_length p (x ∷ xs) =
     if nat_lt x 128 then Ok (1, x)
     else (if x == 128 then Err IndefiniteLength
     else (if nat_lt 132 x then Err Overlength else behind_one (read_long_length (x - 128) (p + 1) xs)))
+
+-- the octets of a header
+abbrev pub octets_of : Header → List ℕ
+octets_of h = header_octets h.tag h.length
 
 abbrev pub header : Tag → ℕ → Header
 header t n = record { tag = t; length = n }

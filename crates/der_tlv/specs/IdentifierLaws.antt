@@ -110,14 +110,14 @@ pub tag-unique : (t u : Tag) → class_of t ≡ class_of u → is_constructed t 
 tag-unique t u c f n = let a = rebuilt-is t in let b = rebuilt-is u in let k : Some t ≡ Some u = sym a ∙ ap (λ x. rebuilt x (is_constructed t) (number_of t)) c ∙ ap (λ x. rebuilt (class_of u) x (number_of t)) f ∙ ap (λ x. rebuilt (class_of u) (is_constructed u) x) n ∙ b in cc
 
 -- the number of bits 5 to 1, and the octets behind the first
-unfoldable pub low_bits : ℕ → ℕ
+abbrev pub low_bits : ℕ → ℕ
 low_bits n = if nat_lt n 31 then n else 31
 
-unfoldable pub later_octets : ℕ → List ℕ
+abbrev pub later_octets : ℕ → List ℕ
 later_octets n = if nat_lt n 31 then [] else number_octets n
 
 identifier_octets-is : (c : Class) (f : Bool) (n : ℕ) → identifier_octets c f n ≡ first_octet c f (low_bits n) ∷ later_octets n
-unfolding identifier_octets low_bits later_octets
+unfolding identifier_octets
 identifier_octets-is c f n = elim (nat_lt n 31) as (λ b. (if b then first_octet c f n ∷ [] else first_octet c f 31 ∷ number_octets n) ≡ first_octet c f (if b then n else 31) ∷ (if b then [] else number_octets n)) [ true ↦ refl | false ↦ refl ]
 
 -- a number of at most 30 is its low bits, and a greater one has all of them set
@@ -126,7 +126,6 @@ pub data Sized (n : ℕ) : Type 0 where
   long : 31 ≤ n → low_bits n ≡ 31 → later_octets n ≡ number_octets n → Sized n
 
 pub sized : (n : ℕ) → Sized n
-unfolding low_bits later_octets
 sized n = split (nat_lt n 31) refl
   where
     split : (b : Bool) → b ≡ nat_lt n 31 → Sized n

@@ -15,3 +15,4 @@ pub mod IdentifierLaws
 pub mod TagDigits
 pub mod TagReadingLaws
 pub mod HeaderLaws
+pub mod TagMatching

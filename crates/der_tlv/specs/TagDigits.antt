@@ -1,5 +1,14 @@
 -- The digits of a tag number of more than 30.
-use Rattle.std.specs.Prelude.{ℕ, ◌+◌, ◌*◌, ◌%◌, ◌^◌, ◌==◌, ◌&&◌, ◌||◌, nat_lt, nat_le, if◌then◌else◌, Option, Some, None}
+use Rattle.std.specs.Prelude.{ℕ, ◌+◌, ◌*◌, ◌%◌, ◌^◌, ◌==◌, ◌&&◌, ◌||◌, nat_lt, nat_le, if◌then◌else◌, List, map, Option, Some, None}
+use Rattle.std.specs.Int.Digits.{digits_of}
+
+-- digits with bit 8 set
+abbrev pub marked : List ℕ → List ℕ
+marked digits = map (λ d. 128 + d) digits
+
+-- the octets of a number in base 128 before its last digit, if n is what they write
+abbrev pub leading_octets : ℕ → List ℕ
+leading_octets n = marked (digits_of 128 n)
 
 -- A number with the digit of one more octet: none where the number passes 32 bits, begins with a zero digit or ends below 31.
 abbrev pub with_digit : ℕ → ℕ → Option ℕ

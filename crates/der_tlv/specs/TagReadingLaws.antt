@@ -15,21 +15,13 @@ use Rattle.der_tlv.specs.declared.tag.Tag.{Tag}
 use Rattle.der_tlv.specs.declared.tag.Tag.TheVariants.{Boolean, Integer, BitString, OctetString, Null, ObjectIdentifier, Real, Enumerated, Utf8String, RelativeOid, Sequence, Set, NumericString, PrintableString, TeletexString, VideotexString, Ia5String, UtcTime, GeneralizedTime, VisibleString, GeneralString, BmpString, Application, ContextSpecific, Private}
 use Rattle.der_tlv.specs.TagParts.{IsTag, class_of, is_constructed, number_of, universal_tag}
 use Rattle.der_tlv.specs.Identifier.{class_index, form_bit, first_octet, number_octets, identifier_octets, identifier}
-use Rattle.der_tlv.specs.TagDigits.{with_digit}
+use Rattle.der_tlv.specs.TagDigits.{marked, leading_octets, with_digit}
 use Rattle.der_tlv.specs.HeaderReading.{octet_missing, high_count, number_value, read_number, tag_of_octets, tag_with_number, counted_tag, read_tag, universal_of}
 use Rattle.der_tlv.specs.IdentifierLaws.{identifier-is, low_bits, later_octets, low_bits-small, form_bit-small, sized}
 use Rattle.der_tlv.specs.IdentifierLaws.Sized.{short, long}
 
 abbrev is_high : ℕ → Bool
 is_high d = nat_le 128 d
-
--- digits with bit 8 set
-abbrev pub marked : List ℕ → List ℕ
-marked a = map (λ d. 128 + d) a
-
--- the digits of a number in base 128, each with bit 8 set, as they stand before its last digit
-abbrev pub leading_octets : ℕ → List ℕ
-leading_octets n = marked (digits_of 128 n)
 
 prefix_len-marked : (a ys : List ℕ) → prefix_len is_high (marked a ++ ys) ≡ length a + prefix_len is_high ys
 prefix_len-marked [] ys = sym (zero-add (prefix_len is_high ys))
@@ -341,11 +333,11 @@ tag_of_octets-tag t low h =
     let form : first / 32 % 2 ≡ form_bit (is_constructed t) = omega arith in
     tag_of_octets-parts first (number_of t) ∙ ap (λ k. tag_of_parts first k (first / 32 % 2) (number_of t)) class ∙ ap (λ k. tag_of_parts first (class_index (class_of t)) k (number_of t)) form ∙ parts-tag first t
 
-read_tag-short : (p first : ℕ) (xs : List ℕ) → first % 32 ≢ 31 → read_tag p (first ∷ xs) ≡ counted_tag 1 (tag_of_octets first (first % 32))
+pub read_tag-short : (p first : ℕ) (xs : List ℕ) → first % 32 ≢ 31 → read_tag p (first ∷ xs) ≡ counted_tag 1 (tag_of_octets first (first % 32))
 unfolding read_tag
 read_tag-short p first xs h = let e : (first % 32 == 31) ≡ false = grind (arith, nat_tests) in ap (λ b. if b then tag_with_number first (read_number (p + 1) xs) else counted_tag 1 (tag_of_octets first (first % 32))) e
 
-read_tag-long : (p first : ℕ) (xs : List ℕ) → first % 32 ≡ 31 → read_tag p (first ∷ xs) ≡ tag_with_number first (read_number (p + 1) xs)
+pub read_tag-long : (p first : ℕ) (xs : List ℕ) → first % 32 ≡ 31 → read_tag p (first ∷ xs) ≡ tag_with_number first (read_number (p + 1) xs)
 unfolding read_tag
 read_tag-long p first xs h = let e : (first % 32 == 31) ≡ true = grind (arith, nat_tests) in ap (λ b. if b then tag_with_number first (read_number (p + 1) xs) else counted_tag 1 (tag_of_octets first (first % 32))) e
 

@@ -10,6 +10,7 @@ mod bytes_ref;
 mod encoding_rules;
 mod error;
 mod header;
+mod header_octets;
 mod length;
 mod reader;
 mod tag;

@@ -1,6 +1,7 @@
 //! Tags, and their identifier octets.
 
 mod class;
+mod decoding;
 mod mode;
 mod number;
 
