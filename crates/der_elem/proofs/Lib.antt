@@ -1,0 +1,2 @@
+pub mod AtContents
+pub mod TaggedDecoding

@@ -1,6 +1,5 @@
 //! BOOLEAN.
 
-ghost use Rattle.std.specs.Prelude.{ℕ};
 ghost use Rattle.der_tlv.specs.declared.tag.Tag.TheVariants.{Boolean};
 ghost use Rattle.std.proofs.Common.{lit<};
 

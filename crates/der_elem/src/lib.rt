@@ -1,6 +1,7 @@
 //! The traits of encodings, with their laws, and the built-in types.
 #![tactic(auto)]
 
+mod blanket;
 mod boolean;
 mod decode;
 mod duplicate;

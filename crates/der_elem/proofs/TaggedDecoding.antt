@@ -1,0 +1,58 @@
+-- Decoding an encoding with one tag: its faults, and its value.
+use Rattle.std.proofs.Common.{◌≡◌, ℕ, ◌+◌, List, length, take, drop, Bool, true, false, Result, Ok, Err, Some, refl, sym, ap, ◌∙◌, subst, inl, inr, ◌⊎◌}
+use Rattle.der_tlv.specs.declared.error.ErrorKind.{ErrorKind}
+use Rattle.der_tlv.specs.declared.error.ErrorKind.TheVariants.{Failed, TagUnexpected, Memory}
+use Rattle.der_tlv.specs.declared.encoding_rules.EncodingRules.{EncodingRules}
+use Rattle.der_tlv.specs.declared.header.Header.{Header}
+use Rattle.der_tlv.specs.declared.tag.Tag.{Tag}
+use Rattle.der_tlv.specs.Identifier.{same_identifier}
+use Rattle.der_tlv.specs.HeaderOctets.{tlv}
+use Rattle.der_tlv.specs.HeaderReading.{read_header, octets_of}
+use Rattle.der_tlv.specs.Reading.{HeadFault, OctetsRefused}
+use Rattle.der_tlv.specs.ReaderState.{ReaderState, rest, after_read, unnested, seen}
+use Rattle.der_elem.specs.declared.form.FormValue as value
+use Rattle.der_elem.specs.Parsing.{ContentsParse, parse_tagged, parse_with_tag, tagged_contents}
+use Rattle.der_elem.specs.Accepting.{accepts_tagged}
+use Rattle.der_elem.specs.Decoding.{Faults, ValueDecoded, ValueNotDecoded}
+use Rattle.der_elem.proofs.AtContents.{AtHeader, AtContents, parse_behind, parse_own_tag, parse_other_tag, parse_too_long, shown_ready, shown_rules, parse_shown, taken, after_contents}
+
+-- the header's fault is that of the whole encoding
+pub header_fault : {old new : ReaderState} {kind : ErrorKind} → HeadFault read_header old new kind → (t : Tag) (parse : ContentsParse) (rules : EncodingRules) → seen (parse_tagged t parse rules) old ≡ Err kind
+unfolding parse_tagged
+header_fault {old} {new} {kind} fault t parse rules = at old.failed refl
+  where
+    at : (b : Bool) → old.failed ≡ b → seen (parse_tagged t parse rules) old ≡ Err kind
+    at true e = let there = rw e at fault.fault_is in let k : Failed ≡ kind = cc in rw e (ap Err k)
+    at false e =
+        let there : read_header old.position (rest old) ≡ Err kind = rw e at fault.fault_is in
+        rw e (ap (parse_with_tag t parse rules old.position (rest old)) there)
+
+pub other_tag_fault : {header : Header} {old mid : ReaderState} → AtHeader header old mid → (t : Tag) → same_identifier header.tag t ≡ false → (parse : ContentsParse) (rules : EncodingRules) → seen (parse_tagged t parse rules) old ≡ Err (TagUnexpected (Some t) header.tag)
+other_tag_fault at t e parse rules = rw at.head.ready (parse_other_tag at t e parse rules)
+
+pub too_long_fault : {header : Header} {old mid new : ReaderState} {kind : ErrorKind} → AtHeader header old mid → OctetsRefused mid new header.length kind → (t : Tag) → header.tag ≡ t → (parse : ContentsParse) (rules : EncodingRules) → seen (parse_tagged t parse rules) old ≡ Err kind
+too_long_fault at refused t e parse rules = rw at.head.ready (parse_own_tag at t e parse rules ∙ parse_too_long at refused parse rules)
+
+module _ {T : Type 0} (F : value.Ghosts T) (t : Tag) {header : Header} {old mid shown : ReaderState} {end : ℕ} (c : AtContents header old mid shown end) (same : header.tag ≡ t) where
+  parse_all : parse_tagged t F.parse_value old.rules old.position (rest old) ≡ tagged_contents header.tag (length (octets_of header) + header.length) (F.parse_value old.rules shown.position (rest shown))
+  parse_all = parse_own_tag c.at t same F.parse_value old.rules ∙ parse_shown c F.parse_value old.rules
+
+  -- the fault of the contents octets
+  pub contents_fault : {new : ReaderState} {kind : ErrorKind} → ValueNotDecoded F shown new kind → Faults F.VALUE_TAKES_MEMORY (seen (parse_tagged t F.parse_value old.rules) old) kind
+  contents_fault {new} {kind} told =
+      elim told.reason [
+        | inl m ↦ inl m
+        | inr e ↦
+            let there : F.parse_value old.rules shown.position (rest shown) ≡ Err kind = ap (λ rules. F.parse_value rules shown.position (rest shown)) (sym (shown_rules c)) ∙ (let s = rw (shown_ready c) at e in s) in
+            inr (rw c.at.head.ready (parse_all ∙ ap (tagged_contents header.tag (length (octets_of header) + header.length)) there))
+      ]
+
+  -- the value
+  pub parsed_value : {after : ReaderState} {v : T} → ValueDecoded F header shown after v → parse_tagged t F.parse_value old.rules old.position (rest old) ≡ Ok (length (octets_of header) + header.length, tlv t (F.contents v))
+  parsed_value {after} {v} told =
+      let there : F.parse_value old.rules shown.position (rest shown) ≡ Ok (F.contents v) = ap (λ rules. F.parse_value rules shown.position (rest shown)) (sym (shown_rules c)) ∙ told.parsed in
+      parse_all ∙ ap (tagged_contents header.tag (length (octets_of header) + header.length)) there ∙ ap (λ t. Ok (length (octets_of header) + header.length, tlv t (F.contents v))) same
+
+  pub accepted_value : {after : ReaderState} {v : T} → ValueDecoded F header shown after v → accepts_tagged t F.accepts_value old.rules v (take (length (octets_of header) + header.length) (rest old))
+  accepted_value {after} {v} told =
+      (rest shown, taken c ∙ ap (λ t. tlv t (rest shown)) same, subst (λ rules. F.accepts_value rules v (rest shown)) (shown_rules c) told.accepted)

@@ -1,0 +1,58 @@
+use Rattle.std.proofs.Common.{rules, ◌≡◌, ◌∙◌, ◌+◌, sym, ap, inr, false, true, Some, Err, length}
+use Rattle.der_tlv.specs.declared.error.ErrorKind.TheVariants.{TagUnexpected}
+use Rattle.der_tlv.specs.Identifier.{same_identifier}
+use Rattle.der_tlv.specs.HeaderReading.{octets_of}
+use Rattle.der_tlv.specs.HeaderLaws.{same_identifier-true}
+use Rattle.der_elem.proofs.AtContents.{AtHeader, AtContents, shown_length, after_contents}
+use Rattle.der_elem.proofs.TaggedDecoding.{header_fault, other_tag_fault, too_long_fault, contents_fault, parsed_value, accepted_value}
+use Rattle.der_elem.proofs.blanket.AnyDecode.decode.Goals as goal
+use Rattle.der_elem.proofs.blanket.AnyDecode.decode.Goals.{In_ok-header, In_ok-end}
+
+header_at : (g : _) (c : In_ok-header g) → AtHeader c.in_ok-header.header (g.R.Reader.state c.args.reader.now) (g.R.Reader.state c.decode.new.reader)
+header_at g c = record { head = c.in_ok-header.ensures.head; sound = search rules }
+
+pub returns-in_err-header : goal.returns-in_err-header
+returns-in_err-header g c =
+    let fault = header_fault c.in_err-header.ensures.head g.T.FixedTag.TAG g.T.FormValue.parse_value (g.R.Reader.state c.args.reader.now).rules in
+    search rules
+
+pub returns-then-not-is : goal.returns-then-not-is
+returns-then-not-is g c =
+    let at = header_at g (goal.at.returns-then-not-is g c).In_ok-header in
+    let other : same_identifier c.in_ok-header.header.tag g.T.FixedTag.TAG ≡ false = ap (same_identifier c.in_ok-header.header.tag) (sym c.TAG.ensures) ∙ sym c.if-not-is.ensures in
+    let kind : c.error.result.kind ≡ TagUnexpected (Some g.T.FixedTag.TAG) c.in_ok-header.header.tag = c.error.ensures.kind ∙ c.unexpected_error.ensures ∙ ap (λ t. TagUnexpected (Some t) c.in_ok-header.header.tag) c.TAG-then-not-is.ensures in
+    record { reason = inr (other_tag_fault at g.T.FixedTag.TAG other g.T.FormValue.parse_value (g.R.Reader.state c.args.reader.now).rules ∙ ap Err (sym kind)); failed = ap (λ s. s.failed) c.error.ensures.failed }
+
+pub returns-in_err-end : goal.returns-in_err-end
+returns-in_err-end g c =
+    let at = header_at g (goal.at.returns-in_err-end g c).In_ok-header in
+    let same : c.in_ok-header.header.tag ≡ g.T.FixedTag.TAG = same_identifier-true c.in_ok-header.header.tag c.TAG.result (sym c.if-not-is.ensures) ∙ c.TAG.ensures in
+    let fault = too_long_fault at c.in_err-end.ensures g.T.FixedTag.TAG same g.T.FormValue.parse_value (g.R.Reader.state c.args.reader.now).rules in
+    let failed : (g.R.Reader.state c.nest.new.self).failed ≡ true = ap (λ s. s.failed) c.in_err-end.ensures.after in
+    search rules
+
+contents_at : (g : _) (c : In_ok-end g) → AtContents c.in_ok-header.header (g.R.Reader.state c.args.reader.now) (g.R.Reader.state c.decode.new.reader) (g.R.Reader.state c.nest.new.self) c.in_ok-end.end
+contents_at g c =
+    record { at = record { head = c.in_ok-header.ensures.head; sound = search rules }; nest = c.in_ok-end.ensures }
+
+pub returns-in_err-value : goal.returns-in_err-value
+returns-in_err-value g c =
+    let at = contents_at g (goal.at.returns-in_err-value g c).In_ok-end in
+    let same : c.in_ok-header.header.tag ≡ g.T.FixedTag.TAG = same_identifier-true c.in_ok-header.header.tag c.TAG.result (sym c.if-not-is.ensures) ∙ c.TAG.ensures in
+    let told = c.in_err-value.ensures (shown_length at) in
+    let fault = contents_fault g.T.FormValue g.T.FixedTag.TAG at same told in
+    let failed = told.failed in
+    search rules
+
+pub returns : goal.returns
+returns g c =
+    let at = contents_at g (goal.at.returns g c).In_ok-end in
+    let same : c.in_ok-header.header.tag ≡ g.T.FixedTag.TAG = same_identifier-true c.in_ok-header.header.tag c.TAG.result (sym c.if-not-is.ensures) ∙ c.TAG.ensures in
+    let told = c.in_ok-value.ensures (shown_length at) in
+    record {
+      taken = length (octets_of c.in_ok-header.header) + c.in_ok-header.header.length;
+      ready = at.at.head.ready;
+      parsed = parsed_value g.T.FormValue g.T.FixedTag.TAG at same told;
+      accepted = accepted_value g.T.FormValue g.T.FixedTag.TAG at same told;
+      after = after_contents at told.after c.in_ok-unnest.ensures.after;
+    }
