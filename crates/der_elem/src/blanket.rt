@@ -2,10 +2,15 @@
 
 use std::alloc::Global;
 
-use der_tlv::{Error, Header, Reader};
+use std::cmp::Ordering;
 
-use crate::decode::{Decode, DecodeValue};
+use der_tlv::{Error, ErrorKind, Header, Length, Reader, SliceReader, Writer};
+
+use crate::decode::{Decode, DecodeValue, FromDer};
+use crate::encode::{Encode, EncodeValue};
 use crate::form::FixedTag;
+use crate::ord::{DerOrd, ValueOrd};
+use crate::tag::Tagged;
 
 impl<'a, R: Reader<'a>, T: DecodeValue<'a, R> + FixedTag> Decode<'a, R> for T {
     fn decode(alloc: Global, reader: &mut R) -> Result<T, Error> {
@@ -17,5 +22,44 @@ impl<'a, R: Reader<'a>, T: DecodeValue<'a, R> + FixedTag> Decode<'a, R> for T {
         let value = T::decode_value(alloc, reader, header)?;
         reader.unnest(end)?;
         Ok(value)
+    }
+}
+
+impl<'a, T: Decode<'a, SliceReader<'a>>> FromDer<'a> for T {
+    fn from_der(alloc: Global, bytes: &'a [u8]) -> Result<T, Error> {
+        let mut reader = SliceReader::new(bytes)?;
+        let value = T::decode(alloc, &mut reader)?;
+        reader.finish()?;
+        Ok(value)
+    }
+}
+
+impl<T: EncodeValue + Tagged> Encode for T {
+    fn encoded_len(&self) -> Result<Length, Error> {
+        let len = self.value_len()?;
+        let header = Header::new(self.tag(), len);
+        header.encoded_len().add(len)
+    }
+
+    fn encode<W: Writer>(&self, writer: &mut W) -> Result<(), Error> {
+        let header = Header::new(self.tag(), self.value_len()?);
+        header.encode(writer)?;
+        self.encode_value(writer)
+    }
+}
+
+impl<T: EncodeValue + Tagged + ValueOrd> DerOrd for T {
+    fn der_cmp(&self, other: &T) -> Result<Ordering, Error> {
+        let tags = self.tag().cmp(&other.tag());
+        if tags != Ordering::Equal {
+            return Ok(tags);
+        }
+        let header = Header::new(self.tag(), self.value_len()?);
+        let other_header = Header::new(other.tag(), other.value_len()?);
+        let lengths = header.length.cmp(&other_header.length);
+        if lengths != Ordering::Equal {
+            return Ok(lengths);
+        }
+        self.value_cmp(other)
     }
 }

@@ -16,3 +16,4 @@ pub mod TagDigits
 pub mod TagReadingLaws
 pub mod HeaderLaws
 pub mod TagMatching
+pub mod HeaderOrder
