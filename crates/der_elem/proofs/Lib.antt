@@ -1,2 +1,3 @@
 pub mod AtContents
 pub mod TaggedDecoding
+pub mod Alone

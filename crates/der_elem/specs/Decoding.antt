@@ -1,11 +1,12 @@
 -- What the calls that read answer, and where the reader stands after each.
-use Rattle.std.specs.Prelude.{◌≡◌, ℕ, ◌+◌, ◌<◌, ◌≤◌, ◌^◌, List, [], length, take, Bool, true, false, ◌⊎◌, Result, Ok, Err}
+use Rattle.std.specs.Prelude.{◌≡◌, ℕ, ◌+◌, ◌-◌, ◌<◌, ◌≤◌, ◌^◌, List, [], length, take, nat_lt, ◌==◌, if◌then◌else◌, Bool, true, false, ◌⊎◌, Result, Ok, Err}
 use Rattle.der_tlv.specs.declared.error.ErrorKind.{ErrorKind}
 use Rattle.der_tlv.specs.declared.error.ErrorKind.TheVariants.{Memory, Overflow, TrailingData}
 use Rattle.der_tlv.specs.declared.error.Error.{Error}
 use Rattle.der_tlv.specs.declared.header.Header.{Header}
 use Rattle.der_tlv.specs.declared.encoding_rules.EncodingRules.TheVariants.{Der}
 use Rattle.der_tlv.specs.ReaderState.{ReaderState, after_read, rest, seen}
+use Rattle.der_elem.specs.Parsing.{Parse}
 use Rattle.der_elem.specs.declared.form.FormValue as value
 use Rattle.der_elem.specs.declared.form.Form as form
 
@@ -49,12 +50,31 @@ abbrev pub DecodesValue : {T : Type 0} → value.Ghosts T → Header → ReaderS
 DecodesValue F header old new (Ok v) = ValueDecoded F header old new v
 DecodesValue F header old new (Err e) = ValueNotDecoded F old new e.kind
 
--- Reading all of the octets answers a value that is read from them; or nothing is, or memory ran out where that can be,
--- or there are more than a length can count.
+-- octets of which so many were parsed from the front
+abbrev pub all_parsed : ℕ → Result (ℕ × List ℕ) ErrorKind → Result (List ℕ) ErrorKind
+all_parsed len (Ok (n, encoding)) = if n == len then Ok encoding else Err (TrailingData n (len - n))
+all_parsed len (Err k) = Err k
+
+-- What octets come to as a whole, under DER: the encoding of the value that they are read as, or the first fault: too many of
+-- them (9), the value's, octets left over (3).
+abbrev pub parse_all : Parse → List ℕ → Result (List ℕ) ErrorKind
+parse_all parse octets = if nat_lt (length octets) (2 ^ 32) then all_parsed (length octets) (parse Der 0 octets) else Err Overflow
+
+-- a value was read from all of the octets
+pub record AllRead {T : Type 0} (F : form.Ghosts T) (octets : List ℕ) (v : T) : Type 0 where
+  pub accepted : F.accepts Der v octets
+  pub fits : length octets < 2 ^ 32
+  pub parsed : parse_all F.parse octets ≡ Ok (F.encoding v)
+
+-- no value is read from the octets, if a length can count them, and this is the first fault
+pub record NotAllRead {T : Type 0} (F : form.Ghosts T) (octets : List ℕ) (kind : ErrorKind) : Type 0 where
+  pub fault : parse_all F.parse octets ≡ Err kind
+  pub nothing : (w : T) → F.accepts Der w octets → length octets < 2 ^ 32 → ⊥
+
+-- what reading all of the octets answers
 abbrev pub ReadsAll : {T : Type 0} → form.Ghosts T → List ℕ → Result T Error → Type 0
-ReadsAll F octets (Ok v) = F.accepts Der v octets × (length octets < 2 ^ 32)
-ReadsAll {T} F octets (Err e) =
-    ((w : T) → F.accepts Der w octets → ⊥) ⊎ (((e.kind ≡ Memory) × (F.TAKES_MEMORY ≡ true)) ⊎ ((e.kind ≡ Overflow) × (2 ^ 32 ≤ length octets)))
+ReadsAll F octets (Ok v) = AllRead F octets v
+ReadsAll F octets (Err e) = ((e.kind ≡ Memory) × (F.TAKES_MEMORY ≡ true)) ⊎ NotAllRead F octets e.kind
 
 -- the fault of octets that are left behind a value
 abbrev pub left_over : ReaderState → ErrorKind

@@ -2,14 +2,12 @@
 
 use std::alloc::Global;
 
-use std::cmp::Ordering;
 
-use der_tlv::{Error, ErrorKind, Header, Length, Reader, SliceReader, Writer};
+use der_tlv::{Error, Header, Length, Reader, SliceReader, Writer};
 
 use crate::decode::{Decode, DecodeValue, FromDer};
 use crate::encode::{Encode, EncodeValue};
 use crate::form::FixedTag;
-use crate::ord::{DerOrd, ValueOrd};
 use crate::tag::Tagged;
 
 impl<'a, R: Reader<'a>, T: DecodeValue<'a, R> + FixedTag> Decode<'a, R> for T {
@@ -27,7 +25,10 @@ impl<'a, R: Reader<'a>, T: DecodeValue<'a, R> + FixedTag> Decode<'a, R> for T {
 
 impl<'a, T: Decode<'a, SliceReader<'a>>> FromDer<'a> for T {
     fn from_der(alloc: Global, bytes: &'a [u8]) -> Result<T, Error> {
-        let mut reader = SliceReader::new(bytes)?;
+        let mut reader = match SliceReader::new(bytes) {
+            Ok(reader) => reader,
+            Err(e) => return Err(e),
+        };
         let value = T::decode(alloc, &mut reader)?;
         reader.finish()?;
         Ok(value)
@@ -48,18 +49,3 @@ impl<T: EncodeValue + Tagged> Encode for T {
     }
 }
 
-impl<T: EncodeValue + Tagged + ValueOrd> DerOrd for T {
-    fn der_cmp(&self, other: &T) -> Result<Ordering, Error> {
-        let tags = self.tag().cmp(&other.tag());
-        if tags != Ordering::Equal {
-            return Ok(tags);
-        }
-        let header = Header::new(self.tag(), self.value_len()?);
-        let other_header = Header::new(other.tag(), other.value_len()?);
-        let lengths = header.length.cmp(&other_header.length);
-        if lengths != Ordering::Equal {
-            return Ok(lengths);
-        }
-        self.value_cmp(other)
-    }
-}
