@@ -1,3 +1,4 @@
 pub mod AtContents
 pub mod TaggedDecoding
 pub mod Alone
+pub mod Written
