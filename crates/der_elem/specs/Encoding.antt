@@ -1,7 +1,7 @@
 -- What the calls that write and measure answer.
 use Rattle.std.specs.Prelude.{◌≡◌, ℕ, ◌<◌, ◌≤◌, ◌^◌, List, ◌++◌, length, take, Bool, true, ◌⊎◌, Result, Ok, Err}
 use Rattle.der_tlv.specs.declared.error.ErrorKind.{ErrorKind}
-use Rattle.der_tlv.specs.declared.error.ErrorKind.TheVariants.{Overflow, Memory}
+use Rattle.der_tlv.specs.declared.error.ErrorKind.TheVariants.{Overflow, Overlength, Memory}
 use Rattle.der_tlv.specs.declared.error.Error.{Error}
 use Rattle.der_tlv.specs.Writing.{WriterState, Wrote, WriterRefused}
 
@@ -25,3 +25,7 @@ Encodes octets re_reads old new (Err e) = WriterRefused octets old new e.kind �
 abbrev pub Measures : List ℕ → Bool → Result ℕ Error → Type 0
 Measures octets re_reads (Ok n) = (n ≡ length octets) × (length octets < 2 ^ 32)
 Measures octets re_reads (Err e) = Stops octets re_reads e.kind
+
+-- (10): a buffer of so many octets is too short for these
+abbrev pub IsTooShort : ℕ → List ℕ → ErrorKind → Type 0
+IsTooShort room octets kind = (kind ≡ Overlength) × (room < length octets)

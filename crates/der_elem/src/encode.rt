@@ -1,11 +1,12 @@
 //! Writing values.
 
-ghost use Rattle.std.specs.Prelude.{◌≡◌, length};
-ghost use Rattle.der_elem.specs.Encoding.{Encodes, Measures};
+ghost use Rattle.std.specs.Prelude.{◌≡◌, ◌^◌, ◌<◌, ◌⊎◌, length, IfOk, IfErr, OnOk};
+ghost use Rattle.der_tlv.specs.declared.error.ErrorKind.TheVariants.{Memory};
+ghost use Rattle.der_elem.specs.Encoding.{Encodes, IsTooShort, Measures, Stops};
 
 use std::alloc::Global;
 
-use der_tlv::{Error, Length, Writer};
+use der_tlv::{Error, Length, SliceWriter, VecWriter, Writer};
 
 use crate::form::{Form, FormValue};
 
@@ -42,4 +43,33 @@ pub trait Encode: Form {
     /// again.
     fn encode<W: Writer>(&self, writer: &mut W) -> Result<(), Error>
         ensures { Encodes (Self.encoding self.now) (Self.re_reads self.now) (W.state writer.old) (W.state writer.new) result };
+
+    /// Writes the encoding to the front of the buffer, and answers that front.
+    ///
+    /// # Errors
+    /// (10) where the buffer is too short; (9) where there are more than 4294967295 octets; (1)
+    /// where items are read again.
+    fn encode_to_slice<'b>(&self, buffer: &'b mut [u8]) -> Result<&'b [u8], Error>
+        ensures ok { IfOk result (λ octets. octets.now ≡ Self.encoding self.now) }
+        ensures err { IfErr result (λ e. IsTooShort (length buffer.entry.now) (Self.encoding self.now) e.kind ⊎ Stops (Self.encoding self.now) (Self.re_reads self.now) e.kind) }
+    {
+        let mut writer = SliceWriter::new(buffer);
+        self.encode(&mut writer)?;
+        Ok(writer.finish())
+    }
+
+    /// The encoding, in a vector.
+    ///
+    /// # Errors
+    /// (1) where memory runs out; (9) where there are more than 4294967295 octets.
+    fn to_der(&self, alloc: Global) -> Result<Vec<u8>, Error>
+        ensures ok { IfOk result (λ octets. octets.items ≡ Self.encoding self.now) }
+        ensures fits { OnOk result (length (Self.encoding self.now) < 2 ^ 32) }
+        ensures err { IfErr result (λ e. (e.kind ≡ Memory) ⊎ Stops (Self.encoding self.now) (Self.re_reads self.now) e.kind) }
+    {
+        let len = self.encoded_len()?;
+        let mut writer = VecWriter::with_capacity(alloc, usize::from(len))?;
+        self.encode(&mut writer)?;
+        Ok(writer.finish())
+    }
 }
