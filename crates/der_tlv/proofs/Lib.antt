@@ -8,3 +8,4 @@ pub mod TagNumbers
 pub mod TagsOfOctets
 pub mod TagHeads
 pub mod TagOctets
+pub mod TagOrder

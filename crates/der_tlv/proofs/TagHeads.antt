@@ -1,16 +1,15 @@
 -- Reading identifier octets: the first, and then the number.
-use Rattle.std.proofs.Common.{◌≡◌, ℕ, suc, ◌+◌, ◌%◌, ◌<◌, ◌≤◌, ◌^◌, List, [], ◌∷◌, ◌++◌, length, take, Bool, true, false, if◌then◌else◌, Result, Ok, Err, refl, sym, ap, subst, ◌∙◌, arith}
+use Rattle.std.proofs.Common.{◌≡◌, ℕ, suc, ◌+◌, ◌%◌, ◌<◌, ◌≤◌, List, [], ◌∷◌, length, take, false, if◌then◌else◌, Result, Ok, Err, sym, ap, subst, ◌∙◌, arith}
 use Rattle.der_tlv.specs.declared.error.ErrorKind.{ErrorKind}
 use Rattle.der_tlv.specs.declared.error.ErrorKind.TheVariants.{Failed}
 use Rattle.der_tlv.specs.declared.tag.Tag.{Tag}
-use Rattle.der_tlv.specs.TagParts.{IsTag, number_of}
 use Rattle.der_tlv.specs.ReaderState.{ReaderState, rest, after_read, after_fault, read_fault, read_fault_at, seen}
 use Rattle.der_tlv.specs.Identifier.{identifier, number_octets}
-use Rattle.der_tlv.specs.HeaderReading.{read_number, read_tag, tag_of_octets, octet_missing, tag_with_number, counted_tag}
+use Rattle.der_tlv.specs.HeaderReading.{read_number, read_tag, tag_of_octets, tag_with_number, counted_tag}
 use Rattle.der_tlv.specs.Reading.{OctetRead, Refuses, HeadRead, HeadFault}
 use Rattle.der_tlv.specs.TagReadingLaws.{read_tag-short, read_tag-long}
 use Rattle.der_tlv.proofs.ReaderStates.{refused_at_first}
-use Rattle.der_tlv.proofs.TagsOfOctets.{tag_of_octets-parts, identifier-short, identifier-long}
+use Rattle.der_tlv.proofs.TagsOfOctets.{identifier-short, identifier-long}
 
 -- the first octet and the number have been read
 pub data NumberRead (old now : ReaderState) (first n : ℕ) : Type 0 where

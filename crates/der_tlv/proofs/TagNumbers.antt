@@ -1,14 +1,14 @@
 -- Reading a tag number of more than 30, digit by digit.
-use Rattle.std.proofs.Common.{◌≡◌, ℕ, ◌+◌, ◌*◌, ◌%◌, ◌<◌, ◌≤◌, ◌^◌, List, [], ◌∷◌, ◌++◌, length, take, Bool, true, false, if◌then◌else◌, Option, Some, None, Result, Ok, Err, refl, sym, ap, ◌∙◌, arith, append_assoc, append-nil, length-append, add-zero}
+use Rattle.std.proofs.Common.{◌≡◌, ℕ, ◌+◌, ◌<◌, ◌≤◌, ◌^◌, List, [], ◌∷◌, ◌++◌, length, take, Bool, true, false, if◌then◌else◌, Some, None, Result, Err, refl, sym, ap, ◌∙◌, arith, append_assoc, append-nil, length-append, add-zero}
 use Rattle.std.proofs.lemmas.List.{take_at}
 use Rattle.der_tlv.specs.declared.error.ErrorKind.{ErrorKind}
 use Rattle.der_tlv.specs.declared.error.ErrorKind.TheVariants.{Failed, TagNumberInvalid}
 use Rattle.der_tlv.specs.ReaderState.{ReaderState, rest, after_read, after_fault, read_fault, read_fault_at, seen}
 use Rattle.der_tlv.specs.Identifier.{number_octets}
-use Rattle.der_tlv.specs.HeaderReading.{read_number, octet_missing}
+use Rattle.der_tlv.specs.HeaderReading.{read_number}
 use Rattle.der_tlv.specs.Reading.{OctetRead, Refuses, HeadRead, HeadFault}
 use Rattle.der_tlv.specs.TagDigits.{leading_octets, with_digit}
-use Rattle.der_tlv.specs.TagReadingLaws.{read_number-missing, read_number-invalid, read_number-last, leading_octets-more, with_digit-fits, with_digit-long}
+use Rattle.der_tlv.specs.TagReadingLaws.{read_number-missing, read_number-invalid, read_number-last, leading_octets-more, with_digit-fits}
 
 -- the digits of n have been read, each with bit 8 set
 pub record NumberSoFar (old now : ReaderState) (n : ℕ) : Type 0 where
@@ -65,8 +65,10 @@ number_missing {old = old} {now = now} {n = n} {kind = kind} so_far (refused, no
   where
     same_failed : now.failed ≡ old.failed
     same_failed = ap (λ (s : ReaderState). s.failed) so_far.after
+
     failed_fault : now.failed ≡ true → read_fault now 1 ≡ Failed
     failed_fault e = rw e refl
+
     at : (b : Bool) → old.failed ≡ b → seen read_number old ≡ Err kind
     at true e = ap (λ b. if b then Err Failed else read_number old.position (rest old)) e ∙ ap (λ k. Err k) (sym (refused.fault_is ∙ failed_fault (same_failed ∙ e)))
     at false e =

@@ -1,12 +1,12 @@
 -- The octets of a number in base 128, one after another.
-use Rattle.std.proofs.Common.{◌≡◌, ℕ, ◌+◌, ◌/◌, ◌%◌, ◌<◌, ◌≤◌, ◌^◌, List, [], ◌∷◌, ◌++◌, length, refl, sym, ap, ◌∙◌, arith, append_assoc, length-append}
+use Rattle.std.proofs.Common.{◌≡◌, ℕ, ◌+◌, ◌/◌, ◌%◌, ◌<◌, ◌≤◌, ◌^◌, List, [], ◌∷◌, ◌++◌, length, sym, ap, ◌∙◌, arith, append_assoc, length-append}
 use Rattle.std.proofs.lemmas.List.{length-map, map-append}
 use Rattle.std.specs.Int.Digits.{digits_of}
 use Rattle.std.proofs.lemmas.Int.Digits.{digits_of_step, length-digits_of-le}
 use Rattle.der_tlv.specs.declared.tag.Tag.{Tag}
 use Rattle.der_tlv.specs.TagParts.{class_of, is_constructed, number_of}
 use Rattle.der_tlv.specs.Identifier.{first_octet, number_octets, identifier}
-use Rattle.der_tlv.specs.IdentifierLaws.{identifier-is, low_bits, later_octets, sized}
+use Rattle.der_tlv.specs.IdentifierLaws.{identifier-is, low_bits, sized}
 use Rattle.der_tlv.specs.IdentifierLaws.Sized.{short, long}
 use Rattle.der_tlv.specs.TagDigits.{marked, leading_octets}
 
@@ -33,14 +33,16 @@ number_pushed old before new n e f = f ∙ ap (λ z. z ++ ((n % 128) ∷ [])) e 
 pub identifier_pushed : (old new : List ℕ) (t : Tag) (octet : ℕ) → number_of t < 31 → octet ≡ first_octet (class_of t) (is_constructed t) (low_bits (number_of t)) → new ≡ old ++ (octet ∷ []) → new ≡ old ++ identifier t
 identifier_pushed old new t octet small e pushed =
     elim (sized (number_of t)) [
-      short l m none ↦ pushed ∙ ap (λ k. old ++ (k ∷ [])) e ∙ ap (λ z. old ++ (first_octet (class_of t) (is_constructed t) (low_bits (number_of t)) ∷ z)) (sym none) ∙ ap (λ z. old ++ z) (sym (identifier-is t))
-    | long l m others ↦ absurd (omega arith) ]
+      | short l m none ↦ pushed ∙ ap (λ k. old ++ (k ∷ [])) e ∙ ap (λ z. old ++ (first_octet (class_of t) (is_constructed t) (low_bits (number_of t)) ∷ z)) (sym none) ∙ ap (λ z. old ++ z) (sym (identifier-is t))
+      | long l m others ↦ absurd (omega arith)
+    ]
 
 -- the first identifier octet, and then those of the number
 pub long_identifier_pushed : (old before new : List ℕ) (t : Tag) (n octet : ℕ) → n ≡ number_of t → 31 ≤ n → octet ≡ first_octet (class_of t) (is_constructed t) (low_bits (number_of t)) → before ≡ old ++ (octet ∷ []) → new ≡ before ++ number_octets n → new ≡ old ++ identifier t
 long_identifier_pushed old before new t n octet same great e pushed others =
     let first : ℕ = first_octet (class_of t) (is_constructed t) (low_bits (number_of t)) in
     elim (sized (number_of t)) [
-      short l m none ↦ absurd (omega arith)
-    | long l m later ↦ others ∙ ap (λ z. z ++ number_octets n) (pushed ∙ ap (λ k. old ++ (k ∷ [])) e) ∙ append_assoc old (first ∷ []) (number_octets n)
-        ∙ ap (λ z. old ++ (first ∷ z)) (ap number_octets same ∙ sym later) ∙ ap (λ z. old ++ z) (sym (identifier-is t)) ]
+      | short l m none ↦ absurd (omega arith)
+      | long l m later ↦ others ∙ ap (λ z. z ++ number_octets n) (pushed ∙ ap (λ k. old ++ (k ∷ [])) e) ∙ append_assoc old (first ∷ []) (number_octets n)
+          ∙ ap (λ z. old ++ (first ∷ z)) (ap number_octets same ∙ sym later) ∙ ap (λ z. old ++ z) (sym (identifier-is t))
+    ]

@@ -1,14 +1,14 @@
 -- The tag of a first identifier octet and a number.
-use Rattle.std.proofs.Common.{◌≡◌, ℕ, zero, suc, ◌+◌, ◌*◌, ◌/◌, ◌%◌, ◌<◌, ◌≤◌, ◌^◌, ◌==◌, nat_eq, List, [], ◌∷◌, Bool, true, false, if◌then◌else◌, Option, Some, None, Result, Ok, Err, refl, sym, ap, ◌∙◌, arith}
+use Rattle.std.proofs.Common.{◌≡◌, ℕ, zero, suc, ◌/◌, ◌%◌, ◌<◌, ◌≤◌, ◌==◌, nat_eq, [], ◌∷◌, Bool, true, false, if◌then◌else◌, Option, Some, None, Result, Ok, Err, refl, sym, ap, ◌∙◌, arith}
 use Rattle.std.proofs.lemmas.Bool.Decides.{nat_tests}
 use borrow.Author.Tests.{eqb-true}
 use Rattle.std.specs.Bool.{beq}
 use Rattle.der_tlv.specs.declared.error.ErrorKind.{ErrorKind}
-use Rattle.der_tlv.specs.declared.error.ErrorKind.TheVariants.{TagUnknown, Noncanonical}
+use Rattle.der_tlv.specs.declared.error.ErrorKind.TheVariants.{Noncanonical}
 use Rattle.der_tlv.specs.declared.tag.class.Class.TheVariants as class
 use Rattle.der_tlv.specs.declared.tag.Tag.{Tag}
 use Rattle.der_tlv.specs.declared.tag.Tag.TheVariants.{Boolean, Integer, BitString, OctetString, Null, ObjectIdentifier, Real, Enumerated, Utf8String, RelativeOid, Sequence, Set, NumericString, PrintableString, TeletexString, VideotexString, Ia5String, UtcTime, GeneralizedTime, VisibleString, GeneralString, BmpString, Application, ContextSpecific, Private}
-use Rattle.der_tlv.specs.TagParts.{IsTag, class_of, is_constructed, number_of, universal_tag}
+use Rattle.der_tlv.specs.TagParts.{class_of, is_constructed, number_of, universal_tag}
 use Rattle.der_tlv.specs.Identifier.{class_index, form_bit, first_octet, number_octets, identifier}
 use Rattle.der_tlv.specs.HeaderReading.{universal_of, tag_of_octets}
 use Rattle.der_tlv.specs.IdentifierLaws.{identifier-is, low_bits, later_octets, sized}
@@ -100,12 +100,16 @@ has_parts first class form n t small bit = below_four (λ k. Gives (parts_of fir
       form_is = ap (λ x. form_bit (is_constructed x)) (sym e) ∙ ap form_bit f ∙ form_bit-test form bit;
       number_is = ap number_of (sym e) ∙ m;
     }
+
     universal : Gives (universal_of first (nat_eq form 1) (universal_tag n)) t → HasParts 0 form n t
     universal e = let k = universal_of-is first (nat_eq form 1) (universal_tag n) t e in let u = universal_tag-is n t k.0 in is 0 t (ap class_index u.1) k.1 u.0 refl
+
     application : Gives (Ok (Application (nat_eq form 1) (record { 0 = n }))) t → HasParts 1 form n t
     application e = is 1 (Application (nat_eq form 1) (record { 0 = n })) refl refl refl (cc)
+
     context : Gives (Ok (ContextSpecific (nat_eq form 1) (record { 0 = n }))) t → HasParts 2 form n t
     context e = is 2 (ContextSpecific (nat_eq form 1) (record { 0 = n })) refl refl refl (cc)
+
     private : Gives (Ok (Private (nat_eq form 1) (record { 0 = n }))) t → HasParts 3 form n t
     private e = is 3 (Private (nat_eq form 1) (record { 0 = n })) refl refl refl (cc)
 
@@ -121,8 +125,9 @@ identifier-short first t h low e =
     let b = parts.form_is in
     let c = parts.number_is in
     elim (sized (number_of t)) [
-      short l m none ↦ let whole : first_octet (class_of t) (is_constructed t) (low_bits (number_of t)) ≡ first = omega arith in identifier-is t ∙ ap (λ k. k ∷ later_octets (number_of t)) whole ∙ ap (λ z. first ∷ z) none
-    | long l m others ↦ absurd (omega arith) ]
+      | short l m none ↦ let whole : first_octet (class_of t) (is_constructed t) (low_bits (number_of t)) ≡ first = omega arith in identifier-is t ∙ ap (λ k. k ∷ later_octets (number_of t)) whole ∙ ap (λ z. first ∷ z) none
+      | long l m others ↦ absurd (omega arith)
+    ]
 
 -- the identifier octets of a tag in the long form
 pub identifier-long : (first n : ℕ) (t : Tag) → first < 256 → first % 32 ≡ 31 → 31 ≤ n → tag_of_octets first n ≡ Ok t → identifier t ≡ first ∷ number_octets n
@@ -132,5 +137,6 @@ identifier-long first n t h low great e =
     let b = parts.form_is in
     let c = parts.number_is in
     elim (sized (number_of t)) [
-      short l m none ↦ absurd (omega arith)
-    | long l m others ↦ let whole : first_octet (class_of t) (is_constructed t) (low_bits (number_of t)) ≡ first = omega arith in identifier-is t ∙ ap (λ k. k ∷ later_octets (number_of t)) whole ∙ ap (λ z. first ∷ z) (others ∙ ap number_octets c) ]
+      | short l m none ↦ absurd (omega arith)
+      | long l m others ↦ let whole : first_octet (class_of t) (is_constructed t) (low_bits (number_of t)) ≡ first = omega arith in identifier-is t ∙ ap (λ k. k ∷ later_octets (number_of t)) whole ∙ ap (λ z. first ∷ z) (others ∙ ap number_octets c)
+    ]

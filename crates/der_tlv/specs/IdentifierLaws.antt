@@ -1,10 +1,11 @@
 -- Laws of identifier octets: which tag they are of, and where they end.
-use Rattle.std.specs.Prelude.{◌≡◌, ℕ, ◌+◌, ◌*◌, ◌/◌, ◌%◌, ◌^◌, ◌<◌, ◌≤◌, ◌==◌, Bool, true, false, nat_lt, if◌then◌else◌, List, [], ◌∷◌, ◌++◌, map, length, Option, Some, None, ◌⊎◌}
+use Rattle.std.specs.Prelude.{◌≡◌, ℕ, ◌+◌, ◌/◌, ◌%◌, ◌^◌, ◌<◌, ◌≤◌, ◌==◌, Bool, true, false, nat_lt, if◌then◌else◌, List, [], ◌∷◌, ◌++◌, map, length, Option, Some}
 use Rattle.std.specs.Int.Digits.{digits_of}
-use Rattle.std.specs.Ordering.{ordering_then}
+use Rattle.std.specs.Ordering.{ordering_then, is_eq}
+use Rattle.std.specs.Bool.{Decides}
 use Rattle.std.specs.declared.cmp.Ordering.{Ordering}
-use Rattle.std.specs.declared.cmp.Ordering.TheVariants.{Equal}
-use Rattle.std.proofs.Common.{refl, sym, ap, ◌∙◌, inl, inr, arith, append_assoc, length-append}
+use Rattle.std.specs.declared.cmp.Ordering.TheVariants.{Less, Equal, Greater}
+use Rattle.std.proofs.Common.{refl, sym, ap, ◌∙◌, arith, append_assoc, length-append}
 use Rattle.std.proofs.lemmas.List.{length-map}
 use Rattle.std.proofs.lemmas.Int.Digits.{same_from_digits_of, length-digits_of-le}
 use borrow.Author.Tests.{ltb-true, ltb-false}
@@ -15,7 +16,7 @@ use Rattle.der_tlv.specs.declared.tag.Tag.TheVariants.{Boolean, Integer, BitStri
 use Rattle.der_tlv.specs.TagParts.{IsTag, class_of, is_constructed, number_of, universal_tag}
 use Rattle.der_tlv.specs.Identifier.{class_index, form_bit, first_octet, number_octets, identifier_octets, identifier}
 use Rattle.der_tlv.specs.Octets.{lex}
-use Rattle.der_tlv.specs.OctetLaws.{SameBeginning, lex-append, lex-equal}
+use Rattle.der_tlv.specs.OctetLaws.{SameBeginning, lex-append, lex-equal, lex-same}
 
 -- octets with bit 8 set, one without, and a tail: each part is the other's where the whole is
 marked-unique : (a b : List ℕ) (r s : ℕ) (x y : List ℕ) → r < 128 → s < 128 → map (λ d. 128 + d) a ++ (r ∷ x) ≡ map (λ d. 128 + d) b ++ (s ∷ y) → (a ≡ b) × (r ≡ s) × (x ≡ y)
@@ -35,7 +36,7 @@ pub number_octets-unique : (m n : ℕ) (x y : List ℕ) → number_octets m ++ x
 unfolding number_octets
 number_octets-unique m n x y e =
     let parts = marked-unique (digits_of 128 (m / 128)) (digits_of 128 (n / 128)) (m % 128) (n % 128) x y (omega arith) (omega arith)
-      (sym (append_assoc (map (λ d. 128 + d) (digits_of 128 (m / 128))) (m % 128 ∷ []) x) ∙ e ∙ append_assoc (map (λ d. 128 + d) (digits_of 128 (n / 128))) (n % 128 ∷ []) y) in
+    (sym (append_assoc (map (λ d. 128 + d) (digits_of 128 (m / 128))) (m % 128 ∷ []) x) ∙ e ∙ append_assoc (map (λ d. 128 + d) (digits_of 128 (n / 128))) (n % 128 ∷ []) y) in
     let high : m / 128 ≡ n / 128 = same_from_digits_of 128 (m / 128) (n / 128) (omega arith) parts.0 in
     let low : m % 128 ≡ n % 128 = parts.1 in
     (omega arith, parts.2)
@@ -134,8 +135,9 @@ sized n = split (nat_lt n 31) refl
 
 later-unique : (m n : ℕ) (x y : List ℕ) → low_bits m ≡ low_bits n → later_octets m ++ x ≡ later_octets n ++ y → (m ≡ n) × (x ≡ y)
 later-unique m n x y low e = elim (sized m) [
-    short l a b ↦ elim (sized n) [ short k c d ↦ (omega arith, sym (ap (λ z. z ++ x) b) ∙ e ∙ ap (λ z. z ++ y) d) | long k c d ↦ absurd (omega arith) ]
-  | long l a b ↦ elim (sized n) [ short k c d ↦ absurd (omega arith) | long k c d ↦ number_octets-unique m n x y (sym (ap (λ z. z ++ x) b) ∙ e ∙ ap (λ z. z ++ y) d) ] ]
+  | short l a b ↦ elim (sized n) [ short k c d ↦ (omega arith, sym (ap (λ z. z ++ x) b) ∙ e ∙ ap (λ z. z ++ y) d) | long k c d ↦ absurd (omega arith) ]
+  | long l a b ↦ elim (sized n) [ short k c d ↦ absurd (omega arith) | long k c d ↦ number_octets-unique m n x y (sym (ap (λ z. z ++ x) b) ∙ e ∙ ap (λ z. z ++ y) d) ]
+]
 
 pub low_bits-small : (n : ℕ) → low_bits n < 32
 low_bits-small n = elim (sized n) [ short l a b ↦ omega arith | long l a b ↦ omega arith ]
@@ -152,6 +154,7 @@ identifier_octets-unique c d f g m n x y e =
   where
     cons_head : (a b : ℕ) (p q : List ℕ) → a ∷ p ≡ b ∷ q → a ≡ b
     cons_head a b p q h = cc
+
     cons_tail : (a b : ℕ) (p q : List ℕ) → a ∷ p ≡ b ∷ q → p ≡ q
     cons_tail a b p q h = cc
 
@@ -201,3 +204,15 @@ length-identifier t h =
     let e = ap length (identifier-is t) in
     let few = length-number_octets (number_of t) h in
     elim (sized (number_of t)) [ short l a b ↦ (let k = ap length b in omega arith) | long l a b ↦ (let k = ap length b in omega arith) ]
+
+-- tags are the same exactly where their identifier octets compare as equal
+pub identifier_decides : (t u : Tag) → Decides (is_eq (lex (identifier t) (identifier u))) (t ≡ u)
+identifier_decides t u = (
+  (λ e. lex-identifier-equal t u (is_equal (lex (identifier t) (identifier u)) e)),
+  (λ e. ap is_eq (ap (λ x. lex (identifier t) (identifier x)) (sym e) ∙ lex-same (identifier t))),
+)
+  where
+    is_equal : (o : Ordering) → is_eq o ≡ true → o ≡ Equal
+    is_equal Less h = absurd (cc)
+    is_equal Equal h = refl
+    is_equal Greater h = absurd (cc)

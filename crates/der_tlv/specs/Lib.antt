@@ -17,3 +17,5 @@ pub mod TagReadingLaws
 pub mod HeaderLaws
 pub mod TagMatching
 pub mod HeaderOrder
+pub mod TagEquality
+pub mod TagLaws

@@ -1,20 +1,19 @@
 -- Laws of reading identifier octets.
-use Rattle.std.specs.Prelude.{◌≡◌, ℕ, ◌+◌, ◌*◌, ◌/◌, ◌%◌, ◌^◌, ◌<◌, ◌≤◌, ◌==◌, ◌≢◌, Bool, true, false, nat_lt, nat_le, nat_eq, if◌then◌else◌, List, [], ◌∷◌, ◌++◌, map, length, take, get_or, Option, Some, None, Result, Ok, Err, ◌⊎◌}
-use Rattle.std.specs.Bool.{beq}
+use Rattle.std.specs.Prelude.{◌≡◌, ℕ, ◌+◌, ◌*◌, ◌/◌, ◌%◌, ◌^◌, ◌<◌, ◌≤◌, ◌==◌, ◌≢◌, Bool, true, false, nat_lt, nat_le, nat_eq, if◌then◌else◌, List, [], ◌∷◌, ◌++◌, map, length, take, get_or, Some, None, Result, Ok, Err, ◌⊎◌}
 use Rattle.std.specs.List.{prefix_len}
 use Rattle.std.specs.Int.Digits.{digits_of, number_from_digits, number_from_digits_after, AllBelowBase}
-use Rattle.std.proofs.Common.{refl, sym, ap, ◌∙◌, inl, inr, arith, append_assoc, append-nil, length-append, zero-add, zero, suc, cond, ◌&&◌, ◌||◌, eq-eqb}
+use Rattle.std.proofs.Common.{refl, sym, ap, ◌∙◌, inl, inr, arith, append_assoc, append-nil, length-append, zero-add, zero, suc, ◌&&◌, ◌||◌, eq-eqb}
 use borrow.Author.Tests.{ltb-true, leb-true, eqb-true}
 use Rattle.std.proofs.lemmas.List.{length-map, map-append}
 use Rattle.std.proofs.lemmas.List.Folds.{length-prefix_len}
 use Rattle.std.proofs.lemmas.Bool.Decides.{nat_tests}
 use Rattle.std.proofs.lemmas.Int.Digits.{number_digits_of, number_after_append, number_after_ge, all_below_base_digits_of, first_digits_of, digits_of_step}
 use Rattle.der_tlv.specs.declared.error.ErrorKind.{ErrorKind}
-use Rattle.der_tlv.specs.declared.error.ErrorKind.TheVariants.{TagNumberInvalid, TagUnknown, Noncanonical}
+use Rattle.der_tlv.specs.declared.error.ErrorKind.TheVariants.{TagNumberInvalid}
 use Rattle.der_tlv.specs.declared.tag.Tag.{Tag}
 use Rattle.der_tlv.specs.declared.tag.Tag.TheVariants.{Boolean, Integer, BitString, OctetString, Null, ObjectIdentifier, Real, Enumerated, Utf8String, RelativeOid, Sequence, Set, NumericString, PrintableString, TeletexString, VideotexString, Ia5String, UtcTime, GeneralizedTime, VisibleString, GeneralString, BmpString, Application, ContextSpecific, Private}
 use Rattle.der_tlv.specs.TagParts.{IsTag, class_of, is_constructed, number_of, universal_tag}
-use Rattle.der_tlv.specs.Identifier.{class_index, form_bit, first_octet, number_octets, identifier_octets, identifier}
+use Rattle.der_tlv.specs.Identifier.{class_index, form_bit, first_octet, number_octets, identifier}
 use Rattle.der_tlv.specs.TagDigits.{marked, leading_octets, with_digit}
 use Rattle.der_tlv.specs.HeaderReading.{octet_missing, high_count, number_value, read_number, tag_of_octets, tag_with_number, counted_tag, read_tag, universal_of}
 use Rattle.der_tlv.specs.IdentifierLaws.{identifier-is, low_bits, later_octets, low_bits-small, form_bit-small, sized}
@@ -169,8 +168,9 @@ some-or-none false false c d v w e = (cc, refl, λ q. absurd (cc))
 
 no_digit : (n x : ℕ) → with_digit n x ≡ None → NoDigit n x
 no_digit n x e = elim (none-or-some (nat_le (2 ^ 25) n) (n == 0) (nat_lt x 31) (x == 128) (n * 128 + x % 128) e) [
-    inl t ↦ great (leb-true (2 ^ 25) n t)
-  | inr q ↦ elim q.1 [ inl t ↦ small (eqb-true n 0 q.0) (ltb-true x 31 t) | inr t ↦ zero_digit (eqb-true n 0 q.0) (eqb-true x 128 t) ] ]
+  | inl t ↦ great (leb-true (2 ^ 25) n t)
+  | inr q ↦ elim q.1 [ inl t ↦ small (eqb-true n 0 q.0) (ltb-true x 31 t) | inr t ↦ zero_digit (eqb-true n 0 q.0) (eqb-true x 128 t) ]
+]
 
 is_digit : (n x v : ℕ) → with_digit n x ≡ Some v → IsDigit n x v
 is_digit n x v e = let k = some-or-none (nat_le (2 ^ 25) n) (n == 0) (nat_lt x 31) (x == 128) (n * 128 + x % 128) v e in record {
@@ -352,12 +352,13 @@ read_tag-identifier t p x h =
     let tag = tag_of_octets-tag t (low_bits n) small in
     let start : read_tag p (identifier t ++ x) ≡ read_tag p (first ∷ (later_octets n ++ x)) = ap (λ z. read_tag p (z ++ x)) (identifier-is t) in
     elim (sized n) [
-      short l a b ↦
-        let count : 1 ≡ length (identifier t) = sym (ap length (identifier-is t) ∙ ap (λ z. suc (length z)) b) in
-        start ∙ read_tag-short p first (later_octets n ++ x) (λ e. omega arith)
-        ∙ ap (λ k. counted_tag 1 (tag_of_octets first k)) (low ∙ a) ∙ ap (counted_tag 1) tag ∙ ap (λ k. Ok (k, t)) count
-    | long l a b ↦
-        let count : 1 + length (number_octets n) ≡ length (identifier t) = sym (ap length (identifier-is t) ∙ ap (λ z. suc (length z)) b ∙ (omega arith)) in
-        start ∙ read_tag-long p first (later_octets n ++ x) (low ∙ a)
-        ∙ ap (λ z. tag_with_number first (read_number (p + 1) (z ++ x))) b ∙ ap (tag_with_number first) (read_number-number_octets (p + 1) n x l h)
-        ∙ ap (counted_tag (1 + length (number_octets n))) tag ∙ ap (λ k. Ok (k, t)) count ]
+      | short l a b ↦
+          let count : 1 ≡ length (identifier t) = sym (ap length (identifier-is t) ∙ ap (λ z. suc (length z)) b) in
+          start ∙ read_tag-short p first (later_octets n ++ x) (λ e. omega arith)
+          ∙ ap (λ k. counted_tag 1 (tag_of_octets first k)) (low ∙ a) ∙ ap (counted_tag 1) tag ∙ ap (λ k. Ok (k, t)) count
+      | long l a b ↦
+          let count : 1 + length (number_octets n) ≡ length (identifier t) = sym (ap length (identifier-is t) ∙ ap (λ z. suc (length z)) b ∙ (omega arith)) in
+          start ∙ read_tag-long p first (later_octets n ++ x) (low ∙ a)
+          ∙ ap (λ z. tag_with_number first (read_number (p + 1) (z ++ x))) b ∙ ap (tag_with_number first) (read_number-number_octets (p + 1) n x l h)
+          ∙ ap (counted_tag (1 + length (number_octets n))) tag ∙ ap (λ k. Ok (k, t)) count
+    ]

@@ -23,5 +23,8 @@ pub use error::{Error, ErrorKind};
 pub use header::Header;
 pub use length::Length;
 pub use reader::{Reader, SliceReader};
-pub use tag::{Class, Tag, TagMode, TagNumber};
+pub use tag::{
+    Class, Tag, TagMode, TagNumber, identifiers_are_short, identifiers_are_unique,
+    identifiers_decide_order, identifiers_read_back,
+};
 pub use writer::{SliceWriter, VecWriter, Writer};

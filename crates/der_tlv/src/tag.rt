@@ -2,8 +2,10 @@
 
 mod class;
 mod decoding;
+mod laws;
 mod mode;
 mod number;
+mod ordering;
 
 ghost use Rattle.std.specs.Prelude.{◌≡◌, ℕ, ◌+◌, ◌^◌, ◌<◌, ◌↔◌, IsTrue, IfOk, IfErr, IsOk, Option, Some, None, OnOk};
 ghost use Rattle.std.specs.Ordering.{on, as_partial_cmp};
@@ -15,6 +17,9 @@ ghost use Rattle.der_tlv.specs.HeaderReading.{read_tag};
 ghost use Rattle.der_tlv.specs.Reading.{ReadsHead, PeeksHead};
 
 pub use class::Class;
+pub use laws::{
+    identifiers_are_short, identifiers_are_unique, identifiers_decide_order, identifiers_read_back,
+};
 pub use mode::TagMode;
 pub use number::TagNumber;
 
@@ -210,3 +215,6 @@ impl Tag {
         ErrorKind::Noncanonical { tag: self }
     }
 }
+
+#[cfg(test)]
+mod tests;

@@ -1,4 +1,4 @@
-use Rattle.std.proofs.Common.{rules, ◌/◌, ◌<◌, ◌+◌, ◌≡◌, ap, length, length-append, arith}
+use Rattle.std.proofs.Common.{rules, ◌/◌, ◌<◌, ap, length, length-append, arith}
 use Rattle.der_tlv.specs.TagDigits.{leading_octets}
 use Rattle.der_tlv.proofs.TagOctets.{length-leading_octets-step, leading_pushed}
 use Rattle.der_tlv.proofs.header_octets.HeaderOctets.+push_leading.Goals as goal

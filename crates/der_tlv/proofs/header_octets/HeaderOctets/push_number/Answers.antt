@@ -1,4 +1,4 @@
-use Rattle.std.proofs.Common.{ℕ, ◌+◌, ◌/◌, ◌≤◌, ap, length, length-append, arith}
+use Rattle.std.proofs.Common.{ℕ, ◌/◌, ap, length, length-append, arith}
 use Rattle.der_tlv.specs.TagDigits.{leading_octets}
 use Rattle.der_tlv.proofs.TagOctets.{length-leading_octets, number_pushed}
 use Rattle.der_tlv.proofs.header_octets.HeaderOctets.push_number.Goals as goal

@@ -1,4 +1,4 @@
-use Rattle.std.proofs.Common.{rules, ◌≡◌, ◌<◌, ◌≤◌, ◌%◌, sym, ap, ◌∙◌, arith}
+use Rattle.std.proofs.Common.{rules, ◌<◌, sym, ap, arith}
 use Rattle.der_tlv.proofs.TagHeads.{NumberRead, number_in_first, number_behind, first_missing, number_refused, tag_read, tag_refused}
 use Rattle.der_tlv.proofs.tag.Tag.decode.Goals as goal
 use Rattle.der_tlv.proofs.tag.Tag.decode.Goals.{then-low-lt31, else-low-lt31+in_ok-number}
@@ -17,17 +17,19 @@ pub returns-in-Ok-clause-head : goal.returns-in-Ok-clause-head
 returns-in-Ok-clause-head g c =
     let small : c.in_ok-first.first < 256 = search rules in
     let read : NumberRead (g.R.Reader.state c.args.reader.now) (g.R.Reader.state c.if-low-lt31.reader) c.in_ok-first.first c.if-low-lt31.number =
-      elim c.if-low-lt31.branch [
-        then-low-lt31 w ↦ number_in_first c.in_ok-first.ensures small w.if-low-lt31.true (omega arith) (ap g.R.Reader.state w.reader-is)
-      | else-low-lt31+in_ok-number w ↦ number_behind c.in_ok-first.ensures small w.if-low-lt31.false w.in_ok-number.ensures.head w.in_ok-number.ensures.long w.number-is (ap g.R.Reader.state w.reader-is) ] in
+    elim c.if-low-lt31.branch [
+      | then-low-lt31 w ↦ number_in_first c.in_ok-first.ensures small w.if-low-lt31.true (omega arith) (ap g.R.Reader.state w.reader-is)
+      | else-low-lt31+in_ok-number w ↦ number_behind c.in_ok-first.ensures small w.if-low-lt31.false w.in_ok-number.ensures.head w.in_ok-number.ensures.long w.number-is (ap g.R.Reader.state w.reader-is)
+    ] in
     tag_read read (sym c.in-Ok.ensures)
 
 pub returns-in-Err-clause-head : goal.returns-in-Err-clause-head
 returns-in-Err-clause-head g c =
     let small : c.in_ok-first.first < 256 = search rules in
     let read : NumberRead (g.R.Reader.state c.args.reader.now) (g.R.Reader.state c.if-low-lt31.reader) c.in_ok-first.first c.if-low-lt31.number =
-      elim c.if-low-lt31.branch [
-        then-low-lt31 w ↦ number_in_first c.in_ok-first.ensures small w.if-low-lt31.true (omega arith) (ap g.R.Reader.state w.reader-is)
-      | else-low-lt31+in_ok-number w ↦ number_behind c.in_ok-first.ensures small w.if-low-lt31.false w.in_ok-number.ensures.head w.in_ok-number.ensures.long w.number-is (ap g.R.Reader.state w.reader-is) ] in
+    elim c.if-low-lt31.branch [
+      | then-low-lt31 w ↦ number_in_first c.in_ok-first.ensures small w.if-low-lt31.true (omega arith) (ap g.R.Reader.state w.reader-is)
+      | else-low-lt31+in_ok-number w ↦ number_behind c.in_ok-first.ensures small w.if-low-lt31.false w.in_ok-number.ensures.head w.in_ok-number.ensures.long w.number-is (ap g.R.Reader.state w.reader-is)
+    ] in
     let fault = tag_refused read (sym c.in-Err.ensures) c.error.ensures.failed in
     search rules

@@ -1,5 +1,4 @@
-use Rattle.std.proofs.Common.{rules, ◌≡◌, ◌<◌, sym}
-use Rattle.der_tlv.specs.TagReadingLaws.{with_digit-long}
+use Rattle.std.proofs.Common.{rules, ◌<◌, sym}
 use Rattle.der_tlv.proofs.TagNumbers.{one_digit_more, number_read, number_invalid, number_missing}
 use Rattle.der_tlv.proofs.tag.decoding.decode_number.Goals as goal
 

@@ -1,0 +1,24 @@
+//! Laws of identifier octets, which stand as the contracts of functions that do nothing.
+
+ghost use Rattle.der_tlv.specs.TagLaws.{IdentifiersAreUnique, IdentifiersReadBack, IdentifiersDecideOrder, IdentifiersAreShort};
+
+/// No identifier octets are a beginning of those of another tag.
+pub fn identifiers_are_unique()
+    ensures { IdentifiersAreUnique }
+{}
+
+/// Reading the identifier octets of a tag gives that tag, whatever follows them.
+pub fn identifiers_read_back()
+    ensures { IdentifiersReadBack }
+{}
+
+/// In the lexicographic order of octets, what follows identifier octets counts only where the tags
+/// are the same.
+pub fn identifiers_decide_order()
+    ensures { IdentifiersDecideOrder }
+{}
+
+/// A tag has one to six identifier octets.
+pub fn identifiers_are_short()
+    ensures { IdentifiersAreShort }
+{}
