@@ -2,3 +2,4 @@ pub mod AtContents
 pub mod TaggedDecoding
 pub mod Alone
 pub mod Written
+pub mod Headed

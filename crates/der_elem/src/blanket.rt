@@ -1,6 +1,7 @@
 //! Reading, writing and comparing values with tags, by their contents octets.
 
 use std::alloc::Global;
+use std::cmp::Ordering;
 
 
 use der_tlv::{Error, Header, Length, Reader, SliceReader, Writer};
@@ -8,6 +9,7 @@ use der_tlv::{Error, Header, Length, Reader, SliceReader, Writer};
 use crate::decode::{Decode, DecodeValue, FromDer};
 use crate::encode::{Encode, EncodeValue};
 use crate::form::FixedTag;
+use crate::ord::{DerOrd, ValueOrd};
 use crate::tag::Tagged;
 
 impl<'a, R: Reader<'a>, T: DecodeValue<'a, R> + FixedTag> Decode<'a, R> for T {
@@ -49,3 +51,17 @@ impl<T: EncodeValue + Tagged> Encode for T {
     }
 }
 
+
+impl<T: EncodeValue + Tagged + ValueOrd> DerOrd for T {
+    fn der_cmp(&self, other: &T) -> Result<Ordering, Error> {
+        match self.tag().cmp(&other.tag()) {
+            Ordering::Equal => {}
+            order => return Ok(order),
+        }
+        match self.value_len()?.cmp(&other.value_len()?) {
+            Ordering::Equal => {}
+            order => return Ok(order),
+        }
+        self.value_cmp(other)
+    }
+}
