@@ -1,14 +1,14 @@
 -- Reading identifier octets: the first, and then the number.
-use Rattle.std.proofs.Common.{◌≡◌, ℕ, suc, ◌+◌, ◌%◌, ◌<◌, ◌≤◌, List, [], ◌∷◌, length, take, false, if◌then◌else◌, Result, Ok, Err, sym, ap, subst, ◌∙◌, arith}
+use Rattle.std.proofs.Common.{◌≡◌, ℕ, suc, ◌+◌, ◌%◌, ◌<◌, ◌≤◌, [], ◌∷◌, length, take, false, Result, Ok, Err, sym, ap, subst, ◌∙◌, arith}
 use Rattle.der_tlv.specs.declared.error.ErrorKind.{ErrorKind}
-use Rattle.der_tlv.specs.declared.error.ErrorKind.TheVariants.{Failed}
 use Rattle.der_tlv.specs.declared.tag.Tag.{Tag}
-use Rattle.der_tlv.specs.ReaderState.{ReaderState, rest, after_read, after_fault, read_fault, read_fault_at, seen}
+use Rattle.der_tlv.specs.ReaderState.{ReaderState, rest, after_read, after_fault, read_fault, read_fault_at}
 use Rattle.der_tlv.specs.Identifier.{identifier, number_octets}
 use Rattle.der_tlv.specs.HeaderReading.{read_number, read_tag, tag_of_octets, tag_with_number, counted_tag}
 use Rattle.der_tlv.specs.Reading.{OctetRead, Refuses, HeadRead, HeadFault}
 use Rattle.der_tlv.specs.TagReadingLaws.{read_tag-short, read_tag-long}
 use Rattle.der_tlv.proofs.ReaderStates.{refused_at_first}
+use Rattle.der_tlv.proofs.TagNumbers.{seen_ready}
 use Rattle.der_tlv.proofs.TagsOfOctets.{identifier-short, identifier-long}
 
 -- the first octet and the number have been read
@@ -16,15 +16,14 @@ pub data NumberRead (old now : ReaderState) (first n : ℕ) : Type 0 where
   in_first : OctetRead old now first → first < 256 → first % 32 < 31 → n ≡ first % 32 → NumberRead old now first n
   behind : (mid : ReaderState) → OctetRead old mid first → first < 256 → first % 32 ≡ 31 → HeadRead read_number (number_octets n) mid now n → 31 ≤ n → NumberRead old now first n
 
+-- the number stands in the first octet
 pub number_in_first : {old mid now : ReaderState} {first n : ℕ} → OctetRead old mid first → first < 256 → first % 32 < 31 → n ≡ first % 32 → now ≡ mid → NumberRead old now first n
 number_in_first {old = old} {first = first} {n = n} read small low is same = subst (λ s. NumberRead old s first n) (sym same) (in_first read small low is)
 
+-- the number stands behind the first octet
 pub number_behind : {old mid last now : ReaderState} {first m n : ℕ} → OctetRead old mid first → first < 256 → 31 ≤ first % 32 → HeadRead read_number (number_octets m) mid last m → 31 ≤ m → n ≡ m → now ≡ last → NumberRead old now first n
 number_behind {old = old} {mid = mid} {last = last} {now = now} {first = first} {m = m} {n = n} read small low number great is same =
     subst (λ s. NumberRead old s first n) (sym same) (subst (λ k. NumberRead old last first k) (sym is) (behind mid read small (omega arith) number great))
-
-seen_ready : {A : Type 0} (parse : ℕ → List ℕ → Result A ErrorKind) (s : ReaderState) → s.failed ≡ false → seen parse s ≡ parse s.position (rest s)
-seen_ready parse s e = ap (λ b. if b then Err Failed else parse s.position (rest s)) e
 
 -- no first octet
 pub first_missing : {old new : ReaderState} {kind : ErrorKind} → Refuses old new kind (read_fault old 1) × (old.failed ≡ false → rest old ≡ []) × (old.failed ≡ false → kind ≡ read_fault_at old.position 1 0) → HeadFault read_tag old new kind
@@ -40,6 +39,7 @@ parsed_number {old = old} {now = now} {first = first} {n = n} (behind mid read s
     let position : mid.position ≡ old.position + 1 = ap (λ (s : ReaderState). s.position) read.after in
     (1 + length (number_octets n), ap (read_tag old.position) read.first ∙ read_tag-long old.position first (rest mid) low ∙ ap (λ p. tag_with_number first (read_number p (rest mid))) (sym position) ∙ ap (tag_with_number first) number.parsed ∙ ap (counted_tag (1 + length (number_octets n))) e)
 
+-- the reader had not failed
 ready_then : {old now : ReaderState} {first n : ℕ} → NumberRead old now first n → old.failed ≡ false
 ready_then (in_first read small low is) = read.ready
 ready_then (behind mid read small low number great) = read.ready

@@ -10,9 +10,11 @@ use Rattle.der_tlv.specs.IdentifierLaws.{identifier-is, low_bits, sized}
 use Rattle.der_tlv.specs.IdentifierLaws.Sized.{short, long}
 use Rattle.der_tlv.specs.TagDigits.{marked, leading_octets}
 
+-- the last of the octets with bit 8 set
 pub leading_octets-step : (n : ℕ) → 0 < n → leading_octets n ≡ leading_octets (n / 128) ++ ((128 + n % 128) ∷ [])
 leading_octets-step n h = ap marked (digits_of_step 128 n (omega arith) h) ∙ map-append (λ k. 128 + k) (digits_of 128 (n / 128)) (n % 128 ∷ [])
 
+-- there is one more octet with each digit
 pub length-leading_octets-step : (n : ℕ) → 0 < n → length (leading_octets n) ≡ length (leading_octets (n / 128)) + 1
 length-leading_octets-step n h = ap length (leading_octets-step n h) ∙ length-append (leading_octets (n / 128)) ((128 + n % 128) ∷ [])
 
@@ -21,6 +23,7 @@ pub leading_pushed : (old before new : List ℕ) (n : ℕ) → 0 < n → before 
 leading_pushed old before new n h e f =
     f ∙ ap (λ z. z ++ ((128 + n % 128) ∷ [])) e ∙ append_assoc old (leading_octets (n / 128)) ((128 + n % 128) ∷ []) ∙ ap (λ z. old ++ z) (sym (leading_octets-step n h))
 
+-- at most four octets stand before the last
 pub length-leading_octets : (n : ℕ) → n < 2 ^ 32 → length (leading_octets (n / 128)) ≤ 4
 length-leading_octets n h = let a = length-map (digits_of 128 (n / 128)) (λ k. 128 + k) in let b : length (digits_of 128 (n / 128)) ≤ 4 = length-digits_of-le 128 4 (n / 128) (omega arith) (omega arith) in omega arith
 

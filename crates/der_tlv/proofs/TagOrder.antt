@@ -7,6 +7,7 @@ use Rattle.der_tlv.specs.Identifier.{first_octet, identifier}
 use Rattle.der_tlv.specs.IdentifierLaws.{identifier-is, low_bits, later_octets}
 use Rattle.der_tlv.specs.Octets.{lex}
 
+-- an order that is not equal decides
 then_first : (o p : Ordering) → (o ≡ Equal → ⊥) → o ≡ ordering_then o p
 then_first Less p h = refl
 then_first Equal p h = absurd (h refl)

@@ -11,6 +11,7 @@ use Rattle.der_tlv.specs.declared.tag.Tag.TheVariants.{Boolean, Integer, BitStri
 use Rattle.der_tlv.specs.TagParts.{class_of, is_constructed, number_of, universal_tag}
 use Rattle.der_tlv.specs.Identifier.{class_index, form_bit, first_octet, number_octets, identifier}
 use Rattle.der_tlv.specs.HeaderReading.{universal_of, tag_of_octets}
+use Rattle.der_tlv.specs.TagReadingLaws.{tag_of_parts, tag_of_octets-parts}
 use Rattle.der_tlv.specs.IdentifierLaws.{identifier-is, low_bits, later_octets, sized}
 use Rattle.der_tlv.specs.IdentifierLaws.Sized.{short, long}
 
@@ -18,6 +19,7 @@ use Rattle.der_tlv.specs.IdentifierLaws.Sized.{short, long}
 abbrev IsUniversal : ℕ → Tag → Type 0
 IsUniversal n t = (number_of t ≡ n) × (class_of t ≡ class.Universal)
 
+-- the universal tag of a number has that number
 universal_tag-is : (n : ℕ) (t : Tag) → universal_tag n ≡ Some t → IsUniversal n t
 universal_tag-is n t =
     (next (n == 1) Boolean _ (λ h. (sym (eqb-true n 1 h), refl))
@@ -48,6 +50,7 @@ universal_tag-is n t =
     next true k others here there e = let same : k ≡ t = cc in let both = here refl in (ap number_of (sym same) ∙ both.0, ap class_of (sym same) ∙ both.1)
     next false k others here there e = there e
 
+-- a universal tag with its one form
 universal_of-is : (first : ℕ) (constructed : Bool) (o : Option Tag) (t : Tag) → universal_of first constructed o ≡ Ok t → (o ≡ Some t) × (is_constructed t ≡ constructed)
 universal_of-is first constructed None t e = absurd (cc)
 universal_of-is first constructed (Some u) t e = let k = same_form (is_constructed u) constructed e in let same : u ≡ t = k.0 in (ap (λ x. Some x) same, ap is_constructed (sym same) ∙ k.1)
@@ -64,6 +67,7 @@ pub record HasParts (class form n : ℕ) (t : Tag) : Type 0 where
   pub form_is : form_bit (is_constructed t) ≡ form
   pub number_is : number_of t ≡ n
 
+-- bit 6 is what its test says
 form_bit-test : (form : ℕ) → form < 2 → form_bit (nat_eq form 1) ≡ form
 form_bit-test form h = split (nat_eq form 1) refl
   where
@@ -71,6 +75,7 @@ form_bit-test form h = split (nat_eq form 1) refl
     split true e = sym (eqb-true form 1 (sym e))
     split false e = grind (arith, nat_tests)
 
+-- by the four numbers below 4
 below_four : (P : ℕ → Type 0) → P 0 → P 1 → P 2 → P 3 → (k : ℕ) → k < 4 → P k
 below_four P a b c d zero h = a
 below_four P a b c d (suc zero) h = b
@@ -82,17 +87,10 @@ below_four P a b c d (suc (suc (suc (suc k)))) h = absurd (omega arith)
 abbrev Gives : Result Tag ErrorKind → Tag → Type 0
 Gives r t = r ≡ Ok t
 
-parts_of : ℕ → ℕ → ℕ → ℕ → Result Tag ErrorKind
-parts_of first class form n =
-    let constructed = nat_eq form 1 in
-    if class == 0 then universal_of first constructed (universal_tag n)
-    else (if class == 1 then Ok (Application constructed (record { 0 = n }))
-    else (if class == 2 then Ok (ContextSpecific constructed (record { 0 = n }))
-    else Ok (Private constructed (record { 0 = n }))))
-
-has_parts : (first class form n : ℕ) (t : Tag) → class < 4 → form < 2 → parts_of first class form n ≡ Ok t → HasParts class form n t
-unfolding parts_of
-has_parts first class form n t small bit = below_four (λ k. Gives (parts_of first k form n) t → HasParts k form n t) universal application context private class small
+-- the tag of parts has them
+has_parts : (first class form n : ℕ) (t : Tag) → class < 4 → form < 2 → tag_of_parts first class form n ≡ Ok t → HasParts class form n t
+unfolding tag_of_parts
+has_parts first class form n t small bit = below_four (λ k. Gives (tag_of_parts first k form n) t → HasParts k form n t) universal application context private class small
   where
     is : (k : ℕ) (u : Tag) → class_index (class_of u) ≡ k → is_constructed u ≡ nat_eq form 1 → number_of u ≡ n → u ≡ t → HasParts k form n t
     is k u c f m e = record {
@@ -113,14 +111,14 @@ has_parts first class form n t small bit = below_four (λ k. Gives (parts_of fir
     private : Gives (Ok (Private (nat_eq form 1) (record { 0 = n }))) t → HasParts 3 form n t
     private e = is 3 (Private (nat_eq form 1) (record { 0 = n })) refl refl refl (cc)
 
-pub tag_of_octets-parts : (first n : ℕ) (t : Tag) → first < 256 → tag_of_octets first n ≡ Ok t → HasParts (first / 64) (first / 32 % 2) n t
-unfolding parts_of
-tag_of_octets-parts first n t h e = has_parts first (first / 64) (first / 32 % 2) n t (omega arith) (omega arith) e
+-- the tag of a first octet and a number has their parts
+pub octets-parts : (first n : ℕ) (t : Tag) → first < 256 → tag_of_octets first n ≡ Ok t → HasParts (first / 64) (first / 32 % 2) n t
+octets-parts first n t h e = has_parts first (first / 64) (first / 32 % 2) n t (omega arith) (omega arith) (sym (tag_of_octets-parts first n) ∙ e)
 
 -- the identifier octets of a tag in the short form
 pub identifier-short : (first : ℕ) (t : Tag) → first < 256 → first % 32 < 31 → tag_of_octets first (first % 32) ≡ Ok t → identifier t ≡ first ∷ []
 identifier-short first t h low e =
-    let parts = tag_of_octets-parts first (first % 32) t h e in
+    let parts = octets-parts first (first % 32) t h e in
     let a = parts.class_is in
     let b = parts.form_is in
     let c = parts.number_is in
@@ -132,7 +130,7 @@ identifier-short first t h low e =
 -- the identifier octets of a tag in the long form
 pub identifier-long : (first n : ℕ) (t : Tag) → first < 256 → first % 32 ≡ 31 → 31 ≤ n → tag_of_octets first n ≡ Ok t → identifier t ≡ first ∷ number_octets n
 identifier-long first n t h low great e =
-    let parts = tag_of_octets-parts first n t h e in
+    let parts = octets-parts first n t h e in
     let a = parts.class_is in
     let b = parts.form_is in
     let c = parts.number_is in

@@ -41,9 +41,11 @@ number_octets-unique m n x y e =
     let low : m % 128 ≡ n % 128 = parts.1 in
     (omega arith, parts.2)
 
+-- the class of bits 8 and 7
 class_at : ℕ → Class
 class_at n = if n == 0 then class.Universal else (if n == 1 then class.Application else (if n == 2 then class.ContextSpecific else class.Private))
 
+-- a class is that of its bits
 class_at-is : (c : Class) → class_at (class_index c) ≡ c
 unfolding class_at
 class_at-is class.Universal = refl
@@ -51,15 +53,18 @@ class_at-is class.Application = refl
 class_at-is class.ContextSpecific = refl
 class_at-is class.Private = refl
 
+-- two classes differ in bits 8 and 7
 class_index-injective : (c d : Class) → class_index c ≡ class_index d → c ≡ d
 class_index-injective c d e = sym (class_at-is c) ∙ ap class_at e ∙ class_at-is d
 
+-- the two forms differ in bit 6
 form_bit-injective : (f g : Bool) → form_bit f ≡ form_bit g → f ≡ g
 form_bit-injective true true e = refl
 form_bit-injective true false e = absurd (omega arith)
 form_bit-injective false true e = absurd (omega arith)
 form_bit-injective false false e = refl
 
+-- bit 6 is one bit
 pub form_bit-small : (f : Bool) → form_bit f ≤ 1
 form_bit-small true = omega arith
 form_bit-small false = omega arith
@@ -78,6 +83,7 @@ rebuilt class.Application constructed n = Some (Application constructed (record 
 rebuilt class.ContextSpecific constructed n = Some (ContextSpecific constructed (record { 0 = n }))
 rebuilt class.Private constructed n = Some (Private constructed (record { 0 = n }))
 
+-- a tag is that of its parts
 rebuilt-is : (t : Tag) → rebuilt (class_of t) (is_constructed t) (number_of t) ≡ Some t
 unfolding rebuilt
 rebuilt-is Boolean = refl
@@ -114,9 +120,11 @@ tag-unique t u c f n = let a = rebuilt-is t in let b = rebuilt-is u in let k : S
 abbrev pub low_bits : ℕ → ℕ
 low_bits n = if nat_lt n 31 then n else 31
 
+-- the identifier octets behind the first
 abbrev pub later_octets : ℕ → List ℕ
 later_octets n = if nat_lt n 31 then [] else number_octets n
 
+-- the first identifier octet and the others
 identifier_octets-is : (c : Class) (f : Bool) (n : ℕ) → identifier_octets c f n ≡ first_octet c f (low_bits n) ∷ later_octets n
 unfolding identifier_octets
 identifier_octets-is c f n = elim (nat_lt n 31) as (λ b. (if b then first_octet c f n ∷ [] else first_octet c f 31 ∷ number_octets n) ≡ first_octet c f (if b then n else 31) ∷ (if b then [] else number_octets n)) [ true ↦ refl | false ↦ refl ]
@@ -126,6 +134,7 @@ pub data Sized (n : ℕ) : Type 0 where
   short : n < 31 → low_bits n ≡ n → later_octets n ≡ [] → Sized n
   long : 31 ≤ n → low_bits n ≡ 31 → later_octets n ≡ number_octets n → Sized n
 
+-- each number is of one of the two sizes
 pub sized : (n : ℕ) → Sized n
 sized n = split (nat_lt n 31) refl
   where
@@ -133,12 +142,14 @@ sized n = split (nat_lt n 31) refl
     split true e = short (ltb-true n 31 (sym e)) (ap (λ x. if x then n else 31) (sym e)) (ap (λ x. if x then [] else number_octets n) (sym e))
     split false e = long (ltb-false n 31 (sym e)) (ap (λ x. if x then n else 31) (sym e)) (ap (λ x. if x then [] else number_octets n) (sym e))
 
+-- the octets behind the first end where they say, and are of one number
 later-unique : (m n : ℕ) (x y : List ℕ) → low_bits m ≡ low_bits n → later_octets m ++ x ≡ later_octets n ++ y → (m ≡ n) × (x ≡ y)
 later-unique m n x y low e = elim (sized m) [
   | short l a b ↦ elim (sized n) [ short k c d ↦ (omega arith, sym (ap (λ z. z ++ x) b) ∙ e ∙ ap (λ z. z ++ y) d) | long k c d ↦ absurd (omega arith) ]
   | long l a b ↦ elim (sized n) [ short k c d ↦ absurd (omega arith) | long k c d ↦ number_octets-unique m n x y (sym (ap (λ z. z ++ x) b) ∙ e ∙ ap (λ z. z ++ y) d) ]
 ]
 
+-- bits 5 to 1 are five bits
 pub low_bits-small : (n : ℕ) → low_bits n < 32
 low_bits-small n = elim (sized n) [ short l a b ↦ omega arith | long l a b ↦ omega arith ]
 
@@ -190,6 +201,7 @@ identifier-is t = identifier_octets-is (class_of t) (is_constructed t) (number_o
 pub length-identifier-positive : (t : Tag) → 0 < length (identifier t)
 length-identifier-positive t = let e = ap length (identifier-is t) in omega arith
 
+-- a number of 32 bits has at most five digits in base 128
 pub length-number_octets : (n : ℕ) → n < 2 ^ 32 → length (number_octets n) ≤ 5
 unfolding number_octets
 length-number_octets n h =

@@ -19,3 +19,4 @@ pub mod TagMatching
 pub mod HeaderOrder
 pub mod TagEquality
 pub mod TagLaws
+pub mod Views

@@ -11,11 +11,13 @@ use Rattle.der_tlv.specs.Octets.{lex}
 pub record SameBeginning (a b : List ℕ) : Type 0 where
   pub same : (x y : List ℕ) → a ++ x ≡ b ++ y → a ≡ b
 
+-- what follows an order counts only where that is equal
 then_within : (o p q : Ordering) → (o ≡ Equal → p ≡ q) → ordering_then o p ≡ ordering_then o q
 then_within Less p q h = refl
 then_within Equal p q h = h refl
 then_within Greater p q h = refl
 
+-- orders one after another, however they are grouped
 then_assoc : (o p q : Ordering) → ordering_then o (ordering_then p q) ≡ ordering_then (ordering_then o p) q
 then_assoc Less p q = refl
 then_assoc Equal p q = refl
@@ -25,6 +27,7 @@ then_assoc Greater p q = refl
 pub nat_cmp-equal : (m n : ℕ) → nat_cmp m n ≡ Equal → m ≡ n
 nat_cmp-equal m n e = ranked m n Equal (sym e)
 
+-- behind a first octet that is the same
 rest_beginning : (r s : ℕ) (a b : List ℕ) → SameBeginning (r ∷ a) (s ∷ b) → r ≡ s → SameBeginning a b
 rest_beginning r s a b h e = record {
   same = λ x y k. let whole : (r ∷ a) ++ x ≡ (s ∷ b) ++ y = cc in let all : r ∷ a ≡ s ∷ b = h.same x y whole in cc;

@@ -22,6 +22,7 @@ Exact : (variants : List (List Field)) → Each Bool variants → Type 0
 Exact [] tests = Unit {0}
 Exact (fields ∷ variants) tests = ((x y : Values fields) → tests.0 x y ≡ true → x ≡ y) × Exact variants tests.1
 
+-- of two values where the test answers true, each is the other
 exact : (variants : List (List Field)) (tests : Each Bool variants) → Exact variants tests → (x y : Choice variants) → by false false variants tests x y ≡ true → x ≡ y
 unfolding Exact
 exact [] tests each x y e = absurd x
@@ -35,6 +36,7 @@ Reflexive : (variants : List (List Field)) → Each Bool variants → Type 0
 Reflexive [] tests = Unit {0}
 Reflexive (fields ∷ variants) tests = ((x : Values fields) → tests.0 x x ≡ true) × Reflexive variants tests.1
 
+-- the test answers true at a value and itself
 reflexive : (variants : List (List Field)) (tests : Each Bool variants) → Reflexive variants tests → (x : Choice variants) → by false false variants tests x x ≡ true
 unfolding Reflexive
 reflexive [] tests each x = absurd x
@@ -45,9 +47,11 @@ reflexive (fields ∷ variants) tests each (inr x) = reflexive variants tests.1 
 abbrev Fields : Type 0
 Fields = Bool × (TagNumber × Unit {0})
 
+-- whether the fields are the same
 abbrev same_fields : Fields → Fields → Bool
 same_fields x y = beq x.0 y.0 && (x.1.0.0 == y.1.0.0)
 
+-- the same fields, where the test answers true
 fields-exact : (x y : Fields) → same_fields x y ≡ true → x ≡ y
 fields-exact (c, (m, u)) (d, (n, v)) e =
     let both = parts c d (m.0 == n.0) e in
@@ -60,6 +64,7 @@ fields-exact (c, (m, u)) (d, (n, v)) e =
     parts false true b h = absurd (cc)
     parts false false b h = (refl, h)
 
+-- the test answers true at the same fields
 fields-same : (x : Fields) → same_fields x x ≡ true
 fields-same (c, (m, u)) = both c (m.0 == m.0) (eq-eqb m.0 m.0 refl)
   where
@@ -67,6 +72,7 @@ fields-same (c, (m, u)) = both c (m.0 == m.0) (eq-eqb m.0 m.0 refl)
     both true b h = h
     both false b h = h
 
+-- the test at each variant
 abbrev tests : Each Bool enum.parts
 tests = (λ _ _. true, (λ _ _. true, (λ _ _. true, (λ _ _. true, (λ _ _. true, (λ _ _. true, (λ _ _. true, (λ _ _. true, (λ _ _. true, (λ _ _. true, (λ _ _. true, (λ _ _. true, (λ _ _. true, (λ _ _. true, (λ _ _. true, (λ _ _. true, (λ _ _. true, (λ _ _. true, (λ _ _. true, (λ _ _. true, (λ _ _. true, (λ _ _. true, (same_fields, (same_fields, (same_fields, tt)))))))))))))))))))))))))
 

@@ -13,6 +13,7 @@ use Rattle.der_tlv.specs.ReaderState.{ReaderState, rest, seen}
 abbrev pub has_number : Class → ℕ → Tag → Bool
 has_number class number t = (class_index (class_of t) == class_index class) && (number_of t == number)
 
+-- the same of a tag that was read
 abbrev pub matched : Class → ℕ → Result (ℕ × Tag) ErrorKind → Result Bool ErrorKind
 matched class number (Ok (count, t)) = Ok (has_number class number t)
 matched class number (Err k) = Err k

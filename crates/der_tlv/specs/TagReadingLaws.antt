@@ -19,22 +19,27 @@ use Rattle.der_tlv.specs.HeaderReading.{octet_missing, high_count, number_value,
 use Rattle.der_tlv.specs.IdentifierLaws.{identifier-is, low_bits, later_octets, low_bits-small, form_bit-small, sized}
 use Rattle.der_tlv.specs.IdentifierLaws.Sized.{short, long}
 
+-- whether bit 8 is set
 abbrev is_high : ℕ → Bool
 is_high d = nat_le 128 d
 
+-- digits with bit 8 set count among those
 prefix_len-marked : (a ys : List ℕ) → prefix_len is_high (marked a ++ ys) ≡ length a + prefix_len is_high ys
 prefix_len-marked [] ys = sym (zero-add (prefix_len is_high ys))
 prefix_len-marked (d ∷ a) ys = let e = prefix_len-marked a ys in grind (arith, nat_tests, e)
 
+-- so many octets have bit 8 set before the last
 pub high_count-marked : (a ys : List ℕ) → high_count (marked a ++ ys) ≡ length a + high_count ys
 high_count-marked a ys = length-prefix_len is_high (marked a ++ ys) ∙ prefix_len-marked a ys ∙ ap (λ n. length a + n) (sym (length-prefix_len is_high ys))
 
+-- so many octets from the beginning, past those with bit 8 set
 take-marked : (a ys : List ℕ) (n : ℕ) → take (length a + n) (marked a ++ ys) ≡ marked a ++ take n ys
 take-marked [] ys n = ap (λ k. take k ys) (zero-add n)
 take-marked (d ∷ a) ys n =
     let e : suc (length a) + n ≡ suc (length a + n) = omega arith in
     ap (λ k. take k (marked (d ∷ a) ++ ys)) e ∙ ap (λ z. (128 + d) ∷ z) (take-marked a ys n)
 
+-- the digits of octets with bit 8 set
 low-marked : (a : List ℕ) → AllBelowBase 128 a → map (λ d. d % 128) (marked a) ≡ a
 low-marked [] h = refl
 low-marked (d ∷ a) h = let k : d < 128 = h.0 in let e : (128 + d) % 128 ≡ d = omega arith in let r = low-marked a h.1 in cc
@@ -43,6 +48,7 @@ low-marked (d ∷ a) h = let k : d < 128 = h.0 in let e : (128 + d) % 128 ≡ d 
 abbrev digits_from : List ℕ → List ℕ
 digits_from octets = map (λ d. d % 128) (take (high_count octets + 1) octets)
 
+-- the digits of octets with bit 8 set, and then those that follow
 digits_from-marked : (a ys : List ℕ) → AllBelowBase 128 a → digits_from (marked a ++ ys) ≡ a ++ digits_from ys
 digits_from-marked a ys h =
     let c = high_count-marked a ys in
@@ -59,6 +65,7 @@ number_value-leading n ys =
     ∙ number_after_append 128 0 (digits_of 128 n) (digits_from ys)
     ∙ ap (λ k. number_from_digits_after 128 k (digits_from ys)) (number_digits_of 128 n (omega arith))
 
+-- what a number comes to: whether its first digit is zero, how many octets there are, how many of them have bit 8 set, the number, and the fault of a missing octet
 number_outcome : Bool → ℕ → ℕ → ℕ → ErrorKind → Result (ℕ × ℕ) ErrorKind
 number_outcome zero_first count high n missing =
     if zero_first then Err TagNumberInvalid
@@ -67,22 +74,27 @@ number_outcome zero_first count high n missing =
     else (if nat_lt n 31 then Err TagNumberInvalid
     else Ok (high + 1, n))))
 
+-- a number that passes 32 bits
 outcome-great : (z : Bool) (l h n : ℕ) (e : ErrorKind) → 2 ^ 32 ≤ n → number_outcome z l h n e ≡ Err TagNumberInvalid
 unfolding number_outcome
 outcome-great z l h n e p = grind (arith, nat_tests)
 
+-- a number below 31
 outcome-small : (l h n : ℕ) (e : ErrorKind) → n < 31 → h < l → number_outcome false l h n e ≡ Err TagNumberInvalid
 unfolding number_outcome
 outcome-small l h n e p q = grind (arith, nat_tests)
 
+-- a number without its last octet
 outcome-missing : (l h n : ℕ) (e : ErrorKind) → n < 2 ^ 32 → l ≤ h → number_outcome false l h n e ≡ Err e
 unfolding number_outcome
 outcome-missing l h n e p q = grind (arith, nat_tests)
 
+-- a number that is there
 outcome-ok : (l h n : ℕ) (e : ErrorKind) → n < 2 ^ 32 → 31 ≤ n → h < l → number_outcome false l h n e ≡ Ok (h + 1, n)
 unfolding number_outcome
 outcome-ok l h n e p q r = grind (arith, nat_tests)
 
+-- reading a number whose first digit is not zero
 outcome : (p : ℕ) (octets : List ℕ) → 0 < length octets → get_or octets 0 0 ≢ 128 → read_number p octets ≡ number_outcome false (length octets) (high_count octets) (number_value octets) (octet_missing p octets)
 unfolding read_number number_outcome
 outcome p [] l h = absurd (omega arith)
@@ -90,27 +102,30 @@ outcome p (x ∷ xs) l h =
     let e : (x == 128) ≡ false = grind (arith, nat_tests) in
     ap (λ b. number_outcome b (length (x ∷ xs)) (high_count (x ∷ xs)) (number_value (x ∷ xs)) (octet_missing p (x ∷ xs))) e
 
+-- a digit that is not zero makes an octet that is not 80
 first-marked : (a ys : List ℕ) → 0 < get_or a 0 0 → get_or (marked a ++ ys) 0 0 ≢ 128
 first-marked [] ys h = absurd (omega arith)
 first-marked (d ∷ a) ys h = λ e. let k : 128 + d ≡ 128 = e in omega arith
 
+-- the first digit of a number is not zero
 first-leading : (n : ℕ) (ys : List ℕ) → 0 < n → get_or (leading_octets n ++ ys) 0 0 ≢ 128
 first-leading n ys h = first-marked (digits_of 128 n) ys (first_digits_of 128 n (omega arith) h)
 
-leading-nothing : leading_octets 0 ≡ []
-leading-nothing = refl
-
+-- how many octets there are, with those that follow
 length-leading : (n : ℕ) (ys : List ℕ) → length (leading_octets n ++ ys) ≡ length (digits_of 128 n) + length ys
 length-leading n ys = let a = length-append (leading_octets n) ys in let b = length-map (digits_of 128 n) (λ d. 128 + d) in omega arith
 
+-- by the case of zero and that of a positive number
 from_zero : (P : ℕ → Type 0) → P 0 → ((n : ℕ) → 0 < n → P n) → (n : ℕ) → P n
 from_zero P at_zero above zero = at_zero
 from_zero P at_zero above (suc n) = above (suc n) (omega arith)
 
+-- a list with a positive first number has one
 reads_some : (a : List ℕ) → 0 < get_or a 0 0 → 0 < length a
 reads_some [] k = absurd (omega arith)
 reads_some (d ∷ a) k = omega arith
 
+-- the digits of a positive number end too soon
 missing-above : (p n : ℕ) → n < 2 ^ 32 → 0 < n → read_number p (leading_octets n ++ []) ≡ Err (octet_missing p (leading_octets n ++ []))
 missing-above p n h l =
     let octets : List ℕ = leading_octets n ++ [] in
@@ -127,9 +142,11 @@ unfolding read_number
 read_number-missing p n h = from_zero (λ k. k < 2 ^ 32 → read_number p (leading_octets k) ≡ Err (octet_missing p (leading_octets k))) (λ _. refl)
     (λ k l b. ap (read_number p) (sym (append-nil (leading_octets k))) ∙ missing-above p k b l ∙ ap (λ z. Err (octet_missing p z)) (append-nil (leading_octets k))) n h
 
+-- a last octet alone
 high_count-last : (x : ℕ) (xs : List ℕ) → x < 128 → high_count (x ∷ xs) ≡ 0
 high_count-last x xs h = length-prefix_len is_high (x ∷ xs) ∙ (grind (arith, nat_tests))
 
+-- the digit of a last octet alone
 digits_from-last : (x : ℕ) (xs : List ℕ) → x < 128 → digits_from (x ∷ xs) ≡ x ∷ []
 digits_from-last x xs h = let e : x % 128 ≡ x = omega arith in ap (λ k. map (λ d. d % 128) (take (k + 1) (x ∷ xs))) (high_count-last x xs h) ∙ ap (λ k. k ∷ []) e
 
@@ -142,16 +159,19 @@ value-great n x xs h =
     let g = number_after_ge 128 (n * 128 + x % 128) (map (λ d. d % 128) (take (high_count (x ∷ xs)) xs)) (omega arith) in
     omega arith
 
+-- why an octet is no digit of a tag number
 data NoDigit (n x : ℕ) : Type 0 where
   great : 2 ^ 25 ≤ n → NoDigit n x
   small : n ≡ 0 → x < 31 → NoDigit n x
   zero_digit : n ≡ 0 → x ≡ 128 → NoDigit n x
 
+-- what holds of a digit of a tag number
 record IsDigit (n x v : ℕ) : Type 0 where
   fits : n < 2 ^ 25
   counts : n ≡ 0 → (31 ≤ x) × (x ≢ 128)
   value : v ≡ n * 128 + x % 128
 
+-- why there is no number
 none-or-some : (a b c d : Bool) (v : ℕ) → (if a || (b && (c || d)) then None else Some v) ≡ None → (a ≡ true) ⊎ ((b ≡ true) × ((c ≡ true) ⊎ (d ≡ true)))
 none-or-some true b c d v e = inl refl
 none-or-some false true true d v e = inr (refl, inl refl)
@@ -159,6 +179,7 @@ none-or-some false true false true v e = inr (refl, inr refl)
 none-or-some false true false false v e = absurd (cc)
 none-or-some false false c d v e = absurd (cc)
 
+-- what holds where there is a number
 some-or-none : (a b c d : Bool) (v w : ℕ) → (if a || (b && (c || d)) then None else Some v) ≡ Some w → (w ≡ v) × (a ≡ false) × (b ≡ true → (c ≡ false) × (d ≡ false))
 some-or-none true b c d v w e = absurd (cc)
 some-or-none false true true d v w e = absurd (cc)
@@ -166,12 +187,14 @@ some-or-none false true false true v w e = absurd (cc)
 some-or-none false true false false v w e = (cc, refl, λ _. (refl, refl))
 some-or-none false false c d v w e = (cc, refl, λ q. absurd (cc))
 
+-- an octet that gives no number is no digit
 no_digit : (n x : ℕ) → with_digit n x ≡ None → NoDigit n x
 no_digit n x e = elim (none-or-some (nat_le (2 ^ 25) n) (n == 0) (nat_lt x 31) (x == 128) (n * 128 + x % 128) e) [
   | inl t ↦ great (leb-true (2 ^ 25) n t)
   | inr q ↦ elim q.1 [ inl t ↦ small (eqb-true n 0 q.0) (ltb-true x 31 t) | inr t ↦ zero_digit (eqb-true n 0 q.0) (eqb-true x 128 t) ]
 ]
 
+-- an octet that gives a number is a digit
 is_digit : (n x v : ℕ) → with_digit n x ≡ Some v → IsDigit n x v
 is_digit n x v e = let k = some-or-none (nat_le (2 ^ 25) n) (n == 0) (nat_lt x 31) (x == 128) (n * 128 + x % 128) v e in record {
   fits = let t = k.1 in grind (arith, nat_tests);
@@ -179,15 +202,18 @@ is_digit n x v e = let k = some-or-none (nat_le (2 ^ 25) n) (n == 0) (nat_lt x 3
   value = k.0;
 }
 
+-- a number that passes 32 bits with its next digit is refused
 invalid-great : (p n x : ℕ) (xs : List ℕ) → 2 ^ 25 ≤ n → read_number p (leading_octets n ++ (x ∷ xs)) ≡ Err TagNumberInvalid
 invalid-great p n x xs h =
     let octets : List ℕ = leading_octets n ++ (x ∷ xs) in
     let count : length octets ≡ length (digits_of 128 n) + length (x ∷ xs) = length-leading n (x ∷ xs) in
     outcome p octets (omega arith) (first-leading n (x ∷ xs) (omega arith)) ∙ outcome-great false (length octets) (high_count octets) (number_value octets) (octet_missing p octets) (value-great n x xs h)
 
+-- the number of one octet
 short-number : (x : ℕ) (xs : List ℕ) → x < 128 → number_value (x ∷ xs) ≡ x
 short-number x xs h = ap (number_from_digits 128) (digits_from-last x xs h) ∙ (omega arith)
 
+-- a number below 31 is refused
 invalid-small : (p n x : ℕ) (xs : List ℕ) → n ≡ 0 → x < 31 → read_number p (leading_octets n ++ (x ∷ xs)) ≡ Err TagNumberInvalid
 invalid-small p n x xs z h =
     let high = high_count-last x xs (omega arith) in
@@ -196,6 +222,7 @@ invalid-small p n x xs z h =
     ∙ outcome p (x ∷ xs) (omega arith) (λ e. let k : x ≡ 128 = e in omega arith)
     ∙ outcome-small (length (x ∷ xs)) (high_count (x ∷ xs)) (number_value (x ∷ xs)) (octet_missing p (x ∷ xs)) (omega arith) (omega arith)
 
+-- a first digit of zero is refused
 invalid-zero : (p n x : ℕ) (xs : List ℕ) → n ≡ 0 → x ≡ 128 → read_number p (leading_octets n ++ (x ∷ xs)) ≡ Err TagNumberInvalid
 unfolding read_number
 invalid-zero p n x xs z h = ap (λ k. read_number p (leading_octets k ++ (x ∷ xs))) z ∙ ap (λ k. read_number p (k ∷ xs)) h ∙ refl
@@ -204,9 +231,11 @@ invalid-zero p n x xs z h = ap (λ k. read_number p (leading_octets k ++ (x ∷ 
 pub read_number-invalid : (p n x : ℕ) (xs : List ℕ) → with_digit n x ≡ None → read_number p (leading_octets n ++ (x ∷ xs)) ≡ Err TagNumberInvalid
 read_number-invalid p n x xs e = elim (no_digit n x e) [ great h ↦ invalid-great p n x xs h | small z h ↦ invalid-small p n x xs z h | zero_digit z h ↦ invalid-zero p n x xs z h ]
 
+-- the first octet is not 80
 first-any : (n x : ℕ) (xs : List ℕ) → (n ≡ 0 → x ≢ 128) → get_or (leading_octets n ++ (x ∷ xs)) 0 0 ≢ 128
 first-any n x xs h = from_zero (λ k. (k ≡ 0 → x ≢ 128) → get_or (leading_octets k ++ (x ∷ xs)) 0 0 ≢ 128) (λ f. f refl) (λ k l f. first-leading k (x ∷ xs) l) n h
 
+-- the leading octets of a number and its last digit are its octets
 number_octets-last : (n x v : ℕ) → v ≡ n * 128 + x → x < 128 → leading_octets n ++ (x ∷ []) ≡ number_octets v
 unfolding number_octets
 number_octets-last n x v e h =
@@ -214,9 +243,11 @@ number_octets-last n x v e h =
     let low : x ≡ v % 128 = omega arith in
     ap (λ k. leading_octets k ++ (x ∷ [])) high ∙ ap (λ k. leading_octets (v / 128) ++ (k ∷ [])) low
 
+-- a number that ends is above 30
 at_least : (n x v : ℕ) → IsDigit n x v → x < 128 → 31 ≤ v
 at_least n x v d h = from_zero (λ k. (k ≡ 0 → (31 ≤ x) × (x ≢ 128)) → v ≡ k * 128 + x % 128 → 31 ≤ v) (λ f g. let great = (f refl).0 in omega arith) (λ k above f g. omega arith) n d.counts d.value
 
+-- reading a number up to its last digit
 last-ok : (p n x v : ℕ) (xs : List ℕ) → IsDigit n x v → x < 128 → read_number p (leading_octets n ++ (x ∷ xs)) ≡ Ok (length (digits_of 128 n) + 1, v)
 last-ok p n x v xs d h =
     let octets : List ℕ = leading_octets n ++ (x ∷ xs) in
@@ -259,6 +290,7 @@ leading_octets-more n x v e h l =
     sym (ap marked (digits_of_step 128 v (omega arith) some) ∙ map-append (λ k. 128 + k) (digits_of 128 (v / 128)) (v % 128 ∷ [])
     ∙ ap (λ k. leading_octets k ++ ((128 + v % 128) ∷ [])) high ∙ ap (λ k. leading_octets n ++ (k ∷ [])) low)
 
+-- the number where no test refuses it
 digit-some : (a b c d : Bool) (v w : ℕ) → a ≡ false → (b && c) ≡ false → d ≡ false → v ≡ w → (if a || (b && (c || d)) then None else Some v) ≡ Some w
 digit-some true b c d v w e f g h = absurd (cc)
 digit-some false true true d v w e f g h = absurd (cc)
@@ -266,6 +298,7 @@ digit-some false true false true v w e f g h = absurd (cc)
 digit-some false true false false v w e f g h = cc
 digit-some false false c d v w e f g h = cc
 
+-- the last digit of a tag number is one
 number-digit : (v : ℕ) → 31 ≤ v → v < 2 ^ 32 → with_digit (v / 128) (v % 128) ≡ Some v
 number-digit v l h =
     let whole : v / 128 * 128 + v % 128 % 128 ≡ v = omega arith in
@@ -281,7 +314,7 @@ read_number-number_octets p v x l h =
     ap (read_number p) (append_assoc (leading_octets (v / 128)) (v % 128 ∷ []) x) ∙ (read_number-last p (v / 128) (v % 128) v x (number-digit v l h) (omega arith)).0
 
 -- the tag of a first identifier octet, its bits 8 and 7, its bit 6, and a number
-tag_of_parts : ℕ → ℕ → ℕ → ℕ → Result Tag ErrorKind
+unfoldable pub tag_of_parts : ℕ → ℕ → ℕ → ℕ → Result Tag ErrorKind
 tag_of_parts first class form n =
     let constructed = nat_eq form 1 in
     if class == 0 then universal_of first constructed (universal_tag n)
@@ -289,6 +322,7 @@ tag_of_parts first class form n =
     else (if class == 2 then Ok (ContextSpecific constructed (record { 0 = n }))
     else Ok (Private constructed (record { 0 = n }))))
 
+-- the parts of a tag give that tag
 parts-tag : (first : ℕ) (t : Tag) → tag_of_parts first (class_index (class_of t)) (form_bit (is_constructed t)) (number_of t) ≡ Ok t
 unfolding tag_of_parts
 parts-tag first Boolean = refl
@@ -320,7 +354,8 @@ parts-tag first (ContextSpecific false number) = refl
 parts-tag first (Private true number) = refl
 parts-tag first (Private false number) = refl
 
-tag_of_octets-parts : (first n : ℕ) → tag_of_octets first n ≡ tag_of_parts first (first / 64) (first / 32 % 2) n
+-- the tag of octets is that of their parts
+pub tag_of_octets-parts : (first n : ℕ) → tag_of_octets first n ≡ tag_of_parts first (first / 64) (first / 32 % 2) n
 unfolding tag_of_parts
 tag_of_octets-parts first n = refl
 
@@ -333,10 +368,12 @@ tag_of_octets-tag t low h =
     let form : first / 32 % 2 ≡ form_bit (is_constructed t) = omega arith in
     tag_of_octets-parts first (number_of t) ∙ ap (λ k. tag_of_parts first k (first / 32 % 2) (number_of t)) class ∙ ap (λ k. tag_of_parts first (class_index (class_of t)) k (number_of t)) form ∙ parts-tag first t
 
+-- reading one identifier octet
 pub read_tag-short : (p first : ℕ) (xs : List ℕ) → first % 32 ≢ 31 → read_tag p (first ∷ xs) ≡ counted_tag 1 (tag_of_octets first (first % 32))
 unfolding read_tag
 read_tag-short p first xs h = let e : (first % 32 == 31) ≡ false = grind (arith, nat_tests) in ap (λ b. if b then tag_with_number first (read_number (p + 1) xs) else counted_tag 1 (tag_of_octets first (first % 32))) e
 
+-- reading a first identifier octet that a number follows
 pub read_tag-long : (p first : ℕ) (xs : List ℕ) → first % 32 ≡ 31 → read_tag p (first ∷ xs) ≡ tag_with_number first (read_number (p + 1) xs)
 unfolding read_tag
 read_tag-long p first xs h = let e : (first % 32 == 31) ≡ true = grind (arith, nat_tests) in ap (λ b. if b then tag_with_number first (read_number (p + 1) xs) else counted_tag 1 (tag_of_octets first (first % 32))) e

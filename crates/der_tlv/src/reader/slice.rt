@@ -131,7 +131,10 @@ impl<'a> Clone for SliceReader<'a> {
 }
 
 impl<'a> Reader<'a> for SliceReader<'a> {
-    ghost state = { λ r. record { input = r.bytes.now; position = r.position; end = r.end; failed = r.failed; rules = r.rules } };
+    ghost use Rattle.der_tlv.specs.ReaderState.{ReaderState};
+    ghost use Rattle.der_tlv.specs.Views.{slice_reader_state};
+
+    ghost state = { slice_reader_state };
 
     ghost sound = { λ r. record { ordered = r.ordered; inside = r.inside; short = r.short } };
 

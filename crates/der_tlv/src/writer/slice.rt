@@ -43,7 +43,9 @@ impl<'a> SliceWriter<'a> {
 }
 
 impl<'a> Writer for SliceWriter<'a> {
-    ghost state = { λ w. record { taken = take w.position w.bytes.now; failed = w.failed; room = room_unless_failed w.failed (length w.bytes.now - w.position); may_refuse = refuses_first_with is_overlength w.failed } };
+    ghost use Rattle.der_tlv.specs.Views.{slice_writer_state};
+
+    ghost state = { slice_writer_state };
 
     fn write(&mut self, octets: &[u8]) -> Result<(), Error> {
         if self.failed {

@@ -60,7 +60,9 @@ impl VecWriter {
 }
 
 impl Writer for VecWriter {
-    ghost state = { λ w. record { taken = w.octets.items; failed = w.failed; room = room_unless_failed w.failed (vec_capacity w.octets - vec_len w.octets); may_refuse = refuses_first_with is_memory w.failed } };
+    ghost use Rattle.der_tlv.specs.Views.{vec_writer_state};
+
+    ghost state = { vec_writer_state };
 
     fn write(&mut self, octets: &[u8]) -> Result<(), Error> {
         if self.failed {
