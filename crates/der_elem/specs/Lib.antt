@@ -4,3 +4,12 @@ pub mod TaggedLaws
 pub mod Decoding
 pub mod Encoding
 pub mod Comparing
+pub mod Integer
+pub mod IntegerLaws
+pub mod OwnContents
+pub mod OwnContentsLaws
+pub mod Contents
+pub mod Boolean
+pub mod Null
+pub mod IntegerReading
+pub mod IntegerReadingLaws

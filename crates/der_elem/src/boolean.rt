@@ -1,11 +1,62 @@
-//! BOOLEAN.
+//! BOOLEAN, which is `bool` (X.690 8.2, 11.1).
+//!
+//! The tag is 01. There is one contents octet, 00 for false and FF for true, so that `true` is
+//! encoded as 01 01 FF.
+//!
+//! Reading refuses contents that are not one octet long (7), then any octet but 00 and FF (8).
 
-ghost use Rattle.der_tlv.specs.declared.tag.Tag.TheVariants.{Boolean};
+ghost use Rattle.std.specs.Prelude.{◌≡◌, false, refl};
 ghost use Rattle.std.proofs.Common.{lit<};
+ghost use Rattle.std.specs.Bool.{beq};
+ghost use Rattle.std.specs.Cmp.{booleans_Decides};
+ghost use Rattle.der_tlv.specs.declared.tag.Tag.TheVariants.{Boolean};
+ghost use Rattle.der_elem.specs.OwnContents.{accepts_own};
+ghost use Rattle.der_elem.specs.OwnContentsLaws.{parse_of_own, same_length_own, accepts_own_contents, encoding_eq_own, copy_encoding_own};
+ghost use Rattle.der_elem.specs.Boolean.{boolean_contents, parse_boolean, parse_boolean-own, boolean_contents-injective, bool_cmp-lex};
 
-use der_tlv::Tag;
+use std::alloc::Global;
 
-use crate::form::FixedTag;
+use der_tlv::{Error, Header, Length, Reader, Tag, Writer};
+
+use crate::contents::read_contents;
+use crate::decode::DecodeValue;
+use crate::duplicate::Duplicate;
+use crate::encode::EncodeValue;
+use crate::equality::EncodingEq;
+use crate::form::{FixedTag, FormValue};
+use crate::ord::OrdIsValueOrd;
+
+impl FormValue for bool {
+    ghost contents = { boolean_contents };
+
+    ghost one_form_value = { λ v w. Unit {0} };
+
+    ghost re_reads_value = { λ v. false };
+
+    ghost accepts_value = { accepts_own boolean_contents };
+
+    ghost parse_value = { parse_boolean };
+
+    ghost readable_value = { λ v. Unit {0} };
+
+    ghost has_tag = { λ v t. Unit {0} };
+
+    ghost VALUE_TAKES_MEMORY = { false };
+
+    const VALUE_TAKES_MEMORY: bool = false;
+
+    ghost parse_of_accepted_value = { parse_of_own boolean_contents parse_boolean parse_boolean-own };
+
+    ghost same_length_value = { same_length_own boolean_contents };
+
+    ghost accepts_contents = { accepts_own_contents boolean_contents };
+
+    ghost only_readable_value = { λ rules v c a. tt };
+
+    ghost accepts_one_form_value = { λ rules v w c d a b. tt };
+
+    ghost re_reads_memory_value = { λ v e. e };
+}
 
 impl FixedTag for bool {
     ghost TAG = { Boolean };
@@ -13,4 +64,49 @@ impl FixedTag for bool {
     const TAG: Tag = Tag::Boolean;
 
     ghost tag_in_range = { lit< tt };
+}
+
+impl<'a, R: Reader<'a>> DecodeValue<'a, R> for bool {
+    fn decode_value(_alloc: Global, reader: &mut R, header: Header) -> Result<bool, Error> {
+        match read_contents(reader, header)? {
+            [0x00] => Ok(false),
+            [0xff] => Ok(true),
+            [_] => Err(reader.error(Tag::Boolean.non_canonical_error())),
+            _ => Err(reader.error(Tag::Boolean.length_error())),
+        }
+    }
+}
+
+impl EncodeValue for bool {
+    fn value_len(&self) -> Result<Length, Error> {
+        Ok(Length::ONE)
+    }
+
+    fn encode_value<W: Writer>(&self, writer: &mut W) -> Result<(), Error> {
+        writer.write_byte(if *self { 0xff } else { 0x00 })
+    }
+}
+
+impl OrdIsValueOrd for bool {
+    ghost ord_is_value_ord = { bool_cmp-lex };
+}
+
+impl EncodingEq for bool {
+    ghost encoding_eq = { encoding_eq_own Boolean boolean_contents beq booleans_Decides boolean_contents-injective };
+}
+
+impl Duplicate for bool {
+    ghost is_copy = { λ v w. w ≡ v };
+
+    ghost takes_memory_to_copy = { false };
+
+    fn duplicate(&self) -> Result<bool, Error> {
+        Ok(*self)
+    }
+
+    ghost copy_encoding = { copy_encoding_own Boolean boolean_contents };
+
+    ghost copy_form = { λ v w x e f. tt };
+
+    ghost copy_re_reads = { λ v w e. refl };
 }

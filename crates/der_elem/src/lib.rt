@@ -3,15 +3,21 @@
 
 mod blanket;
 mod boolean;
+mod contents;
 mod decode;
 mod duplicate;
 mod encode;
 mod equality;
 mod form;
+mod integer;
 mod ord;
 mod sequence;
 mod tag;
+#[cfg(test)]
+mod tests;
+mod unit;
 
+pub use contents::read_contents;
 pub use decode::{Decode, DecodeValue, FromDer};
 pub use duplicate::Duplicate;
 pub use encode::{Encode, EncodeValue};

@@ -1,0 +1,36 @@
+-- The contents octets of BOOLEAN, and what octets are read as (X.690 8.2, 11.1).
+use Rattle.std.proofs.Common.{◌≡◌, ℕ, List, [], ◌∷◌, Bool, true, false, ◌||◌, ◌==◌, if◌then◌else◌, Ok, Err, refl}
+use Rattle.std.specs.Ordering.{bool_cmp}
+use Rattle.der_tlv.specs.declared.error.ErrorKind.TheVariants as kinds
+use Rattle.der_tlv.specs.declared.tag.Tag.TheVariants.{Boolean}
+use Rattle.der_tlv.specs.declared.encoding_rules.EncodingRules.{EncodingRules}
+use Rattle.der_tlv.specs.Octets.{lex}
+use Rattle.der_elem.specs.Parsing.{ContentsParse}
+
+-- one octet: all bits zero for false, all bits one for true
+abbrev pub boolean_contents : Bool → List ℕ
+boolean_contents false = 0 ∷ []
+boolean_contents true = 255 ∷ []
+
+-- the faults: not one octet (7), another octet than those two (8)
+abbrev pub parse_boolean : ContentsParse
+parse_boolean rules p [] = Err (kinds.Length Boolean)
+parse_boolean rules p (octet ∷ []) = if octet == 0 || octet == 255 then Ok (octet ∷ []) else Err (kinds.Noncanonical Boolean)
+parse_boolean rules p (octet ∷ second ∷ others) = Err (kinds.Length Boolean)
+
+pub parse_boolean-own : (rules : EncodingRules) (v : Bool) (p : ℕ) → parse_boolean rules p (boolean_contents v) ≡ Ok (boolean_contents v)
+parse_boolean-own rules false p = refl
+parse_boolean-own rules true p = refl
+
+pub boolean_contents-injective : (v w : Bool) → boolean_contents v ≡ boolean_contents w → v ≡ w
+boolean_contents-injective false false e = refl
+boolean_contents-injective false true e = cc
+boolean_contents-injective true false e = cc
+boolean_contents-injective true true e = refl
+
+-- false is before true in both orders
+pub bool_cmp-lex : (v w : Bool) → bool_cmp v w ≡ lex (boolean_contents v) (boolean_contents w)
+bool_cmp-lex false false = refl
+bool_cmp-lex false true = refl
+bool_cmp-lex true false = refl
+bool_cmp-lex true true = refl

@@ -1,0 +1,41 @@
+-- The laws of types of which each value is read from its own contents octets alone.
+use Rattle.std.proofs.Common.{◌≡◌, ℕ, List, length, Bool, Ok, refl, sym, ap, ◌∙◌, IsTrue, ◌↔◌, Decides}
+use Rattle.der_tlv.specs.declared.encoding_rules.EncodingRules.{EncodingRules}
+use Rattle.der_tlv.specs.declared.tag.Tag.{Tag}
+use Rattle.der_tlv.specs.HeaderOctets.{tlv}
+use Rattle.der_tlv.specs.HeaderLaws.{tlv-injective}
+use Rattle.der_elem.specs.Parsing.{ContentsParse}
+use Rattle.der_elem.specs.Accepting.{Fits}
+use Rattle.der_elem.specs.OwnContents.{accepts_own, accepts_within}
+
+module _ {T : Type 0} (contents : T → List ℕ) where
+  pub parse_of_own : (parse : ContentsParse) (own : (rules : EncodingRules) (v : T) (p : ℕ) → parse rules p (contents v) ≡ Ok (contents v)) (rules : EncodingRules) (v : T) (p : ℕ) (c : List ℕ) → accepts_own contents rules v c → Fits c → parse rules p c ≡ Ok (contents v)
+  parse_of_own parse own rules v p c e fits = ap (parse rules p) e ∙ own rules v p
+
+  pub same_length_own : (rules : EncodingRules) (v : T) (c : List ℕ) → accepts_own contents rules v c → length (contents v) ≡ length c
+  same_length_own rules v c e = ap length (sym e)
+
+  pub accepts_own_contents : (rules : EncodingRules) (v : T) → Unit {0} → accepts_own contents rules v (contents v)
+  accepts_own_contents rules v _ = refl
+
+module _ {T : Type 0} (contents : T → List ℕ) (Within : T → Type 0) where
+  pub parse_of_within : (parse : ContentsParse) (own : (rules : EncodingRules) (v : T) (p : ℕ) → Within v → parse rules p (contents v) ≡ Ok (contents v)) (rules : EncodingRules) (v : T) (p : ℕ) (c : List ℕ) → accepts_within contents Within rules v c → Fits c → parse rules p c ≡ Ok (contents v)
+  parse_of_within parse own rules v p c (e, within) fits = ap (parse rules p) e ∙ own rules v p within
+
+  pub same_length_within : (rules : EncodingRules) (v : T) (c : List ℕ) → accepts_within contents Within rules v c → length (contents v) ≡ length c
+  same_length_within rules v c (e, within) = ap length (sym e)
+
+  pub accepts_contents_within : (rules : EncodingRules) (v : T) → Within v → accepts_within contents Within rules v (contents v)
+  accepts_contents_within rules v within = (refl, within)
+
+  pub only_within : (rules : EncodingRules) (v : T) (c : List ℕ) → accepts_within contents Within rules v c → Within v
+  only_within rules v c (e, within) = within
+
+-- where no two values have the same contents octets, values are equal exactly if their encodings are
+pub encoding_eq_own : {T : Type 0} (t : Tag) (contents : T → List ℕ) (eq : T → T → Bool) (decides : (v w : T) → Decides (eq v w) (v ≡ w)) (injective : (v w : T) → contents v ≡ contents w → v ≡ w) (v w : T) → Unit {0} → (IsTrue (eq v w) ↔ (tlv t (contents v) ≡ tlv t (contents w)))
+encoding_eq_own t contents eq decides injective v w _ =
+    (λ e. ap (λ x. tlv t (contents x)) ((decides v w).0 e), λ e. (decides v w).1 (injective v w (tlv-injective t t (contents v) (contents w) e).1))
+
+-- a copy that is the value itself has its encoding
+pub copy_encoding_own : {T : Type 0} (t : Tag) (contents : T → List ℕ) (v w : T) → w ≡ v → tlv t (contents w) ≡ tlv t (contents v)
+copy_encoding_own t contents v w e = ap (λ x. tlv t (contents x)) e

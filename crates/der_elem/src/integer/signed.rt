@@ -1,0 +1,444 @@
+//! The signed machine integers, `i8` to `i128`.
+//!
+//! Reading refuses, in this order: no contents octets (7); more than the type has (8); a first
+//! octet 00 before one below 80, or FF before one of 80 or more (8).
+
+ghost use Rattle.std.specs.Prelude.{◌≡◌, false, refl};
+ghost use Rattle.std.proofs.Common.{lit<};
+ghost use Rattle.std.specs.Ordering.{int_eq};
+ghost use Rattle.std.proofs.lemmas.Bool.Decides.{Decides-int_eq};
+ghost use Rattle.der_tlv.specs.declared.tag.Tag.TheVariants.{Integer};
+ghost use Rattle.der_elem.specs.OwnContents.{accepts_within};
+ghost use Rattle.der_elem.specs.OwnContentsLaws.{parse_of_within, same_length_within, accepts_contents_within, only_within, encoding_eq_own, copy_encoding_own};
+ghost use Rattle.der_elem.specs.Integer.{integer_contents, FitsSignedWidth};
+ghost use Rattle.der_elem.specs.IntegerLaws.{integer_contents-injective};
+ghost use Rattle.der_elem.specs.IntegerReading.{parse_signed};
+ghost use Rattle.der_elem.specs.IntegerReadingLaws.{parse_signed-own};
+
+use std::alloc::Global;
+use std::cmp::Ordering;
+
+use der_tlv::{Error, Header, Length, Reader, Tag, Writer};
+
+use super::octets::{IntegerOctets, compare_signed, signed_len};
+use super::reading::read_signed;
+use crate::decode::DecodeValue;
+use crate::duplicate::Duplicate;
+use crate::encode::EncodeValue;
+use crate::equality::EncodingEq;
+use crate::form::{FixedTag, FormValue};
+use crate::ord::ValueOrd;
+
+impl FormValue for i8 {
+    ghost contents = { integer_contents };
+
+    ghost one_form_value = { λ v w. Unit {0} };
+
+    ghost re_reads_value = { λ v. false };
+
+    ghost accepts_value = { accepts_within integer_contents (FitsSignedWidth 1) };
+
+    ghost parse_value = { parse_signed 1 };
+
+    ghost readable_value = { FitsSignedWidth 1 };
+
+    ghost has_tag = { λ v t. Unit {0} };
+
+    ghost VALUE_TAKES_MEMORY = { false };
+
+    const VALUE_TAKES_MEMORY: bool = false;
+
+    ghost parse_of_accepted_value = { parse_of_within integer_contents (FitsSignedWidth 1) (parse_signed 1) (parse_signed-own 1 (lit< tt)) };
+
+    ghost same_length_value = { same_length_within integer_contents (FitsSignedWidth 1) };
+
+    ghost accepts_contents = { accepts_contents_within integer_contents (FitsSignedWidth 1) };
+
+    ghost only_readable_value = { only_within integer_contents (FitsSignedWidth 1) };
+
+    ghost accepts_one_form_value = { λ rules v w c d a b. tt };
+
+    ghost re_reads_memory_value = { λ v e. e };
+}
+
+impl FixedTag for i8 {
+    ghost TAG = { Integer };
+
+    const TAG: Tag = Tag::Integer;
+
+    ghost tag_in_range = { lit< tt };
+}
+
+impl<'a, R: Reader<'a>> DecodeValue<'a, R> for i8 {
+    fn decode_value(_alloc: Global, reader: &mut R, header: Header) -> Result<i8, Error> {
+        let integer = read_signed(reader, header, 1)?;
+        Ok(integer as i8)
+    }
+}
+
+impl EncodeValue for i8 {
+    fn value_len(&self) -> Result<Length, Error> {
+        Ok(Length::new(signed_len(i128::from(*self))))
+    }
+
+    fn encode_value<W: Writer>(&self, writer: &mut W) -> Result<(), Error> {
+        writer.write(IntegerOctets::from_signed(i128::from(*self)).as_slice())
+    }
+}
+
+impl ValueOrd for i8 {
+    fn value_cmp(&self, other: &i8) -> Result<Ordering, Error> {
+        Ok(compare_signed(i128::from(*self), i128::from(*other)))
+    }
+}
+
+impl EncodingEq for i8 {
+    ghost encoding_eq = { encoding_eq_own Integer integer_contents int_eq Decides-int_eq integer_contents-injective };
+}
+
+impl Duplicate for i8 {
+    ghost is_copy = { λ v w. w ≡ v };
+
+    ghost takes_memory_to_copy = { false };
+
+    fn duplicate(&self) -> Result<i8, Error> {
+        Ok(*self)
+    }
+
+    ghost copy_encoding = { copy_encoding_own Integer integer_contents };
+
+    ghost copy_form = { λ v w x e f. tt };
+
+    ghost copy_re_reads = { λ v w e. refl };
+}
+
+impl FormValue for i16 {
+    ghost contents = { integer_contents };
+
+    ghost one_form_value = { λ v w. Unit {0} };
+
+    ghost re_reads_value = { λ v. false };
+
+    ghost accepts_value = { accepts_within integer_contents (FitsSignedWidth 2) };
+
+    ghost parse_value = { parse_signed 2 };
+
+    ghost readable_value = { FitsSignedWidth 2 };
+
+    ghost has_tag = { λ v t. Unit {0} };
+
+    ghost VALUE_TAKES_MEMORY = { false };
+
+    const VALUE_TAKES_MEMORY: bool = false;
+
+    ghost parse_of_accepted_value = { parse_of_within integer_contents (FitsSignedWidth 2) (parse_signed 2) (parse_signed-own 2 (lit< tt)) };
+
+    ghost same_length_value = { same_length_within integer_contents (FitsSignedWidth 2) };
+
+    ghost accepts_contents = { accepts_contents_within integer_contents (FitsSignedWidth 2) };
+
+    ghost only_readable_value = { only_within integer_contents (FitsSignedWidth 2) };
+
+    ghost accepts_one_form_value = { λ rules v w c d a b. tt };
+
+    ghost re_reads_memory_value = { λ v e. e };
+}
+
+impl FixedTag for i16 {
+    ghost TAG = { Integer };
+
+    const TAG: Tag = Tag::Integer;
+
+    ghost tag_in_range = { lit< tt };
+}
+
+impl<'a, R: Reader<'a>> DecodeValue<'a, R> for i16 {
+    fn decode_value(_alloc: Global, reader: &mut R, header: Header) -> Result<i16, Error> {
+        let integer = read_signed(reader, header, 2)?;
+        Ok(integer as i16)
+    }
+}
+
+impl EncodeValue for i16 {
+    fn value_len(&self) -> Result<Length, Error> {
+        Ok(Length::new(signed_len(i128::from(*self))))
+    }
+
+    fn encode_value<W: Writer>(&self, writer: &mut W) -> Result<(), Error> {
+        writer.write(IntegerOctets::from_signed(i128::from(*self)).as_slice())
+    }
+}
+
+impl ValueOrd for i16 {
+    fn value_cmp(&self, other: &i16) -> Result<Ordering, Error> {
+        Ok(compare_signed(i128::from(*self), i128::from(*other)))
+    }
+}
+
+impl EncodingEq for i16 {
+    ghost encoding_eq = { encoding_eq_own Integer integer_contents int_eq Decides-int_eq integer_contents-injective };
+}
+
+impl Duplicate for i16 {
+    ghost is_copy = { λ v w. w ≡ v };
+
+    ghost takes_memory_to_copy = { false };
+
+    fn duplicate(&self) -> Result<i16, Error> {
+        Ok(*self)
+    }
+
+    ghost copy_encoding = { copy_encoding_own Integer integer_contents };
+
+    ghost copy_form = { λ v w x e f. tt };
+
+    ghost copy_re_reads = { λ v w e. refl };
+}
+
+impl FormValue for i32 {
+    ghost contents = { integer_contents };
+
+    ghost one_form_value = { λ v w. Unit {0} };
+
+    ghost re_reads_value = { λ v. false };
+
+    ghost accepts_value = { accepts_within integer_contents (FitsSignedWidth 4) };
+
+    ghost parse_value = { parse_signed 4 };
+
+    ghost readable_value = { FitsSignedWidth 4 };
+
+    ghost has_tag = { λ v t. Unit {0} };
+
+    ghost VALUE_TAKES_MEMORY = { false };
+
+    const VALUE_TAKES_MEMORY: bool = false;
+
+    ghost parse_of_accepted_value = { parse_of_within integer_contents (FitsSignedWidth 4) (parse_signed 4) (parse_signed-own 4 (lit< tt)) };
+
+    ghost same_length_value = { same_length_within integer_contents (FitsSignedWidth 4) };
+
+    ghost accepts_contents = { accepts_contents_within integer_contents (FitsSignedWidth 4) };
+
+    ghost only_readable_value = { only_within integer_contents (FitsSignedWidth 4) };
+
+    ghost accepts_one_form_value = { λ rules v w c d a b. tt };
+
+    ghost re_reads_memory_value = { λ v e. e };
+}
+
+impl FixedTag for i32 {
+    ghost TAG = { Integer };
+
+    const TAG: Tag = Tag::Integer;
+
+    ghost tag_in_range = { lit< tt };
+}
+
+impl<'a, R: Reader<'a>> DecodeValue<'a, R> for i32 {
+    fn decode_value(_alloc: Global, reader: &mut R, header: Header) -> Result<i32, Error> {
+        let integer = read_signed(reader, header, 4)?;
+        Ok(integer as i32)
+    }
+}
+
+impl EncodeValue for i32 {
+    fn value_len(&self) -> Result<Length, Error> {
+        Ok(Length::new(signed_len(i128::from(*self))))
+    }
+
+    fn encode_value<W: Writer>(&self, writer: &mut W) -> Result<(), Error> {
+        writer.write(IntegerOctets::from_signed(i128::from(*self)).as_slice())
+    }
+}
+
+impl ValueOrd for i32 {
+    fn value_cmp(&self, other: &i32) -> Result<Ordering, Error> {
+        Ok(compare_signed(i128::from(*self), i128::from(*other)))
+    }
+}
+
+impl EncodingEq for i32 {
+    ghost encoding_eq = { encoding_eq_own Integer integer_contents int_eq Decides-int_eq integer_contents-injective };
+}
+
+impl Duplicate for i32 {
+    ghost is_copy = { λ v w. w ≡ v };
+
+    ghost takes_memory_to_copy = { false };
+
+    fn duplicate(&self) -> Result<i32, Error> {
+        Ok(*self)
+    }
+
+    ghost copy_encoding = { copy_encoding_own Integer integer_contents };
+
+    ghost copy_form = { λ v w x e f. tt };
+
+    ghost copy_re_reads = { λ v w e. refl };
+}
+
+impl FormValue for i64 {
+    ghost contents = { integer_contents };
+
+    ghost one_form_value = { λ v w. Unit {0} };
+
+    ghost re_reads_value = { λ v. false };
+
+    ghost accepts_value = { accepts_within integer_contents (FitsSignedWidth 8) };
+
+    ghost parse_value = { parse_signed 8 };
+
+    ghost readable_value = { FitsSignedWidth 8 };
+
+    ghost has_tag = { λ v t. Unit {0} };
+
+    ghost VALUE_TAKES_MEMORY = { false };
+
+    const VALUE_TAKES_MEMORY: bool = false;
+
+    ghost parse_of_accepted_value = { parse_of_within integer_contents (FitsSignedWidth 8) (parse_signed 8) (parse_signed-own 8 (lit< tt)) };
+
+    ghost same_length_value = { same_length_within integer_contents (FitsSignedWidth 8) };
+
+    ghost accepts_contents = { accepts_contents_within integer_contents (FitsSignedWidth 8) };
+
+    ghost only_readable_value = { only_within integer_contents (FitsSignedWidth 8) };
+
+    ghost accepts_one_form_value = { λ rules v w c d a b. tt };
+
+    ghost re_reads_memory_value = { λ v e. e };
+}
+
+impl FixedTag for i64 {
+    ghost TAG = { Integer };
+
+    const TAG: Tag = Tag::Integer;
+
+    ghost tag_in_range = { lit< tt };
+}
+
+impl<'a, R: Reader<'a>> DecodeValue<'a, R> for i64 {
+    fn decode_value(_alloc: Global, reader: &mut R, header: Header) -> Result<i64, Error> {
+        let integer = read_signed(reader, header, 8)?;
+        Ok(integer as i64)
+    }
+}
+
+impl EncodeValue for i64 {
+    fn value_len(&self) -> Result<Length, Error> {
+        Ok(Length::new(signed_len(i128::from(*self))))
+    }
+
+    fn encode_value<W: Writer>(&self, writer: &mut W) -> Result<(), Error> {
+        writer.write(IntegerOctets::from_signed(i128::from(*self)).as_slice())
+    }
+}
+
+impl ValueOrd for i64 {
+    fn value_cmp(&self, other: &i64) -> Result<Ordering, Error> {
+        Ok(compare_signed(i128::from(*self), i128::from(*other)))
+    }
+}
+
+impl EncodingEq for i64 {
+    ghost encoding_eq = { encoding_eq_own Integer integer_contents int_eq Decides-int_eq integer_contents-injective };
+}
+
+impl Duplicate for i64 {
+    ghost is_copy = { λ v w. w ≡ v };
+
+    ghost takes_memory_to_copy = { false };
+
+    fn duplicate(&self) -> Result<i64, Error> {
+        Ok(*self)
+    }
+
+    ghost copy_encoding = { copy_encoding_own Integer integer_contents };
+
+    ghost copy_form = { λ v w x e f. tt };
+
+    ghost copy_re_reads = { λ v w e. refl };
+}
+
+impl FormValue for i128 {
+    ghost contents = { integer_contents };
+
+    ghost one_form_value = { λ v w. Unit {0} };
+
+    ghost re_reads_value = { λ v. false };
+
+    ghost accepts_value = { accepts_within integer_contents (FitsSignedWidth 16) };
+
+    ghost parse_value = { parse_signed 16 };
+
+    ghost readable_value = { FitsSignedWidth 16 };
+
+    ghost has_tag = { λ v t. Unit {0} };
+
+    ghost VALUE_TAKES_MEMORY = { false };
+
+    const VALUE_TAKES_MEMORY: bool = false;
+
+    ghost parse_of_accepted_value = { parse_of_within integer_contents (FitsSignedWidth 16) (parse_signed 16) (parse_signed-own 16 (lit< tt)) };
+
+    ghost same_length_value = { same_length_within integer_contents (FitsSignedWidth 16) };
+
+    ghost accepts_contents = { accepts_contents_within integer_contents (FitsSignedWidth 16) };
+
+    ghost only_readable_value = { only_within integer_contents (FitsSignedWidth 16) };
+
+    ghost accepts_one_form_value = { λ rules v w c d a b. tt };
+
+    ghost re_reads_memory_value = { λ v e. e };
+}
+
+impl FixedTag for i128 {
+    ghost TAG = { Integer };
+
+    const TAG: Tag = Tag::Integer;
+
+    ghost tag_in_range = { lit< tt };
+}
+
+impl<'a, R: Reader<'a>> DecodeValue<'a, R> for i128 {
+    fn decode_value(_alloc: Global, reader: &mut R, header: Header) -> Result<i128, Error> {
+        read_signed(reader, header, 16)
+    }
+}
+
+impl EncodeValue for i128 {
+    fn value_len(&self) -> Result<Length, Error> {
+        Ok(Length::new(signed_len(*self)))
+    }
+
+    fn encode_value<W: Writer>(&self, writer: &mut W) -> Result<(), Error> {
+        writer.write(IntegerOctets::from_signed(*self).as_slice())
+    }
+}
+
+impl ValueOrd for i128 {
+    fn value_cmp(&self, other: &i128) -> Result<Ordering, Error> {
+        Ok(compare_signed(*self, *other))
+    }
+}
+
+impl EncodingEq for i128 {
+    ghost encoding_eq = { encoding_eq_own Integer integer_contents int_eq Decides-int_eq integer_contents-injective };
+}
+
+impl Duplicate for i128 {
+    ghost is_copy = { λ v w. w ≡ v };
+
+    ghost takes_memory_to_copy = { false };
+
+    fn duplicate(&self) -> Result<i128, Error> {
+        Ok(*self)
+    }
+
+    ghost copy_encoding = { copy_encoding_own Integer integer_contents };
+
+    ghost copy_form = { λ v w x e f. tt };
+
+    ghost copy_re_reads = { λ v w e. refl };
+}

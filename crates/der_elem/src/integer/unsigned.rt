@@ -1,0 +1,444 @@
+//! The unsigned machine integers, `u8` to `u128`.
+//!
+//! Reading refuses, in this order: no contents octets (7); more than the type has and one (8); a
+//! first octet 00 before one below 80 (8); a first octet of 80 or more, which makes the number
+//! negative (13); one octet more than the type has, of which the first is 01 to 7F (7).
+
+ghost use Rattle.std.specs.Prelude.{◌≡◌, false, nat_eq, refl};
+ghost use Rattle.std.proofs.Common.{lit<};
+ghost use Rattle.std.proofs.lemmas.Bool.Decides.{Decides-eqb};
+ghost use Rattle.der_tlv.specs.declared.tag.Tag.TheVariants.{Integer};
+ghost use Rattle.der_elem.specs.OwnContents.{accepts_within};
+ghost use Rattle.der_elem.specs.OwnContentsLaws.{parse_of_within, same_length_within, accepts_contents_within, only_within, encoding_eq_own, copy_encoding_own};
+ghost use Rattle.der_elem.specs.Integer.{natural_contents, FitsUnsignedWidth};
+ghost use Rattle.der_elem.specs.IntegerLaws.{natural_contents-injective};
+ghost use Rattle.der_elem.specs.IntegerReading.{parse_unsigned};
+ghost use Rattle.der_elem.specs.IntegerReadingLaws.{parse_unsigned-own};
+
+use std::alloc::Global;
+use std::cmp::Ordering;
+
+use der_tlv::{Error, Header, Length, Reader, Tag, Writer};
+
+use super::octets::{IntegerOctets, compare_unsigned, contents_len};
+use super::reading::read_unsigned;
+use crate::decode::DecodeValue;
+use crate::duplicate::Duplicate;
+use crate::encode::EncodeValue;
+use crate::equality::EncodingEq;
+use crate::form::{FixedTag, FormValue};
+use crate::ord::ValueOrd;
+
+impl FormValue for u8 {
+    ghost contents = { natural_contents };
+
+    ghost one_form_value = { λ v w. Unit {0} };
+
+    ghost re_reads_value = { λ v. false };
+
+    ghost accepts_value = { accepts_within natural_contents (FitsUnsignedWidth 1) };
+
+    ghost parse_value = { parse_unsigned 1 };
+
+    ghost readable_value = { FitsUnsignedWidth 1 };
+
+    ghost has_tag = { λ v t. Unit {0} };
+
+    ghost VALUE_TAKES_MEMORY = { false };
+
+    const VALUE_TAKES_MEMORY: bool = false;
+
+    ghost parse_of_accepted_value = { parse_of_within natural_contents (FitsUnsignedWidth 1) (parse_unsigned 1) (parse_unsigned-own 1) };
+
+    ghost same_length_value = { same_length_within natural_contents (FitsUnsignedWidth 1) };
+
+    ghost accepts_contents = { accepts_contents_within natural_contents (FitsUnsignedWidth 1) };
+
+    ghost only_readable_value = { only_within natural_contents (FitsUnsignedWidth 1) };
+
+    ghost accepts_one_form_value = { λ rules v w c d a b. tt };
+
+    ghost re_reads_memory_value = { λ v e. e };
+}
+
+impl FixedTag for u8 {
+    ghost TAG = { Integer };
+
+    const TAG: Tag = Tag::Integer;
+
+    ghost tag_in_range = { lit< tt };
+}
+
+impl<'a, R: Reader<'a>> DecodeValue<'a, R> for u8 {
+    fn decode_value(_alloc: Global, reader: &mut R, header: Header) -> Result<u8, Error> {
+        let number = read_unsigned(reader, header, 1)?;
+        Ok(number as u8)
+    }
+}
+
+impl EncodeValue for u8 {
+    fn value_len(&self) -> Result<Length, Error> {
+        Ok(Length::new(contents_len(u128::from(*self))))
+    }
+
+    fn encode_value<W: Writer>(&self, writer: &mut W) -> Result<(), Error> {
+        writer.write(IntegerOctets::from_unsigned(u128::from(*self)).as_slice())
+    }
+}
+
+impl ValueOrd for u8 {
+    fn value_cmp(&self, other: &u8) -> Result<Ordering, Error> {
+        Ok(compare_unsigned(u128::from(*self), u128::from(*other)))
+    }
+}
+
+impl EncodingEq for u8 {
+    ghost encoding_eq = { encoding_eq_own Integer natural_contents nat_eq Decides-eqb natural_contents-injective };
+}
+
+impl Duplicate for u8 {
+    ghost is_copy = { λ v w. w ≡ v };
+
+    ghost takes_memory_to_copy = { false };
+
+    fn duplicate(&self) -> Result<u8, Error> {
+        Ok(*self)
+    }
+
+    ghost copy_encoding = { copy_encoding_own Integer natural_contents };
+
+    ghost copy_form = { λ v w x e f. tt };
+
+    ghost copy_re_reads = { λ v w e. refl };
+}
+
+impl FormValue for u16 {
+    ghost contents = { natural_contents };
+
+    ghost one_form_value = { λ v w. Unit {0} };
+
+    ghost re_reads_value = { λ v. false };
+
+    ghost accepts_value = { accepts_within natural_contents (FitsUnsignedWidth 2) };
+
+    ghost parse_value = { parse_unsigned 2 };
+
+    ghost readable_value = { FitsUnsignedWidth 2 };
+
+    ghost has_tag = { λ v t. Unit {0} };
+
+    ghost VALUE_TAKES_MEMORY = { false };
+
+    const VALUE_TAKES_MEMORY: bool = false;
+
+    ghost parse_of_accepted_value = { parse_of_within natural_contents (FitsUnsignedWidth 2) (parse_unsigned 2) (parse_unsigned-own 2) };
+
+    ghost same_length_value = { same_length_within natural_contents (FitsUnsignedWidth 2) };
+
+    ghost accepts_contents = { accepts_contents_within natural_contents (FitsUnsignedWidth 2) };
+
+    ghost only_readable_value = { only_within natural_contents (FitsUnsignedWidth 2) };
+
+    ghost accepts_one_form_value = { λ rules v w c d a b. tt };
+
+    ghost re_reads_memory_value = { λ v e. e };
+}
+
+impl FixedTag for u16 {
+    ghost TAG = { Integer };
+
+    const TAG: Tag = Tag::Integer;
+
+    ghost tag_in_range = { lit< tt };
+}
+
+impl<'a, R: Reader<'a>> DecodeValue<'a, R> for u16 {
+    fn decode_value(_alloc: Global, reader: &mut R, header: Header) -> Result<u16, Error> {
+        let number = read_unsigned(reader, header, 2)?;
+        Ok(number as u16)
+    }
+}
+
+impl EncodeValue for u16 {
+    fn value_len(&self) -> Result<Length, Error> {
+        Ok(Length::new(contents_len(u128::from(*self))))
+    }
+
+    fn encode_value<W: Writer>(&self, writer: &mut W) -> Result<(), Error> {
+        writer.write(IntegerOctets::from_unsigned(u128::from(*self)).as_slice())
+    }
+}
+
+impl ValueOrd for u16 {
+    fn value_cmp(&self, other: &u16) -> Result<Ordering, Error> {
+        Ok(compare_unsigned(u128::from(*self), u128::from(*other)))
+    }
+}
+
+impl EncodingEq for u16 {
+    ghost encoding_eq = { encoding_eq_own Integer natural_contents nat_eq Decides-eqb natural_contents-injective };
+}
+
+impl Duplicate for u16 {
+    ghost is_copy = { λ v w. w ≡ v };
+
+    ghost takes_memory_to_copy = { false };
+
+    fn duplicate(&self) -> Result<u16, Error> {
+        Ok(*self)
+    }
+
+    ghost copy_encoding = { copy_encoding_own Integer natural_contents };
+
+    ghost copy_form = { λ v w x e f. tt };
+
+    ghost copy_re_reads = { λ v w e. refl };
+}
+
+impl FormValue for u32 {
+    ghost contents = { natural_contents };
+
+    ghost one_form_value = { λ v w. Unit {0} };
+
+    ghost re_reads_value = { λ v. false };
+
+    ghost accepts_value = { accepts_within natural_contents (FitsUnsignedWidth 4) };
+
+    ghost parse_value = { parse_unsigned 4 };
+
+    ghost readable_value = { FitsUnsignedWidth 4 };
+
+    ghost has_tag = { λ v t. Unit {0} };
+
+    ghost VALUE_TAKES_MEMORY = { false };
+
+    const VALUE_TAKES_MEMORY: bool = false;
+
+    ghost parse_of_accepted_value = { parse_of_within natural_contents (FitsUnsignedWidth 4) (parse_unsigned 4) (parse_unsigned-own 4) };
+
+    ghost same_length_value = { same_length_within natural_contents (FitsUnsignedWidth 4) };
+
+    ghost accepts_contents = { accepts_contents_within natural_contents (FitsUnsignedWidth 4) };
+
+    ghost only_readable_value = { only_within natural_contents (FitsUnsignedWidth 4) };
+
+    ghost accepts_one_form_value = { λ rules v w c d a b. tt };
+
+    ghost re_reads_memory_value = { λ v e. e };
+}
+
+impl FixedTag for u32 {
+    ghost TAG = { Integer };
+
+    const TAG: Tag = Tag::Integer;
+
+    ghost tag_in_range = { lit< tt };
+}
+
+impl<'a, R: Reader<'a>> DecodeValue<'a, R> for u32 {
+    fn decode_value(_alloc: Global, reader: &mut R, header: Header) -> Result<u32, Error> {
+        let number = read_unsigned(reader, header, 4)?;
+        Ok(number as u32)
+    }
+}
+
+impl EncodeValue for u32 {
+    fn value_len(&self) -> Result<Length, Error> {
+        Ok(Length::new(contents_len(u128::from(*self))))
+    }
+
+    fn encode_value<W: Writer>(&self, writer: &mut W) -> Result<(), Error> {
+        writer.write(IntegerOctets::from_unsigned(u128::from(*self)).as_slice())
+    }
+}
+
+impl ValueOrd for u32 {
+    fn value_cmp(&self, other: &u32) -> Result<Ordering, Error> {
+        Ok(compare_unsigned(u128::from(*self), u128::from(*other)))
+    }
+}
+
+impl EncodingEq for u32 {
+    ghost encoding_eq = { encoding_eq_own Integer natural_contents nat_eq Decides-eqb natural_contents-injective };
+}
+
+impl Duplicate for u32 {
+    ghost is_copy = { λ v w. w ≡ v };
+
+    ghost takes_memory_to_copy = { false };
+
+    fn duplicate(&self) -> Result<u32, Error> {
+        Ok(*self)
+    }
+
+    ghost copy_encoding = { copy_encoding_own Integer natural_contents };
+
+    ghost copy_form = { λ v w x e f. tt };
+
+    ghost copy_re_reads = { λ v w e. refl };
+}
+
+impl FormValue for u64 {
+    ghost contents = { natural_contents };
+
+    ghost one_form_value = { λ v w. Unit {0} };
+
+    ghost re_reads_value = { λ v. false };
+
+    ghost accepts_value = { accepts_within natural_contents (FitsUnsignedWidth 8) };
+
+    ghost parse_value = { parse_unsigned 8 };
+
+    ghost readable_value = { FitsUnsignedWidth 8 };
+
+    ghost has_tag = { λ v t. Unit {0} };
+
+    ghost VALUE_TAKES_MEMORY = { false };
+
+    const VALUE_TAKES_MEMORY: bool = false;
+
+    ghost parse_of_accepted_value = { parse_of_within natural_contents (FitsUnsignedWidth 8) (parse_unsigned 8) (parse_unsigned-own 8) };
+
+    ghost same_length_value = { same_length_within natural_contents (FitsUnsignedWidth 8) };
+
+    ghost accepts_contents = { accepts_contents_within natural_contents (FitsUnsignedWidth 8) };
+
+    ghost only_readable_value = { only_within natural_contents (FitsUnsignedWidth 8) };
+
+    ghost accepts_one_form_value = { λ rules v w c d a b. tt };
+
+    ghost re_reads_memory_value = { λ v e. e };
+}
+
+impl FixedTag for u64 {
+    ghost TAG = { Integer };
+
+    const TAG: Tag = Tag::Integer;
+
+    ghost tag_in_range = { lit< tt };
+}
+
+impl<'a, R: Reader<'a>> DecodeValue<'a, R> for u64 {
+    fn decode_value(_alloc: Global, reader: &mut R, header: Header) -> Result<u64, Error> {
+        let number = read_unsigned(reader, header, 8)?;
+        Ok(number as u64)
+    }
+}
+
+impl EncodeValue for u64 {
+    fn value_len(&self) -> Result<Length, Error> {
+        Ok(Length::new(contents_len(u128::from(*self))))
+    }
+
+    fn encode_value<W: Writer>(&self, writer: &mut W) -> Result<(), Error> {
+        writer.write(IntegerOctets::from_unsigned(u128::from(*self)).as_slice())
+    }
+}
+
+impl ValueOrd for u64 {
+    fn value_cmp(&self, other: &u64) -> Result<Ordering, Error> {
+        Ok(compare_unsigned(u128::from(*self), u128::from(*other)))
+    }
+}
+
+impl EncodingEq for u64 {
+    ghost encoding_eq = { encoding_eq_own Integer natural_contents nat_eq Decides-eqb natural_contents-injective };
+}
+
+impl Duplicate for u64 {
+    ghost is_copy = { λ v w. w ≡ v };
+
+    ghost takes_memory_to_copy = { false };
+
+    fn duplicate(&self) -> Result<u64, Error> {
+        Ok(*self)
+    }
+
+    ghost copy_encoding = { copy_encoding_own Integer natural_contents };
+
+    ghost copy_form = { λ v w x e f. tt };
+
+    ghost copy_re_reads = { λ v w e. refl };
+}
+
+impl FormValue for u128 {
+    ghost contents = { natural_contents };
+
+    ghost one_form_value = { λ v w. Unit {0} };
+
+    ghost re_reads_value = { λ v. false };
+
+    ghost accepts_value = { accepts_within natural_contents (FitsUnsignedWidth 16) };
+
+    ghost parse_value = { parse_unsigned 16 };
+
+    ghost readable_value = { FitsUnsignedWidth 16 };
+
+    ghost has_tag = { λ v t. Unit {0} };
+
+    ghost VALUE_TAKES_MEMORY = { false };
+
+    const VALUE_TAKES_MEMORY: bool = false;
+
+    ghost parse_of_accepted_value = { parse_of_within natural_contents (FitsUnsignedWidth 16) (parse_unsigned 16) (parse_unsigned-own 16) };
+
+    ghost same_length_value = { same_length_within natural_contents (FitsUnsignedWidth 16) };
+
+    ghost accepts_contents = { accepts_contents_within natural_contents (FitsUnsignedWidth 16) };
+
+    ghost only_readable_value = { only_within natural_contents (FitsUnsignedWidth 16) };
+
+    ghost accepts_one_form_value = { λ rules v w c d a b. tt };
+
+    ghost re_reads_memory_value = { λ v e. e };
+}
+
+impl FixedTag for u128 {
+    ghost TAG = { Integer };
+
+    const TAG: Tag = Tag::Integer;
+
+    ghost tag_in_range = { lit< tt };
+}
+
+impl<'a, R: Reader<'a>> DecodeValue<'a, R> for u128 {
+    fn decode_value(_alloc: Global, reader: &mut R, header: Header) -> Result<u128, Error> {
+        read_unsigned(reader, header, 16)
+    }
+}
+
+impl EncodeValue for u128 {
+    fn value_len(&self) -> Result<Length, Error> {
+        Ok(Length::new(contents_len(*self)))
+    }
+
+    fn encode_value<W: Writer>(&self, writer: &mut W) -> Result<(), Error> {
+        writer.write(IntegerOctets::from_unsigned(*self).as_slice())
+    }
+}
+
+impl ValueOrd for u128 {
+    fn value_cmp(&self, other: &u128) -> Result<Ordering, Error> {
+        Ok(compare_unsigned(*self, *other))
+    }
+}
+
+impl EncodingEq for u128 {
+    ghost encoding_eq = { encoding_eq_own Integer natural_contents nat_eq Decides-eqb natural_contents-injective };
+}
+
+impl Duplicate for u128 {
+    ghost is_copy = { λ v w. w ≡ v };
+
+    ghost takes_memory_to_copy = { false };
+
+    fn duplicate(&self) -> Result<u128, Error> {
+        Ok(*self)
+    }
+
+    ghost copy_encoding = { copy_encoding_own Integer natural_contents };
+
+    ghost copy_form = { λ v w x e f. tt };
+
+    ghost copy_re_reads = { λ v w e. refl };
+}
