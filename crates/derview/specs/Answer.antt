@@ -1,0 +1,48 @@
+-- The answer to a line, as a function of the line's octets.
+use Rattle.std.specs.Prelude.{ℕ, ◌+◌, ◌==◌, List, [], ◌++◌, length, take, drop, position, Option, None, Some, option_map, Result, Ok, Err, if◌then◌else◌, codes}
+use Rattle.std.specs.Fmt.{decimal}
+use Rattle.std.specs.Str.{bytes_eq}
+use Rattle.std.specs.Result.{result_ok}
+use Rattle.hex.specs.Hex.{decode_of, encode_lower}
+use Rattle.der_tlv.specs.ErrorNumber.{error_number}
+use Rattle.der_tlv.specs.declared.error.ErrorKind.{ErrorKind}
+use Rattle.derview.specs.Names.{CanonicalFunction, canonical_function_of}
+
+-- what stands before the first space, and what stands behind it
+abbrev pub parts_of : List ℕ → Option (List ℕ × List ℕ)
+parts_of line = option_map (λ end. (take end line, drop (end + 1) line)) (position (λ octet. octet == 32) line)
+
+-- the octets that an even number of hex digits stand for, at least two of them, or a `-` for none
+abbrev pub octets_of : List ℕ → Option (List ℕ)
+octets_of text =
+    if length text == 0 then None
+    else if bytes_eq text (codes "-") then Some []
+    else result_ok (decode_of text)
+
+-- the text of a canonical encoding
+abbrev pub accepted_of : List ℕ → List ℕ
+accepted_of encoding = if length encoding == 0 then codes "ok -" else codes "ok " ++ encode_lower encoding
+
+-- the text of a fault
+abbrev pub refused_of : ErrorKind → List ℕ
+refused_of kind = codes "refused " ++ decimal (error_number kind)
+
+abbrev pub verdict_of : Result (List ℕ) ErrorKind → List ℕ
+verdict_of (Ok encoding) = accepted_of encoding
+verdict_of (Err kind) = refused_of kind
+
+abbrev pub applied : Option CanonicalFunction → List ℕ → List ℕ
+applied None octets = codes "bad line"
+applied (Some function) octets = verdict_of (function octets)
+
+abbrev pub answer_to_text : List ℕ → Option (List ℕ) → List ℕ
+answer_to_text name None = codes "bad line"
+answer_to_text name (Some octets) = applied (canonical_function_of name) octets
+
+abbrev pub answer_to_parts : Option (List ℕ × List ℕ) → List ℕ
+answer_to_parts None = codes "bad line"
+answer_to_parts (Some parts) = answer_to_text parts.0 (octets_of parts.1)
+
+-- the answer to a line
+unfoldable pub answer_of : List ℕ → List ℕ
+answer_of line = answer_to_parts (parts_of line)

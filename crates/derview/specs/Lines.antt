@@ -1,0 +1,22 @@
+-- A text as lines, and what is written for it.
+use Rattle.std.specs.Prelude.{ℕ, ◌==◌, List, [], ◌∷◌, ◌++◌, if◌then◌else◌}
+use Rattle.std.specs.List.{flat_map}
+use Rattle.derview.specs.Answer.{answer_of}
+
+-- the lines with an octet before the first
+abbrev pub onto_first : ℕ → List (List ℕ) → List (List ℕ)
+onto_first octet [] = (octet ∷ []) ∷ []
+onto_first octet (line ∷ lines) = (octet ∷ line) ∷ lines
+
+-- the lines of a text: each ends at an LF or at the end of the text, and an empty rest is no line
+abbrev pub lines_of : List ℕ → List (List ℕ)
+lines_of [] = []
+lines_of (octet ∷ text) = if octet == 10 then [] ∷ lines_of text else onto_first octet (lines_of text)
+
+-- the answer to a line, and an LF
+abbrev pub reply_to : List ℕ → List ℕ
+reply_to line = answer_of line ++ 10 ∷ []
+
+-- the replies to the lines of a text, in order
+abbrev pub replies_to : List ℕ → List ℕ
+replies_to text = flat_map reply_to (lines_of text)

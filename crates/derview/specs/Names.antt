@@ -1,0 +1,68 @@
+-- The types by their names.
+use Rattle.std.specs.Prelude.{◌≡◌, ◌⊎◌, ℕ, List, Option, None, Some, Result, Ok, Err, if◌then◌else◌, codes, Vec}
+use Rattle.std.specs.Str.{bytes_eq}
+use Rattle.std.specs.declared.alloc.Global.{Global}
+use Rattle.der_tlv.specs.declared.error.Error.{Error}
+use Rattle.der_tlv.specs.declared.error.ErrorKind.{ErrorKind}
+use Rattle.der_tlv.specs.declared.error.ErrorKind.TheVariants.{Memory}
+use Rattle.der_tlv.specs.declared.tag.Tag.{Tag}
+use Rattle.der_tlv.specs.declared.tag.Tag.TheVariants.{Boolean, Integer, Null}
+use Rattle.der_elem.specs.Parsing.{Parse, ContentsParse, parse_tagged}
+use Rattle.der_elem.specs.Decoding.{parse_all}
+use Rattle.der_elem.specs.Boolean.{parse_boolean}
+use Rattle.der_elem.specs.Null.{parse_null}
+use Rattle.der_elem.specs.IntegerReading.{parse_signed, parse_unsigned}
+
+-- the canonical encoding of what some octets encode as one type, or the first fault
+abbrev pub CanonicalFunction : Type 0
+CanonicalFunction = List ℕ → Result (List ℕ) ErrorKind
+
+-- that of a type with one tag
+abbrev pub canonical_tagged : Tag → ContentsParse → CanonicalFunction
+canonical_tagged tag parse = parse_all (parse_tagged tag parse)
+
+-- BOOLEAN and NULL
+unfoldable pub plain_types : List ℕ → Option CanonicalFunction
+plain_types name =
+    if bytes_eq name (codes "bool") then Some (canonical_tagged Boolean parse_boolean)
+    else if bytes_eq name (codes "unit") then Some (canonical_tagged Null parse_null)
+    else None
+
+-- INTEGER, within the range of a machine integer
+unfoldable pub signed_types : List ℕ → Option CanonicalFunction
+signed_types name =
+    if bytes_eq name (codes "i8") then Some (canonical_tagged Integer (parse_signed 1))
+    else if bytes_eq name (codes "i16") then Some (canonical_tagged Integer (parse_signed 2))
+    else if bytes_eq name (codes "i32") then Some (canonical_tagged Integer (parse_signed 4))
+    else if bytes_eq name (codes "i64") then Some (canonical_tagged Integer (parse_signed 8))
+    else if bytes_eq name (codes "i128") then Some (canonical_tagged Integer (parse_signed 16))
+    else None
+
+unfoldable pub unsigned_types : List ℕ → Option CanonicalFunction
+unsigned_types name =
+    if bytes_eq name (codes "u8") then Some (canonical_tagged Integer (parse_unsigned 1))
+    else if bytes_eq name (codes "u16") then Some (canonical_tagged Integer (parse_unsigned 2))
+    else if bytes_eq name (codes "u32") then Some (canonical_tagged Integer (parse_unsigned 4))
+    else if bytes_eq name (codes "u64") then Some (canonical_tagged Integer (parse_unsigned 8))
+    else if bytes_eq name (codes "u128") then Some (canonical_tagged Integer (parse_unsigned 16))
+    else None
+
+-- the first of two that there is
+abbrev pub or_else : Option CanonicalFunction → Option CanonicalFunction → Option CanonicalFunction
+or_else None other = other
+or_else (Some function) other = Some function
+
+-- the function of the type with a name
+unfoldable pub canonical_function_of : List ℕ → Option CanonicalFunction
+canonical_function_of name = or_else (plain_types name) (or_else (signed_types name) (unsigned_types name))
+
+-- the result is what the function gives, unless memory was refused
+abbrev pub Gives : Result (Vec ℕ Global) Error → Result (List ℕ) ErrorKind → Type 0
+Gives (Ok encoding) given = given ≡ Ok encoding.items
+Gives (Err error) given = (error.kind ≡ Memory) ⊎ (given ≡ Err error.kind)
+
+-- there is a result where there is a function, and it is what the function gives of the octets
+abbrev pub AnswersAs : Option CanonicalFunction → List ℕ → Option (Result (Vec ℕ Global) Error) → Type 0
+AnswersAs None octets result = result ≡ None
+AnswersAs (Some function) octets None = ⊥
+AnswersAs (Some function) octets (Some result) = Gives result (function octets)

@@ -1,0 +1,21 @@
+//! The canonical encoding of the value that octets encode.
+
+ghost use Rattle.der_elem.specs.Decoding.{parse_all};
+ghost use Rattle.derview.specs.Names.{Gives};
+
+use der_elem::{Encode, FromDer};
+use der_tlv::Error;
+use std::alloc::Global;
+
+/// Reads a value from octets that are its encoding and nothing else, and writes its encoding.
+///
+/// # Errors
+/// The first fault of the octets; (1) where memory runs out.
+pub fn canonical<'a, T: FromDer<'a> + Encode>(
+    alloc: Global,
+    octets: &'a [u8],
+) -> Result<Vec<u8>, Error>
+    ensures { Gives result (parse_all T.parse octets.now) }
+{
+    T::from_der(alloc, octets)?.to_der(alloc)
+}

@@ -1,0 +1,40 @@
+//! Reads lines, each a type's name, a space and hex digits, and answers each with the canonical
+//! encoding of the value that the digits encode, or with the number of what is wrong with them.
+#![tactic(auto)]
+
+use fault::Fault;
+use run::run;
+use sink::OctetWriter;
+use source::LineReader;
+use std::io::{self, BufReader};
+use std::process::ExitCode;
+
+mod answer;
+mod canonical;
+mod fault;
+mod lines;
+mod names;
+mod run;
+mod sink;
+mod source;
+#[cfg(test)]
+mod tests;
+
+fn answer_all(rt: &(impl Input + Print + AllocGlobal)) -> Result<(), Fault> {
+    let Ok(reader) = BufReader::new(rt.alloc(), rt.reader()) else {
+        return Err(Fault::Memory);
+    };
+    let mut input = LineReader::new(reader, u64::MAX);
+    let mut output = OctetWriter::new(io::writer(rt));
+    run(rt.alloc(), &mut input, &mut output)
+}
+
+fn main(rt: HostRuntime) -> ExitCode {
+    match answer_all(&rt) {
+        Ok(()) => ExitCode::SUCCESS,
+        Err(fault) => {
+            let _ = eprintln!(rt; "derview: {fault}");
+            ExitCode::FAILURE
+        }
+    }
+}

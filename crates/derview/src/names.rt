@@ -1,0 +1,87 @@
+//! The types by their names.
+ghost use Rattle.std.specs.Prelude.{◌≡◌};
+ghost use Rattle.std.specs.Str.{bytes_eq};
+ghost use Rattle.derview.specs.Names.{canonical_function_of, plain_types, signed_types, unsigned_types, AnswersAs};
+
+use crate::canonical::canonical;
+use der_tlv::Error;
+use std::alloc::Global;
+
+/// Takes the type that stands at the name, and answers the canonical encoding of what the octets
+/// encode as it.
+macro_rules! choose {
+    ($alloc:expr, $name:expr, $octets:expr; $($text:literal => $type:ty,)*) => {
+        $(if is($name, $text) {
+            return Some(canonical::<$type>($alloc, $octets));
+        })*
+        None
+    };
+}
+
+/// The canonical encoding of the value that the octets encode, as the type of that name, if there
+/// is such a type.
+#[tactic(auto, unfolding(crate::specs::Names::canonical_function_of))]
+pub fn canonical_of_name(
+    alloc: Global,
+    name: &[u8],
+    octets: &[u8],
+) -> Option<Result<Vec<u8>, Error>>
+    ensures { AnswersAs (canonical_function_of name.now) octets.now result }
+{
+    if let Some(canonical) = canonical_of_plain(alloc, name, octets) {
+        return Some(canonical);
+    }
+    if let Some(canonical) = canonical_of_signed(alloc, name, octets) {
+        return Some(canonical);
+    }
+    canonical_of_unsigned(alloc, name, octets)
+}
+
+#[tactic(auto, unfolding(crate::specs::Names::plain_types))]
+fn canonical_of_plain(alloc: Global, name: &[u8], octets: &[u8]) -> Option<Result<Vec<u8>, Error>>
+    ensures { AnswersAs (plain_types name.now) octets.now result }
+{
+    choose! {
+        alloc, name, octets;
+        "bool" => bool,
+        "unit" => (),
+    }
+}
+
+#[tactic(auto, unfolding(crate::specs::Names::signed_types))]
+fn canonical_of_signed(alloc: Global, name: &[u8], octets: &[u8]) -> Option<Result<Vec<u8>, Error>>
+    ensures { AnswersAs (signed_types name.now) octets.now result }
+{
+    choose! {
+        alloc, name, octets;
+        "i8" => i8,
+        "i16" => i16,
+        "i32" => i32,
+        "i64" => i64,
+        "i128" => i128,
+    }
+}
+
+#[tactic(auto, unfolding(crate::specs::Names::unsigned_types))]
+fn canonical_of_unsigned(
+    alloc: Global,
+    name: &[u8],
+    octets: &[u8],
+) -> Option<Result<Vec<u8>, Error>>
+    ensures { AnswersAs (unsigned_types name.now) octets.now result }
+{
+    choose! {
+        alloc, name, octets;
+        "u8" => u8,
+        "u16" => u16,
+        "u32" => u32,
+        "u64" => u64,
+        "u128" => u128,
+    }
+}
+
+fn is(name: &[u8], text: &str) -> bool
+    ensures { result ≡ bytes_eq name.now text.now }
+{
+    name == text.as_bytes()
+}
