@@ -26,14 +26,14 @@ fn answers_lines(rt: HostRuntime) {
         (b"bool 0101FF\n", b"ok 0101ff\n"),
         (b"bool 0101fF\nbool 010100", b"ok 0101ff\nok 010100\n"),
         (b"bool 0101\n", b"refused 2\n"),
-        (b"bool 0101ff00\n", b"refused 9\n"),
-        (b"bool 010101\n", b"refused 10\n"),
+        (b"bool 0101ff00\n", b"refused 3\n"),
+        (b"bool 010101\n", b"refused 8\n"),
         (b"bool -\n", b"refused 2\n"),
-        (b"unit -\n", b"ok -\n"),
-        (b"unit 00\n", b"refused 9\n"),
+        (b"unit 0500\n", b"ok 0500\n"),
+        (b"unit 050100\n", b"refused 7\n"),
         (b"unit \n", b"bad line\n"),
         (b"unit\n", b"bad line\n"),
-        (b"unit --\n", b"bad line\n"),
+        (b"unit 0500-\n", b"bad line\n"),
         (b"none 00\n", b"bad line\n"),
         (b" 00\n", b"bad line\n"),
         (b"bool  0101ff\n", b"bad line\n"),
@@ -63,20 +63,20 @@ fn answers_a_long_line(rt: HostRuntime) -> Result<(), Fail> {
     for _ in 0..1 << 20 {
         text.push(b'0')?;
     }
-    text.extend_from_slice(b"\nunit -")?;
+    text.extend_from_slice(b"\nunit 0500")?;
     let (result, written) = answers(rt.alloc(), &text);
     assert_eq!(rt; result, Ok(()));
-    assert_eq!(rt; written.as_slice(), b"refused 9\nok -\n".as_slice());
+    assert_eq!(rt; written.as_slice(), b"refused 5\nok 0500\n".as_slice());
     Ok(())
 }
 
 #[test]
 fn refuses_too_many_lines(rt: HostRuntime) {
     let rows: [(&[u8], Result<(), Fault>, &[u8]); 4] = [
-        (b"unit -\nunit -\n", Ok(()), b"ok -\nok -\n"),
-        (b"unit -\nunit -", Ok(()), b"ok -\nok -\n"),
-        (b"unit -\nunit -\n\n", Err(Fault::Input), b"ok -\nok -\n"),
-        (b"unit -\nunit -\nunit", Err(Fault::Input), b"ok -\nok -\n"),
+        (b"unit 0500\nunit 0500\n", Ok(()), b"ok 0500\nok 0500\n"),
+        (b"unit 0500\nunit 0500", Ok(()), b"ok 0500\nok 0500\n"),
+        (b"unit 0500\nunit 0500\n\n", Err(Fault::Input), b"ok 0500\nok 0500\n"),
+        (b"unit 0500\nunit 0500\nunit", Err(Fault::Input), b"ok 0500\nok 0500\n"),
     ];
     for (text, want, answers) in rows {
         let mut written = Vec::new(rt.alloc());
@@ -115,11 +115,11 @@ impl Read for FailingReader<'_> {
 fn stops_where_a_read_fails(rt: HostRuntime) -> Result<(), Fail> {
     let rows: [(&[u8], &[u8]); 6] = [
         (b"", b""),
-        (b"unit -", b""),
-        (b"unit -\n", b"ok -\n"),
-        (b"unit -\nuni", b"ok -\n"),
-        (b"unit -\n\n\nbool 0101ff", b"ok -\nbad line\nbad line\n"),
-        (b"unit -\nbool 0101ff\n", b"ok -\nok 0101ff\n"),
+        (b"unit 0500", b""),
+        (b"unit 0500\n", b"ok 0500\n"),
+        (b"unit 0500\nuni", b"ok 0500\n"),
+        (b"unit 0500\n\n\nbool 0101ff", b"ok 0500\nbad line\nbad line\n"),
+        (b"unit 0500\nbool 0101ff\n", b"ok 0500\nok 0101ff\n"),
     ];
     let faults = [
         (ErrorKind::Other, Fault::Input),
@@ -181,8 +181,8 @@ impl Write for FailingWriter<'_> {
 
 #[test]
 fn stops_where_a_write_fails(rt: HostRuntime) {
-    let text: &[u8] = b"unit -\nunit\nbool 0101FF\nbool 0101";
-    let want: &[u8] = b"ok -\nbad line\nok 0101ff\nrefused 2\n";
+    let text: &[u8] = b"unit 0500\nunit\nbool 0101FF\nbool 0101";
+    let want: &[u8] = b"ok 0500\nbad line\nok 0101ff\nrefused 2\n";
     let faults = [
         (Some(ErrorKind::Other), Fault::Output),
         (Some(ErrorKind::OutOfMemory), Fault::Memory),
