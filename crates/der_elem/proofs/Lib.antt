@@ -5,3 +5,8 @@ pub mod Written
 pub mod Headed
 pub mod IntegerContents
 pub mod IntegerReads
+pub mod ItemWriting
+pub mod ItemReading
+pub mod Ordered
+pub mod Copied
+pub mod ArrayReading

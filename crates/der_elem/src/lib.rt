@@ -1,8 +1,10 @@
 //! The traits of encodings, with their laws, and the built-in types.
 #![tactic(auto)]
 
+mod array;
 mod blanket;
 mod boolean;
+mod boxed;
 mod contents;
 mod decode;
 mod duplicate;
@@ -10,12 +12,17 @@ mod encode;
 mod equality;
 mod form;
 mod integer;
+mod items;
+pub mod laws;
+mod optional;
 mod ord;
+mod readiness;
 mod sequence;
 mod tag;
 #[cfg(test)]
 mod tests;
 mod unit;
+mod vec;
 
 pub use contents::read_contents;
 pub use decode::{Decode, DecodeValue, FromDer};

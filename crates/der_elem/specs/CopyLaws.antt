@@ -1,0 +1,22 @@
+-- Copies of lists are as the lists, if copies of items are as the items.
+use Rattle.std.specs.List.{list_any}
+use Rattle.std.proofs.Common.{◌≡◌, ℕ, List, [], ◌∷◌, ◌++◌, Bool, ◌||◌, refl, sym, ap, ◌∙◌, subst, flat_map}
+use Rattle.der_elem.specs.declared.form.Form as form
+use Rattle.der_elem.specs.Items.{OneForms, AreCopies}
+
+module _ {T : Type 0} (F : form.Ghosts T) (is_copy : T → T → Type 0) where
+  pub copies_encoding : (copy_encoding : (v w : T) → is_copy v w → F.encoding w ≡ F.encoding v) (vs ws : List T) → AreCopies is_copy vs ws → flat_map F.encoding ws ≡ flat_map F.encoding vs
+  copies_encoding same [] ws c = ap (flat_map F.encoding) c
+  copies_encoding same (v ∷ vs) [] c = absurd c
+  copies_encoding same (v ∷ vs) (w ∷ ws) (c, cs) = ap (λ s. s ++ flat_map F.encoding ws) (same v w c) ∙ ap (λ s. F.encoding v ++ s) (copies_encoding same vs ws cs)
+
+  pub copies_form : (copy_form : (v w x : T) → is_copy v w → F.one_form v x → F.one_form w x) (vs ws xs : List T) → AreCopies is_copy vs ws → OneForms F.one_form vs xs → OneForms F.one_form ws xs
+  copies_form same [] ws xs c o = subst (λ ws. OneForms F.one_form ws xs) (sym c) o
+  copies_form same (v ∷ vs) [] xs c o = absurd c
+  copies_form same (v ∷ vs) (w ∷ ws) [] c o = tt
+  copies_form same (v ∷ vs) (w ∷ ws) (x ∷ xs) (c, cs) (o, os) = (same v w x c o, copies_form same vs ws xs cs os)
+
+  pub copies_re_read : (copy_re_reads : (v w : T) → is_copy v w → F.re_reads w ≡ F.re_reads v) (vs ws : List T) → AreCopies is_copy vs ws → list_any F.re_reads ws ≡ list_any F.re_reads vs
+  copies_re_read same [] ws c = ap (list_any F.re_reads) c
+  copies_re_read same (v ∷ vs) [] c = absurd c
+  copies_re_read same (v ∷ vs) (w ∷ ws) (c, cs) = ap (λ b. b || list_any F.re_reads ws) (same v w c) ∙ ap (λ b. F.re_reads v || b) (copies_re_read same vs ws cs)

@@ -1,0 +1,10 @@
+-- Whether a reader has failed.
+use Rattle.std.specs.Prelude.{◌≡◌, true, false, Result, Ok, Err}
+use Rattle.der_tlv.specs.declared.error.ErrorKind.TheVariants.{Failed}
+use Rattle.der_tlv.specs.declared.error.Error.{Error}
+use Rattle.der_tlv.specs.ReaderState.{ReaderState}
+
+-- what asking a reader answers: it stays as it is, or has failed before (17)
+abbrev pub AsksReady : ReaderState → ReaderState → Result (Unit {0}) Error → Type 0
+AsksReady old new (Ok u) = (old.failed ≡ false) × (new ≡ old)
+AsksReady old new (Err e) = (old.failed ≡ true) × (e.kind ≡ Failed) × (new.failed ≡ true)

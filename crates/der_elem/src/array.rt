@@ -1,0 +1,157 @@
+//! SEQUENCE OF with a fixed number of items: arrays.
+
+ghost use Rattle.std.specs.Prelude.{◌≡◌, flat_map, false, refl};
+ghost use Rattle.std.specs.List.{list_any};
+ghost use Rattle.std.proofs.Common.{lit<, ap, sym, subst};
+ghost use Rattle.der_tlv.specs.declared.tag.Tag.TheVariants as tags;
+ghost use Rattle.der_tlv.specs.HeaderOctets.{tlv};
+ghost use Rattle.der_elem.specs.Items.{OneForms};
+ghost use Rattle.der_elem.specs.Arrays.{AcceptsArray, ReadableArray, parse_array};
+ghost use Rattle.der_elem.specs.ArrayLaws.{parse_of_array, same_length_array, accepts_array_contents, readable_array, one_form_array, re_reads_items};
+ghost use Rattle.der_elem.specs.ReadingArrays.{DecodesItem, RefusesItem};
+ghost use Rattle.der_elem.specs.EqualityLaws.{encoding_eq_items};
+
+use crate::decode::{Decode, DecodeValue};
+use crate::duplicate::Duplicate;
+use crate::encode::{Encode, EncodeValue};
+use crate::equality::EncodingEq;
+use crate::form::{FixedTag, Form, FormValue};
+use crate::items::{cmp_items, encode_items, items_len};
+use crate::ord::{DerOrd, ValueOrd};
+use crate::readiness::ask_ready;
+use crate::sequence::Sequence;
+use crate::tag::Tagged;
+use der_tlv::{Error, ErrorKind, Header, Length, Reader, Tag, Writer};
+use std::alloc::Global;
+use std::cmp::Ordering;
+
+impl<T, const N: usize> FixedTag for [T; N] {
+    ghost TAG = { tags.Sequence };
+
+    const TAG: Tag = Tag::Sequence;
+
+    ghost tag_in_range = { lit< tt };
+}
+
+impl<'a, T, const N: usize> Sequence<'a> for [T; N] {
+    ghost is_sequence = { refl };
+}
+
+impl<T: Form, const N: usize> FormValue for [T; N] {
+    ghost contents = { flat_map T.encoding };
+
+    ghost one_form_value = { OneForms T.one_form };
+
+    ghost re_reads_value = { list_any T.re_reads };
+
+    ghost accepts_value = { λ rules. AcceptsArray (T.accepts rules) N };
+
+    ghost parse_value = { parse_array N T.parse };
+
+    ghost readable_value = { ReadableArray T.readable T.encoding N };
+
+    ghost has_tag = { λ v t. Unit {0} };
+
+    ghost VALUE_TAKES_MEMORY = { T.TAKES_MEMORY };
+
+    const VALUE_TAKES_MEMORY: bool = T::TAKES_MEMORY;
+
+    ghost parse_of_accepted_value = { λ rules. parse_of_array T.Form rules N };
+
+    ghost same_length_value = { λ rules. same_length_array T.Form rules N };
+
+    ghost accepts_contents = { λ rules. accepts_array_contents T.Form rules N };
+
+    ghost only_readable_value = { λ rules. readable_array T.Form rules N };
+
+    ghost accepts_one_form_value = { λ rules. one_form_array T.Form rules N };
+
+    ghost re_reads_memory_value = { re_reads_items T.Form };
+}
+
+impl<T: Encode + Tagged, const N: usize> EncodeValue for [T; N] {
+    fn value_len(&self) -> Result<Length, Error> {
+        items_len(self)
+    }
+
+    fn encode_value<W: Writer>(&self, writer: &mut W) -> Result<(), Error> {
+        encode_items(self, writer)
+    }
+}
+
+impl<T: DerOrd + Tagged, const N: usize> ValueOrd for [T; N] {
+    fn value_cmp(&self, other: &[T; N]) -> Result<Ordering, Error> {
+        cmp_items(self, other)
+    }
+}
+
+impl<T: EncodingEq + Tagged, const N: usize> EncodingEq for [T; N] {
+    ghost encoding_eq = { encoding_eq_items T.tag_of T.contents T.encoding T.encoding_is T.one_form T.eq T.encoding_eq tags.Sequence };
+}
+
+impl<'a, R: Reader<'a>, T: Decode<'a, R> + Tagged + Copy, const N: usize> DecodeValue<'a, R>
+    for [T; N] {
+    fn decode_value(alloc: Global, reader: &mut R, _header: Header) -> Result<[T; N], Error> {
+        ask_ready(reader)?;
+        let none: &[T] = &[];
+        if let Ok(items) = <[T; N]>::try_from(none) {
+            refuse_item::<R, T>(alloc, reader)?;
+            return Ok(items);
+        }
+        let mut items = [decode_item(alloc, reader)?; N];
+        'items: for i in 1..N {
+            items[i] = decode_item(alloc, reader)?;
+        }
+        refuse_item::<R, T>(alloc, reader)?;
+        Ok(items)
+    }
+}
+
+impl<T: Form + Copy, const N: usize> Duplicate for [T; N] {
+    ghost is_copy = { λ v w. w ≡ v };
+
+    ghost takes_memory_to_copy = { false };
+
+    fn duplicate(&self) -> Result<[T; N], Error> {
+        Ok(*self)
+    }
+
+    ghost copy_encoding = { λ v w e. ap (λ v. tlv tags.Sequence (flat_map T.encoding v)) e };
+
+    ghost copy_form = { λ v w x e. subst (λ v. OneForms T.one_form v x) (sym e) };
+
+    ghost copy_re_reads = { λ v w e. ap (list_any T.re_reads) e };
+}
+
+/// Reads the next item of an array.
+///
+/// # Errors
+/// (7) where there is none; the item's.
+fn decode_item<'a, R: Reader<'a>, T: Decode<'a, R>>(
+    alloc: Global,
+    reader: &mut R,
+) -> Result<T, Error>
+    ensures { DecodesItem T.Form (R.state reader.old) (R.state reader.new) result }
+{
+    if reader.is_finished() {
+        return Err(reader.error(Tag::Sequence.length_error()));
+    }
+    T::decode(alloc, reader)
+}
+
+/// Asks that there is no item more.
+///
+/// # Errors
+/// The item's; (10) for an item.
+fn refuse_item<'a, R: Reader<'a>, T: Decode<'a, R>>(
+    alloc: Global,
+    reader: &mut R,
+) -> Result<(), Error>
+    ensures { RefusesItem T.Form (R.state reader.old) (R.state reader.new) result }
+{
+    if reader.is_finished() {
+        return Ok(());
+    }
+    let _item = T::decode(alloc, reader)?;
+    Err(reader.error(ErrorKind::Overlength))
+}

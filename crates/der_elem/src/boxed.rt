@@ -1,0 +1,74 @@
+//! Values on the heap, which are encoded as the values.
+
+ghost use Rattle.std.specs.Prelude.{◌≡◌, true, refl};
+
+use crate::decode::DecodeValue;
+use crate::encode::EncodeValue;
+use crate::form::{FixedTag, FormValue};
+use crate::sequence::Sequence;
+use der_tlv::{Error, ErrorKind, Header, Length, Reader, Tag, Writer};
+use std::alloc::Global;
+
+impl<T: FixedTag> FixedTag for Box<T> {
+    ghost TAG = { T.TAG };
+
+    const TAG: Tag = T::TAG;
+
+    ghost tag_in_range = { T.tag_in_range };
+}
+
+impl<'a, T: Sequence<'a>> Sequence<'a> for Box<T> {
+    ghost is_sequence = { T.is_sequence };
+}
+
+impl<T: FormValue> FormValue for Box<T> {
+    ghost contents = { λ v. T.contents v.value };
+
+    ghost one_form_value = { λ v w. T.one_form_value v.value w.value };
+
+    ghost re_reads_value = { λ v. T.re_reads_value v.value };
+
+    ghost accepts_value = { λ rules v. T.accepts_value rules v.value };
+
+    ghost parse_value = { T.parse_value };
+
+    ghost readable_value = { λ v. T.readable_value v.value };
+
+    ghost has_tag = { λ v. T.has_tag v.value };
+
+    ghost VALUE_TAKES_MEMORY = { true };
+
+    const VALUE_TAKES_MEMORY: bool = true;
+
+    ghost parse_of_accepted_value = { λ rules v. T.parse_of_accepted_value rules v.value };
+
+    ghost same_length_value = { λ rules v. T.same_length_value rules v.value };
+
+    ghost accepts_contents = { λ rules v. T.accepts_contents rules v.value };
+
+    ghost only_readable_value = { λ rules v. T.only_readable_value rules v.value };
+
+    ghost accepts_one_form_value = { λ rules v w. T.accepts_one_form_value rules v.value w.value };
+
+    ghost re_reads_memory_value = { λ v h. refl };
+}
+
+impl<'a, R: Reader<'a>, T: DecodeValue<'a, R>> DecodeValue<'a, R> for Box<T> {
+    fn decode_value(alloc: Global, reader: &mut R, header: Header) -> Result<Box<T>, Error> {
+        let value = T::decode_value(alloc, reader, header)?;
+        match Box::new(alloc, value) {
+            Ok(boxed) => Ok(boxed),
+            Err(_) => Err(reader.error(ErrorKind::Memory)),
+        }
+    }
+}
+
+impl<T: EncodeValue> EncodeValue for Box<T> {
+    fn value_len(&self) -> Result<Length, Error> {
+        self.as_ref().value_len()
+    }
+
+    fn encode_value<W: Writer>(&self, writer: &mut W) -> Result<(), Error> {
+        self.as_ref().encode_value(writer)
+    }
+}

@@ -1,0 +1,114 @@
+//! Values that may be absent, and then have no octets (X.690 8.9.3).
+
+ghost use Rattle.der_elem.specs.Options.{encoding_option, one_form_option, test_option, accepts_option, readable_option, is_copy_option, parse_option};
+ghost use Rattle.der_elem.specs.OptionLaws.{parse_of_option, begins_option, same_length_option, accepts_option_encoding, readable_of_option, one_form_of_option, re_reads_option, copy_encoding_option, copy_form_option, copy_re_reads_option, encoding_eq_option};
+
+use crate::decode::Decode;
+use crate::duplicate::Duplicate;
+use crate::encode::Encode;
+use crate::equality::EncodingEq;
+use crate::form::Form;
+use crate::ord::DerOrd;
+use crate::readiness::ask_ready;
+use crate::tag::{Choice, Tagged};
+use der_tlv::{Error, Length, Reader, Tag, Writer};
+use std::alloc::Global;
+use std::cmp::Ordering;
+
+impl<T: Form> Form for Option<T> {
+    ghost encoding = { encoding_option T.encoding };
+
+    ghost one_form = { one_form_option T.one_form };
+
+    ghost re_reads = { test_option T.re_reads };
+
+    ghost accepts = { λ rules. accepts_option (T.accepts rules) };
+
+    ghost parse = { parse_option T.tags T.parse };
+
+    ghost tags = { T.tags };
+
+    ghost readable = { readable_option T.readable };
+
+    ghost TAKES_MEMORY = { T.TAKES_MEMORY };
+
+    const TAKES_MEMORY: bool = T::TAKES_MEMORY;
+
+    ghost parse_of_accepted = { parse_of_option T.Form };
+
+    ghost begins = { λ rules v z b. begins_option T.Form rules v z b };
+
+    ghost same_length = { same_length_option T.Form };
+
+    ghost accepts_encoding = { accepts_option_encoding T.Form };
+
+    ghost only_readable = { readable_of_option T.Form };
+
+    ghost accepts_one_form = { one_form_of_option T.Form };
+
+    ghost re_reads_memory = { re_reads_option T.Form };
+}
+
+impl<'a, R: Reader<'a>, T: Decode<'a, R> + Choice> Decode<'a, R> for Option<T> {
+    fn decode(alloc: Global, reader: &mut R) -> Result<Option<T>, Error> {
+        if reader.is_finished() {
+            ask_ready(reader)?;
+            return Ok(None);
+        }
+        let tag = Tag::peek(reader)?;
+        if !T::can_decode(tag) {
+            return Ok(None);
+        }
+        Ok(Some(T::decode(alloc, reader)?))
+    }
+}
+
+impl<T: Encode> Encode for Option<T> {
+    fn encoded_len(&self) -> Result<Length, Error> {
+        match self {
+            Some(value) => value.encoded_len(),
+            None => Ok(Length::ZERO),
+        }
+    }
+
+    fn encode<W: Writer>(&self, writer: &mut W) -> Result<(), Error> {
+        match self {
+            Some(value) => value.encode(writer),
+            None => Ok(()),
+        }
+    }
+}
+
+impl<T: DerOrd + Tagged> DerOrd for Option<T> {
+    fn der_cmp(&self, other: &Option<T>) -> Result<Ordering, Error> {
+        match (self, other) {
+            (Some(value), Some(other)) => value.der_cmp(other),
+            (None, None) => Ok(Ordering::Equal),
+            (None, Some(_)) => Ok(Ordering::Less),
+            (Some(_), None) => Ok(Ordering::Greater),
+        }
+    }
+}
+
+impl<T: EncodingEq + Tagged> EncodingEq for Option<T> {
+    ghost encoding_eq = { encoding_eq_option T.tag_of T.contents T.encoding T.encoding_is T.one_form T.eq T.encoding_eq };
+}
+
+impl<T: Duplicate> Duplicate for Option<T> {
+    ghost is_copy = { is_copy_option T.is_copy };
+
+    ghost takes_memory_to_copy = { T.takes_memory_to_copy };
+
+    fn duplicate(&self) -> Result<Option<T>, Error> {
+        match self {
+            Some(value) => Ok(Some(value.duplicate()?)),
+            None => Ok(None),
+        }
+    }
+
+    ghost copy_encoding = { copy_encoding_option T.Form T.is_copy T.copy_encoding };
+
+    ghost copy_form = { copy_form_option T.Form T.is_copy T.copy_form };
+
+    ghost copy_re_reads = { copy_re_reads_option T.Form T.is_copy T.copy_re_reads };
+}

@@ -1,0 +1,119 @@
+//! SEQUENCE OF: lists of items.
+
+ghost use Rattle.std.specs.Prelude.{◌≡◌, ℕ, List, flat_map, true, refl};
+ghost use Rattle.std.specs.List.{list_any};
+ghost use Rattle.der_tlv.specs.declared.tag.Tag.TheVariants as tags;
+ghost use Rattle.std.proofs.Common.{lit<, ap};
+ghost use Rattle.der_tlv.specs.HeaderOctets.{tlv};
+ghost use Rattle.der_elem.specs.Items.{AcceptsItems, EachItem, parse_items, OneForms, AreCopies};
+ghost use Rattle.der_elem.specs.EqualityLaws.{encoding_eq_items};
+ghost use Rattle.der_elem.specs.CopyLaws.{copies_encoding, copies_form, copies_re_read};
+ghost use Rattle.der_elem.specs.ItemLaws.{parse_of_items, same_length_items, accepts_items_contents, readable_items, one_form_items};
+
+use crate::decode::{Decode, DecodeValue};
+use crate::duplicate::Duplicate;
+use crate::encode::{Encode, EncodeValue};
+use crate::equality::EncodingEq;
+use crate::form::{FixedTag, Form, FormValue};
+use crate::items::{cmp_items, duplicate_items, encode_items, items_len};
+use crate::ord::{DerOrd, ValueOrd};
+use crate::readiness::ask_ready;
+use crate::sequence::Sequence;
+use crate::tag::Tagged;
+use der_tlv::{Error, ErrorKind, Header, Length, Reader, Tag, Writer};
+use std::alloc::Global;
+use std::cmp::Ordering;
+
+impl<T> FixedTag for Vec<T> {
+    ghost TAG = { tags.Sequence };
+
+    const TAG: Tag = Tag::Sequence;
+
+    ghost tag_in_range = { lit< tt };
+}
+
+impl<'a, T> Sequence<'a> for Vec<T> {
+    ghost is_sequence = { refl };
+}
+
+impl<T: Form> FormValue for Vec<T> {
+    ghost contents = { λ v. flat_map T.encoding v.items };
+
+    ghost one_form_value = { λ v w. OneForms T.one_form v.items w.items };
+
+    ghost re_reads_value = { λ v. list_any T.re_reads v.items };
+
+    ghost accepts_value = { λ rules v. AcceptsItems (T.accepts rules) v.items };
+
+    ghost parse_value = { parse_items T.parse };
+
+    ghost readable_value = { λ v. EachItem T.readable v.items };
+
+    ghost has_tag = { λ v t. Unit {0} };
+
+    ghost VALUE_TAKES_MEMORY = { true };
+
+    const VALUE_TAKES_MEMORY: bool = true;
+
+    ghost parse_of_accepted_value = { λ rules v. parse_of_items T.Form rules v.items };
+
+    ghost same_length_value = { λ rules v. same_length_items T.Form rules v.items };
+
+    ghost accepts_contents = { λ rules v. accepts_items_contents T.Form rules v.items };
+
+    ghost only_readable_value = { λ rules v. readable_items T.Form rules v.items };
+
+    ghost accepts_one_form_value = { λ rules v w. one_form_items T.Form rules v.items w.items };
+
+    ghost re_reads_memory_value = { λ v h. refl };
+}
+
+impl<'a, R: Reader<'a>, T: Decode<'a, R> + Tagged> DecodeValue<'a, R> for Vec<T> {
+    fn decode_value(alloc: Global, reader: &mut R, _header: Header) -> Result<Vec<T>, Error> {
+        ask_ready(reader)?;
+        let mut items = Vec::new(alloc);
+        'items: while !reader.is_finished() {
+            let item = T::decode(alloc, reader)?;
+            if items.push(item).is_err() {
+                return Err(reader.error(ErrorKind::Memory));
+            }
+        }
+        Ok(items)
+    }
+}
+
+impl<T: Encode + Tagged> EncodeValue for Vec<T> {
+    fn value_len(&self) -> Result<Length, Error> {
+        items_len(self)
+    }
+
+    fn encode_value<W: Writer>(&self, writer: &mut W) -> Result<(), Error> {
+        encode_items(self, writer)
+    }
+}
+
+impl<T: DerOrd + Tagged> ValueOrd for Vec<T> {
+    fn value_cmp(&self, other: &Vec<T>) -> Result<Ordering, Error> {
+        cmp_items(self, other)
+    }
+}
+
+impl<T: EncodingEq + Tagged> EncodingEq for Vec<T> {
+    ghost encoding_eq = { λ v w. encoding_eq_items T.tag_of T.contents T.encoding T.encoding_is T.one_form T.eq T.encoding_eq tags.Sequence v.items w.items };
+}
+
+impl<T: Duplicate> Duplicate for Vec<T> {
+    ghost is_copy = { λ v w. AreCopies T.is_copy v.items w.items };
+
+    ghost takes_memory_to_copy = { true };
+
+    fn duplicate(&self) -> Result<Vec<T>, Error> {
+        duplicate_items(*self.allocator(), self)
+    }
+
+    ghost copy_encoding = { λ v w c. ap (tlv tags.Sequence) (copies_encoding T.Form T.is_copy T.copy_encoding v.items w.items c) };
+
+    ghost copy_form = { λ v w x. copies_form T.Form T.is_copy T.copy_form v.items w.items x.items };
+
+    ghost copy_re_reads = { λ v w. copies_re_read T.Form T.is_copy T.copy_re_reads v.items w.items };
+}
