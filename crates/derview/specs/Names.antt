@@ -6,7 +6,11 @@ use Rattle.der_tlv.specs.declared.error.Error.{Error}
 use Rattle.der_tlv.specs.declared.error.ErrorKind.{ErrorKind}
 use Rattle.der_tlv.specs.declared.error.ErrorKind.TheVariants.{Memory}
 use Rattle.der_tlv.specs.declared.tag.Tag.{Tag}
-use Rattle.der_tlv.specs.declared.tag.Tag.TheVariants.{Boolean, Integer, Null}
+use Rattle.der_tlv.specs.declared.tag.Tag.TheVariants.{Boolean, Integer, Null, Sequence}
+use Rattle.der_tlv.specs.Identifier.{same_identifier}
+use Rattle.der_elem.specs.Items.{parse_items}
+use Rattle.der_elem.specs.Arrays.{parse_array}
+use Rattle.der_elem.specs.Options.{parse_option}
 use Rattle.der_elem.specs.Parsing.{Parse, ContentsParse, parse_tagged}
 use Rattle.der_elem.specs.Decoding.{parse_all}
 use Rattle.der_elem.specs.Boolean.{parse_boolean}
@@ -47,6 +51,14 @@ unsigned_types name =
     else if bytes_eq name (codes "u128") then Some (canonical_tagged Integer (parse_unsigned 16))
     else None
 
+-- a list of 64-bit integers, a pair of octets, and an octet that may be absent
+unfoldable pub composed_types : List ℕ → Option CanonicalFunction
+composed_types name =
+    if bytes_eq name (codes "vec-i64") then Some (canonical_tagged Sequence (parse_items (parse_tagged Integer (parse_signed 8))))
+    else if bytes_eq name (codes "array2-u8") then Some (canonical_tagged Sequence (parse_array 2 (parse_tagged Integer (parse_unsigned 1))))
+    else if bytes_eq name (codes "opt-u8") then Some (parse_all (parse_option (λ tag. same_identifier tag Integer) (parse_tagged Integer (parse_unsigned 1))))
+    else None
+
 -- the first of two that there is
 abbrev pub or_else : Option CanonicalFunction → Option CanonicalFunction → Option CanonicalFunction
 or_else None other = other
@@ -54,7 +66,7 @@ or_else (Some function) other = Some function
 
 -- the function of the type with a name
 unfoldable pub canonical_function_of : List ℕ → Option CanonicalFunction
-canonical_function_of name = or_else (plain_types name) (or_else (signed_types name) (unsigned_types name))
+canonical_function_of name = or_else (plain_types name) (or_else (signed_types name) (or_else (unsigned_types name) (composed_types name)))
 
 -- the result is what the function gives, unless memory was refused
 abbrev pub Gives : Result (Vec ℕ Global) Error → Result (List ℕ) ErrorKind → Type 0

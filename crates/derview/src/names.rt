@@ -1,7 +1,7 @@
 //! The types by their names.
 ghost use Rattle.std.specs.Prelude.{◌≡◌};
 ghost use Rattle.std.specs.Str.{bytes_eq};
-ghost use Rattle.derview.specs.Names.{canonical_function_of, plain_types, signed_types, unsigned_types, AnswersAs};
+ghost use Rattle.derview.specs.Names.{canonical_function_of, plain_types, signed_types, unsigned_types, composed_types, AnswersAs};
 
 use crate::canonical::canonical;
 use der_tlv::Error;
@@ -34,7 +34,10 @@ pub fn canonical_of_name(
     if let Some(canonical) = canonical_of_signed(alloc, name, octets) {
         return Some(canonical);
     }
-    canonical_of_unsigned(alloc, name, octets)
+    if let Some(canonical) = canonical_of_unsigned(alloc, name, octets) {
+        return Some(canonical);
+    }
+    canonical_of_composed(alloc, name, octets)
 }
 
 #[tactic(auto, unfolding(crate::specs::Names::plain_types))]
@@ -77,6 +80,22 @@ fn canonical_of_unsigned(
         "u32" => u32,
         "u64" => u64,
         "u128" => u128,
+    }
+}
+
+#[tactic(auto, unfolding(crate::specs::Names::composed_types))]
+fn canonical_of_composed(
+    alloc: Global,
+    name: &[u8],
+    octets: &[u8],
+) -> Option<Result<Vec<u8>, Error>>
+    ensures { AnswersAs (composed_types name.now) octets.now result }
+{
+    choose! {
+        alloc, name, octets;
+        "vec-i64" => Vec<i64>,
+        "array2-u8" => [u8; 2],
+        "opt-u8" => Option<u8>,
     }
 }
 
