@@ -1,16 +1,16 @@
 -- Octets that are an encoding and nothing else.
-use Rattle.std.proofs.Common.{◌≡◌, ℕ, ◌+◌, ◌-◌, ◌^◌, nat_lt, ◌<◌, ◌≤◌, List, [], ◌∷◌, ◌++◌, length, take, drop, Bool, true, false, ◌⊎◌, inl, inr, Result, Ok, Err, refl, sym, ap, ◌∙◌, subst, arith, ◌&&◌, not, ◌==◌, nat_eq}
-use Rattle.std.proofs.lemmas.List.{append-nil, length-take}
+use Rattle.std.proofs.Common.{◌≡◌, ℕ, ◌+◌, ◌-◌, ◌^◌, nat_lt, ◌≤◌, List, [], ◌∷◌, length, take, Bool, true, false, ◌⊎◌, inl, inr, Ok, Err, refl, sym, ap, ◌∙◌, subst, arith, ◌&&◌, not, ◌==◌}
+use Rattle.std.proofs.lemmas.List.{append-nil}
 use Rattle.std.proofs.lemmas.Bool.Decides.{nat_tests}
 use Rattle.std.proofs.Math.Seq.{take-length}
 use Rattle.der_tlv.specs.declared.error.ErrorKind.{ErrorKind}
 use Rattle.der_tlv.specs.declared.error.ErrorKind.TheVariants.{Memory, Overflow, TrailingData}
 use Rattle.der_tlv.specs.declared.encoding_rules.EncodingRules.TheVariants.{Der}
 use Rattle.der_tlv.specs.declared.tag.Tag.{Tag}
-use Rattle.der_tlv.specs.ReaderState.{ReaderState, rest, opened, after_read, seen, can_finish, finish_fault}
+use Rattle.der_tlv.specs.ReaderState.{ReaderState, rest, opened, can_finish, finish_fault}
 use Rattle.der_elem.specs.declared.form.Form as form
 use Rattle.der_elem.specs.Accepting.{Fits, MayFollow}
-use Rattle.der_elem.specs.Decoding.{Faults, Decoded, NotDecoded, parse_all, all_parsed, AllRead, NotAllRead}
+use Rattle.der_elem.specs.Decoding.{Decoded, NotDecoded, parse_all, all_parsed, AllRead, NotAllRead}
 
 -- a new reader of all of the octets
 pub record OpenOf (octets : List ℕ) (s : ReaderState) : Type 0 where

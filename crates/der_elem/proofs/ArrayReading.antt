@@ -1,11 +1,10 @@
 -- A fixed number of items that are read one after another.
-use Rattle.std.proofs.Common.{◌≡◌, ℕ, zero, suc, ◌+◌, ◌-◌, ◌<◌, List, [], ◌∷◌, ◌++◌, length, take, drop, Bool, true, false, Result, Ok, Err, refl, sym, ap, ◌∙◌, arith, flat_map, inl, inr, subst, append_assoc, add_assoc, add-one}
+use Rattle.std.proofs.Common.{◌≡◌, ℕ, zero, suc, ◌+◌, ◌-◌, ◌<◌, List, [], ◌∷◌, ◌++◌, length, take, drop, false, Ok, Err, refl, sym, ap, ◌∙◌, arith, flat_map, inl, inr, subst, add_assoc, add-one}
 use Rattle.std.proofs.Math.Seq.{take-add, take-length, take-suc-set}
 use Rattle.std.proofs.Math.ListN.{replicate, set}
 use Rattle.std.proofs.lemmas.List.{flat_map_more, length-append, append-nil}
 use Rattle.der_tlv.specs.declared.error.ErrorKind.{ErrorKind}
-use Rattle.der_tlv.specs.declared.error.ErrorKind.TheVariants.{Overlength}
-use Rattle.der_tlv.specs.ReaderState.{ReaderState, IsReaderState, rest, after_read, seen}
+use Rattle.der_tlv.specs.ReaderState.{ReaderState, rest, after_read, seen}
 use Rattle.der_elem.specs.declared.form.Form as form
 use Rattle.der_elem.specs.Decoding.{Faults}
 use Rattle.der_elem.specs.Items.{AcceptsItems, join_items}

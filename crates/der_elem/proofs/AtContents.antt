@@ -1,6 +1,6 @@
 -- A reader that has read a header, and shows the contents octets alone.
-use Rattle.std.proofs.Common.{◌≡◌, ℕ, suc, ◌+◌, ◌<◌, ◌≤◌, ◌^◌, List, [], ◌∷◌, ◌++◌, length, take, drop, Bool, true, false, Result, Ok, Err, refl, sym, ap, ◌∙◌, arith, subst, nat_lt, nat_le, ◌==◌, ◌&&◌, not, inl, inr, ◌⊎◌, Some, if◌then◌else◌}
-use Rattle.std.proofs.lemmas.List.{length-take, length-drop, length-append}
+use Rattle.std.proofs.Common.{◌≡◌, ℕ, ◌+◌, ◌≤◌, ◌^◌, List, ◌++◌, length, take, drop, true, false, Result, Err, refl, sym, ap, ◌∙◌, arith, nat_lt, nat_le, ◌==◌, Some, if◌then◌else◌}
+use Rattle.std.proofs.lemmas.List.{length-take}
 use Rattle.std.proofs.Math.Seq.{take-add}
 use Rattle.std.proofs.lemmas.Bool.Decides.{nat_tests}
 use Rattle.der_tlv.specs.declared.error.ErrorKind.{ErrorKind}
@@ -12,10 +12,9 @@ use Rattle.der_tlv.specs.Identifier.{same_identifier}
 use Rattle.der_tlv.specs.HeaderOctets.{header_octets, tlv}
 use Rattle.der_tlv.specs.HeaderReading.{read_header, octets_of}
 use Rattle.der_tlv.specs.HeaderLaws.{same_identifier-same}
-use Rattle.der_tlv.specs.Reading.{HeadRead, HeadFault, Nested, OctetsRefused, Unnested, UnnestRefused}
-use Rattle.der_tlv.specs.ReaderState.{ReaderState, IsReaderState, rest, after_read, nested, unnested, seen, can_read, read_fault, read_fault_at, can_unnest}
+use Rattle.der_tlv.specs.Reading.{HeadRead, Nested, OctetsRefused}
+use Rattle.der_tlv.specs.ReaderState.{ReaderState, IsReaderState, rest, after_read, unnested, read_fault, read_fault_at, can_unnest}
 use Rattle.der_tlv.proofs.ReaderStates.{rest-after_read, length-rest, rest-nested, room_from_can_read}
-use Rattle.der_tlv.proofs.Lengths.{after_more}
 use Rattle.der_elem.specs.Parsing.{ContentsParse, parse_tagged, parse_with_tag, parse_contents, tagged_contents}
 
 -- the fault of a read of n octets at p, of a reader with this end

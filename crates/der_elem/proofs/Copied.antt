@@ -1,5 +1,5 @@
 -- Copies of the items of a list, one by one.
-use Rattle.std.proofs.Common.{◌≡◌, ℕ, ◌+◌, ◌<◌, List, [], ◌∷◌, ◌++◌, length, take, get_or, refl, ap, subst, sym, ◌∙◌, add-one}
+use Rattle.std.proofs.Common.{◌≡◌, ℕ, ◌+◌, ◌<◌, List, [], ◌∷◌, ◌++◌, length, take, get_or, refl, ap, subst, sym, add-one}
 use Rattle.std.proofs.Math.Seq.{take-suc}
 use Rattle.der_elem.specs.Items.{AreCopies}
 

@@ -1,5 +1,5 @@
 -- Octets that are written part by part.
-use Rattle.std.proofs.Common.{◌≡◌, ℕ, zero, suc, ◌+◌, ◌<◌, ◌≤◌, ◌^◌, List, [], ◌∷◌, ◌++◌, length, take, drop, get_or, Bool, true, false, ◌⊎◌, inl, inr, IsTrue, Result, Ok, Err, refl, sym, ap, ◌∙◌, arith, subst, append_assoc, flat_map, min}
+use Rattle.std.proofs.Common.{◌≡◌, ℕ, zero, suc, ◌+◌, ◌<◌, ◌≤◌, List, [], ◌∷◌, ◌++◌, length, take, drop, get_or, Bool, true, inl, inr, IsTrue, Err, refl, sym, ap, ◌∙◌, arith, subst, append_assoc, flat_map, min}
 use Rattle.std.specs.List.{list_any}
 use Rattle.std.proofs.lemmas.List.{length-append, take-append-le, take_min, append-nil}
 use Rattle.std.proofs.lemmas.List.Folds.{list_any_at, length-flat_map-take}
@@ -7,7 +7,7 @@ use Rattle.std.proofs.Math.Seq.{take-append-add}
 use Rattle.der_tlv.specs.declared.error.ErrorKind.{ErrorKind}
 use Rattle.der_tlv.specs.declared.error.Error.{Error}
 use Rattle.der_tlv.specs.Writing.{WriterState, Wrote, WriterRefused}
-use Rattle.der_elem.specs.Encoding.{Stops, Stopped, Encodes}
+use Rattle.der_elem.specs.Encoding.{Stops, Encodes}
 
 pub wrote_nothing : (s : WriterState) → Wrote [] s s
 wrote_nothing s = record { taken = sym (append-nil s.taken); failed = refl; room = omega arith; may_refuse = refl }

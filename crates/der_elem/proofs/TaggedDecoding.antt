@@ -1,7 +1,7 @@
 -- Decoding an encoding with one tag: its faults, and its value.
-use Rattle.std.proofs.Common.{◌≡◌, ℕ, ◌+◌, List, length, take, drop, Bool, true, false, Result, Ok, Err, Some, refl, sym, ap, ◌∙◌, subst, inl, inr, ◌⊎◌}
+use Rattle.std.proofs.Common.{◌≡◌, ℕ, ◌+◌, length, take, Bool, true, false, Ok, Err, Some, refl, sym, ap, ◌∙◌, subst, inl, inr}
 use Rattle.der_tlv.specs.declared.error.ErrorKind.{ErrorKind}
-use Rattle.der_tlv.specs.declared.error.ErrorKind.TheVariants.{Failed, TagUnexpected, Memory}
+use Rattle.der_tlv.specs.declared.error.ErrorKind.TheVariants.{Failed, TagUnexpected}
 use Rattle.der_tlv.specs.declared.encoding_rules.EncodingRules.{EncodingRules}
 use Rattle.der_tlv.specs.declared.header.Header.{Header}
 use Rattle.der_tlv.specs.declared.tag.Tag.{Tag}
@@ -9,12 +9,12 @@ use Rattle.der_tlv.specs.Identifier.{same_identifier}
 use Rattle.der_tlv.specs.HeaderOctets.{tlv}
 use Rattle.der_tlv.specs.HeaderReading.{read_header, octets_of}
 use Rattle.der_tlv.specs.Reading.{HeadFault, OctetsRefused}
-use Rattle.der_tlv.specs.ReaderState.{ReaderState, rest, after_read, unnested, seen}
+use Rattle.der_tlv.specs.ReaderState.{ReaderState, rest, seen}
 use Rattle.der_elem.specs.declared.form.FormValue as value
 use Rattle.der_elem.specs.Parsing.{ContentsParse, parse_tagged, parse_with_tag, tagged_contents}
 use Rattle.der_elem.specs.Accepting.{accepts_tagged}
 use Rattle.der_elem.specs.Decoding.{Faults, ValueDecoded, ValueNotDecoded}
-use Rattle.der_elem.proofs.AtContents.{AtHeader, AtContents, parse_behind, parse_own_tag, parse_other_tag, parse_too_long, shown_ready, shown_rules, parse_shown, taken, after_contents}
+use Rattle.der_elem.proofs.AtContents.{AtHeader, AtContents, parse_own_tag, parse_other_tag, parse_too_long, shown_ready, shown_rules, parse_shown, taken}
 
 -- the header's fault is that of the whole encoding
 pub header_fault : {old new : ReaderState} {kind : ErrorKind} → HeadFault read_header old new kind → (t : Tag) (parse : ContentsParse) (rules : EncodingRules) → seen (parse_tagged t parse rules) old ≡ Err kind

@@ -1,5 +1,5 @@
 -- Which octets a value is read from, and what may follow them.
-use Rattle.std.specs.Prelude.{◌≡◌, ℕ, ◌<◌, ◌^◌, List, [], ◌∷◌, ◌++◌, length, Bool, true, false}
+use Rattle.std.specs.Prelude.{◌≡◌, ℕ, ◌<◌, ◌^◌, List, [], ◌∷◌, ◌++◌, length, Bool, false}
 use Rattle.der_tlv.specs.declared.encoding_rules.EncodingRules.{EncodingRules}
 use Rattle.der_tlv.specs.declared.tag.Tag.{Tag}
 use Rattle.der_tlv.specs.TagParts.{IsTag}

@@ -1,8 +1,7 @@
 -- The laws of lists of a fixed number of items, from those of the items.
 use Rattle.std.specs.List.{list_any}
-use Rattle.std.proofs.Common.{◌≡◌, ℕ, zero, suc, ◌+◌, ◌<◌, ◌||◌, List, [], ◌∷◌, ◌++◌, length, drop, Bool, true, false, Result, Ok, Err, refl, sym, ap, ◌∙◌, arith, flat_map}
+use Rattle.std.proofs.Common.{◌≡◌, ℕ, suc, ◌+◌, ◌<◌, ◌||◌, List, [], ◌∷◌, ◌++◌, length, drop, Bool, true, false, Ok, Err, refl, sym, ap, ◌∙◌, arith, flat_map}
 use Rattle.std.proofs.Math.Seq.{drop-append_seam}
-use Rattle.der_tlv.specs.declared.error.ErrorKind.{ErrorKind}
 use Rattle.der_tlv.specs.declared.error.ErrorKind.TheVariants.{Length}
 use Rattle.der_tlv.specs.declared.tag.Tag.TheVariants.{Sequence}
 use Rattle.der_tlv.specs.declared.encoding_rules.EncodingRules.{EncodingRules}
@@ -11,7 +10,7 @@ use Rattle.der_elem.specs.Parsing.{Parse}
 use Rattle.der_elem.specs.Accepting.{Fits}
 use Rattle.der_elem.specs.Items.{AcceptsItems, EachItem, OneForms, join_items}
 use Rattle.der_elem.specs.ItemLaws.{first_fits, others_fit, same_length_items, one_form_items}
-use Rattle.der_elem.specs.Arrays.{AcceptsArray, ReadableArray, then_item, too_many, parse_so_many, parse_array}
+use Rattle.der_elem.specs.Arrays.{AcceptsArray, ReadableArray, then_item, too_many, parse_array}
 
 pub parse_array-end : (parse : Parse) (rules : EncodingRules) (p : ℕ) → parse_array 0 parse rules p [] ≡ Ok []
 unfolding parse_array

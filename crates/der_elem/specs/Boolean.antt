@@ -18,10 +18,12 @@ parse_boolean rules p [] = Err (kinds.Length Boolean)
 parse_boolean rules p (octet ∷ []) = if octet == 0 || octet == 255 then Ok (octet ∷ []) else Err (kinds.Noncanonical Boolean)
 parse_boolean rules p (octet ∷ second ∷ others) = Err (kinds.Length Boolean)
 
+-- the contents octets of a value are read
 pub parse_boolean-own : (rules : EncodingRules) (v : Bool) (p : ℕ) → parse_boolean rules p (boolean_contents v) ≡ Ok (boolean_contents v)
 parse_boolean-own rules false p = refl
 parse_boolean-own rules true p = refl
 
+-- no two values have the same contents octets
 pub boolean_contents-injective : (v w : Bool) → boolean_contents v ≡ boolean_contents w → v ≡ w
 boolean_contents-injective false false e = refl
 boolean_contents-injective false true e = cc

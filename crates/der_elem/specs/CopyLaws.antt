@@ -1,6 +1,6 @@
 -- Copies of lists are as the lists, if copies of items are as the items.
 use Rattle.std.specs.List.{list_any}
-use Rattle.std.proofs.Common.{◌≡◌, ℕ, List, [], ◌∷◌, ◌++◌, Bool, ◌||◌, refl, sym, ap, ◌∙◌, subst, flat_map}
+use Rattle.std.proofs.Common.{◌≡◌, List, [], ◌∷◌, ◌++◌, ◌||◌, sym, ap, ◌∙◌, subst, flat_map}
 use Rattle.der_elem.specs.declared.form.Form as form
 use Rattle.der_elem.specs.Items.{OneForms, AreCopies}
 

@@ -1,5 +1,5 @@
 -- What the calls that read answer, and where the reader stands after each.
-use Rattle.std.specs.Prelude.{◌≡◌, ℕ, ◌+◌, ◌-◌, ◌<◌, ◌≤◌, ◌^◌, List, [], length, take, nat_lt, ◌==◌, if◌then◌else◌, Bool, true, false, ◌⊎◌, Result, Ok, Err}
+use Rattle.std.specs.Prelude.{◌≡◌, ℕ, ◌-◌, ◌<◌, ◌^◌, List, length, take, nat_lt, ◌==◌, if◌then◌else◌, Bool, true, false, ◌⊎◌, Result, Ok, Err}
 use Rattle.der_tlv.specs.declared.error.ErrorKind.{ErrorKind}
 use Rattle.der_tlv.specs.declared.error.ErrorKind.TheVariants.{Memory, Overflow, TrailingData}
 use Rattle.der_tlv.specs.declared.error.Error.{Error}

@@ -26,9 +26,11 @@ unsigned_or_fault width (first ∷ others) =
     else (if nat_le 128 first then Err (kinds.Value Integer)
     else (if fits_unsigned width (first ∷ others) then Ok (first ∷ others) else Err (kinds.Length Integer)))
 
+-- the same as a parse of contents octets, under all rules and at every position
 abbrev pub parse_signed : ℕ → ContentsParse
 parse_signed width rules p octets = signed_or_fault width octets
 
+-- the same of a number that is not negative
 abbrev pub parse_unsigned : ℕ → ContentsParse
 parse_unsigned width rules p octets = unsigned_or_fault width octets
 
@@ -37,6 +39,7 @@ abbrev pub ReadsSigned : ℕ → List ℕ → Result ℤ ErrorKind → Type 0
 ReadsSigned width octets (Ok integer) = (octets ≡ integer_contents integer) × FitsSignedWidth width integer
 ReadsSigned width octets (Err kind) = signed_or_fault width octets ≡ Err kind
 
+-- the same of a number that is not negative
 abbrev pub ReadsUnsigned : ℕ → List ℕ → Result ℕ ErrorKind → Type 0
 ReadsUnsigned width octets (Ok number) = (octets ≡ natural_contents number) × FitsUnsignedWidth width number
 ReadsUnsigned width octets (Err kind) = unsigned_or_fault width octets ≡ Err kind

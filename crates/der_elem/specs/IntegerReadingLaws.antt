@@ -22,7 +22,7 @@ signed_or_fault-ok width (first ∷ others) some within needed =
     fault_unless (nat_lt width (length (first ∷ others))) (is_redundant (first ∷ others)) (Err (kinds.Noncanonical Integer)) (Ok (first ∷ others)) few needed
 
 -- octets that are not redundant have no needless 00
-pub needless_zero-needed : (octets : List ℕ) → is_redundant octets ≡ false → has_needless_zero octets ≡ false
+needless_zero-needed : (octets : List ℕ) → is_redundant octets ≡ false → has_needless_zero octets ≡ false
 needless_zero-needed [] needed = refl
 needless_zero-needed (first ∷ []) needed = refl
 needless_zero-needed (first ∷ second ∷ others) needed = left (first == 0 && nat_lt second 128) (first == 255 && nat_le 128 second) needed
@@ -31,12 +31,7 @@ needless_zero-needed (first ∷ second ∷ others) needed = left (first == 0 && 
     left false b e = refl
     left true b e = absurd (cc)
 
--- and with no needless 00, those of a number that is not negative are not redundant
-pub needed-needless_zero : (octets : List ℕ) → slice_index octets 0 < 128 → has_needless_zero octets ≡ false → is_redundant octets ≡ false
-needed-needless_zero [] small needed = refl
-needed-needless_zero (first ∷ []) small needed = refl
-needed-needless_zero (first ∷ second ∷ others) small needed = rw needed (let e : (first == 255) ≡ false = grind (arith, nat_tests) in rw e refl)
-
+-- what fits in w octets, but for a 00 in front, passes the two tests of its length
 fits_tests : (width : ℕ) (octets : List ℕ) → FitsUnsignedOctets width octets → (nat_lt (width + 1) (length octets) ≡ false) × (fits_unsigned width octets ≡ true)
 fits_tests width octets fits = (elim fits [ inl within ↦ grind (arith, nat_tests) | inr more ↦ (let e = more.1 in grind (arith, nat_tests)) ], (Decides-fits_unsigned width octets).1 fits)
 
@@ -54,5 +49,6 @@ unsigned_or_fault-ok width (first ∷ others) some small fits needed =
 pub parse_signed-own : (width : ℕ) → 0 < width → (rules : EncodingRules) (z : ℤ) (p : ℕ) → FitsSignedWidth width z → parse_signed width rules p (integer_contents z) ≡ Ok (integer_contents z)
 parse_signed-own width some rules z p fits = signed_or_fault-ok width (integer_contents z) (integer_contents-some z) (integer_contents-length_le_width width z some fits) (integer_contents-needed z)
 
+-- the same of a number that is not negative
 pub parse_unsigned-own : (width : ℕ) (rules : EncodingRules) (n p : ℕ) → FitsUnsignedWidth width n → parse_unsigned width rules p (natural_contents n) ≡ Ok (natural_contents n)
 parse_unsigned-own width rules n p fits = unsigned_or_fault-ok width (natural_contents n) (natural_contents-some n) (natural_contents-first n) (natural_contents-fits_octets n width fits) (natural_contents-needed n)

@@ -1,5 +1,5 @@
 -- The laws of values that may be absent, from those of the values.
-use Rattle.std.proofs.Common.{◌≡◌, ℕ, List, [], ◌∷◌, ◌++◌, length, Bool, true, false, Option, Some, None, Ok, refl, sym, ap, ◌∙◌, append_assoc, subst, IsTrue, ◌↔◌, arith, ◌<◌}
+use Rattle.std.proofs.Common.{◌≡◌, ℕ, List, [], ◌∷◌, ◌++◌, length, Bool, true, false, Option, Some, None, Ok, refl, sym, ap, ◌∙◌, append_assoc, IsTrue, ◌↔◌, arith}
 use Rattle.std.specs.Option.{option_eq}
 use Rattle.der_tlv.specs.declared.encoding_rules.EncodingRules.{EncodingRules}
 use Rattle.der_tlv.specs.declared.tag.Tag.{Tag}
@@ -11,7 +11,7 @@ use Rattle.der_elem.specs.declared.form.Form as form
 use Rattle.der_elem.specs.Accepting.{Fits, BeginsWith, MayFollow}
 use Rattle.der_elem.specs.ItemLaws.{no_octets}
 use Rattle.der_elem.specs.OrderLaws.{encoding-some}
-use Rattle.der_elem.specs.Options.{encoding_option, one_form_option, test_option, accepts_option, readable_option, is_copy_option, parse_at_tag, parse_option}
+use Rattle.der_elem.specs.Options.{encoding_option, one_form_option, test_option, accepts_option, readable_option, is_copy_option, parse_option}
 
 module _ (tags : Tag → Bool) where
   -- the tag that octets begin with is the next tag

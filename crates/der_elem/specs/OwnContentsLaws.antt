@@ -9,25 +9,32 @@ use Rattle.der_elem.specs.Accepting.{Fits}
 use Rattle.der_elem.specs.OwnContents.{accepts_own, accepts_within}
 
 module _ {T : Type 0} (contents : T → List ℕ) where
+  -- octets that are accepted are parsed as the value
   pub parse_of_own : (parse : ContentsParse) (own : (rules : EncodingRules) (v : T) (p : ℕ) → parse rules p (contents v) ≡ Ok (contents v)) (rules : EncodingRules) (v : T) (p : ℕ) (c : List ℕ) → accepts_own contents rules v c → Fits c → parse rules p c ≡ Ok (contents v)
   parse_of_own parse own rules v p c e fits = ap (parse rules p) e ∙ own rules v p
 
+  -- they are as many as its contents octets
   pub same_length_own : (rules : EncodingRules) (v : T) (c : List ℕ) → accepts_own contents rules v c → length (contents v) ≡ length c
   same_length_own rules v c e = ap length (sym e)
 
+  -- and its contents octets are accepted
   pub accepts_own_contents : (rules : EncodingRules) (v : T) → Unit {0} → accepts_own contents rules v (contents v)
   accepts_own_contents rules v _ = refl
 
 module _ {T : Type 0} (contents : T → List ℕ) (Within : T → Type 0) where
+  -- the same of the values within a range
   pub parse_of_within : (parse : ContentsParse) (own : (rules : EncodingRules) (v : T) (p : ℕ) → Within v → parse rules p (contents v) ≡ Ok (contents v)) (rules : EncodingRules) (v : T) (p : ℕ) (c : List ℕ) → accepts_within contents Within rules v c → Fits c → parse rules p c ≡ Ok (contents v)
   parse_of_within parse own rules v p c (e, within) fits = ap (parse rules p) e ∙ own rules v p within
 
+  -- they are as many as the contents octets of the value
   pub same_length_within : (rules : EncodingRules) (v : T) (c : List ℕ) → accepts_within contents Within rules v c → length (contents v) ≡ length c
   same_length_within rules v c (e, within) = ap length (sym e)
 
+  -- the contents octets of a value within the range are accepted
   pub accepts_contents_within : (rules : EncodingRules) (v : T) → Within v → accepts_within contents Within rules v (contents v)
   accepts_contents_within rules v within = (refl, within)
 
+  -- and no other value is read
   pub only_within : (rules : EncodingRules) (v : T) (c : List ℕ) → accepts_within contents Within rules v c → Within v
   only_within rules v c (e, within) = within
 

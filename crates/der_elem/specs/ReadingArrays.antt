@@ -1,12 +1,12 @@
 -- What the calls answer that read an array item by item.
-use Rattle.std.specs.Prelude.{◌≡◌, ℕ, [], Bool, true, false, Result, Ok, Err, ◌<◌, length, ◌⊎◌}
+use Rattle.std.specs.Prelude.{◌≡◌, [], true, Result, Ok, Err, ◌<◌, length, ◌⊎◌}
 use Rattle.der_tlv.specs.declared.error.ErrorKind.{ErrorKind}
-use Rattle.der_tlv.specs.declared.error.ErrorKind.TheVariants.{Length, Overlength}
+use Rattle.der_tlv.specs.declared.error.ErrorKind.TheVariants.{Length}
 use Rattle.der_tlv.specs.declared.error.Error.{Error}
 use Rattle.der_tlv.specs.declared.tag.Tag.TheVariants.{Sequence}
 use Rattle.der_tlv.specs.ReaderState.{ReaderState, rest, seen}
 use Rattle.der_elem.specs.declared.form.Form as form
-use Rattle.der_elem.specs.Decoding.{Faults, Decoded, NotDecoded}
+use Rattle.der_elem.specs.Decoding.{Faults, Decoded}
 use Rattle.der_elem.specs.Arrays.{too_many}
 
 -- an item was read

@@ -1,5 +1,5 @@
 -- The laws of encodings with one tag, from those of their contents octets.
-use Rattle.std.proofs.Common.{◌≡◌, ℕ, suc, ◌+◌, ◌<◌, ◌≤◌, ◌^◌, List, [], ◌∷◌, ◌++◌, length, take, drop, Bool, true, false, Ok, refl, sym, ap, ◌∙◌, arith, subst, nat_lt, append_assoc}
+use Rattle.std.proofs.Common.{◌≡◌, ℕ, ◌+◌, List, ◌∷◌, ◌++◌, length, true, false, Ok, refl, sym, ap, ◌∙◌, arith, subst, nat_lt, append_assoc}
 use Rattle.std.proofs.lemmas.List.{length-append}
 use Rattle.std.proofs.lemmas.Bool.Decides.{nat_tests}
 use Rattle.std.proofs.Math.Seq.{take-append_seam, drop-append_seam}
@@ -9,9 +9,8 @@ use Rattle.der_tlv.specs.TagParts.{IsTag}
 use Rattle.der_tlv.specs.Identifier.{identifier, same_identifier}
 use Rattle.der_tlv.specs.LengthOctets.{length_octets}
 use Rattle.der_tlv.specs.HeaderOctets.{header_octets, tlv}
-use Rattle.der_tlv.specs.HeaderReading.{read_header, header}
 use Rattle.der_tlv.specs.HeaderLaws.{read_header-octets, same_identifier-same}
-use Rattle.der_elem.specs.Parsing.{ContentsParse, parse_tagged, parse_with_tag, parse_contents, tagged_contents}
+use Rattle.der_elem.specs.Parsing.{ContentsParse, parse_tagged, parse_with_tag}
 use Rattle.der_elem.specs.Accepting.{Fits, BeginsWith, MayFollow, accepts_tagged}
 
 enough : (c x : List ℕ) → nat_lt (length (c ++ x)) (length c) ≡ false

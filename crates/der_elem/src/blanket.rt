@@ -1,16 +1,13 @@
 //! Reading, writing and comparing values with tags, by their contents octets.
 
-use std::alloc::Global;
-use std::cmp::Ordering;
-
-
-use der_tlv::{Error, Header, Length, Reader, SliceReader, Writer};
-
 use crate::decode::{Decode, DecodeValue, FromDer};
 use crate::encode::{Encode, EncodeValue};
 use crate::form::FixedTag;
 use crate::ord::{DerOrd, ValueOrd};
 use crate::tag::Tagged;
+use der_tlv::{Error, Header, Length, Reader, SliceReader, Writer};
+use std::alloc::Global;
+use std::cmp::Ordering;
 
 impl<'a, R: Reader<'a>, T: DecodeValue<'a, R> + FixedTag> Decode<'a, R> for T {
     fn decode(alloc: Global, reader: &mut R) -> Result<T, Error> {
@@ -50,7 +47,6 @@ impl<T: EncodeValue + Tagged> Encode for T {
         self.encode_value(writer)
     }
 }
-
 
 impl<T: EncodeValue + Tagged + ValueOrd> DerOrd for T {
     fn der_cmp(&self, other: &T) -> Result<Ordering, Error> {

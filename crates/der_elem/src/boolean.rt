@@ -14,10 +14,6 @@ ghost use Rattle.der_elem.specs.OwnContents.{accepts_own};
 ghost use Rattle.der_elem.specs.OwnContentsLaws.{parse_of_own, same_length_own, accepts_own_contents, encoding_eq_own, copy_encoding_own};
 ghost use Rattle.der_elem.specs.Boolean.{boolean_contents, parse_boolean, parse_boolean-own, boolean_contents-injective, bool_cmp-lex};
 
-use std::alloc::Global;
-
-use der_tlv::{Error, Header, Length, Reader, Tag, Writer};
-
 use crate::contents::read_contents;
 use crate::decode::DecodeValue;
 use crate::duplicate::Duplicate;
@@ -25,6 +21,8 @@ use crate::encode::EncodeValue;
 use crate::equality::EncodingEq;
 use crate::form::{FixedTag, FormValue};
 use crate::ord::OrdIsValueOrd;
+use der_tlv::{Error, Header, Length, Reader, Tag, Writer};
+use std::alloc::Global;
 
 impl FormValue for bool {
     ghost contents = { boolean_contents };

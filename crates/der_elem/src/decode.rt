@@ -4,11 +4,9 @@ ghost use Rattle.std.specs.Prelude.{◌≡◌, length};
 ghost use Rattle.der_tlv.specs.ReaderState.{ReaderState, rest};
 ghost use Rattle.der_elem.specs.Decoding.{Decodes, DecodesValue, ReadsAll};
 
-use std::alloc::Global;
-
-use der_tlv::{Error, Header, Reader, SliceReader};
-
 use crate::form::{Form, FormValue};
+use der_tlv::{Error, Header, Reader, SliceReader};
+use std::alloc::Global;
 
 /// Reading a value from its contents octets.
 pub trait DecodeValue<'a, R: Reader<'a>>: FormValue {

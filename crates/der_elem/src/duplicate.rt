@@ -3,9 +3,8 @@
 ghost use Rattle.std.specs.Prelude.{◌≡◌, Bool, true, IfOk, IfErr};
 ghost use Rattle.der_tlv.specs.declared.error.ErrorKind.TheVariants.{Memory};
 
-use der_tlv::Error;
-
 use crate::form::Form;
+use der_tlv::Error;
 
 /// A type whose values can be copied, which may take memory.
 pub trait Duplicate: Form {

@@ -4,11 +4,9 @@ ghost use Rattle.std.specs.Prelude.{◌≡◌, ◌^◌, ◌<◌, ◌⊎◌, leng
 ghost use Rattle.der_tlv.specs.declared.error.ErrorKind.TheVariants.{Memory};
 ghost use Rattle.der_elem.specs.Encoding.{Encodes, IsTooShort, Measures, Stops};
 
-use std::alloc::Global;
-
-use der_tlv::{Error, Length, SliceWriter, VecWriter, Writer};
-
 use crate::form::{Form, FormValue};
+use der_tlv::{Error, Length, SliceWriter, VecWriter, Writer};
+use std::alloc::Global;
 
 /// Writing the contents octets of a value.
 pub trait EncodeValue: FormValue {

@@ -4,11 +4,9 @@ ghost use Rattle.std.specs.Prelude.{◌≡◌};
 ghost use Rattle.der_tlv.specs.Octets.{lex};
 ghost use Rattle.der_elem.specs.Comparing.{Compares, ComparesValues};
 
-use std::cmp::Ordering;
-
-use der_tlv::Error;
-
 use crate::form::{Form, FormValue};
+use der_tlv::Error;
+use std::cmp::Ordering;
 
 /// The order of contents octets.
 pub trait ValueOrd: FormValue {

@@ -1,18 +1,16 @@
 //! The built-in types, called through the traits' bounds.
 
-use std::alloc::Global;
-use std::cmp::Ordering;
-use std::fmt::Debug;
-use std::process::Abort;
-use std::test::Fail;
-
-use der_tlv::{Error, ErrorKind, Header, Reader, SliceReader, Tag, VecWriter};
-
 use crate::decode::DecodeValue;
 use crate::duplicate::Duplicate;
 use crate::encode::EncodeValue;
 use crate::form::{FixedTag, FormValue};
 use crate::ord::ValueOrd;
+use der_tlv::{Error, ErrorKind, Header, Reader, SliceReader, Tag, VecWriter};
+use std::alloc::Global;
+use std::cmp::Ordering;
+use std::fmt::Debug;
+use std::process::Abort;
+use std::test::Fail;
 
 // What a call answers, with a refusal by its number.
 fn numbered<T>(answer: Result<T, Error>) -> Result<T, u8> {
@@ -66,12 +64,7 @@ fn order<T: ValueOrd>(a: &T, b: &T) -> Result<Ordering, u8> {
 fn is_coded<
     'a,
     T: DecodeValue<'a, SliceReader<'a>> + FixedTag + EncodeValue + Duplicate + PartialEq + Debug,
->(
-    rt: &impl Abort,
-    alloc: Global,
-    value: T,
-    contents: &'a [u8],
-) -> Result<(), u8> {
+>(rt: &impl Abort, alloc: Global, value: T, contents: &'a [u8]) -> Result<(), u8> {
     let octets = written(alloc, &value)?;
     assert_eq!(rt; octets.as_slice(), contents);
     let len = numbered(value.value_len())?;
@@ -131,8 +124,18 @@ fn codes_least_and_greatest_signed(rt: HostRuntime) -> Result<(), Fail> {
     is_coded(&rt, alloc, i16::MAX, &[0x7f, 0xff])?;
     is_coded(&rt, alloc, i32::MIN, &[0x80, 0x00, 0x00, 0x00])?;
     is_coded(&rt, alloc, i32::MAX, &[0x7f, 0xff, 0xff, 0xff])?;
-    is_coded(&rt, alloc, i64::MIN, &[0x80, 0x00, 0x00, 0x00, 0x00, 0x00, 0x00, 0x00])?;
-    is_coded(&rt, alloc, i64::MAX, &[0x7f, 0xff, 0xff, 0xff, 0xff, 0xff, 0xff, 0xff])?;
+    is_coded(
+        &rt,
+        alloc,
+        i64::MIN,
+        &[0x80, 0x00, 0x00, 0x00, 0x00, 0x00, 0x00, 0x00],
+    )?;
+    is_coded(
+        &rt,
+        alloc,
+        i64::MAX,
+        &[0x7f, 0xff, 0xff, 0xff, 0xff, 0xff, 0xff, 0xff],
+    )?;
     let least = [
         0x80, 0x00, 0x00, 0x00, 0x00, 0x00, 0x00, 0x00, 0x00, 0x00, 0x00, 0x00, 0x00, 0x00, 0x00,
         0x00,
@@ -156,7 +159,12 @@ fn codes_least_and_greatest_unsigned(rt: HostRuntime) -> Result<(), Fail> {
     is_coded(&rt, alloc, u32::MIN, &[0x00])?;
     is_coded(&rt, alloc, u32::MAX, &[0x00, 0xff, 0xff, 0xff, 0xff])?;
     is_coded(&rt, alloc, u64::MIN, &[0x00])?;
-    is_coded(&rt, alloc, u64::MAX, &[0x00, 0xff, 0xff, 0xff, 0xff, 0xff, 0xff, 0xff, 0xff])?;
+    is_coded(
+        &rt,
+        alloc,
+        u64::MAX,
+        &[0x00, 0xff, 0xff, 0xff, 0xff, 0xff, 0xff, 0xff, 0xff],
+    )?;
     is_coded(&rt, alloc, u128::MIN, &[0x00])?;
     let greatest = [
         0x00, 0xff, 0xff, 0xff, 0xff, 0xff, 0xff, 0xff, 0xff, 0xff, 0xff, 0xff, 0xff, 0xff, 0xff,

@@ -11,16 +11,14 @@ ghost use Rattle.der_elem.specs.OwnContents.{accepts_own};
 ghost use Rattle.der_elem.specs.OwnContentsLaws.{parse_of_own, same_length_own, accepts_own_contents, encoding_eq_own, copy_encoding_own};
 ghost use Rattle.der_elem.specs.Null.{null_contents, parse_null, unit_eq_decides};
 
-use std::alloc::Global;
-
-use der_tlv::{Error, Header, Length, Reader, Tag, Writer};
-
 use crate::contents::read_contents;
 use crate::decode::DecodeValue;
 use crate::duplicate::Duplicate;
 use crate::encode::EncodeValue;
 use crate::equality::EncodingEq;
 use crate::form::{FixedTag, FormValue};
+use der_tlv::{Error, Header, Length, Reader, Tag, Writer};
+use std::alloc::Global;
 
 impl FormValue for () {
     ghost contents = { null_contents };

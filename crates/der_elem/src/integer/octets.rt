@@ -1,6 +1,7 @@
 //! The contents octets of INTEGER (X.690 8.3), at integers of up to 128 bits.
 //!
-//! An integer z is handled as a sign and a magnitude: z itself where it is not negative, and else -1 - z.
+//! An integer z is handled as a sign and a magnitude: z itself where it is not negative, and else
+//! -1 - z.
 
 ghost use Rattle.std.specs.Prelude.{◌≡◌, ◌↔◌, IsTrue, ℕ, ◌+◌, ◌*◌, ◌^◌, ◌-◌, ◌<◌, ◌≤◌, false, cond, nat_le, List, length, drop, slice_index};
 ghost use Rattle.std.specs.Int.{complement_if};
@@ -11,7 +12,8 @@ ghost use Rattle.der_elem.specs.Integer.{big_endian_number, natural_contents, co
 use std::cmp::Ordering;
 use std::marker::Model;
 
-/// Whether the first nine bits of contents octets are the same, so that the first octet says nothing (X.690 8.3.2).
+/// Whether the first nine bits of contents octets are the same, so that the first octet says
+/// nothing (X.690 8.3.2).
 pub fn is_redundant(bytes: &[u8]) -> bool
     ensures { result ≡ is_redundant bytes.now }
 {
@@ -81,7 +83,8 @@ pub fn contents_len(magnitude: u128) -> u32
 // The most contents octets that an integer of 128 bits has: 16, and a 00 before them.
 const MAX_OCTETS: usize = 17;
 
-/// The contents octets of an integer of at most 128 bits: 1 to 17 octets, with no memory from an allocator.
+/// The contents octets of an integer of at most 128 bits: 1 to 17 octets, with no memory from an
+/// allocator.
 #[derive(Drop)]
 pub struct IntegerOctets {
     octets: [u8; MAX_OCTETS],
@@ -193,6 +196,9 @@ pub fn compare_signed(a: i128, b: i128) -> Ordering
 pub fn compare_unsigned(a: u128, b: u128) -> Ordering
     ensures { result ≡ lex (natural_contents a) (natural_contents b) }
 {
-    let (a, b) = (IntegerOctets::from_unsigned(a), IntegerOctets::from_unsigned(b));
+    let (a, b) = (
+        IntegerOctets::from_unsigned(a),
+        IntegerOctets::from_unsigned(b),
+    );
     a.as_slice().cmp(b.as_slice())
 }

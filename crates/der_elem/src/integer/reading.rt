@@ -6,10 +6,9 @@ ghost use Rattle.der_elem.specs.OwnContents.{DecodesOwn};
 ghost use Rattle.der_elem.specs.Integer.{natural_contents, integer_contents, FitsSignedWidth, FitsUnsignedWidth};
 ghost use Rattle.der_elem.specs.IntegerReading.{has_needless_zero, ReadsSigned, ReadsUnsigned, parse_signed, parse_unsigned};
 
-use der_tlv::{Error, ErrorKind, Header, Reader, Tag};
-
 use super::octets::{decode_signed, decode_unsigned, fits_unsigned, is_negative, is_redundant};
 use crate::contents::read_contents;
+use der_tlv::{Error, ErrorKind, Header, Reader, Tag};
 
 /// Whether a first octet 00 stands before an octet below 80 (X.690 8.3.2).
 fn has_needless_zero(bytes: &[u8]) -> bool
@@ -69,7 +68,11 @@ fn unsigned_of(bytes: &[u8], width: usize) -> Result<u128, ErrorKind>
 /// # Errors
 /// (17) on a failed reader. Else, in this order: no octets (7); more than the width (8); a
 /// redundant first octet (8).
-pub fn read_signed<'a, R: Reader<'a>>(reader: &mut R, header: Header, width: usize) -> Result<i128, Error>
+pub fn read_signed<'a, R: Reader<'a>>(
+    reader: &mut R,
+    header: Header,
+    width: usize,
+) -> Result<i128, Error>
     requires some { 0 < width }
     requires most { width ≤ 16 }
     ensures fits { IfOk result (FitsSignedWidth width) }
@@ -88,7 +91,11 @@ pub fn read_signed<'a, R: Reader<'a>>(reader: &mut R, header: Header, width: usi
 /// (17) on a failed reader. Else, in this order: no octets (7); more than the width and one (8); a
 /// 00 before an octet below 80 (8); a negative number (13); one octet more than the width, of which
 /// the first is not 00 (7).
-pub fn read_unsigned<'a, R: Reader<'a>>(reader: &mut R, header: Header, width: usize) -> Result<u128, Error>
+pub fn read_unsigned<'a, R: Reader<'a>>(
+    reader: &mut R,
+    header: Header,
+    width: usize,
+) -> Result<u128, Error>
     requires some { 0 < width }
     requires most { width ≤ 16 }
     ensures fits { IfOk result (FitsUnsignedWidth width) }

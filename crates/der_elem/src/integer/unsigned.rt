@@ -15,11 +15,6 @@ ghost use Rattle.der_elem.specs.IntegerLaws.{natural_contents-injective};
 ghost use Rattle.der_elem.specs.IntegerReading.{parse_unsigned};
 ghost use Rattle.der_elem.specs.IntegerReadingLaws.{parse_unsigned-own};
 
-use std::alloc::Global;
-use std::cmp::Ordering;
-
-use der_tlv::{Error, Header, Length, Reader, Tag, Writer};
-
 use super::octets::{IntegerOctets, compare_unsigned, contents_len};
 use super::reading::read_unsigned;
 use crate::decode::DecodeValue;
@@ -28,6 +23,9 @@ use crate::encode::EncodeValue;
 use crate::equality::EncodingEq;
 use crate::form::{FixedTag, FormValue};
 use crate::ord::ValueOrd;
+use der_tlv::{Error, Header, Length, Reader, Tag, Writer};
+use std::alloc::Global;
+use std::cmp::Ordering;
 
 impl FormValue for u8 {
     ghost contents = { natural_contents };

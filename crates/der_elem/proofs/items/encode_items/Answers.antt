@@ -1,4 +1,4 @@
-use Rattle.std.proofs.Common.{rules, ◌≡◌, ◌<◌, take, drop, suc, length, get_or, flat_map}
+use Rattle.std.proofs.Common.{rules, ◌≡◌, ◌<◌, drop, suc, length, get_or, flat_map}
 use Rattle.der_elem.proofs.ItemWriting.{fault_within, split_at, re_reads_at}
 use Rattle.der_elem.proofs.items.encode_items.Goals as goal
 

@@ -1,4 +1,4 @@
-use Rattle.std.proofs.Common.{rules, ◌≡◌, ◌<◌, ◌≤◌, ◌^◌, length, get_or, flat_map, arith, inl}
+use Rattle.std.proofs.Common.{rules, ◌≡◌, ◌<◌, ◌≤◌, ◌^◌, length, get_or, flat_map, arith}
 use Rattle.der_elem.proofs.ItemWriting.{length_at, stops_at_item}
 use Rattle.der_elem.proofs.items.items_len.Goals as goal
 

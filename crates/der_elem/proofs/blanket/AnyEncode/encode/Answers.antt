@@ -1,4 +1,4 @@
-use Rattle.std.proofs.Common.{rules, ◌≡◌, ◌∙◌, ◌++◌, sym, ap, length, []}
+use Rattle.std.proofs.Common.{rules, ◌≡◌, ◌∙◌, ◌++◌, sym, ap, []}
 use Rattle.der_tlv.specs.HeaderOctets.{header_octets, tlv}
 use Rattle.der_elem.proofs.Written.{WritesPart, refused_within, wrote_none, last_part}
 use Rattle.der_elem.proofs.blanket.AnyEncode.encode.Goals as goal

@@ -1,5 +1,5 @@
-use Rattle.std.proofs.Common.{rules, inr, refl, ◌≡◌, Bool, true, false}
-use Rattle.der_elem.proofs.Alone.{OpenOf, too_many, not_read, left_over_unread, all_read}
+use Rattle.std.proofs.Common.{rules, refl, ◌≡◌, Bool, true, false}
+use Rattle.der_elem.proofs.Alone.{not_read, left_over_unread, all_read}
 use Rattle.der_elem.proofs.blanket.AnyFromDer.from_der.Goals as goal
 
 unless_true : (b : Bool) → (b ≡ true → false ≡ true) → b ≡ false

@@ -1,4 +1,3 @@
-use Rattle.std.proofs.Common.{rules}
 use Rattle.der_elem.proofs.IntegerReads.{unsigned_decoded}
 use Rattle.der_elem.proofs.integer.reading.read_unsigned.Goals as goal
 

@@ -1,6 +1,5 @@
-use Rattle.std.proofs.Common.{rules, ◌≡◌, ◌<◌, ◌++◌, ◌∷◌, ℕ, List, [], length, refl, subst, sym, ap, ◌∙◌, arith}
+use Rattle.std.proofs.Common.{rules, ◌≡◌, ◌++◌, ◌∷◌, [], refl, subst, sym, ap, ◌∙◌, arith}
 use Rattle.std.proofs.lemmas.Grind.{common_steps}
-use Rattle.std.proofs.lemmas.List.{append-nil}
 use Rattle.der_tlv.specs.ReaderState.{IsReaderState, rest, after_read}
 use Rattle.der_elem.specs.OrderLaws.{accepted-some}
 use Rattle.der_elem.proofs.ItemReading.{ItemsSoFar, items_more, items_smaller, items_fault, items_end, items_accepted, more_left, all_taken}
