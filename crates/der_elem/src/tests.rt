@@ -1,5 +1,7 @@
 //! The built-in types, called through the traits' bounds.
 
+mod composed;
+
 use crate::decode::DecodeValue;
 use crate::duplicate::Duplicate;
 use crate::encode::EncodeValue;
@@ -13,7 +15,7 @@ use std::process::Abort;
 use std::test::Fail;
 
 // What a call answers, with a refusal by its number.
-fn numbered<T>(answer: Result<T, Error>) -> Result<T, u8> {
+pub fn numbered<T>(answer: Result<T, Error>) -> Result<T, u8> {
     match answer {
         Ok(value) => Ok(value),
         Err(e) => Err(e.kind().number()),
