@@ -32,6 +32,7 @@ digits_of-digit b d h k small =
   where
     div-small : (b d : ℕ) → d < b → d / b ≡ 0
     div-small b d small = ap (λ z. z / b) (sym (zero-times b d)) ∙ div-mul-add 0 b d small
+
     mod-small : (b d : ℕ) → d < b → d % b ≡ d
     mod-small b d small = ap (λ z. z % b) (sym (zero-times b d)) ∙ mod-mul-add 0 b d small
 

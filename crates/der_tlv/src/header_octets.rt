@@ -8,10 +8,9 @@ ghost use Rattle.der_tlv.specs.TagDigits.{leading_octets};
 ghost use Rattle.der_tlv.specs.TagParts.{class_of, is_constructed, number_of};
 ghost use Rattle.der_tlv.specs.IdentifierLaws.{low_bits};
 
-use std::marker::Model;
-
 use crate::length::Length;
 use crate::tag::Tag;
+use std::marker::Model;
 
 /// At most eleven octets: six identifier octets and five length octets.
 #[derive(Drop)]

@@ -8,10 +8,9 @@ ghost use Rattle.der_tlv.specs.Reading.{ReadsHead};
 ghost use Rattle.der_tlv.specs.Fitting.{FitsLength};
 ghost use Rattle.der_tlv.specs.declared.error.ErrorKind.TheVariants.{Overflow};
 
-use std::marker::Model;
-
 use crate::error::{Error, ErrorKind};
 use crate::reader::Reader;
+use std::marker::Model;
 
 /// A number of octets, 0 to 4294967295.
 ///

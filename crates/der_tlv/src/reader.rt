@@ -6,11 +6,10 @@ ghost use Rattle.std.specs.Prelude.{◌≡◌, ℕ, ◌-◌, ◌≤◌, ◌↔�
 ghost use Rattle.der_tlv.specs.ReaderState.{ReaderState, IsReaderState, rest, after_fault, rewound};
 ghost use Rattle.der_tlv.specs.Reading.{ReadsOctet, OctetsRead, OctetsRefused, Nests, Unnests};
 
-pub use slice::SliceReader;
-
 use crate::encoding_rules::EncodingRules;
 use crate::error::{Error, ErrorKind};
 use crate::length::Length;
+pub use slice::SliceReader;
 
 /// A source of octets, which stands at a position and shows the octets up to an end.
 ///

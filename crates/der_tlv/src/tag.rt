@@ -16,15 +16,14 @@ ghost use Rattle.der_tlv.specs.Identifier.{identifier, same_identifier};
 ghost use Rattle.der_tlv.specs.HeaderReading.{read_tag};
 ghost use Rattle.der_tlv.specs.Reading.{ReadsHead, PeeksHead};
 
+use crate::error::{Error, ErrorKind};
+use crate::reader::Reader;
 pub use class::Class;
 pub use laws::{
     identifiers_are_short, identifiers_are_unique, identifiers_decide_order, identifiers_read_back,
 };
 pub use mode::TagMode;
 pub use number::TagNumber;
-
-use crate::error::{Error, ErrorKind};
-use crate::reader::Reader;
 
 /// A tag: a class, whether the encoding is constructed, and a number.
 ///

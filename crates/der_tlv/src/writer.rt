@@ -6,10 +6,9 @@ mod vec;
 ghost use Rattle.std.specs.Prelude.{◌≡◌, ℕ, ◌≤◌, [], ◌∷◌, length, IsOk};
 ghost use Rattle.der_tlv.specs.Writing.{WriterState, Writes};
 
+use crate::error::Error;
 pub use slice::SliceWriter;
 pub use vec::VecWriter;
-
-use crate::error::Error;
 
 /// A sink of octets.
 ///

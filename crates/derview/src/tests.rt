@@ -75,8 +75,16 @@ fn refuses_too_many_lines(rt: HostRuntime) {
     let rows: [(&[u8], Result<(), Fault>, &[u8]); 4] = [
         (b"unit 0500\nunit 0500\n", Ok(()), b"ok 0500\nok 0500\n"),
         (b"unit 0500\nunit 0500", Ok(()), b"ok 0500\nok 0500\n"),
-        (b"unit 0500\nunit 0500\n\n", Err(Fault::Input), b"ok 0500\nok 0500\n"),
-        (b"unit 0500\nunit 0500\nunit", Err(Fault::Input), b"ok 0500\nok 0500\n"),
+        (
+            b"unit 0500\nunit 0500\n\n",
+            Err(Fault::Input),
+            b"ok 0500\nok 0500\n",
+        ),
+        (
+            b"unit 0500\nunit 0500\nunit",
+            Err(Fault::Input),
+            b"ok 0500\nok 0500\n",
+        ),
     ];
     for (text, want, answers) in rows {
         let mut written = Vec::new(rt.alloc());
@@ -118,7 +126,10 @@ fn stops_where_a_read_fails(rt: HostRuntime) -> Result<(), Fail> {
         (b"unit 0500", b""),
         (b"unit 0500\n", b"ok 0500\n"),
         (b"unit 0500\nuni", b"ok 0500\n"),
-        (b"unit 0500\n\n\nbool 0101ff", b"ok 0500\nbad line\nbad line\n"),
+        (
+            b"unit 0500\n\n\nbool 0101ff",
+            b"ok 0500\nbad line\nbad line\n",
+        ),
         (b"unit 0500\nbool 0101ff\n", b"ok 0500\nok 0101ff\n"),
     ];
     let faults = [

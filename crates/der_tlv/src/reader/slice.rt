@@ -6,12 +6,11 @@ ghost use Rattle.der_tlv.specs.declared.error.ErrorKind.TheVariants.{Overflow};
 ghost use Rattle.der_tlv.specs.declared.encoding_rules.EncodingRules.{EncodingRules};
 ghost use Rattle.der_tlv.specs.declared.encoding_rules.EncodingRules.TheVariants.{Der};
 
-use std::alloc::AllocError;
-
 use crate::encoding_rules::EncodingRules;
 use crate::error::{Error, ErrorKind};
 use crate::length::Length;
 use crate::reader::Reader;
+use std::alloc::AllocError;
 
 /// A reader of octets in memory, which hands them out as they stand there.
 #[derive(Debug, Drop)]

@@ -2,13 +2,11 @@
 
 ghost use Rattle.std.specs.Prelude.{◌≡◌, ◌-◌, ◌≤◌, [], IfOk, IfErr, vec_len, vec_capacity, false};
 ghost use Rattle.der_tlv.specs.Writing.{WriterState, is_memory, refuses_first_with, room_unless_failed};
-
 ghost use Rattle.der_tlv.specs.declared.error.ErrorKind.TheVariants.{Memory};
-
-use std::alloc::Global;
 
 use crate::error::{Error, ErrorKind};
 use crate::writer::Writer;
+use std::alloc::Global;
 
 /// A writer into a vector, which grows as it has to.
 ///
