@@ -1,77 +1,65 @@
 -- Octets that are written part by part.
-use Rattle.std.proofs.Common.{◌≡◌, ℕ, ◌+◌, ◌≤◌, List, [], ◌++◌, length, take, Bool, true, inl, inr, ◌⊎◌, Result, Ok, Err, IsTrue, refl, sym, ap, ◌∙◌, subst, arith, append_assoc, min}
-use Rattle.std.proofs.lemmas.List.{append-nil, length-append, take-append-le, take_min}
+use Rattle.std.proofs.Common.{◌≡◌, ℕ, zero, suc, ◌+◌, ◌<◌, ◌≤◌, List, [], ◌∷◌, ◌++◌, length, take, drop, get_or, Bool, true, inl, inr, IsTrue, Result, Ok, Err, refl, sym, ap, ◌∙◌, arith, subst, append_assoc, flat_map, min}
+use Rattle.std.specs.List.{list_any}
+use Rattle.std.proofs.lemmas.List.{length-append, take-append-le, take_min, append-nil}
+use Rattle.std.proofs.lemmas.List.Folds.{list_any_at, length-flat_map-take}
 use Rattle.std.proofs.Math.Seq.{take-append-add}
 use Rattle.der_tlv.specs.declared.error.ErrorKind.{ErrorKind}
 use Rattle.der_tlv.specs.declared.error.Error.{Error}
 use Rattle.der_tlv.specs.Writing.{WriterState, Wrote, WriterRefused}
-use Rattle.der_elem.specs.Encoding.{Stops, Stopped, Encodes}
+use Rattle.der_elem.specs.Encoding.{Stops, Encodes}
+
+pub wrote_nothing : (s : WriterState) → Wrote [] s s
+wrote_nothing s = record { taken = sym (append-nil s.taken); failed = refl; room = omega arith; may_refuse = refl }
+
+-- one part, and then another
+pub wrote_both : {a b : List ℕ} {start mid new : WriterState} → Wrote a start mid → Wrote b mid new → Wrote (a ++ b) start new
+wrote_both {a} {b} {start} w v = record {
+  taken = v.taken ∙ ap (λ c. c ++ b) w.taken ∙ append_assoc start.taken a b;
+  failed = v.failed ∙ w.failed;
+  room = let r = w.room in let s = v.room in omega (arith, length-append a b);
+  may_refuse = v.may_refuse ∙ w.may_refuse;
+}
+
+pub stops_in : (a b : List ℕ) (memory memory' : Bool) {kind : ErrorKind} → length a ≤ length b → (memory ≡ true → memory' ≡ true) → Stops a memory kind → Stops b memory' kind
+stops_in a b memory memory' le m s = elim s [ inl o ↦ inl (o.0, omega (arith, o.1)) | inr h ↦ inr (h.0, m h.1) ]
 
 -- the beginning of a part is a beginning of the whole
 part : (n : ℕ) (done x more : List ℕ) → take (length done + min n (length x)) (done ++ (x ++ more)) ≡ done ++ take n x
 part n done x more =
     take-append-add done (x ++ more) (min n (length x)) ∙ ap (λ c. done ++ c) (take-append-le (min n (length x)) x more (omega arith) ∙ take_min n x)
 
-pub stops_within : (a b : List ℕ) (memory memory' : Bool) {kind : ErrorKind} → length a ≤ length b → (memory ≡ true → memory' ≡ true) → Stops a memory kind → Stops b memory' kind
-stops_within a b memory memory' le m s = elim s [ inl o ↦ inl (o.0, omega (arith, o.1)) | inr h ↦ inr (h.0, m h.1) ]
+module _ {done : List ℕ} {start mid : WriterState} (written : Wrote done start mid) (all x more : List ℕ) (whole : all ≡ done ++ (x ++ more)) where
+  beginning_within : (n : ℕ) (new : WriterState) → new.taken ≡ mid.taken ++ take n x → new.taken ≡ start.taken ++ take (length done + min n (length x)) all
+  beginning_within n new f =
+      f ∙ ap (λ c. c ++ take n x) written.taken ∙ append_assoc start.taken done (take n x) ∙ ap (λ c. start.taken ++ c) (sym (part n done x more) ∙ ap (take (length done + min n (length x))) (sym whole))
 
--- octets of which some are written: those, the part that is written now, and more
-pub record WritesPart (all done x more : List ℕ) (old mid : WriterState) : Type 0 where
-  pub whole : all ≡ done ++ (x ++ more)
-  pub so_far : Wrote done old mid
-
-module _ {all done x more : List ℕ} {old mid : WriterState} (w : WritesPart all done x more old mid) where
   lengths : length all ≡ length done + (length x + length more)
-  lengths = omega (arith, ap length w.whole, length-append done (x ++ more), length-append x more)
+  lengths = ap length whole ∙ length-append done (x ++ more) ∙ ap (λ n. length done + n) (length-append x more)
 
-  pub beginning_of : (count : ℕ) (new : WriterState) → new.taken ≡ mid.taken ++ take count x → new.taken ≡ old.taken ++ take (length done + min count (length x)) all
-  beginning_of count new e =
-      e ∙ ap (λ c. c ++ take count x) w.so_far.taken ∙ append_assoc old.taken done (take count x) ∙ ap (λ c. old.taken ++ c) (sym (part count done x more) ∙ ap (take (length done + min count (length x))) (sym w.whole))
+  pub refused_within : {new : WriterState} {kind : ErrorKind} → WriterRefused x mid new kind → WriterRefused all start new kind
+  refused_within {new} {kind} r = record {
+    count = length done + min r.count (length x);
+    beginning = beginning_within r.count new r.beginning;
+    failed = r.failed;
+    short = λ e. let s = r.short (written.failed ∙ e) in let w = written.room in omega (arith, lengths);
+    permitted = subst (λ (may : ErrorKind → Bool). IsTrue (may kind)) written.may_refuse r.permitted;
+  }
 
-  pub refused_within : {new : WriterState} {kind : ErrorKind} → WriterRefused x mid new kind → WriterRefused all old new kind
-  refused_within {new} {kind} r =
-      let l = lengths in
-      let room = w.so_far.room in
-      record {
-        count = length done + min r.count (length x);
-        beginning = beginning_of r.count new r.beginning;
-        failed = r.failed;
-        short = λ ready. let s = r.short (w.so_far.failed ∙ ready) in omega arith;
-        permitted = subst (λ may. IsTrue (may kind)) w.so_far.may_refuse r.permitted;
-      }
-
-  pub stopped_within : {new : WriterState} {kind : ErrorKind} (part_memory memory : Bool) → (part_memory ≡ true → memory ≡ true) → Stopped x part_memory mid new kind → Stopped all memory old new kind
-  stopped_within {new} {kind} part_memory memory has s =
-      let l = lengths in
-      record {
-        count = length done + min s.count (length x);
-        beginning = beginning_of s.count new s.beginning;
-        failed = s.failed ∙ w.so_far.failed;
-        reason = stops_within x all part_memory memory (omega arith) has s.reason;
-      }
-
-  pub fault_within : {new : WriterState} {kind : ErrorKind} (part_memory memory : Bool) → (part_memory ≡ true → memory ≡ true) → WriterRefused x mid new kind ⊎ Stopped x part_memory mid new kind → WriterRefused all old new kind ⊎ Stopped all memory old new kind
-  fault_within part_memory memory has f =
-      elim f [ inl r ↦ inl (refused_within r) | inr s ↦ inr (stopped_within part_memory memory has s) ]
-
--- one part behind another
-pub wrote_both : {done x : List ℕ} {old mid new : WriterState} → Wrote done old mid → Wrote x mid new → Wrote (done ++ x) old new
-wrote_both {done} {x} {old} a b =
-    let l = length-append done x in
-    let r = a.room in
-    let s = b.room in
-    record {
-      taken = b.taken ∙ ap (λ c. c ++ x) a.taken ∙ append_assoc old.taken done x;
-      failed = b.failed ∙ a.failed;
-      room = omega arith;
-      may_refuse = b.may_refuse ∙ a.may_refuse;
-    }
-
-pub wrote_none : (s : WriterState) → Wrote [] s s
-wrote_none s = record { taken = sym (append-nil s.taken); failed = refl; room = omega arith; may_refuse = refl }
+  -- a fault of a part is one of the whole
+  pub fault_within : (A B : Type 0) (part_re_reads re_reads : Bool) → (part_re_reads ≡ true → re_reads ≡ true) → (new : WriterState) (e : Error) → Encodes {A = A} x part_re_reads mid new (Err e) → Encodes {A = B} all re_reads start new (Err e)
+  fault_within A B part_re_reads re_reads m new e fault = elim fault [
+    | inl r ↦ inl (refused_within r)
+    | inr s ↦ inr (record {
+      count = length done + min s.count (length x);
+      beginning = beginning_within s.count new s.beginning;
+      failed = s.failed ∙ written.failed;
+      reason = stops_in x all part_re_reads re_reads (omega (arith, lengths)) m s.reason;
+    })
+  ]
 
 -- the last part of all
-pub last_part : {A : Type 0} (done x all : List ℕ) {old mid : WriterState} (new : WriterState) (part_memory memory : Bool) → (part_memory ≡ true → memory ≡ true) → all ≡ done ++ x → Wrote done old mid → (r : Result A Error) → Encodes x part_memory mid new r → Encodes all memory old new r
-last_part done x all {old} new part_memory memory has e w (Ok v) told = subst (λ c. Wrote c old new) (sym e) (wrote_both w told)
-last_part done x all new part_memory memory has e w (Err k) told =
-    fault_within (record { whole = e ∙ ap (λ c. done ++ c) (sym (append-nil x)); so_far = w }) part_memory memory has told
+pub last_part : {A : Type 0} {done : List ℕ} {start mid : WriterState} → Wrote done start mid → (all x : List ℕ) → all ≡ done ++ x → (part_re_reads re_reads : Bool) → (part_re_reads ≡ true → re_reads ≡ true) → (new : WriterState) (r : Result A Error) → Encodes x part_re_reads mid new r → Encodes all re_reads start new r
+last_part {start = start} written all x whole part_re_reads re_reads m new (Ok v) told = subst (λ c. Wrote c start new) (sym whole) (wrote_both written told)
+last_part {done = done} written all x whole part_re_reads re_reads m new (Err e) told =
+    fault_within written all x [] (whole ∙ ap (λ c. done ++ c) (sym (append-nil x))) (Unit {0}) (Unit {0}) part_re_reads re_reads m new e told

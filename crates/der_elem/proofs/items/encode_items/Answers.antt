@@ -1,5 +1,6 @@
 use Rattle.std.proofs.Common.{rules, ◌≡◌, ◌<◌, drop, suc, length, get_or, flat_map}
-use Rattle.der_elem.proofs.ItemWriting.{fault_within, split_at, re_reads_at}
+use Rattle.der_elem.proofs.ItemWriting.{split_at, re_reads_at}
+use Rattle.der_elem.proofs.Written.{fault_within}
 use Rattle.der_elem.proofs.items.encode_items.Goals as goal
 
 pub returns-in_err-encode : goal.returns-in_err-encode

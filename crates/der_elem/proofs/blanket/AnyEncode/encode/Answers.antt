@@ -1,6 +1,6 @@
 use Rattle.std.proofs.Common.{rules, ◌≡◌, ◌∙◌, ◌++◌, sym, ap, []}
 use Rattle.der_tlv.specs.HeaderOctets.{header_octets, tlv}
-use Rattle.der_elem.proofs.Written.{WritesPart, refused_within, wrote_none, last_part}
+use Rattle.der_elem.proofs.Written.{refused_within, wrote_nothing, last_part}
 use Rattle.der_elem.proofs.blanket.AnyEncode.encode.Goals as goal
 use Rattle.der_elem.proofs.blanket.AnyEncode.encode.Goals.{After-encode}
 
@@ -10,10 +10,9 @@ whole g c =
 
 pub returns-in_err-encode : goal.returns-in_err-encode
 returns-in_err-encode g c =
-    let w : WritesPart (g.T.Form.encoding c.args.self.now) [] (header_octets c.new-header.result.tag c.new-header.result.length) (g.T.FormValue.contents c.args.self.now) (g.W.Writer.state c.args.writer.now) (g.W.Writer.state c.args.writer.now) = record { whole = whole g (goal.at.returns-in_err-encode g c).After-encode; so_far = wrote_none (g.W.Writer.state c.args.writer.now) } in
-    let refused = refused_within w c.in_err-encode.ensures in
+    let refused = refused_within (wrote_nothing (g.W.Writer.state c.args.writer.now)) (g.T.Form.encoding c.args.self.now) (header_octets c.new-header.result.tag c.new-header.result.length) (g.T.FormValue.contents c.args.self.now) (whole g (goal.at.returns-in_err-encode g c).After-encode) c.in_err-encode.ensures in
     search rules
 
 pub returns : goal.returns
 returns g c =
-    last_part (header_octets c.new-header.result.tag c.new-header.result.length) (g.T.FormValue.contents c.args.self.now) (g.T.Form.encoding c.args.self.now) _ (g.T.FormValue.re_reads_value c.args.self.now) (g.T.Form.re_reads c.args.self.now) (g.met.T.Tagged.re_reads_alike c.args.self.now) (whole g (goal.at.returns g c).After-encode) c.in_ok-encode.ensures c.encode_value.result c.encode_value.ensures
+    last_part c.in_ok-encode.ensures (g.T.Form.encoding c.args.self.now) (g.T.FormValue.contents c.args.self.now) (whole g (goal.at.returns g c).After-encode) (g.T.FormValue.re_reads_value c.args.self.now) (g.T.Form.re_reads c.args.self.now) (g.met.T.Tagged.re_reads_alike c.args.self.now) (g.W.Writer.state c.encode_value.new.writer) c.encode_value.result c.encode_value.ensures
