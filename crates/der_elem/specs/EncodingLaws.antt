@@ -1,10 +1,14 @@
 -- What holds of all encodings, stated for the functions that promise it.
-use Rattle.std.specs.Prelude.{◌≡◌, ℕ, List, ◌++◌, flat_map}
+use Rattle.std.specs.Prelude.{◌≡◌, ℕ, ℤ, ◌<◌, ◌≤◌, ◌^◌, List, ◌++◌, length, flat_map, Ok}
 use Rattle.std.specs.Ordering.{on}
 use Rattle.std.specs.Cmp.Lexicographic.{slice_cmp}
 use Rattle.der_tlv.specs.declared.tag.Tag.{Tag}
+use Rattle.der_tlv.specs.declared.encoding_rules.EncodingRules.TheVariants.{Der}
 use Rattle.der_tlv.specs.Octets.{lex}
 use Rattle.der_tlv.specs.HeaderOctets.{tlv}
+use Rattle.der_elem.specs.declared.form.Form as form
+use Rattle.der_elem.specs.Decoding.{parse_all}
+use Rattle.der_elem.specs.Integer.{AreOctets, integer_contents, twos_complement}
 use Rattle.der_elem.specs.PaddedOrder.{padded_cmp}
 
 -- no encoding is a proper beginning of another: what two encodings begin alike has the same tag, contents and tail
@@ -18,3 +22,18 @@ PaddingIsLexicographic = (t u : Tag) (c d : List ℕ) → padded_cmp (tlv t c) (
 -- the order of two lists of joined encodings is decided by the first pair that differs, else by the number of items
 abbrev pub FirstPairDecides : {T : Type 0} → (T → List ℕ) → Type 0
 FirstPairDecides {T} encoding = (vs ws : List T) → lex (flat_map encoding vs) (flat_map encoding ws) ≡ slice_cmp (on encoding lex) vs ws
+
+-- values that are read from the same octets have one encoding
+abbrev pub OneValueIsRead : {T : Type 0} → form.Ghosts T → Type 0
+OneValueIsRead {T} F =
+    (v w : T) (octets : List ℕ) → F.accepts Der v octets → F.accepts Der w octets → length octets < 2 ^ 32 → F.encoding v ≡ F.encoding w
+
+-- the encoding of a value that was read comes to itself, so what is canonical stays as it is
+abbrev pub EncodingsReadBack : {T : Type 0} → form.Ghosts T → Type 0
+EncodingsReadBack {T} F =
+    (v : T) (octets : List ℕ) → F.accepts Der v octets → length octets < 2 ^ 32 → parse_all F.parse (F.encoding v) ≡ Ok (F.encoding v)
+
+-- the contents octets of an integer have it as their two's complement number, and no fewer octets do (X.690 8.3.2, 8.3.3)
+abbrev pub IntegersAreFewest : Type 0
+IntegersAreFewest =
+    (z : ℤ) → (twos_complement (integer_contents z) ≡ z) × ((c : List ℕ) → AreOctets c → 0 < length c → twos_complement c ≡ z → length (integer_contents z) ≤ length c)

@@ -1,7 +1,8 @@
 //! Laws of encodings: functions that do nothing, and promise what holds of all encodings.
 
-ghost use Rattle.der_elem.specs.EncodingLaws.{NoneBeginsAnother, PaddingIsLexicographic, FirstPairDecides};
+ghost use Rattle.der_elem.specs.EncodingLaws.{NoneBeginsAnother, PaddingIsLexicographic, FirstPairDecides, OneValueIsRead, EncodingsReadBack, IntegersAreFewest};
 
+use crate::form::Form;
 use crate::tag::Tagged;
 
 /// No encoding is a proper beginning of another, for any two tags and contents octets.
@@ -19,4 +20,21 @@ pub fn padding_is_lexicographic()
 /// else by the number of items.
 pub fn first_pair_decides<T: Tagged>()
     ensures { FirstPairDecides T.encoding }
+{}
+
+/// Values that are read from the same octets have one encoding.
+pub fn one_value_is_read<T: Form>()
+    ensures { OneValueIsRead T.Form }
+{}
+
+/// The encoding of a value that was read is read as that value, so to make octets canonical twice
+/// is to make them canonical once.
+pub fn encodings_read_back<T: Form>()
+    ensures { EncodingsReadBack T.Form }
+{}
+
+/// The contents octets of an integer have it as their two's complement number, and no fewer octets
+/// do (X.690 8.3).
+pub fn integers_are_fewest()
+    ensures { IntegersAreFewest }
 {}

@@ -230,4 +230,7 @@ fn calls_laws() {
     crate::laws::no_encoding_begins_another();
     crate::laws::padding_is_lexicographic();
     crate::laws::first_pair_decides::<u8>();
+    crate::laws::one_value_is_read::<Vec<u8>>();
+    crate::laws::encodings_read_back::<Option<i16>>();
+    crate::laws::integers_are_fewest();
 }
