@@ -28,3 +28,6 @@ pub use tag::{
     identifiers_decide_order, identifiers_read_back,
 };
 pub use writer::{SliceWriter, VecWriter, Writer};
+
+#[cfg(test)]
+mod tests;

@@ -83,6 +83,7 @@ pub trait Reader<'a> {
     /// Makes the reader failed, and gives an error of this kind at its position.
     fn error(&mut self, kind: ErrorKind) -> Error
         ensures kind { result.kind ≡ kind }
+        ensures position { result.position ≡ Some (state self.old).position }
         ensures failed { state self.new ≡ after_fault (state self.old) };
 
     ghost sound: { (r : Self) → IsReaderState (state r) };

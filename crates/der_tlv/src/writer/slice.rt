@@ -1,7 +1,7 @@
 //! A writer into memory that is there.
 
-ghost use Rattle.std.specs.Prelude.{◌≡◌, ◌-◌, ◌≤◌, [], length, take, false};
-ghost use Rattle.der_tlv.specs.Writing.{WriterState, is_overlength, refuses_first_with, room_unless_failed};
+ghost use Rattle.std.specs.Prelude.{◌≡◌, ◌-◌, ◌≤◌, [], length, take, false, OnOk, OnErr};
+ghost use Rattle.der_tlv.specs.Writing.{WriterState, Writes, is_overlength, refuses_first_with, room_unless_failed};
 
 use crate::error::{Error, ErrorKind};
 use crate::writer::Writer;
@@ -47,7 +47,11 @@ impl<'a> Writer for SliceWriter<'a> {
 
     ghost state = { slice_writer_state };
 
-    fn write(&mut self, octets: &[u8]) -> Result<(), Error> {
+    fn write(&mut self, octets: &[u8]) -> Result<(), Error>
+        ensures written { Writes octets.now (⟦<SliceWriter<'a> as Writer>⟧.state self.old) (⟦<SliceWriter<'a> as Writer>⟧.state self.new) result }
+        ensures ready { OnOk result ((⟦<SliceWriter<'a> as Writer>⟧.state self.old).failed ≡ false) }
+        ensures kept { OnErr result ((⟦<SliceWriter<'a> as Writer>⟧.state self.new).taken ≡ (⟦<SliceWriter<'a> as Writer>⟧.state self.old).taken) }
+    {
         if self.failed {
             return Err(Error::from_kind(ErrorKind::Failed));
         }

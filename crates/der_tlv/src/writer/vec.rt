@@ -1,7 +1,7 @@
 //! A writer into a vector.
 
-ghost use Rattle.std.specs.Prelude.{◌≡◌, ◌-◌, ◌≤◌, [], IfOk, IfErr, vec_len, vec_capacity, false};
-ghost use Rattle.der_tlv.specs.Writing.{WriterState, is_memory, refuses_first_with, room_unless_failed};
+ghost use Rattle.std.specs.Prelude.{◌≡◌, ◌≤◌, [], IfOk, IfErr, false, OnOk, OnErr};
+ghost use Rattle.der_tlv.specs.Writing.{WriterState, Writes};
 ghost use Rattle.der_tlv.specs.declared.error.ErrorKind.TheVariants.{Memory};
 
 use crate::error::{Error, ErrorKind};
@@ -62,7 +62,11 @@ impl Writer for VecWriter {
 
     ghost state = { vec_writer_state };
 
-    fn write(&mut self, octets: &[u8]) -> Result<(), Error> {
+    fn write(&mut self, octets: &[u8]) -> Result<(), Error>
+        ensures written { Writes octets.now (⟦<VecWriter as Writer>⟧.state self.old) (⟦<VecWriter as Writer>⟧.state self.new) result }
+        ensures ready { OnOk result ((⟦<VecWriter as Writer>⟧.state self.old).failed ≡ false) }
+        ensures kept { OnErr result ((⟦<VecWriter as Writer>⟧.state self.new).taken ≡ (⟦<VecWriter as Writer>⟧.state self.old).taken) }
+    {
         if self.failed {
             return Err(Error::from_kind(ErrorKind::Failed));
         }
