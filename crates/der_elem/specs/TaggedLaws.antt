@@ -1,5 +1,5 @@
 -- The laws of encodings with one tag, from those of their contents octets.
-use Rattle.std.proofs.Common.{◌≡◌, ℕ, ◌+◌, List, ◌∷◌, ◌++◌, length, true, false, Ok, refl, sym, ap, ◌∙◌, arith, subst, nat_lt, append_assoc}
+use Rattle.std.proofs.Common.{◌≡◌, ℕ, ◌+◌, List, ◌∷◌, ◌++◌, length, true, false, Ok, refl, sym, ap, ◌∙◌, arith, subst, nat_lt, append_assoc, ◌↔◌, Bool, IsTrue}
 use Rattle.std.proofs.lemmas.List.{length-append}
 use Rattle.std.proofs.lemmas.Bool.Decides.{nat_tests}
 use Rattle.std.proofs.Math.Seq.{take-append_seam, drop-append_seam}
@@ -9,7 +9,7 @@ use Rattle.der_tlv.specs.TagParts.{IsTag}
 use Rattle.der_tlv.specs.Identifier.{identifier, same_identifier}
 use Rattle.der_tlv.specs.LengthOctets.{length_octets}
 use Rattle.der_tlv.specs.HeaderOctets.{header_octets, tlv}
-use Rattle.der_tlv.specs.HeaderLaws.{read_header-octets, same_identifier-same}
+use Rattle.der_tlv.specs.HeaderLaws.{read_header-octets, same_identifier-same, tlv-injective}
 use Rattle.der_elem.specs.Parsing.{ContentsParse, parse_tagged, parse_with_tag}
 use Rattle.der_elem.specs.Accepting.{Fits, BeginsWith, MayFollow, accepts_tagged}
 
@@ -59,3 +59,8 @@ module _ {T : Type 0} (t : Tag) (accepts : EncodingRules → T → List ℕ → 
 module _ {T : Type 0} (t : Tag) (accepts : EncodingRules → T → List ℕ → Type 0) (one_form : T → T → Type 0) (accepts_one_form : (rules : EncodingRules) (v w : T) (c d : List ℕ) → accepts rules v c → accepts rules w d → one_form v w) where
   pub one_form_tagged : (rules : EncodingRules) (v w : T) (b c : List ℕ) → accepts_tagged t accepts rules v b → accepts_tagged t accepts rules w c → one_form v w
   one_form_tagged rules v w b c (d, e, a) (f, g, h) = accepts_one_form rules v w d f a h
+
+module _ {T : Type 0} (t : Tag) (contents : T → List ℕ) (one_form : T → T → Type 0) (eq : T → T → Bool) (contents_eq : (v w : T) → one_form v w → IsTrue (eq v w) ↔ (contents v ≡ contents w)) where
+  pub encoding_eq_tagged : (v w : T) → one_form v w → IsTrue (eq v w) ↔ (tlv t (contents v) ≡ tlv t (contents w))
+  encoding_eq_tagged v w one =
+      (λ e. ap (tlv t) ((contents_eq v w one).0 e), λ e. (contents_eq v w one).1 (tlv-injective t t (contents v) (contents w) e).1)

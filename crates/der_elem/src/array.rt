@@ -54,8 +54,6 @@ impl<T: Form, const N: usize> FormValue for [T; N] {
 
     ghost VALUE_TAKES_MEMORY = { T.TAKES_MEMORY };
 
-    const VALUE_TAKES_MEMORY: bool = T::TAKES_MEMORY;
-
     ghost parse_of_accepted_value = { λ rules. parse_of_array T.Form rules N };
 
     ghost same_length_value = { λ rules. same_length_array T.Form rules N };

@@ -41,8 +41,6 @@ impl FormValue for bool {
 
     ghost VALUE_TAKES_MEMORY = { false };
 
-    const VALUE_TAKES_MEMORY: bool = false;
-
     ghost parse_of_accepted_value = { parse_of_own boolean_contents parse_boolean parse_boolean-own };
 
     ghost same_length_value = { same_length_own boolean_contents };

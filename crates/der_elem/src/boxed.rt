@@ -38,8 +38,6 @@ impl<T: FormValue> FormValue for Box<T> {
 
     ghost VALUE_TAKES_MEMORY = { true };
 
-    const VALUE_TAKES_MEMORY: bool = true;
-
     ghost parse_of_accepted_value = { λ rules v. T.parse_of_accepted_value rules v.value };
 
     ghost same_length_value = { λ rules v. T.same_length_value rules v.value };

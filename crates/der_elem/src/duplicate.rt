@@ -1,9 +1,11 @@
 //! Copies of values.
 
 ghost use Rattle.std.specs.Prelude.{◌≡◌, Bool, true, IfOk, IfErr};
+ghost use Rattle.std.proofs.Common.{ap};
+ghost use Rattle.der_tlv.specs.HeaderOctets.{tlv};
 ghost use Rattle.der_tlv.specs.declared.error.ErrorKind.TheVariants.{Memory};
 
-use crate::form::Form;
+use crate::form::{FixedTag, Form, FormValue};
 use der_tlv::Error;
 
 /// A type whose values can be copied, which may take memory.
@@ -28,4 +30,44 @@ pub trait Duplicate: Form {
     ghost copy_form: { (v w x : Self) → is_copy v w → Self.one_form v x → Self.one_form w x };
 
     ghost copy_re_reads: { (v w : Self) → is_copy v w → Self.re_reads w ≡ Self.re_reads v };
+}
+
+/// A type whose values can be copied with their contents octets, which may take memory.
+pub trait DuplicateValue: FormValue {
+    // whether a value is a copy of another
+    ghost is_copy_value: { Self → Self → Type 0 };
+
+    // whether copying takes memory
+    ghost takes_memory_to_copy_value: { Bool };
+
+    /// A copy of the value.
+    ///
+    /// # Errors
+    /// (1) where memory runs out.
+    fn duplicate_value(&self) -> Result<Self, Error>
+        ensures ok { IfOk result (λ copy. is_copy_value self.now copy) }
+        ensures kind { IfErr result (λ e. e.kind ≡ Memory) }
+        ensures memory { IfErr result (λ e. takes_memory_to_copy_value ≡ true) };
+
+    ghost copy_contents: { (v w : Self) → is_copy_value v w → Self.contents w ≡ Self.contents v };
+
+    ghost copy_form_value: { (v w x : Self) → is_copy_value v w → Self.one_form_value v x → Self.one_form_value w x };
+
+    ghost copy_re_reads_value: { (v w : Self) → is_copy_value v w → Self.re_reads_value w ≡ Self.re_reads_value v };
+}
+
+impl<T: DuplicateValue + FixedTag> Duplicate for T {
+    ghost is_copy = { T.is_copy_value };
+
+    ghost takes_memory_to_copy = { T.takes_memory_to_copy_value };
+
+    fn duplicate(&self) -> Result<T, Error> {
+        self.duplicate_value()
+    }
+
+    ghost copy_encoding = { λ v w c. ap (tlv T.TAG) (T.copy_contents v w c) };
+
+    ghost copy_form = { T.copy_form_value };
+
+    ghost copy_re_reads = { T.copy_re_reads_value };
 }

@@ -1,10 +1,20 @@
 //! Equality of values, which is that of their encodings.
 
 ghost use Rattle.std.specs.Prelude.{◌≡◌, ◌↔◌, IsTrue};
+ghost use Rattle.der_elem.specs.TaggedLaws.{encoding_eq_tagged};
 
-use crate::form::Form;
+use crate::form::{FixedTag, Form, FormValue};
 
 /// A type whose values of one form are equal exactly if their encodings are.
 pub trait EncodingEq: Form + PartialEq {
     ghost encoding_eq: { (v w : Self) → Self.one_form v w → (IsTrue (Self.eq v w) ↔ (Self.encoding v ≡ Self.encoding w)) };
+}
+
+/// A type whose values of one form are equal exactly if their contents octets are.
+pub trait ContentsEq: FormValue + PartialEq {
+    ghost contents_eq: { (v w : Self) → Self.one_form_value v w → (IsTrue (Self.eq v w) ↔ (Self.contents v ≡ Self.contents w)) };
+}
+
+impl<T: ContentsEq + FixedTag> EncodingEq for T {
+    ghost encoding_eq = { encoding_eq_tagged T.TAG T.contents T.one_form_value T.eq T.contents_eq };
 }

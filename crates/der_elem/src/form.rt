@@ -38,10 +38,8 @@ pub trait FormValue: Sized + Drop {
     // whether the value may stand behind a header with this tag
     ghost has_tag: { Self → Tag → Type 0 };
 
+    // whether reading the contents octets takes memory
     ghost VALUE_TAKES_MEMORY: { Bool };
-
-    /// Whether reading the contents octets takes memory.
-    const VALUE_TAKES_MEMORY: bool;
 
     ghost parse_of_accepted_value: { (rules : EncodingRules) (v : Self) (p : ℕ) (c : List ℕ) → accepts_value rules v c → Fits c → parse_value rules p c ≡ Ok (contents v) };
 
@@ -80,10 +78,8 @@ pub trait Form: Sized + Drop {
     // whether reading can give the value
     ghost readable: { Self → Type 0 };
 
+    // whether reading takes memory
     ghost TAKES_MEMORY: { Bool };
-
-    /// Whether reading takes memory.
-    const TAKES_MEMORY: bool;
 
     ghost parse_of_accepted: { (rules : EncodingRules) (v : Self) (p : ℕ) (b x : List ℕ) → accepts rules v b → Fits b → MayFollow tags b x → parse rules p (b ++ x) ≡ Ok (length b, encoding v) };
 
@@ -110,6 +106,20 @@ pub trait FixedTag {
     ghost tag_in_range: { IsTag TAG };
 }
 
+/// A type whose encodings have the tag of another type's, as a borrowed form has its owned form's.
+pub trait SameTag {
+    /// The other type.
+    type As: FixedTag;
+}
+
+impl<T: SameTag> FixedTag for T {
+    ghost TAG = { T.As.TAG };
+
+    const TAG: Tag = <T::As as FixedTag>::TAG;
+
+    ghost tag_in_range = { T.As.tag_in_range };
+}
+
 impl<T: FormValue + FixedTag> Form for T {
     ghost encoding = { λ v. tlv T.TAG (T.contents v) };
 
@@ -126,8 +136,6 @@ impl<T: FormValue + FixedTag> Form for T {
     ghost readable = { T.readable_value };
 
     ghost TAKES_MEMORY = { T.VALUE_TAKES_MEMORY };
-
-    const TAKES_MEMORY: bool = T::VALUE_TAKES_MEMORY;
 
     ghost parse_of_accepted = { parse_of_tagged T.TAG T.tag_in_range T.accepts_value T.contents T.parse_value T.parse_of_accepted_value };
 

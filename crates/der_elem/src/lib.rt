@@ -26,10 +26,10 @@ mod vec;
 
 pub use contents::read_contents;
 pub use decode::{Decode, DecodeValue, FromDer};
-pub use duplicate::Duplicate;
+pub use duplicate::{Duplicate, DuplicateValue};
 pub use encode::{Encode, EncodeValue};
-pub use equality::EncodingEq;
-pub use form::{FixedTag, Form, FormValue};
+pub use equality::{ContentsEq, EncodingEq};
+pub use form::{FixedTag, Form, FormValue, SameTag};
 pub use ord::{DerOrd, OrdIsValueOrd, ValueOrd};
 pub use sequence::Sequence;
 pub use tag::{Choice, IsConstructed, Tagged};

@@ -32,8 +32,6 @@ impl<T: Form> Form for Option<T> {
 
     ghost TAKES_MEMORY = { T.TAKES_MEMORY };
 
-    const TAKES_MEMORY: bool = T::TAKES_MEMORY;
-
     ghost parse_of_accepted = { parse_of_option T.Form };
 
     ghost begins = { λ rules v z b. begins_option T.Form rules v z b };

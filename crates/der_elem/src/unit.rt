@@ -37,8 +37,6 @@ impl FormValue for () {
 
     ghost VALUE_TAKES_MEMORY = { false };
 
-    const VALUE_TAKES_MEMORY: bool = false;
-
     ghost parse_of_accepted_value = { parse_of_own null_contents parse_null (λ rules v p. refl) };
 
     ghost same_length_value = { same_length_own null_contents };

@@ -53,8 +53,6 @@ impl<T: Form> FormValue for Vec<T> {
 
     ghost VALUE_TAKES_MEMORY = { true };
 
-    const VALUE_TAKES_MEMORY: bool = true;
-
     ghost parse_of_accepted_value = { λ rules v. parse_of_items T.Form rules v.items };
 
     ghost same_length_value = { λ rules v. same_length_items T.Form rules v.items };

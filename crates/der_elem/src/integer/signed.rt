@@ -44,8 +44,6 @@ impl FormValue for i8 {
 
     ghost VALUE_TAKES_MEMORY = { false };
 
-    const VALUE_TAKES_MEMORY: bool = false;
-
     ghost parse_of_accepted_value = { parse_of_within integer_contents (FitsSignedWidth 1) (parse_signed 1) (parse_signed-own 1 (lit< tt)) };
 
     ghost same_length_value = { same_length_within integer_contents (FitsSignedWidth 1) };
@@ -126,8 +124,6 @@ impl FormValue for i16 {
     ghost has_tag = { λ v t. Unit {0} };
 
     ghost VALUE_TAKES_MEMORY = { false };
-
-    const VALUE_TAKES_MEMORY: bool = false;
 
     ghost parse_of_accepted_value = { parse_of_within integer_contents (FitsSignedWidth 2) (parse_signed 2) (parse_signed-own 2 (lit< tt)) };
 
@@ -210,8 +206,6 @@ impl FormValue for i32 {
 
     ghost VALUE_TAKES_MEMORY = { false };
 
-    const VALUE_TAKES_MEMORY: bool = false;
-
     ghost parse_of_accepted_value = { parse_of_within integer_contents (FitsSignedWidth 4) (parse_signed 4) (parse_signed-own 4 (lit< tt)) };
 
     ghost same_length_value = { same_length_within integer_contents (FitsSignedWidth 4) };
@@ -293,8 +287,6 @@ impl FormValue for i64 {
 
     ghost VALUE_TAKES_MEMORY = { false };
 
-    const VALUE_TAKES_MEMORY: bool = false;
-
     ghost parse_of_accepted_value = { parse_of_within integer_contents (FitsSignedWidth 8) (parse_signed 8) (parse_signed-own 8 (lit< tt)) };
 
     ghost same_length_value = { same_length_within integer_contents (FitsSignedWidth 8) };
@@ -375,8 +367,6 @@ impl FormValue for i128 {
     ghost has_tag = { λ v t. Unit {0} };
 
     ghost VALUE_TAKES_MEMORY = { false };
-
-    const VALUE_TAKES_MEMORY: bool = false;
 
     ghost parse_of_accepted_value = { parse_of_within integer_contents (FitsSignedWidth 16) (parse_signed 16) (parse_signed-own 16 (lit< tt)) };
 

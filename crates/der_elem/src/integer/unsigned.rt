@@ -44,8 +44,6 @@ impl FormValue for u8 {
 
     ghost VALUE_TAKES_MEMORY = { false };
 
-    const VALUE_TAKES_MEMORY: bool = false;
-
     ghost parse_of_accepted_value = { parse_of_within natural_contents (FitsUnsignedWidth 1) (parse_unsigned 1) (parse_unsigned-own 1) };
 
     ghost same_length_value = { same_length_within natural_contents (FitsUnsignedWidth 1) };
@@ -126,8 +124,6 @@ impl FormValue for u16 {
     ghost has_tag = { λ v t. Unit {0} };
 
     ghost VALUE_TAKES_MEMORY = { false };
-
-    const VALUE_TAKES_MEMORY: bool = false;
 
     ghost parse_of_accepted_value = { parse_of_within natural_contents (FitsUnsignedWidth 2) (parse_unsigned 2) (parse_unsigned-own 2) };
 
@@ -210,8 +206,6 @@ impl FormValue for u32 {
 
     ghost VALUE_TAKES_MEMORY = { false };
 
-    const VALUE_TAKES_MEMORY: bool = false;
-
     ghost parse_of_accepted_value = { parse_of_within natural_contents (FitsUnsignedWidth 4) (parse_unsigned 4) (parse_unsigned-own 4) };
 
     ghost same_length_value = { same_length_within natural_contents (FitsUnsignedWidth 4) };
@@ -293,8 +287,6 @@ impl FormValue for u64 {
 
     ghost VALUE_TAKES_MEMORY = { false };
 
-    const VALUE_TAKES_MEMORY: bool = false;
-
     ghost parse_of_accepted_value = { parse_of_within natural_contents (FitsUnsignedWidth 8) (parse_unsigned 8) (parse_unsigned-own 8) };
 
     ghost same_length_value = { same_length_within natural_contents (FitsUnsignedWidth 8) };
@@ -375,8 +367,6 @@ impl FormValue for u128 {
     ghost has_tag = { λ v t. Unit {0} };
 
     ghost VALUE_TAKES_MEMORY = { false };
-
-    const VALUE_TAKES_MEMORY: bool = false;
 
     ghost parse_of_accepted_value = { parse_of_within natural_contents (FitsUnsignedWidth 16) (parse_unsigned 16) (parse_unsigned-own 16) };
 
