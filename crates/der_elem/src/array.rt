@@ -1,4 +1,10 @@
-//! SEQUENCE OF with a fixed number of items: arrays.
+//! SEQUENCE OF with a fixed number of items, which is `[T; N]` (X.690 8.10).
+//!
+//! The tag is 30. The contents octets are the encodings of the items, one after another, so that
+//! `[true]` is encoded as 30 03 01 01 FF.
+//!
+//! Reading refuses with the first fault of an item, from the left, where there are fewer items (7),
+//! and behind an item too many (10), which is read first. It takes memory only where an item does.
 
 ghost use Rattle.std.specs.Prelude.{◌≡◌, flat_map, false, refl};
 ghost use Rattle.std.specs.List.{list_any};

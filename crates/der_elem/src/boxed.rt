@@ -1,6 +1,8 @@
-//! Values on the heap, which are encoded as the values.
+//! `Box`, which is encoded as its value.
+//!
+//! Reading refuses with the value's faults, and then where memory runs out (1).
 
-ghost use Rattle.std.specs.Prelude.{◌≡◌, true, refl};
+ghost use Rattle.std.specs.Prelude.{true, refl};
 
 use crate::decode::DecodeValue;
 use crate::encode::EncodeValue;

@@ -225,4 +225,9 @@ fn refuses_on_a_failed_reader(rt: HostRuntime) {
     assert_eq!(rt; read_again::<u32>(alloc, &[0x00]), Err(17));
     assert_eq!(rt; read_again::<u64>(alloc, &[0x00]), Err(17));
     assert_eq!(rt; read_again::<u128>(alloc, &[]), Err(17));
+    assert_eq!(rt; read_again::<Vec<u8>>(alloc, &[]), Err(17));
+    assert_eq!(rt; read_again::<Vec<u8>>(alloc, &[0x02, 0x01, 0x05]), Err(17));
+    assert_eq!(rt; read_again::<[u8; 0]>(alloc, &[]), Err(17));
+    assert_eq!(rt; read_again::<[u8; 2]>(alloc, &[]), Err(17));
+    assert_eq!(rt; read_again::<Box<u8>>(alloc, &[0x05]), Err(17));
 }

@@ -1,6 +1,12 @@
-//! SEQUENCE OF: lists of items.
+//! SEQUENCE OF, which is `Vec` (X.690 8.10).
+//!
+//! The tag is 30. The contents octets are the encodings of the items, one after another, so that
+//! the INTEGERs 1 and 200 are encoded as 30 07 02 01 01 02 02 00 C8.
+//!
+//! Reading refuses with the first fault of an item, from the left, and where memory runs out (1).
+//! The first pair of items that differs decides the order of two lists, else the number of items.
 
-ghost use Rattle.std.specs.Prelude.{◌≡◌, ℕ, List, flat_map, true, refl};
+ghost use Rattle.std.specs.Prelude.{flat_map, true, refl};
 ghost use Rattle.std.specs.List.{list_any};
 ghost use Rattle.der_tlv.specs.declared.tag.Tag.TheVariants as tags;
 ghost use Rattle.std.proofs.Common.{lit<, ap};
