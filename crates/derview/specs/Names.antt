@@ -6,7 +6,7 @@ use Rattle.der_tlv.specs.declared.error.Error.{Error}
 use Rattle.der_tlv.specs.declared.error.ErrorKind.{ErrorKind}
 use Rattle.der_tlv.specs.declared.error.ErrorKind.TheVariants.{Memory}
 use Rattle.der_tlv.specs.declared.tag.Tag.{Tag}
-use Rattle.der_tlv.specs.declared.tag.Tag.TheVariants.{Boolean, Integer, Null, Sequence}
+use Rattle.der_tlv.specs.declared.tag.Tag.TheVariants.{Boolean, Integer, Null, OctetString, ObjectIdentifier, Sequence}
 use Rattle.der_tlv.specs.Identifier.{same_identifier}
 use Rattle.der_elem.specs.Items.{parse_items}
 use Rattle.der_elem.specs.Arrays.{parse_array}
@@ -16,6 +16,9 @@ use Rattle.der_elem.specs.Decoding.{parse_all}
 use Rattle.der_elem.specs.Boolean.{parse_boolean}
 use Rattle.der_elem.specs.Null.{parse_null}
 use Rattle.der_elem.specs.IntegerReading.{parse_signed, parse_unsigned}
+use Rattle.der_opaque.specs.Opaque.{parse_octets}
+use Rattle.der_opaque.specs.ObjectIdentifierOctets.{parse_identifier}
+use Rattle.der_opaque.specs.AnyForm.{parse_any}
 
 -- the canonical encoding of what some octets encode as one type, or the first fault
 abbrev pub CanonicalFunction : Type 0
@@ -51,10 +54,23 @@ unsigned_types name =
     else if bytes_eq name (codes "u128") then Some (canonical_tagged Integer (parse_unsigned 16))
     else None
 
--- a list of 64-bit integers, a pair of octets, and an octet that may be absent
+-- values whose contents octets are kept as they stand: NULL, any value, OCTET STRING, and OBJECT
+-- IDENTIFIER in at most 39 octets
+unfoldable pub opaque_types : List ℕ → Option CanonicalFunction
+opaque_types name =
+    if bytes_eq name (codes "null") then Some (canonical_tagged Null parse_null)
+    else if bytes_eq name (codes "any") then Some (parse_all parse_any)
+    else if bytes_eq name (codes "anyref") then Some (parse_all parse_any)
+    else if bytes_eq name (codes "octets") then Some (canonical_tagged OctetString parse_octets)
+    else if bytes_eq name (codes "octetsref") then Some (canonical_tagged OctetString parse_octets)
+    else if bytes_eq name (codes "oid") then Some (canonical_tagged ObjectIdentifier (parse_identifier 39))
+    else None
+
+-- a list of 64-bit integers, a list of any values, a pair of octets, and an octet that may be absent
 unfoldable pub composed_types : List ℕ → Option CanonicalFunction
 composed_types name =
     if bytes_eq name (codes "vec-i64") then Some (canonical_tagged Sequence (parse_items (parse_tagged Integer (parse_signed 8))))
+    else if bytes_eq name (codes "vec-anyref") then Some (canonical_tagged Sequence (parse_items parse_any))
     else if bytes_eq name (codes "array2-u8") then Some (canonical_tagged Sequence (parse_array 2 (parse_tagged Integer (parse_unsigned 1))))
     else if bytes_eq name (codes "opt-u8") then Some (parse_all (parse_option (λ tag. same_identifier tag Integer) (parse_tagged Integer (parse_unsigned 1))))
     else None
@@ -66,7 +82,7 @@ or_else (Some function) other = Some function
 
 -- the function of the type with a name
 unfoldable pub canonical_function_of : List ℕ → Option CanonicalFunction
-canonical_function_of name = or_else (plain_types name) (or_else (signed_types name) (or_else (unsigned_types name) (composed_types name)))
+canonical_function_of name = or_else (plain_types name) (or_else (signed_types name) (or_else (unsigned_types name) (or_else (opaque_types name) (composed_types name))))
 
 -- the result is what the function gives, unless memory was refused
 abbrev pub Gives : Result (Vec ℕ Global) Error → Result (List ℕ) ErrorKind → Type 0

@@ -1,9 +1,10 @@
 //! The types by their names.
 ghost use Rattle.std.specs.Prelude.{◌≡◌};
 ghost use Rattle.std.specs.Str.{bytes_eq};
-ghost use Rattle.derview.specs.Names.{canonical_function_of, plain_types, signed_types, unsigned_types, composed_types, AnswersAs};
+ghost use Rattle.derview.specs.Names.{canonical_function_of, plain_types, signed_types, unsigned_types, opaque_types, composed_types, AnswersAs};
 
 use crate::canonical::canonical;
+use der_opaque::{Any, AnyRef, Null, ObjectIdentifier, OctetString, OctetStringRef};
 use der_tlv::Error;
 use std::alloc::Global;
 
@@ -35,6 +36,9 @@ pub fn canonical_of_name(
         return Some(canonical);
     }
     if let Some(canonical) = canonical_of_unsigned(alloc, name, octets) {
+        return Some(canonical);
+    }
+    if let Some(canonical) = canonical_of_opaque(alloc, name, octets) {
         return Some(canonical);
     }
     canonical_of_composed(alloc, name, octets)
@@ -83,6 +87,21 @@ fn canonical_of_unsigned(
     }
 }
 
+#[tactic(auto, unfolding(crate::specs::Names::opaque_types))]
+fn canonical_of_opaque(alloc: Global, name: &[u8], octets: &[u8]) -> Option<Result<Vec<u8>, Error>>
+    ensures { AnswersAs (opaque_types name.now) octets.now result }
+{
+    choose! {
+        alloc, name, octets;
+        "null" => Null,
+        "any" => Any,
+        "anyref" => AnyRef,
+        "octets" => OctetString,
+        "octetsref" => OctetStringRef,
+        "oid" => ObjectIdentifier<39>,
+    }
+}
+
 #[tactic(auto, unfolding(crate::specs::Names::composed_types))]
 fn canonical_of_composed(
     alloc: Global,
@@ -94,6 +113,7 @@ fn canonical_of_composed(
     choose! {
         alloc, name, octets;
         "vec-i64" => Vec<i64>,
+        "vec-anyref" => Vec<AnyRef>,
         "array2-u8" => [u8; 2],
         "opt-u8" => Option<u8>,
     }

@@ -1,0 +1,43 @@
+-- Carried contents octets that are read by a reader of their own.
+use Rattle.std.proofs.Common.{◌≡◌, ℕ, List, length, Bool, true, ◌⊎◌, inl, inr, Result, Ok, Err, refl, sym, ap, ◌∙◌, subst}
+use Rattle.std.proofs.Math.Seq.{take-length}
+use Rattle.der_tlv.specs.declared.error.ErrorKind.{ErrorKind}
+use Rattle.der_tlv.specs.declared.error.Error.{Error}
+use Rattle.der_tlv.specs.declared.encoding_rules.EncodingRules.{EncodingRules}
+use Rattle.der_tlv.specs.declared.header.Header.{Header}
+use Rattle.der_tlv.specs.ReaderState.{ReaderState, rest, opened}
+use Rattle.der_elem.specs.declared.form.FormValue as value
+use Rattle.der_elem.specs.declared.form.Form as form
+use Rattle.der_elem.specs.Accepting.{Fits}
+use Rattle.der_elem.specs.Decoding.{DecodesValue}
+use Rattle.der_opaque.specs.DecodingAs.{DecodesAs, NotDecodedAs}
+
+-- a new reader shows all of the octets
+pub rest_opened : (octets : List ℕ) (rules : EncodingRules) {s : ReaderState} → s ≡ opened octets rules → rest s ≡ octets
+rest_opened octets rules opens = ap rest opens ∙ take-length octets
+
+module _ {T : Type 0} (C : form.Ghosts T) (F : value.Ghosts T) (rules : EncodingRules) (header : Header) (octets : List ℕ) (fits : Fits octets) (allowed : C.tags header.tag ≡ true) where
+  not_decoded : (kind : ErrorKind) → F.parse_value rules 0 octets ≡ Err kind → NotDecodedAs C F rules header.tag octets kind
+  not_decoded kind e =
+      record {
+        fault = rw allowed e;
+        nothing = λ t w accepted. let k = sym (F.parse_of_accepted_value rules w 0 octets accepted fits) ∙ e in absurd (cc);
+      }
+
+  at_opened : (new : ReaderState) (r : Result T Error) → DecodesValue F header (opened octets rules) new r → DecodesAs C F rules header.tag octets r
+  at_opened new (Ok v) told =
+      record {
+        allowed = allowed;
+        parsed = ap (F.parse_value rules 0) (sym (take-length octets)) ∙ told.parsed;
+        accepted = subst (F.accepts_value rules v) (take-length octets) told.accepted;
+        tag = told.tag;
+      }
+  at_opened new (Err e) told =
+      elim told.reason [
+        | inl m ↦ inl (m.0, m.1, allowed)
+        | inr f ↦ inr (not_decoded e.kind (ap (F.parse_value rules 0) (sym (take-length octets)) ∙ f))
+      ]
+
+  -- what the type answers of the octets
+  pub decodes_as : (s new : ReaderState) (r : Result T Error) → s ≡ opened octets rules → DecodesValue F header s new r → DecodesAs C F rules header.tag octets r
+  decodes_as s new r opens told = at_opened new r (subst (λ s. DecodesValue F header s new r) opens told)

@@ -1,0 +1,2 @@
+pub mod AnyDecoding
+pub mod CarriedContents

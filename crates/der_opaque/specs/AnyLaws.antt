@@ -1,0 +1,54 @@
+-- The laws of encodings with any tag.
+use Rattle.std.proofs.Common.{◌≡◌, ℕ, ◌+◌, ◌<◌, ◌^◌, List, [], ◌∷◌, ◌++◌, length, take, drop, Bool, true, false, Ok, refl, sym, ap, ◌∙◌, arith, subst, nat_lt, append_assoc, ◌↔◌, IsTrue, ◌&&◌}
+use Rattle.std.proofs.lemmas.List.{length-append}
+use Rattle.std.proofs.lemmas.Bool.Decides.{nat_tests}
+use Rattle.std.proofs.Math.Seq.{take-append_seam, drop-append_seam}
+use Rattle.std.specs.Bool.{Decides}
+use Rattle.der_tlv.specs.declared.encoding_rules.EncodingRules.{EncodingRules}
+use Rattle.der_tlv.specs.declared.tag.Tag.{Tag}
+use Rattle.der_tlv.specs.TagParts.{IsTag}
+use Rattle.der_tlv.specs.Identifier.{identifier}
+use Rattle.der_tlv.specs.LengthOctets.{length_octets}
+use Rattle.der_tlv.specs.HeaderOctets.{header_octets, tlv}
+use Rattle.der_tlv.specs.HeaderReading.{read_header, header}
+use Rattle.der_tlv.specs.HeaderLaws.{read_header-octets, tlv-injective}
+use Rattle.der_elem.specs.Accepting.{Fits, BeginsWith, MayFollow}
+use Rattle.der_elem.specs.TaggedLaws.{contents_fit}
+use Rattle.der_opaque.specs.AnyForm.{accepts_any, parse_any, parse_behind_header}
+
+enough : (c x : List ℕ) → nat_lt (length (c ++ x)) (length c) ≡ false
+enough c x = let h = length-append c x in grind (arith, nat_tests)
+
+-- an encoding is parsed as itself, whatever follows it
+pub parse_any-tlv : (t : Tag) (rules : EncodingRules) (p : ℕ) (c x : List ℕ) → IsTag t → Fits (tlv t c) → parse_any rules p (tlv t c ++ x) ≡ Ok (length (tlv t c), tlv t c)
+unfolding parse_any
+parse_any-tlv t rules p c x is_tag fits =
+    let h = header_octets t (length c) in
+    let regroup : tlv t c ++ x ≡ h ++ (c ++ x) = append_assoc h c x in
+    let head = read_header-octets t (length c) p (c ++ x) is_tag (contents_fit t c fits) in
+    ap (parse_any rules p) regroup ∙ ap (parse_behind_header rules p (h ++ (c ++ x))) head ∙ rw (drop-append_seam h (c ++ x), enough c x, take-append_seam c x) (ap (λ n. Ok (n, tlv t c)) (sym (length-append h c)))
+
+module _ {T : Type 0} (tag_of : T → Tag) (contents : T → List ℕ) where
+  pub parse_of_any : (rules : EncodingRules) (v : T) (p : ℕ) (b x : List ℕ) → accepts_any tag_of contents rules v b → Fits b → MayFollow (λ t. true) b x → parse_any rules p (b ++ x) ≡ Ok (length b, tlv (tag_of v) (contents v))
+  parse_of_any rules v p b x (is_tag, e) fits follows =
+      subst (λ b. parse_any rules p (b ++ x) ≡ Ok (length b, tlv (tag_of v) (contents v))) (sym e) (parse_any-tlv (tag_of v) rules p (contents v) x is_tag (subst Fits e fits))
+
+  pub begins_any : (rules : EncodingRules) (v : T) (z : ℕ) (b : List ℕ) → accepts_any tag_of contents rules v (z ∷ b) → BeginsWith (λ t. true) true (z ∷ b)
+  begins_any rules v z b (is_tag, e) =
+      record { tag = tag_of v; others = length_octets (length (contents v)) ++ contents v; octets_are = e ∙ append_assoc (identifier (tag_of v)) (length_octets (length (contents v))) (contents v); is_tag = is_tag; is_one = refl }
+
+  pub same_length_any : (rules : EncodingRules) (v : T) (b : List ℕ) → accepts_any tag_of contents rules v b → length (tlv (tag_of v) (contents v)) ≡ length b
+  same_length_any rules v b (is_tag, e) = ap length (sym e)
+
+-- values with a carried tag are equal exactly if their encodings are
+pub encoding_eq_any : (same_tag same_contents : Bool) (t u : Tag) (c d : List ℕ) → Decides same_tag (t ≡ u) → Decides same_contents (c ≡ d) → IsTrue (same_tag && same_contents) ↔ (tlv t c ≡ tlv u d)
+encoding_eq_any same_tag same_contents t u c d tags contents =
+    (forth same_tag same_contents tags.0 contents.0, λ e. let same = tlv-injective t u c d e in both same_tag same_contents (tags.1 same.0) (contents.1 same.1))
+  where
+    forth : (a b : Bool) → (a ≡ true → t ≡ u) → (b ≡ true → c ≡ d) → (a && b) ≡ true → tlv t c ≡ tlv u d
+    forth true b f g e = ap (λ v. tlv v c) (f refl) ∙ ap (tlv u) (g e)
+    forth false b f g e = absurd (cc)
+
+    both : (a b : Bool) → a ≡ true → b ≡ true → (a && b) ≡ true
+    both true b e f = f
+    both false b e f = e

@@ -1,0 +1,40 @@
+-- The contents octets of an OBJECT IDENTIFIER, which are not looked into.
+use Rattle.std.proofs.Common.{◌≡◌, ◌≢◌, ◌⊎◌, Some, ℕ, ◌<◌, ◌≤◌, ◌^◌, nat_lt, List, [], ◌∷◌, length, take, if◌then◌else◌, Bool, true, false, Ok, Err, Result, refl, sym, ap, ◌∙◌, arith}
+use Rattle.std.proofs.lemmas.List.{length-take}
+use Rattle.std.proofs.lemmas.Bool.Decides.{nat_tests}
+use Rattle.der_tlv.specs.declared.error.ErrorKind.{ErrorKind}
+use Rattle.der_tlv.specs.declared.error.ErrorKind.TheVariants as kinds
+use Rattle.der_tlv.specs.declared.error.Error.{Error}
+use Rattle.der_tlv.specs.declared.tag.Tag.{Tag}
+use Rattle.der_tlv.specs.declared.tag.Tag.TheVariants.{ObjectIdentifier}
+use Rattle.der_tlv.specs.declared.encoding_rules.EncodingRules.{EncodingRules}
+use Rattle.der_elem.specs.Parsing.{ContentsParse}
+
+-- the octets, where there are some (X.690 8.19.2), else (15)
+abbrev pub some_octets : List ℕ → Result (List ℕ) ErrorKind
+some_octets [] = Err kinds.OidMalformed
+some_octets (octet ∷ others) = Ok (octet ∷ others)
+
+-- at most so many octets (7), and some (15)
+abbrev pub parse_identifier : ℕ → ContentsParse
+parse_identifier max rules p c = if nat_lt max (length c) then Err (kinds.Length ObjectIdentifier) else some_octets c
+
+pub kept_length : (max count : ℕ) (octets : List ℕ) → count ≤ max → length octets ≡ max → length (take count octets) ≡ count
+kept_length max count octets fits full = omega (arith, length-take count octets)
+
+some_are : (c : List ℕ) → 0 < length c → some_octets c ≡ Ok c
+some_are [] h = absurd (omega arith)
+some_are (octet ∷ others) h = refl
+
+-- octets that are kept are parsed as they are
+pub parse_identifier-kept : (max count : ℕ) (octets c : List ℕ) (rules : EncodingRules) (p : ℕ) → 0 < count → count ≤ max → length octets ≡ max → c ≡ take count octets → parse_identifier max rules p c ≡ Ok (take count octets)
+parse_identifier-kept max count octets c rules p some fits full e =
+    let l : length c ≡ count = ap length e ∙ kept_length max count octets fits full in
+    let short : nat_lt max (length c) ≡ false = grind (arith, nat_tests) in
+    rw short (some_are c (omega arith) ∙ ap Ok e)
+
+-- What a tag and octets are read as: an identifier with the octets, or (4) for another tag, (15) for no octets, (7) for more than max.
+abbrev pub FromAny : {T : Type 0} → ℕ → (T → List ℕ) → Tag → List ℕ → Result T Error → Type 0
+FromAny max contents t octets (Ok v) = (t ≡ ObjectIdentifier) × (contents v ≡ octets)
+FromAny max contents t octets (Err e) =
+    ((t ≢ ObjectIdentifier) × (e.kind ≡ kinds.TagUnexpected (Some ObjectIdentifier) t)) ⊎ ((t ≡ ObjectIdentifier) × (octets ≡ []) × (e.kind ≡ kinds.OidMalformed)) ⊎ ((t ≡ ObjectIdentifier) × (max < length octets) × (e.kind ≡ kinds.Length ObjectIdentifier))

@@ -1,0 +1,351 @@
+//! Values with any tag.
+
+ghost use Rattle.std.specs.Prelude.{◌≡◌, ◌≢◌, Some, ◌↔◌, ◌⊎◌, ◌^◌, ◌<◌, ℕ, List, [], length, true, false, refl, IsTrue, IfOk, IfErr, IsOk};
+ghost use Rattle.std.proofs.Common.{Ok, ap, sym};
+ghost use Rattle.std.specs.Cmp.Lexicographic.{bytes_decides};
+ghost use Rattle.der_tlv.specs.declared.error.ErrorKind.TheVariants as kinds;
+ghost use Rattle.der_tlv.specs.declared.tag.Tag.TheVariants as tags;
+ghost use Rattle.der_tlv.specs.TagParts.{IsTag};
+ghost use Rattle.der_tlv.specs.TagEquality.{tag_eq-decides};
+ghost use Rattle.der_tlv.specs.HeaderOctets.{tlv};
+ghost use Rattle.der_elem.specs.Encoding.{Stops};
+ghost use Rattle.der_opaque.specs.Opaque.{accepts_octets, parse_octets, KeepsTagged};
+ghost use Rattle.der_tlv.specs.declared.encoding_rules.EncodingRules.TheVariants.{Der};
+ghost use Rattle.der_opaque.specs.DecodingAs.{DecodesAs};
+ghost use Rattle.der_opaque.specs.InSequence.{RefusesWith, CalledOn};
+ghost use Rattle.der_opaque.specs.AnyForm.{accepts_any, parse_any};
+ghost use Rattle.der_opaque.specs.AnyLaws.{parse_of_any, begins_any, same_length_any, encoding_eq_any};
+
+use crate::any_ref::AnyRef;
+use der_elem::{
+    Choice, Decode, DecodeValue, Duplicate, EncodeValue, EncodingEq, Form, FormValue, Tagged,
+    ValueOrd,
+};
+use der_tlv::{
+    EncodingRules, Error, ErrorKind, Header, Length, Reader, SliceReader, Tag, VecWriter, Writer,
+};
+use std::alloc::{AllocError, Global};
+use std::cmp::Ordering;
+
+/// A tag and contents octets: at most 4294967295 of them.
+///
+/// The encoding 02 01 05 is kept as the tag INTEGER and the octet 05.
+#[derive(Debug, Drop, PartialEq, Eq, PartialOrd, Ord, Hash)]
+pub struct Any {
+    pub(crate) tag: Tag,
+    pub(crate) value: Vec<u8>,
+    ghost short: { length value.items < 2 ^ 32 },
+    ghost numbered: { IsTag tag },
+}
+
+impl Any {
+    /// A value with this tag and these contents octets.
+    ///
+    /// # Errors
+    /// (7) with the tag for more than 4294967295 octets.
+    pub fn new(tag: Tag, value: Vec<u8>) -> Result<Any, Error>
+        ensures { KeepsTagged (λ v. v.tag) (λ v. v.value.items) tag value.items result }
+    {
+        let _number = tag.number();
+        match Length::of(value.len()) {
+            Ok(_) => Ok(Any { tag, value }),
+            Err(_) => Err(Error::from_kind(tag.length_error())),
+        }
+    }
+
+    /// NULL, 05 00. It takes no memory.
+    pub fn null(alloc: Global) -> Any
+        ensures tag { result.tag ≡ tags.Null }
+        ensures value { result.value.items ≡ [] }
+    {
+        Any {
+            tag: Tag::Null,
+            value: Vec::new(alloc),
+        }
+    }
+
+    /// A copy of a borrowed value.
+    ///
+    /// # Errors
+    /// (1) where memory runs out.
+    pub fn from_ref(alloc: Global, any: AnyRef<'_>) -> Result<Any, Error>
+        ensures value { IfOk result (λ v. (v.tag ≡ any.entry.tag) × (v.value.items ≡ any.entry.value.now)) }
+        ensures err { IfErr result (λ e. e.kind ≡ kinds.Memory) }
+    {
+        match any.value.to_vec(alloc) {
+            Ok(value) => Ok(Any {
+                tag: any.tag,
+                value,
+            }),
+            Err(_) => Err(Error::from_kind(ErrorKind::Memory)),
+        }
+    }
+
+    /// The tag and the contents octets of another value.
+    ///
+    /// # Errors
+    /// (9) where it has more than 4294967295 contents octets; (1) where memory runs out.
+    pub fn encode_from<T: Tagged + EncodeValue>(alloc: Global, value: &T) -> Result<Any, Error>
+        ensures ok { IfOk result (λ any. (any.tag ≡ T.tag_of value.now) × (any.value.items ≡ T.contents value.now)) }
+        ensures err { IfErr result (λ e. (e.kind ≡ kinds.Memory) ⊎ Stops (T.contents value.now) (T.re_reads_value value.now) e.kind) }
+    {
+        let len = value.value_len()?;
+        let mut writer = VecWriter::with_capacity(alloc, usize::from(len))?;
+        value.encode_value(&mut writer)?;
+        Ok(Any {
+            tag: value.tag(),
+            value: writer.finish(),
+        })
+    }
+
+    /// The contents octets.
+    pub fn value(&self) -> &[u8]
+        ensures { result.now ≡ self.now.value.items }
+    {
+        &self.value
+    }
+
+    /// The header of the encoding.
+    pub fn header(&self) -> Header
+        ensures tag { result.tag ≡ self.now.tag }
+        ensures length { result.length ≡ length self.now.value.items }
+    {
+        self.to_ref().header()
+    }
+
+    /// A value of the type from the contents octets, under DER.
+    ///
+    /// # Errors
+    /// (4) with no expected tag where no value of the type has the tag; the first fault of the
+    /// contents octets; (1) where the type takes memory.
+    pub fn decode_as<'a, T: Choice + DecodeValue<'a, SliceReader<'a>>>(
+        &'a self,
+        alloc: Global,
+    ) -> Result<T, Error>
+        ensures { DecodesAs T.Form T.FormValue Der self.now.tag self.now.value.items result }
+    {
+        self.to_ref().decode_as(alloc)
+    }
+
+    /// A value of the type from the contents octets, under these rules.
+    ///
+    /// # Errors
+    /// (4) with no expected tag where no value of the type has the tag; the first fault of the
+    /// contents octets; (1) where the type takes memory.
+    pub fn decode_as_encoding<'a, T: Choice + DecodeValue<'a, SliceReader<'a>>>(
+        &'a self,
+        alloc: Global,
+        rules: EncodingRules,
+    ) -> Result<T, Error>
+        ensures { DecodesAs T.Form T.FormValue rules self.now.tag self.now.value.items result }
+    {
+        self.to_ref().decode_as_encoding(alloc, rules)
+    }
+
+    /// Reads the contents octets of a SEQUENCE, all of them, by a function.
+    ///
+    /// # Errors
+    /// (4) with SEQUENCE expected for another tag; the function's; (17) where it answered a value
+    /// although its reader had refused; (3) where octets are left over.
+    pub fn sequence<'a, T: Drop, E: From<Error>, F: FnOnce(&mut SliceReader<'a>) -> Result<T, E>>(
+        &'a self,
+        f: F,
+    ) -> Result<T, E>
+        requires { F.IsAlwaysCallable f }
+        ensures other { self.now.tag ≢ tags.Sequence → RefusesWith E.from_gives (kinds.TagUnexpected (Some tags.Sequence) self.now.tag) result }
+        ensures called { self.now.tag ≡ tags.Sequence → CalledOn F.FnOnce ⟦<SliceReader<'a> as Reader<'a>>⟧.state E.from_gives f self.now.value.items result }
+    {
+        self.to_ref().sequence(f)
+    }
+
+    /// The value, borrowed.
+    pub fn to_ref(&self) -> AnyRef<'_>
+        ensures tag { result.tag ≡ self.now.tag }
+        ensures value { result.value.now ≡ self.now.value.items }
+    {
+        AnyRef {
+            tag: self.tag,
+            value: self.value(),
+        }
+    }
+
+    /// The value, borrowed.
+    pub fn owned_to_ref(&self) -> AnyRef<'_>
+        ensures tag { result.tag ≡ self.now.tag }
+        ensures value { result.value.now ≡ self.now.value.items }
+    {
+        self.to_ref()
+    }
+
+    /// Whether this is NULL, 05 00.
+    pub fn is_null(&self) -> bool
+        ensures { IsTrue result ↔ ((self.now.tag ≡ tags.Null) × (self.now.value.items ≡ [])) }
+    {
+        self.to_ref().is_null()
+    }
+}
+
+impl Clone for Any {
+    ghost is_clone = { λ v w. (w.tag ≡ v.tag) × (w.value.items ≡ v.value.items) };
+
+    fn clone(&self) -> Result<Any, AllocError> {
+        let value = self.value.clone()?;
+        Ok(Any {
+            tag: self.tag,
+            value,
+        })
+    }
+}
+
+impl FormValue for Any {
+    ghost contents = { λ v. v.value.items };
+
+    ghost one_form_value = { λ v w. Unit {0} };
+
+    ghost re_reads_value = { λ v. false };
+
+    ghost accepts_value = { accepts_octets (λ v. v.value.items) };
+
+    ghost parse_value = { parse_octets };
+
+    ghost readable_value = { λ v. Unit {0} };
+
+    ghost has_tag = { λ v t. v.tag ≡ t };
+
+    ghost VALUE_TAKES_MEMORY = { true };
+
+    ghost parse_of_accepted_value = { λ rules v p c a fits. ap Ok a };
+
+    ghost same_length_value = { λ rules v c a. ap length (sym a) };
+
+    ghost accepts_contents = { λ rules v r. refl };
+
+    ghost only_readable_value = { λ rules v c a. tt };
+
+    ghost accepts_one_form_value = { λ rules v w c d a b. tt };
+
+    ghost re_reads_memory_value = { λ v e. refl };
+}
+
+impl Form for Any {
+    ghost encoding = { λ v. tlv v.tag v.value.items };
+
+    ghost one_form = { λ v w. Unit {0} };
+
+    ghost re_reads = { λ v. false };
+
+    ghost accepts = { accepts_any (λ v. v.tag) (λ v. v.value.items) };
+
+    ghost parse = { parse_any };
+
+    ghost tags = { λ t. true };
+
+    ghost readable = { λ v. IsTag v.tag };
+
+    ghost TAKES_MEMORY = { true };
+
+    ghost parse_of_accepted = { parse_of_any (λ v. v.tag) (λ v. v.value.items) };
+
+    ghost begins = { begins_any (λ v. v.tag) (λ v. v.value.items) };
+
+    ghost same_length = { same_length_any (λ v. v.tag) (λ v. v.value.items) };
+
+    ghost accepts_encoding = { λ rules v r. (r, refl) };
+
+    ghost only_readable = { λ rules v b a. a.0 };
+
+    ghost accepts_one_form = { λ rules v w b c d e. tt };
+
+    ghost re_reads_memory = { λ v e. refl };
+}
+
+impl Tagged for Any {
+    ghost tag_of = { λ v. v.tag };
+
+    fn tag(&self) -> Tag {
+        self.tag
+    }
+
+    ghost encoding_is = { λ v. refl };
+
+    ghost re_reads_alike = { λ v h. h };
+
+    ghost one_form_alike = { λ v w h. h };
+}
+
+impl Choice for Any {
+    fn can_decode(_tag: Tag) -> bool {
+        true
+    }
+}
+
+impl<'a, R: Reader<'a>> DecodeValue<'a, R> for Any {
+    fn decode_value(alloc: Global, reader: &mut R, header: Header) -> Result<Any, Error> {
+        match AnyRef::decode_value(alloc, reader, header) {
+            Ok(any) => match Any::from_ref(alloc, any) {
+                Ok(any) => Ok(any),
+                Err(e) => Err(reader.error(e.kind)),
+            },
+            Err(e) => Err(e),
+        }
+    }
+}
+
+impl<'a, R: Reader<'a>> Decode<'a, R> for Any {
+    fn decode(alloc: Global, reader: &mut R) -> Result<Any, Error> {
+        match AnyRef::decode(alloc, reader) {
+            Ok(any) => match Any::from_ref(alloc, any) {
+                Ok(any) => Ok(any),
+                Err(e) => Err(reader.error(e.kind)),
+            },
+            Err(e) => Err(e),
+        }
+    }
+}
+
+impl EncodeValue for Any {
+    fn value_len(&self) -> Result<Length, Error> {
+        Ok(Length::new(self.value.len() as u32))
+    }
+
+    fn encode_value<W: Writer>(&self, writer: &mut W) -> Result<(), Error> {
+        writer.write(self.value())
+    }
+}
+
+impl ValueOrd for Any {
+    fn value_cmp(&self, other: &Any) -> Result<Ordering, Error> {
+        Ok(self.value().cmp(other.value()))
+    }
+}
+
+impl EncodingEq for Any {
+    ghost encoding_eq = { λ v w one. encoding_eq_any _ _ v.tag w.tag v.value.items w.value.items (tag_eq-decides v.tag w.tag) (bytes_decides v.value.items w.value.items) };
+}
+
+impl Duplicate for Any {
+    ghost is_copy = { λ v w. (w.tag ≡ v.tag) × (w.value.items ≡ v.value.items) };
+
+    ghost takes_memory_to_copy = { true };
+
+    fn duplicate(&self) -> Result<Any, Error> {
+        match self.clone() {
+            Ok(copy) => Ok(copy),
+            Err(_) => Err(Error::from_kind(ErrorKind::Memory)),
+        }
+    }
+
+    ghost copy_encoding = { λ v w e. Prim.cc };
+
+    ghost copy_form = { λ v w x e f. tt };
+
+    ghost copy_re_reads = { λ v w e. refl };
+}
+
+impl<'a> From<&'a Any> for AnyRef<'a> {
+    ghost from_gives = { λ a r. (r.tag ≡ a.now.tag) × (r.value.now ≡ a.now.value.items) };
+
+    fn from(any: &'a Any) -> AnyRef<'a> {
+        any.to_ref()
+    }
+}

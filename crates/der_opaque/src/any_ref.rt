@@ -1,0 +1,352 @@
+//! Values with any tag, borrowed.
+
+ghost use Rattle.std.specs.Prelude.{◌≡◌, ◌≢◌, Some, ◌↔◌, ◌^◌, ◌<◌, ℕ, List, [], length, true, false, refl, IsTrue, IfOk, IfErr};
+ghost use Rattle.std.proofs.Common.{Ok, ap, sym};
+ghost use Rattle.std.specs.Cmp.Lexicographic.{bytes_decides};
+ghost use Rattle.der_tlv.specs.declared.error.ErrorKind.TheVariants as kinds;
+ghost use Rattle.der_tlv.specs.declared.tag.Tag.TheVariants as tags;
+ghost use Rattle.der_tlv.specs.TagParts.{IsTag};
+ghost use Rattle.der_tlv.specs.TagEquality.{tag_eq-decides};
+ghost use Rattle.der_tlv.specs.HeaderOctets.{tlv};
+ghost use Rattle.der_opaque.specs.Opaque.{accepts_octets, parse_octets, KeepsTagged};
+ghost use Rattle.der_tlv.specs.declared.encoding_rules.EncodingRules.TheVariants.{Der};
+ghost use Rattle.der_elem.specs.Decoding.{Decodes, ReadsAll};
+ghost use Rattle.der_opaque.specs.DecodingAs.{DecodesAs};
+ghost use Rattle.der_opaque.specs.InSequence.{RefusesWith, CalledOn};
+ghost use Rattle.der_opaque.specs.AnyForm.{accepts_any, parse_any};
+ghost use Rattle.der_opaque.specs.AnyLaws.{parse_of_any, begins_any, same_length_any, encoding_eq_any};
+
+use crate::any::Any;
+use der_elem::{
+    Choice, Decode, DecodeValue, Duplicate, EncodeValue, EncodingEq, Form, FormValue, Tagged,
+    ValueOrd,
+};
+use der_tlv::{BytesRef, EncodingRules, Error, Header, Length, Reader, SliceReader, Tag, Writer};
+use std::alloc::Global;
+use std::cmp::Ordering;
+
+/// A tag and contents octets, borrowed: at most 4294967295 of them.
+///
+/// The encoding 02 01 05 is kept as the tag INTEGER and the octet 05.
+#[derive(Clone, Copy, Debug, PartialEq, Eq, PartialOrd, Ord, Hash)]
+pub struct AnyRef<'a> {
+    pub(crate) tag: Tag,
+    pub(crate) value: &'a [u8],
+    ghost short: { length value.now < 2 ^ 32 },
+    ghost numbered: { IsTag tag },
+}
+
+impl<'a> AnyRef<'a> {
+    /// NULL, 05 00.
+    pub const NULL: AnyRef<'static> = AnyRef {
+        tag: Tag::Null,
+        value: &[],
+    };
+
+    /// A value with this tag and these contents octets.
+    ///
+    /// # Errors
+    /// (7) with the tag for more than 4294967295 octets.
+    pub fn new(tag: Tag, value: &'a [u8]) -> Result<AnyRef<'a>, Error>
+        ensures { KeepsTagged (λ v. v.tag) (λ v. v.value.now) tag value.now result }
+    {
+        let _number = tag.number();
+        match Length::of(value.len()) {
+            Ok(_) => Ok(AnyRef { tag, value }),
+            Err(_) => Err(Error::from_kind(tag.length_error())),
+        }
+    }
+
+    /// The contents octets.
+    pub fn value(self) -> &'a [u8]
+        ensures { result.now ≡ self.entry.value.now }
+    {
+        self.value
+    }
+
+    /// The header of the encoding.
+    pub fn header(&self) -> Header
+        ensures tag { result.tag ≡ self.now.tag }
+        ensures length { result.length ≡ length self.now.value.now }
+    {
+        Header::new(self.tag, Length::new(self.value.len() as u32))
+    }
+
+    /// Whether this is NULL, 05 00.
+    pub fn is_null(self) -> bool
+        ensures { IsTrue result ↔ ((self.entry.tag ≡ tags.Null) × (self.entry.value.now ≡ [])) }
+    {
+        self.tag == Tag::Null && self.value.is_empty()
+    }
+
+    /// A value of the type from the contents octets, under DER.
+    ///
+    /// # Errors
+    /// (4) with no expected tag where no value of the type has the tag; the first fault of the
+    /// contents octets; (1) where the type takes memory.
+    pub fn decode_as<T: Choice + DecodeValue<'a, SliceReader<'a>>>(
+        self,
+        alloc: Global,
+    ) -> Result<T, Error>
+        ensures { DecodesAs T.Form T.FormValue Der self.entry.tag self.entry.value.now result }
+    {
+        self.decode_as_encoding(alloc, EncodingRules::Der)
+    }
+
+    /// A value of the type from the contents octets, under these rules.
+    ///
+    /// # Errors
+    /// (4) with no expected tag where no value of the type has the tag; the first fault of the
+    /// contents octets; (1) where the type takes memory.
+    pub fn decode_as_encoding<T: Choice + DecodeValue<'a, SliceReader<'a>>>(
+        self,
+        alloc: Global,
+        rules: EncodingRules,
+    ) -> Result<T, Error>
+        ensures { DecodesAs T.Form T.FormValue rules self.entry.tag self.entry.value.now result }
+    {
+        if !T::can_decode(self.tag) {
+            return Err(Error::from_kind(self.tag.unexpected_error(None)));
+        }
+        let mut reader = match SliceReader::new_with_encoding_rules(self.value, rules) {
+            Ok(reader) => reader,
+            Err(e) => return Err(e),
+        };
+        T::decode_value(alloc, &mut reader, self.header())
+    }
+
+    /// Reads the contents octets of a SEQUENCE, all of them, by a function.
+    ///
+    /// # Errors
+    /// (4) with SEQUENCE expected for another tag; the function's; (17) where it answered a value
+    /// although its reader had refused; (3) where octets are left over.
+    pub fn sequence<T: Drop, E: From<Error>, F: FnOnce(&mut SliceReader<'a>) -> Result<T, E>>(
+        self,
+        f: F,
+    ) -> Result<T, E>
+        requires { F.IsAlwaysCallable f }
+        ensures other { self.entry.tag ≢ tags.Sequence → RefusesWith E.from_gives (kinds.TagUnexpected (Some tags.Sequence) self.entry.tag) result }
+        ensures called { self.entry.tag ≡ tags.Sequence → CalledOn F.FnOnce ⟦<SliceReader<'a> as Reader<'a>>⟧.state E.from_gives f self.entry.value.now result }
+    {
+        if let Err(e) = self.tag.assert_eq(Tag::Sequence) {
+            return Err(E::from(e));
+        }
+        let mut reader = match SliceReader::new(self.value) {
+            Ok(reader) => reader,
+            Err(e) => return Err(E::from(e)),
+        };
+        match f(&mut reader) {
+            Ok(value) => match reader.finish() {
+                Ok(()) => Ok(value),
+                Err(e) => Err(E::from(e)),
+            },
+            Err(e) => Err(e),
+        }
+    }
+
+    /// The value, copied.
+    ///
+    /// # Errors
+    /// (1) where memory runs out.
+    pub fn ref_to_owned(self, alloc: Global) -> Result<Any, Error>
+        ensures value { IfOk result (λ v. (v.tag ≡ self.entry.tag) × (v.value.items ≡ self.entry.value.now)) }
+        ensures err { IfErr result (λ e. e.kind ≡ kinds.Memory) }
+    {
+        Any::from_ref(alloc, self)
+    }
+
+    /// Reads an encoding with any tag.
+    fn read<R: Reader<'a>>(reader: &mut R) -> Result<AnyRef<'a>, Error>
+        ensures { Decodes ⟦<AnyRef<'a> as Form>⟧ (R.state reader.old) (R.state reader.new) result }
+    {
+        let header = Header::decode(reader)?;
+        let value = reader.read_slice(header.length)?;
+        Ok(AnyRef {
+            tag: header.tag,
+            value,
+        })
+    }
+}
+
+impl<'a> FormValue for AnyRef<'a> {
+    ghost contents = { λ v. v.value.now };
+
+    ghost one_form_value = { λ v w. Unit {0} };
+
+    ghost re_reads_value = { λ v. false };
+
+    ghost accepts_value = { accepts_octets (λ v. v.value.now) };
+
+    ghost parse_value = { parse_octets };
+
+    ghost readable_value = { λ v. Unit {0} };
+
+    ghost has_tag = { λ v t. v.tag ≡ t };
+
+    ghost VALUE_TAKES_MEMORY = { false };
+
+    ghost parse_of_accepted_value = { λ rules v p c a fits. ap Ok a };
+
+    ghost same_length_value = { λ rules v c a. ap length (sym a) };
+
+    ghost accepts_contents = { λ rules v r. refl };
+
+    ghost only_readable_value = { λ rules v c a. tt };
+
+    ghost accepts_one_form_value = { λ rules v w c d a b. tt };
+
+    ghost re_reads_memory_value = { λ v e. e };
+}
+
+impl<'a> Form for AnyRef<'a> {
+    ghost encoding = { λ v. tlv v.tag v.value.now };
+
+    ghost one_form = { λ v w. Unit {0} };
+
+    ghost re_reads = { λ v. false };
+
+    ghost accepts = { accepts_any (λ v. v.tag) (λ v. v.value.now) };
+
+    ghost parse = { parse_any };
+
+    ghost tags = { λ t. true };
+
+    ghost readable = { λ v. IsTag v.tag };
+
+    ghost TAKES_MEMORY = { false };
+
+    ghost parse_of_accepted = { parse_of_any (λ v. v.tag) (λ v. v.value.now) };
+
+    ghost begins = { begins_any (λ v. v.tag) (λ v. v.value.now) };
+
+    ghost same_length = { same_length_any (λ v. v.tag) (λ v. v.value.now) };
+
+    ghost accepts_encoding = { λ rules v r. (r, refl) };
+
+    ghost only_readable = { λ rules v b a. a.0 };
+
+    ghost accepts_one_form = { λ rules v w b c d e. tt };
+
+    ghost re_reads_memory = { λ v e. e };
+}
+
+impl<'a> Tagged for AnyRef<'a> {
+    ghost tag_of = { λ v. v.tag };
+
+    fn tag(&self) -> Tag {
+        self.tag
+    }
+
+    ghost encoding_is = { λ v. refl };
+
+    ghost re_reads_alike = { λ v h. h };
+
+    ghost one_form_alike = { λ v w h. h };
+}
+
+impl<'a> Choice for AnyRef<'a> {
+    /// Any tag is one of its encodings.
+    fn can_decode(_tag: Tag) -> bool
+        ensures { result ≡ true }
+    {
+        true
+    }
+}
+
+impl<'a, R: Reader<'a>> DecodeValue<'a, R> for AnyRef<'a> {
+    fn decode_value(_alloc: Global, reader: &mut R, header: Header) -> Result<AnyRef<'a>, Error> {
+        let _number = header.tag.number();
+        let value = reader.read_slice(header.length)?;
+        Ok(AnyRef {
+            tag: header.tag,
+            value,
+        })
+    }
+}
+
+impl<'a, R: Reader<'a>> Decode<'a, R> for AnyRef<'a> {
+    fn decode(_alloc: Global, reader: &mut R) -> Result<AnyRef<'a>, Error> {
+        AnyRef::read(reader)
+    }
+}
+
+impl<'a> EncodeValue for AnyRef<'a> {
+    fn value_len(&self) -> Result<Length, Error> {
+        Ok(Length::new(self.value.len() as u32))
+    }
+
+    fn encode_value<W: Writer>(&self, writer: &mut W) -> Result<(), Error> {
+        writer.write(self.value)
+    }
+}
+
+impl<'a> ValueOrd for AnyRef<'a> {
+    fn value_cmp(&self, other: &AnyRef<'a>) -> Result<Ordering, Error> {
+        Ok(self.value.cmp(other.value))
+    }
+}
+
+impl<'a> EncodingEq for AnyRef<'a> {
+    ghost encoding_eq = { λ v w one. encoding_eq_any _ _ v.tag w.tag v.value.now w.value.now (tag_eq-decides v.tag w.tag) (bytes_decides v.value.now w.value.now) };
+}
+
+impl<'a> Duplicate for AnyRef<'a> {
+    ghost is_copy = { λ v w. (w.tag ≡ v.tag) × (w.value.now ≡ v.value.now) };
+
+    ghost takes_memory_to_copy = { false };
+
+    fn duplicate(&self) -> Result<AnyRef<'a>, Error> {
+        Ok(*self)
+    }
+
+    ghost copy_encoding = { λ v w e. Prim.cc };
+
+    ghost copy_form = { λ v w x e f. tt };
+
+    ghost copy_re_reads = { λ v w e. refl };
+}
+
+impl<'a> From<AnyRef<'a>> for BytesRef<'a> {
+    ghost from_gives = { λ v b. b.octets.now ≡ v.value.now };
+
+    fn from(any: AnyRef<'a>) -> BytesRef<'a> {
+        BytesRef { octets: any.value }
+    }
+}
+
+impl<'a> TryFrom<&'a [u8]> for AnyRef<'a> {
+    type Error = Error;
+
+    ghost try_from_gives = { λ b r. ReadsAll ⟦<AnyRef<'a> as Form>⟧ b.now r };
+
+    /// The value that these octets encode, and nothing else, under DER.
+    ///
+    /// # Errors
+    /// (9) for more than 4294967295 octets; the first fault of the header; (2) or (9) for contents
+    /// that are longer than what is left; (3) where octets are left over.
+    fn try_from(bytes: &'a [u8]) -> Result<AnyRef<'a>, Error> {
+        let mut reader = match SliceReader::new(bytes) {
+            Ok(reader) => reader,
+            Err(e) => return Err(e),
+        };
+        let value = match AnyRef::read(&mut reader) {
+            Ok(value) => value,
+            Err(e) => return Err(e),
+        };
+        match reader.finish() {
+            Ok(()) => Ok(value),
+            Err(e) => Err(e),
+        }
+    }
+}
+
+impl<'a> From<()> for AnyRef<'a> {
+    ghost from_gives = { λ u a. (a.tag ≡ tags.Null) × (a.value.now ≡ []) };
+
+    fn from(_null: ()) -> AnyRef<'a> {
+        AnyRef {
+            tag: Tag::Null,
+            value: &[],
+        }
+    }
+}

@@ -1,0 +1,20 @@
+//! Values whose contents octets are kept as they stand: any value, NULL, OCTET STRING and OBJECT
+//! IDENTIFIER.
+#![tactic(auto)]
+
+mod any;
+mod any_ref;
+mod null;
+mod object_identifier;
+mod octet_string;
+mod octet_string_ref;
+
+pub use any::Any;
+pub use any_ref::AnyRef;
+pub use null::Null;
+pub use object_identifier::ObjectIdentifier;
+pub use octet_string::OctetString;
+pub use octet_string_ref::OctetStringRef;
+
+#[cfg(test)]
+mod tests;

@@ -1,0 +1,232 @@
+//! OBJECT IDENTIFIER (X.690 8.19).
+//!
+//! The tag is 06. The contents octets are kept as they stand: they are not split into arcs.
+
+ghost use Rattle.std.specs.Prelude.{◌≡◌, ◌↔◌, ◌^◌, ◌<◌, ◌≤◌, ℕ, nat_eq, if◌then◌else◌, List, [], length, take, true, false, refl, IsTrue, IsOk, IfOk, IfErr, Some};
+ghost use Rattle.std.proofs.Common.{Ok, lit<, ap, sym};
+ghost use Rattle.std.specs.Cmp.{on_per, on_equiv, on_po, on_total, partial_equiv_from_equiv};
+ghost use Rattle.std.specs.Cmp.Lexicographic.{pointwise, bytes_decides, nat_list_eq_equiv, nat_list_cmp_total, texts_po, texts_ties};
+ghost use Rattle.std.specs.Hash as fed;
+ghost use Rattle.der_tlv.specs.declared.error.ErrorKind.TheVariants as kinds;
+ghost use Rattle.der_tlv.specs.declared.tag.Tag.TheVariants as tags;
+ghost use Rattle.der_tlv.specs.Octets.{lex};
+ghost use Rattle.der_opaque.specs.Opaque.{accepts_octets};
+ghost use Rattle.der_opaque.specs.ObjectIdentifierOctets.{parse_identifier, parse_identifier-kept, FromAny};
+
+use crate::any_ref::AnyRef;
+use der_elem::{
+    ContentsEq, DecodeValue, DuplicateValue, EncodeValue, FixedTag, FormValue, OrdIsValueOrd,
+};
+use der_tlv::{Error, ErrorKind, Header, Length, Reader, Tag, Writer};
+use std::alloc::Global;
+use std::cmp::Ordering;
+use std::hash::{Hash, Hasher};
+
+/// The octets of an OBJECT IDENTIFIER: 1 to `MAX_SIZE` of them, and at most 4294967295.
+///
+/// The octets 55 04 03 are encoded as 06 03 55 04 03.
+///
+/// # Errors
+/// Reading refuses more than `MAX_SIZE` octets (7), then none (15).
+#[derive(Clone, Copy, Debug)]
+pub struct ObjectIdentifier<const MAX_SIZE: usize> {
+    octets: [u8; MAX_SIZE],
+    count: Length,
+    ghost some: { 0 < count },
+    ghost fits: { count ≤ MAX_SIZE },
+    ghost full: { length octets ≡ MAX_SIZE },
+}
+
+impl<const MAX_SIZE: usize> ObjectIdentifier<MAX_SIZE> {
+    /// An identifier of these contents octets.
+    ///
+    /// # Errors
+    /// (15) for none; (7) for more than `MAX_SIZE` or than 4294967295.
+    pub fn from_bytes(bytes: &[u8]) -> Result<ObjectIdentifier<MAX_SIZE>, Error>
+        ensures ok { IsOk result ↔ ((0 < length bytes.now) × (length bytes.now ≤ MAX_SIZE) × (length bytes.now < 2 ^ 32)) }
+        ensures value { IfOk result (λ v. take v.count v.octets ≡ bytes.now) }
+        ensures err { IfErr result (λ e. e.kind ≡ (if nat_eq (length bytes.now) 0 then kinds.OidMalformed else kinds.Length tags.ObjectIdentifier)) }
+    {
+        if bytes.is_empty() {
+            return Err(Error::from_kind(ErrorKind::OidMalformed));
+        }
+        match Length::of(bytes.len()) {
+            Ok(count) if bytes.len() <= MAX_SIZE => {
+                let mut octets = [0; MAX_SIZE];
+                octets[..bytes.len()].copy_from_slice(bytes);
+                Ok(ObjectIdentifier { octets, count })
+            }
+            _ => Err(Error::from_kind(Tag::ObjectIdentifier.length_error())),
+        }
+    }
+
+    /// The contents octets.
+    pub fn as_bytes(&self) -> &[u8]
+        ensures value { result.now ≡ take self.now.count self.now.octets }
+        ensures short { length result.now < 2 ^ 32 }
+    {
+        &self.octets[..self.count.value() as usize]
+    }
+}
+
+impl<const MAX_SIZE: usize> FormValue for ObjectIdentifier<MAX_SIZE> {
+    ghost contents = { λ v. take v.count v.octets };
+
+    ghost one_form_value = { λ v w. Unit {0} };
+
+    ghost re_reads_value = { λ v. false };
+
+    ghost accepts_value = { accepts_octets (λ v. take v.count v.octets) };
+
+    ghost parse_value = { parse_identifier MAX_SIZE };
+
+    ghost readable_value = { λ v. Unit {0} };
+
+    ghost has_tag = { λ v t. Unit {0} };
+
+    ghost VALUE_TAKES_MEMORY = { false };
+
+    ghost parse_of_accepted_value = { λ rules v p c a fits. parse_identifier-kept MAX_SIZE v.count v.octets c rules p v.some v.fits v.full a };
+
+    ghost same_length_value = { λ rules v c a. ap length (sym a) };
+
+    ghost accepts_contents = { λ rules v r. refl };
+
+    ghost only_readable_value = { λ rules v c a. tt };
+
+    ghost accepts_one_form_value = { λ rules v w c d a b. tt };
+
+    ghost re_reads_memory_value = { λ v e. e };
+}
+
+impl<const MAX_SIZE: usize> FixedTag for ObjectIdentifier<MAX_SIZE> {
+    ghost TAG = { tags.ObjectIdentifier };
+
+    const TAG: Tag = Tag::ObjectIdentifier;
+
+    ghost tag_in_range = { lit< tt };
+}
+
+impl<'a, R: Reader<'a>, const MAX_SIZE: usize> DecodeValue<'a, R> for ObjectIdentifier<MAX_SIZE> {
+    fn decode_value(
+        _alloc: Global,
+        reader: &mut R,
+        header: Header,
+    ) -> Result<ObjectIdentifier<MAX_SIZE>, Error> {
+        let octets = reader.read_slice(header.length)?;
+        match ObjectIdentifier::from_bytes(octets) {
+            Ok(identifier) => Ok(identifier),
+            Err(e) => Err(reader.error(e.kind)),
+        }
+    }
+}
+
+impl<const MAX_SIZE: usize> EncodeValue for ObjectIdentifier<MAX_SIZE> {
+    fn value_len(&self) -> Result<Length, Error> {
+        Ok(Length::new(self.as_bytes().len() as u32))
+    }
+
+    fn encode_value<W: Writer>(&self, writer: &mut W) -> Result<(), Error> {
+        writer.write(self.as_bytes())
+    }
+}
+
+impl<const MAX_SIZE: usize> PartialEq for ObjectIdentifier<MAX_SIZE> {
+    ghost eq = { λ v w. pointwise nat_eq (take v.count v.octets) (take w.count w.octets) };
+
+    ghost laws = { on_per (λ v. take v.count v.octets) (partial_equiv_from_equiv nat_list_eq_equiv) };
+
+    fn eq(&self, other: &ObjectIdentifier<MAX_SIZE>) -> bool {
+        self.as_bytes() == other.as_bytes()
+    }
+}
+
+impl<const MAX_SIZE: usize> Eq for ObjectIdentifier<MAX_SIZE> {
+    ghost laws = { on_equiv (λ v. take v.count v.octets) nat_list_eq_equiv };
+}
+
+impl<const MAX_SIZE: usize> PartialOrd for ObjectIdentifier<MAX_SIZE> {
+    ghost partial_cmp = { λ v w. Some (lex (take v.count v.octets) (take w.count w.octets)) };
+
+    ghost laws = { on_po (λ v. take v.count v.octets) texts_po };
+
+    fn partial_cmp(&self, other: &ObjectIdentifier<MAX_SIZE>) -> Option<Ordering> {
+        Some(self.cmp(other))
+    }
+}
+
+impl<const MAX_SIZE: usize> Ord for ObjectIdentifier<MAX_SIZE> {
+    ghost cmp = { λ v w. lex (take v.count v.octets) (take w.count w.octets) };
+
+    ghost total = { on_total (λ v. take v.count v.octets) nat_list_cmp_total };
+
+    ghost matches_partial_cmp = { λ v w. refl };
+
+    ghost matches_eq = { λ v w. texts_ties (take v.count v.octets) (take w.count w.octets) };
+
+    /// The lexicographic order of the contents octets.
+    fn cmp(&self, other: &ObjectIdentifier<MAX_SIZE>) -> Ordering {
+        self.as_bytes().cmp(other.as_bytes())
+    }
+}
+
+impl<const MAX_SIZE: usize> Hash for ObjectIdentifier<MAX_SIZE> {
+    ghost hash_input = { λ v. fed.slice fed.u8 (take v.count v.octets) };
+
+    ghost respects_eq = { λ v w e. ap (fed.slice fed.u8) ((bytes_decides (take v.count v.octets) (take w.count w.octets)).0 e) };
+
+    fn hash<H: Hasher>(&self, state: &mut H) {
+        self.as_bytes().hash(state);
+    }
+}
+
+impl<const MAX_SIZE: usize> OrdIsValueOrd for ObjectIdentifier<MAX_SIZE> {
+    ghost ord_is_value_ord = { λ v w. refl };
+}
+
+impl<const MAX_SIZE: usize> ContentsEq for ObjectIdentifier<MAX_SIZE> {
+    ghost contents_eq = { λ v w one. bytes_decides (take v.count v.octets) (take w.count w.octets) };
+}
+
+impl<const MAX_SIZE: usize> DuplicateValue for ObjectIdentifier<MAX_SIZE> {
+    ghost is_copy_value = { λ v w. w ≡ v };
+
+    ghost takes_memory_to_copy_value = { false };
+
+    fn duplicate_value(&self) -> Result<ObjectIdentifier<MAX_SIZE>, Error> {
+        Ok(*self)
+    }
+
+    ghost copy_contents = { λ v w e. ap (λ u. take u.count u.octets) e };
+
+    ghost copy_form_value = { λ v w x e f. tt };
+
+    ghost copy_re_reads_value = { λ v w e. refl };
+}
+
+impl<'a, const MAX_SIZE: usize> From<&'a ObjectIdentifier<MAX_SIZE>> for AnyRef<'a> {
+    ghost from_gives = { λ v a. (a.tag ≡ tags.ObjectIdentifier) × (a.value.now ≡ take v.now.count v.now.octets) };
+
+    fn from(identifier: &'a ObjectIdentifier<MAX_SIZE>) -> AnyRef<'a> {
+        AnyRef {
+            tag: Tag::ObjectIdentifier,
+            value: identifier.as_bytes(),
+        }
+    }
+}
+
+impl<'a, const MAX_SIZE: usize> TryFrom<AnyRef<'a>> for ObjectIdentifier<MAX_SIZE> {
+    type Error = Error;
+
+    ghost try_from_gives = { λ a r. FromAny MAX_SIZE (λ v. take v.count v.octets) a.tag a.value.now r };
+
+    /// # Errors
+    /// (4) with OBJECT IDENTIFIER expected for another tag; (15) for no contents octets; (7) for
+    /// more than `MAX_SIZE`.
+    fn try_from(any: AnyRef<'a>) -> Result<ObjectIdentifier<MAX_SIZE>, Error> {
+        if let Err(e) = any.tag.assert_eq(Tag::ObjectIdentifier) {
+            return Err(e);
+        }
+        ObjectIdentifier::from_bytes(any.value)
+    }
+}

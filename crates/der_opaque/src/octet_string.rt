@@ -1,0 +1,190 @@
+//! OCTET STRING (X.690 8.7).
+//!
+//! The tag is 04, and the contents octets are the octets of the string.
+
+ghost use Rattle.std.specs.Prelude.{◌≡◌, ◌↔◌, ◌^◌, ◌<◌, ℕ, List, [], length, true, false, refl, IsTrue, IsOk, IfOk, IfErr};
+ghost use Rattle.std.proofs.Common.{Ok, lit<, ap, sym};
+ghost use Rattle.std.specs.Cmp.Lexicographic.{bytes_decides};
+ghost use Rattle.der_tlv.specs.declared.error.ErrorKind.TheVariants as kinds;
+ghost use Rattle.der_tlv.specs.declared.tag.Tag.TheVariants as tags;
+ghost use Rattle.der_opaque.specs.Opaque.{accepts_octets, parse_octets, KeepsOctets};
+
+use crate::octet_string_ref::OctetStringRef;
+use der_elem::{
+    ContentsEq, DecodeValue, DuplicateValue, EncodeValue, FixedTag, FormValue, OrdIsValueOrd,
+};
+use der_tlv::{Error, ErrorKind, Header, Length, Reader, Tag, Writer};
+use std::alloc::{AllocError, Global};
+
+/// The octets of an OCTET STRING: at most 4294967295 of them.
+///
+/// The octets 01 02 are encoded as 04 02 01 02.
+#[derive(Debug, Drop, PartialEq, Eq, PartialOrd, Ord)]
+pub struct OctetString {
+    pub(crate) octets: Vec<u8>,
+    ghost short: { length octets.items < 2 ^ 32 },
+}
+
+impl OctetString {
+    /// A string of these octets.
+    ///
+    /// # Errors
+    /// (7) for more than 4294967295 octets.
+    pub fn new(octets: Vec<u8>) -> Result<OctetString, Error>
+        ensures { KeepsOctets (λ s. s.octets.items) tags.OctetString octets.items result }
+    {
+        match Length::of(octets.len()) {
+            Ok(_) => Ok(OctetString { octets }),
+            Err(_) => Err(Error::from_kind(Tag::OctetString.length_error())),
+        }
+    }
+
+    /// The octets.
+    pub fn as_bytes(&self) -> &[u8]
+        ensures { result.now ≡ self.now.octets.items }
+    {
+        &self.octets
+    }
+
+    /// The octets, in their vector.
+    pub fn into_bytes(self) -> Vec<u8>
+        ensures { result.items ≡ self.octets.items }
+    {
+        self.octets
+    }
+
+    /// How many there are.
+    pub fn len(&self) -> Length
+        ensures { result ≡ length self.now.octets.items }
+    {
+        Length::new(self.octets.len() as u32)
+    }
+
+    /// Whether there are none.
+    pub fn is_empty(&self) -> bool
+        ensures { IsTrue result ↔ (self.now.octets.items ≡ []) }
+    {
+        self.octets.is_empty()
+    }
+
+    /// The string, borrowed.
+    pub fn owned_to_ref(&self) -> OctetStringRef<'_>
+        ensures { result.octets.now ≡ self.now.octets.items }
+    {
+        OctetStringRef {
+            octets: self.as_bytes(),
+        }
+    }
+}
+
+impl Clone for OctetString {
+    ghost is_clone = { λ v w. w.octets.items ≡ v.octets.items };
+
+    fn clone(&self) -> Result<OctetString, AllocError> {
+        let octets = self.octets.clone()?;
+        Ok(OctetString { octets })
+    }
+}
+
+impl FormValue for OctetString {
+    ghost contents = { λ v. v.octets.items };
+
+    ghost one_form_value = { λ v w. Unit {0} };
+
+    ghost re_reads_value = { λ v. false };
+
+    ghost accepts_value = { accepts_octets (λ v. v.octets.items) };
+
+    ghost parse_value = { parse_octets };
+
+    ghost readable_value = { λ v. Unit {0} };
+
+    ghost has_tag = { λ v t. Unit {0} };
+
+    ghost VALUE_TAKES_MEMORY = { true };
+
+    ghost parse_of_accepted_value = { λ rules v p c a fits. ap Ok a };
+
+    ghost same_length_value = { λ rules v c a. ap length (sym a) };
+
+    ghost accepts_contents = { λ rules v r. refl };
+
+    ghost only_readable_value = { λ rules v c a. tt };
+
+    ghost accepts_one_form_value = { λ rules v w c d a b. tt };
+
+    ghost re_reads_memory_value = { λ v e. refl };
+}
+
+impl FixedTag for OctetString {
+    ghost TAG = { tags.OctetString };
+
+    const TAG: Tag = Tag::OctetString;
+
+    ghost tag_in_range = { lit< tt };
+}
+
+impl<'a, R: Reader<'a>> DecodeValue<'a, R> for OctetString {
+    fn decode_value(alloc: Global, reader: &mut R, header: Header) -> Result<OctetString, Error> {
+        match OctetStringRef::decode_value(alloc, reader, header) {
+            Ok(string) => match string.ref_to_owned(alloc) {
+                Ok(string) => Ok(string),
+                Err(e) => Err(reader.error(e.kind)),
+            },
+            Err(e) => Err(e),
+        }
+    }
+}
+
+impl EncodeValue for OctetString {
+    fn value_len(&self) -> Result<Length, Error> {
+        Ok(self.len())
+    }
+
+    fn encode_value<W: Writer>(&self, writer: &mut W) -> Result<(), Error> {
+        writer.write(self.as_bytes())
+    }
+}
+
+impl OrdIsValueOrd for OctetString {
+    ghost ord_is_value_ord = { λ v w. refl };
+}
+
+impl ContentsEq for OctetString {
+    ghost contents_eq = { λ v w one. bytes_decides v.octets.items w.octets.items };
+}
+
+impl DuplicateValue for OctetString {
+    ghost is_copy_value = { λ v w. w.octets.items ≡ v.octets.items };
+
+    ghost takes_memory_to_copy_value = { true };
+
+    fn duplicate_value(&self) -> Result<OctetString, Error> {
+        match self.clone() {
+            Ok(copy) => Ok(copy),
+            Err(_) => Err(Error::from_kind(ErrorKind::Memory)),
+        }
+    }
+
+    ghost copy_contents = { λ v w e. e };
+
+    ghost copy_form_value = { λ v w x e f. tt };
+
+    ghost copy_re_reads_value = { λ v w e. refl };
+}
+
+impl<'a> From<&'a OctetString> for OctetStringRef<'a> {
+    ghost from_gives = { λ s r. r.octets.now ≡ s.now.octets.items };
+
+    fn from(string: &'a OctetString) -> OctetStringRef<'a> {
+        string.owned_to_ref()
+    }
+}
+
+impl From<OctetString> for Vec<u8> {
+    ghost from_gives = { λ s v. v.items ≡ s.octets.items };
+
+    fn from(string: OctetString) -> Vec<u8> {
+        string.into_bytes()
+    }
+}

@@ -1,0 +1,287 @@
+//! Borrowed OCTET STRING (X.690 8.7).
+//!
+//! The tag is 04, and the contents octets are the octets of the string.
+
+ghost use Rattle.std.specs.Prelude.{◌≡◌, ◌≢◌, ◌↔◌, MatchResult, ◌^◌, ◌<◌, ℕ, List, [], length, false, refl, IsTrue, IsOk, IfOk, IfErr};
+ghost use Rattle.std.proofs.Common.{Ok, ap, sym};
+ghost use Rattle.der_tlv.specs.declared.error.ErrorKind.TheVariants as kinds;
+ghost use Rattle.der_tlv.specs.declared.tag.Tag.TheVariants as tags;
+ghost use Rattle.std.specs.Cmp.Lexicographic.{bytes_decides};
+ghost use Rattle.der_elem.specs.Decoding.{ReadsAll};
+ghost use Rattle.der_tlv.specs.declared.encoding_rules.EncodingRules.TheVariants.{Der};
+ghost use Rattle.der_opaque.specs.DecodingAs.{DecodesAs};
+ghost use Rattle.der_opaque.specs.Opaque.{accepts_octets, parse_octets, KeepsOctets};
+
+use crate::any::Any;
+use crate::any_ref::AnyRef;
+use crate::octet_string::OctetString;
+use der_elem::{
+    ContentsEq, DecodeValue, DuplicateValue, EncodeValue, Form, FormValue, FromDer, OrdIsValueOrd,
+    SameTag,
+};
+use der_tlv::{Error, ErrorKind, Header, Length, Reader, Tag, Writer};
+use std::alloc::Global;
+
+/// The octets of an OCTET STRING, borrowed: at most 4294967295 of them.
+///
+/// The octets 01 02 are encoded as 04 02 01 02.
+#[derive(Clone, Copy, Debug, PartialEq, Eq, PartialOrd, Ord, Hash)]
+pub struct OctetStringRef<'a> {
+    pub(crate) octets: &'a [u8],
+    ghost short: { length octets.now < 2 ^ 32 },
+}
+
+impl<'a> OctetStringRef<'a> {
+    /// A string of these octets.
+    ///
+    /// # Errors
+    /// (7) for more than 4294967295 octets.
+    pub fn new(octets: &'a [u8]) -> Result<OctetStringRef<'a>, Error>
+        ensures { KeepsOctets (λ s. s.octets.now) tags.OctetString octets.now result }
+    {
+        match Length::of(octets.len()) {
+            Ok(_) => Ok(OctetStringRef { octets }),
+            Err(_) => Err(Error::from_kind(Tag::OctetString.length_error())),
+        }
+    }
+
+    /// The octets.
+    pub fn as_bytes(self) -> &'a [u8]
+        ensures { result.now ≡ self.entry.octets.now }
+    {
+        self.octets
+    }
+
+    /// How many there are.
+    pub fn len(self) -> Length
+        ensures { result ≡ length self.entry.octets.now }
+    {
+        Length::new(self.octets.len() as u32)
+    }
+
+    /// Whether there are none.
+    pub fn is_empty(self) -> bool
+        ensures { IsTrue result ↔ (self.entry.octets.now ≡ []) }
+    {
+        self.octets.is_empty()
+    }
+
+    /// The value that the octets encode, under DER.
+    ///
+    /// # Errors
+    /// The first fault of the octets, in reading order; (3) where octets are left over; (1) where
+    /// the type takes memory.
+    pub fn decode_into<T: FromDer<'a>>(self, alloc: Global) -> Result<T, Error>
+        ensures { ReadsAll T.Form self.entry.octets.now result }
+    {
+        T::from_der(alloc, self.octets)
+    }
+
+    /// The octets, copied into a vector.
+    ///
+    /// # Errors
+    /// (1) where memory runs out.
+    pub fn to_vec(self, alloc: Global) -> Result<Vec<u8>, Error>
+        ensures value { IfOk result (λ octets. octets.items ≡ self.entry.octets.now) }
+        ensures err { IfErr result (λ e. e.kind ≡ kinds.Memory) }
+    {
+        match self.octets.to_vec(alloc) {
+            Ok(octets) => Ok(octets),
+            Err(_) => Err(Error::from_kind(ErrorKind::Memory)),
+        }
+    }
+
+    /// The string, copied.
+    ///
+    /// # Errors
+    /// (1) where memory runs out.
+    pub fn ref_to_owned(self, alloc: Global) -> Result<OctetString, Error>
+        ensures value { IfOk result (λ s. s.octets.items ≡ self.entry.octets.now) }
+        ensures err { IfErr result (λ e. e.kind ≡ kinds.Memory) }
+    {
+        let octets = self.to_vec(alloc)?;
+        Ok(OctetString { octets })
+    }
+}
+
+impl<'a> FormValue for OctetStringRef<'a> {
+    ghost contents = { λ v. v.octets.now };
+
+    ghost one_form_value = { λ v w. Unit {0} };
+
+    ghost re_reads_value = { λ v. false };
+
+    ghost accepts_value = { accepts_octets (λ v. v.octets.now) };
+
+    ghost parse_value = { parse_octets };
+
+    ghost readable_value = { λ v. Unit {0} };
+
+    ghost has_tag = { λ v t. Unit {0} };
+
+    ghost VALUE_TAKES_MEMORY = { false };
+
+    ghost parse_of_accepted_value = { λ rules v p c a fits. ap Ok a };
+
+    ghost same_length_value = { λ rules v c a. ap length (sym a) };
+
+    ghost accepts_contents = { λ rules v r. refl };
+
+    ghost only_readable_value = { λ rules v c a. tt };
+
+    ghost accepts_one_form_value = { λ rules v w c d a b. tt };
+
+    ghost re_reads_memory_value = { λ v e. e };
+}
+
+impl<'a> SameTag for OctetStringRef<'a> {
+    type As = OctetString;
+}
+
+impl<'a, R: Reader<'a>> DecodeValue<'a, R> for OctetStringRef<'a> {
+    fn decode_value(
+        _alloc: Global,
+        reader: &mut R,
+        header: Header,
+    ) -> Result<OctetStringRef<'a>, Error> {
+        let octets = reader.read_slice(header.length)?;
+        Ok(OctetStringRef { octets })
+    }
+}
+
+impl<'a> EncodeValue for OctetStringRef<'a> {
+    fn value_len(&self) -> Result<Length, Error> {
+        Ok(self.len())
+    }
+
+    fn encode_value<W: Writer>(&self, writer: &mut W) -> Result<(), Error> {
+        writer.write(self.octets)
+    }
+}
+
+impl<'a> OrdIsValueOrd for OctetStringRef<'a> {
+    ghost ord_is_value_ord = { λ v w. refl };
+}
+
+impl<'a> ContentsEq for OctetStringRef<'a> {
+    ghost contents_eq = { λ v w one. bytes_decides v.octets.now w.octets.now };
+}
+
+impl<'a> DuplicateValue for OctetStringRef<'a> {
+    ghost is_copy_value = { λ v w. w.octets.now ≡ v.octets.now };
+
+    ghost takes_memory_to_copy_value = { false };
+
+    fn duplicate_value(&self) -> Result<OctetStringRef<'a>, Error> {
+        Ok(*self)
+    }
+
+    ghost copy_contents = { λ v w e. e };
+
+    ghost copy_form_value = { λ v w x e f. tt };
+
+    ghost copy_re_reads_value = { λ v w e. refl };
+}
+
+impl<'a> TryFrom<&'a [u8]> for OctetStringRef<'a> {
+    type Error = Error;
+
+    ghost try_from_gives = { λ b r. KeepsOctets (λ s. s.octets.now) tags.OctetString b.now r };
+
+    fn try_from(octets: &'a [u8]) -> Result<OctetStringRef<'a>, Error> {
+        OctetStringRef::new(octets)
+    }
+}
+
+impl<'a> TryFrom<&'a Vec<u8>> for OctetStringRef<'a> {
+    type Error = Error;
+
+    ghost try_from_gives = { λ b r. KeepsOctets (λ s. s.octets.now) tags.OctetString b.now.items r };
+
+    fn try_from(octets: &'a Vec<u8>) -> Result<OctetStringRef<'a>, Error> {
+        OctetStringRef::new(octets)
+    }
+}
+
+impl<'a, const N: usize> TryFrom<&'a [u8; N]> for OctetStringRef<'a> {
+    type Error = Error;
+
+    ghost try_from_gives = { λ b r. KeepsOctets (λ s. s.octets.now) tags.OctetString b.now r };
+
+    fn try_from(octets: &'a [u8; N]) -> Result<OctetStringRef<'a>, Error> {
+        OctetStringRef::new(octets)
+    }
+}
+
+impl<'a> From<OctetStringRef<'a>> for &'a [u8] {
+    ghost from_gives = { λ s b. b.now ≡ s.octets.now };
+
+    fn from(string: OctetStringRef<'a>) -> &'a [u8] {
+        string.as_bytes()
+    }
+}
+
+impl<'a, 'b> TryFrom<&'b &'a [u8]> for OctetStringRef<'a> {
+    type Error = Error;
+
+    ghost try_from_gives = { λ b r. KeepsOctets (λ s. s.octets.now) tags.OctetString b.now.now r };
+
+    fn try_from(octets: &'b &'a [u8]) -> Result<OctetStringRef<'a>, Error> {
+        OctetStringRef::new(*octets)
+    }
+}
+
+impl<'a, const N: usize> TryFrom<OctetStringRef<'a>> for [u8; N] {
+    type Error = Error;
+
+    ghost try_from_gives = { λ s r. MatchResult r (λ a. a ≡ s.octets.now) (λ e. (e.kind ≡ kinds.Length tags.OctetString) × (length s.octets.now ≢ N)) };
+
+    /// # Errors
+    /// (7) for another number of octets.
+    fn try_from(string: OctetStringRef<'a>) -> Result<[u8; N], Error> {
+        if string.octets.len() != N {
+            return Err(Error::from_kind(Tag::OctetString.length_error()));
+        }
+        let mut octets = [0; N];
+        octets.copy_from_slice(string.octets);
+        Ok(octets)
+    }
+}
+
+impl<'a> From<OctetStringRef<'a>> for AnyRef<'a> {
+    ghost from_gives = { λ s a. (a.tag ≡ tags.OctetString) × (a.value.now ≡ s.octets.now) };
+
+    fn from(string: OctetStringRef<'a>) -> AnyRef<'a> {
+        AnyRef {
+            tag: Tag::OctetString,
+            value: string.octets,
+        }
+    }
+}
+
+impl<'a> TryFrom<AnyRef<'a>> for OctetStringRef<'a> {
+    type Error = Error;
+
+    ghost try_from_gives = { λ a r. DecodesAs ⟦<OctetStringRef<'a> as Form>⟧ ⟦<OctetStringRef<'a> as FormValue>⟧ Der a.tag a.value.now r };
+
+    /// # Errors
+    /// (4) with no expected tag for another tag.
+    fn try_from(any: AnyRef<'a>) -> Result<OctetStringRef<'a>, Error> {
+        if !any.tag.is(Tag::OctetString) {
+            return Err(Error::from_kind(any.tag.unexpected_error(None)));
+        }
+        Ok(OctetStringRef { octets: any.value })
+    }
+}
+
+impl<'a> TryFrom<&'a Any> for OctetStringRef<'a> {
+    type Error = Error;
+
+    ghost try_from_gives = { λ a r. DecodesAs ⟦<OctetStringRef<'a> as Form>⟧ ⟦<OctetStringRef<'a> as FormValue>⟧ Der a.now.tag a.now.value.items r };
+
+    /// # Errors
+    /// (4) with no expected tag for another tag.
+    fn try_from(any: &'a Any) -> Result<OctetStringRef<'a>, Error> {
+        OctetStringRef::try_from(any.to_ref())
+    }
+}
