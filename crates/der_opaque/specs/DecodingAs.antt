@@ -1,5 +1,5 @@
 -- What decoding carried contents octets as a type answers.
-use Rattle.std.specs.Prelude.{◌≡◌, ℕ, List, Bool, true, if◌then◌else◌, Option, None, ◌⊎◌, Result, Ok, Err}
+use Rattle.std.specs.Prelude.{◌≡◌, ℕ, List, Bool, true, if◌then◌else◌, None, ◌⊎◌, Result, Ok, Err}
 use Rattle.der_tlv.specs.declared.error.ErrorKind.{ErrorKind}
 use Rattle.der_tlv.specs.declared.error.ErrorKind.TheVariants.{Memory, TagUnexpected}
 use Rattle.der_tlv.specs.declared.error.Error.{Error}

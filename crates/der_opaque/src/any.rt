@@ -44,7 +44,7 @@ impl Any {
     /// # Errors
     /// (7) with the tag for more than 4294967295 octets.
     pub fn new(tag: Tag, value: Vec<u8>) -> Result<Any, Error>
-        ensures { KeepsTagged (λ v. v.tag) (λ v. v.value.items) tag value.items result }
+        ensures { KeepsTagged ⟦<Any as Tagged>⟧.tag_of ⟦<Any as FormValue>⟧.contents tag value.items result }
     {
         let _number = tag.number();
         match Length::of(value.len()) {
@@ -55,8 +55,8 @@ impl Any {
 
     /// NULL, 05 00. It takes no memory.
     pub fn null(alloc: Global) -> Any
-        ensures tag { result.tag ≡ tags.Null }
-        ensures value { result.value.items ≡ [] }
+        ensures tag { ⟦<Any as Tagged>⟧.tag_of result ≡ tags.Null }
+        ensures value { ⟦<Any as FormValue>⟧.contents result ≡ [] }
     {
         Any {
             tag: Tag::Null,
@@ -69,7 +69,7 @@ impl Any {
     /// # Errors
     /// (1) where memory runs out.
     pub fn from_ref(alloc: Global, any: AnyRef<'_>) -> Result<Any, Error>
-        ensures value { IfOk result (λ v. (v.tag ≡ any.entry.tag) × (v.value.items ≡ any.entry.value.now)) }
+        ensures value { IfOk result (λ v. (⟦<Any as Tagged>⟧.tag_of v ≡ ⟦<AnyRef<'static> as Tagged>⟧.tag_of any.entry) × (⟦<Any as FormValue>⟧.contents v ≡ ⟦<AnyRef<'static> as FormValue>⟧.contents any.entry)) }
         ensures err { IfErr result (λ e. e.kind ≡ kinds.Memory) }
     {
         match any.value.to_vec(alloc) {
@@ -86,7 +86,7 @@ impl Any {
     /// # Errors
     /// (9) where it has more than 4294967295 contents octets; (1) where memory runs out.
     pub fn encode_from<T: Tagged + EncodeValue>(alloc: Global, value: &T) -> Result<Any, Error>
-        ensures ok { IfOk result (λ any. (any.tag ≡ T.tag_of value.now) × (any.value.items ≡ T.contents value.now)) }
+        ensures ok { IfOk result (λ any. (⟦<Any as Tagged>⟧.tag_of any ≡ T.tag_of value.now) × (⟦<Any as FormValue>⟧.contents any ≡ T.contents value.now)) }
         ensures err { IfErr result (λ e. (e.kind ≡ kinds.Memory) ⊎ Stops (T.contents value.now) (T.re_reads_value value.now) e.kind) }
     {
         let len = value.value_len()?;
@@ -100,15 +100,15 @@ impl Any {
 
     /// The contents octets.
     pub fn value(&self) -> &[u8]
-        ensures { result.now ≡ self.now.value.items }
+        ensures { result.now ≡ ⟦<Any as FormValue>⟧.contents self.now }
     {
         &self.value
     }
 
     /// The header of the encoding.
     pub fn header(&self) -> Header
-        ensures tag { result.tag ≡ self.now.tag }
-        ensures length { result.length ≡ length self.now.value.items }
+        ensures tag { result.tag ≡ ⟦<Any as Tagged>⟧.tag_of self.now }
+        ensures length { result.length ≡ length (⟦<Any as FormValue>⟧.contents self.now) }
     {
         self.to_ref().header()
     }
@@ -122,7 +122,7 @@ impl Any {
         &'a self,
         alloc: Global,
     ) -> Result<T, Error>
-        ensures { DecodesAs T.Form T.FormValue Der self.now.tag self.now.value.items result }
+        ensures { DecodesAs T.Form T.FormValue Der (⟦<Any as Tagged>⟧.tag_of self.now) (⟦<Any as FormValue>⟧.contents self.now) result }
     {
         self.to_ref().decode_as(alloc)
     }
@@ -137,7 +137,7 @@ impl Any {
         alloc: Global,
         rules: EncodingRules,
     ) -> Result<T, Error>
-        ensures { DecodesAs T.Form T.FormValue rules self.now.tag self.now.value.items result }
+        ensures { DecodesAs T.Form T.FormValue rules (⟦<Any as Tagged>⟧.tag_of self.now) (⟦<Any as FormValue>⟧.contents self.now) result }
     {
         self.to_ref().decode_as_encoding(alloc, rules)
     }
@@ -152,16 +152,16 @@ impl Any {
         f: F,
     ) -> Result<T, E>
         requires { F.IsAlwaysCallable f }
-        ensures other { self.now.tag ≢ tags.Sequence → RefusesWith E.from_gives (kinds.TagUnexpected (Some tags.Sequence) self.now.tag) result }
-        ensures called { self.now.tag ≡ tags.Sequence → CalledOn F.FnOnce ⟦<SliceReader<'a> as Reader<'a>>⟧.state E.from_gives f self.now.value.items result }
+        ensures other { ⟦<Any as Tagged>⟧.tag_of self.now ≢ tags.Sequence → RefusesWith E.from_gives (kinds.TagUnexpected (Some tags.Sequence) (⟦<Any as Tagged>⟧.tag_of self.now)) result }
+        ensures called { ⟦<Any as Tagged>⟧.tag_of self.now ≡ tags.Sequence → CalledOn F.FnOnce ⟦<SliceReader<'a> as Reader<'a>>⟧.state E.from_gives f (⟦<Any as FormValue>⟧.contents self.now) result }
     {
         self.to_ref().sequence(f)
     }
 
     /// The value, borrowed.
     pub fn to_ref(&self) -> AnyRef<'_>
-        ensures tag { result.tag ≡ self.now.tag }
-        ensures value { result.value.now ≡ self.now.value.items }
+        ensures tag { ⟦<AnyRef<'static> as Tagged>⟧.tag_of result ≡ ⟦<Any as Tagged>⟧.tag_of self.now }
+        ensures value { ⟦<AnyRef<'static> as FormValue>⟧.contents result ≡ ⟦<Any as FormValue>⟧.contents self.now }
     {
         AnyRef {
             tag: self.tag,
@@ -171,22 +171,22 @@ impl Any {
 
     /// The value, borrowed.
     pub fn owned_to_ref(&self) -> AnyRef<'_>
-        ensures tag { result.tag ≡ self.now.tag }
-        ensures value { result.value.now ≡ self.now.value.items }
+        ensures tag { ⟦<AnyRef<'static> as Tagged>⟧.tag_of result ≡ ⟦<Any as Tagged>⟧.tag_of self.now }
+        ensures value { ⟦<AnyRef<'static> as FormValue>⟧.contents result ≡ ⟦<Any as FormValue>⟧.contents self.now }
     {
         self.to_ref()
     }
 
     /// Whether this is NULL, 05 00.
     pub fn is_null(&self) -> bool
-        ensures { IsTrue result ↔ ((self.now.tag ≡ tags.Null) × (self.now.value.items ≡ [])) }
+        ensures { IsTrue result ↔ ((⟦<Any as Tagged>⟧.tag_of self.now ≡ tags.Null) × (⟦<Any as FormValue>⟧.contents self.now ≡ [])) }
     {
         self.to_ref().is_null()
     }
 }
 
 impl Clone for Any {
-    ghost is_clone = { λ v w. (w.tag ≡ v.tag) × (w.value.items ≡ v.value.items) };
+    ghost is_clone = { λ v w. (⟦<Any as Tagged>⟧.tag_of w ≡ ⟦<Any as Tagged>⟧.tag_of v) × (⟦<Any as FormValue>⟧.contents w ≡ ⟦<Any as FormValue>⟧.contents v) };
 
     fn clone(&self) -> Result<Any, AllocError> {
         let value = self.value.clone()?;
@@ -343,7 +343,7 @@ impl Duplicate for Any {
 }
 
 impl<'a> From<&'a Any> for AnyRef<'a> {
-    ghost from_gives = { λ a r. (r.tag ≡ a.now.tag) × (r.value.now ≡ a.now.value.items) };
+    ghost from_gives = { λ a r. (⟦<AnyRef<'a> as Tagged>⟧.tag_of r ≡ ⟦<Any as Tagged>⟧.tag_of a.now) × (⟦<AnyRef<'a> as FormValue>⟧.contents r ≡ ⟦<Any as FormValue>⟧.contents a.now) };
 
     fn from(any: &'a Any) -> AnyRef<'a> {
         any.to_ref()

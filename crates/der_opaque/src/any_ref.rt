@@ -48,7 +48,7 @@ impl<'a> AnyRef<'a> {
     /// # Errors
     /// (7) with the tag for more than 4294967295 octets.
     pub fn new(tag: Tag, value: &'a [u8]) -> Result<AnyRef<'a>, Error>
-        ensures { KeepsTagged (λ v. v.tag) (λ v. v.value.now) tag value.now result }
+        ensures { KeepsTagged ⟦<AnyRef<'a> as Tagged>⟧.tag_of ⟦<AnyRef<'a> as FormValue>⟧.contents tag value.now result }
     {
         let _number = tag.number();
         match Length::of(value.len()) {
@@ -59,22 +59,22 @@ impl<'a> AnyRef<'a> {
 
     /// The contents octets.
     pub fn value(self) -> &'a [u8]
-        ensures { result.now ≡ self.entry.value.now }
+        ensures { result.now ≡ ⟦<AnyRef<'a> as FormValue>⟧.contents self.entry }
     {
         self.value
     }
 
     /// The header of the encoding.
     pub fn header(&self) -> Header
-        ensures tag { result.tag ≡ self.now.tag }
-        ensures length { result.length ≡ length self.now.value.now }
+        ensures tag { result.tag ≡ ⟦<AnyRef<'a> as Tagged>⟧.tag_of self.now }
+        ensures length { result.length ≡ length (⟦<AnyRef<'a> as FormValue>⟧.contents self.now) }
     {
         Header::new(self.tag, Length::new(self.value.len() as u32))
     }
 
     /// Whether this is NULL, 05 00.
     pub fn is_null(self) -> bool
-        ensures { IsTrue result ↔ ((self.entry.tag ≡ tags.Null) × (self.entry.value.now ≡ [])) }
+        ensures { IsTrue result ↔ ((⟦<AnyRef<'a> as Tagged>⟧.tag_of self.entry ≡ tags.Null) × (⟦<AnyRef<'a> as FormValue>⟧.contents self.entry ≡ [])) }
     {
         self.tag == Tag::Null && self.value.is_empty()
     }
@@ -88,7 +88,7 @@ impl<'a> AnyRef<'a> {
         self,
         alloc: Global,
     ) -> Result<T, Error>
-        ensures { DecodesAs T.Form T.FormValue Der self.entry.tag self.entry.value.now result }
+        ensures { DecodesAs T.Form T.FormValue Der (⟦<AnyRef<'a> as Tagged>⟧.tag_of self.entry) (⟦<AnyRef<'a> as FormValue>⟧.contents self.entry) result }
     {
         self.decode_as_encoding(alloc, EncodingRules::Der)
     }
@@ -103,7 +103,7 @@ impl<'a> AnyRef<'a> {
         alloc: Global,
         rules: EncodingRules,
     ) -> Result<T, Error>
-        ensures { DecodesAs T.Form T.FormValue rules self.entry.tag self.entry.value.now result }
+        ensures { DecodesAs T.Form T.FormValue rules (⟦<AnyRef<'a> as Tagged>⟧.tag_of self.entry) (⟦<AnyRef<'a> as FormValue>⟧.contents self.entry) result }
     {
         if !T::can_decode(self.tag) {
             return Err(Error::from_kind(self.tag.unexpected_error(None)));
@@ -125,8 +125,8 @@ impl<'a> AnyRef<'a> {
         f: F,
     ) -> Result<T, E>
         requires { F.IsAlwaysCallable f }
-        ensures other { self.entry.tag ≢ tags.Sequence → RefusesWith E.from_gives (kinds.TagUnexpected (Some tags.Sequence) self.entry.tag) result }
-        ensures called { self.entry.tag ≡ tags.Sequence → CalledOn F.FnOnce ⟦<SliceReader<'a> as Reader<'a>>⟧.state E.from_gives f self.entry.value.now result }
+        ensures other { ⟦<AnyRef<'a> as Tagged>⟧.tag_of self.entry ≢ tags.Sequence → RefusesWith E.from_gives (kinds.TagUnexpected (Some tags.Sequence) (⟦<AnyRef<'a> as Tagged>⟧.tag_of self.entry)) result }
+        ensures called { ⟦<AnyRef<'a> as Tagged>⟧.tag_of self.entry ≡ tags.Sequence → CalledOn F.FnOnce ⟦<SliceReader<'a> as Reader<'a>>⟧.state E.from_gives f (⟦<AnyRef<'a> as FormValue>⟧.contents self.entry) result }
     {
         if let Err(e) = self.tag.assert_eq(Tag::Sequence) {
             return Err(E::from(e));
@@ -149,7 +149,7 @@ impl<'a> AnyRef<'a> {
     /// # Errors
     /// (1) where memory runs out.
     pub fn ref_to_owned(self, alloc: Global) -> Result<Any, Error>
-        ensures value { IfOk result (λ v. (v.tag ≡ self.entry.tag) × (v.value.items ≡ self.entry.value.now)) }
+        ensures value { IfOk result (λ v. (⟦<Any as Tagged>⟧.tag_of v ≡ ⟦<AnyRef<'a> as Tagged>⟧.tag_of self.entry) × (⟦<Any as FormValue>⟧.contents v ≡ ⟦<AnyRef<'a> as FormValue>⟧.contents self.entry)) }
         ensures err { IfErr result (λ e. e.kind ≡ kinds.Memory) }
     {
         Any::from_ref(alloc, self)
@@ -307,7 +307,7 @@ impl<'a> Duplicate for AnyRef<'a> {
 }
 
 impl<'a> From<AnyRef<'a>> for BytesRef<'a> {
-    ghost from_gives = { λ v b. b.octets.now ≡ v.value.now };
+    ghost from_gives = { λ v b. b.octets.now ≡ ⟦<AnyRef<'a> as FormValue>⟧.contents v };
 
     fn from(any: AnyRef<'a>) -> BytesRef<'a> {
         BytesRef { octets: any.value }
@@ -341,7 +341,7 @@ impl<'a> TryFrom<&'a [u8]> for AnyRef<'a> {
 }
 
 impl<'a> From<()> for AnyRef<'a> {
-    ghost from_gives = { λ u a. (a.tag ≡ tags.Null) × (a.value.now ≡ []) };
+    ghost from_gives = { λ u a. (⟦<AnyRef<'a> as Tagged>⟧.tag_of a ≡ tags.Null) × (⟦<AnyRef<'a> as FormValue>⟧.contents a ≡ []) };
 
     fn from(_null: ()) -> AnyRef<'a> {
         AnyRef {

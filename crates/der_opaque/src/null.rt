@@ -13,6 +13,7 @@ use crate::any::Any;
 use crate::any_ref::AnyRef;
 use der_elem::{
     ContentsEq, DecodeValue, DuplicateValue, EncodeValue, FixedTag, Form, FormValue, OrdIsValueOrd,
+    Tagged,
 };
 use der_tlv::{Error, Header, Length, Reader, Tag, Writer};
 use std::alloc::Global;
@@ -106,7 +107,7 @@ impl DuplicateValue for Null {
 }
 
 impl<'a> From<Null> for AnyRef<'a> {
-    ghost from_gives = { λ n a. (a.tag ≡ tags.Null) × (a.value.now ≡ []) };
+    ghost from_gives = { λ n a. (⟦<AnyRef<'a> as Tagged>⟧.tag_of a ≡ tags.Null) × (⟦<AnyRef<'a> as FormValue>⟧.contents a ≡ []) };
 
     fn from(_null: Null) -> AnyRef<'a> {
         AnyRef::from(())
@@ -116,7 +117,7 @@ impl<'a> From<Null> for AnyRef<'a> {
 impl<'a> TryFrom<AnyRef<'a>> for Null {
     type Error = Error;
 
-    ghost try_from_gives = { λ a r. DecodesAs ⟦<Null as Form>⟧ ⟦<Null as FormValue>⟧ Der a.tag a.value.now r };
+    ghost try_from_gives = { λ a r. DecodesAs ⟦<Null as Form>⟧ ⟦<Null as FormValue>⟧ Der (⟦<AnyRef<'a> as Tagged>⟧.tag_of a) (⟦<AnyRef<'a> as FormValue>⟧.contents a) r };
 
     /// # Errors
     /// (4) with no expected tag for another tag; (7) for any contents octets.
@@ -134,7 +135,7 @@ impl<'a> TryFrom<AnyRef<'a>> for Null {
 impl<'a> TryFrom<&'a Any> for Null {
     type Error = Error;
 
-    ghost try_from_gives = { λ a r. DecodesAs ⟦<Null as Form>⟧ ⟦<Null as FormValue>⟧ Der a.now.tag a.now.value.items r };
+    ghost try_from_gives = { λ a r. DecodesAs ⟦<Null as Form>⟧ ⟦<Null as FormValue>⟧ Der (⟦<Any as Tagged>⟧.tag_of a.now) (⟦<Any as FormValue>⟧.contents a.now) r };
 
     /// # Errors
     /// (4) with no expected tag for another tag; (7) for any contents octets.

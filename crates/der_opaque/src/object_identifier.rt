@@ -16,6 +16,7 @@ ghost use Rattle.der_opaque.specs.ObjectIdentifierOctets.{parse_identifier, pars
 use crate::any_ref::AnyRef;
 use der_elem::{
     ContentsEq, DecodeValue, DuplicateValue, EncodeValue, FixedTag, FormValue, OrdIsValueOrd,
+    Tagged,
 };
 use der_tlv::{Error, ErrorKind, Header, Length, Reader, Tag, Writer};
 use std::alloc::Global;
@@ -44,7 +45,7 @@ impl<const MAX_SIZE: usize> ObjectIdentifier<MAX_SIZE> {
     /// (15) for none; (7) for more than `MAX_SIZE` or than 4294967295.
     pub fn from_bytes(bytes: &[u8]) -> Result<ObjectIdentifier<MAX_SIZE>, Error>
         ensures ok { IsOk result ↔ ((0 < length bytes.now) × (length bytes.now ≤ MAX_SIZE) × (length bytes.now < 2 ^ 32)) }
-        ensures value { IfOk result (λ v. take v.count v.octets ≡ bytes.now) }
+        ensures value { IfOk result (λ v. ⟦<ObjectIdentifier<MAX_SIZE> as FormValue>⟧.contents v ≡ bytes.now) }
         ensures err { IfErr result (λ e. e.kind ≡ (if nat_eq (length bytes.now) 0 then kinds.OidMalformed else kinds.Length tags.ObjectIdentifier)) }
     {
         if bytes.is_empty() {
@@ -62,7 +63,7 @@ impl<const MAX_SIZE: usize> ObjectIdentifier<MAX_SIZE> {
 
     /// The contents octets.
     pub fn as_bytes(&self) -> &[u8]
-        ensures value { result.now ≡ take self.now.count self.now.octets }
+        ensures value { result.now ≡ ⟦<ObjectIdentifier<MAX_SIZE> as FormValue>⟧.contents self.now }
         ensures short { length result.now < 2 ^ 32 }
     {
         &self.octets[..self.count.value() as usize]
@@ -205,7 +206,7 @@ impl<const MAX_SIZE: usize> DuplicateValue for ObjectIdentifier<MAX_SIZE> {
 }
 
 impl<'a, const MAX_SIZE: usize> From<&'a ObjectIdentifier<MAX_SIZE>> for AnyRef<'a> {
-    ghost from_gives = { λ v a. (a.tag ≡ tags.ObjectIdentifier) × (a.value.now ≡ take v.now.count v.now.octets) };
+    ghost from_gives = { λ v a. (⟦<AnyRef<'a> as Tagged>⟧.tag_of a ≡ tags.ObjectIdentifier) × (⟦<AnyRef<'a> as FormValue>⟧.contents a ≡ ⟦<ObjectIdentifier<MAX_SIZE> as FormValue>⟧.contents v.now) };
 
     fn from(identifier: &'a ObjectIdentifier<MAX_SIZE>) -> AnyRef<'a> {
         AnyRef {
@@ -218,7 +219,7 @@ impl<'a, const MAX_SIZE: usize> From<&'a ObjectIdentifier<MAX_SIZE>> for AnyRef<
 impl<'a, const MAX_SIZE: usize> TryFrom<AnyRef<'a>> for ObjectIdentifier<MAX_SIZE> {
     type Error = Error;
 
-    ghost try_from_gives = { λ a r. FromAny MAX_SIZE (λ v. take v.count v.octets) a.tag a.value.now r };
+    ghost try_from_gives = { λ a r. FromAny MAX_SIZE ⟦<ObjectIdentifier<MAX_SIZE> as FormValue>⟧.contents (⟦<AnyRef<'a> as Tagged>⟧.tag_of a) (⟦<AnyRef<'a> as FormValue>⟧.contents a) r };
 
     /// # Errors
     /// (4) with OBJECT IDENTIFIER expected for another tag; (15) for no contents octets; (7) for

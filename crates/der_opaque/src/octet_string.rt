@@ -31,7 +31,7 @@ impl OctetString {
     /// # Errors
     /// (7) for more than 4294967295 octets.
     pub fn new(octets: Vec<u8>) -> Result<OctetString, Error>
-        ensures { KeepsOctets (λ s. s.octets.items) tags.OctetString octets.items result }
+        ensures { KeepsOctets ⟦<OctetString as FormValue>⟧.contents tags.OctetString octets.items result }
     {
         match Length::of(octets.len()) {
             Ok(_) => Ok(OctetString { octets }),
@@ -41,35 +41,35 @@ impl OctetString {
 
     /// The octets.
     pub fn as_bytes(&self) -> &[u8]
-        ensures { result.now ≡ self.now.octets.items }
+        ensures { result.now ≡ ⟦<OctetString as FormValue>⟧.contents self.now }
     {
         &self.octets
     }
 
     /// The octets, in their vector.
     pub fn into_bytes(self) -> Vec<u8>
-        ensures { result.items ≡ self.octets.items }
+        ensures { result.items ≡ ⟦<OctetString as FormValue>⟧.contents self }
     {
         self.octets
     }
 
     /// How many there are.
     pub fn len(&self) -> Length
-        ensures { result ≡ length self.now.octets.items }
+        ensures { result ≡ length (⟦<OctetString as FormValue>⟧.contents self.now) }
     {
         Length::new(self.octets.len() as u32)
     }
 
     /// Whether there are none.
     pub fn is_empty(&self) -> bool
-        ensures { IsTrue result ↔ (self.now.octets.items ≡ []) }
+        ensures { IsTrue result ↔ (⟦<OctetString as FormValue>⟧.contents self.now ≡ []) }
     {
         self.octets.is_empty()
     }
 
     /// The string, borrowed.
     pub fn owned_to_ref(&self) -> OctetStringRef<'_>
-        ensures { result.octets.now ≡ self.now.octets.items }
+        ensures { ⟦<OctetStringRef<'static> as FormValue>⟧.contents result ≡ ⟦<OctetString as FormValue>⟧.contents self.now }
     {
         OctetStringRef {
             octets: self.as_bytes(),
@@ -78,7 +78,7 @@ impl OctetString {
 }
 
 impl Clone for OctetString {
-    ghost is_clone = { λ v w. w.octets.items ≡ v.octets.items };
+    ghost is_clone = { λ v w. ⟦<OctetString as FormValue>⟧.contents w ≡ ⟦<OctetString as FormValue>⟧.contents v };
 
     fn clone(&self) -> Result<OctetString, AllocError> {
         let octets = self.octets.clone()?;
@@ -174,7 +174,7 @@ impl DuplicateValue for OctetString {
 }
 
 impl<'a> From<&'a OctetString> for OctetStringRef<'a> {
-    ghost from_gives = { λ s r. r.octets.now ≡ s.now.octets.items };
+    ghost from_gives = { λ s r. ⟦<OctetStringRef<'a> as FormValue>⟧.contents r ≡ ⟦<OctetString as FormValue>⟧.contents s.now };
 
     fn from(string: &'a OctetString) -> OctetStringRef<'a> {
         string.owned_to_ref()
@@ -182,7 +182,7 @@ impl<'a> From<&'a OctetString> for OctetStringRef<'a> {
 }
 
 impl From<OctetString> for Vec<u8> {
-    ghost from_gives = { λ s v. v.items ≡ s.octets.items };
+    ghost from_gives = { λ s v. v.items ≡ ⟦<OctetString as FormValue>⟧.contents s };
 
     fn from(string: OctetString) -> Vec<u8> {
         string.into_bytes()

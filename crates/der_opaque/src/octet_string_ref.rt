@@ -17,7 +17,7 @@ use crate::any_ref::AnyRef;
 use crate::octet_string::OctetString;
 use der_elem::{
     ContentsEq, DecodeValue, DuplicateValue, EncodeValue, Form, FormValue, FromDer, OrdIsValueOrd,
-    SameTag,
+    SameTag, Tagged,
 };
 use der_tlv::{Error, ErrorKind, Header, Length, Reader, Tag, Writer};
 use std::alloc::Global;
@@ -37,7 +37,7 @@ impl<'a> OctetStringRef<'a> {
     /// # Errors
     /// (7) for more than 4294967295 octets.
     pub fn new(octets: &'a [u8]) -> Result<OctetStringRef<'a>, Error>
-        ensures { KeepsOctets (λ s. s.octets.now) tags.OctetString octets.now result }
+        ensures { KeepsOctets (⟦<OctetStringRef<'a> as FormValue>⟧.contents) tags.OctetString octets.now result }
     {
         match Length::of(octets.len()) {
             Ok(_) => Ok(OctetStringRef { octets }),
@@ -47,21 +47,21 @@ impl<'a> OctetStringRef<'a> {
 
     /// The octets.
     pub fn as_bytes(self) -> &'a [u8]
-        ensures { result.now ≡ self.entry.octets.now }
+        ensures { result.now ≡ ⟦<OctetStringRef<'a> as FormValue>⟧.contents self.entry }
     {
         self.octets
     }
 
     /// How many there are.
     pub fn len(self) -> Length
-        ensures { result ≡ length self.entry.octets.now }
+        ensures { result ≡ length (⟦<OctetStringRef<'a> as FormValue>⟧.contents self.entry) }
     {
         Length::new(self.octets.len() as u32)
     }
 
     /// Whether there are none.
     pub fn is_empty(self) -> bool
-        ensures { IsTrue result ↔ (self.entry.octets.now ≡ []) }
+        ensures { IsTrue result ↔ (⟦<OctetStringRef<'a> as FormValue>⟧.contents self.entry ≡ []) }
     {
         self.octets.is_empty()
     }
@@ -72,7 +72,7 @@ impl<'a> OctetStringRef<'a> {
     /// The first fault of the octets, in reading order; (3) where octets are left over; (1) where
     /// the type takes memory.
     pub fn decode_into<T: FromDer<'a>>(self, alloc: Global) -> Result<T, Error>
-        ensures { ReadsAll T.Form self.entry.octets.now result }
+        ensures { ReadsAll T.Form (⟦<OctetStringRef<'a> as FormValue>⟧.contents self.entry) result }
     {
         T::from_der(alloc, self.octets)
     }
@@ -82,7 +82,7 @@ impl<'a> OctetStringRef<'a> {
     /// # Errors
     /// (1) where memory runs out.
     pub fn to_vec(self, alloc: Global) -> Result<Vec<u8>, Error>
-        ensures value { IfOk result (λ octets. octets.items ≡ self.entry.octets.now) }
+        ensures value { IfOk result (λ octets. octets.items ≡ ⟦<OctetStringRef<'a> as FormValue>⟧.contents self.entry) }
         ensures err { IfErr result (λ e. e.kind ≡ kinds.Memory) }
     {
         match self.octets.to_vec(alloc) {
@@ -96,7 +96,7 @@ impl<'a> OctetStringRef<'a> {
     /// # Errors
     /// (1) where memory runs out.
     pub fn ref_to_owned(self, alloc: Global) -> Result<OctetString, Error>
-        ensures value { IfOk result (λ s. s.octets.items ≡ self.entry.octets.now) }
+        ensures value { IfOk result (λ s. ⟦<OctetString as FormValue>⟧.contents s ≡ ⟦<OctetStringRef<'a> as FormValue>⟧.contents self.entry) }
         ensures err { IfErr result (λ e. e.kind ≡ kinds.Memory) }
     {
         let octets = self.to_vec(alloc)?;
@@ -186,7 +186,7 @@ impl<'a> DuplicateValue for OctetStringRef<'a> {
 impl<'a> TryFrom<&'a [u8]> for OctetStringRef<'a> {
     type Error = Error;
 
-    ghost try_from_gives = { λ b r. KeepsOctets (λ s. s.octets.now) tags.OctetString b.now r };
+    ghost try_from_gives = { λ b r. KeepsOctets (⟦<OctetStringRef<'a> as FormValue>⟧.contents) tags.OctetString b.now r };
 
     fn try_from(octets: &'a [u8]) -> Result<OctetStringRef<'a>, Error> {
         OctetStringRef::new(octets)
@@ -196,7 +196,7 @@ impl<'a> TryFrom<&'a [u8]> for OctetStringRef<'a> {
 impl<'a> TryFrom<&'a Vec<u8>> for OctetStringRef<'a> {
     type Error = Error;
 
-    ghost try_from_gives = { λ b r. KeepsOctets (λ s. s.octets.now) tags.OctetString b.now.items r };
+    ghost try_from_gives = { λ b r. KeepsOctets (⟦<OctetStringRef<'a> as FormValue>⟧.contents) tags.OctetString b.now.items r };
 
     fn try_from(octets: &'a Vec<u8>) -> Result<OctetStringRef<'a>, Error> {
         OctetStringRef::new(octets)
@@ -206,7 +206,7 @@ impl<'a> TryFrom<&'a Vec<u8>> for OctetStringRef<'a> {
 impl<'a, const N: usize> TryFrom<&'a [u8; N]> for OctetStringRef<'a> {
     type Error = Error;
 
-    ghost try_from_gives = { λ b r. KeepsOctets (λ s. s.octets.now) tags.OctetString b.now r };
+    ghost try_from_gives = { λ b r. KeepsOctets (⟦<OctetStringRef<'a> as FormValue>⟧.contents) tags.OctetString b.now r };
 
     fn try_from(octets: &'a [u8; N]) -> Result<OctetStringRef<'a>, Error> {
         OctetStringRef::new(octets)
@@ -214,7 +214,7 @@ impl<'a, const N: usize> TryFrom<&'a [u8; N]> for OctetStringRef<'a> {
 }
 
 impl<'a> From<OctetStringRef<'a>> for &'a [u8] {
-    ghost from_gives = { λ s b. b.now ≡ s.octets.now };
+    ghost from_gives = { λ s b. b.now ≡ ⟦<OctetStringRef<'a> as FormValue>⟧.contents s };
 
     fn from(string: OctetStringRef<'a>) -> &'a [u8] {
         string.as_bytes()
@@ -224,7 +224,7 @@ impl<'a> From<OctetStringRef<'a>> for &'a [u8] {
 impl<'a, 'b> TryFrom<&'b &'a [u8]> for OctetStringRef<'a> {
     type Error = Error;
 
-    ghost try_from_gives = { λ b r. KeepsOctets (λ s. s.octets.now) tags.OctetString b.now.now r };
+    ghost try_from_gives = { λ b r. KeepsOctets (⟦<OctetStringRef<'a> as FormValue>⟧.contents) tags.OctetString b.now.now r };
 
     fn try_from(octets: &'b &'a [u8]) -> Result<OctetStringRef<'a>, Error> {
         OctetStringRef::new(*octets)
@@ -234,7 +234,7 @@ impl<'a, 'b> TryFrom<&'b &'a [u8]> for OctetStringRef<'a> {
 impl<'a, const N: usize> TryFrom<OctetStringRef<'a>> for [u8; N] {
     type Error = Error;
 
-    ghost try_from_gives = { λ s r. MatchResult r (λ a. a ≡ s.octets.now) (λ e. (e.kind ≡ kinds.Length tags.OctetString) × (length s.octets.now ≢ N)) };
+    ghost try_from_gives = { λ s r. MatchResult r (λ a. a ≡ ⟦<OctetStringRef<'a> as FormValue>⟧.contents s) (λ e. (e.kind ≡ kinds.Length tags.OctetString) × (length (⟦<OctetStringRef<'a> as FormValue>⟧.contents s) ≢ N)) };
 
     /// # Errors
     /// (7) for another number of octets.
@@ -249,7 +249,7 @@ impl<'a, const N: usize> TryFrom<OctetStringRef<'a>> for [u8; N] {
 }
 
 impl<'a> From<OctetStringRef<'a>> for AnyRef<'a> {
-    ghost from_gives = { λ s a. (a.tag ≡ tags.OctetString) × (a.value.now ≡ s.octets.now) };
+    ghost from_gives = { λ s a. (⟦<AnyRef<'a> as Tagged>⟧.tag_of a ≡ tags.OctetString) × (⟦<AnyRef<'a> as FormValue>⟧.contents a ≡ ⟦<OctetStringRef<'a> as FormValue>⟧.contents s) };
 
     fn from(string: OctetStringRef<'a>) -> AnyRef<'a> {
         AnyRef {
@@ -262,7 +262,7 @@ impl<'a> From<OctetStringRef<'a>> for AnyRef<'a> {
 impl<'a> TryFrom<AnyRef<'a>> for OctetStringRef<'a> {
     type Error = Error;
 
-    ghost try_from_gives = { λ a r. DecodesAs ⟦<OctetStringRef<'a> as Form>⟧ ⟦<OctetStringRef<'a> as FormValue>⟧ Der a.tag a.value.now r };
+    ghost try_from_gives = { λ a r. DecodesAs ⟦<OctetStringRef<'a> as Form>⟧ ⟦<OctetStringRef<'a> as FormValue>⟧ Der (⟦<AnyRef<'a> as Tagged>⟧.tag_of a) (⟦<AnyRef<'a> as FormValue>⟧.contents a) r };
 
     /// # Errors
     /// (4) with no expected tag for another tag.
@@ -277,7 +277,7 @@ impl<'a> TryFrom<AnyRef<'a>> for OctetStringRef<'a> {
 impl<'a> TryFrom<&'a Any> for OctetStringRef<'a> {
     type Error = Error;
 
-    ghost try_from_gives = { λ a r. DecodesAs ⟦<OctetStringRef<'a> as Form>⟧ ⟦<OctetStringRef<'a> as FormValue>⟧ Der a.now.tag a.now.value.items r };
+    ghost try_from_gives = { λ a r. DecodesAs ⟦<OctetStringRef<'a> as Form>⟧ ⟦<OctetStringRef<'a> as FormValue>⟧ Der (⟦<Any as Tagged>⟧.tag_of a.now) (⟦<Any as FormValue>⟧.contents a.now) r };
 
     /// # Errors
     /// (4) with no expected tag for another tag.

@@ -179,27 +179,65 @@ fn read_two(alloc: Global, reader: &mut SliceReader<'_>) -> Result<Length, Error
     Ok(string.len())
 }
 
+/// Reads NULL and an OCTET STRING from the contents octets of a value.
+fn sequence_of_two(alloc: Global, tag: Tag, contents: &[u8]) -> Result<Length, ErrorKind> {
+    let any = match AnyRef::new(tag, contents) {
+        Ok(any) => any,
+        Err(e) => return Err(e.kind),
+    };
+    match any.sequence(|reader| read_two(alloc, reader)) {
+        Ok(len) => Ok(len),
+        Err(e) => refused(e),
+    }
+}
+
+/// Reads no value from the contents octets, after a refusal that is let go.
+fn sequence_of_none(contents: &[u8]) -> Result<Length, ErrorKind> {
+    let any = match AnyRef::new(Tag::Sequence, contents) {
+        Ok(any) => any,
+        Err(e) => return Err(e.kind),
+    };
+    match any.sequence(read_too_much) {
+        Ok(len) => Ok(len),
+        Err(e) => refused(e),
+    }
+}
+
+/// Asks for more octets than there are, and goes on.
+fn read_too_much(reader: &mut SliceReader<'_>) -> Result<Length, Error> {
+    match reader.read_slice(Length::new(9)) {
+        Ok(_) => Ok(Length::ONE),
+        Err(_) => Ok(Length::ZERO),
+    }
+}
+
+/// The kind of an error.
+fn refused(e: Error) -> Result<Length, ErrorKind> {
+    Err(e.kind)
+}
+
 #[test]
-fn sequences_are_read_by_a_function(rt: HostRuntime) -> Result<(), Fail> {
+fn sequences_are_read_by_a_function(rt: HostRuntime) {
     let alloc = rt.alloc();
-    let Ok(any) = AnyRef::new(Tag::Sequence, &[5, 0, 4, 1, 7]) else {
-        panic!(rt; "refused")
-    };
-    let len: Result<Length, Error> = any.sequence(|reader| read_two(alloc, reader));
-    assert_eq!(rt; len?, Length::ONE);
-    let Ok(longer) = AnyRef::new(Tag::Sequence, &[5, 0, 4, 1, 7, 5, 0]) else {
-        panic!(rt; "refused")
-    };
-    let left: Result<Length, Error> = longer.sequence(|reader| read_two(alloc, reader));
-    assert!(rt; matches!(left, Err(e) if e.kind.number() == 3));
-    let failed: Result<(), Error> = any.sequence(|reader| {
-        let _refused = reader.read_slice(Length::new(9));
-        Ok(())
-    });
-    assert!(rt; matches!(failed, Err(e) if e.kind.number() == 17));
-    let other: Result<(), Error> = AnyRef::NULL.sequence(|_reader| Ok(()));
-    assert!(rt; matches!(other, Err(e) if e.kind.number() == 4));
-    Ok(())
+    assert_eq!(rt;
+        sequence_of_two(alloc, Tag::Sequence, &[5, 0, 4, 1, 7]),
+        Ok(Length::ONE)
+    );
+    assert_eq!(rt;
+        sequence_of_two(alloc, Tag::Sequence, &[5, 0, 4, 1, 7, 5, 0]),
+        Err(ErrorKind::TrailingData {
+            decoded: Length::new(5),
+            remaining: Length::new(2)
+        })
+    );
+    assert_eq!(rt; sequence_of_none(&[5, 0]), Err(ErrorKind::Failed));
+    assert_eq!(rt;
+        sequence_of_two(alloc, Tag::Null, &[]),
+        Err(ErrorKind::TagUnexpected {
+            expected: Some(Tag::Sequence),
+            actual: Tag::Null
+        })
+    );
 }
 
 /// An empty value with a constructed context-specific tag.
@@ -215,19 +253,23 @@ fn numbered(number: u32) -> Result<AnyRef<'static>, Error> {
 
 #[test]
 fn order_is_that_of_identifier_octets(rt: HostRuntime) -> Result<(), Fail> {
-    let Ok(low) = numbered(16383) else {
-        panic!(rt; "refused")
+    let low = match numbered(16383) {
+        Ok(any) => any,
+        Err(e) => panic!(rt; "refused: {:?}", e.kind)
     };
-    let Ok(high) = numbered(16384) else {
-        panic!(rt; "refused")
+    let high = match numbered(16384) {
+        Ok(any) => any,
+        Err(e) => panic!(rt; "refused: {:?}", e.kind)
     };
     assert_eq!(rt; high.der_cmp(&low)?, Ordering::Less);
     assert_eq!(rt; high.cmp(&low), Ordering::Less);
-    let Ok(short) = AnyRef::new(Tag::OctetString, &[9]) else {
-        panic!(rt; "refused")
+    let short = match AnyRef::new(Tag::OctetString, &[9]) {
+        Ok(any) => any,
+        Err(e) => panic!(rt; "refused: {:?}", e.kind)
     };
-    let Ok(long) = AnyRef::new(Tag::OctetString, &[1, 2]) else {
-        panic!(rt; "refused")
+    let long = match AnyRef::new(Tag::OctetString, &[1, 2]) {
+        Ok(any) => any,
+        Err(e) => panic!(rt; "refused: {:?}", e.kind)
     };
     assert_eq!(rt; short.der_cmp(&long)?, Ordering::Less);
     assert_eq!(rt; short.cmp(&long), Ordering::Greater);
@@ -266,8 +308,9 @@ fn measured<T: Encode + FixedTag>(value: &T) -> Result<(Tag, Length), Error> {
 #[test]
 fn types_are_used_through_their_traits(rt: HostRuntime) -> Result<(), Fail> {
     assert_eq!(rt; measured(&Null)?, (Tag::Null, Length::new(2)));
-    let Ok(string) = OctetStringRef::new(&[1]) else {
-        panic!(rt; "refused")
+    let string = match OctetStringRef::new(&[1]) {
+        Ok(string) => string,
+        Err(e) => panic!(rt; "refused: {:?}", e.kind)
     };
     assert_eq!(rt; measured(&string)?, (Tag::OctetString, Length::new(3)));
     Ok(())

@@ -1,4 +1,4 @@
-use Rattle.std.proofs.Common.{rules, ◌≡◌, ◌+◌, ap, inr, true, length}
+use Rattle.std.proofs.Common.{rules, ◌≡◌, ◌+◌, ap, true, length}
 use Rattle.der_tlv.specs.HeaderReading.{octets_of}
 use Rattle.der_elem.proofs.AtContents.{AtHeader}
 use Rattle.der_opaque.proofs.AnyDecoding.{header_fault_any, too_long_any, parsed_any, taken_any, after_any}

@@ -1,4 +1,4 @@
-use Rattle.std.proofs.Common.{◌≡◌, ◌∙◌, sym, ap, true, false, refl, Ok, Err}
+use Rattle.std.proofs.Common.{◌∙◌, sym, refl, Ok, Err}
 use Rattle.der_opaque.proofs.any_ref.AnyRef.sequence.Goals as goal
 
 pub returns-in-Ok-finish-clause-called : goal.returns-in-Ok-finish-clause-called
