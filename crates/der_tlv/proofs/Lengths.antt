@@ -1,15 +1,15 @@
 -- Reading the octets of a length one by one.
-use Rattle.std.proofs.Common.{◌≡◌, ◌≢◌, ℕ, zero, suc, ◌+◌, ◌-◌, ◌*◌, ◌^◌, ◌<◌, ◌≤◌, Bool, true, false, List, [], ◌∷◌, ◌++◌, length, take, drop, Result, Ok, Err, refl, sym, ap, ◌∙◌, subst, arith, nat_lt, nat_le, nat_eq, ◌==◌, lit≤}
+use Rattle.std.proofs.Common.{◌≡◌, ℕ, zero, suc, ◌+◌, ◌*◌, ◌^◌, ◌<◌, ◌≤◌, true, false, List, [], ◌∷◌, ◌++◌, length, take, drop, Err, refl, sym, ap, ◌∙◌, subst, arith, nat_lt}
 use Rattle.std.proofs.Math.Seq.{take-add}
-use Rattle.std.proofs.lemmas.List.{length-take, length-drop, length-append}
+use Rattle.std.proofs.lemmas.List.{length-take, length-drop}
 use Rattle.std.proofs.lemmas.Bool.Decides.{nat_tests}
-use Rattle.std.specs.Int.Digits.{digits_of, number_from_digits, number_from_digits_after, AllBelowBase}
+use Rattle.std.specs.Int.Digits.{number_from_digits, AllBelowBase}
 use Rattle.std.proofs.lemmas.Int.Digits.{number_push, number_lt}
 use Rattle.der_tlv.specs.declared.error.ErrorKind.{ErrorKind}
-use Rattle.der_tlv.specs.ReaderState.{ReaderState, IsReaderState, rest, after_read, seen, read_fault, read_fault_at}
-use Rattle.der_tlv.specs.HeaderReading.{read_long_length, octet_missing}
+use Rattle.der_tlv.specs.ReaderState.{ReaderState, rest, after_read, seen, read_fault_at}
+use Rattle.der_tlv.specs.HeaderReading.{read_long_length}
 use Rattle.der_tlv.specs.Reading.{OctetRead}
-use Rattle.der_tlv.proofs.ReaderStates.{rest-after_read, length-rest}
+use Rattle.der_tlv.proofs.ReaderStates.{rest-after_read}
 
 -- the octets that a reader has read since it was `old`, all of them below 256, and their number
 pub record OctetsSoFar (old now : ReaderState) (count n : ℕ) : Type 0 where

@@ -1,6 +1,6 @@
 -- A length of 128 and more, once its octets are read.
-use Rattle.std.proofs.Common.{◌≡◌, ◌≢◌, ℕ, zero, suc, ◌+◌, ◌-◌, ◌*◌, ◌^◌, ◌<◌, ◌≤◌, Bool, true, false, List, [], ◌∷◌, ◌++◌, length, take, drop, get_or, Result, Ok, Err, refl, sym, ap, ◌∙◌, subst, arith, nat_lt, nat_le, nat_eq, ◌==◌, ◌⊎◌, inl, inr, lit≤}
-use Rattle.std.proofs.lemmas.List.{length-take, length-drop}
+use Rattle.std.proofs.Common.{◌≡◌, ◌≢◌, ℕ, zero, suc, ◌+◌, ◌-◌, ◌<◌, ◌≤◌, Bool, true, false, List, [], ◌∷◌, length, take, get_or, Ok, Err, refl, sym, ap, ◌∙◌, subst, arith, nat_lt, nat_eq, ◌⊎◌, inl, inr, lit≤}
+use Rattle.std.proofs.lemmas.List.{length-take}
 use Rattle.std.proofs.lemmas.Bool.Decides.{nat_tests}
 use Rattle.std.specs.Cmp.Lexicographic.{pointwise, bytes_decides}
 use Rattle.std.specs.Int.Digits.{digits_of, number_from_digits, AllBelowBase}
@@ -9,7 +9,7 @@ use Rattle.der_tlv.specs.declared.error.ErrorKind.{ErrorKind}
 use Rattle.der_tlv.specs.declared.error.ErrorKind.TheVariants.{Overlength}
 use Rattle.der_tlv.specs.LengthOctets.{length_octets}
 use Rattle.der_tlv.specs.LengthLaws.{digits_of-number, pointwise-same}
-use Rattle.der_tlv.specs.ReaderState.{ReaderState, rest, after_read, seen, read_fault, read_fault_at}
+use Rattle.der_tlv.specs.ReaderState.{ReaderState, rest, after_read, read_fault, read_fault_at}
 use Rattle.der_tlv.specs.HeaderReading.{read_long_length}
 use Rattle.der_tlv.specs.Reading.{OctetRead, Refuses, HeadFault, HeadRead}
 use Rattle.der_tlv.proofs.ReaderStates.{refused_at_first}

@@ -1,5 +1,5 @@
 -- What is left in a reader, after each of its calls.
-use Rattle.std.proofs.Common.{◌≡◌, ℕ, ◌+◌, ◌<◌, ◌≤◌, ◌^◌, List, length, take, drop, Bool, true, false, refl, sym, ap, ◌∙◌, arith, [], ◌∷◌, nat_eq, IsTrue, ◌↔◌, not, ◌&&◌, nat_le, Result, Ok, Err}
+use Rattle.std.proofs.Common.{◌≡◌, ℕ, ◌+◌, ◌≤◌, List, length, take, drop, Bool, true, false, refl, sym, ap, ◌∙◌, arith, [], ◌∷◌, nat_eq, IsTrue, ◌↔◌, not, ◌&&◌, nat_le, Result, Err}
 use Rattle.std.proofs.lemmas.List.{drop-drop, drop-take, take-take, length-take, length-drop}
 use Rattle.std.proofs.lemmas.Bool.Decides.{nat_tests}
 use Rattle.std.proofs.lemmas.Bool.{leb-true}

@@ -1,11 +1,11 @@
 -- A length, from its first octet on.
-use Rattle.std.proofs.Common.{◌≡◌, ◌≢◌, ℕ, zero, suc, ◌+◌, ◌-◌, ◌<◌, ◌≤◌, Bool, true, false, List, [], ◌∷◌, ◌++◌, length, take, drop, Result, Ok, Err, refl, sym, ap, ◌∙◌, subst, arith, nat_lt, nat_eq, ◌==◌}
+use Rattle.std.proofs.Common.{◌≡◌, ℕ, suc, ◌+◌, ◌-◌, ◌<◌, ◌≤◌, true, false, List, [], ◌∷◌, length, take, Result, Ok, Err, refl, sym, ap, ◌∙◌, arith, nat_lt, ◌==◌}
 use Rattle.std.proofs.lemmas.Bool.Decides.{nat_tests}
 use Rattle.std.specs.Int.Digits.{digits_of}
 use Rattle.der_tlv.specs.declared.error.ErrorKind.{ErrorKind}
 use Rattle.der_tlv.specs.declared.error.ErrorKind.TheVariants.{Overlength, IndefiniteLength}
 use Rattle.der_tlv.specs.LengthOctets.{length_octets}
-use Rattle.der_tlv.specs.ReaderState.{ReaderState, rest, after_read, seen, read_fault, read_fault_at}
+use Rattle.der_tlv.specs.ReaderState.{ReaderState, rest, after_read, read_fault, read_fault_at}
 use Rattle.der_tlv.specs.HeaderReading.{read_length, read_long_length, behind_one}
 use Rattle.std.specs.Prelude.{IfOk}
 use Rattle.der_tlv.specs.declared.error.Error.{Error}

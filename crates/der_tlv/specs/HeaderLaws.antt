@@ -1,12 +1,9 @@
 -- No header and no encoding is a proper beginning of another, and what is written is read.
-use Rattle.std.proofs.Common.{◌≡◌, ℕ, ◌+◌, ◌<◌, ◌≤◌, ◌^◌, Bool, true, false, List, [], ◌∷◌, ◌++◌, length, take, drop, Ok, Err, refl, sym, ap, ◌∙◌, subst, arith, append_assoc, nat_eq, IsTrue, ◌↔◌, Ordering}
+use Rattle.std.proofs.Common.{◌≡◌, ℕ, ◌+◌, ◌<◌, ◌^◌, Bool, true, false, List, [], ◌++◌, length, Ok, refl, sym, ap, ◌∙◌, subst, append_assoc, IsTrue, ◌↔◌}
 use Rattle.std.proofs.lemmas.List.{length-append}
-use Rattle.std.proofs.Math.Seq.{drop-append_seam, take-append_seam}
-use Rattle.std.specs.Cmp.Lexicographic.{pointwise, bytes_decides}
-use Rattle.std.specs.Ordering.{ordering_then}
+use Rattle.std.proofs.Math.Seq.{drop-append_seam}
+use Rattle.std.specs.Cmp.Lexicographic.{bytes_decides}
 use Rattle.der_tlv.specs.declared.tag.Tag.{Tag}
-use Rattle.der_tlv.specs.Octets.{lex}
-use Rattle.der_tlv.specs.OctetLaws.{SameBeginning, lex-append}
 use Rattle.der_tlv.specs.TagParts.{IsTag}
 use Rattle.der_tlv.specs.Identifier.{identifier, same_identifier}
 use Rattle.der_tlv.specs.IdentifierLaws.{identifier-unique, identifier-injective}

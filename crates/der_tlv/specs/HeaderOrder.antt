@@ -12,7 +12,7 @@ use Rattle.der_tlv.specs.Identifier.{identifier}
 use Rattle.der_tlv.specs.IdentifierLaws.{lex-identifier}
 use Rattle.der_tlv.specs.LengthOctets.{length_octets}
 use Rattle.der_tlv.specs.LengthLaws.{length_octets-unique}
-use Rattle.der_tlv.specs.HeaderOctets.{header_octets, tlv}
+use Rattle.der_tlv.specs.HeaderOctets.{tlv}
 
 then_assoc : (o p q : Ordering) → ordering_then o (ordering_then p q) ≡ ordering_then (ordering_then o p) q
 then_assoc Less p q = refl

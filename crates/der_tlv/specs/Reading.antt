@@ -1,13 +1,9 @@
 -- What the calls of readers answer, and what stands after each.
-use Rattle.std.specs.Prelude.{◌≡◌, ℕ, ◌+◌, ◌^◌, ◌<◌, ◌≤◌, List, [], ◌∷◌, length, take, Bool, true, false, nat_lt, nat_eq, ◌==◌, ◌&&◌, if◌then◌else◌, Result, Ok, Err, IsTrue, ◌↔◌}
-use Rattle.std.specs.Borrow.{Bor}
+use Rattle.std.specs.Prelude.{◌≡◌, ℕ, ◌^◌, ◌<◌, ◌≤◌, List, [], ◌∷◌, length, take, true, false, Result, Ok, Err}
 use Rattle.der_tlv.specs.declared.error.ErrorKind.{ErrorKind}
-use Rattle.der_tlv.specs.declared.error.ErrorKind.TheVariants.{Overflow, Failed, TrailingData, TagUnexpected}
+use Rattle.der_tlv.specs.declared.error.ErrorKind.TheVariants.{Overflow}
 use Rattle.der_tlv.specs.declared.error.Error.{Error}
-use Rattle.der_tlv.specs.declared.header.Header.{Header}
-use Rattle.der_tlv.specs.declared.tag.Tag.{Tag}
 use Rattle.der_tlv.specs.declared.encoding_rules.EncodingRules.{EncodingRules}
-use Rattle.der_tlv.specs.TagParts.{IsTag, class_of, number_of}
 use Rattle.der_tlv.specs.ReaderState.{ReaderState, rest, after_read, after_fault, can_read, read_fault, read_fault_at, nested, unnested, can_unnest, unnest_fault, opened, seen}
 
 -- a refusal: its kind, and the reader failed and otherwise as it was

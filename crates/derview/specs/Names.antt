@@ -11,7 +11,7 @@ use Rattle.der_tlv.specs.Identifier.{same_identifier}
 use Rattle.der_elem.specs.Items.{parse_items}
 use Rattle.der_elem.specs.Arrays.{parse_array}
 use Rattle.der_elem.specs.Options.{parse_option}
-use Rattle.der_elem.specs.Parsing.{Parse, ContentsParse, parse_tagged}
+use Rattle.der_elem.specs.Parsing.{ContentsParse, parse_tagged}
 use Rattle.der_elem.specs.Decoding.{parse_all}
 use Rattle.der_elem.specs.Boolean.{parse_boolean}
 use Rattle.der_elem.specs.Null.{parse_null}

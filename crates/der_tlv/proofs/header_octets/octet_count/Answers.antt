@@ -1,4 +1,4 @@
-use Rattle.std.proofs.Common.{rules, sym, arith}
+use Rattle.std.proofs.Common.{rules, sym}
 use Rattle.der_tlv.proofs.LengthCounts.{one_octet, two_octets, three_octets, four_octets}
 use Rattle.der_tlv.proofs.header_octets.octet_count.Goals as goal
 

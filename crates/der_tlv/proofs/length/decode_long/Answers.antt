@@ -1,6 +1,6 @@
-use Rattle.std.proofs.Common.{rules, ◌≡◌, ◌+◌, ◌*◌, ◌<◌, ◌≤◌, ◌^◌, ap, subst, sym, arith, inl, inr, zero-mul, zero-add}
+use Rattle.std.proofs.Common.{rules, ◌≡◌, ◌+◌, ◌*◌, ◌<◌, ◌≤◌, ap, subst, sym, arith, inl, inr}
 use Rattle.std.proofs.lemmas.Grind.{common_steps}
-use Rattle.der_tlv.proofs.Lengths.{OctetsSoFar, no_octets, one_more, so_far-lt, room_for_more}
+use Rattle.der_tlv.proofs.Lengths.{OctetsSoFar, one_more, so_far-lt, room_for_more}
 use Rattle.der_tlv.proofs.LongLengths.{octet_missing_at, first_missing, long_octets, not_fewest, fewest_read, whole_long}
 use Rattle.der_tlv.proofs.length.decode_long.Goals as goal
 use Rattle.der_tlv.proofs.length.decode_long.Goals.{then-first-eq0-via-then-first-eq0, then-first-eq0-via-else-first-eq0+then-length-lt128}

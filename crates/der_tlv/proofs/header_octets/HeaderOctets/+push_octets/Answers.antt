@@ -1,4 +1,4 @@
-use Rattle.std.proofs.Common.{rules, ◌/◌, ◌<◌, ◌+◌, ◌≡◌, ap, length, length-append, arith, lit≤}
+use Rattle.std.proofs.Common.{rules, ◌/◌, ◌<◌, ap, length, length-append, arith, lit≤}
 use Rattle.std.specs.Int.Digits.{digits_of}
 use Rattle.std.proofs.lemmas.Int.Digits.{length-digits_of_step}
 use Rattle.der_tlv.proofs.LengthCounts.{digits_pushed}
