@@ -1,8 +1,6 @@
 -- Octets that are written part by part.
-use Rattle.std.proofs.Common.{◌≡◌, ℕ, zero, suc, ◌+◌, ◌<◌, ◌≤◌, List, [], ◌∷◌, ◌++◌, length, take, drop, get_or, Bool, true, inl, inr, IsTrue, Result, Ok, Err, refl, sym, ap, ◌∙◌, arith, subst, append_assoc, flat_map, min}
-use Rattle.std.specs.List.{list_any}
+use Rattle.std.proofs.Common.{◌≡◌, ℕ, ◌+◌, ◌≤◌, List, [], ◌++◌, length, take, Bool, true, inl, inr, IsTrue, Result, Ok, Err, refl, sym, ap, ◌∙◌, arith, subst, append_assoc, min}
 use Rattle.std.proofs.lemmas.List.{length-append, take-append-le, take_min, append-nil}
-use Rattle.std.proofs.lemmas.List.Folds.{list_any_at, length-flat_map-take}
 use Rattle.std.proofs.Math.Seq.{take-append-add}
 use Rattle.der_tlv.specs.declared.error.ErrorKind.{ErrorKind}
 use Rattle.der_tlv.specs.declared.error.Error.{Error}

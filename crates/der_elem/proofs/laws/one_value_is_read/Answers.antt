@@ -1,4 +1,4 @@
-use Rattle.std.proofs.Common.{sym, ◌∙◌, ◌≡◌, Ok}
+use Rattle.std.proofs.Common.{sym, ◌∙◌}
 use Rattle.der_elem.proofs.Alone.{all_of_accepted}
 use Rattle.der_elem.proofs.laws.one_value_is_read.Goals as goal
 

@@ -1,4 +1,4 @@
-use Rattle.std.proofs.Common.{rules, ◌≡◌, ◌∙◌, ◌++◌, sym, ap, []}
+use Rattle.std.proofs.Common.{rules, ◌≡◌, ◌∙◌, ◌++◌, sym, ap}
 use Rattle.der_tlv.specs.HeaderOctets.{header_octets, tlv}
 use Rattle.der_elem.proofs.Written.{refused_within, wrote_nothing, last_part}
 use Rattle.der_elem.proofs.blanket.AnyEncode.encode.Goals as goal
