@@ -4,7 +4,7 @@ use Rattle.std.specs.Cmp.Lexicographic.{pointwise}
 use Rattle.std.proofs.lemmas.List.{length-append}
 use Rattle.der_tlv.specs.declared.tag.Tag.{Tag}
 use Rattle.der_tlv.specs.HeaderOctets.{tlv}
-use Rattle.der_tlv.specs.HeaderLaws.{tlv-unique, tlv-injective}
+use Rattle.der_tlv.specs.HeaderLaws.{tlv-unique}
 use Rattle.der_elem.specs.Items.{OneForms}
 use Rattle.der_elem.specs.OrderLaws.{encoding-some}
 
@@ -34,9 +34,3 @@ module _ {T : Type 0} (tag_of : T → Tag) (contents encoding : T → List ℕ) 
           (λ h. let p = both_true (eq v w) (pointwise eq vs ws) h in ap (λ c. c ++ flat_map encoding vs) (one.0 p.0) ∙ ap (λ c. encoding w ++ c) (others.0 p.1)),
           (λ h. let u = encoding-unique v w (flat_map encoding vs) (flat_map encoding ws) h in and_true (eq v w) (pointwise eq vs ws) (one.1 u.0) (others.1 u.1)),
         )
-
-    -- lists behind one tag
-    pub encoding_eq_items : (tag : Tag) (vs ws : List T) → OneForms one_form vs ws → IsTrue (pointwise eq vs ws) ↔ (tlv tag (flat_map encoding vs) ≡ tlv tag (flat_map encoding ws))
-    encoding_eq_items tag vs ws o =
-        let h = items_eq vs ws o in
-        (λ e. ap (tlv tag) (h.0 e), λ e. h.1 (tlv-injective tag tag (flat_map encoding vs) (flat_map encoding ws) e).1)

@@ -1,9 +1,6 @@
 -- The laws of types of which each value is read from its own contents octets alone.
 use Rattle.std.proofs.Common.{◌≡◌, ℕ, List, length, Bool, Ok, refl, sym, ap, ◌∙◌, IsTrue, ◌↔◌, Decides}
 use Rattle.der_tlv.specs.declared.encoding_rules.EncodingRules.{EncodingRules}
-use Rattle.der_tlv.specs.declared.tag.Tag.{Tag}
-use Rattle.der_tlv.specs.HeaderOctets.{tlv}
-use Rattle.der_tlv.specs.HeaderLaws.{tlv-injective}
 use Rattle.der_elem.specs.Parsing.{ContentsParse}
 use Rattle.der_elem.specs.Accepting.{Fits}
 use Rattle.der_elem.specs.OwnContents.{accepts_own, accepts_within}
@@ -38,11 +35,11 @@ module _ {T : Type 0} (contents : T → List ℕ) (Within : T → Type 0) where
   pub only_within : (rules : EncodingRules) (v : T) (c : List ℕ) → accepts_within contents Within rules v c → Within v
   only_within rules v c (e, within) = within
 
--- where no two values have the same contents octets, values are equal exactly if their encodings are
-pub encoding_eq_own : {T : Type 0} (t : Tag) (contents : T → List ℕ) (eq : T → T → Bool) (decides : (v w : T) → Decides (eq v w) (v ≡ w)) (injective : (v w : T) → contents v ≡ contents w → v ≡ w) (v w : T) → Unit {0} → (IsTrue (eq v w) ↔ (tlv t (contents v) ≡ tlv t (contents w)))
-encoding_eq_own t contents eq decides injective v w _ =
-    (λ e. ap (λ x. tlv t (contents x)) ((decides v w).0 e), λ e. (decides v w).1 (injective v w (tlv-injective t t (contents v) (contents w) e).1))
+-- where no two values have the same contents octets, values are equal exactly if their contents octets are
+pub contents_eq_own : {T : Type 0} (contents : T → List ℕ) (eq : T → T → Bool) (decides : (v w : T) → Decides (eq v w) (v ≡ w)) (injective : (v w : T) → contents v ≡ contents w → v ≡ w) (v w : T) → Unit {0} → (IsTrue (eq v w) ↔ (contents v ≡ contents w))
+contents_eq_own contents eq decides injective v w _ =
+    (λ e. ap contents ((decides v w).0 e), λ e. (decides v w).1 (injective v w e))
 
--- a copy that is the value itself has its encoding
-pub copy_encoding_own : {T : Type 0} (t : Tag) (contents : T → List ℕ) (v w : T) → w ≡ v → tlv t (contents w) ≡ tlv t (contents v)
-copy_encoding_own t contents v w e = ap (λ x. tlv t (contents x)) e
+-- a copy that is the value itself has its contents octets
+pub copy_contents_own : {T : Type 0} (contents : T → List ℕ) (v w : T) → w ≡ v → contents w ≡ contents v
+copy_contents_own contents v w e = ap contents e

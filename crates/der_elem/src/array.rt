@@ -10,19 +10,19 @@ ghost use Rattle.std.specs.Prelude.{◌≡◌, flat_map, false, refl};
 ghost use Rattle.std.specs.List.{list_any};
 ghost use Rattle.std.proofs.Common.{lit<, ap, sym, subst};
 ghost use Rattle.der_tlv.specs.declared.tag.Tag.TheVariants as tags;
-ghost use Rattle.der_tlv.specs.HeaderOctets.{tlv};
 ghost use Rattle.der_elem.specs.Items.{OneForms};
 ghost use Rattle.der_elem.specs.Arrays.{AcceptsArray, ReadableArray, parse_array};
 ghost use Rattle.der_elem.specs.ArrayLaws.{parse_of_array, same_length_array, accepts_array_contents, readable_array, one_form_array, re_reads_items};
 ghost use Rattle.der_elem.specs.ReadingArrays.{DecodesItem, RefusesItem};
-ghost use Rattle.der_elem.specs.EqualityLaws.{encoding_eq_items};
+ghost use Rattle.der_elem.specs.EqualityLaws.{items_eq};
 
 use crate::decode::{Decode, DecodeValue};
-use crate::duplicate::Duplicate;
+use crate::duplicate::DuplicateValue;
 use crate::encode::{Encode, EncodeValue};
-use crate::equality::EncodingEq;
+use crate::equality::{ContentsEq, EncodingEq};
 use crate::form::{FixedTag, Form, FormValue};
 use crate::items::{cmp_items, encode_items, items_len};
+use crate::memory::{FormMemory, ValueMemory};
 use crate::ord::{DerOrd, ValueOrd};
 use crate::readiness::ask_ready;
 use crate::sequence::Sequence;
@@ -73,6 +73,12 @@ impl<T: Form, const N: usize> FormValue for [T; N] {
     ghost re_reads_memory_value = { re_reads_items T.Form };
 }
 
+impl<T: FormMemory, const N: usize> ValueMemory for [T; N] {
+    type OfValue = <T as FormMemory>::OfForm;
+
+    ghost memory_of_value = { T.memory_of_form };
+}
+
 impl<T: Encode + Tagged, const N: usize> EncodeValue for [T; N] {
     fn value_len(&self) -> Result<Length, Error> {
         items_len(self)
@@ -89,8 +95,8 @@ impl<T: DerOrd + Tagged, const N: usize> ValueOrd for [T; N] {
     }
 }
 
-impl<T: EncodingEq + Tagged, const N: usize> EncodingEq for [T; N] {
-    ghost encoding_eq = { encoding_eq_items T.tag_of T.contents T.encoding T.encoding_is T.one_form T.eq T.encoding_eq tags.Sequence };
+impl<T: EncodingEq + Tagged, const N: usize> ContentsEq for [T; N] {
+    ghost contents_eq = { items_eq T.tag_of T.contents T.encoding T.encoding_is T.one_form T.eq T.encoding_eq };
 }
 
 impl<'a, R: Reader<'a>, T: Decode<'a, R> + Tagged + Copy, const N: usize> DecodeValue<'a, R>
@@ -111,20 +117,20 @@ impl<'a, R: Reader<'a>, T: Decode<'a, R> + Tagged + Copy, const N: usize> Decode
     }
 }
 
-impl<T: Form + Copy, const N: usize> Duplicate for [T; N] {
-    ghost is_copy = { λ v w. w ≡ v };
+impl<T: Form + Copy, const N: usize> DuplicateValue for [T; N] {
+    ghost is_copy_value = { λ v w. w ≡ v };
 
-    ghost takes_memory_to_copy = { false };
+    ghost takes_memory_to_copy_value = { false };
 
-    fn duplicate(&self) -> Result<[T; N], Error> {
+    fn duplicate_value(&self) -> Result<[T; N], Error> {
         Ok(*self)
     }
 
-    ghost copy_encoding = { λ v w e. ap (λ v. tlv tags.Sequence (flat_map T.encoding v)) e };
+    ghost copy_contents = { λ v w e. ap (flat_map T.encoding) e };
 
-    ghost copy_form = { λ v w x e. subst (λ v. OneForms T.one_form v x) (sym e) };
+    ghost copy_form_value = { λ v w x e. subst (λ v. OneForms T.one_form v x) (sym e) };
 
-    ghost copy_re_reads = { λ v w e. ap (list_any T.re_reads) e };
+    ghost copy_re_reads_value = { λ v w e. ap (list_any T.re_reads) e };
 }
 
 /// Reads the next item of an array.

@@ -11,15 +11,16 @@ ghost use Rattle.std.specs.Bool.{beq};
 ghost use Rattle.std.specs.Cmp.{booleans_Decides};
 ghost use Rattle.der_tlv.specs.declared.tag.Tag.TheVariants.{Boolean};
 ghost use Rattle.der_elem.specs.OwnContents.{accepts_own};
-ghost use Rattle.der_elem.specs.OwnContentsLaws.{parse_of_own, same_length_own, accepts_own_contents, encoding_eq_own, copy_encoding_own};
+ghost use Rattle.der_elem.specs.OwnContentsLaws.{parse_of_own, same_length_own, accepts_own_contents, contents_eq_own, copy_contents_own};
 ghost use Rattle.der_elem.specs.Boolean.{boolean_contents, parse_boolean, parse_boolean-own, boolean_contents-injective, bool_cmp-lex};
 
 use crate::contents::read_contents;
 use crate::decode::DecodeValue;
-use crate::duplicate::Duplicate;
+use crate::duplicate::DuplicateValue;
 use crate::encode::EncodeValue;
-use crate::equality::EncodingEq;
+use crate::equality::ContentsEq;
 use crate::form::{FixedTag, FormValue};
+use crate::memory::{ValueMemory, WithoutMemory};
 use crate::ord::OrdIsValueOrd;
 use der_tlv::{Error, Header, Length, Reader, Tag, Writer};
 use std::alloc::Global;
@@ -52,6 +53,12 @@ impl FormValue for bool {
     ghost accepts_one_form_value = { λ rules v w c d a b. tt };
 
     ghost re_reads_memory_value = { λ v e. e };
+}
+
+impl ValueMemory for bool {
+    type OfValue = WithoutMemory;
+
+    ghost memory_of_value = { refl };
 }
 
 impl FixedTag for bool {
@@ -87,22 +94,22 @@ impl OrdIsValueOrd for bool {
     ghost ord_is_value_ord = { bool_cmp-lex };
 }
 
-impl EncodingEq for bool {
-    ghost encoding_eq = { encoding_eq_own Boolean boolean_contents beq booleans_Decides boolean_contents-injective };
+impl ContentsEq for bool {
+    ghost contents_eq = { contents_eq_own boolean_contents beq booleans_Decides boolean_contents-injective };
 }
 
-impl Duplicate for bool {
-    ghost is_copy = { λ v w. w ≡ v };
+impl DuplicateValue for bool {
+    ghost is_copy_value = { λ v w. w ≡ v };
 
-    ghost takes_memory_to_copy = { false };
+    ghost takes_memory_to_copy_value = { false };
 
-    fn duplicate(&self) -> Result<bool, Error> {
+    fn duplicate_value(&self) -> Result<bool, Error> {
         Ok(*self)
     }
 
-    ghost copy_encoding = { copy_encoding_own Boolean boolean_contents };
+    ghost copy_contents = { copy_contents_own boolean_contents };
 
-    ghost copy_form = { λ v w x e f. tt };
+    ghost copy_form_value = { λ v w x e f. tt };
 
-    ghost copy_re_reads = { λ v w e. refl };
+    ghost copy_re_reads_value = { λ v w e. refl };
 }

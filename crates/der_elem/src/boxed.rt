@@ -5,8 +5,11 @@
 ghost use Rattle.std.specs.Prelude.{true, refl};
 
 use crate::decode::DecodeValue;
+use crate::duplicate::DuplicateValue;
 use crate::encode::EncodeValue;
+use crate::equality::ContentsEq;
 use crate::form::{FixedTag, FormValue};
+use crate::memory::{ValueMemory, WithMemory};
 use crate::sequence::Sequence;
 use der_tlv::{Error, ErrorKind, Header, Length, Reader, Tag, Writer};
 use std::alloc::Global;
@@ -53,6 +56,12 @@ impl<T: FormValue> FormValue for Box<T> {
     ghost re_reads_memory_value = { λ v h. refl };
 }
 
+impl<T: FormValue> ValueMemory for Box<T> {
+    type OfValue = WithMemory;
+
+    ghost memory_of_value = { refl };
+}
+
 impl<'a, R: Reader<'a>, T: DecodeValue<'a, R>> DecodeValue<'a, R> for Box<T> {
     fn decode_value(alloc: Global, reader: &mut R, header: Header) -> Result<Box<T>, Error> {
         let value = T::decode_value(alloc, reader, header)?;
@@ -71,4 +80,28 @@ impl<T: EncodeValue> EncodeValue for Box<T> {
     fn encode_value<W: Writer>(&self, writer: &mut W) -> Result<(), Error> {
         self.as_ref().encode_value(writer)
     }
+}
+
+impl<T: ContentsEq> ContentsEq for Box<T> {
+    ghost contents_eq = { λ v w. T.contents_eq v.value w.value };
+}
+
+impl<T: DuplicateValue> DuplicateValue for Box<T> {
+    ghost is_copy_value = { λ v w. T.is_copy_value v.value w.value };
+
+    ghost takes_memory_to_copy_value = { true };
+
+    fn duplicate_value(&self) -> Result<Box<T>, Error> {
+        let copy = self.as_ref().duplicate_value()?;
+        match Box::new(*Box::allocator(self), copy) {
+            Ok(boxed) => Ok(boxed),
+            Err(_) => Err(Error::from_kind(ErrorKind::Memory)),
+        }
+    }
+
+    ghost copy_contents = { λ v w. T.copy_contents v.value w.value };
+
+    ghost copy_form_value = { λ v w x. T.copy_form_value v.value w.value x.value };
+
+    ghost copy_re_reads_value = { λ v w. T.copy_re_reads_value v.value w.value };
 }

@@ -5,11 +5,12 @@ ghost use Rattle.der_tlv.specs.ReaderState.{ReaderState, rest};
 ghost use Rattle.der_elem.specs.Decoding.{Decodes, DecodesValue, ReadsAll};
 
 use crate::form::{Form, FormValue};
+use crate::memory::{FormMemory, ValueMemory};
 use der_tlv::{Error, Header, Reader, SliceReader};
 use std::alloc::Global;
 
 /// Reading a value from its contents octets.
-pub trait DecodeValue<'a, R: Reader<'a>>: FormValue {
+pub trait DecodeValue<'a, R: Reader<'a>>: FormValue + ValueMemory {
     /// Reads the value from all of the octets that the reader shows, of which the header says how
     /// many there are.
     ///
@@ -21,7 +22,7 @@ pub trait DecodeValue<'a, R: Reader<'a>>: FormValue {
 }
 
 /// Reading a value from its encoding.
-pub trait Decode<'a, R: Reader<'a>>: Form {
+pub trait Decode<'a, R: Reader<'a>>: Form + FormMemory {
     /// Reads the value whose encoding stands at the reader's position.
     ///
     /// # Errors

@@ -15,6 +15,7 @@ use crate::duplicate::Duplicate;
 use crate::encode::Encode;
 use crate::equality::EncodingEq;
 use crate::form::Form;
+use crate::memory::FormMemory;
 use crate::ord::DerOrd;
 use crate::readiness::ask_ready;
 use crate::tag::{Choice, Tagged};
@@ -54,6 +55,12 @@ impl<T: Form> Form for Option<T> {
     ghost re_reads_memory = { re_reads_option T.Form };
 }
 
+impl<T: FormMemory> FormMemory for Option<T> {
+    type OfForm = <T as FormMemory>::OfForm;
+
+    ghost memory_of_form = { T.memory_of_form };
+}
+
 impl<'a, R: Reader<'a>, T: Decode<'a, R> + Choice> Decode<'a, R> for Option<T> {
     fn decode(alloc: Global, reader: &mut R) -> Result<Option<T>, Error> {
         if reader.is_finished() {
@@ -81,6 +88,50 @@ impl<T: Encode> Encode for Option<T> {
             Some(value) => value.encode(writer),
             None => Ok(()),
         }
+    }
+}
+
+impl<'b, T: Form> Form for &'b Option<T> {
+    ghost encoding = { λ v. encoding_option T.encoding v.now };
+
+    ghost one_form = { λ v w. one_form_option T.one_form v.now w.now };
+
+    ghost re_reads = { λ v. test_option T.re_reads v.now };
+
+    ghost accepts = { λ rules v. accepts_option (T.accepts rules) v.now };
+
+    ghost parse = { parse_option T.tags T.parse };
+
+    ghost tags = { T.tags };
+
+    ghost readable = { λ v. readable_option T.readable v.now };
+
+    ghost TAKES_MEMORY = { T.TAKES_MEMORY };
+
+    ghost parse_of_accepted = { λ rules v. parse_of_option T.Form rules v.now };
+
+    ghost begins = { λ rules v z b. begins_option T.Form rules v.now z b };
+
+    ghost same_length = { λ rules v. same_length_option T.Form rules v.now };
+
+    ghost accepts_encoding = { λ rules v. accepts_option_encoding T.Form rules v.now };
+
+    ghost only_readable = { λ rules v. readable_of_option T.Form rules v.now };
+
+    ghost accepts_one_form = { λ rules v w. one_form_of_option T.Form rules v.now w.now };
+
+    ghost re_reads_memory = { λ v. re_reads_option T.Form v.now };
+}
+
+impl<'b, T: Encode> Encode for &'b Option<T> {
+    fn encoded_len(&self) -> Result<Length, Error> {
+        let option: &Option<T> = *self;
+        option.encoded_len()
+    }
+
+    fn encode<W: Writer>(&self, writer: &mut W) -> Result<(), Error> {
+        let option: &Option<T> = *self;
+        option.encode(writer)
     }
 }
 

@@ -8,15 +8,16 @@ ghost use Rattle.std.specs.Prelude.{◌≡◌, true, false, refl};
 ghost use Rattle.std.proofs.Common.{lit<};
 ghost use Rattle.der_tlv.specs.declared.tag.Tag.TheVariants.{Null};
 ghost use Rattle.der_elem.specs.OwnContents.{accepts_own};
-ghost use Rattle.der_elem.specs.OwnContentsLaws.{parse_of_own, same_length_own, accepts_own_contents, encoding_eq_own, copy_encoding_own};
+ghost use Rattle.der_elem.specs.OwnContentsLaws.{parse_of_own, same_length_own, accepts_own_contents, contents_eq_own, copy_contents_own};
 ghost use Rattle.der_elem.specs.Null.{null_contents, parse_null, unit_eq_decides};
 
 use crate::contents::read_contents;
 use crate::decode::DecodeValue;
-use crate::duplicate::Duplicate;
+use crate::duplicate::DuplicateValue;
 use crate::encode::EncodeValue;
-use crate::equality::EncodingEq;
+use crate::equality::ContentsEq;
 use crate::form::{FixedTag, FormValue};
+use crate::memory::{ValueMemory, WithoutMemory};
 use der_tlv::{Error, Header, Length, Reader, Tag, Writer};
 use std::alloc::Global;
 
@@ -50,6 +51,12 @@ impl FormValue for () {
     ghost re_reads_memory_value = { λ v e. e };
 }
 
+impl ValueMemory for () {
+    type OfValue = WithoutMemory;
+
+    ghost memory_of_value = { refl };
+}
+
 impl FixedTag for () {
     ghost TAG = { Null };
 
@@ -77,22 +84,22 @@ impl EncodeValue for () {
     }
 }
 
-impl EncodingEq for () {
-    ghost encoding_eq = { encoding_eq_own Null null_contents (λ v w. true) unit_eq_decides (λ v w e. refl) };
+impl ContentsEq for () {
+    ghost contents_eq = { contents_eq_own null_contents (λ v w. true) unit_eq_decides (λ v w e. refl) };
 }
 
-impl Duplicate for () {
-    ghost is_copy = { λ v w. w ≡ v };
+impl DuplicateValue for () {
+    ghost is_copy_value = { λ v w. w ≡ v };
 
-    ghost takes_memory_to_copy = { false };
+    ghost takes_memory_to_copy_value = { false };
 
-    fn duplicate(&self) -> Result<(), Error> {
+    fn duplicate_value(&self) -> Result<(), Error> {
         Ok(())
     }
 
-    ghost copy_encoding = { copy_encoding_own Null null_contents };
+    ghost copy_contents = { copy_contents_own null_contents };
 
-    ghost copy_form = { λ v w x e f. tt };
+    ghost copy_form_value = { λ v w x e f. tt };
 
-    ghost copy_re_reads = { λ v w e. refl };
+    ghost copy_re_reads_value = { λ v w e. refl };
 }

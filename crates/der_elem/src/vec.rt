@@ -9,19 +9,19 @@
 ghost use Rattle.std.specs.Prelude.{flat_map, true, refl};
 ghost use Rattle.std.specs.List.{list_any};
 ghost use Rattle.der_tlv.specs.declared.tag.Tag.TheVariants as tags;
-ghost use Rattle.std.proofs.Common.{lit<, ap};
-ghost use Rattle.der_tlv.specs.HeaderOctets.{tlv};
+ghost use Rattle.std.proofs.Common.{lit<};
 ghost use Rattle.der_elem.specs.Items.{AcceptsItems, EachItem, parse_items, OneForms, AreCopies};
-ghost use Rattle.der_elem.specs.EqualityLaws.{encoding_eq_items};
+ghost use Rattle.der_elem.specs.EqualityLaws.{items_eq};
 ghost use Rattle.der_elem.specs.CopyLaws.{copies_encoding, copies_form, copies_re_read};
 ghost use Rattle.der_elem.specs.ItemLaws.{parse_of_items, same_length_items, accepts_items_contents, readable_items, one_form_items};
 
 use crate::decode::{Decode, DecodeValue};
-use crate::duplicate::Duplicate;
+use crate::duplicate::{Duplicate, DuplicateValue};
 use crate::encode::{Encode, EncodeValue};
-use crate::equality::EncodingEq;
+use crate::equality::{ContentsEq, EncodingEq};
 use crate::form::{FixedTag, Form, FormValue};
 use crate::items::{cmp_items, duplicate_items, encode_items, items_len};
+use crate::memory::{ValueMemory, WithMemory};
 use crate::ord::{DerOrd, ValueOrd};
 use crate::readiness::ask_ready;
 use crate::sequence::Sequence;
@@ -72,6 +72,12 @@ impl<T: Form> FormValue for Vec<T> {
     ghost re_reads_memory_value = { λ v h. refl };
 }
 
+impl<T: Form> ValueMemory for Vec<T> {
+    type OfValue = WithMemory;
+
+    ghost memory_of_value = { refl };
+}
+
 impl<'a, R: Reader<'a>, T: Decode<'a, R> + Tagged> DecodeValue<'a, R> for Vec<T> {
     fn decode_value(alloc: Global, reader: &mut R, _header: Header) -> Result<Vec<T>, Error> {
         ask_ready(reader)?;
@@ -102,22 +108,22 @@ impl<T: DerOrd + Tagged> ValueOrd for Vec<T> {
     }
 }
 
-impl<T: EncodingEq + Tagged> EncodingEq for Vec<T> {
-    ghost encoding_eq = { λ v w. encoding_eq_items T.tag_of T.contents T.encoding T.encoding_is T.one_form T.eq T.encoding_eq tags.Sequence v.items w.items };
+impl<T: EncodingEq + Tagged> ContentsEq for Vec<T> {
+    ghost contents_eq = { λ v w. items_eq T.tag_of T.contents T.encoding T.encoding_is T.one_form T.eq T.encoding_eq v.items w.items };
 }
 
-impl<T: Duplicate> Duplicate for Vec<T> {
-    ghost is_copy = { λ v w. AreCopies T.is_copy v.items w.items };
+impl<T: Duplicate> DuplicateValue for Vec<T> {
+    ghost is_copy_value = { λ v w. AreCopies T.is_copy v.items w.items };
 
-    ghost takes_memory_to_copy = { true };
+    ghost takes_memory_to_copy_value = { true };
 
-    fn duplicate(&self) -> Result<Vec<T>, Error> {
+    fn duplicate_value(&self) -> Result<Vec<T>, Error> {
         duplicate_items(*self.allocator(), self)
     }
 
-    ghost copy_encoding = { λ v w c. ap (tlv tags.Sequence) (copies_encoding T.Form T.is_copy T.copy_encoding v.items w.items c) };
+    ghost copy_contents = { λ v w. copies_encoding T.Form T.is_copy T.copy_encoding v.items w.items };
 
-    ghost copy_form = { λ v w x. copies_form T.Form T.is_copy T.copy_form v.items w.items x.items };
+    ghost copy_form_value = { λ v w x. copies_form T.Form T.is_copy T.copy_form v.items w.items x.items };
 
-    ghost copy_re_reads = { λ v w. copies_re_read T.Form T.is_copy T.copy_re_reads v.items w.items };
+    ghost copy_re_reads_value = { λ v w. copies_re_read T.Form T.is_copy T.copy_re_reads v.items w.items };
 }

@@ -18,8 +18,8 @@ ghost use Rattle.der_opaque.specs.AnyLaws.{parse_of_any, begins_any, same_length
 
 use crate::any_ref::AnyRef;
 use der_elem::{
-    Choice, Decode, DecodeValue, Duplicate, EncodeValue, EncodingEq, Form, FormValue, Tagged,
-    ValueOrd,
+    Choice, Decode, DecodeValue, Duplicate, EncodeValue, EncodingEq, Form, FormMemory, FormValue,
+    Tagged, ValueMemory, ValueOrd, WithMemory,
 };
 use der_tlv::{
     EncodingRules, Error, ErrorKind, Header, Length, Reader, SliceReader, Tag, VecWriter, Writer,
@@ -257,6 +257,18 @@ impl Form for Any {
     ghost accepts_one_form = { λ rules v w b c d e. tt };
 
     ghost re_reads_memory = { λ v e. refl };
+}
+
+impl ValueMemory for Any {
+    type OfValue = WithMemory;
+
+    ghost memory_of_value = { refl };
+}
+
+impl FormMemory for Any {
+    type OfForm = WithMemory;
+
+    ghost memory_of_form = { refl };
 }
 
 impl Tagged for Any {

@@ -18,8 +18,8 @@ ghost use Rattle.der_opaque.specs.AnyLaws.{parse_of_any, begins_any, same_length
 
 use crate::any::Any;
 use der_elem::{
-    Choice, Decode, DecodeValue, Duplicate, EncodeValue, EncodingEq, Form, FormValue, Tagged,
-    ValueOrd,
+    Choice, Decode, DecodeValue, Duplicate, EncodeValue, EncodingEq, Form, FormMemory, FormValue,
+    Tagged, ValueMemory, ValueOrd, WithoutMemory,
 };
 use der_tlv::{BytesRef, EncodingRules, Error, Header, Length, Reader, SliceReader, Tag, Writer};
 use std::alloc::Global;
@@ -228,6 +228,18 @@ impl<'a> Form for AnyRef<'a> {
     ghost accepts_one_form = { λ rules v w b c d e. tt };
 
     ghost re_reads_memory = { λ v e. e };
+}
+
+impl<'a> ValueMemory for AnyRef<'a> {
+    type OfValue = WithoutMemory;
+
+    ghost memory_of_value = { refl };
+}
+
+impl<'a> FormMemory for AnyRef<'a> {
+    type OfForm = WithoutMemory;
+
+    ghost memory_of_form = { refl };
 }
 
 impl<'a> Tagged for AnyRef<'a> {

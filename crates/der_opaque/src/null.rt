@@ -13,7 +13,7 @@ use crate::any::Any;
 use crate::any_ref::AnyRef;
 use der_elem::{
     ContentsEq, DecodeValue, DuplicateValue, EncodeValue, FixedTag, Form, FormValue, OrdIsValueOrd,
-    Tagged,
+    Tagged, ValueMemory, WithoutMemory,
 };
 use der_tlv::{Error, Header, Length, Reader, Tag, Writer};
 use std::alloc::Global;
@@ -53,6 +53,12 @@ impl FormValue for Null {
     ghost accepts_one_form_value = { λ rules v w c d a b. tt };
 
     ghost re_reads_memory_value = { λ v e. e };
+}
+
+impl ValueMemory for Null {
+    type OfValue = WithoutMemory;
+
+    ghost memory_of_value = { refl };
 }
 
 impl FixedTag for Null {

@@ -16,7 +16,7 @@ ghost use Rattle.der_opaque.specs.ObjectIdentifierOctets.{parse_identifier, pars
 use crate::any_ref::AnyRef;
 use der_elem::{
     ContentsEq, DecodeValue, DuplicateValue, EncodeValue, FixedTag, FormValue, OrdIsValueOrd,
-    Tagged,
+    Tagged, ValueMemory, WithoutMemory,
 };
 use der_tlv::{Error, ErrorKind, Header, Length, Reader, Tag, Writer};
 use std::alloc::Global;
@@ -98,6 +98,12 @@ impl<const MAX_SIZE: usize> FormValue for ObjectIdentifier<MAX_SIZE> {
     ghost accepts_one_form_value = { λ rules v w c d a b. tt };
 
     ghost re_reads_memory_value = { λ v e. e };
+}
+
+impl<const MAX_SIZE: usize> ValueMemory for ObjectIdentifier<MAX_SIZE> {
+    type OfValue = WithoutMemory;
+
+    ghost memory_of_value = { refl };
 }
 
 impl<const MAX_SIZE: usize> FixedTag for ObjectIdentifier<MAX_SIZE> {

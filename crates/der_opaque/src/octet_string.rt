@@ -12,6 +12,7 @@ ghost use Rattle.der_opaque.specs.Opaque.{accepts_octets, parse_octets, KeepsOct
 use crate::octet_string_ref::OctetStringRef;
 use der_elem::{
     ContentsEq, DecodeValue, DuplicateValue, EncodeValue, FixedTag, FormValue, OrdIsValueOrd,
+    ValueMemory, WithMemory,
 };
 use der_tlv::{Error, ErrorKind, Header, Length, Reader, Tag, Writer};
 use std::alloc::{AllocError, Global};
@@ -114,6 +115,12 @@ impl FormValue for OctetString {
     ghost accepts_one_form_value = { λ rules v w c d a b. tt };
 
     ghost re_reads_memory_value = { λ v e. refl };
+}
+
+impl ValueMemory for OctetString {
+    type OfValue = WithMemory;
+
+    ghost memory_of_value = { refl };
 }
 
 impl FixedTag for OctetString {

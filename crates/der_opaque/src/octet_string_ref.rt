@@ -17,7 +17,7 @@ use crate::any_ref::AnyRef;
 use crate::octet_string::OctetString;
 use der_elem::{
     ContentsEq, DecodeValue, DuplicateValue, EncodeValue, Form, FormValue, FromDer, OrdIsValueOrd,
-    SameTag, Tagged,
+    SameTag, Tagged, ValueMemory, WithoutMemory,
 };
 use der_tlv::{Error, ErrorKind, Header, Length, Reader, Tag, Writer};
 use std::alloc::Global;
@@ -132,6 +132,12 @@ impl<'a> FormValue for OctetStringRef<'a> {
     ghost accepts_one_form_value = { λ rules v w c d a b. tt };
 
     ghost re_reads_memory_value = { λ v e. e };
+}
+
+impl<'a> ValueMemory for OctetStringRef<'a> {
+    type OfValue = WithoutMemory;
+
+    ghost memory_of_value = { refl };
 }
 
 impl<'a> SameTag for OctetStringRef<'a> {

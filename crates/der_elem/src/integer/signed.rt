@@ -9,7 +9,7 @@ ghost use Rattle.std.specs.Ordering.{int_eq};
 ghost use Rattle.std.proofs.lemmas.Bool.Decides.{Decides-int_eq};
 ghost use Rattle.der_tlv.specs.declared.tag.Tag.TheVariants.{Integer};
 ghost use Rattle.der_elem.specs.OwnContents.{accepts_within};
-ghost use Rattle.der_elem.specs.OwnContentsLaws.{parse_of_within, same_length_within, accepts_contents_within, only_within, encoding_eq_own, copy_encoding_own};
+ghost use Rattle.der_elem.specs.OwnContentsLaws.{parse_of_within, same_length_within, accepts_contents_within, only_within, contents_eq_own, copy_contents_own};
 ghost use Rattle.der_elem.specs.Integer.{integer_contents, FitsSignedWidth};
 ghost use Rattle.der_elem.specs.IntegerLaws.{integer_contents-injective};
 ghost use Rattle.der_elem.specs.IntegerReading.{parse_signed};
@@ -18,10 +18,11 @@ ghost use Rattle.der_elem.specs.IntegerReadingLaws.{parse_signed-own};
 use super::octets::{IntegerOctets, compare_signed, signed_len};
 use super::reading::read_signed;
 use crate::decode::DecodeValue;
-use crate::duplicate::Duplicate;
+use crate::duplicate::DuplicateValue;
 use crate::encode::EncodeValue;
-use crate::equality::EncodingEq;
+use crate::equality::ContentsEq;
 use crate::form::{FixedTag, FormValue};
+use crate::memory::{ValueMemory, WithoutMemory};
 use crate::ord::ValueOrd;
 use der_tlv::{Error, Header, Length, Reader, Tag, Writer};
 use std::alloc::Global;
@@ -57,6 +58,12 @@ impl FormValue for i8 {
     ghost re_reads_memory_value = { λ v e. e };
 }
 
+impl ValueMemory for i8 {
+    type OfValue = WithoutMemory;
+
+    ghost memory_of_value = { refl };
+}
+
 impl FixedTag for i8 {
     ghost TAG = { Integer };
 
@@ -88,24 +95,24 @@ impl ValueOrd for i8 {
     }
 }
 
-impl EncodingEq for i8 {
-    ghost encoding_eq = { encoding_eq_own Integer integer_contents int_eq Decides-int_eq integer_contents-injective };
+impl ContentsEq for i8 {
+    ghost contents_eq = { contents_eq_own integer_contents int_eq Decides-int_eq integer_contents-injective };
 }
 
-impl Duplicate for i8 {
-    ghost is_copy = { λ v w. w ≡ v };
+impl DuplicateValue for i8 {
+    ghost is_copy_value = { λ v w. w ≡ v };
 
-    ghost takes_memory_to_copy = { false };
+    ghost takes_memory_to_copy_value = { false };
 
-    fn duplicate(&self) -> Result<i8, Error> {
+    fn duplicate_value(&self) -> Result<i8, Error> {
         Ok(*self)
     }
 
-    ghost copy_encoding = { copy_encoding_own Integer integer_contents };
+    ghost copy_contents = { copy_contents_own integer_contents };
 
-    ghost copy_form = { λ v w x e f. tt };
+    ghost copy_form_value = { λ v w x e f. tt };
 
-    ghost copy_re_reads = { λ v w e. refl };
+    ghost copy_re_reads_value = { λ v w e. refl };
 }
 
 impl FormValue for i16 {
@@ -136,6 +143,12 @@ impl FormValue for i16 {
     ghost accepts_one_form_value = { λ rules v w c d a b. tt };
 
     ghost re_reads_memory_value = { λ v e. e };
+}
+
+impl ValueMemory for i16 {
+    type OfValue = WithoutMemory;
+
+    ghost memory_of_value = { refl };
 }
 
 impl FixedTag for i16 {
@@ -169,24 +182,24 @@ impl ValueOrd for i16 {
     }
 }
 
-impl EncodingEq for i16 {
-    ghost encoding_eq = { encoding_eq_own Integer integer_contents int_eq Decides-int_eq integer_contents-injective };
+impl ContentsEq for i16 {
+    ghost contents_eq = { contents_eq_own integer_contents int_eq Decides-int_eq integer_contents-injective };
 }
 
-impl Duplicate for i16 {
-    ghost is_copy = { λ v w. w ≡ v };
+impl DuplicateValue for i16 {
+    ghost is_copy_value = { λ v w. w ≡ v };
 
-    ghost takes_memory_to_copy = { false };
+    ghost takes_memory_to_copy_value = { false };
 
-    fn duplicate(&self) -> Result<i16, Error> {
+    fn duplicate_value(&self) -> Result<i16, Error> {
         Ok(*self)
     }
 
-    ghost copy_encoding = { copy_encoding_own Integer integer_contents };
+    ghost copy_contents = { copy_contents_own integer_contents };
 
-    ghost copy_form = { λ v w x e f. tt };
+    ghost copy_form_value = { λ v w x e f. tt };
 
-    ghost copy_re_reads = { λ v w e. refl };
+    ghost copy_re_reads_value = { λ v w e. refl };
 }
 
 impl FormValue for i32 {
@@ -217,6 +230,12 @@ impl FormValue for i32 {
     ghost accepts_one_form_value = { λ rules v w c d a b. tt };
 
     ghost re_reads_memory_value = { λ v e. e };
+}
+
+impl ValueMemory for i32 {
+    type OfValue = WithoutMemory;
+
+    ghost memory_of_value = { refl };
 }
 
 impl FixedTag for i32 {
@@ -250,24 +269,24 @@ impl ValueOrd for i32 {
     }
 }
 
-impl EncodingEq for i32 {
-    ghost encoding_eq = { encoding_eq_own Integer integer_contents int_eq Decides-int_eq integer_contents-injective };
+impl ContentsEq for i32 {
+    ghost contents_eq = { contents_eq_own integer_contents int_eq Decides-int_eq integer_contents-injective };
 }
 
-impl Duplicate for i32 {
-    ghost is_copy = { λ v w. w ≡ v };
+impl DuplicateValue for i32 {
+    ghost is_copy_value = { λ v w. w ≡ v };
 
-    ghost takes_memory_to_copy = { false };
+    ghost takes_memory_to_copy_value = { false };
 
-    fn duplicate(&self) -> Result<i32, Error> {
+    fn duplicate_value(&self) -> Result<i32, Error> {
         Ok(*self)
     }
 
-    ghost copy_encoding = { copy_encoding_own Integer integer_contents };
+    ghost copy_contents = { copy_contents_own integer_contents };
 
-    ghost copy_form = { λ v w x e f. tt };
+    ghost copy_form_value = { λ v w x e f. tt };
 
-    ghost copy_re_reads = { λ v w e. refl };
+    ghost copy_re_reads_value = { λ v w e. refl };
 }
 
 impl FormValue for i64 {
@@ -298,6 +317,12 @@ impl FormValue for i64 {
     ghost accepts_one_form_value = { λ rules v w c d a b. tt };
 
     ghost re_reads_memory_value = { λ v e. e };
+}
+
+impl ValueMemory for i64 {
+    type OfValue = WithoutMemory;
+
+    ghost memory_of_value = { refl };
 }
 
 impl FixedTag for i64 {
@@ -331,24 +356,24 @@ impl ValueOrd for i64 {
     }
 }
 
-impl EncodingEq for i64 {
-    ghost encoding_eq = { encoding_eq_own Integer integer_contents int_eq Decides-int_eq integer_contents-injective };
+impl ContentsEq for i64 {
+    ghost contents_eq = { contents_eq_own integer_contents int_eq Decides-int_eq integer_contents-injective };
 }
 
-impl Duplicate for i64 {
-    ghost is_copy = { λ v w. w ≡ v };
+impl DuplicateValue for i64 {
+    ghost is_copy_value = { λ v w. w ≡ v };
 
-    ghost takes_memory_to_copy = { false };
+    ghost takes_memory_to_copy_value = { false };
 
-    fn duplicate(&self) -> Result<i64, Error> {
+    fn duplicate_value(&self) -> Result<i64, Error> {
         Ok(*self)
     }
 
-    ghost copy_encoding = { copy_encoding_own Integer integer_contents };
+    ghost copy_contents = { copy_contents_own integer_contents };
 
-    ghost copy_form = { λ v w x e f. tt };
+    ghost copy_form_value = { λ v w x e f. tt };
 
-    ghost copy_re_reads = { λ v w e. refl };
+    ghost copy_re_reads_value = { λ v w e. refl };
 }
 
 impl FormValue for i128 {
@@ -381,6 +406,12 @@ impl FormValue for i128 {
     ghost re_reads_memory_value = { λ v e. e };
 }
 
+impl ValueMemory for i128 {
+    type OfValue = WithoutMemory;
+
+    ghost memory_of_value = { refl };
+}
+
 impl FixedTag for i128 {
     ghost TAG = { Integer };
 
@@ -411,22 +442,22 @@ impl ValueOrd for i128 {
     }
 }
 
-impl EncodingEq for i128 {
-    ghost encoding_eq = { encoding_eq_own Integer integer_contents int_eq Decides-int_eq integer_contents-injective };
+impl ContentsEq for i128 {
+    ghost contents_eq = { contents_eq_own integer_contents int_eq Decides-int_eq integer_contents-injective };
 }
 
-impl Duplicate for i128 {
-    ghost is_copy = { λ v w. w ≡ v };
+impl DuplicateValue for i128 {
+    ghost is_copy_value = { λ v w. w ≡ v };
 
-    ghost takes_memory_to_copy = { false };
+    ghost takes_memory_to_copy_value = { false };
 
-    fn duplicate(&self) -> Result<i128, Error> {
+    fn duplicate_value(&self) -> Result<i128, Error> {
         Ok(*self)
     }
 
-    ghost copy_encoding = { copy_encoding_own Integer integer_contents };
+    ghost copy_contents = { copy_contents_own integer_contents };
 
-    ghost copy_form = { λ v w x e f. tt };
+    ghost copy_form_value = { λ v w x e f. tt };
 
-    ghost copy_re_reads = { λ v w e. refl };
+    ghost copy_re_reads_value = { λ v w e. refl };
 }

@@ -9,7 +9,7 @@ ghost use Rattle.std.proofs.Common.{lit<};
 ghost use Rattle.std.proofs.lemmas.Bool.Decides.{Decides-eqb};
 ghost use Rattle.der_tlv.specs.declared.tag.Tag.TheVariants.{Integer};
 ghost use Rattle.der_elem.specs.OwnContents.{accepts_within};
-ghost use Rattle.der_elem.specs.OwnContentsLaws.{parse_of_within, same_length_within, accepts_contents_within, only_within, encoding_eq_own, copy_encoding_own};
+ghost use Rattle.der_elem.specs.OwnContentsLaws.{parse_of_within, same_length_within, accepts_contents_within, only_within, contents_eq_own, copy_contents_own};
 ghost use Rattle.der_elem.specs.Integer.{natural_contents, FitsUnsignedWidth};
 ghost use Rattle.der_elem.specs.IntegerLaws.{natural_contents-injective};
 ghost use Rattle.der_elem.specs.IntegerReading.{parse_unsigned};
@@ -18,10 +18,11 @@ ghost use Rattle.der_elem.specs.IntegerReadingLaws.{parse_unsigned-own};
 use super::octets::{IntegerOctets, compare_unsigned, contents_len};
 use super::reading::read_unsigned;
 use crate::decode::DecodeValue;
-use crate::duplicate::Duplicate;
+use crate::duplicate::DuplicateValue;
 use crate::encode::EncodeValue;
-use crate::equality::EncodingEq;
+use crate::equality::ContentsEq;
 use crate::form::{FixedTag, FormValue};
+use crate::memory::{ValueMemory, WithoutMemory};
 use crate::ord::ValueOrd;
 use der_tlv::{Error, Header, Length, Reader, Tag, Writer};
 use std::alloc::Global;
@@ -57,6 +58,12 @@ impl FormValue for u8 {
     ghost re_reads_memory_value = { λ v e. e };
 }
 
+impl ValueMemory for u8 {
+    type OfValue = WithoutMemory;
+
+    ghost memory_of_value = { refl };
+}
+
 impl FixedTag for u8 {
     ghost TAG = { Integer };
 
@@ -88,24 +95,24 @@ impl ValueOrd for u8 {
     }
 }
 
-impl EncodingEq for u8 {
-    ghost encoding_eq = { encoding_eq_own Integer natural_contents nat_eq Decides-eqb natural_contents-injective };
+impl ContentsEq for u8 {
+    ghost contents_eq = { contents_eq_own natural_contents nat_eq Decides-eqb natural_contents-injective };
 }
 
-impl Duplicate for u8 {
-    ghost is_copy = { λ v w. w ≡ v };
+impl DuplicateValue for u8 {
+    ghost is_copy_value = { λ v w. w ≡ v };
 
-    ghost takes_memory_to_copy = { false };
+    ghost takes_memory_to_copy_value = { false };
 
-    fn duplicate(&self) -> Result<u8, Error> {
+    fn duplicate_value(&self) -> Result<u8, Error> {
         Ok(*self)
     }
 
-    ghost copy_encoding = { copy_encoding_own Integer natural_contents };
+    ghost copy_contents = { copy_contents_own natural_contents };
 
-    ghost copy_form = { λ v w x e f. tt };
+    ghost copy_form_value = { λ v w x e f. tt };
 
-    ghost copy_re_reads = { λ v w e. refl };
+    ghost copy_re_reads_value = { λ v w e. refl };
 }
 
 impl FormValue for u16 {
@@ -136,6 +143,12 @@ impl FormValue for u16 {
     ghost accepts_one_form_value = { λ rules v w c d a b. tt };
 
     ghost re_reads_memory_value = { λ v e. e };
+}
+
+impl ValueMemory for u16 {
+    type OfValue = WithoutMemory;
+
+    ghost memory_of_value = { refl };
 }
 
 impl FixedTag for u16 {
@@ -169,24 +182,24 @@ impl ValueOrd for u16 {
     }
 }
 
-impl EncodingEq for u16 {
-    ghost encoding_eq = { encoding_eq_own Integer natural_contents nat_eq Decides-eqb natural_contents-injective };
+impl ContentsEq for u16 {
+    ghost contents_eq = { contents_eq_own natural_contents nat_eq Decides-eqb natural_contents-injective };
 }
 
-impl Duplicate for u16 {
-    ghost is_copy = { λ v w. w ≡ v };
+impl DuplicateValue for u16 {
+    ghost is_copy_value = { λ v w. w ≡ v };
 
-    ghost takes_memory_to_copy = { false };
+    ghost takes_memory_to_copy_value = { false };
 
-    fn duplicate(&self) -> Result<u16, Error> {
+    fn duplicate_value(&self) -> Result<u16, Error> {
         Ok(*self)
     }
 
-    ghost copy_encoding = { copy_encoding_own Integer natural_contents };
+    ghost copy_contents = { copy_contents_own natural_contents };
 
-    ghost copy_form = { λ v w x e f. tt };
+    ghost copy_form_value = { λ v w x e f. tt };
 
-    ghost copy_re_reads = { λ v w e. refl };
+    ghost copy_re_reads_value = { λ v w e. refl };
 }
 
 impl FormValue for u32 {
@@ -217,6 +230,12 @@ impl FormValue for u32 {
     ghost accepts_one_form_value = { λ rules v w c d a b. tt };
 
     ghost re_reads_memory_value = { λ v e. e };
+}
+
+impl ValueMemory for u32 {
+    type OfValue = WithoutMemory;
+
+    ghost memory_of_value = { refl };
 }
 
 impl FixedTag for u32 {
@@ -250,24 +269,24 @@ impl ValueOrd for u32 {
     }
 }
 
-impl EncodingEq for u32 {
-    ghost encoding_eq = { encoding_eq_own Integer natural_contents nat_eq Decides-eqb natural_contents-injective };
+impl ContentsEq for u32 {
+    ghost contents_eq = { contents_eq_own natural_contents nat_eq Decides-eqb natural_contents-injective };
 }
 
-impl Duplicate for u32 {
-    ghost is_copy = { λ v w. w ≡ v };
+impl DuplicateValue for u32 {
+    ghost is_copy_value = { λ v w. w ≡ v };
 
-    ghost takes_memory_to_copy = { false };
+    ghost takes_memory_to_copy_value = { false };
 
-    fn duplicate(&self) -> Result<u32, Error> {
+    fn duplicate_value(&self) -> Result<u32, Error> {
         Ok(*self)
     }
 
-    ghost copy_encoding = { copy_encoding_own Integer natural_contents };
+    ghost copy_contents = { copy_contents_own natural_contents };
 
-    ghost copy_form = { λ v w x e f. tt };
+    ghost copy_form_value = { λ v w x e f. tt };
 
-    ghost copy_re_reads = { λ v w e. refl };
+    ghost copy_re_reads_value = { λ v w e. refl };
 }
 
 impl FormValue for u64 {
@@ -298,6 +317,12 @@ impl FormValue for u64 {
     ghost accepts_one_form_value = { λ rules v w c d a b. tt };
 
     ghost re_reads_memory_value = { λ v e. e };
+}
+
+impl ValueMemory for u64 {
+    type OfValue = WithoutMemory;
+
+    ghost memory_of_value = { refl };
 }
 
 impl FixedTag for u64 {
@@ -331,24 +356,24 @@ impl ValueOrd for u64 {
     }
 }
 
-impl EncodingEq for u64 {
-    ghost encoding_eq = { encoding_eq_own Integer natural_contents nat_eq Decides-eqb natural_contents-injective };
+impl ContentsEq for u64 {
+    ghost contents_eq = { contents_eq_own natural_contents nat_eq Decides-eqb natural_contents-injective };
 }
 
-impl Duplicate for u64 {
-    ghost is_copy = { λ v w. w ≡ v };
+impl DuplicateValue for u64 {
+    ghost is_copy_value = { λ v w. w ≡ v };
 
-    ghost takes_memory_to_copy = { false };
+    ghost takes_memory_to_copy_value = { false };
 
-    fn duplicate(&self) -> Result<u64, Error> {
+    fn duplicate_value(&self) -> Result<u64, Error> {
         Ok(*self)
     }
 
-    ghost copy_encoding = { copy_encoding_own Integer natural_contents };
+    ghost copy_contents = { copy_contents_own natural_contents };
 
-    ghost copy_form = { λ v w x e f. tt };
+    ghost copy_form_value = { λ v w x e f. tt };
 
-    ghost copy_re_reads = { λ v w e. refl };
+    ghost copy_re_reads_value = { λ v w e. refl };
 }
 
 impl FormValue for u128 {
@@ -381,6 +406,12 @@ impl FormValue for u128 {
     ghost re_reads_memory_value = { λ v e. e };
 }
 
+impl ValueMemory for u128 {
+    type OfValue = WithoutMemory;
+
+    ghost memory_of_value = { refl };
+}
+
 impl FixedTag for u128 {
     ghost TAG = { Integer };
 
@@ -411,22 +442,22 @@ impl ValueOrd for u128 {
     }
 }
 
-impl EncodingEq for u128 {
-    ghost encoding_eq = { encoding_eq_own Integer natural_contents nat_eq Decides-eqb natural_contents-injective };
+impl ContentsEq for u128 {
+    ghost contents_eq = { contents_eq_own natural_contents nat_eq Decides-eqb natural_contents-injective };
 }
 
-impl Duplicate for u128 {
-    ghost is_copy = { λ v w. w ≡ v };
+impl DuplicateValue for u128 {
+    ghost is_copy_value = { λ v w. w ≡ v };
 
-    ghost takes_memory_to_copy = { false };
+    ghost takes_memory_to_copy_value = { false };
 
-    fn duplicate(&self) -> Result<u128, Error> {
+    fn duplicate_value(&self) -> Result<u128, Error> {
         Ok(*self)
     }
 
-    ghost copy_encoding = { copy_encoding_own Integer natural_contents };
+    ghost copy_contents = { copy_contents_own natural_contents };
 
-    ghost copy_form = { λ v w x e f. tt };
+    ghost copy_form_value = { λ v w x e f. tt };
 
-    ghost copy_re_reads = { λ v w e. refl };
+    ghost copy_re_reads_value = { λ v w e. refl };
 }

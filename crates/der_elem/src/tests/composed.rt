@@ -3,7 +3,9 @@
 use crate::decode::{Decode, FromDer};
 use crate::duplicate::Duplicate;
 use crate::encode::Encode;
+use crate::equality::EncodingEq;
 use crate::form::FixedTag;
+use crate::memory::{FormMemory, TakesMemory};
 use crate::ord::{DerOrd, ValueOrd};
 use crate::tag::{Choice, IsConstructed, Tagged};
 use crate::tests::numbered;
@@ -209,7 +211,7 @@ fn decode<'a, T: Decode<'a, SliceReader<'a>>>(
 }
 
 #[test]
-fn reads_one_front(rt: HostRuntime) {
+fn reads_the_first_value(rt: HostRuntime) {
     let alloc = rt.alloc();
     let two = [0x02, 0x01, 0x05, 0x01, 0x01, 0xff];
     assert_eq!(rt; decode::<u8>(alloc, &two), (Ok(5), 3, Ok(0x01)));
@@ -223,6 +225,100 @@ fn reads_one_front(rt: HostRuntime) {
     );
     assert_eq!(rt; decode::<u8>(alloc, &[0x02, 0x00]), (Err(7), 2, Err(17)));
     assert_eq!(rt; decode::<Option<u8>>(alloc, &[]), (Ok(None), 0, Err(2)));
+}
+
+// The encoding of a value, through the bound.
+fn encoding<T: Encode>(alloc: Global, value: &T) -> Result<Vec<u8>, u8> {
+    let len = numbered(value.encoded_len())?;
+    let octets = numbered(value.to_der(alloc))?;
+    if len.value() as usize == octets.len() {
+        Ok(octets)
+    } else {
+        Err(0)
+    }
+}
+
+#[test]
+fn writes_borrowed_options(rt: HostRuntime) -> Result<(), Fail> {
+    let alloc = rt.alloc();
+    let (present, absent) = (Some(5u8), None::<u8>);
+    assert_eq!(rt;
+        encoding(alloc, &&present)?.as_slice(),
+        [0x02, 0x01, 0x05].as_slice()
+    );
+    assert!(rt; encoding(alloc, &&absent)?.is_empty());
+    let mut buffer = [0; 3];
+    assert_eq!(rt;
+        numbered(Encode::encode_to_slice(&&present, &mut buffer)).err(),
+        None
+    );
+    assert_eq!(rt; buffer, [0x02, 0x01, 0x05]);
+    Ok(())
+}
+
+// Whether two values are equal, through the bound.
+fn equal<T: EncodingEq>(a: &T, b: &T) -> bool {
+    a == b
+}
+
+// Whether two values are equal that the octets are read as.
+fn equal_as<'a, T: FromDer<'a> + EncodingEq + Duplicate>(
+    alloc: Global,
+    octets: &'a [u8],
+    others: &'a [u8],
+) -> Result<bool, u8> {
+    let (a, b): (T, T) = (read(alloc, octets)?, read(alloc, others)?);
+    let copy = numbered(a.duplicate())?;
+    Ok(equal(&a, &b) && equal(&copy, &a))
+}
+
+#[test]
+fn equals_by_encodings(rt: HostRuntime) {
+    let alloc = rt.alloc();
+    let (five, six) = ([0x02, 0x01, 0x05], [0x02, 0x01, 0x06]);
+    assert_eq!(rt; equal_as::<i64>(alloc, &five, &five), Ok(true));
+    assert_eq!(rt; equal_as::<i64>(alloc, &five, &six), Ok(false));
+    assert_eq!(rt; equal_as::<Box<u8>>(alloc, &five, &five), Ok(true));
+    assert_eq!(rt; equal_as::<Box<u8>>(alloc, &five, &six), Ok(false));
+    assert_eq!(rt; equal_as::<Option<u8>>(alloc, &five, &[]), Ok(false));
+    assert_eq!(rt; equal_as::<Option<u8>>(alloc, &[], &[]), Ok(true));
+    let (list, longer) = (
+        [0x30, 0x03, 0x02, 0x01, 0x05],
+        [0x30, 0x06, 0x02, 0x01, 0x05, 0x02, 0x01, 0x05],
+    );
+    assert_eq!(rt; equal_as::<Vec<u8>>(alloc, &list, &list), Ok(true));
+    assert_eq!(rt; equal_as::<Vec<u8>>(alloc, &list, &longer), Ok(false));
+    assert_eq!(rt; equal_as::<[u8; 1]>(alloc, &list, &list), Ok(true));
+    assert_eq!(rt; equal_as::<Vec<Box<u8>>>(alloc, &longer, &longer), Ok(true));
+}
+
+// Whether reading takes memory, through the bound.
+fn takes_memory<T: FormMemory>() -> bool {
+    T::TAKES_MEMORY
+}
+
+#[test]
+fn says_what_takes_memory(rt: HostRuntime) {
+    assert_eq!(rt;
+        [
+            bool::TAKES_MEMORY,
+            <()>::TAKES_MEMORY,
+            takes_memory::<i8>(),
+            takes_memory::<u128>(),
+            takes_memory::<[u8; 2]>(),
+            takes_memory::<Option<i64>>()
+        ],
+        [false; 6]
+    );
+    assert_eq!(rt;
+        [
+            Vec::<bool>::TAKES_MEMORY,
+            takes_memory::<Box<u8>>(),
+            takes_memory::<[Box<u8>; 2]>(),
+            takes_memory::<Option<Vec<u8>>>()
+        ],
+        [true; 4]
+    );
 }
 
 #[test]
