@@ -37,10 +37,14 @@ pub record AtHeader (header : Header) (old mid : ReaderState) : Type 0 where
   pub head : HeadRead read_header (octets_of header) old mid header
   pub sound : IsReaderState mid
 
--- the contents octets of any encoding: what parsing comes to after the header
+-- what parsing comes to after the header, of an encoding that is written with this tag
+abbrev pub parse_behind_as : Tag → ContentsParse → EncodingRules → ReaderState → Header → Result (ℕ × List ℕ) ErrorKind
+parse_behind_as t parse rules old h =
+    parse_contents t parse rules (length (octets_of h)) (old.position + length (octets_of h)) h.length (drop (length (octets_of h)) (rest old))
+
+-- the same of an encoding that is written with the header's tag
 abbrev pub parse_behind : ContentsParse → EncodingRules → ReaderState → Header → Result (ℕ × List ℕ) ErrorKind
-parse_behind parse rules old h =
-    parse_contents h.tag parse rules (length (octets_of h)) (old.position + length (octets_of h)) h.length (drop (length (octets_of h)) (rest old))
+parse_behind parse rules old h = parse_behind_as h.tag parse rules old h
 
 module _ {header : Header} {old mid : ReaderState} (at : AtHeader header old mid) where
   rest_mid : rest mid ≡ drop (length (octets_of header)) (rest old)
@@ -65,8 +69,8 @@ module _ {header : Header} {old mid : ReaderState} (at : AtHeader header old mid
       ap (parse_with_tag t parse rules old.position (rest old)) at.head.parsed ∙ rw e refl
 
   -- contents octets longer than what is left
-  pub parse_too_long : {new : ReaderState} {kind : ErrorKind} → OctetsRefused mid new header.length kind → (parse : ContentsParse) (rules : EncodingRules) → parse_behind parse rules old header ≡ Err kind
-  parse_too_long {new} {kind} refused parse rules =
+  pub parse_too_long_as : {new : ReaderState} {kind : ErrorKind} → OctetsRefused mid new header.length kind → (t : Tag) (parse : ContentsParse) (rules : EncodingRules) → parse_behind_as t parse rules old header ≡ Err kind
+  parse_too_long_as {new} {kind} refused t parse rules =
       let l = length-rest mid at.sound in
       let ready = ready_mid in
       let s = at.sound in
@@ -77,6 +81,9 @@ module _ {header : Header} {old mid : ReaderState} (at : AtHeader header old mid
       let e = sym rest_mid in
       let p = sym position_mid in
       rw (e, p, short) (ap Err (sym fault))
+
+  pub parse_too_long : {new : ReaderState} {kind : ErrorKind} → OctetsRefused mid new header.length kind → (parse : ContentsParse) (rules : EncodingRules) → parse_behind parse rules old header ≡ Err kind
+  parse_too_long refused parse rules = parse_too_long_as refused header.tag parse rules
 
 pub record AtContents (header : Header) (old mid shown : ReaderState) (end : ℕ) : Type 0 where
   pub at : AtHeader header old mid
@@ -104,10 +111,13 @@ module _ {header : Header} {old mid shown : ReaderState} {end : ℕ} (c : AtCont
   pub shown_rules : shown.rules ≡ old.rules
   shown_rules = ap (λ s. s.rules) c.nest.after ∙ ap (λ s. s.rules) c.at.head.after
 
-  pub parse_shown : (parse : ContentsParse) (rules : EncodingRules) → parse_behind parse rules old header ≡ tagged_contents header.tag (length (octets_of header) + header.length) (parse rules shown.position (rest shown))
-  parse_shown parse rules =
+  pub parse_shown_as : (t : Tag) (parse : ContentsParse) (rules : EncodingRules) → parse_behind_as t parse rules old header ≡ tagged_contents t (length (octets_of header) + header.length) (parse rules shown.position (rest shown))
+  parse_shown_as t parse rules =
       let e = sym (rest_mid c.at) in
       rw (e, not_short (length (rest mid)) header.length enough, shown_rest, shown_position) refl
+
+  pub parse_shown : (parse : ContentsParse) (rules : EncodingRules) → parse_behind parse rules old header ≡ tagged_contents header.tag (length (octets_of header) + header.length) (parse rules shown.position (rest shown))
+  parse_shown parse rules = parse_shown_as header.tag parse rules
 
   pub taken : take (length (octets_of header) + header.length) (rest old) ≡ tlv header.tag (rest shown)
   taken =

@@ -1,0 +1,3 @@
+pub mod ExplicitDecoding
+pub mod FieldDecoding
+pub mod ImplicitDecoding

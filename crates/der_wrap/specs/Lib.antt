@@ -1,0 +1,5 @@
+pub mod ClassTags
+pub mod TaggedValues
+pub mod TaggedValueLaws
+pub mod TaggedValueEquality
+pub mod Fields

@@ -1,0 +1,120 @@
+-- Tagged values (X.690 8.14): what they are encoded as, and what octets they are read from.
+use Rattle.std.specs.Prelude.{◌≡◌, ℕ, ◌+◌, ◌-◌, ◌<◌, ◌^◌, ◌==◌, ◌&&◌, not, List, [], length, drop, Bool, true, false, if◌then◌else◌, None, Result, Ok, Err}
+use Rattle.std.specs.Bool.{beq}
+use Rattle.der_tlv.specs.declared.error.ErrorKind.{ErrorKind}
+use Rattle.der_tlv.specs.declared.error.ErrorKind.TheVariants.{Noncanonical, TagUnexpected, TrailingData}
+use Rattle.der_tlv.specs.declared.encoding_rules.EncodingRules.{EncodingRules}
+use Rattle.der_tlv.specs.declared.encoding_rules.EncodingRules.TheVariants.{Der, Ber}
+use Rattle.der_tlv.specs.declared.header.Header.{Header}
+use Rattle.der_tlv.specs.declared.tag.Tag.{Tag}
+use Rattle.der_tlv.specs.declared.tag.number.TagNumber.{TagNumber}
+use Rattle.der_tlv.specs.declared.tag.mode.TagMode.{TagMode}
+use Rattle.der_tlv.specs.declared.tag.mode.TagMode.TheVariants.{Explicit, Implicit}
+use Rattle.der_tlv.specs.TagParts.{is_constructed}
+use Rattle.der_tlv.specs.HeaderOctets.{tlv}
+use Rattle.der_tlv.specs.HeaderReading.{read_header}
+use Rattle.der_tlv.specs.TagMatching.{match_tag}
+use Rattle.der_elem.specs.Parsing.{Parse, ContentsParse, parse_contents}
+use Rattle.der_wrap.specs.ClassTags.{class_of_bits, class_tag, in_class}
+
+-- explicit tagging is constructed; implicit tagging is so where the value's own encoding is (X.690 8.14.2, 8.14.3)
+abbrev pub tag_of_mode : ℕ → TagMode → ℕ → Tag → Tag
+tag_of_mode bits Explicit n inner = class_tag bits true n
+tag_of_mode bits Implicit n inner = class_tag bits (is_constructed inner) n
+
+-- explicit tagging keeps the whole encoding of the value, implicit tagging its contents octets
+abbrev pub contents_of_mode : TagMode → List ℕ → List ℕ → List ℕ
+contents_of_mode Explicit encoding contents = encoding
+contents_of_mode Implicit encoding contents = contents
+
+-- Two tagged values are of one form: of one mode, and their values are of one form; under implicit tagging with one tag of their own, which is not encoded.
+pub record OneTaggedForm {T : Type 0} (alike : T → T → Type 0) (tag_of : T → Tag) (mode other : TagMode) (v w : T) : Type 0 where
+  pub same_mode : mode ≡ other
+  pub one_form : alike v w
+  pub same_tag : mode ≡ Implicit → tag_of v ≡ tag_of w
+
+-- all of the octets at a position have to be the encoding of a value: octets left over are a fault (3)
+abbrev pub all_of : ℕ → ℕ → Result (ℕ × List ℕ) ErrorKind → Result (List ℕ) ErrorKind
+all_of p len (Ok (n, encoding)) = if n == len then Ok encoding else Err (TrailingData (p + n) (len - n))
+all_of p len (Err k) = Err k
+
+-- the contents octets of explicit tagging: an encoding and nothing else
+abbrev pub one_encoding : Parse → ContentsParse
+one_encoding parse rules p octets = all_of p (length octets) (parse rules p octets)
+
+-- what follows a header that explicit tagging asks for: a primitive tag is refused (8), then another class (4, none expected)
+abbrev pub in_explicit : ℕ → Tag → Result (ℕ × List ℕ) ErrorKind → Result (ℕ × List ℕ) ErrorKind
+in_explicit bits t parsed =
+    if is_constructed t then (if in_class bits t then parsed else Err (TagUnexpected None t)) else Err (Noncanonical t)
+
+abbrev pub explicit_with_header : ℕ → Parse → EncodingRules → ℕ → List ℕ → Result (ℕ × Header) ErrorKind → Result (ℕ × List ℕ) ErrorKind
+explicit_with_header bits parse rules p octets (Err k) = Err k
+explicit_with_header bits parse rules p octets (Ok (count, h)) =
+    in_explicit bits h.tag (parse_contents h.tag (one_encoding parse) rules count (p + count) h.length (drop count octets))
+
+-- Explicit tagging of the class: the header's faults, the tag's (8, 4), contents longer than what is left (2, 9), the value's, octets left over (3).
+unfoldable pub parse_explicit : ℕ → Parse → Parse
+parse_explicit bits parse rules p octets = explicit_with_header bits parse rules p octets (read_header p octets)
+
+-- DER asks for the form of the value's own encoding (X.690 8.14.3), BER for none
+abbrev pub form_allowed : EncodingRules → Bool → Bool → Bool
+form_allowed Der constructed own = beq constructed own
+form_allowed Ber constructed own = true
+
+-- what follows the header of implicit tagging: under DER the other form is refused (8)
+abbrev pub in_implicit : EncodingRules → Bool → Tag → Result (ℕ × List ℕ) ErrorKind → Result (ℕ × List ℕ) ErrorKind
+in_implicit rules own t parsed = if form_allowed rules (is_constructed t) own then parsed else Err (Noncanonical t)
+
+abbrev pub implicit_with_header : Tag → Bool → ContentsParse → EncodingRules → ℕ → List ℕ → Result (ℕ × Header) ErrorKind → Result (ℕ × List ℕ) ErrorKind
+implicit_with_header t own parse rules p octets (Err k) = Err k
+implicit_with_header t own parse rules p octets (Ok (count, h)) =
+    in_implicit rules own h.tag (parse_contents t parse rules count (p + count) h.length (drop count octets))
+
+-- Implicit tagging, which is encoded with this tag in this form, behind a tag of its class and number: the header's faults, the form's (8), contents longer than what is left (2, 9), the contents'.
+unfoldable pub parse_implicit : Tag → Bool → ContentsParse → Parse
+parse_implicit t own parse rules p octets = implicit_with_header t own parse rules p octets (read_header p octets)
+
+abbrev pub at_match : Result (ℕ × List ℕ) ErrorKind → Result Bool ErrorKind → Result (ℕ × List ℕ) ErrorKind
+at_match parsed (Ok true) = parsed
+at_match parsed (Ok false) = Ok (0, [])
+at_match parsed (Err k) = Err k
+
+-- A field with this number: none at the end and before another class or number; the next tag's faults come first.
+abbrev pub parse_field : ℕ → ℕ → Parse → Parse
+parse_field bits n parse rules p octets = at_match (parse rules p octets) (match_tag (class_of_bits bits) n p octets)
+
+-- the grammar of explicit tagging: a constructed tag of the class, and then an encoding that the value is read from
+pub record AcceptsExplicit {T : Type 0} (accepts : EncodingRules → T → List ℕ → Type 0) (bits n : ℕ) (mode : TagMode) (v : T) (rules : EncodingRules) (octets : List ℕ) : Type 0 where
+  pub mode_is : mode ≡ Explicit
+  pub numbered : n < 2 ^ 32
+  pub inner : List ℕ
+  pub octets_are : octets ≡ tlv (class_tag bits true n) inner
+  pub accepted : accepts rules v inner
+
+-- the grammar of implicit tagging: a tag of the class and number, under DER in the form of the value's own encoding, and then contents octets that the value is read from
+pub record AcceptsImplicit {T : Type 0} (accepts : EncodingRules → T → List ℕ → Type 0) (bits n : ℕ) (own : Bool) (v : T) (rules : EncodingRules) (octets : List ℕ) : Type 0 where
+  pub constructed : Bool
+  pub allowed : form_allowed rules constructed own ≡ true
+  pub inner : List ℕ
+  pub octets_are : octets ≡ tlv (class_tag bits constructed n) inner
+  pub accepted : accepts rules v inner
+
+-- reading gives explicit tagging of a value that can be read
+pub record ReadableExplicit {T : Type 0} (can_be_read : T → Type 0) (n : ℕ) (mode : TagMode) (v : T) : Type 0 where
+  pub mode_is : mode ≡ Explicit
+  pub numbered : n < 2 ^ 32
+  pub readable : can_be_read v
+
+-- the contents octets of explicit tagging: an encoding that the value is read from
+abbrev pub accepts_one_encoding : {T : Type 0} → (EncodingRules → T → List ℕ → Type 0) → TagMode → EncodingRules → T → List ℕ → Type 0
+accepts_one_encoding accepts mode rules v octets = (mode ≡ Explicit) × accepts rules v octets
+
+-- What a tag comes to under explicit tagging of a class: its number, or the fault, whatever follows it.
+abbrev pub TagsExplicitly : ℕ → Tag → Result TagNumber ErrorKind → Type 0
+TagsExplicitly bits t (Ok number) = t ≡ class_tag bits true number.0
+TagsExplicitly bits t (Err kind) = (parsed : Result (ℕ × List ℕ) ErrorKind) → in_explicit bits t parsed ≡ Err kind
+
+-- What a tag comes to under implicit tagging in a form: nothing, or the fault, whatever follows it.
+abbrev pub TagsImplicitly : EncodingRules → Bool → Tag → Result (Unit {0}) ErrorKind → Type 0
+TagsImplicitly rules own t (Ok u) = form_allowed rules (is_constructed t) own ≡ true
+TagsImplicitly rules own t (Err kind) = (parsed : Result (ℕ × List ℕ) ErrorKind) → in_implicit rules own t parsed ≡ Err kind

@@ -1,0 +1,92 @@
+//! Fields that may be absent, told by the class and the number of their tag.
+
+ghost use Rattle.std.specs.Prelude.{◌≡◌, length};
+ghost use Rattle.der_wrap.specs.Fields.{DecodesExplicit, DecodesImplicit, ReadsAny};
+
+use crate::class_tag::{check_form, class_of_bits, in_class};
+use crate::tagged_value::TaggedValue;
+use der_elem::{Decode, DecodeValue, Form, FormValue, FromDer, IsConstructed, Tagged};
+use der_opaque::AnyRef;
+use der_tlv::{Error, Header, Reader, Tag, TagMode, TagNumber};
+use std::alloc::Global;
+
+impl<T: Tagged, const CLASS: u8> TaggedValue<T, CLASS> {
+    /// Reads a field with explicit tagging and this number: none at the end of the octets and
+    /// before another class or number, where the reader stays.
+    ///
+    /// # Errors
+    /// (17) on a failed reader; the faults of the next tag; (8) for a primitive tag; the value's
+    /// faults; (3) where octets are left over behind the value.
+    pub fn decode_explicit<'a, R: Reader<'a>>(
+        alloc: Global,
+        reader: &mut R,
+        tag_number: TagNumber,
+    ) -> Result<Option<TaggedValue<T, CLASS>>, Error>
+    where
+        T: Decode<'a, R>,
+        ensures { DecodesExplicit T.Form CLASS tag_number.0 (R.state reader.old) (R.state reader.new) result }
+    {
+        if !Tag::peek_matches(reader, class_of_bits(CLASS), tag_number)? {
+            return Ok(None);
+        }
+        Ok(Some(TaggedValue::decode(alloc, reader)?))
+    }
+
+    /// The value with explicit tagging that an encoding is.
+    ///
+    /// # Errors
+    /// (4) with no expected tag unless the tag is constructed and of the class; the refusals of
+    /// `from_der` of the contents octets.
+    pub fn from_any<'a>(alloc: Global, any: AnyRef<'a>) -> Result<TaggedValue<T, CLASS>, Error>
+    where
+        T: FromDer<'a>,
+        ensures { ReadsAny T.Form CLASS (⟦<AnyRef<'a> as Tagged>⟧.tag_of any.entry) (⟦<AnyRef<'a> as FormValue>⟧.contents any.entry) result }
+    {
+        let tag = any.tag();
+        if !(tag.is_constructed() && in_class(CLASS, tag)) {
+            return Err(Error::from_kind(tag.unexpected_error(None)));
+        }
+        let value = T::from_der(alloc, any.value())?;
+        Ok(TaggedValue {
+            tag_number: tag.number(),
+            tag_mode: TagMode::Explicit,
+            value,
+        })
+    }
+}
+
+impl<T, const CLASS: u8> TaggedValue<T, CLASS> {
+    /// Reads a field with implicit tagging and this number: none at the end of the octets and
+    /// before another class or number, where the reader stays.
+    ///
+    /// # Errors
+    /// (17) on a failed reader; the faults of the next tag; under DER (8) for a constructed tag
+    /// where the type's own is primitive, and for a primitive tag where it is constructed; the
+    /// faults of the contents octets.
+    pub fn decode_implicit<'a, R: Reader<'a>>(
+        alloc: Global,
+        reader: &mut R,
+        tag_number: TagNumber,
+    ) -> Result<Option<TaggedValue<T, CLASS>>, Error>
+    where
+        T: DecodeValue<'a, R> + IsConstructed,
+        ensures { DecodesImplicit T.FormValue T.CONSTRUCTED CLASS tag_number.0 (R.state reader.old) (R.state reader.new) result }
+    {
+        if !Tag::peek_matches(reader, class_of_bits(CLASS), tag_number)? {
+            return Ok(None);
+        }
+        let header = Header::decode(reader)?;
+        match check_form(reader.encoding_rules(), T::CONSTRUCTED, header.tag) {
+            Ok(()) => {}
+            Err(kind) => return Err(reader.error(kind)),
+        }
+        let end = reader.nest(header.length)?;
+        let value = T::decode_value(alloc, reader, header)?;
+        reader.unnest(end)?;
+        Ok(Some(TaggedValue {
+            tag_number,
+            tag_mode: TagMode::Implicit,
+            value,
+        }))
+    }
+}

@@ -1,0 +1,31 @@
+//! Values with a tag of the application, context-specific or private class (X.690 8.14).
+#![tactic(auto)]
+
+mod class_tag;
+mod field;
+mod tagged_value;
+mod tagged_value_ref;
+
+pub use tagged_value::TaggedValue;
+pub use tagged_value_ref::TaggedValueRef;
+
+/// A value with a context-specific tag.
+pub type ContextSpecific<T> = TaggedValue<T, 2>;
+
+/// A value with an application tag.
+pub type Application<T> = TaggedValue<T, 1>;
+
+/// A value with a private tag.
+pub type Private<T> = TaggedValue<T, 3>;
+
+/// A borrowed value with a context-specific tag, to be written.
+pub type ContextSpecificRef<'a, T> = TaggedValueRef<'a, T, 2>;
+
+/// A borrowed value with an application tag, to be written.
+pub type ApplicationRef<'a, T> = TaggedValueRef<'a, T, 1>;
+
+/// A borrowed value with a private tag, to be written.
+pub type PrivateRef<'a, T> = TaggedValueRef<'a, T, 3>;
+
+#[cfg(test)]
+mod tests;

@@ -1,0 +1,201 @@
+//! Tagged values: a value behind a tag of its own class and number.
+
+ghost use Rattle.std.specs.Prelude.{◌≡◌, refl};
+ghost use Rattle.der_tlv.specs.declared.tag.mode.TagMode.TheVariants.{Explicit};
+ghost use Rattle.der_tlv.specs.HeaderOctets.{tlv};
+ghost use Rattle.der_wrap.specs.ClassTags.{in_class};
+ghost use Rattle.der_wrap.specs.TaggedValues.{tag_of_mode, contents_of_mode, OneTaggedForm, one_encoding, accepts_one_encoding, parse_explicit, AcceptsExplicit, ReadableExplicit};
+ghost use Rattle.der_wrap.specs.TaggedValueLaws.{parse_of_one_encoding, same_length_one_encoding, accepts_own_encoding, parse_of_explicit, begins_explicit, same_length_explicit, accepts_explicit_encoding, readable_explicit, one_explicit_form};
+ghost use Rattle.der_wrap.specs.TaggedValueEquality.{encoding_eq_tagged_value, copy_encoding_tagged_value, copy_form_tagged_value};
+
+use crate::class_tag::{class_tag, explicit_number, in_class};
+use der_elem::{
+    Choice, Decode, DerOrd, Duplicate, Encode, EncodeValue, EncodingEq, Form, FormMemory,
+    FormValue, Tagged, ValueMemory, ValueOrd,
+};
+use der_tlv::{Error, Header, Length, Reader, Tag, TagMode, TagNumber, Writer};
+use std::alloc::Global;
+use std::cmp::Ordering;
+
+/// A value.
+#[derive(Clone, Copy, Debug, PartialEq, Eq, PartialOrd, Ord)]
+pub struct TaggedValue<T, const CLASS: u8> {
+    /// The number of the tag.
+    pub tag_number: TagNumber,
+    /// Whether the value's own tag stays.
+    pub tag_mode: TagMode,
+    /// The value.
+    pub value: T,
+}
+
+impl<T: Tagged, const CLASS: u8> FormValue for TaggedValue<T, CLASS> {
+    ghost contents = { λ v. contents_of_mode v.tag_mode (T.encoding v.value) (T.contents v.value) };
+
+    ghost one_form_value = { λ v w. OneTaggedForm T.one_form T.tag_of v.tag_mode w.tag_mode v.value w.value };
+
+    ghost re_reads_value = { λ v. T.re_reads v.value };
+
+    ghost accepts_value = { λ rules v. accepts_one_encoding T.accepts v.tag_mode rules v.value };
+
+    ghost parse_value = { one_encoding T.parse };
+
+    ghost readable_value = { λ v. (v.tag_mode ≡ Explicit) × T.readable v.value };
+
+    ghost has_tag = { λ v t. Unit {0} };
+
+    ghost VALUE_TAKES_MEMORY = { T.TAKES_MEMORY };
+
+    ghost parse_of_accepted_value = { λ rules v. parse_of_one_encoding T.Form v.tag_mode v.value (T.contents v.value) rules };
+
+    ghost same_length_value = { λ rules v. same_length_one_encoding T.Form v.tag_mode v.value (T.contents v.value) rules };
+
+    ghost accepts_contents = { λ rules v. accepts_own_encoding T.Form v.tag_mode v.value (T.contents v.value) rules };
+
+    ghost only_readable_value = { λ rules v c a. (a.0, T.only_readable rules v.value c a.1) };
+
+    ghost accepts_one_form_value = { λ rules v w c d a b. one_explicit_form T.Form T.tag_of v.tag_mode w.tag_mode v.value w.value a.0 b.0 (T.accepts_one_form rules v.value w.value c d a.1 b.1) };
+
+    ghost re_reads_memory_value = { λ v. T.re_reads_memory v.value };
+}
+
+impl<T: Tagged, const CLASS: u8> Form for TaggedValue<T, CLASS> {
+    ghost encoding = { λ v. tlv (tag_of_mode CLASS v.tag_mode v.tag_number.0 (T.tag_of v.value)) (contents_of_mode v.tag_mode (T.encoding v.value) (T.contents v.value)) };
+
+    ghost one_form = { λ v w. OneTaggedForm T.one_form T.tag_of v.tag_mode w.tag_mode v.value w.value };
+
+    ghost re_reads = { λ v. T.re_reads v.value };
+
+    ghost accepts = { λ rules v. AcceptsExplicit T.accepts CLASS v.tag_number.0 v.tag_mode v.value rules };
+
+    ghost parse = { parse_explicit CLASS T.parse };
+
+    ghost tags = { in_class CLASS };
+
+    ghost readable = { λ v. ReadableExplicit T.readable v.tag_number.0 v.tag_mode v.value };
+
+    ghost TAKES_MEMORY = { T.TAKES_MEMORY };
+
+    ghost parse_of_accepted = { λ rules v. parse_of_explicit T.Form CLASS v.tag_number.0 v.tag_mode v.value (T.tag_of v.value) (T.contents v.value) rules };
+
+    ghost begins = { λ rules v. begins_explicit T.Form CLASS v.tag_number.0 v.tag_mode v.value (T.tag_of v.value) (T.contents v.value) rules };
+
+    ghost same_length = { λ rules v. same_length_explicit T.Form CLASS v.tag_number.0 v.tag_mode v.value (T.tag_of v.value) (T.contents v.value) rules };
+
+    ghost accepts_encoding = { λ rules v. accepts_explicit_encoding T.Form CLASS v.tag_number.0 v.tag_mode v.value (T.tag_of v.value) (T.contents v.value) rules };
+
+    ghost only_readable = { λ rules v. readable_explicit T.Form CLASS v.tag_number.0 v.tag_mode v.value (T.tag_of v.value) (T.contents v.value) rules };
+
+    ghost accepts_one_form = { λ rules v w b c a d. one_explicit_form T.Form T.tag_of v.tag_mode w.tag_mode v.value w.value a.mode_is d.mode_is (T.accepts_one_form rules v.value w.value a.inner d.inner a.accepted d.accepted) };
+
+    ghost re_reads_memory = { λ v. T.re_reads_memory v.value };
+}
+
+impl<T: Tagged + FormMemory, const CLASS: u8> ValueMemory for TaggedValue<T, CLASS> {
+    type OfValue = <T as FormMemory>::OfForm;
+
+    ghost memory_of_value = { T.memory_of_form };
+}
+
+impl<T: Tagged + FormMemory, const CLASS: u8> FormMemory for TaggedValue<T, CLASS> {
+    type OfForm = <T as FormMemory>::OfForm;
+
+    ghost memory_of_form = { T.memory_of_form };
+}
+
+impl<T: Tagged, const CLASS: u8> Tagged for TaggedValue<T, CLASS> {
+    ghost tag_of = { λ v. tag_of_mode CLASS v.tag_mode v.tag_number.0 (T.tag_of v.value) };
+
+    fn tag(&self) -> Tag {
+        let constructed = match self.tag_mode {
+            TagMode::Explicit => true,
+            TagMode::Implicit => self.value.tag().is_constructed(),
+        };
+        class_tag(CLASS, constructed, self.tag_number)
+    }
+
+    ghost encoding_is = { λ v. refl };
+
+    ghost re_reads_alike = { λ v h. h };
+
+    ghost one_form_alike = { λ v w h. h };
+}
+
+impl<T: Tagged, const CLASS: u8> Choice for TaggedValue<T, CLASS> {
+    /// Every tag of the class is one of its encodings'.
+    fn can_decode(tag: Tag) -> bool {
+        in_class(CLASS, tag)
+    }
+}
+
+impl<T: Tagged + EncodeValue + Encode, const CLASS: u8> EncodeValue for TaggedValue<T, CLASS> {
+    fn value_len(&self) -> Result<Length, Error> {
+        match self.tag_mode {
+            TagMode::Explicit => self.value.encoded_len(),
+            TagMode::Implicit => self.value.value_len(),
+        }
+    }
+
+    fn encode_value<W: Writer>(&self, writer: &mut W) -> Result<(), Error> {
+        match self.tag_mode {
+            TagMode::Explicit => self.value.encode(writer),
+            TagMode::Implicit => self.value.encode_value(writer),
+        }
+    }
+}
+
+impl<T: Tagged + DerOrd + ValueOrd, const CLASS: u8> ValueOrd for TaggedValue<T, CLASS> {
+    /// # Errors
+    /// (13) with the tag where the modes differ.
+    fn value_cmp(&self, other: &TaggedValue<T, CLASS>) -> Result<Ordering, Error> {
+        match (self.tag_mode, other.tag_mode) {
+            (TagMode::Explicit, TagMode::Explicit) => self.value.der_cmp(&other.value),
+            (TagMode::Implicit, TagMode::Implicit) => self.value.value_cmp(&other.value),
+            _ => Err(Error::from_kind(self.tag().value_error())),
+        }
+    }
+}
+
+impl<T: Tagged + EncodingEq, const CLASS: u8> EncodingEq for TaggedValue<T, CLASS> {
+    ghost encoding_eq = { λ v w. encoding_eq_tagged_value T.tag_of T.contents T.encoding T.encoding_is T.one_form T.eq T.encoding_eq CLASS v.tag_number.0 w.tag_number.0 v.tag_mode w.tag_mode v.value w.value };
+}
+
+impl<T: Tagged + Duplicate, const CLASS: u8> Duplicate for TaggedValue<T, CLASS> {
+    ghost is_copy = { λ v w. (w.tag_number.0 ≡ v.tag_number.0) × (w.tag_mode ≡ v.tag_mode) × T.is_copy v.value w.value };
+
+    ghost takes_memory_to_copy = { T.takes_memory_to_copy };
+
+    fn duplicate(&self) -> Result<TaggedValue<T, CLASS>, Error> {
+        let value = self.value.duplicate()?;
+        Ok(TaggedValue {
+            tag_number: self.tag_number,
+            tag_mode: self.tag_mode,
+            value,
+        })
+    }
+
+    ghost copy_encoding = { λ v w c. copy_encoding_tagged_value T.tag_of T.contents T.encoding T.encoding_is CLASS v.tag_number.0 w.tag_number.0 v.tag_mode w.tag_mode v.value w.value c.0 c.1 (T.copy_encoding v.value w.value c.2) };
+
+    ghost copy_form = { λ v w x c. copy_form_tagged_value T.tag_of T.contents T.encoding T.encoding_is T.one_form v.tag_mode w.tag_mode x.tag_mode v.value w.value x.value c.1 (T.copy_encoding v.value w.value c.2) (T.copy_form v.value w.value x.value c.2) };
+
+    ghost copy_re_reads = { λ v w c. T.copy_re_reads v.value w.value c.2 };
+}
+
+impl<'a, R: Reader<'a>, T: Tagged + Decode<'a, R>, const CLASS: u8> Decode<'a, R>
+    for TaggedValue<T, CLASS> {
+    /// Reads a value with explicit tagging.
+    fn decode(alloc: Global, reader: &mut R) -> Result<TaggedValue<T, CLASS>, Error> {
+        let header = Header::decode(reader)?;
+        let tag_number = match explicit_number(CLASS, header.tag) {
+            Ok(number) => number,
+            Err(kind) => return Err(reader.error(kind)),
+        };
+        let end = reader.nest(header.length)?;
+        let value = T::decode(alloc, reader)?;
+        reader.unnest(end)?;
+        Ok(TaggedValue {
+            tag_number,
+            tag_mode: TagMode::Explicit,
+            value,
+        })
+    }
+}

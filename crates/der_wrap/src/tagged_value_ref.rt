@@ -1,0 +1,120 @@
+//! Tagged values that are only written, borrowed.
+
+ghost use Rattle.std.specs.Prelude.{◌≡◌, refl};
+ghost use Rattle.der_tlv.specs.declared.tag.mode.TagMode.TheVariants.{Explicit};
+ghost use Rattle.der_tlv.specs.HeaderOctets.{tlv};
+ghost use Rattle.der_wrap.specs.ClassTags.{in_class};
+ghost use Rattle.der_wrap.specs.TaggedValues.{tag_of_mode, contents_of_mode, OneTaggedForm, one_encoding, accepts_one_encoding, parse_explicit, AcceptsExplicit, ReadableExplicit};
+ghost use Rattle.der_wrap.specs.TaggedValueLaws.{parse_of_one_encoding, same_length_one_encoding, accepts_own_encoding, parse_of_explicit, begins_explicit, same_length_explicit, accepts_explicit_encoding, readable_explicit, one_explicit_form};
+
+use crate::class_tag::class_tag;
+use der_elem::{Encode, EncodeValue, Form, FormValue, Tagged};
+use der_tlv::{Error, Length, Tag, TagMode, TagNumber, Writer};
+
+/// A borrowed value with a tag of its own class and number, to be written.
+#[derive(Clone, Copy, Debug, PartialEq, Eq, PartialOrd, Ord)]
+pub struct TaggedValueRef<'a, T, const CLASS: u8> {
+    /// The number of the tag.
+    pub tag_number: TagNumber,
+    /// Whether the tag stands around the value's encoding, or in place of its tag.
+    pub tag_mode: TagMode,
+    /// The value.
+    pub value: &'a T,
+}
+
+impl<'a, T: Tagged, const CLASS: u8> FormValue for TaggedValueRef<'a, T, CLASS> {
+    ghost contents = { λ v. contents_of_mode v.tag_mode (T.encoding v.value.now) (T.contents v.value.now) };
+
+    ghost one_form_value = { λ v w. OneTaggedForm T.one_form T.tag_of v.tag_mode w.tag_mode v.value.now w.value.now };
+
+    ghost re_reads_value = { λ v. T.re_reads v.value.now };
+
+    ghost accepts_value = { λ rules v. accepts_one_encoding T.accepts v.tag_mode rules v.value.now };
+
+    ghost parse_value = { one_encoding T.parse };
+
+    ghost readable_value = { λ v. (v.tag_mode ≡ Explicit) × T.readable v.value.now };
+
+    ghost has_tag = { λ v t. Unit {0} };
+
+    ghost VALUE_TAKES_MEMORY = { T.TAKES_MEMORY };
+
+    ghost parse_of_accepted_value = { λ rules v. parse_of_one_encoding T.Form v.tag_mode v.value.now (T.contents v.value.now) rules };
+
+    ghost same_length_value = { λ rules v. same_length_one_encoding T.Form v.tag_mode v.value.now (T.contents v.value.now) rules };
+
+    ghost accepts_contents = { λ rules v. accepts_own_encoding T.Form v.tag_mode v.value.now (T.contents v.value.now) rules };
+
+    ghost only_readable_value = { λ rules v c a. (a.0, T.only_readable rules v.value.now c a.1) };
+
+    ghost accepts_one_form_value = { λ rules v w c d a b. one_explicit_form T.Form T.tag_of v.tag_mode w.tag_mode v.value.now w.value.now a.0 b.0 (T.accepts_one_form rules v.value.now w.value.now c d a.1 b.1) };
+
+    ghost re_reads_memory_value = { λ v. T.re_reads_memory v.value.now };
+}
+
+impl<'a, T: Tagged, const CLASS: u8> Form for TaggedValueRef<'a, T, CLASS> {
+    ghost encoding = { λ v. tlv (tag_of_mode CLASS v.tag_mode v.tag_number.0 (T.tag_of v.value.now)) (contents_of_mode v.tag_mode (T.encoding v.value.now) (T.contents v.value.now)) };
+
+    ghost one_form = { λ v w. OneTaggedForm T.one_form T.tag_of v.tag_mode w.tag_mode v.value.now w.value.now };
+
+    ghost re_reads = { λ v. T.re_reads v.value.now };
+
+    ghost accepts = { λ rules v. AcceptsExplicit T.accepts CLASS v.tag_number.0 v.tag_mode v.value.now rules };
+
+    ghost parse = { parse_explicit CLASS T.parse };
+
+    ghost tags = { in_class CLASS };
+
+    ghost readable = { λ v. ReadableExplicit T.readable v.tag_number.0 v.tag_mode v.value.now };
+
+    ghost TAKES_MEMORY = { T.TAKES_MEMORY };
+
+    ghost parse_of_accepted = { λ rules v. parse_of_explicit T.Form CLASS v.tag_number.0 v.tag_mode v.value.now (T.tag_of v.value.now) (T.contents v.value.now) rules };
+
+    ghost begins = { λ rules v. begins_explicit T.Form CLASS v.tag_number.0 v.tag_mode v.value.now (T.tag_of v.value.now) (T.contents v.value.now) rules };
+
+    ghost same_length = { λ rules v. same_length_explicit T.Form CLASS v.tag_number.0 v.tag_mode v.value.now (T.tag_of v.value.now) (T.contents v.value.now) rules };
+
+    ghost accepts_encoding = { λ rules v. accepts_explicit_encoding T.Form CLASS v.tag_number.0 v.tag_mode v.value.now (T.tag_of v.value.now) (T.contents v.value.now) rules };
+
+    ghost only_readable = { λ rules v. readable_explicit T.Form CLASS v.tag_number.0 v.tag_mode v.value.now (T.tag_of v.value.now) (T.contents v.value.now) rules };
+
+    ghost accepts_one_form = { λ rules v w b c a d. one_explicit_form T.Form T.tag_of v.tag_mode w.tag_mode v.value.now w.value.now a.mode_is d.mode_is (T.accepts_one_form rules v.value.now w.value.now a.inner d.inner a.accepted d.accepted) };
+
+    ghost re_reads_memory = { λ v. T.re_reads_memory v.value.now };
+}
+
+impl<'a, T: Tagged, const CLASS: u8> Tagged for TaggedValueRef<'a, T, CLASS> {
+    ghost tag_of = { λ v. tag_of_mode CLASS v.tag_mode v.tag_number.0 (T.tag_of v.value.now) };
+
+    fn tag(&self) -> Tag {
+        let constructed = match self.tag_mode {
+            TagMode::Explicit => true,
+            TagMode::Implicit => self.value.tag().is_constructed(),
+        };
+        class_tag(CLASS, constructed, self.tag_number)
+    }
+
+    ghost encoding_is = { λ v. refl };
+
+    ghost re_reads_alike = { λ v h. h };
+
+    ghost one_form_alike = { λ v w h. h };
+}
+
+impl<'a, T: Tagged + EncodeValue + Encode, const CLASS: u8> EncodeValue
+    for TaggedValueRef<'a, T, CLASS> {
+    fn value_len(&self) -> Result<Length, Error> {
+        match self.tag_mode {
+            TagMode::Explicit => self.value.encoded_len(),
+            TagMode::Implicit => self.value.value_len(),
+        }
+    }
+
+    fn encode_value<W: Writer>(&self, writer: &mut W) -> Result<(), Error> {
+        match self.tag_mode {
+            TagMode::Explicit => self.value.encode(writer),
+            TagMode::Implicit => self.value.encode_value(writer),
+        }
+    }
+}
