@@ -72,7 +72,8 @@ impl<T, const CLASS: u8> TaggedValue<T, CLASS> {
         T: DecodeValue<'a, R> + IsConstructed,
         ensures { DecodesImplicit T.FormValue T.CONSTRUCTED CLASS tag_number.0 (R.state reader.old) (R.state reader.new) result }
     {
-        if !Tag::peek_matches(reader, class_of_bits(CLASS), tag_number)? {
+        let class = class_of_bits(CLASS);
+        if !Tag::peek_matches(reader, class, tag_number)? {
             return Ok(None);
         }
         let header = Header::decode(reader)?;

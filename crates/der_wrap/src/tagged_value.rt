@@ -1,4 +1,13 @@
-//! Tagged values: a value behind a tag of its own class and number.
+//! Tagged values: a value behind a tag of another class than its own (X.690 8.14).
+//!
+//! Explicit tagging stands around the whole encoding, and is constructed: [1] of the INTEGER 5 is
+//! encoded as A1 03 02 01 05. Implicit tagging stands in place of the value's tag, and is constructed
+//! where that is: 81 01 05.
+//!
+//! Reading with explicit tagging refuses a primitive tag (8), then another class (4, none expected),
+//! contents longer than what is left (2), the value's faults, and octets left over behind the value
+//! (3). Reading with implicit tagging needs the number, so it is a call of its own,
+//! `decode_implicit`.
 
 ghost use Rattle.std.specs.Prelude.{◌≡◌, refl};
 ghost use Rattle.der_tlv.specs.declared.tag.mode.TagMode.TheVariants.{Explicit};
@@ -17,12 +26,15 @@ use der_tlv::{Error, Header, Length, Reader, Tag, TagMode, TagNumber, Writer};
 use std::alloc::Global;
 use std::cmp::Ordering;
 
-/// A value.
+/// A value with a tag of its own class and number. The class is bits 8 and 7 of the identifier: 1 is
+/// application, 2 context-specific, and every other number private.
+///
+/// The order is that of number, mode (explicit first) and value.
 #[derive(Clone, Copy, Debug, PartialEq, Eq, PartialOrd, Ord)]
 pub struct TaggedValue<T, const CLASS: u8> {
     /// The number of the tag.
     pub tag_number: TagNumber,
-    /// Whether the value's own tag stays.
+    /// Whether the tag stands around the value's encoding, or in place of its tag.
     pub tag_mode: TagMode,
     /// The value.
     pub value: T,

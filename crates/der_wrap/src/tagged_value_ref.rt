@@ -1,4 +1,6 @@
-//! Tagged values that are only written, borrowed.
+//! Borrowed values with a tag of another class than their own, to be written (X.690 8.14).
+//!
+//! Their encodings are those of the owned form.
 
 ghost use Rattle.std.specs.Prelude.{◌≡◌, refl};
 ghost use Rattle.der_tlv.specs.declared.tag.mode.TagMode.TheVariants.{Explicit};
