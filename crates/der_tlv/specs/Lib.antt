@@ -19,4 +19,5 @@ pub mod TagMatching
 pub mod HeaderOrder
 pub mod TagEquality
 pub mod TagLaws
+pub mod HeadLaws
 pub mod Views

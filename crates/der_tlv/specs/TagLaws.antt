@@ -11,6 +11,10 @@ use Rattle.der_tlv.specs.Octets.{lex}
 abbrev pub IdentifiersAreUnique : Type 0
 IdentifiersAreUnique = (t u : Tag) (x y : List ℕ) → identifier t ++ x ≡ identifier u ++ y → (t ≡ u) × (x ≡ y)
 
+-- tags with the same identifier octets are the same
+abbrev pub IdentifiersTellTags : Type 0
+IdentifiersTellTags = (t u : Tag) → identifier t ≡ identifier u → t ≡ u
+
 -- reading the identifier octets of a tag gives that tag, whatever follows
 abbrev pub IdentifiersReadBack : Type 0
 IdentifiersReadBack = (t : Tag) (p : ℕ) (x : List ℕ) → IsTag t → read_tag p (identifier t ++ x) ≡ Ok (length (identifier t), t)

@@ -1,5 +1,7 @@
 //! Headers.
 
+mod laws;
+
 ghost use Rattle.std.specs.Prelude.{◌≡◌, ◌≤◌, length, IfOk};
 ghost use Rattle.der_tlv.specs.TagParts.{IsTag};
 ghost use Rattle.der_tlv.specs.HeaderOctets.{header_octets};
@@ -13,6 +15,7 @@ use crate::length::Length;
 use crate::reader::Reader;
 use crate::tag::Tag;
 use crate::writer::Writer;
+pub use laws::{headers_are_unique, headers_read_back};
 
 /// The header of an encoding: its tag, and the length of its contents in octets.
 ///

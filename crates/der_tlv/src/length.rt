@@ -1,5 +1,7 @@
 //! Lengths, and their octets.
 
+mod laws;
+
 ghost use Rattle.std.specs.Prelude.{◌≡◌, ℕ, ◌+◌, ◌-◌, ◌∷◌, ◌^◌, ◌<◌, ◌≤◌, ◌↔◌, IsTrue, IfOk, IfErr, IsOk};
 ghost use Rattle.std.specs.Int.Digits.{digits_of};
 ghost use Rattle.der_tlv.specs.LengthOctets.{length_octets};
@@ -10,6 +12,7 @@ ghost use Rattle.der_tlv.specs.declared.error.ErrorKind.TheVariants.{Overflow};
 
 use crate::error::{Error, ErrorKind};
 use crate::reader::Reader;
+pub use laws::{lengths_are_short, lengths_are_unique, lengths_read_back};
 use std::marker::Model;
 
 /// A number of octets, 0 to 4294967295.

@@ -6,8 +6,8 @@ use crate::bytes_owned::BytesOwned;
 use crate::bytes_ref::BytesRef;
 use crate::encoding_rules::EncodingRules;
 use crate::error::{Error, ErrorKind};
-use crate::header::Header;
-use crate::length::Length;
+use crate::header::{Header, headers_are_unique, headers_read_back};
+use crate::length::{Length, lengths_are_short, lengths_are_unique, lengths_read_back};
 use crate::reader::{Reader, SliceReader};
 use crate::tag::{Class, Tag, TagMode, TagNumber};
 use crate::writer::{SliceWriter, VecWriter, Writer};
@@ -85,6 +85,14 @@ fn length_of_header(octets: &[u8]) -> Result<u32, Error> {
             reader.finish()?;
             Ok(header.length().value())
         }
+        Err(e) => Err(e),
+    }
+}
+
+/// The tag in the header at the beginning of these octets.
+fn tag_of_header(octets: &[u8]) -> Result<Tag, Error> {
+    match SliceReader::new(octets) {
+        Ok(mut reader) => Ok(Header::decode(&mut reader)?.tag()),
         Err(e) => Err(e),
     }
 }
@@ -195,6 +203,41 @@ fn lengths_there_and_back(rt: HostRuntime) -> Result<(), Fail> {
         assert_eq!(rt; length_of_header(octets)?, len);
     }
     Ok(())
+}
+
+#[test]
+fn tag_numbers_there_and_back(rt: HostRuntime) -> Result<(), Fail> {
+    let rows = [
+        (30, [0xbe, 0x00].as_slice()),
+        (31, [0xbf, 0x1f, 0x00].as_slice()),
+        (127, [0xbf, 0x7f, 0x00].as_slice()),
+        (128, [0xbf, 0x81, 0x00, 0x00].as_slice()),
+        (16383, [0xbf, 0xff, 0x7f, 0x00].as_slice()),
+        (16384, [0xbf, 0x81, 0x80, 0x00, 0x00].as_slice()),
+        (
+            4294967295,
+            [0xbf, 0x8f, 0xff, 0xff, 0xff, 0x7f, 0x00].as_slice(),
+        ),
+    ];
+    for (number, octets) in rows {
+        let tag = Tag::ContextSpecific {
+            constructed: true,
+            number: TagNumber(number),
+        };
+        let found = written(rt.alloc(), Header::new(tag, Length::ZERO))?;
+        assert_eq!(rt; found.as_slice(), octets, "{number}");
+        assert_eq!(rt; tag_of_header(octets)?, tag);
+    }
+    Ok(())
+}
+
+#[test]
+fn laws() {
+    lengths_are_unique();
+    lengths_read_back();
+    lengths_are_short();
+    headers_are_unique();
+    headers_read_back();
 }
 
 /// The header of an INTEGER of so many octets.
@@ -439,6 +482,32 @@ fn slice_writers_with_room(rt: HostRuntime) {
         assert_eq!(rt; refusal(header_of_six_octets().encode(&mut writer)), 0);
         let octets = [0xbf, 0xff, 0x7f, 0x82, 0x01, 0x00];
         assert_eq!(rt; writer.finish(), octets.as_slice(), "{room}");
+    }
+}
+
+#[test]
+fn vector_writers_with_room(rt: HostRuntime) -> Result<(), Fail> {
+    let octets = [0xbf, 0xff, 0x7f, 0x82, 0x01, 0x00];
+    for room in 0..7 {
+        let mut writer = VecWriter::with_capacity(rt.alloc(), room)?;
+        header_of_six_octets().encode(&mut writer)?;
+        assert_eq!(rt; writer.finish().as_slice(), octets.as_slice(), "{room}");
+    }
+    Ok(())
+}
+
+#[test]
+fn slice_writers_octet_by_octet(rt: HostRuntime) {
+    for room in 0..3 {
+        let mut buffer = [0xaa; 3];
+        let mut writer = SliceWriter::new(&mut buffer[..room]);
+        for octet in 0..room {
+            assert_eq!(rt; refusal(writer.write_byte(octet as u8)), 0, "{room}");
+        }
+        assert_eq!(rt; refusal(writer.write_byte(9)), 10, "{room}");
+        assert_eq!(rt; refusal(writer.write_byte(9)), 17, "{room}");
+        let octets = [0, 1, 2];
+        assert_eq!(rt; writer.finish(), &octets[..room], "{room}");
     }
 }
 

@@ -1,10 +1,15 @@
 //! Laws of identifier octets, which stand as the contracts of functions that do nothing.
 
-ghost use Rattle.der_tlv.specs.TagLaws.{IdentifiersAreUnique, IdentifiersReadBack, IdentifiersDecideOrder, IdentifiersAreShort};
+ghost use Rattle.der_tlv.specs.TagLaws.{IdentifiersAreUnique, IdentifiersTellTags, IdentifiersReadBack, IdentifiersDecideOrder, IdentifiersAreShort};
 
 /// No identifier octets are a beginning of those of another tag.
 pub fn identifiers_are_unique()
     ensures { IdentifiersAreUnique }
+{}
+
+/// Tags with the same identifier octets are the same.
+pub fn identifiers_tell_tags()
+    ensures { IdentifiersTellTags }
 {}
 
 /// Reading the identifier octets of a tag gives that tag, whatever follows them.

@@ -6,7 +6,7 @@ use crate::length::Length;
 use crate::reader::{Reader, SliceReader};
 use crate::tag::{
     Class, Tag, TagNumber, identifiers_are_short, identifiers_are_unique, identifiers_decide_order,
-    identifiers_read_back,
+    identifiers_read_back, identifiers_tell_tags,
 };
 use std::cmp::Ordering;
 
@@ -194,6 +194,9 @@ fn parts(rt: HostRuntime) {
     assert!(rt; Tag::Set.is_constructed());
     assert_eq!(rt; Tag::Set.number().value(), 17);
     assert_eq!(rt; context(5).class(), Class::ContextSpecific);
+    assert!(rt; context(5).is(context(5)));
+    assert!(rt; !context(5).is(context(6)));
+    assert!(rt; !Tag::Set.is(Tag::Sequence));
 }
 
 #[test]
@@ -215,6 +218,7 @@ fn errors(rt: HostRuntime) {
 #[test]
 fn laws() {
     identifiers_are_unique();
+    identifiers_tell_tags();
     identifiers_read_back();
     identifiers_decide_order();
     identifiers_are_short();

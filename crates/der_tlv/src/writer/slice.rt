@@ -1,6 +1,6 @@
 //! A writer into memory that is there.
 
-ghost use Rattle.std.specs.Prelude.{◌≡◌, ◌-◌, ◌≤◌, [], length, take, false, OnOk, OnErr};
+ghost use Rattle.std.specs.Prelude.{◌≡◌, ◌-◌, ◌≤◌, [], ◌∷◌, length, take, false, OnOk, OnErr};
 ghost use Rattle.der_tlv.specs.Writing.{WriterState, Writes, is_overlength, refuses_first_with, room_unless_failed};
 
 use crate::error::{Error, ErrorKind};
@@ -63,5 +63,13 @@ impl<'a> Writer for SliceWriter<'a> {
         self.bytes[self.position..end].copy_from_slice(octets);
         self.position = end;
         Ok(())
+    }
+
+    fn write_byte(&mut self, octet: u8) -> Result<(), Error>
+        ensures written { Writes (octet ∷ []) (⟦<SliceWriter<'a> as Writer>⟧.state self.old) (⟦<SliceWriter<'a> as Writer>⟧.state self.new) result }
+        ensures ready { OnOk result ((⟦<SliceWriter<'a> as Writer>⟧.state self.old).failed ≡ false) }
+        ensures kept { OnErr result ((⟦<SliceWriter<'a> as Writer>⟧.state self.new).taken ≡ (⟦<SliceWriter<'a> as Writer>⟧.state self.old).taken) }
+    {
+        self.write(&[octet])
     }
 }

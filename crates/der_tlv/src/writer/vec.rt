@@ -1,6 +1,6 @@
 //! A writer into a vector.
 
-ghost use Rattle.std.specs.Prelude.{◌≡◌, ◌≤◌, [], IfOk, IfErr, false, OnOk, OnErr};
+ghost use Rattle.std.specs.Prelude.{◌≡◌, ◌≤◌, [], ◌∷◌, IfOk, IfErr, false, OnOk, OnErr};
 ghost use Rattle.der_tlv.specs.Writing.{WriterState, Writes};
 ghost use Rattle.der_tlv.specs.declared.error.ErrorKind.TheVariants.{Memory};
 
@@ -77,5 +77,13 @@ impl Writer for VecWriter {
                 Err(Error::from_kind(ErrorKind::Memory))
             }
         }
+    }
+
+    fn write_byte(&mut self, octet: u8) -> Result<(), Error>
+        ensures written { Writes (octet ∷ []) (⟦<VecWriter as Writer>⟧.state self.old) (⟦<VecWriter as Writer>⟧.state self.new) result }
+        ensures ready { OnOk result ((⟦<VecWriter as Writer>⟧.state self.old).failed ≡ false) }
+        ensures kept { OnErr result ((⟦<VecWriter as Writer>⟧.state self.new).taken ≡ (⟦<VecWriter as Writer>⟧.state self.old).taken) }
+    {
+        self.write(&[octet])
     }
 }
