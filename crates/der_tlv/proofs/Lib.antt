@@ -9,3 +9,4 @@ pub mod TagsOfOctets
 pub mod TagHeads
 pub mod TagOctets
 pub mod TagOrder
+pub mod ShortHeaders

@@ -2,15 +2,15 @@
 
 mod laws;
 
-ghost use Rattle.std.specs.Prelude.{◌≡◌, ◌≤◌, length, IfOk};
-ghost use Rattle.der_tlv.specs.TagParts.{IsTag};
+ghost use Rattle.std.specs.Prelude.{◌≡◌, ◌<◌, ◌≤◌, ◌↔◌, length, IfOk, IfSome, IsSome};
+ghost use Rattle.der_tlv.specs.TagParts.{IsTag, number_of};
 ghost use Rattle.der_tlv.specs.HeaderOctets.{header_octets};
 ghost use Rattle.der_tlv.specs.HeaderReading.{read_header, octets_of};
 ghost use Rattle.der_tlv.specs.Reading.{ReadsHead};
 ghost use Rattle.der_tlv.specs.Writing.{Writes};
 
 use crate::error::Error;
-use crate::header_octets::HeaderOctets;
+use crate::header_octets::{HeaderOctets, first_octet};
 use crate::length::Length;
 use crate::reader::Reader;
 use crate::tag::Tag;
@@ -63,10 +63,14 @@ impl Header {
     }
 
     /// How many octets the header has, at most 11.
+    #[inline]
     pub fn encoded_len(self) -> Length
         ensures len { result ≡ length (header_octets self.tag self.length) }
         ensures few { result ≤ 11 }
     {
+        if self.two_octets().is_some() {
+            return Length::new(2);
+        }
         let octets = self.octets();
         Length::new(octets.as_slice().len() as u32)
     }
@@ -75,11 +79,14 @@ impl Header {
     ///
     /// # Errors
     /// The writer's.
+    #[inline(always)]
     pub fn encode<W: Writer>(self, writer: &mut W) -> Result<(), Error>
         ensures { Writes (header_octets self.tag self.length) (W.state writer.old) (W.state writer.new) result }
     {
-        let octets = self.octets();
-        writer.write(octets.as_slice())
+        if let Some(octets) = self.two_octets() {
+            return writer.write(&octets);
+        }
+        self.encode_octets(writer)
     }
 
     /// Reads a header.
@@ -96,10 +103,32 @@ impl Header {
         Ok(Header { tag, length })
     }
 
+    /// The octets of the header where there are two: a number of at most 30 and a length below 128.
+    #[inline(always)]
+    fn two_octets(&self) -> Option<[u8; 2]>
+        ensures octets { IfSome result (λ octets. octets ≡ header_octets self.now.tag self.now.length) }
+        ensures some { IsSome result ↔ (number_of self.now.tag < 31) × (self.now.length < 128) }
+    {
+        let len = self.length.value();
+        if self.tag.number().value() < 31 && len < 0x80 {
+            Some([first_octet(self.tag), len as u8])
+        } else {
+            None
+        }
+    }
+
+    /// Writes the octets of the header, however many there are.
+    #[inline(never)]
+    fn encode_octets<W: Writer>(&self, writer: &mut W) -> Result<(), Error>
+        ensures { Writes (header_octets self.now.tag self.now.length) (W.state writer.old) (W.state writer.new) result }
+    {
+        let octets = self.octets();
+        writer.write(octets.as_slice())
+    }
+
     /// The octets of the header.
-    #[inline]
-    fn octets(self) -> HeaderOctets
-        ensures octets { result ≡ header_octets self.tag self.length }
+    fn octets(&self) -> HeaderOctets
+        ensures octets { result ≡ header_octets self.now.tag self.now.length }
     {
         let mut octets = HeaderOctets::new();
         octets.push_identifier(self.tag);

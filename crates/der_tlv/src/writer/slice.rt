@@ -47,6 +47,7 @@ impl<'a> Writer for SliceWriter<'a> {
 
     ghost state = { slice_writer_state };
 
+    #[inline]
     fn write(&mut self, octets: &[u8]) -> Result<(), Error>
         ensures written { Writes octets.now (⟦<SliceWriter<'a> as Writer>⟧.state self.old) (⟦<SliceWriter<'a> as Writer>⟧.state self.new) result }
         ensures ready { OnOk result ((⟦<SliceWriter<'a> as Writer>⟧.state self.old).failed ≡ false) }
@@ -65,6 +66,7 @@ impl<'a> Writer for SliceWriter<'a> {
         Ok(())
     }
 
+    #[inline]
     fn write_byte(&mut self, octet: u8) -> Result<(), Error>
         ensures written { Writes (octet ∷ []) (⟦<SliceWriter<'a> as Writer>⟧.state self.old) (⟦<SliceWriter<'a> as Writer>⟧.state self.new) result }
         ensures ready { OnOk result ((⟦<SliceWriter<'a> as Writer>⟧.state self.old).failed ≡ false) }

@@ -62,6 +62,7 @@ impl Writer for VecWriter {
 
     ghost state = { vec_writer_state };
 
+    #[inline]
     fn write(&mut self, octets: &[u8]) -> Result<(), Error>
         ensures written { Writes octets.now (⟦<VecWriter as Writer>⟧.state self.old) (⟦<VecWriter as Writer>⟧.state self.new) result }
         ensures ready { OnOk result ((⟦<VecWriter as Writer>⟧.state self.old).failed ≡ false) }
@@ -79,6 +80,7 @@ impl Writer for VecWriter {
         }
     }
 
+    #[inline]
     fn write_byte(&mut self, octet: u8) -> Result<(), Error>
         ensures written { Writes (octet ∷ []) (⟦<VecWriter as Writer>⟧.state self.old) (⟦<VecWriter as Writer>⟧.state self.new) result }
         ensures ready { OnOk result ((⟦<VecWriter as Writer>⟧.state self.old).failed ≡ false) }
