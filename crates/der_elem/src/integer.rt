@@ -11,3 +11,5 @@ mod octets;
 mod reading;
 mod signed;
 mod unsigned;
+
+pub use reading::{signed_of, unsigned_of};

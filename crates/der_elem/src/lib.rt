@@ -31,6 +31,7 @@ pub use duplicate::{Duplicate, DuplicateValue};
 pub use encode::{Encode, EncodeValue};
 pub use equality::{ContentsEq, EncodingEq};
 pub use form::{FixedTag, Form, FormValue, SameTag};
+pub use integer::{signed_of, unsigned_of};
 pub use memory::{FormMemory, Memory, TakesMemory, ValueMemory, WithMemory, WithoutMemory};
 pub use ord::{DerOrd, OrdIsValueOrd, ValueOrd};
 pub use sequence::Sequence;

@@ -1,2 +1,3 @@
 pub mod AnyDecoding
 pub mod CarriedContents
+pub mod OwnCarried

@@ -4,10 +4,13 @@ use Rattle.der_tlv.specs.declared.error.ErrorKind.{ErrorKind}
 use Rattle.der_tlv.specs.declared.error.ErrorKind.TheVariants.{Memory, TagUnexpected}
 use Rattle.der_tlv.specs.declared.error.Error.{Error}
 use Rattle.der_tlv.specs.declared.encoding_rules.EncodingRules.{EncodingRules}
+use Rattle.der_tlv.specs.declared.encoding_rules.EncodingRules.TheVariants.{Der}
 use Rattle.der_tlv.specs.declared.tag.Tag.{Tag}
+use Rattle.der_tlv.specs.Identifier.{same_identifier}
 use Rattle.der_elem.specs.declared.form.FormValue as value
 use Rattle.der_elem.specs.declared.form.Form as form
 use Rattle.der_elem.specs.Parsing.{ContentsParse}
+use Rattle.der_elem.specs.OwnContents.{accepts_within}
 
 -- What octets behind a tag come to: (4) with no expected tag for a tag that is none of these, else what the contents octets are parsed as.
 abbrev pub parse_as : (Tag → Bool) → ContentsParse → EncodingRules → Tag → List ℕ → Result (List ℕ) ErrorKind
@@ -29,3 +32,19 @@ pub record NotDecodedAs {T : Type 0} (C : form.Ghosts T) (F : value.Ghosts T) (r
 abbrev pub DecodesAs : {T : Type 0} → form.Ghosts T → value.Ghosts T → EncodingRules → Tag → List ℕ → Result T Error → Type 0
 DecodesAs C F rules t octets (Ok v) = DecodedAs C F rules t octets v
 DecodesAs C F rules t octets (Err e) = ((e.kind ≡ Memory) × (F.VALUE_TAKES_MEMORY ≡ true) × (C.tags t ≡ true)) ⊎ NotDecodedAs C F rules t octets e.kind
+
+-- the same of a type with one tag, of which each value within a range is read from its own contents octets
+pub record OwnDecodedAs {T : Type 0} (own : Tag) (contents : T → List ℕ) (Within : T → Type 0) (parse : ContentsParse) (t : Tag) (octets : List ℕ) (v : T) : Type 0 where
+  pub allowed : same_identifier t own ≡ true
+  pub parsed : parse Der 0 octets ≡ Ok (contents v)
+  pub accepted : accepts_within contents Within Der v octets
+
+-- and the first fault
+pub record OwnNotDecodedAs {T : Type 0} (own : Tag) (contents : T → List ℕ) (Within : T → Type 0) (parse : ContentsParse) (t : Tag) (octets : List ℕ) (kind : ErrorKind) : Type 0 where
+  pub fault : parse_as (λ u. same_identifier u own) parse Der t octets ≡ Err kind
+  pub nothing : same_identifier t own ≡ true → (w : T) → accepts_within contents Within Der w octets → ⊥
+
+-- what decoding such contents octets answers, with no memory
+abbrev pub DecodesOwnAs : {T : Type 0} → Tag → (T → List ℕ) → (T → Type 0) → ContentsParse → Tag → List ℕ → Result T Error → Type 0
+DecodesOwnAs own contents Within parse t octets (Ok v) = OwnDecodedAs own contents Within parse t octets v
+DecodesOwnAs own contents Within parse t octets (Err e) = OwnNotDecodedAs own contents Within parse t octets e.kind

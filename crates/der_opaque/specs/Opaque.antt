@@ -1,8 +1,7 @@
 -- Contents octets that are kept as they stand.
-use Rattle.std.specs.Prelude.{◌≡◌, ℕ, ◌<◌, ◌≤◌, ◌^◌, List, [], ◌∷◌, length, Result, Ok, Err}
+use Rattle.std.specs.Prelude.{◌≡◌, ℕ, ◌<◌, ◌≤◌, ◌^◌, List, length, Result, Ok, Err}
 use Rattle.der_tlv.specs.declared.error.ErrorKind.TheVariants as kinds
 use Rattle.der_tlv.specs.declared.tag.Tag.{Tag}
-use Rattle.der_tlv.specs.declared.tag.Tag.TheVariants.{Null}
 use Rattle.der_tlv.specs.declared.error.Error.{Error}
 use Rattle.der_tlv.specs.declared.encoding_rules.EncodingRules.{EncodingRules}
 use Rattle.der_elem.specs.Parsing.{ContentsParse}
@@ -14,11 +13,6 @@ accepts_octets contents rules v c = c ≡ contents v
 -- any octets are the contents octets of some value (X.690 8.7)
 abbrev pub parse_octets : ContentsParse
 parse_octets rules p c = Ok c
-
--- no contents octets (X.690 8.8), else (7)
-abbrev pub parse_null : ContentsParse
-parse_null rules p [] = Ok []
-parse_null rules p (octet ∷ others) = Err (kinds.Length Null)
 
 -- a value that keeps these octets, or (7) for more of them than a length can count
 abbrev pub KeepsOctets : {T : Type 0} → (T → List ℕ) → Tag → List ℕ → Result T Error → Type 0

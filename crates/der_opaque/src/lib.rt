@@ -4,6 +4,7 @@
 
 mod any;
 mod any_ref;
+mod builtin;
 mod null;
 mod object_identifier;
 mod octet_string;

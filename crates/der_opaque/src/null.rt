@@ -7,7 +7,8 @@ ghost use Rattle.std.proofs.Common.{lit<, ap, sym};
 ghost use Rattle.der_tlv.specs.declared.tag.Tag.TheVariants as tags;
 ghost use Rattle.der_tlv.specs.declared.encoding_rules.EncodingRules.TheVariants.{Der};
 ghost use Rattle.der_opaque.specs.DecodingAs.{DecodesAs};
-ghost use Rattle.der_opaque.specs.Opaque.{accepts_octets, parse_null};
+ghost use Rattle.der_elem.specs.Null.{parse_null};
+ghost use Rattle.der_opaque.specs.Opaque.{accepts_octets};
 
 use crate::any::Any;
 use crate::any_ref::AnyRef;

@@ -24,7 +24,7 @@ fn has_needless_zero(bytes: &[u8]) -> bool
 ///
 /// # Errors
 /// In this order: no octets (7); more than the width (8); a redundant first octet (8).
-fn signed_of(bytes: &[u8], width: usize) -> Result<i128, ErrorKind>
+pub fn signed_of(bytes: &[u8], width: usize) -> Result<i128, ErrorKind>
     requires some { 0 < width }
     requires most { width ≤ 16 }
     ensures { ReadsSigned width bytes.now result }
@@ -43,7 +43,7 @@ fn signed_of(bytes: &[u8], width: usize) -> Result<i128, ErrorKind>
 /// # Errors
 /// In this order: no octets (7); more than the width and one (8); a 00 before an octet below 80
 /// (8); a negative number (13); one octet more than the width, of which the first is not 00 (7).
-fn unsigned_of(bytes: &[u8], width: usize) -> Result<u128, ErrorKind>
+pub fn unsigned_of(bytes: &[u8], width: usize) -> Result<u128, ErrorKind>
     requires some { 0 < width }
     requires most { width ≤ 16 }
     ensures { ReadsUnsigned width bytes.now result }

@@ -1,0 +1,252 @@
+//! BOOLEAN, NULL and INTEGER, which the built-in types are, from carried contents octets.
+//!
+//! Each refuses another tag (4, with no expected tag), and then what reading the type refuses. It
+//! takes no memory.
+
+ghost use Rattle.std.specs.Prelude.{◌≡◌, ◌≤◌, ◌<◌, ℕ};
+ghost use Rattle.der_tlv.specs.declared.encoding_rules.EncodingRules.TheVariants.{Der};
+ghost use Rattle.der_tlv.specs.declared.tag.Tag.TheVariants.{Integer};
+ghost use Rattle.der_elem.specs.Integer.{integer_contents, natural_contents, FitsSignedWidth, FitsUnsignedWidth};
+ghost use Rattle.der_elem.specs.IntegerReading.{parse_signed, parse_unsigned};
+ghost use Rattle.der_opaque.specs.DecodingAs.{DecodesAs, DecodesOwnAs};
+
+use crate::any_ref::AnyRef;
+use der_elem::{Form, FormValue, Tagged, signed_of, unsigned_of};
+use der_tlv::{Error, Tag};
+
+/// The integer that carried contents octets are, at a width of up to 16 octets.
+///
+/// # Errors
+/// (4) with no expected tag for another tag than INTEGER. Else, in this order: no octets (7); more
+/// than the width (8); a redundant first octet (8).
+fn signed_as(any: AnyRef<'_>, width: usize) -> Result<i128, Error>
+    requires some { 0 < width }
+    requires most { width ≤ 16 }
+    ensures { DecodesOwnAs Integer integer_contents (FitsSignedWidth width) (parse_signed width) (⟦<AnyRef<'static> as Tagged>⟧.tag_of any.entry) (⟦<AnyRef<'static> as FormValue>⟧.contents any.entry) result }
+{
+    if !any.tag.is(Tag::Integer) {
+        return Err(Error::from_kind(any.tag.unexpected_error(None)));
+    }
+    match signed_of(any.value, width) {
+        Ok(integer) => Ok(integer),
+        Err(kind) => Err(Error::from_kind(kind)),
+    }
+}
+
+/// The number that carried contents octets are, at a width of up to 16 octets.
+///
+/// # Errors
+/// (4) with no expected tag for another tag than INTEGER. Else, in this order: no octets (7); more
+/// than the width and one (8); a 00 before an octet below 80 (8); a negative number (13); one octet
+/// more than the width, of which the first is not 00 (7).
+fn unsigned_as(any: AnyRef<'_>, width: usize) -> Result<u128, Error>
+    requires some { 0 < width }
+    requires most { width ≤ 16 }
+    ensures { DecodesOwnAs Integer natural_contents (FitsUnsignedWidth width) (parse_unsigned width) (⟦<AnyRef<'static> as Tagged>⟧.tag_of any.entry) (⟦<AnyRef<'static> as FormValue>⟧.contents any.entry) result }
+{
+    if !any.tag.is(Tag::Integer) {
+        return Err(Error::from_kind(any.tag.unexpected_error(None)));
+    }
+    match unsigned_of(any.value, width) {
+        Ok(number) => Ok(number),
+        Err(kind) => Err(Error::from_kind(kind)),
+    }
+}
+
+impl<'a> TryFrom<AnyRef<'a>> for bool {
+    type Error = Error;
+
+    ghost try_from_gives = { λ a r. DecodesAs ⟦<bool as Form>⟧ ⟦<bool as FormValue>⟧ Der (⟦<AnyRef<'a> as Tagged>⟧.tag_of a) (⟦<AnyRef<'a> as FormValue>⟧.contents a) r };
+
+    /// # Errors
+    /// (4) with no expected tag for another tag; (7) unless there is one contents octet; (8) for any
+    /// octet but 00 and FF.
+    fn try_from(any: AnyRef<'a>) -> Result<bool, Error> {
+        if !any.tag.is(Tag::Boolean) {
+            return Err(Error::from_kind(any.tag.unexpected_error(None)));
+        }
+        match any.value {
+            [0x00] => Ok(false),
+            [0xff] => Ok(true),
+            [_] => Err(Error::from_kind(Tag::Boolean.non_canonical_error())),
+            _ => Err(Error::from_kind(Tag::Boolean.length_error())),
+        }
+    }
+}
+
+impl<'a> TryFrom<AnyRef<'a>> for () {
+    type Error = Error;
+
+    ghost try_from_gives = { λ a r. DecodesAs ⟦<() as Form>⟧ ⟦<() as FormValue>⟧ Der (⟦<AnyRef<'a> as Tagged>⟧.tag_of a) (⟦<AnyRef<'a> as FormValue>⟧.contents a) r };
+
+    /// # Errors
+    /// (4) with no expected tag for another tag; (7) for any contents octets.
+    fn try_from(any: AnyRef<'a>) -> Result<(), Error> {
+        if !any.tag.is(Tag::Null) {
+            return Err(Error::from_kind(any.tag.unexpected_error(None)));
+        }
+        match any.value {
+            [] => Ok(()),
+            _ => Err(Error::from_kind(Tag::Null.length_error())),
+        }
+    }
+}
+
+impl<'a> TryFrom<AnyRef<'a>> for i8 {
+    type Error = Error;
+
+    ghost try_from_gives = { λ a r. DecodesAs ⟦<i8 as Form>⟧ ⟦<i8 as FormValue>⟧ Der (⟦<AnyRef<'a> as Tagged>⟧.tag_of a) (⟦<AnyRef<'a> as FormValue>⟧.contents a) r };
+
+    /// # Errors
+    /// (4) with no expected tag for another tag; (7) for no octets; (8) for more than 1, or a
+    /// redundant first octet.
+    fn try_from(any: AnyRef<'a>) -> Result<i8, Error> {
+        match signed_as(any, 1) {
+            Ok(integer) => Ok(integer as i8),
+            Err(e) => Err(e),
+        }
+    }
+}
+
+impl<'a> TryFrom<AnyRef<'a>> for i16 {
+    type Error = Error;
+
+    ghost try_from_gives = { λ a r. DecodesAs ⟦<i16 as Form>⟧ ⟦<i16 as FormValue>⟧ Der (⟦<AnyRef<'a> as Tagged>⟧.tag_of a) (⟦<AnyRef<'a> as FormValue>⟧.contents a) r };
+
+    /// # Errors
+    /// (4) with no expected tag for another tag; (7) for no octets; (8) for more than 2, or a
+    /// redundant first octet.
+    fn try_from(any: AnyRef<'a>) -> Result<i16, Error> {
+        match signed_as(any, 2) {
+            Ok(integer) => Ok(integer as i16),
+            Err(e) => Err(e),
+        }
+    }
+}
+
+impl<'a> TryFrom<AnyRef<'a>> for i32 {
+    type Error = Error;
+
+    ghost try_from_gives = { λ a r. DecodesAs ⟦<i32 as Form>⟧ ⟦<i32 as FormValue>⟧ Der (⟦<AnyRef<'a> as Tagged>⟧.tag_of a) (⟦<AnyRef<'a> as FormValue>⟧.contents a) r };
+
+    /// # Errors
+    /// (4) with no expected tag for another tag; (7) for no octets; (8) for more than 4, or a
+    /// redundant first octet.
+    fn try_from(any: AnyRef<'a>) -> Result<i32, Error> {
+        match signed_as(any, 4) {
+            Ok(integer) => Ok(integer as i32),
+            Err(e) => Err(e),
+        }
+    }
+}
+
+impl<'a> TryFrom<AnyRef<'a>> for i64 {
+    type Error = Error;
+
+    ghost try_from_gives = { λ a r. DecodesAs ⟦<i64 as Form>⟧ ⟦<i64 as FormValue>⟧ Der (⟦<AnyRef<'a> as Tagged>⟧.tag_of a) (⟦<AnyRef<'a> as FormValue>⟧.contents a) r };
+
+    /// # Errors
+    /// (4) with no expected tag for another tag; (7) for no octets; (8) for more than 8, or a
+    /// redundant first octet.
+    fn try_from(any: AnyRef<'a>) -> Result<i64, Error> {
+        match signed_as(any, 8) {
+            Ok(integer) => Ok(integer as i64),
+            Err(e) => Err(e),
+        }
+    }
+}
+
+impl<'a> TryFrom<AnyRef<'a>> for i128 {
+    type Error = Error;
+
+    ghost try_from_gives = { λ a r. DecodesAs ⟦<i128 as Form>⟧ ⟦<i128 as FormValue>⟧ Der (⟦<AnyRef<'a> as Tagged>⟧.tag_of a) (⟦<AnyRef<'a> as FormValue>⟧.contents a) r };
+
+    /// # Errors
+    /// (4) with no expected tag for another tag; (7) for no octets; (8) for more than 16, or a
+    /// redundant first octet.
+    fn try_from(any: AnyRef<'a>) -> Result<i128, Error> {
+        signed_as(any, 16)
+    }
+}
+
+impl<'a> TryFrom<AnyRef<'a>> for u8 {
+    type Error = Error;
+
+    ghost try_from_gives = { λ a r. DecodesAs ⟦<u8 as Form>⟧ ⟦<u8 as FormValue>⟧ Der (⟦<AnyRef<'a> as Tagged>⟧.tag_of a) (⟦<AnyRef<'a> as FormValue>⟧.contents a) r };
+
+    /// # Errors
+    /// (4) with no expected tag for another tag; (7) for no octets; (8) for more than 2, or a 00
+    /// before an octet below 80; (13) for a negative number; (7) for 2 octets of which the first
+    /// is not 00.
+    fn try_from(any: AnyRef<'a>) -> Result<u8, Error> {
+        match unsigned_as(any, 1) {
+            Ok(number) => Ok(number as u8),
+            Err(e) => Err(e),
+        }
+    }
+}
+
+impl<'a> TryFrom<AnyRef<'a>> for u16 {
+    type Error = Error;
+
+    ghost try_from_gives = { λ a r. DecodesAs ⟦<u16 as Form>⟧ ⟦<u16 as FormValue>⟧ Der (⟦<AnyRef<'a> as Tagged>⟧.tag_of a) (⟦<AnyRef<'a> as FormValue>⟧.contents a) r };
+
+    /// # Errors
+    /// (4) with no expected tag for another tag; (7) for no octets; (8) for more than 3, or a 00
+    /// before an octet below 80; (13) for a negative number; (7) for 3 octets of which the first
+    /// is not 00.
+    fn try_from(any: AnyRef<'a>) -> Result<u16, Error> {
+        match unsigned_as(any, 2) {
+            Ok(number) => Ok(number as u16),
+            Err(e) => Err(e),
+        }
+    }
+}
+
+impl<'a> TryFrom<AnyRef<'a>> for u32 {
+    type Error = Error;
+
+    ghost try_from_gives = { λ a r. DecodesAs ⟦<u32 as Form>⟧ ⟦<u32 as FormValue>⟧ Der (⟦<AnyRef<'a> as Tagged>⟧.tag_of a) (⟦<AnyRef<'a> as FormValue>⟧.contents a) r };
+
+    /// # Errors
+    /// (4) with no expected tag for another tag; (7) for no octets; (8) for more than 5, or a 00
+    /// before an octet below 80; (13) for a negative number; (7) for 5 octets of which the first
+    /// is not 00.
+    fn try_from(any: AnyRef<'a>) -> Result<u32, Error> {
+        match unsigned_as(any, 4) {
+            Ok(number) => Ok(number as u32),
+            Err(e) => Err(e),
+        }
+    }
+}
+
+impl<'a> TryFrom<AnyRef<'a>> for u64 {
+    type Error = Error;
+
+    ghost try_from_gives = { λ a r. DecodesAs ⟦<u64 as Form>⟧ ⟦<u64 as FormValue>⟧ Der (⟦<AnyRef<'a> as Tagged>⟧.tag_of a) (⟦<AnyRef<'a> as FormValue>⟧.contents a) r };
+
+    /// # Errors
+    /// (4) with no expected tag for another tag; (7) for no octets; (8) for more than 9, or a 00
+    /// before an octet below 80; (13) for a negative number; (7) for 9 octets of which the first
+    /// is not 00.
+    fn try_from(any: AnyRef<'a>) -> Result<u64, Error> {
+        match unsigned_as(any, 8) {
+            Ok(number) => Ok(number as u64),
+            Err(e) => Err(e),
+        }
+    }
+}
+
+impl<'a> TryFrom<AnyRef<'a>> for u128 {
+    type Error = Error;
+
+    ghost try_from_gives = { λ a r. DecodesAs ⟦<u128 as Form>⟧ ⟦<u128 as FormValue>⟧ Der (⟦<AnyRef<'a> as Tagged>⟧.tag_of a) (⟦<AnyRef<'a> as FormValue>⟧.contents a) r };
+
+    /// # Errors
+    /// (4) with no expected tag for another tag; (7) for no octets; (8) for more than 17, or a 00
+    /// before an octet below 80; (13) for a negative number; (7) for 17 octets of which the first
+    /// is not 00.
+    fn try_from(any: AnyRef<'a>) -> Result<u128, Error> {
+        unsigned_as(any, 16)
+    }
+}
