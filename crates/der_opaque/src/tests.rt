@@ -1,3 +1,7 @@
+mod builtin_types;
+mod conversions;
+mod real_values;
+
 use crate::{Any, AnyRef, Null, ObjectIdentifier, OctetString, OctetStringRef};
 use der_elem::{Decode, DerOrd, Duplicate, Encode, FixedTag, FromDer, Tagged};
 use der_tlv::{
@@ -50,6 +54,13 @@ fn octet_strings_are_read_under_ber(rt: HostRuntime) -> Result<(), Fail> {
     };
     let owned = OctetString::decode(alloc, &mut reader)?;
     assert_eq!(rt; owned.as_bytes(), b"Hello, world".as_slice());
+    let Ok(mut reader) = SliceReader::new_with_encoding_rules(&HELLO, EncodingRules::Ber) else {
+        panic!(rt; "refused")
+    };
+    let Ok(borrowed) = OctetStringRef::decode(alloc, &mut reader) else {
+        panic!(rt; "refused")
+    };
+    assert_eq!(rt; borrowed.as_bytes(), b"Hello, world".as_slice());
     Ok(())
 }
 
