@@ -174,7 +174,7 @@ impl Any {
         ensures tag { ⟦<AnyRef<'static> as Tagged>⟧.tag_of result ≡ ⟦<Any as Tagged>⟧.tag_of self.now }
         ensures value { ⟦<AnyRef<'static> as FormValue>⟧.contents result ≡ ⟦<Any as FormValue>⟧.contents self.now }
     {
-        self.to_ref()
+        AnyRef::from(self)
     }
 
     /// Whether this is NULL, 05 00.

@@ -65,7 +65,7 @@ impl OctetString {
     pub fn is_empty(&self) -> bool
         ensures { IsTrue result ↔ (⟦<OctetString as FormValue>⟧.contents self.now ≡ []) }
     {
-        self.octets.is_empty()
+        self.as_bytes().is_empty()
     }
 
     /// The string, borrowed.

@@ -63,7 +63,7 @@ impl<'a> OctetStringRef<'a> {
     pub fn is_empty(self) -> bool
         ensures { IsTrue result ↔ (⟦<OctetStringRef<'a> as FormValue>⟧.contents self.entry ≡ []) }
     {
-        self.octets.is_empty()
+        self.as_bytes().is_empty()
     }
 
     /// The value that the octets encode, under DER.
