@@ -19,6 +19,7 @@ use Rattle.der_elem.specs.IntegerReading.{parse_signed, parse_unsigned}
 use Rattle.der_opaque.specs.Opaque.{parse_octets}
 use Rattle.der_opaque.specs.ObjectIdentifierOctets.{parse_identifier}
 use Rattle.der_opaque.specs.AnyForm.{parse_any}
+use Rattle.der_wrap.specs.TaggedValues.{parse_explicit}
 
 -- the canonical encoding of what some octets encode as one type, or the first fault
 abbrev pub CanonicalFunction : Type 0
@@ -75,6 +76,15 @@ composed_types name =
     else if bytes_eq name (codes "opt-u8") then Some (parse_all (parse_option (λ tag. same_identifier tag Integer) (parse_tagged Integer (parse_unsigned 1))))
     else None
 
+-- explicit tagging of an octet with an application, a context-specific or a private tag, and a list of such values
+unfoldable pub tagged_types : List ℕ → Option CanonicalFunction
+tagged_types name =
+    if bytes_eq name (codes "ctx-u8") then Some (parse_all (parse_explicit 2 (parse_tagged Integer (parse_unsigned 1))))
+    else if bytes_eq name (codes "app-u8") then Some (parse_all (parse_explicit 1 (parse_tagged Integer (parse_unsigned 1))))
+    else if bytes_eq name (codes "prv-u8") then Some (parse_all (parse_explicit 3 (parse_tagged Integer (parse_unsigned 1))))
+    else if bytes_eq name (codes "vec-ctx-u8") then Some (canonical_tagged Sequence (parse_items (parse_explicit 2 (parse_tagged Integer (parse_unsigned 1)))))
+    else None
+
 -- the first of two that there is
 abbrev pub or_else : Option CanonicalFunction → Option CanonicalFunction → Option CanonicalFunction
 or_else None other = other
@@ -82,7 +92,7 @@ or_else (Some function) other = Some function
 
 -- the function of the type with a name
 unfoldable pub canonical_function_of : List ℕ → Option CanonicalFunction
-canonical_function_of name = or_else (plain_types name) (or_else (signed_types name) (or_else (unsigned_types name) (or_else (opaque_types name) (composed_types name))))
+canonical_function_of name = or_else (plain_types name) (or_else (signed_types name) (or_else (unsigned_types name) (or_else (opaque_types name) (or_else (composed_types name) (tagged_types name)))))
 
 -- the result is what the function gives, unless memory was refused
 abbrev pub Gives : Result (Vec ℕ Global) Error → Result (List ℕ) ErrorKind → Type 0

@@ -1,11 +1,12 @@
 //! The types by their names.
 ghost use Rattle.std.specs.Prelude.{◌≡◌};
 ghost use Rattle.std.specs.Str.{bytes_eq};
-ghost use Rattle.derview.specs.Names.{canonical_function_of, plain_types, signed_types, unsigned_types, opaque_types, composed_types, AnswersAs};
+ghost use Rattle.derview.specs.Names.{canonical_function_of, plain_types, signed_types, unsigned_types, opaque_types, composed_types, tagged_types, AnswersAs};
 
 use crate::canonical::canonical;
 use der_opaque::{Any, AnyRef, Null, ObjectIdentifier, OctetString, OctetStringRef};
 use der_tlv::Error;
+use der_wrap::{Application, ContextSpecific, Private};
 use std::alloc::Global;
 
 /// Takes the type that stands at the name, and answers the canonical encoding of what the octets
@@ -41,7 +42,10 @@ pub fn canonical_of_name(
     if let Some(canonical) = canonical_of_opaque(alloc, name, octets) {
         return Some(canonical);
     }
-    canonical_of_composed(alloc, name, octets)
+    if let Some(canonical) = canonical_of_composed(alloc, name, octets) {
+        return Some(canonical);
+    }
+    canonical_of_tagged(alloc, name, octets)
 }
 
 #[tactic(auto, unfolding(crate::specs::Names::plain_types))]
@@ -116,6 +120,19 @@ fn canonical_of_composed(
         "vec-anyref" => Vec<AnyRef>,
         "array2-u8" => [u8; 2],
         "opt-u8" => Option<u8>,
+    }
+}
+
+#[tactic(auto, unfolding(crate::specs::Names::tagged_types))]
+fn canonical_of_tagged(alloc: Global, name: &[u8], octets: &[u8]) -> Option<Result<Vec<u8>, Error>>
+    ensures { AnswersAs (tagged_types name.now) octets.now result }
+{
+    choose! {
+        alloc, name, octets;
+        "ctx-u8" => ContextSpecific<u8>,
+        "app-u8" => Application<u8>,
+        "prv-u8" => Private<u8>,
+        "vec-ctx-u8" => Vec<ContextSpecific<u8>>,
     }
 }
 
