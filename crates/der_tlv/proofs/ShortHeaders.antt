@@ -1,5 +1,5 @@
 -- Headers of two octets.
-use Rattle.std.proofs.Common.{◌≡◌, ℕ, ◌<◌, List, [], ◌∷◌, ◌++◌, refl, ap, ◌∙◌}
+use Rattle.std.proofs.Common.{◌≡◌, ℕ, ◌<◌, [], ◌∷◌, ◌++◌, refl, ap, ◌∙◌}
 use Rattle.der_tlv.specs.declared.tag.Tag.{Tag}
 use Rattle.der_tlv.specs.TagParts.{class_of, is_constructed, number_of}
 use Rattle.der_tlv.specs.Identifier.{first_octet}
