@@ -33,18 +33,18 @@ abbrev pub DecodesAs : {T : Type 0} → form.Ghosts T → value.Ghosts T → Enc
 DecodesAs C F rules t octets (Ok v) = DecodedAs C F rules t octets v
 DecodesAs C F rules t octets (Err e) = ((e.kind ≡ Memory) × (F.VALUE_TAKES_MEMORY ≡ true) × (C.tags t ≡ true)) ⊎ NotDecodedAs C F rules t octets e.kind
 
--- the same of a type with one tag, of which each value within a range is read from its own contents octets
+-- the same under DER, of a type with one tag of which each value within a range is read from its own contents octets alone
 pub record OwnDecodedAs {T : Type 0} (own : Tag) (contents : T → List ℕ) (Within : T → Type 0) (parse : ContentsParse) (t : Tag) (octets : List ℕ) (v : T) : Type 0 where
   pub allowed : same_identifier t own ≡ true
   pub parsed : parse Der 0 octets ≡ Ok (contents v)
   pub accepted : accepts_within contents Within Der v octets
 
--- and the first fault
+-- the first fault, and no value within the range has the tag and these contents octets
 pub record OwnNotDecodedAs {T : Type 0} (own : Tag) (contents : T → List ℕ) (Within : T → Type 0) (parse : ContentsParse) (t : Tag) (octets : List ℕ) (kind : ErrorKind) : Type 0 where
   pub fault : parse_as (λ u. same_identifier u own) parse Der t octets ≡ Err kind
   pub nothing : same_identifier t own ≡ true → (w : T) → accepts_within contents Within Der w octets → ⊥
 
--- what decoding such contents octets answers, with no memory
+-- what decoding contents octets as such a type answers, with no memory: the value, or the first fault
 abbrev pub DecodesOwnAs : {T : Type 0} → Tag → (T → List ℕ) → (T → Type 0) → ContentsParse → Tag → List ℕ → Result T Error → Type 0
 DecodesOwnAs own contents Within parse t octets (Ok v) = OwnDecodedAs own contents Within parse t octets v
 DecodesOwnAs own contents Within parse t octets (Err e) = OwnNotDecodedAs own contents Within parse t octets e.kind

@@ -58,6 +58,8 @@ impl<'a> TryFrom<AnyRef<'a>> for bool {
 
     ghost try_from_gives = { λ a r. DecodesAs ⟦<bool as Form>⟧ ⟦<bool as FormValue>⟧ Der (⟦<AnyRef<'a> as Tagged>⟧.tag_of a) (⟦<AnyRef<'a> as FormValue>⟧.contents a) r };
 
+    /// The truth value that one contents octet is, under DER: 00 for false, FF for true.
+    ///
     /// # Errors
     /// (4) with no expected tag for another tag; (7) unless there is one contents octet; (8) for any
     /// octet but 00 and FF.
@@ -79,6 +81,8 @@ impl<'a> TryFrom<AnyRef<'a>> for () {
 
     ghost try_from_gives = { λ a r. DecodesAs ⟦<() as Form>⟧ ⟦<() as FormValue>⟧ Der (⟦<AnyRef<'a> as Tagged>⟧.tag_of a) (⟦<AnyRef<'a> as FormValue>⟧.contents a) r };
 
+    /// The value of NULL, of no contents octets.
+    ///
     /// # Errors
     /// (4) with no expected tag for another tag; (7) for any contents octets.
     fn try_from(any: AnyRef<'a>) -> Result<(), Error> {
@@ -97,6 +101,8 @@ impl<'a> TryFrom<AnyRef<'a>> for i8 {
 
     ghost try_from_gives = { λ a r. DecodesAs ⟦<i8 as Form>⟧ ⟦<i8 as FormValue>⟧ Der (⟦<AnyRef<'a> as Tagged>⟧.tag_of a) (⟦<AnyRef<'a> as FormValue>⟧.contents a) r };
 
+    /// The integer that the contents octets are the two's complement of, under DER.
+    ///
     /// # Errors
     /// (4) with no expected tag for another tag; (7) for no octets; (8) for more than 1, or a
     /// redundant first octet.
@@ -113,6 +119,8 @@ impl<'a> TryFrom<AnyRef<'a>> for i16 {
 
     ghost try_from_gives = { λ a r. DecodesAs ⟦<i16 as Form>⟧ ⟦<i16 as FormValue>⟧ Der (⟦<AnyRef<'a> as Tagged>⟧.tag_of a) (⟦<AnyRef<'a> as FormValue>⟧.contents a) r };
 
+    /// The integer that the contents octets are the two's complement of, under DER.
+    ///
     /// # Errors
     /// (4) with no expected tag for another tag; (7) for no octets; (8) for more than 2, or a
     /// redundant first octet.
@@ -129,6 +137,8 @@ impl<'a> TryFrom<AnyRef<'a>> for i32 {
 
     ghost try_from_gives = { λ a r. DecodesAs ⟦<i32 as Form>⟧ ⟦<i32 as FormValue>⟧ Der (⟦<AnyRef<'a> as Tagged>⟧.tag_of a) (⟦<AnyRef<'a> as FormValue>⟧.contents a) r };
 
+    /// The integer that the contents octets are the two's complement of, under DER.
+    ///
     /// # Errors
     /// (4) with no expected tag for another tag; (7) for no octets; (8) for more than 4, or a
     /// redundant first octet.
@@ -145,6 +155,8 @@ impl<'a> TryFrom<AnyRef<'a>> for i64 {
 
     ghost try_from_gives = { λ a r. DecodesAs ⟦<i64 as Form>⟧ ⟦<i64 as FormValue>⟧ Der (⟦<AnyRef<'a> as Tagged>⟧.tag_of a) (⟦<AnyRef<'a> as FormValue>⟧.contents a) r };
 
+    /// The integer that the contents octets are the two's complement of, under DER.
+    ///
     /// # Errors
     /// (4) with no expected tag for another tag; (7) for no octets; (8) for more than 8, or a
     /// redundant first octet.
@@ -161,6 +173,8 @@ impl<'a> TryFrom<AnyRef<'a>> for i128 {
 
     ghost try_from_gives = { λ a r. DecodesAs ⟦<i128 as Form>⟧ ⟦<i128 as FormValue>⟧ Der (⟦<AnyRef<'a> as Tagged>⟧.tag_of a) (⟦<AnyRef<'a> as FormValue>⟧.contents a) r };
 
+    /// The integer that the contents octets are the two's complement of, under DER.
+    ///
     /// # Errors
     /// (4) with no expected tag for another tag; (7) for no octets; (8) for more than 16, or a
     /// redundant first octet.
@@ -174,6 +188,9 @@ impl<'a> TryFrom<AnyRef<'a>> for u8 {
 
     ghost try_from_gives = { λ a r. DecodesAs ⟦<u8 as Form>⟧ ⟦<u8 as FormValue>⟧ Der (⟦<AnyRef<'a> as Tagged>⟧.tag_of a) (⟦<AnyRef<'a> as FormValue>⟧.contents a) r };
 
+    /// The number that the contents octets are, with a 00 before a first octet of 80 or more, under
+    /// DER.
+    ///
     /// # Errors
     /// (4) with no expected tag for another tag; (7) for no octets; (8) for more than 2, or a 00
     /// before an octet below 80; (13) for a negative number; (7) for 2 octets of which the first
@@ -191,6 +208,9 @@ impl<'a> TryFrom<AnyRef<'a>> for u16 {
 
     ghost try_from_gives = { λ a r. DecodesAs ⟦<u16 as Form>⟧ ⟦<u16 as FormValue>⟧ Der (⟦<AnyRef<'a> as Tagged>⟧.tag_of a) (⟦<AnyRef<'a> as FormValue>⟧.contents a) r };
 
+    /// The number that the contents octets are, with a 00 before a first octet of 80 or more, under
+    /// DER.
+    ///
     /// # Errors
     /// (4) with no expected tag for another tag; (7) for no octets; (8) for more than 3, or a 00
     /// before an octet below 80; (13) for a negative number; (7) for 3 octets of which the first
@@ -208,6 +228,9 @@ impl<'a> TryFrom<AnyRef<'a>> for u32 {
 
     ghost try_from_gives = { λ a r. DecodesAs ⟦<u32 as Form>⟧ ⟦<u32 as FormValue>⟧ Der (⟦<AnyRef<'a> as Tagged>⟧.tag_of a) (⟦<AnyRef<'a> as FormValue>⟧.contents a) r };
 
+    /// The number that the contents octets are, with a 00 before a first octet of 80 or more, under
+    /// DER.
+    ///
     /// # Errors
     /// (4) with no expected tag for another tag; (7) for no octets; (8) for more than 5, or a 00
     /// before an octet below 80; (13) for a negative number; (7) for 5 octets of which the first
@@ -225,6 +248,9 @@ impl<'a> TryFrom<AnyRef<'a>> for u64 {
 
     ghost try_from_gives = { λ a r. DecodesAs ⟦<u64 as Form>⟧ ⟦<u64 as FormValue>⟧ Der (⟦<AnyRef<'a> as Tagged>⟧.tag_of a) (⟦<AnyRef<'a> as FormValue>⟧.contents a) r };
 
+    /// The number that the contents octets are, with a 00 before a first octet of 80 or more, under
+    /// DER.
+    ///
     /// # Errors
     /// (4) with no expected tag for another tag; (7) for no octets; (8) for more than 9, or a 00
     /// before an octet below 80; (13) for a negative number; (7) for 9 octets of which the first
@@ -242,6 +268,9 @@ impl<'a> TryFrom<AnyRef<'a>> for u128 {
 
     ghost try_from_gives = { λ a r. DecodesAs ⟦<u128 as Form>⟧ ⟦<u128 as FormValue>⟧ Der (⟦<AnyRef<'a> as Tagged>⟧.tag_of a) (⟦<AnyRef<'a> as FormValue>⟧.contents a) r };
 
+    /// The number that the contents octets are, with a 00 before a first octet of 80 or more, under
+    /// DER.
+    ///
     /// # Errors
     /// (4) with no expected tag for another tag; (7) for no octets; (8) for more than 17, or a 00
     /// before an octet below 80; (13) for a negative number; (7) for 17 octets of which the first
