@@ -1,0 +1,34 @@
+//! Strings of characters that have one octet each: PrintableString, IA5String, TeletexString and
+//! VideotexString (X.690 8.23).
+#![tactic(auto)]
+
+mod characters;
+mod string;
+mod string_ref;
+
+pub use string::CharacterString;
+pub use string_ref::CharacterStringRef;
+
+/// PrintableString, borrowed: letters, digits, space and ' ( ) + , - . / : = ? (X.680 41.4).
+pub type PrintableStringRef<'a> = CharacterStringRef<'a, 19>;
+
+/// PrintableString: letters, digits, space and ' ( ) + , - . / : = ? (X.680 41.4).
+pub type PrintableString = CharacterString<19>;
+
+/// TeletexString, borrowed: the octets 00 to 7F.
+pub type TeletexStringRef<'a> = CharacterStringRef<'a, 20>;
+
+/// TeletexString: the octets 00 to 7F.
+pub type TeletexString = CharacterString<20>;
+
+/// VideotexString, borrowed: the octets 00 to 7F.
+pub type VideotexStringRef<'a> = CharacterStringRef<'a, 21>;
+
+/// IA5String, borrowed: the octets 00 to 7F.
+pub type Ia5StringRef<'a> = CharacterStringRef<'a, 22>;
+
+/// IA5String: the octets 00 to 7F.
+pub type Ia5String = CharacterString<22>;
+
+#[cfg(test)]
+mod tests;

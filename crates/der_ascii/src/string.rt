@@ -1,0 +1,244 @@
+//! Strings of characters that have one octet each (X.680 41, X.690 8.23).
+//!
+//! The contents octets are the characters. Reading refuses any octet that is no character of the
+//! type (13), and then where memory runs out (1).
+
+ghost use Rattle.std.specs.Prelude.{◌≡◌, ◌↔◌, ◌^◌, ◌<◌, ℕ, List, [], Some, length, true, false, refl, IsTrue, IfOk, IfErr};
+ghost use Rattle.std.proofs.Common.{ap, sym};
+ghost use Rattle.std.specs.Cmp.Lexicographic.{bytes_decides};
+ghost use Rattle.std.specs.String.{string_bytes};
+ghost use Rattle.der_opaque.specs.Opaque.{accepts_octets};
+ghost use Rattle.der_ascii.specs.Characters.{are_characters, string_tag, parse_string, KeepsOwnedString, KeepsString};
+ghost use Rattle.der_ascii.specs.StringLaws.{parse_of_characters, string_tag-in_range};
+
+use crate::characters::{are_characters, string_tag};
+use crate::string_ref::CharacterStringRef;
+use der_elem::{
+    ContentsEq, DecodeValue, DuplicateValue, EncodeValue, FixedTag, FormValue, OrdIsValueOrd,
+    Tagged, ValueMemory, WithMemory,
+};
+use der_opaque::AnyRef;
+use der_tlv::{Error, ErrorKind, Header, Length, Reader, Tag, Writer};
+use std::alloc::{AllocError, Global};
+use std::fmt;
+
+/// Characters of the type with a universal number: at most 4294967295 of them.
+#[derive(Drop, PartialEq, Eq, PartialOrd, Ord, Hash)]
+pub struct CharacterString<const NUMBER: u8> {
+    pub(crate) text: String,
+    ghost short: { length (string_bytes text) < 2 ^ 32 },
+    ghost characters: { are_characters NUMBER (string_bytes text) ≡ true },
+}
+
+impl<const NUMBER: u8> CharacterString<NUMBER> {
+    /// A string of these characters, copied.
+    ///
+    /// # Errors
+    /// (13) for an octet that is no character of the type, and for more than 4294967295 octets; (1)
+    /// where memory runs out.
+    pub fn new(alloc: Global, octets: &[u8]) -> Result<CharacterString<NUMBER>, Error>
+        ensures { KeepsOwnedString ⟦<CharacterString<NUMBER> as FormValue>⟧.contents NUMBER octets.now result }
+    {
+        match CharacterStringRef::<NUMBER>::new(octets) {
+            Ok(string) => string.ref_to_owned(alloc),
+            Err(e) => Err(e),
+        }
+    }
+
+    /// The text.
+    pub fn as_str(&self) -> &str
+        ensures { result.now ≡ ⟦<CharacterString<NUMBER> as FormValue>⟧.contents self.now }
+    {
+        self.text.as_str()
+    }
+
+    /// The octets.
+    pub fn as_bytes(&self) -> &[u8]
+        ensures { result.now ≡ ⟦<CharacterString<NUMBER> as FormValue>⟧.contents self.now }
+    {
+        self.text.as_bytes()
+    }
+
+    /// How many octets there are.
+    pub fn len(&self) -> Length
+        ensures { result ≡ length (⟦<CharacterString<NUMBER> as FormValue>⟧.contents self.now) }
+    {
+        Length::new(self.text.len() as u32)
+    }
+
+    /// Whether there are none.
+    pub fn is_empty(&self) -> bool
+        ensures { IsTrue result ↔ (⟦<CharacterString<NUMBER> as FormValue>⟧.contents self.now ≡ []) }
+    {
+        self.as_bytes().is_empty()
+    }
+
+    /// The string, borrowed.
+    pub fn owned_to_ref(&self) -> CharacterStringRef<'_, NUMBER>
+        ensures { ⟦<CharacterStringRef<'static, NUMBER> as FormValue>⟧.contents result ≡ ⟦<CharacterString<NUMBER> as FormValue>⟧.contents self.now }
+    {
+        CharacterStringRef {
+            text: self.as_str(),
+        }
+    }
+}
+
+impl<const NUMBER: u8> Clone for CharacterString<NUMBER> {
+    ghost is_clone = { λ v w. ⟦<CharacterString<NUMBER> as FormValue>⟧.contents w ≡ ⟦<CharacterString<NUMBER> as FormValue>⟧.contents v };
+
+    fn clone(&self) -> Result<CharacterString<NUMBER>, AllocError> {
+        let text = self.text.clone()?;
+        Ok(CharacterString { text })
+    }
+}
+
+impl<const NUMBER: u8> fmt::Display for CharacterString<NUMBER> {
+    ghost output = { λ s. Some (string_bytes s.text) };
+
+    fn fmt<W: fmt::Write>(&self, f: &mut fmt::Formatter<W>) -> fmt::Result {
+        f.write_str(self.as_str())
+    }
+}
+
+impl<const NUMBER: u8> fmt::Debug for CharacterString<NUMBER> {
+    fn fmt<W: fmt::Write>(&self, f: &mut fmt::Formatter<W>) -> fmt::Result {
+        let string = self.owned_to_ref();
+        write!(f, "{string:?}")
+    }
+}
+
+impl<const NUMBER: u8> FormValue for CharacterString<NUMBER> {
+    ghost contents = { λ v. (string_bytes v.text) };
+
+    ghost one_form_value = { λ v w. Unit {0} };
+
+    ghost re_reads_value = { λ v. false };
+
+    ghost accepts_value = { accepts_octets (λ v. (string_bytes v.text)) };
+
+    ghost parse_value = { parse_string NUMBER };
+
+    ghost readable_value = { λ v. Unit {0} };
+
+    ghost has_tag = { λ v t. Unit {0} };
+
+    ghost VALUE_TAKES_MEMORY = { true };
+
+    ghost parse_of_accepted_value = { λ rules v p c a fits. parse_of_characters NUMBER rules p (string_bytes v.text) c v.characters a };
+
+    ghost same_length_value = { λ rules v c a. ap length (sym a) };
+
+    ghost accepts_contents = { λ rules v r. refl };
+
+    ghost only_readable_value = { λ rules v c a. tt };
+
+    ghost accepts_one_form_value = { λ rules v w c d a b. tt };
+
+    ghost re_reads_memory_value = { λ v e. refl };
+}
+
+impl<const NUMBER: u8> ValueMemory for CharacterString<NUMBER> {
+    type OfValue = WithMemory;
+
+    ghost memory_of_value = { refl };
+}
+
+impl<const NUMBER: u8> FixedTag for CharacterString<NUMBER> {
+    ghost TAG = { string_tag NUMBER };
+
+    const TAG: Tag = match NUMBER {
+        19 => Tag::PrintableString,
+        20 => Tag::TeletexString,
+        21 => Tag::VideotexString,
+        _ => Tag::Ia5String,
+    };
+
+    ghost tag_in_range = { string_tag-in_range NUMBER };
+}
+
+impl<'a, R: Reader<'a>, const NUMBER: u8> DecodeValue<'a, R> for CharacterString<NUMBER> {
+    fn decode_value(
+        alloc: Global,
+        reader: &mut R,
+        header: Header,
+    ) -> Result<CharacterString<NUMBER>, Error> {
+        match CharacterStringRef::<NUMBER>::decode_value(alloc, reader, header) {
+            Ok(string) => match string.ref_to_owned(alloc) {
+                Ok(string) => Ok(string),
+                Err(e) => Err(reader.error(e.kind)),
+            },
+            Err(e) => Err(e),
+        }
+    }
+}
+
+impl<const NUMBER: u8> EncodeValue for CharacterString<NUMBER> {
+    fn value_len(&self) -> Result<Length, Error> {
+        Ok(self.len())
+    }
+
+    fn encode_value<W: Writer>(&self, writer: &mut W) -> Result<(), Error> {
+        writer.write(self.as_bytes())
+    }
+}
+
+impl<const NUMBER: u8> OrdIsValueOrd for CharacterString<NUMBER> {
+    ghost ord_is_value_ord = { λ v w. refl };
+}
+
+impl<const NUMBER: u8> ContentsEq for CharacterString<NUMBER> {
+    ghost contents_eq = { λ v w one. bytes_decides (string_bytes v.text) (string_bytes w.text) };
+}
+
+impl<const NUMBER: u8> DuplicateValue for CharacterString<NUMBER> {
+    ghost is_copy_value = { λ v w. (string_bytes w.text) ≡ (string_bytes v.text) };
+
+    ghost takes_memory_to_copy_value = { true };
+
+    fn duplicate_value(&self) -> Result<CharacterString<NUMBER>, Error> {
+        match self.clone() {
+            Ok(copy) => Ok(copy),
+            Err(_) => Err(Error::from_kind(ErrorKind::Memory)),
+        }
+    }
+
+    ghost copy_contents = { λ v w e. e };
+
+    ghost copy_form_value = { λ v w x e f. tt };
+
+    ghost copy_re_reads_value = { λ v w e. refl };
+}
+
+impl<'a, const NUMBER: u8> From<&'a CharacterString<NUMBER>> for CharacterStringRef<'a, NUMBER> {
+    ghost from_gives = { λ s r. ⟦<CharacterStringRef<'a, NUMBER> as FormValue>⟧.contents r ≡ ⟦<CharacterString<NUMBER> as FormValue>⟧.contents s.now };
+
+    fn from(string: &'a CharacterString<NUMBER>) -> CharacterStringRef<'a, NUMBER> {
+        string.owned_to_ref()
+    }
+}
+
+impl<'a, const NUMBER: u8> From<&'a CharacterString<NUMBER>> for AnyRef<'a> {
+    ghost from_gives = { λ s a. (⟦<AnyRef<'a> as Tagged>⟧.tag_of a ≡ string_tag NUMBER) × (⟦<AnyRef<'a> as FormValue>⟧.contents a ≡ ⟦<CharacterString<NUMBER> as FormValue>⟧.contents s.now) };
+
+    fn from(string: &'a CharacterString<NUMBER>) -> AnyRef<'a> {
+        AnyRef::from(string.owned_to_ref())
+    }
+}
+
+impl<const NUMBER: u8> TryFrom<String> for CharacterString<NUMBER> {
+    type Error = Error;
+
+    ghost try_from_gives = { λ s r. KeepsString ⟦<CharacterString<NUMBER> as FormValue>⟧.contents NUMBER (string_bytes s) r };
+
+    /// # Errors
+    /// (13) for an octet that is no character of the type, and for more than 4294967295 octets.
+    fn try_from(text: String) -> Result<CharacterString<NUMBER>, Error> {
+        if !are_characters(NUMBER, text.as_bytes()) {
+            return Err(Error::from_kind(string_tag(NUMBER).value_error()));
+        }
+        match Length::of(text.len()) {
+            Ok(_) => Ok(CharacterString { text }),
+            Err(_) => Err(Error::from_kind(string_tag(NUMBER).value_error())),
+        }
+    }
+}

@@ -1,0 +1,255 @@
+//! Borrowed strings of characters that have one octet each (X.680 41, X.690 8.23).
+//!
+//! The contents octets are the characters: the PrintableString `hi` is encoded as 13 02 68 69.
+//! Reading refuses any octet that is no character of the type (13).
+
+ghost use Rattle.std.specs.Prelude.{◌≡◌, ◌↔◌, ◌^◌, ◌<◌, ℕ, List, [], Some, length, true, false, refl, IsTrue, IfOk, IfErr};
+ghost use Rattle.std.proofs.Common.{ap, sym};
+ghost use Rattle.std.specs.Cmp.Lexicographic.{bytes_decides};
+ghost use Rattle.std.specs.String.{string_bytes};
+ghost use Rattle.der_tlv.specs.declared.error.ErrorKind.TheVariants as kinds;
+ghost use Rattle.der_tlv.specs.declared.encoding_rules.EncodingRules.TheVariants.{Der};
+ghost use Rattle.der_opaque.specs.DecodingAs.{DecodesAs};
+ghost use Rattle.der_opaque.specs.Opaque.{accepts_octets};
+ghost use Rattle.der_ascii.specs.Characters.{are_characters, string_tag, parse_string, KeepsString};
+ghost use Rattle.der_ascii.specs.StringLaws.{parse_of_characters};
+
+use crate::characters::{string_tag, text_of};
+use crate::string::CharacterString;
+use der_elem::{
+    ContentsEq, DecodeValue, DuplicateValue, EncodeValue, Form, FormValue, OrdIsValueOrd, SameTag,
+    Tagged, ValueMemory, WithoutMemory,
+};
+use der_opaque::{Any, AnyRef};
+use der_tlv::{Error, ErrorKind, Header, Length, Reader, Writer};
+use std::alloc::Global;
+use std::fmt;
+
+/// Characters of the type with a universal number, borrowed: at most 4294967295 of them.
+#[derive(Clone, Copy, PartialEq, Eq, PartialOrd, Ord, Hash)]
+pub struct CharacterStringRef<'a, const NUMBER: u8> {
+    pub(crate) text: &'a str,
+    ghost short: { length text.now < 2 ^ 32 },
+    ghost characters: { are_characters NUMBER text.now ≡ true },
+}
+
+impl<'a, const NUMBER: u8> CharacterStringRef<'a, NUMBER> {
+    /// A string of these characters.
+    ///
+    /// # Errors
+    /// (13) for an octet that is no character of the type, and for more than 4294967295 octets.
+    pub fn new(octets: &'a [u8]) -> Result<CharacterStringRef<'a, NUMBER>, Error>
+        ensures { KeepsString ⟦<CharacterStringRef<'a, NUMBER> as FormValue>⟧.contents NUMBER octets.now result }
+    {
+        match text_of(NUMBER, octets) {
+            Ok(text) => match Length::of(octets.len()) {
+                Ok(_) => Ok(CharacterStringRef { text }),
+                Err(_) => Err(Error::from_kind(string_tag(NUMBER).value_error())),
+            },
+            Err(kind) => Err(Error::from_kind(kind)),
+        }
+    }
+
+    /// The text.
+    pub fn as_str(self) -> &'a str
+        ensures { result.now ≡ ⟦<CharacterStringRef<'a, NUMBER> as FormValue>⟧.contents self.entry }
+    {
+        self.text
+    }
+
+    /// The octets.
+    pub fn as_bytes(self) -> &'a [u8]
+        ensures { result.now ≡ ⟦<CharacterStringRef<'a, NUMBER> as FormValue>⟧.contents self.entry }
+    {
+        self.text.as_bytes()
+    }
+
+    /// How many octets there are.
+    pub fn len(self) -> Length
+        ensures { result ≡ length (⟦<CharacterStringRef<'a, NUMBER> as FormValue>⟧.contents self.entry) }
+    {
+        Length::new(self.text.len() as u32)
+    }
+
+    /// Whether there are none.
+    pub fn is_empty(self) -> bool
+        ensures { IsTrue result ↔ (⟦<CharacterStringRef<'a, NUMBER> as FormValue>⟧.contents self.entry ≡ []) }
+    {
+        self.as_bytes().is_empty()
+    }
+
+    /// The string, copied.
+    ///
+    /// # Errors
+    /// (1) where memory runs out.
+    pub fn ref_to_owned(self, alloc: Global) -> Result<CharacterString<NUMBER>, Error>
+        ensures value { IfOk result (λ s. ⟦<CharacterString<NUMBER> as FormValue>⟧.contents s ≡ ⟦<CharacterStringRef<'a, NUMBER> as FormValue>⟧.contents self.entry) }
+        ensures err { IfErr result (λ e. e.kind ≡ kinds.Memory) }
+    {
+        match String::from_str(alloc, self.text) {
+            Ok(text) => Ok(CharacterString { text }),
+            Err(_) => Err(Error::from_kind(ErrorKind::Memory)),
+        }
+    }
+}
+
+impl<'a, const NUMBER: u8> fmt::Display for CharacterStringRef<'a, NUMBER> {
+    ghost output = { λ s. Some s.text.now };
+
+    fn fmt<W: fmt::Write>(&self, f: &mut fmt::Formatter<W>) -> fmt::Result {
+        f.write_str(self.text)
+    }
+}
+
+impl<'a, const NUMBER: u8> fmt::Debug for CharacterStringRef<'a, NUMBER> {
+    fn fmt<W: fmt::Write>(&self, f: &mut fmt::Formatter<W>) -> fmt::Result {
+        write!(f, "{:?}({:?})", string_tag(NUMBER), self.text)
+    }
+}
+
+impl<'a, const NUMBER: u8> FormValue for CharacterStringRef<'a, NUMBER> {
+    ghost contents = { λ v. v.text.now };
+
+    ghost one_form_value = { λ v w. Unit {0} };
+
+    ghost re_reads_value = { λ v. false };
+
+    ghost accepts_value = { accepts_octets (λ v. v.text.now) };
+
+    ghost parse_value = { parse_string NUMBER };
+
+    ghost readable_value = { λ v. Unit {0} };
+
+    ghost has_tag = { λ v t. Unit {0} };
+
+    ghost VALUE_TAKES_MEMORY = { false };
+
+    ghost parse_of_accepted_value = { λ rules v p c a fits. parse_of_characters NUMBER rules p v.text.now c v.characters a };
+
+    ghost same_length_value = { λ rules v c a. ap length (sym a) };
+
+    ghost accepts_contents = { λ rules v r. refl };
+
+    ghost only_readable_value = { λ rules v c a. tt };
+
+    ghost accepts_one_form_value = { λ rules v w c d a b. tt };
+
+    ghost re_reads_memory_value = { λ v e. e };
+}
+
+impl<'a, const NUMBER: u8> ValueMemory for CharacterStringRef<'a, NUMBER> {
+    type OfValue = WithoutMemory;
+
+    ghost memory_of_value = { refl };
+}
+
+impl<'a, const NUMBER: u8> SameTag for CharacterStringRef<'a, NUMBER> {
+    type As = CharacterString<NUMBER>;
+}
+
+impl<'a, R: Reader<'a>, const NUMBER: u8> DecodeValue<'a, R> for CharacterStringRef<'a, NUMBER> {
+    fn decode_value(
+        _alloc: Global,
+        reader: &mut R,
+        header: Header,
+    ) -> Result<CharacterStringRef<'a, NUMBER>, Error> {
+        let octets = reader.read_slice(header.length)?;
+        match text_of(NUMBER, octets) {
+            Ok(text) => Ok(CharacterStringRef { text }),
+            Err(kind) => Err(reader.error(kind)),
+        }
+    }
+}
+
+impl<'a, const NUMBER: u8> EncodeValue for CharacterStringRef<'a, NUMBER> {
+    fn value_len(&self) -> Result<Length, Error> {
+        Ok(self.len())
+    }
+
+    fn encode_value<W: Writer>(&self, writer: &mut W) -> Result<(), Error> {
+        writer.write(self.as_bytes())
+    }
+}
+
+impl<'a, const NUMBER: u8> OrdIsValueOrd for CharacterStringRef<'a, NUMBER> {
+    ghost ord_is_value_ord = { λ v w. refl };
+}
+
+impl<'a, const NUMBER: u8> ContentsEq for CharacterStringRef<'a, NUMBER> {
+    ghost contents_eq = { λ v w one. bytes_decides v.text.now w.text.now };
+}
+
+impl<'a, const NUMBER: u8> DuplicateValue for CharacterStringRef<'a, NUMBER> {
+    ghost is_copy_value = { λ v w. w.text.now ≡ v.text.now };
+
+    ghost takes_memory_to_copy_value = { false };
+
+    fn duplicate_value(&self) -> Result<CharacterStringRef<'a, NUMBER>, Error> {
+        Ok(*self)
+    }
+
+    ghost copy_contents = { λ v w e. e };
+
+    ghost copy_form_value = { λ v w x e f. tt };
+
+    ghost copy_re_reads_value = { λ v w e. refl };
+}
+
+impl<'a, const NUMBER: u8> From<&CharacterStringRef<'a, NUMBER>>
+    for CharacterStringRef<'a, NUMBER> {
+    ghost from_gives = { λ s r. ⟦<CharacterStringRef<'a, NUMBER> as FormValue>⟧.contents r ≡ ⟦<CharacterStringRef<'a, NUMBER> as FormValue>⟧.contents s.now };
+
+    fn from(string: &CharacterStringRef<'a, NUMBER>) -> CharacterStringRef<'a, NUMBER> {
+        *string
+    }
+}
+
+impl<'a, const NUMBER: u8> From<CharacterStringRef<'a, NUMBER>> for AnyRef<'a> {
+    ghost from_gives = { λ s a. (⟦<AnyRef<'a> as Tagged>⟧.tag_of a ≡ string_tag NUMBER) × (⟦<AnyRef<'a> as FormValue>⟧.contents a ≡ ⟦<CharacterStringRef<'a, NUMBER> as FormValue>⟧.contents s) };
+
+    fn from(string: CharacterStringRef<'a, NUMBER>) -> AnyRef<'a> {
+        match AnyRef::new(string_tag(NUMBER), string.as_bytes()) {
+            Ok(any) => any,
+            Err(_) => unreachable!(),
+        }
+    }
+}
+
+impl<'a, const NUMBER: u8> From<CharacterStringRef<'a, NUMBER>> for &'a [u8] {
+    ghost from_gives = { λ s o. o.now ≡ ⟦<CharacterStringRef<'a, NUMBER> as FormValue>⟧.contents s };
+
+    fn from(string: CharacterStringRef<'a, NUMBER>) -> &'a [u8] {
+        string.as_bytes()
+    }
+}
+
+impl<'a, const NUMBER: u8> TryFrom<AnyRef<'a>> for CharacterStringRef<'a, NUMBER> {
+    type Error = Error;
+
+    ghost try_from_gives = { λ a r. DecodesAs ⟦<CharacterStringRef<'a, NUMBER> as Form>⟧ ⟦<CharacterStringRef<'a, NUMBER> as FormValue>⟧ Der (⟦<AnyRef<'a> as Tagged>⟧.tag_of a) (⟦<AnyRef<'a> as FormValue>⟧.contents a) r };
+
+    /// # Errors
+    /// (4) with no expected tag for another tag; (13) for an octet that is no character of the type.
+    fn try_from(any: AnyRef<'a>) -> Result<CharacterStringRef<'a, NUMBER>, Error> {
+        let tag = any.tag();
+        if !tag.is(string_tag(NUMBER)) {
+            return Err(Error::from_kind(tag.unexpected_error(None)));
+        }
+        match CharacterStringRef::new(any.value()) {
+            Ok(string) => Ok(string),
+            Err(e) => Err(e),
+        }
+    }
+}
+
+impl<'a, const NUMBER: u8> TryFrom<&'a Any> for CharacterStringRef<'a, NUMBER> {
+    type Error = Error;
+
+    ghost try_from_gives = { λ a r. DecodesAs ⟦<CharacterStringRef<'a, NUMBER> as Form>⟧ ⟦<CharacterStringRef<'a, NUMBER> as FormValue>⟧ Der (⟦<Any as Tagged>⟧.tag_of a.now) (⟦<Any as FormValue>⟧.contents a.now) r };
+
+    /// # Errors
+    /// (4) with no expected tag for another tag; (13) for an octet that is no character of the type.
+    fn try_from(any: &'a Any) -> Result<CharacterStringRef<'a, NUMBER>, Error> {
+        CharacterStringRef::try_from(any.to_ref())
+    }
+}
