@@ -1,0 +1,55 @@
+-- INTEGER at any number of contents octets (X.690 8.3): what contents octets are read as, and what octets are kept as.
+use Rattle.std.specs.Prelude.{◌≡◌, ℕ, ◌<◌, ◌≤◌, ◌^◌, ◌==◌, nat_le, if◌then◌else◌, List, [], ◌∷◌, length, Bool, false, ◌⊎◌, Result, Ok, Err}
+use Rattle.der_tlv.specs.declared.error.ErrorKind.{ErrorKind}
+use Rattle.der_tlv.specs.declared.error.ErrorKind.TheVariants as kinds
+use Rattle.der_tlv.specs.declared.error.Error.{Error}
+use Rattle.der_tlv.specs.declared.tag.Tag.TheVariants.{Integer}
+use Rattle.der_elem.specs.Parsing.{ContentsParse}
+use Rattle.der_elem.specs.Integer.{is_redundant}
+use Rattle.der_elem.specs.IntegerReading.{has_needless_zero}
+
+-- no octets, or a redundant first octet (8)
+abbrev pub integer_or_fault : List ℕ → Result (List ℕ) ErrorKind
+integer_or_fault [] = Err (kinds.Noncanonical Integer)
+integer_or_fault (first ∷ others) = if is_redundant (first ∷ others) then Err (kinds.Noncanonical Integer) else Ok (first ∷ others)
+
+-- of a number that is not negative: no octets, or a needless 00 (8); a negative number (13)
+abbrev pub natural_or_fault : List ℕ → Result (List ℕ) ErrorKind
+natural_or_fault [] = Err (kinds.Noncanonical Integer)
+natural_or_fault (first ∷ others) =
+    if has_needless_zero (first ∷ others) then Err (kinds.Noncanonical Integer)
+    else (if nat_le 128 first then Err (kinds.Value Integer) else Ok (first ∷ others))
+
+-- the same as a parse of contents octets, under all rules and at every position
+abbrev pub parse_integer : ContentsParse
+parse_integer rules p octets = integer_or_fault octets
+
+-- the same of a number that is not negative
+abbrev pub parse_natural : ContentsParse
+parse_natural rules p octets = natural_or_fault octets
+
+-- what contents octets are taken as: a value with exactly these, or the first fault
+abbrev pub TakesContents : {T : Type 0} → (T → List ℕ) → (List ℕ → Result (List ℕ) ErrorKind) → List ℕ → Result T ErrorKind → Type 0
+TakesContents contents or_fault octets (Ok v) = (contents v ≡ octets) × (or_fault octets ≡ Ok octets)
+TakesContents contents or_fault octets (Err kind) = or_fault octets ≡ Err kind
+
+-- an octet 00 before others, which a number that is not negative does not need
+abbrev pub has_leading_zero : List ℕ → Bool
+has_leading_zero [] = false
+has_leading_zero (first ∷ []) = false
+has_leading_zero (first ∷ second ∷ others) = first == 0
+
+-- a value whose contents octets are the fewest of the number of some octets, or (7) for no octets and for more contents octets than a length can count
+abbrev pub KeepsNumber : {T : Type 0} → (T → List ℕ) → List ℕ → List ℕ → Result T Error → Type 0
+KeepsNumber contents octets fewest (Ok v) = (contents v ≡ fewest) × (0 < length octets) × (length fewest < 2 ^ 32)
+KeepsNumber contents octets fewest (Err e) = (e.kind ≡ kinds.Length Integer) × ((octets ≡ []) ⊎ (2 ^ 32 ≤ length fewest))
+
+-- the same in memory, or (1)
+abbrev pub KeepsCopy : {T : Type 0} → (T → List ℕ) → List ℕ → List ℕ → Result T Error → Type 0
+KeepsCopy contents octets fewest (Ok v) = KeepsNumber contents octets fewest (Ok v)
+KeepsCopy {T} contents octets fewest (Err e) = (e.kind ≡ kinds.Memory) ⊎ KeepsNumber {T = T} contents octets fewest (Err e)
+
+-- a value in memory with these contents octets, or (1)
+abbrev pub CopiesContents : {T : Type 0} → (T → List ℕ) → List ℕ → Result T Error → Type 0
+CopiesContents contents octets (Ok v) = contents v ≡ octets
+CopiesContents contents octets (Err e) = e.kind ≡ kinds.Memory

@@ -1,0 +1,183 @@
+//! INTEGER of any length (X.690 8.3).
+//!
+//! The tag is 02. The contents octets are the two's complement of the integer in the fewest octets,
+//! the highest first, of which bit 8 of the first is the sign: 127 is 7F, 128 is 00 80, -128 is 80.
+
+ghost use Rattle.std.specs.Prelude.{◌≡◌, ◌^◌, ◌<◌, ℕ, List, length, true, false, refl, IsOk, IfOk, IfErr};
+ghost use Rattle.std.proofs.Common.{Ok, lit<, ap, sym};
+ghost use Rattle.std.specs.Cmp.Lexicographic.{bytes_decides};
+ghost use Rattle.der_tlv.specs.declared.tag.Tag.TheVariants as tags;
+ghost use Rattle.der_elem.specs.Integer.{integer_contents, twos_complement};
+ghost use Rattle.der_elem.specs.OwnContents.{accepts_own};
+ghost use Rattle.der_numbers.specs.AnyLength.{parse_integer, KeepsCopy};
+ghost use Rattle.der_numbers.specs.AnyLengthLaws.{parse_of_integer};
+
+use crate::int_ref::{AsIntRef, IntRef};
+use der_elem::{
+    ContentsEq, DecodeValue, DuplicateValue, EncodeValue, FixedTag, FormValue, OrdIsValueOrd,
+};
+use der_tlv::{Error, ErrorKind, Header, Length, Reader, Tag, Writer};
+use std::alloc::{AllocError, Global};
+
+/// An integer of any length: at most 4294967295 contents octets.
+///
+/// The integer 128 is kept as 00 80, and encoded as 02 02 00 80.
+///
+/// # Errors
+/// Reading refuses no contents octets and a redundant first octet (8): 00 before an octet below 80,
+/// or FF before one of 80 or more.
+#[derive(Debug, Drop, PartialEq, Eq, PartialOrd, Ord)]
+pub struct Int {
+    pub(crate) octets: Vec<u8>,
+    ghost some: { 0 < length octets.items },
+    ghost fewest: { octets.items ≡ integer_contents (twos_complement octets.items) },
+    ghost short: { length octets.items < 2 ^ 32 },
+}
+
+impl Int {
+    /// The integer that the octets are the two's complement of, in the fewest octets.
+    ///
+    /// # Errors
+    /// (7) for no octets, and where the fewest are more than 4294967295; (1) where memory runs out.
+    pub fn new(alloc: Global, octets: &[u8]) -> Result<Int, Error>
+        ensures { KeepsCopy ⟦<Int as FormValue>⟧.contents octets.now (integer_contents (twos_complement octets.now)) result }
+    {
+        match IntRef::new(octets) {
+            Ok(integer) => integer.ref_to_owned(alloc),
+            Err(e) => Err(e),
+        }
+    }
+
+    /// The contents octets: the two's complement in the fewest octets.
+    pub fn as_bytes(&self) -> &[u8]
+        ensures contents { result.now ≡ ⟦<Int as FormValue>⟧.contents self.now }
+        ensures fewest { result.now ≡ integer_contents (twos_complement result.now) }
+    {
+        self.owned_to_ref().as_bytes()
+    }
+
+    /// How many contents octets there are.
+    pub fn len(&self) -> Length
+        ensures { result ≡ length (⟦<Int as FormValue>⟧.contents self.now) }
+    {
+        self.owned_to_ref().len()
+    }
+
+    /// Whether there are no octets: never, since each integer has some.
+    pub fn is_empty(&self) -> bool
+        ensures { result ≡ false }
+    {
+        self.octets.is_empty()
+    }
+
+    /// The integer, borrowed.
+    pub fn owned_to_ref(&self) -> IntRef<'_>
+        ensures { ⟦<IntRef<'static> as FormValue>⟧.contents result ≡ ⟦<Int as FormValue>⟧.contents self.now }
+    {
+        IntRef {
+            octets: &self.octets,
+        }
+    }
+}
+
+impl AsIntRef for Int {
+    fn as_int_ref(&self) -> IntRef<'_> {
+        self.owned_to_ref()
+    }
+}
+
+impl Clone for Int {
+    ghost is_clone = { λ v w. ⟦<Int as FormValue>⟧.contents w ≡ ⟦<Int as FormValue>⟧.contents v };
+
+    fn clone(&self) -> Result<Int, AllocError> {
+        let octets = self.octets.clone()?;
+        Ok(Int { octets })
+    }
+}
+
+impl FormValue for Int {
+    ghost contents = { λ v. v.octets.items };
+
+    ghost one_form_value = { λ v w. Unit {0} };
+
+    ghost re_reads_value = { λ v. false };
+
+    ghost accepts_value = { accepts_own (λ v. v.octets.items) };
+
+    ghost parse_value = { parse_integer };
+
+    ghost readable_value = { λ v. Unit {0} };
+
+    ghost has_tag = { λ v t. Unit {0} };
+
+    ghost VALUE_TAKES_MEMORY = { true };
+
+    ghost parse_of_accepted_value = { λ rules v p c a fits. parse_of_integer v.octets.items c v.fewest a };
+
+    ghost same_length_value = { λ rules v c a. ap length (sym a) };
+
+    ghost accepts_contents = { λ rules v r. refl };
+
+    ghost only_readable_value = { λ rules v c a. tt };
+
+    ghost accepts_one_form_value = { λ rules v w c d a b. tt };
+
+    ghost re_reads_memory_value = { λ v e. refl };
+}
+
+impl FixedTag for Int {
+    ghost TAG = { tags.Integer };
+
+    const TAG: Tag = Tag::Integer;
+
+    ghost tag_in_range = { lit< tt };
+}
+
+impl<'a, R: Reader<'a>> DecodeValue<'a, R> for Int {
+    fn decode_value(alloc: Global, reader: &mut R, header: Header) -> Result<Int, Error> {
+        match IntRef::decode_value(alloc, reader, header) {
+            Ok(integer) => match integer.ref_to_owned(alloc) {
+                Ok(integer) => Ok(integer),
+                Err(e) => Err(reader.error(e.kind)),
+            },
+            Err(e) => Err(e),
+        }
+    }
+}
+
+impl EncodeValue for Int {
+    fn value_len(&self) -> Result<Length, Error> {
+        Ok(self.len())
+    }
+
+    fn encode_value<W: Writer>(&self, writer: &mut W) -> Result<(), Error> {
+        writer.write(self.as_bytes())
+    }
+}
+
+impl OrdIsValueOrd for Int {
+    ghost ord_is_value_ord = { λ v w. refl };
+}
+
+impl ContentsEq for Int {
+    ghost contents_eq = { λ v w one. bytes_decides v.octets.items w.octets.items };
+}
+
+impl DuplicateValue for Int {
+    ghost is_copy_value = { λ v w. w.octets.items ≡ v.octets.items };
+
+    ghost takes_memory_to_copy_value = { true };
+
+    fn duplicate_value(&self) -> Result<Int, Error> {
+        match self.clone() {
+            Ok(copy) => Ok(copy),
+            Err(_) => Err(Error::from_kind(ErrorKind::Memory)),
+        }
+    }
+
+    ghost copy_contents = { λ v w e. e };
+
+    ghost copy_form_value = { λ v w x e f. tt };
+
+    ghost copy_re_reads_value = { λ v w e. refl };
+}

@@ -1,0 +1,237 @@
+//! Borrowed INTEGER of any length (X.690 8.3).
+//!
+//! The tag is 02. The contents octets are the two's complement of the integer in the fewest octets,
+//! the highest first, of which bit 8 of the first is the sign: 127 is 7F, 128 is 00 80, -128 is 80.
+
+ghost use Rattle.std.specs.Prelude.{◌≡◌, ◌^◌, ◌<◌, ℕ, List, length, false, refl, IsOk, IfOk, IfErr};
+ghost use Rattle.std.proofs.Common.{Ok, ap, sym};
+ghost use Rattle.std.specs.Cmp.Lexicographic.{bytes_decides};
+ghost use Rattle.der_tlv.specs.declared.tag.Tag.TheVariants as tags;
+ghost use Rattle.der_tlv.specs.declared.encoding_rules.EncodingRules.TheVariants.{Der};
+ghost use Rattle.der_elem.specs.Integer.{integer_contents, twos_complement};
+ghost use Rattle.der_elem.specs.OwnContents.{accepts_own};
+ghost use Rattle.der_opaque.specs.DecodingAs.{DecodesAs};
+ghost use Rattle.der_numbers.specs.AnyLength.{integer_or_fault, parse_integer, TakesContents, KeepsNumber, CopiesContents};
+ghost use Rattle.der_numbers.specs.AnyLengthLaws.{parse_of_integer};
+
+use crate::int::Int;
+use crate::octets::{check_integer, strip_redundant};
+use der_elem::{
+    ContentsEq, DecodeValue, DuplicateValue, EncodeValue, Form, FormValue, OrdIsValueOrd, SameTag,
+    Tagged,
+};
+use der_opaque::{Any, AnyRef};
+use der_tlv::{Error, ErrorKind, Header, Length, Reader, Tag, Writer};
+use std::alloc::Global;
+
+/// An integer of any length, borrowed: at most 4294967295 contents octets.
+///
+/// The integer 128 is kept as 00 80, and encoded as 02 02 00 80.
+///
+/// # Errors
+/// Reading refuses no contents octets and a redundant first octet (8): 00 before an octet below 80,
+/// or FF before one of 80 or more.
+#[derive(Clone, Copy, Debug, PartialEq, Eq, PartialOrd, Ord)]
+pub struct IntRef<'a> {
+    pub(crate) octets: &'a [u8],
+    ghost some: { 0 < length octets.now },
+    ghost fewest: { octets.now ≡ integer_contents (twos_complement octets.now) },
+    ghost short: { length octets.now < 2 ^ 32 },
+}
+
+impl<'a> IntRef<'a> {
+    /// The integer that the octets are the two's complement of, in the fewest octets.
+    ///
+    /// # Errors
+    /// (7) for no octets, and where the fewest are more than 4294967295.
+    pub fn new(octets: &'a [u8]) -> Result<IntRef<'a>, Error>
+        ensures { KeepsNumber ⟦<IntRef<'a> as FormValue>⟧.contents octets.now (integer_contents (twos_complement octets.now)) result }
+    {
+        if octets.is_empty() {
+            return Err(Error::from_kind(Tag::Integer.length_error()));
+        }
+        let octets = strip_redundant(octets);
+        match Length::of(octets.len()) {
+            Ok(_) => Ok(IntRef { octets }),
+            Err(_) => Err(Error::from_kind(Tag::Integer.length_error())),
+        }
+    }
+
+    /// The integer that has these contents octets.
+    ///
+    /// # Errors
+    /// None, or a redundant first octet (8).
+    fn from_contents(octets: &'a [u8]) -> Result<IntRef<'a>, ErrorKind>
+        requires { length octets.now < 2 ^ 32 }
+        ensures { TakesContents ⟦<IntRef<'a> as FormValue>⟧.contents integer_or_fault octets.now result }
+    {
+        match check_integer(octets) {
+            Ok(()) => Ok(IntRef { octets }),
+            Err(kind) => Err(kind),
+        }
+    }
+
+    /// The contents octets: the two's complement in the fewest octets.
+    pub fn as_bytes(self) -> &'a [u8]
+        ensures contents { result.now ≡ ⟦<IntRef<'a> as FormValue>⟧.contents self.entry }
+        ensures fewest { result.now ≡ integer_contents (twos_complement result.now) }
+    {
+        self.octets
+    }
+
+    /// How many contents octets there are.
+    pub fn len(self) -> Length
+        ensures { result ≡ length (⟦<IntRef<'a> as FormValue>⟧.contents self.entry) }
+    {
+        Length::new(self.octets.len() as u32)
+    }
+
+    /// Whether there are no octets: never, since each integer has some.
+    pub fn is_empty(self) -> bool
+        ensures { result ≡ false }
+    {
+        self.octets.is_empty()
+    }
+
+    /// The integer, copied.
+    ///
+    /// # Errors
+    /// (1) where memory runs out.
+    pub fn ref_to_owned(self, alloc: Global) -> Result<Int, Error>
+        ensures { CopiesContents ⟦<Int as FormValue>⟧.contents (⟦<IntRef<'a> as FormValue>⟧.contents self.entry) result }
+    {
+        match self.octets.to_vec(alloc) {
+            Ok(octets) => Ok(Int { octets }),
+            Err(_) => Err(Error::from_kind(ErrorKind::Memory)),
+        }
+    }
+}
+
+impl<'a> FormValue for IntRef<'a> {
+    ghost contents = { λ v. v.octets.now };
+
+    ghost one_form_value = { λ v w. Unit {0} };
+
+    ghost re_reads_value = { λ v. false };
+
+    ghost accepts_value = { accepts_own (λ v. v.octets.now) };
+
+    ghost parse_value = { parse_integer };
+
+    ghost readable_value = { λ v. Unit {0} };
+
+    ghost has_tag = { λ v t. Unit {0} };
+
+    ghost VALUE_TAKES_MEMORY = { false };
+
+    ghost parse_of_accepted_value = { λ rules v p c a fits. parse_of_integer v.octets.now c v.fewest a };
+
+    ghost same_length_value = { λ rules v c a. ap length (sym a) };
+
+    ghost accepts_contents = { λ rules v r. refl };
+
+    ghost only_readable_value = { λ rules v c a. tt };
+
+    ghost accepts_one_form_value = { λ rules v w c d a b. tt };
+
+    ghost re_reads_memory_value = { λ v e. e };
+}
+
+impl<'a> SameTag for IntRef<'a> {
+    type As = Int;
+}
+
+impl<'a, R: Reader<'a>> DecodeValue<'a, R> for IntRef<'a> {
+    fn decode_value(_alloc: Global, reader: &mut R, header: Header) -> Result<IntRef<'a>, Error> {
+        let octets = reader.read_slice(header.length)?;
+        match IntRef::from_contents(octets) {
+            Ok(integer) => Ok(integer),
+            Err(kind) => Err(reader.error(kind)),
+        }
+    }
+}
+
+impl<'a> EncodeValue for IntRef<'a> {
+    fn value_len(&self) -> Result<Length, Error> {
+        Ok(self.len())
+    }
+
+    fn encode_value<W: Writer>(&self, writer: &mut W) -> Result<(), Error> {
+        writer.write(self.octets)
+    }
+}
+
+impl<'a> OrdIsValueOrd for IntRef<'a> {
+    ghost ord_is_value_ord = { λ v w. refl };
+}
+
+impl<'a> ContentsEq for IntRef<'a> {
+    ghost contents_eq = { λ v w one. bytes_decides v.octets.now w.octets.now };
+}
+
+impl<'a> DuplicateValue for IntRef<'a> {
+    ghost is_copy_value = { λ v w. w.octets.now ≡ v.octets.now };
+
+    ghost takes_memory_to_copy_value = { false };
+
+    fn duplicate_value(&self) -> Result<IntRef<'a>, Error> {
+        Ok(*self)
+    }
+
+    ghost copy_contents = { λ v w e. e };
+
+    ghost copy_form_value = { λ v w x e f. tt };
+
+    ghost copy_re_reads_value = { λ v w e. refl };
+}
+
+/// A value that can be seen as a borrowed integer.
+pub trait AsIntRef: FormValue {
+    /// The same integer, borrowed.
+    fn as_int_ref(&self) -> IntRef<'_>
+        ensures { ⟦<IntRef<'static> as FormValue>⟧.contents result ≡ Self.contents self.now };
+}
+
+impl<'a> AsIntRef for IntRef<'a> {
+    fn as_int_ref(&self) -> IntRef<'_> {
+        *self
+    }
+}
+
+impl<'a, 'b> From<&'b IntRef<'a>> for IntRef<'a> {
+    ghost from_gives = { λ v w. ⟦<IntRef<'a> as FormValue>⟧.contents w ≡ ⟦<IntRef<'a> as FormValue>⟧.contents v.now };
+
+    fn from(integer: &'b IntRef<'a>) -> IntRef<'a> {
+        *integer
+    }
+}
+
+impl<'a> TryFrom<AnyRef<'a>> for IntRef<'a> {
+    type Error = Error;
+
+    ghost try_from_gives = { λ a r. DecodesAs ⟦<IntRef<'a> as Form>⟧ ⟦<IntRef<'a> as FormValue>⟧ Der (⟦<AnyRef<'a> as Tagged>⟧.tag_of a) (⟦<AnyRef<'a> as FormValue>⟧.contents a) r };
+
+    /// # Errors
+    /// (4) with no expected tag for another tag; no contents octets, or a redundant first octet (8).
+    fn try_from(any: AnyRef<'a>) -> Result<IntRef<'a>, Error> {
+        if !any.tag().is(Tag::Integer) {
+            return Err(Error::from_kind(any.tag().unexpected_error(None)));
+        }
+        match IntRef::from_contents(any.value()) {
+            Ok(integer) => Ok(integer),
+            Err(kind) => Err(Error::from_kind(kind)),
+        }
+    }
+}
+
+impl<'a> TryFrom<&'a Any> for IntRef<'a> {
+    type Error = Error;
+
+    ghost try_from_gives = { λ a r. DecodesAs ⟦<IntRef<'a> as Form>⟧ ⟦<IntRef<'a> as FormValue>⟧ Der (⟦<Any as Tagged>⟧.tag_of a.now) (⟦<Any as FormValue>⟧.contents a.now) r };
+
+    /// # Errors
+    /// (4) with no expected tag for another tag; no contents octets, or a redundant first octet (8).
+    fn try_from(any: &'a Any) -> Result<IntRef<'a>, Error> {
+        IntRef::try_from(any.to_ref())
+    }
+}
