@@ -39,6 +39,12 @@ has_leading_zero [] = false
 has_leading_zero (first ∷ []) = false
 has_leading_zero (first ∷ second ∷ others) = first == 0
 
+-- contents octets without the 00 in front of others, which only says that the number is not negative
+abbrev pub without_sign_octet : List ℕ → List ℕ
+without_sign_octet [] = []
+without_sign_octet (first ∷ []) = first ∷ []
+without_sign_octet (first ∷ second ∷ others) = if first == 0 then second ∷ others else first ∷ second ∷ others
+
 -- a value whose contents octets are the fewest of the number of some octets, or (7) for no octets and for more contents octets than a length can count
 abbrev pub KeepsNumber : {T : Type 0} → (T → List ℕ) → List ℕ → List ℕ → Result T Error → Type 0
 KeepsNumber contents octets fewest (Ok v) = (contents v ≡ fewest) × (0 < length octets) × (length fewest < 2 ^ 32)

@@ -4,6 +4,10 @@
 mod int;
 mod int_ref;
 mod octets;
+mod uint;
+mod uint_ref;
 
 pub use int::Int;
 pub use int_ref::{AsIntRef, IntRef};
+pub use uint::Uint;
+pub use uint_ref::{AsUintRef, UintRef};

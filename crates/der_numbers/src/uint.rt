@@ -1,0 +1,233 @@
+//! INTEGER of any length that is not negative (X.690 8.3).
+//!
+//! The tag is 02. The contents octets are the number in the fewest octets, the highest first, with a
+//! 00 in front where bit 8 of the first is set: 127 is 7F, 128 is 00 80, 0 is 00.
+//!
+//! The order of two values is that of their contents octets, and not that of the numbers: 128 is
+//! before 1, and 255 before 127.
+
+ghost use Rattle.std.specs.Prelude.{◌≡◌, ◌^◌, ◌<◌, ℕ, nat_eq, List, length, true, false, refl, IsOk, IfOk, IfErr, Some};
+ghost use Rattle.std.proofs.Common.{Ok, lit<, ap, sym};
+ghost use Rattle.std.specs.Cmp.{on_per, on_equiv, on_po, on_total, partial_equiv_from_equiv};
+ghost use Rattle.std.specs.Cmp.Lexicographic.{pointwise, bytes_decides, nat_list_eq_equiv, nat_list_cmp_total, texts_po, texts_ties};
+ghost use Rattle.der_tlv.specs.declared.tag.Tag.TheVariants as tags;
+ghost use Rattle.der_tlv.specs.Octets.{lex};
+ghost use Rattle.der_elem.specs.Integer.{big_endian_number, with_sign_octet, natural_contents};
+ghost use Rattle.der_elem.specs.OwnContents.{accepts_own};
+ghost use Rattle.der_numbers.specs.AnyLength.{parse_natural, has_leading_zero, without_sign_octet, KeepsCopy};
+ghost use Rattle.der_numbers.specs.UnsignedLaws.{parse_of_natural};
+
+use crate::octets::{compare_contents, contents_len, write_contents};
+use crate::uint_ref::{AsUintRef, UintRef};
+use der_elem::{
+    ContentsEq, DecodeValue, DuplicateValue, EncodeValue, FixedTag, FormValue, OrdIsValueOrd,
+};
+use der_tlv::{Error, ErrorKind, Header, Length, Reader, Tag, Writer};
+use std::alloc::{AllocError, Global};
+use std::cmp::Ordering;
+
+/// A number of any length that is not negative: at most 4294967295 contents octets.
+///
+/// The number 128 is kept as 80, without leading zeros, and encoded as 02 02 00 80.
+///
+/// # Errors
+/// Reading refuses, in this order: no contents octets, or 00 before an octet below 80 (8); a first
+/// octet of 80 or more, which makes the integer negative (13).
+#[derive(Debug, Drop)]
+pub struct Uint {
+    pub(crate) octets: Vec<u8>,
+    ghost some: { 0 < length octets.items },
+    ghost stripped: { has_leading_zero octets.items ≡ false },
+    ghost fewest: { with_sign_octet octets.items ≡ natural_contents (big_endian_number octets.items) },
+    ghost short: { length (with_sign_octet octets.items) < 2 ^ 32 },
+}
+
+impl Uint {
+    /// The number that the octets say, highest octet first.
+    ///
+    /// # Errors
+    /// (7) for no octets, and where there are more than 4294967295 contents octets; (1) where
+    /// memory runs out.
+    pub fn new(alloc: Global, octets: &[u8]) -> Result<Uint, Error>
+        ensures { KeepsCopy ⟦<Uint as FormValue>⟧.contents octets.now (natural_contents (big_endian_number octets.now)) result }
+    {
+        match UintRef::new(octets) {
+            Ok(number) => number.ref_to_owned(alloc),
+            Err(e) => Err(e),
+        }
+    }
+
+    /// The octets of the number without leading zeros: one 00 for zero. The contents octets are
+    /// these, with a 00 in front where the first is 80 or more.
+    pub fn as_bytes(&self) -> &[u8]
+        ensures octets { result.now ≡ without_sign_octet (⟦<Uint as FormValue>⟧.contents self.now) }
+        ensures number { ⟦<Uint as FormValue>⟧.contents self.now ≡ natural_contents (big_endian_number result.now) }
+    {
+        self.owned_to_ref().as_bytes()
+    }
+
+    /// How many octets the number has without leading zeros.
+    pub fn len(&self) -> Length
+        ensures { result ≡ length (without_sign_octet (⟦<Uint as FormValue>⟧.contents self.now)) }
+    {
+        self.owned_to_ref().len()
+    }
+
+    /// Whether there are no octets: never, since each number has some.
+    pub fn is_empty(&self) -> bool
+        ensures { result ≡ false }
+    {
+        self.octets.is_empty()
+    }
+
+    /// The number, borrowed.
+    pub fn owned_to_ref(&self) -> UintRef<'_>
+        ensures { ⟦<UintRef<'static> as FormValue>⟧.contents result ≡ ⟦<Uint as FormValue>⟧.contents self.now }
+    {
+        UintRef {
+            octets: &self.octets,
+        }
+    }
+}
+
+impl AsUintRef for Uint {
+    fn as_uint_ref(&self) -> UintRef<'_> {
+        self.owned_to_ref()
+    }
+}
+
+impl Clone for Uint {
+    ghost is_clone = { λ v w. ⟦<Uint as FormValue>⟧.contents w ≡ ⟦<Uint as FormValue>⟧.contents v };
+
+    fn clone(&self) -> Result<Uint, AllocError> {
+        let octets = self.octets.clone()?;
+        Ok(Uint { octets })
+    }
+}
+
+impl FormValue for Uint {
+    ghost contents = { λ v. with_sign_octet v.octets.items };
+
+    ghost one_form_value = { λ v w. Unit {0} };
+
+    ghost re_reads_value = { λ v. false };
+
+    ghost accepts_value = { accepts_own (λ v. with_sign_octet v.octets.items) };
+
+    ghost parse_value = { parse_natural };
+
+    ghost readable_value = { λ v. Unit {0} };
+
+    ghost has_tag = { λ v t. Unit {0} };
+
+    ghost VALUE_TAKES_MEMORY = { true };
+
+    ghost parse_of_accepted_value = { λ rules v p c a fits. parse_of_natural v.octets.items c v.fewest a };
+
+    ghost same_length_value = { λ rules v c a. ap length (sym a) };
+
+    ghost accepts_contents = { λ rules v r. refl };
+
+    ghost only_readable_value = { λ rules v c a. tt };
+
+    ghost accepts_one_form_value = { λ rules v w c d a b. tt };
+
+    ghost re_reads_memory_value = { λ v e. refl };
+}
+
+impl FixedTag for Uint {
+    ghost TAG = { tags.Integer };
+
+    const TAG: Tag = Tag::Integer;
+
+    ghost tag_in_range = { lit< tt };
+}
+
+impl<'a, R: Reader<'a>> DecodeValue<'a, R> for Uint {
+    fn decode_value(alloc: Global, reader: &mut R, header: Header) -> Result<Uint, Error> {
+        match UintRef::decode_value(alloc, reader, header) {
+            Ok(number) => match number.ref_to_owned(alloc) {
+                Ok(number) => Ok(number),
+                Err(e) => Err(reader.error(e.kind)),
+            },
+            Err(e) => Err(e),
+        }
+    }
+}
+
+impl EncodeValue for Uint {
+    fn value_len(&self) -> Result<Length, Error> {
+        contents_len(&self.octets)
+    }
+
+    fn encode_value<W: Writer>(&self, writer: &mut W) -> Result<(), Error> {
+        write_contents(&self.octets, writer)
+    }
+}
+
+impl PartialEq for Uint {
+    ghost eq = { λ v w. pointwise nat_eq (with_sign_octet v.octets.items) (with_sign_octet w.octets.items) };
+
+    ghost laws = { on_per (λ v. with_sign_octet v.octets.items) (partial_equiv_from_equiv nat_list_eq_equiv) };
+
+    #[tactic(auto, using(crate::specs::UnsignedLaws::pointwise_contents))]
+    fn eq(&self, other: &Uint) -> bool {
+        self.octets == other.octets
+    }
+}
+
+impl Eq for Uint {
+    ghost laws = { on_equiv (λ v. with_sign_octet v.octets.items) nat_list_eq_equiv };
+}
+
+impl PartialOrd for Uint {
+    ghost partial_cmp = { λ v w. Some (lex (with_sign_octet v.octets.items) (with_sign_octet w.octets.items)) };
+
+    ghost laws = { on_po (λ v. with_sign_octet v.octets.items) texts_po };
+
+    fn partial_cmp(&self, other: &Uint) -> Option<Ordering> {
+        Some(self.cmp(other))
+    }
+}
+
+impl Ord for Uint {
+    ghost cmp = { λ v w. lex (with_sign_octet v.octets.items) (with_sign_octet w.octets.items) };
+
+    ghost total = { on_total (λ v. with_sign_octet v.octets.items) nat_list_cmp_total };
+
+    ghost matches_partial_cmp = { λ v w. refl };
+
+    ghost matches_eq = { λ v w. texts_ties (with_sign_octet v.octets.items) (with_sign_octet w.octets.items) };
+
+    /// The lexicographic order of the contents octets.
+    fn cmp(&self, other: &Uint) -> Ordering {
+        compare_contents(&self.octets, &other.octets)
+    }
+}
+
+impl OrdIsValueOrd for Uint {
+    ghost ord_is_value_ord = { λ v w. refl };
+}
+
+impl ContentsEq for Uint {
+    ghost contents_eq = { λ v w one. bytes_decides (with_sign_octet v.octets.items) (with_sign_octet w.octets.items) };
+}
+
+impl DuplicateValue for Uint {
+    ghost is_copy_value = { λ v w. w.octets.items ≡ v.octets.items };
+
+    ghost takes_memory_to_copy_value = { true };
+
+    fn duplicate_value(&self) -> Result<Uint, Error> {
+        match self.clone() {
+            Ok(copy) => Ok(copy),
+            Err(_) => Err(Error::from_kind(ErrorKind::Memory)),
+        }
+    }
+
+    ghost copy_contents = { λ v w e. ap with_sign_octet e };
+
+    ghost copy_form_value = { λ v w x e f. tt };
+
+    ghost copy_re_reads_value = { λ v w e. refl };
+}

@@ -1,0 +1,291 @@
+//! Borrowed INTEGER of any length that is not negative (X.690 8.3).
+//!
+//! The tag is 02. The contents octets are the number in the fewest octets, the highest first, with a
+//! 00 in front where bit 8 of the first is set: 127 is 7F, 128 is 00 80, 0 is 00.
+//!
+//! The order of two values is that of their contents octets, and not that of the numbers: 128 is
+//! before 1, and 255 before 127.
+
+ghost use Rattle.std.specs.Prelude.{◌≡◌, ◌^◌, ◌<◌, ℕ, nat_eq, List, length, false, refl, IsOk, IfOk, IfErr, Some};
+ghost use Rattle.std.proofs.Common.{Ok, ap, sym};
+ghost use Rattle.std.specs.Cmp.{on_per, on_equiv, on_po, on_total, partial_equiv_from_equiv};
+ghost use Rattle.std.specs.Cmp.Lexicographic.{pointwise, bytes_decides, nat_list_eq_equiv, nat_list_cmp_total, texts_po, texts_ties};
+ghost use Rattle.der_tlv.specs.declared.tag.Tag.TheVariants as tags;
+ghost use Rattle.der_tlv.specs.declared.encoding_rules.EncodingRules.TheVariants.{Der};
+ghost use Rattle.der_tlv.specs.Octets.{lex};
+ghost use Rattle.der_elem.specs.Integer.{big_endian_number, with_sign_octet, natural_contents};
+ghost use Rattle.der_elem.specs.OwnContents.{accepts_own};
+ghost use Rattle.der_opaque.specs.DecodingAs.{DecodesAs};
+ghost use Rattle.der_numbers.specs.AnyLength.{natural_or_fault, parse_natural, has_leading_zero, without_sign_octet, TakesContents, KeepsNumber, CopiesContents};
+ghost use Rattle.der_numbers.specs.UnsignedLaws.{parse_of_natural};
+
+use crate::octets::{check_natural, compare_contents, contents_len, strip_zeros, write_contents};
+use crate::uint::Uint;
+use der_elem::{
+    ContentsEq, DecodeValue, DuplicateValue, EncodeValue, Form, FormValue, OrdIsValueOrd, SameTag,
+    Tagged,
+};
+use der_opaque::{Any, AnyRef};
+use der_tlv::{Error, ErrorKind, Header, Length, Reader, Tag, Writer};
+use std::alloc::Global;
+use std::cmp::Ordering;
+
+/// A number of any length that is not negative, borrowed: at most 4294967295 contents octets.
+///
+/// The number 128 is kept as 80, without leading zeros, and encoded as 02 02 00 80.
+///
+/// # Errors
+/// Reading refuses, in this order: no contents octets, or 00 before an octet below 80 (8); a first
+/// octet of 80 or more, which makes the integer negative (13).
+#[derive(Clone, Copy, Debug)]
+pub struct UintRef<'a> {
+    pub(crate) octets: &'a [u8],
+    ghost some: { 0 < length octets.now },
+    ghost stripped: { has_leading_zero octets.now ≡ false },
+    ghost fewest: { with_sign_octet octets.now ≡ natural_contents (big_endian_number octets.now) },
+    ghost short: { length (with_sign_octet octets.now) < 2 ^ 32 },
+}
+
+impl<'a> UintRef<'a> {
+    /// The number that the octets say, highest octet first.
+    ///
+    /// # Errors
+    /// (7) for no octets, and where there are more than 4294967295 contents octets.
+    pub fn new(octets: &'a [u8]) -> Result<UintRef<'a>, Error>
+        ensures { KeepsNumber ⟦<UintRef<'a> as FormValue>⟧.contents octets.now (natural_contents (big_endian_number octets.now)) result }
+    {
+        if octets.is_empty() {
+            return Err(Error::from_kind(Tag::Integer.length_error()));
+        }
+        let octets = strip_zeros(octets);
+        match contents_len(octets) {
+            Ok(_) => Ok(UintRef { octets }),
+            Err(_) => Err(Error::from_kind(Tag::Integer.length_error())),
+        }
+    }
+
+    /// The number that has these contents octets.
+    ///
+    /// # Errors
+    /// In this order: none, or a 00 before an octet below 80 (8); a first octet of 80 or more (13).
+    fn from_contents(octets: &'a [u8]) -> Result<UintRef<'a>, ErrorKind>
+        requires { length octets.now < 2 ^ 32 }
+        ensures { TakesContents ⟦<UintRef<'a> as FormValue>⟧.contents natural_or_fault octets.now result }
+    {
+        match check_natural(octets) {
+            Ok(()) => Ok(UintRef {
+                octets: strip_zeros(octets),
+            }),
+            Err(kind) => Err(kind),
+        }
+    }
+
+    #[tactic(auto, using(crate::specs::UnsignedLaws::without_sign_octet_kept))]
+    /// The octets of the number without leading zeros: one 00 for zero. The contents octets are
+    /// these, with a 00 in front where the first is 80 or more.
+    pub fn as_bytes(self) -> &'a [u8]
+        ensures octets { result.now ≡ without_sign_octet (⟦<UintRef<'a> as FormValue>⟧.contents self.entry) }
+        ensures number { ⟦<UintRef<'a> as FormValue>⟧.contents self.entry ≡ natural_contents (big_endian_number result.now) }
+    {
+        self.octets
+    }
+
+    #[tactic(auto, using(crate::specs::UnsignedLaws::without_sign_octet_kept, crate::specs::UnsignedLaws::sign_octet_length))]
+    /// How many octets the number has without leading zeros.
+    pub fn len(self) -> Length
+        ensures { result ≡ length (without_sign_octet (⟦<UintRef<'a> as FormValue>⟧.contents self.entry)) }
+    {
+        Length::new(self.octets.len() as u32)
+    }
+
+    /// Whether there are no octets: never, since each number has some.
+    pub fn is_empty(self) -> bool
+        ensures { result ≡ false }
+    {
+        self.octets.is_empty()
+    }
+
+    /// The number, copied.
+    ///
+    /// # Errors
+    /// (1) where memory runs out.
+    pub fn ref_to_owned(self, alloc: Global) -> Result<Uint, Error>
+        ensures { CopiesContents ⟦<Uint as FormValue>⟧.contents (⟦<UintRef<'a> as FormValue>⟧.contents self.entry) result }
+    {
+        match self.octets.to_vec(alloc) {
+            Ok(octets) => Ok(Uint { octets }),
+            Err(_) => Err(Error::from_kind(ErrorKind::Memory)),
+        }
+    }
+}
+
+impl<'a> FormValue for UintRef<'a> {
+    ghost contents = { λ v. with_sign_octet v.octets.now };
+
+    ghost one_form_value = { λ v w. Unit {0} };
+
+    ghost re_reads_value = { λ v. false };
+
+    ghost accepts_value = { accepts_own (λ v. with_sign_octet v.octets.now) };
+
+    ghost parse_value = { parse_natural };
+
+    ghost readable_value = { λ v. Unit {0} };
+
+    ghost has_tag = { λ v t. Unit {0} };
+
+    ghost VALUE_TAKES_MEMORY = { false };
+
+    ghost parse_of_accepted_value = { λ rules v p c a fits. parse_of_natural v.octets.now c v.fewest a };
+
+    ghost same_length_value = { λ rules v c a. ap length (sym a) };
+
+    ghost accepts_contents = { λ rules v r. refl };
+
+    ghost only_readable_value = { λ rules v c a. tt };
+
+    ghost accepts_one_form_value = { λ rules v w c d a b. tt };
+
+    ghost re_reads_memory_value = { λ v e. e };
+}
+
+impl<'a> SameTag for UintRef<'a> {
+    type As = Uint;
+}
+
+impl<'a, R: Reader<'a>> DecodeValue<'a, R> for UintRef<'a> {
+    fn decode_value(_alloc: Global, reader: &mut R, header: Header) -> Result<UintRef<'a>, Error> {
+        let octets = reader.read_slice(header.length)?;
+        match UintRef::from_contents(octets) {
+            Ok(number) => Ok(number),
+            Err(kind) => Err(reader.error(kind)),
+        }
+    }
+}
+
+impl<'a> EncodeValue for UintRef<'a> {
+    fn value_len(&self) -> Result<Length, Error> {
+        contents_len(self.octets)
+    }
+
+    fn encode_value<W: Writer>(&self, writer: &mut W) -> Result<(), Error> {
+        write_contents(self.octets, writer)
+    }
+}
+
+impl<'a> PartialEq for UintRef<'a> {
+    ghost eq = { λ v w. pointwise nat_eq (with_sign_octet v.octets.now) (with_sign_octet w.octets.now) };
+
+    ghost laws = { on_per (λ v. with_sign_octet v.octets.now) (partial_equiv_from_equiv nat_list_eq_equiv) };
+
+    #[tactic(auto, using(crate::specs::UnsignedLaws::pointwise_contents))]
+    fn eq(&self, other: &UintRef<'a>) -> bool {
+        self.octets == other.octets
+    }
+}
+
+impl<'a> Eq for UintRef<'a> {
+    ghost laws = { on_equiv (λ v. with_sign_octet v.octets.now) nat_list_eq_equiv };
+}
+
+impl<'a> PartialOrd for UintRef<'a> {
+    ghost partial_cmp = { λ v w. Some (lex (with_sign_octet v.octets.now) (with_sign_octet w.octets.now)) };
+
+    ghost laws = { on_po (λ v. with_sign_octet v.octets.now) texts_po };
+
+    fn partial_cmp(&self, other: &UintRef<'a>) -> Option<Ordering> {
+        Some(self.cmp(other))
+    }
+}
+
+impl<'a> Ord for UintRef<'a> {
+    ghost cmp = { λ v w. lex (with_sign_octet v.octets.now) (with_sign_octet w.octets.now) };
+
+    ghost total = { on_total (λ v. with_sign_octet v.octets.now) nat_list_cmp_total };
+
+    ghost matches_partial_cmp = { λ v w. refl };
+
+    ghost matches_eq = { λ v w. texts_ties (with_sign_octet v.octets.now) (with_sign_octet w.octets.now) };
+
+    /// The lexicographic order of the contents octets.
+    fn cmp(&self, other: &UintRef<'a>) -> Ordering {
+        compare_contents(self.octets, other.octets)
+    }
+}
+
+impl<'a> OrdIsValueOrd for UintRef<'a> {
+    ghost ord_is_value_ord = { λ v w. refl };
+}
+
+impl<'a> ContentsEq for UintRef<'a> {
+    ghost contents_eq = { λ v w one. bytes_decides (with_sign_octet v.octets.now) (with_sign_octet w.octets.now) };
+}
+
+impl<'a> DuplicateValue for UintRef<'a> {
+    ghost is_copy_value = { λ v w. w.octets.now ≡ v.octets.now };
+
+    ghost takes_memory_to_copy_value = { false };
+
+    fn duplicate_value(&self) -> Result<UintRef<'a>, Error> {
+        Ok(*self)
+    }
+
+    ghost copy_contents = { λ v w e. ap with_sign_octet e };
+
+    ghost copy_form_value = { λ v w x e f. tt };
+
+    ghost copy_re_reads_value = { λ v w e. refl };
+}
+
+/// A value that can be seen as a borrowed number that is not negative.
+pub trait AsUintRef: FormValue {
+    /// The same number, borrowed.
+    fn as_uint_ref(&self) -> UintRef<'_>
+        ensures { ⟦<UintRef<'static> as FormValue>⟧.contents result ≡ Self.contents self.now };
+}
+
+impl<'a> AsUintRef for UintRef<'a> {
+    fn as_uint_ref(&self) -> UintRef<'_> {
+        *self
+    }
+}
+
+impl<'a, 'b> From<&'b UintRef<'a>> for UintRef<'a> {
+    ghost from_gives = { λ v w. ⟦<UintRef<'a> as FormValue>⟧.contents w ≡ ⟦<UintRef<'a> as FormValue>⟧.contents v.now };
+
+    fn from(number: &'b UintRef<'a>) -> UintRef<'a> {
+        *number
+    }
+}
+
+impl<'a> TryFrom<AnyRef<'a>> for UintRef<'a> {
+    type Error = Error;
+
+    ghost try_from_gives = { λ a r. DecodesAs ⟦<UintRef<'a> as Form>⟧ ⟦<UintRef<'a> as FormValue>⟧ Der (⟦<AnyRef<'a> as Tagged>⟧.tag_of a) (⟦<AnyRef<'a> as FormValue>⟧.contents a) r };
+
+    /// # Errors
+    /// (4) with no expected tag for another tag; else, in this order: no contents octets, or 00
+    /// before an octet below 80 (8); a first octet of 80 or more (13).
+    fn try_from(any: AnyRef<'a>) -> Result<UintRef<'a>, Error> {
+        if !any.tag().is(Tag::Integer) {
+            return Err(Error::from_kind(any.tag().unexpected_error(None)));
+        }
+        match UintRef::from_contents(any.value()) {
+            Ok(number) => Ok(number),
+            Err(kind) => Err(Error::from_kind(kind)),
+        }
+    }
+}
+
+impl<'a> TryFrom<&'a Any> for UintRef<'a> {
+    type Error = Error;
+
+    ghost try_from_gives = { λ a r. DecodesAs ⟦<UintRef<'a> as Form>⟧ ⟦<UintRef<'a> as FormValue>⟧ Der (⟦<Any as Tagged>⟧.tag_of a.now) (⟦<Any as FormValue>⟧.contents a.now) r };
+
+    /// # Errors
+    /// (4) with no expected tag for another tag; else, in this order: no contents octets, or 00
+    /// before an octet below 80 (8); a first octet of 80 or more (13).
+    fn try_from(any: &'a Any) -> Result<UintRef<'a>, Error> {
+        UintRef::try_from(any.to_ref())
+    }
+}
