@@ -3,8 +3,8 @@ use Rattle.std.proofs.Common.{◌≡◌, ℕ, ◌<◌, true, false, List, [], �
 use Rattle.std.proofs.lemmas.Bool.{cases_lt}
 use Rattle.std.proofs.lemmas.Bool.Decides.{nat_tests}
 use Rattle.der_tlv.specs.declared.error.ErrorKind.{ErrorKind}
-use Rattle.der_elem.specs.Integer.{AreOctets, big_endian_number, integer_contents, twos_complement, is_redundant, complemented}
-use Rattle.der_elem.specs.IntegerLaws.{integer_contents_twos_complement, twos_complement_integer_contents, integer_contents-some, integer_contents-needed, twos_complement-pos, twos_complement-negsuc}
+use Rattle.der_elem.specs.Integer.{AreOctets, big_endian_number, integer_contents, twos_complement, is_redundant, complemented, natural_contents}
+use Rattle.der_elem.specs.IntegerLaws.{integer_contents_twos_complement, twos_complement_integer_contents, integer_contents-some, integer_contents-pos, integer_contents-needed, twos_complement-pos, twos_complement-negsuc}
 use Rattle.der_numbers.specs.AnyLength.{integer_or_fault}
 
 -- ---- reading
@@ -33,6 +33,10 @@ integer_contents-kept octets all some needed = sym (integer_contents_twos_comple
 -- the contents octets of an integer are those of the integer that they are the two's complement of
 pub integer_contents-own : (z : ℤ) (octets : List ℕ) → octets ≡ integer_contents z → octets ≡ integer_contents (twos_complement octets)
 integer_contents-own z octets e = e ∙ ap integer_contents (sym (ap twos_complement e ∙ twos_complement_integer_contents z))
+
+-- and so are those of a number that is not negative
+pub integer_contents-of_natural : (n : ℕ) (octets : List ℕ) → octets ≡ natural_contents n → octets ≡ integer_contents (twos_complement octets)
+integer_contents-of_natural n octets e = integer_contents-own (pos n) octets (e ∙ sym (integer_contents-pos n))
 
 -- a redundant first octet is followed by another, and is not needed for the integer
 pub twos_complement-redundant : (octets : List ℕ) → AreOctets octets → is_redundant octets ≡ true → (1 < length octets) × (twos_complement octets ≡ twos_complement (drop 1 octets))

@@ -1,3 +1,4 @@
 pub mod AnyLength
 pub mod AnyLengthLaws
 pub mod UnsignedLaws
+pub mod ReadingLaws

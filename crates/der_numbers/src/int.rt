@@ -9,14 +9,16 @@ ghost use Rattle.std.specs.Cmp.Lexicographic.{bytes_decides};
 ghost use Rattle.der_tlv.specs.declared.tag.Tag.TheVariants as tags;
 ghost use Rattle.der_elem.specs.Integer.{integer_contents, twos_complement};
 ghost use Rattle.der_elem.specs.OwnContents.{accepts_own};
-ghost use Rattle.der_numbers.specs.AnyLength.{parse_integer, KeepsCopy};
+ghost use Rattle.der_numbers.specs.AnyLength.{parse_integer, KeepsCopy, CopiesContents};
 ghost use Rattle.der_numbers.specs.AnyLengthLaws.{parse_of_integer};
 
 use crate::int_ref::{AsIntRef, IntRef};
+use crate::octets::is_high;
+use crate::uint::Uint;
 use der_elem::{
     ContentsEq, DecodeValue, DuplicateValue, EncodeValue, FixedTag, FormValue, OrdIsValueOrd,
 };
-use der_tlv::{Error, ErrorKind, Header, Length, Reader, Tag, Writer};
+use der_tlv::{Error, ErrorKind, Header, Length, Reader, Tag, VecWriter, Writer};
 use std::alloc::{AllocError, Global};
 
 /// An integer of any length: at most 4294967295 contents octets.
@@ -46,6 +48,25 @@ impl Int {
             Ok(integer) => integer.ref_to_owned(alloc),
             Err(e) => Err(e),
         }
+    }
+
+    /// The same number. Its contents octets are never too many, since those of a `Uint` are not.
+    ///
+    /// # Errors
+    /// (1) where memory runs out.
+    pub fn from_uint(alloc: Global, number: Uint) -> Result<Int, Error>
+        ensures { CopiesContents ⟦<Int as FormValue>⟧.contents (⟦<Uint as FormValue>⟧.contents number) result }
+    {
+        if !is_high(&number.octets) {
+            return Ok(Int {
+                octets: number.octets,
+            });
+        }
+        let mut writer = VecWriter::with_capacity(alloc, number.octets.len() + 1)?;
+        number.encode_value(&mut writer)?;
+        Ok(Int {
+            octets: writer.finish(),
+        })
     }
 
     /// The contents octets: the two's complement in the fewest octets.

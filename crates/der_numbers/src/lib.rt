@@ -3,6 +3,8 @@
 
 mod int;
 mod int_ref;
+pub mod laws;
+mod machine;
 mod octets;
 mod uint;
 mod uint_ref;

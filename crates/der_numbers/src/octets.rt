@@ -83,7 +83,7 @@ fn has_needless_zero(octets: &[u8]) -> bool
 }
 
 /// Whether bit 8 of the first octet is set, so that a number has a 00 before it.
-fn is_high(octets: &[u8]) -> bool
+pub fn is_high(octets: &[u8]) -> bool
     requires { 0 < length octets.now }
     ensures { result ≡ nat_le 128 (slice_index octets.now 0) }
 {
