@@ -13,3 +13,6 @@ pub use int::Int;
 pub use int_ref::{AsIntRef, IntRef};
 pub use uint::Uint;
 pub use uint_ref::{AsUintRef, UintRef};
+
+#[cfg(test)]
+mod tests;
