@@ -39,7 +39,7 @@ has_leading_zero [] = false
 has_leading_zero (first ∷ []) = false
 has_leading_zero (first ∷ second ∷ others) = first == 0
 
--- contents octets without the 00 in front of others, which only says that the number is not negative
+-- contents octets without a 00 before others, which only says that the number is not negative
 abbrev pub without_sign_octet : List ℕ → List ℕ
 without_sign_octet [] = []
 without_sign_octet (first ∷ []) = first ∷ []

@@ -3,16 +3,14 @@ use Rattle.std.proofs.Common.{◌≡◌, ℕ, zero, suc, ◌<◌, ◌≤◌, Boo
 use Rattle.std.proofs.lemmas.Bool.{cases_lt}
 use Rattle.std.proofs.lemmas.Bool.Decides.{nat_tests}
 use Rattle.std.specs.Ordering.{nat_cmp}
-use Rattle.std.specs.declared.cmp.Ordering.TheVariants.{Less, Greater}
 use Rattle.std.specs.Cmp.Lexicographic.{pointwise}
-use Rattle.der_tlv.specs.Octets.{lex}
 use Rattle.der_tlv.specs.declared.error.ErrorKind.{ErrorKind}
 use Rattle.der_elem.specs.Integer.{AreOctets, big_endian_number, with_sign_octet, natural_contents, is_redundant}
 use Rattle.der_elem.specs.IntegerLaws.{natural_contents-small, natural_contents-with_sign_octet, natural_contents-some, natural_contents-first, natural_contents-needed, natural_contents-of_octets}
 use Rattle.der_elem.specs.IntegerReading.{has_needless_zero}
 use Rattle.der_numbers.specs.AnyLength.{natural_or_fault, has_leading_zero, without_sign_octet}
 
--- ---- the octet in front that says the sign
+-- ---- the leading octet that says the sign
 
 -- none where bit 8 of the first is zero
 pub with_sign_octet-small : (first : ℕ) (others : List ℕ) → first < 128 → with_sign_octet (first ∷ others) ≡ first ∷ others
@@ -89,14 +87,14 @@ number-leading_zero (first ∷ second ∷ others) all leads =
     let z : first ≡ 0 = grind (arith, nat_tests) in
     (omega arith, ap (λ f. big_endian_number (f ∷ second ∷ others)) z)
 
--- octets without leading zeros are the contents octets of their number, once the sign is in front
+-- octets without leading zeros are the contents octets of their number, with the sign octet where it is needed
 pub natural_contents-kept : (octets : List ℕ) → AreOctets octets → 0 < length octets → has_leading_zero octets ≡ false → with_sign_octet octets ≡ natural_contents (big_endian_number octets)
 natural_contents-kept [] all some stripped = absurd (omega arith)
 natural_contents-kept (zero ∷ []) all some stripped = sym (natural_contents-small 0 (omega arith))
 natural_contents-kept (zero ∷ second ∷ others) all some stripped = absurd (cc)
 natural_contents-kept (suc first ∷ others) all some stripped = sym (natural_contents-with_sign_octet (suc first ∷ others) all (λ h. omega arith))
 
--- without the sign in front, the octets are back
+-- without the sign octet, the octets are back
 pub without_sign_octet_kept : (octets : List ℕ) → 0 < length octets → has_leading_zero octets ≡ false → without_sign_octet (with_sign_octet octets) ≡ octets
 without_sign_octet_kept [] some stripped = absurd (omega arith)
 without_sign_octet_kept (first ∷ others) some stripped = elim (cases_lt first 128) [
@@ -108,54 +106,9 @@ without_sign_octet_kept (first ∷ others) some stripped = elim (cases_lt first 
     own first [] stripped = refl
     own first (second ∷ others) stripped = rw stripped refl
 
--- ---- equality and order of contents octets
+-- ---- equality of contents octets
 
--- zero is the one octet 00
-zero_alone : (first : ℕ) (others : List ℕ) → has_leading_zero (first ∷ others) ≡ false → first ≡ 0 → others ≡ []
-zero_alone first [] stripped e = refl
-zero_alone first (second ∷ others) stripped e = absurd (grind (arith, nat_tests))
-
-less_is : (m n : ℕ) → m < n → nat_cmp m n ≡ Less
-less_is m n h = grind (arith, nat_tests)
-
-greater_is : (m n : ℕ) → n < m → nat_cmp m n ≡ Greater
-greater_is m n h = grind (arith, nat_tests)
-
--- where both have the 00 in front, or neither, it does not count
-pub lex-both_below : (a b : List ℕ) → 0 < length a → 0 < length b → slice_index a 0 < 128 → slice_index b 0 < 128 → lex a b ≡ lex (with_sign_octet a) (with_sign_octet b)
-lex-both_below a b some_a some_b small_a small_b = sym (ap (λ x. lex x (with_sign_octet b)) (with_sign_octet-none a some_a small_a) ∙ ap (lex a) (with_sign_octet-none b some_b small_b))
-
-pub lex-both_above : (a b : List ℕ) → 0 < length a → 0 < length b → 128 ≤ slice_index a 0 → 128 ≤ slice_index b 0 → lex a b ≡ lex (with_sign_octet a) (with_sign_octet b)
-lex-both_above a b some_a some_b large_a large_b = sym (ap (λ x. lex x (with_sign_octet b)) (with_sign_octet-needed a some_a large_a) ∙ ap (lex (0 ∷ a)) (with_sign_octet-needed b some_b large_b))
-
--- where one alone has it, that one is less, unless the other is zero
-pub lex-zero_below : (a b : List ℕ) → 0 < length a → 0 < length b → has_leading_zero a ≡ false → slice_index a 0 ≡ 0 → 128 ≤ slice_index b 0 → lex (with_sign_octet a) (with_sign_octet b) ≡ Less
-lex-zero_below [] b some_a some_b stripped none large = absurd (omega arith)
-lex-zero_below (first ∷ others) [] some_a some_b stripped none large = absurd (omega arith)
-lex-zero_below (first ∷ others) (second ∷ more) some_a some_b stripped none large =
-    let alone = zero_alone first others stripped none in
-    rw (none, alone, with_sign_octet-large second more large) refl
-
-pub lex-above_zero : (a b : List ℕ) → 0 < length a → 0 < length b → has_leading_zero b ≡ false → slice_index b 0 ≡ 0 → 128 ≤ slice_index a 0 → lex (with_sign_octet a) (with_sign_octet b) ≡ Greater
-lex-above_zero [] b some_a some_b stripped none large = absurd (omega arith)
-lex-above_zero (second ∷ more) [] some_a some_b stripped none large = absurd (omega arith)
-lex-above_zero (second ∷ more) (first ∷ others) some_a some_b stripped none large =
-    let alone = zero_alone first others stripped none in
-    rw (none, alone, with_sign_octet-large second more large) refl
-
-pub lex-above_below : (a b : List ℕ) → 0 < length a → 0 < length b → 128 ≤ slice_index a 0 → 0 < slice_index b 0 → slice_index b 0 < 128 → lex (with_sign_octet a) (with_sign_octet b) ≡ Less
-lex-above_below [] b some_a some_b large more small = absurd (omega arith)
-lex-above_below (first ∷ others) [] some_a some_b large more small = absurd (omega arith)
-lex-above_below (first ∷ others) (second ∷ rest) some_a some_b large more small =
-    rw (with_sign_octet-large first others large, with_sign_octet-small second rest small, less_is 0 second more) refl
-
-pub lex-below_above : (a b : List ℕ) → 0 < length a → 0 < length b → 0 < slice_index a 0 → slice_index a 0 < 128 → 128 ≤ slice_index b 0 → lex (with_sign_octet a) (with_sign_octet b) ≡ Greater
-lex-below_above [] b some_a some_b more small large = absurd (omega arith)
-lex-below_above (first ∷ others) [] some_a some_b more small large = absurd (omega arith)
-lex-below_above (first ∷ others) (second ∷ rest) some_a some_b more small large =
-    rw (with_sign_octet-large second rest large, with_sign_octet-small first others small, greater_is first 0 more) refl
-
--- contents octets are the same exactly where the octets without the sign in front are
+-- contents octets are the same exactly where they are without the sign octet
 pub pointwise_contents : (a b : List ℕ) → 0 < length a → 0 < length b → has_leading_zero a ≡ false → has_leading_zero b ≡ false → pointwise nat_eq a b ≡ pointwise nat_eq (with_sign_octet a) (with_sign_octet b)
 pointwise_contents [] b some_a some_b stripped_a stripped_b = absurd (omega arith)
 pointwise_contents (first ∷ others) [] some_a some_b stripped_a stripped_b = absurd (omega arith)

@@ -22,7 +22,7 @@ fn is_redundant(octets: &[u8]) -> bool
     }
 }
 
-/// The fewest octets of the same integer, without the redundant ones in front.
+/// The fewest octets of the same integer, without the redundant ones before them.
 pub fn strip_redundant(octets: &[u8]) -> &[u8]
     requires { 0 < length octets.now }
     ensures contents { result.now ≡ integer_contents (twos_complement octets.now) }

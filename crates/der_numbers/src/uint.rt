@@ -1,7 +1,7 @@
 //! INTEGER of any length that is not negative (X.690 8.3).
 //!
 //! The tag is 02. The contents octets are the number in the fewest octets, the highest first, with a
-//! 00 in front where bit 8 of the first is set: 127 is 7F, 128 is 00 80, 0 is 00.
+//! leading 00 where bit 8 of the highest is set: 127 is 7F, 128 is 00 80, 0 is 00.
 //!
 //! The order of two values is that of their contents octets, and not that of the numbers: 128 is
 //! before 1, and 255 before 127.
@@ -58,7 +58,7 @@ impl Uint {
     }
 
     /// The octets of the number without leading zeros: one 00 for zero. The contents octets are
-    /// these, with a 00 in front where the first is 80 or more.
+    /// these, with a 00 before them where the first is 80 or more.
     pub fn as_bytes(&self) -> &[u8]
         ensures octets { result.now ≡ without_sign_octet (⟦<Uint as FormValue>⟧.contents self.now) }
         ensures number { ⟦<Uint as FormValue>⟧.contents self.now ≡ natural_contents (big_endian_number result.now) }

@@ -1,7 +1,7 @@
 //! Borrowed INTEGER of any length that is not negative (X.690 8.3).
 //!
 //! The tag is 02. The contents octets are the number in the fewest octets, the highest first, with a
-//! 00 in front where bit 8 of the first is set: 127 is 7F, 128 is 00 80, 0 is 00.
+//! leading 00 where bit 8 of the highest is set: 127 is 7F, 128 is 00 80, 0 is 00.
 //!
 //! The order of two values is that of their contents octets, and not that of the numbers: 128 is
 //! before 1, and 255 before 127.
@@ -80,9 +80,9 @@ impl<'a> UintRef<'a> {
         }
     }
 
-    #[tactic(auto, using(crate::specs::UnsignedLaws::without_sign_octet_kept))]
     /// The octets of the number without leading zeros: one 00 for zero. The contents octets are
-    /// these, with a 00 in front where the first is 80 or more.
+    /// these, with a 00 before them where the first is 80 or more.
+    #[tactic(auto, using(crate::specs::UnsignedLaws::without_sign_octet_kept))]
     pub fn as_bytes(self) -> &'a [u8]
         ensures octets { result.now ≡ without_sign_octet (⟦<UintRef<'a> as FormValue>⟧.contents self.entry) }
         ensures number { ⟦<UintRef<'a> as FormValue>⟧.contents self.entry ≡ natural_contents (big_endian_number result.now) }
@@ -90,8 +90,8 @@ impl<'a> UintRef<'a> {
         self.octets
     }
 
-    #[tactic(auto, using(crate::specs::UnsignedLaws::without_sign_octet_kept, crate::specs::UnsignedLaws::sign_octet_length))]
     /// How many octets the number has without leading zeros.
+    #[tactic(auto, using(crate::specs::UnsignedLaws::without_sign_octet_kept, crate::specs::UnsignedLaws::sign_octet_length))]
     pub fn len(self) -> Length
         ensures { result ≡ length (without_sign_octet (⟦<UintRef<'a> as FormValue>⟧.contents self.entry)) }
     {
