@@ -17,6 +17,7 @@ use crate::octets::is_high;
 use crate::uint::Uint;
 use der_elem::{
     ContentsEq, DecodeValue, DuplicateValue, EncodeValue, FixedTag, FormValue, OrdIsValueOrd,
+    ValueMemory, WithMemory,
 };
 use der_tlv::{Error, ErrorKind, Header, Length, Reader, Tag, VecWriter, Writer};
 use std::alloc::{AllocError, Global};
@@ -144,6 +145,12 @@ impl FormValue for Int {
     ghost accepts_one_form_value = { λ rules v w c d a b. tt };
 
     ghost re_reads_memory_value = { λ v e. refl };
+}
+
+impl ValueMemory for Int {
+    type OfValue = WithMemory;
+
+    ghost memory_of_value = { refl };
 }
 
 impl FixedTag for Int {

@@ -18,7 +18,7 @@ use crate::int::Int;
 use crate::octets::{check_integer, strip_redundant};
 use der_elem::{
     ContentsEq, DecodeValue, DuplicateValue, EncodeValue, Form, FormValue, OrdIsValueOrd, SameTag,
-    Tagged,
+    Tagged, ValueMemory, WithoutMemory,
 };
 use der_opaque::{Any, AnyRef};
 use der_tlv::{Error, ErrorKind, Header, Length, Reader, Tag, Writer};
@@ -135,6 +135,12 @@ impl<'a> FormValue for IntRef<'a> {
     ghost accepts_one_form_value = { λ rules v w c d a b. tt };
 
     ghost re_reads_memory_value = { λ v e. e };
+}
+
+impl<'a> ValueMemory for IntRef<'a> {
+    type OfValue = WithoutMemory;
+
+    ghost memory_of_value = { refl };
 }
 
 impl<'a> SameTag for IntRef<'a> {

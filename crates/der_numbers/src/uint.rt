@@ -21,6 +21,7 @@ use crate::octets::{compare_contents, contents_len, write_contents};
 use crate::uint_ref::{AsUintRef, UintRef};
 use der_elem::{
     ContentsEq, DecodeValue, DuplicateValue, EncodeValue, FixedTag, FormValue, OrdIsValueOrd,
+    ValueMemory, WithMemory,
 };
 use der_tlv::{Error, ErrorKind, Header, Length, Reader, Tag, Writer};
 use std::alloc::{AllocError, Global};
@@ -133,6 +134,12 @@ impl FormValue for Uint {
     ghost accepts_one_form_value = { λ rules v w c d a b. tt };
 
     ghost re_reads_memory_value = { λ v e. refl };
+}
+
+impl ValueMemory for Uint {
+    type OfValue = WithMemory;
+
+    ghost memory_of_value = { refl };
 }
 
 impl FixedTag for Uint {

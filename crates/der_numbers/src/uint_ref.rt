@@ -23,7 +23,7 @@ use crate::octets::{check_natural, compare_contents, contents_len, strip_zeros, 
 use crate::uint::Uint;
 use der_elem::{
     ContentsEq, DecodeValue, DuplicateValue, EncodeValue, Form, FormValue, OrdIsValueOrd, SameTag,
-    Tagged,
+    Tagged, ValueMemory, WithoutMemory,
 };
 use der_opaque::{Any, AnyRef};
 use der_tlv::{Error, ErrorKind, Header, Length, Reader, Tag, Writer};
@@ -147,6 +147,12 @@ impl<'a> FormValue for UintRef<'a> {
     ghost accepts_one_form_value = { λ rules v w c d a b. tt };
 
     ghost re_reads_memory_value = { λ v e. e };
+}
+
+impl<'a> ValueMemory for UintRef<'a> {
+    type OfValue = WithoutMemory;
+
+    ghost memory_of_value = { refl };
 }
 
 impl<'a> SameTag for UintRef<'a> {

@@ -19,6 +19,8 @@ use Rattle.der_elem.specs.IntegerReading.{parse_signed, parse_unsigned}
 use Rattle.der_opaque.specs.Opaque.{parse_octets}
 use Rattle.der_opaque.specs.ObjectIdentifierOctets.{parse_identifier}
 use Rattle.der_opaque.specs.AnyForm.{parse_any}
+use Rattle.der_numbers.specs.AnyLength.{parse_integer, parse_natural}
+use Rattle.der_ascii.specs.Characters.{string_tag, parse_string}
 use Rattle.der_wrap.specs.TaggedValues.{parse_explicit}
 
 -- the canonical encoding of what some octets encode as one type, or the first fault
@@ -85,6 +87,30 @@ tagged_types name =
     else if bytes_eq name (codes "vec-ctx-u8") then Some (canonical_tagged Sequence (parse_items (parse_explicit 2 (parse_tagged Integer (parse_unsigned 1)))))
     else None
 
+-- INTEGER at any number of contents octets, and such as are not negative
+unfoldable pub number_types : List ℕ → Option CanonicalFunction
+number_types name =
+    if bytes_eq name (codes "int") then Some (canonical_tagged Integer parse_integer)
+    else if bytes_eq name (codes "intref") then Some (canonical_tagged Integer parse_integer)
+    else if bytes_eq name (codes "uint") then Some (canonical_tagged Integer parse_natural)
+    else if bytes_eq name (codes "uintref") then Some (canonical_tagged Integer parse_natural)
+    else None
+
+-- strings of characters that have one octet each, of the type with a universal number
+abbrev pub canonical_string : ℕ → CanonicalFunction
+canonical_string number = canonical_tagged (string_tag number) (parse_string number)
+
+unfoldable pub string_types : List ℕ → Option CanonicalFunction
+string_types name =
+    if bytes_eq name (codes "printable") then Some (canonical_string 19)
+    else if bytes_eq name (codes "printableref") then Some (canonical_string 19)
+    else if bytes_eq name (codes "teletex") then Some (canonical_string 20)
+    else if bytes_eq name (codes "teletexref") then Some (canonical_string 20)
+    else if bytes_eq name (codes "videotexref") then Some (canonical_string 21)
+    else if bytes_eq name (codes "ia5") then Some (canonical_string 22)
+    else if bytes_eq name (codes "ia5ref") then Some (canonical_string 22)
+    else None
+
 -- the first of two that there is
 abbrev pub or_else : Option CanonicalFunction → Option CanonicalFunction → Option CanonicalFunction
 or_else None other = other
@@ -92,7 +118,7 @@ or_else (Some function) other = Some function
 
 -- the function of the type with a name
 unfoldable pub canonical_function_of : List ℕ → Option CanonicalFunction
-canonical_function_of name = or_else (plain_types name) (or_else (signed_types name) (or_else (unsigned_types name) (or_else (opaque_types name) (or_else (composed_types name) (tagged_types name)))))
+canonical_function_of name = or_else (plain_types name) (or_else (signed_types name) (or_else (unsigned_types name) (or_else (opaque_types name) (or_else (composed_types name) (or_else (tagged_types name) (or_else (number_types name) (string_types name)))))))
 
 -- the result is what the function gives, unless memory was refused
 abbrev pub Gives : Result (Vec ℕ Global) Error → Result (List ℕ) ErrorKind → Type 0

@@ -1,9 +1,14 @@
 //! The types by their names.
 ghost use Rattle.std.specs.Prelude.{◌≡◌};
 ghost use Rattle.std.specs.Str.{bytes_eq};
-ghost use Rattle.derview.specs.Names.{canonical_function_of, plain_types, signed_types, unsigned_types, opaque_types, composed_types, tagged_types, AnswersAs};
+ghost use Rattle.derview.specs.Names.{canonical_function_of, plain_types, signed_types, unsigned_types, opaque_types, composed_types, tagged_types, number_types, string_types, AnswersAs};
 
 use crate::canonical::canonical;
+use der_ascii::{
+    Ia5String, Ia5StringRef, PrintableString, PrintableStringRef, TeletexString, TeletexStringRef,
+    VideotexStringRef,
+};
+use der_numbers::{Int, IntRef, Uint, UintRef};
 use der_opaque::{Any, AnyRef, Null, ObjectIdentifier, OctetString, OctetStringRef};
 use der_tlv::Error;
 use der_wrap::{Application, ContextSpecific, Private};
@@ -45,7 +50,13 @@ pub fn canonical_of_name(
     if let Some(canonical) = canonical_of_composed(alloc, name, octets) {
         return Some(canonical);
     }
-    canonical_of_tagged(alloc, name, octets)
+    if let Some(canonical) = canonical_of_tagged(alloc, name, octets) {
+        return Some(canonical);
+    }
+    if let Some(canonical) = canonical_of_number(alloc, name, octets) {
+        return Some(canonical);
+    }
+    canonical_of_string(alloc, name, octets)
 }
 
 #[tactic(auto, unfolding(crate::specs::Names::plain_types))]
@@ -133,6 +144,35 @@ fn canonical_of_tagged(alloc: Global, name: &[u8], octets: &[u8]) -> Option<Resu
         "app-u8" => Application<u8>,
         "prv-u8" => Private<u8>,
         "vec-ctx-u8" => Vec<ContextSpecific<u8>>,
+    }
+}
+
+#[tactic(auto, unfolding(crate::specs::Names::number_types))]
+fn canonical_of_number(alloc: Global, name: &[u8], octets: &[u8]) -> Option<Result<Vec<u8>, Error>>
+    ensures { AnswersAs (number_types name.now) octets.now result }
+{
+    choose! {
+        alloc, name, octets;
+        "int" => Int,
+        "intref" => IntRef,
+        "uint" => Uint,
+        "uintref" => UintRef,
+    }
+}
+
+#[tactic(auto, unfolding(crate::specs::Names::string_types))]
+fn canonical_of_string(alloc: Global, name: &[u8], octets: &[u8]) -> Option<Result<Vec<u8>, Error>>
+    ensures { AnswersAs (string_types name.now) octets.now result }
+{
+    choose! {
+        alloc, name, octets;
+        "printable" => PrintableString,
+        "printableref" => PrintableStringRef,
+        "teletex" => TeletexString,
+        "teletexref" => TeletexStringRef,
+        "videotexref" => VideotexStringRef,
+        "ia5" => Ia5String,
+        "ia5ref" => Ia5StringRef,
     }
 }
 
