@@ -5,7 +5,7 @@ use crate::encode::{Encode, EncodeValue};
 use crate::form::FixedTag;
 use crate::ord::{DerOrd, ValueOrd};
 use crate::tag::Tagged;
-use der_tlv::{Error, Header, Length, Reader, SliceReader, Writer};
+use der_tlv::{Error, Header, Length, Reader, SliceReader, VecWriter, Writer};
 use std::alloc::Global;
 use std::cmp::Ordering;
 
@@ -45,6 +45,17 @@ impl<T: EncodeValue + Tagged> Encode for T {
         let header = Header::new(self.tag(), self.value_len()?);
         header.encode(writer)?;
         self.encode_value(writer)
+    }
+
+    /// Measures the contents octets once, for the header and for the vector's room.
+    fn to_der(&self, alloc: Global) -> Result<Vec<u8>, Error> {
+        let len = self.value_len()?;
+        let tag = self.tag();
+        let room = Header::new(tag, len).encoded_len().add(len)?;
+        let mut writer = VecWriter::with_capacity(alloc, usize::from(room))?;
+        Header::new(tag, len).encode(&mut writer)?;
+        self.encode_value(&mut writer)?;
+        Ok(writer.finish())
     }
 }
 
