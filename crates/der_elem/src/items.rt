@@ -19,7 +19,7 @@ use std::cmp::Ordering;
 ///
 /// # Errors
 /// (9) where there are more than 4294967295; (1) where an item reads its items again.
-pub(crate) fn items_len<T: Encode>(items: &[T]) -> Result<Length, Error>
+pub fn items_len<T: Encode>(items: &[T]) -> Result<Length, Error>
     ensures { Measures (flat_map T.encoding items.now) (list_any T.re_reads items.now) result }
 {
     let mut len = Length::ZERO;
@@ -34,7 +34,7 @@ pub(crate) fn items_len<T: Encode>(items: &[T]) -> Result<Length, Error>
 /// # Errors
 /// The writer's; (9) where one has more than 4294967295 octets; (1) where an item reads its items
 /// again.
-pub(crate) fn encode_items<T: Encode, W: Writer>(items: &[T], writer: &mut W) -> Result<(), Error>
+pub fn encode_items<T: Encode, W: Writer>(items: &[T], writer: &mut W) -> Result<(), Error>
     ensures { Encodes (flat_map T.encoding items.now) (list_any T.re_reads items.now) (W.state writer.old) (W.state writer.new) result }
 {
     'items: for item in items {
@@ -48,7 +48,7 @@ pub(crate) fn encode_items<T: Encode, W: Writer>(items: &[T], writer: &mut W) ->
 ///
 /// # Errors
 /// As the comparison of the items.
-pub(crate) fn cmp_items<T: DerOrd + Tagged>(items: &[T], others: &[T]) -> Result<Ordering, Error>
+pub fn cmp_items<T: DerOrd + Tagged>(items: &[T], others: &[T]) -> Result<Ordering, Error>
     ensures { ComparesItems T.Form items.now others.now result }
 {
     let shorter = items.len().min(others.len());
