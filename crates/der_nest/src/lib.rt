@@ -1,0 +1,10 @@
+//! Sequences and sets of items (X.690 8.9 to 8.12, 11.6).
+#![tactic(auto)]
+
+mod finding;
+pub mod laws;
+mod probe;
+mod set_of_vec;
+
+pub use probe::{Asks, ItemProbe, Probe, insertion_place};
+pub use set_of_vec::SetOfVec;
