@@ -1,3 +1,6 @@
 pub mod Placing
 pub mod Unique
 pub mod Sorting
+pub mod EachReading
+pub mod SetReading
+pub mod Copying

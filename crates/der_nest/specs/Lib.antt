@@ -1,6 +1,10 @@
 pub mod Places
 pub mod Insertions
+pub mod Lists
+pub mod Sets
 pub mod LexLaws
 pub mod HalvingLaws
 pub mod PlacingLaws
 pub mod UniqueLaws
+pub mod ListLaws
+pub mod SetLaws

@@ -4,6 +4,7 @@
 mod finding;
 pub mod laws;
 mod probe;
+mod readiness;
 mod set_of_vec;
 
 pub use probe::{Asks, ItemProbe, Probe, insertion_place};

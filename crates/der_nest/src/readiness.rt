@@ -1,0 +1,18 @@
+//! Readers that have failed.
+
+ghost use Rattle.der_elem.specs.Readiness.{AsksReady};
+
+use der_tlv::{Error, Length, Reader};
+
+/// Asks that no call of the reader was refused.
+///
+/// # Errors
+/// (17) on a failed reader.
+#[inline]
+pub(crate) fn ask_ready<'a, R: Reader<'a>>(reader: &mut R) -> Result<(), Error>
+    ensures { AsksReady (R.state reader.old) (R.state reader.new) result }
+{
+    // Only a failed reader refuses to read nothing.
+    reader.read_slice(Length::ZERO)?;
+    Ok(())
+}
