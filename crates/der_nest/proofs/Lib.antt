@@ -4,3 +4,4 @@ pub mod Sorting
 pub mod EachReading
 pub mod SetReading
 pub mod Copying
+pub mod SequenceReading

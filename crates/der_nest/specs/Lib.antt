@@ -8,3 +8,6 @@ pub mod PlacingLaws
 pub mod UniqueLaws
 pub mod ListLaws
 pub mod SetLaws
+pub mod SequencesOf
+pub mod SequenceLaws
+pub mod OpaqueOctets

@@ -2,10 +2,15 @@
 #![tactic(auto)]
 
 mod finding;
+mod items;
 pub mod laws;
 mod probe;
 mod readiness;
+mod sequence_of;
+mod sequence_ref;
 mod set_of_vec;
 
 pub use probe::{Asks, ItemProbe, Probe, insertion_place};
+pub use sequence_of::SequenceOf;
+pub use sequence_ref::{SequenceRef, SequenceTag};
 pub use set_of_vec::SetOfVec;
