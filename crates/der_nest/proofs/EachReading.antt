@@ -51,7 +51,7 @@ module _ {T : Type 0} {F : form.Ghosts T} {capacity : ℕ} {old now : ReaderStat
   pub same_rules : now.rules ≡ old.rules
   same_rules = ap (λ s. s.rules) so_far.after
 
-  rest_now : rest now ≡ drop so_far.taken (rest old)
+  pub rest_now : rest now ≡ drop so_far.taken (rest old)
   rest_now = ap rest so_far.after ∙ rest-after_read old so_far.taken
 
   seen_item : old.failed ≡ false → seen (F.parse now.rules) now ≡ F.parse old.rules now.position (rest now)

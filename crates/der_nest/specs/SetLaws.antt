@@ -4,7 +4,7 @@ use Rattle.std.specs.List.{All, concat}
 use Rattle.std.specs.List.Sorted.{IsPermutation}
 use Rattle.std.proofs.lemmas.List.{length-append}
 use Rattle.std.proofs.lemmas.List.Sums.{sum_by-cons}
-use Rattle.std.proofs.lemmas.List.Sorted.{All-permutation, sum_by-IsPermutation, IsPermutation-refl, IsPermutation-sym, IsPermutation-trans, IsPermutation-map}
+use Rattle.std.proofs.lemmas.List.Sorted.{All-permutation, sum_by-IsPermutation, IsPermutation-refl, IsPermutation-sym, IsPermutation-trans, IsPermutation-map, length_permutation}
 use Rattle.der_tlv.specs.declared.encoding_rules.EncodingRules.{EncodingRules}
 use Rattle.der_elem.specs.declared.form.Form as form
 use Rattle.der_elem.specs.Accepting.{Fits}
@@ -12,7 +12,7 @@ use Rattle.der_elem.specs.Items.{OneForms}
 use Rattle.der_nest.specs.Places.{IsInOrder, sorted}
 use Rattle.der_nest.specs.ListLaws.{concat-map, parse_of_each, same_length_each, accepts_each, readable_each, parts_within, one_forms}
 use Rattle.der_nest.specs.UniqueLaws.{unique_in_order, sorted_sorted, IsPermutation-sorted}
-use Rattle.der_nest.specs.Sets.{AcceptsSet, ReadableSet, joined_in_order, parse_set_up_to}
+use Rattle.der_nest.specs.Sets.{AcceptsSet, AcceptsSetUpTo, ReadableSet, ReadableSetUpTo, joined_in_order, parse_set_up_to}
 
 -- the encodings of items, put in order, are those of the items put in order
 pub sorted_items : {T : Type 0} (encoding : T → List ℕ) (items vs : List T) → IsPermutation items vs → IsInOrder encoding vs → sorted (map encoding items) ≡ map encoding vs
@@ -47,3 +47,20 @@ module _ {T : Type 0} (F : form.Ghosts T) (rules : EncodingRules) where
 
   pub one_form_set : (vs ws : List T) (c d : List ℕ) → AcceptsSet F.encoding (F.accepts rules) vs c → AcceptsSet F.encoding (F.accepts rules) ws d → OneForms F.one_form vs ws
   one_form_set vs ws c d a b = one_forms F rules (length c) (length d) vs ws (parts_of_set vs c a) (parts_of_set ws d b)
+
+-- the same of sets of at most so many items
+module _ {T : Type 0} (F : form.Ghosts T) (rules : EncodingRules) (capacity : ℕ) where
+  pub parse_of_set_up_to : (vs : List T) (p : ℕ) (c : List ℕ) → AcceptsSetUpTo capacity F.encoding (F.accepts rules) vs c → Fits c → parse_set_up_to capacity F.parse rules p c ≡ Ok (flat_map F.encoding vs)
+  parse_of_set_up_to vs p c (h, a) fits = let l = length_permutation a.items vs a.same_items in parse_of_set F rules vs capacity p c a (omega arith) fits
+
+  pub same_length_set_up_to : (vs : List T) (c : List ℕ) → AcceptsSetUpTo capacity F.encoding (F.accepts rules) vs c → length (flat_map F.encoding vs) ≡ length c
+  same_length_set_up_to vs c a = same_length_set F rules vs c a.1
+
+  pub accepts_set_up_to_contents : (vs : List T) → ReadableSetUpTo capacity F.readable F.encoding vs → AcceptsSetUpTo capacity F.encoding (F.accepts rules) vs (flat_map F.encoding vs)
+  accepts_set_up_to_contents vs r = (r.0, accepts_set_contents F rules vs r.1)
+
+  pub readable_set_up_to : (vs : List T) (c : List ℕ) → AcceptsSetUpTo capacity F.encoding (F.accepts rules) vs c → ReadableSetUpTo capacity F.readable F.encoding vs
+  readable_set_up_to vs c a = (a.0, readable_set F rules vs c a.1)
+
+  pub one_form_set_up_to : (vs ws : List T) (c d : List ℕ) → AcceptsSetUpTo capacity F.encoding (F.accepts rules) vs c → AcceptsSetUpTo capacity F.encoding (F.accepts rules) ws d → OneForms F.one_form vs ws
+  one_form_set_up_to vs ws c d a b = one_form_set F rules vs ws c d a.1 b.1

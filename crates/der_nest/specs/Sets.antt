@@ -1,5 +1,5 @@
 -- Sets: the contents octets are the encodings of the items in non-decreasing order (X.690 8.12, 11.6).
-use Rattle.std.specs.Prelude.{ℕ, ◌<◌, List, length, Result, Ok, Err}
+use Rattle.std.specs.Prelude.{ℕ, ◌<◌, ◌≤◌, List, length, Result, Ok, Err}
 use Rattle.std.specs.List.{All, concat}
 use Rattle.std.specs.List.Sorted.{IsPermutation}
 use Rattle.der_tlv.specs.declared.error.ErrorKind.{ErrorKind}
@@ -30,3 +30,10 @@ parse_set_up_to capacity parse rules p octets = joined_in_order (parse_each capa
 -- the same of any number of items, of which there are no more than octets
 abbrev pub parse_set : Parse → ContentsParse
 parse_set parse rules p octets = parse_set_up_to (length octets) parse rules p octets
+
+-- sets of at most so many items
+abbrev pub AcceptsSetUpTo : {T : Type 0} → ℕ → (T → List ℕ) → (T → List ℕ → Type 0) → List T → List ℕ → Type 0
+AcceptsSetUpTo capacity encoding accepts vs octets = (length vs ≤ capacity) × AcceptsSet encoding accepts vs octets
+
+abbrev pub ReadableSetUpTo : {T : Type 0} → ℕ → (T → Type 0) → (T → List ℕ) → List T → Type 0
+ReadableSetUpTo capacity readable encoding vs = (length vs ≤ capacity) × ReadableSet readable encoding vs

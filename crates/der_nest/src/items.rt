@@ -1,11 +1,14 @@
 //! The items of sequences and sets of a fixed capacity, whose encodings stand one after another.
 
-ghost use Rattle.std.specs.Prelude.{flat_map};
+ghost use Rattle.std.specs.Prelude.{◌≡◌, ◌≤◌, length, flat_map, true, IfOk, IfErr};
 ghost use Rattle.std.specs.List.{list_any};
 ghost use Rattle.der_elem.specs.Encoding.{Encodes, Measures};
 ghost use Rattle.der_elem.specs.ComparingItems.{ComparesItems};
+ghost use Rattle.der_elem.specs.Items.{AreCopies};
+ghost use Rattle.der_tlv.specs.declared.error.ErrorKind.TheVariants.{Memory};
 
-use der_elem::{DerOrd, Encode, Tagged};
+use arrayvec::ArrayVec;
+use der_elem::{DerOrd, Duplicate, Encode, Tagged};
 use der_tlv::{Error, Length, Writer};
 use std::cmp::Ordering;
 
@@ -53,4 +56,23 @@ pub(crate) fn cmp_items<T: DerOrd + Tagged>(items: &[T], others: &[T]) -> Result
         }
     }
     Ok(items.len().cmp(&others.len()))
+}
+
+/// Copies of the items.
+///
+/// # Errors
+/// (1) where copying an item takes memory, and it runs out.
+pub(crate) fn duplicate_items<T: Duplicate + Default, const N: usize>(
+    items: &[T],
+) -> Result<ArrayVec<T, N>, Error>
+    requires { length items.now ≤ N }
+    ensures ok { IfOk result (λ copies. AreCopies T.is_copy items.now copies.items) }
+    ensures kind { IfErr result (λ e. e.kind ≡ Memory) }
+    ensures memory { IfErr result (λ e. T.takes_memory_to_copy ≡ true) }
+{
+    let mut copies = ArrayVec::new();
+    'items: for item in items {
+        copies.push(item.duplicate()?);
+    }
+    Ok(copies)
 }
