@@ -10,4 +10,3 @@ pub mod ListLaws
 pub mod SetLaws
 pub mod SequencesOf
 pub mod SequenceLaws
-pub mod OpaqueOctets

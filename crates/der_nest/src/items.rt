@@ -1,62 +1,12 @@
-//! The items of sequences and sets of a fixed capacity, whose encodings stand one after another.
+//! Copies of the items of sequences and sets of a fixed capacity.
 
-ghost use Rattle.std.specs.Prelude.{◌≡◌, ◌≤◌, length, flat_map, true, IfOk, IfErr};
-ghost use Rattle.std.specs.List.{list_any};
-ghost use Rattle.der_elem.specs.Encoding.{Encodes, Measures};
-ghost use Rattle.der_elem.specs.ComparingItems.{ComparesItems};
+ghost use Rattle.std.specs.Prelude.{◌≡◌, ◌≤◌, length, true, IfOk, IfErr};
 ghost use Rattle.der_elem.specs.Items.{AreCopies};
 ghost use Rattle.der_tlv.specs.declared.error.ErrorKind.TheVariants.{Memory};
 
 use arrayvec::ArrayVec;
-use der_elem::{DerOrd, Duplicate, Encode, Tagged};
-use der_tlv::{Error, Length, Writer};
-use std::cmp::Ordering;
-
-/// How many octets the encodings of the items have.
-///
-/// # Errors
-/// (9) where there are more than 4294967295; (1) where an item reads its items again.
-pub(crate) fn items_len<T: Encode>(items: &[T]) -> Result<Length, Error>
-    ensures { Measures (flat_map T.encoding items.now) (list_any T.re_reads items.now) result }
-{
-    let mut len = Length::ZERO;
-    'items: for item in items {
-        len = len.add(item.encoded_len()?)?;
-    }
-    Ok(len)
-}
-
-/// Writes the encodings of the items, in their order.
-///
-/// # Errors
-/// The writer's; (9) where one has more than 4294967295 octets; (1) where an item reads its items
-/// again.
-pub(crate) fn encode_items<T: Encode, W: Writer>(items: &[T], writer: &mut W) -> Result<(), Error>
-    ensures { Encodes (flat_map T.encoding items.now) (list_any T.re_reads items.now) (W.state writer.old) (W.state writer.new) result }
-{
-    'items: for item in items {
-        item.encode(writer)?;
-    }
-    Ok(())
-}
-
-/// The lexicographic order of the joined encodings: the first pair of items that differs decides,
-/// else the number of items.
-///
-/// # Errors
-/// As the comparison of the items.
-pub(crate) fn cmp_items<T: DerOrd + Tagged>(items: &[T], others: &[T]) -> Result<Ordering, Error>
-    ensures { ComparesItems T.Form items.now others.now result }
-{
-    let shorter = items.len().min(others.len());
-    'items: for i in 0..shorter {
-        match items[i].der_cmp(&others[i])? {
-            Ordering::Equal => {}
-            order => return Ok(order),
-        }
-    }
-    Ok(items.len().cmp(&others.len()))
-}
+use der_elem::Duplicate;
+use der_tlv::Error;
 
 /// Copies of the items.
 ///

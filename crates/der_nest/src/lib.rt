@@ -5,7 +5,6 @@ mod finding;
 mod items;
 pub mod laws;
 mod probe;
-mod readiness;
 mod sequence_of;
 mod sequence_ref;
 mod set_of;
