@@ -1,0 +1,4 @@
+pub mod BitPlaces
+pub mod ClearedBits
+pub mod EqualBits
+pub mod ContentsWriting

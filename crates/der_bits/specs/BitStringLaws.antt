@@ -1,0 +1,13 @@
+-- The laws of bit strings.
+use Rattle.std.proofs.Common.{◌≡◌, ℕ, List, ◌∷◌, true, Ok, refl, ap, ◌∙◌}
+use Rattle.der_tlv.specs.declared.encoding_rules.EncodingRules.{EncodingRules}
+use Rattle.der_bits.specs.BitString.{can_be_unused, are_zero, bits_or_fault, parse_bits, parse_bit_string}
+
+module _ (count : ℕ) (octets : List ℕ) (possible : can_be_unused count octets ≡ true) (zero : are_zero count octets ≡ true) where
+  -- a possible number of unused bits and octets with zero unused bits have no fault
+  pub parsed : parse_bits count octets ≡ Ok (count ∷ octets)
+  parsed = rw (possible, zero) refl
+
+  -- octets that are accepted are parsed as the bit string
+  pub parse_of_bits : (rules : EncodingRules) (p : ℕ) (c : List ℕ) → c ≡ count ∷ octets → parse_bit_string rules p c ≡ Ok (count ∷ octets)
+  parse_of_bits rules p c a = ap bits_or_fault a ∙ parsed

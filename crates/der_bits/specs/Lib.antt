@@ -1,0 +1,2 @@
+pub mod BitString
+pub mod BitStringLaws

@@ -1,0 +1,329 @@
+//! BIT STRING (X.690 8.6, 11.2.1).
+//!
+//! The tag is 03. The contents octets, and what reading refuses, are those of the borrowed form.
+
+ghost use Rattle.std.specs.Prelude.{◌≡◌, ◌≢◌, ◌↔◌, MatchOption, ◌^◌, ◌<◌, ◌≤◌, ℕ, List, [], ◌∷◌, length, true, false, refl, IsTrue, IfOk, IfErr, Some, None, nat_eq};
+ghost use Rattle.std.proofs.Common.{lit<, ap, sym};
+ghost use Rattle.std.specs.Cmp.{on_per, on_equiv, on_po, on_total, partial_equiv_from_equiv};
+ghost use Rattle.std.specs.Cmp.Lexicographic.{pointwise, bytes_decides, nat_list_eq_equiv, nat_list_cmp_total, texts_po, texts_ties};
+ghost use Rattle.der_tlv.specs.declared.error.ErrorKind.TheVariants as kinds;
+ghost use Rattle.der_tlv.specs.declared.tag.Tag.TheVariants as tags;
+ghost use Rattle.der_tlv.specs.Octets.{lex};
+ghost use Rattle.der_opaque.specs.Opaque.{accepts_octets};
+ghost use Rattle.der_bits.specs.BitString.{AreOctets, can_be_unused, are_zero, parse_bit_string, unused_count, bit_octets, bit_count, bit, bits, KeepsBits, KeepsAll, KeepsCleared};
+ghost use Rattle.der_bits.specs.BitStringLaws.{parse_of_bits};
+
+use crate::bit_string_iter::BitStringIter;
+use crate::bit_string_ref::BitStringRef;
+use crate::unused_bits::{are_zero, can_be_unused, clear};
+use der_elem::{
+    ContentsEq, DecodeValue, DuplicateValue, EncodeValue, FixedTag, FormValue, ValueMemory,
+    ValueOrd, WithMemory,
+};
+use der_tlv::{Error, ErrorKind, Header, Length, Reader, Tag, Writer};
+use std::alloc::{AllocError, Global};
+use std::cmp::Ordering;
+
+/// The bits of a BIT STRING: the octets that hold them, at most 4294967295, and how many bits of the
+/// last octet are unused.
+///
+/// The bits 011011100101110111 are encoded as 03 04 06 6E 5D C0.
+#[derive(Debug, Drop)]
+pub struct BitString {
+    pub(crate) unused: u8,
+    pub(crate) octets: Vec<u8>,
+    ghost possible: { can_be_unused unused octets.items ≡ true },
+    ghost zero: { are_zero unused octets.items ≡ true },
+    ghost short: { length octets.items < 2 ^ 32 },
+    ghost octet: { AreOctets octets.items },
+}
+
+impl BitString {
+    /// The greatest number of unused bits.
+    pub const MAX_UNUSED_BITS: u8 = 7;
+
+    /// The bits of these octets, but for so many of the last octet, its lowest, which are zero.
+    ///
+    /// # Errors
+    /// (13) for a number of unused bits over 7, or another than 0 where there is no octet, and for
+    /// an unused bit that is not zero; (7) for more than 4294967295 octets. The number of bits fits
+    /// a `usize`, which has 64 bits, so there is no (9).
+    pub fn new(unused_bits: u8, octets: Vec<u8>) -> Result<BitString, Error>
+        ensures { KeepsBits ⟦<BitString as FormValue>⟧.contents unused_bits octets.items result }
+    {
+        if !can_be_unused(unused_bits, &octets) || !are_zero(unused_bits, &octets) {
+            return Err(Error::from_kind(Tag::BitString.value_error()));
+        }
+        match Length::of(octets.len()) {
+            Ok(_) => Ok(BitString {
+                unused: unused_bits,
+                octets,
+            }),
+            Err(_) => Err(Error::from_kind(Tag::BitString.length_error())),
+        }
+    }
+
+    /// The bits of these octets, but for so many of the last octet, its lowest, which are made zero
+    /// in the vector that was handed in.
+    ///
+    /// # Errors
+    /// (13) for a number of unused bits over 7, or another than 0 where there is no octet; (7) for
+    /// more than 4294967295 octets. The number of bits fits a `usize`, which has 64 bits, so there
+    /// is no (9).
+    pub fn new_cleared(unused_bits: u8, octets: Vec<u8>) -> Result<BitString, Error>
+        ensures { KeepsCleared ⟦<BitString as FormValue>⟧.contents unused_bits octets.items result }
+    {
+        if !can_be_unused(unused_bits, &octets) {
+            return Err(Error::from_kind(Tag::BitString.value_error()));
+        }
+        match Length::of(octets.len()) {
+            Ok(_) => {
+                let mut octets = octets;
+                clear(unused_bits, &mut octets);
+                Ok(BitString {
+                    unused: unused_bits,
+                    octets,
+                })
+            }
+            Err(_) => Err(Error::from_kind(Tag::BitString.length_error())),
+        }
+    }
+
+    /// The bits of these octets, all of them, copied.
+    ///
+    /// # Errors
+    /// (7) for more than 4294967295 octets; (1) where memory runs out.
+    pub fn from_bytes(alloc: Global, octets: &[u8]) -> Result<BitString, Error>
+        ensures value { IfOk result (λ s. ⟦<BitString as FormValue>⟧.contents s ≡ 0 ∷ octets.now) }
+        ensures short { length octets.now < 2 ^ 32 → IfErr result (λ e. e.kind ≡ kinds.Memory) }
+        ensures long { 2 ^ 32 ≤ length octets.now → IfErr result (λ e. e.kind ≡ kinds.Length tags.BitString) }
+    {
+        match BitStringRef::from_bytes(octets) {
+            Ok(string) => string.ref_to_owned(alloc),
+            Err(e) => Err(e),
+        }
+    }
+
+    /// How many bits of the last octet are unused.
+    pub fn unused_bits(&self) -> u8
+        ensures { result ≡ unused_count (⟦<BitString as FormValue>⟧.contents self.now) }
+    {
+        self.unused
+    }
+
+    /// Whether there are unused bits.
+    pub fn has_unused_bits(&self) -> bool
+        ensures { IsTrue result ↔ (unused_count (⟦<BitString as FormValue>⟧.contents self.now) ≢ 0) }
+    {
+        self.unused != 0
+    }
+
+    /// How many bits there are.
+    pub fn bit_len(&self) -> usize
+        ensures { result ≡ bit_count (⟦<BitString as FormValue>⟧.contents self.now) }
+    {
+        self.owned_to_ref().bit_len()
+    }
+
+    /// Whether there are no bits.
+    pub fn is_empty(&self) -> bool
+        ensures { IsTrue result ↔ (bit_octets (⟦<BitString as FormValue>⟧.contents self.now) ≡ []) }
+    {
+        self.raw_bytes().is_empty()
+    }
+
+    /// The octets of the bits, if no bit of them is unused.
+    pub fn as_bytes(&self) -> Option<&[u8]>
+        ensures { MatchOption result (unused_count (⟦<BitString as FormValue>⟧.contents self.now) ≢ 0) (λ octets. ⟦<BitString as FormValue>⟧.contents self.now ≡ 0 ∷ octets.now) }
+    {
+        self.owned_to_ref().as_bytes()
+    }
+
+    /// The octets of the bits, with the unused bits, which are zero.
+    pub fn raw_bytes(&self) -> &[u8]
+        ensures { result.now ≡ bit_octets (⟦<BitString as FormValue>⟧.contents self.now) }
+    {
+        &self.octets
+    }
+
+    /// The bits, each once and in order.
+    pub fn bits(&self) -> BitStringIter<'_>
+        ensures { result ≡ bits (⟦<BitString as FormValue>⟧.contents self.now) }
+    {
+        self.owned_to_ref().bits()
+    }
+
+    /// The bit at this place, which is below the number of bits.
+    pub fn get(&self, position: usize) -> Option<bool>
+        ensures inside { position < bit_count (⟦<BitString as FormValue>⟧.contents self.now) → result ≡ Some (bit (⟦<BitString as FormValue>⟧.contents self.now) position) }
+        ensures outside { bit_count (⟦<BitString as FormValue>⟧.contents self.now) ≤ position → result ≡ None }
+    {
+        self.owned_to_ref().get(position)
+    }
+
+    /// The string, borrowed.
+    pub fn owned_to_ref(&self) -> BitStringRef<'_>
+        ensures { ⟦<BitStringRef<'static> as FormValue>⟧.contents result ≡ ⟦<BitString as FormValue>⟧.contents self.now }
+    {
+        BitStringRef {
+            unused: self.unused,
+            octets: &self.octets,
+        }
+    }
+}
+
+impl Clone for BitString {
+    ghost is_clone = { λ v w. ⟦<BitString as FormValue>⟧.contents w ≡ ⟦<BitString as FormValue>⟧.contents v };
+
+    fn clone(&self) -> Result<BitString, AllocError> {
+        let octets = self.octets.clone()?;
+        Ok(BitString {
+            unused: self.unused,
+            octets,
+        })
+    }
+}
+
+impl FormValue for BitString {
+    ghost contents = { λ v. v.unused ∷ v.octets.items };
+
+    ghost one_form_value = { λ v w. Unit {0} };
+
+    ghost re_reads_value = { λ v. false };
+
+    ghost accepts_value = { accepts_octets (λ v. v.unused ∷ v.octets.items) };
+
+    ghost parse_value = { parse_bit_string };
+
+    ghost readable_value = { λ v. Unit {0} };
+
+    ghost has_tag = { λ v t. Unit {0} };
+
+    ghost VALUE_TAKES_MEMORY = { true };
+
+    ghost parse_of_accepted_value = { λ rules v p c a fits. parse_of_bits v.unused v.octets.items v.possible v.zero rules p c a };
+
+    ghost same_length_value = { λ rules v c a. ap length (sym a) };
+
+    ghost accepts_contents = { λ rules v r. refl };
+
+    ghost only_readable_value = { λ rules v c a. tt };
+
+    ghost accepts_one_form_value = { λ rules v w c d a b. tt };
+
+    ghost re_reads_memory_value = { λ v e. refl };
+}
+
+impl ValueMemory for BitString {
+    type OfValue = WithMemory;
+
+    ghost memory_of_value = { refl };
+}
+
+impl FixedTag for BitString {
+    ghost TAG = { tags.BitString };
+
+    const TAG: Tag = Tag::BitString;
+
+    ghost tag_in_range = { lit< tt };
+}
+
+impl<'a, R: Reader<'a>> DecodeValue<'a, R> for BitString {
+    fn decode_value(alloc: Global, reader: &mut R, header: Header) -> Result<BitString, Error> {
+        match BitStringRef::decode_value(alloc, reader, header) {
+            Ok(string) => match string.ref_to_owned(alloc) {
+                Ok(string) => Ok(string),
+                Err(e) => Err(reader.error(e.kind)),
+            },
+            Err(e) => Err(e),
+        }
+    }
+}
+
+impl EncodeValue for BitString {
+    fn value_len(&self) -> Result<Length, Error> {
+        self.owned_to_ref().value_len()
+    }
+
+    fn encode_value<W: Writer>(&self, writer: &mut W) -> Result<(), Error> {
+        self.owned_to_ref().encode_value(writer)
+    }
+}
+
+impl PartialEq for BitString {
+    ghost eq = { λ v w. pointwise nat_eq (v.unused ∷ v.octets.items) (w.unused ∷ w.octets.items) };
+
+    ghost laws = { on_per (λ v. v.unused ∷ v.octets.items) (partial_equiv_from_equiv nat_list_eq_equiv) };
+
+    /// Whether the two have the same bits: since unused bits are zero, whether they have the same
+    /// contents octets.
+    fn eq(&self, other: &BitString) -> bool {
+        self.owned_to_ref() == other.owned_to_ref()
+    }
+}
+
+impl Eq for BitString {
+    ghost laws = { on_equiv (λ v. v.unused ∷ v.octets.items) nat_list_eq_equiv };
+}
+
+impl PartialOrd for BitString {
+    ghost partial_cmp = { λ v w. Some (lex (v.unused ∷ v.octets.items) (w.unused ∷ w.octets.items)) };
+
+    ghost laws = { on_po (λ v. v.unused ∷ v.octets.items) texts_po };
+
+    fn partial_cmp(&self, other: &BitString) -> Option<Ordering> {
+        Some(self.cmp(other))
+    }
+}
+
+impl Ord for BitString {
+    ghost cmp = { λ v w. lex (v.unused ∷ v.octets.items) (w.unused ∷ w.octets.items) };
+
+    ghost total = { on_total (λ v. v.unused ∷ v.octets.items) nat_list_cmp_total };
+
+    ghost matches_partial_cmp = { λ v w. refl };
+
+    ghost matches_eq = { λ v w. texts_ties (v.unused ∷ v.octets.items) (w.unused ∷ w.octets.items) };
+
+    /// The lexicographic order of the contents octets: the number of unused bits decides first.
+    fn cmp(&self, other: &BitString) -> Ordering {
+        self.owned_to_ref().cmp(&other.owned_to_ref())
+    }
+}
+
+impl ValueOrd for BitString {
+    fn value_cmp(&self, other: &BitString) -> Result<Ordering, Error> {
+        Ok(self.cmp(other))
+    }
+}
+
+impl ContentsEq for BitString {
+    ghost contents_eq = { λ v w one. bytes_decides (v.unused ∷ v.octets.items) (w.unused ∷ w.octets.items) };
+}
+
+impl DuplicateValue for BitString {
+    ghost is_copy_value = { λ v w. (w.unused ∷ w.octets.items) ≡ (v.unused ∷ v.octets.items) };
+
+    ghost takes_memory_to_copy_value = { true };
+
+    fn duplicate_value(&self) -> Result<BitString, Error> {
+        match self.clone() {
+            Ok(copy) => Ok(copy),
+            Err(_) => Err(Error::from_kind(ErrorKind::Memory)),
+        }
+    }
+
+    ghost copy_contents = { λ v w e. e };
+
+    ghost copy_form_value = { λ v w x e f. tt };
+
+    ghost copy_re_reads_value = { λ v w e. refl };
+}
+
+impl<'a> From<&'a BitString> for BitStringRef<'a> {
+    ghost from_gives = { λ s r. ⟦<BitStringRef<'a> as FormValue>⟧.contents r ≡ ⟦<BitString as FormValue>⟧.contents s.now };
+
+    fn from(string: &'a BitString) -> BitStringRef<'a> {
+        string.owned_to_ref()
+    }
+}

@@ -1,0 +1,60 @@
+//! The bits of a BIT STRING in order.
+
+ghost use Rattle.std.specs.Prelude.{◌≡◌, length};
+ghost use Rattle.std.specs.Iterator.{YieldsFirst, item_count};
+
+use crate::bit_string_ref::BitStringRef;
+use std::iter::FusedIterator;
+use std::marker::Model;
+
+/// The bits that are still to come, in order.
+#[derive(Debug, Drop)]
+pub struct BitStringIter<'a> {
+    pub(crate) string: BitStringRef<'a>,
+    pub(crate) position: usize,
+}
+
+impl<'a> Model for BitStringIter<'a> {
+    ghost use Rattle.std.specs.Prelude.{ℕ, ◌-◌, ◌*◌, ◌≤◌, List, Bool, length};
+    ghost use Rattle.der_bits.specs.BitString.{bits_from};
+
+    ghost Value = { List Bool };
+
+    ghost view = { λ it. bits_from it.string.octets.now it.position (8 * length it.string.octets.now - it.string.unused - it.position) };
+
+    ghost invariant = { λ it. it.position ≤ 8 * length it.string.octets.now - it.string.unused };
+}
+
+impl<'a> Iterator for BitStringIter<'a> {
+    type Item = bool;
+
+    ghost next_gives = { YieldsFirst (λ rest. rest) };
+
+    ghost remaining = { item_count (λ rest. rest) };
+
+    fn next(&mut self) -> Option<bool> {
+        match self.string.get(self.position) {
+            Some(bit) => {
+                self.position += 1;
+                Some(bit)
+            }
+            None => None,
+        }
+    }
+
+    fn size_hint(&self) -> (usize, Option<usize>) {
+        let len = self.len();
+        (len, Some(len))
+    }
+}
+
+impl<'a> ExactSizeIterator for BitStringIter<'a> {
+    /// How many bits are still to come.
+    fn len(&self) -> usize
+        ensures bits { result ≡ length self.now }
+    {
+        self.string.bit_len() - self.position
+    }
+}
+
+impl<'a> FusedIterator for BitStringIter<'a> {}

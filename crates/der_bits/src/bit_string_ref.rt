@@ -1,0 +1,477 @@
+//! Borrowed BIT STRING (X.690 8.6, 11.2.1).
+//!
+//! The tag is 03. The contents octets are the number of unused bits of the last octet, 0 to 7, and
+//! then the octets of the bits. The first bit is the highest of the first octet. No bits have no
+//! octet, and the number 0. The unused bits are the lowest of the last octet, and are zero.
+//!
+//! Reading refuses no contents octets (9), then a number of unused bits over 7, or another than 0
+//! where there is no octet (13), then an unused bit that is not zero (8).
+
+ghost use Rattle.std.specs.Prelude.{◌≡◌, ◌≢◌, ◌↔◌, MatchResult, MatchOption, ◌^◌, ◌<◌, ◌≤◌, ℕ, List, [], ◌∷◌, length, true, false, refl, IsTrue, IfOk, IfErr, Some, None, nat_eq};
+ghost use Rattle.std.proofs.Common.{ap, sym};
+ghost use Rattle.std.specs.Cmp.{on_per, on_equiv, on_po, on_total, partial_equiv_from_equiv};
+ghost use Rattle.std.specs.Cmp.Lexicographic.{pointwise, bytes_decides, nat_list_eq_equiv, nat_list_cmp_total, texts_po, texts_ties};
+ghost use Rattle.der_tlv.specs.declared.error.ErrorKind.TheVariants as kinds;
+ghost use Rattle.der_tlv.specs.declared.tag.Tag.TheVariants as tags;
+ghost use Rattle.der_tlv.specs.declared.encoding_rules.EncodingRules.TheVariants.{Der};
+ghost use Rattle.der_tlv.specs.Octets.{lex};
+ghost use Rattle.der_opaque.specs.DecodingAs.{DecodesAs};
+ghost use Rattle.der_opaque.specs.Opaque.{accepts_octets};
+ghost use Rattle.der_bits.specs.BitString.{AreOctets, can_be_unused, are_zero, parse_bit_string, unused_count, bit_octets, bit_count, bit, bits, KeepsBits, KeepsAll, ParsedAs, FillsArray};
+ghost use Rattle.der_bits.specs.BitStringLaws.{parse_of_bits};
+
+use crate::bit_string::BitString;
+use crate::bit_string_iter::BitStringIter;
+use crate::unused_bits::{are_zero, can_be_unused};
+use der_elem::{
+    ContentsEq, DecodeValue, DuplicateValue, EncodeValue, Form, FormValue, SameTag, Tagged,
+    ValueMemory, ValueOrd, WithoutMemory,
+};
+use der_opaque::{Any, AnyRef};
+use der_tlv::{Error, ErrorKind, Header, Length, Reader, Tag, Writer};
+use std::alloc::Global;
+use std::cmp::Ordering;
+
+/// The bits of a BIT STRING, borrowed: the octets that hold them, at most 4294967295, and how many
+/// bits of the last octet are unused.
+///
+/// The bits 011011100101110111 are encoded as 03 04 06 6E 5D C0.
+#[derive(Clone, Copy, Debug)]
+pub struct BitStringRef<'a> {
+    pub(crate) unused: u8,
+    pub(crate) octets: &'a [u8],
+    ghost possible: { can_be_unused unused octets.now ≡ true },
+    ghost zero: { are_zero unused octets.now ≡ true },
+    ghost short: { length octets.now < 2 ^ 32 },
+    ghost octet: { AreOctets octets.now },
+}
+
+impl<'a> BitStringRef<'a> {
+    /// The bits of these octets, but for so many of the last octet, its lowest, which are zero.
+    ///
+    /// # Errors
+    /// (13) for a number of unused bits over 7, or another than 0 where there is no octet, and for
+    /// an unused bit that is not zero; (7) for more than 4294967295 octets. The number of bits fits
+    /// a `usize`, which has 64 bits, so there is no (9).
+    pub fn new(unused_bits: u8, octets: &'a [u8]) -> Result<BitStringRef<'a>, Error>
+        ensures { KeepsBits ⟦<BitStringRef<'a> as FormValue>⟧.contents unused_bits octets.now result }
+    {
+        if !can_be_unused(unused_bits, octets) || !are_zero(unused_bits, octets) {
+            return Err(Error::from_kind(Tag::BitString.value_error()));
+        }
+        match Length::of(octets.len()) {
+            Ok(_) => Ok(BitStringRef {
+                unused: unused_bits,
+                octets,
+            }),
+            Err(_) => Err(Error::from_kind(Tag::BitString.length_error())),
+        }
+    }
+
+    /// The bits of these octets, all of them.
+    ///
+    /// # Errors
+    /// (7) for more than 4294967295 octets.
+    pub fn from_bytes(octets: &'a [u8]) -> Result<BitStringRef<'a>, Error>
+        ensures { KeepsAll ⟦<BitStringRef<'a> as FormValue>⟧.contents octets.now result }
+    {
+        BitStringRef::new(0, octets)
+    }
+
+    /// How many bits of the last octet are unused.
+    pub fn unused_bits(self) -> u8
+        ensures { result ≡ unused_count (⟦<BitStringRef<'a> as FormValue>⟧.contents self.entry) }
+    {
+        self.unused
+    }
+
+    /// Whether there are unused bits.
+    pub fn has_unused_bits(self) -> bool
+        ensures { IsTrue result ↔ (unused_count (⟦<BitStringRef<'a> as FormValue>⟧.contents self.entry) ≢ 0) }
+    {
+        self.unused != 0
+    }
+
+    /// How many bits there are.
+    pub fn bit_len(self) -> usize
+        ensures { result ≡ bit_count (⟦<BitStringRef<'a> as FormValue>⟧.contents self.entry) }
+    {
+        8 * self.octets.len() - self.unused as usize
+    }
+
+    /// How many octets the bits have.
+    pub fn byte_len(self) -> Length
+        ensures { result ≡ length (bit_octets (⟦<BitStringRef<'a> as FormValue>⟧.contents self.entry)) }
+    {
+        Length::new(self.octets.len() as u32)
+    }
+
+    /// Whether there are no bits.
+    pub fn is_empty(self) -> bool
+        ensures { IsTrue result ↔ (bit_octets (⟦<BitStringRef<'a> as FormValue>⟧.contents self.entry) ≡ []) }
+    {
+        self.raw_bytes().is_empty()
+    }
+
+    /// The octets of the bits, if no bit of them is unused.
+    pub fn as_bytes(self) -> Option<&'a [u8]>
+        ensures { MatchOption result (unused_count (⟦<BitStringRef<'a> as FormValue>⟧.contents self.entry) ≢ 0) (λ octets. ⟦<BitStringRef<'a> as FormValue>⟧.contents self.entry ≡ 0 ∷ octets.now) }
+    {
+        if self.has_unused_bits() {
+            return None;
+        }
+        Some(self.octets)
+    }
+
+    /// The octets of the bits, with the unused bits, which are zero.
+    pub fn raw_bytes(self) -> &'a [u8]
+        ensures { result.now ≡ bit_octets (⟦<BitStringRef<'a> as FormValue>⟧.contents self.entry) }
+    {
+        self.octets
+    }
+
+    /// The bits, each once and in order.
+    pub fn bits(self) -> BitStringIter<'a>
+        ensures { result ≡ bits (⟦<BitStringRef<'a> as FormValue>⟧.contents self.entry) }
+    {
+        BitStringIter {
+            string: self,
+            position: 0,
+        }
+    }
+
+    /// The bit at this place, which is below the number of bits.
+    pub fn get(self, position: usize) -> Option<bool>
+        ensures inside { position < bit_count (⟦<BitStringRef<'a> as FormValue>⟧.contents self.entry) → result ≡ Some (bit (⟦<BitStringRef<'a> as FormValue>⟧.contents self.entry) position) }
+        ensures outside { bit_count (⟦<BitStringRef<'a> as FormValue>⟧.contents self.entry) ≤ position → result ≡ None }
+    {
+        if position >= self.bit_len() {
+            return None;
+        }
+        let octet = self.octets[position / 8];
+        Some((octet >> (7 - position % 8)) & 1 == 1)
+    }
+
+    /// The octets of the bits, copied into a vector.
+    ///
+    /// # Errors
+    /// (13) where there are unused bits; (1) where memory runs out.
+    pub fn to_vec(self, alloc: Global) -> Result<Vec<u8>, Error>
+        ensures value { IfOk result (λ octets. ⟦<BitStringRef<'a> as FormValue>⟧.contents self.entry ≡ 0 ∷ octets.items) }
+        ensures unused { unused_count (⟦<BitStringRef<'a> as FormValue>⟧.contents self.entry) ≢ 0 → IfErr result (λ e. e.kind ≡ kinds.Value tags.BitString) }
+        ensures err { unused_count (⟦<BitStringRef<'a> as FormValue>⟧.contents self.entry) ≡ 0 → IfErr result (λ e. e.kind ≡ kinds.Memory) }
+    {
+        if self.has_unused_bits() {
+            return Err(Error::from_kind(Tag::BitString.value_error()));
+        }
+        match self.octets.to_vec(alloc) {
+            Ok(octets) => Ok(octets),
+            Err(_) => Err(Error::from_kind(ErrorKind::Memory)),
+        }
+    }
+
+    /// The string, copied.
+    ///
+    /// # Errors
+    /// (1) where memory runs out.
+    pub fn ref_to_owned(self, alloc: Global) -> Result<BitString, Error>
+        ensures value { IfOk result (λ s. ⟦<BitString as FormValue>⟧.contents s ≡ ⟦<BitStringRef<'a> as FormValue>⟧.contents self.entry) }
+        ensures err { IfErr result (λ e. e.kind ≡ kinds.Memory) }
+    {
+        match self.octets.to_vec(alloc) {
+            Ok(octets) => Ok(BitString {
+                unused: self.unused,
+                octets,
+            }),
+            Err(_) => Err(Error::from_kind(ErrorKind::Memory)),
+        }
+    }
+
+    /// The bit string with these contents octets, or the first fault.
+    fn of_contents(contents: &'a [u8]) -> Result<BitStringRef<'a>, ErrorKind>
+        requires { length contents.now < 2 ^ 32 }
+        ensures { ParsedAs ⟦<BitStringRef<'a> as FormValue>⟧.contents contents.now result }
+    {
+        let Some((unused, octets)) = contents.split_first() else {
+            return Err(ErrorKind::Overflow);
+        };
+        if !can_be_unused(*unused, octets) {
+            return Err(Tag::BitString.value_error());
+        }
+        if !are_zero(*unused, octets) {
+            return Err(Tag::BitString.non_canonical_error());
+        }
+        Ok(BitStringRef {
+            unused: *unused,
+            octets,
+        })
+    }
+}
+
+impl<'a> FormValue for BitStringRef<'a> {
+    ghost contents = { λ v. v.unused ∷ v.octets.now };
+
+    ghost one_form_value = { λ v w. Unit {0} };
+
+    ghost re_reads_value = { λ v. false };
+
+    ghost accepts_value = { accepts_octets (λ v. v.unused ∷ v.octets.now) };
+
+    ghost parse_value = { parse_bit_string };
+
+    ghost readable_value = { λ v. Unit {0} };
+
+    ghost has_tag = { λ v t. Unit {0} };
+
+    ghost VALUE_TAKES_MEMORY = { false };
+
+    ghost parse_of_accepted_value = { λ rules v p c a fits. parse_of_bits v.unused v.octets.now v.possible v.zero rules p c a };
+
+    ghost same_length_value = { λ rules v c a. ap length (sym a) };
+
+    ghost accepts_contents = { λ rules v r. refl };
+
+    ghost only_readable_value = { λ rules v c a. tt };
+
+    ghost accepts_one_form_value = { λ rules v w c d a b. tt };
+
+    ghost re_reads_memory_value = { λ v e. e };
+}
+
+impl<'a> ValueMemory for BitStringRef<'a> {
+    type OfValue = WithoutMemory;
+
+    ghost memory_of_value = { refl };
+}
+
+impl<'a> SameTag for BitStringRef<'a> {
+    type As = BitString;
+}
+
+impl<'a, R: Reader<'a>> DecodeValue<'a, R> for BitStringRef<'a> {
+    fn decode_value(
+        _alloc: Global,
+        reader: &mut R,
+        header: Header,
+    ) -> Result<BitStringRef<'a>, Error> {
+        let contents = reader.read_slice(header.length)?;
+        match BitStringRef::of_contents(contents) {
+            Ok(string) => Ok(string),
+            Err(kind) => Err(reader.error(kind)),
+        }
+    }
+}
+
+impl<'a> EncodeValue for BitStringRef<'a> {
+    fn value_len(&self) -> Result<Length, Error> {
+        self.byte_len().add(Length::ONE)
+    }
+
+    fn encode_value<W: Writer>(&self, writer: &mut W) -> Result<(), Error> {
+        writer.write_byte(self.unused)?;
+        writer.write(self.octets)
+    }
+}
+
+impl<'a> PartialEq for BitStringRef<'a> {
+    ghost eq = { λ v w. pointwise nat_eq (v.unused ∷ v.octets.now) (w.unused ∷ w.octets.now) };
+
+    ghost laws = { on_per (λ v. v.unused ∷ v.octets.now) (partial_equiv_from_equiv nat_list_eq_equiv) };
+
+    /// Whether the two have the same bits: since unused bits are zero, whether they have the same
+    /// contents octets.
+    fn eq(&self, other: &BitStringRef<'a>) -> bool {
+        self.unused == other.unused && self.octets == other.octets
+    }
+}
+
+impl<'a> Eq for BitStringRef<'a> {
+    ghost laws = { on_equiv (λ v. v.unused ∷ v.octets.now) nat_list_eq_equiv };
+}
+
+impl<'a> PartialOrd for BitStringRef<'a> {
+    ghost partial_cmp = { λ v w. Some (lex (v.unused ∷ v.octets.now) (w.unused ∷ w.octets.now)) };
+
+    ghost laws = { on_po (λ v. v.unused ∷ v.octets.now) texts_po };
+
+    fn partial_cmp(&self, other: &BitStringRef<'a>) -> Option<Ordering> {
+        Some(self.cmp(other))
+    }
+}
+
+impl<'a> Ord for BitStringRef<'a> {
+    ghost cmp = { λ v w. lex (v.unused ∷ v.octets.now) (w.unused ∷ w.octets.now) };
+
+    ghost total = { on_total (λ v. v.unused ∷ v.octets.now) nat_list_cmp_total };
+
+    ghost matches_partial_cmp = { λ v w. refl };
+
+    ghost matches_eq = { λ v w. texts_ties (v.unused ∷ v.octets.now) (w.unused ∷ w.octets.now) };
+
+    /// The lexicographic order of the contents octets: the number of unused bits decides first.
+    fn cmp(&self, other: &BitStringRef<'a>) -> Ordering {
+        self.unused
+            .cmp(&other.unused)
+            .then(self.octets.cmp(other.octets))
+    }
+}
+
+impl<'a> ValueOrd for BitStringRef<'a> {
+    fn value_cmp(&self, other: &BitStringRef<'a>) -> Result<Ordering, Error> {
+        Ok(self.cmp(other))
+    }
+}
+
+impl<'a> ContentsEq for BitStringRef<'a> {
+    ghost contents_eq = { λ v w one. bytes_decides (v.unused ∷ v.octets.now) (w.unused ∷ w.octets.now) };
+}
+
+impl<'a> DuplicateValue for BitStringRef<'a> {
+    ghost is_copy_value = { λ v w. (w.unused ∷ w.octets.now) ≡ (v.unused ∷ v.octets.now) };
+
+    ghost takes_memory_to_copy_value = { false };
+
+    fn duplicate_value(&self) -> Result<BitStringRef<'a>, Error> {
+        Ok(*self)
+    }
+
+    ghost copy_contents = { λ v w e. e };
+
+    ghost copy_form_value = { λ v w x e f. tt };
+
+    ghost copy_re_reads_value = { λ v w e. refl };
+}
+
+impl<'a> TryFrom<&'a [u8]> for BitStringRef<'a> {
+    type Error = Error;
+
+    ghost try_from_gives = { λ b r. KeepsAll ⟦<BitStringRef<'a> as FormValue>⟧.contents b.now r };
+
+    fn try_from(octets: &'a [u8]) -> Result<BitStringRef<'a>, Error> {
+        BitStringRef::from_bytes(octets)
+    }
+}
+
+impl<'a, 'b> TryFrom<&'b &'a [u8]> for BitStringRef<'a> {
+    type Error = Error;
+
+    ghost try_from_gives = { λ b r. KeepsAll ⟦<BitStringRef<'a> as FormValue>⟧.contents b.now.now r };
+
+    fn try_from(octets: &'b &'a [u8]) -> Result<BitStringRef<'a>, Error> {
+        BitStringRef::from_bytes(*octets)
+    }
+}
+
+impl<'a> TryFrom<&'a Vec<u8>> for BitStringRef<'a> {
+    type Error = Error;
+
+    ghost try_from_gives = { λ b r. KeepsAll ⟦<BitStringRef<'a> as FormValue>⟧.contents b.now.items r };
+
+    fn try_from(octets: &'a Vec<u8>) -> Result<BitStringRef<'a>, Error> {
+        BitStringRef::from_bytes(octets)
+    }
+}
+
+impl<'a, const N: usize> TryFrom<&'a [u8; N]> for BitStringRef<'a> {
+    type Error = Error;
+
+    ghost try_from_gives = { λ b r. KeepsAll ⟦<BitStringRef<'a> as FormValue>⟧.contents b.now r };
+
+    fn try_from(octets: &'a [u8; N]) -> Result<BitStringRef<'a>, Error> {
+        BitStringRef::from_bytes(octets)
+    }
+}
+
+impl<'a> TryFrom<BitStringRef<'a>> for &'a [u8] {
+    type Error = Error;
+
+    ghost try_from_gives = { λ s r. MatchResult r (λ b. ⟦<BitStringRef<'a> as FormValue>⟧.contents s ≡ 0 ∷ b.now) (λ e. (e.kind ≡ kinds.Value tags.BitString) × (unused_count (⟦<BitStringRef<'a> as FormValue>⟧.contents s) ≢ 0)) };
+
+    /// # Errors
+    /// (13) where there are unused bits.
+    fn try_from(string: BitStringRef<'a>) -> Result<&'a [u8], Error> {
+        match string.as_bytes() {
+            Some(octets) => Ok(octets),
+            None => Err(Error::from_kind(Tag::BitString.value_error())),
+        }
+    }
+}
+
+impl<'a, const N: usize> TryFrom<BitStringRef<'a>> for [u8; N] {
+    type Error = Error;
+
+    ghost try_from_gives = { λ s r. FillsArray N (⟦<BitStringRef<'a> as FormValue>⟧.contents s) r };
+
+    /// # Errors
+    /// (13) where there are unused bits; (7) for another number of octets.
+    fn try_from(string: BitStringRef<'a>) -> Result<[u8; N], Error> {
+        if string.has_unused_bits() {
+            return Err(Error::from_kind(Tag::BitString.value_error()));
+        }
+        if string.octets.len() != N {
+            return Err(Error::from_kind(Tag::BitString.length_error()));
+        }
+        let mut octets = [0; N];
+        octets.copy_from_slice(string.octets);
+        Ok(octets)
+    }
+}
+
+impl<'a, 'b> From<&'b BitStringRef<'a>> for BitStringRef<'a> {
+    ghost from_gives = { λ s r. ⟦<BitStringRef<'a> as FormValue>⟧.contents r ≡ ⟦<BitStringRef<'a> as FormValue>⟧.contents s.now };
+
+    fn from(string: &'b BitStringRef<'a>) -> BitStringRef<'a> {
+        *string
+    }
+}
+
+impl<'a> TryFrom<AnyRef<'a>> for BitStringRef<'a> {
+    type Error = Error;
+
+    ghost try_from_gives = { λ a r. DecodesAs ⟦<BitStringRef<'a> as Form>⟧ ⟦<BitStringRef<'a> as FormValue>⟧ Der (⟦<AnyRef<'a> as Tagged>⟧.tag_of a) (⟦<AnyRef<'a> as FormValue>⟧.contents a) r };
+
+    /// # Errors
+    /// (4) with no expected tag for another tag; the faults of contents octets in reading order: (9),
+    /// (13), (8).
+    fn try_from(any: AnyRef<'a>) -> Result<BitStringRef<'a>, Error> {
+        if !any.tag().is(Tag::BitString) {
+            return Err(Error::from_kind(any.tag().unexpected_error(None)));
+        }
+        match BitStringRef::of_contents(any.value()) {
+            Ok(string) => Ok(string),
+            Err(kind) => Err(Error::from_kind(kind)),
+        }
+    }
+}
+
+impl<'a> TryFrom<&'a Any> for BitStringRef<'a> {
+    type Error = Error;
+
+    ghost try_from_gives = { λ a r. DecodesAs ⟦<BitStringRef<'a> as Form>⟧ ⟦<BitStringRef<'a> as FormValue>⟧ Der (⟦<Any as Tagged>⟧.tag_of a.now) (⟦<Any as FormValue>⟧.contents a.now) r };
+
+    /// # Errors
+    /// (4) with no expected tag for another tag; the faults of contents octets in reading order: (9),
+    /// (13), (8).
+    fn try_from(any: &'a Any) -> Result<BitStringRef<'a>, Error> {
+        BitStringRef::try_from(any.to_ref())
+    }
+}
+
+/// A bit string, owned or borrowed.
+pub trait AsBitStringRef: FormValue {
+    /// The same bit string, borrowed.
+    fn as_bit_string_ref(&self) -> BitStringRef<'_>
+        ensures { ⟦<BitStringRef<'static> as FormValue>⟧.contents result ≡ Self.contents self.now };
+}
+
+impl<'a> AsBitStringRef for BitStringRef<'a> {
+    fn as_bit_string_ref(&self) -> BitStringRef<'_> {
+        *self
+    }
+}
+
+impl AsBitStringRef for BitString {
+    fn as_bit_string_ref(&self) -> BitStringRef<'_> {
+        self.owned_to_ref()
+    }
+}
