@@ -5,7 +5,7 @@ use Rattle.std.proofs.lemmas.List.{get_or-set_same, get_or-set_other, length-set
 use Rattle.std.proofs.lemmas.Nat.{shl-shr, shr-shr, shr_split}
 use Rattle.std.proofs.Math.Nat.{mul-mod_left, mod-eq_of_lt}
 use Rattle.der_bits.specs.BitString.{bit_at_place, bits_from, bits, are_zero}
-use Rattle.der_bits.proofs.BitPlaces.{bits_from-same}
+use Rattle.der_bits.specs.BitPlaceLaws.{bits_from-same}
 
 -- the bits from place c on stay
 high_bits : (n c k : ℕ) → c ≤ k → n / 2 ^ c * 2 ^ c / 2 ^ k ≡ n / 2 ^ k

@@ -1,4 +1,2 @@
-pub mod BitPlaces
 pub mod ClearedBits
-pub mod EqualBits
 pub mod ContentsWriting

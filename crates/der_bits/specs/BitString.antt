@@ -4,6 +4,8 @@ use Rattle.der_tlv.specs.declared.error.ErrorKind.{ErrorKind}
 use Rattle.der_tlv.specs.declared.error.ErrorKind.TheVariants as kinds
 use Rattle.der_tlv.specs.declared.error.Error.{Error}
 use Rattle.der_tlv.specs.declared.tag.Tag.TheVariants as tags
+use Rattle.std.specs.Bool.{beq}
+use Rattle.std.specs.Cmp.Lexicographic.{pointwise}
 use Rattle.der_elem.specs.Parsing.{ContentsParse}
 
 -- numbers of which each is an octet
@@ -40,6 +42,10 @@ bit contents i = bit_at_place (bit_octets contents) i
 -- the list of bits, each once and in order
 abbrev pub bits : List ℕ → List Bool
 bits contents = bits_from (bit_octets contents) 0 (bit_count contents)
+
+-- whether the lists of bits are equal
+abbrev pub same_bits : List ℕ → List ℕ → Bool
+same_bits contents others = pointwise beq (bits contents) (bits others)
 
 -- whether so many bits of the last octet can be unused: at most 7, and none where there is no octet (8.6.2.2, 8.6.2.3)
 abbrev pub can_be_unused : ℕ → List ℕ → Bool
@@ -84,6 +90,7 @@ pub record HasBits (contents : List ℕ) (count : ℕ) (octets : List ℕ) : Typ
   pub unused : unused_count contents ≡ count
   pub same_length : length (bit_octets contents) ≡ length octets
   pub same_bits : bits contents ≡ bits (count ∷ octets)
+  pub zero : are_zero count (bit_octets contents) ≡ true
 
 -- A bit string with these bits, or (13) for a number of unused bits that can't be, or (7) for more octets than a length can count.
 abbrev pub KeepsCleared : {T : Type 0} → (T → List ℕ) → ℕ → List ℕ → Result T Error → Type 0

@@ -1,2 +1,4 @@
 pub mod BitString
 pub mod BitStringLaws
+pub mod BitPlaceLaws
+pub mod EqualBitsLaws

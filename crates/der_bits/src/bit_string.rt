@@ -2,16 +2,17 @@
 //!
 //! The tag is 03. The contents octets, and what reading refuses, are those of the borrowed form.
 
-ghost use Rattle.std.specs.Prelude.{◌≡◌, ◌≢◌, ◌↔◌, MatchOption, ◌^◌, ◌<◌, ◌≤◌, ℕ, List, [], ◌∷◌, length, true, false, refl, IsTrue, IfOk, IfErr, Some, None, nat_eq};
-ghost use Rattle.std.proofs.Common.{lit<, ap, sym};
-ghost use Rattle.std.specs.Cmp.{on_per, on_equiv, on_po, on_total, partial_equiv_from_equiv};
-ghost use Rattle.std.specs.Cmp.Lexicographic.{pointwise, bytes_decides, nat_list_eq_equiv, nat_list_cmp_total, texts_po, texts_ties};
+ghost use Rattle.std.specs.Prelude.{◌≡◌, ◌≢◌, ◌↔◌, MatchOption, ◌^◌, ◌<◌, ◌≤◌, ℕ, List, [], ◌∷◌, length, true, false, refl, IsTrue, IfOk, IfErr, Some, None};
+ghost use Rattle.std.proofs.Common.{lit<, ap, sym, ◌∙◌};
+ghost use Rattle.std.specs.Cmp.{on_per, on_equiv, on_total, partial_equiv_from_equiv};
+ghost use Rattle.std.specs.Cmp.Lexicographic.{nat_list_cmp_total, texts_ties};
 ghost use Rattle.der_tlv.specs.declared.error.ErrorKind.TheVariants as kinds;
 ghost use Rattle.der_tlv.specs.declared.tag.Tag.TheVariants as tags;
 ghost use Rattle.der_tlv.specs.Octets.{lex};
 ghost use Rattle.der_opaque.specs.Opaque.{accepts_octets};
-ghost use Rattle.der_bits.specs.BitString.{AreOctets, can_be_unused, are_zero, parse_bit_string, unused_count, bit_octets, bit_count, bit, bits, KeepsBits, KeepsAll, KeepsCleared};
+ghost use Rattle.der_bits.specs.BitString.{AreOctets, can_be_unused, are_zero, parse_bit_string, unused_count, bit_octets, bit_count, bit, bits, same_bits, KeepsBits, KeepsAll, KeepsCleared};
 ghost use Rattle.der_bits.specs.BitStringLaws.{parse_of_bits};
+ghost use Rattle.der_bits.specs.EqualBitsLaws.{same_tests, contents_decided, bit_lists_equiv, bits_po};
 
 use crate::bit_string_iter::BitStringIter;
 use crate::bit_string_ref::BitStringRef;
@@ -106,7 +107,8 @@ impl BitString {
 
     /// How many bits of the last octet are unused.
     pub fn unused_bits(&self) -> u8
-        ensures { result ≡ unused_count (⟦<BitString as FormValue>⟧.contents self.now) }
+        ensures value { result ≡ unused_count (⟦<BitString as FormValue>⟧.contents self.now) }
+        ensures bounded { result ≤ 7 }
     {
         self.unused
     }
@@ -141,7 +143,8 @@ impl BitString {
 
     /// The octets of the bits, with the unused bits, which are zero.
     pub fn raw_bytes(&self) -> &[u8]
-        ensures { result.now ≡ bit_octets (⟦<BitString as FormValue>⟧.contents self.now) }
+        ensures octets { result.now ≡ bit_octets (⟦<BitString as FormValue>⟧.contents self.now) }
+        ensures zero { are_zero (unused_count (⟦<BitString as FormValue>⟧.contents self.now)) result.now ≡ true }
     {
         &self.octets
     }
@@ -251,9 +254,9 @@ impl EncodeValue for BitString {
 }
 
 impl PartialEq for BitString {
-    ghost eq = { λ v w. pointwise nat_eq (v.unused ∷ v.octets.items) (w.unused ∷ w.octets.items) };
+    ghost eq = { λ v w. same_bits (v.unused ∷ v.octets.items) (w.unused ∷ w.octets.items) };
 
-    ghost laws = { on_per (λ v. v.unused ∷ v.octets.items) (partial_equiv_from_equiv nat_list_eq_equiv) };
+    ghost laws = { on_per (λ v. bits (v.unused ∷ v.octets.items)) (partial_equiv_from_equiv bit_lists_equiv) };
 
     /// Whether the two have the same bits: since unused bits are zero, whether they have the same
     /// contents octets.
@@ -263,13 +266,13 @@ impl PartialEq for BitString {
 }
 
 impl Eq for BitString {
-    ghost laws = { on_equiv (λ v. v.unused ∷ v.octets.items) nat_list_eq_equiv };
+    ghost laws = { on_equiv (λ v. bits (v.unused ∷ v.octets.items)) bit_lists_equiv };
 }
 
 impl PartialOrd for BitString {
     ghost partial_cmp = { λ v w. Some (lex (v.unused ∷ v.octets.items) (w.unused ∷ w.octets.items)) };
 
-    ghost laws = { on_po (λ v. v.unused ∷ v.octets.items) texts_po };
+    ghost laws = { bits_po (λ v. v.unused ∷ v.octets.items) (λ v w. same_tests v.unused w.unused v.octets.items w.octets.items v.possible v.zero w.possible w.zero v.octet w.octet) };
 
     fn partial_cmp(&self, other: &BitString) -> Option<Ordering> {
         Some(self.cmp(other))
@@ -283,7 +286,7 @@ impl Ord for BitString {
 
     ghost matches_partial_cmp = { λ v w. refl };
 
-    ghost matches_eq = { λ v w. texts_ties (v.unused ∷ v.octets.items) (w.unused ∷ w.octets.items) };
+    ghost matches_eq = { λ v w. same_tests v.unused w.unused v.octets.items w.octets.items v.possible v.zero w.possible w.zero v.octet w.octet ∙ texts_ties (v.unused ∷ v.octets.items) (w.unused ∷ w.octets.items) };
 
     /// The lexicographic order of the contents octets: the number of unused bits decides first.
     fn cmp(&self, other: &BitString) -> Ordering {
@@ -298,7 +301,7 @@ impl ValueOrd for BitString {
 }
 
 impl ContentsEq for BitString {
-    ghost contents_eq = { λ v w one. bytes_decides (v.unused ∷ v.octets.items) (w.unused ∷ w.octets.items) };
+    ghost contents_eq = { λ v w one. contents_decided (v.unused ∷ v.octets.items) (w.unused ∷ w.octets.items) (same_tests v.unused w.unused v.octets.items w.octets.items v.possible v.zero w.possible w.zero v.octet w.octet) };
 }
 
 impl DuplicateValue for BitString {

@@ -7,18 +7,19 @@
 //! Reading refuses no contents octets (9), then a number of unused bits over 7, or another than 0
 //! where there is no octet (13), then an unused bit that is not zero (8).
 
-ghost use Rattle.std.specs.Prelude.{◌≡◌, ◌≢◌, ◌↔◌, MatchResult, MatchOption, ◌^◌, ◌<◌, ◌≤◌, ℕ, List, [], ◌∷◌, length, true, false, refl, IsTrue, IfOk, IfErr, Some, None, nat_eq};
-ghost use Rattle.std.proofs.Common.{ap, sym};
-ghost use Rattle.std.specs.Cmp.{on_per, on_equiv, on_po, on_total, partial_equiv_from_equiv};
-ghost use Rattle.std.specs.Cmp.Lexicographic.{pointwise, bytes_decides, nat_list_eq_equiv, nat_list_cmp_total, texts_po, texts_ties};
+ghost use Rattle.std.specs.Prelude.{◌≡◌, ◌≢◌, ◌↔◌, MatchResult, MatchOption, ◌^◌, ◌<◌, ◌≤◌, ℕ, List, [], ◌∷◌, length, true, false, refl, IsTrue, IfOk, IfErr, Some, None};
+ghost use Rattle.std.proofs.Common.{ap, sym, ◌∙◌};
+ghost use Rattle.std.specs.Cmp.{on_per, on_equiv, on_total, partial_equiv_from_equiv};
+ghost use Rattle.std.specs.Cmp.Lexicographic.{nat_list_cmp_total, texts_ties};
 ghost use Rattle.der_tlv.specs.declared.error.ErrorKind.TheVariants as kinds;
 ghost use Rattle.der_tlv.specs.declared.tag.Tag.TheVariants as tags;
 ghost use Rattle.der_tlv.specs.declared.encoding_rules.EncodingRules.TheVariants.{Der};
 ghost use Rattle.der_tlv.specs.Octets.{lex};
 ghost use Rattle.der_opaque.specs.DecodingAs.{DecodesAs};
 ghost use Rattle.der_opaque.specs.Opaque.{accepts_octets};
-ghost use Rattle.der_bits.specs.BitString.{AreOctets, can_be_unused, are_zero, parse_bit_string, unused_count, bit_octets, bit_count, bit, bits, KeepsBits, KeepsAll, ParsedAs, FillsArray};
+ghost use Rattle.der_bits.specs.BitString.{AreOctets, can_be_unused, are_zero, parse_bit_string, unused_count, bit_octets, bit_count, bit, bits, same_bits, KeepsBits, KeepsAll, ParsedAs, FillsArray};
 ghost use Rattle.der_bits.specs.BitStringLaws.{parse_of_bits};
+ghost use Rattle.der_bits.specs.EqualBitsLaws.{same_tests, contents_decided, bit_lists_equiv, bits_po};
 
 use crate::bit_string::BitString;
 use crate::bit_string_iter::BitStringIter;
@@ -80,7 +81,8 @@ impl<'a> BitStringRef<'a> {
 
     /// How many bits of the last octet are unused.
     pub fn unused_bits(self) -> u8
-        ensures { result ≡ unused_count (⟦<BitStringRef<'a> as FormValue>⟧.contents self.entry) }
+        ensures value { result ≡ unused_count (⟦<BitStringRef<'a> as FormValue>⟧.contents self.entry) }
+        ensures bounded { result ≤ 7 }
     {
         self.unused
     }
@@ -125,7 +127,8 @@ impl<'a> BitStringRef<'a> {
 
     /// The octets of the bits, with the unused bits, which are zero.
     pub fn raw_bytes(self) -> &'a [u8]
-        ensures { result.now ≡ bit_octets (⟦<BitStringRef<'a> as FormValue>⟧.contents self.entry) }
+        ensures octets { result.now ≡ bit_octets (⟦<BitStringRef<'a> as FormValue>⟧.contents self.entry) }
+        ensures zero { are_zero (unused_count (⟦<BitStringRef<'a> as FormValue>⟧.contents self.entry)) result.now ≡ true }
     {
         self.octets
     }
@@ -274,9 +277,9 @@ impl<'a> EncodeValue for BitStringRef<'a> {
 }
 
 impl<'a> PartialEq for BitStringRef<'a> {
-    ghost eq = { λ v w. pointwise nat_eq (v.unused ∷ v.octets.now) (w.unused ∷ w.octets.now) };
+    ghost eq = { λ v w. same_bits (v.unused ∷ v.octets.now) (w.unused ∷ w.octets.now) };
 
-    ghost laws = { on_per (λ v. v.unused ∷ v.octets.now) (partial_equiv_from_equiv nat_list_eq_equiv) };
+    ghost laws = { on_per (λ v. bits (v.unused ∷ v.octets.now)) (partial_equiv_from_equiv bit_lists_equiv) };
 
     /// Whether the two have the same bits: since unused bits are zero, whether they have the same
     /// contents octets.
@@ -286,13 +289,13 @@ impl<'a> PartialEq for BitStringRef<'a> {
 }
 
 impl<'a> Eq for BitStringRef<'a> {
-    ghost laws = { on_equiv (λ v. v.unused ∷ v.octets.now) nat_list_eq_equiv };
+    ghost laws = { on_equiv (λ v. bits (v.unused ∷ v.octets.now)) bit_lists_equiv };
 }
 
 impl<'a> PartialOrd for BitStringRef<'a> {
     ghost partial_cmp = { λ v w. Some (lex (v.unused ∷ v.octets.now) (w.unused ∷ w.octets.now)) };
 
-    ghost laws = { on_po (λ v. v.unused ∷ v.octets.now) texts_po };
+    ghost laws = { bits_po (λ v. v.unused ∷ v.octets.now) (λ v w. same_tests v.unused w.unused v.octets.now w.octets.now v.possible v.zero w.possible w.zero v.octet w.octet) };
 
     fn partial_cmp(&self, other: &BitStringRef<'a>) -> Option<Ordering> {
         Some(self.cmp(other))
@@ -306,7 +309,7 @@ impl<'a> Ord for BitStringRef<'a> {
 
     ghost matches_partial_cmp = { λ v w. refl };
 
-    ghost matches_eq = { λ v w. texts_ties (v.unused ∷ v.octets.now) (w.unused ∷ w.octets.now) };
+    ghost matches_eq = { λ v w. same_tests v.unused w.unused v.octets.now w.octets.now v.possible v.zero w.possible w.zero v.octet w.octet ∙ texts_ties (v.unused ∷ v.octets.now) (w.unused ∷ w.octets.now) };
 
     /// The lexicographic order of the contents octets: the number of unused bits decides first.
     fn cmp(&self, other: &BitStringRef<'a>) -> Ordering {
@@ -323,7 +326,7 @@ impl<'a> ValueOrd for BitStringRef<'a> {
 }
 
 impl<'a> ContentsEq for BitStringRef<'a> {
-    ghost contents_eq = { λ v w one. bytes_decides (v.unused ∷ v.octets.now) (w.unused ∷ w.octets.now) };
+    ghost contents_eq = { λ v w one. contents_decided (v.unused ∷ v.octets.now) (w.unused ∷ w.octets.now) (same_tests v.unused w.unused v.octets.now w.octets.now v.possible v.zero w.possible w.zero v.octet w.octet) };
 }
 
 impl<'a> DuplicateValue for BitStringRef<'a> {

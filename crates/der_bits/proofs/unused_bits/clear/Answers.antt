@@ -1,6 +1,6 @@
 use Rattle.std.proofs.Common.{rules, arith}
 use Rattle.der_bits.proofs.ClearedBits.{cleared_zero, cleared_bits}
-use Rattle.der_bits.proofs.EqualBits.{unused_bound}
+use Rattle.der_bits.specs.EqualBitsLaws.{unused_bound}
 use Rattle.der_bits.proofs.unused_bits.clear.Goals as goal
 
 pub returns-in-Some-clause-zero : goal.returns-in-Some-clause-zero

@@ -1,5 +1,5 @@
 use Rattle.std.proofs.Common.{◌-◌, ◌*◌, ◌∙◌, sym, ap, length}
-use Rattle.der_bits.proofs.BitPlaces.{length-bits_from}
+use Rattle.der_bits.specs.BitPlaceLaws.{length-bits_from}
 use Rattle.der_bits.proofs.bit_string_iter.BitStringIterExactSizeIterator.len.Goals as goal
 
 pub returns : goal.returns

@@ -1,7 +1,7 @@
 use Rattle.std.proofs.Common.{◌≡◌, ◌∷◌, ◌<◌, ◌+◌, ◌-◌, ◌*◌, length, sym, ap, ◌∙◌, arith, inl, inr}
 use Rattle.std.proofs.lemmas.Bool.{cases_lt}
 use Rattle.der_bits.specs.BitString.{bit_at_place, bits_from}
-use Rattle.der_bits.proofs.BitPlaces.{bits_from-next}
+use Rattle.der_bits.specs.BitPlaceLaws.{bits_from-next}
 use Rattle.der_bits.proofs.bit_string_iter.BitStringIterIterator.next.Goals as goal
 
 pub returns-in-Some-clause-steps : goal.returns-in-Some-clause-steps

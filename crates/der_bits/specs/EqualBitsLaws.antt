@@ -1,14 +1,17 @@
 -- Bit strings with equal bits have equal contents octets, since their unused bits are zero.
-use Rattle.std.proofs.Common.{◌≡◌, ℕ, ◌+◌, ◌-◌, ◌*◌, ◌/◌, ◌%◌, ◌^◌, ◌<◌, ◌≤◌, nat_eq, Bool, true, false, List, [], ◌∷◌, length, slice_index_or, sym, ap, ◌∙◌, arith, subst, inl, inr, eqb-true, leb-true, IsTrue, ◌↔◌}
+use Rattle.std.proofs.Common.{◌≡◌, ℕ, ◌+◌, ◌-◌, ◌*◌, ◌/◌, ◌%◌, ◌^◌, ◌<◌, ◌≤◌, nat_eq, Bool, true, false, List, [], ◌∷◌, length, slice_index_or, sym, ap, ◌∙◌, arith, subst, inl, inr, eqb-true, leb-true, IsTrue, ◌↔◌, Some}
 use Rattle.std.proofs.lemmas.Bool.{cases_lt}
 use Rattle.std.proofs.lemmas.Bool.Decides.{nat_tests}
 use Rattle.std.proofs.lemmas.List.{ext_get_or}
 use Rattle.std.proofs.lemmas.Nat.{shr_split}
 use Rattle.std.proofs.lemmas.Nat.Bits.{bit_at_cat_low, bit_at-zero, same_from_bits_below, bit_at-lt}
 use Rattle.std.specs.Int.{bit_at}
-use Rattle.std.specs.Cmp.Lexicographic.{pointwise, bytes_decides}
-use Rattle.der_bits.specs.BitString.{AreOctets, bit_at_place, bits_from, bits, can_be_unused, are_zero}
-use Rattle.der_bits.proofs.BitPlaces.{same_places, length-bits_from}
+use Rattle.std.specs.Bool.{beq}
+use Rattle.std.specs.Cmp.{both_ways, booleans_Decides, bool_eq_equiv, IsEquivalence, IsPartialOrder, on_po}
+use Rattle.std.specs.Cmp.Lexicographic.{pointwise, pointwise_decides, bytes_decides, lists_equiv, texts_po}
+use Rattle.der_tlv.specs.Octets.{lex}
+use Rattle.der_bits.specs.BitString.{AreOctets, bit_at_place, bits_from, bits, same_bits, can_be_unused, are_zero}
+use Rattle.der_bits.specs.BitPlaceLaws.{same_places, length-bits_from}
 
 -- a number of unused bits is at most 7, and no more than there are bits
 pub unused_bound : (count : ℕ) (octets : List ℕ) → can_be_unused count octets ≡ true → (count ≤ 7) × (count ≤ 8 * length octets)
@@ -66,8 +69,29 @@ module _ (u w : ℕ) (o p : List ℕ) (possible_o : can_be_unused u o ≡ true) 
       ] in
       ap (λ n. n ∷ o) c ∙ ap (λ x. w ∷ x) (same_octets o p octets_o octets_p l same)
 
-  -- so a test of the contents octets is one of the bits
-  pub bits_told : (b : Bool) → b ≡ pointwise nat_eq (u ∷ o) (w ∷ p) → IsTrue b ↔ (bits (u ∷ o) ≡ bits (w ∷ p))
-  bits_told b e =
-      let decides = bytes_decides (u ∷ o) (w ∷ p) in
-      (λ h. ap bits (decides.0 (sym e ∙ h)), λ s. e ∙ decides.1 (same_contents s))
+  -- so the test of the bits is that of the contents octets
+  pub same_tests : same_bits (u ∷ o) (w ∷ p) ≡ pointwise nat_eq (u ∷ o) (w ∷ p)
+  same_tests =
+      let of_bits = pointwise_decides {E = beq} booleans_Decides (bits (u ∷ o)) (bits (w ∷ p)) in
+      let of_contents = bytes_decides (u ∷ o) (w ∷ p) in
+      both_ways (same_bits (u ∷ o) (w ∷ p)) (pointwise nat_eq (u ∷ o) (w ∷ p)) (λ h. of_contents.1 (same_contents (of_bits.0 h))) (λ h. of_bits.1 (ap bits (of_contents.0 h)))
+
+-- the test of bits decides whether they are equal
+pub same_bits-decides : (c d : List ℕ) (b : Bool) → b ≡ same_bits c d → IsTrue b ↔ (bits c ≡ bits d)
+same_bits-decides c d b e =
+    let decides = pointwise_decides {E = beq} booleans_Decides (bits c) (bits d) in
+    (λ h. decides.0 (sym e ∙ h), λ s. e ∙ decides.1 s)
+
+-- and, where it is the test of contents octets, whether these are
+pub contents_decided : (c d : List ℕ) → same_bits c d ≡ pointwise nat_eq c d → IsTrue (same_bits c d) ↔ (c ≡ d)
+contents_decided c d e =
+    let decides = bytes_decides c d in
+    (λ h. decides.0 (sym e ∙ h), λ s. e ∙ decides.1 s)
+
+-- the laws of equality, and of the order of contents octets beside it
+pub bit_lists_equiv : IsEquivalence (pointwise beq)
+bit_lists_equiv = lists_equiv bool_eq_equiv
+
+pub bits_po : {K : Type 0} (contents : K → List ℕ) → ((v w : K) → same_bits (contents v) (contents w) ≡ pointwise nat_eq (contents v) (contents w)) → IsPartialOrder (λ v w. same_bits (contents v) (contents w)) (λ v w. Some (lex (contents v) (contents w)))
+bits_po contents same =
+    subst (λ E. IsPartialOrder E (λ v w. Some (lex (contents v) (contents w)))) (λ i v w. sym (same v w) i) (on_po contents texts_po)

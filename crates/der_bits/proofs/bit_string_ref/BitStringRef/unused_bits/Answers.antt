@@ -1,0 +1,7 @@
+use Rattle.der_bits.specs.EqualBitsLaws.{unused_bound}
+use Rattle.der_bits.proofs.bit_string_ref.BitStringRef.unused_bits.Goals as goal
+
+pub returns-clause-bounded : goal.returns-clause-bounded
+returns-clause-bounded c =
+    let string = c.args.self in
+    (unused_bound string.unused string.octets.now string.possible).0
