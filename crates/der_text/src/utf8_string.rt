@@ -1,0 +1,275 @@
+//! Borrowed UTF8String (X.690 8.23.10).
+//!
+//! The tag is 0C, and the contents octets are the text in UTF-8: `hi` is encoded as 0C 02 68 69.
+//! Reading refuses octets that are not UTF-8 (12).
+
+ghost use Rattle.std.specs.Prelude.{◌≡◌, ◌↔◌, ◌^◌, ◌<◌, ℕ, List, [], Some, length, true, false, refl, IsTrue, IfOk, IfErr};
+ghost use Rattle.std.proofs.Common.{ap, sym};
+ghost use Rattle.std.specs.Cmp.Lexicographic.{bytes_decides};
+ghost use Rattle.std.specs.Str.{is_utf8};
+ghost use Rattle.std.specs.String.{string_bytes};
+ghost use Rattle.der_tlv.specs.declared.error.ErrorKind.TheVariants as kinds;
+ghost use Rattle.der_tlv.specs.declared.tag.Tag.TheVariants as tags;
+ghost use Rattle.der_tlv.specs.declared.encoding_rules.EncodingRules.TheVariants.{Der};
+ghost use Rattle.der_opaque.specs.DecodingAs.{DecodesAs};
+ghost use Rattle.der_opaque.specs.Opaque.{accepts_octets};
+ghost use Rattle.der_text.specs.Utf8Octets.{parse_utf8, parse_of_utf8, KeepsUtf8, KeepsText};
+
+use crate::tags::Utf8StringTag;
+use crate::utf8_text::text_of;
+use der_elem::{
+    ContentsEq, DecodeValue, DuplicateValue, EncodeValue, Form, FormValue, OrdIsValueOrd, SameTag,
+    Tagged, ValueMemory, WithoutMemory,
+};
+use der_opaque::{Any, AnyRef};
+use der_tlv::{Error, ErrorKind, Header, Length, Reader, Tag, Writer};
+use std::alloc::Global;
+use std::fmt;
+
+/// A text of at most 4294967295 octets in UTF-8, borrowed.
+#[derive(Clone, Copy, PartialEq, Eq, PartialOrd, Ord, Hash)]
+pub struct Utf8StringRef<'a> {
+    pub(crate) text: &'a str,
+    ghost short: { length text.now < 2 ^ 32 },
+    ghost utf8: { is_utf8 text.now ≡ true },
+}
+
+impl<'a> Utf8StringRef<'a> {
+    /// The text that these octets are.
+    ///
+    /// # Errors
+    /// (12) for octets that are not UTF-8; (9) for more than 4294967295 octets.
+    pub fn new(octets: &'a [u8]) -> Result<Utf8StringRef<'a>, Error>
+        ensures { KeepsUtf8 ⟦<Utf8StringRef<'a> as FormValue>⟧.contents octets.now result }
+    {
+        match text_of(octets) {
+            Ok(text) => match Length::of(octets.len()) {
+                Ok(_) => Ok(Utf8StringRef { text }),
+                Err(_) => Err(Error::from_kind(ErrorKind::Overflow)),
+            },
+            Err(kind) => Err(Error::from_kind(kind)),
+        }
+    }
+
+    /// The text.
+    pub fn as_str(self) -> &'a str
+        ensures { result.now ≡ ⟦<Utf8StringRef<'a> as FormValue>⟧.contents self.entry }
+    {
+        self.text
+    }
+
+    /// The octets.
+    pub fn as_bytes(self) -> &'a [u8]
+        ensures { result.now ≡ ⟦<Utf8StringRef<'a> as FormValue>⟧.contents self.entry }
+    {
+        self.text.as_bytes()
+    }
+
+    /// How many octets there are.
+    pub fn len(self) -> Length
+        ensures { result ≡ length (⟦<Utf8StringRef<'a> as FormValue>⟧.contents self.entry) }
+    {
+        Length::new(self.text.len() as u32)
+    }
+
+    /// Whether there are none.
+    pub fn is_empty(self) -> bool
+        ensures { IsTrue result ↔ (⟦<Utf8StringRef<'a> as FormValue>⟧.contents self.entry ≡ []) }
+    {
+        self.as_bytes().is_empty()
+    }
+
+    /// The text, copied.
+    ///
+    /// # Errors
+    /// (1) where memory runs out.
+    pub fn ref_to_owned(self, alloc: Global) -> Result<String, Error>
+        ensures value { IfOk result (λ s. string_bytes s ≡ ⟦<Utf8StringRef<'a> as FormValue>⟧.contents self.entry) }
+        ensures err { IfErr result (λ e. e.kind ≡ kinds.Memory) }
+    {
+        match String::from_str(alloc, self.text) {
+            Ok(text) => Ok(text),
+            Err(_) => Err(Error::from_kind(ErrorKind::Memory)),
+        }
+    }
+}
+
+impl<'a> fmt::Display for Utf8StringRef<'a> {
+    ghost output = { λ s. Some (⟦<Utf8StringRef<'a> as FormValue>⟧.contents s) };
+
+    fn fmt<W: fmt::Write>(&self, f: &mut fmt::Formatter<W>) -> fmt::Result {
+        f.write_str(self.text)
+    }
+}
+
+impl<'a> fmt::Debug for Utf8StringRef<'a> {
+    fn fmt<W: fmt::Write>(&self, f: &mut fmt::Formatter<W>) -> fmt::Result {
+        write!(f, "Utf8String({:?})", self.text)
+    }
+}
+
+impl<'a> FormValue for Utf8StringRef<'a> {
+    ghost contents = { λ v. v.text.now };
+
+    ghost one_form_value = { λ v w. Unit {0} };
+
+    ghost re_reads_value = { λ v. false };
+
+    ghost accepts_value = { accepts_octets (λ v. v.text.now) };
+
+    ghost parse_value = { parse_utf8 };
+
+    ghost readable_value = { λ v. Unit {0} };
+
+    ghost has_tag = { λ v t. Unit {0} };
+
+    ghost VALUE_TAKES_MEMORY = { false };
+
+    ghost parse_of_accepted_value = { λ rules v p c a fits. parse_of_utf8 rules p v.text.now c v.utf8 a };
+
+    ghost same_length_value = { λ rules v c a. ap length (sym a) };
+
+    ghost accepts_contents = { λ rules v r. refl };
+
+    ghost only_readable_value = { λ rules v c a. tt };
+
+    ghost accepts_one_form_value = { λ rules v w c d a b. tt };
+
+    ghost re_reads_memory_value = { λ v e. e };
+}
+
+impl<'a> ValueMemory for Utf8StringRef<'a> {
+    type OfValue = WithoutMemory;
+
+    ghost memory_of_value = { refl };
+}
+
+impl<'a> SameTag for Utf8StringRef<'a> {
+    type As = Utf8StringTag;
+}
+
+impl<'a, R: Reader<'a>> DecodeValue<'a, R> for Utf8StringRef<'a> {
+    fn decode_value(
+        _alloc: Global,
+        reader: &mut R,
+        header: Header,
+    ) -> Result<Utf8StringRef<'a>, Error> {
+        let octets = reader.read_slice(header.length)?;
+        match text_of(octets) {
+            Ok(text) => Ok(Utf8StringRef { text }),
+            Err(kind) => Err(reader.error(kind)),
+        }
+    }
+}
+
+impl<'a> EncodeValue for Utf8StringRef<'a> {
+    fn value_len(&self) -> Result<Length, Error> {
+        Ok(self.len())
+    }
+
+    fn encode_value<W: Writer>(&self, writer: &mut W) -> Result<(), Error> {
+        writer.write(self.as_bytes())
+    }
+}
+
+impl<'a> OrdIsValueOrd for Utf8StringRef<'a> {
+    ghost ord_is_value_ord = { λ v w. refl };
+}
+
+impl<'a> ContentsEq for Utf8StringRef<'a> {
+    ghost contents_eq = { λ v w one. bytes_decides v.text.now w.text.now };
+}
+
+impl<'a> DuplicateValue for Utf8StringRef<'a> {
+    ghost is_copy_value = { λ v w. w.text.now ≡ v.text.now };
+
+    ghost takes_memory_to_copy_value = { false };
+
+    fn duplicate_value(&self) -> Result<Utf8StringRef<'a>, Error> {
+        Ok(*self)
+    }
+
+    ghost copy_contents = { λ v w e. e };
+
+    ghost copy_form_value = { λ v w x e f. tt };
+
+    ghost copy_re_reads_value = { λ v w e. refl };
+}
+
+impl<'a> From<&Utf8StringRef<'a>> for Utf8StringRef<'a> {
+    ghost from_gives = { λ s r. ⟦<Utf8StringRef<'a> as FormValue>⟧.contents r ≡ ⟦<Utf8StringRef<'a> as FormValue>⟧.contents s.now };
+
+    fn from(string: &Utf8StringRef<'a>) -> Utf8StringRef<'a> {
+        *string
+    }
+}
+
+impl<'a> From<Utf8StringRef<'a>> for AnyRef<'a> {
+    ghost from_gives = { λ s a. (⟦<AnyRef<'a> as Tagged>⟧.tag_of a ≡ tags.Utf8String) × (⟦<AnyRef<'a> as FormValue>⟧.contents a ≡ ⟦<Utf8StringRef<'a> as FormValue>⟧.contents s) };
+
+    fn from(string: Utf8StringRef<'a>) -> AnyRef<'a> {
+        match AnyRef::new(Tag::Utf8String, string.as_bytes()) {
+            Ok(any) => any,
+            Err(_) => unreachable!(),
+        }
+    }
+}
+
+impl<'a> TryFrom<&'a str> for Utf8StringRef<'a> {
+    type Error = Error;
+
+    ghost try_from_gives = { λ s r. KeepsText ⟦<Utf8StringRef<'a> as FormValue>⟧.contents s.now r };
+
+    /// # Errors
+    /// (9) for more than 4294967295 octets.
+    #[tactic(auto, using(crate::proofs::Utf8::utf8_tested))]
+    fn try_from(text: &'a str) -> Result<Utf8StringRef<'a>, Error> {
+        match Length::of(text.as_bytes().len()) {
+            Ok(_) => Ok(Utf8StringRef { text }),
+            Err(_) => Err(Error::from_kind(ErrorKind::Overflow)),
+        }
+    }
+}
+
+impl<'a> TryFrom<&'a String> for Utf8StringRef<'a> {
+    type Error = Error;
+
+    ghost try_from_gives = { λ s r. KeepsText ⟦<Utf8StringRef<'a> as FormValue>⟧.contents (string_bytes s.now) r };
+
+    /// # Errors
+    /// (9) for more than 4294967295 octets.
+    fn try_from(text: &'a String) -> Result<Utf8StringRef<'a>, Error> {
+        Utf8StringRef::try_from(text.as_str())
+    }
+}
+
+impl<'a> TryFrom<AnyRef<'a>> for Utf8StringRef<'a> {
+    type Error = Error;
+
+    ghost try_from_gives = { λ a r. DecodesAs ⟦<Utf8StringRef<'a> as Form>⟧ ⟦<Utf8StringRef<'a> as FormValue>⟧ Der (⟦<AnyRef<'a> as Tagged>⟧.tag_of a) (⟦<AnyRef<'a> as FormValue>⟧.contents a) r };
+
+    /// # Errors
+    /// (4) with no expected tag for another tag; (12) for octets that are not UTF-8.
+    fn try_from(any: AnyRef<'a>) -> Result<Utf8StringRef<'a>, Error> {
+        let tag = any.tag();
+        if !tag.is(Tag::Utf8String) {
+            return Err(Error::from_kind(tag.unexpected_error(None)));
+        }
+        match Utf8StringRef::new(any.value()) {
+            Ok(string) => Ok(string),
+            Err(e) => Err(e),
+        }
+    }
+}
+
+impl<'a> TryFrom<&'a Any> for Utf8StringRef<'a> {
+    type Error = Error;
+
+    ghost try_from_gives = { λ a r. DecodesAs ⟦<Utf8StringRef<'a> as Form>⟧ ⟦<Utf8StringRef<'a> as FormValue>⟧ Der (⟦<Any as Tagged>⟧.tag_of a.now) (⟦<Any as FormValue>⟧.contents a.now) r };
+
+    /// # Errors
+    /// (4) with no expected tag for another tag; (12) for octets that are not UTF-8.
+    fn try_from(any: &'a Any) -> Result<Utf8StringRef<'a>, Error> {
+        Utf8StringRef::try_from(any.to_ref())
+    }
+}
