@@ -1,1 +1,3 @@
+pub mod FromText
+pub mod Pairs
 pub mod Utf8

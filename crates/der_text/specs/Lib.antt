@@ -1,1 +1,2 @@
+pub mod BmpUnits
 pub mod Utf8Octets

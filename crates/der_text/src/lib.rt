@@ -1,11 +1,16 @@
 //! UTF8String, GeneralString and BMPString (X.690 8.23).
 #![tactic(auto)]
 
+mod bmp_iter;
+mod bmp_string;
+mod bmp_units;
 mod general_string;
 mod tags;
 mod utf8_string;
 mod utf8_text;
 
+pub use bmp_iter::{BmpChars, BmpCodepoints};
+pub use bmp_string::BmpString;
 pub use general_string::GeneralStringRef;
 pub use tags::{GeneralStringTag, Utf8StringTag};
 pub use utf8_string::Utf8StringRef;

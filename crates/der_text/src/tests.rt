@@ -1,6 +1,6 @@
 //! Strings of each type, through the traits' bounds.
 
-use crate::{GeneralStringRef, Utf8StringRef};
+use crate::{BmpString, GeneralStringRef, Utf8StringRef};
 use der_elem::{DerOrd, Duplicate, Encode, EncodingEq, FromDer, Tagged, TakesMemory, ValueOrd};
 use der_opaque::{Any, AnyRef, OctetStringRef};
 use der_tlv::{Error, Tag};
@@ -144,5 +144,100 @@ fn reads_general_strings(rt: HostRuntime) -> Result<(), Fail> {
     assert_eq!(rt; refusal::<GeneralStringRef>(alloc, &[0x16, 0x00]), Some(4));
     assert_eq!(rt; refusal::<GeneralStringRef>(alloc, &[0x1b, 0x01]), Some(2));
     assert!(rt; !GeneralStringRef::TAKES_MEMORY);
+    Ok(())
+}
+
+#[test]
+fn reads_bmp(rt: HostRuntime) -> Result<(), Fail> {
+    let alloc = rt.alloc();
+    reads_back::<BmpString>(&rt, alloc, &[0x1e, 0x02, 0xff, 0xff])?;
+    reads_back::<BmpString>(&rt, alloc, &[0x1e, 0x02, 0xd7, 0xff])?;
+    reads_back::<BmpString>(&rt, alloc, &[0x1e, 0x04, 0xe0, 0x00, 0x00, 0x00])?;
+    reads_back::<BmpString>(&rt, alloc, &[0x1e, 0x00])?;
+    assert_eq!(rt;
+        refusal::<BmpString>(alloc, &[0x1e, 0x02, 0xd8, 0x00]),
+        Some(13)
+    );
+    assert_eq!(rt;
+        refusal::<BmpString>(alloc, &[0x1e, 0x02, 0xdf, 0xff]),
+        Some(13)
+    );
+    assert_eq!(rt; refusal::<BmpString>(alloc, &[0x1e, 0x01, 0x41]), Some(7));
+    let pair = [0x1e, 0x04, 0xd8, 0x3d, 0xde, 0x00];
+    assert_eq!(rt; refusal::<BmpString>(alloc, &pair), Some(13));
+    let odd_pair = [0x1e, 0x03, 0xd8, 0x3d, 0xde];
+    assert_eq!(rt; refusal::<BmpString>(alloc, &odd_pair), Some(7));
+    assert_eq!(rt; refusal::<BmpString>(alloc, &[0x0c, 0x00]), Some(4));
+    assert!(rt; BmpString::TAKES_MEMORY);
+    Ok(())
+}
+
+#[test]
+fn makes_bmp_of_texts(rt: HostRuntime) -> Result<(), Fail> {
+    let alloc = rt.alloc();
+    let template = numbered(BmpString::from_utf8(alloc, "CertificateTemplate"))?;
+    let written = numbered(template.to_der(alloc))?;
+    assert_eq!(rt; written.len(), 40);
+    assert_eq!(rt;
+        written[..6].to_vec(alloc)?.as_slice(),
+        [0x1e, 0x26, 0x00, 0x43, 0x00, 0x65].as_slice()
+    );
+    assert_eq!(rt;
+        written[36..].to_vec(alloc)?.as_slice(),
+        [0x00, 0x74, 0x00, 0x65].as_slice()
+    );
+    let text = format!(in alloc; "{template} {template:?}")?;
+    assert_eq!(rt;
+        text.as_str(),
+        "CertificateTemplate BmpString(\"CertificateTemplate\")"
+    );
+    let past = numbered(BmpString::from_utf8(alloc, "a\u{1f600}"));
+    assert_eq!(rt; past.err(), Some(13));
+    let mixed = numbered(BmpString::from_utf8(alloc, "é\u{ffff}"))?;
+    assert_eq!(rt; mixed.as_bytes(), [0x00, 0xe9, 0xff, 0xff].as_slice());
+    let text = format!(in alloc; "{mixed}")?;
+    assert_eq!(rt; text.as_str(), "é\u{ffff}");
+    Ok(())
+}
+
+#[test]
+fn makes_bmp_of_octets(rt: HostRuntime) -> Result<(), Fail> {
+    let alloc = rt.alloc();
+    let hi = numbered(BmpString::from_ucs2([0x00, 0x68, 0x00, 0x69].to_vec(alloc)?))?;
+    assert!(rt; hi == numbered(BmpString::from_utf8(alloc, "hi"))?);
+    let mut codepoints = hi.codepoints();
+    assert_eq!(rt; codepoints.len(), 2);
+    assert_eq!(rt; codepoints.next(), Some(0x68));
+    assert_eq!(rt; codepoints.len(), 1);
+    assert_eq!(rt; codepoints.next(), Some(0x69));
+    assert_eq!(rt; (codepoints.next(), codepoints.next()), (None, None));
+    let mut chars = hi.chars();
+    assert_eq!(rt; chars.len(), 2);
+    assert_eq!(rt; chars.next(), Some('h'));
+    assert_eq!(rt;
+        (chars.next(), chars.next(), chars.len()),
+        (Some('i'), None, 0)
+    );
+    assert!(rt; hi.clone()? == hi);
+    assert!(rt; numbered(hi.clone_from_ref(alloc))? == hi);
+    assert_eq!(rt;
+        hi.into_bytes().as_slice(),
+        [0x00, 0x68, 0x00, 0x69].as_slice()
+    );
+    let odd = numbered(BmpString::from_ucs2([0xd8, 0x00, 0x00].to_vec(alloc)?));
+    assert_eq!(rt; odd.err(), Some(7));
+    let surrogate = numbered(BmpString::from_ucs2([0x00, 0x41, 0xd8, 0x00].to_vec(alloc)?));
+    assert_eq!(rt; surrogate.err(), Some(13));
+    Ok(())
+}
+
+#[test]
+fn orders_bmp_by_contents(rt: HostRuntime) -> Result<(), Fail> {
+    let alloc = rt.alloc();
+    let short = numbered(BmpString::from_utf8(alloc, "b"))?;
+    let long = numbered(BmpString::from_utf8(alloc, "aa"))?;
+    assert!(rt; long < short);
+    assert_eq!(rt; numbered(long.value_cmp(&short)), Ok(Ordering::Less));
+    assert_eq!(rt; numbered(long.der_cmp(&short)), Ok(Ordering::Greater));
     Ok(())
 }

@@ -1,0 +1,15 @@
+-- Octets in pairs.
+use Rattle.std.proofs.Common.{◌≡◌, ℕ, zero, suc, ◌+◌, ◌*◌, ◌/◌, ◌%◌, List, [], ◌∷◌, ◌++◌, length, refl, ap, sym, ◌∙◌, arith}
+use Rattle.der_text.specs.BmpUnits.{units}
+
+-- there are half as many units as octets
+pub units_len : (octets : List ℕ) → length (units octets) ≡ length octets / 2
+units_len [] = refl
+units_len (octet ∷ []) = refl
+units_len (high ∷ low ∷ octets) = let less : length (units octets) ≡ length octets / 2 = units_len octets in omega arith
+
+-- a further unit
+pub units_more : (octets : List ℕ) (high low : ℕ) → length octets % 2 ≡ 0 → units (octets ++ high ∷ low ∷ []) ≡ units octets ++ (high * 256 + low) ∷ []
+units_more [] high low e = refl
+units_more (octet ∷ []) high low e = absurd (omega arith)
+units_more (x ∷ y ∷ octets) high low e = ap (λ us. (x * 256 + y) ∷ us) (units_more octets high low (omega arith))

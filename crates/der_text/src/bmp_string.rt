@@ -1,0 +1,231 @@
+//! BMPString (X.690 8.23).
+//!
+//! The tag is 1E. Each character of the Basic Multilingual Plane is a unit of 16 bits, and the
+//! contents octets are the units in their order, high octet first: `hi` is encoded as
+//! 1E 04 00 68 00 69. Reading refuses an odd number of octets (7) and a unit from D800 to DFFF (13),
+//! and then where memory runs out (1).
+
+ghost use Rattle.std.specs.Prelude.{◌≡◌, ◌%◌, ◌^◌, ◌<◌, ℕ, List, Some, chars, encode_utf8_all, length, true, false, refl, IfOk, IfErr};
+ghost use Rattle.std.proofs.Common.{lit<, ap, sym};
+ghost use Rattle.std.specs.Cmp.Lexicographic.{bytes_decides};
+ghost use Rattle.der_tlv.specs.declared.error.ErrorKind.TheVariants as kinds;
+ghost use Rattle.der_tlv.specs.declared.tag.Tag.TheVariants as tags;
+ghost use Rattle.der_opaque.specs.Opaque.{accepts_octets};
+ghost use Rattle.der_text.specs.BmpUnits.{units, are_characters, parse_bmp, parse_of_units, KeepsUnits, KeepsCharacters};
+
+use crate::bmp_iter::{BmpChars, BmpCodepoints};
+use crate::bmp_units::{check_units, octets_of};
+use der_elem::{
+    ContentsEq, DecodeValue, DuplicateValue, EncodeValue, FixedTag, FormValue, OrdIsValueOrd,
+    ValueMemory, WithMemory,
+};
+use der_tlv::{Error, ErrorKind, Header, Length, Reader, Tag, Writer};
+use std::alloc::{AllocError, Global};
+use std::fmt;
+
+/// Characters from 0 to FFFF, each a unit of 16 bits outside D800 to DFFF, in at most 4294967295
+/// octets.
+#[derive(Drop, PartialEq, Eq, PartialOrd, Ord)]
+pub struct BmpString {
+    octets: Vec<u8>,
+    ghost short: { length octets.items < 2 ^ 32 },
+    ghost even: { length octets.items % 2 ≡ 0 },
+    ghost characters: { are_characters octets.items ≡ true },
+}
+
+impl BmpString {
+    /// The string whose units these octets are, high octet first.
+    ///
+    /// # Errors
+    /// (7) for an odd number of octets; (13) for a unit from D800 to DFFF; (9) for more than
+    /// 4294967295 octets.
+    pub fn from_ucs2(octets: Vec<u8>) -> Result<BmpString, Error>
+        ensures { KeepsUnits ⟦<BmpString as FormValue>⟧.contents octets.items result }
+    {
+        match check_units(&octets) {
+            Ok(()) => match Length::of(octets.len()) {
+                Ok(_) => Ok(BmpString { octets }),
+                Err(_) => Err(Error::from_kind(ErrorKind::Overflow)),
+            },
+            Err(kind) => Err(Error::from_kind(kind)),
+        }
+    }
+
+    /// The string of the characters of a text.
+    ///
+    /// # Errors
+    /// (1) where memory runs out; (13) for a character past U+FFFF; (9) for more than 4294967295
+    /// octets.
+    pub fn from_utf8(alloc: Global, text: &str) -> Result<BmpString, Error>
+        ensures { KeepsCharacters ⟦<BmpString as FormValue>⟧.contents text.now result }
+    {
+        let octets = octets_of(alloc, text)?;
+        match Length::of(octets.len()) {
+            Ok(_) => Ok(BmpString { octets }),
+            Err(_) => Err(Error::from_kind(ErrorKind::Overflow)),
+        }
+    }
+
+    /// The octets of the units, high octet first.
+    pub fn as_bytes(&self) -> &[u8]
+        ensures { result.now ≡ ⟦<BmpString as FormValue>⟧.contents self.now }
+    {
+        &self.octets
+    }
+
+    /// The octets, in their vector.
+    pub fn into_bytes(self) -> Vec<u8>
+        ensures { result.items ≡ ⟦<BmpString as FormValue>⟧.contents self }
+    {
+        self.octets
+    }
+
+    /// The units of 16 bits, in order.
+    pub fn codepoints(&self) -> BmpCodepoints<'_>
+        ensures { result ≡ units (⟦<BmpString as FormValue>⟧.contents self.now) }
+    {
+        BmpCodepoints::new(&self.octets)
+    }
+
+    /// The characters, in order.
+    pub fn chars(&self) -> BmpChars<'_>
+        ensures { result ≡ units (⟦<BmpString as FormValue>⟧.contents self.now) }
+    {
+        BmpChars::new(self.codepoints())
+    }
+
+    /// The string, copied.
+    ///
+    /// # Errors
+    /// (1) where memory runs out.
+    pub fn clone_from_ref(&self, alloc: Global) -> Result<BmpString, Error>
+        ensures value { IfOk result (λ s. ⟦<BmpString as FormValue>⟧.contents s ≡ ⟦<BmpString as FormValue>⟧.contents self.now) }
+        ensures err { IfErr result (λ e. e.kind ≡ kinds.Memory) }
+    {
+        match self.octets.to_vec(alloc) {
+            Ok(octets) => Ok(BmpString { octets }),
+            Err(_) => Err(Error::from_kind(ErrorKind::Memory)),
+        }
+    }
+}
+
+impl fmt::Display for BmpString {
+    ghost output = { λ s. Some (encode_utf8_all (units (⟦<BmpString as FormValue>⟧.contents s))) };
+
+    fn fmt<W: fmt::Write>(&self, f: &mut fmt::Formatter<W>) -> fmt::Result {
+        let mut rest = self.chars();
+        'characters: while let Some(character) = rest.next() {
+            f.write_char(character)?;
+        }
+        Ok(())
+    }
+}
+
+impl fmt::Debug for BmpString {
+    fn fmt<W: fmt::Write>(&self, f: &mut fmt::Formatter<W>) -> fmt::Result {
+        write!(f, "BmpString(\"{self}\")")
+    }
+}
+
+impl Clone for BmpString {
+    ghost is_clone = { λ v w. ⟦<BmpString as FormValue>⟧.contents w ≡ ⟦<BmpString as FormValue>⟧.contents v };
+
+    fn clone(&self) -> Result<BmpString, AllocError> {
+        let octets = self.octets.clone()?;
+        Ok(BmpString { octets })
+    }
+}
+
+impl FormValue for BmpString {
+    ghost contents = { λ v. v.octets.items };
+
+    ghost one_form_value = { λ v w. Unit {0} };
+
+    ghost re_reads_value = { λ v. false };
+
+    ghost accepts_value = { accepts_octets (λ v. v.octets.items) };
+
+    ghost parse_value = { parse_bmp };
+
+    ghost readable_value = { λ v. Unit {0} };
+
+    ghost has_tag = { λ v t. Unit {0} };
+
+    ghost VALUE_TAKES_MEMORY = { true };
+
+    ghost parse_of_accepted_value = { λ rules v p c a fits. parse_of_units rules p v.octets.items c v.even v.characters a };
+
+    ghost same_length_value = { λ rules v c a. ap length (sym a) };
+
+    ghost accepts_contents = { λ rules v r. refl };
+
+    ghost only_readable_value = { λ rules v c a. tt };
+
+    ghost accepts_one_form_value = { λ rules v w c d a b. tt };
+
+    ghost re_reads_memory_value = { λ v e. refl };
+}
+
+impl ValueMemory for BmpString {
+    type OfValue = WithMemory;
+
+    ghost memory_of_value = { refl };
+}
+
+impl FixedTag for BmpString {
+    ghost TAG = { tags.BmpString };
+
+    const TAG: Tag = Tag::BmpString;
+
+    ghost tag_in_range = { lit< tt };
+}
+
+impl<'a, R: Reader<'a>> DecodeValue<'a, R> for BmpString {
+    fn decode_value(alloc: Global, reader: &mut R, header: Header) -> Result<BmpString, Error> {
+        let octets = reader.read_slice(header.length)?;
+        match check_units(octets) {
+            Ok(()) => match octets.to_vec(alloc) {
+                Ok(octets) => Ok(BmpString { octets }),
+                Err(_) => Err(reader.error(ErrorKind::Memory)),
+            },
+            Err(kind) => Err(reader.error(kind)),
+        }
+    }
+}
+
+impl EncodeValue for BmpString {
+    fn value_len(&self) -> Result<Length, Error> {
+        Ok(Length::new(self.octets.len() as u32))
+    }
+
+    fn encode_value<W: Writer>(&self, writer: &mut W) -> Result<(), Error> {
+        writer.write(self.as_bytes())
+    }
+}
+
+impl OrdIsValueOrd for BmpString {
+    ghost ord_is_value_ord = { λ v w. refl };
+}
+
+impl ContentsEq for BmpString {
+    ghost contents_eq = { λ v w one. bytes_decides v.octets.items w.octets.items };
+}
+
+impl DuplicateValue for BmpString {
+    ghost is_copy_value = { λ v w. w.octets.items ≡ v.octets.items };
+
+    ghost takes_memory_to_copy_value = { true };
+
+    fn duplicate_value(&self) -> Result<BmpString, Error> {
+        match self.clone() {
+            Ok(copy) => Ok(copy),
+            Err(_) => Err(Error::from_kind(ErrorKind::Memory)),
+        }
+    }
+
+    ghost copy_contents = { λ v w e. e };
+
+    ghost copy_form_value = { λ v w x e f. tt };
+
+    ghost copy_re_reads_value = { λ v w e. refl };
+}

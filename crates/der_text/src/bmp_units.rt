@@ -1,0 +1,76 @@
+//! Units of 16 bits, high octet first.
+
+ghost use Rattle.std.specs.Prelude.{◌≡◌, ◌⊎◌, ◌/◌, ◌%◌, ◌*◌, ◌++◌, [], ◌∷◌, chars, length, true, false, IfOk, IfErr};
+ghost use Rattle.der_tlv.specs.declared.error.ErrorKind.TheVariants as kinds;
+ghost use Rattle.der_tlv.specs.declared.tag.Tag.TheVariants as tags;
+ghost use Rattle.der_text.specs.BmpUnits.{units, are_characters, is_basic};
+
+use crate::bmp_iter::BmpCodepoints;
+use der_tlv::{Error, ErrorKind, Tag};
+use std::alloc::Global;
+
+/// Whether each unit is a character, that is, outside D800 to DFFF.
+pub fn are_characters(octets: &[u8]) -> bool
+    ensures { result ≡ are_characters octets.now }
+{
+    let mut rest = BmpCodepoints::new(octets);
+    'units: while let Some(unit) = rest.next() {
+        if char::from_u32(unit as u32).is_none() {
+            return false;
+        }
+    }
+    true
+}
+
+/// Checks that octets are characters, each a unit of 16 bits.
+///
+/// # Errors
+/// (7) for an odd number of octets; (13) for a unit from D800 to DFFF.
+pub fn check_units(octets: &[u8]) -> Result<(), ErrorKind>
+    ensures good { IfOk result (λ _. (length octets.now % 2 ≡ 0) × (are_characters octets.now ≡ true)) }
+    ensures refused { IfErr result (λ kind. ((kind ≡ kinds.Length tags.BmpString) × (length octets.now % 2 ≡ 1)) ⊎ ((kind ≡ kinds.Value tags.BmpString) × (length octets.now % 2 ≡ 0) × (are_characters octets.now ≡ false))) }
+{
+    if octets.len() % 2 != 0 {
+        return Err(Tag::BmpString.length_error());
+    }
+    if !are_characters(octets) {
+        return Err(Tag::BmpString.value_error());
+    }
+    Ok(())
+}
+
+// Appends the two octets of a unit.
+fn push_unit(octets: &mut Vec<u8>, unit: u16) -> Result<(), Error>
+    ensures pushed { IfOk result (λ _. octets.new.items ≡ octets.old.items ++ (unit / 256) ∷ (unit % 256) ∷ []) }
+    ensures refused { IfErr result (λ e. e.kind ≡ kinds.Memory) }
+{
+    match octets.extend_from_slice(&[(unit / 256) as u8, (unit % 256) as u8]) {
+        Ok(()) => Ok(()),
+        Err(_) => Err(Error::from_kind(ErrorKind::Memory)),
+    }
+}
+
+/// The octets of the characters of a text.
+///
+/// # Errors
+/// (1) where memory runs out; (13) for a character past U+FFFF.
+#[tactic(auto, using(crate::proofs::FromText::taken_first, crate::proofs::FromText::taken_wide))]
+pub fn octets_of(alloc: Global, text: &str) -> Result<Vec<u8>, Error>
+    ensures even { IfOk result (λ octets. length octets.items % 2 ≡ 0) }
+    ensures units { IfOk result (λ octets. units octets.items ≡ chars text.now) }
+    ensures basic { IfOk result (λ octets. is_basic text.now ≡ true) }
+    ensures characters { IfOk result (λ octets. are_characters octets.items ≡ true) }
+    ensures len { IfOk result (λ octets. length octets.items ≡ 2 * length (chars text.now)) }
+    ensures refused { IfErr result (λ e. (e.kind ≡ kinds.Memory) ⊎ ((e.kind ≡ kinds.Value tags.BmpString) × (is_basic text.now ≡ false))) }
+{
+    let mut octets = Vec::new(alloc);
+    let mut rest = text.chars();
+    'characters: while let Some(character) = rest.next() {
+        let code = character as u32;
+        if code >= 0x10000 {
+            return Err(Error::from_kind(Tag::BmpString.value_error()));
+        }
+        push_unit(&mut octets, code as u16)?;
+    }
+    Ok(octets)
+}
