@@ -6,12 +6,12 @@ use Rattle.der_tlv.specs.declared.error.Error.{Error}
 use Rattle.der_tlv.specs.declared.error.ErrorKind.{ErrorKind}
 use Rattle.der_tlv.specs.declared.error.ErrorKind.TheVariants.{Memory}
 use Rattle.der_tlv.specs.declared.tag.Tag.{Tag}
-use Rattle.der_tlv.specs.declared.tag.Tag.TheVariants.{Boolean, Integer, Null, OctetString, ObjectIdentifier, Sequence}
+use Rattle.der_tlv.specs.declared.tag.Tag.TheVariants.{Boolean, Integer, Null, OctetString, ObjectIdentifier, Sequence, Set, BitString, Utf8String, GeneralString, BmpString}
 use Rattle.der_tlv.specs.Identifier.{same_identifier}
 use Rattle.der_elem.specs.Items.{parse_items}
 use Rattle.der_elem.specs.Arrays.{parse_array}
 use Rattle.der_elem.specs.Options.{parse_option}
-use Rattle.der_elem.specs.Parsing.{ContentsParse, parse_tagged}
+use Rattle.der_elem.specs.Parsing.{Parse, ContentsParse, parse_tagged}
 use Rattle.der_elem.specs.Decoding.{parse_all}
 use Rattle.der_elem.specs.Boolean.{parse_boolean}
 use Rattle.der_elem.specs.Null.{parse_null}
@@ -21,6 +21,11 @@ use Rattle.der_opaque.specs.ObjectIdentifierOctets.{parse_identifier}
 use Rattle.der_opaque.specs.AnyForm.{parse_any}
 use Rattle.der_numbers.specs.AnyLength.{parse_integer, parse_natural}
 use Rattle.der_ascii.specs.Characters.{string_tag, parse_string}
+use Rattle.der_bits.specs.BitString.{parse_bit_string}
+use Rattle.der_text.specs.Utf8Octets.{parse_utf8}
+use Rattle.der_text.specs.BmpUnits.{parse_bmp}
+use Rattle.der_nest.specs.SequencesOf.{parse_items_up_to}
+use Rattle.der_nest.specs.Sets.{parse_set_up_to, parse_set}
 use Rattle.der_wrap.specs.TaggedValues.{parse_explicit}
 
 -- the canonical encoding of what some octets encode as one type, or the first fault
@@ -109,6 +114,32 @@ string_types name =
     else if bytes_eq name (codes "videotexref") then Some (canonical_string 21)
     else if bytes_eq name (codes "ia5") then Some (canonical_string 22)
     else if bytes_eq name (codes "ia5ref") then Some (canonical_string 22)
+    else if bytes_eq name (codes "utf8ref") then Some (canonical_tagged Utf8String parse_utf8)
+    else if bytes_eq name (codes "generalref") then Some (canonical_tagged GeneralString parse_octets)
+    else if bytes_eq name (codes "bmp") then Some (canonical_tagged BmpString parse_bmp)
+    else None
+
+-- BIT STRING, and explicit tagging of one
+unfoldable pub bit_types : List ℕ → Option CanonicalFunction
+bit_types name =
+    if bytes_eq name (codes "bits") then Some (canonical_tagged BitString parse_bit_string)
+    else if bytes_eq name (codes "bitsref") then Some (canonical_tagged BitString parse_bit_string)
+    else if bytes_eq name (codes "ctx-bitsref") then Some (parse_all (parse_explicit 2 (parse_tagged BitString parse_bit_string)))
+    else None
+
+-- the encoding of an integer of two octets that is not negative
+abbrev pub parse_u16 : Parse
+parse_u16 = parse_tagged Integer (parse_unsigned 2)
+
+-- sequences and sets: opaque, of at most five, of at most two, of any number, of any values, and behind a tag
+unfoldable pub nested_types : List ℕ → Option CanonicalFunction
+nested_types name =
+    if bytes_eq name (codes "sequenceref") then Some (canonical_tagged Sequence parse_octets)
+    else if bytes_eq name (codes "seqof5-u16") then Some (canonical_tagged Sequence (parse_items_up_to 5 parse_u16))
+    else if bytes_eq name (codes "setof2-u16") then Some (canonical_tagged Set (parse_set_up_to 2 parse_u16))
+    else if bytes_eq name (codes "setvec-u16") then Some (canonical_tagged Set (parse_set parse_u16))
+    else if bytes_eq name (codes "setvec-anyref") then Some (canonical_tagged Set (parse_set parse_any))
+    else if bytes_eq name (codes "ctx-setof2-u16") then Some (parse_all (parse_explicit 2 (parse_tagged Set (parse_set_up_to 2 parse_u16))))
     else None
 
 -- the first of two that there is
@@ -118,7 +149,7 @@ or_else (Some function) other = Some function
 
 -- the function of the type with a name
 unfoldable pub canonical_function_of : List ℕ → Option CanonicalFunction
-canonical_function_of name = or_else (plain_types name) (or_else (signed_types name) (or_else (unsigned_types name) (or_else (opaque_types name) (or_else (composed_types name) (or_else (tagged_types name) (or_else (number_types name) (string_types name)))))))
+canonical_function_of name = or_else (plain_types name) (or_else (signed_types name) (or_else (unsigned_types name) (or_else (opaque_types name) (or_else (composed_types name) (or_else (tagged_types name) (or_else (number_types name) (or_else (string_types name) (or_else (bit_types name) (nested_types name)))))))))
 
 -- the result is what the function gives, unless memory was refused
 abbrev pub Gives : Result (Vec ℕ Global) Error → Result (List ℕ) ErrorKind → Type 0

@@ -1,15 +1,18 @@
 //! The types by their names.
 ghost use Rattle.std.specs.Prelude.{◌≡◌};
 ghost use Rattle.std.specs.Str.{bytes_eq};
-ghost use Rattle.derview.specs.Names.{canonical_function_of, plain_types, signed_types, unsigned_types, opaque_types, composed_types, tagged_types, number_types, string_types, AnswersAs};
+ghost use Rattle.derview.specs.Names.{canonical_function_of, plain_types, signed_types, unsigned_types, opaque_types, composed_types, tagged_types, number_types, string_types, bit_types, nested_types, AnswersAs};
 
 use crate::canonical::canonical;
 use der_ascii::{
     Ia5String, Ia5StringRef, PrintableString, PrintableStringRef, TeletexString, TeletexStringRef,
     VideotexStringRef,
 };
+use der_bits::{BitString, BitStringRef};
+use der_nest::{SequenceOf, SequenceRef, SetOf, SetOfVec};
 use der_numbers::{Int, IntRef, Uint, UintRef};
 use der_opaque::{Any, AnyRef, Null, ObjectIdentifier, OctetString, OctetStringRef};
+use der_text::{BmpString, GeneralStringRef, Utf8StringRef};
 use der_tlv::Error;
 use der_wrap::{Application, ContextSpecific, Private};
 use std::alloc::Global;
@@ -56,7 +59,13 @@ pub fn canonical_of_name(
     if let Some(canonical) = canonical_of_number(alloc, name, octets) {
         return Some(canonical);
     }
-    canonical_of_string(alloc, name, octets)
+    if let Some(canonical) = canonical_of_string(alloc, name, octets) {
+        return Some(canonical);
+    }
+    if let Some(canonical) = canonical_of_bits(alloc, name, octets) {
+        return Some(canonical);
+    }
+    canonical_of_nested(alloc, name, octets)
 }
 
 #[tactic(auto, unfolding(crate::specs::Names::plain_types))]
@@ -173,6 +182,36 @@ fn canonical_of_string(alloc: Global, name: &[u8], octets: &[u8]) -> Option<Resu
         "videotexref" => VideotexStringRef,
         "ia5" => Ia5String,
         "ia5ref" => Ia5StringRef,
+        "utf8ref" => Utf8StringRef,
+        "generalref" => GeneralStringRef,
+        "bmp" => BmpString,
+    }
+}
+
+#[tactic(auto, unfolding(crate::specs::Names::bit_types))]
+fn canonical_of_bits(alloc: Global, name: &[u8], octets: &[u8]) -> Option<Result<Vec<u8>, Error>>
+    ensures { AnswersAs (bit_types name.now) octets.now result }
+{
+    choose! {
+        alloc, name, octets;
+        "bits" => BitString,
+        "bitsref" => BitStringRef,
+        "ctx-bitsref" => ContextSpecific<BitStringRef>,
+    }
+}
+
+#[tactic(auto, unfolding(crate::specs::Names::nested_types))]
+fn canonical_of_nested(alloc: Global, name: &[u8], octets: &[u8]) -> Option<Result<Vec<u8>, Error>>
+    ensures { AnswersAs (nested_types name.now) octets.now result }
+{
+    choose! {
+        alloc, name, octets;
+        "sequenceref" => SequenceRef,
+        "seqof5-u16" => SequenceOf<u16, 5>,
+        "setof2-u16" => SetOf<u16, 2>,
+        "setvec-u16" => SetOfVec<u16>,
+        "setvec-anyref" => SetOfVec<AnyRef>,
+        "ctx-setof2-u16" => ContextSpecific<SetOf<u16, 2>>,
     }
 }
 
