@@ -57,17 +57,21 @@ fn reads_utf8(rt: HostRuntime) -> Result<(), Fail> {
 }
 
 #[test]
-fn refuses_what_is_not_utf8(rt: HostRuntime) {
+fn refuses_what_is_not_utf8(rt: HostRuntime) -> Result<(), Fail> {
     let alloc = rt.alloc();
-    let utf8 = |octets: &[u8]| numbered(Utf8StringRef::from_der(alloc, octets)).err();
-    assert_eq!(rt; utf8(&[0x0c, 0x01, 0xff]), Some(12));
-    assert_eq!(rt; utf8(&[0x0c, 0x03, 0xed, 0xa0, 0x80]), Some(12));
-    assert_eq!(rt; utf8(&[0x0c, 0x02, 0xc0, 0x80]), Some(12));
-    assert_eq!(rt; utf8(&[0x0c, 0x01, 0xc3]), Some(12));
-    assert_eq!(rt; utf8(&[0x13, 0x01, 0x41]), Some(4));
-    assert_eq!(rt; utf8(&[0x0c, 0x02, 0x41]), Some(2));
-    assert_eq!(rt; utf8(&[0x0c, 0x01, 0x41, 0x00]), Some(3));
-    assert_eq!(rt; numbered(Utf8StringRef::new(&[0x80])).err(), Some(12));
+    let refused = |octets: &[u8]| refusal::<Utf8StringRef>(alloc, octets);
+    assert_eq!(rt; refused(&[0x0c, 0x01, 0xff]), Some(12));
+    assert_eq!(rt; refused(&[0x0c, 0x03, 0xed, 0xa0, 0x80]), Some(12));
+    assert_eq!(rt; refused(&[0x0c, 0x02, 0xc0, 0x80]), Some(12));
+    assert_eq!(rt; refused(&[0x0c, 0x01, 0xc3]), Some(12));
+    assert_eq!(rt; refused(&[0x13, 0x01, 0x41]), Some(4));
+    assert_eq!(rt; refused(&[0x0c, 0x02, 0x41]), Some(2));
+    assert_eq!(rt; refused(&[0x0c, 0x01, 0x41, 0x00]), Some(3));
+    let Err(e) = Utf8StringRef::new(&[0x80]) else {
+        return Err(Fail::from("taken"));
+    };
+    assert_eq!(rt; e.kind().number(), 12);
+    Ok(())
 }
 
 #[test]
@@ -97,15 +101,29 @@ fn converts_utf8(rt: HostRuntime) -> Result<(), Fail> {
     };
     assert!(rt; again == hello);
     let kept = Any::from_ref(alloc, any)?;
-    assert!(rt; Utf8StringRef::try_from(&kept).is_ok());
+    let Ok(kept) = Utf8StringRef::try_from(&kept) else {
+        return Err(Fail::from("refused"));
+    };
+    assert!(rt; kept == hello);
+    Ok(())
+}
+
+#[test]
+fn converts_only_utf8_strings(rt: HostRuntime) -> Result<(), Fail> {
     let Ok(bad) = AnyRef::new(Tag::Utf8String, &[0xff]) else {
         return Err(Fail::from("refused"));
     };
-    assert_eq!(rt; numbered(Utf8StringRef::try_from(bad)).err(), Some(12));
+    let Err(e) = Utf8StringRef::try_from(bad) else {
+        return Err(Fail::from("taken"));
+    };
+    assert_eq!(rt; e.kind().number(), 12);
     let Ok(other) = AnyRef::new(Tag::Ia5String, b"hi") else {
         return Err(Fail::from("refused"));
     };
-    assert_eq!(rt; numbered(Utf8StringRef::try_from(other)).err(), Some(4));
+    let Err(e) = Utf8StringRef::try_from(other) else {
+        return Err(Fail::from("taken"));
+    };
+    assert_eq!(rt; e.kind().number(), 4);
     Ok(())
 }
 

@@ -1,4 +1,4 @@
-use Rattle.std.proofs.Common.{rules, arith, ◌≡◌, ◌<◌, ◌++◌, encode_utf8, length, sym, ap, subst}
+use Rattle.std.proofs.Common.{rules, arith, ◌<◌, sym, subst}
 use Rattle.std.specs.Char.{IsScalar}
 use Rattle.std.specs.Str.Iter.{chars_rest}
 use Rattle.der_text.proofs.FromText.{Taken, taken_more, taken_units, taken_basic, taken_len}
