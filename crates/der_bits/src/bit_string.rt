@@ -2,7 +2,7 @@
 //!
 //! The tag is 03. The contents octets, and what reading refuses, are those of the borrowed form.
 
-ghost use Rattle.std.specs.Prelude.{◌≡◌, ◌≢◌, ◌↔◌, MatchOption, ◌^◌, ◌<◌, ◌≤◌, ℕ, List, [], ◌∷◌, length, true, false, refl, IsTrue, IfOk, IfErr, Some, None};
+ghost use Rattle.std.specs.Prelude.{◌≡◌, ◌≢◌, ◌↔◌, MatchOption, ◌^◌, ◌<◌, ◌≤◌, [], ◌∷◌, length, true, false, refl, IsTrue, IfOk, IfErr, Some, None};
 ghost use Rattle.std.proofs.Common.{lit<, ap, sym, ◌∙◌};
 ghost use Rattle.std.specs.Cmp.{on_per, on_equiv, on_total, partial_equiv_from_equiv};
 ghost use Rattle.std.specs.Cmp.Lexicographic.{nat_list_cmp_total, texts_ties};
@@ -10,7 +10,7 @@ ghost use Rattle.der_tlv.specs.declared.error.ErrorKind.TheVariants as kinds;
 ghost use Rattle.der_tlv.specs.declared.tag.Tag.TheVariants as tags;
 ghost use Rattle.der_tlv.specs.Octets.{lex};
 ghost use Rattle.der_opaque.specs.Opaque.{accepts_octets};
-ghost use Rattle.der_bits.specs.BitString.{AreOctets, can_be_unused, are_zero, parse_bit_string, unused_count, bit_octets, bit_count, bit, bits, same_bits, KeepsBits, KeepsAll, KeepsCleared};
+ghost use Rattle.der_bits.specs.BitString.{AreOctets, can_be_unused, are_zero, parse_bit_string, unused_count, bit_octets, bit_count, bit, bits, same_bits, KeepsBits, KeepsCleared};
 ghost use Rattle.der_bits.specs.BitStringLaws.{parse_of_bits};
 ghost use Rattle.der_bits.specs.EqualBitsLaws.{same_tests, contents_decided, bit_lists_equiv, bits_po};
 

@@ -7,7 +7,7 @@ use crate::bit_string_ref::BitStringRef;
 use std::iter::FusedIterator;
 use std::marker::Model;
 
-/// The bits that are still to come, in order.
+/// The bits that are still to come, in order. After the last one, `next` answers `None` for good.
 #[derive(Debug, Drop)]
 pub struct BitStringIter<'a> {
     pub(crate) string: BitStringRef<'a>,
@@ -15,7 +15,7 @@ pub struct BitStringIter<'a> {
 }
 
 impl<'a> Model for BitStringIter<'a> {
-    ghost use Rattle.std.specs.Prelude.{ℕ, ◌-◌, ◌*◌, ◌≤◌, List, Bool, length};
+    ghost use Rattle.std.specs.Prelude.{◌-◌, ◌*◌, ◌≤◌, List, Bool, length};
     ghost use Rattle.der_bits.specs.BitString.{bits_from};
 
     ghost Value = { List Bool };
