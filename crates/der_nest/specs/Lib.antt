@@ -10,3 +10,4 @@ pub mod ListLaws
 pub mod SetLaws
 pub mod SequencesOf
 pub mod SequenceLaws
+pub mod Lends
