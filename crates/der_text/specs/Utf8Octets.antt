@@ -1,4 +1,4 @@
--- UTF8String: the contents octets are UTF-8 (X.690 8.23.10).
+-- UTF8String: the contents octets are UTF-8 (X.690 8.23).
 use Rattle.std.specs.Prelude.{◌≡◌, ◌⊎◌, ℕ, ◌<◌, ◌≤◌, ◌^◌, true, false, if◌then◌else◌, List, length, Result, Ok, Err}
 use Rattle.std.proofs.Common.{ap, ◌∙◌, refl}
 use Rattle.std.specs.Str.{is_utf8}

@@ -1,4 +1,4 @@
-//! Borrowed UTF8String (X.690 8.23.10).
+//! Borrowed UTF8String (X.690 8.23).
 //!
 //! The tag is 0C, and the contents octets are the text in UTF-8: `hi` is encoded as 0C 02 68 69.
 //! Reading refuses octets that are not UTF-8 (12).
