@@ -25,7 +25,7 @@ use Rattle.der_bits.specs.BitString.{parse_bit_string}
 use Rattle.der_text.specs.Utf8Octets.{parse_utf8}
 use Rattle.der_text.specs.BmpUnits.{parse_bmp}
 use Rattle.der_nest.specs.SequencesOf.{parse_items_up_to}
-use Rattle.der_nest.specs.Sets.{parse_set_up_to, parse_set}
+use Rattle.der_nest.specs.Sets.{parse_set}
 use Rattle.der_wrap.specs.TaggedValues.{parse_explicit}
 
 -- the canonical encoding of what some octets encode as one type, or the first fault
@@ -131,15 +131,18 @@ bit_types name =
 abbrev pub parse_u16 : Parse
 parse_u16 = parse_tagged Integer (parse_unsigned 2)
 
--- sequences and sets: opaque, of at most five, of at most two, of any number, of any values, and behind a tag
+-- a SEQUENCE whose contents octets are kept, and one of at most five items
 unfoldable pub nested_types : List ℕ → Option CanonicalFunction
 nested_types name =
     if bytes_eq name (codes "sequenceref") then Some (canonical_tagged Sequence parse_octets)
     else if bytes_eq name (codes "seqof5-u16") then Some (canonical_tagged Sequence (parse_items_up_to 5 parse_u16))
-    else if bytes_eq name (codes "setof2-u16") then Some (canonical_tagged Set (parse_set_up_to 2 parse_u16))
-    else if bytes_eq name (codes "setvec-u16") then Some (canonical_tagged Set (parse_set parse_u16))
+    else None
+
+-- sets of integers, and of any values
+unfoldable pub set_types : List ℕ → Option CanonicalFunction
+set_types name =
+    if bytes_eq name (codes "setvec-u16") then Some (canonical_tagged Set (parse_set parse_u16))
     else if bytes_eq name (codes "setvec-anyref") then Some (canonical_tagged Set (parse_set parse_any))
-    else if bytes_eq name (codes "ctx-setof2-u16") then Some (parse_all (parse_explicit 2 (parse_tagged Set (parse_set_up_to 2 parse_u16))))
     else None
 
 -- the first of two that there is
@@ -149,7 +152,7 @@ or_else (Some function) other = Some function
 
 -- the function of the type with a name
 unfoldable pub canonical_function_of : List ℕ → Option CanonicalFunction
-canonical_function_of name = or_else (plain_types name) (or_else (signed_types name) (or_else (unsigned_types name) (or_else (opaque_types name) (or_else (composed_types name) (or_else (tagged_types name) (or_else (number_types name) (or_else (string_types name) (or_else (bit_types name) (nested_types name)))))))))
+canonical_function_of name = or_else (plain_types name) (or_else (signed_types name) (or_else (unsigned_types name) (or_else (opaque_types name) (or_else (composed_types name) (or_else (tagged_types name) (or_else (number_types name) (or_else (string_types name) (or_else (bit_types name) (or_else (nested_types name) (set_types name))))))))))
 
 -- the result is what the function gives, unless memory was refused
 abbrev pub Gives : Result (Vec ℕ Global) Error → Result (List ℕ) ErrorKind → Type 0

@@ -15,6 +15,7 @@ mod fault;
 mod lines;
 mod names;
 mod run;
+mod sets;
 mod sink;
 mod source;
 #[cfg(test)]

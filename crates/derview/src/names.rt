@@ -1,15 +1,16 @@
 //! The types by their names.
 ghost use Rattle.std.specs.Prelude.{◌≡◌};
 ghost use Rattle.std.specs.Str.{bytes_eq};
-ghost use Rattle.derview.specs.Names.{canonical_function_of, plain_types, signed_types, unsigned_types, opaque_types, composed_types, tagged_types, number_types, string_types, bit_types, nested_types, AnswersAs};
+ghost use Rattle.derview.specs.Names.{canonical_function_of, plain_types, signed_types, unsigned_types, opaque_types, composed_types, tagged_types, number_types, string_types, bit_types, nested_types, set_types, AnswersAs};
 
 use crate::canonical::canonical;
+use crate::sets::canonical_set;
 use der_ascii::{
     Ia5String, Ia5StringRef, PrintableString, PrintableStringRef, TeletexString, TeletexStringRef,
     VideotexStringRef,
 };
 use der_bits::{BitString, BitStringRef};
-use der_nest::{SequenceOf, SequenceRef, SetOf, SetOfVec};
+use der_nest::{SequenceOf, SequenceRef};
 use der_numbers::{Int, IntRef, Uint, UintRef};
 use der_opaque::{Any, AnyRef, Null, ObjectIdentifier, OctetString, OctetStringRef};
 use der_text::{BmpString, GeneralStringRef, Utf8StringRef};
@@ -65,7 +66,10 @@ pub fn canonical_of_name(
     if let Some(canonical) = canonical_of_bits(alloc, name, octets) {
         return Some(canonical);
     }
-    canonical_of_nested(alloc, name, octets)
+    if let Some(canonical) = canonical_of_nested(alloc, name, octets) {
+        return Some(canonical);
+    }
+    canonical_of_set(alloc, name, octets)
 }
 
 #[tactic(auto, unfolding(crate::specs::Names::plain_types))]
@@ -208,11 +212,20 @@ fn canonical_of_nested(alloc: Global, name: &[u8], octets: &[u8]) -> Option<Resu
         alloc, name, octets;
         "sequenceref" => SequenceRef,
         "seqof5-u16" => SequenceOf<u16, 5>,
-        "setof2-u16" => SetOf<u16, 2>,
-        "setvec-u16" => SetOfVec<u16>,
-        "setvec-anyref" => SetOfVec<AnyRef>,
-        "ctx-setof2-u16" => ContextSpecific<SetOf<u16, 2>>,
     }
+}
+
+#[tactic(auto, unfolding(crate::specs::Names::set_types))]
+fn canonical_of_set(alloc: Global, name: &[u8], octets: &[u8]) -> Option<Result<Vec<u8>, Error>>
+    ensures { AnswersAs (set_types name.now) octets.now result }
+{
+    if is(name, "setvec-u16") {
+        return Some(canonical_set::<u16>(alloc, octets));
+    }
+    if is(name, "setvec-anyref") {
+        return Some(canonical_set::<AnyRef>(alloc, octets));
+    }
+    None
 }
 
 fn is(name: &[u8], text: &str) -> bool

@@ -1,0 +1,26 @@
+//! The canonical encodings of sets, generic in their items.
+
+ghost use Rattle.der_tlv.specs.declared.tag.Tag.TheVariants.{Set};
+ghost use Rattle.der_elem.specs.Decoding.{parse_all};
+ghost use Rattle.der_elem.specs.Parsing.{parse_tagged};
+ghost use Rattle.der_nest.specs.Sets.{parse_set};
+ghost use Rattle.derview.specs.Names.{Gives};
+
+use crate::canonical::canonical;
+use der_elem::{Decode, DerOrd, Encode, Tagged};
+use der_nest::SetOfVec;
+use der_tlv::{Error, SliceReader};
+use std::alloc::Global;
+
+/// The canonical encoding of a set of any number of items.
+///
+/// # Errors
+/// The first fault of the octets; (1) where memory runs out.
+pub fn canonical_set<'a, T: Decode<'a, SliceReader<'a>> + Encode + DerOrd + Tagged>(
+    alloc: Global,
+    octets: &'a [u8],
+) -> Result<Vec<u8>, Error>
+    ensures { Gives result (parse_all (parse_tagged Set (parse_set T.parse)) octets.now) }
+{
+    canonical::<SetOfVec<T>>(alloc, octets)
+}
