@@ -95,17 +95,13 @@ fn refuses_other_explicit_tagging(rt: HostRuntime) {
 }
 
 // The value of a field, and where the reader stands.
-fn explicit<'a, T: Tagged + Decode<'a, SliceReader<'a>>>(
-    alloc: Global,
-    number: u32,
-    octets: &'a [u8],
-) -> Result<(Option<T>, u32), u8> {
+fn explicit(alloc: Global, number: u32, octets: &[u8]) -> Result<(Option<u8>, u32), u8> {
     let mut reader = match SliceReader::new(octets) {
         Ok(reader) => reader,
         Err(e) => return Err(e.kind().number()),
     };
     let number = TagNumber(number);
-    let field: Option<ContextSpecific<T>> = numbered(TaggedValue::decode_explicit(
+    let field: Option<ContextSpecific<u8>> = numbered(TaggedValue::decode_explicit(
         alloc,
         &mut reader,
         number,
@@ -122,16 +118,13 @@ fn explicit<'a, T: Tagged + Decode<'a, SliceReader<'a>>>(
 fn reads_explicit_fields(rt: HostRuntime) {
     let alloc = rt.alloc();
     let two = [0xa0, 0x03, 0x02, 0x01, 0x00, 0xa1, 0x03, 0x02, 0x01, 0x01];
-    assert_eq!(rt; explicit::<u8>(alloc, 1, &two), Ok((None, 0)));
-    assert_eq!(rt; explicit::<u8>(alloc, 0, &two), Ok((Some(0), 5)));
-    assert_eq!(rt; explicit::<u8>(alloc, 0, &[]), Ok((None, 0)));
-    assert_eq!(rt;
-        explicit::<u8>(alloc, 0, &[0x02, 0x01, 0x00]),
-        Ok((None, 0))
-    );
-    assert_eq!(rt; explicit::<u8>(alloc, 0, &[0x80, 0x01, 0x00]), Err(8));
-    assert_eq!(rt; explicit::<u8>(alloc, 0, &[0xa0, 0x02, 0x02, 0x00]), Err(7));
-    assert_eq!(rt; explicit::<u8>(alloc, 0, &[0x1f]), Err(2));
+    assert_eq!(rt; explicit(alloc, 1, &two), Ok((None, 0)));
+    assert_eq!(rt; explicit(alloc, 0, &two), Ok((Some(0), 5)));
+    assert_eq!(rt; explicit(alloc, 0, &[]), Ok((None, 0)));
+    assert_eq!(rt; explicit(alloc, 0, &[0x02, 0x01, 0x00]), Ok((None, 0)));
+    assert_eq!(rt; explicit(alloc, 0, &[0x80, 0x01, 0x00]), Err(8));
+    assert_eq!(rt; explicit(alloc, 0, &[0xa0, 0x02, 0x02, 0x00]), Err(7));
+    assert_eq!(rt; explicit(alloc, 0, &[0x1f]), Err(2));
 }
 
 // The octets of a field with implicit tagging, and where the reader stands.
@@ -203,7 +196,9 @@ fn reads_implicit_fields(rt: HostRuntime) {
 #[test]
 fn reads_implicit_integers(rt: HostRuntime) -> Result<(), Fail> {
     let alloc = rt.alloc();
-    let mut octets = SliceReader::new(&[0x80, 0x01, 0x05, 0xa0, 0x03, 0x02, 0x01, 0x00])?;
+    let Ok(mut octets) = SliceReader::new(&[0x80, 0x01, 0x05, 0xa0, 0x03, 0x02, 0x01, 0x00]) else {
+        return Err(Fail::from("refused"));
+    };
     let field: Option<ContextSpecific<u8>> = numbered(TaggedValue::decode_implicit(
         alloc,
         &mut octets,
@@ -290,8 +285,12 @@ fn writes_both_modes(rt: HostRuntime) -> Result<(), Fail> {
 #[test]
 fn writes_two_modes_alike(rt: HostRuntime) -> Result<(), Fail> {
     let alloc = rt.alloc();
-    let sequence = AnyRef::new(Tag::Sequence, &[0x02, 0x01, 0x05])?;
-    let integer = AnyRef::new(Tag::Integer, &[0x05])?;
+    let Ok(sequence) = AnyRef::new(Tag::Sequence, &[0x02, 0x01, 0x05]) else {
+        return Err(Fail::from("refused"));
+    };
+    let Ok(integer) = AnyRef::new(Tag::Integer, &[0x05]) else {
+        return Err(Fail::from("refused"));
+    };
     let implicit: ContextSpecific<Vec<AnyRef>> = tagged(
         1,
         TagMode::Implicit,
