@@ -66,7 +66,7 @@ fn reads_strings(rt: HostRuntime) -> Result<(), Fail> {
 #[test]
 fn refuses_other_octets(rt: HostRuntime) {
     let alloc = rt.alloc();
-    let printable = |octets: &[u8]| numbered(PrintableStringRef::from_der(alloc, octets)).err();
+    let printable = |octets: &[u8]| numbered(PrintableString::from_der(alloc, octets)).err();
     assert_eq!(rt; printable(&[0x13, 0x01, 0x27]), None);
     assert_eq!(rt; printable(&[0x13, 0x01, 0x5c]), Some(13));
     assert_eq!(rt; printable(&[0x13, 0x01, 0x2a]), Some(13));
@@ -75,7 +75,7 @@ fn refuses_other_octets(rt: HostRuntime) {
     let ia5 = |octets: &[u8]| numbered(Ia5String::from_der(alloc, octets)).err();
     assert_eq!(rt; ia5(&[0x16, 0x01, 0x80]), Some(13));
     assert_eq!(rt; ia5(&[0x16, 0x01, 0x7f]), None);
-    assert_eq!(rt; numbered(TeletexStringRef::new(&[0x80])).err(), Some(13));
+    assert!(rt; matches!(TeletexStringRef::new(&[0x80]), Err(e) if e.kind().number() == 13));
     assert_eq!(rt;
         numbered(TeletexString::new(alloc, &[0xff])).err(),
         Some(13)
@@ -131,14 +131,11 @@ fn converts(rt: HostRuntime) -> Result<(), Fail> {
     assert!(rt; again == hi);
     let kept = Any::from_ref(alloc, any)?;
     assert!(rt; PrintableStringRef::try_from(&kept).is_ok());
-    assert_eq!(rt; numbered(Ia5StringRef::try_from(any)).err(), Some(4));
+    assert!(rt; matches!(Ia5StringRef::try_from(any), Err(e) if e.kind().number() == 4));
     let Ok(star) = AnyRef::new(Tag::PrintableString, b"*") else {
         return Err(Fail::from("refused"));
     };
-    assert_eq!(rt;
-        numbered(PrintableStringRef::try_from(star)).err(),
-        Some(13)
-    );
+    assert!(rt; matches!(PrintableStringRef::try_from(star), Err(e) if e.kind().number() == 13));
     let from_text = PrintableString::try_from(String::from_str(alloc, "hi")?);
     assert!(rt; numbered(from_text).is_ok());
     let refused = PrintableString::try_from(String::from_str(alloc, "a*b")?);
