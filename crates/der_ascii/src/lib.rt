@@ -5,9 +5,11 @@
 mod characters;
 mod string;
 mod string_ref;
+mod string_tag;
 
 pub use string::CharacterString;
 pub use string_ref::CharacterStringRef;
+pub use string_tag::CharacterStringTag;
 
 /// PrintableString, borrowed: letters, digits, space and ' ( ) + , - . / : = ? (X.680 41.4).
 pub type PrintableStringRef<'a> = CharacterStringRef<'a, 19>;

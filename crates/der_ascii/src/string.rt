@@ -9,13 +9,14 @@ ghost use Rattle.std.specs.Cmp.Lexicographic.{bytes_decides};
 ghost use Rattle.std.specs.String.{string_bytes};
 ghost use Rattle.der_opaque.specs.Opaque.{accepts_octets};
 ghost use Rattle.der_ascii.specs.Characters.{are_characters, string_tag, parse_string, KeepsOwnedString, KeepsString};
-ghost use Rattle.der_ascii.specs.StringLaws.{parse_of_characters, string_tag-in_range};
+ghost use Rattle.der_ascii.specs.StringLaws.{parse_of_characters};
 
 use crate::characters::{are_characters, string_tag};
 use crate::string_ref::CharacterStringRef;
+use crate::string_tag::CharacterStringTag;
 use der_elem::{
-    ContentsEq, DecodeValue, DuplicateValue, EncodeValue, FixedTag, FormValue, OrdIsValueOrd,
-    Tagged, ValueMemory, WithMemory,
+    ContentsEq, DecodeValue, DuplicateValue, EncodeValue, FormValue, OneTag, OrdIsValueOrd, Tagged,
+    ValueMemory, WithMemory,
 };
 use der_opaque::AnyRef;
 use der_tlv::{Error, ErrorKind, Header, Length, Reader, Tag, Writer};
@@ -143,17 +144,8 @@ impl<const NUMBER: u8> ValueMemory for CharacterString<NUMBER> {
     ghost memory_of_value = { refl };
 }
 
-impl<const NUMBER: u8> FixedTag for CharacterString<NUMBER> {
-    ghost TAG = { string_tag NUMBER };
-
-    const TAG: Tag = match NUMBER {
-        19 => Tag::PrintableString,
-        20 => Tag::TeletexString,
-        21 => Tag::VideotexString,
-        _ => Tag::Ia5String,
-    };
-
-    ghost tag_in_range = { string_tag-in_range NUMBER };
+impl<const NUMBER: u8> OneTag for CharacterString<NUMBER> {
+    type Marker = CharacterStringTag<NUMBER>;
 }
 
 impl<'a, R: Reader<'a>, const NUMBER: u8> DecodeValue<'a, R> for CharacterString<NUMBER> {

@@ -16,8 +16,9 @@ ghost use Rattle.der_ascii.specs.StringLaws.{parse_of_characters};
 
 use crate::characters::{string_tag, text_of};
 use crate::string::CharacterString;
+use crate::string_tag::CharacterStringTag;
 use der_elem::{
-    ContentsEq, DecodeValue, DuplicateValue, EncodeValue, Form, FormValue, OrdIsValueOrd, SameTag,
+    ContentsEq, DecodeValue, DuplicateValue, EncodeValue, Form, FormValue, OneTag, OrdIsValueOrd,
     Tagged, ValueMemory, WithoutMemory,
 };
 use der_opaque::{Any, AnyRef};
@@ -143,8 +144,8 @@ impl<'a, const NUMBER: u8> ValueMemory for CharacterStringRef<'a, NUMBER> {
     ghost memory_of_value = { refl };
 }
 
-impl<'a, const NUMBER: u8> SameTag for CharacterStringRef<'a, NUMBER> {
-    type As = CharacterString<NUMBER>;
+impl<'a, const NUMBER: u8> OneTag for CharacterStringRef<'a, NUMBER> {
+    type Marker = CharacterStringTag<NUMBER>;
 }
 
 impl<'a, R: Reader<'a>, const NUMBER: u8> DecodeValue<'a, R> for CharacterStringRef<'a, NUMBER> {

@@ -18,8 +18,8 @@ use crate::bit_string_iter::BitStringIter;
 use crate::bit_string_ref::BitStringRef;
 use crate::unused_bits::{are_zero, can_be_unused, clear};
 use der_elem::{
-    ContentsEq, DecodeValue, DuplicateValue, EncodeValue, FixedTag, FormValue, ValueMemory,
-    ValueOrd, WithMemory,
+    BitStringTag, ContentsEq, DecodeValue, DuplicateValue, EncodeValue, FormValue, OneTag,
+    ValueMemory, ValueOrd, WithMemory,
 };
 use der_tlv::{Error, ErrorKind, Header, Length, Reader, Tag, Writer};
 use std::alloc::{AllocError, Global};
@@ -223,12 +223,8 @@ impl ValueMemory for BitString {
     ghost memory_of_value = { refl };
 }
 
-impl FixedTag for BitString {
-    ghost TAG = { tags.BitString };
-
-    const TAG: Tag = Tag::BitString;
-
-    ghost tag_in_range = { lit< tt };
+impl OneTag for BitString {
+    type Marker = BitStringTag;
 }
 
 impl<'a, R: Reader<'a>> DecodeValue<'a, R> for BitString {

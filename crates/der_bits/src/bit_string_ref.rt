@@ -25,8 +25,8 @@ use crate::bit_string::BitString;
 use crate::bit_string_iter::BitStringIter;
 use crate::unused_bits::{are_zero, can_be_unused};
 use der_elem::{
-    ContentsEq, DecodeValue, DuplicateValue, EncodeValue, Form, FormValue, SameTag, Tagged,
-    ValueMemory, ValueOrd, WithoutMemory,
+    BitStringTag, ContentsEq, DecodeValue, DuplicateValue, EncodeValue, Form, FormValue, OneTag,
+    Tagged, ValueMemory, ValueOrd, WithoutMemory,
 };
 use der_opaque::{Any, AnyRef};
 use der_tlv::{Error, ErrorKind, Header, Length, Reader, Tag, Writer};
@@ -247,8 +247,8 @@ impl<'a> ValueMemory for BitStringRef<'a> {
     ghost memory_of_value = { refl };
 }
 
-impl<'a> SameTag for BitStringRef<'a> {
-    type As = BitString;
+impl<'a> OneTag for BitStringRef<'a> {
+    type Marker = BitStringTag;
 }
 
 impl<'a, R: Reader<'a>> DecodeValue<'a, R> for BitStringRef<'a> {

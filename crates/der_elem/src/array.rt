@@ -20,23 +20,21 @@ use crate::decode::{Decode, DecodeValue};
 use crate::duplicate::DuplicateValue;
 use crate::encode::{Encode, EncodeValue};
 use crate::equality::{ContentsEq, EncodingEq};
-use crate::form::{FixedTag, Form, FormValue};
+use crate::fixed_tag::OneTag;
+use crate::form::{Form, FormValue};
 use crate::items::{cmp_items, encode_items, items_len};
 use crate::memory::{FormMemory, ValueMemory};
 use crate::ord::{DerOrd, ValueOrd};
 use crate::readiness::ask_ready;
 use crate::sequence::Sequence;
 use crate::tag::Tagged;
+use crate::universal_tags::SequenceTag;
 use der_tlv::{Error, ErrorKind, Header, Length, Reader, Tag, Writer};
 use std::alloc::Global;
 use std::cmp::Ordering;
 
-impl<T, const N: usize> FixedTag for [T; N] {
-    ghost TAG = { tags.Sequence };
-
-    const TAG: Tag = Tag::Sequence;
-
-    ghost tag_in_range = { lit< tt };
+impl<T, const N: usize> OneTag for [T; N] {
+    type Marker = SequenceTag;
 }
 
 impl<'a, T, const N: usize> Sequence<'a> for [T; N] {

@@ -2,7 +2,7 @@
 
 use crate::decode::{Decode, DecodeValue, FromDer};
 use crate::encode::{Encode, EncodeValue};
-use crate::form::FixedTag;
+use crate::fixed_tag::FixedTag;
 use crate::ord::{DerOrd, ValueOrd};
 use crate::tag::Tagged;
 use der_tlv::{Error, Header, Length, Reader, SliceReader, VecWriter, Writer};

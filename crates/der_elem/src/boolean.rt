@@ -19,9 +19,11 @@ use crate::decode::DecodeValue;
 use crate::duplicate::DuplicateValue;
 use crate::encode::EncodeValue;
 use crate::equality::ContentsEq;
-use crate::form::{FixedTag, FormValue};
+use crate::fixed_tag::OneTag;
+use crate::form::FormValue;
 use crate::memory::{ValueMemory, WithoutMemory};
 use crate::ord::OrdIsValueOrd;
+use crate::universal_tags::BooleanTag;
 use der_tlv::{Error, Header, Length, Reader, Tag, Writer};
 use std::alloc::Global;
 
@@ -61,12 +63,8 @@ impl ValueMemory for bool {
     ghost memory_of_value = { refl };
 }
 
-impl FixedTag for bool {
-    ghost TAG = { Boolean };
-
-    const TAG: Tag = Tag::Boolean;
-
-    ghost tag_in_range = { lit< tt };
+impl OneTag for bool {
+    type Marker = BooleanTag;
 }
 
 impl<'a, R: Reader<'a>> DecodeValue<'a, R> for bool {

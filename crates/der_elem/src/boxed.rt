@@ -8,21 +8,18 @@ use crate::decode::DecodeValue;
 use crate::duplicate::DuplicateValue;
 use crate::encode::EncodeValue;
 use crate::equality::ContentsEq;
-use crate::form::{FixedTag, FormValue};
+use crate::fixed_tag::OneTag;
+use crate::form::FormValue;
 use crate::memory::{ValueMemory, WithMemory};
 use crate::sequence::Sequence;
 use der_tlv::{Error, ErrorKind, Header, Length, Reader, Tag, Writer};
 use std::alloc::Global;
 
-impl<T: FixedTag> FixedTag for Box<T> {
-    ghost TAG = { T.TAG };
-
-    const TAG: Tag = T::TAG;
-
-    ghost tag_in_range = { T.tag_in_range };
+impl<T: OneTag> OneTag for Box<T> {
+    type Marker = <T as OneTag>::Marker;
 }
 
-impl<'a, T: Sequence<'a>> Sequence<'a> for Box<T> {
+impl<'a, T: Sequence<'a> + OneTag> Sequence<'a> for Box<T> {
     ghost is_sequence = { T.is_sequence };
 }
 

@@ -5,7 +5,8 @@ ghost use Rattle.std.proofs.Common.{ap};
 ghost use Rattle.der_tlv.specs.HeaderOctets.{tlv};
 ghost use Rattle.der_tlv.specs.declared.error.ErrorKind.TheVariants.{Memory};
 
-use crate::form::{FixedTag, Form, FormValue};
+use crate::fixed_tag::FixedTag;
+use crate::form::{Form, FormValue};
 use der_tlv::Error;
 
 /// A type whose values can be copied, which may take memory.

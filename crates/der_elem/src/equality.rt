@@ -3,7 +3,8 @@
 ghost use Rattle.std.specs.Prelude.{◌≡◌, ◌↔◌, IsTrue};
 ghost use Rattle.der_elem.specs.TaggedLaws.{encoding_eq_tagged};
 
-use crate::form::{FixedTag, Form, FormValue};
+use crate::fixed_tag::FixedTag;
+use crate::form::{Form, FormValue};
 
 /// A type whose values of one form are equal exactly if their encodings are.
 pub trait EncodingEq: Form + PartialEq {

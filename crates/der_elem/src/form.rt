@@ -13,7 +13,7 @@ ghost use Rattle.der_elem.specs.Parsing.{Parse, ContentsParse, parse_tagged};
 ghost use Rattle.der_elem.specs.Accepting.{Fits, BeginsWith, MayFollow, accepts_tagged};
 ghost use Rattle.der_elem.specs.TaggedLaws.{parse_of_tagged, begins_tagged, same_length_tagged, accepts_tagged_encoding, readable_tagged, one_form_tagged};
 
-use der_tlv::Tag;
+use crate::fixed_tag::FixedTag;
 
 /// The contents octets that stand for a value, and which contents octets are read as it.
 pub trait FormValue: Sized + Drop {
@@ -94,30 +94,6 @@ pub trait Form: Sized + Drop {
     ghost accepts_one_form: { (rules : EncodingRules) (v w : Self) (b c : List ℕ) → accepts rules v b → accepts rules w c → one_form v w };
 
     ghost re_reads_memory: { (v : Self) → re_reads v ≡ true → TAKES_MEMORY ≡ true };
-}
-
-/// A type whose encodings have one tag.
-pub trait FixedTag {
-    ghost TAG: { Tag };
-
-    /// The tag.
-    const TAG: Tag;
-
-    ghost tag_in_range: { IsTag TAG };
-}
-
-/// A type whose encodings have the tag of another type's, as a borrowed form has its owned form's.
-pub trait SameTag {
-    /// The other type.
-    type As: FixedTag;
-}
-
-impl<T: SameTag> FixedTag for T {
-    ghost TAG = { T.As.TAG };
-
-    const TAG: Tag = <T::As as FixedTag>::TAG;
-
-    ghost tag_in_range = { T.As.tag_in_range };
 }
 
 impl<T: FormValue + FixedTag> Form for T {

@@ -10,6 +10,7 @@ mod decode;
 mod duplicate;
 mod encode;
 mod equality;
+mod fixed_tag;
 mod form;
 mod integer;
 mod items;
@@ -23,6 +24,7 @@ mod tag;
 #[cfg(test)]
 mod tests;
 mod unit;
+mod universal_tags;
 mod vec;
 
 pub use contents::read_contents;
@@ -30,7 +32,8 @@ pub use decode::{Decode, DecodeValue, FromDer};
 pub use duplicate::{Duplicate, DuplicateValue};
 pub use encode::{Encode, EncodeValue};
 pub use equality::{ContentsEq, EncodingEq};
-pub use form::{FixedTag, Form, FormValue, SameTag};
+pub use fixed_tag::{FixedTag, OneTag, TagMarker};
+pub use form::{Form, FormValue};
 pub use integer::{signed_of, unsigned_of};
 pub use items::{cmp_items, encode_items, items_len};
 pub use memory::{FormMemory, Memory, TakesMemory, ValueMemory, WithMemory, WithoutMemory};
@@ -38,3 +41,7 @@ pub use ord::{DerOrd, OrdIsValueOrd, ValueOrd};
 pub use readiness::ask_ready;
 pub use sequence::Sequence;
 pub use tag::{Choice, IsConstructed, Tagged};
+pub use universal_tags::{
+    BitStringTag, BmpStringTag, BooleanTag, GeneralStringTag, GeneralizedTimeTag, IntegerTag,
+    NullTag, ObjectIdentifierTag, OctetStringTag, SequenceTag, SetTag, UtcTimeTag, Utf8StringTag,
+};

@@ -5,7 +5,8 @@
 
 ghost use Rattle.std.specs.Prelude.{◌≡◌, Bool, true, false};
 
-use crate::form::{FixedTag, Form, FormValue};
+use crate::fixed_tag::FixedTag;
+use crate::form::{Form, FormValue};
 
 /// An answer to whether reading takes memory, as a type.
 pub trait Memory {

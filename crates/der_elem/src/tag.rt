@@ -5,7 +5,8 @@ ghost use Rattle.der_tlv.specs.declared.tag.Tag.{Tag};
 ghost use Rattle.der_tlv.specs.TagParts.{IsTag, is_constructed};
 ghost use Rattle.der_tlv.specs.HeaderOctets.{tlv};
 
-use crate::form::{FixedTag, Form, FormValue};
+use crate::fixed_tag::FixedTag;
+use crate::form::{Form, FormValue};
 use der_tlv::Tag;
 
 /// A value with a tag.

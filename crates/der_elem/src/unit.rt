@@ -16,8 +16,10 @@ use crate::decode::DecodeValue;
 use crate::duplicate::DuplicateValue;
 use crate::encode::EncodeValue;
 use crate::equality::ContentsEq;
-use crate::form::{FixedTag, FormValue};
+use crate::fixed_tag::OneTag;
+use crate::form::FormValue;
 use crate::memory::{ValueMemory, WithoutMemory};
+use crate::universal_tags::NullTag;
 use der_tlv::{Error, Header, Length, Reader, Tag, Writer};
 use std::alloc::Global;
 
@@ -57,12 +59,8 @@ impl ValueMemory for () {
     ghost memory_of_value = { refl };
 }
 
-impl FixedTag for () {
-    ghost TAG = { Null };
-
-    const TAG: Tag = Tag::Null;
-
-    ghost tag_in_range = { lit< tt };
+impl OneTag for () {
+    type Marker = NullTag;
 }
 
 impl<'a, R: Reader<'a>> DecodeValue<'a, R> for () {

@@ -19,23 +19,21 @@ use crate::decode::{Decode, DecodeValue};
 use crate::duplicate::{Duplicate, DuplicateValue};
 use crate::encode::{Encode, EncodeValue};
 use crate::equality::{ContentsEq, EncodingEq};
-use crate::form::{FixedTag, Form, FormValue};
+use crate::fixed_tag::OneTag;
+use crate::form::{Form, FormValue};
 use crate::items::{cmp_items, duplicate_items, encode_items, items_len};
 use crate::memory::{ValueMemory, WithMemory};
 use crate::ord::{DerOrd, ValueOrd};
 use crate::readiness::ask_ready;
 use crate::sequence::Sequence;
 use crate::tag::Tagged;
+use crate::universal_tags::SequenceTag;
 use der_tlv::{Error, ErrorKind, Header, Length, Reader, Tag, Writer};
 use std::alloc::Global;
 use std::cmp::Ordering;
 
-impl<T> FixedTag for Vec<T> {
-    ghost TAG = { tags.Sequence };
-
-    const TAG: Tag = Tag::Sequence;
-
-    ghost tag_in_range = { lit< tt };
+impl<T> OneTag for Vec<T> {
+    type Marker = SequenceTag;
 }
 
 impl<'a, T> Sequence<'a> for Vec<T> {

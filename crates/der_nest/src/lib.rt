@@ -12,6 +12,6 @@ mod set_of_vec;
 
 pub use probe::{Asks, ItemProbe, Probe, insertion_place};
 pub use sequence_of::SequenceOf;
-pub use sequence_ref::{SequenceRef, SequenceTag};
+pub use sequence_ref::SequenceRef;
 pub use set_of::SetOf;
 pub use set_of_vec::SetOfVec;

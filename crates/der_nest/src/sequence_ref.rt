@@ -9,22 +9,11 @@ ghost use Rattle.der_tlv.specs.declared.tag.Tag.TheVariants as tags;
 ghost use Rattle.der_opaque.specs.Opaque.{accepts_octets, parse_octets, KeepsOctets};
 
 use der_elem::{
-    ContentsEq, DecodeValue, DuplicateValue, EncodeValue, FixedTag, FormValue, SameTag, Sequence,
+    ContentsEq, DecodeValue, DuplicateValue, EncodeValue, FormValue, OneTag, Sequence, SequenceTag,
     ValueMemory, WithoutMemory,
 };
 use der_tlv::{Error, Header, Length, Reader, Tag, Writer};
 use std::alloc::Global;
-
-/// The tag of a SEQUENCE, for types that borrow.
-pub struct SequenceTag;
-
-impl FixedTag for SequenceTag {
-    ghost TAG = { tags.Sequence };
-
-    const TAG: Tag = Tag::Sequence;
-
-    ghost tag_in_range = { lit< tt };
-}
 
 /// The contents octets of a SEQUENCE, borrowed: at most 4294967295 of them.
 ///
@@ -93,8 +82,8 @@ impl<'a> ValueMemory for SequenceRef<'a> {
     ghost memory_of_value = { refl };
 }
 
-impl<'a> SameTag for SequenceRef<'a> {
-    type As = SequenceTag;
+impl<'a> OneTag for SequenceRef<'a> {
+    type Marker = SequenceTag;
 }
 
 impl<'a> Sequence<'a> for SequenceRef<'a> {

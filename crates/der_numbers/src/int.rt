@@ -16,8 +16,8 @@ use crate::int_ref::{AsIntRef, IntRef};
 use crate::octets::is_high;
 use crate::uint::Uint;
 use der_elem::{
-    ContentsEq, DecodeValue, DuplicateValue, EncodeValue, FixedTag, FormValue, OrdIsValueOrd,
-    ValueMemory, WithMemory,
+    ContentsEq, DecodeValue, DuplicateValue, EncodeValue, FormValue, IntegerTag, OneTag,
+    OrdIsValueOrd, ValueMemory, WithMemory,
 };
 use der_tlv::{Error, ErrorKind, Header, Length, Reader, Tag, VecWriter, Writer};
 use std::alloc::{AllocError, Global};
@@ -153,12 +153,8 @@ impl ValueMemory for Int {
     ghost memory_of_value = { refl };
 }
 
-impl FixedTag for Int {
-    ghost TAG = { tags.Integer };
-
-    const TAG: Tag = Tag::Integer;
-
-    ghost tag_in_range = { lit< tt };
+impl OneTag for Int {
+    type Marker = IntegerTag;
 }
 
 impl<'a, R: Reader<'a>> DecodeValue<'a, R> for Int {

@@ -17,8 +17,8 @@ ghost use Rattle.der_numbers.specs.AnyLengthLaws.{parse_of_integer};
 use crate::int::Int;
 use crate::octets::{check_integer, strip_redundant};
 use der_elem::{
-    ContentsEq, DecodeValue, DuplicateValue, EncodeValue, Form, FormValue, OrdIsValueOrd, SameTag,
-    Tagged, ValueMemory, WithoutMemory,
+    ContentsEq, DecodeValue, DuplicateValue, EncodeValue, Form, FormValue, IntegerTag, OneTag,
+    OrdIsValueOrd, Tagged, ValueMemory, WithoutMemory,
 };
 use der_opaque::{Any, AnyRef};
 use der_tlv::{Error, ErrorKind, Header, Length, Reader, Tag, Writer};
@@ -143,8 +143,8 @@ impl<'a> ValueMemory for IntRef<'a> {
     ghost memory_of_value = { refl };
 }
 
-impl<'a> SameTag for IntRef<'a> {
-    type As = Int;
+impl<'a> OneTag for IntRef<'a> {
+    type Marker = IntegerTag;
 }
 
 impl<'a, R: Reader<'a>> DecodeValue<'a, R> for IntRef<'a> {

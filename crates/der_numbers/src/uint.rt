@@ -20,8 +20,8 @@ ghost use Rattle.der_numbers.specs.UnsignedLaws.{parse_of_natural};
 use crate::octets::{compare_contents, contents_len, write_contents};
 use crate::uint_ref::{AsUintRef, UintRef};
 use der_elem::{
-    ContentsEq, DecodeValue, DuplicateValue, EncodeValue, FixedTag, FormValue, OrdIsValueOrd,
-    ValueMemory, WithMemory,
+    ContentsEq, DecodeValue, DuplicateValue, EncodeValue, FormValue, IntegerTag, OneTag,
+    OrdIsValueOrd, ValueMemory, WithMemory,
 };
 use der_tlv::{Error, ErrorKind, Header, Length, Reader, Tag, Writer};
 use std::alloc::{AllocError, Global};
@@ -142,12 +142,8 @@ impl ValueMemory for Uint {
     ghost memory_of_value = { refl };
 }
 
-impl FixedTag for Uint {
-    ghost TAG = { tags.Integer };
-
-    const TAG: Tag = Tag::Integer;
-
-    ghost tag_in_range = { lit< tt };
+impl OneTag for Uint {
+    type Marker = IntegerTag;
 }
 
 impl<'a, R: Reader<'a>> DecodeValue<'a, R> for Uint {

@@ -22,8 +22,8 @@ ghost use Rattle.der_numbers.specs.UnsignedLaws.{parse_of_natural};
 use crate::octets::{check_natural, compare_contents, contents_len, strip_zeros, write_contents};
 use crate::uint::Uint;
 use der_elem::{
-    ContentsEq, DecodeValue, DuplicateValue, EncodeValue, Form, FormValue, OrdIsValueOrd, SameTag,
-    Tagged, ValueMemory, WithoutMemory,
+    ContentsEq, DecodeValue, DuplicateValue, EncodeValue, Form, FormValue, IntegerTag, OneTag,
+    OrdIsValueOrd, Tagged, ValueMemory, WithoutMemory,
 };
 use der_opaque::{Any, AnyRef};
 use der_tlv::{Error, ErrorKind, Header, Length, Reader, Tag, Writer};
@@ -155,8 +155,8 @@ impl<'a> ValueMemory for UintRef<'a> {
     ghost memory_of_value = { refl };
 }
 
-impl<'a> SameTag for UintRef<'a> {
-    type As = Uint;
+impl<'a> OneTag for UintRef<'a> {
+    type Marker = IntegerTag;
 }
 
 impl<'a, R: Reader<'a>> DecodeValue<'a, R> for UintRef<'a> {

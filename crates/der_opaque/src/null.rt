@@ -13,8 +13,8 @@ ghost use Rattle.der_opaque.specs.Opaque.{accepts_octets};
 use crate::any::Any;
 use crate::any_ref::AnyRef;
 use der_elem::{
-    ContentsEq, DecodeValue, DuplicateValue, EncodeValue, FixedTag, Form, FormValue, OrdIsValueOrd,
-    Tagged, ValueMemory, WithoutMemory,
+    ContentsEq, DecodeValue, DuplicateValue, EncodeValue, Form, FormValue, NullTag, OneTag,
+    OrdIsValueOrd, Tagged, ValueMemory, WithoutMemory,
 };
 use der_tlv::{Error, Header, Length, Reader, Tag, Writer};
 use std::alloc::Global;
@@ -62,12 +62,8 @@ impl ValueMemory for Null {
     ghost memory_of_value = { refl };
 }
 
-impl FixedTag for Null {
-    ghost TAG = { tags.Null };
-
-    const TAG: Tag = Tag::Null;
-
-    ghost tag_in_range = { lit< tt };
+impl OneTag for Null {
+    type Marker = NullTag;
 }
 
 impl<'a, R: Reader<'a>> DecodeValue<'a, R> for Null {

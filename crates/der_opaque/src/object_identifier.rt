@@ -15,8 +15,8 @@ ghost use Rattle.der_opaque.specs.ObjectIdentifierOctets.{parse_identifier, pars
 
 use crate::any_ref::AnyRef;
 use der_elem::{
-    ContentsEq, DecodeValue, DuplicateValue, EncodeValue, FixedTag, FormValue, OrdIsValueOrd,
-    Tagged, ValueMemory, WithoutMemory,
+    ContentsEq, DecodeValue, DuplicateValue, EncodeValue, FormValue, ObjectIdentifierTag, OneTag,
+    OrdIsValueOrd, Tagged, ValueMemory, WithoutMemory,
 };
 use der_tlv::{Error, ErrorKind, Header, Length, Reader, Tag, Writer};
 use std::alloc::Global;
@@ -106,12 +106,8 @@ impl<const MAX_SIZE: usize> ValueMemory for ObjectIdentifier<MAX_SIZE> {
     ghost memory_of_value = { refl };
 }
 
-impl<const MAX_SIZE: usize> FixedTag for ObjectIdentifier<MAX_SIZE> {
-    ghost TAG = { tags.ObjectIdentifier };
-
-    const TAG: Tag = Tag::ObjectIdentifier;
-
-    ghost tag_in_range = { lit< tt };
+impl<const MAX_SIZE: usize> OneTag for ObjectIdentifier<MAX_SIZE> {
+    type Marker = ObjectIdentifierTag;
 }
 
 impl<'a, R: Reader<'a>, const MAX_SIZE: usize> DecodeValue<'a, R> for ObjectIdentifier<MAX_SIZE> {

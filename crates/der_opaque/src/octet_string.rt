@@ -11,8 +11,8 @@ ghost use Rattle.der_opaque.specs.Opaque.{accepts_octets, parse_octets, KeepsOct
 
 use crate::octet_string_ref::OctetStringRef;
 use der_elem::{
-    ContentsEq, DecodeValue, DuplicateValue, EncodeValue, FixedTag, FormValue, OrdIsValueOrd,
-    ValueMemory, WithMemory,
+    ContentsEq, DecodeValue, DuplicateValue, EncodeValue, FormValue, OctetStringTag, OneTag,
+    OrdIsValueOrd, ValueMemory, WithMemory,
 };
 use der_tlv::{Error, ErrorKind, Header, Length, Reader, Tag, Writer};
 use std::alloc::{AllocError, Global};
@@ -123,12 +123,8 @@ impl ValueMemory for OctetString {
     ghost memory_of_value = { refl };
 }
 
-impl FixedTag for OctetString {
-    ghost TAG = { tags.OctetString };
-
-    const TAG: Tag = Tag::OctetString;
-
-    ghost tag_in_range = { lit< tt };
+impl OneTag for OctetString {
+    type Marker = OctetStringTag;
 }
 
 impl<'a, R: Reader<'a>> DecodeValue<'a, R> for OctetString {

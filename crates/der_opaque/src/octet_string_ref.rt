@@ -16,8 +16,8 @@ use crate::any::Any;
 use crate::any_ref::AnyRef;
 use crate::octet_string::OctetString;
 use der_elem::{
-    ContentsEq, DecodeValue, DuplicateValue, EncodeValue, Form, FormValue, FromDer, OrdIsValueOrd,
-    SameTag, Tagged, ValueMemory, WithoutMemory,
+    ContentsEq, DecodeValue, DuplicateValue, EncodeValue, Form, FormValue, FromDer, OctetStringTag,
+    OneTag, OrdIsValueOrd, Tagged, ValueMemory, WithoutMemory,
 };
 use der_tlv::{Error, ErrorKind, Header, Length, Reader, Tag, Writer};
 use std::alloc::Global;
@@ -140,8 +140,8 @@ impl<'a> ValueMemory for OctetStringRef<'a> {
     ghost memory_of_value = { refl };
 }
 
-impl<'a> SameTag for OctetStringRef<'a> {
-    type As = OctetString;
+impl<'a> OneTag for OctetStringRef<'a> {
+    type Marker = OctetStringTag;
 }
 
 impl<'a, R: Reader<'a>> DecodeValue<'a, R> for OctetStringRef<'a> {

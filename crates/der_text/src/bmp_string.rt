@@ -16,8 +16,8 @@ ghost use Rattle.der_text.specs.BmpUnits.{units, are_characters, parse_bmp, pars
 use crate::bmp_iter::{BmpChars, BmpCodepoints};
 use crate::bmp_units::{check_units, octets_of};
 use der_elem::{
-    ContentsEq, DecodeValue, DuplicateValue, EncodeValue, FixedTag, FormValue, OrdIsValueOrd,
-    ValueMemory, WithMemory,
+    BmpStringTag, ContentsEq, DecodeValue, DuplicateValue, EncodeValue, FormValue, OneTag,
+    OrdIsValueOrd, ValueMemory, WithMemory,
 };
 use der_tlv::{Error, ErrorKind, Header, Length, Reader, Tag, Writer};
 use std::alloc::{AllocError, Global};
@@ -172,12 +172,8 @@ impl ValueMemory for BmpString {
     ghost memory_of_value = { refl };
 }
 
-impl FixedTag for BmpString {
-    ghost TAG = { tags.BmpString };
-
-    const TAG: Tag = Tag::BmpString;
-
-    ghost tag_in_range = { lit< tt };
+impl OneTag for BmpString {
+    type Marker = BmpStringTag;
 }
 
 impl<'a, R: Reader<'a>> DecodeValue<'a, R> for BmpString {

@@ -8,10 +8,9 @@ ghost use Rattle.std.proofs.Common.{Ok, ap, sym};
 ghost use Rattle.std.specs.Cmp.Lexicographic.{bytes_decides};
 ghost use Rattle.der_opaque.specs.Opaque.{accepts_octets, parse_octets};
 
-use crate::tags::GeneralStringTag;
 use der_elem::{
-    ContentsEq, DecodeValue, DuplicateValue, EncodeValue, FormValue, SameTag, ValueMemory,
-    WithoutMemory,
+    ContentsEq, DecodeValue, DuplicateValue, EncodeValue, FormValue, GeneralStringTag, OneTag,
+    ValueMemory, WithoutMemory,
 };
 use der_tlv::{Error, Header, Length, Reader, Writer};
 use std::alloc::Global;
@@ -70,8 +69,8 @@ impl<'a> ValueMemory for GeneralStringRef<'a> {
     ghost memory_of_value = { refl };
 }
 
-impl<'a> SameTag for GeneralStringRef<'a> {
-    type As = GeneralStringTag;
+impl<'a> OneTag for GeneralStringRef<'a> {
+    type Marker = GeneralStringTag;
 }
 
 impl<'a, R: Reader<'a>> DecodeValue<'a, R> for GeneralStringRef<'a> {

@@ -5,14 +5,12 @@ mod bmp_iter;
 mod bmp_string;
 mod bmp_units;
 mod general_string;
-mod tags;
 mod utf8_string;
 mod utf8_text;
 
 pub use bmp_iter::{BmpChars, BmpCodepoints};
 pub use bmp_string::BmpString;
 pub use general_string::GeneralStringRef;
-pub use tags::{GeneralStringTag, Utf8StringTag};
 pub use utf8_string::Utf8StringRef;
 
 #[cfg(test)]

@@ -15,11 +15,10 @@ ghost use Rattle.der_opaque.specs.DecodingAs.{DecodesAs};
 ghost use Rattle.der_opaque.specs.Opaque.{accepts_octets};
 ghost use Rattle.der_text.specs.Utf8Octets.{parse_utf8, parse_of_utf8, KeepsUtf8, KeepsText};
 
-use crate::tags::Utf8StringTag;
 use crate::utf8_text::text_of;
 use der_elem::{
-    ContentsEq, DecodeValue, DuplicateValue, EncodeValue, Form, FormValue, OrdIsValueOrd, SameTag,
-    Tagged, ValueMemory, WithoutMemory,
+    ContentsEq, DecodeValue, DuplicateValue, EncodeValue, Form, FormValue, OneTag, OrdIsValueOrd,
+    Tagged, Utf8StringTag, ValueMemory, WithoutMemory,
 };
 use der_opaque::{Any, AnyRef};
 use der_tlv::{Error, ErrorKind, Header, Length, Reader, Tag, Writer};
@@ -144,8 +143,8 @@ impl<'a> ValueMemory for Utf8StringRef<'a> {
     ghost memory_of_value = { refl };
 }
 
-impl<'a> SameTag for Utf8StringRef<'a> {
-    type As = Utf8StringTag;
+impl<'a> OneTag for Utf8StringRef<'a> {
+    type Marker = Utf8StringTag;
 }
 
 impl<'a, R: Reader<'a>> DecodeValue<'a, R> for Utf8StringRef<'a> {

@@ -21,9 +21,11 @@ use crate::decode::DecodeValue;
 use crate::duplicate::DuplicateValue;
 use crate::encode::EncodeValue;
 use crate::equality::ContentsEq;
-use crate::form::{FixedTag, FormValue};
+use crate::fixed_tag::OneTag;
+use crate::form::FormValue;
 use crate::memory::{ValueMemory, WithoutMemory};
 use crate::ord::ValueOrd;
+use crate::universal_tags::IntegerTag;
 use der_tlv::{Error, Header, Length, Reader, Tag, Writer};
 use std::alloc::Global;
 use std::cmp::Ordering;
@@ -64,12 +66,8 @@ impl ValueMemory for i8 {
     ghost memory_of_value = { refl };
 }
 
-impl FixedTag for i8 {
-    ghost TAG = { Integer };
-
-    const TAG: Tag = Tag::Integer;
-
-    ghost tag_in_range = { lit< tt };
+impl OneTag for i8 {
+    type Marker = IntegerTag;
 }
 
 impl<'a, R: Reader<'a>> DecodeValue<'a, R> for i8 {
@@ -151,12 +149,8 @@ impl ValueMemory for i16 {
     ghost memory_of_value = { refl };
 }
 
-impl FixedTag for i16 {
-    ghost TAG = { Integer };
-
-    const TAG: Tag = Tag::Integer;
-
-    ghost tag_in_range = { lit< tt };
+impl OneTag for i16 {
+    type Marker = IntegerTag;
 }
 
 impl<'a, R: Reader<'a>> DecodeValue<'a, R> for i16 {
@@ -238,12 +232,8 @@ impl ValueMemory for i32 {
     ghost memory_of_value = { refl };
 }
 
-impl FixedTag for i32 {
-    ghost TAG = { Integer };
-
-    const TAG: Tag = Tag::Integer;
-
-    ghost tag_in_range = { lit< tt };
+impl OneTag for i32 {
+    type Marker = IntegerTag;
 }
 
 impl<'a, R: Reader<'a>> DecodeValue<'a, R> for i32 {
@@ -325,12 +315,8 @@ impl ValueMemory for i64 {
     ghost memory_of_value = { refl };
 }
 
-impl FixedTag for i64 {
-    ghost TAG = { Integer };
-
-    const TAG: Tag = Tag::Integer;
-
-    ghost tag_in_range = { lit< tt };
+impl OneTag for i64 {
+    type Marker = IntegerTag;
 }
 
 impl<'a, R: Reader<'a>> DecodeValue<'a, R> for i64 {
@@ -412,12 +398,8 @@ impl ValueMemory for i128 {
     ghost memory_of_value = { refl };
 }
 
-impl FixedTag for i128 {
-    ghost TAG = { Integer };
-
-    const TAG: Tag = Tag::Integer;
-
-    ghost tag_in_range = { lit< tt };
+impl OneTag for i128 {
+    type Marker = IntegerTag;
 }
 
 impl<'a, R: Reader<'a>> DecodeValue<'a, R> for i128 {

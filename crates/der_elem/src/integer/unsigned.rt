@@ -21,9 +21,11 @@ use crate::decode::DecodeValue;
 use crate::duplicate::DuplicateValue;
 use crate::encode::EncodeValue;
 use crate::equality::ContentsEq;
-use crate::form::{FixedTag, FormValue};
+use crate::fixed_tag::OneTag;
+use crate::form::FormValue;
 use crate::memory::{ValueMemory, WithoutMemory};
 use crate::ord::ValueOrd;
+use crate::universal_tags::IntegerTag;
 use der_tlv::{Error, Header, Length, Reader, Tag, Writer};
 use std::alloc::Global;
 use std::cmp::Ordering;
@@ -64,12 +66,8 @@ impl ValueMemory for u8 {
     ghost memory_of_value = { refl };
 }
 
-impl FixedTag for u8 {
-    ghost TAG = { Integer };
-
-    const TAG: Tag = Tag::Integer;
-
-    ghost tag_in_range = { lit< tt };
+impl OneTag for u8 {
+    type Marker = IntegerTag;
 }
 
 impl<'a, R: Reader<'a>> DecodeValue<'a, R> for u8 {
@@ -151,12 +149,8 @@ impl ValueMemory for u16 {
     ghost memory_of_value = { refl };
 }
 
-impl FixedTag for u16 {
-    ghost TAG = { Integer };
-
-    const TAG: Tag = Tag::Integer;
-
-    ghost tag_in_range = { lit< tt };
+impl OneTag for u16 {
+    type Marker = IntegerTag;
 }
 
 impl<'a, R: Reader<'a>> DecodeValue<'a, R> for u16 {
@@ -238,12 +232,8 @@ impl ValueMemory for u32 {
     ghost memory_of_value = { refl };
 }
 
-impl FixedTag for u32 {
-    ghost TAG = { Integer };
-
-    const TAG: Tag = Tag::Integer;
-
-    ghost tag_in_range = { lit< tt };
+impl OneTag for u32 {
+    type Marker = IntegerTag;
 }
 
 impl<'a, R: Reader<'a>> DecodeValue<'a, R> for u32 {
@@ -325,12 +315,8 @@ impl ValueMemory for u64 {
     ghost memory_of_value = { refl };
 }
 
-impl FixedTag for u64 {
-    ghost TAG = { Integer };
-
-    const TAG: Tag = Tag::Integer;
-
-    ghost tag_in_range = { lit< tt };
+impl OneTag for u64 {
+    type Marker = IntegerTag;
 }
 
 impl<'a, R: Reader<'a>> DecodeValue<'a, R> for u64 {
@@ -412,12 +398,8 @@ impl ValueMemory for u128 {
     ghost memory_of_value = { refl };
 }
 
-impl FixedTag for u128 {
-    ghost TAG = { Integer };
-
-    const TAG: Tag = Tag::Integer;
-
-    ghost tag_in_range = { lit< tt };
+impl OneTag for u128 {
+    type Marker = IntegerTag;
 }
 
 impl<'a, R: Reader<'a>> DecodeValue<'a, R> for u128 {

@@ -4,7 +4,7 @@ use crate::decode::{Decode, FromDer};
 use crate::duplicate::Duplicate;
 use crate::encode::Encode;
 use crate::equality::EncodingEq;
-use crate::form::FixedTag;
+use crate::fixed_tag::FixedTag;
 use crate::memory::{FormMemory, TakesMemory};
 use crate::ord::{DerOrd, ValueOrd};
 use crate::tag::{Choice, IsConstructed, Tagged};

@@ -1,0 +1,43 @@
+//! Types whose encodings have one tag.
+//!
+//! Such a type names its tag by a type that stands for the tag, and gets [`FixedTag`] from that. So
+//! `FixedTag` of a type is always met by one implementation, which structs with a bound on it need.
+
+ghost use Rattle.der_tlv.specs.declared.tag.Tag.{Tag};
+ghost use Rattle.der_tlv.specs.TagParts.{IsTag};
+
+use der_tlv::Tag;
+
+/// A tag, as a type.
+pub trait TagMarker {
+    ghost TAG: { Tag };
+
+    /// The tag.
+    const TAG: Tag;
+
+    ghost tag_in_range: { IsTag TAG };
+}
+
+/// A type whose encodings have one tag, which it names.
+pub trait OneTag {
+    /// The tag.
+    type Marker: TagMarker;
+}
+
+/// A type whose encodings have one tag.
+pub trait FixedTag {
+    ghost TAG: { Tag };
+
+    /// The tag.
+    const TAG: Tag;
+
+    ghost tag_in_range: { IsTag TAG };
+}
+
+impl<T: OneTag> FixedTag for T {
+    ghost TAG = { T.Marker.TAG };
+
+    const TAG: Tag = <T::Marker as TagMarker>::TAG;
+
+    ghost tag_in_range = { T.Marker.tag_in_range };
+}
