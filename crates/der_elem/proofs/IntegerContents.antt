@@ -41,46 +41,6 @@ pub magnitude_more_le : (negative : Bool) (octets : List ℕ) (i n digit : ℕ) 
 magnitude_more_le negative octets i n digit within number read =
     omega (arith, magnitude_more negative octets i n digit within number read, number_take-le (complemented_if negative octets) (i + 1))
 
--- ---- the contents octets, from the last to the first
-
--- inverting goes octet by octet
-complemented-append : (xs ys : List ℕ) → complemented (xs ++ ys) ≡ complemented xs ++ complemented ys
-complemented-append [] ys = refl
-complemented-append (x ∷ xs) ys = ap (λ octets. (255 - x) ∷ octets) (complemented-append xs ys)
-
--- the same of one more octet, with the flag
-complemented_if-push : (negative : Bool) (octets : List ℕ) (octet : ℕ) → complemented_if negative (octets ++ octet ∷ []) ≡ complemented_if negative octets ++ cond negative (255 - octet) octet ∷ []
-complemented_if-push true octets octet = complemented-append octets (octet ∷ [])
-complemented_if-push false octets octet = refl
-
--- and of a lone octet
-complemented_if-single : (negative : Bool) (octet : ℕ) → complemented_if negative (octet ∷ []) ≡ cond negative (255 - octet) octet ∷ []
-complemented_if-single true octet = refl
-complemented_if-single false octet = refl
-
--- the remainder by 256 written before what is there, the contents of the quotient are left
-pub contents_step : (negative : Bool) (rest start next octet : ℕ) (octets whole : List ℕ) → next ≡ start → 128 ≤ rest → start < length octets → octet ≡ cond negative (255 - rest % 256) (rest % 256) → complemented_if negative (natural_contents rest) ++ drop (start + 1) octets ≡ whole → complemented_if negative (natural_contents (rest / 256)) ++ drop next (set octets start octet) ≡ whole
-contents_step negative rest start next octet octets whole same large within written all =
-    ap (λ tail. complemented_if negative (natural_contents (rest / 256)) ++ tail) (ap (λ k. drop k (set octets start octet)) same ∙ drop-set octets start octet within ∙ ap (λ o. o ∷ drop (start + 1) octets) written)
-    ∙ sym (append_assoc (complemented_if negative (natural_contents (rest / 256))) (cond negative (255 - rest % 256) (rest % 256) ∷ []) (drop (start + 1) octets))
-    ∙ ap (λ front. front ++ drop (start + 1) octets) (sym (complemented_if-push negative (natural_contents (rest / 256)) (rest % 256)) ∙ ap (complemented_if negative) (sym (natural_contents-step rest large)))
-    ∙ all
-
--- a rest below 128 is the first octet
-pub contents_first : (negative : Bool) (rest start octet : ℕ) (octets whole : List ℕ) → rest < 128 → start < length octets → octet ≡ cond negative (255 - rest) rest → complemented_if negative (natural_contents rest) ++ drop (start + 1) octets ≡ whole → drop start (set octets start octet) ≡ whole
-contents_first negative rest start octet octets whole small within written all =
-    drop-set octets start octet within
-    ∙ ap (λ o. o ∷ drop (start + 1) octets) written
-    ∙ ap (λ front. front ++ drop (start + 1) octets) (sym (complemented_if-single negative rest) ∙ ap (complemented_if negative) (sym (natural_contents-small rest small)))
-    ∙ all
-
--- a rest of 128 or more has octets before the last, in which its quotient by 256 fits
-pub room_step : (rest start : ℕ) → 128 ≤ rest → rest < 128 * 256 ^ start → (0 < start) × (rest / 256 < 128 * 256 ^ (start - 1))
-room_step rest zero large fits = absurd (omega (arith, pow-zero 256))
-room_step rest (suc start) large fits =
-    let same : suc start - 1 ≡ start = omega arith in
-    (omega arith, omega (arith, pow-suc 256 start, ap (λ k. 256 ^ k) same))
-
 -- ---- reading at a width
 
 -- the octets of a slice, each read as a byte

@@ -5,6 +5,7 @@ pub mod Written
 pub mod Headed
 pub mod IntegerContents
 pub mod IntegerReads
+pub mod IntegerBytes
 pub mod ItemWriting
 pub mod ItemReading
 pub mod Ordered

@@ -1,11 +1,16 @@
 -- Octets that are written part by part.
-use Rattle.std.proofs.Common.{◌≡◌, ℕ, ◌+◌, ◌≤◌, List, [], ◌++◌, length, take, Bool, true, inl, inr, IsTrue, Result, Ok, Err, refl, sym, ap, ◌∙◌, arith, subst, append_assoc, min}
+use Rattle.std.proofs.Common.{◌≡◌, ℕ, ◌+◌, ◌≤◌, List, [], ◌++◌, length, take, Bool, true, false, inl, inr, IsTrue, Result, Ok, Err, refl, sym, ap, ◌∙◌, arith, subst, append_assoc, min}
 use Rattle.std.proofs.lemmas.List.{length-append, take-append-le, take_min, append-nil}
 use Rattle.std.proofs.Math.Seq.{take-append-add}
 use Rattle.der_tlv.specs.declared.error.ErrorKind.{ErrorKind}
 use Rattle.der_tlv.specs.declared.error.Error.{Error}
-use Rattle.der_tlv.specs.Writing.{WriterState, Wrote, WriterRefused}
+use Rattle.der_tlv.specs.Writing.{WriterState, Wrote, WriterRefused, Writes}
 use Rattle.der_elem.specs.Encoding.{Stops, Encodes}
+
+-- octets that are written in one call
+pub encoded_whole : (octets : List ℕ) (old new : WriterState) (r : Result (Unit {0}) Error) → Writes octets old new r → Encodes octets false old new r
+encoded_whole octets old new (Ok v) w = w
+encoded_whole octets old new (Err e) w = inl w
 
 pub wrote_nothing : (s : WriterState) → Wrote [] s s
 wrote_nothing s = record { taken = sym (append-nil s.taken); failed = refl; room = omega arith; may_refuse = refl }

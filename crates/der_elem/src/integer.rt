@@ -8,8 +8,10 @@
 //! before 127, and 1 before -1.
 
 mod octets;
+mod ordering;
 mod reading;
 mod signed;
 mod unsigned;
+mod writing;
 
 pub use reading::{signed_of, unsigned_of};

@@ -15,3 +15,6 @@ pub use sequence_of::SequenceOf;
 pub use sequence_ref::SequenceRef;
 pub use set_of::SetOf;
 pub use set_of_vec::SetOfVec;
+
+#[cfg(test)]
+mod tests;

@@ -25,7 +25,7 @@ use Rattle.der_bits.specs.BitString.{parse_bit_string}
 use Rattle.der_text.specs.Utf8Octets.{parse_utf8}
 use Rattle.der_text.specs.BmpUnits.{parse_bmp}
 use Rattle.der_nest.specs.SequencesOf.{parse_items_up_to}
-use Rattle.der_nest.specs.Sets.{parse_set}
+use Rattle.der_nest.specs.Sets.{parse_set, parse_set_up_to}
 use Rattle.der_wrap.specs.TaggedValues.{parse_explicit}
 
 -- the canonical encoding of what some octets encode as one type, or the first fault
@@ -141,8 +141,10 @@ nested_types name =
 -- sets of integers, and of any values
 unfoldable pub set_types : List ℕ → Option CanonicalFunction
 set_types name =
-    if bytes_eq name (codes "setvec-u16") then Some (canonical_tagged Set (parse_set parse_u16))
-    else if bytes_eq name (codes "setvec-anyref") then Some (canonical_tagged Set (parse_set parse_any))
+    if bytes_eq name (codes "setvec-anyref") then Some (canonical_tagged Set (parse_set parse_any))
+    else if bytes_eq name (codes "setvec-u16") then Some (canonical_tagged Set (parse_set parse_u16))
+    else if bytes_eq name (codes "setof2-u16") then Some (canonical_tagged Set (parse_set_up_to 2 parse_u16))
+    else if bytes_eq name (codes "ctx-setof2-u16") then Some (parse_all (parse_explicit 2 (parse_tagged Set (parse_set_up_to 2 parse_u16))))
     else None
 
 -- the first of two that there is

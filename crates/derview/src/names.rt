@@ -10,7 +10,7 @@ use der_ascii::{
     VideotexStringRef,
 };
 use der_bits::{BitString, BitStringRef};
-use der_nest::{SequenceOf, SequenceRef};
+use der_nest::{SequenceOf, SequenceRef, SetOf, SetOfVec};
 use der_numbers::{Int, IntRef, Uint, UintRef};
 use der_opaque::{Any, AnyRef, Null, ObjectIdentifier, OctetString, OctetStringRef};
 use der_text::{BmpString, GeneralStringRef, Utf8StringRef};
@@ -219,13 +219,15 @@ fn canonical_of_nested(alloc: Global, name: &[u8], octets: &[u8]) -> Option<Resu
 fn canonical_of_set(alloc: Global, name: &[u8], octets: &[u8]) -> Option<Result<Vec<u8>, Error>>
     ensures { AnswersAs (set_types name.now) octets.now result }
 {
-    if is(name, "setvec-u16") {
-        return Some(canonical_set::<u16>(alloc, octets));
-    }
     if is(name, "setvec-anyref") {
         return Some(canonical_set::<AnyRef>(alloc, octets));
     }
-    None
+    choose! {
+        alloc, name, octets;
+        "setvec-u16" => SetOfVec<u16>,
+        "setof2-u16" => SetOf<u16, 2>,
+        "ctx-setof2-u16" => ContextSpecific<SetOf<u16, 2>>,
+    }
 }
 
 fn is(name: &[u8], text: &str) -> bool

@@ -51,18 +51,6 @@ pub fn magnitude(bytes: &[u8], negative: bool) -> u128
     number
 }
 
-/// The sign and the magnitude of an integer: `(n, false)` for n, and `(n, true)` for -1 - n.
-pub fn signed_parts(number: i128) -> (u128, bool)
-    ensures value { complement_if result.1 result.0 ≡ number }
-    ensures bound { result.0 < 2 ^ 127 }
-{
-    if number < 0 {
-        (!number as u128, true)
-    } else {
-        (number as u128, false)
-    }
-}
-
 /// The integer that has the magnitude and the sign.
 pub fn signed_value(magnitude: u128, negative: bool) -> i128
     requires { magnitude < 2 ^ 127 }
@@ -70,73 +58,6 @@ pub fn signed_value(magnitude: u128, negative: bool) -> i128
 {
     let number = magnitude as i128;
     if negative { !number } else { number }
-}
-
-/// How many contents octets a magnitude has, with either sign.
-pub fn contents_len(magnitude: u128) -> u32
-    ensures len { result ≡ length (natural_contents magnitude) }
-    ensures bound { result ≤ 17 }
-{
-    (u128::BITS - magnitude.leading_zeros()) / 8 + 1
-}
-
-// The most contents octets that an integer of 128 bits has: 16, and a 00 before them.
-const MAX_OCTETS: usize = 17;
-
-/// The contents octets of an integer of at most 128 bits: 1 to 17 octets, with no memory from an
-/// allocator.
-#[derive(Drop)]
-pub struct IntegerOctets {
-    octets: [u8; MAX_OCTETS],
-    start: usize,
-}
-
-impl Model for IntegerOctets {
-    ghost Value = { List ℕ };
-
-    ghost view = { λ contents. drop contents.start contents.octets };
-
-    ghost invariant = { λ contents. contents.start < 17 };
-}
-
-impl IntegerOctets {
-    /// The contents octets of the integer that has the magnitude and the sign.
-    pub fn new(magnitude: u128, negative: bool) -> Self
-        ensures { result ≡ integer_contents (complement_if negative magnitude) }
-    {
-        let mut octets = [0; MAX_OCTETS];
-        let mut start = MAX_OCTETS - 1;
-        let mut rest = magnitude;
-        while rest >= 0x80 {
-            octets[start] = inverted_if(negative, (rest % 256) as u8);
-            start -= 1;
-            rest /= 256;
-        }
-        octets[start] = inverted_if(negative, rest as u8);
-        IntegerOctets { octets, start }
-    }
-
-    /// The contents octets of an integer.
-    pub fn from_signed(number: i128) -> Self
-        ensures { result ≡ integer_contents number }
-    {
-        let (magnitude, negative) = signed_parts(number);
-        IntegerOctets::new(magnitude, negative)
-    }
-
-    /// The contents octets of a number that is not negative.
-    pub fn from_unsigned(number: u128) -> Self
-        ensures { result ≡ natural_contents number }
-    {
-        IntegerOctets::new(number, false)
-    }
-
-    /// The octets, the first of which has the sign in its bit 8.
-    pub fn as_slice(&self) -> &[u8]
-        ensures { result.now ≡ self.now }
-    {
-        &self.octets[self.start..]
-    }
 }
 
 /// The integer that contents octets are the two's complement of, at a width of up to 16 octets.
@@ -173,32 +94,4 @@ pub fn fits_unsigned(bytes: &[u8], width: usize) -> bool
     ensures decides { IsTrue result ↔ FitsUnsignedOctets width bytes.now }
 {
     bytes.len() <= width || (bytes[0] == 0 && bytes.len() - 1 == width)
-}
-
-/// How many contents octets an integer has.
-pub fn signed_len(number: i128) -> u32
-    ensures len { result ≡ length (integer_contents number) }
-    ensures bound { result ≤ 16 }
-{
-    let (magnitude, _) = signed_parts(number);
-    contents_len(magnitude)
-}
-
-/// The lexicographic order of the contents octets of two integers.
-pub fn compare_signed(a: i128, b: i128) -> Ordering
-    ensures { result ≡ lex (integer_contents a) (integer_contents b) }
-{
-    let (a, b) = (IntegerOctets::from_signed(a), IntegerOctets::from_signed(b));
-    a.as_slice().cmp(b.as_slice())
-}
-
-/// The lexicographic order of the contents octets of two numbers that are not negative.
-pub fn compare_unsigned(a: u128, b: u128) -> Ordering
-    ensures { result ≡ lex (natural_contents a) (natural_contents b) }
-{
-    let (a, b) = (
-        IntegerOctets::from_unsigned(a),
-        IntegerOctets::from_unsigned(b),
-    );
-    a.as_slice().cmp(b.as_slice())
 }

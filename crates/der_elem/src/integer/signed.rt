@@ -15,8 +15,9 @@ ghost use Rattle.der_elem.specs.IntegerLaws.{integer_contents-injective};
 ghost use Rattle.der_elem.specs.IntegerReading.{parse_signed};
 ghost use Rattle.der_elem.specs.IntegerReadingLaws.{parse_signed-own};
 
-use super::octets::{IntegerOctets, compare_signed, signed_len};
+use super::ordering::compare_signed;
 use super::reading::read_signed;
+use super::writing::{signed_len, write_signed};
 use crate::decode::DecodeValue;
 use crate::duplicate::DuplicateValue;
 use crate::encode::EncodeValue;
@@ -83,7 +84,7 @@ impl EncodeValue for i8 {
     }
 
     fn encode_value<W: Writer>(&self, writer: &mut W) -> Result<(), Error> {
-        writer.write(IntegerOctets::from_signed(i128::from(*self)).as_slice())
+        write_signed(writer, i128::from(*self))
     }
 }
 
@@ -166,7 +167,7 @@ impl EncodeValue for i16 {
     }
 
     fn encode_value<W: Writer>(&self, writer: &mut W) -> Result<(), Error> {
-        writer.write(IntegerOctets::from_signed(i128::from(*self)).as_slice())
+        write_signed(writer, i128::from(*self))
     }
 }
 
@@ -249,7 +250,7 @@ impl EncodeValue for i32 {
     }
 
     fn encode_value<W: Writer>(&self, writer: &mut W) -> Result<(), Error> {
-        writer.write(IntegerOctets::from_signed(i128::from(*self)).as_slice())
+        write_signed(writer, i128::from(*self))
     }
 }
 
@@ -332,7 +333,7 @@ impl EncodeValue for i64 {
     }
 
     fn encode_value<W: Writer>(&self, writer: &mut W) -> Result<(), Error> {
-        writer.write(IntegerOctets::from_signed(i128::from(*self)).as_slice())
+        write_signed(writer, i128::from(*self))
     }
 }
 
@@ -414,7 +415,7 @@ impl EncodeValue for i128 {
     }
 
     fn encode_value<W: Writer>(&self, writer: &mut W) -> Result<(), Error> {
-        writer.write(IntegerOctets::from_signed(*self).as_slice())
+        write_signed(writer, *self)
     }
 }
 

@@ -15,8 +15,9 @@ ghost use Rattle.der_elem.specs.IntegerLaws.{natural_contents-injective};
 ghost use Rattle.der_elem.specs.IntegerReading.{parse_unsigned};
 ghost use Rattle.der_elem.specs.IntegerReadingLaws.{parse_unsigned-own};
 
-use super::octets::{IntegerOctets, compare_unsigned, contents_len};
+use super::ordering::compare_unsigned;
 use super::reading::read_unsigned;
+use super::writing::{unsigned_len, write_unsigned};
 use crate::decode::DecodeValue;
 use crate::duplicate::DuplicateValue;
 use crate::encode::EncodeValue;
@@ -79,11 +80,11 @@ impl<'a, R: Reader<'a>> DecodeValue<'a, R> for u8 {
 
 impl EncodeValue for u8 {
     fn value_len(&self) -> Result<Length, Error> {
-        Ok(Length::new(contents_len(u128::from(*self))))
+        Ok(Length::new(unsigned_len(u128::from(*self))))
     }
 
     fn encode_value<W: Writer>(&self, writer: &mut W) -> Result<(), Error> {
-        writer.write(IntegerOctets::from_unsigned(u128::from(*self)).as_slice())
+        write_unsigned(writer, u128::from(*self))
     }
 }
 
@@ -162,11 +163,11 @@ impl<'a, R: Reader<'a>> DecodeValue<'a, R> for u16 {
 
 impl EncodeValue for u16 {
     fn value_len(&self) -> Result<Length, Error> {
-        Ok(Length::new(contents_len(u128::from(*self))))
+        Ok(Length::new(unsigned_len(u128::from(*self))))
     }
 
     fn encode_value<W: Writer>(&self, writer: &mut W) -> Result<(), Error> {
-        writer.write(IntegerOctets::from_unsigned(u128::from(*self)).as_slice())
+        write_unsigned(writer, u128::from(*self))
     }
 }
 
@@ -245,11 +246,11 @@ impl<'a, R: Reader<'a>> DecodeValue<'a, R> for u32 {
 
 impl EncodeValue for u32 {
     fn value_len(&self) -> Result<Length, Error> {
-        Ok(Length::new(contents_len(u128::from(*self))))
+        Ok(Length::new(unsigned_len(u128::from(*self))))
     }
 
     fn encode_value<W: Writer>(&self, writer: &mut W) -> Result<(), Error> {
-        writer.write(IntegerOctets::from_unsigned(u128::from(*self)).as_slice())
+        write_unsigned(writer, u128::from(*self))
     }
 }
 
@@ -328,11 +329,11 @@ impl<'a, R: Reader<'a>> DecodeValue<'a, R> for u64 {
 
 impl EncodeValue for u64 {
     fn value_len(&self) -> Result<Length, Error> {
-        Ok(Length::new(contents_len(u128::from(*self))))
+        Ok(Length::new(unsigned_len(u128::from(*self))))
     }
 
     fn encode_value<W: Writer>(&self, writer: &mut W) -> Result<(), Error> {
-        writer.write(IntegerOctets::from_unsigned(u128::from(*self)).as_slice())
+        write_unsigned(writer, u128::from(*self))
     }
 }
 
@@ -410,11 +411,11 @@ impl<'a, R: Reader<'a>> DecodeValue<'a, R> for u128 {
 
 impl EncodeValue for u128 {
     fn value_len(&self) -> Result<Length, Error> {
-        Ok(Length::new(contents_len(*self)))
+        Ok(Length::new(unsigned_len(*self)))
     }
 
     fn encode_value<W: Writer>(&self, writer: &mut W) -> Result<(), Error> {
-        writer.write(IntegerOctets::from_unsigned(*self).as_slice())
+        write_unsigned(writer, *self)
     }
 }
 

@@ -1,10 +1,8 @@
 //! Sequences and sets, through the traits' bounds.
 
 use crate::{SequenceOf, SequenceRef, SetOf, SetOfVec};
-use der_elem::{
-    Decode, DerOrd, Duplicate, Encode, EncodingEq, FromDer, Tagged, TakesMemory, ValueOrd,
-};
-use der_tlv::{Error, SliceReader};
+use der_elem::{DerOrd, Duplicate, Encode, EncodingEq, FromDer, TakesMemory, ValueOrd};
+use der_tlv::Error;
 use std::alloc::Global;
 use std::cmp::Ordering;
 use std::process::Abort;
@@ -41,27 +39,16 @@ fn reads_as<'a, T: FromDer<'a> + Encode + Duplicate + DerOrd + EncodingEq>(
 }
 
 // The same of octets that are read as a set of either kind.
-fn set_reads_as<'a, T>(
-    rt: &impl Abort,
-    alloc: Global,
-    octets: &'a [u8],
-    canonical: &[u8],
-) -> Result<(), u8>
-where
-    T: Decode<'a, SliceReader<'a>> + Encode + Duplicate + DerOrd + EncodingEq + Tagged + Default,
-{
-    reads_as::<SetOfVec<T>>(rt, alloc, octets, canonical)?;
-    reads_as::<SetOf<T, 2>>(rt, alloc, octets, canonical)
+fn set_reads_as(rt: &impl Abort, alloc: Global, octets: &[u8], canonical: &[u8]) -> Result<(), u8> {
+    reads_as::<SetOfVec<u16>>(rt, alloc, octets, canonical)?;
+    reads_as::<SetOf<u16, 2>>(rt, alloc, octets, canonical)
 }
 
 // The numbers with which sets of both kinds refuse the octets.
-fn refusals<'a, T>(alloc: Global, octets: &'a [u8]) -> (Option<u8>, Option<u8>)
-where
-    T: Decode<'a, SliceReader<'a>> + DerOrd + Tagged + Default,
-{
+fn refusals(alloc: Global, octets: &[u8]) -> (Option<u8>, Option<u8>) {
     (
-        numbered(SetOfVec::<T>::from_der(alloc, octets)).err(),
-        numbered(SetOf::<T, 2>::from_der(alloc, octets)).err(),
+        numbered(SetOfVec::<u16>::from_der(alloc, octets)).err(),
+        numbered(SetOf::<u16, 2>::from_der(alloc, octets)).err(),
     )
 }
 
@@ -70,9 +57,9 @@ fn sets_are_read_in_any_order(rt: HostRuntime) -> Result<(), Fail> {
     let alloc = rt.alloc();
     let falling = [0x31, 0x06, 0x02, 0x01, 0x08, 0x02, 0x01, 0x07];
     let rising = [0x31, 0x06, 0x02, 0x01, 0x07, 0x02, 0x01, 0x08];
-    set_reads_as::<u16>(&rt, alloc, &falling, &rising)?;
-    set_reads_as::<u16>(&rt, alloc, &rising, &rising)?;
-    set_reads_as::<u16>(&rt, alloc, &[0x31, 0x00], &[0x31, 0x00])?;
+    set_reads_as(&rt, alloc, &falling, &rising)?;
+    set_reads_as(&rt, alloc, &rising, &rising)?;
+    set_reads_as(&rt, alloc, &[0x31, 0x00], &[0x31, 0x00])?;
     Ok(())
 }
 
@@ -82,31 +69,25 @@ fn sets_refuse_other_octets(rt: HostRuntime) {
     let three = [
         0x31, 0x09, 0x02, 0x01, 0x03, 0x02, 0x01, 0x02, 0x02, 0x01, 0x01,
     ];
-    assert_eq!(rt; refusals::<u16>(alloc, &three), (None, Some(10)));
+    assert_eq!(rt; refusals(alloc, &three), (None, Some(10)));
     let other = [
         0x31, 0x09, 0x02, 0x01, 0x03, 0x02, 0x01, 0x02, 0x01, 0x01, 0xff,
     ];
-    assert_eq!(rt; refusals::<u16>(alloc, &other), (Some(4), Some(4)));
-    assert_eq!(rt; refusals::<u16>(alloc, &[0x30, 0x00]), (Some(4), Some(4)));
+    assert_eq!(rt; refusals(alloc, &other), (Some(4), Some(4)));
+    assert_eq!(rt; refusals(alloc, &[0x30, 0x00]), (Some(4), Some(4)));
     assert_eq!(rt;
-        refusals::<u16>(alloc, &[0x31, 0x04, 0x02, 0x02, 0x00, 0x05]),
+        refusals(alloc, &[0x31, 0x04, 0x02, 0x02, 0x00, 0x05]),
         (Some(8), Some(8))
     );
     assert_eq!(rt;
-        refusals::<u16>(alloc, &[0x31, 0x03, 0x02, 0x01, 0x05, 0x00]),
+        refusals(alloc, &[0x31, 0x03, 0x02, 0x01, 0x05, 0x00]),
         (Some(3), Some(3))
     );
 }
 
 // The calls of a set on the heap, with items of which each is greater than those before it.
-fn heap_calls<T: DerOrd + PartialEq + Copy>(
-    rt: &impl Abort,
-    alloc: Global,
-    a: T,
-    b: T,
-    c: T,
-) -> Result<(), Fail> {
-    let mut set: SetOfVec<T> = SetOfVec::new(alloc);
+fn heap_calls(rt: &impl Abort, alloc: Global, a: i32, b: i32, c: i32) -> Result<(), Fail> {
+    let mut set: SetOfVec<i32> = SetOfVec::new(alloc);
     assert!(rt; set.is_empty());
     numbered(set.insert(c))?;
     numbered(set.insert(b))?;
@@ -121,32 +102,26 @@ fn heap_calls<T: DerOrd + PartialEq + Copy>(
     numbered(set.insert_ordered(c))?;
     numbered(set.extend(Vec::from_array(alloc, [c, a])?))?;
     assert!(rt; set.as_slice() == [a, b, c, c, c, c].as_slice());
-    let again: SetOfVec<T> = numbered(SetOfVec::from_iter(
+    let again: SetOfVec<i32> = numbered(SetOfVec::from_iter(
         alloc,
         Vec::from_array(alloc, [c, b, c, a, c, c])?,
     ))?;
     assert!(rt; again == set);
-    let same: SetOfVec<T> = numbered(SetOfVec::from_array(alloc, [c, c, a, b, c, c]))?;
+    let same: SetOfVec<i32> = numbered(SetOfVec::from_array(alloc, [c, c, a, b, c, c]))?;
     assert!(rt; same == set);
-    let sorted: SetOfVec<T> = numbered(SetOfVec::try_from(Vec::from_array(
+    let sorted: SetOfVec<i32> = numbered(SetOfVec::try_from(Vec::from_array(
         alloc,
         [c, a, c, a, b, a, c],
     )?))?;
-    let items: Vec<T> = sorted.into();
+    let items: Vec<i32> = sorted.into();
     assert!(rt; items.as_slice() == [a, a, a, b, c, c, c].as_slice());
     assert!(rt; same.into_vec().as_slice() == [a, b, c, c, c, c].as_slice());
     Ok(())
 }
 
 // The calls of a set of two items, with items of which each is greater than those before it.
-fn array_calls<T: DerOrd + Default + PartialEq + Copy>(
-    rt: &impl Abort,
-    a: T,
-    b: T,
-    c: T,
-    d: T,
-) -> Result<(), Fail> {
-    let mut set: SetOf<T, 2> = SetOf::new();
+fn array_calls(rt: &impl Abort, a: u16, b: u16, c: u16, d: u16) -> Result<(), Fail> {
+    let mut set: SetOf<u16, 2> = SetOf::new();
     assert!(rt; set.is_empty());
     numbered(set.insert(c))?;
     numbered(set.insert(b))?;
@@ -157,39 +132,35 @@ fn array_calls<T: DerOrd + Default + PartialEq + Copy>(
     assert!(rt; set.get(0) == Some(&b));
     assert_eq!(rt; set.iter().len(), set.len());
     assert!(rt; set.into_inner().as_slice() == [b, c].as_slice());
-    let mut twice: SetOf<T, 10> = SetOf::default();
+    let mut twice: SetOf<u16, 10> = SetOf::default();
     numbered(twice.insert(b))?;
     numbered(twice.insert(b))?;
     numbered(twice.insert_ordered(c))?;
     assert!(rt; twice.as_slice() == [b, b, c].as_slice());
-    let five: SetOf<T, 5> = numbered(SetOf::try_from([c, b, b, d, a]))?;
+    let five: SetOf<u16, 5> = numbered(SetOf::try_from([c, b, b, d, a]))?;
     assert!(rt; five.as_slice() == [a, b, b, c, d].as_slice());
     Ok(())
 }
 
 #[test]
 fn sets_keep_their_items_in_order(rt: HostRuntime) -> Result<(), Fail> {
-    heap_calls(&rt, rt.alloc(), 1u16, 3, 5)?;
-    array_calls(&rt, 6u16, 7, 8, 9)?;
+    heap_calls(&rt, rt.alloc(), 1, 3, 5)?;
+    array_calls(&rt, 6, 7, 8, 9)?;
     // Encodings decide, not numbers: 02 01 7F, 02 02 03 E8, 02 02 FC 18.
-    heap_calls(&rt, rt.alloc(), 127i32, 1000, -1000)?;
+    heap_calls(&rt, rt.alloc(), 127, 1000, -1000)?;
     Ok(())
 }
 
 // The order of the sets of one item and of two.
-fn set_order<T: DerOrd + Tagged + Encode + Copy>(
-    alloc: Global,
-    small: T,
-    great: T,
-) -> Result<(Ordering, Ordering), u8> {
-    let one: SetOfVec<T> = numbered(SetOfVec::from_array(alloc, [great]))?;
-    let two: SetOfVec<T> = numbered(SetOfVec::from_array(alloc, [great, small]))?;
+fn set_order(alloc: Global, small: u16, great: u16) -> Result<(Ordering, Ordering), u8> {
+    let one: SetOfVec<u16> = numbered(SetOfVec::from_array(alloc, [great]))?;
+    let two: SetOfVec<u16> = numbered(SetOfVec::from_array(alloc, [great, small]))?;
     Ok((numbered(one.value_cmp(&two))?, numbered(one.der_cmp(&two))?))
 }
 
 #[test]
 fn items_decide_the_order_before_their_number(rt: HostRuntime) -> Result<(), Fail> {
-    let order = set_order(rt.alloc(), 7u16, 8)?;
+    let order = set_order(rt.alloc(), 7, 8)?;
     assert!(rt; order == (Ordering::Greater, Ordering::Less));
     let mut one: SequenceOf<u16, 2> = SequenceOf::new();
     numbered(one.add(8))?;

@@ -1,0 +1,74 @@
+//! The contents octets of machine integers (X.690 8.3), written: the last octets of the big-endian
+//! form.
+
+ghost use Rattle.std.specs.Prelude.{◌≡◌, ◌≤◌, ◌<◌, ◌^◌, false, length};
+ghost use Rattle.std.specs.Int.{bytes_high_first, complement_if};
+ghost use Rattle.der_elem.specs.Encoding.{Encodes};
+ghost use Rattle.der_elem.specs.Integer.{natural_contents, integer_contents};
+
+use der_tlv::{Error, Writer};
+
+/// The sign and the magnitude of an integer: `(n, false)` for n, and `(n, true)` for -1 - n.
+fn signed_parts(number: i128) -> (u128, bool)
+    ensures value { complement_if result.1 result.0 ≡ number }
+    ensures bound { result.0 < 2 ^ 127 }
+{
+    if number < 0 {
+        (!number as u128, true)
+    } else {
+        (number as u128, false)
+    }
+}
+
+/// How many contents octets a number that is not negative has.
+pub fn unsigned_len(number: u128) -> u32
+    ensures len { result ≡ length (natural_contents number) }
+    ensures bound { result ≤ 17 }
+{
+    (u128::BITS - number.leading_zeros()) / 8 + 1
+}
+
+/// How many contents octets an integer has.
+pub fn signed_len(number: i128) -> u32
+    ensures len { result ≡ length (integer_contents number) }
+    ensures bound { result ≤ 16 }
+{
+    let (magnitude, _) = signed_parts(number);
+    unsigned_len(magnitude)
+}
+
+/// Writes the contents octets of an integer. Where 64 bits do, it takes no longer than they need.
+///
+/// # Errors
+/// The writer's.
+pub fn write_signed<W: Writer>(writer: &mut W, number: i128) -> Result<(), Error>
+    ensures { Encodes (integer_contents number) false (W.state writer.old) (W.state writer.new) result }
+{
+    let len = signed_len(number) as usize;
+    if let Ok(short) = i64::try_from(number) {
+        let octets = short.cast_unsigned().to_be_bytes();
+        return writer.write(&octets[8 - len..]);
+    }
+    let octets = number.cast_unsigned().to_be_bytes();
+    writer.write(&octets[16 - len..])
+}
+
+/// The big-endian form of a number that is not negative, with an octet 00 in front.
+pub fn unsigned_octets(number: u128) -> [u8; 17]
+    ensures { result ≡ bytes_high_first 17 number }
+{
+    let mut octets = [0; 17];
+    octets[1..].copy_from_slice(&number.to_be_bytes());
+    octets
+}
+
+/// Writes the contents octets of a number that is not negative.
+///
+/// # Errors
+/// The writer's.
+pub fn write_unsigned<W: Writer>(writer: &mut W, number: u128) -> Result<(), Error>
+    ensures { Encodes (natural_contents number) false (W.state writer.old) (W.state writer.new) result }
+{
+    let octets = unsigned_octets(number);
+    writer.write(&octets[17 - unsigned_len(number) as usize..])
+}
