@@ -27,6 +27,7 @@ use Rattle.der_text.specs.BmpUnits.{parse_bmp}
 use Rattle.der_nest.specs.SequencesOf.{parse_items_up_to}
 use Rattle.der_nest.specs.Sets.{parse_set, parse_set_up_to}
 use Rattle.der_wrap.specs.TaggedValues.{parse_explicit}
+use Rattle.der_asn1_types.specs.Canonical.{Gives}
 
 -- the canonical encoding of what some octets encode as one type, or the first fault
 abbrev pub CanonicalFunction : Type 0
@@ -155,11 +156,6 @@ or_else (Some function) other = Some function
 -- the function of the type with a name
 unfoldable pub canonical_function_of : List ℕ → Option CanonicalFunction
 canonical_function_of name = or_else (plain_types name) (or_else (signed_types name) (or_else (unsigned_types name) (or_else (opaque_types name) (or_else (composed_types name) (or_else (tagged_types name) (or_else (number_types name) (or_else (string_types name) (or_else (bit_types name) (or_else (nested_types name) (set_types name))))))))))
-
--- the result is what the function gives, unless memory was refused
-abbrev pub Gives : Result (Vec ℕ Global) Error → Result (List ℕ) ErrorKind → Type 0
-Gives (Ok encoding) given = given ≡ Ok encoding.items
-Gives (Err error) given = (error.kind ≡ Memory) ⊎ (given ≡ Err error.kind)
 
 -- there is a result where there is a function, and it is what the function gives of the octets
 abbrev pub AnswersAs : Option CanonicalFunction → List ℕ → Option (Result (Vec ℕ Global) Error) → Type 0

@@ -5,7 +5,7 @@ ghost use Rattle.der_tlv.specs.declared.error.ErrorKind.TheVariants.{Memory};
 ghost use Rattle.derview.specs.Answer.{answer_of, accepted_of, refused_of, octets_of, parts_of};
 
 use crate::names::canonical_of_name;
-use der_tlv::ErrorKind;
+use der_asn1_types::ErrorKind;
 use hex::FromHexError;
 use std::alloc::{AllocError, Global};
 

@@ -10,7 +10,6 @@ use std::io::{self, BufReader};
 use std::process::ExitCode;
 
 mod answer;
-mod canonical;
 mod fault;
 mod lines;
 mod names;

@@ -3,19 +3,14 @@ ghost use Rattle.std.specs.Prelude.{◌≡◌};
 ghost use Rattle.std.specs.Str.{bytes_eq};
 ghost use Rattle.derview.specs.Names.{canonical_function_of, plain_types, signed_types, unsigned_types, opaque_types, composed_types, tagged_types, number_types, string_types, bit_types, nested_types, set_types, AnswersAs};
 
-use crate::canonical::canonical;
 use crate::sets::canonical_set;
-use der_ascii::{
-    Ia5String, Ia5StringRef, PrintableString, PrintableStringRef, TeletexString, TeletexStringRef,
-    VideotexStringRef,
+use der_asn1_types::asn1::{
+    Any, AnyRef, Application, BitString, BitStringRef, BmpString, ContextSpecific,
+    GeneralStringRef, Ia5String, Ia5StringRef, Int, IntRef, Null, ObjectIdentifier, OctetString,
+    OctetStringRef, PrintableString, PrintableStringRef, Private, SequenceOf, SequenceRef, SetOf,
+    SetOfVec, TeletexString, TeletexStringRef, Uint, UintRef, Utf8StringRef, VideotexStringRef,
 };
-use der_bits::{BitString, BitStringRef};
-use der_nest::{SequenceOf, SequenceRef, SetOf, SetOfVec};
-use der_numbers::{Int, IntRef, Uint, UintRef};
-use der_opaque::{Any, AnyRef, Null, ObjectIdentifier, OctetString, OctetStringRef};
-use der_text::{BmpString, GeneralStringRef, Utf8StringRef};
-use der_tlv::Error;
-use der_wrap::{Application, ContextSpecific, Private};
+use der_asn1_types::{Error, canonical};
 use std::alloc::Global;
 
 /// Takes the type that stands at the name, and answers the canonical encoding of what the octets

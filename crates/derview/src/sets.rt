@@ -4,12 +4,10 @@ ghost use Rattle.der_tlv.specs.declared.tag.Tag.TheVariants.{Set};
 ghost use Rattle.der_elem.specs.Decoding.{parse_all};
 ghost use Rattle.der_elem.specs.Parsing.{parse_tagged};
 ghost use Rattle.der_nest.specs.Sets.{parse_set};
-ghost use Rattle.derview.specs.Names.{Gives};
+ghost use Rattle.der_asn1_types.specs.Canonical.{Gives};
 
-use crate::canonical::canonical;
-use der_elem::{Decode, DerOrd, Encode, Tagged};
-use der_nest::SetOfVec;
-use der_tlv::{Error, SliceReader};
+use der_asn1_types::asn1::SetOfVec;
+use der_asn1_types::{Decode, DerOrd, Encode, Error, SliceReader, Tagged, canonical};
 use std::alloc::Global;
 
 /// The canonical encoding of a set of any number of items.

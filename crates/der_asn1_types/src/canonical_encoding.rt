@@ -1,8 +1,10 @@
 //! The canonical encoding of the value that octets encode.
 
+ghost use Rattle.std.specs.Prelude.{◌≡◌, Ok, IfOk};
 ghost use Rattle.der_elem.specs.Decoding.{parse_all};
-ghost use Rattle.derview.specs.Names.{Gives};
+ghost use Rattle.der_asn1_types.specs.Canonical.{Gives};
 
+use der_elem::laws::encodings_read_back;
 use der_elem::{Encode, FromDer};
 use der_tlv::Error;
 use std::alloc::Global;
@@ -15,7 +17,10 @@ pub fn canonical<'a, T: FromDer<'a> + Encode>(
     alloc: Global,
     octets: &'a [u8],
 ) -> Result<Vec<u8>, Error>
-    ensures { Gives result (parse_all T.parse octets.now) }
+    ensures encoding { Gives result (parse_all T.parse octets.now) }
+    ensures canonical { IfOk result (λ encoding. parse_all T.parse encoding.items ≡ Ok encoding.items) }
 {
-    T::from_der(alloc, octets)?.to_der(alloc)
+    let value = T::from_der(alloc, octets)?;
+    encodings_read_back::<T>();
+    value.to_der(alloc)
 }

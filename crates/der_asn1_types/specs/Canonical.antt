@@ -1,0 +1,11 @@
+-- What octets have as their canonical encoding (X.690 10, 11).
+use Rattle.std.specs.Prelude.{◌≡◌, ◌⊎◌, ℕ, List, Result, Ok, Err, Vec}
+use Rattle.std.specs.declared.alloc.Global.{Global}
+use Rattle.der_tlv.specs.declared.error.Error.{Error}
+use Rattle.der_tlv.specs.declared.error.ErrorKind.{ErrorKind}
+use Rattle.der_tlv.specs.declared.error.ErrorKind.TheVariants.{Memory}
+
+-- the result is what parsing gives, unless memory was refused
+abbrev pub Gives : Result (Vec ℕ Global) Error → Result (List ℕ) ErrorKind → Type 0
+Gives (Ok encoding) given = given ≡ Ok encoding.items
+Gives (Err error) given = (error.kind ≡ Memory) ⊎ (given ≡ Err error.kind)

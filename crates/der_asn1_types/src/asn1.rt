@@ -1,0 +1,14 @@
+//! The types of ASN.1 values.
+
+pub use der_ascii::{
+    Ia5String, Ia5StringRef, PrintableString, PrintableStringRef, TeletexString, TeletexStringRef,
+    VideotexStringRef,
+};
+pub use der_bits::{AllowedLenBitString, AsBitStringRef, BitString, BitStringIter, BitStringRef};
+pub use der_nest::{ItemProbe, Probe, SequenceOf, SequenceRef, SetOf, SetOfVec, insertion_place};
+pub use der_numbers::{AsIntRef, AsUintRef, Int, IntRef, Uint, UintRef};
+pub use der_opaque::{Any, AnyRef, Null, ObjectIdentifier, OctetString, OctetStringRef};
+pub use der_text::{BmpChars, BmpCodepoints, BmpString, GeneralStringRef, Utf8StringRef};
+pub use der_wrap::{
+    Application, ApplicationRef, ContextSpecific, ContextSpecificRef, Private, PrivateRef,
+};
