@@ -5,6 +5,7 @@ use der_elem::{DerOrd, Duplicate, Encode, EncodingEq, FromDer, TakesMemory, Valu
 use der_tlv::Error;
 use std::alloc::Global;
 use std::cmp::Ordering;
+use std::hash::{DefaultHasher, Hash, Hasher};
 use std::process::Abort;
 use std::test::Fail;
 
@@ -168,6 +169,36 @@ fn items_decide_the_order_before_their_number(rt: HostRuntime) -> Result<(), Fai
     numbered(two.add(8))?;
     numbered(two.add(7))?;
     assert_eq!(rt; numbered(one.value_cmp(&two)), Ok(Ordering::Less));
+    Ok(())
+}
+
+// What a value puts into a hash.
+fn hashed<T: Hash>(value: &T) -> u64 {
+    let mut hasher = DefaultHasher::new();
+    value.hash(&mut hasher);
+    hasher.finish()
+}
+
+#[test]
+fn sets_are_compared_as_values(rt: HostRuntime) -> Result<(), Fail> {
+    let small: SetOfVec<i32> = numbered(SetOfVec::from_array(rt.alloc(), [127, -1000]))?;
+    let great: SetOfVec<i32> = numbered(SetOfVec::from_array(rt.alloc(), [1000, 127]))?;
+    // By numbers 127, -1000 is before 127, 1000; by encodings, 02 02 03 E8 is before 02 02 FC 18.
+    assert_eq!(rt; small.cmp(&great), Ordering::Less);
+    assert_eq!(rt; numbered(small.der_cmp(&great)), Ok(Ordering::Greater));
+    assert!(rt; small != great);
+    assert_eq!(rt; small.partial_cmp(&small), Some(Ordering::Equal));
+    assert_eq!(rt; hashed(&small), hashed(&small));
+    let two: SetOf<u16, 2> = numbered(SetOf::try_from([8, 7]))?;
+    let same: SetOf<u16, 2> = numbered(SetOf::try_from([7, 8]))?;
+    assert!(rt; two == same);
+    assert_eq!(rt; two.cmp(&same), Ordering::Equal);
+    assert_eq!(rt; two.partial_cmp(&same), Some(Ordering::Equal));
+    assert_eq!(rt; hashed(&two), hashed(&same));
+    let mut sequence: SequenceOf<u16, 2> = SequenceOf::new();
+    numbered(sequence.add(8))?;
+    let text = format!(in rt.alloc(); "{small:?} {two:?} {sequence:?}")?;
+    assert_eq!(rt; text.as_str(), "[127, -1000] [7, 8] [8]");
     Ok(())
 }
 
