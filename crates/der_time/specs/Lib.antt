@@ -2,3 +2,4 @@ pub mod Digits
 pub mod Times
 pub mod Reading
 pub mod DateTime
+pub mod TimeLaws
