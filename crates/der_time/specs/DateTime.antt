@@ -1,6 +1,10 @@
 -- What contracts see of a time.
+use Rattle.std.specs.Prelude.{◌≡◌, ℕ, false, List, Result, Ok, Err}
+use Rattle.der_tlv.specs.declared.error.ErrorKind.TheVariants as kinds
+use Rattle.der_tlv.specs.declared.error.Error.{Error}
 use Rattle.der_time.specs.declared.date_time.DateTime.{DateTime}
 use Rattle.der_time.specs.declared.fields.Fields.{Fields}
+use Rattle.der_time.specs.Times.{is_time, generalized_contents}
 
 -- the six fields
 abbrev pub fields_of : DateTime → Fields
@@ -12,3 +16,12 @@ fields_of t = record {
   minutes = t.minutes;
   seconds = t.seconds;
 }
+
+-- its contents octets as a GeneralizedTime
+abbrev pub time_contents : DateTime → List ℕ
+time_contents t = generalized_contents (fields_of t)
+
+-- the time with these fields, or (14) where they are none
+abbrev pub TakesFields : Fields → Result DateTime Error → Type 0
+TakesFields f (Ok t) = fields_of t ≡ f
+TakesFields f (Err e) = (e.kind ≡ kinds.DateTime) × (is_time f ≡ false)

@@ -3,3 +3,4 @@ pub mod Times
 pub mod Reading
 pub mod DateTime
 pub mod TimeLaws
+pub mod TimeOrder

@@ -82,9 +82,15 @@ pub generalized_of : (t : DateTime) → generalized_or_fault (generalized_conten
 unfolding generalized_or_fault
 generalized_of t = rw (read_generalized_of (fields_of t) (have_digits t), is_time_of t) refl
 
+pub generalized_at : (t : DateTime) (octets : List ℕ) → generalized_contents (fields_of t) ≡ octets → generalized_or_fault octets ≡ Ok octets
+generalized_at t octets e = ap generalized_or_fault (sym e) ∙ generalized_of t ∙ ap (λ o. Ok o) e
+
 pub utc_of : (t : DateTime) → t.year < 2050 → utc_or_fault (utc_contents (fields_of t)) ≡ Ok (utc_contents (fields_of t))
 unfolding utc_or_fault
 utc_of t most = rw (read_utc_of (fields_of t) (have_digits t) (omega (arith, t.year_in.0)) most, is_time_of t) refl
+
+pub utc_at : (t : DateTime) (octets : List ℕ) → t.year < 2050 → utc_contents (fields_of t) ≡ octets → utc_or_fault octets ≡ Ok octets
+utc_at t octets most e = ap utc_or_fault (sym e) ∙ utc_of t most ∙ ap (λ o. Ok o) e
 
 -- no two times have the same contents octets
 pub generalized_injective : (v w : DateTime) → generalized_contents (fields_of v) ≡ generalized_contents (fields_of w) → fields_of v ≡ fields_of w

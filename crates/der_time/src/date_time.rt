@@ -1,10 +1,27 @@
 //! A date and a time of day in UTC.
 
-ghost use Rattle.std.specs.Prelude.{◌≡◌, ◌≤◌, pos};
+ghost use Rattle.std.specs.Prelude.{◌≡◌, ◌≤◌, pos, refl, false};
+ghost use Rattle.std.proofs.Common.{lit<};
 ghost use Rattle.std.specs.Int.{IsInRange};
 ghost use Rattle.jiff_core.specs.Calendar.{days_in_month};
+ghost use Rattle.der_tlv.specs.declared.tag.Tag.TheVariants as tags;
+ghost use Rattle.der_elem.specs.OwnContents.{accepts_own};
+ghost use Rattle.der_elem.specs.OwnContentsLaws.{parse_of_own, same_length_own, accepts_own_contents, copy_contents_own};
+
+use crate::digits::two_digits;
+use crate::fields::Fields;
+use crate::reading::{generalized_fault, read_generalized};
+use der_elem::{
+    ContentsEq, DecodeValue, DuplicateValue, EncodeValue, FixedTag, FormValue, OrdIsValueOrd,
+    ValueMemory, WithoutMemory,
+};
+use der_tlv::{Error, ErrorKind, Header, Length, Reader, Tag, Writer};
+use std::alloc::Global;
 
 /// A second from 1970-01-01T00:00:00Z to 9999-12-31T23:59:59Z: a true date and a time of day.
+///
+/// It is encoded as a GeneralizedTime: 1991-05-06T23:45:40Z as 18 0F and the octets of
+/// `19910506234540Z`.
 #[derive(Clone, Copy, Debug, PartialEq, Eq, PartialOrd, Ord)]
 pub struct DateTime {
     pub year: u16,
@@ -19,4 +36,220 @@ pub struct DateTime {
     pub ghost hour_in: { hour ≤ 23 },
     pub ghost minutes_in: { minutes ≤ 59 },
     pub ghost seconds_in: { seconds ≤ 59 },
+}
+
+impl DateTime {
+    ghost use Rattle.der_time.specs.Reading.{ReadAs, generalized_or_fault};
+    ghost use Rattle.der_time.specs.DateTime.{time_contents, TakesFields};
+
+    /// The last second: 9999-12-31T23:59:59Z.
+    pub const INFINITY: DateTime = DateTime {
+        year: 9999,
+        month: 12,
+        day: 31,
+        hour: 23,
+        minutes: 59,
+        seconds: 59,
+    };
+
+    /// The time with these fields.
+    ///
+    /// # Errors
+    /// (14) for a year before 1970 or after 9999, and where the calendar has no such date or the
+    /// day no such second. There is no leap second.
+    pub fn new(
+        year: u16,
+        month: u8,
+        day: u8,
+        hour: u8,
+        minutes: u8,
+        seconds: u8,
+    ) -> Result<DateTime, Error>
+        ensures { TakesFields (record { year = year; month = month; day = day; hour = hour; minutes = minutes; seconds = seconds }) result }
+    {
+        let fields = Fields {
+            year,
+            month,
+            day,
+            hour,
+            minutes,
+            seconds,
+        };
+        match fields.to_date_time() {
+            Some(time) => Ok(time),
+            None => Err(Error::from_kind(ErrorKind::DateTime)),
+        }
+    }
+
+    /// The year, from 1970 to 9999.
+    pub fn year(&self) -> u16
+        ensures { result ≡ self.now.year }
+    {
+        self.year
+    }
+
+    /// The month, from 1 to 12.
+    pub fn month(&self) -> u8
+        ensures { result ≡ self.now.month }
+    {
+        self.month
+    }
+
+    /// The day of the month, from 1.
+    pub fn day(&self) -> u8
+        ensures { result ≡ self.now.day }
+    {
+        self.day
+    }
+
+    /// The hour, from 0 to 23.
+    pub fn hour(&self) -> u8
+        ensures { result ≡ self.now.hour }
+    {
+        self.hour
+    }
+
+    /// The minutes, from 0 to 59.
+    pub fn minutes(&self) -> u8
+        ensures { result ≡ self.now.minutes }
+    {
+        self.minutes
+    }
+
+    /// The seconds, from 0 to 59.
+    pub fn seconds(&self) -> u8
+        ensures { result ≡ self.now.seconds }
+    {
+        self.seconds
+    }
+
+    /// The time with these contents octets of a GeneralizedTime, or their fault.
+    #[tactic(auto, unfolding(crate::specs::Reading::generalized_or_fault))]
+    pub(crate) fn of_contents(octets: &[u8]) -> Result<DateTime, ErrorKind>
+        ensures { ReadAs time_contents generalized_or_fault octets.now result }
+    {
+        let Some(fields) = read_generalized(octets) else {
+            return Err(generalized_fault(octets));
+        };
+        match fields.to_date_time() {
+            Some(time) => Ok(time),
+            None => Err(generalized_fault(octets)),
+        }
+    }
+
+    /// The contents octets of a GeneralizedTime.
+    #[tactic(auto, unfolding(crate::specs::Times::generalized_contents, crate::specs::Times::after_year, crate::specs::Times::clock_contents, crate::specs::Digits::two_digits))]
+    pub(crate) fn contents(&self) -> [u8; 15]
+        ensures { result ≡ time_contents self.now }
+    {
+        let [c0, c1] = two_digits((self.year / 100) as u8);
+        let [y0, y1] = two_digits((self.year % 100) as u8);
+        let [m0, m1] = two_digits(self.month);
+        let [d0, d1] = two_digits(self.day);
+        let [h0, h1] = two_digits(self.hour);
+        let [i0, i1] = two_digits(self.minutes);
+        let [s0, s1] = two_digits(self.seconds);
+        [
+            c0, c1, y0, y1, m0, m1, d0, d1, h0, h1, i0, i1, s0, s1, b'Z',
+        ]
+    }
+}
+
+impl FormValue for DateTime {
+    ghost use Rattle.der_time.specs.Reading.{parse_generalized};
+    ghost use Rattle.der_time.specs.DateTime.{time_contents};
+    ghost use Rattle.der_time.specs.TimeLaws.{generalized_of};
+
+    ghost contents = { time_contents };
+
+    ghost one_form_value = { λ v w. Unit {0} };
+
+    ghost re_reads_value = { λ v. false };
+
+    ghost accepts_value = { accepts_own time_contents };
+
+    ghost parse_value = { parse_generalized };
+
+    ghost readable_value = { λ v. Unit {0} };
+
+    ghost has_tag = { λ v t. Unit {0} };
+
+    ghost VALUE_TAKES_MEMORY = { false };
+
+    ghost parse_of_accepted_value = { parse_of_own time_contents parse_generalized (λ rules v p. generalized_of v) };
+
+    ghost same_length_value = { same_length_own time_contents };
+
+    ghost accepts_contents = { accepts_own_contents time_contents };
+
+    ghost only_readable_value = { λ rules v c a. tt };
+
+    ghost accepts_one_form_value = { λ rules v w c d a b. tt };
+
+    ghost re_reads_memory_value = { λ v e. e };
+}
+
+impl ValueMemory for DateTime {
+    type OfValue = WithoutMemory;
+
+    ghost memory_of_value = { refl };
+}
+
+impl FixedTag for DateTime {
+    ghost TAG = { tags.GeneralizedTime };
+
+    const TAG: Tag = Tag::GeneralizedTime;
+
+    ghost tag_in_range = { lit< tt };
+}
+
+impl<'a, R: Reader<'a>> DecodeValue<'a, R> for DateTime {
+    fn decode_value(_alloc: Global, reader: &mut R, header: Header) -> Result<DateTime, Error> {
+        let octets = reader.read_slice(header.length)?;
+        match DateTime::of_contents(octets) {
+            Ok(time) => Ok(time),
+            Err(kind) => Err(reader.error(kind)),
+        }
+    }
+}
+
+impl EncodeValue for DateTime {
+    #[tactic(auto, using(crate::specs::TimeLaws::length_generalized))]
+    fn value_len(&self) -> Result<Length, Error> {
+        Ok(Length::new(15))
+    }
+
+    fn encode_value<W: Writer>(&self, writer: &mut W) -> Result<(), Error> {
+        writer.write(&self.contents())
+    }
+}
+
+impl OrdIsValueOrd for DateTime {
+    ghost use Rattle.der_time.specs.TimeOrder.{ord_is_contents_ord};
+
+    ghost ord_is_value_ord = { ord_is_contents_ord };
+}
+
+impl ContentsEq for DateTime {
+    ghost use Rattle.der_time.specs.TimeOrder.{eq_is_contents_eq};
+
+    ghost contents_eq = { eq_is_contents_eq };
+}
+
+impl DuplicateValue for DateTime {
+    ghost use Rattle.der_time.specs.DateTime.{time_contents};
+
+    ghost is_copy_value = { λ v w. w ≡ v };
+
+    ghost takes_memory_to_copy_value = { false };
+
+    fn duplicate_value(&self) -> Result<DateTime, Error> {
+        Ok(*self)
+    }
+
+    ghost copy_contents = { copy_contents_own time_contents };
+
+    ghost copy_form_value = { λ v w x e f. tt };
+
+    ghost copy_re_reads_value = { λ v w e. refl };
 }

@@ -6,6 +6,7 @@ ghost use Rattle.der_time.specs.Reading as spec;
 
 use crate::digits::read_two_digits;
 use crate::fields::Fields;
+use der_tlv::{ErrorKind, Tag};
 
 /// Hour, minutes and seconds in two digits each, and Z at the end.
 #[tactic(auto, unfolding(crate::specs::Reading::read_clock, crate::specs::Times::clock_contents))]
@@ -64,4 +65,28 @@ pub fn read_utc(octets: &[u8]) -> Option<Fields>
     let (year, octets) = read_two_digits(octets)?;
     let century = if year < 50 { 2000 } else { 1900 };
     read_after_year(century + year as u16, octets)
+}
+
+/// Whether these are 15 octets, Z at their end and digits at their beginning, of which the third
+/// and fourth are not both digits.
+#[tactic(auto, unfolding(crate::specs::Reading::lacks_year))]
+fn lacks_year(octets: &[u8]) -> bool
+    ensures { result ≡ spec.lacks_year octets.now }
+{
+    octets.len() == 15
+        && octets[14] == b'Z'
+        && read_two_digits(octets).is_some()
+        && read_two_digits(&octets[2..]).is_none()
+}
+
+/// The fault of octets that are no GeneralizedTime: (14) where the year lacks its last two digits,
+/// else (13).
+pub fn generalized_fault(octets: &[u8]) -> ErrorKind
+    ensures { result ≡ spec.generalized_fault octets.now }
+{
+    if lacks_year(octets) {
+        ErrorKind::DateTime
+    } else {
+        Tag::GeneralizedTime.value_error()
+    }
 }
