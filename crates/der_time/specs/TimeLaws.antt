@@ -1,11 +1,11 @@
 -- The laws of contents octets of times.
-use Rattle.std.proofs.Common.{◌≡◌, ℕ, ◌+◌, ◌-◌, ◌*◌, ◌/◌, ◌%◌, ◌<◌, ◌≤◌, ◌&&◌, Bool, true, false, List, [], ◌∷◌, ◌++◌, length, Option, Some, None, Ok, refl, sym, ap, ◌∙◌, arith, pos, ℤ, Decides, nat_lt, cond}
+use Rattle.std.proofs.Common.{◌≡◌, ℕ, ◌+◌, ◌-◌, ◌*◌, ◌/◌, ◌%◌, ◌<◌, ◌≤◌, ◌&&◌, Bool, true, false, List, [], ◌∷◌, ◌++◌, length, Option, Some, None, Ok, Err, refl, sym, ap, ◌∙◌, arith, pos, ℤ, Decides, nat_lt, cond}
 use Rattle.std.specs.Int.{is_in_range}
 use Rattle.std.proofs.lemmas.Bool.Decides.{nat_tests}
 use Rattle.std.proofs.lemmas.Option.{none-some, same_Some}
 use Rattle.jiff_core.specs.Calendar.{days_in_month}
 use Rattle.jiff_core.proofs.CalendarLemmas.{days_in_month_bounds}
-use Rattle.der_tlv.specs.declared.encoding_rules.EncodingRules.{EncodingRules}
+use Rattle.der_tlv.specs.declared.error.ErrorKind.{ErrorKind}
 use Rattle.der_time.specs.declared.fields.Fields.{Fields}
 use Rattle.der_time.specs.declared.date_time.DateTime.{DateTime}
 use Rattle.der_time.specs.Digits.{two_digits, read_two_digits}
@@ -91,6 +91,13 @@ utc_of t most = rw (read_utc_of (fields_of t) (have_digits t) (omega (arith, t.y
 
 pub utc_at : (t : DateTime) (octets : List ℕ) → t.year < 2050 → utc_contents (fields_of t) ≡ octets → utc_or_fault octets ≡ Ok octets
 utc_at t octets most e = ap utc_or_fault (sym e) ∙ utc_of t most ∙ ap (λ o. Ok o) e
+
+-- octets with a fault are those of no time
+pub generalized_refused : (t : DateTime) (octets : List ℕ) (kind : ErrorKind) → generalized_or_fault octets ≡ Err kind → octets ≡ generalized_contents (fields_of t) → ⊥
+generalized_refused t octets kind fault own = let read = generalized_at t octets (sym own) in cc
+
+pub utc_refused : (t : DateTime) (octets : List ℕ) (kind : ErrorKind) → t.year < 2050 → utc_or_fault octets ≡ Err kind → octets ≡ utc_contents (fields_of t) → ⊥
+utc_refused t octets kind most fault own = let read = utc_at t octets most (sym own) in cc
 
 -- no two times have the same contents octets
 pub generalized_injective : (v w : DateTime) → generalized_contents (fields_of v) ≡ generalized_contents (fields_of w) → fields_of v ≡ fields_of w

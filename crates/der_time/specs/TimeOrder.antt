@@ -26,7 +26,7 @@ fields_eq v w =
 order_of_digits : (a b : ℕ) → ordering_then (nat_cmp (48 + a / 10) (48 + b / 10)) (nat_cmp (48 + a % 10) (48 + b % 10)) ≡ nat_cmp a b
 order_of_digits a b = grind (arith, nat_tests)
 
-then_assoc : (a b c : Ordering) → ordering_then a (ordering_then b c) ≡ ordering_then (ordering_then a b) c
+pub then_assoc : (a b c : Ordering) → ordering_then a (ordering_then b c) ≡ ordering_then (ordering_then a b) c
 then_assoc Less b c = refl
 then_assoc Equal b c = refl
 then_assoc Greater b c = refl
@@ -65,7 +65,7 @@ unfolding generalized_contents
 ord_is_contents_ord v w =
     sym (lex_four_digits v.year w.year (after_year (fields_of v)) (after_year (fields_of w)) ∙ ap (ordering_then (nat_cmp v.year w.year)) (lex_after_year (fields_of v) (fields_of w)))
 
-same_fields : (v w : DateTime) → fields_eq v w ≡ true → fields_of v ≡ fields_of w
+pub same_fields : (v w : DateTime) → fields_eq v w ≡ true → fields_of v ≡ fields_of w
 same_fields v w e = 
     let a = and_parts _ _ e in
     let b = and_parts _ _ a.1 in

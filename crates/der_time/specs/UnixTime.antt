@@ -1,0 +1,41 @@
+-- The seconds from 1970-01-01T00:00:00Z to a time.
+use Rattle.std.specs.Prelude.{◌≡◌, ℕ, ◌+◌, ◌*◌, ◌/◌, ◌<◌, ◌≤◌, ℤ, pos, unsigned_abs, Result, Ok, Err}
+use Rattle.std.specs.Duration.{as_nanos}
+use Rattle.std.specs.declared.time.Duration.{Duration}
+use Rattle.jiff_core.specs.Calendar.{days_from_civil}
+use Rattle.der_tlv.specs.declared.error.ErrorKind.TheVariants as kinds
+use Rattle.der_tlv.specs.declared.error.ErrorKind.{ErrorKind}
+use Rattle.der_tlv.specs.declared.error.Error.{Error}
+use Rattle.der_tlv.specs.declared.tag.Tag.TheVariants as tags
+use Rattle.der_time.specs.declared.date_time.DateTime.{DateTime}
+use Rattle.der_time.specs.declared.generalized_time.GeneralizedTime.{GeneralizedTime}
+use Rattle.der_time.specs.declared.utc_time.UtcTime.{UtcTime}
+
+-- the day number of its date, which isn't negative: 0 for 1970-01-01
+unfoldable pub day_number : DateTime → ℕ
+day_number t = unsigned_abs (days_from_civil (pos t.year) t.month t.day)
+
+-- the seconds of its day before it
+abbrev pub second_of_day : DateTime → ℕ
+second_of_day t = t.hour * 3600 + t.minutes * 60 + t.seconds
+
+-- the seconds before it
+abbrev pub unix_seconds : DateTime → ℕ
+unix_seconds t = day_number t * 86400 + second_of_day t
+
+-- the seconds before the last time, 9999-12-31T23:59:59Z
+abbrev pub last_second : ℕ
+last_second = 253_402_300_799
+
+-- a duration of these seconds and no more
+abbrev pub LastsSeconds : ℕ → Duration → Type 0
+LastsSeconds seconds d = as_nanos d ≡ seconds * 1_000_000_000
+
+-- the whole seconds of a duration
+abbrev pub whole_seconds : Duration → ℕ
+whole_seconds d = as_nanos d / 1_000_000_000
+
+-- the time after the whole seconds of a duration, or this error of a duration longer than that of the last time
+abbrev pub IsTimeAfter : {T : Type 0} → (T → DateTime) → ErrorKind → Duration → Result T Error → Type 0
+IsTimeAfter date_time kind d (Ok t) = (unix_seconds (date_time t) ≡ whole_seconds d) × (as_nanos d ≤ last_second * 1_000_000_000)
+IsTimeAfter date_time kind d (Err e) = (e.kind ≡ kind) × (last_second * 1_000_000_000 < as_nanos d)
