@@ -4,7 +4,7 @@ use Rattle.der_tlv.specs.declared.error.ErrorKind.TheVariants as kinds
 use Rattle.der_tlv.specs.declared.error.Error.{Error}
 use Rattle.der_time.specs.declared.date_time.DateTime.{DateTime}
 use Rattle.der_time.specs.declared.fields.Fields.{Fields}
-use Rattle.der_time.specs.Times.{is_time, generalized_contents}
+use Rattle.der_time.specs.Times.{is_time, generalized_contents, time_text}
 
 -- the six fields
 abbrev pub fields_of : DateTime → Fields
@@ -25,3 +25,12 @@ time_contents t = generalized_contents (fields_of t)
 abbrev pub TakesFields : Fields → Result DateTime Error → Type 0
 TakesFields f (Ok t) = fields_of t ≡ f
 TakesFields f (Err e) = (e.kind ≡ kinds.DateTime) × (is_time f ≡ false)
+
+-- what Display writes: 2001-01-02T12:13:14Z
+abbrev pub date_time_text : DateTime → List ℕ
+date_time_text t = time_text (fields_of t)
+
+-- the time with this text, or (14) where none has it
+abbrev pub ParsesText : List ℕ → Result DateTime Error → Type 0
+ParsesText text (Ok t) = text ≡ date_time_text t
+ParsesText text (Err e) = (e.kind ≡ kinds.DateTime) × ((t : DateTime) → text ≡ date_time_text t → ⊥)

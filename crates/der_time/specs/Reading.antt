@@ -53,6 +53,37 @@ read_utc octets = do
   year ← read_two_digits octets
   read_after_year (century_of year.0) year.1
 
+-- what follows this octet at the front
+unfoldable pub read_octet : ℕ → List ℕ → Option (List ℕ)
+read_octet octet [] = None
+read_octet octet (first ∷ others) = if first == octet then Some others else None
+
+-- hour, minutes and seconds with colons between them, and Z at the end
+unfoldable pub read_clock_text : ℕ → ℕ → ℕ → List ℕ → Option Fields
+read_clock_text year month day text = do
+  hour ← read_two_digits text
+  minutes ← read_octet 58 hour.1 >>= read_two_digits
+  seconds ← read_octet 58 minutes.1 >>= read_two_digits
+  if bytes_eq seconds.1 (90 ∷ [])
+      then Some (record {
+        year = year;
+        month = month;
+        day = day;
+        hour = hour.0;
+        minutes = minutes.0;
+        seconds = seconds.0;
+      })
+      else None
+
+-- year, month and day with hyphens between them and T behind them
+unfoldable pub read_text : List ℕ → Option Fields
+read_text text = do
+  century ← read_two_digits text
+  year ← read_two_digits century.1
+  month ← read_octet 45 year.1 >>= read_two_digits
+  day ← read_octet 45 month.1 >>= read_two_digits
+  read_octet 84 day.1 >>= read_clock_text (century.0 * 100 + year.0) month.0 day.0
+
 -- the six numbers, if they are a time
 abbrev pub if_time : Fields → Option Fields
 if_time f = if is_time f then Some f else None

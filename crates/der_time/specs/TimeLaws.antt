@@ -1,6 +1,8 @@
 -- The laws of contents octets of times.
-use Rattle.std.proofs.Common.{◌≡◌, ℕ, ◌+◌, ◌-◌, ◌*◌, ◌/◌, ◌%◌, ◌<◌, ◌≤◌, ◌&&◌, Bool, true, false, List, [], ◌∷◌, ◌++◌, length, Option, Some, None, Ok, Err, refl, sym, ap, ◌∙◌, arith, pos, ℤ, Decides, nat_lt, cond}
+use Rattle.std.proofs.Common.{◌≡◌, ℕ, ◌+◌, ◌-◌, ◌*◌, ◌/◌, ◌%◌, ◌<◌, ◌≤◌, ◌&&◌, Bool, true, false, List, [], ◌∷◌, ◌++◌, length, Option, Some, None, Ok, Err, refl, sym, ap, ◌∙◌, arith, pos, ℤ, Decides, nat_lt, cond, option_and_then, eq-eqb, zero, suc, lit<}
 use Rattle.std.specs.Int.{is_in_range}
+use Rattle.std.specs.Str.{IsUtf8, IsAscii}
+use Rattle.std.proofs.lemmas.Str.{IsUtf8-from_ascii}
 use Rattle.std.proofs.lemmas.Bool.Decides.{nat_tests}
 use Rattle.std.proofs.lemmas.Option.{none-some, same_Some}
 use Rattle.jiff_core.specs.Calendar.{days_in_month}
@@ -9,8 +11,8 @@ use Rattle.der_tlv.specs.declared.error.ErrorKind.{ErrorKind}
 use Rattle.der_time.specs.declared.fields.Fields.{Fields}
 use Rattle.der_time.specs.declared.date_time.DateTime.{DateTime}
 use Rattle.der_time.specs.Digits.{two_digits, read_two_digits}
-use Rattle.der_time.specs.Times.{is_time, clock_contents, after_year, generalized_contents, utc_contents}
-use Rattle.der_time.specs.Reading.{read_clock, read_after_year, read_generalized, read_utc, century_of, generalized_or_fault, utc_or_fault, octets_or, if_time, parse_generalized, parse_utc}
+use Rattle.der_time.specs.Times.{is_time, clock_contents, after_year, generalized_contents, utc_contents, clock_text, time_text}
+use Rattle.der_time.specs.Reading.{read_clock, read_after_year, read_generalized, read_utc, century_of, generalized_or_fault, utc_or_fault, octets_or, if_time, parse_generalized, parse_utc, read_octet, read_clock_text, read_text}
 use Rattle.der_time.specs.DateTime.{fields_of}
 
 -- two digits are read as their number
@@ -56,6 +58,24 @@ read_utc_of f d low high =
     let year : f.year % 100 < 100 = omega arith in
     let whole : century_of (f.year % 100) ≡ f.year = grind (arith, nat_tests) in
     rw (read_two_digits_of (f.year % 100) _ year, whole) (read_after_year_of f d)
+
+-- the text of six numbers is read as those numbers
+read_octet_of : (octet : ℕ) (others : List ℕ) → read_octet octet (octet ∷ others) ≡ Some others
+unfolding read_octet
+read_octet_of octet others = rw (eq-eqb octet octet refl) refl
+
+read_clock_text_of : (f : Fields) → HaveDigits f → read_clock_text f.year f.month f.day (clock_text f) ≡ Some f
+unfolding read_clock_text clock_text
+read_clock_text_of f d =
+    rw (read_two_digits_of f.hour _ d.hour, read_octet_of 58 _, read_two_digits_of f.minutes _ d.minutes, read_octet_of 58 _, read_two_digits_of f.seconds _ d.seconds)
+
+pub read_text_of : (f : Fields) → HaveDigits f → read_text (time_text f) ≡ Some f
+unfolding read_text time_text
+read_text_of f d =
+    let century : f.year / 100 < 100 = omega (arith, d.year) in
+    let year : f.year % 100 < 100 = omega arith in
+    let whole : f.year / 100 * 100 + f.year % 100 ≡ f.year = omega arith in
+    rw (read_two_digits_of (f.year / 100) _ century, read_two_digits_of (f.year % 100) _ year, read_octet_of 45 _, read_two_digits_of f.month _ d.month, read_octet_of 45 _, read_two_digits_of f.day _ d.day, read_octet_of 84 _, whole) (read_clock_text_of f d)
 
 -- the fields of a time are one
 pub is_time_of : (t : DateTime) → is_time (fields_of t) ≡ true
@@ -107,6 +127,45 @@ generalized_injective v w e =
 pub utc_injective : (v w : DateTime) → v.year < 2050 → w.year < 2050 → utc_contents (fields_of v) ≡ utc_contents (fields_of w) → fields_of v ≡ fields_of w
 utc_injective v w f g e =
     same_Some _ _ (sym (read_utc_of (fields_of v) (have_digits v) (omega (arith, v.year_in.0)) f) ∙ ap read_utc e ∙ read_utc_of (fields_of w) (have_digits w) (omega (arith, w.year_in.0)) g)
+
+-- and so no two have the same text
+pub text_injective : (v w : DateTime) → time_text (fields_of v) ≡ time_text (fields_of w) → fields_of v ≡ fields_of w
+text_injective v w e =
+    same_Some _ _ (sym (read_text_of (fields_of v) (have_digits v)) ∙ ap read_text e ∙ read_text_of (fields_of w) (have_digits w))
+
+-- a text of which no six numbers are read, or six that are no time, is that of no time
+pub text_refused : (t : DateTime) (text : List ℕ) → option_and_then if_time (read_text text) ≡ None → text ≡ time_text (fields_of t) → ⊥
+text_refused t text none own =
+    let read : read_text text ≡ Some (fields_of t) = ap read_text own ∙ read_text_of (fields_of t) (have_digits t) in
+    let time = is_time_of t in
+    none-some (fields_of t) (sym none ∙ ap (option_and_then if_time) read ∙ rw time refl)
+
+-- octets below 80
+record AreAscii (xs : List ℕ) : Type 0 where
+  below : IsAscii xs
+
+ascii_cons : (x : ℕ) (xs : List ℕ) → x < 128 → AreAscii xs → AreAscii (x ∷ xs)
+ascii_cons x xs h k = record { below = each }
+  where
+    each : IsAscii (x ∷ xs)
+    each zero = h
+    each (suc i) = k.below i
+
+ascii_two_digits : (n : ℕ) (xs : List ℕ) → n < 100 → AreAscii xs → AreAscii (two_digits n ++ xs)
+unfolding two_digits
+ascii_two_digits n xs h k = ascii_cons (48 + n / 10) _ (omega arith) (ascii_cons (48 + n % 10) xs (omega arith) k)
+
+ascii_text : (f : Fields) → HaveDigits f → AreAscii (time_text f)
+unfolding time_text clock_text
+ascii_text f d =
+    ascii_two_digits (f.year / 100) _ (omega (arith, d.year)) (ascii_two_digits (f.year % 100) _ (omega arith)
+    (ascii_cons 45 _ (lit< tt) (ascii_two_digits f.month _ d.month (ascii_cons 45 _ (lit< tt) (ascii_two_digits f.day _ d.day
+    (ascii_cons 84 _ (lit< tt) (ascii_two_digits f.hour _ d.hour (ascii_cons 58 _ (lit< tt) (ascii_two_digits f.minutes _ d.minutes
+    (ascii_cons 58 _ (lit< tt) (ascii_two_digits f.seconds _ d.seconds (ascii_cons 90 [] (lit< tt) (record { below = λ i. lit< tt })))))))))))))
+
+-- so the text of a time is UTF-8
+pub text_utf8 : (t : DateTime) → IsUtf8 (time_text (fields_of t))
+text_utf8 t = IsUtf8-from_ascii _ (ascii_text (fields_of t) (have_digits t)).below
 
 -- the octets of a time are so many
 pub length_generalized : (f : Fields) → length (generalized_contents f) ≡ 15

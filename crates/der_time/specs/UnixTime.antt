@@ -2,6 +2,7 @@
 use Rattle.std.specs.Prelude.{◌≡◌, ℕ, ◌+◌, ◌*◌, ◌/◌, ◌<◌, ◌≤◌, ℤ, pos, unsigned_abs, Result, Ok, Err}
 use Rattle.std.specs.Duration.{as_nanos}
 use Rattle.std.specs.declared.time.Duration.{Duration}
+use Rattle.jiff_core.specs.declared.civil.date.Date.{Date}
 use Rattle.jiff_core.specs.Calendar.{days_from_civil}
 use Rattle.der_tlv.specs.declared.error.ErrorKind.TheVariants as kinds
 use Rattle.der_tlv.specs.declared.error.ErrorKind.{ErrorKind}
@@ -39,3 +40,9 @@ whole_seconds d = as_nanos d / 1_000_000_000
 abbrev pub IsTimeAfter : {T : Type 0} → (T → DateTime) → ErrorKind → Duration → Result T Error → Type 0
 IsTimeAfter date_time kind d (Ok t) = (unix_seconds (date_time t) ≡ whole_seconds d) × (as_nanos d ≤ last_second * 1_000_000_000)
 IsTimeAfter date_time kind d (Err e) = (e.kind ≡ kind) × (last_second * 1_000_000_000 < as_nanos d)
+
+-- the time is on this date
+pub record IsOnDate (d : Date) (t : DateTime) : Type 0 where
+  pub year : pos t.year ≡ d.year
+  pub month : t.month ≡ d.month
+  pub day : t.day ≡ d.day

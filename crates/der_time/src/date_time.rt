@@ -1,9 +1,11 @@
 //! A date and a time of day in UTC.
 
-ghost use Rattle.std.specs.Prelude.{◌≡◌, ◌≤◌, pos, refl, false};
+ghost use Rattle.std.specs.Prelude.{◌≡◌, ◌+◌, ◌*◌, ◌≤◌, ◌≤ℤ◌, pos, Some, refl, false};
 ghost use Rattle.std.proofs.Common.{lit<};
 ghost use Rattle.std.specs.Int.{IsInRange};
 ghost use Rattle.jiff_core.specs.Calendar.{days_in_month};
+ghost use Rattle.jiff_core.specs.Date.{epoch_day};
+ghost use Rattle.der_tlv.specs.declared.error.ErrorKind.TheVariants as kinds;
 ghost use Rattle.der_tlv.specs.declared.tag.Tag.TheVariants as tags;
 ghost use Rattle.der_elem.specs.OwnContents.{accepts_own};
 ghost use Rattle.der_elem.specs.OwnContentsLaws.{parse_of_own, same_length_own, accepts_own_contents, copy_contents_own};
@@ -11,12 +13,20 @@ ghost use Rattle.der_elem.specs.OwnContentsLaws.{parse_of_own, same_length_own, 
 use crate::digits::two_digits;
 use crate::fields::Fields;
 use crate::reading::{generalized_fault, read_generalized};
+use crate::text::read_text;
 use der_elem::{
     ContentsEq, DecodeValue, DuplicateValue, EncodeValue, FixedTag, FormValue, OrdIsValueOrd,
     ValueMemory, WithoutMemory,
 };
 use der_tlv::{Error, ErrorKind, Header, Length, Reader, Tag, Writer};
+use jiff_core::civil;
 use std::alloc::Global;
+use std::str::FromStr;
+use std::time::Duration;
+use std::{fmt, str};
+
+/// The seconds from 1970-01-01T00:00:00Z to 9999-12-31T23:59:59Z.
+const LAST_SECOND: u64 = 253_402_300_799;
 
 /// A second from 1970-01-01T00:00:00Z to 9999-12-31T23:59:59Z: a true date and a time of day.
 ///
@@ -40,7 +50,8 @@ pub struct DateTime {
 
 impl DateTime {
     ghost use Rattle.der_time.specs.Reading.{ReadAs, generalized_or_fault};
-    ghost use Rattle.der_time.specs.DateTime.{time_contents, TakesFields};
+    ghost use Rattle.der_time.specs.DateTime.{time_contents, date_time_text, TakesFields};
+    ghost use Rattle.der_time.specs.UnixTime.{unix_seconds, second_of_day, last_second, LastsSeconds, IsTimeAfter, IsOnDate};
 
     /// The last second: 9999-12-31T23:59:59Z.
     pub const INFINITY: DateTime = DateTime {
@@ -123,6 +134,83 @@ impl DateTime {
         self.seconds
     }
 
+    /// The time at which the whole seconds of this duration since 1970-01-01T00:00:00Z are over. A
+    /// fraction of a second is dropped.
+    ///
+    /// # Errors
+    /// (14) for more than 253402300799 seconds, also by less than a second.
+    pub fn from_unix_duration(unix_duration: Duration) -> Result<DateTime, Error>
+        ensures { IsTimeAfter (λ t. t) kinds.DateTime unix_duration result }
+    {
+        let seconds = unix_duration.as_secs();
+        let fraction = unix_duration.subsec_nanos();
+        if seconds > LAST_SECOND || (seconds == LAST_SECOND && fraction > 0) {
+            return Err(Error::from_kind(ErrorKind::DateTime));
+        }
+        Ok(DateTime::of_unix_seconds(seconds))
+    }
+
+    /// The time at which so many seconds since 1970-01-01T00:00:00Z are over.
+    fn of_unix_seconds(seconds: u64) -> DateTime
+        requires { seconds ≤ last_second }
+        ensures { unix_seconds result ≡ seconds }
+    {
+        let day = (seconds / 86400) as i64;
+        let second = seconds % 86400;
+        match civil::Date::from_unix_epoch_day(day) {
+            Ok(date) => DateTime::at(
+                date,
+                (second / 3600) as u8,
+                (second / 60 % 60) as u8,
+                (second % 60) as u8,
+            ),
+            Err(_) => unreachable!(),
+        }
+    }
+
+    /// The time on this date, of 1970 or later.
+    fn at(date: civil::Date, hour: u8, minutes: u8, seconds: u8) -> DateTime
+        requires from_1970 { pos 0 ≤ℤ epoch_day date }
+        requires hour { hour ≤ 23 }
+        requires minutes { minutes ≤ 59 }
+        requires seconds { seconds ≤ 59 }
+        ensures date { IsOnDate date result }
+        ensures second { second_of_day result ≡ hour * 3600 + minutes * 60 + seconds }
+    {
+        DateTime {
+            year: date.year.unsigned_abs(),
+            month: date.month,
+            day: date.day,
+            hour,
+            minutes,
+            seconds,
+        }
+    }
+
+    /// The date.
+    fn date(&self) -> civil::Date
+        ensures year { result.year ≡ pos self.now.year }
+        ensures month { result.month ≡ self.now.month }
+        ensures day { result.day ≡ self.now.day }
+    {
+        civil::Date {
+            year: self.year as i16,
+            month: self.month,
+            day: self.day,
+        }
+    }
+
+    /// The duration since 1970-01-01T00:00:00Z: 86400 seconds for each day, and those of the time of
+    /// day.
+    #[tactic(auto, unfolding(crate::specs::UnixTime::day_number))]
+    pub fn unix_duration(&self) -> Duration
+        ensures { LastsSeconds (unix_seconds self.now) result }
+    {
+        let day = self.date().to_unix_epoch_day().unsigned_abs();
+        let second = self.hour as u64 * 3600 + self.minutes as u64 * 60 + self.seconds as u64;
+        Duration::from_secs(day as u64 * 86400 + second)
+    }
+
     /// The time with these contents octets of a GeneralizedTime, or their fault.
     #[tactic(auto, unfolding(crate::specs::Reading::generalized_or_fault))]
     pub(crate) fn of_contents(octets: &[u8]) -> Result<DateTime, ErrorKind>
@@ -152,6 +240,58 @@ impl DateTime {
         [
             c0, c1, y0, y1, m0, m1, d0, d1, h0, h1, i0, i1, s0, s1, b'Z',
         ]
+    }
+
+    /// The text: `2001-01-02T12:13:14Z`.
+    #[tactic(auto, unfolding(crate::specs::Times::time_text, crate::specs::Times::clock_text, crate::specs::Digits::two_digits))]
+    fn text(&self) -> [u8; 20]
+        ensures { result ≡ date_time_text self.now }
+    {
+        let [c0, c1] = two_digits((self.year / 100) as u8);
+        let [y0, y1] = two_digits((self.year % 100) as u8);
+        let [m0, m1] = two_digits(self.month);
+        let [d0, d1] = two_digits(self.day);
+        let [h0, h1] = two_digits(self.hour);
+        let [i0, i1] = two_digits(self.minutes);
+        let [s0, s1] = two_digits(self.seconds);
+        [
+            c0, c1, y0, y1, b'-', m0, m1, b'-', d0, d1, b'T', h0, h1, b':', i0, i1, b':', s0, s1,
+            b'Z',
+        ]
+    }
+}
+
+impl FromStr for DateTime {
+    ghost use Rattle.der_time.specs.DateTime.{ParsesText};
+
+    type Err = Error;
+
+    ghost from_str_gives = { ParsesText };
+
+    /// # Errors
+    /// (14) for any text but one that `Display` writes.
+    fn from_str(text: &str) -> Result<DateTime, Error> {
+        let Some(fields) = read_text(text.as_bytes()) else {
+            return Err(Error::from_kind(ErrorKind::DateTime));
+        };
+        match fields.to_date_time() {
+            Some(time) => Ok(time),
+            None => Err(Error::from_kind(ErrorKind::DateTime)),
+        }
+    }
+}
+
+impl fmt::Display for DateTime {
+    ghost use Rattle.der_time.specs.DateTime.{date_time_text};
+
+    ghost output = { λ t. Some (date_time_text t) };
+
+    fn fmt<W: fmt::Write>(&self, f: &mut fmt::Formatter<W>) -> fmt::Result {
+        let text = self.text();
+        match str::from_utf8(&text) {
+            Ok(text) => f.write_str(text),
+            Err(_) => unreachable!(),
+        }
     }
 }
 

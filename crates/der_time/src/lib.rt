@@ -6,6 +6,7 @@ mod digits;
 mod fields;
 mod generalized_time;
 mod reading;
+mod text;
 mod utc_time;
 
 pub use date_time::DateTime;
