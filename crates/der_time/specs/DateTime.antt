@@ -1,5 +1,5 @@
 -- What contracts see of a time.
-use Rattle.std.specs.Prelude.{◌≡◌, ℕ, false, List, Result, Ok, Err}
+use Rattle.std.specs.Prelude.{◌≡◌, ℕ, false, List, Result, Ok, Err, IsOkAnd}
 use Rattle.der_tlv.specs.declared.error.ErrorKind.TheVariants as kinds
 use Rattle.der_tlv.specs.declared.error.Error.{Error}
 use Rattle.der_time.specs.declared.date_time.DateTime.{DateTime}
@@ -34,3 +34,7 @@ date_time_text t = time_text (fields_of t)
 abbrev pub ParsesText : List ℕ → Result DateTime Error → Type 0
 ParsesText text (Ok t) = text ≡ date_time_text t
 ParsesText text (Err e) = (e.kind ≡ kinds.DateTime) × ((t : DateTime) → text ≡ date_time_text t → ⊥)
+
+-- and the text that Display writes of a time gives that time
+abbrev pub ParsesBack : List ℕ → Result DateTime Error → Type 0
+ParsesBack text r = (t : DateTime) → text ≡ date_time_text t → IsOkAnd r (λ v. fields_of v ≡ fields_of t)

@@ -1,5 +1,5 @@
 -- The seconds from 1970-01-01T00:00:00Z to a time.
-use Rattle.std.specs.Prelude.{◌≡◌, ℕ, ◌+◌, ◌*◌, ◌/◌, ◌<◌, ◌≤◌, ℤ, pos, unsigned_abs, Result, Ok, Err}
+use Rattle.std.specs.Prelude.{◌≡◌, ℕ, ◌+◌, ◌*◌, ◌/◌, ◌<◌, ◌≤◌, ℤ, pos, unsigned_abs, ◌⊎◌, Result, Ok, Err}
 use Rattle.std.specs.Duration.{as_nanos}
 use Rattle.std.specs.declared.time.Duration.{Duration}
 use Rattle.jiff_core.specs.declared.civil.date.Date.{Date}
@@ -46,3 +46,13 @@ pub record IsOnDate (d : Date) (t : DateTime) : Type 0 where
   pub year : pos t.year ≡ d.year
   pub month : t.month ≡ d.month
   pub day : t.day ≡ d.day
+
+-- the seconds before 2050-01-01T00:00:00Z
+abbrev pub end_of_2049 : ℕ
+end_of_2049 = 2_524_608_000
+
+-- the UTCTime after the whole seconds of a duration; (14) of a duration longer than that of the last time, else (13) from 2050 on
+abbrev pub IsUtcTimeAfter : Duration → Result UtcTime Error → Type 0
+IsUtcTimeAfter d (Ok t) = (unix_seconds t.date_time ≡ whole_seconds d) × (whole_seconds d < end_of_2049)
+IsUtcTimeAfter d (Err e) =
+    ((e.kind ≡ kinds.DateTime) × (last_second * 1_000_000_000 < as_nanos d)) ⊎ ((e.kind ≡ kinds.Value tags.UtcTime) × (as_nanos d ≤ last_second * 1_000_000_000) × (end_of_2049 ≤ whole_seconds d))

@@ -12,14 +12,16 @@ use Rattle.jiff_core.specs.Calendar.{day_count, days_from_civil, days_in_month, 
 use Rattle.jiff_core.specs.Date.{epoch_day}
 use Rattle.jiff_core.proofs.SignedLemmas.{signed_arith}
 use Rattle.jiff_core.proofs.CalendarLemmas.{day_count-epoch, days_from_civil-day_count, day_count-later_year, day_count-day_of_year, day_count-lt_year, days_in_year_bounds}
+use Rattle.jiff_core.proofs.MarchLemmas.{day_count-early}
 use Rattle.jiff_core.proofs.DateLemmas.{civil, IsEarlier, epoch_day-lt}
 use borrow.Author.Differences.{up, down}
 use Rattle.der_tlv.specs.OctetLaws.{lex-equal}
+use Rattle.der_time.specs.declared.fields.Fields.{Fields}
 use Rattle.der_time.specs.declared.date_time.DateTime.{DateTime}
 use Rattle.der_time.specs.DateTime.{fields_of, time_contents}
 use Rattle.der_time.specs.TimeLaws.{generalized_injective}
 use Rattle.der_time.specs.TimeOrder.{fields_cmp, then_assoc, ord_is_contents_ord}
-use Rattle.der_time.specs.UnixTime.{day_number, second_of_day, unix_seconds, IsOnDate}
+use Rattle.der_time.specs.UnixTime.{day_number, second_of_day, unix_seconds, IsOnDate, end_of_2049}
 
 -- a date from day 0 on is of the year 1970 or a later one
 pub year_from_day : (d : Date) → pos 0 ≤ℤ epoch_day d → pos 1970 ≤ℤ d.year
@@ -112,7 +114,7 @@ clock_cmp v w = clock v.hour v.minutes v.seconds w.hour w.minutes w.seconds v.mi
     clock : (h i s k j r : ℕ) → i ≤ 59 → s ≤ 59 → j ≤ 59 → r ≤ 59 → ordering_then (nat_cmp h k) (ordering_then (nat_cmp i j) (nat_cmp s r)) ≡ nat_cmp (h * 3600 + i * 60 + s) (k * 3600 + j * 60 + r)
     clock h i s k j r a b c d = grind (arith, nat_tests)
 
-second_of_day_bound : (t : DateTime) → second_of_day t < 86400
+pub second_of_day_bound : (t : DateTime) → second_of_day t < 86400
 second_of_day_bound t = omega (arith, t.hour_in, t.minutes_in, t.seconds_in)
 
 days_and_seconds : (a b s r : ℕ) → s < 86400 → r < 86400 → ordering_then (nat_cmp a b) (nat_cmp s r) ≡ nat_cmp (a * 86400 + s) (b * 86400 + r)
@@ -132,6 +134,12 @@ pub same_seconds : (v w : DateTime) → unix_seconds v ≡ unix_seconds w → fi
 same_seconds v w e =
     generalized_injective v w (lex-equal (time_contents v) (time_contents w) (sym (ord_is_contents_ord v w) ∙ chronological v w ∙ cmp_equal (unix_seconds v) (unix_seconds w) e))
 
+-- equal times have the same seconds
+pub seconds_of_fields : (v w : DateTime) → fields_of v ≡ fields_of w → unix_seconds v ≡ unix_seconds w
+unfolding day_number
+seconds_of_fields v w e =
+    ap (λ (f : Fields). unsigned_abs (days_from_civil (pos f.year) f.month f.day) * 86400 + (f.hour * 3600 + f.minutes * 60 + f.seconds)) e
+
 -- the seconds of a time on the date of a day number
 pub seconds_on : (d : Date) (t : DateTime) (n s : ℕ) → IsOnDate d t → epoch_day d ≡ pos n → second_of_day t ≡ s → unix_seconds t ≡ n * 86400 + s
 unfolding day_number
@@ -139,3 +147,24 @@ seconds_on d t n s on e f =
     let day : days_from_civil (pos t.year) t.month t.day ≡ pos n = rw (on.year, on.month, on.day) e in
     let number : unsigned_abs (days_from_civil (pos t.year) t.month t.day) ≡ n = ap unsigned_abs day in
     rw (number, f) refl
+
+first_of_2050 : day_count (pos 2050) 1 1 ≡ 4_401_173
+first_of_2050 = day_count-early (pos 2050) 12049 1 1 refl (omega arith) (omega arith) (omega arith)
+
+-- the times of 2050 and later years are those from its first second on
+pub from_2050 : (t : DateTime) → 2049 < t.year → end_of_2049 ≤ unix_seconds t
+from_2050 t h =
+    let first : 4_401_173 ≤ day_count (pos t.year) 1 1 = elim (cases_order t.year 2050) [
+      | inl e ↦ rw e (omega (arith, first_of_2050))
+      | inr (inl lt) ↦ absurd (omega arith)
+      | inr (inr gt) ↦ omega (arith, first_of_2050, day_count-later_year (pos 2050) (pos t.year) (omega (arith, signed_arith)) (omega (arith, signed_arith, gt)))
+    ] in
+    let day : 29220 ≤ day_number t = omega (arith, signed_arith, days_are t, days_from_civil-day_count (pos t.year) t.month t.day, first_of_year_le (pos t.year) t.month t.day t.day_in.0, first) in
+    omega (arith, day)
+
+pub before_2050 : (t : DateTime) → t.year ≤ 2049 → unix_seconds t < end_of_2049
+unfolding date_of
+before_2050 t h =
+    let before = day_count-lt_year (pos t.year) t.month t.day (pos 2050) 1 1 (civil (date_of t)) (lit≤ tt) (omega (arith, signed_arith)) in
+    let day : day_number t < 29220 = omega (arith, signed_arith, days_are t, days_from_civil-day_count (pos t.year) t.month t.day, first_of_2050, before) in
+    omega (arith, day, second_of_day_bound t)

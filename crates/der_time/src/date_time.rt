@@ -262,11 +262,11 @@ impl DateTime {
 }
 
 impl FromStr for DateTime {
-    ghost use Rattle.der_time.specs.DateTime.{ParsesText};
+    ghost use Rattle.der_time.specs.DateTime.{ParsesText, ParsesBack};
 
     type Err = Error;
 
-    ghost from_str_gives = { ParsesText };
+    ghost from_str_gives = { λ s r. ParsesText s r × ParsesBack s r };
 
     /// # Errors
     /// (14) for any text but one that `Display` writes.

@@ -5,6 +5,7 @@
 
 ghost use Rattle.std.specs.Prelude.{◌≡◌, refl, false};
 ghost use Rattle.std.proofs.Common.{lit<};
+ghost use Rattle.der_tlv.specs.declared.error.ErrorKind.TheVariants as kinds;
 ghost use Rattle.der_tlv.specs.declared.tag.Tag.TheVariants as tags;
 ghost use Rattle.der_tlv.specs.declared.encoding_rules.EncodingRules.TheVariants.{Der};
 ghost use Rattle.der_elem.specs.OwnContents.{accepts_own};
@@ -12,6 +13,7 @@ ghost use Rattle.der_elem.specs.OwnContentsLaws.{parse_of_own, same_length_own, 
 ghost use Rattle.der_opaque.specs.DecodingAs.{DecodesAs};
 ghost use Rattle.der_time.specs.Reading.{parse_generalized};
 ghost use Rattle.der_time.specs.GeneralizedTime.{generalized_time_contents};
+ghost use Rattle.der_time.specs.UnixTime.{unix_seconds, LastsSeconds, IsTimeAfter};
 ghost use Rattle.der_time.specs.TimeLaws.{generalized_of};
 ghost use Rattle.der_time.specs.TimeOrder.{ord_is_contents_ord, eq_is_contents_eq};
 
@@ -23,6 +25,7 @@ use der_elem::{
 use der_opaque::{Any, AnyRef};
 use der_tlv::{Error, Header, Length, Reader, Tag, Writer};
 use std::alloc::Global;
+use std::time::Duration;
 
 /// A GeneralizedTime: a second from 1970 to 9999.
 ///
@@ -49,6 +52,27 @@ impl GeneralizedTime {
         ensures { result ≡ self.now.date_time }
     {
         self.date_time
+    }
+
+    /// The time at which the whole seconds of this duration since 1970-01-01T00:00:00Z are over. A
+    /// fraction of a second is dropped.
+    ///
+    /// # Errors
+    /// (13) for more than 253402300799 seconds, also by less than a second.
+    pub fn from_unix_duration(unix_duration: Duration) -> Result<GeneralizedTime, Error>
+        ensures { IsTimeAfter (λ t. t.date_time) (kinds.Value tags.GeneralizedTime) unix_duration result }
+    {
+        match DateTime::from_unix_duration(unix_duration) {
+            Ok(date_time) => Ok(GeneralizedTime { date_time }),
+            Err(_) => Err(Error::from_kind(Tag::GeneralizedTime.value_error())),
+        }
+    }
+
+    /// The duration since 1970-01-01T00:00:00Z.
+    pub fn to_unix_duration(&self) -> Duration
+        ensures { LastsSeconds (unix_seconds self.now.date_time) result }
+    {
+        self.date_time.unix_duration()
     }
 }
 

@@ -23,6 +23,7 @@ use der_opaque::{Any, AnyRef};
 use der_tlv::{Error, ErrorKind, Header, Length, Reader, Tag, Writer};
 use std::alloc::Global;
 use std::cmp::Ordering;
+use std::time::Duration;
 
 /// A UTCTime: a second from 1970 to 2049.
 ///
@@ -40,6 +41,7 @@ pub struct UtcTime {
 impl UtcTime {
     ghost use Rattle.der_time.specs.Reading.{ReadAs, utc_or_fault};
     ghost use Rattle.der_time.specs.UtcTime.{utc_time_contents, TakesTime};
+    ghost use Rattle.der_time.specs.UnixTime.{unix_seconds, LastsSeconds, IsUtcTimeAfter};
 
     /// How many contents octets there are.
     pub const LENGTH: usize = 13;
@@ -65,6 +67,31 @@ impl UtcTime {
         ensures { result ≡ self.now.date_time }
     {
         self.date_time
+    }
+
+    /// The time at which the whole seconds of this duration since 1970-01-01T00:00:00Z are over. A
+    /// fraction of a second is dropped.
+    ///
+    /// # Errors
+    /// (14) for more than 253402300799 seconds, also by less than a second; then (13) for 2524608000
+    /// seconds, which end with the year 2049, and more.
+    pub fn from_unix_duration(unix_duration: Duration) -> Result<UtcTime, Error>
+        ensures { IsUtcTimeAfter unix_duration result }
+    {
+        match DateTime::from_unix_duration(unix_duration) {
+            Ok(date_time) => match UtcTime::from_date_time(date_time) {
+                Ok(time) => Ok(time),
+                Err(e) => Err(e),
+            },
+            Err(e) => Err(e),
+        }
+    }
+
+    /// The duration since 1970-01-01T00:00:00Z.
+    pub fn to_unix_duration(&self) -> Duration
+        ensures { LastsSeconds (unix_seconds self.now.date_time) result }
+    {
+        self.date_time.unix_duration()
     }
 
     /// The time with these contents octets, or their fault.
