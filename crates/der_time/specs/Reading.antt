@@ -1,5 +1,5 @@
 -- What octets are read as a time, and the faults of others.
-use Rattle.std.specs.Prelude.{◌≡◌, ℕ, ◌+◌, ◌*◌, ◌&&◌, ◌==◌, not, nat_lt, Bool, true, false, List, [], ◌∷◌, length, slice_index, drop, Option, Some, None, option_and_then, is_some, bytes_eq, if◌then◌else◌, Result, Ok, Err}
+use Rattle.std.specs.Prelude.{◌≡◌, ℕ, ◌+◌, ◌*◌, ◌&&◌, ◌==◌, not, nat_lt, Bool, List, [], ◌∷◌, length, slice_index, drop, Option, Some, None, option_and_then, is_some, bytes_eq, if◌then◌else◌, Result, Ok, Err}
 use Rattle.der_tlv.specs.declared.error.ErrorKind.{ErrorKind}
 use Rattle.der_tlv.specs.declared.error.ErrorKind.TheVariants as kinds
 use Rattle.der_tlv.specs.declared.tag.Tag.TheVariants as tags

@@ -1,18 +1,17 @@
 -- The laws of contents octets of times.
-use Rattle.std.proofs.Common.{◌≡◌, ℕ, ◌+◌, ◌-◌, ◌*◌, ◌/◌, ◌%◌, ◌<◌, ◌≤◌, ◌&&◌, Bool, true, false, List, [], ◌∷◌, ◌++◌, length, Option, Some, None, Ok, Err, refl, sym, ap, ◌∙◌, arith, pos, ℤ, Decides, nat_lt, cond, option_and_then, eq-eqb, zero, suc, lit<}
+use Rattle.std.proofs.Common.{◌≡◌, ℕ, ◌+◌, ◌-◌, ◌*◌, ◌/◌, ◌%◌, ◌<◌, ◌≤◌, ◌&&◌, true, List, [], ◌∷◌, ◌++◌, length, Some, None, Ok, Err, refl, sym, ap, ◌∙◌, arith, pos, option_and_then, eq-eqb, zero, suc, lit<}
 use Rattle.std.specs.Int.{is_in_range}
 use Rattle.std.specs.Str.{IsUtf8, IsAscii}
 use Rattle.std.proofs.lemmas.Str.{IsUtf8-from_ascii}
 use Rattle.std.proofs.lemmas.Bool.Decides.{nat_tests}
 use Rattle.std.proofs.lemmas.Option.{none-some, same_Some}
-use Rattle.jiff_core.specs.Calendar.{days_in_month}
 use Rattle.jiff_core.proofs.CalendarLemmas.{days_in_month_bounds}
 use Rattle.der_tlv.specs.declared.error.ErrorKind.{ErrorKind}
 use Rattle.der_time.specs.declared.fields.Fields.{Fields}
 use Rattle.der_time.specs.declared.date_time.DateTime.{DateTime}
 use Rattle.der_time.specs.Digits.{two_digits, read_two_digits}
 use Rattle.der_time.specs.Times.{is_time, clock_contents, after_year, generalized_contents, utc_contents, clock_text, time_text}
-use Rattle.der_time.specs.Reading.{read_clock, read_after_year, read_generalized, read_utc, century_of, generalized_or_fault, utc_or_fault, octets_or, if_time, parse_generalized, parse_utc, read_octet, read_clock_text, read_text}
+use Rattle.der_time.specs.Reading.{read_clock, read_after_year, read_generalized, read_utc, century_of, generalized_or_fault, utc_or_fault, if_time, read_octet, read_clock_text, read_text}
 use Rattle.der_time.specs.DateTime.{fields_of}
 
 -- two digits are read as their number

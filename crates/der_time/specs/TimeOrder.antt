@@ -1,5 +1,5 @@
 -- Order and equality of times are those of their contents octets.
-use Rattle.std.proofs.Common.{◌≡◌, ℕ, ◌+◌, ◌-◌, ◌*◌, ◌/◌, ◌%◌, ◌<◌, ◌≤◌, ◌==◌, ◌&&◌, Bool, true, false, List, [], ◌∷◌, ◌++◌, refl, sym, ap, ◌∙◌, arith, IsTrue, ◌↔◌}
+use Rattle.std.proofs.Common.{◌≡◌, ℕ, ◌+◌, ◌/◌, ◌%◌, ◌==◌, ◌&&◌, Bool, true, List, ◌++◌, refl, sym, ap, ◌∙◌, arith, IsTrue, ◌↔◌}
 use Rattle.std.specs.declared.cmp.Ordering.{Ordering}
 use Rattle.std.specs.declared.cmp.Ordering.TheVariants.{Less, Equal, Greater}
 use Rattle.std.specs.Ordering.{ordering_then, nat_cmp}
@@ -66,7 +66,7 @@ ord_is_contents_ord v w =
     sym (lex_four_digits v.year w.year (after_year (fields_of v)) (after_year (fields_of w)) ∙ ap (ordering_then (nat_cmp v.year w.year)) (lex_after_year (fields_of v) (fields_of w)))
 
 pub same_fields : (v w : DateTime) → fields_eq v w ≡ true → fields_of v ≡ fields_of w
-same_fields v w e = 
+same_fields v w e =
     let a = and_parts _ _ e in
     let b = and_parts _ _ a.1 in
     let c = and_parts _ _ b.1 in

@@ -1,5 +1,5 @@
 -- Which six numbers are a time, and their octets and text (X.680 46.3, 47.3; X.690 11.7, 11.8; RFC 5280 4.1.2.5).
-use Rattle.std.specs.Prelude.{ℕ, ◌+◌, ◌*◌, ◌/◌, ◌%◌, ◌&&◌, nat_le, Bool, List, [], ◌∷◌, ◌++◌, ℤ, pos}
+use Rattle.std.specs.Prelude.{ℕ, ◌/◌, ◌%◌, ◌&&◌, nat_le, Bool, List, [], ◌∷◌, ◌++◌, pos}
 use Rattle.jiff_core.specs.Calendar.{days_in_month}
 use Rattle.der_time.specs.declared.fields.Fields.{Fields}
 use Rattle.der_time.specs.Digits.{two_digits}

@@ -1,5 +1,5 @@
 -- The seconds from 1970-01-01T00:00:00Z to a time.
-use Rattle.std.specs.Prelude.{◌≡◌, ℕ, ◌+◌, ◌*◌, ◌/◌, ◌<◌, ◌≤◌, ℤ, pos, unsigned_abs, ◌⊎◌, Result, Ok, Err}
+use Rattle.std.specs.Prelude.{◌≡◌, ℕ, ◌+◌, ◌*◌, ◌/◌, ◌<◌, ◌≤◌, pos, unsigned_abs, ◌⊎◌, Result, Ok, Err}
 use Rattle.std.specs.Duration.{as_nanos}
 use Rattle.std.specs.declared.time.Duration.{Duration}
 use Rattle.jiff_core.specs.declared.civil.date.Date.{Date}
@@ -9,7 +9,6 @@ use Rattle.der_tlv.specs.declared.error.ErrorKind.{ErrorKind}
 use Rattle.der_tlv.specs.declared.error.Error.{Error}
 use Rattle.der_tlv.specs.declared.tag.Tag.TheVariants as tags
 use Rattle.der_time.specs.declared.date_time.DateTime.{DateTime}
-use Rattle.der_time.specs.declared.generalized_time.GeneralizedTime.{GeneralizedTime}
 use Rattle.der_time.specs.declared.utc_time.UtcTime.{UtcTime}
 
 -- the day number of its date, which isn't negative: 0 for 1970-01-01

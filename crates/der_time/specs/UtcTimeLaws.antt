@@ -1,12 +1,9 @@
 -- The laws of UTCTime.
-use Rattle.std.proofs.Common.{◌≡◌, ℕ, ◌%◌, ◌<◌, ◌≤◌, List, Ok, Bool, refl, sym, ap, ◌∙◌, arith, IsTrue, ◌↔◌}
-use Rattle.std.specs.declared.cmp.Ordering.{Ordering}
+use Rattle.std.proofs.Common.{◌≡◌, ℕ, ◌%◌, ◌≤◌, Ok, sym, ap, ◌∙◌, arith, IsTrue, ◌↔◌}
 use Rattle.std.specs.Ordering.{ordering_then, nat_cmp}
 use Rattle.std.proofs.lemmas.Bool.Decides.{nat_tests}
 use Rattle.der_tlv.specs.Octets.{lex}
-use Rattle.der_time.specs.declared.date_time.DateTime.{DateTime}
 use Rattle.der_time.specs.declared.utc_time.UtcTime.{UtcTime}
-use Rattle.der_time.specs.Digits.{two_digits}
 use Rattle.der_time.specs.Times.{utc_contents, after_year}
 use Rattle.der_time.specs.Reading.{utc_or_fault}
 use Rattle.der_time.specs.DateTime.{fields_of}

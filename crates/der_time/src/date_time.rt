@@ -1,7 +1,6 @@
 //! A date and a time of day in UTC.
 
 ghost use Rattle.std.specs.Prelude.{◌≡◌, ◌+◌, ◌*◌, ◌≤◌, ◌≤ℤ◌, pos, Some, refl, false};
-ghost use Rattle.std.proofs.Common.{lit<};
 ghost use Rattle.std.specs.Int.{IsInRange};
 ghost use Rattle.jiff_core.specs.Calendar.{days_in_month};
 ghost use Rattle.jiff_core.specs.Date.{epoch_day};
@@ -13,9 +12,10 @@ ghost use Rattle.der_elem.specs.OwnContentsLaws.{parse_of_own, same_length_own, 
 use crate::digits::two_digits;
 use crate::fields::Fields;
 use crate::reading::{generalized_fault, read_generalized};
+use crate::tags::GeneralizedTimeTag;
 use crate::text::read_text;
 use der_elem::{
-    ContentsEq, DecodeValue, DuplicateValue, EncodeValue, FixedTag, FormValue, OrdIsValueOrd,
+    ContentsEq, DecodeValue, DuplicateValue, EncodeValue, FormValue, OrdIsValueOrd, SameTag,
     ValueMemory, WithoutMemory,
 };
 use der_tlv::{Error, ErrorKind, Header, Length, Reader, Tag, Writer};
@@ -237,9 +237,7 @@ impl DateTime {
         let [h0, h1] = two_digits(self.hour);
         let [i0, i1] = two_digits(self.minutes);
         let [s0, s1] = two_digits(self.seconds);
-        [
-            c0, c1, y0, y1, m0, m1, d0, d1, h0, h1, i0, i1, s0, s1, b'Z',
-        ]
+        [c0, c1, y0, y1, m0, m1, d0, d1, h0, h1, i0, i1, s0, s1, b'Z']
     }
 
     /// The text: `2001-01-02T12:13:14Z`.
@@ -335,12 +333,8 @@ impl ValueMemory for DateTime {
     ghost memory_of_value = { refl };
 }
 
-impl FixedTag for DateTime {
-    ghost TAG = { tags.GeneralizedTime };
-
-    const TAG: Tag = Tag::GeneralizedTime;
-
-    ghost tag_in_range = { lit< tt };
+impl SameTag for DateTime {
+    type As = GeneralizedTimeTag;
 }
 
 impl<'a, R: Reader<'a>> DecodeValue<'a, R> for DateTime {

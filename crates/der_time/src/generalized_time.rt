@@ -4,7 +4,6 @@
 //! day, hour, minutes and seconds in two digits each, then `Z`.
 
 ghost use Rattle.std.specs.Prelude.{◌≡◌, refl, false};
-ghost use Rattle.std.proofs.Common.{lit<};
 ghost use Rattle.der_tlv.specs.declared.error.ErrorKind.TheVariants as kinds;
 ghost use Rattle.der_tlv.specs.declared.tag.Tag.TheVariants as tags;
 ghost use Rattle.der_tlv.specs.declared.encoding_rules.EncodingRules.TheVariants.{Der};
@@ -18,8 +17,9 @@ ghost use Rattle.der_time.specs.TimeLaws.{generalized_of};
 ghost use Rattle.der_time.specs.TimeOrder.{ord_is_contents_ord, eq_is_contents_eq};
 
 use crate::date_time::DateTime;
+use crate::tags::GeneralizedTimeTag;
 use der_elem::{
-    ContentsEq, DecodeValue, DuplicateValue, EncodeValue, FixedTag, Form, FormValue, OrdIsValueOrd,
+    ContentsEq, DecodeValue, DuplicateValue, EncodeValue, Form, FormValue, OrdIsValueOrd, SameTag,
     Tagged, ValueMemory, WithoutMemory,
 };
 use der_opaque::{Any, AnyRef};
@@ -112,12 +112,8 @@ impl ValueMemory for GeneralizedTime {
     ghost memory_of_value = { refl };
 }
 
-impl FixedTag for GeneralizedTime {
-    ghost TAG = { tags.GeneralizedTime };
-
-    const TAG: Tag = Tag::GeneralizedTime;
-
-    ghost tag_in_range = { lit< tt };
+impl SameTag for GeneralizedTime {
+    type As = GeneralizedTimeTag;
 }
 
 impl<'a, R: Reader<'a>> DecodeValue<'a, R> for GeneralizedTime {

@@ -5,7 +5,6 @@
 //! stand for 19YY, less for 20YY.
 
 ghost use Rattle.std.specs.Prelude.{◌≡◌, ◌≤◌, ◌<◌, refl, false};
-ghost use Rattle.std.proofs.Common.{lit<};
 ghost use Rattle.der_tlv.specs.declared.tag.Tag.TheVariants as tags;
 ghost use Rattle.der_tlv.specs.declared.encoding_rules.EncodingRules.TheVariants.{Der};
 ghost use Rattle.der_elem.specs.OwnContents.{accepts_own};
@@ -15,8 +14,9 @@ ghost use Rattle.der_opaque.specs.DecodingAs.{DecodesAs};
 use crate::date_time::DateTime;
 use crate::digits::two_digits;
 use crate::reading::read_utc;
+use crate::tags::UtcTimeTag;
 use der_elem::{
-    ContentsEq, DecodeValue, DuplicateValue, EncodeValue, FixedTag, Form, FormValue, Tagged,
+    ContentsEq, DecodeValue, DuplicateValue, EncodeValue, Form, FormValue, SameTag, Tagged,
     ValueMemory, ValueOrd, WithoutMemory,
 };
 use der_opaque::{Any, AnyRef};
@@ -164,12 +164,8 @@ impl ValueMemory for UtcTime {
     ghost memory_of_value = { refl };
 }
 
-impl FixedTag for UtcTime {
-    ghost TAG = { tags.UtcTime };
-
-    const TAG: Tag = Tag::UtcTime;
-
-    ghost tag_in_range = { lit< tt };
+impl SameTag for UtcTime {
+    type As = UtcTimeTag;
 }
 
 impl<'a, R: Reader<'a>> DecodeValue<'a, R> for UtcTime {
@@ -199,9 +195,10 @@ impl ValueOrd for UtcTime {
     fn value_cmp(&self, other: &UtcTime) -> Result<Ordering, Error> {
         let year = self.date_time.year % 100;
         let other_year = other.date_time.year % 100;
-        Ok(year
-            .cmp(&other_year)
-            .then(self.date_time.cmp(&other.date_time)))
+        Ok(
+            year.cmp(&other_year)
+                .then(self.date_time.cmp(&other.date_time)),
+        )
     }
 }
 

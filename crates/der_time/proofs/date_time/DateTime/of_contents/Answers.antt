@@ -7,5 +7,5 @@ use Rattle.der_time.proofs.date_time.DateTime.of_contents.Goals as goal
 pub returns-in-Some-to_date_time : goal.returns-in-Some-to_date_time
 returns-in-Some-to_date_time c =
     let same : time_contents c.in-Some-to_date_time.time ≡ c.args.octets.now =
-      ap generalized_contents c.in-Some-to_date_time.ensures ∙ sym c.in-Some.ensures.digits in
+    ap generalized_contents c.in-Some-to_date_time.ensures ∙ sym c.in-Some.ensures.digits in
     (same, generalized_at c.in-Some-to_date_time.time c.args.octets.now same)

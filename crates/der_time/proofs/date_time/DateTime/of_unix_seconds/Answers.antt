@@ -1,6 +1,6 @@
-use Rattle.std.proofs.Common.{◌≡◌, ◌/◌, ◌%◌, ◌*◌, ◌+◌, ◌∙◌, arith, w64}
+use Rattle.std.proofs.Common.{◌≡◌, ◌/◌, ◌%◌, ◌∙◌, arith, w64}
 use Rattle.std.proofs.lemmas.Int.{to_z_pos}
-use Rattle.der_time.specs.UnixTime.{unix_seconds, second_of_day}
+use Rattle.der_time.specs.UnixTime.{second_of_day}
 use Rattle.der_time.specs.UnixTimeLaws.{seconds_on}
 use Rattle.der_time.proofs.date_time.DateTime.of_unix_seconds.Goals as goal
 

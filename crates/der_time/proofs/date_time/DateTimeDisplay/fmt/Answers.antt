@@ -1,4 +1,4 @@
-use Rattle.std.proofs.Common.{◌≡◌, sym, subst, List, ℕ}
+use Rattle.std.proofs.Common.{sym, subst}
 use Rattle.std.specs.Str.{IsUtf8}
 use Rattle.der_time.specs.TimeLaws.{text_utf8}
 use Rattle.der_time.proofs.date_time.DateTimeDisplay.fmt.Goals as goal

@@ -1,4 +1,4 @@
-use Rattle.std.proofs.Common.{◌≡◌, ◌<◌, ◌≤◌, ap, ◌∙◌, subst, inr, arith, ℕ}
+use Rattle.std.proofs.Common.{◌≡◌, ◌<◌, ◌≤◌, ap, ◌∙◌, subst, inr, ℕ}
 use Rattle.der_time.specs.declared.date_time.DateTime.{DateTime}
 use Rattle.der_time.specs.UnixTime.{unix_seconds, end_of_2049, whole_seconds}
 use Rattle.der_time.specs.UnixTimeLaws.{before_2050, from_2050}
@@ -8,7 +8,7 @@ pub returns-in-Ok-from_date_time : goal.returns-in-Ok-from_date_time
 returns-in-Ok-from_date_time c =
     let time = c.in-Ok-from_date_time.time in
     let seconds : unix_seconds time.date_time ≡ whole_seconds c.args.unix_duration =
-      ap (λ (t : DateTime). unix_seconds t) c.in-Ok-from_date_time.ensures ∙ c.in-Ok.ensures.0 in
+    ap (λ (t : DateTime). unix_seconds t) c.in-Ok-from_date_time.ensures ∙ c.in-Ok.ensures.0 in
     (seconds, subst (λ (n : ℕ). n < end_of_2049) seconds (before_2050 time.date_time time.to_2049))
 
 pub returns-in-Err-from_date_time : goal.returns-in-Err-from_date_time

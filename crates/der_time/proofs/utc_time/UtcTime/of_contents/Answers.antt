@@ -9,7 +9,7 @@ pub returns-in-Some-to_date_time : goal.returns-in-Some-to_date_time
 returns-in-Some-to_date_time c =
     let time = c.in-Some-to_date_time.date_time in
     let same : utc_contents (fields_of time) ≡ c.args.octets.now =
-      ap utc_contents c.in-Some-to_date_time.ensures ∙ sym c.in-Some.ensures.digits in
+    ap utc_contents c.in-Some-to_date_time.ensures ∙ sym c.in-Some.ensures.digits in
     let year : time.year ≡ c.in-Some.fields.year = ap (λ (f : Fields). f.year) c.in-Some-to_date_time.ensures in
     let most : time.year < 2050 = omega (arith, year, c.in-Some.ensures.year) in
     (same, utc_at time c.args.octets.now most same)
