@@ -17,3 +17,6 @@ pub use date_time::DateTime;
 pub use generalized_time::GeneralizedTime;
 pub use tags::{GeneralizedTimeTag, UtcTimeTag};
 pub use utc_time::UtcTime;
+
+#[cfg(test)]
+mod tests;
