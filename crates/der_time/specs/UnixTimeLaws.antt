@@ -7,19 +7,19 @@ use Rattle.std.proofs.lemmas.Bool.Decides.{nat_tests}
 use Rattle.std.proofs.lemmas.Int.{by_lt_z}
 use Rattle.std.specs.Int.{IsInRange}
 use Rattle.jiff_core.specs.declared.civil.date.Date.{Date}
-use Rattle.jiff_core.specs.Calendar.{day_count, days_from_civil}
+use Rattle.jiff_core.specs.Calendar.{day_count, days_from_civil, IsYear}
 use Rattle.jiff_core.specs.Date.{epoch_day}
 use Rattle.jiff_core.proofs.SignedLemmas.{signed_arith}
 use Rattle.jiff_core.proofs.CalendarLemmas.{day_count-epoch, days_from_civil-day_count, day_count-later_year, day_count-day_of_year, day_count-lt_year}
 use Rattle.jiff_core.proofs.MarchLemmas.{day_count-early}
-use Rattle.jiff_core.proofs.DateLemmas.{civil, IsEarlier, epoch_day-lt}
+use Rattle.jiff_core.proofs.DateLemmas.{civil, IsEarlier, epoch_day-lt, epoch_day_range}
 use Rattle.der_tlv.specs.OctetLaws.{lex-equal}
 use Rattle.der_time.specs.declared.fields.Fields.{Fields}
 use Rattle.der_time.specs.declared.date_time.DateTime.{DateTime}
 use Rattle.der_time.specs.DateTime.{fields_of, time_contents}
 use Rattle.der_time.specs.TimeLaws.{generalized_injective}
 use Rattle.der_time.specs.TimeOrder.{fields_cmp, then_assoc, ord_is_contents_ord}
-use Rattle.der_time.specs.UnixTime.{day_number, second_of_day, unix_seconds, IsOnDate, end_of_2049}
+use Rattle.der_time.specs.UnixTime.{day_number, second_of_day, unix_seconds, IsOnDate, end_of_2049, last_second}
 
 -- a date from day 0 on is of the year 1970 or a later one
 pub year_from_day : (d : Date) → pos 0 ≤ℤ epoch_day d → pos 1970 ≤ℤ d.year
@@ -63,13 +63,16 @@ pub days_are : (t : DateTime) → days_from_civil (pos t.year) t.month t.day ≡
 unfolding day_number
 days_are t = own_abs _ (day_not_negative t)
 
+year_of : (t : DateTime) → IsYear (pos t.year)
+year_of t = (omega (arith, signed_arith, t.year_in), omega (arith, signed_arith, t.year_in))
+
 -- the date as jiff has it
 pub date_of : DateTime → Date
 date_of t = record {
   year = pos t.year;
   month = t.month;
   day = t.day;
-  year_in = (omega (arith, signed_arith, t.year_in), omega (arith, signed_arith, t.year_in));
+  year_in = year_of t;
   month_in = t.month_in;
   day_in = t.day_in;
 }
@@ -165,4 +168,11 @@ unfolding date_of
 before_2050 t h =
     let before = day_count-lt_year (pos t.year) t.month t.day (pos 2050) 1 1 (civil (date_of t)) (lit≤ tt) (omega (arith, signed_arith)) in
     let day : day_number t < 29220 = omega (arith, signed_arith, days_are t, days_from_civil-day_count (pos t.year) t.month t.day, first_of_2050, before) in
+    omega (arith, day, second_of_day_bound t)
+
+-- no time is after the last second
+pub most_seconds : (t : DateTime) → unix_seconds t ≤ last_second
+unfolding date_of
+most_seconds t =
+    let day : day_number t ≤ 2_932_896 = omega (arith, signed_arith, days_are t, (epoch_day_range (date_of t)).1) in
     omega (arith, day, second_of_day_bound t)

@@ -202,9 +202,10 @@ impl DateTime {
 
     /// The duration since 1970-01-01T00:00:00Z: 86400 seconds for each day, and those of the time of
     /// day.
-    #[tactic(auto, unfolding(crate::specs::UnixTime::day_number))]
+    #[tactic(auto, using(crate::specs::UnixTimeLaws::most_seconds), unfolding(crate::specs::UnixTime::day_number))]
     pub fn unix_duration(&self) -> Duration
-        ensures { LastsSeconds (unix_seconds self.now) result }
+        ensures seconds { LastsSeconds (unix_seconds self.now) result }
+        ensures bounded { unix_seconds self.now ≤ last_second }
     {
         let day = self.date().to_unix_epoch_day().unsigned_abs();
         let second = self.hour as u64 * 3600 + self.minutes as u64 * 60 + self.seconds as u64;
