@@ -3,6 +3,7 @@
 ghost use Rattle.std.specs.Prelude.{◌≡◌, MatchOption, false};
 ghost use Rattle.der_time.specs.Times.{is_time};
 
+use crate::const_range::const_contains_u8;
 use crate::date_time::DateTime;
 use jiff_core::civil;
 
@@ -25,14 +26,17 @@ impl Fields {
     pub fn to_date_time(self) -> Option<DateTime>
         ensures { MatchOption result (is_time self ≡ false) (λ t. fields_of t ≡ self) }
     {
-        if self.year < 1970 || self.year > 9999 || self.month < 1 || self.month > 12 {
+        if self.year < 1970 || self.year > 9999 || !const_contains_u8(1..=12, self.month) {
             return None;
         }
         let last = civil::days_in_month(self.year as i16, self.month);
-        if self.day < 1 || self.day > last {
+        if !const_contains_u8(1..=last, self.day) {
             return None;
         }
-        if self.hour > 23 || self.minutes > 59 || self.seconds > 59 {
+        if !const_contains_u8(0..=23, self.hour)
+            || !const_contains_u8(0..=59, self.minutes)
+            || !const_contains_u8(0..=59, self.seconds)
+        {
             return None;
         }
         Some(DateTime {
