@@ -5,7 +5,6 @@ ghost use Rattle.std.specs.Int.{IsInRange};
 ghost use Rattle.jiff_core.specs.Calendar.{days_in_month};
 ghost use Rattle.jiff_core.specs.Date.{epoch_day};
 ghost use Rattle.der_tlv.specs.declared.error.ErrorKind.TheVariants as kinds;
-ghost use Rattle.der_tlv.specs.declared.tag.Tag.TheVariants as tags;
 ghost use Rattle.der_elem.specs.OwnContents.{accepts_own};
 ghost use Rattle.der_elem.specs.OwnContentsLaws.{parse_of_own, same_length_own, accepts_own_contents, copy_contents_own};
 
@@ -18,7 +17,7 @@ use der_elem::{
     ContentsEq, DecodeValue, DuplicateValue, EncodeValue, FormValue, OrdIsValueOrd, SameTag,
     ValueMemory, WithoutMemory,
 };
-use der_tlv::{Error, ErrorKind, Header, Length, Reader, Tag, Writer};
+use der_tlv::{Error, ErrorKind, Header, Length, Reader, Writer};
 use jiff_core::civil;
 use std::alloc::Global;
 use std::str::FromStr;
@@ -31,14 +30,24 @@ const LAST_SECOND: u64 = 253_402_300_799;
 /// A second from 1970-01-01T00:00:00Z to 9999-12-31T23:59:59Z: a true date and a time of day.
 ///
 /// It is encoded as a GeneralizedTime: 1991-05-06T23:45:40Z as 18 0F and the octets of
-/// `19910506234540Z`.
+/// `19910506234540Z`. Reading, writing and the order are those of a `GeneralizedTime`.
+///
+/// # Errors
+/// Reading refuses 15 octets that end with `Z` and begin with two digits, of which the third and
+/// fourth are not both digits (14), and all others that are not such octets of a true time (13).
 #[derive(Clone, Copy, Debug, PartialEq, Eq, PartialOrd, Ord)]
 pub struct DateTime {
+    /// The year, from 1970 to 9999.
     pub year: u16,
+    /// The month, from 1 to 12.
     pub month: u8,
+    /// The day of the month, from 1.
     pub day: u8,
+    /// The hour, from 0 to 23.
     pub hour: u8,
+    /// The minutes, from 0 to 59.
     pub minutes: u8,
+    /// The seconds, from 0 to 59.
     pub seconds: u8,
     pub ghost year_in: { IsInRange 1970 9999 year },
     pub ghost month_in: { IsInRange 1 12 month },

@@ -36,6 +36,7 @@ use std::time::Duration;
 /// fourth are not both digits (14), and all others that are not such octets of a true time (13).
 #[derive(Clone, Copy, Debug, PartialEq, Eq, PartialOrd, Ord)]
 pub struct GeneralizedTime {
+    /// The time.
     pub date_time: DateTime,
 }
 

@@ -5,7 +5,6 @@
 //! stand for 19YY, less for 20YY.
 
 ghost use Rattle.std.specs.Prelude.{◌≡◌, ◌≤◌, ◌<◌, refl, false};
-ghost use Rattle.der_tlv.specs.declared.tag.Tag.TheVariants as tags;
 ghost use Rattle.der_tlv.specs.declared.encoding_rules.EncodingRules.TheVariants.{Der};
 ghost use Rattle.der_elem.specs.OwnContents.{accepts_own};
 ghost use Rattle.der_elem.specs.OwnContentsLaws.{parse_of_own, same_length_own, accepts_own_contents, copy_contents_own};
@@ -34,6 +33,7 @@ use std::time::Duration;
 /// Reading refuses octets that are not such octets of a true time, and the years 1950 to 1969 (13).
 #[derive(Clone, Copy, Debug, PartialEq, Eq, PartialOrd, Ord)]
 pub struct UtcTime {
+    /// The time.
     pub date_time: DateTime,
     pub ghost to_2049: { date_time.year ≤ 2049 },
 }
