@@ -1,0 +1,11 @@
+pub mod Digits
+pub mod Times
+pub mod Reading
+pub mod DateTime
+pub mod TimeLaws
+pub mod TimeOrder
+pub mod GeneralizedTime
+pub mod UtcTime
+pub mod UtcTimeLaws
+pub mod UnixTime
+pub mod UnixTimeLaws

@@ -1,0 +1,18 @@
+-- What contracts see of a UTCTime.
+use Rattle.std.specs.Prelude.{◌≡◌, ℕ, ◌<◌, List, Result, Ok, Err}
+use Rattle.der_tlv.specs.declared.error.ErrorKind.TheVariants as kinds
+use Rattle.der_tlv.specs.declared.error.Error.{Error}
+use Rattle.der_tlv.specs.declared.tag.Tag.TheVariants as tags
+use Rattle.der_time.specs.declared.date_time.DateTime.{DateTime}
+use Rattle.der_time.specs.declared.utc_time.UtcTime.{UtcTime}
+use Rattle.der_time.specs.Times.{utc_contents}
+use Rattle.der_time.specs.DateTime.{fields_of}
+
+-- its contents octets
+abbrev pub utc_time_contents : UtcTime → List ℕ
+utc_time_contents t = utc_contents (fields_of t.date_time)
+
+-- the same time, or (13) after 2049
+abbrev pub TakesTime : DateTime → Result UtcTime Error → Type 0
+TakesTime time (Ok t) = t.date_time ≡ time
+TakesTime time (Err e) = (e.kind ≡ kinds.Value tags.UtcTime) × (2049 < time.year)

@@ -1,0 +1,239 @@
+//! GeneralizedTime (X.680 46, X.690 11.7, RFC 5280 4.1.2.5.2).
+//!
+//! The tag is 18 (hexadecimal). The contents octets are 15: the year in four digits, then month,
+//! day, hour, minutes and seconds in two digits each, then `Z`.
+
+ghost use Rattle.std.specs.Prelude.{◌≡◌, refl, false};
+ghost use Rattle.der_tlv.specs.declared.error.ErrorKind.TheVariants as kinds;
+ghost use Rattle.der_tlv.specs.declared.tag.Tag.TheVariants as tags;
+ghost use Rattle.der_tlv.specs.declared.encoding_rules.EncodingRules.TheVariants.{Der};
+ghost use Rattle.der_elem.specs.OwnContents.{accepts_own};
+ghost use Rattle.der_elem.specs.OwnContentsLaws.{parse_of_own, same_length_own, accepts_own_contents, copy_contents_own};
+ghost use Rattle.der_opaque.specs.DecodingAs.{DecodesAs};
+ghost use Rattle.der_time.specs.Reading.{parse_generalized};
+ghost use Rattle.der_time.specs.GeneralizedTime.{generalized_time_contents};
+ghost use Rattle.der_time.specs.UnixTime.{unix_seconds, LastsSeconds, IsTimeAfter};
+ghost use Rattle.der_time.specs.TimeLaws.{generalized_of};
+ghost use Rattle.der_time.specs.TimeOrder.{ord_is_contents_ord, eq_is_contents_eq};
+
+use crate::date_time::DateTime;
+use crate::tags::GeneralizedTimeTag;
+use der_elem::{
+    ContentsEq, DecodeValue, DuplicateValue, EncodeValue, Form, FormValue, OrdIsValueOrd, SameTag,
+    Tagged, ValueMemory, WithoutMemory,
+};
+use der_opaque::{Any, AnyRef};
+use der_tlv::{Error, Header, Length, Reader, Tag, Writer};
+use std::alloc::Global;
+use std::time::Duration;
+
+/// A GeneralizedTime: a second from 1970 to 9999.
+///
+/// 1991-05-06T23:45:40Z is encoded as 18 0F and the octets of `19910506234540Z`.
+///
+/// # Errors
+/// Reading refuses 15 octets that end with `Z` and begin with two digits, of which the third and
+/// fourth are not both digits (14), and all others that are not such octets of a true time (13).
+#[derive(Clone, Copy, Debug, PartialEq, Eq, PartialOrd, Ord)]
+pub struct GeneralizedTime {
+    /// The time.
+    pub date_time: DateTime,
+}
+
+impl GeneralizedTime {
+    /// The same time.
+    pub fn from_date_time(date_time: DateTime) -> GeneralizedTime
+        ensures { result.date_time ≡ date_time }
+    {
+        GeneralizedTime { date_time }
+    }
+
+    /// The same time.
+    pub fn to_date_time(&self) -> DateTime
+        ensures { result ≡ self.now.date_time }
+    {
+        self.date_time
+    }
+
+    /// The time at which the whole seconds of this duration since 1970-01-01T00:00:00Z are over. A
+    /// fraction of a second is dropped.
+    ///
+    /// # Errors
+    /// (13) for more than 253402300799 seconds, also by less than a second.
+    pub fn from_unix_duration(unix_duration: Duration) -> Result<GeneralizedTime, Error>
+        ensures { IsTimeAfter (λ t. t.date_time) (kinds.Value tags.GeneralizedTime) unix_duration result }
+    {
+        match DateTime::from_unix_duration(unix_duration) {
+            Ok(date_time) => Ok(GeneralizedTime { date_time }),
+            Err(_) => Err(Error::from_kind(Tag::GeneralizedTime.value_error())),
+        }
+    }
+
+    /// The duration since 1970-01-01T00:00:00Z.
+    pub fn to_unix_duration(&self) -> Duration
+        ensures { LastsSeconds (unix_seconds self.now.date_time) result }
+    {
+        self.date_time.unix_duration()
+    }
+}
+
+impl FormValue for GeneralizedTime {
+    ghost contents = { generalized_time_contents };
+
+    ghost one_form_value = { λ v w. Unit {0} };
+
+    ghost re_reads_value = { λ v. false };
+
+    ghost accepts_value = { accepts_own generalized_time_contents };
+
+    ghost parse_value = { parse_generalized };
+
+    ghost readable_value = { λ v. Unit {0} };
+
+    ghost has_tag = { λ v t. Unit {0} };
+
+    ghost VALUE_TAKES_MEMORY = { false };
+
+    ghost parse_of_accepted_value = { parse_of_own generalized_time_contents parse_generalized (λ rules v p. generalized_of v.date_time) };
+
+    ghost same_length_value = { same_length_own generalized_time_contents };
+
+    ghost accepts_contents = { accepts_own_contents generalized_time_contents };
+
+    ghost only_readable_value = { λ rules v c a. tt };
+
+    ghost accepts_one_form_value = { λ rules v w c d a b. tt };
+
+    ghost re_reads_memory_value = { λ v e. e };
+}
+
+impl ValueMemory for GeneralizedTime {
+    type OfValue = WithoutMemory;
+
+    ghost memory_of_value = { refl };
+}
+
+impl SameTag for GeneralizedTime {
+    type As = GeneralizedTimeTag;
+}
+
+impl<'a, R: Reader<'a>> DecodeValue<'a, R> for GeneralizedTime {
+    fn decode_value(
+        _alloc: Global,
+        reader: &mut R,
+        header: Header,
+    ) -> Result<GeneralizedTime, Error> {
+        let octets = reader.read_slice(header.length)?;
+        match DateTime::of_contents(octets) {
+            Ok(date_time) => Ok(GeneralizedTime { date_time }),
+            Err(kind) => Err(reader.error(kind)),
+        }
+    }
+}
+
+impl EncodeValue for GeneralizedTime {
+    #[tactic(auto, using(crate::specs::TimeLaws::length_generalized))]
+    fn value_len(&self) -> Result<Length, Error> {
+        Ok(Length::new(15))
+    }
+
+    fn encode_value<W: Writer>(&self, writer: &mut W) -> Result<(), Error> {
+        writer.write(&self.date_time.contents())
+    }
+}
+
+impl OrdIsValueOrd for GeneralizedTime {
+    ghost ord_is_value_ord = { λ v w. ord_is_contents_ord v.date_time w.date_time };
+}
+
+impl ContentsEq for GeneralizedTime {
+    ghost contents_eq = { λ v w one. eq_is_contents_eq v.date_time w.date_time one };
+}
+
+impl DuplicateValue for GeneralizedTime {
+    ghost is_copy_value = { λ v w. w ≡ v };
+
+    ghost takes_memory_to_copy_value = { false };
+
+    fn duplicate_value(&self) -> Result<GeneralizedTime, Error> {
+        Ok(*self)
+    }
+
+    ghost copy_contents = { copy_contents_own generalized_time_contents };
+
+    ghost copy_form_value = { λ v w x e f. tt };
+
+    ghost copy_re_reads_value = { λ v w e. refl };
+}
+
+impl From<DateTime> for GeneralizedTime {
+    ghost from_gives = { λ t r. r.date_time ≡ t };
+
+    fn from(date_time: DateTime) -> GeneralizedTime {
+        GeneralizedTime { date_time }
+    }
+}
+
+impl From<&DateTime> for GeneralizedTime {
+    ghost from_gives = { λ t r. r.date_time ≡ t.now };
+
+    fn from(date_time: &DateTime) -> GeneralizedTime {
+        GeneralizedTime {
+            date_time: *date_time,
+        }
+    }
+}
+
+impl From<&GeneralizedTime> for GeneralizedTime {
+    ghost from_gives = { λ t r. r ≡ t.now };
+
+    fn from(time: &GeneralizedTime) -> GeneralizedTime {
+        *time
+    }
+}
+
+impl From<GeneralizedTime> for DateTime {
+    ghost from_gives = { λ t r. r ≡ t.date_time };
+
+    fn from(time: GeneralizedTime) -> DateTime {
+        time.date_time
+    }
+}
+
+impl From<&GeneralizedTime> for DateTime {
+    ghost from_gives = { λ t r. r ≡ t.now.date_time };
+
+    fn from(time: &GeneralizedTime) -> DateTime {
+        time.date_time
+    }
+}
+
+impl<'a> TryFrom<AnyRef<'a>> for GeneralizedTime {
+    type Error = Error;
+
+    ghost try_from_gives = { λ a r. DecodesAs ⟦<GeneralizedTime as Form>⟧ ⟦<GeneralizedTime as FormValue>⟧ Der (⟦<AnyRef<'a> as Tagged>⟧.tag_of a) (⟦<AnyRef<'a> as FormValue>⟧.contents a) r };
+
+    /// # Errors
+    /// (4) with no expected tag for another tag; (14) or (13) for octets that are no time.
+    fn try_from(any: AnyRef<'a>) -> Result<GeneralizedTime, Error> {
+        if !any.tag().is(Tag::GeneralizedTime) {
+            return Err(Error::from_kind(any.tag().unexpected_error(None)));
+        }
+        match DateTime::of_contents(any.value()) {
+            Ok(date_time) => Ok(GeneralizedTime { date_time }),
+            Err(kind) => Err(Error::from_kind(kind)),
+        }
+    }
+}
+
+impl<'a> TryFrom<&'a Any> for GeneralizedTime {
+    type Error = Error;
+
+    ghost try_from_gives = { λ a r. DecodesAs ⟦<GeneralizedTime as Form>⟧ ⟦<GeneralizedTime as FormValue>⟧ Der (⟦<Any as Tagged>⟧.tag_of a.now) (⟦<Any as FormValue>⟧.contents a.now) r };
+
+    /// # Errors
+    /// (4) with no expected tag for another tag; (14) or (13) for octets that are no time.
+    fn try_from(any: &'a Any) -> Result<GeneralizedTime, Error> {
+        GeneralizedTime::try_from(any.to_ref())
+    }
+}

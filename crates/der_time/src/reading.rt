@@ -1,0 +1,92 @@
+//! The six numbers that contents octets have as digits.
+
+ghost use Rattle.std.specs.Prelude.{◌≡◌, ◌<◌, ◌/◌, ◌%◌, ◌*◌, ◌+◌, ◌++◌, IfSome, length, ◌^◌};
+ghost use Rattle.der_time.specs.Times.{after_year, clock_contents, generalized_contents, utc_contents};
+ghost use Rattle.der_time.specs.Reading as spec;
+
+use crate::digits::read_two_digits;
+use crate::fields::Fields;
+use der_tlv::{ErrorKind, Tag};
+
+/// Hour, minutes and seconds in two digits each, and Z at the end.
+#[tactic(auto, unfolding(crate::specs::Reading::read_clock, crate::specs::Times::clock_contents))]
+fn read_clock(year: u16, month: u8, day: u8, octets: &[u8]) -> Option<Fields>
+    ensures value { result ≡ spec.read_clock year month day octets.now }
+    ensures digits { IfSome result (λ f. octets.now ≡ clock_contents f) }
+    ensures date { IfSome result (λ f. (f.year ≡ year) × (f.month ≡ month) × (f.day ≡ day)) }
+{
+    let (hour, octets) = read_two_digits(octets)?;
+    let (minutes, octets) = read_two_digits(octets)?;
+    let (seconds, octets) = read_two_digits(octets)?;
+    if octets != [b'Z'].as_slice() {
+        return None;
+    }
+    Some(Fields {
+        year,
+        month,
+        day,
+        hour,
+        minutes,
+        seconds,
+    })
+}
+
+/// Month and day before them.
+#[tactic(auto, unfolding(crate::specs::Reading::read_after_year, crate::specs::Times::after_year))]
+fn read_after_year(year: u16, octets: &[u8]) -> Option<Fields>
+    ensures value { result ≡ spec.read_after_year year octets.now }
+    ensures digits { IfSome result (λ f. octets.now ≡ after_year f) }
+    ensures year { IfSome result (λ f. f.year ≡ year) }
+{
+    let (month, octets) = read_two_digits(octets)?;
+    let (day, octets) = read_two_digits(octets)?;
+    read_clock(year, month, day, octets)
+}
+
+/// The numbers of a GeneralizedTime: a year of four digits before them.
+#[tactic(auto, unfolding(crate::specs::Reading::read_generalized, crate::specs::Times::generalized_contents))]
+pub fn read_generalized(octets: &[u8]) -> Option<Fields>
+    ensures value { result ≡ spec.read_generalized octets.now }
+    ensures digits { IfSome result (λ f. octets.now ≡ generalized_contents f) }
+{
+    let (century, octets) = read_two_digits(octets)?;
+    let (year, octets) = read_two_digits(octets)?;
+    read_after_year(century as u16 * 100 + year as u16, octets)
+}
+
+/// The numbers of a UTCTime: a year of two digits before them, of which 50 and more is 19YY and
+/// less is 20YY.
+#[tactic(auto, unfolding(crate::specs::Reading::read_utc, crate::specs::Times::utc_contents))]
+pub fn read_utc(octets: &[u8]) -> Option<Fields>
+    ensures value { result ≡ spec.read_utc octets.now }
+    ensures digits { IfSome result (λ f. octets.now ≡ utc_contents f) }
+    ensures year { IfSome result (λ f. f.year < 2050) }
+{
+    let (year, octets) = read_two_digits(octets)?;
+    let century = if year < 50 { 2000 } else { 1900 };
+    read_after_year(century + year as u16, octets)
+}
+
+/// Whether these are 15 octets, Z at their end and digits at their beginning, of which the third
+/// and fourth are not both digits.
+#[tactic(auto, unfolding(crate::specs::Reading::lacks_year))]
+fn lacks_year(octets: &[u8]) -> bool
+    ensures { result ≡ spec.lacks_year octets.now }
+{
+    octets.len() == 15
+        && octets[14] == b'Z'
+        && read_two_digits(octets).is_some()
+        && read_two_digits(&octets[2..]).is_none()
+}
+
+/// The fault of octets that are no GeneralizedTime: (14) where the year lacks its last two digits,
+/// else (13).
+pub fn generalized_fault(octets: &[u8]) -> ErrorKind
+    ensures { result ≡ spec.generalized_fault octets.now }
+{
+    if lacks_year(octets) {
+        ErrorKind::DateTime
+    } else {
+        Tag::GeneralizedTime.value_error()
+    }
+}
