@@ -15,6 +15,7 @@ use Rattle.der_elem.specs.Parsing.{Parse, ContentsParse, parse_tagged}
 use Rattle.der_elem.specs.Decoding.{parse_all}
 use Rattle.der_elem.specs.Boolean.{parse_boolean}
 use Rattle.der_elem.specs.Null.{parse_null}
+use Rattle.der_elem.specs.Utf8String.{parse_utf8}
 use Rattle.der_elem.specs.IntegerReading.{parse_signed, parse_unsigned}
 use Rattle.der_opaque.specs.Opaque.{parse_octets}
 use Rattle.der_opaque.specs.ObjectIdentifierOctets.{parse_identifier}
@@ -22,7 +23,6 @@ use Rattle.der_opaque.specs.AnyForm.{parse_any}
 use Rattle.der_numbers.specs.AnyLength.{parse_integer, parse_natural}
 use Rattle.der_ascii.specs.Characters.{string_tag, parse_string}
 use Rattle.der_bits.specs.BitString.{parse_bit_string}
-use Rattle.der_text.specs.Utf8Octets.{parse_utf8}
 use Rattle.der_text.specs.BmpUnits.{parse_bmp}
 use Rattle.der_nest.specs.SequencesOf.{parse_items_up_to}
 use Rattle.der_nest.specs.Sets.{parse_set}
@@ -115,6 +115,7 @@ string_types name =
     else if bytes_eq name (codes "ia5") then Some (canonical_string 22)
     else if bytes_eq name (codes "ia5ref") then Some (canonical_string 22)
     else if bytes_eq name (codes "utf8ref") then Some (canonical_tagged Utf8String parse_utf8)
+    else if bytes_eq name (codes "string") then Some (canonical_tagged Utf8String parse_utf8)
     else if bytes_eq name (codes "generalref") then Some (canonical_tagged GeneralString parse_octets)
     else if bytes_eq name (codes "bmp") then Some (canonical_tagged BmpString parse_bmp)
     else None

@@ -187,6 +187,7 @@ fn canonical_of_string(alloc: Global, name: &[u8], octets: &[u8]) -> Option<Resu
         "ia5" => Ia5String,
         "ia5ref" => Ia5StringRef,
         "utf8ref" => Utf8StringRef,
+        "string" => String,
         "generalref" => GeneralStringRef,
         "bmp" => BmpString,
     }
