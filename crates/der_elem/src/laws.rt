@@ -1,6 +1,6 @@
 //! Laws of encodings: functions that do nothing, and promise what holds of all encodings.
 
-ghost use Rattle.der_elem.specs.EncodingLaws.{NoneBeginsAnother, PaddingIsLexicographic, FirstPairDecides, OneValueIsRead, EncodingsReadBack, IntegersAreFewest};
+ghost use Rattle.der_elem.specs.EncodingLaws.{NoneBeginsAnother, NoneReadBeginsAnother, PaddingIsLexicographic, FirstPairDecides, OneValueIsRead, EncodingsReadBack, IntegersAreFewest};
 
 use crate::form::Form;
 use crate::tag::Tagged;
@@ -8,6 +8,13 @@ use crate::tag::Tagged;
 /// No encoding is a proper beginning of another, for any two tags and contents octets.
 pub fn no_encoding_begins_another()
     ensures { NoneBeginsAnother }
+{}
+
+/// No octets that are read as a tagged value, under any rules, are a proper beginning of octets that
+/// are read as one of the same or another type: so octets that are cut short, or that have more
+/// behind them, are read as no such value.
+pub fn no_octets_read_begin_others<T: Tagged, U: Tagged>()
+    ensures { NoneReadBeginsAnother T.Form U.Form }
 {}
 
 /// The lexicographic order of two encodings is that of X.690 11.6, where zero octets are added to
