@@ -29,3 +29,4 @@ pub mod EncodingLaws
 pub mod Options
 pub mod OptionLaws
 pub mod Utf8String
+pub mod Fields
