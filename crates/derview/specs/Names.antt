@@ -27,6 +27,7 @@ use Rattle.der_text.specs.BmpUnits.{parse_bmp}
 use Rattle.der_nest.specs.SequencesOf.{parse_items_up_to}
 use Rattle.der_nest.specs.Sets.{parse_set}
 use Rattle.der_wrap.specs.TaggedValues.{parse_explicit}
+use Rattle.derview.specs.AlgorithmIdentifier.{parse_algorithm_identifier}
 
 -- the canonical encoding of what some octets encode as one type, or the first fault
 abbrev pub CanonicalFunction : Type 0
@@ -132,18 +133,20 @@ bit_types name =
 abbrev pub parse_u16 : Parse
 parse_u16 = parse_tagged Integer (parse_unsigned 2)
 
--- a SEQUENCE whose contents octets are kept, and one of at most five items
+-- a SEQUENCE whose contents octets are kept, one of at most five items, and an AlgorithmIdentifier
 unfoldable pub nested_types : List ℕ → Option CanonicalFunction
 nested_types name =
     if bytes_eq name (codes "sequenceref") then Some (canonical_tagged Sequence parse_octets)
     else if bytes_eq name (codes "seqof5-u16") then Some (canonical_tagged Sequence (parse_items_up_to 5 parse_u16))
+    else if bytes_eq name (codes "algid") then Some (canonical_tagged Sequence parse_algorithm_identifier)
     else None
 
--- sets of integers, and of any values
+-- sets of integers, of any values, and of AlgorithmIdentifiers
 unfoldable pub set_types : List ℕ → Option CanonicalFunction
 set_types name =
     if bytes_eq name (codes "setvec-u16") then Some (canonical_tagged Set (parse_set parse_u16))
     else if bytes_eq name (codes "setvec-anyref") then Some (canonical_tagged Set (parse_set parse_any))
+    else if bytes_eq name (codes "setvec-algid") then Some (canonical_tagged Set (parse_set (parse_tagged Sequence parse_algorithm_identifier)))
     else None
 
 -- the first of two that there is

@@ -9,9 +9,11 @@ use source::LineReader;
 use std::io::{self, BufReader};
 use std::process::ExitCode;
 
+mod algorithm_identifier;
 mod answer;
 mod canonical;
 mod fault;
+mod fields;
 mod lines;
 mod names;
 mod run;

@@ -3,6 +3,7 @@ ghost use Rattle.std.specs.Prelude.{◌≡◌};
 ghost use Rattle.std.specs.Str.{bytes_eq};
 ghost use Rattle.derview.specs.Names.{canonical_function_of, plain_types, signed_types, unsigned_types, opaque_types, composed_types, tagged_types, number_types, string_types, bit_types, nested_types, set_types, AnswersAs};
 
+use crate::algorithm_identifier::AlgorithmIdentifier;
 use crate::canonical::canonical;
 use crate::sets::canonical_set;
 use der_ascii::{
@@ -213,6 +214,7 @@ fn canonical_of_nested(alloc: Global, name: &[u8], octets: &[u8]) -> Option<Resu
         alloc, name, octets;
         "sequenceref" => SequenceRef,
         "seqof5-u16" => SequenceOf<u16, 5>,
+        "algid" => AlgorithmIdentifier,
     }
 }
 
@@ -225,6 +227,9 @@ fn canonical_of_set(alloc: Global, name: &[u8], octets: &[u8]) -> Option<Result<
     }
     if is(name, "setvec-anyref") {
         return Some(canonical_set::<AnyRef>(alloc, octets));
+    }
+    if is(name, "setvec-algid") {
+        return Some(canonical_set::<AlgorithmIdentifier>(alloc, octets));
     }
     None
 }
