@@ -1,5 +1,5 @@
 -- The fields of a SEQUENCE, of which the second is OPTIONAL (X.690 8.9).
-use Rattle.std.proofs.Common.{◌≡◌, ℕ, List, ◌++◌, Option, Some, None, refl, ap, ◌∙◌}
+use Rattle.std.proofs.Common.{◌≡◌, ℕ, List, ◌++◌, Option, Some, None, refl}
 use Rattle.std.specs.Option.{option_cmp}
 use Rattle.std.specs.Ordering.{ordering_then, on}
 use Rattle.der_tlv.specs.declared.tag.Tag.{Tag}
