@@ -11,3 +11,4 @@ pub mod ItemReading
 pub mod Ordered
 pub mod Copied
 pub mod ArrayReading
+pub mod Utf8

@@ -18,6 +18,12 @@ pub record BeginsWith (tags : Tag → Bool) (one : Bool) (octets : List ℕ) : T
   pub is_tag : IsTag tag
   pub is_one : tags tag ≡ one
 
+-- octets that are a tag's identifier octets, length octets and as many contents octets (X.690 8.1.1)
+pub record IsTlv (octets : List ℕ) : Type 0 where
+  pub tag : Tag
+  pub contents : List ℕ
+  pub octets_are : octets ≡ tlv tag contents
+
 -- Whether octets are told from what follows: where there are none, nothing follows, or it begins with none of these tags.
 abbrev pub MayFollow : (Tag → Bool) → List ℕ → List ℕ → Type 0
 MayFollow tags (y ∷ octets) x = Unit {0}

@@ -1,8 +1,9 @@
 -- What holds of all encodings, stated for the functions that promise it.
-use Rattle.std.specs.Prelude.{◌≡◌, ℕ, ℤ, ◌<◌, ◌≤◌, ◌^◌, List, ◌++◌, length, flat_map, Ok}
+use Rattle.std.specs.Prelude.{◌≡◌, ℕ, ℤ, ◌<◌, ◌≤◌, ◌^◌, List, [], ◌++◌, length, flat_map, Ok}
 use Rattle.std.specs.Ordering.{on}
 use Rattle.std.specs.Cmp.Lexicographic.{slice_cmp}
 use Rattle.der_tlv.specs.declared.tag.Tag.{Tag}
+use Rattle.der_tlv.specs.declared.encoding_rules.EncodingRules.{EncodingRules}
 use Rattle.der_tlv.specs.declared.encoding_rules.EncodingRules.TheVariants.{Der}
 use Rattle.der_tlv.specs.Octets.{lex}
 use Rattle.der_tlv.specs.HeaderOctets.{tlv}
@@ -14,6 +15,11 @@ use Rattle.der_elem.specs.PaddedOrder.{padded_cmp}
 -- no encoding is a proper beginning of another: what two encodings begin alike has the same tag, contents and tail
 abbrev pub NoneBeginsAnother : Type 0
 NoneBeginsAnother = (t u : Tag) (c d x y : List ℕ) → tlv t c ++ x ≡ tlv u d ++ y → (t ≡ u) × (c ≡ d) × (x ≡ y)
+
+-- no octets that are read as a value of one form are a proper beginning of octets that are read as one of the same or another form
+abbrev pub NoneReadBeginsAnother : {T U : Type 0} → form.Ghosts T → form.Ghosts U → Type 0
+NoneReadBeginsAnother {T} {U} F G =
+    (rules others : EncodingRules) (v : T) (w : U) (octets more : List ℕ) → F.accepts rules v octets → G.accepts others w (octets ++ more) → more ≡ []
 
 -- to pad the shorter of two encodings with zeros does not change their order
 abbrev pub PaddingIsLexicographic : Type 0

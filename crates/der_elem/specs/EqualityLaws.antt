@@ -17,7 +17,7 @@ and_true a b h k = ap (λ a. a && b) h ∙ k
 
 module _ {T : Type 0} (tag_of : T → Tag) (contents encoding : T → List ℕ) (encoding_is : (v : T) → encoding v ≡ tlv (tag_of v) (contents v)) where
   -- the first of two joined encodings is told from what follows
-  encoding-unique : (v w : T) (x y : List ℕ) → encoding v ++ x ≡ encoding w ++ y → (encoding v ≡ encoding w) × (x ≡ y)
+  pub encoding-unique : (v w : T) (x y : List ℕ) → encoding v ++ x ≡ encoding w ++ y → (encoding v ≡ encoding w) × (x ≡ y)
   encoding-unique v w x y e =
       let f : tlv (tag_of v) (contents v) ++ x ≡ tlv (tag_of w) (contents w) ++ y = ap (λ s. s ++ x) (sym (encoding_is v)) ∙ e ∙ ap (λ s. s ++ y) (encoding_is w) in
       let same = tlv-unique (tag_of v) (tag_of w) (contents v) (contents w) x y f in

@@ -28,3 +28,5 @@ pub mod PaddedLaws
 pub mod EncodingLaws
 pub mod Options
 pub mod OptionLaws
+pub mod Utf8String
+pub mod Fields

@@ -14,6 +14,7 @@ use Rattle.der_tlv.specs.LengthOctets.{length_octets}
 use Rattle.der_tlv.specs.HeaderOctets.{header_octets, tlv}
 use Rattle.der_tlv.specs.HeaderLaws.{tlv-unique}
 use Rattle.der_elem.specs.declared.form.Form as form
+use Rattle.der_elem.specs.Accepting.{IsTlv}
 
 pub length-tlv-positive : (t : Tag) (c : List ℕ) → 0 < length (tlv t c)
 length-tlv-positive t c = omega (arith, length-append (header_octets t (length c)) c, length-append (identifier t) (length_octets (length c)), length-identifier-positive t)
@@ -23,6 +24,12 @@ pub tlv-beginning : (t u : Tag) (c d : List ℕ) → SameBeginning (tlv t c) (tl
 tlv-beginning t u c d = record {
   same = λ x y e. let same = tlv-unique t u c d x y e in ap (λ t. tlv t c) same.0 ∙ ap (tlv u) same.1;
 }
+
+-- what stands behind octets that are an encoding, and is with them an encoding too, is nothing
+pub nothing_behind : (octets more : List ℕ) → IsTlv octets → IsTlv (octets ++ more) → more ≡ []
+nothing_behind octets more a b =
+    let e : tlv a.tag a.contents ++ more ≡ tlv b.tag b.contents ++ [] = ap (λ o. o ++ more) (sym a.octets_are) ∙ b.octets_are ∙ sym (append-nil (tlv b.tag b.contents)) in
+    (tlv-unique a.tag b.tag a.contents b.contents more [] e).2
 
 -- the order of octets that begin with two encodings is theirs, and where they are the same that of what follows
 pub lex-tlv : (t u : Tag) (c d x y : List ℕ) → lex (tlv t c ++ x) (tlv u d ++ y) ≡ ordering_then (lex (tlv t c) (tlv u d)) (lex x y)

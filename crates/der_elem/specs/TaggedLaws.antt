@@ -11,7 +11,7 @@ use Rattle.der_tlv.specs.LengthOctets.{length_octets}
 use Rattle.der_tlv.specs.HeaderOctets.{header_octets, tlv}
 use Rattle.der_tlv.specs.HeaderLaws.{read_header-octets, same_identifier-same, tlv-injective}
 use Rattle.der_elem.specs.Parsing.{ContentsParse, parse_tagged, parse_with_tag}
-use Rattle.der_elem.specs.Accepting.{Fits, BeginsWith, MayFollow, accepts_tagged}
+use Rattle.der_elem.specs.Accepting.{Fits, BeginsWith, IsTlv, MayFollow, accepts_tagged}
 
 enough : (c x : List ℕ) → nat_lt (length (c ++ x)) (length c) ≡ false
 enough c x = let h = length-append c x in grind (arith, nat_tests)
@@ -38,6 +38,10 @@ module _ {T : Type 0} (t : Tag) (is_tag : IsTag t) (accepts : EncodingRules → 
 pub begins_tagged : {T : Type 0} (t : Tag) (is_tag : IsTag t) (accepts : EncodingRules → T → List ℕ → Type 0) (rules : EncodingRules) (v : T) (z : ℕ) (b : List ℕ) → accepts_tagged t accepts rules v (z ∷ b) → BeginsWith (λ u. same_identifier u t) true (z ∷ b)
 begins_tagged t is_tag accepts rules v z b (c, e, a) =
     record { tag = t; others = length_octets (length c) ++ c; octets_are = e ∙ append_assoc (identifier t) (length_octets (length c)) c; is_tag = is_tag; is_one = same_identifier-same t }
+
+-- what is accepted has its tag, length and contents
+pub tlv_tagged : {T : Type 0} (t : Tag) (accepts : EncodingRules → T → List ℕ → Type 0) (rules : EncodingRules) (v : T) (b : List ℕ) → accepts_tagged t accepts rules v b → IsTlv b
+tlv_tagged t accepts rules v b (c, e, a) = record { tag = t; contents = c; octets_are = e }
 
 -- encodings of contents of one length are of one length
 pub length-tlv : (t : Tag) (c d : List ℕ) → length c ≡ length d → length (tlv t c) ≡ length (tlv t d)

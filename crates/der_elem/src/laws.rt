@@ -1,6 +1,7 @@
 //! Laws of encodings: functions that do nothing, and promise what holds of all encodings.
 
-ghost use Rattle.der_elem.specs.EncodingLaws.{NoneBeginsAnother, PaddingIsLexicographic, FirstPairDecides, OneValueIsRead, EncodingsReadBack, IntegersAreFewest};
+ghost use Rattle.der_elem.specs.EncodingLaws.{NoneBeginsAnother, NoneReadBeginsAnother, PaddingIsLexicographic, FirstPairDecides, OneValueIsRead, EncodingsReadBack, IntegersAreFewest};
+ghost use Rattle.der_elem.specs.Fields.{FirstFieldDecides, FieldsAreToldApart};
 
 use crate::form::Form;
 use crate::tag::Tagged;
@@ -8,6 +9,13 @@ use crate::tag::Tagged;
 /// No encoding is a proper beginning of another, for any two tags and contents octets.
 pub fn no_encoding_begins_another()
     ensures { NoneBeginsAnother }
+{}
+
+/// No octets that are read as a tagged value, under any rules, are a proper beginning of octets that
+/// are read as one of the same or another type: so octets that are cut short, or that have more
+/// behind them, are read as no such value.
+pub fn no_octets_read_begin_others<T: Tagged, U: Tagged>()
+    ensures { NoneReadBeginsAnother T.Form U.Form }
 {}
 
 /// The lexicographic order of two encodings is that of X.690 11.6, where zero octets are added to
@@ -20,6 +28,18 @@ pub fn padding_is_lexicographic()
 /// else by the number of items.
 pub fn first_pair_decides<T: Tagged>()
     ensures { FirstPairDecides T.encoding }
+{}
+
+/// An encoding that is followed by one that may be absent, as the two fields of a SEQUENCE are: the
+/// order of two such pairs is decided by the first field that differs, where an absent one is before
+/// any other.
+pub fn first_field_decides<T: Tagged, U: Tagged>()
+    ensures { FirstFieldDecides T.encoding U.encoding }
+{}
+
+/// Two such pairs have the same octets only where both fields have.
+pub fn fields_are_told_apart<T: Tagged, U: Tagged>()
+    ensures { FieldsAreToldApart T.encoding U.encoding }
 {}
 
 /// Values that are read from the same octets have one encoding.

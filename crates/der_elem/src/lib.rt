@@ -20,11 +20,13 @@ mod optional;
 mod ord;
 mod readiness;
 mod sequence;
+mod string;
 mod tag;
 #[cfg(test)]
 mod tests;
 mod unit;
 mod universal_tags;
+mod utf8_text;
 mod vec;
 
 pub use contents::read_contents;
@@ -45,3 +47,4 @@ pub use universal_tags::{
     BitStringTag, BmpStringTag, BooleanTag, GeneralStringTag, GeneralizedTimeTag, IntegerTag,
     NullTag, ObjectIdentifierTag, OctetStringTag, SequenceTag, SetTag, UtcTimeTag, Utf8StringTag,
 };
+pub use utf8_text::text_of;

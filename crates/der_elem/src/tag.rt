@@ -2,8 +2,11 @@
 
 ghost use Rattle.std.specs.Prelude.{◌≡◌, List, ℕ, Bool, true, refl};
 ghost use Rattle.der_tlv.specs.declared.tag.Tag.{Tag};
+ghost use Rattle.der_tlv.specs.declared.encoding_rules.EncodingRules.{EncodingRules};
 ghost use Rattle.der_tlv.specs.TagParts.{IsTag, is_constructed};
 ghost use Rattle.der_tlv.specs.HeaderOctets.{tlv};
+ghost use Rattle.der_elem.specs.Accepting.{IsTlv};
+ghost use Rattle.der_elem.specs.TaggedLaws.{tlv_tagged};
 
 use crate::fixed_tag::FixedTag;
 use crate::form::{Form, FormValue};
@@ -20,6 +23,8 @@ pub trait Tagged: FormValue + Form {
 
     ghost encoding_is: { (v : Self) → Self.encoding v ≡ tlv (tag_of v) (Self.contents v) };
 
+    ghost accepted_is_tlv: { (rules : EncodingRules) (v : Self) (b : List ℕ) → Self.accepts rules v b → IsTlv b };
+
     ghost re_reads_alike: { (v : Self) → Self.re_reads_value v ≡ true → Self.re_reads v ≡ true };
 
     ghost one_form_alike: { (v w : Self) → Self.one_form v w → Self.one_form_value v w };
@@ -33,6 +38,8 @@ impl<T: FormValue + FixedTag> Tagged for T {
     }
 
     ghost encoding_is = { λ v. refl };
+
+    ghost accepted_is_tlv = { tlv_tagged T.TAG T.accepts_value };
 
     ghost re_reads_alike = { λ v h. h };
 

@@ -100,6 +100,29 @@ fn codes_nulls(rt: HostRuntime) -> Result<(), Fail> {
     Ok(())
 }
 
+// The second text is e with an acute accent, U+00E9 (RFC 3629, section 3).
+#[test]
+fn codes_texts(rt: HostRuntime) -> Result<(), Fail> {
+    let alloc = rt.alloc();
+    assert_eq!(rt; String::TAG, Tag::Utf8String);
+    is_coded(&rt, alloc, String::from_str(alloc, "hi")?, &[0x68, 0x69])?;
+    is_coded(
+        &rt,
+        alloc,
+        String::from_str(alloc, "\u{e9}")?,
+        &[0xc3, 0xa9],
+    )?;
+    is_coded(&rt, alloc, String::new(alloc), &[])?;
+    assert_eq!(rt; read::<String>(alloc, &[0xff]), Err(12));
+    assert_eq!(rt; read::<String>(alloc, &[0xc3]), Err(12));
+    let (short, long) = (
+        String::from_str(alloc, "a")?,
+        String::from_str(alloc, "ab")?,
+    );
+    assert_eq!(rt; order(&short, &long)?, Ordering::Less);
+    Ok(())
+}
+
 // The first six are the examples of "A Layman's Guide to a Subset of ASN.1, BER, and DER", 5.7.
 #[test]
 fn codes_known_integers(rt: HostRuntime) -> Result<(), Fail> {
@@ -231,4 +254,6 @@ fn refuses_on_a_failed_reader(rt: HostRuntime) {
     assert_eq!(rt; read_again::<[u8; 0]>(alloc, &[]), Err(17));
     assert_eq!(rt; read_again::<[u8; 2]>(alloc, &[]), Err(17));
     assert_eq!(rt; read_again::<Box<u8>>(alloc, &[0x05]), Err(17));
+    assert_eq!(rt; read_again::<String>(alloc, &[0xff]), Err(17));
+    assert_eq!(rt; read_again::<String>(alloc, &[]), Err(17));
 }

@@ -280,6 +280,8 @@ impl Tagged for Any {
 
     ghost encoding_is = { λ v. refl };
 
+    ghost accepted_is_tlv = { λ rules v b a. record { tag = v.tag; contents = v.value.items; octets_are = a.1 } };
+
     ghost re_reads_alike = { λ v h. h };
 
     ghost one_form_alike = { λ v w h. h };

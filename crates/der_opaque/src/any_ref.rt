@@ -251,6 +251,8 @@ impl<'a> Tagged for AnyRef<'a> {
 
     ghost encoding_is = { λ v. refl };
 
+    ghost accepted_is_tlv = { λ rules v b a. record { tag = v.tag; contents = v.value.now; octets_are = a.1 } };
+
     ghost re_reads_alike = { λ v h. h };
 
     ghost one_form_alike = { λ v w h. h };

@@ -1,17 +1,19 @@
-//! BOOLEAN, NULL and INTEGER, which the built-in types are, from carried contents octets.
+//! BOOLEAN, NULL, INTEGER and UTF8String, which the built-in types are, from carried contents octets.
 //!
 //! Each refuses another tag (4, with no expected tag), and then what reading the type refuses. It
 //! takes no memory.
 
-ghost use Rattle.std.specs.Prelude.{◌≡◌, ◌≤◌, ◌<◌, ℕ};
+ghost use Rattle.std.specs.Prelude.{◌≡◌, ◌≤◌, ◌<◌, ℕ, true};
+ghost use Rattle.std.specs.Str.{is_utf8};
 ghost use Rattle.der_tlv.specs.declared.encoding_rules.EncodingRules.TheVariants.{Der};
-ghost use Rattle.der_tlv.specs.declared.tag.Tag.TheVariants.{Integer};
+ghost use Rattle.der_tlv.specs.declared.tag.Tag.TheVariants.{Integer, Utf8String};
 ghost use Rattle.der_elem.specs.Integer.{integer_contents, natural_contents, FitsSignedWidth, FitsUnsignedWidth};
 ghost use Rattle.der_elem.specs.IntegerReading.{parse_signed, parse_unsigned};
+ghost use Rattle.der_elem.specs.Utf8String.{parse_utf8};
 ghost use Rattle.der_opaque.specs.DecodingAs.{DecodesAs, DecodesOwnAs};
 
 use crate::any_ref::AnyRef;
-use der_elem::{Form, FormValue, Tagged, signed_of, unsigned_of};
+use der_elem::{Form, FormValue, Tagged, signed_of, text_of, unsigned_of};
 use der_tlv::{Error, Tag};
 
 /// The integer that carried contents octets are, at a width of up to 16 octets.
@@ -92,6 +94,26 @@ impl<'a> TryFrom<AnyRef<'a>> for () {
         match any.value {
             [] => Ok(()),
             _ => Err(Error::from_kind(Tag::Null.length_error())),
+        }
+    }
+}
+
+impl<'a> TryFrom<AnyRef<'a>> for &'a str {
+    type Error = Error;
+
+    ghost try_from_gives = { λ a r. DecodesOwnAs Utf8String (λ text. text.now) (λ text. is_utf8 text.now ≡ true) parse_utf8 (⟦<AnyRef<'a> as Tagged>⟧.tag_of a) (⟦<AnyRef<'a> as FormValue>⟧.contents a) r };
+
+    /// The text of a UTF8String, which the contents octets are in UTF-8.
+    ///
+    /// # Errors
+    /// (4) with no expected tag for another tag; (12) for octets that are not UTF-8.
+    fn try_from(any: AnyRef<'a>) -> Result<&'a str, Error> {
+        if !any.tag.is(Tag::Utf8String) {
+            return Err(Error::from_kind(any.tag.unexpected_error(None)));
+        }
+        match text_of(any.value) {
+            Ok(text) => Ok(text),
+            Err(kind) => Err(Error::from_kind(kind)),
         }
     }
 }

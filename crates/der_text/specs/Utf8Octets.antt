@@ -1,15 +1,8 @@
--- UTF8String: the contents octets are UTF-8 (X.690 8.23).
-use Rattle.std.specs.Prelude.{◌≡◌, ◌⊎◌, ℕ, ◌<◌, ◌≤◌, ◌^◌, true, false, if◌then◌else◌, List, length, Result, Ok, Err}
-use Rattle.std.proofs.Common.{ap, ◌∙◌, refl}
+-- Strings that keep octets that are UTF-8 (X.690 8.23).
+use Rattle.std.specs.Prelude.{◌≡◌, ◌⊎◌, ℕ, ◌<◌, ◌≤◌, ◌^◌, true, false, List, length, Result, Ok, Err}
 use Rattle.std.specs.Str.{is_utf8}
 use Rattle.der_tlv.specs.declared.error.ErrorKind.TheVariants.{Utf8, Overflow}
 use Rattle.der_tlv.specs.declared.error.Error.{Error}
-use Rattle.der_tlv.specs.declared.encoding_rules.EncodingRules.{EncodingRules}
-use Rattle.der_elem.specs.Parsing.{ContentsParse}
-
--- octets that are UTF-8 are read as they are, and else refused (12)
-abbrev pub parse_utf8 : ContentsParse
-parse_utf8 rules p octets = if is_utf8 octets then Ok octets else Err Utf8
 
 -- a string that keeps these octets, or (12) where they are not UTF-8, or (9) where they are, and are more than a length can count
 abbrev pub KeepsUtf8 : {T : Type 0} → (T → List ℕ) → List ℕ → Result T Error → Type 0
@@ -20,7 +13,3 @@ KeepsUtf8 contents octets (Err e) = ((e.kind ≡ Utf8) × (is_utf8 octets ≡ fa
 abbrev pub KeepsText : {T : Type 0} → (T → List ℕ) → List ℕ → Result T Error → Type 0
 KeepsText contents octets (Ok v) = (contents v ≡ octets) × (length octets < 2 ^ 32)
 KeepsText contents octets (Err e) = (e.kind ≡ Overflow) × (2 ^ 32 ≤ length octets)
-
--- UTF-8 is parsed as it is
-pub parse_of_utf8 : (rules : EncodingRules) (p : ℕ) (text c : List ℕ) → is_utf8 text ≡ true → c ≡ text → parse_utf8 rules p c ≡ Ok text
-parse_of_utf8 rules p text c utf8 e = ap (parse_utf8 rules p) e ∙ rw utf8 refl

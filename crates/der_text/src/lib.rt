@@ -6,7 +6,6 @@ mod bmp_string;
 mod bmp_units;
 mod general_string;
 mod utf8_string;
-mod utf8_text;
 
 pub use bmp_iter::{BmpChars, BmpCodepoints};
 pub use bmp_string::BmpString;

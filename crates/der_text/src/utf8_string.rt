@@ -13,12 +13,12 @@ ghost use Rattle.der_tlv.specs.declared.tag.Tag.TheVariants as tags;
 ghost use Rattle.der_tlv.specs.declared.encoding_rules.EncodingRules.TheVariants.{Der};
 ghost use Rattle.der_opaque.specs.DecodingAs.{DecodesAs};
 ghost use Rattle.der_opaque.specs.Opaque.{accepts_octets};
-ghost use Rattle.der_text.specs.Utf8Octets.{parse_utf8, parse_of_utf8, KeepsUtf8, KeepsText};
+ghost use Rattle.der_elem.specs.Utf8String.{parse_utf8, parse_of_utf8};
+ghost use Rattle.der_text.specs.Utf8Octets.{KeepsUtf8, KeepsText};
 
-use crate::utf8_text::text_of;
 use der_elem::{
     ContentsEq, DecodeValue, DuplicateValue, EncodeValue, Form, FormValue, OneTag, OrdIsValueOrd,
-    Tagged, Utf8StringTag, ValueMemory, WithoutMemory,
+    Tagged, Utf8StringTag, ValueMemory, WithoutMemory, text_of,
 };
 use der_opaque::{Any, AnyRef};
 use der_tlv::{Error, ErrorKind, Header, Length, Reader, Tag, Writer};

@@ -5,10 +5,9 @@ use Rattle.std.proofs.lemmas.List.{length-drop}
 use Rattle.std.proofs.lemmas.Bool.Decides.{nat_tests}
 use Rattle.std.proofs.Math.Seq.{take-length}
 use Rattle.der_tlv.specs.declared.error.ErrorKind.{ErrorKind}
-use Rattle.der_tlv.specs.declared.error.ErrorKind.TheVariants.{Failed, TrailingData, Overflow}
+use Rattle.der_tlv.specs.declared.error.ErrorKind.TheVariants.{Failed, TrailingData}
 use Rattle.der_tlv.specs.declared.encoding_rules.EncodingRules.{EncodingRules}
 use Rattle.der_tlv.specs.declared.header.Header.{Header}
-use Rattle.der_tlv.specs.declared.tag.Tag.{Tag}
 use Rattle.der_tlv.specs.declared.tag.mode.TagMode.TheVariants.{Explicit}
 use Rattle.der_tlv.specs.HeaderOctets.{tlv}
 use Rattle.der_tlv.specs.HeaderReading.{read_header, octets_of}
@@ -18,7 +17,7 @@ use Rattle.der_tlv.proofs.ReaderStates.{rest-after_read, length-rest}
 use Rattle.der_elem.specs.declared.form.Form as form
 use Rattle.der_elem.specs.Parsing.{Parse, tagged_contents}
 use Rattle.der_elem.specs.Decoding.{Faults, Decoded, NotDecoded}
-use Rattle.der_elem.proofs.AtContents.{AtHeader, AtContents, parse_behind, parse_too_long, shown_ready, shown_rules, shown_length, parse_shown, taken, after_contents, unnest_possible}
+use Rattle.der_elem.proofs.AtContents.{AtHeader, AtContents, parse_behind, parse_too_long, shown_ready, shown_rules, parse_shown, taken, after_contents, unnest_possible}
 use Rattle.der_wrap.specs.ClassTags.{class_tag}
 use Rattle.der_wrap.specs.TaggedValues.{all_of, one_encoding, in_explicit, explicit_with_header, parse_explicit, AcceptsExplicit}
 use Rattle.der_wrap.specs.TaggedValueLaws.{class_tag-constructed, class_tag-class}

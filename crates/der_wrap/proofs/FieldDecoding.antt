@@ -1,12 +1,11 @@
 -- Decoding a field that may be absent, behind a tag of its class and number.
-use Rattle.std.proofs.Common.{◌≡◌, ℕ, ◌+◌, ◌<◌, ◌^◌, List, [], ◌∷◌, ◌++◌, length, take, drop, Bool, true, false, Some, Result, Ok, Err, refl, sym, ap, ◌∙◌, subst, append_assoc, ◌==◌, ◌&&◌}
+use Rattle.std.proofs.Common.{◌≡◌, ℕ, ◌+◌, ◌<◌, ◌^◌, List, [], ◌∷◌, ◌++◌, length, take, drop, Bool, true, false, Result, Ok, Err, refl, sym, ap, ◌∙◌, subst, append_assoc, ◌==◌, ◌&&◌}
 use borrow.Author.Tests.{eqb-true}
 use Rattle.std.proofs.lemmas.List.{take-append-drop}
 use Rattle.der_tlv.specs.declared.error.ErrorKind.{ErrorKind}
 use Rattle.der_tlv.specs.declared.header.Header.{Header}
 use Rattle.der_tlv.specs.declared.tag.Tag.{Tag}
 use Rattle.der_tlv.specs.declared.tag.mode.TagMode.{TagMode}
-use Rattle.der_tlv.specs.declared.tag.mode.TagMode.TheVariants.{Explicit}
 use Rattle.der_tlv.specs.TagParts.{IsTag, is_constructed, number_of, class_of}
 use Rattle.der_tlv.specs.Identifier.{identifier, class_index}
 use Rattle.der_tlv.specs.LengthOctets.{length_octets}
@@ -19,7 +18,7 @@ use Rattle.der_tlv.specs.ReaderState.{ReaderState, rest, seen}
 use Rattle.der_elem.specs.Parsing.{Parse}
 use Rattle.der_elem.specs.declared.form.Form as form
 use Rattle.der_wrap.specs.TaggedValues.{parse_field, parse_explicit, tag_of_mode, contents_of_mode, AcceptsExplicit}
-use Rattle.der_wrap.specs.ClassTags.{class_of_bits, class_tag, in_class}
+use Rattle.der_wrap.specs.ClassTags.{class_of_bits, class_tag}
 use Rattle.der_wrap.specs.TaggedValueLaws.{class_tag-number, class_tag-with}
 
 both : (a b : Bool) → (a && b) ≡ true → (a ≡ true) × (b ≡ true)

@@ -1,5 +1,5 @@
 -- The tags of the application, the context-specific and the private class (X.690 8.1.2.2).
-use Rattle.std.specs.Prelude.{ℕ, ◌==◌, ◌&&◌, not, Bool, true, if◌then◌else◌}
+use Rattle.std.specs.Prelude.{ℕ, ◌==◌, Bool, if◌then◌else◌}
 use Rattle.der_tlv.specs.declared.tag.class.Class.{Class}
 use Rattle.der_tlv.specs.declared.tag.class.Class.TheVariants as classes
 use Rattle.der_tlv.specs.declared.tag.Tag.{Tag}

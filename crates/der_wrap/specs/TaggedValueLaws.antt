@@ -10,7 +10,7 @@ use Rattle.der_tlv.specs.declared.tag.class.Class.{Class}
 use Rattle.der_tlv.specs.declared.tag.class.Class.TheVariants as classes
 use Rattle.der_tlv.specs.declared.tag.Tag.TheVariants.{Application, ContextSpecific, Private}
 use Rattle.der_tlv.specs.declared.tag.mode.TagMode.{TagMode}
-use Rattle.der_tlv.specs.declared.tag.mode.TagMode.TheVariants.{Explicit, Implicit}
+use Rattle.der_tlv.specs.declared.tag.mode.TagMode.TheVariants.{Explicit}
 use Rattle.der_tlv.specs.TagParts.{IsTag, is_constructed, number_of, class_of}
 use Rattle.der_tlv.specs.Identifier.{identifier, class_index}
 use Rattle.der_tlv.specs.IdentifierLaws.{first_octet-unique, tag-unique}
@@ -18,11 +18,10 @@ use Rattle.der_tlv.specs.LengthOctets.{length_octets}
 use Rattle.der_tlv.specs.HeaderOctets.{header_octets, tlv}
 use Rattle.der_tlv.specs.HeaderLaws.{read_header-octets}
 use Rattle.der_elem.specs.declared.form.Form as form
-use Rattle.der_elem.specs.Parsing.{Parse}
 use Rattle.der_elem.specs.Accepting.{Fits, BeginsWith, MayFollow}
 use Rattle.der_elem.specs.TaggedLaws.{contents_fit, length-tlv}
 use Rattle.der_wrap.specs.ClassTags.{class_tag, in_class}
-use Rattle.der_wrap.specs.TaggedValues.{tag_of_mode, contents_of_mode, OneTaggedForm, all_of, one_encoding, accepts_one_encoding, explicit_with_header, parse_explicit, AcceptsExplicit, ReadableExplicit}
+use Rattle.der_wrap.specs.TaggedValues.{tag_of_mode, contents_of_mode, OneTaggedForm, one_encoding, accepts_one_encoding, explicit_with_header, parse_explicit, AcceptsExplicit, ReadableExplicit}
 
 module _ (constructed : Bool) (n : ℕ) where
   abbrev choice : Bool → Bool → Tag

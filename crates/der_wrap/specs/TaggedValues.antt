@@ -1,5 +1,5 @@
 -- Tagged values (X.690 8.14): what they are encoded as, and what octets they are read from.
-use Rattle.std.specs.Prelude.{◌≡◌, ℕ, ◌+◌, ◌-◌, ◌<◌, ◌^◌, ◌==◌, ◌&&◌, not, List, [], length, drop, Bool, true, false, if◌then◌else◌, None, Result, Ok, Err}
+use Rattle.std.specs.Prelude.{◌≡◌, ℕ, ◌+◌, ◌-◌, ◌<◌, ◌^◌, ◌==◌, List, [], length, drop, Bool, true, false, if◌then◌else◌, None, Result, Ok, Err}
 use Rattle.std.specs.Bool.{beq}
 use Rattle.der_tlv.specs.declared.error.ErrorKind.{ErrorKind}
 use Rattle.der_tlv.specs.declared.error.ErrorKind.TheVariants.{Noncanonical, TagUnexpected, TrailingData}

@@ -9,10 +9,10 @@
 //! (3). Reading with implicit tagging needs the number, so it is a call of its own,
 //! `decode_implicit`.
 
-ghost use Rattle.std.specs.Prelude.{◌≡◌, refl};
+ghost use Rattle.std.specs.Prelude.{◌≡◌, true, refl};
 ghost use Rattle.der_tlv.specs.declared.tag.mode.TagMode.TheVariants.{Explicit};
 ghost use Rattle.der_tlv.specs.HeaderOctets.{tlv};
-ghost use Rattle.der_wrap.specs.ClassTags.{in_class};
+ghost use Rattle.der_wrap.specs.ClassTags.{class_tag, in_class};
 ghost use Rattle.der_wrap.specs.TaggedValues.{tag_of_mode, contents_of_mode, OneTaggedForm, one_encoding, accepts_one_encoding, parse_explicit, AcceptsExplicit, ReadableExplicit};
 ghost use Rattle.der_wrap.specs.TaggedValueLaws.{parse_of_one_encoding, same_length_one_encoding, accepts_own_encoding, parse_of_explicit, begins_explicit, same_length_explicit, accepts_explicit_encoding, readable_explicit, one_explicit_form};
 ghost use Rattle.der_wrap.specs.TaggedValueEquality.{encoding_eq_tagged_value, copy_encoding_tagged_value, copy_form_tagged_value};
@@ -126,6 +126,8 @@ impl<T: Tagged, const CLASS: u8> Tagged for TaggedValue<T, CLASS> {
     }
 
     ghost encoding_is = { λ v. refl };
+
+    ghost accepted_is_tlv = { λ rules v b a. record { tag = class_tag CLASS true v.tag_number.0; contents = a.inner; octets_are = a.octets_are } };
 
     ghost re_reads_alike = { λ v h. h };
 

@@ -6,3 +6,6 @@ pub mod Piece
 pub mod Run
 pub mod Sink
 pub mod Source
+pub mod AlgorithmIdentifier
+pub mod FieldLaws
+pub mod Fields

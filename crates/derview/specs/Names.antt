@@ -15,6 +15,7 @@ use Rattle.der_elem.specs.Parsing.{Parse, ContentsParse, parse_tagged}
 use Rattle.der_elem.specs.Decoding.{parse_all}
 use Rattle.der_elem.specs.Boolean.{parse_boolean}
 use Rattle.der_elem.specs.Null.{parse_null}
+use Rattle.der_elem.specs.Utf8String.{parse_utf8}
 use Rattle.der_elem.specs.IntegerReading.{parse_signed, parse_unsigned}
 use Rattle.der_opaque.specs.Opaque.{parse_octets}
 use Rattle.der_opaque.specs.ObjectIdentifierOctets.{parse_identifier}
@@ -22,12 +23,12 @@ use Rattle.der_opaque.specs.AnyForm.{parse_any}
 use Rattle.der_numbers.specs.AnyLength.{parse_integer, parse_natural}
 use Rattle.der_ascii.specs.Characters.{string_tag, parse_string}
 use Rattle.der_bits.specs.BitString.{parse_bit_string}
-use Rattle.der_text.specs.Utf8Octets.{parse_utf8}
 use Rattle.der_text.specs.BmpUnits.{parse_bmp}
 use Rattle.der_nest.specs.SequencesOf.{parse_items_up_to}
 use Rattle.der_nest.specs.Sets.{parse_set, parse_set_up_to}
 use Rattle.der_wrap.specs.TaggedValues.{parse_explicit}
 use Rattle.der_asn1_types.specs.Canonical.{Gives}
+use Rattle.derview.specs.AlgorithmIdentifier.{parse_algorithm_identifier}
 
 -- the canonical encoding of what some octets encode as one type, or the first fault
 abbrev pub CanonicalFunction : Type 0
@@ -116,6 +117,7 @@ string_types name =
     else if bytes_eq name (codes "ia5") then Some (canonical_string 22)
     else if bytes_eq name (codes "ia5ref") then Some (canonical_string 22)
     else if bytes_eq name (codes "utf8ref") then Some (canonical_tagged Utf8String parse_utf8)
+    else if bytes_eq name (codes "string") then Some (canonical_tagged Utf8String parse_utf8)
     else if bytes_eq name (codes "generalref") then Some (canonical_tagged GeneralString parse_octets)
     else if bytes_eq name (codes "bmp") then Some (canonical_tagged BmpString parse_bmp)
     else None
@@ -132,20 +134,22 @@ bit_types name =
 abbrev pub parse_u16 : Parse
 parse_u16 = parse_tagged Integer (parse_unsigned 2)
 
--- a SEQUENCE whose contents octets are kept, and one of at most five items
+-- a SEQUENCE whose contents octets are kept, one of at most five items, and an AlgorithmIdentifier
 unfoldable pub nested_types : List ℕ → Option CanonicalFunction
 nested_types name =
     if bytes_eq name (codes "sequenceref") then Some (canonical_tagged Sequence parse_octets)
     else if bytes_eq name (codes "seqof5-u16") then Some (canonical_tagged Sequence (parse_items_up_to 5 parse_u16))
+    else if bytes_eq name (codes "algid") then Some (canonical_tagged Sequence parse_algorithm_identifier)
     else None
 
--- sets of integers, and of any values
+-- sets of integers, of any values, and of AlgorithmIdentifiers
 unfoldable pub set_types : List ℕ → Option CanonicalFunction
 set_types name =
     if bytes_eq name (codes "setvec-anyref") then Some (canonical_tagged Set (parse_set parse_any))
     else if bytes_eq name (codes "setvec-u16") then Some (canonical_tagged Set (parse_set parse_u16))
     else if bytes_eq name (codes "setof2-u16") then Some (canonical_tagged Set (parse_set_up_to 2 parse_u16))
     else if bytes_eq name (codes "ctx-setof2-u16") then Some (parse_all (parse_explicit 2 (parse_tagged Set (parse_set_up_to 2 parse_u16))))
+    else if bytes_eq name (codes "setvec-algid") then Some (canonical_tagged Set (parse_set (parse_tagged Sequence parse_algorithm_identifier)))
     else None
 
 -- the first of two that there is

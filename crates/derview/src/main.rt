@@ -9,8 +9,10 @@ use source::LineReader;
 use std::io::{self, BufReader};
 use std::process::ExitCode;
 
+mod algorithm_identifier;
 mod answer;
 mod fault;
+mod fields;
 mod lines;
 mod names;
 mod run;

@@ -3,6 +3,7 @@ ghost use Rattle.std.specs.Prelude.{◌≡◌};
 ghost use Rattle.std.specs.Str.{bytes_eq};
 ghost use Rattle.derview.specs.Names.{canonical_function_of, plain_types, signed_types, unsigned_types, opaque_types, composed_types, tagged_types, number_types, string_types, bit_types, nested_types, set_types, AnswersAs};
 
+use crate::algorithm_identifier::AlgorithmIdentifier;
 use crate::sets::canonical_set;
 use der_asn1_types::asn1::{
     Any, AnyRef, Application, BitString, BitStringRef, BmpString, ContextSpecific,
@@ -182,6 +183,7 @@ fn canonical_of_string(alloc: Global, name: &[u8], octets: &[u8]) -> Option<Resu
         "ia5" => Ia5String,
         "ia5ref" => Ia5StringRef,
         "utf8ref" => Utf8StringRef,
+        "string" => String,
         "generalref" => GeneralStringRef,
         "bmp" => BmpString,
     }
@@ -207,6 +209,7 @@ fn canonical_of_nested(alloc: Global, name: &[u8], octets: &[u8]) -> Option<Resu
         alloc, name, octets;
         "sequenceref" => SequenceRef,
         "seqof5-u16" => SequenceOf<u16, 5>,
+        "algid" => AlgorithmIdentifier,
     }
 }
 
@@ -222,6 +225,7 @@ fn canonical_of_set(alloc: Global, name: &[u8], octets: &[u8]) -> Option<Result<
         "setvec-u16" => SetOfVec<u16>,
         "setof2-u16" => SetOf<u16, 2>,
         "ctx-setof2-u16" => ContextSpecific<SetOf<u16, 2>>,
+        "setvec-algid" => SetOfVec<AlgorithmIdentifier>,
     }
 }
 

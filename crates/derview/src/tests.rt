@@ -1,5 +1,7 @@
 //! Whole runs over memory, and runs whose reader or writer fails.
 
+mod algorithm_identifier;
+
 use crate::fault::Fault;
 use crate::run::run;
 use crate::sink::OctetWriter;

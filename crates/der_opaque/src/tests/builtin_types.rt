@@ -39,6 +39,15 @@ fn nothing(rt: HostRuntime) {
 }
 
 #[test]
+fn texts(rt: HostRuntime) {
+    assert_eq!(rt; read::<&str>(Tag::Utf8String, &[0x68, 0x69]), Ok("hi"));
+    assert_eq!(rt; read::<&str>(Tag::Utf8String, &[]), Ok(""));
+    assert_eq!(rt; read::<&str>(Tag::Utf8String, &[0xff]), Err(12));
+    assert_eq!(rt; read::<&str>(Tag::PrintableString, &[0x68]), Err(4));
+    assert_eq!(rt; read::<&str>(Tag::PrintableString, &[0xff]), Err(4));
+}
+
+#[test]
 fn signed_integers(rt: HostRuntime) {
     assert_eq!(rt; read::<i8>(Tag::Integer, &[0x80]), Ok(-128));
     assert_eq!(rt; read::<i8>(Tag::Integer, &[0x00, 0x80]), Err(8));

@@ -3,7 +3,7 @@ use Rattle.der_tlv.specs.declared.error.ErrorKind.{ErrorKind}
 use Rattle.der_tlv.specs.HeaderReading.{octets_of}
 use Rattle.der_tlv.specs.Reading.{HeadRead, HeadFault}
 use Rattle.der_tlv.specs.HeaderReading.{read_header}
-use Rattle.der_tlv.specs.ReaderState.{ReaderState, IsReaderState, rest, seen, after_read}
+use Rattle.der_tlv.specs.ReaderState.{rest, seen}
 use Rattle.der_tlv.specs.TagMatching.{match_tag}
 use Rattle.der_tlv.specs.TagParts.{is_constructed}
 use Rattle.der_elem.specs.Decoding.{Faults}

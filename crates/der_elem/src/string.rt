@@ -1,0 +1,116 @@
+//! UTF8String, which is `String` (X.690 8.23).
+//!
+//! The tag is 0C, and the contents octets are the text in UTF-8: `hi` is encoded as 0C 02 68 69.
+//!
+//! Reading refuses octets that are not UTF-8 (12), and then where memory runs out (1).
+
+ghost use Rattle.std.specs.Prelude.{◌≡◌, true, false, refl};
+ghost use Rattle.std.specs.Cmp.Lexicographic.{bytes_decides};
+ghost use Rattle.std.specs.String.{string_bytes};
+ghost use Rattle.der_elem.specs.OwnContents.{accepts_own};
+ghost use Rattle.der_elem.specs.OwnContentsLaws.{parse_of_own, same_length_own, accepts_own_contents};
+ghost use Rattle.der_elem.specs.Utf8String.{parse_utf8, parse_utf8-own};
+
+use crate::contents::read_contents;
+use crate::decode::DecodeValue;
+use crate::duplicate::DuplicateValue;
+use crate::encode::EncodeValue;
+use crate::equality::ContentsEq;
+use crate::fixed_tag::OneTag;
+use crate::form::FormValue;
+use crate::memory::{ValueMemory, WithMemory};
+use crate::ord::OrdIsValueOrd;
+use crate::universal_tags::Utf8StringTag;
+use crate::utf8_text::text_of;
+use der_tlv::{Error, ErrorKind, Header, Length, Reader, Writer};
+use std::alloc::Global;
+
+impl FormValue for String {
+    ghost contents = { string_bytes };
+
+    ghost one_form_value = { λ v w. Unit {0} };
+
+    ghost re_reads_value = { λ v. false };
+
+    ghost accepts_value = { accepts_own string_bytes };
+
+    ghost parse_value = { parse_utf8 };
+
+    ghost readable_value = { λ v. Unit {0} };
+
+    ghost has_tag = { λ v t. Unit {0} };
+
+    ghost VALUE_TAKES_MEMORY = { true };
+
+    ghost parse_of_accepted_value = { parse_of_own string_bytes parse_utf8 parse_utf8-own };
+
+    ghost same_length_value = { same_length_own string_bytes };
+
+    ghost accepts_contents = { accepts_own_contents string_bytes };
+
+    ghost only_readable_value = { λ rules v c a. tt };
+
+    ghost accepts_one_form_value = { λ rules v w c d a b. tt };
+
+    ghost re_reads_memory_value = { λ v e. refl };
+}
+
+impl ValueMemory for String {
+    type OfValue = WithMemory;
+
+    ghost memory_of_value = { refl };
+}
+
+impl OneTag for String {
+    type Marker = Utf8StringTag;
+}
+
+impl<'a, R: Reader<'a>> DecodeValue<'a, R> for String {
+    fn decode_value(alloc: Global, reader: &mut R, header: Header) -> Result<String, Error> {
+        let octets = read_contents(reader, header)?;
+        match text_of(octets) {
+            Ok(text) => match String::from_str(alloc, text) {
+                Ok(string) => Ok(string),
+                Err(_) => Err(reader.error(ErrorKind::Memory)),
+            },
+            Err(kind) => Err(reader.error(kind)),
+        }
+    }
+}
+
+impl EncodeValue for String {
+    fn value_len(&self) -> Result<Length, Error> {
+        Length::of(self.as_bytes().len())
+    }
+
+    fn encode_value<W: Writer>(&self, writer: &mut W) -> Result<(), Error> {
+        writer.write(self.as_bytes())
+    }
+}
+
+impl OrdIsValueOrd for String {
+    ghost ord_is_value_ord = { λ v w. refl };
+}
+
+impl ContentsEq for String {
+    ghost contents_eq = { λ v w one. bytes_decides (string_bytes v) (string_bytes w) };
+}
+
+impl DuplicateValue for String {
+    ghost is_copy_value = { λ v w. string_bytes w ≡ string_bytes v };
+
+    ghost takes_memory_to_copy_value = { true };
+
+    fn duplicate_value(&self) -> Result<String, Error> {
+        match self.clone() {
+            Ok(copy) => Ok(copy),
+            Err(_) => Err(Error::from_kind(ErrorKind::Memory)),
+        }
+    }
+
+    ghost copy_contents = { λ v w e. e };
+
+    ghost copy_form_value = { λ v w x e f. tt };
+
+    ghost copy_re_reads_value = { λ v w e. refl };
+}
