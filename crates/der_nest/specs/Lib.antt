@@ -11,3 +11,6 @@ pub mod SetLaws
 pub mod SequencesOf
 pub mod SequenceLaws
 pub mod Lends
+pub mod BorrowedSets
+pub mod BorrowedLaws
+pub mod ReReading

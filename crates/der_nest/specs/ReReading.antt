@@ -1,0 +1,28 @@
+-- Items that are read again from octets that were read before.
+use Rattle.std.specs.Prelude.{◌≡◌, ℕ, ◌<◌, List, [], ◌∷◌, length, Bool, true, Option, Some, None, Result, Ok, Err, ◌⊎◌}
+use Rattle.der_tlv.specs.declared.error.ErrorKind.{ErrorKind}
+use Rattle.der_tlv.specs.declared.error.ErrorKind.TheVariants.{Memory}
+use Rattle.der_tlv.specs.declared.error.Error.{Error}
+use Rattle.der_tlv.specs.declared.encoding_rules.EncodingRules.{EncodingRules}
+use Rattle.der_tlv.specs.ReaderState.{ReaderState, rest}
+use Rattle.der_elem.specs.declared.form.Form as form
+use Rattle.der_elem.specs.Parsing.{Parse}
+use Rattle.der_nest.specs.Lists.{parse_each}
+
+abbrev pub encodings_or_none : Result (List (List ℕ)) ErrorKind → List (List ℕ)
+encodings_or_none (Ok es) = es
+encodings_or_none (Err k) = []
+
+-- the encodings of so many items that stand one after another
+abbrev pub encodings_read : ℕ → Parse → EncodingRules → ℕ → List ℕ → List (List ℕ)
+encodings_read count parse rules p octets = encodings_or_none (parse_each count parse rules p octets)
+
+-- those that a reader has before it
+abbrev pub unread : ℕ → Parse → ReaderState → List (List ℕ)
+unread count parse s = encodings_read count parse s.rules s.position (rest s)
+
+-- The next of items that are read again: none is left, or this one, or there was no memory and none follows.
+abbrev pub ReReads : {T : Type 0} → form.Ghosts T → List (List ℕ) → List (List ℕ) → Option (Result T Error) → Type 0
+ReReads F old new None = (old ≡ []) × (new ≡ [])
+ReReads F old new (Some (Ok v)) = F.readable v × (old ≡ F.encoding v ∷ new)
+ReReads F old new (Some (Err e)) = (e.kind ≡ Memory) × (F.TAKES_MEMORY ≡ true) × (0 < length old) × (new ≡ [])

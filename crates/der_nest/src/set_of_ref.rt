@@ -1,0 +1,111 @@
+//! SET OF, borrowed, which is `SetOfRef` (X.690 8.12, 11.6).
+//!
+//! The tag is 31. The contents octets are the encodings of the items, one after another, in
+//! non-decreasing order, so that the INTEGERs 8 and 7 are encoded as 31 06 02 01 07 02 01 08.
+//!
+//! Reading keeps the octets alone. It refuses with the first fault of an item, from the left, or with
+//! (11) where an item is smaller than the one before, and (1) where the item takes memory. The items
+//! are read by a reader of the contents octets alone, from position 0 on, under DER. They are read
+//! again by each call that gives, writes or compares them.
+
+ghost use Rattle.std.specs.Prelude.{◌≡◌, length, ◌==◌, IfOk};
+ghost use Rattle.der_elem.specs.declared.form.Form as form;
+ghost use Rattle.der_nest.specs.Places.{IsInOrder};
+ghost use Rattle.der_nest.specs.BorrowedSets.{Borrowed, OfItems, OfOctets, encodings_of, borrowed_contents, re_reads_borrowed, OneFormBorrowed, AcceptsBorrowed, ReadableBorrowed, parse_borrowed};
+ghost use Rattle.der_nest.specs.BorrowedLaws.{parse_of_borrowed, same_length_borrowed, accepts_borrowed_contents, readable_borrowed, one_form_borrowed, re_reads_borrowed_memory};
+
+mod checked_octets;
+
+use checked_octets::CheckedOctets;
+use der_elem::{Form, FormMemory, FormValue, OneTag, SetTag, ValueMemory};
+use std::marker::Model;
+
+/// Items that stand in order.
+#[derive(Drop)]
+pub(crate) struct OrderedItems<'a, T: Form> {
+    pub(crate) items: &'a [T],
+    ghost in_order: { IsInOrder T.encoding items.now },
+}
+
+/// Where the items are.
+#[derive(Drop)]
+pub(crate) enum Source<'a, T: Form> {
+    Octets(CheckedOctets<'a, T>),
+    Items(OrderedItems<'a, T>),
+}
+
+/// A set of items that are borrowed, or read again from borrowed contents octets.
+#[derive(Drop)]
+pub struct SetOfRef<'a, T: Form> {
+    pub(crate) source: Source<'a, T>,
+}
+
+impl<'a, T: Form> Model for SetOfRef<'a, T> {
+    ghost use Rattle.der_tlv.specs.declared.encoding_rules.EncodingRules.TheVariants.{Der};
+    ghost use Rattle.der_nest.specs.BorrowedSets.{Borrowed, OfItems, OfOctets};
+    ghost use Rattle.der_nest.specs.ReReading.{encodings_read};
+    ghost use Rattle.der_nest.specs.declared.set_of_ref.Source.TheVariants.{Octets, Items};
+
+    ghost Value = { Borrowed T };
+
+    ghost view = { λ s. elim s.source [ Octets o ↦ OfOctets (encodings_read o.count T.parse Der 0 o.octets.now) | Items i ↦ OfItems i.items.now ] };
+}
+
+impl<'a, T: Form> SetOfRef<'a, T> {
+    /// How many items there are.
+    pub fn len(&self) -> usize
+        ensures { result ≡ length (encodings_of T.encoding self.now) }
+    {
+        match &self.source {
+            Source::Octets(octets) => octets.count,
+            Source::Items(items) => items.items.len(),
+        }
+    }
+
+    /// Whether there are none.
+    pub fn is_empty(&self) -> bool
+        ensures { result ≡ (length (encodings_of T.encoding self.now) == 0) }
+    {
+        self.len() == 0
+    }
+}
+
+impl<'a, T: Form> OneTag for SetOfRef<'a, T> {
+    type Marker = SetTag;
+}
+
+impl<'a, T: Form> FormValue for SetOfRef<'a, T> {
+    ghost contents = { borrowed_contents T.encoding };
+
+    ghost one_form_value = { OneFormBorrowed T.Form };
+
+    ghost re_reads_value = { re_reads_borrowed T.Form };
+
+    ghost accepts_value = { λ rules. AcceptsBorrowed T.Form };
+
+    ghost parse_value = { parse_borrowed T.parse };
+
+    ghost readable_value = { ReadableBorrowed T.Form };
+
+    ghost has_tag = { λ v t. Unit {0} };
+
+    ghost VALUE_TAKES_MEMORY = { T.TAKES_MEMORY };
+
+    ghost parse_of_accepted_value = { parse_of_borrowed T.Form };
+
+    ghost same_length_value = { same_length_borrowed T.Form };
+
+    ghost accepts_contents = { accepts_borrowed_contents T.Form };
+
+    ghost only_readable_value = { readable_borrowed T.Form };
+
+    ghost accepts_one_form_value = { one_form_borrowed T.Form };
+
+    ghost re_reads_memory_value = { re_reads_borrowed_memory T.Form };
+}
+
+impl<'a, T: FormMemory> ValueMemory for SetOfRef<'a, T> {
+    type OfValue = <T as FormMemory>::OfForm;
+
+    ghost memory_of_value = { T.memory_of_form };
+}
