@@ -5,3 +5,4 @@ pub mod EachReading
 pub mod SetReading
 pub mod Copying
 pub mod SequenceReading
+pub mod ReReadItems

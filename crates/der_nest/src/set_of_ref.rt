@@ -15,6 +15,7 @@ ghost use Rattle.der_nest.specs.BorrowedSets.{Borrowed, OfItems, OfOctets, encod
 ghost use Rattle.der_nest.specs.BorrowedLaws.{parse_of_borrowed, same_length_borrowed, accepts_borrowed_contents, readable_borrowed, one_form_borrowed, re_reads_borrowed_memory};
 
 mod checked_octets;
+mod item_reader;
 
 use checked_octets::CheckedOctets;
 use der_elem::{Form, FormMemory, FormValue, OneTag, SetTag, ValueMemory};
