@@ -6,3 +6,4 @@ pub mod SetReading
 pub mod Copying
 pub mod SequenceReading
 pub mod ReReadItems
+pub mod BorrowedReading

@@ -1,15 +1,17 @@
 //! Contents octets that read as items in order.
 
-ghost use Rattle.std.specs.Prelude.{◌≡◌, ◌<◌, ◌^◌, length};
+ghost use Rattle.std.specs.Prelude.{◌≡◌, ◌<◌, ◌^◌, length, IfOk, IfErr, OnOk};
 ghost use Rattle.std.specs.List.Sorted.{IsSorted};
 ghost use Rattle.der_tlv.specs.Octets.{lex};
 ghost use Rattle.der_tlv.specs.declared.encoding_rules.EncodingRules.TheVariants.{Der};
 ghost use Rattle.der_tlv.specs.Views.{slice_reader_state};
-ghost use Rattle.der_nest.specs.ReReading.{encodings_read, unread};
+ghost use Rattle.der_elem.specs.Decoding.{Faults};
+ghost use Rattle.der_nest.specs.BorrowedSets.{OfOctets, AcceptsBorrowed, parse_borrowed_items};
+ghost use Rattle.der_nest.specs.ReReading.{CanFollow, CannotFollow, encodings_read, unread};
 
 use crate::set_of_ref::item_reader::ItemReader;
-use der_elem::Form;
-use der_tlv::SliceReader;
+use der_elem::{Decode, DerOrd, Form, Tagged};
+use der_tlv::{Error, ErrorKind, Reader, SliceReader};
 use std::alloc::Global;
 use std::marker::PhantomData;
 
@@ -34,5 +36,56 @@ impl<'a, T: Form> CheckedOctets<'a, T> {
             Ok(reader) => ItemReader::new(self.alloc, reader, self.count),
             Err(_) => unreachable!(),
         }
+    }
+}
+
+/// Asks that an item is not smaller than the last, if there is one.
+///
+/// # Errors
+/// The comparison's; (11) for a smaller item.
+fn may_follow<T: DerOrd>(last: &Option<T>, item: &T) -> Result<(), Error>
+    ensures ok { OnOk result (CanFollow T.encoding last.now item.now) }
+    ensures refused { IfErr result (λ e. CannotFollow T.Form last.now item.now e.kind) }
+{
+    match last {
+        None => Ok(()),
+        Some(last) => {
+            if last.der_cmp(item)?.is_gt() {
+                return Err(Error::from_kind(ErrorKind::SetOrdering));
+            }
+            Ok(())
+        }
+    }
+}
+
+impl<'a, T: Decode<'a, SliceReader<'a>> + DerOrd + Tagged> CheckedOctets<'a, T> {
+    /// Reads items until nothing is left, and keeps the octets alone.
+    ///
+    /// # Errors
+    /// The first fault of an item, from the left; (11) for an item that is smaller than the one
+    /// before; (1) where an item takes memory.
+    pub(crate) fn read(alloc: Global, octets: &'a [u8]) -> Result<CheckedOctets<'a, T>, Error>
+        requires { length octets.now < 2 ^ 32 }
+        ensures ok { IfOk result (λ read. AcceptsBorrowed T.Form (OfOctets (encodings_read read.count T.parse Der 0 read.octets.now)) octets.now) }
+        ensures refused { IfErr result (λ e. Faults T.TAKES_MEMORY (parse_borrowed_items T.parse octets.now) e.kind) }
+    {
+        let mut reader = match SliceReader::new(octets) {
+            Ok(reader) => reader,
+            Err(_) => unreachable!(),
+        };
+        let mut count = 0;
+        let mut last: Option<T> = None;
+        'items: while !reader.is_finished() {
+            let item = T::decode(alloc, &mut reader)?;
+            may_follow(&last, &item)?;
+            last = Some(item);
+            count += 1;
+        }
+        Ok(CheckedOctets {
+            octets,
+            count,
+            alloc,
+            of: PhantomData,
+        })
     }
 }
