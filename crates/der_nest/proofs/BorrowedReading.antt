@@ -9,7 +9,6 @@ use Rattle.der_tlv.specs.declared.encoding_rules.EncodingRules.TheVariants.{Der}
 use Rattle.der_tlv.specs.Octets.{lex}
 use Rattle.der_tlv.specs.ReaderState.{ReaderState, IsReaderState, rest, seen, opened, after_read}
 use Rattle.der_elem.specs.declared.form.Form as form
-use Rattle.der_elem.specs.Accepting.{Fits}
 use Rattle.der_elem.specs.Decoding.{Faults, Decoded}
 use Rattle.der_nest.specs.Places.{IsInOrder, not_above}
 use Rattle.der_nest.specs.PlacingLaws.{in_order_push, in_order_none}
@@ -54,7 +53,10 @@ push_in_order F items None v up ends can =
 push_in_order F items (Some w) v up ends can =
     in_order_push F.encoding items v up (λ last some is. let n = ap length ends.2 ∙ length-append ends.0 (w ∷ []) in let at : get_or items (length items - 1) last ≡ w = ap (λ xs. get_or xs (length items - 1) last) ends.2 ∙ get_or_push ends.0 w last (length items - 1) (omega arith) in subst (λ x. not_above F.encoding v x ≡ true) (sym (is ∙ at)) can)
 
-module _ {T : Type 0} {F : form.Ghosts T} {octets : List ℕ} {now : ReaderState} {count : ℕ} {last : Option T} (s : BorrowedSoFar F octets now count last) (fits : Fits octets) (sound : IsReaderState now) where
+module _ {T : Type 0} {F : form.Ghosts T} {octets : List ℕ} {now : ReaderState} {count : ℕ} {last : Option T} (s : BorrowedSoFar F octets now count last) (sound : IsReaderState now) where
+  pub octets_fit : length octets < 2 ^ 32
+  octets_fit = let e = ap (λ s. length s.input) s.so_far.after in let h = sound.short in omega arith
+
   position_is : now.position ≡ s.so_far.taken
   position_is = ap (λ s. s.position) s.so_far.after ∙ zero_plus s.so_far.taken
     where
@@ -78,7 +80,7 @@ module _ {T : Type 0} {F : form.Ghosts T} {octets : List ℕ} {now : ReaderState
       let len : 0 + length (take s.so_far.taken octets) ≡ now.position = let p = position_is in omega arith in
       ap (λ n. parse_in_order n F.parse [] 0 octets) (sym s.so_far.counted)
       ∙ ap (parse_in_order (length s.items + s.so_far.more) F.parse [] 0) (sym (take-append-drop s.so_far.taken octets))
-      ∙ parse_in_order-items F s.items s.so_far.more [] 0 (take s.so_far.taken octets) (drop s.so_far.taken octets) accepted_front (follow_in_order (map F.encoding s.items) s.in_order) (omega arith)
+      ∙ parse_in_order-items F s.items s.so_far.more [] 0 (take s.so_far.taken octets) (drop s.so_far.taken octets) accepted_front (follow_in_order (map F.encoding s.items) s.in_order) (let h = octets_fit in omega arith)
       ∙ ap (λ p. before_all (map F.encoding s.items) (parse_in_order s.so_far.more F.parse (last_of [] (map F.encoding s.items)) p (drop s.so_far.taken octets))) len
       ∙ ap (λ c. before_all (map F.encoding s.items) (parse_in_order s.so_far.more F.parse (last_of [] (map F.encoding s.items)) now.position c)) (sym rest_is)
 
@@ -105,7 +107,7 @@ module _ {T : Type 0} {F : form.Ghosts T} {octets : List ℕ} {now : ReaderState
   item_accepted {new} {v} told = subst (λ r. F.accepts r v (take told.taken (rest now))) (same_rules s.so_far) told.accepted
 
   item_fits : (n : ℕ) → length (take n (rest now)) < 2 ^ 32
-  item_fits n = omega (arith, length-take n (rest now), ap length rest_is, length-drop s.so_far.taken octets)
+  item_fits n = let h = octets_fit in omega (arith, length-take n (rest now), ap length rest_is, length-drop s.so_far.taken octets)
 
   smaller_item : {new : ReaderState} {v : T} → 0 < length (rest now) → (told : Decoded F now new v) → is_le (lex (last_of [] (map F.encoding s.items)) (F.encoding v)) ≡ false → parse_borrowed_items F.parse octets ≡ Err SetOrdering
   smaller_item {new} {v} some told less =
@@ -141,6 +143,7 @@ module _ {T : Type 0} {F : form.Ghosts T} {octets : List ℕ} {now : ReaderState
   few_items =
       let n = length-each (F.accepts Der) s.items (take s.so_far.taken octets) accepted_front in
       let c = s.counted in
+      let h = octets_fit in
       omega (arith, length-take s.so_far.taken octets)
 
   -- where nothing is left, the octets are the items
@@ -152,7 +155,7 @@ module _ {T : Type 0} {F : form.Ghosts T} {octets : List ℕ} {now : ReaderState
   pub encodings_are : rest now ≡ [] → encodings_read count F.parse Der 0 octets ≡ map F.encoding s.items
   encodings_are none =
       let c = s.counted in
-      ap encodings_or_none (parse_of_each F Der s.items count 0 octets (omega arith) (all_octets none) fits)
+      ap encodings_or_none (parse_of_each F Der s.items count 0 octets (omega arith) (all_octets none) octets_fit)
 
   pub borrowed_accepted : rest now ≡ [] → AcceptsBorrowed F (OfOctets (encodings_read count F.parse Der 0 octets)) octets
   borrowed_accepted none = record {

@@ -1,5 +1,5 @@
 -- Sets that borrow a slice of items, or the contents octets that they were read from (X.690 8.12, 11.6).
-use Rattle.std.specs.Prelude.{◌≡◌, ℕ, zero, suc, ◌+◌, ◌<◌, List, [], ◌∷◌, length, map, drop, Bool, true, Option, Some, Result, Ok, Err, if◌then◌else◌, slice_get, ◌⊎◌}
+use Rattle.std.specs.Prelude.{◌≡◌, ℕ, zero, suc, ◌+◌, ◌<◌, List, [], ◌∷◌, ◌++◌, length, map, drop, Bool, true, Option, Some, Result, Ok, Err, if◌then◌else◌, slice_get, ◌⊎◌}
 use Rattle.std.specs.List.{All, concat, list_any}
 use Rattle.std.specs.Ordering.{is_le}
 use Rattle.der_tlv.specs.declared.error.ErrorKind.{ErrorKind}
@@ -11,7 +11,7 @@ use Rattle.der_tlv.specs.Octets.{lex}
 use Rattle.der_elem.specs.declared.form.Form as form
 use Rattle.der_elem.specs.Parsing.{Parse, ContentsParse}
 use Rattle.der_elem.specs.Decoding.{Faults}
-use Rattle.der_nest.specs.Places.{IsInOrder}
+use Rattle.der_nest.specs.Places.{IsInOrder, IsOutOfOrder}
 use Rattle.der_nest.specs.Lists.{AcceptsEach, before_others, joined}
 
 -- What a caller sees of such a set: the items of a slice, or the encodings of the items that octets are read as.
@@ -84,3 +84,9 @@ parse_borrowed parse rules p octets = joined (parse_borrowed_items parse octets)
 abbrev pub ReadsBorrowed : {T : Type 0} → form.Ghosts T → List ℕ → Result (Borrowed T) Error → Type 0
 ReadsBorrowed F octets (Ok v) = AcceptsBorrowed F v octets
 ReadsBorrowed F octets (Err e) = Faults F.TAKES_MEMORY (parse_borrowed_items F.parse octets) e.kind
+
+-- what borrowing a slice of items answers: a set of them, or (11), as one cannot come after those before it
+abbrev pub Borrows : {T : Type 0} → form.Ghosts T → List T → Result (Borrowed T) Error → Type 0
+Borrows F items (Ok v) = (v ≡ OfItems items) × IsInOrder F.encoding items
+Borrows {T} F items (Err e) =
+    (e.kind ≡ SetOrdering) × ((before : List T) × (x : T) × (after : List T) × (why : ErrorKind) × (items ≡ before ++ x ∷ after) × IsOutOfOrder F before x why)

@@ -11,14 +11,20 @@
 ghost use Rattle.std.specs.Prelude.{◌≡◌, length, ◌==◌, IfOk};
 ghost use Rattle.der_elem.specs.declared.form.Form as form;
 ghost use Rattle.der_nest.specs.Places.{IsInOrder};
-ghost use Rattle.der_nest.specs.BorrowedSets.{Borrowed, OfItems, OfOctets, encodings_of, borrowed_contents, re_reads_borrowed, OneFormBorrowed, AcceptsBorrowed, ReadableBorrowed, parse_borrowed};
+ghost use Rattle.der_nest.specs.BorrowedSets.{Borrowed, OfItems, OfOctets, encodings_of, borrowed_contents, re_reads_borrowed, OneFormBorrowed, Borrows, AcceptsBorrowed, ReadableBorrowed, parse_borrowed};
 ghost use Rattle.der_nest.specs.BorrowedLaws.{parse_of_borrowed, same_length_borrowed, accepts_borrowed_contents, readable_borrowed, one_form_borrowed, re_reads_borrowed_memory};
 
 mod checked_octets;
 mod item_reader;
 
 use checked_octets::CheckedOctets;
-use der_elem::{Form, FormMemory, FormValue, OneTag, SetTag, ValueMemory};
+use crate::finding::follows;
+use der_elem::{
+    Decode, DecodeValue, DerOrd, Form, FormMemory, FormValue, OneTag, SetTag, Tagged, ValueMemory,
+    read_contents,
+};
+use der_tlv::{Error, ErrorKind, Header, Reader, SliceReader};
+use std::alloc::Global;
 use std::marker::Model;
 
 /// Items that stand in order.
@@ -71,6 +77,28 @@ impl<'a, T: Form> SetOfRef<'a, T> {
     }
 }
 
+impl<'a, T: DerOrd> TryFrom<&'a [T]> for SetOfRef<'a, T> {
+    type Error = Error;
+
+    ghost try_from_gives = { λ items r. Borrows T.Form items.now r };
+
+    /// A set of items that stand in order.
+    ///
+    /// # Errors
+    /// (11) where an item is smaller than the one before, or the two have no comparison.
+    fn try_from(items: &'a [T]) -> Result<SetOfRef<'a, T>, Error> {
+        'items: for i in 0..items.len() {
+            match follows(&items[..i], &items[i]) {
+                Ok(()) => {}
+                Err(_) => return Err(Error::from_kind(ErrorKind::SetOrdering)),
+            }
+        }
+        Ok(SetOfRef {
+            source: Source::Items(OrderedItems { items }),
+        })
+    }
+}
+
 impl<'a, T: Form> OneTag for SetOfRef<'a, T> {
     type Marker = SetTag;
 }
@@ -109,4 +137,26 @@ impl<'a, T: FormMemory> ValueMemory for SetOfRef<'a, T> {
     type OfValue = <T as FormMemory>::OfForm;
 
     ghost memory_of_value = { T.memory_of_form };
+}
+
+impl<'a, R: Reader<'a>, T: Decode<'a, SliceReader<'a>> + DerOrd + Tagged> DecodeValue<'a, R>
+    for SetOfRef<'a, T>
+{
+    fn decode_value(
+        alloc: Global,
+        reader: &mut R,
+        header: Header,
+    ) -> Result<SetOfRef<'a, T>, Error> {
+        let octets = read_contents(reader, header)?;
+        match CheckedOctets::read(alloc, octets) {
+            Ok(octets) => Ok(SetOfRef {
+                source: Source::Octets(octets),
+            }),
+            Err(e) => {
+                // The reader fails; the position is that of the contents octets' own reader.
+                reader.error(e.kind);
+                Err(e)
+            }
+        }
+    }
 }

@@ -1,6 +1,6 @@
 //! Contents octets that read as items in order.
 
-ghost use Rattle.std.specs.Prelude.{◌≡◌, ◌<◌, ◌^◌, length, IfOk, IfErr, OnOk};
+ghost use Rattle.std.specs.Prelude.{◌≡◌, ◌<◌, ◌≤◌, ◌^◌, ◌⊎◌, length, IfOk, IfErr, OnOk};
 ghost use Rattle.std.specs.List.Sorted.{IsSorted};
 ghost use Rattle.der_tlv.specs.Octets.{lex};
 ghost use Rattle.der_tlv.specs.declared.encoding_rules.EncodingRules.TheVariants.{Der};
@@ -62,16 +62,15 @@ impl<'a, T: Decode<'a, SliceReader<'a>> + DerOrd + Tagged> CheckedOctets<'a, T> 
     /// Reads items until nothing is left, and keeps the octets alone.
     ///
     /// # Errors
-    /// The first fault of an item, from the left; (11) for an item that is smaller than the one
+    /// (9) for more than 4294967295 octets; the first fault of an item, from the left; (11) for an item that is smaller than the one
     /// before; (1) where an item takes memory.
     pub(crate) fn read(alloc: Global, octets: &'a [u8]) -> Result<CheckedOctets<'a, T>, Error>
-        requires { length octets.now < 2 ^ 32 }
         ensures ok { IfOk result (λ read. AcceptsBorrowed T.Form (OfOctets (encodings_read read.count T.parse Der 0 read.octets.now)) octets.now) }
-        ensures refused { IfErr result (λ e. Faults T.TAKES_MEMORY (parse_borrowed_items T.parse octets.now) e.kind) }
+        ensures refused { IfErr result (λ e. Faults T.TAKES_MEMORY (parse_borrowed_items T.parse octets.now) e.kind ⊎ (2 ^ 32 ≤ length octets.now)) }
     {
         let mut reader = match SliceReader::new(octets) {
             Ok(reader) => reader,
-            Err(_) => unreachable!(),
+            Err(e) => return Err(e),
         };
         let mut count = 0;
         let mut last: Option<T> = None;
