@@ -7,3 +7,4 @@ pub mod Copying
 pub mod SequenceReading
 pub mod ReReadItems
 pub mod BorrowedReading
+pub mod BorrowedWriting

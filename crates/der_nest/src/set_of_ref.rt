@@ -16,14 +16,15 @@ ghost use Rattle.der_nest.specs.BorrowedLaws.{parse_of_borrowed, same_length_bor
 
 mod checked_octets;
 mod item_reader;
+mod writing;
 
 use checked_octets::CheckedOctets;
 use crate::finding::follows;
 use der_elem::{
-    Decode, DecodeValue, DerOrd, Form, FormMemory, FormValue, OneTag, SetTag, Tagged, ValueMemory,
-    read_contents,
+    Decode, DecodeValue, DerOrd, Encode, EncodeValue, Form, FormMemory, FormValue, OneTag, SetTag,
+    Tagged, ValueMemory, encode_items, items_len, read_contents,
 };
-use der_tlv::{Error, ErrorKind, Header, Reader, SliceReader};
+use der_tlv::{Error, ErrorKind, Header, Length, Reader, SliceReader, Writer};
 use std::alloc::Global;
 use std::marker::Model;
 
@@ -157,6 +158,22 @@ impl<'a, R: Reader<'a>, T: Decode<'a, SliceReader<'a>> + DerOrd + Tagged> Decode
                 reader.error(e.kind);
                 Err(e)
             }
+        }
+    }
+}
+
+impl<'a, T: Decode<'a, SliceReader<'a>> + Encode + Tagged> EncodeValue for SetOfRef<'a, T> {
+    fn value_len(&self) -> Result<Length, Error> {
+        match &self.source {
+            Source::Octets(octets) => octets.items_len(),
+            Source::Items(items) => items_len(items.items),
+        }
+    }
+
+    fn encode_value<W: Writer>(&self, writer: &mut W) -> Result<(), Error> {
+        match &self.source {
+            Source::Octets(octets) => octets.encode_items(writer),
+            Source::Items(items) => encode_items(items.items, writer),
         }
     }
 }
