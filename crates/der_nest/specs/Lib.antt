@@ -14,3 +14,6 @@ pub mod Lends
 pub mod BorrowedSets
 pub mod BorrowedLaws
 pub mod ReReading
+pub mod Found
+pub mod BorrowedItems
+pub mod FindingNext

@@ -15,7 +15,8 @@ ghost use Rattle.der_nest.specs.BorrowedSets.{Borrowed, OfItems, OfOctets, encod
 ghost use Rattle.der_nest.specs.BorrowedLaws.{parse_of_borrowed, same_length_borrowed, accepts_borrowed_contents, readable_borrowed, one_form_borrowed, re_reads_borrowed_memory};
 
 mod checked_octets;
-mod item_reader;
+pub(crate) mod found;
+pub(crate) mod item_reader;
 mod writing;
 
 use checked_octets::CheckedOctets;
