@@ -62,3 +62,45 @@ impl<'a, T: Decode<'a, SliceReader<'a>>> SetOfRefIter<'a, T> {
         }
     }
 }
+
+impl<'a, T: Decode<'a, SliceReader<'a>> + Duplicate> Iterator for SetOfRefIter<'a, T> {
+    type Item = Result<T, Error>;
+
+    ghost next_gives = { GivesNext T.Form T.is_copy T.takes_memory_to_copy };
+
+    ghost remaining = { λ s. at_most (length (encodings_of T.encoding s)) };
+
+    fn next(&mut self) -> Option<Result<T, Error>> {
+        match self.next_found() {
+            None => None,
+            Some(Ok(Found::Read(item))) => Some(Ok(item)),
+            Some(Ok(Found::Lent(item))) => match item.duplicate() {
+                Ok(copy) => Some(Ok(copy)),
+                Err(error) => {
+                    self.rest = Rest::Items(&[]);
+                    Some(Err(error))
+                }
+            },
+            Some(Err(error)) => Some(Err(error)),
+        }
+    }
+
+    fn size_hint(&self) -> (usize, Option<usize>) {
+        let len = self.len();
+        (len, Some(len))
+    }
+}
+
+impl<'a, T: Decode<'a, SliceReader<'a>> + Duplicate> ExactSizeIterator for SetOfRefIter<'a, T> {
+    /// How many items are still to come, if memory is found for each.
+    fn len(&self) -> usize
+        ensures items { result ≡ length (encodings_of T.encoding self.now) }
+    {
+        match &self.rest {
+            Rest::Octets(items) => items.left,
+            Rest::Items(items) => items.len(),
+        }
+    }
+}
+
+impl<'a, T: Decode<'a, SliceReader<'a>> + Duplicate> FusedIterator for SetOfRefIter<'a, T> {}
