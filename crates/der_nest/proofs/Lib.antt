@@ -8,3 +8,4 @@ pub mod SequenceReading
 pub mod ReReadItems
 pub mod BorrowedReading
 pub mod BorrowedWriting
+pub mod BorrowedOrder

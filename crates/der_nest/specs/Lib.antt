@@ -17,3 +17,4 @@ pub mod ReReading
 pub mod Found
 pub mod BorrowedItems
 pub mod FindingNext
+pub mod ComparingBorrowed

@@ -15,18 +15,22 @@ ghost use Rattle.der_nest.specs.BorrowedSets.{Borrowed, OfItems, OfOctets, encod
 ghost use Rattle.der_nest.specs.BorrowedLaws.{parse_of_borrowed, same_length_borrowed, accepts_borrowed_contents, readable_borrowed, one_form_borrowed, re_reads_borrowed_memory};
 
 mod checked_octets;
+mod comparing;
 pub(crate) mod found;
 pub(crate) mod item_reader;
 mod writing;
 
 use checked_octets::CheckedOctets;
 use crate::finding::follows;
+use crate::set_of_ref_iter::{Rest, SetOfRefIter};
+use comparing::cmp_borrowed;
 use der_elem::{
     Decode, DecodeValue, DerOrd, Encode, EncodeValue, Form, FormMemory, FormValue, OneTag, SetTag,
-    Tagged, ValueMemory, encode_items, items_len, read_contents,
+    Tagged, ValueMemory, ValueOrd, encode_items, items_len, read_contents,
 };
 use der_tlv::{Error, ErrorKind, Header, Length, Reader, SliceReader, Writer};
 use std::alloc::Global;
+use std::cmp::Ordering;
 use std::marker::Model;
 
 /// Items that stand in order.
@@ -69,6 +73,17 @@ impl<'a, T: Form> SetOfRef<'a, T> {
             Source::Octets(octets) => octets.count,
             Source::Items(items) => items.items.len(),
         }
+    }
+
+    /// The items, in order: copies of those of a slice, or items that are read again.
+    pub fn iter(&self) -> SetOfRefIter<'a, T>
+        ensures { result ≡ self.now }
+    {
+        let rest = match &self.source {
+            Source::Octets(octets) => Rest::Octets(octets.items()),
+            Source::Items(items) => Rest::Items(items.items),
+        };
+        SetOfRefIter { rest }
     }
 
     /// Whether there are none.
@@ -176,5 +191,11 @@ impl<'a, T: Decode<'a, SliceReader<'a>> + Encode + Tagged> EncodeValue for SetOf
             Source::Octets(octets) => octets.encode_items(writer),
             Source::Items(items) => encode_items(items.items, writer),
         }
+    }
+}
+
+impl<'a, T: Decode<'a, SliceReader<'a>> + DerOrd + Tagged> ValueOrd for SetOfRef<'a, T> {
+    fn value_cmp(&self, other: &SetOfRef<'a, T>) -> Result<Ordering, Error> {
+        cmp_borrowed(self.iter(), other.iter())
     }
 }
