@@ -32,7 +32,7 @@ items_from-none (OfItems vs) = refl
 items_from-none (OfOctets es) = refl
 
 -- the first of what is left behind a place is the one there
-next_at : {A : Type 0} (xs : List A) (i : ℕ) (x : A) (others : List A) → drop i xs ≡ x ∷ others → (others ≡ drop (suc i) xs) × (slice_get xs i ≡ Some x)
+pub next_at : {A : Type 0} (xs : List A) (i : ℕ) (x : A) (others : List A) → drop i xs ≡ x ∷ others → (others ≡ drop (suc i) xs) × (slice_get xs i ≡ Some x)
 next_at [] zero x others e = cc
 next_at [] (suc i) x others e = cc
 next_at (y ∷ ys) zero x others e = (cc, cc)

@@ -9,3 +9,4 @@ pub mod ReReadItems
 pub mod BorrowedReading
 pub mod BorrowedWriting
 pub mod BorrowedOrder
+pub mod BorrowedOwning

@@ -1,5 +1,5 @@
 -- Items that are read again from octets that were read before.
-use Rattle.std.specs.Prelude.{◌≡◌, ℕ, ◌<◌, List, [], ◌∷◌, length, Bool, true, false, Option, Some, None, Result, Ok, Err, ◌⊎◌}
+use Rattle.std.specs.Prelude.{◌≡◌, ℕ, ◌<◌, ◌≤◌, slice_get, List, [], ◌∷◌, length, Bool, true, false, Option, Some, None, Result, Ok, Err, ◌⊎◌}
 use Rattle.der_tlv.specs.declared.error.ErrorKind.{ErrorKind}
 use Rattle.der_tlv.specs.declared.error.ErrorKind.TheVariants.{Memory, SetOrdering}
 use Rattle.der_tlv.specs.declared.error.Error.{Error}
@@ -28,6 +28,12 @@ abbrev pub ReReads : {T : Type 0} → form.Ghosts T → List (List ℕ) → List
 ReReads F old new None = (old ≡ []) × (new ≡ [])
 ReReads F old new (Some (Ok v)) = F.readable v × (old ≡ F.encoding v ∷ new)
 ReReads F old new (Some (Err e)) = (e.kind ≡ Memory) × (F.TAKES_MEMORY ≡ true) × (0 < length old) × (new ≡ [])
+
+-- The item at a place, read again: none is there, or this one, or memory ran out.
+abbrev pub ReReadsAt : {T : Type 0} → form.Ghosts T → List (List ℕ) → ℕ → Option (Result T Error) → Type 0
+ReReadsAt F es i None = length es ≤ i
+ReReadsAt F es i (Some (Ok v)) = F.readable v × (slice_get es i ≡ Some (F.encoding v))
+ReReadsAt F es i (Some (Err e)) = (e.kind ≡ Memory) × (F.TAKES_MEMORY ≡ true) × (i < length es)
 
 -- an item may come after the last one, if there is one
 abbrev pub CanFollow : {T : Type 0} → (T → List ℕ) → Option T → T → Type 0

@@ -8,10 +8,13 @@
 //! are read by a reader of the contents octets alone, from position 0 on, under DER. They are read
 //! again by each call that gives, writes or compares them.
 
-ghost use Rattle.std.specs.Prelude.{◌≡◌, length, ◌==◌, IfOk};
-ghost use Rattle.der_elem.specs.declared.form.Form as form;
+ghost use Rattle.std.specs.Prelude.{◌≡◌, length, false, refl, ◌==◌, IfOk, IfErr};
+ghost use Rattle.std.specs.List.Sorted.{IsSorted};
+ghost use Rattle.der_tlv.specs.Octets.{lex};
+ghost use Rattle.der_tlv.specs.declared.error.ErrorKind.TheVariants.{Memory};
 ghost use Rattle.der_nest.specs.Places.{IsInOrder};
 ghost use Rattle.der_nest.specs.BorrowedSets.{Borrowed, OfItems, OfOctets, encodings_of, borrowed_contents, re_reads_borrowed, OneFormBorrowed, Borrows, AcceptsBorrowed, ReadableBorrowed, parse_borrowed};
+ghost use Rattle.der_nest.specs.BorrowedItems.{GivesAt, AreItemsOf};
 ghost use Rattle.der_nest.specs.BorrowedLaws.{parse_of_borrowed, same_length_borrowed, accepts_borrowed_contents, readable_borrowed, one_form_borrowed, re_reads_borrowed_memory};
 
 mod checked_octets;
@@ -23,9 +26,10 @@ mod writing;
 use checked_octets::CheckedOctets;
 use crate::finding::follows;
 use crate::set_of_ref_iter::{Rest, SetOfRefIter};
+use crate::set_of_vec::SetOfVec;
 use comparing::cmp_borrowed;
 use der_elem::{
-    Decode, DecodeValue, DerOrd, Encode, EncodeValue, Form, FormMemory, FormValue, OneTag, SetTag,
+    Decode, DecodeValue, DerOrd, Duplicate, Encode, EncodeValue, Form, FormMemory, FormValue, OneTag, SetTag,
     Tagged, ValueMemory, ValueOrd, encode_items, items_len, read_contents,
 };
 use der_tlv::{Error, ErrorKind, Header, Length, Reader, SliceReader, Writer};
@@ -77,13 +81,17 @@ impl<'a, T: Form> SetOfRef<'a, T> {
 
     /// The items, in order: copies of those of a slice, or items that are read again.
     pub fn iter(&self) -> SetOfRefIter<'a, T>
-        ensures { result ≡ self.now }
+        ensures items { result ≡ self.now }
+        ensures in_order { IsSorted lex (encodings_of T.encoding self.now) }
     {
-        let rest = match &self.source {
-            Source::Octets(octets) => Rest::Octets(octets.items()),
-            Source::Items(items) => Rest::Items(items.items),
-        };
-        SetOfRefIter { rest }
+        match &self.source {
+            Source::Octets(octets) => SetOfRefIter {
+                rest: Rest::Octets(octets.items()),
+            },
+            Source::Items(items) => SetOfRefIter {
+                rest: Rest::Items(items.items),
+            },
+        }
     }
 
     /// Whether there are none.
@@ -91,6 +99,71 @@ impl<'a, T: Form> SetOfRef<'a, T> {
         ensures { result ≡ (length (encodings_of T.encoding self.now) == 0) }
     {
         self.len() == 0
+    }
+}
+
+impl<'a, T: Form> SetOfRef<'a, T> {
+    /// A set of items that are known to stand in order.
+    pub(crate) fn of_ordered(items: &'a [T]) -> SetOfRef<'a, T>
+        requires { IsInOrder T.encoding items.now }
+        ensures { result ≡ OfItems items.now }
+    {
+        SetOfRef {
+            source: Source::Items(OrderedItems { items }),
+        }
+    }
+}
+
+impl<'a, T: Decode<'a, SliceReader<'a>> + Duplicate> SetOfRef<'a, T> {
+    /// The item at a place, if there is one: a copy of that of a slice, or one that is read again.
+    ///
+    /// # Errors
+    /// (1) where the copy, or reading, takes memory.
+    pub fn get(&self, index: usize) -> Option<Result<T, Error>>
+        ensures { GivesAt T.Form T.is_copy T.takes_memory_to_copy self.now index result }
+    {
+        match &self.source {
+            Source::Octets(octets) => octets.get(index),
+            Source::Items(items) => {
+                if index >= items.items.len() {
+                    return None;
+                }
+                Some(items.items[index].duplicate())
+            }
+        }
+    }
+
+    /// The items, in a set on the heap.
+    ///
+    /// # Errors
+    /// (1) where memory runs out.
+    pub fn ref_to_owned(&self, alloc: Global) -> Result<SetOfVec<T>, Error>
+        ensures ok { IfOk result (AreItemsOf T.Form T.is_copy self.now) }
+        ensures refused { IfErr result (λ e. e.kind ≡ Memory) }
+    {
+        let mut items = Vec::new(alloc);
+        let mut rest = self.iter();
+        'items: while let Some(item) = rest.next() {
+            let item = item?;
+            if items.push(item).is_err() {
+                return Err(Error::from_kind(ErrorKind::Memory));
+            }
+        }
+        Ok(SetOfVec::of_ordered(items))
+    }
+}
+
+impl<'a, 'b, T: Form> From<&'b SetOfRef<'a, T>> for SetOfRef<'a, T> {
+    ghost from_gives = { λ s r. r ≡ s.now };
+
+    /// The same set, of the same slice or octets.
+    fn from(set: &'b SetOfRef<'a, T>) -> SetOfRef<'a, T> {
+        match &set.source {
+            Source::Octets(octets) => SetOfRef {
+                source: Source::Octets(octets.again()),
+            },
+            Source::Items(items) => SetOfRef::of_ordered(items.items),
+        }
     }
 }
 
@@ -110,9 +183,7 @@ impl<'a, T: DerOrd> TryFrom<&'a [T]> for SetOfRef<'a, T> {
                 Err(_) => return Err(Error::from_kind(ErrorKind::SetOrdering)),
             }
         }
-        Ok(SetOfRef {
-            source: Source::Items(OrderedItems { items }),
-        })
+        Ok(SetOfRef::of_ordered(items))
     }
 }
 

@@ -7,7 +7,7 @@ ghost use Rattle.der_tlv.specs.declared.encoding_rules.EncodingRules.TheVariants
 ghost use Rattle.der_tlv.specs.Views.{slice_reader_state};
 ghost use Rattle.der_elem.specs.Decoding.{Faults};
 ghost use Rattle.der_nest.specs.BorrowedSets.{OfOctets, AcceptsBorrowed, parse_borrowed_items};
-ghost use Rattle.der_nest.specs.ReReading.{CanFollow, CannotFollow, encodings_read, unread};
+ghost use Rattle.der_nest.specs.ReReading.{CanFollow, CannotFollow, ReReadsAt, encodings_read, unread};
 
 use crate::set_of_ref::item_reader::ItemReader;
 use der_elem::{Decode, DerOrd, Form, Tagged};
@@ -36,6 +36,42 @@ impl<'a, T: Form> CheckedOctets<'a, T> {
             Ok(reader) => ItemReader::new(self.alloc, reader, self.count),
             Err(_) => unreachable!(),
         }
+    }
+
+    /// The same octets.
+    pub(crate) fn again(&self) -> CheckedOctets<'a, T>
+        ensures octets { result.octets.now ≡ self.now.octets.now }
+        ensures count { result.count ≡ self.now.count }
+    {
+        CheckedOctets {
+            octets: self.octets,
+            count: self.count,
+            alloc: self.alloc,
+            of: PhantomData,
+        }
+    }
+}
+
+impl<'a, T: Decode<'a, SliceReader<'a>>> CheckedOctets<'a, T> {
+    /// The item at a place, if there is one, read again after those before it.
+    ///
+    /// # Errors
+    /// (1) where an item takes memory.
+    pub(crate) fn get(&self, index: usize) -> Option<Result<T, Error>>
+        ensures { ReReadsAt T.Form (encodings_read self.now.count T.parse Der 0 self.now.octets.now) index result }
+    {
+        if index >= self.count {
+            return None;
+        }
+        let mut items = self.items();
+        'skipped: for _i in 0..index {
+            match items.next() {
+                None => return None,
+                Some(Err(error)) => return Some(Err(error)),
+                Some(Ok(_item)) => {}
+            }
+        }
+        items.next()
     }
 }
 

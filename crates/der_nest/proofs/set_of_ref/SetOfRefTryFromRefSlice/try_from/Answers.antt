@@ -15,8 +15,8 @@ returns-in-Err g c =
     let parts : xs ≡ take i xs ++ x ∷ drop (i + 1) xs = sym (take-append-drop i xs) ∙ ap (λ ys. take i xs ++ ys) (item_first xs i x inside here) in
     (c.from_kind.ensures.kind, (take i xs, x, drop (i + 1) xs, c.in-Err.field-0.kind, parts, c.in-Err.ensures.refused))
 
-pub invariant_of-result : goal.invariant_of-result
-invariant_of-result g c =
+pub of_ordered-requires : goal.of_ordered-requires
+of_ordered-requires g c =
     let xs = c.args.items.now in
     let all : c.items.i ≡ length xs = search rules in
-    record { in_order = subst (IsInOrder g.T.Form.encoding) (ap (λ n. take n xs) all ∙ take-length xs) c.items.invariant }
+    subst (IsInOrder g.T.Form.encoding) (ap (λ n. take n xs) all ∙ take-length xs) c.items.invariant
