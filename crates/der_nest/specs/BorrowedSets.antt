@@ -80,11 +80,6 @@ parse_borrowed_items parse octets = parse_in_order (length octets) parse [] 0 oc
 abbrev pub parse_borrowed : Parse → ContentsParse
 parse_borrowed parse rules p octets = joined (parse_borrowed_items parse octets)
 
--- what reading the octets of such a set answers
-abbrev pub ReadsBorrowed : {T : Type 0} → form.Ghosts T → List ℕ → Result (Borrowed T) Error → Type 0
-ReadsBorrowed F octets (Ok v) = AcceptsBorrowed F v octets
-ReadsBorrowed F octets (Err e) = Faults F.TAKES_MEMORY (parse_borrowed_items F.parse octets) e.kind
-
 -- what borrowing a slice of items answers: a set of them, or (11), as one cannot come after those before it
 abbrev pub Borrows : {T : Type 0} → form.Ghosts T → List T → Result (Borrowed T) Error → Type 0
 Borrows F items (Ok v) = (v ≡ OfItems items) × IsInOrder F.encoding items

@@ -8,7 +8,8 @@
 //! are read by a reader of the contents octets alone, from position 0 on, under DER. They are read
 //! again by each call that gives, writes or compares them.
 
-ghost use Rattle.std.specs.Prelude.{◌≡◌, length, false, refl, ◌==◌, IfOk, IfErr};
+ghost use Rattle.std.specs.Prelude.{⊤, ◌≡◌, length, false, refl, ◌==◌, IfOk, IfErr};
+ghost use Rattle.std.proofs.Common.{ap, subst, sym};
 ghost use Rattle.std.specs.List.Sorted.{IsSorted};
 ghost use Rattle.der_tlv.specs.Octets.{lex};
 ghost use Rattle.der_tlv.specs.declared.error.ErrorKind.TheVariants.{Memory};
@@ -23,17 +24,18 @@ pub(crate) mod found;
 pub(crate) mod item_reader;
 mod writing;
 
-use checked_octets::CheckedOctets;
 use crate::finding::follows;
 use crate::set_of_ref_iter::{Rest, SetOfRefIter};
 use crate::set_of_vec::SetOfVec;
+use checked_octets::CheckedOctets;
 use comparing::cmp_borrowed;
 use der_elem::{
-    Decode, DecodeValue, DerOrd, Duplicate, Encode, EncodeValue, Form, FormMemory, FormValue, OneTag, SetTag,
-    Tagged, ValueMemory, ValueOrd, encode_items, items_len, read_contents,
+    Decode, DecodeValue, DerOrd, Duplicate, DuplicateValue, Encode, EncodeValue, Form, FormMemory,
+    FormValue, OneTag, SetTag, Tagged, ValueMemory, ValueOrd, encode_items, items_len,
+    read_contents,
 };
 use der_tlv::{Error, ErrorKind, Header, Length, Reader, SliceReader, Writer};
-use std::alloc::Global;
+use std::alloc::{AllocError, Global};
 use std::cmp::Ordering;
 use std::marker::Model;
 
@@ -167,6 +169,16 @@ impl<'a, 'b, T: Form> From<&'b SetOfRef<'a, T>> for SetOfRef<'a, T> {
     }
 }
 
+impl<'a, T: Form> Clone for SetOfRef<'a, T> {
+    ghost is_clone = { λ s r. r ≡ s };
+
+    ghost is_infallible = { λ _. ⊤ };
+
+    fn clone(&self) -> Result<SetOfRef<'a, T>, AllocError> {
+        Ok(SetOfRef::from(self))
+    }
+}
+
 impl<'a, T: DerOrd> TryFrom<&'a [T]> for SetOfRef<'a, T> {
     type Error = Error;
 
@@ -228,8 +240,7 @@ impl<'a, T: FormMemory> ValueMemory for SetOfRef<'a, T> {
 }
 
 impl<'a, R: Reader<'a>, T: Decode<'a, SliceReader<'a>> + DerOrd + Tagged> DecodeValue<'a, R>
-    for SetOfRef<'a, T>
-{
+    for SetOfRef<'a, T> {
     fn decode_value(
         alloc: Global,
         reader: &mut R,
@@ -269,4 +280,20 @@ impl<'a, T: Decode<'a, SliceReader<'a>> + DerOrd + Tagged> ValueOrd for SetOfRef
     fn value_cmp(&self, other: &SetOfRef<'a, T>) -> Result<Ordering, Error> {
         cmp_borrowed(self.iter(), other.iter())
     }
+}
+
+impl<'a, T: Form> DuplicateValue for SetOfRef<'a, T> {
+    ghost is_copy_value = { λ v w. w ≡ v };
+
+    ghost takes_memory_to_copy_value = { false };
+
+    fn duplicate_value(&self) -> Result<SetOfRef<'a, T>, Error> {
+        Ok(SetOfRef::from(self))
+    }
+
+    ghost copy_contents = { λ v w e. ap (borrowed_contents T.encoding) e };
+
+    ghost copy_form_value = { λ v w x e one. subst (λ s. OneFormBorrowed T.Form s x) (sym e) one };
+
+    ghost copy_re_reads_value = { λ v w e. ap (re_reads_borrowed T.Form) e };
 }
