@@ -1,6 +1,8 @@
 //! Sequences and sets of items (X.690 8.9 to 8.12, 11.6).
 #![tactic(auto)]
 
+#[cfg(test)]
+mod borrowed_tests;
 mod finding;
 mod items;
 pub mod laws;
