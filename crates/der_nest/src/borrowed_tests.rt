@@ -144,3 +144,118 @@ fn borrows_slices_in_order(rt: HostRuntime) -> Result<(), Fail> {
     );
     Ok(())
 }
+
+// The numbers of a set's items, in order.
+fn numbers(rt: &impl Abort, alloc: Global, set: &SetOfRef<'_, u16>) -> Result<Vec<u16>, u8> {
+    let mut numbers = Vec::new(alloc);
+    let mut items = set.iter();
+    let mut left = set.len();
+    while let Some(item) = items.next() {
+        let number = numbered(item)?;
+        if left > 0 {
+            left -= 1;
+        }
+        assert_eq!(rt; items.len(), left);
+        if numbers.push(number).is_err() {
+            return Err(1);
+        }
+    }
+    assert_eq!(rt; left, 0);
+    assert!(rt; items.next().is_none());
+    Ok(numbers)
+}
+
+#[test]
+fn gives_the_items_of_octets(rt: HostRuntime) -> Result<(), Fail> {
+    let alloc = rt.alloc();
+    let set: SetOfRef<u16> = numbered(SetOfRef::from_der(alloc, &ORDERED))?;
+    assert_eq!(rt; numbers(&rt, alloc, &set)?.as_slice(), [7, 8].as_slice());
+    assert_eq!(rt; numbered(set.get(0).ok_or("none")?)?, 7);
+    assert_eq!(rt; numbered(set.get(1).ok_or("none")?)?, 8);
+    assert!(rt; set.get(2).is_none());
+    let owned = numbered(set.ref_to_owned(alloc))?;
+    assert_eq!(rt; owned.as_slice(), [7, 8].as_slice());
+    Ok(())
+}
+
+#[test]
+fn gives_the_items_of_a_slice(rt: HostRuntime) -> Result<(), Fail> {
+    let alloc = rt.alloc();
+    let owned = numbered(SetOfVec::from_array(alloc, [8u16, 7, 300]))?;
+    let set = owned.owned_to_ref();
+    assert_eq!(rt;
+        numbers(&rt, alloc, &set)?.as_slice(),
+        [7, 8, 300].as_slice()
+    );
+    assert_eq!(rt; numbered(set.get(2).ok_or("none")?)?, 300);
+    assert!(rt; set.get(3).is_none());
+    let again = SetOfRef::from(&set);
+    let copy = numbered(again.duplicate())?;
+    assert_eq!(rt;
+        numbered(copy.ref_to_owned(alloc))?.as_slice(),
+        owned.as_slice()
+    );
+    let cloned = copy.clone()?;
+    assert_eq!(rt; numbered(cloned.der_cmp(&set)), Ok(Ordering::Equal));
+    Ok(())
+}
+
+// The order of two sets of borrowed numbers.
+fn order<'a>(items: &'a [u16], others: &'a [u16]) -> Result<Ordering, u8> {
+    let set = numbered(SetOfRef::try_from(items))?;
+    let other = numbered(SetOfRef::try_from(others))?;
+    numbered(set.der_cmp(&other))
+}
+
+#[test]
+fn orders_slices_by_encodings(rt: HostRuntime) {
+    assert_eq!(rt;
+        order(&[0, 1, 2, 3, 5], &[0, 1, 2, 3, 4]),
+        Ok(Ordering::Greater)
+    );
+    assert_eq!(rt;
+        order(&[0, 1, 2, 3, 4], &[0, 1, 2, 3, 5]),
+        Ok(Ordering::Less)
+    );
+    assert_eq!(rt; order(&[1, 2], &[1, 2]), Ok(Ordering::Equal));
+}
+
+// The order of a set that is read and of one of borrowed numbers, and the other way round.
+fn orders<'a>(
+    alloc: Global,
+    octets: &'a [u8],
+    items: &'a [u16],
+) -> Result<(Ordering, Ordering), u8> {
+    let read: SetOfRef<'a, u16> = numbered(SetOfRef::from_der(alloc, octets))?;
+    let lent = numbered(SetOfRef::try_from(items))?;
+    let order = numbered(read.der_cmp(&lent))?;
+    Ok((order, numbered(lent.der_cmp(&read))?))
+}
+
+#[test]
+fn orders_octets_by_encodings(rt: HostRuntime) {
+    let alloc = rt.alloc();
+    assert_eq!(rt;
+        orders(alloc, &ORDERED, &[7, 8]),
+        Ok((Ordering::Equal, Ordering::Equal))
+    );
+    assert_eq!(rt;
+        orders(alloc, &ORDERED, &[7, 9]),
+        Ok((Ordering::Less, Ordering::Greater))
+    );
+    assert_eq!(rt;
+        orders(alloc, &ORDERED, &[7]),
+        Ok((Ordering::Greater, Ordering::Less))
+    );
+}
+
+// Whether reading a set of these items takes memory.
+fn takes_memory<'a, T: 'a + Decode<'a, SliceReader<'a>> + DerOrd + Tagged>() -> bool {
+    <SetOfRef<'a, T> as TakesMemory>::TAKES_MEMORY
+}
+
+#[test]
+fn takes_memory_as_the_items_do(rt: HostRuntime) {
+    assert!(rt; !takes_memory::<u16>());
+    assert!(rt; takes_memory::<SetOfVec<u16>>());
+}
