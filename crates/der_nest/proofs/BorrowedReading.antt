@@ -1,23 +1,23 @@
 -- Octets that are read item by item, each not smaller than the one before.
-use Rattle.std.proofs.Common.{◌≡◌, ℕ, zero, suc, ◌+◌, ◌-◌, ◌<◌, ◌≤◌, ◌^◌, List, [], ◌∷◌, ◌++◌, length, take, drop, map, get_or, Bool, true, false, Option, Some, None, Result, Ok, Err, ◌⊎◌, refl, sym, ap, ◌∙◌, arith, inl, inr, subst}
+use Rattle.std.proofs.Common.{◌≡◌, ℕ, suc, ◌+◌, ◌-◌, ◌<◌, ◌≤◌, ◌^◌, List, [], ◌∷◌, ◌++◌, length, take, drop, map, get_or, true, false, Option, Some, None, Ok, Err, refl, sym, ap, ◌∙◌, arith, inl, inr, subst}
 use Rattle.std.specs.Ordering.{is_le}
 use Rattle.std.proofs.Math.Seq.{take-length}
 use Rattle.std.proofs.lemmas.List.{length-append, length-take, length-drop, take-append-drop, get_or_push, map_push}
 use Rattle.der_tlv.specs.declared.error.ErrorKind.{ErrorKind}
-use Rattle.der_tlv.specs.declared.error.ErrorKind.TheVariants.{Memory, SetOrdering}
+use Rattle.der_tlv.specs.declared.error.ErrorKind.TheVariants.{SetOrdering}
 use Rattle.der_tlv.specs.declared.encoding_rules.EncodingRules.TheVariants.{Der}
 use Rattle.der_tlv.specs.Octets.{lex}
-use Rattle.der_tlv.specs.ReaderState.{ReaderState, IsReaderState, rest, seen, opened, after_read}
+use Rattle.der_tlv.specs.ReaderState.{ReaderState, IsReaderState, rest, seen, opened}
 use Rattle.der_elem.specs.declared.form.Form as form
 use Rattle.der_elem.specs.Decoding.{Faults, Decoded}
 use Rattle.der_nest.specs.Places.{IsInOrder, not_above}
 use Rattle.der_nest.specs.PlacingLaws.{in_order_push, in_order_none}
 use Rattle.der_nest.specs.Lists.{AcceptsEach}
 use Rattle.der_nest.specs.ListLaws.{parse_of_each, length-each}
-use Rattle.der_nest.specs.BorrowedSets.{Borrowed, OfOctets, AcceptsBorrowed, then_in_order, parse_in_order, parse_borrowed_items}
-use Rattle.der_nest.specs.BorrowedLaws.{Follow, last_of, before_all, follow_in_order, parse_in_order-items, parse_in_order-step}
+use Rattle.der_nest.specs.BorrowedSets.{OfOctets, AcceptsBorrowed, then_in_order, parse_in_order, parse_borrowed_items}
+use Rattle.der_nest.specs.BorrowedLaws.{last_of, before_all, follow_in_order, parse_in_order-items, parse_in_order-step}
 use Rattle.der_nest.specs.ReReading.{CannotFollow, CanFollow, encodings_or_none, encodings_read}
-use Rattle.der_nest.proofs.EachReading.{EachSoFar, none_so_far, one_more, room, rest_now, same_rules, still_ready, all_accepted}
+use Rattle.der_nest.proofs.EachReading.{EachSoFar, none_so_far, one_more, room, rest_now, same_rules, still_ready}
 use Rattle.der_nest.proofs.SetReading.{incomparable_accepted}
 
 -- the last of the items, which was read from octets that fit

@@ -1,5 +1,5 @@
 -- Items that are read again and written, one after another.
-use Rattle.std.proofs.Common.{◌≡◌, ℕ, ◌+◌, ◌≤◌, List, [], ◌∷◌, ◌++◌, length, take, Bool, true, Result, Ok, Err, refl, sym, ap, ◌∙◌, arith, subst, append_assoc, inr, inl}
+use Rattle.std.proofs.Common.{◌≡◌, ℕ, ◌+◌, List, [], ◌∷◌, ◌++◌, length, take, true, Err, sym, ap, ◌∙◌, arith, subst, append_assoc, inr}
 use Rattle.std.specs.List.{concat}
 use Rattle.std.proofs.lemmas.List.{length-append, append-nil}
 use Rattle.std.proofs.Math.Seq.{take-append_seam}
@@ -8,7 +8,7 @@ use Rattle.der_tlv.specs.declared.error.ErrorKind.TheVariants.{Memory}
 use Rattle.der_tlv.specs.declared.error.Error.{Error}
 use Rattle.der_tlv.specs.Writing.{WriterState, Wrote}
 use Rattle.der_elem.specs.declared.form.Form as form
-use Rattle.der_elem.specs.Encoding.{Encodes, Stopped, Stops}
+use Rattle.der_elem.specs.Encoding.{Encodes, Stops}
 use Rattle.der_elem.proofs.Written.{wrote_nothing, wrote_both, stops_in, fault_within}
 
 -- the encodings before these were written

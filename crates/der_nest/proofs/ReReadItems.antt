@@ -1,9 +1,9 @@
 -- Items that are read again one after another.
-use Rattle.std.proofs.Common.{◌≡◌, ℕ, zero, suc, ◌+◌, ◌-◌, ◌<◌, List, [], ◌∷◌, length, take, drop, Bool, true, false, Result, Ok, Err, refl, sym, ap, ◌∙◌, arith, inl, inr}
+use Rattle.std.proofs.Common.{◌≡◌, ℕ, suc, ◌+◌, List, [], ◌∷◌, length, take, drop, true, false, Result, Ok, Err, refl, sym, ap, ◌∙◌, arith, inl, inr}
 use Rattle.der_tlv.specs.declared.error.ErrorKind.{ErrorKind}
 use Rattle.der_tlv.specs.declared.error.ErrorKind.TheVariants.{Memory}
 use Rattle.der_tlv.specs.declared.encoding_rules.EncodingRules.{EncodingRules}
-use Rattle.der_tlv.specs.ReaderState.{ReaderState, rest, seen, after_read}
+use Rattle.der_tlv.specs.ReaderState.{ReaderState, rest}
 use Rattle.der_tlv.proofs.ReaderStates.{rest-after_read}
 use Rattle.der_elem.specs.declared.form.Form as form
 use Rattle.der_elem.specs.Parsing.{Parse}

@@ -1,12 +1,10 @@
 -- The laws of sets that borrow, from those of their items.
-use Rattle.std.proofs.Common.{◌≡◌, ℕ, zero, suc, ◌+◌, ◌-◌, ◌<◌, ◌≤◌, zero-le, List, [], ◌∷◌, ◌++◌, length, map, drop, Bool, true, false, Option, Some, None, Result, Ok, Err, refl, sym, ap, ◌∙◌, subst, arith, flat_map, append_assoc, add_assoc, get_or}
-use Rattle.std.specs.List.{All, concat, list_any}
+use Rattle.std.proofs.Common.{◌≡◌, ℕ, zero, suc, ◌+◌, ◌-◌, ◌<◌, zero-le, List, [], ◌∷◌, ◌++◌, length, map, drop, true, Result, Ok, Err, refl, sym, ap, ◌∙◌, subst, arith, flat_map, append_assoc}
 use Rattle.std.specs.List.Sorted.{IsSorted}
 use Rattle.std.specs.Ordering.{is_le}
 use Rattle.std.proofs.lemmas.List.{length-append, append-nil}
 use Rattle.std.proofs.Math.Seq.{drop-append_seam}
 use Rattle.der_tlv.specs.declared.error.ErrorKind.{ErrorKind}
-use Rattle.der_tlv.specs.declared.error.ErrorKind.TheVariants.{SetOrdering}
 use Rattle.der_tlv.specs.declared.encoding_rules.EncodingRules.{EncodingRules}
 use Rattle.der_tlv.specs.declared.encoding_rules.EncodingRules.TheVariants.{Der}
 use Rattle.der_tlv.specs.Octets.{lex}
@@ -16,10 +14,9 @@ use Rattle.der_elem.specs.Accepting.{Fits}
 use Rattle.der_elem.specs.ItemLaws.{first_fits, others_fit}
 use Rattle.der_elem.specs.ArrayLaws.{re_reads_items}
 use Rattle.der_nest.specs.LexLaws.{le_from_not_lt}
-use Rattle.der_nest.specs.Places.{IsInOrder}
 use Rattle.der_nest.specs.Lists.{AcceptsEach, before_others, joined}
 use Rattle.der_nest.specs.ListLaws.{concat-map, length-each, same_length_each, accepts_each, readable_each}
-use Rattle.der_nest.specs.BorrowedSets.{Borrowed, OfItems, OfOctets, encodings_of, borrowed_contents, re_reads_borrowed, StandsAt, OneFormBorrowed, AcceptsBorrowed, ReadableBorrowed, then_in_order, parse_in_order, parse_borrowed_items, parse_borrowed}
+use Rattle.der_nest.specs.BorrowedSets.{Borrowed, OfItems, OfOctets, borrowed_contents, re_reads_borrowed, OneFormBorrowed, AcceptsBorrowed, ReadableBorrowed, then_in_order, parse_in_order, parse_borrowed_items, parse_borrowed}
 
 -- each of the encodings is not smaller than the one before it, the first than these octets
 abbrev pub Follow : List ℕ → List (List ℕ) → Type 0

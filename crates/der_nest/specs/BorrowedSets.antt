@@ -1,16 +1,14 @@
 -- Sets that borrow a slice of items, or the contents octets that they were read from (X.690 8.12, 11.6).
-use Rattle.std.specs.Prelude.{◌≡◌, ℕ, zero, suc, ◌+◌, ◌<◌, List, [], ◌∷◌, ◌++◌, length, map, drop, Bool, true, Option, Some, Result, Ok, Err, if◌then◌else◌, slice_get, ◌⊎◌}
+use Rattle.std.specs.Prelude.{◌≡◌, ℕ, zero, suc, ◌+◌, ◌<◌, List, [], ◌∷◌, ◌++◌, length, map, drop, Bool, Some, Result, Ok, Err, if◌then◌else◌, slice_get}
 use Rattle.std.specs.List.{All, concat, list_any}
 use Rattle.std.specs.Ordering.{is_le}
 use Rattle.der_tlv.specs.declared.error.ErrorKind.{ErrorKind}
 use Rattle.der_tlv.specs.declared.error.ErrorKind.TheVariants.{SetOrdering}
 use Rattle.der_tlv.specs.declared.error.Error.{Error}
-use Rattle.der_tlv.specs.declared.encoding_rules.EncodingRules.{EncodingRules}
 use Rattle.der_tlv.specs.declared.encoding_rules.EncodingRules.TheVariants.{Der}
 use Rattle.der_tlv.specs.Octets.{lex}
 use Rattle.der_elem.specs.declared.form.Form as form
 use Rattle.der_elem.specs.Parsing.{Parse, ContentsParse}
-use Rattle.der_elem.specs.Decoding.{Faults}
 use Rattle.der_nest.specs.Places.{IsInOrder, IsOutOfOrder}
 use Rattle.der_nest.specs.Lists.{AcceptsEach, before_others, joined}
 

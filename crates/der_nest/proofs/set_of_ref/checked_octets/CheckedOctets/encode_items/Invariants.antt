@@ -1,5 +1,4 @@
 use Rattle.std.proofs.Common.{length}
-use Rattle.std.specs.List.{concat}
 use Rattle.der_tlv.specs.declared.encoding_rules.EncodingRules.TheVariants.{Der}
 use Rattle.der_tlv.specs.Views.{slice_reader_state}
 use Rattle.der_nest.specs.ReReading.{encodings_read, unread}

@@ -1,4 +1,4 @@
-use Rattle.std.proofs.Common.{◌≡◌, ◌+◌, ◌≤◌, ◌<◌, [], ◌∷◌, suc, List, ℕ, length, drop, ap, sym, ◌∙◌, arith, add-one, Option, Some, None, Result, Ok, Err}
+use Rattle.std.proofs.Common.{◌≡◌, ◌<◌, List, ℕ, length, drop, ap, sym, ◌∙◌, arith, add-one, Option, Some, None, Result, Ok, Err}
 use Rattle.std.proofs.lemmas.List.{length-drop}
 use Rattle.der_tlv.specs.declared.encoding_rules.EncodingRules.TheVariants.{Der}
 use Rattle.der_tlv.specs.declared.error.Error.{Error}
