@@ -5,3 +5,8 @@ pub mod EachReading
 pub mod SetReading
 pub mod Copying
 pub mod SequenceReading
+pub mod ReReadItems
+pub mod BorrowedReading
+pub mod BorrowedWriting
+pub mod BorrowedOrder
+pub mod BorrowedOwning

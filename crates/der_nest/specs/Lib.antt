@@ -11,3 +11,10 @@ pub mod SetLaws
 pub mod SequencesOf
 pub mod SequenceLaws
 pub mod Lends
+pub mod BorrowedSets
+pub mod BorrowedLaws
+pub mod ReReading
+pub mod Found
+pub mod BorrowedItems
+pub mod FindingNext
+pub mod ComparingBorrowed

@@ -9,12 +9,16 @@ mod probe;
 mod sequence_of;
 mod sequence_ref;
 mod set_of;
+mod set_of_ref;
+mod set_of_ref_iter;
 mod set_of_vec;
 
 pub use probe::{Asks, ItemProbe, Probe, insertion_place};
 pub use sequence_of::SequenceOf;
 pub use sequence_ref::SequenceRef;
 pub use set_of::SetOf;
+pub use set_of_ref::SetOfRef;
+pub use set_of_ref_iter::SetOfRefIter;
 pub use set_of_vec::SetOfVec;
 
 #[cfg(test)]

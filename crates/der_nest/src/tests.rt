@@ -9,6 +9,7 @@ use std::hash::{DefaultHasher, Hash, Hasher};
 use std::process::Abort;
 use std::test::Fail;
 
+mod borrowed;
 mod counting;
 
 // The number of a refusal.

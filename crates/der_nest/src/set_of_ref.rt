@@ -1,0 +1,299 @@
+//! SET OF, borrowed, which is `SetOfRef` (X.690 8.12, 11.6).
+//!
+//! The tag is 31. The contents octets are the encodings of the items, one after another, in
+//! non-decreasing order, so that the INTEGERs 8 and 7 are encoded as 31 06 02 01 07 02 01 08.
+//!
+//! Reading keeps the octets alone. It refuses with the first fault of an item, from the left, or with
+//! (11) where an item is smaller than the one before, and (1) where the item takes memory. The items
+//! are read by a reader of the contents octets alone, from position 0 on, under DER. They are read
+//! again by each call that gives, writes or compares them.
+
+ghost use Rattle.std.specs.Prelude.{⊤, ◌≡◌, length, false, refl, ◌==◌, IfOk, IfErr};
+ghost use Rattle.std.proofs.Common.{ap, subst, sym};
+ghost use Rattle.std.specs.List.Sorted.{IsSorted};
+ghost use Rattle.der_tlv.specs.Octets.{lex};
+ghost use Rattle.der_tlv.specs.declared.error.ErrorKind.TheVariants.{Memory};
+ghost use Rattle.der_nest.specs.Places.{IsInOrder};
+ghost use Rattle.der_nest.specs.BorrowedSets.{Borrowed, OfItems, OfOctets, encodings_of, borrowed_contents, re_reads_borrowed, OneFormBorrowed, Borrows, AcceptsBorrowed, ReadableBorrowed, parse_borrowed};
+ghost use Rattle.der_nest.specs.BorrowedItems.{GivesAt, AreItemsOf};
+ghost use Rattle.der_nest.specs.BorrowedLaws.{parse_of_borrowed, same_length_borrowed, accepts_borrowed_contents, readable_borrowed, one_form_borrowed, re_reads_borrowed_memory};
+
+mod checked_octets;
+mod comparing;
+pub(crate) mod found;
+pub(crate) mod item_reader;
+mod writing;
+
+use crate::finding::follows;
+use crate::set_of_ref_iter::{Rest, SetOfRefIter};
+use crate::set_of_vec::SetOfVec;
+use checked_octets::CheckedOctets;
+use comparing::cmp_borrowed;
+use der_elem::{
+    Decode, DecodeValue, DerOrd, Duplicate, DuplicateValue, Encode, EncodeValue, Form, FormMemory,
+    FormValue, OneTag, SetTag, Tagged, ValueMemory, ValueOrd, encode_items, items_len,
+    read_contents,
+};
+use der_tlv::{Error, ErrorKind, Header, Length, Reader, SliceReader, Writer};
+use std::alloc::{AllocError, Global};
+use std::cmp::Ordering;
+use std::marker::Model;
+
+/// Items that stand in order.
+#[derive(Drop)]
+pub(crate) struct OrderedItems<'a, T: Form> {
+    pub(crate) items: &'a [T],
+    ghost in_order: { IsInOrder T.encoding items.now },
+}
+
+/// Where the items are.
+#[derive(Drop)]
+pub(crate) enum Source<'a, T: Form> {
+    Octets(CheckedOctets<'a, T>),
+    Items(OrderedItems<'a, T>),
+}
+
+/// A set of items that are borrowed, or read again from borrowed contents octets.
+#[derive(Drop)]
+pub struct SetOfRef<'a, T: Form> {
+    pub(crate) source: Source<'a, T>,
+}
+
+impl<'a, T: Form> Model for SetOfRef<'a, T> {
+    ghost use Rattle.der_tlv.specs.declared.encoding_rules.EncodingRules.TheVariants.{Der};
+    ghost use Rattle.der_nest.specs.BorrowedSets.{Borrowed, OfItems, OfOctets};
+    ghost use Rattle.der_nest.specs.ReReading.{encodings_read};
+    ghost use Rattle.der_nest.specs.declared.set_of_ref.Source.TheVariants.{Octets, Items};
+
+    ghost Value = { Borrowed T };
+
+    ghost view = { λ s. elim s.source [ Octets o ↦ OfOctets (encodings_read o.count T.parse Der 0 o.octets.now) | Items i ↦ OfItems i.items.now ] };
+}
+
+impl<'a, T: Form> SetOfRef<'a, T> {
+    /// How many items there are.
+    pub fn len(&self) -> usize
+        ensures { result ≡ length (encodings_of T.encoding self.now) }
+    {
+        match &self.source {
+            Source::Octets(octets) => octets.count,
+            Source::Items(items) => items.items.len(),
+        }
+    }
+
+    /// The items, in order: copies of those of a slice, or items that are read again.
+    pub fn iter(&self) -> SetOfRefIter<'a, T>
+        ensures items { result ≡ self.now }
+        ensures in_order { IsSorted lex (encodings_of T.encoding self.now) }
+    {
+        match &self.source {
+            Source::Octets(octets) => SetOfRefIter {
+                rest: Rest::Octets(octets.items()),
+            },
+            Source::Items(items) => SetOfRefIter {
+                rest: Rest::Items(items.items),
+            },
+        }
+    }
+
+    /// Whether there are none.
+    pub fn is_empty(&self) -> bool
+        ensures { result ≡ (length (encodings_of T.encoding self.now) == 0) }
+    {
+        self.len() == 0
+    }
+}
+
+impl<'a, T: Form> SetOfRef<'a, T> {
+    /// A set of items that are known to stand in order.
+    pub(crate) fn of_ordered(items: &'a [T]) -> SetOfRef<'a, T>
+        requires { IsInOrder T.encoding items.now }
+        ensures { result ≡ OfItems items.now }
+    {
+        SetOfRef {
+            source: Source::Items(OrderedItems { items }),
+        }
+    }
+}
+
+impl<'a, T: Decode<'a, SliceReader<'a>> + Duplicate> SetOfRef<'a, T> {
+    /// The item at a place, if there is one: a copy of that of a slice, or one that is read again.
+    ///
+    /// # Errors
+    /// (1) where the copy, or reading, takes memory.
+    pub fn get(&self, index: usize) -> Option<Result<T, Error>>
+        ensures { GivesAt T.Form T.is_copy T.takes_memory_to_copy self.now index result }
+    {
+        match &self.source {
+            Source::Octets(octets) => octets.get(index),
+            Source::Items(items) => {
+                if index >= items.items.len() {
+                    return None;
+                }
+                Some(items.items[index].duplicate())
+            }
+        }
+    }
+
+    /// The items, in a set on the heap.
+    ///
+    /// # Errors
+    /// (1) where memory runs out.
+    pub fn ref_to_owned(&self, alloc: Global) -> Result<SetOfVec<T>, Error>
+        ensures ok { IfOk result (AreItemsOf T.Form T.is_copy self.now) }
+        ensures refused { IfErr result (λ e. e.kind ≡ Memory) }
+    {
+        let mut items = Vec::new(alloc);
+        let mut rest = self.iter();
+        'items: while let Some(item) = rest.next() {
+            let item = item?;
+            if items.push(item).is_err() {
+                return Err(Error::from_kind(ErrorKind::Memory));
+            }
+        }
+        Ok(SetOfVec::of_ordered(items))
+    }
+}
+
+impl<'a, 'b, T: Form> From<&'b SetOfRef<'a, T>> for SetOfRef<'a, T> {
+    ghost from_gives = { λ s r. r ≡ s.now };
+
+    /// The same set, of the same slice or octets.
+    fn from(set: &'b SetOfRef<'a, T>) -> SetOfRef<'a, T> {
+        match &set.source {
+            Source::Octets(octets) => SetOfRef {
+                source: Source::Octets(octets.again()),
+            },
+            Source::Items(items) => SetOfRef::of_ordered(items.items),
+        }
+    }
+}
+
+impl<'a, T: Form> Clone for SetOfRef<'a, T> {
+    ghost is_clone = { λ s r. r ≡ s };
+
+    ghost is_infallible = { λ _. ⊤ };
+
+    fn clone(&self) -> Result<SetOfRef<'a, T>, AllocError> {
+        Ok(SetOfRef::from(self))
+    }
+}
+
+impl<'a, T: DerOrd> TryFrom<&'a [T]> for SetOfRef<'a, T> {
+    type Error = Error;
+
+    ghost try_from_gives = { λ items r. Borrows T.Form items.now r };
+
+    /// A set of items that stand in order.
+    ///
+    /// # Errors
+    /// (11) where an item is smaller than the one before, or the two have no comparison.
+    fn try_from(items: &'a [T]) -> Result<SetOfRef<'a, T>, Error> {
+        'items: for i in 0..items.len() {
+            match follows(&items[..i], &items[i]) {
+                Ok(()) => {}
+                Err(_) => return Err(Error::from_kind(ErrorKind::SetOrdering)),
+            }
+        }
+        Ok(SetOfRef::of_ordered(items))
+    }
+}
+
+impl<'a, T: Form> OneTag for SetOfRef<'a, T> {
+    type Marker = SetTag;
+}
+
+impl<'a, T: Form> FormValue for SetOfRef<'a, T> {
+    ghost contents = { borrowed_contents T.encoding };
+
+    ghost one_form_value = { OneFormBorrowed T.Form };
+
+    ghost re_reads_value = { re_reads_borrowed T.Form };
+
+    ghost accepts_value = { λ rules. AcceptsBorrowed T.Form };
+
+    ghost parse_value = { parse_borrowed T.parse };
+
+    ghost readable_value = { ReadableBorrowed T.Form };
+
+    ghost has_tag = { λ v t. Unit {0} };
+
+    ghost VALUE_TAKES_MEMORY = { T.TAKES_MEMORY };
+
+    ghost parse_of_accepted_value = { parse_of_borrowed T.Form };
+
+    ghost same_length_value = { same_length_borrowed T.Form };
+
+    ghost accepts_contents = { accepts_borrowed_contents T.Form };
+
+    ghost only_readable_value = { readable_borrowed T.Form };
+
+    ghost accepts_one_form_value = { one_form_borrowed T.Form };
+
+    ghost re_reads_memory_value = { re_reads_borrowed_memory T.Form };
+}
+
+impl<'a, T: FormMemory> ValueMemory for SetOfRef<'a, T> {
+    type OfValue = <T as FormMemory>::OfForm;
+
+    ghost memory_of_value = { T.memory_of_form };
+}
+
+impl<'a, R: Reader<'a>, T: Decode<'a, SliceReader<'a>> + DerOrd + Tagged> DecodeValue<'a, R>
+    for SetOfRef<'a, T> {
+    fn decode_value(
+        alloc: Global,
+        reader: &mut R,
+        header: Header,
+    ) -> Result<SetOfRef<'a, T>, Error> {
+        let octets = read_contents(reader, header)?;
+        match CheckedOctets::read(alloc, octets) {
+            Ok(octets) => Ok(SetOfRef {
+                source: Source::Octets(octets),
+            }),
+            Err(e) => {
+                // The reader fails; the position is that of the contents octets' own reader.
+                reader.error(e.kind);
+                Err(e)
+            }
+        }
+    }
+}
+
+impl<'a, T: Decode<'a, SliceReader<'a>> + Encode + Tagged> EncodeValue for SetOfRef<'a, T> {
+    fn value_len(&self) -> Result<Length, Error> {
+        match &self.source {
+            Source::Octets(octets) => octets.items_len(),
+            Source::Items(items) => items_len(items.items),
+        }
+    }
+
+    fn encode_value<W: Writer>(&self, writer: &mut W) -> Result<(), Error> {
+        match &self.source {
+            Source::Octets(octets) => octets.encode_items(writer),
+            Source::Items(items) => encode_items(items.items, writer),
+        }
+    }
+}
+
+impl<'a, T: Decode<'a, SliceReader<'a>> + DerOrd + Tagged> ValueOrd for SetOfRef<'a, T> {
+    fn value_cmp(&self, other: &SetOfRef<'a, T>) -> Result<Ordering, Error> {
+        cmp_borrowed(self.iter(), other.iter())
+    }
+}
+
+impl<'a, T: Form> DuplicateValue for SetOfRef<'a, T> {
+    ghost is_copy_value = { λ v w. w ≡ v };
+
+    ghost takes_memory_to_copy_value = { false };
+
+    fn duplicate_value(&self) -> Result<SetOfRef<'a, T>, Error> {
+        Ok(SetOfRef::from(self))
+    }
+
+    ghost copy_contents = { λ v w e. ap (borrowed_contents T.encoding) e };
+
+    ghost copy_form_value = { λ v w x e one. subst (λ s. OneFormBorrowed T.Form s x) (sym e) one };
+
+    ghost copy_re_reads_value = { λ v w e. ap (re_reads_borrowed T.Form) e };
+}

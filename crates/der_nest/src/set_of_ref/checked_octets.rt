@@ -1,0 +1,126 @@
+//! Contents octets that read as items in order.
+
+ghost use Rattle.std.specs.Prelude.{◌≡◌, ◌<◌, ◌≤◌, ◌^◌, ◌⊎◌, length, IfOk, IfErr, OnOk};
+ghost use Rattle.std.specs.List.Sorted.{IsSorted};
+ghost use Rattle.der_tlv.specs.Octets.{lex};
+ghost use Rattle.der_tlv.specs.declared.encoding_rules.EncodingRules.TheVariants.{Der};
+ghost use Rattle.der_tlv.specs.Views.{slice_reader_state};
+ghost use Rattle.der_elem.specs.Decoding.{Faults};
+ghost use Rattle.der_nest.specs.BorrowedSets.{OfOctets, AcceptsBorrowed, parse_borrowed_items};
+ghost use Rattle.der_nest.specs.ReReading.{CanFollow, CannotFollow, ReReadsAt, encodings_read, unread};
+
+use crate::set_of_ref::item_reader::ItemReader;
+use der_elem::{Decode, DerOrd, Form, Tagged};
+use der_tlv::{Error, ErrorKind, Reader, SliceReader};
+use std::alloc::Global;
+use std::marker::PhantomData;
+
+/// Octets that read as so many items in order.
+#[derive(Drop)]
+pub(crate) struct CheckedOctets<'a, T: Form> {
+    pub(crate) octets: &'a [u8],
+    pub(crate) count: usize,
+    pub(crate) alloc: Global,
+    of: PhantomData<T>,
+    ghost short: { length octets.now < 2 ^ 32 },
+    ghost counted: { length (encodings_read count T.parse Der 0 octets.now) ≡ count },
+    ghost in_order: { IsSorted lex (encodings_read count T.parse Der 0 octets.now) },
+}
+
+impl<'a, T: Form> CheckedOctets<'a, T> {
+    /// A reader of all items.
+    pub(crate) fn items(&self) -> ItemReader<'a, T>
+        ensures { unread result.left T.parse (slice_reader_state result.reader) ≡ encodings_read self.now.count T.parse Der 0 self.now.octets.now }
+    {
+        match SliceReader::new(self.octets) {
+            Ok(reader) => ItemReader::new(self.alloc, reader, self.count),
+            Err(_) => unreachable!(),
+        }
+    }
+
+    /// The same octets.
+    pub(crate) fn again(&self) -> CheckedOctets<'a, T>
+        ensures octets { result.octets.now ≡ self.now.octets.now }
+        ensures count { result.count ≡ self.now.count }
+    {
+        CheckedOctets {
+            octets: self.octets,
+            count: self.count,
+            alloc: self.alloc,
+            of: PhantomData,
+        }
+    }
+}
+
+impl<'a, T: Decode<'a, SliceReader<'a>>> CheckedOctets<'a, T> {
+    /// The item at a place, if there is one, read again after those before it.
+    ///
+    /// # Errors
+    /// (1) where an item takes memory.
+    pub(crate) fn get(&self, index: usize) -> Option<Result<T, Error>>
+        ensures { ReReadsAt T.Form (encodings_read self.now.count T.parse Der 0 self.now.octets.now) index result }
+    {
+        if index >= self.count {
+            return None;
+        }
+        let mut items = self.items();
+        'skipped: for _i in 0..index {
+            match items.next() {
+                None => return None,
+                Some(Err(error)) => return Some(Err(error)),
+                Some(Ok(_item)) => {}
+            }
+        }
+        items.next()
+    }
+}
+
+/// Asks that an item is not smaller than the last, if there is one.
+///
+/// # Errors
+/// The comparison's; (11) for a smaller item.
+fn may_follow<T: DerOrd>(last: &Option<T>, item: &T) -> Result<(), Error>
+    ensures ok { OnOk result (CanFollow T.encoding last.now item.now) }
+    ensures refused { IfErr result (λ e. CannotFollow T.Form last.now item.now e.kind) }
+{
+    match last {
+        None => Ok(()),
+        Some(last) => {
+            if last.der_cmp(item)?.is_gt() {
+                return Err(Error::from_kind(ErrorKind::SetOrdering));
+            }
+            Ok(())
+        }
+    }
+}
+
+impl<'a, T: Decode<'a, SliceReader<'a>> + DerOrd + Tagged> CheckedOctets<'a, T> {
+    /// Reads items until nothing is left, and keeps the octets alone.
+    ///
+    /// # Errors
+    /// (9) for more than 4294967295 octets; the first fault of an item, from the left; (11) for an item that is smaller than the one
+    /// before; (1) where an item takes memory.
+    pub(crate) fn read(alloc: Global, octets: &'a [u8]) -> Result<CheckedOctets<'a, T>, Error>
+        ensures ok { IfOk result (λ read. AcceptsBorrowed T.Form (OfOctets (encodings_read read.count T.parse Der 0 read.octets.now)) octets.now) }
+        ensures refused { IfErr result (λ e. Faults T.TAKES_MEMORY (parse_borrowed_items T.parse octets.now) e.kind ⊎ (2 ^ 32 ≤ length octets.now)) }
+    {
+        let mut reader = match SliceReader::new(octets) {
+            Ok(reader) => reader,
+            Err(e) => return Err(e),
+        };
+        let mut count = 0;
+        let mut last: Option<T> = None;
+        'items: while !reader.is_finished() {
+            let item = T::decode(alloc, &mut reader)?;
+            may_follow(&last, &item)?;
+            last = Some(item);
+            count += 1;
+        }
+        Ok(CheckedOctets {
+            octets,
+            count,
+            alloc,
+            of: PhantomData,
+        })
+    }
+}

@@ -1,0 +1,106 @@
+//! The items of a borrowed set, one after another.
+
+ghost use Rattle.std.specs.Prelude.{◌≡◌, length, false};
+ghost use Rattle.std.specs.Iterator.{at_most};
+ghost use Rattle.der_nest.specs.BorrowedSets.{encodings_of};
+ghost use Rattle.der_nest.specs.BorrowedItems.{GivesNext};
+ghost use Rattle.der_nest.specs.FindingNext.{FindsNext};
+
+use crate::set_of_ref::found::Found;
+use crate::set_of_ref::item_reader::ItemReader;
+use der_elem::{Decode, Duplicate, Form};
+use der_tlv::{Error, SliceReader};
+use std::iter::FusedIterator;
+use std::marker::Model;
+
+/// The items that are still to come.
+#[derive(Drop)]
+pub(crate) enum Rest<'a, T: Form> {
+    Octets(ItemReader<'a, T>),
+    Items(&'a [T]),
+}
+
+/// The items that are still to come, in order: copies of those of a slice, or items that are read
+/// again.
+///
+/// Where memory runs out for an item, the refusal (1) is the last that comes, and `len` is then 0.
+/// After the last one, `next` answers `None` for good.
+#[derive(Drop)]
+pub struct SetOfRefIter<'a, T: Form> {
+    pub(crate) rest: Rest<'a, T>,
+}
+
+impl<'a, T: Form> Model for SetOfRefIter<'a, T> {
+    ghost use Rattle.der_tlv.specs.Views.{slice_reader_state};
+    ghost use Rattle.der_nest.specs.BorrowedSets.{Borrowed, OfItems, OfOctets};
+    ghost use Rattle.der_nest.specs.ReReading.{unread};
+    ghost use Rattle.der_nest.specs.declared.set_of_ref_iter.Rest.TheVariants.{Octets, Items};
+
+    ghost Value = { Borrowed T };
+
+    ghost view = { λ s. elim s.rest [ Octets r ↦ OfOctets (unread r.left T.parse (slice_reader_state r.reader)) | Items i ↦ OfItems i.now ] };
+}
+
+impl<'a, T: Decode<'a, SliceReader<'a>>> SetOfRefIter<'a, T> {
+    /// The next item, lent or read again.
+    pub(crate) fn next_found(&mut self) -> Option<Result<Found<'a, T>, Error>>
+        ensures { FindsNext T.Form self.old result self.new }
+    {
+        match &mut self.rest {
+            Rest::Octets(items) => match items.next() {
+                None => None,
+                Some(Ok(item)) => Some(Ok(Found::Read(item))),
+                Some(Err(error)) => Some(Err(error)),
+            },
+            Rest::Items(items) => match items {
+                [] => None,
+                [first, others @ ..] => {
+                    *items = others;
+                    Some(Ok(Found::Lent(first)))
+                }
+            },
+        }
+    }
+}
+
+impl<'a, T: Decode<'a, SliceReader<'a>> + Duplicate> Iterator for SetOfRefIter<'a, T> {
+    type Item = Result<T, Error>;
+
+    ghost next_gives = { GivesNext T.Form T.is_copy T.takes_memory_to_copy };
+
+    ghost remaining = { λ s. at_most (length (encodings_of T.encoding s)) };
+
+    fn next(&mut self) -> Option<Result<T, Error>> {
+        match self.next_found() {
+            None => None,
+            Some(Ok(Found::Read(item))) => Some(Ok(item)),
+            Some(Ok(Found::Lent(item))) => match item.duplicate() {
+                Ok(copy) => Some(Ok(copy)),
+                Err(error) => {
+                    self.rest = Rest::Items(&[]);
+                    Some(Err(error))
+                }
+            },
+            Some(Err(error)) => Some(Err(error)),
+        }
+    }
+
+    fn size_hint(&self) -> (usize, Option<usize>) {
+        let len = self.len();
+        (len, Some(len))
+    }
+}
+
+impl<'a, T: Decode<'a, SliceReader<'a>> + Duplicate> ExactSizeIterator for SetOfRefIter<'a, T> {
+    /// How many items are still to come, if memory is found for each.
+    fn len(&self) -> usize
+        ensures items { result ≡ length (encodings_of T.encoding self.now) }
+    {
+        match &self.rest {
+            Rest::Octets(items) => items.left,
+            Rest::Items(items) => items.len(),
+        }
+    }
+}
+
+impl<'a, T: Decode<'a, SliceReader<'a>> + Duplicate> FusedIterator for SetOfRefIter<'a, T> {}
