@@ -5,10 +5,14 @@ pub use der_ascii::{
     VideotexStringRef,
 };
 pub use der_bits::{AllowedLenBitString, AsBitStringRef, BitString, BitStringIter, BitStringRef};
-pub use der_nest::{ItemProbe, Probe, SequenceOf, SequenceRef, SetOf, SetOfVec, insertion_place};
+pub use der_nest::{
+    ItemProbe, Probe, SequenceOf, SequenceRef, SetOf, SetOfRef, SetOfRefIter, SetOfVec,
+    insertion_place,
+};
 pub use der_numbers::{AsIntRef, AsUintRef, Int, IntRef, Uint, UintRef};
 pub use der_opaque::{Any, AnyRef, Null, ObjectIdentifier, OctetString, OctetStringRef};
 pub use der_text::{BmpChars, BmpCodepoints, BmpString, GeneralStringRef, Utf8StringRef};
+pub use der_time::{GeneralizedTime, UtcTime};
 pub use der_wrap::{
     Application, ApplicationRef, ContextSpecific, ContextSpecificRef, Private, PrivateRef,
 };

@@ -11,11 +11,10 @@ ghost use Rattle.der_elem.specs.OwnContentsLaws.{parse_of_own, same_length_own, 
 use crate::digits::two_digits;
 use crate::fields::Fields;
 use crate::reading::{generalized_fault, read_generalized};
-use crate::tags::GeneralizedTimeTag;
 use crate::text::read_text;
 use der_elem::{
-    ContentsEq, DecodeValue, DuplicateValue, EncodeValue, FormValue, OrdIsValueOrd, SameTag,
-    ValueMemory, WithoutMemory,
+    ContentsEq, DecodeValue, DuplicateValue, EncodeValue, FormValue, GeneralizedTimeTag, OneTag,
+    OrdIsValueOrd, ValueMemory, WithoutMemory,
 };
 use der_tlv::{Error, ErrorKind, Header, Length, Reader, Writer};
 use jiff_core::civil;
@@ -343,8 +342,8 @@ impl ValueMemory for DateTime {
     ghost memory_of_value = { refl };
 }
 
-impl SameTag for DateTime {
-    type As = GeneralizedTimeTag;
+impl OneTag for DateTime {
+    type Marker = GeneralizedTimeTag;
 }
 
 impl<'a, R: Reader<'a>> DecodeValue<'a, R> for DateTime {

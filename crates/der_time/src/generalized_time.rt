@@ -17,10 +17,9 @@ ghost use Rattle.der_time.specs.TimeLaws.{generalized_of};
 ghost use Rattle.der_time.specs.TimeOrder.{ord_is_contents_ord, eq_is_contents_eq};
 
 use crate::date_time::DateTime;
-use crate::tags::GeneralizedTimeTag;
 use der_elem::{
-    ContentsEq, DecodeValue, DuplicateValue, EncodeValue, Form, FormValue, OrdIsValueOrd, SameTag,
-    Tagged, ValueMemory, WithoutMemory,
+    ContentsEq, DecodeValue, DuplicateValue, EncodeValue, Form, FormValue, GeneralizedTimeTag,
+    OneTag, OrdIsValueOrd, Tagged, ValueMemory, WithoutMemory,
 };
 use der_opaque::{Any, AnyRef};
 use der_tlv::{Error, Header, Length, Reader, Tag, Writer};
@@ -113,8 +112,8 @@ impl ValueMemory for GeneralizedTime {
     ghost memory_of_value = { refl };
 }
 
-impl SameTag for GeneralizedTime {
-    type As = GeneralizedTimeTag;
+impl OneTag for GeneralizedTime {
+    type Marker = GeneralizedTimeTag;
 }
 
 impl<'a, R: Reader<'a>> DecodeValue<'a, R> for GeneralizedTime {

@@ -8,14 +8,12 @@ mod fields;
 mod generalized_time;
 pub mod laws;
 mod reading;
-mod tags;
 mod text;
 mod utc_time;
 
 pub use const_range::const_contains_u8;
 pub use date_time::DateTime;
 pub use generalized_time::GeneralizedTime;
-pub use tags::{GeneralizedTimeTag, UtcTimeTag};
 pub use utc_time::UtcTime;
 
 #[cfg(test)]

@@ -13,10 +13,9 @@ ghost use Rattle.der_opaque.specs.DecodingAs.{DecodesAs};
 use crate::date_time::DateTime;
 use crate::digits::two_digits;
 use crate::reading::read_utc;
-use crate::tags::UtcTimeTag;
 use der_elem::{
-    ContentsEq, DecodeValue, DuplicateValue, EncodeValue, Form, FormValue, SameTag, Tagged,
-    ValueMemory, ValueOrd, WithoutMemory,
+    ContentsEq, DecodeValue, DuplicateValue, EncodeValue, Form, FormValue, OneTag, Tagged,
+    UtcTimeTag, ValueMemory, ValueOrd, WithoutMemory,
 };
 use der_opaque::{Any, AnyRef};
 use der_tlv::{Error, ErrorKind, Header, Length, Reader, Tag, Writer};
@@ -164,8 +163,8 @@ impl ValueMemory for UtcTime {
     ghost memory_of_value = { refl };
 }
 
-impl SameTag for UtcTime {
-    type As = UtcTimeTag;
+impl OneTag for UtcTime {
+    type Marker = UtcTimeTag;
 }
 
 impl<'a, R: Reader<'a>> DecodeValue<'a, R> for UtcTime {

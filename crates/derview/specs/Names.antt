@@ -6,7 +6,7 @@ use Rattle.der_tlv.specs.declared.error.Error.{Error}
 use Rattle.der_tlv.specs.declared.error.ErrorKind.{ErrorKind}
 use Rattle.der_tlv.specs.declared.error.ErrorKind.TheVariants.{Memory}
 use Rattle.der_tlv.specs.declared.tag.Tag.{Tag}
-use Rattle.der_tlv.specs.declared.tag.Tag.TheVariants.{Boolean, Integer, Null, OctetString, ObjectIdentifier, Sequence, Set, BitString, Utf8String, GeneralString, BmpString}
+use Rattle.der_tlv.specs.declared.tag.Tag.TheVariants.{Boolean, Integer, Null, OctetString, ObjectIdentifier, Sequence, Set, BitString, Utf8String, GeneralString, BmpString, UtcTime, GeneralizedTime}
 use Rattle.der_tlv.specs.Identifier.{same_identifier}
 use Rattle.der_elem.specs.Items.{parse_items}
 use Rattle.der_elem.specs.Arrays.{parse_array}
@@ -26,6 +26,8 @@ use Rattle.der_bits.specs.BitString.{parse_bit_string}
 use Rattle.der_text.specs.BmpUnits.{parse_bmp}
 use Rattle.der_nest.specs.SequencesOf.{parse_items_up_to}
 use Rattle.der_nest.specs.Sets.{parse_set, parse_set_up_to}
+use Rattle.der_nest.specs.BorrowedSets.{parse_borrowed}
+use Rattle.der_time.specs.Reading.{parse_generalized, parse_utc}
 use Rattle.der_wrap.specs.TaggedValues.{parse_explicit}
 use Rattle.der_asn1_types.specs.Canonical.{Gives}
 use Rattle.derview.specs.AlgorithmIdentifier.{parse_algorithm_identifier}
@@ -152,6 +154,22 @@ set_types name =
     else if bytes_eq name (codes "setvec-algid") then Some (canonical_tagged Set (parse_set (parse_tagged Sequence parse_algorithm_identifier)))
     else None
 
+-- sets that borrow their contents octets
+unfoldable pub borrowed_set_types : List ℕ → Option CanonicalFunction
+borrowed_set_types name =
+    if bytes_eq name (codes "setref-u16") then Some (canonical_tagged Set (parse_borrowed parse_u16))
+    else if bytes_eq name (codes "setref-octetsref") then Some (canonical_tagged Set (parse_borrowed (parse_tagged OctetString parse_octets)))
+    else if bytes_eq name (codes "setref-setvec-u16") then Some (canonical_tagged Set (parse_borrowed (parse_tagged Set (parse_set parse_u16))))
+    else None
+
+-- dates and times
+unfoldable pub time_types : List ℕ → Option CanonicalFunction
+time_types name =
+    if bytes_eq name (codes "datetime") then Some (canonical_tagged GeneralizedTime parse_generalized)
+    else if bytes_eq name (codes "gentime") then Some (canonical_tagged GeneralizedTime parse_generalized)
+    else if bytes_eq name (codes "utctime") then Some (canonical_tagged UtcTime parse_utc)
+    else None
+
 -- the first of two that there is
 abbrev pub or_else : Option CanonicalFunction → Option CanonicalFunction → Option CanonicalFunction
 or_else None other = other
@@ -159,7 +177,7 @@ or_else (Some function) other = Some function
 
 -- the function of the type with a name
 unfoldable pub canonical_function_of : List ℕ → Option CanonicalFunction
-canonical_function_of name = or_else (plain_types name) (or_else (signed_types name) (or_else (unsigned_types name) (or_else (opaque_types name) (or_else (composed_types name) (or_else (tagged_types name) (or_else (number_types name) (or_else (string_types name) (or_else (bit_types name) (or_else (nested_types name) (set_types name))))))))))
+canonical_function_of name = or_else (plain_types name) (or_else (signed_types name) (or_else (unsigned_types name) (or_else (opaque_types name) (or_else (composed_types name) (or_else (tagged_types name) (or_else (number_types name) (or_else (string_types name) (or_else (bit_types name) (or_else (nested_types name) (or_else (set_types name) (or_else (borrowed_set_types name) (time_types name))))))))))))
 
 -- there is a result where there is a function, and it is what the function gives of the octets
 abbrev pub AnswersAs : Option CanonicalFunction → List ℕ → Option (Result (Vec ℕ Global) Error) → Type 0

@@ -25,12 +25,12 @@ ghost use Rattle.derview.specs.Fields.{joined_fields, AcceptsFields};
 ghost use Rattle.derview.specs.FieldLaws.{accepted_some, parse_of_fields, same_length_fields, accepts_fields_contents, readable_fields, one_form_fields, re_reads_fields, fields_eq};
 
 use crate::fields::{ask_end, cmp_fields, encode_fields, fields_len};
-use der_elem::{
-    ContentsEq, Decode, DecodeValue, DuplicateValue, EncodeValue, Form, FormValue, OneTag,
-    Sequence, SequenceTag, Tagged, ValueMemory, ValueOrd, WithoutMemory,
+use der_asn1_types::asn1::{AnyRef, ObjectIdentifier};
+use der_asn1_types::{
+    ContentsEq, Decode, DecodeValue, DuplicateValue, EncodeValue, Error, Form, FormValue, Header,
+    Length, OneTag, Reader, Sequence, SequenceTag, Tagged, ValueMemory, ValueOrd, WithoutMemory,
+    Writer,
 };
-use der_opaque::{AnyRef, ObjectIdentifier};
-use der_tlv::{Error, Header, Length, Reader, Writer};
 use std::alloc::Global;
 use std::cmp::Ordering;
 

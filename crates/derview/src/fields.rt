@@ -4,8 +4,7 @@ ghost use Rattle.std.specs.Prelude.{◌||◌};
 ghost use Rattle.der_elem.specs.Encoding.{Encodes, Measures};
 ghost use Rattle.derview.specs.Fields.{joined_fields, AsksEnd, ComparesFields};
 
-use der_elem::{DerOrd, Encode, Tagged};
-use der_tlv::{Error, ErrorKind, Length, Reader, Writer};
+use der_asn1_types::{DerOrd, Encode, Error, ErrorKind, Length, Reader, Tagged, Writer};
 use std::cmp::Ordering;
 
 /// Asks that no octet is left behind the last field.

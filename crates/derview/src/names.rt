@@ -1,17 +1,18 @@
 //! The types by their names.
 ghost use Rattle.std.specs.Prelude.{◌≡◌};
 ghost use Rattle.std.specs.Str.{bytes_eq};
-ghost use Rattle.derview.specs.Names.{canonical_function_of, plain_types, signed_types, unsigned_types, opaque_types, composed_types, tagged_types, number_types, string_types, bit_types, nested_types, set_types, AnswersAs};
+ghost use Rattle.derview.specs.Names.{canonical_function_of, plain_types, signed_types, unsigned_types, opaque_types, composed_types, tagged_types, number_types, string_types, bit_types, nested_types, set_types, borrowed_set_types, time_types, AnswersAs};
 
 use crate::algorithm_identifier::AlgorithmIdentifier;
 use crate::sets::canonical_set;
 use der_asn1_types::asn1::{
     Any, AnyRef, Application, BitString, BitStringRef, BmpString, ContextSpecific,
-    GeneralStringRef, Ia5String, Ia5StringRef, Int, IntRef, Null, ObjectIdentifier, OctetString,
-    OctetStringRef, PrintableString, PrintableStringRef, Private, SequenceOf, SequenceRef, SetOf,
-    SetOfVec, TeletexString, TeletexStringRef, Uint, UintRef, Utf8StringRef, VideotexStringRef,
+    GeneralStringRef, GeneralizedTime, Ia5String, Ia5StringRef, Int, IntRef, Null,
+    ObjectIdentifier, OctetString, OctetStringRef, PrintableString, PrintableStringRef, Private,
+    SequenceOf, SequenceRef, SetOf, SetOfRef, SetOfVec, TeletexString, TeletexStringRef, Uint,
+    UintRef, UtcTime, Utf8StringRef, VideotexStringRef,
 };
-use der_asn1_types::{Error, canonical};
+use der_asn1_types::{DateTime, Error, canonical};
 use std::alloc::Global;
 
 /// Takes the type that stands at the name, and answers the canonical encoding of what the octets
@@ -65,7 +66,13 @@ pub fn canonical_of_name(
     if let Some(canonical) = canonical_of_nested(alloc, name, octets) {
         return Some(canonical);
     }
-    canonical_of_set(alloc, name, octets)
+    if let Some(canonical) = canonical_of_set(alloc, name, octets) {
+        return Some(canonical);
+    }
+    if let Some(canonical) = canonical_of_borrowed_set(alloc, name, octets) {
+        return Some(canonical);
+    }
+    canonical_of_time(alloc, name, octets)
 }
 
 #[tactic(auto, unfolding(crate::specs::Names::plain_types))]
@@ -226,6 +233,34 @@ fn canonical_of_set(alloc: Global, name: &[u8], octets: &[u8]) -> Option<Result<
         "setof2-u16" => SetOf<u16, 2>,
         "ctx-setof2-u16" => ContextSpecific<SetOf<u16, 2>>,
         "setvec-algid" => SetOfVec<AlgorithmIdentifier>,
+    }
+}
+
+#[tactic(auto, unfolding(crate::specs::Names::borrowed_set_types))]
+fn canonical_of_borrowed_set(
+    alloc: Global,
+    name: &[u8],
+    octets: &[u8],
+) -> Option<Result<Vec<u8>, Error>>
+    ensures { AnswersAs (borrowed_set_types name.now) octets.now result }
+{
+    choose! {
+        alloc, name, octets;
+        "setref-u16" => SetOfRef<u16>,
+        "setref-octetsref" => SetOfRef<OctetStringRef>,
+        "setref-setvec-u16" => SetOfRef<SetOfVec<u16>>,
+    }
+}
+
+#[tactic(auto, unfolding(crate::specs::Names::time_types))]
+fn canonical_of_time(alloc: Global, name: &[u8], octets: &[u8]) -> Option<Result<Vec<u8>, Error>>
+    ensures { AnswersAs (time_types name.now) octets.now result }
+{
+    choose! {
+        alloc, name, octets;
+        "datetime" => DateTime,
+        "gentime" => GeneralizedTime,
+        "utctime" => UtcTime,
     }
 }
 

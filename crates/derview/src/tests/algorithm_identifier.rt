@@ -2,9 +2,11 @@
 
 use crate::algorithm_identifier::AlgorithmIdentifier;
 use crate::fields::{ask_end, cmp_fields, encode_fields, fields_len};
-use der_elem::{DerOrd, Duplicate, Encode, FixedTag, FromDer, ValueOrd};
-use der_opaque::AnyRef;
-use der_tlv::{Error, Reader, SliceReader, Tag, VecWriter};
+use der_asn1_types::asn1::AnyRef;
+use der_asn1_types::{
+    DerOrd, Duplicate, Encode, Error, FixedTag, FromDer, Reader, SliceReader, Tag, ValueOrd,
+    VecWriter,
+};
 use std::alloc::Global;
 use std::cmp::Ordering;
 use std::test::Fail;
@@ -62,7 +64,11 @@ fn writes_what_it_reads(rt: HostRuntime) -> Result<(), Fail> {
 #[test]
 fn refuses_each_beginning(rt: HostRuntime) {
     for len in 0..RSA.len() {
-        assert_eq!(rt; read(rt.alloc(), &RSA[..len]).err(), Some(2), "of {len} octets");
+        assert_eq!(rt;
+            read(rt.alloc(), &RSA[..len]).err(),
+            Some(2),
+            "of {len} octets"
+        );
     }
 }
 
@@ -89,7 +95,10 @@ fn joins_two_fields(rt: HostRuntime) -> Result<(), Fail> {
     assert_eq!(rt; len.value(), 6);
     let mut writer = VecWriter::new(alloc);
     numbered(encode_fields(&5u8, &true, &mut writer))?;
-    assert_eq!(rt; writer.finish().as_slice(), [0x02, 0x01, 0x05, 0x01, 0x01, 0xff].as_slice());
+    assert_eq!(rt;
+        writer.finish().as_slice(),
+        [0x02, 0x01, 0x05, 0x01, 0x01, 0xff].as_slice()
+    );
     let order = numbered(cmp_fields((&5u8, &true), (&5u8, &false)))?;
     assert_eq!(rt; order, Ordering::Greater);
     let order = numbered(cmp_fields((&5u8, &true), (&6u8, &false)))?;
