@@ -100,9 +100,9 @@ module _ {T U : Type 0} (F : form.Ghosts T) (G : form.Ghosts U) (tag_of : T → 
   -- two pairs of fields are equal exactly where their joined encodings are
   pub fields_eq : (v x : T) (w y : U) (same_first same_second : Bool) → (IsTrue same_first ↔ (F.encoding v ≡ F.encoding x)) → (IsTrue same_second ↔ (G.encoding w ≡ G.encoding y)) → IsTrue (same_first && same_second) ↔ (joined_fields F.encoding G.encoding v w ≡ joined_fields F.encoding G.encoding x y)
   fields_eq v x w y same_first same_second first second = (
-      (λ h. let p = both_true same_first same_second h in ap (λ o. o ++ G.encoding w) (first.0 p.0) ∙ ap (λ o. F.encoding x ++ o) (second.0 p.1)),
-      (λ e. let u = encoding-unique tag_of contents F.encoding encoding_is v x (G.encoding w) (G.encoding y) e in and_true same_first same_second (first.1 u.0) (second.1 u.1)),
-    )
+    (λ h. let p = both_true same_first same_second h in ap (λ o. o ++ G.encoding w) (first.0 p.0) ∙ ap (λ o. F.encoding x ++ o) (second.0 p.1)),
+    (λ e. let u = encoding-unique tag_of contents F.encoding encoding_is v x (G.encoding w) (G.encoding y) e in and_true same_first same_second (first.1 u.0) (second.1 u.1)),
+  )
 
 module _ {T : Type 0} (tag_of : T → Tag) (contents encoding : T → List ℕ) (encoding_is : (v : T) → encoding v ≡ tlv (tag_of v) (contents v)) where
   -- the first field that differs decides the order
