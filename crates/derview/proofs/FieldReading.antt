@@ -1,5 +1,5 @@
 -- Two fields that are read one after another, and nothing behind them.
-use Rattle.std.proofs.Common.{◌≡◌, ℕ, ◌+◌, List, [], ◌++◌, length, take, drop, Ok, refl, sym, ap, ◌∙◌, subst, add_assoc}
+use Rattle.std.proofs.Common.{◌≡◌, ◌+◌, [], ◌++◌, take, drop, Ok, sym, ap, ◌∙◌, subst, add_assoc}
 use Rattle.std.proofs.lemmas.List.{append-nil, take-append-drop}
 use Rattle.der_tlv.specs.ReaderState.{ReaderState, rest, after_read}
 use Rattle.der_tlv.proofs.ReaderStates.{rest-after_read}

@@ -2,10 +2,8 @@
 
 use crate::algorithm_identifier::AlgorithmIdentifier;
 use crate::fields::{ask_end, cmp_fields, encode_fields, fields_len};
-use der_asn1_types::asn1::AnyRef;
 use der_asn1_types::{
-    DerOrd, Duplicate, Encode, Error, FixedTag, FromDer, Reader, SliceReader, Tag, ValueOrd,
-    VecWriter,
+    Duplicate, Encode, Error, FixedTag, FromDer, Reader, SliceReader, Tag, ValueOrd, VecWriter,
 };
 use std::alloc::Global;
 use std::cmp::Ordering;
@@ -30,33 +28,69 @@ fn numbered<T>(answer: Result<T, Error>) -> Result<T, u8> {
 }
 
 fn read(alloc: Global, octets: &[u8]) -> Result<AlgorithmIdentifier<'_>, u8> {
-    numbered(AlgorithmIdentifier::from_der(alloc, octets))
+    match AlgorithmIdentifier::from_der(alloc, octets) {
+        Ok(value) => Ok(value),
+        Err(e) => Err(e.kind().number()),
+    }
+}
+
+/// The number of the refusal of these octets, or 0 where they are read.
+fn refusal(alloc: Global, octets: &[u8]) -> u8 {
+    match read(alloc, octets) {
+        Ok(_) => 0,
+        Err(number) => number,
+    }
+}
+
+/// The order of the values that two encodings are read as.
+fn order(alloc: Global, octets: &[u8], others: &[u8]) -> Result<Ordering, u8> {
+    match (read(alloc, octets), read(alloc, others)) {
+        (Ok(value), Ok(other)) => numbered(value.value_cmp(&other)),
+        (Err(number), _) => Err(number),
+        (_, Err(number)) => Err(number),
+    }
 }
 
 #[test]
-fn shows_its_fields(rt: HostRuntime) -> Result<(), Fail> {
-    let alloc = rt.alloc();
+fn shows_its_fields(rt: HostRuntime) -> Result<(), u8> {
     assert_eq!(rt; AlgorithmIdentifier::TAG, Tag::Sequence);
-    let rsa = read(alloc, RSA)?;
-    assert_eq!(rt; rsa.oid.as_bytes(), &RSA[4..13]);
-    assert_eq!(rt; rsa.parameters, Some(AnyRef::NULL));
-    let ed25519 = read(alloc, ED25519)?;
-    assert_eq!(rt; ed25519.oid.as_bytes(), &ED25519[4..]);
-    assert_eq!(rt; ed25519.parameters, None);
+    match read(rt.alloc(), RSA) {
+        Ok(rsa) => {
+            assert_eq!(rt; rsa.oid.as_bytes(), &RSA[4..13]);
+            match rsa.parameters {
+                Some(parameters) => assert!(rt; parameters.is_null()),
+                None => return Err(0),
+            }
+        }
+        Err(number) => return Err(number),
+    }
+    match read(rt.alloc(), ED25519) {
+        Ok(ed25519) => {
+            assert_eq!(rt; ed25519.oid.as_bytes(), &ED25519[4..]);
+            assert!(rt; ed25519.parameters.is_none());
+        }
+        Err(number) => return Err(number),
+    }
     Ok(())
 }
 
 #[test]
-fn writes_what_it_reads(rt: HostRuntime) -> Result<(), Fail> {
+fn writes_what_it_reads(rt: HostRuntime) -> Result<(), u8> {
     let alloc = rt.alloc();
     for octets in [RSA, ED25519, ED25519_NULL] {
-        let value = read(alloc, octets)?;
-        let written = numbered(value.to_der(alloc))?;
-        assert_eq!(rt; written.as_slice(), octets);
-        let len = numbered(value.encoded_len())?;
-        assert_eq!(rt; len.value() as usize, octets.len());
-        let copy = numbered(value.duplicate())?;
-        assert_eq!(rt; copy, value);
+        match read(alloc, octets) {
+            Ok(value) => {
+                let written = numbered(value.to_der(alloc))?;
+                assert_eq!(rt; written.as_slice(), octets);
+                let len = numbered(value.encoded_len())?;
+                assert_eq!(rt; len.value() as usize, octets.len());
+                match value.duplicate() {
+                    Ok(copy) => assert!(rt; copy == value),
+                    Err(e) => return Err(e.kind().number()),
+                }
+            }
+            Err(number) => return Err(number),
+        }
     }
     Ok(())
 }
@@ -64,27 +98,17 @@ fn writes_what_it_reads(rt: HostRuntime) -> Result<(), Fail> {
 #[test]
 fn refuses_each_beginning(rt: HostRuntime) {
     for len in 0..RSA.len() {
-        assert_eq!(rt;
-            read(rt.alloc(), &RSA[..len]).err(),
-            Some(2),
-            "of {len} octets"
-        );
+        assert_eq!(rt; refusal(rt.alloc(), &RSA[..len]), 2, "of {len} octets");
     }
 }
 
 #[test]
-fn orders_by_the_identifier_and_then_the_parameters(rt: HostRuntime) -> Result<(), Fail> {
+fn orders_by_the_identifier_and_then_the_parameters(rt: HostRuntime) -> Result<(), u8> {
     let alloc = rt.alloc();
-    let rsa = read(alloc, RSA)?;
-    let ed25519 = read(alloc, ED25519)?;
-    let with_null = read(alloc, ED25519_NULL)?;
-    assert_eq!(rt; numbered(ed25519.der_cmp(&rsa))?, Ordering::Less);
-    assert_eq!(rt; numbered(ed25519.value_cmp(&with_null))?, Ordering::Less);
-    assert_eq!(rt; numbered(with_null.value_cmp(&ed25519))?, Ordering::Greater);
-    assert_eq!(rt; numbered(rsa.value_cmp(&with_null))?, Ordering::Greater);
-    assert_eq!(rt; numbered(rsa.value_cmp(&rsa))?, Ordering::Equal);
-    assert_ne!(rt; ed25519, with_null);
-    assert_eq!(rt; with_null, read(alloc, ED25519_NULL)?);
+    assert_eq!(rt; order(alloc, ED25519, ED25519_NULL)?, Ordering::Less);
+    assert_eq!(rt; order(alloc, ED25519_NULL, ED25519)?, Ordering::Greater);
+    assert_eq!(rt; order(alloc, RSA, ED25519_NULL)?, Ordering::Greater);
+    assert_eq!(rt; order(alloc, RSA, RSA)?, Ordering::Equal);
     Ok(())
 }
 
