@@ -1,7 +1,7 @@
 //! Borrowed sets: the octets that they are read from and written as, and their calls.
 
 use crate::{SetOfRef, SetOfVec};
-use der_elem::{Decode, DerOrd, Duplicate, Encode, FromDer, Tagged, TakesMemory};
+use der_elem::{Decode, DerOrd, Duplicate, Encode, EncodeValue, FromDer, Tagged, TakesMemory};
 use der_opaque::OctetStringRef;
 use der_tlv::{Error, ErrorKind, SliceReader, Tag};
 use std::alloc::Global;
@@ -258,4 +258,34 @@ fn takes_memory<'a, T: 'a + Decode<'a, SliceReader<'a>> + DerOrd + Tagged>() -> 
 fn takes_memory_as_the_items_do(rt: HostRuntime) {
     assert!(rt; !takes_memory::<u16>());
     assert!(rt; takes_memory::<SetOfVec<u16>>());
+}
+
+// Reads a set of sets and walks it: how many items came, or the refusal, which is then the last.
+fn walked(rt: &impl Abort, alloc: Global, octets: &[u8]) -> Result<usize, u8> {
+    let set: SetOfRef<SetOfVec<u16>> = numbered(SetOfRef::from_der(alloc, octets))?;
+    let mut items = set.iter();
+    while let Some(item) = items.next() {
+        match item {
+            Ok(_item) => {}
+            Err(e) => {
+                assert_eq!(rt; items.len(), 0);
+                assert!(rt; items.next().is_none());
+                return Err(e.kind().number());
+            }
+        }
+    }
+    numbered(set.value_len())?;
+    numbered(set.der_cmp(&set))?;
+    Ok(set.len())
+}
+
+#[test]
+fn tells_want_of_memory(rt: HostRuntime) {
+    let octets = [
+        0x31, 0x0a, 0x31, 0x03, 0x02, 0x01, 0x07, 0x31, 0x03, 0x02, 0x01, 0x08,
+    ];
+    match walked(&rt, rt.alloc(), &octets) {
+        Ok(len) => assert_eq!(rt; len, 2),
+        Err(number) => assert_eq!(rt; number, 1),
+    }
 }
