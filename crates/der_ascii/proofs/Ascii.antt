@@ -1,7 +1,6 @@
 -- Characters have one octet each, so that octets that are characters are UTF-8.
-use Rattle.std.proofs.Common.{◌≡◌, ℕ, ◌<◌, ◌≤◌, ◌==◌, ◌||◌, ◌&&◌, nat_le, nat_lt, List, [], ◌∷◌, Bool, true, false, refl, ap, ◌∙◌, arith, if◌then◌else◌, lit<, slice_index, suc, zero}
+use Rattle.std.proofs.Common.{◌≡◌, ℕ, ◌<◌, ◌==◌, ◌||◌, ◌&&◌, nat_le, nat_lt, List, [], ◌∷◌, Bool, true, false, refl, arith, if◌then◌else◌, lit<, suc, zero}
 use Rattle.std.specs.Str.{IsUtf8, IsAscii}
-use Rattle.std.specs.List.{list_all}
 use Rattle.std.proofs.lemmas.Str.{IsUtf8-from_ascii}
 use Rattle.std.proofs.lemmas.Bool.Decides.{nat_tests}
 use Rattle.der_ascii.specs.Characters.{within, is_printable, has_character, are_characters}

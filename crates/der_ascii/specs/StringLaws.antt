@@ -1,7 +1,6 @@
 -- The laws of strings of characters.
-use Rattle.std.proofs.Common.{◌≡◌, ℕ, ◌<◌, ◌^◌, List, Bool, true, false, Ok, refl, ap, ◌∙◌, lit<, ◌==◌, if◌then◌else◌}
+use Rattle.std.proofs.Common.{◌≡◌, ℕ, List, Bool, true, false, Ok, refl, ap, ◌∙◌, lit<, ◌==◌, if◌then◌else◌}
 use Rattle.der_tlv.specs.declared.encoding_rules.EncodingRules.{EncodingRules}
-use Rattle.der_tlv.specs.declared.tag.Tag.{Tag}
 use Rattle.der_tlv.specs.declared.tag.Tag.TheVariants.{PrintableString, TeletexString, VideotexString, Ia5String}
 use Rattle.der_tlv.specs.TagParts.{IsTag}
 use Rattle.der_ascii.specs.Characters.{are_characters, string_tag, parse_string}

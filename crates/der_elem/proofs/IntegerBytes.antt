@@ -1,5 +1,5 @@
 -- The contents octets of an integer as the last octets of its big-endian form at a width.
-use Rattle.std.proofs.Common.{◌≡◌, ℕ, zero, suc, ◌+◌, ◌-◌, ◌*◌, ◌/◌, ◌%◌, ◌^◌, ◌<◌, ◌≤◌, ◌⊎◌, inl, inr, List, [], ◌∷◌, length, take, drop, map, ℤ, pos, negsuc, refl, sym, ap, ◌∙◌, subst, arith, pow-suc, mul_comm, SFits}
+use Rattle.std.proofs.Common.{◌≡◌, ℕ, zero, suc, ◌+◌, ◌-◌, ◌*◌, ◌/◌, ◌%◌, ◌^◌, ◌<◌, ◌≤◌, inl, inr, List, ◌∷◌, length, take, drop, ℤ, pos, negsuc, refl, sym, ap, ◌∙◌, subst, arith, pow-suc, mul_comm, SFits}
 use Rattle.std.proofs.Math.Nat.{mod-eq_of_lt, pow-le-pow_right}
 use Rattle.std.proofs.Math.Arith.{mod-mul}
 use Rattle.std.proofs.lemmas.Bool.{cases_lt}
@@ -8,7 +8,7 @@ use Rattle.std.proofs.lemmas.Int.Digits.{number_lt}
 use Rattle.std.specs.Int.{byte_at, bytes_high_first, cast_unsigned, w64, w128}
 use Rattle.std.specs.Int.Digits.{number_from_digits_after}
 use Rattle.der_elem.specs.Integer.{AreOctets, big_endian_number, natural_contents, complemented, integer_contents}
-use Rattle.der_elem.specs.IntegerLaws.{octets-same_number, number_natural_contents, natural_contents-are_octets, natural_contents-fits, number-complemented, complemented-are_octets, length-complemented, integer_contents-pos, integer_contents-negsuc, integer_contents-length, integer_contents-length_le_width}
+use Rattle.der_elem.specs.IntegerLaws.{octets-same_number, number_natural_contents, natural_contents-are_octets, number-complemented, complemented-are_octets, length-complemented, integer_contents-pos, integer_contents-negsuc, integer_contents-length, integer_contents-length_le_width}
 
 -- ---- the lowest octets of a number
 
@@ -45,9 +45,9 @@ number_bytes k n fits = omega (arith, number_after_bytes k n 0, mod-eq_of_lt fit
 drop_bytes : (k l n : ℕ) → l ≤ k → drop (k - l) (bytes_high_first k n) ≡ bytes_high_first l n
 drop_bytes zero l n within = let none : l ≡ 0 = omega arith in rw none refl
 drop_bytes (suc k) l n within = elim (cases_lt k l) [
-    | inl above ↦ let all : l ≡ suc k = omega arith in let none : suc k - suc k ≡ 0 = omega arith in rw (all, none) refl
-    | inr below ↦ let one : suc k - l ≡ suc (k - l) = omega arith in rw one (drop_bytes k l n below)
-  ]
+  | inl above ↦ let all : l ≡ suc k = omega arith in let none : suc k - suc k ≡ 0 = omega arith in rw (all, none) refl
+  | inr below ↦ let one : suc k - l ≡ suc (k - l) = omega arith in rw one (drop_bytes k l n below)
+]
 
 -- the octets of the greatest number less a number are the octets of that number, inverted
 bytes_complemented : (k m n : ℕ) → m + n + 1 ≡ 256 ^ k → bytes_high_first k m ≡ complemented (bytes_high_first k n)
@@ -55,7 +55,7 @@ bytes_complemented k m n both =
     let octets = bytes_high_first k n in
     let inverse = number-complemented octets (bytes_are_octets k n) in
     octets-same_number (bytes_high_first k m) (complemented octets) (bytes_are_octets k m) (complemented-are_octets octets) (length_bytes k m ∙ sym (length-complemented octets ∙ length_bytes k n))
-        (omega (arith, number_bytes k m (omega arith), number_bytes k n (omega arith), inverse, ap (λ l. 256 ^ l) (length_bytes k n)))
+    (omega (arith, number_bytes k m (omega arith), number_bytes k n (omega arith), inverse, ap (λ l. 256 ^ l) (length_bytes k n)))
 
 -- ---- contents octets
 
@@ -65,7 +65,7 @@ last_natural k n within =
     let l = length (natural_contents n) in
     drop_bytes k l n within
     ∙ octets-same_number (bytes_high_first l n) (natural_contents n) (bytes_are_octets l n) (natural_contents-are_octets n) (length_bytes l n)
-        (number_bytes l n (subst (λ m. m < 256 ^ l) (number_natural_contents n) (number_lt 256 (natural_contents n) (natural_contents-are_octets n))) ∙ sym (number_natural_contents n))
+    (number_bytes l n (subst (λ m. m < 256 ^ l) (number_natural_contents n) (number_lt 256 (natural_contents n) (natural_contents-are_octets n))) ∙ sym (number_natural_contents n))
 
 -- the number is what octets of a width represent an integer by: the integer itself, or that and 256 to the width
 abbrev Represents : ℕ → ℕ → ℤ → Type 0
@@ -80,15 +80,15 @@ last_of k octets c d same last = subst (λ x. drop (k - length x) octets ≡ x) 
 last_octets : (k number : ℕ) (z : ℤ) → Represents k number z → length (integer_contents z) ≤ k → drop (k - length (integer_contents z)) (bytes_high_first k number) ≡ integer_contents z
 last_octets k number (pos n) same within =
     last_of k (bytes_high_first k number) (integer_contents (pos n)) (natural_contents n) (integer_contents-pos n)
-        (ap (λ m. drop (k - length (natural_contents n)) (bytes_high_first k m)) same ∙ last_natural k n (omega (arith, within, integer_contents-length (pos n))))
+    (ap (λ m. drop (k - length (natural_contents n)) (bytes_high_first k m)) same ∙ last_natural k n (omega (arith, within, integer_contents-length (pos n))))
 last_octets k number (negsuc n) same within =
     let l = length (natural_contents n) in
     let octets = complemented (natural_contents n) in
     last_of k (bytes_high_first k number) (integer_contents (negsuc n)) octets (integer_contents-negsuc n)
-        (ap (λ m. drop (k - m) (bytes_high_first k number)) (length-complemented (natural_contents n))
-        ∙ ap (drop (k - l)) (bytes_complemented k number n same)
-        ∙ drop-map (λ octet. 255 - octet) (k - l) (bytes_high_first k n)
-        ∙ ap complemented (last_natural k n (omega (arith, within, integer_contents-length (negsuc n)))))
+    (ap (λ m. drop (k - m) (bytes_high_first k number)) (length-complemented (natural_contents n))
+    ∙ ap (drop (k - l)) (bytes_complemented k number n same)
+    ∙ drop-map (λ octet. 255 - octet) (k - l) (bytes_high_first k n)
+    ∙ ap complemented (last_natural k n (omega (arith, within, integer_contents-length (negsuc n)))))
 
 -- a slice of the last octets is those octets
 slice_of_last : (k l : ℕ) (octets contents : List ℕ) → l ≡ length contents → l ≤ k → drop (k - length contents) octets ≡ contents → take (k - (k - l)) (drop (k - l) octets) ≡ contents

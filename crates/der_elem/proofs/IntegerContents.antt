@@ -1,12 +1,11 @@
 -- Lemmas for the functions on the contents octets of INTEGER.
-use Rattle.std.proofs.Common.{◌≡◌, ℕ, zero, suc, ◌+◌, ◌-◌, ◌*◌, ◌/◌, ◌%◌, ◌^◌, ◌<◌, ◌≤◌, Bool, true, false, cond, List, [], ◌∷◌, ◌++◌, length, get_or, take, drop, set, refl, sym, ap, ◌∙◌, arith, append_assoc, pow-suc, nat_le, slice_index}
+use Rattle.std.proofs.Common.{◌≡◌, ℕ, zero, suc, ◌+◌, ◌-◌, ◌*◌, ◌^◌, ◌<◌, ◌≤◌, Bool, true, false, cond, List, [], ◌∷◌, length, get_or, take, drop, refl, ap, arith, nat_le, slice_index}
 use Rattle.std.proofs.lemmas.Int.Digits.{number_more, number_after_append, number_after_ge}
 use Rattle.std.proofs.Math.ListN.{take-append-drop}
-use Rattle.std.proofs.Math.Nat.{pow-zero, pow-le-pow_right}
+use Rattle.std.proofs.Math.Nat.{pow-le-pow_right}
 use Rattle.std.specs.Int.Signed.{mag}
-use Rattle.std.proofs.lemmas.List.{drop-set}
-use Rattle.der_elem.specs.Integer.{AreOctets, big_endian_number, natural_contents, complemented, complemented_if, FitsUnsignedOctets}
-use Rattle.der_elem.specs.IntegerLaws.{length-complemented, natural_contents-small, natural_contents-step, twos_complement-fits_width, twos_complement-complement_if, mag-complement_if, number-fits_octets}
+use Rattle.der_elem.specs.Integer.{AreOctets, big_endian_number, complemented, complemented_if, FitsUnsignedOctets}
+use Rattle.der_elem.specs.IntegerLaws.{length-complemented, twos_complement-fits_width, twos_complement-complement_if, mag-complement_if, number-fits_octets}
 
 -- ---- the number of the octets
 

@@ -7,5 +7,5 @@ pub returns : goal.returns
 returns c =
     c.cmp.ensures
     ∙ ap₂ lex
-        (unsigned_slice c.args.a c.unsigned_len.result _ c.unsigned_octets-a_octets.ensures c.unsigned_len.ensures.len c.unsigned_len.ensures.bound)
-        (unsigned_slice c.args.b c.unsigned_len-2.result _ c.unsigned_octets-b_octets.ensures c.unsigned_len-2.ensures.len c.unsigned_len-2.ensures.bound)
+    (unsigned_slice c.args.a c.unsigned_len.result _ c.unsigned_octets-a_octets.ensures c.unsigned_len.ensures.len c.unsigned_len.ensures.bound)
+    (unsigned_slice c.args.b c.unsigned_len-2.result _ c.unsigned_octets-b_octets.ensures c.unsigned_len-2.ensures.len c.unsigned_len-2.ensures.bound)

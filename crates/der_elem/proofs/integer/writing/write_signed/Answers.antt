@@ -20,13 +20,13 @@ returns-in-Ok g c =
     let short : c.in-Ok.short ≡ z = c.in-Ok.ensures.1 ∙ same in
     let len : c.signed_len-len.result ≡ length (integer_contents z) = c.signed_len-len.ensures.len ∙ ap (λ y. length (integer_contents y)) same in
     subst (λ octets. Encodes octets false (g.W.Writer.state c.args.writer.now) (g.W.Writer.state c.write.new.self) c.write.result)
-        (short_slice z c.signed_len-len.result _ _ fits (c.cast_unsigned.ensures ∙ ap (λ y. cast_unsigned w64 (to_z w64 (cast_unsigned w64 y))) short ∙ ap (cast_unsigned w64) (to_z-of_z fits)) c.to_be_bytes-octets.ensures len (omega (arith, len, short_length z fits)))
-        (encoded_whole _ _ _ c.write.result c.write.ensures)
+    (short_slice z c.signed_len-len.result _ _ fits (c.cast_unsigned.ensures ∙ ap (λ y. cast_unsigned w64 (to_z w64 (cast_unsigned w64 y))) short ∙ ap (cast_unsigned w64) (to_z-of_z fits)) c.to_be_bytes-octets.ensures len (omega (arith, len, short_length z fits)))
+    (encoded_whole _ _ _ c.write.result c.write.ensures)
 
 pub returns : goal.returns
 returns g c =
     let z = c.args.number in
     let same = to_z-of_z c.ranges.number in
     subst (λ octets. Encodes octets false (g.W.Writer.state c.args.writer.now) (g.W.Writer.state c.write-2.new.self) c.write-2.result)
-        (signed_slice z c.signed_len-len.result _ _ c.ranges.number (c.cast_unsigned-2.ensures ∙ ap (cast_unsigned w128) same) c.to_be_bytes-octets-2.ensures (c.signed_len-len.ensures.len ∙ ap (λ y. length (integer_contents y)) same) c.signed_len-len.ensures.bound)
-        (encoded_whole _ _ _ c.write-2.result c.write-2.ensures)
+    (signed_slice z c.signed_len-len.result _ _ c.ranges.number (c.cast_unsigned-2.ensures ∙ ap (cast_unsigned w128) same) c.to_be_bytes-octets-2.ensures (c.signed_len-len.ensures.len ∙ ap (λ y. length (integer_contents y)) same) c.signed_len-len.ensures.bound)
+    (encoded_whole _ _ _ c.write-2.result c.write-2.ensures)

@@ -7,5 +7,5 @@ use Rattle.der_elem.proofs.integer.writing.write_unsigned.Goals as goal
 pub returns : goal.returns
 returns g c =
     subst (λ octets. Encodes octets false (g.W.Writer.state c.args.writer.now) (g.W.Writer.state c.write.new.self) c.write.result)
-        (unsigned_slice c.args.number c.unsigned_len.result _ c.unsigned_octets-octets.ensures c.unsigned_len.ensures.len c.unsigned_len.ensures.bound)
-        (encoded_whole _ _ _ c.write.result c.write.ensures)
+    (unsigned_slice c.args.number c.unsigned_len.result _ c.unsigned_octets-octets.ensures c.unsigned_len.ensures.len c.unsigned_len.ensures.bound)
+    (encoded_whole _ _ _ c.write.result c.write.ensures)
