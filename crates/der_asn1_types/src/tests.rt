@@ -48,3 +48,20 @@ fn a_set_of_strings(rt: HostRuntime) -> Result<(), Fail> {
     assert_eq!(rt; written.as_slice().get(4), Some(&b'H'));
     Ok(())
 }
+
+#[test]
+fn sets_are_put_in_order_at_each_depth(rt: HostRuntime) -> Result<(), Fail> {
+    let octets = [
+        0xa0, 0x0e, 0xa1, 0x0c, 0xa2, 0x0a, 0x30, 0x08, 0x31, 0x06, 0x02, 0x01, 0x08, 0x02, 0x01,
+        0x07,
+    ];
+    let written = numbered(canonical::<
+        ContextSpecific<ContextSpecific<ContextSpecific<Vec<SetOfVec<u16>>>>>,
+    >(rt.alloc(), &octets))?;
+    let rising = [
+        0xa0, 0x0e, 0xa1, 0x0c, 0xa2, 0x0a, 0x30, 0x08, 0x31, 0x06, 0x02, 0x01, 0x07, 0x02, 0x01,
+        0x08,
+    ];
+    assert_eq!(rt; written.as_slice(), rising.as_slice());
+    Ok(())
+}

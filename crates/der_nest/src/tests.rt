@@ -11,6 +11,7 @@ use std::test::Fail;
 
 mod borrowed;
 mod counting;
+mod many;
 
 // The number of a refusal.
 fn numbered<T>(answer: Result<T, Error>) -> Result<T, u8> {

@@ -1,6 +1,7 @@
 //! Whole runs over memory, and runs whose reader or writer fails.
 
 mod algorithm_identifier;
+mod beginnings;
 
 use crate::fault::Fault;
 use crate::run::run;
