@@ -14,7 +14,7 @@
 //! parameters, of which absent ones are less than any other.
 
 ghost use Rattle.std.specs.Prelude.{◌≡◌, ◌||◌, false, refl};
-ghost use Rattle.std.proofs.Common.{ap, rules, subst, sym};
+ghost use Rattle.std.proofs.Common.{ap, lit<, subst, sym};
 ghost use Rattle.der_tlv.specs.declared.tag.Tag.TheVariants as tags;
 ghost use Rattle.der_elem.specs.OptionLaws.{encoding_eq_option};
 ghost use Rattle.der_elem.specs.TaggedLaws.{encoding_eq_tagged};
@@ -129,7 +129,7 @@ impl<'a> ValueOrd for AlgorithmIdentifier<'a> {
 
 impl<'a> ContentsEq for AlgorithmIdentifier<'a> {
     ghost contents_eq = { λ v w one.
-        let oid = encoding_eq_tagged tags.ObjectIdentifier ⟦<ObjectIdentifier<39> as FormValue>⟧.contents ⟦<ObjectIdentifier<39> as FormValue>⟧.one_form_value ⟦<ObjectIdentifier<39> as PartialEq>⟧.eq (identifier.contents_eq-law 39 (Prim.search rules)) v.oid w.oid one.0 in
+        let oid = encoding_eq_tagged tags.ObjectIdentifier ⟦<ObjectIdentifier<39> as FormValue>⟧.contents ⟦<ObjectIdentifier<39> as FormValue>⟧.one_form_value ⟦<ObjectIdentifier<39> as PartialEq>⟧.eq (identifier.contents_eq-law 39 (record { fits = lit< tt })) v.oid w.oid one.0 in
         let parameters = encoding_eq_option ⟦<AnyRef<'a> as Tagged>⟧.tag_of ⟦<AnyRef<'a> as FormValue>⟧.contents ⟦<AnyRef<'a> as Form>⟧.encoding (λ _. refl) ⟦<AnyRef<'a> as Form>⟧.one_form ⟦<AnyRef<'a> as PartialEq>⟧.eq any.encoding_eq-law v.parameters w.parameters one.1 in
         fields_eq ⟦<ObjectIdentifier<39> as Form>⟧ ⟦<Option<AnyRef<'a>> as Form>⟧ (λ _. tags.ObjectIdentifier) ⟦<ObjectIdentifier<39> as FormValue>⟧.contents (λ _. refl) v.oid w.oid v.parameters w.parameters _ _ oid parameters };
 }
