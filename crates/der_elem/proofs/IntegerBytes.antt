@@ -1,13 +1,14 @@
 -- The contents octets of an integer as the last octets of its big-endian form at a width.
-use Rattle.std.proofs.Common.{◌≡◌, ℕ, zero, suc, ◌+◌, ◌-◌, ◌*◌, ◌/◌, ◌%◌, ◌^◌, ◌<◌, ◌≤◌, inl, inr, List, ◌∷◌, length, take, drop, ℤ, pos, negsuc, refl, sym, ap, ◌∙◌, subst, arith, pow-suc, mul_comm, SFits}
-use Rattle.std.proofs.Math.Nat.{mod-eq_of_lt, pow-le-pow_right}
+use Rattle.std.proofs.Common.{◌≡◌, ℕ, zero, suc, ◌+◌, ◌-◌, ◌*◌, ◌/◌, ◌%◌, ◌^◌, ◌<◌, ◌≤◌, inl, inr, List, ◌∷◌, length, take, drop, ℤ, pos, negsuc, refl, sym, ap, ap₂, ◌∙◌, subst, arith, pow-suc, mul_comm, SFits}
+use Rattle.std.proofs.Math.Nat.{mod-eq_of_lt, mul-div_cancel, mul-mod_left, one-le-pow, pow-le-pow_right}
 use Rattle.std.proofs.Math.Arith.{mod-mul}
 use Rattle.std.proofs.lemmas.Bool.{cases_lt}
+use Rattle.std.proofs.lemmas.Nat.{pow-add}
 use Rattle.std.proofs.lemmas.List.{drop-map, take_all}
 use Rattle.std.proofs.lemmas.Int.Digits.{number_lt}
 use Rattle.std.specs.Int.{byte_at, bytes_high_first, cast_unsigned, w64, w128}
 use Rattle.std.specs.Int.Digits.{number_from_digits_after}
-use Rattle.der_elem.specs.Integer.{AreOctets, big_endian_number, natural_contents, complemented, integer_contents}
+use Rattle.der_elem.specs.Integer.{AreOctets, big_endian_number, natural_contents, complemented, integer_contents, aligned}
 use Rattle.der_elem.specs.IntegerLaws.{octets-same_number, number_natural_contents, natural_contents-are_octets, number-complemented, complemented-are_octets, length-complemented, integer_contents-pos, integer_contents-negsuc, integer_contents-length, integer_contents-length_le_width}
 
 -- ---- the lowest octets of a number
@@ -133,3 +134,37 @@ pub unsigned_slice : (n len : ℕ) (octets : List ℕ) → octets ≡ bytes_high
 unsigned_slice n len octets all count within =
     ap (λ o. take (17 - (17 - len)) (drop (17 - len) o)) all
     ∙ slice_of_last 17 len (bytes_high_first 17 n) (natural_contents n) count within (last_natural 17 n (omega (arith, count, within)))
+
+-- and of 128 bits
+pub wide_length : (z : ℤ) → SFits w128 z → length (integer_contents z) ≤ 16
+wide_length (pos n) fits = integer_contents-length_le_width 16 (pos n) (omega arith) (omega (arith, fits.sfits))
+wide_length (negsuc n) fits = integer_contents-length_le_width 16 (negsuc n) (omega arith) (omega (arith, fits.sfits))
+
+-- ---- the number of the contents octets with zeros behind them
+
+pow_octets : (j : ℕ) → 2 ^ (8 * j) ≡ 256 ^ j
+pow_octets zero = refl
+pow_octets (suc j) = ap (λ e. 2 ^ e) (omega arith) ∙ pow-add 2 8 (8 * j) ∙ omega (arith, pow_octets j, pow-suc 256 j)
+
+-- a number that is moved up has the lowest of its octets left
+moved_up : (number k l : ℕ) → l ≤ k → (number * 256 ^ (k - l)) % 256 ^ k ≡ (number % 256 ^ l) * 256 ^ (k - l)
+moved_up number k l within =
+    let unit = 256 ^ (k - l) in
+    let some : 0 < unit = one-le-pow (k - l) 256 (omega arith) in
+    let low : 0 < 256 ^ l = one-le-pow l 256 (omega arith) in
+    let whole : 256 ^ l * unit ≡ 256 ^ k = sym (pow-add 256 l (k - l)) ∙ ap (λ e. 256 ^ e) (omega (arith, within)) in
+    ap (λ m. (number * unit) % m) (sym whole) ∙ mod-mul (number * unit) {m = 256 ^ l} {c = unit} low some
+    ∙ ap₂ (λ a b. a % 256 ^ l * unit + b) (mul-div_cancel number some) (mul-mod_left number unit) ∙ omega arith
+
+-- what represents an integer, moved up, is its contents octets with zeros behind them
+pub aligned_number : (z : ℤ) (len number : ℕ) → SFits w128 z → number ≡ cast_unsigned w128 z → len ≡ length (integer_contents z) → len ≤ 16 → (number * 2 ^ (8 * (16 - len))) % 2 ^ 128 ≡ aligned 16 (integer_contents z)
+aligned_number z len number fits cast count within =
+    let contents = integer_contents z in
+    let represents = subst (λ n. Represents 16 n z) (sym cast) (represents_cast_16 z fits) in
+    let few : length contents ≤ 16 = omega (arith, count, within) in
+    let same : bytes_high_first (length contents) number ≡ contents = sym (drop_bytes 16 (length contents) number few) ∙ last_octets 16 number z represents few in
+    let value : number % 256 ^ length contents ≡ big_endian_number contents = omega (arith, number_after_bytes (length contents) number 0, ap big_endian_number same) in
+    ap (λ p. (number * p) % 2 ^ 128) (pow_octets (16 - len))
+    ∙ ap (λ l. (number * 256 ^ (16 - l)) % 2 ^ 128) count
+    ∙ moved_up number 16 (length contents) few
+    ∙ ap (λ n. n * 256 ^ (16 - length contents)) value

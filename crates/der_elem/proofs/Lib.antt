@@ -6,6 +6,7 @@ pub mod Headed
 pub mod IntegerContents
 pub mod IntegerReads
 pub mod IntegerBytes
+pub mod IntegerOrder
 pub mod ItemWriting
 pub mod ItemReading
 pub mod Ordered

@@ -11,6 +11,10 @@ AreOctets octets = AllBelowBase 256 octets
 abbrev pub big_endian_number : List ℕ → ℕ
 big_endian_number octets = number_from_digits 256 octets
 
+-- the number of octets that have zeros behind them, up to k octets
+abbrev pub aligned : ℕ → List ℕ → ℕ
+aligned k octets = big_endian_number octets * 256 ^ (k - length octets)
+
 -- base-256 digits with an octet 00 before them where there are none, or the first has its bit 8 set
 abbrev pub with_sign_octet : List ℕ → List ℕ
 with_sign_octet [] = 0 ∷ []

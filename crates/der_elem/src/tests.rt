@@ -1,6 +1,7 @@
 //! The built-in types, called through the traits' bounds.
 
 mod composed;
+mod integer_order;
 
 use crate::decode::DecodeValue;
 use crate::duplicate::Duplicate;

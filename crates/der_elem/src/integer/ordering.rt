@@ -1,25 +1,44 @@
-//! The order of machine integers, that of their contents octets (X.690 8.3).
+//! The order of machine integers, that of their contents octets (X.690 8.3), told by numbers.
 
 ghost use Rattle.std.specs.Prelude.{◌≡◌};
 ghost use Rattle.der_tlv.specs.Octets.{lex};
-ghost use Rattle.der_elem.specs.Integer.{natural_contents, integer_contents};
+ghost use Rattle.der_elem.specs.Integer.{aligned, natural_contents, integer_contents};
 
-use super::writing::{signed_len, unsigned_len, unsigned_octets};
+use super::writing::signed_len;
 use std::cmp::Ordering;
 
-/// The lexicographic order of the contents octets of two integers.
+/// The number of the contents octets with zeros behind them, up to 16 octets.
+fn aligned_contents(number: i128) -> u128
+    ensures { result ≡ aligned 16 (integer_contents number) }
+{
+    number.cast_unsigned() << (8 * (16 - signed_len(number)))
+}
+
+/// The lexicographic order of the contents octets of two integers: that of the octets with zeros
+/// behind them, and then of how many there are.
 pub fn compare_signed(a: i128, b: i128) -> Ordering
     ensures { result ≡ lex (integer_contents a) (integer_contents b) }
 {
-    let a_octets = a.cast_unsigned().to_be_bytes();
-    let b_octets = b.cast_unsigned().to_be_bytes();
-    a_octets[16 - signed_len(a) as usize..].cmp(&b_octets[16 - signed_len(b) as usize..])
+    match aligned_contents(a).cmp(&aligned_contents(b)) {
+        Ordering::Equal => signed_len(a).cmp(&signed_len(b)),
+        order => order,
+    }
 }
 
+// The least number of 128 bits that has 17 contents octets.
+const LEAST_LONG: u128 = 1 << 127;
+
 /// The lexicographic order of the contents octets of two numbers that are not negative.
+///
+/// A number of 2 to the power 127 or more has 17 contents octets, of which the first 16 are those of
+/// its quotient by 256.
 pub fn compare_unsigned(a: u128, b: u128) -> Ordering
     ensures { result ≡ lex (natural_contents a) (natural_contents b) }
 {
-    let (a_octets, b_octets) = (unsigned_octets(a), unsigned_octets(b));
-    a_octets[17 - unsigned_len(a) as usize..].cmp(&b_octets[17 - unsigned_len(b) as usize..])
+    match (a < LEAST_LONG, b < LEAST_LONG) {
+        (true, true) => compare_signed(a as i128, b as i128),
+        (false, true) => compare_signed((a >> 8) as i128, b as i128).then(Ordering::Greater),
+        (true, false) => compare_signed(a as i128, (b >> 8) as i128).then(Ordering::Less),
+        (false, false) => a.cmp(&b),
+    }
 }

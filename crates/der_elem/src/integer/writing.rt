@@ -23,6 +23,7 @@ fn signed_parts(number: i128) -> (u128, bool)
 /// How many contents octets a number that is not negative has.
 pub fn unsigned_len(number: u128) -> u32
     ensures len { result ≡ length (natural_contents number) }
+    ensures some { 0 < result }
     ensures bound { result ≤ 17 }
 {
     (u128::BITS - number.leading_zeros()) / 8 + 1
@@ -31,6 +32,7 @@ pub fn unsigned_len(number: u128) -> u32
 /// How many contents octets an integer has.
 pub fn signed_len(number: i128) -> u32
     ensures len { result ≡ length (integer_contents number) }
+    ensures some { 0 < result }
     ensures bound { result ≤ 16 }
 {
     let (magnitude, _) = signed_parts(number);

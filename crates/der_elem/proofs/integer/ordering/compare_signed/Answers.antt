@@ -1,15 +1,20 @@
-use Rattle.std.proofs.Common.{length, ap, ap₂, ◌∙◌, to_z-of_z}
-use Rattle.std.specs.Int.{cast_unsigned, w128}
-use Rattle.der_tlv.specs.Octets.{lex}
-use Rattle.der_elem.specs.Integer.{integer_contents}
-use Rattle.der_elem.proofs.IntegerBytes.{signed_slice}
+use Rattle.std.proofs.Common.{length, nat_cmp, ap, ap₂, sym, ◌∙◌, to_z-of_z}
+use Rattle.der_elem.specs.Integer.{aligned, integer_contents}
+use Rattle.der_elem.proofs.IntegerOrder.{integers_tied, integers_told}
 use Rattle.der_elem.proofs.integer.ordering.compare_signed.Goals as goal
 
-pub returns : goal.returns
-returns c =
+pub returns-in-Equal : goal.returns-in-Equal
+returns-in-Equal c =
     let a = to_z-of_z c.ranges.a in
     let b = to_z-of_z c.ranges.b in
-    c.cmp.ensures
-    ∙ ap₂ lex
-    (signed_slice c.args.a c.signed_len.result _ _ c.ranges.a (c.cast_unsigned.ensures ∙ ap (cast_unsigned w128) a) c.to_be_bytes-a_octets.ensures (c.signed_len.ensures.len ∙ ap (λ y. length (integer_contents y)) a) c.signed_len.ensures.bound)
-    (signed_slice c.args.b c.signed_len-2.result _ _ c.ranges.b (c.cast_unsigned-2.ensures ∙ ap (cast_unsigned w128) b) c.to_be_bytes-b_octets.ensures (c.signed_len-2.ensures.len ∙ ap (λ y. length (integer_contents y)) b) c.signed_len-2.ensures.bound)
+    let numbers = ap₂ nat_cmp (c.aligned_contents.ensures ∙ ap (λ y. aligned 16 (integer_contents y)) a) (c.aligned_contents-2.ensures ∙ ap (λ y. aligned 16 (integer_contents y)) b) in
+    c.cmp-in-Equal.ensures
+    ∙ ap₂ nat_cmp (c.signed_len.ensures.len ∙ ap (λ y. length (integer_contents y)) a) (c.signed_len-in-Equal.ensures.len ∙ ap (λ y. length (integer_contents y)) b)
+    ∙ integers_tied c.args.a c.args.b c.ranges.a c.ranges.b (sym numbers ∙ sym c.in-Equal.ensures)
+
+pub returns-in_default : goal.returns-in_default
+returns-in_default c =
+    let a = to_z-of_z c.ranges.a in
+    let b = to_z-of_z c.ranges.b in
+    let numbers = c.cmp.ensures ∙ ap₂ nat_cmp (c.aligned_contents.ensures ∙ ap (λ y. aligned 16 (integer_contents y)) a) (c.aligned_contents-2.ensures ∙ ap (λ y. aligned 16 (integer_contents y)) b) in
+    numbers ∙ integers_told c.args.a c.args.b c.ranges.a c.ranges.b (λ e. c.in_default.not-Equal (numbers ∙ e))
