@@ -10,3 +10,4 @@ pub mod TagHeads
 pub mod TagOctets
 pub mod TagOrder
 pub mod ShortHeaders
+pub mod ShortReads

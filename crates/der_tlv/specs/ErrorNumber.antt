@@ -1,5 +1,6 @@
 -- The numbers of the kinds of errors.
-use Rattle.std.specs.Prelude.{ℕ}
+use Rattle.std.specs.Prelude.{ℕ, None}
+use Rattle.der_tlv.specs.declared.error.Error.{Error}
 use Rattle.der_tlv.specs.declared.error.ErrorKind.{ErrorKind}
 use Rattle.der_tlv.specs.declared.error.ErrorKind.TheVariants.{Memory, Incomplete, TrailingData, TagUnexpected, TagUnknown, TagNumberInvalid, Length, Noncanonical, Overflow, Overlength, SetOrdering, Utf8, Value, DateTime, OidMalformed, IndefiniteLength, Failed}
 
@@ -21,3 +22,7 @@ error_number DateTime = 14
 error_number OidMalformed = 15
 error_number IndefiniteLength = 16
 error_number Failed = 17
+
+-- memory ran out, wherever it was
+abbrev pub out_of_memory : Error
+out_of_memory = record { kind = Memory; position = None }

@@ -6,8 +6,10 @@ pub mod HeaderOctets
 pub mod ReaderState
 pub mod HeaderReading
 pub mod Reading
+pub mod ShortTags
 pub mod Writing
 pub mod ErrorNumber
+pub mod Texts
 pub mod Fitting
 pub mod LengthLaws
 pub mod OctetLaws

@@ -1,10 +1,13 @@
-//! Errors and their numbers.
+//! Errors, their numbers and their texts.
+
+mod texts;
 
 ghost use Rattle.std.specs.Prelude.{◌≡◌, None};
 ghost use Rattle.der_tlv.specs.ErrorNumber.{error_number};
 
 use crate::length::Length;
 use crate::tag::Tag;
+use std::alloc::AllocError;
 
 /// What was refused.
 ///
@@ -135,5 +138,17 @@ impl Error {
         ensures { result ≡ self.position }
     {
         self.position
+    }
+}
+
+impl From<AllocError> for Error {
+    ghost use Rattle.std.specs.Prelude.{◌≡◌};
+    ghost use Rattle.der_tlv.specs.ErrorNumber.{out_of_memory};
+
+    ghost from_gives = { λ _ e. e ≡ out_of_memory };
+
+    /// (1), with no position.
+    fn from(_refused: AllocError) -> Error {
+        Error::from_kind(ErrorKind::Memory)
     }
 }

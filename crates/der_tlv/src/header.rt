@@ -14,6 +14,7 @@ use crate::header_octets::{HeaderOctets, first_octet};
 use crate::length::Length;
 use crate::reader::Reader;
 use crate::tag::Tag;
+use crate::tag::short::short_tag;
 use crate::writer::Writer;
 pub use laws::{headers_are_unique, headers_read_back};
 
@@ -93,8 +94,33 @@ impl Header {
     ///
     /// # Errors
     /// (17) on a failed reader; the first fault of the identifier octets, then of the length octets.
-    #[inline]
+    #[inline(always)]
     pub fn decode<'a, R: Reader<'a>>(reader: &mut R) -> Result<Header, Error>
+        ensures head { ReadsHead read_header octets_of (R.state reader.old) (R.state reader.new) result }
+        ensures bounded { IfOk result (λ h. IsTag h.tag) }
+    {
+        if reader.remaining_len().value() >= 2 {
+            let start = reader.position();
+            if let Ok(octets) = reader.read_slice(Length::new(2)) {
+                match short_tag(octets[0]) {
+                    Some(tag) if octets[1] < 0x80 => {
+                        let length = Length::new(u32::from(octets[1]));
+                        return Ok(Header { tag, length });
+                    }
+                    _ => reader.rewind(start),
+                }
+            }
+        }
+        Header::decode_octets(reader)
+    }
+
+    /// Reads a header octet by octet.
+    ///
+    /// # Errors
+    /// As `decode`.
+    #[cold]
+    #[inline(never)]
+    fn decode_octets<'a, R: Reader<'a>>(reader: &mut R) -> Result<Header, Error>
         ensures head { ReadsHead read_header octets_of (R.state reader.old) (R.state reader.new) result }
         ensures bounded { IfOk result (λ h. IsTag h.tag) }
     {

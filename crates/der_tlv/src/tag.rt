@@ -6,6 +6,7 @@ mod laws;
 mod mode;
 mod number;
 mod ordering;
+pub(crate) mod short;
 
 ghost use Rattle.std.specs.Prelude.{◌≡◌, ℕ, ◌+◌, ◌^◌, ◌<◌, ◌↔◌, IsTrue, IfOk, IfErr, IsOk, Option, Some, None, OnOk};
 ghost use Rattle.std.specs.Ordering.{on, as_partial_cmp};

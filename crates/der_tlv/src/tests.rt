@@ -11,7 +11,7 @@ use crate::length::{Length, lengths_are_short, lengths_are_unique, lengths_read_
 use crate::reader::{Reader, SliceReader};
 use crate::tag::{Class, Tag, TagMode, TagNumber};
 use crate::writer::{SliceWriter, VecWriter, Writer};
-use std::alloc::Global;
+use std::alloc::{AllocError, Global};
 use std::test::Fail;
 
 /// What was refused, if anything was.
@@ -628,4 +628,44 @@ fn rules(rt: HostRuntime) {
         }
         Err(_) => assert!(rt; false, "two octets"),
     }
+}
+
+/// What a call answers that runs out of memory.
+fn refused_memory() -> Result<(), Error> {
+    Err(AllocError)?;
+    Ok(())
+}
+
+#[test]
+fn texts(rt: HostRuntime) -> Result<(), Fail> {
+    let end = match SliceReader::new(&[0x04]) {
+        Ok(mut reader) => {
+            let _read = reader.read_byte();
+            reader.read_slice(Length::new(3)).err()
+        }
+        Err(e) => Some(e),
+    };
+    match end {
+        Some(e) => {
+            let text = format!(in rt.alloc(); "{e}")?;
+            assert_eq!(rt;
+                text.as_str(),
+                "the octets end too soon: 4 are needed, and 1 are there, at position 1"
+            );
+        }
+        None => assert!(rt; false, "one octet"),
+    }
+    let kind = long_tag().unexpected_error(Some(Tag::OctetString));
+    let text = format!(in rt.alloc(); "{kind}")?;
+    assert_eq!(rt;
+        text.as_str(),
+        "primitive [PRIVATE 4294967295] stands where OCTET STRING is expected"
+    );
+    let text = format!(in rt.alloc(); "{}", ErrorKind::TagUnknown { byte: 0x1f })?;
+    assert_eq!(rt; text.as_str(), "no known tag begins with the octet 0x1f");
+    match refused_memory() {
+        Err(e) => assert_eq!(rt; e, Error::from_kind(ErrorKind::Memory)),
+        Ok(()) => assert!(rt; false, "memory was refused"),
+    }
+    Ok(())
 }

@@ -93,6 +93,7 @@ impl<'a> SliceReader<'a> {
 
     /// Refuses a read of so many octets.
     #[cold]
+    #[inline(never)]
     fn refusal(&mut self, len: usize) -> Error
         requires { can_read (⟦<SliceReader<'a> as Reader<'a>>⟧.state self.old) len ≡ false }
         ensures kind { result.kind ≡ read_fault (⟦<SliceReader<'a> as Reader<'a>>⟧.state self.old) len }
@@ -197,6 +198,7 @@ impl<'a> Reader<'a> for SliceReader<'a> {
         Ok(())
     }
 
+    #[inline]
     fn rewind(&mut self, position: Length) {
         self.position = position.value();
     }
@@ -206,10 +208,12 @@ impl<'a> Reader<'a> for SliceReader<'a> {
         self.position == self.end
     }
 
+    #[inline]
     fn position(&self) -> Length {
         Length::new(self.position)
     }
 
+    #[inline]
     fn remaining_len(&self) -> Length {
         Length::new(self.end - self.position)
     }
@@ -218,6 +222,8 @@ impl<'a> Reader<'a> for SliceReader<'a> {
         self.rules
     }
 
+    #[cold]
+    #[inline(never)]
     fn error(&mut self, kind: ErrorKind) -> Error {
         self.failed = true;
         Error {

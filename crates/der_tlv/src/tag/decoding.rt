@@ -11,6 +11,7 @@ ghost use Rattle.der_tlv.specs.TagParts.{IsTag, universal_tag};
 use crate::error::{Error, ErrorKind};
 use crate::length::Length;
 use crate::reader::Reader;
+use crate::tag::short::short_tag;
 use crate::tag::{Class, Tag, TagNumber};
 
 impl Tag {
@@ -27,6 +28,9 @@ impl Tag {
         ensures bounded { IfOk result (λ t. IsTag t) }
     {
         let first = reader.read_byte()?;
+        if let Some(tag) = short_tag(first) {
+            return Ok(tag);
+        }
         let low = first % 32;
         let number = if low < 31 {
             u32::from(low)

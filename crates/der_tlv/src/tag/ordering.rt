@@ -23,7 +23,7 @@ impl Ord for Tag {
     ghost matches_eq = { tag_eq-identifier };
 
     /// The lexicographic order of the identifier octets.
-    #[inline]
+    #[inline(always)]
     fn cmp(&self, other: &Tag) -> Ordering {
         match first_octet(*self).cmp(&first_octet(*other)) {
             Ordering::Equal => compare_identifiers(*self, *other),
@@ -43,8 +43,21 @@ impl PartialOrd for Tag {
     }
 }
 
-/// Compares the identifier octets, all of them.
+/// Compares the identifier octets; those of equal tags are equal, and are not made.
+#[inline(always)]
 fn compare_identifiers(tag: Tag, other: Tag) -> Ordering
+    ensures { result ≡ lex (identifier tag) (identifier other) }
+{
+    if tag == other {
+        return Ordering::Equal;
+    }
+    compare_octets(tag, other)
+}
+
+/// Compares the identifier octets, all of them.
+#[cold]
+#[inline(never)]
+fn compare_octets(tag: Tag, other: Tag) -> Ordering
     ensures { result ≡ lex (identifier tag) (identifier other) }
 {
     let mut octets = HeaderOctets::new();

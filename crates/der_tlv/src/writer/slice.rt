@@ -10,7 +10,7 @@ use crate::writer::Writer;
 ///
 /// A write that does not fit writes none of its octets and is refused (10); from then on each
 /// write is refused (17).
-#[derive(Drop)]
+#[derive(Debug, Drop)]
 pub struct SliceWriter<'a> {
     bytes: &'a mut [u8],
     position: usize,

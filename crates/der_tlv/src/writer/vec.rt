@@ -12,7 +12,7 @@ use std::alloc::Global;
 ///
 /// A growth that is refused (1) leaves the octets as they were; from then on each write is
 /// refused (17).
-#[derive(Drop)]
+#[derive(Debug, Drop)]
 pub struct VecWriter {
     octets: Vec<u8>,
     failed: bool,

@@ -1,4 +1,5 @@
-use Rattle.std.proofs.Common.{rules, ◌<◌, sym, ap, arith}
+use Rattle.std.proofs.Common.{rules, ◌<◌, ◌∙◌, sym, ap, arith}
+use Rattle.der_tlv.proofs.ShortReads.{short_tag_read}
 use Rattle.der_tlv.proofs.TagHeads.{NumberRead, number_in_first, number_behind, first_missing, number_refused, tag_read, tag_refused}
 use Rattle.der_tlv.proofs.tag.Tag.decode.Goals as goal
 use Rattle.der_tlv.proofs.tag.Tag.decode.Goals.{then-low-lt31, else-low-lt31+in_ok-number}
@@ -33,3 +34,8 @@ returns-in-Err-clause-head g c =
     ] in
     let fault = tag_refused read (sym c.in-Err.ensures) c.error.ensures.failed in
     search rules
+
+pub returns-in-Some-clause-head : goal.returns-in-Some-clause-head
+returns-in-Some-clause-head g c =
+    let small : c.in_ok-first.first < 256 = search rules in
+    short_tag_read c.in_ok-first.ensures small (sym c.short_tag.ensures ∙ c.in-Some.is)
