@@ -1,11 +1,11 @@
 -- Lemmas for the functions on the contents octets of INTEGER.
 use Rattle.std.proofs.Common.{◌≡◌, ℕ, zero, suc, ◌+◌, ◌-◌, ◌*◌, ◌^◌, ◌<◌, ◌≤◌, Bool, true, false, cond, List, [], ◌∷◌, length, get_or, take, drop, refl, ap, arith, nat_le, slice_index}
-use Rattle.std.proofs.lemmas.Int.Digits.{number_more, number_after_append, number_after_ge}
+use Rattle.std.proofs.lemmas.Int.Digits.{number_more, number_after_append, number_after_ge, number_lt}
 use Rattle.std.proofs.Math.ListN.{take-append-drop}
 use Rattle.std.proofs.Math.Nat.{pow-le-pow_right}
 use Rattle.std.specs.Int.Signed.{mag}
 use Rattle.der_elem.specs.Integer.{AreOctets, big_endian_number, complemented, complemented_if, FitsUnsignedOctets}
-use Rattle.der_elem.specs.IntegerLaws.{length-complemented, twos_complement-fits_width, twos_complement-complement_if, mag-complement_if, number-fits_octets}
+use Rattle.der_elem.specs.IntegerLaws.{length-complemented, complemented-are_octets, twos_complement-fits_width, twos_complement-complement_if, mag-complement_if, number-fits_octets}
 
 -- ---- the number of the octets
 
@@ -46,6 +46,15 @@ magnitude_more_le negative octets i n digit within number read =
 pub are_octets : (octets : List ℕ) → ((i : ℕ) → get_or octets i 0 < 256) → AreOctets octets
 are_octets [] each = tt
 are_octets (octet ∷ octets) each = (each 0, are_octets octets (λ i. each (suc i)))
+
+-- the number of at most 8 octets, inverted or not, is below 2^64
+pub short_magnitude-fits : (negative : Bool) (octets : List ℕ) → AreOctets octets → length octets ≤ 8 → big_endian_number (complemented_if negative octets) < 2 ^ 64
+short_magnitude-fits negative octets all few =
+    omega (arith, number_lt 256 (complemented_if negative octets) (each negative), pow-le-pow_right {n = 256} (omega arith) {i = length (complemented_if negative octets)} {j = 8} (omega (arith, length_complemented_if negative octets)))
+  where
+    each : (flag : Bool) → AreOctets (complemented_if flag octets)
+    each true = complemented-are_octets octets
+    each false = all
 
 -- the magnitude of at most 16 contents octets is below 2^127
 pub magnitude-fits : (width : ℕ) (octets : List ℕ) → AreOctets octets → 0 < length octets → length octets ≤ width → width ≤ 16 → big_endian_number (complemented_if (nat_le 128 (slice_index octets 0)) octets) < 2 ^ 127

@@ -1,5 +1,5 @@
 -- What holds of all encodings, stated for the functions that promise it.
-use Rattle.std.specs.Prelude.{◌≡◌, ℕ, ℤ, ◌<◌, ◌≤◌, ◌^◌, List, [], ◌++◌, length, flat_map, Ok}
+use Rattle.std.specs.Prelude.{◌≡◌, Bool, IsTrue, ℕ, ℤ, ◌<◌, ◌≤◌, ◌^◌, List, [], ◌++◌, length, flat_map, Ok}
 use Rattle.std.specs.Ordering.{on}
 use Rattle.std.specs.Cmp.Lexicographic.{slice_cmp}
 use Rattle.der_tlv.specs.declared.tag.Tag.{Tag}
@@ -38,6 +38,12 @@ OneValueIsRead {T} F =
 abbrev pub EncodingsReadBack : {T : Type 0} → form.Ghosts T → Type 0
 EncodingsReadBack {T} F =
     (v : T) (octets : List ℕ) → F.accepts Der v octets → length octets < 2 ^ 32 → parse_all F.parse (F.encoding v) ≡ Ok (F.encoding v)
+
+-- the encoding of a readable value that fits a length is read, as that value and as none but those that are equal to it
+pub record OwnEncodingIsRead {T : Type 0} (F : form.Ghosts T) (eq : T → T → Bool) (v : T) : Type 0 where
+  pub accepted : F.accepts Der v (F.encoding v)
+  pub parsed : parse_all F.parse (F.encoding v) ≡ Ok (F.encoding v)
+  pub equal : (w : T) → F.accepts Der w (F.encoding v) → IsTrue (eq w v)
 
 -- the contents octets of an integer have it as their two's complement number, and no fewer octets do (X.690 8.3.2, 8.3.3)
 abbrev pub IntegersAreFewest : Type 0

@@ -30,3 +30,14 @@ pub mod Options
 pub mod OptionLaws
 pub mod Utf8String
 pub mod Fields
+pub mod Leading
+pub mod FieldDecoding
+pub mod LeadingLaws
+pub use Rattle.der_tlv.specs.HeaderOctets
+pub use Rattle.der_tlv.specs.Identifier
+pub use Rattle.der_tlv.specs.Octets
+pub use Rattle.der_tlv.specs.ReaderState
+pub use Rattle.der_tlv.specs.TagParts
+pub use Rattle.der_tlv.specs.declared.encoding_rules.EncodingRules
+pub use Rattle.der_tlv.specs.declared.error.ErrorKind
+pub use Rattle.der_tlv.specs.declared.tag.Tag

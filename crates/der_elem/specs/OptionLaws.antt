@@ -9,9 +9,10 @@ use Rattle.der_tlv.specs.HeaderReading.{read_tag}
 use Rattle.der_tlv.specs.TagReadingLaws.{read_tag-identifier}
 use Rattle.der_elem.specs.declared.form.Form as form
 use Rattle.der_elem.specs.Accepting.{Fits, BeginsWith, MayFollow}
+use Rattle.der_elem.specs.Leading.{Leads}
 use Rattle.der_elem.specs.ItemLaws.{no_octets}
 use Rattle.der_elem.specs.OrderLaws.{encoding-some}
-use Rattle.der_elem.specs.Options.{encoding_option, one_form_option, test_option, accepts_option, readable_option, is_copy_option, parse_option}
+use Rattle.der_elem.specs.Options.{lead_option, encoding_option, one_form_option, test_option, accepts_option, readable_option, is_copy_option, parse_option}
 
 module _ (tags : Tag → Bool) where
   -- the tag that octets begin with is the next tag
@@ -39,6 +40,10 @@ module _ {T : Type 0} (F : form.Ghosts T) (rules : EncodingRules) where
   pub begins_option : (o : Option T) (z : ℕ) (b : List ℕ) → accepts_option (F.accepts rules) o (z ∷ b) → BeginsWith F.tags true (z ∷ b)
   begins_option None z b a = absurd (cc)
   begins_option (Some v) z b a = F.begins rules v z b a
+
+  pub led_option : (o : Option T) (b : List ℕ) → accepts_option (F.accepts rules) o b → Leads (lead_option F.lead o) b
+  led_option None b a = a
+  led_option (Some v) b a = F.led rules v b a
 
   pub same_length_option : (o : Option T) (b : List ℕ) → accepts_option (F.accepts rules) o b → length (encoding_option F.encoding o) ≡ length b
   same_length_option None b a = ap length (sym a)

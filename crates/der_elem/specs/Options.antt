@@ -10,6 +10,11 @@ abbrev pub encoding_option : {T : Type 0} → (T → List ℕ) → Option T → 
 encoding_option encoding None = []
 encoding_option encoding (Some v) = encoding v
 
+-- an absent value has no tag
+abbrev pub lead_option : {T : Type 0} → (T → Option Tag) → Option T → Option Tag
+lead_option lead None = None
+lead_option lead (Some v) = lead v
+
 -- an absent value is of each form
 abbrev pub one_form_option : {T : Type 0} → (T → T → Type 0) → Option T → Option T → Type 0
 one_form_option one_form (Some v) (Some w) = one_form v w

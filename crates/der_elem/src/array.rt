@@ -6,9 +6,8 @@
 //! Reading refuses with the first fault of an item, from the left, where there are fewer items (7),
 //! and behind an item too many (10), which is read first. It takes memory only where an item does.
 
-ghost use Rattle.std.specs.Prelude.{◌≡◌, flat_map, false, refl};
+ghost use Rattle.std.specs.Prelude.{flat_map, refl};
 ghost use Rattle.std.specs.List.{list_any};
-ghost use Rattle.std.proofs.Common.{lit<, ap, sym, subst};
 ghost use Rattle.der_tlv.specs.declared.tag.Tag.TheVariants as tags;
 ghost use Rattle.der_elem.specs.Items.{OneForms};
 ghost use Rattle.der_elem.specs.Arrays.{AcceptsArray, ReadableArray, parse_array};
@@ -17,7 +16,7 @@ ghost use Rattle.der_elem.specs.ReadingArrays.{DecodesItem, RefusesItem};
 ghost use Rattle.der_elem.specs.EqualityLaws.{items_eq};
 
 use crate::decode::{Decode, DecodeValue};
-use crate::duplicate::DuplicateValue;
+use crate::duplicate::CopyIsDuplicate;
 use crate::encode::{Encode, EncodeValue};
 use crate::equality::{ContentsEq, EncodingEq};
 use crate::fixed_tag::OneTag;
@@ -53,8 +52,6 @@ impl<T: Form, const N: usize> FormValue for [T; N] {
     ghost parse_value = { parse_array N T.parse };
 
     ghost readable_value = { ReadableArray T.readable T.encoding N };
-
-    ghost has_tag = { λ v t. Unit {0} };
 
     ghost VALUE_TAKES_MEMORY = { T.TAKES_MEMORY };
 
@@ -115,21 +112,7 @@ impl<'a, R: Reader<'a>, T: Decode<'a, R> + Tagged + Copy, const N: usize> Decode
     }
 }
 
-impl<T: Form + Copy, const N: usize> DuplicateValue for [T; N] {
-    ghost is_copy_value = { λ v w. w ≡ v };
-
-    ghost takes_memory_to_copy_value = { false };
-
-    fn duplicate_value(&self) -> Result<[T; N], Error> {
-        Ok(*self)
-    }
-
-    ghost copy_contents = { λ v w e. ap (flat_map T.encoding) e };
-
-    ghost copy_form_value = { λ v w x e. subst (λ v. OneForms T.one_form v x) (sym e) };
-
-    ghost copy_re_reads_value = { λ v w e. ap (list_any T.re_reads) e };
-}
+impl<T: Form + Copy, const N: usize> CopyIsDuplicate for [T; N] {}
 
 /// Reads the next item of an array.
 ///

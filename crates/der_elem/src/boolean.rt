@@ -5,18 +5,17 @@
 //!
 //! Reading refuses contents that are not one octet long (7), then any octet but 00 and FF (8).
 
-ghost use Rattle.std.specs.Prelude.{◌≡◌, false, refl};
-ghost use Rattle.std.proofs.Common.{lit<};
+ghost use Rattle.std.specs.Prelude.{false, refl};
 ghost use Rattle.std.specs.Bool.{beq};
 ghost use Rattle.std.specs.Cmp.{booleans_Decides};
 ghost use Rattle.der_tlv.specs.declared.tag.Tag.TheVariants.{Boolean};
-ghost use Rattle.der_elem.specs.OwnContents.{accepts_own};
-ghost use Rattle.der_elem.specs.OwnContentsLaws.{parse_of_own, same_length_own, accepts_own_contents, contents_eq_own, copy_contents_own};
+ghost use Rattle.der_elem.specs.OwnContentsLaws.{contents_eq_own, parse_of_within, same_length_within, accepts_contents_within, only_within};
 ghost use Rattle.der_elem.specs.Boolean.{boolean_contents, parse_boolean, parse_boolean-own, boolean_contents-injective, bool_cmp-lex};
+ghost use Rattle.der_elem.specs.OwnContents.{accepts_within};
 
 use crate::contents::read_contents;
 use crate::decode::DecodeValue;
-use crate::duplicate::DuplicateValue;
+use crate::duplicate::CopyIsDuplicate;
 use crate::encode::EncodeValue;
 use crate::equality::ContentsEq;
 use crate::fixed_tag::OneTag;
@@ -30,27 +29,17 @@ use std::alloc::Global;
 impl FormValue for bool {
     ghost contents = { boolean_contents };
 
-    ghost one_form_value = { λ v w. Unit {0} };
-
-    ghost re_reads_value = { λ v. false };
-
-    ghost accepts_value = { accepts_own boolean_contents };
+    ghost accepts_value = { accepts_within boolean_contents (λ v. Unit {0}) };
 
     ghost parse_value = { parse_boolean };
 
-    ghost readable_value = { λ v. Unit {0} };
+    ghost parse_of_accepted_value = { parse_of_within boolean_contents (λ v. Unit {0}) parse_boolean (λ rules v p r. parse_boolean-own rules v p) };
 
-    ghost has_tag = { λ v t. Unit {0} };
+    ghost same_length_value = { same_length_within boolean_contents (λ v. Unit {0}) };
 
-    ghost VALUE_TAKES_MEMORY = { false };
+    ghost accepts_contents = { accepts_contents_within boolean_contents (λ v. Unit {0}) };
 
-    ghost parse_of_accepted_value = { parse_of_own boolean_contents parse_boolean parse_boolean-own };
-
-    ghost same_length_value = { same_length_own boolean_contents };
-
-    ghost accepts_contents = { accepts_own_contents boolean_contents };
-
-    ghost only_readable_value = { λ rules v c a. tt };
+    ghost only_readable_value = { only_within boolean_contents (λ v. Unit {0}) };
 
     ghost accepts_one_form_value = { λ rules v w c d a b. tt };
 
@@ -96,18 +85,4 @@ impl ContentsEq for bool {
     ghost contents_eq = { contents_eq_own boolean_contents beq booleans_Decides boolean_contents-injective };
 }
 
-impl DuplicateValue for bool {
-    ghost is_copy_value = { λ v w. w ≡ v };
-
-    ghost takes_memory_to_copy_value = { false };
-
-    fn duplicate_value(&self) -> Result<bool, Error> {
-        Ok(*self)
-    }
-
-    ghost copy_contents = { copy_contents_own boolean_contents };
-
-    ghost copy_form_value = { λ v w x e f. tt };
-
-    ghost copy_re_reads_value = { λ v w e. refl };
-}
+impl CopyIsDuplicate for bool {}

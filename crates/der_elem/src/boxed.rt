@@ -12,7 +12,7 @@ use crate::fixed_tag::OneTag;
 use crate::form::FormValue;
 use crate::memory::{ValueMemory, WithMemory};
 use crate::sequence::Sequence;
-use der_tlv::{Error, ErrorKind, Header, Length, Reader, Tag, Writer};
+use der_tlv::{Error, ErrorKind, Header, Length, Reader, Writer};
 use std::alloc::Global;
 
 impl<T: OneTag> OneTag for Box<T> {

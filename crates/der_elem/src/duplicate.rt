@@ -1,7 +1,7 @@
 //! Copies of values.
 
-ghost use Rattle.std.specs.Prelude.{◌≡◌, Bool, true, IfOk, IfErr};
-ghost use Rattle.std.proofs.Common.{ap};
+ghost use Rattle.std.specs.Prelude.{◌≡◌, Bool, true, false, IfOk, IfErr};
+ghost use Rattle.std.proofs.Common.{ap, subst, sym};
 ghost use Rattle.der_tlv.specs.HeaderOctets.{tlv};
 ghost use Rattle.der_tlv.specs.declared.error.ErrorKind.TheVariants.{Memory};
 
@@ -71,4 +71,23 @@ impl<T: DuplicateValue + FixedTag> Duplicate for T {
     ghost copy_form = { T.copy_form_value };
 
     ghost copy_re_reads = { T.copy_re_reads_value };
+}
+
+/// A `Copy` type: a copy is the value itself, and takes no memory.
+pub trait CopyIsDuplicate: FormValue + Copy {}
+
+impl<T: CopyIsDuplicate> DuplicateValue for T {
+    ghost is_copy_value = { λ v w. w ≡ v };
+
+    ghost takes_memory_to_copy_value = { false };
+
+    fn duplicate_value(&self) -> Result<T, Error> {
+        Ok(*self)
+    }
+
+    ghost copy_contents = { λ v w e. ap T.contents e };
+
+    ghost copy_form_value = { λ v w x e f. subst (λ u. T.one_form_value u x) (sym e) f };
+
+    ghost copy_re_reads_value = { λ v w e. ap T.re_reads_value e };
 }

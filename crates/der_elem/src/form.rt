@@ -3,14 +3,14 @@
 //! These traits have no code but a constant. All traits that read, write or compare octets speak of
 //! the one meaning that they give.
 
-ghost use Rattle.std.specs.Prelude.{◌≡◌, ℕ, ◌+◌, List, [], ◌∷◌, ◌++◌, length, Bool, true, false, Ok};
+ghost use Rattle.std.specs.Prelude.{◌≡◌, ℕ, ◌+◌, List, ◌∷◌, ◌++◌, length, Bool, true, false, Option, Some, Ok};
 ghost use Rattle.der_tlv.specs.declared.encoding_rules.EncodingRules.{EncodingRules};
 ghost use Rattle.der_tlv.specs.declared.tag.Tag.{Tag};
-ghost use Rattle.der_tlv.specs.TagParts.{IsTag};
 ghost use Rattle.der_tlv.specs.Identifier.{same_identifier};
 ghost use Rattle.der_tlv.specs.HeaderOctets.{tlv};
 ghost use Rattle.der_elem.specs.Parsing.{Parse, ContentsParse, parse_tagged};
 ghost use Rattle.der_elem.specs.Accepting.{Fits, BeginsWith, MayFollow, accepts_tagged};
+ghost use Rattle.der_elem.specs.Leading.{Leads, led_tagged};
 ghost use Rattle.der_elem.specs.TaggedLaws.{parse_of_tagged, begins_tagged, same_length_tagged, accepts_tagged_encoding, readable_tagged, one_form_tagged};
 
 use crate::fixed_tag::FixedTag;
@@ -21,10 +21,10 @@ pub trait FormValue: Sized + Drop {
     ghost contents: { Self → List ℕ };
 
     // whether some form has both values
-    ghost one_form_value: { Self → Self → Type 0 };
+    ghost one_form_value: { Self → Self → Type 0 } = { λ v w. Unit {0} };
 
     // whether writing or comparing the value reads its items again, which takes memory
-    ghost re_reads_value: { Self → Bool };
+    ghost re_reads_value: { Self → Bool } = { λ v. false };
 
     // under rules, the grammar: the value is read from exactly these contents octets
     ghost accepts_value: { EncodingRules → Self → List ℕ → Type 0 };
@@ -33,13 +33,13 @@ pub trait FormValue: Sized + Drop {
     ghost parse_value: { ContentsParse };
 
     // whether reading can give the value
-    ghost readable_value: { Self → Type 0 };
+    ghost readable_value: { Self → Type 0 } = { λ v. Unit {0} };
 
     // whether the value may stand behind a header with this tag
-    ghost has_tag: { Self → Tag → Type 0 };
+    ghost has_tag: { Self → Tag → Type 0 } = { λ v t. Unit {0} };
 
     // whether reading the contents octets takes memory
-    ghost VALUE_TAKES_MEMORY: { Bool };
+    ghost VALUE_TAKES_MEMORY: { Bool } = { false };
 
     ghost parse_of_accepted_value: { (rules : EncodingRules) (v : Self) (p : ℕ) (c : List ℕ) → accepts_value rules v c → Fits c → parse_value rules p c ≡ Ok (contents v) };
 
@@ -75,6 +75,9 @@ pub trait Form: Sized + Drop {
     // the tags that its encodings begin with
     ghost tags: { Tag → Bool };
 
+    // the tag that the encoding begins with, if it has octets
+    ghost lead: { Self → Option Tag };
+
     // whether reading can give the value
     ghost readable: { Self → Type 0 };
 
@@ -84,6 +87,8 @@ pub trait Form: Sized + Drop {
     ghost parse_of_accepted: { (rules : EncodingRules) (v : Self) (p : ℕ) (b x : List ℕ) → accepts rules v b → Fits b → MayFollow tags b x → parse rules p (b ++ x) ≡ Ok (length b, encoding v) };
 
     ghost begins: { (rules : EncodingRules) (v : Self) (z : ℕ) (b : List ℕ) → accepts rules v (z ∷ b) → BeginsWith tags true (z ∷ b) };
+
+    ghost led: { (rules : EncodingRules) (v : Self) (b : List ℕ) → accepts rules v b → Leads (lead v) b };
 
     ghost same_length: { (rules : EncodingRules) (v : Self) (b : List ℕ) → accepts rules v b → length (encoding v) ≡ length b };
 
@@ -109,6 +114,8 @@ impl<T: FormValue + FixedTag> Form for T {
 
     ghost tags = { λ t. same_identifier t T.TAG };
 
+    ghost lead = { λ v. Some T.TAG };
+
     ghost readable = { T.readable_value };
 
     ghost TAKES_MEMORY = { T.VALUE_TAKES_MEMORY };
@@ -116,6 +123,8 @@ impl<T: FormValue + FixedTag> Form for T {
     ghost parse_of_accepted = { parse_of_tagged T.TAG T.tag_in_range T.accepts_value T.contents T.parse_value T.parse_of_accepted_value };
 
     ghost begins = { begins_tagged T.TAG T.tag_in_range T.accepts_value };
+
+    ghost led = { led_tagged T.TAG T.tag_in_range T.accepts_value };
 
     ghost same_length = { same_length_tagged T.TAG T.accepts_value T.contents T.same_length_value };
 

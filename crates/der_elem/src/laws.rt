@@ -1,8 +1,12 @@
 //! Laws of encodings: functions that do nothing, and promise what holds of all encodings.
 
-ghost use Rattle.der_elem.specs.EncodingLaws.{NoneBeginsAnother, NoneReadBeginsAnother, PaddingIsLexicographic, FirstPairDecides, OneValueIsRead, EncodingsReadBack, IntegersAreFewest};
+ghost use Rattle.std.specs.Prelude.{◌≡◌, ◌<◌, ◌^◌, length};
+ghost use Rattle.der_tlv.specs.declared.tag.Tag.TheVariants as tags;
+ghost use Rattle.der_elem.specs.EncodingLaws.{NoneBeginsAnother, NoneReadBeginsAnother, PaddingIsLexicographic, FirstPairDecides, OneValueIsRead, EncodingsReadBack, OwnEncodingIsRead, IntegersAreFewest};
 ghost use Rattle.der_elem.specs.Fields.{FirstFieldDecides, FieldsAreToldApart};
 
+use crate::equality::EncodingEq;
+use crate::fixed_tag::FixedTag;
 use crate::form::Form;
 use crate::tag::Tagged;
 
@@ -53,8 +57,33 @@ pub fn encodings_read_back<T: Form>()
     ensures { EncodingsReadBack T.Form }
 {}
 
+/// The encoding of a readable value that fits a length is read, as a value that is equal to it: so
+/// reading after writing answers what was written.
+pub fn own_encoding_is_read<T: EncodingEq>()
+    ensures { (v : T) → T.readable v → length (T.encoding v) < 2 ^ 32 → OwnEncodingIsRead T.Form T.eq v }
+{}
+
 /// The contents octets of an integer have it as their two's complement number, and no fewer octets
 /// do (X.690 8.3).
 pub fn integers_are_fewest()
     ensures { IntegersAreFewest }
+{}
+
+/// The tags of the built-in types (X.680 8.6).
+pub fn tags_are()
+    ensures boolean { ⟦<bool as FixedTag>⟧.TAG ≡ tags.Boolean }
+    ensures null { ⟦<() as FixedTag>⟧.TAG ≡ tags.Null }
+    ensures i8 { ⟦<i8 as FixedTag>⟧.TAG ≡ tags.Integer }
+    ensures i16 { ⟦<i16 as FixedTag>⟧.TAG ≡ tags.Integer }
+    ensures i32 { ⟦<i32 as FixedTag>⟧.TAG ≡ tags.Integer }
+    ensures i64 { ⟦<i64 as FixedTag>⟧.TAG ≡ tags.Integer }
+    ensures i128 { ⟦<i128 as FixedTag>⟧.TAG ≡ tags.Integer }
+    ensures u8 { ⟦<u8 as FixedTag>⟧.TAG ≡ tags.Integer }
+    ensures u16 { ⟦<u16 as FixedTag>⟧.TAG ≡ tags.Integer }
+    ensures u32 { ⟦<u32 as FixedTag>⟧.TAG ≡ tags.Integer }
+    ensures u64 { ⟦<u64 as FixedTag>⟧.TAG ≡ tags.Integer }
+    ensures u128 { ⟦<u128 as FixedTag>⟧.TAG ≡ tags.Integer }
+    ensures text { ⟦<String as FixedTag>⟧.TAG ≡ tags.Utf8String }
+    ensures list { ⟦<Vec<bool> as FixedTag>⟧.TAG ≡ tags.Sequence }
+    ensures array { ⟦<[bool; 1] as FixedTag>⟧.TAG ≡ tags.Sequence }
 {}

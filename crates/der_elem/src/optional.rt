@@ -7,8 +7,8 @@
 //! no octet is left, there is no value; else reading refuses with the value's faults. An absent value
 //! is less than any other.
 
-ghost use Rattle.der_elem.specs.Options.{encoding_option, one_form_option, test_option, accepts_option, readable_option, is_copy_option, parse_option};
-ghost use Rattle.der_elem.specs.OptionLaws.{parse_of_option, begins_option, same_length_option, accepts_option_encoding, readable_of_option, one_form_of_option, re_reads_option, copy_encoding_option, copy_form_option, copy_re_reads_option, encoding_eq_option};
+ghost use Rattle.der_elem.specs.Options.{lead_option, encoding_option, one_form_option, test_option, accepts_option, readable_option, is_copy_option, parse_option};
+ghost use Rattle.der_elem.specs.OptionLaws.{led_option, parse_of_option, begins_option, same_length_option, accepts_option_encoding, readable_of_option, one_form_of_option, re_reads_option, copy_encoding_option, copy_form_option, copy_re_reads_option, encoding_eq_option};
 
 use crate::decode::Decode;
 use crate::duplicate::Duplicate;
@@ -36,6 +36,8 @@ impl<T: Form> Form for Option<T> {
 
     ghost tags = { T.tags };
 
+    ghost lead = { lead_option T.lead };
+
     ghost readable = { readable_option T.readable };
 
     ghost TAKES_MEMORY = { T.TAKES_MEMORY };
@@ -43,6 +45,8 @@ impl<T: Form> Form for Option<T> {
     ghost parse_of_accepted = { parse_of_option T.Form };
 
     ghost begins = { λ rules v z b. begins_option T.Form rules v z b };
+
+    ghost led = { led_option T.Form };
 
     ghost same_length = { same_length_option T.Form };
 
@@ -75,7 +79,7 @@ impl<'a, R: Reader<'a>, T: Decode<'a, R> + Choice> Decode<'a, R> for Option<T> {
     }
 }
 
-impl<T: Encode> Encode for Option<T> {
+impl<T: Encode + Tagged> Encode for Option<T> {
     fn encoded_len(&self) -> Result<Length, Error> {
         match self {
             Some(value) => value.encoded_len(),
@@ -104,6 +108,8 @@ impl<'b, T: Form> Form for &'b Option<T> {
 
     ghost tags = { T.tags };
 
+    ghost lead = { λ v. lead_option T.lead v.now };
+
     ghost readable = { λ v. readable_option T.readable v.now };
 
     ghost TAKES_MEMORY = { T.TAKES_MEMORY };
@@ -111,6 +117,8 @@ impl<'b, T: Form> Form for &'b Option<T> {
     ghost parse_of_accepted = { λ rules v. parse_of_option T.Form rules v.now };
 
     ghost begins = { λ rules v z b. begins_option T.Form rules v.now z b };
+
+    ghost led = { λ rules v. led_option T.Form rules v.now };
 
     ghost same_length = { λ rules v. same_length_option T.Form rules v.now };
 
@@ -123,7 +131,7 @@ impl<'b, T: Form> Form for &'b Option<T> {
     ghost re_reads_memory = { λ v. re_reads_option T.Form v.now };
 }
 
-impl<'b, T: Encode> Encode for &'b Option<T> {
+impl<'b, T: Encode + Tagged> Encode for &'b Option<T> {
     fn encoded_len(&self) -> Result<Length, Error> {
         let option: &Option<T> = *self;
         option.encoded_len()
@@ -150,7 +158,7 @@ impl<T: EncodingEq + Tagged> EncodingEq for Option<T> {
     ghost encoding_eq = { encoding_eq_option T.tag_of T.contents T.encoding T.encoding_is T.one_form T.eq T.encoding_eq };
 }
 
-impl<T: Duplicate> Duplicate for Option<T> {
+impl<T: Duplicate + Tagged> Duplicate for Option<T> {
     ghost is_copy = { is_copy_option T.is_copy };
 
     ghost takes_memory_to_copy = { T.takes_memory_to_copy };

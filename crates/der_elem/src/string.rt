@@ -4,12 +4,12 @@
 //!
 //! Reading refuses octets that are not UTF-8 (12), and then where memory runs out (1).
 
-ghost use Rattle.std.specs.Prelude.{◌≡◌, true, false, refl};
+ghost use Rattle.std.specs.Prelude.{◌≡◌, true, refl};
 ghost use Rattle.std.specs.Cmp.Lexicographic.{bytes_decides};
 ghost use Rattle.std.specs.String.{string_bytes};
-ghost use Rattle.der_elem.specs.OwnContents.{accepts_own};
-ghost use Rattle.der_elem.specs.OwnContentsLaws.{parse_of_own, same_length_own, accepts_own_contents};
 ghost use Rattle.der_elem.specs.Utf8String.{parse_utf8, parse_utf8-own};
+ghost use Rattle.der_elem.specs.OwnContents.{accepts_within};
+ghost use Rattle.der_elem.specs.OwnContentsLaws.{parse_of_within, same_length_within, accepts_contents_within, only_within};
 
 use crate::contents::read_contents;
 use crate::decode::DecodeValue;
@@ -28,27 +28,19 @@ use std::alloc::Global;
 impl FormValue for String {
     ghost contents = { string_bytes };
 
-    ghost one_form_value = { λ v w. Unit {0} };
-
-    ghost re_reads_value = { λ v. false };
-
-    ghost accepts_value = { accepts_own string_bytes };
+    ghost accepts_value = { accepts_within string_bytes (λ v. Unit {0}) };
 
     ghost parse_value = { parse_utf8 };
 
-    ghost readable_value = { λ v. Unit {0} };
-
-    ghost has_tag = { λ v t. Unit {0} };
-
     ghost VALUE_TAKES_MEMORY = { true };
 
-    ghost parse_of_accepted_value = { parse_of_own string_bytes parse_utf8 parse_utf8-own };
+    ghost parse_of_accepted_value = { parse_of_within string_bytes (λ v. Unit {0}) parse_utf8 (λ rules v p r. parse_utf8-own rules v p) };
 
-    ghost same_length_value = { same_length_own string_bytes };
+    ghost same_length_value = { same_length_within string_bytes (λ v. Unit {0}) };
 
-    ghost accepts_contents = { accepts_own_contents string_bytes };
+    ghost accepts_contents = { accepts_contents_within string_bytes (λ v. Unit {0}) };
 
-    ghost only_readable_value = { λ rules v c a. tt };
+    ghost only_readable_value = { only_within string_bytes (λ v. Unit {0}) };
 
     ghost accepts_one_form_value = { λ rules v w c d a b. tt };
 
@@ -102,10 +94,7 @@ impl DuplicateValue for String {
     ghost takes_memory_to_copy_value = { true };
 
     fn duplicate_value(&self) -> Result<String, Error> {
-        match self.clone() {
-            Ok(copy) => Ok(copy),
-            Err(_) => Err(Error::from_kind(ErrorKind::Memory)),
-        }
+        Ok(self.clone()?)
     }
 
     ghost copy_contents = { λ v w e. e };

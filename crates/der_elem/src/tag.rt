@@ -1,9 +1,10 @@
 //! The tags of values.
 
-ghost use Rattle.std.specs.Prelude.{◌≡◌, List, ℕ, Bool, true, refl};
+ghost use Rattle.std.specs.Prelude.{◌≡◌, List, ℕ, Bool, true, Some, refl};
 ghost use Rattle.der_tlv.specs.declared.tag.Tag.{Tag};
 ghost use Rattle.der_tlv.specs.declared.encoding_rules.EncodingRules.{EncodingRules};
 ghost use Rattle.der_tlv.specs.TagParts.{IsTag, is_constructed};
+ghost use Rattle.der_tlv.specs.HeaderLaws.{same_identifier-same};
 ghost use Rattle.der_tlv.specs.HeaderOctets.{tlv};
 ghost use Rattle.der_elem.specs.Accepting.{IsTlv};
 ghost use Rattle.der_elem.specs.TaggedLaws.{tlv_tagged};
@@ -25,6 +26,10 @@ pub trait Tagged: FormValue + Form {
 
     ghost accepted_is_tlv: { (rules : EncodingRules) (v : Self) (b : List ℕ) → Self.accepts rules v b → IsTlv b };
 
+    ghost own_tag: { (v : Self) → Self.tags (tag_of v) ≡ true };
+
+    ghost lead_is: { (v : Self) → Self.lead v ≡ Some (tag_of v) };
+
     ghost re_reads_alike: { (v : Self) → Self.re_reads_value v ≡ true → Self.re_reads v ≡ true };
 
     ghost one_form_alike: { (v w : Self) → Self.one_form v w → Self.one_form_value v w };
@@ -40,6 +45,10 @@ impl<T: FormValue + FixedTag> Tagged for T {
     ghost encoding_is = { λ v. refl };
 
     ghost accepted_is_tlv = { tlv_tagged T.TAG T.accepts_value };
+
+    ghost own_tag = { λ v. same_identifier-same T.TAG };
+
+    ghost lead_is = { λ v. refl };
 
     ghost re_reads_alike = { λ v h. h };
 

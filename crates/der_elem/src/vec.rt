@@ -9,7 +9,6 @@
 ghost use Rattle.std.specs.Prelude.{flat_map, true, refl};
 ghost use Rattle.std.specs.List.{list_any};
 ghost use Rattle.der_tlv.specs.declared.tag.Tag.TheVariants as tags;
-ghost use Rattle.std.proofs.Common.{lit<};
 ghost use Rattle.der_elem.specs.Items.{AcceptsItems, EachItem, parse_items, OneForms, AreCopies};
 ghost use Rattle.der_elem.specs.EqualityLaws.{items_eq};
 ghost use Rattle.der_elem.specs.CopyLaws.{copies_encoding, copies_form, copies_re_read};
@@ -28,7 +27,7 @@ use crate::readiness::ask_ready;
 use crate::sequence::Sequence;
 use crate::tag::Tagged;
 use crate::universal_tags::SequenceTag;
-use der_tlv::{Error, ErrorKind, Header, Length, Reader, Tag, Writer};
+use der_tlv::{Error, ErrorKind, Header, Length, Reader, Writer};
 use std::alloc::Global;
 use std::cmp::Ordering;
 
@@ -52,8 +51,6 @@ impl<T: Form> FormValue for Vec<T> {
     ghost parse_value = { parse_items T.parse };
 
     ghost readable_value = { λ v. EachItem T.readable v.items };
-
-    ghost has_tag = { λ v t. Unit {0} };
 
     ghost VALUE_TAKES_MEMORY = { true };
 

@@ -44,9 +44,25 @@ pub fn magnitude(bytes: &[u8], negative: bool) -> u128
     requires { big_endian_number (complemented_if negative bytes.now) < 2 ^ 128 }
     ensures { result ≡ big_endian_number (complemented_if negative bytes.now) }
 {
+    if bytes.len() <= 8 {
+        return u128::from(short_magnitude(bytes, negative));
+    }
     let mut number: u128 = 0;
     for octet in bytes {
         number = number * 256 + inverted_if(negative, *octet) as u128;
+    }
+    number
+}
+
+/// The same of octets that 64 bits can hold, which take less time.
+#[inline(always)]
+fn short_magnitude(bytes: &[u8], negative: bool) -> u64
+    requires { big_endian_number (complemented_if negative bytes.now) < 2 ^ 64 }
+    ensures { result ≡ big_endian_number (complemented_if negative bytes.now) }
+{
+    let mut number: u64 = 0;
+    for octet in bytes {
+        number = number * 256 + inverted_if(negative, *octet) as u64;
     }
     number
 }

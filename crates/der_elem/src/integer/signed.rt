@@ -3,23 +3,22 @@
 //! Reading refuses, in this order: no contents octets (7); more than the type has (8); a first
 //! octet 00 before one below 80, or FF before one of 80 or more (8).
 
-ghost use Rattle.std.specs.Prelude.{◌≡◌, false, refl};
 ghost use Rattle.std.proofs.Common.{lit<};
 ghost use Rattle.std.specs.Ordering.{int_eq};
 ghost use Rattle.std.proofs.lemmas.Bool.Decides.{Decides-int_eq};
-ghost use Rattle.der_tlv.specs.declared.tag.Tag.TheVariants.{Integer};
-ghost use Rattle.der_elem.specs.OwnContents.{accepts_within};
-ghost use Rattle.der_elem.specs.OwnContentsLaws.{parse_of_within, same_length_within, accepts_contents_within, only_within, contents_eq_own, copy_contents_own};
+ghost use Rattle.der_elem.specs.OwnContentsLaws.{contents_eq_own, parse_of_within, same_length_within, accepts_contents_within, only_within};
 ghost use Rattle.der_elem.specs.Integer.{integer_contents, FitsSignedWidth};
 ghost use Rattle.der_elem.specs.IntegerLaws.{integer_contents-injective};
 ghost use Rattle.der_elem.specs.IntegerReading.{parse_signed};
 ghost use Rattle.der_elem.specs.IntegerReadingLaws.{parse_signed-own};
+ghost use Rattle.std.specs.Prelude.{refl};
+ghost use Rattle.der_elem.specs.OwnContents.{accepts_within};
 
 use super::ordering::compare_signed;
 use super::reading::read_signed;
 use super::writing::{signed_len, write_signed};
 use crate::decode::DecodeValue;
-use crate::duplicate::DuplicateValue;
+use crate::duplicate::CopyIsDuplicate;
 use crate::encode::EncodeValue;
 use crate::equality::ContentsEq;
 use crate::fixed_tag::OneTag;
@@ -27,26 +26,18 @@ use crate::form::FormValue;
 use crate::memory::{ValueMemory, WithoutMemory};
 use crate::ord::ValueOrd;
 use crate::universal_tags::IntegerTag;
-use der_tlv::{Error, Header, Length, Reader, Tag, Writer};
+use der_tlv::{Error, Header, Length, Reader, Writer};
 use std::alloc::Global;
 use std::cmp::Ordering;
 
 impl FormValue for i8 {
     ghost contents = { integer_contents };
 
-    ghost one_form_value = { λ v w. Unit {0} };
-
-    ghost re_reads_value = { λ v. false };
-
     ghost accepts_value = { accepts_within integer_contents (FitsSignedWidth 1) };
 
     ghost parse_value = { parse_signed 1 };
 
     ghost readable_value = { FitsSignedWidth 1 };
-
-    ghost has_tag = { λ v t. Unit {0} };
-
-    ghost VALUE_TAKES_MEMORY = { false };
 
     ghost parse_of_accepted_value = { parse_of_within integer_contents (FitsSignedWidth 1) (parse_signed 1) (parse_signed-own 1 (lit< tt)) };
 
@@ -98,38 +89,16 @@ impl ContentsEq for i8 {
     ghost contents_eq = { contents_eq_own integer_contents int_eq Decides-int_eq integer_contents-injective };
 }
 
-impl DuplicateValue for i8 {
-    ghost is_copy_value = { λ v w. w ≡ v };
-
-    ghost takes_memory_to_copy_value = { false };
-
-    fn duplicate_value(&self) -> Result<i8, Error> {
-        Ok(*self)
-    }
-
-    ghost copy_contents = { copy_contents_own integer_contents };
-
-    ghost copy_form_value = { λ v w x e f. tt };
-
-    ghost copy_re_reads_value = { λ v w e. refl };
-}
+impl CopyIsDuplicate for i8 {}
 
 impl FormValue for i16 {
     ghost contents = { integer_contents };
-
-    ghost one_form_value = { λ v w. Unit {0} };
-
-    ghost re_reads_value = { λ v. false };
 
     ghost accepts_value = { accepts_within integer_contents (FitsSignedWidth 2) };
 
     ghost parse_value = { parse_signed 2 };
 
     ghost readable_value = { FitsSignedWidth 2 };
-
-    ghost has_tag = { λ v t. Unit {0} };
-
-    ghost VALUE_TAKES_MEMORY = { false };
 
     ghost parse_of_accepted_value = { parse_of_within integer_contents (FitsSignedWidth 2) (parse_signed 2) (parse_signed-own 2 (lit< tt)) };
 
@@ -181,38 +150,16 @@ impl ContentsEq for i16 {
     ghost contents_eq = { contents_eq_own integer_contents int_eq Decides-int_eq integer_contents-injective };
 }
 
-impl DuplicateValue for i16 {
-    ghost is_copy_value = { λ v w. w ≡ v };
-
-    ghost takes_memory_to_copy_value = { false };
-
-    fn duplicate_value(&self) -> Result<i16, Error> {
-        Ok(*self)
-    }
-
-    ghost copy_contents = { copy_contents_own integer_contents };
-
-    ghost copy_form_value = { λ v w x e f. tt };
-
-    ghost copy_re_reads_value = { λ v w e. refl };
-}
+impl CopyIsDuplicate for i16 {}
 
 impl FormValue for i32 {
     ghost contents = { integer_contents };
-
-    ghost one_form_value = { λ v w. Unit {0} };
-
-    ghost re_reads_value = { λ v. false };
 
     ghost accepts_value = { accepts_within integer_contents (FitsSignedWidth 4) };
 
     ghost parse_value = { parse_signed 4 };
 
     ghost readable_value = { FitsSignedWidth 4 };
-
-    ghost has_tag = { λ v t. Unit {0} };
-
-    ghost VALUE_TAKES_MEMORY = { false };
 
     ghost parse_of_accepted_value = { parse_of_within integer_contents (FitsSignedWidth 4) (parse_signed 4) (parse_signed-own 4 (lit< tt)) };
 
@@ -264,38 +211,16 @@ impl ContentsEq for i32 {
     ghost contents_eq = { contents_eq_own integer_contents int_eq Decides-int_eq integer_contents-injective };
 }
 
-impl DuplicateValue for i32 {
-    ghost is_copy_value = { λ v w. w ≡ v };
-
-    ghost takes_memory_to_copy_value = { false };
-
-    fn duplicate_value(&self) -> Result<i32, Error> {
-        Ok(*self)
-    }
-
-    ghost copy_contents = { copy_contents_own integer_contents };
-
-    ghost copy_form_value = { λ v w x e f. tt };
-
-    ghost copy_re_reads_value = { λ v w e. refl };
-}
+impl CopyIsDuplicate for i32 {}
 
 impl FormValue for i64 {
     ghost contents = { integer_contents };
-
-    ghost one_form_value = { λ v w. Unit {0} };
-
-    ghost re_reads_value = { λ v. false };
 
     ghost accepts_value = { accepts_within integer_contents (FitsSignedWidth 8) };
 
     ghost parse_value = { parse_signed 8 };
 
     ghost readable_value = { FitsSignedWidth 8 };
-
-    ghost has_tag = { λ v t. Unit {0} };
-
-    ghost VALUE_TAKES_MEMORY = { false };
 
     ghost parse_of_accepted_value = { parse_of_within integer_contents (FitsSignedWidth 8) (parse_signed 8) (parse_signed-own 8 (lit< tt)) };
 
@@ -347,38 +272,16 @@ impl ContentsEq for i64 {
     ghost contents_eq = { contents_eq_own integer_contents int_eq Decides-int_eq integer_contents-injective };
 }
 
-impl DuplicateValue for i64 {
-    ghost is_copy_value = { λ v w. w ≡ v };
-
-    ghost takes_memory_to_copy_value = { false };
-
-    fn duplicate_value(&self) -> Result<i64, Error> {
-        Ok(*self)
-    }
-
-    ghost copy_contents = { copy_contents_own integer_contents };
-
-    ghost copy_form_value = { λ v w x e f. tt };
-
-    ghost copy_re_reads_value = { λ v w e. refl };
-}
+impl CopyIsDuplicate for i64 {}
 
 impl FormValue for i128 {
     ghost contents = { integer_contents };
-
-    ghost one_form_value = { λ v w. Unit {0} };
-
-    ghost re_reads_value = { λ v. false };
 
     ghost accepts_value = { accepts_within integer_contents (FitsSignedWidth 16) };
 
     ghost parse_value = { parse_signed 16 };
 
     ghost readable_value = { FitsSignedWidth 16 };
-
-    ghost has_tag = { λ v t. Unit {0} };
-
-    ghost VALUE_TAKES_MEMORY = { false };
 
     ghost parse_of_accepted_value = { parse_of_within integer_contents (FitsSignedWidth 16) (parse_signed 16) (parse_signed-own 16 (lit< tt)) };
 
@@ -429,18 +332,4 @@ impl ContentsEq for i128 {
     ghost contents_eq = { contents_eq_own integer_contents int_eq Decides-int_eq integer_contents-injective };
 }
 
-impl DuplicateValue for i128 {
-    ghost is_copy_value = { λ v w. w ≡ v };
-
-    ghost takes_memory_to_copy_value = { false };
-
-    fn duplicate_value(&self) -> Result<i128, Error> {
-        Ok(*self)
-    }
-
-    ghost copy_contents = { copy_contents_own integer_contents };
-
-    ghost copy_form_value = { λ v w x e f. tt };
-
-    ghost copy_re_reads_value = { λ v w e. refl };
-}
+impl CopyIsDuplicate for i128 {}

@@ -4,22 +4,20 @@
 //! first octet 00 before one below 80 (8); a first octet of 80 or more, which makes the number
 //! negative (13); one octet more than the type has, of which the first is 01 to 7F (7).
 
-ghost use Rattle.std.specs.Prelude.{◌≡◌, false, nat_eq, refl};
-ghost use Rattle.std.proofs.Common.{lit<};
+ghost use Rattle.std.specs.Prelude.{nat_eq, refl};
 ghost use Rattle.std.proofs.lemmas.Bool.Decides.{Decides-eqb};
-ghost use Rattle.der_tlv.specs.declared.tag.Tag.TheVariants.{Integer};
-ghost use Rattle.der_elem.specs.OwnContents.{accepts_within};
-ghost use Rattle.der_elem.specs.OwnContentsLaws.{parse_of_within, same_length_within, accepts_contents_within, only_within, contents_eq_own, copy_contents_own};
+ghost use Rattle.der_elem.specs.OwnContentsLaws.{contents_eq_own, parse_of_within, same_length_within, accepts_contents_within, only_within};
 ghost use Rattle.der_elem.specs.Integer.{natural_contents, FitsUnsignedWidth};
 ghost use Rattle.der_elem.specs.IntegerLaws.{natural_contents-injective};
 ghost use Rattle.der_elem.specs.IntegerReading.{parse_unsigned};
 ghost use Rattle.der_elem.specs.IntegerReadingLaws.{parse_unsigned-own};
+ghost use Rattle.der_elem.specs.OwnContents.{accepts_within};
 
 use super::ordering::compare_unsigned;
 use super::reading::read_unsigned;
 use super::writing::{unsigned_len, write_unsigned};
 use crate::decode::DecodeValue;
-use crate::duplicate::DuplicateValue;
+use crate::duplicate::CopyIsDuplicate;
 use crate::encode::EncodeValue;
 use crate::equality::ContentsEq;
 use crate::fixed_tag::OneTag;
@@ -27,26 +25,18 @@ use crate::form::FormValue;
 use crate::memory::{ValueMemory, WithoutMemory};
 use crate::ord::ValueOrd;
 use crate::universal_tags::IntegerTag;
-use der_tlv::{Error, Header, Length, Reader, Tag, Writer};
+use der_tlv::{Error, Header, Length, Reader, Writer};
 use std::alloc::Global;
 use std::cmp::Ordering;
 
 impl FormValue for u8 {
     ghost contents = { natural_contents };
 
-    ghost one_form_value = { λ v w. Unit {0} };
-
-    ghost re_reads_value = { λ v. false };
-
     ghost accepts_value = { accepts_within natural_contents (FitsUnsignedWidth 1) };
 
     ghost parse_value = { parse_unsigned 1 };
 
     ghost readable_value = { FitsUnsignedWidth 1 };
-
-    ghost has_tag = { λ v t. Unit {0} };
-
-    ghost VALUE_TAKES_MEMORY = { false };
 
     ghost parse_of_accepted_value = { parse_of_within natural_contents (FitsUnsignedWidth 1) (parse_unsigned 1) (parse_unsigned-own 1) };
 
@@ -98,38 +88,16 @@ impl ContentsEq for u8 {
     ghost contents_eq = { contents_eq_own natural_contents nat_eq Decides-eqb natural_contents-injective };
 }
 
-impl DuplicateValue for u8 {
-    ghost is_copy_value = { λ v w. w ≡ v };
-
-    ghost takes_memory_to_copy_value = { false };
-
-    fn duplicate_value(&self) -> Result<u8, Error> {
-        Ok(*self)
-    }
-
-    ghost copy_contents = { copy_contents_own natural_contents };
-
-    ghost copy_form_value = { λ v w x e f. tt };
-
-    ghost copy_re_reads_value = { λ v w e. refl };
-}
+impl CopyIsDuplicate for u8 {}
 
 impl FormValue for u16 {
     ghost contents = { natural_contents };
-
-    ghost one_form_value = { λ v w. Unit {0} };
-
-    ghost re_reads_value = { λ v. false };
 
     ghost accepts_value = { accepts_within natural_contents (FitsUnsignedWidth 2) };
 
     ghost parse_value = { parse_unsigned 2 };
 
     ghost readable_value = { FitsUnsignedWidth 2 };
-
-    ghost has_tag = { λ v t. Unit {0} };
-
-    ghost VALUE_TAKES_MEMORY = { false };
 
     ghost parse_of_accepted_value = { parse_of_within natural_contents (FitsUnsignedWidth 2) (parse_unsigned 2) (parse_unsigned-own 2) };
 
@@ -181,38 +149,16 @@ impl ContentsEq for u16 {
     ghost contents_eq = { contents_eq_own natural_contents nat_eq Decides-eqb natural_contents-injective };
 }
 
-impl DuplicateValue for u16 {
-    ghost is_copy_value = { λ v w. w ≡ v };
-
-    ghost takes_memory_to_copy_value = { false };
-
-    fn duplicate_value(&self) -> Result<u16, Error> {
-        Ok(*self)
-    }
-
-    ghost copy_contents = { copy_contents_own natural_contents };
-
-    ghost copy_form_value = { λ v w x e f. tt };
-
-    ghost copy_re_reads_value = { λ v w e. refl };
-}
+impl CopyIsDuplicate for u16 {}
 
 impl FormValue for u32 {
     ghost contents = { natural_contents };
-
-    ghost one_form_value = { λ v w. Unit {0} };
-
-    ghost re_reads_value = { λ v. false };
 
     ghost accepts_value = { accepts_within natural_contents (FitsUnsignedWidth 4) };
 
     ghost parse_value = { parse_unsigned 4 };
 
     ghost readable_value = { FitsUnsignedWidth 4 };
-
-    ghost has_tag = { λ v t. Unit {0} };
-
-    ghost VALUE_TAKES_MEMORY = { false };
 
     ghost parse_of_accepted_value = { parse_of_within natural_contents (FitsUnsignedWidth 4) (parse_unsigned 4) (parse_unsigned-own 4) };
 
@@ -264,38 +210,16 @@ impl ContentsEq for u32 {
     ghost contents_eq = { contents_eq_own natural_contents nat_eq Decides-eqb natural_contents-injective };
 }
 
-impl DuplicateValue for u32 {
-    ghost is_copy_value = { λ v w. w ≡ v };
-
-    ghost takes_memory_to_copy_value = { false };
-
-    fn duplicate_value(&self) -> Result<u32, Error> {
-        Ok(*self)
-    }
-
-    ghost copy_contents = { copy_contents_own natural_contents };
-
-    ghost copy_form_value = { λ v w x e f. tt };
-
-    ghost copy_re_reads_value = { λ v w e. refl };
-}
+impl CopyIsDuplicate for u32 {}
 
 impl FormValue for u64 {
     ghost contents = { natural_contents };
-
-    ghost one_form_value = { λ v w. Unit {0} };
-
-    ghost re_reads_value = { λ v. false };
 
     ghost accepts_value = { accepts_within natural_contents (FitsUnsignedWidth 8) };
 
     ghost parse_value = { parse_unsigned 8 };
 
     ghost readable_value = { FitsUnsignedWidth 8 };
-
-    ghost has_tag = { λ v t. Unit {0} };
-
-    ghost VALUE_TAKES_MEMORY = { false };
 
     ghost parse_of_accepted_value = { parse_of_within natural_contents (FitsUnsignedWidth 8) (parse_unsigned 8) (parse_unsigned-own 8) };
 
@@ -347,38 +271,16 @@ impl ContentsEq for u64 {
     ghost contents_eq = { contents_eq_own natural_contents nat_eq Decides-eqb natural_contents-injective };
 }
 
-impl DuplicateValue for u64 {
-    ghost is_copy_value = { λ v w. w ≡ v };
-
-    ghost takes_memory_to_copy_value = { false };
-
-    fn duplicate_value(&self) -> Result<u64, Error> {
-        Ok(*self)
-    }
-
-    ghost copy_contents = { copy_contents_own natural_contents };
-
-    ghost copy_form_value = { λ v w x e f. tt };
-
-    ghost copy_re_reads_value = { λ v w e. refl };
-}
+impl CopyIsDuplicate for u64 {}
 
 impl FormValue for u128 {
     ghost contents = { natural_contents };
-
-    ghost one_form_value = { λ v w. Unit {0} };
-
-    ghost re_reads_value = { λ v. false };
 
     ghost accepts_value = { accepts_within natural_contents (FitsUnsignedWidth 16) };
 
     ghost parse_value = { parse_unsigned 16 };
 
     ghost readable_value = { FitsUnsignedWidth 16 };
-
-    ghost has_tag = { λ v t. Unit {0} };
-
-    ghost VALUE_TAKES_MEMORY = { false };
 
     ghost parse_of_accepted_value = { parse_of_within natural_contents (FitsUnsignedWidth 16) (parse_unsigned 16) (parse_unsigned-own 16) };
 
@@ -429,18 +331,4 @@ impl ContentsEq for u128 {
     ghost contents_eq = { contents_eq_own natural_contents nat_eq Decides-eqb natural_contents-injective };
 }
 
-impl DuplicateValue for u128 {
-    ghost is_copy_value = { λ v w. w ≡ v };
-
-    ghost takes_memory_to_copy_value = { false };
-
-    fn duplicate_value(&self) -> Result<u128, Error> {
-        Ok(*self)
-    }
-
-    ghost copy_contents = { copy_contents_own natural_contents };
-
-    ghost copy_form_value = { λ v w x e f. tt };
-
-    ghost copy_re_reads_value = { λ v w e. refl };
-}
+impl CopyIsDuplicate for u128 {}

@@ -1,0 +1,93 @@
+//! Fields of a SEQUENCE (X.690 8.9): values that are there, and values that may be absent.
+//!
+//! A field that may be absent (X.680 25, OPTIONAL) is told from what follows it by its tag: it is
+//! absent at the end of what the reader shows, and before a tag that none of its encodings begins
+//! with.
+
+ghost use Rattle.std.specs.Prelude.{◌≡◌, Option, Some, true};
+ghost use Rattle.der_tlv.specs.declared.tag.Tag.{Tag};
+ghost use Rattle.der_tlv.specs.ReaderState.{ReaderState};
+ghost use Rattle.der_elem.specs.FieldDecoding.{DecodesField};
+ghost use Rattle.der_tlv.specs.OctetLaws.{SameBeginning};
+ghost use Rattle.der_elem.specs.Leading.{SameLeads, Starts};
+ghost use Rattle.der_elem.specs.LeadingLaws.{beginning_tagged, beginning_option, starts_tagged, starts_option, own_lead_tagged, own_lead_option};
+
+use crate::decode::Decode;
+use crate::form::Form;
+use crate::memory::FormMemory;
+use crate::readiness::ask_ready;
+use crate::tag::{Choice, Tagged};
+use der_tlv::{Error, Reader, Tag};
+use std::alloc::Global;
+
+/// Reading a field, which is told from what follows it: an absent one stands only at the end, or
+/// before a tag that is none of its.
+pub trait DecodeField<'a, R: Reader<'a>>: Form + FormMemory {
+    /// Reads the field at the reader's position.
+    ///
+    /// # Errors
+    /// As `Decode::decode`: the first fault of the field's octets; (17) on a reader that has failed;
+    /// (1) where the type takes memory.
+    fn decode_field(alloc: Global, reader: &mut R) -> Result<Self, Error>
+        ensures { DecodesField Self.Form (R.state reader.old) (R.state reader.new) result };
+}
+
+impl<'a, R: Reader<'a>, T: Decode<'a, R> + Tagged> DecodeField<'a, R> for T {
+    fn decode_field(alloc: Global, reader: &mut R) -> Result<T, Error> {
+        T::decode(alloc, reader)
+    }
+}
+
+impl<'a, R: Reader<'a>, T: Decode<'a, R> + Tagged + Choice> DecodeField<'a, R> for Option<T> {
+    fn decode_field(alloc: Global, reader: &mut R) -> Result<Option<T>, Error> {
+        if reader.is_finished() {
+            ask_ready(reader)?;
+            return Ok(None);
+        }
+        let tag = Tag::peek(reader)?;
+        if !T::can_decode(tag) {
+            return Ok(None);
+        }
+        Ok(Some(T::decode(alloc, reader)?))
+    }
+}
+
+/// The tag that a field's encoding begins with, by which it is told from other fields.
+pub trait FirstTag: Form {
+    /// The tag that the encoding begins with; none where the field is absent and has no octets.
+    fn first_tag(&self) -> Option<Tag>
+        ensures { result ≡ Self.lead self.now };
+
+    ghost starts: { (v : Self) → Starts (Self.lead v) (Self.encoding v) };
+
+    ghost own_lead: { (v : Self) (t : Tag) → Self.lead v ≡ Some t → Self.tags t ≡ true };
+
+    ghost same_beginning: { (v w : Self) → SameLeads (Self.lead v) (Self.lead w) → SameBeginning (Self.encoding v) (Self.encoding w) };
+}
+
+impl<T: Tagged> FirstTag for T {
+    fn first_tag(&self) -> Option<Tag> {
+        Some(self.tag())
+    }
+
+    ghost starts = { λ v. starts_tagged T.tag_of T.contents T.encoding T.encoding_is v (T.lead v) (T.lead_is v) };
+
+    ghost own_lead = { λ v. own_lead_tagged T.tags (T.tag_of v) (T.own_tag v) (T.lead v) (T.lead_is v) };
+
+    ghost same_beginning = { λ v w h. beginning_tagged T.tag_of T.contents T.encoding T.encoding_is v w };
+}
+
+impl<T: Tagged> FirstTag for Option<T> {
+    fn first_tag(&self) -> Option<Tag> {
+        match self {
+            Some(value) => value.first_tag(),
+            None => None,
+        }
+    }
+
+    ghost starts = { starts_option T.tag_of T.contents T.encoding T.encoding_is T.lead T.lead_is };
+
+    ghost own_lead = { own_lead_option T.tags T.tag_of T.own_tag T.lead T.lead_is };
+
+    ghost same_beginning = { beginning_option T.tag_of T.contents T.encoding T.encoding_is T.lead T.lead_is };
+}
