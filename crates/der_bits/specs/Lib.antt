@@ -2,3 +2,9 @@ pub mod BitString
 pub mod BitStringLaws
 pub mod BitPlaceLaws
 pub mod EqualBitsLaws
+pub use Rattle.der_elem.specs.OwnContents
+pub use Rattle.der_opaque.specs.DecodingAs
+pub use Rattle.der_tlv.specs.Octets
+pub use Rattle.der_tlv.specs.declared.encoding_rules.EncodingRules
+pub use Rattle.der_tlv.specs.declared.error.ErrorKind
+pub use Rattle.der_tlv.specs.declared.tag.Tag

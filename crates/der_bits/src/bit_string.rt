@@ -2,14 +2,14 @@
 //!
 //! The tag is 03. The contents octets, and what reading refuses, are those of the borrowed form.
 
-ghost use Rattle.std.specs.Prelude.{◌≡◌, ◌≢◌, ◌↔◌, MatchOption, ◌^◌, ◌<◌, ◌≤◌, [], ◌∷◌, length, true, false, refl, IsTrue, IfOk, IfErr, Some, None};
-ghost use Rattle.std.proofs.Common.{lit<, ap, sym, ◌∙◌};
+ghost use Rattle.std.specs.Prelude.{◌≡◌, ◌≢◌, ◌↔◌, MatchOption, ◌^◌, ◌<◌, ◌≤◌, [], ◌∷◌, length, true, refl, IsTrue, IfOk, IfErr, Some, None};
+ghost use Rattle.std.proofs.Common.{ap, sym, ◌∙◌};
 ghost use Rattle.std.specs.Cmp.{on_per, on_equiv, on_total, partial_equiv_from_equiv};
 ghost use Rattle.std.specs.Cmp.Lexicographic.{nat_list_cmp_total, texts_ties};
 ghost use Rattle.der_tlv.specs.declared.error.ErrorKind.TheVariants as kinds;
 ghost use Rattle.der_tlv.specs.declared.tag.Tag.TheVariants as tags;
 ghost use Rattle.der_tlv.specs.Octets.{lex};
-ghost use Rattle.der_opaque.specs.Opaque.{accepts_octets};
+ghost use Rattle.der_elem.specs.OwnContents.{accepts_own};
 ghost use Rattle.der_bits.specs.BitString.{AreOctets, can_be_unused, are_zero, parse_bit_string, unused_count, bit_octets, bit_count, bit, bits, same_bits, KeepsBits, KeepsCleared};
 ghost use Rattle.der_bits.specs.BitStringLaws.{parse_of_bits};
 ghost use Rattle.der_bits.specs.EqualBitsLaws.{same_tests, contents_decided, bit_lists_equiv, bits_po};
@@ -21,7 +21,7 @@ use der_elem::{
     BitStringTag, ContentsEq, DecodeValue, DuplicateValue, EncodeValue, FormValue, OneTag,
     ValueMemory, ValueOrd, WithMemory,
 };
-use der_tlv::{Error, ErrorKind, Header, Length, Reader, Tag, Writer};
+use der_tlv::{Error, Header, Length, Reader, Tag, Writer};
 use std::alloc::{AllocError, Global};
 use std::cmp::Ordering;
 
@@ -190,17 +190,9 @@ impl Clone for BitString {
 impl FormValue for BitString {
     ghost contents = { λ v. v.unused ∷ v.octets.items };
 
-    ghost one_form_value = { λ v w. Unit {0} };
-
-    ghost re_reads_value = { λ v. false };
-
-    ghost accepts_value = { accepts_octets (λ v. v.unused ∷ v.octets.items) };
+    ghost accepts_value = { accepts_own (λ v. v.unused ∷ v.octets.items) };
 
     ghost parse_value = { parse_bit_string };
-
-    ghost readable_value = { λ v. Unit {0} };
-
-    ghost has_tag = { λ v t. Unit {0} };
 
     ghost VALUE_TAKES_MEMORY = { true };
 
@@ -306,10 +298,7 @@ impl DuplicateValue for BitString {
     ghost takes_memory_to_copy_value = { true };
 
     fn duplicate_value(&self) -> Result<BitString, Error> {
-        match self.clone() {
-            Ok(copy) => Ok(copy),
-            Err(_) => Err(Error::from_kind(ErrorKind::Memory)),
-        }
+        Ok(self.clone()?)
     }
 
     ghost copy_contents = { λ v w e. e };

@@ -7,8 +7,8 @@
 //! Reading refuses no contents octets (9), then a number of unused bits over 7, or another than 0
 //! where there is no octet (13), then an unused bit that is not zero (8).
 
-ghost use Rattle.std.specs.Prelude.{◌≡◌, ◌≢◌, ◌↔◌, MatchResult, MatchOption, ◌^◌, ◌<◌, ◌≤◌, [], ◌∷◌, length, true, false, refl, IsTrue, IfOk, IfErr, Some, None};
-ghost use Rattle.std.proofs.Common.{ap, sym, ◌∙◌};
+ghost use Rattle.std.specs.Prelude.{◌≡◌, ◌≢◌, ◌↔◌, MatchResult, MatchOption, ◌^◌, ◌<◌, ◌≤◌, [], ◌∷◌, length, true, refl, IsTrue, IfOk, IfErr, Some, None};
+ghost use Rattle.std.proofs.Common.{◌∙◌};
 ghost use Rattle.std.specs.Cmp.{on_per, on_equiv, on_total, partial_equiv_from_equiv};
 ghost use Rattle.std.specs.Cmp.Lexicographic.{nat_list_cmp_total, texts_ties};
 ghost use Rattle.der_tlv.specs.declared.error.ErrorKind.TheVariants as kinds;
@@ -16,16 +16,17 @@ ghost use Rattle.der_tlv.specs.declared.tag.Tag.TheVariants as tags;
 ghost use Rattle.der_tlv.specs.declared.encoding_rules.EncodingRules.TheVariants.{Der};
 ghost use Rattle.der_tlv.specs.Octets.{lex};
 ghost use Rattle.der_opaque.specs.DecodingAs.{DecodesAs};
-ghost use Rattle.der_opaque.specs.Opaque.{accepts_octets};
 ghost use Rattle.der_bits.specs.BitString.{AreOctets, can_be_unused, are_zero, parse_bit_string, unused_count, bit_octets, bit_count, bit, bits, same_bits, KeepsBits, KeepsAll, ParsedAs, FillsArray};
 ghost use Rattle.der_bits.specs.BitStringLaws.{parse_of_bits};
 ghost use Rattle.der_bits.specs.EqualBitsLaws.{same_tests, contents_decided, bit_lists_equiv, bits_po};
+ghost use Rattle.der_elem.specs.OwnContents.{accepts_within};
+ghost use Rattle.der_elem.specs.OwnContentsLaws.{parse_of_within, same_length_within, accepts_contents_within, only_within};
 
 use crate::bit_string::BitString;
 use crate::bit_string_iter::BitStringIter;
 use crate::unused_bits::{are_zero, can_be_unused};
 use der_elem::{
-    BitStringTag, ContentsEq, DecodeValue, DuplicateValue, EncodeValue, Form, FormValue, OneTag,
+    BitStringTag, ContentsEq, CopyIsDuplicate, DecodeValue, EncodeValue, Form, FormValue, OneTag,
     Tagged, ValueMemory, ValueOrd, WithoutMemory,
 };
 use der_opaque::{Any, AnyRef};
@@ -167,10 +168,7 @@ impl<'a> BitStringRef<'a> {
         if self.has_unused_bits() {
             return Err(Error::from_kind(Tag::BitString.value_error()));
         }
-        match self.octets.to_vec(alloc) {
-            Ok(octets) => Ok(octets),
-            Err(_) => Err(Error::from_kind(ErrorKind::Memory)),
-        }
+        Ok(self.octets.to_vec(alloc)?)
     }
 
     /// The string, copied.
@@ -181,13 +179,11 @@ impl<'a> BitStringRef<'a> {
         ensures value { IfOk result (λ s. ⟦<BitString as FormValue>⟧.contents s ≡ ⟦<BitStringRef<'a> as FormValue>⟧.contents self.entry) }
         ensures err { IfErr result (λ e. e.kind ≡ kinds.Memory) }
     {
-        match self.octets.to_vec(alloc) {
-            Ok(octets) => Ok(BitString {
-                unused: self.unused,
-                octets,
-            }),
-            Err(_) => Err(Error::from_kind(ErrorKind::Memory)),
-        }
+        let octets = self.octets.to_vec(alloc)?;
+        Ok(BitString {
+            unused: self.unused,
+            octets,
+        })
     }
 
     /// The bit string with these contents octets, or the first fault.
@@ -214,27 +210,17 @@ impl<'a> BitStringRef<'a> {
 impl<'a> FormValue for BitStringRef<'a> {
     ghost contents = { λ v. v.unused ∷ v.octets.now };
 
-    ghost one_form_value = { λ v w. Unit {0} };
-
-    ghost re_reads_value = { λ v. false };
-
-    ghost accepts_value = { accepts_octets (λ v. v.unused ∷ v.octets.now) };
+    ghost accepts_value = { accepts_within (λ v. v.unused ∷ v.octets.now) (λ v. Unit {0}) };
 
     ghost parse_value = { parse_bit_string };
 
-    ghost readable_value = { λ v. Unit {0} };
+    ghost parse_of_accepted_value = { parse_of_within (λ v. v.unused ∷ v.octets.now) (λ v. Unit {0}) parse_bit_string (λ rules v p r. parse_of_bits v.unused v.octets.now v.possible v.zero rules p (v.unused ∷ v.octets.now) refl) };
 
-    ghost has_tag = { λ v t. Unit {0} };
+    ghost same_length_value = { same_length_within (λ v. v.unused ∷ v.octets.now) (λ v. Unit {0}) };
 
-    ghost VALUE_TAKES_MEMORY = { false };
+    ghost accepts_contents = { accepts_contents_within (λ v. v.unused ∷ v.octets.now) (λ v. Unit {0}) };
 
-    ghost parse_of_accepted_value = { λ rules v p c a fits. parse_of_bits v.unused v.octets.now v.possible v.zero rules p c a };
-
-    ghost same_length_value = { λ rules v c a. ap length (sym a) };
-
-    ghost accepts_contents = { λ rules v r. refl };
-
-    ghost only_readable_value = { λ rules v c a. tt };
+    ghost only_readable_value = { only_within (λ v. v.unused ∷ v.octets.now) (λ v. Unit {0}) };
 
     ghost accepts_one_form_value = { λ rules v w c d a b. tt };
 
@@ -329,21 +315,7 @@ impl<'a> ContentsEq for BitStringRef<'a> {
     ghost contents_eq = { λ v w one. contents_decided (v.unused ∷ v.octets.now) (w.unused ∷ w.octets.now) (same_tests v.unused w.unused v.octets.now w.octets.now v.possible v.zero w.possible w.zero v.octet w.octet) };
 }
 
-impl<'a> DuplicateValue for BitStringRef<'a> {
-    ghost is_copy_value = { λ v w. (w.unused ∷ w.octets.now) ≡ (v.unused ∷ v.octets.now) };
-
-    ghost takes_memory_to_copy_value = { false };
-
-    fn duplicate_value(&self) -> Result<BitStringRef<'a>, Error> {
-        Ok(*self)
-    }
-
-    ghost copy_contents = { λ v w e. e };
-
-    ghost copy_form_value = { λ v w x e f. tt };
-
-    ghost copy_re_reads_value = { λ v w e. refl };
-}
+impl<'a> CopyIsDuplicate for BitStringRef<'a> {}
 
 impl<'a> TryFrom<&'a [u8]> for BitStringRef<'a> {
     type Error = Error;

@@ -1,10 +1,12 @@
 //! Laws of bit strings.
 
 ghost use Rattle.std.specs.Prelude.{◌≡◌, ◌↔◌, IsTrue};
+ghost use Rattle.der_tlv.specs.declared.tag.Tag.TheVariants as tags;
 ghost use Rattle.der_bits.specs.BitString.{bits};
 
+use crate::bit_string::BitString;
 use crate::bit_string_ref::BitStringRef;
-use der_elem::FormValue;
+use der_elem::{FixedTag, FormValue};
 
 /// Whether two bit strings have the same bits, which is whether they are equal, since unused bits
 /// are zero.
@@ -13,4 +15,17 @@ pub fn equal_bits<'a>(one: BitStringRef<'a>, other: BitStringRef<'a>) -> bool
     ensures same_contents { IsTrue result ↔ (⟦<BitStringRef<'a> as FormValue>⟧.contents one.entry ≡ ⟦<BitStringRef<'a> as FormValue>⟧.contents other.entry) }
 {
     one == other
+}
+
+/// The tags of the types are BIT STRING (X.680 8.6).
+pub fn tags_are()
+    ensures owned { ⟦<BitString as FixedTag>⟧.TAG ≡ tags.BitString }
+    ensures borrowed { ⟦<BitStringRef<'static> as FixedTag>⟧.TAG ≡ tags.BitString }
+{}
+
+/// A bit string has at most seven unused bits.
+pub fn max_unused_bits() -> u8
+    ensures { result ≡ 7 }
+{
+    BitString::MAX_UNUSED_BITS
 }

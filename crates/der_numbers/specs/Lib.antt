@@ -2,3 +2,12 @@ pub mod AnyLength
 pub mod AnyLengthLaws
 pub mod UnsignedLaws
 pub mod ReadingLaws
+pub use Rattle.der_elem.specs.Encoding
+pub use Rattle.der_elem.specs.Integer
+pub use Rattle.der_elem.specs.IntegerReading
+pub use Rattle.der_elem.specs.OwnContents
+pub use Rattle.der_opaque.specs.DecodingAs
+pub use Rattle.der_tlv.specs.Fitting
+pub use Rattle.der_tlv.specs.Octets
+pub use Rattle.der_tlv.specs.declared.encoding_rules.EncodingRules
+pub use Rattle.der_tlv.specs.declared.tag.Tag

@@ -3,8 +3,8 @@
 //! The tag is 02. The contents octets are the two's complement of the integer in the fewest octets,
 //! the highest first, of which bit 8 of the first is the sign: 127 is 7F, 128 is 00 80, -128 is 80.
 
-ghost use Rattle.std.specs.Prelude.{◌≡◌, ◌^◌, ◌<◌, ℕ, List, length, true, false, refl, IsOk, IfOk, IfErr};
-ghost use Rattle.std.proofs.Common.{Ok, lit<, ap, sym};
+ghost use Rattle.std.specs.Prelude.{◌≡◌, ◌^◌, ◌<◌, length, true, false, refl};
+ghost use Rattle.std.proofs.Common.{Ok, ap, sym};
 ghost use Rattle.std.specs.Cmp.Lexicographic.{bytes_decides};
 ghost use Rattle.der_tlv.specs.declared.tag.Tag.TheVariants as tags;
 ghost use Rattle.der_elem.specs.Integer.{integer_contents, twos_complement};
@@ -19,7 +19,7 @@ use der_elem::{
     ContentsEq, DecodeValue, DuplicateValue, EncodeValue, FormValue, IntegerTag, OneTag,
     OrdIsValueOrd, ValueMemory, WithMemory,
 };
-use der_tlv::{Error, ErrorKind, Header, Length, Reader, Tag, VecWriter, Writer};
+use der_tlv::{Error, Header, Length, Reader, VecWriter, Writer};
 use std::alloc::{AllocError, Global};
 
 /// An integer of any length: at most 4294967295 contents octets.
@@ -120,17 +120,9 @@ impl Clone for Int {
 impl FormValue for Int {
     ghost contents = { λ v. v.octets.items };
 
-    ghost one_form_value = { λ v w. Unit {0} };
-
-    ghost re_reads_value = { λ v. false };
-
     ghost accepts_value = { accepts_own (λ v. v.octets.items) };
 
     ghost parse_value = { parse_integer };
-
-    ghost readable_value = { λ v. Unit {0} };
-
-    ghost has_tag = { λ v t. Unit {0} };
 
     ghost VALUE_TAKES_MEMORY = { true };
 
@@ -193,10 +185,7 @@ impl DuplicateValue for Int {
     ghost takes_memory_to_copy_value = { true };
 
     fn duplicate_value(&self) -> Result<Int, Error> {
-        match self.clone() {
-            Ok(copy) => Ok(copy),
-            Err(_) => Err(Error::from_kind(ErrorKind::Memory)),
-        }
+        Ok(self.clone()?)
     }
 
     ghost copy_contents = { λ v w e. e };

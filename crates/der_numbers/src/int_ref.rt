@@ -3,21 +3,22 @@
 //! The tag is 02. The contents octets are the two's complement of the integer in the fewest octets,
 //! the highest first, of which bit 8 of the first is the sign: 127 is 7F, 128 is 00 80, -128 is 80.
 
-ghost use Rattle.std.specs.Prelude.{◌≡◌, ◌^◌, ◌<◌, ℕ, List, length, false, refl, IsOk, IfOk, IfErr};
-ghost use Rattle.std.proofs.Common.{Ok, ap, sym};
+ghost use Rattle.std.specs.Prelude.{◌≡◌, ◌^◌, ◌<◌, length, false, refl};
+ghost use Rattle.std.proofs.Common.{Ok};
 ghost use Rattle.std.specs.Cmp.Lexicographic.{bytes_decides};
 ghost use Rattle.der_tlv.specs.declared.tag.Tag.TheVariants as tags;
 ghost use Rattle.der_tlv.specs.declared.encoding_rules.EncodingRules.TheVariants.{Der};
 ghost use Rattle.der_elem.specs.Integer.{integer_contents, twos_complement};
-ghost use Rattle.der_elem.specs.OwnContents.{accepts_own};
 ghost use Rattle.der_opaque.specs.DecodingAs.{DecodesAs};
 ghost use Rattle.der_numbers.specs.AnyLength.{integer_or_fault, parse_integer, TakesContents, KeepsNumber, CopiesContents};
 ghost use Rattle.der_numbers.specs.AnyLengthLaws.{parse_of_integer};
+ghost use Rattle.der_elem.specs.OwnContents.{accepts_within};
+ghost use Rattle.der_elem.specs.OwnContentsLaws.{parse_of_within, same_length_within, accepts_contents_within, only_within};
 
 use crate::int::Int;
 use crate::octets::{check_integer, strip_redundant};
 use der_elem::{
-    ContentsEq, DecodeValue, DuplicateValue, EncodeValue, Form, FormValue, IntegerTag, OneTag,
+    ContentsEq, CopyIsDuplicate, DecodeValue, EncodeValue, Form, FormValue, IntegerTag, OneTag,
     OrdIsValueOrd, Tagged, ValueMemory, WithoutMemory,
 };
 use der_opaque::{Any, AnyRef};
@@ -100,37 +101,25 @@ impl<'a> IntRef<'a> {
     pub fn ref_to_owned(self, alloc: Global) -> Result<Int, Error>
         ensures { CopiesContents ⟦<Int as FormValue>⟧.contents (⟦<IntRef<'a> as FormValue>⟧.contents self.entry) result }
     {
-        match self.octets.to_vec(alloc) {
-            Ok(octets) => Ok(Int { octets }),
-            Err(_) => Err(Error::from_kind(ErrorKind::Memory)),
-        }
+        let octets = self.octets.to_vec(alloc)?;
+        Ok(Int { octets })
     }
 }
 
 impl<'a> FormValue for IntRef<'a> {
     ghost contents = { λ v. v.octets.now };
 
-    ghost one_form_value = { λ v w. Unit {0} };
-
-    ghost re_reads_value = { λ v. false };
-
-    ghost accepts_value = { accepts_own (λ v. v.octets.now) };
+    ghost accepts_value = { accepts_within (λ v. v.octets.now) (λ v. Unit {0}) };
 
     ghost parse_value = { parse_integer };
 
-    ghost readable_value = { λ v. Unit {0} };
+    ghost parse_of_accepted_value = { parse_of_within (λ v. v.octets.now) (λ v. Unit {0}) parse_integer (λ rules v p r. parse_of_integer v.octets.now v.octets.now v.fewest refl) };
 
-    ghost has_tag = { λ v t. Unit {0} };
+    ghost same_length_value = { same_length_within (λ v. v.octets.now) (λ v. Unit {0}) };
 
-    ghost VALUE_TAKES_MEMORY = { false };
+    ghost accepts_contents = { accepts_contents_within (λ v. v.octets.now) (λ v. Unit {0}) };
 
-    ghost parse_of_accepted_value = { λ rules v p c a fits. parse_of_integer v.octets.now c v.fewest a };
-
-    ghost same_length_value = { λ rules v c a. ap length (sym a) };
-
-    ghost accepts_contents = { λ rules v r. refl };
-
-    ghost only_readable_value = { λ rules v c a. tt };
+    ghost only_readable_value = { only_within (λ v. v.octets.now) (λ v. Unit {0}) };
 
     ghost accepts_one_form_value = { λ rules v w c d a b. tt };
 
@@ -175,21 +164,7 @@ impl<'a> ContentsEq for IntRef<'a> {
     ghost contents_eq = { λ v w one. bytes_decides v.octets.now w.octets.now };
 }
 
-impl<'a> DuplicateValue for IntRef<'a> {
-    ghost is_copy_value = { λ v w. w.octets.now ≡ v.octets.now };
-
-    ghost takes_memory_to_copy_value = { false };
-
-    fn duplicate_value(&self) -> Result<IntRef<'a>, Error> {
-        Ok(*self)
-    }
-
-    ghost copy_contents = { λ v w e. e };
-
-    ghost copy_form_value = { λ v w x e f. tt };
-
-    ghost copy_re_reads_value = { λ v w e. refl };
-}
+impl<'a> CopyIsDuplicate for IntRef<'a> {}
 
 /// A value that can be seen as a borrowed integer.
 pub trait AsIntRef: FormValue {

@@ -1,6 +1,14 @@
 //! Laws of INTEGER of any length: functions that do nothing, and promise what holds of all of them.
 
+ghost use Rattle.std.specs.Prelude.{◌≡◌};
+ghost use Rattle.der_tlv.specs.declared.tag.Tag.TheVariants as tags;
 ghost use Rattle.der_numbers.specs.ReadingLaws.{IntegersAreRead, NaturalsAreRead};
+
+use crate::int::Int;
+use crate::int_ref::IntRef;
+use crate::uint::Uint;
+use crate::uint_ref::UintRef;
+use der_elem::FixedTag;
 
 /// Octets are read as an integer exactly where they are the contents octets of one.
 pub fn integers_are_read()
@@ -11,4 +19,12 @@ pub fn integers_are_read()
 /// one.
 pub fn naturals_are_read()
     ensures { NaturalsAreRead }
+{}
+
+/// The tags of the types are INTEGER (X.680 8.6).
+pub fn tags_are()
+    ensures int { ⟦<Int as FixedTag>⟧.TAG ≡ tags.Integer }
+    ensures int_ref { ⟦<IntRef<'static> as FixedTag>⟧.TAG ≡ tags.Integer }
+    ensures uint { ⟦<Uint as FixedTag>⟧.TAG ≡ tags.Integer }
+    ensures uint_ref { ⟦<UintRef<'static> as FixedTag>⟧.TAG ≡ tags.Integer }
 {}

@@ -6,8 +6,8 @@
 //! The order of two values is that of their contents octets, and not that of the numbers: 128 is
 //! before 1, and 255 before 127.
 
-ghost use Rattle.std.specs.Prelude.{◌≡◌, ◌^◌, ◌<◌, ℕ, nat_eq, List, length, true, false, refl, IsOk, IfOk, IfErr, Some};
-ghost use Rattle.std.proofs.Common.{Ok, lit<, ap, sym};
+ghost use Rattle.std.specs.Prelude.{◌≡◌, ◌^◌, ◌<◌, nat_eq, length, true, false, refl, Some};
+ghost use Rattle.std.proofs.Common.{Ok, ap, sym};
 ghost use Rattle.std.specs.Cmp.{on_per, on_equiv, on_po, on_total, partial_equiv_from_equiv};
 ghost use Rattle.std.specs.Cmp.Lexicographic.{pointwise, bytes_decides, nat_list_eq_equiv, nat_list_cmp_total, texts_po, texts_ties};
 ghost use Rattle.der_tlv.specs.declared.tag.Tag.TheVariants as tags;
@@ -23,7 +23,7 @@ use der_elem::{
     ContentsEq, DecodeValue, DuplicateValue, EncodeValue, FormValue, IntegerTag, OneTag,
     OrdIsValueOrd, ValueMemory, WithMemory,
 };
-use der_tlv::{Error, ErrorKind, Header, Length, Reader, Tag, Writer};
+use der_tlv::{Error, Header, Length, Reader, Writer};
 use std::alloc::{AllocError, Global};
 use std::cmp::Ordering;
 
@@ -109,17 +109,9 @@ impl Clone for Uint {
 impl FormValue for Uint {
     ghost contents = { λ v. with_sign_octet v.octets.items };
 
-    ghost one_form_value = { λ v w. Unit {0} };
-
-    ghost re_reads_value = { λ v. false };
-
     ghost accepts_value = { accepts_own (λ v. with_sign_octet v.octets.items) };
 
     ghost parse_value = { parse_natural };
-
-    ghost readable_value = { λ v. Unit {0} };
-
-    ghost has_tag = { λ v t. Unit {0} };
 
     ghost VALUE_TAKES_MEMORY = { true };
 
@@ -222,10 +214,7 @@ impl DuplicateValue for Uint {
     ghost takes_memory_to_copy_value = { true };
 
     fn duplicate_value(&self) -> Result<Uint, Error> {
-        match self.clone() {
-            Ok(copy) => Ok(copy),
-            Err(_) => Err(Error::from_kind(ErrorKind::Memory)),
-        }
+        Ok(self.clone()?)
     }
 
     ghost copy_contents = { λ v w e. ap with_sign_octet e };

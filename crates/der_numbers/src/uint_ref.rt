@@ -6,23 +6,24 @@
 //! The order of two values is that of their contents octets, and not that of the numbers: 128 is
 //! before 1, and 255 before 127.
 
-ghost use Rattle.std.specs.Prelude.{◌≡◌, ◌^◌, ◌<◌, ℕ, nat_eq, List, length, false, refl, IsOk, IfOk, IfErr, Some};
-ghost use Rattle.std.proofs.Common.{Ok, ap, sym};
+ghost use Rattle.std.specs.Prelude.{◌≡◌, ◌^◌, ◌<◌, nat_eq, length, false, refl, Some};
+ghost use Rattle.std.proofs.Common.{Ok};
 ghost use Rattle.std.specs.Cmp.{on_per, on_equiv, on_po, on_total, partial_equiv_from_equiv};
 ghost use Rattle.std.specs.Cmp.Lexicographic.{pointwise, bytes_decides, nat_list_eq_equiv, nat_list_cmp_total, texts_po, texts_ties};
 ghost use Rattle.der_tlv.specs.declared.tag.Tag.TheVariants as tags;
 ghost use Rattle.der_tlv.specs.declared.encoding_rules.EncodingRules.TheVariants.{Der};
 ghost use Rattle.der_tlv.specs.Octets.{lex};
 ghost use Rattle.der_elem.specs.Integer.{big_endian_number, with_sign_octet, natural_contents};
-ghost use Rattle.der_elem.specs.OwnContents.{accepts_own};
 ghost use Rattle.der_opaque.specs.DecodingAs.{DecodesAs};
 ghost use Rattle.der_numbers.specs.AnyLength.{natural_or_fault, parse_natural, has_leading_zero, without_sign_octet, TakesContents, KeepsNumber, CopiesContents};
 ghost use Rattle.der_numbers.specs.UnsignedLaws.{parse_of_natural};
+ghost use Rattle.der_elem.specs.OwnContents.{accepts_within};
+ghost use Rattle.der_elem.specs.OwnContentsLaws.{parse_of_within, same_length_within, accepts_contents_within, only_within};
 
 use crate::octets::{check_natural, compare_contents, contents_len, strip_zeros, write_contents};
 use crate::uint::Uint;
 use der_elem::{
-    ContentsEq, DecodeValue, DuplicateValue, EncodeValue, Form, FormValue, IntegerTag, OneTag,
+    ContentsEq, CopyIsDuplicate, DecodeValue, EncodeValue, Form, FormValue, IntegerTag, OneTag,
     OrdIsValueOrd, Tagged, ValueMemory, WithoutMemory,
 };
 use der_opaque::{Any, AnyRef};
@@ -112,37 +113,25 @@ impl<'a> UintRef<'a> {
     pub fn ref_to_owned(self, alloc: Global) -> Result<Uint, Error>
         ensures { CopiesContents ⟦<Uint as FormValue>⟧.contents (⟦<UintRef<'a> as FormValue>⟧.contents self.entry) result }
     {
-        match self.octets.to_vec(alloc) {
-            Ok(octets) => Ok(Uint { octets }),
-            Err(_) => Err(Error::from_kind(ErrorKind::Memory)),
-        }
+        let octets = self.octets.to_vec(alloc)?;
+        Ok(Uint { octets })
     }
 }
 
 impl<'a> FormValue for UintRef<'a> {
     ghost contents = { λ v. with_sign_octet v.octets.now };
 
-    ghost one_form_value = { λ v w. Unit {0} };
-
-    ghost re_reads_value = { λ v. false };
-
-    ghost accepts_value = { accepts_own (λ v. with_sign_octet v.octets.now) };
+    ghost accepts_value = { accepts_within (λ v. with_sign_octet v.octets.now) (λ v. Unit {0}) };
 
     ghost parse_value = { parse_natural };
 
-    ghost readable_value = { λ v. Unit {0} };
+    ghost parse_of_accepted_value = { parse_of_within (λ v. with_sign_octet v.octets.now) (λ v. Unit {0}) parse_natural (λ rules v p r. parse_of_natural v.octets.now (with_sign_octet v.octets.now) v.fewest refl) };
 
-    ghost has_tag = { λ v t. Unit {0} };
+    ghost same_length_value = { same_length_within (λ v. with_sign_octet v.octets.now) (λ v. Unit {0}) };
 
-    ghost VALUE_TAKES_MEMORY = { false };
+    ghost accepts_contents = { accepts_contents_within (λ v. with_sign_octet v.octets.now) (λ v. Unit {0}) };
 
-    ghost parse_of_accepted_value = { λ rules v p c a fits. parse_of_natural v.octets.now c v.fewest a };
-
-    ghost same_length_value = { λ rules v c a. ap length (sym a) };
-
-    ghost accepts_contents = { λ rules v r. refl };
-
-    ghost only_readable_value = { λ rules v c a. tt };
+    ghost only_readable_value = { only_within (λ v. with_sign_octet v.octets.now) (λ v. Unit {0}) };
 
     ghost accepts_one_form_value = { λ rules v w c d a b. tt };
 
@@ -227,21 +216,7 @@ impl<'a> ContentsEq for UintRef<'a> {
     ghost contents_eq = { λ v w one. bytes_decides (with_sign_octet v.octets.now) (with_sign_octet w.octets.now) };
 }
 
-impl<'a> DuplicateValue for UintRef<'a> {
-    ghost is_copy_value = { λ v w. w.octets.now ≡ v.octets.now };
-
-    ghost takes_memory_to_copy_value = { false };
-
-    fn duplicate_value(&self) -> Result<UintRef<'a>, Error> {
-        Ok(*self)
-    }
-
-    ghost copy_contents = { λ v w e. ap with_sign_octet e };
-
-    ghost copy_form_value = { λ v w x e f. tt };
-
-    ghost copy_re_reads_value = { λ v w e. refl };
-}
+impl<'a> CopyIsDuplicate for UintRef<'a> {}
 
 /// A value that can be seen as a borrowed number that is not negative.
 pub trait AsUintRef: FormValue {

@@ -13,6 +13,7 @@ use Rattle.der_tlv.specs.HeaderOctets.{header_octets, tlv}
 use Rattle.der_tlv.specs.HeaderLaws.{read_header-octets, tlv-injective}
 use Rattle.der_elem.specs.Accepting.{Fits, BeginsWith, MayFollow}
 use Rattle.der_elem.specs.TaggedLaws.{contents_fit}
+use Rattle.der_elem.specs.Leading.{LeadsTag}
 use Rattle.der_opaque.specs.AnyForm.{accepts_any, parse_any, parse_behind_header}
 
 enough : (c x : List ℕ) → nat_lt (length (c ++ x)) (length c) ≡ false
@@ -51,3 +52,7 @@ encoding_eq_any same_tag same_contents t u c d tags contents =
     both : (a b : Bool) → a ≡ true → b ≡ true → (a && b) ≡ true
     both true b e f = f
     both false b e f = e
+
+pub led_any : {T : Type 0} (tag_of : T → Tag) (contents : T → List ℕ) (rules : EncodingRules) (v : T) (b : List ℕ) → accepts_any tag_of contents rules v b → LeadsTag (tag_of v) b
+led_any tag_of contents rules v b a =
+    record { others = length_octets (length (contents v)) ++ contents v; octets_are = a.1 ∙ append_assoc (identifier (tag_of v)) (length_octets (length (contents v))) (contents v); is_tag = a.0 }

@@ -4,3 +4,17 @@ pub mod AnyLaws
 pub mod DecodingAs
 pub mod InSequence
 pub mod ObjectIdentifierOctets
+pub use Rattle.der_elem.specs.Decoding
+pub use Rattle.der_elem.specs.Encoding
+pub use Rattle.der_elem.specs.Integer
+pub use Rattle.der_elem.specs.IntegerReading
+pub use Rattle.der_elem.specs.Null
+pub use Rattle.der_elem.specs.OwnContents
+pub use Rattle.der_elem.specs.Utf8String
+pub use Rattle.der_tlv.specs.HeaderOctets
+pub use Rattle.der_tlv.specs.Octets
+pub use Rattle.der_tlv.specs.TagEquality
+pub use Rattle.der_tlv.specs.TagParts
+pub use Rattle.der_tlv.specs.declared.encoding_rules.EncodingRules
+pub use Rattle.der_tlv.specs.declared.error.ErrorKind
+pub use Rattle.der_tlv.specs.declared.tag.Tag

@@ -6,10 +6,6 @@ use Rattle.der_tlv.specs.declared.error.Error.{Error}
 use Rattle.der_tlv.specs.declared.encoding_rules.EncodingRules.{EncodingRules}
 use Rattle.der_elem.specs.Parsing.{ContentsParse}
 
--- the contents octets are those that the value keeps
-abbrev pub accepts_octets : {T : Type 0} → (T → List ℕ) → EncodingRules → T → List ℕ → Type 0
-accepts_octets contents rules v c = c ≡ contents v
-
 -- any octets are the contents octets of some value (X.690 8.7)
 abbrev pub parse_octets : ContentsParse
 parse_octets rules p c = Ok c

@@ -1,6 +1,6 @@
 //! Values with any tag.
 
-ghost use Rattle.std.specs.Prelude.{◌≡◌, ◌≢◌, Some, ◌↔◌, ◌⊎◌, ◌^◌, ◌<◌, ℕ, List, [], length, true, false, refl, IsTrue, IfOk, IfErr, IsOk};
+ghost use Rattle.std.specs.Prelude.{◌≡◌, ◌≢◌, Some, ◌↔◌, ◌⊎◌, ◌^◌, ◌<◌, [], length, true, false, refl, IsTrue, IfOk, IfErr};
 ghost use Rattle.std.proofs.Common.{Ok, ap, sym};
 ghost use Rattle.std.specs.Cmp.Lexicographic.{bytes_decides};
 ghost use Rattle.der_tlv.specs.declared.error.ErrorKind.TheVariants as kinds;
@@ -9,12 +9,13 @@ ghost use Rattle.der_tlv.specs.TagParts.{IsTag};
 ghost use Rattle.der_tlv.specs.TagEquality.{tag_eq-decides};
 ghost use Rattle.der_tlv.specs.HeaderOctets.{tlv};
 ghost use Rattle.der_elem.specs.Encoding.{Stops};
-ghost use Rattle.der_opaque.specs.Opaque.{accepts_octets, parse_octets, KeepsTagged};
+ghost use Rattle.der_elem.specs.OwnContents.{accepts_own};
+ghost use Rattle.der_opaque.specs.Opaque.{parse_octets, KeepsTagged};
 ghost use Rattle.der_tlv.specs.declared.encoding_rules.EncodingRules.TheVariants.{Der};
 ghost use Rattle.der_opaque.specs.DecodingAs.{DecodesAs};
 ghost use Rattle.der_opaque.specs.InSequence.{RefusesWith, CalledOn};
 ghost use Rattle.der_opaque.specs.AnyForm.{accepts_any, parse_any};
-ghost use Rattle.der_opaque.specs.AnyLaws.{parse_of_any, begins_any, same_length_any, encoding_eq_any};
+ghost use Rattle.der_opaque.specs.AnyLaws.{led_any, parse_of_any, begins_any, same_length_any, encoding_eq_any};
 
 use crate::any_ref::AnyRef;
 use der_elem::{
@@ -72,13 +73,11 @@ impl Any {
         ensures value { IfOk result (λ v. (⟦<Any as Tagged>⟧.tag_of v ≡ ⟦<AnyRef<'static> as Tagged>⟧.tag_of any.entry) × (⟦<Any as FormValue>⟧.contents v ≡ ⟦<AnyRef<'static> as FormValue>⟧.contents any.entry)) }
         ensures err { IfErr result (λ e. e.kind ≡ kinds.Memory) }
     {
-        match any.value.to_vec(alloc) {
-            Ok(value) => Ok(Any {
-                tag: any.tag,
-                value,
-            }),
-            Err(_) => Err(Error::from_kind(ErrorKind::Memory)),
-        }
+        let value = any.value.to_vec(alloc)?;
+        Ok(Any {
+            tag: any.tag,
+            value,
+        })
     }
 
     /// The tag and the contents octets of another value.
@@ -200,15 +199,9 @@ impl Clone for Any {
 impl FormValue for Any {
     ghost contents = { λ v. v.value.items };
 
-    ghost one_form_value = { λ v w. Unit {0} };
-
-    ghost re_reads_value = { λ v. false };
-
-    ghost accepts_value = { accepts_octets (λ v. v.value.items) };
+    ghost accepts_value = { accepts_own (λ v. v.value.items) };
 
     ghost parse_value = { parse_octets };
-
-    ghost readable_value = { λ v. Unit {0} };
 
     ghost has_tag = { λ v t. v.tag ≡ t };
 
@@ -240,6 +233,8 @@ impl Form for Any {
 
     ghost tags = { λ t. true };
 
+    ghost lead = { λ v. Some v.tag };
+
     ghost readable = { λ v. IsTag v.tag };
 
     ghost TAKES_MEMORY = { true };
@@ -247,6 +242,8 @@ impl Form for Any {
     ghost parse_of_accepted = { parse_of_any (λ v. v.tag) (λ v. v.value.items) };
 
     ghost begins = { begins_any (λ v. v.tag) (λ v. v.value.items) };
+
+    ghost led = { led_any (λ v. v.tag) (λ v. v.value.items) };
 
     ghost same_length = { same_length_any (λ v. v.tag) (λ v. v.value.items) };
 
@@ -281,6 +278,10 @@ impl Tagged for Any {
     ghost encoding_is = { λ v. refl };
 
     ghost accepted_is_tlv = { λ rules v b a. record { tag = v.tag; contents = v.value.items; octets_are = a.1 } };
+
+    ghost own_tag = { λ v. refl };
+
+    ghost lead_is = { λ v. refl };
 
     ghost re_reads_alike = { λ v h. h };
 
@@ -343,10 +344,7 @@ impl Duplicate for Any {
     ghost takes_memory_to_copy = { true };
 
     fn duplicate(&self) -> Result<Any, Error> {
-        match self.clone() {
-            Ok(copy) => Ok(copy),
-            Err(_) => Err(Error::from_kind(ErrorKind::Memory)),
-        }
+        Ok(self.clone()?)
     }
 
     ghost copy_encoding = { λ v w e. Prim.cc };

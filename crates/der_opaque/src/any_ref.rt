@@ -1,6 +1,6 @@
 //! Values with any tag, borrowed.
 
-ghost use Rattle.std.specs.Prelude.{◌≡◌, ◌≢◌, Some, ◌↔◌, ◌^◌, ◌<◌, ℕ, List, [], length, true, false, refl, IsTrue, IfOk, IfErr};
+ghost use Rattle.std.specs.Prelude.{◌≡◌, ◌≢◌, Some, ◌↔◌, ◌^◌, ◌<◌, [], length, true, false, refl, IsTrue, IfOk, IfErr};
 ghost use Rattle.std.proofs.Common.{Ok, ap, sym};
 ghost use Rattle.std.specs.Cmp.Lexicographic.{bytes_decides};
 ghost use Rattle.der_tlv.specs.declared.error.ErrorKind.TheVariants as kinds;
@@ -8,13 +8,14 @@ ghost use Rattle.der_tlv.specs.declared.tag.Tag.TheVariants as tags;
 ghost use Rattle.der_tlv.specs.TagParts.{IsTag};
 ghost use Rattle.der_tlv.specs.TagEquality.{tag_eq-decides};
 ghost use Rattle.der_tlv.specs.HeaderOctets.{tlv};
-ghost use Rattle.der_opaque.specs.Opaque.{accepts_octets, parse_octets, KeepsTagged};
+ghost use Rattle.der_elem.specs.OwnContents.{accepts_own};
+ghost use Rattle.der_opaque.specs.Opaque.{parse_octets, KeepsTagged};
 ghost use Rattle.der_tlv.specs.declared.encoding_rules.EncodingRules.TheVariants.{Der};
 ghost use Rattle.der_elem.specs.Decoding.{Decodes, ReadsAll};
 ghost use Rattle.der_opaque.specs.DecodingAs.{DecodesAs};
 ghost use Rattle.der_opaque.specs.InSequence.{RefusesWith, CalledOn};
 ghost use Rattle.der_opaque.specs.AnyForm.{accepts_any, parse_any};
-ghost use Rattle.der_opaque.specs.AnyLaws.{parse_of_any, begins_any, same_length_any, encoding_eq_any};
+ghost use Rattle.der_opaque.specs.AnyLaws.{led_any, parse_of_any, begins_any, same_length_any, encoding_eq_any};
 
 use crate::any::Any;
 use der_elem::{
@@ -156,6 +157,7 @@ impl<'a> AnyRef<'a> {
     }
 
     /// Reads an encoding with any tag.
+    #[inline(always)]
     fn read<R: Reader<'a>>(reader: &mut R) -> Result<AnyRef<'a>, Error>
         ensures { Decodes ⟦<AnyRef<'a> as Form>⟧ (R.state reader.old) (R.state reader.new) result }
     {
@@ -171,19 +173,11 @@ impl<'a> AnyRef<'a> {
 impl<'a> FormValue for AnyRef<'a> {
     ghost contents = { λ v. v.value.now };
 
-    ghost one_form_value = { λ v w. Unit {0} };
-
-    ghost re_reads_value = { λ v. false };
-
-    ghost accepts_value = { accepts_octets (λ v. v.value.now) };
+    ghost accepts_value = { accepts_own (λ v. v.value.now) };
 
     ghost parse_value = { parse_octets };
 
-    ghost readable_value = { λ v. Unit {0} };
-
     ghost has_tag = { λ v t. v.tag ≡ t };
-
-    ghost VALUE_TAKES_MEMORY = { false };
 
     ghost parse_of_accepted_value = { λ rules v p c a fits. ap Ok a };
 
@@ -211,6 +205,8 @@ impl<'a> Form for AnyRef<'a> {
 
     ghost tags = { λ t. true };
 
+    ghost lead = { λ v. Some v.tag };
+
     ghost readable = { λ v. IsTag v.tag };
 
     ghost TAKES_MEMORY = { false };
@@ -218,6 +214,8 @@ impl<'a> Form for AnyRef<'a> {
     ghost parse_of_accepted = { parse_of_any (λ v. v.tag) (λ v. v.value.now) };
 
     ghost begins = { begins_any (λ v. v.tag) (λ v. v.value.now) };
+
+    ghost led = { led_any (λ v. v.tag) (λ v. v.value.now) };
 
     ghost same_length = { same_length_any (λ v. v.tag) (λ v. v.value.now) };
 
@@ -253,6 +251,10 @@ impl<'a> Tagged for AnyRef<'a> {
 
     ghost accepted_is_tlv = { λ rules v b a. record { tag = v.tag; contents = v.value.now; octets_are = a.1 } };
 
+    ghost own_tag = { λ v. refl };
+
+    ghost lead_is = { λ v. refl };
+
     ghost re_reads_alike = { λ v h. h };
 
     ghost one_form_alike = { λ v w h. h };
@@ -279,6 +281,7 @@ impl<'a, R: Reader<'a>> DecodeValue<'a, R> for AnyRef<'a> {
 }
 
 impl<'a, R: Reader<'a>> Decode<'a, R> for AnyRef<'a> {
+    #[inline(always)]
     fn decode(_alloc: Global, reader: &mut R) -> Result<AnyRef<'a>, Error> {
         AnyRef::read(reader)
     }

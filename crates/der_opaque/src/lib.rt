@@ -5,6 +5,7 @@
 mod any;
 mod any_ref;
 mod builtin;
+pub mod laws;
 mod null;
 mod object_identifier;
 mod octet_string;

@@ -2,18 +2,18 @@
 //!
 //! The tag is 05, and there are no contents octets.
 
-ghost use Rattle.std.specs.Prelude.{◌≡◌, [], length, false, refl};
-ghost use Rattle.std.proofs.Common.{lit<, ap, sym};
+ghost use Rattle.std.specs.Prelude.{◌≡◌, [], length, refl};
 ghost use Rattle.der_tlv.specs.declared.tag.Tag.TheVariants as tags;
 ghost use Rattle.der_tlv.specs.declared.encoding_rules.EncodingRules.TheVariants.{Der};
 ghost use Rattle.der_opaque.specs.DecodingAs.{DecodesAs};
 ghost use Rattle.der_elem.specs.Null.{parse_null};
-ghost use Rattle.der_opaque.specs.Opaque.{accepts_octets};
+ghost use Rattle.der_elem.specs.OwnContents.{accepts_within};
+ghost use Rattle.der_elem.specs.OwnContentsLaws.{parse_of_within, same_length_within, accepts_contents_within, only_within};
 
 use crate::any::Any;
 use crate::any_ref::AnyRef;
 use der_elem::{
-    ContentsEq, DecodeValue, DuplicateValue, EncodeValue, Form, FormValue, NullTag, OneTag,
+    ContentsEq, CopyIsDuplicate, DecodeValue, EncodeValue, Form, FormValue, NullTag, OneTag,
     OrdIsValueOrd, Tagged, ValueMemory, WithoutMemory,
 };
 use der_tlv::{Error, Header, Length, Reader, Tag, Writer};
@@ -29,27 +29,17 @@ pub struct Null;
 impl FormValue for Null {
     ghost contents = { λ v. [] };
 
-    ghost one_form_value = { λ v w. Unit {0} };
-
-    ghost re_reads_value = { λ v. false };
-
-    ghost accepts_value = { accepts_octets (λ v. []) };
+    ghost accepts_value = { accepts_within (λ v. []) (λ v. Unit {0}) };
 
     ghost parse_value = { parse_null };
 
-    ghost readable_value = { λ v. Unit {0} };
+    ghost parse_of_accepted_value = { parse_of_within (λ v. []) (λ v. Unit {0}) parse_null (λ rules v p r. refl) };
 
-    ghost has_tag = { λ v t. Unit {0} };
+    ghost same_length_value = { same_length_within (λ v. []) (λ v. Unit {0}) };
 
-    ghost VALUE_TAKES_MEMORY = { false };
+    ghost accepts_contents = { accepts_contents_within (λ v. []) (λ v. Unit {0}) };
 
-    ghost parse_of_accepted_value = { λ rules v p c a fits. ap (parse_null rules p) a };
-
-    ghost same_length_value = { λ rules v c a. ap length (sym a) };
-
-    ghost accepts_contents = { λ rules v r. refl };
-
-    ghost only_readable_value = { λ rules v c a. tt };
+    ghost only_readable_value = { only_within (λ v. []) (λ v. Unit {0}) };
 
     ghost accepts_one_form_value = { λ rules v w c d a b. tt };
 
@@ -93,21 +83,7 @@ impl ContentsEq for Null {
     ghost contents_eq = { λ v w one. (λ e. refl, λ e. refl) };
 }
 
-impl DuplicateValue for Null {
-    ghost is_copy_value = { λ v w. w ≡ v };
-
-    ghost takes_memory_to_copy_value = { false };
-
-    fn duplicate_value(&self) -> Result<Null, Error> {
-        Ok(*self)
-    }
-
-    ghost copy_contents = { λ v w e. refl };
-
-    ghost copy_form_value = { λ v w x e f. tt };
-
-    ghost copy_re_reads_value = { λ v w e. refl };
-}
+impl CopyIsDuplicate for Null {}
 
 impl<'a> From<Null> for AnyRef<'a> {
     ghost from_gives = { λ n a. (⟦<AnyRef<'a> as Tagged>⟧.tag_of a ≡ tags.Null) × (⟦<AnyRef<'a> as FormValue>⟧.contents a ≡ []) };

@@ -2,20 +2,21 @@
 //!
 //! The tag is 06. The contents octets are kept as they stand: they are not split into arcs.
 
-ghost use Rattle.std.specs.Prelude.{◌≡◌, ◌↔◌, ◌^◌, ◌<◌, ◌≤◌, ℕ, nat_eq, if◌then◌else◌, List, [], length, take, true, false, refl, IsTrue, IsOk, IfOk, IfErr, Some};
-ghost use Rattle.std.proofs.Common.{Ok, lit<, ap, sym};
+ghost use Rattle.std.specs.Prelude.{◌≡◌, ◌↔◌, ◌^◌, ◌<◌, ◌≤◌, nat_eq, if◌then◌else◌, length, take, refl, IsOk, IfOk, IfErr, Some};
+ghost use Rattle.std.proofs.Common.{Ok, ap};
 ghost use Rattle.std.specs.Cmp.{on_per, on_equiv, on_po, on_total, partial_equiv_from_equiv};
 ghost use Rattle.std.specs.Cmp.Lexicographic.{pointwise, bytes_decides, nat_list_eq_equiv, nat_list_cmp_total, texts_po, texts_ties};
 ghost use Rattle.std.specs.Hash as fed;
 ghost use Rattle.der_tlv.specs.declared.error.ErrorKind.TheVariants as kinds;
 ghost use Rattle.der_tlv.specs.declared.tag.Tag.TheVariants as tags;
 ghost use Rattle.der_tlv.specs.Octets.{lex};
-ghost use Rattle.der_opaque.specs.Opaque.{accepts_octets};
 ghost use Rattle.der_opaque.specs.ObjectIdentifierOctets.{parse_identifier, parse_identifier-kept, FromAny};
+ghost use Rattle.der_elem.specs.OwnContents.{accepts_within};
+ghost use Rattle.der_elem.specs.OwnContentsLaws.{parse_of_within, same_length_within, accepts_contents_within, only_within};
 
 use crate::any_ref::AnyRef;
 use der_elem::{
-    ContentsEq, DecodeValue, DuplicateValue, EncodeValue, FormValue, ObjectIdentifierTag, OneTag,
+    ContentsEq, CopyIsDuplicate, DecodeValue, EncodeValue, FormValue, ObjectIdentifierTag, OneTag,
     OrdIsValueOrd, Tagged, ValueMemory, WithoutMemory,
 };
 use der_tlv::{Error, ErrorKind, Header, Length, Reader, Tag, Writer};
@@ -73,27 +74,17 @@ impl<const MAX_SIZE: usize> ObjectIdentifier<MAX_SIZE> {
 impl<const MAX_SIZE: usize> FormValue for ObjectIdentifier<MAX_SIZE> {
     ghost contents = { λ v. take v.count v.octets };
 
-    ghost one_form_value = { λ v w. Unit {0} };
-
-    ghost re_reads_value = { λ v. false };
-
-    ghost accepts_value = { accepts_octets (λ v. take v.count v.octets) };
+    ghost accepts_value = { accepts_within (λ v. take v.count v.octets) (λ v. Unit {0}) };
 
     ghost parse_value = { parse_identifier MAX_SIZE };
 
-    ghost readable_value = { λ v. Unit {0} };
+    ghost parse_of_accepted_value = { parse_of_within (λ v. take v.count v.octets) (λ v. Unit {0}) (parse_identifier MAX_SIZE) (λ rules v p r. parse_identifier-kept MAX_SIZE v.count v.octets (take v.count v.octets) rules p v.some v.fits v.full refl) };
 
-    ghost has_tag = { λ v t. Unit {0} };
+    ghost same_length_value = { same_length_within (λ v. take v.count v.octets) (λ v. Unit {0}) };
 
-    ghost VALUE_TAKES_MEMORY = { false };
+    ghost accepts_contents = { accepts_contents_within (λ v. take v.count v.octets) (λ v. Unit {0}) };
 
-    ghost parse_of_accepted_value = { λ rules v p c a fits. parse_identifier-kept MAX_SIZE v.count v.octets c rules p v.some v.fits v.full a };
-
-    ghost same_length_value = { λ rules v c a. ap length (sym a) };
-
-    ghost accepts_contents = { λ rules v r. refl };
-
-    ghost only_readable_value = { λ rules v c a. tt };
+    ghost only_readable_value = { only_within (λ v. take v.count v.octets) (λ v. Unit {0}) };
 
     ghost accepts_one_form_value = { λ rules v w c d a b. tt };
 
@@ -191,21 +182,7 @@ impl<const MAX_SIZE: usize> ContentsEq for ObjectIdentifier<MAX_SIZE> {
     ghost contents_eq = { λ v w one. bytes_decides (take v.count v.octets) (take w.count w.octets) };
 }
 
-impl<const MAX_SIZE: usize> DuplicateValue for ObjectIdentifier<MAX_SIZE> {
-    ghost is_copy_value = { λ v w. w ≡ v };
-
-    ghost takes_memory_to_copy_value = { false };
-
-    fn duplicate_value(&self) -> Result<ObjectIdentifier<MAX_SIZE>, Error> {
-        Ok(*self)
-    }
-
-    ghost copy_contents = { λ v w e. ap (λ u. take u.count u.octets) e };
-
-    ghost copy_form_value = { λ v w x e f. tt };
-
-    ghost copy_re_reads_value = { λ v w e. refl };
-}
+impl<const MAX_SIZE: usize> CopyIsDuplicate for ObjectIdentifier<MAX_SIZE> {}
 
 impl<'a, const MAX_SIZE: usize> From<&'a ObjectIdentifier<MAX_SIZE>> for AnyRef<'a> {
     ghost from_gives = { λ v a. (⟦<AnyRef<'a> as Tagged>⟧.tag_of a ≡ tags.ObjectIdentifier) × (⟦<AnyRef<'a> as FormValue>⟧.contents a ≡ ⟦<ObjectIdentifier<MAX_SIZE> as FormValue>⟧.contents v.now) };

@@ -2,19 +2,20 @@
 //!
 //! The tag is 04, and the contents octets are the octets of the string.
 
-ghost use Rattle.std.specs.Prelude.{◌≡◌, ◌↔◌, ◌^◌, ◌<◌, ℕ, List, [], length, true, false, refl, IsTrue, IsOk, IfOk, IfErr};
-ghost use Rattle.std.proofs.Common.{Ok, lit<, ap, sym};
+ghost use Rattle.std.specs.Prelude.{◌≡◌, ◌↔◌, ◌^◌, ◌<◌, [], length, true, refl, IsTrue};
+ghost use Rattle.std.proofs.Common.{Ok, ap, sym};
 ghost use Rattle.std.specs.Cmp.Lexicographic.{bytes_decides};
 ghost use Rattle.der_tlv.specs.declared.error.ErrorKind.TheVariants as kinds;
 ghost use Rattle.der_tlv.specs.declared.tag.Tag.TheVariants as tags;
-ghost use Rattle.der_opaque.specs.Opaque.{accepts_octets, parse_octets, KeepsOctets};
+ghost use Rattle.der_elem.specs.OwnContents.{accepts_own};
+ghost use Rattle.der_opaque.specs.Opaque.{parse_octets, KeepsOctets};
 
 use crate::octet_string_ref::OctetStringRef;
 use der_elem::{
     ContentsEq, DecodeValue, DuplicateValue, EncodeValue, FormValue, OctetStringTag, OneTag,
     OrdIsValueOrd, ValueMemory, WithMemory,
 };
-use der_tlv::{Error, ErrorKind, Header, Length, Reader, Tag, Writer};
+use der_tlv::{Error, Header, Length, Reader, Tag, Writer};
 use std::alloc::{AllocError, Global};
 
 /// The octets of an OCTET STRING: at most 4294967295 of them.
@@ -90,17 +91,9 @@ impl Clone for OctetString {
 impl FormValue for OctetString {
     ghost contents = { λ v. v.octets.items };
 
-    ghost one_form_value = { λ v w. Unit {0} };
-
-    ghost re_reads_value = { λ v. false };
-
-    ghost accepts_value = { accepts_octets (λ v. v.octets.items) };
+    ghost accepts_value = { accepts_own (λ v. v.octets.items) };
 
     ghost parse_value = { parse_octets };
-
-    ghost readable_value = { λ v. Unit {0} };
-
-    ghost has_tag = { λ v t. Unit {0} };
 
     ghost VALUE_TAKES_MEMORY = { true };
 
@@ -163,10 +156,7 @@ impl DuplicateValue for OctetString {
     ghost takes_memory_to_copy_value = { true };
 
     fn duplicate_value(&self) -> Result<OctetString, Error> {
-        match self.clone() {
-            Ok(copy) => Ok(copy),
-            Err(_) => Err(Error::from_kind(ErrorKind::Memory)),
-        }
+        Ok(self.clone()?)
     }
 
     ghost copy_contents = { λ v w e. e };

@@ -2,24 +2,26 @@
 //!
 //! The tag is 04, and the contents octets are the octets of the string.
 
-ghost use Rattle.std.specs.Prelude.{◌≡◌, ◌≢◌, ◌↔◌, MatchResult, ◌^◌, ◌<◌, ℕ, List, [], length, false, refl, IsTrue, IsOk, IfOk, IfErr};
-ghost use Rattle.std.proofs.Common.{Ok, ap, sym};
+ghost use Rattle.std.specs.Prelude.{◌≡◌, ◌≢◌, ◌↔◌, MatchResult, ◌^◌, ◌<◌, [], length, refl, IsTrue, IfOk, IfErr};
+ghost use Rattle.std.proofs.Common.{Ok};
 ghost use Rattle.der_tlv.specs.declared.error.ErrorKind.TheVariants as kinds;
 ghost use Rattle.der_tlv.specs.declared.tag.Tag.TheVariants as tags;
 ghost use Rattle.std.specs.Cmp.Lexicographic.{bytes_decides};
 ghost use Rattle.der_elem.specs.Decoding.{ReadsAll};
 ghost use Rattle.der_tlv.specs.declared.encoding_rules.EncodingRules.TheVariants.{Der};
 ghost use Rattle.der_opaque.specs.DecodingAs.{DecodesAs};
-ghost use Rattle.der_opaque.specs.Opaque.{accepts_octets, parse_octets, KeepsOctets};
+ghost use Rattle.der_opaque.specs.Opaque.{parse_octets, KeepsOctets};
+ghost use Rattle.der_elem.specs.OwnContents.{accepts_within};
+ghost use Rattle.der_elem.specs.OwnContentsLaws.{parse_of_within, same_length_within, accepts_contents_within, only_within};
 
 use crate::any::Any;
 use crate::any_ref::AnyRef;
 use crate::octet_string::OctetString;
 use der_elem::{
-    ContentsEq, DecodeValue, DuplicateValue, EncodeValue, Form, FormValue, FromDer, OctetStringTag,
-    OneTag, OrdIsValueOrd, Tagged, ValueMemory, WithoutMemory,
+    ContentsEq, CopyIsDuplicate, DecodeValue, EncodeValue, Form, FormValue, FromDer,
+    OctetStringTag, OneTag, OrdIsValueOrd, Tagged, ValueMemory, WithoutMemory,
 };
-use der_tlv::{Error, ErrorKind, Header, Length, Reader, Tag, Writer};
+use der_tlv::{Error, Header, Length, Reader, Tag, Writer};
 use std::alloc::Global;
 
 /// The octets of an OCTET STRING, borrowed: at most 4294967295 of them.
@@ -85,10 +87,7 @@ impl<'a> OctetStringRef<'a> {
         ensures value { IfOk result (λ octets. octets.items ≡ ⟦<OctetStringRef<'a> as FormValue>⟧.contents self.entry) }
         ensures err { IfErr result (λ e. e.kind ≡ kinds.Memory) }
     {
-        match self.octets.to_vec(alloc) {
-            Ok(octets) => Ok(octets),
-            Err(_) => Err(Error::from_kind(ErrorKind::Memory)),
-        }
+        Ok(self.octets.to_vec(alloc)?)
     }
 
     /// The string, copied.
@@ -107,27 +106,17 @@ impl<'a> OctetStringRef<'a> {
 impl<'a> FormValue for OctetStringRef<'a> {
     ghost contents = { λ v. v.octets.now };
 
-    ghost one_form_value = { λ v w. Unit {0} };
-
-    ghost re_reads_value = { λ v. false };
-
-    ghost accepts_value = { accepts_octets (λ v. v.octets.now) };
+    ghost accepts_value = { accepts_within (λ v. v.octets.now) (λ v. Unit {0}) };
 
     ghost parse_value = { parse_octets };
 
-    ghost readable_value = { λ v. Unit {0} };
+    ghost parse_of_accepted_value = { parse_of_within (λ v. v.octets.now) (λ v. Unit {0}) parse_octets (λ rules v p r. refl) };
 
-    ghost has_tag = { λ v t. Unit {0} };
+    ghost same_length_value = { same_length_within (λ v. v.octets.now) (λ v. Unit {0}) };
 
-    ghost VALUE_TAKES_MEMORY = { false };
+    ghost accepts_contents = { accepts_contents_within (λ v. v.octets.now) (λ v. Unit {0}) };
 
-    ghost parse_of_accepted_value = { λ rules v p c a fits. ap Ok a };
-
-    ghost same_length_value = { λ rules v c a. ap length (sym a) };
-
-    ghost accepts_contents = { λ rules v r. refl };
-
-    ghost only_readable_value = { λ rules v c a. tt };
+    ghost only_readable_value = { only_within (λ v. v.octets.now) (λ v. Unit {0}) };
 
     ghost accepts_one_form_value = { λ rules v w c d a b. tt };
 
@@ -173,21 +162,7 @@ impl<'a> ContentsEq for OctetStringRef<'a> {
     ghost contents_eq = { λ v w one. bytes_decides v.octets.now w.octets.now };
 }
 
-impl<'a> DuplicateValue for OctetStringRef<'a> {
-    ghost is_copy_value = { λ v w. w.octets.now ≡ v.octets.now };
-
-    ghost takes_memory_to_copy_value = { false };
-
-    fn duplicate_value(&self) -> Result<OctetStringRef<'a>, Error> {
-        Ok(*self)
-    }
-
-    ghost copy_contents = { λ v w e. e };
-
-    ghost copy_form_value = { λ v w x e f. tt };
-
-    ghost copy_re_reads_value = { λ v w e. refl };
-}
+impl<'a> CopyIsDuplicate for OctetStringRef<'a> {}
 
 impl<'a> TryFrom<&'a [u8]> for OctetStringRef<'a> {
     type Error = Error;

@@ -2,7 +2,7 @@ mod builtin_types;
 mod conversions;
 mod real_values;
 
-use crate::{Any, AnyRef, Null, ObjectIdentifier, OctetString, OctetStringRef};
+use crate::{Any, AnyRef, Null, ObjectIdentifier, OctetString, OctetStringRef, laws};
 use der_elem::{Decode, DerOrd, Duplicate, Encode, FixedTag, FromDer, Tagged};
 use der_tlv::{
     BytesRef, EncodingRules, Error, ErrorKind, Length, Reader, SliceReader, Tag, TagNumber,
@@ -324,5 +324,26 @@ fn types_are_used_through_their_traits(rt: HostRuntime) -> Result<(), Fail> {
         Err(e) => panic!(rt; "refused: {:?}", e.kind)
     };
     assert_eq!(rt; measured(&string)?, (Tag::OctetString, Length::new(3)));
+    Ok(())
+}
+
+#[test]
+fn any_values_are_ordered_by_their_tags_first(rt: HostRuntime) -> Result<(), Fail> {
+    let alloc = rt.alloc();
+    let integer = Any::from_der(alloc, &[0x02, 0x01, 0x7f])?;
+    let octets = Any::from_der(alloc, &[0x04, 0x01, 0x00])?;
+    assert_eq!(rt; laws::tag_then_contents(&integer, &octets), Ordering::Less);
+    let (Ok(integer), Ok(octets)) = (
+        AnyRef::from_der(alloc, &[0x02, 0x01, 0x7f]),
+        AnyRef::from_der(alloc, &[0x04, 0x01, 0x00]),
+    ) else {
+        panic!(rt; "refused")
+    };
+    assert_eq!(rt;
+        laws::borrowed_tag_then_contents(&integer, &octets),
+        Ordering::Less
+    );
+    laws::tags_are();
+    assert_eq!(rt; laws::null().tag(), Tag::Null);
     Ok(())
 }

@@ -7,4 +7,4 @@ use Rattle.der_numbers.proofs.uint_ref.UintRefTryFromAnyRef.try_from.Goals as go
 pub returns-in-Err : goal.returns-in-Err
 returns-in-Err c =
     let fault : natural_or_fault c.args.any.value.now ≡ Err c.in-Err.kind = ap natural_or_fault (sym c.value.ensures) ∙ c.in-Err.ensures in
-    inr (record { fault = grind (arith, common_steps); nothing = λ allowed w a. no_natural _ w.octets.now fault w.fewest a })
+    inr (record { fault = grind (arith, common_steps); nothing = λ allowed w a. no_natural _ w.octets.now fault w.fewest a.0 })
