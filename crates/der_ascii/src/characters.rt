@@ -2,38 +2,50 @@
 
 ghost use Rattle.std.specs.Prelude.{◌≡◌, true, false, IfOk, IfErr};
 ghost use Rattle.der_tlv.specs.declared.error.ErrorKind.TheVariants.{Value};
-ghost use Rattle.der_ascii.specs.Characters.{is_printable, has_character, are_characters, string_tag};
+ghost use Rattle.der_ascii.specs.Characters.{is_printable, are_characters, string_tag};
 
 use der_tlv::{ErrorKind, Tag};
 use std::str;
 
-/// Whether an octet is a character of PrintableString (X.680 41.4, table 10).
-#[tactic(auto, unfolding(crate::specs::Characters::is_printable))]
+/// 1 for each character of PrintableString, letters, digits, space and ' ( ) + , - . / : = ?, and 0
+/// for every other octet (X.680 41.4, table 10).
+#[rattlefmt::skip]
+static PRINTABLE: [u8; 256] = [
+    0, 0, 0, 0, 0, 0, 0, 0, 0, 0, 0, 0, 0, 0, 0, 0,
+    0, 0, 0, 0, 0, 0, 0, 0, 0, 0, 0, 0, 0, 0, 0, 0,
+    1, 0, 0, 0, 0, 0, 0, 1, 1, 1, 0, 1, 1, 1, 1, 1,
+    1, 1, 1, 1, 1, 1, 1, 1, 1, 1, 1, 0, 0, 1, 0, 1,
+    0, 1, 1, 1, 1, 1, 1, 1, 1, 1, 1, 1, 1, 1, 1, 1,
+    1, 1, 1, 1, 1, 1, 1, 1, 1, 1, 1, 0, 0, 0, 0, 0,
+    0, 1, 1, 1, 1, 1, 1, 1, 1, 1, 1, 1, 1, 1, 1, 1,
+    1, 1, 1, 1, 1, 1, 1, 1, 1, 1, 1, 0, 0, 0, 0, 0,
+    0, 0, 0, 0, 0, 0, 0, 0, 0, 0, 0, 0, 0, 0, 0, 0,
+    0, 0, 0, 0, 0, 0, 0, 0, 0, 0, 0, 0, 0, 0, 0, 0,
+    0, 0, 0, 0, 0, 0, 0, 0, 0, 0, 0, 0, 0, 0, 0, 0,
+    0, 0, 0, 0, 0, 0, 0, 0, 0, 0, 0, 0, 0, 0, 0, 0,
+    0, 0, 0, 0, 0, 0, 0, 0, 0, 0, 0, 0, 0, 0, 0, 0,
+    0, 0, 0, 0, 0, 0, 0, 0, 0, 0, 0, 0, 0, 0, 0, 0,
+    0, 0, 0, 0, 0, 0, 0, 0, 0, 0, 0, 0, 0, 0, 0, 0,
+    0, 0, 0, 0, 0, 0, 0, 0, 0, 0, 0, 0, 0, 0, 0, 0,
+];
+
+/// Whether an octet is a character of PrintableString.
+#[inline(always)]
 fn is_printable(octet: u8) -> bool
     ensures { result ≡ is_printable octet }
 {
-    matches!(
-        octet,
-        b'A'..=b'Z' | b'a'..=b'z' | b'0'..=b'9' | b' ' | b'\''..=b')' | b'+'..=b'/' | b':' | b'=' | b'?'
-    )
-}
-
-/// Whether an octet is a character of the type with this universal number.
-fn has_character(number: u8, octet: u8) -> bool
-    ensures { result ≡ has_character number octet }
-{
-    if number == 19 {
-        is_printable(octet)
-    } else {
-        octet < 0x80
-    }
+    PRINTABLE[usize::from(octet)] == 1
 }
 
 /// Whether all octets are characters of the type with this universal number.
 pub fn are_characters(number: u8, octets: &[u8]) -> bool
     ensures { result ≡ are_characters number octets.now }
 {
-    octets.iter().all(|octet| has_character(number, *octet))
+    if number == 19 {
+        octets.iter().all(|octet| is_printable(*octet))
+    } else {
+        octets.iter().all(|octet| *octet < 0x80)
+    }
 }
 
 /// The text that octets are.
@@ -47,10 +59,8 @@ pub fn text_of(number: u8, octets: &[u8]) -> Result<&str, ErrorKind>
     if !are_characters(number, octets) {
         return Err(string_tag(number).value_error());
     }
-    match str::from_utf8(octets) {
-        Ok(text) => Ok(text),
-        Err(_) => unreachable!(),
-    }
+    // This is called only with UTF-8, which is proved: characters are ASCII.
+    Ok(unsafe { str::from_utf8_unchecked(octets) })
 }
 
 /// The tag with this universal number.

@@ -3,6 +3,7 @@
 #![tactic(auto)]
 
 mod characters;
+pub mod laws;
 mod string;
 mod string_ref;
 mod string_tag;

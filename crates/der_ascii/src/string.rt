@@ -3,11 +3,11 @@
 //! The contents octets are the characters. Reading refuses any octet that is no character of the
 //! type (13), and then where memory runs out (1).
 
-ghost use Rattle.std.specs.Prelude.{◌≡◌, ◌↔◌, ◌^◌, ◌<◌, ℕ, List, [], Some, length, true, false, refl, IsTrue, IfOk, IfErr};
+ghost use Rattle.std.specs.Prelude.{◌≡◌, ◌↔◌, ◌^◌, ◌<◌, [], Some, length, true, refl, IsTrue};
 ghost use Rattle.std.proofs.Common.{ap, sym};
 ghost use Rattle.std.specs.Cmp.Lexicographic.{bytes_decides};
 ghost use Rattle.std.specs.String.{string_bytes};
-ghost use Rattle.der_opaque.specs.Opaque.{accepts_octets};
+ghost use Rattle.der_elem.specs.OwnContents.{accepts_own};
 ghost use Rattle.der_ascii.specs.Characters.{are_characters, string_tag, parse_string, KeepsOwnedString, KeepsString};
 ghost use Rattle.der_ascii.specs.StringLaws.{parse_of_characters};
 
@@ -19,7 +19,7 @@ use der_elem::{
     ValueMemory, WithMemory,
 };
 use der_opaque::AnyRef;
-use der_tlv::{Error, ErrorKind, Header, Length, Reader, Tag, Writer};
+use der_tlv::{Error, Header, Length, Reader, Writer};
 use std::alloc::{AllocError, Global};
 use std::fmt;
 
@@ -111,17 +111,9 @@ impl<const NUMBER: u8> fmt::Debug for CharacterString<NUMBER> {
 impl<const NUMBER: u8> FormValue for CharacterString<NUMBER> {
     ghost contents = { λ v. (string_bytes v.text) };
 
-    ghost one_form_value = { λ v w. Unit {0} };
-
-    ghost re_reads_value = { λ v. false };
-
-    ghost accepts_value = { accepts_octets (λ v. (string_bytes v.text)) };
+    ghost accepts_value = { accepts_own (λ v. (string_bytes v.text)) };
 
     ghost parse_value = { parse_string NUMBER };
-
-    ghost readable_value = { λ v. Unit {0} };
-
-    ghost has_tag = { λ v t. Unit {0} };
 
     ghost VALUE_TAKES_MEMORY = { true };
 
@@ -188,10 +180,7 @@ impl<const NUMBER: u8> DuplicateValue for CharacterString<NUMBER> {
     ghost takes_memory_to_copy_value = { true };
 
     fn duplicate_value(&self) -> Result<CharacterString<NUMBER>, Error> {
-        match self.clone() {
-            Ok(copy) => Ok(copy),
-            Err(_) => Err(Error::from_kind(ErrorKind::Memory)),
-        }
+        Ok(self.clone()?)
     }
 
     ghost copy_contents = { λ v w e. e };

@@ -3,26 +3,25 @@
 //! The contents octets are the characters: the PrintableString `hi` is encoded as 13 02 68 69.
 //! Reading refuses any octet that is no character of the type (13).
 
-ghost use Rattle.std.specs.Prelude.{◌≡◌, ◌↔◌, ◌^◌, ◌<◌, ℕ, List, [], Some, length, true, false, refl, IsTrue, IfOk, IfErr};
-ghost use Rattle.std.proofs.Common.{ap, sym};
+ghost use Rattle.std.specs.Prelude.{◌≡◌, ◌↔◌, ◌^◌, ◌<◌, [], Some, length, true, refl, IsTrue, IfOk, IfErr};
 ghost use Rattle.std.specs.Cmp.Lexicographic.{bytes_decides};
-ghost use Rattle.std.specs.String.{string_bytes};
 ghost use Rattle.der_tlv.specs.declared.error.ErrorKind.TheVariants as kinds;
 ghost use Rattle.der_tlv.specs.declared.encoding_rules.EncodingRules.TheVariants.{Der};
 ghost use Rattle.der_opaque.specs.DecodingAs.{DecodesAs};
-ghost use Rattle.der_opaque.specs.Opaque.{accepts_octets};
 ghost use Rattle.der_ascii.specs.Characters.{are_characters, string_tag, parse_string, KeepsString};
 ghost use Rattle.der_ascii.specs.StringLaws.{parse_of_characters};
+ghost use Rattle.der_elem.specs.OwnContents.{accepts_within};
+ghost use Rattle.der_elem.specs.OwnContentsLaws.{parse_of_within, same_length_within, accepts_contents_within, only_within};
 
 use crate::characters::{string_tag, text_of};
 use crate::string::CharacterString;
 use crate::string_tag::CharacterStringTag;
 use der_elem::{
-    ContentsEq, DecodeValue, DuplicateValue, EncodeValue, Form, FormValue, OneTag, OrdIsValueOrd,
+    ContentsEq, CopyIsDuplicate, DecodeValue, EncodeValue, Form, FormValue, OneTag, OrdIsValueOrd,
     Tagged, ValueMemory, WithoutMemory,
 };
 use der_opaque::{Any, AnyRef};
-use der_tlv::{Error, ErrorKind, Header, Length, Reader, Writer};
+use der_tlv::{Error, Header, Length, Reader, Writer};
 use std::alloc::Global;
 use std::fmt;
 
@@ -87,10 +86,8 @@ impl<'a, const NUMBER: u8> CharacterStringRef<'a, NUMBER> {
         ensures value { IfOk result (λ s. ⟦<CharacterString<NUMBER> as FormValue>⟧.contents s ≡ ⟦<CharacterStringRef<'a, NUMBER> as FormValue>⟧.contents self.entry) }
         ensures err { IfErr result (λ e. e.kind ≡ kinds.Memory) }
     {
-        match String::from_str(alloc, self.text) {
-            Ok(text) => Ok(CharacterString { text }),
-            Err(_) => Err(Error::from_kind(ErrorKind::Memory)),
-        }
+        let text = String::from_str(alloc, self.text)?;
+        Ok(CharacterString { text })
     }
 }
 
@@ -111,27 +108,17 @@ impl<'a, const NUMBER: u8> fmt::Debug for CharacterStringRef<'a, NUMBER> {
 impl<'a, const NUMBER: u8> FormValue for CharacterStringRef<'a, NUMBER> {
     ghost contents = { λ v. v.text.now };
 
-    ghost one_form_value = { λ v w. Unit {0} };
-
-    ghost re_reads_value = { λ v. false };
-
-    ghost accepts_value = { accepts_octets (λ v. v.text.now) };
+    ghost accepts_value = { accepts_within (λ v. v.text.now) (λ v. Unit {0}) };
 
     ghost parse_value = { parse_string NUMBER };
 
-    ghost readable_value = { λ v. Unit {0} };
+    ghost parse_of_accepted_value = { parse_of_within (λ v. v.text.now) (λ v. Unit {0}) (parse_string NUMBER) (λ rules v p r. parse_of_characters NUMBER rules p v.text.now v.text.now v.characters refl) };
 
-    ghost has_tag = { λ v t. Unit {0} };
+    ghost same_length_value = { same_length_within (λ v. v.text.now) (λ v. Unit {0}) };
 
-    ghost VALUE_TAKES_MEMORY = { false };
+    ghost accepts_contents = { accepts_contents_within (λ v. v.text.now) (λ v. Unit {0}) };
 
-    ghost parse_of_accepted_value = { λ rules v p c a fits. parse_of_characters NUMBER rules p v.text.now c v.characters a };
-
-    ghost same_length_value = { λ rules v c a. ap length (sym a) };
-
-    ghost accepts_contents = { λ rules v r. refl };
-
-    ghost only_readable_value = { λ rules v c a. tt };
+    ghost only_readable_value = { only_within (λ v. v.text.now) (λ v. Unit {0}) };
 
     ghost accepts_one_form_value = { λ rules v w c d a b. tt };
 
@@ -180,21 +167,7 @@ impl<'a, const NUMBER: u8> ContentsEq for CharacterStringRef<'a, NUMBER> {
     ghost contents_eq = { λ v w one. bytes_decides v.text.now w.text.now };
 }
 
-impl<'a, const NUMBER: u8> DuplicateValue for CharacterStringRef<'a, NUMBER> {
-    ghost is_copy_value = { λ v w. w.text.now ≡ v.text.now };
-
-    ghost takes_memory_to_copy_value = { false };
-
-    fn duplicate_value(&self) -> Result<CharacterStringRef<'a, NUMBER>, Error> {
-        Ok(*self)
-    }
-
-    ghost copy_contents = { λ v w e. e };
-
-    ghost copy_form_value = { λ v w x e f. tt };
-
-    ghost copy_re_reads_value = { λ v w e. refl };
-}
+impl<'a, const NUMBER: u8> CopyIsDuplicate for CharacterStringRef<'a, NUMBER> {}
 
 impl<'a, const NUMBER: u8> From<&CharacterStringRef<'a, NUMBER>>
     for CharacterStringRef<'a, NUMBER> {

@@ -1,2 +1,9 @@
 pub mod BmpUnits
 pub mod Utf8Octets
+pub use Rattle.der_elem.specs.OwnContents
+pub use Rattle.der_elem.specs.Utf8String
+pub use Rattle.der_opaque.specs.DecodingAs
+pub use Rattle.der_opaque.specs.Opaque
+pub use Rattle.der_tlv.specs.declared.encoding_rules.EncodingRules
+pub use Rattle.der_tlv.specs.declared.error.ErrorKind
+pub use Rattle.der_tlv.specs.declared.tag.Tag

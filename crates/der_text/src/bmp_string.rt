@@ -5,12 +5,12 @@
 //! 1E 04 00 68 00 69. Reading refuses an odd number of octets (7) and a unit from D800 to DFFF (13),
 //! and then where memory runs out (1).
 
-ghost use Rattle.std.specs.Prelude.{◌≡◌, ◌%◌, ◌^◌, ◌<◌, ℕ, List, Some, chars, encode_utf8_all, length, true, false, refl, IfOk, IfErr};
-ghost use Rattle.std.proofs.Common.{lit<, ap, sym};
+ghost use Rattle.std.specs.Prelude.{◌≡◌, ◌%◌, ◌^◌, ◌<◌, Some, chars, encode_utf8_all, length, true, refl, IfOk, IfErr};
+ghost use Rattle.std.proofs.Common.{ap, sym};
 ghost use Rattle.std.specs.Cmp.Lexicographic.{bytes_decides};
 ghost use Rattle.der_tlv.specs.declared.error.ErrorKind.TheVariants as kinds;
 ghost use Rattle.der_tlv.specs.declared.tag.Tag.TheVariants as tags;
-ghost use Rattle.der_opaque.specs.Opaque.{accepts_octets};
+ghost use Rattle.der_elem.specs.OwnContents.{accepts_own};
 ghost use Rattle.der_text.specs.BmpUnits.{units, are_characters, parse_bmp, parse_of_units, KeepsUnits, KeepsCharacters};
 
 use crate::bmp_iter::{BmpChars, BmpCodepoints};
@@ -19,7 +19,7 @@ use der_elem::{
     BmpStringTag, ContentsEq, DecodeValue, DuplicateValue, EncodeValue, FormValue, OneTag,
     OrdIsValueOrd, ValueMemory, WithMemory,
 };
-use der_tlv::{Error, ErrorKind, Header, Length, Reader, Tag, Writer};
+use der_tlv::{Error, ErrorKind, Header, Length, Reader, Writer};
 use std::alloc::{AllocError, Global};
 use std::fmt;
 
@@ -102,10 +102,8 @@ impl BmpString {
         ensures value { IfOk result (λ s. ⟦<BmpString as FormValue>⟧.contents s ≡ ⟦<BmpString as FormValue>⟧.contents self.now) }
         ensures err { IfErr result (λ e. e.kind ≡ kinds.Memory) }
     {
-        match self.octets.to_vec(alloc) {
-            Ok(octets) => Ok(BmpString { octets }),
-            Err(_) => Err(Error::from_kind(ErrorKind::Memory)),
-        }
+        let octets = self.octets.to_vec(alloc)?;
+        Ok(BmpString { octets })
     }
 }
 
@@ -139,17 +137,9 @@ impl Clone for BmpString {
 impl FormValue for BmpString {
     ghost contents = { λ v. v.octets.items };
 
-    ghost one_form_value = { λ v w. Unit {0} };
-
-    ghost re_reads_value = { λ v. false };
-
-    ghost accepts_value = { accepts_octets (λ v. v.octets.items) };
+    ghost accepts_value = { accepts_own (λ v. v.octets.items) };
 
     ghost parse_value = { parse_bmp };
-
-    ghost readable_value = { λ v. Unit {0} };
-
-    ghost has_tag = { λ v t. Unit {0} };
 
     ghost VALUE_TAKES_MEMORY = { true };
 
@@ -213,10 +203,7 @@ impl DuplicateValue for BmpString {
     ghost takes_memory_to_copy_value = { true };
 
     fn duplicate_value(&self) -> Result<BmpString, Error> {
-        match self.clone() {
-            Ok(copy) => Ok(copy),
-            Err(_) => Err(Error::from_kind(ErrorKind::Memory)),
-        }
+        Ok(self.clone()?)
     }
 
     ghost copy_contents = { λ v w e. e };

@@ -44,10 +44,8 @@ fn push_unit(octets: &mut Vec<u8>, unit: u16) -> Result<(), Error>
     ensures pushed { IfOk result (λ _. octets.new.items ≡ octets.old.items ++ (unit / 256) ∷ (unit % 256) ∷ []) }
     ensures refused { IfErr result (λ e. e.kind ≡ kinds.Memory) }
 {
-    match octets.extend_from_slice(&[(unit / 256) as u8, (unit % 256) as u8]) {
-        Ok(()) => Ok(()),
-        Err(_) => Err(Error::from_kind(ErrorKind::Memory)),
-    }
+    octets.extend_from_slice(&[(unit / 256) as u8, (unit % 256) as u8])?;
+    Ok(())
 }
 
 /// The octets of the characters of a text.

@@ -5,6 +5,7 @@ mod bmp_iter;
 mod bmp_string;
 mod bmp_units;
 mod general_string;
+pub mod laws;
 mod utf8_string;
 
 pub use bmp_iter::{BmpChars, BmpCodepoints};

@@ -3,8 +3,7 @@
 //! The tag is 0C, and the contents octets are the text in UTF-8: `hi` is encoded as 0C 02 68 69.
 //! Reading refuses octets that are not UTF-8 (12).
 
-ghost use Rattle.std.specs.Prelude.{◌≡◌, ◌↔◌, ◌^◌, ◌<◌, ℕ, List, [], Some, length, true, false, refl, IsTrue, IfOk, IfErr};
-ghost use Rattle.std.proofs.Common.{ap, sym};
+ghost use Rattle.std.specs.Prelude.{◌≡◌, ◌↔◌, ◌^◌, ◌<◌, [], Some, length, true, refl, IsTrue, IfOk, IfErr};
 ghost use Rattle.std.specs.Cmp.Lexicographic.{bytes_decides};
 ghost use Rattle.std.specs.Str.{is_utf8};
 ghost use Rattle.std.specs.String.{string_bytes};
@@ -12,12 +11,13 @@ ghost use Rattle.der_tlv.specs.declared.error.ErrorKind.TheVariants as kinds;
 ghost use Rattle.der_tlv.specs.declared.tag.Tag.TheVariants as tags;
 ghost use Rattle.der_tlv.specs.declared.encoding_rules.EncodingRules.TheVariants.{Der};
 ghost use Rattle.der_opaque.specs.DecodingAs.{DecodesAs};
-ghost use Rattle.der_opaque.specs.Opaque.{accepts_octets};
 ghost use Rattle.der_elem.specs.Utf8String.{parse_utf8, parse_of_utf8};
 ghost use Rattle.der_text.specs.Utf8Octets.{KeepsUtf8, KeepsText};
+ghost use Rattle.der_elem.specs.OwnContents.{accepts_within};
+ghost use Rattle.der_elem.specs.OwnContentsLaws.{parse_of_within, same_length_within, accepts_contents_within, only_within};
 
 use der_elem::{
-    ContentsEq, DecodeValue, DuplicateValue, EncodeValue, Form, FormValue, OneTag, OrdIsValueOrd,
+    ContentsEq, CopyIsDuplicate, DecodeValue, EncodeValue, Form, FormValue, OneTag, OrdIsValueOrd,
     Tagged, Utf8StringTag, ValueMemory, WithoutMemory, text_of,
 };
 use der_opaque::{Any, AnyRef};
@@ -86,10 +86,7 @@ impl<'a> Utf8StringRef<'a> {
         ensures value { IfOk result (λ s. string_bytes s ≡ ⟦<Utf8StringRef<'a> as FormValue>⟧.contents self.entry) }
         ensures err { IfErr result (λ e. e.kind ≡ kinds.Memory) }
     {
-        match String::from_str(alloc, self.text) {
-            Ok(text) => Ok(text),
-            Err(_) => Err(Error::from_kind(ErrorKind::Memory)),
-        }
+        Ok(String::from_str(alloc, self.text)?)
     }
 }
 
@@ -110,27 +107,17 @@ impl<'a> fmt::Debug for Utf8StringRef<'a> {
 impl<'a> FormValue for Utf8StringRef<'a> {
     ghost contents = { λ v. v.text.now };
 
-    ghost one_form_value = { λ v w. Unit {0} };
-
-    ghost re_reads_value = { λ v. false };
-
-    ghost accepts_value = { accepts_octets (λ v. v.text.now) };
+    ghost accepts_value = { accepts_within (λ v. v.text.now) (λ v. Unit {0}) };
 
     ghost parse_value = { parse_utf8 };
 
-    ghost readable_value = { λ v. Unit {0} };
+    ghost parse_of_accepted_value = { parse_of_within (λ v. v.text.now) (λ v. Unit {0}) parse_utf8 (λ rules v p r. parse_of_utf8 rules p v.text.now v.text.now v.utf8 refl) };
 
-    ghost has_tag = { λ v t. Unit {0} };
+    ghost same_length_value = { same_length_within (λ v. v.text.now) (λ v. Unit {0}) };
 
-    ghost VALUE_TAKES_MEMORY = { false };
+    ghost accepts_contents = { accepts_contents_within (λ v. v.text.now) (λ v. Unit {0}) };
 
-    ghost parse_of_accepted_value = { λ rules v p c a fits. parse_of_utf8 rules p v.text.now c v.utf8 a };
-
-    ghost same_length_value = { λ rules v c a. ap length (sym a) };
-
-    ghost accepts_contents = { λ rules v r. refl };
-
-    ghost only_readable_value = { λ rules v c a. tt };
+    ghost only_readable_value = { only_within (λ v. v.text.now) (λ v. Unit {0}) };
 
     ghost accepts_one_form_value = { λ rules v w c d a b. tt };
 
@@ -179,21 +166,7 @@ impl<'a> ContentsEq for Utf8StringRef<'a> {
     ghost contents_eq = { λ v w one. bytes_decides v.text.now w.text.now };
 }
 
-impl<'a> DuplicateValue for Utf8StringRef<'a> {
-    ghost is_copy_value = { λ v w. w.text.now ≡ v.text.now };
-
-    ghost takes_memory_to_copy_value = { false };
-
-    fn duplicate_value(&self) -> Result<Utf8StringRef<'a>, Error> {
-        Ok(*self)
-    }
-
-    ghost copy_contents = { λ v w e. e };
-
-    ghost copy_form_value = { λ v w x e f. tt };
-
-    ghost copy_re_reads_value = { λ v w e. refl };
-}
+impl<'a> CopyIsDuplicate for Utf8StringRef<'a> {}
 
 impl<'a> From<&Utf8StringRef<'a>> for Utf8StringRef<'a> {
     ghost from_gives = { λ s r. ⟦<Utf8StringRef<'a> as FormValue>⟧.contents r ≡ ⟦<Utf8StringRef<'a> as FormValue>⟧.contents s.now };

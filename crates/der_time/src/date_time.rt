@@ -1,19 +1,19 @@
 //! A date and a time of day in UTC.
 
-ghost use Rattle.std.specs.Prelude.{◌≡◌, ◌+◌, ◌*◌, ◌≤◌, ◌≤ℤ◌, pos, Some, refl, false};
+ghost use Rattle.std.specs.Prelude.{◌≡◌, ◌+◌, ◌*◌, ◌≤◌, ◌≤ℤ◌, pos, Some, refl};
 ghost use Rattle.std.specs.Int.{IsInRange};
 ghost use Rattle.jiff_core.specs.Calendar.{days_in_month};
 ghost use Rattle.jiff_core.specs.Date.{epoch_day};
 ghost use Rattle.der_tlv.specs.declared.error.ErrorKind.TheVariants as kinds;
-ghost use Rattle.der_elem.specs.OwnContents.{accepts_own};
-ghost use Rattle.der_elem.specs.OwnContentsLaws.{parse_of_own, same_length_own, accepts_own_contents, copy_contents_own};
+ghost use Rattle.der_elem.specs.OwnContents.{accepts_within};
+ghost use Rattle.der_elem.specs.OwnContentsLaws.{parse_of_within, same_length_within, accepts_contents_within, only_within};
 
 use crate::digits::two_digits;
 use crate::fields::Fields;
 use crate::reading::{generalized_fault, read_generalized};
 use crate::text::read_text;
 use der_elem::{
-    ContentsEq, DecodeValue, DuplicateValue, EncodeValue, FormValue, GeneralizedTimeTag, OneTag,
+    ContentsEq, CopyIsDuplicate, DecodeValue, EncodeValue, FormValue, GeneralizedTimeTag, OneTag,
     OrdIsValueOrd, ValueMemory, WithoutMemory,
 };
 use der_tlv::{Error, ErrorKind, Header, Length, Reader, Writer};
@@ -309,27 +309,17 @@ impl FormValue for DateTime {
 
     ghost contents = { time_contents };
 
-    ghost one_form_value = { λ v w. Unit {0} };
-
-    ghost re_reads_value = { λ v. false };
-
-    ghost accepts_value = { accepts_own time_contents };
+    ghost accepts_value = { accepts_within time_contents (λ v. Unit {0}) };
 
     ghost parse_value = { parse_generalized };
 
-    ghost readable_value = { λ v. Unit {0} };
+    ghost parse_of_accepted_value = { parse_of_within time_contents (λ v. Unit {0}) parse_generalized (λ rules v p r. generalized_of v) };
 
-    ghost has_tag = { λ v t. Unit {0} };
+    ghost same_length_value = { same_length_within time_contents (λ v. Unit {0}) };
 
-    ghost VALUE_TAKES_MEMORY = { false };
+    ghost accepts_contents = { accepts_contents_within time_contents (λ v. Unit {0}) };
 
-    ghost parse_of_accepted_value = { parse_of_own time_contents parse_generalized (λ rules v p. generalized_of v) };
-
-    ghost same_length_value = { same_length_own time_contents };
-
-    ghost accepts_contents = { accepts_own_contents time_contents };
-
-    ghost only_readable_value = { λ rules v c a. tt };
+    ghost only_readable_value = { only_within time_contents (λ v. Unit {0}) };
 
     ghost accepts_one_form_value = { λ rules v w c d a b. tt };
 
@@ -379,20 +369,4 @@ impl ContentsEq for DateTime {
     ghost contents_eq = { eq_is_contents_eq };
 }
 
-impl DuplicateValue for DateTime {
-    ghost use Rattle.der_time.specs.DateTime.{time_contents};
-
-    ghost is_copy_value = { λ v w. w ≡ v };
-
-    ghost takes_memory_to_copy_value = { false };
-
-    fn duplicate_value(&self) -> Result<DateTime, Error> {
-        Ok(*self)
-    }
-
-    ghost copy_contents = { copy_contents_own time_contents };
-
-    ghost copy_form_value = { λ v w x e f. tt };
-
-    ghost copy_re_reads_value = { λ v w e. refl };
-}
+impl CopyIsDuplicate for DateTime {}

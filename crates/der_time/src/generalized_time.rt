@@ -3,22 +3,22 @@
 //! The tag is 18 (hexadecimal). The contents octets are 15: the year in four digits, then month,
 //! day, hour, minutes and seconds in two digits each, then `Z`.
 
-ghost use Rattle.std.specs.Prelude.{◌≡◌, refl, false};
+ghost use Rattle.std.specs.Prelude.{◌≡◌, refl};
 ghost use Rattle.der_tlv.specs.declared.error.ErrorKind.TheVariants as kinds;
 ghost use Rattle.der_tlv.specs.declared.tag.Tag.TheVariants as tags;
 ghost use Rattle.der_tlv.specs.declared.encoding_rules.EncodingRules.TheVariants.{Der};
-ghost use Rattle.der_elem.specs.OwnContents.{accepts_own};
-ghost use Rattle.der_elem.specs.OwnContentsLaws.{parse_of_own, same_length_own, accepts_own_contents, copy_contents_own};
 ghost use Rattle.der_opaque.specs.DecodingAs.{DecodesAs};
 ghost use Rattle.der_time.specs.Reading.{parse_generalized};
 ghost use Rattle.der_time.specs.GeneralizedTime.{generalized_time_contents};
 ghost use Rattle.der_time.specs.UnixTime.{unix_seconds, LastsSeconds, IsTimeAfter};
 ghost use Rattle.der_time.specs.TimeLaws.{generalized_of};
 ghost use Rattle.der_time.specs.TimeOrder.{ord_is_contents_ord, eq_is_contents_eq};
+ghost use Rattle.der_elem.specs.OwnContents.{accepts_within};
+ghost use Rattle.der_elem.specs.OwnContentsLaws.{parse_of_within, same_length_within, accepts_contents_within, only_within};
 
 use crate::date_time::DateTime;
 use der_elem::{
-    ContentsEq, DecodeValue, DuplicateValue, EncodeValue, Form, FormValue, GeneralizedTimeTag,
+    ContentsEq, CopyIsDuplicate, DecodeValue, EncodeValue, Form, FormValue, GeneralizedTimeTag,
     OneTag, OrdIsValueOrd, Tagged, ValueMemory, WithoutMemory,
 };
 use der_opaque::{Any, AnyRef};
@@ -79,27 +79,17 @@ impl GeneralizedTime {
 impl FormValue for GeneralizedTime {
     ghost contents = { generalized_time_contents };
 
-    ghost one_form_value = { λ v w. Unit {0} };
-
-    ghost re_reads_value = { λ v. false };
-
-    ghost accepts_value = { accepts_own generalized_time_contents };
+    ghost accepts_value = { accepts_within generalized_time_contents (λ v. Unit {0}) };
 
     ghost parse_value = { parse_generalized };
 
-    ghost readable_value = { λ v. Unit {0} };
+    ghost parse_of_accepted_value = { parse_of_within generalized_time_contents (λ v. Unit {0}) parse_generalized (λ rules v p r. generalized_of v.date_time) };
 
-    ghost has_tag = { λ v t. Unit {0} };
+    ghost same_length_value = { same_length_within generalized_time_contents (λ v. Unit {0}) };
 
-    ghost VALUE_TAKES_MEMORY = { false };
+    ghost accepts_contents = { accepts_contents_within generalized_time_contents (λ v. Unit {0}) };
 
-    ghost parse_of_accepted_value = { parse_of_own generalized_time_contents parse_generalized (λ rules v p. generalized_of v.date_time) };
-
-    ghost same_length_value = { same_length_own generalized_time_contents };
-
-    ghost accepts_contents = { accepts_own_contents generalized_time_contents };
-
-    ghost only_readable_value = { λ rules v c a. tt };
+    ghost only_readable_value = { only_within generalized_time_contents (λ v. Unit {0}) };
 
     ghost accepts_one_form_value = { λ rules v w c d a b. tt };
 
@@ -149,21 +139,7 @@ impl ContentsEq for GeneralizedTime {
     ghost contents_eq = { λ v w one. eq_is_contents_eq v.date_time w.date_time one };
 }
 
-impl DuplicateValue for GeneralizedTime {
-    ghost is_copy_value = { λ v w. w ≡ v };
-
-    ghost takes_memory_to_copy_value = { false };
-
-    fn duplicate_value(&self) -> Result<GeneralizedTime, Error> {
-        Ok(*self)
-    }
-
-    ghost copy_contents = { copy_contents_own generalized_time_contents };
-
-    ghost copy_form_value = { λ v w x e f. tt };
-
-    ghost copy_re_reads_value = { λ v w e. refl };
-}
+impl CopyIsDuplicate for GeneralizedTime {}
 
 impl From<DateTime> for GeneralizedTime {
     ghost from_gives = { λ t r. r.date_time ≡ t };

@@ -2,12 +2,15 @@
 
 ghost use Rattle.std.specs.Prelude.{◌≡◌, ◌↔◌, IsTrue, IsOkAnd, pos};
 ghost use Rattle.std.specs.Ordering.{nat_cmp};
+ghost use Rattle.der_tlv.specs.declared.tag.Tag.TheVariants as tags;
 ghost use Rattle.jiff_core.specs.Calendar.{days_from_civil};
 ghost use Rattle.der_time.specs.DateTime.{date_time_text, fields_of};
 ghost use Rattle.der_time.specs.UnixTime.{day_number, unix_seconds, last_second};
 
 use crate::date_time::DateTime;
+use crate::generalized_time::GeneralizedTime;
 use crate::utc_time::UtcTime;
+use der_elem::FixedTag;
 use der_tlv::Error;
 use std::cmp::Ordering;
 
@@ -57,4 +60,26 @@ pub fn days_since_1970(time: &DateTime) -> u64
     ensures calendar { pos result ≡ days_from_civil (pos time.now.year) time.now.month time.now.day }
 {
     time.unix_duration().as_secs() / 86400
+}
+
+/// The tags of the types: GeneralizedTime and UTCTime (X.680 8.6). A `DateTime` is read and written
+/// as a GeneralizedTime.
+pub fn tags_are()
+    ensures date_time { ⟦<DateTime as FixedTag>⟧.TAG ≡ tags.GeneralizedTime }
+    ensures generalized { ⟦<GeneralizedTime as FixedTag>⟧.TAG ≡ tags.GeneralizedTime }
+    ensures utc { ⟦<UtcTime as FixedTag>⟧.TAG ≡ tags.UtcTime }
+{}
+
+/// A UTCTime has thirteen contents octets (RFC 5280 4.1.2.5.1).
+pub fn utc_length() -> usize
+    ensures { result ≡ 13 }
+{
+    UtcTime::LENGTH
+}
+
+/// The last year of a UTCTime (RFC 5280 4.1.2.5.1).
+pub fn last_utc_year() -> u16
+    ensures { result ≡ 2049 }
+{
+    UtcTime::MAX_YEAR
 }

@@ -4,17 +4,17 @@
 //! seconds in two digits each, then `Z`. Of the year these are the last two digits: 50 and more
 //! stand for 19YY, less for 20YY.
 
-ghost use Rattle.std.specs.Prelude.{◌≡◌, ◌≤◌, ◌<◌, refl, false};
+ghost use Rattle.std.specs.Prelude.{◌≡◌, ◌≤◌, ◌<◌, refl};
 ghost use Rattle.der_tlv.specs.declared.encoding_rules.EncodingRules.TheVariants.{Der};
-ghost use Rattle.der_elem.specs.OwnContents.{accepts_own};
-ghost use Rattle.der_elem.specs.OwnContentsLaws.{parse_of_own, same_length_own, accepts_own_contents, copy_contents_own};
 ghost use Rattle.der_opaque.specs.DecodingAs.{DecodesAs};
+ghost use Rattle.der_elem.specs.OwnContents.{accepts_within};
+ghost use Rattle.der_elem.specs.OwnContentsLaws.{parse_of_within, same_length_within, accepts_contents_within, only_within};
 
 use crate::date_time::DateTime;
 use crate::digits::two_digits;
 use crate::reading::read_utc;
 use der_elem::{
-    ContentsEq, DecodeValue, DuplicateValue, EncodeValue, Form, FormValue, OneTag, Tagged,
+    ContentsEq, CopyIsDuplicate, DecodeValue, EncodeValue, Form, FormValue, OneTag, Tagged,
     UtcTimeTag, ValueMemory, ValueOrd, WithoutMemory,
 };
 use der_opaque::{Any, AnyRef};
@@ -130,27 +130,17 @@ impl FormValue for UtcTime {
 
     ghost contents = { utc_time_contents };
 
-    ghost one_form_value = { λ v w. Unit {0} };
-
-    ghost re_reads_value = { λ v. false };
-
-    ghost accepts_value = { accepts_own utc_time_contents };
+    ghost accepts_value = { accepts_within utc_time_contents (λ v. Unit {0}) };
 
     ghost parse_value = { parse_utc };
 
-    ghost readable_value = { λ v. Unit {0} };
+    ghost parse_of_accepted_value = { parse_of_within utc_time_contents (λ v. Unit {0}) parse_utc (λ rules v p r. utc_time_of v) };
 
-    ghost has_tag = { λ v t. Unit {0} };
+    ghost same_length_value = { same_length_within utc_time_contents (λ v. Unit {0}) };
 
-    ghost VALUE_TAKES_MEMORY = { false };
+    ghost accepts_contents = { accepts_contents_within utc_time_contents (λ v. Unit {0}) };
 
-    ghost parse_of_accepted_value = { parse_of_own utc_time_contents parse_utc (λ rules v p. utc_time_of v) };
-
-    ghost same_length_value = { same_length_own utc_time_contents };
-
-    ghost accepts_contents = { accepts_own_contents utc_time_contents };
-
-    ghost only_readable_value = { λ rules v c a. tt };
+    ghost only_readable_value = { only_within utc_time_contents (λ v. Unit {0}) };
 
     ghost accepts_one_form_value = { λ rules v w c d a b. tt };
 
@@ -207,23 +197,7 @@ impl ContentsEq for UtcTime {
     ghost contents_eq = { utc_eq_is_contents_eq };
 }
 
-impl DuplicateValue for UtcTime {
-    ghost use Rattle.der_time.specs.UtcTime.{utc_time_contents};
-
-    ghost is_copy_value = { λ v w. w ≡ v };
-
-    ghost takes_memory_to_copy_value = { false };
-
-    fn duplicate_value(&self) -> Result<UtcTime, Error> {
-        Ok(*self)
-    }
-
-    ghost copy_contents = { copy_contents_own utc_time_contents };
-
-    ghost copy_form_value = { λ v w x e f. tt };
-
-    ghost copy_re_reads_value = { λ v w e. refl };
-}
+impl CopyIsDuplicate for UtcTime {}
 
 impl TryFrom<DateTime> for UtcTime {
     ghost use Rattle.der_time.specs.UtcTime.{TakesTime};

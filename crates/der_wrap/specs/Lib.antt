@@ -3,3 +3,6 @@ pub mod TaggedValues
 pub mod TaggedValueLaws
 pub mod TaggedValueEquality
 pub mod Fields
+pub use Rattle.der_tlv.specs.HeaderOctets
+pub use Rattle.der_tlv.specs.TagParts
+pub use Rattle.der_tlv.specs.declared.tag.mode.TagMode

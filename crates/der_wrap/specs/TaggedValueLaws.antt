@@ -10,7 +10,7 @@ use Rattle.der_tlv.specs.declared.tag.class.Class.{Class}
 use Rattle.der_tlv.specs.declared.tag.class.Class.TheVariants as classes
 use Rattle.der_tlv.specs.declared.tag.Tag.TheVariants.{Application, ContextSpecific, Private}
 use Rattle.der_tlv.specs.declared.tag.mode.TagMode.{TagMode}
-use Rattle.der_tlv.specs.declared.tag.mode.TagMode.TheVariants.{Explicit}
+use Rattle.der_tlv.specs.declared.tag.mode.TagMode.TheVariants.{Explicit, Implicit}
 use Rattle.der_tlv.specs.TagParts.{IsTag, is_constructed, number_of, class_of}
 use Rattle.der_tlv.specs.Identifier.{identifier, class_index}
 use Rattle.der_tlv.specs.IdentifierLaws.{first_octet-unique, tag-unique}
@@ -19,6 +19,7 @@ use Rattle.der_tlv.specs.HeaderOctets.{header_octets, tlv}
 use Rattle.der_tlv.specs.HeaderLaws.{read_header-octets}
 use Rattle.der_elem.specs.declared.form.Form as form
 use Rattle.der_elem.specs.Accepting.{Fits, BeginsWith, MayFollow}
+use Rattle.der_elem.specs.Leading.{LeadsTag}
 use Rattle.der_elem.specs.TaggedLaws.{contents_fit, length-tlv}
 use Rattle.der_wrap.specs.ClassTags.{class_tag, in_class}
 use Rattle.der_wrap.specs.TaggedValues.{tag_of_mode, contents_of_mode, OneTaggedForm, one_encoding, accepts_one_encoding, explicit_with_header, parse_explicit, AcceptsExplicit, ReadableExplicit}
@@ -62,6 +63,11 @@ module _ (constructed : Bool) (n : ℕ) where
   pub class_tag-class : (bits : ℕ) → in_class bits (class_tag bits constructed n) ≡ true
   unfolding class_tag
   class_tag-class bits = class_of_choice (bits == 1) (bits == 2)
+
+-- the tag of a tagged value is of the class
+pub tag_of_mode-class : (bits : ℕ) (mode : TagMode) (n : ℕ) (inner : Tag) → in_class bits (tag_of_mode bits mode n inner) ≡ true
+tag_of_mode-class bits Explicit n inner = class_tag-class true n bits
+tag_of_mode-class bits Implicit n inner = class_tag-class (is_constructed inner) n bits
 
 -- a tag of a class is told by its form and its number
 pub class_tag-of : (bits : ℕ) (t : Tag) → in_class bits t ≡ true → t ≡ class_tag bits (is_constructed t) (number_of t)
@@ -127,6 +133,14 @@ module _ {T : Type 0} (F : form.Ghosts T) where
             is_tag = numbered_tag a.numbered;
             is_one = class_tag-class true n bits;
           }
+
+      pub led_explicit : (rules : EncodingRules) (b : List ℕ) → AcceptsExplicit F.accepts bits n mode v rules b → LeadsTag (tag_of_mode bits mode n own) b
+      led_explicit rules b a =
+          subst (λ t. LeadsTag t b) (sym (ap (λ m. tag_of_mode bits m n own) a.mode_is)) (record {
+            others = length_octets (length a.inner) ++ a.inner;
+            octets_are = a.octets_are ∙ append_assoc (identifier (class_tag bits true n)) (length_octets (length a.inner)) a.inner;
+            is_tag = numbered_tag a.numbered;
+          })
 
       pub same_length_explicit : (rules : EncodingRules) (b : List ℕ) → AcceptsExplicit F.accepts bits n mode v rules b → length (tlv (tag_of_mode bits mode n own) (contents_of_mode mode (F.encoding v) contents)) ≡ length b
       same_length_explicit rules b a =

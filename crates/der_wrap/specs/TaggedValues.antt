@@ -1,6 +1,8 @@
 -- Tagged values (X.690 8.14): what they are encoded as, and what octets they are read from.
 use Rattle.std.specs.Prelude.{◌≡◌, ℕ, ◌+◌, ◌-◌, ◌<◌, ◌^◌, ◌==◌, List, [], length, drop, Bool, true, false, if◌then◌else◌, None, Result, Ok, Err}
 use Rattle.std.specs.Bool.{beq}
+use Rattle.std.specs.declared.cmp.Ordering.{Ordering}
+use Rattle.std.specs.declared.cmp.Ordering.TheVariants.{Less, Equal, Greater}
 use Rattle.der_tlv.specs.declared.error.ErrorKind.{ErrorKind}
 use Rattle.der_tlv.specs.declared.error.ErrorKind.TheVariants.{Noncanonical, TagUnexpected, TrailingData}
 use Rattle.der_tlv.specs.declared.encoding_rules.EncodingRules.{EncodingRules}
@@ -26,6 +28,13 @@ tag_of_mode bits Implicit n inner = class_tag bits (is_constructed inner) n
 abbrev pub contents_of_mode : TagMode → List ℕ → List ℕ → List ℕ
 contents_of_mode Explicit encoding contents = encoding
 contents_of_mode Implicit encoding contents = contents
+
+-- explicit tagging is before implicit tagging
+abbrev pub mode_cmp : TagMode → TagMode → Ordering
+mode_cmp Explicit Explicit = Equal
+mode_cmp Explicit Implicit = Less
+mode_cmp Implicit Explicit = Greater
+mode_cmp Implicit Implicit = Equal
 
 -- Two tagged values are of one form: of one mode, and their values are of one form; under implicit tagging with one tag of their own, which is not encoded.
 pub record OneTaggedForm {T : Type 0} (alike : T → T → Type 0) (tag_of : T → Tag) (mode other : TagMode) (v w : T) : Type 0 where

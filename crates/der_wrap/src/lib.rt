@@ -3,6 +3,7 @@
 
 mod class_tag;
 mod field;
+pub mod laws;
 mod tagged_value;
 mod tagged_value_ref;
 

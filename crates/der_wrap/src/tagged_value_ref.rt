@@ -2,12 +2,12 @@
 //!
 //! Their encodings are those of the owned form.
 
-ghost use Rattle.std.specs.Prelude.{◌≡◌, true, refl};
+ghost use Rattle.std.specs.Prelude.{◌≡◌, true, Some, refl};
 ghost use Rattle.der_tlv.specs.declared.tag.mode.TagMode.TheVariants.{Explicit};
 ghost use Rattle.der_tlv.specs.HeaderOctets.{tlv};
 ghost use Rattle.der_wrap.specs.ClassTags.{class_tag, in_class};
 ghost use Rattle.der_wrap.specs.TaggedValues.{tag_of_mode, contents_of_mode, OneTaggedForm, one_encoding, accepts_one_encoding, parse_explicit, AcceptsExplicit, ReadableExplicit};
-ghost use Rattle.der_wrap.specs.TaggedValueLaws.{parse_of_one_encoding, same_length_one_encoding, accepts_own_encoding, parse_of_explicit, begins_explicit, same_length_explicit, accepts_explicit_encoding, readable_explicit, one_explicit_form};
+ghost use Rattle.der_wrap.specs.TaggedValueLaws.{parse_of_one_encoding, same_length_one_encoding, accepts_own_encoding, parse_of_explicit, begins_explicit, led_explicit, tag_of_mode-class, same_length_explicit, accepts_explicit_encoding, readable_explicit, one_explicit_form};
 
 use crate::class_tag::class_tag;
 use der_elem::{Encode, EncodeValue, Form, FormValue, Tagged};
@@ -67,6 +67,8 @@ impl<'a, T: Tagged, const CLASS: u8> Form for TaggedValueRef<'a, T, CLASS> {
 
     ghost tags = { in_class CLASS };
 
+    ghost lead = { λ v. Some (tag_of_mode CLASS v.tag_mode v.tag_number.0 (T.tag_of v.value.now)) };
+
     ghost readable = { λ v. ReadableExplicit T.readable v.tag_number.0 v.tag_mode v.value.now };
 
     ghost TAKES_MEMORY = { T.TAKES_MEMORY };
@@ -74,6 +76,8 @@ impl<'a, T: Tagged, const CLASS: u8> Form for TaggedValueRef<'a, T, CLASS> {
     ghost parse_of_accepted = { λ rules v. parse_of_explicit T.Form CLASS v.tag_number.0 v.tag_mode v.value.now (T.tag_of v.value.now) (T.contents v.value.now) rules };
 
     ghost begins = { λ rules v. begins_explicit T.Form CLASS v.tag_number.0 v.tag_mode v.value.now (T.tag_of v.value.now) (T.contents v.value.now) rules };
+
+    ghost led = { λ rules v. led_explicit T.Form CLASS v.tag_number.0 v.tag_mode v.value.now (T.tag_of v.value.now) (T.contents v.value.now) rules };
 
     ghost same_length = { λ rules v. same_length_explicit T.Form CLASS v.tag_number.0 v.tag_mode v.value.now (T.tag_of v.value.now) (T.contents v.value.now) rules };
 
@@ -100,6 +104,10 @@ impl<'a, T: Tagged, const CLASS: u8> Tagged for TaggedValueRef<'a, T, CLASS> {
     ghost encoding_is = { λ v. refl };
 
     ghost accepted_is_tlv = { λ rules v b a. record { tag = class_tag CLASS true v.tag_number.0; contents = a.inner; octets_are = a.octets_are } };
+
+    ghost own_tag = { λ v. tag_of_mode-class CLASS v.tag_mode v.tag_number.0 (T.tag_of v.value.now) };
+
+    ghost lead_is = { λ v. refl };
 
     ghost re_reads_alike = { λ v h. h };
 

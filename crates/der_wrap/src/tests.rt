@@ -2,7 +2,7 @@
 
 use crate::{
     Application, ApplicationRef, ContextSpecific, ContextSpecificRef, Private, PrivateRef,
-    TaggedValue,
+    TaggedValue, laws,
 };
 use der_elem::{
     Choice, Decode, DerOrd, Duplicate, Encode, EncodingEq, FromDer, Tagged, TakesMemory, ValueOrd,
@@ -350,4 +350,27 @@ fn knows_tags(rt: HostRuntime) {
     assert!(rt; !Private::<u8>::can_decode(Tag::Integer));
     assert!(rt; !ContextSpecific::<u8>::TAKES_MEMORY);
     assert!(rt; Application::<Vec<u8>>::TAKES_MEMORY);
+}
+
+#[test]
+fn the_mode_is_compared_before_the_value(rt: HostRuntime) {
+    let explicit: ContextSpecific<u8> = tagged(1, TagMode::Explicit, 5);
+    let implicit: ContextSpecific<u8> = tagged(1, TagMode::Implicit, 4);
+    assert_eq!(rt;
+        laws::number_then_mode_then_value(&explicit, &implicit),
+        Ordering::Less
+    );
+    let (five, four) = (5u8, 4u8);
+    let explicit: ContextSpecificRef<u8> = ContextSpecificRef {
+        tag_number: TagNumber(1),
+        tag_mode: TagMode::Explicit,
+        value: &five,
+    };
+    let implicit: ContextSpecificRef<u8> = ContextSpecificRef {
+        tag_number: TagNumber(1),
+        tag_mode: TagMode::Implicit,
+        value: &four,
+    };
+    let order = laws::borrowed_number_then_mode_then_value(&explicit, &implicit);
+    assert_eq!(rt; order, Ordering::Less);
 }

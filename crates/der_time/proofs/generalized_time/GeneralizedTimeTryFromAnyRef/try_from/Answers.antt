@@ -6,5 +6,5 @@ pub returns-in-Err : goal.returns-in-Err
 returns-in-Err c =
     inr (record {
       fault = search rules;
-      nothing = λ allowed w own. generalized_refused w.date_time _ _ c.in-Err.ensures (c.value.ensures ∙ own);
+      nothing = λ allowed w own. generalized_refused w.date_time _ _ c.in-Err.ensures (c.value.ensures ∙ own.0);
     })
