@@ -10,3 +10,4 @@ pub mod BorrowedReading
 pub mod BorrowedWriting
 pub mod BorrowedOrder
 pub mod BorrowedOwning
+pub mod MergingRuns

@@ -18,3 +18,14 @@ pub mod Found
 pub mod BorrowedItems
 pub mod FindingNext
 pub mod ComparingBorrowed
+pub mod Stable
+pub mod StableLaws
+pub use Rattle.der_elem.specs.Decoding
+pub use Rattle.der_elem.specs.Encoding
+pub use Rattle.der_elem.specs.Items
+pub use Rattle.der_opaque.specs.Opaque
+pub use Rattle.der_tlv.specs.Octets
+pub use Rattle.der_tlv.specs.Views
+pub use Rattle.der_tlv.specs.declared.encoding_rules.EncodingRules
+pub use Rattle.der_tlv.specs.declared.error.ErrorKind
+pub use Rattle.der_tlv.specs.declared.tag.Tag

@@ -5,6 +5,7 @@ mod comparing;
 mod finding;
 mod items;
 pub mod laws;
+mod merging;
 mod probe;
 mod sequence_of;
 mod sequence_ref;

@@ -2,15 +2,17 @@
 //!
 //! The tag is 30. Any octets are taken.
 
-ghost use Rattle.std.specs.Prelude.{◌≡◌, ◌↔◌, ◌^◌, ◌<◌, ℕ, List, [], length, false, refl, IsTrue};
-ghost use Rattle.std.proofs.Common.{Ok, ap, sym, lit<};
+ghost use Rattle.std.specs.Prelude.{◌≡◌, ◌^◌, ◌<◌, length, refl};
+ghost use Rattle.std.proofs.Common.{Ok};
 ghost use Rattle.std.specs.Cmp.Lexicographic.{bytes_decides};
 ghost use Rattle.der_tlv.specs.declared.tag.Tag.TheVariants as tags;
-ghost use Rattle.der_opaque.specs.Opaque.{accepts_octets, parse_octets, KeepsOctets};
+ghost use Rattle.der_opaque.specs.Opaque.{parse_octets, KeepsOctets};
+ghost use Rattle.der_elem.specs.OwnContents.{accepts_within};
+ghost use Rattle.der_elem.specs.OwnContentsLaws.{parse_of_within, same_length_within, accepts_contents_within, only_within};
 
 use der_elem::{
-    ContentsEq, DecodeValue, DuplicateValue, EncodeValue, FormValue, OneTag, Sequence, SequenceTag,
-    ValueMemory, WithoutMemory,
+    ContentsEq, CopyIsDuplicate, DecodeValue, EncodeValue, FormValue, OneTag, Sequence,
+    SequenceTag, ValueMemory, WithoutMemory,
 };
 use der_tlv::{Error, Header, Length, Reader, Tag, Writer};
 use std::alloc::Global;
@@ -49,27 +51,17 @@ impl<'a> SequenceRef<'a> {
 impl<'a> FormValue for SequenceRef<'a> {
     ghost contents = { λ v. v.octets.now };
 
-    ghost one_form_value = { λ v w. Unit {0} };
-
-    ghost re_reads_value = { λ v. false };
-
-    ghost accepts_value = { accepts_octets (λ v. v.octets.now) };
+    ghost accepts_value = { accepts_within (λ v. v.octets.now) (λ v. Unit {0}) };
 
     ghost parse_value = { parse_octets };
 
-    ghost readable_value = { λ v. Unit {0} };
+    ghost parse_of_accepted_value = { parse_of_within (λ v. v.octets.now) (λ v. Unit {0}) parse_octets (λ rules v p r. refl) };
 
-    ghost has_tag = { λ v t. Unit {0} };
+    ghost same_length_value = { same_length_within (λ v. v.octets.now) (λ v. Unit {0}) };
 
-    ghost VALUE_TAKES_MEMORY = { false };
+    ghost accepts_contents = { accepts_contents_within (λ v. v.octets.now) (λ v. Unit {0}) };
 
-    ghost parse_of_accepted_value = { λ rules v p c a fits. ap Ok a };
-
-    ghost same_length_value = { λ rules v c a. ap length (sym a) };
-
-    ghost accepts_contents = { λ rules v r. refl };
-
-    ghost only_readable_value = { λ rules v c a. tt };
+    ghost only_readable_value = { only_within (λ v. v.octets.now) (λ v. Unit {0}) };
 
     ghost accepts_one_form_value = { λ rules v w c d a b. tt };
 
@@ -115,18 +107,4 @@ impl<'a> ContentsEq for SequenceRef<'a> {
     ghost contents_eq = { λ v w one. bytes_decides v.octets.now w.octets.now };
 }
 
-impl<'a> DuplicateValue for SequenceRef<'a> {
-    ghost is_copy_value = { λ v w. w.octets.now ≡ v.octets.now };
-
-    ghost takes_memory_to_copy_value = { false };
-
-    fn duplicate_value(&self) -> Result<SequenceRef<'a>, Error> {
-        Ok(*self)
-    }
-
-    ghost copy_contents = { λ v w e. e };
-
-    ghost copy_form_value = { λ v w x e f. tt };
-
-    ghost copy_re_reads_value = { λ v w e. refl };
-}
+impl<'a> CopyIsDuplicate for SequenceRef<'a> {}

@@ -8,7 +8,7 @@
 //! are read by a reader of the contents octets alone, from position 0 on, under DER. They are read
 //! again by each call that gives, writes or compares them.
 
-ghost use Rattle.std.specs.Prelude.{⊤, ◌≡◌, length, false, refl, ◌==◌, IfOk, IfErr};
+ghost use Rattle.std.specs.Prelude.{⊤, ◌≡◌, length, false, ◌==◌, IfOk, IfErr};
 ghost use Rattle.std.proofs.Common.{ap, subst, sym};
 ghost use Rattle.std.specs.List.Sorted.{IsSorted};
 ghost use Rattle.der_tlv.specs.Octets.{lex};
@@ -215,8 +215,6 @@ impl<'a, T: Form> FormValue for SetOfRef<'a, T> {
     ghost parse_value = { parse_borrowed T.parse };
 
     ghost readable_value = { ReadableBorrowed T.Form };
-
-    ghost has_tag = { λ v t. Unit {0} };
 
     ghost VALUE_TAKES_MEMORY = { T.TAKES_MEMORY };
 

@@ -11,6 +11,7 @@ use std::test::Fail;
 
 mod borrowed;
 mod counting;
+mod history;
 mod many;
 
 // The number of a refusal.

@@ -1,10 +1,11 @@
 //! How many comparisons insertions make.
 
 use crate::SetOfVec;
+use crate::merging::Runs;
 use crate::tests::numbered;
 use der_elem::{DerOrd, Form};
 use der_tlv::Error;
-use std::alloc::Global;
+use std::alloc::{AllocError, Global};
 use std::cell::Cell;
 use std::cmp::Ordering;
 use std::process::Abort;
@@ -30,6 +31,8 @@ impl<'a, T: Form> Form for Counted<'a, T> {
 
     ghost tags = { T.tags };
 
+    ghost lead = { λ v. T.lead v.value };
+
     ghost readable = { λ v. T.readable v.value };
 
     ghost TAKES_MEMORY = { T.TAKES_MEMORY };
@@ -37,6 +40,8 @@ impl<'a, T: Form> Form for Counted<'a, T> {
     ghost parse_of_accepted = { λ rules v. T.parse_of_accepted rules v.value };
 
     ghost begins = { λ rules v. T.begins rules v.value };
+
+    ghost led = { λ rules v. T.led rules v.value };
 
     ghost same_length = { λ rules v. T.same_length rules v.value };
 
@@ -73,10 +78,46 @@ fn inserts<T: DerOrd>(
     Ok(())
 }
 
-// How many items there are when they were put into one set.
-fn collected<T: DerOrd>(alloc: Global, items: Vec<T>) -> Result<usize, u8> {
-    let set = numbered(SetOfVec::from_iter(alloc, items))?;
-    Ok(set.len())
+// The numbers from 1 to 4000, of which each is the one before it, times a factor, and a step on,
+// over 4001, which is prime.
+fn series<'a>(
+    alloc: Global,
+    comparisons: &'a Cell<u32>,
+    factor: u32,
+    step: u32,
+) -> Result<Vec<Counted<'a, u32>>, AllocError> {
+    let mut items = Vec::new(alloc);
+    let mut value = if step == 0 { 1 } else { 0 };
+    for _i in 0..4000u16 {
+        value = (value % 4001 * (factor % 4001) + step % 4001) % 4001;
+        items.push(Counted { value, comparisons })?;
+    }
+    Ok(items)
+}
+
+// How many comparisons a reading makes.
+fn read<T: DerOrd>(alloc: Global, items: Vec<T>, comparisons: &Cell<u32>) -> Result<u32, u8> {
+    comparisons.set(0);
+    let mut runs = Runs::new(alloc);
+    for item in items {
+        numbered(runs.add(item))?;
+    }
+    numbered(runs.merge())?;
+    Ok(comparisons.get())
+}
+
+// How many comparisons make a set of an iterator's items.
+fn collected<T: DerOrd>(alloc: Global, items: Vec<T>, comparisons: &Cell<u32>) -> Result<u32, u8> {
+    comparisons.set(0);
+    numbered(SetOfVec::from_iter(alloc, items))?;
+    Ok(comparisons.get())
+}
+
+// How many comparisons make a set of a vector.
+fn sorted<T: DerOrd>(items: Vec<T>, comparisons: &Cell<u32>) -> Result<u32, u8> {
+    comparisons.set(0);
+    numbered(SetOfVec::try_from(items))?;
+    Ok(comparisons.get())
 }
 
 #[test]
@@ -95,19 +136,32 @@ fn an_insertion_compares_as_often_as_the_number_of_items_has_digits(
     Ok(())
 }
 
+// What three ways to put 4000 numbers into a set compare.
+fn three_ways(alloc: Global, factor: u32, step: u32) -> Result<[u32; 3], Fail> {
+    let comparisons = Cell::new(0);
+    let items = series(alloc, &comparisons, factor, step)?;
+    let first = read(alloc, items, &comparisons)?;
+    let items = series(alloc, &comparisons, factor, step)?;
+    let second = collected(alloc, items, &comparisons)?;
+    let items = series(alloc, &comparisons, factor, step)?;
+    let third = sorted(items, &comparisons)?;
+    Ok([first, second, third])
+}
+
 #[test]
-fn falling_items_are_compared_as_often_as_their_numbers_have_digits(
+fn rising_items_are_compared_once_each(rt: HostRuntime) -> Result<(), Fail> {
+    let counts = three_ways(rt.alloc(), 1, 1)?;
+    assert_eq!(rt; counts, [3999, 3999, 3999]);
+    Ok(())
+}
+
+#[test]
+fn other_items_are_compared_as_often_as_their_numbers_have_digits(
     rt: HostRuntime,
 ) -> Result<(), Fail> {
-    let comparisons = Cell::new(0);
-    let mut items = Vec::new(rt.alloc());
-    for i in 0..4000u16 {
-        items.push(Counted {
-            value: 3999 - i,
-            comparisons: &comparisons,
-        })?;
-    }
-    assert_eq!(rt; collected(rt.alloc(), items)?, 4000);
-    assert!(rt; comparisons.get() <= 43905);
+    let falling = three_ways(rt.alloc(), 1, 4000)?;
+    assert_eq!(rt; falling, [38654, 47904, 47904]);
+    let scattered = three_ways(rt.alloc(), 3, 0)?;
+    assert_eq!(rt; scattered, [49471, 46289, 46289]);
     Ok(())
 }
