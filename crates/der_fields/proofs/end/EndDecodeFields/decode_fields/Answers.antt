@@ -1,0 +1,14 @@
+use Rattle.std.proofs.Common.{inr, ap}
+use Rattle.der_elem.proofs.ItemReading.{more_left}
+use Rattle.der_fields.proofs.FieldReading.{end_left}
+use Rattle.der_fields.proofs.end.EndDecodeFields.decode_fields.Goals as goal
+
+pub returns : goal.returns
+returns g c =
+    let old = g.R.Reader.state c.args.reader.now in
+    let some = more_left _ _ c.is_finished.ensures c.if-is_finished.false in
+    let ready = c.in_ok-ask_ready.ensures.0 in
+    record {
+      reason = inr (end_left old (g.R.Reader.state c.ask_ready.new.reader) c.error.result.kind c.position-decoded.result c.remaining_len-remaining.result c.is_sound.ensures ready c.in_ok-ask_ready.ensures.1 some c.position-decoded.ensures c.remaining_len-remaining.ensures c.error.ensures.kind);
+      failed = ap (λ s. s.failed) c.error.ensures.failed;
+    }

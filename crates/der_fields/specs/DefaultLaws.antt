@@ -1,0 +1,158 @@
+-- The laws of fields with a DEFAULT, from those of the values.
+use Rattle.std.proofs.Common.{◌≡◌, ℕ, List, [], ◌∷◌, ◌++◌, length, Bool, true, false, nat_eq, Option, Some, None, Ok, refl, sym, ap, ◌∙◌, arith, append_assoc, subst, not, eq-eqb, IsTrue, ◌↔◌}
+use borrow.Author.Tests.{eqb-true}
+use Rattle.std.proofs.lemmas.List.{append-nil}
+use Rattle.std.specs.declared.cmp.Ordering.TheVariants.{Less, Greater}
+use Rattle.std.specs.Cmp.Lexicographic.{pointwise, bytes_decides}
+use Rattle.der_tlv.specs.declared.encoding_rules.EncodingRules.{EncodingRules}
+use Rattle.der_tlv.specs.declared.tag.Tag.{Tag}
+use Rattle.der_tlv.specs.declared.tag.Tag.TheVariants.{Boolean, Integer}
+use Rattle.der_tlv.specs.Octets.{lex}
+use Rattle.der_tlv.specs.Identifier.{identifier}
+use Rattle.der_tlv.specs.HeaderReading.{read_tag}
+use Rattle.der_tlv.specs.HeaderOctets.{tlv}
+use Rattle.der_tlv.specs.HeaderLaws.{tlv-injective}
+use Rattle.der_tlv.specs.OctetLaws.{SameBeginning}
+use Rattle.der_tlv.specs.TagReadingLaws.{read_tag-identifier}
+use Rattle.der_elem.specs.Boolean.{boolean_contents, boolean_contents-injective}
+use Rattle.der_elem.specs.Integer.{natural_contents}
+use Rattle.der_elem.specs.IntegerLaws.{natural_contents-injective}
+use Rattle.der_elem.specs.declared.form.Form as form
+use Rattle.der_elem.specs.Accepting.{Fits, BeginsWith, MayFollow}
+use Rattle.der_elem.specs.Leading.{Leads, Starts, SameLeads}
+use Rattle.der_elem.specs.LeadingLaws.{starts_tagged, own_lead_tagged, beginning_tagged}
+use Rattle.der_elem.specs.OrderLaws.{encoding-some, lex-absent-present, lex-present-absent}
+use Rattle.der_elem.specs.ItemLaws.{no_octets}
+use Rattle.der_fields.specs.Defaults.{is_default, octets_unless, lead_unless, test_unless, accepts_unless, refuse_default, parse_default}
+
+unless_true : (b : Bool) → (b ≡ true → ⊥) → b ≡ false
+unless_true true h = absurd (h refl)
+unless_true false h = refl
+
+-- the default's encoding is told from every other
+default_refused : (default octets : List ℕ) → octets ≡ default → pointwise nat_eq octets default ≡ true
+default_refused default octets e = (bytes_decides octets default).1 e
+
+is_the_default : (default octets : List ℕ) → pointwise nat_eq octets default ≡ true → octets ≡ default
+is_the_default default octets e = (bytes_decides octets default).0 e
+
+other_passes : (default octets : List ℕ) (n : ℕ) (tag : Tag) → (octets ≡ default → ⊥) → refuse_default default tag (Ok (n, octets)) ≡ Ok (n, octets)
+other_passes default octets n tag h =
+    let differs : pointwise nat_eq octets default ≡ false = unless_true (pointwise nat_eq octets default) (λ e. h (is_the_default default octets e)) in
+    rw differs refl
+
+-- a test that holds exactly where octets are the default's
+told_default : (default octets : List ℕ) (test : Bool) → (test ≡ true → octets ≡ default) → (octets ≡ default → test ≡ true) → test ≡ is_default default octets
+told_default default octets true f g = sym (default_refused default octets (f refl))
+told_default default octets false f g = sym (unless_true (pointwise nat_eq octets default) (λ e. let h = g (is_the_default default octets e) in absurd (cc)))
+
+-- an explicit tag stands around the default's encoding
+pub explicit_default : (t : Tag) (default octets : List ℕ) → is_default default octets ≡ is_default (tlv t default) (tlv t (octets ++ []))
+explicit_default t default octets =
+    told_default (tlv t default) (tlv t (octets ++ [])) (is_default default octets) (λ h. ap (tlv t) (append-nil octets ∙ is_the_default default octets h)) (λ e. default_refused default octets (sym (append-nil octets) ∙ (tlv-injective t t (octets ++ []) default e).1))
+
+-- no other BOOLEAN is encoded as false is
+pub false_default : (v : Bool) → not v ≡ is_default (tlv Boolean (boolean_contents false)) (tlv Boolean (boolean_contents v))
+false_default false = told_default (tlv Boolean (boolean_contents false)) (tlv Boolean (boolean_contents false)) true (λ h. refl) (λ e. refl)
+false_default true = told_default (tlv Boolean (boolean_contents false)) (tlv Boolean (boolean_contents true)) false (λ h. absurd (cc)) (λ e. let same = boolean_contents-injective true false (tlv-injective Boolean Boolean (boolean_contents true) (boolean_contents false) e).1 in sym same)
+
+-- no other number is encoded as the default is
+pub number_default : (n v : ℕ) → nat_eq v n ≡ is_default (tlv Integer (natural_contents n)) (tlv Integer (natural_contents v))
+number_default n v =
+    told_default (tlv Integer (natural_contents n)) (tlv Integer (natural_contents v)) (nat_eq v n) (λ h. ap (λ v. tlv Integer (natural_contents v)) (eqb-true v n h)) (λ e. eq-eqb v n (natural_contents-injective v n (tlv-injective Integer Integer (natural_contents v) (natural_contents n) e).1))
+
+module _ {T : Type 0} (F : form.Ghosts T) (default : List ℕ) (rules : EncodingRules) where
+  absent : (p z : ℕ) (x : List ℕ) → BeginsWith F.tags false (z ∷ x) → parse_default F.tags default F.parse rules p (z ∷ x) ≡ Ok (0, [])
+  absent p z x h =
+      let tag : read_tag p (z ∷ x) ≡ Ok (length (identifier h.tag), h.tag) = ap (read_tag p) h.octets_are ∙ read_tag-identifier h.tag p h.others h.is_tag in
+      rw (tag, h.is_one) refl
+
+  parse_at : (k : Bool) (v : T) → is_default default (F.encoding v) ≡ k → (p : ℕ) (b x : List ℕ) → accepts_unless k (F.readable v) (F.accepts rules v) b → Fits b → MayFollow F.tags b x → parse_default F.tags default F.parse rules p (b ++ x) ≡ Ok (length b, octets_unless k (F.encoding v))
+  parse_at true v e p [] [] a fits follows = refl
+  parse_at true v e p [] (z ∷ x) a fits follows = absent p z x follows
+  parse_at true v e p (z ∷ b) x a fits follows = let none = a.0 in absurd (cc)
+  parse_at false v e p [] [] a fits follows = ap (λ s. Ok (0, s)) (sym (no_octets (F.encoding v) (F.same_length rules v [] a)))
+  parse_at false v e p [] (z ∷ x) a fits follows = absent p z x follows ∙ ap (λ s. Ok (0, s)) (sym (no_octets (F.encoding v) (F.same_length rules v [] a)))
+  parse_at false v e p (z ∷ b) x a fits follows =
+      let h = F.begins rules v z b a in
+      let whole : z ∷ (b ++ x) ≡ identifier h.tag ++ (h.others ++ x) = ap (λ o. o ++ x) h.octets_are ∙ append_assoc (identifier h.tag) h.others x in
+      let tag : read_tag p (z ∷ (b ++ x)) ≡ Ok (length (identifier h.tag), h.tag) = ap (read_tag p) whole ∙ read_tag-identifier h.tag p (h.others ++ x) h.is_tag in
+      let other : F.encoding v ≡ default → ⊥ = λ s. let t = default_refused default (F.encoding v) s in (cc) in
+      rw (tag, h.is_one) (ap (refuse_default default h.tag) (F.parse_of_accepted rules v p (z ∷ b) x a fits tt) ∙ other_passes default (F.encoding v) (length (z ∷ b)) h.tag other)
+
+  pub parse_of_default : (v : T) (p : ℕ) (b x : List ℕ) → accepts_unless (is_default default (F.encoding v)) (F.readable v) (F.accepts rules v) b → Fits b → MayFollow F.tags b x → parse_default F.tags default F.parse rules p (b ++ x) ≡ Ok (length b, octets_unless (is_default default (F.encoding v)) (F.encoding v))
+  parse_of_default v = parse_at (is_default default (F.encoding v)) v refl
+
+module _ {T : Type 0} (F : form.Ghosts T) (rules : EncodingRules) where
+  pub begins_default : (k : Bool) (v : T) (z : ℕ) (b : List ℕ) → accepts_unless k (F.readable v) (F.accepts rules v) (z ∷ b) → BeginsWith F.tags true (z ∷ b)
+  begins_default true v z b a = let none = a.0 in absurd (cc)
+  begins_default false v z b a = F.begins rules v z b a
+
+  pub led_default : (k : Bool) (v : T) (b : List ℕ) → accepts_unless k (F.readable v) (F.accepts rules v) b → Leads (lead_unless k (F.lead v)) b
+  led_default true v b a = a.0
+  led_default false v b a = F.led rules v b a
+
+  pub same_length_default : (k : Bool) (v : T) (b : List ℕ) → accepts_unless k (F.readable v) (F.accepts rules v) b → length (octets_unless k (F.encoding v)) ≡ length b
+  same_length_default true v b a = ap length (sym a.0)
+  same_length_default false v b a = F.same_length rules v b a
+
+  pub accepts_default : (k : Bool) (v : T) → F.readable v → accepts_unless k (F.readable v) (F.accepts rules v) (octets_unless k (F.encoding v))
+  accepts_default true v r = (refl, r)
+  accepts_default false v r = F.accepts_encoding rules v r
+
+  pub readable_default : (k : Bool) (v : T) (b : List ℕ) → accepts_unless k (F.readable v) (F.accepts rules v) b → F.readable v
+  readable_default true v b a = a.1
+  readable_default false v b a = F.only_readable rules v b a
+
+  pub one_form_default : (k l : Bool) (v w : T) (b c : List ℕ) → accepts_unless k (F.readable v) (F.accepts rules v) b → accepts_unless l (F.readable w) (F.accepts rules w) c → F.one_form v w
+  one_form_default k l v w b c a e =
+      F.accepts_one_form rules v w (F.encoding v) (F.encoding w) (F.accepts_encoding rules v (readable_default k v b a)) (F.accepts_encoding rules w (readable_default l w c e))
+
+module _ {T : Type 0} (F : form.Ghosts T) where
+  pub re_reads_default : (k : Bool) (v : T) → test_unless k (F.re_reads v) ≡ true → F.TAKES_MEMORY ≡ true
+  re_reads_default true v h = absurd (cc)
+  re_reads_default false v h = F.re_reads_memory v h
+
+-- the first tag of a field that is there is one of its own
+pub own_lead_default : (tags : Tag → Bool) (own : Tag) → tags own ≡ true → (lead : Option Tag) → lead ≡ Some own → (k : Bool) (t : Tag) → lead_unless k lead ≡ Some t → tags t ≡ true
+own_lead_default tags own is lead e true t f = absurd (cc)
+own_lead_default tags own is lead e false t f = own_lead_tagged tags own is lead e t f
+
+module _ {T : Type 0} (tag_of : T → Tag) (contents encoding : T → List ℕ) (encoding_is : (v : T) → encoding v ≡ tlv (tag_of v) (contents v)) where
+  pub starts_default : (v : T) (lead : Option Tag) → lead ≡ Some (tag_of v) → (k : Bool) → Starts (lead_unless k lead) (octets_unless k (encoding v))
+  starts_default v lead e true = refl
+  starts_default v lead e false = starts_tagged tag_of contents encoding encoding_is v lead e
+
+  pub beginning_default : (lead : T → Option Tag) (lead_is : (v : T) → lead v ≡ Some (tag_of v)) (k l : Bool) (v w : T) → SameLeads (lead_unless k (lead v)) (lead_unless l (lead w)) → SameBeginning (octets_unless k (encoding v)) (octets_unless l (encoding w))
+  beginning_default lead lead_is true true v w h = record { same = λ x y e. refl }
+  beginning_default lead lead_is false false v w h = beginning_tagged tag_of contents encoding encoding_is v w
+  beginning_default lead lead_is true false v w h = absurd (subst (SameLeads None) (lead_is w) h)
+  beginning_default lead lead_is false true v w h = absurd (subst (λ l. SameLeads l None) (lead_is v) h)
+
+  -- no octets are before some
+  pub absent_first : (v w : T) (k l : Bool) → k ≡ true → l ≡ false → Less ≡ lex (octets_unless k (encoding v)) (octets_unless l (encoding w))
+  absent_first v w true false e f = sym (lex-absent-present tag_of contents encoding encoding_is w)
+  absent_first v w true true e f = absurd (cc)
+  absent_first v w false l e f = absurd (cc)
+
+  pub absent_second : (v w : T) (k l : Bool) → k ≡ false → l ≡ true → Greater ≡ lex (octets_unless k (encoding v)) (octets_unless l (encoding w))
+  absent_second v w false true e f = sym (lex-present-absent tag_of contents encoding encoding_is v)
+  absent_second v w false false e f = absurd (cc)
+  absent_second v w true l e f = absurd (cc)
+
+  module _ (one_form : T → T → Type 0) (eq : T → T → Bool) (encoding_eq : (v w : T) → one_form v w → IsTrue (eq v w) ↔ (encoding v ≡ encoding w)) (default : List ℕ) where
+    eq_at : (k l : Bool) (v w : T) → is_default default (encoding v) ≡ k → is_default default (encoding w) ≡ l → one_form v w → IsTrue (eq v w) ↔ (octets_unless k (encoding v) ≡ octets_unless l (encoding w))
+    eq_at true true v w i j one = (λ h. refl, λ e. (encoding_eq v w one).1 (is_the_default default (encoding v) i ∙ sym (is_the_default default (encoding w) j)))
+    eq_at false false v w i j one = encoding_eq v w one
+    eq_at true false v w i j one = (
+      (λ h. let same = default_refused default (encoding w) (sym ((encoding_eq v w one).0 h) ∙ is_the_default default (encoding v) i) in absurd (cc)),
+      (λ e. let some = encoding-some tag_of contents encoding encoding_is w in absurd (omega (arith, ap length e))),
+    )
+    eq_at false true v w i j one = (
+      (λ h. let same = default_refused default (encoding v) ((encoding_eq v w one).0 h ∙ is_the_default default (encoding w) j) in absurd (cc)),
+      (λ e. let some = encoding-some tag_of contents encoding encoding_is v in absurd (omega (arith, ap length e))),
+    )
+
+    -- values are equal exactly where the fields' octets are
+    pub encoding_eq_default : (v w : T) → one_form v w → IsTrue (eq v w) ↔ (octets_unless (is_default default (encoding v)) (encoding v) ≡ octets_unless (is_default default (encoding w)) (encoding w))
+    encoding_eq_default v w = eq_at (is_default default (encoding v)) (is_default default (encoding w)) v w refl refl

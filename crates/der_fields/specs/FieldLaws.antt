@@ -1,0 +1,101 @@
+-- The laws of a field and those behind it, from theirs.
+use Rattle.std.proofs.Common.{◌≡◌, ℕ, ◌+◌, ◌<◌, List, [], ◌∷◌, ◌++◌, length, Bool, true, false, ◌||◌, Option, Some, None, Ok, refl, sym, ap, ◌∙◌, arith, append_assoc, subst}
+use Rattle.std.proofs.lemmas.List.{length-append}
+use Rattle.std.proofs.Math.Seq.{drop-append_seam}
+use Rattle.der_tlv.specs.declared.encoding_rules.EncodingRules.{EncodingRules}
+use Rattle.der_tlv.specs.declared.tag.Tag.{Tag}
+use Rattle.der_tlv.specs.Identifier.{identifier}
+use Rattle.der_tlv.specs.IdentifierLaws.{length-identifier-positive}
+use Rattle.der_elem.specs.declared.form.Form as form
+use Rattle.der_elem.specs.Items.{join_items}
+use Rattle.der_elem.specs.Parsing.{Parse, ContentsParse}
+use Rattle.der_elem.specs.Accepting.{Fits, BeginsWith, MayFollow}
+use Rattle.der_elem.specs.Leading.{LeadsTag, Leads}
+use Rattle.der_fields.specs.declared.field_list.FieldList as fields
+use Rattle.der_fields.specs.FieldLists.{Apart, first_of, AcceptsField, behind_field, parse_field}
+
+-- what follows octets that are some is told from them
+pub follows_some : (tags : Tag → Bool) (b x : List ℕ) → 0 < length b → MayFollow tags b x
+follows_some tags [] x h = absurd (omega arith)
+follows_some tags (z ∷ b) x h = tt
+
+-- octets that begin with a tag are some
+pub led_some : {t : Tag} {b : List ℕ} → LeadsTag t b → 0 < length b
+led_some {t} {b} l = omega (arith, ap length l.octets_are, length-append (identifier t) l.others, length-identifier-positive t)
+
+pub left_part : (a b : Bool) → a ≡ true → (a || b) ≡ true
+left_part a b e = ap (λ a. a || b) e
+
+pub right_part : (a b : Bool) → b ≡ true → (a || b) ≡ true
+right_part true b e = refl
+right_part false b e = e
+
+pub either_part : (a b c d : Bool) → (a ≡ true → c ≡ true) → (b ≡ true → d ≡ true) → (a || b) ≡ true → (c || d) ≡ true
+either_part true b c d f g e = left_part c d (f refl)
+either_part false b c d f g e = right_part c d (g e)
+
+-- a front that is parsed, and then the others
+pub parse_both : (first : Parse) (rest : ContentsParse) (rules : EncodingRules) (p : ℕ) (c x y d e : List ℕ) → c ≡ x ++ y → first rules p (x ++ y) ≡ Ok (length x, d) → rest rules (p + length x) y ≡ Ok e → parse_field first rest rules p c ≡ Ok (d ++ e)
+parse_both first rest rules p c x y d e whole one others =
+    ap (parse_field first rest rules p) whole
+    ∙ ap (behind_field (rest rules) p (x ++ y)) one
+    ∙ ap (λ o. join_items d (rest rules (p + length x) o)) (drop-append_seam x y)
+    ∙ ap (join_items d) others
+
+pub same_lengths : (a b c x y : List ℕ) → c ≡ x ++ y → length a ≡ length x → length b ≡ length y → length (a ++ b) ≡ length c
+same_lengths a b c x y whole first rest = omega (arith, length-append a b, length-append x y, ap length whole)
+
+-- octets that begin with a tag that is none of these
+begins_other : (tags : Tag → Bool) {t : Tag} {x : List ℕ} → LeadsTag t x → tags t ≡ false → BeginsWith tags false x
+begins_other tags {t} {x} l e = record { tag = t; others = l.others; octets_are = l.octets_are; is_tag = l.is_tag; is_one = e }
+
+-- where a field is told from what follows, its octets are
+follows : (tags : Tag → Bool) (lead next : Option Tag) (b x : List ℕ) → Leads lead b → Leads next x → Apart tags lead next → MayFollow tags b x
+follows tags (Some t) next b x k l h = follows_some tags b x (led_some k)
+follows tags None next (z ∷ b) x k l h = tt
+follows tags None None [] [] k l h = tt
+follows tags None None [] (z ∷ x) k l h = absurd (cc)
+follows tags None (Some t) [] [] k l h = tt
+follows tags None (Some t) [] (z ∷ x) k l h = begins_other tags l h
+
+led_both : (lead next : Option Tag) (c x y : List ℕ) → c ≡ x ++ y → Leads lead x → Leads next y → Leads (first_of lead next) c
+led_both None next c x y e k l = subst (Leads next) (sym (e ∙ ap (λ x. x ++ y) k)) l
+led_both (Some t) next c x y e k l =
+    record { others = k.others ++ y; octets_are = e ∙ ap (λ o. o ++ y) k.octets_are ∙ append_assoc (identifier t) k.others y; is_tag = k.is_tag }
+
+module _ {T U : Type 0} (F : form.Ghosts T) (G : fields.Ghosts U) (rules : EncodingRules) where
+  pub parse_of_field : (v : T) (w : U) (p : ℕ) (c : List ℕ) → AcceptsField F.tags (F.lead v) (G.first_tag w) (F.accepts rules) (G.accepts_fields rules) v w c → Fits c → parse_field F.parse G.parse_fields rules p c ≡ Ok (F.encoding v ++ G.joined w)
+  parse_of_field v w p c a fits =
+      let x = a.front in
+      let y = a.others in
+      let long = length-append x y in
+      let whole = ap length a.octets_are in
+      let first_fits : Fits x = omega arith in
+      let rest_fits : Fits y = omega arith in
+      let may = follows F.tags (F.lead v) (G.first_tag w) x y (F.led rules v x a.first) (G.led_fields rules w y a.rest) a.apart in
+      parse_both F.parse G.parse_fields rules p c x y (F.encoding v) (G.joined w) a.octets_are (F.parse_of_accepted rules v p x y a.first first_fits may) (G.parse_of_accepted_fields rules w (p + length x) y a.rest rest_fits)
+
+  pub led_field : (v : T) (w : U) (c : List ℕ) → AcceptsField F.tags (F.lead v) (G.first_tag w) (F.accepts rules) (G.accepts_fields rules) v w c → Leads (first_of (F.lead v) (G.first_tag w)) c
+  led_field v w c a = led_both (F.lead v) (G.first_tag w) c a.front a.others a.octets_are (F.led rules v a.front a.first) (G.led_fields rules w a.others a.rest)
+
+  pub same_length_field : (v : T) (w : U) (c : List ℕ) → AcceptsField F.tags (F.lead v) (G.first_tag w) (F.accepts rules) (G.accepts_fields rules) v w c → length (F.encoding v ++ G.joined w) ≡ length c
+  same_length_field v w c a =
+      same_lengths (F.encoding v) (G.joined w) c a.front a.others a.octets_are (F.same_length rules v a.front a.first) (G.same_length_fields rules w a.others a.rest)
+
+  pub accepts_field_joined : (v : T) (w : U) → F.readable v × G.readable_fields w × Apart F.tags (F.lead v) (G.first_tag w) → AcceptsField F.tags (F.lead v) (G.first_tag w) (F.accepts rules) (G.accepts_fields rules) v w (F.encoding v ++ G.joined w)
+  accepts_field_joined v w (r, s, h) =
+      record { front = F.encoding v; others = G.joined w; octets_are = refl; first = F.accepts_encoding rules v r; rest = G.accepts_joined rules w s; apart = h }
+
+  pub readable_field : (v : T) (w : U) (c : List ℕ) → AcceptsField F.tags (F.lead v) (G.first_tag w) (F.accepts rules) (G.accepts_fields rules) v w c → F.readable v × G.readable_fields w × Apart F.tags (F.lead v) (G.first_tag w)
+  readable_field v w c a = (F.only_readable rules v a.front a.first, G.only_readable_fields rules w a.others a.rest, a.apart)
+
+  pub one_forms_field : (v x : T) (w y : U) (c d : List ℕ) → AcceptsField F.tags (F.lead v) (G.first_tag w) (F.accepts rules) (G.accepts_fields rules) v w c → AcceptsField F.tags (F.lead x) (G.first_tag y) (F.accepts rules) (G.accepts_fields rules) x y d → F.one_form v x × G.one_forms w y × Apart F.tags (F.lead v) (G.first_tag w) × Apart F.tags (F.lead x) (G.first_tag y)
+  one_forms_field v x w y c d a b =
+      (F.accepts_one_form rules v x a.front b.front a.first b.first, G.accepts_one_forms rules w y a.others b.others a.rest b.rest, a.apart, b.apart)
+
+module _ {T U : Type 0} (F : form.Ghosts T) (G : fields.Ghosts U) where
+  pub re_read_field : (v : T) (w : U) → (F.re_reads v || G.re_read w) ≡ true → (F.TAKES_MEMORY || G.FIELDS_TAKE_MEMORY) ≡ true
+  re_read_field v w = either_part (F.re_reads v) (G.re_read w) F.TAKES_MEMORY G.FIELDS_TAKE_MEMORY (F.re_reads_memory v) (G.re_read_memory w)
+
+pub either_memory : {a b c d : Bool} → a ≡ c → b ≡ d → (a || b) ≡ (c || d)
+either_memory {a} {b} {c} {d} e f = ap (λ x. x || b) e ∙ ap (λ x. c || x) f

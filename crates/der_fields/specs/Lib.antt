@@ -1,0 +1,9 @@
+pub mod FieldLists
+pub mod FieldLaws
+pub mod FieldsDecoding
+pub mod ComparingFields
+pub mod TellingLaws
+pub mod CopyingLaws
+pub mod ClassTags
+pub mod Defaults
+pub mod DefaultLaws

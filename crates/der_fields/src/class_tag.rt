@@ -1,0 +1,66 @@
+//! Tags of the application, the context-specific and the private class with a number that is known in
+//! the type (X.690 8.14).
+
+ghost use Rattle.std.specs.Prelude.{true};
+ghost use Rattle.der_fields.specs.ClassTags.{class_tag, class_tag-in_range};
+
+use der_elem::{IsConstructed, TagMarker};
+use der_tlv::{Tag, TagNumber};
+use std::marker::PhantomData;
+
+/// The constructed tag of this class with this number. The class is bits 8 and 7 of the identifier: 1
+/// is application, 2 context-specific, and every other number private.
+pub struct ExplicitTag<const CLASS: u8, const NUMBER: u32>;
+
+impl<const CLASS: u8, const NUMBER: u32> TagMarker for ExplicitTag<CLASS, NUMBER> {
+    ghost TAG = { class_tag CLASS true NUMBER };
+
+    const TAG: Tag = if CLASS == 1 {
+        Tag::Application {
+            constructed: true,
+            number: TagNumber(NUMBER),
+        }
+    } else if CLASS == 2 {
+        Tag::ContextSpecific {
+            constructed: true,
+            number: TagNumber(NUMBER),
+        }
+    } else {
+        Tag::Private {
+            constructed: true,
+            number: TagNumber(NUMBER),
+        }
+    };
+
+    ghost tag_in_range = { class_tag-in_range CLASS true NUMBER };
+}
+
+/// The tag of this class with this number, which is constructed where the type's own is. The class is
+/// numbered as that of `ExplicitTag`.
+pub struct ImplicitTag<T, const CLASS: u8, const NUMBER: u32> {
+    of: PhantomData<T>,
+}
+
+impl<T: IsConstructed, const CLASS: u8, const NUMBER: u32> TagMarker
+    for ImplicitTag<T, CLASS, NUMBER> {
+    ghost TAG = { class_tag CLASS T.CONSTRUCTED NUMBER };
+
+    const TAG: Tag = if CLASS == 1 {
+        Tag::Application {
+            constructed: T::CONSTRUCTED,
+            number: TagNumber(NUMBER),
+        }
+    } else if CLASS == 2 {
+        Tag::ContextSpecific {
+            constructed: T::CONSTRUCTED,
+            number: TagNumber(NUMBER),
+        }
+    } else {
+        Tag::Private {
+            constructed: T::CONSTRUCTED,
+            number: TagNumber(NUMBER),
+        }
+    };
+
+    ghost tag_in_range = { class_tag-in_range CLASS T.CONSTRUCTED NUMBER };
+}

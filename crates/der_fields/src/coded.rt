@@ -1,0 +1,36 @@
+//! Reading and writing the fields of a SEQUENCE.
+
+ghost use Rattle.der_elem.specs.Encoding.{Encodes, Measures};
+ghost use Rattle.der_fields.specs.FieldsDecoding.{DecodesFields};
+
+use crate::field_list::FieldList;
+use der_tlv::{Error, Length, Reader, Writer};
+use std::alloc::Global;
+
+/// Reading fields from all of the octets that a reader shows.
+pub trait DecodeFields<'a, R: Reader<'a>>: FieldList {
+    /// Reads the fields from all of the octets that the reader shows.
+    ///
+    /// # Errors
+    /// (17) on a failed reader; the first fault of the fields, in their order; (3) where octets are
+    /// left over; (1) where a field takes memory.
+    fn decode_fields(alloc: Global, reader: &mut R) -> Result<Self, Error>
+        ensures { DecodesFields Self.FieldList (R.state reader.old) (R.state reader.new) result };
+}
+
+/// Writing fields.
+pub trait EncodeFields: FieldList {
+    /// How many octets the fields have.
+    ///
+    /// # Errors
+    /// (9) where there are more than 4294967295; (1) where items are read again.
+    fn fields_len(&self) -> Result<Length, Error>
+        ensures { Measures (Self.joined self.now) (Self.re_read self.now) result };
+
+    /// Writes the fields.
+    ///
+    /// # Errors
+    /// The writer's; (9) where there are more than 4294967295; (1) where items are read again.
+    fn encode_fields<W: Writer>(&self, writer: &mut W) -> Result<(), Error>
+        ensures { Encodes (Self.joined self.now) (Self.re_read self.now) (W.state writer.old) (W.state writer.new) result };
+}

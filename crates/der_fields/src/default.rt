@@ -1,0 +1,76 @@
+//! DEFAULT: the value that a field has where it is absent (X.680 25.9, X.690 11.5).
+//!
+//! A default is named by a type: `DefaultFalse` is that of `BOOLEAN DEFAULT FALSE`, `DefaultNumber<0>`
+//! that of `INTEGER DEFAULT 0`, also behind an explicit tag, as of a version `[0] EXPLICIT INTEGER
+//! DEFAULT v1`.
+
+ghost use Rattle.std.specs.Prelude.{◌≡◌, List, ℕ, true, false};
+ghost use Rattle.der_tlv.specs.HeaderOctets.{tlv};
+ghost use Rattle.der_fields.specs.ClassTags.{class_tag};
+ghost use Rattle.der_fields.specs.Defaults.{is_default};
+
+use crate::end::End;
+use crate::explicit::ExplicitIn;
+use crate::field::Field;
+use der_elem::Form;
+
+/// The default value of a field, named by a type.
+pub trait DefaultOf<T: Form> {
+    // the default's own encoding
+    ghost octets: { List ℕ };
+
+    /// The default.
+    fn default_value() -> T
+        ensures encoding { T.encoding result ≡ octets }
+        ensures readable { T.readable result };
+
+    /// Whether this is the default.
+    fn is_default(value: &T) -> bool
+        ensures { result ≡ is_default octets (T.encoding value.now) };
+}
+
+/// The default of `BOOLEAN DEFAULT FALSE`.
+pub struct DefaultFalse;
+
+impl DefaultOf<bool> for DefaultFalse {
+    ghost octets = { ⟦<bool as Form>⟧.encoding false };
+
+    fn default_value() -> bool {
+        false
+    }
+
+    fn is_default(value: &bool) -> bool {
+        !*value
+    }
+}
+
+/// The default of `INTEGER DEFAULT NUMBER`, of numbers up to 255.
+pub struct DefaultNumber<const NUMBER: u8>;
+
+impl<const NUMBER: u8> DefaultOf<u8> for DefaultNumber<NUMBER> {
+    ghost octets = { ⟦<u8 as Form>⟧.encoding NUMBER };
+
+    fn default_value() -> u8 {
+        NUMBER
+    }
+
+    fn is_default(value: &u8) -> bool {
+        *value == NUMBER
+    }
+}
+
+impl<T: Form, D: DefaultOf<T>, const CLASS: u8, const NUMBER: u32> DefaultOf<
+    ExplicitIn<Field<T, End>, CLASS, NUMBER>,
+> for D {
+    ghost octets = { tlv (class_tag CLASS true NUMBER) D.octets };
+
+    fn default_value() -> ExplicitIn<Field<T, End>, CLASS, NUMBER> {
+        let first = D::default_value();
+        let fields = Field { first, rest: End };
+        ExplicitIn { fields }
+    }
+
+    fn is_default(value: &ExplicitIn<Field<T, End>, CLASS, NUMBER>) -> bool {
+        D::is_default(&value.fields.first)
+    }
+}

@@ -1,0 +1,118 @@
+//! The end of a list of fields: no octets.
+//!
+//! Reading refuses octets that are left over (3).
+
+ghost use Rattle.std.specs.Prelude.{◌≡◌, [], false, None, refl};
+ghost use Rattle.std.proofs.Common.{ap, sym};
+ghost use Rattle.std.specs.Prelude.{length};
+ghost use Rattle.der_fields.specs.FieldLists.{parse_end};
+
+use crate::coded::{DecodeFields, EncodeFields};
+use crate::copied::DuplicateFields;
+use crate::equal::FieldsEq;
+use crate::field_list::{FieldList, FieldsMemory};
+use crate::ordered::{FieldsLead, FieldsOrd};
+use crate::soundness::is_sound;
+use der_elem::{WithoutMemory, ask_ready};
+use der_tlv::{Error, ErrorKind, Length, Reader, Tag, Writer};
+use std::alloc::Global;
+use std::cmp::Ordering;
+
+/// The end of a list of fields.
+#[derive(Clone, Copy, Debug, PartialEq, Eq)]
+pub struct End;
+
+impl FieldList for End {
+    ghost joined = { λ v. [] };
+
+    ghost first_tag = { λ v. None };
+
+    ghost one_forms = { λ v w. Unit {0} };
+
+    ghost re_read = { λ v. false };
+
+    ghost accepts_fields = { λ rules v c. c ≡ [] };
+
+    ghost parse_fields = { parse_end };
+
+    ghost readable_fields = { λ v. Unit {0} };
+
+    ghost FIELDS_TAKE_MEMORY = { false };
+
+    ghost parse_of_accepted_fields = { λ rules v p c a fits. ap (parse_end rules p) a };
+
+    ghost led_fields = { λ rules v c a. a };
+
+    ghost same_length_fields = { λ rules v c a. ap length (sym a) };
+
+    ghost accepts_joined = { λ rules v r. refl };
+
+    ghost only_readable_fields = { λ rules v c a. tt };
+
+    ghost accepts_one_forms = { λ rules v w c d a b. tt };
+
+    ghost re_read_memory = { λ v e. e };
+}
+
+impl FieldsMemory for End {
+    type OfFields = WithoutMemory;
+
+    ghost memory_of_fields = { refl };
+}
+
+impl<'a, R: Reader<'a>> DecodeFields<'a, R> for End {
+    fn decode_fields(_alloc: Global, reader: &mut R) -> Result<End, Error> {
+        ask_ready(reader)?;
+        if reader.is_finished() {
+            return Ok(End);
+        }
+        is_sound(reader);
+        let decoded = reader.position();
+        let remaining = reader.remaining_len();
+        Err(reader.error(ErrorKind::TrailingData { decoded, remaining }))
+    }
+}
+
+impl EncodeFields for End {
+    fn fields_len(&self) -> Result<Length, Error> {
+        Ok(Length::ZERO)
+    }
+
+    fn encode_fields<W: Writer>(&self, _writer: &mut W) -> Result<(), Error> {
+        Ok(())
+    }
+}
+
+impl FieldsLead for End {
+    fn first_of_fields(&self) -> Option<Tag> {
+        None
+    }
+
+    ghost starts_fields = { λ v. refl };
+}
+
+impl FieldsOrd for End {
+    fn cmp_fields(&self, _other: &End) -> Result<Ordering, Error> {
+        Ok(Ordering::Equal)
+    }
+}
+
+impl FieldsEq for End {
+    ghost fields_eq = { λ v w one. (λ h. refl, λ e. refl) };
+}
+
+impl DuplicateFields for End {
+    ghost are_copies = { λ v w. Unit {0} };
+
+    ghost take_memory_to_copy = { false };
+
+    fn duplicate_fields(&self) -> Result<End, Error> {
+        Ok(End)
+    }
+
+    ghost copy_joined = { λ v w c. refl };
+
+    ghost copy_one_forms = { λ v w x c f. tt };
+
+    ghost copy_re_read = { λ v w c. refl };
+}

@@ -1,0 +1,135 @@
+//! Explicit tagging with a class and a number that are known in the type (X.690 8.14.2).
+//!
+//! The tag is constructed, and the contents octets are the whole encoding of the value: [1] of the
+//! INTEGER 5 is encoded as A1 03 02 01 05. A list of fields may stand in place of the value.
+//!
+//! Reading refuses another tag (4), the value's faults, and octets left over behind it (3).
+
+use crate::class_tag::ExplicitTag;
+use crate::coded::{DecodeFields, EncodeFields};
+use crate::copied::DuplicateFields;
+use crate::end::End;
+use crate::equal::FieldsEq;
+use crate::field::Field;
+use crate::field_list::{FieldList, FieldsMemory};
+use crate::ordered::FieldsOrd;
+use der_elem::{
+    ContentsEq, DecodeValue, DuplicateValue, EncodeValue, FormValue, OneTag, ValueMemory, ValueOrd,
+};
+use der_tlv::{Error, Header, Length, Reader, Writer};
+use std::alloc::Global;
+use std::cmp::Ordering;
+
+/// Fields behind a constructed tag of this class with this number. The class is bits 8 and 7 of the
+/// identifier: 1 is application, 2 context-specific, and every other number private.
+#[derive(Clone, Copy, Debug, PartialEq, Eq, Drop)]
+pub struct ExplicitIn<F, const CLASS: u8, const NUMBER: u32> {
+    /// The fields.
+    pub fields: F,
+}
+
+/// A value behind a context-specific tag with this number: `[NUMBER] EXPLICIT T`.
+pub type Explicit<T, const NUMBER: u32> = ExplicitIn<Field<T, End>, 2, NUMBER>;
+
+/// A value behind an application tag with this number: `[APPLICATION NUMBER] EXPLICIT T`.
+pub type ExplicitApplication<T, const NUMBER: u32> = ExplicitIn<Field<T, End>, 1, NUMBER>;
+
+/// A value behind a private tag with this number: `[PRIVATE NUMBER] EXPLICIT T`.
+pub type ExplicitPrivate<T, const NUMBER: u32> = ExplicitIn<Field<T, End>, 3, NUMBER>;
+
+impl<F, const CLASS: u8, const NUMBER: u32> OneTag for ExplicitIn<F, CLASS, NUMBER> {
+    type Marker = ExplicitTag<CLASS, NUMBER>;
+}
+
+impl<F: FieldList, const CLASS: u8, const NUMBER: u32> FormValue for ExplicitIn<F, CLASS, NUMBER> {
+    ghost contents = { λ v. F.joined v.fields };
+
+    ghost one_form_value = { λ v w. F.one_forms v.fields w.fields };
+
+    ghost re_reads_value = { λ v. F.re_read v.fields };
+
+    ghost accepts_value = { λ rules v. F.accepts_fields rules v.fields };
+
+    ghost parse_value = { F.parse_fields };
+
+    ghost readable_value = { λ v. F.readable_fields v.fields };
+
+    ghost has_tag = { λ v t. Unit {0} };
+
+    ghost VALUE_TAKES_MEMORY = { F.FIELDS_TAKE_MEMORY };
+
+    ghost parse_of_accepted_value = { λ rules v. F.parse_of_accepted_fields rules v.fields };
+
+    ghost same_length_value = { λ rules v. F.same_length_fields rules v.fields };
+
+    ghost accepts_contents = { λ rules v. F.accepts_joined rules v.fields };
+
+    ghost only_readable_value = { λ rules v. F.only_readable_fields rules v.fields };
+
+    ghost accepts_one_form_value = { λ rules v w. F.accepts_one_forms rules v.fields w.fields };
+
+    ghost re_reads_memory_value = { λ v. F.re_read_memory v.fields };
+}
+
+impl<F: FieldsMemory, const CLASS: u8, const NUMBER: u32> ValueMemory
+    for ExplicitIn<F, CLASS, NUMBER> {
+    type OfValue = <F as FieldsMemory>::OfFields;
+
+    ghost memory_of_value = { F.memory_of_fields };
+}
+
+impl<
+    'a,
+    R: Reader<'a>,
+    F: DecodeFields<'a, R> + FieldsMemory,
+    const CLASS: u8,
+    const NUMBER: u32,
+> DecodeValue<'a, R> for ExplicitIn<F, CLASS, NUMBER> {
+    fn decode_value(
+        alloc: Global,
+        reader: &mut R,
+        _header: Header,
+    ) -> Result<ExplicitIn<F, CLASS, NUMBER>, Error> {
+        let fields = F::decode_fields(alloc, reader)?;
+        Ok(ExplicitIn { fields })
+    }
+}
+
+impl<F: EncodeFields, const CLASS: u8, const NUMBER: u32> EncodeValue
+    for ExplicitIn<F, CLASS, NUMBER> {
+    fn value_len(&self) -> Result<Length, Error> {
+        self.fields.fields_len()
+    }
+
+    fn encode_value<W: Writer>(&self, writer: &mut W) -> Result<(), Error> {
+        self.fields.encode_fields(writer)
+    }
+}
+
+impl<F: FieldsOrd, const CLASS: u8, const NUMBER: u32> ValueOrd for ExplicitIn<F, CLASS, NUMBER> {
+    fn value_cmp(&self, other: &ExplicitIn<F, CLASS, NUMBER>) -> Result<Ordering, Error> {
+        self.fields.cmp_fields(&other.fields)
+    }
+}
+
+impl<F: FieldsEq, const CLASS: u8, const NUMBER: u32> ContentsEq for ExplicitIn<F, CLASS, NUMBER> {
+    ghost contents_eq = { λ v w. F.fields_eq v.fields w.fields };
+}
+
+impl<F: DuplicateFields, const CLASS: u8, const NUMBER: u32> DuplicateValue
+    for ExplicitIn<F, CLASS, NUMBER> {
+    ghost is_copy_value = { λ v w. F.are_copies v.fields w.fields };
+
+    ghost takes_memory_to_copy_value = { F.take_memory_to_copy };
+
+    fn duplicate_value(&self) -> Result<ExplicitIn<F, CLASS, NUMBER>, Error> {
+        let fields = self.fields.duplicate_fields()?;
+        Ok(ExplicitIn { fields })
+    }
+
+    ghost copy_contents = { λ v w c. F.copy_joined v.fields w.fields c };
+
+    ghost copy_form_value = { λ v w x c f. F.copy_one_forms v.fields w.fields x.fields c f };
+
+    ghost copy_re_reads_value = { λ v w c. F.copy_re_read v.fields w.fields c };
+}

@@ -1,0 +1,142 @@
+//! A field of a SEQUENCE, and those behind it.
+//!
+//! The octets are those of the field and then those of the others. A field that is absent is told
+//! from what follows it: nothing follows, or a tag that none of its encodings begins with. Values of
+//! which that does not hold are read from no octets.
+
+ghost use Rattle.std.specs.Prelude.{◌++◌, ◌||◌};
+ghost use Rattle.der_fields.specs.FieldLists.{AcceptsField, Apart, first_of, parse_field};
+ghost use Rattle.der_fields.specs.FieldLaws.{parse_of_field, led_field, same_length_field, accepts_field_joined, readable_field, one_forms_field, re_read_field, either_memory};
+ghost use Rattle.der_fields.specs.TellingLaws.{starts_both, told_apart, eq_both};
+ghost use Rattle.der_fields.specs.CopyingLaws.{copy_both, copy_forms_both, copy_re_read_both};
+
+use crate::coded::{DecodeFields, EncodeFields};
+use crate::copied::DuplicateFields;
+use crate::equal::FieldsEq;
+use crate::field_list::{FieldList, FieldsMemory};
+use crate::memory::EitherMemory;
+use crate::ordered::{FieldsLead, FieldsOrd, both_or_none, cmp_leads};
+use crate::soundness::is_sound;
+use der_elem::{DecodeField, DerOrd, Duplicate, Encode, EncodingEq, FirstTag, Form, FormMemory};
+use der_tlv::{Error, Length, Reader, Tag, Writer};
+use std::alloc::Global;
+use std::cmp::Ordering;
+
+/// A field, and those behind it.
+#[derive(Clone, Copy, Debug, PartialEq, Eq, Drop)]
+pub struct Field<T, Rest> {
+    /// The field.
+    pub first: T,
+    /// Those behind it.
+    pub rest: Rest,
+}
+
+impl<T: Form, Rest: FieldList> FieldList for Field<T, Rest> {
+    ghost joined = { λ v. T.encoding v.first ++ Rest.joined v.rest };
+
+    ghost first_tag = { λ v. first_of (T.lead v.first) (Rest.first_tag v.rest) };
+
+    ghost one_forms = { λ v w. T.one_form v.first w.first × Rest.one_forms v.rest w.rest × Apart T.tags (T.lead v.first) (Rest.first_tag v.rest) × Apart T.tags (T.lead w.first) (Rest.first_tag w.rest) };
+
+    ghost re_read = { λ v. T.re_reads v.first || Rest.re_read v.rest };
+
+    ghost accepts_fields = { λ rules v. AcceptsField T.tags (T.lead v.first) (Rest.first_tag v.rest) (T.accepts rules) (Rest.accepts_fields rules) v.first v.rest };
+
+    ghost parse_fields = { parse_field T.parse Rest.parse_fields };
+
+    ghost readable_fields = { λ v. T.readable v.first × Rest.readable_fields v.rest × Apart T.tags (T.lead v.first) (Rest.first_tag v.rest) };
+
+    ghost FIELDS_TAKE_MEMORY = { T.TAKES_MEMORY || Rest.FIELDS_TAKE_MEMORY };
+
+    ghost parse_of_accepted_fields = { λ rules v. parse_of_field T.Form Rest.FieldList rules v.first v.rest };
+
+    ghost led_fields = { λ rules v. led_field T.Form Rest.FieldList rules v.first v.rest };
+
+    ghost same_length_fields = { λ rules v. same_length_field T.Form Rest.FieldList rules v.first v.rest };
+
+    ghost accepts_joined = { λ rules v. accepts_field_joined T.Form Rest.FieldList rules v.first v.rest };
+
+    ghost only_readable_fields = { λ rules v. readable_field T.Form Rest.FieldList rules v.first v.rest };
+
+    ghost accepts_one_forms = { λ rules v w. one_forms_field T.Form Rest.FieldList rules v.first w.first v.rest w.rest };
+
+    ghost re_read_memory = { λ v. re_read_field T.Form Rest.FieldList v.first v.rest };
+}
+
+impl<T: FormMemory, Rest: FieldsMemory> FieldsMemory for Field<T, Rest> {
+    type OfFields = EitherMemory<<T as FormMemory>::OfForm, <Rest as FieldsMemory>::OfFields>;
+
+    ghost memory_of_fields = { either_memory T.memory_of_form Rest.memory_of_fields };
+}
+
+impl<'a, R: Reader<'a>, T: DecodeField<'a, R>, Rest: DecodeFields<'a, R>> DecodeFields<'a, R>
+    for Field<T, Rest> {
+    fn decode_fields(alloc: Global, reader: &mut R) -> Result<Field<T, Rest>, Error> {
+        is_sound(reader);
+        let first = T::decode_field(alloc, reader)?;
+        let rest = Rest::decode_fields(alloc, reader)?;
+        is_sound(reader);
+        Ok(Field { first, rest })
+    }
+}
+
+impl<T: Encode, Rest: EncodeFields> EncodeFields for Field<T, Rest> {
+    fn fields_len(&self) -> Result<Length, Error> {
+        let len = self.first.encoded_len()?;
+        len.add(self.rest.fields_len()?)
+    }
+
+    fn encode_fields<W: Writer>(&self, writer: &mut W) -> Result<(), Error> {
+        self.first.encode(writer)?;
+        self.rest.encode_fields(writer)
+    }
+}
+
+impl<T: FirstTag, Rest: FieldsLead> FieldsLead for Field<T, Rest> {
+    fn first_of_fields(&self) -> Option<Tag> {
+        match self.first.first_tag() {
+            Some(tag) => Some(tag),
+            None => self.rest.first_of_fields(),
+        }
+    }
+
+    ghost starts_fields = { λ v. starts_both (T.lead v.first) (Rest.first_tag v.rest) (T.encoding v.first) (Rest.joined v.rest) (T.starts v.first) (Rest.starts_fields v.rest) };
+}
+
+impl<T: DerOrd + FirstTag, Rest: FieldsOrd + FieldsLead> FieldsOrd for Field<T, Rest> {
+    fn cmp_fields(&self, other: &Field<T, Rest>) -> Result<Ordering, Error> {
+        if both_or_none(self.first.first_tag(), other.first.first_tag()) {
+            return match self.first.der_cmp(&other.first)? {
+                Ordering::Equal => self.rest.cmp_fields(&other.rest),
+                order => Ok(order),
+            };
+        }
+        match cmp_leads(self.first_of_fields(), other.first_of_fields()) {
+            Ordering::Equal => Err(Error::from_kind(Tag::Sequence.value_error())),
+            order => Ok(order),
+        }
+    }
+}
+
+impl<T: EncodingEq + FirstTag, Rest: FieldsEq + FieldsLead> FieldsEq for Field<T, Rest> {
+    ghost fields_eq = { λ v w one. eq_both (T.eq v.first w.first) (Rest.eq v.rest w.rest) (T.encoding v.first) (T.encoding w.first) (Rest.joined v.rest) (Rest.joined w.rest) (T.encoding_eq v.first w.first one.0) (Rest.fields_eq v.rest w.rest one.1) (told_apart T.tags (T.lead v.first) (T.lead w.first) (Rest.first_tag v.rest) (Rest.first_tag w.rest) (T.encoding v.first) (T.encoding w.first) (Rest.joined v.rest) (Rest.joined w.rest) (T.own_lead v.first) (T.own_lead w.first) (T.starts v.first) (T.starts w.first) (Rest.starts_fields v.rest) (Rest.starts_fields w.rest) (T.same_beginning v.first w.first) one.2 one.3) };
+}
+
+impl<T: Duplicate + FirstTag, Rest: DuplicateFields + FieldsLead> DuplicateFields
+    for Field<T, Rest> {
+    ghost are_copies = { λ v w. T.is_copy v.first w.first × Rest.are_copies v.rest w.rest };
+
+    ghost take_memory_to_copy = { T.takes_memory_to_copy || Rest.take_memory_to_copy };
+
+    fn duplicate_fields(&self) -> Result<Field<T, Rest>, Error> {
+        let first = self.first.duplicate()?;
+        let rest = self.rest.duplicate_fields()?;
+        Ok(Field { first, rest })
+    }
+
+    ghost copy_joined = { λ v w c. copy_both (T.encoding v.first) (T.encoding w.first) (Rest.joined v.rest) (Rest.joined w.rest) (T.copy_encoding v.first w.first c.0) (Rest.copy_joined v.rest w.rest c.1) };
+
+    ghost copy_one_forms = { λ v w x c one. (T.copy_form v.first w.first x.first c.0 one.0, Rest.copy_one_forms v.rest w.rest x.rest c.1 one.1, copy_forms_both T.tags (T.lead v.first) (T.lead w.first) (Rest.first_tag v.rest) (Rest.first_tag w.rest) (T.encoding v.first) (T.encoding w.first) (Rest.joined v.rest) (Rest.joined w.rest) (T.starts v.first) (T.starts w.first) (Rest.starts_fields v.rest) (Rest.starts_fields w.rest) (T.copy_encoding v.first w.first c.0) (Rest.copy_joined v.rest w.rest c.1) one.2, one.3) };
+
+    ghost copy_re_read = { λ v w c. copy_re_read_both (T.copy_re_reads v.first w.first c.0) (Rest.copy_re_read v.rest w.rest c.1) };
+}

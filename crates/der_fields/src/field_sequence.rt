@@ -1,0 +1,122 @@
+//! SEQUENCE of a list of fields (X.690 8.9, X.680 25).
+//!
+//! The tag is 30. The contents octets are the encodings of the fields that are there, one after
+//! another: the fields 5 and `true` are encoded as 30 06 02 01 05 01 01 FF.
+//!
+//! Reading refuses with the first fault of the fields, in their order, and then octets that are left
+//! over (3). The order of two values is that of their encodings.
+
+ghost use Rattle.std.specs.Prelude.{refl};
+
+use crate::coded::{DecodeFields, EncodeFields};
+use crate::copied::DuplicateFields;
+use crate::equal::FieldsEq;
+use crate::field_list::{FieldList, FieldsMemory};
+use crate::ordered::FieldsOrd;
+use der_elem::{
+    ContentsEq, DecodeValue, DuplicateValue, EncodeValue, FormValue, OneTag, Sequence, SequenceTag,
+    ValueMemory, ValueOrd,
+};
+use der_tlv::{Error, Header, Length, Reader, Writer};
+use std::alloc::Global;
+use std::cmp::Ordering;
+
+/// A SEQUENCE of these fields, in their order.
+#[derive(Clone, Copy, Debug, PartialEq, Eq, Drop)]
+pub struct FieldSequence<F> {
+    /// The fields.
+    pub fields: F,
+}
+
+impl<F: FieldList> FormValue for FieldSequence<F> {
+    ghost contents = { λ v. F.joined v.fields };
+
+    ghost one_form_value = { λ v w. F.one_forms v.fields w.fields };
+
+    ghost re_reads_value = { λ v. F.re_read v.fields };
+
+    ghost accepts_value = { λ rules v. F.accepts_fields rules v.fields };
+
+    ghost parse_value = { F.parse_fields };
+
+    ghost readable_value = { λ v. F.readable_fields v.fields };
+
+    ghost has_tag = { λ v t. Unit {0} };
+
+    ghost VALUE_TAKES_MEMORY = { F.FIELDS_TAKE_MEMORY };
+
+    ghost parse_of_accepted_value = { λ rules v. F.parse_of_accepted_fields rules v.fields };
+
+    ghost same_length_value = { λ rules v. F.same_length_fields rules v.fields };
+
+    ghost accepts_contents = { λ rules v. F.accepts_joined rules v.fields };
+
+    ghost only_readable_value = { λ rules v. F.only_readable_fields rules v.fields };
+
+    ghost accepts_one_form_value = { λ rules v w. F.accepts_one_forms rules v.fields w.fields };
+
+    ghost re_reads_memory_value = { λ v. F.re_read_memory v.fields };
+}
+
+impl<F> OneTag for FieldSequence<F> {
+    type Marker = SequenceTag;
+}
+
+impl<'a, F> Sequence<'a> for FieldSequence<F> {
+    ghost is_sequence = { refl };
+}
+
+impl<F: FieldsMemory> ValueMemory for FieldSequence<F> {
+    type OfValue = <F as FieldsMemory>::OfFields;
+
+    ghost memory_of_value = { F.memory_of_fields };
+}
+
+impl<'a, R: Reader<'a>, F: DecodeFields<'a, R> + FieldsMemory> DecodeValue<'a, R>
+    for FieldSequence<F> {
+    fn decode_value(
+        alloc: Global,
+        reader: &mut R,
+        _header: Header,
+    ) -> Result<FieldSequence<F>, Error> {
+        let fields = F::decode_fields(alloc, reader)?;
+        Ok(FieldSequence { fields })
+    }
+}
+
+impl<F: EncodeFields> EncodeValue for FieldSequence<F> {
+    fn value_len(&self) -> Result<Length, Error> {
+        self.fields.fields_len()
+    }
+
+    fn encode_value<W: Writer>(&self, writer: &mut W) -> Result<(), Error> {
+        self.fields.encode_fields(writer)
+    }
+}
+
+impl<F: FieldsOrd> ValueOrd for FieldSequence<F> {
+    fn value_cmp(&self, other: &FieldSequence<F>) -> Result<Ordering, Error> {
+        self.fields.cmp_fields(&other.fields)
+    }
+}
+
+impl<F: FieldsEq> ContentsEq for FieldSequence<F> {
+    ghost contents_eq = { λ v w. F.fields_eq v.fields w.fields };
+}
+
+impl<F: DuplicateFields> DuplicateValue for FieldSequence<F> {
+    ghost is_copy_value = { λ v w. F.are_copies v.fields w.fields };
+
+    ghost takes_memory_to_copy_value = { F.take_memory_to_copy };
+
+    fn duplicate_value(&self) -> Result<FieldSequence<F>, Error> {
+        let fields = self.fields.duplicate_fields()?;
+        Ok(FieldSequence { fields })
+    }
+
+    ghost copy_contents = { λ v w c. F.copy_joined v.fields w.fields c };
+
+    ghost copy_form_value = { λ v w x c f. F.copy_one_forms v.fields w.fields x.fields c f };
+
+    ghost copy_re_reads_value = { λ v w c. F.copy_re_read v.fields w.fields c };
+}

@@ -1,0 +1,127 @@
+//! Implicit tagging with a class and a number that are known in the type (X.690 8.14.3).
+//!
+//! The tag stands in place of the value's own, and is constructed where that is; the contents octets
+//! are the value's: [1] of the INTEGER 5 is encoded as 81 01 05.
+//!
+//! Reading refuses another tag, also that of the other form, (4), and the contents' faults.
+
+use crate::class_tag::ImplicitTag;
+use der_elem::{
+    ContentsEq, DecodeValue, DuplicateValue, EncodeValue, FormValue, IsConstructed, OneTag,
+    ValueMemory, ValueOrd,
+};
+use der_tlv::{Error, Header, Length, Reader, Writer};
+use std::alloc::Global;
+use std::cmp::Ordering;
+
+/// A value behind a tag of this class with this number in place of its own. The class is bits 8 and 7
+/// of the identifier: 1 is application, 2 context-specific, and every other number private.
+#[derive(Clone, Copy, Debug, PartialEq, Eq, Drop)]
+pub struct ImplicitIn<T, const CLASS: u8, const NUMBER: u32> {
+    /// The value.
+    pub value: T,
+}
+
+/// A value behind a context-specific tag with this number: `[NUMBER] IMPLICIT T`.
+pub type Implicit<T, const NUMBER: u32> = ImplicitIn<T, 2, NUMBER>;
+
+/// A value behind an application tag with this number: `[APPLICATION NUMBER] IMPLICIT T`.
+pub type ImplicitApplication<T, const NUMBER: u32> = ImplicitIn<T, 1, NUMBER>;
+
+/// A value behind a private tag with this number: `[PRIVATE NUMBER] IMPLICIT T`.
+pub type ImplicitPrivate<T, const NUMBER: u32> = ImplicitIn<T, 3, NUMBER>;
+
+impl<T: IsConstructed, const CLASS: u8, const NUMBER: u32> OneTag for ImplicitIn<T, CLASS, NUMBER> {
+    type Marker = ImplicitTag<T, CLASS, NUMBER>;
+}
+
+impl<T: FormValue, const CLASS: u8, const NUMBER: u32> FormValue for ImplicitIn<T, CLASS, NUMBER> {
+    ghost contents = { λ v. T.contents v.value };
+
+    ghost one_form_value = { λ v w. T.one_form_value v.value w.value };
+
+    ghost re_reads_value = { λ v. T.re_reads_value v.value };
+
+    ghost accepts_value = { λ rules v. T.accepts_value rules v.value };
+
+    ghost parse_value = { T.parse_value };
+
+    ghost readable_value = { λ v. T.readable_value v.value };
+
+    ghost has_tag = { λ v t. Unit {0} };
+
+    ghost VALUE_TAKES_MEMORY = { T.VALUE_TAKES_MEMORY };
+
+    ghost parse_of_accepted_value = { λ rules v. T.parse_of_accepted_value rules v.value };
+
+    ghost same_length_value = { λ rules v. T.same_length_value rules v.value };
+
+    ghost accepts_contents = { λ rules v. T.accepts_contents rules v.value };
+
+    ghost only_readable_value = { λ rules v. T.only_readable_value rules v.value };
+
+    ghost accepts_one_form_value = { λ rules v w. T.accepts_one_form_value rules v.value w.value };
+
+    ghost re_reads_memory_value = { λ v. T.re_reads_memory_value v.value };
+}
+
+impl<T: ValueMemory, const CLASS: u8, const NUMBER: u32> ValueMemory
+    for ImplicitIn<T, CLASS, NUMBER> {
+    type OfValue = <T as ValueMemory>::OfValue;
+
+    ghost memory_of_value = { T.memory_of_value };
+}
+
+impl<'a, R: Reader<'a>, T: DecodeValue<'a, R>, const CLASS: u8, const NUMBER: u32> DecodeValue<
+    'a,
+    R,
+> for ImplicitIn<T, CLASS, NUMBER> {
+    fn decode_value(
+        alloc: Global,
+        reader: &mut R,
+        header: Header,
+    ) -> Result<ImplicitIn<T, CLASS, NUMBER>, Error> {
+        let value = T::decode_value(alloc, reader, header)?;
+        Ok(ImplicitIn { value })
+    }
+}
+
+impl<T: EncodeValue, const CLASS: u8, const NUMBER: u32> EncodeValue
+    for ImplicitIn<T, CLASS, NUMBER> {
+    fn value_len(&self) -> Result<Length, Error> {
+        self.value.value_len()
+    }
+
+    fn encode_value<W: Writer>(&self, writer: &mut W) -> Result<(), Error> {
+        self.value.encode_value(writer)
+    }
+}
+
+impl<T: ValueOrd, const CLASS: u8, const NUMBER: u32> ValueOrd for ImplicitIn<T, CLASS, NUMBER> {
+    fn value_cmp(&self, other: &ImplicitIn<T, CLASS, NUMBER>) -> Result<Ordering, Error> {
+        self.value.value_cmp(&other.value)
+    }
+}
+
+impl<T: ContentsEq, const CLASS: u8, const NUMBER: u32> ContentsEq
+    for ImplicitIn<T, CLASS, NUMBER> {
+    ghost contents_eq = { λ v w. T.contents_eq v.value w.value };
+}
+
+impl<T: DuplicateValue, const CLASS: u8, const NUMBER: u32> DuplicateValue
+    for ImplicitIn<T, CLASS, NUMBER> {
+    ghost is_copy_value = { λ v w. T.is_copy_value v.value w.value };
+
+    ghost takes_memory_to_copy_value = { T.takes_memory_to_copy_value };
+
+    fn duplicate_value(&self) -> Result<ImplicitIn<T, CLASS, NUMBER>, Error> {
+        let value = self.value.duplicate_value()?;
+        Ok(ImplicitIn { value })
+    }
+
+    ghost copy_contents = { λ v w. T.copy_contents v.value w.value };
+
+    ghost copy_form_value = { λ v w x. T.copy_form_value v.value w.value x.value };
+
+    ghost copy_re_reads_value = { λ v w. T.copy_re_reads_value v.value w.value };
+}

@@ -1,0 +1,39 @@
+//! A SEQUENCE of one's own, from the list of its fields (X.690 8.9, X.680 25).
+//!
+//! A list of fields is written `Field<A, Field<B, End>>`, and the SEQUENCE of it is
+//! `FieldSequence<Field<A, Field<B, End>>>`. A field is any value of the layer: `Option<T>` is
+//! OPTIONAL, `WithDefault<T, D>` has a DEFAULT, `Explicit<T, 0>` and `Implicit<T, 0>` have a
+//! context-specific tag. What holds of every list is proved once here: a user's type is an alias,
+//! with no law of its own.
+#![tactic(auto)]
+
+mod class_tag;
+mod coded;
+mod copied;
+mod default;
+mod end;
+mod equal;
+mod explicit;
+mod field;
+mod field_list;
+mod field_sequence;
+mod implicit;
+mod memory;
+mod ordered;
+mod soundness;
+mod with_default;
+
+pub use class_tag::{ExplicitTag, ImplicitTag};
+pub use coded::{DecodeFields, EncodeFields};
+pub use copied::DuplicateFields;
+pub use default::{DefaultFalse, DefaultNumber, DefaultOf};
+pub use end::End;
+pub use equal::FieldsEq;
+pub use explicit::{Explicit, ExplicitApplication, ExplicitIn, ExplicitPrivate};
+pub use field::Field;
+pub use field_list::{FieldList, FieldsMemory};
+pub use field_sequence::FieldSequence;
+pub use implicit::{Implicit, ImplicitApplication, ImplicitIn, ImplicitPrivate};
+pub use memory::EitherMemory;
+pub use ordered::{FieldsLead, FieldsOrd};
+pub use with_default::WithDefault;

@@ -1,0 +1,53 @@
+//! The order of the fields of a SEQUENCE, which is that of their joined encodings.
+
+ghost use Rattle.std.specs.Prelude.{◌≡◌};
+ghost use Rattle.der_elem.specs.Leading.{Starts};
+ghost use Rattle.der_fields.specs.ComparingFields.{ComparesFields, TellsLeads, lex_leads};
+
+use crate::field_list::FieldList;
+use der_tlv::{Error, Tag};
+use std::cmp::Ordering;
+
+/// The tag that the fields' joined encodings begin with.
+pub trait FieldsLead: FieldList {
+    /// The tag that the first encoding begins with, if any field has octets.
+    fn first_of_fields(&self) -> Option<Tag>
+        ensures { result ≡ Self.first_tag self.now };
+
+    ghost starts_fields: { (v : Self) → Starts (Self.first_tag v) (Self.joined v) };
+}
+
+/// The order of fields.
+pub trait FieldsOrd: FieldList {
+    /// The lexicographic order of the joined encodings.
+    ///
+    /// # Errors
+    /// (9) where one has more than 4294967295 octets, (13) where two are not of one form, (1) where
+    /// one reads items again.
+    fn cmp_fields(&self, other: &Self) -> Result<Ordering, Error>
+        ensures { ComparesFields Self.FieldList self.now other.now result };
+}
+
+/// Whether both fields are there, or both absent.
+pub(crate) fn both_or_none(first: Option<Tag>, second: Option<Tag>) -> bool
+    ensures { TellsLeads first second result }
+{
+    match (first, second) {
+        (Some(_), Some(_)) => true,
+        (None, None) => true,
+        (Some(_), None) => false,
+        (None, Some(_)) => false,
+    }
+}
+
+/// The order of identifier octets, of which absent ones are less than any other.
+pub(crate) fn cmp_leads(first: Option<Tag>, second: Option<Tag>) -> Ordering
+    ensures { result ≡ lex_leads first second }
+{
+    match (first, second) {
+        (Some(tag), Some(other)) => tag.cmp(&other),
+        (None, None) => Ordering::Equal,
+        (Some(_), None) => Ordering::Greater,
+        (None, Some(_)) => Ordering::Less,
+    }
+}

@@ -1,0 +1,182 @@
+//! A field with a DEFAULT, which has no octets where its value is the default (X.680 25, X.690 11.5).
+//!
+//! With DEFAULT FALSE the value `true` is encoded as 01 01 FF, and `false` as no octets.
+//!
+//! At the end of the SEQUENCE, and before a tag that none of the value's encodings begins with, the
+//! value is the default; the next tag's faults come first. Reading refuses with the value's faults,
+//! and the default's own encoding (8).
+
+ghost use Rattle.std.specs.Prelude.{◌≡◌};
+ghost use Rattle.std.specs.Cmp.{on_per};
+ghost use Rattle.std.proofs.Common.{ap, ◌∙◌};
+ghost use Rattle.der_fields.specs.Defaults.{is_default, octets_unless, lead_unless, test_unless, accepts_unless, parse_default};
+ghost use Rattle.der_fields.specs.DefaultLaws.{parse_of_default, begins_default, led_default, same_length_default, accepts_default, readable_default, one_form_default, re_reads_default, own_lead_default, starts_default, beginning_default, encoding_eq_default};
+
+use crate::default::DefaultOf;
+use der_elem::{
+    Choice, Decode, DecodeField, DerOrd, Duplicate, Encode, EncodingEq, FirstTag, Form, FormMemory,
+    Tagged, ask_ready,
+};
+use der_tlv::{Error, Length, Reader, Tag, Writer};
+use std::alloc::Global;
+use std::cmp::Ordering;
+use std::marker::PhantomData;
+
+/// A value that has no octets where it is the default.
+#[derive(Drop)]
+pub struct WithDefault<T, D> {
+    /// The value.
+    pub value: T,
+    /// The default.
+    pub default: PhantomData<D>,
+}
+
+impl<T, D> WithDefault<T, D> {
+    /// A field with this value.
+    pub fn new(value: T) -> WithDefault<T, D>
+        ensures { result.value ≡ value }
+    {
+        WithDefault {
+            value,
+            default: PhantomData,
+        }
+    }
+}
+
+impl<T: Form, D: DefaultOf<T>> Form for WithDefault<T, D> {
+    ghost encoding = { λ v. octets_unless (is_default D.octets (T.encoding v.value)) (T.encoding v.value) };
+
+    ghost one_form = { λ v w. T.one_form v.value w.value };
+
+    ghost re_reads = { λ v. test_unless (is_default D.octets (T.encoding v.value)) (T.re_reads v.value) };
+
+    ghost accepts = { λ rules v. accepts_unless (is_default D.octets (T.encoding v.value)) (T.readable v.value) (T.accepts rules v.value) };
+
+    ghost parse = { parse_default T.tags D.octets T.parse };
+
+    ghost tags = { T.tags };
+
+    ghost lead = { λ v. lead_unless (is_default D.octets (T.encoding v.value)) (T.lead v.value) };
+
+    ghost readable = { λ v. T.readable v.value };
+
+    ghost TAKES_MEMORY = { T.TAKES_MEMORY };
+
+    ghost parse_of_accepted = { λ rules v. parse_of_default T.Form D.octets rules v.value };
+
+    ghost begins = { λ rules v. begins_default T.Form rules (is_default D.octets (T.encoding v.value)) v.value };
+
+    ghost led = { λ rules v. led_default T.Form rules (is_default D.octets (T.encoding v.value)) v.value };
+
+    ghost same_length = { λ rules v. same_length_default T.Form rules (is_default D.octets (T.encoding v.value)) v.value };
+
+    ghost accepts_encoding = { λ rules v. accepts_default T.Form rules (is_default D.octets (T.encoding v.value)) v.value };
+
+    ghost only_readable = { λ rules v. readable_default T.Form rules (is_default D.octets (T.encoding v.value)) v.value };
+
+    ghost accepts_one_form = { λ rules v w. one_form_default T.Form rules (is_default D.octets (T.encoding v.value)) (is_default D.octets (T.encoding w.value)) v.value w.value };
+
+    ghost re_reads_memory = { λ v. re_reads_default T.Form (is_default D.octets (T.encoding v.value)) v.value };
+}
+
+impl<T: FormMemory, D: DefaultOf<T>> FormMemory for WithDefault<T, D> {
+    type OfForm = <T as FormMemory>::OfForm;
+
+    ghost memory_of_form = { T.memory_of_form };
+}
+
+impl<T: Encode, D: DefaultOf<T>> Encode for WithDefault<T, D> {
+    fn encoded_len(&self) -> Result<Length, Error> {
+        if D::is_default(&self.value) {
+            return Ok(Length::ZERO);
+        }
+        self.value.encoded_len()
+    }
+
+    fn encode<W: Writer>(&self, writer: &mut W) -> Result<(), Error> {
+        if D::is_default(&self.value) {
+            return Ok(());
+        }
+        self.value.encode(writer)
+    }
+}
+
+impl<'a, R: Reader<'a>, T: Decode<'a, R> + Tagged + Choice, D: DefaultOf<T>> DecodeField<'a, R>
+    for WithDefault<T, D> {
+    fn decode_field(alloc: Global, reader: &mut R) -> Result<WithDefault<T, D>, Error> {
+        if reader.is_finished() {
+            ask_ready(reader)?;
+            let value = D::default_value();
+            return Ok(WithDefault::new(value));
+        }
+        let tag = Tag::peek(reader)?;
+        if !T::can_decode(tag) {
+            let value = D::default_value();
+            return Ok(WithDefault::new(value));
+        }
+        let value = T::decode(alloc, reader)?;
+        if D::is_default(&value) {
+            return Err(reader.error(tag.non_canonical_error()));
+        }
+        Ok(WithDefault::new(value))
+    }
+}
+
+impl<T: PartialEq, D> PartialEq for WithDefault<T, D> {
+    ghost eq = { λ v w. T.eq v.value w.value };
+
+    ghost laws = { on_per (λ v. v.value) T.laws };
+
+    fn eq(&self, other: &WithDefault<T, D>) -> bool {
+        self.value == other.value
+    }
+}
+
+impl<T: Tagged, D: DefaultOf<T>> FirstTag for WithDefault<T, D> {
+    fn first_tag(&self) -> Option<Tag> {
+        if D::is_default(&self.value) {
+            return None;
+        }
+        self.value.first_tag()
+    }
+
+    ghost starts = { λ v. starts_default T.tag_of T.contents T.encoding T.encoding_is v.value (T.lead v.value) (T.lead_is v.value) (is_default D.octets (T.encoding v.value)) };
+
+    ghost own_lead = { λ v. own_lead_default T.tags (T.tag_of v.value) (T.own_tag v.value) (T.lead v.value) (T.lead_is v.value) (is_default D.octets (T.encoding v.value)) };
+
+    ghost same_beginning = { λ v w. beginning_default T.tag_of T.contents T.encoding T.encoding_is T.lead T.lead_is (is_default D.octets (T.encoding v.value)) (is_default D.octets (T.encoding w.value)) v.value w.value };
+}
+
+impl<T: DerOrd + Tagged, D: DefaultOf<T>> DerOrd for WithDefault<T, D> {
+    fn der_cmp(&self, other: &WithDefault<T, D>) -> Result<Ordering, Error> {
+        let first = D::is_default(&self.value);
+        let second = D::is_default(&other.value);
+        match (first, second) {
+            (false, false) => self.value.der_cmp(&other.value),
+            (true, true) => Ok(Ordering::Equal),
+            (true, false) => Ok(Ordering::Less),
+            (false, true) => Ok(Ordering::Greater),
+        }
+    }
+}
+
+impl<T: EncodingEq + Tagged, D: DefaultOf<T>> EncodingEq for WithDefault<T, D> {
+    ghost encoding_eq = { λ v w. encoding_eq_default T.tag_of T.contents T.encoding T.encoding_is T.one_form T.eq T.encoding_eq D.octets v.value w.value };
+}
+
+impl<T: Duplicate, D: DefaultOf<T>> Duplicate for WithDefault<T, D> {
+    ghost is_copy = { λ v w. T.is_copy v.value w.value };
+
+    ghost takes_memory_to_copy = { T.takes_memory_to_copy };
+
+    fn duplicate(&self) -> Result<WithDefault<T, D>, Error> {
+        let value = self.value.duplicate()?;
+        Ok(WithDefault::new(value))
+    }
+
+    ghost copy_encoding = { λ v w c. ap (λ o. octets_unless (is_default D.octets o) o) (T.copy_encoding v.value w.value c) };
+
+    ghost copy_form = { λ v w x. T.copy_form v.value w.value x.value };
+
+    ghost copy_re_reads = { λ v w c. ap (λ o. test_unless (is_default D.octets o) (T.re_reads w.value)) (T.copy_encoding v.value w.value c) ∙ ap (test_unless (is_default D.octets (T.encoding v.value))) (T.copy_re_reads v.value w.value c) };
+}
