@@ -1,0 +1,59 @@
+//! Certificates (RFC 5280 section 4.1).
+
+ghost use Rattle.std.specs.Prelude.{◌≡◌, ◌⊎◌, IfOk, IfErr};
+ghost use Rattle.der_tlv.specs.declared.error.ErrorKind.TheVariants.{Memory};
+ghost use Rattle.der_elem.specs.Decoding.{ReadsAll};
+ghost use Rattle.der_elem.specs.Encoding.{Stops};
+
+use crate::issuer::Issuer;
+use der_bits::BitStringRef;
+use der_elem::{Encode, Form, FromDer};
+use der_fields::{DefaultNumber, End, Explicit, Field, FieldSequence, WithDefault};
+use der_numbers::IntRef;
+use der_pkix::AlgorithmIdentifier;
+use der_tlv::Error;
+use std::alloc::Global;
+
+/// What is signed of a certificate. Names are kept as they are encoded.
+///
+/// ```text
+/// TBSCertificate ::= SEQUENCE {
+///     version               [0] INTEGER DEFAULT v1,
+///     serialNumber          INTEGER,
+///     signature             AlgorithmIdentifier,
+///     issuer                Name,
+///     validity              Validity,
+///     subject               Name,
+///     subjectPublicKeyInfo  SubjectPublicKeyInfo,
+///     issuerUniqueID        [1] IMPLICIT BIT STRING OPTIONAL,
+///     subjectUniqueID       [2] IMPLICIT BIT STRING OPTIONAL,
+///     extensions            [3] SEQUENCE OF Extension OPTIONAL }
+/// ```
+pub type TbsCertificate<'a> = FieldSequence<
+    Field<WithDefault<Explicit<u8, 0>, DefaultNumber<0>>, Field<IntRef<'a>, Issuer<'a>>>,
+>;
+
+/// Reads what is signed of a certificate: all of the octets, under DER.
+///
+/// # Errors
+/// The first fault of the octets, in the order of the fields; (3) where octets are left over; (9)
+/// where there are more than 4294967295; (1) where a type that takes memory has none.
+pub fn read_tbs_certificate<'a>(alloc: Global, bytes: &'a [u8]) -> Result<TbsCertificate<'a>, Error>
+    ensures { ReadsAll ⟦<TbsCertificate<'a> as Form>⟧ bytes.now result }
+{
+    TbsCertificate::from_der(alloc, bytes)
+}
+
+/// The one encoding of what is signed of a certificate.
+///
+/// # Errors
+/// (1) where memory runs out; (9) where there are more than 4294967295 octets.
+pub fn write_tbs_certificate<'a>(
+    alloc: Global,
+    value: &TbsCertificate<'a>,
+) -> Result<Vec<u8>, Error>
+    ensures ok { IfOk result (λ octets. octets.items ≡ ⟦<TbsCertificate<'a> as Form>⟧.encoding value.now) }
+    ensures err { IfErr result (λ e. (e.kind ≡ Memory) ⊎ Stops (⟦<TbsCertificate<'a> as Form>⟧.encoding value.now) (⟦<TbsCertificate<'a> as Form>⟧.re_reads value.now) e.kind) }
+{
+    value.to_der(alloc)
+}

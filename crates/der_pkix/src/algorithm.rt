@@ -1,0 +1,87 @@
+//! Algorithms, and public keys with theirs (RFC 5280 sections 4.1.1.2 and 4.1.2.7).
+
+ghost use Rattle.std.specs.Prelude.{◌≡◌, ◌⊎◌, IfOk, IfErr};
+ghost use Rattle.der_tlv.specs.declared.error.ErrorKind.TheVariants.{Memory};
+ghost use Rattle.der_elem.specs.Decoding.{ReadsAll};
+ghost use Rattle.der_elem.specs.Encoding.{Stops};
+
+use der_bits::BitStringRef;
+use der_elem::{Encode, Form, FromDer};
+use der_fields::{End, Field, FieldSequence};
+use der_opaque::{AnyRef, ObjectIdentifier};
+use der_tlv::Error;
+use std::alloc::Global;
+
+/// ```text
+/// AlgorithmIdentifier ::= SEQUENCE {
+///     algorithm   OBJECT IDENTIFIER,
+///     parameters  ANY DEFINED BY algorithm OPTIONAL }
+/// ```
+pub type AlgorithmIdentifier<'a> = FieldSequence<
+    Field<ObjectIdentifier<39>, Field<Option<AnyRef<'a>>, End>>,
+>;
+
+/// ```text
+/// SubjectPublicKeyInfo ::= SEQUENCE {
+///     algorithm         AlgorithmIdentifier,
+///     subjectPublicKey  BIT STRING }
+/// ```
+pub type SubjectPublicKeyInfo<'a> = FieldSequence<
+    Field<AlgorithmIdentifier<'a>, Field<BitStringRef<'a>, End>>,
+>;
+
+/// Reads an algorithm: all of the octets, under DER.
+///
+/// # Errors
+/// The first fault of the octets, in the order of the fields; (3) where octets are left over; (9)
+/// where there are more than 4294967295; (1) where a type that takes memory has none.
+pub fn read_algorithm_identifier<'a>(
+    alloc: Global,
+    bytes: &'a [u8],
+) -> Result<AlgorithmIdentifier<'a>, Error>
+    ensures { ReadsAll ⟦<AlgorithmIdentifier<'a> as Form>⟧ bytes.now result }
+{
+    AlgorithmIdentifier::from_der(alloc, bytes)
+}
+
+/// The one encoding of an algorithm.
+///
+/// # Errors
+/// (1) where memory runs out; (9) where there are more than 4294967295 octets.
+pub fn write_algorithm_identifier<'a>(
+    alloc: Global,
+    value: &AlgorithmIdentifier<'a>,
+) -> Result<Vec<u8>, Error>
+    ensures ok { IfOk result (λ octets. octets.items ≡ ⟦<AlgorithmIdentifier<'a> as Form>⟧.encoding value.now) }
+    ensures err { IfErr result (λ e. (e.kind ≡ Memory) ⊎ Stops (⟦<AlgorithmIdentifier<'a> as Form>⟧.encoding value.now) (⟦<AlgorithmIdentifier<'a> as Form>⟧.re_reads value.now) e.kind) }
+{
+    value.to_der(alloc)
+}
+
+/// Reads a public key: all of the octets, under DER.
+///
+/// # Errors
+/// The first fault of the octets, in the order of the fields; (3) where octets are left over; (9)
+/// where there are more than 4294967295; (1) where a type that takes memory has none.
+pub fn read_subject_public_key_info<'a>(
+    alloc: Global,
+    bytes: &'a [u8],
+) -> Result<SubjectPublicKeyInfo<'a>, Error>
+    ensures { ReadsAll ⟦<SubjectPublicKeyInfo<'a> as Form>⟧ bytes.now result }
+{
+    SubjectPublicKeyInfo::from_der(alloc, bytes)
+}
+
+/// The one encoding of a public key.
+///
+/// # Errors
+/// (1) where memory runs out; (9) where there are more than 4294967295 octets.
+pub fn write_subject_public_key_info<'a>(
+    alloc: Global,
+    value: &SubjectPublicKeyInfo<'a>,
+) -> Result<Vec<u8>, Error>
+    ensures ok { IfOk result (λ octets. octets.items ≡ ⟦<SubjectPublicKeyInfo<'a> as Form>⟧.encoding value.now) }
+    ensures err { IfErr result (λ e. (e.kind ≡ Memory) ⊎ Stops (⟦<SubjectPublicKeyInfo<'a> as Form>⟧.encoding value.now) (⟦<SubjectPublicKeyInfo<'a> as Form>⟧.re_reads value.now) e.kind) }
+{
+    value.to_der(alloc)
+}

@@ -1,0 +1,126 @@
+//! Private keys (RFC 5208, RFC 5915) and the public keys of RSA (RFC 8017).
+
+ghost use Rattle.std.specs.Prelude.{◌≡◌, ◌⊎◌, IfOk, IfErr};
+ghost use Rattle.der_tlv.specs.declared.error.ErrorKind.TheVariants.{Memory};
+ghost use Rattle.der_elem.specs.Decoding.{ReadsAll};
+ghost use Rattle.der_elem.specs.Encoding.{Stops};
+
+use crate::algorithm::AlgorithmIdentifier;
+use der_bits::BitStringRef;
+use der_elem::{Encode, Form, FromDer};
+use der_fields::{End, Explicit, Field, FieldSequence};
+use der_numbers::UintRef;
+use der_opaque::{ObjectIdentifier, OctetStringRef};
+use der_tlv::Error;
+use std::alloc::Global;
+
+/// With no attributes:
+///
+/// ```text
+/// PrivateKeyInfo ::= SEQUENCE {
+///     version              INTEGER,
+///     privateKeyAlgorithm  AlgorithmIdentifier,
+///     privateKey           OCTET STRING }
+/// ```
+pub type PrivateKeyInfo<'a> = FieldSequence<
+    Field<u8, Field<AlgorithmIdentifier<'a>, Field<OctetStringRef<'a>, End>>>,
+>;
+
+/// ```text
+/// RSAPublicKey ::= SEQUENCE {
+///     modulus         INTEGER,
+///     publicExponent  INTEGER }
+/// ```
+pub type RsaPublicKey<'a> = FieldSequence<Field<UintRef<'a>, Field<UintRef<'a>, End>>>;
+
+/// ```text
+/// ECPrivateKey ::= SEQUENCE {
+///     version     INTEGER,
+///     privateKey  OCTET STRING,
+///     parameters  [0] OBJECT IDENTIFIER OPTIONAL,
+///     publicKey   [1] BIT STRING OPTIONAL }
+/// ```
+pub type EcPrivateKey<'a> = FieldSequence<
+    Field<
+        u8,
+        Field<
+            OctetStringRef<'a>,
+            Field<
+                Option<Explicit<ObjectIdentifier<39>, 0>>,
+                Field<Option<Explicit<BitStringRef<'a>, 1>>, End>,
+            >,
+        >,
+    >,
+>;
+
+/// Reads a private key: all of the octets, under DER.
+///
+/// # Errors
+/// The first fault of the octets, in the order of the fields; (3) where octets are left over; (9)
+/// where there are more than 4294967295; (1) where a type that takes memory has none.
+pub fn read_private_key_info<'a>(
+    alloc: Global,
+    bytes: &'a [u8],
+) -> Result<PrivateKeyInfo<'a>, Error>
+    ensures { ReadsAll ⟦<PrivateKeyInfo<'a> as Form>⟧ bytes.now result }
+{
+    PrivateKeyInfo::from_der(alloc, bytes)
+}
+
+/// The one encoding of a private key.
+///
+/// # Errors
+/// (1) where memory runs out; (9) where there are more than 4294967295 octets.
+pub fn write_private_key_info<'a>(
+    alloc: Global,
+    value: &PrivateKeyInfo<'a>,
+) -> Result<Vec<u8>, Error>
+    ensures ok { IfOk result (λ octets. octets.items ≡ ⟦<PrivateKeyInfo<'a> as Form>⟧.encoding value.now) }
+    ensures err { IfErr result (λ e. (e.kind ≡ Memory) ⊎ Stops (⟦<PrivateKeyInfo<'a> as Form>⟧.encoding value.now) (⟦<PrivateKeyInfo<'a> as Form>⟧.re_reads value.now) e.kind) }
+{
+    value.to_der(alloc)
+}
+
+/// Reads a public key of RSA: all of the octets, under DER.
+///
+/// # Errors
+/// The first fault of the octets, in the order of the fields; (3) where octets are left over; (9)
+/// where there are more than 4294967295; (1) where a type that takes memory has none.
+pub fn read_rsa_public_key<'a>(alloc: Global, bytes: &'a [u8]) -> Result<RsaPublicKey<'a>, Error>
+    ensures { ReadsAll ⟦<RsaPublicKey<'a> as Form>⟧ bytes.now result }
+{
+    RsaPublicKey::from_der(alloc, bytes)
+}
+
+/// The one encoding of a public key of RSA.
+///
+/// # Errors
+/// (1) where memory runs out; (9) where there are more than 4294967295 octets.
+pub fn write_rsa_public_key<'a>(alloc: Global, value: &RsaPublicKey<'a>) -> Result<Vec<u8>, Error>
+    ensures ok { IfOk result (λ octets. octets.items ≡ ⟦<RsaPublicKey<'a> as Form>⟧.encoding value.now) }
+    ensures err { IfErr result (λ e. (e.kind ≡ Memory) ⊎ Stops (⟦<RsaPublicKey<'a> as Form>⟧.encoding value.now) (⟦<RsaPublicKey<'a> as Form>⟧.re_reads value.now) e.kind) }
+{
+    value.to_der(alloc)
+}
+
+/// Reads a private key of an elliptic curve: all of the octets, under DER.
+///
+/// # Errors
+/// The first fault of the octets, in the order of the fields; (3) where octets are left over; (9)
+/// where there are more than 4294967295; (1) where a type that takes memory has none.
+pub fn read_ec_private_key<'a>(alloc: Global, bytes: &'a [u8]) -> Result<EcPrivateKey<'a>, Error>
+    ensures { ReadsAll ⟦<EcPrivateKey<'a> as Form>⟧ bytes.now result }
+{
+    EcPrivateKey::from_der(alloc, bytes)
+}
+
+/// The one encoding of a private key of an elliptic curve.
+///
+/// # Errors
+/// (1) where memory runs out; (9) where there are more than 4294967295 octets.
+pub fn write_ec_private_key<'a>(alloc: Global, value: &EcPrivateKey<'a>) -> Result<Vec<u8>, Error>
+    ensures ok { IfOk result (λ octets. octets.items ≡ ⟦<EcPrivateKey<'a> as Form>⟧.encoding value.now) }
+    ensures err { IfErr result (λ e. (e.kind ≡ Memory) ⊎ Stops (⟦<EcPrivateKey<'a> as Form>⟧.encoding value.now) (⟦<EcPrivateKey<'a> as Form>⟧.re_reads value.now) e.kind) }
+{
+    value.to_der(alloc)
+}
