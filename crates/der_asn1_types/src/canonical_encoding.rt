@@ -2,14 +2,15 @@
 
 ghost use Rattle.std.specs.Prelude.{◌≡◌, Ok, IfOk};
 ghost use Rattle.der_elem.specs.Decoding.{parse_all};
-ghost use Rattle.der_asn1_types.specs.Canonical.{Gives};
+ghost use Rattle.der_asn1_types.specs.Canonical.{Gives, EncodingOfRead};
 
 use der_elem::laws::encodings_read_back;
 use der_elem::{Encode, FromDer};
 use der_tlv::Error;
 use std::alloc::Global;
 
-/// Reads a value from octets that are its encoding and nothing else, and writes its encoding.
+/// Reads a value from octets that are its encoding and nothing else, and writes its encoding. Octets
+/// that are made canonical twice are as they are made once.
 ///
 /// # Errors
 /// The first fault of the octets; (1) where memory runs out.
@@ -18,6 +19,7 @@ pub fn canonical<'a, T: FromDer<'a> + Encode>(
     octets: &'a [u8],
 ) -> Result<Vec<u8>, Error>
     ensures encoding { Gives result (parse_all T.parse octets.now) }
+    ensures value { IfOk result (λ encoding. EncodingOfRead T.Form octets.now encoding.items) }
     ensures canonical { IfOk result (λ encoding. parse_all T.parse encoding.items ≡ Ok encoding.items) }
 {
     let value = T::from_der(alloc, octets)?;

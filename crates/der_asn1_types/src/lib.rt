@@ -3,19 +3,30 @@
 
 pub mod asn1;
 mod canonical_encoding;
+pub mod laws;
 
 pub use canonical_encoding::canonical;
+pub use der_ascii::{CharacterString, CharacterStringRef, CharacterStringTag};
 pub use der_elem::{
-    Choice, ContentsEq, Decode, DecodeValue, DerOrd, Duplicate, DuplicateValue, Encode,
-    EncodeValue, EncodingEq, FixedTag, Form, FormValue, FromDer, IsConstructed, OneTag,
-    OrdIsValueOrd, Sequence, SequenceTag, SetTag, TagMarker, Tagged, TakesMemory, ValueMemory,
-    ValueOrd, WithMemory, WithoutMemory,
+    BitStringTag, BmpStringTag, BooleanTag, Choice, ContentsEq, CopyIsDuplicate, Decode,
+    DecodeField, DecodeValue, DerOrd, Duplicate, DuplicateValue, Encode, EncodeValue, EncodingEq,
+    FirstTag, FixedTag, Form, FormMemory, FormValue, FromDer, GeneralStringTag, GeneralizedTimeTag,
+    IntegerTag, IsConstructed, Memory, NullTag, ObjectIdentifierTag, OctetStringTag, OneTag,
+    OrdIsValueOrd, Sequence, SequenceTag, SetTag, TagMarker, Tagged, TakesMemory, UtcTimeTag,
+    Utf8StringTag, ValueMemory, ValueOrd, WithMemory, WithoutMemory, read_contents,
 };
-pub use der_time::DateTime;
+pub use der_fields::{
+    DefaultFalse, DefaultNumber, DefaultOf, End, Explicit, ExplicitApplication, ExplicitIn,
+    ExplicitPrivate, Field, FieldList, FieldSequence, FieldsMemory, Implicit, ImplicitApplication,
+    ImplicitIn, ImplicitPrivate, WithDefault,
+};
+pub use der_nest::Asks;
+pub use der_time::{DateTime, const_contains_u8};
 pub use der_tlv::{
     BytesOwned, BytesRef, Class, EncodingRules, Error, ErrorKind, Header, Length, Reader,
     SliceReader, SliceWriter, Tag, TagMode, TagNumber, VecWriter, Writer,
 };
+pub use der_wrap::{TaggedValue, TaggedValueRef};
 
 #[cfg(test)]
 mod tests;

@@ -1,6 +1,6 @@
 //! Canonical encodings, through the names of this crate.
 
-use crate::asn1::{ContextSpecific, SetOf, SetOfVec, Utf8StringRef};
+use crate::asn1::{SetOfVec, Utf8StringRef};
 use crate::{Error, FromDer, canonical};
 use std::test::Fail;
 
@@ -14,11 +14,11 @@ fn numbered<T>(answer: Result<T, Error>) -> Result<T, u8> {
 
 #[test]
 fn items_are_put_in_order(rt: HostRuntime) -> Result<(), Fail> {
-    let falling = [0xa2, 0x08, 0x31, 0x06, 0x02, 0x01, 0x08, 0x02, 0x01, 0x07];
-    let once = numbered(canonical::<ContextSpecific<SetOf<u16, 2>>>(rt.alloc(), &falling))?;
-    let rising = [0xa2, 0x08, 0x31, 0x06, 0x02, 0x01, 0x07, 0x02, 0x01, 0x08];
+    let falling = [0x31, 0x06, 0x02, 0x01, 0x08, 0x02, 0x01, 0x07];
+    let once = numbered(canonical::<SetOfVec<u16>>(rt.alloc(), &falling))?;
+    let rising = [0x31, 0x06, 0x02, 0x01, 0x07, 0x02, 0x01, 0x08];
     assert_eq!(rt; once.as_slice(), rising.as_slice());
-    let twice = numbered(canonical::<ContextSpecific<SetOf<u16, 2>>>(rt.alloc(), once.as_slice()))?;
+    let twice = numbered(canonical::<SetOfVec<u16>>(rt.alloc(), once.as_slice()))?;
     assert_eq!(rt; twice.as_slice(), rising.as_slice());
     Ok(())
 }
@@ -50,18 +50,10 @@ fn a_set_of_strings(rt: HostRuntime) -> Result<(), Fail> {
 }
 
 #[test]
-fn sets_are_put_in_order_at_each_depth(rt: HostRuntime) -> Result<(), Fail> {
-    let octets = [
-        0xa0, 0x0e, 0xa1, 0x0c, 0xa2, 0x0a, 0x30, 0x08, 0x31, 0x06, 0x02, 0x01, 0x08, 0x02, 0x01,
-        0x07,
-    ];
-    let written = numbered(canonical::<
-        ContextSpecific<ContextSpecific<ContextSpecific<Vec<SetOfVec<u16>>>>>,
-    >(rt.alloc(), &octets))?;
-    let rising = [
-        0xa0, 0x0e, 0xa1, 0x0c, 0xa2, 0x0a, 0x30, 0x08, 0x31, 0x06, 0x02, 0x01, 0x07, 0x02, 0x01,
-        0x08,
-    ];
+fn a_set_in_a_list_is_put_in_order(rt: HostRuntime) -> Result<(), Fail> {
+    let octets = [0x30, 0x08, 0x31, 0x06, 0x02, 0x01, 0x08, 0x02, 0x01, 0x07];
+    let written = numbered(canonical::<Vec<SetOfVec<u16>>>(rt.alloc(), &octets))?;
+    let rising = [0x30, 0x08, 0x31, 0x06, 0x02, 0x01, 0x07, 0x02, 0x01, 0x08];
     assert_eq!(rt; written.as_slice(), rising.as_slice());
     Ok(())
 }

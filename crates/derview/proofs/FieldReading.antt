@@ -1,10 +1,10 @@
 -- Two fields that are read one after another, and nothing behind them.
 use Rattle.std.proofs.Common.{◌≡◌, ◌+◌, [], ◌++◌, take, drop, Ok, sym, ap, ◌∙◌, subst, add_assoc}
 use Rattle.std.proofs.lemmas.List.{append-nil, take-append-drop}
-use Rattle.der_tlv.specs.ReaderState.{ReaderState, rest, after_read}
-use Rattle.der_tlv.proofs.ReaderStates.{rest-after_read}
-use Rattle.der_elem.specs.declared.form.Form as form
-use Rattle.der_elem.specs.Decoding.{Decoded}
+use Rattle.der_asn1_types.specs.ReaderState.{ReaderState, rest, after_read}
+use Rattle.der_asn1_types.proofs.ReaderStates.{rest-after_read}
+use Rattle.der_asn1_types.specs.Form as form
+use Rattle.der_asn1_types.specs.Decoding.{Decoded}
 use Rattle.derview.specs.Fields.{joined_fields, AcceptsFields, at_end, behind_second, behind_first, parse_fields}
 
 module _ {T U : Type 0} {F : form.Ghosts T} {G : form.Ghosts U} {old mid now : ReaderState} {v : T} {w : U} (first : Decoded F old mid v) (second : Decoded G mid now w) where

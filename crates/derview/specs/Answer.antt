@@ -4,8 +4,8 @@ use Rattle.std.specs.Fmt.{decimal}
 use Rattle.std.specs.Str.{bytes_eq}
 use Rattle.std.specs.Result.{result_ok}
 use Rattle.hex.specs.Hex.{decode_of, encode_lower}
-use Rattle.der_tlv.specs.ErrorNumber.{error_number}
-use Rattle.der_tlv.specs.declared.error.ErrorKind.{ErrorKind}
+use Rattle.der_asn1_types.specs.ErrorNumber.{error_number}
+use Rattle.der_asn1_types.specs.ErrorKind.{ErrorKind}
 use Rattle.derview.specs.Names.{CanonicalFunction, canonical_function_of}
 
 -- what stands before the first space, and what stands behind it

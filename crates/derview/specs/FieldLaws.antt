@@ -5,19 +5,19 @@ use Rattle.std.specs.declared.cmp.Ordering.TheVariants.{Less, Equal, Greater}
 use Rattle.std.specs.Ordering.{ordering_then}
 use Rattle.std.proofs.lemmas.List.{length-append, append-nil}
 use Rattle.std.proofs.Math.Seq.{drop-append_seam, drop-length}
-use Rattle.der_tlv.specs.declared.encoding_rules.EncodingRules.{EncodingRules}
-use Rattle.der_tlv.specs.declared.tag.Tag.{Tag}
-use Rattle.der_tlv.specs.declared.error.Error.{Error}
-use Rattle.der_tlv.specs.declared.error.ErrorKind.{ErrorKind}
-use Rattle.der_tlv.specs.declared.error.ErrorKind.TheVariants.{Overflow, Memory, Value}
-use Rattle.der_tlv.specs.HeaderOctets.{tlv}
-use Rattle.der_tlv.specs.Octets.{lex}
-use Rattle.der_elem.specs.declared.form.Form as form
-use Rattle.der_elem.specs.Accepting.{Fits, MayFollow}
-use Rattle.der_elem.specs.Comparing.{Incomparable, Compares}
-use Rattle.der_elem.specs.EqualityLaws.{encoding-unique}
-use Rattle.der_elem.specs.Fields.{lex-first}
-use Rattle.der_elem.specs.OrderLaws.{length-tlv-positive}
+use Rattle.der_asn1_types.specs.EncodingRules.{EncodingRules}
+use Rattle.der_asn1_types.specs.Tag.{Tag}
+use Rattle.der_asn1_types.specs.Error.{Error}
+use Rattle.der_asn1_types.specs.ErrorKind.{ErrorKind}
+use Rattle.der_asn1_types.specs.ErrorKind.TheVariants.{Overflow, Memory, Value}
+use Rattle.der_asn1_types.specs.HeaderOctets.{tlv}
+use Rattle.der_asn1_types.specs.Octets.{lex}
+use Rattle.der_asn1_types.specs.Form as form
+use Rattle.der_asn1_types.specs.Accepting.{Fits, MayFollow}
+use Rattle.der_asn1_types.specs.Comparing.{Incomparable, Compares}
+use Rattle.der_asn1_types.specs.EqualityLaws.{encoding-unique}
+use Rattle.der_asn1_types.specs.Fields.{lex-first}
+use Rattle.der_asn1_types.specs.OrderLaws.{length-tlv-positive}
 use Rattle.derview.specs.Fields.{joined_fields, AcceptsFields, at_end, behind_second, behind_first, parse_fields, IncomparableFields, ComparesFields}
 
 -- what follows octets that are some is told from them

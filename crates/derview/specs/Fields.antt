@@ -1,14 +1,14 @@
 -- The contents octets of a SEQUENCE of two fields (X.690 8.9).
 use Rattle.std.specs.Prelude.{◌≡◌, ℕ, ◌+◌, ◌<◌, ◌≤◌, ◌^◌, List, [], ◌∷◌, ◌++◌, length, drop, true, ◌||◌, ◌⊎◌, Result, Ok, Err}
 use Rattle.std.specs.declared.cmp.Ordering.{Ordering}
-use Rattle.der_tlv.specs.declared.error.Error.{Error}
-use Rattle.der_tlv.specs.declared.error.ErrorKind.{ErrorKind}
-use Rattle.der_tlv.specs.declared.error.ErrorKind.TheVariants.{TrailingData, Overflow, Value, Memory}
-use Rattle.der_tlv.specs.Octets.{lex}
-use Rattle.der_tlv.specs.ReaderState.{ReaderState, rest}
-use Rattle.der_elem.specs.declared.form.Form as form
-use Rattle.der_elem.specs.Parsing.{Parse, ContentsParse}
-use Rattle.der_elem.specs.Decoding.{left_over}
+use Rattle.der_asn1_types.specs.Error.{Error}
+use Rattle.der_asn1_types.specs.ErrorKind.{ErrorKind}
+use Rattle.der_asn1_types.specs.ErrorKind.TheVariants.{TrailingData, Overflow, Value, Memory}
+use Rattle.der_asn1_types.specs.Octets.{lex}
+use Rattle.der_asn1_types.specs.ReaderState.{ReaderState, rest}
+use Rattle.der_asn1_types.specs.Form as form
+use Rattle.der_asn1_types.specs.Parsing.{Parse, ContentsParse}
+use Rattle.der_asn1_types.specs.Decoding.{left_over}
 
 -- the encoding of the first field, and then that of the second
 abbrev pub joined_fields : {T U : Type 0} → (T → List ℕ) → (U → List ℕ) → T → U → List ℕ

@@ -2,32 +2,32 @@
 use Rattle.std.specs.Prelude.{◌≡◌, ℕ, List, Option, None, Some, Result, if◌then◌else◌, codes, Vec}
 use Rattle.std.specs.Str.{bytes_eq}
 use Rattle.std.specs.declared.alloc.Global.{Global}
-use Rattle.der_tlv.specs.declared.error.Error.{Error}
-use Rattle.der_tlv.specs.declared.error.ErrorKind.{ErrorKind}
-use Rattle.der_tlv.specs.declared.tag.Tag.{Tag}
-use Rattle.der_tlv.specs.declared.tag.Tag.TheVariants.{Boolean, Integer, Null, OctetString, ObjectIdentifier, Sequence, Set, BitString, Utf8String, GeneralString, BmpString, UtcTime, GeneralizedTime}
-use Rattle.der_tlv.specs.Identifier.{same_identifier}
-use Rattle.der_elem.specs.Items.{parse_items}
-use Rattle.der_elem.specs.Arrays.{parse_array}
-use Rattle.der_elem.specs.Options.{parse_option}
-use Rattle.der_elem.specs.Parsing.{Parse, ContentsParse, parse_tagged}
-use Rattle.der_elem.specs.Decoding.{parse_all}
-use Rattle.der_elem.specs.Boolean.{parse_boolean}
-use Rattle.der_elem.specs.Null.{parse_null}
-use Rattle.der_elem.specs.Utf8String.{parse_utf8}
-use Rattle.der_elem.specs.IntegerReading.{parse_signed, parse_unsigned}
-use Rattle.der_opaque.specs.Opaque.{parse_octets}
-use Rattle.der_opaque.specs.ObjectIdentifierOctets.{parse_identifier}
-use Rattle.der_opaque.specs.AnyForm.{parse_any}
-use Rattle.der_numbers.specs.AnyLength.{parse_integer, parse_natural}
-use Rattle.der_ascii.specs.Characters.{string_tag, parse_string}
-use Rattle.der_bits.specs.BitString.{parse_bit_string}
-use Rattle.der_text.specs.BmpUnits.{parse_bmp}
-use Rattle.der_nest.specs.SequencesOf.{parse_items_up_to}
-use Rattle.der_nest.specs.Sets.{parse_set, parse_set_up_to}
-use Rattle.der_nest.specs.BorrowedSets.{parse_borrowed}
-use Rattle.der_time.specs.Reading.{parse_generalized, parse_utc}
-use Rattle.der_wrap.specs.TaggedValues.{parse_explicit}
+use Rattle.der_asn1_types.specs.Error.{Error}
+use Rattle.der_asn1_types.specs.ErrorKind.{ErrorKind}
+use Rattle.der_asn1_types.specs.Tag.{Tag}
+use Rattle.der_asn1_types.specs.Tag.TheVariants.{Boolean, Integer, Null, OctetString, ObjectIdentifier, Sequence, Set, BitString, Utf8String, GeneralString, BmpString, UtcTime, GeneralizedTime}
+use Rattle.der_asn1_types.specs.Identifier.{same_identifier}
+use Rattle.der_asn1_types.specs.Items.{parse_items}
+use Rattle.der_asn1_types.specs.Arrays.{parse_array}
+use Rattle.der_asn1_types.specs.Options.{parse_option}
+use Rattle.der_asn1_types.specs.Parsing.{Parse, ContentsParse, parse_tagged}
+use Rattle.der_asn1_types.specs.Decoding.{parse_all}
+use Rattle.der_asn1_types.specs.Boolean.{parse_boolean}
+use Rattle.der_asn1_types.specs.Null.{parse_null}
+use Rattle.der_asn1_types.specs.Utf8String.{parse_utf8}
+use Rattle.der_asn1_types.specs.IntegerReading.{parse_signed, parse_unsigned}
+use Rattle.der_asn1_types.specs.Opaque.{parse_octets}
+use Rattle.der_asn1_types.specs.ObjectIdentifierOctets.{parse_identifier}
+use Rattle.der_asn1_types.specs.AnyForm.{parse_any}
+use Rattle.der_asn1_types.specs.AnyLength.{parse_integer, parse_natural}
+use Rattle.der_asn1_types.specs.Characters.{string_tag, parse_string}
+use Rattle.der_asn1_types.specs.BitString.{parse_bit_string}
+use Rattle.der_asn1_types.specs.BmpUnits.{parse_bmp}
+use Rattle.der_asn1_types.specs.SequencesOf.{parse_items_up_to}
+use Rattle.der_asn1_types.specs.Sets.{parse_set, parse_set_up_to}
+use Rattle.der_asn1_types.specs.BorrowedSets.{parse_borrowed}
+use Rattle.der_asn1_types.specs.TimeReading.{parse_generalized, parse_utc}
+use Rattle.der_asn1_types.specs.TaggedValues.{parse_explicit}
 use Rattle.der_asn1_types.specs.Canonical.{Gives}
 use Rattle.derview.specs.AlgorithmIdentifier.{parse_algorithm_identifier}
 

@@ -15,11 +15,11 @@
 
 ghost use Rattle.std.specs.Prelude.{◌≡◌, ◌||◌, false, refl};
 ghost use Rattle.std.proofs.Common.{ap, lit<, subst, sym};
-ghost use Rattle.der_tlv.specs.declared.tag.Tag.TheVariants as tags;
-ghost use Rattle.der_elem.specs.OptionLaws.{encoding_eq_option};
-ghost use Rattle.der_elem.specs.TaggedLaws.{encoding_eq_tagged};
-ghost use Rattle.der_opaque.specs.contracts.any_ref.AnyRefEncodingEq.TheImpl.Laws as any;
-ghost use Rattle.der_opaque.specs.contracts.object_identifier.ObjectIdentifierContentsEq.TheImpl.Laws as identifier;
+ghost use Rattle.der_asn1_types.specs.Tag.TheVariants as tags;
+ghost use Rattle.der_asn1_types.specs.OptionLaws.{encoding_eq_option};
+ghost use Rattle.der_asn1_types.specs.TaggedLaws.{encoding_eq_tagged};
+ghost use Rattle.der_asn1_types.specs.AnyRefEncodingEqLaws as any;
+ghost use Rattle.der_asn1_types.specs.ObjectIdentifierContentsEqLaws as identifier;
 ghost use Rattle.derview.specs.AlgorithmIdentifier.{parse_algorithm_identifier};
 ghost use Rattle.derview.specs.Fields.{joined_fields, AcceptsFields};
 ghost use Rattle.derview.specs.FieldLaws.{accepted_some, parse_of_fields, same_length_fields, accepts_fields_contents, readable_fields, one_form_fields, re_reads_fields, fields_eq};

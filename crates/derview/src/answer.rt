@@ -1,7 +1,7 @@
 //! The answer to one line.
 ghost use Rattle.std.specs.Prelude.{◌≡◌, ◌≢◌, ◌==◌, ◌<◌, length, position, IfOk, OnOk, IfSome, option_map, codes};
 ghost use Rattle.std.specs.String.{string_bytes};
-ghost use Rattle.der_tlv.specs.declared.error.ErrorKind.TheVariants.{Memory};
+ghost use Rattle.der_asn1_types.specs.ErrorKind.TheVariants.{Memory};
 ghost use Rattle.derview.specs.Answer.{answer_of, accepted_of, refused_of, octets_of, parts_of};
 
 use crate::names::canonical_of_name;

@@ -1,7 +1,7 @@
 //! The fields of a SEQUENCE of two fields: measured, written, compared, and told from what follows.
 
 ghost use Rattle.std.specs.Prelude.{◌||◌};
-ghost use Rattle.der_elem.specs.Encoding.{Encodes, Measures};
+ghost use Rattle.der_asn1_types.specs.Encoding.{Encodes, Measures};
 ghost use Rattle.derview.specs.Fields.{joined_fields, AsksEnd, ComparesFields};
 
 use der_asn1_types::{DerOrd, Encode, Error, ErrorKind, Length, Reader, Tagged, Writer};

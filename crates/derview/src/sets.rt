@@ -1,9 +1,9 @@
 //! The canonical encodings of sets, generic in their items.
 
-ghost use Rattle.der_tlv.specs.declared.tag.Tag.TheVariants.{Set};
-ghost use Rattle.der_elem.specs.Decoding.{parse_all};
-ghost use Rattle.der_elem.specs.Parsing.{parse_tagged};
-ghost use Rattle.der_nest.specs.Sets.{parse_set};
+ghost use Rattle.der_asn1_types.specs.Tag.TheVariants.{Set};
+ghost use Rattle.der_asn1_types.specs.Decoding.{parse_all};
+ghost use Rattle.der_asn1_types.specs.Parsing.{parse_tagged};
+ghost use Rattle.der_asn1_types.specs.Sets.{parse_set};
 ghost use Rattle.der_asn1_types.specs.Canonical.{Gives};
 
 use der_asn1_types::asn1::SetOfVec;

@@ -1,6 +1,6 @@
 use Rattle.std.proofs.Common.{rules, ◌≡◌}
 use Rattle.std.specs.declared.cmp.Ordering.TheVariants.{Equal}
-use Rattle.der_tlv.specs.Octets.{lex}
+use Rattle.der_asn1_types.specs.Octets.{lex}
 use Rattle.derview.specs.FieldLaws.{compares_second, first_decides}
 use Rattle.derview.proofs.fields.cmp_fields.Goals as goal
 

@@ -1,5 +1,5 @@
 use Rattle.std.proofs.Common.{rules, ◌++◌, refl}
-use Rattle.der_elem.proofs.Written.{wrote_nothing, fault_within, last_part}
+use Rattle.der_asn1_types.proofs.Written.{wrote_nothing, fault_within, last_part}
 use Rattle.derview.specs.FieldLaws.{left_part, right_part}
 use Rattle.derview.proofs.fields.encode_fields.Goals as goal
 

@@ -1,6 +1,6 @@
 use Rattle.std.proofs.Common.{rules, ◌∙◌, ap}
-use Rattle.der_tlv.specs.ReaderState.{IsReaderState, after_read}
-use Rattle.der_elem.proofs.ItemReading.{all_taken}
+use Rattle.der_asn1_types.specs.ReaderState.{IsReaderState, after_read}
+use Rattle.der_asn1_types.proofs.ItemReading.{all_taken}
 use Rattle.derview.proofs.FieldReading.{fields_parsed, fields_accepted, fields_taken}
 use Rattle.derview.proofs.algorithm_identifier.AlgorithmIdentifierDecodeValue.decode_value.Goals as goal
 

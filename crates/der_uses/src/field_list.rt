@@ -1,0 +1,31 @@
+//! A SEQUENCE of one's own, in a line a field.
+
+ghost use Rattle.std.specs.Prelude.{◌≡◌, IfOk};
+ghost use Rattle.der_asn1_types.specs.Decoding.{ReadsAll};
+
+use der_asn1_types::asn1::{ObjectIdentifier, OctetStringRef};
+use der_asn1_types::{Encode, End, Error, Field, FieldSequence, Form, FromDer, Implicit};
+use std::alloc::Global;
+
+/// A policy: an identifier, a qualifier that may be absent, and a version, `[0] IMPLICIT INTEGER`,
+/// that may be absent.
+pub type Policy<'a> = FieldSequence<
+    Field<
+        ObjectIdentifier<39>,
+        Field<Option<OctetStringRef<'a>>, Field<Option<Implicit<u8, 0>>, End>>,
+    >,
+>;
+
+/// Reads a policy: exactly the octets that the grammar reads as one are taken.
+pub fn read_policy<'a>(alloc: Global, octets: &'a [u8]) -> Result<Policy<'a>, Error>
+    ensures { ReadsAll ⟦<Policy<'a> as Form>⟧ octets.now result }
+{
+    Policy::from_der(alloc, octets)
+}
+
+/// The one encoding of a policy.
+pub fn write_policy<'a>(alloc: Global, policy: &Policy<'a>) -> Result<Vec<u8>, Error>
+    ensures { IfOk result (λ octets. octets.items ≡ ⟦<Policy<'a> as Form>⟧.encoding policy.now) }
+{
+    policy.to_der(alloc)
+}
