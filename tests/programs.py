@@ -1,0 +1,79 @@
+"""Programs for the tests, built by `rt try`, which proves nothing and looks for faults while they run.
+
+`rt try` keeps no file, so keep.c is linked in, which copies the program to where it is asked for. That needs a C compiler.
+In the program the request for memory of the number REFUSED is refused: what runs before a call decides which of its
+requests that is.
+"""
+
+import os
+import shutil
+import subprocess
+import sys
+import tempfile
+
+HERE = os.path.dirname(os.path.abspath(__file__))
+ROOT = os.path.dirname(HERE)
+REFUSED = 8000
+COMPILER = os.environ.get("CC") or "cc"
+
+
+def has_compiler():
+    return shutil.which(COMPILER.split()[0]) is not None
+
+
+def build(name, to, extra=None):
+    """Builds the program of the crate, or of the sources of the folder `extra` as a crate above der_asn1_types."""
+    with tempfile.TemporaryDirectory(prefix="der-tests-") as work:
+        leave_out = shutil.ignore_patterns("out", "must-fail")
+        shutil.copytree(f"{ROOT}/crates", f"{work}/crates", ignore=leave_out)
+        for file in ("crates.txt", "HANDLES"):
+            shutil.copy(f"{ROOT}/{file}", work)
+        crate = f"{work}/crates/{name}"
+        if extra:
+            os.makedirs(f"{crate}/src")
+            os.makedirs(f"{crate}/specs")
+            open(f"{crate}/specs/Lib.antt", "w").close()
+            for file in os.listdir(extra):
+                if file.endswith(".txt"):
+                    shutil.copy(f"{extra}/{file}", f"{crate}/src/{file[:-4]}.rt")
+            with open(f"{work}/crates.txt", "a") as list_of_crates:
+                list_of_crates.write(f"{name}: der_asn1_types\n")
+        os.makedirs(f"{crate}/c")
+        shutil.copy(f"{HERE}/keep.c", f"{crate}/c/keep.c")
+        kept = f"{work}/kept"
+        settings = {**os.environ, "RT_ALLOW_C": name, "CFLAGS": f'-DKEEP_AT=\\"{kept}\\"'}
+        words = ["rt", "try", "--fail-alloc", str(REFUSED)]
+        how = {"stdin": subprocess.DEVNULL, "stdout": subprocess.PIPE, "stderr": subprocess.STDOUT}
+        ran = subprocess.run(words, cwd=crate, env=settings, **how)
+        if ran.returncode or not os.path.isfile(kept):
+            sys.exit(f"the program {name} was not built:\n{ran.stdout.decode(errors='replace')}")
+        shutil.move(kept, to)
+
+
+def proved():
+    """The program that `rt run` built, if no source is newer."""
+    program = f"{ROOT}/crates/derview/out/derview"
+    if not os.path.isfile(program):
+        return None
+    built = os.path.getmtime(program)
+    for folder, folders, files in os.walk(f"{ROOT}/crates"):
+        folders[:] = [it for it in folders if it not in ("out", "must-fail")]
+        for file in files:
+            if file.endswith(".rt") and os.path.getmtime(f"{folder}/{file}") > built:
+                return None
+    return program
+
+
+def derview(folder):
+    """The program derview as `rt try` builds it: the one that DERVIEW names, or a new one in the folder."""
+    given = os.environ.get("DERVIEW")
+    if given:
+        return given
+    build("derview", f"{folder}/derview")
+    return f"{folder}/derview"
+
+
+if __name__ == "__main__":
+    if not has_compiler():
+        sys.exit(f"there is no C compiler {COMPILER}: set CC")
+    build("derview", sys.argv[1])
