@@ -11,6 +11,7 @@ use Rattle.der_tlv.specs.HeaderOctets.{header_octets}
 use Rattle.der_tlv.specs.ReaderState.{ReaderState, rest, after_read, seen}
 use Rattle.der_tlv.specs.HeaderReading.{read_tag, read_length, read_header, header, header_with_tag, header_with_length}
 use Rattle.der_tlv.specs.Reading.{HeadFault, HeadRead}
+use Rattle.der_tlv.proofs.Refusals.{went_on, refused_since}
 use Rattle.der_tlv.proofs.ReaderStates.{rest-after_read}
 use Rattle.der_tlv.proofs.Lengths.{after_more}
 
@@ -46,11 +47,11 @@ module _ {old mid : ReaderState} {t : Tag} (tag : HeadRead read_tag (identifier 
   header_length_fault {new} {kind} fault =
       let ready : mid.failed ≡ false = ap (λ s. s.failed) tag.after ∙ tag.ready in
       let there : read_length mid.position (rest mid) ≡ Err kind = rw ready at fault.fault_is in
-      record { fault_is = rw tag.ready (header_seen ∙ ap (header_with_length (length (identifier t)) t) there); failed = fault.failed }
+      record { fault_is = rw tag.ready (header_seen ∙ ap (header_with_length (length (identifier t)) t) there); reader = refused_since tag.ready (went_on _ tag.after) fault.reader }
 
 pub header_tag_fault : {old new : ReaderState} {kind : ErrorKind} → HeadFault read_tag old new kind → HeadFault read_header old new kind
 unfolding read_header
-header_tag_fault {old} {new} {kind} fault = record { fault_is = at old.failed refl; failed = fault.failed }
+header_tag_fault {old} {new} {kind} fault = record { fault_is = at old.failed refl; reader = fault.reader }
   where
     at : (b : Bool) → old.failed ≡ b → seen read_header old ≡ Err kind
     at true e = let there = rw e at fault.fault_is in let k : Failed ≡ kind = cc in rw e (ap Err k)

@@ -1,4 +1,5 @@
 pub mod ReaderStates
+pub mod Refusals
 pub mod Lengths
 pub mod LongLengths
 pub mod ShortLengths

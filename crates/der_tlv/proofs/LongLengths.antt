@@ -11,15 +11,15 @@ use Rattle.der_tlv.specs.LengthOctets.{length_octets}
 use Rattle.der_tlv.specs.LengthLaws.{digits_of-number, pointwise-same}
 use Rattle.der_tlv.specs.ReaderState.{ReaderState, rest, after_read, read_fault, read_fault_at}
 use Rattle.der_tlv.specs.HeaderReading.{read_long_length}
-use Rattle.der_tlv.specs.Reading.{OctetRead, Refuses, HeadFault, HeadRead}
-use Rattle.der_tlv.proofs.ReaderStates.{refused_at_first}
+use Rattle.der_tlv.specs.Reading.{OctetRead, Refuses, Refused, HeadFault, HeadRead}
+use Rattle.der_tlv.proofs.Refusals.{refused_at_first, refused_since, refused_octet, went_on}
 use Rattle.der_tlv.proofs.Lengths.{OctetsSoFar, no_octets, missing}
 
 -- an octet of them is missing
 pub octet_missing_at : {old now new : ReaderState} {done n : ℕ} → OctetsSoFar old now done n → (count : ℕ) → done < count → {kind : ErrorKind} → Refuses now new kind (read_fault now 1) × (now.failed ≡ false → rest now ≡ []) × (now.failed ≡ false → kind ≡ read_fault_at now.position 1 0) → HeadFault (read_long_length count) old new kind
 octet_missing_at so_far count more (refused, none, fault) =
     let ready = ap (λ s. s.failed) so_far.after ∙ so_far.ready in
-    record { fault_is = missing so_far count more (none ready) _ (fault ready); failed = ap (λ s. s.failed) refused.after }
+    record { fault_is = missing so_far count more (none ready) _ (fault ready); reader = refused_since so_far.ready (went_on _ so_far.after) (refused_octet refused) }
 
 pub first_missing : (old new : ReaderState) (count : ℕ) → 0 < count → {kind : ErrorKind} → Refuses old new kind (read_fault old 1) × (old.failed ≡ false → rest old ≡ []) × (old.failed ≡ false → kind ≡ read_fault_at old.position 1 0) → HeadFault (read_long_length count) old new kind
 first_missing old new count more (refused, none, fault) =
@@ -106,11 +106,11 @@ false_if true h = absurd (h refl)
 false_if false h = refl
 
 -- a length that begins with 00 or is below 128 could be said by fewer octets
-pub not_fewest : {old new : ReaderState} {count n first : ℕ} → LongOctets old count n first → (first ≡ 0) ⊎ (n < 128) → {kind : ErrorKind} → kind ≡ Overlength → new.failed ≡ true → HeadFault (read_long_length count) old new kind
+pub not_fewest : {old new : ReaderState} {count n first : ℕ} → LongOctets old count n first → (first ≡ 0) ⊎ (n < 128) → {kind : ErrorKind} → kind ≡ Overlength → Refused old new kind → HeadFault (read_long_length count) old new kind
 unfolding read_long_length
-not_fewest {old} {new} {count} {n} octets more e failed =
+not_fewest {old} {new} {count} {n} octets more e refused =
     let unequal : pointwise nat_eq (length_octets n) ((128 + count) ∷ take count (rest old)) ≡ false = false_if _ (λ h. differs octets more ((bytes_decides (length_octets n) ((128 + count) ∷ take count (rest old))).0 h)) in
-    record { fault_is = rw (octets.ready, enough octets, ← octets.number, unequal) (ap Err (sym e)); failed = failed }
+    record { fault_is = rw (octets.ready, enough octets, ← octets.number, unequal) (ap Err (sym e)); reader = refused }
 
 pub whole_long : {old : ReaderState} {count n first : ℕ} → LongOctets old count n first → 0 < first → 128 ≤ n → length_octets n ≡ (128 + count) ∷ digits_of 256 n
 unfolding length_octets

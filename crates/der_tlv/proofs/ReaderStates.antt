@@ -1,12 +1,9 @@
 -- What is left in a reader, after each of its calls.
-use Rattle.std.proofs.Common.{◌≡◌, ℕ, ◌+◌, ◌≤◌, List, length, take, drop, Bool, true, false, refl, sym, ap, ◌∙◌, arith, [], ◌∷◌, nat_eq, IsTrue, ◌↔◌, not, ◌&&◌, nat_le, Result, Err}
+use Rattle.std.proofs.Common.{◌≡◌, ℕ, ◌+◌, ◌≤◌, List, length, take, drop, Bool, true, false, refl, sym, ap, ◌∙◌, arith, [], ◌∷◌, nat_eq, IsTrue, ◌↔◌, not, ◌&&◌, nat_le}
 use Rattle.std.proofs.lemmas.List.{drop-drop, drop-take, take-take, length-take, length-drop}
 use Rattle.std.proofs.lemmas.Bool.Decides.{nat_tests}
 use Rattle.std.proofs.lemmas.Bool.{leb-true}
-use Rattle.der_tlv.specs.declared.error.ErrorKind.{ErrorKind}
-use Rattle.der_tlv.specs.declared.error.ErrorKind.TheVariants.{Failed}
-use Rattle.der_tlv.specs.ReaderState.{ReaderState, IsReaderState, rest, after_read, nested, can_read, seen, read_fault}
-use Rattle.der_tlv.specs.Reading.{Refuses, HeadFault}
+use Rattle.der_tlv.specs.ReaderState.{ReaderState, IsReaderState, rest, after_read, nested, can_read}
 
 pub rest-after_read : (s : ReaderState) (n : ℕ) → rest (after_read s n) ≡ drop n (rest s)
 rest-after_read s n = sym (drop-drop n s.position (take s.end s.input))
@@ -37,14 +34,3 @@ finished s h =
 
 pub end_reached : (s : ReaderState) → IsReaderState s → rest s ≡ [] → s.position ≡ s.end
 end_reached s h e = let l = length-rest s h in let n = ap length e in omega arith
-
--- a refusal of the first octet is one of what should have been read, if that needs an octet
-pub refused_at_first : {A : Type 0} (parse : ℕ → List ℕ → Result (ℕ × A) ErrorKind) (old new : ReaderState) (kind : ErrorKind) → Refuses old new kind (read_fault old 1) → (old.failed ≡ false → parse old.position (rest old) ≡ Err kind) → HeadFault parse old new kind
-refused_at_first parse old new kind refused fault = record { fault_is = at old.failed refl; failed = ap (λ s. s.failed) refused.after }
-  where
-    at : (b : Bool) → old.failed ≡ b → seen parse old ≡ Err kind
-    at true e = rw e (ap Err (sym (refused.fault_is ∙ failed_fault e)))
-      where
-        failed_fault : old.failed ≡ true → read_fault old 1 ≡ Failed
-        failed_fault e = rw e refl
-    at false e = rw e (fault e)

@@ -5,12 +5,12 @@ use Rattle.std.specs.Int.Digits.{digits_of}
 use Rattle.der_tlv.specs.declared.error.ErrorKind.{ErrorKind}
 use Rattle.der_tlv.specs.declared.error.ErrorKind.TheVariants.{Overlength, IndefiniteLength}
 use Rattle.der_tlv.specs.LengthOctets.{length_octets}
-use Rattle.der_tlv.specs.ReaderState.{ReaderState, rest, after_read, read_fault, read_fault_at}
+use Rattle.der_tlv.specs.ReaderState.{ReaderState, rest, after_read, after_fault, read_fault, read_fault_at}
 use Rattle.der_tlv.specs.HeaderReading.{read_length, read_long_length, behind_one}
 use Rattle.std.specs.Prelude.{IfOk}
 use Rattle.der_tlv.specs.declared.error.Error.{Error}
 use Rattle.der_tlv.specs.Reading.{OctetRead, Refuses, HeadFault, HeadRead, ReadsHead}
-use Rattle.der_tlv.proofs.ReaderStates.{refused_at_first}
+use Rattle.der_tlv.proofs.Refusals.{went_on, refused_at, refused_since, refused_at_first}
 use Rattle.der_tlv.proofs.Lengths.{after_more}
 
 pub short_length : {old new : ReaderState} {x : ℕ} → OctetRead old new x → x < 128 → HeadRead read_length (length_octets x) old new x
@@ -33,9 +33,9 @@ no_length {old} {new} {kind} (refused, none, fault) =
     at_zero p = ap (λ q. read_fault_at q 1 0) (let e : p + 0 ≡ p = omega arith in e)
 
 -- a first octet that no length has
-pub bad_length : {old mid new : ReaderState} {x : ℕ} → OctetRead old mid x → (fault : ErrorKind) → ((p : ℕ) (xs : List ℕ) → read_length p (x ∷ xs) ≡ Err fault) → {kind : ErrorKind} → kind ≡ fault → new.failed ≡ true → HeadFault read_length old new kind
-bad_length read fault bad e failed =
-    record { fault_is = rw (read.ready, read.first) (bad _ _ ∙ ap Err (sym e)); failed = failed }
+pub bad_length : {old mid new : ReaderState} {x : ℕ} → OctetRead old mid x → (fault : ErrorKind) → ((p : ℕ) (xs : List ℕ) → read_length p (x ∷ xs) ≡ Err fault) → {kind : ErrorKind} → kind ≡ fault → new ≡ after_fault mid → HeadFault read_length old new kind
+bad_length read fault bad e after =
+    record { fault_is = rw (read.ready, read.first) (bad _ _ ∙ ap Err (sym e)); reader = refused_at read.ready (went_on _ read.after) (ap (λ s. s.failed) read.after ∙ read.ready) after }
 
 pub indefinite : (x : ℕ) → x ≡ 128 → (p : ℕ) (xs : List ℕ) → read_length p (x ∷ xs) ≡ Err IndefiniteLength
 unfolding read_length
@@ -76,7 +76,7 @@ long_fault {old} {mid} {new} {x} {kind} read h k fault =
     let there = rw ready at fault.fault_is in
     let mid_position : mid.position ≡ old.position + 1 = ap (λ s. s.position) read.after in
     let parsed_there : read_long_length (x - 128) (old.position + 1) (rest mid) ≡ Err kind = ap (λ p. read_long_length (x - 128) p (rest mid)) (sym mid_position) ∙ there in
-    record { fault_is = rw read.ready (ap (read_length old.position) read.first ∙ long-read x h k old.position (rest mid) ∙ ap behind_one parsed_there); failed = fault.failed }
+    record { fault_is = rw read.ready (ap (read_length old.position) read.first ∙ long-read x h k old.position (rest mid) ∙ ap behind_one parsed_there); reader = refused_since read.ready (went_on _ read.after) fault.reader }
 
 pub long_reads : {old mid : ReaderState} {x : ℕ} (new : ReaderState) → OctetRead old mid x → 128 < x → x ≤ 132 → (r : Result ℕ Error) → ReadsHead (read_long_length (x - 128)) (digits_of 256) mid new r → IfOk r (λ n. length_octets n ≡ (128 + (x - 128)) ∷ digits_of 256 n) → ReadsHead read_length length_octets old new r
 long_reads new read h k (Ok n) head whole = long_length read h k head whole

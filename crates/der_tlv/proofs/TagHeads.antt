@@ -7,7 +7,7 @@ use Rattle.der_tlv.specs.Identifier.{identifier, number_octets}
 use Rattle.der_tlv.specs.HeaderReading.{read_number, read_tag, tag_of_octets, tag_with_number, counted_tag}
 use Rattle.der_tlv.specs.Reading.{OctetRead, Refuses, HeadRead, HeadFault}
 use Rattle.der_tlv.specs.TagReadingLaws.{read_tag-short, read_tag-long}
-use Rattle.der_tlv.proofs.ReaderStates.{refused_at_first}
+use Rattle.der_tlv.proofs.Refusals.{Went, went_on, went_further, refused_at, refused_since, refused_at_first}
 use Rattle.der_tlv.proofs.TagNumbers.{seen_ready}
 use Rattle.der_tlv.proofs.TagsOfOctets.{identifier-short, identifier-long}
 
@@ -44,11 +44,20 @@ ready_then : {old now : ReaderState} {first n : ℕ} → NumberRead old now firs
 ready_then (in_first read small low is) = read.ready
 ready_then (behind mid read small low number great) = read.ready
 
+-- and goes on
+went_with : {old now : ReaderState} {first n : ℕ} → NumberRead old now first n → Went old now
+went_with (in_first read small low is) = went_on _ read.after
+went_with (behind mid read small low number great) = went_further (went_on _ read.after) (went_on _ number.after)
+
+still_ready : {old now : ReaderState} {first n : ℕ} → NumberRead old now first n → now.failed ≡ false
+still_ready (in_first read small low is) = ap (λ (s : ReaderState). s.failed) read.after ∙ read.ready
+still_ready (behind mid read small low number great) = ap (λ (s : ReaderState). s.failed) number.after ∙ number.ready
+
 -- no tag of these octets
 pub tag_refused : {old now new : ReaderState} {first n : ℕ} {kind : ErrorKind} → NumberRead old now first n → tag_of_octets first n ≡ Err kind → new ≡ after_fault now → HeadFault read_tag old new kind
 tag_refused {old = old} {kind = kind} number e after = record {
   fault_is = seen_ready read_tag old (ready_then number) ∙ (parsed_number number (Err kind) e).1;
-  failed = ap (λ (s : ReaderState). s.failed) after;
+  reader = refused_at (ready_then number) (went_with number) (still_ready number) after;
 }
 
 -- a fault of the number
@@ -58,7 +67,7 @@ number_refused {old = old} {mid = mid} {first = first} read low fault =
     let ready : mid.failed ≡ false = ap (λ (s : ReaderState). s.failed) read.after ∙ read.ready in
     record {
       fault_is = seen_ready read_tag old read.ready ∙ ap (read_tag old.position) read.first ∙ read_tag-long old.position first (rest mid) low ∙ ap (λ p. tag_with_number first (read_number p (rest mid))) (sym position) ∙ ap (tag_with_number first) (sym (seen_ready read_number mid ready) ∙ fault.fault_is);
-      failed = fault.failed;
+      reader = refused_since read.ready (went_on _ read.after) fault.reader;
     }
 
 -- the tag of these octets

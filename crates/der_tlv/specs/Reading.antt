@@ -1,7 +1,7 @@
 -- What the calls of readers answer, and what stands after each.
 use Rattle.std.specs.Prelude.{◌≡◌, ℕ, ◌^◌, ◌<◌, ◌≤◌, List, [], ◌∷◌, length, take, true, false, Result, Ok, Err}
 use Rattle.der_tlv.specs.declared.error.ErrorKind.{ErrorKind}
-use Rattle.der_tlv.specs.declared.error.ErrorKind.TheVariants.{Overflow}
+use Rattle.der_tlv.specs.declared.error.ErrorKind.TheVariants.{Overflow, Failed}
 use Rattle.der_tlv.specs.declared.error.Error.{Error}
 use Rattle.der_tlv.specs.declared.encoding_rules.EncodingRules.{EncodingRules}
 use Rattle.der_tlv.specs.ReaderState.{ReaderState, rest, after_read, after_fault, can_read, read_fault, read_fault_at, nested, unnested, can_unnest, unnest_fault, opened, seen}
@@ -10,6 +10,17 @@ use Rattle.der_tlv.specs.ReaderState.{ReaderState, rest, after_read, after_fault
 pub record Refuses (old new : ReaderState) (kind fault : ErrorKind) : Type 0 where
   pub fault_is : kind ≡ fault
   pub after : new ≡ after_fault old
+
+-- What every call leaves that is handed a reader and refuses, whatever it had read before: the reader is failed; its input and its
+-- rules are those from before; its position is not before the old one, and its end not behind the old one (every reader stands at its
+-- end or before it). On a reader that had failed nothing changes, and the answer is (17).
+pub record Refused (old new : ReaderState) (kind : ErrorKind) : Type 0 where
+  pub failed : new.failed ≡ true
+  pub input : new.input ≡ old.input
+  pub rules : new.rules ≡ old.rules
+  pub onward : old.position ≤ new.position
+  pub narrower : new.end ≤ old.end
+  pub again : old.failed ≡ true → (kind ≡ Failed) × (new ≡ old)
 
 -- one octet was read
 pub record OctetRead (old new : ReaderState) (octet : ℕ) : Type 0 where
@@ -67,10 +78,10 @@ pub record HeadRead {A : Type 0} (parse : ℕ → List ℕ → Result (ℕ × A)
   pub taken : take (length octets) (rest old) ≡ octets
   pub after : new ≡ after_read old (length octets)
 
--- the first fault of what should have been read, and the reader failed
+-- the first fault of what should have been read
 pub record HeadFault {A : Type 0} (parse : ℕ → List ℕ → Result (ℕ × A) ErrorKind) (old new : ReaderState) (kind : ErrorKind) : Type 0 where
   pub fault_is : seen parse old ≡ Err kind
-  pub failed : new.failed ≡ true
+  pub reader : Refused old new kind
 
 -- what a call answers that reads a value from these octets
 abbrev pub ReadsHead : {A : Type 0} → (ℕ → List ℕ → Result (ℕ × A) ErrorKind) → (A → List ℕ) → ReaderState → ReaderState → Result A Error → Type 0

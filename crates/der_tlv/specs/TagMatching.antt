@@ -1,5 +1,5 @@
 -- Whether the next tag has a class and a number.
-use Rattle.std.specs.Prelude.{◌≡◌, ℕ, ◌==◌, ◌&&◌, List, [], ◌∷◌, Bool, true, false, Result, Ok, Err}
+use Rattle.std.specs.Prelude.{◌≡◌, ℕ, ◌==◌, ◌&&◌, List, [], ◌∷◌, Bool, false, Result, Ok, Err}
 use Rattle.der_tlv.specs.declared.error.ErrorKind.{ErrorKind}
 use Rattle.der_tlv.specs.declared.error.Error.{Error}
 use Rattle.der_tlv.specs.declared.tag.class.Class.{Class}
@@ -8,6 +8,7 @@ use Rattle.der_tlv.specs.TagParts.{class_of, number_of}
 use Rattle.der_tlv.specs.Identifier.{class_index}
 use Rattle.der_tlv.specs.HeaderReading.{read_tag}
 use Rattle.der_tlv.specs.ReaderState.{ReaderState, rest, seen}
+use Rattle.der_tlv.specs.Reading.{Refused}
 
 -- whether a tag has a class and a number, whatever its form
 abbrev pub has_number : Class → ℕ → Tag → Bool
@@ -29,10 +30,10 @@ pub record MatchSeen (class : Class) (number : ℕ) (old new : ReaderState) (fou
   pub found_is : match_tag class number old.position (rest old) ≡ Ok found
   pub after : new ≡ old
 
--- the first fault of the next tag, and the reader failed
+-- the first fault of the next tag
 pub record MatchFault (class : Class) (number : ℕ) (old new : ReaderState) (kind : ErrorKind) : Type 0 where
   pub fault_is : seen (match_tag class number) old ≡ Err kind
-  pub failed : new.failed ≡ true
+  pub reader : Refused old new kind
 
 -- what a call answers that asks whether the next tag has a class and a number
 abbrev pub PeeksMatch : Class → ℕ → ReaderState → ReaderState → Result Bool Error → Type 0

@@ -1,5 +1,7 @@
-use Rattle.std.proofs.Common.{rules, ◌≡◌, ◌+◌, ◌*◌, ◌<◌, ◌≤◌, ap, subst, sym, arith, inl, inr}
+use Rattle.std.proofs.Common.{rules, ◌≡◌, ◌∙◌, ◌+◌, ◌*◌, ◌<◌, ◌≤◌, ap, subst, sym, arith, inl, inr}
 use Rattle.std.proofs.lemmas.Grind.{common_steps}
+use Rattle.der_tlv.specs.ReaderState.{ReaderState}
+use Rattle.der_tlv.proofs.Refusals.{refused_at, went_on}
 use Rattle.der_tlv.proofs.Lengths.{OctetsSoFar, one_more, so_far-lt, room_for_more}
 use Rattle.der_tlv.proofs.LongLengths.{octet_missing_at, first_missing, long_octets, not_fewest, fewest_read, whole_long}
 use Rattle.der_tlv.proofs.length.decode_long.Goals as goal
@@ -35,11 +37,12 @@ octets-preserved g c =
 pub returns-then-first-eq0-clause-head : goal.returns-then-first-eq0-clause-head
 returns-then-first-eq0-clause-head g c =
     let all : c.octets.read ≡ c.args.count = omega (arith, c.requires.some) in
-    let octets = long_octets (subst (λ k. OctetsSoFar (g.R.Reader.state c.args.reader.now) (g.R.Reader.state c.octets.reader) k c.octets.length) all c.octets.invariant) c.in_ok-first.ensures c.requires.some in
+    let so_far = subst (λ k. OctetsSoFar (g.R.Reader.state c.args.reader.now) (g.R.Reader.state c.octets.reader) k c.octets.length) all c.octets.invariant in
+    let octets = long_octets so_far c.in_ok-first.ensures c.requires.some in
     not_fewest octets (elim c.then-first-eq0.branch [
       | then-first-eq0-via-then-first-eq0 w ↦ inl w.if-first-eq0.true
       | then-first-eq0-via-else-first-eq0+then-length-lt128 w ↦ inr w.if-length-lt128.true
-    ]) c.error.ensures.kind (ap (λ s. s.failed) c.error.ensures.failed)
+    ]) c.error.ensures.kind (refused_at so_far.ready (went_on _ so_far.after) (ap (λ (s : ReaderState). s.failed) so_far.after ∙ so_far.ready) c.error.ensures.failed)
 
 pub returns-clause-head : goal.returns-clause-head
 returns-clause-head g c =

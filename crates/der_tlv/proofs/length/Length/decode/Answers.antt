@@ -1,4 +1,4 @@
-use Rattle.std.proofs.Common.{rules, ap, sym, subst}
+use Rattle.std.proofs.Common.{rules, sym, subst}
 use Rattle.der_tlv.specs.declared.error.ErrorKind.TheVariants.{Overlength, IndefiniteLength}
 use Rattle.der_tlv.specs.LengthOctets.{length_octets}
 use Rattle.der_tlv.specs.HeaderReading.{read_length}
@@ -15,7 +15,7 @@ returns-in-0-to-127 g c =
 
 pub returns-in-128 : goal.returns-in-128
 returns-in-128 g c =
-    bad_length c.in_ok-first.ensures IndefiniteLength (indefinite c.in_ok-first.first (search rules)) c.error.ensures.kind (ap (λ s. s.failed) c.error.ensures.failed)
+    bad_length c.in_ok-first.ensures IndefiniteLength (indefinite c.in_ok-first.first (search rules)) c.error.ensures.kind c.error.ensures.failed
 
 pub returns-in-129-to-132 : goal.returns-in-129-to-132
 returns-in-129-to-132 g c =
@@ -23,4 +23,4 @@ returns-in-129-to-132 g c =
 
 pub returns-in_default : goal.returns-in_default
 returns-in_default g c =
-    bad_length c.in_ok-first.ensures Overlength (too_many c.in_ok-first.first (search rules)) c.error-in_default.ensures.kind (ap (λ s. s.failed) c.error-in_default.ensures.failed)
+    bad_length c.in_ok-first.ensures Overlength (too_many c.in_ok-first.first (search rules)) c.error-in_default.ensures.kind c.error-in_default.ensures.failed
