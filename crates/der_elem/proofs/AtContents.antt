@@ -12,9 +12,10 @@ use Rattle.der_tlv.specs.Identifier.{same_identifier}
 use Rattle.der_tlv.specs.HeaderOctets.{header_octets, tlv}
 use Rattle.der_tlv.specs.HeaderReading.{read_header, octets_of}
 use Rattle.der_tlv.specs.HeaderLaws.{same_identifier-same}
-use Rattle.der_tlv.specs.Reading.{HeadRead, Nested, OctetsRefused}
-use Rattle.der_tlv.specs.ReaderState.{ReaderState, IsReaderState, rest, after_read, unnested, read_fault, read_fault_at, can_unnest}
+use Rattle.der_tlv.specs.Reading.{HeadRead, Nested, OctetsRefused, Refused}
+use Rattle.der_tlv.specs.ReaderState.{ReaderState, IsReaderState, rest, after_read, after_fault, unnested, read_fault, read_fault_at, can_unnest}
 use Rattle.der_tlv.proofs.ReaderStates.{rest-after_read, length-rest, rest-nested, room_from_can_read}
+use Rattle.der_tlv.proofs.Refusals.{went_on, went_inside, refused_at, refused_since}
 use Rattle.der_elem.specs.Parsing.{ContentsParse, parse_tagged, parse_with_tag, parse_contents, tagged_contents}
 
 -- the fault of a read of n octets at p, of a reader with this end
@@ -55,6 +56,13 @@ module _ {header : Header} {old mid : ReaderState} (at : AtHeader header old mid
 
   pub ready_mid : mid.failed ≡ false
   ready_mid = ap (λ s. s.failed) at.head.after ∙ at.head.ready
+
+  -- what a fault leaves that is found behind the header
+  pub refused_behind_header : {new : ReaderState} {kind : ErrorKind} → Refused mid new kind → Refused old new kind
+  refused_behind_header refused = refused_since at.head.ready (went_on _ at.head.after) refused
+
+  pub refused_at_header : {new : ReaderState} {kind : ErrorKind} → new ≡ after_fault mid → Refused old new kind
+  refused_at_header e = refused_at at.head.ready (went_on _ at.head.after) ready_mid e
 
   -- with its own tag, an encoding is parsed by its contents octets
   pub parse_own_tag : (t : Tag) → header.tag ≡ t → (parse : ContentsParse) (rules : EncodingRules) → parse_tagged t parse rules old.position (rest old) ≡ parse_behind parse rules old header
@@ -104,6 +112,10 @@ module _ {header : Header} {old mid shown : ReaderState} {end : ℕ} (c : AtCont
 
   pub shown_ready : shown.failed ≡ false
   shown_ready = ap (λ s. s.failed) c.nest.after ∙ ready_mid c.at
+
+  -- what a refusal of the contents octets leaves
+  pub refused_inside : {new : ReaderState} {kind : ErrorKind} → Refused shown new kind → Refused old new kind
+  refused_inside refused = refused_behind_header c.at (refused_since (ready_mid c.at) (went_inside _ c.nest.readable c.nest.after) refused)
 
   shown_position : shown.position ≡ old.position + length (octets_of header)
   shown_position = ap (λ s. s.position) c.nest.after ∙ position_mid c.at

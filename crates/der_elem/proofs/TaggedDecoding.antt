@@ -38,8 +38,8 @@ module _ {T : Type 0} (F : value.Ghosts T) (t : Tag) {header : Header} {old mid 
   parse_all = parse_own_tag c.at t same F.parse_value old.rules ∙ parse_shown c F.parse_value old.rules
 
   -- the fault of the contents octets
-  pub contents_fault : {new : ReaderState} {kind : ErrorKind} → ValueNotDecoded F shown new kind → Faults F.VALUE_TAKES_MEMORY (seen (parse_tagged t F.parse_value old.rules) old) kind
-  contents_fault {new} {kind} told =
+  pub contents_fault : {kind : ErrorKind} → ValueNotDecoded F shown kind → Faults F.VALUE_TAKES_MEMORY (seen (parse_tagged t F.parse_value old.rules) old) kind
+  contents_fault {kind} told =
       elim told.reason [
         | inl m ↦ inl m
         | inr e ↦

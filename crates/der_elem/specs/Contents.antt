@@ -14,4 +14,4 @@ pub record ContentsRead (old new : ReaderState) (octets : List ℕ) : Type 0 whe
 pub record ContentsRefused (old new : ReaderState) (kind : ErrorKind) : Type 0 where
   pub before : old.failed ≡ true
   pub fault_is : kind ≡ Failed
-  pub failed : new.failed ≡ true
+  pub after : new ≡ old

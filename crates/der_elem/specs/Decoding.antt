@@ -6,6 +6,7 @@ use Rattle.der_tlv.specs.declared.error.Error.{Error}
 use Rattle.der_tlv.specs.declared.header.Header.{Header}
 use Rattle.der_tlv.specs.declared.encoding_rules.EncodingRules.TheVariants.{Der}
 use Rattle.der_tlv.specs.ReaderState.{ReaderState, after_read, rest, seen}
+use Rattle.der_tlv.specs.Reading.{Refused}
 use Rattle.der_elem.specs.Parsing.{Parse}
 use Rattle.der_elem.specs.declared.form.FormValue as value
 use Rattle.der_elem.specs.declared.form.Form as form
@@ -22,10 +23,10 @@ pub record Decoded {T : Type 0} (F : form.Ghosts T) (old new : ReaderState) (v :
   pub accepted : F.accepts old.rules v (take taken (rest old))
   pub after : new ≡ after_read old taken
 
--- no value was decoded, and the reader has failed
+-- no value was decoded: why, and what that leaves
 pub record NotDecoded {T : Type 0} (F : form.Ghosts T) (old new : ReaderState) (kind : ErrorKind) : Type 0 where
   pub reason : Faults F.TAKES_MEMORY (seen (F.parse old.rules) old) kind
-  pub failed : new.failed ≡ true
+  pub reader : Refused old new kind
 
 -- what decoding a value answers
 abbrev pub Decodes : {T : Type 0} → form.Ghosts T → ReaderState → ReaderState → Result T Error → Type 0
@@ -40,15 +41,14 @@ pub record ValueDecoded {T : Type 0} (F : value.Ghosts T) (header : Header) (old
   pub tag : F.has_tag v header.tag
   pub after : new ≡ after_read old (length (rest old))
 
--- no value was decoded from contents octets, and the reader has failed
-pub record ValueNotDecoded {T : Type 0} (F : value.Ghosts T) (old new : ReaderState) (kind : ErrorKind) : Type 0 where
+-- no value was decoded from contents octets, for this reason
+pub record ValueNotDecoded {T : Type 0} (F : value.Ghosts T) (old : ReaderState) (kind : ErrorKind) : Type 0 where
   pub reason : Faults F.VALUE_TAKES_MEMORY (seen (F.parse_value old.rules) old) kind
-  pub failed : new.failed ≡ true
 
 -- what decoding contents octets answers, of a reader that shows as many octets as the header says
 abbrev pub DecodesValue : {T : Type 0} → value.Ghosts T → Header → ReaderState → ReaderState → Result T Error → Type 0
 DecodesValue F header old new (Ok v) = ValueDecoded F header old new v
-DecodesValue F header old new (Err e) = ValueNotDecoded F old new e.kind
+DecodesValue F header old new (Err e) = ValueNotDecoded F old e.kind
 
 -- octets of which so many were parsed from the front
 abbrev pub all_parsed : ℕ → Result (ℕ × List ℕ) ErrorKind → Result (List ℕ) ErrorKind

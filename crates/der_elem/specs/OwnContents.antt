@@ -1,5 +1,5 @@
 -- Types of which each value is read from its own contents octets and from no others, under all rules.
-use Rattle.std.specs.Prelude.{◌≡◌, ℕ, List, length, true, false, Result, Ok, Err}
+use Rattle.std.specs.Prelude.{◌≡◌, ℕ, List, length, false, Result, Ok, Err}
 use Rattle.der_tlv.specs.declared.encoding_rules.EncodingRules.{EncodingRules}
 use Rattle.der_tlv.specs.declared.error.ErrorKind.{ErrorKind}
 use Rattle.der_tlv.specs.declared.error.Error.{Error}
@@ -22,12 +22,11 @@ pub record OwnDecoded {T : Type 0} (contents : T → List ℕ) (Within : T → T
   pub within : Within v
   pub after : new ≡ after_read old (length (rest old))
 
--- none was decoded, and the reader has failed
-pub record OwnNotDecoded (parse : ContentsParse) (old new : ReaderState) (kind : ErrorKind) : Type 0 where
+-- none was decoded, for this fault
+pub record OwnNotDecoded (parse : ContentsParse) (old : ReaderState) (kind : ErrorKind) : Type 0 where
   pub fault_is : seen (parse old.rules) old ≡ Err kind
-  pub failed : new.failed ≡ true
 
 -- what decoding such a value answers, with no memory
 abbrev pub DecodesOwn : {T : Type 0} → (T → List ℕ) → (T → Type 0) → ContentsParse → ReaderState → ReaderState → Result T Error → Type 0
 DecodesOwn contents Within parse old new (Ok v) = OwnDecoded contents Within parse old new v
-DecodesOwn contents Within parse old new (Err e) = OwnNotDecoded parse old new e.kind
+DecodesOwn contents Within parse old new (Err e) = OwnNotDecoded parse old e.kind

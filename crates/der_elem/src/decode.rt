@@ -2,6 +2,7 @@
 
 ghost use Rattle.std.specs.Prelude.{◌≡◌, length};
 ghost use Rattle.der_tlv.specs.ReaderState.{ReaderState, rest};
+ghost use Rattle.der_tlv.specs.Reading.{Stands};
 ghost use Rattle.der_elem.specs.Decoding.{Decodes, DecodesValue, ReadsAll};
 
 use crate::form::{Form, FormValue};
@@ -16,9 +17,11 @@ pub trait DecodeValue<'a, R: Reader<'a>>: FormValue + ValueMemory {
     ///
     /// # Errors
     /// (17) on a failed reader; the first fault of the contents octets, in the type's order; (1)
-    /// where the type takes memory.
+    /// where the type takes memory. Where the header says another length than the reader shows, the
+    /// value may be any, and a refusal leaves the reader as every other does.
     fn decode_value(alloc: Global, reader: &mut R, header: Header) -> Result<Self, Error>
-        ensures { length (rest (R.state reader.old)) ≡ header.length → DecodesValue Self.FormValue header (R.state reader.old) (R.state reader.new) result };
+        ensures exact { length (rest (R.state reader.old)) ≡ header.length → DecodesValue Self.FormValue header (R.state reader.old) (R.state reader.new) result }
+        ensures reader { Stands (R.state reader.old) (R.state reader.new) result };
 }
 
 /// Reading a value from its encoding.

@@ -3,7 +3,7 @@ use Rattle.std.proofs.Common.{◌≡◌, ℕ, ◌≤◌, List, Bool, true, false
 use Rattle.der_tlv.specs.declared.error.ErrorKind.{ErrorKind}
 use Rattle.der_tlv.specs.declared.error.ErrorKind.TheVariants.{Failed}
 use Rattle.der_tlv.specs.ReaderState.{ReaderState, rest, seen, after_read, after_fault, nested, can_read, read_fault}
-use Rattle.der_tlv.specs.Reading.{Refused, Refuses, OctetsRefused, HeadFault}
+use Rattle.der_tlv.specs.Reading.{Refused, Passed, Refuses, OctetsRefused, HeadFault}
 use Rattle.der_tlv.proofs.ReaderStates.{room_from_can_read}
 
 -- a reader that has gone on, or shows fewer octets
@@ -28,6 +28,11 @@ went_inside {old} n can e =
     let q = ap (λ (s : ReaderState). s.end) e in
     let h = room_from_can_read old n can in
     record { input = ap (λ (s : ReaderState). s.input) e; rules = ap (λ (s : ReaderState). s.rules) e; onward = omega arith; narrower = omega arith }
+
+pub went_past : {old mid : ReaderState} → Passed old mid → Went old mid
+went_past passed =
+    let e = passed.end in let p = passed.onward in
+    record { input = passed.input; rules = passed.rules; onward = omega arith; narrower = omega arith }
 
 pub went_further : {old mid new : ReaderState} → Went old mid → Went mid new → Went old new
 went_further a b =
@@ -64,6 +69,22 @@ refused_since ready went refused =
       narrower = omega arith;
       again = λ h. ready_not_failed ready h;
     }
+
+pub passed_read : {old new : ReaderState} (n : ℕ) → old.failed ≡ false → new ≡ after_read old n → Passed old new
+passed_read n ready e =
+    let p = ap (λ (s : ReaderState). s.position) e in
+    record {
+      ready = ready;
+      still = ap (λ (s : ReaderState). s.failed) e ∙ ready;
+      input = ap (λ (s : ReaderState). s.input) e;
+      rules = ap (λ (s : ReaderState). s.rules) e;
+      end = ap (λ (s : ReaderState). s.end) e;
+      onward = omega arith;
+    }
+
+-- a fault that is found behind what was read
+pub refused_past : {old mid new : ReaderState} {kind : ErrorKind} → Passed old mid → new ≡ after_fault mid → Refused old new kind
+refused_past passed e = refused_since passed.ready (went_past passed) (refused_here e (λ h. ready_not_failed passed.still h))
 
 -- a fault that is found where a reader stands that had gone on
 pub refused_at : {old mid new : ReaderState} {kind : ErrorKind} → old.failed ≡ false → Went old mid → mid.failed ≡ false → new ≡ after_fault mid → Refused old new kind

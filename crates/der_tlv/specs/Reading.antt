@@ -22,6 +22,20 @@ pub record Refused (old new : ReaderState) (kind : ErrorKind) : Type 0 where
   pub narrower : new.end ≤ old.end
   pub again : old.failed ≡ true → (kind ≡ Failed) × (new ≡ old)
 
+-- What every call leaves that reads and refuses nothing: the reader had not failed, and has gone on.
+pub record Passed (old new : ReaderState) : Type 0 where
+  pub ready : old.failed ≡ false
+  pub still : new.failed ≡ false
+  pub input : new.input ≡ old.input
+  pub rules : new.rules ≡ old.rules
+  pub end : new.end ≡ old.end
+  pub onward : old.position ≤ new.position
+
+-- what stands after a call that reads, whatever is read
+abbrev pub Stands : {A : Type 0} → ReaderState → ReaderState → Result A Error → Type 0
+Stands old new (Ok v) = Passed old new
+Stands old new (Err e) = Refused old new e.kind
+
 -- one octet was read
 pub record OctetRead (old new : ReaderState) (octet : ℕ) : Type 0 where
   pub ready : old.failed ≡ false

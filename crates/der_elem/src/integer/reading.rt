@@ -2,6 +2,7 @@
 
 ghost use Rattle.std.specs.Prelude.{◌≡◌, ℕ, ◌<◌, ◌≤◌, length, IfOk};
 ghost use Rattle.der_tlv.specs.ReaderState.{rest};
+ghost use Rattle.der_tlv.specs.Reading.{Stands};
 ghost use Rattle.der_elem.specs.OwnContents.{DecodesOwn};
 ghost use Rattle.der_elem.specs.Integer.{natural_contents, integer_contents, FitsSignedWidth, FitsUnsignedWidth};
 ghost use Rattle.der_elem.specs.IntegerReading.{has_needless_zero, ReadsSigned, ReadsUnsigned, parse_signed, parse_unsigned};
@@ -76,6 +77,7 @@ pub fn read_signed<'a, R: Reader<'a>>(
     requires some { 0 < width }
     requires most { width ≤ 16 }
     ensures fits { IfOk result (FitsSignedWidth width) }
+    ensures reader { Stands (R.state reader.old) (R.state reader.new) result }
     ensures read { length (rest (R.state reader.old)) ≡ header.length → DecodesOwn integer_contents (FitsSignedWidth width) (parse_signed width) (R.state reader.old) (R.state reader.new) result }
 {
     let bytes = read_contents(reader, header)?;
@@ -99,6 +101,7 @@ pub fn read_unsigned<'a, R: Reader<'a>>(
     requires some { 0 < width }
     requires most { width ≤ 16 }
     ensures fits { IfOk result (FitsUnsignedWidth width) }
+    ensures reader { Stands (R.state reader.old) (R.state reader.new) result }
     ensures read { length (rest (R.state reader.old)) ≡ header.length → DecodesOwn natural_contents (FitsUnsignedWidth width) (parse_unsigned width) (R.state reader.old) (R.state reader.new) result }
 {
     let bytes = read_contents(reader, header)?;

@@ -9,15 +9,15 @@ use Rattle.der_elem.proofs.ItemReading.{all_taken}
 use Rattle.der_elem.proofs.ArrayReading.{ArraySoFar, no_items, item_fault, too_many_fault, array_more, array_end, array_accepted, take_one, take_written}
 use Rattle.der_elem.proofs.array.ArrayDecodeValue.decode_value.Goals as goal
 
-pub returns-in_err-refuse_item : goal.returns-in_err-refuse_item
-returns-in_err-refuse_item g c = λ shows.
+pub returns-in_err-refuse_item-clause-exact : goal.returns-in_err-refuse_item-clause-exact
+returns-in_err-refuse_item-clause-exact g c = λ shows.
     let ready = c.in_ok-ask_ready.ensures in
     let none = no_items g.T.Form g.row.N (g.R.Reader.state c.args.reader.now) (g.R.Reader.state c.ask_ready.new.reader) ready.1 in
     let fault = too_many_fault none c.in_err-refuse_item.field-0.0.kind (g.R.Reader.state c.refuse_item.new.reader) c.in-Ok.ensures.1.long ready.0 c.in_err-refuse_item.ensures in
     search rules
 
-pub returns-in-Ok : goal.returns-in-Ok
-returns-in-Ok g c = λ shows.
+pub returns-in-Ok-clause-exact : goal.returns-in-Ok-clause-exact
+returns-in-Ok-clause-exact g c = λ shows.
     let ready = c.in_ok-ask_ready.ensures in
     let old = g.R.Reader.state c.args.reader.now in
     let items : c.in-Ok.items ≡ [] = c.in-Ok.ensures.1.same in
@@ -32,8 +32,8 @@ returns-in-Ok g c = λ shows.
       after = c.in_ok-refuse_item.ensures.1 ∙ ready.1 ∙ ap (λ p. record old { position = p }) (omega (arith, ap length empty));
     }
 
-pub returns-in_err-items : goal.returns-in_err-items
-returns-in_err-items g c = λ shows.
+pub returns-in_err-items-clause-exact : goal.returns-in_err-items-clause-exact
+returns-in_err-items-clause-exact g c = λ shows.
     let ready = c.in_ok-ask_ready.ensures in
     let none = no_items g.T.Form g.row.N (g.R.Reader.state c.args.reader.now) (g.R.Reader.state c.ask_ready.new.reader) ready.1 in
     let some : 0 < g.row.N = let h = c.in_default.ensures.1 in omega arith in
@@ -52,8 +52,8 @@ items-init g c =
       so_far = subst (ArraySoFar g.T.Form g.row.N old (g.R.Reader.state c.decode_item.new.reader)) (sym (take_one g.row.N c.in_ok-items.field-0 some)) (array_more none nonempty some c.in_ok-items.ensures);
     }
 
-pub returns-in_err-items-2 : goal.returns-in_err-items-2
-returns-in_err-items-2 g c = λ shows.
+pub returns-in_err-items-2-clause-exact : goal.returns-in_err-items-2-clause-exact
+returns-in_err-items-2-clause-exact g c = λ shows.
     let some : length (take c.items.i c.items.items) < g.row.N = let h = c.items-test.true in omega (arith, length-take c.items.i c.items.items) in
     let fault = item_fault c.items.invariant.so_far c.in_err-items-2.field-0.0.kind (g.R.Reader.state c.decode_item-in-items.new.reader) some c.in_ok-ask_ready.ensures.0 c.in_err-items-2.ensures in
     search rules
@@ -71,15 +71,15 @@ items-preserved g c =
       so_far = subst (ArraySoFar g.T.Form g.row.N old (g.R.Reader.state c.decode_item-in-items.new.reader)) (sym (take_written xs i c.in_ok-items-2.field-0 inside)) (array_more c.items.invariant.so_far nonempty some c.in_ok-items-2.ensures);
     }
 
-pub returns-in_err-refuse_item-2 : goal.returns-in_err-refuse_item-2
-returns-in_err-refuse_item-2 g c = λ shows.
+pub returns-in_err-refuse_item-2-clause-exact : goal.returns-in_err-refuse_item-2-clause-exact
+returns-in_err-refuse_item-2-clause-exact g c = λ shows.
     let some : 0 < g.row.N = let h = c.in_default.ensures.1 in omega arith in
     let all : length (take c.items.i c.items.items) ≡ g.row.N = let h = c.items-test.false in let e = c.items.auto.i-end in let w = c.items.invariant.whole in omega (arith, length-take c.items.i c.items.items) in
     let fault = too_many_fault c.items.invariant.so_far c.in_err-refuse_item-2.field-0.0.kind (g.R.Reader.state c.refuse_item-2.new.reader) all c.in_ok-ask_ready.ensures.0 c.in_err-refuse_item-2.ensures in
     search rules
 
-pub returns : goal.returns
-returns g c = λ shows.
+pub returns-clause-exact : goal.returns-clause-exact
+returns-clause-exact g c = λ shows.
     let some : 0 < g.row.N = let h = c.in_default.ensures.1 in omega arith in
     let w = c.items.invariant.whole in
     let end : c.items.i ≡ g.row.N = let h = c.items-test.false in let e = c.items.auto.i-end in omega arith in

@@ -1,9 +1,10 @@
-use Rattle.std.proofs.Common.{rules, ◌≡◌, ◌∙◌, ◌+◌, sym, ap, inr, false, true, Some, Err, length}
+use Rattle.std.proofs.Common.{rules, ◌≡◌, ◌∙◌, ◌+◌, sym, ap, inr, false, Some, Err, length}
 use Rattle.der_tlv.specs.declared.error.ErrorKind.TheVariants.{TagUnexpected}
 use Rattle.der_tlv.specs.Identifier.{same_identifier}
 use Rattle.der_tlv.specs.HeaderReading.{octets_of}
 use Rattle.der_tlv.specs.HeaderLaws.{same_identifier-true}
-use Rattle.der_elem.proofs.AtContents.{AtHeader, AtContents, shown_length, after_contents}
+use Rattle.der_tlv.proofs.Refusals.{refused_octets}
+use Rattle.der_elem.proofs.AtContents.{refused_at_header, refused_behind_header, refused_inside, AtHeader, AtContents, shown_length, after_contents}
 use Rattle.der_elem.proofs.TaggedDecoding.{header_fault, other_tag_fault, too_long_fault, contents_fault, parsed_value, accepted_value}
 use Rattle.der_elem.proofs.blanket.AnyDecode.decode.Goals as goal
 use Rattle.der_elem.proofs.blanket.AnyDecode.decode.Goals.{In_ok-header, In_ok-end}
@@ -21,14 +22,14 @@ returns-then-not-is g c =
     let at = header_at g (goal.at.returns-then-not-is g c).In_ok-header in
     let other : same_identifier c.in_ok-header.header.tag g.T.FixedTag.TAG ≡ false = ap (same_identifier c.in_ok-header.header.tag) (sym c.TAG.ensures) ∙ sym c.if-not-is.ensures in
     let kind : c.error.result.kind ≡ TagUnexpected (Some g.T.FixedTag.TAG) c.in_ok-header.header.tag = c.error.ensures.kind ∙ c.unexpected_error.ensures ∙ ap (λ t. TagUnexpected (Some t) c.in_ok-header.header.tag) c.TAG-then-not-is.ensures in
-    record { reason = inr (other_tag_fault at g.T.FixedTag.TAG other g.T.FormValue.parse_value (g.R.Reader.state c.args.reader.now).rules ∙ ap Err (sym kind)); failed = ap (λ s. s.failed) c.error.ensures.failed }
+    record { reason = inr (other_tag_fault at g.T.FixedTag.TAG other g.T.FormValue.parse_value (g.R.Reader.state c.args.reader.now).rules ∙ ap Err (sym kind)); reader = refused_at_header at c.error.ensures.failed }
 
 pub returns-in_err-end : goal.returns-in_err-end
 returns-in_err-end g c =
     let at = header_at g (goal.at.returns-in_err-end g c).In_ok-header in
     let same : c.in_ok-header.header.tag ≡ g.T.FixedTag.TAG = same_identifier-true c.in_ok-header.header.tag c.TAG.result (sym c.if-not-is.ensures) ∙ c.TAG.ensures in
     let fault = too_long_fault at c.in_err-end.ensures g.T.FixedTag.TAG same g.T.FormValue.parse_value (g.R.Reader.state c.args.reader.now).rules in
-    let failed : (g.R.Reader.state c.nest.new.self).failed ≡ true = ap (λ s. s.failed) c.in_err-end.ensures.after in
+    let reader = refused_behind_header at (refused_octets c.in_err-end.ensures) in
     search rules
 
 contents_at : (g : _) (c : In_ok-end g) → AtContents c.in_ok-header.header (g.R.Reader.state c.args.reader.now) (g.R.Reader.state c.decode.new.reader) (g.R.Reader.state c.nest.new.self) c.in_ok-end.end
@@ -39,16 +40,16 @@ pub returns-in_err-value : goal.returns-in_err-value
 returns-in_err-value g c =
     let at = contents_at g (goal.at.returns-in_err-value g c).In_ok-end in
     let same : c.in_ok-header.header.tag ≡ g.T.FixedTag.TAG = same_identifier-true c.in_ok-header.header.tag c.TAG.result (sym c.if-not-is.ensures) ∙ c.TAG.ensures in
-    let told = c.in_err-value.ensures (shown_length at) in
+    let told = c.in_err-value.ensures.exact (shown_length at) in
     let fault = contents_fault g.T.FormValue g.T.FixedTag.TAG at same told in
-    let failed = told.failed in
+    let reader = refused_inside at c.in_err-value.ensures.reader in
     search rules
 
 pub returns : goal.returns
 returns g c =
     let at = contents_at g (goal.at.returns g c).In_ok-end in
     let same : c.in_ok-header.header.tag ≡ g.T.FixedTag.TAG = same_identifier-true c.in_ok-header.header.tag c.TAG.result (sym c.if-not-is.ensures) ∙ c.TAG.ensures in
-    let told = c.in_ok-value.ensures (shown_length at) in
+    let told = c.in_ok-value.ensures.exact (shown_length at) in
     record {
       taken = length (octets_of c.in_ok-header.header) + c.in_ok-header.header.length;
       ready = at.at.head.ready;

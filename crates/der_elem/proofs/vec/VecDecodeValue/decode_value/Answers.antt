@@ -5,8 +5,8 @@ use Rattle.der_elem.specs.OrderLaws.{accepted-some}
 use Rattle.der_elem.proofs.ItemReading.{ItemsSoFar, items_more, items_smaller, items_fault, items_end, items_accepted, more_left, all_taken}
 use Rattle.der_elem.proofs.vec.VecDecodeValue.decode_value.Goals as goal
 
-pub returns-in_err-item : goal.returns-in_err-item
-returns-in_err-item g c = λ shows.
+pub returns-in_err-item-clause-exact : goal.returns-in_err-item-clause-exact
+returns-in_err-item-clause-exact g c = λ shows.
     let told = c.in_err-item.ensures in
     let some = more_left _ _ c.is_finished.ensures c.items-test.true in
     let fault = items_fault c.items.invariant c.in_ok-ask_ready.ensures.0 some g.T.Form.TAKES_MEMORY c.in_err-item.field-0.0.kind told.reason in
@@ -25,8 +25,8 @@ items-preserved g c =
     let pushed : c.push.new.self.items ≡ c.items.items.items ++ c.in_ok-item.item ∷ [] = grind (arith, common_steps) in
     subst (ItemsSoFar g.T.Form (g.R.Reader.state c.args.reader.now) (g.R.Reader.state c.decode.new.reader)) (sym pushed) (items_more c.items.invariant nonempty some c.in_ok-item.ensures)
 
-pub returns : goal.returns
-returns g c = λ shows.
+pub returns-clause-exact : goal.returns-clause-exact
+returns-clause-exact g c = λ shows.
     let so_far = c.items.invariant in
     let none : rest (g.R.Reader.state c.items.reader) ≡ [] = search rules in
     let sound : IsReaderState (g.R.Reader.state c.args.reader.now) = search rules in
