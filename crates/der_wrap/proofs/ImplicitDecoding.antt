@@ -52,8 +52,8 @@ module _ {T : Type 0} (F : value.Ghosts T) {header : Header} {old mid shown : Re
       behind c.at t own F.parse_value old.rules allowed ∙ parse_shown_as c t F.parse_value old.rules ∙ ap (λ rules. tagged_contents t (length (octets_of header) + header.length) (F.parse_value rules shown.position (rest shown))) (sym (shown_rules c))
 
   -- the fault of the contents octets
-  pub contents_fault_implicit : {new : ReaderState} {kind : ErrorKind} → ValueNotDecoded F shown new kind → Faults F.VALUE_TAKES_MEMORY (seen (parse_implicit t own F.parse_value old.rules) old) kind
-  contents_fault_implicit {new} {kind} told =
+  pub contents_fault_implicit : {kind : ErrorKind} → ValueNotDecoded F shown kind → Faults F.VALUE_TAKES_MEMORY (seen (parse_implicit t own F.parse_value old.rules) old) kind
+  contents_fault_implicit {kind} told =
       elim told.reason [
         | inl m ↦ inl m
         | inr e ↦

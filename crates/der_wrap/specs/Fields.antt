@@ -5,6 +5,7 @@ use Rattle.der_tlv.specs.declared.error.ErrorKind.TheVariants.{Memory, TagUnexpe
 use Rattle.der_tlv.specs.declared.error.Error.{Error}
 use Rattle.der_tlv.specs.declared.encoding_rules.EncodingRules.{EncodingRules}
 use Rattle.der_tlv.specs.ReaderState.{ReaderState, after_read, rest, seen}
+use Rattle.der_tlv.specs.Reading.{Refused}
 use Rattle.der_elem.specs.Parsing.{Parse}
 use Rattle.der_elem.specs.Options.{encoding_option, accepts_option}
 use Rattle.der_elem.specs.Decoding.{Faults, AllRead, NotAllRead}
@@ -26,10 +27,10 @@ pub record FieldDecoded {W : Type 0} (parse : Parse) (encoding : W → List ℕ)
   pub accepted : accepts_option (accepts old.rules) field (take taken (rest old))
   pub after : new ≡ after_read old taken
 
--- no field was decoded, and the reader has failed
+-- no field was decoded: why, and what that leaves
 pub record FieldNotDecoded (takes_memory : Bool) (parse : Parse) (old new : ReaderState) (kind : ErrorKind) : Type 0 where
   pub reason : Faults takes_memory (seen (parse old.rules) old) kind
-  pub failed : new.failed ≡ true
+  pub reader : Refused old new kind
 
 -- what decoding a field that may be absent answers
 abbrev pub DecodesField : {W : Type 0} → Bool → Parse → (W → List ℕ) → (EncodingRules → W → List ℕ → Type 0) → ReaderState → ReaderState → Result (Option W) Error → Type 0

@@ -7,7 +7,8 @@ use Rattle.der_tlv.specs.ReaderState.{rest, seen}
 use Rattle.der_tlv.specs.TagMatching.{match_tag}
 use Rattle.der_tlv.specs.TagParts.{is_constructed}
 use Rattle.der_elem.specs.Decoding.{Faults}
-use Rattle.der_elem.proofs.AtContents.{AtHeader, AtContents, shown_length, after_contents}
+use Rattle.der_tlv.proofs.Refusals.{refused_octets}
+use Rattle.der_elem.proofs.AtContents.{AtHeader, AtContents, refused_at_header, refused_behind_header, refused_inside, shown_length, after_contents}
 use Rattle.der_wrap.specs.ClassTags.{class_of_bits, class_tag}
 use Rattle.der_wrap.specs.TaggedValues.{form_allowed, parse_field, parse_implicit, in_implicit}
 use Rattle.der_wrap.proofs.FieldDecoding.{found_fault, found_field, header_matched}
@@ -35,7 +36,7 @@ returns-in_err-header g c =
     let ready : old.failed ≡ false = search rules in
     let head : HeadFault read_header old (g.R.Reader.state c.decode.new.reader) c.in_err-header.field-0.0.kind = subst (λ s. HeadFault read_header s (g.R.Reader.state c.decode.new.reader) c.in_err-header.field-0.0.kind) same c.in_err-header.ensures.head in
     let fault = found_fault bits n old ready found (parse_implicit t own g.T.FormValue.parse_value) old.rules (header_fault_implicit head t own g.T.FormValue.parse_value old.rules) in
-    let failed = head.failed in
+    let reader = head.reader in
     search rules
 
 pub returns-in-Err : goal.returns-in-Err
@@ -54,7 +55,7 @@ returns-in-Err g c =
     let by_constant : (parsed : Result (ℕ × List ℕ) ErrorKind) → in_implicit c.encoding_rules.result own tag parsed ≡ Err kind = subst (λ o. (parsed : Result (ℕ × List ℕ) ErrorKind) → in_implicit c.encoding_rules.result o tag parsed ≡ Err kind) c.CONSTRUCTED.ensures c.in-Err.ensures in
     let refused : (parsed : Result (ℕ × List ℕ) ErrorKind) → in_implicit old.rules own tag parsed ≡ Err kind = subst (λ r. (parsed : Result (ℕ × List ℕ) ErrorKind) → in_implicit r own tag parsed ≡ Err kind) rules_are by_constant in
     let fault = form_fault_implicit at t own g.T.FormValue.parse_value old.rules kind refused in
-    record { reason = inr (found_fault bits n old ready found (parse_implicit t own g.T.FormValue.parse_value) old.rules fault ∙ ap Err (sym c.error.ensures.kind)); failed = ap (λ s. s.failed) c.error.ensures.failed }
+    record { reason = inr (found_fault bits n old ready found (parse_implicit t own g.T.FormValue.parse_value) old.rules fault ∙ ap Err (sym c.error.ensures.kind)); reader = refused_at_header at c.error.ensures.failed }
 
 allowed_at : (g : _) (c : In-Ok g) → form_allowed (g.R.Reader.state c.args.reader.now).rules (is_constructed c.in_ok-header.header.tag) g.T.IsConstructed.CONSTRUCTED ≡ true
 allowed_at g c =
@@ -79,7 +80,7 @@ returns-in_err-end g c =
     let allowed = allowed_at g (goal.at.returns-in_err-end g c).In-Ok in
     let refused = c.in_err-end.ensures in
     let fault = found_fault bits n old ready found (parse_implicit t own g.T.FormValue.parse_value) old.rules (too_long_implicit at t own g.T.FormValue.parse_value old.rules allowed refused) in
-    let failed : (g.R.Reader.state c.nest.new.self).failed ≡ true = ap (λ s. s.failed) refused.after in
+    let reader = refused_behind_header at (refused_octets refused) in
     search rules
 
 pub returns-in_err-value : goal.returns-in_err-value
@@ -93,13 +94,13 @@ returns-in_err-value g c =
     let ready : old.failed ≡ false = search rules in
     let at = contents_at g (goal.at.returns-in_err-value g c).In_ok-end (header_at g (goal.at.returns-in_err-value g c).In_ok-header) in
     let allowed = allowed_at g (goal.at.returns-in_err-value g c).In-Ok in
-    let told = c.in_err-value.ensures (shown_length at) in
+    let told = c.in_err-value.ensures.exact (shown_length at) in
     let parse = parse_implicit t own g.T.FormValue.parse_value in
     let faults : Faults g.T.FormValue.VALUE_TAKES_MEMORY (seen (parse_field bits n parse old.rules) old) c.in_err-value.field-0.0.kind = elim (contents_fault_implicit g.T.FormValue at t own allowed told) [
       | inl m ↦ inl m
       | inr e ↦ inr (found_fault bits n old ready found parse old.rules e)
     ] in
-    let failed = told.failed in
+    let reader = refused_inside at c.in_err-value.ensures.reader in
     search rules
 
 pub returns : goal.returns
@@ -112,7 +113,7 @@ returns g c =
     let found : match_tag (class_of_bits bits) n old.position (rest old) ≡ Ok true = search rules in
     let at = contents_at g (goal.at.returns g c).In_ok-end (header_at g (goal.at.returns g c).In_ok-header) in
     let allowed = allowed_at g (goal.at.returns g c).In-Ok in
-    let told = c.in_ok-value.ensures (shown_length at) in
+    let told = c.in_ok-value.ensures.exact (shown_length at) in
     let header = c.in_ok-header.header in
     let parse = parse_implicit t own g.T.FormValue.parse_value in
     let tag_is = header_matched bits n old.position (rest old) (length (octets_of header)) header found at.at.head.parsed in

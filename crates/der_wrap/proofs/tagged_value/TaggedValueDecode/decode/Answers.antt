@@ -1,7 +1,9 @@
-use Rattle.std.proofs.Common.{rules, ◌≡◌, ◌∙◌, ◌+◌, sym, ap, inr, true, Err, length}
+use Rattle.std.proofs.Common.{rules, ◌∙◌, ◌+◌, sym, ap, inr, Err, length}
 use Rattle.der_tlv.specs.HeaderReading.{octets_of}
 use Rattle.der_tlv.specs.ReaderState.{IsReaderState}
-use Rattle.der_elem.proofs.AtContents.{AtHeader, AtContents}
+use Rattle.der_tlv.specs.Reading.{Refused}
+use Rattle.der_tlv.proofs.Refusals.{passed_read, refused_octets, refused_past}
+use Rattle.der_elem.proofs.AtContents.{AtHeader, AtContents, refused_at_header, refused_behind_header, refused_inside}
 use Rattle.der_wrap.proofs.ExplicitDecoding.{header_fault_explicit, tag_fault_explicit, too_long_explicit, value_fault_explicit, left_over_explicit, taken_all, parsed_explicit, accepted_explicit, after_explicit}
 use Rattle.der_wrap.proofs.tagged_value.TaggedValueDecode.decode.Goals as goal
 use Rattle.der_wrap.proofs.tagged_value.TaggedValueDecode.decode.Goals.{In_ok-header, In_ok-end}
@@ -22,13 +24,13 @@ pub returns-in-Err : goal.returns-in-Err
 returns-in-Err g c =
     let at = header_at g (goal.at.returns-in-Err g c).In_ok-header in
     let fault = tag_fault_explicit at g.row.CLASS g.T.Form.parse (g.R.Reader.state c.args.reader.now).rules c.in-Err.kind c.in-Err.ensures in
-    record { reason = inr (fault ∙ ap Err (sym c.error.ensures.kind)); failed = ap (λ s. s.failed) c.error.ensures.failed }
+    record { reason = inr (fault ∙ ap Err (sym c.error.ensures.kind)); reader = refused_at_header at c.error.ensures.failed }
 
 pub returns-in_err-end : goal.returns-in_err-end
 returns-in_err-end g c =
     let at = header_at g (goal.at.returns-in_err-end g c).In_ok-header in
     let fault = too_long_explicit at g.row.CLASS g.T.Form.parse (g.R.Reader.state c.args.reader.now).rules c.in-Ok.number.0 c.in-Ok.ensures c.in_err-end.ensures in
-    let failed : (g.R.Reader.state c.nest.new.self).failed ≡ true = ap (λ s. s.failed) c.in_err-end.ensures.after in
+    let reader = refused_behind_header at (refused_octets c.in_err-end.ensures) in
     search rules
 
 pub returns-in_err-value : goal.returns-in_err-value
@@ -36,7 +38,7 @@ returns-in_err-value g c =
     let at = contents_at g (goal.at.returns-in_err-value g c).In_ok-end in
     let told = c.in_err-value.ensures in
     let fault = value_fault_explicit g.T.Form at g.row.CLASS c.in-Ok.number.0 c.in-Ok.ensures told in
-    let failed = told.failed in
+    let reader = refused_inside at told.reader in
     search rules
 
 pub returns-in_err-unnest : goal.returns-in_err-unnest
@@ -45,7 +47,7 @@ returns-in_err-unnest g c =
     let sound : IsReaderState (g.R.Reader.state c.nest.new.self) = search rules in
     let sound_after : IsReaderState (g.R.Reader.state c.decode-2.new.reader) = search rules in
     let fault = left_over_explicit g.T.Form at g.row.CLASS c.in-Ok.number.0 c.in-Ok.ensures c.in_ok-value.ensures sound sound_after c.in_err-unnest.ensures in
-    let failed : (g.R.Reader.state c.unnest.new.self).failed ≡ true = ap (λ s. s.failed) c.in_err-unnest.ensures.after in
+    let reader : Refused (g.R.Reader.state c.args.reader.now) (g.R.Reader.state c.unnest.new.self) c.in_err-unnest.field-0.0.kind = refused_inside at (refused_past (passed_read _ c.in_ok-value.ensures.ready c.in_ok-value.ensures.after) c.in_err-unnest.ensures.after) in
     search rules
 
 pub returns : goal.returns
