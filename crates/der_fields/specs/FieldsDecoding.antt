@@ -1,8 +1,9 @@
 -- What reading the fields of a SEQUENCE answers.
-use Rattle.std.specs.Prelude.{◌≡◌, length, true, false, Result, Ok, Err}
+use Rattle.std.specs.Prelude.{◌≡◌, length, false, Result, Ok, Err}
 use Rattle.der_tlv.specs.declared.error.Error.{Error}
 use Rattle.der_tlv.specs.declared.error.ErrorKind.{ErrorKind}
 use Rattle.der_tlv.specs.ReaderState.{ReaderState, after_read, rest, seen}
+use Rattle.der_tlv.specs.Reading.{Refused}
 use Rattle.der_elem.specs.Decoding.{Faults}
 use Rattle.der_fields.specs.declared.field_list.FieldList as fields
 
@@ -13,10 +14,10 @@ pub record FieldsDecoded {T : Type 0} (F : fields.Ghosts T) (old new : ReaderSta
   pub accepted : F.accepts_fields old.rules v (rest old)
   pub after : new ≡ after_read old (length (rest old))
 
--- no fields were decoded, and the reader has failed
+-- no fields were decoded: why, and what that leaves
 pub record FieldsNotDecoded {T : Type 0} (F : fields.Ghosts T) (old new : ReaderState) (kind : ErrorKind) : Type 0 where
   pub reason : Faults F.FIELDS_TAKE_MEMORY (seen (F.parse_fields old.rules) old) kind
-  pub failed : new.failed ≡ true
+  pub reader : Refused old new kind
 
 -- what decoding fields answers
 abbrev pub DecodesFields : {T : Type 0} → fields.Ghosts T → ReaderState → ReaderState → Result T Error → Type 0
