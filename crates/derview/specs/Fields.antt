@@ -5,7 +5,7 @@ use Rattle.der_asn1_types.specs.Error.{Error}
 use Rattle.der_asn1_types.specs.ErrorKind.{ErrorKind}
 use Rattle.der_asn1_types.specs.ErrorKind.TheVariants.{TrailingData, Overflow, Value, Memory}
 use Rattle.der_asn1_types.specs.Octets.{lex}
-use Rattle.der_asn1_types.specs.ReaderState.{ReaderState, rest}
+use Rattle.der_asn1_types.specs.ReaderState.{ReaderState, rest, after_fault}
 use Rattle.der_asn1_types.specs.Form as form
 use Rattle.der_asn1_types.specs.Parsing.{Parse, ContentsParse}
 use Rattle.der_asn1_types.specs.Decoding.{left_over}
@@ -42,7 +42,7 @@ parse_fields first second rules p octets = behind_first (second rules) p octets 
 -- what asking that no octet is left answers: the reader stays as it is, or has failed (3)
 abbrev pub AsksEnd : ReaderState → ReaderState → Result (Unit {0}) Error → Type 0
 AsksEnd old new (Ok u) = (rest old ≡ []) × (new ≡ old)
-AsksEnd old new (Err e) = (0 < length (rest old)) × (e.kind ≡ left_over old) × (new.failed ≡ true)
+AsksEnd old new (Err e) = (0 < length (rest old)) × (e.kind ≡ left_over old) × (new ≡ after_fault old)
 
 -- why two pairs of fields are not compared: no length says how many octets one has, two fields are not of one form, or memory ran out where items are read again
 abbrev pub IncomparableFields : {T U : Type 0} → form.Ghosts T → form.Ghosts U → T → T → U → U → ErrorKind → Type 0

@@ -4,8 +4,8 @@ use Rattle.der_asn1_types.proofs.ItemReading.{all_taken}
 use Rattle.derview.proofs.FieldReading.{fields_parsed, fields_accepted, fields_taken}
 use Rattle.derview.proofs.algorithm_identifier.AlgorithmIdentifierDecodeValue.decode_value.Goals as goal
 
-pub returns-in-Ok-ask_end : goal.returns-in-Ok-ask_end
-returns-in-Ok-ask_end g c = λ shows.
+pub returns-in-Ok-ask_end-clause-exact : goal.returns-in-Ok-ask_end-clause-exact
+returns-in-Ok-ask_end-clause-exact g c = λ shows.
     let first = c.in-Ok.ensures in
     let second = c.in-Ok-decode.ensures in
     let none = c.in-Ok-ask_end.ensures.0 in
