@@ -41,8 +41,8 @@ abbrev pub KeepsString : {T : Type 0} → (T → List ℕ) → ℕ → List ℕ 
 KeepsString contents number octets (Ok v) = (contents v ≡ octets) × (are_characters number octets ≡ true) × (length octets < 2 ^ 32)
 KeepsString contents number octets (Err e) = (e.kind ≡ Value (string_tag number)) × ((are_characters number octets ≡ false) ⊎ (2 ^ 32 ≤ length octets))
 
--- the same, or (1) where memory ran out
+-- the same, or (1) where memory ran out for octets that have no fault
 abbrev pub KeepsOwnedString : {T : Type 0} → (T → List ℕ) → ℕ → List ℕ → Result T Error → Type 0
 KeepsOwnedString contents number octets (Ok v) = (contents v ≡ octets) × (are_characters number octets ≡ true) × (length octets < 2 ^ 32)
 KeepsOwnedString contents number octets (Err e) =
-    (e.kind ≡ Memory) ⊎ ((e.kind ≡ Value (string_tag number)) × ((are_characters number octets ≡ false) ⊎ (2 ^ 32 ≤ length octets)))
+    ((e.kind ≡ Memory) × (are_characters number octets ≡ true) × (length octets < 2 ^ 32)) ⊎ ((e.kind ≡ Value (string_tag number)) × ((are_characters number octets ≡ false) ⊎ (2 ^ 32 ≤ length octets)))

@@ -35,8 +35,8 @@ impl<const NUMBER: u8> CharacterString<NUMBER> {
     /// A string of these characters, copied.
     ///
     /// # Errors
-    /// (13) for an octet that is no character of the type, and for more than 4294967295 octets; (1)
-    /// where memory runs out.
+    /// (13) for an octet that is no character of the type, and for more than 4294967295 octets; else
+    /// (1) where memory runs out.
     pub fn new(alloc: Global, octets: &[u8]) -> Result<CharacterString<NUMBER>, Error>
         ensures { KeepsOwnedString ⟦<CharacterString<NUMBER> as FormValue>⟧.contents NUMBER octets.now result }
     {

@@ -50,10 +50,10 @@ abbrev pub KeepsNumber : {T : Type 0} → (T → List ℕ) → List ℕ → List
 KeepsNumber contents octets fewest (Ok v) = (contents v ≡ fewest) × (0 < length octets) × (length fewest < 2 ^ 32)
 KeepsNumber contents octets fewest (Err e) = (e.kind ≡ kinds.Length Integer) × ((octets ≡ []) ⊎ (2 ^ 32 ≤ length fewest))
 
--- the same in memory, or (1)
+-- the same in memory, or (1) for octets that have no fault
 abbrev pub KeepsCopy : {T : Type 0} → (T → List ℕ) → List ℕ → List ℕ → Result T Error → Type 0
 KeepsCopy contents octets fewest (Ok v) = KeepsNumber contents octets fewest (Ok v)
-KeepsCopy {T} contents octets fewest (Err e) = (e.kind ≡ kinds.Memory) ⊎ KeepsNumber {T = T} contents octets fewest (Err e)
+KeepsCopy {T} contents octets fewest (Err e) = ((e.kind ≡ kinds.Memory) × (0 < length octets) × (length fewest < 2 ^ 32)) ⊎ KeepsNumber {T = T} contents octets fewest (Err e)
 
 -- a value in memory with these contents octets, or (1)
 abbrev pub CopiesContents : {T : Type 0} → (T → List ℕ) → List ℕ → Result T Error → Type 0

@@ -41,7 +41,8 @@ impl Int {
     /// The integer that the octets are the two's complement of, in the fewest octets.
     ///
     /// # Errors
-    /// (7) for no octets, and where the fewest are more than 4294967295; (1) where memory runs out.
+    /// (7) for no octets, and where the fewest are more than 4294967295; else (1) where memory runs
+    /// out.
     pub fn new(alloc: Global, octets: &[u8]) -> Result<Int, Error>
         ensures { KeepsCopy ⟦<Int as FormValue>⟧.contents octets.now (integer_contents (twos_complement octets.now)) result }
     {

@@ -47,7 +47,7 @@ impl Uint {
     /// The number that the octets say, highest octet first.
     ///
     /// # Errors
-    /// (7) for no octets, and where there are more than 4294967295 contents octets; (1) where
+    /// (7) for no octets, and where there are more than 4294967295 contents octets; else (1) where
     /// memory runs out.
     pub fn new(alloc: Global, octets: &[u8]) -> Result<Uint, Error>
         ensures { KeepsCopy ⟦<Uint as FormValue>⟧.contents octets.now (natural_contents (big_endian_number octets.now)) result }
