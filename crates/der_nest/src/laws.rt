@@ -1,4 +1,4 @@
-//! Laws of sets: functions that do nothing, and promise what holds of all sets.
+//! Laws of sets and of sequences that are not looked at: functions that do little, and promise what holds of all.
 
 ghost use Rattle.std.specs.Prelude.{◌≡◌, ℕ, List, [], ◌∷◌, ◌++◌, map, flat_map};
 ghost use Rattle.std.specs.List.Sorted.{IsPermutation, IsSorted};
@@ -6,7 +6,9 @@ ghost use Rattle.der_tlv.specs.Octets.{lex};
 ghost use Rattle.der_nest.specs.Places.{IsInOrder, placed, placed_all, sorted};
 ghost use Rattle.der_nest.specs.Stable.{IsSetOf};
 
-use der_elem::Form;
+use crate::sequence_ref::SequenceRef;
+use der_elem::{Form, FormValue};
+use std::cmp::Ordering;
 
 /// Encodings that are inserted one after another come to one list, whatever their order: the same
 /// encodings, each as often, and none greater than the next.
@@ -42,3 +44,10 @@ pub fn set_of_what_came<T: Form>()
     ensures encoded { (came set : List T) → IsSetOf T.encoding came set → map T.encoding set ≡ sorted (map T.encoding came) }
     ensures octets { (xs ys a b : List T) → IsPermutation xs ys → IsSetOf T.encoding xs a → IsSetOf T.encoding ys b → flat_map T.encoding a ≡ flat_map T.encoding b }
 {}
+
+/// Two SEQUENCEs that are not looked at are ordered by their contents octets.
+pub fn sequences_by_contents<'a>(one: SequenceRef<'a>, other: SequenceRef<'a>) -> Ordering
+    ensures { result ≡ lex (⟦<SequenceRef<'a> as FormValue>⟧.contents one.entry) (⟦<SequenceRef<'a> as FormValue>⟧.contents other.entry) }
+{
+    one.cmp(&other)
+}

@@ -26,3 +26,10 @@ impl EncodingRules {
         }
     }
 }
+
+/// The rules are DER where nothing else is said.
+pub fn default_rules() -> EncodingRules
+    ensures { result ≡ EncodingRules.Der }
+{
+    EncodingRules::default()
+}

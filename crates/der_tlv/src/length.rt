@@ -12,7 +12,7 @@ ghost use Rattle.der_tlv.specs.declared.error.ErrorKind.TheVariants.{Overflow};
 
 use crate::error::{Error, ErrorKind};
 use crate::reader::Reader;
-pub use laws::{lengths_are_short, lengths_are_unique, lengths_read_back};
+pub use laws::{greatest_length, lengths_are_short, lengths_are_unique, lengths_read_back};
 use std::marker::Model;
 
 /// A number of octets, 0 to 4294967295.

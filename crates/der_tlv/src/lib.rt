@@ -18,14 +18,16 @@ mod writer;
 
 pub use bytes_owned::BytesOwned;
 pub use bytes_ref::BytesRef;
-pub use encoding_rules::EncodingRules;
+pub use encoding_rules::{EncodingRules, default_rules};
 pub use error::{Error, ErrorKind};
 pub use header::{Header, headers_are_unique, headers_read_back};
-pub use length::{Length, lengths_are_short, lengths_are_unique, lengths_read_back};
+pub use length::{
+    Length, greatest_length, lengths_are_short, lengths_are_unique, lengths_read_back,
+};
 pub use reader::{Reader, SliceReader};
 pub use tag::{
-    Class, Tag, TagMode, TagNumber, identifiers_are_short, identifiers_are_unique,
-    identifiers_decide_order, identifiers_read_back, identifiers_tell_tags,
+    Class, Tag, TagMode, TagNumber, default_mode, explicit_before_implicit, identifiers_are_short,
+    identifiers_are_unique, identifiers_decide_order, identifiers_read_back, identifiers_tell_tags,
 };
 pub use writer::{SliceWriter, VecWriter, Writer};
 

@@ -21,8 +21,8 @@ use crate::error::{Error, ErrorKind};
 use crate::reader::Reader;
 pub use class::Class;
 pub use laws::{
-    identifiers_are_short, identifiers_are_unique, identifiers_decide_order, identifiers_read_back,
-    identifiers_tell_tags,
+    default_mode, explicit_before_implicit, identifiers_are_short, identifiers_are_unique,
+    identifiers_decide_order, identifiers_read_back, identifiers_tell_tags,
 };
 pub use mode::TagMode;
 pub use number::TagNumber;

@@ -1,6 +1,9 @@
-//! Laws of length octets, which stand as the contracts of functions that do nothing.
+//! Laws of lengths and length octets, which stand as the contracts of functions that do little.
 
+ghost use Rattle.std.specs.Prelude.{◌≡◌, ◌^◌, ◌-◌};
 ghost use Rattle.der_tlv.specs.HeadLaws.{LengthsAreUnique, LengthsReadBack, LengthsAreShort};
+
+use crate::length::Length;
 
 /// No length octets are a beginning of those of another length.
 pub fn lengths_are_unique()
@@ -11,6 +14,13 @@ pub fn lengths_are_unique()
 pub fn lengths_read_back()
     ensures { LengthsReadBack }
 {}
+
+/// The greatest length is 4294967295.
+pub fn greatest_length() -> Length
+    ensures { result ≡ 2 ^ 32 - 1 }
+{
+    Length::MAX
+}
 
 /// A length has one to five length octets.
 pub fn lengths_are_short()
