@@ -6,8 +6,11 @@ ghost use Rattle.std.specs.Hash.{items_Alike};
 
 use crate::sequence_of::SequenceOf;
 use crate::set_of::SetOf;
+use crate::set_of_ref::SetOfRef;
+use crate::set_of_ref_iter::SetOfRefIter;
 use crate::set_of_vec::SetOfVec;
-use der_elem::Form;
+use der_elem::{Decode, Duplicate, Form};
+use der_tlv::SliceReader;
 use std::cmp::Ordering;
 use std::fmt;
 use std::hash::{Hash, Hasher};
@@ -111,5 +114,23 @@ impl<T: Form + fmt::Debug, const N: usize> fmt::Debug for SetOf<T, N> {
 impl<T: fmt::Debug, const N: usize> fmt::Debug for SequenceOf<T, N> {
     fn fmt<W: fmt::Write>(&self, f: &mut fmt::Formatter<W>) -> fmt::Result {
         fmt::Debug::fmt(&self.as_slice(), f)
+    }
+}
+
+impl<'a, T: Form> fmt::Debug for SetOfRef<'a, T> {
+    /// How many items there are; they are not read again.
+    fn fmt<W: fmt::Write>(&self, f: &mut fmt::Formatter<W>) -> fmt::Result {
+        f.debug_struct("SetOfRef")
+            .field("len", &self.len())
+            .finish_non_exhaustive()
+    }
+}
+
+impl<'a, T: Decode<'a, SliceReader<'a>> + Duplicate> fmt::Debug for SetOfRefIter<'a, T> {
+    /// How many items are still to come; they are not read again.
+    fn fmt<W: fmt::Write>(&self, f: &mut fmt::Formatter<W>) -> fmt::Result {
+        f.debug_struct("SetOfRefIter")
+            .field("len", &self.len())
+            .finish_non_exhaustive()
     }
 }

@@ -1,6 +1,6 @@
 //! The items of a borrowed set, one after another.
 
-ghost use Rattle.std.specs.Prelude.{◌≡◌, length, false};
+ghost use Rattle.std.specs.Prelude.{⊤, ◌≡◌, length, false, IfOk};
 ghost use Rattle.std.specs.Iterator.{at_most};
 ghost use Rattle.der_nest.specs.BorrowedSets.{encodings_of};
 ghost use Rattle.der_nest.specs.BorrowedItems.{GivesNext};
@@ -10,6 +10,7 @@ use crate::set_of_ref::found::Found;
 use crate::set_of_ref::item_reader::ItemReader;
 use der_elem::{Decode, Duplicate, Form};
 use der_tlv::{Error, SliceReader};
+use std::alloc::AllocError;
 use std::iter::FusedIterator;
 use std::marker::Model;
 
@@ -104,3 +105,20 @@ impl<'a, T: Decode<'a, SliceReader<'a>> + Duplicate> ExactSizeIterator for SetOf
 }
 
 impl<'a, T: Decode<'a, SliceReader<'a>> + Duplicate> FusedIterator for SetOfRefIter<'a, T> {}
+
+impl<'a, T: Form> Clone for SetOfRefIter<'a, T> {
+    ghost is_clone = { λ v w. w ≡ v };
+
+    ghost is_infallible = { λ _. ⊤ };
+
+    /// The same items are still to come from both.
+    fn clone(&self) -> Result<SetOfRefIter<'a, T>, AllocError>
+        ensures { IfOk result (λ copy. copy ≡ self.now) }
+    {
+        let rest = match &self.rest {
+            Rest::Octets(items) => Rest::Octets(items.same()),
+            Rest::Items(items) => Rest::Items(items),
+        };
+        Ok(SetOfRefIter { rest })
+    }
+}

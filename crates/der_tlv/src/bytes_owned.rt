@@ -6,6 +6,7 @@ ghost use Rattle.der_tlv.specs.declared.error.ErrorKind.TheVariants.{Overflow};
 use crate::bytes_ref::BytesRef;
 use crate::error::Error;
 use crate::length::Length;
+use std::alloc::AllocError;
 
 /// Owned octets, of which there are at most 4294967295.
 #[derive(Debug, Drop, PartialEq, Eq, PartialOrd, Ord, Hash)]
@@ -64,5 +65,14 @@ impl BytesOwned {
         ensures { IsTrue result ↔ (self.now.octets.items ≡ []) }
     {
         self.octets.is_empty()
+    }
+}
+
+impl Clone for BytesOwned {
+    ghost is_clone = { λ v w. w.octets.items ≡ v.octets.items };
+
+    fn clone(&self) -> Result<BytesOwned, AllocError> {
+        let copy = self.octets.clone()?;
+        Ok(BytesOwned { octets: copy })
     }
 }

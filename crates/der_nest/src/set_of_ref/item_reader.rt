@@ -21,6 +21,22 @@ pub(crate) struct ItemReader<'a, T: Form> {
 }
 
 impl<'a, T: Form> ItemReader<'a, T> {
+    /// A reader of the same items.
+    pub(crate) fn same(&self) -> ItemReader<'a, T>
+        ensures left { result.left ≡ self.now.left }
+        ensures reader { slice_reader_state result.reader ≡ slice_reader_state self.now.reader }
+    {
+        match self.reader.clone() {
+            Ok(reader) => ItemReader {
+                reader,
+                left: self.left,
+                alloc: self.alloc,
+                of: PhantomData,
+            },
+            Err(_) => unreachable!(),
+        }
+    }
+
     pub(crate) fn new(alloc: Global, reader: SliceReader<'a>, left: usize) -> ItemReader<'a, T>
         requires ready { (slice_reader_state reader).failed ≡ false }
         requires counted { length (unread left T.parse (slice_reader_state reader)) ≡ left }
