@@ -1,6 +1,6 @@
 //! The items of a borrowed set, one after another.
 
-ghost use Rattle.std.specs.Prelude.{⊤, ◌≡◌, length, false, IfOk};
+ghost use Rattle.std.specs.Prelude.{⊤, ◌≡◌, length, false};
 ghost use Rattle.std.specs.Iterator.{at_most};
 ghost use Rattle.der_nest.specs.BorrowedSets.{encodings_of};
 ghost use Rattle.der_nest.specs.BorrowedItems.{GivesNext};
@@ -112,13 +112,14 @@ impl<'a, T: Form> Clone for SetOfRefIter<'a, T> {
     ghost is_infallible = { λ _. ⊤ };
 
     /// The same items are still to come from both.
-    fn clone(&self) -> Result<SetOfRefIter<'a, T>, AllocError>
-        ensures { IfOk result (λ copy. copy ≡ self.now) }
-    {
-        let rest = match &self.rest {
-            Rest::Octets(items) => Rest::Octets(items.same()),
-            Rest::Items(items) => Rest::Items(items),
-        };
-        Ok(SetOfRefIter { rest })
+    fn clone(&self) -> Result<SetOfRefIter<'a, T>, AllocError> {
+        match &self.rest {
+            Rest::Octets(items) => Ok(SetOfRefIter {
+                rest: Rest::Octets(items.same()),
+            }),
+            Rest::Items(items) => Ok(SetOfRefIter {
+                rest: Rest::Items(items),
+            }),
+        }
     }
 }

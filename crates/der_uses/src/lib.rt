@@ -2,18 +2,30 @@
 //! accepted. They stand on `der_asn1_types` alone.
 #![tactic(auto)]
 
+mod anys;
+mod bits;
 mod comparing;
 mod field_list;
 mod fields;
+mod headers;
 mod reading;
 mod sets;
+mod tagged;
+mod texts;
+mod times;
 mod writing;
 
+pub use anys::named_curve;
+pub use bits::may_sign_certificates;
 pub use comparing::is_before;
 pub use field_list::{Policy, read_policy, write_policy};
 pub use fields::{PolicyFields, read_policy_fields};
+pub use headers::first_header;
 pub use reading::{contents_of_string, read_numbers, serial_number};
 pub use sets::{attribute_set, with_attribute};
+pub use tagged::explicit_version;
+pub use texts::{common_name, country};
+pub use times::is_within;
 pub use writing::{number_in, write_numbers};
 
 #[cfg(test)]

@@ -1,0 +1,16 @@
+//! Flags in a BIT STRING.
+
+ghost use Rattle.std.specs.Prelude.{◌≡◌, ◌<◌, true, false, ◌≤◌};
+ghost use Rattle.der_asn1_types.specs.BitString.{bit, bit_count};
+
+use der_asn1_types::FormValue;
+use der_asn1_types::asn1::BitStringRef;
+
+/// Whether a key may sign certificates: bit 5 of KeyUsage (RFC 5280 4.2.1.3). A bit that is left
+/// away is zero.
+pub fn may_sign_certificates<'a>(usage: BitStringRef<'a>) -> bool
+    ensures present { 5 < bit_count (⟦<BitStringRef<'a> as FormValue>⟧.contents usage.entry) → result ≡ bit (⟦<BitStringRef<'a> as FormValue>⟧.contents usage.entry) 5 }
+    ensures absent { bit_count (⟦<BitStringRef<'a> as FormValue>⟧.contents usage.entry) ≤ 5 → result ≡ false }
+{
+    usage.get(5).unwrap_or(false)
+}
