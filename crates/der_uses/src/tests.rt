@@ -1,10 +1,12 @@
 //! The callers, called.
 
 use crate::{
-    attribute_set, contents_of_string, is_before, number_in, read_numbers, read_policy,
+    attribute_set, common_name, contents_of_string, country, explicit_version, first_header,
+    is_before, is_within, may_sign_certificates, named_curve, number_in, read_numbers, read_policy,
     read_policy_fields, serial_number, with_attribute, write_numbers, write_policy,
 };
-use der_asn1_types::Error;
+use der_asn1_types::asn1::{AnyRef, BitStringRef};
+use der_asn1_types::{DateTime, Error, FromDer, Length, Tag};
 use std::test::Fail;
 
 // The number of a refusal.
@@ -88,5 +90,72 @@ fn a_policy_is_read(rt: HostRuntime) -> Result<(), Fail> {
         Ok(_) => return Err("read".into()),
         Err(e) => assert_eq!(rt; e.kind().number(), 3),
     }
+    Ok(())
+}
+
+#[test]
+fn a_header_says_how_many_octets_follow(rt: HostRuntime) -> Result<(), Fail> {
+    let header = numbered(first_header(&[0x30, 0x82, 0x01, 0x00]))?;
+    assert!(rt; header.tag == Tag::Sequence);
+    assert!(rt; header.length == Length::new(256));
+    assert_eq!(rt; numbered(first_header(&[0x30])).err(), Some(2));
+    Ok(())
+}
+
+#[test]
+fn names_are_borrowed(rt: HostRuntime) -> Result<(), Fail> {
+    match country(b"NO") {
+        Ok(country) => assert_eq!(rt; country.as_str(), "NO"),
+        Err(_) => return Err("refused".into()),
+    }
+    assert!(rt; country(b"N*").is_err());
+    match common_name(rt.alloc(), &[0x0c, 0x02, 0xc3, 0xa6]) {
+        Ok(name) => assert_eq!(rt; name.as_str(), "\u{e6}"),
+        Err(_) => return Err("refused".into()),
+    }
+    Ok(())
+}
+
+#[test]
+fn a_key_may_sign_certificates(rt: HostRuntime) -> Result<(), Fail> {
+    match BitStringRef::from_der(rt.alloc(), &[0x03, 0x02, 0x02, 0x04]) {
+        Ok(usage) => assert!(rt; may_sign_certificates(usage)),
+        Err(_) => return Err("refused".into()),
+    }
+    match BitStringRef::from_der(rt.alloc(), &[0x03, 0x02, 0x07, 0x80]) {
+        Ok(usage) => assert!(rt; !may_sign_certificates(usage)),
+        Err(_) => return Err("refused".into()),
+    }
+    Ok(())
+}
+
+#[test]
+fn a_time_is_within_a_validity(rt: HostRuntime) -> Result<(), Fail> {
+    let first = numbered(DateTime::new(2026, 1, 1, 0, 0, 0))?;
+    let last = numbered(DateTime::new(2026, 12, 31, 23, 59, 59))?;
+    let later = numbered(DateTime::new(2027, 1, 1, 0, 0, 0))?;
+    assert!(rt; is_within(&last, &first, &last));
+    assert!(rt; !is_within(&later, &first, &last));
+    Ok(())
+}
+
+#[test]
+fn parameters_name_a_curve(rt: HostRuntime) -> Result<(), Fail> {
+    let curve = [0x2b, 0x81, 0x04, 0x00, 0x22];
+    match AnyRef::new(Tag::ObjectIdentifier, &curve) {
+        Ok(parameters) => assert!(rt; named_curve(rt.alloc(), parameters).is_ok()),
+        Err(_) => return Err("refused".into()),
+    }
+    assert!(rt; named_curve(rt.alloc(), AnyRef::NULL).is_err());
+    Ok(())
+}
+
+#[test]
+fn a_version_is_written(rt: HostRuntime) -> Result<(), Fail> {
+    let written = numbered(explicit_version(rt.alloc(), 2))?;
+    assert_eq!(rt;
+        written.as_slice(),
+        [0xa0, 0x03, 0x02, 0x01, 0x02].as_slice()
+    );
     Ok(())
 }
