@@ -1,8 +1,8 @@
 //! How many comparisons insertions make.
 
-use crate::SetOfVec;
 use crate::merging::Runs;
 use crate::tests::numbered;
+use crate::{SetOf, SetOfVec};
 use der_elem::{DerOrd, Form};
 use der_tlv::Error;
 use std::alloc::{AllocError, Global};
@@ -11,14 +11,14 @@ use std::cmp::Ordering;
 use std::process::Abort;
 use std::test::Fail;
 
-// An item that counts its comparisons.
-#[derive(Drop)]
-struct Counted<'a, T> {
-    value: T,
-    comparisons: &'a Cell<u32>,
+// An item that counts its comparisons, where it has a count.
+#[derive(Clone, Copy, Default)]
+pub struct Counted<'a, T> {
+    pub value: T,
+    pub comparisons: Option<&'a Cell<u32>>,
 }
 
-impl<'a, T: Form> Form for Counted<'a, T> {
+impl<'a, T: Form + Copy> Form for Counted<'a, T> {
     ghost encoding = { λ v. T.encoding v.value };
 
     ghost one_form = { λ v w. T.one_form v.value w.value };
@@ -54,10 +54,19 @@ impl<'a, T: Form> Form for Counted<'a, T> {
     ghost re_reads_memory = { λ v. T.re_reads_memory v.value };
 }
 
-impl<'a, T: DerOrd> DerOrd for Counted<'a, T> {
+impl<'a, T: DerOrd + Copy> DerOrd for Counted<'a, T> {
     fn der_cmp(&self, other: &Counted<'a, T>) -> Result<Ordering, Error> {
-        self.comparisons.set(self.comparisons.get().wrapping_add(1));
+        if let Some(comparisons) = self.comparisons {
+            comparisons.set(comparisons.get().wrapping_add(1));
+        }
         self.value.der_cmp(&other.value)
+    }
+}
+
+pub fn with_count<T>(value: T, comparisons: &Cell<u32>) -> Counted<'_, T> {
+    Counted {
+        value,
+        comparisons: Some(comparisons),
     }
 }
 
@@ -90,7 +99,7 @@ fn series<'a>(
     let mut value = if step == 0 { 1 } else { 0 };
     for _i in 0..4000u16 {
         value = (value % 4001 * (factor % 4001) + step % 4001) % 4001;
-        items.push(Counted { value, comparisons })?;
+        items.push(with_count(value, comparisons))?;
     }
     Ok(items)
 }
@@ -127,10 +136,7 @@ fn an_insertion_compares_as_often_as_the_number_of_items_has_digits(
     let comparisons = Cell::new(0);
     let mut items = Vec::new(rt.alloc());
     for _i in 0..4001u16 {
-        items.push(Counted {
-            value: 5u16,
-            comparisons: &comparisons,
-        })?;
+        items.push(with_count(5u16, &comparisons))?;
     }
     inserts(&rt, rt.alloc(), items, &comparisons)?;
     Ok(())
@@ -163,5 +169,23 @@ fn other_items_are_compared_as_often_as_their_numbers_have_digits(
     assert_eq!(rt; falling, [38654, 47904, 47904]);
     let scattered = three_ways(rt.alloc(), 3, 0)?;
     assert_eq!(rt; scattered, [49471, 46289, 46289]);
+    Ok(())
+}
+
+// What insertions into a set of fixed capacity compare, of which each is before all others.
+fn array_insertions(comparisons: &Cell<u32>) -> Result<[u32; 5], u8> {
+    let mut set: SetOf<Counted<u16>, 5> = SetOf::new();
+    let mut counts = [0; 5];
+    for i in 0..5u8 {
+        comparisons.set(0);
+        numbered(set.insert(with_count(u16::from(9 - i), comparisons)))?;
+        counts[usize::from(i)] = comparisons.get();
+    }
+    Ok(counts)
+}
+
+#[test]
+fn an_insertion_into_a_fixed_capacity_looks_once(rt: HostRuntime) -> Result<(), Fail> {
+    assert_eq!(rt; array_insertions(&Cell::new(0)), Ok([0, 1, 2, 2, 3]));
     Ok(())
 }
