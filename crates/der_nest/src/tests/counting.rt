@@ -172,20 +172,25 @@ fn other_items_are_compared_as_often_as_their_numbers_have_digits(
     Ok(())
 }
 
-// What insertions into a set of fixed capacity compare, of which each is before all others.
-fn array_insertions(comparisons: &Cell<u32>) -> Result<[u32; 5], u8> {
-    let mut set: SetOf<Counted<u16>, 5> = SetOf::new();
+// What the insertions into a set of fixed capacity compare.
+fn array_insertions<T: DerOrd + Default>(
+    items: [T; 5],
+    comparisons: &Cell<u32>,
+) -> Result<[u32; 5], u8> {
+    let mut set: SetOf<T, 5> = SetOf::new();
     let mut counts = [0; 5];
-    for i in 0..5u8 {
+    for (i, item) in items.into_iter().enumerate() {
         comparisons.set(0);
-        numbered(set.insert(with_count(u16::from(9 - i), comparisons)))?;
-        counts[usize::from(i)] = comparisons.get();
+        numbered(set.insert(item))?;
+        counts[i] = comparisons.get();
     }
     Ok(counts)
 }
 
 #[test]
 fn an_insertion_into_a_fixed_capacity_looks_once(rt: HostRuntime) -> Result<(), Fail> {
-    assert_eq!(rt; array_insertions(&Cell::new(0)), Ok([0, 1, 2, 2, 3]));
+    let comparisons = Cell::new(0);
+    let items = [9u16, 8, 7, 6, 5].map(|value| with_count(value, &comparisons));
+    assert_eq!(rt; array_insertions(items, &comparisons), Ok([0, 1, 2, 2, 3]));
     Ok(())
 }

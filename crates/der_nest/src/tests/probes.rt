@@ -3,7 +3,7 @@
 ghost use Rattle.std.specs.Prelude.{◌≡◌, ◌<◌};
 ghost use Rattle.der_nest.specs.Places.{IsInOrder};
 
-use crate::tests::counting::{Counted, with_count};
+use crate::tests::counting::with_count;
 use crate::tests::numbered;
 use crate::{ItemProbe, Probe, SetOfVec, insertion_place};
 use der_elem::DerOrd;
@@ -54,22 +54,19 @@ fn watched_place<T: DerOrd, L: Ledger>(
     Ok((place, asked.get()))
 }
 
-// The place of an item in a set, and how often its probe was asked.
-fn place_in<T: DerOrd>(set: &SetOfVec<T>, item: &T) -> Result<(usize, u32), u8> {
-    watched_place::<T, Brand>(set.as_slice(), item, Blank::new(1))
-}
-
-// A set of so many equal items that count their comparisons.
-fn equal_items<'a>(
+// The place of an item among so many that are equal to it, and how often its probe was asked.
+fn place_among_equals<T: DerOrd + Copy>(
     alloc: Global,
     count: u16,
-    comparisons: &'a Cell<u32>,
-) -> Result<SetOfVec<Counted<'a, u16>>, u8> {
+    item: T,
+    comparisons: &Cell<u32>,
+) -> Result<(usize, u32), u8> {
     let mut set = SetOfVec::new(alloc);
     for _i in 0..count {
-        numbered(set.insert_ordered(with_count(5, comparisons)))?;
+        numbered(set.insert_ordered(item))?;
     }
-    Ok(set)
+    comparisons.set(0);
+    watched_place::<T, Brand>(set.as_slice(), &item, Blank::new(1))
 }
 
 #[test]
@@ -77,11 +74,10 @@ fn a_probe_is_asked_as_often_as_the_number_of_items_has_digits(
     rt: HostRuntime,
 ) -> Result<(), Fail> {
     let comparisons = Cell::new(0);
+    let item = with_count(5u16, &comparisons);
     let rows = [(0, 0), (1, 1), (3, 2), (4, 3), (1000, 10), (4000, 12)];
     for (count, most) in rows {
-        let set = equal_items(rt.alloc(), count, &comparisons)?;
-        comparisons.set(0);
-        let (place, asks) = place_in(&set, &with_count(5, &comparisons))?;
+        let (place, asks) = place_among_equals(rt.alloc(), count, item, &comparisons)?;
         assert_eq!(rt; place, usize::from(count));
         assert!(rt; asks <= most, "{count}");
         assert_eq!(rt; comparisons.get(), asks, "an ask compares once");
