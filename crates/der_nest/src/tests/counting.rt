@@ -1,8 +1,8 @@
 //! How many comparisons insertions make.
 
+use crate::SetOfVec;
 use crate::merging::Runs;
 use crate::tests::numbered;
-use crate::{SetOf, SetOfVec};
 use der_elem::{DerOrd, Form};
 use der_tlv::Error;
 use std::alloc::{AllocError, Global};
@@ -11,11 +11,11 @@ use std::cmp::Ordering;
 use std::process::Abort;
 use std::test::Fail;
 
-// An item that counts its comparisons, where it has a count.
-#[derive(Clone, Copy, Default)]
+// An item that counts its comparisons.
+#[derive(Clone, Copy)]
 pub struct Counted<'a, T> {
-    pub value: T,
-    pub comparisons: Option<&'a Cell<u32>>,
+    value: T,
+    comparisons: &'a Cell<u32>,
 }
 
 impl<'a, T: Form + Copy> Form for Counted<'a, T> {
@@ -56,18 +56,13 @@ impl<'a, T: Form + Copy> Form for Counted<'a, T> {
 
 impl<'a, T: DerOrd + Copy> DerOrd for Counted<'a, T> {
     fn der_cmp(&self, other: &Counted<'a, T>) -> Result<Ordering, Error> {
-        if let Some(comparisons) = self.comparisons {
-            comparisons.set(comparisons.get().wrapping_add(1));
-        }
+        self.comparisons.set(self.comparisons.get().wrapping_add(1));
         self.value.der_cmp(&other.value)
     }
 }
 
 pub fn with_count<T>(value: T, comparisons: &Cell<u32>) -> Counted<'_, T> {
-    Counted {
-        value,
-        comparisons: Some(comparisons),
-    }
+    Counted { value, comparisons }
 }
 
 // Inserts the items, each of which is compared at most as often as their number so far has digits.
@@ -169,28 +164,5 @@ fn other_items_are_compared_as_often_as_their_numbers_have_digits(
     assert_eq!(rt; falling, [38654, 47904, 47904]);
     let scattered = three_ways(rt.alloc(), 3, 0)?;
     assert_eq!(rt; scattered, [49471, 46289, 46289]);
-    Ok(())
-}
-
-// What the insertions into a set of fixed capacity compare.
-fn array_insertions<T: DerOrd + Default>(
-    items: [T; 5],
-    comparisons: &Cell<u32>,
-) -> Result<[u32; 5], u8> {
-    let mut set: SetOf<T, 5> = SetOf::new();
-    let mut counts = [0; 5];
-    for (i, item) in items.into_iter().enumerate() {
-        comparisons.set(0);
-        numbered(set.insert(item))?;
-        counts[i] = comparisons.get();
-    }
-    Ok(counts)
-}
-
-#[test]
-fn an_insertion_into_a_fixed_capacity_looks_once(rt: HostRuntime) -> Result<(), Fail> {
-    let comparisons = Cell::new(0);
-    let items = [9u16, 8, 7, 6, 5].map(|value| with_count(value, &comparisons));
-    assert_eq!(rt; array_insertions(items, &comparisons), Ok([0, 1, 2, 2, 3]));
     Ok(())
 }

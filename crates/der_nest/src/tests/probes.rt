@@ -46,11 +46,12 @@ fn watched_place<T: DerOrd, L: Ledger>(
     requires in_order { IsInOrder T.encoding items.now }
 {
     let asked = Cell::new(0);
-    let mut probe = Watched {
-        probe: ItemProbe::<'_, T, L>::new(items, item, blank),
+    let probe = ItemProbe::<'_, T, L>::new(items, item, blank);
+    let mut watched = Watched {
+        probe,
         asked: &asked,
     };
-    let place = numbered(insertion_place(items.len(), &mut probe))?;
+    let place = numbered(insertion_place(items.len(), &mut watched))?;
     Ok((place, asked.get()))
 }
 
