@@ -4,6 +4,9 @@ use crate::asn1::{SetOfVec, Utf8StringRef};
 use crate::{Error, FromDer, canonical};
 use std::test::Fail;
 
+mod rooms;
+mod rows;
+
 // The number of a refusal.
 fn numbered<T>(answer: Result<T, Error>) -> Result<T, u8> {
     match answer {

@@ -2,6 +2,7 @@
 
 mod composed;
 mod integer_order;
+mod refusals;
 
 use crate::decode::DecodeValue;
 use crate::duplicate::Duplicate;

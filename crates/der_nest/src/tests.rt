@@ -13,6 +13,7 @@ mod borrowed;
 mod counting;
 mod history;
 mod many;
+mod probes;
 
 // The number of a refusal.
 fn numbered<T>(answer: Result<T, Error>) -> Result<T, u8> {
@@ -172,6 +173,37 @@ fn items_decide_the_order_before_their_number(rt: HostRuntime) -> Result<(), Fai
     numbered(two.add(8))?;
     numbered(two.add(7))?;
     assert_eq!(rt; numbered(one.value_cmp(&two)), Ok(Ordering::Less));
+    Ok(())
+}
+
+// A sequence of two numbers.
+fn pair(first: u16, second: u16) -> Result<SequenceOf<u16, 2>, u8> {
+    let mut sequence: SequenceOf<u16, 2> = SequenceOf::new();
+    numbered(sequence.add(first))?;
+    numbered(sequence.add(second))?;
+    Ok(sequence)
+}
+
+#[test]
+fn the_first_items_that_differ_decide(rt: HostRuntime) -> Result<(), Fail> {
+    let (great, small) = (pair(0, 2)?, pair(0, 1)?);
+    assert_eq!(rt; numbered(great.der_cmp(&small)), Ok(Ordering::Greater));
+    assert_eq!(rt; numbered(great.value_cmp(&small)), Ok(Ordering::Greater));
+    let alloc = rt.alloc();
+    let great: SetOfVec<u16> = numbered(SetOfVec::from_array(alloc, [0, 1, 2, 3, 5]))?;
+    let small: SetOfVec<u16> = numbered(SetOfVec::from_array(alloc, [0, 1, 2, 3, 4]))?;
+    assert_eq!(rt; numbered(great.der_cmp(&small)), Ok(Ordering::Greater));
+    Ok(())
+}
+
+#[test]
+fn equal_items_are_kept(rt: HostRuntime) -> Result<(), Fail> {
+    let alloc = rt.alloc();
+    let items = Vec::from_array(alloc, [5u16, 1, 5, 1, 3, 1, 5])?;
+    let set = numbered(SetOfVec::try_from(items))?;
+    assert!(rt; set.as_slice() == [1, 1, 1, 3, 5, 5, 5].as_slice());
+    let written = numbered(set.to_der(alloc))?;
+    assert_eq!(rt; written.get(0..2), Some([0x31u8, 0x15].as_slice()));
     Ok(())
 }
 

@@ -3,7 +3,7 @@ mod conversions;
 mod real_values;
 
 use crate::{Any, AnyRef, Null, ObjectIdentifier, OctetString, OctetStringRef, laws};
-use der_elem::{Decode, DerOrd, Duplicate, Encode, FixedTag, FromDer, Tagged};
+use der_elem::{Decode, DerOrd, Duplicate, Encode, FixedTag, FromDer, Tagged, ValueOrd};
 use der_tlv::{
     BytesRef, EncodingRules, Error, ErrorKind, Length, Reader, SliceReader, Tag, TagNumber,
 };
@@ -345,5 +345,17 @@ fn any_values_are_ordered_by_their_tags_first(rt: HostRuntime) -> Result<(), Fai
     );
     laws::tags_are();
     assert_eq!(rt; laws::null().tag(), Tag::Null);
+    Ok(())
+}
+
+#[test]
+fn a_list_is_before_one_with_more_items(rt: HostRuntime) -> Result<(), Fail> {
+    let alloc = rt.alloc();
+    let Ok(five) = AnyRef::new(Tag::Integer, &[0x05]) else {
+        panic!(rt; "refused")
+    };
+    let short = vec![in alloc; five]?;
+    let long = vec![in alloc; five, AnyRef::NULL]?;
+    assert!(rt; matches!(short.value_cmp(&long), Ok(Ordering::Less)));
     Ok(())
 }

@@ -165,7 +165,7 @@ fn fields_are_a_time_or_none(rt: HostRuntime) {
     for row in &taken {
         assert_eq!(rt; refused_as_new(row.0, row.1, row.2), 0);
     }
-    let refused: [(u16, (u8, u8), (u8, u8, u8)); 17] = [
+    let refused: [(u16, (u8, u8), (u8, u8, u8)); 18] = [
         (2, (3, 25), (0, 0, 0)),
         (1969, (1, 26), (0, 0, 0)),
         (1968, (1, 26), (0, 0, 0)),
@@ -181,6 +181,7 @@ fn fields_are_a_time_or_none(rt: HostRuntime) {
         (2001, (13, 1), (0, 0, 0)),
         (2001, (1, 0), (0, 0, 0)),
         (2001, (4, 31), (0, 0, 0)),
+        (2001, (2, 29), (0, 0, 0)),
         (2023, (2, 29), (0, 0, 0)),
         (2100, (2, 29), (0, 0, 0)),
     ];
@@ -271,6 +272,14 @@ fn seconds_are_those_of_the_calendar(rt: HostRuntime) -> Result<(), Fail> {
         assert_eq!(rt; text.as_str(), row.0);
     }
     Ok(())
+}
+
+#[test]
+fn the_second_behind_the_last_is_refused(rt: HostRuntime) {
+    match GeneralizedTime::from_unix_duration(Duration::from_secs(LAST + 1)) {
+        Ok(_) => panic!(rt; "taken"),
+        Err(e) => assert_eq!(rt; e.kind.number(), 13),
+    }
 }
 
 #[test]

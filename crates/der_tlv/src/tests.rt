@@ -6,8 +6,8 @@ use crate::bytes_owned::BytesOwned;
 use crate::bytes_ref::BytesRef;
 use crate::encoding_rules::EncodingRules;
 use crate::error::{Error, ErrorKind};
-use crate::header::{Header, headers_are_unique, headers_read_back};
-use crate::length::{Length, lengths_are_short, lengths_are_unique, lengths_read_back};
+use crate::header::Header;
+use crate::length::Length;
 use crate::reader::{Reader, SliceReader};
 use crate::tag::{Class, Tag, TagMode, TagNumber};
 use crate::writer::{SliceWriter, VecWriter, Writer};
@@ -229,15 +229,6 @@ fn tag_numbers_there_and_back(rt: HostRuntime) -> Result<(), Fail> {
         assert_eq!(rt; tag_of_header(octets)?, tag);
     }
     Ok(())
-}
-
-#[test]
-fn laws() {
-    lengths_are_unique();
-    lengths_read_back();
-    lengths_are_short();
-    headers_are_unique();
-    headers_read_back();
 }
 
 /// The header of an INTEGER of so many octets.

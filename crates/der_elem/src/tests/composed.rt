@@ -320,16 +320,3 @@ fn says_what_takes_memory(rt: HostRuntime) {
         [true; 4]
     );
 }
-
-#[test]
-fn calls_laws() {
-    crate::laws::no_encoding_begins_another();
-    crate::laws::no_octets_read_begin_others::<u8, Vec<u8>>();
-    crate::laws::padding_is_lexicographic();
-    crate::laws::first_pair_decides::<u8>();
-    crate::laws::first_field_decides::<u8, Vec<u8>>();
-    crate::laws::fields_are_told_apart::<bool, i16>();
-    crate::laws::one_value_is_read::<Vec<u8>>();
-    crate::laws::encodings_read_back::<Option<i16>>();
-    crate::laws::integers_are_fewest();
-}

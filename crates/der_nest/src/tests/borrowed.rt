@@ -280,12 +280,9 @@ fn walked(rt: &impl Abort, alloc: Global, octets: &[u8]) -> Result<usize, u8> {
 }
 
 #[test]
-fn tells_want_of_memory(rt: HostRuntime) {
+fn a_set_of_sets_is_walked(rt: HostRuntime) {
     let octets = [
         0x31, 0x0a, 0x31, 0x03, 0x02, 0x01, 0x07, 0x31, 0x03, 0x02, 0x01, 0x08,
     ];
-    match walked(&rt, rt.alloc(), &octets) {
-        Ok(len) => assert_eq!(rt; len, 2),
-        Err(number) => assert_eq!(rt; number, 1),
-    }
+    assert_eq!(rt; walked(&rt, rt.alloc(), &octets), Ok(2));
 }

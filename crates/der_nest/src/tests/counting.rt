@@ -12,13 +12,13 @@ use std::process::Abort;
 use std::test::Fail;
 
 // An item that counts its comparisons.
-#[derive(Drop)]
-struct Counted<'a, T> {
+#[derive(Clone, Copy)]
+pub struct Counted<'a, T> {
     value: T,
     comparisons: &'a Cell<u32>,
 }
 
-impl<'a, T: Form> Form for Counted<'a, T> {
+impl<'a, T: Form + Copy> Form for Counted<'a, T> {
     ghost encoding = { λ v. T.encoding v.value };
 
     ghost one_form = { λ v w. T.one_form v.value w.value };
@@ -54,11 +54,15 @@ impl<'a, T: Form> Form for Counted<'a, T> {
     ghost re_reads_memory = { λ v. T.re_reads_memory v.value };
 }
 
-impl<'a, T: DerOrd> DerOrd for Counted<'a, T> {
+impl<'a, T: DerOrd + Copy> DerOrd for Counted<'a, T> {
     fn der_cmp(&self, other: &Counted<'a, T>) -> Result<Ordering, Error> {
         self.comparisons.set(self.comparisons.get().wrapping_add(1));
         self.value.der_cmp(&other.value)
     }
+}
+
+pub fn with_count<T>(value: T, comparisons: &Cell<u32>) -> Counted<'_, T> {
+    Counted { value, comparisons }
 }
 
 // Inserts the items, each of which is compared at most as often as their number so far has digits.
@@ -90,7 +94,7 @@ fn series<'a>(
     let mut value = if step == 0 { 1 } else { 0 };
     for _i in 0..4000u16 {
         value = (value % 4001 * (factor % 4001) + step % 4001) % 4001;
-        items.push(Counted { value, comparisons })?;
+        items.push(with_count(value, comparisons))?;
     }
     Ok(items)
 }
@@ -127,10 +131,7 @@ fn an_insertion_compares_as_often_as_the_number_of_items_has_digits(
     let comparisons = Cell::new(0);
     let mut items = Vec::new(rt.alloc());
     for _i in 0..4001u16 {
-        items.push(Counted {
-            value: 5u16,
-            comparisons: &comparisons,
-        })?;
+        items.push(with_count(5u16, &comparisons))?;
     }
     inserts(&rt, rt.alloc(), items, &comparisons)?;
     Ok(())

@@ -47,3 +47,38 @@ fn falling_numbers_are_put_in_order(rt: HostRuntime) -> Result<(), Fail> {
     assert_eq!(rt; refusal(rt.alloc(), octets.as_slice()), Some(11));
     Ok(())
 }
+
+// A set of the numbers is what sorting makes of them.
+fn is_sorted_as_a_list(rt: &impl Abort, numbers: Vec<u16>) -> Result<(), Fail> {
+    let mut list = numbers.clone()?;
+    list.sort()?;
+    let set: SetOfVec<u16> = numbered(SetOfVec::try_from(numbers))?;
+    assert!(rt; set.as_slice() == list.as_slice());
+    Ok(())
+}
+
+// So many numbers below 50, in no order.
+fn scattered(alloc: Global, count: u16) -> Result<Vec<u16>, AllocError> {
+    let mut numbers = Vec::new(alloc);
+    let mut state: u64 = 0x2319;
+    for _i in 0..count {
+        numbers.push(((state >> 33 & 0xffff) % 50) as u16)?;
+        state = state
+            .wrapping_mul(6_364_136_223_846_793_005)
+            .wrapping_add(1_442_695_040_888_963_407);
+    }
+    Ok(numbers)
+}
+
+#[test]
+fn sets_are_sorted_as_lists_are(rt: HostRuntime) -> Result<(), Fail> {
+    let mut numbers = Vec::new(rt.alloc());
+    for i in 0..2000u16 {
+        numbers.push(1999 - i)?;
+    }
+    is_sorted_as_a_list(&rt, numbers)?;
+    for count in [0, 1, 2, 5, 17, 64, 257, 1000] {
+        is_sorted_as_a_list(&rt, scattered(rt.alloc(), count)?)?;
+    }
+    Ok(())
+}

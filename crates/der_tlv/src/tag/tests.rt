@@ -4,10 +4,7 @@ use crate::error::{Error, ErrorKind};
 use crate::header_octets::HeaderOctets;
 use crate::length::Length;
 use crate::reader::{Reader, SliceReader};
-use crate::tag::{
-    Class, Tag, TagNumber, identifiers_are_short, identifiers_are_unique, identifiers_decide_order,
-    identifiers_read_back, identifiers_tell_tags,
-};
+use crate::tag::{Class, Tag, TagNumber};
 use std::cmp::Ordering;
 
 /// A constructed context-specific tag.
@@ -213,13 +210,4 @@ fn errors(rt: HostRuntime) {
     assert_eq!(rt; Tag::Null.value_error().number(), 13);
     assert_eq!(rt; Tag::Null.length_error().number(), 7);
     assert_eq!(rt; Tag::Null.non_canonical_error().number(), 8);
-}
-
-#[test]
-fn laws() {
-    identifiers_are_unique();
-    identifiers_tell_tags();
-    identifiers_read_back();
-    identifiers_decide_order();
-    identifiers_are_short();
 }
