@@ -6,6 +6,7 @@ ghost use Rattle.std.specs.Int.{bytes_high_first, complement_if};
 ghost use Rattle.der_elem.specs.Encoding.{Encodes};
 ghost use Rattle.der_elem.specs.Integer.{natural_contents, integer_contents};
 
+use super::ordering::LEAST_LONG;
 use der_tlv::{Error, Writer};
 
 /// The sign and the magnitude of an integer: `(n, false)` for n, and `(n, true)` for -1 - n.
@@ -48,8 +49,8 @@ pub fn write_signed<W: Writer>(writer: &mut W, number: i128) -> Result<(), Error
 {
     let len = signed_len(number) as usize;
     if let Ok(short) = i64::try_from(number) {
-        let octets = short.cast_unsigned().to_be_bytes();
-        return writer.write(&octets[8 - len..]);
+        let front = short.cast_unsigned() << (8 * (8 - len));
+        return writer.write_front(front.to_be_bytes(), len);
     }
     let octets = number.cast_unsigned().to_be_bytes();
     writer.write(&octets[16 - len..])
@@ -71,6 +72,9 @@ pub fn unsigned_octets(number: u128) -> [u8; 17]
 pub fn write_unsigned<W: Writer>(writer: &mut W, number: u128) -> Result<(), Error>
     ensures { Encodes (natural_contents number) false (W.state writer.old) (W.state writer.new) result }
 {
+    if number < LEAST_LONG {
+        return write_signed(writer, number as i128);
+    }
     let octets = unsigned_octets(number);
     writer.write(&octets[17 - unsigned_len(number) as usize..])
 }
