@@ -40,18 +40,31 @@ pub fn signed_len(number: i128) -> u32
     unsigned_len(magnitude)
 }
 
-/// Writes the contents octets of an integer. Where 64 bits do, it takes no longer than they need.
+/// Writes the contents octets of an integer: by one block of eight octets where 64 bits do.
 ///
 /// # Errors
 /// The writer's.
+#[inline(always)]
 pub fn write_signed<W: Writer>(writer: &mut W, number: i128) -> Result<(), Error>
     ensures { Encodes (integer_contents number) false (W.state writer.old) (W.state writer.new) result }
 {
+    let Ok(short) = i64::try_from(number) else {
+        return write_wide(writer, number);
+    };
     let len = signed_len(number) as usize;
-    if let Ok(short) = i64::try_from(number) {
-        let front = short.cast_unsigned() << (8 * (8 - len));
-        return writer.write_front(front.to_be_bytes(), len);
-    }
+    let front = short.cast_unsigned() << (8 * (8 - len));
+    writer.write_front(front.to_be_bytes(), len)
+}
+
+/// Writes the contents octets of an integer: the last of its 16 octets.
+///
+/// # Errors
+/// The writer's.
+#[inline(never)]
+fn write_wide<W: Writer>(writer: &mut W, number: i128) -> Result<(), Error>
+    ensures { Encodes (integer_contents number) false (W.state writer.old) (W.state writer.new) result }
+{
+    let len = signed_len(number) as usize;
     let octets = number.cast_unsigned().to_be_bytes();
     writer.write(&octets[16 - len..])
 }

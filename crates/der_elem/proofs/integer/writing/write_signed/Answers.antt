@@ -1,8 +1,8 @@
 use Rattle.std.proofs.Common.{◌≡◌, false, length, SFits, to_z, ap, subst, refl, ◌∙◌, arith, to_z-of_z}
-use Rattle.std.specs.Int.{cast_unsigned, w64, w128}
+use Rattle.std.specs.Int.{cast_unsigned, w64}
 use Rattle.der_elem.specs.Encoding.{Encodes}
 use Rattle.der_elem.specs.Integer.{integer_contents}
-use Rattle.der_elem.proofs.IntegerBytes.{short_length, short_front, signed_slice}
+use Rattle.der_elem.proofs.IntegerBytes.{short_length, short_front}
 use Rattle.der_elem.proofs.Written.{encoded_whole}
 use Rattle.der_elem.proofs.integer.writing.write_signed.Goals as goal
 
@@ -18,8 +18,8 @@ write_front-requires g c =
     let same = to_z-of_z c.ranges.number in
     omega (arith, c.signed_len-len.ensures.len, ap (λ y. length (integer_contents y)) same, short_length z (subst (SFits w64) same c.in-Ok.ensures.0))
 
-pub returns-in-Ok : goal.returns-in-Ok
-returns-in-Ok g c =
+pub returns : goal.returns
+returns g c =
     let z = c.args.number in
     let same = to_z-of_z c.ranges.number in
     let fits : SFits w64 z = subst (SFits w64) same c.in-Ok.ensures.0 in
@@ -28,11 +28,3 @@ returns-in-Ok g c =
     subst (λ octets. Encodes octets false (g.W.Writer.state c.args.writer.now) (g.W.Writer.state c.write_front.new.self) c.write_front.result)
     (short_front z c.signed_len-len.result c.cast_unsigned.result _ c.to_be_bytes.result fits (c.cast_unsigned.ensures ∙ ap (λ y. cast_unsigned w64 (to_z w64 (cast_unsigned w64 y))) short ∙ ap (cast_unsigned w64) (to_z-of_z fits)) refl c.to_be_bytes.ensures len (omega (arith, len, short_length z fits)))
     (encoded_whole _ _ _ c.write_front.result c.write_front.ensures)
-
-pub returns : goal.returns
-returns g c =
-    let z = c.args.number in
-    let same = to_z-of_z c.ranges.number in
-    subst (λ octets. Encodes octets false (g.W.Writer.state c.args.writer.now) (g.W.Writer.state c.write.new.self) c.write.result)
-    (signed_slice z c.signed_len-len.result _ _ c.ranges.number (c.cast_unsigned-2.ensures ∙ ap (cast_unsigned w128) same) c.to_be_bytes-octets.ensures (c.signed_len-len.ensures.len ∙ ap (λ y. length (integer_contents y)) same) c.signed_len-len.ensures.bound)
-    (encoded_whole _ _ _ c.write.result c.write.ensures)
