@@ -56,7 +56,9 @@ impl VecWriter {
     #[inline(never)]
     fn write_few(&mut self, block: [u8; 8], len: usize) -> Result<(), Error>
         requires { len ≤ 8 }
-        ensures { Writes (take len block) (⟦<VecWriter as Writer>⟧.state self.old) (⟦<VecWriter as Writer>⟧.state self.new) result }
+        ensures written { Writes (take len block) (⟦<VecWriter as Writer>⟧.state self.old) (⟦<VecWriter as Writer>⟧.state self.new) result }
+        ensures ready { OnOk result ((⟦<VecWriter as Writer>⟧.state self.old).failed ≡ false) }
+        ensures kept { OnErr result ((⟦<VecWriter as Writer>⟧.state self.new).taken ≡ (⟦<VecWriter as Writer>⟧.state self.old).taken) }
     {
         self.write(&block[..len])
     }
@@ -103,7 +105,12 @@ impl Writer for VecWriter {
 
     // Moves the whole block where there is room for it, and then gives back what is too much.
     #[inline(always)]
-    fn write_front(&mut self, block: [u8; 8], len: usize) -> Result<(), Error> {
+    fn write_front(&mut self, block: [u8; 8], len: usize) -> Result<(), Error>
+        requires { len ≤ 8 }
+        ensures written { Writes (take len block) (⟦<VecWriter as Writer>⟧.state self.old) (⟦<VecWriter as Writer>⟧.state self.new) result }
+        ensures ready { OnOk result ((⟦<VecWriter as Writer>⟧.state self.old).failed ≡ false) }
+        ensures kept { OnErr result ((⟦<VecWriter as Writer>⟧.state self.new).taken ≡ (⟦<VecWriter as Writer>⟧.state self.old).taken) }
+    {
         let held = self.octets.len();
         if self.failed || self.octets.capacity() - held < 8 {
             return self.write_few(block, len);
