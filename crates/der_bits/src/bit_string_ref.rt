@@ -256,9 +256,12 @@ impl<'a> EncodeValue for BitStringRef<'a> {
         self.byte_len().add(Length::ONE)
     }
 
+    #[inline(always)]
     fn encode_value<W: Writer>(&self, writer: &mut W) -> Result<(), Error> {
-        writer.write_byte(self.unused)?;
-        writer.write(self.octets)
+        match writer.write_byte(self.unused) {
+            Ok(()) => writer.write(self.octets),
+            Err(e) => Err(e),
+        }
     }
 }
 

@@ -1,6 +1,6 @@
 -- The contents octets of an integer as the last octets of its big-endian form at a width.
 use Rattle.std.proofs.Common.{◌≡◌, ℕ, zero, suc, ◌+◌, ◌-◌, ◌*◌, ◌/◌, ◌%◌, ◌^◌, ◌<◌, ◌≤◌, inl, inr, List, ◌∷◌, length, take, drop, ℤ, pos, negsuc, refl, sym, ap, ap₂, ◌∙◌, subst, arith, pow-suc, mul_comm, SFits}
-use Rattle.std.proofs.Math.Nat.{mod-eq_of_lt, mul-div_cancel, mul-mod_left, one-le-pow, pow-le-pow_right}
+use Rattle.std.proofs.Math.Nat.{mod-eq_of_lt, mul-div_cancel, mul-div-mul_right, mul-mod_left, one-le-pow, pow-le-pow_right}
 use Rattle.std.proofs.Math.Arith.{mod-mul}
 use Rattle.std.proofs.lemmas.Bool.{cases_lt}
 use Rattle.std.proofs.lemmas.Nat.{pow-add}
@@ -9,7 +9,7 @@ use Rattle.std.proofs.lemmas.Int.Digits.{number_lt}
 use Rattle.std.specs.Int.{byte_at, bytes_high_first, cast_unsigned, w64, w128}
 use Rattle.std.specs.Int.Digits.{number_from_digits_after}
 use Rattle.der_elem.specs.Integer.{AreOctets, big_endian_number, natural_contents, complemented, integer_contents, aligned}
-use Rattle.der_elem.specs.IntegerLaws.{octets-same_number, number_natural_contents, natural_contents-are_octets, number-complemented, complemented-are_octets, length-complemented, integer_contents-pos, integer_contents-negsuc, integer_contents-length, integer_contents-length_le_width}
+use Rattle.der_elem.specs.IntegerLaws.{octets-same_number, number_natural_contents, natural_contents-are_octets, number-complemented, complemented-are_octets, length-complemented, integer_contents-are_octets, integer_contents-pos, integer_contents-negsuc, integer_contents-length, integer_contents-length_le_width}
 
 -- ---- the lowest octets of a number
 
@@ -39,7 +39,7 @@ number_after_bytes zero n high = omega arith
 number_after_bytes (suc k) n high = number_after_bytes k n (high * 256 + byte_at k n) ∙ byte_on k n high
 
 -- the number of the lowest k octets is the number itself, where it fits
-number_bytes : (k n : ℕ) → n < 256 ^ k → big_endian_number (bytes_high_first k n) ≡ n
+pub number_bytes : (k n : ℕ) → n < 256 ^ k → big_endian_number (bytes_high_first k n) ≡ n
 number_bytes k n fits = omega (arith, number_after_bytes k n 0, mod-eq_of_lt fits)
 
 -- the last of them are the lowest
@@ -117,10 +117,7 @@ represented_slice k z len number octets represents all count within =
     ap (λ o. take (k - (k - len)) (drop (k - len) o)) all
     ∙ slice_of_last k len (bytes_high_first k number) (integer_contents z) count within (last_octets k number z represents (omega (arith, count, within)))
 
--- the slices that a signed integer is written from
-pub short_slice : (z : ℤ) (len number : ℕ) (octets : List ℕ) → SFits w64 z → number ≡ cast_unsigned w64 z → octets ≡ bytes_high_first 8 number → len ≡ length (integer_contents z) → len ≤ 8 → take (8 - (8 - len)) (drop (8 - len) octets) ≡ integer_contents z
-short_slice z len number octets fits cast = represented_slice 8 z len number octets (subst (λ n. Represents 8 n z) (sym cast) (represents_cast_8 z fits))
-
+-- the slice that a signed integer of 128 bits is written from
 pub signed_slice : (z : ℤ) (len number : ℕ) (octets : List ℕ) → SFits w128 z → number ≡ cast_unsigned w128 z → octets ≡ bytes_high_first 16 number → len ≡ length (integer_contents z) → len ≤ 16 → take (16 - (16 - len)) (drop (16 - len) octets) ≡ integer_contents z
 signed_slice z len number octets fits cast = represented_slice 16 z len number octets (subst (λ n. Represents 16 n z) (sym cast) (represents_cast_16 z fits))
 
@@ -142,7 +139,7 @@ wide_length (negsuc n) fits = integer_contents-length_le_width 16 (negsuc n) (om
 
 -- ---- the number of the contents octets with zeros behind them
 
-pow_octets : (j : ℕ) → 2 ^ (8 * j) ≡ 256 ^ j
+pub pow_octets : (j : ℕ) → 2 ^ (8 * j) ≡ 256 ^ j
 pow_octets zero = refl
 pow_octets (suc j) = ap (λ e. 2 ^ e) (omega arith) ∙ pow-add 2 8 (8 * j) ∙ omega (arith, pow_octets j, pow-suc 256 j)
 
@@ -157,14 +154,58 @@ moved_up number k l within =
     ∙ ap₂ (λ a b. a % 256 ^ l * unit + b) (mul-div_cancel number some) (mul-mod_left number unit) ∙ omega arith
 
 -- what represents an integer, moved up, is its contents octets with zeros behind them
-pub aligned_number : (z : ℤ) (len number : ℕ) → SFits w128 z → number ≡ cast_unsigned w128 z → len ≡ length (integer_contents z) → len ≤ 16 → (number * 2 ^ (8 * (16 - len))) % 2 ^ 128 ≡ aligned 16 (integer_contents z)
-aligned_number z len number fits cast count within =
+aligned_at : (k number : ℕ) (z : ℤ) (len : ℕ) → Represents k number z → len ≡ length (integer_contents z) → len ≤ k → (number * 2 ^ (8 * (k - len))) % 256 ^ k ≡ aligned k (integer_contents z)
+aligned_at k number z len represents count within =
     let contents = integer_contents z in
-    let represents = subst (λ n. Represents 16 n z) (sym cast) (represents_cast_16 z fits) in
-    let few : length contents ≤ 16 = omega (arith, count, within) in
-    let same : bytes_high_first (length contents) number ≡ contents = sym (drop_bytes 16 (length contents) number few) ∙ last_octets 16 number z represents few in
+    let few : length contents ≤ k = omega (arith, count, within) in
+    let same : bytes_high_first (length contents) number ≡ contents = sym (drop_bytes k (length contents) number few) ∙ last_octets k number z represents few in
     let value : number % 256 ^ length contents ≡ big_endian_number contents = omega (arith, number_after_bytes (length contents) number 0, ap big_endian_number same) in
-    ap (λ p. (number * p) % 2 ^ 128) (pow_octets (16 - len))
-    ∙ ap (λ l. (number * 256 ^ (16 - l)) % 2 ^ 128) count
-    ∙ moved_up number 16 (length contents) few
-    ∙ ap (λ n. n * 256 ^ (16 - length contents)) value
+    ap (λ p. (number * p) % 256 ^ k) (pow_octets (k - len))
+    ∙ ap (λ l. (number * 256 ^ (k - l)) % 256 ^ k) count
+    ∙ moved_up number k (length contents) few
+    ∙ ap (λ n. n * 256 ^ (k - length contents)) value
+
+-- the same at 16 octets
+pub aligned_number : (z : ℤ) (len number : ℕ) → SFits w128 z → number ≡ cast_unsigned w128 z → len ≡ length (integer_contents z) → len ≤ 16 → (number * 2 ^ (8 * (16 - len))) % 2 ^ 128 ≡ aligned 16 (integer_contents z)
+aligned_number z len number fits cast = aligned_at 16 number z len (subst (λ n. Represents 16 n z) (sym cast) (represents_cast_16 z fits))
+
+-- ---- the octets of a number that zeros stand behind
+
+byte_is : (i n : ℕ) → byte_at i n ≡ n / 256 ^ i % 256
+byte_is zero n = omega arith
+byte_is (suc i) n = refl
+
+-- an octet of a number that is moved up is one of the number
+byte_moved : (k l n : ℕ) → l ≤ k → byte_at k (n * 256 ^ (k - l)) ≡ byte_at l n
+byte_moved k l n within =
+    let unit = 256 ^ (k - l) in
+    let some : 0 < unit = one-le-pow (k - l) 256 (omega arith) in
+    let whole : 256 ^ k ≡ 256 ^ l * unit = ap (λ e. 256 ^ e) (omega (arith, within)) ∙ pow-add 256 l (k - l) in
+    byte_is k (n * unit)
+    ∙ ap (λ p. n * unit / p % 256) whole
+    ∙ ap (λ q. q % 256) (mul-div-mul_right {m = unit} n (256 ^ l) some)
+    ∙ sym (byte_is l n)
+
+-- the first octets of a number that is moved up are those of the number
+front_bytes : (k l n : ℕ) → l ≤ k → take l (bytes_high_first k (n * 256 ^ (k - l))) ≡ bytes_high_first l n
+front_bytes k zero n within = refl
+front_bytes zero (suc l) n within = absurd (omega (arith, within))
+front_bytes (suc k) (suc l) n within =
+    let lower : l ≤ k = omega (arith, within) in
+    let same : suc k - suc l ≡ k - l = omega arith in
+    ap (λ e. take (suc l) (bytes_high_first (suc k) (n * 256 ^ e))) same
+    ∙ ap₂ (λ octet octets. octet ∷ octets) (byte_moved k l n lower) (front_bytes k l n lower)
+
+-- the first octets of what represents an integer of 64 bits, moved up, are its contents octets
+pub short_front : (z : ℤ) (len number front : ℕ) (block : List ℕ) → SFits w64 z → number ≡ cast_unsigned w64 z → front ≡ (number * 2 ^ (8 * (8 - len))) % 2 ^ 64 → block ≡ bytes_high_first 8 front → len ≡ length (integer_contents z) → len ≤ 8 → take len block ≡ integer_contents z
+short_front z len number front block fits cast moved octets count within =
+    let contents = integer_contents z in
+    let all = integer_contents-are_octets z in
+    let few : length contents ≤ 8 = omega (arith, count, within) in
+    let value : front ≡ aligned 8 contents = moved ∙ aligned_at 8 number z len (subst (λ n. Represents 8 n z) (sym cast) (represents_cast_8 z fits)) count within in
+    let whole : block ≡ bytes_high_first 8 (aligned 8 contents) = octets ∙ ap (bytes_high_first 8) value in
+    let number_of = big_endian_number contents in
+    ap (λ b. take len b) whole
+    ∙ ap (λ l. take l (bytes_high_first 8 (aligned 8 contents))) count
+    ∙ front_bytes 8 (length contents) number_of few
+    ∙ octets-same_number (bytes_high_first (length contents) number_of) contents (bytes_are_octets (length contents) number_of) all (length_bytes (length contents) number_of) (number_bytes (length contents) number_of (number_lt 256 contents all))

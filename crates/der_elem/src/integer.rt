@@ -7,6 +7,7 @@
 //! The order of two values is that of their contents octets, and not that of the numbers: 128 is
 //! before 127, and 1 before -1.
 
+mod front;
 mod octets;
 mod ordering;
 mod reading;

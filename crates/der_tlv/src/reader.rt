@@ -2,7 +2,7 @@
 
 mod slice;
 
-ghost use Rattle.std.specs.Prelude.{◌≡◌, ℕ, ◌-◌, ◌≤◌, ◌↔◌, [], length, false, IfOk, IfErr, IsTrue};
+ghost use Rattle.std.specs.Prelude.{◌≡◌, ℕ, ◌-◌, ◌≤◌, ◌↔◌, [], length, take, false, IfOk, IfErr, IsTrue};
 ghost use Rattle.der_tlv.specs.ReaderState.{ReaderState, IsReaderState, rest, after_fault, rewound};
 ghost use Rattle.der_tlv.specs.Reading.{ReadsOctet, OctetsRead, OctetsRefused, Nests, Unnests};
 
@@ -33,6 +33,17 @@ pub trait Reader<'a> {
     /// their number pass the greatest length.
     fn read_slice(&mut self, len: Length) -> Result<&'a [u8], Error>
         ensures ok { IfOk result (λ octets. OctetsRead (state self.old) (state self.new) len octets.now) }
+        ensures err { IfErr result (λ e. OctetsRefused (state self.old) (state self.new) len e.kind) };
+
+    /// Reads that many octets, at most eight, and answers them at the front of a block. A reader may
+    /// move eight octets of the input, which takes less time than a number of octets that is not
+    /// known before.
+    ///
+    /// # Errors
+    /// As `read_slice`.
+    fn read_front(&mut self, len: Length) -> Result<[u8; 8], Error>
+        requires { len ≤ 8 }
+        ensures ok { IfOk result (λ block. OctetsRead (state self.old) (state self.new) len (take len block)) }
         ensures err { IfErr result (λ e. OctetsRefused (state self.old) (state self.new) len e.kind) };
 
     /// Reads as many octets as the buffer has, into the buffer.

@@ -3,7 +3,7 @@
 mod slice;
 mod vec;
 
-ghost use Rattle.std.specs.Prelude.{◌≡◌, ℕ, ◌≤◌, [], ◌∷◌, length, IsOk};
+ghost use Rattle.std.specs.Prelude.{◌≡◌, ℕ, ◌≤◌, [], ◌∷◌, length, take, IsOk};
 ghost use Rattle.der_tlv.specs.Writing.{WriterState, Writes};
 
 use crate::error::Error;
@@ -32,5 +32,17 @@ pub trait Writer {
         ensures { Writes (octet ∷ []) (state self.old) (state self.new) result }
     {
         self.write(&[octet])
+    }
+
+    /// Takes the first octets of a block, so many of its eight. A writer may move the whole block,
+    /// which takes less time than a number of octets that is not known before.
+    ///
+    /// # Errors
+    /// As `write`.
+    fn write_front(&mut self, block: [u8; 8], len: usize) -> Result<(), Error>
+        requires { len ≤ 8 }
+        ensures { Writes (take len block) (state self.old) (state self.new) result }
+    {
+        self.write(&block[..len])
     }
 }

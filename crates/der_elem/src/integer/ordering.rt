@@ -25,8 +25,8 @@ pub fn compare_signed(a: i128, b: i128) -> Ordering
     }
 }
 
-// The least number of 128 bits that has 17 contents octets.
-const LEAST_LONG: u128 = 1 << 127;
+/// The least number of 128 bits that has 17 contents octets.
+pub const LEAST_LONG: u128 = 1 << 127;
 
 /// The lexicographic order of the contents octets of two numbers that are not negative.
 ///

@@ -1,18 +1,20 @@
 //! Reading machine integers: the checks of their contents octets, at any width.
 
-ghost use Rattle.std.specs.Prelude.{◌≡◌, ℕ, ◌<◌, ◌≤◌, length, IfOk};
+ghost use Rattle.std.specs.Prelude.{◌≡◌, ℕ, ◌<◌, ◌≤◌, length, take, IfOk, IfErr};
 ghost use Rattle.der_tlv.specs.ReaderState.{rest};
 ghost use Rattle.der_tlv.specs.Reading.{Stands};
+ghost use Rattle.der_elem.specs.Contents.{ContentsRead, ContentsRefused};
 ghost use Rattle.der_elem.specs.OwnContents.{DecodesOwn};
 ghost use Rattle.der_elem.specs.Integer.{natural_contents, integer_contents, FitsSignedWidth, FitsUnsignedWidth};
 ghost use Rattle.der_elem.specs.IntegerReading.{has_needless_zero, ReadsSigned, ReadsUnsigned, parse_signed, parse_unsigned};
 
+use super::front::{signed_front, unsigned_front};
 use super::octets::{decode_signed, decode_unsigned, fits_unsigned, is_negative, is_redundant};
 use crate::contents::read_contents;
 use der_tlv::{Error, ErrorKind, Header, Reader, Tag};
 
 /// Whether a first octet 00 stands before an octet below 80 (X.690 8.3.2).
-fn has_needless_zero(bytes: &[u8]) -> bool
+pub(super) fn has_needless_zero(bytes: &[u8]) -> bool
     ensures { result ≡ has_needless_zero bytes.now }
 {
     match bytes {
@@ -64,6 +66,49 @@ pub fn unsigned_of(bytes: &[u8], width: usize) -> Result<u128, ErrorKind>
     Ok(decode_unsigned(bytes, width))
 }
 
+/// Reads all of at most eight octets that the reader shows, of which the header says how many there
+/// are, into the front of a block.
+///
+/// # Errors
+/// (17) on a failed reader.
+#[inline(always)]
+fn read_front_contents<'a, R: Reader<'a>>(reader: &mut R, header: Header) -> Result<[u8; 8], Error>
+    requires few { header.length ≤ 8 }
+    ensures reader { Stands (R.state reader.old) (R.state reader.new) result }
+    ensures ok { length (rest (R.state reader.old)) ≡ header.length → IfOk result (λ block. ContentsRead (R.state reader.old) (R.state reader.new) (take header.length block)) }
+    ensures err { length (rest (R.state reader.old)) ≡ header.length → IfErr result (λ e. ContentsRefused (R.state reader.old) (R.state reader.new) e.kind) }
+{
+    reader.read_front(header.length)
+}
+
+/// Reads the integer from all of at most eight contents octets, in one block.
+///
+/// # Errors
+/// As `read_signed`.
+#[inline(always)]
+fn read_short_signed<'a, R: Reader<'a>>(
+    reader: &mut R,
+    header: Header,
+    width: usize,
+) -> Result<i128, Error>
+    requires some { 0 < width }
+    requires most { width ≤ 16 }
+    requires few { header.length ≤ 8 }
+    ensures fits { IfOk result (FitsSignedWidth width) }
+    ensures reader { Stands (R.state reader.old) (R.state reader.new) result }
+    ensures read { length (rest (R.state reader.old)) ≡ header.length → DecodesOwn integer_contents (FitsSignedWidth width) (parse_signed width) (R.state reader.old) (R.state reader.new) result }
+{
+    let len = usize::from(header.length);
+    let block = match read_front_contents(reader, header) {
+        Ok(block) => block,
+        Err(e) => return Err(e),
+    };
+    match signed_front(block, len, width) {
+        Ok(integer) => Ok(integer),
+        Err(kind) => Err(reader.error(kind)),
+    }
+}
+
 /// Reads the integer from all of the contents octets, at a width of up to 16 octets.
 ///
 /// # Errors
@@ -80,9 +125,40 @@ pub fn read_signed<'a, R: Reader<'a>>(
     ensures reader { Stands (R.state reader.old) (R.state reader.new) result }
     ensures read { length (rest (R.state reader.old)) ≡ header.length → DecodesOwn integer_contents (FitsSignedWidth width) (parse_signed width) (R.state reader.old) (R.state reader.new) result }
 {
+    if header.length.value() <= 8 {
+        return read_short_signed(reader, header, width);
+    }
     let bytes = read_contents(reader, header)?;
     match signed_of(bytes, width) {
         Ok(integer) => Ok(integer),
+        Err(kind) => Err(reader.error(kind)),
+    }
+}
+
+/// Reads the number from all of at most eight contents octets, in one block.
+///
+/// # Errors
+/// As `read_unsigned`.
+#[inline(always)]
+fn read_short_unsigned<'a, R: Reader<'a>>(
+    reader: &mut R,
+    header: Header,
+    width: usize,
+) -> Result<u128, Error>
+    requires some { 0 < width }
+    requires most { width ≤ 16 }
+    requires few { header.length ≤ 8 }
+    ensures fits { IfOk result (FitsUnsignedWidth width) }
+    ensures reader { Stands (R.state reader.old) (R.state reader.new) result }
+    ensures read { length (rest (R.state reader.old)) ≡ header.length → DecodesOwn natural_contents (FitsUnsignedWidth width) (parse_unsigned width) (R.state reader.old) (R.state reader.new) result }
+{
+    let len = usize::from(header.length);
+    let block = match read_front_contents(reader, header) {
+        Ok(block) => block,
+        Err(e) => return Err(e),
+    };
+    match unsigned_front(block, len, width) {
+        Ok(number) => Ok(number),
         Err(kind) => Err(reader.error(kind)),
     }
 }
@@ -104,6 +180,9 @@ pub fn read_unsigned<'a, R: Reader<'a>>(
     ensures reader { Stands (R.state reader.old) (R.state reader.new) result }
     ensures read { length (rest (R.state reader.old)) ≡ header.length → DecodesOwn natural_contents (FitsUnsignedWidth width) (parse_unsigned width) (R.state reader.old) (R.state reader.new) result }
 {
+    if header.length.value() <= 8 {
+        return read_short_unsigned(reader, header, width);
+    }
     let bytes = read_contents(reader, header)?;
     match unsigned_of(bytes, width) {
         Ok(number) => Ok(number),

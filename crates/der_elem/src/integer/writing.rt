@@ -6,6 +6,7 @@ ghost use Rattle.std.specs.Int.{bytes_high_first, complement_if};
 ghost use Rattle.der_elem.specs.Encoding.{Encodes};
 ghost use Rattle.der_elem.specs.Integer.{natural_contents, integer_contents};
 
+use super::ordering::LEAST_LONG;
 use der_tlv::{Error, Writer};
 
 /// The sign and the magnitude of an integer: `(n, false)` for n, and `(n, true)` for -1 - n.
@@ -39,18 +40,31 @@ pub fn signed_len(number: i128) -> u32
     unsigned_len(magnitude)
 }
 
-/// Writes the contents octets of an integer. Where 64 bits do, it takes no longer than they need.
+/// Writes the contents octets of an integer: by one block of eight octets where 64 bits do.
 ///
 /// # Errors
 /// The writer's.
+#[inline(always)]
 pub fn write_signed<W: Writer>(writer: &mut W, number: i128) -> Result<(), Error>
     ensures { Encodes (integer_contents number) false (W.state writer.old) (W.state writer.new) result }
 {
+    let Ok(short) = i64::try_from(number) else {
+        return write_wide(writer, number);
+    };
     let len = signed_len(number) as usize;
-    if let Ok(short) = i64::try_from(number) {
-        let octets = short.cast_unsigned().to_be_bytes();
-        return writer.write(&octets[8 - len..]);
-    }
+    let front = short.cast_unsigned() << (8 * (8 - len));
+    writer.write_front(front.to_be_bytes(), len)
+}
+
+/// Writes the contents octets of an integer: the last of its 16 octets.
+///
+/// # Errors
+/// The writer's.
+#[inline(never)]
+fn write_wide<W: Writer>(writer: &mut W, number: i128) -> Result<(), Error>
+    ensures { Encodes (integer_contents number) false (W.state writer.old) (W.state writer.new) result }
+{
+    let len = signed_len(number) as usize;
     let octets = number.cast_unsigned().to_be_bytes();
     writer.write(&octets[16 - len..])
 }
@@ -71,6 +85,9 @@ pub fn unsigned_octets(number: u128) -> [u8; 17]
 pub fn write_unsigned<W: Writer>(writer: &mut W, number: u128) -> Result<(), Error>
     ensures { Encodes (natural_contents number) false (W.state writer.old) (W.state writer.new) result }
 {
+    if number < LEAST_LONG {
+        return write_signed(writer, number as i128);
+    }
     let octets = unsigned_octets(number);
     writer.write(&octets[17 - unsigned_len(number) as usize..])
 }

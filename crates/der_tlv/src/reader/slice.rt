@@ -1,6 +1,6 @@
 //! A reader of octets in memory.
 
-ghost use Rattle.std.specs.Prelude.{⊤, ◌≡◌, ◌↔◌, ◌^◌, ◌<◌, ◌≤◌, List, length, Result, Ok, Err, IsOk, IfOk, IfErr, OnOk, true, false};
+ghost use Rattle.std.specs.Prelude.{⊤, ◌≡◌, ◌↔◌, ◌^◌, ◌<◌, ◌≤◌, ◌+◌, List, length, take, drop, Result, Ok, Err, IsOk, IfOk, IfErr, OnOk, true, false};
 ghost use Rattle.der_tlv.specs.ReaderState.{ReaderState, opened, IsReaderState, finish_fault, can_finish, can_read, read_fault, after_fault};
 ghost use Rattle.der_tlv.specs.declared.error.ErrorKind.TheVariants.{Overflow};
 ghost use Rattle.der_tlv.specs.declared.encoding_rules.EncodingRules.{EncodingRules};
@@ -130,6 +130,22 @@ impl<'a> Clone for SliceReader<'a> {
     }
 }
 
+/// A block whose first octets, so many, are those that stand behind `start`.
+#[inline(always)]
+fn block_at(bytes: &[u8], start: usize, len: usize) -> [u8; 8]
+    requires few { len ≤ 8 }
+    requires within { start + len ≤ length bytes.now }
+    ensures { take len result ≡ take len (drop start bytes.now) }
+{
+    let mut block = [0; 8];
+    if bytes.len() - start >= 8 {
+        block.copy_from_slice(&bytes[start..start + 8]);
+    } else {
+        block[..len].copy_from_slice(&bytes[start..start + len]);
+    }
+    block
+}
+
 impl<'a> Reader<'a> for SliceReader<'a> {
     ghost use Rattle.der_tlv.specs.ReaderState.{ReaderState};
     ghost use Rattle.der_tlv.specs.Views.{slice_reader_state};
@@ -157,6 +173,18 @@ impl<'a> Reader<'a> for SliceReader<'a> {
         let start = self.position as usize;
         self.position += len;
         Ok(&self.bytes[start..self.position as usize])
+    }
+
+    // Moves eight octets where the input has them, also behind those that are read.
+    #[inline(always)]
+    fn read_front(&mut self, len: Length) -> Result<[u8; 8], Error> {
+        let len = len.value();
+        if self.failed || len > self.end - self.position {
+            return Err(self.refusal(len as usize));
+        }
+        let start = self.position as usize;
+        self.position += len;
+        Ok(block_at(self.bytes, start, len as usize))
     }
 
     fn read_into<'b>(&mut self, buffer: &'b mut [u8]) -> Result<&'b [u8], Error> {

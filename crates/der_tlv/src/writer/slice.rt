@@ -74,4 +74,14 @@ impl<'a> Writer for SliceWriter<'a> {
     {
         self.write(&[octet])
     }
+
+    #[inline]
+    fn write_front(&mut self, block: [u8; 8], len: usize) -> Result<(), Error>
+        requires { len ≤ 8 }
+        ensures written { Writes (take len block) (⟦<SliceWriter<'a> as Writer>⟧.state self.old) (⟦<SliceWriter<'a> as Writer>⟧.state self.new) result }
+        ensures ready { OnOk result ((⟦<SliceWriter<'a> as Writer>⟧.state self.old).failed ≡ false) }
+        ensures kept { OnErr result ((⟦<SliceWriter<'a> as Writer>⟧.state self.new).taken ≡ (⟦<SliceWriter<'a> as Writer>⟧.state self.old).taken) }
+    {
+        self.write(&block[..len])
+    }
 }

@@ -1,6 +1,6 @@
 //! A writer into a vector.
 
-ghost use Rattle.std.specs.Prelude.{◌≡◌, ◌≤◌, [], ◌∷◌, IfOk, IfErr, false, OnOk, OnErr};
+ghost use Rattle.std.specs.Prelude.{◌≡◌, ◌≤◌, [], ◌∷◌, take, IfOk, IfErr, false, OnOk, OnErr};
 ghost use Rattle.der_tlv.specs.Writing.{WriterState, Writes};
 ghost use Rattle.der_tlv.specs.declared.error.ErrorKind.TheVariants.{Memory};
 
@@ -49,6 +49,20 @@ impl VecWriter {
         }
     }
 
+    /// Takes the first octets of a block, and no more of it.
+    ///
+    /// # Errors
+    /// As `write`.
+    #[inline(never)]
+    fn write_few(&mut self, block: [u8; 8], len: usize) -> Result<(), Error>
+        requires { len ≤ 8 }
+        ensures written { Writes (take len block) (⟦<VecWriter as Writer>⟧.state self.old) (⟦<VecWriter as Writer>⟧.state self.new) result }
+        ensures ready { OnOk result ((⟦<VecWriter as Writer>⟧.state self.old).failed ≡ false) }
+        ensures kept { OnErr result ((⟦<VecWriter as Writer>⟧.state self.new).taken ≡ (⟦<VecWriter as Writer>⟧.state self.old).taken) }
+    {
+        self.write(&block[..len])
+    }
+
     /// The octets.
     pub fn finish(self) -> Vec<u8>
         ensures { result.items ≡ (⟦<VecWriter as Writer>⟧.state self).taken }
@@ -87,5 +101,27 @@ impl Writer for VecWriter {
         ensures kept { OnErr result ((⟦<VecWriter as Writer>⟧.state self.new).taken ≡ (⟦<VecWriter as Writer>⟧.state self.old).taken) }
     {
         self.write(&[octet])
+    }
+
+    // Moves the whole block where there is room for it, and then gives back what is too much.
+    #[inline(always)]
+    fn write_front(&mut self, block: [u8; 8], len: usize) -> Result<(), Error>
+        requires { len ≤ 8 }
+        ensures written { Writes (take len block) (⟦<VecWriter as Writer>⟧.state self.old) (⟦<VecWriter as Writer>⟧.state self.new) result }
+        ensures ready { OnOk result ((⟦<VecWriter as Writer>⟧.state self.old).failed ≡ false) }
+        ensures kept { OnErr result ((⟦<VecWriter as Writer>⟧.state self.new).taken ≡ (⟦<VecWriter as Writer>⟧.state self.old).taken) }
+    {
+        let held = self.octets.len();
+        if self.failed || self.octets.capacity() - held < 8 {
+            return self.write_few(block, len);
+        }
+        match self.octets.extend_from_slice(&block) {
+            Ok(()) => {
+                let octets = &mut self.octets;
+                octets.truncate(held + len);
+                Ok(())
+            }
+            Err(_) => self.write_few(block, len),
+        }
     }
 }

@@ -1,4 +1,4 @@
-use Rattle.std.proofs.Common.{◌≡◌, ◌∷◌, ◌&&◌, false, nat_eq, sym, ap, ◌∙◌, eq-eqb, ne_eqb}
+use Rattle.std.proofs.Common.{◌≡◌, ◌&&◌, false, nat_eq, sym, ap, ◌∙◌, eq-eqb, ne_eqb}
 use Rattle.std.specs.Cmp.Lexicographic.{pointwise}
 use Rattle.der_bits.specs.EqualBitsLaws.{same_tests}
 use Rattle.der_bits.proofs.bit_string_ref.BitStringRefPartialEq.eq.Goals as goal

@@ -1,32 +1,30 @@
-use Rattle.std.proofs.Common.{◌≡◌, false, length, SFits, to_z, ap, subst, ◌∙◌, arith, to_z-of_z}
-use Rattle.std.specs.Int.{cast_unsigned, w64, w128}
+use Rattle.std.proofs.Common.{◌≡◌, false, length, SFits, to_z, ap, subst, refl, ◌∙◌, arith, to_z-of_z}
+use Rattle.std.specs.Int.{cast_unsigned, w64}
 use Rattle.der_elem.specs.Encoding.{Encodes}
 use Rattle.der_elem.specs.Integer.{integer_contents}
-use Rattle.der_elem.proofs.IntegerBytes.{short_length, short_slice, signed_slice}
+use Rattle.der_elem.proofs.IntegerBytes.{short_length, short_front}
 use Rattle.der_elem.proofs.Written.{encoded_whole}
 use Rattle.der_elem.proofs.integer.writing.write_signed.Goals as goal
 
-pub overflow_sub-len : goal.overflow_sub-len
-overflow_sub-len g c =
+pub overflow_sub-front : goal.overflow_sub-front
+overflow_sub-front g c =
     let z = c.args.number in
     let same = to_z-of_z c.ranges.number in
     omega (arith, c.signed_len-len.ensures.len, ap (λ y. length (integer_contents y)) same, short_length z (subst (SFits w64) same c.in-Ok.ensures.0))
 
-pub returns-in-Ok : goal.returns-in-Ok
-returns-in-Ok g c =
+pub write_front-requires : goal.write_front-requires
+write_front-requires g c =
     let z = c.args.number in
     let same = to_z-of_z c.ranges.number in
-    let fits : SFits w64 z = subst (SFits w64) same c.in-Ok.ensures.0 in
-    let short : c.in-Ok.short ≡ z = c.in-Ok.ensures.1 ∙ same in
-    let len : c.signed_len-len.result ≡ length (integer_contents z) = c.signed_len-len.ensures.len ∙ ap (λ y. length (integer_contents y)) same in
-    subst (λ octets. Encodes octets false (g.W.Writer.state c.args.writer.now) (g.W.Writer.state c.write.new.self) c.write.result)
-    (short_slice z c.signed_len-len.result _ _ fits (c.cast_unsigned.ensures ∙ ap (λ y. cast_unsigned w64 (to_z w64 (cast_unsigned w64 y))) short ∙ ap (cast_unsigned w64) (to_z-of_z fits)) c.to_be_bytes-octets.ensures len (omega (arith, len, short_length z fits)))
-    (encoded_whole _ _ _ c.write.result c.write.ensures)
+    omega (arith, c.signed_len-len.ensures.len, ap (λ y. length (integer_contents y)) same, short_length z (subst (SFits w64) same c.in-Ok.ensures.0))
 
 pub returns : goal.returns
 returns g c =
     let z = c.args.number in
     let same = to_z-of_z c.ranges.number in
-    subst (λ octets. Encodes octets false (g.W.Writer.state c.args.writer.now) (g.W.Writer.state c.write-2.new.self) c.write-2.result)
-    (signed_slice z c.signed_len-len.result _ _ c.ranges.number (c.cast_unsigned-2.ensures ∙ ap (cast_unsigned w128) same) c.to_be_bytes-octets-2.ensures (c.signed_len-len.ensures.len ∙ ap (λ y. length (integer_contents y)) same) c.signed_len-len.ensures.bound)
-    (encoded_whole _ _ _ c.write-2.result c.write-2.ensures)
+    let fits : SFits w64 z = subst (SFits w64) same c.in-Ok.ensures.0 in
+    let short : c.in-Ok.short ≡ z = c.in-Ok.ensures.1 ∙ same in
+    let len : c.signed_len-len.result ≡ length (integer_contents z) = c.signed_len-len.ensures.len ∙ ap (λ y. length (integer_contents y)) same in
+    subst (λ octets. Encodes octets false (g.W.Writer.state c.args.writer.now) (g.W.Writer.state c.write_front.new.self) c.write_front.result)
+    (short_front z c.signed_len-len.result c.cast_unsigned.result _ c.to_be_bytes.result fits (c.cast_unsigned.ensures ∙ ap (λ y. cast_unsigned w64 (to_z w64 (cast_unsigned w64 y))) short ∙ ap (cast_unsigned w64) (to_z-of_z fits)) refl c.to_be_bytes.ensures len (omega (arith, len, short_length z fits)))
+    (encoded_whole _ _ _ c.write_front.result c.write_front.ensures)
