@@ -8,19 +8,26 @@ mod algorithm;
 mod attribute;
 mod extension;
 mod keys;
+mod name;
 #[cfg(test)]
 mod tests;
+mod time;
 
 pub use algorithm::{
     AlgorithmIdentifier, SubjectPublicKeyInfo, read_algorithm_identifier,
     read_subject_public_key_info, write_algorithm_identifier, write_subject_public_key_info,
-};
-pub use attribute::{
-    AttributeTypeAndValue, Validity, read_attribute_type_and_value, read_validity,
-    write_attribute_type_and_value, write_validity,
 };
 pub use extension::{Extension, read_extension, write_extension};
 pub use keys::{
     EcPrivateKey, PrivateKeyInfo, RsaPublicKey, read_ec_private_key, read_private_key_info,
     read_rsa_public_key, write_ec_private_key, write_private_key_info, write_rsa_public_key,
 };
+pub use attribute::{
+    AttributeFields, AttributeTypeAndValue, read_attribute_type_and_value,
+    write_attribute_type_and_value,
+};
+pub use name::{
+    Name, RelativeDistinguishedName, read_name, read_relative_distinguished_name, write_name,
+    write_relative_distinguished_name,
+};
+pub use time::{Time, Validity, read_time, read_validity, write_time, write_validity};
