@@ -9,9 +9,7 @@ use der_elem::{
     DecodeValue, Encode, EncodeValue, Form, FormValue, FromDer, OneTag, SequenceTag, ValueMemory,
     ValueOrd, WithoutMemory,
 };
-use der_fields::{
-    DecodeFields, EncodeFields, End, Field, FieldList, FieldsOrd,
-};
+use der_fields::{DecodeFields, EncodeFields, End, Field, FieldList, FieldsOrd};
 use der_opaque::{AnyRef, ObjectIdentifier};
 use der_tlv::{Error, Header, Length, Reader, Writer};
 use std::alloc::Global;
@@ -105,7 +103,10 @@ impl<'a> ValueOrd for AttributeTypeAndValue<'a> {
 /// # Errors
 /// The first fault of the octets, in the order of the fields; (3) where octets are left over; (9)
 /// where there are more than 4294967295; (1) where a type that takes memory has none.
-pub fn read_attribute_type_and_value<'a>(alloc: Global, bytes: &'a [u8]) -> Result<AttributeTypeAndValue<'a>, Error>
+pub fn read_attribute_type_and_value<'a>(
+    alloc: Global,
+    bytes: &'a [u8],
+) -> Result<AttributeTypeAndValue<'a>, Error>
     ensures { ReadsAll ⟦<AttributeTypeAndValue<'a> as Form>⟧ bytes.now result }
 {
     AttributeTypeAndValue::from_der(alloc, bytes)
@@ -115,7 +116,10 @@ pub fn read_attribute_type_and_value<'a>(alloc: Global, bytes: &'a [u8]) -> Resu
 ///
 /// # Errors
 /// (1) where memory runs out; (9) where there are more than 4294967295 octets.
-pub fn write_attribute_type_and_value<'a>(alloc: Global, value: &AttributeTypeAndValue<'a>) -> Result<Vec<u8>, Error>
+pub fn write_attribute_type_and_value<'a>(
+    alloc: Global,
+    value: &AttributeTypeAndValue<'a>,
+) -> Result<Vec<u8>, Error>
     ensures ok { IfOk result (λ octets. octets.items ≡ ⟦<AttributeTypeAndValue<'a> as Form>⟧.encoding value.now) }
     ensures err { IfErr result (λ e. (e.kind ≡ Memory) ⊎ Stops (⟦<AttributeTypeAndValue<'a> as Form>⟧.encoding value.now) (⟦<AttributeTypeAndValue<'a> as Form>⟧.re_reads value.now) e.kind) }
 {

@@ -6,9 +6,13 @@
 
 mod algorithm;
 mod attribute;
+mod constraints;
+mod crt;
 mod extension;
+mod general_name;
 mod keys;
 mod name;
+mod rsa;
 #[cfg(test)]
 mod tests;
 mod time;
@@ -17,17 +21,24 @@ pub use algorithm::{
     AlgorithmIdentifier, SubjectPublicKeyInfo, read_algorithm_identifier,
     read_subject_public_key_info, write_algorithm_identifier, write_subject_public_key_info,
 };
-pub use extension::{Extension, read_extension, write_extension};
-pub use keys::{
-    EcPrivateKey, PrivateKeyInfo, RsaPublicKey, read_ec_private_key, read_private_key_info,
-    read_rsa_public_key, write_ec_private_key, write_private_key_info, write_rsa_public_key,
-};
 pub use attribute::{
     AttributeFields, AttributeTypeAndValue, read_attribute_type_and_value,
     write_attribute_type_and_value,
+};
+pub use constraints::{BasicConstraints, read_basic_constraints, write_basic_constraints};
+pub use crt::{Crt, CrtFields};
+pub use extension::{Extension, read_extension, write_extension};
+pub use general_name::{
+    GeneralName, SubjectAltName, read_general_name, read_subject_alt_name, write_general_name,
+    write_subject_alt_name,
+};
+pub use keys::{
+    EcPrivateKey, PrivateKeyInfo, RsaPublicKey, read_ec_private_key, read_private_key_info,
+    read_rsa_public_key, write_ec_private_key, write_private_key_info, write_rsa_public_key,
 };
 pub use name::{
     Name, RelativeDistinguishedName, read_name, read_relative_distinguished_name, write_name,
     write_relative_distinguished_name,
 };
+pub use rsa::{RsaPrivateKey, read_rsa_private_key, write_rsa_private_key};
 pub use time::{Time, Validity, read_time, read_validity, write_time, write_validity};

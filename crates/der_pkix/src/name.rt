@@ -28,7 +28,10 @@ pub type Name<'a> = Vec<RelativeDistinguishedName<'a>>;
 /// # Errors
 /// The first fault of the octets, in the order of the fields; (3) where octets are left over; (9)
 /// where there are more than 4294967295; (1) where a type that takes memory has none.
-pub fn read_relative_distinguished_name<'a>(alloc: Global, bytes: &'a [u8]) -> Result<RelativeDistinguishedName<'a>, Error>
+pub fn read_relative_distinguished_name<'a>(
+    alloc: Global,
+    bytes: &'a [u8],
+) -> Result<RelativeDistinguishedName<'a>, Error>
     ensures { ReadsAll ⟦<RelativeDistinguishedName<'a> as Form>⟧ bytes.now result }
 {
     RelativeDistinguishedName::from_der(alloc, bytes)
@@ -38,7 +41,10 @@ pub fn read_relative_distinguished_name<'a>(alloc: Global, bytes: &'a [u8]) -> R
 ///
 /// # Errors
 /// (1) where memory runs out; (9) where there are more than 4294967295 octets.
-pub fn write_relative_distinguished_name<'a>(alloc: Global, value: &RelativeDistinguishedName<'a>) -> Result<Vec<u8>, Error>
+pub fn write_relative_distinguished_name<'a>(
+    alloc: Global,
+    value: &RelativeDistinguishedName<'a>,
+) -> Result<Vec<u8>, Error>
     ensures ok { IfOk result (λ octets. octets.items ≡ ⟦<RelativeDistinguishedName<'a> as Form>⟧.encoding value.now) }
     ensures err { IfErr result (λ e. (e.kind ≡ Memory) ⊎ Stops (⟦<RelativeDistinguishedName<'a> as Form>⟧.encoding value.now) (⟦<RelativeDistinguishedName<'a> as Form>⟧.re_reads value.now) e.kind) }
 {
