@@ -13,8 +13,6 @@ mod general_name;
 mod keys;
 mod name;
 mod rsa;
-#[cfg(test)]
-mod tests;
 mod time;
 
 pub use algorithm::{
