@@ -1,13 +1,20 @@
 //! Attributes of names (RFC 5280 section 4.1.2.4).
 
 ghost use Rattle.std.specs.Prelude.{◌≡◌, ◌⊎◌, IfOk, IfErr, refl};
+ghost use Rattle.std.proofs.Common.{lit<};
 ghost use Rattle.der_tlv.specs.declared.error.ErrorKind.TheVariants.{Memory};
+ghost use Rattle.der_tlv.specs.declared.tag.Tag.TheVariants as tags;
+ghost use Rattle.der_elem.specs.EqualityLaws.{encoding-unique};
+ghost use Rattle.der_elem.specs.TaggedLaws.{encoding_eq_tagged};
+ghost use Rattle.der_fields.specs.TellingLaws.{eq_both};
+ghost use Rattle.der_opaque.specs.contracts.any_ref.AnyRefEncodingEq.TheImpl.Laws as any;
+ghost use Rattle.der_opaque.specs.contracts.object_identifier.ObjectIdentifierContentsEq.TheImpl.Laws as identifier;
 ghost use Rattle.der_elem.specs.Decoding.{ReadsAll};
 ghost use Rattle.der_elem.specs.Encoding.{Stops};
 
 use der_elem::{
-    DecodeValue, Encode, EncodeValue, Form, FormValue, FromDer, OneTag, SequenceTag, ValueMemory,
-    ValueOrd, WithoutMemory,
+    ContentsEq, CopyIsDuplicate, DecodeValue, Encode, EncodeValue, Form, FormValue, FromDer,
+    OneTag, Sequence, SequenceTag, Tagged, ValueMemory, ValueOrd, WithoutMemory,
 };
 use der_fields::{DecodeFields, EncodeFields, End, Field, FieldList, FieldsOrd};
 use der_opaque::{AnyRef, ObjectIdentifier};
@@ -25,7 +32,7 @@ pub type AttributeFields<'a> = Field<ObjectIdentifier<39>, Field<AnyRef<'a>, End
 /// ```
 ///
 /// A struct, and no alias, so that a set of attributes can be named.
-#[derive(Drop)]
+#[derive(Clone, Copy, Debug, PartialEq, Eq)]
 pub struct AttributeTypeAndValue<'a> {
     /// The fields.
     pub fields: AttributeFields<'a>,
@@ -33,6 +40,10 @@ pub struct AttributeTypeAndValue<'a> {
 
 impl<'a> OneTag for AttributeTypeAndValue<'a> {
     type Marker = SequenceTag;
+}
+
+impl<'a> Sequence<'a> for AttributeTypeAndValue<'a> {
+    ghost is_sequence = { refl };
 }
 
 impl<'a> FormValue for AttributeTypeAndValue<'a> {
@@ -97,6 +108,16 @@ impl<'a> ValueOrd for AttributeTypeAndValue<'a> {
         self.fields.cmp_fields(&other.fields)
     }
 }
+
+impl<'a> ContentsEq for AttributeTypeAndValue<'a> {
+    ghost contents_eq = { λ v w one.
+        let kind = encoding_eq_tagged tags.ObjectIdentifier ⟦<ObjectIdentifier<39> as FormValue>⟧.contents ⟦<ObjectIdentifier<39> as FormValue>⟧.one_form_value ⟦<ObjectIdentifier<39> as PartialEq>⟧.eq (identifier.contents_eq-law 39 (record { fits = lit< tt })) v.fields.first w.fields.first one.0 in
+        let value = any.encoding_eq-law v.fields.rest.first w.fields.rest.first one.1.0 in
+        let last = eq_both _ _ _ _ _ _ value (λ _. refl, λ _. refl) (encoding-unique ⟦<AnyRef<'a> as Tagged>⟧.tag_of ⟦<AnyRef<'a> as FormValue>⟧.contents ⟦<AnyRef<'a> as Form>⟧.encoding (λ _. refl) v.fields.rest.first w.fields.rest.first _ _) in
+        eq_both _ _ _ _ _ _ kind last (encoding-unique (λ _. tags.ObjectIdentifier) ⟦<ObjectIdentifier<39> as FormValue>⟧.contents ⟦<ObjectIdentifier<39> as Form>⟧.encoding (λ _. refl) v.fields.first w.fields.first _ _) };
+}
+
+impl<'a> CopyIsDuplicate for AttributeTypeAndValue<'a> {}
 
 /// Reads an attribute: all of the octets, under DER.
 ///
