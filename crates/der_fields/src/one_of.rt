@@ -1,17 +1,17 @@
 //! CHOICE: a value of one of two alternatives, which its tag tells (X.680 29).
 //!
 //! The encoding is that of the alternative, with no octets of its own (X.690 8.13): a CHOICE of an
-//! INTEGER and a BOOLEAN has 02 01 05 for the first's 5, and 01 01 FF for the other's `true`. More than
-//! two alternatives are a CHOICE whose other alternative is a CHOICE: `OneOf<A, OneOf<B, C>>`.
+//! INTEGER and a BOOLEAN has 02 01 05 for the first's 5, and 01 01 FF for the other's `true`. Of more
+//! than two alternatives the other one is a CHOICE: `OneOf<A, OneOf<B, C>>`.
 //!
 //! Reading refuses with the next tag's faults, a tag that no alternative has (4, with none expected),
-//! and with the faults of the alternative that has the tag. A value of the other alternative whose tag
-//! is one of the first's is read from no octets.
+//! and the faults of the alternative that has the tag. A value of the other alternative whose tag is
+//! one of the first's is read from no octets.
 
 ghost use Rattle.std.specs.Prelude.{◌||◌, length};
 ghost use Rattle.std.proofs.Common.{Ok, ap, sym, refl};
 ghost use Rattle.der_elem.specs.OwnContents.{accepts_own};
-ghost use Rattle.der_fields.specs.Alternatives.{TagIs, of_one, AcceptsOne, ReadableOne, OneFormOne, IsCopyOne, TellsHeaders, parse_one, parse_untold};
+ghost use Rattle.der_fields.specs.Alternatives.{of_one, AcceptsOne, ReadableOne, OneFormOne, IsCopyOne, TellsHeaders, parse_one, parse_untold};
 ghost use Rattle.der_fields.specs.FieldLaws.{either_memory};
 ghost use Rattle.der_fields.specs.AlternativeLaws.{parse_of_one, begins_one, led_one, same_length_one, accepts_one_encoding, readable_of_one, one_form_of_one, test_of_one, test_alike, encoding_is_one, lead_is_one, own_tag_one, is_tlv_one, encoding_eq_one, copy_encoding_one, copy_form_one, copy_re_reads_one};
 

@@ -1,7 +1,9 @@
 //! Messages that OpenSSL wrote, read and written back, and octets that are refused.
 
+mod choices;
 mod keys;
 mod names;
+mod time_stamps;
 
 use der_tlv::Error;
 

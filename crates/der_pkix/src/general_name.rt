@@ -12,7 +12,8 @@ use der_opaque::OctetStringRef;
 use der_tlv::Error;
 use std::alloc::Global;
 
-/// The alternatives that name a host, a resource or a mailbox; a name of another one is refused (4):
+/// The alternatives that name a host, a resource or a mailbox. A name of another one is refused
+/// (4):
 ///
 /// ```text
 /// GeneralName ::= CHOICE {

@@ -1,7 +1,7 @@
 //! Messages of RFC 5280, RFC 5208, RFC 8017 and RFC 5915, as SEQUENCEs of their fields.
 //!
-//! Each is an alias of a list of fields: what is proved of every list holds of it, with no law of its
-//! own. `read_..` reads octets as a whole under DER, `write_..` gives the one encoding.
+//! What is proved of every list and of every CHOICE holds of each. `read_..` reads octets as a whole
+//! under DER, `write_..` gives the one encoding.
 #![tactic(auto)]
 
 mod algorithm;
