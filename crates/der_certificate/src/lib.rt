@@ -8,8 +8,6 @@ mod certificate;
 mod issuer;
 mod last;
 mod subject;
-#[cfg(test)]
-mod tests;
 
 pub use certificate::{TbsCertificate, read_tbs_certificate, write_tbs_certificate};
 pub use issuer::{Issuer, IssuerFields};

@@ -1,4 +1,6 @@
 pub mod FieldLists
+pub mod Alternatives
+pub mod AlternativeLaws
 pub mod FieldLaws
 pub mod FieldsDecoding
 pub mod ComparingFields

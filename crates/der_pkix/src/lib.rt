@@ -1,26 +1,42 @@
 //! Messages of RFC 5280, RFC 5208, RFC 8017 and RFC 5915, as SEQUENCEs of their fields.
 //!
-//! Each is an alias of a list of fields: what is proved of every list holds of it, with no law of its
-//! own. `read_..` reads octets as a whole under DER, `write_..` gives the one encoding.
+//! What is proved of every list and of every CHOICE holds of each. `read_..` reads octets as a whole
+//! under DER, `write_..` gives the one encoding.
 #![tactic(auto)]
 
 mod algorithm;
 mod attribute;
+mod constraints;
+mod crt;
 mod extension;
+mod general_name;
 mod keys;
-#[cfg(test)]
-mod tests;
+mod name;
+mod rsa;
+mod time;
 
 pub use algorithm::{
     AlgorithmIdentifier, SubjectPublicKeyInfo, read_algorithm_identifier,
     read_subject_public_key_info, write_algorithm_identifier, write_subject_public_key_info,
 };
 pub use attribute::{
-    AttributeTypeAndValue, Validity, read_attribute_type_and_value, read_validity,
-    write_attribute_type_and_value, write_validity,
+    AttributeFields, AttributeTypeAndValue, read_attribute_type_and_value,
+    write_attribute_type_and_value,
 };
+pub use constraints::{BasicConstraints, read_basic_constraints, write_basic_constraints};
+pub use crt::{Crt, CrtFields};
 pub use extension::{Extension, read_extension, write_extension};
+pub use general_name::{
+    GeneralName, SubjectAltName, read_general_name, read_subject_alt_name, write_general_name,
+    write_subject_alt_name,
+};
 pub use keys::{
     EcPrivateKey, PrivateKeyInfo, RsaPublicKey, read_ec_private_key, read_private_key_info,
     read_rsa_public_key, write_ec_private_key, write_private_key_info, write_rsa_public_key,
 };
+pub use name::{
+    Name, RelativeDistinguishedName, read_name, read_relative_distinguished_name, write_name,
+    write_relative_distinguished_name,
+};
+pub use rsa::{RsaPrivateKey, read_rsa_private_key, write_rsa_private_key};
+pub use time::{Time, Validity, read_time, read_validity, write_time, write_validity};

@@ -1,0 +1,44 @@
+-- The other alternative is read where the next tag is none of the first's.
+use Rattle.std.proofs.Common.{◌≡◌, ℕ, List, ◌++◌, length, take, drop, Bool, true, false, Option, Some, Ok, sym, ap, ◌∙◌, append_assoc, subst}
+use Rattle.std.proofs.lemmas.List.{take-append-drop}
+use Rattle.der_tlv.specs.declared.tag.Tag.{Tag}
+use Rattle.der_tlv.specs.HeaderReading.{read_tag}
+use Rattle.der_tlv.specs.Identifier.{identifier}
+use Rattle.der_tlv.specs.IdentifierLaws.{identifier-unique}
+use Rattle.der_tlv.specs.ReaderState.{ReaderState, after_read, rest}
+use Rattle.der_tlv.specs.Reading.{HeadSeen}
+use Rattle.der_elem.specs.declared.form.Form as form
+use Rattle.der_elem.specs.Decoding.{Decoded}
+use Rattle.der_elem.specs.Leading.{LeadsTag, Leads}
+use Rattle.der_fields.specs.Alternatives.{TagIs, parse_one}
+
+-- the next tag is the one that the front begins with
+same_tag : (octets : List ℕ) (t u : Tag) (n : ℕ) → take (length (identifier t)) octets ≡ identifier t → LeadsTag u (take n octets) → t ≡ u
+same_tag octets t u n e l =
+    let f : identifier t ++ drop (length (identifier t)) octets ≡ octets = ap (λ o. o ++ drop (length (identifier t)) octets) (sym e) ∙ take-append-drop (length (identifier t)) octets in
+    let h : octets ≡ identifier u ++ (l.others ++ drop n octets) = sym (take-append-drop n octets) ∙ ap (λ o. o ++ drop n octets) l.octets_are ∙ append_assoc (identifier u) l.others (drop n octets) in
+    (identifier-unique t u _ _ (f ∙ h)).0
+
+tag_is_other : (tags : Tag → Bool) (octets : List ℕ) (t u : Tag) (n : ℕ) (lead : Option Tag) → take (length (identifier t)) octets ≡ identifier t → tags t ≡ false → lead ≡ Some u → Leads lead (take n octets) → TagIs tags false lead
+tag_is_other tags octets t u n lead e h is l =
+    let same = same_tag octets t u n e (subst (λ lead. Leads lead (take n octets)) is l) in
+    subst (TagIs tags false) (sym is) (ap tags (sym same) ∙ h)
+
+-- what reading the other alternative shows of the CHOICE
+pub record OtherRead {A B : Type 0} (F : form.Ghosts A) (G : form.Ghosts B) (old new : ReaderState) (w : B) : Type 0 where
+  pub taken : ℕ
+  pub ready : old.failed ≡ false
+  pub parsed : parse_one F.tags G.tags F.parse G.parse old.rules old.position (rest old) ≡ Ok (taken, G.encoding w)
+  pub accepted : G.accepts old.rules w (take taken (rest old)) × TagIs F.tags false (G.lead w)
+  pub after : new ≡ after_read old taken
+
+pub other_read : {A B : Type 0} (F : form.Ghosts A) (G : form.Ghosts B) (old seen_at new : ReaderState) (w : B) (t u : Tag) → HeadSeen read_tag (identifier t) old seen_at t → F.tags t ≡ false → G.tags t ≡ true → G.lead w ≡ Some u → Decoded G seen_at new w → OtherRead F G old new w
+other_read F G old seen_at new w t u seen none own is read' =
+    let read : Decoded G old new w = subst (λ s. Decoded G s new w) seen.after read' in
+    record {
+      taken = read.taken;
+      ready = read.ready;
+      parsed = rw (seen.parsed, none, own) read.parsed;
+      accepted = (read.accepted, tag_is_other F.tags (rest old) t u read.taken (G.lead w) seen.taken none is (G.led old.rules w (take read.taken (rest old)) read.accepted));
+      after = read.after;
+    }

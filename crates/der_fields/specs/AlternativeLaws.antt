@@ -1,0 +1,177 @@
+-- The laws of a CHOICE, from those of its alternatives.
+use Rattle.std.proofs.Common.{◌≡◌, ℕ, ◌<◌, IsTrue, ◌↔◌, List, [], ◌∷◌, ◌++◌, length, Bool, true, false, ◌||◌, Option, Some, None, Result, Ok, Err, refl, sym, ap, ◌∙◌, arith, append_assoc, subst}
+use Rattle.der_tlv.specs.declared.encoding_rules.EncodingRules.{EncodingRules}
+use Rattle.der_tlv.specs.declared.error.ErrorKind.{ErrorKind}
+use Rattle.der_tlv.specs.declared.tag.Tag.{Tag}
+use Rattle.der_tlv.specs.HeaderOctets.{tlv}
+use Rattle.der_tlv.specs.HeaderReading.{read_tag}
+use Rattle.der_tlv.specs.Identifier.{identifier}
+use Rattle.der_tlv.specs.TagReadingLaws.{read_tag-identifier}
+use Rattle.der_elem.specs.declared.form.Form as form
+use Rattle.der_elem.specs.Accepting.{Fits, BeginsWith, IsTlv, MayFollow}
+use Rattle.der_elem.specs.Leading.{Leads, Starts}
+use Rattle.der_fields.specs.declared.one_of.OneOf.{OneOf}
+use Rattle.der_fields.specs.declared.one_of.OneOf.TheVariants.{First, Other}
+use Rattle.der_fields.specs.FieldLaws.{follows_some, led_some, left_part, right_part}
+use Rattle.der_fields.specs.TellingLaws.{same_lead}
+use Rattle.der_fields.specs.Alternatives.{TagIs, of_one, AcceptsOne, ReadableOne, OneFormOne, IsCopyOne, parse_by_tag, parse_one}
+
+-- the next tag is one of these, or none of them
+pub record NextIs (tags : Tag → Bool) (one : Bool) (p : ℕ) (octets : List ℕ) : Type 0 where
+  pub tag : Tag
+  pub count : ℕ
+  pub is_next : read_tag p octets ≡ Ok (count, tag)
+  pub is_one : tags tag ≡ one
+
+next_is : (tags : Tag → Bool) (one : Bool) (lead : Option Tag) (p : ℕ) (b x : List ℕ) → TagIs tags one lead → Leads lead b → NextIs tags one p (b ++ x)
+next_is tags one None p b x h l = absurd h
+next_is tags one (Some t) p b x h l =
+    record {
+      tag = t;
+      count = length (identifier t);
+      is_next = ap (read_tag p) (ap (λ o. o ++ x) l.octets_are ∙ append_assoc (identifier t) l.others x) ∙ read_tag-identifier t p (l.others ++ x) l.is_tag;
+      is_one = h;
+    }
+
+some_octets : (tags : Tag → Bool) (one : Bool) (lead : Option Tag) (b : List ℕ) → TagIs tags one lead → Leads lead b → 0 < length b
+some_octets tags one None b h l = absurd h
+some_octets tags one (Some t) b h l = led_some l
+
+-- the tag that accepted octets begin with is one of these
+own_next : (tags : Tag → Bool) (p : ℕ) (b x : List ℕ) → BeginsWith tags true b → NextIs tags true p (b ++ x)
+own_next tags p b x h =
+    record {
+      tag = h.tag;
+      count = length (identifier h.tag);
+      is_next = ap (read_tag p) (ap (λ o. o ++ x) h.octets_are ∙ append_assoc (identifier h.tag) h.others x) ∙ read_tag-identifier h.tag p (h.others ++ x) h.is_tag;
+      is_one = h.is_one;
+    }
+
+begins_some : {T : Type 0} (F : form.Ghosts T) (rules : EncodingRules) (v : T) (b : List ℕ) → F.accepts rules v b → 0 < length b → BeginsWith F.tags true b
+begins_some F rules v [] a h = absurd (omega arith)
+begins_some F rules v (z ∷ b) a h = F.begins rules v z b a
+
+abbrev tag_or : Tag → Result (ℕ × Tag) ErrorKind → Tag
+tag_or t (Err k) = t
+tag_or t (Ok (count, u)) = u
+
+-- the alternative is that of the tag
+first_parsed : (tags tags' : Tag → Bool) (p : ℕ) (octets : List ℕ) (first other : _) → NextIs tags true p octets → parse_by_tag tags tags' first other (read_tag p octets) ≡ first
+first_parsed tags tags' p octets first other n = rw (n.is_next, n.is_one) refl
+
+other_parsed : (tags tags' : Tag → Bool) (p : ℕ) (octets : List ℕ) (first other : _) → NextIs tags false p octets → NextIs tags' true p octets → parse_by_tag tags tags' first other (read_tag p octets) ≡ other
+other_parsed tags tags' p octets first other n m =
+    let own : tags' n.tag ≡ true = ap (λ r. tags' (tag_or n.tag r)) (sym n.is_next ∙ m.is_next) ∙ m.is_one in
+    rw (n.is_next, n.is_one, own) refl
+
+more_tags : (tags more : Tag → Bool) (b : List ℕ) → ((t : Tag) → tags t ≡ true → more t ≡ true) → BeginsWith tags true b → BeginsWith more true b
+more_tags tags more b f h = record { tag = h.tag; others = h.others; octets_are = h.octets_are; is_tag = h.is_tag; is_one = f h.tag h.is_one }
+
+module _ {A B : Type 0} (F : form.Ghosts A) (G : form.Ghosts B) (rules : EncodingRules) where
+  pub parse_of_one : (v : OneOf A B) (p : ℕ) (b x : List ℕ) → AcceptsOne F.tags F.lead G.lead (F.accepts rules) (G.accepts rules) v b → Fits b → MayFollow (λ t. F.tags t || G.tags t) b x → parse_one F.tags G.tags F.parse G.parse rules p (b ++ x) ≡ Ok (length b, of_one F.encoding G.encoding v)
+  parse_of_one (First v) p b x a fits follows =
+      let l = F.led rules v b a.0 in
+      let some = some_octets F.tags true (F.lead v) b a.1 l in
+      first_parsed F.tags G.tags p (b ++ x) (F.parse rules p (b ++ x)) (G.parse rules p (b ++ x)) (next_is F.tags true (F.lead v) p b x a.1 l) ∙ F.parse_of_accepted rules v p b x a.0 fits (follows_some F.tags b x some)
+  parse_of_one (Other w) p b x a fits follows =
+      let l = G.led rules w b a.0 in
+      let some = some_octets F.tags false (G.lead w) b a.1 l in
+      let own = own_next G.tags p b x (begins_some G rules w b a.0 some) in
+      other_parsed F.tags G.tags p (b ++ x) (F.parse rules p (b ++ x)) (G.parse rules p (b ++ x)) (next_is F.tags false (G.lead w) p b x a.1 l) own ∙ G.parse_of_accepted rules w p b x a.0 fits (follows_some G.tags b x some)
+
+  pub begins_one : (v : OneOf A B) (z : ℕ) (b : List ℕ) → AcceptsOne F.tags F.lead G.lead (F.accepts rules) (G.accepts rules) v (z ∷ b) → BeginsWith (λ t. F.tags t || G.tags t) true (z ∷ b)
+  begins_one (First v) z b a = more_tags F.tags (λ t. F.tags t || G.tags t) (z ∷ b) (λ t. left_part (F.tags t) (G.tags t)) (F.begins rules v z b a.0)
+  begins_one (Other w) z b a = more_tags G.tags (λ t. F.tags t || G.tags t) (z ∷ b) (λ t. right_part (F.tags t) (G.tags t)) (G.begins rules w z b a.0)
+
+  pub led_one : (v : OneOf A B) (b : List ℕ) → AcceptsOne F.tags F.lead G.lead (F.accepts rules) (G.accepts rules) v b → Leads (of_one F.lead G.lead v) b
+  led_one (First v) b a = F.led rules v b a.0
+  led_one (Other w) b a = G.led rules w b a.0
+
+  pub same_length_one : (v : OneOf A B) (b : List ℕ) → AcceptsOne F.tags F.lead G.lead (F.accepts rules) (G.accepts rules) v b → length (of_one F.encoding G.encoding v) ≡ length b
+  same_length_one (First v) b a = F.same_length rules v b a.0
+  same_length_one (Other w) b a = G.same_length rules w b a.0
+
+  pub accepts_one_encoding : (v : OneOf A B) → ReadableOne F.tags F.lead G.lead F.readable G.readable v → AcceptsOne F.tags F.lead G.lead (F.accepts rules) (G.accepts rules) v (of_one F.encoding G.encoding v)
+  accepts_one_encoding (First v) (r, h) = (F.accepts_encoding rules v r, h)
+  accepts_one_encoding (Other w) (r, h) = (G.accepts_encoding rules w r, h)
+
+  pub readable_of_one : (v : OneOf A B) (b : List ℕ) → AcceptsOne F.tags F.lead G.lead (F.accepts rules) (G.accepts rules) v b → ReadableOne F.tags F.lead G.lead F.readable G.readable v
+  readable_of_one (First v) b (a, h) = (F.only_readable rules v b a, h)
+  readable_of_one (Other w) b (a, h) = (G.only_readable rules w b a, h)
+
+  pub one_form_of_one : (v x : OneOf A B) (b c : List ℕ) → AcceptsOne F.tags F.lead G.lead (F.accepts rules) (G.accepts rules) v b → AcceptsOne F.tags F.lead G.lead (F.accepts rules) (G.accepts rules) x c → OneFormOne F.tags F.lead G.lead F.one_form G.one_form v x
+  one_form_of_one (First v) (First x) b c (a, h) (d, k) = F.accepts_one_form rules v x b c a d
+  one_form_of_one (Other w) (Other y) b c (a, h) (d, k) = G.accepts_one_form rules w y b c a d
+  one_form_of_one (First v) (Other w) b c (a, h) (d, k) = (h, k)
+  one_form_of_one (Other w) (First v) b c (a, h) (d, k) = (k, h)
+
+-- what either alternative has, the CHOICE has
+pub test_of_one : {A B : Type 0} (test : A → Bool) (test' : B → Bool) (p q : Bool) → ((v : A) → test v ≡ true → p ≡ true) → ((w : B) → test' w ≡ true → q ≡ true) → (v : OneOf A B) → of_one test test' v ≡ true → (p || q) ≡ true
+test_of_one test test' p q f g (First v) h = left_part p q (f v h)
+test_of_one test test' p q f g (Other w) h = right_part p q (g w h)
+
+pub test_alike : {A B : Type 0} (test more : A → Bool) (test' more' : B → Bool) → ((v : A) → test v ≡ true → more v ≡ true) → ((w : B) → test' w ≡ true → more' w ≡ true) → (v : OneOf A B) → of_one test test' v ≡ true → of_one more more' v ≡ true
+test_alike test more test' more' f g (First v) h = f v h
+test_alike test more test' more' f g (Other w) h = g w h
+
+pub encoding_is_one : {A B : Type 0} (tag_of : A → Tag) (tag_of' : B → Tag) (contents encoding : A → List ℕ) (contents' encoding' : B → List ℕ) → ((v : A) → encoding v ≡ tlv (tag_of v) (contents v)) → ((w : B) → encoding' w ≡ tlv (tag_of' w) (contents' w)) → (v : OneOf A B) → of_one encoding encoding' v ≡ tlv (of_one tag_of tag_of' v) (of_one contents contents' v)
+encoding_is_one tag_of tag_of' contents encoding contents' encoding' f g (First v) = f v
+encoding_is_one tag_of tag_of' contents encoding contents' encoding' f g (Other w) = g w
+
+pub lead_is_one : {A B : Type 0} (tag_of : A → Tag) (tag_of' : B → Tag) (lead : A → Option Tag) (lead' : B → Option Tag) → ((v : A) → lead v ≡ Some (tag_of v)) → ((w : B) → lead' w ≡ Some (tag_of' w)) → (v : OneOf A B) → of_one lead lead' v ≡ Some (of_one tag_of tag_of' v)
+lead_is_one tag_of tag_of' lead lead' f g (First v) = f v
+lead_is_one tag_of tag_of' lead lead' f g (Other w) = g w
+
+pub own_tag_one : {A B : Type 0} (tags tags' : Tag → Bool) (tag_of : A → Tag) (tag_of' : B → Tag) → ((v : A) → tags (tag_of v) ≡ true) → ((w : B) → tags' (tag_of' w) ≡ true) → (v : OneOf A B) → (tags (of_one tag_of tag_of' v) || tags' (of_one tag_of tag_of' v)) ≡ true
+own_tag_one tags tags' tag_of tag_of' f g (First v) = left_part (tags (tag_of v)) (tags' (tag_of v)) (f v)
+own_tag_one tags tags' tag_of tag_of' f g (Other w) = right_part (tags (tag_of' w)) (tags' (tag_of' w)) (g w)
+
+pub is_tlv_one : {A B : Type 0} (F : form.Ghosts A) (G : form.Ghosts B) → ((rules : EncodingRules) (v : A) (b : List ℕ) → F.accepts rules v b → IsTlv b) → ((rules : EncodingRules) (w : B) (b : List ℕ) → G.accepts rules w b → IsTlv b) → (rules : EncodingRules) (v : OneOf A B) (b : List ℕ) → AcceptsOne F.tags F.lead G.lead (F.accepts rules) (G.accepts rules) v b → IsTlv b
+is_tlv_one F G f g rules (First v) b a = f rules v b a.0
+is_tlv_one F G f g rules (Other w) b a = g rules w b a.0
+
+-- tags of which one is one of these, and the other is not, are not the same
+pub tags_differ : (tags : Tag → Bool) (l m : Option Tag) → TagIs tags true l → TagIs tags false m → l ≡ m → ⊥
+tags_differ tags None m h k e = h
+tags_differ tags (Some t) m h k e = let other : tags t ≡ false = subst (TagIs tags false) (sym e) k in absurd (cc)
+
+-- values are equal exactly where their encodings are: those of two alternatives begin with different tags
+module _ {A B : Type 0} (F : form.Ghosts A) (G : form.Ghosts B) (eq : A → A → Bool) (eq' : B → B → Bool) (encoding_eq : (v x : A) → F.one_form v x → IsTrue (eq v x) ↔ (F.encoding v ≡ F.encoding x)) (encoding_eq' : (w y : B) → G.one_form w y → IsTrue (eq' w y) ↔ (G.encoding w ≡ G.encoding y)) (starts : (v : A) → Starts (F.lead v) (F.encoding v)) (starts' : (w : B) → Starts (G.lead w) (G.encoding w)) where
+  apart : (v : A) (w : B) → TagIs F.tags true (F.lead v) → TagIs F.tags false (G.lead w) → F.encoding v ≡ G.encoding w → ⊥
+  apart v w h k e = tags_differ F.tags (F.lead v) (G.lead w) h k (same_lead (F.lead v) (G.lead w) (F.encoding v) (G.encoding w) (starts v) (starts' w) e)
+
+  pub encoding_eq_one : (eq_one : OneOf A B → OneOf A B → Bool) → ((v x : A) → eq_one (First v) (First x) ≡ eq v x) → ((w y : B) → eq_one (Other w) (Other y) ≡ eq' w y) → ((v : A) (w : B) → eq_one (First v) (Other w) ≡ false) → ((w : B) (v : A) → eq_one (Other w) (First v) ≡ false) → (v x : OneOf A B) → OneFormOne F.tags F.lead G.lead F.one_form G.one_form v x → IsTrue (eq_one v x) ↔ (of_one F.encoding G.encoding v ≡ of_one F.encoding G.encoding x)
+  encoding_eq_one eq_one same same' other other' (First v) (First x) one = subst (λ b. IsTrue b ↔ (F.encoding v ≡ F.encoding x)) (sym (same v x)) (encoding_eq v x one)
+  encoding_eq_one eq_one same same' other other' (Other w) (Other y) one = subst (λ b. IsTrue b ↔ (G.encoding w ≡ G.encoding y)) (sym (same' w y)) (encoding_eq' w y one)
+  encoding_eq_one eq_one same same' other other' (First v) (Other w) (h, k) =
+      (λ e. absurd (let f = other v w in cc), λ e. absurd (apart v w h k e))
+  encoding_eq_one eq_one same same' other other' (Other w) (First v) (h, k) =
+      (λ e. absurd (let f = other' w v in cc), λ e. absurd (apart v w h k (sym e)))
+
+module _ {A B : Type 0} (F : form.Ghosts A) (G : form.Ghosts B) (is_copy : A → A → Type 0) (is_copy' : B → B → Type 0) (copy_encoding : (v x : A) → is_copy v x → F.encoding x ≡ F.encoding v) (copy_encoding' : (w y : B) → is_copy' w y → G.encoding y ≡ G.encoding w) where
+  pub copy_encoding_one : (v x : OneOf A B) → IsCopyOne is_copy is_copy' v x → of_one F.encoding G.encoding x ≡ of_one F.encoding G.encoding v
+  copy_encoding_one (First v) (First x) c = copy_encoding v x c
+  copy_encoding_one (Other w) (Other y) c = copy_encoding' w y c
+  copy_encoding_one (First v) (Other y) c = absurd c
+  copy_encoding_one (Other w) (First x) c = absurd c
+
+  pub copy_re_reads_one : ((v x : A) → is_copy v x → F.re_reads x ≡ F.re_reads v) → ((w y : B) → is_copy' w y → G.re_reads y ≡ G.re_reads w) → (v x : OneOf A B) → IsCopyOne is_copy is_copy' v x → of_one F.re_reads G.re_reads x ≡ of_one F.re_reads G.re_reads v
+  copy_re_reads_one f g (First v) (First x) c = f v x c
+  copy_re_reads_one f g (Other w) (Other y) c = g w y c
+  copy_re_reads_one f g (First v) (Other y) c = absurd c
+  copy_re_reads_one f g (Other w) (First x) c = absurd c
+
+  module _ (starts : (v : A) → Starts (F.lead v) (F.encoding v)) (starts' : (w : B) → Starts (G.lead w) (G.encoding w)) (copy_form : (v x u : A) → is_copy v x → F.one_form v u → F.one_form x u) (copy_form' : (w y z : B) → is_copy' w y → G.one_form w z → G.one_form y z) where
+    tag_kept : (one : Bool) (v x : A) → is_copy v x → TagIs F.tags one (F.lead v) → TagIs F.tags one (F.lead x)
+    tag_kept one v x c h = subst (TagIs F.tags one) (same_lead (F.lead v) (F.lead x) (F.encoding v) (F.encoding x) (starts v) (starts x) (sym (copy_encoding v x c))) h
+
+    tag_kept' : (one : Bool) (w y : B) → is_copy' w y → TagIs F.tags one (G.lead w) → TagIs F.tags one (G.lead y)
+    tag_kept' one w y c h = subst (TagIs F.tags one) (same_lead (G.lead w) (G.lead y) (G.encoding w) (G.encoding y) (starts' w) (starts' y) (sym (copy_encoding' w y c))) h
+
+    pub copy_form_one : (v x u : OneOf A B) → IsCopyOne is_copy is_copy' v x → OneFormOne F.tags F.lead G.lead F.one_form G.one_form v u → OneFormOne F.tags F.lead G.lead F.one_form G.one_form x u
+    copy_form_one (First v) (Other y) u c one = absurd c
+    copy_form_one (Other w) (First x) u c one = absurd c
+    copy_form_one (First v) (First x) (First u) c one = copy_form v x u c one
+    copy_form_one (First v) (First x) (Other u) c (h, k) = (tag_kept true v x c h, k)
+    copy_form_one (Other w) (Other y) (Other u) c one = copy_form' w y u c one
+    copy_form_one (Other w) (Other y) (First u) c (h, k) = (h, tag_kept' false w y c k)

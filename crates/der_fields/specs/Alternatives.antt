@@ -1,0 +1,73 @@
+-- CHOICE: a value of one of two alternatives, which its tag tells (X.680 29).
+use Rattle.std.specs.Prelude.{◌≡◌, ℕ, ◌≤◌, ◌^◌, List, length, Bool, true, false, if◌then◌else◌, Option, Some, None, Result, Ok, Err, ◌⊎◌}
+use Rattle.std.specs.declared.cmp.Ordering.{Ordering}
+use Rattle.der_tlv.specs.declared.error.ErrorKind.{ErrorKind}
+use Rattle.der_tlv.specs.declared.error.ErrorKind.TheVariants.{Overflow, Memory, Value, TagUnexpected}
+use Rattle.der_tlv.specs.declared.error.Error.{Error}
+use Rattle.der_tlv.specs.declared.tag.Tag.{Tag}
+use Rattle.der_tlv.specs.HeaderReading.{read_tag}
+use Rattle.der_tlv.specs.Octets.{lex}
+use Rattle.der_elem.specs.declared.form.Form as form
+use Rattle.der_elem.specs.Comparing.{SameHeader}
+use Rattle.der_elem.specs.Parsing.{Parse, ContentsParse}
+use Rattle.der_fields.specs.declared.one_of.OneOf.{OneOf}
+use Rattle.der_fields.specs.declared.one_of.OneOf.TheVariants.{First, Other}
+
+-- a value has a tag, which is one of these, or none of them
+abbrev pub TagIs : (Tag → Bool) → Bool → Option Tag → Type 0
+TagIs tags one None = ⊥
+TagIs tags one (Some t) = tags t ≡ one
+
+-- what the alternative has
+abbrev pub of_one : {A B C : Type 0} → (A → C) → (B → C) → OneOf A B → C
+of_one first other (First v) = first v
+of_one first other (Other w) = other w
+
+-- the value is read from these octets, and its tag tells which alternative it is of
+abbrev pub AcceptsOne : {A B : Type 0} → (Tag → Bool) → (A → Option Tag) → (B → Option Tag) → (A → List ℕ → Type 0) → (B → List ℕ → Type 0) → OneOf A B → List ℕ → Type 0
+AcceptsOne tags lead lead' accepts accepts' (First v) octets = accepts v octets × TagIs tags true (lead v)
+AcceptsOne tags lead lead' accepts accepts' (Other w) octets = accepts' w octets × TagIs tags false (lead' w)
+
+abbrev pub ReadableOne : {A B : Type 0} → (Tag → Bool) → (A → Option Tag) → (B → Option Tag) → (A → Type 0) → (B → Type 0) → OneOf A B → Type 0
+ReadableOne tags lead lead' readable readable' (First v) = readable v × TagIs tags true (lead v)
+ReadableOne tags lead lead' readable readable' (Other w) = readable' w × TagIs tags false (lead' w)
+
+-- some form has both: one of the alternative, or one that the tags tell apart
+abbrev pub OneFormOne : {A B : Type 0} → (Tag → Bool) → (A → Option Tag) → (B → Option Tag) → (A → A → Type 0) → (B → B → Type 0) → OneOf A B → OneOf A B → Type 0
+OneFormOne tags lead lead' one_form one_form' (First v) (First x) = one_form v x
+OneFormOne tags lead lead' one_form one_form' (Other w) (Other y) = one_form' w y
+OneFormOne tags lead lead' one_form one_form' (First v) (Other w) = TagIs tags true (lead v) × TagIs tags false (lead' w)
+OneFormOne tags lead lead' one_form one_form' (Other w) (First v) = TagIs tags true (lead v) × TagIs tags false (lead' w)
+
+-- a copy is of the same alternative
+abbrev pub IsCopyOne : {A B : Type 0} → (A → A → Type 0) → (B → B → Type 0) → OneOf A B → OneOf A B → Type 0
+IsCopyOne is_copy is_copy' (First v) (First x) = is_copy v x
+IsCopyOne is_copy is_copy' (Other w) (Other y) = is_copy' w y
+IsCopyOne is_copy is_copy' (First v) (Other w) = ⊥
+IsCopyOne is_copy is_copy' (Other w) (First v) = ⊥
+
+-- once the tag is read: the alternative that has it, or a tag of none (4)
+abbrev pub parse_by_tag : (Tag → Bool) → (Tag → Bool) → Result (ℕ × List ℕ) ErrorKind → Result (ℕ × List ℕ) ErrorKind → Result (ℕ × Tag) ErrorKind → Result (ℕ × List ℕ) ErrorKind
+parse_by_tag tags tags' first other (Err k) = Err k
+parse_by_tag tags tags' first other (Ok (count, tag)) =
+    if tags tag then first else if tags' tag then other else Err (TagUnexpected None tag)
+
+-- The tag's faults, a tag of no alternative (4), the faults of the alternative that has the tag.
+abbrev pub parse_one : (Tag → Bool) → (Tag → Bool) → Parse → Parse → Parse
+parse_one tags tags' first other rules p octets = parse_by_tag tags tags' (first rules p octets) (other rules p octets) (read_tag p octets)
+
+-- contents octets with no tag, which tell nothing
+abbrev pub parse_untold : ContentsParse
+parse_untold rules p octets = Ok octets
+
+-- why two values of two types have no comparison: no length says how many octets one has, their headers are equal, or memory ran out where items are read again
+abbrev pub NotTold : {A B : Type 0} → form.Ghosts A → form.Ghosts B → A → B → Tag → Tag → ErrorKind → Type 0
+NotTold F G x y t u Overflow = (2 ^ 32 ≤ length (F.encoding x)) ⊎ (2 ^ 32 ≤ length (G.encoding y))
+NotTold F G x y t u (Value tag) = (t ≡ u) × SameHeader (F.encoding x) (G.encoding y)
+NotTold F G x y t u Memory = (F.re_reads x ≡ true) ⊎ (G.re_reads y ≡ true)
+NotTold F G x y t u _ = ⊥
+
+-- what comparing the headers of values of two types, with these tags, answers: the order of their encodings, or why there is none
+abbrev pub TellsHeaders : {A B : Type 0} → form.Ghosts A → form.Ghosts B → A → B → Tag → Tag → Result Ordering Error → Type 0
+TellsHeaders F G x y t u (Ok order) = order ≡ lex (F.encoding x) (G.encoding y)
+TellsHeaders F G x y t u (Err e) = NotTold F G x y t u e.kind

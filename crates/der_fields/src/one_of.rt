@@ -1,0 +1,221 @@
+//! CHOICE: a value of one of two alternatives, which its tag tells (X.680 29).
+//!
+//! The encoding is that of the alternative, with no octets of its own (X.690 8.13): a CHOICE of an
+//! INTEGER and a BOOLEAN has 02 01 05 for the first's 5, and 01 01 FF for the other's `true`. Of more
+//! than two alternatives the other one is a CHOICE: `OneOf<A, OneOf<B, C>>`.
+//!
+//! Reading refuses with the next tag's faults, a tag that no alternative has (4, with none expected),
+//! and the faults of the alternative that has the tag. A value of the other alternative whose tag is
+//! one of the first's is read from no octets.
+
+ghost use Rattle.std.specs.Prelude.{◌||◌, length};
+ghost use Rattle.std.proofs.Common.{Ok, ap, sym, refl};
+ghost use Rattle.der_elem.specs.OwnContents.{accepts_own};
+ghost use Rattle.der_fields.specs.Alternatives.{of_one, AcceptsOne, ReadableOne, OneFormOne, IsCopyOne, TellsHeaders, parse_one, parse_untold};
+ghost use Rattle.der_fields.specs.FieldLaws.{either_memory};
+ghost use Rattle.der_fields.specs.AlternativeLaws.{parse_of_one, begins_one, led_one, same_length_one, accepts_one_encoding, readable_of_one, one_form_of_one, test_of_one, test_alike, encoding_is_one, lead_is_one, own_tag_one, is_tlv_one, encoding_eq_one, copy_encoding_one, copy_form_one, copy_re_reads_one};
+
+use crate::memory::EitherMemory;
+use der_elem::{
+    Choice, Decode, DerOrd, Duplicate, EncodeValue, EncodingEq, FirstTag, Form, FormMemory,
+    FormValue, Tagged,
+};
+use der_tlv::{Error, Length, Reader, Tag, Writer};
+use std::alloc::Global;
+use std::cmp::Ordering;
+
+/// A value of one of two alternatives.
+#[derive(Clone, Copy, Debug, PartialEq, Eq, Drop)]
+pub enum OneOf<A, B> {
+    /// A value of the first alternative.
+    First(A),
+    /// A value of the other, which may be a CHOICE of more.
+    Other(B),
+}
+
+impl<A: Form, B: Form> Form for OneOf<A, B> {
+    ghost encoding = { of_one A.encoding B.encoding };
+
+    ghost one_form = { OneFormOne A.tags A.lead B.lead A.one_form B.one_form };
+
+    ghost re_reads = { of_one A.re_reads B.re_reads };
+
+    ghost accepts = { λ rules. AcceptsOne A.tags A.lead B.lead (A.accepts rules) (B.accepts rules) };
+
+    ghost parse = { parse_one A.tags B.tags A.parse B.parse };
+
+    ghost tags = { λ t. A.tags t || B.tags t };
+
+    ghost lead = { of_one A.lead B.lead };
+
+    ghost readable = { ReadableOne A.tags A.lead B.lead A.readable B.readable };
+
+    ghost TAKES_MEMORY = { A.TAKES_MEMORY || B.TAKES_MEMORY };
+
+    ghost parse_of_accepted = { parse_of_one A.Form B.Form };
+
+    ghost begins = { begins_one A.Form B.Form };
+
+    ghost led = { led_one A.Form B.Form };
+
+    ghost same_length = { same_length_one A.Form B.Form };
+
+    ghost accepts_encoding = { accepts_one_encoding A.Form B.Form };
+
+    ghost only_readable = { readable_of_one A.Form B.Form };
+
+    ghost accepts_one_form = { one_form_of_one A.Form B.Form };
+
+    ghost re_reads_memory = { test_of_one A.re_reads B.re_reads A.TAKES_MEMORY B.TAKES_MEMORY A.re_reads_memory B.re_reads_memory };
+}
+
+impl<A: FormMemory, B: FormMemory> FormMemory for OneOf<A, B> {
+    type OfForm = EitherMemory<<A as FormMemory>::OfForm, <B as FormMemory>::OfForm>;
+
+    ghost memory_of_form = { either_memory A.memory_of_form B.memory_of_form };
+}
+
+/// The contents octets are those of the alternative. With no tag they do not tell which it is, so a
+/// CHOICE is read from whole encodings alone.
+impl<A: FormValue, B: FormValue> FormValue for OneOf<A, B> {
+    ghost contents = { of_one A.contents B.contents };
+
+    ghost re_reads_value = { of_one A.re_reads_value B.re_reads_value };
+
+    ghost accepts_value = { accepts_own (of_one A.contents B.contents) };
+
+    ghost parse_value = { parse_untold };
+
+    ghost VALUE_TAKES_MEMORY = { A.VALUE_TAKES_MEMORY || B.VALUE_TAKES_MEMORY };
+
+    ghost parse_of_accepted_value = { λ rules v p c a fits. ap Ok a };
+
+    ghost same_length_value = { λ rules v c a. ap length (sym a) };
+
+    ghost accepts_contents = { λ rules v r. refl };
+
+    ghost only_readable_value = { λ rules v c a. tt };
+
+    ghost accepts_one_form_value = { λ rules v w c d a b. tt };
+
+    ghost re_reads_memory_value = { test_of_one A.re_reads_value B.re_reads_value A.VALUE_TAKES_MEMORY B.VALUE_TAKES_MEMORY A.re_reads_memory_value B.re_reads_memory_value };
+}
+
+impl<A: Tagged, B: Tagged> Tagged for OneOf<A, B> {
+    ghost tag_of = { of_one A.tag_of B.tag_of };
+
+    fn tag(&self) -> Tag {
+        match self {
+            OneOf::First(value) => value.tag(),
+            OneOf::Other(value) => value.tag(),
+        }
+    }
+
+    ghost encoding_is = { encoding_is_one A.tag_of B.tag_of A.contents A.encoding B.contents B.encoding A.encoding_is B.encoding_is };
+
+    ghost accepted_is_tlv = { is_tlv_one A.Form B.Form A.accepted_is_tlv B.accepted_is_tlv };
+
+    ghost own_tag = { own_tag_one A.tags B.tags A.tag_of B.tag_of A.own_tag B.own_tag };
+
+    ghost lead_is = { lead_is_one A.tag_of B.tag_of A.lead B.lead A.lead_is B.lead_is };
+
+    ghost re_reads_alike = { test_alike A.re_reads_value A.re_reads B.re_reads_value B.re_reads A.re_reads_alike B.re_reads_alike };
+
+    ghost one_form_alike = { λ v w h. tt };
+}
+
+impl<A: Choice, B: Choice> Choice for OneOf<A, B> {
+    fn can_decode(tag: Tag) -> bool {
+        A::can_decode(tag) || B::can_decode(tag)
+    }
+}
+
+impl<
+    'a,
+    R: Reader<'a>,
+    A: Decode<'a, R> + Tagged + Choice,
+    B: Decode<'a, R> + Tagged + Choice,
+> Decode<'a, R> for OneOf<A, B> {
+    fn decode(alloc: Global, reader: &mut R) -> Result<OneOf<A, B>, Error> {
+        let tag = Tag::peek(reader)?;
+        if A::can_decode(tag) {
+            return Ok(OneOf::First(A::decode(alloc, reader)?));
+        }
+        if B::can_decode(tag) {
+            return Ok(OneOf::Other(B::decode(alloc, reader)?));
+        }
+        Err(reader.error(tag.unexpected_error(None)))
+    }
+}
+
+impl<A: EncodeValue, B: EncodeValue> EncodeValue for OneOf<A, B> {
+    fn value_len(&self) -> Result<Length, Error> {
+        match self {
+            OneOf::First(value) => value.value_len(),
+            OneOf::Other(value) => value.value_len(),
+        }
+    }
+
+    fn encode_value<W: Writer>(&self, writer: &mut W) -> Result<(), Error> {
+        match self {
+            OneOf::First(value) => value.encode_value(writer),
+            OneOf::Other(value) => value.encode_value(writer),
+        }
+    }
+}
+
+impl<A: EncodingEq + FirstTag, B: EncodingEq + FirstTag> EncodingEq for OneOf<A, B> {
+    ghost encoding_eq = { encoding_eq_one A.Form B.Form A.eq B.eq A.encoding_eq B.encoding_eq A.starts B.starts _ (λ v x. refl) (λ w y. refl) (λ v w. refl) (λ w v. refl) };
+}
+
+impl<A: Duplicate + FirstTag, B: Duplicate + FirstTag> Duplicate for OneOf<A, B> {
+    ghost is_copy = { IsCopyOne A.is_copy B.is_copy };
+
+    ghost takes_memory_to_copy = { A.takes_memory_to_copy || B.takes_memory_to_copy };
+
+    fn duplicate(&self) -> Result<OneOf<A, B>, Error> {
+        match self {
+            OneOf::First(value) => Ok(OneOf::First(value.duplicate()?)),
+            OneOf::Other(value) => Ok(OneOf::Other(value.duplicate()?)),
+        }
+    }
+
+    ghost copy_encoding = { copy_encoding_one A.Form B.Form A.is_copy B.is_copy A.copy_encoding B.copy_encoding };
+
+    ghost copy_form = { copy_form_one A.Form B.Form A.is_copy B.is_copy A.copy_encoding B.copy_encoding A.starts B.starts A.copy_form B.copy_form };
+
+    ghost copy_re_reads = { copy_re_reads_one A.Form B.Form A.is_copy B.is_copy A.copy_encoding B.copy_encoding A.copy_re_reads B.copy_re_reads };
+}
+
+impl<A: DerOrd + Tagged + EncodeValue, B: DerOrd + Tagged + EncodeValue> DerOrd for OneOf<A, B> {
+    fn der_cmp(&self, other: &OneOf<A, B>) -> Result<Ordering, Error> {
+        match (self, other) {
+            (OneOf::First(value), OneOf::First(other)) => value.der_cmp(other),
+            (OneOf::Other(value), OneOf::Other(other)) => value.der_cmp(other),
+            (OneOf::First(value), OneOf::Other(other)) => cmp_headers(value, other),
+            (OneOf::Other(value), OneOf::First(other)) => cmp_headers(value, other),
+        }
+    }
+}
+
+/// The order of the encodings of two values, where their tags or their lengths decide it.
+///
+/// # Errors
+/// (13) where both are equal; (9) where a value has more than 4294967295 contents octets; (1) where
+/// items are read again.
+fn cmp_headers<A: Tagged + EncodeValue, B: Tagged + EncodeValue>(
+    value: &A,
+    other: &B,
+) -> Result<Ordering, Error>
+    ensures { TellsHeaders A.Form B.Form value.now other.now (A.tag_of value.now) (B.tag_of other.now) result }
+{
+    let tag = value.tag();
+    match tag.cmp(&other.tag()) {
+        Ordering::Equal => {}
+        order => return Ok(order),
+    }
+    match value.value_len()?.cmp(&other.value_len()?) {
+        Ordering::Equal => Err(Error::from_kind(tag.value_error())),
+        order => Ok(order),
+    }
+}

@@ -1,0 +1,8 @@
+//! Tests of the messages of `der_pkix` and `der_certificate`: octets that OpenSSL wrote.
+//!
+//! They stand in a crate of their own, since a crate with tests is proved twice, with and without
+//! them.
+#![tactic(auto)]
+
+#[cfg(test)]
+mod tests;

@@ -1,0 +1,55 @@
+//! The first six fields of the TSTInfo of RFC 3161, which OpenSSL wrote: a message as a user of lists
+//! of fields writes it.
+
+ghost use Rattle.der_elem.specs.Decoding.{ReadsAll};
+
+use super::numbered;
+use der_elem::{Encode, Form, FromDer};
+use der_fields::{End, Field, FieldSequence};
+use der_numbers::IntRef;
+use der_opaque::{ObjectIdentifier, OctetStringRef};
+use der_pkix::AlgorithmIdentifier;
+use der_time::GeneralizedTime;
+use der_tlv::Error;
+use std::alloc::Global;
+use std::process::Abort;
+use std::test::Fail;
+
+type MessageImprint<'a> = FieldSequence<
+    Field<AlgorithmIdentifier<'a>, Field<OctetStringRef<'a>, End>>,
+>;
+
+type Stamp<'a> = Field<GeneralizedTime, Field<Option<FieldSequence<Field<Option<u32>, End>>>, End>>;
+
+type TstInfo<'a> = FieldSequence<
+    Field<u8, Field<ObjectIdentifier<39>, Field<MessageImprint<'a>, Field<IntRef<'a>, Stamp<'a>>>>>,
+>;
+
+fn read_tst_info<'a>(alloc: Global, octets: &'a [u8]) -> Result<TstInfo<'a>, Error>
+    ensures { ReadsAll ⟦<TstInfo<'a> as Form>⟧ octets.now result }
+{
+    TstInfo::from_der(alloc, octets)
+}
+
+fn write_tst_info<'a>(alloc: Global, info: &TstInfo<'a>) -> Result<Vec<u8>, Error> {
+    info.to_der(alloc)
+}
+
+fn tst_info_again(alloc: Global, octets: &[u8]) -> Result<Vec<u8>, u8> {
+    match read_tst_info(alloc, octets) {
+        Ok(value) => numbered(write_tst_info(alloc, &value)),
+        Err(e) => Err(e.kind().number()),
+    }
+}
+
+#[test]
+fn time_stamps_are_written_back(rt: HostRuntime) -> Result<(), Fail> {
+    let alloc = rt.alloc();
+    let octets = hex::decode(
+        alloc,
+        "305502010106042a0304013031300d060960864801650304020105000420e4d1c01e61563d42ff2b16d56d43945bf225088d822121a89530486440c4056a020102180f32303236313132333034323230355a3003020101",
+    )?;
+    let written = tst_info_again(alloc, octets.as_slice())?;
+    assert_eq!(rt; written.as_slice(), octets.as_slice());
+    Ok(())
+}

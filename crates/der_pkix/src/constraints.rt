@@ -1,0 +1,49 @@
+//! The value of the extension basicConstraints (RFC 5280 section 4.2.1.9).
+
+ghost use Rattle.std.specs.Prelude.{◌≡◌, ◌⊎◌, IfOk, IfErr};
+ghost use Rattle.der_tlv.specs.declared.error.ErrorKind.TheVariants.{Memory};
+ghost use Rattle.der_elem.specs.Decoding.{ReadsAll};
+ghost use Rattle.der_elem.specs.Encoding.{Stops};
+
+use der_elem::{Encode, Form, FromDer};
+use der_fields::{DefaultFalse, End, Field, FieldSequence, WithDefault};
+use der_numbers::UintRef;
+use der_tlv::Error;
+use std::alloc::Global;
+
+/// ```text
+/// BasicConstraints ::= SEQUENCE {
+///     cA                 BOOLEAN DEFAULT FALSE,
+///     pathLenConstraint  INTEGER (0..MAX) OPTIONAL }
+/// ```
+pub type BasicConstraints<'a> = FieldSequence<
+    Field<WithDefault<bool, DefaultFalse>, Field<Option<UintRef<'a>>, End>>,
+>;
+
+/// Reads constraints: all of the octets, under DER.
+///
+/// # Errors
+/// The first fault of the octets, in the order of the fields; (3) where octets are left over; (9)
+/// where there are more than 4294967295; (1) where a type that takes memory has none.
+pub fn read_basic_constraints<'a>(
+    alloc: Global,
+    bytes: &'a [u8],
+) -> Result<BasicConstraints<'a>, Error>
+    ensures { ReadsAll ⟦<BasicConstraints<'a> as Form>⟧ bytes.now result }
+{
+    BasicConstraints::from_der(alloc, bytes)
+}
+
+/// The one encoding of constraints.
+///
+/// # Errors
+/// (1) where memory runs out; (9) where there are more than 4294967295 octets.
+pub fn write_basic_constraints<'a>(
+    alloc: Global,
+    value: &BasicConstraints<'a>,
+) -> Result<Vec<u8>, Error>
+    ensures ok { IfOk result (λ octets. octets.items ≡ ⟦<BasicConstraints<'a> as Form>⟧.encoding value.now) }
+    ensures err { IfErr result (λ e. (e.kind ≡ Memory) ⊎ Stops (⟦<BasicConstraints<'a> as Form>⟧.encoding value.now) (⟦<BasicConstraints<'a> as Form>⟧.re_reads value.now) e.kind) }
+{
+    value.to_der(alloc)
+}

@@ -1,0 +1,86 @@
+//! The value of the extension subjectAltName (RFC 5280 section 4.2.1.6).
+
+ghost use Rattle.std.specs.Prelude.{◌≡◌, ◌⊎◌, IfOk, IfErr};
+ghost use Rattle.der_tlv.specs.declared.error.ErrorKind.TheVariants.{Memory};
+ghost use Rattle.der_elem.specs.Decoding.{ReadsAll};
+ghost use Rattle.der_elem.specs.Encoding.{Stops};
+
+use der_ascii::Ia5StringRef;
+use der_elem::{Encode, Form, FromDer};
+use der_fields::{Implicit, OneOf};
+use der_opaque::OctetStringRef;
+use der_tlv::Error;
+use std::alloc::Global;
+
+/// The alternatives that name a host, a resource or a mailbox. A name of another one is refused
+/// (4):
+///
+/// ```text
+/// GeneralName ::= CHOICE {
+///     rfc822Name                 [1] IA5String,
+///     dNSName                    [2] IA5String,
+///     uniformResourceIdentifier  [6] IA5String,
+///     iPAddress                  [7] OCTET STRING }
+/// ```
+pub type GeneralName<'a> = OneOf<
+    Implicit<Ia5StringRef<'a>, 1>,
+    OneOf<
+        Implicit<Ia5StringRef<'a>, 2>,
+        OneOf<Implicit<Ia5StringRef<'a>, 6>, Implicit<OctetStringRef<'a>, 7>>,
+    >,
+>;
+
+/// ```text
+/// SubjectAltName ::= SEQUENCE OF GeneralName
+/// ```
+pub type SubjectAltName<'a> = Vec<GeneralName<'a>>;
+
+/// Reads a name of any kind: all of the octets, under DER.
+///
+/// # Errors
+/// The first fault of the octets, in the order of the fields; (3) where octets are left over; (9)
+/// where there are more than 4294967295; (1) where a type that takes memory has none.
+pub fn read_general_name<'a>(alloc: Global, bytes: &'a [u8]) -> Result<GeneralName<'a>, Error>
+    ensures { ReadsAll ⟦<GeneralName<'a> as Form>⟧ bytes.now result }
+{
+    GeneralName::from_der(alloc, bytes)
+}
+
+/// The one encoding of a name of any kind.
+///
+/// # Errors
+/// (1) where memory runs out; (9) where there are more than 4294967295 octets.
+pub fn write_general_name<'a>(alloc: Global, value: &GeneralName<'a>) -> Result<Vec<u8>, Error>
+    ensures ok { IfOk result (λ octets. octets.items ≡ ⟦<GeneralName<'a> as Form>⟧.encoding value.now) }
+    ensures err { IfErr result (λ e. (e.kind ≡ Memory) ⊎ Stops (⟦<GeneralName<'a> as Form>⟧.encoding value.now) (⟦<GeneralName<'a> as Form>⟧.re_reads value.now) e.kind) }
+{
+    value.to_der(alloc)
+}
+
+/// Reads names of any kind: all of the octets, under DER.
+///
+/// # Errors
+/// The first fault of the octets, in the order of the fields; (3) where octets are left over; (9)
+/// where there are more than 4294967295; (1) where a type that takes memory has none.
+pub fn read_subject_alt_name<'a>(
+    alloc: Global,
+    bytes: &'a [u8],
+) -> Result<SubjectAltName<'a>, Error>
+    ensures { ReadsAll ⟦<SubjectAltName<'a> as Form>⟧ bytes.now result }
+{
+    SubjectAltName::from_der(alloc, bytes)
+}
+
+/// The one encoding of names of any kind.
+///
+/// # Errors
+/// (1) where memory runs out; (9) where there are more than 4294967295 octets.
+pub fn write_subject_alt_name<'a>(
+    alloc: Global,
+    value: &SubjectAltName<'a>,
+) -> Result<Vec<u8>, Error>
+    ensures ok { IfOk result (λ octets. octets.items ≡ ⟦<SubjectAltName<'a> as Form>⟧.encoding value.now) }
+    ensures err { IfErr result (λ e. (e.kind ≡ Memory) ⊎ Stops (⟦<SubjectAltName<'a> as Form>⟧.encoding value.now) (⟦<SubjectAltName<'a> as Form>⟧.re_reads value.now) e.kind) }
+{
+    value.to_der(alloc)
+}

@@ -1,0 +1,74 @@
+//! Names (RFC 5280 section 4.1.2.4).
+
+ghost use Rattle.std.specs.Prelude.{◌≡◌, ◌⊎◌, IfOk, IfErr};
+ghost use Rattle.der_tlv.specs.declared.error.ErrorKind.TheVariants.{Memory};
+ghost use Rattle.der_elem.specs.Decoding.{ReadsAll};
+ghost use Rattle.der_elem.specs.Encoding.{Stops};
+
+use crate::attribute::AttributeTypeAndValue;
+use der_elem::{Encode, Form, FromDer};
+use der_nest::SetOfVec;
+use der_tlv::Error;
+use std::alloc::Global;
+
+/// ```text
+/// RelativeDistinguishedName ::= SET OF AttributeTypeAndValue
+/// ```
+///
+/// Attributes that do not stand in the order of their encodings are read, and written in it.
+pub type RelativeDistinguishedName<'a> = SetOfVec<AttributeTypeAndValue<'a>>;
+
+/// ```text
+/// Name ::= SEQUENCE OF RelativeDistinguishedName
+/// ```
+pub type Name<'a> = Vec<RelativeDistinguishedName<'a>>;
+
+/// Reads the attributes at one place of a name: all of the octets, under DER.
+///
+/// # Errors
+/// The first fault of the octets, in the order of the fields; (3) where octets are left over; (9)
+/// where there are more than 4294967295; (1) where a type that takes memory has none.
+pub fn read_relative_distinguished_name<'a>(
+    alloc: Global,
+    bytes: &'a [u8],
+) -> Result<RelativeDistinguishedName<'a>, Error>
+    ensures { ReadsAll ⟦<RelativeDistinguishedName<'a> as Form>⟧ bytes.now result }
+{
+    RelativeDistinguishedName::from_der(alloc, bytes)
+}
+
+/// The one encoding of the attributes at one place of a name.
+///
+/// # Errors
+/// (1) where memory runs out; (9) where there are more than 4294967295 octets.
+pub fn write_relative_distinguished_name<'a>(
+    alloc: Global,
+    value: &RelativeDistinguishedName<'a>,
+) -> Result<Vec<u8>, Error>
+    ensures ok { IfOk result (λ octets. octets.items ≡ ⟦<RelativeDistinguishedName<'a> as Form>⟧.encoding value.now) }
+    ensures err { IfErr result (λ e. (e.kind ≡ Memory) ⊎ Stops (⟦<RelativeDistinguishedName<'a> as Form>⟧.encoding value.now) (⟦<RelativeDistinguishedName<'a> as Form>⟧.re_reads value.now) e.kind) }
+{
+    value.to_der(alloc)
+}
+
+/// Reads a name: all of the octets, under DER.
+///
+/// # Errors
+/// The first fault of the octets, in the order of the fields; (3) where octets are left over; (9)
+/// where there are more than 4294967295; (1) where a type that takes memory has none.
+pub fn read_name<'a>(alloc: Global, bytes: &'a [u8]) -> Result<Name<'a>, Error>
+    ensures { ReadsAll ⟦<Name<'a> as Form>⟧ bytes.now result }
+{
+    Name::from_der(alloc, bytes)
+}
+
+/// The one encoding of a name.
+///
+/// # Errors
+/// (1) where memory runs out; (9) where there are more than 4294967295 octets.
+pub fn write_name<'a>(alloc: Global, value: &Name<'a>) -> Result<Vec<u8>, Error>
+    ensures ok { IfOk result (λ octets. octets.items ≡ ⟦<Name<'a> as Form>⟧.encoding value.now) }
+    ensures err { IfErr result (λ e. (e.kind ≡ Memory) ⊎ Stops (⟦<Name<'a> as Form>⟧.encoding value.now) (⟦<Name<'a> as Form>⟧.re_reads value.now) e.kind) }
+{
+    value.to_der(alloc)
+}

@@ -1,0 +1,54 @@
+//! The private keys of RSA (RFC 8017 appendix A.1.2).
+
+ghost use Rattle.std.specs.Prelude.{◌≡◌, ◌⊎◌, IfOk, IfErr};
+ghost use Rattle.der_tlv.specs.declared.error.ErrorKind.TheVariants.{Memory};
+ghost use Rattle.der_elem.specs.Decoding.{ReadsAll};
+ghost use Rattle.der_elem.specs.Encoding.{Stops};
+
+use crate::crt::Crt;
+use der_elem::{Encode, Form, FromDer};
+use der_fields::{Field, FieldSequence};
+use der_numbers::UintRef;
+use der_tlv::Error;
+use std::alloc::Global;
+
+/// Of two primes, and so with no others; the numbers for the Chinese remainder theorem, from the
+/// first prime on, are in `Crt`:
+///
+/// ```text
+/// RSAPrivateKey ::= SEQUENCE {
+///     version          INTEGER,
+///     modulus          INTEGER,
+///     publicExponent   INTEGER,
+///     privateExponent  INTEGER,
+///     prime1           INTEGER,
+///     prime2           INTEGER,
+///     exponent1        INTEGER,
+///     exponent2        INTEGER,
+///     coefficient      INTEGER }
+/// ```
+pub type RsaPrivateKey<'a> = FieldSequence<
+    Field<u8, Field<UintRef<'a>, Field<UintRef<'a>, Field<UintRef<'a>, Crt<'a>>>>>,
+>;
+
+/// Reads a private key of RSA: all of the octets, under DER.
+///
+/// # Errors
+/// The first fault of the octets, in the order of the fields; (3) where octets are left over; (9)
+/// where there are more than 4294967295; (1) where a type that takes memory has none.
+pub fn read_rsa_private_key<'a>(alloc: Global, bytes: &'a [u8]) -> Result<RsaPrivateKey<'a>, Error>
+    ensures { ReadsAll ⟦<RsaPrivateKey<'a> as Form>⟧ bytes.now result }
+{
+    RsaPrivateKey::from_der(alloc, bytes)
+}
+
+/// The one encoding of a private key of RSA.
+///
+/// # Errors
+/// (1) where memory runs out; (9) where there are more than 4294967295 octets.
+pub fn write_rsa_private_key<'a>(alloc: Global, value: &RsaPrivateKey<'a>) -> Result<Vec<u8>, Error>
+    ensures ok { IfOk result (λ octets. octets.items ≡ ⟦<RsaPrivateKey<'a> as Form>⟧.encoding value.now) }
+    ensures err { IfErr result (λ e. (e.kind ≡ Memory) ⊎ Stops (⟦<RsaPrivateKey<'a> as Form>⟧.encoding value.now) (⟦<RsaPrivateKey<'a> as Form>⟧.re_reads value.now) e.kind) }
+{
+    value.to_der(alloc)
+}

@@ -1,0 +1,73 @@
+//! Times, and the time in which a certificate is valid (RFC 5280 section 4.1.2.5).
+
+ghost use Rattle.std.specs.Prelude.{◌≡◌, ◌⊎◌, IfOk, IfErr};
+ghost use Rattle.der_tlv.specs.declared.error.ErrorKind.TheVariants.{Memory};
+ghost use Rattle.der_elem.specs.Decoding.{ReadsAll};
+ghost use Rattle.der_elem.specs.Encoding.{Stops};
+
+use der_elem::{Encode, Form, FromDer};
+use der_fields::{End, Field, FieldSequence, OneOf};
+use der_time::{GeneralizedTime, UtcTime};
+use der_tlv::Error;
+use std::alloc::Global;
+
+/// ```text
+/// Time ::= CHOICE {
+///     utcTime      UTCTime,
+///     generalTime  GeneralizedTime }
+/// ```
+///
+/// RFC 5280 has the years to 2049 as UTCTime, and those from 2050 on as GeneralizedTime; a year that
+/// either type has is read in either.
+pub type Time = OneOf<UtcTime, GeneralizedTime>;
+
+/// ```text
+/// Validity ::= SEQUENCE {
+///     notBefore  Time,
+///     notAfter   Time }
+/// ```
+pub type Validity = FieldSequence<Field<Time, Field<Time, End>>>;
+
+/// Reads a time: all of the octets, under DER.
+///
+/// # Errors
+/// The first fault of the octets, in the order of the fields; (3) where octets are left over; (9)
+/// where there are more than 4294967295; (1) where a type that takes memory has none.
+pub fn read_time(alloc: Global, bytes: &[u8]) -> Result<Time, Error>
+    ensures { ReadsAll ⟦<Time as Form>⟧ bytes.now result }
+{
+    Time::from_der(alloc, bytes)
+}
+
+/// The one encoding of a time.
+///
+/// # Errors
+/// (1) where memory runs out; (9) where there are more than 4294967295 octets.
+pub fn write_time(alloc: Global, value: &Time) -> Result<Vec<u8>, Error>
+    ensures ok { IfOk result (λ octets. octets.items ≡ ⟦<Time as Form>⟧.encoding value.now) }
+    ensures err { IfErr result (λ e. (e.kind ≡ Memory) ⊎ Stops (⟦<Time as Form>⟧.encoding value.now) (⟦<Time as Form>⟧.re_reads value.now) e.kind) }
+{
+    value.to_der(alloc)
+}
+
+/// Reads two times: all of the octets, under DER.
+///
+/// # Errors
+/// The first fault of the octets, in the order of the fields; (3) where octets are left over; (9)
+/// where there are more than 4294967295; (1) where a type that takes memory has none.
+pub fn read_validity(alloc: Global, bytes: &[u8]) -> Result<Validity, Error>
+    ensures { ReadsAll ⟦<Validity as Form>⟧ bytes.now result }
+{
+    Validity::from_der(alloc, bytes)
+}
+
+/// The one encoding of two times.
+///
+/// # Errors
+/// (1) where memory runs out; (9) where there are more than 4294967295 octets.
+pub fn write_validity(alloc: Global, value: &Validity) -> Result<Vec<u8>, Error>
+    ensures ok { IfOk result (λ octets. octets.items ≡ ⟦<Validity as Form>⟧.encoding value.now) }
+    ensures err { IfErr result (λ e. (e.kind ≡ Memory) ⊎ Stops (⟦<Validity as Form>⟧.encoding value.now) (⟦<Validity as Form>⟧.re_reads value.now) e.kind) }
+{
+    value.to_der(alloc)
+}
