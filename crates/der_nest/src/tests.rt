@@ -10,6 +10,7 @@ use std::process::Abort;
 use std::test::Fail;
 
 mod borrowed;
+mod copies;
 mod counting;
 mod history;
 mod many;

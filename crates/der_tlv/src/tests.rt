@@ -4,14 +4,15 @@ ghost use Rattle.std.specs.Prelude.{length, ◌<◌, ◌^◌};
 
 use crate::bytes_owned::BytesOwned;
 use crate::bytes_ref::BytesRef;
-use crate::encoding_rules::EncodingRules;
+use crate::encoding_rules::{EncodingRules, default_rules};
 use crate::error::{Error, ErrorKind};
 use crate::header::Header;
-use crate::length::Length;
+use crate::length::{Length, greatest_length};
 use crate::reader::{Reader, SliceReader};
-use crate::tag::{Class, Tag, TagMode, TagNumber};
+use crate::tag::{Class, Tag, TagMode, TagNumber, default_mode, explicit_before_implicit};
 use crate::writer::{SliceWriter, VecWriter, Writer};
 use std::alloc::{AllocError, Global};
+use std::cmp::Ordering;
 use std::test::Fail;
 
 /// What was refused, if anything was.
@@ -576,7 +577,17 @@ fn owned_bytes(rt: HostRuntime) -> Result<(), Fail> {
     assert_eq!(rt; bytes.into_vec().as_slice(), [1, 2].as_slice());
     let nothing = BytesOwned::new(Vec::new(rt.alloc()))?;
     assert!(rt; nothing.is_empty());
+    let copied = BytesOwned::new([3].to_vec(rt.alloc())?)?.clone()?;
+    assert_eq!(rt; copied.as_slice(), [3].as_slice());
     Ok(())
+}
+
+#[test]
+fn constants(rt: HostRuntime) {
+    assert_eq!(rt; explicit_before_implicit(), Ordering::Less);
+    assert_eq!(rt; default_mode(), TagMode::Explicit);
+    assert!(rt; default_rules().is_der());
+    assert_eq!(rt; greatest_length().value(), 0xffff_ffff);
 }
 
 #[test]
