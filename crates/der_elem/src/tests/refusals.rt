@@ -21,34 +21,31 @@ fn a_reader_stays_refused_by_a_value(rt: HostRuntime) -> Result<(), Fail> {
     Ok(())
 }
 
-// The number of a refusal, and its position.
-fn refused_at<T: Drop>(answer: Result<T, Error>) -> Option<(u8, Option<u32>)> {
+// What a call answers, with the position of a refusal.
+fn placed<T>(answer: Result<T, Error>) -> Result<T, Option<Length>> {
     match answer {
-        Ok(_) => None,
-        Err(e) => Some((e.kind().number(), e.position().map(|at| at.value()))),
+        Ok(value) => Ok(value),
+        Err(e) => Err(e.position()),
     }
 }
 
-// The same of octets that are read as a value.
-fn fault_of<'a, T: FromDer<'a>>(alloc: Global, octets: &'a [u8]) -> Option<(u8, Option<u32>)> {
-    refused_at(T::from_der(alloc, octets))
+// The position at which octets are refused as a value.
+fn place<'a, T: FromDer<'a>>(alloc: Global, octets: &'a [u8]) -> Option<Option<Length>> {
+    placed(T::from_der(alloc, octets)).err()
 }
 
 #[test]
 fn a_fault_has_its_position(rt: HostRuntime) {
     let alloc = rt.alloc();
+    let at = |position| Some(Some(Length::new(position)));
     // Another tag, behind its header; contents octets, behind them; octets left over, before them.
-    let null = [0x05, 0x00];
-    assert_eq!(rt; fault_of::<bool>(alloc, &null), Some((4, Some(2))));
-    let empty = [0x02, 0x00];
-    assert_eq!(rt; fault_of::<u8>(alloc, &empty), Some((7, Some(2))));
-    let padded = [0x02, 0x02, 0x00, 0x05];
-    assert_eq!(rt; fault_of::<i16>(alloc, &padded), Some((8, Some(4))));
-    let longer = [0x01, 0x01, 0xff, 0x00];
-    assert_eq!(rt; fault_of::<bool>(alloc, &longer), Some((3, Some(3))));
-    // In the second item of a list: the octets that are missing, where they begin.
+    assert_eq!(rt; place::<bool>(alloc, &[0x05, 0x00]), at(2));
+    assert_eq!(rt; place::<u8>(alloc, &[0x02, 0x00]), at(2));
+    assert_eq!(rt; place::<i16>(alloc, &[0x02, 0x02, 0x00, 0x05]), at(4));
+    assert_eq!(rt; place::<bool>(alloc, &[0x01, 0x01, 0xff, 0x00]), at(3));
+    // In the second item of a list: what is cut, and another tag.
     let list = [0x30, 0x05, 0x02, 0x01, 0x05, 0x02, 0x01];
-    assert_eq!(rt; fault_of::<Vec<i64>>(alloc, &list), Some((2, Some(7))));
+    assert_eq!(rt; place::<Vec<i64>>(alloc, &list), at(7));
     let other = [0x30, 0x05, 0x02, 0x01, 0x05, 0x05, 0x00];
-    assert_eq!(rt; fault_of::<Vec<i64>>(alloc, &other), Some((4, Some(7))));
+    assert_eq!(rt; place::<Vec<i64>>(alloc, &other), at(7));
 }
