@@ -1,5 +1,5 @@
 //! The first six fields of the TSTInfo of RFC 3161, which OpenSSL wrote: a message as a user of lists
-//! of fields writes it.
+//! of fields writes it. The imprint and the accuracy are kept as they are encoded.
 
 ghost use Rattle.der_elem.specs.Decoding.{ReadsAll};
 
@@ -7,22 +7,24 @@ use super::numbered;
 use der_elem::{Encode, Form, FromDer};
 use der_fields::{End, Field, FieldSequence};
 use der_numbers::IntRef;
-use der_opaque::{ObjectIdentifier, OctetStringRef};
-use der_pkix::AlgorithmIdentifier;
+use der_opaque::{AnyRef, ObjectIdentifier};
 use der_time::GeneralizedTime;
 use der_tlv::Error;
 use std::alloc::Global;
 use std::process::Abort;
 use std::test::Fail;
 
-type MessageImprint<'a> = FieldSequence<
-    Field<AlgorithmIdentifier<'a>, Field<OctetStringRef<'a>, End>>,
->;
-
-type Stamp<'a> = Field<GeneralizedTime, Field<Option<FieldSequence<Field<Option<u32>, End>>>, End>>;
-
 type TstInfo<'a> = FieldSequence<
-    Field<u8, Field<ObjectIdentifier<39>, Field<MessageImprint<'a>, Field<IntRef<'a>, Stamp<'a>>>>>,
+    Field<
+        u8,
+        Field<
+            ObjectIdentifier<39>,
+            Field<
+                AnyRef<'a>,
+                Field<IntRef<'a>, Field<GeneralizedTime, Field<Option<AnyRef<'a>>, End>>>,
+            >,
+        >,
+    >,
 >;
 
 fn read_tst_info<'a>(alloc: Global, octets: &'a [u8]) -> Result<TstInfo<'a>, Error>
