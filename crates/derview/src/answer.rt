@@ -74,7 +74,11 @@ fn accepted(alloc: Global, encoding: &[u8]) -> Result<String, AllocError>
         return String::from_str(alloc, "ok -");
     }
     let digits = hex::encode(alloc, encoding)?;
-    format!(in alloc; "ok {digits}")
+    // with room for the digits, what stands before them and the LF behind them
+    let mut text = String::with_capacity(alloc, digits.len().saturating_add(4))?;
+    text.push_str("ok ")?;
+    text.push_str(&digits)?;
+    Ok(text)
 }
 
 fn refused(alloc: Global, kind: ErrorKind) -> Result<String, AllocError>

@@ -1,0 +1,13 @@
+//! Links the library's calls and OpenSSL's, which `run` built in the folder that BENCH_ROOM names.
+
+fn main() {
+    let room = std::env::var("BENCH_ROOM").expect("run this by bench/run");
+    println!("cargo:rustc-link-search=native={room}");
+    println!("cargo:rustc-link-lib=static=calls");
+    println!("cargo:rustc-link-lib=static=c_of_rattle");
+    println!("cargo:rustc-link-lib=static=openssl_calls");
+    println!("cargo:rustc-link-lib=crypto");
+    println!("cargo:rerun-if-env-changed=BENCH_ROOM");
+    println!("cargo:rerun-if-changed={room}/libcalls.a");
+    println!("cargo:rerun-if-changed={room}/libopenssl_calls.a");
+}
