@@ -14,6 +14,8 @@ use crate::writer::{SliceWriter, VecWriter, Writer};
 use std::alloc::{AllocError, Global};
 use std::test::Fail;
 
+mod blocks;
+
 /// What was refused, if anything was.
 fn fault<T: Drop>(outcome: Result<T, Error>) -> Option<ErrorKind> {
     outcome.err().map(|e| e.kind)
