@@ -15,6 +15,8 @@ use std::alloc::{AllocError, Global};
 use std::cmp::Ordering;
 use std::test::Fail;
 
+mod blocks;
+
 /// What was refused, if anything was.
 fn fault<T: Drop>(outcome: Result<T, Error>) -> Option<ErrorKind> {
     outcome.err().map(|e| e.kind)
