@@ -7,8 +7,10 @@ ghost use Rattle.der_elem.specs.Encoding.{Stops};
 
 use crate::issuer::Issuer;
 use der_bits::BitStringRef;
-use der_elem::{Encode, Form, FromDer};
-use der_fields::{DefaultNumber, End, Explicit, Field, FieldSequence, WithDefault};
+use der_elem::Form;
+use der_fields::{
+    DefaultNumber, End, Explicit, Field, FieldSequence, WithDefault, read_sequence, write_sequence,
+};
 use der_numbers::IntRef;
 use der_pkix::AlgorithmIdentifier;
 use der_tlv::Error;
@@ -41,7 +43,7 @@ pub type TbsCertificate<'a> = FieldSequence<
 pub fn read_tbs_certificate<'a>(alloc: Global, bytes: &'a [u8]) -> Result<TbsCertificate<'a>, Error>
     ensures { ReadsAll ⟦<TbsCertificate<'a> as Form>⟧ bytes.now result }
 {
-    TbsCertificate::from_der(alloc, bytes)
+    read_sequence(alloc, bytes)
 }
 
 /// The one encoding of what is signed of a certificate.
@@ -55,5 +57,5 @@ pub fn write_tbs_certificate<'a>(
     ensures ok { IfOk result (λ octets. octets.items ≡ ⟦<TbsCertificate<'a> as Form>⟧.encoding value.now) }
     ensures err { IfErr result (λ e. (e.kind ≡ Memory) ⊎ Stops (⟦<TbsCertificate<'a> as Form>⟧.encoding value.now) (⟦<TbsCertificate<'a> as Form>⟧.re_reads value.now) e.kind) }
 {
-    value.to_der(alloc)
+    write_sequence(alloc, value)
 }

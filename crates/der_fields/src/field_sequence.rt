@@ -6,7 +6,10 @@
 //! Reading refuses with the first fault of the fields, in their order, and then octets that are left
 //! over (3). The order of two values is that of their encodings.
 
-ghost use Rattle.std.specs.Prelude.{refl};
+ghost use Rattle.std.specs.Prelude.{◌≡◌, ◌⊎◌, refl, IfOk, IfErr};
+ghost use Rattle.der_tlv.specs.declared.error.ErrorKind.TheVariants.{Memory};
+ghost use Rattle.der_elem.specs.Encoding.{Stops};
+ghost use Rattle.der_elem.specs.Decoding.{ReadsAll};
 
 use crate::coded::{DecodeFields, EncodeFields};
 use crate::copied::DuplicateFields;
@@ -14,10 +17,10 @@ use crate::equal::FieldsEq;
 use crate::field_list::{FieldList, FieldsMemory};
 use crate::ordered::FieldsOrd;
 use der_elem::{
-    ContentsEq, DecodeValue, DuplicateValue, EncodeValue, FormValue, OneTag, Sequence, SequenceTag,
-    ValueMemory, ValueOrd,
+    ContentsEq, DecodeValue, DuplicateValue, Encode, EncodeValue, Form, FormValue, FromDer, OneTag,
+    Sequence, SequenceTag, ValueMemory, ValueOrd,
 };
-use der_tlv::{Error, Header, Length, Reader, Writer};
+use der_tlv::{Error, Header, Length, Reader, SliceReader, Writer};
 use std::alloc::Global;
 use std::cmp::Ordering;
 
@@ -119,4 +122,36 @@ impl<F: DuplicateFields> DuplicateValue for FieldSequence<F> {
     ghost copy_form_value = { λ v w x c f. F.copy_one_forms v.fields w.fields x.fields c f };
 
     ghost copy_re_reads_value = { λ v w c. F.copy_re_read v.fields w.fields c };
+}
+
+/// Reads a SEQUENCE of these fields: all of the octets, under DER.
+///
+/// It is `from_der`, proved once for every list, so that a call at a long list is checked sooner.
+///
+/// # Errors
+/// The first fault of the octets, in the order of the fields; (3) where octets are left over; (9)
+/// where there are more than 4294967295; (1) where a type that takes memory has none.
+pub fn read_sequence<'a, F: DecodeFields<'a, SliceReader<'a>> + FieldsMemory>(
+    alloc: Global,
+    bytes: &'a [u8],
+) -> Result<FieldSequence<F>, Error>
+    ensures { ReadsAll ⟦<FieldSequence<F> as Form>⟧ bytes.now result }
+{
+    FieldSequence::<F>::from_der(alloc, bytes)
+}
+
+/// The one encoding of a SEQUENCE of these fields.
+///
+/// It is `to_der`, proved once for every list.
+///
+/// # Errors
+/// (1) where memory runs out; (9) where there are more than 4294967295 octets.
+pub fn write_sequence<F: EncodeFields>(
+    alloc: Global,
+    value: &FieldSequence<F>,
+) -> Result<Vec<u8>, Error>
+    ensures ok { IfOk result (λ octets. octets.items ≡ ⟦<FieldSequence<F> as Form>⟧.encoding value.now) }
+    ensures err { IfErr result (λ e. (e.kind ≡ Memory) ⊎ Stops (⟦<FieldSequence<F> as Form>⟧.encoding value.now) (⟦<FieldSequence<F> as Form>⟧.re_reads value.now) e.kind) }
+{
+    value.to_der(alloc)
 }

@@ -33,7 +33,7 @@ pub use equal::FieldsEq;
 pub use explicit::{Explicit, ExplicitApplication, ExplicitIn, ExplicitPrivate};
 pub use field::Field;
 pub use field_list::{FieldList, FieldsMemory};
-pub use field_sequence::FieldSequence;
+pub use field_sequence::{FieldSequence, read_sequence, write_sequence};
 pub use implicit::{Implicit, ImplicitApplication, ImplicitIn, ImplicitPrivate};
 pub use memory::EitherMemory;
 pub use one_of::OneOf;

@@ -6,8 +6,8 @@ ghost use Rattle.der_elem.specs.Decoding.{ReadsAll};
 ghost use Rattle.der_elem.specs.Encoding.{Stops};
 
 use der_bits::BitStringRef;
-use der_elem::{Encode, Form, FromDer};
-use der_fields::{End, Field, FieldSequence};
+use der_elem::Form;
+use der_fields::{End, Field, FieldSequence, read_sequence, write_sequence};
 use der_opaque::{AnyRef, ObjectIdentifier};
 use der_tlv::Error;
 use std::alloc::Global;
@@ -41,7 +41,7 @@ pub fn read_algorithm_identifier<'a>(
 ) -> Result<AlgorithmIdentifier<'a>, Error>
     ensures { ReadsAll ⟦<AlgorithmIdentifier<'a> as Form>⟧ bytes.now result }
 {
-    AlgorithmIdentifier::from_der(alloc, bytes)
+    read_sequence(alloc, bytes)
 }
 
 /// The one encoding of an algorithm.
@@ -55,7 +55,7 @@ pub fn write_algorithm_identifier<'a>(
     ensures ok { IfOk result (λ octets. octets.items ≡ ⟦<AlgorithmIdentifier<'a> as Form>⟧.encoding value.now) }
     ensures err { IfErr result (λ e. (e.kind ≡ Memory) ⊎ Stops (⟦<AlgorithmIdentifier<'a> as Form>⟧.encoding value.now) (⟦<AlgorithmIdentifier<'a> as Form>⟧.re_reads value.now) e.kind) }
 {
-    value.to_der(alloc)
+    write_sequence(alloc, value)
 }
 
 /// Reads a public key: all of the octets, under DER.
@@ -69,7 +69,7 @@ pub fn read_subject_public_key_info<'a>(
 ) -> Result<SubjectPublicKeyInfo<'a>, Error>
     ensures { ReadsAll ⟦<SubjectPublicKeyInfo<'a> as Form>⟧ bytes.now result }
 {
-    SubjectPublicKeyInfo::from_der(alloc, bytes)
+    read_sequence(alloc, bytes)
 }
 
 /// The one encoding of a public key.
@@ -83,5 +83,5 @@ pub fn write_subject_public_key_info<'a>(
     ensures ok { IfOk result (λ octets. octets.items ≡ ⟦<SubjectPublicKeyInfo<'a> as Form>⟧.encoding value.now) }
     ensures err { IfErr result (λ e. (e.kind ≡ Memory) ⊎ Stops (⟦<SubjectPublicKeyInfo<'a> as Form>⟧.encoding value.now) (⟦<SubjectPublicKeyInfo<'a> as Form>⟧.re_reads value.now) e.kind) }
 {
-    value.to_der(alloc)
+    write_sequence(alloc, value)
 }

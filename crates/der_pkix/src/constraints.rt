@@ -5,8 +5,10 @@ ghost use Rattle.der_tlv.specs.declared.error.ErrorKind.TheVariants.{Memory};
 ghost use Rattle.der_elem.specs.Decoding.{ReadsAll};
 ghost use Rattle.der_elem.specs.Encoding.{Stops};
 
-use der_elem::{Encode, Form, FromDer};
-use der_fields::{DefaultFalse, End, Field, FieldSequence, WithDefault};
+use der_elem::Form;
+use der_fields::{
+    DefaultFalse, End, Field, FieldSequence, WithDefault, read_sequence, write_sequence,
+};
 use der_numbers::UintRef;
 use der_tlv::Error;
 use std::alloc::Global;
@@ -31,7 +33,7 @@ pub fn read_basic_constraints<'a>(
 ) -> Result<BasicConstraints<'a>, Error>
     ensures { ReadsAll ⟦<BasicConstraints<'a> as Form>⟧ bytes.now result }
 {
-    BasicConstraints::from_der(alloc, bytes)
+    read_sequence(alloc, bytes)
 }
 
 /// The one encoding of constraints.
@@ -45,5 +47,5 @@ pub fn write_basic_constraints<'a>(
     ensures ok { IfOk result (λ octets. octets.items ≡ ⟦<BasicConstraints<'a> as Form>⟧.encoding value.now) }
     ensures err { IfErr result (λ e. (e.kind ≡ Memory) ⊎ Stops (⟦<BasicConstraints<'a> as Form>⟧.encoding value.now) (⟦<BasicConstraints<'a> as Form>⟧.re_reads value.now) e.kind) }
 {
-    value.to_der(alloc)
+    write_sequence(alloc, value)
 }

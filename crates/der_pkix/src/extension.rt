@@ -5,8 +5,10 @@ ghost use Rattle.der_tlv.specs.declared.error.ErrorKind.TheVariants.{Memory};
 ghost use Rattle.der_elem.specs.Decoding.{ReadsAll};
 ghost use Rattle.der_elem.specs.Encoding.{Stops};
 
-use der_elem::{Encode, Form, FromDer};
-use der_fields::{DefaultFalse, End, Field, FieldSequence, WithDefault};
+use der_elem::Form;
+use der_fields::{
+    DefaultFalse, End, Field, FieldSequence, WithDefault, read_sequence, write_sequence,
+};
 use der_opaque::{ObjectIdentifier, OctetStringRef};
 use der_tlv::Error;
 use std::alloc::Global;
@@ -32,7 +34,7 @@ pub type Extension<'a> = FieldSequence<
 pub fn read_extension<'a>(alloc: Global, bytes: &'a [u8]) -> Result<Extension<'a>, Error>
     ensures { ReadsAll ⟦<Extension<'a> as Form>⟧ bytes.now result }
 {
-    Extension::from_der(alloc, bytes)
+    read_sequence(alloc, bytes)
 }
 
 /// The one encoding of an extension.
@@ -43,5 +45,5 @@ pub fn write_extension<'a>(alloc: Global, value: &Extension<'a>) -> Result<Vec<u
     ensures ok { IfOk result (λ octets. octets.items ≡ ⟦<Extension<'a> as Form>⟧.encoding value.now) }
     ensures err { IfErr result (λ e. (e.kind ≡ Memory) ⊎ Stops (⟦<Extension<'a> as Form>⟧.encoding value.now) (⟦<Extension<'a> as Form>⟧.re_reads value.now) e.kind) }
 {
-    value.to_der(alloc)
+    write_sequence(alloc, value)
 }

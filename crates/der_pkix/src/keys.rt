@@ -7,8 +7,8 @@ ghost use Rattle.der_elem.specs.Encoding.{Stops};
 
 use crate::algorithm::AlgorithmIdentifier;
 use der_bits::BitStringRef;
-use der_elem::{Encode, Form, FromDer};
-use der_fields::{End, Explicit, Field, FieldSequence};
+use der_elem::Form;
+use der_fields::{End, Explicit, Field, FieldSequence, read_sequence, write_sequence};
 use der_numbers::UintRef;
 use der_opaque::{ObjectIdentifier, OctetStringRef};
 use der_tlv::Error;
@@ -64,7 +64,7 @@ pub fn read_private_key_info<'a>(
 ) -> Result<PrivateKeyInfo<'a>, Error>
     ensures { ReadsAll ⟦<PrivateKeyInfo<'a> as Form>⟧ bytes.now result }
 {
-    PrivateKeyInfo::from_der(alloc, bytes)
+    read_sequence(alloc, bytes)
 }
 
 /// The one encoding of a private key.
@@ -78,7 +78,7 @@ pub fn write_private_key_info<'a>(
     ensures ok { IfOk result (λ octets. octets.items ≡ ⟦<PrivateKeyInfo<'a> as Form>⟧.encoding value.now) }
     ensures err { IfErr result (λ e. (e.kind ≡ Memory) ⊎ Stops (⟦<PrivateKeyInfo<'a> as Form>⟧.encoding value.now) (⟦<PrivateKeyInfo<'a> as Form>⟧.re_reads value.now) e.kind) }
 {
-    value.to_der(alloc)
+    write_sequence(alloc, value)
 }
 
 /// Reads a public key of RSA: all of the octets, under DER.
@@ -89,7 +89,7 @@ pub fn write_private_key_info<'a>(
 pub fn read_rsa_public_key<'a>(alloc: Global, bytes: &'a [u8]) -> Result<RsaPublicKey<'a>, Error>
     ensures { ReadsAll ⟦<RsaPublicKey<'a> as Form>⟧ bytes.now result }
 {
-    RsaPublicKey::from_der(alloc, bytes)
+    read_sequence(alloc, bytes)
 }
 
 /// The one encoding of a public key of RSA.
@@ -100,7 +100,7 @@ pub fn write_rsa_public_key<'a>(alloc: Global, value: &RsaPublicKey<'a>) -> Resu
     ensures ok { IfOk result (λ octets. octets.items ≡ ⟦<RsaPublicKey<'a> as Form>⟧.encoding value.now) }
     ensures err { IfErr result (λ e. (e.kind ≡ Memory) ⊎ Stops (⟦<RsaPublicKey<'a> as Form>⟧.encoding value.now) (⟦<RsaPublicKey<'a> as Form>⟧.re_reads value.now) e.kind) }
 {
-    value.to_der(alloc)
+    write_sequence(alloc, value)
 }
 
 /// Reads a private key of an elliptic curve: all of the octets, under DER.
@@ -111,7 +111,7 @@ pub fn write_rsa_public_key<'a>(alloc: Global, value: &RsaPublicKey<'a>) -> Resu
 pub fn read_ec_private_key<'a>(alloc: Global, bytes: &'a [u8]) -> Result<EcPrivateKey<'a>, Error>
     ensures { ReadsAll ⟦<EcPrivateKey<'a> as Form>⟧ bytes.now result }
 {
-    EcPrivateKey::from_der(alloc, bytes)
+    read_sequence(alloc, bytes)
 }
 
 /// The one encoding of a private key of an elliptic curve.
@@ -122,5 +122,5 @@ pub fn write_ec_private_key<'a>(alloc: Global, value: &EcPrivateKey<'a>) -> Resu
     ensures ok { IfOk result (λ octets. octets.items ≡ ⟦<EcPrivateKey<'a> as Form>⟧.encoding value.now) }
     ensures err { IfErr result (λ e. (e.kind ≡ Memory) ⊎ Stops (⟦<EcPrivateKey<'a> as Form>⟧.encoding value.now) (⟦<EcPrivateKey<'a> as Form>⟧.re_reads value.now) e.kind) }
 {
-    value.to_der(alloc)
+    write_sequence(alloc, value)
 }

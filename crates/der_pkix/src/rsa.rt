@@ -6,8 +6,8 @@ ghost use Rattle.der_elem.specs.Decoding.{ReadsAll};
 ghost use Rattle.der_elem.specs.Encoding.{Stops};
 
 use crate::crt::Crt;
-use der_elem::{Encode, Form, FromDer};
-use der_fields::{Field, FieldSequence};
+use der_elem::Form;
+use der_fields::{Field, FieldSequence, read_sequence, write_sequence};
 use der_numbers::UintRef;
 use der_tlv::Error;
 use std::alloc::Global;
@@ -39,7 +39,7 @@ pub type RsaPrivateKey<'a> = FieldSequence<
 pub fn read_rsa_private_key<'a>(alloc: Global, bytes: &'a [u8]) -> Result<RsaPrivateKey<'a>, Error>
     ensures { ReadsAll ⟦<RsaPrivateKey<'a> as Form>⟧ bytes.now result }
 {
-    RsaPrivateKey::from_der(alloc, bytes)
+    read_sequence(alloc, bytes)
 }
 
 /// The one encoding of a private key of RSA.
@@ -50,5 +50,5 @@ pub fn write_rsa_private_key<'a>(alloc: Global, value: &RsaPrivateKey<'a>) -> Re
     ensures ok { IfOk result (λ octets. octets.items ≡ ⟦<RsaPrivateKey<'a> as Form>⟧.encoding value.now) }
     ensures err { IfErr result (λ e. (e.kind ≡ Memory) ⊎ Stops (⟦<RsaPrivateKey<'a> as Form>⟧.encoding value.now) (⟦<RsaPrivateKey<'a> as Form>⟧.re_reads value.now) e.kind) }
 {
-    value.to_der(alloc)
+    write_sequence(alloc, value)
 }

@@ -6,7 +6,7 @@ ghost use Rattle.der_elem.specs.Decoding.{ReadsAll};
 ghost use Rattle.der_elem.specs.Encoding.{Stops};
 
 use der_elem::{Encode, Form, FromDer};
-use der_fields::{End, Field, FieldSequence, OneOf};
+use der_fields::{End, Field, FieldSequence, OneOf, read_sequence, write_sequence};
 use der_time::{GeneralizedTime, UtcTime};
 use der_tlv::Error;
 use std::alloc::Global;
@@ -58,7 +58,7 @@ pub fn write_time(alloc: Global, value: &Time) -> Result<Vec<u8>, Error>
 pub fn read_validity(alloc: Global, bytes: &[u8]) -> Result<Validity, Error>
     ensures { ReadsAll ⟦<Validity as Form>⟧ bytes.now result }
 {
-    Validity::from_der(alloc, bytes)
+    read_sequence(alloc, bytes)
 }
 
 /// The one encoding of two times.
@@ -69,5 +69,5 @@ pub fn write_validity(alloc: Global, value: &Validity) -> Result<Vec<u8>, Error>
     ensures ok { IfOk result (λ octets. octets.items ≡ ⟦<Validity as Form>⟧.encoding value.now) }
     ensures err { IfErr result (λ e. (e.kind ≡ Memory) ⊎ Stops (⟦<Validity as Form>⟧.encoding value.now) (⟦<Validity as Form>⟧.re_reads value.now) e.kind) }
 {
-    value.to_der(alloc)
+    write_sequence(alloc, value)
 }
