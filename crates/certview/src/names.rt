@@ -1,0 +1,158 @@
+//! Names as text (RFC 4514, in the order in which the attributes stand).
+
+use crate::hexadecimal::{push_digits, push_octet};
+use crate::identifiers::{dotted, name_in};
+use der_elem::Encode;
+use der_opaque::AnyRef;
+use der_pkix::{AttributeTypeAndValue, Name, RelativeDistinguishedName};
+use der_tlv::{Error, ErrorKind, Tag};
+use std::alloc::{AllocError, Global};
+use std::fmt::Write;
+
+/// Short names of attributes (RFC 4514 section 3), and of electronic mail's.
+const ATTRIBUTES: [(&str, &str); 12] = [
+    ("2.5.4.3", "CN"),
+    ("2.5.4.4", "SN"),
+    ("2.5.4.5", "serialNumber"),
+    ("2.5.4.6", "C"),
+    ("2.5.4.7", "L"),
+    ("2.5.4.8", "ST"),
+    ("2.5.4.9", "STREET"),
+    ("2.5.4.10", "O"),
+    ("2.5.4.11", "OU"),
+    ("0.9.2342.19200300.100.1.25", "DC"),
+    ("0.9.2342.19200300.100.1.1", "UID"),
+    ("1.2.840.113549.1.9.1", "emailAddress"),
+];
+
+/// Adds a line with a name; `malformed` and the fault where the octets are no name.
+pub fn push_name(
+    alloc: Global,
+    text: &mut String,
+    label: &str,
+    name: AnyRef<'_>,
+) -> Result<(), AllocError> {
+    text.push_str(label)?;
+    text.push_str(": ")?;
+    match name.decode_as::<Name>(alloc) {
+        Ok(name) => push_places(alloc, text, name.as_slice())?,
+        Err(error) => push_malformed(text, error)?,
+    }
+    text.push('\n')
+}
+
+/// Adds what is wrong with octets, unless memory ran out.
+pub fn push_malformed(text: &mut String, error: Error) -> Result<(), AllocError> {
+    let kind = error.kind();
+    if kind == ErrorKind::Memory {
+        return Err(AllocError);
+    }
+    write!(text, "malformed ({kind})")
+}
+
+fn push_places(
+    alloc: Global,
+    text: &mut String,
+    places: &[RelativeDistinguishedName<'_>],
+) -> Result<(), AllocError> {
+    let mut is_first = true;
+    for place in places {
+        if !is_first {
+            text.push_str(", ")?;
+        }
+        is_first = false;
+        push_attributes(alloc, text, place.as_slice())?;
+    }
+    Ok(())
+}
+
+fn push_attributes(
+    alloc: Global,
+    text: &mut String,
+    attributes: &[AttributeTypeAndValue<'_>],
+) -> Result<(), AllocError> {
+    let mut is_first = true;
+    for attribute in attributes {
+        if !is_first {
+            text.push('+')?;
+        }
+        is_first = false;
+        push_attribute(alloc, text, attribute)?;
+    }
+    Ok(())
+}
+
+fn push_attribute(
+    alloc: Global,
+    text: &mut String,
+    attribute: &AttributeTypeAndValue<'_>,
+) -> Result<(), AllocError> {
+    let dotted = dotted(alloc, attribute.fields.first.as_bytes())?;
+    match name_in(&ATTRIBUTES, dotted.as_str()) {
+        Some(name) => text.push_str(name)?,
+        None => text.push_str(dotted.as_str())?,
+    }
+    text.push('=')?;
+    push_value(alloc, text, attribute.fields.rest.first)
+}
+
+/// Adds a value: the characters of a string type, or else `#` and its encoding.
+fn push_value(alloc: Global, text: &mut String, value: AnyRef<'_>) -> Result<(), AllocError> {
+    if is_text(value.header().tag) {
+        if let Ok(characters) = str::from_utf8(value.value()) {
+            return push_escaped(text, characters);
+        }
+    }
+    text.push('#')?;
+    match value.to_der(alloc) {
+        Ok(octets) => push_digits(text, octets.as_slice()),
+        Err(_) => Err(AllocError),
+    }
+}
+
+/// Whether a type's contents octets are characters of UTF-8, or of a part of it.
+fn is_text(tag: Tag) -> bool {
+    matches!(
+        tag,
+        Tag::Utf8String
+            | Tag::PrintableString
+            | Tag::Ia5String
+            | Tag::NumericString
+            | Tag::VisibleString
+    )
+}
+
+/// Adds characters, with a `\` before those that RFC 4514 section 2.4 escapes. Control characters
+/// are `\` and two digits an octet.
+fn push_escaped(text: &mut String, characters: &str) -> Result<(), AllocError> {
+    let mut is_first = true;
+    for character in characters.chars() {
+        if character.is_control() {
+            push_control(text, character)?;
+        } else {
+            if is_escaped(character, is_first) {
+                text.push('\\')?;
+            }
+            text.push(character)?;
+        }
+        is_first = false;
+    }
+    Ok(())
+}
+
+fn is_escaped(character: char, is_first: bool) -> bool {
+    match character {
+        '"' | '+' | ',' | ';' | '<' | '>' | '\\' => true,
+        '#' | ' ' => is_first,
+        _ => false,
+    }
+}
+
+fn push_control(text: &mut String, character: char) -> Result<(), AllocError> {
+    let mut buffer = [0; 4];
+    for octet in character.encode_utf8(&mut buffer).as_bytes() {
+        text.push('\\')?;
+        push_octet(text, *octet)?;
+    }
+    Ok(())
+}

@@ -1,0 +1,58 @@
+//! From what is read to what is written.
+
+ghost use Rattle.std.specs.Prelude.{◌≡◌, ◌≢◌, None, false, OnOk, IfErr};
+ghost use Rattle.std.specs.Io.KnownBytes.{Keeps};
+ghost use Rattle.certview.specs.Faults.{first_fault};
+ghost use Rattle.certview.specs.Pem.{is_pem};
+
+use crate::certificate::Certificate;
+use crate::fault::Fault;
+use crate::pem::octets_of;
+use crate::shown::shown;
+use der_elem::Form;
+use der_tlv::{Error, ErrorKind};
+use std::alloc::Global;
+use std::io::{self, Read, Write};
+
+/// Reads all of the input, and writes the fields of the certificate that it carries.
+pub fn run<R: Read, W: Write>(alloc: Global, input: &mut R, output: &mut W) -> Result<(), Fault>
+    // Unless a write fails, nothing was written where there is a fault.
+    ensures kept { IfErr result (λ fault. fault ≢ Fault.Output → Keeps (W.contents output.old) (W.contents output.new)) }
+{
+    let mut octets = Vec::new(alloc);
+    if let Err(error) = input.read_to_end(&mut octets) {
+        return Err(read_fault(&error));
+    }
+    let text = answer(alloc, octets)?;
+    match output.write_all(text.as_bytes()) {
+        Ok(()) => Ok(()),
+        Err(_) => Err(Fault::Output),
+    }
+}
+
+fn read_fault(error: &io::Error) -> Fault {
+    if error.kind() == io::ErrorKind::OutOfMemory {
+        Fault::Memory
+    } else {
+        Fault::Input
+    }
+}
+
+/// What is written for an input.
+fn answer(alloc: Global, input: Vec<u8>) -> Result<String, Fault>
+    ensures ok { OnOk result (is_pem input.items ≡ false → first_fault ⟦<Certificate<'static> as Form>⟧.parse input.items ≡ None) }
+{
+    let octets = octets_of(alloc, input)?;
+    match shown(alloc, octets.as_slice()) {
+        Ok(text) => Ok(text),
+        Err(error) => Err(refusal(error)),
+    }
+}
+
+/// The fault of octets that are refused, or of memory that was.
+fn refusal(error: Error) -> Fault {
+    match error.kind {
+        ErrorKind::Memory => Fault::Memory,
+        _ => Fault::Refused(error),
+    }
+}
