@@ -7,7 +7,6 @@ use std::io;
 use std::process::ExitCode;
 
 mod algorithms;
-mod certificate;
 mod extensions;
 mod fault;
 mod hexadecimal;

@@ -5,10 +5,10 @@ ghost use Rattle.std.specs.Io.KnownBytes.{Keeps};
 ghost use Rattle.certview.specs.Faults.{first_fault};
 ghost use Rattle.certview.specs.Pem.{is_pem};
 
-use crate::certificate::Certificate;
 use crate::fault::Fault;
 use crate::pem::octets_of;
 use crate::shown::shown;
+use der_certificate::Certificate;
 use der_elem::Form;
 use der_tlv::{Error, ErrorKind};
 use std::alloc::Global;

@@ -4,12 +4,13 @@ ghost use Rattle.std.specs.Prelude.{◌≡◌, None, OnOk};
 ghost use Rattle.certview.specs.Faults.{first_fault};
 
 use crate::algorithms::{push_algorithm, push_key};
-use crate::certificate::{Certificate, read_certificate};
 use crate::extensions::push_extensions;
 use crate::hexadecimal::push_with_colons;
 use crate::names::push_name;
 use crate::times::push_validity;
-use der_certificate::{Issuer, Subject, TbsCertificate, read_tbs_certificate};
+use der_certificate::{
+    Certificate, Issuer, Subject, TbsCertificate, read_certificate, read_tbs_certificate,
+};
 use der_elem::{Encode, Form};
 use der_numbers::IntRef;
 use der_tlv::Error;

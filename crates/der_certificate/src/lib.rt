@@ -7,9 +7,11 @@
 mod certificate;
 mod issuer;
 mod last;
+mod signed;
 mod subject;
 
 pub use certificate::{TbsCertificate, read_tbs_certificate, write_tbs_certificate};
 pub use issuer::{Issuer, IssuerFields};
 pub use last::{Last, LastFields};
+pub use signed::{Certificate, read_certificate, write_certificate};
 pub use subject::{Subject, SubjectFields};

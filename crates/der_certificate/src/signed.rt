@@ -1,0 +1,49 @@
+//! Signed certificates (RFC 5280 section 4.1).
+
+ghost use Rattle.std.specs.Prelude.{◌≡◌, ◌⊎◌, IfOk, IfErr};
+ghost use Rattle.der_tlv.specs.declared.error.ErrorKind.TheVariants.{Memory};
+ghost use Rattle.der_elem.specs.Decoding.{ReadsAll};
+ghost use Rattle.der_elem.specs.Encoding.{Stops};
+
+use der_bits::BitStringRef;
+use der_elem::Form;
+use der_fields::{End, Field, FieldSequence, read_sequence, write_sequence};
+use der_opaque::AnyRef;
+use der_pkix::AlgorithmIdentifier;
+use der_tlv::Error;
+use std::alloc::Global;
+
+/// A certificate with its signature, which nothing here verifies. What is signed is kept as it is
+/// encoded, since the signature covers its octets; `read_tbs_certificate` reads them.
+///
+/// ```text
+/// Certificate ::= SEQUENCE {
+///     tbsCertificate      TBSCertificate,
+///     signatureAlgorithm  AlgorithmIdentifier,
+///     signature           BIT STRING }
+/// ```
+pub type Certificate<'a> = FieldSequence<
+    Field<AnyRef<'a>, Field<AlgorithmIdentifier<'a>, Field<BitStringRef<'a>, End>>>,
+>;
+
+/// Reads a certificate: all of the octets, under DER.
+///
+/// # Errors
+/// The first fault of the octets, in the order of the fields; (3) where octets are left over; (9)
+/// where there are more than 4294967295; (1) where a type that takes memory has none.
+pub fn read_certificate<'a>(alloc: Global, bytes: &'a [u8]) -> Result<Certificate<'a>, Error>
+    ensures { ReadsAll ⟦<Certificate<'a> as Form>⟧ bytes.now result }
+{
+    read_sequence(alloc, bytes)
+}
+
+/// The one encoding of a certificate.
+///
+/// # Errors
+/// (1) where memory runs out; (9) where there are more than 4294967295 octets.
+pub fn write_certificate<'a>(alloc: Global, value: &Certificate<'a>) -> Result<Vec<u8>, Error>
+    ensures ok { IfOk result (λ octets. octets.items ≡ ⟦<Certificate<'a> as Form>⟧.encoding value.now) }
+    ensures err { IfErr result (λ e. (e.kind ≡ Memory) ⊎ Stops (⟦<Certificate<'a> as Form>⟧.encoding value.now) (⟦<Certificate<'a> as Form>⟧.re_reads value.now) e.kind) }
+{
+    write_sequence(alloc, value)
+}
