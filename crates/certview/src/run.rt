@@ -1,6 +1,6 @@
 //! From what is read to what is written.
 
-ghost use Rattle.std.specs.Prelude.{◌≡◌, ◌≢◌, None, false, OnOk, IfErr};
+ghost use Rattle.std.specs.Prelude.{◌≡◌, ◌≢◌, None, false, OnOk, IfErr, IfSome};
 ghost use Rattle.std.specs.Io.KnownBytes.{Keeps};
 ghost use Rattle.certview.specs.Faults.{first_fault};
 ghost use Rattle.certview.specs.Pem.{is_pem};
@@ -16,6 +16,8 @@ use std::io::{self, Read, Write};
 
 /// Reads all of the input, and writes the fields of the certificate that it carries.
 pub fn run<R: Read, W: Write>(alloc: Global, input: &mut R, output: &mut W) -> Result<(), Fault>
+    // What was read is shown only where the grammar reads it as a certificate.
+    ensures read { OnOk result (IfSome (R.remaining input.old) (λ octets. is_pem octets ≡ false → first_fault ⟦<Certificate<'static> as Form>⟧.parse octets ≡ None)) }
     // Unless a write fails, nothing was written where there is a fault.
     ensures kept { IfErr result (λ fault. fault ≢ Fault.Output → Keeps (W.contents output.old) (W.contents output.new)) }
 {
