@@ -32,7 +32,7 @@ impl<'a> FieldList for Last<'a> {
 
     ghost first_tag = { λ v. ⟦<LastFields<'a> as FieldList>⟧.first_tag v.fields };
 
-    ghost one_forms = { λ v w. ⟦<LastFields<'a> as FieldList>⟧.one_forms v.fields w.fields };
+    ghost all_comparable = { λ v w. ⟦<LastFields<'a> as FieldList>⟧.all_comparable v.fields w.fields };
 
     ghost re_read = { λ v. ⟦<LastFields<'a> as FieldList>⟧.re_read v.fields };
 
@@ -54,7 +54,7 @@ impl<'a> FieldList for Last<'a> {
 
     ghost only_readable_fields = { λ rules v. ⟦<LastFields<'a> as FieldList>⟧.only_readable_fields rules v.fields };
 
-    ghost accepts_one_forms = { λ rules v w. ⟦<LastFields<'a> as FieldList>⟧.accepts_one_forms rules v.fields w.fields };
+    ghost accepts_all_comparable = { λ rules v w. ⟦<LastFields<'a> as FieldList>⟧.accepts_all_comparable rules v.fields w.fields };
 
     ghost re_read_memory = { λ v. ⟦<LastFields<'a> as FieldList>⟧.re_read_memory v.fields };
 }

@@ -28,7 +28,7 @@ impl<'a> FieldList for Subject<'a> {
 
     ghost first_tag = { λ v. ⟦<SubjectFields<'a> as FieldList>⟧.first_tag v.fields };
 
-    ghost one_forms = { λ v w. ⟦<SubjectFields<'a> as FieldList>⟧.one_forms v.fields w.fields };
+    ghost all_comparable = { λ v w. ⟦<SubjectFields<'a> as FieldList>⟧.all_comparable v.fields w.fields };
 
     ghost re_read = { λ v. ⟦<SubjectFields<'a> as FieldList>⟧.re_read v.fields };
 
@@ -50,7 +50,7 @@ impl<'a> FieldList for Subject<'a> {
 
     ghost only_readable_fields = { λ rules v. ⟦<SubjectFields<'a> as FieldList>⟧.only_readable_fields rules v.fields };
 
-    ghost accepts_one_forms = { λ rules v w. ⟦<SubjectFields<'a> as FieldList>⟧.accepts_one_forms rules v.fields w.fields };
+    ghost accepts_all_comparable = { λ rules v w. ⟦<SubjectFields<'a> as FieldList>⟧.accepts_all_comparable rules v.fields w.fields };
 
     ghost re_read_memory = { λ v. ⟦<SubjectFields<'a> as FieldList>⟧.re_read_memory v.fields };
 }

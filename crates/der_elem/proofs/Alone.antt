@@ -7,14 +7,14 @@ use Rattle.der_tlv.specs.declared.error.ErrorKind.{ErrorKind}
 use Rattle.der_tlv.specs.declared.error.ErrorKind.TheVariants.{Memory, Overflow, TrailingData}
 use Rattle.der_tlv.specs.declared.encoding_rules.EncodingRules.TheVariants.{Der}
 use Rattle.der_tlv.specs.declared.tag.Tag.{Tag}
-use Rattle.der_tlv.specs.ReaderState.{ReaderState, rest, opened, can_finish, finish_fault}
+use Rattle.der_tlv.specs.ReaderState.{ReaderState, rest, new_reader, can_finish, finish_fault}
 use Rattle.der_elem.specs.declared.form.Form as form
 use Rattle.der_elem.specs.Accepting.{Fits, MayFollow}
 use Rattle.der_elem.specs.Decoding.{Decoded, NotDecoded, parse_all, all_parsed, AllRead, NotAllRead}
 
 -- a new reader of all of the octets
 pub record OpenOf (octets : List ℕ) (s : ReaderState) : Type 0 where
-  pub state : s ≡ opened octets Der
+  pub state : s ≡ new_reader octets Der
   pub fits : Fits octets
 
 rest_of : {octets : List ℕ} {s : ReaderState} → OpenOf octets s → rest s ≡ octets

@@ -4,7 +4,7 @@ use Rattle.std.proofs.Math.Seq.{take-add, take-length, take-suc-set}
 use Rattle.std.proofs.Math.ListN.{replicate, set}
 use Rattle.std.proofs.lemmas.List.{flat_map_more, length-append, append-nil}
 use Rattle.der_tlv.specs.declared.error.ErrorKind.{ErrorKind}
-use Rattle.der_tlv.specs.ReaderState.{ReaderState, rest, after_read, seen}
+use Rattle.der_tlv.specs.ReaderState.{ReaderState, rest, after_read, unless_failed}
 use Rattle.der_elem.specs.declared.form.Form as form
 use Rattle.der_elem.specs.Decoding.{Faults}
 use Rattle.der_elem.specs.Items.{AcceptsItems, join_items}
@@ -48,17 +48,17 @@ module _ {T : Type 0} {F : form.Ghosts T} {count : ℕ} {old now : ReaderState} 
   rest_now : rest now ≡ drop so_far.taken (rest old)
   rest_now = ap rest so_far.after ∙ rest-after_read old so_far.taken
 
-  seen_array : old.failed ≡ false → seen (parse_array count F.parse old.rules) old ≡ parse_array count F.parse old.rules old.position (rest old)
+  seen_array : old.failed ≡ false → unless_failed (parse_array count F.parse old.rules) old ≡ parse_array count F.parse old.rules old.position (rest old)
   seen_array ready = rw ready refl
 
-  seen_item : old.failed ≡ false → seen (F.parse now.rules) now ≡ F.parse old.rules now.position (rest now)
+  seen_item : old.failed ≡ false → unless_failed (F.parse now.rules) now ≡ F.parse old.rules now.position (rest now)
   seen_item ready = rw (still_ready ready, same_rules) refl
 
-  fault : (kind : ErrorKind) → old.failed ≡ false → parse_array so_far.more F.parse old.rules now.position (rest now) ≡ Err kind → seen (parse_array count F.parse old.rules) old ≡ Err kind
+  fault : (kind : ErrorKind) → old.failed ≡ false → parse_array so_far.more F.parse old.rules now.position (rest now) ≡ Err kind → unless_failed (parse_array count F.parse old.rules) old ≡ Err kind
   fault kind ready e = seen_array ready ∙ so_far.left ∙ ap (join_items (flat_map F.encoding vs)) e
 
   -- an item that is missing, or its fault, is a fault of the array
-  pub item_fault : (kind : ErrorKind) (new : ReaderState) → length vs < count → old.failed ≡ false → NoItem F now new kind → Faults F.TAKES_MEMORY (seen (parse_array count F.parse old.rules) old) kind
+  pub item_fault : (kind : ErrorKind) (new : ReaderState) → length vs < count → old.failed ≡ false → NoItem F now new kind → Faults F.TAKES_MEMORY (unless_failed (parse_array count F.parse old.rules) old) kind
   item_fault kind new h ready none = let m : ℕ = so_far.more - 1 in let e = one_more h in elim none.reason [
     | inl short ↦ inr (fault kind ready (ap (λ n. parse_array n F.parse old.rules now.position (rest now)) e ∙ ap (parse_array (suc m) F.parse old.rules now.position) short.0 ∙ parse_array-short m F.parse old.rules now.position ∙ ap Err (sym short.1)))
     | inr some ↦ elim some.1 [
@@ -68,7 +68,7 @@ module _ {T : Type 0} {F : form.Ghosts T} {count : ℕ} {old now : ReaderState} 
   ]
 
   -- so is an item too many
-  pub too_many_fault : (kind : ErrorKind) (new : ReaderState) → length vs ≡ count → old.failed ≡ false → ItemTooMany F now new kind → Faults F.TAKES_MEMORY (seen (parse_array count F.parse old.rules) old) kind
+  pub too_many_fault : (kind : ErrorKind) (new : ReaderState) → length vs ≡ count → old.failed ≡ false → ItemTooMany F now new kind → Faults F.TAKES_MEMORY (unless_failed (parse_array count F.parse old.rules) old) kind
   too_many_fault kind new h ready over = let e = none_more h in elim over.reason [
     | inl memory ↦ inl memory
     | inr f ↦ inr (fault kind ready (ap (λ n. parse_array n F.parse old.rules now.position (rest now)) e ∙ parse_array-over F.parse old.rules now.position (rest now) over.some ∙ ap too_many (sym (seen_item ready)) ∙ f))

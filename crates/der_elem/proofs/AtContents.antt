@@ -13,8 +13,8 @@ use Rattle.der_tlv.specs.HeaderOctets.{header_octets, tlv}
 use Rattle.der_tlv.specs.HeaderReading.{read_header, octets_of}
 use Rattle.der_tlv.specs.HeaderLaws.{same_identifier-same}
 use Rattle.der_tlv.specs.Reading.{HeadRead, Nested, OctetsRefused, Refused}
-use Rattle.der_tlv.specs.ReaderState.{ReaderState, IsReaderState, rest, after_read, after_fault, unnested, read_fault, read_fault_at, can_unnest}
-use Rattle.der_tlv.proofs.ReaderStates.{rest-after_read, length-rest, rest-nested, room_from_can_read}
+use Rattle.der_tlv.specs.ReaderState.{ReaderState, IsReaderState, rest, after_read, after_fault, after_unnest, read_fault, read_fault_at, can_unnest}
+use Rattle.der_tlv.proofs.ReaderStates.{rest-after_read, length-rest, rest-after_nest, room_from_can_read}
 use Rattle.der_tlv.proofs.Refusals.{went_on, went_inside, refused_at, refused_since}
 use Rattle.der_elem.specs.Parsing.{ContentsParse, parse_tagged, parse_with_tag, parse_contents, tagged_contents}
 
@@ -102,7 +102,7 @@ module _ {header : Header} {old mid shown : ReaderState} {end : ℕ} (c : AtCont
   room = room_from_can_read mid header.length c.nest.readable
 
   shown_rest : rest shown ≡ take header.length (rest mid)
-  shown_rest = ap rest c.nest.after ∙ rest-nested mid header.length room
+  shown_rest = ap rest c.nest.after ∙ rest-after_nest mid header.length room
 
   enough : header.length ≤ length (rest mid)
   enough = let r = room in omega (arith, length-rest mid c.at.sound)
@@ -135,7 +135,7 @@ module _ {header : Header} {old mid shown : ReaderState} {end : ℕ} (c : AtCont
   taken =
       take-add (length (octets_of header)) header.length (rest old) ∙ ap (λ o. o ++ take header.length (drop (length (octets_of header)) (rest old))) c.at.head.taken ∙ ap (λ o. octets_of header ++ take header.length o) (sym (rest_mid c.at)) ∙ ap (λ o. octets_of header ++ o) (sym shown_rest) ∙ ap (λ n. header_octets header.tag n ++ rest shown) (sym shown_length)
 
-  pub after_contents : {after new : ReaderState} → after ≡ after_read shown (length (rest shown)) → new ≡ unnested after end → new ≡ after_read old (length (octets_of header) + header.length)
+  pub after_contents : {after new : ReaderState} → after ≡ after_read shown (length (rest shown)) → new ≡ after_unnest after end → new ≡ after_read old (length (octets_of header) + header.length)
   after_contents {after} {new} e f =
       f ∙ rw (e, shown_length, c.nest.after, c.nest.end_is, c.at.head.after) (ap (λ p. record old { position = p }) (let q : old.position + length (octets_of header) + header.length ≡ old.position + (length (octets_of header) + header.length) = omega arith in q))
 

@@ -26,7 +26,7 @@ decided Greater p h = refl
 pub record Headed {T : Type 0} (V : value.Ghosts T) (F : form.Ghosts T) (tag_of : T → Tag) : Type 0 where
   pub encoding_is : (v : T) → F.encoding v ≡ tlv (tag_of v) (V.contents v)
   pub re_reads_alike : (v : T) → V.re_reads_value v ≡ true → F.re_reads v ≡ true
-  pub one_form_alike : (v w : T) → F.one_form v w → V.one_form_value v w
+  pub comparable_alike : (v w : T) → F.comparable v w → V.comparable_value v w
 
 module _ {T : Type 0} {V : value.Ghosts T} {F : form.Ghosts T} {tag_of : T → Tag} (h : Headed V F tag_of) (x y : T) where
   order_is : lex (F.encoding x) (F.encoding y) ≡ ordering_then (lex (identifier (tag_of x)) (identifier (tag_of y))) (ordering_then (nat_cmp (length (V.contents x)) (length (V.contents y))) (lex (V.contents x) (V.contents y)))
@@ -58,7 +58,7 @@ module _ {T : Type 0} {V : value.Ghosts T} {F : form.Ghosts T} {tag_of : T → T
 
       incomparable : (kind : ErrorKind) → IncomparableValues V x y kind → Incomparable F x y kind
       incomparable Overflow r = elim r [ inl l ↦ inl (longer x l) | inr l ↦ inr (longer y l) ]
-      incomparable (Value tag) r = (λ one. r (h.one_form_alike x y one), same_header)
+      incomparable (Value tag) r = (λ one. r (h.comparable_alike x y one), same_header)
       incomparable Memory r = elim r [ inl m ↦ inl (h.re_reads_alike x m) | inr m ↦ inr (h.re_reads_alike y m) ]
       incomparable _ r = absurd r
 

@@ -8,8 +8,8 @@ use Rattle.std.proofs.lemmas.List.{drop-map, take_all}
 use Rattle.std.proofs.lemmas.Int.Digits.{number_lt}
 use Rattle.std.specs.Int.{byte_at, bytes_high_first, cast_unsigned, w64, w128}
 use Rattle.std.specs.Int.Digits.{number_from_digits_after}
-use Rattle.der_elem.specs.Integer.{AreOctets, big_endian_number, natural_contents, complemented, integer_contents, aligned}
-use Rattle.der_elem.specs.IntegerLaws.{octets-same_number, number_natural_contents, natural_contents-are_octets, number-complemented, complemented-are_octets, length-complemented, integer_contents-are_octets, integer_contents-pos, integer_contents-negsuc, integer_contents-length, integer_contents-length_le_width}
+use Rattle.der_elem.specs.Integer.{AreOctets, big_endian_number, natural_contents, complement_octets, integer_contents, left_aligned}
+use Rattle.der_elem.specs.IntegerLaws.{octets-same_number, number_natural_contents, natural_contents-are_octets, number-complement_octets, complement_octets-are_octets, length-complement_octets, integer_contents-are_octets, integer_contents-pos, integer_contents-negsuc, integer_contents-length, integer_contents-length_le_width}
 
 -- ---- the lowest octets of a number
 
@@ -51,11 +51,11 @@ drop_bytes (suc k) l n within = elim (cases_lt k l) [
 ]
 
 -- the octets of the greatest number less a number are the octets of that number, inverted
-bytes_complemented : (k m n : ℕ) → m + n + 1 ≡ 256 ^ k → bytes_high_first k m ≡ complemented (bytes_high_first k n)
+bytes_complemented : (k m n : ℕ) → m + n + 1 ≡ 256 ^ k → bytes_high_first k m ≡ complement_octets (bytes_high_first k n)
 bytes_complemented k m n both =
     let octets = bytes_high_first k n in
-    let inverse = number-complemented octets (bytes_are_octets k n) in
-    octets-same_number (bytes_high_first k m) (complemented octets) (bytes_are_octets k m) (complemented-are_octets octets) (length_bytes k m ∙ sym (length-complemented octets ∙ length_bytes k n))
+    let inverse = number-complement_octets octets (bytes_are_octets k n) in
+    octets-same_number (bytes_high_first k m) (complement_octets octets) (bytes_are_octets k m) (complement_octets-are_octets octets) (length_bytes k m ∙ sym (length-complement_octets octets ∙ length_bytes k n))
     (omega (arith, number_bytes k m (omega arith), number_bytes k n (omega arith), inverse, ap (λ l. 256 ^ l) (length_bytes k n)))
 
 -- ---- contents octets
@@ -84,12 +84,12 @@ last_octets k number (pos n) same within =
     (ap (λ m. drop (k - length (natural_contents n)) (bytes_high_first k m)) same ∙ last_natural k n (omega (arith, within, integer_contents-length (pos n))))
 last_octets k number (negsuc n) same within =
     let l = length (natural_contents n) in
-    let octets = complemented (natural_contents n) in
+    let octets = complement_octets (natural_contents n) in
     last_of k (bytes_high_first k number) (integer_contents (negsuc n)) octets (integer_contents-negsuc n)
-    (ap (λ m. drop (k - m) (bytes_high_first k number)) (length-complemented (natural_contents n))
+    (ap (λ m. drop (k - m) (bytes_high_first k number)) (length-complement_octets (natural_contents n))
     ∙ ap (drop (k - l)) (bytes_complemented k number n same)
     ∙ drop-map (λ octet. 255 - octet) (k - l) (bytes_high_first k n)
-    ∙ ap complemented (last_natural k n (omega (arith, within, integer_contents-length (negsuc n)))))
+    ∙ ap complement_octets (last_natural k n (omega (arith, within, integer_contents-length (negsuc n)))))
 
 -- a slice of the last octets is those octets
 slice_of_last : (k l : ℕ) (octets contents : List ℕ) → l ≡ length contents → l ≤ k → drop (k - length contents) octets ≡ contents → take (k - (k - l)) (drop (k - l) octets) ≡ contents
@@ -154,7 +154,7 @@ moved_up number k l within =
     ∙ ap₂ (λ a b. a % 256 ^ l * unit + b) (mul-div_cancel number some) (mul-mod_left number unit) ∙ omega arith
 
 -- what represents an integer, moved up, is its contents octets with zeros behind them
-aligned_at : (k number : ℕ) (z : ℤ) (len : ℕ) → Represents k number z → len ≡ length (integer_contents z) → len ≤ k → (number * 2 ^ (8 * (k - len))) % 256 ^ k ≡ aligned k (integer_contents z)
+aligned_at : (k number : ℕ) (z : ℤ) (len : ℕ) → Represents k number z → len ≡ length (integer_contents z) → len ≤ k → (number * 2 ^ (8 * (k - len))) % 256 ^ k ≡ left_aligned k (integer_contents z)
 aligned_at k number z len represents count within =
     let contents = integer_contents z in
     let few : length contents ≤ k = omega (arith, count, within) in
@@ -166,7 +166,7 @@ aligned_at k number z len represents count within =
     ∙ ap (λ n. n * 256 ^ (k - length contents)) value
 
 -- the same at 16 octets
-pub aligned_number : (z : ℤ) (len number : ℕ) → SFits w128 z → number ≡ cast_unsigned w128 z → len ≡ length (integer_contents z) → len ≤ 16 → (number * 2 ^ (8 * (16 - len))) % 2 ^ 128 ≡ aligned 16 (integer_contents z)
+pub aligned_number : (z : ℤ) (len number : ℕ) → SFits w128 z → number ≡ cast_unsigned w128 z → len ≡ length (integer_contents z) → len ≤ 16 → (number * 2 ^ (8 * (16 - len))) % 2 ^ 128 ≡ left_aligned 16 (integer_contents z)
 aligned_number z len number fits cast = aligned_at 16 number z len (subst (λ n. Represents 16 n z) (sym cast) (represents_cast_16 z fits))
 
 -- ---- the octets of a number that zeros stand behind
@@ -202,10 +202,10 @@ short_front z len number front block fits cast moved octets count within =
     let contents = integer_contents z in
     let all = integer_contents-are_octets z in
     let few : length contents ≤ 8 = omega (arith, count, within) in
-    let value : front ≡ aligned 8 contents = moved ∙ aligned_at 8 number z len (subst (λ n. Represents 8 n z) (sym cast) (represents_cast_8 z fits)) count within in
-    let whole : block ≡ bytes_high_first 8 (aligned 8 contents) = octets ∙ ap (bytes_high_first 8) value in
+    let value : front ≡ left_aligned 8 contents = moved ∙ aligned_at 8 number z len (subst (λ n. Represents 8 n z) (sym cast) (represents_cast_8 z fits)) count within in
+    let whole : block ≡ bytes_high_first 8 (left_aligned 8 contents) = octets ∙ ap (bytes_high_first 8) value in
     let number_of = big_endian_number contents in
     ap (λ b. take len b) whole
-    ∙ ap (λ l. take l (bytes_high_first 8 (aligned 8 contents))) count
+    ∙ ap (λ l. take l (bytes_high_first 8 (left_aligned 8 contents))) count
     ∙ front_bytes 8 (length contents) number_of few
     ∙ octets-same_number (bytes_high_first (length contents) number_of) contents (bytes_are_octets (length contents) number_of) all (length_bytes (length contents) number_of) (number_bytes (length contents) number_of (number_lt 256 contents all))

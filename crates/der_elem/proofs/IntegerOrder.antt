@@ -10,7 +10,7 @@ use Rattle.std.specs.Ordering.{nat_cmp, ordering_then}
 use Rattle.std.specs.Int.{w128}
 use Rattle.std.specs.Int.Digits.{number_from_digits_after}
 use Rattle.der_tlv.specs.Octets.{lex}
-use Rattle.der_elem.specs.Integer.{AreOctets, big_endian_number, aligned, integer_contents, natural_contents}
+use Rattle.der_elem.specs.Integer.{AreOctets, big_endian_number, left_aligned, integer_contents, natural_contents}
 use Rattle.der_elem.specs.IntegerLaws.{integer_contents-are_octets, integer_contents-pos, natural_contents-are_octets, natural_contents-length, natural_contents-length_le, natural_contents-step, number_natural_contents}
 use Rattle.der_elem.proofs.IntegerBytes.{wide_length}
 
@@ -31,17 +31,17 @@ sum_back : (k l : ℕ) → l ≤ k → l + (k - l) ≡ k
 sum_back k l within = omega (arith, within)
 
 -- one more octet in front of others
-aligned-cons : (k d : ℕ) (ds : List ℕ) → length ds ≤ k → aligned (suc k) (d ∷ ds) ≡ d * 256 ^ k + aligned k ds
-aligned-cons k d ds within =
+left_aligned-cons : (k d : ℕ) (ds : List ℕ) → length ds ≤ k → left_aligned (suc k) (d ∷ ds) ≡ d * 256 ^ k + left_aligned k ds
+left_aligned-cons k d ds within =
     let first : 0 * 256 + d ≡ d = omega arith in
     let fewer : suc k - suc (length ds) ≡ k - length ds = omega arith in
     ap (λ e. big_endian_number (d ∷ ds) * 256 ^ e) fewer
     ∙ ap (λ n. n * 256 ^ (k - length ds)) (number_after (0 * 256 + d) ds ∙ ap (λ e. e * 256 ^ length ds + big_endian_number ds) first)
     ∙ add-mul (d * 256 ^ length ds) (big_endian_number ds) (256 ^ (k - length ds))
-    ∙ ap (λ n. n + aligned k ds) (mul_assoc d (256 ^ length ds) (256 ^ (k - length ds)) ∙ ap (λ p. d * p) (sym (pow-add 256 (length ds) (k - length ds)) ∙ ap (λ e. 256 ^ e) (sum_back k (length ds) within)))
+    ∙ ap (λ n. n + left_aligned k ds) (mul_assoc d (256 ^ length ds) (256 ^ (k - length ds)) ∙ ap (λ p. d * p) (sym (pow-add 256 (length ds) (k - length ds)) ∙ ap (λ e. 256 ^ e) (sum_back k (length ds) within)))
 
-aligned-lt : (k : ℕ) (ds : List ℕ) → AreOctets ds → length ds ≤ k → aligned k ds < 256 ^ k
-aligned-lt k ds all within =
+left_aligned-lt : (k : ℕ) (ds : List ℕ) → AreOctets ds → length ds ≤ k → left_aligned k ds < 256 ^ k
+left_aligned-lt k ds all within =
     let unit = 256 ^ (k - length ds) in
     let some : 0 < unit = one-le-pow (k - length ds) 256 (omega arith) in
     let below : big_endian_number ds * unit < 256 ^ length ds * unit = mul-lt-mul_of_pos_right {m = big_endian_number ds} {n = 256 ^ length ds} {k = unit} (number_lt 256 ds all) some in
@@ -67,18 +67,18 @@ suc_cmp : (m n : ℕ) → nat_cmp m n ≡ nat_cmp (suc m) (suc n)
 suc_cmp m n = grind (arith, nat_tests)
 
 -- the order of octets is that of these numbers, and then of how many there are
-pub lex-aligned : (k : ℕ) (cs ds : List ℕ) → AreOctets cs → AreOctets ds → length cs ≤ k → length ds ≤ k → lex cs ds ≡ ordering_then (nat_cmp (aligned k cs) (aligned k ds)) (nat_cmp (length cs) (length ds))
-lex-aligned k [] [] all_c all_d c d = grind (arith, nat_tests)
-lex-aligned k [] (y ∷ ds) all_c all_d c d = grind (arith, nat_tests)
-lex-aligned k (x ∷ cs) [] all_c all_d c d = grind (arith, nat_tests)
-lex-aligned zero (x ∷ cs) (y ∷ ds) all_c all_d c d = absurd (omega arith)
-lex-aligned (suc k) (x ∷ cs) (y ∷ ds) all_c all_d c d =
-    ap (ordering_then (nat_cmp x y)) (lex-aligned k cs ds all_c.1 all_d.1 (omega (arith, c)) (omega (arith, d)))
-    ∙ then_assoc (nat_cmp x y) (nat_cmp (aligned k cs) (aligned k ds)) (nat_cmp (length cs) (length ds))
+pub lex-left_aligned : (k : ℕ) (cs ds : List ℕ) → AreOctets cs → AreOctets ds → length cs ≤ k → length ds ≤ k → lex cs ds ≡ ordering_then (nat_cmp (left_aligned k cs) (left_aligned k ds)) (nat_cmp (length cs) (length ds))
+lex-left_aligned k [] [] all_c all_d c d = grind (arith, nat_tests)
+lex-left_aligned k [] (y ∷ ds) all_c all_d c d = grind (arith, nat_tests)
+lex-left_aligned k (x ∷ cs) [] all_c all_d c d = grind (arith, nat_tests)
+lex-left_aligned zero (x ∷ cs) (y ∷ ds) all_c all_d c d = absurd (omega arith)
+lex-left_aligned (suc k) (x ∷ cs) (y ∷ ds) all_c all_d c d =
+    ap (ordering_then (nat_cmp x y)) (lex-left_aligned k cs ds all_c.1 all_d.1 (omega (arith, c)) (omega (arith, d)))
+    ∙ then_assoc (nat_cmp x y) (nat_cmp (left_aligned k cs) (left_aligned k ds)) (nat_cmp (length cs) (length ds))
     ∙ ap (λ o. ordering_then o (nat_cmp (length cs) (length ds)))
-    (sym (digit_first (256 ^ k) x y (aligned k cs) (aligned k ds) (aligned-lt k cs all_c.1 (omega (arith, c))) (aligned-lt k ds all_d.1 (omega (arith, d))))
-    ∙ sym (ap₂ nat_cmp (aligned-cons k x cs (omega (arith, c))) (aligned-cons k y ds (omega (arith, d)))))
-    ∙ ap (ordering_then (nat_cmp (aligned (suc k) (x ∷ cs)) (aligned (suc k) (y ∷ ds)))) (suc_cmp (length cs) (length ds))
+    (sym (digit_first (256 ^ k) x y (left_aligned k cs) (left_aligned k ds) (left_aligned-lt k cs all_c.1 (omega (arith, c))) (left_aligned-lt k ds all_d.1 (omega (arith, d))))
+    ∙ sym (ap₂ nat_cmp (left_aligned-cons k x cs (omega (arith, c))) (left_aligned-cons k y ds (omega (arith, d)))))
+    ∙ ap (ordering_then (nat_cmp (left_aligned (suc k) (x ∷ cs)) (left_aligned (suc k) (y ∷ ds)))) (suc_cmp (length cs) (length ds))
 
 -- ---- integers of 128 bits
 
@@ -91,16 +91,16 @@ of_other Equal p other = absurd (other refl)
 of_other Greater p other = refl
 
 module _ (y z : ℤ) (fits_y : SFits w128 y) (fits_z : SFits w128 z) where
-  told : lex (integer_contents y) (integer_contents z) ≡ ordering_then (nat_cmp (aligned 16 (integer_contents y)) (aligned 16 (integer_contents z))) (nat_cmp (length (integer_contents y)) (length (integer_contents z)))
-  told = lex-aligned 16 (integer_contents y) (integer_contents z) (integer_contents-are_octets y) (integer_contents-are_octets z) (wide_length y fits_y) (wide_length z fits_z)
+  told : lex (integer_contents y) (integer_contents z) ≡ ordering_then (nat_cmp (left_aligned 16 (integer_contents y)) (left_aligned 16 (integer_contents z))) (nat_cmp (length (integer_contents y)) (length (integer_contents z)))
+  told = lex-left_aligned 16 (integer_contents y) (integer_contents z) (integer_contents-are_octets y) (integer_contents-are_octets z) (wide_length y fits_y) (wide_length z fits_z)
 
   -- where the numbers are equal, the number of octets decides
-  pub integers_tied : nat_cmp (aligned 16 (integer_contents y)) (aligned 16 (integer_contents z)) ≡ Equal → nat_cmp (length (integer_contents y)) (length (integer_contents z)) ≡ lex (integer_contents y) (integer_contents z)
-  integers_tied e = sym (told ∙ of_equal (nat_cmp (aligned 16 (integer_contents y)) (aligned 16 (integer_contents z))) _ e)
+  pub integers_tied : nat_cmp (left_aligned 16 (integer_contents y)) (left_aligned 16 (integer_contents z)) ≡ Equal → nat_cmp (length (integer_contents y)) (length (integer_contents z)) ≡ lex (integer_contents y) (integer_contents z)
+  integers_tied e = sym (told ∙ of_equal (nat_cmp (left_aligned 16 (integer_contents y)) (left_aligned 16 (integer_contents z))) _ e)
 
   -- and else the numbers do
-  pub integers_told : (nat_cmp (aligned 16 (integer_contents y)) (aligned 16 (integer_contents z)) ≡ Equal → ⊥) → nat_cmp (aligned 16 (integer_contents y)) (aligned 16 (integer_contents z)) ≡ lex (integer_contents y) (integer_contents z)
-  integers_told other = sym (told ∙ of_other (nat_cmp (aligned 16 (integer_contents y)) (aligned 16 (integer_contents z))) _ other)
+  pub integers_told : (nat_cmp (left_aligned 16 (integer_contents y)) (left_aligned 16 (integer_contents z)) ≡ Equal → ⊥) → nat_cmp (left_aligned 16 (integer_contents y)) (left_aligned 16 (integer_contents z)) ≡ lex (integer_contents y) (integer_contents z)
+  integers_told other = sym (told ∙ of_other (nat_cmp (left_aligned 16 (integer_contents y)) (left_aligned 16 (integer_contents z))) _ other)
 
 -- ---- numbers of 128 bits that are not negative
 
@@ -143,11 +143,11 @@ pub both_long : (m n : ℕ) → 2 ^ 127 ≤ m → m < 2 ^ 128 → 2 ^ 127 ≤ n 
 both_long m n large_m fits_m large_n fits_n =
     let c = long_length m large_m fits_m in
     let d = long_length n large_n fits_n in
-    lex-aligned 17 (natural_contents m) (natural_contents n) (natural_contents-are_octets m) (natural_contents-are_octets n) (omega (arith, c)) (omega (arith, d))
+    lex-left_aligned 17 (natural_contents m) (natural_contents n) (natural_contents-are_octets m) (natural_contents-are_octets n) (omega (arith, c)) (omega (arith, d))
     ∙ ap₂ (λ o p. ordering_then o p) (ap₂ nat_cmp (whole m c) (whole n d)) (ap₂ nat_cmp c d)
     ∙ then_nothing (nat_cmp m n)
   where
-    whole : (k : ℕ) → length (natural_contents k) ≡ 17 → aligned 17 (natural_contents k) ≡ k
+    whole : (k : ℕ) → length (natural_contents k) ≡ 17 → left_aligned 17 (natural_contents k) ≡ k
     whole k l = ap (λ e. big_endian_number (natural_contents k) * 256 ^ (17 - e)) l ∙ omega (arith, number_natural_contents k)
 
     then_nothing : (o : Ordering) → ordering_then o (nat_cmp 17 17) ≡ o

@@ -3,7 +3,7 @@ use Rattle.std.proofs.Common.{◌≡◌, ℕ, ◌+◌, ◌<◌, List, [], ◌∷
 use Rattle.std.proofs.Math.Seq.{take-add, take-length}
 use Rattle.std.proofs.lemmas.List.{flat_map_more, length-take, length-drop, append-nil, drop-drop}
 use Rattle.der_tlv.specs.declared.error.ErrorKind.{ErrorKind}
-use Rattle.der_tlv.specs.ReaderState.{ReaderState, IsReaderState, rest, after_read, seen}
+use Rattle.der_tlv.specs.ReaderState.{ReaderState, IsReaderState, rest, after_read, unless_failed}
 use Rattle.der_elem.specs.declared.form.Form as form
 use Rattle.der_elem.specs.Decoding.{Faults, Decoded}
 use Rattle.der_elem.specs.Items.{AcceptsItems, join_items, then_items, parse_items}
@@ -58,10 +58,10 @@ module _ {T : Type 0} {F : form.Ghosts T} {old now : ReaderState} {vs : List T} 
   rest_now = ap rest so_far.after ∙ rest-after_read old so_far.taken
 
   -- a fault of the next item is one of the list
-  pub items_fault : old.failed ≡ false → 0 < length (rest now) → (memory : Bool) (kind : ErrorKind) → Faults memory (seen (F.parse now.rules) now) kind → Faults true (seen (parse_items F.parse old.rules) old) kind
+  pub items_fault : old.failed ≡ false → 0 < length (rest now) → (memory : Bool) (kind : ErrorKind) → Faults memory (unless_failed (F.parse now.rules) now) kind → Faults true (unless_failed (parse_items F.parse old.rules) old) kind
   items_fault ready some memory kind faults =
-      let seen_items : seen (parse_items F.parse old.rules) old ≡ parse_items F.parse old.rules old.position (rest old) = rw ready refl in
-      let seen_item : seen (F.parse now.rules) now ≡ F.parse old.rules now.position (rest now) = rw (still_ready ready, same_rules) refl in
+      let seen_items : unless_failed (parse_items F.parse old.rules) old ≡ parse_items F.parse old.rules old.position (rest old) = rw ready refl in
+      let seen_item : unless_failed (F.parse now.rules) now ≡ F.parse old.rules now.position (rest now) = rw (still_ready ready, same_rules) refl in
       elim faults [
         | inl m ↦ inl (m.0, refl)
         | inr e ↦ inr (seen_items ∙ so_far.left ∙ ap (join_items (flat_map F.encoding vs)) (parse_items-step F.parse old.rules now.position (rest now) some ∙ ap (λ r. then_items r (λ n. parse_items F.parse old.rules (now.position + n) (drop n (rest now)))) (sym seen_item ∙ e)))

@@ -48,11 +48,11 @@ pub decided_at : {T : Type 0} (R : T → T → Ordering) (vs ws : List T) (i : �
 decided_at R vs ws i v w o h k e f before is ne =
     is ∙ sym (before ∙ cmp_at R vs ws i v w h k e f ∙ then_decided (R v w) (slice_cmp R (drop (i + 1) vs) (drop (i + 1) ws)) (λ e. ne (is ∙ e)))
 
-one_form_at : {T : Type 0} (one_form : T → T → Type 0) (vs ws : List T) (i : ℕ) (v w : T) → i < length vs → i < length ws → get_or vs i v ≡ v → get_or ws i w ≡ w → OneForms one_form vs ws → one_form v w
-one_form_at one_form [] ws i v w h k e f o = absurd (omega arith)
-one_form_at one_form (x ∷ vs) [] i v w h k e f o = absurd (omega arith)
-one_form_at one_form (x ∷ vs) (y ∷ ws) zero v w h k e f (o, os) = subst (λ x. one_form x w) e (subst (λ y. one_form x y) f o)
-one_form_at one_form (x ∷ vs) (y ∷ ws) (suc i) v w h k e f (o, os) = one_form_at one_form vs ws i v w (omega arith) (omega arith) e f os
+comparable_at : {T : Type 0} (comparable : T → T → Type 0) (vs ws : List T) (i : ℕ) (v w : T) → i < length vs → i < length ws → get_or vs i v ≡ v → get_or ws i w ≡ w → OneForms comparable vs ws → comparable v w
+comparable_at comparable [] ws i v w h k e f o = absurd (omega arith)
+comparable_at comparable (x ∷ vs) [] i v w h k e f o = absurd (omega arith)
+comparable_at comparable (x ∷ vs) (y ∷ ws) zero v w h k e f (o, os) = subst (λ x. comparable x w) e (subst (λ y. comparable x y) f o)
+comparable_at comparable (x ∷ vs) (y ∷ ws) (suc i) v w h k e f (o, os) = comparable_at comparable vs ws i v w (omega arith) (omega arith) e f os
 
 -- where two items have no comparison, their lists have none
 module _ {T : Type 0} (F : form.Ghosts T) (vs ws : List T) (i : ℕ) (v w : T) (h : i < length vs) (k : i < length ws) (e : get_or vs i v ≡ v) (f : get_or ws i w ≡ w) where
@@ -61,7 +61,7 @@ module _ {T : Type 0} (F : form.Ghosts T) (vs ws : List T) (i : ℕ) (v w : T) (
     | inl a ↦ inl (omega (arith, length_at F.encoding vs i v h e))
     | inr b ↦ inr (omega (arith, length_at F.encoding ws i w k f))
   ]
-  incomparable_item (Value tag) why = λ o. why.0 (one_form_at F.one_form vs ws i v w h k e f o)
+  incomparable_item (Value tag) why = λ o. why.0 (comparable_at F.comparable vs ws i v w h k e f o)
   incomparable_item Memory why = elim why [
     | inl a ↦ inl (re_reads_at F.re_reads vs i v h e a)
     | inr b ↦ inr (re_reads_at F.re_reads ws i w k f b)

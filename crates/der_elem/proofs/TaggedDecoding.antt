@@ -9,7 +9,7 @@ use Rattle.der_tlv.specs.Identifier.{same_identifier}
 use Rattle.der_tlv.specs.HeaderOctets.{tlv}
 use Rattle.der_tlv.specs.HeaderReading.{read_header, octets_of}
 use Rattle.der_tlv.specs.Reading.{HeadFault, OctetsRefused}
-use Rattle.der_tlv.specs.ReaderState.{ReaderState, rest, seen}
+use Rattle.der_tlv.specs.ReaderState.{ReaderState, rest, unless_failed}
 use Rattle.der_elem.specs.declared.form.FormValue as value
 use Rattle.der_elem.specs.Parsing.{ContentsParse, parse_tagged, parse_with_tag, tagged_contents}
 use Rattle.der_elem.specs.Accepting.{accepts_tagged}
@@ -17,20 +17,20 @@ use Rattle.der_elem.specs.Decoding.{Faults, ValueDecoded, ValueNotDecoded}
 use Rattle.der_elem.proofs.AtContents.{AtHeader, AtContents, parse_own_tag, parse_other_tag, parse_too_long, shown_ready, shown_rules, parse_shown, taken}
 
 -- the header's fault is that of the whole encoding
-pub header_fault : {old new : ReaderState} {kind : ErrorKind} → HeadFault read_header old new kind → (t : Tag) (parse : ContentsParse) (rules : EncodingRules) → seen (parse_tagged t parse rules) old ≡ Err kind
+pub header_fault : {old new : ReaderState} {kind : ErrorKind} → HeadFault read_header old new kind → (t : Tag) (parse : ContentsParse) (rules : EncodingRules) → unless_failed (parse_tagged t parse rules) old ≡ Err kind
 unfolding parse_tagged
 header_fault {old} {new} {kind} fault t parse rules = at old.failed refl
   where
-    at : (b : Bool) → old.failed ≡ b → seen (parse_tagged t parse rules) old ≡ Err kind
+    at : (b : Bool) → old.failed ≡ b → unless_failed (parse_tagged t parse rules) old ≡ Err kind
     at true e = let there = rw e at fault.fault_is in let k : Failed ≡ kind = cc in rw e (ap Err k)
     at false e =
         let there : read_header old.position (rest old) ≡ Err kind = rw e at fault.fault_is in
         rw e (ap (parse_with_tag t parse rules old.position (rest old)) there)
 
-pub other_tag_fault : {header : Header} {old mid : ReaderState} → AtHeader header old mid → (t : Tag) → same_identifier header.tag t ≡ false → (parse : ContentsParse) (rules : EncodingRules) → seen (parse_tagged t parse rules) old ≡ Err (TagUnexpected (Some t) header.tag)
+pub other_tag_fault : {header : Header} {old mid : ReaderState} → AtHeader header old mid → (t : Tag) → same_identifier header.tag t ≡ false → (parse : ContentsParse) (rules : EncodingRules) → unless_failed (parse_tagged t parse rules) old ≡ Err (TagUnexpected (Some t) header.tag)
 other_tag_fault at t e parse rules = rw at.head.ready (parse_other_tag at t e parse rules)
 
-pub too_long_fault : {header : Header} {old mid new : ReaderState} {kind : ErrorKind} → AtHeader header old mid → OctetsRefused mid new header.length kind → (t : Tag) → header.tag ≡ t → (parse : ContentsParse) (rules : EncodingRules) → seen (parse_tagged t parse rules) old ≡ Err kind
+pub too_long_fault : {header : Header} {old mid new : ReaderState} {kind : ErrorKind} → AtHeader header old mid → OctetsRefused mid new header.length kind → (t : Tag) → header.tag ≡ t → (parse : ContentsParse) (rules : EncodingRules) → unless_failed (parse_tagged t parse rules) old ≡ Err kind
 too_long_fault at refused t e parse rules = rw at.head.ready (parse_own_tag at t e parse rules ∙ parse_too_long at refused parse rules)
 
 module _ {T : Type 0} (F : value.Ghosts T) (t : Tag) {header : Header} {old mid shown : ReaderState} {end : ℕ} (c : AtContents header old mid shown end) (same : header.tag ≡ t) where
@@ -38,7 +38,7 @@ module _ {T : Type 0} (F : value.Ghosts T) (t : Tag) {header : Header} {old mid 
   parse_all = parse_own_tag c.at t same F.parse_value old.rules ∙ parse_shown c F.parse_value old.rules
 
   -- the fault of the contents octets
-  pub contents_fault : {kind : ErrorKind} → ValueNotDecoded F shown kind → Faults F.VALUE_TAKES_MEMORY (seen (parse_tagged t F.parse_value old.rules) old) kind
+  pub contents_fault : {kind : ErrorKind} → ValueNotDecoded F shown kind → Faults F.VALUE_TAKES_MEMORY (unless_failed (parse_tagged t F.parse_value old.rules) old) kind
   contents_fault {kind} told =
       elim told.reason [
         | inl m ↦ inl m

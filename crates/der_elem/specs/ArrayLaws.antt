@@ -9,7 +9,7 @@ use Rattle.der_elem.specs.declared.form.Form as form
 use Rattle.der_elem.specs.Parsing.{Parse}
 use Rattle.der_elem.specs.Accepting.{Fits}
 use Rattle.der_elem.specs.Items.{AcceptsItems, EachItem, OneForms, join_items}
-use Rattle.der_elem.specs.ItemLaws.{first_fits, others_fit, same_length_items, one_form_items}
+use Rattle.der_elem.specs.ItemLaws.{first_fits, others_fit, same_length_items, comparable_items}
 use Rattle.der_elem.specs.Arrays.{AcceptsArray, ReadableArray, then_item, too_many, parse_array}
 
 pub parse_array-end : (parse : Parse) (rules : EncodingRules) (p : ℕ) → parse_array 0 parse rules p [] ≡ Ok []
@@ -66,8 +66,8 @@ module _ {T : Type 0} (F : form.Ghosts T) (rules : EncodingRules) where
   pub readable_array : (count : ℕ) (vs : List T) (c : List ℕ) → AcceptsArray (F.accepts rules) count vs c → ReadableArray F.readable F.encoding count vs
   readable_array count vs c a = (a.0, readable_each vs c a.1)
 
-  pub one_form_array : (count : ℕ) (vs ws : List T) (c d : List ℕ) → AcceptsArray (F.accepts rules) count vs c → AcceptsArray (F.accepts rules) count ws d → OneForms F.one_form vs ws
-  one_form_array count vs ws c d a b = one_form_items F rules vs ws c d (accepts_parts (F.accepts rules) vs c a.1) (accepts_parts (F.accepts rules) ws d b.1)
+  pub comparable_array : (count : ℕ) (vs ws : List T) (c d : List ℕ) → AcceptsArray (F.accepts rules) count vs c → AcceptsArray (F.accepts rules) count ws d → OneForms F.comparable vs ws
+  comparable_array count vs ws c d a b = comparable_items F rules vs ws c d (accepts_parts (F.accepts rules) vs c a.1) (accepts_parts (F.accepts rules) ws d b.1)
 
 module _ {T : Type 0} (F : form.Ghosts T) where
   -- a list re-reads only if one of its items does

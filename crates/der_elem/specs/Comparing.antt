@@ -13,7 +13,7 @@ use Rattle.der_elem.specs.declared.form.Form as form
 -- why the contents octets of two values are not compared: no length says how many one has, no form has both, or memory ran out where items are read again
 abbrev pub IncomparableValues : {T : Type 0} → value.Ghosts T → T → T → ErrorKind → Type 0
 IncomparableValues F x y Overflow = (2 ^ 32 ≤ length (F.contents x)) ⊎ (2 ^ 32 ≤ length (F.contents y))
-IncomparableValues F x y (Value tag) = F.one_form_value x y → ⊥
+IncomparableValues F x y (Value tag) = F.comparable_value x y → ⊥
 IncomparableValues F x y Memory = (F.re_reads_value x ≡ true) ⊎ (F.re_reads_value y ≡ true)
 IncomparableValues F x y _ = ⊥
 
@@ -34,7 +34,7 @@ pub record SameHeader (a b : List ℕ) : Type 0 where
 -- why two values have no comparison: no length says how many octets one has, no form has both although their headers are equal, or memory ran out where items are read again
 abbrev pub Incomparable : {T : Type 0} → form.Ghosts T → T → T → ErrorKind → Type 0
 Incomparable F x y Overflow = (2 ^ 32 ≤ length (F.encoding x)) ⊎ (2 ^ 32 ≤ length (F.encoding y))
-Incomparable F x y (Value tag) = (F.one_form x y → ⊥) × SameHeader (F.encoding x) (F.encoding y)
+Incomparable F x y (Value tag) = (F.comparable x y → ⊥) × SameHeader (F.encoding x) (F.encoding y)
 Incomparable F x y Memory = (F.re_reads x ≡ true) ⊎ (F.re_reads y ≡ true)
 Incomparable F x y _ = ⊥
 

@@ -12,7 +12,7 @@ use Rattle.der_elem.specs.Items.{OneForms}
 -- why the contents octets of two lists are not compared: no length says how many one has, no form has both, or memory ran out where items are read again
 abbrev pub IncomparableItems : {T : Type 0} → form.Ghosts T → List T → List T → ErrorKind → Type 0
 IncomparableItems F vs ws Overflow = (2 ^ 32 ≤ length (flat_map F.encoding vs)) ⊎ (2 ^ 32 ≤ length (flat_map F.encoding ws))
-IncomparableItems F vs ws (Value tag) = OneForms F.one_form vs ws → ⊥
+IncomparableItems F vs ws (Value tag) = OneForms F.comparable vs ws → ⊥
 IncomparableItems F vs ws Memory = (list_any F.re_reads vs ≡ true) ⊎ (list_any F.re_reads ws ≡ true)
 IncomparableItems F vs ws _ = ⊥
 

@@ -10,8 +10,8 @@ module _ {T : Type 0} (F : form.Ghosts T) (is_copy : T → T → Type 0) where
   copies_encoding same (v ∷ vs) [] c = absurd c
   copies_encoding same (v ∷ vs) (w ∷ ws) (c, cs) = ap (λ s. s ++ flat_map F.encoding ws) (same v w c) ∙ ap (λ s. F.encoding v ++ s) (copies_encoding same vs ws cs)
 
-  pub copies_form : (copy_form : (v w x : T) → is_copy v w → F.one_form v x → F.one_form w x) (vs ws xs : List T) → AreCopies is_copy vs ws → OneForms F.one_form vs xs → OneForms F.one_form ws xs
-  copies_form same [] ws xs c o = subst (λ ws. OneForms F.one_form ws xs) (sym c) o
+  pub copies_form : (copy_form : (v w x : T) → is_copy v w → F.comparable v x → F.comparable w x) (vs ws xs : List T) → AreCopies is_copy vs ws → OneForms F.comparable vs xs → OneForms F.comparable ws xs
+  copies_form same [] ws xs c o = subst (λ ws. OneForms F.comparable ws xs) (sym c) o
   copies_form same (v ∷ vs) [] xs c o = absurd c
   copies_form same (v ∷ vs) (w ∷ ws) [] c o = tt
   copies_form same (v ∷ vs) (w ∷ ws) (x ∷ xs) (c, cs) (o, os) = (same v w x c o, copies_form same vs ws xs cs os)

@@ -5,7 +5,7 @@ use Rattle.der_tlv.specs.declared.error.ErrorKind.TheVariants.{Memory, Overflow,
 use Rattle.der_tlv.specs.declared.error.Error.{Error}
 use Rattle.der_tlv.specs.declared.header.Header.{Header}
 use Rattle.der_tlv.specs.declared.encoding_rules.EncodingRules.TheVariants.{Der}
-use Rattle.der_tlv.specs.ReaderState.{ReaderState, after_read, rest, seen}
+use Rattle.der_tlv.specs.ReaderState.{ReaderState, after_read, rest, unless_failed}
 use Rattle.der_tlv.specs.Reading.{Refused}
 use Rattle.der_elem.specs.Parsing.{Parse}
 use Rattle.der_elem.specs.declared.form.FormValue as value
@@ -25,7 +25,7 @@ pub record Decoded {T : Type 0} (F : form.Ghosts T) (old new : ReaderState) (v :
 
 -- no value was decoded: why, and what that leaves
 pub record NotDecoded {T : Type 0} (F : form.Ghosts T) (old new : ReaderState) (kind : ErrorKind) : Type 0 where
-  pub reason : Faults F.TAKES_MEMORY (seen (F.parse old.rules) old) kind
+  pub reason : Faults F.TAKES_MEMORY (unless_failed (F.parse old.rules) old) kind
   pub reader : Refused old new kind
 
 -- what decoding a value answers
@@ -43,7 +43,7 @@ pub record ValueDecoded {T : Type 0} (F : value.Ghosts T) (header : Header) (old
 
 -- no value was decoded from contents octets, for this reason
 pub record ValueNotDecoded {T : Type 0} (F : value.Ghosts T) (old : ReaderState) (kind : ErrorKind) : Type 0 where
-  pub reason : Faults F.VALUE_TAKES_MEMORY (seen (F.parse_value old.rules) old) kind
+  pub reason : Faults F.VALUE_TAKES_MEMORY (unless_failed (F.parse_value old.rules) old) kind
 
 -- what decoding contents octets answers, of a reader that shows as many octets as the header says
 abbrev pub DecodesValue : {T : Type 0} → value.Ghosts T → Header → ReaderState → ReaderState → Result T Error → Type 0

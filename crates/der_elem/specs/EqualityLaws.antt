@@ -23,8 +23,8 @@ module _ {T : Type 0} (tag_of : T → Tag) (contents encoding : T → List ℕ) 
       let same = tlv-unique (tag_of v) (tag_of w) (contents v) (contents w) x y f in
       (encoding_is v ∙ ap (λ t. tlv t (contents v)) same.0 ∙ ap (tlv (tag_of w)) same.1 ∙ sym (encoding_is w), same.2)
 
-  module _ (one_form : T → T → Type 0) (eq : T → T → Bool) (encoding_eq : (v w : T) → one_form v w → IsTrue (eq v w) ↔ (encoding v ≡ encoding w)) where
-    pub items_eq : (vs ws : List T) → OneForms one_form vs ws → IsTrue (pointwise eq vs ws) ↔ (flat_map encoding vs ≡ flat_map encoding ws)
+  module _ (comparable : T → T → Type 0) (eq : T → T → Bool) (encoding_eq : (v w : T) → comparable v w → IsTrue (eq v w) ↔ (encoding v ≡ encoding w)) where
+    pub items_eq : (vs ws : List T) → OneForms comparable vs ws → IsTrue (pointwise eq vs ws) ↔ (flat_map encoding vs ≡ flat_map encoding ws)
     items_eq [] [] o = (λ _. refl, λ _. refl)
     items_eq [] (w ∷ ws) o = (λ h. absurd (cc), λ h. let some = encoding-some tag_of contents encoding encoding_is w in absurd (omega (arith, ap length h, length-append (encoding w) (flat_map encoding ws))))
     items_eq (v ∷ vs) [] o = (λ h. absurd (cc), λ h. let some = encoding-some tag_of contents encoding encoding_is v in absurd (omega (arith, ap length h, length-append (encoding v) (flat_map encoding vs))))

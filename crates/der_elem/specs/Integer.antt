@@ -12,8 +12,8 @@ abbrev pub big_endian_number : List ℕ → ℕ
 big_endian_number octets = number_from_digits 256 octets
 
 -- the number of octets that have zeros behind them, up to k octets
-abbrev pub aligned : ℕ → List ℕ → ℕ
-aligned k octets = big_endian_number octets * 256 ^ (k - length octets)
+abbrev pub left_aligned : ℕ → List ℕ → ℕ
+left_aligned k octets = big_endian_number octets * 256 ^ (k - length octets)
 
 -- base-256 digits with an octet 00 before them where there are none, or the first has its bit 8 set
 abbrev pub with_sign_octet : List ℕ → List ℕ
@@ -25,17 +25,17 @@ unfoldable pub natural_contents : ℕ → List ℕ
 natural_contents number = with_sign_octet (digits_of 256 number)
 
 -- the octets with each bit inverted
-abbrev pub complemented : List ℕ → List ℕ
-complemented octets = map (λ octet. 255 - octet) octets
+abbrev pub complement_octets : List ℕ → List ℕ
+complement_octets octets = map (λ octet. 255 - octet) octets
 
 -- the same where the flag is set, and else the octets as they are
-abbrev pub complemented_if : Bool → List ℕ → List ℕ
-complemented_if negative octets = cond negative (complemented octets) octets
+abbrev pub complement_octets_if : Bool → List ℕ → List ℕ
+complement_octets_if negative octets = cond negative (complement_octets octets) octets
 
 -- the contents octets of an integer: its two's complement, in the fewest octets (X.690 8.3.2, 8.3.3)
 unfoldable pub integer_contents : ℤ → List ℕ
 integer_contents (pos number) = natural_contents number
-integer_contents (negsuc number) = complemented (natural_contents number)
+integer_contents (negsuc number) = complement_octets (natural_contents number)
 
 -- the integer that contents octets are the two's complement of (X.690 8.3.3)
 abbrev pub twos_complement : List ℕ → ℤ

@@ -9,7 +9,7 @@ use Rattle.std.proofs.lemmas.Nat.{leading_length, pow-add}
 use Rattle.std.specs.Int.{complement_if, leading_zeros, w128}
 use Rattle.std.specs.Int.Signed.{mag}
 use Rattle.std.specs.Int.Digits.{digits_of, number_from_digits, number_from_digits_after}
-use Rattle.der_elem.specs.Integer.{AreOctets, big_endian_number, with_sign_octet, natural_contents, complemented, complemented_if, integer_contents, twos_complement, is_redundant, FitsSignedWidth, FitsUnsignedOctets, fits_unsigned}
+use Rattle.der_elem.specs.Integer.{AreOctets, big_endian_number, with_sign_octet, natural_contents, complement_octets, complement_octets_if, integer_contents, twos_complement, is_redundant, FitsSignedWidth, FitsUnsignedOctets, fits_unsigned}
 
 -- ---- the contents of a number that is not negative, an octet at a time
 
@@ -309,43 +309,43 @@ natural_contents-shortest octets all some small = omega (arith, natural_contents
 -- ---- octets with each bit inverted
 
 -- as many octets
-pub length-complemented : (octets : List ℕ) → length (complemented octets) ≡ length octets
-length-complemented [] = refl
-length-complemented (octet ∷ octets) = ap suc (length-complemented octets)
+pub length-complement_octets : (octets : List ℕ) → length (complement_octets octets) ≡ length octets
+length-complement_octets [] = refl
+length-complement_octets (octet ∷ octets) = ap suc (length-complement_octets octets)
 
 -- each of them is an octet
-pub complemented-are_octets : (octets : List ℕ) → AreOctets (complemented octets)
-complemented-are_octets [] = tt
-complemented-are_octets (octet ∷ octets) = (omega arith, complemented-are_octets octets)
+pub complement_octets-are_octets : (octets : List ℕ) → AreOctets (complement_octets octets)
+complement_octets-are_octets [] = tt
+complement_octets-are_octets (octet ∷ octets) = (omega arith, complement_octets-are_octets octets)
 
 -- inverted twice, the octets are back
-pub complemented-twice : (octets : List ℕ) → AreOctets octets → complemented (complemented octets) ≡ octets
-complemented-twice [] all = refl
-complemented-twice (octet ∷ octets) all = let same : 255 - (255 - octet) ≡ octet = omega (arith, all.0) in ap₂ ◌∷◌ same (complemented-twice octets all.1)
+pub complement_octets-twice : (octets : List ℕ) → AreOctets octets → complement_octets (complement_octets octets) ≡ octets
+complement_octets-twice [] all = refl
+complement_octets-twice (octet ∷ octets) all = let same : 255 - (255 - octet) ≡ octet = omega (arith, all.0) in ap₂ ◌∷◌ same (complement_octets-twice octets all.1)
 
 -- the two numbers of octets and of their inverse, with m and n before them
-number_after-complemented : (m n : ℕ) (octets : List ℕ) → AreOctets octets → number_from_digits_after 256 m (complemented octets) + number_from_digits_after 256 n octets + 1 ≡ (m + n + 1) * 256 ^ length octets
-number_after-complemented m n [] all = omega (arith, ap (λ p. (m + n + 1) * p) (pow-zero 256))
-number_after-complemented m n (octet ∷ octets) all =
-    number_after-complemented (m * 256 + (255 - octet)) (n * 256 + octet) octets all.1
+number_after-complement_octets : (m n : ℕ) (octets : List ℕ) → AreOctets octets → number_from_digits_after 256 m (complement_octets octets) + number_from_digits_after 256 n octets + 1 ≡ (m + n + 1) * 256 ^ length octets
+number_after-complement_octets m n [] all = omega (arith, ap (λ p. (m + n + 1) * p) (pow-zero 256))
+number_after-complement_octets m n (octet ∷ octets) all =
+    number_after-complement_octets (m * 256 + (255 - octet)) (n * 256 + octet) octets all.1
     ∙ (let inverted : 255 - octet + octet ≡ 255 = omega (arith, all.0) in omega (arith, ap (λ p. (m + n + 1) * p) (pow-suc 256 (length octets)), ap (λ v. v * 256 ^ length octets) inverted))
 
 -- the two numbers of octets and of their inverse are together 256 ^ length - 1
-pub number-complemented : (octets : List ℕ) → AreOctets octets → big_endian_number (complemented octets) + big_endian_number octets + 1 ≡ 256 ^ length octets
-number-complemented octets all = number_after-complemented 0 0 octets all ∙ omega arith
+pub number-complement_octets : (octets : List ℕ) → AreOctets octets → big_endian_number (complement_octets octets) + big_endian_number octets + 1 ≡ 256 ^ length octets
+number-complement_octets octets all = number_after-complement_octets 0 0 octets all ∙ omega arith
 
 -- the first octet is the inverse of the first
-pub complemented-first : (octets : List ℕ) → 0 < length octets → slice_index (complemented octets) 0 ≡ 255 - slice_index octets 0
-complemented-first [] some = absurd (omega arith)
-complemented-first (first ∷ rest) some = refl
+pub complement_octets-first : (octets : List ℕ) → 0 < length octets → slice_index (complement_octets octets) 0 ≡ 255 - slice_index octets 0
+complement_octets-first [] some = absurd (omega arith)
+complement_octets-first (first ∷ rest) some = refl
 
 -- octets that are not redundant are not when inverted
-pub complemented-needed : (octets : List ℕ) → AreOctets octets → is_redundant octets ≡ false → is_redundant (complemented octets) ≡ false
-complemented-needed [] all needed = refl
-complemented-needed (first ∷ []) all needed = refl
-complemented-needed (first ∷ second ∷ rest) all needed =
+pub complement_octets-needed : (octets : List ℕ) → AreOctets octets → is_redundant octets ≡ false → is_redundant (complement_octets octets) ≡ false
+complement_octets-needed [] all needed = refl
+complement_octets-needed (first ∷ []) all needed = refl
+complement_octets-needed (first ∷ second ∷ rest) all needed =
     let between = between_redundant first second rest all.0 all.1.0 needed in
-    is_redundant-false (255 - first) (255 - second) (complemented rest) (omega arith) (omega arith) (omega (arith, between.0, between.1, all.0, all.1.0)) (omega (arith, between.0, between.1, all.0, all.1.0))
+    is_redundant-false (255 - first) (255 - second) (complement_octets rest) (omega arith) (omega arith) (omega (arith, between.0, between.1, all.0, all.1.0)) (omega (arith, between.0, between.1, all.0, all.1.0))
 
 -- ---- the contents of an integer
 
@@ -355,12 +355,12 @@ unfolding integer_contents
 integer_contents-pos n = refl
 
 -- the contents of -1 - n are those of n, inverted
-pub integer_contents-negsuc : (n : ℕ) → integer_contents (negsuc n) ≡ complemented (natural_contents n)
+pub integer_contents-negsuc : (n : ℕ) → integer_contents (negsuc n) ≡ complement_octets (natural_contents n)
 unfolding integer_contents
 integer_contents-negsuc n = refl
 
 -- both in one, with the sign as a flag
-pub integer_contents-complement_if : (negative : Bool) (n : ℕ) → integer_contents (complement_if negative n) ≡ complemented_if negative (natural_contents n)
+pub integer_contents-complement_if : (negative : Bool) (n : ℕ) → integer_contents (complement_if negative n) ≡ complement_octets_if negative (natural_contents n)
 integer_contents-complement_if false n = integer_contents-pos n
 integer_contents-complement_if true n = integer_contents-negsuc n
 
@@ -372,12 +372,12 @@ mag-complement_if true n = refl
 -- each of the contents is an octet
 pub integer_contents-are_octets : (z : ℤ) → AreOctets (integer_contents z)
 integer_contents-are_octets (pos n) = subst AreOctets (sym (integer_contents-pos n)) (natural_contents-are_octets n)
-integer_contents-are_octets (negsuc n) = subst AreOctets (sym (integer_contents-negsuc n)) (complemented-are_octets (natural_contents n))
+integer_contents-are_octets (negsuc n) = subst AreOctets (sym (integer_contents-negsuc n)) (complement_octets-are_octets (natural_contents n))
 
 -- as many octets as the number has, or the number -1 - z of a negative z
 pub integer_contents-length : (z : ℤ) → length (integer_contents z) ≡ length (natural_contents (mag z))
 integer_contents-length (pos n) = ap length (integer_contents-pos n)
-integer_contents-length (negsuc n) = ap length (integer_contents-negsuc n) ∙ length-complemented (natural_contents n)
+integer_contents-length (negsuc n) = ap length (integer_contents-negsuc n) ∙ length-complement_octets (natural_contents n)
 
 -- there is at least one (X.690 8.3.1)
 pub integer_contents-some : (z : ℤ) → 0 < length (integer_contents z)
@@ -386,7 +386,7 @@ integer_contents-some z = omega (arith, integer_contents-length z, natural_conte
 -- no octet is redundant (X.690 8.3.2)
 pub integer_contents-needed : (z : ℤ) → is_redundant (integer_contents z) ≡ false
 integer_contents-needed (pos n) = ap is_redundant (integer_contents-pos n) ∙ natural_contents-needed n
-integer_contents-needed (negsuc n) = ap is_redundant (integer_contents-negsuc n) ∙ complemented-needed (natural_contents n) (natural_contents-are_octets n) (natural_contents-needed n)
+integer_contents-needed (negsuc n) = ap is_redundant (integer_contents-negsuc n) ∙ complement_octets-needed (natural_contents n) (natural_contents-are_octets n) (natural_contents-needed n)
 
 -- bit 8 of the first octet is the sign: zero where the integer is not negative
 pub integer_contents-pos_first : (n : ℕ) → slice_index (integer_contents (pos n)) 0 < 128
@@ -394,7 +394,7 @@ integer_contents-pos_first n = omega (arith, ap (λ c. slice_index c 0) (integer
 
 -- and it is set where the integer is negative
 pub integer_contents-negsuc_first : (n : ℕ) → 128 ≤ slice_index (integer_contents (negsuc n)) 0
-integer_contents-negsuc_first n = omega (arith, ap (λ c. slice_index c 0) (integer_contents-negsuc n), complemented-first (natural_contents n) (natural_contents-some n), natural_contents-first n)
+integer_contents-negsuc_first n = omega (arith, ap (λ c. slice_index c 0) (integer_contents-negsuc n), complement_octets-first (natural_contents n) (natural_contents-some n), natural_contents-first n)
 
 -- ---- the integer that octets are the two's complement of
 
@@ -407,16 +407,16 @@ less-ℤ : (n p less : ℕ) → less + n + 1 ≡ p → pos n -ℤ pos p ≡ negs
 less-ℤ n p less sum = omega (arith, ints)
 
 -- where it is set: -1 - n, with n the number of the inverted octets
-pub twos_complement-negsuc : (octets : List ℕ) → AreOctets octets → 128 ≤ slice_index octets 0 → twos_complement octets ≡ negsuc (big_endian_number (complemented octets))
+pub twos_complement-negsuc : (octets : List ℕ) → AreOctets octets → 128 ≤ slice_index octets 0 → twos_complement octets ≡ negsuc (big_endian_number (complement_octets octets))
 twos_complement-negsuc octets all large =
     ap (λ t. cond t (pos (big_endian_number octets)) (pos (big_endian_number octets) -ℤ pos (256 ^ length octets))) (le-ltb (slice_index octets 0) 128 large)
-    ∙ less-ℤ (big_endian_number octets) (256 ^ length octets) (big_endian_number (complemented octets)) (number-complemented octets all)
+    ∙ less-ℤ (big_endian_number octets) (256 ^ length octets) (big_endian_number (complement_octets octets)) (number-complement_octets octets all)
 
 -- both in one, with the sign as a flag
-pub twos_complement-complement_if : (octets : List ℕ) → AreOctets octets → twos_complement octets ≡ complement_if (nat_le 128 (slice_index octets 0)) (big_endian_number (complemented_if (nat_le 128 (slice_index octets 0)) octets))
+pub twos_complement-complement_if : (octets : List ℕ) → AreOctets octets → twos_complement octets ≡ complement_if (nat_le 128 (slice_index octets 0)) (big_endian_number (complement_octets_if (nat_le 128 (slice_index octets 0)) octets))
 twos_complement-complement_if octets all = elim (cases_lt (slice_index octets 0) 128) [
-  | inl small ↦ let test : nat_le 128 (slice_index octets 0) ≡ false = grind (arith, nat_tests) in twos_complement-pos octets small ∙ ap (λ t. complement_if t (big_endian_number (complemented_if t octets))) (sym test)
-  | inr large ↦ let test : nat_le 128 (slice_index octets 0) ≡ true = grind (arith, nat_tests) in twos_complement-negsuc octets all large ∙ ap (λ t. complement_if t (big_endian_number (complemented_if t octets))) (sym test)
+  | inl small ↦ let test : nat_le 128 (slice_index octets 0) ≡ false = grind (arith, nat_tests) in twos_complement-pos octets small ∙ ap (λ t. complement_if t (big_endian_number (complement_octets_if t octets))) (sym test)
+  | inr large ↦ let test : nat_le 128 (slice_index octets 0) ≡ true = grind (arith, nat_tests) in twos_complement-negsuc octets all large ∙ ap (λ t. complement_if t (big_endian_number (complement_octets_if t octets))) (sym test)
 ]
 
 -- reading what was written gives the integer back
@@ -427,8 +427,8 @@ twos_complement_integer_contents (pos n) =
     ∙ ap pos (number_natural_contents n)
 twos_complement_integer_contents (negsuc n) =
     twos_complement-negsuc (integer_contents (negsuc n)) (integer_contents-are_octets (negsuc n)) (integer_contents-negsuc_first n)
-    ∙ ap (λ c. negsuc (big_endian_number (complemented c))) (integer_contents-negsuc n)
-    ∙ ap (λ c. negsuc (big_endian_number c)) (complemented-twice (natural_contents n) (natural_contents-are_octets n))
+    ∙ ap (λ c. negsuc (big_endian_number (complement_octets c))) (integer_contents-negsuc n)
+    ∙ ap (λ c. negsuc (big_endian_number c)) (complement_octets-twice (natural_contents n) (natural_contents-are_octets n))
     ∙ ap negsuc (number_natural_contents n)
 
 -- writing what was read gives the octets back, where none is redundant
@@ -440,9 +440,9 @@ integer_contents_twos_complement octets all some needed = elim (cases_lt (slice_
       ∙ natural_contents-of_octets octets all some small needed
   | inr large ↦
       ap integer_contents (twos_complement-negsuc octets all large)
-      ∙ integer_contents-negsuc (big_endian_number (complemented octets))
-      ∙ ap complemented (natural_contents-of_octets (complemented octets) (complemented-are_octets octets) (omega (arith, length-complemented octets)) (omega (arith, complemented-first octets some)) (complemented-needed octets all needed))
-      ∙ complemented-twice octets all
+      ∙ integer_contents-negsuc (big_endian_number (complement_octets octets))
+      ∙ ap complement_octets (natural_contents-of_octets (complement_octets octets) (complement_octets-are_octets octets) (omega (arith, length-complement_octets octets)) (omega (arith, complement_octets-first octets some)) (complement_octets-needed octets all needed))
+      ∙ complement_octets-twice octets all
 ]
 
 -- two integers with the same contents are the same
@@ -463,7 +463,7 @@ integer_contents-fits z k within = natural_contents-fits (mag z) k (omega (arith
 pub twos_complement-fits : (octets : List ℕ) (k : ℕ) → AreOctets octets → 0 < length octets → length octets ≤ k + 1 → mag (twos_complement octets) < 128 * 256 ^ k
 twos_complement-fits octets k all some within = elim (cases_lt (slice_index octets 0) 128) [
   | inl small ↦ omega (arith, ap mag (twos_complement-pos octets small), number-fits octets k all within small)
-  | inr large ↦ omega (arith, ap mag (twos_complement-negsuc octets all large), number-fits (complemented octets) k (complemented-are_octets octets) (omega (arith, length-complemented octets)) (omega (arith, complemented-first octets some)))
+  | inr large ↦ omega (arith, ap mag (twos_complement-negsuc octets all large), number-fits (complement_octets octets) k (complement_octets-are_octets octets) (omega (arith, length-complement_octets octets)) (omega (arith, complement_octets-first octets some)))
 ]
 
 -- 256^k as a power of 2

@@ -76,7 +76,7 @@ module _ {T : Type 0} (F : form.Ghosts T) (rules : EncodingRules) where
   readable_items [] c e = tt
   readable_items (v ∷ vs) c (b, d, e, a, others) = (F.only_readable rules v b a, readable_items vs d others)
 
-  pub one_form_items : (vs ws : List T) (c d : List ℕ) → AcceptsItems (F.accepts rules) vs c → AcceptsItems (F.accepts rules) ws d → OneForms F.one_form vs ws
-  one_form_items [] ws c d a b = tt
-  one_form_items (v ∷ vs) [] c d a b = tt
-  one_form_items (v ∷ vs) (w ∷ ws) c d (b, c', e, a, more) (b', d', e', a', bs) = (F.accepts_one_form rules v w b b' a a', one_form_items vs ws c' d' more bs)
+  pub comparable_items : (vs ws : List T) (c d : List ℕ) → AcceptsItems (F.accepts rules) vs c → AcceptsItems (F.accepts rules) ws d → OneForms F.comparable vs ws
+  comparable_items [] ws c d a b = tt
+  comparable_items (v ∷ vs) [] c d a b = tt
+  comparable_items (v ∷ vs) (w ∷ ws) c d (b, c', e, a, more) (b', d', e', a', bs) = (F.accepts_comparable rules v w b b' a a', comparable_items vs ws c' d' more bs)

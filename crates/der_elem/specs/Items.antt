@@ -36,9 +36,9 @@ parse_items parse rules p octets = parse_items_up_to (length octets) (parse rule
 
 -- whether each pair of two lists is of one form
 abbrev pub OneForms : {T : Type 0} → (T → T → Type 0) → List T → List T → Type 0
-OneForms one_form [] ws = Unit {0}
-OneForms one_form (v ∷ vs) [] = Unit {0}
-OneForms one_form (v ∷ vs) (w ∷ ws) = one_form v w × OneForms one_form vs ws
+OneForms comparable [] ws = Unit {0}
+OneForms comparable (v ∷ vs) [] = Unit {0}
+OneForms comparable (v ∷ vs) (w ∷ ws) = comparable v w × OneForms comparable vs ws
 
 -- each item of a list is a copy of the item at its place in the other
 abbrev pub AreCopies : {T : Type 0} → (T → T → Type 0) → List T → List T → Type 0

@@ -12,7 +12,7 @@ use Rattle.der_elem.specs.Accepting.{Fits, BeginsWith, MayFollow}
 use Rattle.der_elem.specs.Leading.{Leads}
 use Rattle.der_elem.specs.ItemLaws.{no_octets}
 use Rattle.der_elem.specs.OrderLaws.{encoding-some}
-use Rattle.der_elem.specs.Options.{lead_option, encoding_option, one_form_option, test_option, accepts_option, readable_option, is_copy_option, parse_option}
+use Rattle.der_elem.specs.Options.{lead_option, encoding_option, comparable_option, test_option, accepts_option, readable_option, is_copy_option, parse_option}
 
 module _ (tags : Tag → Bool) where
   -- the tag that octets begin with is the next tag
@@ -57,10 +57,10 @@ module _ {T : Type 0} (F : form.Ghosts T) (rules : EncodingRules) where
   readable_of_option None b a = tt
   readable_of_option (Some v) b a = F.only_readable rules v b a
 
-  pub one_form_of_option : (o q : Option T) (b c : List ℕ) → accepts_option (F.accepts rules) o b → accepts_option (F.accepts rules) q c → one_form_option F.one_form o q
-  one_form_of_option None q b c a e = tt
-  one_form_of_option (Some v) None b c a e = tt
-  one_form_of_option (Some v) (Some w) b c a e = F.accepts_one_form rules v w b c a e
+  pub comparable_of_option : (o q : Option T) (b c : List ℕ) → accepts_option (F.accepts rules) o b → accepts_option (F.accepts rules) q c → comparable_option F.comparable o q
+  comparable_of_option None q b c a e = tt
+  comparable_of_option (Some v) None b c a e = tt
+  comparable_of_option (Some v) (Some w) b c a e = F.accepts_comparable rules v w b c a e
 
 module _ {T : Type 0} (F : form.Ghosts T) where
   pub re_reads_option : (o : Option T) → test_option F.re_reads o ≡ true → F.TAKES_MEMORY ≡ true
@@ -73,7 +73,7 @@ module _ {T : Type 0} (F : form.Ghosts T) where
   copy_encoding_option is_copy same (Some v) None c = absurd c
   copy_encoding_option is_copy same (Some v) (Some w) c = same v w c
 
-  pub copy_form_option : (is_copy : T → T → Type 0) (copy_form : (v w x : T) → is_copy v w → F.one_form v x → F.one_form w x) (o q r : Option T) → is_copy_option is_copy o q → one_form_option F.one_form o r → one_form_option F.one_form q r
+  pub copy_form_option : (is_copy : T → T → Type 0) (copy_form : (v w x : T) → is_copy v w → F.comparable v x → F.comparable w x) (o q r : Option T) → is_copy_option is_copy o q → comparable_option F.comparable o r → comparable_option F.comparable q r
   copy_form_option is_copy same None None r c h = tt
   copy_form_option is_copy same None (Some w) r c h = absurd c
   copy_form_option is_copy same (Some v) None r c h = absurd c
@@ -86,9 +86,9 @@ module _ {T : Type 0} (F : form.Ghosts T) where
   copy_re_reads_option is_copy same (Some v) None c = absurd c
   copy_re_reads_option is_copy same (Some v) (Some w) c = same v w c
 
-module _ {T : Type 0} (tag_of : T → Tag) (contents encoding : T → List ℕ) (encoding_is : (v : T) → encoding v ≡ tlv (tag_of v) (contents v)) (one_form : T → T → Type 0) (eq : T → T → Bool) (encoding_eq : (v w : T) → one_form v w → IsTrue (eq v w) ↔ (encoding v ≡ encoding w)) where
+module _ {T : Type 0} (tag_of : T → Tag) (contents encoding : T → List ℕ) (encoding_is : (v : T) → encoding v ≡ tlv (tag_of v) (contents v)) (comparable : T → T → Type 0) (eq : T → T → Bool) (encoding_eq : (v w : T) → comparable v w → IsTrue (eq v w) ↔ (encoding v ≡ encoding w)) where
   -- options are equal exactly where their encodings are: an absent value has no octets, and a value has some
-  pub encoding_eq_option : (o q : Option T) → one_form_option one_form o q → IsTrue (option_eq eq o q) ↔ (encoding_option encoding o ≡ encoding_option encoding q)
+  pub encoding_eq_option : (o q : Option T) → comparable_option comparable o q → IsTrue (option_eq eq o q) ↔ (encoding_option encoding o ≡ encoding_option encoding q)
   encoding_eq_option None None h = (λ _. refl, λ _. refl)
   encoding_eq_option None (Some w) h = (λ e. absurd (cc), λ e. let some = encoding-some tag_of contents encoding encoding_is w in absurd (omega (arith, ap length e)))
   encoding_eq_option (Some v) None h = (λ e. absurd (cc), λ e. let some = encoding-some tag_of contents encoding encoding_is v in absurd (omega (arith, ap length e)))

@@ -16,10 +16,10 @@ lead_option lead None = None
 lead_option lead (Some v) = lead v
 
 -- an absent value is of each form
-abbrev pub one_form_option : {T : Type 0} → (T → T → Type 0) → Option T → Option T → Type 0
-one_form_option one_form (Some v) (Some w) = one_form v w
-one_form_option one_form (Some v) None = Unit {0}
-one_form_option one_form None o = Unit {0}
+abbrev pub comparable_option : {T : Type 0} → (T → T → Type 0) → Option T → Option T → Type 0
+comparable_option comparable (Some v) (Some w) = comparable v w
+comparable_option comparable (Some v) None = Unit {0}
+comparable_option comparable None o = Unit {0}
 
 abbrev pub test_option : {T : Type 0} → (T → Bool) → Option T → Bool
 test_option test None = false

@@ -3,7 +3,7 @@ use Rattle.std.specs.Prelude.{◌≡◌, ℕ, List, length, false, Result, Ok, E
 use Rattle.der_tlv.specs.declared.encoding_rules.EncodingRules.{EncodingRules}
 use Rattle.der_tlv.specs.declared.error.ErrorKind.{ErrorKind}
 use Rattle.der_tlv.specs.declared.error.Error.{Error}
-use Rattle.der_tlv.specs.ReaderState.{ReaderState, after_read, rest, seen}
+use Rattle.der_tlv.specs.ReaderState.{ReaderState, after_read, rest, unless_failed}
 use Rattle.der_elem.specs.Parsing.{ContentsParse}
 
 -- the value's own contents octets
@@ -24,7 +24,7 @@ pub record OwnDecoded {T : Type 0} (contents : T → List ℕ) (Within : T → T
 
 -- none was decoded, for this fault
 pub record OwnNotDecoded (parse : ContentsParse) (old : ReaderState) (kind : ErrorKind) : Type 0 where
-  pub fault_is : seen (parse old.rules) old ≡ Err kind
+  pub fault_is : unless_failed (parse old.rules) old ≡ Err kind
 
 -- what decoding such a value answers, with no memory
 abbrev pub DecodesOwn : {T : Type 0} → (T → List ℕ) → (T → Type 0) → ContentsParse → ReaderState → ReaderState → Result T Error → Type 0

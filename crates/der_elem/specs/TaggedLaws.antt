@@ -60,11 +60,11 @@ module _ {T : Type 0} (t : Tag) (accepts : EncodingRules → T → List ℕ → 
   pub readable_tagged : (rules : EncodingRules) (v : T) (b : List ℕ) → accepts_tagged t accepts rules v b → readable v
   readable_tagged rules v b (c, e, a) = only rules v c a
 
-module _ {T : Type 0} (t : Tag) (accepts : EncodingRules → T → List ℕ → Type 0) (one_form : T → T → Type 0) (accepts_one_form : (rules : EncodingRules) (v w : T) (c d : List ℕ) → accepts rules v c → accepts rules w d → one_form v w) where
-  pub one_form_tagged : (rules : EncodingRules) (v w : T) (b c : List ℕ) → accepts_tagged t accepts rules v b → accepts_tagged t accepts rules w c → one_form v w
-  one_form_tagged rules v w b c (d, e, a) (f, g, h) = accepts_one_form rules v w d f a h
+module _ {T : Type 0} (t : Tag) (accepts : EncodingRules → T → List ℕ → Type 0) (comparable : T → T → Type 0) (accepts_comparable : (rules : EncodingRules) (v w : T) (c d : List ℕ) → accepts rules v c → accepts rules w d → comparable v w) where
+  pub comparable_tagged : (rules : EncodingRules) (v w : T) (b c : List ℕ) → accepts_tagged t accepts rules v b → accepts_tagged t accepts rules w c → comparable v w
+  comparable_tagged rules v w b c (d, e, a) (f, g, h) = accepts_comparable rules v w d f a h
 
-module _ {T : Type 0} (t : Tag) (contents : T → List ℕ) (one_form : T → T → Type 0) (eq : T → T → Bool) (contents_eq : (v w : T) → one_form v w → IsTrue (eq v w) ↔ (contents v ≡ contents w)) where
-  pub encoding_eq_tagged : (v w : T) → one_form v w → IsTrue (eq v w) ↔ (tlv t (contents v) ≡ tlv t (contents w))
+module _ {T : Type 0} (t : Tag) (contents : T → List ℕ) (comparable : T → T → Type 0) (eq : T → T → Bool) (contents_eq : (v w : T) → comparable v w → IsTrue (eq v w) ↔ (contents v ≡ contents w)) where
+  pub encoding_eq_tagged : (v w : T) → comparable v w → IsTrue (eq v w) ↔ (tlv t (contents v) ≡ tlv t (contents w))
   encoding_eq_tagged v w one =
       (λ e. ap (tlv t) ((contents_eq v w one).0 e), λ e. (contents_eq v w one).1 (tlv-injective t t (contents v) (contents w) e).1)

@@ -11,7 +11,7 @@ ghost use Rattle.std.specs.List.{list_any};
 ghost use Rattle.der_tlv.specs.declared.tag.Tag.TheVariants as tags;
 ghost use Rattle.der_elem.specs.Items.{OneForms};
 ghost use Rattle.der_elem.specs.Arrays.{AcceptsArray, ReadableArray, parse_array};
-ghost use Rattle.der_elem.specs.ArrayLaws.{parse_of_array, same_length_array, accepts_array_contents, readable_array, one_form_array, re_reads_items};
+ghost use Rattle.der_elem.specs.ArrayLaws.{parse_of_array, same_length_array, accepts_array_contents, readable_array, comparable_array, re_reads_items};
 ghost use Rattle.der_elem.specs.ReadingArrays.{DecodesItem, RefusesItem};
 ghost use Rattle.der_elem.specs.EqualityLaws.{items_eq};
 
@@ -24,7 +24,7 @@ use crate::form::{Form, FormValue};
 use crate::items::{cmp_items, encode_items, items_len};
 use crate::memory::{FormMemory, ValueMemory};
 use crate::ord::{DerOrd, ValueOrd};
-use crate::readiness::ask_ready;
+use crate::readiness::check_ready;
 use crate::sequence::Sequence;
 use crate::tag::Tagged;
 use crate::universal_tags::SequenceTag;
@@ -43,7 +43,7 @@ impl<'a, T, const N: usize> Sequence<'a> for [T; N] {
 impl<T: Form, const N: usize> FormValue for [T; N] {
     ghost contents = { flat_map T.encoding };
 
-    ghost one_form_value = { OneForms T.one_form };
+    ghost comparable_value = { OneForms T.comparable };
 
     ghost re_reads_value = { list_any T.re_reads };
 
@@ -63,7 +63,7 @@ impl<T: Form, const N: usize> FormValue for [T; N] {
 
     ghost only_readable_value = { λ rules. readable_array T.Form rules N };
 
-    ghost accepts_one_form_value = { λ rules. one_form_array T.Form rules N };
+    ghost accepts_comparable_value = { λ rules. comparable_array T.Form rules N };
 
     ghost re_reads_memory_value = { re_reads_items T.Form };
 }
@@ -91,13 +91,13 @@ impl<T: DerOrd + Tagged, const N: usize> ValueOrd for [T; N] {
 }
 
 impl<T: EncodingEq + Tagged, const N: usize> ContentsEq for [T; N] {
-    ghost contents_eq = { items_eq T.tag_of T.contents T.encoding T.encoding_is T.one_form T.eq T.encoding_eq };
+    ghost contents_eq = { items_eq T.tag_of T.contents T.encoding T.encoding_is T.comparable T.eq T.encoding_eq };
 }
 
 impl<'a, R: Reader<'a>, T: Decode<'a, R> + Tagged + Copy, const N: usize> DecodeValue<'a, R>
     for [T; N] {
     fn decode_value(alloc: Global, reader: &mut R, _header: Header) -> Result<[T; N], Error> {
-        ask_ready(reader)?;
+        check_ready(reader)?;
         let none: &[T] = &[];
         if let Ok(items) = <[T; N]>::try_from(none) {
             refuse_item::<R, T>(alloc, reader)?;

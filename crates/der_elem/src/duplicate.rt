@@ -28,7 +28,7 @@ pub trait Duplicate: Form {
 
     ghost copy_encoding: { (v w : Self) → is_copy v w → Self.encoding w ≡ Self.encoding v };
 
-    ghost copy_form: { (v w x : Self) → is_copy v w → Self.one_form v x → Self.one_form w x };
+    ghost copy_form: { (v w x : Self) → is_copy v w → Self.comparable v x → Self.comparable w x };
 
     ghost copy_re_reads: { (v w : Self) → is_copy v w → Self.re_reads w ≡ Self.re_reads v };
 }
@@ -52,7 +52,7 @@ pub trait DuplicateValue: FormValue {
 
     ghost copy_contents: { (v w : Self) → is_copy_value v w → Self.contents w ≡ Self.contents v };
 
-    ghost copy_form_value: { (v w x : Self) → is_copy_value v w → Self.one_form_value v x → Self.one_form_value w x };
+    ghost copy_form_value: { (v w x : Self) → is_copy_value v w → Self.comparable_value v x → Self.comparable_value w x };
 
     ghost copy_re_reads_value: { (v w : Self) → is_copy_value v w → Self.re_reads_value w ≡ Self.re_reads_value v };
 }
@@ -87,7 +87,7 @@ impl<T: CopyIsDuplicate> DuplicateValue for T {
 
     ghost copy_contents = { λ v w e. ap T.contents e };
 
-    ghost copy_form_value = { λ v w x e f. subst (λ u. T.one_form_value u x) (sym e) f };
+    ghost copy_form_value = { λ v w x e f. subst (λ u. T.comparable_value u x) (sym e) f };
 
     ghost copy_re_reads_value = { λ v w e. ap T.re_reads_value e };
 }

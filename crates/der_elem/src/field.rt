@@ -15,7 +15,7 @@ ghost use Rattle.der_elem.specs.LeadingLaws.{beginning_tagged, beginning_option,
 use crate::decode::Decode;
 use crate::form::Form;
 use crate::memory::FormMemory;
-use crate::readiness::ask_ready;
+use crate::readiness::check_ready;
 use crate::tag::{Choice, Tagged};
 use der_tlv::{Error, Reader, Tag};
 use std::alloc::Global;
@@ -41,7 +41,7 @@ impl<'a, R: Reader<'a>, T: Decode<'a, R> + Tagged> DecodeField<'a, R> for T {
 impl<'a, R: Reader<'a>, T: Decode<'a, R> + Tagged + Choice> DecodeField<'a, R> for Option<T> {
     fn decode_field(alloc: Global, reader: &mut R) -> Result<Option<T>, Error> {
         if reader.is_finished() {
-            ask_ready(reader)?;
+            check_ready(reader)?;
             return Ok(None);
         }
         let tag = Tag::peek(reader)?;

@@ -11,7 +11,7 @@ ghost use Rattle.der_tlv.specs.HeaderOctets.{tlv};
 ghost use Rattle.der_elem.specs.Parsing.{Parse, ContentsParse, parse_tagged};
 ghost use Rattle.der_elem.specs.Accepting.{Fits, BeginsWith, MayFollow, accepts_tagged};
 ghost use Rattle.der_elem.specs.Leading.{Leads, led_tagged};
-ghost use Rattle.der_elem.specs.TaggedLaws.{parse_of_tagged, begins_tagged, same_length_tagged, accepts_tagged_encoding, readable_tagged, one_form_tagged};
+ghost use Rattle.der_elem.specs.TaggedLaws.{parse_of_tagged, begins_tagged, same_length_tagged, accepts_tagged_encoding, readable_tagged, comparable_tagged};
 
 use crate::fixed_tag::FixedTag;
 
@@ -20,8 +20,8 @@ pub trait FormValue: Sized + Drop {
     // the contents octets of a value
     ghost contents: { Self → List ℕ };
 
-    // whether some form has both values
-    ghost one_form_value: { Self → Self → Type 0 } = { λ v w. Unit {0} };
+    // whether the two values can be compared
+    ghost comparable_value: { Self → Self → Type 0 } = { λ v w. Unit {0} };
 
     // whether writing or comparing the value reads its items again, which takes memory
     ghost re_reads_value: { Self → Bool } = { λ v. false };
@@ -49,7 +49,7 @@ pub trait FormValue: Sized + Drop {
 
     ghost only_readable_value: { (rules : EncodingRules) (v : Self) (c : List ℕ) → accepts_value rules v c → readable_value v };
 
-    ghost accepts_one_form_value: { (rules : EncodingRules) (v w : Self) (c d : List ℕ) → accepts_value rules v c → accepts_value rules w d → one_form_value v w };
+    ghost accepts_comparable_value: { (rules : EncodingRules) (v w : Self) (c d : List ℕ) → accepts_value rules v c → accepts_value rules w d → comparable_value v w };
 
     ghost re_reads_memory_value: { (v : Self) → re_reads_value v ≡ true → VALUE_TAKES_MEMORY ≡ true };
 }
@@ -60,8 +60,8 @@ pub trait Form: Sized + Drop {
     // the one encoding of a value
     ghost encoding: { Self → List ℕ };
 
-    // whether some form has both values
-    ghost one_form: { Self → Self → Type 0 };
+    // whether the two values can be compared
+    ghost comparable: { Self → Self → Type 0 };
 
     // whether writing or comparing the value reads its items again, which takes memory
     ghost re_reads: { Self → Bool };
@@ -96,7 +96,7 @@ pub trait Form: Sized + Drop {
 
     ghost only_readable: { (rules : EncodingRules) (v : Self) (b : List ℕ) → accepts rules v b → readable v };
 
-    ghost accepts_one_form: { (rules : EncodingRules) (v w : Self) (b c : List ℕ) → accepts rules v b → accepts rules w c → one_form v w };
+    ghost accepts_comparable: { (rules : EncodingRules) (v w : Self) (b c : List ℕ) → accepts rules v b → accepts rules w c → comparable v w };
 
     ghost re_reads_memory: { (v : Self) → re_reads v ≡ true → TAKES_MEMORY ≡ true };
 }
@@ -104,7 +104,7 @@ pub trait Form: Sized + Drop {
 impl<T: FormValue + FixedTag> Form for T {
     ghost encoding = { λ v. tlv T.TAG (T.contents v) };
 
-    ghost one_form = { T.one_form_value };
+    ghost comparable = { T.comparable_value };
 
     ghost re_reads = { T.re_reads_value };
 
@@ -132,7 +132,7 @@ impl<T: FormValue + FixedTag> Form for T {
 
     ghost only_readable = { readable_tagged T.TAG T.accepts_value T.readable_value T.only_readable_value };
 
-    ghost accepts_one_form = { one_form_tagged T.TAG T.accepts_value T.one_form_value T.accepts_one_form_value };
+    ghost accepts_comparable = { comparable_tagged T.TAG T.accepts_value T.comparable_value T.accepts_comparable_value };
 
     ghost re_reads_memory = { T.re_reads_memory_value };
 }

@@ -42,7 +42,7 @@ pub use integer::{signed_of, unsigned_of};
 pub use items::{cmp_items, encode_items, items_len};
 pub use memory::{FormMemory, Memory, TakesMemory, ValueMemory, WithMemory, WithoutMemory};
 pub use ord::{DerOrd, OrdIsValueOrd, ValueOrd};
-pub use readiness::ask_ready;
+pub use readiness::check_ready;
 pub use sequence::Sequence;
 pub use tag::{Choice, IsConstructed, Tagged};
 pub use universal_tags::{

@@ -7,8 +7,8 @@
 //! no octet is left, there is no value; else reading refuses with the value's faults. An absent value
 //! is less than any other.
 
-ghost use Rattle.der_elem.specs.Options.{lead_option, encoding_option, one_form_option, test_option, accepts_option, readable_option, is_copy_option, parse_option};
-ghost use Rattle.der_elem.specs.OptionLaws.{led_option, parse_of_option, begins_option, same_length_option, accepts_option_encoding, readable_of_option, one_form_of_option, re_reads_option, copy_encoding_option, copy_form_option, copy_re_reads_option, encoding_eq_option};
+ghost use Rattle.der_elem.specs.Options.{lead_option, encoding_option, comparable_option, test_option, accepts_option, readable_option, is_copy_option, parse_option};
+ghost use Rattle.der_elem.specs.OptionLaws.{led_option, parse_of_option, begins_option, same_length_option, accepts_option_encoding, readable_of_option, comparable_of_option, re_reads_option, copy_encoding_option, copy_form_option, copy_re_reads_option, encoding_eq_option};
 
 use crate::decode::Decode;
 use crate::duplicate::Duplicate;
@@ -17,7 +17,7 @@ use crate::equality::EncodingEq;
 use crate::form::Form;
 use crate::memory::FormMemory;
 use crate::ord::DerOrd;
-use crate::readiness::ask_ready;
+use crate::readiness::check_ready;
 use crate::tag::{Choice, Tagged};
 use der_tlv::{Error, Length, Reader, Tag, Writer};
 use std::alloc::Global;
@@ -26,7 +26,7 @@ use std::cmp::Ordering;
 impl<T: Form> Form for Option<T> {
     ghost encoding = { encoding_option T.encoding };
 
-    ghost one_form = { one_form_option T.one_form };
+    ghost comparable = { comparable_option T.comparable };
 
     ghost re_reads = { test_option T.re_reads };
 
@@ -54,7 +54,7 @@ impl<T: Form> Form for Option<T> {
 
     ghost only_readable = { readable_of_option T.Form };
 
-    ghost accepts_one_form = { one_form_of_option T.Form };
+    ghost accepts_comparable = { comparable_of_option T.Form };
 
     ghost re_reads_memory = { re_reads_option T.Form };
 }
@@ -68,7 +68,7 @@ impl<T: FormMemory> FormMemory for Option<T> {
 impl<'a, R: Reader<'a>, T: Decode<'a, R> + Choice> Decode<'a, R> for Option<T> {
     fn decode(alloc: Global, reader: &mut R) -> Result<Option<T>, Error> {
         if reader.is_finished() {
-            ask_ready(reader)?;
+            check_ready(reader)?;
             return Ok(None);
         }
         let tag = Tag::peek(reader)?;
@@ -98,7 +98,7 @@ impl<T: Encode + Tagged> Encode for Option<T> {
 impl<'b, T: Form> Form for &'b Option<T> {
     ghost encoding = { λ v. encoding_option T.encoding v.now };
 
-    ghost one_form = { λ v w. one_form_option T.one_form v.now w.now };
+    ghost comparable = { λ v w. comparable_option T.comparable v.now w.now };
 
     ghost re_reads = { λ v. test_option T.re_reads v.now };
 
@@ -126,7 +126,7 @@ impl<'b, T: Form> Form for &'b Option<T> {
 
     ghost only_readable = { λ rules v. readable_of_option T.Form rules v.now };
 
-    ghost accepts_one_form = { λ rules v w. one_form_of_option T.Form rules v.now w.now };
+    ghost accepts_comparable = { λ rules v w. comparable_of_option T.Form rules v.now w.now };
 
     ghost re_reads_memory = { λ v. re_reads_option T.Form v.now };
 }
@@ -155,7 +155,7 @@ impl<T: DerOrd + Tagged> DerOrd for Option<T> {
 }
 
 impl<T: EncodingEq + Tagged> EncodingEq for Option<T> {
-    ghost encoding_eq = { encoding_eq_option T.tag_of T.contents T.encoding T.encoding_is T.one_form T.eq T.encoding_eq };
+    ghost encoding_eq = { encoding_eq_option T.tag_of T.contents T.encoding T.encoding_is T.comparable T.eq T.encoding_eq };
 }
 
 impl<T: Duplicate + Tagged> Duplicate for Option<T> {

@@ -9,7 +9,7 @@ use der_tlv::{Error, Length, Reader};
 /// # Errors
 /// (17) on a failed reader.
 #[inline]
-pub fn ask_ready<'a, R: Reader<'a>>(reader: &mut R) -> Result<(), Error>
+pub fn check_ready<'a, R: Reader<'a>>(reader: &mut R) -> Result<(), Error>
     ensures { AsksReady (R.state reader.old) (R.state reader.new) result }
 {
     // Only a failed reader refuses to read nothing.

@@ -42,7 +42,7 @@ impl FormValue for String {
 
     ghost only_readable_value = { only_within string_bytes (λ v. Unit {0}) };
 
-    ghost accepts_one_form_value = { λ rules v w c d a b. tt };
+    ghost accepts_comparable_value = { λ rules v w c d a b. tt };
 
     ghost re_reads_memory_value = { λ v e. refl };
 }

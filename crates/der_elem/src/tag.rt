@@ -32,7 +32,7 @@ pub trait Tagged: FormValue + Form {
 
     ghost re_reads_alike: { (v : Self) → Self.re_reads_value v ≡ true → Self.re_reads v ≡ true };
 
-    ghost one_form_alike: { (v w : Self) → Self.one_form v w → Self.one_form_value v w };
+    ghost comparable_alike: { (v w : Self) → Self.comparable v w → Self.comparable_value v w };
 }
 
 impl<T: FormValue + FixedTag> Tagged for T {
@@ -52,7 +52,7 @@ impl<T: FormValue + FixedTag> Tagged for T {
 
     ghost re_reads_alike = { λ v h. h };
 
-    ghost one_form_alike = { λ v w h. h };
+    ghost comparable_alike = { λ v w h. h };
 }
 
 /// A type whose values are told from others by their tags.

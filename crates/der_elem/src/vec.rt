@@ -12,7 +12,7 @@ ghost use Rattle.der_tlv.specs.declared.tag.Tag.TheVariants as tags;
 ghost use Rattle.der_elem.specs.Items.{AcceptsItems, EachItem, parse_items, OneForms, AreCopies};
 ghost use Rattle.der_elem.specs.EqualityLaws.{items_eq};
 ghost use Rattle.der_elem.specs.CopyLaws.{copies_encoding, copies_form, copies_re_read};
-ghost use Rattle.der_elem.specs.ItemLaws.{parse_of_items, same_length_items, accepts_items_contents, readable_items, one_form_items};
+ghost use Rattle.der_elem.specs.ItemLaws.{parse_of_items, same_length_items, accepts_items_contents, readable_items, comparable_items};
 
 use crate::decode::{Decode, DecodeValue};
 use crate::duplicate::{Duplicate, DuplicateValue};
@@ -23,7 +23,7 @@ use crate::form::{Form, FormValue};
 use crate::items::{cmp_items, duplicate_items, encode_items, items_len};
 use crate::memory::{ValueMemory, WithMemory};
 use crate::ord::{DerOrd, ValueOrd};
-use crate::readiness::ask_ready;
+use crate::readiness::check_ready;
 use crate::sequence::Sequence;
 use crate::tag::Tagged;
 use crate::universal_tags::SequenceTag;
@@ -42,7 +42,7 @@ impl<'a, T> Sequence<'a> for Vec<T> {
 impl<T: Form> FormValue for Vec<T> {
     ghost contents = { λ v. flat_map T.encoding v.items };
 
-    ghost one_form_value = { λ v w. OneForms T.one_form v.items w.items };
+    ghost comparable_value = { λ v w. OneForms T.comparable v.items w.items };
 
     ghost re_reads_value = { λ v. list_any T.re_reads v.items };
 
@@ -62,7 +62,7 @@ impl<T: Form> FormValue for Vec<T> {
 
     ghost only_readable_value = { λ rules v. readable_items T.Form rules v.items };
 
-    ghost accepts_one_form_value = { λ rules v w. one_form_items T.Form rules v.items w.items };
+    ghost accepts_comparable_value = { λ rules v w. comparable_items T.Form rules v.items w.items };
 
     ghost re_reads_memory_value = { λ v h. refl };
 }
@@ -75,7 +75,7 @@ impl<T: Form> ValueMemory for Vec<T> {
 
 impl<'a, R: Reader<'a>, T: Decode<'a, R> + Tagged> DecodeValue<'a, R> for Vec<T> {
     fn decode_value(alloc: Global, reader: &mut R, _header: Header) -> Result<Vec<T>, Error> {
-        ask_ready(reader)?;
+        check_ready(reader)?;
         let mut items = Vec::new(alloc);
         'items: while !reader.is_finished() {
             let item = T::decode(alloc, reader)?;
@@ -104,7 +104,7 @@ impl<T: DerOrd + Tagged> ValueOrd for Vec<T> {
 }
 
 impl<T: EncodingEq + Tagged> ContentsEq for Vec<T> {
-    ghost contents_eq = { λ v w. items_eq T.tag_of T.contents T.encoding T.encoding_is T.one_form T.eq T.encoding_eq v.items w.items };
+    ghost contents_eq = { λ v w. items_eq T.tag_of T.contents T.encoding T.encoding_is T.comparable T.eq T.encoding_eq v.items w.items };
 }
 
 impl<T: Duplicate> DuplicateValue for Vec<T> {

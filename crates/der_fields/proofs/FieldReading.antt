@@ -8,7 +8,7 @@ use Rattle.der_tlv.specs.declared.encoding_rules.EncodingRules.{EncodingRules}
 use Rattle.der_tlv.specs.declared.tag.Tag.{Tag}
 use Rattle.der_tlv.specs.HeaderReading.{read_tag}
 use Rattle.der_tlv.specs.TagReadingLaws.{read_tag-identifier}
-use Rattle.der_tlv.specs.ReaderState.{ReaderState, IsReaderState, rest, after_read, seen}
+use Rattle.der_tlv.specs.ReaderState.{ReaderState, IsReaderState, rest, after_read, unless_failed}
 use Rattle.der_tlv.proofs.ReaderStates.{rest-after_read}
 use Rattle.der_elem.specs.declared.form.Form as form
 use Rattle.der_elem.specs.Leading.{LeadsTag, Leads}
@@ -24,12 +24,12 @@ pub end_fault : (rules : EncodingRules) (p : ℕ) (c : List ℕ) → 0 < length 
 end_fault rules p [] h = absurd (omega arith)
 end_fault rules p (z ∷ c) h = refl
 
-pub end_left : (old now : ReaderState) (kind : ErrorKind) (p n : ℕ) → IsReaderState now → old.failed ≡ false → now ≡ old → 0 < length (rest now) → p ≡ now.position → n ≡ now.end - now.position → kind ≡ TrailingData p n → seen (parse_end old.rules) old ≡ Err kind
+pub end_left : (old now : ReaderState) (kind : ErrorKind) (p n : ℕ) → IsReaderState now → old.failed ≡ false → now ≡ old → 0 < length (rest now) → p ≡ now.position → n ≡ now.end - now.position → kind ≡ TrailingData p n → unless_failed (parse_end old.rules) old ≡ Err kind
 end_left old now kind p n sound' ready same some at left is =
     let sound : IsReaderState old = subst IsReaderState same sound' in
     let long : length (rest old) ≡ old.end - old.position = let o = sound.ordered in let i = sound.inside in omega (arith, length-drop old.position (take old.end old.input), length-take old.end old.input) in
     let some' : 0 < length (rest old) = subst (λ s. 0 < length (rest s)) same some in
-    let seen_is : seen (parse_end old.rules) old ≡ parse_end old.rules old.position (rest old) = rw ready refl in
+    let seen_is : unless_failed (parse_end old.rules) old ≡ parse_end old.rules old.position (rest old) = rw ready refl in
     seen_is ∙ end_fault old.rules old.position (rest old) some' ∙ ap (λ n. Err (TrailingData old.position n)) (long ∙ sym (left ∙ ap (λ s. s.end - s.position) same)) ∙ ap (λ p. Err (TrailingData p n)) (sym (at ∙ ap (λ s. s.position) same)) ∙ ap Err (sym is)
 
 same_tag : {m n : ℕ} {t u : Tag} → ◌≡◌ {A = Result (ℕ × Tag) ErrorKind} (Ok (m, t)) (Ok (n, u)) → t ≡ u

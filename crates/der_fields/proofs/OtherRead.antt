@@ -33,12 +33,12 @@ pub record OtherRead {A B : Type 0} (F : form.Ghosts A) (G : form.Ghosts B) (old
   pub after : new ≡ after_read old taken
 
 pub other_read : {A B : Type 0} (F : form.Ghosts A) (G : form.Ghosts B) (old seen_at new : ReaderState) (w : B) (t u : Tag) → HeadSeen read_tag (identifier t) old seen_at t → F.tags t ≡ false → G.tags t ≡ true → G.lead w ≡ Some u → Decoded G seen_at new w → OtherRead F G old new w
-other_read F G old seen_at new w t u seen none own is read' =
-    let read : Decoded G old new w = subst (λ s. Decoded G s new w) seen.after read' in
+other_read F G old seen_at new w t u unless_failed none own is read' =
+    let read : Decoded G old new w = subst (λ s. Decoded G s new w) unless_failed.after read' in
     record {
       taken = read.taken;
       ready = read.ready;
-      parsed = rw (seen.parsed, none, own) read.parsed;
-      accepted = (read.accepted, tag_is_other F.tags (rest old) t u read.taken (G.lead w) seen.taken none is (G.led old.rules w (take read.taken (rest old)) read.accepted));
+      parsed = rw (unless_failed.parsed, none, own) read.parsed;
+      accepted = (read.accepted, tag_is_other F.tags (rest old) t u read.taken (G.lead w) unless_failed.taken none is (G.led old.rules w (take read.taken (rest old)) read.accepted));
       after = read.after;
     }

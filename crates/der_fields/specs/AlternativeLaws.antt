@@ -99,11 +99,11 @@ module _ {A B : Type 0} (F : form.Ghosts A) (G : form.Ghosts B) (rules : Encodin
   readable_of_one (First v) b (a, h) = (F.only_readable rules v b a, h)
   readable_of_one (Other w) b (a, h) = (G.only_readable rules w b a, h)
 
-  pub one_form_of_one : (v x : OneOf A B) (b c : List ℕ) → AcceptsOne F.tags F.lead G.lead (F.accepts rules) (G.accepts rules) v b → AcceptsOne F.tags F.lead G.lead (F.accepts rules) (G.accepts rules) x c → OneFormOne F.tags F.lead G.lead F.one_form G.one_form v x
-  one_form_of_one (First v) (First x) b c (a, h) (d, k) = F.accepts_one_form rules v x b c a d
-  one_form_of_one (Other w) (Other y) b c (a, h) (d, k) = G.accepts_one_form rules w y b c a d
-  one_form_of_one (First v) (Other w) b c (a, h) (d, k) = (h, k)
-  one_form_of_one (Other w) (First v) b c (a, h) (d, k) = (k, h)
+  pub comparable_of_one : (v x : OneOf A B) (b c : List ℕ) → AcceptsOne F.tags F.lead G.lead (F.accepts rules) (G.accepts rules) v b → AcceptsOne F.tags F.lead G.lead (F.accepts rules) (G.accepts rules) x c → OneFormOne F.tags F.lead G.lead F.comparable G.comparable v x
+  comparable_of_one (First v) (First x) b c (a, h) (d, k) = F.accepts_comparable rules v x b c a d
+  comparable_of_one (Other w) (Other y) b c (a, h) (d, k) = G.accepts_comparable rules w y b c a d
+  comparable_of_one (First v) (Other w) b c (a, h) (d, k) = (h, k)
+  comparable_of_one (Other w) (First v) b c (a, h) (d, k) = (k, h)
 
 -- what either alternative has, the CHOICE has
 pub test_of_one : {A B : Type 0} (test : A → Bool) (test' : B → Bool) (p q : Bool) → ((v : A) → test v ≡ true → p ≡ true) → ((w : B) → test' w ≡ true → q ≡ true) → (v : OneOf A B) → of_one test test' v ≡ true → (p || q) ≡ true
@@ -136,11 +136,11 @@ tags_differ tags None m h k e = h
 tags_differ tags (Some t) m h k e = let other : tags t ≡ false = subst (TagIs tags false) (sym e) k in absurd (cc)
 
 -- values are equal exactly where their encodings are: those of two alternatives begin with different tags
-module _ {A B : Type 0} (F : form.Ghosts A) (G : form.Ghosts B) (eq : A → A → Bool) (eq' : B → B → Bool) (encoding_eq : (v x : A) → F.one_form v x → IsTrue (eq v x) ↔ (F.encoding v ≡ F.encoding x)) (encoding_eq' : (w y : B) → G.one_form w y → IsTrue (eq' w y) ↔ (G.encoding w ≡ G.encoding y)) (starts : (v : A) → Starts (F.lead v) (F.encoding v)) (starts' : (w : B) → Starts (G.lead w) (G.encoding w)) where
+module _ {A B : Type 0} (F : form.Ghosts A) (G : form.Ghosts B) (eq : A → A → Bool) (eq' : B → B → Bool) (encoding_eq : (v x : A) → F.comparable v x → IsTrue (eq v x) ↔ (F.encoding v ≡ F.encoding x)) (encoding_eq' : (w y : B) → G.comparable w y → IsTrue (eq' w y) ↔ (G.encoding w ≡ G.encoding y)) (starts : (v : A) → Starts (F.lead v) (F.encoding v)) (starts' : (w : B) → Starts (G.lead w) (G.encoding w)) where
   apart : (v : A) (w : B) → TagIs F.tags true (F.lead v) → TagIs F.tags false (G.lead w) → F.encoding v ≡ G.encoding w → ⊥
   apart v w h k e = tags_differ F.tags (F.lead v) (G.lead w) h k (same_lead (F.lead v) (G.lead w) (F.encoding v) (G.encoding w) (starts v) (starts' w) e)
 
-  pub encoding_eq_one : (eq_one : OneOf A B → OneOf A B → Bool) → ((v x : A) → eq_one (First v) (First x) ≡ eq v x) → ((w y : B) → eq_one (Other w) (Other y) ≡ eq' w y) → ((v : A) (w : B) → eq_one (First v) (Other w) ≡ false) → ((w : B) (v : A) → eq_one (Other w) (First v) ≡ false) → (v x : OneOf A B) → OneFormOne F.tags F.lead G.lead F.one_form G.one_form v x → IsTrue (eq_one v x) ↔ (of_one F.encoding G.encoding v ≡ of_one F.encoding G.encoding x)
+  pub encoding_eq_one : (eq_one : OneOf A B → OneOf A B → Bool) → ((v x : A) → eq_one (First v) (First x) ≡ eq v x) → ((w y : B) → eq_one (Other w) (Other y) ≡ eq' w y) → ((v : A) (w : B) → eq_one (First v) (Other w) ≡ false) → ((w : B) (v : A) → eq_one (Other w) (First v) ≡ false) → (v x : OneOf A B) → OneFormOne F.tags F.lead G.lead F.comparable G.comparable v x → IsTrue (eq_one v x) ↔ (of_one F.encoding G.encoding v ≡ of_one F.encoding G.encoding x)
   encoding_eq_one eq_one same same' other other' (First v) (First x) one = subst (λ b. IsTrue b ↔ (F.encoding v ≡ F.encoding x)) (sym (same v x)) (encoding_eq v x one)
   encoding_eq_one eq_one same same' other other' (Other w) (Other y) one = subst (λ b. IsTrue b ↔ (G.encoding w ≡ G.encoding y)) (sym (same' w y)) (encoding_eq' w y one)
   encoding_eq_one eq_one same same' other other' (First v) (Other w) (h, k) =
@@ -161,14 +161,14 @@ module _ {A B : Type 0} (F : form.Ghosts A) (G : form.Ghosts B) (is_copy : A →
   copy_re_reads_one f g (First v) (Other y) c = absurd c
   copy_re_reads_one f g (Other w) (First x) c = absurd c
 
-  module _ (starts : (v : A) → Starts (F.lead v) (F.encoding v)) (starts' : (w : B) → Starts (G.lead w) (G.encoding w)) (copy_form : (v x u : A) → is_copy v x → F.one_form v u → F.one_form x u) (copy_form' : (w y z : B) → is_copy' w y → G.one_form w z → G.one_form y z) where
+  module _ (starts : (v : A) → Starts (F.lead v) (F.encoding v)) (starts' : (w : B) → Starts (G.lead w) (G.encoding w)) (copy_form : (v x u : A) → is_copy v x → F.comparable v u → F.comparable x u) (copy_form' : (w y z : B) → is_copy' w y → G.comparable w z → G.comparable y z) where
     tag_kept : (one : Bool) (v x : A) → is_copy v x → TagIs F.tags one (F.lead v) → TagIs F.tags one (F.lead x)
     tag_kept one v x c h = subst (TagIs F.tags one) (same_lead (F.lead v) (F.lead x) (F.encoding v) (F.encoding x) (starts v) (starts x) (sym (copy_encoding v x c))) h
 
     tag_kept' : (one : Bool) (w y : B) → is_copy' w y → TagIs F.tags one (G.lead w) → TagIs F.tags one (G.lead y)
     tag_kept' one w y c h = subst (TagIs F.tags one) (same_lead (G.lead w) (G.lead y) (G.encoding w) (G.encoding y) (starts' w) (starts' y) (sym (copy_encoding' w y c))) h
 
-    pub copy_form_one : (v x u : OneOf A B) → IsCopyOne is_copy is_copy' v x → OneFormOne F.tags F.lead G.lead F.one_form G.one_form v u → OneFormOne F.tags F.lead G.lead F.one_form G.one_form x u
+    pub copy_form_one : (v x u : OneOf A B) → IsCopyOne is_copy is_copy' v x → OneFormOne F.tags F.lead G.lead F.comparable G.comparable v u → OneFormOne F.tags F.lead G.lead F.comparable G.comparable x u
     copy_form_one (First v) (Other y) u c one = absurd c
     copy_form_one (Other w) (First x) u c one = absurd c
     copy_form_one (First v) (First x) (First u) c one = copy_form v x u c one

@@ -34,10 +34,10 @@ ReadableOne tags lead lead' readable readable' (Other w) = readable' w × TagIs 
 
 -- some form has both: one of the alternative, or one that the tags tell apart
 abbrev pub OneFormOne : {A B : Type 0} → (Tag → Bool) → (A → Option Tag) → (B → Option Tag) → (A → A → Type 0) → (B → B → Type 0) → OneOf A B → OneOf A B → Type 0
-OneFormOne tags lead lead' one_form one_form' (First v) (First x) = one_form v x
-OneFormOne tags lead lead' one_form one_form' (Other w) (Other y) = one_form' w y
-OneFormOne tags lead lead' one_form one_form' (First v) (Other w) = TagIs tags true (lead v) × TagIs tags false (lead' w)
-OneFormOne tags lead lead' one_form one_form' (Other w) (First v) = TagIs tags true (lead v) × TagIs tags false (lead' w)
+OneFormOne tags lead lead' comparable comparable' (First v) (First x) = comparable v x
+OneFormOne tags lead lead' comparable comparable' (Other w) (Other y) = comparable' w y
+OneFormOne tags lead lead' comparable comparable' (First v) (Other w) = TagIs tags true (lead v) × TagIs tags false (lead' w)
+OneFormOne tags lead lead' comparable comparable' (Other w) (First v) = TagIs tags true (lead v) × TagIs tags false (lead' w)
 
 -- a copy is of the same alternative
 abbrev pub IsCopyOne : {A B : Type 0} → (A → A → Type 0) → (B → B → Type 0) → OneOf A B → OneOf A B → Type 0

@@ -25,7 +25,7 @@ ComparesAs a b one r s (Err e) = NotComparedAs a b one r s e.kind
 
 -- what comparing fields answers
 abbrev pub ComparesFields : {T : Type 0} → fields.Ghosts T → T → T → Result Ordering Error → Type 0
-ComparesFields G x y result = ComparesAs (G.joined x) (G.joined y) (G.one_forms x y) (G.re_read x) (G.re_read y) result
+ComparesFields G x y result = ComparesAs (G.joined x) (G.joined y) (G.all_comparable x y) (G.re_read x) (G.re_read y) result
 
 -- whether both fields are there or both absent
 abbrev pub TellsLeads : Option Tag → Option Tag → Bool → Type 0

@@ -104,9 +104,9 @@ module _ {T : Type 0} (F : form.Ghosts T) (rules : EncodingRules) where
   readable_default true v b a = a.1
   readable_default false v b a = F.only_readable rules v b a
 
-  pub one_form_default : (k l : Bool) (v w : T) (b c : List ℕ) → accepts_unless k (F.readable v) (F.accepts rules v) b → accepts_unless l (F.readable w) (F.accepts rules w) c → F.one_form v w
-  one_form_default k l v w b c a e =
-      F.accepts_one_form rules v w (F.encoding v) (F.encoding w) (F.accepts_encoding rules v (readable_default k v b a)) (F.accepts_encoding rules w (readable_default l w c e))
+  pub comparable_default : (k l : Bool) (v w : T) (b c : List ℕ) → accepts_unless k (F.readable v) (F.accepts rules v) b → accepts_unless l (F.readable w) (F.accepts rules w) c → F.comparable v w
+  comparable_default k l v w b c a e =
+      F.accepts_comparable rules v w (F.encoding v) (F.encoding w) (F.accepts_encoding rules v (readable_default k v b a)) (F.accepts_encoding rules w (readable_default l w c e))
 
 module _ {T : Type 0} (F : form.Ghosts T) where
   pub re_reads_default : (k : Bool) (v : T) → test_unless k (F.re_reads v) ≡ true → F.TAKES_MEMORY ≡ true
@@ -140,8 +140,8 @@ module _ {T : Type 0} (tag_of : T → Tag) (contents encoding : T → List ℕ) 
   absent_second v w false false e f = absurd (cc)
   absent_second v w true l e f = absurd (cc)
 
-  module _ (one_form : T → T → Type 0) (eq : T → T → Bool) (encoding_eq : (v w : T) → one_form v w → IsTrue (eq v w) ↔ (encoding v ≡ encoding w)) (default : List ℕ) where
-    eq_at : (k l : Bool) (v w : T) → is_default default (encoding v) ≡ k → is_default default (encoding w) ≡ l → one_form v w → IsTrue (eq v w) ↔ (octets_unless k (encoding v) ≡ octets_unless l (encoding w))
+  module _ (comparable : T → T → Type 0) (eq : T → T → Bool) (encoding_eq : (v w : T) → comparable v w → IsTrue (eq v w) ↔ (encoding v ≡ encoding w)) (default : List ℕ) where
+    eq_at : (k l : Bool) (v w : T) → is_default default (encoding v) ≡ k → is_default default (encoding w) ≡ l → comparable v w → IsTrue (eq v w) ↔ (octets_unless k (encoding v) ≡ octets_unless l (encoding w))
     eq_at true true v w i j one = (λ h. refl, λ e. (encoding_eq v w one).1 (is_the_default default (encoding v) i ∙ sym (is_the_default default (encoding w) j)))
     eq_at false false v w i j one = encoding_eq v w one
     eq_at true false v w i j one = (
@@ -154,5 +154,5 @@ module _ {T : Type 0} (tag_of : T → Tag) (contents encoding : T → List ℕ) 
     )
 
     -- values are equal exactly where the fields' octets are
-    pub encoding_eq_default : (v w : T) → one_form v w → IsTrue (eq v w) ↔ (octets_unless (is_default default (encoding v)) (encoding v) ≡ octets_unless (is_default default (encoding w)) (encoding w))
+    pub encoding_eq_default : (v w : T) → comparable v w → IsTrue (eq v w) ↔ (octets_unless (is_default default (encoding v)) (encoding v) ≡ octets_unless (is_default default (encoding w)) (encoding w))
     encoding_eq_default v w = eq_at (is_default default (encoding v)) (is_default default (encoding w)) v w refl refl

@@ -89,9 +89,9 @@ module _ {T U : Type 0} (F : form.Ghosts T) (G : fields.Ghosts U) (rules : Encod
   pub readable_field : (v : T) (w : U) (c : List ℕ) → AcceptsField F.tags (F.lead v) (G.first_tag w) (F.accepts rules) (G.accepts_fields rules) v w c → F.readable v × G.readable_fields w × Apart F.tags (F.lead v) (G.first_tag w)
   readable_field v w c a = (F.only_readable rules v a.front a.first, G.only_readable_fields rules w a.others a.rest, a.apart)
 
-  pub one_forms_field : (v x : T) (w y : U) (c d : List ℕ) → AcceptsField F.tags (F.lead v) (G.first_tag w) (F.accepts rules) (G.accepts_fields rules) v w c → AcceptsField F.tags (F.lead x) (G.first_tag y) (F.accepts rules) (G.accepts_fields rules) x y d → F.one_form v x × G.one_forms w y × Apart F.tags (F.lead v) (G.first_tag w) × Apart F.tags (F.lead x) (G.first_tag y)
-  one_forms_field v x w y c d a b =
-      (F.accepts_one_form rules v x a.front b.front a.first b.first, G.accepts_one_forms rules w y a.others b.others a.rest b.rest, a.apart, b.apart)
+  pub all_comparable_field : (v x : T) (w y : U) (c d : List ℕ) → AcceptsField F.tags (F.lead v) (G.first_tag w) (F.accepts rules) (G.accepts_fields rules) v w c → AcceptsField F.tags (F.lead x) (G.first_tag y) (F.accepts rules) (G.accepts_fields rules) x y d → F.comparable v x × G.all_comparable w y × Apart F.tags (F.lead v) (G.first_tag w) × Apart F.tags (F.lead x) (G.first_tag y)
+  all_comparable_field v x w y c d a b =
+      (F.accepts_comparable rules v x a.front b.front a.first b.first, G.accepts_all_comparable rules w y a.others b.others a.rest b.rest, a.apart, b.apart)
 
 module _ {T U : Type 0} (F : form.Ghosts T) (G : fields.Ghosts U) where
   pub re_read_field : (v : T) (w : U) → (F.re_reads v || G.re_read w) ≡ true → (F.TAKES_MEMORY || G.FIELDS_TAKE_MEMORY) ≡ true

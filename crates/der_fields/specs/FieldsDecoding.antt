@@ -2,7 +2,7 @@
 use Rattle.std.specs.Prelude.{◌≡◌, length, false, Result, Ok, Err}
 use Rattle.der_tlv.specs.declared.error.Error.{Error}
 use Rattle.der_tlv.specs.declared.error.ErrorKind.{ErrorKind}
-use Rattle.der_tlv.specs.ReaderState.{ReaderState, after_read, rest, seen}
+use Rattle.der_tlv.specs.ReaderState.{ReaderState, after_read, rest, unless_failed}
 use Rattle.der_tlv.specs.Reading.{Refused}
 use Rattle.der_elem.specs.Decoding.{Faults}
 use Rattle.der_fields.specs.declared.field_list.FieldList as fields
@@ -16,7 +16,7 @@ pub record FieldsDecoded {T : Type 0} (F : fields.Ghosts T) (old new : ReaderSta
 
 -- no fields were decoded: why, and what that leaves
 pub record FieldsNotDecoded {T : Type 0} (F : fields.Ghosts T) (old new : ReaderState) (kind : ErrorKind) : Type 0 where
-  pub reason : Faults F.FIELDS_TAKE_MEMORY (seen (F.parse_fields old.rules) old) kind
+  pub reason : Faults F.FIELDS_TAKE_MEMORY (unless_failed (F.parse_fields old.rules) old) kind
   pub reader : Refused old new kind
 
 -- what decoding fields answers

@@ -101,7 +101,7 @@ module _ (a b c d : List ℕ) (one one' : Type 0) (r s r' s' : Bool) (forms : on
   others_decide (Err error) same e told = not_compared error.kind told
 
 -- where the first fields have no comparison, there is none
-pub first_not_compared : {T : Type 0} (F : form.Ghosts T) (v x : T) (c d : List ℕ) (one : Type 0) (r s : Bool) → (one → F.one_form v x) → (F.re_reads v ≡ true → r ≡ true) → (F.re_reads x ≡ true → s ≡ true) → (kind : ErrorKind) → Incomparable F v x kind → NotComparedAs (F.encoding v ++ c) (F.encoding x ++ d) one r s kind
+pub first_not_compared : {T : Type 0} (F : form.Ghosts T) (v x : T) (c d : List ℕ) (one : Type 0) (r s : Bool) → (one → F.comparable v x) → (F.re_reads v ≡ true → r ≡ true) → (F.re_reads x ≡ true → s ≡ true) → (kind : ErrorKind) → Incomparable F v x kind → NotComparedAs (F.encoding v ++ c) (F.encoding x ++ d) one r s kind
 first_not_compared F v x c d one r s forms left right Overflow why = elim why [
   | inl l ↦ inl (omega (arith, length-append (F.encoding v) c))
   | inr l ↦ inr (omega (arith, length-append (F.encoding x) d))

@@ -13,7 +13,7 @@ use crate::equal::FieldsEq;
 use crate::field_list::{FieldList, FieldsMemory};
 use crate::ordered::{FieldsLead, FieldsOrd};
 use crate::soundness::is_sound;
-use der_elem::{WithoutMemory, ask_ready};
+use der_elem::{WithoutMemory, check_ready};
 use der_tlv::{Error, ErrorKind, Length, Reader, Tag, Writer};
 use std::alloc::Global;
 use std::cmp::Ordering;
@@ -27,7 +27,7 @@ impl FieldList for End {
 
     ghost first_tag = { λ v. None };
 
-    ghost one_forms = { λ v w. Unit {0} };
+    ghost all_comparable = { λ v w. Unit {0} };
 
     ghost re_read = { λ v. false };
 
@@ -49,7 +49,7 @@ impl FieldList for End {
 
     ghost only_readable_fields = { λ rules v c a. tt };
 
-    ghost accepts_one_forms = { λ rules v w c d a b. tt };
+    ghost accepts_all_comparable = { λ rules v w c d a b. tt };
 
     ghost re_read_memory = { λ v e. e };
 }
@@ -62,7 +62,7 @@ impl FieldsMemory for End {
 
 impl<'a, R: Reader<'a>> DecodeFields<'a, R> for End {
     fn decode_fields(_alloc: Global, reader: &mut R) -> Result<End, Error> {
-        ask_ready(reader)?;
+        check_ready(reader)?;
         if reader.is_finished() {
             return Ok(End);
         }
@@ -112,7 +112,7 @@ impl DuplicateFields for End {
 
     ghost copy_joined = { λ v w c. refl };
 
-    ghost copy_one_forms = { λ v w x c f. tt };
+    ghost copy_all_comparable = { λ v w x c f. tt };
 
     ghost copy_re_read = { λ v w c. refl };
 }

@@ -44,7 +44,7 @@ impl<F, const CLASS: u8, const NUMBER: u32> OneTag for ExplicitIn<F, CLASS, NUMB
 impl<F: FieldList, const CLASS: u8, const NUMBER: u32> FormValue for ExplicitIn<F, CLASS, NUMBER> {
     ghost contents = { λ v. F.joined v.fields };
 
-    ghost one_form_value = { λ v w. F.one_forms v.fields w.fields };
+    ghost comparable_value = { λ v w. F.all_comparable v.fields w.fields };
 
     ghost re_reads_value = { λ v. F.re_read v.fields };
 
@@ -66,7 +66,7 @@ impl<F: FieldList, const CLASS: u8, const NUMBER: u32> FormValue for ExplicitIn<
 
     ghost only_readable_value = { λ rules v. F.only_readable_fields rules v.fields };
 
-    ghost accepts_one_form_value = { λ rules v w. F.accepts_one_forms rules v.fields w.fields };
+    ghost accepts_comparable_value = { λ rules v w. F.accepts_all_comparable rules v.fields w.fields };
 
     ghost re_reads_memory_value = { λ v. F.re_read_memory v.fields };
 }
@@ -129,7 +129,7 @@ impl<F: DuplicateFields, const CLASS: u8, const NUMBER: u32> DuplicateValue
 
     ghost copy_contents = { λ v w c. F.copy_joined v.fields w.fields c };
 
-    ghost copy_form_value = { λ v w x c f. F.copy_one_forms v.fields w.fields x.fields c f };
+    ghost copy_form_value = { λ v w x c f. F.copy_all_comparable v.fields w.fields x.fields c f };
 
     ghost copy_re_reads_value = { λ v w c. F.copy_re_read v.fields w.fields c };
 }

@@ -6,7 +6,7 @@
 
 ghost use Rattle.std.specs.Prelude.{◌++◌, ◌||◌};
 ghost use Rattle.der_fields.specs.FieldLists.{AcceptsField, Apart, first_of, parse_field};
-ghost use Rattle.der_fields.specs.FieldLaws.{parse_of_field, led_field, same_length_field, accepts_field_joined, readable_field, one_forms_field, re_read_field, either_memory};
+ghost use Rattle.der_fields.specs.FieldLaws.{parse_of_field, led_field, same_length_field, accepts_field_joined, readable_field, all_comparable_field, re_read_field, either_memory};
 ghost use Rattle.der_fields.specs.TellingLaws.{starts_both, told_apart, eq_both};
 ghost use Rattle.der_fields.specs.CopyingLaws.{copy_both, copy_forms_both, copy_re_read_both};
 
@@ -36,7 +36,7 @@ impl<T: Form, Rest: FieldList> FieldList for Field<T, Rest> {
 
     ghost first_tag = { λ v. first_of (T.lead v.first) (Rest.first_tag v.rest) };
 
-    ghost one_forms = { λ v w. T.one_form v.first w.first × Rest.one_forms v.rest w.rest × Apart T.tags (T.lead v.first) (Rest.first_tag v.rest) × Apart T.tags (T.lead w.first) (Rest.first_tag w.rest) };
+    ghost all_comparable = { λ v w. T.comparable v.first w.first × Rest.all_comparable v.rest w.rest × Apart T.tags (T.lead v.first) (Rest.first_tag v.rest) × Apart T.tags (T.lead w.first) (Rest.first_tag w.rest) };
 
     ghost re_read = { λ v. T.re_reads v.first || Rest.re_read v.rest };
 
@@ -58,7 +58,7 @@ impl<T: Form, Rest: FieldList> FieldList for Field<T, Rest> {
 
     ghost only_readable_fields = { λ rules v. readable_field T.Form Rest.FieldList rules v.first v.rest };
 
-    ghost accepts_one_forms = { λ rules v w. one_forms_field T.Form Rest.FieldList rules v.first w.first v.rest w.rest };
+    ghost accepts_all_comparable = { λ rules v w. all_comparable_field T.Form Rest.FieldList rules v.first w.first v.rest w.rest };
 
     ghost re_read_memory = { λ v. re_read_field T.Form Rest.FieldList v.first v.rest };
 }
@@ -136,7 +136,7 @@ impl<T: Duplicate + FirstTag, Rest: DuplicateFields + FieldsLead> DuplicateField
 
     ghost copy_joined = { λ v w c. copy_both (T.encoding v.first) (T.encoding w.first) (Rest.joined v.rest) (Rest.joined w.rest) (T.copy_encoding v.first w.first c.0) (Rest.copy_joined v.rest w.rest c.1) };
 
-    ghost copy_one_forms = { λ v w x c one. (T.copy_form v.first w.first x.first c.0 one.0, Rest.copy_one_forms v.rest w.rest x.rest c.1 one.1, copy_forms_both T.tags (T.lead v.first) (T.lead w.first) (Rest.first_tag v.rest) (Rest.first_tag w.rest) (T.encoding v.first) (T.encoding w.first) (Rest.joined v.rest) (Rest.joined w.rest) (T.starts v.first) (T.starts w.first) (Rest.starts_fields v.rest) (Rest.starts_fields w.rest) (T.copy_encoding v.first w.first c.0) (Rest.copy_joined v.rest w.rest c.1) one.2, one.3) };
+    ghost copy_all_comparable = { λ v w x c one. (T.copy_form v.first w.first x.first c.0 one.0, Rest.copy_all_comparable v.rest w.rest x.rest c.1 one.1, copy_forms_both T.tags (T.lead v.first) (T.lead w.first) (Rest.first_tag v.rest) (Rest.first_tag w.rest) (T.encoding v.first) (T.encoding w.first) (Rest.joined v.rest) (Rest.joined w.rest) (T.starts v.first) (T.starts w.first) (Rest.starts_fields v.rest) (Rest.starts_fields w.rest) (T.copy_encoding v.first w.first c.0) (Rest.copy_joined v.rest w.rest c.1) one.2, one.3) };
 
     ghost copy_re_read = { λ v w c. copy_re_read_both (T.copy_re_reads v.first w.first c.0) (Rest.copy_re_read v.rest w.rest c.1) };
 }

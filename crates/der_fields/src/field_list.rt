@@ -21,7 +21,7 @@ pub trait FieldList: Sized + Drop {
     ghost first_tag: { Self → Option Tag };
 
     // whether some form has both
-    ghost one_forms: { Self → Self → Type 0 };
+    ghost all_comparable: { Self → Self → Type 0 };
 
     // whether writing or comparing a field reads items again, which takes memory
     ghost re_read: { Self → Bool };
@@ -48,7 +48,7 @@ pub trait FieldList: Sized + Drop {
 
     ghost only_readable_fields: { (rules : EncodingRules) (v : Self) (c : List ℕ) → accepts_fields rules v c → readable_fields v };
 
-    ghost accepts_one_forms: { (rules : EncodingRules) (v w : Self) (c d : List ℕ) → accepts_fields rules v c → accepts_fields rules w d → one_forms v w };
+    ghost accepts_all_comparable: { (rules : EncodingRules) (v w : Self) (c d : List ℕ) → accepts_fields rules v c → accepts_fields rules w d → all_comparable v w };
 
     ghost re_read_memory: { (v : Self) → re_read v ≡ true → FIELDS_TAKE_MEMORY ≡ true };
 }

@@ -34,7 +34,7 @@ pub struct FieldSequence<F> {
 impl<F: FieldList> FormValue for FieldSequence<F> {
     ghost contents = { λ v. F.joined v.fields };
 
-    ghost one_form_value = { λ v w. F.one_forms v.fields w.fields };
+    ghost comparable_value = { λ v w. F.all_comparable v.fields w.fields };
 
     ghost re_reads_value = { λ v. F.re_read v.fields };
 
@@ -56,7 +56,7 @@ impl<F: FieldList> FormValue for FieldSequence<F> {
 
     ghost only_readable_value = { λ rules v. F.only_readable_fields rules v.fields };
 
-    ghost accepts_one_form_value = { λ rules v w. F.accepts_one_forms rules v.fields w.fields };
+    ghost accepts_comparable_value = { λ rules v w. F.accepts_all_comparable rules v.fields w.fields };
 
     ghost re_reads_memory_value = { λ v. F.re_read_memory v.fields };
 }
@@ -119,7 +119,7 @@ impl<F: DuplicateFields> DuplicateValue for FieldSequence<F> {
 
     ghost copy_contents = { λ v w c. F.copy_joined v.fields w.fields c };
 
-    ghost copy_form_value = { λ v w x c f. F.copy_one_forms v.fields w.fields x.fields c f };
+    ghost copy_form_value = { λ v w x c f. F.copy_all_comparable v.fields w.fields x.fields c f };
 
     ghost copy_re_reads_value = { λ v w c. F.copy_re_read v.fields w.fields c };
 }

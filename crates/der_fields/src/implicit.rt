@@ -38,7 +38,7 @@ impl<T: IsConstructed, const CLASS: u8, const NUMBER: u32> OneTag for ImplicitIn
 impl<T: FormValue, const CLASS: u8, const NUMBER: u32> FormValue for ImplicitIn<T, CLASS, NUMBER> {
     ghost contents = { λ v. T.contents v.value };
 
-    ghost one_form_value = { λ v w. T.one_form_value v.value w.value };
+    ghost comparable_value = { λ v w. T.comparable_value v.value w.value };
 
     ghost re_reads_value = { λ v. T.re_reads_value v.value };
 
@@ -60,7 +60,7 @@ impl<T: FormValue, const CLASS: u8, const NUMBER: u32> FormValue for ImplicitIn<
 
     ghost only_readable_value = { λ rules v. T.only_readable_value rules v.value };
 
-    ghost accepts_one_form_value = { λ rules v w. T.accepts_one_form_value rules v.value w.value };
+    ghost accepts_comparable_value = { λ rules v w. T.accepts_comparable_value rules v.value w.value };
 
     ghost re_reads_memory_value = { λ v. T.re_reads_memory_value v.value };
 }

@@ -13,7 +13,7 @@ ghost use Rattle.std.proofs.Common.{Ok, ap, sym, refl};
 ghost use Rattle.der_elem.specs.OwnContents.{accepts_own};
 ghost use Rattle.der_fields.specs.Alternatives.{of_one, AcceptsOne, ReadableOne, OneFormOne, IsCopyOne, TellsHeaders, parse_one, parse_untold};
 ghost use Rattle.der_fields.specs.FieldLaws.{either_memory};
-ghost use Rattle.der_fields.specs.AlternativeLaws.{parse_of_one, begins_one, led_one, same_length_one, accepts_one_encoding, readable_of_one, one_form_of_one, test_of_one, test_alike, encoding_is_one, lead_is_one, own_tag_one, is_tlv_one, encoding_eq_one, copy_encoding_one, copy_form_one, copy_re_reads_one};
+ghost use Rattle.der_fields.specs.AlternativeLaws.{parse_of_one, begins_one, led_one, same_length_one, accepts_one_encoding, readable_of_one, comparable_of_one, test_of_one, test_alike, encoding_is_one, lead_is_one, own_tag_one, is_tlv_one, encoding_eq_one, copy_encoding_one, copy_form_one, copy_re_reads_one};
 
 use crate::memory::EitherMemory;
 use der_elem::{
@@ -36,7 +36,7 @@ pub enum OneOf<A, B> {
 impl<A: Form, B: Form> Form for OneOf<A, B> {
     ghost encoding = { of_one A.encoding B.encoding };
 
-    ghost one_form = { OneFormOne A.tags A.lead B.lead A.one_form B.one_form };
+    ghost comparable = { OneFormOne A.tags A.lead B.lead A.comparable B.comparable };
 
     ghost re_reads = { of_one A.re_reads B.re_reads };
 
@@ -64,7 +64,7 @@ impl<A: Form, B: Form> Form for OneOf<A, B> {
 
     ghost only_readable = { readable_of_one A.Form B.Form };
 
-    ghost accepts_one_form = { one_form_of_one A.Form B.Form };
+    ghost accepts_comparable = { comparable_of_one A.Form B.Form };
 
     ghost re_reads_memory = { test_of_one A.re_reads B.re_reads A.TAKES_MEMORY B.TAKES_MEMORY A.re_reads_memory B.re_reads_memory };
 }
@@ -96,7 +96,7 @@ impl<A: FormValue, B: FormValue> FormValue for OneOf<A, B> {
 
     ghost only_readable_value = { λ rules v c a. tt };
 
-    ghost accepts_one_form_value = { λ rules v w c d a b. tt };
+    ghost accepts_comparable_value = { λ rules v w c d a b. tt };
 
     ghost re_reads_memory_value = { test_of_one A.re_reads_value B.re_reads_value A.VALUE_TAKES_MEMORY B.VALUE_TAKES_MEMORY A.re_reads_memory_value B.re_reads_memory_value };
 }
@@ -121,7 +121,7 @@ impl<A: Tagged, B: Tagged> Tagged for OneOf<A, B> {
 
     ghost re_reads_alike = { test_alike A.re_reads_value A.re_reads B.re_reads_value B.re_reads A.re_reads_alike B.re_reads_alike };
 
-    ghost one_form_alike = { λ v w h. tt };
+    ghost comparable_alike = { λ v w h. tt };
 }
 
 impl<A: Choice, B: Choice> Choice for OneOf<A, B> {

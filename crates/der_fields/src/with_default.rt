@@ -10,12 +10,12 @@ ghost use Rattle.std.specs.Prelude.{◌≡◌};
 ghost use Rattle.std.specs.Cmp.{on_per};
 ghost use Rattle.std.proofs.Common.{ap, ◌∙◌};
 ghost use Rattle.der_fields.specs.Defaults.{is_default, octets_unless, lead_unless, test_unless, accepts_unless, parse_default};
-ghost use Rattle.der_fields.specs.DefaultLaws.{parse_of_default, begins_default, led_default, same_length_default, accepts_default, readable_default, one_form_default, re_reads_default, own_lead_default, starts_default, beginning_default, encoding_eq_default};
+ghost use Rattle.der_fields.specs.DefaultLaws.{parse_of_default, begins_default, led_default, same_length_default, accepts_default, readable_default, comparable_default, re_reads_default, own_lead_default, starts_default, beginning_default, encoding_eq_default};
 
 use crate::default::DefaultOf;
 use der_elem::{
     Choice, Decode, DecodeField, DerOrd, Duplicate, Encode, EncodingEq, FirstTag, Form, FormMemory,
-    Tagged, ask_ready,
+    Tagged, check_ready,
 };
 use der_tlv::{Error, Length, Reader, Tag, Writer};
 use std::alloc::Global;
@@ -46,7 +46,7 @@ impl<T, D> WithDefault<T, D> {
 impl<T: Form, D: DefaultOf<T>> Form for WithDefault<T, D> {
     ghost encoding = { λ v. octets_unless (is_default D.octets (T.encoding v.value)) (T.encoding v.value) };
 
-    ghost one_form = { λ v w. T.one_form v.value w.value };
+    ghost comparable = { λ v w. T.comparable v.value w.value };
 
     ghost re_reads = { λ v. test_unless (is_default D.octets (T.encoding v.value)) (T.re_reads v.value) };
 
@@ -74,7 +74,7 @@ impl<T: Form, D: DefaultOf<T>> Form for WithDefault<T, D> {
 
     ghost only_readable = { λ rules v. readable_default T.Form rules (is_default D.octets (T.encoding v.value)) v.value };
 
-    ghost accepts_one_form = { λ rules v w. one_form_default T.Form rules (is_default D.octets (T.encoding v.value)) (is_default D.octets (T.encoding w.value)) v.value w.value };
+    ghost accepts_comparable = { λ rules v w. comparable_default T.Form rules (is_default D.octets (T.encoding v.value)) (is_default D.octets (T.encoding w.value)) v.value w.value };
 
     ghost re_reads_memory = { λ v. re_reads_default T.Form (is_default D.octets (T.encoding v.value)) v.value };
 }
@@ -105,7 +105,7 @@ impl<'a, R: Reader<'a>, T: Decode<'a, R> + Tagged + Choice, D: DefaultOf<T>> Dec
     for WithDefault<T, D> {
     fn decode_field(alloc: Global, reader: &mut R) -> Result<WithDefault<T, D>, Error> {
         if reader.is_finished() {
-            ask_ready(reader)?;
+            check_ready(reader)?;
             let value = D::default_value();
             return Ok(WithDefault::new(value));
         }
@@ -161,7 +161,7 @@ impl<T: DerOrd + Tagged, D: DefaultOf<T>> DerOrd for WithDefault<T, D> {
 }
 
 impl<T: EncodingEq + Tagged, D: DefaultOf<T>> EncodingEq for WithDefault<T, D> {
-    ghost encoding_eq = { λ v w. encoding_eq_default T.tag_of T.contents T.encoding T.encoding_is T.one_form T.eq T.encoding_eq D.octets v.value w.value };
+    ghost encoding_eq = { λ v w. encoding_eq_default T.tag_of T.contents T.encoding T.encoding_is T.comparable T.eq T.encoding_eq D.octets v.value w.value };
 }
 
 impl<T: Duplicate, D: DefaultOf<T>> Duplicate for WithDefault<T, D> {

@@ -7,7 +7,7 @@ use Rattle.der_tlv.specs.declared.error.ErrorKind.{ErrorKind}
 use Rattle.der_tlv.specs.declared.error.ErrorKind.TheVariants.{SetOrdering}
 use Rattle.der_tlv.specs.declared.encoding_rules.EncodingRules.TheVariants.{Der}
 use Rattle.der_tlv.specs.Octets.{lex}
-use Rattle.der_tlv.specs.ReaderState.{ReaderState, IsReaderState, rest, seen, opened}
+use Rattle.der_tlv.specs.ReaderState.{ReaderState, IsReaderState, rest, unless_failed, new_reader}
 use Rattle.der_elem.specs.declared.form.Form as form
 use Rattle.der_elem.specs.Decoding.{Faults, Decoded}
 use Rattle.der_nest.specs.Places.{IsInOrder, not_above}
@@ -29,15 +29,15 @@ EndsIn {T} F items (Some w) =
 -- so many items were read, in order
 pub record BorrowedSoFar {T : Type 0} (F : form.Ghosts T) (octets : List ℕ) (now : ReaderState) (count : ℕ) (last : Option T) : Type 0 where
   pub items : List T
-  pub so_far : EachSoFar F (length octets) (opened octets Der) now items
+  pub so_far : EachSoFar F (length octets) (new_reader octets Der) now items
   pub in_order : IsInOrder F.encoding items
   pub counted : length items ≡ count
   pub ends : EndsIn F items last
 
-pub none_borrowed : {T : Type 0} (F : form.Ghosts T) (octets : List ℕ) (now : ReaderState) → now ≡ opened octets Der → BorrowedSoFar F octets now 0 None
+pub none_borrowed : {T : Type 0} (F : form.Ghosts T) (octets : List ℕ) (now : ReaderState) → now ≡ new_reader octets Der → BorrowedSoFar F octets now 0 None
 none_borrowed F octets now e = record {
   items = [];
-  so_far = none_so_far F (length octets) (opened octets Der) now e;
+  so_far = none_so_far F (length octets) (new_reader octets Der) now e;
   in_order = in_order_none;
   counted = refl;
   ends = refl;
@@ -95,9 +95,9 @@ module _ {T : Type 0} {F : form.Ghosts T} {octets : List ℕ} {now : ReaderState
       all_items ∙ ap (before_all (map F.encoding s.items)) (ap (λ n. parse_in_order n F.parse (last_of [] (map F.encoding s.items)) now.position (rest now)) (one_left some) ∙ parse_in_order-step (s.so_far.more - 1) F.parse (last_of [] (map F.encoding s.items)) now.position (rest now) some)
 
   -- a fault of the next item is one of the set
-  pub borrowed_item_fault : (kind : ErrorKind) → 0 < length (rest now) → Faults F.TAKES_MEMORY (seen (F.parse now.rules) now) kind → Faults F.TAKES_MEMORY (parse_borrowed_items F.parse octets) kind
+  pub borrowed_item_fault : (kind : ErrorKind) → 0 < length (rest now) → Faults F.TAKES_MEMORY (unless_failed (F.parse now.rules) now) kind → Faults F.TAKES_MEMORY (parse_borrowed_items F.parse octets) kind
   borrowed_item_fault kind some faults =
-      let there : seen (F.parse now.rules) now ≡ F.parse Der now.position (rest now) = rw (still_ready s.so_far refl, same_rules s.so_far) refl in
+      let there : unless_failed (F.parse now.rules) now ≡ F.parse Der now.position (rest now) = rw (still_ready s.so_far refl, same_rules s.so_far) refl in
       elim faults [
         | inl m ↦ inl m
         | inr e ↦ inr (next_is some ∙ ap (λ r. before_all (map F.encoding s.items) (then_in_order (last_of [] (map F.encoding s.items)) r (λ n e. parse_in_order (s.so_far.more - 1) F.parse e (now.position + n) (drop n (rest now))))) (sym there ∙ e))

@@ -4,7 +4,7 @@ use Rattle.std.proofs.Math.Seq.{take-add, take-length}
 use Rattle.std.proofs.lemmas.List.{length-append, length-take, length-drop, append-nil, map_push}
 use Rattle.der_tlv.specs.declared.error.ErrorKind.{ErrorKind}
 use Rattle.der_tlv.specs.declared.error.ErrorKind.TheVariants.{Overlength}
-use Rattle.der_tlv.specs.ReaderState.{ReaderState, rest, after_read, seen}
+use Rattle.der_tlv.specs.ReaderState.{ReaderState, rest, after_read, unless_failed}
 use Rattle.der_tlv.proofs.ReaderStates.{rest-after_read}
 use Rattle.der_elem.specs.declared.form.Form as form
 use Rattle.der_elem.specs.Decoding.{Faults, Decoded}
@@ -54,7 +54,7 @@ module _ {T : Type 0} {F : form.Ghosts T} {capacity : ℕ} {old now : ReaderStat
   pub rest_now : rest now ≡ drop so_far.taken (rest old)
   rest_now = ap rest so_far.after ∙ rest-after_read old so_far.taken
 
-  seen_item : old.failed ≡ false → seen (F.parse now.rules) now ≡ F.parse old.rules now.position (rest now)
+  seen_item : old.failed ≡ false → unless_failed (F.parse now.rules) now ≡ F.parse old.rules now.position (rest now)
   seen_item ready = rw (still_ready ready, same_rules) refl
 
   fault : (kind : ErrorKind) → parse_each so_far.more F.parse old.rules now.position (rest now) ≡ Err kind → parse_each capacity F.parse old.rules old.position (rest old) ≡ Err kind
@@ -66,7 +66,7 @@ module _ {T : Type 0} {F : form.Ghosts T} {capacity : ℕ} {old now : ReaderStat
       parse_each-step more F.parse old.rules now.position (rest now) some ∙ ap (λ r. then_others r (λ n. parse_each more F.parse old.rules (now.position + n) (drop n (rest now)))) e
 
   -- a fault of the next item is one of the list
-  pub item_fault : (memory : Bool) (kind : ErrorKind) → old.failed ≡ false → 0 < length (rest now) → Faults memory (seen (F.parse now.rules) now) kind → Faults memory (parse_each capacity F.parse old.rules old.position (rest old)) kind
+  pub item_fault : (memory : Bool) (kind : ErrorKind) → old.failed ≡ false → 0 < length (rest now) → Faults memory (unless_failed (F.parse now.rules) now) kind → Faults memory (parse_each capacity F.parse old.rules old.position (rest old)) kind
   item_fault memory kind ready some faults = elim faults [
     | inl m ↦ inl m
     | inr e ↦ inr (fault kind (next_fault so_far.more kind some (sym (seen_item ready) ∙ e)))

@@ -10,7 +10,7 @@ use Rattle.der_elem.specs.Parsing.{Parse}
 use Rattle.der_elem.specs.Decoding.{Decoded, NotDecoded}
 use Rattle.der_nest.specs.Lists.{parse_each, then_others, before_others, one_too_many}
 use Rattle.der_nest.specs.ListLaws.{parse_each-end, parse_each-over, parse_each-step}
-use Rattle.der_nest.specs.ReReading.{encodings_or_none, encodings_read, unread}
+use Rattle.der_nest.specs.ReReading.{encodings_or_none, encodings_read, encodings_left}
 
 too_many_none : (r : Result (ℕ × List ℕ) ErrorKind) → encodings_or_none (one_too_many r) ≡ []
 too_many_none (Ok item) = refl
@@ -52,19 +52,19 @@ next_read k parse rules p (x ∷ xs) h = go (parse rules p (x ∷ xs)) refl
 same_item : (x y : ℕ × List ℕ) (r : Result (ℕ × List ℕ) ErrorKind) → r ≡ Ok x → r ≡ Ok y → x ≡ y
 same_item x y r e f = cc
 
-module _ {T : Type 0} (F : form.Ghosts T) (left k : ℕ) (old new : ReaderState) (is : left ≡ suc k) (counted : length (unread left F.parse old) ≡ left) where
+module _ {T : Type 0} (F : form.Ghosts T) (left k : ℕ) (old new : ReaderState) (is : left ≡ suc k) (counted : length (encodings_left left F.parse old) ≡ left) where
   next : NextRead k F.parse old.rules old.position (rest old)
   next = next_read k F.parse old.rules old.position (rest old) (rw is at counted)
 
   -- an item that is read again is the next one, and the others follow
-  pub next_item : (v : T) → Decoded F old new v → F.readable v × (unread left F.parse old ≡ F.encoding v ∷ unread k F.parse new) × (length (unread k F.parse new) ≡ k)
+  pub next_item : (v : T) → Decoded F old new v → F.readable v × (encodings_left left F.parse old ≡ F.encoding v ∷ encodings_left k F.parse new) × (length (encodings_left k F.parse new) ≡ k)
   next_item v told =
       let n = next in
       let same = same_item (n.taken, n.encoding) (told.taken, F.encoding v) (F.parse old.rules old.position (rest old)) n.parsed told.parsed in
       let taken : n.taken ≡ told.taken = ap (λ (q : ℕ × List ℕ). q.0) same in
       let encoding : n.encoding ≡ F.encoding v = ap (λ (q : ℕ × List ℕ). q.1) same in
-      let others : unread k F.parse new ≡ encodings_read k F.parse old.rules (old.position + n.taken) (drop n.taken (rest old)) = ap (unread k F.parse) told.after ∙ ap (encodings_read k F.parse old.rules (old.position + told.taken)) (rest-after_read old told.taken) ∙ ap (λ m. encodings_read k F.parse old.rules (old.position + m) (drop m (rest old))) (sym taken) in
-      (F.only_readable old.rules v (take told.taken (rest old)) told.accepted, ap (λ n. unread n F.parse old) is ∙ n.all ∙ ap (λ e. e ∷ encodings_read k F.parse old.rules (old.position + n.taken) (drop n.taken (rest old))) encoding ∙ ap (λ es. F.encoding v ∷ es) (sym others), ap length others ∙ n.counted)
+      let others : encodings_left k F.parse new ≡ encodings_read k F.parse old.rules (old.position + n.taken) (drop n.taken (rest old)) = ap (encodings_left k F.parse) told.after ∙ ap (encodings_read k F.parse old.rules (old.position + told.taken)) (rest-after_read old told.taken) ∙ ap (λ m. encodings_read k F.parse old.rules (old.position + m) (drop m (rest old))) (sym taken) in
+      (F.only_readable old.rules v (take told.taken (rest old)) told.accepted, ap (λ n. encodings_left n F.parse old) is ∙ n.all ∙ ap (λ e. e ∷ encodings_read k F.parse old.rules (old.position + n.taken) (drop n.taken (rest old))) encoding ∙ ap (λ es. F.encoding v ∷ es) (sym others), ap length others ∙ n.counted)
 
   -- it is refused only for want of memory
   pub no_item : (kind : ErrorKind) → old.failed ≡ false → NotDecoded F old new kind → (kind ≡ Memory) × (F.TAKES_MEMORY ≡ true)

@@ -14,7 +14,7 @@ use Rattle.der_elem.specs.Accepting.{Fits}
 use Rattle.der_elem.specs.ItemLaws.{first_fits, others_fit}
 use Rattle.der_elem.specs.ArrayLaws.{re_reads_items}
 use Rattle.der_nest.specs.LexLaws.{le_from_not_lt}
-use Rattle.der_nest.specs.Lists.{AcceptsEach, before_others, joined}
+use Rattle.der_nest.specs.Lists.{AcceptsEach, before_others, join_encodings}
 use Rattle.der_nest.specs.ListLaws.{concat-map, length-each, same_length_each, accepts_each, readable_each}
 use Rattle.der_nest.specs.BorrowedSets.{Borrowed, OfItems, OfOctets, borrowed_contents, re_reads_borrowed, OneFormBorrowed, AcceptsBorrowed, ReadableBorrowed, then_in_order, parse_in_order, parse_borrowed_items, parse_borrowed}
 
@@ -110,7 +110,7 @@ module _ {T : Type 0} (F : form.Ghosts T) where
 
   pub parse_of_borrowed : (rules : EncodingRules) (v : Borrowed T) (p : ℕ) (c : List ℕ) → AcceptsBorrowed F v c → Fits c → parse_borrowed F.parse rules p c ≡ Ok (borrowed_contents F.encoding v)
   parse_of_borrowed rules v p c a fits =
-      ap joined (parse_of_borrowed_items v c a fits) ∙ ap (λ s. Ok (borrowed_contents F.encoding s)) (sym a.set_is)
+      ap join_encodings (parse_of_borrowed_items v c a fits) ∙ ap (λ s. Ok (borrowed_contents F.encoding s)) (sym a.set_is)
 
   pub same_length_borrowed : (rules : EncodingRules) (v : Borrowed T) (c : List ℕ) → AcceptsBorrowed F v c → length (borrowed_contents F.encoding v) ≡ length c
   same_length_borrowed rules v c a = ap length (contents_is v a.items a.set_is) ∙ same_length_each F Der a.items c a.accepted
@@ -131,13 +131,13 @@ module _ {T : Type 0} (F : form.Ghosts T) where
     set_is = a.set_is;
   }
 
-  one_form_octets : (es fs : List (List ℕ)) → OneFormBorrowed F (OfOctets es) (OfOctets fs)
-  one_form_octets es fs i x y a b =
-      F.accepts_one_form Der x y (F.encoding x) (F.encoding y) (F.accepts_encoding Der x a.0) (F.accepts_encoding Der y b.0)
+  comparable_octets : (es fs : List (List ℕ)) → OneFormBorrowed F (OfOctets es) (OfOctets fs)
+  comparable_octets es fs i x y a b =
+      F.accepts_comparable Der x y (F.encoding x) (F.encoding y) (F.accepts_encoding Der x a.0) (F.accepts_encoding Der y b.0)
 
-  pub one_form_borrowed : (rules : EncodingRules) (v w : Borrowed T) (c d : List ℕ) → AcceptsBorrowed F v c → AcceptsBorrowed F w d → OneFormBorrowed F v w
-  one_form_borrowed rules v w c d a b =
-      subst (λ v. OneFormBorrowed F v w) (sym a.set_is) (subst (OneFormBorrowed F (OfOctets (map F.encoding a.items))) (sym b.set_is) (one_form_octets (map F.encoding a.items) (map F.encoding b.items)))
+  pub comparable_borrowed : (rules : EncodingRules) (v w : Borrowed T) (c d : List ℕ) → AcceptsBorrowed F v c → AcceptsBorrowed F w d → OneFormBorrowed F v w
+  comparable_borrowed rules v w c d a b =
+      subst (λ v. OneFormBorrowed F v w) (sym a.set_is) (subst (OneFormBorrowed F (OfOctets (map F.encoding a.items))) (sym b.set_is) (comparable_octets (map F.encoding a.items) (map F.encoding b.items)))
 
   pub re_reads_borrowed_memory : (v : Borrowed T) → re_reads_borrowed F v ≡ true → F.TAKES_MEMORY ≡ true
   re_reads_borrowed_memory (OfItems vs) h = re_reads_items F vs h

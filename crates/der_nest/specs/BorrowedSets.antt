@@ -10,7 +10,7 @@ use Rattle.der_tlv.specs.Octets.{lex}
 use Rattle.der_elem.specs.declared.form.Form as form
 use Rattle.der_elem.specs.Parsing.{Parse, ContentsParse}
 use Rattle.der_nest.specs.Places.{IsInOrder, IsOutOfOrder}
-use Rattle.der_nest.specs.Lists.{AcceptsEach, before_others, joined}
+use Rattle.der_nest.specs.Lists.{AcceptsEach, before_others, join_encodings}
 
 -- What a caller sees of such a set: the items of a slice, or the encodings of the items that octets are read as.
 pub data Borrowed (T : Type 0) : Type 0 where
@@ -38,7 +38,7 @@ StandsAt F (OfOctets es) i x = F.readable x × (slice_get es i ≡ Some (F.encod
 
 -- whether each pair of items at one place is of one form
 abbrev pub OneFormBorrowed : {T : Type 0} → form.Ghosts T → Borrowed T → Borrowed T → Type 0
-OneFormBorrowed {T} F v w = (i : ℕ) (x y : T) → StandsAt F v i x → StandsAt F w i y → F.one_form x y
+OneFormBorrowed {T} F v w = (i : ℕ) (x y : T) → StandsAt F v i x → StandsAt F w i y → F.comparable x y
 
 -- The octets are read as items one after another, whose encodings do not decrease.
 -- The items are read under DER, whatever the rules of the octets around them.
@@ -76,7 +76,7 @@ abbrev pub parse_borrowed_items : Parse → List ℕ → Result (List (List ℕ)
 parse_borrowed_items parse octets = parse_in_order (length octets) parse [] 0 octets
 
 abbrev pub parse_borrowed : Parse → ContentsParse
-parse_borrowed parse rules p octets = joined (parse_borrowed_items parse octets)
+parse_borrowed parse rules p octets = join_encodings (parse_borrowed_items parse octets)
 
 -- what borrowing a slice of items answers: a set of them, or (11), as one cannot come after those before it
 abbrev pub Borrows : {T : Type 0} → form.Ghosts T → List T → Result (Borrowed T) Error → Type 0

@@ -75,10 +75,10 @@ module _ {T : Type 0} (F : form.Ghosts T) (rules : EncodingRules) where
       All-cons (λ v. (b : List ℕ) × F.accepts rules v b × (length b ≤ most)) v vs (b, a.0, omega arith) (parts_within vs d others most (omega arith))
 
   -- accepted items are of one form
-  pub one_forms : (m n : ℕ) (vs ws : List T) → All (λ v. (b : List ℕ) × F.accepts rules v b × (length b ≤ m)) vs → All (λ v. (b : List ℕ) × F.accepts rules v b × (length b ≤ n)) ws → OneForms F.one_form vs ws
-  one_forms m n [] ws a b = tt
-  one_forms m n (v ∷ vs) [] a b = tt
-  one_forms m n (v ∷ vs) (w ∷ ws) a b =
+  pub all_comparable : (m n : ℕ) (vs ws : List T) → All (λ v. (b : List ℕ) × F.accepts rules v b × (length b ≤ m)) vs → All (λ v. (b : List ℕ) × F.accepts rules v b × (length b ≤ n)) ws → OneForms F.comparable vs ws
+  all_comparable m n [] ws a b = tt
+  all_comparable m n (v ∷ vs) [] a b = tt
+  all_comparable m n (v ∷ vs) (w ∷ ws) a b =
       let x = All-head (λ v. (b : List ℕ) × F.accepts rules v b × (length b ≤ m)) v vs a in
       let y = All-head (λ v. (b : List ℕ) × F.accepts rules v b × (length b ≤ n)) w ws b in
-      (F.accepts_one_form rules v w x.0 y.0 x.1 y.1, one_forms m n vs ws (All-tail (λ v. (b : List ℕ) × F.accepts rules v b × (length b ≤ m)) v vs a) (All-tail (λ v. (b : List ℕ) × F.accepts rules v b × (length b ≤ n)) w ws b))
+      (F.accepts_comparable rules v w x.0 y.0 x.1 y.1, all_comparable m n vs ws (All-tail (λ v. (b : List ℕ) × F.accepts rules v b × (length b ≤ m)) v vs a) (All-tail (λ v. (b : List ℕ) × F.accepts rules v b × (length b ≤ n)) w ws b))

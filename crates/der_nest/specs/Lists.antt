@@ -37,6 +37,6 @@ unfoldable pub parse_each : ℕ → Parse → EncodingRules → ℕ → List ℕ
 parse_each capacity parse rules p octets = parse_up_to capacity (parse rules) p octets
 
 -- the encodings, joined
-abbrev pub joined : Result (List (List ℕ)) ErrorKind → Result (List ℕ) ErrorKind
-joined (Ok encodings) = Ok (concat encodings)
-joined (Err k) = Err k
+abbrev pub join_encodings : Result (List (List ℕ)) ErrorKind → Result (List ℕ) ErrorKind
+join_encodings (Ok encodings) = Ok (concat encodings)
+join_encodings (Err k) = Err k

@@ -20,8 +20,8 @@ abbrev pub encodings_read : ℕ → Parse → EncodingRules → ℕ → List ℕ
 encodings_read count parse rules p octets = encodings_or_none (parse_each count parse rules p octets)
 
 -- those that a reader has before it
-abbrev pub unread : ℕ → Parse → ReaderState → List (List ℕ)
-unread count parse s = encodings_read count parse s.rules s.position (rest s)
+abbrev pub encodings_left : ℕ → Parse → ReaderState → List (List ℕ)
+encodings_left count parse s = encodings_read count parse s.rules s.position (rest s)
 
 -- The next of items that are read again: none is left, or this one, or there was no memory and none follows.
 abbrev pub ReReads : {T : Type 0} → form.Ghosts T → List (List ℕ) → List (List ℕ) → Option (Result T Error) → Type 0

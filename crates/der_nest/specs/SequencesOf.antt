@@ -2,7 +2,7 @@
 use Rattle.std.specs.Prelude.{ℕ, ◌<◌, ◌≤◌, List, length}
 use Rattle.std.specs.List.{All}
 use Rattle.der_elem.specs.Parsing.{Parse, ContentsParse}
-use Rattle.der_nest.specs.Lists.{AcceptsEach, joined, parse_each}
+use Rattle.der_nest.specs.Lists.{AcceptsEach, join_encodings, parse_each}
 
 -- the octets are read as the items, one after another, and there are at most so many
 abbrev pub AcceptsUpTo : {T : Type 0} → ℕ → (T → List ℕ → Type 0) → List T → List ℕ → Type 0
@@ -14,4 +14,4 @@ ReadableUpTo capacity readable encoding vs = (length vs ≤ capacity) × All (λ
 
 -- item after item until nothing is left, at most so many; the first fault from the left
 abbrev pub parse_items_up_to : ℕ → Parse → ContentsParse
-parse_items_up_to capacity parse rules p octets = joined (parse_each capacity parse rules p octets)
+parse_items_up_to capacity parse rules p octets = join_encodings (parse_each capacity parse rules p octets)

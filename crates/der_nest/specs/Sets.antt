@@ -4,7 +4,7 @@ use Rattle.std.specs.List.{All, concat}
 use Rattle.std.specs.List.Sorted.{IsPermutation}
 use Rattle.der_tlv.specs.declared.error.ErrorKind.{ErrorKind}
 use Rattle.der_elem.specs.Parsing.{Parse, ContentsParse}
-use Rattle.der_nest.specs.Places.{IsInOrder, sorted}
+use Rattle.der_nest.specs.Places.{IsInOrder, sort_encodings}
 use Rattle.der_nest.specs.Lists.{AcceptsEach, parse_each}
 
 -- The octets are read as items one after another, and the set has these items in the order of their encodings.
@@ -20,7 +20,7 @@ ReadableSet readable encoding vs = All (λ v. readable v × (0 < length (encodin
 
 -- the encodings, put in order and joined
 abbrev pub joined_in_order : Result (List (List ℕ)) ErrorKind → Result (List ℕ) ErrorKind
-joined_in_order (Ok encodings) = Ok (concat (sorted encodings))
+joined_in_order (Ok encodings) = Ok (concat (sort_encodings encodings))
 joined_in_order (Err k) = Err k
 
 -- item after item until nothing is left, at most so many; the first fault from the left

@@ -3,7 +3,7 @@
 ghost use Rattle.std.specs.Prelude.{◌≡◌, ℕ, List, [], ◌∷◌, ◌++◌, map, flat_map};
 ghost use Rattle.std.specs.List.Sorted.{IsPermutation, IsSorted};
 ghost use Rattle.der_tlv.specs.Octets.{lex};
-ghost use Rattle.der_nest.specs.Places.{IsInOrder, placed, placed_all, sorted};
+ghost use Rattle.der_nest.specs.Places.{IsInOrder, insert_in_order, insert_each, sort_encodings};
 ghost use Rattle.der_nest.specs.Stable.{IsSetOf};
 
 use crate::sequence_ref::SequenceRef;
@@ -14,18 +14,18 @@ use std::cmp::Ordering;
 /// encodings, each as often, and none greater than the next.
 #[tactic(auto, using(crate::proofs::Unique::laws))]
 pub fn sorted_is_one_list()
-    ensures one { (ss ts : List (List ℕ)) → IsPermutation ss ts → sorted ss ≡ sorted ts }
-    ensures in_order { (ss : List (List ℕ)) → IsSorted lex (sorted ss) }
-    ensures same { (ss : List (List ℕ)) → IsPermutation ss (sorted ss) }
-    ensures only { (ss ts : List (List ℕ)) → IsPermutation ss ts → IsSorted lex ts → sorted ss ≡ ts }
+    ensures one { (ss ts : List (List ℕ)) → IsPermutation ss ts → sort_encodings ss ≡ sort_encodings ts }
+    ensures in_order { (ss : List (List ℕ)) → IsSorted lex (sort_encodings ss) }
+    ensures same { (ss : List (List ℕ)) → IsPermutation ss (sort_encodings ss) }
+    ensures only { (ss ts : List (List ℕ)) → IsPermutation ss ts → IsSorted lex ts → sort_encodings ss ≡ ts }
 {}
 
 /// The encodings of a set's items are those of the items inserted, in order, whatever the order in
 /// which they were inserted.
 #[tactic(auto, using(crate::proofs::Unique::laws))]
 pub fn set_is_sorted<T: Form>()
-    ensures encoded { (xs : List T) → map T.encoding (placed_all T.encoding [] xs) ≡ sorted (map T.encoding xs) }
-    ensures one { (xs ys : List T) → IsPermutation xs ys → map T.encoding (placed_all T.encoding [] xs) ≡ map T.encoding (placed_all T.encoding [] ys) }
+    ensures encoded { (xs : List T) → map T.encoding (insert_each T.encoding [] xs) ≡ sort_encodings (map T.encoding xs) }
+    ensures one { (xs ys : List T) → IsPermutation xs ys → map T.encoding (insert_each T.encoding [] xs) ≡ map T.encoding (insert_each T.encoding [] ys) }
 {}
 
 /// The history of a set: after any calls, it is the set of the items that came by them, one after
@@ -37,11 +37,11 @@ pub fn set_is_sorted<T: Form>()
 /// came in another order has the same contents octets.
 pub fn set_of_what_came<T: Form>()
     ensures none { IsSetOf T.encoding [] [] }
-    ensures inserted { (came set : List T) (item : T) → IsSetOf T.encoding came set → IsSetOf T.encoding (came ++ item ∷ []) (placed T.encoding set item) }
+    ensures inserted { (came set : List T) (item : T) → IsSetOf T.encoding came set → IsSetOf T.encoding (came ++ item ∷ []) (insert_in_order T.encoding set item) }
     ensures ordered { (came set : List T) (item : T) → IsSetOf T.encoding came set → IsInOrder T.encoding (set ++ item ∷ []) → IsSetOf T.encoding (came ++ item ∷ []) (set ++ item ∷ []) }
-    ensures extended { (came set more : List T) → IsSetOf T.encoding came set → IsSetOf T.encoding (came ++ more) (placed_all T.encoding set more) }
+    ensures extended { (came set more : List T) → IsSetOf T.encoding came set → IsSetOf T.encoding (came ++ more) (insert_each T.encoding set more) }
     ensures one { (came a b : List T) → IsSetOf T.encoding came a → IsSetOf T.encoding came b → a ≡ b }
-    ensures encoded { (came set : List T) → IsSetOf T.encoding came set → map T.encoding set ≡ sorted (map T.encoding came) }
+    ensures encoded { (came set : List T) → IsSetOf T.encoding came set → map T.encoding set ≡ sort_encodings (map T.encoding came) }
     ensures octets { (xs ys a b : List T) → IsPermutation xs ys → IsSetOf T.encoding xs a → IsSetOf T.encoding ys b → flat_map T.encoding a ≡ flat_map T.encoding b }
 {}
 

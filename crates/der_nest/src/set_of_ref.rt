@@ -16,7 +16,7 @@ ghost use Rattle.der_tlv.specs.declared.error.ErrorKind.TheVariants.{Memory};
 ghost use Rattle.der_nest.specs.Places.{IsInOrder};
 ghost use Rattle.der_nest.specs.BorrowedSets.{Borrowed, OfItems, OfOctets, encodings_of, borrowed_contents, re_reads_borrowed, OneFormBorrowed, Borrows, AcceptsBorrowed, ReadableBorrowed, parse_borrowed};
 ghost use Rattle.der_nest.specs.BorrowedItems.{GivesAt, AreItemsOf};
-ghost use Rattle.der_nest.specs.BorrowedLaws.{parse_of_borrowed, same_length_borrowed, accepts_borrowed_contents, readable_borrowed, one_form_borrowed, re_reads_borrowed_memory};
+ghost use Rattle.der_nest.specs.BorrowedLaws.{parse_of_borrowed, same_length_borrowed, accepts_borrowed_contents, readable_borrowed, comparable_borrowed, re_reads_borrowed_memory};
 
 mod checked_octets;
 mod comparing;
@@ -206,7 +206,7 @@ impl<'a, T: Form> OneTag for SetOfRef<'a, T> {
 impl<'a, T: Form> FormValue for SetOfRef<'a, T> {
     ghost contents = { borrowed_contents T.encoding };
 
-    ghost one_form_value = { OneFormBorrowed T.Form };
+    ghost comparable_value = { OneFormBorrowed T.Form };
 
     ghost re_reads_value = { re_reads_borrowed T.Form };
 
@@ -226,7 +226,7 @@ impl<'a, T: Form> FormValue for SetOfRef<'a, T> {
 
     ghost only_readable_value = { readable_borrowed T.Form };
 
-    ghost accepts_one_form_value = { one_form_borrowed T.Form };
+    ghost accepts_comparable_value = { comparable_borrowed T.Form };
 
     ghost re_reads_memory_value = { re_reads_borrowed_memory T.Form };
 }

@@ -34,12 +34,12 @@ pub struct SetOfRefIter<'a, T: Form> {
 impl<'a, T: Form> Model for SetOfRefIter<'a, T> {
     ghost use Rattle.der_tlv.specs.Views.{slice_reader_state};
     ghost use Rattle.der_nest.specs.BorrowedSets.{Borrowed, OfItems, OfOctets};
-    ghost use Rattle.der_nest.specs.ReReading.{unread};
+    ghost use Rattle.der_nest.specs.ReReading.{encodings_left};
     ghost use Rattle.der_nest.specs.declared.set_of_ref_iter.Rest.TheVariants.{Octets, Items};
 
     ghost Value = { Borrowed T };
 
-    ghost view = { λ s. elim s.rest [ Octets r ↦ OfOctets (unread r.left T.parse (slice_reader_state r.reader)) | Items i ↦ OfItems i.now ] };
+    ghost view = { λ s. elim s.rest [ Octets r ↦ OfOctets (encodings_left r.left T.parse (slice_reader_state r.reader)) | Items i ↦ OfItems i.now ] };
 }
 
 impl<'a, T: Decode<'a, SliceReader<'a>>> SetOfRefIter<'a, T> {

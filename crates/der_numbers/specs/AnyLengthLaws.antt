@@ -3,7 +3,7 @@ use Rattle.std.proofs.Common.{◌≡◌, ℕ, ◌<◌, true, false, List, [], �
 use Rattle.std.proofs.lemmas.Bool.{cases_lt}
 use Rattle.std.proofs.lemmas.Bool.Decides.{nat_tests}
 use Rattle.der_tlv.specs.declared.error.ErrorKind.{ErrorKind}
-use Rattle.der_elem.specs.Integer.{AreOctets, big_endian_number, integer_contents, twos_complement, is_redundant, complemented, natural_contents}
+use Rattle.der_elem.specs.Integer.{AreOctets, big_endian_number, integer_contents, twos_complement, is_redundant, complement_octets, natural_contents}
 use Rattle.der_elem.specs.IntegerLaws.{integer_contents_twos_complement, twos_complement_integer_contents, integer_contents-some, integer_contents-pos, integer_contents-needed, twos_complement-pos, twos_complement-negsuc}
 use Rattle.der_numbers.specs.AnyLength.{integer_or_fault}
 
@@ -53,7 +53,7 @@ twos_complement-redundant (first ∷ second ∷ others) all redundant = (
     | inr large ↦
         let ones : first ≡ 255 = grind (arith, nat_tests) in
         twos_complement-negsuc (first ∷ second ∷ others) all (omega arith)
-        ∙ ap (λ f. negsuc (big_endian_number (complemented (f ∷ second ∷ others)))) ones
+        ∙ ap (λ f. negsuc (big_endian_number (complement_octets (f ∷ second ∷ others)))) ones
         ∙ sym (twos_complement-negsuc (second ∷ others) all.1 large)
   ],
 )

@@ -7,18 +7,18 @@ use Rattle.der_tlv.specs.declared.header.Header.{Header}
 use Rattle.der_tlv.specs.HeaderOctets.{tlv}
 use Rattle.der_tlv.specs.HeaderReading.{read_header, octets_of}
 use Rattle.der_tlv.specs.Reading.{HeadFault, OctetsRead, OctetsRefused}
-use Rattle.der_tlv.specs.ReaderState.{ReaderState, rest, after_read, nested, seen}
-use Rattle.der_tlv.proofs.ReaderStates.{rest-nested, room_from_can_read}
+use Rattle.der_tlv.specs.ReaderState.{ReaderState, rest, after_read, after_nest, unless_failed}
+use Rattle.der_tlv.proofs.ReaderStates.{rest-after_nest, room_from_can_read}
 use Rattle.der_elem.proofs.AtContents.{AtHeader, AtContents, parse_behind, parse_too_long, parse_shown, shown_length, taken, after_contents}
 use Rattle.der_opaque.specs.Opaque.{parse_octets}
 use Rattle.der_opaque.specs.AnyForm.{parse_any, parse_behind_header}
 
 -- the header's fault is that of the whole encoding
-pub header_fault_any : {old new : ReaderState} {kind : ErrorKind} → HeadFault read_header old new kind → (rules : EncodingRules) → seen (parse_any rules) old ≡ Err kind
+pub header_fault_any : {old new : ReaderState} {kind : ErrorKind} → HeadFault read_header old new kind → (rules : EncodingRules) → unless_failed (parse_any rules) old ≡ Err kind
 unfolding parse_any
 header_fault_any {old} {new} {kind} fault rules = at old.failed refl
   where
-    at : (b : Bool) → old.failed ≡ b → seen (parse_any rules) old ≡ Err kind
+    at : (b : Bool) → old.failed ≡ b → unless_failed (parse_any rules) old ≡ Err kind
     at true e = let there = rw e at fault.fault_is in let k : Failed ≡ kind = cc in rw e (ap Err k)
     at false e =
         let there : read_header old.position (rest old) ≡ Err kind = rw e at fault.fault_is in
@@ -30,16 +30,16 @@ module _ {header : Header} {old mid : ReaderState} (at : AtHeader header old mid
   parse_is = ap (parse_behind_header rules old.position (rest old)) at.head.parsed
 
   -- contents octets longer than what is left
-  pub too_long_any : {new : ReaderState} {kind : ErrorKind} → OctetsRefused mid new header.length kind → seen (parse_any rules) old ≡ Err kind
+  pub too_long_any : {new : ReaderState} {kind : ErrorKind} → OctetsRefused mid new header.length kind → unless_failed (parse_any rules) old ≡ Err kind
   too_long_any refused = rw at.head.ready (parse_is ∙ parse_too_long at refused parse_octets rules)
 
 module _ {header : Header} {old mid new : ReaderState} {octets : List ℕ} (at : AtHeader header old mid) (read : OctetsRead mid new header.length octets) where
-  within : AtContents header old mid (nested mid header.length) mid.end
+  within : AtContents header old mid (after_nest mid header.length) mid.end
   within = record { at = at; nest = record { readable = read.readable; end_is = refl; after = refl } }
 
-  octets_shown : rest (nested mid header.length) ≡ octets
+  octets_shown : rest (after_nest mid header.length) ≡ octets
   octets_shown =
-      rest-nested mid header.length (room_from_can_read mid header.length read.readable) ∙ sym read.value
+      rest-after_nest mid header.length (room_from_can_read mid header.length read.readable) ∙ sym read.value
 
   pub parsed_any : (rules : EncodingRules) → parse_any rules old.position (rest old) ≡ Ok (length (octets_of header) + header.length, tlv header.tag octets)
   parsed_any rules =
@@ -50,4 +50,4 @@ module _ {header : Header} {old mid new : ReaderState} {octets : List ℕ} (at :
 
   pub after_any : new ≡ after_read old (length (octets_of header) + header.length)
   after_any =
-      after_contents within {after = after_read (nested mid header.length) (length (rest (nested mid header.length)))} refl (read.after ∙ ap (after_read mid) (sym (shown_length within)))
+      after_contents within {after = after_read (after_nest mid header.length) (length (rest (after_nest mid header.length)))} refl (read.after ∙ ap (after_read mid) (sym (shown_length within)))

@@ -5,7 +5,7 @@ use Rattle.der_tlv.specs.declared.error.ErrorKind.{ErrorKind}
 use Rattle.der_tlv.specs.declared.error.Error.{Error}
 use Rattle.der_tlv.specs.declared.encoding_rules.EncodingRules.{EncodingRules}
 use Rattle.der_tlv.specs.declared.header.Header.{Header}
-use Rattle.der_tlv.specs.ReaderState.{ReaderState, rest, opened}
+use Rattle.der_tlv.specs.ReaderState.{ReaderState, rest, new_reader}
 use Rattle.der_elem.specs.declared.form.FormValue as value
 use Rattle.der_elem.specs.declared.form.Form as form
 use Rattle.der_elem.specs.Accepting.{Fits}
@@ -13,7 +13,7 @@ use Rattle.der_elem.specs.Decoding.{DecodesValue}
 use Rattle.der_opaque.specs.DecodingAs.{DecodesAs, NotDecodedAs}
 
 -- a new reader shows all of the octets
-pub rest_opened : (octets : List ℕ) (rules : EncodingRules) {s : ReaderState} → s ≡ opened octets rules → rest s ≡ octets
+pub rest_opened : (octets : List ℕ) (rules : EncodingRules) {s : ReaderState} → s ≡ new_reader octets rules → rest s ≡ octets
 rest_opened octets rules opens = ap rest opens ∙ take-length octets
 
 module _ {T : Type 0} (C : form.Ghosts T) (F : value.Ghosts T) (rules : EncodingRules) (header : Header) (octets : List ℕ) (fits : Fits octets) (allowed : C.tags header.tag ≡ true) where
@@ -24,7 +24,7 @@ module _ {T : Type 0} (C : form.Ghosts T) (F : value.Ghosts T) (rules : Encoding
         nothing = λ t w accepted. let k = sym (F.parse_of_accepted_value rules w 0 octets accepted fits) ∙ e in absurd (cc);
       }
 
-  at_opened : (new : ReaderState) (r : Result T Error) → DecodesValue F header (opened octets rules) new r → DecodesAs C F rules header.tag octets r
+  at_opened : (new : ReaderState) (r : Result T Error) → DecodesValue F header (new_reader octets rules) new r → DecodesAs C F rules header.tag octets r
   at_opened new (Ok v) told =
       record {
         allowed = allowed;
@@ -39,5 +39,5 @@ module _ {T : Type 0} (C : form.Ghosts T) (F : value.Ghosts T) (rules : Encoding
       ]
 
   -- what the type answers of the octets
-  pub decodes_as : (s new : ReaderState) (r : Result T Error) → s ≡ opened octets rules → DecodesValue F header s new r → DecodesAs C F rules header.tag octets r
+  pub decodes_as : (s new : ReaderState) (r : Result T Error) → s ≡ new_reader octets rules → DecodesValue F header s new r → DecodesAs C F rules header.tag octets r
   decodes_as s new r opens told = at_opened new r (subst (λ s. DecodesValue F header s new r) opens told)

@@ -5,7 +5,7 @@ use Rattle.std.specs.Fn.{Once, FnOnceReturnsAtMut}
 use Rattle.der_tlv.specs.declared.error.ErrorKind.{ErrorKind}
 use Rattle.der_tlv.specs.declared.error.Error.{Error}
 use Rattle.der_tlv.specs.declared.encoding_rules.EncodingRules.TheVariants.{Der}
-use Rattle.der_tlv.specs.ReaderState.{ReaderState, opened, can_finish, finish_fault}
+use Rattle.der_tlv.specs.ReaderState.{ReaderState, new_reader, can_finish, finish_fault}
 
 -- an error of the caller's, made of one of this kind
 abbrev pub RefusesWith : {T E : Type 0} → (Error → E → Type 0) → ErrorKind → Result T E → Type 0
@@ -23,6 +23,6 @@ pub record CalledOn {F R T E : Type 0} (call : Once F (MutBor R × Unit {0}) (Re
   pub old : R
   pub new : R
   pub answer : Result T E
-  pub opens : state old ≡ opened octets Der
+  pub opens : state old ≡ new_reader octets Der
   pub returns : FnOnceReturnsAtMut call f old answer new
   pub ends : AnswersAtEnd gives (state new) answer result

@@ -215,7 +215,7 @@ impl FormValue for Any {
 
     ghost only_readable_value = { λ rules v c a. tt };
 
-    ghost accepts_one_form_value = { λ rules v w c d a b. tt };
+    ghost accepts_comparable_value = { λ rules v w c d a b. tt };
 
     ghost re_reads_memory_value = { λ v e. refl };
 }
@@ -223,7 +223,7 @@ impl FormValue for Any {
 impl Form for Any {
     ghost encoding = { λ v. tlv v.tag v.value.items };
 
-    ghost one_form = { λ v w. Unit {0} };
+    ghost comparable = { λ v w. Unit {0} };
 
     ghost re_reads = { λ v. false };
 
@@ -251,7 +251,7 @@ impl Form for Any {
 
     ghost only_readable = { λ rules v b a. a.0 };
 
-    ghost accepts_one_form = { λ rules v w b c d e. tt };
+    ghost accepts_comparable = { λ rules v w b c d e. tt };
 
     ghost re_reads_memory = { λ v e. refl };
 }
@@ -285,7 +285,7 @@ impl Tagged for Any {
 
     ghost re_reads_alike = { λ v h. h };
 
-    ghost one_form_alike = { λ v w h. h };
+    ghost comparable_alike = { λ v w h. h };
 }
 
 impl Choice for Any {

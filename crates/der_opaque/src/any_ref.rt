@@ -187,7 +187,7 @@ impl<'a> FormValue for AnyRef<'a> {
 
     ghost only_readable_value = { λ rules v c a. tt };
 
-    ghost accepts_one_form_value = { λ rules v w c d a b. tt };
+    ghost accepts_comparable_value = { λ rules v w c d a b. tt };
 
     ghost re_reads_memory_value = { λ v e. e };
 }
@@ -195,7 +195,7 @@ impl<'a> FormValue for AnyRef<'a> {
 impl<'a> Form for AnyRef<'a> {
     ghost encoding = { λ v. tlv v.tag v.value.now };
 
-    ghost one_form = { λ v w. Unit {0} };
+    ghost comparable = { λ v w. Unit {0} };
 
     ghost re_reads = { λ v. false };
 
@@ -223,7 +223,7 @@ impl<'a> Form for AnyRef<'a> {
 
     ghost only_readable = { λ rules v b a. a.0 };
 
-    ghost accepts_one_form = { λ rules v w b c d e. tt };
+    ghost accepts_comparable = { λ rules v w b c d e. tt };
 
     ghost re_reads_memory = { λ v e. e };
 }
@@ -257,7 +257,7 @@ impl<'a> Tagged for AnyRef<'a> {
 
     ghost re_reads_alike = { λ v h. h };
 
-    ghost one_form_alike = { λ v w h. h };
+    ghost comparable_alike = { λ v w h. h };
 }
 
 impl<'a> Choice for AnyRef<'a> {

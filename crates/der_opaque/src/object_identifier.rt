@@ -86,7 +86,7 @@ impl<const MAX_SIZE: usize> FormValue for ObjectIdentifier<MAX_SIZE> {
 
     ghost only_readable_value = { only_within (λ v. take v.count v.octets) (λ v. Unit {0}) };
 
-    ghost accepts_one_form_value = { λ rules v w c d a b. tt };
+    ghost accepts_comparable_value = { λ rules v w c d a b. tt };
 
     ghost re_reads_memory_value = { λ v e. e };
 }

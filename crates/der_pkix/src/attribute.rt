@@ -49,7 +49,7 @@ impl<'a> Sequence<'a> for AttributeTypeAndValue<'a> {
 impl<'a> FormValue for AttributeTypeAndValue<'a> {
     ghost contents = { λ v. ⟦<AttributeFields<'a> as FieldList>⟧.joined v.fields };
 
-    ghost one_form_value = { λ v w. ⟦<AttributeFields<'a> as FieldList>⟧.one_forms v.fields w.fields };
+    ghost comparable_value = { λ v w. ⟦<AttributeFields<'a> as FieldList>⟧.all_comparable v.fields w.fields };
 
     ghost re_reads_value = { λ v. ⟦<AttributeFields<'a> as FieldList>⟧.re_read v.fields };
 
@@ -69,7 +69,7 @@ impl<'a> FormValue for AttributeTypeAndValue<'a> {
 
     ghost only_readable_value = { λ rules v. ⟦<AttributeFields<'a> as FieldList>⟧.only_readable_fields rules v.fields };
 
-    ghost accepts_one_form_value = { λ rules v w. ⟦<AttributeFields<'a> as FieldList>⟧.accepts_one_forms rules v.fields w.fields };
+    ghost accepts_comparable_value = { λ rules v w. ⟦<AttributeFields<'a> as FieldList>⟧.accepts_all_comparable rules v.fields w.fields };
 
     ghost re_reads_memory_value = { λ v. ⟦<AttributeFields<'a> as FieldList>⟧.re_read_memory v.fields };
 }
@@ -111,7 +111,7 @@ impl<'a> ValueOrd for AttributeTypeAndValue<'a> {
 
 impl<'a> ContentsEq for AttributeTypeAndValue<'a> {
     ghost contents_eq = { λ v w one.
-        let kind = encoding_eq_tagged tags.ObjectIdentifier ⟦<ObjectIdentifier<39> as FormValue>⟧.contents ⟦<ObjectIdentifier<39> as FormValue>⟧.one_form_value ⟦<ObjectIdentifier<39> as PartialEq>⟧.eq (identifier.contents_eq-law 39 (record { fits = lit< tt })) v.fields.first w.fields.first one.0 in
+        let kind = encoding_eq_tagged tags.ObjectIdentifier ⟦<ObjectIdentifier<39> as FormValue>⟧.contents ⟦<ObjectIdentifier<39> as FormValue>⟧.comparable_value ⟦<ObjectIdentifier<39> as PartialEq>⟧.eq (identifier.contents_eq-law 39 (record { fits = lit< tt })) v.fields.first w.fields.first one.0 in
         let value = any.encoding_eq-law v.fields.rest.first w.fields.rest.first one.1.0 in
         let last = eq_both _ _ _ _ _ _ value (λ _. refl, λ _. refl) (encoding-unique ⟦<AnyRef<'a> as Tagged>⟧.tag_of ⟦<AnyRef<'a> as FormValue>⟧.contents ⟦<AnyRef<'a> as Form>⟧.encoding (λ _. refl) v.fields.rest.first w.fields.rest.first _ _) in
         eq_both _ _ _ _ _ _ kind last (encoding-unique (λ _. tags.ObjectIdentifier) ⟦<ObjectIdentifier<39> as FormValue>⟧.contents ⟦<ObjectIdentifier<39> as Form>⟧.encoding (λ _. refl) v.fields.first w.fields.first _ _) };

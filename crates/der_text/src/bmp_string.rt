@@ -151,7 +151,7 @@ impl FormValue for BmpString {
 
     ghost only_readable_value = { λ rules v c a. tt };
 
-    ghost accepts_one_form_value = { λ rules v w c d a b. tt };
+    ghost accepts_comparable_value = { λ rules v w c d a b. tt };
 
     ghost re_reads_memory_value = { λ v e. refl };
 }

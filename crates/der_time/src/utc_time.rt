@@ -142,7 +142,7 @@ impl FormValue for UtcTime {
 
     ghost only_readable_value = { only_within utc_time_contents (λ v. Unit {0}) };
 
-    ghost accepts_one_form_value = { λ rules v w c d a b. tt };
+    ghost accepts_comparable_value = { λ rules v w c d a b. tt };
 
     ghost re_reads_memory_value = { λ v e. e };
 }

@@ -8,7 +8,7 @@ use Rattle.der_tlv.specs.declared.tag.Tag.{Tag}
 use Rattle.der_tlv.specs.Identifier.{identifier}
 use Rattle.der_tlv.specs.LengthOctets.{length_octets}
 use Rattle.der_tlv.specs.HeaderOctets.{header_octets}
-use Rattle.der_tlv.specs.ReaderState.{ReaderState, rest, after_read, seen}
+use Rattle.der_tlv.specs.ReaderState.{ReaderState, rest, after_read, unless_failed}
 use Rattle.der_tlv.specs.HeaderReading.{read_tag, read_length, read_header, header, header_with_tag, header_with_length}
 use Rattle.der_tlv.specs.Reading.{HeadFault, HeadRead}
 use Rattle.der_tlv.proofs.Refusals.{went_on, refused_since}
@@ -53,6 +53,6 @@ pub header_tag_fault : {old new : ReaderState} {kind : ErrorKind} → HeadFault 
 unfolding read_header
 header_tag_fault {old} {new} {kind} fault = record { fault_is = at old.failed refl; reader = fault.reader }
   where
-    at : (b : Bool) → old.failed ≡ b → seen read_header old ≡ Err kind
+    at : (b : Bool) → old.failed ≡ b → unless_failed read_header old ≡ Err kind
     at true e = let there = rw e at fault.fault_is in let k : Failed ≡ kind = cc in rw e (ap Err k)
     at false e = let there : read_tag old.position (rest old) ≡ Err kind = rw e at fault.fault_is in rw e (ap (header_with_tag old.position (rest old)) there)

@@ -6,7 +6,7 @@ use Rattle.std.proofs.lemmas.Bool.Decides.{nat_tests}
 use Rattle.std.specs.Int.Digits.{number_from_digits, AllBelowBase}
 use Rattle.std.proofs.lemmas.Int.Digits.{number_push, number_lt}
 use Rattle.der_tlv.specs.declared.error.ErrorKind.{ErrorKind}
-use Rattle.der_tlv.specs.ReaderState.{ReaderState, rest, after_read, seen, read_fault_at}
+use Rattle.der_tlv.specs.ReaderState.{ReaderState, rest, after_read, unless_failed, read_fault_at}
 use Rattle.der_tlv.specs.HeaderReading.{read_long_length}
 use Rattle.der_tlv.specs.Reading.{OctetRead}
 use Rattle.der_tlv.proofs.ReaderStates.{rest-after_read}
@@ -55,7 +55,7 @@ so_far-lt {old} {count} {n} so_far =
     rw (so_far.number) (subst (λ k. number_from_digits 256 (take count (rest old)) < 256 ^ k) l lt)
 
 -- an octet is missing
-pub missing : {old now : ReaderState} {done n : ℕ} → OctetsSoFar old now done n → (count : ℕ) → done < count → rest now ≡ [] → (kind : ErrorKind) → kind ≡ read_fault_at now.position 1 0 → seen (read_long_length count) old ≡ Err kind
+pub missing : {old now : ReaderState} {done n : ℕ} → OctetsSoFar old now done n → (count : ℕ) → done < count → rest now ≡ [] → (kind : ErrorKind) → kind ≡ read_fault_at now.position 1 0 → unless_failed (read_long_length count) old ≡ Err kind
 unfolding read_long_length
 missing {old} {now} {done} so_far count more none kind e =
     let left : drop done (rest old) ≡ [] = sym (rest_so_far so_far) ∙ none in

@@ -3,7 +3,7 @@ use Rattle.std.proofs.Common.{◌≡◌, ℕ, ◌+◌, ◌≤◌, List, length, 
 use Rattle.std.proofs.lemmas.List.{drop-drop, drop-take, take-take, length-take, length-drop}
 use Rattle.std.proofs.lemmas.Bool.Decides.{nat_tests}
 use Rattle.std.proofs.lemmas.Bool.{leb-true}
-use Rattle.der_tlv.specs.ReaderState.{ReaderState, IsReaderState, rest, after_read, nested, can_read}
+use Rattle.der_tlv.specs.ReaderState.{ReaderState, IsReaderState, rest, after_read, after_nest, can_read}
 
 pub rest-after_read : (s : ReaderState) (n : ℕ) → rest (after_read s n) ≡ drop n (rest s)
 rest-after_read s n = sym (drop-drop n s.position (take s.end s.input))
@@ -11,8 +11,8 @@ rest-after_read s n = sym (drop-drop n s.position (take s.end s.input))
 pub length-rest : (s : ReaderState) → IsReaderState s → s.position + length (rest s) ≡ s.end
 length-rest s h = let a = length-drop s.position (take s.end s.input) in let b = length-take s.end s.input in let o = h.ordered in let i = h.inside in omega arith
 
-pub rest-nested : (s : ReaderState) (n : ℕ) → s.position + n ≤ s.end → rest (nested s n) ≡ take n (rest s)
-rest-nested s n h =
+pub rest-after_nest : (s : ReaderState) (n : ℕ) → s.position + n ≤ s.end → rest (after_nest s n) ≡ take n (rest s)
+rest-after_nest s n h =
     ap (drop s.position) (sym (take-take (s.position + n) s.end s.input h)) ∙ drop-take s.position n (take s.end s.input)
 
 pub room_from_can_read : (s : ReaderState) (n : ℕ) → can_read s n ≡ true → s.position + n ≤ s.end

@@ -2,7 +2,7 @@
 use Rattle.std.proofs.Common.{◌≡◌, ℕ, ◌≤◌, List, Bool, true, false, Result, Err, ap, sym, ◌∙◌, arith, refl}
 use Rattle.der_tlv.specs.declared.error.ErrorKind.{ErrorKind}
 use Rattle.der_tlv.specs.declared.error.ErrorKind.TheVariants.{Failed}
-use Rattle.der_tlv.specs.ReaderState.{ReaderState, rest, seen, after_read, after_fault, nested, can_read, read_fault}
+use Rattle.der_tlv.specs.ReaderState.{ReaderState, rest, unless_failed, after_read, after_fault, after_nest, can_read, read_fault}
 use Rattle.der_tlv.specs.Reading.{Refused, Passed, Refuses, OctetsRefused, HeadFault}
 use Rattle.der_tlv.proofs.ReaderStates.{room_from_can_read}
 
@@ -22,7 +22,7 @@ went_on n e =
     let q = ap (λ (s : ReaderState). s.end) e in
     record { input = ap (λ (s : ReaderState). s.input) e; rules = ap (λ (s : ReaderState). s.rules) e; onward = omega arith; narrower = omega arith }
 
-pub went_inside : {old mid : ReaderState} (n : ℕ) → can_read old n ≡ true → mid ≡ nested old n → Went old mid
+pub went_inside : {old mid : ReaderState} (n : ℕ) → can_read old n ≡ true → mid ≡ after_nest old n → Went old mid
 went_inside {old} n can e =
     let p = ap (λ (s : ReaderState). s.position) e in
     let q = ap (λ (s : ReaderState). s.end) e in
@@ -105,6 +105,6 @@ refused_octets {old} {n = n} refused = refused_here refused.after (λ e. refused
 pub refused_at_first : {A : Type 0} (parse : ℕ → List ℕ → Result (ℕ × A) ErrorKind) (old new : ReaderState) (kind : ErrorKind) → Refuses old new kind (read_fault old 1) → (old.failed ≡ false → parse old.position (rest old) ≡ Err kind) → HeadFault parse old new kind
 refused_at_first parse old new kind refused fault = record { fault_is = at old.failed refl; reader = refused_octet refused }
   where
-    at : (b : Bool) → old.failed ≡ b → seen parse old ≡ Err kind
+    at : (b : Bool) → old.failed ≡ b → unless_failed parse old ≡ Err kind
     at true e = rw e (ap Err (sym (refused.fault_is ∙ failed_fault old 1 e)))
     at false e = rw e (fault e)

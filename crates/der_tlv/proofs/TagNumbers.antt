@@ -3,7 +3,7 @@ use Rattle.std.proofs.Common.{◌≡◌, ℕ, zero, suc, ◌+◌, ◌<◌, ◌�
 use Rattle.std.proofs.lemmas.List.{take_at}
 use Rattle.der_tlv.specs.declared.error.ErrorKind.{ErrorKind}
 use Rattle.der_tlv.specs.declared.error.ErrorKind.TheVariants.{Failed, TagNumberInvalid}
-use Rattle.der_tlv.specs.ReaderState.{ReaderState, rest, after_read, after_fault, read_fault, read_fault_at, seen}
+use Rattle.der_tlv.specs.ReaderState.{ReaderState, rest, after_read, after_fault, read_fault, read_fault_at, unless_failed}
 use Rattle.der_tlv.specs.Identifier.{number_octets}
 use Rattle.der_tlv.specs.HeaderReading.{read_number}
 use Rattle.der_tlv.specs.Reading.{OctetRead, Refuses, Refused, HeadRead, HeadFault}
@@ -60,7 +60,7 @@ number_read {old = old} {next = next} {n = n} {octet = octet} {v = v} so_far rea
     }
 
 -- what a reader sees that has not failed
-pub seen_ready : {A : Type 0} (parse : ℕ → List ℕ → Result A ErrorKind) (s : ReaderState) → s.failed ≡ false → seen parse s ≡ parse s.position (rest s)
+pub seen_ready : {A : Type 0} (parse : ℕ → List ℕ → Result A ErrorKind) (s : ReaderState) → s.failed ≡ false → unless_failed parse s ≡ parse s.position (rest s)
 seen_ready parse s e = ap (λ b. if b then Err Failed else parse s.position (rest s)) e
 
 -- an octet that is no digit
@@ -89,7 +89,7 @@ number_missing {old = old} {now = now} {new = new} {n = n} {kind = kind} so_far 
     refused_there true e = refused_here (refused.after ∙ ap after_fault (unmoved e)) (λ h. refused.fault_is ∙ failed_fault now 1 (same_failed ∙ h))
     refused_there false e = refused_since e (went_on _ so_far.after) (refused_octet refused)
 
-    at : (b : Bool) → old.failed ≡ b → seen read_number old ≡ Err kind
+    at : (b : Bool) → old.failed ≡ b → unless_failed read_number old ≡ Err kind
     at true e = ap (λ b. if b then Err Failed else read_number old.position (rest old)) e ∙ ap (λ k. Err k) (sym (refused.fault_is ∙ failed_fault now 1 (same_failed ∙ e)))
     at false e =
         let ready : now.failed ≡ false = same_failed ∙ e in

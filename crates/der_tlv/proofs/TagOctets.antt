@@ -8,11 +8,11 @@ use Rattle.der_tlv.specs.TagParts.{class_of, is_constructed, number_of}
 use Rattle.der_tlv.specs.Identifier.{first_octet, number_octets, identifier}
 use Rattle.der_tlv.specs.IdentifierLaws.{identifier-is, low_bits, sized}
 use Rattle.der_tlv.specs.IdentifierLaws.Sized.{short, long}
-use Rattle.der_tlv.specs.TagDigits.{marked, leading_octets}
+use Rattle.der_tlv.specs.TagDigits.{mark_digits, leading_octets}
 
 -- the last of the octets with bit 8 set
 pub leading_octets-step : (n : ℕ) → 0 < n → leading_octets n ≡ leading_octets (n / 128) ++ ((128 + n % 128) ∷ [])
-leading_octets-step n h = ap marked (digits_of_step 128 n (omega arith) h) ∙ map-append (λ k. 128 + k) (digits_of 128 (n / 128)) (n % 128 ∷ [])
+leading_octets-step n h = ap mark_digits (digits_of_step 128 n (omega arith) h) ∙ map-append (λ k. 128 + k) (digits_of 128 (n / 128)) (n % 128 ∷ [])
 
 -- there is one more octet with each digit
 pub length-leading_octets-step : (n : ℕ) → 0 < n → length (leading_octets n) ≡ length (leading_octets (n / 128)) + 1

@@ -19,15 +19,15 @@ use Rattle.der_tlv.specs.Octets.{lex}
 use Rattle.der_tlv.specs.OctetLaws.{SameBeginning, lex-append, lex-equal, lex-same}
 
 -- octets with bit 8 set, one without, and a tail: each part is the other's where the whole is
-marked-unique : (a b : List ℕ) (r s : ℕ) (x y : List ℕ) → r < 128 → s < 128 → map (λ d. 128 + d) a ++ (r ∷ x) ≡ map (λ d. 128 + d) b ++ (s ∷ y) → (a ≡ b) × (r ≡ s) × (x ≡ y)
-marked-unique [] [] r s x y p q e = (refl, cc, cc)
-marked-unique [] (d ∷ b) r s x y p q e = let k : r ≡ 128 + d = cc in absurd (omega arith)
-marked-unique (c ∷ a) [] r s x y p q e = let k : 128 + c ≡ s = cc in absurd (omega arith)
-marked-unique (c ∷ a) (d ∷ b) r s x y p q e =
+mark_digits-unique : (a b : List ℕ) (r s : ℕ) (x y : List ℕ) → r < 128 → s < 128 → map (λ d. 128 + d) a ++ (r ∷ x) ≡ map (λ d. 128 + d) b ++ (s ∷ y) → (a ≡ b) × (r ≡ s) × (x ≡ y)
+mark_digits-unique [] [] r s x y p q e = (refl, cc, cc)
+mark_digits-unique [] (d ∷ b) r s x y p q e = let k : r ≡ 128 + d = cc in absurd (omega arith)
+mark_digits-unique (c ∷ a) [] r s x y p q e = let k : 128 + c ≡ s = cc in absurd (omega arith)
+mark_digits-unique (c ∷ a) (d ∷ b) r s x y p q e =
     let k : 128 + c ≡ 128 + d = cc in
     let same : c ≡ d = omega arith in
     let tail : map (λ d. 128 + d) a ++ (r ∷ x) ≡ map (λ d. 128 + d) b ++ (s ∷ y) = cc in
-    let parts = marked-unique a b r s x y p q tail in
+    let parts = mark_digits-unique a b r s x y p q tail in
     let digits : a ≡ b = parts.0 in
     (cc, parts.1, parts.2)
 
@@ -35,7 +35,7 @@ marked-unique (c ∷ a) (d ∷ b) r s x y p q e =
 pub number_octets-unique : (m n : ℕ) (x y : List ℕ) → number_octets m ++ x ≡ number_octets n ++ y → (m ≡ n) × (x ≡ y)
 unfolding number_octets
 number_octets-unique m n x y e =
-    let parts = marked-unique (digits_of 128 (m / 128)) (digits_of 128 (n / 128)) (m % 128) (n % 128) x y (omega arith) (omega arith)
+    let parts = mark_digits-unique (digits_of 128 (m / 128)) (digits_of 128 (n / 128)) (m % 128) (n % 128) x y (omega arith) (omega arith)
     (sym (append_assoc (map (λ d. 128 + d) (digits_of 128 (m / 128))) (m % 128 ∷ []) x) ∙ e ∙ append_assoc (map (λ d. 128 + d) (digits_of 128 (n / 128))) (n % 128 ∷ []) y) in
     let high : m / 128 ≡ n / 128 = same_from_digits_of 128 (m / 128) (n / 128) (omega arith) parts.0 in
     let low : m % 128 ≡ n % 128 = parts.1 in

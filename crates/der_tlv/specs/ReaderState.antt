@@ -19,8 +19,8 @@ pub record IsReaderState (s : ReaderState) : Type 0 where
   pub short : length s.input < 2 ^ 32
 
 -- a new reader of these octets
-abbrev pub opened : List ℕ → EncodingRules → ReaderState
-opened input rules = record { input = input; position = 0; end = length input; failed = false; rules = rules }
+abbrev pub new_reader : List ℕ → EncodingRules → ReaderState
+new_reader input rules = record { input = input; position = 0; end = length input; failed = false; rules = rules }
 
 -- the octets that it can still give
 abbrev pub rest : ReaderState → List ℕ
@@ -32,14 +32,14 @@ after_read s n = record s { position = s.position + n }
 abbrev pub after_fault : ReaderState → ReaderState
 after_fault s = record s { failed = true }
 
-abbrev pub nested : ReaderState → ℕ → ReaderState
-nested s n = record s { end = s.position + n }
+abbrev pub after_nest : ReaderState → ℕ → ReaderState
+after_nest s n = record s { end = s.position + n }
 
-abbrev pub unnested : ReaderState → ℕ → ReaderState
-unnested s end = record s { end = end }
+abbrev pub after_unnest : ReaderState → ℕ → ReaderState
+after_unnest s end = record s { end = end }
 
-abbrev pub rewound : ReaderState → ℕ → ReaderState
-rewound s position = record s { position = position }
+abbrev pub after_rewind : ReaderState → ℕ → ReaderState
+after_rewind s position = record s { position = position }
 
 abbrev pub can_read : ReaderState → ℕ → Bool
 can_read s n = not s.failed && nat_le (s.position + n) s.end
@@ -58,8 +58,8 @@ abbrev pub unnest_fault : ReaderState → ErrorKind
 unnest_fault s = if s.failed then Failed else (if s.position == s.end then Overflow else TrailingData s.position (length (rest s)))
 
 -- what a reader sees of a result that depends on its position and the octets left: a reader that has refused sees (17)
-abbrev pub seen : {A : Type 0} → (ℕ → List ℕ → Result A ErrorKind) → ReaderState → Result A ErrorKind
-seen parse s = if s.failed then Err Failed else parse s.position (rest s)
+abbrev pub unless_failed : {A : Type 0} → (ℕ → List ℕ → Result A ErrorKind) → ReaderState → Result A ErrorKind
+unless_failed parse s = if s.failed then Err Failed else parse s.position (rest s)
 
 abbrev pub can_finish : ReaderState → Bool
 can_finish s = not s.failed && (s.position == length s.input)

@@ -4,7 +4,7 @@ use Rattle.der_tlv.specs.declared.error.ErrorKind.{ErrorKind}
 use Rattle.der_tlv.specs.declared.error.ErrorKind.TheVariants.{Overflow, Failed}
 use Rattle.der_tlv.specs.declared.error.Error.{Error}
 use Rattle.der_tlv.specs.declared.encoding_rules.EncodingRules.{EncodingRules}
-use Rattle.der_tlv.specs.ReaderState.{ReaderState, rest, after_read, after_fault, can_read, read_fault, read_fault_at, nested, unnested, can_unnest, unnest_fault, opened, seen}
+use Rattle.der_tlv.specs.ReaderState.{ReaderState, rest, after_read, after_fault, can_read, read_fault, read_fault_at, after_nest, after_unnest, can_unnest, unnest_fault, new_reader, unless_failed}
 
 -- a refusal: its kind, and the reader failed and otherwise as it was
 pub record Refuses (old new : ReaderState) (kind fault : ErrorKind) : Type 0 where
@@ -65,7 +65,7 @@ pub record OctetsRefused (old new : ReaderState) (n : ℕ) (kind : ErrorKind) : 
 pub record Nested (old new : ReaderState) (n end : ℕ) : Type 0 where
   pub readable : can_read old n ≡ true
   pub end_is : end ≡ old.end
-  pub after : new ≡ nested old n
+  pub after : new ≡ after_nest old n
 
 abbrev pub Nests : ReaderState → ReaderState → ℕ → Result ℕ Error → Type 0
 Nests old new n (Ok end) = Nested old new n end
@@ -74,7 +74,7 @@ Nests old new n (Err e) = OctetsRefused old new n e.kind
 -- the end was put back
 pub record Unnested (old new : ReaderState) (end : ℕ) : Type 0 where
   pub possible : can_unnest old end ≡ true
-  pub after : new ≡ unnested old end
+  pub after : new ≡ after_unnest old end
 
 pub record UnnestRefused (old new : ReaderState) (end : ℕ) (kind : ErrorKind) : Type 0 where
   pub impossible : can_unnest old end ≡ false
@@ -94,7 +94,7 @@ pub record HeadRead {A : Type 0} (parse : ℕ → List ℕ → Result (ℕ × A)
 
 -- the first fault of what should have been read
 pub record HeadFault {A : Type 0} (parse : ℕ → List ℕ → Result (ℕ × A) ErrorKind) (old new : ReaderState) (kind : ErrorKind) : Type 0 where
-  pub fault_is : seen parse old ≡ Err kind
+  pub fault_is : unless_failed parse old ≡ Err kind
   pub reader : Refused old new kind
 
 -- what a call answers that reads a value from these octets
@@ -115,5 +115,5 @@ PeeksHead parse octets_of old new (Err e) = HeadFault parse old new e.kind
 
 -- a reader of all of the octets, where a length can say how many they are
 abbrev pub Opens : List ℕ → EncodingRules → Result ReaderState Error → Type 0
-Opens octets rules (Ok s) = (s ≡ opened octets rules) × (length octets < 2 ^ 32)
+Opens octets rules (Ok s) = (s ≡ new_reader octets rules) × (length octets < 2 ^ 32)
 Opens octets rules (Err e) = (e.kind ≡ Overflow) × (2 ^ 32 ≤ length octets)

@@ -3,12 +3,12 @@ use Rattle.std.specs.Prelude.{ℕ, ◌+◌, ◌*◌, ◌%◌, ◌^◌, ◌==◌,
 use Rattle.std.specs.Int.Digits.{digits_of}
 
 -- digits with bit 8 set
-abbrev pub marked : List ℕ → List ℕ
-marked digits = map (λ d. 128 + d) digits
+abbrev pub mark_digits : List ℕ → List ℕ
+mark_digits digits = map (λ d. 128 + d) digits
 
 -- the octets of a number in base 128 before its last digit, if n is what they write
 abbrev pub leading_octets : ℕ → List ℕ
-leading_octets n = marked (digits_of 128 n)
+leading_octets n = mark_digits (digits_of 128 n)
 
 -- A number with the digit of one more octet: none where the number passes 32 bits, begins with a zero digit or ends below 31.
 abbrev pub with_digit : ℕ → ℕ → Option ℕ

@@ -7,7 +7,7 @@ use Rattle.der_tlv.specs.declared.tag.Tag.{Tag}
 use Rattle.der_tlv.specs.TagParts.{class_of, number_of}
 use Rattle.der_tlv.specs.Identifier.{class_index}
 use Rattle.der_tlv.specs.HeaderReading.{read_tag}
-use Rattle.der_tlv.specs.ReaderState.{ReaderState, rest, seen}
+use Rattle.der_tlv.specs.ReaderState.{ReaderState, rest, unless_failed}
 use Rattle.der_tlv.specs.Reading.{Refused}
 
 -- whether a tag has a class and a number, whatever its form
@@ -15,14 +15,14 @@ abbrev pub has_number : Class → ℕ → Tag → Bool
 has_number class number t = (class_index (class_of t) == class_index class) && (number_of t == number)
 
 -- the same of a tag that was read
-abbrev pub matched : Class → ℕ → Result (ℕ × Tag) ErrorKind → Result Bool ErrorKind
-matched class number (Ok (count, t)) = Ok (has_number class number t)
-matched class number (Err k) = Err k
+abbrev pub match_read : Class → ℕ → Result (ℕ × Tag) ErrorKind → Result Bool ErrorKind
+match_read class number (Ok (count, t)) = Ok (has_number class number t)
+match_read class number (Err k) = Err k
 
 -- Whether the tag at position p has a class and a number: false where no octet is left.
 abbrev pub match_tag : Class → ℕ → ℕ → List ℕ → Result Bool ErrorKind
 match_tag class number p [] = Ok false
-match_tag class number p (x ∷ xs) = matched class number (read_tag p (x ∷ xs))
+match_tag class number p (x ∷ xs) = match_read class number (read_tag p (x ∷ xs))
 
 -- the next tag was looked at, and the reader stays
 pub record MatchSeen (class : Class) (number : ℕ) (old new : ReaderState) (found : Bool) : Type 0 where
@@ -32,7 +32,7 @@ pub record MatchSeen (class : Class) (number : ℕ) (old new : ReaderState) (fou
 
 -- the first fault of the next tag
 pub record MatchFault (class : Class) (number : ℕ) (old new : ReaderState) (kind : ErrorKind) : Type 0 where
-  pub fault_is : seen (match_tag class number) old ≡ Err kind
+  pub fault_is : unless_failed (match_tag class number) old ≡ Err kind
   pub reader : Refused old new kind
 
 -- what a call answers that asks whether the next tag has a class and a number

@@ -14,7 +14,7 @@ use Rattle.der_tlv.specs.declared.tag.Tag.{Tag}
 use Rattle.der_tlv.specs.declared.tag.Tag.TheVariants.{Boolean, Integer, BitString, OctetString, Null, ObjectIdentifier, Real, Enumerated, Utf8String, RelativeOid, Sequence, Set, NumericString, PrintableString, TeletexString, VideotexString, Ia5String, UtcTime, GeneralizedTime, VisibleString, GeneralString, BmpString, Application, ContextSpecific, Private}
 use Rattle.der_tlv.specs.TagParts.{IsTag, class_of, is_constructed, number_of, universal_tag}
 use Rattle.der_tlv.specs.Identifier.{class_index, form_bit, first_octet, number_octets, identifier}
-use Rattle.der_tlv.specs.TagDigits.{marked, leading_octets, with_digit}
+use Rattle.der_tlv.specs.TagDigits.{mark_digits, leading_octets, with_digit}
 use Rattle.der_tlv.specs.HeaderReading.{octet_missing, high_count, number_value, read_number, tag_of_octets, tag_with_number, counted_tag, read_tag, universal_of}
 use Rattle.der_tlv.specs.IdentifierLaws.{identifier-is, low_bits, later_octets, low_bits-small, form_bit-small, sized}
 use Rattle.der_tlv.specs.IdentifierLaws.Sized.{short, long}
@@ -24,44 +24,44 @@ abbrev is_high : ℕ → Bool
 is_high d = nat_le 128 d
 
 -- digits with bit 8 set count among those
-prefix_len-marked : (a ys : List ℕ) → prefix_len is_high (marked a ++ ys) ≡ length a + prefix_len is_high ys
-prefix_len-marked [] ys = sym (zero-add (prefix_len is_high ys))
-prefix_len-marked (d ∷ a) ys = let e = prefix_len-marked a ys in grind (arith, nat_tests, e)
+prefix_len-mark_digits : (a ys : List ℕ) → prefix_len is_high (mark_digits a ++ ys) ≡ length a + prefix_len is_high ys
+prefix_len-mark_digits [] ys = sym (zero-add (prefix_len is_high ys))
+prefix_len-mark_digits (d ∷ a) ys = let e = prefix_len-mark_digits a ys in grind (arith, nat_tests, e)
 
 -- so many octets have bit 8 set before the last
-pub high_count-marked : (a ys : List ℕ) → high_count (marked a ++ ys) ≡ length a + high_count ys
-high_count-marked a ys = length-prefix_len is_high (marked a ++ ys) ∙ prefix_len-marked a ys ∙ ap (λ n. length a + n) (sym (length-prefix_len is_high ys))
+pub high_count-mark_digits : (a ys : List ℕ) → high_count (mark_digits a ++ ys) ≡ length a + high_count ys
+high_count-mark_digits a ys = length-prefix_len is_high (mark_digits a ++ ys) ∙ prefix_len-mark_digits a ys ∙ ap (λ n. length a + n) (sym (length-prefix_len is_high ys))
 
 -- so many octets from the beginning, past those with bit 8 set
-take-marked : (a ys : List ℕ) (n : ℕ) → take (length a + n) (marked a ++ ys) ≡ marked a ++ take n ys
-take-marked [] ys n = ap (λ k. take k ys) (zero-add n)
-take-marked (d ∷ a) ys n =
+take-mark_digits : (a ys : List ℕ) (n : ℕ) → take (length a + n) (mark_digits a ++ ys) ≡ mark_digits a ++ take n ys
+take-mark_digits [] ys n = ap (λ k. take k ys) (zero-add n)
+take-mark_digits (d ∷ a) ys n =
     let e : suc (length a) + n ≡ suc (length a + n) = omega arith in
-    ap (λ k. take k (marked (d ∷ a) ++ ys)) e ∙ ap (λ z. (128 + d) ∷ z) (take-marked a ys n)
+    ap (λ k. take k (mark_digits (d ∷ a) ++ ys)) e ∙ ap (λ z. (128 + d) ∷ z) (take-mark_digits a ys n)
 
 -- the digits of octets with bit 8 set
-low-marked : (a : List ℕ) → AllBelowBase 128 a → map (λ d. d % 128) (marked a) ≡ a
-low-marked [] h = refl
-low-marked (d ∷ a) h = let k : d < 128 = h.0 in let e : (128 + d) % 128 ≡ d = omega arith in let r = low-marked a h.1 in cc
+low-mark_digits : (a : List ℕ) → AllBelowBase 128 a → map (λ d. d % 128) (mark_digits a) ≡ a
+low-mark_digits [] h = refl
+low-mark_digits (d ∷ a) h = let k : d < 128 = h.0 in let e : (128 + d) % 128 ≡ d = omega arith in let r = low-mark_digits a h.1 in cc
 
 -- the digits that a number in base 128 has from here on
 abbrev digits_from : List ℕ → List ℕ
 digits_from octets = map (λ d. d % 128) (take (high_count octets + 1) octets)
 
 -- the digits of octets with bit 8 set, and then those that follow
-digits_from-marked : (a ys : List ℕ) → AllBelowBase 128 a → digits_from (marked a ++ ys) ≡ a ++ digits_from ys
-digits_from-marked a ys h =
-    let c = high_count-marked a ys in
-    let e : high_count (marked a ++ ys) + 1 ≡ length a + (high_count ys + 1) = omega arith in
-    ap (λ k. map (λ d. d % 128) (take k (marked a ++ ys))) e
-    ∙ ap (map (λ d. d % 128)) (take-marked a ys (high_count ys + 1))
-    ∙ map-append (λ d. d % 128) (marked a) (take (high_count ys + 1) ys)
-    ∙ ap (λ z. z ++ digits_from ys) (low-marked a h)
+digits_from-mark_digits : (a ys : List ℕ) → AllBelowBase 128 a → digits_from (mark_digits a ++ ys) ≡ a ++ digits_from ys
+digits_from-mark_digits a ys h =
+    let c = high_count-mark_digits a ys in
+    let e : high_count (mark_digits a ++ ys) + 1 ≡ length a + (high_count ys + 1) = omega arith in
+    ap (λ k. map (λ d. d % 128) (take k (mark_digits a ++ ys))) e
+    ∙ ap (map (λ d. d % 128)) (take-mark_digits a ys (high_count ys + 1))
+    ∙ map-append (λ d. d % 128) (mark_digits a) (take (high_count ys + 1) ys)
+    ∙ ap (λ z. z ++ digits_from ys) (low-mark_digits a h)
 
 -- the number that digits, and then these octets, write
 pub number_value-leading : (n : ℕ) (ys : List ℕ) → number_value (leading_octets n ++ ys) ≡ number_from_digits_after 128 n (digits_from ys)
 number_value-leading n ys =
-    ap (number_from_digits 128) (digits_from-marked (digits_of 128 n) ys (all_below_base_digits_of 128 n (omega arith)))
+    ap (number_from_digits 128) (digits_from-mark_digits (digits_of 128 n) ys (all_below_base_digits_of 128 n (omega arith)))
     ∙ number_after_append 128 0 (digits_of 128 n) (digits_from ys)
     ∙ ap (λ k. number_from_digits_after 128 k (digits_from ys)) (number_digits_of 128 n (omega arith))
 
@@ -103,13 +103,13 @@ outcome p (x ∷ xs) l h =
     ap (λ b. number_outcome b (length (x ∷ xs)) (high_count (x ∷ xs)) (number_value (x ∷ xs)) (octet_missing p (x ∷ xs))) e
 
 -- a digit that is not zero makes an octet that is not 80
-first-marked : (a ys : List ℕ) → 0 < get_or a 0 0 → get_or (marked a ++ ys) 0 0 ≢ 128
-first-marked [] ys h = absurd (omega arith)
-first-marked (d ∷ a) ys h = λ e. let k : 128 + d ≡ 128 = e in omega arith
+first-mark_digits : (a ys : List ℕ) → 0 < get_or a 0 0 → get_or (mark_digits a ++ ys) 0 0 ≢ 128
+first-mark_digits [] ys h = absurd (omega arith)
+first-mark_digits (d ∷ a) ys h = λ e. let k : 128 + d ≡ 128 = e in omega arith
 
 -- the first digit of a number is not zero
 first-leading : (n : ℕ) (ys : List ℕ) → 0 < n → get_or (leading_octets n ++ ys) 0 0 ≢ 128
-first-leading n ys h = first-marked (digits_of 128 n) ys (first_digits_of 128 n (omega arith) h)
+first-leading n ys h = first-mark_digits (digits_of 128 n) ys (first_digits_of 128 n (omega arith) h)
 
 -- how many octets there are, with those that follow
 length-leading : (n : ℕ) (ys : List ℕ) → length (leading_octets n ++ ys) ≡ length (digits_of 128 n) + length ys
@@ -130,7 +130,7 @@ missing-above : (p n : ℕ) → n < 2 ^ 32 → 0 < n → read_number p (leading_
 missing-above p n h l =
     let octets : List ℕ = leading_octets n ++ [] in
     let count = length-leading n [] in
-    let high = high_count-marked (digits_of 128 n) [] in
+    let high = high_count-mark_digits (digits_of 128 n) [] in
     let none : high_count [] ≡ 0 = refl in
     let value : number_value octets ≡ n = number_value-leading n [] in
     let some : 0 < length (digits_of 128 n) = reads_some (digits_of 128 n) (first_digits_of 128 n (omega arith) l) in
@@ -252,7 +252,7 @@ last-ok : (p n x v : ℕ) (xs : List ℕ) → IsDigit n x v → x < 128 → read
 last-ok p n x v xs d h =
     let octets : List ℕ = leading_octets n ++ (x ∷ xs) in
     let count : length octets ≡ length (digits_of 128 n) + length (x ∷ xs) = length-leading n (x ∷ xs) in
-    let high : high_count octets ≡ length (digits_of 128 n) = high_count-marked (digits_of 128 n) (x ∷ xs) ∙ ap (λ k. length (digits_of 128 n) + k) (high_count-last x xs h) ∙ (omega arith) in
+    let high : high_count octets ≡ length (digits_of 128 n) = high_count-mark_digits (digits_of 128 n) (x ∷ xs) ∙ ap (λ k. length (digits_of 128 n) + k) (high_count-last x xs h) ∙ (omega arith) in
     let value : number_value octets ≡ n * 128 + x = number_value-leading n (x ∷ xs) ∙ ap (number_from_digits_after 128 n) (digits_from-last x xs h) in
     let fits = d.fits in
     let is = d.value in
@@ -287,7 +287,7 @@ leading_octets-more n x v e h l =
     let some : 0 < v = from_zero (λ k. (k ≡ 0 → (31 ≤ x) × (x ≢ 128)) → v ≡ k * 128 + x % 128 → 0 < v) (λ f g. let apart = (f refl).1 in omega arith) (λ k above f g. omega arith) n d.counts is in
     let high : v / 128 ≡ n = omega arith in
     let low : 128 + v % 128 ≡ x = omega arith in
-    sym (ap marked (digits_of_step 128 v (omega arith) some) ∙ map-append (λ k. 128 + k) (digits_of 128 (v / 128)) (v % 128 ∷ [])
+    sym (ap mark_digits (digits_of_step 128 v (omega arith) some) ∙ map-append (λ k. 128 + k) (digits_of 128 (v / 128)) (v % 128 ∷ [])
     ∙ ap (λ k. leading_octets k ++ ((128 + v % 128) ∷ [])) high ∙ ap (λ k. leading_octets n ++ (k ∷ [])) low)
 
 -- the number where no test refuses it

@@ -3,7 +3,7 @@
 mod slice;
 
 ghost use Rattle.std.specs.Prelude.{◌≡◌, ℕ, ◌-◌, ◌≤◌, ◌↔◌, [], length, take, false, IfOk, IfErr, IsTrue};
-ghost use Rattle.der_tlv.specs.ReaderState.{ReaderState, IsReaderState, rest, after_fault, rewound};
+ghost use Rattle.der_tlv.specs.ReaderState.{ReaderState, IsReaderState, rest, after_fault, after_rewind};
 ghost use Rattle.der_tlv.specs.Reading.{ReadsOctet, OctetsRead, OctetsRefused, Nests, Unnests};
 
 use crate::encoding_rules::EncodingRules;
@@ -73,7 +73,7 @@ pub trait Reader<'a> {
     fn rewind(&mut self, position: Length)
         requires ready { (state self.old).failed ≡ false }
         requires behind { position ≤ (state self.old).position }
-        ensures { state self.new ≡ rewound (state self.old) position };
+        ensures { state self.new ≡ after_rewind (state self.old) position };
 
     /// Whether no octet is left before the end.
     fn is_finished(&self) -> bool

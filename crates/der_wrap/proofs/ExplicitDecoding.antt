@@ -12,7 +12,7 @@ use Rattle.der_tlv.specs.declared.tag.mode.TagMode.TheVariants.{Explicit}
 use Rattle.der_tlv.specs.HeaderOctets.{tlv}
 use Rattle.der_tlv.specs.HeaderReading.{read_header, octets_of}
 use Rattle.der_tlv.specs.Reading.{HeadFault, OctetsRefused, Unnested, UnnestRefused}
-use Rattle.der_tlv.specs.ReaderState.{ReaderState, IsReaderState, rest, seen, after_read, can_unnest, unnest_fault}
+use Rattle.der_tlv.specs.ReaderState.{ReaderState, IsReaderState, rest, unless_failed, after_read, can_unnest, unnest_fault}
 use Rattle.der_tlv.proofs.ReaderStates.{rest-after_read, length-rest}
 use Rattle.der_elem.specs.declared.form.Form as form
 use Rattle.der_elem.specs.Parsing.{Parse, tagged_contents}
@@ -23,11 +23,11 @@ use Rattle.der_wrap.specs.TaggedValues.{all_of, one_encoding, in_explicit, expli
 use Rattle.der_wrap.specs.TaggedValueLaws.{class_tag-constructed, class_tag-class}
 
 -- the header's fault is that of the whole encoding
-pub header_fault_explicit : {old new : ReaderState} {kind : ErrorKind} → HeadFault read_header old new kind → (bits : ℕ) (parse : Parse) (rules : EncodingRules) → seen (parse_explicit bits parse rules) old ≡ Err kind
+pub header_fault_explicit : {old new : ReaderState} {kind : ErrorKind} → HeadFault read_header old new kind → (bits : ℕ) (parse : Parse) (rules : EncodingRules) → unless_failed (parse_explicit bits parse rules) old ≡ Err kind
 unfolding parse_explicit
 header_fault_explicit {old} {new} {kind} fault bits parse rules = at old.failed refl
   where
-    at : (b : Bool) → old.failed ≡ b → seen (parse_explicit bits parse rules) old ≡ Err kind
+    at : (b : Bool) → old.failed ≡ b → unless_failed (parse_explicit bits parse rules) old ≡ Err kind
     at true e = let there = rw e at fault.fault_is in let k : Failed ≡ kind = cc in rw e (ap Err k)
     at false e =
         let there : read_header old.position (rest old) ≡ Err kind = rw e at fault.fault_is in
@@ -39,7 +39,7 @@ module _ {header : Header} {old mid : ReaderState} (at : AtHeader header old mid
   parse_is = ap (explicit_with_header bits parse rules old.position (rest old)) at.head.parsed
 
   -- a tag that is refused
-  pub tag_fault_explicit : (kind : ErrorKind) → ((parsed : Result (ℕ × List ℕ) ErrorKind) → in_explicit bits header.tag parsed ≡ Err kind) → seen (parse_explicit bits parse rules) old ≡ Err kind
+  pub tag_fault_explicit : (kind : ErrorKind) → ((parsed : Result (ℕ × List ℕ) ErrorKind) → in_explicit bits header.tag parsed ≡ Err kind) → unless_failed (parse_explicit bits parse rules) old ≡ Err kind
   tag_fault_explicit kind refused = rw at.head.ready (parse_is ∙ refused _)
 
   -- a tag that is taken
@@ -49,7 +49,7 @@ module _ {header : Header} {old mid : ReaderState} (at : AtHeader header old mid
         parse_is ∙ ap (λ t. in_explicit bits t (parse_behind (one_encoding parse) rules old header)) tag_is ∙ rw (class_tag-constructed true n bits, class_tag-class true n bits) refl
 
     -- contents octets longer than what is left
-    pub too_long_explicit : {new : ReaderState} {kind : ErrorKind} → OctetsRefused mid new header.length kind → seen (parse_explicit bits parse rules) old ≡ Err kind
+    pub too_long_explicit : {new : ReaderState} {kind : ErrorKind} → OctetsRefused mid new header.length kind → unless_failed (parse_explicit bits parse rules) old ≡ Err kind
     too_long_explicit refused = rw at.head.ready (behind ∙ parse_too_long at refused (one_encoding parse) rules)
 
 module _ {T : Type 0} (F : form.Ghosts T) {header : Header} {old mid shown : ReaderState} {end : ℕ} (c : AtContents header old mid shown end) (bits n : ℕ) (tag_is : header.tag ≡ class_tag bits true n) where
@@ -57,12 +57,12 @@ module _ {T : Type 0} (F : form.Ghosts T) {header : Header} {old mid shown : Rea
   parse_inner =
       behind c.at bits F.parse old.rules n tag_is ∙ parse_shown c (one_encoding F.parse) old.rules ∙ ap (λ rules. tagged_contents header.tag (length (octets_of header) + header.length) (all_of shown.position (length (rest shown)) (F.parse rules shown.position (rest shown)))) (sym (shown_rules c))
 
-  as_fault : {kind : ErrorKind} → all_of shown.position (length (rest shown)) (F.parse shown.rules shown.position (rest shown)) ≡ Err kind → seen (parse_explicit bits F.parse old.rules) old ≡ Err kind
+  as_fault : {kind : ErrorKind} → all_of shown.position (length (rest shown)) (F.parse shown.rules shown.position (rest shown)) ≡ Err kind → unless_failed (parse_explicit bits F.parse old.rules) old ≡ Err kind
   as_fault e =
       rw c.at.head.ready (parse_inner ∙ ap (tagged_contents header.tag (length (octets_of header) + header.length)) e)
 
   -- the fault of the value
-  pub value_fault_explicit : {new : ReaderState} {kind : ErrorKind} → NotDecoded F shown new kind → Faults F.TAKES_MEMORY (seen (parse_explicit bits F.parse old.rules) old) kind
+  pub value_fault_explicit : {new : ReaderState} {kind : ErrorKind} → NotDecoded F shown new kind → Faults F.TAKES_MEMORY (unless_failed (parse_explicit bits F.parse old.rules) old) kind
   value_fault_explicit {new} {kind} told =
       elim told.reason [
         | inl m ↦ inl m
@@ -91,7 +91,7 @@ module _ {T : Type 0} (F : form.Ghosts T) {header : Header} {old mid shown : Rea
     all_taken : told.taken ≡ length (rest shown) → after ≡ after_read shown (length (rest shown))
     all_taken e = told.after ∙ ap (after_read shown) e
 
-    fault_behind : {kind : ErrorKind} → (told.taken == length (rest shown)) ≡ false → kind ≡ unnest_fault after → seen (parse_explicit bits F.parse old.rules) old ≡ Err kind
+    fault_behind : {kind : ErrorKind} → (told.taken == length (rest shown)) ≡ false → kind ≡ unnest_fault after → unless_failed (parse_explicit bits F.parse old.rules) old ≡ Err kind
     fault_behind {kind} other fault =
         let l = length-rest shown sound in
         let p = position_after in
@@ -102,10 +102,10 @@ module _ {T : Type 0} (F : form.Ghosts T) {header : Header} {old mid shown : Rea
         as_fault (parsed_taken ∙ rw other (ap Err there))
 
     -- octets are left over behind the value
-    pub left_over_explicit : {new : ReaderState} {kind : ErrorKind} → UnnestRefused after new end kind → seen (parse_explicit bits F.parse old.rules) old ≡ Err kind
+    pub left_over_explicit : {new : ReaderState} {kind : ErrorKind} → UnnestRefused after new end kind → unless_failed (parse_explicit bits F.parse old.rules) old ≡ Err kind
     left_over_explicit {new} {kind} refused = by_count (told.taken == length (rest shown)) refl
       where
-        by_count : (b : Bool) → (told.taken == length (rest shown)) ≡ b → seen (parse_explicit bits F.parse old.rules) old ≡ Err kind
+        by_count : (b : Bool) → (told.taken == length (rest shown)) ≡ b → unless_failed (parse_explicit bits F.parse old.rules) old ≡ Err kind
         by_count true e =
             let all = all_taken (eqb-true told.taken (length (rest shown)) e) in
             let possible = unnest_possible c all in
@@ -143,4 +143,4 @@ module _ {T : Type 0} (F : form.Ghosts T) {header : Header} {old mid shown : Rea
           }
 
       pub after_explicit : {new : ReaderState} → Unnested after new end → new ≡ after_read old (length (octets_of header) + header.length)
-      after_explicit unnested = after_contents c (all_taken all) unnested.after
+      after_explicit after_unnest = after_contents c (all_taken all) after_unnest.after

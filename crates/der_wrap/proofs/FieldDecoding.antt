@@ -11,10 +11,10 @@ use Rattle.der_tlv.specs.Identifier.{identifier, class_index}
 use Rattle.der_tlv.specs.LengthOctets.{length_octets}
 use Rattle.der_tlv.specs.HeaderOctets.{tlv}
 use Rattle.der_tlv.specs.HeaderReading.{read_tag, read_length, read_header, header_with_tag, header_with_length}
-use Rattle.der_tlv.specs.TagMatching.{has_number, match_tag, matched}
+use Rattle.der_tlv.specs.TagMatching.{has_number, match_tag, match_read}
 use Rattle.der_tlv.specs.TagReadingLaws.{read_tag-identifier}
 use Rattle.der_tlv.specs.declared.encoding_rules.EncodingRules.{EncodingRules}
-use Rattle.der_tlv.specs.ReaderState.{ReaderState, rest, seen}
+use Rattle.der_tlv.specs.ReaderState.{ReaderState, rest, unless_failed}
 use Rattle.der_elem.specs.Parsing.{Parse}
 use Rattle.der_elem.specs.declared.form.Form as form
 use Rattle.der_wrap.specs.TaggedValues.{parse_field, parse_explicit, tag_of_mode, contents_of_mode, AcceptsExplicit}
@@ -26,8 +26,8 @@ both true b h = (refl, h)
 both false b h = absurd (cc)
 
 -- a tag with a class and a number is told by its form
-pub class_tag-matched : (bits n : ℕ) (t : Tag) → has_number (class_of_bits bits) n t ≡ true → t ≡ class_tag bits (is_constructed t) n
-class_tag-matched bits n t h =
+pub class_tag-match_read : (bits n : ℕ) (t : Tag) → has_number (class_of_bits bits) n t ≡ true → t ≡ class_tag bits (is_constructed t) n
+class_tag-match_read bits n t h =
     let parts = both (class_index (class_of t) == class_index (class_of_bits bits)) (number_of t == n) h in
     class_tag-with bits t (is_constructed t) n refl parts.0 (sym (eqb-true (number_of t) n parts.1))
 
@@ -40,7 +40,7 @@ tag_of_header count t (Ok (more, n)) all h e = ap tag_in (sym e)
     tag_in (Err k) = t
 
 module _ (bits n p : ℕ) where
-  matched_header : (octets : List ℕ) (all : ℕ) (h : Header) (r : Result (ℕ × Tag) ErrorKind) → matched (class_of_bits bits) n r ≡ Ok true → header_with_tag p octets r ≡ Ok (all, h) → has_number (class_of_bits bits) n h.tag ≡ true
+  matched_header : (octets : List ℕ) (all : ℕ) (h : Header) (r : Result (ℕ × Tag) ErrorKind) → match_read (class_of_bits bits) n r ≡ Ok true → header_with_tag p octets r ≡ Ok (all, h) → has_number (class_of_bits bits) n h.tag ≡ true
   matched_header octets all h (Err k) m e = absurd (cc)
   matched_header octets all h (Ok (count, t)) m e =
       let same = tag_of_header count t (read_length (p + count) (drop count octets)) all h e in
@@ -54,14 +54,14 @@ module _ (bits n p : ℕ) where
   pub header_matched : (octets : List ℕ) (all : ℕ) (h : Header) → match_tag (class_of_bits bits) n p octets ≡ Ok true → read_header p octets ≡ Ok (all, h) → h.tag ≡ class_tag bits (is_constructed h.tag) n
   unfolding read_header
   header_matched [] all h m e = absurd (cc)
-  header_matched (x ∷ xs) all h m e = class_tag-matched bits n h.tag (matched_header (x ∷ xs) all h (read_tag p (x ∷ xs)) m e)
+  header_matched (x ∷ xs) all h m e = class_tag-match_read bits n h.tag (matched_header (x ∷ xs) all h (read_tag p (x ∷ xs)) m e)
 
   -- where a field is found, parsing comes to what its own parse comes to
   pub found_field : (parse : Parse) (rules : EncodingRules) (octets : List ℕ) → match_tag (class_of_bits bits) n p octets ≡ Ok true → parse_field bits n parse rules p octets ≡ parse rules p octets
   found_field parse rules octets m = rw m refl
 
 -- a reader that has seen a field that was found
-pub found_fault : (bits n : ℕ) (s : ReaderState) → s.failed ≡ false → match_tag (class_of_bits bits) n s.position (rest s) ≡ Ok true → (parse : Parse) (rules : EncodingRules) {kind : ErrorKind} → seen (parse rules) s ≡ Err kind → seen (parse_field bits n parse rules) s ≡ Err kind
+pub found_fault : (bits n : ℕ) (s : ReaderState) → s.failed ≡ false → match_tag (class_of_bits bits) n s.position (rest s) ≡ Ok true → (parse : Parse) (rules : EncodingRules) {kind : ErrorKind} → unless_failed (parse rules) s ≡ Err kind → unless_failed (parse_field bits n parse rules) s ≡ Err kind
 found_fault bits n s ready m parse rules {kind} e =
     let there : parse rules s.position (rest s) ≡ Err kind = rw ready at e in
     rw ready (found_field bits n s.position parse rules (rest s) m ∙ there)
@@ -83,7 +83,7 @@ number_matched bits n m p constructed octets inner taken small e found =
     at [] tag found = absurd (cc)
     at (x ∷ xs) tag found =
         let t = class_tag bits constructed m in
-        let h : has_number (class_of_bits bits) n t ≡ true = sym (ap answer (ap (matched (class_of_bits bits) n) tag)) ∙ ap answer found in
+        let h : has_number (class_of_bits bits) n t ≡ true = sym (ap answer (ap (match_read (class_of_bits bits) n) tag)) ∙ ap answer found in
         eqb-true (number_of t) n (both (class_index (class_of t) == class_index (class_of_bits bits)) (number_of t == n) h).1
 
 module _ {T : Type 0} (F : form.Ghosts T) (bits n m p : ℕ) (mode : TagMode) (v : T) (own : Tag) (contents : List ℕ) (rules : EncodingRules) (octets : List ℕ) (taken : ℕ) (found : match_tag (class_of_bits bits) n p octets ≡ Ok true) (a : AcceptsExplicit F.accepts bits m mode v rules (take taken octets)) where

@@ -9,7 +9,7 @@ use Rattle.der_tlv.specs.TagParts.{is_constructed}
 use Rattle.der_tlv.specs.HeaderOctets.{tlv}
 use Rattle.der_tlv.specs.HeaderReading.{read_header, octets_of}
 use Rattle.der_tlv.specs.Reading.{HeadFault, OctetsRefused}
-use Rattle.der_tlv.specs.ReaderState.{ReaderState, rest, seen}
+use Rattle.der_tlv.specs.ReaderState.{ReaderState, rest, unless_failed}
 use Rattle.der_elem.specs.declared.form.FormValue as value
 use Rattle.der_elem.specs.Parsing.{ContentsParse, tagged_contents}
 use Rattle.der_elem.specs.Decoding.{Faults, ValueDecoded, ValueNotDecoded}
@@ -18,11 +18,11 @@ use Rattle.der_wrap.specs.ClassTags.{class_tag}
 use Rattle.der_wrap.specs.TaggedValues.{form_allowed, in_implicit, implicit_with_header, parse_implicit, AcceptsImplicit}
 
 -- the header's fault is that of the whole encoding
-pub header_fault_implicit : {old new : ReaderState} {kind : ErrorKind} → HeadFault read_header old new kind → (t : Tag) (own : Bool) (parse : ContentsParse) (rules : EncodingRules) → seen (parse_implicit t own parse rules) old ≡ Err kind
+pub header_fault_implicit : {old new : ReaderState} {kind : ErrorKind} → HeadFault read_header old new kind → (t : Tag) (own : Bool) (parse : ContentsParse) (rules : EncodingRules) → unless_failed (parse_implicit t own parse rules) old ≡ Err kind
 unfolding parse_implicit
 header_fault_implicit {old} {new} {kind} fault t own parse rules = at old.failed refl
   where
-    at : (b : Bool) → old.failed ≡ b → seen (parse_implicit t own parse rules) old ≡ Err kind
+    at : (b : Bool) → old.failed ≡ b → unless_failed (parse_implicit t own parse rules) old ≡ Err kind
     at true e = let there = rw e at fault.fault_is in let k : Failed ≡ kind = cc in rw e (ap Err k)
     at false e =
         let there : read_header old.position (rest old) ≡ Err kind = rw e at fault.fault_is in
@@ -34,7 +34,7 @@ module _ {header : Header} {old mid : ReaderState} (at : AtHeader header old mid
   parse_is = ap (implicit_with_header t own parse rules old.position (rest old)) at.head.parsed
 
   -- a form that is refused
-  pub form_fault_implicit : (kind : ErrorKind) → ((parsed : Result (ℕ × List ℕ) ErrorKind) → in_implicit rules own header.tag parsed ≡ Err kind) → seen (parse_implicit t own parse rules) old ≡ Err kind
+  pub form_fault_implicit : (kind : ErrorKind) → ((parsed : Result (ℕ × List ℕ) ErrorKind) → in_implicit rules own header.tag parsed ≡ Err kind) → unless_failed (parse_implicit t own parse rules) old ≡ Err kind
   form_fault_implicit kind refused = rw at.head.ready (parse_is ∙ refused _)
 
   -- a form that is taken
@@ -43,7 +43,7 @@ module _ {header : Header} {old mid : ReaderState} (at : AtHeader header old mid
     behind = parse_is ∙ rw allowed refl
 
     -- contents octets longer than what is left
-    pub too_long_implicit : {new : ReaderState} {kind : ErrorKind} → OctetsRefused mid new header.length kind → seen (parse_implicit t own parse rules) old ≡ Err kind
+    pub too_long_implicit : {new : ReaderState} {kind : ErrorKind} → OctetsRefused mid new header.length kind → unless_failed (parse_implicit t own parse rules) old ≡ Err kind
     too_long_implicit refused = rw at.head.ready (behind ∙ parse_too_long_as at refused t parse rules)
 
 module _ {T : Type 0} (F : value.Ghosts T) {header : Header} {old mid shown : ReaderState} {end : ℕ} (c : AtContents header old mid shown end) (t : Tag) (own : Bool) (allowed : form_allowed old.rules (is_constructed header.tag) own ≡ true) where
@@ -52,7 +52,7 @@ module _ {T : Type 0} (F : value.Ghosts T) {header : Header} {old mid shown : Re
       behind c.at t own F.parse_value old.rules allowed ∙ parse_shown_as c t F.parse_value old.rules ∙ ap (λ rules. tagged_contents t (length (octets_of header) + header.length) (F.parse_value rules shown.position (rest shown))) (sym (shown_rules c))
 
   -- the fault of the contents octets
-  pub contents_fault_implicit : {kind : ErrorKind} → ValueNotDecoded F shown kind → Faults F.VALUE_TAKES_MEMORY (seen (parse_implicit t own F.parse_value old.rules) old) kind
+  pub contents_fault_implicit : {kind : ErrorKind} → ValueNotDecoded F shown kind → Faults F.VALUE_TAKES_MEMORY (unless_failed (parse_implicit t own F.parse_value old.rules) old) kind
   contents_fault_implicit {kind} told =
       elim told.reason [
         | inl m ↦ inl m

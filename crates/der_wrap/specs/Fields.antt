@@ -4,7 +4,7 @@ use Rattle.der_tlv.specs.declared.error.ErrorKind.{ErrorKind}
 use Rattle.der_tlv.specs.declared.error.ErrorKind.TheVariants.{Memory, TagUnexpected}
 use Rattle.der_tlv.specs.declared.error.Error.{Error}
 use Rattle.der_tlv.specs.declared.encoding_rules.EncodingRules.{EncodingRules}
-use Rattle.der_tlv.specs.ReaderState.{ReaderState, after_read, rest, seen}
+use Rattle.der_tlv.specs.ReaderState.{ReaderState, after_read, rest, unless_failed}
 use Rattle.der_tlv.specs.Reading.{Refused}
 use Rattle.der_elem.specs.Parsing.{Parse}
 use Rattle.der_elem.specs.Options.{encoding_option, accepts_option}
@@ -29,7 +29,7 @@ pub record FieldDecoded {W : Type 0} (parse : Parse) (encoding : W → List ℕ)
 
 -- no field was decoded: why, and what that leaves
 pub record FieldNotDecoded (takes_memory : Bool) (parse : Parse) (old new : ReaderState) (kind : ErrorKind) : Type 0 where
-  pub reason : Faults takes_memory (seen (parse old.rules) old) kind
+  pub reason : Faults takes_memory (unless_failed (parse old.rules) old) kind
   pub reader : Refused old new kind
 
 -- what decoding a field that may be absent answers

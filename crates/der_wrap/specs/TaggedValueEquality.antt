@@ -66,16 +66,16 @@ module _ {T : Type 0} (tag_of : T → Tag) (contents encoding : T → List ℕ) 
       let g = is_constructed (tag_of w) in
       (same_number bits n m f g (contents v) (contents w) e, whole v w (same_tag refl) (tlv-injective (class_tag bits f n) (class_tag bits g m) (contents v) (contents w) e).1)
 
-  module _ (one_form : T → T → Type 0) (eq : T → T → Bool) (encoding_eq : (v w : T) → one_form v w → IsTrue (eq v w) ↔ (encoding v ≡ encoding w)) where
-    at_one_mode : (bits n m : ℕ) (mode : TagMode) (v w : T) → one_form v w → (mode ≡ Implicit → tag_of v ≡ tag_of w) → IsTrue (all_three (n == m) (mode_eq mode mode) (eq v w)) ↔ (encoded bits mode n v ≡ encoded bits mode m w)
+  module _ (comparable : T → T → Type 0) (eq : T → T → Bool) (encoding_eq : (v w : T) → comparable v w → IsTrue (eq v w) ↔ (encoding v ≡ encoding w)) where
+    at_one_mode : (bits n m : ℕ) (mode : TagMode) (v w : T) → comparable v w → (mode ≡ Implicit → tag_of v ≡ tag_of w) → IsTrue (all_three (n == m) (mode_eq mode mode) (eq v w)) ↔ (encoded bits mode n v ≡ encoded bits mode m w)
     at_one_mode bits n m mode v w one same_tag = (
       (λ h. let t = three_true (n == m) (mode_eq mode mode) (eq v w) h in encoded_alike bits n m mode v w (eqb-true n m t.0) ((encoding_eq v w one).0 t.1)),
       (λ e. let t = told_apart bits n m mode v w same_tag e in all_true (n == m) (mode_eq mode mode) (eq v w) (eq-eqb n m t.0) (mode_eq-same mode) ((encoding_eq v w one).1 t.1)),
     )
 
-    pub encoding_eq_tagged_value : (bits n m : ℕ) (mode other : TagMode) (v w : T) → OneTaggedForm one_form tag_of mode other v w → IsTrue (all_three (n == m) (mode_eq mode other) (eq v w)) ↔ (encoded bits mode n v ≡ encoded bits other m w)
-    encoding_eq_tagged_value bits n m Explicit Explicit v w one = at_one_mode bits n m Explicit v w one.one_form one.same_tag
-    encoding_eq_tagged_value bits n m Implicit Implicit v w one = at_one_mode bits n m Implicit v w one.one_form one.same_tag
+    pub encoding_eq_tagged_value : (bits n m : ℕ) (mode other : TagMode) (v w : T) → OneTaggedForm comparable tag_of mode other v w → IsTrue (all_three (n == m) (mode_eq mode other) (eq v w)) ↔ (encoded bits mode n v ≡ encoded bits other m w)
+    encoding_eq_tagged_value bits n m Explicit Explicit v w one = at_one_mode bits n m Explicit v w one.comparable one.same_tag
+    encoding_eq_tagged_value bits n m Implicit Implicit v w one = at_one_mode bits n m Implicit v w one.comparable one.same_tag
     encoding_eq_tagged_value bits n m Explicit Implicit v w one = let k = one.same_mode in absurd (cc)
     encoding_eq_tagged_value bits n m Implicit Explicit v w one = let k = one.same_mode in absurd (cc)
 
@@ -85,10 +85,10 @@ module _ {T : Type 0} (tag_of : T → Tag) (contents encoding : T → List ℕ) 
       ap (λ mode. encoded bits mode m w) e ∙ encoded_alike bits m n mode w v k same
 
   -- and is of the same forms
-  pub copy_form_tagged_value : (one_form : T → T → Type 0) (mode other third : TagMode) (v w x : T) → other ≡ mode → encoding w ≡ encoding v → (one_form v x → one_form w x) → OneTaggedForm one_form tag_of mode third v x → OneTaggedForm one_form tag_of other third w x
-  copy_form_tagged_value one_form mode other third v w x e same copy one =
+  pub copy_form_tagged_value : (comparable : T → T → Type 0) (mode other third : TagMode) (v w x : T) → other ≡ mode → encoding w ≡ encoding v → (comparable v x → comparable w x) → OneTaggedForm comparable tag_of mode third v x → OneTaggedForm comparable tag_of other third w x
+  copy_form_tagged_value comparable mode other third v w x e same copy one =
       record {
         same_mode = e ∙ one.same_mode;
-        one_form = copy one.one_form;
+        comparable = copy one.comparable;
         same_tag = λ i. (parts w v same).0 ∙ one.same_tag (sym e ∙ i);
       }

@@ -170,6 +170,6 @@ module _ {T : Type 0} (F : form.Ghosts T) where
         (r.0, subst (F.accepts rules v) (sym (explicit_contents r.0)) (F.accepts_encoding rules v r.1))
 
   -- two values with explicit tagging are of one form where the values in them are
-  pub one_explicit_form : (tag_of : T → Tag) (mode other : TagMode) (v w : T) → mode ≡ Explicit → other ≡ Explicit → F.one_form v w → OneTaggedForm F.one_form tag_of mode other v w
+  pub one_explicit_form : (tag_of : T → Tag) (mode other : TagMode) (v w : T) → mode ≡ Explicit → other ≡ Explicit → F.comparable v w → OneTaggedForm F.comparable tag_of mode other v w
   one_explicit_form tag_of mode other v w e f one =
-      record { same_mode = e ∙ sym f; one_form = one; same_tag = λ i. let k = sym e ∙ i in absurd (cc) }
+      record { same_mode = e ∙ sym f; comparable = one; same_tag = λ i. let k = sym e ∙ i in absurd (cc) }

@@ -39,7 +39,7 @@ mode_cmp Implicit Implicit = Equal
 -- Two tagged values are of one form: of one mode, and their values are of one form; under implicit tagging with one tag of their own, which is not encoded.
 pub record OneTaggedForm {T : Type 0} (alike : T → T → Type 0) (tag_of : T → Tag) (mode other : TagMode) (v w : T) : Type 0 where
   pub same_mode : mode ≡ other
-  pub one_form : alike v w
+  pub comparable : alike v w
   pub same_tag : mode ≡ Implicit → tag_of v ≡ tag_of w
 
 -- all of the octets at a position have to be the encoding of a value: octets left over are a fault (3)

@@ -43,7 +43,7 @@ pub struct TaggedValue<T, const CLASS: u8> {
 impl<T: Tagged, const CLASS: u8> FormValue for TaggedValue<T, CLASS> {
     ghost contents = { λ v. contents_of_mode v.tag_mode (T.encoding v.value) (T.contents v.value) };
 
-    ghost one_form_value = { λ v w. OneTaggedForm T.one_form T.tag_of v.tag_mode w.tag_mode v.value w.value };
+    ghost comparable_value = { λ v w. OneTaggedForm T.comparable T.tag_of v.tag_mode w.tag_mode v.value w.value };
 
     ghost re_reads_value = { λ v. T.re_reads v.value };
 
@@ -65,7 +65,7 @@ impl<T: Tagged, const CLASS: u8> FormValue for TaggedValue<T, CLASS> {
 
     ghost only_readable_value = { λ rules v c a. (a.0, T.only_readable rules v.value c a.1) };
 
-    ghost accepts_one_form_value = { λ rules v w c d a b. one_explicit_form T.Form T.tag_of v.tag_mode w.tag_mode v.value w.value a.0 b.0 (T.accepts_one_form rules v.value w.value c d a.1 b.1) };
+    ghost accepts_comparable_value = { λ rules v w c d a b. one_explicit_form T.Form T.tag_of v.tag_mode w.tag_mode v.value w.value a.0 b.0 (T.accepts_comparable rules v.value w.value c d a.1 b.1) };
 
     ghost re_reads_memory_value = { λ v. T.re_reads_memory v.value };
 }
@@ -73,7 +73,7 @@ impl<T: Tagged, const CLASS: u8> FormValue for TaggedValue<T, CLASS> {
 impl<T: Tagged, const CLASS: u8> Form for TaggedValue<T, CLASS> {
     ghost encoding = { λ v. tlv (tag_of_mode CLASS v.tag_mode v.tag_number.0 (T.tag_of v.value)) (contents_of_mode v.tag_mode (T.encoding v.value) (T.contents v.value)) };
 
-    ghost one_form = { λ v w. OneTaggedForm T.one_form T.tag_of v.tag_mode w.tag_mode v.value w.value };
+    ghost comparable = { λ v w. OneTaggedForm T.comparable T.tag_of v.tag_mode w.tag_mode v.value w.value };
 
     ghost re_reads = { λ v. T.re_reads v.value };
 
@@ -101,7 +101,7 @@ impl<T: Tagged, const CLASS: u8> Form for TaggedValue<T, CLASS> {
 
     ghost only_readable = { λ rules v. readable_explicit T.Form CLASS v.tag_number.0 v.tag_mode v.value (T.tag_of v.value) (T.contents v.value) rules };
 
-    ghost accepts_one_form = { λ rules v w b c a d. one_explicit_form T.Form T.tag_of v.tag_mode w.tag_mode v.value w.value a.mode_is d.mode_is (T.accepts_one_form rules v.value w.value a.inner d.inner a.accepted d.accepted) };
+    ghost accepts_comparable = { λ rules v w b c a d. one_explicit_form T.Form T.tag_of v.tag_mode w.tag_mode v.value w.value a.mode_is d.mode_is (T.accepts_comparable rules v.value w.value a.inner d.inner a.accepted d.accepted) };
 
     ghost re_reads_memory = { λ v. T.re_reads_memory v.value };
 }
@@ -139,7 +139,7 @@ impl<T: Tagged, const CLASS: u8> Tagged for TaggedValue<T, CLASS> {
 
     ghost re_reads_alike = { λ v h. h };
 
-    ghost one_form_alike = { λ v w h. h };
+    ghost comparable_alike = { λ v w h. h };
 }
 
 impl<T: Tagged, const CLASS: u8> Choice for TaggedValue<T, CLASS> {
@@ -178,7 +178,7 @@ impl<T: Tagged + DerOrd + ValueOrd, const CLASS: u8> ValueOrd for TaggedValue<T,
 }
 
 impl<T: Tagged + EncodingEq, const CLASS: u8> EncodingEq for TaggedValue<T, CLASS> {
-    ghost encoding_eq = { λ v w. encoding_eq_tagged_value T.tag_of T.contents T.encoding T.encoding_is T.one_form T.eq T.encoding_eq CLASS v.tag_number.0 w.tag_number.0 v.tag_mode w.tag_mode v.value w.value };
+    ghost encoding_eq = { λ v w. encoding_eq_tagged_value T.tag_of T.contents T.encoding T.encoding_is T.comparable T.eq T.encoding_eq CLASS v.tag_number.0 w.tag_number.0 v.tag_mode w.tag_mode v.value w.value };
 }
 
 impl<T: Tagged + Duplicate, const CLASS: u8> Duplicate for TaggedValue<T, CLASS> {
@@ -197,7 +197,7 @@ impl<T: Tagged + Duplicate, const CLASS: u8> Duplicate for TaggedValue<T, CLASS>
 
     ghost copy_encoding = { λ v w c. copy_encoding_tagged_value T.tag_of T.contents T.encoding T.encoding_is CLASS v.tag_number.0 w.tag_number.0 v.tag_mode w.tag_mode v.value w.value c.0 c.1 (T.copy_encoding v.value w.value c.2) };
 
-    ghost copy_form = { λ v w x c. copy_form_tagged_value T.tag_of T.contents T.encoding T.encoding_is T.one_form v.tag_mode w.tag_mode x.tag_mode v.value w.value x.value c.1 (T.copy_encoding v.value w.value c.2) (T.copy_form v.value w.value x.value c.2) };
+    ghost copy_form = { λ v w x c. copy_form_tagged_value T.tag_of T.contents T.encoding T.encoding_is T.comparable v.tag_mode w.tag_mode x.tag_mode v.value w.value x.value c.1 (T.copy_encoding v.value w.value c.2) (T.copy_form v.value w.value x.value c.2) };
 
     ghost copy_re_reads = { λ v w c. T.copy_re_reads v.value w.value c.2 };
 }

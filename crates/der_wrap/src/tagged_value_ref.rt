@@ -27,7 +27,7 @@ pub struct TaggedValueRef<'a, T, const CLASS: u8> {
 impl<'a, T: Tagged, const CLASS: u8> FormValue for TaggedValueRef<'a, T, CLASS> {
     ghost contents = { λ v. contents_of_mode v.tag_mode (T.encoding v.value.now) (T.contents v.value.now) };
 
-    ghost one_form_value = { λ v w. OneTaggedForm T.one_form T.tag_of v.tag_mode w.tag_mode v.value.now w.value.now };
+    ghost comparable_value = { λ v w. OneTaggedForm T.comparable T.tag_of v.tag_mode w.tag_mode v.value.now w.value.now };
 
     ghost re_reads_value = { λ v. T.re_reads v.value.now };
 
@@ -49,7 +49,7 @@ impl<'a, T: Tagged, const CLASS: u8> FormValue for TaggedValueRef<'a, T, CLASS> 
 
     ghost only_readable_value = { λ rules v c a. (a.0, T.only_readable rules v.value.now c a.1) };
 
-    ghost accepts_one_form_value = { λ rules v w c d a b. one_explicit_form T.Form T.tag_of v.tag_mode w.tag_mode v.value.now w.value.now a.0 b.0 (T.accepts_one_form rules v.value.now w.value.now c d a.1 b.1) };
+    ghost accepts_comparable_value = { λ rules v w c d a b. one_explicit_form T.Form T.tag_of v.tag_mode w.tag_mode v.value.now w.value.now a.0 b.0 (T.accepts_comparable rules v.value.now w.value.now c d a.1 b.1) };
 
     ghost re_reads_memory_value = { λ v. T.re_reads_memory v.value.now };
 }
@@ -57,7 +57,7 @@ impl<'a, T: Tagged, const CLASS: u8> FormValue for TaggedValueRef<'a, T, CLASS> 
 impl<'a, T: Tagged, const CLASS: u8> Form for TaggedValueRef<'a, T, CLASS> {
     ghost encoding = { λ v. tlv (tag_of_mode CLASS v.tag_mode v.tag_number.0 (T.tag_of v.value.now)) (contents_of_mode v.tag_mode (T.encoding v.value.now) (T.contents v.value.now)) };
 
-    ghost one_form = { λ v w. OneTaggedForm T.one_form T.tag_of v.tag_mode w.tag_mode v.value.now w.value.now };
+    ghost comparable = { λ v w. OneTaggedForm T.comparable T.tag_of v.tag_mode w.tag_mode v.value.now w.value.now };
 
     ghost re_reads = { λ v. T.re_reads v.value.now };
 
@@ -85,7 +85,7 @@ impl<'a, T: Tagged, const CLASS: u8> Form for TaggedValueRef<'a, T, CLASS> {
 
     ghost only_readable = { λ rules v. readable_explicit T.Form CLASS v.tag_number.0 v.tag_mode v.value.now (T.tag_of v.value.now) (T.contents v.value.now) rules };
 
-    ghost accepts_one_form = { λ rules v w b c a d. one_explicit_form T.Form T.tag_of v.tag_mode w.tag_mode v.value.now w.value.now a.mode_is d.mode_is (T.accepts_one_form rules v.value.now w.value.now a.inner d.inner a.accepted d.accepted) };
+    ghost accepts_comparable = { λ rules v w b c a d. one_explicit_form T.Form T.tag_of v.tag_mode w.tag_mode v.value.now w.value.now a.mode_is d.mode_is (T.accepts_comparable rules v.value.now w.value.now a.inner d.inner a.accepted d.accepted) };
 
     ghost re_reads_memory = { λ v. T.re_reads_memory v.value.now };
 }
@@ -111,7 +111,7 @@ impl<'a, T: Tagged, const CLASS: u8> Tagged for TaggedValueRef<'a, T, CLASS> {
 
     ghost re_reads_alike = { λ v h. h };
 
-    ghost one_form_alike = { λ v w h. h };
+    ghost comparable_alike = { λ v w h. h };
 }
 
 impl<'a, T: Tagged + EncodeValue + Encode, const CLASS: u8> EncodeValue

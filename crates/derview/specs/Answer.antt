@@ -31,13 +31,13 @@ abbrev pub verdict_of : Result (List ℕ) ErrorKind → List ℕ
 verdict_of (Ok encoding) = accepted_of encoding
 verdict_of (Err kind) = refused_of kind
 
-abbrev pub applied : Option CanonicalFunction → List ℕ → List ℕ
-applied None octets = codes "bad line"
-applied (Some function) octets = verdict_of (function octets)
+abbrev pub verdict_by : Option CanonicalFunction → List ℕ → List ℕ
+verdict_by None octets = codes "bad line"
+verdict_by (Some function) octets = verdict_of (function octets)
 
 abbrev pub answer_to_text : List ℕ → Option (List ℕ) → List ℕ
 answer_to_text name None = codes "bad line"
-answer_to_text name (Some octets) = applied (canonical_function_of name) octets
+answer_to_text name (Some octets) = verdict_by (canonical_function_of name) octets
 
 abbrev pub answer_to_parts : Option (List ℕ × List ℕ) → List ℕ
 answer_to_parts None = codes "bad line"

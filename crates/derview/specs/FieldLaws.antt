@@ -81,9 +81,9 @@ module _ {T U : Type 0} (F : form.Ghosts T) (G : form.Ghosts U) (rules : Encodin
   pub readable_fields : (v : T) (w : U) (c : List ℕ) → AcceptsFields (F.accepts rules) (G.accepts rules) v w c → F.readable v × G.readable w
   readable_fields v w c a = (F.only_readable rules v a.first a.first_accepted, G.only_readable rules w a.second a.second_accepted)
 
-  pub one_form_fields : (v x : T) (w y : U) (c d : List ℕ) → AcceptsFields (F.accepts rules) (G.accepts rules) v w c → AcceptsFields (F.accepts rules) (G.accepts rules) x y d → F.one_form v x × G.one_form w y
-  one_form_fields v x w y c d a b =
-      (F.accepts_one_form rules v x a.first b.first a.first_accepted b.first_accepted, G.accepts_one_form rules w y a.second b.second a.second_accepted b.second_accepted)
+  pub comparable_fields : (v x : T) (w y : U) (c d : List ℕ) → AcceptsFields (F.accepts rules) (G.accepts rules) v w c → AcceptsFields (F.accepts rules) (G.accepts rules) x y d → F.comparable v x × G.comparable w y
+  comparable_fields v x w y c d a b =
+      (F.accepts_comparable rules v x a.first b.first a.first_accepted b.first_accepted, G.accepts_comparable rules w y a.second b.second a.second_accepted b.second_accepted)
 
 module _ {T U : Type 0} (F : form.Ghosts T) (G : form.Ghosts U) where
   pub re_reads_fields : (v : T) (w : U) → (F.re_reads v || G.re_reads w) ≡ true → (F.TAKES_MEMORY || G.TAKES_MEMORY) ≡ true

@@ -22,7 +22,7 @@ ghost use Rattle.der_asn1_types.specs.AnyRefEncodingEqLaws as any;
 ghost use Rattle.der_asn1_types.specs.ObjectIdentifierContentsEqLaws as identifier;
 ghost use Rattle.derview.specs.AlgorithmIdentifier.{parse_algorithm_identifier};
 ghost use Rattle.derview.specs.Fields.{joined_fields, AcceptsFields};
-ghost use Rattle.derview.specs.FieldLaws.{accepted_some, parse_of_fields, same_length_fields, accepts_fields_contents, readable_fields, one_form_fields, re_reads_fields, fields_eq};
+ghost use Rattle.derview.specs.FieldLaws.{accepted_some, parse_of_fields, same_length_fields, accepts_fields_contents, readable_fields, comparable_fields, re_reads_fields, fields_eq};
 
 use crate::fields::{ask_end, cmp_fields, encode_fields, fields_len};
 use der_asn1_types::asn1::{AnyRef, ObjectIdentifier};
@@ -46,7 +46,7 @@ pub struct AlgorithmIdentifier<'a> {
 impl<'a> FormValue for AlgorithmIdentifier<'a> {
     ghost contents = { λ v. joined_fields ⟦<ObjectIdentifier<39> as Form>⟧.encoding ⟦<Option<AnyRef<'a>> as Form>⟧.encoding v.oid v.parameters };
 
-    ghost one_form_value = { λ v w. ⟦<ObjectIdentifier<39> as Form>⟧.one_form v.oid w.oid × ⟦<Option<AnyRef<'a>> as Form>⟧.one_form v.parameters w.parameters };
+    ghost comparable_value = { λ v w. ⟦<ObjectIdentifier<39> as Form>⟧.comparable v.oid w.oid × ⟦<Option<AnyRef<'a>> as Form>⟧.comparable v.parameters w.parameters };
 
     ghost re_reads_value = { λ v. ⟦<ObjectIdentifier<39> as Form>⟧.re_reads v.oid || ⟦<Option<AnyRef<'a>> as Form>⟧.re_reads v.parameters };
 
@@ -68,7 +68,7 @@ impl<'a> FormValue for AlgorithmIdentifier<'a> {
 
     ghost only_readable_value = { λ rules v. readable_fields ⟦<ObjectIdentifier<39> as Form>⟧ ⟦<Option<AnyRef<'a>> as Form>⟧ rules v.oid v.parameters };
 
-    ghost accepts_one_form_value = { λ rules v w. one_form_fields ⟦<ObjectIdentifier<39> as Form>⟧ ⟦<Option<AnyRef<'a>> as Form>⟧ rules v.oid w.oid v.parameters w.parameters };
+    ghost accepts_comparable_value = { λ rules v w. comparable_fields ⟦<ObjectIdentifier<39> as Form>⟧ ⟦<Option<AnyRef<'a>> as Form>⟧ rules v.oid w.oid v.parameters w.parameters };
 
     ghost re_reads_memory_value = { λ v. re_reads_fields ⟦<ObjectIdentifier<39> as Form>⟧ ⟦<Option<AnyRef<'a>> as Form>⟧ v.oid v.parameters };
 }
@@ -129,8 +129,8 @@ impl<'a> ValueOrd for AlgorithmIdentifier<'a> {
 
 impl<'a> ContentsEq for AlgorithmIdentifier<'a> {
     ghost contents_eq = { λ v w one.
-        let oid = encoding_eq_tagged tags.ObjectIdentifier ⟦<ObjectIdentifier<39> as FormValue>⟧.contents ⟦<ObjectIdentifier<39> as FormValue>⟧.one_form_value ⟦<ObjectIdentifier<39> as PartialEq>⟧.eq (identifier.contents_eq-law 39 (record { fits = lit< tt })) v.oid w.oid one.0 in
-        let parameters = encoding_eq_option ⟦<AnyRef<'a> as Tagged>⟧.tag_of ⟦<AnyRef<'a> as FormValue>⟧.contents ⟦<AnyRef<'a> as Form>⟧.encoding (λ _. refl) ⟦<AnyRef<'a> as Form>⟧.one_form ⟦<AnyRef<'a> as PartialEq>⟧.eq any.encoding_eq-law v.parameters w.parameters one.1 in
+        let oid = encoding_eq_tagged tags.ObjectIdentifier ⟦<ObjectIdentifier<39> as FormValue>⟧.contents ⟦<ObjectIdentifier<39> as FormValue>⟧.comparable_value ⟦<ObjectIdentifier<39> as PartialEq>⟧.eq (identifier.contents_eq-law 39 (record { fits = lit< tt })) v.oid w.oid one.0 in
+        let parameters = encoding_eq_option ⟦<AnyRef<'a> as Tagged>⟧.tag_of ⟦<AnyRef<'a> as FormValue>⟧.contents ⟦<AnyRef<'a> as Form>⟧.encoding (λ _. refl) ⟦<AnyRef<'a> as Form>⟧.comparable ⟦<AnyRef<'a> as PartialEq>⟧.eq any.encoding_eq-law v.parameters w.parameters one.1 in
         fields_eq ⟦<ObjectIdentifier<39> as Form>⟧ ⟦<Option<AnyRef<'a>> as Form>⟧ (λ _. tags.ObjectIdentifier) ⟦<ObjectIdentifier<39> as FormValue>⟧.contents (λ _. refl) v.oid w.oid v.parameters w.parameters _ _ oid parameters };
 }
 
@@ -152,7 +152,7 @@ impl<'a> DuplicateValue for AlgorithmIdentifier<'a> {
 
     ghost copy_contents = { λ v w e. ap (λ u. joined_fields ⟦<ObjectIdentifier<39> as Form>⟧.encoding ⟦<Option<AnyRef<'a>> as Form>⟧.encoding u.oid u.parameters) e };
 
-    ghost copy_form_value = { λ v w x e f. subst (λ u. ⟦<ObjectIdentifier<39> as Form>⟧.one_form u.oid x.oid × ⟦<Option<AnyRef<'a>> as Form>⟧.one_form u.parameters x.parameters) (sym e) f };
+    ghost copy_form_value = { λ v w x e f. subst (λ u. ⟦<ObjectIdentifier<39> as Form>⟧.comparable u.oid x.oid × ⟦<Option<AnyRef<'a>> as Form>⟧.comparable u.parameters x.parameters) (sym e) f };
 
     ghost copy_re_reads_value = { λ v w e. ap (λ u. ⟦<ObjectIdentifier<39> as Form>⟧.re_reads u.oid || ⟦<Option<AnyRef<'a>> as Form>⟧.re_reads u.parameters) e };
 }

@@ -4,7 +4,7 @@
 ghost use Rattle.std.specs.Prelude.{◌≡◌, false, cond, ◌-◌, ◌^◌, ◌<◌, ◌≤◌, length, slice_index, take};
 ghost use Rattle.std.specs.Int.{complement_if};
 ghost use Rattle.der_elem.specs.IntegerReading.{ReadsSigned, ReadsUnsigned};
-ghost use Rattle.der_elem.specs.Integer.{big_endian_number, complemented_if, integer_contents, twos_complement, is_redundant, natural_contents, FitsSignedWidth, FitsUnsignedOctets, FitsUnsignedWidth};
+ghost use Rattle.der_elem.specs.Integer.{big_endian_number, complement_octets_if, integer_contents, twos_complement, is_redundant, natural_contents, FitsSignedWidth, FitsUnsignedOctets, FitsUnsignedWidth};
 
 use super::octets::{fits_unsigned, is_negative, is_redundant, signed_value};
 use super::reading::has_needless_zero;
@@ -23,7 +23,7 @@ fn inverted_if(negative: bool, number: u64) -> u64
 fn front_magnitude(block: [u8; 8], len: usize, negative: bool) -> u64
     requires some { 0 < len }
     requires few { len ≤ 8 }
-    ensures { result ≡ big_endian_number (complemented_if negative (take len block)) }
+    ensures { result ≡ big_endian_number (complement_octets_if negative (take len block)) }
 {
     inverted_if(negative, u64::from_be_bytes(block)) >> (8 * (8 - len))
 }

@@ -7,7 +7,7 @@ ghost use Rattle.std.specs.Prelude.{◌≡◌, ◌↔◌, IsTrue, ℕ, ◌+◌, 
 ghost use Rattle.std.specs.Int.{complement_if};
 ghost use Rattle.std.specs.Int.Signed.{mag};
 ghost use Rattle.der_tlv.specs.Octets.{lex};
-ghost use Rattle.der_elem.specs.Integer.{big_endian_number, natural_contents, complemented_if, integer_contents, twos_complement, is_redundant, FitsSignedWidth, FitsUnsignedOctets, fits_unsigned};
+ghost use Rattle.der_elem.specs.Integer.{big_endian_number, natural_contents, complement_octets_if, integer_contents, twos_complement, is_redundant, FitsSignedWidth, FitsUnsignedOctets, fits_unsigned};
 
 use std::cmp::Ordering;
 use std::marker::Model;
@@ -41,8 +41,8 @@ fn inverted_if(negative: bool, octet: u8) -> u8
 
 /// The big-endian number of the octets, each inverted where the flag is set.
 pub fn magnitude(bytes: &[u8], negative: bool) -> u128
-    requires { big_endian_number (complemented_if negative bytes.now) < 2 ^ 128 }
-    ensures { result ≡ big_endian_number (complemented_if negative bytes.now) }
+    requires { big_endian_number (complement_octets_if negative bytes.now) < 2 ^ 128 }
+    ensures { result ≡ big_endian_number (complement_octets_if negative bytes.now) }
 {
     if bytes.len() <= 8 {
         return u128::from(short_magnitude(bytes, negative));
@@ -57,8 +57,8 @@ pub fn magnitude(bytes: &[u8], negative: bool) -> u128
 /// The same of octets that 64 bits can hold, which take less time.
 #[inline(always)]
 fn short_magnitude(bytes: &[u8], negative: bool) -> u64
-    requires { big_endian_number (complemented_if negative bytes.now) < 2 ^ 64 }
-    ensures { result ≡ big_endian_number (complemented_if negative bytes.now) }
+    requires { big_endian_number (complement_octets_if negative bytes.now) < 2 ^ 64 }
+    ensures { result ≡ big_endian_number (complement_octets_if negative bytes.now) }
 {
     let mut number: u64 = 0;
     for octet in bytes {

@@ -2,14 +2,14 @@
 
 ghost use Rattle.std.specs.Prelude.{◌≡◌};
 ghost use Rattle.der_tlv.specs.Octets.{lex};
-ghost use Rattle.der_elem.specs.Integer.{aligned, natural_contents, integer_contents};
+ghost use Rattle.der_elem.specs.Integer.{left_aligned, natural_contents, integer_contents};
 
 use super::writing::signed_len;
 use std::cmp::Ordering;
 
 /// The number of the contents octets with zeros behind them, up to 16 octets.
 fn aligned_contents(number: i128) -> u128
-    ensures { result ≡ aligned 16 (integer_contents number) }
+    ensures { result ≡ left_aligned 16 (integer_contents number) }
 {
     number.cast_unsigned() << (8 * (16 - signed_len(number)))
 }

@@ -47,7 +47,7 @@ impl FormValue for i8 {
 
     ghost only_readable_value = { only_within integer_contents (FitsSignedWidth 1) };
 
-    ghost accepts_one_form_value = { λ rules v w c d a b. tt };
+    ghost accepts_comparable_value = { λ rules v w c d a b. tt };
 
     ghost re_reads_memory_value = { λ v e. e };
 }
@@ -108,7 +108,7 @@ impl FormValue for i16 {
 
     ghost only_readable_value = { only_within integer_contents (FitsSignedWidth 2) };
 
-    ghost accepts_one_form_value = { λ rules v w c d a b. tt };
+    ghost accepts_comparable_value = { λ rules v w c d a b. tt };
 
     ghost re_reads_memory_value = { λ v e. e };
 }
@@ -169,7 +169,7 @@ impl FormValue for i32 {
 
     ghost only_readable_value = { only_within integer_contents (FitsSignedWidth 4) };
 
-    ghost accepts_one_form_value = { λ rules v w c d a b. tt };
+    ghost accepts_comparable_value = { λ rules v w c d a b. tt };
 
     ghost re_reads_memory_value = { λ v e. e };
 }
@@ -230,7 +230,7 @@ impl FormValue for i64 {
 
     ghost only_readable_value = { only_within integer_contents (FitsSignedWidth 8) };
 
-    ghost accepts_one_form_value = { λ rules v w c d a b. tt };
+    ghost accepts_comparable_value = { λ rules v w c d a b. tt };
 
     ghost re_reads_memory_value = { λ v e. e };
 }
@@ -291,7 +291,7 @@ impl FormValue for i128 {
 
     ghost only_readable_value = { only_within integer_contents (FitsSignedWidth 16) };
 
-    ghost accepts_one_form_value = { λ rules v w c d a b. tt };
+    ghost accepts_comparable_value = { λ rules v w c d a b. tt };
 
     ghost re_reads_memory_value = { λ v e. e };
 }

@@ -46,7 +46,7 @@ impl FormValue for u8 {
 
     ghost only_readable_value = { only_within natural_contents (FitsUnsignedWidth 1) };
 
-    ghost accepts_one_form_value = { λ rules v w c d a b. tt };
+    ghost accepts_comparable_value = { λ rules v w c d a b. tt };
 
     ghost re_reads_memory_value = { λ v e. e };
 }
@@ -107,7 +107,7 @@ impl FormValue for u16 {
 
     ghost only_readable_value = { only_within natural_contents (FitsUnsignedWidth 2) };
 
-    ghost accepts_one_form_value = { λ rules v w c d a b. tt };
+    ghost accepts_comparable_value = { λ rules v w c d a b. tt };
 
     ghost re_reads_memory_value = { λ v e. e };
 }
@@ -168,7 +168,7 @@ impl FormValue for u32 {
 
     ghost only_readable_value = { only_within natural_contents (FitsUnsignedWidth 4) };
 
-    ghost accepts_one_form_value = { λ rules v w c d a b. tt };
+    ghost accepts_comparable_value = { λ rules v w c d a b. tt };
 
     ghost re_reads_memory_value = { λ v e. e };
 }
@@ -229,7 +229,7 @@ impl FormValue for u64 {
 
     ghost only_readable_value = { only_within natural_contents (FitsUnsignedWidth 8) };
 
-    ghost accepts_one_form_value = { λ rules v w c d a b. tt };
+    ghost accepts_comparable_value = { λ rules v w c d a b. tt };
 
     ghost re_reads_memory_value = { λ v e. e };
 }
@@ -290,7 +290,7 @@ impl FormValue for u128 {
 
     ghost only_readable_value = { only_within natural_contents (FitsUnsignedWidth 16) };
 
-    ghost accepts_one_form_value = { λ rules v w c d a b. tt };
+    ghost accepts_comparable_value = { λ rules v w c d a b. tt };
 
     ghost re_reads_memory_value = { λ v e. e };
 }

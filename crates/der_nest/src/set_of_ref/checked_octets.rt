@@ -7,7 +7,7 @@ ghost use Rattle.der_tlv.specs.declared.encoding_rules.EncodingRules.TheVariants
 ghost use Rattle.der_tlv.specs.Views.{slice_reader_state};
 ghost use Rattle.der_elem.specs.Decoding.{Faults};
 ghost use Rattle.der_nest.specs.BorrowedSets.{OfOctets, AcceptsBorrowed, parse_borrowed_items};
-ghost use Rattle.der_nest.specs.ReReading.{CanFollow, CannotFollow, ReReadsAt, encodings_read, unread};
+ghost use Rattle.der_nest.specs.ReReading.{CanFollow, CannotFollow, ReReadsAt, encodings_read, encodings_left};
 
 use crate::set_of_ref::item_reader::ItemReader;
 use der_elem::{Decode, DerOrd, Form, Tagged};
@@ -30,7 +30,7 @@ pub(crate) struct CheckedOctets<'a, T: Form> {
 impl<'a, T: Form> CheckedOctets<'a, T> {
     /// A reader of all items.
     pub(crate) fn items(&self) -> ItemReader<'a, T>
-        ensures { unread result.left T.parse (slice_reader_state result.reader) ≡ encodings_read self.now.count T.parse Der 0 self.now.octets.now }
+        ensures { encodings_left result.left T.parse (slice_reader_state result.reader) ≡ encodings_read self.now.count T.parse Der 0 self.now.octets.now }
     {
         match SliceReader::new(self.octets) {
             Ok(reader) => ItemReader::new(self.alloc, reader, self.count),

@@ -2,7 +2,7 @@
 
 ghost use Rattle.std.specs.Prelude.{◌≡◌, ◌<◌, false, length};
 ghost use Rattle.der_tlv.specs.Views.{slice_reader_state};
-ghost use Rattle.der_nest.specs.ReReading.{ReReads, unread};
+ghost use Rattle.der_nest.specs.ReReading.{ReReads, encodings_left};
 
 use der_elem::{Decode, Form};
 use der_tlv::{Error, SliceReader};
@@ -17,7 +17,7 @@ pub(crate) struct ItemReader<'a, T: Form> {
     alloc: Global,
     of: PhantomData<T>,
     ghost ready: { 0 < left → (slice_reader_state reader).failed ≡ false },
-    ghost counted: { length (unread left T.parse (slice_reader_state reader)) ≡ left },
+    ghost counted: { length (encodings_left left T.parse (slice_reader_state reader)) ≡ left },
 }
 
 impl<'a, T: Form> ItemReader<'a, T> {
@@ -39,7 +39,7 @@ impl<'a, T: Form> ItemReader<'a, T> {
 
     pub(crate) fn new(alloc: Global, reader: SliceReader<'a>, left: usize) -> ItemReader<'a, T>
         requires ready { (slice_reader_state reader).failed ≡ false }
-        requires counted { length (unread left T.parse (slice_reader_state reader)) ≡ left }
+        requires counted { length (encodings_left left T.parse (slice_reader_state reader)) ≡ left }
         ensures left { result.left ≡ left }
         ensures reader { result.reader ≡ reader.entry }
     {
@@ -55,7 +55,7 @@ impl<'a, T: Form> ItemReader<'a, T> {
 impl<'a, T: Decode<'a, SliceReader<'a>>> ItemReader<'a, T> {
     /// The next item, read again. After a refusal none follows.
     pub(crate) fn next(&mut self) -> Option<Result<T, Error>>
-        ensures { ReReads T.Form (unread self.old.left T.parse (slice_reader_state self.old.reader)) (unread self.new.left T.parse (slice_reader_state self.new.reader)) result }
+        ensures { ReReads T.Form (encodings_left self.old.left T.parse (slice_reader_state self.old.reader)) (encodings_left self.new.left T.parse (slice_reader_state self.new.reader)) result }
     {
         if self.left == 0 {
             return None;

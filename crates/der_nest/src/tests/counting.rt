@@ -21,7 +21,7 @@ pub struct Counted<'a, T> {
 impl<'a, T: Form + Copy> Form for Counted<'a, T> {
     ghost encoding = { λ v. T.encoding v.value };
 
-    ghost one_form = { λ v w. T.one_form v.value w.value };
+    ghost comparable = { λ v w. T.comparable v.value w.value };
 
     ghost re_reads = { λ v. T.re_reads v.value };
 
@@ -49,7 +49,7 @@ impl<'a, T: Form + Copy> Form for Counted<'a, T> {
 
     ghost only_readable = { λ rules v. T.only_readable rules v.value };
 
-    ghost accepts_one_form = { λ rules v w. T.accepts_one_form rules v.value w.value };
+    ghost accepts_comparable = { λ rules v w. T.accepts_comparable rules v.value w.value };
 
     ghost re_reads_memory = { λ v. T.re_reads_memory v.value };
 }

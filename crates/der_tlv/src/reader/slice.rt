@@ -1,7 +1,7 @@
 //! A reader of octets in memory.
 
 ghost use Rattle.std.specs.Prelude.{⊤, ◌≡◌, ◌↔◌, ◌^◌, ◌<◌, ◌≤◌, ◌+◌, List, length, take, drop, Result, Ok, Err, IsOk, IfOk, IfErr, OnOk, true, false};
-ghost use Rattle.der_tlv.specs.ReaderState.{ReaderState, opened, IsReaderState, finish_fault, can_finish, can_read, read_fault, after_fault};
+ghost use Rattle.der_tlv.specs.ReaderState.{ReaderState, new_reader, IsReaderState, finish_fault, can_finish, can_read, read_fault, after_fault};
 ghost use Rattle.der_tlv.specs.declared.error.ErrorKind.TheVariants.{Overflow};
 ghost use Rattle.der_tlv.specs.declared.encoding_rules.EncodingRules.{EncodingRules};
 ghost use Rattle.der_tlv.specs.declared.encoding_rules.EncodingRules.TheVariants.{Der};
@@ -32,7 +32,7 @@ impl<'a> SliceReader<'a> {
     /// (9) for more than 4294967295 octets.
     pub fn new(bytes: &'a [u8]) -> Result<SliceReader<'a>, Error>
         ensures ok { IsOk result ↔ (length bytes.now < 2 ^ 32) }
-        ensures state { IfOk result (λ r. ⟦<SliceReader<'a> as Reader<'a>>⟧.state r ≡ opened bytes.now Der) }
+        ensures state { IfOk result (λ r. ⟦<SliceReader<'a> as Reader<'a>>⟧.state r ≡ new_reader bytes.now Der) }
         ensures err { IfErr result (λ e. e.kind ≡ Overflow) }
     {
         SliceReader::new_with_encoding_rules(bytes, EncodingRules::Der)
@@ -47,7 +47,7 @@ impl<'a> SliceReader<'a> {
         rules: EncodingRules,
     ) -> Result<SliceReader<'a>, Error>
         ensures ok { IsOk result ↔ (length bytes.now < 2 ^ 32) }
-        ensures state { IfOk result (λ r. ⟦<SliceReader<'a> as Reader<'a>>⟧.state r ≡ opened bytes.now rules) }
+        ensures state { IfOk result (λ r. ⟦<SliceReader<'a> as Reader<'a>>⟧.state r ≡ new_reader bytes.now rules) }
         ensures err { IfErr result (λ e. e.kind ≡ Overflow) }
     {
         if bytes.len() > 0xffff_ffff {

@@ -13,5 +13,5 @@ returns g c v readable fits =
       equal = λ w a.
           let both = sym (all_of_accepted g.T.Form w (g.T.Form.encoding v) a fits) ∙ parsed in
           let same : g.T.Form.encoding w ≡ g.T.Form.encoding v = cc in
-          (g.met.T.EncodingEq.encoding_eq w v (g.T.Form.accepts_one_form Der w v (g.T.Form.encoding v) (g.T.Form.encoding v) a accepted)).1 same;
+          (g.met.T.EncodingEq.encoding_eq w v (g.T.Form.accepts_comparable Der w v (g.T.Form.encoding v) (g.T.Form.encoding v) a accepted)).1 same;
     }

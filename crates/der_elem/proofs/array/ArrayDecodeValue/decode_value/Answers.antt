@@ -11,17 +11,17 @@ use Rattle.der_elem.proofs.array.ArrayDecodeValue.decode_value.Goals as goal
 
 pub returns-in_err-refuse_item-clause-exact : goal.returns-in_err-refuse_item-clause-exact
 returns-in_err-refuse_item-clause-exact g c = λ shows.
-    let ready = c.in_ok-ask_ready.ensures in
-    let none = no_items g.T.Form g.row.N (g.R.Reader.state c.args.reader.now) (g.R.Reader.state c.ask_ready.new.reader) ready.1 in
+    let ready = c.in_ok-check_ready.ensures in
+    let none = no_items g.T.Form g.row.N (g.R.Reader.state c.args.reader.now) (g.R.Reader.state c.check_ready.new.reader) ready.1 in
     let fault = too_many_fault none c.in_err-refuse_item.field-0.0.kind (g.R.Reader.state c.refuse_item.new.reader) c.in-Ok.ensures.1.long ready.0 c.in_err-refuse_item.ensures in
     search rules
 
 pub returns-in-Ok-clause-exact : goal.returns-in-Ok-clause-exact
 returns-in-Ok-clause-exact g c = λ shows.
-    let ready = c.in_ok-ask_ready.ensures in
+    let ready = c.in_ok-check_ready.ensures in
     let old = g.R.Reader.state c.args.reader.now in
     let items : c.in-Ok.items ≡ [] = c.in-Ok.ensures.1.same in
-    let so_far = no_items g.T.Form g.row.N old (g.R.Reader.state c.ask_ready.new.reader) ready.1 in
+    let so_far = no_items g.T.Form g.row.N old (g.R.Reader.state c.check_ready.new.reader) ready.1 in
     let none = c.in_ok-refuse_item.ensures.0 in
     let empty : rest old ≡ [] = ap rest (sym ready.1) ∙ none in
     record {
@@ -34,17 +34,17 @@ returns-in-Ok-clause-exact g c = λ shows.
 
 pub returns-in_err-items-clause-exact : goal.returns-in_err-items-clause-exact
 returns-in_err-items-clause-exact g c = λ shows.
-    let ready = c.in_ok-ask_ready.ensures in
-    let none = no_items g.T.Form g.row.N (g.R.Reader.state c.args.reader.now) (g.R.Reader.state c.ask_ready.new.reader) ready.1 in
+    let ready = c.in_ok-check_ready.ensures in
+    let none = no_items g.T.Form g.row.N (g.R.Reader.state c.args.reader.now) (g.R.Reader.state c.check_ready.new.reader) ready.1 in
     let some : 0 < g.row.N = let h = c.in_default.ensures.1 in omega arith in
     let fault = item_fault none c.in_err-items.field-0.0.kind (g.R.Reader.state c.decode_item.new.reader) some ready.0 c.in_err-items.ensures in
     search rules
 
 pub items-init : goal.items-init
 items-init g c =
-    let ready = c.in_ok-ask_ready.ensures in
+    let ready = c.in_ok-check_ready.ensures in
     let old = g.R.Reader.state c.args.reader.now in
-    let none = no_items g.T.Form g.row.N old (g.R.Reader.state c.ask_ready.new.reader) ready.1 in
+    let none = no_items g.T.Form g.row.N old (g.R.Reader.state c.check_ready.new.reader) ready.1 in
     let some : 0 < g.row.N = let h = c.in_default.ensures.1 in omega arith in
     let nonempty = accepted-some g.T.Tagged.tag_of g.T.FormValue.contents g.T.Form.encoding g.met.T.Tagged.encoding_is g.T.Form (λ v. refl) old.rules in
     record {
@@ -55,7 +55,7 @@ items-init g c =
 pub returns-in_err-items-2-clause-exact : goal.returns-in_err-items-2-clause-exact
 returns-in_err-items-2-clause-exact g c = λ shows.
     let some : length (take c.items.i c.items.items) < g.row.N = let h = c.items-test.true in omega (arith, length-take c.items.i c.items.items) in
-    let fault = item_fault c.items.invariant.so_far c.in_err-items-2.field-0.0.kind (g.R.Reader.state c.decode_item-in-items.new.reader) some c.in_ok-ask_ready.ensures.0 c.in_err-items-2.ensures in
+    let fault = item_fault c.items.invariant.so_far c.in_err-items-2.field-0.0.kind (g.R.Reader.state c.decode_item-in-items.new.reader) some c.in_ok-check_ready.ensures.0 c.in_err-items-2.ensures in
     search rules
 
 pub items-preserved : goal.items-preserved
@@ -75,7 +75,7 @@ pub returns-in_err-refuse_item-2-clause-exact : goal.returns-in_err-refuse_item-
 returns-in_err-refuse_item-2-clause-exact g c = λ shows.
     let some : 0 < g.row.N = let h = c.in_default.ensures.1 in omega arith in
     let all : length (take c.items.i c.items.items) ≡ g.row.N = let h = c.items-test.false in let e = c.items.auto.i-end in let w = c.items.invariant.whole in omega (arith, length-take c.items.i c.items.items) in
-    let fault = too_many_fault c.items.invariant.so_far c.in_err-refuse_item-2.field-0.0.kind (g.R.Reader.state c.refuse_item-2.new.reader) all c.in_ok-ask_ready.ensures.0 c.in_err-refuse_item-2.ensures in
+    let fault = too_many_fault c.items.invariant.so_far c.in_err-refuse_item-2.field-0.0.kind (g.R.Reader.state c.refuse_item-2.new.reader) all c.in_ok-check_ready.ensures.0 c.in_err-refuse_item-2.ensures in
     search rules
 
 pub returns-clause-exact : goal.returns-clause-exact
@@ -90,7 +90,7 @@ returns-clause-exact g c = λ shows.
     let sound' : IsReaderState (g.R.Reader.state c.items.reader) = search rules in
     let taken = all_taken _ _ so_far.taken sound sound' so_far.after none in
     record {
-      ready = c.in_ok-ask_ready.ensures.0;
+      ready = c.in_ok-check_ready.ensures.0;
       parsed = array_end so_far w none;
       accepted = (w, array_accepted so_far taken);
       tag = tt;

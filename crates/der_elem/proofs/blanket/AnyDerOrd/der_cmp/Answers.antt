@@ -7,7 +7,7 @@ use Rattle.der_elem.proofs.blanket.AnyDerOrd.der_cmp.Goals as goal
 use Rattle.der_elem.proofs.blanket.AnyDerOrd.der_cmp.Goals.{After-cmp, After-cmp-2}
 
 headed : (g : _) (c : After-cmp g) → Headed g.T.FormValue g.T.Form g.T.Tagged.tag_of
-headed g c = record { encoding_is = g.met.T.Tagged.encoding_is; re_reads_alike = g.met.T.Tagged.re_reads_alike; one_form_alike = g.met.T.Tagged.one_form_alike }
+headed g c = record { encoding_is = g.met.T.Tagged.encoding_is; re_reads_alike = g.met.T.Tagged.re_reads_alike; comparable_alike = g.met.T.Tagged.comparable_alike }
 
 tags_are : (g : _) (c : After-cmp g) → c.cmp.result ≡ lex (identifier (g.T.Tagged.tag_of c.args.self.now)) (identifier (g.T.Tagged.tag_of c.args.other.now))
 tags_are g c =

@@ -1,7 +1,7 @@
 use Rattle.std.proofs.Common.{◌≡◌, length, rules, arith, sym, ap, ◌∙◌, subst, SFits, to_z-of_z, take}
 use Rattle.std.proofs.lemmas.List.{length-take-le}
 use Rattle.std.specs.Int.{complement_if, w128}
-use Rattle.der_elem.specs.Integer.{AreOctets, big_endian_number, complemented_if, integer_contents, FitsSignedWidth}
+use Rattle.der_elem.specs.Integer.{AreOctets, big_endian_number, complement_octets_if, integer_contents, FitsSignedWidth}
 use Rattle.der_elem.specs.IntegerLaws.{twos_complement-complement_if, twos_complement-fits_width, integer_contents_twos_complement}
 use Rattle.der_elem.proofs.IntegerContents.{are_octets, take-are_octets}
 use Rattle.der_elem.proofs.integer.front.decode_front.Goals as goal
@@ -14,7 +14,7 @@ returns-clause-value c =
     to_z-of_z fits
     ∙ c.signed_value.ensures
     ∙ ap (complement_if c.is_negative-negative.result) (c.from.ensures ∙ c.front_magnitude.ensures)
-    ∙ ap (λ n. complement_if n (big_endian_number (complemented_if n octets))) c.is_negative-negative.ensures
+    ∙ ap (λ n. complement_if n (big_endian_number (complement_octets_if n octets))) c.is_negative-negative.ensures
     ∙ sym (twos_complement-complement_if octets all)
 
 pub returns-clause-contents : goal.returns-clause-contents

@@ -9,7 +9,7 @@ pub returns-in_err-item-clause-exact : goal.returns-in_err-item-clause-exact
 returns-in_err-item-clause-exact g c = λ shows.
     let told = c.in_err-item.ensures in
     let some = more_left _ _ c.is_finished.ensures c.items-test.true in
-    let fault = items_fault c.items.invariant c.in_ok-ask_ready.ensures.0 some g.T.Form.TAKES_MEMORY c.in_err-item.field-0.0.kind told.reason in
+    let fault = items_fault c.items.invariant c.in_ok-check_ready.ensures.0 some g.T.Form.TAKES_MEMORY c.in_err-item.field-0.0.kind told.reason in
     search rules
 
 pub items-smaller : goal.items-smaller
@@ -32,7 +32,7 @@ returns-clause-exact g c = λ shows.
     let sound : IsReaderState (g.R.Reader.state c.args.reader.now) = search rules in
     let sound' : IsReaderState (g.R.Reader.state c.items.reader) = search rules in
     let taken = all_taken _ _ so_far.taken sound sound' so_far.after none in
-    let ready = c.in_ok-ask_ready.ensures.0 in
+    let ready = c.in_ok-check_ready.ensures.0 in
     record {
       ready = ready;
       parsed = items_end so_far ready none;

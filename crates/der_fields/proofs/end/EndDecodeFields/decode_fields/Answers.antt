@@ -9,8 +9,8 @@ pub returns : goal.returns
 returns g c =
     let old = g.R.Reader.state c.args.reader.now in
     let some = more_left _ _ c.is_finished.ensures c.if-is_finished.false in
-    let ready = c.in_ok-ask_ready.ensures.0 in
+    let ready = c.in_ok-check_ready.ensures.0 in
     record {
-      reason = inr (end_left old (g.R.Reader.state c.ask_ready.new.reader) c.error.result.kind c.position-decoded.result c.remaining_len-remaining.result c.is_sound.ensures ready c.in_ok-ask_ready.ensures.1 some c.position-decoded.ensures c.remaining_len-remaining.ensures c.error.ensures.kind);
-      reader = refused_here (c.error.ensures.failed ∙ ap after_fault c.in_ok-ask_ready.ensures.1) (λ h. ready_not_failed ready h);
+      reason = inr (end_left old (g.R.Reader.state c.check_ready.new.reader) c.error.result.kind c.position-decoded.result c.remaining_len-remaining.result c.is_sound.ensures ready c.in_ok-check_ready.ensures.1 some c.position-decoded.ensures c.remaining_len-remaining.ensures c.error.ensures.kind);
+      reader = refused_here (c.error.ensures.failed ∙ ap after_fault c.in_ok-check_ready.ensures.1) (λ h. ready_not_failed ready h);
     }

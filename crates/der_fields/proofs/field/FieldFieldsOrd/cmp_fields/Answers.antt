@@ -15,7 +15,7 @@ returns-in-Equal g c =
     let x = c.args.other.now in
     let equal : Equal ≡ lex (g.T.Form.encoding c.args.self.now.first) (g.T.Form.encoding c.args.other.now.first) = sym c.in-Equal.is ∙ c.in_ok-order.ensures in
     let same = g.met.T.FirstTag.same_beginning v.first x.first (same_leads_of c.first_tag.ensures c.first_tag-2.ensures c.if-both_or_none.ensures) in
-    others_decide (F.encoding v.first) (F.encoding x.first) (G.joined v.rest) (G.joined x.rest) _ (G.one_forms v.rest x.rest) _ _ (G.re_read v.rest) (G.re_read x.rest) (λ o. o.1) (right_part (F.re_reads v.first) (G.re_read v.rest)) (right_part (F.re_reads x.first) (G.re_read x.rest)) c.cmp_fields.result same equal c.cmp_fields.ensures
+    others_decide (F.encoding v.first) (F.encoding x.first) (G.joined v.rest) (G.joined x.rest) _ (G.all_comparable v.rest x.rest) _ _ (G.re_read v.rest) (G.re_read x.rest) (λ o. o.1) (right_part (F.re_reads v.first) (G.re_read v.rest)) (right_part (F.re_reads x.first) (G.re_read x.rest)) c.cmp_fields.result same equal c.cmp_fields.ensures
 
 pub returns-in_default : goal.returns-in_default
 returns-in_default g c =

@@ -3,7 +3,7 @@ use Rattle.der_tlv.specs.declared.error.ErrorKind.{ErrorKind}
 use Rattle.der_tlv.specs.HeaderReading.{octets_of}
 use Rattle.der_tlv.specs.Reading.{HeadRead, HeadFault}
 use Rattle.der_tlv.specs.HeaderReading.{read_header}
-use Rattle.der_tlv.specs.ReaderState.{rest, seen}
+use Rattle.der_tlv.specs.ReaderState.{rest, unless_failed}
 use Rattle.der_tlv.specs.TagMatching.{match_tag}
 use Rattle.der_tlv.specs.TagParts.{is_constructed}
 use Rattle.der_elem.specs.Decoding.{Faults}
@@ -96,7 +96,7 @@ returns-in_err-value g c =
     let allowed = allowed_at g (goal.at.returns-in_err-value g c).In-Ok in
     let told = c.in_err-value.ensures.exact (shown_length at) in
     let parse = parse_implicit t own g.T.FormValue.parse_value in
-    let faults : Faults g.T.FormValue.VALUE_TAKES_MEMORY (seen (parse_field bits n parse old.rules) old) c.in_err-value.field-0.0.kind = elim (contents_fault_implicit g.T.FormValue at t own allowed told) [
+    let faults : Faults g.T.FormValue.VALUE_TAKES_MEMORY (unless_failed (parse_field bits n parse old.rules) old) c.in_err-value.field-0.0.kind = elim (contents_fault_implicit g.T.FormValue at t own allowed told) [
       | inl m ↦ inl m
       | inr e ↦ inr (found_fault bits n old ready found parse old.rules e)
     ] in
