@@ -16,7 +16,7 @@ use Rattle.der_elem.specs.PaddedOrder.{padded_cmp}
 abbrev pub NoneBeginsAnother : Type 0
 NoneBeginsAnother = (t u : Tag) (c d x y : List ℕ) → tlv t c ++ x ≡ tlv u d ++ y → (t ≡ u) × (c ≡ d) × (x ≡ y)
 
--- no octets that are read as a value of one form are a proper beginning of octets that are read as one of the same or another form
+-- no octets that are read as a value of one type are a proper beginning of octets that are read as one of the same or another type
 abbrev pub NoneReadBeginsAnother : {T U : Type 0} → form.Ghosts T → form.Ghosts U → Type 0
 NoneReadBeginsAnother {T} {U} F G =
     (rules others : EncodingRules) (v : T) (w : U) (octets more : List ℕ) → F.accepts rules v octets → G.accepts others w (octets ++ more) → more ≡ []

@@ -34,7 +34,7 @@ parse_items_up_to (suc count) parse p (x ∷ xs) = then_items (parse p (x ∷ xs
 unfoldable pub parse_items : Parse → ContentsParse
 parse_items parse rules p octets = parse_items_up_to (length octets) (parse rules) p octets
 
--- whether each pair of two lists is of one form
+-- whether each pair of two lists is comparable
 abbrev pub OneForms : {T : Type 0} → (T → T → Type 0) → List T → List T → Type 0
 OneForms comparable [] ws = Unit {0}
 OneForms comparable (v ∷ vs) [] = Unit {0}

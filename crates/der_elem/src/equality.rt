@@ -6,12 +6,12 @@ ghost use Rattle.der_elem.specs.TaggedLaws.{encoding_eq_tagged};
 use crate::fixed_tag::FixedTag;
 use crate::form::{Form, FormValue};
 
-/// A type whose values of one form are equal exactly if their encodings are.
+/// A type whose comparable values are equal exactly if their encodings are.
 pub trait EncodingEq: Form + PartialEq {
     ghost encoding_eq: { (v w : Self) → Self.comparable v w → (IsTrue (Self.eq v w) ↔ (Self.encoding v ≡ Self.encoding w)) };
 }
 
-/// A type whose values of one form are equal exactly if their contents octets are.
+/// A type whose comparable values are equal exactly if their contents octets are.
 pub trait ContentsEq: FormValue + PartialEq {
     ghost contents_eq: { (v w : Self) → Self.comparable_value v w → (IsTrue (Self.eq v w) ↔ (Self.contents v ≡ Self.contents w)) };
 }

@@ -22,7 +22,7 @@ pub trait FieldsOrd: FieldList {
     /// The lexicographic order of the joined encodings.
     ///
     /// # Errors
-    /// (9) where one has more than 4294967295 octets, (13) where two are not of one form, (1) where
+    /// (9) where one has more than 4294967295 octets, (13) where two are not comparable, (1) where
     /// one reads items again.
     fn cmp_fields(&self, other: &Self) -> Result<Ordering, Error>
         ensures { ComparesFields Self.FieldList self.now other.now result };

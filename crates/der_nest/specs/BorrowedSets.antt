@@ -36,7 +36,7 @@ abbrev pub StandsAt : {T : Type 0} → form.Ghosts T → Borrowed T → ℕ → 
 StandsAt F (OfItems vs) i x = slice_get vs i ≡ Some x
 StandsAt F (OfOctets es) i x = F.readable x × (slice_get es i ≡ Some (F.encoding x))
 
--- whether each pair of items at one place is of one form
+-- whether each pair of items at one place is comparable
 abbrev pub OneFormBorrowed : {T : Type 0} → form.Ghosts T → Borrowed T → Borrowed T → Type 0
 OneFormBorrowed {T} F v w = (i : ℕ) (x y : T) → StandsAt F v i x → StandsAt F w i y → F.comparable x y
 

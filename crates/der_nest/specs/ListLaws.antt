@@ -74,7 +74,7 @@ module _ {T : Type 0} (F : form.Ghosts T) (rules : EncodingRules) where
       let l = ap length e ∙ length-append b d in
       All-cons (λ v. (b : List ℕ) × F.accepts rules v b × (length b ≤ most)) v vs (b, a.0, omega arith) (parts_within vs d others most (omega arith))
 
-  -- accepted items are of one form
+  -- accepted items are comparable
   pub all_comparable : (m n : ℕ) (vs ws : List T) → All (λ v. (b : List ℕ) × F.accepts rules v b × (length b ≤ m)) vs → All (λ v. (b : List ℕ) × F.accepts rules v b × (length b ≤ n)) ws → OneForms F.comparable vs ws
   all_comparable m n [] ws a b = tt
   all_comparable m n (v ∷ vs) [] a b = tt

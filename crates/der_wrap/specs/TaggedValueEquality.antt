@@ -57,7 +57,7 @@ module _ {T : Type 0} (tag_of : T → Tag) (contents encoding : T → List ℕ) 
   same_number bits n m f g c d e =
       sym (class_tag-number f n bits) ∙ ap number_of (tlv-injective (class_tag bits f n) (class_tag bits g m) c d e).0 ∙ class_tag-number g m bits
 
-  -- values of one form with equal encodings behind tags have equal encodings themselves, and equal numbers
+  -- comparable values with equal encodings behind tags have equal encodings themselves, and equal numbers
   told_apart : (bits n m : ℕ) (mode : TagMode) (v w : T) → (mode ≡ Implicit → tag_of v ≡ tag_of w) → encoded bits mode n v ≡ encoded bits mode m w → (n ≡ m) × (encoding v ≡ encoding w)
   told_apart bits n m Explicit v w same_tag e =
       (same_number bits n m true true (encoding v) (encoding w) e, (tlv-injective (class_tag bits true n) (class_tag bits true m) (encoding v) (encoding w) e).1)

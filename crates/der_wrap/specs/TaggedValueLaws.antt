@@ -169,7 +169,7 @@ module _ {T : Type 0} (F : form.Ghosts T) where
     accepts_own_encoding rules r =
         (r.0, subst (F.accepts rules v) (sym (explicit_contents r.0)) (F.accepts_encoding rules v r.1))
 
-  -- two values with explicit tagging are of one form where the values in them are
+  -- two values with explicit tagging are comparable where the values in them are
   pub one_explicit_form : (tag_of : T → Tag) (mode other : TagMode) (v w : T) → mode ≡ Explicit → other ≡ Explicit → F.comparable v w → OneTaggedForm F.comparable tag_of mode other v w
   one_explicit_form tag_of mode other v w e f one =
       record { same_mode = e ∙ sym f; comparable = one; same_tag = λ i. let k = sym e ∙ i in absurd (cc) }

@@ -36,7 +36,7 @@ mode_cmp Explicit Implicit = Less
 mode_cmp Implicit Explicit = Greater
 mode_cmp Implicit Implicit = Equal
 
--- Two tagged values are of one form: of one mode, and their values are of one form; under implicit tagging with one tag of their own, which is not encoded.
+-- Two tagged values are comparable: of one mode, and their values are comparable; under implicit tagging with one tag of their own, which is not encoded.
 pub record OneTaggedForm {T : Type 0} (alike : T → T → Type 0) (tag_of : T → Tag) (mode other : TagMode) (v w : T) : Type 0 where
   pub same_mode : mode ≡ other
   pub comparable : alike v w

@@ -44,7 +44,7 @@ abbrev pub AsksEnd : ReaderState → ReaderState → Result (Unit {0}) Error →
 AsksEnd old new (Ok u) = (rest old ≡ []) × (new ≡ old)
 AsksEnd old new (Err e) = (0 < length (rest old)) × (e.kind ≡ left_over old) × (new ≡ after_fault old)
 
--- why two pairs of fields are not compared: no length says how many octets one has, two fields are not of one form, or memory ran out where items are read again
+-- why two pairs of fields are not compared: no length says how many octets one has, two fields are not comparable, or memory ran out where items are read again
 abbrev pub IncomparableFields : {T U : Type 0} → form.Ghosts T → form.Ghosts U → T → T → U → U → ErrorKind → Type 0
 IncomparableFields F G v x w y Overflow = (2 ^ 32 ≤ length (joined_fields F.encoding G.encoding v w)) ⊎ (2 ^ 32 ≤ length (joined_fields F.encoding G.encoding x y))
 IncomparableFields F G v x w y (Value tag) = F.comparable v x × G.comparable w y → ⊥

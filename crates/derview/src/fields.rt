@@ -52,7 +52,7 @@ pub fn encode_fields<T: Encode, U: Encode, W: Writer>(
 /// second.
 ///
 /// # Errors
-/// (9) where one has more than 4294967295 octets, (13) where two fields are not of one form, (1)
+/// (9) where one has more than 4294967295 octets, (13) where two fields are not comparable, (1)
 /// where one reads items again.
 pub fn cmp_fields<T: DerOrd + Tagged, U: DerOrd>(
     fields: (&T, &U),
