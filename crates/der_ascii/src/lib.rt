@@ -1,5 +1,15 @@
 //! Strings of characters that have one octet each: PrintableString, IA5String, TeletexString and
 //! VideotexString (X.690 8.23).
+//!
+//! ```rust
+//! match PrintableStringRef::new("DE".as_bytes()) {
+//!     Ok(country) => assert_eq!(rt;
+//!         country.to_der(rt.alloc())?.as_slice(),
+//!         [0x13, 0x02, 0x44, 0x45].as_slice()
+//!     ),
+//!     Err(e) => return Err(e.into()),
+//! }
+//! ```
 #![tactic(auto)]
 
 mod characters;

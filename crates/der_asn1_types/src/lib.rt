@@ -1,4 +1,13 @@
 //! The typed values of X.690 DER, under one name, and their canonical encodings.
+//!
+//! ```rust
+//! let octets = [0x31, 0x06, 0x02, 0x01, 0x08, 0x02, 0x01, 0x07];
+//! let written = canonical::<SetOfVec<u16>>(rt.alloc(), &octets)?;
+//! assert_eq!(rt;
+//!     written.as_slice(),
+//!     [0x31, 0x06, 0x02, 0x01, 0x07, 0x02, 0x01, 0x08].as_slice()
+//! );
+//! ```
 #![tactic(auto)]
 
 pub mod asn1;

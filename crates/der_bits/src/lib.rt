@@ -1,4 +1,14 @@
 //! BIT STRING (X.690 8.6, 11.2.1): bits in order, and bits by their place.
+//!
+//! ```rust
+//! match BitStringRef::from_der(rt.alloc(), &[0x03, 0x02, 0x05, 0xa0]) {
+//!     Ok(usages) => {
+//!         assert_eq!(rt; usages.bit_len(), 3);
+//!         assert_eq!(rt; usages.get(2), Some(true));
+//!     }
+//!     Err(e) => return Err(e.into()),
+//! }
+//! ```
 #![tactic(auto)]
 
 mod allowed_len;

@@ -1,4 +1,11 @@
 //! The traits of encodings, with their laws, and the built-in types.
+//!
+//! ```rust
+//! let octets = [0x30, 0x07, 0x02, 0x01, 0x05, 0x02, 0x02, 0x00, 0x80];
+//! let numbers = Vec::<i64>::from_der(rt.alloc(), &octets)?;
+//! assert_eq!(rt; numbers.as_slice(), [5, 128].as_slice());
+//! assert_eq!(rt; numbers.to_der(rt.alloc())?.as_slice(), octets.as_slice());
+//! ```
 #![tactic(auto)]
 
 mod array;

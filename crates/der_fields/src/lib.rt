@@ -5,6 +5,16 @@
 //! OPTIONAL, `WithDefault<T, D>` has a DEFAULT, `Explicit<T, 0>` and `Implicit<T, 0>` have a
 //! context-specific tag. What holds of every list is proved once here: a user's type is an alias,
 //! with no law of its own.
+//!
+//! ```rust
+//! type Limit = FieldSequence<Field<bool, Field<Option<u8>, End>>>;
+//! let limit = Limit::from_der(
+//!     rt.alloc(),
+//!     &[0x30, 0x06, 0x01, 0x01, 0xff, 0x02, 0x01, 0x03],
+//! )?;
+//! assert!(rt; limit.fields.first);
+//! assert_eq!(rt; limit.fields.rest.first, Some(3));
+//! ```
 #![tactic(auto)]
 
 mod class_tag;

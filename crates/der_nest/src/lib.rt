@@ -1,4 +1,9 @@
 //! Sequences and sets of items (X.690 8.9 to 8.12, 11.6).
+//!
+//! ```rust
+//! let set = SetOfVec::from_array(rt.alloc(), [300u16, 8, 7])?;
+//! assert_eq!(rt; set.as_slice(), [7, 8, 300].as_slice());
+//! ```
 #![tactic(auto)]
 
 mod comparing;

@@ -1,4 +1,17 @@
 //! INTEGER of any length (X.690 8.3).
+//!
+//! ```rust
+//! match UintRef::new(&[0x00, 0x80]) {
+//!     Ok(number) => {
+//!         assert_eq!(rt; number.as_bytes(), [0x80].as_slice());
+//!         assert_eq!(rt;
+//!             number.to_der(rt.alloc())?.as_slice(),
+//!             [0x02, 0x02, 0x00, 0x80].as_slice()
+//!         );
+//!     }
+//!     Err(e) => return Err(e.into()),
+//! }
+//! ```
 #![tactic(auto)]
 
 mod int;

@@ -1,5 +1,12 @@
 //! Values whose contents octets are kept as they stand: any value, NULL, OCTET STRING and OBJECT
 //! IDENTIFIER.
+//!
+//! ```rust
+//! match OctetStringRef::from_der(rt.alloc(), &[0x04, 0x02, 0x01, 0x02]) {
+//!     Ok(string) => assert_eq!(rt; string.as_bytes(), [0x01, 0x02].as_slice()),
+//!     Err(e) => return Err(e.into()),
+//! }
+//! ```
 #![tactic(auto)]
 
 mod any;

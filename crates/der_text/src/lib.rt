@@ -1,4 +1,11 @@
 //! UTF8String, GeneralString and BMPString (X.690 8.23).
+//!
+//! ```rust
+//! match Utf8StringRef::from_der(rt.alloc(), &[0x0c, 0x02, 0xc3, 0xa9]) {
+//!     Ok(name) => assert_eq!(rt; name.as_str(), "é"),
+//!     Err(e) => return Err(e.into()),
+//! }
+//! ```
 #![tactic(auto)]
 
 mod bmp_iter;

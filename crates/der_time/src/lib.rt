@@ -1,4 +1,11 @@
 //! GeneralizedTime and UTCTime as RFC 5280 4.1.2.5 has them (X.680 46, 47; X.690 11.7, 11.8).
+//!
+//! ```rust
+//! match UtcTime::from_der(rt.alloc(), "\u{17}\u{d}260131235959Z".as_bytes()) {
+//!     Ok(time) => assert_eq!(rt; time.to_date_time().year(), 2026),
+//!     Err(e) => return Err(e.into()),
+//! }
+//! ```
 #![tactic(auto)]
 
 mod const_range;

@@ -3,6 +3,13 @@
 //! Identifier octets, length octets and contents octets make an encoding, as 02 01 05 does for the
 //! INTEGER 5. This crate reads and writes the first two, and hands out the contents octets as they
 //! stand in the input.
+//!
+//! ```rust
+//! let mut buffer = [0; 4];
+//! let mut writer = SliceWriter::new(&mut buffer);
+//! Header::new(Tag::OctetString, Length::new(200)).encode(&mut writer)?;
+//! assert_eq!(rt; writer.finish(), [0x04, 0x81, 0xc8].as_slice());
+//! ```
 #![tactic(auto)]
 
 mod bytes_owned;

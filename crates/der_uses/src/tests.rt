@@ -1,5 +1,7 @@
 //! The callers, called.
 
+mod examples;
+
 use crate::{
     attribute_set, common_name, contents_of_string, country, explicit_version, first_header,
     is_before, is_within, may_sign_certificates, named_curve, number_in, read_numbers, read_policy,
