@@ -10,6 +10,8 @@ ghost use Rattle.std.specs.String.{string_bytes};
 ghost use Rattle.der_elem.specs.OwnContents.{accepts_own};
 ghost use Rattle.der_ascii.specs.Characters.{are_characters, string_tag, parse_string, KeepsOwnedString, KeepsString};
 ghost use Rattle.der_ascii.specs.StringLaws.{parse_of_characters};
+ghost use Rattle.der_opaque.specs.AnyRef as borrowed_any;
+ghost use Rattle.der_ascii.specs.CharacterStringRef as borrowed;
 
 use crate::characters::{are_characters, string_tag};
 use crate::string_ref::CharacterStringRef;
@@ -32,13 +34,15 @@ pub struct CharacterString<const NUMBER: u8> {
 }
 
 impl<const NUMBER: u8> CharacterString<NUMBER> {
+    ghost use Rattle.der_ascii.specs.CharacterString.{octets_of};
+
     /// A string of these characters, copied.
     ///
     /// # Errors
     /// (13) for an octet that is no character of the type, and for more than 4294967295 octets; else
     /// (1) where memory runs out.
     pub fn new(alloc: Global, octets: &[u8]) -> Result<CharacterString<NUMBER>, Error>
-        ensures { KeepsOwnedString ⟦<CharacterString<NUMBER> as FormValue>⟧.contents NUMBER octets.now result }
+        ensures { KeepsOwnedString octets_of NUMBER octets.now result }
     {
         match CharacterStringRef::<NUMBER>::new(octets) {
             Ok(string) => string.ref_to_owned(alloc),
@@ -48,35 +52,35 @@ impl<const NUMBER: u8> CharacterString<NUMBER> {
 
     /// The text.
     pub fn as_str(&self) -> &str
-        ensures { result.now ≡ ⟦<CharacterString<NUMBER> as FormValue>⟧.contents self.now }
+        ensures { result.now ≡ octets_of self.now }
     {
         self.text.as_str()
     }
 
     /// The octets.
     pub fn as_bytes(&self) -> &[u8]
-        ensures { result.now ≡ ⟦<CharacterString<NUMBER> as FormValue>⟧.contents self.now }
+        ensures { result.now ≡ octets_of self.now }
     {
         self.text.as_bytes()
     }
 
     /// How many octets there are.
     pub fn len(&self) -> Length
-        ensures { result ≡ length (⟦<CharacterString<NUMBER> as FormValue>⟧.contents self.now) }
+        ensures { result ≡ length (octets_of self.now) }
     {
         Length::new(self.text.len() as u32)
     }
 
     /// Whether there are none.
     pub fn is_empty(&self) -> bool
-        ensures { IsTrue result ↔ (⟦<CharacterString<NUMBER> as FormValue>⟧.contents self.now ≡ []) }
+        ensures { IsTrue result ↔ (octets_of self.now ≡ []) }
     {
         self.as_bytes().is_empty()
     }
 
     /// The string, borrowed.
     pub fn owned_to_ref(&self) -> CharacterStringRef<'_, NUMBER>
-        ensures { ⟦<CharacterStringRef<'static, NUMBER> as FormValue>⟧.contents result ≡ ⟦<CharacterString<NUMBER> as FormValue>⟧.contents self.now }
+        ensures { borrowed.octets_of result ≡ octets_of self.now }
     {
         CharacterStringRef {
             text: self.as_str(),
@@ -85,7 +89,9 @@ impl<const NUMBER: u8> CharacterString<NUMBER> {
 }
 
 impl<const NUMBER: u8> Clone for CharacterString<NUMBER> {
-    ghost is_clone = { λ v w. ⟦<CharacterString<NUMBER> as FormValue>⟧.contents w ≡ ⟦<CharacterString<NUMBER> as FormValue>⟧.contents v };
+    ghost use Rattle.der_ascii.specs.CharacterString.{octets_of};
+
+    ghost is_clone = { λ v w. octets_of w ≡ octets_of v };
 
     fn clone(&self) -> Result<CharacterString<NUMBER>, AllocError> {
         let text = self.text.clone()?;
@@ -109,15 +115,18 @@ impl<const NUMBER: u8> fmt::Debug for CharacterString<NUMBER> {
 }
 
 impl<const NUMBER: u8> FormValue for CharacterString<NUMBER> {
-    ghost contents = { λ v. (string_bytes v.text) };
+    ghost use Rattle.der_ascii.specs.CharacterString.{octets_of};
 
-    ghost accepts_value = { accepts_own (λ v. (string_bytes v.text)) };
+    ghost contents = { octets_of };
+
+    ghost accepts_value = { accepts_own octets_of };
 
     ghost parse_value = { parse_string NUMBER };
 
     ghost VALUE_TAKES_MEMORY = { true };
 
-    ghost parse_of_accepted_value = { λ rules v p c a fits. parse_of_characters NUMBER rules p (string_bytes v.text) c v.characters a };
+    ghost parse_of_accepted_value = { λ rules v p c a fits.
+        parse_of_characters NUMBER rules p (string_bytes v.text) c v.characters a };
 
     ghost same_length_value = { λ rules v c a. ap length (sym a) };
 
@@ -191,7 +200,9 @@ impl<const NUMBER: u8> DuplicateValue for CharacterString<NUMBER> {
 }
 
 impl<'a, const NUMBER: u8> From<&'a CharacterString<NUMBER>> for CharacterStringRef<'a, NUMBER> {
-    ghost from_gives = { λ s r. ⟦<CharacterStringRef<'a, NUMBER> as FormValue>⟧.contents r ≡ ⟦<CharacterString<NUMBER> as FormValue>⟧.contents s.now };
+    ghost use Rattle.der_ascii.specs.CharacterString.{octets_of};
+
+    ghost from_gives = { λ s r. borrowed.octets_of r ≡ octets_of s.now };
 
     fn from(string: &'a CharacterString<NUMBER>) -> CharacterStringRef<'a, NUMBER> {
         string.owned_to_ref()
@@ -199,7 +210,10 @@ impl<'a, const NUMBER: u8> From<&'a CharacterString<NUMBER>> for CharacterString
 }
 
 impl<'a, const NUMBER: u8> From<&'a CharacterString<NUMBER>> for AnyRef<'a> {
-    ghost from_gives = { λ s a. (⟦<AnyRef<'a> as Tagged>⟧.tag_of a ≡ string_tag NUMBER) × (⟦<AnyRef<'a> as FormValue>⟧.contents a ≡ ⟦<CharacterString<NUMBER> as FormValue>⟧.contents s.now) };
+    ghost use Rattle.der_ascii.specs.CharacterString.{octets_of};
+
+    ghost from_gives = { λ s a. (borrowed_any.tag_of a ≡ string_tag NUMBER)
+        × (borrowed_any.contents_of a ≡ octets_of s.now) };
 
     fn from(string: &'a CharacterString<NUMBER>) -> AnyRef<'a> {
         AnyRef::from(string.owned_to_ref())
@@ -207,9 +221,11 @@ impl<'a, const NUMBER: u8> From<&'a CharacterString<NUMBER>> for AnyRef<'a> {
 }
 
 impl<const NUMBER: u8> TryFrom<String> for CharacterString<NUMBER> {
+    ghost use Rattle.der_ascii.specs.CharacterString.{octets_of};
+
     type Error = Error;
 
-    ghost try_from_gives = { λ s r. KeepsString ⟦<CharacterString<NUMBER> as FormValue>⟧.contents NUMBER (string_bytes s) r };
+    ghost try_from_gives = { λ s r. KeepsString octets_of NUMBER (string_bytes s) r };
 
     /// # Errors
     /// (13) for an octet that is no character of the type, and for more than 4294967295 octets.

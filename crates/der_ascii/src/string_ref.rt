@@ -12,6 +12,8 @@ ghost use Rattle.der_ascii.specs.Characters.{are_characters, string_tag, parse_s
 ghost use Rattle.der_ascii.specs.StringLaws.{parse_of_characters};
 ghost use Rattle.der_elem.specs.OwnContents.{accepts_within};
 ghost use Rattle.der_elem.specs.OwnContentsLaws.{parse_of_within, same_length_within, accepts_contents_within, only_within};
+ghost use Rattle.der_opaque.specs.Any as owned_any;
+ghost use Rattle.der_opaque.specs.AnyRef as borrowed_any;
 
 use crate::characters::{string_tag, text_of};
 use crate::string::CharacterString;
@@ -34,12 +36,15 @@ pub struct CharacterStringRef<'a, const NUMBER: u8> {
 }
 
 impl<'a, const NUMBER: u8> CharacterStringRef<'a, NUMBER> {
+    ghost use Rattle.der_ascii.specs.CharacterString as owned;
+    ghost use Rattle.der_ascii.specs.CharacterStringRef.{octets_of};
+
     /// A string of these characters.
     ///
     /// # Errors
     /// (13) for an octet that is no character of the type, and for more than 4294967295 octets.
     pub fn new(octets: &'a [u8]) -> Result<CharacterStringRef<'a, NUMBER>, Error>
-        ensures { KeepsString ⟦<CharacterStringRef<'a, NUMBER> as FormValue>⟧.contents NUMBER octets.now result }
+        ensures { KeepsString octets_of NUMBER octets.now result }
     {
         match text_of(NUMBER, octets) {
             Ok(text) => match Length::of(octets.len()) {
@@ -52,28 +57,28 @@ impl<'a, const NUMBER: u8> CharacterStringRef<'a, NUMBER> {
 
     /// The text.
     pub fn as_str(self) -> &'a str
-        ensures { result.now ≡ ⟦<CharacterStringRef<'a, NUMBER> as FormValue>⟧.contents self.entry }
+        ensures { result.now ≡ octets_of self.entry }
     {
         self.text
     }
 
     /// The octets.
     pub fn as_bytes(self) -> &'a [u8]
-        ensures { result.now ≡ ⟦<CharacterStringRef<'a, NUMBER> as FormValue>⟧.contents self.entry }
+        ensures { result.now ≡ octets_of self.entry }
     {
         self.text.as_bytes()
     }
 
     /// How many octets there are.
     pub fn len(self) -> Length
-        ensures { result ≡ length (⟦<CharacterStringRef<'a, NUMBER> as FormValue>⟧.contents self.entry) }
+        ensures { result ≡ length (octets_of self.entry) }
     {
         Length::new(self.text.len() as u32)
     }
 
     /// Whether there are none.
     pub fn is_empty(self) -> bool
-        ensures { IsTrue result ↔ (⟦<CharacterStringRef<'a, NUMBER> as FormValue>⟧.contents self.entry ≡ []) }
+        ensures { IsTrue result ↔ (octets_of self.entry ≡ []) }
     {
         self.as_bytes().is_empty()
     }
@@ -83,7 +88,7 @@ impl<'a, const NUMBER: u8> CharacterStringRef<'a, NUMBER> {
     /// # Errors
     /// (1) where memory runs out.
     pub fn ref_to_owned(self, alloc: Global) -> Result<CharacterString<NUMBER>, Error>
-        ensures value { IfOk result (λ s. ⟦<CharacterString<NUMBER> as FormValue>⟧.contents s ≡ ⟦<CharacterStringRef<'a, NUMBER> as FormValue>⟧.contents self.entry) }
+        ensures value { IfOk result (λ s. owned.octets_of s ≡ octets_of self.entry) }
         ensures err { IfErr result (λ e. e.kind ≡ kinds.Memory) }
     {
         let text = String::from_str(alloc, self.text)?;
@@ -106,19 +111,23 @@ impl<'a, const NUMBER: u8> fmt::Debug for CharacterStringRef<'a, NUMBER> {
 }
 
 impl<'a, const NUMBER: u8> FormValue for CharacterStringRef<'a, NUMBER> {
-    ghost contents = { λ v. v.text.now };
+    ghost use Rattle.der_ascii.specs.CharacterStringRef.{octets_of};
 
-    ghost accepts_value = { accepts_within (λ v. v.text.now) (λ v. Unit {0}) };
+    ghost contents = { octets_of };
+
+    ghost accepts_value = { accepts_within octets_of (λ v. Unit {0}) };
 
     ghost parse_value = { parse_string NUMBER };
 
-    ghost parse_of_accepted_value = { parse_of_within (λ v. v.text.now) (λ v. Unit {0}) (parse_string NUMBER) (λ rules v p r. parse_of_characters NUMBER rules p v.text.now v.text.now v.characters refl) };
+    ghost parse_of_accepted_value = { parse_of_within octets_of
+        (λ v. Unit {0}) (parse_string NUMBER) (λ rules v p r.
+        parse_of_characters NUMBER rules p v.text.now v.text.now v.characters refl) };
 
-    ghost same_length_value = { same_length_within (λ v. v.text.now) (λ v. Unit {0}) };
+    ghost same_length_value = { same_length_within octets_of (λ v. Unit {0}) };
 
-    ghost accepts_contents = { accepts_contents_within (λ v. v.text.now) (λ v. Unit {0}) };
+    ghost accepts_contents = { accepts_contents_within octets_of (λ v. Unit {0}) };
 
-    ghost only_readable_value = { only_within (λ v. v.text.now) (λ v. Unit {0}) };
+    ghost only_readable_value = { only_within octets_of (λ v. Unit {0}) };
 
     ghost accepts_comparable_value = { λ rules v w c d a b. tt };
 
@@ -171,7 +180,9 @@ impl<'a, const NUMBER: u8> CopyIsDuplicate for CharacterStringRef<'a, NUMBER> {}
 
 impl<'a, const NUMBER: u8> From<&CharacterStringRef<'a, NUMBER>>
     for CharacterStringRef<'a, NUMBER> {
-    ghost from_gives = { λ s r. ⟦<CharacterStringRef<'a, NUMBER> as FormValue>⟧.contents r ≡ ⟦<CharacterStringRef<'a, NUMBER> as FormValue>⟧.contents s.now };
+    ghost use Rattle.der_ascii.specs.CharacterStringRef.{octets_of};
+
+    ghost from_gives = { λ s r. octets_of r ≡ octets_of s.now };
 
     fn from(string: &CharacterStringRef<'a, NUMBER>) -> CharacterStringRef<'a, NUMBER> {
         *string
@@ -179,7 +190,10 @@ impl<'a, const NUMBER: u8> From<&CharacterStringRef<'a, NUMBER>>
 }
 
 impl<'a, const NUMBER: u8> From<CharacterStringRef<'a, NUMBER>> for AnyRef<'a> {
-    ghost from_gives = { λ s a. (⟦<AnyRef<'a> as Tagged>⟧.tag_of a ≡ string_tag NUMBER) × (⟦<AnyRef<'a> as FormValue>⟧.contents a ≡ ⟦<CharacterStringRef<'a, NUMBER> as FormValue>⟧.contents s) };
+    ghost use Rattle.der_ascii.specs.CharacterStringRef.{octets_of};
+
+    ghost from_gives = { λ s a. (borrowed_any.tag_of a ≡ string_tag NUMBER)
+        × (borrowed_any.contents_of a ≡ octets_of s) };
 
     fn from(string: CharacterStringRef<'a, NUMBER>) -> AnyRef<'a> {
         match AnyRef::new(string_tag(NUMBER), string.as_bytes()) {
@@ -190,7 +204,9 @@ impl<'a, const NUMBER: u8> From<CharacterStringRef<'a, NUMBER>> for AnyRef<'a> {
 }
 
 impl<'a, const NUMBER: u8> From<CharacterStringRef<'a, NUMBER>> for &'a [u8] {
-    ghost from_gives = { λ s o. o.now ≡ ⟦<CharacterStringRef<'a, NUMBER> as FormValue>⟧.contents s };
+    ghost use Rattle.der_ascii.specs.CharacterStringRef.{octets_of};
+
+    ghost from_gives = { λ s o. o.now ≡ octets_of s };
 
     fn from(string: CharacterStringRef<'a, NUMBER>) -> &'a [u8] {
         string.as_bytes()
@@ -198,9 +214,12 @@ impl<'a, const NUMBER: u8> From<CharacterStringRef<'a, NUMBER>> for &'a [u8] {
 }
 
 impl<'a, const NUMBER: u8> TryFrom<AnyRef<'a>> for CharacterStringRef<'a, NUMBER> {
+    ghost use Rattle.der_ascii.specs.CharacterStringRef.{DecodesCharacters};
+
     type Error = Error;
 
-    ghost try_from_gives = { λ a r. DecodesAs ⟦<CharacterStringRef<'a, NUMBER> as Form>⟧ ⟦<CharacterStringRef<'a, NUMBER> as FormValue>⟧ Der (⟦<AnyRef<'a> as Tagged>⟧.tag_of a) (⟦<AnyRef<'a> as FormValue>⟧.contents a) r };
+    ghost try_from_gives = { λ a r. DecodesCharacters NUMBER (borrowed_any.tag_of a)
+        (borrowed_any.contents_of a) r };
 
     /// # Errors
     /// (4) with no expected tag for another tag; (13) for an octet that is no character of the type.
@@ -217,9 +236,12 @@ impl<'a, const NUMBER: u8> TryFrom<AnyRef<'a>> for CharacterStringRef<'a, NUMBER
 }
 
 impl<'a, const NUMBER: u8> TryFrom<&'a Any> for CharacterStringRef<'a, NUMBER> {
+    ghost use Rattle.der_ascii.specs.CharacterStringRef.{DecodesCharacters};
+
     type Error = Error;
 
-    ghost try_from_gives = { λ a r. DecodesAs ⟦<CharacterStringRef<'a, NUMBER> as Form>⟧ ⟦<CharacterStringRef<'a, NUMBER> as FormValue>⟧ Der (⟦<Any as Tagged>⟧.tag_of a.now) (⟦<Any as FormValue>⟧.contents a.now) r };
+    ghost try_from_gives = { λ a r. DecodesCharacters NUMBER (owned_any.tag_of a.now)
+        (owned_any.contents_of a.now) r };
 
     /// # Errors
     /// (4) with no expected tag for another tag; (13) for an octet that is no character of the type.

@@ -2,7 +2,11 @@ pub mod BitString
 pub mod BitStringLaws
 pub mod BitPlaceLaws
 pub mod EqualBitsLaws
+pub mod BitStringRef
+pub mod OwnedBitString
 pub use Rattle.der_elem.specs.OwnContents
+pub use Rattle.der_opaque.specs.Any
+pub use Rattle.der_opaque.specs.AnyRef
 pub use Rattle.der_opaque.specs.DecodingAs
 pub use Rattle.der_tlv.specs.Octets
 pub use Rattle.der_tlv.specs.declared.encoding_rules.EncodingRules

@@ -13,6 +13,7 @@ ghost use Rattle.der_elem.specs.OwnContents.{accepts_own};
 ghost use Rattle.der_bits.specs.BitString.{AreOctets, can_be_unused, are_zero, parse_bit_string, unused_count, bit_octets, bit_count, bit, bits, same_bits, KeepsBits, KeepsCleared};
 ghost use Rattle.der_bits.specs.BitStringLaws.{parse_of_bits};
 ghost use Rattle.der_bits.specs.EqualBitsLaws.{same_tests, contents_decided, bit_lists_equiv, bits_po};
+ghost use Rattle.der_bits.specs.BitStringRef as borrowed;
 
 use crate::bit_string_iter::BitStringIter;
 use crate::bit_string_ref::BitStringRef;
@@ -40,6 +41,8 @@ pub struct BitString {
 }
 
 impl BitString {
+    ghost use Rattle.der_bits.specs.OwnedBitString.{contents_of};
+
     /// The greatest number of unused bits.
     pub const MAX_UNUSED_BITS: u8 = 7;
 
@@ -50,7 +53,7 @@ impl BitString {
     /// an unused bit that is not zero; (7) for more than 4294967295 octets. The number of bits fits
     /// a `usize`, which has 64 bits, so there is no (9).
     pub fn new(unused_bits: u8, octets: Vec<u8>) -> Result<BitString, Error>
-        ensures { KeepsBits ⟦<BitString as FormValue>⟧.contents unused_bits octets.items result }
+        ensures { KeepsBits contents_of unused_bits octets.items result }
     {
         if !can_be_unused(unused_bits, &octets) || !are_zero(unused_bits, &octets) {
             return Err(Error::from_kind(Tag::BitString.value_error()));
@@ -72,7 +75,7 @@ impl BitString {
     /// more than 4294967295 octets. The number of bits fits a `usize`, which has 64 bits, so there
     /// is no (9).
     pub fn new_cleared(unused_bits: u8, octets: Vec<u8>) -> Result<BitString, Error>
-        ensures { KeepsCleared ⟦<BitString as FormValue>⟧.contents unused_bits octets.items result }
+        ensures { KeepsCleared contents_of unused_bits octets.items result }
     {
         if !can_be_unused(unused_bits, &octets) {
             return Err(Error::from_kind(Tag::BitString.value_error()));
@@ -95,9 +98,10 @@ impl BitString {
     /// # Errors
     /// (7) for more than 4294967295 octets; (1) where memory runs out.
     pub fn from_bytes(alloc: Global, octets: &[u8]) -> Result<BitString, Error>
-        ensures value { IfOk result (λ s. ⟦<BitString as FormValue>⟧.contents s ≡ 0 ∷ octets.now) }
+        ensures value { IfOk result (λ s. contents_of s ≡ 0 ∷ octets.now) }
         ensures short { length octets.now < 2 ^ 32 → IfErr result (λ e. e.kind ≡ kinds.Memory) }
-        ensures long { 2 ^ 32 ≤ length octets.now → IfErr result (λ e. e.kind ≡ kinds.Length tags.BitString) }
+        ensures long { 2 ^ 32 ≤ length octets.now → IfErr result
+            (λ e. e.kind ≡ kinds.Length tags.BitString) }
     {
         match BitStringRef::from_bytes(octets) {
             Ok(string) => string.ref_to_owned(alloc),
@@ -107,7 +111,7 @@ impl BitString {
 
     /// How many bits of the last octet are unused.
     pub fn unused_bits(&self) -> u8
-        ensures value { result ≡ unused_count (⟦<BitString as FormValue>⟧.contents self.now) }
+        ensures value { result ≡ unused_count (contents_of self.now) }
         ensures bounded { result ≤ 7 }
     {
         self.unused
@@ -115,58 +119,60 @@ impl BitString {
 
     /// Whether there are unused bits.
     pub fn has_unused_bits(&self) -> bool
-        ensures { IsTrue result ↔ (unused_count (⟦<BitString as FormValue>⟧.contents self.now) ≢ 0) }
+        ensures { IsTrue result ↔ (unused_count (contents_of self.now) ≢ 0) }
     {
         self.unused != 0
     }
 
     /// How many bits there are.
     pub fn bit_len(&self) -> usize
-        ensures { result ≡ bit_count (⟦<BitString as FormValue>⟧.contents self.now) }
+        ensures { result ≡ bit_count (contents_of self.now) }
     {
         self.owned_to_ref().bit_len()
     }
 
     /// Whether there are no bits.
     pub fn is_empty(&self) -> bool
-        ensures { IsTrue result ↔ (bit_octets (⟦<BitString as FormValue>⟧.contents self.now) ≡ []) }
+        ensures { IsTrue result ↔ (bit_octets (contents_of self.now) ≡ []) }
     {
         self.raw_bytes().is_empty()
     }
 
     /// The octets of the bits, if no bit of them is unused.
     pub fn as_bytes(&self) -> Option<&[u8]>
-        ensures { MatchOption result (unused_count (⟦<BitString as FormValue>⟧.contents self.now) ≢ 0) (λ octets. ⟦<BitString as FormValue>⟧.contents self.now ≡ 0 ∷ octets.now) }
+        ensures { MatchOption result (unused_count (contents_of self.now) ≢ 0)
+            (λ octets. contents_of self.now ≡ 0 ∷ octets.now) }
     {
         self.owned_to_ref().as_bytes()
     }
 
     /// The octets of the bits, with the unused bits, which are zero.
     pub fn raw_bytes(&self) -> &[u8]
-        ensures octets { result.now ≡ bit_octets (⟦<BitString as FormValue>⟧.contents self.now) }
-        ensures zero { are_zero (unused_count (⟦<BitString as FormValue>⟧.contents self.now)) result.now ≡ true }
+        ensures octets { result.now ≡ bit_octets (contents_of self.now) }
+        ensures zero { are_zero (unused_count (contents_of self.now)) result.now ≡ true }
     {
         &self.octets
     }
 
     /// The bits, each once and in order.
     pub fn bits(&self) -> BitStringIter<'_>
-        ensures { result ≡ bits (⟦<BitString as FormValue>⟧.contents self.now) }
+        ensures { result ≡ bits (contents_of self.now) }
     {
         self.owned_to_ref().bits()
     }
 
     /// The bit at this place, which is below the number of bits.
     pub fn get(&self, position: usize) -> Option<bool>
-        ensures inside { position < bit_count (⟦<BitString as FormValue>⟧.contents self.now) → result ≡ Some (bit (⟦<BitString as FormValue>⟧.contents self.now) position) }
-        ensures outside { bit_count (⟦<BitString as FormValue>⟧.contents self.now) ≤ position → result ≡ None }
+        ensures inside { position < bit_count (contents_of self.now)
+            → result ≡ Some (bit (contents_of self.now) position) }
+        ensures outside { bit_count (contents_of self.now) ≤ position → result ≡ None }
     {
         self.owned_to_ref().get(position)
     }
 
     /// The string, borrowed.
     pub fn owned_to_ref(&self) -> BitStringRef<'_>
-        ensures { ⟦<BitStringRef<'static> as FormValue>⟧.contents result ≡ ⟦<BitString as FormValue>⟧.contents self.now }
+        ensures { borrowed.contents_of result ≡ contents_of self.now }
     {
         BitStringRef {
             unused: self.unused,
@@ -176,7 +182,9 @@ impl BitString {
 }
 
 impl Clone for BitString {
-    ghost is_clone = { λ v w. ⟦<BitString as FormValue>⟧.contents w ≡ ⟦<BitString as FormValue>⟧.contents v };
+    ghost use Rattle.der_bits.specs.OwnedBitString.{contents_of};
+
+    ghost is_clone = { λ v w. contents_of w ≡ contents_of v };
 
     fn clone(&self) -> Result<BitString, AllocError> {
         let octets = self.octets.clone()?;
@@ -188,15 +196,18 @@ impl Clone for BitString {
 }
 
 impl FormValue for BitString {
-    ghost contents = { λ v. v.unused ∷ v.octets.items };
+    ghost use Rattle.der_bits.specs.OwnedBitString.{contents_of};
 
-    ghost accepts_value = { accepts_own (λ v. v.unused ∷ v.octets.items) };
+    ghost contents = { contents_of };
+
+    ghost accepts_value = { accepts_own contents_of };
 
     ghost parse_value = { parse_bit_string };
 
     ghost VALUE_TAKES_MEMORY = { true };
 
-    ghost parse_of_accepted_value = { λ rules v p c a fits. parse_of_bits v.unused v.octets.items v.possible v.zero rules p c a };
+    ghost parse_of_accepted_value = { λ rules v p c a fits.
+        parse_of_bits v.unused v.octets.items v.possible v.zero rules p c a };
 
     ghost same_length_value = { λ rules v c a. ap length (sym a) };
 
@@ -244,7 +255,8 @@ impl EncodeValue for BitString {
 impl PartialEq for BitString {
     ghost eq = { λ v w. same_bits (v.unused ∷ v.octets.items) (w.unused ∷ w.octets.items) };
 
-    ghost laws = { on_per (λ v. bits (v.unused ∷ v.octets.items)) (partial_equiv_from_equiv bit_lists_equiv) };
+    ghost laws = { on_per (λ v. bits (v.unused ∷ v.octets.items))
+        (partial_equiv_from_equiv bit_lists_equiv) };
 
     /// Whether the two have the same bits: since unused bits are zero, whether they have the same
     /// contents octets.
@@ -258,9 +270,14 @@ impl Eq for BitString {
 }
 
 impl PartialOrd for BitString {
-    ghost partial_cmp = { λ v w. Some (lex (v.unused ∷ v.octets.items) (w.unused ∷ w.octets.items)) };
+    ghost use Rattle.der_bits.specs.OwnedBitString.{contents_of};
 
-    ghost laws = { bits_po (λ v. v.unused ∷ v.octets.items) (λ v w. same_tests v.unused w.unused v.octets.items w.octets.items v.possible v.zero w.possible w.zero v.octet w.octet) };
+    ghost partial_cmp = { λ v w. Some (lex (v.unused ∷ v.octets.items)
+        (w.unused ∷ w.octets.items)) };
+
+    ghost laws = { bits_po contents_of
+        (λ v w. same_tests v.unused w.unused v.octets.items w.octets.items v.possible v.zero
+        w.possible w.zero v.octet w.octet) };
 
     fn partial_cmp(&self, other: &BitString) -> Option<Ordering> {
         Some(self.cmp(other))
@@ -268,13 +285,17 @@ impl PartialOrd for BitString {
 }
 
 impl Ord for BitString {
+    ghost use Rattle.der_bits.specs.OwnedBitString.{contents_of};
+
     ghost cmp = { λ v w. lex (v.unused ∷ v.octets.items) (w.unused ∷ w.octets.items) };
 
-    ghost total = { on_total (λ v. v.unused ∷ v.octets.items) nat_list_cmp_total };
+    ghost total = { on_total contents_of nat_list_cmp_total };
 
     ghost matches_partial_cmp = { λ v w. refl };
 
-    ghost matches_eq = { λ v w. same_tests v.unused w.unused v.octets.items w.octets.items v.possible v.zero w.possible w.zero v.octet w.octet ∙ texts_ties (v.unused ∷ v.octets.items) (w.unused ∷ w.octets.items) };
+    ghost matches_eq = { λ v w. same_tests v.unused w.unused v.octets.items w.octets.items
+        v.possible v.zero w.possible w.zero v.octet w.octet ∙ texts_ties (v.unused ∷ v.octets.items)
+        (w.unused ∷ w.octets.items) };
 
     /// The lexicographic order of the contents octets: the number of unused bits decides first.
     fn cmp(&self, other: &BitString) -> Ordering {
@@ -289,7 +310,10 @@ impl ValueOrd for BitString {
 }
 
 impl ContentsEq for BitString {
-    ghost contents_eq = { λ v w one. contents_decided (v.unused ∷ v.octets.items) (w.unused ∷ w.octets.items) (same_tests v.unused w.unused v.octets.items w.octets.items v.possible v.zero w.possible w.zero v.octet w.octet) };
+    ghost contents_eq = { λ v w one. contents_decided (v.unused ∷ v.octets.items)
+        (w.unused ∷ w.octets.items)
+        (same_tests v.unused w.unused v.octets.items w.octets.items v.possible v.zero w.possible
+        w.zero v.octet w.octet) };
 }
 
 impl DuplicateValue for BitString {
@@ -309,7 +333,9 @@ impl DuplicateValue for BitString {
 }
 
 impl<'a> From<&'a BitString> for BitStringRef<'a> {
-    ghost from_gives = { λ s r. ⟦<BitStringRef<'a> as FormValue>⟧.contents r ≡ ⟦<BitString as FormValue>⟧.contents s.now };
+    ghost use Rattle.der_bits.specs.OwnedBitString.{contents_of};
+
+    ghost from_gives = { λ s r. borrowed.contents_of r ≡ contents_of s.now };
 
     fn from(string: &'a BitString) -> BitStringRef<'a> {
         string.owned_to_ref()

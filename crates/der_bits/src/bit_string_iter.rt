@@ -20,7 +20,8 @@ impl<'a> Model for BitStringIter<'a> {
 
     ghost Value = { List Bool };
 
-    ghost view = { λ it. bits_from it.string.octets.now it.position (8 * length it.string.octets.now - it.string.unused - it.position) };
+    ghost view = { λ it. bits_from it.string.octets.now it.position
+        (8 * length it.string.octets.now - it.string.unused - it.position) };
 
     ghost invariant = { λ it. it.position ≤ 8 * length it.string.octets.now - it.string.unused };
 }

@@ -21,6 +21,8 @@ ghost use Rattle.der_bits.specs.BitStringLaws.{parse_of_bits};
 ghost use Rattle.der_bits.specs.EqualBitsLaws.{same_tests, contents_decided, bit_lists_equiv, bits_po};
 ghost use Rattle.der_elem.specs.OwnContents.{accepts_within};
 ghost use Rattle.der_elem.specs.OwnContentsLaws.{parse_of_within, same_length_within, accepts_contents_within, only_within};
+ghost use Rattle.der_opaque.specs.Any as owned_any;
+ghost use Rattle.der_opaque.specs.AnyRef as borrowed_any;
 
 use crate::bit_string::BitString;
 use crate::bit_string_iter::BitStringIter;
@@ -49,6 +51,9 @@ pub struct BitStringRef<'a> {
 }
 
 impl<'a> BitStringRef<'a> {
+    ghost use Rattle.der_bits.specs.OwnedBitString as owned;
+    ghost use Rattle.der_bits.specs.BitStringRef.{contents_of};
+
     /// The bits of these octets, but for so many of the last octet, its lowest, which are zero.
     ///
     /// # Errors
@@ -56,7 +61,7 @@ impl<'a> BitStringRef<'a> {
     /// an unused bit that is not zero; (7) for more than 4294967295 octets. The number of bits fits
     /// a `usize`, which has 64 bits, so there is no (9).
     pub fn new(unused_bits: u8, octets: &'a [u8]) -> Result<BitStringRef<'a>, Error>
-        ensures { KeepsBits ⟦<BitStringRef<'a> as FormValue>⟧.contents unused_bits octets.now result }
+        ensures { KeepsBits contents_of unused_bits octets.now result }
     {
         if !can_be_unused(unused_bits, octets) || !are_zero(unused_bits, octets) {
             return Err(Error::from_kind(Tag::BitString.value_error()));
@@ -75,14 +80,14 @@ impl<'a> BitStringRef<'a> {
     /// # Errors
     /// (7) for more than 4294967295 octets.
     pub fn from_bytes(octets: &'a [u8]) -> Result<BitStringRef<'a>, Error>
-        ensures { KeepsAll ⟦<BitStringRef<'a> as FormValue>⟧.contents octets.now result }
+        ensures { KeepsAll contents_of octets.now result }
     {
         BitStringRef::new(0, octets)
     }
 
     /// How many bits of the last octet are unused.
     pub fn unused_bits(self) -> u8
-        ensures value { result ≡ unused_count (⟦<BitStringRef<'a> as FormValue>⟧.contents self.entry) }
+        ensures value { result ≡ unused_count (contents_of self.entry) }
         ensures bounded { result ≤ 7 }
     {
         self.unused
@@ -90,35 +95,36 @@ impl<'a> BitStringRef<'a> {
 
     /// Whether there are unused bits.
     pub fn has_unused_bits(self) -> bool
-        ensures { IsTrue result ↔ (unused_count (⟦<BitStringRef<'a> as FormValue>⟧.contents self.entry) ≢ 0) }
+        ensures { IsTrue result ↔ (unused_count (contents_of self.entry) ≢ 0) }
     {
         self.unused != 0
     }
 
     /// How many bits there are.
     pub fn bit_len(self) -> usize
-        ensures { result ≡ bit_count (⟦<BitStringRef<'a> as FormValue>⟧.contents self.entry) }
+        ensures { result ≡ bit_count (contents_of self.entry) }
     {
         8 * self.octets.len() - self.unused as usize
     }
 
     /// How many octets the bits have.
     pub fn byte_len(self) -> Length
-        ensures { result ≡ length (bit_octets (⟦<BitStringRef<'a> as FormValue>⟧.contents self.entry)) }
+        ensures { result ≡ length (bit_octets (contents_of self.entry)) }
     {
         Length::new(self.octets.len() as u32)
     }
 
     /// Whether there are no bits.
     pub fn is_empty(self) -> bool
-        ensures { IsTrue result ↔ (bit_octets (⟦<BitStringRef<'a> as FormValue>⟧.contents self.entry) ≡ []) }
+        ensures { IsTrue result ↔ (bit_octets (contents_of self.entry) ≡ []) }
     {
         self.raw_bytes().is_empty()
     }
 
     /// The octets of the bits, if no bit of them is unused.
     pub fn as_bytes(self) -> Option<&'a [u8]>
-        ensures { MatchOption result (unused_count (⟦<BitStringRef<'a> as FormValue>⟧.contents self.entry) ≢ 0) (λ octets. ⟦<BitStringRef<'a> as FormValue>⟧.contents self.entry ≡ 0 ∷ octets.now) }
+        ensures { MatchOption result (unused_count (contents_of self.entry) ≢ 0)
+            (λ octets. contents_of self.entry ≡ 0 ∷ octets.now) }
     {
         if self.has_unused_bits() {
             return None;
@@ -128,15 +134,15 @@ impl<'a> BitStringRef<'a> {
 
     /// The octets of the bits, with the unused bits, which are zero.
     pub fn raw_bytes(self) -> &'a [u8]
-        ensures octets { result.now ≡ bit_octets (⟦<BitStringRef<'a> as FormValue>⟧.contents self.entry) }
-        ensures zero { are_zero (unused_count (⟦<BitStringRef<'a> as FormValue>⟧.contents self.entry)) result.now ≡ true }
+        ensures octets { result.now ≡ bit_octets (contents_of self.entry) }
+        ensures zero { are_zero (unused_count (contents_of self.entry)) result.now ≡ true }
     {
         self.octets
     }
 
     /// The bits, each once and in order.
     pub fn bits(self) -> BitStringIter<'a>
-        ensures { result ≡ bits (⟦<BitStringRef<'a> as FormValue>⟧.contents self.entry) }
+        ensures { result ≡ bits (contents_of self.entry) }
     {
         BitStringIter {
             string: self,
@@ -146,8 +152,9 @@ impl<'a> BitStringRef<'a> {
 
     /// The bit at this place, which is below the number of bits.
     pub fn get(self, position: usize) -> Option<bool>
-        ensures inside { position < bit_count (⟦<BitStringRef<'a> as FormValue>⟧.contents self.entry) → result ≡ Some (bit (⟦<BitStringRef<'a> as FormValue>⟧.contents self.entry) position) }
-        ensures outside { bit_count (⟦<BitStringRef<'a> as FormValue>⟧.contents self.entry) ≤ position → result ≡ None }
+        ensures inside { position < bit_count (contents_of self.entry)
+            → result ≡ Some (bit (contents_of self.entry) position) }
+        ensures outside { bit_count (contents_of self.entry) ≤ position → result ≡ None }
     {
         if position >= self.bit_len() {
             return None;
@@ -161,9 +168,11 @@ impl<'a> BitStringRef<'a> {
     /// # Errors
     /// (13) where there are unused bits; (1) where memory runs out.
     pub fn to_vec(self, alloc: Global) -> Result<Vec<u8>, Error>
-        ensures value { IfOk result (λ octets. ⟦<BitStringRef<'a> as FormValue>⟧.contents self.entry ≡ 0 ∷ octets.items) }
-        ensures unused { unused_count (⟦<BitStringRef<'a> as FormValue>⟧.contents self.entry) ≢ 0 → IfErr result (λ e. e.kind ≡ kinds.Value tags.BitString) }
-        ensures err { unused_count (⟦<BitStringRef<'a> as FormValue>⟧.contents self.entry) ≡ 0 → IfErr result (λ e. e.kind ≡ kinds.Memory) }
+        ensures value { IfOk result (λ octets. contents_of self.entry ≡ 0 ∷ octets.items) }
+        ensures unused { unused_count (contents_of self.entry) ≢ 0
+            → IfErr result (λ e. e.kind ≡ kinds.Value tags.BitString) }
+        ensures err { unused_count (contents_of self.entry) ≡ 0
+            → IfErr result (λ e. e.kind ≡ kinds.Memory) }
     {
         if self.has_unused_bits() {
             return Err(Error::from_kind(Tag::BitString.value_error()));
@@ -176,7 +185,7 @@ impl<'a> BitStringRef<'a> {
     /// # Errors
     /// (1) where memory runs out.
     pub fn ref_to_owned(self, alloc: Global) -> Result<BitString, Error>
-        ensures value { IfOk result (λ s. ⟦<BitString as FormValue>⟧.contents s ≡ ⟦<BitStringRef<'a> as FormValue>⟧.contents self.entry) }
+        ensures value { IfOk result (λ s. owned.contents_of s ≡ contents_of self.entry) }
         ensures err { IfErr result (λ e. e.kind ≡ kinds.Memory) }
     {
         let octets = self.octets.to_vec(alloc)?;
@@ -189,7 +198,7 @@ impl<'a> BitStringRef<'a> {
     /// The bit string with these contents octets, or the first fault.
     fn of_contents(contents: &'a [u8]) -> Result<BitStringRef<'a>, ErrorKind>
         requires { length contents.now < 2 ^ 32 }
-        ensures { ParsedAs ⟦<BitStringRef<'a> as FormValue>⟧.contents contents.now result }
+        ensures { ParsedAs contents_of contents.now result }
     {
         let Some((unused, octets)) = contents.split_first() else {
             return Err(ErrorKind::Overflow);
@@ -208,19 +217,23 @@ impl<'a> BitStringRef<'a> {
 }
 
 impl<'a> FormValue for BitStringRef<'a> {
-    ghost contents = { λ v. v.unused ∷ v.octets.now };
+    ghost use Rattle.der_bits.specs.BitStringRef.{contents_of};
 
-    ghost accepts_value = { accepts_within (λ v. v.unused ∷ v.octets.now) (λ v. Unit {0}) };
+    ghost contents = { contents_of };
+
+    ghost accepts_value = { accepts_within contents_of (λ v. Unit {0}) };
 
     ghost parse_value = { parse_bit_string };
 
-    ghost parse_of_accepted_value = { parse_of_within (λ v. v.unused ∷ v.octets.now) (λ v. Unit {0}) parse_bit_string (λ rules v p r. parse_of_bits v.unused v.octets.now v.possible v.zero rules p (v.unused ∷ v.octets.now) refl) };
+    ghost parse_of_accepted_value = { parse_of_within contents_of (λ v. Unit {0}) parse_bit_string
+        (λ rules v p r. parse_of_bits v.unused v.octets.now v.possible v.zero rules p
+        (v.unused ∷ v.octets.now) refl) };
 
-    ghost same_length_value = { same_length_within (λ v. v.unused ∷ v.octets.now) (λ v. Unit {0}) };
+    ghost same_length_value = { same_length_within contents_of (λ v. Unit {0}) };
 
-    ghost accepts_contents = { accepts_contents_within (λ v. v.unused ∷ v.octets.now) (λ v. Unit {0}) };
+    ghost accepts_contents = { accepts_contents_within contents_of (λ v. Unit {0}) };
 
-    ghost only_readable_value = { only_within (λ v. v.unused ∷ v.octets.now) (λ v. Unit {0}) };
+    ghost only_readable_value = { only_within contents_of (λ v. Unit {0}) };
 
     ghost accepts_comparable_value = { λ rules v w c d a b. tt };
 
@@ -268,7 +281,8 @@ impl<'a> EncodeValue for BitStringRef<'a> {
 impl<'a> PartialEq for BitStringRef<'a> {
     ghost eq = { λ v w. same_bits (v.unused ∷ v.octets.now) (w.unused ∷ w.octets.now) };
 
-    ghost laws = { on_per (λ v. bits (v.unused ∷ v.octets.now)) (partial_equiv_from_equiv bit_lists_equiv) };
+    ghost laws = { on_per (λ v. bits (v.unused ∷ v.octets.now))
+        (partial_equiv_from_equiv bit_lists_equiv) };
 
     /// Whether the two have the same bits: since unused bits are zero, whether they have the same
     /// contents octets.
@@ -282,9 +296,13 @@ impl<'a> Eq for BitStringRef<'a> {
 }
 
 impl<'a> PartialOrd for BitStringRef<'a> {
+    ghost use Rattle.der_bits.specs.BitStringRef.{contents_of};
+
     ghost partial_cmp = { λ v w. Some (lex (v.unused ∷ v.octets.now) (w.unused ∷ w.octets.now)) };
 
-    ghost laws = { bits_po (λ v. v.unused ∷ v.octets.now) (λ v w. same_tests v.unused w.unused v.octets.now w.octets.now v.possible v.zero w.possible w.zero v.octet w.octet) };
+    ghost laws = { bits_po contents_of
+        (λ v w. same_tests v.unused w.unused v.octets.now w.octets.now v.possible v.zero w.possible
+        w.zero v.octet w.octet) };
 
     fn partial_cmp(&self, other: &BitStringRef<'a>) -> Option<Ordering> {
         Some(self.cmp(other))
@@ -292,13 +310,17 @@ impl<'a> PartialOrd for BitStringRef<'a> {
 }
 
 impl<'a> Ord for BitStringRef<'a> {
+    ghost use Rattle.der_bits.specs.BitStringRef.{contents_of};
+
     ghost cmp = { λ v w. lex (v.unused ∷ v.octets.now) (w.unused ∷ w.octets.now) };
 
-    ghost total = { on_total (λ v. v.unused ∷ v.octets.now) nat_list_cmp_total };
+    ghost total = { on_total contents_of nat_list_cmp_total };
 
     ghost matches_partial_cmp = { λ v w. refl };
 
-    ghost matches_eq = { λ v w. same_tests v.unused w.unused v.octets.now w.octets.now v.possible v.zero w.possible w.zero v.octet w.octet ∙ texts_ties (v.unused ∷ v.octets.now) (w.unused ∷ w.octets.now) };
+    ghost matches_eq = { λ v w. same_tests v.unused w.unused v.octets.now w.octets.now v.possible
+        v.zero w.possible w.zero v.octet w.octet ∙ texts_ties (v.unused ∷ v.octets.now)
+        (w.unused ∷ w.octets.now) };
 
     /// The lexicographic order of the contents octets: the number of unused bits decides first.
     fn cmp(&self, other: &BitStringRef<'a>) -> Ordering {
@@ -315,15 +337,20 @@ impl<'a> ValueOrd for BitStringRef<'a> {
 }
 
 impl<'a> ContentsEq for BitStringRef<'a> {
-    ghost contents_eq = { λ v w one. contents_decided (v.unused ∷ v.octets.now) (w.unused ∷ w.octets.now) (same_tests v.unused w.unused v.octets.now w.octets.now v.possible v.zero w.possible w.zero v.octet w.octet) };
+    ghost contents_eq = { λ v w one. contents_decided (v.unused ∷ v.octets.now)
+        (w.unused ∷ w.octets.now)
+        (same_tests v.unused w.unused v.octets.now w.octets.now v.possible v.zero w.possible w.zero
+        v.octet w.octet) };
 }
 
 impl<'a> CopyIsDuplicate for BitStringRef<'a> {}
 
 impl<'a> TryFrom<&'a [u8]> for BitStringRef<'a> {
+    ghost use Rattle.der_bits.specs.BitStringRef.{contents_of};
+
     type Error = Error;
 
-    ghost try_from_gives = { λ b r. KeepsAll ⟦<BitStringRef<'a> as FormValue>⟧.contents b.now r };
+    ghost try_from_gives = { λ b r. KeepsAll contents_of b.now r };
 
     fn try_from(octets: &'a [u8]) -> Result<BitStringRef<'a>, Error> {
         BitStringRef::from_bytes(octets)
@@ -331,9 +358,11 @@ impl<'a> TryFrom<&'a [u8]> for BitStringRef<'a> {
 }
 
 impl<'a, 'b> TryFrom<&'b &'a [u8]> for BitStringRef<'a> {
+    ghost use Rattle.der_bits.specs.BitStringRef.{contents_of};
+
     type Error = Error;
 
-    ghost try_from_gives = { λ b r. KeepsAll ⟦<BitStringRef<'a> as FormValue>⟧.contents b.now.now r };
+    ghost try_from_gives = { λ b r. KeepsAll contents_of b.now.now r };
 
     fn try_from(octets: &'b &'a [u8]) -> Result<BitStringRef<'a>, Error> {
         BitStringRef::from_bytes(*octets)
@@ -341,9 +370,11 @@ impl<'a, 'b> TryFrom<&'b &'a [u8]> for BitStringRef<'a> {
 }
 
 impl<'a> TryFrom<&'a Vec<u8>> for BitStringRef<'a> {
+    ghost use Rattle.der_bits.specs.BitStringRef.{contents_of};
+
     type Error = Error;
 
-    ghost try_from_gives = { λ b r. KeepsAll ⟦<BitStringRef<'a> as FormValue>⟧.contents b.now.items r };
+    ghost try_from_gives = { λ b r. KeepsAll contents_of b.now.items r };
 
     fn try_from(octets: &'a Vec<u8>) -> Result<BitStringRef<'a>, Error> {
         BitStringRef::from_bytes(octets)
@@ -351,9 +382,11 @@ impl<'a> TryFrom<&'a Vec<u8>> for BitStringRef<'a> {
 }
 
 impl<'a, const N: usize> TryFrom<&'a [u8; N]> for BitStringRef<'a> {
+    ghost use Rattle.der_bits.specs.BitStringRef.{contents_of};
+
     type Error = Error;
 
-    ghost try_from_gives = { λ b r. KeepsAll ⟦<BitStringRef<'a> as FormValue>⟧.contents b.now r };
+    ghost try_from_gives = { λ b r. KeepsAll contents_of b.now r };
 
     fn try_from(octets: &'a [u8; N]) -> Result<BitStringRef<'a>, Error> {
         BitStringRef::from_bytes(octets)
@@ -361,9 +394,12 @@ impl<'a, const N: usize> TryFrom<&'a [u8; N]> for BitStringRef<'a> {
 }
 
 impl<'a> TryFrom<BitStringRef<'a>> for &'a [u8] {
+    ghost use Rattle.der_bits.specs.BitStringRef.{contents_of};
+
     type Error = Error;
 
-    ghost try_from_gives = { λ s r. MatchResult r (λ b. ⟦<BitStringRef<'a> as FormValue>⟧.contents s ≡ 0 ∷ b.now) (λ e. (e.kind ≡ kinds.Value tags.BitString) × (unused_count (⟦<BitStringRef<'a> as FormValue>⟧.contents s) ≢ 0)) };
+    ghost try_from_gives = { λ s r. MatchResult r (λ b. contents_of s ≡ 0 ∷ b.now)
+        (λ e. (e.kind ≡ kinds.Value tags.BitString) × (unused_count (contents_of s) ≢ 0)) };
 
     /// # Errors
     /// (13) where there are unused bits.
@@ -376,9 +412,11 @@ impl<'a> TryFrom<BitStringRef<'a>> for &'a [u8] {
 }
 
 impl<'a, const N: usize> TryFrom<BitStringRef<'a>> for [u8; N] {
+    ghost use Rattle.der_bits.specs.BitStringRef.{contents_of};
+
     type Error = Error;
 
-    ghost try_from_gives = { λ s r. FillsArray N (⟦<BitStringRef<'a> as FormValue>⟧.contents s) r };
+    ghost try_from_gives = { λ s r. FillsArray N (contents_of s) r };
 
     /// # Errors
     /// (13) where there are unused bits; (7) for another number of octets.
@@ -396,7 +434,9 @@ impl<'a, const N: usize> TryFrom<BitStringRef<'a>> for [u8; N] {
 }
 
 impl<'a, 'b> From<&'b BitStringRef<'a>> for BitStringRef<'a> {
-    ghost from_gives = { λ s r. ⟦<BitStringRef<'a> as FormValue>⟧.contents r ≡ ⟦<BitStringRef<'a> as FormValue>⟧.contents s.now };
+    ghost use Rattle.der_bits.specs.BitStringRef.{contents_of};
+
+    ghost from_gives = { λ s r. contents_of r ≡ contents_of s.now };
 
     fn from(string: &'b BitStringRef<'a>) -> BitStringRef<'a> {
         *string
@@ -404,9 +444,12 @@ impl<'a, 'b> From<&'b BitStringRef<'a>> for BitStringRef<'a> {
 }
 
 impl<'a> TryFrom<AnyRef<'a>> for BitStringRef<'a> {
+    ghost use Rattle.der_bits.specs.BitStringRef.{DecodesBitString};
+
     type Error = Error;
 
-    ghost try_from_gives = { λ a r. DecodesAs ⟦<BitStringRef<'a> as Form>⟧ ⟦<BitStringRef<'a> as FormValue>⟧ Der (⟦<AnyRef<'a> as Tagged>⟧.tag_of a) (⟦<AnyRef<'a> as FormValue>⟧.contents a) r };
+    ghost try_from_gives = { λ a r. DecodesBitString (borrowed_any.tag_of a)
+        (borrowed_any.contents_of a) r };
 
     /// # Errors
     /// (4) with no expected tag for another tag; the faults of contents octets in reading order: (9),
@@ -423,9 +466,12 @@ impl<'a> TryFrom<AnyRef<'a>> for BitStringRef<'a> {
 }
 
 impl<'a> TryFrom<&'a Any> for BitStringRef<'a> {
+    ghost use Rattle.der_bits.specs.BitStringRef.{DecodesBitString};
+
     type Error = Error;
 
-    ghost try_from_gives = { λ a r. DecodesAs ⟦<BitStringRef<'a> as Form>⟧ ⟦<BitStringRef<'a> as FormValue>⟧ Der (⟦<Any as Tagged>⟧.tag_of a.now) (⟦<Any as FormValue>⟧.contents a.now) r };
+    ghost try_from_gives = { λ a r. DecodesBitString (owned_any.tag_of a.now)
+        (owned_any.contents_of a.now) r };
 
     /// # Errors
     /// (4) with no expected tag for another tag; the faults of contents octets in reading order: (9),
@@ -437,9 +483,11 @@ impl<'a> TryFrom<&'a Any> for BitStringRef<'a> {
 
 /// A bit string, owned or borrowed.
 pub trait AsBitStringRef: FormValue {
+    ghost use Rattle.der_bits.specs.BitStringRef.{contents_of};
+
     /// The same bit string, borrowed.
     fn as_bit_string_ref(&self) -> BitStringRef<'_>
-        ensures { ⟦<BitStringRef<'static> as FormValue>⟧.contents result ≡ Self.contents self.now };
+        ensures { contents_of result ≡ Self.contents self.now };
 }
 
 impl<'a> AsBitStringRef for BitStringRef<'a> {

@@ -3,6 +3,7 @@
 ghost use Rattle.std.specs.Prelude.{◌≡◌, ◌↔◌, IsTrue};
 ghost use Rattle.der_tlv.specs.declared.tag.Tag.TheVariants as tags;
 ghost use Rattle.der_bits.specs.BitString.{bits};
+ghost use Rattle.der_bits.specs.BitStringRef.{contents_of};
 
 use crate::bit_string::BitString;
 use crate::bit_string_ref::BitStringRef;
@@ -11,8 +12,9 @@ use der_elem::{FixedTag, FormValue};
 /// Whether two bit strings have the same bits, which is whether they are equal, since unused bits
 /// are zero.
 pub fn equal_bits<'a>(one: BitStringRef<'a>, other: BitStringRef<'a>) -> bool
-    ensures same_bits { IsTrue result ↔ (bits (⟦<BitStringRef<'a> as FormValue>⟧.contents one.entry) ≡ bits (⟦<BitStringRef<'a> as FormValue>⟧.contents other.entry)) }
-    ensures same_contents { IsTrue result ↔ (⟦<BitStringRef<'a> as FormValue>⟧.contents one.entry ≡ ⟦<BitStringRef<'a> as FormValue>⟧.contents other.entry) }
+    ensures same_bits { IsTrue result ↔ (bits (contents_of one.entry)
+        ≡ bits (contents_of other.entry)) }
+    ensures same_contents { IsTrue result ↔ (contents_of one.entry ≡ contents_of other.entry) }
 {
     one == other
 }

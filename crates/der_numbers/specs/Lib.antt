@@ -2,10 +2,16 @@ pub mod AnyLength
 pub mod AnyLengthLaws
 pub mod UnsignedLaws
 pub mod ReadingLaws
+pub mod Int
+pub mod IntRef
+pub mod Uint
+pub mod UintRef
 pub use Rattle.der_elem.specs.Encoding
 pub use Rattle.der_elem.specs.Integer
 pub use Rattle.der_elem.specs.IntegerReading
 pub use Rattle.der_elem.specs.OwnContents
+pub use Rattle.der_opaque.specs.Any
+pub use Rattle.der_opaque.specs.AnyRef
 pub use Rattle.der_opaque.specs.DecodingAs
 pub use Rattle.der_tlv.specs.Fitting
 pub use Rattle.der_tlv.specs.Octets

@@ -11,6 +11,8 @@ ghost use Rattle.der_elem.specs.Integer.{integer_contents, twos_complement};
 ghost use Rattle.der_elem.specs.OwnContents.{accepts_own};
 ghost use Rattle.der_numbers.specs.AnyLength.{parse_integer, KeepsCopy, CopiesContents};
 ghost use Rattle.der_numbers.specs.AnyLengthLaws.{parse_of_integer};
+ghost use Rattle.der_numbers.specs.IntRef as borrowed;
+ghost use Rattle.der_numbers.specs.Uint as unsigned;
 
 use crate::int_ref::{AsIntRef, IntRef};
 use crate::octets::is_high;
@@ -38,13 +40,16 @@ pub struct Int {
 }
 
 impl Int {
+    ghost use Rattle.der_numbers.specs.Int.{contents_of};
+
     /// The integer that the octets are the two's complement of, in the fewest octets.
     ///
     /// # Errors
     /// (7) for no octets, and where the fewest are more than 4294967295; else (1) where memory runs
     /// out.
     pub fn new(alloc: Global, octets: &[u8]) -> Result<Int, Error>
-        ensures { KeepsCopy ⟦<Int as FormValue>⟧.contents octets.now (integer_contents (twos_complement octets.now)) result }
+        ensures { KeepsCopy contents_of octets.now
+            (integer_contents (twos_complement octets.now)) result }
     {
         match IntRef::new(octets) {
             Ok(integer) => integer.ref_to_owned(alloc),
@@ -57,7 +62,7 @@ impl Int {
     /// # Errors
     /// (1) where memory runs out.
     pub fn from_uint(alloc: Global, number: Uint) -> Result<Int, Error>
-        ensures { CopiesContents ⟦<Int as FormValue>⟧.contents (⟦<Uint as FormValue>⟧.contents number) result }
+        ensures { CopiesContents contents_of (unsigned.contents_of number) result }
     {
         if !is_high(&number.octets) {
             return Ok(Int {
@@ -73,7 +78,7 @@ impl Int {
 
     /// The contents octets: the two's complement in the fewest octets.
     pub fn as_bytes(&self) -> &[u8]
-        ensures contents { result.now ≡ ⟦<Int as FormValue>⟧.contents self.now }
+        ensures contents { result.now ≡ contents_of self.now }
         ensures fewest { result.now ≡ integer_contents (twos_complement result.now) }
     {
         self.owned_to_ref().as_bytes()
@@ -81,7 +86,7 @@ impl Int {
 
     /// How many contents octets there are.
     pub fn len(&self) -> Length
-        ensures { result ≡ length (⟦<Int as FormValue>⟧.contents self.now) }
+        ensures { result ≡ length (contents_of self.now) }
     {
         self.owned_to_ref().len()
     }
@@ -95,7 +100,7 @@ impl Int {
 
     /// The integer, borrowed.
     pub fn owned_to_ref(&self) -> IntRef<'_>
-        ensures { ⟦<IntRef<'static> as FormValue>⟧.contents result ≡ ⟦<Int as FormValue>⟧.contents self.now }
+        ensures { borrowed.contents_of result ≡ contents_of self.now }
     {
         IntRef {
             octets: &self.octets,
@@ -110,7 +115,9 @@ impl AsIntRef for Int {
 }
 
 impl Clone for Int {
-    ghost is_clone = { λ v w. ⟦<Int as FormValue>⟧.contents w ≡ ⟦<Int as FormValue>⟧.contents v };
+    ghost use Rattle.der_numbers.specs.Int.{contents_of};
+
+    ghost is_clone = { λ v w. contents_of w ≡ contents_of v };
 
     fn clone(&self) -> Result<Int, AllocError> {
         let octets = self.octets.clone()?;
@@ -119,15 +126,18 @@ impl Clone for Int {
 }
 
 impl FormValue for Int {
-    ghost contents = { λ v. v.octets.items };
+    ghost use Rattle.der_numbers.specs.Int.{contents_of};
 
-    ghost accepts_value = { accepts_own (λ v. v.octets.items) };
+    ghost contents = { contents_of };
+
+    ghost accepts_value = { accepts_own contents_of };
 
     ghost parse_value = { parse_integer };
 
     ghost VALUE_TAKES_MEMORY = { true };
 
-    ghost parse_of_accepted_value = { λ rules v p c a fits. parse_of_integer v.octets.items c v.fewest a };
+    ghost parse_of_accepted_value = { λ rules v p c a fits.
+        parse_of_integer v.octets.items c v.fewest a };
 
     ghost same_length_value = { λ rules v c a. ap length (sym a) };
 

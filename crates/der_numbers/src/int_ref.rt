@@ -14,6 +14,8 @@ ghost use Rattle.der_numbers.specs.AnyLength.{integer_or_fault, parse_integer, T
 ghost use Rattle.der_numbers.specs.AnyLengthLaws.{parse_of_integer};
 ghost use Rattle.der_elem.specs.OwnContents.{accepts_within};
 ghost use Rattle.der_elem.specs.OwnContentsLaws.{parse_of_within, same_length_within, accepts_contents_within, only_within};
+ghost use Rattle.der_opaque.specs.Any as owned_any;
+ghost use Rattle.der_opaque.specs.AnyRef as borrowed_any;
 
 use crate::int::Int;
 use crate::octets::{check_integer, strip_redundant};
@@ -41,12 +43,16 @@ pub struct IntRef<'a> {
 }
 
 impl<'a> IntRef<'a> {
+    ghost use Rattle.der_numbers.specs.Int as owned;
+    ghost use Rattle.der_numbers.specs.IntRef.{contents_of};
+
     /// The integer that the octets are the two's complement of, in the fewest octets.
     ///
     /// # Errors
     /// (7) for no octets, and where the fewest are more than 4294967295.
     pub fn new(octets: &'a [u8]) -> Result<IntRef<'a>, Error>
-        ensures { KeepsNumber ⟦<IntRef<'a> as FormValue>⟧.contents octets.now (integer_contents (twos_complement octets.now)) result }
+        ensures { KeepsNumber contents_of octets.now
+            (integer_contents (twos_complement octets.now)) result }
     {
         if octets.is_empty() {
             return Err(Error::from_kind(Tag::Integer.length_error()));
@@ -64,7 +70,7 @@ impl<'a> IntRef<'a> {
     /// None, or a redundant first octet (8).
     fn from_contents(octets: &'a [u8]) -> Result<IntRef<'a>, ErrorKind>
         requires { length octets.now < 2 ^ 32 }
-        ensures { TakesContents ⟦<IntRef<'a> as FormValue>⟧.contents integer_or_fault octets.now result }
+        ensures { TakesContents contents_of integer_or_fault octets.now result }
     {
         match check_integer(octets) {
             Ok(()) => Ok(IntRef { octets }),
@@ -74,7 +80,7 @@ impl<'a> IntRef<'a> {
 
     /// The contents octets: the two's complement in the fewest octets.
     pub fn as_bytes(self) -> &'a [u8]
-        ensures contents { result.now ≡ ⟦<IntRef<'a> as FormValue>⟧.contents self.entry }
+        ensures contents { result.now ≡ contents_of self.entry }
         ensures fewest { result.now ≡ integer_contents (twos_complement result.now) }
     {
         self.octets
@@ -82,7 +88,7 @@ impl<'a> IntRef<'a> {
 
     /// How many contents octets there are.
     pub fn len(self) -> Length
-        ensures { result ≡ length (⟦<IntRef<'a> as FormValue>⟧.contents self.entry) }
+        ensures { result ≡ length (contents_of self.entry) }
     {
         Length::new(self.octets.len() as u32)
     }
@@ -99,7 +105,7 @@ impl<'a> IntRef<'a> {
     /// # Errors
     /// (1) where memory runs out.
     pub fn ref_to_owned(self, alloc: Global) -> Result<Int, Error>
-        ensures { CopiesContents ⟦<Int as FormValue>⟧.contents (⟦<IntRef<'a> as FormValue>⟧.contents self.entry) result }
+        ensures { CopiesContents owned.contents_of (contents_of self.entry) result }
     {
         let octets = self.octets.to_vec(alloc)?;
         Ok(Int { octets })
@@ -107,19 +113,22 @@ impl<'a> IntRef<'a> {
 }
 
 impl<'a> FormValue for IntRef<'a> {
-    ghost contents = { λ v. v.octets.now };
+    ghost use Rattle.der_numbers.specs.IntRef.{contents_of};
 
-    ghost accepts_value = { accepts_within (λ v. v.octets.now) (λ v. Unit {0}) };
+    ghost contents = { contents_of };
+
+    ghost accepts_value = { accepts_within contents_of (λ v. Unit {0}) };
 
     ghost parse_value = { parse_integer };
 
-    ghost parse_of_accepted_value = { parse_of_within (λ v. v.octets.now) (λ v. Unit {0}) parse_integer (λ rules v p r. parse_of_integer v.octets.now v.octets.now v.fewest refl) };
+    ghost parse_of_accepted_value = { parse_of_within contents_of (λ v. Unit {0}) parse_integer
+        (λ rules v p r. parse_of_integer v.octets.now v.octets.now v.fewest refl) };
 
-    ghost same_length_value = { same_length_within (λ v. v.octets.now) (λ v. Unit {0}) };
+    ghost same_length_value = { same_length_within contents_of (λ v. Unit {0}) };
 
-    ghost accepts_contents = { accepts_contents_within (λ v. v.octets.now) (λ v. Unit {0}) };
+    ghost accepts_contents = { accepts_contents_within contents_of (λ v. Unit {0}) };
 
-    ghost only_readable_value = { only_within (λ v. v.octets.now) (λ v. Unit {0}) };
+    ghost only_readable_value = { only_within contents_of (λ v. Unit {0}) };
 
     ghost accepts_comparable_value = { λ rules v w c d a b. tt };
 
@@ -168,9 +177,11 @@ impl<'a> CopyIsDuplicate for IntRef<'a> {}
 
 /// A value that can be seen as a borrowed integer.
 pub trait AsIntRef: FormValue {
+    ghost use Rattle.der_numbers.specs.IntRef.{contents_of};
+
     /// The same integer, borrowed.
     fn as_int_ref(&self) -> IntRef<'_>
-        ensures { ⟦<IntRef<'static> as FormValue>⟧.contents result ≡ Self.contents self.now };
+        ensures { contents_of result ≡ Self.contents self.now };
 }
 
 impl<'a> AsIntRef for IntRef<'a> {
@@ -180,7 +191,9 @@ impl<'a> AsIntRef for IntRef<'a> {
 }
 
 impl<'a, 'b> From<&'b IntRef<'a>> for IntRef<'a> {
-    ghost from_gives = { λ v w. ⟦<IntRef<'a> as FormValue>⟧.contents w ≡ ⟦<IntRef<'a> as FormValue>⟧.contents v.now };
+    ghost use Rattle.der_numbers.specs.IntRef.{contents_of};
+
+    ghost from_gives = { λ v w. contents_of w ≡ contents_of v.now };
 
     fn from(integer: &'b IntRef<'a>) -> IntRef<'a> {
         *integer
@@ -188,9 +201,12 @@ impl<'a, 'b> From<&'b IntRef<'a>> for IntRef<'a> {
 }
 
 impl<'a> TryFrom<AnyRef<'a>> for IntRef<'a> {
+    ghost use Rattle.der_numbers.specs.IntRef.{DecodesInteger};
+
     type Error = Error;
 
-    ghost try_from_gives = { λ a r. DecodesAs ⟦<IntRef<'a> as Form>⟧ ⟦<IntRef<'a> as FormValue>⟧ Der (⟦<AnyRef<'a> as Tagged>⟧.tag_of a) (⟦<AnyRef<'a> as FormValue>⟧.contents a) r };
+    ghost try_from_gives = { λ a r. DecodesInteger (borrowed_any.tag_of a)
+        (borrowed_any.contents_of a) r };
 
     /// # Errors
     /// (4) with no expected tag for another tag; no contents octets, or a redundant first octet (8).
@@ -206,9 +222,12 @@ impl<'a> TryFrom<AnyRef<'a>> for IntRef<'a> {
 }
 
 impl<'a> TryFrom<&'a Any> for IntRef<'a> {
+    ghost use Rattle.der_numbers.specs.IntRef.{DecodesInteger};
+
     type Error = Error;
 
-    ghost try_from_gives = { λ a r. DecodesAs ⟦<IntRef<'a> as Form>⟧ ⟦<IntRef<'a> as FormValue>⟧ Der (⟦<Any as Tagged>⟧.tag_of a.now) (⟦<Any as FormValue>⟧.contents a.now) r };
+    ghost try_from_gives = { λ a r. DecodesInteger (owned_any.tag_of a.now)
+        (owned_any.contents_of a.now) r };
 
     /// # Errors
     /// (4) with no expected tag for another tag; no contents octets, or a redundant first octet (8).

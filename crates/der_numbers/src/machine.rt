@@ -3,6 +3,8 @@
 ghost use Rattle.std.specs.Prelude.{◌≡◌, ◌≤◌, length, false};
 ghost use Rattle.der_elem.specs.Integer.{integer_contents, natural_contents};
 ghost use Rattle.der_numbers.specs.AnyLength.{CopiesContents};
+ghost use Rattle.der_numbers.specs.Int as signed;
+ghost use Rattle.der_numbers.specs.Uint as unsigned;
 
 use crate::int::Int;
 use crate::octets::strip_zeros;
@@ -28,7 +30,7 @@ fn contents_in<'b, T: EncodeValue>(value: &T, buffer: &'b mut [u8; MAX_OCTETS]) 
 }
 
 fn int_from(alloc: Global, number: i128) -> Result<Int, Error>
-    ensures { CopiesContents ⟦<Int as FormValue>⟧.contents (integer_contents number) result }
+    ensures { CopiesContents signed.contents_of (integer_contents number) result }
 {
     let mut buffer = [0; MAX_OCTETS];
     let octets = contents_in(&number, &mut buffer);
@@ -39,7 +41,7 @@ fn int_from(alloc: Global, number: i128) -> Result<Int, Error>
 }
 
 fn uint_from(alloc: Global, number: u128) -> Result<Uint, Error>
-    ensures { CopiesContents ⟦<Uint as FormValue>⟧.contents (natural_contents number) result }
+    ensures { CopiesContents unsigned.contents_of (natural_contents number) result }
 {
     let mut buffer = [0; MAX_OCTETS];
     let octets = strip_zeros(contents_in(&number, &mut buffer));
@@ -55,7 +57,7 @@ impl Int {
     /// # Errors
     /// (1) where memory runs out.
     pub fn try_from_i8(alloc: Global, number: i8) -> Result<Int, Error>
-        ensures { CopiesContents ⟦<Int as FormValue>⟧.contents (integer_contents number) result }
+        ensures { CopiesContents signed.contents_of (integer_contents number) result }
     {
         int_from(alloc, i128::from(number))
     }
@@ -65,7 +67,7 @@ impl Int {
     /// # Errors
     /// (1) where memory runs out.
     pub fn try_from_i16(alloc: Global, number: i16) -> Result<Int, Error>
-        ensures { CopiesContents ⟦<Int as FormValue>⟧.contents (integer_contents number) result }
+        ensures { CopiesContents signed.contents_of (integer_contents number) result }
     {
         int_from(alloc, i128::from(number))
     }
@@ -75,7 +77,7 @@ impl Int {
     /// # Errors
     /// (1) where memory runs out.
     pub fn try_from_i32(alloc: Global, number: i32) -> Result<Int, Error>
-        ensures { CopiesContents ⟦<Int as FormValue>⟧.contents (integer_contents number) result }
+        ensures { CopiesContents signed.contents_of (integer_contents number) result }
     {
         int_from(alloc, i128::from(number))
     }
@@ -85,7 +87,7 @@ impl Int {
     /// # Errors
     /// (1) where memory runs out.
     pub fn try_from_i64(alloc: Global, number: i64) -> Result<Int, Error>
-        ensures { CopiesContents ⟦<Int as FormValue>⟧.contents (integer_contents number) result }
+        ensures { CopiesContents signed.contents_of (integer_contents number) result }
     {
         int_from(alloc, i128::from(number))
     }
@@ -95,7 +97,7 @@ impl Int {
     /// # Errors
     /// (1) where memory runs out.
     pub fn try_from_i128(alloc: Global, number: i128) -> Result<Int, Error>
-        ensures { CopiesContents ⟦<Int as FormValue>⟧.contents (integer_contents number) result }
+        ensures { CopiesContents signed.contents_of (integer_contents number) result }
     {
         int_from(alloc, number)
     }
@@ -107,7 +109,7 @@ impl Uint {
     /// # Errors
     /// (1) where memory runs out.
     pub fn try_from_u8(alloc: Global, number: u8) -> Result<Uint, Error>
-        ensures { CopiesContents ⟦<Uint as FormValue>⟧.contents (natural_contents number) result }
+        ensures { CopiesContents unsigned.contents_of (natural_contents number) result }
     {
         uint_from(alloc, u128::from(number))
     }
@@ -117,7 +119,7 @@ impl Uint {
     /// # Errors
     /// (1) where memory runs out.
     pub fn try_from_u16(alloc: Global, number: u16) -> Result<Uint, Error>
-        ensures { CopiesContents ⟦<Uint as FormValue>⟧.contents (natural_contents number) result }
+        ensures { CopiesContents unsigned.contents_of (natural_contents number) result }
     {
         uint_from(alloc, u128::from(number))
     }
@@ -127,7 +129,7 @@ impl Uint {
     /// # Errors
     /// (1) where memory runs out.
     pub fn try_from_u32(alloc: Global, number: u32) -> Result<Uint, Error>
-        ensures { CopiesContents ⟦<Uint as FormValue>⟧.contents (natural_contents number) result }
+        ensures { CopiesContents unsigned.contents_of (natural_contents number) result }
     {
         uint_from(alloc, u128::from(number))
     }
@@ -137,7 +139,7 @@ impl Uint {
     /// # Errors
     /// (1) where memory runs out.
     pub fn try_from_u64(alloc: Global, number: u64) -> Result<Uint, Error>
-        ensures { CopiesContents ⟦<Uint as FormValue>⟧.contents (natural_contents number) result }
+        ensures { CopiesContents unsigned.contents_of (natural_contents number) result }
     {
         uint_from(alloc, u128::from(number))
     }
@@ -147,7 +149,7 @@ impl Uint {
     /// # Errors
     /// (1) where memory runs out.
     pub fn try_from_u128(alloc: Global, number: u128) -> Result<Uint, Error>
-        ensures { CopiesContents ⟦<Uint as FormValue>⟧.contents (natural_contents number) result }
+        ensures { CopiesContents unsigned.contents_of (natural_contents number) result }
     {
         uint_from(alloc, number)
     }

@@ -41,7 +41,9 @@ pub fn strip_redundant(octets: &[u8]) -> &[u8]
 /// # Errors
 /// None, or a redundant first octet (8).
 pub fn check_integer(octets: &[u8]) -> Result<(), ErrorKind>
-    ensures ok { IfOk result (λ _. (0 < length octets.now) × (octets.now ≡ integer_contents (twos_complement octets.now)) × (integer_or_fault octets.now ≡ Ok octets.now)) }
+    ensures ok { IfOk result (λ _. (0 < length octets.now)
+        × (octets.now ≡ integer_contents (twos_complement octets.now))
+        × (integer_or_fault octets.now ≡ Ok octets.now)) }
     ensures err { IfErr result (λ kind. integer_or_fault octets.now ≡ Err kind) }
 {
     if octets.is_empty() || is_redundant(octets) {
@@ -60,7 +62,8 @@ fn has_leading_zero(octets: &[u8]) -> bool
 /// The octets of the same number that is not negative, without leading zeros: one 00 for zero.
 pub fn strip_zeros(octets: &[u8]) -> &[u8]
     requires { 0 < length octets.now }
-    ensures contents { with_sign_octet result.now ≡ natural_contents (big_endian_number octets.now) }
+    ensures contents { with_sign_octet result.now ≡ natural_contents
+        (big_endian_number octets.now) }
     ensures some { 0 < length result.now }
     ensures stripped { has_leading_zero result.now ≡ false }
     ensures fewest { with_sign_octet result.now ≡ natural_contents (big_endian_number result.now) }
@@ -95,7 +98,9 @@ pub fn is_high(octets: &[u8]) -> bool
 /// # Errors
 /// In this order: none, or a 00 before an octet below 80 (8); a first octet of 80 or more (13).
 pub fn check_natural(octets: &[u8]) -> Result<(), ErrorKind>
-    ensures ok { IfOk result (λ _. (0 < length octets.now) × (octets.now ≡ natural_contents (big_endian_number octets.now)) × (natural_or_fault octets.now ≡ Ok octets.now)) }
+    ensures ok { IfOk result (λ _. (0 < length octets.now)
+        × (octets.now ≡ natural_contents (big_endian_number octets.now))
+        × (natural_or_fault octets.now ≡ Ok octets.now)) }
     ensures err { IfErr result (λ kind. natural_or_fault octets.now ≡ Err kind) }
 {
     if octets.is_empty() || has_needless_zero(octets) {
@@ -127,7 +132,8 @@ pub fn contents_len(octets: &[u8]) -> Result<Length, Error>
 /// The writer's.
 pub fn write_contents<W: Writer>(octets: &[u8], writer: &mut W) -> Result<(), Error>
     requires { 0 < length octets.now }
-    ensures { Encodes (with_sign_octet octets.now) false (W.state writer.old) (W.state writer.new) result }
+    ensures { Encodes (with_sign_octet octets.now) false (W.state writer.old)
+        (W.state writer.new) result }
 {
     if !is_high(octets) {
         return writer.write(octets);

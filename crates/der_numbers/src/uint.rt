@@ -16,6 +16,7 @@ ghost use Rattle.der_elem.specs.Integer.{big_endian_number, with_sign_octet, nat
 ghost use Rattle.der_elem.specs.OwnContents.{accepts_own};
 ghost use Rattle.der_numbers.specs.AnyLength.{parse_natural, has_leading_zero, without_sign_octet, KeepsCopy};
 ghost use Rattle.der_numbers.specs.UnsignedLaws.{parse_of_natural};
+ghost use Rattle.der_numbers.specs.UintRef as borrowed;
 
 use crate::octets::{compare_contents, contents_len, write_contents};
 use crate::uint_ref::{AsUintRef, UintRef};
@@ -39,18 +40,22 @@ pub struct Uint {
     pub(crate) octets: Vec<u8>,
     ghost some: { 0 < length octets.items },
     ghost stripped: { has_leading_zero octets.items ≡ false },
-    ghost fewest: { with_sign_octet octets.items ≡ natural_contents (big_endian_number octets.items) },
+    ghost fewest: { with_sign_octet octets.items ≡ natural_contents
+        (big_endian_number octets.items) },
     ghost short: { length (with_sign_octet octets.items) < 2 ^ 32 },
 }
 
 impl Uint {
+    ghost use Rattle.der_numbers.specs.Uint.{contents_of};
+
     /// The number that the octets say, highest octet first.
     ///
     /// # Errors
     /// (7) for no octets, and where there are more than 4294967295 contents octets; else (1) where
     /// memory runs out.
     pub fn new(alloc: Global, octets: &[u8]) -> Result<Uint, Error>
-        ensures { KeepsCopy ⟦<Uint as FormValue>⟧.contents octets.now (natural_contents (big_endian_number octets.now)) result }
+        ensures { KeepsCopy contents_of octets.now
+            (natural_contents (big_endian_number octets.now)) result }
     {
         match UintRef::new(octets) {
             Ok(number) => number.ref_to_owned(alloc),
@@ -61,15 +66,15 @@ impl Uint {
     /// The octets of the number without leading zeros: one 00 for zero. The contents octets are
     /// these, with a 00 before them where the first is 80 or more.
     pub fn as_bytes(&self) -> &[u8]
-        ensures octets { result.now ≡ without_sign_octet (⟦<Uint as FormValue>⟧.contents self.now) }
-        ensures number { ⟦<Uint as FormValue>⟧.contents self.now ≡ natural_contents (big_endian_number result.now) }
+        ensures octets { result.now ≡ without_sign_octet (contents_of self.now) }
+        ensures number { contents_of self.now ≡ natural_contents (big_endian_number result.now) }
     {
         self.owned_to_ref().as_bytes()
     }
 
     /// How many octets the number has without leading zeros.
     pub fn len(&self) -> Length
-        ensures { result ≡ length (without_sign_octet (⟦<Uint as FormValue>⟧.contents self.now)) }
+        ensures { result ≡ length (without_sign_octet (contents_of self.now)) }
     {
         self.owned_to_ref().len()
     }
@@ -83,7 +88,7 @@ impl Uint {
 
     /// The number, borrowed.
     pub fn owned_to_ref(&self) -> UintRef<'_>
-        ensures { ⟦<UintRef<'static> as FormValue>⟧.contents result ≡ ⟦<Uint as FormValue>⟧.contents self.now }
+        ensures { borrowed.contents_of result ≡ contents_of self.now }
     {
         UintRef {
             octets: &self.octets,
@@ -98,7 +103,9 @@ impl AsUintRef for Uint {
 }
 
 impl Clone for Uint {
-    ghost is_clone = { λ v w. ⟦<Uint as FormValue>⟧.contents w ≡ ⟦<Uint as FormValue>⟧.contents v };
+    ghost use Rattle.der_numbers.specs.Uint.{contents_of};
+
+    ghost is_clone = { λ v w. contents_of w ≡ contents_of v };
 
     fn clone(&self) -> Result<Uint, AllocError> {
         let octets = self.octets.clone()?;
@@ -107,15 +114,18 @@ impl Clone for Uint {
 }
 
 impl FormValue for Uint {
-    ghost contents = { λ v. with_sign_octet v.octets.items };
+    ghost use Rattle.der_numbers.specs.Uint.{contents_of};
 
-    ghost accepts_value = { accepts_own (λ v. with_sign_octet v.octets.items) };
+    ghost contents = { contents_of };
+
+    ghost accepts_value = { accepts_own contents_of };
 
     ghost parse_value = { parse_natural };
 
     ghost VALUE_TAKES_MEMORY = { true };
 
-    ghost parse_of_accepted_value = { λ rules v p c a fits. parse_of_natural v.octets.items c v.fewest a };
+    ghost parse_of_accepted_value = { λ rules v p c a fits.
+        parse_of_natural v.octets.items c v.fewest a };
 
     ghost same_length_value = { λ rules v c a. ap length (sym a) };
 
@@ -161,9 +171,12 @@ impl EncodeValue for Uint {
 }
 
 impl PartialEq for Uint {
-    ghost eq = { λ v w. pointwise nat_eq (with_sign_octet v.octets.items) (with_sign_octet w.octets.items) };
+    ghost use Rattle.der_numbers.specs.Uint.{contents_of};
 
-    ghost laws = { on_per (λ v. with_sign_octet v.octets.items) (partial_equiv_from_equiv nat_list_eq_equiv) };
+    ghost eq = { λ v w. pointwise nat_eq (with_sign_octet v.octets.items)
+        (with_sign_octet w.octets.items) };
+
+    ghost laws = { on_per contents_of (partial_equiv_from_equiv nat_list_eq_equiv) };
 
     #[tactic(auto, using(crate::specs::UnsignedLaws::pointwise_contents))]
     fn eq(&self, other: &Uint) -> bool {
@@ -172,13 +185,18 @@ impl PartialEq for Uint {
 }
 
 impl Eq for Uint {
-    ghost laws = { on_equiv (λ v. with_sign_octet v.octets.items) nat_list_eq_equiv };
+    ghost use Rattle.der_numbers.specs.Uint.{contents_of};
+
+    ghost laws = { on_equiv contents_of nat_list_eq_equiv };
 }
 
 impl PartialOrd for Uint {
-    ghost partial_cmp = { λ v w. Some (lex (with_sign_octet v.octets.items) (with_sign_octet w.octets.items)) };
+    ghost use Rattle.der_numbers.specs.Uint.{contents_of};
 
-    ghost laws = { on_po (λ v. with_sign_octet v.octets.items) texts_po };
+    ghost partial_cmp = { λ v w. Some (lex (with_sign_octet v.octets.items)
+        (with_sign_octet w.octets.items)) };
+
+    ghost laws = { on_po contents_of texts_po };
 
     fn partial_cmp(&self, other: &Uint) -> Option<Ordering> {
         Some(self.cmp(other))
@@ -186,13 +204,16 @@ impl PartialOrd for Uint {
 }
 
 impl Ord for Uint {
+    ghost use Rattle.der_numbers.specs.Uint.{contents_of};
+
     ghost cmp = { λ v w. lex (with_sign_octet v.octets.items) (with_sign_octet w.octets.items) };
 
-    ghost total = { on_total (λ v. with_sign_octet v.octets.items) nat_list_cmp_total };
+    ghost total = { on_total contents_of nat_list_cmp_total };
 
     ghost matches_partial_cmp = { λ v w. refl };
 
-    ghost matches_eq = { λ v w. texts_ties (with_sign_octet v.octets.items) (with_sign_octet w.octets.items) };
+    ghost matches_eq = { λ v w. texts_ties (with_sign_octet v.octets.items)
+        (with_sign_octet w.octets.items) };
 
     /// The lexicographic order of the contents octets.
     fn cmp(&self, other: &Uint) -> Ordering {
@@ -205,7 +226,8 @@ impl OrdIsValueOrd for Uint {
 }
 
 impl ContentsEq for Uint {
-    ghost contents_eq = { λ v w one. bytes_decides (with_sign_octet v.octets.items) (with_sign_octet w.octets.items) };
+    ghost contents_eq = { λ v w one. bytes_decides (with_sign_octet v.octets.items)
+        (with_sign_octet w.octets.items) };
 }
 
 impl DuplicateValue for Uint {

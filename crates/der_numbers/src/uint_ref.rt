@@ -19,6 +19,8 @@ ghost use Rattle.der_numbers.specs.AnyLength.{natural_or_fault, parse_natural, h
 ghost use Rattle.der_numbers.specs.UnsignedLaws.{parse_of_natural};
 ghost use Rattle.der_elem.specs.OwnContents.{accepts_within};
 ghost use Rattle.der_elem.specs.OwnContentsLaws.{parse_of_within, same_length_within, accepts_contents_within, only_within};
+ghost use Rattle.der_opaque.specs.Any as owned_any;
+ghost use Rattle.der_opaque.specs.AnyRef as borrowed_any;
 
 use crate::octets::{check_natural, compare_contents, contents_len, strip_zeros, write_contents};
 use crate::uint::Uint;
@@ -48,12 +50,16 @@ pub struct UintRef<'a> {
 }
 
 impl<'a> UintRef<'a> {
+    ghost use Rattle.der_numbers.specs.Uint as owned;
+    ghost use Rattle.der_numbers.specs.UintRef.{contents_of};
+
     /// The number that the octets say, highest octet first.
     ///
     /// # Errors
     /// (7) for no octets, and where there are more than 4294967295 contents octets.
     pub fn new(octets: &'a [u8]) -> Result<UintRef<'a>, Error>
-        ensures { KeepsNumber ⟦<UintRef<'a> as FormValue>⟧.contents octets.now (natural_contents (big_endian_number octets.now)) result }
+        ensures { KeepsNumber contents_of octets.now
+            (natural_contents (big_endian_number octets.now)) result }
     {
         if octets.is_empty() {
             return Err(Error::from_kind(Tag::Integer.length_error()));
@@ -71,7 +77,7 @@ impl<'a> UintRef<'a> {
     /// In this order: none, or a 00 before an octet below 80 (8); a first octet of 80 or more (13).
     fn from_contents(octets: &'a [u8]) -> Result<UintRef<'a>, ErrorKind>
         requires { length octets.now < 2 ^ 32 }
-        ensures { TakesContents ⟦<UintRef<'a> as FormValue>⟧.contents natural_or_fault octets.now result }
+        ensures { TakesContents contents_of natural_or_fault octets.now result }
     {
         match check_natural(octets) {
             Ok(()) => Ok(UintRef {
@@ -85,8 +91,8 @@ impl<'a> UintRef<'a> {
     /// these, with a 00 before them where the first is 80 or more.
     #[tactic(auto, using(crate::specs::UnsignedLaws::without_sign_octet_kept))]
     pub fn as_bytes(self) -> &'a [u8]
-        ensures octets { result.now ≡ without_sign_octet (⟦<UintRef<'a> as FormValue>⟧.contents self.entry) }
-        ensures number { ⟦<UintRef<'a> as FormValue>⟧.contents self.entry ≡ natural_contents (big_endian_number result.now) }
+        ensures octets { result.now ≡ without_sign_octet (contents_of self.entry) }
+        ensures number { contents_of self.entry ≡ natural_contents (big_endian_number result.now) }
     {
         self.octets
     }
@@ -94,7 +100,7 @@ impl<'a> UintRef<'a> {
     /// How many octets the number has without leading zeros.
     #[tactic(auto, using(crate::specs::UnsignedLaws::without_sign_octet_kept, crate::specs::UnsignedLaws::sign_octet_length))]
     pub fn len(self) -> Length
-        ensures { result ≡ length (without_sign_octet (⟦<UintRef<'a> as FormValue>⟧.contents self.entry)) }
+        ensures { result ≡ length (without_sign_octet (contents_of self.entry)) }
     {
         Length::new(self.octets.len() as u32)
     }
@@ -111,7 +117,7 @@ impl<'a> UintRef<'a> {
     /// # Errors
     /// (1) where memory runs out.
     pub fn ref_to_owned(self, alloc: Global) -> Result<Uint, Error>
-        ensures { CopiesContents ⟦<Uint as FormValue>⟧.contents (⟦<UintRef<'a> as FormValue>⟧.contents self.entry) result }
+        ensures { CopiesContents owned.contents_of (contents_of self.entry) result }
     {
         let octets = self.octets.to_vec(alloc)?;
         Ok(Uint { octets })
@@ -119,19 +125,23 @@ impl<'a> UintRef<'a> {
 }
 
 impl<'a> FormValue for UintRef<'a> {
-    ghost contents = { λ v. with_sign_octet v.octets.now };
+    ghost use Rattle.der_numbers.specs.UintRef.{contents_of};
 
-    ghost accepts_value = { accepts_within (λ v. with_sign_octet v.octets.now) (λ v. Unit {0}) };
+    ghost contents = { contents_of };
+
+    ghost accepts_value = { accepts_within contents_of (λ v. Unit {0}) };
 
     ghost parse_value = { parse_natural };
 
-    ghost parse_of_accepted_value = { parse_of_within (λ v. with_sign_octet v.octets.now) (λ v. Unit {0}) parse_natural (λ rules v p r. parse_of_natural v.octets.now (with_sign_octet v.octets.now) v.fewest refl) };
+    ghost parse_of_accepted_value = { parse_of_within contents_of (λ v. Unit {0}) parse_natural
+        (λ rules v p r. parse_of_natural v.octets.now (with_sign_octet v.octets.now)
+        v.fewest refl) };
 
-    ghost same_length_value = { same_length_within (λ v. with_sign_octet v.octets.now) (λ v. Unit {0}) };
+    ghost same_length_value = { same_length_within contents_of (λ v. Unit {0}) };
 
-    ghost accepts_contents = { accepts_contents_within (λ v. with_sign_octet v.octets.now) (λ v. Unit {0}) };
+    ghost accepts_contents = { accepts_contents_within contents_of (λ v. Unit {0}) };
 
-    ghost only_readable_value = { only_within (λ v. with_sign_octet v.octets.now) (λ v. Unit {0}) };
+    ghost only_readable_value = { only_within contents_of (λ v. Unit {0}) };
 
     ghost accepts_comparable_value = { λ rules v w c d a b. tt };
 
@@ -169,9 +179,12 @@ impl<'a> EncodeValue for UintRef<'a> {
 }
 
 impl<'a> PartialEq for UintRef<'a> {
-    ghost eq = { λ v w. pointwise nat_eq (with_sign_octet v.octets.now) (with_sign_octet w.octets.now) };
+    ghost use Rattle.der_numbers.specs.UintRef.{contents_of};
 
-    ghost laws = { on_per (λ v. with_sign_octet v.octets.now) (partial_equiv_from_equiv nat_list_eq_equiv) };
+    ghost eq = { λ v w. pointwise nat_eq (with_sign_octet v.octets.now)
+        (with_sign_octet w.octets.now) };
+
+    ghost laws = { on_per contents_of (partial_equiv_from_equiv nat_list_eq_equiv) };
 
     #[tactic(auto, using(crate::specs::UnsignedLaws::pointwise_contents))]
     fn eq(&self, other: &UintRef<'a>) -> bool {
@@ -180,13 +193,18 @@ impl<'a> PartialEq for UintRef<'a> {
 }
 
 impl<'a> Eq for UintRef<'a> {
-    ghost laws = { on_equiv (λ v. with_sign_octet v.octets.now) nat_list_eq_equiv };
+    ghost use Rattle.der_numbers.specs.UintRef.{contents_of};
+
+    ghost laws = { on_equiv contents_of nat_list_eq_equiv };
 }
 
 impl<'a> PartialOrd for UintRef<'a> {
-    ghost partial_cmp = { λ v w. Some (lex (with_sign_octet v.octets.now) (with_sign_octet w.octets.now)) };
+    ghost use Rattle.der_numbers.specs.UintRef.{contents_of};
 
-    ghost laws = { on_po (λ v. with_sign_octet v.octets.now) texts_po };
+    ghost partial_cmp = { λ v w. Some (lex (with_sign_octet v.octets.now)
+        (with_sign_octet w.octets.now)) };
+
+    ghost laws = { on_po contents_of texts_po };
 
     fn partial_cmp(&self, other: &UintRef<'a>) -> Option<Ordering> {
         Some(self.cmp(other))
@@ -194,13 +212,16 @@ impl<'a> PartialOrd for UintRef<'a> {
 }
 
 impl<'a> Ord for UintRef<'a> {
+    ghost use Rattle.der_numbers.specs.UintRef.{contents_of};
+
     ghost cmp = { λ v w. lex (with_sign_octet v.octets.now) (with_sign_octet w.octets.now) };
 
-    ghost total = { on_total (λ v. with_sign_octet v.octets.now) nat_list_cmp_total };
+    ghost total = { on_total contents_of nat_list_cmp_total };
 
     ghost matches_partial_cmp = { λ v w. refl };
 
-    ghost matches_eq = { λ v w. texts_ties (with_sign_octet v.octets.now) (with_sign_octet w.octets.now) };
+    ghost matches_eq = { λ v w. texts_ties (with_sign_octet v.octets.now)
+        (with_sign_octet w.octets.now) };
 
     /// The lexicographic order of the contents octets.
     fn cmp(&self, other: &UintRef<'a>) -> Ordering {
@@ -213,16 +234,19 @@ impl<'a> OrdIsValueOrd for UintRef<'a> {
 }
 
 impl<'a> ContentsEq for UintRef<'a> {
-    ghost contents_eq = { λ v w one. bytes_decides (with_sign_octet v.octets.now) (with_sign_octet w.octets.now) };
+    ghost contents_eq = { λ v w one. bytes_decides (with_sign_octet v.octets.now)
+        (with_sign_octet w.octets.now) };
 }
 
 impl<'a> CopyIsDuplicate for UintRef<'a> {}
 
 /// A value that can be seen as a borrowed number that is not negative.
 pub trait AsUintRef: FormValue {
+    ghost use Rattle.der_numbers.specs.UintRef.{contents_of};
+
     /// The same number, borrowed.
     fn as_uint_ref(&self) -> UintRef<'_>
-        ensures { ⟦<UintRef<'static> as FormValue>⟧.contents result ≡ Self.contents self.now };
+        ensures { contents_of result ≡ Self.contents self.now };
 }
 
 impl<'a> AsUintRef for UintRef<'a> {
@@ -232,7 +256,9 @@ impl<'a> AsUintRef for UintRef<'a> {
 }
 
 impl<'a, 'b> From<&'b UintRef<'a>> for UintRef<'a> {
-    ghost from_gives = { λ v w. ⟦<UintRef<'a> as FormValue>⟧.contents w ≡ ⟦<UintRef<'a> as FormValue>⟧.contents v.now };
+    ghost use Rattle.der_numbers.specs.UintRef.{contents_of};
+
+    ghost from_gives = { λ v w. contents_of w ≡ contents_of v.now };
 
     fn from(number: &'b UintRef<'a>) -> UintRef<'a> {
         *number
@@ -240,9 +266,12 @@ impl<'a, 'b> From<&'b UintRef<'a>> for UintRef<'a> {
 }
 
 impl<'a> TryFrom<AnyRef<'a>> for UintRef<'a> {
+    ghost use Rattle.der_numbers.specs.UintRef.{DecodesNatural};
+
     type Error = Error;
 
-    ghost try_from_gives = { λ a r. DecodesAs ⟦<UintRef<'a> as Form>⟧ ⟦<UintRef<'a> as FormValue>⟧ Der (⟦<AnyRef<'a> as Tagged>⟧.tag_of a) (⟦<AnyRef<'a> as FormValue>⟧.contents a) r };
+    ghost try_from_gives = { λ a r. DecodesNatural (borrowed_any.tag_of a)
+        (borrowed_any.contents_of a) r };
 
     /// # Errors
     /// (4) with no expected tag for another tag; else, in this order: no contents octets, or 00
@@ -259,9 +288,12 @@ impl<'a> TryFrom<AnyRef<'a>> for UintRef<'a> {
 }
 
 impl<'a> TryFrom<&'a Any> for UintRef<'a> {
+    ghost use Rattle.der_numbers.specs.UintRef.{DecodesNatural};
+
     type Error = Error;
 
-    ghost try_from_gives = { λ a r. DecodesAs ⟦<UintRef<'a> as Form>⟧ ⟦<UintRef<'a> as FormValue>⟧ Der (⟦<Any as Tagged>⟧.tag_of a.now) (⟦<Any as FormValue>⟧.contents a.now) r };
+    ghost try_from_gives = { λ a r. DecodesNatural (owned_any.tag_of a.now)
+        (owned_any.contents_of a.now) r };
 
     /// # Errors
     /// (4) with no expected tag for another tag; else, in this order: no contents octets, or 00

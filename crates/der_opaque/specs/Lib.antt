@@ -4,6 +4,12 @@ pub mod AnyLaws
 pub mod DecodingAs
 pub mod InSequence
 pub mod ObjectIdentifierOctets
+pub mod Any
+pub mod AnyRef
+pub mod BuiltinTypes
+pub mod ObjectIdentifier
+pub mod OctetString
+pub mod OctetStringRef
 pub use Rattle.der_elem.specs.Decoding
 pub use Rattle.der_elem.specs.Encoding
 pub use Rattle.der_elem.specs.Integer

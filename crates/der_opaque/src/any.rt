@@ -16,6 +16,7 @@ ghost use Rattle.der_opaque.specs.DecodingAs.{DecodesAs};
 ghost use Rattle.der_opaque.specs.InSequence.{RefusesWith, CalledOn};
 ghost use Rattle.der_opaque.specs.AnyForm.{accepts_any, parse_any};
 ghost use Rattle.der_opaque.specs.AnyLaws.{led_any, parse_of_any, begins_any, same_length_any, encoding_eq_any};
+ghost use Rattle.der_opaque.specs.AnyRef as borrowed;
 
 use crate::any_ref::AnyRef;
 use der_elem::{
@@ -40,12 +41,14 @@ pub struct Any {
 }
 
 impl Any {
+    ghost use Rattle.der_opaque.specs.Any.{tag_of, contents_of};
+
     /// A value with this tag and these contents octets.
     ///
     /// # Errors
     /// (7) with the tag for more than 4294967295 octets.
     pub fn new(tag: Tag, value: Vec<u8>) -> Result<Any, Error>
-        ensures { KeepsTagged ⟦<Any as Tagged>⟧.tag_of ⟦<Any as FormValue>⟧.contents tag value.items result }
+        ensures { KeepsTagged tag_of contents_of tag value.items result }
     {
         let _number = tag.number();
         match Length::of(value.len()) {
@@ -56,8 +59,8 @@ impl Any {
 
     /// NULL, 05 00. It takes no memory.
     pub fn null(alloc: Global) -> Any
-        ensures tag { ⟦<Any as Tagged>⟧.tag_of result ≡ tags.Null }
-        ensures value { ⟦<Any as FormValue>⟧.contents result ≡ [] }
+        ensures tag { tag_of result ≡ tags.Null }
+        ensures value { contents_of result ≡ [] }
     {
         Any {
             tag: Tag::Null,
@@ -70,7 +73,8 @@ impl Any {
     /// # Errors
     /// (1) where memory runs out.
     pub fn from_ref(alloc: Global, any: AnyRef<'_>) -> Result<Any, Error>
-        ensures value { IfOk result (λ v. (⟦<Any as Tagged>⟧.tag_of v ≡ ⟦<AnyRef<'static> as Tagged>⟧.tag_of any.entry) × (⟦<Any as FormValue>⟧.contents v ≡ ⟦<AnyRef<'static> as FormValue>⟧.contents any.entry)) }
+        ensures value { IfOk result (λ v. (tag_of v ≡ borrowed.tag_of any.entry)
+            × (contents_of v ≡ borrowed.contents_of any.entry)) }
         ensures err { IfErr result (λ e. e.kind ≡ kinds.Memory) }
     {
         let value = any.value.to_vec(alloc)?;
@@ -85,8 +89,10 @@ impl Any {
     /// # Errors
     /// (9) where it has more than 4294967295 contents octets; (1) where memory runs out.
     pub fn encode_from<T: Tagged + EncodeValue>(alloc: Global, value: &T) -> Result<Any, Error>
-        ensures ok { IfOk result (λ any. (⟦<Any as Tagged>⟧.tag_of any ≡ T.tag_of value.now) × (⟦<Any as FormValue>⟧.contents any ≡ T.contents value.now)) }
-        ensures err { IfErr result (λ e. (e.kind ≡ kinds.Memory) ⊎ Stops (T.contents value.now) (T.re_reads_value value.now) e.kind) }
+        ensures ok { IfOk result (λ any. (tag_of any ≡ T.tag_of value.now)
+            × (contents_of any ≡ T.contents value.now)) }
+        ensures err { IfErr result (λ e. (e.kind ≡ kinds.Memory)
+            ⊎ Stops (T.contents value.now) (T.re_reads_value value.now) e.kind) }
     {
         let len = value.value_len()?;
         let mut writer = VecWriter::with_capacity(alloc, usize::from(len))?;
@@ -99,15 +105,15 @@ impl Any {
 
     /// The contents octets.
     pub fn value(&self) -> &[u8]
-        ensures { result.now ≡ ⟦<Any as FormValue>⟧.contents self.now }
+        ensures { result.now ≡ contents_of self.now }
     {
         &self.value
     }
 
     /// The header of the encoding.
     pub fn header(&self) -> Header
-        ensures tag { result.tag ≡ ⟦<Any as Tagged>⟧.tag_of self.now }
-        ensures length { result.length ≡ length (⟦<Any as FormValue>⟧.contents self.now) }
+        ensures tag { result.tag ≡ tag_of self.now }
+        ensures length { result.length ≡ length (contents_of self.now) }
     {
         self.to_ref().header()
     }
@@ -121,7 +127,7 @@ impl Any {
         &'a self,
         alloc: Global,
     ) -> Result<T, Error>
-        ensures { DecodesAs T.Form T.FormValue Der (⟦<Any as Tagged>⟧.tag_of self.now) (⟦<Any as FormValue>⟧.contents self.now) result }
+        ensures { DecodesAs T.Form T.FormValue Der (tag_of self.now) (contents_of self.now) result }
     {
         self.to_ref().decode_as(alloc)
     }
@@ -136,7 +142,8 @@ impl Any {
         alloc: Global,
         rules: EncodingRules,
     ) -> Result<T, Error>
-        ensures { DecodesAs T.Form T.FormValue rules (⟦<Any as Tagged>⟧.tag_of self.now) (⟦<Any as FormValue>⟧.contents self.now) result }
+        ensures { DecodesAs T.Form T.FormValue rules (tag_of self.now)
+            (contents_of self.now) result }
     {
         self.to_ref().decode_as_encoding(alloc, rules)
     }
@@ -151,16 +158,20 @@ impl Any {
         f: F,
     ) -> Result<T, E>
         requires { F.IsAlwaysCallable f }
-        ensures other { ⟦<Any as Tagged>⟧.tag_of self.now ≢ tags.Sequence → RefusesWith E.from_gives (kinds.TagUnexpected (Some tags.Sequence) (⟦<Any as Tagged>⟧.tag_of self.now)) result }
-        ensures called { ⟦<Any as Tagged>⟧.tag_of self.now ≡ tags.Sequence → CalledOn F.FnOnce ⟦<SliceReader<'a> as Reader<'a>>⟧.state E.from_gives f (⟦<Any as FormValue>⟧.contents self.now) result }
+        ensures other { tag_of self.now ≢ tags.Sequence
+            → RefusesWith E.from_gives
+            (kinds.TagUnexpected (Some tags.Sequence) (tag_of self.now)) result }
+        ensures called { tag_of self.now ≡ tags.Sequence
+            → CalledOn F.FnOnce ⟦<SliceReader<'a> as Reader<'a>>⟧.state E.from_gives f
+            (contents_of self.now) result }
     {
         self.to_ref().sequence(f)
     }
 
     /// The value, borrowed.
     pub fn to_ref(&self) -> AnyRef<'_>
-        ensures tag { ⟦<AnyRef<'static> as Tagged>⟧.tag_of result ≡ ⟦<Any as Tagged>⟧.tag_of self.now }
-        ensures value { ⟦<AnyRef<'static> as FormValue>⟧.contents result ≡ ⟦<Any as FormValue>⟧.contents self.now }
+        ensures tag { borrowed.tag_of result ≡ tag_of self.now }
+        ensures value { borrowed.contents_of result ≡ contents_of self.now }
     {
         AnyRef {
             tag: self.tag,
@@ -170,22 +181,24 @@ impl Any {
 
     /// The value, borrowed.
     pub fn owned_to_ref(&self) -> AnyRef<'_>
-        ensures tag { ⟦<AnyRef<'static> as Tagged>⟧.tag_of result ≡ ⟦<Any as Tagged>⟧.tag_of self.now }
-        ensures value { ⟦<AnyRef<'static> as FormValue>⟧.contents result ≡ ⟦<Any as FormValue>⟧.contents self.now }
+        ensures tag { borrowed.tag_of result ≡ tag_of self.now }
+        ensures value { borrowed.contents_of result ≡ contents_of self.now }
     {
         AnyRef::from(self)
     }
 
     /// Whether this is NULL, 05 00.
     pub fn is_null(&self) -> bool
-        ensures { IsTrue result ↔ ((⟦<Any as Tagged>⟧.tag_of self.now ≡ tags.Null) × (⟦<Any as FormValue>⟧.contents self.now ≡ [])) }
+        ensures { IsTrue result ↔ ((tag_of self.now ≡ tags.Null) × (contents_of self.now ≡ [])) }
     {
         self.to_ref().is_null()
     }
 }
 
 impl Clone for Any {
-    ghost is_clone = { λ v w. (⟦<Any as Tagged>⟧.tag_of w ≡ ⟦<Any as Tagged>⟧.tag_of v) × (⟦<Any as FormValue>⟧.contents w ≡ ⟦<Any as FormValue>⟧.contents v) };
+    ghost use Rattle.der_opaque.specs.Any.{tag_of, contents_of};
+
+    ghost is_clone = { λ v w. (tag_of w ≡ tag_of v) × (contents_of w ≡ contents_of v) };
 
     fn clone(&self) -> Result<Any, AllocError> {
         let value = self.value.clone()?;
@@ -197,9 +210,11 @@ impl Clone for Any {
 }
 
 impl FormValue for Any {
-    ghost contents = { λ v. v.value.items };
+    ghost use Rattle.der_opaque.specs.Any.{tag_of, contents_of};
 
-    ghost accepts_value = { accepts_own (λ v. v.value.items) };
+    ghost contents = { contents_of };
+
+    ghost accepts_value = { accepts_own contents_of };
 
     ghost parse_value = { parse_octets };
 
@@ -221,13 +236,15 @@ impl FormValue for Any {
 }
 
 impl Form for Any {
+    ghost use Rattle.der_opaque.specs.Any.{tag_of, contents_of};
+
     ghost encoding = { λ v. tlv v.tag v.value.items };
 
     ghost comparable = { λ v w. Unit {0} };
 
     ghost re_reads = { λ v. false };
 
-    ghost accepts = { accepts_any (λ v. v.tag) (λ v. v.value.items) };
+    ghost accepts = { accepts_any tag_of contents_of };
 
     ghost parse = { parse_any };
 
@@ -239,13 +256,13 @@ impl Form for Any {
 
     ghost TAKES_MEMORY = { true };
 
-    ghost parse_of_accepted = { parse_of_any (λ v. v.tag) (λ v. v.value.items) };
+    ghost parse_of_accepted = { parse_of_any tag_of contents_of };
 
-    ghost begins = { begins_any (λ v. v.tag) (λ v. v.value.items) };
+    ghost begins = { begins_any tag_of contents_of };
 
-    ghost led = { led_any (λ v. v.tag) (λ v. v.value.items) };
+    ghost led = { led_any tag_of contents_of };
 
-    ghost same_length = { same_length_any (λ v. v.tag) (λ v. v.value.items) };
+    ghost same_length = { same_length_any tag_of contents_of };
 
     ghost accepts_encoding = { λ rules v r. (r, refl) };
 
@@ -269,7 +286,9 @@ impl FormMemory for Any {
 }
 
 impl Tagged for Any {
-    ghost tag_of = { λ v. v.tag };
+    ghost use Rattle.der_opaque.specs.Any.{tag_of, contents_of};
+
+    ghost tag_of = { tag_of };
 
     fn tag(&self) -> Tag {
         self.tag
@@ -277,7 +296,8 @@ impl Tagged for Any {
 
     ghost encoding_is = { λ v. refl };
 
-    ghost accepted_is_tlv = { λ rules v b a. record { tag = v.tag; contents = v.value.items; octets_are = a.1 } };
+    ghost accepted_is_tlv = { λ rules v b a. record
+        { tag = v.tag; contents = v.value.items; octets_are = a.1 } };
 
     ghost own_tag = { λ v. refl };
 
@@ -335,7 +355,8 @@ impl ValueOrd for Any {
 }
 
 impl EncodingEq for Any {
-    ghost encoding_eq = { λ v w one. encoding_eq_any _ _ v.tag w.tag v.value.items w.value.items (tag_eq-decides v.tag w.tag) (bytes_decides v.value.items w.value.items) };
+    ghost encoding_eq = { λ v w one. encoding_eq_any _ _ v.tag w.tag v.value.items w.value.items
+        (tag_eq-decides v.tag w.tag) (bytes_decides v.value.items w.value.items) };
 }
 
 impl Duplicate for Any {
@@ -355,7 +376,10 @@ impl Duplicate for Any {
 }
 
 impl<'a> From<&'a Any> for AnyRef<'a> {
-    ghost from_gives = { λ a r. (⟦<AnyRef<'a> as Tagged>⟧.tag_of r ≡ ⟦<Any as Tagged>⟧.tag_of a.now) × (⟦<AnyRef<'a> as FormValue>⟧.contents r ≡ ⟦<Any as FormValue>⟧.contents a.now) };
+    ghost use Rattle.der_opaque.specs.Any.{tag_of, contents_of};
+
+    ghost from_gives = { λ a r. (borrowed.tag_of r ≡ tag_of a.now)
+        × (borrowed.contents_of r ≡ contents_of a.now) };
 
     fn from(any: &'a Any) -> AnyRef<'a> {
         any.to_ref()

@@ -38,6 +38,10 @@ pub struct AnyRef<'a> {
 }
 
 impl<'a> AnyRef<'a> {
+    ghost use Rattle.der_opaque.specs.contracts.any_ref.AnyRefForm.TheImpl.{ghosts as any_form};
+    ghost use Rattle.der_opaque.specs.AnyRef.{tag_of, contents_of};
+    ghost use Rattle.der_opaque.specs.Any as owned;
+
     /// NULL, 05 00.
     pub const NULL: AnyRef<'static> = AnyRef {
         tag: Tag::Null,
@@ -49,7 +53,7 @@ impl<'a> AnyRef<'a> {
     /// # Errors
     /// (7) with the tag for more than 4294967295 octets.
     pub fn new(tag: Tag, value: &'a [u8]) -> Result<AnyRef<'a>, Error>
-        ensures { KeepsTagged ⟦<AnyRef<'a> as Tagged>⟧.tag_of ⟦<AnyRef<'a> as FormValue>⟧.contents tag value.now result }
+        ensures { KeepsTagged tag_of contents_of tag value.now result }
     {
         let _number = tag.number();
         match Length::of(value.len()) {
@@ -60,22 +64,23 @@ impl<'a> AnyRef<'a> {
 
     /// The contents octets.
     pub fn value(self) -> &'a [u8]
-        ensures { result.now ≡ ⟦<AnyRef<'a> as FormValue>⟧.contents self.entry }
+        ensures { result.now ≡ contents_of self.entry }
     {
         self.value
     }
 
     /// The header of the encoding.
     pub fn header(&self) -> Header
-        ensures tag { result.tag ≡ ⟦<AnyRef<'a> as Tagged>⟧.tag_of self.now }
-        ensures length { result.length ≡ length (⟦<AnyRef<'a> as FormValue>⟧.contents self.now) }
+        ensures tag { result.tag ≡ tag_of self.now }
+        ensures length { result.length ≡ length (contents_of self.now) }
     {
         Header::new(self.tag, Length::new(self.value.len() as u32))
     }
 
     /// Whether this is NULL, 05 00.
     pub fn is_null(self) -> bool
-        ensures { IsTrue result ↔ ((⟦<AnyRef<'a> as Tagged>⟧.tag_of self.entry ≡ tags.Null) × (⟦<AnyRef<'a> as FormValue>⟧.contents self.entry ≡ [])) }
+        ensures { IsTrue result ↔ ((tag_of self.entry ≡ tags.Null)
+            × (contents_of self.entry ≡ [])) }
     {
         self.tag == Tag::Null && self.value.is_empty()
     }
@@ -89,7 +94,8 @@ impl<'a> AnyRef<'a> {
         self,
         alloc: Global,
     ) -> Result<T, Error>
-        ensures { DecodesAs T.Form T.FormValue Der (⟦<AnyRef<'a> as Tagged>⟧.tag_of self.entry) (⟦<AnyRef<'a> as FormValue>⟧.contents self.entry) result }
+        ensures { DecodesAs T.Form T.FormValue Der (tag_of self.entry)
+            (contents_of self.entry) result }
     {
         self.decode_as_encoding(alloc, EncodingRules::Der)
     }
@@ -104,7 +110,8 @@ impl<'a> AnyRef<'a> {
         alloc: Global,
         rules: EncodingRules,
     ) -> Result<T, Error>
-        ensures { DecodesAs T.Form T.FormValue rules (⟦<AnyRef<'a> as Tagged>⟧.tag_of self.entry) (⟦<AnyRef<'a> as FormValue>⟧.contents self.entry) result }
+        ensures { DecodesAs T.Form T.FormValue rules (tag_of self.entry)
+            (contents_of self.entry) result }
     {
         if !T::can_decode(self.tag) {
             return Err(Error::from_kind(self.tag.unexpected_error(None)));
@@ -126,8 +133,12 @@ impl<'a> AnyRef<'a> {
         f: F,
     ) -> Result<T, E>
         requires { F.IsAlwaysCallable f }
-        ensures other { ⟦<AnyRef<'a> as Tagged>⟧.tag_of self.entry ≢ tags.Sequence → RefusesWith E.from_gives (kinds.TagUnexpected (Some tags.Sequence) (⟦<AnyRef<'a> as Tagged>⟧.tag_of self.entry)) result }
-        ensures called { ⟦<AnyRef<'a> as Tagged>⟧.tag_of self.entry ≡ tags.Sequence → CalledOn F.FnOnce ⟦<SliceReader<'a> as Reader<'a>>⟧.state E.from_gives f (⟦<AnyRef<'a> as FormValue>⟧.contents self.entry) result }
+        ensures other { tag_of self.entry ≢ tags.Sequence
+            → RefusesWith E.from_gives
+            (kinds.TagUnexpected (Some tags.Sequence) (tag_of self.entry)) result }
+        ensures called { tag_of self.entry ≡ tags.Sequence
+            → CalledOn F.FnOnce ⟦<SliceReader<'a> as Reader<'a>>⟧.state E.from_gives f
+            (contents_of self.entry) result }
     {
         if let Err(e) = self.tag.assert_eq(Tag::Sequence) {
             return Err(E::from(e));
@@ -150,7 +161,8 @@ impl<'a> AnyRef<'a> {
     /// # Errors
     /// (1) where memory runs out.
     pub fn ref_to_owned(self, alloc: Global) -> Result<Any, Error>
-        ensures value { IfOk result (λ v. (⟦<Any as Tagged>⟧.tag_of v ≡ ⟦<AnyRef<'a> as Tagged>⟧.tag_of self.entry) × (⟦<Any as FormValue>⟧.contents v ≡ ⟦<AnyRef<'a> as FormValue>⟧.contents self.entry)) }
+        ensures value { IfOk result (λ v. (owned.tag_of v ≡ tag_of self.entry)
+            × (owned.contents_of v ≡ contents_of self.entry)) }
         ensures err { IfErr result (λ e. e.kind ≡ kinds.Memory) }
     {
         Any::from_ref(alloc, self)
@@ -159,7 +171,7 @@ impl<'a> AnyRef<'a> {
     /// Reads an encoding with any tag.
     #[inline(always)]
     fn read<R: Reader<'a>>(reader: &mut R) -> Result<AnyRef<'a>, Error>
-        ensures { Decodes ⟦<AnyRef<'a> as Form>⟧ (R.state reader.old) (R.state reader.new) result }
+        ensures { Decodes any_form (R.state reader.old) (R.state reader.new) result }
     {
         let header = Header::decode(reader)?;
         let value = reader.read_slice(header.length)?;
@@ -171,9 +183,11 @@ impl<'a> AnyRef<'a> {
 }
 
 impl<'a> FormValue for AnyRef<'a> {
-    ghost contents = { λ v. v.value.now };
+    ghost use Rattle.der_opaque.specs.AnyRef.{tag_of, contents_of};
 
-    ghost accepts_value = { accepts_own (λ v. v.value.now) };
+    ghost contents = { contents_of };
+
+    ghost accepts_value = { accepts_own contents_of };
 
     ghost parse_value = { parse_octets };
 
@@ -193,13 +207,15 @@ impl<'a> FormValue for AnyRef<'a> {
 }
 
 impl<'a> Form for AnyRef<'a> {
+    ghost use Rattle.der_opaque.specs.AnyRef.{tag_of, contents_of};
+
     ghost encoding = { λ v. tlv v.tag v.value.now };
 
     ghost comparable = { λ v w. Unit {0} };
 
     ghost re_reads = { λ v. false };
 
-    ghost accepts = { accepts_any (λ v. v.tag) (λ v. v.value.now) };
+    ghost accepts = { accepts_any tag_of contents_of };
 
     ghost parse = { parse_any };
 
@@ -211,13 +227,13 @@ impl<'a> Form for AnyRef<'a> {
 
     ghost TAKES_MEMORY = { false };
 
-    ghost parse_of_accepted = { parse_of_any (λ v. v.tag) (λ v. v.value.now) };
+    ghost parse_of_accepted = { parse_of_any tag_of contents_of };
 
-    ghost begins = { begins_any (λ v. v.tag) (λ v. v.value.now) };
+    ghost begins = { begins_any tag_of contents_of };
 
-    ghost led = { led_any (λ v. v.tag) (λ v. v.value.now) };
+    ghost led = { led_any tag_of contents_of };
 
-    ghost same_length = { same_length_any (λ v. v.tag) (λ v. v.value.now) };
+    ghost same_length = { same_length_any tag_of contents_of };
 
     ghost accepts_encoding = { λ rules v r. (r, refl) };
 
@@ -241,7 +257,9 @@ impl<'a> FormMemory for AnyRef<'a> {
 }
 
 impl<'a> Tagged for AnyRef<'a> {
-    ghost tag_of = { λ v. v.tag };
+    ghost use Rattle.der_opaque.specs.AnyRef.{tag_of, contents_of};
+
+    ghost tag_of = { tag_of };
 
     fn tag(&self) -> Tag {
         self.tag
@@ -249,7 +267,8 @@ impl<'a> Tagged for AnyRef<'a> {
 
     ghost encoding_is = { λ v. refl };
 
-    ghost accepted_is_tlv = { λ rules v b a. record { tag = v.tag; contents = v.value.now; octets_are = a.1 } };
+    ghost accepted_is_tlv = { λ rules v b a. record
+        { tag = v.tag; contents = v.value.now; octets_are = a.1 } };
 
     ghost own_tag = { λ v. refl };
 
@@ -304,7 +323,8 @@ impl<'a> ValueOrd for AnyRef<'a> {
 }
 
 impl<'a> EncodingEq for AnyRef<'a> {
-    ghost encoding_eq = { λ v w one. encoding_eq_any _ _ v.tag w.tag v.value.now w.value.now (tag_eq-decides v.tag w.tag) (bytes_decides v.value.now w.value.now) };
+    ghost encoding_eq = { λ v w one. encoding_eq_any _ _ v.tag w.tag v.value.now w.value.now
+        (tag_eq-decides v.tag w.tag) (bytes_decides v.value.now w.value.now) };
 }
 
 impl<'a> Duplicate for AnyRef<'a> {
@@ -324,7 +344,9 @@ impl<'a> Duplicate for AnyRef<'a> {
 }
 
 impl<'a> From<AnyRef<'a>> for BytesRef<'a> {
-    ghost from_gives = { λ v b. b.octets.now ≡ ⟦<AnyRef<'a> as FormValue>⟧.contents v };
+    ghost use Rattle.der_opaque.specs.AnyRef.{tag_of, contents_of};
+
+    ghost from_gives = { λ v b. b.octets.now ≡ contents_of v };
 
     fn from(any: AnyRef<'a>) -> BytesRef<'a> {
         BytesRef { octets: any.value }
@@ -332,9 +354,11 @@ impl<'a> From<AnyRef<'a>> for BytesRef<'a> {
 }
 
 impl<'a> TryFrom<&'a [u8]> for AnyRef<'a> {
+    ghost use Rattle.der_opaque.specs.contracts.any_ref.AnyRefForm.TheImpl.{ghosts as any_form};
+
     type Error = Error;
 
-    ghost try_from_gives = { λ b r. ReadsAll ⟦<AnyRef<'a> as Form>⟧ b.now r };
+    ghost try_from_gives = { λ b r. ReadsAll any_form b.now r };
 
     /// The value that these octets encode, and nothing else, under DER.
     ///
@@ -358,7 +382,9 @@ impl<'a> TryFrom<&'a [u8]> for AnyRef<'a> {
 }
 
 impl<'a> From<()> for AnyRef<'a> {
-    ghost from_gives = { λ u a. (⟦<AnyRef<'a> as Tagged>⟧.tag_of a ≡ tags.Null) × (⟦<AnyRef<'a> as FormValue>⟧.contents a ≡ []) };
+    ghost use Rattle.der_opaque.specs.AnyRef.{tag_of, contents_of};
+
+    ghost from_gives = { λ u a. (tag_of a ≡ tags.Null) × (contents_of a ≡ []) };
 
     fn from(_null: ()) -> AnyRef<'a> {
         AnyRef {

@@ -11,6 +11,8 @@ ghost use Rattle.der_elem.specs.Integer.{integer_contents, natural_contents, Fit
 ghost use Rattle.der_elem.specs.IntegerReading.{parse_signed, parse_unsigned};
 ghost use Rattle.der_elem.specs.Utf8String.{parse_utf8};
 ghost use Rattle.der_opaque.specs.DecodingAs.{DecodesAs, DecodesOwnAs};
+ghost use Rattle.der_opaque.specs.AnyRef.{tag_of, contents_of};
+ghost use Rattle.der_opaque.specs.BuiltinTypes.{DecodesBoolean, DecodesNull, DecodesSigned, DecodesUnsigned};
 
 use crate::any_ref::AnyRef;
 use der_elem::{Form, FormValue, Tagged, signed_of, text_of, unsigned_of};
@@ -24,7 +26,7 @@ use der_tlv::{Error, Tag};
 fn signed_as(any: AnyRef<'_>, width: usize) -> Result<i128, Error>
     requires some { 0 < width }
     requires most { width ≤ 16 }
-    ensures { DecodesOwnAs Integer integer_contents (FitsSignedWidth width) (parse_signed width) (⟦<AnyRef<'static> as Tagged>⟧.tag_of any.entry) (⟦<AnyRef<'static> as FormValue>⟧.contents any.entry) result }
+    ensures { DecodesSigned width (tag_of any.entry) (contents_of any.entry) result }
 {
     if !any.tag.is(Tag::Integer) {
         return Err(Error::from_kind(any.tag.unexpected_error(None)));
@@ -44,7 +46,7 @@ fn signed_as(any: AnyRef<'_>, width: usize) -> Result<i128, Error>
 fn unsigned_as(any: AnyRef<'_>, width: usize) -> Result<u128, Error>
     requires some { 0 < width }
     requires most { width ≤ 16 }
-    ensures { DecodesOwnAs Integer natural_contents (FitsUnsignedWidth width) (parse_unsigned width) (⟦<AnyRef<'static> as Tagged>⟧.tag_of any.entry) (⟦<AnyRef<'static> as FormValue>⟧.contents any.entry) result }
+    ensures { DecodesUnsigned width (tag_of any.entry) (contents_of any.entry) result }
 {
     if !any.tag.is(Tag::Integer) {
         return Err(Error::from_kind(any.tag.unexpected_error(None)));
@@ -58,7 +60,7 @@ fn unsigned_as(any: AnyRef<'_>, width: usize) -> Result<u128, Error>
 impl<'a> TryFrom<AnyRef<'a>> for bool {
     type Error = Error;
 
-    ghost try_from_gives = { λ a r. DecodesAs ⟦<bool as Form>⟧ ⟦<bool as FormValue>⟧ Der (⟦<AnyRef<'a> as Tagged>⟧.tag_of a) (⟦<AnyRef<'a> as FormValue>⟧.contents a) r };
+    ghost try_from_gives = { λ a r. DecodesBoolean (tag_of a) (contents_of a) r };
 
     /// The truth value that one contents octet is, under DER: 00 for false, FF for true.
     ///
@@ -81,7 +83,7 @@ impl<'a> TryFrom<AnyRef<'a>> for bool {
 impl<'a> TryFrom<AnyRef<'a>> for () {
     type Error = Error;
 
-    ghost try_from_gives = { λ a r. DecodesAs ⟦<() as Form>⟧ ⟦<() as FormValue>⟧ Der (⟦<AnyRef<'a> as Tagged>⟧.tag_of a) (⟦<AnyRef<'a> as FormValue>⟧.contents a) r };
+    ghost try_from_gives = { λ a r. DecodesNull (tag_of a) (contents_of a) r };
 
     /// The value of NULL, of no contents octets.
     ///
@@ -101,7 +103,8 @@ impl<'a> TryFrom<AnyRef<'a>> for () {
 impl<'a> TryFrom<AnyRef<'a>> for &'a str {
     type Error = Error;
 
-    ghost try_from_gives = { λ a r. DecodesOwnAs Utf8String (λ text. text.now) (λ text. is_utf8 text.now ≡ true) parse_utf8 (⟦<AnyRef<'a> as Tagged>⟧.tag_of a) (⟦<AnyRef<'a> as FormValue>⟧.contents a) r };
+    ghost try_from_gives = { λ a r. DecodesOwnAs Utf8String (λ text. text.now)
+        (λ text. is_utf8 text.now ≡ true) parse_utf8 (tag_of a) (contents_of a) r };
 
     /// The text of a UTF8String, which the contents octets are in UTF-8.
     ///
@@ -121,7 +124,7 @@ impl<'a> TryFrom<AnyRef<'a>> for &'a str {
 impl<'a> TryFrom<AnyRef<'a>> for i8 {
     type Error = Error;
 
-    ghost try_from_gives = { λ a r. DecodesAs ⟦<i8 as Form>⟧ ⟦<i8 as FormValue>⟧ Der (⟦<AnyRef<'a> as Tagged>⟧.tag_of a) (⟦<AnyRef<'a> as FormValue>⟧.contents a) r };
+    ghost try_from_gives = { λ a r. DecodesSigned 1 (tag_of a) (contents_of a) r };
 
     /// The integer that the contents octets are the two's complement of, under DER.
     ///
@@ -139,7 +142,7 @@ impl<'a> TryFrom<AnyRef<'a>> for i8 {
 impl<'a> TryFrom<AnyRef<'a>> for i16 {
     type Error = Error;
 
-    ghost try_from_gives = { λ a r. DecodesAs ⟦<i16 as Form>⟧ ⟦<i16 as FormValue>⟧ Der (⟦<AnyRef<'a> as Tagged>⟧.tag_of a) (⟦<AnyRef<'a> as FormValue>⟧.contents a) r };
+    ghost try_from_gives = { λ a r. DecodesSigned 2 (tag_of a) (contents_of a) r };
 
     /// The integer that the contents octets are the two's complement of, under DER.
     ///
@@ -157,7 +160,7 @@ impl<'a> TryFrom<AnyRef<'a>> for i16 {
 impl<'a> TryFrom<AnyRef<'a>> for i32 {
     type Error = Error;
 
-    ghost try_from_gives = { λ a r. DecodesAs ⟦<i32 as Form>⟧ ⟦<i32 as FormValue>⟧ Der (⟦<AnyRef<'a> as Tagged>⟧.tag_of a) (⟦<AnyRef<'a> as FormValue>⟧.contents a) r };
+    ghost try_from_gives = { λ a r. DecodesSigned 4 (tag_of a) (contents_of a) r };
 
     /// The integer that the contents octets are the two's complement of, under DER.
     ///
@@ -175,7 +178,7 @@ impl<'a> TryFrom<AnyRef<'a>> for i32 {
 impl<'a> TryFrom<AnyRef<'a>> for i64 {
     type Error = Error;
 
-    ghost try_from_gives = { λ a r. DecodesAs ⟦<i64 as Form>⟧ ⟦<i64 as FormValue>⟧ Der (⟦<AnyRef<'a> as Tagged>⟧.tag_of a) (⟦<AnyRef<'a> as FormValue>⟧.contents a) r };
+    ghost try_from_gives = { λ a r. DecodesSigned 8 (tag_of a) (contents_of a) r };
 
     /// The integer that the contents octets are the two's complement of, under DER.
     ///
@@ -193,7 +196,7 @@ impl<'a> TryFrom<AnyRef<'a>> for i64 {
 impl<'a> TryFrom<AnyRef<'a>> for i128 {
     type Error = Error;
 
-    ghost try_from_gives = { λ a r. DecodesAs ⟦<i128 as Form>⟧ ⟦<i128 as FormValue>⟧ Der (⟦<AnyRef<'a> as Tagged>⟧.tag_of a) (⟦<AnyRef<'a> as FormValue>⟧.contents a) r };
+    ghost try_from_gives = { λ a r. DecodesSigned 16 (tag_of a) (contents_of a) r };
 
     /// The integer that the contents octets are the two's complement of, under DER.
     ///
@@ -208,7 +211,7 @@ impl<'a> TryFrom<AnyRef<'a>> for i128 {
 impl<'a> TryFrom<AnyRef<'a>> for u8 {
     type Error = Error;
 
-    ghost try_from_gives = { λ a r. DecodesAs ⟦<u8 as Form>⟧ ⟦<u8 as FormValue>⟧ Der (⟦<AnyRef<'a> as Tagged>⟧.tag_of a) (⟦<AnyRef<'a> as FormValue>⟧.contents a) r };
+    ghost try_from_gives = { λ a r. DecodesUnsigned 1 (tag_of a) (contents_of a) r };
 
     /// The number that the contents octets are, with a 00 before a first octet of 80 or more, under
     /// DER.
@@ -228,7 +231,7 @@ impl<'a> TryFrom<AnyRef<'a>> for u8 {
 impl<'a> TryFrom<AnyRef<'a>> for u16 {
     type Error = Error;
 
-    ghost try_from_gives = { λ a r. DecodesAs ⟦<u16 as Form>⟧ ⟦<u16 as FormValue>⟧ Der (⟦<AnyRef<'a> as Tagged>⟧.tag_of a) (⟦<AnyRef<'a> as FormValue>⟧.contents a) r };
+    ghost try_from_gives = { λ a r. DecodesUnsigned 2 (tag_of a) (contents_of a) r };
 
     /// The number that the contents octets are, with a 00 before a first octet of 80 or more, under
     /// DER.
@@ -248,7 +251,7 @@ impl<'a> TryFrom<AnyRef<'a>> for u16 {
 impl<'a> TryFrom<AnyRef<'a>> for u32 {
     type Error = Error;
 
-    ghost try_from_gives = { λ a r. DecodesAs ⟦<u32 as Form>⟧ ⟦<u32 as FormValue>⟧ Der (⟦<AnyRef<'a> as Tagged>⟧.tag_of a) (⟦<AnyRef<'a> as FormValue>⟧.contents a) r };
+    ghost try_from_gives = { λ a r. DecodesUnsigned 4 (tag_of a) (contents_of a) r };
 
     /// The number that the contents octets are, with a 00 before a first octet of 80 or more, under
     /// DER.
@@ -268,7 +271,7 @@ impl<'a> TryFrom<AnyRef<'a>> for u32 {
 impl<'a> TryFrom<AnyRef<'a>> for u64 {
     type Error = Error;
 
-    ghost try_from_gives = { λ a r. DecodesAs ⟦<u64 as Form>⟧ ⟦<u64 as FormValue>⟧ Der (⟦<AnyRef<'a> as Tagged>⟧.tag_of a) (⟦<AnyRef<'a> as FormValue>⟧.contents a) r };
+    ghost try_from_gives = { λ a r. DecodesUnsigned 8 (tag_of a) (contents_of a) r };
 
     /// The number that the contents octets are, with a 00 before a first octet of 80 or more, under
     /// DER.
@@ -288,7 +291,7 @@ impl<'a> TryFrom<AnyRef<'a>> for u64 {
 impl<'a> TryFrom<AnyRef<'a>> for u128 {
     type Error = Error;
 
-    ghost try_from_gives = { λ a r. DecodesAs ⟦<u128 as Form>⟧ ⟦<u128 as FormValue>⟧ Der (⟦<AnyRef<'a> as Tagged>⟧.tag_of a) (⟦<AnyRef<'a> as FormValue>⟧.contents a) r };
+    ghost try_from_gives = { λ a r. DecodesUnsigned 16 (tag_of a) (contents_of a) r };
 
     /// The number that the contents octets are, with a 00 before a first octet of 80 or more, under
     /// DER.

@@ -5,6 +5,8 @@ ghost use Rattle.std.specs.Ordering.{ordering_then};
 ghost use Rattle.der_tlv.specs.declared.tag.Tag.TheVariants as tags;
 ghost use Rattle.der_tlv.specs.Identifier.{identifier};
 ghost use Rattle.der_tlv.specs.Octets.{lex};
+ghost use Rattle.der_opaque.specs.Any.{tag_of, contents_of};
+ghost use Rattle.der_opaque.specs.AnyRef as borrowed;
 
 use crate::any::Any;
 use crate::any_ref::AnyRef;
@@ -18,14 +20,18 @@ use std::cmp::Ordering;
 /// The order of two values with any tags: that of their identifier octets, then that of their
 /// contents octets.
 pub fn tag_then_contents(one: &Any, other: &Any) -> Ordering
-    ensures { result ≡ ordering_then (lex (identifier (⟦<Any as Tagged>⟧.tag_of one.now)) (identifier (⟦<Any as Tagged>⟧.tag_of other.now))) (lex (⟦<Any as FormValue>⟧.contents one.now) (⟦<Any as FormValue>⟧.contents other.now)) }
+    ensures { result ≡ ordering_then
+        (lex (identifier (tag_of one.now)) (identifier (tag_of other.now)))
+        (lex (contents_of one.now) (contents_of other.now)) }
 {
     one.cmp(other)
 }
 
 /// The same of borrowed values.
 pub fn borrowed_tag_then_contents<'a>(one: &AnyRef<'a>, other: &AnyRef<'a>) -> Ordering
-    ensures { result ≡ ordering_then (lex (identifier (⟦<AnyRef<'a> as Tagged>⟧.tag_of one.now)) (identifier (⟦<AnyRef<'a> as Tagged>⟧.tag_of other.now))) (lex (⟦<AnyRef<'a> as FormValue>⟧.contents one.now) (⟦<AnyRef<'a> as FormValue>⟧.contents other.now)) }
+    ensures { result ≡ ordering_then
+        (lex (identifier (borrowed.tag_of one.now)) (identifier (borrowed.tag_of other.now)))
+        (lex (borrowed.contents_of one.now) (borrowed.contents_of other.now)) }
 {
     one.cmp(other)
 }
@@ -40,8 +46,8 @@ pub fn tags_are()
 
 /// `AnyRef::NULL` has the tag of NULL and no contents octets.
 pub fn null() -> AnyRef<'static>
-    ensures tag { ⟦<AnyRef<'static> as Tagged>⟧.tag_of result ≡ tags.Null }
-    ensures contents { ⟦<AnyRef<'static> as FormValue>⟧.contents result ≡ [] }
+    ensures tag { borrowed.tag_of result ≡ tags.Null }
+    ensures contents { borrowed.contents_of result ≡ [] }
 {
     AnyRef::NULL
 }

@@ -9,6 +9,9 @@ ghost use Rattle.der_opaque.specs.DecodingAs.{DecodesAs};
 ghost use Rattle.der_elem.specs.Null.{parse_null};
 ghost use Rattle.der_elem.specs.OwnContents.{accepts_within};
 ghost use Rattle.der_elem.specs.OwnContentsLaws.{parse_of_within, same_length_within, accepts_contents_within, only_within};
+ghost use Rattle.der_opaque.specs.Any as owned;
+ghost use Rattle.der_opaque.specs.AnyRef.{tag_of, contents_of};
+ghost use Rattle.der_opaque.specs.BuiltinTypes.{DecodesNull};
 
 use crate::any::Any;
 use crate::any_ref::AnyRef;
@@ -33,7 +36,8 @@ impl FormValue for Null {
 
     ghost parse_value = { parse_null };
 
-    ghost parse_of_accepted_value = { parse_of_within (λ v. []) (λ v. Unit {0}) parse_null (λ rules v p r. refl) };
+    ghost parse_of_accepted_value = { parse_of_within (λ v. []) (λ v. Unit {0}) parse_null
+        (λ rules v p r. refl) };
 
     ghost same_length_value = { same_length_within (λ v. []) (λ v. Unit {0}) };
 
@@ -86,7 +90,7 @@ impl ContentsEq for Null {
 impl CopyIsDuplicate for Null {}
 
 impl<'a> From<Null> for AnyRef<'a> {
-    ghost from_gives = { λ n a. (⟦<AnyRef<'a> as Tagged>⟧.tag_of a ≡ tags.Null) × (⟦<AnyRef<'a> as FormValue>⟧.contents a ≡ []) };
+    ghost from_gives = { λ n a. (tag_of a ≡ tags.Null) × (contents_of a ≡ []) };
 
     fn from(_null: Null) -> AnyRef<'a> {
         AnyRef::from(())
@@ -96,7 +100,7 @@ impl<'a> From<Null> for AnyRef<'a> {
 impl<'a> TryFrom<AnyRef<'a>> for Null {
     type Error = Error;
 
-    ghost try_from_gives = { λ a r. DecodesAs ⟦<Null as Form>⟧ ⟦<Null as FormValue>⟧ Der (⟦<AnyRef<'a> as Tagged>⟧.tag_of a) (⟦<AnyRef<'a> as FormValue>⟧.contents a) r };
+    ghost try_from_gives = { λ a r. DecodesNull (tag_of a) (contents_of a) r };
 
     /// # Errors
     /// (4) with no expected tag for another tag; (7) for any contents octets.
@@ -114,7 +118,8 @@ impl<'a> TryFrom<AnyRef<'a>> for Null {
 impl<'a> TryFrom<&'a Any> for Null {
     type Error = Error;
 
-    ghost try_from_gives = { λ a r. DecodesAs ⟦<Null as Form>⟧ ⟦<Null as FormValue>⟧ Der (⟦<Any as Tagged>⟧.tag_of a.now) (⟦<Any as FormValue>⟧.contents a.now) r };
+    ghost try_from_gives = { λ a r. DecodesNull (owned.tag_of a.now)
+        (owned.contents_of a.now) r };
 
     /// # Errors
     /// (4) with no expected tag for another tag; (7) for any contents octets.

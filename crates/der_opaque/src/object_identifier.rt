@@ -13,6 +13,7 @@ ghost use Rattle.der_tlv.specs.Octets.{lex};
 ghost use Rattle.der_opaque.specs.ObjectIdentifierOctets.{parse_identifier, parse_identifier-kept, FromAny};
 ghost use Rattle.der_elem.specs.OwnContents.{accepts_within};
 ghost use Rattle.der_elem.specs.OwnContentsLaws.{parse_of_within, same_length_within, accepts_contents_within, only_within};
+ghost use Rattle.der_opaque.specs.AnyRef.{tag_of, contents_of};
 
 use crate::any_ref::AnyRef;
 use der_elem::{
@@ -40,14 +41,19 @@ pub struct ObjectIdentifier<const MAX_SIZE: usize> {
 }
 
 impl<const MAX_SIZE: usize> ObjectIdentifier<MAX_SIZE> {
+    ghost use Rattle.der_opaque.specs.ObjectIdentifier.{octets_of};
+
     /// An identifier of these contents octets.
     ///
     /// # Errors
     /// (15) for none; (7) for more than `MAX_SIZE` or than 4294967295.
     pub fn from_bytes(bytes: &[u8]) -> Result<ObjectIdentifier<MAX_SIZE>, Error>
-        ensures ok { IsOk result ↔ ((0 < length bytes.now) × (length bytes.now ≤ MAX_SIZE) × (length bytes.now < 2 ^ 32)) }
-        ensures value { IfOk result (λ v. ⟦<ObjectIdentifier<MAX_SIZE> as FormValue>⟧.contents v ≡ bytes.now) }
-        ensures err { IfErr result (λ e. e.kind ≡ (if nat_eq (length bytes.now) 0 then kinds.OidMalformed else kinds.Length tags.ObjectIdentifier)) }
+        ensures ok { IsOk result ↔ ((0 < length bytes.now) × (length bytes.now ≤ MAX_SIZE)
+            × (length bytes.now < 2 ^ 32)) }
+        ensures value { IfOk result (λ v. octets_of v ≡ bytes.now) }
+        ensures err { IfErr result (λ e.
+            e.kind ≡ (if nat_eq (length bytes.now) 0 then kinds.OidMalformed else kinds.Length
+            tags.ObjectIdentifier)) }
     {
         if bytes.is_empty() {
             return Err(Error::from_kind(ErrorKind::OidMalformed));
@@ -64,7 +70,7 @@ impl<const MAX_SIZE: usize> ObjectIdentifier<MAX_SIZE> {
 
     /// The contents octets.
     pub fn as_bytes(&self) -> &[u8]
-        ensures value { result.now ≡ ⟦<ObjectIdentifier<MAX_SIZE> as FormValue>⟧.contents self.now }
+        ensures value { result.now ≡ octets_of self.now }
         ensures short { length result.now < 2 ^ 32 }
     {
         &self.octets[..self.count.value() as usize]
@@ -72,19 +78,24 @@ impl<const MAX_SIZE: usize> ObjectIdentifier<MAX_SIZE> {
 }
 
 impl<const MAX_SIZE: usize> FormValue for ObjectIdentifier<MAX_SIZE> {
-    ghost contents = { λ v. take v.count v.octets };
+    ghost use Rattle.der_opaque.specs.ObjectIdentifier.{octets_of};
 
-    ghost accepts_value = { accepts_within (λ v. take v.count v.octets) (λ v. Unit {0}) };
+    ghost contents = { octets_of };
+
+    ghost accepts_value = { accepts_within octets_of (λ v. Unit {0}) };
 
     ghost parse_value = { parse_identifier MAX_SIZE };
 
-    ghost parse_of_accepted_value = { parse_of_within (λ v. take v.count v.octets) (λ v. Unit {0}) (parse_identifier MAX_SIZE) (λ rules v p r. parse_identifier-kept MAX_SIZE v.count v.octets (take v.count v.octets) rules p v.some v.fits v.full refl) };
+    ghost parse_of_accepted_value = { parse_of_within octets_of
+        (λ v. Unit {0}) (parse_identifier MAX_SIZE) (λ rules v p r.
+        parse_identifier-kept MAX_SIZE v.count v.octets
+        (take v.count v.octets) rules p v.some v.fits v.full refl) };
 
-    ghost same_length_value = { same_length_within (λ v. take v.count v.octets) (λ v. Unit {0}) };
+    ghost same_length_value = { same_length_within octets_of (λ v. Unit {0}) };
 
-    ghost accepts_contents = { accepts_contents_within (λ v. take v.count v.octets) (λ v. Unit {0}) };
+    ghost accepts_contents = { accepts_contents_within octets_of (λ v. Unit {0}) };
 
-    ghost only_readable_value = { only_within (λ v. take v.count v.octets) (λ v. Unit {0}) };
+    ghost only_readable_value = { only_within octets_of (λ v. Unit {0}) };
 
     ghost accepts_comparable_value = { λ rules v w c d a b. tt };
 
@@ -126,9 +137,11 @@ impl<const MAX_SIZE: usize> EncodeValue for ObjectIdentifier<MAX_SIZE> {
 }
 
 impl<const MAX_SIZE: usize> PartialEq for ObjectIdentifier<MAX_SIZE> {
+    ghost use Rattle.der_opaque.specs.ObjectIdentifier.{octets_of};
+
     ghost eq = { λ v w. pointwise nat_eq (take v.count v.octets) (take w.count w.octets) };
 
-    ghost laws = { on_per (λ v. take v.count v.octets) (partial_equiv_from_equiv nat_list_eq_equiv) };
+    ghost laws = { on_per octets_of (partial_equiv_from_equiv nat_list_eq_equiv) };
 
     fn eq(&self, other: &ObjectIdentifier<MAX_SIZE>) -> bool {
         self.as_bytes() == other.as_bytes()
@@ -136,13 +149,17 @@ impl<const MAX_SIZE: usize> PartialEq for ObjectIdentifier<MAX_SIZE> {
 }
 
 impl<const MAX_SIZE: usize> Eq for ObjectIdentifier<MAX_SIZE> {
-    ghost laws = { on_equiv (λ v. take v.count v.octets) nat_list_eq_equiv };
+    ghost use Rattle.der_opaque.specs.ObjectIdentifier.{octets_of};
+
+    ghost laws = { on_equiv octets_of nat_list_eq_equiv };
 }
 
 impl<const MAX_SIZE: usize> PartialOrd for ObjectIdentifier<MAX_SIZE> {
+    ghost use Rattle.der_opaque.specs.ObjectIdentifier.{octets_of};
+
     ghost partial_cmp = { λ v w. Some (lex (take v.count v.octets) (take w.count w.octets)) };
 
-    ghost laws = { on_po (λ v. take v.count v.octets) texts_po };
+    ghost laws = { on_po octets_of texts_po };
 
     fn partial_cmp(&self, other: &ObjectIdentifier<MAX_SIZE>) -> Option<Ordering> {
         Some(self.cmp(other))
@@ -150,9 +167,11 @@ impl<const MAX_SIZE: usize> PartialOrd for ObjectIdentifier<MAX_SIZE> {
 }
 
 impl<const MAX_SIZE: usize> Ord for ObjectIdentifier<MAX_SIZE> {
+    ghost use Rattle.der_opaque.specs.ObjectIdentifier.{octets_of};
+
     ghost cmp = { λ v w. lex (take v.count v.octets) (take w.count w.octets) };
 
-    ghost total = { on_total (λ v. take v.count v.octets) nat_list_cmp_total };
+    ghost total = { on_total octets_of nat_list_cmp_total };
 
     ghost matches_partial_cmp = { λ v w. refl };
 
@@ -167,7 +186,8 @@ impl<const MAX_SIZE: usize> Ord for ObjectIdentifier<MAX_SIZE> {
 impl<const MAX_SIZE: usize> Hash for ObjectIdentifier<MAX_SIZE> {
     ghost hash_input = { λ v. fed.slice fed.u8 (take v.count v.octets) };
 
-    ghost respects_eq = { λ v w e. ap (fed.slice fed.u8) ((bytes_decides (take v.count v.octets) (take w.count w.octets)).0 e) };
+    ghost respects_eq = { λ v w e. ap (fed.slice fed.u8)
+        ((bytes_decides (take v.count v.octets) (take w.count w.octets)).0 e) };
 
     fn hash<H: Hasher>(&self, state: &mut H) {
         self.as_bytes().hash(state);
@@ -179,13 +199,17 @@ impl<const MAX_SIZE: usize> OrdIsValueOrd for ObjectIdentifier<MAX_SIZE> {
 }
 
 impl<const MAX_SIZE: usize> ContentsEq for ObjectIdentifier<MAX_SIZE> {
-    ghost contents_eq = { λ v w one. bytes_decides (take v.count v.octets) (take w.count w.octets) };
+    ghost contents_eq = { λ v w one. bytes_decides (take v.count v.octets)
+        (take w.count w.octets) };
 }
 
 impl<const MAX_SIZE: usize> CopyIsDuplicate for ObjectIdentifier<MAX_SIZE> {}
 
 impl<'a, const MAX_SIZE: usize> From<&'a ObjectIdentifier<MAX_SIZE>> for AnyRef<'a> {
-    ghost from_gives = { λ v a. (⟦<AnyRef<'a> as Tagged>⟧.tag_of a ≡ tags.ObjectIdentifier) × (⟦<AnyRef<'a> as FormValue>⟧.contents a ≡ ⟦<ObjectIdentifier<MAX_SIZE> as FormValue>⟧.contents v.now) };
+    ghost use Rattle.der_opaque.specs.ObjectIdentifier.{octets_of};
+
+    ghost from_gives = { λ v a. (tag_of a ≡ tags.ObjectIdentifier)
+        × (contents_of a ≡ octets_of v.now) };
 
     fn from(identifier: &'a ObjectIdentifier<MAX_SIZE>) -> AnyRef<'a> {
         AnyRef {
@@ -196,9 +220,11 @@ impl<'a, const MAX_SIZE: usize> From<&'a ObjectIdentifier<MAX_SIZE>> for AnyRef<
 }
 
 impl<'a, const MAX_SIZE: usize> TryFrom<AnyRef<'a>> for ObjectIdentifier<MAX_SIZE> {
+    ghost use Rattle.der_opaque.specs.ObjectIdentifier.{DecodesIdentifier};
+
     type Error = Error;
 
-    ghost try_from_gives = { λ a r. FromAny MAX_SIZE ⟦<ObjectIdentifier<MAX_SIZE> as FormValue>⟧.contents (⟦<AnyRef<'a> as Tagged>⟧.tag_of a) (⟦<AnyRef<'a> as FormValue>⟧.contents a) r };
+    ghost try_from_gives = { λ a r. DecodesIdentifier MAX_SIZE (tag_of a) (contents_of a) r };
 
     /// # Errors
     /// (4) with OBJECT IDENTIFIER expected for another tag; (15) for no contents octets; (7) for

@@ -9,6 +9,7 @@ ghost use Rattle.der_tlv.specs.declared.error.ErrorKind.TheVariants as kinds;
 ghost use Rattle.der_tlv.specs.declared.tag.Tag.TheVariants as tags;
 ghost use Rattle.der_elem.specs.OwnContents.{accepts_own};
 ghost use Rattle.der_opaque.specs.Opaque.{parse_octets, KeepsOctets};
+ghost use Rattle.der_opaque.specs.OctetStringRef as borrowed;
 
 use crate::octet_string_ref::OctetStringRef;
 use der_elem::{
@@ -28,12 +29,14 @@ pub struct OctetString {
 }
 
 impl OctetString {
+    ghost use Rattle.der_opaque.specs.OctetString.{octets_of};
+
     /// A string of these octets.
     ///
     /// # Errors
     /// (7) for more than 4294967295 octets.
     pub fn new(octets: Vec<u8>) -> Result<OctetString, Error>
-        ensures { KeepsOctets ⟦<OctetString as FormValue>⟧.contents tags.OctetString octets.items result }
+        ensures { KeepsOctets octets_of tags.OctetString octets.items result }
     {
         match Length::of(octets.len()) {
             Ok(_) => Ok(OctetString { octets }),
@@ -43,35 +46,35 @@ impl OctetString {
 
     /// The octets.
     pub fn as_bytes(&self) -> &[u8]
-        ensures { result.now ≡ ⟦<OctetString as FormValue>⟧.contents self.now }
+        ensures { result.now ≡ octets_of self.now }
     {
         &self.octets
     }
 
     /// The octets, in their vector.
     pub fn into_bytes(self) -> Vec<u8>
-        ensures { result.items ≡ ⟦<OctetString as FormValue>⟧.contents self }
+        ensures { result.items ≡ octets_of self }
     {
         self.octets
     }
 
     /// How many there are.
     pub fn len(&self) -> Length
-        ensures { result ≡ length (⟦<OctetString as FormValue>⟧.contents self.now) }
+        ensures { result ≡ length (octets_of self.now) }
     {
         Length::new(self.octets.len() as u32)
     }
 
     /// Whether there are none.
     pub fn is_empty(&self) -> bool
-        ensures { IsTrue result ↔ (⟦<OctetString as FormValue>⟧.contents self.now ≡ []) }
+        ensures { IsTrue result ↔ (octets_of self.now ≡ []) }
     {
         self.as_bytes().is_empty()
     }
 
     /// The string, borrowed.
     pub fn owned_to_ref(&self) -> OctetStringRef<'_>
-        ensures { ⟦<OctetStringRef<'static> as FormValue>⟧.contents result ≡ ⟦<OctetString as FormValue>⟧.contents self.now }
+        ensures { borrowed.octets_of result ≡ octets_of self.now }
     {
         OctetStringRef {
             octets: self.as_bytes(),
@@ -80,7 +83,9 @@ impl OctetString {
 }
 
 impl Clone for OctetString {
-    ghost is_clone = { λ v w. ⟦<OctetString as FormValue>⟧.contents w ≡ ⟦<OctetString as FormValue>⟧.contents v };
+    ghost use Rattle.der_opaque.specs.OctetString.{octets_of};
+
+    ghost is_clone = { λ v w. octets_of w ≡ octets_of v };
 
     fn clone(&self) -> Result<OctetString, AllocError> {
         let octets = self.octets.clone()?;
@@ -89,9 +94,11 @@ impl Clone for OctetString {
 }
 
 impl FormValue for OctetString {
-    ghost contents = { λ v. v.octets.items };
+    ghost use Rattle.der_opaque.specs.OctetString.{octets_of};
 
-    ghost accepts_value = { accepts_own (λ v. v.octets.items) };
+    ghost contents = { octets_of };
+
+    ghost accepts_value = { accepts_own octets_of };
 
     ghost parse_value = { parse_octets };
 
@@ -167,7 +174,9 @@ impl DuplicateValue for OctetString {
 }
 
 impl<'a> From<&'a OctetString> for OctetStringRef<'a> {
-    ghost from_gives = { λ s r. ⟦<OctetStringRef<'a> as FormValue>⟧.contents r ≡ ⟦<OctetString as FormValue>⟧.contents s.now };
+    ghost use Rattle.der_opaque.specs.OctetString.{octets_of};
+
+    ghost from_gives = { λ s r. borrowed.octets_of r ≡ octets_of s.now };
 
     fn from(string: &'a OctetString) -> OctetStringRef<'a> {
         string.owned_to_ref()
@@ -175,7 +184,9 @@ impl<'a> From<&'a OctetString> for OctetStringRef<'a> {
 }
 
 impl From<OctetString> for Vec<u8> {
-    ghost from_gives = { λ s v. v.items ≡ ⟦<OctetString as FormValue>⟧.contents s };
+    ghost use Rattle.der_opaque.specs.OctetString.{octets_of};
+
+    ghost from_gives = { λ s v. v.items ≡ octets_of s };
 
     fn from(string: OctetString) -> Vec<u8> {
         string.into_bytes()

@@ -13,6 +13,8 @@ ghost use Rattle.der_opaque.specs.DecodingAs.{DecodesAs};
 ghost use Rattle.der_opaque.specs.Opaque.{parse_octets, KeepsOctets};
 ghost use Rattle.der_elem.specs.OwnContents.{accepts_within};
 ghost use Rattle.der_elem.specs.OwnContentsLaws.{parse_of_within, same_length_within, accepts_contents_within, only_within};
+ghost use Rattle.der_opaque.specs.Any as owned_any;
+ghost use Rattle.der_opaque.specs.AnyRef.{tag_of, contents_of};
 
 use crate::any::Any;
 use crate::any_ref::AnyRef;
@@ -34,12 +36,15 @@ pub struct OctetStringRef<'a> {
 }
 
 impl<'a> OctetStringRef<'a> {
+    ghost use Rattle.der_opaque.specs.OctetStringRef.{octets_of};
+    ghost use Rattle.der_opaque.specs.OctetString as owned;
+
     /// A string of these octets.
     ///
     /// # Errors
     /// (7) for more than 4294967295 octets.
     pub fn new(octets: &'a [u8]) -> Result<OctetStringRef<'a>, Error>
-        ensures { KeepsOctets (⟦<OctetStringRef<'a> as FormValue>⟧.contents) tags.OctetString octets.now result }
+        ensures { KeepsOctets octets_of tags.OctetString octets.now result }
     {
         match Length::of(octets.len()) {
             Ok(_) => Ok(OctetStringRef { octets }),
@@ -49,21 +54,21 @@ impl<'a> OctetStringRef<'a> {
 
     /// The octets.
     pub fn as_bytes(self) -> &'a [u8]
-        ensures { result.now ≡ ⟦<OctetStringRef<'a> as FormValue>⟧.contents self.entry }
+        ensures { result.now ≡ octets_of self.entry }
     {
         self.octets
     }
 
     /// How many there are.
     pub fn len(self) -> Length
-        ensures { result ≡ length (⟦<OctetStringRef<'a> as FormValue>⟧.contents self.entry) }
+        ensures { result ≡ length (octets_of self.entry) }
     {
         Length::new(self.octets.len() as u32)
     }
 
     /// Whether there are none.
     pub fn is_empty(self) -> bool
-        ensures { IsTrue result ↔ (⟦<OctetStringRef<'a> as FormValue>⟧.contents self.entry ≡ []) }
+        ensures { IsTrue result ↔ (octets_of self.entry ≡ []) }
     {
         self.as_bytes().is_empty()
     }
@@ -74,7 +79,7 @@ impl<'a> OctetStringRef<'a> {
     /// The first fault of the octets, in reading order; (3) where octets are left over; (1) where
     /// the type takes memory.
     pub fn decode_into<T: FromDer<'a>>(self, alloc: Global) -> Result<T, Error>
-        ensures { ReadsAll T.Form (⟦<OctetStringRef<'a> as FormValue>⟧.contents self.entry) result }
+        ensures { ReadsAll T.Form (octets_of self.entry) result }
     {
         T::from_der(alloc, self.octets)
     }
@@ -84,7 +89,7 @@ impl<'a> OctetStringRef<'a> {
     /// # Errors
     /// (1) where memory runs out.
     pub fn to_vec(self, alloc: Global) -> Result<Vec<u8>, Error>
-        ensures value { IfOk result (λ octets. octets.items ≡ ⟦<OctetStringRef<'a> as FormValue>⟧.contents self.entry) }
+        ensures value { IfOk result (λ octets. octets.items ≡ octets_of self.entry) }
         ensures err { IfErr result (λ e. e.kind ≡ kinds.Memory) }
     {
         Ok(self.octets.to_vec(alloc)?)
@@ -95,7 +100,7 @@ impl<'a> OctetStringRef<'a> {
     /// # Errors
     /// (1) where memory runs out.
     pub fn ref_to_owned(self, alloc: Global) -> Result<OctetString, Error>
-        ensures value { IfOk result (λ s. ⟦<OctetString as FormValue>⟧.contents s ≡ ⟦<OctetStringRef<'a> as FormValue>⟧.contents self.entry) }
+        ensures value { IfOk result (λ s. owned.octets_of s ≡ octets_of self.entry) }
         ensures err { IfErr result (λ e. e.kind ≡ kinds.Memory) }
     {
         let octets = self.to_vec(alloc)?;
@@ -104,19 +109,22 @@ impl<'a> OctetStringRef<'a> {
 }
 
 impl<'a> FormValue for OctetStringRef<'a> {
-    ghost contents = { λ v. v.octets.now };
+    ghost use Rattle.der_opaque.specs.OctetStringRef.{octets_of};
 
-    ghost accepts_value = { accepts_within (λ v. v.octets.now) (λ v. Unit {0}) };
+    ghost contents = { octets_of };
+
+    ghost accepts_value = { accepts_within octets_of (λ v. Unit {0}) };
 
     ghost parse_value = { parse_octets };
 
-    ghost parse_of_accepted_value = { parse_of_within (λ v. v.octets.now) (λ v. Unit {0}) parse_octets (λ rules v p r. refl) };
+    ghost parse_of_accepted_value = { parse_of_within octets_of (λ v. Unit {0}) parse_octets
+        (λ rules v p r. refl) };
 
-    ghost same_length_value = { same_length_within (λ v. v.octets.now) (λ v. Unit {0}) };
+    ghost same_length_value = { same_length_within octets_of (λ v. Unit {0}) };
 
-    ghost accepts_contents = { accepts_contents_within (λ v. v.octets.now) (λ v. Unit {0}) };
+    ghost accepts_contents = { accepts_contents_within octets_of (λ v. Unit {0}) };
 
-    ghost only_readable_value = { only_within (λ v. v.octets.now) (λ v. Unit {0}) };
+    ghost only_readable_value = { only_within octets_of (λ v. Unit {0}) };
 
     ghost accepts_comparable_value = { λ rules v w c d a b. tt };
 
@@ -165,9 +173,11 @@ impl<'a> ContentsEq for OctetStringRef<'a> {
 impl<'a> CopyIsDuplicate for OctetStringRef<'a> {}
 
 impl<'a> TryFrom<&'a [u8]> for OctetStringRef<'a> {
+    ghost use Rattle.der_opaque.specs.OctetStringRef.{octets_of};
+
     type Error = Error;
 
-    ghost try_from_gives = { λ b r. KeepsOctets (⟦<OctetStringRef<'a> as FormValue>⟧.contents) tags.OctetString b.now r };
+    ghost try_from_gives = { λ b r. KeepsOctets octets_of tags.OctetString b.now r };
 
     fn try_from(octets: &'a [u8]) -> Result<OctetStringRef<'a>, Error> {
         OctetStringRef::new(octets)
@@ -175,9 +185,11 @@ impl<'a> TryFrom<&'a [u8]> for OctetStringRef<'a> {
 }
 
 impl<'a> TryFrom<&'a Vec<u8>> for OctetStringRef<'a> {
+    ghost use Rattle.der_opaque.specs.OctetStringRef.{octets_of};
+
     type Error = Error;
 
-    ghost try_from_gives = { λ b r. KeepsOctets (⟦<OctetStringRef<'a> as FormValue>⟧.contents) tags.OctetString b.now.items r };
+    ghost try_from_gives = { λ b r. KeepsOctets octets_of tags.OctetString b.now.items r };
 
     fn try_from(octets: &'a Vec<u8>) -> Result<OctetStringRef<'a>, Error> {
         OctetStringRef::new(octets)
@@ -185,9 +197,11 @@ impl<'a> TryFrom<&'a Vec<u8>> for OctetStringRef<'a> {
 }
 
 impl<'a, const N: usize> TryFrom<&'a [u8; N]> for OctetStringRef<'a> {
+    ghost use Rattle.der_opaque.specs.OctetStringRef.{octets_of};
+
     type Error = Error;
 
-    ghost try_from_gives = { λ b r. KeepsOctets (⟦<OctetStringRef<'a> as FormValue>⟧.contents) tags.OctetString b.now r };
+    ghost try_from_gives = { λ b r. KeepsOctets octets_of tags.OctetString b.now r };
 
     fn try_from(octets: &'a [u8; N]) -> Result<OctetStringRef<'a>, Error> {
         OctetStringRef::new(octets)
@@ -195,7 +209,9 @@ impl<'a, const N: usize> TryFrom<&'a [u8; N]> for OctetStringRef<'a> {
 }
 
 impl<'a> From<OctetStringRef<'a>> for &'a [u8] {
-    ghost from_gives = { λ s b. b.now ≡ ⟦<OctetStringRef<'a> as FormValue>⟧.contents s };
+    ghost use Rattle.der_opaque.specs.OctetStringRef.{octets_of};
+
+    ghost from_gives = { λ s b. b.now ≡ octets_of s };
 
     fn from(string: OctetStringRef<'a>) -> &'a [u8] {
         string.as_bytes()
@@ -203,9 +219,11 @@ impl<'a> From<OctetStringRef<'a>> for &'a [u8] {
 }
 
 impl<'a, 'b> TryFrom<&'b &'a [u8]> for OctetStringRef<'a> {
+    ghost use Rattle.der_opaque.specs.OctetStringRef.{octets_of};
+
     type Error = Error;
 
-    ghost try_from_gives = { λ b r. KeepsOctets (⟦<OctetStringRef<'a> as FormValue>⟧.contents) tags.OctetString b.now.now r };
+    ghost try_from_gives = { λ b r. KeepsOctets octets_of tags.OctetString b.now.now r };
 
     fn try_from(octets: &'b &'a [u8]) -> Result<OctetStringRef<'a>, Error> {
         OctetStringRef::new(*octets)
@@ -213,9 +231,12 @@ impl<'a, 'b> TryFrom<&'b &'a [u8]> for OctetStringRef<'a> {
 }
 
 impl<'a, const N: usize> TryFrom<OctetStringRef<'a>> for [u8; N] {
+    ghost use Rattle.der_opaque.specs.OctetStringRef.{octets_of};
+
     type Error = Error;
 
-    ghost try_from_gives = { λ s r. MatchResult r (λ a. a ≡ ⟦<OctetStringRef<'a> as FormValue>⟧.contents s) (λ e. (e.kind ≡ kinds.Length tags.OctetString) × (length (⟦<OctetStringRef<'a> as FormValue>⟧.contents s) ≢ N)) };
+    ghost try_from_gives = { λ s r. MatchResult r (λ a. a ≡ octets_of s)
+        (λ e. (e.kind ≡ kinds.Length tags.OctetString) × (length (octets_of s) ≢ N)) };
 
     /// # Errors
     /// (7) for another number of octets.
@@ -230,7 +251,9 @@ impl<'a, const N: usize> TryFrom<OctetStringRef<'a>> for [u8; N] {
 }
 
 impl<'a> From<OctetStringRef<'a>> for AnyRef<'a> {
-    ghost from_gives = { λ s a. (⟦<AnyRef<'a> as Tagged>⟧.tag_of a ≡ tags.OctetString) × (⟦<AnyRef<'a> as FormValue>⟧.contents a ≡ ⟦<OctetStringRef<'a> as FormValue>⟧.contents s) };
+    ghost use Rattle.der_opaque.specs.OctetStringRef.{octets_of};
+
+    ghost from_gives = { λ s a. (tag_of a ≡ tags.OctetString) × (contents_of a ≡ octets_of s) };
 
     fn from(string: OctetStringRef<'a>) -> AnyRef<'a> {
         AnyRef {
@@ -241,9 +264,11 @@ impl<'a> From<OctetStringRef<'a>> for AnyRef<'a> {
 }
 
 impl<'a> TryFrom<AnyRef<'a>> for OctetStringRef<'a> {
+    ghost use Rattle.der_opaque.specs.OctetStringRef.{DecodesOctetString};
+
     type Error = Error;
 
-    ghost try_from_gives = { λ a r. DecodesAs ⟦<OctetStringRef<'a> as Form>⟧ ⟦<OctetStringRef<'a> as FormValue>⟧ Der (⟦<AnyRef<'a> as Tagged>⟧.tag_of a) (⟦<AnyRef<'a> as FormValue>⟧.contents a) r };
+    ghost try_from_gives = { λ a r. DecodesOctetString (tag_of a) (contents_of a) r };
 
     /// # Errors
     /// (4) with no expected tag for another tag.
@@ -256,9 +281,12 @@ impl<'a> TryFrom<AnyRef<'a>> for OctetStringRef<'a> {
 }
 
 impl<'a> TryFrom<&'a Any> for OctetStringRef<'a> {
+    ghost use Rattle.der_opaque.specs.OctetStringRef.{DecodesOctetString};
+
     type Error = Error;
 
-    ghost try_from_gives = { λ a r. DecodesAs ⟦<OctetStringRef<'a> as Form>⟧ ⟦<OctetStringRef<'a> as FormValue>⟧ Der (⟦<Any as Tagged>⟧.tag_of a.now) (⟦<Any as FormValue>⟧.contents a.now) r };
+    ghost try_from_gives = { λ a r. DecodesOctetString (owned_any.tag_of a.now)
+        (owned_any.contents_of a.now) r };
 
     /// # Errors
     /// (4) with no expected tag for another tag.

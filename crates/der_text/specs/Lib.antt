@@ -1,7 +1,12 @@
 pub mod BmpUnits
 pub mod Utf8Octets
+pub mod Utf8StringRef
+pub mod GeneralStringRef
+pub mod BmpString
 pub use Rattle.der_elem.specs.OwnContents
 pub use Rattle.der_elem.specs.Utf8String
+pub use Rattle.der_opaque.specs.Any
+pub use Rattle.der_opaque.specs.AnyRef
 pub use Rattle.der_opaque.specs.DecodingAs
 pub use Rattle.der_opaque.specs.Opaque
 pub use Rattle.der_tlv.specs.declared.encoding_rules.EncodingRules

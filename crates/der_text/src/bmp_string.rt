@@ -34,13 +34,15 @@ pub struct BmpString {
 }
 
 impl BmpString {
+    ghost use Rattle.der_text.specs.BmpString.{octets_of};
+
     /// The string whose units these octets are, high octet first.
     ///
     /// # Errors
     /// (7) for an odd number of octets; (13) for a unit from D800 to DFFF; (9) for more than
     /// 4294967295 octets.
     pub fn from_ucs2(octets: Vec<u8>) -> Result<BmpString, Error>
-        ensures { KeepsUnits ⟦<BmpString as FormValue>⟧.contents octets.items result }
+        ensures { KeepsUnits octets_of octets.items result }
     {
         match check_units(&octets) {
             Ok(()) => match Length::of(octets.len()) {
@@ -57,7 +59,7 @@ impl BmpString {
     /// (1) where memory runs out; (13) for a character past U+FFFF; (9) for more than 4294967295
     /// octets.
     pub fn from_utf8(alloc: Global, text: &str) -> Result<BmpString, Error>
-        ensures { KeepsCharacters ⟦<BmpString as FormValue>⟧.contents text.now result }
+        ensures { KeepsCharacters octets_of text.now result }
     {
         let octets = octets_of(alloc, text)?;
         match Length::of(octets.len()) {
@@ -68,28 +70,28 @@ impl BmpString {
 
     /// The octets of the units, high octet first.
     pub fn as_bytes(&self) -> &[u8]
-        ensures { result.now ≡ ⟦<BmpString as FormValue>⟧.contents self.now }
+        ensures { result.now ≡ octets_of self.now }
     {
         &self.octets
     }
 
     /// The octets, in their vector.
     pub fn into_bytes(self) -> Vec<u8>
-        ensures { result.items ≡ ⟦<BmpString as FormValue>⟧.contents self }
+        ensures { result.items ≡ octets_of self }
     {
         self.octets
     }
 
     /// The units of 16 bits, in order.
     pub fn codepoints(&self) -> BmpCodepoints<'_>
-        ensures { result ≡ units (⟦<BmpString as FormValue>⟧.contents self.now) }
+        ensures { result ≡ units (octets_of self.now) }
     {
         BmpCodepoints::new(&self.octets)
     }
 
     /// The characters, in order.
     pub fn chars(&self) -> BmpChars<'_>
-        ensures { result ≡ units (⟦<BmpString as FormValue>⟧.contents self.now) }
+        ensures { result ≡ units (octets_of self.now) }
     {
         BmpChars::new(self.codepoints())
     }
@@ -99,7 +101,7 @@ impl BmpString {
     /// # Errors
     /// (1) where memory runs out.
     pub fn clone_from_ref(&self, alloc: Global) -> Result<BmpString, Error>
-        ensures value { IfOk result (λ s. ⟦<BmpString as FormValue>⟧.contents s ≡ ⟦<BmpString as FormValue>⟧.contents self.now) }
+        ensures value { IfOk result (λ s. octets_of s ≡ octets_of self.now) }
         ensures err { IfErr result (λ e. e.kind ≡ kinds.Memory) }
     {
         let octets = self.octets.to_vec(alloc)?;
@@ -108,7 +110,9 @@ impl BmpString {
 }
 
 impl fmt::Display for BmpString {
-    ghost output = { λ s. Some (encode_utf8_all (units (⟦<BmpString as FormValue>⟧.contents s))) };
+    ghost use Rattle.der_text.specs.BmpString.{octets_of};
+
+    ghost output = { λ s. Some (encode_utf8_all (units (octets_of s))) };
 
     fn fmt<W: fmt::Write>(&self, f: &mut fmt::Formatter<W>) -> fmt::Result {
         let mut rest = self.chars();
@@ -126,7 +130,9 @@ impl fmt::Debug for BmpString {
 }
 
 impl Clone for BmpString {
-    ghost is_clone = { λ v w. ⟦<BmpString as FormValue>⟧.contents w ≡ ⟦<BmpString as FormValue>⟧.contents v };
+    ghost use Rattle.der_text.specs.BmpString.{octets_of};
+
+    ghost is_clone = { λ v w. octets_of w ≡ octets_of v };
 
     fn clone(&self) -> Result<BmpString, AllocError> {
         let octets = self.octets.clone()?;
@@ -135,15 +141,18 @@ impl Clone for BmpString {
 }
 
 impl FormValue for BmpString {
-    ghost contents = { λ v. v.octets.items };
+    ghost use Rattle.der_text.specs.BmpString.{octets_of};
 
-    ghost accepts_value = { accepts_own (λ v. v.octets.items) };
+    ghost contents = { octets_of };
+
+    ghost accepts_value = { accepts_own octets_of };
 
     ghost parse_value = { parse_bmp };
 
     ghost VALUE_TAKES_MEMORY = { true };
 
-    ghost parse_of_accepted_value = { λ rules v p c a fits. parse_of_units rules p v.octets.items c v.even v.characters a };
+    ghost parse_of_accepted_value = { λ rules v p c a fits.
+        parse_of_units rules p v.octets.items c v.even v.characters a };
 
     ghost same_length_value = { λ rules v c a. ap length (sym a) };
 

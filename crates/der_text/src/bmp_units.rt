@@ -27,8 +27,12 @@ pub fn are_characters(octets: &[u8]) -> bool
 /// # Errors
 /// (7) for an odd number of octets; (13) for a unit from D800 to DFFF.
 pub fn check_units(octets: &[u8]) -> Result<(), ErrorKind>
-    ensures good { IfOk result (λ _. (length octets.now % 2 ≡ 0) × (are_characters octets.now ≡ true)) }
-    ensures refused { IfErr result (λ kind. ((kind ≡ kinds.Length tags.BmpString) × (length octets.now % 2 ≡ 1)) ⊎ ((kind ≡ kinds.Value tags.BmpString) × (length octets.now % 2 ≡ 0) × (are_characters octets.now ≡ false))) }
+    ensures good { IfOk result (λ _. (length octets.now % 2 ≡ 0)
+        × (are_characters octets.now ≡ true)) }
+    ensures refused { IfErr result (λ kind.
+        ((kind ≡ kinds.Length tags.BmpString) × (length octets.now % 2 ≡ 1))
+        ⊎ ((kind ≡ kinds.Value tags.BmpString) × (length octets.now % 2 ≡ 0)
+        × (are_characters octets.now ≡ false))) }
 {
     if octets.len() % 2 != 0 {
         return Err(Tag::BmpString.length_error());
@@ -41,7 +45,8 @@ pub fn check_units(octets: &[u8]) -> Result<(), ErrorKind>
 
 // Appends the two octets of a unit.
 fn push_unit(octets: &mut Vec<u8>, unit: u16) -> Result<(), Error>
-    ensures pushed { IfOk result (λ _. octets.new.items ≡ octets.old.items ++ (unit / 256) ∷ (unit % 256) ∷ []) }
+    ensures pushed { IfOk result (λ _. octets.new.items
+        ≡ octets.old.items ++ (unit / 256) ∷ (unit % 256) ∷ []) }
     ensures refused { IfErr result (λ e. e.kind ≡ kinds.Memory) }
 {
     octets.extend_from_slice(&[(unit / 256) as u8, (unit % 256) as u8])?;
@@ -59,7 +64,8 @@ pub fn octets_of(alloc: Global, text: &str) -> Result<Vec<u8>, Error>
     ensures basic { IfOk result (λ octets. is_basic text.now ≡ true) }
     ensures characters { IfOk result (λ octets. are_characters octets.items ≡ true) }
     ensures len { IfOk result (λ octets. length octets.items ≡ 2 * length (chars text.now)) }
-    ensures refused { IfErr result (λ e. (e.kind ≡ kinds.Memory) ⊎ ((e.kind ≡ kinds.Value tags.BmpString) × (is_basic text.now ≡ false))) }
+    ensures refused { IfErr result (λ e. (e.kind ≡ kinds.Memory)
+        ⊎ ((e.kind ≡ kinds.Value tags.BmpString) × (is_basic text.now ≡ false))) }
 {
     let mut octets = Vec::new(alloc);
     let mut rest = text.chars();

@@ -27,28 +27,33 @@ pub struct GeneralStringRef<'a> {
 }
 
 impl<'a> GeneralStringRef<'a> {
+    ghost use Rattle.der_text.specs.GeneralStringRef.{octets_of};
+
     /// The octets.
     pub fn as_bytes(self) -> &'a [u8]
-        ensures { result.now ≡ ⟦<GeneralStringRef<'a> as FormValue>⟧.contents self.entry }
+        ensures { result.now ≡ octets_of self.entry }
     {
         self.octets
     }
 }
 
 impl<'a> FormValue for GeneralStringRef<'a> {
-    ghost contents = { λ v. v.octets.now };
+    ghost use Rattle.der_text.specs.GeneralStringRef.{octets_of};
 
-    ghost accepts_value = { accepts_within (λ v. v.octets.now) (λ v. Unit {0}) };
+    ghost contents = { octets_of };
+
+    ghost accepts_value = { accepts_within octets_of (λ v. Unit {0}) };
 
     ghost parse_value = { parse_octets };
 
-    ghost parse_of_accepted_value = { parse_of_within (λ v. v.octets.now) (λ v. Unit {0}) parse_octets (λ rules v p r. refl) };
+    ghost parse_of_accepted_value = { parse_of_within octets_of (λ v. Unit {0}) parse_octets
+        (λ rules v p r. refl) };
 
-    ghost same_length_value = { same_length_within (λ v. v.octets.now) (λ v. Unit {0}) };
+    ghost same_length_value = { same_length_within octets_of (λ v. Unit {0}) };
 
-    ghost accepts_contents = { accepts_contents_within (λ v. v.octets.now) (λ v. Unit {0}) };
+    ghost accepts_contents = { accepts_contents_within octets_of (λ v. Unit {0}) };
 
-    ghost only_readable_value = { only_within (λ v. v.octets.now) (λ v. Unit {0}) };
+    ghost only_readable_value = { only_within octets_of (λ v. Unit {0}) };
 
     ghost accepts_comparable_value = { λ rules v w c d a b. tt };
 

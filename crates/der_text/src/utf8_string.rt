@@ -15,6 +15,8 @@ ghost use Rattle.der_elem.specs.Utf8String.{parse_utf8, parse_of_utf8};
 ghost use Rattle.der_text.specs.Utf8Octets.{KeepsUtf8, KeepsText};
 ghost use Rattle.der_elem.specs.OwnContents.{accepts_within};
 ghost use Rattle.der_elem.specs.OwnContentsLaws.{parse_of_within, same_length_within, accepts_contents_within, only_within};
+ghost use Rattle.der_opaque.specs.Any as owned_any;
+ghost use Rattle.der_opaque.specs.AnyRef as borrowed_any;
 
 use der_elem::{
     ContentsEq, CopyIsDuplicate, DecodeValue, EncodeValue, Form, FormValue, OneTag, OrdIsValueOrd,
@@ -34,12 +36,14 @@ pub struct Utf8StringRef<'a> {
 }
 
 impl<'a> Utf8StringRef<'a> {
+    ghost use Rattle.der_text.specs.Utf8StringRef.{octets_of};
+
     /// The text that these octets are.
     ///
     /// # Errors
     /// (12) for octets that are not UTF-8; (9) for more than 4294967295 octets.
     pub fn new(octets: &'a [u8]) -> Result<Utf8StringRef<'a>, Error>
-        ensures { KeepsUtf8 ⟦<Utf8StringRef<'a> as FormValue>⟧.contents octets.now result }
+        ensures { KeepsUtf8 octets_of octets.now result }
     {
         match text_of(octets) {
             Ok(text) => match Length::of(octets.len()) {
@@ -52,28 +56,28 @@ impl<'a> Utf8StringRef<'a> {
 
     /// The text.
     pub fn as_str(self) -> &'a str
-        ensures { result.now ≡ ⟦<Utf8StringRef<'a> as FormValue>⟧.contents self.entry }
+        ensures { result.now ≡ octets_of self.entry }
     {
         self.text
     }
 
     /// The octets.
     pub fn as_bytes(self) -> &'a [u8]
-        ensures { result.now ≡ ⟦<Utf8StringRef<'a> as FormValue>⟧.contents self.entry }
+        ensures { result.now ≡ octets_of self.entry }
     {
         self.text.as_bytes()
     }
 
     /// How many octets there are.
     pub fn len(self) -> Length
-        ensures { result ≡ length (⟦<Utf8StringRef<'a> as FormValue>⟧.contents self.entry) }
+        ensures { result ≡ length (octets_of self.entry) }
     {
         Length::new(self.text.len() as u32)
     }
 
     /// Whether there are none.
     pub fn is_empty(self) -> bool
-        ensures { IsTrue result ↔ (⟦<Utf8StringRef<'a> as FormValue>⟧.contents self.entry ≡ []) }
+        ensures { IsTrue result ↔ (octets_of self.entry ≡ []) }
     {
         self.as_bytes().is_empty()
     }
@@ -83,7 +87,7 @@ impl<'a> Utf8StringRef<'a> {
     /// # Errors
     /// (1) where memory runs out.
     pub fn ref_to_owned(self, alloc: Global) -> Result<String, Error>
-        ensures value { IfOk result (λ s. string_bytes s ≡ ⟦<Utf8StringRef<'a> as FormValue>⟧.contents self.entry) }
+        ensures value { IfOk result (λ s. string_bytes s ≡ octets_of self.entry) }
         ensures err { IfErr result (λ e. e.kind ≡ kinds.Memory) }
     {
         Ok(String::from_str(alloc, self.text)?)
@@ -91,7 +95,9 @@ impl<'a> Utf8StringRef<'a> {
 }
 
 impl<'a> fmt::Display for Utf8StringRef<'a> {
-    ghost output = { λ s. Some (⟦<Utf8StringRef<'a> as FormValue>⟧.contents s) };
+    ghost use Rattle.der_text.specs.Utf8StringRef.{octets_of};
+
+    ghost output = { λ s. Some (octets_of s) };
 
     fn fmt<W: fmt::Write>(&self, f: &mut fmt::Formatter<W>) -> fmt::Result {
         f.write_str(self.text)
@@ -105,19 +111,22 @@ impl<'a> fmt::Debug for Utf8StringRef<'a> {
 }
 
 impl<'a> FormValue for Utf8StringRef<'a> {
-    ghost contents = { λ v. v.text.now };
+    ghost use Rattle.der_text.specs.Utf8StringRef.{octets_of};
 
-    ghost accepts_value = { accepts_within (λ v. v.text.now) (λ v. Unit {0}) };
+    ghost contents = { octets_of };
+
+    ghost accepts_value = { accepts_within octets_of (λ v. Unit {0}) };
 
     ghost parse_value = { parse_utf8 };
 
-    ghost parse_of_accepted_value = { parse_of_within (λ v. v.text.now) (λ v. Unit {0}) parse_utf8 (λ rules v p r. parse_of_utf8 rules p v.text.now v.text.now v.utf8 refl) };
+    ghost parse_of_accepted_value = { parse_of_within octets_of (λ v. Unit {0}) parse_utf8
+        (λ rules v p r. parse_of_utf8 rules p v.text.now v.text.now v.utf8 refl) };
 
-    ghost same_length_value = { same_length_within (λ v. v.text.now) (λ v. Unit {0}) };
+    ghost same_length_value = { same_length_within octets_of (λ v. Unit {0}) };
 
-    ghost accepts_contents = { accepts_contents_within (λ v. v.text.now) (λ v. Unit {0}) };
+    ghost accepts_contents = { accepts_contents_within octets_of (λ v. Unit {0}) };
 
-    ghost only_readable_value = { only_within (λ v. v.text.now) (λ v. Unit {0}) };
+    ghost only_readable_value = { only_within octets_of (λ v. Unit {0}) };
 
     ghost accepts_comparable_value = { λ rules v w c d a b. tt };
 
@@ -169,7 +178,9 @@ impl<'a> ContentsEq for Utf8StringRef<'a> {
 impl<'a> CopyIsDuplicate for Utf8StringRef<'a> {}
 
 impl<'a> From<&Utf8StringRef<'a>> for Utf8StringRef<'a> {
-    ghost from_gives = { λ s r. ⟦<Utf8StringRef<'a> as FormValue>⟧.contents r ≡ ⟦<Utf8StringRef<'a> as FormValue>⟧.contents s.now };
+    ghost use Rattle.der_text.specs.Utf8StringRef.{octets_of};
+
+    ghost from_gives = { λ s r. octets_of r ≡ octets_of s.now };
 
     fn from(string: &Utf8StringRef<'a>) -> Utf8StringRef<'a> {
         *string
@@ -177,7 +188,10 @@ impl<'a> From<&Utf8StringRef<'a>> for Utf8StringRef<'a> {
 }
 
 impl<'a> From<Utf8StringRef<'a>> for AnyRef<'a> {
-    ghost from_gives = { λ s a. (⟦<AnyRef<'a> as Tagged>⟧.tag_of a ≡ tags.Utf8String) × (⟦<AnyRef<'a> as FormValue>⟧.contents a ≡ ⟦<Utf8StringRef<'a> as FormValue>⟧.contents s) };
+    ghost use Rattle.der_text.specs.Utf8StringRef.{octets_of};
+
+    ghost from_gives = { λ s a. (borrowed_any.tag_of a ≡ tags.Utf8String)
+        × (borrowed_any.contents_of a ≡ octets_of s) };
 
     fn from(string: Utf8StringRef<'a>) -> AnyRef<'a> {
         match AnyRef::new(Tag::Utf8String, string.as_bytes()) {
@@ -188,9 +202,11 @@ impl<'a> From<Utf8StringRef<'a>> for AnyRef<'a> {
 }
 
 impl<'a> TryFrom<&'a str> for Utf8StringRef<'a> {
+    ghost use Rattle.der_text.specs.Utf8StringRef.{octets_of};
+
     type Error = Error;
 
-    ghost try_from_gives = { λ s r. KeepsText ⟦<Utf8StringRef<'a> as FormValue>⟧.contents s.now r };
+    ghost try_from_gives = { λ s r. KeepsText octets_of s.now r };
 
     /// # Errors
     /// (9) for more than 4294967295 octets.
@@ -204,9 +220,11 @@ impl<'a> TryFrom<&'a str> for Utf8StringRef<'a> {
 }
 
 impl<'a> TryFrom<&'a String> for Utf8StringRef<'a> {
+    ghost use Rattle.der_text.specs.Utf8StringRef.{octets_of};
+
     type Error = Error;
 
-    ghost try_from_gives = { λ s r. KeepsText ⟦<Utf8StringRef<'a> as FormValue>⟧.contents (string_bytes s.now) r };
+    ghost try_from_gives = { λ s r. KeepsText octets_of (string_bytes s.now) r };
 
     /// # Errors
     /// (9) for more than 4294967295 octets.
@@ -216,9 +234,12 @@ impl<'a> TryFrom<&'a String> for Utf8StringRef<'a> {
 }
 
 impl<'a> TryFrom<AnyRef<'a>> for Utf8StringRef<'a> {
+    ghost use Rattle.der_text.specs.Utf8StringRef.{DecodesText};
+
     type Error = Error;
 
-    ghost try_from_gives = { λ a r. DecodesAs ⟦<Utf8StringRef<'a> as Form>⟧ ⟦<Utf8StringRef<'a> as FormValue>⟧ Der (⟦<AnyRef<'a> as Tagged>⟧.tag_of a) (⟦<AnyRef<'a> as FormValue>⟧.contents a) r };
+    ghost try_from_gives = { λ a r. DecodesText (borrowed_any.tag_of a)
+        (borrowed_any.contents_of a) r };
 
     /// # Errors
     /// (4) with no expected tag for another tag; (12) for octets that are not UTF-8.
@@ -235,9 +256,12 @@ impl<'a> TryFrom<AnyRef<'a>> for Utf8StringRef<'a> {
 }
 
 impl<'a> TryFrom<&'a Any> for Utf8StringRef<'a> {
+    ghost use Rattle.der_text.specs.Utf8StringRef.{DecodesText};
+
     type Error = Error;
 
-    ghost try_from_gives = { λ a r. DecodesAs ⟦<Utf8StringRef<'a> as Form>⟧ ⟦<Utf8StringRef<'a> as FormValue>⟧ Der (⟦<Any as Tagged>⟧.tag_of a.now) (⟦<Any as FormValue>⟧.contents a.now) r };
+    ghost try_from_gives = { λ a r. DecodesText (owned_any.tag_of a.now)
+        (owned_any.contents_of a.now) r };
 
     /// # Errors
     /// (4) with no expected tag for another tag; (12) for octets that are not UTF-8.

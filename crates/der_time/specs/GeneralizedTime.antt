@@ -1,8 +1,17 @@
--- What contracts see of a GeneralizedTime.
-use Rattle.std.specs.Prelude.{ℕ, List}
+-- What contracts see of a GeneralizedTime, and what octets are read as one.
+use Rattle.std.specs.Prelude.{ℕ, List, Result}
+use Rattle.der_tlv.specs.declared.error.Error.{Error}
+use Rattle.der_tlv.specs.declared.tag.Tag.{Tag}
+use Rattle.der_tlv.specs.declared.tag.Tag.TheVariants as tags
+use Rattle.der_opaque.specs.DecodingAs.{DecodesOwnAs}
 use Rattle.der_time.specs.declared.generalized_time.GeneralizedTime.{GeneralizedTime}
 use Rattle.der_time.specs.DateTime.{time_contents}
+use Rattle.der_time.specs.Reading.{parse_generalized}
 
 -- its contents octets
 abbrev pub generalized_time_contents : GeneralizedTime → List ℕ
 generalized_time_contents t = time_contents t.date_time
+
+-- what decoding contents octets behind a tag as a GeneralizedTime answers
+abbrev pub DecodesGeneralizedTime : Tag → List ℕ → Result GeneralizedTime Error → Type 0
+DecodesGeneralizedTime = DecodesOwnAs tags.GeneralizedTime generalized_time_contents (λ time. Unit {0}) parse_generalized

@@ -9,6 +9,8 @@ pub mod UtcTime
 pub mod UtcTimeLaws
 pub mod UnixTime
 pub mod UnixTimeLaws
+pub use Rattle.der_opaque.specs.Any
+pub use Rattle.der_opaque.specs.AnyRef
 pub use Rattle.der_opaque.specs.DecodingAs
 pub use Rattle.der_tlv.specs.declared.encoding_rules.EncodingRules
 pub use Rattle.der_tlv.specs.declared.error.ErrorKind

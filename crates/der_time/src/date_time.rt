@@ -84,7 +84,14 @@ impl DateTime {
         minutes: u8,
         seconds: u8,
     ) -> Result<DateTime, Error>
-        ensures { TakesFields (record { year = year; month = month; day = day; hour = hour; minutes = minutes; seconds = seconds }) result }
+        ensures { TakesFields (record {
+          year = year;
+          month = month;
+          day = day;
+          hour = hour;
+          minutes = minutes;
+          seconds = seconds;
+        }) result }
     {
         let fields = Fields {
             year,
@@ -313,7 +320,8 @@ impl FormValue for DateTime {
 
     ghost parse_value = { parse_generalized };
 
-    ghost parse_of_accepted_value = { parse_of_within time_contents (λ v. Unit {0}) parse_generalized (λ rules v p r. generalized_of v) };
+    ghost parse_of_accepted_value = { parse_of_within time_contents
+        (λ v. Unit {0}) parse_generalized (λ rules v p r. generalized_of v) };
 
     ghost same_length_value = { same_length_within time_contents (λ v. Unit {0}) };
 

@@ -9,12 +9,14 @@ ghost use Rattle.der_tlv.specs.declared.tag.Tag.TheVariants as tags;
 ghost use Rattle.der_tlv.specs.declared.encoding_rules.EncodingRules.TheVariants.{Der};
 ghost use Rattle.der_opaque.specs.DecodingAs.{DecodesAs};
 ghost use Rattle.der_time.specs.Reading.{parse_generalized};
-ghost use Rattle.der_time.specs.GeneralizedTime.{generalized_time_contents};
+ghost use Rattle.der_time.specs.GeneralizedTime.{generalized_time_contents, DecodesGeneralizedTime};
 ghost use Rattle.der_time.specs.UnixTime.{unix_seconds, LastsSeconds, IsTimeAfter};
 ghost use Rattle.der_time.specs.TimeLaws.{generalized_of};
 ghost use Rattle.der_time.specs.TimeOrder.{ord_is_contents_ord, eq_is_contents_eq};
 ghost use Rattle.der_elem.specs.OwnContents.{accepts_within};
 ghost use Rattle.der_elem.specs.OwnContentsLaws.{parse_of_within, same_length_within, accepts_contents_within, only_within};
+ghost use Rattle.der_opaque.specs.Any as owned_any;
+ghost use Rattle.der_opaque.specs.AnyRef as borrowed_any;
 
 use crate::date_time::DateTime;
 use der_elem::{
@@ -60,7 +62,8 @@ impl GeneralizedTime {
     /// # Errors
     /// (13) for more than 253402300799 seconds, also by less than a second.
     pub fn from_unix_duration(unix_duration: Duration) -> Result<GeneralizedTime, Error>
-        ensures { IsTimeAfter (λ t. t.date_time) (kinds.Value tags.GeneralizedTime) unix_duration result }
+        ensures { IsTimeAfter (λ t. t.date_time) (kinds.Value tags.GeneralizedTime)
+            unix_duration result }
     {
         match DateTime::from_unix_duration(unix_duration) {
             Ok(date_time) => Ok(GeneralizedTime { date_time }),
@@ -83,7 +86,8 @@ impl FormValue for GeneralizedTime {
 
     ghost parse_value = { parse_generalized };
 
-    ghost parse_of_accepted_value = { parse_of_within generalized_time_contents (λ v. Unit {0}) parse_generalized (λ rules v p r. generalized_of v.date_time) };
+    ghost parse_of_accepted_value = { parse_of_within generalized_time_contents
+        (λ v. Unit {0}) parse_generalized (λ rules v p r. generalized_of v.date_time) };
 
     ghost same_length_value = { same_length_within generalized_time_contents (λ v. Unit {0}) };
 
@@ -186,7 +190,8 @@ impl From<&GeneralizedTime> for DateTime {
 impl<'a> TryFrom<AnyRef<'a>> for GeneralizedTime {
     type Error = Error;
 
-    ghost try_from_gives = { λ a r. DecodesAs ⟦<GeneralizedTime as Form>⟧ ⟦<GeneralizedTime as FormValue>⟧ Der (⟦<AnyRef<'a> as Tagged>⟧.tag_of a) (⟦<AnyRef<'a> as FormValue>⟧.contents a) r };
+    ghost try_from_gives = { λ a r. DecodesGeneralizedTime (borrowed_any.tag_of a)
+        (borrowed_any.contents_of a) r };
 
     /// # Errors
     /// (4) with no expected tag for another tag; (14) or (13) for octets that are no time.
@@ -204,7 +209,8 @@ impl<'a> TryFrom<AnyRef<'a>> for GeneralizedTime {
 impl<'a> TryFrom<&'a Any> for GeneralizedTime {
     type Error = Error;
 
-    ghost try_from_gives = { λ a r. DecodesAs ⟦<GeneralizedTime as Form>⟧ ⟦<GeneralizedTime as FormValue>⟧ Der (⟦<Any as Tagged>⟧.tag_of a.now) (⟦<Any as FormValue>⟧.contents a.now) r };
+    ghost try_from_gives = { λ a r. DecodesGeneralizedTime (owned_any.tag_of a.now)
+        (owned_any.contents_of a.now) r };
 
     /// # Errors
     /// (4) with no expected tag for another tag; (14) or (13) for octets that are no time.

@@ -57,7 +57,8 @@ pub fn from_own_duration(time: &DateTime) -> Result<DateTime, Error>
 /// The number of days from 1970-01-01 to the date of a time: that of the calendar, which has a sign.
 pub fn days_since_1970(time: &DateTime) -> u64
     ensures number { result ≡ day_number time.now }
-    ensures calendar { pos result ≡ days_from_civil (pos time.now.year) time.now.month time.now.day }
+    ensures calendar { pos result ≡ days_from_civil (pos time.now.year)
+        time.now.month time.now.day }
 {
     time.unix_duration().as_secs() / 86400
 }

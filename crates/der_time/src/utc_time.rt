@@ -9,6 +9,8 @@ ghost use Rattle.der_tlv.specs.declared.encoding_rules.EncodingRules.TheVariants
 ghost use Rattle.der_opaque.specs.DecodingAs.{DecodesAs};
 ghost use Rattle.der_elem.specs.OwnContents.{accepts_within};
 ghost use Rattle.der_elem.specs.OwnContentsLaws.{parse_of_within, same_length_within, accepts_contents_within, only_within};
+ghost use Rattle.der_opaque.specs.Any as owned_any;
+ghost use Rattle.der_opaque.specs.AnyRef as borrowed_any;
 
 use crate::date_time::DateTime;
 use crate::digits::two_digits;
@@ -134,7 +136,8 @@ impl FormValue for UtcTime {
 
     ghost parse_value = { parse_utc };
 
-    ghost parse_of_accepted_value = { parse_of_within utc_time_contents (λ v. Unit {0}) parse_utc (λ rules v p r. utc_time_of v) };
+    ghost parse_of_accepted_value = { parse_of_within utc_time_contents (λ v. Unit {0}) parse_utc
+        (λ rules v p r. utc_time_of v) };
 
     ghost same_length_value = { same_length_within utc_time_contents (λ v. Unit {0}) };
 
@@ -252,9 +255,12 @@ impl From<&UtcTime> for DateTime {
 }
 
 impl<'a> TryFrom<AnyRef<'a>> for UtcTime {
+    ghost use Rattle.der_time.specs.UtcTime.{DecodesUtcTime};
+
     type Error = Error;
 
-    ghost try_from_gives = { λ a r. DecodesAs ⟦<UtcTime as Form>⟧ ⟦<UtcTime as FormValue>⟧ Der (⟦<AnyRef<'a> as Tagged>⟧.tag_of a) (⟦<AnyRef<'a> as FormValue>⟧.contents a) r };
+    ghost try_from_gives = { λ a r. DecodesUtcTime (borrowed_any.tag_of a)
+        (borrowed_any.contents_of a) r };
 
     /// # Errors
     /// (4) with no expected tag for another tag; (13) for octets that are no time.
@@ -270,9 +276,12 @@ impl<'a> TryFrom<AnyRef<'a>> for UtcTime {
 }
 
 impl<'a> TryFrom<&'a Any> for UtcTime {
+    ghost use Rattle.der_time.specs.UtcTime.{DecodesUtcTime};
+
     type Error = Error;
 
-    ghost try_from_gives = { λ a r. DecodesAs ⟦<UtcTime as Form>⟧ ⟦<UtcTime as FormValue>⟧ Der (⟦<Any as Tagged>⟧.tag_of a.now) (⟦<Any as FormValue>⟧.contents a.now) r };
+    ghost try_from_gives = { λ a r. DecodesUtcTime (owned_any.tag_of a.now)
+        (owned_any.contents_of a.now) r };
 
     /// # Errors
     /// (4) with no expected tag for another tag; (13) for octets that are no time.

@@ -1,0 +1,14 @@
+-- What an ObjectIdentifier shows, and what octets are read as one.
+use Rattle.std.specs.Prelude.{ℕ, List, take, Result}
+use Rattle.der_tlv.specs.declared.error.Error.{Error}
+use Rattle.der_tlv.specs.declared.tag.Tag.{Tag}
+use Rattle.der_opaque.specs.declared.object_identifier.ObjectIdentifier.{ObjectIdentifier}
+use Rattle.der_opaque.specs.ObjectIdentifierOctets.{FromAny}
+
+-- the contents octets
+abbrev pub octets_of : {max : ℕ} → ObjectIdentifier max → List ℕ
+octets_of identifier = take identifier.count identifier.octets
+
+-- what decoding contents octets behind a tag as an OBJECT IDENTIFIER of at most so many octets answers
+abbrev pub DecodesIdentifier : (max : ℕ) → Tag → List ℕ → Result (ObjectIdentifier max) Error → Type 0
+DecodesIdentifier max = FromAny max octets_of

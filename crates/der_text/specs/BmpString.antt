@@ -1,0 +1,7 @@
+-- What a BmpString shows.
+use Rattle.std.specs.Prelude.{ℕ, List}
+use Rattle.der_text.specs.declared.bmp_string.BmpString.{BmpString}
+
+-- the octets of the units, two each, the high one first
+abbrev pub octets_of : BmpString → List ℕ
+octets_of string = string.octets.items
