@@ -1,6 +1,7 @@
 -- The contents octets of BOOLEAN, and what octets are read as (X.690 8.2, 11.1).
-use Rattle.std.proofs.Common.{◌≡◌, ℕ, List, [], ◌∷◌, Bool, true, false, ◌||◌, ◌==◌, if◌then◌else◌, Ok, Err, refl}
+use Rattle.std.proofs.Common.{◌≡◌, ℕ, List, [], ◌∷◌, Bool, true, false, ◌||◌, ◌==◌, if◌then◌else◌, Result, Ok, Err, refl}
 use Rattle.std.specs.Ordering.{bool_cmp}
+use Rattle.der_tlv.specs.declared.error.ErrorKind.{ErrorKind}
 use Rattle.der_tlv.specs.declared.error.ErrorKind.TheVariants as kinds
 use Rattle.der_tlv.specs.declared.tag.Tag.TheVariants.{Boolean}
 use Rattle.der_tlv.specs.declared.encoding_rules.EncodingRules.{EncodingRules}
@@ -13,10 +14,19 @@ boolean_contents false = 0 ∷ []
 boolean_contents true = 255 ∷ []
 
 -- the faults: not one octet (7), another octet than those two (8)
+abbrev pub boolean_or_fault : List ℕ → Result (List ℕ) ErrorKind
+boolean_or_fault [] = Err (kinds.Length Boolean)
+boolean_or_fault (octet ∷ []) = if octet == 0 || octet == 255 then Ok (octet ∷ []) else Err (kinds.Noncanonical Boolean)
+boolean_or_fault (octet ∷ second ∷ others) = Err (kinds.Length Boolean)
+
+-- the same as a parse of contents octets, under all rules and at every position
 abbrev pub parse_boolean : ContentsParse
-parse_boolean rules p [] = Err (kinds.Length Boolean)
-parse_boolean rules p (octet ∷ []) = if octet == 0 || octet == 255 then Ok (octet ∷ []) else Err (kinds.Noncanonical Boolean)
-parse_boolean rules p (octet ∷ second ∷ others) = Err (kinds.Length Boolean)
+parse_boolean rules p octets = boolean_or_fault octets
+
+-- what contents octets are read as: the value whose contents octets they are, or the fault
+abbrev pub ReadsBoolean : List ℕ → Result Bool ErrorKind → Type 0
+ReadsBoolean octets (Ok truth) = octets ≡ boolean_contents truth
+ReadsBoolean octets (Err kind) = boolean_or_fault octets ≡ Err kind
 
 -- the contents octets of a value are read
 pub parse_boolean-own : (rules : EncodingRules) (v : Bool) (p : ℕ) → parse_boolean rules p (boolean_contents v) ≡ Ok (boolean_contents v)

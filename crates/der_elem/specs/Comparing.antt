@@ -1,5 +1,5 @@
 -- What comparing two values answers.
-use Rattle.std.specs.Prelude.{◌≡◌, ℕ, ◌≤◌, ◌^◌, List, length, true, ◌⊎◌, Result, Ok, Err}
+use Rattle.std.specs.Prelude.{◌≡◌, ℕ, ◌≤◌, ◌^◌, List, length, Bool, true, ◌⊎◌, Result, Ok, Err}
 use Rattle.std.specs.declared.cmp.Ordering.{Ordering}
 use Rattle.der_tlv.specs.declared.error.ErrorKind.{ErrorKind}
 use Rattle.der_tlv.specs.declared.error.ErrorKind.TheVariants.{Overflow, Memory, Value}
@@ -10,17 +10,25 @@ use Rattle.der_tlv.specs.HeaderOctets.{tlv}
 use Rattle.der_elem.specs.declared.form.FormValue as value
 use Rattle.der_elem.specs.declared.form.Form as form
 
--- why the contents octets of two values are not compared: no length says how many one has, no form has both, or memory ran out where items are read again
-abbrev pub IncomparableValues : {T : Type 0} → value.Ghosts T → T → T → ErrorKind → Type 0
-IncomparableValues F x y Overflow = (2 ^ 32 ≤ length (F.contents x)) ⊎ (2 ^ 32 ≤ length (F.contents y))
-IncomparableValues F x y (Value tag) = F.comparable_value x y → ⊥
-IncomparableValues F x y Memory = (F.re_reads_value x ≡ true) ⊎ (F.re_reads_value y ≡ true)
-IncomparableValues F x y _ = ⊥
+-- why octets that stand for two values are not compared: no length says how many one has, the values are apart, or memory ran out where the one or the other is read again
+abbrev pub IncomparableOctets : (a b : List ℕ) → (Apart : Type 0) → (re_reads_a re_reads_b : Bool) → ErrorKind → Type 0
+IncomparableOctets a b Apart re_reads_a re_reads_b Overflow = (2 ^ 32 ≤ length a) ⊎ (2 ^ 32 ≤ length b)
+IncomparableOctets a b Apart re_reads_a re_reads_b (Value tag) = Apart
+IncomparableOctets a b Apart re_reads_a re_reads_b Memory = (re_reads_a ≡ true) ⊎ (re_reads_b ≡ true)
+IncomparableOctets a b Apart re_reads_a re_reads_b _ = ⊥
 
--- what comparing contents octets answers: their lexicographic order, or why there is none
+-- what comparing them answers: their lexicographic order, or why there is none
+abbrev pub ComparesOctets : (a b : List ℕ) → (Apart : Type 0) → (re_reads_a re_reads_b : Bool) → Result Ordering Error → Type 0
+ComparesOctets a b Apart re_reads_a re_reads_b (Ok order) = order ≡ lex a b
+ComparesOctets a b Apart re_reads_a re_reads_b (Err e) = IncomparableOctets a b Apart re_reads_a re_reads_b e.kind
+
+-- why the contents octets of two values are not compared, which are apart where they are not comparable
+abbrev pub IncomparableValues : {T : Type 0} → value.Ghosts T → T → T → ErrorKind → Type 0
+IncomparableValues F x y = IncomparableOctets (F.contents x) (F.contents y) (F.comparable_value x y → ⊥) (F.re_reads_value x) (F.re_reads_value y)
+
+-- what comparing contents octets answers
 abbrev pub ComparesValues : {T : Type 0} → value.Ghosts T → T → T → Result Ordering Error → Type 0
-ComparesValues F x y (Ok order) = order ≡ lex (F.contents x) (F.contents y)
-ComparesValues F x y (Err e) = IncomparableValues F x y e.kind
+ComparesValues F x y = ComparesOctets (F.contents x) (F.contents y) (F.comparable_value x y → ⊥) (F.re_reads_value x) (F.re_reads_value y)
 
 -- two encodings with equal identifier octets and equal length octets
 pub record SameHeader (a b : List ℕ) : Type 0 where
@@ -31,14 +39,14 @@ pub record SameHeader (a b : List ℕ) : Type 0 where
   pub second_is : b ≡ tlv tag second
   pub same_length : length first ≡ length second
 
--- why two values have no comparison: no length says how many octets one has, no form has both although their headers are equal, or memory ran out where items are read again
+-- two values that are not comparable although the headers of their encodings are equal
+abbrev pub AreApart : {T : Type 0} → form.Ghosts T → T → T → Type 0
+AreApart F x y = (F.comparable x y → ⊥) × SameHeader (F.encoding x) (F.encoding y)
+
+-- why two values have no comparison
 abbrev pub Incomparable : {T : Type 0} → form.Ghosts T → T → T → ErrorKind → Type 0
-Incomparable F x y Overflow = (2 ^ 32 ≤ length (F.encoding x)) ⊎ (2 ^ 32 ≤ length (F.encoding y))
-Incomparable F x y (Value tag) = (F.comparable x y → ⊥) × SameHeader (F.encoding x) (F.encoding y)
-Incomparable F x y Memory = (F.re_reads x ≡ true) ⊎ (F.re_reads y ≡ true)
-Incomparable F x y _ = ⊥
+Incomparable F x y = IncomparableOctets (F.encoding x) (F.encoding y) (AreApart F x y) (F.re_reads x) (F.re_reads y)
 
 -- what comparing two values answers: the lexicographic order of their encodings, or why there is none
 abbrev pub Compares : {T : Type 0} → form.Ghosts T → T → T → Result Ordering Error → Type 0
-Compares F x y (Ok order) = order ≡ lex (F.encoding x) (F.encoding y)
-Compares F x y (Err e) = Incomparable F x y e.kind
+Compares F x y = ComparesOctets (F.encoding x) (F.encoding y) (AreApart F x y) (F.re_reads x) (F.re_reads y)

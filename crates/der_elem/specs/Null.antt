@@ -1,5 +1,6 @@
 -- The contents octets of NULL, of which there are none (X.690 8.8).
-use Rattle.std.proofs.Common.{◌≡◌, ℕ, List, [], ◌∷◌, true, Ok, Err, refl, Decides}
+use Rattle.std.proofs.Common.{◌≡◌, ℕ, List, [], ◌∷◌, true, Result, Ok, Err, refl, Decides}
+use Rattle.der_tlv.specs.declared.error.ErrorKind.{ErrorKind}
 use Rattle.der_tlv.specs.declared.error.ErrorKind.TheVariants as kinds
 use Rattle.der_tlv.specs.declared.tag.Tag.TheVariants.{Null}
 use Rattle.der_elem.specs.Parsing.{ContentsParse}
@@ -9,9 +10,18 @@ abbrev pub null_contents : Unit {0} → List ℕ
 null_contents _ = []
 
 -- the fault: any octet (7)
+abbrev pub null_or_fault : List ℕ → Result (List ℕ) ErrorKind
+null_or_fault [] = Ok []
+null_or_fault (octet ∷ others) = Err (kinds.Length Null)
+
+-- the same as a parse of contents octets, under all rules and at every position
 abbrev pub parse_null : ContentsParse
-parse_null rules p [] = Ok []
-parse_null rules p (octet ∷ others) = Err (kinds.Length Null)
+parse_null rules p octets = null_or_fault octets
+
+-- what contents octets are read as: the one value where there are none, or the fault
+abbrev pub ReadsNull : List ℕ → Result (Unit {0}) ErrorKind → Type 0
+ReadsNull octets (Ok _) = octets ≡ []
+ReadsNull octets (Err kind) = null_or_fault octets ≡ Err kind
 
 -- there is one value
 pub unit_eq_decides : (v w : Unit {0}) → Decides true (v ≡ w)

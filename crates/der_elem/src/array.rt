@@ -91,7 +91,8 @@ impl<T: DerOrd + Tagged, const N: usize> ValueOrd for [T; N] {
 }
 
 impl<T: EncodingEq + Tagged, const N: usize> ContentsEq for [T; N] {
-    ghost contents_eq = { items_eq T.tag_of T.contents T.encoding T.encoding_is T.comparable T.eq T.encoding_eq };
+    ghost contents_eq = { items_eq T.tag_of T.contents T.encoding T.encoding_is T.comparable T.eq
+        T.encoding_eq };
 }
 
 impl<'a, R: Reader<'a>, T: Decode<'a, R> + Tagged + Copy, const N: usize> DecodeValue<'a, R>
@@ -130,7 +131,7 @@ fn decode_item<'a, R: Reader<'a>, T: Decode<'a, R>>(
     T::decode(alloc, reader)
 }
 
-/// Asks that there is no item more.
+/// Checks that there is no item more.
 ///
 /// # Errors
 /// The item's; (10) for an item.

@@ -12,7 +12,7 @@ use std::cmp::Ordering;
 impl<'a, R: Reader<'a>, T: DecodeValue<'a, R> + FixedTag> Decode<'a, R> for T {
     fn decode(alloc: Global, reader: &mut R) -> Result<T, Error> {
         let header = Header::decode(reader)?;
-        if !header.tag.is(T::TAG) {
+        if !header.tag.equals(T::TAG) {
             return Err(reader.error(header.tag.unexpected_error(Some(T::TAG))));
         }
         let end = reader.nest(header.length)?;

@@ -10,7 +10,7 @@ ghost use Rattle.std.specs.Bool.{beq};
 ghost use Rattle.std.specs.Cmp.{booleans_Decides};
 ghost use Rattle.der_tlv.specs.declared.tag.Tag.TheVariants.{Boolean};
 ghost use Rattle.der_elem.specs.OwnContentsLaws.{contents_eq_own, parse_of_within, same_length_within, accepts_contents_within, only_within};
-ghost use Rattle.der_elem.specs.Boolean.{boolean_contents, parse_boolean, parse_boolean-own, boolean_contents-injective, bool_cmp-lex};
+ghost use Rattle.der_elem.specs.Boolean.{boolean_contents, parse_boolean, ReadsBoolean, parse_boolean-own, boolean_contents-injective, bool_cmp-lex};
 ghost use Rattle.der_elem.specs.OwnContents.{accepts_within};
 
 use crate::contents::read_contents;
@@ -23,8 +23,23 @@ use crate::form::FormValue;
 use crate::memory::{ValueMemory, WithoutMemory};
 use crate::ord::OrdIsValueOrd;
 use crate::universal_tags::BooleanTag;
-use der_tlv::{Error, Header, Length, Reader, Tag, Writer};
+use der_tlv::{Error, ErrorKind, Header, Length, Reader, Tag, Writer};
 use std::alloc::Global;
+
+/// The truth value that contents octets represent, under DER: 00 is false, FF is true.
+///
+/// # Errors
+/// (7) unless there is one octet; (8) for any octet but 00 and FF.
+pub fn boolean_of(octets: &[u8]) -> Result<bool, ErrorKind>
+    ensures { ReadsBoolean octets.now result }
+{
+    match octets {
+        [0x00] => Ok(false),
+        [0xff] => Ok(true),
+        [_] => Err(Tag::Boolean.non_canonical_error()),
+        _ => Err(Tag::Boolean.length_error()),
+    }
+}
 
 impl FormValue for bool {
     ghost contents = { boolean_contents };
@@ -33,7 +48,8 @@ impl FormValue for bool {
 
     ghost parse_value = { parse_boolean };
 
-    ghost parse_of_accepted_value = { parse_of_within boolean_contents (λ v. Unit {0}) parse_boolean (λ rules v p r. parse_boolean-own rules v p) };
+    ghost parse_of_accepted_value = { parse_of_within boolean_contents (λ v. Unit {0}) parse_boolean
+        (λ rules v p r. parse_boolean-own rules v p) };
 
     ghost same_length_value = { same_length_within boolean_contents (λ v. Unit {0}) };
 
@@ -58,11 +74,9 @@ impl OneTag for bool {
 
 impl<'a, R: Reader<'a>> DecodeValue<'a, R> for bool {
     fn decode_value(_alloc: Global, reader: &mut R, header: Header) -> Result<bool, Error> {
-        match read_contents(reader, header)? {
-            [0x00] => Ok(false),
-            [0xff] => Ok(true),
-            [_] => Err(reader.error(Tag::Boolean.non_canonical_error())),
-            _ => Err(reader.error(Tag::Boolean.length_error())),
+        match boolean_of(read_contents(reader, header)?) {
+            Ok(truth) => Ok(truth),
+            Err(kind) => Err(reader.error(kind)),
         }
     }
 }
@@ -82,7 +96,8 @@ impl OrdIsValueOrd for bool {
 }
 
 impl ContentsEq for bool {
-    ghost contents_eq = { contents_eq_own boolean_contents beq booleans_Decides boolean_contents-injective };
+    ghost contents_eq = { contents_eq_own boolean_contents beq booleans_Decides
+        boolean_contents-injective };
 }
 
 impl CopyIsDuplicate for bool {}

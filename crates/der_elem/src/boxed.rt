@@ -48,7 +48,8 @@ impl<T: FormValue> FormValue for Box<T> {
 
     ghost only_readable_value = { λ rules v. T.only_readable_value rules v.value };
 
-    ghost accepts_comparable_value = { λ rules v w. T.accepts_comparable_value rules v.value w.value };
+    ghost accepts_comparable_value = { λ rules v w.
+        T.accepts_comparable_value rules v.value w.value };
 
     ghost re_reads_memory_value = { λ v h. refl };
 }

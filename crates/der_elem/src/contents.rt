@@ -13,8 +13,10 @@ use der_tlv::{Error, Header, Reader};
 /// (17) on a failed reader.
 pub fn read_contents<'a, R: Reader<'a>>(reader: &mut R, header: Header) -> Result<&'a [u8], Error>
     ensures reader { Stands (R.state reader.old) (R.state reader.new) result }
-    ensures ok { length (rest (R.state reader.old)) ≡ header.length → IfOk result (λ octets. ContentsRead (R.state reader.old) (R.state reader.new) octets.now) }
-    ensures err { length (rest (R.state reader.old)) ≡ header.length → IfErr result (λ e. ContentsRefused (R.state reader.old) (R.state reader.new) e.kind) }
+    ensures ok { length (rest (R.state reader.old)) ≡ header.length → IfOk result (λ octets.
+        ContentsRead (R.state reader.old) (R.state reader.new) octets.now) }
+    ensures err { length (rest (R.state reader.old)) ≡ header.length → IfErr result (λ e.
+        ContentsRefused (R.state reader.old) (R.state reader.new) e.kind) }
 {
     reader.read_slice(header.length)
 }

@@ -20,7 +20,8 @@ pub trait DecodeValue<'a, R: Reader<'a>>: FormValue + ValueMemory {
     /// where the type takes memory. Where the header says another length than the reader shows, the
     /// value may be any, and a refusal leaves the reader as every other does.
     fn decode_value(alloc: Global, reader: &mut R, header: Header) -> Result<Self, Error>
-        ensures exact { length (rest (R.state reader.old)) ≡ header.length → DecodesValue Self.FormValue header (R.state reader.old) (R.state reader.new) result }
+        ensures exact { length (rest (R.state reader.old)) ≡ header.length
+            → DecodesValue Self.FormValue header (R.state reader.old) (R.state reader.new) result }
         ensures reader { Stands (R.state reader.old) (R.state reader.new) result };
 }
 

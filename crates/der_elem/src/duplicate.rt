@@ -52,9 +52,11 @@ pub trait DuplicateValue: FormValue {
 
     ghost copy_contents: { (v w : Self) → is_copy_value v w → Self.contents w ≡ Self.contents v };
 
-    ghost copy_form_value: { (v w x : Self) → is_copy_value v w → Self.comparable_value v x → Self.comparable_value w x };
+    ghost copy_form_value: { (v w x : Self) → is_copy_value v w → Self.comparable_value v x
+        → Self.comparable_value w x };
 
-    ghost copy_re_reads_value: { (v w : Self) → is_copy_value v w → Self.re_reads_value w ≡ Self.re_reads_value v };
+    ghost copy_re_reads_value: { (v w : Self) → is_copy_value v w
+        → Self.re_reads_value w ≡ Self.re_reads_value v };
 }
 
 impl<T: DuplicateValue + FixedTag> Duplicate for T {

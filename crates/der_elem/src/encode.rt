@@ -22,7 +22,8 @@ pub trait EncodeValue: FormValue {
     /// # Errors
     /// The writer's; (9) where there are more than 4294967295; (1) where items are read again.
     fn encode_value<W: Writer>(&self, writer: &mut W) -> Result<(), Error>
-        ensures { Encodes (Self.contents self.now) (Self.re_reads_value self.now) (W.state writer.old) (W.state writer.new) result };
+        ensures { Encodes (Self.contents self.now) (Self.re_reads_value self.now)
+            (W.state writer.old) (W.state writer.new) result };
 }
 
 /// Writing the encoding of a value.
@@ -40,7 +41,8 @@ pub trait Encode: Form {
     /// The writer's; (9) where there are more than 4294967295 octets; (1) where items are read
     /// again.
     fn encode<W: Writer>(&self, writer: &mut W) -> Result<(), Error>
-        ensures { Encodes (Self.encoding self.now) (Self.re_reads self.now) (W.state writer.old) (W.state writer.new) result };
+        ensures { Encodes (Self.encoding self.now) (Self.re_reads self.now) (W.state writer.old)
+            (W.state writer.new) result };
 
     /// Writes the encoding to the front of the buffer, and answers that front.
     ///
@@ -49,7 +51,9 @@ pub trait Encode: Form {
     /// where items are read again.
     fn encode_to_slice<'b>(&self, buffer: &'b mut [u8]) -> Result<&'b [u8], Error>
         ensures ok { IfOk result (λ octets. octets.now ≡ Self.encoding self.now) }
-        ensures err { IfErr result (λ e. IsTooShort (length buffer.entry.now) (Self.encoding self.now) e.kind ⊎ Stops (Self.encoding self.now) (Self.re_reads self.now) e.kind) }
+        ensures err { IfErr result (λ e.
+            IsTooShort (length buffer.entry.now) (Self.encoding self.now) e.kind
+            ⊎ Stops (Self.encoding self.now) (Self.re_reads self.now) e.kind) }
     {
         let mut writer = SliceWriter::new(buffer);
         self.encode(&mut writer)?;
@@ -63,7 +67,8 @@ pub trait Encode: Form {
     fn to_der(&self, alloc: Global) -> Result<Vec<u8>, Error>
         ensures ok { IfOk result (λ octets. octets.items ≡ Self.encoding self.now) }
         ensures fits { OnOk result (length (Self.encoding self.now) < 2 ^ 32) }
-        ensures err { IfErr result (λ e. (e.kind ≡ Memory) ⊎ Stops (Self.encoding self.now) (Self.re_reads self.now) e.kind) }
+        ensures err { IfErr result (λ e.
+            (e.kind ≡ Memory) ⊎ Stops (Self.encoding self.now) (Self.re_reads self.now) e.kind) }
     {
         let len = self.encoded_len()?;
         let mut writer = VecWriter::with_capacity(alloc, usize::from(len))?;

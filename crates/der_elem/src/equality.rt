@@ -8,14 +8,17 @@ use crate::form::{Form, FormValue};
 
 /// A type whose comparable values are equal exactly if their encodings are.
 pub trait EncodingEq: Form + PartialEq {
-    ghost encoding_eq: { (v w : Self) → Self.comparable v w → (IsTrue (Self.eq v w) ↔ (Self.encoding v ≡ Self.encoding w)) };
+    ghost encoding_eq: { (v w : Self) → Self.comparable v w
+        → (IsTrue (Self.eq v w) ↔ (Self.encoding v ≡ Self.encoding w)) };
 }
 
 /// A type whose comparable values are equal exactly if their contents octets are.
 pub trait ContentsEq: FormValue + PartialEq {
-    ghost contents_eq: { (v w : Self) → Self.comparable_value v w → (IsTrue (Self.eq v w) ↔ (Self.contents v ≡ Self.contents w)) };
+    ghost contents_eq: { (v w : Self) → Self.comparable_value v w
+        → (IsTrue (Self.eq v w) ↔ (Self.contents v ≡ Self.contents w)) };
 }
 
 impl<T: ContentsEq + FixedTag> EncodingEq for T {
-    ghost encoding_eq = { encoding_eq_tagged T.TAG T.contents T.comparable_value T.eq T.contents_eq };
+    ghost encoding_eq = { encoding_eq_tagged T.TAG T.contents T.comparable_value T.eq
+        T.contents_eq };
 }

@@ -62,7 +62,8 @@ pub trait FirstTag: Form {
 
     ghost own_lead: { (v : Self) (t : Tag) → Self.lead v ≡ Some t → Self.tags t ≡ true };
 
-    ghost same_beginning: { (v w : Self) → SameLeads (Self.lead v) (Self.lead w) → SameBeginning (Self.encoding v) (Self.encoding w) };
+    ghost same_beginning: { (v w : Self) → SameLeads (Self.lead v) (Self.lead w)
+        → SameBeginning (Self.encoding v) (Self.encoding w) };
 }
 
 impl<T: Tagged> FirstTag for T {
@@ -70,11 +71,14 @@ impl<T: Tagged> FirstTag for T {
         Some(self.tag())
     }
 
-    ghost starts = { λ v. starts_tagged T.tag_of T.contents T.encoding T.encoding_is v (T.lead v) (T.lead_is v) };
+    ghost starts = { λ v. starts_tagged T.tag_of T.contents T.encoding T.encoding_is v (T.lead v)
+        (T.lead_is v) };
 
-    ghost own_lead = { λ v. own_lead_tagged T.tags (T.tag_of v) (T.own_tag v) (T.lead v) (T.lead_is v) };
+    ghost own_lead = { λ v. own_lead_tagged T.tags (T.tag_of v) (T.own_tag v) (T.lead v)
+        (T.lead_is v) };
 
-    ghost same_beginning = { λ v w h. beginning_tagged T.tag_of T.contents T.encoding T.encoding_is v w };
+    ghost same_beginning = { λ v w h.
+        beginning_tagged T.tag_of T.contents T.encoding T.encoding_is v w };
 }
 
 impl<T: Tagged> FirstTag for Option<T> {
@@ -89,5 +93,6 @@ impl<T: Tagged> FirstTag for Option<T> {
 
     ghost own_lead = { own_lead_option T.tags T.tag_of T.own_tag T.lead T.lead_is };
 
-    ghost same_beginning = { beginning_option T.tag_of T.contents T.encoding T.encoding_is T.lead T.lead_is };
+    ghost same_beginning = { beginning_option T.tag_of T.contents T.encoding T.encoding_is T.lead
+        T.lead_is };
 }

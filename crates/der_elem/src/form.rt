@@ -41,17 +41,23 @@ pub trait FormValue: Sized + Drop {
     // whether reading the contents octets takes memory
     ghost VALUE_TAKES_MEMORY: { Bool } = { false };
 
-    ghost parse_of_accepted_value: { (rules : EncodingRules) (v : Self) (p : ℕ) (c : List ℕ) → accepts_value rules v c → Fits c → parse_value rules p c ≡ Ok (contents v) };
+    ghost parse_of_accepted_value: { (rules : EncodingRules) (v : Self) (p : ℕ) (c : List ℕ)
+        → accepts_value rules v c → Fits c → parse_value rules p c ≡ Ok (contents v) };
 
-    ghost same_length_value: { (rules : EncodingRules) (v : Self) (c : List ℕ) → accepts_value rules v c → length (contents v) ≡ length c };
+    ghost same_length_value: { (rules : EncodingRules) (v : Self) (c : List ℕ)
+        → accepts_value rules v c → length (contents v) ≡ length c };
 
-    ghost accepts_contents: { (rules : EncodingRules) (v : Self) → readable_value v → accepts_value rules v (contents v) };
+    ghost accepts_contents: { (rules : EncodingRules) (v : Self) → readable_value v
+        → accepts_value rules v (contents v) };
 
-    ghost only_readable_value: { (rules : EncodingRules) (v : Self) (c : List ℕ) → accepts_value rules v c → readable_value v };
+    ghost only_readable_value: { (rules : EncodingRules) (v : Self) (c : List ℕ)
+        → accepts_value rules v c → readable_value v };
 
-    ghost accepts_comparable_value: { (rules : EncodingRules) (v w : Self) (c d : List ℕ) → accepts_value rules v c → accepts_value rules w d → comparable_value v w };
+    ghost accepts_comparable_value: { (rules : EncodingRules) (v w : Self) (c d : List ℕ)
+        → accepts_value rules v c → accepts_value rules w d → comparable_value v w };
 
-    ghost re_reads_memory_value: { (v : Self) → re_reads_value v ≡ true → VALUE_TAKES_MEMORY ≡ true };
+    ghost re_reads_memory_value: { (v : Self) → re_reads_value v ≡ true
+        → VALUE_TAKES_MEMORY ≡ true };
 }
 
 /// The whole encoding of a value, which has no octets for an absent option, and which octets are
@@ -84,19 +90,27 @@ pub trait Form: Sized + Drop {
     // whether reading takes memory
     ghost TAKES_MEMORY: { Bool };
 
-    ghost parse_of_accepted: { (rules : EncodingRules) (v : Self) (p : ℕ) (b x : List ℕ) → accepts rules v b → Fits b → MayFollow tags b x → parse rules p (b ++ x) ≡ Ok (length b, encoding v) };
+    ghost parse_of_accepted: { (rules : EncodingRules) (v : Self) (p : ℕ) (b x : List ℕ)
+        → accepts rules v b → Fits b → MayFollow tags b x
+        → parse rules p (b ++ x) ≡ Ok (length b, encoding v) };
 
-    ghost begins: { (rules : EncodingRules) (v : Self) (z : ℕ) (b : List ℕ) → accepts rules v (z ∷ b) → BeginsWith tags true (z ∷ b) };
+    ghost begins: { (rules : EncodingRules) (v : Self) (z : ℕ) (b : List ℕ)
+        → accepts rules v (z ∷ b) → BeginsWith tags true (z ∷ b) };
 
-    ghost led: { (rules : EncodingRules) (v : Self) (b : List ℕ) → accepts rules v b → Leads (lead v) b };
+    ghost led: { (rules : EncodingRules) (v : Self) (b : List ℕ) → accepts rules v b
+        → Leads (lead v) b };
 
-    ghost same_length: { (rules : EncodingRules) (v : Self) (b : List ℕ) → accepts rules v b → length (encoding v) ≡ length b };
+    ghost same_length: { (rules : EncodingRules) (v : Self) (b : List ℕ) → accepts rules v b
+        → length (encoding v) ≡ length b };
 
-    ghost accepts_encoding: { (rules : EncodingRules) (v : Self) → readable v → accepts rules v (encoding v) };
+    ghost accepts_encoding: { (rules : EncodingRules) (v : Self) → readable v
+        → accepts rules v (encoding v) };
 
-    ghost only_readable: { (rules : EncodingRules) (v : Self) (b : List ℕ) → accepts rules v b → readable v };
+    ghost only_readable: { (rules : EncodingRules) (v : Self) (b : List ℕ) → accepts rules v b
+        → readable v };
 
-    ghost accepts_comparable: { (rules : EncodingRules) (v w : Self) (b c : List ℕ) → accepts rules v b → accepts rules w c → comparable v w };
+    ghost accepts_comparable: { (rules : EncodingRules) (v w : Self) (b c : List ℕ)
+        → accepts rules v b → accepts rules w c → comparable v w };
 
     ghost re_reads_memory: { (v : Self) → re_reads v ≡ true → TAKES_MEMORY ≡ true };
 }
@@ -120,7 +134,8 @@ impl<T: FormValue + FixedTag> Form for T {
 
     ghost TAKES_MEMORY = { T.VALUE_TAKES_MEMORY };
 
-    ghost parse_of_accepted = { parse_of_tagged T.TAG T.tag_in_range T.accepts_value T.contents T.parse_value T.parse_of_accepted_value };
+    ghost parse_of_accepted = { parse_of_tagged T.TAG T.tag_in_range T.accepts_value T.contents
+        T.parse_value T.parse_of_accepted_value };
 
     ghost begins = { begins_tagged T.TAG T.tag_in_range T.accepts_value };
 
@@ -128,11 +143,14 @@ impl<T: FormValue + FixedTag> Form for T {
 
     ghost same_length = { same_length_tagged T.TAG T.accepts_value T.contents T.same_length_value };
 
-    ghost accepts_encoding = { accepts_tagged_encoding T.TAG T.accepts_value T.contents T.readable_value T.accepts_contents };
+    ghost accepts_encoding = { accepts_tagged_encoding T.TAG T.accepts_value T.contents
+        T.readable_value T.accepts_contents };
 
-    ghost only_readable = { readable_tagged T.TAG T.accepts_value T.readable_value T.only_readable_value };
+    ghost only_readable = { readable_tagged T.TAG T.accepts_value T.readable_value
+        T.only_readable_value };
 
-    ghost accepts_comparable = { comparable_tagged T.TAG T.accepts_value T.comparable_value T.accepts_comparable_value };
+    ghost accepts_comparable = { comparable_tagged T.TAG T.accepts_value T.comparable_value
+        T.accepts_comparable_value };
 
     ghost re_reads_memory = { T.re_reads_memory_value };
 }

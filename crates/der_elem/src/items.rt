@@ -35,7 +35,8 @@ pub fn items_len<T: Encode>(items: &[T]) -> Result<Length, Error>
 /// The writer's; (9) where one has more than 4294967295 octets; (1) where an item reads its items
 /// again.
 pub fn encode_items<T: Encode, W: Writer>(items: &[T], writer: &mut W) -> Result<(), Error>
-    ensures { Encodes (flat_map T.encoding items.now) (list_any T.re_reads items.now) (W.state writer.old) (W.state writer.new) result }
+    ensures { Encodes (flat_map T.encoding items.now) (list_any T.re_reads items.now)
+        (W.state writer.old) (W.state writer.new) result }
 {
     'items: for item in items {
         item.encode(writer)?;

@@ -1,6 +1,6 @@
 //! Laws of encodings: functions that do nothing, and promise what holds of all encodings.
 
-ghost use Rattle.std.specs.Prelude.{◌≡◌, ◌<◌, ◌^◌, length};
+ghost use Rattle.std.specs.Prelude.{◌≡◌, ◌<◌, ◌^◌, length, ◌∷◌, []};
 ghost use Rattle.der_tlv.specs.declared.tag.Tag.TheVariants as tags;
 ghost use Rattle.der_elem.specs.EncodingLaws.{NoneBeginsAnother, NoneReadBeginsAnother, PaddingIsLexicographic, FirstPairDecides, OneValueIsRead, EncodingsReadBack, OwnEncodingIsRead, IntegersAreFewest};
 ghost use Rattle.der_elem.specs.Fields.{FirstFieldDecides, FieldsAreToldApart};
@@ -9,6 +9,7 @@ use crate::equality::EncodingEq;
 use crate::fixed_tag::FixedTag;
 use crate::form::Form;
 use crate::tag::Tagged;
+use der_tlv::Tag;
 
 /// No encoding is a proper beginning of another, for any two tags and contents octets.
 pub fn no_encoding_begins_another()
@@ -60,7 +61,8 @@ pub fn encodings_read_back<T: Form>()
 /// The encoding of a readable value that fits a length is read, as a value that is equal to it: so
 /// reading after writing answers what was written.
 pub fn own_encoding_is_read<T: EncodingEq>()
-    ensures { (v : T) → T.readable v → length (T.encoding v) < 2 ^ 32 → OwnEncodingIsRead T.Form T.eq v }
+    ensures { (v : T) → T.readable v → length (T.encoding v) < 2 ^ 32
+        → OwnEncodingIsRead T.Form T.eq v }
 {}
 
 /// The contents octets of an integer have it as their two's complement number, and no fewer octets
@@ -69,21 +71,28 @@ pub fn integers_are_fewest()
     ensures { IntegersAreFewest }
 {}
 
-/// The tags of the built-in types (X.680 8.6).
-pub fn tags_are()
-    ensures boolean { ⟦<bool as FixedTag>⟧.TAG ≡ tags.Boolean }
-    ensures null { ⟦<() as FixedTag>⟧.TAG ≡ tags.Null }
-    ensures i8 { ⟦<i8 as FixedTag>⟧.TAG ≡ tags.Integer }
-    ensures i16 { ⟦<i16 as FixedTag>⟧.TAG ≡ tags.Integer }
-    ensures i32 { ⟦<i32 as FixedTag>⟧.TAG ≡ tags.Integer }
-    ensures i64 { ⟦<i64 as FixedTag>⟧.TAG ≡ tags.Integer }
-    ensures i128 { ⟦<i128 as FixedTag>⟧.TAG ≡ tags.Integer }
-    ensures u8 { ⟦<u8 as FixedTag>⟧.TAG ≡ tags.Integer }
-    ensures u16 { ⟦<u16 as FixedTag>⟧.TAG ≡ tags.Integer }
-    ensures u32 { ⟦<u32 as FixedTag>⟧.TAG ≡ tags.Integer }
-    ensures u64 { ⟦<u64 as FixedTag>⟧.TAG ≡ tags.Integer }
-    ensures u128 { ⟦<u128 as FixedTag>⟧.TAG ≡ tags.Integer }
-    ensures text { ⟦<String as FixedTag>⟧.TAG ≡ tags.Utf8String }
-    ensures list { ⟦<Vec<bool> as FixedTag>⟧.TAG ≡ tags.Sequence }
-    ensures array { ⟦<[bool; 1] as FixedTag>⟧.TAG ≡ tags.Sequence }
-{}
+/// The tags of the built-in types (X.680 8.6), in this order: BOOLEAN, NULL, the ten INTEGERs,
+/// UTF8String, and SEQUENCE of a list and of an array.
+pub fn universal_tags() -> [Tag; 15]
+    ensures { result ≡ tags.Boolean ∷ tags.Null ∷ tags.Integer ∷ tags.Integer ∷ tags.Integer
+        ∷ tags.Integer ∷ tags.Integer ∷ tags.Integer ∷ tags.Integer ∷ tags.Integer ∷ tags.Integer
+        ∷ tags.Integer ∷ tags.Utf8String ∷ tags.Sequence ∷ tags.Sequence ∷ [] }
+{
+    [
+        <bool as FixedTag>::TAG,
+        <() as FixedTag>::TAG,
+        <i8 as FixedTag>::TAG,
+        <i16 as FixedTag>::TAG,
+        <i32 as FixedTag>::TAG,
+        <i64 as FixedTag>::TAG,
+        <i128 as FixedTag>::TAG,
+        <u8 as FixedTag>::TAG,
+        <u16 as FixedTag>::TAG,
+        <u32 as FixedTag>::TAG,
+        <u64 as FixedTag>::TAG,
+        <u128 as FixedTag>::TAG,
+        <String as FixedTag>::TAG,
+        <Vec<bool> as FixedTag>::TAG,
+        <[bool; 1] as FixedTag>::TAG,
+    ]
+}

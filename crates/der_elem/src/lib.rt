@@ -37,6 +37,7 @@ mod universal_tags;
 mod utf8_text;
 mod vec;
 
+pub use boolean::boolean_of;
 pub use contents::read_contents;
 pub use decode::{Decode, DecodeValue, FromDer};
 pub use duplicate::{CopyIsDuplicate, Duplicate, DuplicateValue};
@@ -52,6 +53,7 @@ pub use ord::{DerOrd, OrdIsValueOrd, ValueOrd};
 pub use readiness::check_ready;
 pub use sequence::Sequence;
 pub use tag::{Choice, IsConstructed, Tagged};
+pub use unit::null_of;
 pub use universal_tags::{
     BitStringTag, BmpStringTag, BooleanTag, GeneralStringTag, GeneralizedTimeTag, IntegerTag,
     NullTag, ObjectIdentifierTag, OctetStringTag, SequenceTag, SetTag, UtcTimeTag, Utf8StringTag,

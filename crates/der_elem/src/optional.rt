@@ -155,7 +155,8 @@ impl<T: DerOrd + Tagged> DerOrd for Option<T> {
 }
 
 impl<T: EncodingEq + Tagged> EncodingEq for Option<T> {
-    ghost encoding_eq = { encoding_eq_option T.tag_of T.contents T.encoding T.encoding_is T.comparable T.eq T.encoding_eq };
+    ghost encoding_eq = { encoding_eq_option T.tag_of T.contents T.encoding T.encoding_is
+        T.comparable T.eq T.encoding_eq };
 }
 
 impl<T: Duplicate + Tagged> Duplicate for Option<T> {

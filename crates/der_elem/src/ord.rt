@@ -32,7 +32,8 @@ pub trait DerOrd: Form {
 
 /// A type whose `Ord` is the lexicographic order of contents octets.
 pub trait OrdIsValueOrd: FormValue + Ord {
-    ghost ord_is_value_ord: { (v w : Self) → Self.cmp v w ≡ lex (Self.contents v) (Self.contents w) };
+    ghost ord_is_value_ord: { (v w : Self)
+        → Self.cmp v w ≡ lex (Self.contents v) (Self.contents w) };
 }
 
 impl<T: OrdIsValueOrd> ValueOrd for T {

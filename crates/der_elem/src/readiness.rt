@@ -4,7 +4,7 @@ ghost use Rattle.der_elem.specs.Readiness.{AsksReady};
 
 use der_tlv::{Error, Length, Reader};
 
-/// Asks that no call of the reader was refused.
+/// Checks that the reader has not failed.
 ///
 /// # Errors
 /// (17) on a failed reader.

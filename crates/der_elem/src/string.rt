@@ -34,7 +34,8 @@ impl FormValue for String {
 
     ghost VALUE_TAKES_MEMORY = { true };
 
-    ghost parse_of_accepted_value = { parse_of_within string_bytes (λ v. Unit {0}) parse_utf8 (λ rules v p r. parse_utf8-own rules v p) };
+    ghost parse_of_accepted_value = { parse_of_within string_bytes (λ v. Unit {0}) parse_utf8
+        (λ rules v p r. parse_utf8-own rules v p) };
 
     ghost same_length_value = { same_length_within string_bytes (λ v. Unit {0}) };
 

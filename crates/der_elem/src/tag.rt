@@ -24,7 +24,8 @@ pub trait Tagged: FormValue + Form {
 
     ghost encoding_is: { (v : Self) → Self.encoding v ≡ tlv (tag_of v) (Self.contents v) };
 
-    ghost accepted_is_tlv: { (rules : EncodingRules) (v : Self) (b : List ℕ) → Self.accepts rules v b → IsTlv b };
+    ghost accepted_is_tlv: { (rules : EncodingRules) (v : Self) (b : List ℕ)
+        → Self.accepts rules v b → IsTlv b };
 
     ghost own_tag: { (v : Self) → Self.tags (tag_of v) ≡ true };
 
@@ -64,7 +65,7 @@ pub trait Choice: Form {
 
 impl<T: FormValue + FixedTag> Choice for T {
     fn can_decode(tag: Tag) -> bool {
-        tag.is(T::TAG)
+        tag.equals(T::TAG)
     }
 }
 

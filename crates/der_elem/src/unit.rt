@@ -7,7 +7,7 @@
 ghost use Rattle.std.specs.Prelude.{true, refl};
 ghost use Rattle.der_tlv.specs.declared.tag.Tag.TheVariants.{Null};
 ghost use Rattle.der_elem.specs.OwnContentsLaws.{contents_eq_own, parse_of_within, same_length_within, accepts_contents_within, only_within};
-ghost use Rattle.der_elem.specs.Null.{null_contents, parse_null, unit_eq_decides};
+ghost use Rattle.der_elem.specs.Null.{null_contents, parse_null, ReadsNull, unit_eq_decides};
 ghost use Rattle.der_elem.specs.OwnContents.{accepts_within};
 
 use crate::contents::read_contents;
@@ -19,8 +19,21 @@ use crate::fixed_tag::OneTag;
 use crate::form::FormValue;
 use crate::memory::{ValueMemory, WithoutMemory};
 use crate::universal_tags::NullTag;
-use der_tlv::{Error, Header, Length, Reader, Tag, Writer};
+use der_tlv::{Error, ErrorKind, Header, Length, Reader, Tag, Writer};
 use std::alloc::Global;
+
+/// Checks that there are no contents octets.
+///
+/// # Errors
+/// (7) for any octet.
+pub fn null_of(octets: &[u8]) -> Result<(), ErrorKind>
+    ensures { ReadsNull octets.now result }
+{
+    match octets {
+        [] => Ok(()),
+        _ => Err(Tag::Null.length_error()),
+    }
+}
 
 impl FormValue for () {
     ghost contents = { null_contents };
@@ -29,7 +42,8 @@ impl FormValue for () {
 
     ghost parse_value = { parse_null };
 
-    ghost parse_of_accepted_value = { parse_of_within null_contents (λ v. Unit {0}) parse_null (λ rules v p r. refl) };
+    ghost parse_of_accepted_value = { parse_of_within null_contents (λ v. Unit {0}) parse_null
+        (λ rules v p r. refl) };
 
     ghost same_length_value = { same_length_within null_contents (λ v. Unit {0}) };
 
@@ -54,9 +68,9 @@ impl OneTag for () {
 
 impl<'a, R: Reader<'a>> DecodeValue<'a, R> for () {
     fn decode_value(_alloc: Global, reader: &mut R, header: Header) -> Result<(), Error> {
-        match read_contents(reader, header)? {
-            [] => Ok(()),
-            _ => Err(reader.error(Tag::Null.length_error())),
+        match null_of(read_contents(reader, header)?) {
+            Ok(()) => Ok(()),
+            Err(kind) => Err(reader.error(kind)),
         }
     }
 }
@@ -72,7 +86,8 @@ impl EncodeValue for () {
 }
 
 impl ContentsEq for () {
-    ghost contents_eq = { contents_eq_own null_contents (λ v w. true) unit_eq_decides (λ v w e. refl) };
+    ghost contents_eq = { contents_eq_own null_contents (λ v w. true) unit_eq_decides
+        (λ v w e. refl) };
 }
 
 impl CopyIsDuplicate for () {}

@@ -104,7 +104,8 @@ impl<T: DerOrd + Tagged> ValueOrd for Vec<T> {
 }
 
 impl<T: EncodingEq + Tagged> ContentsEq for Vec<T> {
-    ghost contents_eq = { λ v w. items_eq T.tag_of T.contents T.encoding T.encoding_is T.comparable T.eq T.encoding_eq v.items w.items };
+    ghost contents_eq = { λ v w. items_eq T.tag_of T.contents T.encoding T.encoding_is T.comparable
+        T.eq T.encoding_eq v.items w.items };
 }
 
 impl<T: Duplicate> DuplicateValue for Vec<T> {
@@ -116,9 +117,12 @@ impl<T: Duplicate> DuplicateValue for Vec<T> {
         duplicate_items(*self.allocator(), self)
     }
 
-    ghost copy_contents = { λ v w. copies_encoding T.Form T.is_copy T.copy_encoding v.items w.items };
+    ghost copy_contents = { λ v w. copies_encoding T.Form T.is_copy T.copy_encoding
+        v.items w.items };
 
-    ghost copy_form_value = { λ v w x. copies_form T.Form T.is_copy T.copy_form v.items w.items x.items };
+    ghost copy_form_value = { λ v w x.
+        copies_form T.Form T.is_copy T.copy_form v.items w.items x.items };
 
-    ghost copy_re_reads_value = { λ v w. copies_re_read T.Form T.is_copy T.copy_re_reads v.items w.items };
+    ghost copy_re_reads_value = { λ v w. copies_re_read T.Form T.is_copy T.copy_re_reads
+        v.items w.items };
 }

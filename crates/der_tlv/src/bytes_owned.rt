@@ -53,14 +53,14 @@ impl BytesOwned {
         self.octets
     }
 
-    /// How many there are.
+    /// The number of octets.
     pub fn len(&self) -> Length
         ensures { result ≡ length self.now.octets.items }
     {
         Length::new(self.octets.len() as u32)
     }
 
-    /// Whether there are none.
+    /// Whether it has no octets.
     pub fn is_empty(&self) -> bool
         ensures { IsTrue result ↔ (self.now.octets.items ≡ []) }
     {

@@ -37,14 +37,14 @@ impl<'a> BytesRef<'a> {
         self.octets
     }
 
-    /// How many there are.
+    /// The number of octets.
     pub fn len(self) -> Length
         ensures { result ≡ length self.entry.octets.now }
     {
         Length::new(self.octets.len() as u32)
     }
 
-    /// Whether there are none.
+    /// Whether it has no octets.
     pub fn is_empty(self) -> bool
         ensures { IsTrue result ↔ (self.entry.octets.now ≡ []) }
     {

@@ -30,7 +30,7 @@ pub struct Header {
 }
 
 impl Header {
-    /// A header of these.
+    /// A header with this tag and this number of contents octets.
     pub const fn new(tag: Tag, length: Length) -> Header
         ensures tag { result.tag ≡ tag }
         ensures length { result.length ≡ length }
@@ -82,7 +82,8 @@ impl Header {
     /// The writer's.
     #[inline(always)]
     pub fn encode<W: Writer>(self, writer: &mut W) -> Result<(), Error>
-        ensures { Writes (header_octets self.tag self.length) (W.state writer.old) (W.state writer.new) result }
+        ensures { Writes (header_octets self.tag self.length) (W.state writer.old)
+            (W.state writer.new) result }
     {
         if let Some(octets) = self.two_octets() {
             return writer.write(&octets);
@@ -96,7 +97,8 @@ impl Header {
     /// (17) on a failed reader; the first fault of the identifier octets, then of the length octets.
     #[inline(always)]
     pub fn decode<'a, R: Reader<'a>>(reader: &mut R) -> Result<Header, Error>
-        ensures head { ReadsHead read_header octets_of (R.state reader.old) (R.state reader.new) result }
+        ensures head { ReadsHead read_header octets_of (R.state reader.old)
+            (R.state reader.new) result }
         ensures bounded { IfOk result (λ h. IsTag h.tag) }
     {
         if reader.remaining_len().value() >= 2 {
@@ -121,7 +123,8 @@ impl Header {
     #[cold]
     #[inline(never)]
     fn decode_octets<'a, R: Reader<'a>>(reader: &mut R) -> Result<Header, Error>
-        ensures head { ReadsHead read_header octets_of (R.state reader.old) (R.state reader.new) result }
+        ensures head { ReadsHead read_header octets_of (R.state reader.old)
+            (R.state reader.new) result }
         ensures bounded { IfOk result (λ h. IsTag h.tag) }
     {
         let tag = Tag::decode(reader)?;
@@ -132,7 +135,8 @@ impl Header {
     /// The octets of the header where there are two: a number of at most 30 and a length below 128.
     #[inline(always)]
     fn two_octets(&self) -> Option<[u8; 2]>
-        ensures octets { IfSome result (λ octets. octets ≡ header_octets self.now.tag self.now.length) }
+        ensures octets { IfSome result (λ octets.
+            octets ≡ header_octets self.now.tag self.now.length) }
         ensures some { IsSome result ↔ (number_of self.now.tag < 31) × (self.now.length < 128) }
     {
         let len = self.length.value();
@@ -146,7 +150,8 @@ impl Header {
     /// Writes the octets of the header, however many there are.
     #[inline(never)]
     fn encode_octets<W: Writer>(&self, writer: &mut W) -> Result<(), Error>
-        ensures { Writes (header_octets self.now.tag self.now.length) (W.state writer.old) (W.state writer.new) result }
+        ensures { Writes (header_octets self.now.tag self.now.length) (W.state writer.old)
+            (W.state writer.new) result }
     {
         let octets = self.octets();
         writer.write(octets.as_slice())

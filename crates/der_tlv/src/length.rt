@@ -115,7 +115,8 @@ impl Length {
     /// 85 to FF, more than four octets (10); one of the octets missing (2); a length that fewer
     /// octets could say (10).
     pub fn decode<'a, R: Reader<'a>>(reader: &mut R) -> Result<Length, Error>
-        ensures { ReadsHead read_length length_octets (R.state reader.old) (R.state reader.new) result }
+        ensures { ReadsHead read_length length_octets (R.state reader.old)
+            (R.state reader.new) result }
     {
         let first = reader.read_byte()?;
         match first {
@@ -131,7 +132,8 @@ impl Length {
 fn decode_long<'a, R: Reader<'a>>(reader: &mut R, count: u8) -> Result<Length, Error>
     requires some { 1 ≤ count }
     requires few { count ≤ 4 }
-    ensures head { ReadsHead (read_long_length count) (digits_of 256) (R.state reader.old) (R.state reader.new) result }
+    ensures head { ReadsHead (read_long_length count) (digits_of 256) (R.state reader.old)
+        (R.state reader.new) result }
     ensures whole { IfOk result (λ n. length_octets n ≡ (128 + count) ∷ digits_of 256 n) }
 {
     let first = reader.read_byte()?;

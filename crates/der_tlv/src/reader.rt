@@ -32,8 +32,10 @@ pub trait Reader<'a> {
     /// (17) on a failed reader; where fewer octets are left (2), or (9) where the position and
     /// their number pass the greatest length.
     fn read_slice(&mut self, len: Length) -> Result<&'a [u8], Error>
-        ensures ok { IfOk result (λ octets. OctetsRead (state self.old) (state self.new) len octets.now) }
-        ensures err { IfErr result (λ e. OctetsRefused (state self.old) (state self.new) len e.kind) };
+        ensures ok { IfOk result (λ octets.
+            OctetsRead (state self.old) (state self.new) len octets.now) }
+        ensures err { IfErr result
+            (λ e. OctetsRefused (state self.old) (state self.new) len e.kind) };
 
     /// Reads that many octets, at most eight, and answers them at the front of a block. A reader may
     /// move eight octets of the input, which takes less time than a number of octets that is not
@@ -43,18 +45,22 @@ pub trait Reader<'a> {
     /// As `read_slice`.
     fn read_front(&mut self, len: Length) -> Result<[u8; 8], Error>
         requires { len ≤ 8 }
-        ensures ok { IfOk result (λ block. OctetsRead (state self.old) (state self.new) len (take len block)) }
-        ensures err { IfErr result (λ e. OctetsRefused (state self.old) (state self.new) len e.kind) };
+        ensures ok { IfOk result (λ block.
+            OctetsRead (state self.old) (state self.new) len (take len block)) }
+        ensures err { IfErr result
+            (λ e. OctetsRefused (state self.old) (state self.new) len e.kind) };
 
     /// Reads as many octets as the buffer has, into the buffer.
     ///
     /// # Errors
     /// As `read_slice`.
     fn read_into<'b>(&mut self, buffer: &'b mut [u8]) -> Result<&'b [u8], Error>
-        ensures ok { IfOk result (λ octets. OctetsRead (state self.old) (state self.new) (length buffer.entry.now) octets.now) }
-        ensures err { IfErr result (λ e. OctetsRefused (state self.old) (state self.new) (length buffer.entry.now) e.kind) };
+        ensures ok { IfOk result (λ octets.
+            OctetsRead (state self.old) (state self.new) (length buffer.entry.now) octets.now) }
+        ensures err { IfErr result (λ e.
+            OctetsRefused (state self.old) (state self.new) (length buffer.entry.now) e.kind) };
 
-    /// Shows only that many of the octets that are left, and answers the end so far.
+    /// Limits reading to the next `len` octets, and answers the former end, for `unnest`.
     ///
     /// # Errors
     /// As `read_slice`.
@@ -64,7 +70,7 @@ pub trait Reader<'a> {
     /// Puts back the end that `nest` answered.
     ///
     /// # Errors
-    /// (17) on a failed reader; (3) where octets are left before the end of now; (9) where the end
+    /// (17) on a failed reader; (3) where octets are left before the current end; (9) where the end
     /// to be put back is below it, or behind the input.
     fn unnest(&mut self, end: Length) -> Result<(), Error>
         ensures { Unnests (state self.old) (state self.new) end result };

@@ -162,14 +162,14 @@ impl Tag {
         }
     }
 
-    /// Whether this is that tag.
-    pub fn is(self, other: Tag) -> bool
+    /// Whether the two tags are equal: in class, constructed bit and number.
+    pub fn equals(self, other: Tag) -> bool
         ensures { result ≡ same_identifier self other }
     {
         self.assert_eq(other).is_ok()
     }
 
-    /// Asks that the tag is the expected one.
+    /// Checks that the tag is the expected one.
     ///
     /// # Errors
     /// (4) with the expected tag for another.
@@ -195,21 +195,21 @@ impl Tag {
         }
     }
 
-    /// (13) for a type with this tag.
+    /// `ErrorKind::Value` (13) with this tag: the contents octets stand for no value of its type.
     pub fn value_error(self) -> ErrorKind
         ensures { result ≡ ErrorKind.Value self }
     {
         ErrorKind::Value { tag: self }
     }
 
-    /// (7) for a type with this tag.
+    /// `ErrorKind::Length` (7) with this tag: its type has no contents octets of this number.
     pub fn length_error(self) -> ErrorKind
         ensures { result ≡ ErrorKind.Length self }
     {
         ErrorKind::Length { tag: self }
     }
 
-    /// (8) for a type with this tag.
+    /// `ErrorKind::Noncanonical` (8) with this tag: the contents octets are not the canonical ones.
     pub fn non_canonical_error(self) -> ErrorKind
         ensures { result ≡ ErrorKind.Noncanonical self }
     {

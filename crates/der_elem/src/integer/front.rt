@@ -35,7 +35,8 @@ fn decode_front(block: [u8; 8], len: usize, width: usize) -> i128
     requires few { len ≤ 8 }
     requires within { len ≤ width }
     ensures value { result ≡ twos_complement (take len block) }
-    ensures contents { is_redundant (take len block) ≡ false → integer_contents result ≡ take len block }
+    ensures contents { is_redundant (take len block) ≡ false
+        → integer_contents result ≡ take len block }
     ensures fits { FitsSignedWidth width result }
 {
     let negative = is_negative(&block[..len]);
@@ -49,7 +50,8 @@ fn decode_front_unsigned(block: [u8; 8], len: usize, width: usize) -> u128
     requires few { len ≤ 8 }
     requires positive { slice_index (take len block) 0 < 128 }
     requires within { FitsUnsignedOctets width (take len block) }
-    ensures contents { is_redundant (take len block) ≡ false → natural_contents result ≡ take len block }
+    ensures contents { is_redundant (take len block) ≡ false
+        → natural_contents result ≡ take len block }
     ensures fits { FitsUnsignedWidth width result }
 {
     u128::from(front_magnitude(block, len, false))

@@ -75,8 +75,10 @@ pub fn unsigned_of(bytes: &[u8], width: usize) -> Result<u128, ErrorKind>
 fn read_front_contents<'a, R: Reader<'a>>(reader: &mut R, header: Header) -> Result<[u8; 8], Error>
     requires few { header.length ≤ 8 }
     ensures reader { Stands (R.state reader.old) (R.state reader.new) result }
-    ensures ok { length (rest (R.state reader.old)) ≡ header.length → IfOk result (λ block. ContentsRead (R.state reader.old) (R.state reader.new) (take header.length block)) }
-    ensures err { length (rest (R.state reader.old)) ≡ header.length → IfErr result (λ e. ContentsRefused (R.state reader.old) (R.state reader.new) e.kind) }
+    ensures ok { length (rest (R.state reader.old)) ≡ header.length → IfOk result (λ block.
+        ContentsRead (R.state reader.old) (R.state reader.new) (take header.length block)) }
+    ensures err { length (rest (R.state reader.old)) ≡ header.length → IfErr result (λ e.
+        ContentsRefused (R.state reader.old) (R.state reader.new) e.kind) }
 {
     reader.read_front(header.length)
 }
@@ -96,7 +98,9 @@ fn read_short_signed<'a, R: Reader<'a>>(
     requires few { header.length ≤ 8 }
     ensures fits { IfOk result (FitsSignedWidth width) }
     ensures reader { Stands (R.state reader.old) (R.state reader.new) result }
-    ensures read { length (rest (R.state reader.old)) ≡ header.length → DecodesOwn integer_contents (FitsSignedWidth width) (parse_signed width) (R.state reader.old) (R.state reader.new) result }
+    ensures read { length (rest (R.state reader.old)) ≡ header.length
+        → DecodesOwn integer_contents (FitsSignedWidth width) (parse_signed width)
+        (R.state reader.old) (R.state reader.new) result }
 {
     let len = usize::from(header.length);
     let block = match read_front_contents(reader, header) {
@@ -123,7 +127,9 @@ pub fn read_signed<'a, R: Reader<'a>>(
     requires most { width ≤ 16 }
     ensures fits { IfOk result (FitsSignedWidth width) }
     ensures reader { Stands (R.state reader.old) (R.state reader.new) result }
-    ensures read { length (rest (R.state reader.old)) ≡ header.length → DecodesOwn integer_contents (FitsSignedWidth width) (parse_signed width) (R.state reader.old) (R.state reader.new) result }
+    ensures read { length (rest (R.state reader.old)) ≡ header.length
+        → DecodesOwn integer_contents (FitsSignedWidth width) (parse_signed width)
+        (R.state reader.old) (R.state reader.new) result }
 {
     if header.length.value() <= 8 {
         return read_short_signed(reader, header, width);
@@ -150,7 +156,9 @@ fn read_short_unsigned<'a, R: Reader<'a>>(
     requires few { header.length ≤ 8 }
     ensures fits { IfOk result (FitsUnsignedWidth width) }
     ensures reader { Stands (R.state reader.old) (R.state reader.new) result }
-    ensures read { length (rest (R.state reader.old)) ≡ header.length → DecodesOwn natural_contents (FitsUnsignedWidth width) (parse_unsigned width) (R.state reader.old) (R.state reader.new) result }
+    ensures read { length (rest (R.state reader.old)) ≡ header.length
+        → DecodesOwn natural_contents (FitsUnsignedWidth width) (parse_unsigned width)
+        (R.state reader.old) (R.state reader.new) result }
 {
     let len = usize::from(header.length);
     let block = match read_front_contents(reader, header) {
@@ -178,7 +186,9 @@ pub fn read_unsigned<'a, R: Reader<'a>>(
     requires most { width ≤ 16 }
     ensures fits { IfOk result (FitsUnsignedWidth width) }
     ensures reader { Stands (R.state reader.old) (R.state reader.new) result }
-    ensures read { length (rest (R.state reader.old)) ≡ header.length → DecodesOwn natural_contents (FitsUnsignedWidth width) (parse_unsigned width) (R.state reader.old) (R.state reader.new) result }
+    ensures read { length (rest (R.state reader.old)) ≡ header.length
+        → DecodesOwn natural_contents (FitsUnsignedWidth width) (parse_unsigned width)
+        (R.state reader.old) (R.state reader.new) result }
 {
     if header.length.value() <= 8 {
         return read_short_unsigned(reader, header, width);

@@ -39,7 +39,8 @@ impl FormValue for i8 {
 
     ghost readable_value = { FitsSignedWidth 1 };
 
-    ghost parse_of_accepted_value = { parse_of_within integer_contents (FitsSignedWidth 1) (parse_signed 1) (parse_signed-own 1 (lit< tt)) };
+    ghost parse_of_accepted_value = { parse_of_within integer_contents (FitsSignedWidth 1)
+        (parse_signed 1) (parse_signed-own 1 (lit< tt)) };
 
     ghost same_length_value = { same_length_within integer_contents (FitsSignedWidth 1) };
 
@@ -86,7 +87,8 @@ impl ValueOrd for i8 {
 }
 
 impl ContentsEq for i8 {
-    ghost contents_eq = { contents_eq_own integer_contents int_eq Decides-int_eq integer_contents-injective };
+    ghost contents_eq = { contents_eq_own integer_contents int_eq Decides-int_eq
+        integer_contents-injective };
 }
 
 impl CopyIsDuplicate for i8 {}
@@ -100,7 +102,8 @@ impl FormValue for i16 {
 
     ghost readable_value = { FitsSignedWidth 2 };
 
-    ghost parse_of_accepted_value = { parse_of_within integer_contents (FitsSignedWidth 2) (parse_signed 2) (parse_signed-own 2 (lit< tt)) };
+    ghost parse_of_accepted_value = { parse_of_within integer_contents (FitsSignedWidth 2)
+        (parse_signed 2) (parse_signed-own 2 (lit< tt)) };
 
     ghost same_length_value = { same_length_within integer_contents (FitsSignedWidth 2) };
 
@@ -147,7 +150,8 @@ impl ValueOrd for i16 {
 }
 
 impl ContentsEq for i16 {
-    ghost contents_eq = { contents_eq_own integer_contents int_eq Decides-int_eq integer_contents-injective };
+    ghost contents_eq = { contents_eq_own integer_contents int_eq Decides-int_eq
+        integer_contents-injective };
 }
 
 impl CopyIsDuplicate for i16 {}
@@ -161,7 +165,8 @@ impl FormValue for i32 {
 
     ghost readable_value = { FitsSignedWidth 4 };
 
-    ghost parse_of_accepted_value = { parse_of_within integer_contents (FitsSignedWidth 4) (parse_signed 4) (parse_signed-own 4 (lit< tt)) };
+    ghost parse_of_accepted_value = { parse_of_within integer_contents (FitsSignedWidth 4)
+        (parse_signed 4) (parse_signed-own 4 (lit< tt)) };
 
     ghost same_length_value = { same_length_within integer_contents (FitsSignedWidth 4) };
 
@@ -208,7 +213,8 @@ impl ValueOrd for i32 {
 }
 
 impl ContentsEq for i32 {
-    ghost contents_eq = { contents_eq_own integer_contents int_eq Decides-int_eq integer_contents-injective };
+    ghost contents_eq = { contents_eq_own integer_contents int_eq Decides-int_eq
+        integer_contents-injective };
 }
 
 impl CopyIsDuplicate for i32 {}
@@ -222,7 +228,8 @@ impl FormValue for i64 {
 
     ghost readable_value = { FitsSignedWidth 8 };
 
-    ghost parse_of_accepted_value = { parse_of_within integer_contents (FitsSignedWidth 8) (parse_signed 8) (parse_signed-own 8 (lit< tt)) };
+    ghost parse_of_accepted_value = { parse_of_within integer_contents (FitsSignedWidth 8)
+        (parse_signed 8) (parse_signed-own 8 (lit< tt)) };
 
     ghost same_length_value = { same_length_within integer_contents (FitsSignedWidth 8) };
 
@@ -269,7 +276,8 @@ impl ValueOrd for i64 {
 }
 
 impl ContentsEq for i64 {
-    ghost contents_eq = { contents_eq_own integer_contents int_eq Decides-int_eq integer_contents-injective };
+    ghost contents_eq = { contents_eq_own integer_contents int_eq Decides-int_eq
+        integer_contents-injective };
 }
 
 impl CopyIsDuplicate for i64 {}
@@ -283,7 +291,8 @@ impl FormValue for i128 {
 
     ghost readable_value = { FitsSignedWidth 16 };
 
-    ghost parse_of_accepted_value = { parse_of_within integer_contents (FitsSignedWidth 16) (parse_signed 16) (parse_signed-own 16 (lit< tt)) };
+    ghost parse_of_accepted_value = { parse_of_within integer_contents (FitsSignedWidth 16)
+        (parse_signed 16) (parse_signed-own 16 (lit< tt)) };
 
     ghost same_length_value = { same_length_within integer_contents (FitsSignedWidth 16) };
 
@@ -329,7 +338,8 @@ impl ValueOrd for i128 {
 }
 
 impl ContentsEq for i128 {
-    ghost contents_eq = { contents_eq_own integer_contents int_eq Decides-int_eq integer_contents-injective };
+    ghost contents_eq = { contents_eq_own integer_contents int_eq Decides-int_eq
+        integer_contents-injective };
 }
 
 impl CopyIsDuplicate for i128 {}

@@ -38,7 +38,8 @@ impl FormValue for u8 {
 
     ghost readable_value = { FitsUnsignedWidth 1 };
 
-    ghost parse_of_accepted_value = { parse_of_within natural_contents (FitsUnsignedWidth 1) (parse_unsigned 1) (parse_unsigned-own 1) };
+    ghost parse_of_accepted_value = { parse_of_within natural_contents (FitsUnsignedWidth 1)
+        (parse_unsigned 1) (parse_unsigned-own 1) };
 
     ghost same_length_value = { same_length_within natural_contents (FitsUnsignedWidth 1) };
 
@@ -85,7 +86,8 @@ impl ValueOrd for u8 {
 }
 
 impl ContentsEq for u8 {
-    ghost contents_eq = { contents_eq_own natural_contents nat_eq Decides-eqb natural_contents-injective };
+    ghost contents_eq = { contents_eq_own natural_contents nat_eq Decides-eqb
+        natural_contents-injective };
 }
 
 impl CopyIsDuplicate for u8 {}
@@ -99,7 +101,8 @@ impl FormValue for u16 {
 
     ghost readable_value = { FitsUnsignedWidth 2 };
 
-    ghost parse_of_accepted_value = { parse_of_within natural_contents (FitsUnsignedWidth 2) (parse_unsigned 2) (parse_unsigned-own 2) };
+    ghost parse_of_accepted_value = { parse_of_within natural_contents (FitsUnsignedWidth 2)
+        (parse_unsigned 2) (parse_unsigned-own 2) };
 
     ghost same_length_value = { same_length_within natural_contents (FitsUnsignedWidth 2) };
 
@@ -146,7 +149,8 @@ impl ValueOrd for u16 {
 }
 
 impl ContentsEq for u16 {
-    ghost contents_eq = { contents_eq_own natural_contents nat_eq Decides-eqb natural_contents-injective };
+    ghost contents_eq = { contents_eq_own natural_contents nat_eq Decides-eqb
+        natural_contents-injective };
 }
 
 impl CopyIsDuplicate for u16 {}
@@ -160,7 +164,8 @@ impl FormValue for u32 {
 
     ghost readable_value = { FitsUnsignedWidth 4 };
 
-    ghost parse_of_accepted_value = { parse_of_within natural_contents (FitsUnsignedWidth 4) (parse_unsigned 4) (parse_unsigned-own 4) };
+    ghost parse_of_accepted_value = { parse_of_within natural_contents (FitsUnsignedWidth 4)
+        (parse_unsigned 4) (parse_unsigned-own 4) };
 
     ghost same_length_value = { same_length_within natural_contents (FitsUnsignedWidth 4) };
 
@@ -207,7 +212,8 @@ impl ValueOrd for u32 {
 }
 
 impl ContentsEq for u32 {
-    ghost contents_eq = { contents_eq_own natural_contents nat_eq Decides-eqb natural_contents-injective };
+    ghost contents_eq = { contents_eq_own natural_contents nat_eq Decides-eqb
+        natural_contents-injective };
 }
 
 impl CopyIsDuplicate for u32 {}
@@ -221,7 +227,8 @@ impl FormValue for u64 {
 
     ghost readable_value = { FitsUnsignedWidth 8 };
 
-    ghost parse_of_accepted_value = { parse_of_within natural_contents (FitsUnsignedWidth 8) (parse_unsigned 8) (parse_unsigned-own 8) };
+    ghost parse_of_accepted_value = { parse_of_within natural_contents (FitsUnsignedWidth 8)
+        (parse_unsigned 8) (parse_unsigned-own 8) };
 
     ghost same_length_value = { same_length_within natural_contents (FitsUnsignedWidth 8) };
 
@@ -268,7 +275,8 @@ impl ValueOrd for u64 {
 }
 
 impl ContentsEq for u64 {
-    ghost contents_eq = { contents_eq_own natural_contents nat_eq Decides-eqb natural_contents-injective };
+    ghost contents_eq = { contents_eq_own natural_contents nat_eq Decides-eqb
+        natural_contents-injective };
 }
 
 impl CopyIsDuplicate for u64 {}
@@ -282,7 +290,8 @@ impl FormValue for u128 {
 
     ghost readable_value = { FitsUnsignedWidth 16 };
 
-    ghost parse_of_accepted_value = { parse_of_within natural_contents (FitsUnsignedWidth 16) (parse_unsigned 16) (parse_unsigned-own 16) };
+    ghost parse_of_accepted_value = { parse_of_within natural_contents (FitsUnsignedWidth 16)
+        (parse_unsigned 16) (parse_unsigned-own 16) };
 
     ghost same_length_value = { same_length_within natural_contents (FitsUnsignedWidth 16) };
 
@@ -328,7 +337,8 @@ impl ValueOrd for u128 {
 }
 
 impl ContentsEq for u128 {
-    ghost contents_eq = { contents_eq_own natural_contents nat_eq Decides-eqb natural_contents-injective };
+    ghost contents_eq = { contents_eq_own natural_contents nat_eq Decides-eqb
+        natural_contents-injective };
 }
 
 impl CopyIsDuplicate for u128 {}

@@ -46,7 +46,8 @@ pub fn signed_len(number: i128) -> u32
 /// The writer's.
 #[inline(always)]
 pub fn write_signed<W: Writer>(writer: &mut W, number: i128) -> Result<(), Error>
-    ensures { Encodes (integer_contents number) false (W.state writer.old) (W.state writer.new) result }
+    ensures { Encodes (integer_contents number) false (W.state writer.old)
+        (W.state writer.new) result }
 {
     let Ok(short) = i64::try_from(number) else {
         return write_wide(writer, number);
@@ -62,7 +63,8 @@ pub fn write_signed<W: Writer>(writer: &mut W, number: i128) -> Result<(), Error
 /// The writer's.
 #[inline(never)]
 fn write_wide<W: Writer>(writer: &mut W, number: i128) -> Result<(), Error>
-    ensures { Encodes (integer_contents number) false (W.state writer.old) (W.state writer.new) result }
+    ensures { Encodes (integer_contents number) false (W.state writer.old)
+        (W.state writer.new) result }
 {
     let len = signed_len(number) as usize;
     let octets = number.cast_unsigned().to_be_bytes();
@@ -83,7 +85,8 @@ pub fn unsigned_octets(number: u128) -> [u8; 17]
 /// # Errors
 /// The writer's.
 pub fn write_unsigned<W: Writer>(writer: &mut W, number: u128) -> Result<(), Error>
-    ensures { Encodes (natural_contents number) false (W.state writer.old) (W.state writer.new) result }
+    ensures { Encodes (natural_contents number) false (W.state writer.old)
+        (W.state writer.new) result }
 {
     if number < LEAST_LONG {
         return write_signed(writer, number as i128);

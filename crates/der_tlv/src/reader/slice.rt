@@ -26,13 +26,15 @@ pub struct SliceReader<'a> {
 }
 
 impl<'a> SliceReader<'a> {
+    ghost use Rattle.der_tlv.specs.Views.{slice_reader_state};
+
     /// A reader of all of the octets, under DER.
     ///
     /// # Errors
     /// (9) for more than 4294967295 octets.
     pub fn new(bytes: &'a [u8]) -> Result<SliceReader<'a>, Error>
         ensures ok { IsOk result ↔ (length bytes.now < 2 ^ 32) }
-        ensures state { IfOk result (λ r. ⟦<SliceReader<'a> as Reader<'a>>⟧.state r ≡ new_reader bytes.now Der) }
+        ensures state { IfOk result (λ r. slice_reader_state r ≡ new_reader bytes.now Der) }
         ensures err { IfErr result (λ e. e.kind ≡ Overflow) }
     {
         SliceReader::new_with_encoding_rules(bytes, EncodingRules::Der)
@@ -47,7 +49,7 @@ impl<'a> SliceReader<'a> {
         rules: EncodingRules,
     ) -> Result<SliceReader<'a>, Error>
         ensures ok { IsOk result ↔ (length bytes.now < 2 ^ 32) }
-        ensures state { IfOk result (λ r. ⟦<SliceReader<'a> as Reader<'a>>⟧.state r ≡ new_reader bytes.now rules) }
+        ensures state { IfOk result (λ r. slice_reader_state r ≡ new_reader bytes.now rules) }
         ensures err { IfErr result (λ e. e.kind ≡ Overflow) }
     {
         if bytes.len() > 0xffff_ffff {
@@ -68,8 +70,8 @@ impl<'a> SliceReader<'a> {
     /// (17) on a failed reader; (3) where the position is not the end of the whole input, whatever
     /// is nested.
     pub fn finish(self) -> Result<(), Error>
-        ensures ok { IsOk result ↔ (can_finish (⟦<SliceReader<'a> as Reader<'a>>⟧.state self.entry) ≡ true) }
-        ensures err { IfErr result (λ e. e.kind ≡ finish_fault (⟦<SliceReader<'a> as Reader<'a>>⟧.state self.entry)) }
+        ensures ok { IsOk result ↔ (can_finish (slice_reader_state self.entry) ≡ true) }
+        ensures err { IfErr result (λ e. e.kind ≡ finish_fault (slice_reader_state self.entry)) }
     {
         if self.failed {
             return Err(Error {
@@ -95,9 +97,9 @@ impl<'a> SliceReader<'a> {
     #[cold]
     #[inline(never)]
     fn refusal(&mut self, len: usize) -> Error
-        requires { can_read (⟦<SliceReader<'a> as Reader<'a>>⟧.state self.old) len ≡ false }
-        ensures kind { result.kind ≡ read_fault (⟦<SliceReader<'a> as Reader<'a>>⟧.state self.old) len }
-        ensures failed { ⟦<SliceReader<'a> as Reader<'a>>⟧.state self.new ≡ after_fault (⟦<SliceReader<'a> as Reader<'a>>⟧.state self.old) }
+        requires { can_read (slice_reader_state self.old) len ≡ false }
+        ensures kind { result.kind ≡ read_fault (slice_reader_state self.old) len }
+        ensures failed { slice_reader_state self.new ≡ after_fault (slice_reader_state self.old) }
     {
         let kind = if self.failed {
             ErrorKind::Failed
@@ -115,7 +117,9 @@ impl<'a> SliceReader<'a> {
 }
 
 impl<'a> Clone for SliceReader<'a> {
-    ghost is_clone = { λ s r. ⟦<SliceReader<'a> as Reader<'a>>⟧.state r ≡ ⟦<SliceReader<'a> as Reader<'a>>⟧.state s };
+    ghost use Rattle.der_tlv.specs.Views.{slice_reader_state};
+
+    ghost is_clone = { λ s r. slice_reader_state r ≡ slice_reader_state s };
 
     ghost is_infallible = { λ _. ⊤ };
 

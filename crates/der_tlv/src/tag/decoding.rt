@@ -24,7 +24,8 @@ impl Tag {
     /// with the constructed bit that it does not have (8).
     #[inline]
     pub fn decode<'a, R: Reader<'a>>(reader: &mut R) -> Result<Tag, Error>
-        ensures head { ReadsHead read_tag identifier (R.state reader.old) (R.state reader.new) result }
+        ensures head { ReadsHead read_tag identifier (R.state reader.old)
+            (R.state reader.new) result }
         ensures bounded { IfOk result (λ t. IsTag t) }
     {
         let first = reader.read_byte()?;
@@ -48,7 +49,8 @@ impl Tag {
     /// # Errors
     /// As `decode`; the reader has failed then.
     pub fn peek<'a, R: Reader<'a>>(reader: &mut R) -> Result<Tag, Error>
-        ensures head { PeeksHead read_tag identifier (R.state reader.old) (R.state reader.new) result }
+        ensures head { PeeksHead read_tag identifier (R.state reader.old)
+            (R.state reader.new) result }
         ensures bounded { IfOk result (λ t. IsTag t) }
     {
         let start = reader.position();
@@ -82,7 +84,8 @@ impl Tag {
 /// Reads the octets of a number of more than 30: its digits in base 128, highest first, with bit 8
 /// set in all but the last.
 fn decode_number<'a, R: Reader<'a>>(reader: &mut R) -> Result<u32, Error>
-    ensures head { ReadsHead read_number number_octets (R.state reader.old) (R.state reader.new) result }
+    ensures head { ReadsHead read_number number_octets (R.state reader.old)
+        (R.state reader.new) result }
     ensures long { IfOk result (λ n. 31 ≤ n) }
 {
     let mut number = 0;

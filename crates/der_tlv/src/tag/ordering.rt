@@ -35,7 +35,8 @@ impl Ord for Tag {
 impl PartialOrd for Tag {
     ghost partial_cmp = { as_partial_cmp (on identifier lex) };
 
-    ghost laws = { partial_order_from_own_ties (partial_order_from_total (on_total identifier nat_list_cmp_total)) tag_eq-identifier };
+    ghost laws = { partial_order_from_own_ties
+        (partial_order_from_total (on_total identifier nat_list_cmp_total)) tag_eq-identifier };
 
     /// The lexicographic order of the identifier octets.
     fn partial_cmp(&self, other: &Tag) -> Option<Ordering> {

@@ -191,9 +191,9 @@ fn parts(rt: HostRuntime) {
     assert!(rt; Tag::Set.is_constructed());
     assert_eq!(rt; Tag::Set.number().value(), 17);
     assert_eq!(rt; context(5).class(), Class::ContextSpecific);
-    assert!(rt; context(5).is(context(5)));
-    assert!(rt; !context(5).is(context(6)));
-    assert!(rt; !Tag::Set.is(Tag::Sequence));
+    assert!(rt; context(5).equals(context(5)));
+    assert!(rt; !context(5).equals(context(6)));
+    assert!(rt; !Tag::Set.equals(Tag::Sequence));
 }
 
 #[test]

@@ -19,11 +19,13 @@ pub struct SliceWriter<'a> {
 }
 
 impl<'a> SliceWriter<'a> {
+    ghost use Rattle.der_tlv.specs.Views.{slice_writer_state};
+
     /// A writer into these octets, from the first on.
     pub fn new(bytes: &'a mut [u8]) -> SliceWriter<'a>
-        ensures taken { (⟦<SliceWriter<'a> as Writer>⟧.state result).taken ≡ [] }
-        ensures ready { (⟦<SliceWriter<'a> as Writer>⟧.state result).failed ≡ false }
-        ensures room { (⟦<SliceWriter<'a> as Writer>⟧.state result).room ≡ length bytes.entry.now }
+        ensures taken { (slice_writer_state result).taken ≡ [] }
+        ensures ready { (slice_writer_state result).failed ≡ false }
+        ensures room { (slice_writer_state result).room ≡ length bytes.entry.now }
     {
         SliceWriter {
             bytes,
@@ -34,7 +36,7 @@ impl<'a> SliceWriter<'a> {
 
     /// The octets that were written.
     pub fn finish(self) -> &'a [u8]
-        ensures { result.now ≡ (⟦<SliceWriter<'a> as Writer>⟧.state self.entry).taken }
+        ensures { result.now ≡ (slice_writer_state self.entry).taken }
     {
         let position = self.position;
         let bytes = self.bytes;
@@ -49,9 +51,11 @@ impl<'a> Writer for SliceWriter<'a> {
 
     #[inline]
     fn write(&mut self, octets: &[u8]) -> Result<(), Error>
-        ensures written { Writes octets.now (⟦<SliceWriter<'a> as Writer>⟧.state self.old) (⟦<SliceWriter<'a> as Writer>⟧.state self.new) result }
-        ensures ready { OnOk result ((⟦<SliceWriter<'a> as Writer>⟧.state self.old).failed ≡ false) }
-        ensures kept { OnErr result ((⟦<SliceWriter<'a> as Writer>⟧.state self.new).taken ≡ (⟦<SliceWriter<'a> as Writer>⟧.state self.old).taken) }
+        ensures written { Writes octets.now (slice_writer_state self.old)
+            (slice_writer_state self.new) result }
+        ensures ready { OnOk result ((slice_writer_state self.old).failed ≡ false) }
+        ensures kept { OnErr result
+            ((slice_writer_state self.new).taken ≡ (slice_writer_state self.old).taken) }
     {
         if self.failed {
             return Err(Error::from_kind(ErrorKind::Failed));
@@ -68,9 +72,11 @@ impl<'a> Writer for SliceWriter<'a> {
 
     #[inline]
     fn write_byte(&mut self, octet: u8) -> Result<(), Error>
-        ensures written { Writes (octet ∷ []) (⟦<SliceWriter<'a> as Writer>⟧.state self.old) (⟦<SliceWriter<'a> as Writer>⟧.state self.new) result }
-        ensures ready { OnOk result ((⟦<SliceWriter<'a> as Writer>⟧.state self.old).failed ≡ false) }
-        ensures kept { OnErr result ((⟦<SliceWriter<'a> as Writer>⟧.state self.new).taken ≡ (⟦<SliceWriter<'a> as Writer>⟧.state self.old).taken) }
+        ensures written { Writes (octet ∷ []) (slice_writer_state self.old)
+            (slice_writer_state self.new) result }
+        ensures ready { OnOk result ((slice_writer_state self.old).failed ≡ false) }
+        ensures kept { OnErr result
+            ((slice_writer_state self.new).taken ≡ (slice_writer_state self.old).taken) }
     {
         self.write(&[octet])
     }
@@ -78,9 +84,11 @@ impl<'a> Writer for SliceWriter<'a> {
     #[inline]
     fn write_front(&mut self, block: [u8; 8], len: usize) -> Result<(), Error>
         requires { len ≤ 8 }
-        ensures written { Writes (take len block) (⟦<SliceWriter<'a> as Writer>⟧.state self.old) (⟦<SliceWriter<'a> as Writer>⟧.state self.new) result }
-        ensures ready { OnOk result ((⟦<SliceWriter<'a> as Writer>⟧.state self.old).failed ≡ false) }
-        ensures kept { OnErr result ((⟦<SliceWriter<'a> as Writer>⟧.state self.new).taken ≡ (⟦<SliceWriter<'a> as Writer>⟧.state self.old).taken) }
+        ensures written { Writes (take len block) (slice_writer_state self.old)
+            (slice_writer_state self.new) result }
+        ensures ready { OnOk result ((slice_writer_state self.old).failed ≡ false) }
+        ensures kept { OnErr result
+            ((slice_writer_state self.new).taken ≡ (slice_writer_state self.old).taken) }
     {
         self.write(&block[..len])
     }

@@ -19,10 +19,12 @@ pub struct VecWriter {
 }
 
 impl VecWriter {
+    ghost use Rattle.der_tlv.specs.Views.{vec_writer_state};
+
     /// A writer that holds nothing. It takes no memory yet.
     pub fn new(alloc: Global) -> VecWriter
-        ensures taken { (⟦<VecWriter as Writer>⟧.state result).taken ≡ [] }
-        ensures ready { (⟦<VecWriter as Writer>⟧.state result).failed ≡ false }
+        ensures taken { (vec_writer_state result).taken ≡ [] }
+        ensures ready { (vec_writer_state result).failed ≡ false }
     {
         VecWriter {
             octets: Vec::new(alloc),
@@ -35,9 +37,9 @@ impl VecWriter {
     /// # Errors
     /// (1) where memory runs out.
     pub fn with_capacity(alloc: Global, capacity: usize) -> Result<VecWriter, Error>
-        ensures taken { IfOk result (λ w. (⟦<VecWriter as Writer>⟧.state w).taken ≡ []) }
-        ensures ready { IfOk result (λ w. (⟦<VecWriter as Writer>⟧.state w).failed ≡ false) }
-        ensures room { IfOk result (λ w. capacity ≤ (⟦<VecWriter as Writer>⟧.state w).room) }
+        ensures taken { IfOk result (λ w. (vec_writer_state w).taken ≡ []) }
+        ensures ready { IfOk result (λ w. (vec_writer_state w).failed ≡ false) }
+        ensures room { IfOk result (λ w. capacity ≤ (vec_writer_state w).room) }
         ensures err { IfErr result (λ e. e.kind ≡ Memory) }
     {
         match Vec::with_capacity(alloc, capacity) {
@@ -56,16 +58,18 @@ impl VecWriter {
     #[inline(never)]
     fn write_few(&mut self, block: [u8; 8], len: usize) -> Result<(), Error>
         requires { len ≤ 8 }
-        ensures written { Writes (take len block) (⟦<VecWriter as Writer>⟧.state self.old) (⟦<VecWriter as Writer>⟧.state self.new) result }
-        ensures ready { OnOk result ((⟦<VecWriter as Writer>⟧.state self.old).failed ≡ false) }
-        ensures kept { OnErr result ((⟦<VecWriter as Writer>⟧.state self.new).taken ≡ (⟦<VecWriter as Writer>⟧.state self.old).taken) }
+        ensures written { Writes (take len block) (vec_writer_state self.old)
+            (vec_writer_state self.new) result }
+        ensures ready { OnOk result ((vec_writer_state self.old).failed ≡ false) }
+        ensures kept { OnErr result
+            ((vec_writer_state self.new).taken ≡ (vec_writer_state self.old).taken) }
     {
         self.write(&block[..len])
     }
 
     /// The octets.
     pub fn finish(self) -> Vec<u8>
-        ensures { result.items ≡ (⟦<VecWriter as Writer>⟧.state self).taken }
+        ensures { result.items ≡ (vec_writer_state self).taken }
     {
         self.octets
     }
@@ -78,9 +82,11 @@ impl Writer for VecWriter {
 
     #[inline]
     fn write(&mut self, octets: &[u8]) -> Result<(), Error>
-        ensures written { Writes octets.now (⟦<VecWriter as Writer>⟧.state self.old) (⟦<VecWriter as Writer>⟧.state self.new) result }
-        ensures ready { OnOk result ((⟦<VecWriter as Writer>⟧.state self.old).failed ≡ false) }
-        ensures kept { OnErr result ((⟦<VecWriter as Writer>⟧.state self.new).taken ≡ (⟦<VecWriter as Writer>⟧.state self.old).taken) }
+        ensures written { Writes octets.now (vec_writer_state self.old)
+            (vec_writer_state self.new) result }
+        ensures ready { OnOk result ((vec_writer_state self.old).failed ≡ false) }
+        ensures kept { OnErr result
+            ((vec_writer_state self.new).taken ≡ (vec_writer_state self.old).taken) }
     {
         if self.failed {
             return Err(Error::from_kind(ErrorKind::Failed));
@@ -96,9 +102,11 @@ impl Writer for VecWriter {
 
     #[inline]
     fn write_byte(&mut self, octet: u8) -> Result<(), Error>
-        ensures written { Writes (octet ∷ []) (⟦<VecWriter as Writer>⟧.state self.old) (⟦<VecWriter as Writer>⟧.state self.new) result }
-        ensures ready { OnOk result ((⟦<VecWriter as Writer>⟧.state self.old).failed ≡ false) }
-        ensures kept { OnErr result ((⟦<VecWriter as Writer>⟧.state self.new).taken ≡ (⟦<VecWriter as Writer>⟧.state self.old).taken) }
+        ensures written { Writes (octet ∷ []) (vec_writer_state self.old)
+            (vec_writer_state self.new) result }
+        ensures ready { OnOk result ((vec_writer_state self.old).failed ≡ false) }
+        ensures kept { OnErr result
+            ((vec_writer_state self.new).taken ≡ (vec_writer_state self.old).taken) }
     {
         self.write(&[octet])
     }
@@ -107,9 +115,11 @@ impl Writer for VecWriter {
     #[inline(always)]
     fn write_front(&mut self, block: [u8; 8], len: usize) -> Result<(), Error>
         requires { len ≤ 8 }
-        ensures written { Writes (take len block) (⟦<VecWriter as Writer>⟧.state self.old) (⟦<VecWriter as Writer>⟧.state self.new) result }
-        ensures ready { OnOk result ((⟦<VecWriter as Writer>⟧.state self.old).failed ≡ false) }
-        ensures kept { OnErr result ((⟦<VecWriter as Writer>⟧.state self.new).taken ≡ (⟦<VecWriter as Writer>⟧.state self.old).taken) }
+        ensures written { Writes (take len block) (vec_writer_state self.old)
+            (vec_writer_state self.new) result }
+        ensures ready { OnOk result ((vec_writer_state self.old).failed ≡ false) }
+        ensures kept { OnErr result
+            ((vec_writer_state self.new).taken ≡ (vec_writer_state self.old).taken) }
     {
         let held = self.octets.len();
         if self.failed || self.octets.capacity() - held < 8 {

@@ -1,6 +1,6 @@
 use Rattle.std.proofs.Common.{sym, ◌∙◌}
 use Rattle.der_tlv.specs.HeaderLaws.{same_identifier-test}
-use Rattle.der_tlv.proofs.tag.Tag.is.Goals as goal
+use Rattle.der_tlv.proofs.tag.Tag.equals.Goals as goal
 
 pub returns : goal.returns
 returns c =
