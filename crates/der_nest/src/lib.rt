@@ -2,6 +2,7 @@
 #![tactic(auto)]
 
 mod comparing;
+mod falling;
 mod finding;
 mod items;
 pub mod laws;
