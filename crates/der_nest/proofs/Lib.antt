@@ -11,3 +11,4 @@ pub mod BorrowedWriting
 pub mod BorrowedOrder
 pub mod BorrowedOwning
 pub mod MergingRuns
+pub mod Blocks

@@ -7,6 +7,7 @@
 #![tactic(auto)]
 
 mod comparing;
+mod falling;
 mod finding;
 mod items;
 pub mod laws;

@@ -149,10 +149,18 @@ fn three_ways(alloc: Global, factor: u32, step: u32) -> Result<[u32; 3], Fail> {
     Ok([first, second, third])
 }
 
+// The second item of a run that is read is asked of twice, since the run might fall.
 #[test]
 fn rising_items_are_compared_once_each(rt: HostRuntime) -> Result<(), Fail> {
     let counts = three_ways(rt.alloc(), 1, 1)?;
-    assert_eq!(rt; counts, [3999, 3999, 3999]);
+    assert_eq!(rt; counts, [4000, 3999, 3999]);
+    Ok(())
+}
+
+#[test]
+fn falling_items_that_are_read_are_compared_once_each(rt: HostRuntime) -> Result<(), Fail> {
+    let counts = three_ways(rt.alloc(), 1, 4000)?;
+    assert_eq!(rt; counts, [3999, 47904, 47904]);
     Ok(())
 }
 
@@ -160,9 +168,7 @@ fn rising_items_are_compared_once_each(rt: HostRuntime) -> Result<(), Fail> {
 fn other_items_are_compared_as_often_as_their_numbers_have_digits(
     rt: HostRuntime,
 ) -> Result<(), Fail> {
-    let falling = three_ways(rt.alloc(), 1, 4000)?;
-    assert_eq!(rt; falling, [38654, 47904, 47904]);
     let scattered = three_ways(rt.alloc(), 3, 0)?;
-    assert_eq!(rt; scattered, [49471, 46289, 46289]);
+    assert_eq!(rt; scattered, [49553, 46289, 46289]);
     Ok(())
 }

@@ -48,13 +48,37 @@ fn falling_numbers_are_put_in_order(rt: HostRuntime) -> Result<(), Fail> {
     Ok(())
 }
 
-// A set of the numbers is what sorting makes of them.
-fn is_sorted_as_a_list(rt: &impl Abort, numbers: Vec<u16>) -> Result<(), Fail> {
+// A set of the numbers is what sorting makes of them, and so is one that is read.
+fn is_sorted_as_a_list(rt: &impl Abort, alloc: Global, numbers: Vec<u16>) -> Result<(), Fail> {
     let mut list = numbers.clone()?;
     list.sort()?;
+    let mut octets = numbered(numbers.to_der(alloc))?;
+    octets[0] = 0x31;
     let set: SetOfVec<u16> = numbered(SetOfVec::try_from(numbers))?;
     assert!(rt; set.as_slice() == list.as_slice());
+    let read: SetOfVec<u16> = numbered(SetOfVec::from_der(alloc, octets.as_slice()))?;
+    assert!(rt; read.as_slice() == list.as_slice());
     Ok(())
+}
+
+// 1000 numbers below 1000, of which each is the one before it and a step on.
+fn stepping(alloc: Global, step: u16) -> Result<Vec<u16>, AllocError> {
+    let mut numbers = Vec::new(alloc);
+    let mut number = 0;
+    for _i in 0..1000u16 {
+        numbers.push(number)?;
+        number = (number % 1000 + step % 1000) % 1000;
+    }
+    Ok(numbers)
+}
+
+// 1000 numbers that fall, each as often as it says.
+fn falling_in_steps(alloc: Global, times: u16) -> Result<Vec<u16>, AllocError> {
+    let mut numbers = Vec::new(alloc);
+    for i in 0..1000u16 {
+        numbers.push(1000 - i / times.max(1))?;
+    }
+    Ok(numbers)
 }
 
 // So many numbers below 50, in no order.
@@ -76,9 +100,20 @@ fn sets_are_sorted_as_lists_are(rt: HostRuntime) -> Result<(), Fail> {
     for i in 0..2000u16 {
         numbers.push(1999 - i)?;
     }
-    is_sorted_as_a_list(&rt, numbers)?;
+    is_sorted_as_a_list(&rt, rt.alloc(), numbers)?;
     for count in [0, 1, 2, 5, 17, 64, 257, 1000] {
-        is_sorted_as_a_list(&rt, scattered(rt.alloc(), count)?)?;
+        is_sorted_as_a_list(&rt, rt.alloc(), scattered(rt.alloc(), count)?)?;
+    }
+    Ok(())
+}
+
+#[test]
+fn runs_that_fall_and_rise_are_sorted_as_lists_are(rt: HostRuntime) -> Result<(), Fail> {
+    for step in [1, 2, 5, 200, 333, 500, 800, 995, 998, 999] {
+        is_sorted_as_a_list(&rt, rt.alloc(), stepping(rt.alloc(), step)?)?;
+    }
+    for times in [1, 2, 3, 140, 1000] {
+        is_sorted_as_a_list(&rt, rt.alloc(), falling_in_steps(rt.alloc(), times)?)?;
     }
     Ok(())
 }
