@@ -9,7 +9,7 @@ use crate::writer::Writer;
 /// A writer into a slice.
 ///
 /// A write that does not fit writes none of its octets and is refused (10); from then on each
-/// write is refused (17).
+/// write is refused (17). A refused write leaves the whole slice as it was.
 #[derive(Debug, Drop)]
 pub struct SliceWriter<'a> {
     bytes: &'a mut [u8],
@@ -19,11 +19,16 @@ pub struct SliceWriter<'a> {
 }
 
 impl<'a> SliceWriter<'a> {
+    ghost use Rattle.der_tlv.specs.Views.{buffer_of, lender_of};
+
     /// A writer into these octets, from the first on.
     pub fn new(bytes: &'a mut [u8]) -> SliceWriter<'a>
         ensures taken { (⟦<SliceWriter<'a> as Writer>⟧.state result).taken ≡ [] }
         ensures ready { (⟦<SliceWriter<'a> as Writer>⟧.state result).failed ≡ false }
         ensures room { (⟦<SliceWriter<'a> as Writer>⟧.state result).room ≡ length bytes.entry.now }
+        ensures start { (⟦<SliceWriter<'a> as Writer>⟧.state result).start ≡ bytes.entry.ref_ptr }
+        ensures buffer { buffer_of result ≡ bytes.entry.now }
+        ensures lender { lender_of result ≡ bytes.entry.ghost_name }
     {
         SliceWriter {
             bytes,
@@ -32,9 +37,10 @@ impl<'a> SliceWriter<'a> {
         }
     }
 
-    /// The octets that were written.
+    /// The octets that were written: the front of the slice.
     pub fn finish(self) -> &'a [u8]
-        ensures { result.now ≡ (⟦<SliceWriter<'a> as Writer>⟧.state self.entry).taken }
+        ensures taken { result.now ≡ (⟦<SliceWriter<'a> as Writer>⟧.state self.entry).taken }
+        ensures start { result.ref_ptr ≡ (⟦<SliceWriter<'a> as Writer>⟧.state self.entry).start }
     {
         let position = self.position;
         let bytes = self.bytes;
@@ -43,7 +49,7 @@ impl<'a> SliceWriter<'a> {
 }
 
 impl<'a> Writer for SliceWriter<'a> {
-    ghost use Rattle.der_tlv.specs.Views.{slice_writer_state};
+    ghost use Rattle.der_tlv.specs.Views.{slice_writer_state, LeavesBuffer};
 
     ghost state = { slice_writer_state };
 
@@ -52,6 +58,7 @@ impl<'a> Writer for SliceWriter<'a> {
         ensures written { Writes octets.now (⟦<SliceWriter<'a> as Writer>⟧.state self.old) (⟦<SliceWriter<'a> as Writer>⟧.state self.new) result }
         ensures ready { OnOk result ((⟦<SliceWriter<'a> as Writer>⟧.state self.old).failed ≡ false) }
         ensures kept { OnErr result ((⟦<SliceWriter<'a> as Writer>⟧.state self.new).taken ≡ (⟦<SliceWriter<'a> as Writer>⟧.state self.old).taken) }
+        ensures buffer { LeavesBuffer self.old self.new result }
     {
         if self.failed {
             return Err(Error::from_kind(ErrorKind::Failed));
@@ -71,6 +78,7 @@ impl<'a> Writer for SliceWriter<'a> {
         ensures written { Writes (octet ∷ []) (⟦<SliceWriter<'a> as Writer>⟧.state self.old) (⟦<SliceWriter<'a> as Writer>⟧.state self.new) result }
         ensures ready { OnOk result ((⟦<SliceWriter<'a> as Writer>⟧.state self.old).failed ≡ false) }
         ensures kept { OnErr result ((⟦<SliceWriter<'a> as Writer>⟧.state self.new).taken ≡ (⟦<SliceWriter<'a> as Writer>⟧.state self.old).taken) }
+        ensures buffer { LeavesBuffer self.old self.new result }
     {
         self.write(&[octet])
     }
@@ -81,6 +89,7 @@ impl<'a> Writer for SliceWriter<'a> {
         ensures written { Writes (take len block) (⟦<SliceWriter<'a> as Writer>⟧.state self.old) (⟦<SliceWriter<'a> as Writer>⟧.state self.new) result }
         ensures ready { OnOk result ((⟦<SliceWriter<'a> as Writer>⟧.state self.old).failed ≡ false) }
         ensures kept { OnErr result ((⟦<SliceWriter<'a> as Writer>⟧.state self.new).taken ≡ (⟦<SliceWriter<'a> as Writer>⟧.state self.old).taken) }
+        ensures buffer { LeavesBuffer self.old self.new result }
     {
         self.write(&block[..len])
     }
