@@ -1,9 +1,8 @@
 //! Certificates (RFC 5280 section 4.1).
 
-ghost use Rattle.std.specs.Prelude.{◌≡◌, ◌⊎◌, IfOk, IfErr};
-ghost use Rattle.der_tlv.specs.declared.error.ErrorKind.TheVariants.{Memory};
+ghost use Rattle.std.specs.Prelude.{◌≡◌, IfOk, IfErr};
 ghost use Rattle.der_elem.specs.Decoding.{ReadsAll};
-ghost use Rattle.der_elem.specs.Encoding.{Stops};
+ghost use Rattle.der_elem.specs.Encoding.{NoVector};
 
 use crate::issuer::Issuer;
 use der_bits::BitStringRef;
@@ -55,7 +54,7 @@ pub fn write_tbs_certificate<'a>(
     value: &TbsCertificate<'a>,
 ) -> Result<Vec<u8>, Error>
     ensures ok { IfOk result (λ octets. octets.items ≡ ⟦<TbsCertificate<'a> as Form>⟧.encoding value.now) }
-    ensures err { IfErr result (λ e. (e.kind ≡ Memory) ⊎ Stops (⟦<TbsCertificate<'a> as Form>⟧.encoding value.now) (⟦<TbsCertificate<'a> as Form>⟧.re_reads value.now) e.kind) }
+    ensures err { IfErr result (λ e. NoVector (⟦<TbsCertificate<'a> as Form>⟧.encoding value.now) (⟦<TbsCertificate<'a> as Form>⟧.re_reads value.now) e.kind) }
 {
     write_sequence(alloc, value)
 }

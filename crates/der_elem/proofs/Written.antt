@@ -13,12 +13,13 @@ encoded_whole octets old new (Ok v) w = w
 encoded_whole octets old new (Err e) w = inl w
 
 pub wrote_nothing : (s : WriterState) → Wrote [] s s
-wrote_nothing s = record { taken = sym (append-nil s.taken); failed = refl; room = omega arith; may_refuse = refl }
+wrote_nothing s = record { taken = sym (append-nil s.taken); start = refl; failed = refl; room = omega arith; may_refuse = refl }
 
 -- one part, and then another
 pub wrote_both : {a b : List ℕ} {start mid new : WriterState} → Wrote a start mid → Wrote b mid new → Wrote (a ++ b) start new
 wrote_both {a} {b} {start} w v = record {
   taken = v.taken ∙ ap (λ c. c ++ b) w.taken ∙ append_assoc start.taken a b;
+  start = v.start ∙ w.start;
   failed = v.failed ∙ w.failed;
   room = let r = w.room in let s = v.room in omega (arith, length-append a b);
   may_refuse = v.may_refuse ∙ w.may_refuse;
@@ -44,6 +45,7 @@ module _ {done : List ℕ} {start mid : WriterState} (written : Wrote done start
   refused_within {new} {kind} r = record {
     count = length done + min r.count (length x);
     beginning = beginning_within r.count new r.beginning;
+    start = r.start ∙ written.start;
     failed = r.failed;
     short = λ e. let s = r.short (written.failed ∙ e) in let w = written.room in omega (arith, lengths);
     permitted = subst (λ (may : ErrorKind → Bool). IsTrue (may kind)) written.may_refuse r.permitted;
@@ -56,6 +58,7 @@ module _ {done : List ℕ} {start mid : WriterState} (written : Wrote done start
     | inr s ↦ inr (record {
       count = length done + min s.count (length x);
       beginning = beginning_within s.count new s.beginning;
+      start = s.start ∙ written.start;
       failed = s.failed ∙ written.failed;
       reason = stops_in x all part_re_reads re_reads (omega (arith, lengths)) m s.reason;
     })

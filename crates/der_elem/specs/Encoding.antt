@@ -13,6 +13,7 @@ Stops octets re_reads kind = ((kind ≡ Overflow) × (2 ^ 32 ≤ length octets))
 pub record Stopped (octets : List ℕ) (re_reads : Bool) (old new : WriterState) (kind : ErrorKind) : Type 0 where
   pub count : ℕ
   pub beginning : new.taken ≡ old.taken ++ take count octets
+  pub start : new.start ≡ old.start
   pub failed : new.failed ≡ old.failed
   pub reason : Stops octets re_reads kind
 
@@ -25,6 +26,10 @@ Encodes octets re_reads old new (Err e) = WriterRefused octets old new e.kind �
 abbrev pub Measures : List ℕ → Bool → Result ℕ Error → Type 0
 Measures octets re_reads (Ok n) = (n ≡ length octets) × (length octets < 2 ^ 32)
 Measures octets re_reads (Err e) = Stops octets re_reads e.kind
+
+-- why there is no vector of octets: memory ran out for octets that a length can count, or this is why they are not written
+abbrev pub NoVector : List ℕ → Bool → ErrorKind → Type 0
+NoVector octets re_reads kind = ((kind ≡ Memory) × (length octets < 2 ^ 32)) ⊎ Stops octets re_reads kind
 
 -- (10): a buffer of so many octets is too short for these
 abbrev pub IsTooShort : ℕ → List ℕ → ErrorKind → Type 0

@@ -1,8 +1,7 @@
 //! Writing values.
 
 ghost use Rattle.std.specs.Prelude.{◌≡◌, ◌^◌, ◌<◌, ◌⊎◌, length, IfOk, IfErr, OnOk};
-ghost use Rattle.der_tlv.specs.declared.error.ErrorKind.TheVariants.{Memory};
-ghost use Rattle.der_elem.specs.Encoding.{Encodes, IsTooShort, Measures, Stops};
+ghost use Rattle.der_elem.specs.Encoding.{Encodes, IsTooShort, Measures, NoVector, Stops};
 
 use crate::form::{Form, FormValue};
 use der_tlv::{Error, Length, SliceWriter, VecWriter, Writer};
@@ -44,13 +43,16 @@ pub trait Encode: Form {
         ensures { Encodes (Self.encoding self.now) (Self.re_reads self.now) (W.state writer.old)
             (W.state writer.new) result };
 
-    /// Writes the encoding to the front of the buffer, and answers that front.
+    /// Writes the encoding to the front of the buffer, and answers that front: the octets that begin
+    /// where the buffer does. What stands behind them in the buffer is not written to, and where this
+    /// is refused a beginning of the encoding may stand in it.
     ///
     /// # Errors
     /// (10) where the buffer is too short; (9) where there are more than 4294967295 octets; (1)
     /// where items are read again.
     fn encode_to_slice<'b>(&self, buffer: &'b mut [u8]) -> Result<&'b [u8], Error>
         ensures ok { IfOk result (λ octets. octets.now ≡ Self.encoding self.now) }
+        ensures start { IfOk result (λ octets. octets.ref_ptr ≡ buffer.entry.ref_ptr) }
         ensures err { IfErr result (λ e.
             IsTooShort (length buffer.entry.now) (Self.encoding self.now) e.kind
             ⊎ Stops (Self.encoding self.now) (Self.re_reads self.now) e.kind) }
@@ -63,12 +65,13 @@ pub trait Encode: Form {
     /// The encoding, in a vector.
     ///
     /// # Errors
-    /// (1) where memory runs out; (9) where there are more than 4294967295 octets.
+    /// (9) where there are more than 4294967295 octets; (1) where there are no more and memory runs
+    /// out, and where items are read again.
     fn to_der(&self, alloc: Global) -> Result<Vec<u8>, Error>
         ensures ok { IfOk result (λ octets. octets.items ≡ Self.encoding self.now) }
         ensures fits { OnOk result (length (Self.encoding self.now) < 2 ^ 32) }
         ensures err { IfErr result (λ e.
-            (e.kind ≡ Memory) ⊎ Stops (Self.encoding self.now) (Self.re_reads self.now) e.kind) }
+            NoVector (Self.encoding self.now) (Self.re_reads self.now) e.kind) }
     {
         let len = self.encoded_len()?;
         let mut writer = VecWriter::with_capacity(alloc, usize::from(len))?;

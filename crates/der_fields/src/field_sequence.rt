@@ -6,9 +6,8 @@
 //! Reading refuses with the first fault of the fields, in their order, and then octets that are left
 //! over (3). The order of two values is that of their encodings.
 
-ghost use Rattle.std.specs.Prelude.{◌≡◌, ◌⊎◌, refl, IfOk, IfErr};
-ghost use Rattle.der_tlv.specs.declared.error.ErrorKind.TheVariants.{Memory};
-ghost use Rattle.der_elem.specs.Encoding.{Stops};
+ghost use Rattle.std.specs.Prelude.{◌≡◌, refl, IfOk, IfErr};
+ghost use Rattle.der_elem.specs.Encoding.{NoVector};
 ghost use Rattle.der_elem.specs.Decoding.{ReadsAll};
 
 use crate::coded::{DecodeFields, EncodeFields};
@@ -151,7 +150,7 @@ pub fn write_sequence<F: EncodeFields>(
     value: &FieldSequence<F>,
 ) -> Result<Vec<u8>, Error>
     ensures ok { IfOk result (λ octets. octets.items ≡ ⟦<FieldSequence<F> as Form>⟧.encoding value.now) }
-    ensures err { IfErr result (λ e. (e.kind ≡ Memory) ⊎ Stops (⟦<FieldSequence<F> as Form>⟧.encoding value.now) (⟦<FieldSequence<F> as Form>⟧.re_reads value.now) e.kind) }
+    ensures err { IfErr result (λ e. NoVector (⟦<FieldSequence<F> as Form>⟧.encoding value.now) (⟦<FieldSequence<F> as Form>⟧.re_reads value.now) e.kind) }
 {
     value.to_der(alloc)
 }

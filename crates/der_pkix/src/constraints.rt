@@ -1,9 +1,8 @@
 //! The value of the extension basicConstraints (RFC 5280 section 4.2.1.9).
 
-ghost use Rattle.std.specs.Prelude.{◌≡◌, ◌⊎◌, IfOk, IfErr};
-ghost use Rattle.der_tlv.specs.declared.error.ErrorKind.TheVariants.{Memory};
+ghost use Rattle.std.specs.Prelude.{◌≡◌, IfOk, IfErr};
 ghost use Rattle.der_elem.specs.Decoding.{ReadsAll};
-ghost use Rattle.der_elem.specs.Encoding.{Stops};
+ghost use Rattle.der_elem.specs.Encoding.{NoVector};
 
 use der_elem::Form;
 use der_fields::{
@@ -45,7 +44,7 @@ pub fn write_basic_constraints<'a>(
     value: &BasicConstraints<'a>,
 ) -> Result<Vec<u8>, Error>
     ensures ok { IfOk result (λ octets. octets.items ≡ ⟦<BasicConstraints<'a> as Form>⟧.encoding value.now) }
-    ensures err { IfErr result (λ e. (e.kind ≡ Memory) ⊎ Stops (⟦<BasicConstraints<'a> as Form>⟧.encoding value.now) (⟦<BasicConstraints<'a> as Form>⟧.re_reads value.now) e.kind) }
+    ensures err { IfErr result (λ e. NoVector (⟦<BasicConstraints<'a> as Form>⟧.encoding value.now) (⟦<BasicConstraints<'a> as Form>⟧.re_reads value.now) e.kind) }
 {
     write_sequence(alloc, value)
 }

@@ -1,9 +1,8 @@
 //! Extensions of certificates (RFC 5280 section 4.2).
 
-ghost use Rattle.std.specs.Prelude.{◌≡◌, ◌⊎◌, IfOk, IfErr};
-ghost use Rattle.der_tlv.specs.declared.error.ErrorKind.TheVariants.{Memory};
+ghost use Rattle.std.specs.Prelude.{◌≡◌, IfOk, IfErr};
 ghost use Rattle.der_elem.specs.Decoding.{ReadsAll};
-ghost use Rattle.der_elem.specs.Encoding.{Stops};
+ghost use Rattle.der_elem.specs.Encoding.{NoVector};
 
 use der_elem::Form;
 use der_fields::{
@@ -43,7 +42,7 @@ pub fn read_extension<'a>(alloc: Global, bytes: &'a [u8]) -> Result<Extension<'a
 /// (1) where memory runs out; (9) where there are more than 4294967295 octets.
 pub fn write_extension<'a>(alloc: Global, value: &Extension<'a>) -> Result<Vec<u8>, Error>
     ensures ok { IfOk result (λ octets. octets.items ≡ ⟦<Extension<'a> as Form>⟧.encoding value.now) }
-    ensures err { IfErr result (λ e. (e.kind ≡ Memory) ⊎ Stops (⟦<Extension<'a> as Form>⟧.encoding value.now) (⟦<Extension<'a> as Form>⟧.re_reads value.now) e.kind) }
+    ensures err { IfErr result (λ e. NoVector (⟦<Extension<'a> as Form>⟧.encoding value.now) (⟦<Extension<'a> as Form>⟧.re_reads value.now) e.kind) }
 {
     write_sequence(alloc, value)
 }

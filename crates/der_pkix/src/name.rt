@@ -1,9 +1,8 @@
 //! Names (RFC 5280 section 4.1.2.4).
 
-ghost use Rattle.std.specs.Prelude.{◌≡◌, ◌⊎◌, IfOk, IfErr};
-ghost use Rattle.der_tlv.specs.declared.error.ErrorKind.TheVariants.{Memory};
+ghost use Rattle.std.specs.Prelude.{◌≡◌, IfOk, IfErr};
 ghost use Rattle.der_elem.specs.Decoding.{ReadsAll};
-ghost use Rattle.der_elem.specs.Encoding.{Stops};
+ghost use Rattle.der_elem.specs.Encoding.{NoVector};
 
 use crate::attribute::AttributeTypeAndValue;
 use der_elem::{Encode, Form, FromDer};
@@ -46,7 +45,7 @@ pub fn write_relative_distinguished_name<'a>(
     value: &RelativeDistinguishedName<'a>,
 ) -> Result<Vec<u8>, Error>
     ensures ok { IfOk result (λ octets. octets.items ≡ ⟦<RelativeDistinguishedName<'a> as Form>⟧.encoding value.now) }
-    ensures err { IfErr result (λ e. (e.kind ≡ Memory) ⊎ Stops (⟦<RelativeDistinguishedName<'a> as Form>⟧.encoding value.now) (⟦<RelativeDistinguishedName<'a> as Form>⟧.re_reads value.now) e.kind) }
+    ensures err { IfErr result (λ e. NoVector (⟦<RelativeDistinguishedName<'a> as Form>⟧.encoding value.now) (⟦<RelativeDistinguishedName<'a> as Form>⟧.re_reads value.now) e.kind) }
 {
     value.to_der(alloc)
 }
@@ -68,7 +67,7 @@ pub fn read_name<'a>(alloc: Global, bytes: &'a [u8]) -> Result<Name<'a>, Error>
 /// (1) where memory runs out; (9) where there are more than 4294967295 octets.
 pub fn write_name<'a>(alloc: Global, value: &Name<'a>) -> Result<Vec<u8>, Error>
     ensures ok { IfOk result (λ octets. octets.items ≡ ⟦<Name<'a> as Form>⟧.encoding value.now) }
-    ensures err { IfErr result (λ e. (e.kind ≡ Memory) ⊎ Stops (⟦<Name<'a> as Form>⟧.encoding value.now) (⟦<Name<'a> as Form>⟧.re_reads value.now) e.kind) }
+    ensures err { IfErr result (λ e. NoVector (⟦<Name<'a> as Form>⟧.encoding value.now) (⟦<Name<'a> as Form>⟧.re_reads value.now) e.kind) }
 {
     value.to_der(alloc)
 }

@@ -1,5 +1,7 @@
 -- What the readers and writers of this crate show of their fields.
-use Rattle.std.specs.Prelude.{◌-◌, length, take, vec_len, vec_capacity}
+use Rattle.std.specs.Prelude.{◌≡◌, ℕ, ◌-◌, List, length, take, drop, vec_len, vec_capacity, Result, OnOk, OnErr}
+use Rattle.std.specs.Borrow.{GName}
+use Rattle.der_tlv.specs.declared.error.Error.{Error}
 use Rattle.der_tlv.specs.ReaderState.{ReaderState}
 use Rattle.der_tlv.specs.Writing.{WriterState, is_memory, is_overlength, refuses_first_with, room_unless_failed}
 use Rattle.der_tlv.specs.declared.reader.slice.SliceReader.{SliceReader}
@@ -12,8 +14,23 @@ slice_reader_state r =
 
 abbrev pub slice_writer_state : SliceWriter → WriterState
 slice_writer_state w =
-    record { taken = take w.position w.bytes.now; failed = w.failed; room = room_unless_failed w.failed (length w.bytes.now - w.position); may_refuse = refuses_first_with is_overlength w.failed }
+    record { taken = take w.position w.bytes.now; start = w.bytes.ref_ptr; failed = w.failed; room = room_unless_failed w.failed (length w.bytes.now - w.position); may_refuse = refuses_first_with is_overlength w.failed }
+
+-- the memory that it writes to, as it stands
+abbrev pub buffer_of : SliceWriter → List ℕ
+buffer_of w = w.bytes.now
+
+-- the name of the borrow of that memory
+abbrev pub lender_of : SliceWriter → GName
+lender_of w = w.bytes.ghost_name
+
+-- What a write leaves of that memory: it is the same memory; where the write is refused all of it is as it was, and else what stands
+-- behind the octets taken.
+pub record LeavesBuffer {A : Type 0} (old new : SliceWriter) (result : Result A Error) : Type 0 where
+  pub lender : lender_of new ≡ lender_of old
+  pub refused : OnErr result (buffer_of new ≡ buffer_of old)
+  pub behind : OnOk result (drop new.position (buffer_of new) ≡ drop new.position (buffer_of old))
 
 abbrev pub vec_writer_state : VecWriter → WriterState
 vec_writer_state w =
-    record { taken = w.octets.items; failed = w.failed; room = room_unless_failed w.failed (vec_capacity w.octets - vec_len w.octets); may_refuse = refuses_first_with is_memory w.failed }
+    record { taken = w.octets.items; start = (0, 0); failed = w.failed; room = room_unless_failed w.failed (vec_capacity w.octets - vec_len w.octets); may_refuse = refuses_first_with is_memory w.failed }

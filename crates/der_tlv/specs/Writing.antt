@@ -4,9 +4,11 @@ use Rattle.der_tlv.specs.declared.error.ErrorKind.{ErrorKind}
 use Rattle.der_tlv.specs.declared.error.ErrorKind.TheVariants.{Memory, Overlength, Failed}
 use Rattle.der_tlv.specs.declared.error.Error.{Error}
 
--- the octets that it has taken, whether it has refused, how many more it surely takes, and the kinds with which it may refuse now
+-- the octets that it has taken, where in memory the first of them stands (which no call changes; a writer whose octets move says
+-- nothing of it), whether it has refused, how many more it surely takes, and the kinds with which it may refuse now
 pub record WriterState : Type 0 where
   pub taken : List ℕ
+  pub start : ℕ × ℕ
   pub failed : Bool
   pub room : ℕ
   pub may_refuse : ErrorKind → Bool
@@ -14,6 +16,7 @@ pub record WriterState : Type 0 where
 -- all of the octets were taken
 pub record Wrote (octets : List ℕ) (old new : WriterState) : Type 0 where
   pub taken : new.taken ≡ old.taken ++ octets
+  pub start : new.start ≡ old.start
   pub failed : new.failed ≡ old.failed
   pub room : old.room ≤ new.room + length octets
   pub may_refuse : new.may_refuse ≡ old.may_refuse
@@ -22,6 +25,7 @@ pub record Wrote (octets : List ℕ) (old new : WriterState) : Type 0 where
 pub record WriterRefused (octets : List ℕ) (old new : WriterState) (kind : ErrorKind) : Type 0 where
   pub count : ℕ
   pub beginning : new.taken ≡ old.taken ++ take count octets
+  pub start : new.start ≡ old.start
   pub failed : new.failed ≡ true
   pub short : old.failed ≡ false → old.room < length octets
   pub permitted : IsTrue (old.may_refuse kind)

@@ -50,11 +50,12 @@ pub trait Reader<'a> {
         ensures err { IfErr result
             (λ e. OctetsRefused (state self.old) (state self.new) len e.kind) };
 
-    /// Reads as many octets as the buffer has, into the buffer.
+    /// Reads as many octets as the buffer has, into the buffer, and answers the buffer.
     ///
     /// # Errors
     /// As `read_slice`.
     fn read_into<'b>(&mut self, buffer: &'b mut [u8]) -> Result<&'b [u8], Error>
+        ensures start { IfOk result (λ octets. octets.ref_ptr ≡ buffer.entry.ref_ptr) }
         ensures ok { IfOk result (λ octets.
             OctetsRead (state self.old) (state self.new) (length buffer.entry.now) octets.now) }
         ensures err { IfErr result (λ e.

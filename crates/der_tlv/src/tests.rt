@@ -1,6 +1,6 @@
 //! Tests of lengths, headers, readers, writers and errors.
 
-ghost use Rattle.std.specs.Prelude.{length, ◌<◌, ◌^◌};
+ghost use Rattle.std.specs.Prelude.{◌≡◌, length, ◌<◌, ◌^◌, OnErr};
 
 use crate::bytes_owned::BytesOwned;
 use crate::bytes_ref::BytesRef;
@@ -503,6 +503,22 @@ fn slice_writers_octet_by_octet(rt: HostRuntime) {
         let octets = [0, 1, 2];
         assert_eq!(rt; writer.finish(), &octets[..room], "{room}");
     }
+}
+
+/// Writes the octets to the front of the slice, which stays as it was where that is refused.
+fn overwrite(slice: &mut [u8], octets: &[u8]) -> Result<(), Error>
+    ensures { OnErr result (slice.new ≡ slice.old) }
+{
+    SliceWriter::new(slice).write(octets)
+}
+
+#[test]
+fn slice_writers_leave_the_slice(rt: HostRuntime) {
+    let mut buffer = [0xaa; 3];
+    assert_eq!(rt; refusal(overwrite(&mut buffer, &[1, 2, 3, 4])), 10);
+    assert_eq!(rt; buffer, [0xaa; 3]);
+    assert_eq!(rt; refusal(overwrite(&mut buffer, &[1, 2])), 0);
+    assert_eq!(rt; buffer, [1, 2, 0xaa]);
 }
 
 #[test]

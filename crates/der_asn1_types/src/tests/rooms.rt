@@ -19,7 +19,7 @@ struct Bounded {
 }
 
 impl Writer for Bounded {
-    ghost state = { λ w. record { taken = w.octets.items; failed = w.failed; room = 0; may_refuse = λ kind. true } };
+    ghost state = { λ w. record { taken = w.octets.items; start = (0, 0); failed = w.failed; room = 0; may_refuse = λ kind. true } };
 
     fn write(&mut self, octets: &[u8]) -> Result<(), Error> {
         if self.failed {

@@ -1,6 +1,7 @@
 //! A reader of octets in memory.
 
-ghost use Rattle.std.specs.Prelude.{⊤, ◌≡◌, ◌↔◌, ◌^◌, ◌<◌, ◌≤◌, ◌+◌, List, length, take, drop, Result, Ok, Err, IsOk, IfOk, IfErr, OnOk, true, false};
+ghost use Rattle.std.specs.Prelude.{⊤, ◌≡◌, ◌↔◌, ◌^◌, ◌<◌, ◌≤◌, ◌+◌, List, length, take, drop, Result, Ok, Err, IsOk, IfOk, IfErr, OnOk, OnErr, true, false};
+ghost use Rattle.der_tlv.specs.Reading.{OctetsRead, OctetsRefused};
 ghost use Rattle.der_tlv.specs.ReaderState.{ReaderState, new_reader, IsReaderState, finish_fault, can_finish, can_read, read_fault, after_fault};
 ghost use Rattle.der_tlv.specs.declared.error.ErrorKind.TheVariants.{Overflow};
 ghost use Rattle.der_tlv.specs.declared.encoding_rules.EncodingRules.{EncodingRules};
@@ -90,6 +91,25 @@ impl<'a> SliceReader<'a> {
                 position: Some(decoded),
             });
         }
+        Ok(())
+    }
+
+    /// Reads as many octets as the buffer has, into the buffer, which a refusal leaves as it was.
+    ///
+    /// # Errors
+    /// As `read_slice`.
+    #[inline]
+    fn fill(&mut self, buffer: &mut [u8]) -> Result<(), Error>
+        ensures ok { OnOk result (OctetsRead (⟦<SliceReader<'a> as Reader<'a>>⟧.state self.old) (⟦<SliceReader<'a> as Reader<'a>>⟧.state self.new) (length buffer.old) buffer.new) }
+        ensures err { IfErr result (λ e. OctetsRefused (⟦<SliceReader<'a> as Reader<'a>>⟧.state self.old) (⟦<SliceReader<'a> as Reader<'a>>⟧.state self.new) (length buffer.old) e.kind) }
+        ensures kept { OnErr result (buffer.new ≡ buffer.old) }
+    {
+        if self.failed || buffer.len() > (self.end - self.position) as usize {
+            return Err(self.refusal(buffer.len()));
+        }
+        let start = self.position as usize;
+        self.position += buffer.len() as u32;
+        buffer.copy_from_slice(&self.bytes[start..self.position as usize]);
         Ok(())
     }
 
@@ -191,14 +211,12 @@ impl<'a> Reader<'a> for SliceReader<'a> {
         Ok(block_at(self.bytes, start, len as usize))
     }
 
+    // A refusal leaves the buffer as it was.
     fn read_into<'b>(&mut self, buffer: &'b mut [u8]) -> Result<&'b [u8], Error> {
-        if self.failed || buffer.len() > (self.end - self.position) as usize {
-            return Err(self.refusal(buffer.len()));
+        match self.fill(buffer) {
+            Ok(()) => Ok(buffer),
+            Err(e) => Err(e),
         }
-        let start = self.position as usize;
-        self.position += buffer.len() as u32;
-        buffer.copy_from_slice(&self.bytes[start..self.position as usize]);
-        Ok(buffer)
     }
 
     #[inline]

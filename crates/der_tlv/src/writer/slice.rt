@@ -9,7 +9,7 @@ use crate::writer::Writer;
 /// A writer into a slice.
 ///
 /// A write that does not fit writes none of its octets and is refused (10); from then on each
-/// write is refused (17).
+/// write is refused (17). A refused write leaves the whole slice as it was.
 #[derive(Debug, Drop)]
 pub struct SliceWriter<'a> {
     bytes: &'a mut [u8],
@@ -19,13 +19,16 @@ pub struct SliceWriter<'a> {
 }
 
 impl<'a> SliceWriter<'a> {
-    ghost use Rattle.der_tlv.specs.Views.{slice_writer_state};
+    ghost use Rattle.der_tlv.specs.Views.{slice_writer_state, buffer_of, lender_of};
 
     /// A writer into these octets, from the first on.
     pub fn new(bytes: &'a mut [u8]) -> SliceWriter<'a>
         ensures taken { (slice_writer_state result).taken ≡ [] }
         ensures ready { (slice_writer_state result).failed ≡ false }
         ensures room { (slice_writer_state result).room ≡ length bytes.entry.now }
+        ensures start { (slice_writer_state result).start ≡ bytes.entry.ref_ptr }
+        ensures buffer { buffer_of result ≡ bytes.entry.now }
+        ensures lender { lender_of result ≡ bytes.entry.ghost_name }
     {
         SliceWriter {
             bytes,
@@ -34,9 +37,10 @@ impl<'a> SliceWriter<'a> {
         }
     }
 
-    /// The octets that were written.
+    /// The octets that were written: the front of the slice.
     pub fn finish(self) -> &'a [u8]
-        ensures { result.now ≡ (slice_writer_state self.entry).taken }
+        ensures taken { result.now ≡ (slice_writer_state self.entry).taken }
+        ensures start { result.ref_ptr ≡ (slice_writer_state self.entry).start }
     {
         let position = self.position;
         let bytes = self.bytes;
@@ -45,7 +49,7 @@ impl<'a> SliceWriter<'a> {
 }
 
 impl<'a> Writer for SliceWriter<'a> {
-    ghost use Rattle.der_tlv.specs.Views.{slice_writer_state};
+    ghost use Rattle.der_tlv.specs.Views.{slice_writer_state, LeavesBuffer};
 
     ghost state = { slice_writer_state };
 
@@ -56,6 +60,7 @@ impl<'a> Writer for SliceWriter<'a> {
         ensures ready { OnOk result ((slice_writer_state self.old).failed ≡ false) }
         ensures kept { OnErr result
             ((slice_writer_state self.new).taken ≡ (slice_writer_state self.old).taken) }
+        ensures buffer { LeavesBuffer self.old self.new result }
     {
         if self.failed {
             return Err(Error::from_kind(ErrorKind::Failed));
@@ -77,6 +82,7 @@ impl<'a> Writer for SliceWriter<'a> {
         ensures ready { OnOk result ((slice_writer_state self.old).failed ≡ false) }
         ensures kept { OnErr result
             ((slice_writer_state self.new).taken ≡ (slice_writer_state self.old).taken) }
+        ensures buffer { LeavesBuffer self.old self.new result }
     {
         self.write(&[octet])
     }
@@ -89,6 +95,7 @@ impl<'a> Writer for SliceWriter<'a> {
         ensures ready { OnOk result ((slice_writer_state self.old).failed ≡ false) }
         ensures kept { OnErr result
             ((slice_writer_state self.new).taken ≡ (slice_writer_state self.old).taken) }
+        ensures buffer { LeavesBuffer self.old self.new result }
     {
         self.write(&block[..len])
     }
