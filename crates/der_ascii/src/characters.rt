@@ -53,10 +53,10 @@ pub fn are_characters(number: u8, octets: &[u8]) -> bool
 /// # Errors
 /// (13) for an octet that is no character of the type with this universal number.
 pub fn text_of(number: u8, octets: &[u8]) -> Result<&str, ErrorKind>
-    ensures text { IfOk result (λ text. (text.now ≡ octets.now)
-        × (are_characters number octets.now ≡ true)) }
-    ensures refused { IfErr result (λ kind. (kind ≡ Value (string_tag number))
-        × (are_characters number octets.now ≡ false)) }
+    ensures text { IfOk result (λ text.
+        (text.now ≡ octets.now) × (are_characters number octets.now ≡ true)) }
+    ensures refused { IfErr result (λ kind.
+        (kind ≡ Value (string_tag number)) × (are_characters number octets.now ≡ false)) }
 {
     if !are_characters(number, octets) {
         return Err(string_tag(number).value_error());

@@ -1,6 +1,6 @@
 //! Laws of strings whose characters have one octet each.
 
-ghost use Rattle.std.specs.Prelude.{◌≡◌};
+ghost use Rattle.std.specs.Prelude.{◌≡◌, ◌∷◌, []};
 ghost use Rattle.der_tlv.specs.declared.tag.Tag.TheVariants as tags;
 
 use crate::{
@@ -8,14 +8,21 @@ use crate::{
     VideotexStringRef,
 };
 use der_elem::FixedTag;
+use der_tlv::Tag;
 
-/// The tags of the types are those of their names (X.680 8.6).
-pub fn tags_are()
-    ensures printable { ⟦<PrintableString as FixedTag>⟧.TAG ≡ tags.PrintableString }
-    ensures printable_ref { ⟦<PrintableStringRef<'static> as FixedTag>⟧.TAG ≡ tags.PrintableString }
-    ensures teletex { ⟦<TeletexString as FixedTag>⟧.TAG ≡ tags.TeletexString }
-    ensures teletex_ref { ⟦<TeletexStringRef<'static> as FixedTag>⟧.TAG ≡ tags.TeletexString }
-    ensures videotex_ref { ⟦<VideotexStringRef<'static> as FixedTag>⟧.TAG ≡ tags.VideotexString }
-    ensures ia5 { ⟦<Ia5String as FixedTag>⟧.TAG ≡ tags.Ia5String }
-    ensures ia5_ref { ⟦<Ia5StringRef<'static> as FixedTag>⟧.TAG ≡ tags.Ia5String }
-{}
+/// The tags of the types (X.680 8.6): each owned one's and its borrowed form's, in the order of
+/// their names below.
+pub fn universal_tags() -> [Tag; 7]
+    ensures { result ≡ tags.PrintableString ∷ tags.PrintableString ∷ tags.TeletexString
+        ∷ tags.TeletexString ∷ tags.VideotexString ∷ tags.Ia5String ∷ tags.Ia5String ∷ [] }
+{
+    [
+        PrintableString::TAG,
+        PrintableStringRef::TAG,
+        TeletexString::TAG,
+        TeletexStringRef::TAG,
+        VideotexStringRef::TAG,
+        Ia5String::TAG,
+        Ia5StringRef::TAG,
+    ]
+}

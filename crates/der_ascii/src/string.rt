@@ -71,7 +71,7 @@ impl<const NUMBER: u8> CharacterString<NUMBER> {
         Length::new(self.text.len() as u32)
     }
 
-    /// Whether there are none.
+    /// Whether it has no characters.
     pub fn is_empty(&self) -> bool
         ensures { IsTrue result ↔ (octets_of self.now ≡ []) }
     {

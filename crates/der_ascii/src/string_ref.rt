@@ -76,7 +76,7 @@ impl<'a, const NUMBER: u8> CharacterStringRef<'a, NUMBER> {
         Length::new(self.text.len() as u32)
     }
 
-    /// Whether there are none.
+    /// Whether it has no characters.
     pub fn is_empty(self) -> bool
         ensures { IsTrue result ↔ (octets_of self.entry ≡ []) }
     {
@@ -225,7 +225,7 @@ impl<'a, const NUMBER: u8> TryFrom<AnyRef<'a>> for CharacterStringRef<'a, NUMBER
     /// (4) with no expected tag for another tag; (13) for an octet that is no character of the type.
     fn try_from(any: AnyRef<'a>) -> Result<CharacterStringRef<'a, NUMBER>, Error> {
         let tag = any.tag();
-        if !tag.is(string_tag(NUMBER)) {
+        if !tag.equals(string_tag(NUMBER)) {
             return Err(Error::from_kind(tag.unexpected_error(None)));
         }
         match CharacterStringRef::new(any.value()) {

@@ -18,7 +18,7 @@ pub trait AllowedLenBitString {
     /// The greatest number of bits.
     const MAX_LEN: u16;
 
-    /// Asks that the number of bits lies in the range.
+    /// Checks that the number of bits lies in the range.
     ///
     /// # Errors
     /// (7) below `MIN_LEN` and above `MAX_LEN`.

@@ -46,12 +46,12 @@ impl BitString {
     /// The greatest number of unused bits.
     pub const MAX_UNUSED_BITS: u8 = 7;
 
-    /// The bits of these octets, but for so many of the last octet, its lowest, which are zero.
+    /// The bits of `octets` without the lowest `unused_bits` of the last octet, which must be zero.
     ///
     /// # Errors
     /// (13) for a number of unused bits over 7, or another than 0 where there is no octet, and for
-    /// an unused bit that is not zero; (7) for more than 4294967295 octets. The number of bits fits
-    /// a `usize`, which has 64 bits, so there is no (9).
+    /// an unused bit that is not zero; (7) for more than 4294967295 octets. (9) cannot occur, since
+    /// a `usize` of 64 bits can count the bits.
     pub fn new(unused_bits: u8, octets: Vec<u8>) -> Result<BitString, Error>
         ensures { KeepsBits contents_of unused_bits octets.items result }
     {
@@ -100,8 +100,8 @@ impl BitString {
     pub fn from_bytes(alloc: Global, octets: &[u8]) -> Result<BitString, Error>
         ensures value { IfOk result (λ s. contents_of s ≡ 0 ∷ octets.now) }
         ensures short { length octets.now < 2 ^ 32 → IfErr result (λ e. e.kind ≡ kinds.Memory) }
-        ensures long { 2 ^ 32 ≤ length octets.now → IfErr result
-            (λ e. e.kind ≡ kinds.Length tags.BitString) }
+        ensures long { 2 ^ 32 ≤ length octets.now → IfErr result (λ e.
+            e.kind ≡ kinds.Length tags.BitString) }
     {
         match BitStringRef::from_bytes(octets) {
             Ok(string) => string.ref_to_owned(alloc),
@@ -140,8 +140,8 @@ impl BitString {
 
     /// The octets of the bits, if no bit of them is unused.
     pub fn as_bytes(&self) -> Option<&[u8]>
-        ensures { MatchOption result (unused_count (contents_of self.now) ≢ 0)
-            (λ octets. contents_of self.now ≡ 0 ∷ octets.now) }
+        ensures { MatchOption result (unused_count (contents_of self.now) ≢ 0) (λ octets.
+            contents_of self.now ≡ 0 ∷ octets.now) }
     {
         self.owned_to_ref().as_bytes()
     }
@@ -272,12 +272,11 @@ impl Eq for BitString {
 impl PartialOrd for BitString {
     ghost use Rattle.der_bits.specs.OwnedBitString.{contents_of};
 
-    ghost partial_cmp = { λ v w. Some (lex (v.unused ∷ v.octets.items)
-        (w.unused ∷ w.octets.items)) };
+    ghost partial_cmp = { λ v w. Some
+        (lex (v.unused ∷ v.octets.items) (w.unused ∷ w.octets.items)) };
 
-    ghost laws = { bits_po contents_of
-        (λ v w. same_tests v.unused w.unused v.octets.items w.octets.items v.possible v.zero
-        w.possible w.zero v.octet w.octet) };
+    ghost laws = { bits_po contents_of (λ v w. same_tests v.unused w.unused v.octets.items
+        w.octets.items v.possible v.zero w.possible w.zero v.octet w.octet) };
 
     fn partial_cmp(&self, other: &BitString) -> Option<Ordering> {
         Some(self.cmp(other))
@@ -310,8 +309,8 @@ impl ValueOrd for BitString {
 }
 
 impl ContentsEq for BitString {
-    ghost contents_eq = { λ v w one. contents_decided (v.unused ∷ v.octets.items)
-        (w.unused ∷ w.octets.items)
+    ghost contents_eq = { λ v w one.
+        contents_decided (v.unused ∷ v.octets.items) (w.unused ∷ w.octets.items)
         (same_tests v.unused w.unused v.octets.items w.octets.items v.possible v.zero w.possible
         w.zero v.octet w.octet) };
 }

@@ -54,12 +54,12 @@ impl<'a> BitStringRef<'a> {
     ghost use Rattle.der_bits.specs.OwnedBitString as owned;
     ghost use Rattle.der_bits.specs.BitStringRef.{contents_of};
 
-    /// The bits of these octets, but for so many of the last octet, its lowest, which are zero.
+    /// The bits of `octets` without the lowest `unused_bits` of the last octet, which must be zero.
     ///
     /// # Errors
     /// (13) for a number of unused bits over 7, or another than 0 where there is no octet, and for
-    /// an unused bit that is not zero; (7) for more than 4294967295 octets. The number of bits fits
-    /// a `usize`, which has 64 bits, so there is no (9).
+    /// an unused bit that is not zero; (7) for more than 4294967295 octets. (9) cannot occur, since
+    /// a `usize` of 64 bits can count the bits.
     pub fn new(unused_bits: u8, octets: &'a [u8]) -> Result<BitStringRef<'a>, Error>
         ensures { KeepsBits contents_of unused_bits octets.now result }
     {
@@ -123,8 +123,8 @@ impl<'a> BitStringRef<'a> {
 
     /// The octets of the bits, if no bit of them is unused.
     pub fn as_bytes(self) -> Option<&'a [u8]>
-        ensures { MatchOption result (unused_count (contents_of self.entry) ≢ 0)
-            (λ octets. contents_of self.entry ≡ 0 ∷ octets.now) }
+        ensures { MatchOption result (unused_count (contents_of self.entry) ≢ 0) (λ octets.
+            contents_of self.entry ≡ 0 ∷ octets.now) }
     {
         if self.has_unused_bits() {
             return None;
@@ -169,10 +169,10 @@ impl<'a> BitStringRef<'a> {
     /// (13) where there are unused bits; (1) where memory runs out.
     pub fn to_vec(self, alloc: Global) -> Result<Vec<u8>, Error>
         ensures value { IfOk result (λ octets. contents_of self.entry ≡ 0 ∷ octets.items) }
-        ensures unused { unused_count (contents_of self.entry) ≢ 0
-            → IfErr result (λ e. e.kind ≡ kinds.Value tags.BitString) }
-        ensures err { unused_count (contents_of self.entry) ≡ 0
-            → IfErr result (λ e. e.kind ≡ kinds.Memory) }
+        ensures unused { unused_count (contents_of self.entry) ≢ 0 → IfErr result (λ e.
+            e.kind ≡ kinds.Value tags.BitString) }
+        ensures err { unused_count (contents_of self.entry) ≡ 0 → IfErr result (λ e.
+            e.kind ≡ kinds.Memory) }
     {
         if self.has_unused_bits() {
             return Err(Error::from_kind(Tag::BitString.value_error()));
@@ -300,9 +300,8 @@ impl<'a> PartialOrd for BitStringRef<'a> {
 
     ghost partial_cmp = { λ v w. Some (lex (v.unused ∷ v.octets.now) (w.unused ∷ w.octets.now)) };
 
-    ghost laws = { bits_po contents_of
-        (λ v w. same_tests v.unused w.unused v.octets.now w.octets.now v.possible v.zero w.possible
-        w.zero v.octet w.octet) };
+    ghost laws = { bits_po contents_of (λ v w. same_tests v.unused w.unused v.octets.now
+        w.octets.now v.possible v.zero w.possible w.zero v.octet w.octet) };
 
     fn partial_cmp(&self, other: &BitStringRef<'a>) -> Option<Ordering> {
         Some(self.cmp(other))
@@ -337,10 +336,9 @@ impl<'a> ValueOrd for BitStringRef<'a> {
 }
 
 impl<'a> ContentsEq for BitStringRef<'a> {
-    ghost contents_eq = { λ v w one. contents_decided (v.unused ∷ v.octets.now)
-        (w.unused ∷ w.octets.now)
-        (same_tests v.unused w.unused v.octets.now w.octets.now v.possible v.zero w.possible w.zero
-        v.octet w.octet) };
+    ghost contents_eq = { λ v w one.
+        contents_decided (v.unused ∷ v.octets.now) (w.unused ∷ w.octets.now) (same_tests v.unused
+        w.unused v.octets.now w.octets.now v.possible v.zero w.possible w.zero v.octet w.octet) };
 }
 
 impl<'a> CopyIsDuplicate for BitStringRef<'a> {}
@@ -398,8 +396,8 @@ impl<'a> TryFrom<BitStringRef<'a>> for &'a [u8] {
 
     type Error = Error;
 
-    ghost try_from_gives = { λ s r. MatchResult r (λ b. contents_of s ≡ 0 ∷ b.now)
-        (λ e. (e.kind ≡ kinds.Value tags.BitString) × (unused_count (contents_of s) ≢ 0)) };
+    ghost try_from_gives = { λ s r. MatchResult r (λ b. contents_of s ≡ 0 ∷ b.now) (λ e.
+        (e.kind ≡ kinds.Value tags.BitString) × (unused_count (contents_of s) ≢ 0)) };
 
     /// # Errors
     /// (13) where there are unused bits.
@@ -455,7 +453,7 @@ impl<'a> TryFrom<AnyRef<'a>> for BitStringRef<'a> {
     /// (4) with no expected tag for another tag; the faults of contents octets in reading order: (9),
     /// (13), (8).
     fn try_from(any: AnyRef<'a>) -> Result<BitStringRef<'a>, Error> {
-        if !any.tag().is(Tag::BitString) {
+        if !any.tag().equals(Tag::BitString) {
             return Err(Error::from_kind(any.tag().unexpected_error(None)));
         }
         match BitStringRef::of_contents(any.value()) {

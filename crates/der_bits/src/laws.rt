@@ -1,6 +1,6 @@
 //! Laws of bit strings.
 
-ghost use Rattle.std.specs.Prelude.{◌≡◌, ◌↔◌, IsTrue};
+ghost use Rattle.std.specs.Prelude.{◌≡◌, ◌↔◌, IsTrue, ◌∷◌, []};
 ghost use Rattle.der_tlv.specs.declared.tag.Tag.TheVariants as tags;
 ghost use Rattle.der_bits.specs.BitString.{bits};
 ghost use Rattle.der_bits.specs.BitStringRef.{contents_of};
@@ -8,22 +8,24 @@ ghost use Rattle.der_bits.specs.BitStringRef.{contents_of};
 use crate::bit_string::BitString;
 use crate::bit_string_ref::BitStringRef;
 use der_elem::{FixedTag, FormValue};
+use der_tlv::Tag;
 
 /// Whether two bit strings have the same bits, which is whether they are equal, since unused bits
 /// are zero.
 pub fn equal_bits<'a>(one: BitStringRef<'a>, other: BitStringRef<'a>) -> bool
-    ensures same_bits { IsTrue result ↔ (bits (contents_of one.entry)
-        ≡ bits (contents_of other.entry)) }
+    ensures same_bits { IsTrue result
+        ↔ (bits (contents_of one.entry) ≡ bits (contents_of other.entry)) }
     ensures same_contents { IsTrue result ↔ (contents_of one.entry ≡ contents_of other.entry) }
 {
     one == other
 }
 
-/// The tags of the types are BIT STRING (X.680 8.6).
-pub fn tags_are()
-    ensures owned { ⟦<BitString as FixedTag>⟧.TAG ≡ tags.BitString }
-    ensures borrowed { ⟦<BitStringRef<'static> as FixedTag>⟧.TAG ≡ tags.BitString }
-{}
+/// The tags of the types (X.680 8.6): of `BitString` and `BitStringRef`.
+pub fn universal_tags() -> [Tag; 2]
+    ensures { result ≡ tags.BitString ∷ tags.BitString ∷ [] }
+{
+    [BitString::TAG, BitStringRef::TAG]
+}
 
 /// A bit string has at most seven unused bits.
 pub fn max_unused_bits() -> u8

@@ -211,7 +211,7 @@ impl<'a> TryFrom<AnyRef<'a>> for IntRef<'a> {
     /// # Errors
     /// (4) with no expected tag for another tag; no contents octets, or a redundant first octet (8).
     fn try_from(any: AnyRef<'a>) -> Result<IntRef<'a>, Error> {
-        if !any.tag().is(Tag::Integer) {
+        if !any.tag().equals(Tag::Integer) {
             return Err(Error::from_kind(any.tag().unexpected_error(None)));
         }
         match IntRef::from_contents(any.value()) {

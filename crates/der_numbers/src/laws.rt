@@ -1,6 +1,6 @@
 //! Laws of INTEGER of any length: functions that do nothing, and promise what holds of all of them.
 
-ghost use Rattle.std.specs.Prelude.{◌≡◌};
+ghost use Rattle.std.specs.Prelude.{◌≡◌, ◌∷◌, []};
 ghost use Rattle.der_tlv.specs.declared.tag.Tag.TheVariants as tags;
 ghost use Rattle.der_numbers.specs.ReadingLaws.{IntegersAreRead, NaturalsAreRead};
 
@@ -9,6 +9,7 @@ use crate::int_ref::IntRef;
 use crate::uint::Uint;
 use crate::uint_ref::UintRef;
 use der_elem::FixedTag;
+use der_tlv::Tag;
 
 /// Octets are read as an integer exactly where they are the contents octets of one.
 pub fn integers_are_read()
@@ -21,10 +22,9 @@ pub fn naturals_are_read()
     ensures { NaturalsAreRead }
 {}
 
-/// The tags of the types are INTEGER (X.680 8.6).
-pub fn tags_are()
-    ensures int { ⟦<Int as FixedTag>⟧.TAG ≡ tags.Integer }
-    ensures int_ref { ⟦<IntRef<'static> as FixedTag>⟧.TAG ≡ tags.Integer }
-    ensures uint { ⟦<Uint as FixedTag>⟧.TAG ≡ tags.Integer }
-    ensures uint_ref { ⟦<UintRef<'static> as FixedTag>⟧.TAG ≡ tags.Integer }
-{}
+/// The tags of the types (X.680 8.6): of `Int`, `IntRef`, `Uint` and `UintRef`.
+pub fn universal_tags() -> [Tag; 4]
+    ensures { result ≡ tags.Integer ∷ tags.Integer ∷ tags.Integer ∷ tags.Integer ∷ [] }
+{
+    [Int::TAG, IntRef::TAG, Uint::TAG, UintRef::TAG]
+}

@@ -52,7 +52,7 @@ fn uint_from(alloc: Global, number: u128) -> Result<Uint, Error>
 }
 
 impl Int {
-    /// The same integer.
+    /// An `Int` with the value `number`.
     ///
     /// # Errors
     /// (1) where memory runs out.
@@ -62,7 +62,7 @@ impl Int {
         int_from(alloc, i128::from(number))
     }
 
-    /// The same integer.
+    /// An `Int` with the value `number`.
     ///
     /// # Errors
     /// (1) where memory runs out.
@@ -72,7 +72,7 @@ impl Int {
         int_from(alloc, i128::from(number))
     }
 
-    /// The same integer.
+    /// An `Int` with the value `number`.
     ///
     /// # Errors
     /// (1) where memory runs out.
@@ -82,7 +82,7 @@ impl Int {
         int_from(alloc, i128::from(number))
     }
 
-    /// The same integer.
+    /// An `Int` with the value `number`.
     ///
     /// # Errors
     /// (1) where memory runs out.
@@ -92,7 +92,7 @@ impl Int {
         int_from(alloc, i128::from(number))
     }
 
-    /// The same integer.
+    /// An `Int` with the value `number`.
     ///
     /// # Errors
     /// (1) where memory runs out.
@@ -104,7 +104,7 @@ impl Int {
 }
 
 impl Uint {
-    /// The same number.
+    /// A `Uint` with the value `number`.
     ///
     /// # Errors
     /// (1) where memory runs out.
@@ -114,7 +114,7 @@ impl Uint {
         uint_from(alloc, u128::from(number))
     }
 
-    /// The same number.
+    /// A `Uint` with the value `number`.
     ///
     /// # Errors
     /// (1) where memory runs out.
@@ -124,7 +124,7 @@ impl Uint {
         uint_from(alloc, u128::from(number))
     }
 
-    /// The same number.
+    /// A `Uint` with the value `number`.
     ///
     /// # Errors
     /// (1) where memory runs out.
@@ -134,7 +134,7 @@ impl Uint {
         uint_from(alloc, u128::from(number))
     }
 
-    /// The same number.
+    /// A `Uint` with the value `number`.
     ///
     /// # Errors
     /// (1) where memory runs out.
@@ -144,7 +144,7 @@ impl Uint {
         uint_from(alloc, u128::from(number))
     }
 
-    /// The same number.
+    /// A `Uint` with the value `number`.
     ///
     /// # Errors
     /// (1) where memory runs out.

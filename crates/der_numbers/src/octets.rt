@@ -41,8 +41,8 @@ pub fn strip_redundant(octets: &[u8]) -> &[u8]
 /// # Errors
 /// None, or a redundant first octet (8).
 pub fn check_integer(octets: &[u8]) -> Result<(), ErrorKind>
-    ensures ok { IfOk result (λ _. (0 < length octets.now)
-        × (octets.now ≡ integer_contents (twos_complement octets.now))
+    ensures ok { IfOk result (λ _.
+        (0 < length octets.now) × (octets.now ≡ integer_contents (twos_complement octets.now))
         × (integer_or_fault octets.now ≡ Ok octets.now)) }
     ensures err { IfErr result (λ kind. integer_or_fault octets.now ≡ Err kind) }
 {
@@ -62,8 +62,8 @@ fn has_leading_zero(octets: &[u8]) -> bool
 /// The octets of the same number that is not negative, without leading zeros: one 00 for zero.
 pub fn strip_zeros(octets: &[u8]) -> &[u8]
     requires { 0 < length octets.now }
-    ensures contents { with_sign_octet result.now ≡ natural_contents
-        (big_endian_number octets.now) }
+    ensures contents { with_sign_octet result.now
+        ≡ natural_contents (big_endian_number octets.now) }
     ensures some { 0 < length result.now }
     ensures stripped { has_leading_zero result.now ≡ false }
     ensures fewest { with_sign_octet result.now ≡ natural_contents (big_endian_number result.now) }
@@ -98,8 +98,8 @@ pub fn is_high(octets: &[u8]) -> bool
 /// # Errors
 /// In this order: none, or a 00 before an octet below 80 (8); a first octet of 80 or more (13).
 pub fn check_natural(octets: &[u8]) -> Result<(), ErrorKind>
-    ensures ok { IfOk result (λ _. (0 < length octets.now)
-        × (octets.now ≡ natural_contents (big_endian_number octets.now))
+    ensures ok { IfOk result (λ _.
+        (0 < length octets.now) × (octets.now ≡ natural_contents (big_endian_number octets.now))
         × (natural_or_fault octets.now ≡ Ok octets.now)) }
     ensures err { IfErr result (λ kind. natural_or_fault octets.now ≡ Err kind) }
 {

@@ -40,8 +40,8 @@ pub struct Uint {
     pub(crate) octets: Vec<u8>,
     ghost some: { 0 < length octets.items },
     ghost stripped: { has_leading_zero octets.items ≡ false },
-    ghost fewest: { with_sign_octet octets.items ≡ natural_contents
-        (big_endian_number octets.items) },
+    ghost fewest: { with_sign_octet octets.items
+        ≡ natural_contents (big_endian_number octets.items) },
     ghost short: { length (with_sign_octet octets.items) < 2 ^ 32 },
 }
 
@@ -193,8 +193,8 @@ impl Eq for Uint {
 impl PartialOrd for Uint {
     ghost use Rattle.der_numbers.specs.Uint.{contents_of};
 
-    ghost partial_cmp = { λ v w. Some (lex (with_sign_octet v.octets.items)
-        (with_sign_octet w.octets.items)) };
+    ghost partial_cmp = { λ v w. Some
+        (lex (with_sign_octet v.octets.items) (with_sign_octet w.octets.items)) };
 
     ghost laws = { on_po contents_of texts_po };
 
@@ -226,8 +226,8 @@ impl OrdIsValueOrd for Uint {
 }
 
 impl ContentsEq for Uint {
-    ghost contents_eq = { λ v w one. bytes_decides (with_sign_octet v.octets.items)
-        (with_sign_octet w.octets.items) };
+    ghost contents_eq = { λ v w one.
+        bytes_decides (with_sign_octet v.octets.items) (with_sign_octet w.octets.items) };
 }
 
 impl DuplicateValue for Uint {

@@ -133,9 +133,8 @@ impl<'a> FormValue for UintRef<'a> {
 
     ghost parse_value = { parse_natural };
 
-    ghost parse_of_accepted_value = { parse_of_within contents_of (λ v. Unit {0}) parse_natural
-        (λ rules v p r. parse_of_natural v.octets.now (with_sign_octet v.octets.now)
-        v.fewest refl) };
+    ghost parse_of_accepted_value = { parse_of_within contents_of (λ v. Unit {0}) parse_natural (λ
+        rules v p r. parse_of_natural v.octets.now (with_sign_octet v.octets.now) v.fewest refl) };
 
     ghost same_length_value = { same_length_within contents_of (λ v. Unit {0}) };
 
@@ -201,8 +200,8 @@ impl<'a> Eq for UintRef<'a> {
 impl<'a> PartialOrd for UintRef<'a> {
     ghost use Rattle.der_numbers.specs.UintRef.{contents_of};
 
-    ghost partial_cmp = { λ v w. Some (lex (with_sign_octet v.octets.now)
-        (with_sign_octet w.octets.now)) };
+    ghost partial_cmp = { λ v w. Some
+        (lex (with_sign_octet v.octets.now) (with_sign_octet w.octets.now)) };
 
     ghost laws = { on_po contents_of texts_po };
 
@@ -234,8 +233,8 @@ impl<'a> OrdIsValueOrd for UintRef<'a> {
 }
 
 impl<'a> ContentsEq for UintRef<'a> {
-    ghost contents_eq = { λ v w one. bytes_decides (with_sign_octet v.octets.now)
-        (with_sign_octet w.octets.now) };
+    ghost contents_eq = { λ v w one.
+        bytes_decides (with_sign_octet v.octets.now) (with_sign_octet w.octets.now) };
 }
 
 impl<'a> CopyIsDuplicate for UintRef<'a> {}
@@ -277,7 +276,7 @@ impl<'a> TryFrom<AnyRef<'a>> for UintRef<'a> {
     /// (4) with no expected tag for another tag; else, in this order: no contents octets, or 00
     /// before an octet below 80 (8); a first octet of 80 or more (13).
     fn try_from(any: AnyRef<'a>) -> Result<UintRef<'a>, Error> {
-        if !any.tag().is(Tag::Integer) {
+        if !any.tag().equals(Tag::Integer) {
             return Err(Error::from_kind(any.tag().unexpected_error(None)));
         }
         match UintRef::from_contents(any.value()) {

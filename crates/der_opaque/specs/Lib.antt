@@ -21,6 +21,7 @@ pub use Rattle.der_tlv.specs.HeaderOctets
 pub use Rattle.der_tlv.specs.Octets
 pub use Rattle.der_tlv.specs.TagEquality
 pub use Rattle.der_tlv.specs.TagParts
+pub use Rattle.der_tlv.specs.Views
 pub use Rattle.der_tlv.specs.declared.encoding_rules.EncodingRules
 pub use Rattle.der_tlv.specs.declared.error.ErrorKind
 pub use Rattle.der_tlv.specs.declared.tag.Tag

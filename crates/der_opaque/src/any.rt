@@ -17,6 +17,7 @@ ghost use Rattle.der_opaque.specs.InSequence.{RefusesWith, CalledOn};
 ghost use Rattle.der_opaque.specs.AnyForm.{accepts_any, parse_any};
 ghost use Rattle.der_opaque.specs.AnyLaws.{led_any, parse_of_any, begins_any, same_length_any, encoding_eq_any};
 ghost use Rattle.der_opaque.specs.AnyRef as borrowed;
+ghost use Rattle.der_tlv.specs.Views.{slice_reader_state};
 
 use crate::any_ref::AnyRef;
 use der_elem::{
@@ -89,8 +90,8 @@ impl Any {
     /// # Errors
     /// (9) where it has more than 4294967295 contents octets; (1) where memory runs out.
     pub fn encode_from<T: Tagged + EncodeValue>(alloc: Global, value: &T) -> Result<Any, Error>
-        ensures ok { IfOk result (λ any. (tag_of any ≡ T.tag_of value.now)
-            × (contents_of any ≡ T.contents value.now)) }
+        ensures ok { IfOk result (λ any.
+            (tag_of any ≡ T.tag_of value.now) × (contents_of any ≡ T.contents value.now)) }
         ensures err { IfErr result (λ e. (e.kind ≡ kinds.Memory)
             ⊎ Stops (T.contents value.now) (T.re_reads_value value.now) e.kind) }
     {
@@ -158,12 +159,10 @@ impl Any {
         f: F,
     ) -> Result<T, E>
         requires { F.IsAlwaysCallable f }
-        ensures other { tag_of self.now ≢ tags.Sequence
-            → RefusesWith E.from_gives
+        ensures other { tag_of self.now ≢ tags.Sequence → RefusesWith E.from_gives
             (kinds.TagUnexpected (Some tags.Sequence) (tag_of self.now)) result }
         ensures called { tag_of self.now ≡ tags.Sequence
-            → CalledOn F.FnOnce ⟦<SliceReader<'a> as Reader<'a>>⟧.state E.from_gives f
-            (contents_of self.now) result }
+            → CalledOn F.FnOnce slice_reader_state E.from_gives f (contents_of self.now) result }
     {
         self.to_ref().sequence(f)
     }
@@ -179,7 +178,7 @@ impl Any {
         }
     }
 
-    /// The value, borrowed.
+    /// The value, borrowed: the same call as `to_ref`.
     pub fn owned_to_ref(&self) -> AnyRef<'_>
         ensures tag { borrowed.tag_of result ≡ tag_of self.now }
         ensures value { borrowed.contents_of result ≡ contents_of self.now }
@@ -296,8 +295,8 @@ impl Tagged for Any {
 
     ghost encoding_is = { λ v. refl };
 
-    ghost accepted_is_tlv = { λ rules v b a. record
-        { tag = v.tag; contents = v.value.items; octets_are = a.1 } };
+    ghost accepted_is_tlv = { λ rules v b a.
+        record { tag = v.tag; contents = v.value.items; octets_are = a.1 } };
 
     ghost own_tag = { λ v. refl };
 

@@ -16,6 +16,7 @@ ghost use Rattle.der_opaque.specs.DecodingAs.{DecodesAs};
 ghost use Rattle.der_opaque.specs.InSequence.{RefusesWith, CalledOn};
 ghost use Rattle.der_opaque.specs.AnyForm.{accepts_any, parse_any};
 ghost use Rattle.der_opaque.specs.AnyLaws.{led_any, parse_of_any, begins_any, same_length_any, encoding_eq_any};
+ghost use Rattle.der_tlv.specs.Views.{slice_reader_state};
 
 use crate::any::Any;
 use der_elem::{
@@ -79,8 +80,8 @@ impl<'a> AnyRef<'a> {
 
     /// Whether this is NULL, 05 00.
     pub fn is_null(self) -> bool
-        ensures { IsTrue result ↔ ((tag_of self.entry ≡ tags.Null)
-            × (contents_of self.entry ≡ [])) }
+        ensures { IsTrue result
+            ↔ ((tag_of self.entry ≡ tags.Null) × (contents_of self.entry ≡ [])) }
     {
         self.tag == Tag::Null && self.value.is_empty()
     }
@@ -133,12 +134,10 @@ impl<'a> AnyRef<'a> {
         f: F,
     ) -> Result<T, E>
         requires { F.IsAlwaysCallable f }
-        ensures other { tag_of self.entry ≢ tags.Sequence
-            → RefusesWith E.from_gives
+        ensures other { tag_of self.entry ≢ tags.Sequence → RefusesWith E.from_gives
             (kinds.TagUnexpected (Some tags.Sequence) (tag_of self.entry)) result }
         ensures called { tag_of self.entry ≡ tags.Sequence
-            → CalledOn F.FnOnce ⟦<SliceReader<'a> as Reader<'a>>⟧.state E.from_gives f
-            (contents_of self.entry) result }
+            → CalledOn F.FnOnce slice_reader_state E.from_gives f (contents_of self.entry) result }
     {
         if let Err(e) = self.tag.assert_eq(Tag::Sequence) {
             return Err(E::from(e));
@@ -161,8 +160,8 @@ impl<'a> AnyRef<'a> {
     /// # Errors
     /// (1) where memory runs out.
     pub fn ref_to_owned(self, alloc: Global) -> Result<Any, Error>
-        ensures value { IfOk result (λ v. (owned.tag_of v ≡ tag_of self.entry)
-            × (owned.contents_of v ≡ contents_of self.entry)) }
+        ensures value { IfOk result (λ v.
+            (owned.tag_of v ≡ tag_of self.entry) × (owned.contents_of v ≡ contents_of self.entry)) }
         ensures err { IfErr result (λ e. e.kind ≡ kinds.Memory) }
     {
         Any::from_ref(alloc, self)
@@ -267,8 +266,8 @@ impl<'a> Tagged for AnyRef<'a> {
 
     ghost encoding_is = { λ v. refl };
 
-    ghost accepted_is_tlv = { λ rules v b a. record
-        { tag = v.tag; contents = v.value.now; octets_are = a.1 } };
+    ghost accepted_is_tlv = { λ rules v b a.
+        record { tag = v.tag; contents = v.value.now; octets_are = a.1 } };
 
     ghost own_tag = { λ v. refl };
 

@@ -15,7 +15,7 @@ ghost use Rattle.der_opaque.specs.AnyRef.{tag_of, contents_of};
 ghost use Rattle.der_opaque.specs.BuiltinTypes.{DecodesBoolean, DecodesNull, DecodesSigned, DecodesUnsigned};
 
 use crate::any_ref::AnyRef;
-use der_elem::{Form, FormValue, Tagged, signed_of, text_of, unsigned_of};
+use der_elem::{boolean_of, null_of, signed_of, text_of, unsigned_of};
 use der_tlv::{Error, Tag};
 
 /// The integer that carried contents octets are, at a width of up to 16 octets.
@@ -28,7 +28,7 @@ fn signed_as(any: AnyRef<'_>, width: usize) -> Result<i128, Error>
     requires most { width ≤ 16 }
     ensures { DecodesSigned width (tag_of any.entry) (contents_of any.entry) result }
 {
-    if !any.tag.is(Tag::Integer) {
+    if !any.tag.equals(Tag::Integer) {
         return Err(Error::from_kind(any.tag.unexpected_error(None)));
     }
     match signed_of(any.value, width) {
@@ -48,7 +48,7 @@ fn unsigned_as(any: AnyRef<'_>, width: usize) -> Result<u128, Error>
     requires most { width ≤ 16 }
     ensures { DecodesUnsigned width (tag_of any.entry) (contents_of any.entry) result }
 {
-    if !any.tag.is(Tag::Integer) {
+    if !any.tag.equals(Tag::Integer) {
         return Err(Error::from_kind(any.tag.unexpected_error(None)));
     }
     match unsigned_of(any.value, width) {
@@ -68,14 +68,12 @@ impl<'a> TryFrom<AnyRef<'a>> for bool {
     /// (4) with no expected tag for another tag; (7) unless there is one contents octet; (8) for any
     /// octet but 00 and FF.
     fn try_from(any: AnyRef<'a>) -> Result<bool, Error> {
-        if !any.tag.is(Tag::Boolean) {
+        if !any.tag.equals(Tag::Boolean) {
             return Err(Error::from_kind(any.tag.unexpected_error(None)));
         }
-        match any.value {
-            [0x00] => Ok(false),
-            [0xff] => Ok(true),
-            [_] => Err(Error::from_kind(Tag::Boolean.non_canonical_error())),
-            _ => Err(Error::from_kind(Tag::Boolean.length_error())),
+        match boolean_of(any.value) {
+            Ok(truth) => Ok(truth),
+            Err(kind) => Err(Error::from_kind(kind)),
         }
     }
 }
@@ -90,12 +88,12 @@ impl<'a> TryFrom<AnyRef<'a>> for () {
     /// # Errors
     /// (4) with no expected tag for another tag; (7) for any contents octets.
     fn try_from(any: AnyRef<'a>) -> Result<(), Error> {
-        if !any.tag.is(Tag::Null) {
+        if !any.tag.equals(Tag::Null) {
             return Err(Error::from_kind(any.tag.unexpected_error(None)));
         }
-        match any.value {
-            [] => Ok(()),
-            _ => Err(Error::from_kind(Tag::Null.length_error())),
+        match null_of(any.value) {
+            Ok(()) => Ok(()),
+            Err(kind) => Err(Error::from_kind(kind)),
         }
     }
 }
@@ -103,15 +101,15 @@ impl<'a> TryFrom<AnyRef<'a>> for () {
 impl<'a> TryFrom<AnyRef<'a>> for &'a str {
     type Error = Error;
 
-    ghost try_from_gives = { λ a r. DecodesOwnAs Utf8String (λ text. text.now)
-        (λ text. is_utf8 text.now ≡ true) parse_utf8 (tag_of a) (contents_of a) r };
+    ghost try_from_gives = { λ a r. DecodesOwnAs Utf8String (λ text. text.now) (λ text.
+        is_utf8 text.now ≡ true) parse_utf8 (tag_of a) (contents_of a) r };
 
     /// The text of a UTF8String, which the contents octets are in UTF-8.
     ///
     /// # Errors
     /// (4) with no expected tag for another tag; (12) for octets that are not UTF-8.
     fn try_from(any: AnyRef<'a>) -> Result<&'a str, Error> {
-        if !any.tag.is(Tag::Utf8String) {
+        if !any.tag.equals(Tag::Utf8String) {
             return Err(Error::from_kind(any.tag.unexpected_error(None)));
         }
         match text_of(any.value) {

@@ -1,6 +1,6 @@
 //! Laws of values whose contents octets are kept as they stand.
 
-ghost use Rattle.std.specs.Prelude.{◌≡◌, []};
+ghost use Rattle.std.specs.Prelude.{◌≡◌, [], ◌∷◌};
 ghost use Rattle.std.specs.Ordering.{ordering_then};
 ghost use Rattle.der_tlv.specs.declared.tag.Tag.TheVariants as tags;
 ghost use Rattle.der_tlv.specs.Identifier.{identifier};
@@ -15,14 +15,14 @@ use crate::object_identifier::ObjectIdentifier;
 use crate::octet_string::OctetString;
 use crate::octet_string_ref::OctetStringRef;
 use der_elem::{FixedTag, FormValue, Tagged};
+use der_tlv::Tag;
 use std::cmp::Ordering;
 
 /// The order of two values with any tags: that of their identifier octets, then that of their
 /// contents octets.
 pub fn tag_then_contents(one: &Any, other: &Any) -> Ordering
-    ensures { result ≡ ordering_then
-        (lex (identifier (tag_of one.now)) (identifier (tag_of other.now)))
-        (lex (contents_of one.now) (contents_of other.now)) }
+    ensures { result ≡ ordering_then (lex (identifier (tag_of one.now))
+        (identifier (tag_of other.now))) (lex (contents_of one.now) (contents_of other.now)) }
 {
     one.cmp(other)
 }
@@ -36,13 +36,19 @@ pub fn borrowed_tag_then_contents<'a>(one: &AnyRef<'a>, other: &AnyRef<'a>) -> O
     one.cmp(other)
 }
 
-/// The tags of the types: NULL, OCTET STRING and OBJECT IDENTIFIER (X.680 8.6).
-pub fn tags_are()
-    ensures null { ⟦<Null as FixedTag>⟧.TAG ≡ tags.Null }
-    ensures octets { ⟦<OctetString as FixedTag>⟧.TAG ≡ tags.OctetString }
-    ensures borrowed_octets { ⟦<OctetStringRef<'static> as FixedTag>⟧.TAG ≡ tags.OctetString }
-    ensures identifier { ⟦<ObjectIdentifier<39> as FixedTag>⟧.TAG ≡ tags.ObjectIdentifier }
-{}
+/// The tags of the types (X.680 8.6): of `Null`, `OctetString`, `OctetStringRef` and
+/// `ObjectIdentifier`.
+pub fn universal_tags() -> [Tag; 4]
+    ensures { result ≡ tags.Null ∷ tags.OctetString ∷ tags.OctetString
+        ∷ tags.ObjectIdentifier ∷ [] }
+{
+    [
+        Null::TAG,
+        OctetString::TAG,
+        OctetStringRef::TAG,
+        ObjectIdentifier::<39>::TAG,
+    ]
+}
 
 /// `AnyRef::NULL` has the tag of NULL and no contents octets.
 pub fn null() -> AnyRef<'static>

@@ -105,7 +105,7 @@ impl<'a> TryFrom<AnyRef<'a>> for Null {
     /// # Errors
     /// (4) with no expected tag for another tag; (7) for any contents octets.
     fn try_from(any: AnyRef<'a>) -> Result<Null, Error> {
-        if !any.tag.is(Tag::Null) {
+        if !any.tag.equals(Tag::Null) {
             return Err(Error::from_kind(any.tag.unexpected_error(None)));
         }
         match any.value {
@@ -118,8 +118,7 @@ impl<'a> TryFrom<AnyRef<'a>> for Null {
 impl<'a> TryFrom<&'a Any> for Null {
     type Error = Error;
 
-    ghost try_from_gives = { λ a r. DecodesNull (owned.tag_of a.now)
-        (owned.contents_of a.now) r };
+    ghost try_from_gives = { λ a r. DecodesNull (owned.tag_of a.now) (owned.contents_of a.now) r };
 
     /// # Errors
     /// (4) with no expected tag for another tag; (7) for any contents octets.

@@ -51,9 +51,8 @@ impl<const MAX_SIZE: usize> ObjectIdentifier<MAX_SIZE> {
         ensures ok { IsOk result ↔ ((0 < length bytes.now) × (length bytes.now ≤ MAX_SIZE)
             × (length bytes.now < 2 ^ 32)) }
         ensures value { IfOk result (λ v. octets_of v ≡ bytes.now) }
-        ensures err { IfErr result (λ e.
-            e.kind ≡ (if nat_eq (length bytes.now) 0 then kinds.OidMalformed else kinds.Length
-            tags.ObjectIdentifier)) }
+        ensures err { IfErr result (λ e. e.kind ≡ (if nat_eq (length bytes.now) 0
+            then kinds.OidMalformed else kinds.Length tags.ObjectIdentifier)) }
     {
         if bytes.is_empty() {
             return Err(Error::from_kind(ErrorKind::OidMalformed));
@@ -86,9 +85,8 @@ impl<const MAX_SIZE: usize> FormValue for ObjectIdentifier<MAX_SIZE> {
 
     ghost parse_value = { parse_identifier MAX_SIZE };
 
-    ghost parse_of_accepted_value = { parse_of_within octets_of
-        (λ v. Unit {0}) (parse_identifier MAX_SIZE) (λ rules v p r.
-        parse_identifier-kept MAX_SIZE v.count v.octets
+    ghost parse_of_accepted_value = { parse_of_within octets_of (λ v. Unit {0})
+        (parse_identifier MAX_SIZE) (λ rules v p r. parse_identifier-kept MAX_SIZE v.count v.octets
         (take v.count v.octets) rules p v.some v.fits v.full refl) };
 
     ghost same_length_value = { same_length_within octets_of (λ v. Unit {0}) };

@@ -58,14 +58,14 @@ impl OctetString {
         self.octets
     }
 
-    /// How many there are.
+    /// The number of octets.
     pub fn len(&self) -> Length
         ensures { result ≡ length (octets_of self.now) }
     {
         Length::new(self.octets.len() as u32)
     }
 
-    /// Whether there are none.
+    /// Whether it has no octets.
     pub fn is_empty(&self) -> bool
         ensures { IsTrue result ↔ (octets_of self.now ≡ []) }
     {

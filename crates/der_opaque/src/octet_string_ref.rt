@@ -59,14 +59,14 @@ impl<'a> OctetStringRef<'a> {
         self.octets
     }
 
-    /// How many there are.
+    /// The number of octets.
     pub fn len(self) -> Length
         ensures { result ≡ length (octets_of self.entry) }
     {
         Length::new(self.octets.len() as u32)
     }
 
-    /// Whether there are none.
+    /// Whether it has no octets.
     pub fn is_empty(self) -> bool
         ensures { IsTrue result ↔ (octets_of self.entry ≡ []) }
     {
@@ -235,8 +235,8 @@ impl<'a, const N: usize> TryFrom<OctetStringRef<'a>> for [u8; N] {
 
     type Error = Error;
 
-    ghost try_from_gives = { λ s r. MatchResult r (λ a. a ≡ octets_of s)
-        (λ e. (e.kind ≡ kinds.Length tags.OctetString) × (length (octets_of s) ≢ N)) };
+    ghost try_from_gives = { λ s r. MatchResult r (λ a. a ≡ octets_of s) (λ e.
+        (e.kind ≡ kinds.Length tags.OctetString) × (length (octets_of s) ≢ N)) };
 
     /// # Errors
     /// (7) for another number of octets.
@@ -273,7 +273,7 @@ impl<'a> TryFrom<AnyRef<'a>> for OctetStringRef<'a> {
     /// # Errors
     /// (4) with no expected tag for another tag.
     fn try_from(any: AnyRef<'a>) -> Result<OctetStringRef<'a>, Error> {
-        if !any.tag.is(Tag::OctetString) {
+        if !any.tag.equals(Tag::OctetString) {
             return Err(Error::from_kind(any.tag.unexpected_error(None)));
         }
         Ok(OctetStringRef { octets: any.value })

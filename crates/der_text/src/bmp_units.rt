@@ -27,8 +27,8 @@ pub fn are_characters(octets: &[u8]) -> bool
 /// # Errors
 /// (7) for an odd number of octets; (13) for a unit from D800 to DFFF.
 pub fn check_units(octets: &[u8]) -> Result<(), ErrorKind>
-    ensures good { IfOk result (λ _. (length octets.now % 2 ≡ 0)
-        × (are_characters octets.now ≡ true)) }
+    ensures good { IfOk result (λ _.
+        (length octets.now % 2 ≡ 0) × (are_characters octets.now ≡ true)) }
     ensures refused { IfErr result (λ kind.
         ((kind ≡ kinds.Length tags.BmpString) × (length octets.now % 2 ≡ 1))
         ⊎ ((kind ≡ kinds.Value tags.BmpString) × (length octets.now % 2 ≡ 0)
@@ -45,8 +45,8 @@ pub fn check_units(octets: &[u8]) -> Result<(), ErrorKind>
 
 // Appends the two octets of a unit.
 fn push_unit(octets: &mut Vec<u8>, unit: u16) -> Result<(), Error>
-    ensures pushed { IfOk result (λ _. octets.new.items
-        ≡ octets.old.items ++ (unit / 256) ∷ (unit % 256) ∷ []) }
+    ensures pushed { IfOk result (λ _.
+        octets.new.items ≡ octets.old.items ++ (unit / 256) ∷ (unit % 256) ∷ []) }
     ensures refused { IfErr result (λ e. e.kind ≡ kinds.Memory) }
 {
     octets.extend_from_slice(&[(unit / 256) as u8, (unit % 256) as u8])?;

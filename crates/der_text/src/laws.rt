@@ -1,16 +1,17 @@
 //! Laws of strings of characters with several octets.
 
-ghost use Rattle.std.specs.Prelude.{◌≡◌};
+ghost use Rattle.std.specs.Prelude.{◌≡◌, ◌∷◌, []};
 ghost use Rattle.der_tlv.specs.declared.tag.Tag.TheVariants as tags;
 
 use crate::bmp_string::BmpString;
 use crate::general_string::GeneralStringRef;
 use crate::utf8_string::Utf8StringRef;
 use der_elem::FixedTag;
+use der_tlv::Tag;
 
-/// The tags of the types are those of their names (X.680 8.6).
-pub fn tags_are()
-    ensures utf8 { ⟦<Utf8StringRef<'static> as FixedTag>⟧.TAG ≡ tags.Utf8String }
-    ensures general { ⟦<GeneralStringRef<'static> as FixedTag>⟧.TAG ≡ tags.GeneralString }
-    ensures bmp { ⟦<BmpString as FixedTag>⟧.TAG ≡ tags.BmpString }
-{}
+/// The tags of the types (X.680 8.6): of `Utf8StringRef`, `GeneralStringRef` and `BmpString`.
+pub fn universal_tags() -> [Tag; 3]
+    ensures { result ≡ tags.Utf8String ∷ tags.GeneralString ∷ tags.BmpString ∷ [] }
+{
+    [Utf8StringRef::TAG, GeneralStringRef::TAG, BmpString::TAG]
+}

@@ -95,7 +95,7 @@ fn converts_utf8(rt: HostRuntime) -> Result<(), Fail> {
     let text = format!(in alloc; "{hello} {hello:?}")?;
     assert_eq!(rt; text.as_str(), "Helló Utf8String(\"Helló\")");
     let any = AnyRef::from(hello);
-    assert!(rt; any.tag().is(Tag::Utf8String));
+    assert!(rt; any.tag().equals(Tag::Utf8String));
     let Ok(again) = Utf8StringRef::try_from(any) else {
         return Err(Fail::from("refused"));
     };

@@ -75,7 +75,7 @@ impl<'a> Utf8StringRef<'a> {
         Length::new(self.text.len() as u32)
     }
 
-    /// Whether there are none.
+    /// Whether it has no characters.
     pub fn is_empty(self) -> bool
         ensures { IsTrue result ↔ (octets_of self.entry ≡ []) }
     {
@@ -245,7 +245,7 @@ impl<'a> TryFrom<AnyRef<'a>> for Utf8StringRef<'a> {
     /// (4) with no expected tag for another tag; (12) for octets that are not UTF-8.
     fn try_from(any: AnyRef<'a>) -> Result<Utf8StringRef<'a>, Error> {
         let tag = any.tag();
-        if !tag.is(Tag::Utf8String) {
+        if !tag.equals(Tag::Utf8String) {
             return Err(Error::from_kind(tag.unexpected_error(None)));
         }
         match Utf8StringRef::new(any.value()) {

@@ -64,7 +64,7 @@ pub fn explicit_number(bits: u8, tag: Tag) -> Result<TagNumber, ErrorKind>
     Ok(tag.number())
 }
 
-/// Asks that a tag stands for implicit tagging of a type whose own encodings are constructed, or
+/// Checks that a tag stands for implicit tagging of a type whose own encodings are constructed, or
 /// not.
 ///
 /// # Errors

@@ -2,6 +2,7 @@
 
 ghost use Rattle.std.specs.Prelude.{◌≡◌, length};
 ghost use Rattle.der_wrap.specs.Fields.{DecodesExplicit, DecodesImplicit, ReadsAny};
+ghost use Rattle.der_opaque.specs.AnyRef.{tag_of, contents_of};
 
 use crate::class_tag::{check_form, class_of_bits, in_class};
 use crate::tagged_value::TaggedValue;
@@ -11,8 +12,8 @@ use der_tlv::{Error, Header, Reader, Tag, TagMode, TagNumber};
 use std::alloc::Global;
 
 impl<T: Tagged, const CLASS: u8> TaggedValue<T, CLASS> {
-    /// Reads a field with explicit tagging and this number: none at the end of the octets and
-    /// before another class or number, where the reader stays.
+    /// Reads a field with explicit tagging and this number: `None`, with the reader
+    /// where it was, at the end or before a tag of another class or number.
     ///
     /// # Errors
     /// (17) on a failed reader; the faults of the next tag; (8) for a primitive tag; the value's
@@ -24,7 +25,8 @@ impl<T: Tagged, const CLASS: u8> TaggedValue<T, CLASS> {
     ) -> Result<Option<TaggedValue<T, CLASS>>, Error>
     where
         T: Decode<'a, R>,
-        ensures { DecodesExplicit T.Form CLASS tag_number.0 (R.state reader.old) (R.state reader.new) result }
+        ensures { DecodesExplicit T.Form CLASS tag_number.0 (R.state reader.old)
+            (R.state reader.new) result }
     {
         if !Tag::peek_matches(reader, class_of_bits(CLASS), tag_number)? {
             return Ok(None);
@@ -40,7 +42,7 @@ impl<T: Tagged, const CLASS: u8> TaggedValue<T, CLASS> {
     pub fn from_any<'a>(alloc: Global, any: AnyRef<'a>) -> Result<TaggedValue<T, CLASS>, Error>
     where
         T: FromDer<'a>,
-        ensures { ReadsAny T.Form CLASS (⟦<AnyRef<'a> as Tagged>⟧.tag_of any.entry) (⟦<AnyRef<'a> as FormValue>⟧.contents any.entry) result }
+        ensures { ReadsAny T.Form CLASS (tag_of any.entry) (contents_of any.entry) result }
     {
         let tag = any.tag();
         if !(tag.is_constructed() && in_class(CLASS, tag)) {
@@ -56,8 +58,8 @@ impl<T: Tagged, const CLASS: u8> TaggedValue<T, CLASS> {
 }
 
 impl<T, const CLASS: u8> TaggedValue<T, CLASS> {
-    /// Reads a field with implicit tagging and this number: none at the end of the octets and
-    /// before another class or number, where the reader stays.
+    /// Reads a field with implicit tagging and this number: `None`, with the reader
+    /// where it was, at the end or before a tag of another class or number.
     ///
     /// # Errors
     /// (17) on a failed reader; the faults of the next tag; under DER (8) for a constructed tag
@@ -70,7 +72,8 @@ impl<T, const CLASS: u8> TaggedValue<T, CLASS> {
     ) -> Result<Option<TaggedValue<T, CLASS>>, Error>
     where
         T: DecodeValue<'a, R> + IsConstructed,
-        ensures { DecodesImplicit T.FormValue T.CONSTRUCTED CLASS tag_number.0 (R.state reader.old) (R.state reader.new) result }
+        ensures { DecodesImplicit T.FormValue T.CONSTRUCTED CLASS tag_number.0 (R.state reader.old)
+            (R.state reader.new) result }
     {
         let class = class_of_bits(CLASS);
         if !Tag::peek_matches(reader, class, tag_number)? {

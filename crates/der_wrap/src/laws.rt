@@ -14,7 +14,9 @@ pub fn number_then_mode_then_value<T: Ord, const CLASS: u8>(
     one: &TaggedValue<T, CLASS>,
     other: &TaggedValue<T, CLASS>,
 ) -> Ordering
-    ensures { result ≡ ordering_then (nat_cmp one.now.tag_number.0 other.now.tag_number.0) (ordering_then (mode_cmp one.now.tag_mode other.now.tag_mode) (T.cmp one.now.value other.now.value)) }
+    ensures { result ≡ ordering_then (nat_cmp one.now.tag_number.0 other.now.tag_number.0)
+        (ordering_then (mode_cmp one.now.tag_mode other.now.tag_mode)
+        (T.cmp one.now.value other.now.value)) }
 {
     one.cmp(other)
 }
@@ -24,7 +26,9 @@ pub fn borrowed_number_then_mode_then_value<'a, T: Ord, const CLASS: u8>(
     one: &TaggedValueRef<'a, T, CLASS>,
     other: &TaggedValueRef<'a, T, CLASS>,
 ) -> Ordering
-    ensures { result ≡ ordering_then (nat_cmp one.now.tag_number.0 other.now.tag_number.0) (ordering_then (mode_cmp one.now.tag_mode other.now.tag_mode) (T.cmp one.now.value.now other.now.value.now)) }
+    ensures { result ≡ ordering_then (nat_cmp one.now.tag_number.0 other.now.tag_number.0)
+        (ordering_then (mode_cmp one.now.tag_mode other.now.tag_mode)
+        (T.cmp one.now.value.now other.now.value.now)) }
 {
     one.cmp(other)
 }

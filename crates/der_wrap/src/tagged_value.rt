@@ -43,7 +43,8 @@ pub struct TaggedValue<T, const CLASS: u8> {
 impl<T: Tagged, const CLASS: u8> FormValue for TaggedValue<T, CLASS> {
     ghost contents = { λ v. contents_of_mode v.tag_mode (T.encoding v.value) (T.contents v.value) };
 
-    ghost comparable_value = { λ v w. OneTaggedForm T.comparable T.tag_of v.tag_mode w.tag_mode v.value w.value };
+    ghost comparable_value = { λ v w. OneTaggedForm T.comparable T.tag_of v.tag_mode w.tag_mode
+        v.value w.value };
 
     ghost re_reads_value = { λ v. T.re_reads v.value };
 
@@ -57,27 +58,35 @@ impl<T: Tagged, const CLASS: u8> FormValue for TaggedValue<T, CLASS> {
 
     ghost VALUE_TAKES_MEMORY = { T.TAKES_MEMORY };
 
-    ghost parse_of_accepted_value = { λ rules v. parse_of_one_encoding T.Form v.tag_mode v.value (T.contents v.value) rules };
+    ghost parse_of_accepted_value = { λ rules v.
+        parse_of_one_encoding T.Form v.tag_mode v.value (T.contents v.value) rules };
 
-    ghost same_length_value = { λ rules v. same_length_one_encoding T.Form v.tag_mode v.value (T.contents v.value) rules };
+    ghost same_length_value = { λ rules v.
+        same_length_one_encoding T.Form v.tag_mode v.value (T.contents v.value) rules };
 
-    ghost accepts_contents = { λ rules v. accepts_own_encoding T.Form v.tag_mode v.value (T.contents v.value) rules };
+    ghost accepts_contents = { λ rules v.
+        accepts_own_encoding T.Form v.tag_mode v.value (T.contents v.value) rules };
 
     ghost only_readable_value = { λ rules v c a. (a.0, T.only_readable rules v.value c a.1) };
 
-    ghost accepts_comparable_value = { λ rules v w c d a b. one_explicit_form T.Form T.tag_of v.tag_mode w.tag_mode v.value w.value a.0 b.0 (T.accepts_comparable rules v.value w.value c d a.1 b.1) };
+    ghost accepts_comparable_value = { λ rules v w c d a b.
+        one_explicit_form T.Form T.tag_of v.tag_mode w.tag_mode v.value w.value a.0 b.0
+        (T.accepts_comparable rules v.value w.value c d a.1 b.1) };
 
     ghost re_reads_memory_value = { λ v. T.re_reads_memory v.value };
 }
 
 impl<T: Tagged, const CLASS: u8> Form for TaggedValue<T, CLASS> {
-    ghost encoding = { λ v. tlv (tag_of_mode CLASS v.tag_mode v.tag_number.0 (T.tag_of v.value)) (contents_of_mode v.tag_mode (T.encoding v.value) (T.contents v.value)) };
+    ghost encoding = { λ v. tlv (tag_of_mode CLASS v.tag_mode v.tag_number.0 (T.tag_of v.value))
+        (contents_of_mode v.tag_mode (T.encoding v.value) (T.contents v.value)) };
 
-    ghost comparable = { λ v w. OneTaggedForm T.comparable T.tag_of v.tag_mode w.tag_mode v.value w.value };
+    ghost comparable = { λ v w. OneTaggedForm T.comparable T.tag_of v.tag_mode w.tag_mode
+        v.value w.value };
 
     ghost re_reads = { λ v. T.re_reads v.value };
 
-    ghost accepts = { λ rules v. AcceptsExplicit T.accepts CLASS v.tag_number.0 v.tag_mode v.value rules };
+    ghost accepts = { λ rules v.
+        AcceptsExplicit T.accepts CLASS v.tag_number.0 v.tag_mode v.value rules };
 
     ghost parse = { parse_explicit CLASS T.parse };
 
@@ -89,19 +98,27 @@ impl<T: Tagged, const CLASS: u8> Form for TaggedValue<T, CLASS> {
 
     ghost TAKES_MEMORY = { T.TAKES_MEMORY };
 
-    ghost parse_of_accepted = { λ rules v. parse_of_explicit T.Form CLASS v.tag_number.0 v.tag_mode v.value (T.tag_of v.value) (T.contents v.value) rules };
+    ghost parse_of_accepted = { λ rules v. parse_of_explicit T.Form CLASS v.tag_number.0 v.tag_mode
+        v.value (T.tag_of v.value) (T.contents v.value) rules };
 
-    ghost begins = { λ rules v. begins_explicit T.Form CLASS v.tag_number.0 v.tag_mode v.value (T.tag_of v.value) (T.contents v.value) rules };
+    ghost begins = { λ rules v. begins_explicit T.Form CLASS v.tag_number.0 v.tag_mode v.value
+        (T.tag_of v.value) (T.contents v.value) rules };
 
-    ghost led = { λ rules v. led_explicit T.Form CLASS v.tag_number.0 v.tag_mode v.value (T.tag_of v.value) (T.contents v.value) rules };
+    ghost led = { λ rules v. led_explicit T.Form CLASS v.tag_number.0 v.tag_mode v.value
+        (T.tag_of v.value) (T.contents v.value) rules };
 
-    ghost same_length = { λ rules v. same_length_explicit T.Form CLASS v.tag_number.0 v.tag_mode v.value (T.tag_of v.value) (T.contents v.value) rules };
+    ghost same_length = { λ rules v. same_length_explicit T.Form CLASS v.tag_number.0 v.tag_mode
+        v.value (T.tag_of v.value) (T.contents v.value) rules };
 
-    ghost accepts_encoding = { λ rules v. accepts_explicit_encoding T.Form CLASS v.tag_number.0 v.tag_mode v.value (T.tag_of v.value) (T.contents v.value) rules };
+    ghost accepts_encoding = { λ rules v. accepts_explicit_encoding T.Form CLASS v.tag_number.0
+        v.tag_mode v.value (T.tag_of v.value) (T.contents v.value) rules };
 
-    ghost only_readable = { λ rules v. readable_explicit T.Form CLASS v.tag_number.0 v.tag_mode v.value (T.tag_of v.value) (T.contents v.value) rules };
+    ghost only_readable = { λ rules v. readable_explicit T.Form CLASS v.tag_number.0 v.tag_mode
+        v.value (T.tag_of v.value) (T.contents v.value) rules };
 
-    ghost accepts_comparable = { λ rules v w b c a d. one_explicit_form T.Form T.tag_of v.tag_mode w.tag_mode v.value w.value a.mode_is d.mode_is (T.accepts_comparable rules v.value w.value a.inner d.inner a.accepted d.accepted) };
+    ghost accepts_comparable = { λ rules v w b c a d.
+        one_explicit_form T.Form T.tag_of v.tag_mode w.tag_mode v.value w.value a.mode_is d.mode_is
+        (T.accepts_comparable rules v.value w.value a.inner d.inner a.accepted d.accepted) };
 
     ghost re_reads_memory = { λ v. T.re_reads_memory v.value };
 }
@@ -131,7 +148,13 @@ impl<T: Tagged, const CLASS: u8> Tagged for TaggedValue<T, CLASS> {
 
     ghost encoding_is = { λ v. refl };
 
-    ghost accepted_is_tlv = { λ rules v b a. record { tag = class_tag CLASS true v.tag_number.0; contents = a.inner; octets_are = a.octets_are } };
+    ghost accepted_is_tlv = { λ rules v b a.
+        record {
+          tag = class_tag CLASS true v.tag_number.0;
+          contents = a.inner;
+          octets_are =
+              a.octets_are;
+        } };
 
     ghost own_tag = { λ v. tag_of_mode-class CLASS v.tag_mode v.tag_number.0 (T.tag_of v.value) };
 
@@ -178,11 +201,14 @@ impl<T: Tagged + DerOrd + ValueOrd, const CLASS: u8> ValueOrd for TaggedValue<T,
 }
 
 impl<T: Tagged + EncodingEq, const CLASS: u8> EncodingEq for TaggedValue<T, CLASS> {
-    ghost encoding_eq = { λ v w. encoding_eq_tagged_value T.tag_of T.contents T.encoding T.encoding_is T.comparable T.eq T.encoding_eq CLASS v.tag_number.0 w.tag_number.0 v.tag_mode w.tag_mode v.value w.value };
+    ghost encoding_eq = { λ v w. encoding_eq_tagged_value T.tag_of T.contents T.encoding
+        T.encoding_is T.comparable T.eq T.encoding_eq CLASS v.tag_number.0 w.tag_number.0 v.tag_mode
+        w.tag_mode v.value w.value };
 }
 
 impl<T: Tagged + Duplicate, const CLASS: u8> Duplicate for TaggedValue<T, CLASS> {
-    ghost is_copy = { λ v w. (w.tag_number.0 ≡ v.tag_number.0) × (w.tag_mode ≡ v.tag_mode) × T.is_copy v.value w.value };
+    ghost is_copy = { λ v w. (w.tag_number.0 ≡ v.tag_number.0) × (w.tag_mode ≡ v.tag_mode)
+        × T.is_copy v.value w.value };
 
     ghost takes_memory_to_copy = { T.takes_memory_to_copy };
 
@@ -195,9 +221,13 @@ impl<T: Tagged + Duplicate, const CLASS: u8> Duplicate for TaggedValue<T, CLASS>
         })
     }
 
-    ghost copy_encoding = { λ v w c. copy_encoding_tagged_value T.tag_of T.contents T.encoding T.encoding_is CLASS v.tag_number.0 w.tag_number.0 v.tag_mode w.tag_mode v.value w.value c.0 c.1 (T.copy_encoding v.value w.value c.2) };
+    ghost copy_encoding = { λ v w c. copy_encoding_tagged_value T.tag_of T.contents T.encoding
+        T.encoding_is CLASS v.tag_number.0 w.tag_number.0 v.tag_mode w.tag_mode v.value w.value c.0
+        c.1 (T.copy_encoding v.value w.value c.2) };
 
-    ghost copy_form = { λ v w x c. copy_form_tagged_value T.tag_of T.contents T.encoding T.encoding_is T.comparable v.tag_mode w.tag_mode x.tag_mode v.value w.value x.value c.1 (T.copy_encoding v.value w.value c.2) (T.copy_form v.value w.value x.value c.2) };
+    ghost copy_form = { λ v w x c. copy_form_tagged_value T.tag_of T.contents T.encoding
+        T.encoding_is T.comparable v.tag_mode w.tag_mode x.tag_mode v.value w.value x.value c.1
+        (T.copy_encoding v.value w.value c.2) (T.copy_form v.value w.value x.value c.2) };
 
     ghost copy_re_reads = { λ v w c. T.copy_re_reads v.value w.value c.2 };
 }

@@ -25,13 +25,16 @@ pub struct TaggedValueRef<'a, T, const CLASS: u8> {
 }
 
 impl<'a, T: Tagged, const CLASS: u8> FormValue for TaggedValueRef<'a, T, CLASS> {
-    ghost contents = { λ v. contents_of_mode v.tag_mode (T.encoding v.value.now) (T.contents v.value.now) };
+    ghost contents = { λ v. contents_of_mode v.tag_mode (T.encoding v.value.now)
+        (T.contents v.value.now) };
 
-    ghost comparable_value = { λ v w. OneTaggedForm T.comparable T.tag_of v.tag_mode w.tag_mode v.value.now w.value.now };
+    ghost comparable_value = { λ v w. OneTaggedForm T.comparable T.tag_of v.tag_mode w.tag_mode
+        v.value.now w.value.now };
 
     ghost re_reads_value = { λ v. T.re_reads v.value.now };
 
-    ghost accepts_value = { λ rules v. accepts_one_encoding T.accepts v.tag_mode rules v.value.now };
+    ghost accepts_value = { λ rules v. accepts_one_encoding T.accepts v.tag_mode rules
+        v.value.now };
 
     ghost parse_value = { one_encoding T.parse };
 
@@ -41,27 +44,35 @@ impl<'a, T: Tagged, const CLASS: u8> FormValue for TaggedValueRef<'a, T, CLASS> 
 
     ghost VALUE_TAKES_MEMORY = { T.TAKES_MEMORY };
 
-    ghost parse_of_accepted_value = { λ rules v. parse_of_one_encoding T.Form v.tag_mode v.value.now (T.contents v.value.now) rules };
+    ghost parse_of_accepted_value = { λ rules v.
+        parse_of_one_encoding T.Form v.tag_mode v.value.now (T.contents v.value.now) rules };
 
-    ghost same_length_value = { λ rules v. same_length_one_encoding T.Form v.tag_mode v.value.now (T.contents v.value.now) rules };
+    ghost same_length_value = { λ rules v.
+        same_length_one_encoding T.Form v.tag_mode v.value.now (T.contents v.value.now) rules };
 
-    ghost accepts_contents = { λ rules v. accepts_own_encoding T.Form v.tag_mode v.value.now (T.contents v.value.now) rules };
+    ghost accepts_contents = { λ rules v.
+        accepts_own_encoding T.Form v.tag_mode v.value.now (T.contents v.value.now) rules };
 
     ghost only_readable_value = { λ rules v c a. (a.0, T.only_readable rules v.value.now c a.1) };
 
-    ghost accepts_comparable_value = { λ rules v w c d a b. one_explicit_form T.Form T.tag_of v.tag_mode w.tag_mode v.value.now w.value.now a.0 b.0 (T.accepts_comparable rules v.value.now w.value.now c d a.1 b.1) };
+    ghost accepts_comparable_value = { λ rules v w c d a b.
+        one_explicit_form T.Form T.tag_of v.tag_mode w.tag_mode v.value.now w.value.now a.0 b.0
+        (T.accepts_comparable rules v.value.now w.value.now c d a.1 b.1) };
 
     ghost re_reads_memory_value = { λ v. T.re_reads_memory v.value.now };
 }
 
 impl<'a, T: Tagged, const CLASS: u8> Form for TaggedValueRef<'a, T, CLASS> {
-    ghost encoding = { λ v. tlv (tag_of_mode CLASS v.tag_mode v.tag_number.0 (T.tag_of v.value.now)) (contents_of_mode v.tag_mode (T.encoding v.value.now) (T.contents v.value.now)) };
+    ghost encoding = { λ v. tlv (tag_of_mode CLASS v.tag_mode v.tag_number.0 (T.tag_of v.value.now))
+        (contents_of_mode v.tag_mode (T.encoding v.value.now) (T.contents v.value.now)) };
 
-    ghost comparable = { λ v w. OneTaggedForm T.comparable T.tag_of v.tag_mode w.tag_mode v.value.now w.value.now };
+    ghost comparable = { λ v w. OneTaggedForm T.comparable T.tag_of v.tag_mode w.tag_mode
+        v.value.now w.value.now };
 
     ghost re_reads = { λ v. T.re_reads v.value.now };
 
-    ghost accepts = { λ rules v. AcceptsExplicit T.accepts CLASS v.tag_number.0 v.tag_mode v.value.now rules };
+    ghost accepts = { λ rules v.
+        AcceptsExplicit T.accepts CLASS v.tag_number.0 v.tag_mode v.value.now rules };
 
     ghost parse = { parse_explicit CLASS T.parse };
 
@@ -73,19 +84,27 @@ impl<'a, T: Tagged, const CLASS: u8> Form for TaggedValueRef<'a, T, CLASS> {
 
     ghost TAKES_MEMORY = { T.TAKES_MEMORY };
 
-    ghost parse_of_accepted = { λ rules v. parse_of_explicit T.Form CLASS v.tag_number.0 v.tag_mode v.value.now (T.tag_of v.value.now) (T.contents v.value.now) rules };
+    ghost parse_of_accepted = { λ rules v. parse_of_explicit T.Form CLASS v.tag_number.0 v.tag_mode
+        v.value.now (T.tag_of v.value.now) (T.contents v.value.now) rules };
 
-    ghost begins = { λ rules v. begins_explicit T.Form CLASS v.tag_number.0 v.tag_mode v.value.now (T.tag_of v.value.now) (T.contents v.value.now) rules };
+    ghost begins = { λ rules v. begins_explicit T.Form CLASS v.tag_number.0 v.tag_mode v.value.now
+        (T.tag_of v.value.now) (T.contents v.value.now) rules };
 
-    ghost led = { λ rules v. led_explicit T.Form CLASS v.tag_number.0 v.tag_mode v.value.now (T.tag_of v.value.now) (T.contents v.value.now) rules };
+    ghost led = { λ rules v. led_explicit T.Form CLASS v.tag_number.0 v.tag_mode v.value.now
+        (T.tag_of v.value.now) (T.contents v.value.now) rules };
 
-    ghost same_length = { λ rules v. same_length_explicit T.Form CLASS v.tag_number.0 v.tag_mode v.value.now (T.tag_of v.value.now) (T.contents v.value.now) rules };
+    ghost same_length = { λ rules v. same_length_explicit T.Form CLASS v.tag_number.0 v.tag_mode
+        v.value.now (T.tag_of v.value.now) (T.contents v.value.now) rules };
 
-    ghost accepts_encoding = { λ rules v. accepts_explicit_encoding T.Form CLASS v.tag_number.0 v.tag_mode v.value.now (T.tag_of v.value.now) (T.contents v.value.now) rules };
+    ghost accepts_encoding = { λ rules v. accepts_explicit_encoding T.Form CLASS v.tag_number.0
+        v.tag_mode v.value.now (T.tag_of v.value.now) (T.contents v.value.now) rules };
 
-    ghost only_readable = { λ rules v. readable_explicit T.Form CLASS v.tag_number.0 v.tag_mode v.value.now (T.tag_of v.value.now) (T.contents v.value.now) rules };
+    ghost only_readable = { λ rules v. readable_explicit T.Form CLASS v.tag_number.0 v.tag_mode
+        v.value.now (T.tag_of v.value.now) (T.contents v.value.now) rules };
 
-    ghost accepts_comparable = { λ rules v w b c a d. one_explicit_form T.Form T.tag_of v.tag_mode w.tag_mode v.value.now w.value.now a.mode_is d.mode_is (T.accepts_comparable rules v.value.now w.value.now a.inner d.inner a.accepted d.accepted) };
+    ghost accepts_comparable = { λ rules v w b c a d. one_explicit_form T.Form T.tag_of v.tag_mode
+        w.tag_mode v.value.now w.value.now a.mode_is d.mode_is (T.accepts_comparable rules
+        v.value.now w.value.now a.inner d.inner a.accepted d.accepted) };
 
     ghost re_reads_memory = { λ v. T.re_reads_memory v.value.now };
 }
@@ -103,9 +122,16 @@ impl<'a, T: Tagged, const CLASS: u8> Tagged for TaggedValueRef<'a, T, CLASS> {
 
     ghost encoding_is = { λ v. refl };
 
-    ghost accepted_is_tlv = { λ rules v b a. record { tag = class_tag CLASS true v.tag_number.0; contents = a.inner; octets_are = a.octets_are } };
+    ghost accepted_is_tlv = { λ rules v b a.
+        record {
+          tag = class_tag CLASS true v.tag_number.0;
+          contents = a.inner;
+          octets_are =
+              a.octets_are;
+        } };
 
-    ghost own_tag = { λ v. tag_of_mode-class CLASS v.tag_mode v.tag_number.0 (T.tag_of v.value.now) };
+    ghost own_tag = { λ v. tag_of_mode-class CLASS v.tag_mode v.tag_number.0
+        (T.tag_of v.value.now) };
 
     ghost lead_is = { λ v. refl };
 
