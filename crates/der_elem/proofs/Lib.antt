@@ -13,3 +13,4 @@ pub mod Ordered
 pub mod Copied
 pub mod ArrayReading
 pub mod Utf8
+pub mod FaultsBeforeMemory

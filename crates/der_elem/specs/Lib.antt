@@ -14,6 +14,7 @@ pub mod Null
 pub mod IntegerReading
 pub mod IntegerReadingLaws
 pub mod Readiness
+pub mod RunningOut
 pub mod Items
 pub mod ComparingItems
 pub mod ItemLaws

@@ -4,9 +4,13 @@
 //!
 //! Reading refuses octets that are not UTF-8 (12), and then where memory runs out (1).
 
-ghost use Rattle.std.specs.Prelude.{◌≡◌, true, refl};
+ghost use Rattle.std.specs.Prelude.{◌≡◌, length, true, refl};
 ghost use Rattle.std.specs.Cmp.Lexicographic.{bytes_decides};
 ghost use Rattle.std.specs.String.{string_bytes};
+ghost use Rattle.der_tlv.specs.ReaderState.{ReaderState, rest};
+ghost use Rattle.der_tlv.specs.Reading.{Stands};
+ghost use Rattle.der_elem.specs.Decoding.{DecodesValue};
+ghost use Rattle.der_elem.specs.RunningOut.{FaultsFirst};
 ghost use Rattle.der_elem.specs.Utf8String.{parse_utf8, parse_utf8-own};
 ghost use Rattle.der_elem.specs.OwnContents.{accepts_within};
 ghost use Rattle.der_elem.specs.OwnContentsLaws.{parse_of_within, same_length_within, accepts_contents_within, only_within};
@@ -59,7 +63,13 @@ impl OneTag for String {
 }
 
 impl<'a, R: Reader<'a>> DecodeValue<'a, R> for String {
-    fn decode_value(alloc: Global, reader: &mut R, header: Header) -> Result<String, Error> {
+    /// # Errors
+    /// (17) on a failed reader; octets that are not UTF-8 (12); else (1) where memory runs out.
+    fn decode_value(alloc: Global, reader: &mut R, header: Header) -> Result<String, Error>
+        ensures exact { length (rest (R.state reader.old)) ≡ header.length → DecodesValue ⟦<String as FormValue>⟧ header (R.state reader.old) (R.state reader.new) result }
+        ensures reader { Stands (R.state reader.old) (R.state reader.new) result }
+        ensures faults_first { length (rest (R.state reader.old)) ≡ header.length → FaultsFirst parse_utf8 (R.state reader.old) result }
+    {
         let octets = read_contents(reader, header)?;
         match text_of(octets) {
             Ok(text) => match String::from_str(alloc, text) {

@@ -5,7 +5,7 @@ use Rattle.der_tlv.specs.declared.error.ErrorKind.TheVariants as kinds
 use Rattle.der_tlv.specs.declared.error.Error.{Error}
 use Rattle.der_tlv.specs.declared.tag.Tag.TheVariants.{Integer}
 use Rattle.der_elem.specs.Parsing.{ContentsParse}
-use Rattle.der_elem.specs.Integer.{is_redundant}
+use Rattle.der_elem.specs.Integer.{is_redundant, big_endian_number, natural_contents}
 use Rattle.der_elem.specs.IntegerReading.{has_needless_zero}
 
 -- no octets, or a redundant first octet (8)
@@ -54,6 +54,27 @@ KeepsNumber contents octets fewest (Err e) = (e.kind ≡ kinds.Length Integer) �
 abbrev pub KeepsCopy : {T : Type 0} → (T → List ℕ) → List ℕ → List ℕ → Result T Error → Type 0
 KeepsCopy contents octets fewest (Ok v) = KeepsNumber contents octets fewest (Ok v)
 KeepsCopy {T} contents octets fewest (Err e) = ((e.kind ≡ kinds.Memory) × (0 < length octets) × (length fewest < 2 ^ 32)) ⊎ KeepsNumber {T = T} contents octets fewest (Err e)
+
+-- A number that is not negative, kept in the fewest octets, which have no 00 before them; or (7) for no octets, and for more octets
+-- to keep than a length can count. Its contents octets may be one more than those that are kept.
+abbrev pub KeepsNatural : {T : Type 0} → (T → List ℕ) → List ℕ → Result T Error → Type 0
+KeepsNatural contents octets (Ok v) =
+    (contents v ≡ natural_contents (big_endian_number octets)) × (0 < length octets) × (length (without_sign_octet (natural_contents (big_endian_number octets))) < 2 ^ 32)
+KeepsNatural contents octets (Err e) =
+    (e.kind ≡ kinds.Length Integer) × ((octets ≡ []) ⊎ (2 ^ 32 ≤ length (without_sign_octet (natural_contents (big_endian_number octets)))))
+
+-- the same in memory, or (1) for octets that have no fault
+abbrev pub KeepsNaturalCopy : {T : Type 0} → (T → List ℕ) → List ℕ → Result T Error → Type 0
+KeepsNaturalCopy contents octets (Ok v) = KeepsNatural contents octets (Ok v)
+KeepsNaturalCopy {T} contents octets (Err e) =
+    ((e.kind ≡ kinds.Memory) × (0 < length octets) × (length (without_sign_octet (natural_contents (big_endian_number octets))) < 2 ^ 32))
+    ⊎ KeepsNatural {T = T} contents octets (Err e)
+
+-- a value in memory with these contents octets, or (1), or (7) where they are more than a length can count
+abbrev pub CopiesWithinLength : {T : Type 0} → (T → List ℕ) → List ℕ → Result T Error → Type 0
+CopiesWithinLength contents octets (Ok v) = (contents v ≡ octets) × (length octets < 2 ^ 32)
+CopiesWithinLength contents octets (Err e) =
+    ((e.kind ≡ kinds.Memory) × (length octets < 2 ^ 32)) ⊎ ((e.kind ≡ kinds.Length Integer) × (2 ^ 32 ≤ length octets))
 
 -- a value in memory with these contents octets, or (1)
 abbrev pub CopiesContents : {T : Type 0} → (T → List ℕ) → List ℕ → Result T Error → Type 0

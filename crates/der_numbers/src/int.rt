@@ -8,20 +8,24 @@ ghost use Rattle.std.proofs.Common.{Ok, ap, sym};
 ghost use Rattle.std.specs.Cmp.Lexicographic.{bytes_decides};
 ghost use Rattle.der_tlv.specs.declared.tag.Tag.TheVariants as tags;
 ghost use Rattle.der_elem.specs.Integer.{integer_contents, twos_complement};
+ghost use Rattle.der_tlv.specs.ReaderState.{ReaderState, rest};
+ghost use Rattle.der_tlv.specs.Reading.{Stands};
+ghost use Rattle.der_elem.specs.Decoding.{DecodesValue};
+ghost use Rattle.der_elem.specs.RunningOut.{FaultsFirst};
 ghost use Rattle.der_elem.specs.OwnContents.{accepts_own};
-ghost use Rattle.der_numbers.specs.AnyLength.{parse_integer, KeepsCopy, CopiesContents};
+ghost use Rattle.der_numbers.specs.AnyLength.{parse_integer, KeepsCopy, CopiesWithinLength};
 ghost use Rattle.der_numbers.specs.AnyLengthLaws.{parse_of_integer};
 ghost use Rattle.der_numbers.specs.IntRef as borrowed;
 ghost use Rattle.der_numbers.specs.Uint as unsigned;
 
 use crate::int_ref::{AsIntRef, IntRef};
-use crate::octets::is_high;
+use crate::octets::{contents_len, is_high};
 use crate::uint::Uint;
 use der_elem::{
     ContentsEq, DecodeValue, DuplicateValue, EncodeValue, FormValue, IntegerTag, OneTag,
     OrdIsValueOrd, ValueMemory, WithMemory,
 };
-use der_tlv::{Error, Header, Length, Reader, VecWriter, Writer};
+use der_tlv::{Error, Header, Length, Reader, Tag, VecWriter, Writer};
 use std::alloc::{AllocError, Global};
 
 /// An integer of any length: at most 4294967295 contents octets.
@@ -57,19 +61,24 @@ impl Int {
         }
     }
 
-    /// The same number. Its contents octets are never too many, since those of a `Uint` are not.
+    /// The same number.
     ///
     /// # Errors
-    /// (1) where memory runs out.
+    /// (7) where there are more than 4294967295 contents octets, as of a number of 4294967295 octets
+    /// of which the first is 80 or more; else (1) where memory runs out.
     pub fn from_uint(alloc: Global, number: Uint) -> Result<Int, Error>
-        ensures { CopiesContents contents_of (unsigned.contents_of number) result }
+        ensures { CopiesWithinLength contents_of (unsigned.contents_of number) result }
     {
         if !is_high(&number.octets) {
             return Ok(Int {
                 octets: number.octets,
             });
         }
-        let mut writer = VecWriter::with_capacity(alloc, number.octets.len() + 1)?;
+        let room = match contents_len(&number.octets) {
+            Ok(room) => room,
+            Err(_) => return Err(Error::from_kind(Tag::Integer.length_error())),
+        };
+        let mut writer = VecWriter::with_capacity(alloc, usize::from(room))?;
         number.encode_value(&mut writer)?;
         Ok(Int {
             octets: writer.finish(),
@@ -161,7 +170,14 @@ impl OneTag for Int {
 }
 
 impl<'a, R: Reader<'a>> DecodeValue<'a, R> for Int {
-    fn decode_value(alloc: Global, reader: &mut R, header: Header) -> Result<Int, Error> {
+    /// # Errors
+    /// (17) on a failed reader; the first fault of the contents octets; else (1) where memory runs
+    /// out.
+    fn decode_value(alloc: Global, reader: &mut R, header: Header) -> Result<Int, Error>
+        ensures exact { length (rest (R.state reader.old)) ≡ header.length → DecodesValue ⟦<Int as FormValue>⟧ header (R.state reader.old) (R.state reader.new) result }
+        ensures reader { Stands (R.state reader.old) (R.state reader.new) result }
+        ensures faults_first { length (rest (R.state reader.old)) ≡ header.length → FaultsFirst parse_integer (R.state reader.old) result }
+    {
         match IntRef::decode_value(alloc, reader, header) {
             Ok(integer) => match integer.ref_to_owned(alloc) {
                 Ok(integer) => Ok(integer),

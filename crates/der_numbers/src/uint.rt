@@ -13,8 +13,12 @@ ghost use Rattle.std.specs.Cmp.Lexicographic.{pointwise, bytes_decides, nat_list
 ghost use Rattle.der_tlv.specs.declared.tag.Tag.TheVariants as tags;
 ghost use Rattle.der_tlv.specs.Octets.{lex};
 ghost use Rattle.der_elem.specs.Integer.{big_endian_number, with_sign_octet, natural_contents};
+ghost use Rattle.der_tlv.specs.ReaderState.{ReaderState, rest};
+ghost use Rattle.der_tlv.specs.Reading.{Stands};
+ghost use Rattle.der_elem.specs.Decoding.{DecodesValue};
+ghost use Rattle.der_elem.specs.RunningOut.{FaultsFirst};
 ghost use Rattle.der_elem.specs.OwnContents.{accepts_own};
-ghost use Rattle.der_numbers.specs.AnyLength.{parse_natural, has_leading_zero, without_sign_octet, KeepsCopy};
+ghost use Rattle.der_numbers.specs.AnyLength.{parse_natural, has_leading_zero, without_sign_octet, KeepsNaturalCopy};
 ghost use Rattle.der_numbers.specs.UnsignedLaws.{parse_of_natural};
 ghost use Rattle.der_numbers.specs.UintRef as borrowed;
 
@@ -28,9 +32,11 @@ use der_tlv::{Error, Header, Length, Reader, Writer};
 use std::alloc::{AllocError, Global};
 use std::cmp::Ordering;
 
-/// A number of any length that is not negative: at most 4294967295 contents octets.
+/// A number of any length that is not negative: at most 4294967295 octets without leading zeros.
 ///
-/// The number 128 is kept as 80, without leading zeros, and encoded as 02 02 00 80.
+/// The number 128 is kept as 80, without leading zeros, and encoded as 02 02 00 80. A number of
+/// 4294967295 octets of which the first is 80 or more has one contents octet more, and so no
+/// encoding: writing it is refused (9).
 ///
 /// # Errors
 /// Reading refuses, in this order: no contents octets, or 00 before an octet below 80 (8); a first
@@ -42,7 +48,7 @@ pub struct Uint {
     ghost stripped: { has_leading_zero octets.items ≡ false },
     ghost fewest: { with_sign_octet octets.items
         ≡ natural_contents (big_endian_number octets.items) },
-    ghost short: { length (with_sign_octet octets.items) < 2 ^ 32 },
+    ghost short: { length octets.items < 2 ^ 32 },
 }
 
 impl Uint {
@@ -51,11 +57,10 @@ impl Uint {
     /// The number that the octets say, highest octet first.
     ///
     /// # Errors
-    /// (7) for no octets, and where there are more than 4294967295 contents octets; else (1) where
-    /// memory runs out.
+    /// (7) for no octets, and where more than 4294967295 are left without leading zeros; else (1)
+    /// where memory runs out.
     pub fn new(alloc: Global, octets: &[u8]) -> Result<Uint, Error>
-        ensures { KeepsCopy contents_of octets.now
-            (natural_contents (big_endian_number octets.now)) result }
+        ensures { KeepsNaturalCopy contents_of octets.now result }
     {
         match UintRef::new(octets) {
             Ok(number) => number.ref_to_owned(alloc),
@@ -149,7 +154,14 @@ impl OneTag for Uint {
 }
 
 impl<'a, R: Reader<'a>> DecodeValue<'a, R> for Uint {
-    fn decode_value(alloc: Global, reader: &mut R, header: Header) -> Result<Uint, Error> {
+    /// # Errors
+    /// (17) on a failed reader; the first fault of the contents octets; else (1) where memory runs
+    /// out.
+    fn decode_value(alloc: Global, reader: &mut R, header: Header) -> Result<Uint, Error>
+        ensures exact { length (rest (R.state reader.old)) ≡ header.length → DecodesValue ⟦<Uint as FormValue>⟧ header (R.state reader.old) (R.state reader.new) result }
+        ensures reader { Stands (R.state reader.old) (R.state reader.new) result }
+        ensures faults_first { length (rest (R.state reader.old)) ≡ header.length → FaultsFirst parse_natural (R.state reader.old) result }
+    {
         match UintRef::decode_value(alloc, reader, header) {
             Ok(number) => match number.ref_to_owned(alloc) {
                 Ok(number) => Ok(number),

@@ -15,7 +15,7 @@ ghost use Rattle.der_tlv.specs.declared.encoding_rules.EncodingRules.TheVariants
 ghost use Rattle.der_tlv.specs.Octets.{lex};
 ghost use Rattle.der_elem.specs.Integer.{big_endian_number, with_sign_octet, natural_contents};
 ghost use Rattle.der_opaque.specs.DecodingAs.{DecodesAs};
-ghost use Rattle.der_numbers.specs.AnyLength.{natural_or_fault, parse_natural, has_leading_zero, without_sign_octet, TakesContents, KeepsNumber, CopiesContents};
+ghost use Rattle.der_numbers.specs.AnyLength.{natural_or_fault, parse_natural, has_leading_zero, without_sign_octet, TakesContents, KeepsNatural, CopiesContents};
 ghost use Rattle.der_numbers.specs.UnsignedLaws.{parse_of_natural};
 ghost use Rattle.der_elem.specs.OwnContents.{accepts_within};
 ghost use Rattle.der_elem.specs.OwnContentsLaws.{parse_of_within, same_length_within, accepts_contents_within, only_within};
@@ -33,9 +33,12 @@ use der_tlv::{Error, ErrorKind, Header, Length, Reader, Tag, Writer};
 use std::alloc::Global;
 use std::cmp::Ordering;
 
-/// A number of any length that is not negative, borrowed: at most 4294967295 contents octets.
+/// A number of any length that is not negative, borrowed: at most 4294967295 octets without leading
+/// zeros.
 ///
-/// The number 128 is kept as 80, without leading zeros, and encoded as 02 02 00 80.
+/// The number 128 is kept as 80, without leading zeros, and encoded as 02 02 00 80. A number of
+/// 4294967295 octets of which the first is 80 or more has one contents octet more, and so no
+/// encoding: writing it is refused (9).
 ///
 /// # Errors
 /// Reading refuses, in this order: no contents octets, or 00 before an octet below 80 (8); a first
@@ -46,7 +49,7 @@ pub struct UintRef<'a> {
     ghost some: { 0 < length octets.now },
     ghost stripped: { has_leading_zero octets.now ≡ false },
     ghost fewest: { with_sign_octet octets.now ≡ natural_contents (big_endian_number octets.now) },
-    ghost short: { length (with_sign_octet octets.now) < 2 ^ 32 },
+    ghost short: { length octets.now < 2 ^ 32 },
 }
 
 impl<'a> UintRef<'a> {
@@ -56,16 +59,15 @@ impl<'a> UintRef<'a> {
     /// The number that the octets say, highest octet first.
     ///
     /// # Errors
-    /// (7) for no octets, and where there are more than 4294967295 contents octets.
+    /// (7) for no octets, and where more than 4294967295 are left without leading zeros.
     pub fn new(octets: &'a [u8]) -> Result<UintRef<'a>, Error>
-        ensures { KeepsNumber contents_of octets.now
-            (natural_contents (big_endian_number octets.now)) result }
+        ensures { KeepsNatural contents_of octets.now result }
     {
         if octets.is_empty() {
             return Err(Error::from_kind(Tag::Integer.length_error()));
         }
         let octets = strip_zeros(octets);
-        match contents_len(octets) {
+        match Length::of(octets.len()) {
             Ok(_) => Ok(UintRef { octets }),
             Err(_) => Err(Error::from_kind(Tag::Integer.length_error())),
         }
@@ -75,6 +77,7 @@ impl<'a> UintRef<'a> {
     ///
     /// # Errors
     /// In this order: none, or a 00 before an octet below 80 (8); a first octet of 80 or more (13).
+    #[tactic(auto, using(crate::specs::UnsignedLaws::sign_octet_length))]
     fn from_contents(octets: &'a [u8]) -> Result<UintRef<'a>, ErrorKind>
         requires { length octets.now < 2 ^ 32 }
         ensures { TakesContents contents_of natural_or_fault octets.now result }
@@ -98,7 +101,7 @@ impl<'a> UintRef<'a> {
     }
 
     /// How many octets the number has without leading zeros.
-    #[tactic(auto, using(crate::specs::UnsignedLaws::without_sign_octet_kept, crate::specs::UnsignedLaws::sign_octet_length))]
+    #[tactic(auto, using(crate::specs::UnsignedLaws::without_sign_octet_kept))]
     pub fn len(self) -> Length
         ensures { result ≡ length (without_sign_octet (contents_of self.entry)) }
     {

@@ -8,7 +8,7 @@ ghost use Rattle.der_tlv.specs.declared.tag.Tag.TheVariants as tags;
 ghost use Rattle.der_tlv.specs.TagParts.{IsTag};
 ghost use Rattle.der_tlv.specs.TagEquality.{tag_eq-decides};
 ghost use Rattle.der_tlv.specs.HeaderOctets.{tlv};
-ghost use Rattle.der_elem.specs.Encoding.{Stops};
+ghost use Rattle.der_elem.specs.Encoding.{NoVector};
 ghost use Rattle.der_elem.specs.OwnContents.{accepts_own};
 ghost use Rattle.der_opaque.specs.Opaque.{parse_octets, KeepsTagged};
 ghost use Rattle.der_tlv.specs.declared.encoding_rules.EncodingRules.TheVariants.{Der};
@@ -88,12 +88,13 @@ impl Any {
     /// The tag and the contents octets of another value.
     ///
     /// # Errors
-    /// (9) where it has more than 4294967295 contents octets; (1) where memory runs out.
+    /// (9) where it has more than 4294967295 contents octets; (1) where it has no more and memory runs
+    /// out, and where items are read again.
     pub fn encode_from<T: Tagged + EncodeValue>(alloc: Global, value: &T) -> Result<Any, Error>
         ensures ok { IfOk result (λ any.
             (tag_of any ≡ T.tag_of value.now) × (contents_of any ≡ T.contents value.now)) }
-        ensures err { IfErr result (λ e. (e.kind ≡ kinds.Memory)
-            ⊎ Stops (T.contents value.now) (T.re_reads_value value.now) e.kind) }
+        ensures err { IfErr result (λ e.
+            NoVector (T.contents value.now) (T.re_reads_value value.now) e.kind) }
     {
         let len = value.value_len()?;
         let mut writer = VecWriter::with_capacity(alloc, usize::from(len))?;

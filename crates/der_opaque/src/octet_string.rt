@@ -7,6 +7,10 @@ ghost use Rattle.std.proofs.Common.{Ok, ap, sym};
 ghost use Rattle.std.specs.Cmp.Lexicographic.{bytes_decides};
 ghost use Rattle.der_tlv.specs.declared.error.ErrorKind.TheVariants as kinds;
 ghost use Rattle.der_tlv.specs.declared.tag.Tag.TheVariants as tags;
+ghost use Rattle.der_tlv.specs.ReaderState.{ReaderState, rest};
+ghost use Rattle.der_tlv.specs.Reading.{Stands};
+ghost use Rattle.der_elem.specs.Decoding.{DecodesValue};
+ghost use Rattle.der_elem.specs.RunningOut.{FaultsFirst};
 ghost use Rattle.der_elem.specs.OwnContents.{accepts_own};
 ghost use Rattle.der_opaque.specs.Opaque.{parse_octets, KeepsOctets};
 ghost use Rattle.der_opaque.specs.OctetStringRef as borrowed;
@@ -128,7 +132,13 @@ impl OneTag for OctetString {
 }
 
 impl<'a, R: Reader<'a>> DecodeValue<'a, R> for OctetString {
-    fn decode_value(alloc: Global, reader: &mut R, header: Header) -> Result<OctetString, Error> {
+    /// # Errors
+    /// (17) on a failed reader; else (1) where memory runs out.
+    fn decode_value(alloc: Global, reader: &mut R, header: Header) -> Result<OctetString, Error>
+        ensures exact { length (rest (R.state reader.old)) ≡ header.length → DecodesValue ⟦<OctetString as FormValue>⟧ header (R.state reader.old) (R.state reader.new) result }
+        ensures reader { Stands (R.state reader.old) (R.state reader.new) result }
+        ensures faults_first { length (rest (R.state reader.old)) ≡ header.length → FaultsFirst parse_octets (R.state reader.old) result }
+    {
         match OctetStringRef::decode_value(alloc, reader, header) {
             Ok(string) => match string.ref_to_owned(alloc) {
                 Ok(string) => Ok(string),

@@ -3,6 +3,7 @@ use Rattle.std.specs.Prelude.{◌≡◌, ◌⊎◌, ℕ, ◌+◌, ◌*◌, ◌%�
 use Rattle.std.proofs.Common.{ap, ◌∙◌, refl}
 use Rattle.std.specs.List.{list_all}
 use Rattle.std.specs.Str.{all_scalars}
+use Rattle.der_tlv.specs.declared.error.ErrorKind.{ErrorKind}
 use Rattle.der_tlv.specs.declared.error.ErrorKind.TheVariants as kinds
 use Rattle.der_tlv.specs.declared.error.Error.{Error}
 use Rattle.der_tlv.specs.declared.tag.Tag.TheVariants.{BmpString}
@@ -37,13 +38,20 @@ KeepsUnits contents octets (Err e) =
 abbrev pub is_basic : List ℕ → Bool
 is_basic text = list_all (λ c. nat_lt c 65536) (chars text)
 
--- a string whose units are the characters of a text, or (1), or (13) for a character past FFFF, or (9) for more octets than a length can count
+-- a text whose characters have units, in no more octets than a length can count
+abbrev pub HasUnits : List ℕ → Type 0
+HasUnits text = (is_basic text ≡ true) × (2 * length (chars text) < 2 ^ 32)
+
+-- why a text has no such units: (13) for a character past FFFF, or (9) for more octets
+abbrev pub NoUnits : List ℕ → ErrorKind → Type 0
+NoUnits text kind =
+    ((kind ≡ kinds.Value BmpString) × (is_basic text ≡ false))
+    ⊎ ((kind ≡ kinds.Overflow) × (is_basic text ≡ true) × (2 ^ 32 ≤ 2 * length (chars text)))
+
+-- a string whose units are the characters of a text; or why it has none, or (1) for a text that has them
 abbrev pub KeepsCharacters : {T : Type 0} → (T → List ℕ) → List ℕ → Result T Error → Type 0
-KeepsCharacters contents text (Ok v) = (units (contents v) ≡ chars text) × (is_basic text ≡ true) × (2 * length (chars text) < 2 ^ 32)
-KeepsCharacters contents text (Err e) =
-    (e.kind ≡ kinds.Memory)
-    ⊎ (((e.kind ≡ kinds.Value BmpString) × (is_basic text ≡ false))
-    ⊎ ((e.kind ≡ kinds.Overflow) × (is_basic text ≡ true) × (2 ^ 32 ≤ 2 * length (chars text))))
+KeepsCharacters contents text (Ok v) = (units (contents v) ≡ chars text) × HasUnits text
+KeepsCharacters contents text (Err e) = ((e.kind ≡ kinds.Memory) × HasUnits text) ⊎ NoUnits text e.kind
 
 -- such octets are parsed as they are
 pub parse_of_units : (rules : EncodingRules) (p : ℕ) (octets c : List ℕ) → length octets % 2 ≡ 0 → are_characters octets ≡ true → c ≡ octets → parse_bmp rules p c ≡ Ok octets

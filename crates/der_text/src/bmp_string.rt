@@ -10,6 +10,10 @@ ghost use Rattle.std.proofs.Common.{ap, sym};
 ghost use Rattle.std.specs.Cmp.Lexicographic.{bytes_decides};
 ghost use Rattle.der_tlv.specs.declared.error.ErrorKind.TheVariants as kinds;
 ghost use Rattle.der_tlv.specs.declared.tag.Tag.TheVariants as tags;
+ghost use Rattle.der_tlv.specs.ReaderState.{ReaderState, rest};
+ghost use Rattle.der_tlv.specs.Reading.{Stands};
+ghost use Rattle.der_elem.specs.Decoding.{DecodesValue};
+ghost use Rattle.der_elem.specs.RunningOut.{FaultsFirst};
 ghost use Rattle.der_elem.specs.OwnContents.{accepts_own};
 ghost use Rattle.der_text.specs.BmpUnits.{units, are_characters, parse_bmp, parse_of_units, KeepsUnits, KeepsCharacters};
 
@@ -56,16 +60,13 @@ impl BmpString {
     /// The string of the characters of a text.
     ///
     /// # Errors
-    /// (1) where memory runs out; (13) for a character past U+FFFF; (9) for more than 4294967295
-    /// octets.
+    /// (13) for a character past U+FFFF; (9) for more than 4294967295 octets; else (1) where memory
+    /// runs out.
     pub fn from_utf8(alloc: Global, text: &str) -> Result<BmpString, Error>
         ensures { KeepsCharacters octets_of text.now result }
     {
         let octets = octets_of(alloc, text)?;
-        match Length::of(octets.len()) {
-            Ok(_) => Ok(BmpString { octets }),
-            Err(_) => Err(Error::from_kind(ErrorKind::Overflow)),
-        }
+        Ok(BmpString { octets })
     }
 
     /// The octets of the units, high octet first.
@@ -176,7 +177,14 @@ impl OneTag for BmpString {
 }
 
 impl<'a, R: Reader<'a>> DecodeValue<'a, R> for BmpString {
-    fn decode_value(alloc: Global, reader: &mut R, header: Header) -> Result<BmpString, Error> {
+    /// # Errors
+    /// (17) on a failed reader; an odd number of octets (7); a unit from D800 to DFFF (13); else (1)
+    /// where memory runs out.
+    fn decode_value(alloc: Global, reader: &mut R, header: Header) -> Result<BmpString, Error>
+        ensures exact { length (rest (R.state reader.old)) ≡ header.length → DecodesValue ⟦<BmpString as FormValue>⟧ header (R.state reader.old) (R.state reader.new) result }
+        ensures reader { Stands (R.state reader.old) (R.state reader.new) result }
+        ensures faults_first { length (rest (R.state reader.old)) ≡ header.length → FaultsFirst parse_bmp (R.state reader.old) result }
+    {
         let octets = reader.read_slice(header.length)?;
         match check_units(octets) {
             Ok(()) => match octets.to_vec(alloc) {

@@ -1,12 +1,12 @@
 //! Units of 16 bits, high octet first.
 
-ghost use Rattle.std.specs.Prelude.{◌≡◌, ◌⊎◌, ◌/◌, ◌%◌, ◌*◌, ◌++◌, [], ◌∷◌, chars, length, true, false, IfOk, IfErr};
+ghost use Rattle.std.specs.Prelude.{◌≡◌, ◌⊎◌, ◌+◌, ◌/◌, ◌%◌, ◌*◌, ◌^◌, ◌<◌, ◌≤◌, ◌++◌, [], ◌∷◌, chars, length, true, false, IfOk, IfErr};
 ghost use Rattle.der_tlv.specs.declared.error.ErrorKind.TheVariants as kinds;
 ghost use Rattle.der_tlv.specs.declared.tag.Tag.TheVariants as tags;
-ghost use Rattle.der_text.specs.BmpUnits.{units, are_characters, is_basic};
+ghost use Rattle.der_text.specs.BmpUnits.{units, are_characters, is_basic, HasUnits, NoUnits};
 
 use crate::bmp_iter::BmpCodepoints;
-use der_tlv::{Error, ErrorKind, Tag};
+use der_tlv::{Error, ErrorKind, Length, Tag};
 use std::alloc::Global;
 
 /// Whether each unit is a character, that is, outside D800 to DFFF.
@@ -53,21 +53,60 @@ fn push_unit(octets: &mut Vec<u8>, unit: u16) -> Result<(), Error>
     Ok(())
 }
 
+/// A number of octets and those of one unit more, exact as long as a length can count them.
+fn with_unit(len: usize) -> usize
+    ensures exact { result < 2 ^ 32 → result ≡ len + 2 }
+    ensures bounded { result ≤ len + 2 }
+{
+    if len < 0x1_0000_0000 { len + 2 } else { len }
+}
+
+/// How many octets the units of the characters of a text have. It takes no memory, so these faults
+/// are found before any growth.
+///
+/// # Errors
+/// (13) for a character past U+FFFF; (9) for more than 4294967295 octets.
+#[tactic(auto, using(crate::proofs::FromText::taken_first, crate::proofs::FromText::taken_wide))]
+fn units_len(text: &str) -> Result<Length, ErrorKind>
+    ensures len { IfOk result (λ len. (len ≡ 2 * length (chars text.now)) × (len < 2 ^ 32)) }
+    ensures basic { IfOk result (λ len. is_basic text.now ≡ true) }
+    ensures refused { IfErr result (λ kind. NoUnits text.now kind) }
+{
+    let mut len = 0;
+    let mut rest = text.chars();
+    'characters: while let Some(character) = rest.next() {
+        if character as u32 >= 0x10000 {
+            return Err(Tag::BmpString.value_error());
+        }
+        len = with_unit(len);
+    }
+    match Length::of(len) {
+        Ok(len) => Ok(len),
+        Err(_) => Err(ErrorKind::Overflow),
+    }
+}
+
 /// The octets of the characters of a text.
 ///
 /// # Errors
-/// (1) where memory runs out; (13) for a character past U+FFFF.
+/// (13) for a character past U+FFFF; (9) for more than 4294967295 octets; else (1) where memory runs
+/// out.
 #[tactic(auto, using(crate::proofs::FromText::taken_first, crate::proofs::FromText::taken_wide))]
 pub fn octets_of(alloc: Global, text: &str) -> Result<Vec<u8>, Error>
     ensures even { IfOk result (λ octets. length octets.items % 2 ≡ 0) }
     ensures units { IfOk result (λ octets. units octets.items ≡ chars text.now) }
     ensures basic { IfOk result (λ octets. is_basic text.now ≡ true) }
     ensures characters { IfOk result (λ octets. are_characters octets.items ≡ true) }
-    ensures len { IfOk result (λ octets. length octets.items ≡ 2 * length (chars text.now)) }
-    ensures refused { IfErr result (λ e. (e.kind ≡ kinds.Memory)
-        ⊎ ((e.kind ≡ kinds.Value tags.BmpString) × (is_basic text.now ≡ false))) }
+    ensures len { IfOk result (λ octets. (length octets.items ≡ 2 * length (chars text.now))
+        × (length octets.items < 2 ^ 32)) }
+    ensures refused { IfErr result (λ e. ((e.kind ≡ kinds.Memory) × HasUnits text.now)
+        ⊎ NoUnits text.now e.kind) }
 {
-    let mut octets = Vec::new(alloc);
+    let len = match units_len(text) {
+        Ok(len) => len,
+        Err(kind) => return Err(Error::from_kind(kind)),
+    };
+    let mut octets = Vec::with_capacity(alloc, usize::from(len))?;
     let mut rest = text.chars();
     'characters: while let Some(character) = rest.next() {
         let code = character as u32;

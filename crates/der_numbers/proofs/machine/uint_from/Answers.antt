@@ -3,6 +3,7 @@ use Rattle.std.proofs.lemmas.Grind.{common_steps}
 use Rattle.der_elem.specs.Integer.{big_endian_number, with_sign_octet, natural_contents}
 use Rattle.der_elem.specs.IntegerLaws.{natural_contents-some, natural_contents-octets_le, number_natural_contents}
 use Rattle.der_numbers.specs.AnyLength.{has_leading_zero}
+use Rattle.der_numbers.specs.UnsignedLaws.{sign_octet_length}
 use Rattle.der_numbers.proofs.machine.uint_from.Goals as goal
 
 pub contents_in-requires-clause-short : goal.contents_in-requires-clause-short
@@ -22,7 +23,7 @@ invariant_of-result c =
       some = omega (arith, ap length kept, stripped.ensures.some);
       stripped = ap has_leading_zero kept ∙ stripped.ensures.stripped;
       fewest = ap with_sign_octet kept ∙ stripped.ensures.fewest ∙ sym (ap (λ o. natural_contents (big_endian_number o)) kept);
-      short = omega (arith, ap length all, within);
+      short = omega (arith, ap length all, within, sign_octet_length octets);
     }
 
 pub returns-in-Ok : goal.returns-in-Ok

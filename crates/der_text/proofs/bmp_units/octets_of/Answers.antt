@@ -19,4 +19,7 @@ pub returns-clause-basic : goal.returns-clause-basic
 returns-clause-basic c = taken_basic c.characters.invariant.2 c.in_default.ensures.steps.0.0
 
 pub returns-clause-len : goal.returns-clause-len
-returns-clause-len c = taken_len c.characters.invariant.2 c.in_default.ensures.steps.0.0
+returns-clause-len c =
+    let whole = taken_len c.characters.invariant.2 c.in_default.ensures.steps.0.0 in
+    let fits = c.in-Ok.ensures.len in
+    (whole, omega arith)
