@@ -1,31 +1,18 @@
 -- What comparing the fields of a SEQUENCE answers.
-use Rattle.std.specs.Prelude.{◌≡◌, ℕ, ◌≤◌, ◌^◌, List, length, Bool, true, false, ◌⊎◌, Option, Some, None, Result, Ok, Err}
+use Rattle.std.specs.Prelude.{Bool, true, false, Option, Some, None, Result}
 use Rattle.std.specs.declared.cmp.Ordering.{Ordering}
 use Rattle.std.specs.declared.cmp.Ordering.TheVariants.{Less, Equal, Greater}
-use Rattle.der_tlv.specs.declared.error.ErrorKind.{ErrorKind}
-use Rattle.der_tlv.specs.declared.error.ErrorKind.TheVariants.{Overflow, Memory, Value}
 use Rattle.der_tlv.specs.declared.error.Error.{Error}
 use Rattle.der_tlv.specs.declared.tag.Tag.{Tag}
 use Rattle.der_tlv.specs.Identifier.{identifier}
 use Rattle.der_tlv.specs.Octets.{lex}
+use Rattle.der_elem.specs.Comparing.{ComparesOctets}
 use Rattle.der_elem.specs.Leading.{SameLeads}
 use Rattle.der_fields.specs.declared.field_list.FieldList as fields
 
--- why octets that stand for two values are not compared
-abbrev pub NotComparedAs : List ℕ → List ℕ → Type 0 → Bool → Bool → ErrorKind → Type 0
-NotComparedAs a b one r s Overflow = (2 ^ 32 ≤ length a) ⊎ (2 ^ 32 ≤ length b)
-NotComparedAs a b one r s (Value tag) = one → ⊥
-NotComparedAs a b one r s Memory = (r ≡ true) ⊎ (s ≡ true)
-NotComparedAs a b one r s _ = ⊥
-
--- their lexicographic order, or why there is none
-abbrev pub ComparesAs : List ℕ → List ℕ → Type 0 → Bool → Bool → Result Ordering Error → Type 0
-ComparesAs a b one r s (Ok order) = order ≡ lex a b
-ComparesAs a b one r s (Err e) = NotComparedAs a b one r s e.kind
-
 -- what comparing fields answers
 abbrev pub ComparesFields : {T : Type 0} → fields.Ghosts T → T → T → Result Ordering Error → Type 0
-ComparesFields G x y result = ComparesAs (G.joined x) (G.joined y) (G.all_comparable x y) (G.re_read x) (G.re_read y) result
+ComparesFields G x y = ComparesOctets (G.joined x) (G.joined y) (G.all_comparable x y → ⊥) (G.re_read x) (G.re_read y)
 
 -- whether both fields are there or both absent
 abbrev pub TellsLeads : Option Tag → Option Tag → Bool → Type 0

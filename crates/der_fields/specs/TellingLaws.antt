@@ -13,10 +13,10 @@ use Rattle.der_tlv.specs.OctetLaws.{SameBeginning, lex-append}
 use Rattle.der_tlv.specs.Identifier.{identifier}
 use Rattle.der_tlv.specs.IdentifierLaws.{identifier-unique, identifier-beginning, lex-identifier-equal, length-identifier-positive}
 use Rattle.der_elem.specs.declared.form.Form as form
-use Rattle.der_elem.specs.Comparing.{Incomparable}
+use Rattle.der_elem.specs.Comparing.{IncomparableOctets, ComparesOctets, Incomparable}
 use Rattle.der_elem.specs.Leading.{SameLeads, Starts, StartsWith}
 use Rattle.der_fields.specs.FieldLists.{Apart, first_of}
-use Rattle.der_fields.specs.ComparingFields.{NotComparedAs, ComparesAs, lex_leads}
+use Rattle.der_fields.specs.ComparingFields.{lex_leads}
 
 starts_some : {t : Tag} {a : List ℕ} → StartsWith t a → 0 < length a
 starts_some {t} {a} s = omega (arith, ap length s.octets_are, length-append (identifier t) s.others, length-identifier-positive t)
@@ -87,7 +87,7 @@ first_decides a b c d order same e h = sym (lex-append a b c d same ∙ ap (λ o
 
 -- else those behind it
 module _ (a b c d : List ℕ) (one one' : Type 0) (r s r' s' : Bool) (forms : one → one') (left : r' ≡ true → r ≡ true) (right : s' ≡ true → s ≡ true) where
-  not_compared : (kind : ErrorKind) → NotComparedAs c d one' r' s' kind → NotComparedAs (a ++ c) (b ++ d) one r s kind
+  not_compared : (kind : ErrorKind) → IncomparableOctets c d (one' → ⊥) r' s' kind → IncomparableOctets (a ++ c) (b ++ d) (one → ⊥) r s kind
   not_compared Overflow why = elim why [
     | inl l ↦ inl (omega (arith, length-append a c))
     | inr l ↦ inr (omega (arith, length-append b d))
@@ -96,12 +96,12 @@ module _ (a b c d : List ℕ) (one one' : Type 0) (r s r' s' : Bool) (forms : on
   not_compared Memory why = elim why [ inl m ↦ inl (left m) | inr m ↦ inr (right m) ]
   not_compared _ why = absurd why
 
-  pub others_decide : (result : Result Ordering Error) → SameBeginning a b → Equal ≡ lex a b → ComparesAs c d one' r' s' result → ComparesAs (a ++ c) (b ++ d) one r s result
+  pub others_decide : (result : Result Ordering Error) → SameBeginning a b → Equal ≡ lex a b → ComparesOctets c d (one' → ⊥) r' s' result → ComparesOctets (a ++ c) (b ++ d) (one → ⊥) r s result
   others_decide (Ok order) same e told = told ∙ sym (lex-append a b c d same ∙ ap (λ o. ordering_then o (lex c d)) (sym e))
   others_decide (Err error) same e told = not_compared error.kind told
 
 -- where the first fields have no comparison, there is none
-pub first_not_compared : {T : Type 0} (F : form.Ghosts T) (v x : T) (c d : List ℕ) (one : Type 0) (r s : Bool) → (one → F.comparable v x) → (F.re_reads v ≡ true → r ≡ true) → (F.re_reads x ≡ true → s ≡ true) → (kind : ErrorKind) → Incomparable F v x kind → NotComparedAs (F.encoding v ++ c) (F.encoding x ++ d) one r s kind
+pub first_not_compared : {T : Type 0} (F : form.Ghosts T) (v x : T) (c d : List ℕ) (one : Type 0) (r s : Bool) → (one → F.comparable v x) → (F.re_reads v ≡ true → r ≡ true) → (F.re_reads x ≡ true → s ≡ true) → (kind : ErrorKind) → Incomparable F v x kind → IncomparableOctets (F.encoding v ++ c) (F.encoding x ++ d) (one → ⊥) r s kind
 first_not_compared F v x c d one r s forms left right Overflow why = elim why [
   | inl l ↦ inl (omega (arith, length-append (F.encoding v) c))
   | inr l ↦ inr (omega (arith, length-append (F.encoding x) d))
@@ -144,8 +144,8 @@ leads_clash tags None (Some u) (Some t) next' own own' mixed e h h' = true_false
 pub same_apart : (tags : Tag → Bool) (l m next next' : Option Tag) → m ≡ l → next' ≡ next → Apart tags l next → Apart tags m next'
 same_apart tags l m next next' e f h = subst (λ m. Apart tags m next') (sym e) (subst (Apart tags l) (sym f) h)
 
-pub clash_refuses : (a b : List ℕ) (one : Type 0) (r s : Bool) (kind : ErrorKind) (t : Tag) → kind ≡ Value t → (one → ⊥) → NotComparedAs a b one r s kind
-clash_refuses a b one r s kind t e h = subst (NotComparedAs a b one r s) (sym e) h
+pub clash_refuses : (a b : List ℕ) (one : Type 0) (r s : Bool) (kind : ErrorKind) (t : Tag) → kind ≡ Value t → (one → ⊥) → IncomparableOctets a b (one → ⊥) r s kind
+clash_refuses a b one r s kind t e h = subst (IncomparableOctets a b (one → ⊥) r s) (sym e) h
 
 pub same_leads_of : {l m l' m' : Option Tag} → l' ≡ l → m' ≡ m → SameLeads l' m' → SameLeads l m
 same_leads_of {l} {m} {l'} {m'} e f h = subst (λ l. SameLeads l m) e (subst (SameLeads l') f h)

@@ -32,5 +32,6 @@ pub trait EncodeFields: FieldList {
     /// # Errors
     /// The writer's; (9) where there are more than 4294967295; (1) where items are read again.
     fn encode_fields<W: Writer>(&self, writer: &mut W) -> Result<(), Error>
-        ensures { Encodes (Self.joined self.now) (Self.re_read self.now) (W.state writer.old) (W.state writer.new) result };
+        ensures { Encodes (Self.joined self.now) (Self.re_read self.now) (W.state writer.old)
+            (W.state writer.new) result };
 }

@@ -6,6 +6,9 @@
 
 ghost use Rattle.std.specs.Prelude.{◌≡◌, List, ℕ, true, false};
 ghost use Rattle.der_tlv.specs.HeaderOctets.{tlv};
+ghost use Rattle.der_tlv.specs.declared.tag.Tag.TheVariants as tags;
+ghost use Rattle.der_elem.specs.Boolean.{boolean_contents};
+ghost use Rattle.der_elem.specs.Integer.{natural_contents};
 ghost use Rattle.der_fields.specs.ClassTags.{class_tag};
 ghost use Rattle.der_fields.specs.Defaults.{is_default};
 
@@ -33,7 +36,7 @@ pub trait DefaultOf<T: Form> {
 pub struct DefaultFalse;
 
 impl DefaultOf<bool> for DefaultFalse {
-    ghost octets = { ⟦<bool as Form>⟧.encoding false };
+    ghost octets = { tlv tags.Boolean (boolean_contents false) };
 
     fn default_value() -> bool {
         false
@@ -48,7 +51,7 @@ impl DefaultOf<bool> for DefaultFalse {
 pub struct DefaultNumber<const NUMBER: u8>;
 
 impl<const NUMBER: u8> DefaultOf<u8> for DefaultNumber<NUMBER> {
-    ghost octets = { ⟦<u8 as Form>⟧.encoding NUMBER };
+    ghost octets = { tlv tags.Integer (natural_contents NUMBER) };
 
     fn default_value() -> u8 {
         NUMBER

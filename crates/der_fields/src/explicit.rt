@@ -66,7 +66,8 @@ impl<F: FieldList, const CLASS: u8, const NUMBER: u32> FormValue for ExplicitIn<
 
     ghost only_readable_value = { λ rules v. F.only_readable_fields rules v.fields };
 
-    ghost accepts_comparable_value = { λ rules v w. F.accepts_all_comparable rules v.fields w.fields };
+    ghost accepts_comparable_value = { λ rules v w.
+        F.accepts_all_comparable rules v.fields w.fields };
 
     ghost re_reads_memory_value = { λ v. F.re_read_memory v.fields };
 }

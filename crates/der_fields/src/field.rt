@@ -36,29 +36,38 @@ impl<T: Form, Rest: FieldList> FieldList for Field<T, Rest> {
 
     ghost first_tag = { λ v. first_of (T.lead v.first) (Rest.first_tag v.rest) };
 
-    ghost all_comparable = { λ v w. T.comparable v.first w.first × Rest.all_comparable v.rest w.rest × Apart T.tags (T.lead v.first) (Rest.first_tag v.rest) × Apart T.tags (T.lead w.first) (Rest.first_tag w.rest) };
+    ghost all_comparable = { λ v w. T.comparable v.first w.first × Rest.all_comparable v.rest w.rest
+        × Apart T.tags (T.lead v.first) (Rest.first_tag v.rest)
+        × Apart T.tags (T.lead w.first) (Rest.first_tag w.rest) };
 
     ghost re_read = { λ v. T.re_reads v.first || Rest.re_read v.rest };
 
-    ghost accepts_fields = { λ rules v. AcceptsField T.tags (T.lead v.first) (Rest.first_tag v.rest) (T.accepts rules) (Rest.accepts_fields rules) v.first v.rest };
+    ghost accepts_fields = { λ rules v. AcceptsField T.tags (T.lead v.first) (Rest.first_tag v.rest)
+        (T.accepts rules) (Rest.accepts_fields rules) v.first v.rest };
 
     ghost parse_fields = { parse_field T.parse Rest.parse_fields };
 
-    ghost readable_fields = { λ v. T.readable v.first × Rest.readable_fields v.rest × Apart T.tags (T.lead v.first) (Rest.first_tag v.rest) };
+    ghost readable_fields = { λ v. T.readable v.first × Rest.readable_fields v.rest
+        × Apart T.tags (T.lead v.first) (Rest.first_tag v.rest) };
 
     ghost FIELDS_TAKE_MEMORY = { T.TAKES_MEMORY || Rest.FIELDS_TAKE_MEMORY };
 
-    ghost parse_of_accepted_fields = { λ rules v. parse_of_field T.Form Rest.FieldList rules v.first v.rest };
+    ghost parse_of_accepted_fields = { λ rules v.
+        parse_of_field T.Form Rest.FieldList rules v.first v.rest };
 
     ghost led_fields = { λ rules v. led_field T.Form Rest.FieldList rules v.first v.rest };
 
-    ghost same_length_fields = { λ rules v. same_length_field T.Form Rest.FieldList rules v.first v.rest };
+    ghost same_length_fields = { λ rules v.
+        same_length_field T.Form Rest.FieldList rules v.first v.rest };
 
-    ghost accepts_joined = { λ rules v. accepts_field_joined T.Form Rest.FieldList rules v.first v.rest };
+    ghost accepts_joined = { λ rules v.
+        accepts_field_joined T.Form Rest.FieldList rules v.first v.rest };
 
-    ghost only_readable_fields = { λ rules v. readable_field T.Form Rest.FieldList rules v.first v.rest };
+    ghost only_readable_fields = { λ rules v.
+        readable_field T.Form Rest.FieldList rules v.first v.rest };
 
-    ghost accepts_all_comparable = { λ rules v w. all_comparable_field T.Form Rest.FieldList rules v.first w.first v.rest w.rest };
+    ghost accepts_all_comparable = { λ rules v w.
+        all_comparable_field T.Form Rest.FieldList rules v.first w.first v.rest w.rest };
 
     ghost re_read_memory = { λ v. re_read_field T.Form Rest.FieldList v.first v.rest };
 }
@@ -100,7 +109,8 @@ impl<T: FirstTag, Rest: FieldsLead> FieldsLead for Field<T, Rest> {
         }
     }
 
-    ghost starts_fields = { λ v. starts_both (T.lead v.first) (Rest.first_tag v.rest) (T.encoding v.first) (Rest.joined v.rest) (T.starts v.first) (Rest.starts_fields v.rest) };
+    ghost starts_fields = { λ v. starts_both (T.lead v.first) (Rest.first_tag v.rest)
+        (T.encoding v.first) (Rest.joined v.rest) (T.starts v.first) (Rest.starts_fields v.rest) };
 }
 
 impl<T: DerOrd + FirstTag, Rest: FieldsOrd + FieldsLead> FieldsOrd for Field<T, Rest> {
@@ -119,7 +129,15 @@ impl<T: DerOrd + FirstTag, Rest: FieldsOrd + FieldsLead> FieldsOrd for Field<T, 
 }
 
 impl<T: EncodingEq + FirstTag, Rest: FieldsEq + FieldsLead> FieldsEq for Field<T, Rest> {
-    ghost fields_eq = { λ v w one. eq_both (T.eq v.first w.first) (Rest.eq v.rest w.rest) (T.encoding v.first) (T.encoding w.first) (Rest.joined v.rest) (Rest.joined w.rest) (T.encoding_eq v.first w.first one.0) (Rest.fields_eq v.rest w.rest one.1) (told_apart T.tags (T.lead v.first) (T.lead w.first) (Rest.first_tag v.rest) (Rest.first_tag w.rest) (T.encoding v.first) (T.encoding w.first) (Rest.joined v.rest) (Rest.joined w.rest) (T.own_lead v.first) (T.own_lead w.first) (T.starts v.first) (T.starts w.first) (Rest.starts_fields v.rest) (Rest.starts_fields w.rest) (T.same_beginning v.first w.first) one.2 one.3) };
+    ghost fields_eq = { λ v w one.
+        eq_both (T.eq v.first w.first) (Rest.eq v.rest w.rest) (T.encoding v.first)
+        (T.encoding w.first) (Rest.joined v.rest) (Rest.joined w.rest)
+        (T.encoding_eq v.first w.first one.0) (Rest.fields_eq v.rest w.rest one.1)
+        (told_apart T.tags (T.lead v.first) (T.lead w.first) (Rest.first_tag v.rest)
+        (Rest.first_tag w.rest) (T.encoding v.first) (T.encoding w.first) (Rest.joined v.rest)
+        (Rest.joined w.rest) (T.own_lead v.first) (T.own_lead w.first) (T.starts v.first)
+        (T.starts w.first) (Rest.starts_fields v.rest) (Rest.starts_fields w.rest)
+        (T.same_beginning v.first w.first) one.2 one.3) };
 }
 
 impl<T: Duplicate + FirstTag, Rest: DuplicateFields + FieldsLead> DuplicateFields
@@ -134,9 +152,22 @@ impl<T: Duplicate + FirstTag, Rest: DuplicateFields + FieldsLead> DuplicateField
         Ok(Field { first, rest })
     }
 
-    ghost copy_joined = { λ v w c. copy_both (T.encoding v.first) (T.encoding w.first) (Rest.joined v.rest) (Rest.joined w.rest) (T.copy_encoding v.first w.first c.0) (Rest.copy_joined v.rest w.rest c.1) };
+    ghost copy_joined = { λ v w c. copy_both (T.encoding v.first) (T.encoding w.first)
+        (Rest.joined v.rest) (Rest.joined w.rest) (T.copy_encoding v.first w.first c.0)
+        (Rest.copy_joined v.rest w.rest c.1) };
 
-    ghost copy_all_comparable = { λ v w x c one. (T.copy_form v.first w.first x.first c.0 one.0, Rest.copy_all_comparable v.rest w.rest x.rest c.1 one.1, copy_forms_both T.tags (T.lead v.first) (T.lead w.first) (Rest.first_tag v.rest) (Rest.first_tag w.rest) (T.encoding v.first) (T.encoding w.first) (Rest.joined v.rest) (Rest.joined w.rest) (T.starts v.first) (T.starts w.first) (Rest.starts_fields v.rest) (Rest.starts_fields w.rest) (T.copy_encoding v.first w.first c.0) (Rest.copy_joined v.rest w.rest c.1) one.2, one.3) };
+    ghost copy_all_comparable = { λ v w x c one. (
+      T.copy_form v.first w.first x.first c.0 one.0,
+      Rest.copy_all_comparable v.rest w.rest
+          x.rest c.1 one.1,
+      copy_forms_both T.tags (T.lead v.first) (T.lead w.first)
+          (Rest.first_tag v.rest) (Rest.first_tag w.rest) (T.encoding v.first) (T.encoding w.first)
+          (Rest.joined v.rest) (Rest.joined w.rest) (T.starts v.first) (T.starts w.first)
+          (Rest.starts_fields v.rest) (Rest.starts_fields w.rest)
+          (T.copy_encoding v.first w.first c.0) (Rest.copy_joined v.rest w.rest c.1) one.2,
+      one.3,
+    ) };
 
-    ghost copy_re_read = { λ v w c. copy_re_read_both (T.copy_re_reads v.first w.first c.0) (Rest.copy_re_read v.rest w.rest c.1) };
+    ghost copy_re_read = { λ v w c. copy_re_read_both (T.copy_re_reads v.first w.first c.0)
+        (Rest.copy_re_read v.rest w.rest c.1) };
 }

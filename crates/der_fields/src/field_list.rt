@@ -20,7 +20,7 @@ pub trait FieldList: Sized + Drop {
     // the tag of the first encoding, if any field has one
     ghost first_tag: { Self → Option Tag };
 
-    // whether some form has both
+    // whether the two can be compared
     ghost all_comparable: { Self → Self → Type 0 };
 
     // whether writing or comparing a field reads items again, which takes memory
@@ -38,17 +38,23 @@ pub trait FieldList: Sized + Drop {
     // whether reading takes memory
     ghost FIELDS_TAKE_MEMORY: { Bool };
 
-    ghost parse_of_accepted_fields: { (rules : EncodingRules) (v : Self) (p : ℕ) (c : List ℕ) → accepts_fields rules v c → Fits c → parse_fields rules p c ≡ Ok (joined v) };
+    ghost parse_of_accepted_fields: { (rules : EncodingRules) (v : Self) (p : ℕ) (c : List ℕ)
+        → accepts_fields rules v c → Fits c → parse_fields rules p c ≡ Ok (joined v) };
 
-    ghost led_fields: { (rules : EncodingRules) (v : Self) (c : List ℕ) → accepts_fields rules v c → Leads (first_tag v) c };
+    ghost led_fields: { (rules : EncodingRules) (v : Self) (c : List ℕ) → accepts_fields rules v c
+        → Leads (first_tag v) c };
 
-    ghost same_length_fields: { (rules : EncodingRules) (v : Self) (c : List ℕ) → accepts_fields rules v c → length (joined v) ≡ length c };
+    ghost same_length_fields: { (rules : EncodingRules) (v : Self) (c : List ℕ)
+        → accepts_fields rules v c → length (joined v) ≡ length c };
 
-    ghost accepts_joined: { (rules : EncodingRules) (v : Self) → readable_fields v → accepts_fields rules v (joined v) };
+    ghost accepts_joined: { (rules : EncodingRules) (v : Self) → readable_fields v
+        → accepts_fields rules v (joined v) };
 
-    ghost only_readable_fields: { (rules : EncodingRules) (v : Self) (c : List ℕ) → accepts_fields rules v c → readable_fields v };
+    ghost only_readable_fields: { (rules : EncodingRules) (v : Self) (c : List ℕ)
+        → accepts_fields rules v c → readable_fields v };
 
-    ghost accepts_all_comparable: { (rules : EncodingRules) (v w : Self) (c d : List ℕ) → accepts_fields rules v c → accepts_fields rules w d → all_comparable v w };
+    ghost accepts_all_comparable: { (rules : EncodingRules) (v w : Self) (c d : List ℕ)
+        → accepts_fields rules v c → accepts_fields rules w d → all_comparable v w };
 
     ghost re_read_memory: { (v : Self) → re_read v ≡ true → FIELDS_TAKE_MEMORY ≡ true };
 }

@@ -55,7 +55,8 @@ impl<F: FieldList> FormValue for FieldSequence<F> {
 
     ghost only_readable_value = { λ rules v. F.only_readable_fields rules v.fields };
 
-    ghost accepts_comparable_value = { λ rules v w. F.accepts_all_comparable rules v.fields w.fields };
+    ghost accepts_comparable_value = { λ rules v w.
+        F.accepts_all_comparable rules v.fields w.fields };
 
     ghost re_reads_memory_value = { λ v. F.re_read_memory v.fields };
 }
@@ -149,8 +150,10 @@ pub fn write_sequence<F: EncodeFields>(
     alloc: Global,
     value: &FieldSequence<F>,
 ) -> Result<Vec<u8>, Error>
-    ensures ok { IfOk result (λ octets. octets.items ≡ ⟦<FieldSequence<F> as Form>⟧.encoding value.now) }
-    ensures err { IfErr result (λ e. NoVector (⟦<FieldSequence<F> as Form>⟧.encoding value.now) (⟦<FieldSequence<F> as Form>⟧.re_reads value.now) e.kind) }
+    ensures ok { IfOk result (λ octets.
+        octets.items ≡ ⟦<FieldSequence<F> as Form>⟧.encoding value.now) }
+    ensures err { IfErr result (λ e. NoVector (⟦<FieldSequence<F> as Form>⟧.encoding value.now)
+        (⟦<FieldSequence<F> as Form>⟧.re_reads value.now) e.kind) }
 {
     value.to_der(alloc)
 }

@@ -60,7 +60,8 @@ impl<T: FormValue, const CLASS: u8, const NUMBER: u32> FormValue for ImplicitIn<
 
     ghost only_readable_value = { λ rules v. T.only_readable_value rules v.value };
 
-    ghost accepts_comparable_value = { λ rules v w. T.accepts_comparable_value rules v.value w.value };
+    ghost accepts_comparable_value = { λ rules v w.
+        T.accepts_comparable_value rules v.value w.value };
 
     ghost re_reads_memory_value = { λ v. T.re_reads_memory_value v.value };
 }

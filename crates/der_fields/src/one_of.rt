@@ -40,7 +40,8 @@ impl<A: Form, B: Form> Form for OneOf<A, B> {
 
     ghost re_reads = { of_one A.re_reads B.re_reads };
 
-    ghost accepts = { λ rules. AcceptsOne A.tags A.lead B.lead (A.accepts rules) (B.accepts rules) };
+    ghost accepts = { λ rules. AcceptsOne A.tags A.lead B.lead (A.accepts rules)
+        (B.accepts rules) };
 
     ghost parse = { parse_one A.tags B.tags A.parse B.parse };
 
@@ -66,7 +67,8 @@ impl<A: Form, B: Form> Form for OneOf<A, B> {
 
     ghost accepts_comparable = { comparable_of_one A.Form B.Form };
 
-    ghost re_reads_memory = { test_of_one A.re_reads B.re_reads A.TAKES_MEMORY B.TAKES_MEMORY A.re_reads_memory B.re_reads_memory };
+    ghost re_reads_memory = { test_of_one A.re_reads B.re_reads A.TAKES_MEMORY B.TAKES_MEMORY
+        A.re_reads_memory B.re_reads_memory };
 }
 
 impl<A: FormMemory, B: FormMemory> FormMemory for OneOf<A, B> {
@@ -98,7 +100,8 @@ impl<A: FormValue, B: FormValue> FormValue for OneOf<A, B> {
 
     ghost accepts_comparable_value = { λ rules v w c d a b. tt };
 
-    ghost re_reads_memory_value = { test_of_one A.re_reads_value B.re_reads_value A.VALUE_TAKES_MEMORY B.VALUE_TAKES_MEMORY A.re_reads_memory_value B.re_reads_memory_value };
+    ghost re_reads_memory_value = { test_of_one A.re_reads_value B.re_reads_value
+        A.VALUE_TAKES_MEMORY B.VALUE_TAKES_MEMORY A.re_reads_memory_value B.re_reads_memory_value };
 }
 
 impl<A: Tagged, B: Tagged> Tagged for OneOf<A, B> {
@@ -111,7 +114,8 @@ impl<A: Tagged, B: Tagged> Tagged for OneOf<A, B> {
         }
     }
 
-    ghost encoding_is = { encoding_is_one A.tag_of B.tag_of A.contents A.encoding B.contents B.encoding A.encoding_is B.encoding_is };
+    ghost encoding_is = { encoding_is_one A.tag_of B.tag_of A.contents A.encoding B.contents
+        B.encoding A.encoding_is B.encoding_is };
 
     ghost accepted_is_tlv = { is_tlv_one A.Form B.Form A.accepted_is_tlv B.accepted_is_tlv };
 
@@ -119,7 +123,8 @@ impl<A: Tagged, B: Tagged> Tagged for OneOf<A, B> {
 
     ghost lead_is = { lead_is_one A.tag_of B.tag_of A.lead B.lead A.lead_is B.lead_is };
 
-    ghost re_reads_alike = { test_alike A.re_reads_value A.re_reads B.re_reads_value B.re_reads A.re_reads_alike B.re_reads_alike };
+    ghost re_reads_alike = { test_alike A.re_reads_value A.re_reads B.re_reads_value B.re_reads
+        A.re_reads_alike B.re_reads_alike };
 
     ghost comparable_alike = { λ v w h. tt };
 }
@@ -165,7 +170,8 @@ impl<A: EncodeValue, B: EncodeValue> EncodeValue for OneOf<A, B> {
 }
 
 impl<A: EncodingEq + FirstTag, B: EncodingEq + FirstTag> EncodingEq for OneOf<A, B> {
-    ghost encoding_eq = { encoding_eq_one A.Form B.Form A.eq B.eq A.encoding_eq B.encoding_eq A.starts B.starts _ (λ v x. refl) (λ w y. refl) (λ v w. refl) (λ w v. refl) };
+    ghost encoding_eq = { encoding_eq_one A.Form B.Form A.eq B.eq A.encoding_eq B.encoding_eq
+        A.starts B.starts _ (λ v x. refl) (λ w y. refl) (λ v w. refl) (λ w v. refl) };
 }
 
 impl<A: Duplicate + FirstTag, B: Duplicate + FirstTag> Duplicate for OneOf<A, B> {
@@ -180,11 +186,14 @@ impl<A: Duplicate + FirstTag, B: Duplicate + FirstTag> Duplicate for OneOf<A, B>
         }
     }
 
-    ghost copy_encoding = { copy_encoding_one A.Form B.Form A.is_copy B.is_copy A.copy_encoding B.copy_encoding };
+    ghost copy_encoding = { copy_encoding_one A.Form B.Form A.is_copy B.is_copy A.copy_encoding
+        B.copy_encoding };
 
-    ghost copy_form = { copy_form_one A.Form B.Form A.is_copy B.is_copy A.copy_encoding B.copy_encoding A.starts B.starts A.copy_form B.copy_form };
+    ghost copy_form = { copy_form_one A.Form B.Form A.is_copy B.is_copy A.copy_encoding
+        B.copy_encoding A.starts B.starts A.copy_form B.copy_form };
 
-    ghost copy_re_reads = { copy_re_reads_one A.Form B.Form A.is_copy B.is_copy A.copy_encoding B.copy_encoding A.copy_re_reads B.copy_re_reads };
+    ghost copy_re_reads = { copy_re_reads_one A.Form B.Form A.is_copy B.is_copy A.copy_encoding
+        B.copy_encoding A.copy_re_reads B.copy_re_reads };
 }
 
 impl<A: DerOrd + Tagged + EncodeValue, B: DerOrd + Tagged + EncodeValue> DerOrd for OneOf<A, B> {
@@ -207,7 +216,8 @@ fn cmp_headers<A: Tagged + EncodeValue, B: Tagged + EncodeValue>(
     value: &A,
     other: &B,
 ) -> Result<Ordering, Error>
-    ensures { TellsHeaders A.Form B.Form value.now other.now (A.tag_of value.now) (B.tag_of other.now) result }
+    ensures { TellsHeaders A.Form B.Form value.now other.now (A.tag_of value.now)
+        (B.tag_of other.now) result }
 {
     let tag = value.tag();
     match tag.cmp(&other.tag()) {

@@ -44,13 +44,16 @@ impl<T, D> WithDefault<T, D> {
 }
 
 impl<T: Form, D: DefaultOf<T>> Form for WithDefault<T, D> {
-    ghost encoding = { λ v. octets_unless (is_default D.octets (T.encoding v.value)) (T.encoding v.value) };
+    ghost encoding = { λ v. octets_unless (is_default D.octets (T.encoding v.value))
+        (T.encoding v.value) };
 
     ghost comparable = { λ v w. T.comparable v.value w.value };
 
-    ghost re_reads = { λ v. test_unless (is_default D.octets (T.encoding v.value)) (T.re_reads v.value) };
+    ghost re_reads = { λ v. test_unless (is_default D.octets (T.encoding v.value))
+        (T.re_reads v.value) };
 
-    ghost accepts = { λ rules v. accepts_unless (is_default D.octets (T.encoding v.value)) (T.readable v.value) (T.accepts rules v.value) };
+    ghost accepts = { λ rules v. accepts_unless (is_default D.octets (T.encoding v.value))
+        (T.readable v.value) (T.accepts rules v.value) };
 
     ghost parse = { parse_default T.tags D.octets T.parse };
 
@@ -64,19 +67,27 @@ impl<T: Form, D: DefaultOf<T>> Form for WithDefault<T, D> {
 
     ghost parse_of_accepted = { λ rules v. parse_of_default T.Form D.octets rules v.value };
 
-    ghost begins = { λ rules v. begins_default T.Form rules (is_default D.octets (T.encoding v.value)) v.value };
+    ghost begins = { λ rules v.
+        begins_default T.Form rules (is_default D.octets (T.encoding v.value)) v.value };
 
-    ghost led = { λ rules v. led_default T.Form rules (is_default D.octets (T.encoding v.value)) v.value };
+    ghost led = { λ rules v.
+        led_default T.Form rules (is_default D.octets (T.encoding v.value)) v.value };
 
-    ghost same_length = { λ rules v. same_length_default T.Form rules (is_default D.octets (T.encoding v.value)) v.value };
+    ghost same_length = { λ rules v.
+        same_length_default T.Form rules (is_default D.octets (T.encoding v.value)) v.value };
 
-    ghost accepts_encoding = { λ rules v. accepts_default T.Form rules (is_default D.octets (T.encoding v.value)) v.value };
+    ghost accepts_encoding = { λ rules v.
+        accepts_default T.Form rules (is_default D.octets (T.encoding v.value)) v.value };
 
-    ghost only_readable = { λ rules v. readable_default T.Form rules (is_default D.octets (T.encoding v.value)) v.value };
+    ghost only_readable = { λ rules v.
+        readable_default T.Form rules (is_default D.octets (T.encoding v.value)) v.value };
 
-    ghost accepts_comparable = { λ rules v w. comparable_default T.Form rules (is_default D.octets (T.encoding v.value)) (is_default D.octets (T.encoding w.value)) v.value w.value };
+    ghost accepts_comparable = { λ rules v w.
+        comparable_default T.Form rules (is_default D.octets (T.encoding v.value))
+        (is_default D.octets (T.encoding w.value)) v.value w.value };
 
-    ghost re_reads_memory = { λ v. re_reads_default T.Form (is_default D.octets (T.encoding v.value)) v.value };
+    ghost re_reads_memory = { λ v. re_reads_default T.Form
+        (is_default D.octets (T.encoding v.value)) v.value };
 }
 
 impl<T: FormMemory, D: DefaultOf<T>> FormMemory for WithDefault<T, D> {
@@ -140,11 +151,15 @@ impl<T: Tagged, D: DefaultOf<T>> FirstTag for WithDefault<T, D> {
         self.value.first_tag()
     }
 
-    ghost starts = { λ v. starts_default T.tag_of T.contents T.encoding T.encoding_is v.value (T.lead v.value) (T.lead_is v.value) (is_default D.octets (T.encoding v.value)) };
+    ghost starts = { λ v. starts_default T.tag_of T.contents T.encoding T.encoding_is v.value
+        (T.lead v.value) (T.lead_is v.value) (is_default D.octets (T.encoding v.value)) };
 
-    ghost own_lead = { λ v. own_lead_default T.tags (T.tag_of v.value) (T.own_tag v.value) (T.lead v.value) (T.lead_is v.value) (is_default D.octets (T.encoding v.value)) };
+    ghost own_lead = { λ v. own_lead_default T.tags (T.tag_of v.value) (T.own_tag v.value)
+        (T.lead v.value) (T.lead_is v.value) (is_default D.octets (T.encoding v.value)) };
 
-    ghost same_beginning = { λ v w. beginning_default T.tag_of T.contents T.encoding T.encoding_is T.lead T.lead_is (is_default D.octets (T.encoding v.value)) (is_default D.octets (T.encoding w.value)) v.value w.value };
+    ghost same_beginning = { λ v w. beginning_default T.tag_of T.contents T.encoding T.encoding_is
+        T.lead T.lead_is (is_default D.octets (T.encoding v.value))
+        (is_default D.octets (T.encoding w.value)) v.value w.value };
 }
 
 impl<T: DerOrd + Tagged, D: DefaultOf<T>> DerOrd for WithDefault<T, D> {
@@ -161,7 +176,8 @@ impl<T: DerOrd + Tagged, D: DefaultOf<T>> DerOrd for WithDefault<T, D> {
 }
 
 impl<T: EncodingEq + Tagged, D: DefaultOf<T>> EncodingEq for WithDefault<T, D> {
-    ghost encoding_eq = { λ v w. encoding_eq_default T.tag_of T.contents T.encoding T.encoding_is T.comparable T.eq T.encoding_eq D.octets v.value w.value };
+    ghost encoding_eq = { λ v w. encoding_eq_default T.tag_of T.contents T.encoding T.encoding_is
+        T.comparable T.eq T.encoding_eq D.octets v.value w.value };
 }
 
 impl<T: Duplicate, D: DefaultOf<T>> Duplicate for WithDefault<T, D> {
@@ -174,9 +190,13 @@ impl<T: Duplicate, D: DefaultOf<T>> Duplicate for WithDefault<T, D> {
         Ok(WithDefault::new(value))
     }
 
-    ghost copy_encoding = { λ v w c. ap (λ o. octets_unless (is_default D.octets o) o) (T.copy_encoding v.value w.value c) };
+    ghost copy_encoding = { λ v w c.
+        ap (λ o. octets_unless (is_default D.octets o) o) (T.copy_encoding v.value w.value c) };
 
     ghost copy_form = { λ v w x. T.copy_form v.value w.value x.value };
 
-    ghost copy_re_reads = { λ v w c. ap (λ o. test_unless (is_default D.octets o) (T.re_reads w.value)) (T.copy_encoding v.value w.value c) ∙ ap (test_unless (is_default D.octets (T.encoding v.value))) (T.copy_re_reads v.value w.value c) };
+    ghost copy_re_reads = { λ v w c.
+        ap (λ o. test_unless (is_default D.octets o) (T.re_reads w.value)) (T.copy_encoding v.value
+        w.value c) ∙ ap (test_unless (is_default D.octets (T.encoding v.value)))
+        (T.copy_re_reads v.value w.value c) };
 }

@@ -20,6 +20,7 @@ pub mod FindingNext
 pub mod ComparingBorrowed
 pub mod Stable
 pub mod StableLaws
+pub mod SequenceRef
 pub use Rattle.der_elem.specs.Decoding
 pub use Rattle.der_elem.specs.Encoding
 pub use Rattle.der_elem.specs.Items

@@ -5,6 +5,7 @@ ghost use Rattle.std.specs.List.Sorted.{IsPermutation, IsSorted};
 ghost use Rattle.der_tlv.specs.Octets.{lex};
 ghost use Rattle.der_nest.specs.Places.{IsInOrder, insert_in_order, insert_each, sort_encodings};
 ghost use Rattle.der_nest.specs.Stable.{IsSetOf};
+ghost use Rattle.der_nest.specs.SequenceRef.{octets_of};
 
 use crate::sequence_ref::SequenceRef;
 use der_elem::{Form, FormValue};
@@ -14,18 +15,22 @@ use std::cmp::Ordering;
 /// encodings, each as often, and none greater than the next.
 #[tactic(auto, using(crate::proofs::Unique::laws))]
 pub fn sorted_is_one_list()
-    ensures one { (ss ts : List (List ℕ)) → IsPermutation ss ts → sort_encodings ss ≡ sort_encodings ts }
+    ensures one { (ss ts : List (List ℕ)) → IsPermutation ss ts
+        → sort_encodings ss ≡ sort_encodings ts }
     ensures in_order { (ss : List (List ℕ)) → IsSorted lex (sort_encodings ss) }
     ensures same { (ss : List (List ℕ)) → IsPermutation ss (sort_encodings ss) }
-    ensures only { (ss ts : List (List ℕ)) → IsPermutation ss ts → IsSorted lex ts → sort_encodings ss ≡ ts }
+    ensures only { (ss ts : List (List ℕ)) → IsPermutation ss ts → IsSorted lex ts
+        → sort_encodings ss ≡ ts }
 {}
 
 /// The encodings of a set's items are those of the items inserted, in order, whatever the order in
 /// which they were inserted.
 #[tactic(auto, using(crate::proofs::Unique::laws))]
 pub fn set_is_sorted<T: Form>()
-    ensures encoded { (xs : List T) → map T.encoding (insert_each T.encoding [] xs) ≡ sort_encodings (map T.encoding xs) }
-    ensures one { (xs ys : List T) → IsPermutation xs ys → map T.encoding (insert_each T.encoding [] xs) ≡ map T.encoding (insert_each T.encoding [] ys) }
+    ensures encoded { (xs : List T) → map T.encoding (insert_each T.encoding [] xs)
+        ≡ sort_encodings (map T.encoding xs) }
+    ensures one { (xs ys : List T) → IsPermutation xs ys → map T.encoding
+        (insert_each T.encoding [] xs) ≡ map T.encoding (insert_each T.encoding [] ys) }
 {}
 
 /// The history of a set: after any calls, it is the set of the items that came by them, one after
@@ -37,17 +42,23 @@ pub fn set_is_sorted<T: Form>()
 /// came in another order has the same contents octets.
 pub fn set_of_what_came<T: Form>()
     ensures none { IsSetOf T.encoding [] [] }
-    ensures inserted { (came set : List T) (item : T) → IsSetOf T.encoding came set → IsSetOf T.encoding (came ++ item ∷ []) (insert_in_order T.encoding set item) }
-    ensures ordered { (came set : List T) (item : T) → IsSetOf T.encoding came set → IsInOrder T.encoding (set ++ item ∷ []) → IsSetOf T.encoding (came ++ item ∷ []) (set ++ item ∷ []) }
-    ensures extended { (came set more : List T) → IsSetOf T.encoding came set → IsSetOf T.encoding (came ++ more) (insert_each T.encoding set more) }
-    ensures one { (came a b : List T) → IsSetOf T.encoding came a → IsSetOf T.encoding came b → a ≡ b }
-    ensures encoded { (came set : List T) → IsSetOf T.encoding came set → map T.encoding set ≡ sort_encodings (map T.encoding came) }
-    ensures octets { (xs ys a b : List T) → IsPermutation xs ys → IsSetOf T.encoding xs a → IsSetOf T.encoding ys b → flat_map T.encoding a ≡ flat_map T.encoding b }
+    ensures inserted { (came set : List T) (item : T) → IsSetOf T.encoding came set
+        → IsSetOf T.encoding (came ++ item ∷ []) (insert_in_order T.encoding set item) }
+    ensures ordered { (came set : List T) (item : T) → IsSetOf T.encoding came set → IsInOrder
+        T.encoding (set ++ item ∷ []) → IsSetOf T.encoding (came ++ item ∷ []) (set ++ item ∷ []) }
+    ensures extended { (came set more : List T) → IsSetOf T.encoding came set
+        → IsSetOf T.encoding (came ++ more) (insert_each T.encoding set more) }
+    ensures one { (came a b : List T) → IsSetOf T.encoding came a
+        → IsSetOf T.encoding came b → a ≡ b }
+    ensures encoded { (came set : List T) → IsSetOf T.encoding came set
+        → map T.encoding set ≡ sort_encodings (map T.encoding came) }
+    ensures octets { (xs ys a b : List T) → IsPermutation xs ys → IsSetOf T.encoding xs a
+        → IsSetOf T.encoding ys b → flat_map T.encoding a ≡ flat_map T.encoding b }
 {}
 
 /// Two SEQUENCEs that are not looked at are ordered by their contents octets.
 pub fn sequences_by_contents<'a>(one: SequenceRef<'a>, other: SequenceRef<'a>) -> Ordering
-    ensures { result ≡ lex (⟦<SequenceRef<'a> as FormValue>⟧.contents one.entry) (⟦<SequenceRef<'a> as FormValue>⟧.contents other.entry) }
+    ensures { result ≡ lex (octets_of one.entry) (octets_of other.entry) }
 {
     one.cmp(&other)
 }

@@ -27,12 +27,14 @@ pub struct SequenceRef<'a> {
 }
 
 impl<'a> SequenceRef<'a> {
+    ghost use Rattle.der_nest.specs.SequenceRef.{octets_of};
+
     /// A sequence with these contents octets.
     ///
     /// # Errors
     /// (7) for more than 4294967295 octets.
     pub fn new(octets: &'a [u8]) -> Result<SequenceRef<'a>, Error>
-        ensures { KeepsOctets (⟦<SequenceRef<'a> as FormValue>⟧.contents) tags.Sequence octets.now result }
+        ensures { KeepsOctets octets_of tags.Sequence octets.now result }
     {
         match Length::of(octets.len()) {
             Ok(_) => Ok(SequenceRef { octets }),
@@ -42,26 +44,29 @@ impl<'a> SequenceRef<'a> {
 
     /// The contents octets.
     pub fn as_bytes(self) -> &'a [u8]
-        ensures { result.now ≡ ⟦<SequenceRef<'a> as FormValue>⟧.contents self.entry }
+        ensures { result.now ≡ octets_of self.entry }
     {
         self.octets
     }
 }
 
 impl<'a> FormValue for SequenceRef<'a> {
-    ghost contents = { λ v. v.octets.now };
+    ghost use Rattle.der_nest.specs.SequenceRef.{octets_of};
 
-    ghost accepts_value = { accepts_within (λ v. v.octets.now) (λ v. Unit {0}) };
+    ghost contents = { octets_of };
+
+    ghost accepts_value = { accepts_within octets_of (λ v. Unit {0}) };
 
     ghost parse_value = { parse_octets };
 
-    ghost parse_of_accepted_value = { parse_of_within (λ v. v.octets.now) (λ v. Unit {0}) parse_octets (λ rules v p r. refl) };
+    ghost parse_of_accepted_value = { parse_of_within octets_of (λ v. Unit {0}) parse_octets
+        (λ rules v p r. refl) };
 
-    ghost same_length_value = { same_length_within (λ v. v.octets.now) (λ v. Unit {0}) };
+    ghost same_length_value = { same_length_within octets_of (λ v. Unit {0}) };
 
-    ghost accepts_contents = { accepts_contents_within (λ v. v.octets.now) (λ v. Unit {0}) };
+    ghost accepts_contents = { accepts_contents_within octets_of (λ v. Unit {0}) };
 
-    ghost only_readable_value = { only_within (λ v. v.octets.now) (λ v. Unit {0}) };
+    ghost only_readable_value = { only_within octets_of (λ v. Unit {0}) };
 
     ghost accepts_comparable_value = { λ rules v w c d a b. tt };
 

@@ -67,7 +67,11 @@ impl<'a, T: Form> Model for SetOfRef<'a, T> {
 
     ghost Value = { Borrowed T };
 
-    ghost view = { λ s. elim s.source [ Octets o ↦ OfOctets (encodings_read o.count T.parse Der 0 o.octets.now) | Items i ↦ OfItems i.items.now ] };
+    ghost view = { λ s. elim s.source [
+      | Octets o ↦ OfOctets
+          (encodings_read o.count T.parse Der 0 o.octets.now)
+      | Items i ↦ OfItems i.items.now
+    ] };
 }
 
 impl<'a, T: Form> SetOfRef<'a, T> {
@@ -96,7 +100,7 @@ impl<'a, T: Form> SetOfRef<'a, T> {
         }
     }
 
-    /// Whether there are none.
+    /// Whether it has no items.
     pub fn is_empty(&self) -> bool
         ensures { result ≡ (length (encodings_of T.encoding self.now) == 0) }
     {

@@ -39,7 +39,11 @@ impl<'a, T: Form> Model for SetOfRefIter<'a, T> {
 
     ghost Value = { Borrowed T };
 
-    ghost view = { λ s. elim s.rest [ Octets r ↦ OfOctets (encodings_left r.left T.parse (slice_reader_state r.reader)) | Items i ↦ OfItems i.now ] };
+    ghost view = { λ s. elim s.rest [
+      | Octets r ↦ OfOctets
+          (encodings_left r.left T.parse (slice_reader_state r.reader))
+      | Items i ↦ OfItems i.now
+    ] };
 }
 
 impl<'a, T: Decode<'a, SliceReader<'a>>> SetOfRefIter<'a, T> {

@@ -7,8 +7,8 @@ ghost use Rattle.der_time.specs.Reading.{read_octet};
 /// The number of two digits at the front, and the octets after them.
 #[tactic(auto, unfolding(crate::specs::Digits::read_two_digits, crate::specs::Digits::two_digits))]
 pub fn read_two_digits(octets: &[u8]) -> Option<(u8, &[u8])>
-    ensures value { MatchOption result (read_two_digits octets.now ≡ None)
-        (λ p. read_two_digits octets.now ≡ Some (p.0, p.1.now)) }
+    ensures value { MatchOption result (read_two_digits octets.now ≡ None) (λ p.
+        read_two_digits octets.now ≡ Some (p.0, p.1.now)) }
     ensures digits { IfSome result (λ p. octets.now ≡ two_digits p.0 ++ p.1.now) }
     ensures bound { IfSome result (λ p. p.0 < 100) }
 {
@@ -32,8 +32,8 @@ pub fn two_digits(number: u8) -> [u8; 2]
 /// What follows this octet at the front.
 #[tactic(auto, unfolding(crate::specs::Reading::read_octet))]
 pub fn read_octet<'a>(octet: u8, octets: &'a [u8]) -> Option<&'a [u8]>
-    ensures value { MatchOption result (read_octet octet octets.now ≡ None)
-        (λ others. read_octet octet octets.now ≡ Some others.now) }
+    ensures value { MatchOption result (read_octet octet octets.now ≡ None) (λ others.
+        read_octet octet octets.now ≡ Some others.now) }
     ensures octet { IfSome result (λ others. octets.now ≡ octet ∷ others.now) }
 {
     match octets {

@@ -42,14 +42,14 @@ pub struct GeneralizedTime {
 }
 
 impl GeneralizedTime {
-    /// The same time.
+    /// This time as a `GeneralizedTime`.
     pub fn from_date_time(date_time: DateTime) -> GeneralizedTime
         ensures { result.date_time ≡ date_time }
     {
         GeneralizedTime { date_time }
     }
 
-    /// The same time.
+    /// This time as a `DateTime`.
     pub fn to_date_time(&self) -> DateTime
         ensures { result ≡ self.now.date_time }
     {
@@ -62,8 +62,8 @@ impl GeneralizedTime {
     /// # Errors
     /// (13) for more than 253402300799 seconds, also by less than a second.
     pub fn from_unix_duration(unix_duration: Duration) -> Result<GeneralizedTime, Error>
-        ensures { IsTimeAfter (λ t. t.date_time) (kinds.Value tags.GeneralizedTime)
-            unix_duration result }
+        ensures { IsTimeAfter
+            (λ t. t.date_time) (kinds.Value tags.GeneralizedTime) unix_duration result }
     {
         match DateTime::from_unix_duration(unix_duration) {
             Ok(date_time) => Ok(GeneralizedTime { date_time }),
@@ -196,7 +196,7 @@ impl<'a> TryFrom<AnyRef<'a>> for GeneralizedTime {
     /// # Errors
     /// (4) with no expected tag for another tag; (14) or (13) for octets that are no time.
     fn try_from(any: AnyRef<'a>) -> Result<GeneralizedTime, Error> {
-        if !any.tag().is(Tag::GeneralizedTime) {
+        if !any.tag().equals(Tag::GeneralizedTime) {
             return Err(Error::from_kind(any.tag().unexpected_error(None)));
         }
         match DateTime::of_contents(any.value()) {

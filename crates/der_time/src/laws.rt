@@ -1,6 +1,6 @@
 //! Laws of times.
 
-ghost use Rattle.std.specs.Prelude.{◌≡◌, ◌↔◌, IsTrue, IsOkAnd, pos};
+ghost use Rattle.std.specs.Prelude.{◌≡◌, ◌↔◌, IsTrue, IsOkAnd, pos, ◌∷◌, []};
 ghost use Rattle.std.specs.Ordering.{nat_cmp};
 ghost use Rattle.der_tlv.specs.declared.tag.Tag.TheVariants as tags;
 ghost use Rattle.jiff_core.specs.Calendar.{days_from_civil};
@@ -11,7 +11,7 @@ use crate::date_time::DateTime;
 use crate::generalized_time::GeneralizedTime;
 use crate::utc_time::UtcTime;
 use der_elem::FixedTag;
-use der_tlv::Error;
+use der_tlv::{Error, Tag};
 use std::cmp::Ordering;
 
 /// The order of two times, which is that of their seconds.
@@ -57,19 +57,19 @@ pub fn from_own_duration(time: &DateTime) -> Result<DateTime, Error>
 /// The number of days from 1970-01-01 to the date of a time: that of the calendar, which has a sign.
 pub fn days_since_1970(time: &DateTime) -> u64
     ensures number { result ≡ day_number time.now }
-    ensures calendar { pos result ≡ days_from_civil (pos time.now.year)
-        time.now.month time.now.day }
+    ensures calendar { pos result
+        ≡ days_from_civil (pos time.now.year) time.now.month time.now.day }
 {
     time.unix_duration().as_secs() / 86400
 }
 
-/// The tags of the types: GeneralizedTime and UTCTime (X.680 8.6). A `DateTime` is read and written
-/// as a GeneralizedTime.
-pub fn tags_are()
-    ensures date_time { ⟦<DateTime as FixedTag>⟧.TAG ≡ tags.GeneralizedTime }
-    ensures generalized { ⟦<GeneralizedTime as FixedTag>⟧.TAG ≡ tags.GeneralizedTime }
-    ensures utc { ⟦<UtcTime as FixedTag>⟧.TAG ≡ tags.UtcTime }
-{}
+/// The tags of the types (X.680 8.6): of `DateTime`, which is read and written as a
+/// GeneralizedTime, `GeneralizedTime` and `UtcTime`.
+pub fn universal_tags() -> [Tag; 3]
+    ensures { result ≡ tags.GeneralizedTime ∷ tags.GeneralizedTime ∷ tags.UtcTime ∷ [] }
+{
+    [DateTime::TAG, GeneralizedTime::TAG, UtcTime::TAG]
+}
 
 /// A UTCTime has thirteen contents octets (RFC 5280 4.1.2.5.1).
 pub fn utc_length() -> usize

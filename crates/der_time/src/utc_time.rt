@@ -50,7 +50,7 @@ impl UtcTime {
     /// The last year.
     pub const MAX_YEAR: u16 = 2049;
 
-    /// The same time.
+    /// This time as a `UtcTime`.
     ///
     /// # Errors
     /// (13) for a year after 2049.
@@ -63,7 +63,7 @@ impl UtcTime {
         Ok(UtcTime { date_time })
     }
 
-    /// The same time.
+    /// This time as a `DateTime`.
     pub fn to_date_time(&self) -> DateTime
         ensures { result ≡ self.now.date_time }
     {
@@ -265,7 +265,7 @@ impl<'a> TryFrom<AnyRef<'a>> for UtcTime {
     /// # Errors
     /// (4) with no expected tag for another tag; (13) for octets that are no time.
     fn try_from(any: AnyRef<'a>) -> Result<UtcTime, Error> {
-        if !any.tag().is(Tag::UtcTime) {
+        if !any.tag().equals(Tag::UtcTime) {
             return Err(Error::from_kind(any.tag().unexpected_error(None)));
         }
         match UtcTime::of_contents(any.value()) {

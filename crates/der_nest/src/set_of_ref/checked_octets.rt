@@ -9,9 +9,10 @@ ghost use Rattle.der_elem.specs.Decoding.{Faults};
 ghost use Rattle.der_nest.specs.BorrowedSets.{OfOctets, AcceptsBorrowed, parse_borrowed_items};
 ghost use Rattle.der_nest.specs.ReReading.{CanFollow, CannotFollow, ReReadsAt, encodings_read, encodings_left};
 
+use crate::finding::check_order;
 use crate::set_of_ref::item_reader::ItemReader;
 use der_elem::{Decode, DerOrd, Form, Tagged};
-use der_tlv::{Error, ErrorKind, Reader, SliceReader};
+use der_tlv::{Error, Reader, SliceReader};
 use std::alloc::Global;
 use std::marker::PhantomData;
 
@@ -30,7 +31,8 @@ pub(crate) struct CheckedOctets<'a, T: Form> {
 impl<'a, T: Form> CheckedOctets<'a, T> {
     /// A reader of all items.
     pub(crate) fn items(&self) -> ItemReader<'a, T>
-        ensures { encodings_left result.left T.parse (slice_reader_state result.reader) ≡ encodings_read self.now.count T.parse Der 0 self.now.octets.now }
+        ensures { encodings_left result.left T.parse (slice_reader_state result.reader)
+            ≡ encodings_read self.now.count T.parse Der 0 self.now.octets.now }
     {
         match SliceReader::new(self.octets) {
             Ok(reader) => ItemReader::new(self.alloc, reader, self.count),
@@ -58,7 +60,8 @@ impl<'a, T: Decode<'a, SliceReader<'a>>> CheckedOctets<'a, T> {
     /// # Errors
     /// (1) where an item takes memory.
     pub(crate) fn get(&self, index: usize) -> Option<Result<T, Error>>
-        ensures { ReReadsAt T.Form (encodings_read self.now.count T.parse Der 0 self.now.octets.now) index result }
+        ensures { ReReadsAt T.Form (encodings_read self.now.count T.parse Der 0 self.now.octets.now)
+            index result }
     {
         if index >= self.count {
             return None;
@@ -75,7 +78,7 @@ impl<'a, T: Decode<'a, SliceReader<'a>>> CheckedOctets<'a, T> {
     }
 }
 
-/// Asks that an item is not smaller than the last, if there is one.
+/// Checks that an item is not smaller than the last, if there is one.
 ///
 /// # Errors
 /// The comparison's; (11) for a smaller item.
@@ -85,12 +88,7 @@ fn may_follow<T: DerOrd>(last: &Option<T>, item: &T) -> Result<(), Error>
 {
     match last {
         None => Ok(()),
-        Some(last) => {
-            if last.der_cmp(item)?.is_gt() {
-                return Err(Error::from_kind(ErrorKind::SetOrdering));
-            }
-            Ok(())
-        }
+        Some(last) => check_order(last, item),
     }
 }
 
@@ -101,8 +99,10 @@ impl<'a, T: Decode<'a, SliceReader<'a>> + DerOrd + Tagged> CheckedOctets<'a, T> 
     /// (9) for more than 4294967295 octets; the first fault of an item, from the left; (11) for an item that is smaller than the one
     /// before; (1) where an item takes memory.
     pub(crate) fn read(alloc: Global, octets: &'a [u8]) -> Result<CheckedOctets<'a, T>, Error>
-        ensures ok { IfOk result (λ read. AcceptsBorrowed T.Form (OfOctets (encodings_read read.count T.parse Der 0 read.octets.now)) octets.now) }
-        ensures refused { IfErr result (λ e. Faults T.TAKES_MEMORY (parse_borrowed_items T.parse octets.now) e.kind ⊎ (2 ^ 32 ≤ length octets.now)) }
+        ensures ok { IfOk result (λ read. AcceptsBorrowed T.Form
+            (OfOctets (encodings_read read.count T.parse Der 0 read.octets.now)) octets.now) }
+        ensures refused { IfErr result (λ e. Faults T.TAKES_MEMORY
+            (parse_borrowed_items T.parse octets.now) e.kind ⊎ (2 ^ 32 ≤ length octets.now)) }
     {
         let mut reader = match SliceReader::new(octets) {
             Ok(reader) => reader,

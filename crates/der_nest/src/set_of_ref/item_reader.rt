@@ -55,7 +55,9 @@ impl<'a, T: Form> ItemReader<'a, T> {
 impl<'a, T: Decode<'a, SliceReader<'a>>> ItemReader<'a, T> {
     /// The next item, read again. After a refusal none follows.
     pub(crate) fn next(&mut self) -> Option<Result<T, Error>>
-        ensures { ReReads T.Form (encodings_left self.old.left T.parse (slice_reader_state self.old.reader)) (encodings_left self.new.left T.parse (slice_reader_state self.new.reader)) result }
+        ensures { ReReads T.Form
+            (encodings_left self.old.left T.parse (slice_reader_state self.old.reader))
+            (encodings_left self.new.left T.parse (slice_reader_state self.new.reader)) result }
     {
         if self.left == 0 {
             return None;

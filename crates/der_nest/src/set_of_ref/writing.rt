@@ -15,7 +15,8 @@ impl<'a, T: Decode<'a, SliceReader<'a>> + Encode> CheckedOctets<'a, T> {
     /// # Errors
     /// (9) where there are more than 4294967295; (1) where an item takes memory.
     pub(crate) fn items_len(&self) -> Result<Length, Error>
-        ensures { Measures (concat (encodings_read self.now.count T.parse Der 0 self.now.octets.now)) T.TAKES_MEMORY result }
+        ensures { Measures (concat (encodings_read self.now.count T.parse Der 0
+            self.now.octets.now)) T.TAKES_MEMORY result }
     {
         let mut items = self.items();
         let mut len = Length::ZERO;
@@ -30,7 +31,8 @@ impl<'a, T: Decode<'a, SliceReader<'a>> + Encode> CheckedOctets<'a, T> {
     /// # Errors
     /// The writer's; (1) where an item takes memory.
     pub(crate) fn encode_items<W: Writer>(&self, writer: &mut W) -> Result<(), Error>
-        ensures { Encodes (concat (encodings_read self.now.count T.parse Der 0 self.now.octets.now)) T.TAKES_MEMORY (W.state writer.old) (W.state writer.new) result }
+        ensures { Encodes (concat (encodings_read self.now.count T.parse Der 0 self.now.octets.now))
+            T.TAKES_MEMORY (W.state writer.old) (W.state writer.new) result }
     {
         let mut items = self.items();
         'items: while let Some(item) = items.next() {
