@@ -1,0 +1,12 @@
+-- What writing a message answers.
+use Rattle.std.specs.Prelude.{◌≡◌, ◌⊎◌, ℕ, Result, Ok, Err, Vec}
+use Rattle.std.specs.declared.alloc.Global.{Global}
+use Rattle.der_tlv.specs.declared.error.Error.{Error}
+use Rattle.der_tlv.specs.declared.error.ErrorKind.TheVariants.{Memory}
+use Rattle.der_elem.specs.declared.form.Form as form
+use Rattle.der_elem.specs.Encoding.{Stops}
+
+-- the value's one encoding, or why there is none: memory ran out (1), or no length counts its octets (9)
+abbrev pub WritesAll : {T : Type 0} → form.Ghosts T → T → Result (Vec ℕ Global) Error → Type 0
+WritesAll F v (Ok octets) = octets.items ≡ F.encoding v
+WritesAll F v (Err e) = (e.kind ≡ Memory) ⊎ Stops (F.encoding v) (F.re_reads v) e.kind
