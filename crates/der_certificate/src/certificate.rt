@@ -1,8 +1,7 @@
 //! Certificates (RFC 5280 section 4.1).
 
-ghost use Rattle.std.specs.Prelude.{◌≡◌, IfOk, IfErr};
 ghost use Rattle.der_elem.specs.Decoding.{ReadsAll};
-ghost use Rattle.der_elem.specs.Encoding.{NoVector};
+ghost use Rattle.der_pkix.specs.Writing.{WritesAll};
 
 use crate::issuer::Issuer;
 use der_bits::BitStringRef;
@@ -53,8 +52,7 @@ pub fn write_tbs_certificate<'a>(
     alloc: Global,
     value: &TbsCertificate<'a>,
 ) -> Result<Vec<u8>, Error>
-    ensures ok { IfOk result (λ octets. octets.items ≡ ⟦<TbsCertificate<'a> as Form>⟧.encoding value.now) }
-    ensures err { IfErr result (λ e. NoVector (⟦<TbsCertificate<'a> as Form>⟧.encoding value.now) (⟦<TbsCertificate<'a> as Form>⟧.re_reads value.now) e.kind) }
+    ensures { WritesAll ⟦<TbsCertificate<'a> as Form>⟧ value.now result }
 {
     write_sequence(alloc, value)
 }

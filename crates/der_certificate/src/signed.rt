@@ -1,8 +1,7 @@
 //! Signed certificates (RFC 5280 section 4.1).
 
-ghost use Rattle.std.specs.Prelude.{◌≡◌, IfOk, IfErr};
 ghost use Rattle.der_elem.specs.Decoding.{ReadsAll};
-ghost use Rattle.der_elem.specs.Encoding.{NoVector};
+ghost use Rattle.der_pkix.specs.Writing.{WritesAll};
 
 use der_bits::BitStringRef;
 use der_elem::Form;
@@ -41,8 +40,7 @@ pub fn read_certificate<'a>(alloc: Global, bytes: &'a [u8]) -> Result<Certificat
 /// # Errors
 /// (1) where memory runs out; (9) where there are more than 4294967295 octets.
 pub fn write_certificate<'a>(alloc: Global, value: &Certificate<'a>) -> Result<Vec<u8>, Error>
-    ensures ok { IfOk result (λ octets. octets.items ≡ ⟦<Certificate<'a> as Form>⟧.encoding value.now) }
-    ensures err { IfErr result (λ e. NoVector (⟦<Certificate<'a> as Form>⟧.encoding value.now) (⟦<Certificate<'a> as Form>⟧.re_reads value.now) e.kind) }
+    ensures { WritesAll ⟦<Certificate<'a> as Form>⟧ value.now result }
 {
     write_sequence(alloc, value)
 }

@@ -1,8 +1,7 @@
 //! Algorithms, and public keys with theirs (RFC 5280 sections 4.1.1.2 and 4.1.2.7).
 
-ghost use Rattle.std.specs.Prelude.{◌≡◌, IfOk, IfErr};
 ghost use Rattle.der_elem.specs.Decoding.{ReadsAll};
-ghost use Rattle.der_elem.specs.Encoding.{NoVector};
+ghost use Rattle.der_pkix.specs.Writing.{WritesAll};
 
 use der_bits::BitStringRef;
 use der_elem::Form;
@@ -51,8 +50,7 @@ pub fn write_algorithm_identifier<'a>(
     alloc: Global,
     value: &AlgorithmIdentifier<'a>,
 ) -> Result<Vec<u8>, Error>
-    ensures ok { IfOk result (λ octets. octets.items ≡ ⟦<AlgorithmIdentifier<'a> as Form>⟧.encoding value.now) }
-    ensures err { IfErr result (λ e. NoVector (⟦<AlgorithmIdentifier<'a> as Form>⟧.encoding value.now) (⟦<AlgorithmIdentifier<'a> as Form>⟧.re_reads value.now) e.kind) }
+    ensures { WritesAll ⟦<AlgorithmIdentifier<'a> as Form>⟧ value.now result }
 {
     write_sequence(alloc, value)
 }
@@ -79,8 +77,7 @@ pub fn write_subject_public_key_info<'a>(
     alloc: Global,
     value: &SubjectPublicKeyInfo<'a>,
 ) -> Result<Vec<u8>, Error>
-    ensures ok { IfOk result (λ octets. octets.items ≡ ⟦<SubjectPublicKeyInfo<'a> as Form>⟧.encoding value.now) }
-    ensures err { IfErr result (λ e. NoVector (⟦<SubjectPublicKeyInfo<'a> as Form>⟧.encoding value.now) (⟦<SubjectPublicKeyInfo<'a> as Form>⟧.re_reads value.now) e.kind) }
+    ensures { WritesAll ⟦<SubjectPublicKeyInfo<'a> as Form>⟧ value.now result }
 {
     write_sequence(alloc, value)
 }

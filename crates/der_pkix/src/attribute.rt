@@ -1,6 +1,6 @@
 //! Attributes of names (RFC 5280 section 4.1.2.4).
 
-ghost use Rattle.std.specs.Prelude.{◌≡◌, IfOk, IfErr, refl};
+ghost use Rattle.std.specs.Prelude.{refl};
 ghost use Rattle.std.proofs.Common.{lit<};
 ghost use Rattle.der_tlv.specs.declared.tag.Tag.TheVariants as tags;
 ghost use Rattle.der_elem.specs.EqualityLaws.{encoding-unique};
@@ -9,7 +9,7 @@ ghost use Rattle.der_fields.specs.TellingLaws.{eq_both};
 ghost use Rattle.der_opaque.specs.contracts.any_ref.AnyRefEncodingEq.TheImpl.Laws as any;
 ghost use Rattle.der_opaque.specs.contracts.object_identifier.ObjectIdentifierContentsEq.TheImpl.Laws as identifier;
 ghost use Rattle.der_elem.specs.Decoding.{ReadsAll};
-ghost use Rattle.der_elem.specs.Encoding.{NoVector};
+ghost use Rattle.der_pkix.specs.Writing.{WritesAll};
 
 use der_elem::{
     ContentsEq, CopyIsDuplicate, DecodeValue, Encode, EncodeValue, Form, FormValue, FromDer,
@@ -140,8 +140,7 @@ pub fn write_attribute_type_and_value<'a>(
     alloc: Global,
     value: &AttributeTypeAndValue<'a>,
 ) -> Result<Vec<u8>, Error>
-    ensures ok { IfOk result (λ octets. octets.items ≡ ⟦<AttributeTypeAndValue<'a> as Form>⟧.encoding value.now) }
-    ensures err { IfErr result (λ e. NoVector (⟦<AttributeTypeAndValue<'a> as Form>⟧.encoding value.now) (⟦<AttributeTypeAndValue<'a> as Form>⟧.re_reads value.now) e.kind) }
+    ensures { WritesAll ⟦<AttributeTypeAndValue<'a> as Form>⟧ value.now result }
 {
     value.to_der(alloc)
 }

@@ -1,10 +1,9 @@
 //! Extensions of certificates (RFC 5280 section 4.2).
 
-ghost use Rattle.std.specs.Prelude.{◌≡◌, IfOk, IfErr};
 ghost use Rattle.der_elem.specs.Decoding.{ReadsAll};
-ghost use Rattle.der_elem.specs.Encoding.{NoVector};
+ghost use Rattle.der_pkix.specs.Writing.{WritesAll};
 
-use der_elem::Form;
+use der_elem::{Encode, Form, FromDer};
 use der_fields::{
     DefaultFalse, End, Field, FieldSequence, WithDefault, read_sequence, write_sequence,
 };
@@ -25,6 +24,13 @@ pub type Extension<'a> = FieldSequence<
     >,
 >;
 
+/// ```text
+/// Extensions ::= SEQUENCE OF Extension
+/// ```
+///
+/// No extension and one given twice, which RFC 5280 has not, are read too.
+pub type Extensions<'a> = Vec<Extension<'a>>;
+
 /// Reads an extension: all of the octets, under DER.
 ///
 /// # Errors
@@ -41,8 +47,28 @@ pub fn read_extension<'a>(alloc: Global, bytes: &'a [u8]) -> Result<Extension<'a
 /// # Errors
 /// (1) where memory runs out; (9) where there are more than 4294967295 octets.
 pub fn write_extension<'a>(alloc: Global, value: &Extension<'a>) -> Result<Vec<u8>, Error>
-    ensures ok { IfOk result (λ octets. octets.items ≡ ⟦<Extension<'a> as Form>⟧.encoding value.now) }
-    ensures err { IfErr result (λ e. NoVector (⟦<Extension<'a> as Form>⟧.encoding value.now) (⟦<Extension<'a> as Form>⟧.re_reads value.now) e.kind) }
+    ensures { WritesAll ⟦<Extension<'a> as Form>⟧ value.now result }
 {
     write_sequence(alloc, value)
+}
+
+/// Reads a list of extensions: all of the octets, under DER.
+///
+/// # Errors
+/// The first fault of the octets, in the order of the extensions; (3) where octets are left over;
+/// (9) where there are more than 4294967295; (1) where memory runs out.
+pub fn read_extensions<'a>(alloc: Global, bytes: &'a [u8]) -> Result<Extensions<'a>, Error>
+    ensures { ReadsAll ⟦<Extensions<'a> as Form>⟧ bytes.now result }
+{
+    Extensions::from_der(alloc, bytes)
+}
+
+/// The one encoding of a list of extensions.
+///
+/// # Errors
+/// (1) where memory runs out; (9) where there are more than 4294967295 octets.
+pub fn write_extensions<'a>(alloc: Global, value: &Extensions<'a>) -> Result<Vec<u8>, Error>
+    ensures { WritesAll ⟦<Extensions<'a> as Form>⟧ value.now result }
+{
+    value.to_der(alloc)
 }

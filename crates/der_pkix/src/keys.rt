@@ -1,8 +1,7 @@
 //! Private keys (RFC 5208, RFC 5915) and the public keys of RSA (RFC 8017).
 
-ghost use Rattle.std.specs.Prelude.{◌≡◌, IfOk, IfErr};
 ghost use Rattle.der_elem.specs.Decoding.{ReadsAll};
-ghost use Rattle.der_elem.specs.Encoding.{NoVector};
+ghost use Rattle.der_pkix.specs.Writing.{WritesAll};
 
 use crate::algorithm::AlgorithmIdentifier;
 use der_bits::BitStringRef;
@@ -74,8 +73,7 @@ pub fn write_private_key_info<'a>(
     alloc: Global,
     value: &PrivateKeyInfo<'a>,
 ) -> Result<Vec<u8>, Error>
-    ensures ok { IfOk result (λ octets. octets.items ≡ ⟦<PrivateKeyInfo<'a> as Form>⟧.encoding value.now) }
-    ensures err { IfErr result (λ e. NoVector (⟦<PrivateKeyInfo<'a> as Form>⟧.encoding value.now) (⟦<PrivateKeyInfo<'a> as Form>⟧.re_reads value.now) e.kind) }
+    ensures { WritesAll ⟦<PrivateKeyInfo<'a> as Form>⟧ value.now result }
 {
     write_sequence(alloc, value)
 }
@@ -96,8 +94,7 @@ pub fn read_rsa_public_key<'a>(alloc: Global, bytes: &'a [u8]) -> Result<RsaPubl
 /// # Errors
 /// (1) where memory runs out; (9) where there are more than 4294967295 octets.
 pub fn write_rsa_public_key<'a>(alloc: Global, value: &RsaPublicKey<'a>) -> Result<Vec<u8>, Error>
-    ensures ok { IfOk result (λ octets. octets.items ≡ ⟦<RsaPublicKey<'a> as Form>⟧.encoding value.now) }
-    ensures err { IfErr result (λ e. NoVector (⟦<RsaPublicKey<'a> as Form>⟧.encoding value.now) (⟦<RsaPublicKey<'a> as Form>⟧.re_reads value.now) e.kind) }
+    ensures { WritesAll ⟦<RsaPublicKey<'a> as Form>⟧ value.now result }
 {
     write_sequence(alloc, value)
 }
@@ -118,8 +115,7 @@ pub fn read_ec_private_key<'a>(alloc: Global, bytes: &'a [u8]) -> Result<EcPriva
 /// # Errors
 /// (1) where memory runs out; (9) where there are more than 4294967295 octets.
 pub fn write_ec_private_key<'a>(alloc: Global, value: &EcPrivateKey<'a>) -> Result<Vec<u8>, Error>
-    ensures ok { IfOk result (λ octets. octets.items ≡ ⟦<EcPrivateKey<'a> as Form>⟧.encoding value.now) }
-    ensures err { IfErr result (λ e. NoVector (⟦<EcPrivateKey<'a> as Form>⟧.encoding value.now) (⟦<EcPrivateKey<'a> as Form>⟧.re_reads value.now) e.kind) }
+    ensures { WritesAll ⟦<EcPrivateKey<'a> as Form>⟧ value.now result }
 {
     write_sequence(alloc, value)
 }

@@ -6,10 +6,8 @@
 
 mod algorithm;
 mod attribute;
-mod constraints;
 mod crt;
 mod extension;
-mod general_name;
 mod keys;
 mod name;
 mod rsa;
@@ -23,12 +21,9 @@ pub use attribute::{
     AttributeFields, AttributeTypeAndValue, read_attribute_type_and_value,
     write_attribute_type_and_value,
 };
-pub use constraints::{BasicConstraints, read_basic_constraints, write_basic_constraints};
 pub use crt::{Crt, CrtFields};
-pub use extension::{Extension, read_extension, write_extension};
-pub use general_name::{
-    GeneralName, SubjectAltName, read_general_name, read_subject_alt_name, write_general_name,
-    write_subject_alt_name,
+pub use extension::{
+    Extension, Extensions, read_extension, read_extensions, write_extension, write_extensions,
 };
 pub use keys::{
     EcPrivateKey, PrivateKeyInfo, RsaPublicKey, read_ec_private_key, read_private_key_info,

@@ -1,8 +1,7 @@
 //! Names (RFC 5280 section 4.1.2.4).
 
-ghost use Rattle.std.specs.Prelude.{◌≡◌, IfOk, IfErr};
 ghost use Rattle.der_elem.specs.Decoding.{ReadsAll};
-ghost use Rattle.der_elem.specs.Encoding.{NoVector};
+ghost use Rattle.der_pkix.specs.Writing.{WritesAll};
 
 use crate::attribute::AttributeTypeAndValue;
 use der_elem::{Encode, Form, FromDer};
@@ -44,8 +43,7 @@ pub fn write_relative_distinguished_name<'a>(
     alloc: Global,
     value: &RelativeDistinguishedName<'a>,
 ) -> Result<Vec<u8>, Error>
-    ensures ok { IfOk result (λ octets. octets.items ≡ ⟦<RelativeDistinguishedName<'a> as Form>⟧.encoding value.now) }
-    ensures err { IfErr result (λ e. NoVector (⟦<RelativeDistinguishedName<'a> as Form>⟧.encoding value.now) (⟦<RelativeDistinguishedName<'a> as Form>⟧.re_reads value.now) e.kind) }
+    ensures { WritesAll ⟦<RelativeDistinguishedName<'a> as Form>⟧ value.now result }
 {
     value.to_der(alloc)
 }
@@ -66,8 +64,7 @@ pub fn read_name<'a>(alloc: Global, bytes: &'a [u8]) -> Result<Name<'a>, Error>
 /// # Errors
 /// (1) where memory runs out; (9) where there are more than 4294967295 octets.
 pub fn write_name<'a>(alloc: Global, value: &Name<'a>) -> Result<Vec<u8>, Error>
-    ensures ok { IfOk result (λ octets. octets.items ≡ ⟦<Name<'a> as Form>⟧.encoding value.now) }
-    ensures err { IfErr result (λ e. NoVector (⟦<Name<'a> as Form>⟧.encoding value.now) (⟦<Name<'a> as Form>⟧.re_reads value.now) e.kind) }
+    ensures { WritesAll ⟦<Name<'a> as Form>⟧ value.now result }
 {
     value.to_der(alloc)
 }

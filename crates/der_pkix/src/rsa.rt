@@ -1,8 +1,7 @@
 //! The private keys of RSA (RFC 8017 appendix A.1.2).
 
-ghost use Rattle.std.specs.Prelude.{◌≡◌, IfOk, IfErr};
 ghost use Rattle.der_elem.specs.Decoding.{ReadsAll};
-ghost use Rattle.der_elem.specs.Encoding.{NoVector};
+ghost use Rattle.der_pkix.specs.Writing.{WritesAll};
 
 use crate::crt::Crt;
 use der_elem::Form;
@@ -46,8 +45,7 @@ pub fn read_rsa_private_key<'a>(alloc: Global, bytes: &'a [u8]) -> Result<RsaPri
 /// # Errors
 /// (1) where memory runs out; (9) where there are more than 4294967295 octets.
 pub fn write_rsa_private_key<'a>(alloc: Global, value: &RsaPrivateKey<'a>) -> Result<Vec<u8>, Error>
-    ensures ok { IfOk result (λ octets. octets.items ≡ ⟦<RsaPrivateKey<'a> as Form>⟧.encoding value.now) }
-    ensures err { IfErr result (λ e. NoVector (⟦<RsaPrivateKey<'a> as Form>⟧.encoding value.now) (⟦<RsaPrivateKey<'a> as Form>⟧.re_reads value.now) e.kind) }
+    ensures { WritesAll ⟦<RsaPrivateKey<'a> as Form>⟧ value.now result }
 {
     write_sequence(alloc, value)
 }

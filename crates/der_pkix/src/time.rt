@@ -1,8 +1,7 @@
 //! Times, and the time in which a certificate is valid (RFC 5280 section 4.1.2.5).
 
-ghost use Rattle.std.specs.Prelude.{◌≡◌, IfOk, IfErr};
 ghost use Rattle.der_elem.specs.Decoding.{ReadsAll};
-ghost use Rattle.der_elem.specs.Encoding.{NoVector};
+ghost use Rattle.der_pkix.specs.Writing.{WritesAll};
 
 use der_elem::{Encode, Form, FromDer};
 use der_fields::{End, Field, FieldSequence, OneOf, read_sequence, write_sequence};
@@ -43,8 +42,7 @@ pub fn read_time(alloc: Global, bytes: &[u8]) -> Result<Time, Error>
 /// # Errors
 /// (1) where memory runs out; (9) where there are more than 4294967295 octets.
 pub fn write_time(alloc: Global, value: &Time) -> Result<Vec<u8>, Error>
-    ensures ok { IfOk result (λ octets. octets.items ≡ ⟦<Time as Form>⟧.encoding value.now) }
-    ensures err { IfErr result (λ e. NoVector (⟦<Time as Form>⟧.encoding value.now) (⟦<Time as Form>⟧.re_reads value.now) e.kind) }
+    ensures { WritesAll ⟦<Time as Form>⟧ value.now result }
 {
     value.to_der(alloc)
 }
@@ -65,8 +63,7 @@ pub fn read_validity(alloc: Global, bytes: &[u8]) -> Result<Validity, Error>
 /// # Errors
 /// (1) where memory runs out; (9) where there are more than 4294967295 octets.
 pub fn write_validity(alloc: Global, value: &Validity) -> Result<Vec<u8>, Error>
-    ensures ok { IfOk result (λ octets. octets.items ≡ ⟦<Validity as Form>⟧.encoding value.now) }
-    ensures err { IfErr result (λ e. NoVector (⟦<Validity as Form>⟧.encoding value.now) (⟦<Validity as Form>⟧.re_reads value.now) e.kind) }
+    ensures { WritesAll ⟦<Validity as Form>⟧ value.now result }
 {
     write_sequence(alloc, value)
 }

@@ -1,8 +1,7 @@
 //! The value of the extension basicConstraints (RFC 5280 section 4.2.1.9).
 
-ghost use Rattle.std.specs.Prelude.{◌≡◌, IfOk, IfErr};
 ghost use Rattle.der_elem.specs.Decoding.{ReadsAll};
-ghost use Rattle.der_elem.specs.Encoding.{NoVector};
+ghost use Rattle.der_pkix.specs.Writing.{WritesAll};
 
 use der_elem::Form;
 use der_fields::{
@@ -43,8 +42,7 @@ pub fn write_basic_constraints<'a>(
     alloc: Global,
     value: &BasicConstraints<'a>,
 ) -> Result<Vec<u8>, Error>
-    ensures ok { IfOk result (λ octets. octets.items ≡ ⟦<BasicConstraints<'a> as Form>⟧.encoding value.now) }
-    ensures err { IfErr result (λ e. NoVector (⟦<BasicConstraints<'a> as Form>⟧.encoding value.now) (⟦<BasicConstraints<'a> as Form>⟧.re_reads value.now) e.kind) }
+    ensures { WritesAll ⟦<BasicConstraints<'a> as Form>⟧ value.now result }
 {
     write_sequence(alloc, value)
 }

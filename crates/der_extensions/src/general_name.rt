@@ -1,8 +1,7 @@
 //! The value of the extension subjectAltName (RFC 5280 section 4.2.1.6).
 
-ghost use Rattle.std.specs.Prelude.{◌≡◌, IfOk, IfErr};
 ghost use Rattle.der_elem.specs.Decoding.{ReadsAll};
-ghost use Rattle.der_elem.specs.Encoding.{NoVector};
+ghost use Rattle.der_pkix.specs.Writing.{WritesAll};
 
 use der_ascii::Ia5StringRef;
 use der_elem::{Encode, Form, FromDer};
@@ -50,8 +49,7 @@ pub fn read_general_name<'a>(alloc: Global, bytes: &'a [u8]) -> Result<GeneralNa
 /// # Errors
 /// (1) where memory runs out; (9) where there are more than 4294967295 octets.
 pub fn write_general_name<'a>(alloc: Global, value: &GeneralName<'a>) -> Result<Vec<u8>, Error>
-    ensures ok { IfOk result (λ octets. octets.items ≡ ⟦<GeneralName<'a> as Form>⟧.encoding value.now) }
-    ensures err { IfErr result (λ e. NoVector (⟦<GeneralName<'a> as Form>⟧.encoding value.now) (⟦<GeneralName<'a> as Form>⟧.re_reads value.now) e.kind) }
+    ensures { WritesAll ⟦<GeneralName<'a> as Form>⟧ value.now result }
 {
     value.to_der(alloc)
 }
@@ -78,8 +76,7 @@ pub fn write_subject_alt_name<'a>(
     alloc: Global,
     value: &SubjectAltName<'a>,
 ) -> Result<Vec<u8>, Error>
-    ensures ok { IfOk result (λ octets. octets.items ≡ ⟦<SubjectAltName<'a> as Form>⟧.encoding value.now) }
-    ensures err { IfErr result (λ e. NoVector (⟦<SubjectAltName<'a> as Form>⟧.encoding value.now) (⟦<SubjectAltName<'a> as Form>⟧.re_reads value.now) e.kind) }
+    ensures { WritesAll ⟦<SubjectAltName<'a> as Form>⟧ value.now result }
 {
     value.to_der(alloc)
 }

@@ -1,0 +1,54 @@
+//! The value of the extension authorityKeyIdentifier (RFC 5280 section 4.2.1.1).
+
+ghost use Rattle.der_elem.specs.Decoding.{ReadsAll};
+ghost use Rattle.der_pkix.specs.Writing.{WritesAll};
+
+use der_elem::Form;
+use der_fields::{End, Field, FieldSequence, Implicit, read_sequence, write_sequence};
+use der_numbers::IntRef;
+use der_opaque::{AnyRef, OctetStringRef};
+use der_tlv::Error;
+use std::alloc::Global;
+
+/// The names are kept as they are encoded; `read_general_name` reads one. With the identifier 01 02
+/// alone it is encoded as 30 04 80 02 01 02.
+///
+/// ```text
+/// AuthorityKeyIdentifier ::= SEQUENCE {
+///     keyIdentifier              [0] IMPLICIT OCTET STRING OPTIONAL,
+///     authorityCertIssuer        [1] IMPLICIT SEQUENCE OF GeneralName OPTIONAL,
+///     authorityCertSerialNumber  [2] IMPLICIT INTEGER OPTIONAL }
+/// ```
+pub type AuthorityKeyIdentifier<'a> = FieldSequence<
+    Field<
+        Option<Implicit<OctetStringRef<'a>, 0>>,
+        Field<Option<Implicit<Vec<AnyRef<'a>>, 1>>, Field<Option<Implicit<IntRef<'a>, 2>>, End>>,
+    >,
+>;
+
+/// Reads what names an authority's key: all of the octets, under DER.
+///
+/// # Errors
+/// The first fault of the octets, in the order of the fields; (3) where octets are left over; (9)
+/// where there are more than 4294967295; (1) where memory runs out.
+pub fn read_authority_key_identifier<'a>(
+    alloc: Global,
+    bytes: &'a [u8],
+) -> Result<AuthorityKeyIdentifier<'a>, Error>
+    ensures { ReadsAll ⟦<AuthorityKeyIdentifier<'a> as Form>⟧ bytes.now result }
+{
+    read_sequence(alloc, bytes)
+}
+
+/// The one encoding of what names an authority's key.
+///
+/// # Errors
+/// (1) where memory runs out; (9) where there are more than 4294967295 octets.
+pub fn write_authority_key_identifier<'a>(
+    alloc: Global,
+    value: &AuthorityKeyIdentifier<'a>,
+) -> Result<Vec<u8>, Error>
+    ensures { WritesAll ⟦<AuthorityKeyIdentifier<'a> as Form>⟧ value.now result }
+{
+    write_sequence(alloc, value)
+}

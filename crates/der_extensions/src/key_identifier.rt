@@ -1,0 +1,43 @@
+//! The value of the extension subjectKeyIdentifier (RFC 5280 section 4.2.1.2).
+
+ghost use Rattle.der_elem.specs.Decoding.{ReadsAll};
+ghost use Rattle.der_pkix.specs.Writing.{WritesAll};
+
+use der_elem::{Encode, Form, FromDer};
+use der_opaque::OctetStringRef;
+use der_tlv::Error;
+use std::alloc::Global;
+
+/// The octets 01 02 are encoded as 04 02 01 02.
+///
+/// ```text
+/// SubjectKeyIdentifier ::= OCTET STRING
+/// ```
+pub type SubjectKeyIdentifier<'a> = OctetStringRef<'a>;
+
+/// Reads a key's identifier: all of the octets, under DER.
+///
+/// # Errors
+/// The first fault of the octets; (3) where octets are left over; (9) where there are more than
+/// 4294967295.
+pub fn read_subject_key_identifier<'a>(
+    alloc: Global,
+    bytes: &'a [u8],
+) -> Result<SubjectKeyIdentifier<'a>, Error>
+    ensures { ReadsAll ⟦<SubjectKeyIdentifier<'a> as Form>⟧ bytes.now result }
+{
+    SubjectKeyIdentifier::from_der(alloc, bytes)
+}
+
+/// The one encoding of a key's identifier.
+///
+/// # Errors
+/// (1) where memory runs out; (9) where there are more than 4294967295 octets.
+pub fn write_subject_key_identifier<'a>(
+    alloc: Global,
+    value: &SubjectKeyIdentifier<'a>,
+) -> Result<Vec<u8>, Error>
+    ensures { WritesAll ⟦<SubjectKeyIdentifier<'a> as Form>⟧ value.now result }
+{
+    value.to_der(alloc)
+}

@@ -1,0 +1,26 @@
+//! Values of the common extensions of certificates (RFC 5280 section 4.2.1).
+//!
+//! An `Extension` of `der_pkix` has such a value's octets. `read_..` reads octets as a whole under
+//! DER, `write_..` gives the one encoding.
+#![tactic(auto)]
+
+mod authority;
+mod constraints;
+mod general_name;
+mod key_identifier;
+mod key_usage;
+mod purposes;
+
+pub use authority::{
+    AuthorityKeyIdentifier, read_authority_key_identifier, write_authority_key_identifier,
+};
+pub use constraints::{BasicConstraints, read_basic_constraints, write_basic_constraints};
+pub use general_name::{
+    GeneralName, SubjectAltName, read_general_name, read_subject_alt_name, write_general_name,
+    write_subject_alt_name,
+};
+pub use key_identifier::{
+    SubjectKeyIdentifier, read_subject_key_identifier, write_subject_key_identifier,
+};
+pub use key_usage::{KeyUsage, read_key_usage, write_key_usage};
+pub use purposes::{ExtKeyUsage, read_ext_key_usage, write_ext_key_usage};

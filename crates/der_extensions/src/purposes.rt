@@ -1,0 +1,40 @@
+//! The value of the extension extKeyUsage (RFC 5280 section 4.2.1.12).
+
+ghost use Rattle.der_elem.specs.Decoding.{ReadsAll};
+ghost use Rattle.der_pkix.specs.Writing.{WritesAll};
+
+use der_elem::{Encode, Form, FromDer};
+use der_opaque::ObjectIdentifier;
+use der_tlv::Error;
+use std::alloc::Global;
+
+/// The purpose 1.3.6.1.5.5.7.3.1, a server's authentication, is encoded as
+/// 30 0A 06 08 2B 06 01 05 05 07 03 01.
+///
+/// ```text
+/// ExtKeyUsageSyntax ::= SEQUENCE OF OBJECT IDENTIFIER
+/// ```
+///
+/// No purpose, which RFC 5280 has not, is read too.
+pub type ExtKeyUsage = Vec<ObjectIdentifier<39>>;
+
+/// Reads a key's purposes: all of the octets, under DER.
+///
+/// # Errors
+/// The first fault of the octets, in the order of the purposes; (3) where octets are left over; (9)
+/// where there are more than 4294967295; (1) where memory runs out.
+pub fn read_ext_key_usage(alloc: Global, bytes: &[u8]) -> Result<ExtKeyUsage, Error>
+    ensures { ReadsAll ⟦<ExtKeyUsage as Form>⟧ bytes.now result }
+{
+    ExtKeyUsage::from_der(alloc, bytes)
+}
+
+/// The one encoding of a key's purposes.
+///
+/// # Errors
+/// (1) where memory runs out; (9) where there are more than 4294967295 octets.
+pub fn write_ext_key_usage(alloc: Global, value: &ExtKeyUsage) -> Result<Vec<u8>, Error>
+    ensures { WritesAll ⟦<ExtKeyUsage as Form>⟧ value.now result }
+{
+    value.to_der(alloc)
+}

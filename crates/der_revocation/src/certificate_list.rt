@@ -1,0 +1,90 @@
+//! Lists of revoked certificates (RFC 5280 section 5.1).
+
+ghost use Rattle.der_elem.specs.Decoding.{ReadsAll};
+ghost use Rattle.der_pkix.specs.Writing.{WritesAll};
+
+use crate::updates::Updates;
+use der_bits::BitStringRef;
+use der_elem::Form;
+use der_fields::{End, Field, FieldSequence, read_sequence, write_sequence};
+use der_opaque::AnyRef;
+use der_pkix::AlgorithmIdentifier;
+use der_tlv::Error;
+use std::alloc::Global;
+
+/// What is signed of a list of revoked certificates. The issuer's name is kept as it is encoded.
+///
+/// ```text
+/// TBSCertList ::= SEQUENCE {
+///     version              INTEGER OPTIONAL,
+///     signature            AlgorithmIdentifier,
+///     issuer               Name,
+///     thisUpdate           Time,
+///     nextUpdate           Time OPTIONAL,
+///     revokedCertificates  SEQUENCE OF RevokedCertificate OPTIONAL,
+///     crlExtensions        [0] SEQUENCE OF Extension OPTIONAL }
+/// ```
+pub type TbsCertList<'a> = FieldSequence<
+    Field<Option<u8>, Field<AlgorithmIdentifier<'a>, Field<AnyRef<'a>, Updates<'a>>>>,
+>;
+
+/// A list of revoked certificates with its signature, which nothing here verifies. What is signed is
+/// kept as it is encoded, since the signature covers its octets; `read_tbs_cert_list` reads them.
+///
+/// ```text
+/// CertificateList ::= SEQUENCE {
+///     tbsCertList         TBSCertList,
+///     signatureAlgorithm  AlgorithmIdentifier,
+///     signatureValue      BIT STRING }
+/// ```
+pub type CertificateList<'a> = FieldSequence<
+    Field<AnyRef<'a>, Field<AlgorithmIdentifier<'a>, Field<BitStringRef<'a>, End>>>,
+>;
+
+/// Reads what is signed of a list of revoked certificates: all of the octets, under DER.
+///
+/// # Errors
+/// The first fault of the octets, in the order of the fields; (3) where octets are left over; (9)
+/// where there are more than 4294967295; (1) where memory runs out.
+pub fn read_tbs_cert_list<'a>(alloc: Global, bytes: &'a [u8]) -> Result<TbsCertList<'a>, Error>
+    ensures { ReadsAll ⟦<TbsCertList<'a> as Form>⟧ bytes.now result }
+{
+    read_sequence(alloc, bytes)
+}
+
+/// The one encoding of what is signed of a list of revoked certificates.
+///
+/// # Errors
+/// (1) where memory runs out; (9) where there are more than 4294967295 octets.
+pub fn write_tbs_cert_list<'a>(alloc: Global, value: &TbsCertList<'a>) -> Result<Vec<u8>, Error>
+    ensures { WritesAll ⟦<TbsCertList<'a> as Form>⟧ value.now result }
+{
+    write_sequence(alloc, value)
+}
+
+/// Reads a list of revoked certificates: all of the octets, under DER.
+///
+/// # Errors
+/// The first fault of the octets, in the order of the fields; (3) where octets are left over; (9)
+/// where there are more than 4294967295.
+pub fn read_certificate_list<'a>(
+    alloc: Global,
+    bytes: &'a [u8],
+) -> Result<CertificateList<'a>, Error>
+    ensures { ReadsAll ⟦<CertificateList<'a> as Form>⟧ bytes.now result }
+{
+    read_sequence(alloc, bytes)
+}
+
+/// The one encoding of a list of revoked certificates.
+///
+/// # Errors
+/// (1) where memory runs out; (9) where there are more than 4294967295 octets.
+pub fn write_certificate_list<'a>(
+    alloc: Global,
+    value: &CertificateList<'a>,
+) -> Result<Vec<u8>, Error>
+    ensures { WritesAll ⟦<CertificateList<'a> as Form>⟧ value.now result }
+{
+    write_sequence(alloc, value)
+}

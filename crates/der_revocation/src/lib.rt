@@ -1,0 +1,20 @@
+//! Lists of revoked certificates (RFC 5280 section 5.1), over lists of fields.
+//!
+//! The seven fields of a TBSCertList are kept in three parts: `TbsCertList` has the version, the
+//! algorithm and the issuer, and then `Updates`, of which the tail is `Entries`.
+#![tactic(auto)]
+
+mod certificate_list;
+mod entries;
+mod revoked_certificate;
+mod updates;
+
+pub use certificate_list::{
+    CertificateList, TbsCertList, read_certificate_list, read_tbs_cert_list,
+    write_certificate_list, write_tbs_cert_list,
+};
+pub use entries::{Entries, EntriesFields};
+pub use revoked_certificate::{
+    RevokedCertificate, read_revoked_certificate, write_revoked_certificate,
+};
+pub use updates::{Updates, UpdatesFields};
