@@ -9,6 +9,7 @@ mod issuer;
 mod last;
 mod signed;
 mod subject;
+pub mod tbs;
 
 pub use certificate::{TbsCertificate, read_tbs_certificate, write_tbs_certificate};
 pub use issuer::{Issuer, IssuerFields};

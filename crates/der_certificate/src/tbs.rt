@@ -1,0 +1,94 @@
+//! The fields of a TBSCertificate, by their names (RFC 5280 section 4.1).
+
+ghost use Rattle.std.specs.Prelude.{◌≡◌};
+
+use crate::certificate::TbsCertificate;
+use crate::last::Last;
+use der_bits::BitStringRef;
+use der_fields::{Explicit, Implicit};
+use der_numbers::IntRef;
+use der_opaque::AnyRef;
+use der_pkix::{AlgorithmIdentifier, Extension, SubjectPublicKeyInfo, Validity};
+
+/// `version`: 0 for v1, which is the default, 1 for v2, 2 for v3.
+pub fn version(tbs: &TbsCertificate<'_>) -> u8
+    ensures { result ≡ tbs.now.fields.first.value.fields.first }
+{
+    tbs.fields.first.value.fields.first
+}
+
+/// `serialNumber`.
+pub fn serial_number<'a>(tbs: &TbsCertificate<'a>) -> IntRef<'a>
+    ensures { result ≡ tbs.now.fields.rest.first }
+{
+    tbs.fields.rest.first
+}
+
+/// `signature`: the algorithm that the certificate says of its signature.
+pub fn signature<'a, 'b>(tbs: &'b TbsCertificate<'a>) -> &'b AlgorithmIdentifier<'a>
+    ensures { result.now ≡ tbs.now.fields.rest.rest.fields.first }
+{
+    &tbs.fields.rest.rest.fields.first
+}
+
+/// `issuer`: a Name, as it is encoded.
+pub fn issuer<'a>(tbs: &TbsCertificate<'a>) -> AnyRef<'a>
+    ensures { result ≡ tbs.now.fields.rest.rest.fields.rest.first }
+{
+    tbs.fields.rest.rest.fields.rest.first
+}
+
+/// `validity`.
+pub fn validity<'b>(tbs: &'b TbsCertificate<'_>) -> &'b Validity
+    ensures { result.now ≡ tbs.now.fields.rest.rest.fields.rest.rest.fields.first }
+{
+    &tbs.fields.rest.rest.fields.rest.rest.fields.first
+}
+
+/// `subject`: a Name, as it is encoded.
+pub fn subject<'a>(tbs: &TbsCertificate<'a>) -> AnyRef<'a>
+    ensures { result ≡ tbs.now.fields.rest.rest.fields.rest.rest.fields.rest.first }
+{
+    tbs.fields.rest.rest.fields.rest.rest.fields.rest.first
+}
+
+/// `subjectPublicKeyInfo`.
+pub fn subject_public_key_info<'a, 'b>(tbs: &'b TbsCertificate<'a>) -> &'b SubjectPublicKeyInfo<'a>
+    ensures { result.now ≡ tbs.now.fields.rest.rest.fields.rest.rest.fields.rest.rest.first }
+{
+    &tbs.fields.rest.rest.fields.rest.rest.fields.rest.rest.first
+}
+
+// The fields behind the key.
+fn last<'a, 'b>(tbs: &'b TbsCertificate<'a>) -> &'b Last<'a>
+    ensures { result.now ≡ tbs.now.fields.rest.rest.fields.rest.rest.fields.rest.rest.rest }
+{
+    &tbs.fields.rest.rest.fields.rest.rest.fields.rest.rest.rest
+}
+
+/// `issuerUniqueID`.
+pub fn issuer_unique_id<'a, 'b>(
+    tbs: &'b TbsCertificate<'a>,
+) -> &'b Option<Implicit<BitStringRef<'a>, 1>>
+    ensures { result.now ≡ tbs.now.fields.rest.rest.fields.rest.rest.fields.rest.rest.rest.fields.first }
+{
+    &last(tbs).fields.first
+}
+
+/// `subjectUniqueID`.
+pub fn subject_unique_id<'a, 'b>(
+    tbs: &'b TbsCertificate<'a>,
+) -> &'b Option<Implicit<BitStringRef<'a>, 2>>
+    ensures { result.now ≡ tbs.now.fields.rest.rest.fields.rest.rest.fields.rest.rest.rest.fields.rest.first }
+{
+    &last(tbs).fields.rest.first
+}
+
+/// `extensions`, if there are any.
+pub fn extensions<'a, 'b>(
+    tbs: &'b TbsCertificate<'a>,
+) -> &'b Option<Explicit<Vec<Extension<'a>>, 3>>
+    ensures { result.now ≡ tbs.now.fields.rest.rest.fields.rest.rest.fields.rest.rest.rest.fields.rest.rest.first }
+{
+    &last(tbs).fields.rest.rest.first
+}
