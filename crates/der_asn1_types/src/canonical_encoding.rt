@@ -20,7 +20,8 @@ pub fn canonical<'a, T: FromDer<'a> + Encode>(
 ) -> Result<Vec<u8>, Error>
     ensures encoding { Gives result (parse_all T.parse octets.now) }
     ensures value { IfOk result (λ encoding. EncodingOfRead T.Form octets.now encoding.items) }
-    ensures canonical { IfOk result (λ encoding. parse_all T.parse encoding.items ≡ Ok encoding.items) }
+    ensures canonical { IfOk result (λ encoding.
+        parse_all T.parse encoding.items ≡ Ok encoding.items) }
 {
     let value = T::from_der(alloc, octets)?;
     encodings_read_back::<T>();

@@ -2,6 +2,7 @@
 
 ghost use Rattle.std.specs.Prelude.{◌≡◌, ◌<◌, true, false, ◌≤◌};
 ghost use Rattle.der_asn1_types.specs.BitString.{bit, bit_count};
+ghost use Rattle.der_asn1_types.specs.BitStringRef.{contents_of};
 
 use der_asn1_types::FormValue;
 use der_asn1_types::asn1::BitStringRef;
@@ -9,8 +10,9 @@ use der_asn1_types::asn1::BitStringRef;
 /// Whether a key may sign certificates: bit 5 of KeyUsage (RFC 5280 4.2.1.3). A bit that is left
 /// away is zero.
 pub fn may_sign_certificates<'a>(usage: BitStringRef<'a>) -> bool
-    ensures present { 5 < bit_count (⟦<BitStringRef<'a> as FormValue>⟧.contents usage.entry) → result ≡ bit (⟦<BitStringRef<'a> as FormValue>⟧.contents usage.entry) 5 }
-    ensures absent { bit_count (⟦<BitStringRef<'a> as FormValue>⟧.contents usage.entry) ≤ 5 → result ≡ false }
+    ensures present { 5 < bit_count (contents_of usage.entry)
+        → result ≡ bit (contents_of usage.entry) 5 }
+    ensures absent { bit_count (contents_of usage.entry) ≤ 5 → result ≡ false }
 {
     usage.get(5).unwrap_or(false)
 }

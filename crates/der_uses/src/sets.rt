@@ -16,7 +16,8 @@ pub fn attribute_set(alloc: Global, numbers: [u16; 4]) -> Result<SetOfVec<u16>, 
 
 /// Puts a number into a set at its place. Where that is refused, the set is as it was.
 pub fn with_attribute(set: &mut SetOfVec<u16>, number: u16) -> Result<(), Error>
-    ensures placed { OnOk result (set.new ≡ insert_in_order ⟦<u16 as Form>⟧.encoding set.old number) }
+    ensures placed { OnOk result
+        (set.new ≡ insert_in_order ⟦<u16 as Form>⟧.encoding set.old number) }
     ensures unchanged { OnErr result (set.new ≡ set.old) }
 {
     set.insert(number)

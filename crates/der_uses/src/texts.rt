@@ -3,6 +3,7 @@
 ghost use Rattle.std.specs.Prelude.{◌≡◌, ◌↔◌, IsOk, IfOk, ◌^◌, ◌<◌, length, true};
 ghost use Rattle.der_asn1_types.specs.Characters.{are_characters};
 ghost use Rattle.der_asn1_types.specs.Decoding.{ReadsAll};
+ghost use Rattle.der_asn1_types.specs.CharacterStringRef.{octets_of};
 
 use der_asn1_types::asn1::{PrintableStringRef, Utf8StringRef};
 use der_asn1_types::{Error, Form, FormValue, FromDer};
@@ -10,7 +11,8 @@ use std::alloc::Global;
 
 /// A country as a PrintableString, borrowed: its contents octets are these.
 pub fn country<'a>(octets: &'a [u8]) -> Result<PrintableStringRef<'a>, Error>
-    ensures { IfOk result (λ country. (⟦<PrintableStringRef<'a> as FormValue>⟧.contents country ≡ octets.now) × (are_characters 19 octets.now ≡ true)) }
+    ensures { IfOk result (λ country.
+        (octets_of country ≡ octets.now) × (are_characters 19 octets.now ≡ true)) }
 {
     PrintableStringRef::new(octets)
 }

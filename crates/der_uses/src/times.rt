@@ -9,7 +9,8 @@ use der_asn1_types::laws::chronological;
 /// Whether a time is not before the first second of a validity, and not after its last
 /// (RFC 5280 4.1.2.5).
 pub fn is_within(time: &DateTime, first: &DateTime, last: &DateTime) -> bool
-    ensures { IsTrue result ↔ ((unix_seconds first.now ≤ unix_seconds time.now) × (unix_seconds time.now ≤ unix_seconds last.now)) }
+    ensures { IsTrue result ↔ ((unix_seconds first.now ≤ unix_seconds time.now)
+        × (unix_seconds time.now ≤ unix_seconds last.now)) }
 {
     chronological(first, time).is_le() && chronological(time, last).is_le()
 }
