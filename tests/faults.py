@@ -142,34 +142,34 @@ def beginning(what, ran, answers):
     return text.count(b"\n")
 
 
+# The names of the types that take memory of their own; the room for a line, its octets and its reply is kept.
+TAKE_MEMORY = set(
+    b"any octets int uint bits printable teletex ia5 string bmp vec-i64 vec-anyref vec-ctx-u8 setvec-u16 setvec-anyref setvec-algid setref-setvec-u16".split()
+)
+
+
 def refuse_lines(program, lines, answers):
-    """Refuses each request of derview's lines in turn, and all requests before which other lines take a known number."""
-    # A bad line with no space takes two requests, one with a space and no digits three.
-    two, three = (b"x\n", b"bad line\n"), (b"bool zz\n", b"bad line\n")
+    """Refuses each request of derview's lines in turn, behind so many lines that take one request each."""
+    one = (b"octets 040100\n", b"ok 040100\n")
     text, wanted = b"".join(lines), b"".join(answers)
-    most = programs.REFUSED // 2
 
-    def refusing(how):
-        before, is_odd = how
-        head = two[0] * before + three[0] * is_odd
-        start = two[1] * before + three[1] * is_odd
-        what = f"derview behind {before} and {is_odd} bad lines"
-        count = beginning(what, run(program, head + text), start + wanted)
-        return None if count is None else count - before - is_odd
+    def refusing(before):
+        what = f"derview behind {before} lines"
+        count = beginning(what, run(program, one[0] * before + text), one[1] * before + wanted)
+        return None if count is None else count - before
 
-    refused, stopped, before = 0, set(), most
+    refused, stopped, before = 0, set(), programs.REFUSED
     while before > 0:
-        hows = [(it, is_odd) for it in range(before, max(before - 20, 0), -1) for is_odd in (0, 1)]
-        counts = at_once(refusing, hows)
+        counts = at_once(refusing, range(before, max(before - 40, 0), -1))
         for count in counts:
             if count is not None and count >= 0:
                 refused += 1
                 stopped.add(count)
         if all(count is None for count in counts):
             break
-        before -= 20
+        before -= 40
     for at, line in enumerate(lines):
-        if at not in stopped and line.split()[1] != b"-":
+        if at not in stopped and line.split()[0] in TAKE_MEMORY:
             fail(f"derview: {line!r} was refused memory in no run")
     print(f"faults: {refused} requests of {len(lines)} lines of derview refused in turn", flush=True)
 

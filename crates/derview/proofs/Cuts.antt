@@ -10,6 +10,8 @@ use Rattle.std.specs.Io.KnownBytes.{Consumes, IsAtEnd, Appends}
 use Rattle.derview.specs.Lines.{lines_of, onto_first, reply_to, replies_to}
 use Rattle.derview.specs.Run.{IsCut, AnswersWholeLines, AnswersAllButOne, WritesBeginning, HasTooManyLines}
 use Rattle.derview.specs.declared.fault.Fault.{Fault}
+use Rattle.std.specs.declared.io.ErrorKind.{ErrorKind}
+use Rattle.derview.specs.Failure.{HasFailed}
 use Rattle.derview.specs.Sink.{AppendsFront}
 use Rattle.derview.specs.Source.{HasNoEnd, TakesLine, TakesPart, IsRefused}
 
@@ -234,8 +236,8 @@ module _ (before : Option (List ℕ)) (allowed left : ℕ) (after old new : Opti
   line_answered later line newer fewer takes less wrote = if_some before (λ text. Answered allowed left text after old new) (λ text. Answered allowed fewer text later old newer)
       (λ text h. one_more allowed left text after old new h later line newer fewer takes less wrote) so_far
 
-  pub refused : (failed : Bool) (kept : ℕ) → IsRefused failed left after → kept ≡ left → (failed ≡ true) ⊎ HasTooManyLines before allowed kept
-  refused failed kept why same = elim why [
+  pub refused : (failure : Option ErrorKind) (kept : ℕ) → IsRefused failure left after → kept ≡ left → HasFailed failure ⊎ HasTooManyLines before allowed kept
+  refused failure kept why same = elim why [
     | inl read ↦ inl read
     | inr over ↦ inr (
       same ∙ over.0,

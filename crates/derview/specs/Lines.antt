@@ -13,9 +13,13 @@ abbrev pub lines_of : List ℕ → List (List ℕ)
 lines_of [] = []
 lines_of (octet ∷ text) = if octet == 10 then [] ∷ lines_of text else onto_first octet (lines_of text)
 
+-- octets, and an LF
+abbrev pub with_line_feed : List ℕ → List ℕ
+with_line_feed octets = octets ++ 10 ∷ []
+
 -- the answer to a line, and an LF
 abbrev pub reply_to : List ℕ → List ℕ
-reply_to line = answer_of line ++ 10 ∷ []
+reply_to line = with_line_feed (answer_of line)
 
 -- the replies to the lines of a text, in order
 abbrev pub replies_to : List ℕ → List ℕ

@@ -1,7 +1,6 @@
 -- The types by their names.
-use Rattle.std.specs.Prelude.{◌≡◌, ℕ, List, Option, None, Some, Result, if◌then◌else◌, codes, Vec}
+use Rattle.std.specs.Prelude.{◌≡◌, ℕ, true, List, Option, None, Some, Result, if◌then◌else◌, codes}
 use Rattle.std.specs.Str.{bytes_eq}
-use Rattle.std.specs.declared.alloc.Global.{Global}
 use Rattle.der_asn1_types.specs.Error.{Error}
 use Rattle.der_asn1_types.specs.ErrorKind.{ErrorKind}
 use Rattle.der_asn1_types.specs.Tag.{Tag}
@@ -28,8 +27,8 @@ use Rattle.der_asn1_types.specs.Sets.{parse_set, parse_set_up_to}
 use Rattle.der_asn1_types.specs.BorrowedSets.{parse_borrowed}
 use Rattle.der_asn1_types.specs.TimeReading.{parse_generalized, parse_utc}
 use Rattle.der_asn1_types.specs.TaggedValues.{parse_explicit}
-use Rattle.der_asn1_types.specs.Canonical.{Gives}
-use Rattle.derview.specs.AlgorithmIdentifier.{parse_algorithm_identifier}
+use Rattle.der_asn1_types.specs.FieldLists.{parse_field, parse_end}
+use Rattle.derview.specs.Puts.{Puts}
 
 -- the canonical encoding of what some octets encode as one type, or the first fault
 abbrev pub CanonicalFunction : Type 0
@@ -135,6 +134,10 @@ bit_types name =
 abbrev pub parse_u16 : Parse
 parse_u16 = parse_tagged Integer (parse_unsigned 2)
 
+-- an AlgorithmIdentifier (RFC 5280 section 4.1.1.2): an object identifier, parameters that may be absent and begin with any tag, and no octets left over (3)
+abbrev pub parse_algorithm_identifier : ContentsParse
+parse_algorithm_identifier = parse_field (parse_tagged ObjectIdentifier (parse_identifier 39)) (parse_field (parse_option (λ tag. true) parse_any) parse_end)
+
 -- a SEQUENCE whose contents octets are kept, one of at most five items, and an AlgorithmIdentifier
 unfoldable pub nested_types : List ℕ → Option CanonicalFunction
 nested_types name =
@@ -178,8 +181,8 @@ or_else (Some function) other = Some function
 unfoldable pub canonical_function_of : List ℕ → Option CanonicalFunction
 canonical_function_of name = or_else (plain_types name) (or_else (signed_types name) (or_else (unsigned_types name) (or_else (opaque_types name) (or_else (composed_types name) (or_else (tagged_types name) (or_else (number_types name) (or_else (string_types name) (or_else (bit_types name) (or_else (nested_types name) (or_else (set_types name) (or_else (borrowed_set_types name) (time_types name))))))))))))
 
--- there is a result where there is a function, and it is what the function gives of the octets
-abbrev pub AnswersAs : Option CanonicalFunction → List ℕ → Option (Result (Vec ℕ Global) Error) → Type 0
-AnswersAs None octets result = result ≡ None
-AnswersAs (Some function) octets None = ⊥
-AnswersAs (Some function) octets (Some result) = Gives result (function octets)
+-- there is a result where there is a function, and what it gives of the octets was put
+abbrev pub AnswersAs : Option CanonicalFunction → List ℕ → List ℕ → Option (Result (Unit {0}) Error) → Type 0
+AnswersAs None octets encoding result = result ≡ None
+AnswersAs (Some function) octets encoding None = ⊥
+AnswersAs (Some function) octets encoding (Some result) = Puts (function octets) encoding result

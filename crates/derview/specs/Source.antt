@@ -1,6 +1,8 @@
 -- What reading a line does to the octets that are still to be read.
-use Rattle.std.specs.Prelude.{◌≡◌, ◌≢◌, ◌⊎◌, ℕ, ◌<◌, Bool, true, List, [], ◌∷◌, ◌++◌, length, All, Option, IfSome}
+use Rattle.std.specs.Prelude.{◌≡◌, ◌≢◌, ◌⊎◌, ℕ, ◌<◌, List, [], ◌∷◌, ◌++◌, length, All, Option, IfSome}
 use Rattle.std.specs.Io.KnownBytes.{Consumes, IsAtEnd}
+use Rattle.std.specs.declared.io.ErrorKind.{ErrorKind}
+use Rattle.derview.specs.Failure.{HasFailed}
 
 -- no octet is an LF
 abbrev pub HasNoEnd : List ℕ → Type 0
@@ -16,5 +18,5 @@ abbrev pub TakesPart : Option (List ℕ) → Option (List ℕ) → Type 0
 TakesPart before after = (part : List ℕ) × HasNoEnd part × Consumes before after part
 
 -- a read failed, or no more lines may be read and there are more
-abbrev pub IsRefused : Bool → ℕ → Option (List ℕ) → Type 0
-IsRefused has_failed lines_left before = (has_failed ≡ true) ⊎ ((lines_left ≡ 0) × IfSome before (λ rest. rest ≢ []))
+abbrev pub IsRefused : Option ErrorKind → ℕ → Option (List ℕ) → Type 0
+IsRefused failure lines_left before = HasFailed failure ⊎ ((lines_left ≡ 0) × IfSome before (λ rest. rest ≢ []))

@@ -1,29 +1,51 @@
 //! The answer to one line.
-ghost use Rattle.std.specs.Prelude.{◌≡◌, ◌≢◌, ◌==◌, ◌<◌, length, position, IfOk, OnOk, IfSome, option_map, codes};
-ghost use Rattle.std.specs.String.{string_bytes};
+ghost use Rattle.std.specs.Prelude.{◌≡◌, ◌≢◌, ◌==◌, ◌<◌, ◌+◌, ◌*◌, ◌++◌, None, Some, length, position, OnOk, IfOk, IfSome, option_map, codes, if◌then◌else◌};
+ghost use Rattle.hex.specs.Hex.{encode_lower};
 ghost use Rattle.der_asn1_types.specs.ErrorKind.TheVariants.{Memory};
 ghost use Rattle.derview.specs.Answer.{answer_of, accepted_of, refused_of, octets_of, parts_of};
+ghost use Rattle.derview.specs.Lines.{reply_to, with_line_feed};
 
-use crate::names::canonical_of_name;
+use crate::digits::{read_digits, write_digits};
+use crate::kept_writer::KeptWriter;
+use crate::names::put_canonical_of_name;
 use der_asn1_types::ErrorKind;
-use hex::FromHexError;
 use std::alloc::{AllocError, Global};
 
-/// The answer to a line.
-#[tactic(auto, unfolding(crate::specs::Answer::answer_of))]
-pub fn answer(alloc: Global, line: &[u8]) -> Result<String, AllocError>
-    ensures { IfOk result (λ text. string_bytes text ≡ answer_of line.now) }
-{
-    let Some((name, text)) = parts(line) else {
-        return bad_line(alloc);
-    };
-    let Some(octets) = octets(alloc, text)? else {
-        return bad_line(alloc);
-    };
-    match canonical_of_name(alloc, name, &octets) {
-        None => bad_line(alloc),
-        Some(Ok(encoding)) => accepted(alloc, &encoding),
-        Some(Err(error)) => refused(alloc, error.kind),
+/// The reply to a line, and room that is kept from one line to the next.
+#[derive(Drop)]
+pub struct Room {
+    octets: Vec<u8>,
+    encoding: KeptWriter,
+    /// The reply.
+    pub reply: Vec<u8>,
+}
+
+impl Room {
+    /// Room for nothing yet.
+    pub fn new(alloc: Global) -> Room {
+        Room {
+            octets: Vec::new(alloc),
+            encoding: KeptWriter::new(alloc),
+            reply: Vec::new(alloc),
+        }
+    }
+
+    /// Puts the answer to a line, and an LF, in the place of the reply.
+    #[tactic(auto, unfolding(crate::specs::Answer::answer_of))]
+    pub fn reply_to(&mut self, alloc: Global, line: &[u8]) -> Result<(), AllocError>
+        ensures { OnOk result (self.new.reply.items ≡ reply_to line.now) }
+    {
+        let Some((name, text)) = parts(line) else {
+            return put_bad_line(&mut self.reply);
+        };
+        if !read_octets(text, &mut self.octets)? {
+            return put_bad_line(&mut self.reply);
+        }
+        match put_canonical_of_name(alloc, name, &self.octets, &mut self.encoding) {
+            None => put_bad_line(&mut self.reply),
+            Some(Ok(())) => put_accepted(&self.encoding.octets, &mut self.reply),
+            Some(Err(error)) => put_refused(alloc, error.kind, &mut self.reply),
+        }
     }
 }
 
@@ -44,50 +66,67 @@ fn first_space(line: &[u8]) -> Option<usize>
     line.iter().position(|octet| *octet == b' ')
 }
 
-/// The octets that hex digits stand for, or a `-` for none.
-fn octets(alloc: Global, text: &[u8]) -> Result<Option<Vec<u8>>, AllocError>
-    ensures { IfOk result (λ octets. option_map (λ v. v.items) octets ≡ octets_of text.now) }
+/// Reads the octets that hex digits stand for, or a `-` for none. Answers whether the text is such.
+fn read_octets(text: &[u8], octets: &mut Vec<u8>) -> Result<bool, AllocError>
+    ensures { IfOk result (λ is_read. octets_of text.now ≡ (if is_read then Some octets.new.items else None)) }
 {
-    if text.is_empty() {
-        return Ok(None);
-    }
     if text == b"-".as_slice() {
-        return Ok(Some(Vec::new(alloc)));
+        octets.clear();
+        return Ok(true);
     }
-    match hex::decode(alloc, text) {
-        Ok(octets) => Ok(Some(octets)),
-        Err(FromHexError::OutOfMemory) => Err(AllocError),
-        Err(_) => Ok(None),
+    if text.is_empty() || text.len() % 2 != 0 {
+        return Ok(false);
     }
+    octets.resize(text.len() / 2, 0)?;
+    Ok(read_digits(text, octets))
 }
 
-fn bad_line(alloc: Global) -> Result<String, AllocError>
-    ensures { IfOk result (λ text. string_bytes text ≡ codes "bad line") }
+fn put_bad_line(reply: &mut Vec<u8>) -> Result<(), AllocError>
+    ensures { OnOk result (reply.new.items ≡ with_line_feed (codes "bad line")) }
 {
-    String::from_str(alloc, "bad line")
+    reply.clear();
+    reply.extend_from_slice(b"bad line\n")
 }
 
-fn accepted(alloc: Global, encoding: &[u8]) -> Result<String, AllocError>
-    ensures { IfOk result (λ text. string_bytes text ≡ accepted_of encoding.now) }
+fn put_accepted(encoding: &[u8], reply: &mut Vec<u8>) -> Result<(), AllocError>
+    ensures { OnOk result (reply.new.items ≡ with_line_feed (accepted_of encoding.now)) }
 {
     if encoding.is_empty() {
-        return String::from_str(alloc, "ok -");
+        reply.clear();
+        return reply.extend_from_slice(b"ok -\n");
     }
-    let digits = hex::encode(alloc, encoding)?;
-    // with room for the digits, what stands before them and the LF behind them
-    let mut text = String::with_capacity(alloc, digits.len().saturating_add(4))?;
-    text.push_str("ok ")?;
-    text.push_str(&digits)?;
-    Ok(text)
+    let Some(len) = encoding
+        .len()
+        .checked_mul(2)
+        .and_then(|digits| digits.checked_add(4))
+    else {
+        return Err(AllocError);
+    };
+    reply.resize(len, 0)?;
+    fill_reply(encoding, reply);
+    Ok(())
 }
 
-fn refused(alloc: Global, kind: ErrorKind) -> Result<String, AllocError>
-    ensures text { IfOk result (λ text. string_bytes text ≡ refused_of kind) }
+/// Fills a reply of just the length with `ok `, the digits of an encoding and an LF.
+fn fill_reply(encoding: &[u8], reply: &mut [u8])
+    requires { length reply.old ≡ 2 * length encoding.now + 4 }
+    ensures { reply.new ≡ with_line_feed (codes "ok " ++ encode_lower encoding.now) }
+{
+    let end = reply.len() - 1;
+    reply[..3].copy_from_slice(b"ok ");
+    write_digits(encoding, &mut reply[3..end]);
+    reply[end] = b'\n';
+}
+
+fn put_refused(alloc: Global, kind: ErrorKind, reply: &mut Vec<u8>) -> Result<(), AllocError>
+    ensures text { OnOk result (reply.new.items ≡ with_line_feed (refused_of kind)) }
     ensures memory { OnOk result (kind ≢ Memory) }
 {
     if kind == ErrorKind::Memory {
         return Err(AllocError);
     }
     let number = kind.number();
-    format!(in alloc; "refused {number}")
+    let text = format!(in alloc; "refused {number}\n")?;
+    reply.clear();
+    reply.extend_from_slice(text.as_bytes())
 }

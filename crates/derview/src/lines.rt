@@ -79,10 +79,40 @@ fn line_end(octets: &[u8]) -> usize
     ensures before { All (λ octet. octet ≢ 10) (take result octets.now) }
     ensures found { result < length octets.now → slice_index octets.now result ≡ 10 }
 {
-    for (i, octet) in octets.iter().enumerate() {
-        if *octet == b'\n' {
+    let start = open_blocks(octets);
+    for i in start..octets.len() {
+        if octets[i] == b'\n' {
             return i;
         }
     }
     octets.len()
+}
+
+/// How many octets the blocks have that stand before the first LF. It tells blocks since that takes
+/// less time than to tell each octet.
+fn open_blocks(octets: &[u8]) -> usize
+    ensures bound { result ≤ length octets.now }
+    ensures before { All (λ octet. octet ≢ 10) (take result octets.now) }
+{
+    let mut end = 0;
+    while octets.len() - end >= BLOCK && is_open(&octets[end..end + BLOCK]) {
+        end += BLOCK;
+    }
+    end
+}
+
+/// How many octets a block has.
+const BLOCK: usize = 16;
+
+/// Whether no octet of a block is an LF.
+#[inline(always)]
+fn is_open(block: &[u8]) -> bool
+    requires { length block.now ≡ 16 }
+    ensures { result ≡ true → All (λ octet. octet ≢ 10) block.now }
+{
+    let mut is_open = true;
+    for i in 0..BLOCK {
+        is_open &= block[i] != b'\n';
+    }
+    is_open
 }

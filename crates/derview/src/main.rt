@@ -11,12 +11,13 @@ use std::process::ExitCode;
 
 mod algorithm_identifier;
 mod answer;
+mod canonical;
+mod digits;
 mod fault;
-mod fields;
+mod kept_writer;
 mod lines;
 mod names;
 mod run;
-mod sets;
 mod sink;
 mod source;
 #[cfg(test)]

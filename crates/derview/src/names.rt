@@ -4,7 +4,8 @@ ghost use Rattle.std.specs.Str.{bytes_eq};
 ghost use Rattle.derview.specs.Names.{canonical_function_of, plain_types, signed_types, unsigned_types, opaque_types, composed_types, tagged_types, number_types, string_types, bit_types, nested_types, set_types, borrowed_set_types, time_types, AnswersAs};
 
 use crate::algorithm_identifier::AlgorithmIdentifier;
-use crate::sets::canonical_set;
+use crate::canonical::{put_canonical, put_canonical_set};
+use crate::kept_writer::KeptWriter;
 use der_asn1_types::asn1::{
     Any, AnyRef, Application, BitString, BitStringRef, BmpString, ContextSpecific,
     GeneralStringRef, GeneralizedTime, Ia5String, Ia5StringRef, Int, IntRef, Null,
@@ -12,86 +13,97 @@ use der_asn1_types::asn1::{
     SequenceOf, SequenceRef, SetOf, SetOfRef, SetOfVec, TeletexString, TeletexStringRef, Uint,
     UintRef, UtcTime, Utf8StringRef, VideotexStringRef,
 };
-use der_asn1_types::{DateTime, Error, canonical};
+use der_asn1_types::{DateTime, Error};
 use std::alloc::Global;
 
-/// Takes the type that stands at the name, and answers the canonical encoding of what the octets
-/// encode as it.
+/// Takes the type that stands at the name, and puts the canonical encoding of what the octets encode
+/// as it.
 macro_rules! choose {
-    ($alloc:expr, $name:expr, $octets:expr; $($text:literal => $type:ty,)*) => {
+    ($alloc:expr, $name:expr, $octets:expr, $encoding:expr; $($text:literal => $type:ty,)*) => {
         $(if is($name, $text) {
-            return Some(canonical::<$type>($alloc, $octets));
+            return Some(put_canonical::<$type>($alloc, $octets, $encoding));
         })*
         None
     };
 }
 
-/// The canonical encoding of the value that the octets encode, as the type of that name, if there
-/// is such a type.
+/// Puts the canonical encoding of the value that the octets encode, as the type of that name, if
+/// there is such a type, in the place of what was written.
 #[tactic(auto, unfolding(crate::specs::Names::canonical_function_of))]
-pub fn canonical_of_name(
+pub fn put_canonical_of_name(
     alloc: Global,
     name: &[u8],
     octets: &[u8],
-) -> Option<Result<Vec<u8>, Error>>
-    ensures { AnswersAs (canonical_function_of name.now) octets.now result }
+    encoding: &mut KeptWriter,
+) -> Option<Result<(), Error>>
+    ensures { AnswersAs (canonical_function_of name.now) octets.now encoding.new.octets.items result }
 {
-    if let Some(canonical) = canonical_of_plain(alloc, name, octets) {
-        return Some(canonical);
+    if let Some(result) = put_plain(alloc, name, octets, encoding) {
+        return Some(result);
     }
-    if let Some(canonical) = canonical_of_signed(alloc, name, octets) {
-        return Some(canonical);
+    if let Some(result) = put_signed(alloc, name, octets, encoding) {
+        return Some(result);
     }
-    if let Some(canonical) = canonical_of_unsigned(alloc, name, octets) {
-        return Some(canonical);
+    if let Some(result) = put_unsigned(alloc, name, octets, encoding) {
+        return Some(result);
     }
-    if let Some(canonical) = canonical_of_opaque(alloc, name, octets) {
-        return Some(canonical);
+    if let Some(result) = put_opaque(alloc, name, octets, encoding) {
+        return Some(result);
     }
-    if let Some(canonical) = canonical_of_composed(alloc, name, octets) {
-        return Some(canonical);
+    if let Some(result) = put_composed(alloc, name, octets, encoding) {
+        return Some(result);
     }
-    if let Some(canonical) = canonical_of_tagged(alloc, name, octets) {
-        return Some(canonical);
+    if let Some(result) = put_tagged(alloc, name, octets, encoding) {
+        return Some(result);
     }
-    if let Some(canonical) = canonical_of_number(alloc, name, octets) {
-        return Some(canonical);
+    if let Some(result) = put_number(alloc, name, octets, encoding) {
+        return Some(result);
     }
-    if let Some(canonical) = canonical_of_string(alloc, name, octets) {
-        return Some(canonical);
+    if let Some(result) = put_string(alloc, name, octets, encoding) {
+        return Some(result);
     }
-    if let Some(canonical) = canonical_of_bits(alloc, name, octets) {
-        return Some(canonical);
+    if let Some(result) = put_bits(alloc, name, octets, encoding) {
+        return Some(result);
     }
-    if let Some(canonical) = canonical_of_nested(alloc, name, octets) {
-        return Some(canonical);
+    if let Some(result) = put_nested(alloc, name, octets, encoding) {
+        return Some(result);
     }
-    if let Some(canonical) = canonical_of_set(alloc, name, octets) {
-        return Some(canonical);
+    if let Some(result) = put_set(alloc, name, octets, encoding) {
+        return Some(result);
     }
-    if let Some(canonical) = canonical_of_borrowed_set(alloc, name, octets) {
-        return Some(canonical);
+    if let Some(result) = put_borrowed_set(alloc, name, octets, encoding) {
+        return Some(result);
     }
-    canonical_of_time(alloc, name, octets)
+    put_time(alloc, name, octets, encoding)
 }
 
 #[tactic(auto, unfolding(crate::specs::Names::plain_types))]
-fn canonical_of_plain(alloc: Global, name: &[u8], octets: &[u8]) -> Option<Result<Vec<u8>, Error>>
-    ensures { AnswersAs (plain_types name.now) octets.now result }
+fn put_plain(
+    alloc: Global,
+    name: &[u8],
+    octets: &[u8],
+    encoding: &mut KeptWriter,
+) -> Option<Result<(), Error>>
+    ensures { AnswersAs (plain_types name.now) octets.now encoding.new.octets.items result }
 {
     choose! {
-        alloc, name, octets;
+        alloc, name, octets, encoding;
         "bool" => bool,
         "unit" => (),
     }
 }
 
 #[tactic(auto, unfolding(crate::specs::Names::signed_types))]
-fn canonical_of_signed(alloc: Global, name: &[u8], octets: &[u8]) -> Option<Result<Vec<u8>, Error>>
-    ensures { AnswersAs (signed_types name.now) octets.now result }
+fn put_signed(
+    alloc: Global,
+    name: &[u8],
+    octets: &[u8],
+    encoding: &mut KeptWriter,
+) -> Option<Result<(), Error>>
+    ensures { AnswersAs (signed_types name.now) octets.now encoding.new.octets.items result }
 {
     choose! {
-        alloc, name, octets;
+        alloc, name, octets, encoding;
         "i8" => i8,
         "i16" => i16,
         "i32" => i32,
@@ -101,15 +113,16 @@ fn canonical_of_signed(alloc: Global, name: &[u8], octets: &[u8]) -> Option<Resu
 }
 
 #[tactic(auto, unfolding(crate::specs::Names::unsigned_types))]
-fn canonical_of_unsigned(
+fn put_unsigned(
     alloc: Global,
     name: &[u8],
     octets: &[u8],
-) -> Option<Result<Vec<u8>, Error>>
-    ensures { AnswersAs (unsigned_types name.now) octets.now result }
+    encoding: &mut KeptWriter,
+) -> Option<Result<(), Error>>
+    ensures { AnswersAs (unsigned_types name.now) octets.now encoding.new.octets.items result }
 {
     choose! {
-        alloc, name, octets;
+        alloc, name, octets, encoding;
         "u8" => u8,
         "u16" => u16,
         "u32" => u32,
@@ -119,11 +132,16 @@ fn canonical_of_unsigned(
 }
 
 #[tactic(auto, unfolding(crate::specs::Names::opaque_types))]
-fn canonical_of_opaque(alloc: Global, name: &[u8], octets: &[u8]) -> Option<Result<Vec<u8>, Error>>
-    ensures { AnswersAs (opaque_types name.now) octets.now result }
+fn put_opaque(
+    alloc: Global,
+    name: &[u8],
+    octets: &[u8],
+    encoding: &mut KeptWriter,
+) -> Option<Result<(), Error>>
+    ensures { AnswersAs (opaque_types name.now) octets.now encoding.new.octets.items result }
 {
     choose! {
-        alloc, name, octets;
+        alloc, name, octets, encoding;
         "null" => Null,
         "any" => Any,
         "anyref" => AnyRef,
@@ -134,15 +152,16 @@ fn canonical_of_opaque(alloc: Global, name: &[u8], octets: &[u8]) -> Option<Resu
 }
 
 #[tactic(auto, unfolding(crate::specs::Names::composed_types))]
-fn canonical_of_composed(
+fn put_composed(
     alloc: Global,
     name: &[u8],
     octets: &[u8],
-) -> Option<Result<Vec<u8>, Error>>
-    ensures { AnswersAs (composed_types name.now) octets.now result }
+    encoding: &mut KeptWriter,
+) -> Option<Result<(), Error>>
+    ensures { AnswersAs (composed_types name.now) octets.now encoding.new.octets.items result }
 {
     choose! {
-        alloc, name, octets;
+        alloc, name, octets, encoding;
         "vec-i64" => Vec<i64>,
         "vec-anyref" => Vec<AnyRef>,
         "array2-u8" => [u8; 2],
@@ -151,11 +170,16 @@ fn canonical_of_composed(
 }
 
 #[tactic(auto, unfolding(crate::specs::Names::tagged_types))]
-fn canonical_of_tagged(alloc: Global, name: &[u8], octets: &[u8]) -> Option<Result<Vec<u8>, Error>>
-    ensures { AnswersAs (tagged_types name.now) octets.now result }
+fn put_tagged(
+    alloc: Global,
+    name: &[u8],
+    octets: &[u8],
+    encoding: &mut KeptWriter,
+) -> Option<Result<(), Error>>
+    ensures { AnswersAs (tagged_types name.now) octets.now encoding.new.octets.items result }
 {
     choose! {
-        alloc, name, octets;
+        alloc, name, octets, encoding;
         "ctx-u8" => ContextSpecific<u8>,
         "app-u8" => Application<u8>,
         "prv-u8" => Private<u8>,
@@ -164,11 +188,16 @@ fn canonical_of_tagged(alloc: Global, name: &[u8], octets: &[u8]) -> Option<Resu
 }
 
 #[tactic(auto, unfolding(crate::specs::Names::number_types))]
-fn canonical_of_number(alloc: Global, name: &[u8], octets: &[u8]) -> Option<Result<Vec<u8>, Error>>
-    ensures { AnswersAs (number_types name.now) octets.now result }
+fn put_number(
+    alloc: Global,
+    name: &[u8],
+    octets: &[u8],
+    encoding: &mut KeptWriter,
+) -> Option<Result<(), Error>>
+    ensures { AnswersAs (number_types name.now) octets.now encoding.new.octets.items result }
 {
     choose! {
-        alloc, name, octets;
+        alloc, name, octets, encoding;
         "int" => Int,
         "intref" => IntRef,
         "uint" => Uint,
@@ -177,11 +206,16 @@ fn canonical_of_number(alloc: Global, name: &[u8], octets: &[u8]) -> Option<Resu
 }
 
 #[tactic(auto, unfolding(crate::specs::Names::string_types))]
-fn canonical_of_string(alloc: Global, name: &[u8], octets: &[u8]) -> Option<Result<Vec<u8>, Error>>
-    ensures { AnswersAs (string_types name.now) octets.now result }
+fn put_string(
+    alloc: Global,
+    name: &[u8],
+    octets: &[u8],
+    encoding: &mut KeptWriter,
+) -> Option<Result<(), Error>>
+    ensures { AnswersAs (string_types name.now) octets.now encoding.new.octets.items result }
 {
     choose! {
-        alloc, name, octets;
+        alloc, name, octets, encoding;
         "printable" => PrintableString,
         "printableref" => PrintableStringRef,
         "teletex" => TeletexString,
@@ -197,11 +231,16 @@ fn canonical_of_string(alloc: Global, name: &[u8], octets: &[u8]) -> Option<Resu
 }
 
 #[tactic(auto, unfolding(crate::specs::Names::bit_types))]
-fn canonical_of_bits(alloc: Global, name: &[u8], octets: &[u8]) -> Option<Result<Vec<u8>, Error>>
-    ensures { AnswersAs (bit_types name.now) octets.now result }
+fn put_bits(
+    alloc: Global,
+    name: &[u8],
+    octets: &[u8],
+    encoding: &mut KeptWriter,
+) -> Option<Result<(), Error>>
+    ensures { AnswersAs (bit_types name.now) octets.now encoding.new.octets.items result }
 {
     choose! {
-        alloc, name, octets;
+        alloc, name, octets, encoding;
         "bits" => BitString,
         "bitsref" => BitStringRef,
         "ctx-bitsref" => ContextSpecific<BitStringRef>,
@@ -209,11 +248,16 @@ fn canonical_of_bits(alloc: Global, name: &[u8], octets: &[u8]) -> Option<Result
 }
 
 #[tactic(auto, unfolding(crate::specs::Names::nested_types))]
-fn canonical_of_nested(alloc: Global, name: &[u8], octets: &[u8]) -> Option<Result<Vec<u8>, Error>>
-    ensures { AnswersAs (nested_types name.now) octets.now result }
+fn put_nested(
+    alloc: Global,
+    name: &[u8],
+    octets: &[u8],
+    encoding: &mut KeptWriter,
+) -> Option<Result<(), Error>>
+    ensures { AnswersAs (nested_types name.now) octets.now encoding.new.octets.items result }
 {
     choose! {
-        alloc, name, octets;
+        alloc, name, octets, encoding;
         "sequenceref" => SequenceRef,
         "seqof5-u16" => SequenceOf<u16, 5>,
         "algid" => AlgorithmIdentifier,
@@ -221,14 +265,19 @@ fn canonical_of_nested(alloc: Global, name: &[u8], octets: &[u8]) -> Option<Resu
 }
 
 #[tactic(auto, unfolding(crate::specs::Names::set_types))]
-fn canonical_of_set(alloc: Global, name: &[u8], octets: &[u8]) -> Option<Result<Vec<u8>, Error>>
-    ensures { AnswersAs (set_types name.now) octets.now result }
+fn put_set(
+    alloc: Global,
+    name: &[u8],
+    octets: &[u8],
+    encoding: &mut KeptWriter,
+) -> Option<Result<(), Error>>
+    ensures { AnswersAs (set_types name.now) octets.now encoding.new.octets.items result }
 {
     if is(name, "setvec-anyref") {
-        return Some(canonical_set::<AnyRef>(alloc, octets));
+        return Some(put_canonical_set::<AnyRef>(alloc, octets, encoding));
     }
     choose! {
-        alloc, name, octets;
+        alloc, name, octets, encoding;
         "setvec-u16" => SetOfVec<u16>,
         "setof2-u16" => SetOf<u16, 2>,
         "ctx-setof2-u16" => ContextSpecific<SetOf<u16, 2>>,
@@ -237,15 +286,16 @@ fn canonical_of_set(alloc: Global, name: &[u8], octets: &[u8]) -> Option<Result<
 }
 
 #[tactic(auto, unfolding(crate::specs::Names::borrowed_set_types))]
-fn canonical_of_borrowed_set(
+fn put_borrowed_set(
     alloc: Global,
     name: &[u8],
     octets: &[u8],
-) -> Option<Result<Vec<u8>, Error>>
-    ensures { AnswersAs (borrowed_set_types name.now) octets.now result }
+    encoding: &mut KeptWriter,
+) -> Option<Result<(), Error>>
+    ensures { AnswersAs (borrowed_set_types name.now) octets.now encoding.new.octets.items result }
 {
     choose! {
-        alloc, name, octets;
+        alloc, name, octets, encoding;
         "setref-u16" => SetOfRef<u16>,
         "setref-octetsref" => SetOfRef<OctetStringRef>,
         "setref-setvec-u16" => SetOfRef<SetOfVec<u16>>,
@@ -253,11 +303,16 @@ fn canonical_of_borrowed_set(
 }
 
 #[tactic(auto, unfolding(crate::specs::Names::time_types))]
-fn canonical_of_time(alloc: Global, name: &[u8], octets: &[u8]) -> Option<Result<Vec<u8>, Error>>
-    ensures { AnswersAs (time_types name.now) octets.now result }
+fn put_time(
+    alloc: Global,
+    name: &[u8],
+    octets: &[u8],
+    encoding: &mut KeptWriter,
+) -> Option<Result<(), Error>>
+    ensures { AnswersAs (time_types name.now) octets.now encoding.new.octets.items result }
 {
     choose! {
-        alloc, name, octets;
+        alloc, name, octets, encoding;
         "datetime" => DateTime,
         "gentime" => GeneralizedTime,
         "utctime" => UtcTime,

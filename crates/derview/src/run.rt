@@ -1,51 +1,51 @@
 //! Lines to answers.
-ghost use Rattle.std.specs.Prelude.{◌≡◌, ◌≢◌, ◌⊎◌, [], true, IfSome, IfOk, OnOk, OnErr, IsErrOf};
-ghost use Rattle.std.specs.String.{string_bytes};
+ghost use Rattle.std.specs.Prelude.{◌≡◌, ◌⊎◌, [], Some, IfSome, OnOk, OnErr, IsErrOf};
 ghost use Rattle.std.specs.Io.KnownBytes.{Appends};
-ghost use Rattle.derview.specs.Lines.{replies_to, reply_to};
+ghost use Rattle.derview.specs.Failure.{TellsFailure, HasFailed};
+ghost use Rattle.derview.specs.Lines.{replies_to};
 ghost use Rattle.derview.specs.Run.{AnswersWholeLines, AnswersAllButOne, WritesBeginning, HasTooManyLines};
 
-use crate::answer::answer;
+use crate::answer::Room;
 use crate::fault::Fault;
-use crate::sink::Sink;
-use crate::source::Source;
-use std::alloc::{AllocError, Global};
+use crate::sink::OctetWriter;
+use crate::source::LineReader;
+use std::alloc::Global;
+use std::io::{BufRead, Write};
 
 /// Answers each line of the input, before it reads the next.
-pub fn run<S: Source, K: Sink>(alloc: Global, input: &mut S, output: &mut K) -> Result<(), Fault>
+pub fn run<R: BufRead, W: Write>(
+    alloc: Global,
+    input: &mut LineReader<R>,
+    output: &mut OctetWriter<W>,
+) -> Result<(), Fault>
     // All lines were read and answered.
-    ensures ok { OnOk result (IfSome (S.remaining input.old) (λ text.
-        Appends (K.contents output.old) (K.contents output.new) (replies_to text))) }
-    ensures ended { OnOk result (IfSome (S.remaining input.old) (λ _. S.remaining input.new ≡ Some [])) }
+    ensures ok { OnOk result (IfSome (R.remaining input.old.reader) (λ text.
+        Appends (W.contents output.old.writer) (W.contents output.new.writer) (replies_to text))) }
+    ensures ended { OnOk result (IfSome (R.remaining input.old.reader) (λ _.
+        R.remaining input.new.reader ≡ Some [])) }
 
     // After a fault, a beginning of that was written.
-    ensures beginning { OnErr result (IfSome (S.remaining input.old) (λ text.
-        WritesBeginning text (K.contents output.old) (K.contents output.new))) }
-    ensures prompt { OnErr result (IfSome (S.remaining input.old) (λ text.
-        AnswersAllButOne text (S.remaining input.new) (K.contents output.old) (K.contents output.new))) }
-    ensures exact { IsErrOf result Fault.Input → IfSome (S.remaining input.old) (λ text.
-        AnswersWholeLines text (S.remaining input.new) (K.contents output.old) (K.contents output.new)) }
+    ensures beginning { OnErr result (IfSome (R.remaining input.old.reader) (λ text.
+        WritesBeginning text (W.contents output.old.writer) (W.contents output.new.writer))) }
+    ensures prompt { OnErr result (IfSome (R.remaining input.old.reader) (λ text.
+        AnswersAllButOne text (R.remaining input.new.reader)
+        (W.contents output.old.writer) (W.contents output.new.writer))) }
+    ensures exact { IsErrOf result Fault.Input → IfSome (R.remaining input.old.reader) (λ text.
+        AnswersWholeLines text (R.remaining input.new.reader)
+        (W.contents output.old.writer) (W.contents output.new.writer)) }
 
-    // Each fault has its cause, and no failed read or write is told as another fault or as none.
-    ensures input { IsErrOf result Fault.Input → (S.has_failed input.new ≡ true)
-        ⊎ HasTooManyLines (S.remaining input.old) (S.lines_left input.old) (S.lines_left input.new) }
-    ensures unfailed_read { result ≢ Err Fault.Input → S.has_failed input.new ≡ S.has_failed input.old }
-    ensures output { IsErrOf result Fault.Output → K.has_failed output.new ≡ true }
-    ensures unfailed_write { result ≢ Err Fault.Output → K.has_failed output.new ≡ K.has_failed output.old }
+    // Each fault has its cause, and each error with which a read or a write failed is told as it is.
+    ensures input { IsErrOf result Fault.Input → HasFailed input.new.failure
+        ⊎ HasTooManyLines (R.remaining input.old.reader) input.old.lines_left input.new.lines_left }
+    ensures told_read { TellsFailure Fault.Input input.old.failure input.new.failure result }
+    ensures output { IsErrOf result Fault.Output → HasFailed output.new.failure }
+    ensures told_write { TellsFailure Fault.Output output.old.failure output.new.failure result }
 {
     let mut line = Vec::new(alloc);
+    let mut room = Room::new(alloc);
     'lines: while input.next_line(&mut line)? {
-        let reply = reply(alloc, &line)?;
-        output.put(reply.as_bytes())?;
+        room.reply_to(alloc, &line)?;
+        output.put(&room.reply)?;
     }
     Ok(())
-}
-
-/// The answer to a line, and an LF.
-fn reply(alloc: Global, line: &[u8]) -> Result<String, AllocError>
-    ensures { IfOk result (λ text. string_bytes text ≡ reply_to line.now) }
-{
-    let mut text = answer(alloc, line)?;
-    text.push('\n')?;
-    Ok(text)
 }

@@ -1,61 +1,60 @@
 //! Where answers go.
-ghost use Rattle.std.specs.Prelude.{◌≡◌, ◌≢◌, ℕ, Bool, true, false, List, Option, IfOk, OnOk, OnErr, IsErrOf};
+ghost use Rattle.std.specs.Prelude.{◌≡◌, ◌≢◌, None, Some, IfOk, OnOk, OnErr, IsErrOf};
+ghost use Rattle.std.specs.IoError.{error_kind};
 ghost use Rattle.std.specs.Io.KnownBytes.{Appends, Keeps};
+ghost use Rattle.derview.specs.Failure.{IsFaultOf, TellsFailure, HasFailed};
 ghost use Rattle.derview.specs.Sink.{AppendsFront, AppendsUpTo};
 
 use crate::fault::Fault;
 use std::io::{self, ErrorKind, Write};
 
-/// Takes octets.
-pub trait Sink {
-    /// The octets that it holds, where they are known.
-    ghost contents: { Self → Option (List ℕ) };
-
-    /// Whether a write has failed, or taken no octet.
-    ghost has_failed: { Self → Bool };
-
-    /// Writes all of the octets, or a beginning of them.
-    fn put(&mut self, octets: &[u8]) -> Result<(), Fault>
-        ensures ok { OnOk result (Appends (contents self.old) (contents self.new) octets.now) }
-        ensures unfailed { result ≢ Err Fault.Output → has_failed self.new ≡ has_failed self.old }
-        ensures err { OnErr result (AppendsFront (contents self.old) (contents self.new) octets.now) }
-        ensures output { IsErrOf result Fault.Output → has_failed self.new ≡ true }
-        ensures not_input { result ≢ Err Fault.Input };
-}
-
-/// A writer as a sink.
+/// Writes octets to a writer.
 #[derive(Drop)]
 pub struct OctetWriter<W> {
-    writer: W,
-    has_failed: bool,
+    /// What is written to.
+    pub writer: W,
+    /// Of the last write that failed, or took no octet, the kind of its error.
+    pub failure: Option<ErrorKind>,
 }
 
 impl<W: Write> OctetWriter<W> {
-    /// A writer as a sink.
+    /// A writer of which no write has failed.
     pub fn new(writer: W) -> OctetWriter<W>
         ensures writer { result.writer ≡ writer }
-        ensures has_failed { result.has_failed ≡ false }
+        ensures failure { result.failure ≡ None }
     {
         OctetWriter {
             writer,
-            has_failed: false,
+            failure: None,
         }
     }
-}
 
-impl<W: Write> Sink for OctetWriter<W> {
-    ghost contents = { λ sink. W.contents sink.writer };
-
-    ghost has_failed = { λ sink. sink.has_failed };
-
-    fn put(&mut self, octets: &[u8]) -> Result<(), Fault> {
+    /// Writes all of the octets, or a beginning of them.
+    pub fn put(&mut self, octets: &[u8]) -> Result<(), Fault>
+        ensures ok { OnOk result (Appends (W.contents self.old.writer) (W.contents self.new.writer) octets.now) }
+        ensures err { OnErr result (AppendsFront (W.contents self.old.writer) (W.contents self.new.writer) octets.now) }
+        ensures told { TellsFailure Fault.Output self.old.failure self.new.failure result }
+        ensures output { IsErrOf result Fault.Output → HasFailed self.new.failure }
+        ensures not_input { result ≢ Err Fault.Input }
+    {
         match write_all(&mut self.writer, octets) {
             Ok(()) => Ok(()),
-            Err(error) if error.kind() == ErrorKind::OutOfMemory => Err(Fault::Memory),
-            Err(_) => {
-                self.has_failed = true;
-                Err(Fault::Output)
-            }
+            Err(error) => Err(self.fault(&error)),
+        }
+    }
+
+    /// Notes the error with which a write failed, and answers its fault.
+    fn fault(&mut self, error: &io::Error) -> Fault
+        ensures kept { self.new.writer ≡ self.old.writer }
+        ensures failure { self.new.failure ≡ Some (error_kind error.now) }
+        ensures fault { IsFaultOf Fault.Output (error_kind error.now) result }
+        ensures not_input { result ≢ Fault.Input }
+    {
+        let kind = error.kind();
+        self.failure = Some(kind);
+        match kind {
+            ErrorKind::OutOfMemory => Fault::Memory,
+            _ => Fault::Output,
         }
     }
 }

@@ -154,6 +154,7 @@ fn stops_where_a_read_fails(rt: HostRuntime) -> Result<(), Fail> {
             let mut input = LineReader::new(reader, u64::MAX);
             let result = run(rt.alloc(), &mut input, &mut OctetWriter::new(&mut written));
             assert_eq!(rt; result, Err(fault), "at {text:?}");
+            assert!(rt; input.failure == Some(kind), "at {text:?}");
             assert_eq!(rt; written.as_slice(), want, "at {text:?}");
         }
     }

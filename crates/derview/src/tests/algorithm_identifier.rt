@@ -1,13 +1,9 @@
 //! AlgorithmIdentifier, by the calls of its traits.
 
 use crate::algorithm_identifier::AlgorithmIdentifier;
-use crate::fields::{ask_end, cmp_fields, encode_fields, fields_len};
-use der_asn1_types::{
-    Duplicate, Encode, Error, FixedTag, FromDer, Reader, SliceReader, Tag, ValueOrd, VecWriter,
-};
+use der_asn1_types::{Duplicate, Encode, Error, FixedTag, FromDer, Tag, ValueOrd};
 use std::alloc::Global;
 use std::cmp::Ordering;
-use std::test::Fail;
 
 /// rsaEncryption with NULL (RFC 8017, appendix A.1).
 const RSA: &[u8] = &[
@@ -110,35 +106,4 @@ fn orders_by_the_identifier_and_then_the_parameters(rt: HostRuntime) -> Result<(
     assert_eq!(rt; order(alloc, RSA, ED25519_NULL)?, Ordering::Greater);
     assert_eq!(rt; order(alloc, RSA, RSA)?, Ordering::Equal);
     Ok(())
-}
-
-#[test]
-fn joins_two_fields(rt: HostRuntime) -> Result<(), Fail> {
-    let alloc = rt.alloc();
-    let len = numbered(fields_len(&5u8, &true))?;
-    assert_eq!(rt; len.value(), 6);
-    let mut writer = VecWriter::new(alloc);
-    numbered(encode_fields(&5u8, &true, &mut writer))?;
-    assert_eq!(rt;
-        writer.finish().as_slice(),
-        [0x02, 0x01, 0x05, 0x01, 0x01, 0xff].as_slice()
-    );
-    let order = numbered(cmp_fields((&5u8, &true), (&5u8, &false)))?;
-    assert_eq!(rt; order, Ordering::Greater);
-    let order = numbered(cmp_fields((&5u8, &true), (&6u8, &false)))?;
-    assert_eq!(rt; order, Ordering::Less);
-    Ok(())
-}
-
-#[test]
-fn asks_for_the_end(rt: HostRuntime) {
-    let Ok(mut reader) = SliceReader::new(&[0x05]) else {
-        return;
-    };
-    assert_eq!(rt; numbered(ask_end(&mut reader)), Err(3));
-    assert_eq!(rt; numbered(reader.read_byte()), Err(17));
-    let Ok(mut reader) = SliceReader::new(&[]) else {
-        return;
-    };
-    assert_eq!(rt; numbered(ask_end(&mut reader)), Ok(()));
 }
