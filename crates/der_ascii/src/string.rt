@@ -7,6 +7,10 @@ ghost use Rattle.std.specs.Prelude.{◌≡◌, ◌↔◌, ◌^◌, ◌<◌, [], 
 ghost use Rattle.std.proofs.Common.{ap, sym};
 ghost use Rattle.std.specs.Cmp.Lexicographic.{bytes_decides};
 ghost use Rattle.std.specs.String.{string_bytes};
+ghost use Rattle.der_tlv.specs.ReaderState.{ReaderState, rest};
+ghost use Rattle.der_tlv.specs.Reading.{Stands};
+ghost use Rattle.der_elem.specs.Decoding.{DecodesValue};
+ghost use Rattle.der_elem.specs.RunningOut.{FaultsFirst};
 ghost use Rattle.der_elem.specs.OwnContents.{accepts_own};
 ghost use Rattle.der_ascii.specs.Characters.{are_characters, string_tag, parse_string, KeepsOwnedString, KeepsString};
 ghost use Rattle.der_ascii.specs.StringLaws.{parse_of_characters};
@@ -150,11 +154,17 @@ impl<const NUMBER: u8> OneTag for CharacterString<NUMBER> {
 }
 
 impl<'a, R: Reader<'a>, const NUMBER: u8> DecodeValue<'a, R> for CharacterString<NUMBER> {
+    /// # Errors
+    /// (17) on a failed reader; octets that are no characters (13); else (1) where memory runs out.
     fn decode_value(
         alloc: Global,
         reader: &mut R,
         header: Header,
-    ) -> Result<CharacterString<NUMBER>, Error> {
+    ) -> Result<CharacterString<NUMBER>, Error>
+        ensures exact { length (rest (R.state reader.old)) ≡ header.length → DecodesValue ⟦<CharacterString<NUMBER> as FormValue>⟧ header (R.state reader.old) (R.state reader.new) result }
+        ensures reader { Stands (R.state reader.old) (R.state reader.new) result }
+        ensures faults_first { length (rest (R.state reader.old)) ≡ header.length → FaultsFirst (parse_string NUMBER) (R.state reader.old) result }
+    {
         match CharacterStringRef::<NUMBER>::decode_value(alloc, reader, header) {
             Ok(string) => match string.ref_to_owned(alloc) {
                 Ok(string) => Ok(string),

@@ -1,8 +1,8 @@
 //! The canonical encoding of the value that octets encode.
 
-ghost use Rattle.std.specs.Prelude.{◌≡◌, Ok, IfOk};
+ghost use Rattle.std.specs.Prelude.{◌≡◌, Ok, IfOk, IfErr};
 ghost use Rattle.der_elem.specs.Decoding.{parse_all};
-ghost use Rattle.der_asn1_types.specs.Canonical.{Gives, EncodingOfRead};
+ghost use Rattle.der_asn1_types.specs.Canonical.{Gives, NotGiven, EncodingOfRead};
 
 use der_elem::laws::encodings_read_back;
 use der_elem::{Encode, FromDer};
@@ -13,12 +13,14 @@ use std::alloc::Global;
 /// that are made canonical twice are as they are made once.
 ///
 /// # Errors
-/// The first fault of the octets; (1) where memory runs out.
+/// The first fault of the octets; (1) where memory runs out: for a type that takes none to be read,
+/// only where the octets have no fault.
 pub fn canonical<'a, T: FromDer<'a> + Encode>(
     alloc: Global,
     octets: &'a [u8],
 ) -> Result<Vec<u8>, Error>
     ensures encoding { Gives result (parse_all T.parse octets.now) }
+    ensures refused { IfErr result (λ e. NotGiven T.TAKES_MEMORY (parse_all T.parse octets.now) e.kind) }
     ensures value { IfOk result (λ encoding. EncodingOfRead T.Form octets.now encoding.items) }
     ensures canonical { IfOk result (λ encoding.
         parse_all T.parse encoding.items ≡ Ok encoding.items) }

@@ -1,6 +1,9 @@
 -- Encodings with any tag, and what octets are read as them.
-use Rattle.std.specs.Prelude.{◌≡◌, ℕ, ◌+◌, List, drop, Result, Ok, Err}
+use Rattle.std.specs.Prelude.{◌≡◌, ℕ, ◌+◌, ◌⊎◌, List, drop, Result, Ok, Err, IsOk}
 use Rattle.der_tlv.specs.declared.error.ErrorKind.{ErrorKind}
+use Rattle.der_tlv.specs.declared.error.ErrorKind.TheVariants.{Memory}
+use Rattle.der_tlv.specs.declared.error.Error.{Error}
+use Rattle.der_tlv.specs.ReaderState.{ReaderState, unless_failed}
 use Rattle.der_tlv.specs.declared.encoding_rules.EncodingRules.{EncodingRules}
 use Rattle.der_tlv.specs.declared.header.Header.{Header}
 use Rattle.der_tlv.specs.declared.tag.Tag.{Tag}
@@ -22,3 +25,9 @@ parse_behind_header rules p octets (Ok (count, h)) = parse_contents h.tag parse_
 -- An encoding with any tag: the header's faults, then contents longer than what is left (2, 9).
 unfoldable pub parse_any : Parse
 parse_any rules p octets = parse_behind_header rules p octets (read_header p octets)
+
+-- why a type that finds every fault before it takes memory reads none: the first fault, or memory ran out for octets that have none
+abbrev pub AnyFaultsFirst : {T : Type 0} → ReaderState → Result T Error → Type 0
+AnyFaultsFirst old (Ok v) = Unit {0}
+AnyFaultsFirst old (Err e) =
+    (unless_failed (parse_any old.rules) old ≡ Err e.kind) ⊎ ((e.kind ≡ Memory) × IsOk (unless_failed (parse_any old.rules) old))

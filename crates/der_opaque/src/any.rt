@@ -8,13 +8,17 @@ ghost use Rattle.der_tlv.specs.declared.tag.Tag.TheVariants as tags;
 ghost use Rattle.der_tlv.specs.TagParts.{IsTag};
 ghost use Rattle.der_tlv.specs.TagEquality.{tag_eq-decides};
 ghost use Rattle.der_tlv.specs.HeaderOctets.{tlv};
+ghost use Rattle.der_tlv.specs.ReaderState.{ReaderState, rest};
+ghost use Rattle.der_tlv.specs.Reading.{Stands};
+ghost use Rattle.der_elem.specs.Decoding.{Decodes, DecodesValue};
+ghost use Rattle.der_elem.specs.RunningOut.{FaultsFirst};
 ghost use Rattle.der_elem.specs.Encoding.{NoVector};
 ghost use Rattle.der_elem.specs.OwnContents.{accepts_own};
 ghost use Rattle.der_opaque.specs.Opaque.{parse_octets, KeepsTagged};
 ghost use Rattle.der_tlv.specs.declared.encoding_rules.EncodingRules.TheVariants.{Der};
 ghost use Rattle.der_opaque.specs.DecodingAs.{DecodesAs};
 ghost use Rattle.der_opaque.specs.InSequence.{RefusesWith, CalledOn};
-ghost use Rattle.der_opaque.specs.AnyForm.{accepts_any, parse_any};
+ghost use Rattle.der_opaque.specs.AnyForm.{accepts_any, parse_any, AnyFaultsFirst};
 ghost use Rattle.der_opaque.specs.AnyLaws.{led_any, parse_of_any, begins_any, same_length_any, encoding_eq_any};
 ghost use Rattle.der_opaque.specs.AnyRef as borrowed;
 ghost use Rattle.der_tlv.specs.Views.{slice_reader_state};
@@ -315,7 +319,13 @@ impl Choice for Any {
 }
 
 impl<'a, R: Reader<'a>> DecodeValue<'a, R> for Any {
-    fn decode_value(alloc: Global, reader: &mut R, header: Header) -> Result<Any, Error> {
+    /// # Errors
+    /// (17) on a failed reader; else (1) where memory runs out.
+    fn decode_value(alloc: Global, reader: &mut R, header: Header) -> Result<Any, Error>
+        ensures exact { length (rest (R.state reader.old)) ≡ header.length → DecodesValue ⟦<Any as FormValue>⟧ header (R.state reader.old) (R.state reader.new) result }
+        ensures reader { Stands (R.state reader.old) (R.state reader.new) result }
+        ensures faults_first { length (rest (R.state reader.old)) ≡ header.length → FaultsFirst parse_octets (R.state reader.old) result }
+    {
         match AnyRef::decode_value(alloc, reader, header) {
             Ok(any) => match Any::from_ref(alloc, any) {
                 Ok(any) => Ok(any),
@@ -327,7 +337,13 @@ impl<'a, R: Reader<'a>> DecodeValue<'a, R> for Any {
 }
 
 impl<'a, R: Reader<'a>> Decode<'a, R> for Any {
-    fn decode(alloc: Global, reader: &mut R) -> Result<Any, Error> {
+    /// # Errors
+    /// (17) on a failed reader; the header's faults; contents longer than what is left (2), (9); else
+    /// (1) where memory runs out.
+    fn decode(alloc: Global, reader: &mut R) -> Result<Any, Error>
+        ensures decoded { Decodes ⟦<Any as Form>⟧ (R.state reader.old) (R.state reader.new) result }
+        ensures faults_first { AnyFaultsFirst (R.state reader.old) result }
+    {
         match AnyRef::decode(alloc, reader) {
             Ok(any) => match Any::from_ref(alloc, any) {
                 Ok(any) => Ok(any),
