@@ -118,6 +118,7 @@ fn read_short_signed<'a, R: Reader<'a>>(
 /// # Errors
 /// (17) on a failed reader. Else, in this order: no octets (7); more than the width (8); a
 /// redundant first octet (8).
+#[inline(always)]
 pub fn read_signed<'a, R: Reader<'a>>(
     reader: &mut R,
     header: Header,
@@ -177,6 +178,7 @@ fn read_short_unsigned<'a, R: Reader<'a>>(
 /// (17) on a failed reader. Else, in this order: no octets (7); more than the width and one (8); a
 /// 00 before an octet below 80 (8); a negative number (13); one octet more than the width, of which
 /// the first is not 00 (7).
+#[inline(always)]
 pub fn read_unsigned<'a, R: Reader<'a>>(
     reader: &mut R,
     header: Header,

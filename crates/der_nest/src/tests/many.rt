@@ -53,6 +53,7 @@ fn is_sorted_as_a_list(rt: &impl Abort, alloc: Global, numbers: Vec<u16>) -> Res
     let mut list = numbers.clone()?;
     list.sort()?;
     let mut octets = numbered(numbers.to_der(alloc))?;
+    assert!(rt; !octets.is_empty());
     octets[0] = 0x31;
     let set: SetOfVec<u16> = numbered(SetOfVec::try_from(numbers))?;
     assert!(rt; set.as_slice() == list.as_slice());
