@@ -10,8 +10,8 @@ use std::alloc::Global;
 
 /// The one encoding of a list of numbers, in memory.
 pub fn write_numbers(alloc: Global, numbers: &Vec<i64>) -> Result<Vec<u8>, Error>
-    ensures { IfOk result (λ octets. octets.items
-        ≡ tlv tags.Sequence (flat_map (λ n. tlv tags.Integer (integer_contents n)) numbers.now.items)) }
+    ensures { IfOk result (λ octets. octets.items ≡ tlv tags.Sequence
+        (flat_map (λ n. tlv tags.Integer (integer_contents n)) numbers.now.items)) }
 {
     numbers.to_der(alloc)
 }
