@@ -68,7 +68,8 @@ fn first_space(line: &[u8]) -> Option<usize>
 
 /// Reads the octets that hex digits stand for, or a `-` for none. Answers whether the text is such.
 fn read_octets(text: &[u8], octets: &mut Vec<u8>) -> Result<bool, AllocError>
-    ensures { IfOk result (λ is_read. octets_of text.now ≡ (if is_read then Some octets.new.items else None)) }
+    ensures { IfOk result (λ is_read.
+        octets_of text.now ≡ (if is_read then Some octets.new.items else None)) }
 {
     if text == b"-".as_slice() {
         octets.clear();

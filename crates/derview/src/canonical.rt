@@ -37,7 +37,8 @@ pub fn put_canonical_set<'a, T: Decode<'a, SliceReader<'a>> + Encode + DerOrd + 
     octets: &'a [u8],
     encoding: &mut KeptWriter,
 ) -> Result<(), Error>
-    ensures { Puts (parse_all (parse_tagged Set (parse_set T.parse)) octets.now) encoding.new.octets.items result }
+    ensures { Puts (parse_all (parse_tagged Set (parse_set T.parse)) octets.now)
+        encoding.new.octets.items result }
 {
     put_canonical::<SetOfVec<T>>(alloc, octets, encoding)
 }

@@ -25,7 +25,8 @@ pub fn has_more<R: BufRead>(reader: &mut R) -> io::Result<bool>
 /// Puts the next line, without its LF, in the place of what `line` holds. Answers whether there
 /// was one. A read that a signal interrupts is made again.
 pub fn read_line<R: BufRead>(reader: &mut R, line: &mut Vec<u8>) -> io::Result<bool>
-    ensures line { result ≡ Ok true → TakesLine (R.remaining reader.old) line.new.items (R.remaining reader.new) }
+    ensures line { result ≡ Ok true →
+        TakesLine (R.remaining reader.old) line.new.items (R.remaining reader.new) }
     ensures end { result ≡ Ok false → IsAtEnd (R.remaining reader.old) }
     ensures ended { result ≡ Ok false → Keeps (R.remaining reader.old) (R.remaining reader.new) }
     ensures err { OnErr result (TakesPart (R.remaining reader.old) (R.remaining reader.new)) }
@@ -56,7 +57,8 @@ enum Piece {
 
 /// Adds octets of a line that the reader has at hand, up to an LF, which it takes too.
 fn append_piece<R: BufRead>(reader: &mut R, line: &mut Vec<u8>) -> io::Result<Piece>
-    ensures piece { TakesPiece (R.remaining reader.old) (R.remaining reader.new) line.old.items line.new.items result }
+    ensures piece { TakesPiece (R.remaining reader.old) (R.remaining reader.new)
+        line.old.items line.new.items result }
 {
     let available = reader.fill_buf()?;
     if available.is_empty() {

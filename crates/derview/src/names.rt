@@ -36,7 +36,8 @@ pub fn put_canonical_of_name(
     octets: &[u8],
     encoding: &mut KeptWriter,
 ) -> Option<Result<(), Error>>
-    ensures { AnswersAs (canonical_function_of name.now) octets.now encoding.new.octets.items result }
+    ensures { AnswersAs (canonical_function_of name.now) octets.now
+        encoding.new.octets.items result }
 {
     if let Some(result) = put_plain(alloc, name, octets, encoding) {
         return Some(result);

@@ -31,8 +31,10 @@ impl<W: Write> OctetWriter<W> {
 
     /// Writes all of the octets, or a beginning of them.
     pub fn put(&mut self, octets: &[u8]) -> Result<(), Fault>
-        ensures ok { OnOk result (Appends (W.contents self.old.writer) (W.contents self.new.writer) octets.now) }
-        ensures err { OnErr result (AppendsFront (W.contents self.old.writer) (W.contents self.new.writer) octets.now) }
+        ensures ok { OnOk result
+            (Appends (W.contents self.old.writer) (W.contents self.new.writer) octets.now) }
+        ensures err { OnErr result
+            (AppendsFront (W.contents self.old.writer) (W.contents self.new.writer) octets.now) }
         ensures told { TellsFailure Fault.Output self.old.failure self.new.failure result }
         ensures output { IsErrOf result Fault.Output → HasFailed self.new.failure }
         ensures not_input { result ≢ Err Fault.Input }
@@ -62,7 +64,8 @@ impl<W: Write> OctetWriter<W> {
 /// Writes all of the octets.
 fn write_all<W: Write>(writer: &mut W, octets: &[u8]) -> io::Result<()>
     ensures ok { OnOk result (Appends (W.contents writer.old) (W.contents writer.new) octets.now) }
-    ensures err { OnErr result (AppendsFront (W.contents writer.old) (W.contents writer.new) octets.now) }
+    ensures err { OnErr result
+        (AppendsFront (W.contents writer.old) (W.contents writer.new) octets.now) }
 {
     let mut rest = octets;
     for _ in 0..u64::MAX {
@@ -76,7 +79,8 @@ fn write_all<W: Write>(writer: &mut W, octets: &[u8]) -> io::Result<()>
 
 /// Writes a beginning of the octets, and answers the rest: all of them where a signal interrupts it.
 fn write_some<'a, W: Write>(writer: &mut W, octets: &'a [u8]) -> io::Result<&'a [u8]>
-    ensures ok { IfOk result (λ rest. AppendsUpTo (W.contents writer.old) (W.contents writer.new) octets.now rest.now) }
+    ensures ok { IfOk result (λ rest.
+        AppendsUpTo (W.contents writer.old) (W.contents writer.new) octets.now rest.now) }
     ensures err { OnErr result (Keeps (W.contents writer.old) (W.contents writer.new)) }
 {
     match writer.write(octets) {

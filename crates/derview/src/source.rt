@@ -37,16 +37,20 @@ impl<R: BufRead> LineReader<R> {
     /// Puts the next line, without its LF, in the place of what `line` holds. Answers whether there
     /// was one.
     pub fn next_line(&mut self, line: &mut Vec<u8>) -> Result<bool, Fault>
-        ensures line { result ≡ Ok true → TakesLine (R.remaining self.old.reader) line.new.items (R.remaining self.new.reader) }
+        ensures line { result ≡ Ok true →
+            TakesLine (R.remaining self.old.reader) line.new.items (R.remaining self.new.reader) }
         ensures fewer { result ≡ Ok true → self.old.lines_left ≡ self.new.lines_left + 1 }
         ensures no_fewer { result ≢ Ok true → self.new.lines_left ≡ self.old.lines_left }
         ensures end { result ≡ Ok false → IsAtEnd (R.remaining self.old.reader) }
-        ensures ended { result ≡ Ok false → Keeps (R.remaining self.old.reader) (R.remaining self.new.reader) }
+        ensures ended { result ≡ Ok false →
+            Keeps (R.remaining self.old.reader) (R.remaining self.new.reader) }
         ensures told { TellsFailure Fault.Input self.old.failure self.new.failure result }
 
         // A line that is cut short is no line.
-        ensures err { OnErr result (TakesPart (R.remaining self.old.reader) (R.remaining self.new.reader)) }
-        ensures input { IsErrOf result Fault.Input → IsRefused self.new.failure self.old.lines_left (R.remaining self.old.reader) }
+        ensures err { OnErr result
+            (TakesPart (R.remaining self.old.reader) (R.remaining self.new.reader)) }
+        ensures input { IsErrOf result Fault.Input →
+            IsRefused self.new.failure self.old.lines_left (R.remaining self.old.reader) }
         ensures not_output { result ≢ Err Fault.Output }
     {
         if self.lines_left == 0 {
@@ -63,7 +67,8 @@ impl<R: BufRead> LineReader<R> {
 
     /// Notes the error with which a read failed, and answers its fault.
     fn fault(&mut self, error: &io::Error) -> Fault
-        ensures kept { (self.new.reader ≡ self.old.reader) × (self.new.lines_left ≡ self.old.lines_left) }
+        ensures reader { self.new.reader ≡ self.old.reader }
+        ensures lines_left { self.new.lines_left ≡ self.old.lines_left }
         ensures failure { self.new.failure ≡ Some (error_kind error.now) }
         ensures fault { IsFaultOf Fault.Input (error_kind error.now) result }
         ensures not_output { result ≢ Fault.Output }
@@ -83,7 +88,8 @@ impl<R: BufRead> LineReader<R> {
         ensures kept { Keeps (R.remaining self.old.reader) (R.remaining self.new.reader) }
         ensures told { TellsFailure Fault.Input self.old.failure self.new.failure result }
         ensures no_fewer { self.new.lines_left ≡ self.old.lines_left }
-        ensures input { IsErrOf result Fault.Input → IsRefused self.new.failure 0 (R.remaining self.old.reader) }
+        ensures input { IsErrOf result Fault.Input →
+            IsRefused self.new.failure 0 (R.remaining self.old.reader) }
         ensures not_output { result ≢ Err Fault.Output }
     {
         match has_more(&mut self.reader) {
