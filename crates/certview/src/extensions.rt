@@ -4,7 +4,8 @@ use crate::hexadecimal::push_digits;
 use crate::identifiers::{dotted, push_identifier};
 use crate::names::push_malformed;
 use der_certificate::Last;
-use der_pkix::{BasicConstraints, Extension, read_basic_constraints};
+use der_extensions::{BasicConstraints, read_basic_constraints};
+use der_pkix::Extension;
 use std::alloc::{AllocError, Global};
 use std::fmt::Write;
 

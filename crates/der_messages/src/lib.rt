@@ -1,4 +1,5 @@
-//! Tests of the messages of `der_pkix` and `der_certificate`: octets that OpenSSL wrote.
+//! Tests of the messages of `der_pkix`, `der_extensions`, `der_certificate` and `der_revocation`:
+//! octets that OpenSSL wrote.
 //!
 //! They stand in a crate of their own, since a crate with tests is proved twice, with and without
 //! them.

@@ -1,8 +1,10 @@
 //! Messages that OpenSSL wrote, read and written back, and octets that are refused.
 
 mod choices;
+mod extensions;
 mod keys;
 mod names;
+mod revocation;
 mod time_stamps;
 
 use der_tlv::Error;

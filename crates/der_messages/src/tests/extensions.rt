@@ -1,0 +1,163 @@
+//! Values of extensions that OpenSSL wrote, read and written back, and octets that are refused.
+
+use super::numbered;
+use der_extensions::{
+    read_authority_key_identifier, read_basic_constraints, read_ext_key_usage, read_general_name,
+    read_key_usage, read_subject_alt_name, read_subject_key_identifier,
+    write_authority_key_identifier, write_basic_constraints, write_ext_key_usage,
+    write_general_name, write_key_usage, write_subject_alt_name, write_subject_key_identifier,
+};
+use std::alloc::Global;
+use std::process::Abort;
+use std::test::Fail;
+
+fn constraints_again(alloc: Global, octets: &[u8]) -> Result<Vec<u8>, u8> {
+    match read_basic_constraints(alloc, octets) {
+        Ok(value) => numbered(write_basic_constraints(alloc, &value)),
+        Err(e) => Err(e.kind().number()),
+    }
+}
+
+fn alternative_names_again(alloc: Global, octets: &[u8]) -> Result<Vec<u8>, u8> {
+    match read_subject_alt_name(alloc, octets) {
+        Ok(value) => numbered(write_subject_alt_name(alloc, &value)),
+        Err(e) => Err(e.kind().number()),
+    }
+}
+
+fn general_name_again(alloc: Global, octets: &[u8]) -> Result<Vec<u8>, u8> {
+    match read_general_name(alloc, octets) {
+        Ok(value) => numbered(write_general_name(alloc, &value)),
+        Err(e) => Err(e.kind().number()),
+    }
+}
+
+fn usage_again(alloc: Global, octets: &[u8]) -> Result<Vec<u8>, u8> {
+    match read_key_usage(alloc, octets) {
+        Ok(value) => numbered(write_key_usage(alloc, &value)),
+        Err(e) => Err(e.kind().number()),
+    }
+}
+
+fn purposes_again(alloc: Global, octets: &[u8]) -> Result<Vec<u8>, u8> {
+    match read_ext_key_usage(alloc, octets) {
+        Ok(value) => numbered(write_ext_key_usage(alloc, &value)),
+        Err(e) => Err(e.kind().number()),
+    }
+}
+
+fn key_identifier_again(alloc: Global, octets: &[u8]) -> Result<Vec<u8>, u8> {
+    match read_subject_key_identifier(alloc, octets) {
+        Ok(value) => numbered(write_subject_key_identifier(alloc, &value)),
+        Err(e) => Err(e.kind().number()),
+    }
+}
+
+fn authority_again(alloc: Global, octets: &[u8]) -> Result<Vec<u8>, u8> {
+    match read_authority_key_identifier(alloc, octets) {
+        Ok(value) => numbered(write_authority_key_identifier(alloc, &value)),
+        Err(e) => Err(e.kind().number()),
+    }
+}
+
+#[test]
+fn constraints_are_written_back(rt: HostRuntime) -> Result<(), Fail> {
+    let alloc = rt.alloc();
+    for digits in ["3000", "30030101ff", "30060101ff020103"] {
+        let octets = hex::decode(alloc, digits)?;
+        let written = constraints_again(alloc, octets.as_slice())?;
+        assert_eq!(rt; written.as_slice(), octets.as_slice());
+    }
+    Ok(())
+}
+
+#[test]
+fn alternative_names_are_written_back(rt: HostRuntime) -> Result<(), Fail> {
+    let alloc = rt.alloc();
+    let octets = hex::decode(
+        alloc,
+        "3044820e6261726c65792e6578616d706c6581136d696c6c406261726c65792e6578616d706c658704c0000201861768747470733a2f2f6261726c65792e6578616d706c652f",
+    )?;
+    let written = alternative_names_again(alloc, octets.as_slice())?;
+    assert_eq!(rt; written.as_slice(), octets.as_slice());
+    Ok(())
+}
+
+#[test]
+fn a_name_of_another_kind_is_refused(rt: HostRuntime) -> Result<(), Fail> {
+    let alloc = rt.alloc();
+    // registeredID
+    let octets = hex::decode(alloc, "300588032a0304")?;
+    let again = alternative_names_again(alloc, octets.as_slice());
+    assert_eq!(rt; again.err(), Some(4));
+    let octets = hex::decode(alloc, "88032a0304")?;
+    let again = general_name_again(alloc, octets.as_slice());
+    assert_eq!(rt; again.err(), Some(4));
+    Ok(())
+}
+
+#[test]
+fn usages_are_written_back(rt: HostRuntime) -> Result<(), Fail> {
+    let alloc = rt.alloc();
+    for digits in ["030205a0", "03020106", "0303070080"] {
+        let octets = hex::decode(alloc, digits)?;
+        let written = usage_again(alloc, octets.as_slice())?;
+        assert_eq!(rt; written.as_slice(), octets.as_slice());
+    }
+    Ok(())
+}
+
+#[test]
+fn purposes_are_written_back(rt: HostRuntime) -> Result<(), Fail> {
+    let alloc = rt.alloc();
+    let octets = hex::decode(alloc, "301406082b0601050507030106082b06010505070302")?;
+    let written = purposes_again(alloc, octets.as_slice())?;
+    assert_eq!(rt; written.as_slice(), octets.as_slice());
+    Ok(())
+}
+
+#[test]
+fn key_identifiers_are_written_back(rt: HostRuntime) -> Result<(), Fail> {
+    let alloc = rt.alloc();
+    let octets = hex::decode(alloc, "0414d861bbf0f0e49add54a4c9082f3a2f0afa983135")?;
+    let written = key_identifier_again(alloc, octets.as_slice())?;
+    assert_eq!(rt; written.as_slice(), octets.as_slice());
+    Ok(())
+}
+
+#[test]
+fn authorities_are_written_back(rt: HostRuntime) -> Result<(), Fail> {
+    let alloc = rt.alloc();
+    let rows = [
+        // no field, the identifier alone, and all three
+        "3000",
+        "301680140894da7aed9f78720d852c7a00aae7c41f546dd2",
+        "305f80140894da7aed9f78720d852c7a00aae7c41f546dd2a131a42f302d310b3009060355040613025345310f300d060355040a0c064261726c6579310d300b06035504030c046d696c6c82141a97d371a1ffc8752e885333be272ab7dbd323cb",
+    ];
+    for digits in rows {
+        let octets = hex::decode(alloc, digits)?;
+        let written = authority_again(alloc, octets.as_slice())?;
+        assert_eq!(rt; written.as_slice(), octets.as_slice());
+    }
+    Ok(())
+}
+
+#[test]
+fn authorities_have_their_fields_in_order(rt: HostRuntime) -> Result<(), Fail> {
+    let alloc = rt.alloc();
+    let rows = [
+        // the fields exchanged, one twice, and an identifier behind a constructed tag
+        ("300782010580020102", 3),
+        ("30088002010280020102", 3),
+        ("3004a0020102", 3),
+        // a number in more octets than it needs
+        ("300482020005", 8),
+        ("30048003010203", 2),
+    ];
+    for (digits, number) in rows {
+        let octets = hex::decode(alloc, digits)?;
+        let again = authority_again(alloc, octets.as_slice());
+        assert_eq!(rt; again.err(), Some(number));
+    }
+    Ok(())
+}
