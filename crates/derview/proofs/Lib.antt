@@ -1,2 +1,2 @@
 pub mod Cuts
-pub mod PairsOfDigits
+pub mod Replies

@@ -1,5 +1,4 @@
 pub mod Answer
-pub mod DigitPairs
 pub mod Failure
 pub mod Fault
 pub mod Kept

@@ -5,7 +5,6 @@ ghost use Rattle.der_asn1_types.specs.ErrorKind.TheVariants.{Memory};
 ghost use Rattle.derview.specs.Answer.{answer_of, accepted_of, refused_of, octets_of, parts_of};
 ghost use Rattle.derview.specs.Lines.{reply_to, with_line_feed};
 
-use crate::digits::{read_digits, write_digits};
 use crate::kept_writer::KeptWriter;
 use crate::names::put_canonical_of_name;
 use der_asn1_types::ErrorKind;
@@ -79,7 +78,7 @@ fn read_octets(text: &[u8], octets: &mut Vec<u8>) -> Result<bool, AllocError>
         return Ok(false);
     }
     octets.resize(text.len() / 2, 0)?;
-    Ok(read_digits(text, octets))
+    Ok(hex::decode_to_slice(text, octets).is_ok())
 }
 
 fn put_bad_line(reply: &mut Vec<u8>) -> Result<(), AllocError>
@@ -115,7 +114,9 @@ fn fill_reply(encoding: &[u8], reply: &mut [u8])
 {
     let end = reply.len() - 1;
     reply[..3].copy_from_slice(b"ok ");
-    write_digits(encoding, &mut reply[3..end]);
+    if hex::encode_to_slice(encoding, &mut reply[3..end]).is_err() {
+        unreachable!();
+    }
     reply[end] = b'\n';
 }
 

@@ -12,7 +12,6 @@ use std::process::ExitCode;
 mod algorithm_identifier;
 mod answer;
 mod canonical;
-mod digits;
 mod fault;
 mod kept_writer;
 mod lines;
