@@ -5,4 +5,4 @@ use Rattle.derview.specs.declared.kept_writer.KeptWriter.{KeptWriter}
 
 abbrev pub kept_writer_state : KeptWriter → WriterState
 kept_writer_state w =
-    record { taken = w.octets.items; failed = w.failed; room = room_unless_failed w.failed (vec_capacity w.octets - vec_len w.octets); may_refuse = refuses_first_with is_memory w.failed }
+    record { taken = w.octets.items; start = (0, 0); failed = w.failed; room = room_unless_failed w.failed (vec_capacity w.octets - vec_len w.octets); may_refuse = refuses_first_with is_memory w.failed }
