@@ -21,8 +21,8 @@ use std::fmt::Write;
 ///
 /// # Errors
 /// The first fault of the octets, in the order of the three parts, and then the first of what is
-/// signed; (3) where octets are left over; (9) where there are more than 4294967295; (1) where memory
-/// runs out.
+/// signed; `ErrorKind::TrailingData` (3) where octets are left over; `ErrorKind::Overflow` (9)
+/// where there are more than 4294967295; `ErrorKind::Memory` (1) where memory runs out.
 pub fn shown(alloc: Global, octets: &[u8]) -> Result<String, Error>
     ensures { OnOk result (first_fault ⟦<Certificate<'static> as Form>⟧.parse octets.now ≡ None) }
 {

@@ -51,7 +51,8 @@ pub fn are_characters(number: u8, octets: &[u8]) -> bool
 /// The text that octets are.
 ///
 /// # Errors
-/// (13) for an octet that is no character of the type with this universal number.
+/// `ErrorKind::Value` (13) for an octet that is no character of the type with this universal
+/// number.
 pub fn text_of(number: u8, octets: &[u8]) -> Result<&str, ErrorKind>
     ensures text { IfOk result (λ text.
         (text.now ≡ octets.now) × (are_characters number octets.now ≡ true)) }

@@ -1,7 +1,7 @@
 //! Strings of characters that have one octet each (X.680 41, X.690 8.23).
 //!
 //! The contents octets are the characters. Reading refuses any octet that is no character of the
-//! type (13), and then where memory runs out (1).
+//! type (`ErrorKind::Value`, 13), and then where memory runs out (`ErrorKind::Memory`, 1).
 
 ghost use Rattle.std.specs.Prelude.{◌≡◌, ◌↔◌, ◌^◌, ◌<◌, [], Some, length, true, refl, IsTrue};
 ghost use Rattle.std.proofs.Common.{ap, sym};
@@ -43,8 +43,8 @@ impl<const NUMBER: u8> CharacterString<NUMBER> {
     /// A string of these characters, copied.
     ///
     /// # Errors
-    /// (13) for an octet that is no character of the type, and for more than 4294967295 octets; else
-    /// (1) where memory runs out.
+    /// `ErrorKind::Value` (13) for an octet that is no character of the type, and for more than
+    /// 4294967295 octets; else `ErrorKind::Memory` (1) where memory runs out.
     pub fn new(alloc: Global, octets: &[u8]) -> Result<CharacterString<NUMBER>, Error>
         ensures { KeepsOwnedString octets_of NUMBER octets.now result }
     {

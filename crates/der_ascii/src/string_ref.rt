@@ -1,7 +1,7 @@
 //! Borrowed strings of characters that have one octet each (X.680 41, X.690 8.23).
 //!
 //! The contents octets are the characters: the PrintableString `hi` is encoded as 13 02 68 69.
-//! Reading refuses any octet that is no character of the type (13).
+//! Reading refuses any octet that is no character of the type (`ErrorKind::Value`, 13).
 
 ghost use Rattle.std.specs.Prelude.{◌≡◌, ◌↔◌, ◌^◌, ◌<◌, [], Some, length, true, refl, IsTrue, IfOk, IfErr};
 ghost use Rattle.std.specs.Cmp.Lexicographic.{bytes_decides};
@@ -42,7 +42,8 @@ impl<'a, const NUMBER: u8> CharacterStringRef<'a, NUMBER> {
     /// A string of these characters.
     ///
     /// # Errors
-    /// (13) for an octet that is no character of the type, and for more than 4294967295 octets.
+    /// `ErrorKind::Value` (13) for an octet that is no character of the type, and for more than
+    /// 4294967295 octets.
     pub fn new(octets: &'a [u8]) -> Result<CharacterStringRef<'a, NUMBER>, Error>
         ensures { KeepsString octets_of NUMBER octets.now result }
     {
@@ -86,7 +87,7 @@ impl<'a, const NUMBER: u8> CharacterStringRef<'a, NUMBER> {
     /// The string, copied.
     ///
     /// # Errors
-    /// (1) where memory runs out.
+    /// `ErrorKind::Memory` (1) where memory runs out.
     pub fn ref_to_owned(self, alloc: Global) -> Result<CharacterString<NUMBER>, Error>
         ensures value { IfOk result (λ s. owned.octets_of s ≡ octets_of self.entry) }
         ensures err { IfErr result (λ e. e.kind ≡ kinds.Memory) }

@@ -13,8 +13,8 @@ use std::alloc::Global;
 /// that are made canonical twice are as they are made once.
 ///
 /// # Errors
-/// The first fault of the octets; (1) where memory runs out: for a type that takes none to be read,
-/// only where the octets have no fault.
+/// The first fault of the octets; `ErrorKind::Memory` (1) where memory runs out: for a type that
+/// takes none to be read, only where the octets have no fault.
 pub fn canonical<'a, T: FromDer<'a> + Encode>(
     alloc: Global,
     octets: &'a [u8],

@@ -21,7 +21,7 @@ pub trait AllowedLenBitString {
     /// Checks that the number of bits lies in the range.
     ///
     /// # Errors
-    /// (7) below `MIN_LEN` and above `MAX_LEN`.
+    /// `ErrorKind::Length` (7) below `MIN_LEN` and above `MAX_LEN`.
     fn check_bit_len(bit_len: u16) -> Result<(), Error>
         ensures ok { IsOk result ↔ ((MIN_LEN ≤ bit_len) × (bit_len ≤ MAX_LEN)) }
         ensures err { IfErr result (λ e. e.kind ≡ kinds.Length tags.BitString) }

@@ -53,9 +53,10 @@ impl BitString {
     /// The bits of `octets` without the lowest `unused_bits` of the last octet, which must be zero.
     ///
     /// # Errors
-    /// (13) for a number of unused bits over 7, or another than 0 where there is no octet, and for
-    /// an unused bit that is not zero; (7) for more than 4294967295 octets. (9) cannot occur, since
-    /// a `usize` of 64 bits can count the bits.
+    /// `ErrorKind::Value` (13) for a number of unused bits over 7, or another than 0 where there is
+    /// no octet, and for an unused bit that is not zero; `ErrorKind::Length` (7) for more than
+    /// 4294967295 octets. `ErrorKind::Overflow` (9) cannot occur, since a `usize` of 64 bits can
+    /// count the bits.
     pub fn new(unused_bits: u8, octets: Vec<u8>) -> Result<BitString, Error>
         ensures { KeepsBits contents_of unused_bits octets.items result }
     {
@@ -75,9 +76,9 @@ impl BitString {
     /// in the vector that was handed in.
     ///
     /// # Errors
-    /// (13) for a number of unused bits over 7, or another than 0 where there is no octet; (7) for
-    /// more than 4294967295 octets. The number of bits fits a `usize`, which has 64 bits, so there
-    /// is no (9).
+    /// `ErrorKind::Value` (13) for a number of unused bits over 7, or another than 0 where there is
+    /// no octet; `ErrorKind::Length` (7) for more than 4294967295 octets. The number of bits fits a
+    /// `usize`, which has 64 bits, so there is no (`ErrorKind::Overflow`, 9).
     pub fn new_cleared(unused_bits: u8, octets: Vec<u8>) -> Result<BitString, Error>
         ensures { KeepsCleared contents_of unused_bits octets.items result }
     {
@@ -100,7 +101,8 @@ impl BitString {
     /// The bits of these octets, all of them, copied.
     ///
     /// # Errors
-    /// (7) for more than 4294967295 octets; (1) where memory runs out.
+    /// `ErrorKind::Length` (7) for more than 4294967295 octets; `ErrorKind::Memory` (1) where
+    /// memory runs out.
     pub fn from_bytes(alloc: Global, octets: &[u8]) -> Result<BitString, Error>
         ensures value { IfOk result (λ s. contents_of s ≡ 0 ∷ octets.now) }
         ensures short { length octets.now < 2 ^ 32 → IfErr result (λ e. e.kind ≡ kinds.Memory) }

@@ -5,7 +5,8 @@
 //! octet, and the number 0. The unused bits are the lowest of the last octet, and are zero.
 //!
 //! Reading refuses no contents octets (9), then a number of unused bits over 7, or another than 0
-//! where there is no octet (13), then an unused bit that is not zero (8).
+//! where there is no octet (`ErrorKind::Value`, 13), then an unused bit that is not zero
+//! (`ErrorKind::Noncanonical`, 8).
 
 ghost use Rattle.std.specs.Prelude.{◌≡◌, ◌≢◌, ◌↔◌, MatchResult, MatchOption, ◌^◌, ◌<◌, ◌≤◌, [], ◌∷◌, length, true, refl, IsTrue, IfOk, IfErr, Some, None};
 ghost use Rattle.std.proofs.Common.{◌∙◌};
@@ -57,9 +58,10 @@ impl<'a> BitStringRef<'a> {
     /// The bits of `octets` without the lowest `unused_bits` of the last octet, which must be zero.
     ///
     /// # Errors
-    /// (13) for a number of unused bits over 7, or another than 0 where there is no octet, and for
-    /// an unused bit that is not zero; (7) for more than 4294967295 octets. (9) cannot occur, since
-    /// a `usize` of 64 bits can count the bits.
+    /// `ErrorKind::Value` (13) for a number of unused bits over 7, or another than 0 where there is
+    /// no octet, and for an unused bit that is not zero; `ErrorKind::Length` (7) for more than
+    /// 4294967295 octets. `ErrorKind::Overflow` (9) cannot occur, since a `usize` of 64 bits can
+    /// count the bits.
     pub fn new(unused_bits: u8, octets: &'a [u8]) -> Result<BitStringRef<'a>, Error>
         ensures { KeepsBits contents_of unused_bits octets.now result }
     {
@@ -78,7 +80,7 @@ impl<'a> BitStringRef<'a> {
     /// The bits of these octets, all of them.
     ///
     /// # Errors
-    /// (7) for more than 4294967295 octets.
+    /// `ErrorKind::Length` (7) for more than 4294967295 octets.
     pub fn from_bytes(octets: &'a [u8]) -> Result<BitStringRef<'a>, Error>
         ensures { KeepsAll contents_of octets.now result }
     {
@@ -166,7 +168,8 @@ impl<'a> BitStringRef<'a> {
     /// The octets of the bits, copied into a vector.
     ///
     /// # Errors
-    /// (13) where there are unused bits; (1) where memory runs out.
+    /// `ErrorKind::Value` (13) where there are unused bits; `ErrorKind::Memory` (1) where memory
+    /// runs out.
     pub fn to_vec(self, alloc: Global) -> Result<Vec<u8>, Error>
         ensures value { IfOk result (λ octets. contents_of self.entry ≡ 0 ∷ octets.items) }
         ensures unused { unused_count (contents_of self.entry) ≢ 0 → IfErr result (λ e.
@@ -183,7 +186,7 @@ impl<'a> BitStringRef<'a> {
     /// The string, copied.
     ///
     /// # Errors
-    /// (1) where memory runs out.
+    /// `ErrorKind::Memory` (1) where memory runs out.
     pub fn ref_to_owned(self, alloc: Global) -> Result<BitString, Error>
         ensures value { IfOk result (λ s. owned.contents_of s ≡ contents_of self.entry) }
         ensures err { IfErr result (λ e. e.kind ≡ kinds.Memory) }
@@ -451,7 +454,7 @@ impl<'a> TryFrom<AnyRef<'a>> for BitStringRef<'a> {
 
     /// # Errors
     /// (4) with no expected tag for another tag; the faults of contents octets in reading order: (9),
-    /// (13), (8).
+    /// `ErrorKind::Value` (13), `ErrorKind::Noncanonical` (8).
     fn try_from(any: AnyRef<'a>) -> Result<BitStringRef<'a>, Error> {
         if !any.tag().equals(Tag::BitString) {
             return Err(Error::from_kind(any.tag().unexpected_error(None)));
@@ -473,7 +476,7 @@ impl<'a> TryFrom<&'a Any> for BitStringRef<'a> {
 
     /// # Errors
     /// (4) with no expected tag for another tag; the faults of contents octets in reading order: (9),
-    /// (13), (8).
+    /// `ErrorKind::Value` (13), `ErrorKind::Noncanonical` (8).
     fn try_from(any: &'a Any) -> Result<BitStringRef<'a>, Error> {
         BitStringRef::try_from(any.to_ref())
     }

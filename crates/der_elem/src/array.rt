@@ -4,7 +4,8 @@
 //! `[true]` is encoded as 30 03 01 01 FF.
 //!
 //! Reading refuses with the first fault of an item, from the left, where there are fewer items (7),
-//! and behind an item too many (10), which is read first. It takes memory only where an item does.
+//! and behind an item too many (`ErrorKind::Overlength`, 10), which is read first. It takes memory
+//! only where an item does.
 
 ghost use Rattle.std.specs.Prelude.{flat_map, refl};
 ghost use Rattle.std.specs.List.{list_any};
@@ -118,7 +119,7 @@ impl<T: Form + Copy, const N: usize> CopyIsDuplicate for [T; N] {}
 /// Reads the next item of an array.
 ///
 /// # Errors
-/// (7) where there is none; the item's.
+/// `ErrorKind::Length` (7) where there is none; the item's.
 fn decode_item<'a, R: Reader<'a>, T: Decode<'a, R>>(
     alloc: Global,
     reader: &mut R,
@@ -134,7 +135,7 @@ fn decode_item<'a, R: Reader<'a>, T: Decode<'a, R>>(
 /// Checks that there is no item more.
 ///
 /// # Errors
-/// The item's; (10) for an item.
+/// The item's; `ErrorKind::Overlength` (10) for an item.
 fn refuse_item<'a, R: Reader<'a>, T: Decode<'a, R>>(
     alloc: Global,
     reader: &mut R,

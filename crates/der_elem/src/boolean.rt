@@ -29,7 +29,8 @@ use std::alloc::Global;
 /// The truth value that contents octets represent, under DER: 00 is false, FF is true.
 ///
 /// # Errors
-/// (7) unless there is one octet; (8) for any octet but 00 and FF.
+/// `ErrorKind::Length` (7) unless there is one octet; `ErrorKind::Noncanonical` (8) for any octet
+/// but 00 and FF.
 pub fn boolean_of(octets: &[u8]) -> Result<bool, ErrorKind>
     ensures { ReadsBoolean octets.now result }
 {

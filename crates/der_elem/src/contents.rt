@@ -10,7 +10,7 @@ use der_tlv::{Error, Header, Reader};
 /// Reads all of the octets that the reader shows, of which the header says how many there are.
 ///
 /// # Errors
-/// (17) on a failed reader.
+/// `ErrorKind::Failed` (17) on a failed reader.
 pub fn read_contents<'a, R: Reader<'a>>(reader: &mut R, header: Header) -> Result<&'a [u8], Error>
     ensures reader { Stands (R.state reader.old) (R.state reader.new) result }
     ensures ok { length (rest (R.state reader.old)) ≡ header.length → IfOk result (λ octets.

@@ -16,9 +16,10 @@ pub trait DecodeValue<'a, R: Reader<'a>>: FormValue + ValueMemory {
     /// many there are.
     ///
     /// # Errors
-    /// (17) on a failed reader; the first fault of the contents octets, in the type's order; (1)
-    /// where the type takes memory. Where the header says another length than the reader shows, the
-    /// value may be any, and a refusal leaves the reader as every other does.
+    /// `ErrorKind::Failed` (17) on a failed reader; the first fault of the contents octets, in the
+    /// type's order; `ErrorKind::Memory` (1) where the type takes memory. Where the header says
+    /// another length than the reader shows, the value may be any, and a refusal leaves the reader
+    /// as every other does.
     fn decode_value(alloc: Global, reader: &mut R, header: Header) -> Result<Self, Error>
         ensures exact { length (rest (R.state reader.old)) ≡ header.length
             → DecodesValue Self.FormValue header (R.state reader.old) (R.state reader.new) result }
@@ -30,8 +31,8 @@ pub trait Decode<'a, R: Reader<'a>>: Form + FormMemory {
     /// Reads the value whose encoding stands at the reader's position.
     ///
     /// # Errors
-    /// (17) on a failed reader; the first fault of the octets, in reading order; (1) where the type
-    /// takes memory.
+    /// `ErrorKind::Failed` (17) on a failed reader; the first fault of the octets, in reading
+    /// order; `ErrorKind::Memory` (1) where the type takes memory.
     fn decode(alloc: Global, reader: &mut R) -> Result<Self, Error>
         ensures { Decodes Self.Form (R.state reader.old) (R.state reader.new) result };
 }
@@ -41,8 +42,9 @@ pub trait FromDer<'a>: Form {
     /// The value that these octets encode.
     ///
     /// # Errors
-    /// (9) for more than 4294967295 octets; the first fault of the octets, in reading order; (3)
-    /// where octets are left over; (1) where the type takes memory.
+    /// `ErrorKind::Overflow` (9) for more than 4294967295 octets; the first fault of the octets, in
+    /// reading order; `ErrorKind::TrailingData` (3) where octets are left over;
+    /// `ErrorKind::Memory` (1) where the type takes memory.
     fn from_der(alloc: Global, bytes: &'a [u8]) -> Result<Self, Error>
         ensures { ReadsAll Self.Form bytes.now result };
 }

@@ -20,7 +20,7 @@ pub trait Duplicate: Form {
     /// A copy of the value.
     ///
     /// # Errors
-    /// (1) where memory runs out.
+    /// `ErrorKind::Memory` (1) where memory runs out.
     fn duplicate(&self) -> Result<Self, Error>
         ensures ok { IfOk result (λ copy. is_copy self.now copy) }
         ensures kind { IfErr result (λ e. e.kind ≡ Memory) }
@@ -44,7 +44,7 @@ pub trait DuplicateValue: FormValue {
     /// A copy of the value.
     ///
     /// # Errors
-    /// (1) where memory runs out.
+    /// `ErrorKind::Memory` (1) where memory runs out.
     fn duplicate_value(&self) -> Result<Self, Error>
         ensures ok { IfOk result (λ copy. is_copy_value self.now copy) }
         ensures kind { IfErr result (λ e. e.kind ≡ Memory) }

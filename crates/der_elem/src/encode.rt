@@ -12,14 +12,16 @@ pub trait EncodeValue: FormValue {
     /// How many contents octets the value has.
     ///
     /// # Errors
-    /// (9) where there are more than 4294967295; (1) where items are read again.
+    /// `ErrorKind::Overflow` (9) where there are more than 4294967295; `ErrorKind::Memory` (1)
+    /// where items are read again.
     fn value_len(&self) -> Result<Length, Error>
         ensures { Measures (Self.contents self.now) (Self.re_reads_value self.now) result };
 
     /// Writes the contents octets.
     ///
     /// # Errors
-    /// The writer's; (9) where there are more than 4294967295; (1) where items are read again.
+    /// The writer's; `ErrorKind::Overflow` (9) where there are more than 4294967295;
+    /// `ErrorKind::Memory` (1) where items are read again.
     fn encode_value<W: Writer>(&self, writer: &mut W) -> Result<(), Error>
         ensures { Encodes (Self.contents self.now) (Self.re_reads_value self.now)
             (W.state writer.old) (W.state writer.new) result };
@@ -30,15 +32,16 @@ pub trait Encode: Form {
     /// How many octets the encoding has.
     ///
     /// # Errors
-    /// (9) where there are more than 4294967295; (1) where items are read again.
+    /// `ErrorKind::Overflow` (9) where there are more than 4294967295; `ErrorKind::Memory` (1)
+    /// where items are read again.
     fn encoded_len(&self) -> Result<Length, Error>
         ensures { Measures (Self.encoding self.now) (Self.re_reads self.now) result };
 
     /// Writes the encoding.
     ///
     /// # Errors
-    /// The writer's; (9) where there are more than 4294967295 octets; (1) where items are read
-    /// again.
+    /// The writer's; `ErrorKind::Overflow` (9) where there are more than 4294967295 octets;
+    /// `ErrorKind::Memory` (1) where items are read again.
     fn encode<W: Writer>(&self, writer: &mut W) -> Result<(), Error>
         ensures { Encodes (Self.encoding self.now) (Self.re_reads self.now) (W.state writer.old)
             (W.state writer.new) result };
@@ -48,8 +51,8 @@ pub trait Encode: Form {
     /// is refused a beginning of the encoding may stand in it.
     ///
     /// # Errors
-    /// (10) where the buffer is too short; (9) where there are more than 4294967295 octets; (1)
-    /// where items are read again.
+    /// `ErrorKind::Overlength` (10) where the buffer is too short; `ErrorKind::Overflow` (9) where
+    /// there are more than 4294967295 octets; `ErrorKind::Memory` (1) where items are read again.
     fn encode_to_slice<'b>(&self, buffer: &'b mut [u8]) -> Result<&'b [u8], Error>
         ensures ok { IfOk result (λ octets. octets.now ≡ Self.encoding self.now) }
         ensures start { IfOk result (λ octets. octets.ref_ptr ≡ buffer.entry.ref_ptr) }
@@ -65,8 +68,9 @@ pub trait Encode: Form {
     /// The encoding, in a vector.
     ///
     /// # Errors
-    /// (9) where there are more than 4294967295 octets; (1) where there are no more and memory runs
-    /// out, and where items are read again.
+    /// `ErrorKind::Overflow` (9) where there are more than 4294967295 octets;
+    /// `ErrorKind::Memory` (1) where there are no more and memory runs out, and where items are
+    /// read again.
     fn to_der(&self, alloc: Global) -> Result<Vec<u8>, Error>
         ensures ok { IfOk result (λ octets. octets.items ≡ Self.encoding self.now) }
         ensures fits { OnOk result (length (Self.encoding self.now) < 2 ^ 32) }

@@ -26,8 +26,8 @@ pub trait DecodeField<'a, R: Reader<'a>>: Form + FormMemory {
     /// Reads the field at the reader's position.
     ///
     /// # Errors
-    /// As `Decode::decode`: the first fault of the field's octets; (17) on a reader that has failed;
-    /// (1) where the type takes memory.
+    /// As `Decode::decode`: the first fault of the field's octets; `ErrorKind::Failed` (17) on a
+    /// reader that has failed; `ErrorKind::Memory` (1) where the type takes memory.
     fn decode_field(alloc: Global, reader: &mut R) -> Result<Self, Error>
         ensures { DecodesField Self.Form (R.state reader.old) (R.state reader.new) result };
 }

@@ -18,7 +18,8 @@ use std::cmp::Ordering;
 /// How many octets the encodings of the items have.
 ///
 /// # Errors
-/// (9) where there are more than 4294967295; (1) where an item reads its items again.
+/// `ErrorKind::Overflow` (9) where there are more than 4294967295; `ErrorKind::Memory` (1) where an
+/// item reads its items again.
 pub fn items_len<T: Encode>(items: &[T]) -> Result<Length, Error>
     ensures { Measures (flat_map T.encoding items.now) (list_any T.re_reads items.now) result }
 {
@@ -32,8 +33,8 @@ pub fn items_len<T: Encode>(items: &[T]) -> Result<Length, Error>
 /// Writes the encodings of the items, in their order.
 ///
 /// # Errors
-/// The writer's; (9) where one has more than 4294967295 octets; (1) where an item reads its items
-/// again.
+/// The writer's; `ErrorKind::Overflow` (9) where one has more than 4294967295 octets;
+/// `ErrorKind::Memory` (1) where an item reads its items again.
 pub fn encode_items<T: Encode, W: Writer>(items: &[T], writer: &mut W) -> Result<(), Error>
     ensures { Encodes (flat_map T.encoding items.now) (list_any T.re_reads items.now)
         (W.state writer.old) (W.state writer.new) result }
@@ -65,7 +66,7 @@ pub fn cmp_items<T: DerOrd + Tagged>(items: &[T], others: &[T]) -> Result<Orderi
 /// Copies of the items.
 ///
 /// # Errors
-/// (1) where memory runs out.
+/// `ErrorKind::Memory` (1) where memory runs out.
 pub(crate) fn duplicate_items<T: Duplicate>(alloc: Global, items: &[T]) -> Result<Vec<T>, Error>
     ensures ok { IfOk result (λ copies. AreCopies T.is_copy items.now copies.items) }
     ensures kind { IfErr result (λ e. e.kind ≡ Memory) }

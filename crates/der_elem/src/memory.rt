@@ -16,10 +16,10 @@ pub trait Memory {
     const IS_TAKEN: bool;
 }
 
-/// Reading takes memory, and may refuse with (1).
+/// Reading takes memory, and may refuse with `ErrorKind::Memory` (1).
 pub struct WithMemory;
 
-/// Reading takes no memory, and never refuses with (1).
+/// Reading takes no memory, and never refuses with `ErrorKind::Memory` (1).
 pub struct WithoutMemory;
 
 impl Memory for WithMemory {
@@ -60,7 +60,8 @@ impl<T: ValueMemory + FixedTag> FormMemory for T {
 pub trait TakesMemory {
     ghost TAKES_MEMORY: { Bool };
 
-    /// Whether reading takes memory: where it is false, no reading refuses with (1).
+    /// Whether reading takes memory: where it is false, no reading refuses with
+    /// `ErrorKind::Memory` (1).
     const TAKES_MEMORY: bool;
 }
 

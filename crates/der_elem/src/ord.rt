@@ -13,8 +13,8 @@ pub trait ValueOrd: FormValue {
     /// The lexicographic order of the contents octets of two values.
     ///
     /// # Errors
-    /// (9) where one has more than 4294967295 octets, (13) where the two are not comparable, (1)
-    /// where one reads items again.
+    /// `ErrorKind::Overflow` (9) where one has more than 4294967295 octets, `ErrorKind::Value` (13)
+    /// where the two are not comparable, `ErrorKind::Memory` (1) where one reads items again.
     fn value_cmp(&self, other: &Self) -> Result<Ordering, Error>
         ensures { ComparesValues Self.FormValue self.now other.now result };
 }
@@ -24,8 +24,9 @@ pub trait DerOrd: Form {
     /// The lexicographic order of the encodings of two values.
     ///
     /// # Errors
-    /// (9) where one has more than 4294967295 octets, (13) where the two are not comparable and
-    /// their headers are equal, (1) where one reads items again.
+    /// `ErrorKind::Overflow` (9) where one has more than 4294967295 octets, `ErrorKind::Value` (13)
+    /// where the two are not comparable and their headers are equal, `ErrorKind::Memory` (1) where
+    /// one reads items again.
     fn der_cmp(&self, other: &Self) -> Result<Ordering, Error>
         ensures { Compares Self.Form self.now other.now result };
 }

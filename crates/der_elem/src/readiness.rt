@@ -7,7 +7,7 @@ use der_tlv::{Error, Length, Reader};
 /// Checks that the reader has not failed.
 ///
 /// # Errors
-/// (17) on a failed reader.
+/// `ErrorKind::Failed` (17) on a failed reader.
 #[inline]
 pub fn check_ready<'a, R: Reader<'a>>(reader: &mut R) -> Result<(), Error>
     ensures { AsksReady (R.state reader.old) (R.state reader.new) result }

@@ -25,7 +25,7 @@ use std::alloc::Global;
 /// Checks that there are no contents octets.
 ///
 /// # Errors
-/// (7) for any octet.
+/// `ErrorKind::Length` (7) for any octet.
 pub fn null_of(octets: &[u8]) -> Result<(), ErrorKind>
     ensures { ReadsNull octets.now result }
 {

@@ -10,7 +10,7 @@ use std::str;
 /// The text that octets are.
 ///
 /// # Errors
-/// (12) for octets that are not UTF-8.
+/// `ErrorKind::Utf8` (12) for octets that are not UTF-8.
 #[tactic(auto, using(crate::proofs::Utf8::utf8_tested, crate::proofs::Utf8::not_utf8_tested))]
 pub fn text_of(octets: &[u8]) -> Result<&str, ErrorKind>
     ensures text { IfOk result (λ text. (text.now ≡ octets.now) × (is_utf8 octets.now ≡ true)) }

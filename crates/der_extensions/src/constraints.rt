@@ -23,8 +23,9 @@ pub type BasicConstraints<'a> = FieldSequence<
 /// Reads constraints: all of the octets, under DER.
 ///
 /// # Errors
-/// The first fault of the octets, in the order of the fields; (3) where octets are left over; (9)
-/// where there are more than 4294967295; (1) where a type that takes memory has none.
+/// The first fault of the octets, in the order of the fields; `ErrorKind::TrailingData` (3) where
+/// octets are left over; `ErrorKind::Overflow` (9) where there are more than 4294967295;
+/// `ErrorKind::Memory` (1) where a type that takes memory has none.
 pub fn read_basic_constraints<'a>(
     alloc: Global,
     bytes: &'a [u8],
@@ -37,7 +38,8 @@ pub fn read_basic_constraints<'a>(
 /// The one encoding of constraints.
 ///
 /// # Errors
-/// (1) where memory runs out; (9) where there are more than 4294967295 octets.
+/// `ErrorKind::Memory` (1) where memory runs out; `ErrorKind::Overflow` (9) where there are more
+/// than 4294967295 octets.
 pub fn write_basic_constraints<'a>(
     alloc: Global,
     value: &BasicConstraints<'a>,

@@ -11,7 +11,7 @@ use der_tlv::Error;
 use std::alloc::Global;
 
 /// The alternatives that name a host, a resource or a mailbox. A name of another one is refused
-/// (4):
+/// (`ErrorKind::TagUnexpected`, 4):
 ///
 /// ```text
 /// GeneralName ::= CHOICE {

@@ -12,8 +12,9 @@ pub trait DecodeFields<'a, R: Reader<'a>>: FieldList {
     /// Reads the fields from all of the octets that the reader shows.
     ///
     /// # Errors
-    /// (17) on a failed reader; the first fault of the fields, in their order; (3) where octets are
-    /// left over; (1) where a field takes memory.
+    /// `ErrorKind::Failed` (17) on a failed reader; the first fault of the fields, in their order;
+    /// `ErrorKind::TrailingData` (3) where octets are left over; `ErrorKind::Memory` (1) where a
+    /// field takes memory.
     fn decode_fields(alloc: Global, reader: &mut R) -> Result<Self, Error>
         ensures { DecodesFields Self.FieldList (R.state reader.old) (R.state reader.new) result };
 }
@@ -23,14 +24,16 @@ pub trait EncodeFields: FieldList {
     /// How many octets the fields have.
     ///
     /// # Errors
-    /// (9) where there are more than 4294967295; (1) where items are read again.
+    /// `ErrorKind::Overflow` (9) where there are more than 4294967295; `ErrorKind::Memory` (1)
+    /// where items are read again.
     fn fields_len(&self) -> Result<Length, Error>
         ensures { Measures (Self.joined self.now) (Self.re_read self.now) result };
 
     /// Writes the fields.
     ///
     /// # Errors
-    /// The writer's; (9) where there are more than 4294967295; (1) where items are read again.
+    /// The writer's; `ErrorKind::Overflow` (9) where there are more than 4294967295;
+    /// `ErrorKind::Memory` (1) where items are read again.
     fn encode_fields<W: Writer>(&self, writer: &mut W) -> Result<(), Error>
         ensures { Encodes (Self.joined self.now) (Self.re_read self.now) (W.state writer.old)
             (W.state writer.new) result };

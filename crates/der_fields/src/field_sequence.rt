@@ -4,7 +4,7 @@
 //! another: the fields 5 and `true` are encoded as 30 06 02 01 05 01 01 FF.
 //!
 //! Reading refuses with the first fault of the fields, in their order, and then octets that are left
-//! over (3). The order of two values is that of their encodings.
+//! over (`ErrorKind::TrailingData`, 3). The order of two values is that of their encodings.
 
 ghost use Rattle.std.specs.Prelude.{◌≡◌, refl, IfOk, IfErr};
 ghost use Rattle.der_elem.specs.Encoding.{NoVector};
@@ -129,8 +129,9 @@ impl<F: DuplicateFields> DuplicateValue for FieldSequence<F> {
 /// It is `from_der`, proved once for every list, so that a call at a long list is checked sooner.
 ///
 /// # Errors
-/// The first fault of the octets, in the order of the fields; (3) where octets are left over; (9)
-/// where there are more than 4294967295; (1) where a type that takes memory has none.
+/// The first fault of the octets, in the order of the fields; `ErrorKind::TrailingData` (3) where
+/// octets are left over; `ErrorKind::Overflow` (9) where there are more than 4294967295;
+/// `ErrorKind::Memory` (1) where a type that takes memory has none.
 pub fn read_sequence<'a, F: DecodeFields<'a, SliceReader<'a>> + FieldsMemory>(
     alloc: Global,
     bytes: &'a [u8],
@@ -145,7 +146,8 @@ pub fn read_sequence<'a, F: DecodeFields<'a, SliceReader<'a>> + FieldsMemory>(
 /// It is `to_der`, proved once for every list.
 ///
 /// # Errors
-/// (1) where memory runs out; (9) where there are more than 4294967295 octets.
+/// `ErrorKind::Memory` (1) where memory runs out; `ErrorKind::Overflow` (9) where there are more
+/// than 4294967295 octets.
 pub fn write_sequence<F: EncodeFields>(
     alloc: Global,
     value: &FieldSequence<F>,

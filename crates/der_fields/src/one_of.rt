@@ -210,8 +210,8 @@ impl<A: DerOrd + Tagged + EncodeValue, B: DerOrd + Tagged + EncodeValue> DerOrd 
 /// The order of the encodings of two values, where their tags or their lengths decide it.
 ///
 /// # Errors
-/// (13) where both are equal; (9) where a value has more than 4294967295 contents octets; (1) where
-/// items are read again.
+/// `ErrorKind::Value` (13) where both are equal; `ErrorKind::Overflow` (9) where a value has more
+/// than 4294967295 contents octets; `ErrorKind::Memory` (1) where items are read again.
 fn cmp_headers<A: Tagged + EncodeValue, B: Tagged + EncodeValue>(
     value: &A,
     other: &B,

@@ -22,8 +22,8 @@ pub trait FieldsOrd: FieldList {
     /// The lexicographic order of the joined encodings.
     ///
     /// # Errors
-    /// (9) where one has more than 4294967295 octets, (13) where two are not comparable, (1) where
-    /// one reads items again.
+    /// `ErrorKind::Overflow` (9) where one has more than 4294967295 octets, `ErrorKind::Value` (13)
+    /// where two are not comparable, `ErrorKind::Memory` (1) where one reads items again.
     fn cmp_fields(&self, other: &Self) -> Result<Ordering, Error>
         ensures { ComparesFields Self.FieldList self.now other.now result };
 }

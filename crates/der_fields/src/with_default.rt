@@ -4,7 +4,7 @@
 //!
 //! At the end of the SEQUENCE, and before a tag that none of the value's encodings begins with, the
 //! value is the default; the next tag's faults come first. Reading refuses with the value's faults,
-//! and the default's own encoding (8).
+//! and the default's own encoding (`ErrorKind::Noncanonical`, 8).
 
 ghost use Rattle.std.specs.Prelude.{◌≡◌};
 ghost use Rattle.std.specs.Cmp.{on_per};

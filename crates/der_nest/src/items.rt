@@ -11,7 +11,7 @@ use der_tlv::Error;
 /// Copies of the items.
 ///
 /// # Errors
-/// (1) where copying an item takes memory, and it runs out.
+/// `ErrorKind::Memory` (1) where copying an item takes memory, and it runs out.
 pub(crate) fn duplicate_items<T: Duplicate + Default, const N: usize>(
     items: &[T],
 ) -> Result<ArrayVec<T, N>, Error>

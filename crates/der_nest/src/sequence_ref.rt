@@ -32,7 +32,7 @@ impl<'a> SequenceRef<'a> {
     /// A sequence with these contents octets.
     ///
     /// # Errors
-    /// (7) for more than 4294967295 octets.
+    /// `ErrorKind::Length` (7) for more than 4294967295 octets.
     pub fn new(octets: &'a [u8]) -> Result<SequenceRef<'a>, Error>
         ensures { KeepsOctets octets_of tags.Sequence octets.now result }
     {

@@ -4,9 +4,10 @@
 //! non-decreasing order, so that the INTEGERs 8 and 7 are encoded as 31 06 02 01 07 02 01 08.
 //!
 //! Reading keeps the octets alone. It refuses with the first fault of an item, from the left, or with
-//! (11) where an item is smaller than the one before, and (1) where the item takes memory. The items
-//! are read by a reader of the contents octets alone, from position 0 on, under DER. They are read
-//! again by each call that gives, writes or compares them.
+//! `ErrorKind::SetOrdering` (11) where an item is smaller than the one before, and
+//! `ErrorKind::Memory` (1) where the item takes memory. The items are read by a reader of the
+//! contents octets alone, from position 0 on, under DER. They are read again by each call that
+//! gives, writes or compares them.
 
 ghost use Rattle.std.specs.Prelude.{⊤, ◌≡◌, length, false, ◌==◌, IfOk, IfErr};
 ghost use Rattle.std.proofs.Common.{ap, subst, sym};
@@ -124,7 +125,7 @@ impl<'a, T: Decode<'a, SliceReader<'a>> + Duplicate> SetOfRef<'a, T> {
     /// The item at a place, if there is one: a copy of that of a slice, or one that is read again.
     ///
     /// # Errors
-    /// (1) where the copy, or reading, takes memory.
+    /// `ErrorKind::Memory` (1) where the copy, or reading, takes memory.
     pub fn get(&self, index: usize) -> Option<Result<T, Error>>
         ensures { GivesAt T.Form T.is_copy T.takes_memory_to_copy self.now index result }
     {
@@ -142,7 +143,7 @@ impl<'a, T: Decode<'a, SliceReader<'a>> + Duplicate> SetOfRef<'a, T> {
     /// The items, in a set on the heap.
     ///
     /// # Errors
-    /// (1) where memory runs out.
+    /// `ErrorKind::Memory` (1) where memory runs out.
     pub fn ref_to_owned(&self, alloc: Global) -> Result<SetOfVec<T>, Error>
         ensures ok { IfOk result (AreItemsOf T.Form T.is_copy self.now) }
         ensures refused { IfErr result (λ e. e.kind ≡ Memory) }
@@ -191,7 +192,8 @@ impl<'a, T: DerOrd> TryFrom<&'a [T]> for SetOfRef<'a, T> {
     /// A set of items that stand in order.
     ///
     /// # Errors
-    /// (11) where an item is smaller than the one before, or the two have no comparison.
+    /// `ErrorKind::SetOrdering` (11) where an item is smaller than the one before, or the two have
+    /// no comparison.
     fn try_from(items: &'a [T]) -> Result<SetOfRef<'a, T>, Error> {
         'items: for i in 0..items.len() {
             match follows(&items[..i], &items[i]) {

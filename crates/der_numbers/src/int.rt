@@ -33,8 +33,8 @@ use std::alloc::{AllocError, Global};
 /// The integer 128 is kept as 00 80, and encoded as 02 02 00 80.
 ///
 /// # Errors
-/// Reading refuses no contents octets and a redundant first octet (8): 00 before an octet below 80,
-/// or FF before one of 80 or more.
+/// Reading refuses no contents octets and a redundant first octet (`ErrorKind::Noncanonical`, 8):
+/// 00 before an octet below 80, or FF before one of 80 or more.
 #[derive(Debug, Drop, PartialEq, Eq, PartialOrd, Ord)]
 pub struct Int {
     pub(crate) octets: Vec<u8>,
@@ -49,8 +49,8 @@ impl Int {
     /// The integer that the octets are the two's complement of, in the fewest octets.
     ///
     /// # Errors
-    /// (7) for no octets, and where the fewest are more than 4294967295; else (1) where memory runs
-    /// out.
+    /// `ErrorKind::Length` (7) for no octets, and where the fewest are more than 4294967295; else
+    /// `ErrorKind::Memory` (1) where memory runs out.
     pub fn new(alloc: Global, octets: &[u8]) -> Result<Int, Error>
         ensures { KeepsCopy contents_of octets.now
             (integer_contents (twos_complement octets.now)) result }
@@ -64,8 +64,9 @@ impl Int {
     /// The same number.
     ///
     /// # Errors
-    /// (7) where there are more than 4294967295 contents octets, as of a number of 4294967295 octets
-    /// of which the first is 80 or more; else (1) where memory runs out.
+    /// `ErrorKind::Length` (7) where there are more than 4294967295 contents octets, as of a number
+    /// of 4294967295 octets of which the first is 80 or more; else `ErrorKind::Memory` (1) where
+    /// memory runs out.
     pub fn from_uint(alloc: Global, number: Uint) -> Result<Int, Error>
         ensures { CopiesWithinLength contents_of (unsigned.contents_of number) result }
     {

@@ -32,8 +32,8 @@ use std::alloc::Global;
 /// The integer 128 is kept as 00 80, and encoded as 02 02 00 80.
 ///
 /// # Errors
-/// Reading refuses no contents octets and a redundant first octet (8): 00 before an octet below 80,
-/// or FF before one of 80 or more.
+/// Reading refuses no contents octets and a redundant first octet (`ErrorKind::Noncanonical`, 8):
+/// 00 before an octet below 80, or FF before one of 80 or more.
 #[derive(Clone, Copy, Debug, PartialEq, Eq, PartialOrd, Ord)]
 pub struct IntRef<'a> {
     pub(crate) octets: &'a [u8],
@@ -49,7 +49,7 @@ impl<'a> IntRef<'a> {
     /// The integer that the octets are the two's complement of, in the fewest octets.
     ///
     /// # Errors
-    /// (7) for no octets, and where the fewest are more than 4294967295.
+    /// `ErrorKind::Length` (7) for no octets, and where the fewest are more than 4294967295.
     pub fn new(octets: &'a [u8]) -> Result<IntRef<'a>, Error>
         ensures { KeepsNumber contents_of octets.now
             (integer_contents (twos_complement octets.now)) result }
@@ -67,7 +67,7 @@ impl<'a> IntRef<'a> {
     /// The integer that has these contents octets.
     ///
     /// # Errors
-    /// None, or a redundant first octet (8).
+    /// None, or a redundant first octet (`ErrorKind::Noncanonical`, 8).
     fn from_contents(octets: &'a [u8]) -> Result<IntRef<'a>, ErrorKind>
         requires { length octets.now < 2 ^ 32 }
         ensures { TakesContents contents_of integer_or_fault octets.now result }
@@ -103,7 +103,7 @@ impl<'a> IntRef<'a> {
     /// The integer, copied.
     ///
     /// # Errors
-    /// (1) where memory runs out.
+    /// `ErrorKind::Memory` (1) where memory runs out.
     pub fn ref_to_owned(self, alloc: Global) -> Result<Int, Error>
         ensures { CopiesContents owned.contents_of (contents_of self.entry) result }
     {

@@ -55,7 +55,7 @@ impl Int {
     /// An `Int` with the value `number`.
     ///
     /// # Errors
-    /// (1) where memory runs out.
+    /// `ErrorKind::Memory` (1) where memory runs out.
     pub fn try_from_i8(alloc: Global, number: i8) -> Result<Int, Error>
         ensures { CopiesContents signed.contents_of (integer_contents number) result }
     {
@@ -65,7 +65,7 @@ impl Int {
     /// An `Int` with the value `number`.
     ///
     /// # Errors
-    /// (1) where memory runs out.
+    /// `ErrorKind::Memory` (1) where memory runs out.
     pub fn try_from_i16(alloc: Global, number: i16) -> Result<Int, Error>
         ensures { CopiesContents signed.contents_of (integer_contents number) result }
     {
@@ -75,7 +75,7 @@ impl Int {
     /// An `Int` with the value `number`.
     ///
     /// # Errors
-    /// (1) where memory runs out.
+    /// `ErrorKind::Memory` (1) where memory runs out.
     pub fn try_from_i32(alloc: Global, number: i32) -> Result<Int, Error>
         ensures { CopiesContents signed.contents_of (integer_contents number) result }
     {
@@ -85,7 +85,7 @@ impl Int {
     /// An `Int` with the value `number`.
     ///
     /// # Errors
-    /// (1) where memory runs out.
+    /// `ErrorKind::Memory` (1) where memory runs out.
     pub fn try_from_i64(alloc: Global, number: i64) -> Result<Int, Error>
         ensures { CopiesContents signed.contents_of (integer_contents number) result }
     {
@@ -95,7 +95,7 @@ impl Int {
     /// An `Int` with the value `number`.
     ///
     /// # Errors
-    /// (1) where memory runs out.
+    /// `ErrorKind::Memory` (1) where memory runs out.
     pub fn try_from_i128(alloc: Global, number: i128) -> Result<Int, Error>
         ensures { CopiesContents signed.contents_of (integer_contents number) result }
     {
@@ -107,7 +107,7 @@ impl Uint {
     /// A `Uint` with the value `number`.
     ///
     /// # Errors
-    /// (1) where memory runs out.
+    /// `ErrorKind::Memory` (1) where memory runs out.
     pub fn try_from_u8(alloc: Global, number: u8) -> Result<Uint, Error>
         ensures { CopiesContents unsigned.contents_of (natural_contents number) result }
     {
@@ -117,7 +117,7 @@ impl Uint {
     /// A `Uint` with the value `number`.
     ///
     /// # Errors
-    /// (1) where memory runs out.
+    /// `ErrorKind::Memory` (1) where memory runs out.
     pub fn try_from_u16(alloc: Global, number: u16) -> Result<Uint, Error>
         ensures { CopiesContents unsigned.contents_of (natural_contents number) result }
     {
@@ -127,7 +127,7 @@ impl Uint {
     /// A `Uint` with the value `number`.
     ///
     /// # Errors
-    /// (1) where memory runs out.
+    /// `ErrorKind::Memory` (1) where memory runs out.
     pub fn try_from_u32(alloc: Global, number: u32) -> Result<Uint, Error>
         ensures { CopiesContents unsigned.contents_of (natural_contents number) result }
     {
@@ -137,7 +137,7 @@ impl Uint {
     /// A `Uint` with the value `number`.
     ///
     /// # Errors
-    /// (1) where memory runs out.
+    /// `ErrorKind::Memory` (1) where memory runs out.
     pub fn try_from_u64(alloc: Global, number: u64) -> Result<Uint, Error>
         ensures { CopiesContents unsigned.contents_of (natural_contents number) result }
     {
@@ -147,7 +147,7 @@ impl Uint {
     /// A `Uint` with the value `number`.
     ///
     /// # Errors
-    /// (1) where memory runs out.
+    /// `ErrorKind::Memory` (1) where memory runs out.
     pub fn try_from_u128(alloc: Global, number: u128) -> Result<Uint, Error>
         ensures { CopiesContents unsigned.contents_of (natural_contents number) result }
     {

@@ -39,7 +39,7 @@ pub fn strip_redundant(octets: &[u8]) -> &[u8]
 /// Whether the octets are contents octets of an integer.
 ///
 /// # Errors
-/// None, or a redundant first octet (8).
+/// None, or a redundant first octet (`ErrorKind::Noncanonical`, 8).
 pub fn check_integer(octets: &[u8]) -> Result<(), ErrorKind>
     ensures ok { IfOk result (λ _.
         (0 < length octets.now) × (octets.now ≡ integer_contents (twos_complement octets.now))
@@ -96,7 +96,8 @@ pub fn is_high(octets: &[u8]) -> bool
 /// Whether the octets are contents octets of a number that is not negative.
 ///
 /// # Errors
-/// In this order: none, or a 00 before an octet below 80 (8); a first octet of 80 or more (13).
+/// In this order: none, or a 00 before an octet below 80 (`ErrorKind::Noncanonical`, 8); a first
+/// octet of 80 or more (`ErrorKind::Value`, 13).
 pub fn check_natural(octets: &[u8]) -> Result<(), ErrorKind>
     ensures ok { IfOk result (λ _.
         (0 < length octets.now) × (octets.now ≡ natural_contents (big_endian_number octets.now))
@@ -115,7 +116,7 @@ pub fn check_natural(octets: &[u8]) -> Result<(), ErrorKind>
 /// How many contents octets a number has, of which these are the octets without leading zeros.
 ///
 /// # Errors
-/// (9) for more than 4294967295.
+/// `ErrorKind::Overflow` (9) for more than 4294967295.
 pub fn contents_len(octets: &[u8]) -> Result<Length, Error>
     requires { 0 < length octets.now }
     ensures { FitsLength (length (with_sign_octet octets.now)) result }

@@ -36,11 +36,12 @@ use std::cmp::Ordering;
 ///
 /// The number 128 is kept as 80, without leading zeros, and encoded as 02 02 00 80. A number of
 /// 4294967295 octets of which the first is 80 or more has one contents octet more, and so no
-/// encoding: writing it is refused (9).
+/// encoding: writing it is refused (`ErrorKind::Overflow`, 9).
 ///
 /// # Errors
-/// Reading refuses, in this order: no contents octets, or 00 before an octet below 80 (8); a first
-/// octet of 80 or more, which makes the integer negative (13).
+/// Reading refuses, in this order: no contents octets, or 00 before an octet below 80
+/// (`ErrorKind::Noncanonical`, 8); a first octet of 80 or more, which makes the integer negative
+/// (`ErrorKind::Value`, 13).
 #[derive(Debug, Drop)]
 pub struct Uint {
     pub(crate) octets: Vec<u8>,
@@ -57,8 +58,8 @@ impl Uint {
     /// The number that the octets say, highest octet first.
     ///
     /// # Errors
-    /// (7) for no octets, and where more than 4294967295 are left without leading zeros; else (1)
-    /// where memory runs out.
+    /// `ErrorKind::Length` (7) for no octets, and where more than 4294967295 are left without
+    /// leading zeros; else `ErrorKind::Memory` (1) where memory runs out.
     pub fn new(alloc: Global, octets: &[u8]) -> Result<Uint, Error>
         ensures { KeepsNaturalCopy contents_of octets.now result }
     {

@@ -38,11 +38,12 @@ use std::cmp::Ordering;
 ///
 /// The number 128 is kept as 80, without leading zeros, and encoded as 02 02 00 80. A number of
 /// 4294967295 octets of which the first is 80 or more has one contents octet more, and so no
-/// encoding: writing it is refused (9).
+/// encoding: writing it is refused (`ErrorKind::Overflow`, 9).
 ///
 /// # Errors
-/// Reading refuses, in this order: no contents octets, or 00 before an octet below 80 (8); a first
-/// octet of 80 or more, which makes the integer negative (13).
+/// Reading refuses, in this order: no contents octets, or 00 before an octet below 80
+/// (`ErrorKind::Noncanonical`, 8); a first octet of 80 or more, which makes the integer negative
+/// (`ErrorKind::Value`, 13).
 #[derive(Clone, Copy, Debug)]
 pub struct UintRef<'a> {
     pub(crate) octets: &'a [u8],
@@ -59,7 +60,8 @@ impl<'a> UintRef<'a> {
     /// The number that the octets say, highest octet first.
     ///
     /// # Errors
-    /// (7) for no octets, and where more than 4294967295 are left without leading zeros.
+    /// `ErrorKind::Length` (7) for no octets, and where more than 4294967295 are left without
+    /// leading zeros.
     pub fn new(octets: &'a [u8]) -> Result<UintRef<'a>, Error>
         ensures { KeepsNatural contents_of octets.now result }
     {
@@ -76,7 +78,8 @@ impl<'a> UintRef<'a> {
     /// The number that has these contents octets.
     ///
     /// # Errors
-    /// In this order: none, or a 00 before an octet below 80 (8); a first octet of 80 or more (13).
+    /// In this order: none, or a 00 before an octet below 80 (`ErrorKind::Noncanonical`, 8); a
+    /// first octet of 80 or more (`ErrorKind::Value`, 13).
     #[tactic(auto, using(crate::specs::UnsignedLaws::sign_octet_length))]
     fn from_contents(octets: &'a [u8]) -> Result<UintRef<'a>, ErrorKind>
         requires { length octets.now < 2 ^ 32 }
@@ -118,7 +121,7 @@ impl<'a> UintRef<'a> {
     /// The number, copied.
     ///
     /// # Errors
-    /// (1) where memory runs out.
+    /// `ErrorKind::Memory` (1) where memory runs out.
     pub fn ref_to_owned(self, alloc: Global) -> Result<Uint, Error>
         ensures { CopiesContents owned.contents_of (contents_of self.entry) result }
     {
@@ -277,7 +280,8 @@ impl<'a> TryFrom<AnyRef<'a>> for UintRef<'a> {
 
     /// # Errors
     /// (4) with no expected tag for another tag; else, in this order: no contents octets, or 00
-    /// before an octet below 80 (8); a first octet of 80 or more (13).
+    /// before an octet below 80 (`ErrorKind::Noncanonical`, 8); a first octet of 80 or more
+    /// (`ErrorKind::Value`, 13).
     fn try_from(any: AnyRef<'a>) -> Result<UintRef<'a>, Error> {
         if !any.tag().equals(Tag::Integer) {
             return Err(Error::from_kind(any.tag().unexpected_error(None)));
@@ -299,7 +303,8 @@ impl<'a> TryFrom<&'a Any> for UintRef<'a> {
 
     /// # Errors
     /// (4) with no expected tag for another tag; else, in this order: no contents octets, or 00
-    /// before an octet below 80 (8); a first octet of 80 or more (13).
+    /// before an octet below 80 (`ErrorKind::Noncanonical`, 8); a first octet of 80 or more
+    /// (`ErrorKind::Value`, 13).
     fn try_from(any: &'a Any) -> Result<UintRef<'a>, Error> {
         UintRef::try_from(any.to_ref())
     }

@@ -51,7 +51,7 @@ impl Any {
     /// A value with this tag and these contents octets.
     ///
     /// # Errors
-    /// (7) with the tag for more than 4294967295 octets.
+    /// `ErrorKind::Length` (7) with the tag for more than 4294967295 octets.
     pub fn new(tag: Tag, value: Vec<u8>) -> Result<Any, Error>
         ensures { KeepsTagged tag_of contents_of tag value.items result }
     {
@@ -76,7 +76,7 @@ impl Any {
     /// A copy of a borrowed value.
     ///
     /// # Errors
-    /// (1) where memory runs out.
+    /// `ErrorKind::Memory` (1) where memory runs out.
     pub fn from_ref(alloc: Global, any: AnyRef<'_>) -> Result<Any, Error>
         ensures value { IfOk result (λ v. (tag_of v ≡ borrowed.tag_of any.entry)
             × (contents_of v ≡ borrowed.contents_of any.entry)) }
@@ -92,8 +92,9 @@ impl Any {
     /// The tag and the contents octets of another value.
     ///
     /// # Errors
-    /// (9) where it has more than 4294967295 contents octets; (1) where it has no more and memory runs
-    /// out, and where items are read again.
+    /// `ErrorKind::Overflow` (9) where it has more than 4294967295 contents octets;
+    /// `ErrorKind::Memory` (1) where it has no more and memory runs out, and where items are read
+    /// again.
     pub fn encode_from<T: Tagged + EncodeValue>(alloc: Global, value: &T) -> Result<Any, Error>
         ensures ok { IfOk result (λ any.
             (tag_of any ≡ T.tag_of value.now) × (contents_of any ≡ T.contents value.now)) }
@@ -127,8 +128,8 @@ impl Any {
     /// A value of the type from the contents octets, under DER.
     ///
     /// # Errors
-    /// (4) with no expected tag where no value of the type has the tag; the first fault of the
-    /// contents octets; (1) where the type takes memory.
+    /// `ErrorKind::TagUnexpected` (4) with no expected tag where no value of the type has the tag;
+    /// the first fault of the contents octets; `ErrorKind::Memory` (1) where the type takes memory.
     pub fn decode_as<'a, T: Choice + DecodeValue<'a, SliceReader<'a>>>(
         &'a self,
         alloc: Global,
@@ -141,8 +142,8 @@ impl Any {
     /// A value of the type from the contents octets, under these rules.
     ///
     /// # Errors
-    /// (4) with no expected tag where no value of the type has the tag; the first fault of the
-    /// contents octets; (1) where the type takes memory.
+    /// `ErrorKind::TagUnexpected` (4) with no expected tag where no value of the type has the tag;
+    /// the first fault of the contents octets; `ErrorKind::Memory` (1) where the type takes memory.
     pub fn decode_as_encoding<'a, T: Choice + DecodeValue<'a, SliceReader<'a>>>(
         &'a self,
         alloc: Global,
@@ -157,8 +158,9 @@ impl Any {
     /// Reads the contents octets of a SEQUENCE, all of them, by a function.
     ///
     /// # Errors
-    /// (4) with SEQUENCE expected for another tag; the function's; (17) where it answered a value
-    /// although its reader had refused; (3) where octets are left over.
+    /// `ErrorKind::TagUnexpected` (4) with SEQUENCE expected for another tag; the function's;
+    /// `ErrorKind::Failed` (17) where it answered a value although its reader had refused;
+    /// `ErrorKind::TrailingData` (3) where octets are left over.
     pub fn sequence<'a, T: Drop, E: From<Error>, F: FnOnce(&mut SliceReader<'a>) -> Result<T, E>>(
         &'a self,
         f: F,
@@ -339,7 +341,7 @@ impl<'a, R: Reader<'a>> DecodeValue<'a, R> for Any {
 impl<'a, R: Reader<'a>> Decode<'a, R> for Any {
     /// # Errors
     /// (17) on a failed reader; the header's faults; contents longer than what is left (2), (9); else
-    /// (1) where memory runs out.
+    /// `ErrorKind::Memory` (1) where memory runs out.
     fn decode(alloc: Global, reader: &mut R) -> Result<Any, Error>
         ensures decoded { Decodes ⟦<Any as Form>⟧ (R.state reader.old) (R.state reader.new) result }
         ensures faults_first { AnyFaultsFirst (R.state reader.old) result }

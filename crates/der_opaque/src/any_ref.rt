@@ -52,7 +52,7 @@ impl<'a> AnyRef<'a> {
     /// A value with this tag and these contents octets.
     ///
     /// # Errors
-    /// (7) with the tag for more than 4294967295 octets.
+    /// `ErrorKind::Length` (7) with the tag for more than 4294967295 octets.
     pub fn new(tag: Tag, value: &'a [u8]) -> Result<AnyRef<'a>, Error>
         ensures { KeepsTagged tag_of contents_of tag value.now result }
     {
@@ -89,8 +89,8 @@ impl<'a> AnyRef<'a> {
     /// A value of the type from the contents octets, under DER.
     ///
     /// # Errors
-    /// (4) with no expected tag where no value of the type has the tag; the first fault of the
-    /// contents octets; (1) where the type takes memory.
+    /// `ErrorKind::TagUnexpected` (4) with no expected tag where no value of the type has the tag;
+    /// the first fault of the contents octets; `ErrorKind::Memory` (1) where the type takes memory.
     pub fn decode_as<T: Choice + DecodeValue<'a, SliceReader<'a>>>(
         self,
         alloc: Global,
@@ -104,8 +104,8 @@ impl<'a> AnyRef<'a> {
     /// A value of the type from the contents octets, under these rules.
     ///
     /// # Errors
-    /// (4) with no expected tag where no value of the type has the tag; the first fault of the
-    /// contents octets; (1) where the type takes memory.
+    /// `ErrorKind::TagUnexpected` (4) with no expected tag where no value of the type has the tag;
+    /// the first fault of the contents octets; `ErrorKind::Memory` (1) where the type takes memory.
     pub fn decode_as_encoding<T: Choice + DecodeValue<'a, SliceReader<'a>>>(
         self,
         alloc: Global,
@@ -127,8 +127,9 @@ impl<'a> AnyRef<'a> {
     /// Reads the contents octets of a SEQUENCE, all of them, by a function.
     ///
     /// # Errors
-    /// (4) with SEQUENCE expected for another tag; the function's; (17) where it answered a value
-    /// although its reader had refused; (3) where octets are left over.
+    /// `ErrorKind::TagUnexpected` (4) with SEQUENCE expected for another tag; the function's;
+    /// `ErrorKind::Failed` (17) where it answered a value although its reader had refused;
+    /// `ErrorKind::TrailingData` (3) where octets are left over.
     pub fn sequence<T: Drop, E: From<Error>, F: FnOnce(&mut SliceReader<'a>) -> Result<T, E>>(
         self,
         f: F,
@@ -158,7 +159,7 @@ impl<'a> AnyRef<'a> {
     /// The value, copied.
     ///
     /// # Errors
-    /// (1) where memory runs out.
+    /// `ErrorKind::Memory` (1) where memory runs out.
     pub fn ref_to_owned(self, alloc: Global) -> Result<Any, Error>
         ensures value { IfOk result (λ v.
             (owned.tag_of v ≡ tag_of self.entry) × (owned.contents_of v ≡ contents_of self.entry)) }
@@ -362,8 +363,9 @@ impl<'a> TryFrom<&'a [u8]> for AnyRef<'a> {
     /// The value that these octets encode, and nothing else, under DER.
     ///
     /// # Errors
-    /// (9) for more than 4294967295 octets; the first fault of the header; (2) or (9) for contents
-    /// that are longer than what is left; (3) where octets are left over.
+    /// `ErrorKind::Overflow` (9) for more than 4294967295 octets; the first fault of the header;
+    /// `ErrorKind::Incomplete` (2) or `ErrorKind::Overflow` (9) for contents that are longer than
+    /// what is left; `ErrorKind::TrailingData` (3) where octets are left over.
     fn try_from(bytes: &'a [u8]) -> Result<AnyRef<'a>, Error> {
         let mut reader = match SliceReader::new(bytes) {
             Ok(reader) => reader,

@@ -21,8 +21,9 @@ use der_tlv::{Error, Tag};
 /// The integer that carried contents octets are, at a width of up to 16 octets.
 ///
 /// # Errors
-/// (4) with no expected tag for another tag than INTEGER. Else, in this order: no octets (7); more
-/// than the width (8); a redundant first octet (8).
+/// `ErrorKind::TagUnexpected` (4) with no expected tag for another tag than INTEGER. Else, in this
+/// order: no octets (`ErrorKind::Length`, 7); more than the width (`ErrorKind::Noncanonical`, 8); a
+/// redundant first octet (`ErrorKind::Noncanonical`, 8).
 fn signed_as(any: AnyRef<'_>, width: usize) -> Result<i128, Error>
     requires some { 0 < width }
     requires most { width ≤ 16 }
@@ -40,9 +41,11 @@ fn signed_as(any: AnyRef<'_>, width: usize) -> Result<i128, Error>
 /// The number that carried contents octets are, at a width of up to 16 octets.
 ///
 /// # Errors
-/// (4) with no expected tag for another tag than INTEGER. Else, in this order: no octets (7); more
-/// than the width and one (8); a 00 before an octet below 80 (8); a negative number (13); one octet
-/// more than the width, of which the first is not 00 (7).
+/// `ErrorKind::TagUnexpected` (4) with no expected tag for another tag than INTEGER. Else, in this
+/// order: no octets (`ErrorKind::Length`, 7); more than the width and one
+/// (`ErrorKind::Noncanonical`, 8); a 00 before an octet below 80 (`ErrorKind::Noncanonical`, 8); a
+/// negative number (`ErrorKind::Value`, 13); one octet more than the width, of which the first is
+/// not 00 (`ErrorKind::Length`, 7).
 fn unsigned_as(any: AnyRef<'_>, width: usize) -> Result<u128, Error>
     requires some { 0 < width }
     requires most { width ≤ 16 }
@@ -65,8 +68,9 @@ impl<'a> TryFrom<AnyRef<'a>> for bool {
     /// The truth value that one contents octet is, under DER: 00 for false, FF for true.
     ///
     /// # Errors
-    /// (4) with no expected tag for another tag; (7) unless there is one contents octet; (8) for any
-    /// octet but 00 and FF.
+    /// `ErrorKind::TagUnexpected` (4) with no expected tag for another tag; `ErrorKind::Length` (7)
+    /// unless there is one contents octet; `ErrorKind::Noncanonical` (8) for any octet but 00 and
+    /// FF.
     fn try_from(any: AnyRef<'a>) -> Result<bool, Error> {
         if !any.tag.equals(Tag::Boolean) {
             return Err(Error::from_kind(any.tag.unexpected_error(None)));
@@ -86,7 +90,8 @@ impl<'a> TryFrom<AnyRef<'a>> for () {
     /// The value of NULL, of no contents octets.
     ///
     /// # Errors
-    /// (4) with no expected tag for another tag; (7) for any contents octets.
+    /// `ErrorKind::TagUnexpected` (4) with no expected tag for another tag; `ErrorKind::Length` (7)
+    /// for any contents octets.
     fn try_from(any: AnyRef<'a>) -> Result<(), Error> {
         if !any.tag.equals(Tag::Null) {
             return Err(Error::from_kind(any.tag.unexpected_error(None)));
@@ -107,7 +112,8 @@ impl<'a> TryFrom<AnyRef<'a>> for &'a str {
     /// The text of a UTF8String, which the contents octets are in UTF-8.
     ///
     /// # Errors
-    /// (4) with no expected tag for another tag; (12) for octets that are not UTF-8.
+    /// `ErrorKind::TagUnexpected` (4) with no expected tag for another tag; `ErrorKind::Utf8` (12)
+    /// for octets that are not UTF-8.
     fn try_from(any: AnyRef<'a>) -> Result<&'a str, Error> {
         if !any.tag.equals(Tag::Utf8String) {
             return Err(Error::from_kind(any.tag.unexpected_error(None)));
@@ -127,8 +133,8 @@ impl<'a> TryFrom<AnyRef<'a>> for i8 {
     /// The integer that the contents octets are the two's complement of, under DER.
     ///
     /// # Errors
-    /// (4) with no expected tag for another tag; (7) for no octets; (8) for more than 1, or a
-    /// redundant first octet.
+    /// `ErrorKind::TagUnexpected` (4) with no expected tag for another tag; `ErrorKind::Length` (7)
+    /// for no octets; `ErrorKind::Noncanonical` (8) for more than 1, or a redundant first octet.
     fn try_from(any: AnyRef<'a>) -> Result<i8, Error> {
         match signed_as(any, 1) {
             Ok(integer) => Ok(integer as i8),
@@ -145,8 +151,8 @@ impl<'a> TryFrom<AnyRef<'a>> for i16 {
     /// The integer that the contents octets are the two's complement of, under DER.
     ///
     /// # Errors
-    /// (4) with no expected tag for another tag; (7) for no octets; (8) for more than 2, or a
-    /// redundant first octet.
+    /// `ErrorKind::TagUnexpected` (4) with no expected tag for another tag; `ErrorKind::Length` (7)
+    /// for no octets; `ErrorKind::Noncanonical` (8) for more than 2, or a redundant first octet.
     fn try_from(any: AnyRef<'a>) -> Result<i16, Error> {
         match signed_as(any, 2) {
             Ok(integer) => Ok(integer as i16),
@@ -163,8 +169,8 @@ impl<'a> TryFrom<AnyRef<'a>> for i32 {
     /// The integer that the contents octets are the two's complement of, under DER.
     ///
     /// # Errors
-    /// (4) with no expected tag for another tag; (7) for no octets; (8) for more than 4, or a
-    /// redundant first octet.
+    /// `ErrorKind::TagUnexpected` (4) with no expected tag for another tag; `ErrorKind::Length` (7)
+    /// for no octets; `ErrorKind::Noncanonical` (8) for more than 4, or a redundant first octet.
     fn try_from(any: AnyRef<'a>) -> Result<i32, Error> {
         match signed_as(any, 4) {
             Ok(integer) => Ok(integer as i32),
@@ -181,8 +187,8 @@ impl<'a> TryFrom<AnyRef<'a>> for i64 {
     /// The integer that the contents octets are the two's complement of, under DER.
     ///
     /// # Errors
-    /// (4) with no expected tag for another tag; (7) for no octets; (8) for more than 8, or a
-    /// redundant first octet.
+    /// `ErrorKind::TagUnexpected` (4) with no expected tag for another tag; `ErrorKind::Length` (7)
+    /// for no octets; `ErrorKind::Noncanonical` (8) for more than 8, or a redundant first octet.
     fn try_from(any: AnyRef<'a>) -> Result<i64, Error> {
         match signed_as(any, 8) {
             Ok(integer) => Ok(integer as i64),
@@ -199,8 +205,8 @@ impl<'a> TryFrom<AnyRef<'a>> for i128 {
     /// The integer that the contents octets are the two's complement of, under DER.
     ///
     /// # Errors
-    /// (4) with no expected tag for another tag; (7) for no octets; (8) for more than 16, or a
-    /// redundant first octet.
+    /// `ErrorKind::TagUnexpected` (4) with no expected tag for another tag; `ErrorKind::Length` (7)
+    /// for no octets; `ErrorKind::Noncanonical` (8) for more than 16, or a redundant first octet.
     fn try_from(any: AnyRef<'a>) -> Result<i128, Error> {
         signed_as(any, 16)
     }
@@ -215,9 +221,10 @@ impl<'a> TryFrom<AnyRef<'a>> for u8 {
     /// DER.
     ///
     /// # Errors
-    /// (4) with no expected tag for another tag; (7) for no octets; (8) for more than 2, or a 00
-    /// before an octet below 80; (13) for a negative number; (7) for 2 octets of which the first
-    /// is not 00.
+    /// `ErrorKind::TagUnexpected` (4) with no expected tag for another tag; `ErrorKind::Length` (7)
+    /// for no octets; `ErrorKind::Noncanonical` (8) for more than 2, or a 00 before an octet below
+    /// 80; `ErrorKind::Value` (13) for a negative number; `ErrorKind::Length` (7) for 2 octets of
+    /// which the first is not 00.
     fn try_from(any: AnyRef<'a>) -> Result<u8, Error> {
         match unsigned_as(any, 1) {
             Ok(number) => Ok(number as u8),
@@ -235,9 +242,10 @@ impl<'a> TryFrom<AnyRef<'a>> for u16 {
     /// DER.
     ///
     /// # Errors
-    /// (4) with no expected tag for another tag; (7) for no octets; (8) for more than 3, or a 00
-    /// before an octet below 80; (13) for a negative number; (7) for 3 octets of which the first
-    /// is not 00.
+    /// `ErrorKind::TagUnexpected` (4) with no expected tag for another tag; `ErrorKind::Length` (7)
+    /// for no octets; `ErrorKind::Noncanonical` (8) for more than 3, or a 00 before an octet below
+    /// 80; `ErrorKind::Value` (13) for a negative number; `ErrorKind::Length` (7) for 3 octets of
+    /// which the first is not 00.
     fn try_from(any: AnyRef<'a>) -> Result<u16, Error> {
         match unsigned_as(any, 2) {
             Ok(number) => Ok(number as u16),
@@ -255,9 +263,10 @@ impl<'a> TryFrom<AnyRef<'a>> for u32 {
     /// DER.
     ///
     /// # Errors
-    /// (4) with no expected tag for another tag; (7) for no octets; (8) for more than 5, or a 00
-    /// before an octet below 80; (13) for a negative number; (7) for 5 octets of which the first
-    /// is not 00.
+    /// `ErrorKind::TagUnexpected` (4) with no expected tag for another tag; `ErrorKind::Length` (7)
+    /// for no octets; `ErrorKind::Noncanonical` (8) for more than 5, or a 00 before an octet below
+    /// 80; `ErrorKind::Value` (13) for a negative number; `ErrorKind::Length` (7) for 5 octets of
+    /// which the first is not 00.
     fn try_from(any: AnyRef<'a>) -> Result<u32, Error> {
         match unsigned_as(any, 4) {
             Ok(number) => Ok(number as u32),
@@ -275,9 +284,10 @@ impl<'a> TryFrom<AnyRef<'a>> for u64 {
     /// DER.
     ///
     /// # Errors
-    /// (4) with no expected tag for another tag; (7) for no octets; (8) for more than 9, or a 00
-    /// before an octet below 80; (13) for a negative number; (7) for 9 octets of which the first
-    /// is not 00.
+    /// `ErrorKind::TagUnexpected` (4) with no expected tag for another tag; `ErrorKind::Length` (7)
+    /// for no octets; `ErrorKind::Noncanonical` (8) for more than 9, or a 00 before an octet below
+    /// 80; `ErrorKind::Value` (13) for a negative number; `ErrorKind::Length` (7) for 9 octets of
+    /// which the first is not 00.
     fn try_from(any: AnyRef<'a>) -> Result<u64, Error> {
         match unsigned_as(any, 8) {
             Ok(number) => Ok(number as u64),
@@ -295,9 +305,10 @@ impl<'a> TryFrom<AnyRef<'a>> for u128 {
     /// DER.
     ///
     /// # Errors
-    /// (4) with no expected tag for another tag; (7) for no octets; (8) for more than 17, or a 00
-    /// before an octet below 80; (13) for a negative number; (7) for 17 octets of which the first
-    /// is not 00.
+    /// `ErrorKind::TagUnexpected` (4) with no expected tag for another tag; `ErrorKind::Length` (7)
+    /// for no octets; `ErrorKind::Noncanonical` (8) for more than 17, or a 00 before an octet below
+    /// 80; `ErrorKind::Value` (13) for a negative number; `ErrorKind::Length` (7) for 17 octets of
+    /// which the first is not 00.
     fn try_from(any: AnyRef<'a>) -> Result<u128, Error> {
         unsigned_as(any, 16)
     }

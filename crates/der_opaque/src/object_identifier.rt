@@ -30,7 +30,8 @@ use std::hash::{Hash, Hasher};
 /// The octets 55 04 03 are encoded as 06 03 55 04 03.
 ///
 /// # Errors
-/// Reading refuses more than `MAX_SIZE` octets (7), then none (15).
+/// Reading refuses more than `MAX_SIZE` octets (`ErrorKind::Length`, 7), then none
+/// (`ErrorKind::OidMalformed`, 15).
 #[derive(Clone, Copy, Debug)]
 pub struct ObjectIdentifier<const MAX_SIZE: usize> {
     octets: [u8; MAX_SIZE],
@@ -46,7 +47,8 @@ impl<const MAX_SIZE: usize> ObjectIdentifier<MAX_SIZE> {
     /// An identifier of these contents octets.
     ///
     /// # Errors
-    /// (15) for none; (7) for more than `MAX_SIZE` or than 4294967295.
+    /// `ErrorKind::OidMalformed` (15) for none; `ErrorKind::Length` (7) for more than `MAX_SIZE` or
+    /// than 4294967295.
     pub fn from_bytes(bytes: &[u8]) -> Result<ObjectIdentifier<MAX_SIZE>, Error>
         ensures ok { IsOk result ↔ ((0 < length bytes.now) × (length bytes.now ≤ MAX_SIZE)
             × (length bytes.now < 2 ^ 32)) }

@@ -38,7 +38,7 @@ impl OctetString {
     /// A string of these octets.
     ///
     /// # Errors
-    /// (7) for more than 4294967295 octets.
+    /// `ErrorKind::Length` (7) for more than 4294967295 octets.
     pub fn new(octets: Vec<u8>) -> Result<OctetString, Error>
         ensures { KeepsOctets octets_of tags.OctetString octets.items result }
     {

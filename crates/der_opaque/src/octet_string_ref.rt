@@ -42,7 +42,7 @@ impl<'a> OctetStringRef<'a> {
     /// A string of these octets.
     ///
     /// # Errors
-    /// (7) for more than 4294967295 octets.
+    /// `ErrorKind::Length` (7) for more than 4294967295 octets.
     pub fn new(octets: &'a [u8]) -> Result<OctetStringRef<'a>, Error>
         ensures { KeepsOctets octets_of tags.OctetString octets.now result }
     {
@@ -76,8 +76,8 @@ impl<'a> OctetStringRef<'a> {
     /// The value that the octets encode, under DER.
     ///
     /// # Errors
-    /// The first fault of the octets, in reading order; (3) where octets are left over; (1) where
-    /// the type takes memory.
+    /// The first fault of the octets, in reading order; `ErrorKind::TrailingData` (3) where octets
+    /// are left over; `ErrorKind::Memory` (1) where the type takes memory.
     pub fn decode_into<T: FromDer<'a>>(self, alloc: Global) -> Result<T, Error>
         ensures { ReadsAll T.Form (octets_of self.entry) result }
     {
@@ -87,7 +87,7 @@ impl<'a> OctetStringRef<'a> {
     /// The octets, copied into a vector.
     ///
     /// # Errors
-    /// (1) where memory runs out.
+    /// `ErrorKind::Memory` (1) where memory runs out.
     pub fn to_vec(self, alloc: Global) -> Result<Vec<u8>, Error>
         ensures value { IfOk result (λ octets. octets.items ≡ octets_of self.entry) }
         ensures err { IfErr result (λ e. e.kind ≡ kinds.Memory) }
@@ -98,7 +98,7 @@ impl<'a> OctetStringRef<'a> {
     /// The string, copied.
     ///
     /// # Errors
-    /// (1) where memory runs out.
+    /// `ErrorKind::Memory` (1) where memory runs out.
     pub fn ref_to_owned(self, alloc: Global) -> Result<OctetString, Error>
         ensures value { IfOk result (λ s. owned.octets_of s ≡ octets_of self.entry) }
         ensures err { IfErr result (λ e. e.kind ≡ kinds.Memory) }

@@ -31,8 +31,9 @@ pub type SubjectPublicKeyInfo<'a> = FieldSequence<
 /// Reads an algorithm: all of the octets, under DER.
 ///
 /// # Errors
-/// The first fault of the octets, in the order of the fields; (3) where octets are left over; (9)
-/// where there are more than 4294967295; (1) where a type that takes memory has none.
+/// The first fault of the octets, in the order of the fields; `ErrorKind::TrailingData` (3) where
+/// octets are left over; `ErrorKind::Overflow` (9) where there are more than 4294967295;
+/// `ErrorKind::Memory` (1) where a type that takes memory has none.
 pub fn read_algorithm_identifier<'a>(
     alloc: Global,
     bytes: &'a [u8],
@@ -45,7 +46,8 @@ pub fn read_algorithm_identifier<'a>(
 /// The one encoding of an algorithm.
 ///
 /// # Errors
-/// (1) where memory runs out; (9) where there are more than 4294967295 octets.
+/// `ErrorKind::Memory` (1) where memory runs out; `ErrorKind::Overflow` (9) where there are more
+/// than 4294967295 octets.
 pub fn write_algorithm_identifier<'a>(
     alloc: Global,
     value: &AlgorithmIdentifier<'a>,
@@ -58,8 +60,9 @@ pub fn write_algorithm_identifier<'a>(
 /// Reads a public key: all of the octets, under DER.
 ///
 /// # Errors
-/// The first fault of the octets, in the order of the fields; (3) where octets are left over; (9)
-/// where there are more than 4294967295; (1) where a type that takes memory has none.
+/// The first fault of the octets, in the order of the fields; `ErrorKind::TrailingData` (3) where
+/// octets are left over; `ErrorKind::Overflow` (9) where there are more than 4294967295;
+/// `ErrorKind::Memory` (1) where a type that takes memory has none.
 pub fn read_subject_public_key_info<'a>(
     alloc: Global,
     bytes: &'a [u8],
@@ -72,7 +75,8 @@ pub fn read_subject_public_key_info<'a>(
 /// The one encoding of a public key.
 ///
 /// # Errors
-/// (1) where memory runs out; (9) where there are more than 4294967295 octets.
+/// `ErrorKind::Memory` (1) where memory runs out; `ErrorKind::Overflow` (9) where there are more
+/// than 4294967295 octets.
 pub fn write_subject_public_key_info<'a>(
     alloc: Global,
     value: &SubjectPublicKeyInfo<'a>,

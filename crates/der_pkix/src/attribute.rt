@@ -121,8 +121,9 @@ impl<'a> CopyIsDuplicate for AttributeTypeAndValue<'a> {}
 /// Reads an attribute: all of the octets, under DER.
 ///
 /// # Errors
-/// The first fault of the octets, in the order of the fields; (3) where octets are left over; (9)
-/// where there are more than 4294967295; (1) where a type that takes memory has none.
+/// The first fault of the octets, in the order of the fields; `ErrorKind::TrailingData` (3) where
+/// octets are left over; `ErrorKind::Overflow` (9) where there are more than 4294967295;
+/// `ErrorKind::Memory` (1) where a type that takes memory has none.
 pub fn read_attribute_type_and_value<'a>(
     alloc: Global,
     bytes: &'a [u8],
@@ -135,7 +136,8 @@ pub fn read_attribute_type_and_value<'a>(
 /// The one encoding of an attribute.
 ///
 /// # Errors
-/// (1) where memory runs out; (9) where there are more than 4294967295 octets.
+/// `ErrorKind::Memory` (1) where memory runs out; `ErrorKind::Overflow` (9) where there are more
+/// than 4294967295 octets.
 pub fn write_attribute_type_and_value<'a>(
     alloc: Global,
     value: &AttributeTypeAndValue<'a>,

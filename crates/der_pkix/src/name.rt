@@ -24,8 +24,9 @@ pub type Name<'a> = Vec<RelativeDistinguishedName<'a>>;
 /// Reads the attributes at one place of a name: all of the octets, under DER.
 ///
 /// # Errors
-/// The first fault of the octets, in the order of the fields; (3) where octets are left over; (9)
-/// where there are more than 4294967295; (1) where a type that takes memory has none.
+/// The first fault of the octets, in the order of the fields; `ErrorKind::TrailingData` (3) where
+/// octets are left over; `ErrorKind::Overflow` (9) where there are more than 4294967295;
+/// `ErrorKind::Memory` (1) where a type that takes memory has none.
 pub fn read_relative_distinguished_name<'a>(
     alloc: Global,
     bytes: &'a [u8],
@@ -38,7 +39,8 @@ pub fn read_relative_distinguished_name<'a>(
 /// The one encoding of the attributes at one place of a name.
 ///
 /// # Errors
-/// (1) where memory runs out; (9) where there are more than 4294967295 octets.
+/// `ErrorKind::Memory` (1) where memory runs out; `ErrorKind::Overflow` (9) where there are more
+/// than 4294967295 octets.
 pub fn write_relative_distinguished_name<'a>(
     alloc: Global,
     value: &RelativeDistinguishedName<'a>,
@@ -51,8 +53,9 @@ pub fn write_relative_distinguished_name<'a>(
 /// Reads a name: all of the octets, under DER.
 ///
 /// # Errors
-/// The first fault of the octets, in the order of the fields; (3) where octets are left over; (9)
-/// where there are more than 4294967295; (1) where a type that takes memory has none.
+/// The first fault of the octets, in the order of the fields; `ErrorKind::TrailingData` (3) where
+/// octets are left over; `ErrorKind::Overflow` (9) where there are more than 4294967295;
+/// `ErrorKind::Memory` (1) where a type that takes memory has none.
 pub fn read_name<'a>(alloc: Global, bytes: &'a [u8]) -> Result<Name<'a>, Error>
     ensures { ReadsAll ⟦<Name<'a> as Form>⟧ bytes.now result }
 {
@@ -62,7 +65,8 @@ pub fn read_name<'a>(alloc: Global, bytes: &'a [u8]) -> Result<Name<'a>, Error>
 /// The one encoding of a name.
 ///
 /// # Errors
-/// (1) where memory runs out; (9) where there are more than 4294967295 octets.
+/// `ErrorKind::Memory` (1) where memory runs out; `ErrorKind::Overflow` (9) where there are more
+/// than 4294967295 octets.
 pub fn write_name<'a>(alloc: Global, value: &Name<'a>) -> Result<Vec<u8>, Error>
     ensures { WritesAll ⟦<Name<'a> as Form>⟧ value.now result }
 {

@@ -29,8 +29,9 @@ pub type Validity = FieldSequence<Field<Time, Field<Time, End>>>;
 /// Reads a time: all of the octets, under DER.
 ///
 /// # Errors
-/// The first fault of the octets, in the order of the fields; (3) where octets are left over; (9)
-/// where there are more than 4294967295; (1) where a type that takes memory has none.
+/// The first fault of the octets, in the order of the fields; `ErrorKind::TrailingData` (3) where
+/// octets are left over; `ErrorKind::Overflow` (9) where there are more than 4294967295;
+/// `ErrorKind::Memory` (1) where a type that takes memory has none.
 pub fn read_time(alloc: Global, bytes: &[u8]) -> Result<Time, Error>
     ensures { ReadsAll ⟦<Time as Form>⟧ bytes.now result }
 {
@@ -40,7 +41,8 @@ pub fn read_time(alloc: Global, bytes: &[u8]) -> Result<Time, Error>
 /// The one encoding of a time.
 ///
 /// # Errors
-/// (1) where memory runs out; (9) where there are more than 4294967295 octets.
+/// `ErrorKind::Memory` (1) where memory runs out; `ErrorKind::Overflow` (9) where there are more
+/// than 4294967295 octets.
 pub fn write_time(alloc: Global, value: &Time) -> Result<Vec<u8>, Error>
     ensures { WritesAll ⟦<Time as Form>⟧ value.now result }
 {
@@ -50,8 +52,9 @@ pub fn write_time(alloc: Global, value: &Time) -> Result<Vec<u8>, Error>
 /// Reads two times: all of the octets, under DER.
 ///
 /// # Errors
-/// The first fault of the octets, in the order of the fields; (3) where octets are left over; (9)
-/// where there are more than 4294967295; (1) where a type that takes memory has none.
+/// The first fault of the octets, in the order of the fields; `ErrorKind::TrailingData` (3) where
+/// octets are left over; `ErrorKind::Overflow` (9) where there are more than 4294967295;
+/// `ErrorKind::Memory` (1) where a type that takes memory has none.
 pub fn read_validity(alloc: Global, bytes: &[u8]) -> Result<Validity, Error>
     ensures { ReadsAll ⟦<Validity as Form>⟧ bytes.now result }
 {
@@ -61,7 +64,8 @@ pub fn read_validity(alloc: Global, bytes: &[u8]) -> Result<Validity, Error>
 /// The one encoding of two times.
 ///
 /// # Errors
-/// (1) where memory runs out; (9) where there are more than 4294967295 octets.
+/// `ErrorKind::Memory` (1) where memory runs out; `ErrorKind::Overflow` (9) where there are more
+/// than 4294967295 octets.
 pub fn write_validity(alloc: Global, value: &Validity) -> Result<Vec<u8>, Error>
     ensures { WritesAll ⟦<Validity as Form>⟧ value.now result }
 {

@@ -44,8 +44,9 @@ pub type CertificateList<'a> = FieldSequence<
 /// Reads what is signed of a list of revoked certificates: all of the octets, under DER.
 ///
 /// # Errors
-/// The first fault of the octets, in the order of the fields; (3) where octets are left over; (9)
-/// where there are more than 4294967295; (1) where memory runs out.
+/// The first fault of the octets, in the order of the fields; `ErrorKind::TrailingData` (3) where
+/// octets are left over; `ErrorKind::Overflow` (9) where there are more than 4294967295;
+/// `ErrorKind::Memory` (1) where memory runs out.
 pub fn read_tbs_cert_list<'a>(alloc: Global, bytes: &'a [u8]) -> Result<TbsCertList<'a>, Error>
     ensures { ReadsAll ⟦<TbsCertList<'a> as Form>⟧ bytes.now result }
 {
@@ -55,7 +56,8 @@ pub fn read_tbs_cert_list<'a>(alloc: Global, bytes: &'a [u8]) -> Result<TbsCertL
 /// The one encoding of what is signed of a list of revoked certificates.
 ///
 /// # Errors
-/// (1) where memory runs out; (9) where there are more than 4294967295 octets.
+/// `ErrorKind::Memory` (1) where memory runs out; `ErrorKind::Overflow` (9) where there are more
+/// than 4294967295 octets.
 pub fn write_tbs_cert_list<'a>(alloc: Global, value: &TbsCertList<'a>) -> Result<Vec<u8>, Error>
     ensures { WritesAll ⟦<TbsCertList<'a> as Form>⟧ value.now result }
 {
@@ -65,8 +67,8 @@ pub fn write_tbs_cert_list<'a>(alloc: Global, value: &TbsCertList<'a>) -> Result
 /// Reads a list of revoked certificates: all of the octets, under DER.
 ///
 /// # Errors
-/// The first fault of the octets, in the order of the fields; (3) where octets are left over; (9)
-/// where there are more than 4294967295.
+/// The first fault of the octets, in the order of the fields; `ErrorKind::TrailingData` (3) where
+/// octets are left over; `ErrorKind::Overflow` (9) where there are more than 4294967295.
 pub fn read_certificate_list<'a>(
     alloc: Global,
     bytes: &'a [u8],
@@ -79,7 +81,8 @@ pub fn read_certificate_list<'a>(
 /// The one encoding of a list of revoked certificates.
 ///
 /// # Errors
-/// (1) where memory runs out; (9) where there are more than 4294967295 octets.
+/// `ErrorKind::Memory` (1) where memory runs out; `ErrorKind::Overflow` (9) where there are more
+/// than 4294967295 octets.
 pub fn write_certificate_list<'a>(
     alloc: Global,
     value: &CertificateList<'a>,

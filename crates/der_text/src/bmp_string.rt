@@ -1,9 +1,9 @@
 //! BMPString (X.690 8.23).
 //!
 //! The tag is 1E. Each character of the Basic Multilingual Plane is a unit of 16 bits, and the
-//! contents octets are the units in their order, high octet first: `hi` is encoded as
-//! 1E 04 00 68 00 69. Reading refuses an odd number of octets (7) and a unit from D800 to DFFF (13),
-//! and then where memory runs out (1).
+//! contents octets are the units in their order, high octet first: `hi` is encoded as 1E 04 00 68
+//! 00 69. Reading refuses an odd number of octets (`ErrorKind::Length`, 7) and a unit from D800 to
+//! DFFF (`ErrorKind::Value`, 13), and then where memory runs out (`ErrorKind::Memory`, 1).
 
 ghost use Rattle.std.specs.Prelude.{◌≡◌, ◌%◌, ◌^◌, ◌<◌, Some, chars, encode_utf8_all, length, true, refl, IfOk, IfErr};
 ghost use Rattle.std.proofs.Common.{ap, sym};
@@ -43,8 +43,8 @@ impl BmpString {
     /// The string whose units these octets are, high octet first.
     ///
     /// # Errors
-    /// (7) for an odd number of octets; (13) for a unit from D800 to DFFF; (9) for more than
-    /// 4294967295 octets.
+    /// `ErrorKind::Length` (7) for an odd number of octets; `ErrorKind::Value` (13) for a unit from
+    /// D800 to DFFF; `ErrorKind::Overflow` (9) for more than 4294967295 octets.
     pub fn from_ucs2(octets: Vec<u8>) -> Result<BmpString, Error>
         ensures { KeepsUnits octets_of octets.items result }
     {
@@ -60,8 +60,8 @@ impl BmpString {
     /// The string of the characters of a text.
     ///
     /// # Errors
-    /// (13) for a character past U+FFFF; (9) for more than 4294967295 octets; else (1) where memory
-    /// runs out.
+    /// `ErrorKind::Value` (13) for a character past U+FFFF; `ErrorKind::Overflow` (9) for more than
+    /// 4294967295 octets; else `ErrorKind::Memory` (1) where memory runs out.
     pub fn from_utf8(alloc: Global, text: &str) -> Result<BmpString, Error>
         ensures { KeepsCharacters octets_of text.now result }
     {
@@ -100,7 +100,7 @@ impl BmpString {
     /// The string, copied.
     ///
     /// # Errors
-    /// (1) where memory runs out.
+    /// `ErrorKind::Memory` (1) where memory runs out.
     pub fn clone_from_ref(&self, alloc: Global) -> Result<BmpString, Error>
         ensures value { IfOk result (λ s. octets_of s ≡ octets_of self.now) }
         ensures err { IfErr result (λ e. e.kind ≡ kinds.Memory) }

@@ -25,7 +25,8 @@ pub fn are_characters(octets: &[u8]) -> bool
 /// Checks that octets are characters, each a unit of 16 bits.
 ///
 /// # Errors
-/// (7) for an odd number of octets; (13) for a unit from D800 to DFFF.
+/// `ErrorKind::Length` (7) for an odd number of octets; `ErrorKind::Value` (13) for a unit from
+/// D800 to DFFF.
 pub fn check_units(octets: &[u8]) -> Result<(), ErrorKind>
     ensures good { IfOk result (λ _.
         (length octets.now % 2 ≡ 0) × (are_characters octets.now ≡ true)) }
@@ -65,7 +66,8 @@ fn with_unit(len: usize) -> usize
 /// are found before any growth.
 ///
 /// # Errors
-/// (13) for a character past U+FFFF; (9) for more than 4294967295 octets.
+/// `ErrorKind::Value` (13) for a character past U+FFFF; `ErrorKind::Overflow` (9) for more than
+/// 4294967295 octets.
 #[tactic(auto, using(crate::proofs::FromText::taken_first, crate::proofs::FromText::taken_wide))]
 fn units_len(text: &str) -> Result<Length, ErrorKind>
     ensures len { IfOk result (λ len. (len ≡ 2 * length (chars text.now)) × (len < 2 ^ 32)) }
@@ -89,8 +91,8 @@ fn units_len(text: &str) -> Result<Length, ErrorKind>
 /// The octets of the characters of a text.
 ///
 /// # Errors
-/// (13) for a character past U+FFFF; (9) for more than 4294967295 octets; else (1) where memory runs
-/// out.
+/// `ErrorKind::Value` (13) for a character past U+FFFF; `ErrorKind::Overflow` (9) for more than
+/// 4294967295 octets; else `ErrorKind::Memory` (1) where memory runs out.
 #[tactic(auto, using(crate::proofs::FromText::taken_first, crate::proofs::FromText::taken_wide))]
 pub fn octets_of(alloc: Global, text: &str) -> Result<Vec<u8>, Error>
     ensures even { IfOk result (λ octets. length octets.items % 2 ≡ 0) }

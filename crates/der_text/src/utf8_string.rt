@@ -1,7 +1,7 @@
 //! Borrowed UTF8String (X.690 8.23).
 //!
 //! The tag is 0C, and the contents octets are the text in UTF-8: `hi` is encoded as 0C 02 68 69.
-//! Reading refuses octets that are not UTF-8 (12).
+//! Reading refuses octets that are not UTF-8 (`ErrorKind::Utf8`, 12).
 
 ghost use Rattle.std.specs.Prelude.{◌≡◌, ◌↔◌, ◌^◌, ◌<◌, [], Some, length, true, refl, IsTrue, IfOk, IfErr};
 ghost use Rattle.std.specs.Cmp.Lexicographic.{bytes_decides};
@@ -41,7 +41,8 @@ impl<'a> Utf8StringRef<'a> {
     /// The text that these octets are.
     ///
     /// # Errors
-    /// (12) for octets that are not UTF-8; (9) for more than 4294967295 octets.
+    /// `ErrorKind::Utf8` (12) for octets that are not UTF-8; `ErrorKind::Overflow` (9) for more
+    /// than 4294967295 octets.
     pub fn new(octets: &'a [u8]) -> Result<Utf8StringRef<'a>, Error>
         ensures { KeepsUtf8 octets_of octets.now result }
     {
@@ -85,7 +86,7 @@ impl<'a> Utf8StringRef<'a> {
     /// The text, copied.
     ///
     /// # Errors
-    /// (1) where memory runs out.
+    /// `ErrorKind::Memory` (1) where memory runs out.
     pub fn ref_to_owned(self, alloc: Global) -> Result<String, Error>
         ensures value { IfOk result (λ s. string_bytes s ≡ octets_of self.entry) }
         ensures err { IfErr result (λ e. e.kind ≡ kinds.Memory) }

@@ -33,7 +33,8 @@ const LAST_SECOND: u64 = 253_402_300_799;
 ///
 /// # Errors
 /// Reading refuses 15 octets that end with `Z` and begin with two digits, of which the third and
-/// fourth are not both digits (14), and all others that are not such octets of a true time (13).
+/// fourth are not both digits (`ErrorKind::DateTime`, 14), and all others that are not such octets
+/// of a true time (`ErrorKind::Value`, 13).
 #[derive(Clone, Copy, Debug, PartialEq, Eq, PartialOrd, Ord)]
 pub struct DateTime {
     /// The year, from 1970 to 9999.
@@ -74,8 +75,8 @@ impl DateTime {
     /// The time with these fields.
     ///
     /// # Errors
-    /// (14) for a year before 1970 or after 9999, and where the calendar has no such date or the
-    /// day no such second. There is no leap second.
+    /// `ErrorKind::DateTime` (14) for a year before 1970 or after 9999, and where the calendar has
+    /// no such date or the day no such second. There is no leap second.
     pub fn new(
         year: u16,
         month: u8,
@@ -153,7 +154,7 @@ impl DateTime {
     /// fraction of a second is dropped.
     ///
     /// # Errors
-    /// (14) for more than 253402300799 seconds, also by less than a second.
+    /// `ErrorKind::DateTime` (14) for more than 253402300799 seconds, also by less than a second.
     pub fn from_unix_duration(unix_duration: Duration) -> Result<DateTime, Error>
         ensures { IsTimeAfter (λ t. t) kinds.DateTime unix_duration result }
     {

@@ -34,7 +34,8 @@ use std::time::Duration;
 ///
 /// # Errors
 /// Reading refuses 15 octets that end with `Z` and begin with two digits, of which the third and
-/// fourth are not both digits (14), and all others that are not such octets of a true time (13).
+/// fourth are not both digits (`ErrorKind::DateTime`, 14), and all others that are not such octets
+/// of a true time (`ErrorKind::Value`, 13).
 #[derive(Clone, Copy, Debug, PartialEq, Eq, PartialOrd, Ord)]
 pub struct GeneralizedTime {
     /// The time.
@@ -60,7 +61,7 @@ impl GeneralizedTime {
     /// fraction of a second is dropped.
     ///
     /// # Errors
-    /// (13) for more than 253402300799 seconds, also by less than a second.
+    /// `ErrorKind::Value` (13) for more than 253402300799 seconds, also by less than a second.
     pub fn from_unix_duration(unix_duration: Duration) -> Result<GeneralizedTime, Error>
         ensures { IsTimeAfter
             (λ t. t.date_time) (kinds.Value tags.GeneralizedTime) unix_duration result }

@@ -79,8 +79,8 @@ fn lacks_year(octets: &[u8]) -> bool
         && read_two_digits(&octets[2..]).is_none()
 }
 
-/// The fault of octets that are no GeneralizedTime: (14) where the year lacks its last two digits,
-/// else (13).
+/// The fault of octets that are no GeneralizedTime: `ErrorKind::DateTime` (14) where the year lacks
+/// its last two digits, else `ErrorKind::Value` (13).
 pub fn generalized_fault(octets: &[u8]) -> ErrorKind
     ensures { result ≡ spec.generalized_fault octets.now }
 {

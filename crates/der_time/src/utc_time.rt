@@ -31,7 +31,8 @@ use std::time::Duration;
 /// they follow one another, and so not as their contents octets: 2000 is after 1999.
 ///
 /// # Errors
-/// Reading refuses octets that are not such octets of a true time, and the years 1950 to 1969 (13).
+/// Reading refuses octets that are not such octets of a true time, and the years 1950 to 1969
+/// (`ErrorKind::Value`, 13).
 #[derive(Clone, Copy, Debug, PartialEq, Eq, PartialOrd, Ord)]
 pub struct UtcTime {
     /// The time.
@@ -53,7 +54,7 @@ impl UtcTime {
     /// This time as a `UtcTime`.
     ///
     /// # Errors
-    /// (13) for a year after 2049.
+    /// `ErrorKind::Value` (13) for a year after 2049.
     pub fn from_date_time(date_time: DateTime) -> Result<UtcTime, Error>
         ensures { TakesTime date_time result }
     {
@@ -74,8 +75,8 @@ impl UtcTime {
     /// fraction of a second is dropped.
     ///
     /// # Errors
-    /// (14) for more than 253402300799 seconds, also by less than a second; then (13) for 2524608000
-    /// seconds, which end with the year 2049, and more.
+    /// `ErrorKind::DateTime` (14) for more than 253402300799 seconds, also by less than a second;
+    /// then `ErrorKind::Value` (13) for 2524608000 seconds, which end with the year 2049, and more.
     pub fn from_unix_duration(unix_duration: Duration) -> Result<UtcTime, Error>
         ensures { IsUtcTimeAfter unix_duration result }
     {

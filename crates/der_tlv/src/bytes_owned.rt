@@ -20,7 +20,7 @@ impl BytesOwned {
     /// These octets.
     ///
     /// # Errors
-    /// (9) for more than 4294967295 octets.
+    /// `ErrorKind::Overflow` (9) for more than 4294967295 octets.
     pub fn new(octets: Vec<u8>) -> Result<BytesOwned, Error>
         ensures ok { IsOk result ↔ (length octets.items < 2 ^ 32) }
         ensures value { IfOk result (λ b. b.octets.items ≡ octets.items) }

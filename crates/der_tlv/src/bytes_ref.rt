@@ -18,7 +18,7 @@ impl<'a> BytesRef<'a> {
     /// These octets.
     ///
     /// # Errors
-    /// (9) for more than 4294967295 octets.
+    /// `ErrorKind::Overflow` (9) for more than 4294967295 octets.
     pub fn new(octets: &'a [u8]) -> Result<BytesRef<'a>, Error>
         ensures ok { IsOk result ↔ (length octets.now < 2 ^ 32) }
         ensures value { IfOk result (λ b. b.octets.now ≡ octets.now) }

@@ -147,7 +147,7 @@ impl From<AllocError> for Error {
 
     ghost from_gives = { λ _ e. e ≡ out_of_memory };
 
-    /// (1), with no position.
+    /// `ErrorKind::Memory` (1), with no position.
     fn from(_refused: AllocError) -> Error {
         Error::from_kind(ErrorKind::Memory)
     }

@@ -94,7 +94,8 @@ impl Header {
     /// Reads a header.
     ///
     /// # Errors
-    /// (17) on a failed reader; the first fault of the identifier octets, then of the length octets.
+    /// `ErrorKind::Failed` (17) on a failed reader; the first fault of the identifier octets, then
+    /// of the length octets.
     #[inline(always)]
     pub fn decode<'a, R: Reader<'a>>(reader: &mut R) -> Result<Header, Error>
         ensures head { ReadsHead read_header octets_of (R.state reader.old)

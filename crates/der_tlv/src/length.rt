@@ -70,7 +70,7 @@ impl Length {
     /// A length of that many octets.
     ///
     /// # Errors
-    /// (9) above 4294967295.
+    /// `ErrorKind::Overflow` (9) above 4294967295.
     pub fn of(len: usize) -> Result<Length, Error>
         ensures { FitsLength len result }
     {
@@ -83,7 +83,7 @@ impl Length {
     /// The sum of two lengths.
     ///
     /// # Errors
-    /// (9) for a sum above 4294967295.
+    /// `ErrorKind::Overflow` (9) for a sum above 4294967295.
     pub fn add(self, other: Length) -> Result<Length, Error>
         ensures { FitsLength (self + other) result }
     {
@@ -96,7 +96,7 @@ impl Length {
     /// The difference of two lengths.
     ///
     /// # Errors
-    /// (9) for a difference below 0.
+    /// `ErrorKind::Overflow` (9) for a difference below 0.
     pub fn sub(self, other: Length) -> Result<Length, Error>
         ensures ok { IsOk result ↔ (other ≤ self) }
         ensures value { IfOk result (λ l. l ≡ self - other) }
@@ -111,9 +111,11 @@ impl Length {
     /// Reads length octets.
     ///
     /// # Errors
-    /// (17) on a failed reader. Else, in this order: no octet (2); 80, an indefinite length (16);
-    /// 85 to FF, more than four octets (10); one of the octets missing (2); a length that fewer
-    /// octets could say (10).
+    /// `ErrorKind::Failed` (17) on a failed reader. Else, in this order: no octet
+    /// (`ErrorKind::Incomplete`, 2); 80, an indefinite length (`ErrorKind::IndefiniteLength`, 16);
+    /// 85 to FF, more than four octets (`ErrorKind::Overlength`, 10); one of the octets missing
+    /// (`ErrorKind::Incomplete`, 2); a length that fewer octets could say
+    /// (`ErrorKind::Overlength`, 10).
     pub fn decode<'a, R: Reader<'a>>(reader: &mut R) -> Result<Length, Error>
         ensures { ReadsHead read_length length_octets (R.state reader.old)
             (R.state reader.new) result }

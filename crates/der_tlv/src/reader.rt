@@ -14,14 +14,16 @@ pub use slice::SliceReader;
 /// A source of octets, which stands at a position and shows the octets up to an end.
 ///
 /// A reader that a call has refused on is failed: from then on every call that reads, nests or
-/// unnests is refused (17), and `position`, `remaining_len` and `is_finished` keep their answers.
+/// unnests is refused (`ErrorKind::Failed`, 17), and `position`, `remaining_len` and `is_finished`
+/// keep their answers.
 pub trait Reader<'a> {
     ghost state: { Self → ReaderState };
 
     /// Reads one octet.
     ///
     /// # Errors
-    /// (17) on a failed reader; where no octet is left (2), or (9) where the position is the
+    /// `ErrorKind::Failed` (17) on a failed reader; where no octet is left
+    /// (`ErrorKind::Incomplete`, 2), or `ErrorKind::Overflow` (9) where the position is the
     /// greatest length.
     fn read_byte(&mut self) -> Result<u8, Error>
         ensures { ReadsOctet (state self.old) (state self.new) result };
@@ -29,8 +31,9 @@ pub trait Reader<'a> {
     /// Reads that many octets, as they stand in the input.
     ///
     /// # Errors
-    /// (17) on a failed reader; where fewer octets are left (2), or (9) where the position and
-    /// their number pass the greatest length.
+    /// `ErrorKind::Failed` (17) on a failed reader; where fewer octets are left
+    /// (`ErrorKind::Incomplete`, 2), or `ErrorKind::Overflow` (9) where the position and their
+    /// number pass the greatest length.
     fn read_slice(&mut self, len: Length) -> Result<&'a [u8], Error>
         ensures ok { IfOk result (λ octets.
             OctetsRead (state self.old) (state self.new) len octets.now) }
@@ -71,8 +74,9 @@ pub trait Reader<'a> {
     /// Puts back the end that `nest` answered.
     ///
     /// # Errors
-    /// (17) on a failed reader; (3) where octets are left before the current end; (9) where the end
-    /// to be put back is below it, or behind the input.
+    /// `ErrorKind::Failed` (17) on a failed reader; `ErrorKind::TrailingData` (3) where octets are
+    /// left before the current end; `ErrorKind::Overflow` (9) where the end to be put back is below
+    /// it, or behind the input.
     fn unnest(&mut self, end: Length) -> Result<(), Error>
         ensures { Unnests (state self.old) (state self.new) end result };
 

@@ -172,7 +172,7 @@ impl Tag {
     /// Checks that the tag is the expected one.
     ///
     /// # Errors
-    /// (4) with the expected tag for another.
+    /// `ErrorKind::TagUnexpected` (4) with the expected tag for another.
     pub fn assert_eq(self, expected: Tag) -> Result<Tag, Error>
         ensures ok { IsOk result ↔ (self ≡ expected) }
         ensures value { IfOk result (λ t. t ≡ self) }
@@ -185,7 +185,8 @@ impl Tag {
         }
     }
 
-    /// (4): this tag stands where another, or one of others, is expected.
+    /// `ErrorKind::TagUnexpected` (4): this tag stands where another, or one of others, is
+    /// expected.
     pub fn unexpected_error(self, expected: Option<Tag>) -> ErrorKind
         ensures { result ≡ TagUnexpected expected self }
     {

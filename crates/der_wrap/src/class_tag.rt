@@ -51,7 +51,8 @@ pub fn in_class(bits: u8, tag: Tag) -> bool
 /// The number of a tag that stands for explicit tagging of the class.
 ///
 /// # Errors
-/// (8) for a primitive tag; (4) with no expected tag for another class.
+/// `ErrorKind::Noncanonical` (8) for a primitive tag; `ErrorKind::TagUnexpected` (4) with no
+/// expected tag for another class.
 pub fn explicit_number(bits: u8, tag: Tag) -> Result<TagNumber, ErrorKind>
     ensures { TagsExplicitly bits tag result }
 {
@@ -68,7 +69,7 @@ pub fn explicit_number(bits: u8, tag: Tag) -> Result<TagNumber, ErrorKind>
 /// not.
 ///
 /// # Errors
-/// (8) for the other form, under DER.
+/// `ErrorKind::Noncanonical` (8) for the other form, under DER.
 pub fn check_form(rules: EncodingRules, constructed: bool, tag: Tag) -> Result<(), ErrorKind>
     ensures { TagsImplicitly rules constructed tag result }
 {

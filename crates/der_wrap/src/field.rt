@@ -16,8 +16,9 @@ impl<T: Tagged, const CLASS: u8> TaggedValue<T, CLASS> {
     /// where it was, at the end or before a tag of another class or number.
     ///
     /// # Errors
-    /// (17) on a failed reader; the faults of the next tag; (8) for a primitive tag; the value's
-    /// faults; (3) where octets are left over behind the value.
+    /// `ErrorKind::Failed` (17) on a failed reader; the faults of the next tag;
+    /// `ErrorKind::Noncanonical` (8) for a primitive tag; the value's faults;
+    /// `ErrorKind::TrailingData` (3) where octets are left over behind the value.
     pub fn decode_explicit<'a, R: Reader<'a>>(
         alloc: Global,
         reader: &mut R,
@@ -37,8 +38,8 @@ impl<T: Tagged, const CLASS: u8> TaggedValue<T, CLASS> {
     /// The value with explicit tagging that an encoding is.
     ///
     /// # Errors
-    /// (4) with no expected tag unless the tag is constructed and of the class; the refusals of
-    /// `from_der` of the contents octets.
+    /// `ErrorKind::TagUnexpected` (4) with no expected tag unless the tag is constructed and of the
+    /// class; the refusals of `from_der` of the contents octets.
     pub fn from_any<'a>(alloc: Global, any: AnyRef<'a>) -> Result<TaggedValue<T, CLASS>, Error>
     where
         T: FromDer<'a>,
@@ -62,9 +63,9 @@ impl<T, const CLASS: u8> TaggedValue<T, CLASS> {
     /// where it was, at the end or before a tag of another class or number.
     ///
     /// # Errors
-    /// (17) on a failed reader; the faults of the next tag; under DER (8) for a constructed tag
-    /// where the type's own is primitive, and for a primitive tag where it is constructed; the
-    /// faults of the contents octets.
+    /// `ErrorKind::Failed` (17) on a failed reader; the faults of the next tag; under DER
+    /// `ErrorKind::Noncanonical` (8) for a constructed tag where the type's own is primitive, and
+    /// for a primitive tag where it is constructed; the faults of the contents octets.
     pub fn decode_implicit<'a, R: Reader<'a>>(
         alloc: Global,
         reader: &mut R,

@@ -5,9 +5,9 @@
 //! where that is: 81 01 05.
 //!
 //! Reading with explicit tagging refuses a primitive tag (8), then another class (4, none expected),
-//! contents longer than what is left (2), the value's faults, and octets left over behind the value
-//! (3). Reading with implicit tagging needs the number, so it is a call of its own,
-//! `decode_implicit`.
+//! contents longer than what is left (`ErrorKind::Incomplete`, 2), the value's faults, and octets
+//! left over behind the value (`ErrorKind::TrailingData`, 3). Reading with implicit tagging needs
+//! the number, so it is a call of its own, `decode_implicit`.
 
 ghost use Rattle.std.specs.Prelude.{◌≡◌, true, Some, refl};
 ghost use Rattle.der_tlv.specs.declared.tag.mode.TagMode.TheVariants.{Explicit};

@@ -1,7 +1,8 @@
 //! AlgorithmIdentifier (RFC 5280 section 4.1.1.2): its meaning and laws are those of a list of fields.
 //!
 //! `SEQUENCE { algorithm OBJECT IDENTIFIER, parameters ANY DEFINED BY algorithm OPTIONAL }`: reading
-//! refuses with the faults of the fields in their order, and then octets that are left over (3).
+//! refuses with the faults of the fields in their order, and then octets that are left over
+//! (`ErrorKind::TrailingData`, 3).
 
 ghost use Rattle.std.proofs.Common.{◌≡◌, [], ◌++◌, ◌&&◌, ◌∙◌, refl, sym, ap, lit<, append-nil};
 ghost use Rattle.std.proofs.lemmas.Bool.{and_parts};

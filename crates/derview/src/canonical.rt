@@ -15,7 +15,7 @@ use std::alloc::Global;
 /// place of what was written.
 ///
 /// # Errors
-/// The first fault of the octets; (1) where memory runs out.
+/// The first fault of the octets; `ErrorKind::Memory` (1) where memory runs out.
 pub fn put_canonical<'a, T: FromDer<'a> + Encode>(
     alloc: Global,
     octets: &'a [u8],
@@ -31,7 +31,7 @@ pub fn put_canonical<'a, T: FromDer<'a> + Encode>(
 /// The same of a set of any number of items.
 ///
 /// # Errors
-/// The first fault of the octets; (1) where memory runs out.
+/// The first fault of the octets; `ErrorKind::Memory` (1) where memory runs out.
 pub fn put_canonical_set<'a, T: Decode<'a, SliceReader<'a>> + Encode + DerOrd + Tagged>(
     alloc: Global,
     octets: &'a [u8],

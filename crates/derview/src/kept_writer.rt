@@ -8,7 +8,7 @@ use std::alloc::Global;
 /// A writer into a vector, whose room is kept where it is cleared.
 ///
 /// A growth that is refused (1) leaves the octets as they were; from then on each write is refused
-/// (17).
+/// `ErrorKind::Failed` (17).
 #[derive(Drop)]
 pub struct KeptWriter {
     /// The octets that were written.

@@ -26,7 +26,8 @@ pub(super) fn has_needless_zero(bytes: &[u8]) -> bool
 /// The integer that contents octets represent, at a width of up to 16 octets.
 ///
 /// # Errors
-/// In this order: no octets (7); more than the width (8); a redundant first octet (8).
+/// In this order: no octets (`ErrorKind::Length`, 7); more than the width
+/// (`ErrorKind::Noncanonical`, 8); a redundant first octet (`ErrorKind::Noncanonical`, 8).
 pub fn signed_of(bytes: &[u8], width: usize) -> Result<i128, ErrorKind>
     requires some { 0 < width }
     requires most { width ≤ 16 }
@@ -44,8 +45,10 @@ pub fn signed_of(bytes: &[u8], width: usize) -> Result<i128, ErrorKind>
 /// The number that contents octets represent, at a width of up to 16 octets.
 ///
 /// # Errors
-/// In this order: no octets (7); more than the width and one (8); a 00 before an octet below 80
-/// (8); a negative number (13); one octet more than the width, of which the first is not 00 (7).
+/// In this order: no octets (`ErrorKind::Length`, 7); more than the width and one
+/// (`ErrorKind::Noncanonical`, 8); a 00 before an octet below 80 (`ErrorKind::Noncanonical`, 8); a
+/// negative number (`ErrorKind::Value`, 13); one octet more than the width, of which the first is
+/// not 00 (`ErrorKind::Length`, 7).
 pub fn unsigned_of(bytes: &[u8], width: usize) -> Result<u128, ErrorKind>
     requires some { 0 < width }
     requires most { width ≤ 16 }
@@ -70,7 +73,7 @@ pub fn unsigned_of(bytes: &[u8], width: usize) -> Result<u128, ErrorKind>
 /// are, into the front of a block.
 ///
 /// # Errors
-/// (17) on a failed reader.
+/// `ErrorKind::Failed` (17) on a failed reader.
 #[inline(always)]
 fn read_front_contents<'a, R: Reader<'a>>(reader: &mut R, header: Header) -> Result<[u8; 8], Error>
     requires few { header.length ≤ 8 }
@@ -116,8 +119,9 @@ fn read_short_signed<'a, R: Reader<'a>>(
 /// Reads the integer from all of the contents octets, at a width of up to 16 octets.
 ///
 /// # Errors
-/// (17) on a failed reader. Else, in this order: no octets (7); more than the width (8); a
-/// redundant first octet (8).
+/// `ErrorKind::Failed` (17) on a failed reader. Else, in this order: no octets
+/// (`ErrorKind::Length`, 7); more than the width (`ErrorKind::Noncanonical`, 8); a redundant first
+/// octet (`ErrorKind::Noncanonical`, 8).
 #[inline(always)]
 pub fn read_signed<'a, R: Reader<'a>>(
     reader: &mut R,
@@ -175,9 +179,11 @@ fn read_short_unsigned<'a, R: Reader<'a>>(
 /// Reads the number from all of the contents octets, at a width of up to 16 octets.
 ///
 /// # Errors
-/// (17) on a failed reader. Else, in this order: no octets (7); more than the width and one (8); a
-/// 00 before an octet below 80 (8); a negative number (13); one octet more than the width, of which
-/// the first is not 00 (7).
+/// `ErrorKind::Failed` (17) on a failed reader. Else, in this order: no octets
+/// (`ErrorKind::Length`, 7); more than the width and one (`ErrorKind::Noncanonical`, 8); a 00
+/// before an octet below 80 (`ErrorKind::Noncanonical`, 8); a negative number
+/// (`ErrorKind::Value`, 13); one octet more than the width, of which the first is not 00
+/// (`ErrorKind::Length`, 7).
 #[inline(always)]
 pub fn read_unsigned<'a, R: Reader<'a>>(
     reader: &mut R,

@@ -1,7 +1,7 @@
 //! The signed machine integers, `i8` to `i128`.
 //!
 //! Reading refuses, in this order: no contents octets (7); more than the type has (8); a first
-//! octet 00 before one below 80, or FF before one of 80 or more (8).
+//! octet 00 before one below 80, or FF before one of 80 or more (`ErrorKind::Noncanonical`, 8).
 
 ghost use Rattle.std.proofs.Common.{lit<};
 ghost use Rattle.std.specs.Ordering.{int_eq};

@@ -58,7 +58,7 @@ impl<'a, T: Decode<'a, SliceReader<'a>>> CheckedOctets<'a, T> {
     /// The item at a place, if there is one, read again after those before it.
     ///
     /// # Errors
-    /// (1) where an item takes memory.
+    /// `ErrorKind::Memory` (1) where an item takes memory.
     pub(crate) fn get(&self, index: usize) -> Option<Result<T, Error>>
         ensures { ReReadsAt T.Form (encodings_read self.now.count T.parse Der 0 self.now.octets.now)
             index result }
@@ -81,7 +81,7 @@ impl<'a, T: Decode<'a, SliceReader<'a>>> CheckedOctets<'a, T> {
 /// Checks that an item is not smaller than the last, if there is one.
 ///
 /// # Errors
-/// The comparison's; (11) for a smaller item.
+/// The comparison's; `ErrorKind::SetOrdering` (11) for a smaller item.
 fn may_follow<T: DerOrd>(last: &Option<T>, item: &T) -> Result<(), Error>
     ensures ok { OnOk result (CanFollow T.encoding last.now item.now) }
     ensures refused { IfErr result (λ e. CannotFollow T.Form last.now item.now e.kind) }
@@ -96,8 +96,9 @@ impl<'a, T: Decode<'a, SliceReader<'a>> + DerOrd + Tagged> CheckedOctets<'a, T> 
     /// Reads items until nothing is left, and keeps the octets alone.
     ///
     /// # Errors
-    /// (9) for more than 4294967295 octets; the first fault of an item, from the left; (11) for an item that is smaller than the one
-    /// before; (1) where an item takes memory.
+    /// `ErrorKind::Overflow` (9) for more than 4294967295 octets; the first fault of an item, from
+    /// the left; `ErrorKind::SetOrdering` (11) for an item that is smaller than the one before;
+    /// `ErrorKind::Memory` (1) where an item takes memory.
     pub(crate) fn read(alloc: Global, octets: &'a [u8]) -> Result<CheckedOctets<'a, T>, Error>
         ensures ok { IfOk result (λ read. AcceptsBorrowed T.Form
             (OfOctets (encodings_read read.count T.parse Der 0 read.octets.now)) octets.now) }

@@ -12,7 +12,8 @@ use std::cmp::Ordering;
 /// else the number of items.
 ///
 /// # Errors
-/// As the comparison of the items; (1) where an item that is read again takes memory.
+/// As the comparison of the items; `ErrorKind::Memory` (1) where an item that is read again takes
+/// memory.
 pub(crate) fn cmp_borrowed<'a, T: Decode<'a, SliceReader<'a>> + DerOrd + Tagged>(
     mut items: SetOfRefIter<'a, T>,
     mut others: SetOfRefIter<'a, T>,

@@ -13,7 +13,8 @@ impl<'a, T: Decode<'a, SliceReader<'a>> + Encode> CheckedOctets<'a, T> {
     /// How many octets the encodings of the items have.
     ///
     /// # Errors
-    /// (9) where there are more than 4294967295; (1) where an item takes memory.
+    /// `ErrorKind::Overflow` (9) where there are more than 4294967295; `ErrorKind::Memory` (1)
+    /// where an item takes memory.
     pub(crate) fn items_len(&self) -> Result<Length, Error>
         ensures { Measures (concat (encodings_read self.now.count T.parse Der 0
             self.now.octets.now)) T.TAKES_MEMORY result }
@@ -29,7 +30,7 @@ impl<'a, T: Decode<'a, SliceReader<'a>> + Encode> CheckedOctets<'a, T> {
     /// Writes the encodings of the items, in their order.
     ///
     /// # Errors
-    /// The writer's; (1) where an item takes memory.
+    /// The writer's; `ErrorKind::Memory` (1) where an item takes memory.
     pub(crate) fn encode_items<W: Writer>(&self, writer: &mut W) -> Result<(), Error>
         ensures { Encodes (concat (encodings_read self.now.count T.parse Der 0 self.now.octets.now))
             T.TAKES_MEMORY (W.state writer.old) (W.state writer.new) result }

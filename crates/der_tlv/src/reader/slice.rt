@@ -32,7 +32,7 @@ impl<'a> SliceReader<'a> {
     /// A reader of all of the octets, under DER.
     ///
     /// # Errors
-    /// (9) for more than 4294967295 octets.
+    /// `ErrorKind::Overflow` (9) for more than 4294967295 octets.
     pub fn new(bytes: &'a [u8]) -> Result<SliceReader<'a>, Error>
         ensures ok { IsOk result ↔ (length bytes.now < 2 ^ 32) }
         ensures state { IfOk result (λ r. slice_reader_state r ≡ new_reader bytes.now Der) }
@@ -44,7 +44,7 @@ impl<'a> SliceReader<'a> {
     /// A reader of all of the octets, under these rules.
     ///
     /// # Errors
-    /// (9) for more than 4294967295 octets.
+    /// `ErrorKind::Overflow` (9) for more than 4294967295 octets.
     pub fn new_with_encoding_rules(
         bytes: &'a [u8],
         rules: EncodingRules,
@@ -68,8 +68,8 @@ impl<'a> SliceReader<'a> {
     /// Ends the reading.
     ///
     /// # Errors
-    /// (17) on a failed reader; (3) where the position is not the end of the whole input, whatever
-    /// is nested.
+    /// `ErrorKind::Failed` (17) on a failed reader; `ErrorKind::TrailingData` (3) where the
+    /// position is not the end of the whole input, whatever is nested.
     pub fn finish(self) -> Result<(), Error>
         ensures ok { IsOk result ↔ (can_finish (slice_reader_state self.entry) ≡ true) }
         ensures err { IfErr result (λ e. e.kind ≡ finish_fault (slice_reader_state self.entry)) }

@@ -18,10 +18,12 @@ impl Tag {
     /// Reads identifier octets.
     ///
     /// # Errors
-    /// (17) on a failed reader. Else, in this order: no octet (2); where bits 5 to 1 of the first
-    /// octet are ones, an octet of the number missing (2), or a number that begins with the octet
-    /// 80, passes 4294967295 or is below 31 (6); an unknown universal number (5); a universal type
-    /// with the constructed bit that it does not have (8).
+    /// `ErrorKind::Failed` (17) on a failed reader. Else, in this order: no octet
+    /// (`ErrorKind::Incomplete`, 2); where bits 5 to 1 of the first octet are ones, an octet of the
+    /// number missing (`ErrorKind::Incomplete`, 2), or a number that begins with the octet 80,
+    /// passes 4294967295 or is below 31 (`ErrorKind::TagNumberInvalid`, 6); an unknown universal
+    /// number (`ErrorKind::TagUnknown`, 5); a universal type with the constructed bit that it does
+    /// not have (`ErrorKind::Noncanonical`, 8).
     #[inline]
     pub fn decode<'a, R: Reader<'a>>(reader: &mut R) -> Result<Tag, Error>
         ensures head { ReadsHead read_tag identifier (R.state reader.old)
@@ -117,7 +119,8 @@ fn with_digit(number: u32, octet: u8) -> Option<u32>
 /// The tag of a first identifier octet and a number.
 ///
 /// # Errors
-/// For a universal tag that is unknown (5), and for one with the other constructed bit (8).
+/// For a universal tag that is unknown (`ErrorKind::TagUnknown`, 5), and for one with the other
+/// constructed bit (`ErrorKind::Noncanonical`, 8).
 #[inline]
 fn tag_of_octets(first: u8, number: u32) -> Result<Tag, ErrorKind>
     ensures { result ≡ tag_of_octets first number }

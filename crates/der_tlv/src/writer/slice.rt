@@ -9,7 +9,7 @@ use crate::writer::Writer;
 /// A writer into a slice.
 ///
 /// A write that does not fit writes none of its octets and is refused (10); from then on each
-/// write is refused (17). A refused write leaves the whole slice as it was.
+/// write is refused (`ErrorKind::Failed`, 17). A refused write leaves the whole slice as it was.
 #[derive(Debug, Drop)]
 pub struct SliceWriter<'a> {
     bytes: &'a mut [u8],

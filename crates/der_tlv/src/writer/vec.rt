@@ -11,7 +11,7 @@ use std::alloc::Global;
 /// A writer into a vector, which grows as it has to.
 ///
 /// A growth that is refused (1) leaves the octets as they were; from then on each write is
-/// refused (17).
+/// refused (`ErrorKind::Failed`, 17).
 #[derive(Debug, Drop)]
 pub struct VecWriter {
     octets: Vec<u8>,
@@ -35,7 +35,7 @@ impl VecWriter {
     /// A writer that holds nothing and has room for so many octets.
     ///
     /// # Errors
-    /// (1) where memory runs out.
+    /// `ErrorKind::Memory` (1) where memory runs out.
     pub fn with_capacity(alloc: Global, capacity: usize) -> Result<VecWriter, Error>
         ensures taken { IfOk result (λ w. (vec_writer_state w).taken ≡ []) }
         ensures ready { IfOk result (λ w. (vec_writer_state w).failed ≡ false) }
