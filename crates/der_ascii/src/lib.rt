@@ -7,7 +7,7 @@
 //!         country.to_der(rt.alloc())?.as_slice(),
 //!         [0x13, 0x02, 0x44, 0x45].as_slice()
 //!     ),
-//!     Err(e) => return Err(e.into()),
+//!     Err(_) => return Err("refused".into()),
 //! }
 //! ```
 #![tactic(auto)]

@@ -6,7 +6,7 @@
 //!         assert_eq!(rt; usages.bit_len(), 3);
 //!         assert_eq!(rt; usages.get(2), Some(true));
 //!     }
-//!     Err(e) => return Err(e.into()),
+//!     Err(_) => return Err("refused".into()),
 //! }
 //! ```
 #![tactic(auto)]

@@ -8,12 +8,16 @@
 //!
 //! ```rust
 //! type Limit = FieldSequence<Field<bool, Field<Option<u8>, End>>>;
-//! let limit = Limit::from_der(
+//! match Limit::from_der(
 //!     rt.alloc(),
 //!     &[0x30, 0x06, 0x01, 0x01, 0xff, 0x02, 0x01, 0x03],
-//! )?;
-//! assert!(rt; limit.fields.first);
-//! assert_eq!(rt; limit.fields.rest.first, Some(3));
+//! ) {
+//!     Ok(limit) => {
+//!         assert!(rt; limit.fields.first);
+//!         assert_eq!(rt; limit.fields.rest.first, Some(3));
+//!     }
+//!     Err(_) => return Err("refused".into()),
+//! }
 //! ```
 #![tactic(auto)]
 

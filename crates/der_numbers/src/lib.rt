@@ -9,7 +9,7 @@
 //!             [0x02, 0x02, 0x00, 0x80].as_slice()
 //!         );
 //!     }
-//!     Err(e) => return Err(e.into()),
+//!     Err(_) => return Err("refused".into()),
 //! }
 //! ```
 #![tactic(auto)]

@@ -4,7 +4,7 @@
 //! ```rust
 //! match OctetStringRef::from_der(rt.alloc(), &[0x04, 0x02, 0x01, 0x02]) {
 //!     Ok(string) => assert_eq!(rt; string.as_bytes(), [0x01, 0x02].as_slice()),
-//!     Err(e) => return Err(e.into()),
+//!     Err(_) => return Err("refused".into()),
 //! }
 //! ```
 #![tactic(auto)]

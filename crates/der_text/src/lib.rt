@@ -3,7 +3,7 @@
 //! ```rust
 //! match Utf8StringRef::from_der(rt.alloc(), &[0x0c, 0x02, 0xc3, 0xa9]) {
 //!     Ok(name) => assert_eq!(rt; name.as_str(), "é"),
-//!     Err(e) => return Err(e.into()),
+//!     Err(_) => return Err("refused".into()),
 //! }
 //! ```
 #![tactic(auto)]

@@ -7,7 +7,8 @@
 //! ```rust
 //! let mut buffer = [0; 4];
 //! let mut writer = SliceWriter::new(&mut buffer);
-//! Header::new(Tag::OctetString, Length::new(200)).encode(&mut writer)?;
+//! let header = Header::new(Tag::OctetString, Length::new(200));
+//! assert!(rt; header.encode(&mut writer).is_ok());
 //! assert_eq!(rt; writer.finish(), [0x04, 0x81, 0xc8].as_slice());
 //! ```
 #![tactic(auto)]

@@ -1,9 +1,13 @@
 //! Values with a tag of the application, context-specific or private class (X.690 8.14).
 //!
 //! ```rust
-//! let version = ContextSpecific::<u8>::from_der(rt.alloc(), &[0xa0, 0x03, 0x02, 0x01, 0x02])?;
-//! assert_eq!(rt; version.tag_number.0, 0);
-//! assert_eq!(rt; version.value, 2);
+//! match ContextSpecific::<u8>::from_der(rt.alloc(), &[0xa0, 0x03, 0x02, 0x01, 0x02]) {
+//!     Ok(version) => {
+//!         assert_eq!(rt; version.tag_number.0, 0);
+//!         assert_eq!(rt; version.value, 2);
+//!     }
+//!     Err(_) => return Err("refused".into()),
+//! }
 //! ```
 #![tactic(auto)]
 

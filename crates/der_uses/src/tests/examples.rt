@@ -14,7 +14,8 @@ use std::test::Fail;
 fn der_tlv(rt: HostRuntime) -> Result<(), Fail> {
     let mut buffer = [0; 4];
     let mut writer = SliceWriter::new(&mut buffer);
-    Header::new(Tag::OctetString, Length::new(200)).encode(&mut writer)?;
+    let header = Header::new(Tag::OctetString, Length::new(200));
+    assert!(rt; header.encode(&mut writer).is_ok());
     assert_eq!(rt; writer.finish(), [0x04, 0x81, 0xc8].as_slice());
     Ok(())
 }
@@ -32,7 +33,7 @@ fn der_elem(rt: HostRuntime) -> Result<(), Fail> {
 fn der_opaque(rt: HostRuntime) -> Result<(), Fail> {
     match OctetStringRef::from_der(rt.alloc(), &[0x04, 0x02, 0x01, 0x02]) {
         Ok(string) => assert_eq!(rt; string.as_bytes(), [0x01, 0x02].as_slice()),
-        Err(e) => return Err(e.into()),
+        Err(_) => return Err("refused".into()),
     }
     Ok(())
 }
@@ -47,7 +48,7 @@ fn der_numbers(rt: HostRuntime) -> Result<(), Fail> {
                 [0x02, 0x02, 0x00, 0x80].as_slice()
             );
         }
-        Err(e) => return Err(e.into()),
+        Err(_) => return Err("refused".into()),
     }
     Ok(())
 }
@@ -59,7 +60,7 @@ fn der_bits(rt: HostRuntime) -> Result<(), Fail> {
             assert_eq!(rt; usages.bit_len(), 3);
             assert_eq!(rt; usages.get(2), Some(true));
         }
-        Err(e) => return Err(e.into()),
+        Err(_) => return Err("refused".into()),
     }
     Ok(())
 }
@@ -71,7 +72,7 @@ fn der_ascii(rt: HostRuntime) -> Result<(), Fail> {
             country.to_der(rt.alloc())?.as_slice(),
             [0x13, 0x02, 0x44, 0x45].as_slice()
         ),
-        Err(e) => return Err(e.into()),
+        Err(_) => return Err("refused".into()),
     }
     Ok(())
 }
@@ -80,7 +81,7 @@ fn der_ascii(rt: HostRuntime) -> Result<(), Fail> {
 fn der_text(rt: HostRuntime) -> Result<(), Fail> {
     match Utf8StringRef::from_der(rt.alloc(), &[0x0c, 0x02, 0xc3, 0xa9]) {
         Ok(name) => assert_eq!(rt; name.as_str(), "é"),
-        Err(e) => return Err(e.into()),
+        Err(_) => return Err("refused".into()),
     }
     Ok(())
 }
@@ -89,16 +90,20 @@ fn der_text(rt: HostRuntime) -> Result<(), Fail> {
 fn der_time(rt: HostRuntime) -> Result<(), Fail> {
     match UtcTime::from_der(rt.alloc(), "\u{17}\u{d}260131235959Z".as_bytes()) {
         Ok(time) => assert_eq!(rt; time.to_date_time().year(), 2026),
-        Err(e) => return Err(e.into()),
+        Err(_) => return Err("refused".into()),
     }
     Ok(())
 }
 
 #[test]
 fn der_wrap(rt: HostRuntime) -> Result<(), Fail> {
-    let version = ContextSpecific::<u8>::from_der(rt.alloc(), &[0xa0, 0x03, 0x02, 0x01, 0x02])?;
-    assert_eq!(rt; version.tag_number.0, 0);
-    assert_eq!(rt; version.value, 2);
+    match ContextSpecific::<u8>::from_der(rt.alloc(), &[0xa0, 0x03, 0x02, 0x01, 0x02]) {
+        Ok(version) => {
+            assert_eq!(rt; version.tag_number.0, 0);
+            assert_eq!(rt; version.value, 2);
+        }
+        Err(_) => return Err("refused".into()),
+    }
     Ok(())
 }
 
@@ -112,12 +117,16 @@ fn der_nest(rt: HostRuntime) -> Result<(), Fail> {
 #[test]
 fn der_fields(rt: HostRuntime) -> Result<(), Fail> {
     type Limit = FieldSequence<Field<bool, Field<Option<u8>, End>>>;
-    let limit = Limit::from_der(
+    match Limit::from_der(
         rt.alloc(),
         &[0x30, 0x06, 0x01, 0x01, 0xff, 0x02, 0x01, 0x03],
-    )?;
-    assert!(rt; limit.fields.first);
-    assert_eq!(rt; limit.fields.rest.first, Some(3));
+    ) {
+        Ok(limit) => {
+            assert!(rt; limit.fields.first);
+            assert_eq!(rt; limit.fields.rest.first, Some(3));
+        }
+        Err(_) => return Err("refused".into()),
+    }
     Ok(())
 }
 
