@@ -3,19 +3,19 @@
 use crate::hexadecimal::push_digits;
 use crate::identifiers::{dotted, push_identifier};
 use crate::names::push_malformed;
-use der_certificate::Last;
 use der_extensions::{BasicConstraints, read_basic_constraints};
+use der_fields::Explicit;
 use der_pkix::Extension;
 use std::alloc::{AllocError, Global};
 use std::fmt::Write;
 
-/// Adds a line for each extension.
+/// Adds a line for each extension, if there are any.
 pub fn push_extensions(
     alloc: Global,
     text: &mut String,
-    last: &Last<'_>,
+    extensions: &Option<Explicit<Vec<Extension<'_>>, 3>>,
 ) -> Result<(), AllocError> {
-    let Some(extensions) = &last.fields.rest.rest.first else {
+    let Some(extensions) = extensions else {
         return Ok(());
     };
     for extension in &extensions.fields.first {

@@ -8,9 +8,7 @@ use crate::extensions::push_extensions;
 use crate::hexadecimal::push_with_colons;
 use crate::names::push_name;
 use crate::times::push_validity;
-use der_certificate::{
-    Certificate, Issuer, Subject, TbsCertificate, read_certificate, read_tbs_certificate,
-};
+use der_certificate::{Certificate, TbsCertificate, read_certificate, read_tbs_certificate, tbs};
 use der_elem::{Encode, Form};
 use der_numbers::IntRef;
 use der_tlv::Error;
@@ -53,11 +51,14 @@ fn push_signed(
     text: &mut String,
     signed: &TbsCertificate<'_>,
 ) -> Result<(), AllocError> {
-    let fields = &signed.fields;
-    push_version(text, fields.first.value.fields.first)?;
-    push_serial_number(text, fields.rest.first)?;
-    push_issuer(alloc, text, &fields.rest.rest)?;
-    push_subject(alloc, text, &fields.rest.rest.fields.rest.rest)
+    push_version(text, tbs::version(signed))?;
+    push_serial_number(text, tbs::serial_number(signed))?;
+    push_algorithm(alloc, text, "signature algorithm", tbs::signature(signed))?;
+    push_name(alloc, text, "issuer", tbs::issuer(signed))?;
+    push_name(alloc, text, "subject", tbs::subject(signed))?;
+    push_validity(text, tbs::validity(signed))?;
+    push_key(alloc, text, tbs::subject_public_key_info(signed))?;
+    push_extensions(alloc, text, tbs::extensions(signed))
 }
 
 fn push_version(text: &mut String, number: u8) -> Result<(), AllocError> {
@@ -69,24 +70,6 @@ fn push_serial_number(text: &mut String, number: IntRef<'_>) -> Result<(), Alloc
     text.push_str("serial number: ")?;
     push_with_colons(text, number.as_bytes())?;
     text.push('\n')
-}
-
-fn push_issuer(alloc: Global, text: &mut String, issuer: &Issuer<'_>) -> Result<(), AllocError> {
-    push_algorithm(alloc, text, "signature algorithm", &issuer.fields.first)?;
-    push_name(alloc, text, "issuer", issuer.fields.rest.first)?;
-    push_name(
-        alloc,
-        text,
-        "subject",
-        issuer.fields.rest.rest.fields.rest.first,
-    )
-}
-
-fn push_subject(alloc: Global, text: &mut String, subject: &Subject<'_>) -> Result<(), AllocError> {
-    push_validity(text, &subject.fields.first)?;
-    let others = &subject.fields.rest.rest;
-    push_key(alloc, text, &others.first)?;
-    push_extensions(alloc, text, &others.rest)
 }
 
 fn push_signature(text: &mut String, bits: usize) -> Result<(), AllocError> {
