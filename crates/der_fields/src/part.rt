@@ -4,46 +4,18 @@
 //! fields. A part has a name, and what is known of it stands with the name: so each part costs as
 //! much as its own fields.
 
-ghost use Rattle.std.specs.Prelude.{◌≡◌};
-ghost use Rattle.der_elem.specs.Encoding.{Encodes, Measures};
-
-use crate::coded::EncodeFields;
-use crate::field_list::{FieldList, FieldsMemory};
-use der_elem::Memory;
-use der_tlv::{Error, Length, Writer};
+use crate::field_list::FieldList;
 
 /// A struct of one's own whose one member is a list of fields: it is a list of fields too, and
 /// stands as the tail of another list.
 ///
-/// `list` is `part_of` (`specs/Parts.antt`) of the member and of what its list means. Reading is an
-/// implementation of `DecodeFields`, since the reader is a parameter of that trait.
+/// `list` is `part_of` (`specs/Parts.antt`) of the member and of what its list means. A part has
+/// implementations of `FieldsMemory`, `DecodeFields` and `EncodeFields` of its own.
 pub trait FieldsPart: Sized + Drop {
     ghost use Rattle.der_fields.specs.declared.field_list.FieldList as fields;
 
     // what the octets of the fields mean
     ghost list: { fields.Ghosts Self };
-
-    /// Whether reading takes memory.
-    type OfPart: Memory;
-
-    /// How many octets the fields have.
-    ///
-    /// # Errors
-    /// `ErrorKind::Overflow` (9) where there are more than 4294967295; `ErrorKind::Memory` (1)
-    /// where items are read again.
-    fn part_len(&self) -> Result<Length, Error>
-        ensures { Measures (list.joined self.now) (list.re_read self.now) result };
-
-    /// Writes the fields.
-    ///
-    /// # Errors
-    /// The writer's; `ErrorKind::Overflow` (9) where there are more than 4294967295;
-    /// `ErrorKind::Memory` (1) where items are read again.
-    fn encode_part<W: Writer>(&self, writer: &mut W) -> Result<(), Error>
-        ensures { Encodes (list.joined self.now) (list.re_read self.now) (W.state writer.old)
-            (W.state writer.new) result };
-
-    ghost memory_of_part: { Self.OfPart.IS_TAKEN ≡ list.FIELDS_TAKE_MEMORY };
 }
 
 impl<P: FieldsPart> FieldList for P {
@@ -76,20 +48,4 @@ impl<P: FieldsPart> FieldList for P {
     ghost accepts_all_comparable = { P.list.accepts_all_comparable };
 
     ghost re_read_memory = { P.list.re_read_memory };
-}
-
-impl<P: FieldsPart> FieldsMemory for P {
-    type OfFields = <P as FieldsPart>::OfPart;
-
-    ghost memory_of_fields = { P.memory_of_part };
-}
-
-impl<P: FieldsPart> EncodeFields for P {
-    fn fields_len(&self) -> Result<Length, Error> {
-        self.part_len()
-    }
-
-    fn encode_fields<W: Writer>(&self, writer: &mut W) -> Result<(), Error> {
-        self.encode_part(writer)
-    }
 }

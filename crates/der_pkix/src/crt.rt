@@ -4,7 +4,7 @@ ghost use Rattle.std.specs.Prelude.{refl};
 ghost use Rattle.der_fields.specs.Parts.{part_of};
 
 use der_elem::WithoutMemory;
-use der_fields::{DecodeFields, EncodeFields, End, Field, FieldList, FieldsPart};
+use der_fields::{DecodeFields, EncodeFields, End, Field, FieldList, FieldsMemory, FieldsPart};
 use der_numbers::UintRef;
 use der_tlv::{Error, Length, Reader, Writer};
 use std::alloc::Global;
@@ -24,18 +24,12 @@ pub struct Crt<'a> {
 
 impl<'a> FieldsPart for Crt<'a> {
     ghost list = { part_of (λ v. v.fields) ⟦<CrtFields<'a> as FieldList>⟧ };
+}
 
-    type OfPart = WithoutMemory;
+impl<'a> FieldsMemory for Crt<'a> {
+    type OfFields = WithoutMemory;
 
-    fn part_len(&self) -> Result<Length, Error> {
-        self.fields.fields_len()
-    }
-
-    fn encode_part<W: Writer>(&self, writer: &mut W) -> Result<(), Error> {
-        self.fields.encode_fields(writer)
-    }
-
-    ghost memory_of_part = { refl };
+    ghost memory_of_fields = { refl };
 }
 
 impl<'a, R: Reader<'a>> DecodeFields<'a, R> for Crt<'a> {
@@ -44,5 +38,15 @@ impl<'a, R: Reader<'a>> DecodeFields<'a, R> for Crt<'a> {
             Ok(fields) => Ok(Crt { fields }),
             Err(e) => Err(e),
         }
+    }
+}
+
+impl<'a> EncodeFields for Crt<'a> {
+    fn fields_len(&self) -> Result<Length, Error> {
+        self.fields.fields_len()
+    }
+
+    fn encode_fields<W: Writer>(&self, writer: &mut W) -> Result<(), Error> {
+        self.fields.encode_fields(writer)
     }
 }
