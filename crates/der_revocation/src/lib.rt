@@ -6,7 +6,6 @@
 
 mod certificate_list;
 mod entries;
-mod entry_extensions;
 mod grammars;
 mod listed;
 mod revoked_certificate;
@@ -17,7 +16,6 @@ pub use certificate_list::{
     write_certificate_list, write_tbs_cert_list,
 };
 pub use entries::{Entries, EntriesFields};
-pub use entry_extensions::{EntryExtensions, EntryExtensionsFields};
 pub use revoked_certificate::{
     RevokedCertificate, read_revoked_certificate, write_revoked_certificate,
 };

@@ -4,15 +4,16 @@ ghost use Rattle.der_elem.specs.Decoding.{ReadsAll};
 ghost use Rattle.der_pkix.specs.Writing.{WritesAll};
 ghost use Rattle.der_revocation.specs.Grammars.{revoked_certificate};
 
-use crate::entry_extensions::EntryExtensions;
-use der_fields::{Field, FieldSequence, read_sequence, write_sequence};
+use der_fields::{End, Field, FieldSequence, read_sequence, write_sequence};
 use der_numbers::IntRef;
+use der_opaque::AnyRef;
 use der_pkix::Time;
 use der_tlv::Error;
 use std::alloc::Global;
 
-/// A certificate that is revoked, by its serial number, since when, and what more is told of that.
-/// The structure has no name of its own in RFC 5280.
+/// A certificate that is revoked, by its serial number, since when, and what more is told of that,
+/// which is kept as it is encoded; `read_extensions` of `der_pkix` reads it. The structure has no
+/// name of its own in RFC 5280.
 ///
 /// ```text
 /// SEQUENCE {
@@ -21,14 +22,14 @@ use std::alloc::Global;
 ///     crlEntryExtensions  SEQUENCE OF Extension OPTIONAL }
 /// ```
 pub type RevokedCertificate<'a> = FieldSequence<
-    Field<IntRef<'a>, Field<Time, EntryExtensions<'a>>>,
+    Field<IntRef<'a>, Field<Time, Field<Option<AnyRef<'a>>, End>>>,
 >;
 
 /// Reads an entry: all of the octets, under DER.
 ///
 /// # Errors
 /// The first fault of the octets, in the order of the fields; (3) where octets are left over; (9)
-/// where there are more than 4294967295; (1) where memory for the extensions runs out.
+/// where there are more than 4294967295.
 pub fn read_revoked_certificate<'a>(
     alloc: Global,
     bytes: &'a [u8],

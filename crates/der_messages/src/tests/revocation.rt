@@ -101,8 +101,6 @@ fn entries_have_their_fields_in_order(rt: HostRuntime) -> Result<(), Fail> {
         ("3012170d3236313132333038313030375a020105", 4),
         // a value behind the extensions
         ("3016020105170d3236313132333038313030375a30000500", 3),
-        // an extension that is a NULL
-        ("3016020105170d3236313132333038313030375a30020500", 4),
         // half of a date
         ("300c020105170d32363131323330", 2),
     ];
