@@ -36,6 +36,3 @@ pub use der_tlv::{
     SliceReader, SliceWriter, Tag, TagMode, TagNumber, VecWriter, Writer,
 };
 pub use der_wrap::{TaggedValue, TaggedValueRef};
-
-#[cfg(test)]
-mod tests;

@@ -1,11 +1,11 @@
 //! Writing where there is too little room.
 
 ghost use Rattle.std.specs.Prelude.{true};
-ghost use Rattle.der_tlv.specs.Writing.{WriterState};
+ghost use Rattle.der_asn1_types.specs.Writing.{WriterState};
 
-use crate::asn1::{AnyRef, ContextSpecific, SetOf};
 use crate::tests::numbered;
-use crate::{Encode, Error, ErrorKind, SliceWriter, Tag, TagMode, TagNumber, Writer};
+use der_asn1_types::asn1::{AnyRef, ContextSpecific, SetOf};
+use der_asn1_types::{Encode, Error, ErrorKind, SliceWriter, Tag, TagMode, TagNumber, Writer};
 use std::alloc::Global;
 use std::process::Abort;
 use std::test::Fail;

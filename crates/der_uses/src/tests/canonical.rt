@@ -1,19 +1,9 @@
-//! Canonical encodings, through the names of this crate.
+//! Canonical encodings.
 
-use crate::asn1::{SetOfVec, Utf8StringRef};
-use crate::{Error, FromDer, canonical};
+use crate::tests::numbered;
+use der_asn1_types::asn1::{SetOfVec, Utf8StringRef};
+use der_asn1_types::{FromDer, canonical};
 use std::test::Fail;
-
-mod rooms;
-mod rows;
-
-// The number of a refusal.
-fn numbered<T>(answer: Result<T, Error>) -> Result<T, u8> {
-    match answer {
-        Ok(value) => Ok(value),
-        Err(e) => Err(e.kind().number()),
-    }
-}
 
 #[test]
 fn items_are_put_in_order(rt: HostRuntime) -> Result<(), Fail> {

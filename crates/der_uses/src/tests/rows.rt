@@ -1,10 +1,10 @@
 //! Values of several kinds in one another: tagged sets, sets of tagged values, tagged bit strings.
 
-use crate::asn1::{
+use crate::tests::numbered;
+use der_asn1_types::asn1::{
     AnyRef, BitStringRef, ContextSpecific, ContextSpecificRef, SetOf, SetOfVec, Utf8StringRef,
 };
-use crate::tests::numbered;
-use crate::{DerOrd, Encode, EncodingRules, SliceReader, Tag, TagMode, TagNumber, Tagged};
+use der_asn1_types::{DerOrd, Encode, EncodingRules, SliceReader, Tag, TagMode, TagNumber, Tagged};
 use std::alloc::Global;
 use std::test::Fail;
 
