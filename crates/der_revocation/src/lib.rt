@@ -7,6 +7,7 @@
 mod certificate_list;
 mod entries;
 mod revoked_certificate;
+pub mod tbs;
 mod updates;
 
 pub use certificate_list::{
