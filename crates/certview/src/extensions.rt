@@ -1,75 +1,79 @@
 //! Extensions as text.
 
-use crate::hexadecimal::push_digits;
-use crate::identifiers::{dotted, push_identifier};
-use crate::names::push_malformed;
-use der_extensions::{BasicConstraints, read_basic_constraints};
-use der_fields::Explicit;
+use crate::constraints::push_constraints;
+use crate::identifiers::push_identifier;
+use crate::key_identifiers::{push_authority_key, push_subject_key};
+use crate::labels::push_label;
+use crate::other_names::push_other_names;
+use crate::site::{Site, Sites};
+use crate::usages::{push_purposes, push_usage};
 use der_pkix::Extension;
 use std::alloc::{AllocError, Global};
 use std::fmt::Write;
 
-/// Adds a line for each extension, if there are any.
+/// Adds a line for each extension. They stand behind an explicit tag, in a list.
 pub fn push_extensions(
     alloc: Global,
     text: &mut String,
-    extensions: &Option<Explicit<Vec<Extension<'_>>, 3>>,
+    octets: &[u8],
+    site: &Site,
+    extensions: &[Extension<'_>],
 ) -> Result<(), AllocError> {
-    let Some(extensions) = extensions else {
-        return Ok(());
-    };
-    for extension in &extensions.fields.first {
+    let list = site.field(octets, "");
+    let mut sites = Sites::within(octets, &list);
+    for extension in extensions {
+        let place = sites.next_site().unwrap_or(list.nothing()).place;
+        push_label(text, &place, "extension")?;
         push_extension(alloc, text, extension)?;
     }
     Ok(())
 }
 
-fn push_extension(
+/// Adds an extension, and ends the line.
+pub fn push_extension(
     alloc: Global,
     text: &mut String,
     extension: &Extension<'_>,
 ) -> Result<(), AllocError> {
-    let identifier = &extension.fields.first;
-    let octets = extension.fields.rest.rest.first.as_bytes();
-    text.push_str("extension: ")?;
+    let identifier = extension.fields.first.as_bytes();
     push_identifier(alloc, text, identifier)?;
     if extension.fields.rest.first.value {
         text.push_str(", critical")?;
     }
+    let octets = extension.fields.rest.rest.first.as_bytes();
     let count = octets.len();
     write!(text, ", {count} octets")?;
-    if identifier.as_bytes() == b"\x55\x1d\x13".as_slice() {
-        push_constraints(alloc, text, octets)?;
-    }
+    push_value(alloc, text, identifier, octets)?;
     text.push('\n')
 }
 
-/// Adds what the octets of basicConstraints say (RFC 5280 section 4.2.1.9).
-fn push_constraints(alloc: Global, text: &mut String, octets: &[u8]) -> Result<(), AllocError> {
-    text.push_str(", ")?;
-    match read_basic_constraints(alloc, octets) {
-        Ok(constraints) => push_authority(text, &constraints),
-        Err(error) => push_malformed(text, error),
+/// Adds what the octets of an extension's value say, if it is one of those that are read.
+fn push_value(
+    alloc: Global,
+    text: &mut String,
+    identifier: &[u8],
+    octets: &[u8],
+) -> Result<(), AllocError> {
+    match identifier {
+        [0x55, 0x1d, last] => push_value_of(alloc, text, *last, octets),
+        _ => Ok(()),
     }
 }
 
-fn push_authority(text: &mut String, constraints: &BasicConstraints<'_>) -> Result<(), AllocError> {
-    if constraints.fields.first.value {
-        text.push_str("CA")?;
-    } else {
-        text.push_str("no CA")?;
+/// The same for an extension of RFC 5280, by the last arc of its identifier 2.5.29.
+fn push_value_of(
+    alloc: Global,
+    text: &mut String,
+    last: u8,
+    octets: &[u8],
+) -> Result<(), AllocError> {
+    match last {
+        14 => push_subject_key(alloc, text, octets),
+        15 => push_usage(alloc, text, octets),
+        17 => push_other_names(alloc, text, octets),
+        19 => push_constraints(alloc, text, octets),
+        35 => push_authority_key(alloc, text, octets),
+        37 => push_purposes(alloc, text, octets),
+        _ => Ok(()),
     }
-    match constraints.fields.rest.first {
-        Some(length) => push_path_length(text, length.as_bytes()),
-        None => Ok(()),
-    }
-}
-
-fn push_path_length(text: &mut String, octets: &[u8]) -> Result<(), AllocError> {
-    text.push_str(", path length ")?;
-    if let [number] = octets {
-        return write!(text, "{number}");
-    }
-    text.push_str("0x")?;
-    push_digits(text, octets)
 }

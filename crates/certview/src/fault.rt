@@ -2,17 +2,20 @@
 
 ghost use Rattle.std.specs.Prelude.{◌≡◌};
 ghost use Rattle.certview.specs.declared.fault.Fault.TheVariants.{Memory};
+ghost use Rattle.der_tlv.specs.ErrorNumber.{error_number};
 
-use der_tlv::Error;
+use crate::path::Path;
+use crate::values::sizes;
+use der_tlv::{Error, ErrorKind, Length};
 use std::alloc::AllocError;
 use std::fmt;
 
-/// Why a certificate is not printed, or not to its end.
+/// Why a message is not printed, or not to its end.
 #[derive(Clone, Copy, Debug, PartialEq, Eq)]
 pub enum Fault {
-    /// The octets are no certificate: their first fault.
-    Refused(Error),
-    /// The text is no PEM text of one certificate.
+    /// The octets are no message of their kind: their first fault, and the field in which it was met.
+    Refused(Error, Path),
+    /// The text is no PEM text of one message that is known.
     Pem,
     /// A read failed.
     Input,
@@ -26,7 +29,7 @@ impl Fault {
     /// The exit status: 1 for octets that are refused, 2 where the machine failed.
     pub fn status(self) -> u8 {
         match self {
-            Fault::Refused(_) | Fault::Pem => 1,
+            Fault::Refused(..) | Fault::Pem => 1,
             Fault::Input | Fault::Output | Fault::Memory => 2,
         }
     }
@@ -43,14 +46,61 @@ impl From<AllocError> for Fault {
 impl fmt::Display for Fault {
     fn fmt<W: fmt::Write>(&self, f: &mut fmt::Formatter<W>) -> fmt::Result {
         match *self {
-            Fault::Refused(error) => {
+            Fault::Refused(error, path) => {
                 let number = error.kind().number();
-                write!(f, "refused ({number}): {error}")
+                write!(f, "refused ({number}): {error}{path}")
             }
-            Fault::Pem => write!(f, "refused: no PEM text of one certificate"),
+            Fault::Pem => write!(f, "refused: no PEM text of one message that is known"),
             Fault::Input => write!(f, "input failed"),
             Fault::Output => write!(f, "output failed"),
             Fault::Memory => write!(f, "out of memory"),
         }
+    }
+}
+
+/// A fault of the first field's octets, as one of all octets: its places are counted from their
+/// beginning.
+pub fn within_signed(octets: &[u8], error: Error) -> Error {
+    let before = sizes(octets).0;
+    let kind = kind_behind(before, error.kind);
+    let position = position_behind(before, error.position);
+    Error { kind, position }
+}
+
+/// A kind of which the places are counted from behind so many octets.
+fn kind_behind(before: usize, kind: ErrorKind) -> ErrorKind {
+    match kind {
+        ErrorKind::Incomplete {
+            expected_len,
+            actual_len,
+        } => {
+            let expected_len = place_behind(before, expected_len);
+            let actual_len = place_behind(before, actual_len);
+            ErrorKind::Incomplete {
+                expected_len,
+                actual_len,
+            }
+        }
+        ErrorKind::TrailingData { decoded, remaining } => {
+            let decoded = place_behind(before, decoded);
+            ErrorKind::TrailingData { decoded, remaining }
+        }
+        kind => kind,
+    }
+}
+
+fn position_behind(before: usize, position: Option<Length>) -> Option<Length> {
+    match position {
+        Some(position) => Some(place_behind(before, position)),
+        None => None,
+    }
+}
+
+/// A place that is counted from behind so many octets.
+fn place_behind(before: usize, place: Length) -> Length {
+    let place = u64::from(place.value()).saturating_add(before as u64);
+    match u32::try_from(place) {
+        Ok(place) => Length::new(place),
+        Err(_) => Length::MAX,
     }
 }

@@ -1,12 +1,11 @@
 //! Object identifiers as text, and the names of those that are common in certificates.
 
 use crate::hexadecimal::push_digits;
-use der_opaque::ObjectIdentifier;
 use std::alloc::{AllocError, Global};
 use std::fmt::Write;
 
-/// Names of algorithms and extensions.
-const NAMES: [(&str, &str); 28] = [
+/// Names of algorithms, curves, extensions and purposes.
+const NAMES: [(&str, &str); 42] = [
     ("1.2.840.113549.1.1.1", "rsaEncryption"),
     ("1.2.840.113549.1.1.5", "sha1WithRSAEncryption"),
     ("1.2.840.113549.1.1.10", "RSASSA-PSS"),
@@ -14,6 +13,9 @@ const NAMES: [(&str, &str); 28] = [
     ("1.2.840.113549.1.1.12", "sha384WithRSAEncryption"),
     ("1.2.840.113549.1.1.13", "sha512WithRSAEncryption"),
     ("1.2.840.10045.2.1", "id-ecPublicKey"),
+    ("1.2.840.10045.3.1.7", "secp256r1"),
+    ("1.3.132.0.34", "secp384r1"),
+    ("1.3.132.0.35", "secp521r1"),
     ("1.2.840.10045.4.3.2", "ecdsa-with-SHA256"),
     ("1.2.840.10045.4.3.3", "ecdsa-with-SHA384"),
     ("1.2.840.10045.4.3.4", "ecdsa-with-SHA512"),
@@ -25,25 +27,36 @@ const NAMES: [(&str, &str); 28] = [
     ("2.5.29.17", "subjectAltName"),
     ("2.5.29.18", "issuerAltName"),
     ("2.5.29.19", "basicConstraints"),
+    ("2.5.29.20", "cRLNumber"),
+    ("2.5.29.21", "cRLReasons"),
+    ("2.5.29.24", "invalidityDate"),
+    ("2.5.29.28", "issuingDistributionPoint"),
     ("2.5.29.30", "nameConstraints"),
     ("2.5.29.31", "cRLDistributionPoints"),
     ("2.5.29.32", "certificatePolicies"),
     ("2.5.29.35", "authorityKeyIdentifier"),
     ("2.5.29.37", "extKeyUsage"),
     ("1.3.6.1.5.5.7.1.1", "authorityInfoAccess"),
+    ("1.3.6.1.5.5.7.3.1", "serverAuth"),
+    ("1.3.6.1.5.5.7.3.2", "clientAuth"),
+    ("1.3.6.1.5.5.7.3.3", "codeSigning"),
+    ("1.3.6.1.5.5.7.3.4", "emailProtection"),
+    ("1.3.6.1.5.5.7.3.8", "timeStamping"),
+    ("1.3.6.1.5.5.7.3.9", "OCSPSigning"),
+    ("2.5.29.37.0", "anyExtendedKeyUsage"),
     ("1.3.6.1.4.1.11129.2.4.2", "signedCertificateTimestamps"),
     ("2.16.840.1.113730.1.1", "netscapeCertType"),
     ("2.16.840.1.113730.1.13", "netscapeComment"),
     ("1.2.840.113549.1.9.1", "emailAddress"),
 ];
 
-/// Adds an identifier, and its name in brackets where it has one here.
+/// Adds the identifier of these contents octets, and its name in brackets where it has one here.
 pub fn push_identifier(
     alloc: Global,
     text: &mut String,
-    identifier: &ObjectIdentifier<39>,
+    identifier: &[u8],
 ) -> Result<(), AllocError> {
-    let dotted = dotted(alloc, identifier.as_bytes())?;
+    let dotted = dotted(alloc, identifier)?;
     text.push_str(dotted.as_str())?;
     match name_in(&NAMES, dotted.as_str()) {
         Some(name) => write!(text, " ({name})"),

@@ -1,4 +1,5 @@
-//! Reads one X.509 certificate from standard input, in DER or as PEM text, and prints its fields.
+//! Reads a certificate or a key from standard input, in DER or as PEM
+//! text, and prints its fields.
 #![tactic(auto)]
 
 use fault::Fault;
@@ -7,17 +8,32 @@ use std::io;
 use std::process::ExitCode;
 
 mod algorithms;
+mod certificate;
+mod constraints;
 mod extensions;
 mod fault;
+mod grammars;
 mod hexadecimal;
 mod identifiers;
+mod key_identifiers;
+mod keys;
+mod kind;
+mod labels;
 mod names;
+mod other_names;
+mod part;
+mod path;
 mod pem;
+mod place;
+mod rsa;
 mod run;
 mod shown;
+mod site;
 #[cfg(test)]
 mod tests;
 mod times;
+mod usages;
+mod values;
 
 fn view(rt: &(impl Input + Print + AllocGlobal)) -> Result<(), Fault> {
     run(rt.alloc(), &mut rt.reader(), &mut io::writer(rt))

@@ -2,6 +2,8 @@
 
 use crate::hexadecimal::{push_digits, push_octet};
 use crate::identifiers::{dotted, name_in};
+use crate::labels::push_label;
+use crate::site::Site;
 use der_elem::Encode;
 use der_opaque::AnyRef;
 use der_pkix::{AttributeTypeAndValue, Name, RelativeDistinguishedName};
@@ -29,11 +31,11 @@ const ATTRIBUTES: [(&str, &str); 12] = [
 pub fn push_name(
     alloc: Global,
     text: &mut String,
+    site: &Site,
     label: &str,
     name: AnyRef<'_>,
 ) -> Result<(), AllocError> {
-    text.push_str(label)?;
-    text.push_str(": ")?;
+    push_label(text, &site.place, label)?;
     match name.decode_as::<Name>(alloc) {
         Ok(name) => push_places(alloc, text, name.as_slice())?,
         Err(error) => push_malformed(text, error)?,
@@ -103,6 +105,15 @@ fn push_value(alloc: Global, text: &mut String, value: AnyRef<'_>) -> Result<(),
             return push_escaped(text, characters);
         }
     }
+    push_encoding(alloc, text, value)
+}
+
+/// Adds `#` and the digits of an encoding.
+pub fn push_encoding(
+    alloc: Global,
+    text: &mut String,
+    value: AnyRef<'_>,
+) -> Result<(), AllocError> {
     text.push('#')?;
     match value.to_der(alloc) {
         Ok(octets) => push_digits(text, octets.as_slice()),
@@ -124,7 +135,7 @@ fn is_text(tag: Tag) -> bool {
 
 /// Adds characters, with a `\` before those that RFC 4514 section 2.4 escapes. Control characters
 /// are `\` and two digits an octet.
-fn push_escaped(text: &mut String, characters: &str) -> Result<(), AllocError> {
+pub fn push_escaped(text: &mut String, characters: &str) -> Result<(), AllocError> {
     let mut is_first = true;
     for character in characters.chars() {
         if character.is_control() {

@@ -1,23 +1,32 @@
 //! From what is read to what is written.
 
-ghost use Rattle.std.specs.Prelude.{◌≡◌, ◌≢◌, None, false, OnOk, IfErr, IfSome};
+ghost use Rattle.std.specs.Prelude.{◌≡◌, ◌≢◌, None, true, false, OnOk, IfErr, IfSome};
 ghost use Rattle.std.specs.Io.KnownBytes.{Keeps};
 ghost use Rattle.certview.specs.Faults.{first_fault};
+ghost use Rattle.certview.specs.Grammars.{is_signed};
+ghost use Rattle.certview.specs.Kinds.{kind_of, signed_part};
 ghost use Rattle.certview.specs.Pem.{is_pem};
 
 use crate::fault::Fault;
-use crate::pem::octets_of;
+use crate::grammars::{Grammars, Messages};
+use crate::kind::Kind;
+use crate::path::path_of;
+use crate::pem::message_of;
 use crate::shown::shown;
-use der_certificate::Certificate;
-use der_elem::Form;
 use der_tlv::{Error, ErrorKind};
 use std::alloc::Global;
 use std::io::{self, Read, Write};
 
-/// Reads all of the input, and writes the fields of the certificate that it carries.
+/// Reads all of the input, and writes the fields of the message that it carries.
 pub fn run<R: Read, W: Write>(alloc: Global, input: &mut R, output: &mut W) -> Result<(), Fault>
-    // What was read is shown only where the grammar reads it as a certificate.
-    ensures read { OnOk result (IfSome (R.remaining input.old) (λ octets. is_pem octets ≡ false → first_fault ⟦<Certificate<'static> as Form>⟧.parse octets ≡ None)) }
+    // What was read is shown only where the grammar of its kind reads exactly these octets.
+    ensures read { OnOk result (IfSome (R.remaining input.old) (λ octets. is_pem octets ≡ false →
+        first_fault (⟦<Messages as Grammars>⟧.grammar (kind_of octets)) octets ≡ None)) }
+    // And where the grammar of what is signed reads exactly the octets of that.
+    ensures signed { OnOk result (IfSome (R.remaining input.old) (λ octets. is_pem octets ≡ false →
+        is_signed (kind_of octets) ≡ true →
+        first_fault (⟦<Messages as Grammars>⟧.signed_grammar (kind_of octets)) (signed_part octets)
+        ≡ None)) }
     // Unless a write fails, nothing was written where there is a fault.
     ensures kept { IfErr result (λ fault. fault ≢ Fault.Output → Keeps (W.contents output.old) (W.contents output.new)) }
 {
@@ -42,19 +51,23 @@ fn read_fault(error: &io::Error) -> Fault {
 
 /// What is written for an input.
 fn answer(alloc: Global, input: Vec<u8>) -> Result<String, Fault>
-    ensures ok { OnOk result (is_pem input.items ≡ false → first_fault ⟦<Certificate<'static> as Form>⟧.parse input.items ≡ None) }
+    ensures read { OnOk result (is_pem input.items ≡ false →
+        first_fault (⟦<Messages as Grammars>⟧.grammar (kind_of input.items)) input.items ≡ None) }
+    ensures signed { OnOk result (is_pem input.items ≡ false → is_signed (kind_of input.items) ≡ true →
+        first_fault (⟦<Messages as Grammars>⟧.signed_grammar (kind_of input.items))
+        (signed_part input.items) ≡ None) }
 {
-    let octets = octets_of(alloc, input)?;
-    match shown(alloc, octets.as_slice()) {
+    let message = message_of(alloc, input)?;
+    match shown(alloc, message.kind, message.octets.as_slice()) {
         Ok(text) => Ok(text),
-        Err(error) => Err(refusal(error)),
+        Err(error) => Err(refusal(message.kind, message.octets.as_slice(), error)),
     }
 }
 
 /// The fault of octets that are refused, or of memory that was.
-fn refusal(error: Error) -> Fault {
+fn refusal(kind: Kind, octets: &[u8], error: Error) -> Fault {
     match error.kind {
         ErrorKind::Memory => Fault::Memory,
-        _ => Fault::Refused(error),
+        _ => Fault::Refused(error, path_of(octets, kind, &error)),
     }
 }

@@ -1,5 +1,7 @@
 //! Times as text.
 
+use crate::labels::push_label;
+use crate::site::Site;
 use der_fields::OneOf;
 use der_pkix::{Time, Validity};
 use der_time::DateTime;
@@ -7,16 +9,31 @@ use std::alloc::AllocError;
 use std::fmt::Write;
 
 /// Adds a line for the first second of the validity, and one for the last.
-pub fn push_validity(text: &mut String, validity: &Validity) -> Result<(), AllocError> {
-    text.push_str("not before: ")?;
-    push_time(text, &validity.fields.first)?;
-    text.push_str("\nnot after: ")?;
-    push_time(text, &validity.fields.rest.first)?;
+pub fn push_validity(
+    text: &mut String,
+    octets: &[u8],
+    site: &Site,
+    validity: &Validity,
+) -> Result<(), AllocError> {
+    let (begin, end) = (&validity.fields.first, &validity.fields.rest.first);
+    push_moment(text, &site.field(octets, "notBefore"), "not before", begin)?;
+    push_moment(text, &site.field(octets, "notAfter"), "not after", end)
+}
+
+/// Adds a line with a time.
+pub fn push_moment(
+    text: &mut String,
+    site: &Site,
+    label: &str,
+    time: &Time,
+) -> Result<(), AllocError> {
+    push_label(text, &site.place, label)?;
+    push_time(text, time)?;
     text.push('\n')
 }
 
 /// Adds a time, as `2026-11-23 04:38:17 UTC`.
-fn push_time(text: &mut String, time: &Time) -> Result<(), AllocError> {
+pub fn push_time(text: &mut String, time: &Time) -> Result<(), AllocError> {
     let time = date_time_of(time);
     let (year, month, day) = (time.year(), time.month(), time.day());
     let (hour, minutes, seconds) = (time.hour(), time.minutes(), time.seconds());

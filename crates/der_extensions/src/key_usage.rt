@@ -13,11 +13,9 @@ use std::alloc::Global;
 /// 03 02 01 06.
 ///
 /// ```text
-/// KeyUsage ::= BIT STRING { digitalSignature (0), nonRepudiation (`ErrorKind::Memory`, 1),
-/// keyEncipherment (`ErrorKind::Incomplete`, 2), dataEncipherment (`ErrorKind::TrailingData`, 3),
-/// keyAgreement (`ErrorKind::TagUnexpected`, 4), keyCertSign (`ErrorKind::TagUnknown`, 5), cRLSign
-/// (`ErrorKind::TagNumberInvalid`, 6), encipherOnly (`ErrorKind::Length`, 7), decipherOnly
-/// (`ErrorKind::Noncanonical`, 8) }
+/// KeyUsage ::= BIT STRING {
+///     digitalSignature (0), nonRepudiation (1), keyEncipherment (2), dataEncipherment (3),
+///     keyAgreement (4), keyCertSign (5), cRLSign (6), encipherOnly (7), decipherOnly (8) }
 /// ```
 pub type KeyUsage<'a> = BitStringRef<'a>;
 

@@ -9,6 +9,7 @@ mod entries;
 mod grammars;
 mod listed;
 mod revoked_certificate;
+pub mod tbs;
 mod updates;
 
 pub use certificate_list::{

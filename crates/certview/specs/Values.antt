@@ -1,0 +1,31 @@
+-- Values that stand one behind another in octets, by their headers.
+use Rattle.std.specs.Prelude.{ℕ, ◌+◌, ◌^◌, List, length, take, drop, nat_lt, if◌then◌else◌, Result, Ok, Err}
+use Rattle.der_tlv.specs.declared.error.ErrorKind.{ErrorKind}
+use Rattle.der_tlv.specs.declared.header.Header.{Header}
+use Rattle.der_tlv.specs.HeaderReading.{read_header}
+
+-- a number of octets, as far as there are so many
+abbrev pub at_most : ℕ → ℕ → ℕ
+at_most most count = if nat_lt most count then most else count
+
+-- the octets of a header and of the whole value, where so many are left
+abbrev pub sizes_by : ℕ → Result (ℕ × Header) ErrorKind → ℕ × ℕ
+sizes_by most (Ok (count, header)) = (at_most most count, at_most most (count + header.length))
+sizes_by most (Err kind) = (0, 0)
+
+-- How many octets the header of the first value has and how many the whole value, as far as they are there: none where no header
+-- can be read, or where no length can say how many octets there are.
+abbrev pub sizes : List ℕ → ℕ × ℕ
+sizes octets = if nat_lt (length octets) (2 ^ 32) then sizes_by (length octets) (read_header 0 octets) else (0, 0)
+
+-- the octets behind the first header: the first value's contents, and what follows
+abbrev pub within : List ℕ → List ℕ
+within octets = drop (sizes octets).0 octets
+
+-- the octets behind the first value
+abbrev pub behind : List ℕ → List ℕ
+behind octets = drop (sizes octets).1 octets
+
+-- the octets of the first value
+abbrev pub first_value : List ℕ → List ℕ
+first_value octets = take (sizes octets).1 octets

@@ -1,0 +1,63 @@
+//! The value of the extension subjectAltName as text (RFC 5280 section 4.2.1.6).
+
+use crate::hexadecimal::{push_digits, push_octet};
+use crate::names::{push_escaped, push_malformed};
+use der_extensions::{GeneralName, read_subject_alt_name};
+use der_fields::OneOf;
+use std::alloc::{AllocError, Global};
+use std::fmt::Write;
+
+/// Adds the names. A name of a kind that is not read makes the value malformed.
+pub fn push_other_names(alloc: Global, text: &mut String, octets: &[u8]) -> Result<(), AllocError> {
+    match read_subject_alt_name(alloc, octets) {
+        Ok(names) => push_each(text, names.as_slice()),
+        Err(error) => {
+            text.push_str(", ")?;
+            push_malformed(text, error)
+        }
+    }
+}
+
+fn push_each(text: &mut String, names: &[GeneralName<'_>]) -> Result<(), AllocError> {
+    for name in names {
+        text.push_str(", ")?;
+        push_other_name(text, name)?;
+    }
+    Ok(())
+}
+
+fn push_other_name(text: &mut String, name: &GeneralName<'_>) -> Result<(), AllocError> {
+    match name {
+        OneOf::First(mail) => push_text(text, "mail ", mail.value.as_str()),
+        OneOf::Other(OneOf::First(host)) => push_text(text, "host ", host.value.as_str()),
+        OneOf::Other(OneOf::Other(OneOf::First(resource))) => {
+            push_text(text, "resource ", resource.value.as_str())
+        }
+        OneOf::Other(OneOf::Other(OneOf::Other(address))) => {
+            push_address(text, address.value.as_bytes())
+        }
+    }
+}
+
+fn push_text(text: &mut String, kind: &str, name: &str) -> Result<(), AllocError> {
+    text.push_str(kind)?;
+    push_escaped(text, name)
+}
+
+/// Adds an address: four numbers of four octets, else the octets two by two.
+fn push_address(text: &mut String, octets: &[u8]) -> Result<(), AllocError> {
+    text.push_str("address ")?;
+    if let [a, b, c, d] = octets {
+        return write!(text, "{a}.{b}.{c}.{d}");
+    }
+    if octets.len() != 16 {
+        return push_digits(text, octets);
+    }
+    for (index, octet) in octets.iter().enumerate() {
+        if index % 2 == 0 && index != 0 {
+            text.push(':')?;
+        }
+        push_octet(text, *octet)?;
+    }
+    Ok(())
+}

@@ -1,0 +1,69 @@
+//! Faults and the fields in which they are met: an octet of a message is another one.
+
+use crate::fault::Fault;
+use crate::tests::messages::{CURVE_PRIVATE, ED25519};
+use crate::tests::written;
+use std::test::Fail;
+
+#[test]
+fn names_the_field_of_a_fault(rt: HostRuntime) -> Result<(), Fail> {
+    let rows: [(&str, usize, u8, &str); 10] = [
+        (ED25519, 0, 0x31, "at position 4"),
+        (ED25519, 3, 0xff, "at position 4"),
+        (
+            ED25519,
+            7,
+            0xa5,
+            "at position 9, in tbsCertificate.serialNumber",
+        ),
+        (
+            ED25519,
+            9,
+            0x04,
+            "at position 11, in tbsCertificate.version",
+        ),
+        (
+            ED25519,
+            64,
+            0x39,
+            "at position 75, in tbsCertificate.validity.notBefore",
+        ),
+        (
+            ED25519,
+            75,
+            0x04,
+            "at position 75, in tbsCertificate.validity.notAfter",
+        ),
+        (
+            ED25519,
+            113,
+            0x04,
+            "in tbsCertificate.subjectPublicKeyInfo.algorithm.algorithm",
+        ),
+        (
+            ED25519,
+            188,
+            0x31,
+            "at position 190, in tbsCertificate.extensions",
+        ),
+        (
+            ED25519,
+            243,
+            0x04,
+            "at position 245, in signatureAlgorithm.algorithm",
+        ),
+        (CURVE_PRIVATE, 41, 0x05, "in parameters"),
+    ];
+    for (message, place, octet, words) in rows {
+        let mut octets = hex::decode(rt.alloc(), message)?;
+        assert!(rt; place < octets.len());
+        octets[place] = octet;
+        let (result, _written) = written(rt.alloc(), octets.as_slice());
+        let text = match result {
+            Ok(()) => String::new(rt.alloc()),
+            Err(fault) => format!(in rt.alloc(); "{fault}")?,
+        };
+        assert!(rt; text.ends_with(words), "{text}");
+    }
+    Ok(())
+}

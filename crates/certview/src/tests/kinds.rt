@@ -1,0 +1,117 @@
+//! A message of each kind: what is shown, and that each of its cuts is refused.
+
+use crate::kind::{Kind, kind_of};
+use crate::shown::shown;
+use crate::tests::messages::{
+    CURVE_PRIVATE, CURVE_PUBLIC, CURVE_WRAPPED, ED25519, ED25519_PUBLIC, ED25519_WRAPPED,
+    EXTENSIONS, LIST, RSA_MODULUS, RSA_PRIVATE, RSA_PUBLIC, RSA_WRAPPED,
+};
+use crate::tests::{assert_contains, number_of};
+use std::test::Fail;
+
+#[test]
+fn shows_each_kind(rt: HostRuntime) -> Result<(), Fail> {
+    let rows = [
+        (
+            RSA_PUBLIC,
+            "key algorithm: 1.2.840.113549.1.1.1 (rsaEncryption)\n",
+        ),
+        (RSA_PUBLIC, "key: 592 bits, modulus of 512 bits\n"),
+        (
+            CURVE_PUBLIC,
+            "(id-ecPublicKey), 1.2.840.10045.3.1.7 (secp256r1)\n",
+        ),
+        (ED25519_PUBLIC, "    9    35  key: 256 bits\n"),
+        (
+            RSA_WRAPPED,
+            "   22   324  privateKey: 320 octets, not shown\n",
+        ),
+        (
+            CURVE_WRAPPED,
+            "key algorithm: 1.2.840.10045.2.1 (id-ecPublicKey)",
+        ),
+        (
+            ED25519_WRAPPED,
+            "   12    36  privateKey: 34 octets, not shown\n",
+        ),
+        (RSA_PRIVATE, "modulus: 512 bits\n"),
+        (RSA_PRIVATE, "public exponent: 65537\n"),
+        (RSA_PRIVATE, "prime1: 33 octets, not shown\n"),
+        (RSA_MODULUS, "modulus: 512 bits\n"),
+        (
+            CURVE_PRIVATE,
+            "    5    34  privateKey: 32 octets, not shown\n",
+        ),
+        (CURVE_PRIVATE, "curve: 1.2.840.10045.3.1.7 (secp256r1)\n"),
+        (CURVE_PRIVATE, "public key: 520 bits\n"),
+    ];
+    for (message, line) in rows {
+        let octets = hex::decode(rt.alloc(), message)?;
+        let text = shown(rt.alloc(), kind_of(octets.as_slice()), octets.as_slice())?;
+        assert_contains(&rt, text.as_str(), line);
+    }
+    Ok(())
+}
+
+#[test]
+fn tells_the_kinds(rt: HostRuntime) -> Result<(), Fail> {
+    let rows = [
+        (ED25519, Kind::Certificate),
+        (LIST, Kind::RevocationList),
+        (ED25519_PUBLIC, Kind::PublicKey),
+        (ED25519_WRAPPED, Kind::PrivateKey),
+        (RSA_PRIVATE, Kind::RsaPrivateKey),
+        (RSA_MODULUS, Kind::RsaPublicKey),
+        (CURVE_PRIVATE, Kind::EcPrivateKey),
+    ];
+    for (message, kind) in rows {
+        let octets = hex::decode(rt.alloc(), message)?;
+        assert_eq!(rt; kind_of(octets.as_slice()), kind);
+    }
+    Ok(())
+}
+
+#[test]
+fn shows_each_extension(rt: HostRuntime) -> Result<(), Fail> {
+    let octets = hex::decode(rt.alloc(), EXTENSIONS)?;
+    let text = shown(rt.alloc(), Kind::Certificate, octets.as_slice())?;
+    for line in [
+        "(basicConstraints), critical, 2 octets, no CA\n",
+        "(keyUsage), critical, 4 octets, digitalSignature, keyEncipherment\n",
+        "(extKeyUsage), 22 octets, 1.3.6.1.5.5.7.3.1 (serverAuth), 1.3.6.1.5.5.7.3.2 (clientAuth)\n",
+        ", host mill.example, mail miller@mill.example, resource https://mill.example/, ",
+        ", address 192.0.2.7, address 2001:0db8:0000:0000:0000:0000:0000:0007\n",
+        "22 octets, c8:20:a3:2b:b1:1d:97:2a:7c:ce:b7:82:8d:0c:52:50:fe:49:6d:ae\n",
+        "24 octets, 43:53:0f:b6:38:35:16:df:38:d5:c8:ec:c7:94:d3:c5:15:fc:f4:fd\n",
+        "  506    18  extension: 2.5.29.32 (certificatePolicies), 9 octets\n",
+    ] {
+        assert_contains(&rt, text.as_str(), line);
+    }
+    Ok(())
+}
+
+#[test]
+fn refuses_each_cut(rt: HostRuntime) -> Result<(), Fail> {
+    let messages = [
+        ED25519,
+        EXTENSIONS,
+        LIST,
+        RSA_PUBLIC,
+        CURVE_PUBLIC,
+        ED25519_PUBLIC,
+        RSA_WRAPPED,
+        CURVE_WRAPPED,
+        ED25519_WRAPPED,
+        RSA_PRIVATE,
+        RSA_MODULUS,
+        CURVE_PRIVATE,
+    ];
+    for message in messages {
+        let octets = hex::decode(rt.alloc(), message)?;
+        for count in 0..octets.len() {
+            let number = number_of(rt.alloc(), &octets[..count]);
+            assert_eq!(rt; number, Some(2), "of {count} octets");
+        }
+    }
+    Ok(())
+}
