@@ -6,6 +6,7 @@
 
 mod certificate_list;
 mod entries;
+mod grammars;
 mod revoked_certificate;
 pub mod tbs;
 mod updates;
