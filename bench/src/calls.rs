@@ -32,6 +32,8 @@ of_octets! {
 }
 
 unsafe extern "C" {
+    fn read_certificate_fields(octets: *const u8, len: usize, signed: *const u8, signed_len: usize) -> usize;
+    fn read_certificate_parts(octets: *const u8, len: usize, signed: *const u8, signed_len: usize) -> usize;
     fn write_i64(values: *const i64, len: usize) -> usize;
     fn less_i64(a: *const i64, a_len: usize, b: *const i64, b_len: usize) -> u32;
     fn less_octets(a: *const u8, a_len: usize, b: *const u8, b_len: usize, rounds: u32) -> u32;
@@ -41,7 +43,26 @@ unsafe extern "C" {
     fn openssl_read_i64(octets: *const u8, len: usize) -> i64;
     fn openssl_prepare(octets: *const u8, len: usize);
     fn openssl_write_i64() -> i64;
+    fn openssl_read_certificate(octets: *const u8, len: usize) -> i64;
     fn openssl_rewrite_set(octets: *const u8, len: usize) -> i64;
+}
+
+/// Reads a certificate and what is signed of it into fields, the two names too: 1, or 0 where one is refused.
+pub fn library_read_certificate(octets: &[u8], signed: &[u8]) -> usize {
+    // SAFETY: the call reads the slices and keeps nothing of them.
+    unsafe { read_certificate_fields(octets.as_ptr(), octets.len(), signed.as_ptr(), signed.len()) }
+}
+
+/// The same with the names as they are encoded.
+pub fn library_read_parts(octets: &[u8], signed: &[u8]) -> usize {
+    // SAFETY: as above.
+    unsafe { read_certificate_parts(octets.as_ptr(), octets.len(), signed.as_ptr(), signed.len()) }
+}
+
+/// The same by OpenSSL, which keeps copies.
+pub fn ossl_read_certificate(octets: &[u8]) -> usize {
+    // SAFETY: as above.
+    unsafe { openssl_read_certificate(octets.as_ptr(), octets.len()) as usize }
 }
 
 /// Writes a SEQUENCE of these, and answers its octets' number.

@@ -220,14 +220,34 @@ pub fn octet_set(count: usize, order: Order) -> Vec<u8> {
 /// The certificates that the system trusts, several times over, up to a mebibyte; none where it has
 /// none.
 pub fn certificates() -> Option<Vec<u8>> {
-    let mut paths: Vec<_> = std::fs::read_dir("/usr/share/ca-certificates/mozilla").ok()?.flatten().map(|entry| entry.path()).collect();
-    paths.sort();
-    let mut all = Vec::new();
-    for path in paths {
-        all.extend(from_base64(&std::fs::read_to_string(path).ok()?));
-    }
+    let all = each_certificate()?.concat();
     let times = (1 << 20) / all.len().max(1);
     (times > 0).then(|| tlv(0x30, &all.repeat(times)))
+}
+
+/// The certificates that the system trusts, each by itself.
+pub fn each_certificate() -> Option<Vec<Vec<u8>>> {
+    let mut paths: Vec<_> = std::fs::read_dir("/usr/share/ca-certificates/mozilla").ok()?.flatten().map(|entry| entry.path()).collect();
+    paths.sort();
+    paths.into_iter().map(|path| Some(from_base64(&std::fs::read_to_string(path).ok()?))).collect()
+}
+
+/// The first value of a SEQUENCE, with its header.
+pub fn first_value(octets: &[u8]) -> &[u8] {
+    let (start, _) = contents(octets);
+    let (header, len) = contents(&octets[start..]);
+    &octets[start..start + header + len]
+}
+
+/// The lengths of a value's header and of its contents.
+fn contents(octets: &[u8]) -> (usize, usize) {
+    match octets[1] {
+        len @ 0..0x80 => (2, usize::from(len)),
+        len => {
+            let digits = usize::from(len & 0x7f);
+            (2 + digits, octets[2..2 + digits].iter().fold(0, |len, octet| len << 8 | usize::from(*octet)))
+        }
+    }
 }
 
 fn from_base64(text: &str) -> Vec<u8> {

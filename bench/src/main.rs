@@ -31,6 +31,7 @@ fn main() {
     integers(&plan);
     sets(&plan);
     walks(&plan);
+    certificates(&plan);
     types(&plan);
     owned(&plan);
     comparisons(&plan);
@@ -143,6 +144,26 @@ fn walks(plan: &Plan) {
     if let Some(octets) = inputs::certificates() {
         walk("walk certificates", 0.55, &octets);
     }
+}
+
+fn x509_cert_reads(octets: &[u8]) -> bool {
+    <x509_cert::Certificate as x509_cert::der::Decode>::from_der(octets).is_ok()
+}
+
+/// Certificates read into fields, beside the crate `x509-cert`, and a plain walk over their headers.
+fn certificates(plan: &Plan) {
+    let Some(certificates) = inputs::each_certificate() else {
+        return;
+    };
+    let pairs: Vec<(&[u8], &[u8])> =
+        certificates.iter().map(|octets| (&octets[..], inputs::first_value(octets))).collect();
+    plan.row("read certificates", pairs.len(), 41, Some(("x509-cert", 1.0)), vec![
+        by("here", || pairs.iter().map(|(octets, signed)| calls::library_read_certificate(octets, signed)).sum()),
+        by("parts", || pairs.iter().map(|(octets, signed)| calls::library_read_parts(octets, signed)).sum()),
+        by("headers", || pairs.iter().filter(|(octets, _)| here::walk_headers(octets) > 0).count()),
+        by("x509-cert", || pairs.iter().filter(|(octets, _)| x509_cert_reads(octets)).count()),
+        by("openssl", || pairs.iter().map(|(octets, _)| calls::ossl_read_certificate(octets)).sum()),
+    ]);
 }
 
 /// A row for reading a SEQUENCE OF a type, and one for reading and writing it.

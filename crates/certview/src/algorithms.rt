@@ -1,7 +1,7 @@
 //! Algorithms and public keys as text.
 
 use crate::identifiers::push_identifier;
-use crate::lines::push_label;
+use crate::labels::push_label;
 use crate::names::push_malformed;
 use crate::site::Site;
 use der_opaque::AnyRef;

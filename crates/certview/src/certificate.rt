@@ -9,7 +9,7 @@ use crate::extensions::push_extensions;
 use crate::fault::within_signed;
 use crate::hexadecimal::push_with_colons;
 use crate::kind::{Kind, signed_part};
-use crate::lines::{push_label, push_number, push_title};
+use crate::labels::{push_label, push_number, push_title};
 use crate::names::push_name;
 use crate::site::Site;
 use crate::times::push_validity;

@@ -3,7 +3,7 @@
 use crate::constraints::push_constraints;
 use crate::identifiers::push_identifier;
 use crate::key_identifiers::{push_authority_key, push_subject_key};
-use crate::lines::push_label;
+use crate::labels::push_label;
 use crate::other_names::push_other_names;
 use crate::site::{Site, Sites};
 use crate::usages::{push_purposes, push_usage};

@@ -7,7 +7,7 @@ use crate::algorithms::{bits_of, push_algorithm, push_key};
 use crate::hexadecimal::push_with_colons;
 use crate::identifiers::push_identifier;
 use crate::kind::Kind;
-use crate::lines::{push_label, push_number, push_title};
+use crate::labels::{push_label, push_number, push_title};
 use crate::site::Site;
 use der_elem::Form;
 use der_numbers::UintRef;

@@ -18,7 +18,7 @@ mod identifiers;
 mod key_identifiers;
 mod keys;
 mod kind;
-mod lines;
+mod labels;
 mod names;
 mod other_names;
 mod part;

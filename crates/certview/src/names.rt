@@ -2,7 +2,7 @@
 
 use crate::hexadecimal::{push_digits, push_octet};
 use crate::identifiers::{dotted, name_in};
-use crate::lines::push_label;
+use crate::labels::push_label;
 use crate::site::Site;
 use der_elem::Encode;
 use der_opaque::AnyRef;

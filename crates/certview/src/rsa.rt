@@ -5,7 +5,7 @@ ghost use Rattle.certview.specs.Faults.{first_fault};
 
 use crate::keys::{push_exponent, push_modulus, push_secret, push_version};
 use crate::kind::Kind;
-use crate::lines::push_title;
+use crate::labels::push_title;
 use crate::site::Site;
 use der_elem::Form;
 use der_pkix::{RsaPrivateKey, read_rsa_private_key};

@@ -1,6 +1,6 @@
 //! Times as text.
 
-use crate::lines::push_label;
+use crate::labels::push_label;
 use crate::site::Site;
 use der_fields::OneOf;
 use der_pkix::{Time, Validity};

@@ -26,8 +26,9 @@ pub use der_elem::{
 };
 pub use der_fields::{
     DefaultFalse, DefaultNumber, DefaultOf, End, Explicit, ExplicitApplication, ExplicitIn,
-    ExplicitPrivate, Field, FieldList, FieldSequence, FieldsMemory, Implicit, ImplicitApplication,
-    ImplicitIn, ImplicitPrivate, OneOf, WithDefault, read_sequence, write_sequence,
+    ExplicitPrivate, Field, FieldList, FieldSequence, FieldsMemory, FieldsPart, Implicit,
+    ImplicitApplication, ImplicitIn, ImplicitPrivate, OneOf, WithDefault, read_sequence,
+    write_sequence,
 };
 pub use der_nest::Asks;
 pub use der_time::{DateTime, const_contains_u8};
@@ -36,6 +37,3 @@ pub use der_tlv::{
     SliceReader, SliceWriter, Tag, TagMode, TagNumber, VecWriter, Writer,
 };
 pub use der_wrap::{TaggedValue, TaggedValueRef};
-
-#[cfg(test)]
-mod tests;

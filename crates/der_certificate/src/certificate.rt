@@ -2,10 +2,10 @@
 
 ghost use Rattle.der_elem.specs.Decoding.{ReadsAll};
 ghost use Rattle.der_pkix.specs.Writing.{WritesAll};
+ghost use Rattle.der_certificate.specs.Grammars.{tbs_certificate};
 
 use crate::issuer::Issuer;
 use der_bits::BitStringRef;
-use der_elem::Form;
 use der_fields::{
     DefaultNumber, End, Explicit, Field, FieldSequence, WithDefault, read_sequence, write_sequence,
 };
@@ -39,7 +39,7 @@ pub type TbsCertificate<'a> = FieldSequence<
 /// The first fault of the octets, in the order of the fields; (3) where octets are left over; (9)
 /// where there are more than 4294967295; (1) where a type that takes memory has none.
 pub fn read_tbs_certificate<'a>(alloc: Global, bytes: &'a [u8]) -> Result<TbsCertificate<'a>, Error>
-    ensures { ReadsAll ⟦<TbsCertificate<'a> as Form>⟧ bytes.now result }
+    ensures { ReadsAll tbs_certificate.grammar bytes.now result }
 {
     read_sequence(alloc, bytes)
 }
@@ -52,7 +52,7 @@ pub fn write_tbs_certificate<'a>(
     alloc: Global,
     value: &TbsCertificate<'a>,
 ) -> Result<Vec<u8>, Error>
-    ensures { WritesAll ⟦<TbsCertificate<'a> as Form>⟧ value.now result }
+    ensures { WritesAll tbs_certificate.grammar value.now result }
 {
     write_sequence(alloc, value)
 }

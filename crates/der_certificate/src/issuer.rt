@@ -1,7 +1,9 @@
 //! The fields from the signature on of a TBSCertificate.
 
 ghost use Rattle.std.specs.Prelude.{refl};
+ghost use Rattle.der_fields.specs.Parts.{part_of};
 
+use crate::listed::Listed;
 use crate::subject::Subject;
 use der_elem::WithMemory;
 use der_fields::{DecodeFields, EncodeFields, Field, FieldList, FieldsMemory};
@@ -20,36 +22,42 @@ pub struct Issuer<'a> {
     pub fields: IssuerFields<'a>,
 }
 
+impl<'a> Listed for Issuer<'a> {
+    ghost list = { part_of (λ v. v.fields) ⟦<IssuerFields<'a> as FieldList>⟧ };
+}
+
 impl<'a> FieldList for Issuer<'a> {
-    ghost joined = { λ v. ⟦<IssuerFields<'a> as FieldList>⟧.joined v.fields };
+    ghost use Rattle.der_certificate.specs.contracts.issuer.IssuerListed.TheImpl.{ghosts as issuer};
 
-    ghost first_tag = { λ v. ⟦<IssuerFields<'a> as FieldList>⟧.first_tag v.fields };
+    ghost joined = { issuer.list.joined };
 
-    ghost all_comparable = { λ v w. ⟦<IssuerFields<'a> as FieldList>⟧.all_comparable v.fields w.fields };
+    ghost first_tag = { issuer.list.first_tag };
 
-    ghost re_read = { λ v. ⟦<IssuerFields<'a> as FieldList>⟧.re_read v.fields };
+    ghost all_comparable = { issuer.list.all_comparable };
 
-    ghost accepts_fields = { λ rules v. ⟦<IssuerFields<'a> as FieldList>⟧.accepts_fields rules v.fields };
+    ghost re_read = { issuer.list.re_read };
 
-    ghost parse_fields = { ⟦<IssuerFields<'a> as FieldList>⟧.parse_fields };
+    ghost accepts_fields = { issuer.list.accepts_fields };
 
-    ghost readable_fields = { λ v. ⟦<IssuerFields<'a> as FieldList>⟧.readable_fields v.fields };
+    ghost parse_fields = { issuer.list.parse_fields };
 
-    ghost FIELDS_TAKE_MEMORY = { ⟦<IssuerFields<'a> as FieldList>⟧.FIELDS_TAKE_MEMORY };
+    ghost readable_fields = { issuer.list.readable_fields };
 
-    ghost parse_of_accepted_fields = { λ rules v. ⟦<IssuerFields<'a> as FieldList>⟧.parse_of_accepted_fields rules v.fields };
+    ghost FIELDS_TAKE_MEMORY = { issuer.list.FIELDS_TAKE_MEMORY };
 
-    ghost led_fields = { λ rules v. ⟦<IssuerFields<'a> as FieldList>⟧.led_fields rules v.fields };
+    ghost parse_of_accepted_fields = { issuer.list.parse_of_accepted_fields };
 
-    ghost same_length_fields = { λ rules v. ⟦<IssuerFields<'a> as FieldList>⟧.same_length_fields rules v.fields };
+    ghost led_fields = { issuer.list.led_fields };
 
-    ghost accepts_joined = { λ rules v. ⟦<IssuerFields<'a> as FieldList>⟧.accepts_joined rules v.fields };
+    ghost same_length_fields = { issuer.list.same_length_fields };
 
-    ghost only_readable_fields = { λ rules v. ⟦<IssuerFields<'a> as FieldList>⟧.only_readable_fields rules v.fields };
+    ghost accepts_joined = { issuer.list.accepts_joined };
 
-    ghost accepts_all_comparable = { λ rules v w. ⟦<IssuerFields<'a> as FieldList>⟧.accepts_all_comparable rules v.fields w.fields };
+    ghost only_readable_fields = { issuer.list.only_readable_fields };
 
-    ghost re_read_memory = { λ v. ⟦<IssuerFields<'a> as FieldList>⟧.re_read_memory v.fields };
+    ghost accepts_all_comparable = { issuer.list.accepts_all_comparable };
+
+    ghost re_read_memory = { issuer.list.re_read_memory };
 }
 
 impl<'a> FieldsMemory for Issuer<'a> {

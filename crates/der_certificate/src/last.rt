@@ -1,7 +1,9 @@
 //! The unique identifiers and the extensions of a TBSCertificate.
 
 ghost use Rattle.std.specs.Prelude.{refl};
+ghost use Rattle.der_fields.specs.Parts.{part_of};
 
+use crate::listed::Listed;
 use der_bits::BitStringRef;
 use der_elem::WithMemory;
 use der_fields::{
@@ -27,36 +29,42 @@ pub struct Last<'a> {
     pub fields: LastFields<'a>,
 }
 
+impl<'a> Listed for Last<'a> {
+    ghost list = { part_of (λ v. v.fields) ⟦<LastFields<'a> as FieldList>⟧ };
+}
+
 impl<'a> FieldList for Last<'a> {
-    ghost joined = { λ v. ⟦<LastFields<'a> as FieldList>⟧.joined v.fields };
+    ghost use Rattle.der_certificate.specs.contracts.last.LastListed.TheImpl.{ghosts as last};
 
-    ghost first_tag = { λ v. ⟦<LastFields<'a> as FieldList>⟧.first_tag v.fields };
+    ghost joined = { last.list.joined };
 
-    ghost all_comparable = { λ v w. ⟦<LastFields<'a> as FieldList>⟧.all_comparable v.fields w.fields };
+    ghost first_tag = { last.list.first_tag };
 
-    ghost re_read = { λ v. ⟦<LastFields<'a> as FieldList>⟧.re_read v.fields };
+    ghost all_comparable = { last.list.all_comparable };
 
-    ghost accepts_fields = { λ rules v. ⟦<LastFields<'a> as FieldList>⟧.accepts_fields rules v.fields };
+    ghost re_read = { last.list.re_read };
 
-    ghost parse_fields = { ⟦<LastFields<'a> as FieldList>⟧.parse_fields };
+    ghost accepts_fields = { last.list.accepts_fields };
 
-    ghost readable_fields = { λ v. ⟦<LastFields<'a> as FieldList>⟧.readable_fields v.fields };
+    ghost parse_fields = { last.list.parse_fields };
 
-    ghost FIELDS_TAKE_MEMORY = { ⟦<LastFields<'a> as FieldList>⟧.FIELDS_TAKE_MEMORY };
+    ghost readable_fields = { last.list.readable_fields };
 
-    ghost parse_of_accepted_fields = { λ rules v. ⟦<LastFields<'a> as FieldList>⟧.parse_of_accepted_fields rules v.fields };
+    ghost FIELDS_TAKE_MEMORY = { last.list.FIELDS_TAKE_MEMORY };
 
-    ghost led_fields = { λ rules v. ⟦<LastFields<'a> as FieldList>⟧.led_fields rules v.fields };
+    ghost parse_of_accepted_fields = { last.list.parse_of_accepted_fields };
 
-    ghost same_length_fields = { λ rules v. ⟦<LastFields<'a> as FieldList>⟧.same_length_fields rules v.fields };
+    ghost led_fields = { last.list.led_fields };
 
-    ghost accepts_joined = { λ rules v. ⟦<LastFields<'a> as FieldList>⟧.accepts_joined rules v.fields };
+    ghost same_length_fields = { last.list.same_length_fields };
 
-    ghost only_readable_fields = { λ rules v. ⟦<LastFields<'a> as FieldList>⟧.only_readable_fields rules v.fields };
+    ghost accepts_joined = { last.list.accepts_joined };
 
-    ghost accepts_all_comparable = { λ rules v w. ⟦<LastFields<'a> as FieldList>⟧.accepts_all_comparable rules v.fields w.fields };
+    ghost only_readable_fields = { last.list.only_readable_fields };
 
-    ghost re_read_memory = { λ v. ⟦<LastFields<'a> as FieldList>⟧.re_read_memory v.fields };
+    ghost accepts_all_comparable = { last.list.accepts_all_comparable };
+
+    ghost re_read_memory = { last.list.re_read_memory };
 }
 
 impl<'a> FieldsMemory for Last<'a> {

@@ -5,8 +5,10 @@
 #![tactic(auto)]
 
 mod certificate;
+mod grammars;
 mod issuer;
 mod last;
+mod listed;
 mod signed;
 mod subject;
 pub mod tbs;

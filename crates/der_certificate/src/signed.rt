@@ -2,9 +2,9 @@
 
 ghost use Rattle.der_elem.specs.Decoding.{ReadsAll};
 ghost use Rattle.der_pkix.specs.Writing.{WritesAll};
+ghost use Rattle.der_certificate.specs.Grammars.{certificate};
 
 use der_bits::BitStringRef;
-use der_elem::Form;
 use der_fields::{End, Field, FieldSequence, read_sequence, write_sequence};
 use der_opaque::AnyRef;
 use der_pkix::AlgorithmIdentifier;
@@ -30,7 +30,7 @@ pub type Certificate<'a> = FieldSequence<
 /// The first fault of the octets, in the order of the fields; (3) where octets are left over; (9)
 /// where there are more than 4294967295; (1) where a type that takes memory has none.
 pub fn read_certificate<'a>(alloc: Global, bytes: &'a [u8]) -> Result<Certificate<'a>, Error>
-    ensures { ReadsAll ⟦<Certificate<'a> as Form>⟧ bytes.now result }
+    ensures { ReadsAll certificate.grammar bytes.now result }
 {
     read_sequence(alloc, bytes)
 }
@@ -40,7 +40,7 @@ pub fn read_certificate<'a>(alloc: Global, bytes: &'a [u8]) -> Result<Certificat
 /// # Errors
 /// (1) where memory runs out; (9) where there are more than 4294967295 octets.
 pub fn write_certificate<'a>(alloc: Global, value: &Certificate<'a>) -> Result<Vec<u8>, Error>
-    ensures { WritesAll ⟦<Certificate<'a> as Form>⟧ value.now result }
+    ensures { WritesAll certificate.grammar value.now result }
 {
     write_sequence(alloc, value)
 }

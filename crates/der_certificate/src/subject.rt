@@ -1,8 +1,10 @@
 //! The fields from the validity on of a TBSCertificate.
 
 ghost use Rattle.std.specs.Prelude.{refl};
+ghost use Rattle.der_fields.specs.Parts.{part_of};
 
 use crate::last::Last;
+use crate::listed::Listed;
 use der_elem::WithMemory;
 use der_fields::{DecodeFields, EncodeFields, Field, FieldList, FieldsMemory};
 use der_opaque::AnyRef;
@@ -23,36 +25,42 @@ pub struct Subject<'a> {
     pub fields: SubjectFields<'a>,
 }
 
+impl<'a> Listed for Subject<'a> {
+    ghost list = { part_of (λ v. v.fields) ⟦<SubjectFields<'a> as FieldList>⟧ };
+}
+
 impl<'a> FieldList for Subject<'a> {
-    ghost joined = { λ v. ⟦<SubjectFields<'a> as FieldList>⟧.joined v.fields };
+    ghost use Rattle.der_certificate.specs.contracts.subject.SubjectListed.TheImpl.{ghosts as subject};
 
-    ghost first_tag = { λ v. ⟦<SubjectFields<'a> as FieldList>⟧.first_tag v.fields };
+    ghost joined = { subject.list.joined };
 
-    ghost all_comparable = { λ v w. ⟦<SubjectFields<'a> as FieldList>⟧.all_comparable v.fields w.fields };
+    ghost first_tag = { subject.list.first_tag };
 
-    ghost re_read = { λ v. ⟦<SubjectFields<'a> as FieldList>⟧.re_read v.fields };
+    ghost all_comparable = { subject.list.all_comparable };
 
-    ghost accepts_fields = { λ rules v. ⟦<SubjectFields<'a> as FieldList>⟧.accepts_fields rules v.fields };
+    ghost re_read = { subject.list.re_read };
 
-    ghost parse_fields = { ⟦<SubjectFields<'a> as FieldList>⟧.parse_fields };
+    ghost accepts_fields = { subject.list.accepts_fields };
 
-    ghost readable_fields = { λ v. ⟦<SubjectFields<'a> as FieldList>⟧.readable_fields v.fields };
+    ghost parse_fields = { subject.list.parse_fields };
 
-    ghost FIELDS_TAKE_MEMORY = { ⟦<SubjectFields<'a> as FieldList>⟧.FIELDS_TAKE_MEMORY };
+    ghost readable_fields = { subject.list.readable_fields };
 
-    ghost parse_of_accepted_fields = { λ rules v. ⟦<SubjectFields<'a> as FieldList>⟧.parse_of_accepted_fields rules v.fields };
+    ghost FIELDS_TAKE_MEMORY = { subject.list.FIELDS_TAKE_MEMORY };
 
-    ghost led_fields = { λ rules v. ⟦<SubjectFields<'a> as FieldList>⟧.led_fields rules v.fields };
+    ghost parse_of_accepted_fields = { subject.list.parse_of_accepted_fields };
 
-    ghost same_length_fields = { λ rules v. ⟦<SubjectFields<'a> as FieldList>⟧.same_length_fields rules v.fields };
+    ghost led_fields = { subject.list.led_fields };
 
-    ghost accepts_joined = { λ rules v. ⟦<SubjectFields<'a> as FieldList>⟧.accepts_joined rules v.fields };
+    ghost same_length_fields = { subject.list.same_length_fields };
 
-    ghost only_readable_fields = { λ rules v. ⟦<SubjectFields<'a> as FieldList>⟧.only_readable_fields rules v.fields };
+    ghost accepts_joined = { subject.list.accepts_joined };
 
-    ghost accepts_all_comparable = { λ rules v w. ⟦<SubjectFields<'a> as FieldList>⟧.accepts_all_comparable rules v.fields w.fields };
+    ghost only_readable_fields = { subject.list.only_readable_fields };
 
-    ghost re_read_memory = { λ v. ⟦<SubjectFields<'a> as FieldList>⟧.re_read_memory v.fields };
+    ghost accepts_all_comparable = { subject.list.accepts_all_comparable };
+
+    ghost re_read_memory = { subject.list.re_read_memory };
 }
 
 impl<'a> FieldsMemory for Subject<'a> {

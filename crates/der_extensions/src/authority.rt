@@ -2,8 +2,8 @@
 
 ghost use Rattle.der_elem.specs.Decoding.{ReadsAll};
 ghost use Rattle.der_pkix.specs.Writing.{WritesAll};
+ghost use Rattle.der_extensions.specs.Grammars.{authority_key_identifier};
 
-use der_elem::Form;
 use der_fields::{End, Field, FieldSequence, Implicit, read_sequence, write_sequence};
 use der_numbers::IntRef;
 use der_opaque::{AnyRef, OctetStringRef};
@@ -35,7 +35,7 @@ pub fn read_authority_key_identifier<'a>(
     alloc: Global,
     bytes: &'a [u8],
 ) -> Result<AuthorityKeyIdentifier<'a>, Error>
-    ensures { ReadsAll ⟦<AuthorityKeyIdentifier<'a> as Form>⟧ bytes.now result }
+    ensures { ReadsAll authority_key_identifier.grammar bytes.now result }
 {
     read_sequence(alloc, bytes)
 }
@@ -48,7 +48,7 @@ pub fn write_authority_key_identifier<'a>(
     alloc: Global,
     value: &AuthorityKeyIdentifier<'a>,
 ) -> Result<Vec<u8>, Error>
-    ensures { WritesAll ⟦<AuthorityKeyIdentifier<'a> as Form>⟧ value.now result }
+    ensures { WritesAll authority_key_identifier.grammar value.now result }
 {
     write_sequence(alloc, value)
 }

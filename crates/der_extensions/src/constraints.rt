@@ -2,8 +2,8 @@
 
 ghost use Rattle.der_elem.specs.Decoding.{ReadsAll};
 ghost use Rattle.der_pkix.specs.Writing.{WritesAll};
+ghost use Rattle.der_extensions.specs.Grammars.{basic_constraints};
 
-use der_elem::Form;
 use der_fields::{
     DefaultFalse, End, Field, FieldSequence, WithDefault, read_sequence, write_sequence,
 };
@@ -30,7 +30,7 @@ pub fn read_basic_constraints<'a>(
     alloc: Global,
     bytes: &'a [u8],
 ) -> Result<BasicConstraints<'a>, Error>
-    ensures { ReadsAll ⟦<BasicConstraints<'a> as Form>⟧ bytes.now result }
+    ensures { ReadsAll basic_constraints.grammar bytes.now result }
 {
     read_sequence(alloc, bytes)
 }
@@ -44,7 +44,7 @@ pub fn write_basic_constraints<'a>(
     alloc: Global,
     value: &BasicConstraints<'a>,
 ) -> Result<Vec<u8>, Error>
-    ensures { WritesAll ⟦<BasicConstraints<'a> as Form>⟧ value.now result }
+    ensures { WritesAll basic_constraints.grammar value.now result }
 {
     write_sequence(alloc, value)
 }

@@ -2,9 +2,10 @@
 
 ghost use Rattle.der_elem.specs.Decoding.{ReadsAll};
 ghost use Rattle.der_pkix.specs.Writing.{WritesAll};
+ghost use Rattle.der_extensions.specs.Grammars.{general_name, subject_alt_name};
 
 use der_ascii::Ia5StringRef;
-use der_elem::{Encode, Form, FromDer};
+use der_elem::{Encode, FromDer};
 use der_fields::{Implicit, OneOf};
 use der_opaque::OctetStringRef;
 use der_tlv::Error;
@@ -39,7 +40,7 @@ pub type SubjectAltName<'a> = Vec<GeneralName<'a>>;
 /// The first fault of the octets, in the order of the fields; (3) where octets are left over; (9)
 /// where there are more than 4294967295; (1) where a type that takes memory has none.
 pub fn read_general_name<'a>(alloc: Global, bytes: &'a [u8]) -> Result<GeneralName<'a>, Error>
-    ensures { ReadsAll ⟦<GeneralName<'a> as Form>⟧ bytes.now result }
+    ensures { ReadsAll general_name.grammar bytes.now result }
 {
     GeneralName::from_der(alloc, bytes)
 }
@@ -49,7 +50,7 @@ pub fn read_general_name<'a>(alloc: Global, bytes: &'a [u8]) -> Result<GeneralNa
 /// # Errors
 /// (1) where memory runs out; (9) where there are more than 4294967295 octets.
 pub fn write_general_name<'a>(alloc: Global, value: &GeneralName<'a>) -> Result<Vec<u8>, Error>
-    ensures { WritesAll ⟦<GeneralName<'a> as Form>⟧ value.now result }
+    ensures { WritesAll general_name.grammar value.now result }
 {
     value.to_der(alloc)
 }
@@ -63,7 +64,7 @@ pub fn read_subject_alt_name<'a>(
     alloc: Global,
     bytes: &'a [u8],
 ) -> Result<SubjectAltName<'a>, Error>
-    ensures { ReadsAll ⟦<SubjectAltName<'a> as Form>⟧ bytes.now result }
+    ensures { ReadsAll subject_alt_name.grammar bytes.now result }
 {
     SubjectAltName::from_der(alloc, bytes)
 }
@@ -76,7 +77,7 @@ pub fn write_subject_alt_name<'a>(
     alloc: Global,
     value: &SubjectAltName<'a>,
 ) -> Result<Vec<u8>, Error>
-    ensures { WritesAll ⟦<SubjectAltName<'a> as Form>⟧ value.now result }
+    ensures { WritesAll subject_alt_name.grammar value.now result }
 {
     value.to_der(alloc)
 }

@@ -2,8 +2,9 @@
 
 ghost use Rattle.der_elem.specs.Decoding.{ReadsAll};
 ghost use Rattle.der_pkix.specs.Writing.{WritesAll};
+ghost use Rattle.der_extensions.specs.Grammars.{subject_key_identifier};
 
-use der_elem::{Encode, Form, FromDer};
+use der_elem::{Encode, FromDer};
 use der_opaque::OctetStringRef;
 use der_tlv::Error;
 use std::alloc::Global;
@@ -24,7 +25,7 @@ pub fn read_subject_key_identifier<'a>(
     alloc: Global,
     bytes: &'a [u8],
 ) -> Result<SubjectKeyIdentifier<'a>, Error>
-    ensures { ReadsAll ⟦<SubjectKeyIdentifier<'a> as Form>⟧ bytes.now result }
+    ensures { ReadsAll subject_key_identifier.grammar bytes.now result }
 {
     SubjectKeyIdentifier::from_der(alloc, bytes)
 }
@@ -37,7 +38,7 @@ pub fn write_subject_key_identifier<'a>(
     alloc: Global,
     value: &SubjectKeyIdentifier<'a>,
 ) -> Result<Vec<u8>, Error>
-    ensures { WritesAll ⟦<SubjectKeyIdentifier<'a> as Form>⟧ value.now result }
+    ensures { WritesAll subject_key_identifier.grammar value.now result }
 {
     value.to_der(alloc)
 }

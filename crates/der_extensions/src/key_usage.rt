@@ -2,9 +2,10 @@
 
 ghost use Rattle.der_elem.specs.Decoding.{ReadsAll};
 ghost use Rattle.der_pkix.specs.Writing.{WritesAll};
+ghost use Rattle.der_extensions.specs.Grammars.{key_usage};
 
 use der_bits::BitStringRef;
-use der_elem::{Encode, Form, FromDer};
+use der_elem::{Encode, FromDer};
 use der_tlv::Error;
 use std::alloc::Global;
 
@@ -24,7 +25,7 @@ pub type KeyUsage<'a> = BitStringRef<'a>;
 /// The first fault of the octets; (3) where octets are left over; (9) where there are more than
 /// 4294967295.
 pub fn read_key_usage<'a>(alloc: Global, bytes: &'a [u8]) -> Result<KeyUsage<'a>, Error>
-    ensures { ReadsAll ⟦<KeyUsage<'a> as Form>⟧ bytes.now result }
+    ensures { ReadsAll key_usage.grammar bytes.now result }
 {
     KeyUsage::from_der(alloc, bytes)
 }
@@ -34,7 +35,7 @@ pub fn read_key_usage<'a>(alloc: Global, bytes: &'a [u8]) -> Result<KeyUsage<'a>
 /// # Errors
 /// (1) where memory runs out; (9) where there are more than 4294967295 octets.
 pub fn write_key_usage<'a>(alloc: Global, value: &KeyUsage<'a>) -> Result<Vec<u8>, Error>
-    ensures { WritesAll ⟦<KeyUsage<'a> as Form>⟧ value.now result }
+    ensures { WritesAll key_usage.grammar value.now result }
 {
     value.to_der(alloc)
 }

@@ -7,6 +7,7 @@
 mod authority;
 mod constraints;
 mod general_name;
+mod grammars;
 mod key_identifier;
 mod key_usage;
 mod purposes;

@@ -2,8 +2,9 @@
 
 ghost use Rattle.der_elem.specs.Decoding.{ReadsAll};
 ghost use Rattle.der_pkix.specs.Writing.{WritesAll};
+ghost use Rattle.der_extensions.specs.Grammars.{ext_key_usage};
 
-use der_elem::{Encode, Form, FromDer};
+use der_elem::{Encode, FromDer};
 use der_opaque::ObjectIdentifier;
 use der_tlv::Error;
 use std::alloc::Global;
@@ -24,7 +25,7 @@ pub type ExtKeyUsage = Vec<ObjectIdentifier<39>>;
 /// The first fault of the octets, in the order of the purposes; (3) where octets are left over; (9)
 /// where there are more than 4294967295; (1) where memory runs out.
 pub fn read_ext_key_usage(alloc: Global, bytes: &[u8]) -> Result<ExtKeyUsage, Error>
-    ensures { ReadsAll ⟦<ExtKeyUsage as Form>⟧ bytes.now result }
+    ensures { ReadsAll ext_key_usage.grammar bytes.now result }
 {
     ExtKeyUsage::from_der(alloc, bytes)
 }
@@ -34,7 +35,7 @@ pub fn read_ext_key_usage(alloc: Global, bytes: &[u8]) -> Result<ExtKeyUsage, Er
 /// # Errors
 /// (1) where memory runs out; (9) where there are more than 4294967295 octets.
 pub fn write_ext_key_usage(alloc: Global, value: &ExtKeyUsage) -> Result<Vec<u8>, Error>
-    ensures { WritesAll ⟦<ExtKeyUsage as Form>⟧ value.now result }
+    ensures { WritesAll ext_key_usage.grammar value.now result }
 {
     value.to_der(alloc)
 }

@@ -9,3 +9,4 @@ pub mod CopyingLaws
 pub mod ClassTags
 pub mod Defaults
 pub mod DefaultLaws
+pub mod Parts

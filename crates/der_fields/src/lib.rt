@@ -35,6 +35,7 @@ mod implicit;
 mod memory;
 mod one_of;
 mod ordered;
+mod part;
 mod soundness;
 mod with_default;
 
@@ -52,4 +53,5 @@ pub use implicit::{Implicit, ImplicitApplication, ImplicitIn, ImplicitPrivate};
 pub use memory::EitherMemory;
 pub use one_of::OneOf;
 pub use ordered::{FieldsLead, FieldsOrd};
+pub use part::FieldsPart;
 pub use with_default::WithDefault;

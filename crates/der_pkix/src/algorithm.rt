@@ -2,9 +2,9 @@
 
 ghost use Rattle.der_elem.specs.Decoding.{ReadsAll};
 ghost use Rattle.der_pkix.specs.Writing.{WritesAll};
+ghost use Rattle.der_pkix.specs.Grammars.{algorithm_identifier, subject_public_key_info};
 
 use der_bits::BitStringRef;
-use der_elem::Form;
 use der_fields::{End, Field, FieldSequence, read_sequence, write_sequence};
 use der_opaque::{AnyRef, ObjectIdentifier};
 use der_tlv::Error;
@@ -38,7 +38,7 @@ pub fn read_algorithm_identifier<'a>(
     alloc: Global,
     bytes: &'a [u8],
 ) -> Result<AlgorithmIdentifier<'a>, Error>
-    ensures { ReadsAll ⟦<AlgorithmIdentifier<'a> as Form>⟧ bytes.now result }
+    ensures { ReadsAll algorithm_identifier.grammar bytes.now result }
 {
     read_sequence(alloc, bytes)
 }
@@ -52,7 +52,7 @@ pub fn write_algorithm_identifier<'a>(
     alloc: Global,
     value: &AlgorithmIdentifier<'a>,
 ) -> Result<Vec<u8>, Error>
-    ensures { WritesAll ⟦<AlgorithmIdentifier<'a> as Form>⟧ value.now result }
+    ensures { WritesAll algorithm_identifier.grammar value.now result }
 {
     write_sequence(alloc, value)
 }
@@ -67,7 +67,7 @@ pub fn read_subject_public_key_info<'a>(
     alloc: Global,
     bytes: &'a [u8],
 ) -> Result<SubjectPublicKeyInfo<'a>, Error>
-    ensures { ReadsAll ⟦<SubjectPublicKeyInfo<'a> as Form>⟧ bytes.now result }
+    ensures { ReadsAll subject_public_key_info.grammar bytes.now result }
 {
     read_sequence(alloc, bytes)
 }
@@ -81,7 +81,7 @@ pub fn write_subject_public_key_info<'a>(
     alloc: Global,
     value: &SubjectPublicKeyInfo<'a>,
 ) -> Result<Vec<u8>, Error>
-    ensures { WritesAll ⟦<SubjectPublicKeyInfo<'a> as Form>⟧ value.now result }
+    ensures { WritesAll subject_public_key_info.grammar value.now result }
 {
     write_sequence(alloc, value)
 }

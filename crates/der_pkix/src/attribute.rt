@@ -8,12 +8,11 @@ ghost use Rattle.der_elem.specs.TaggedLaws.{encoding_eq_tagged};
 ghost use Rattle.der_fields.specs.TellingLaws.{eq_both};
 ghost use Rattle.der_opaque.specs.contracts.any_ref.AnyRefEncodingEq.TheImpl.Laws as any;
 ghost use Rattle.der_opaque.specs.contracts.object_identifier.ObjectIdentifierContentsEq.TheImpl.Laws as identifier;
-ghost use Rattle.der_elem.specs.Decoding.{ReadsAll};
-ghost use Rattle.der_pkix.specs.Writing.{WritesAll};
+ghost use Rattle.der_fields.specs.Parts.{part_of};
 
 use der_elem::{
-    ContentsEq, CopyIsDuplicate, DecodeValue, Encode, EncodeValue, Form, FormValue, FromDer,
-    OneTag, Sequence, SequenceTag, Tagged, ValueMemory, ValueOrd, WithoutMemory,
+    ContentsEq, CopyIsDuplicate, DecodeValue, EncodeValue, Form, FormValue, OneTag, Sequence,
+    SequenceTag, Tagged, ValueMemory, ValueOrd, WithoutMemory,
 };
 use der_fields::{DecodeFields, EncodeFields, End, Field, FieldList, FieldsOrd};
 use der_opaque::{AnyRef, ObjectIdentifier};
@@ -45,32 +44,46 @@ impl<'a> Sequence<'a> for AttributeTypeAndValue<'a> {
     ghost is_sequence = { refl };
 }
 
+/// A value that is a list of fields.
+pub trait Listed: Sized {
+    ghost use Rattle.der_fields.specs.declared.field_list.FieldList as fields;
+
+    // what the octets of the fields mean
+    ghost list: { fields.Ghosts Self };
+}
+
+impl<'a> Listed for AttributeTypeAndValue<'a> {
+    ghost list = { part_of (λ v. v.fields) ⟦<AttributeFields<'a> as FieldList>⟧ };
+}
+
 impl<'a> FormValue for AttributeTypeAndValue<'a> {
-    ghost contents = { λ v. ⟦<AttributeFields<'a> as FieldList>⟧.joined v.fields };
+    ghost use Rattle.der_pkix.specs.contracts.attribute.AttributeTypeAndValueListed.TheImpl.{ghosts as attribute};
 
-    ghost comparable_value = { λ v w. ⟦<AttributeFields<'a> as FieldList>⟧.all_comparable v.fields w.fields };
+    ghost contents = { attribute.list.joined };
 
-    ghost re_reads_value = { λ v. ⟦<AttributeFields<'a> as FieldList>⟧.re_read v.fields };
+    ghost comparable_value = { attribute.list.all_comparable };
 
-    ghost accepts_value = { λ rules v. ⟦<AttributeFields<'a> as FieldList>⟧.accepts_fields rules v.fields };
+    ghost re_reads_value = { attribute.list.re_read };
 
-    ghost parse_value = { ⟦<AttributeFields<'a> as FieldList>⟧.parse_fields };
+    ghost accepts_value = { attribute.list.accepts_fields };
 
-    ghost readable_value = { λ v. ⟦<AttributeFields<'a> as FieldList>⟧.readable_fields v.fields };
+    ghost parse_value = { attribute.list.parse_fields };
 
-    ghost VALUE_TAKES_MEMORY = { ⟦<AttributeFields<'a> as FieldList>⟧.FIELDS_TAKE_MEMORY };
+    ghost readable_value = { attribute.list.readable_fields };
 
-    ghost parse_of_accepted_value = { λ rules v. ⟦<AttributeFields<'a> as FieldList>⟧.parse_of_accepted_fields rules v.fields };
+    ghost VALUE_TAKES_MEMORY = { attribute.list.FIELDS_TAKE_MEMORY };
 
-    ghost same_length_value = { λ rules v. ⟦<AttributeFields<'a> as FieldList>⟧.same_length_fields rules v.fields };
+    ghost parse_of_accepted_value = { attribute.list.parse_of_accepted_fields };
 
-    ghost accepts_contents = { λ rules v. ⟦<AttributeFields<'a> as FieldList>⟧.accepts_joined rules v.fields };
+    ghost same_length_value = { attribute.list.same_length_fields };
 
-    ghost only_readable_value = { λ rules v. ⟦<AttributeFields<'a> as FieldList>⟧.only_readable_fields rules v.fields };
+    ghost accepts_contents = { attribute.list.accepts_joined };
 
-    ghost accepts_comparable_value = { λ rules v w. ⟦<AttributeFields<'a> as FieldList>⟧.accepts_all_comparable rules v.fields w.fields };
+    ghost only_readable_value = { attribute.list.only_readable_fields };
 
-    ghost re_reads_memory_value = { λ v. ⟦<AttributeFields<'a> as FieldList>⟧.re_read_memory v.fields };
+    ghost accepts_comparable_value = { attribute.list.accepts_all_comparable };
+
+    ghost re_reads_memory_value = { attribute.list.re_read_memory };
 }
 
 impl<'a> ValueMemory for AttributeTypeAndValue<'a> {
@@ -117,32 +130,3 @@ impl<'a> ContentsEq for AttributeTypeAndValue<'a> {
 }
 
 impl<'a> CopyIsDuplicate for AttributeTypeAndValue<'a> {}
-
-/// Reads an attribute: all of the octets, under DER.
-///
-/// # Errors
-/// The first fault of the octets, in the order of the fields; `ErrorKind::TrailingData` (3) where
-/// octets are left over; `ErrorKind::Overflow` (9) where there are more than 4294967295;
-/// `ErrorKind::Memory` (1) where a type that takes memory has none.
-pub fn read_attribute_type_and_value<'a>(
-    alloc: Global,
-    bytes: &'a [u8],
-) -> Result<AttributeTypeAndValue<'a>, Error>
-    ensures { ReadsAll ⟦<AttributeTypeAndValue<'a> as Form>⟧ bytes.now result }
-{
-    AttributeTypeAndValue::from_der(alloc, bytes)
-}
-
-/// The one encoding of an attribute.
-///
-/// # Errors
-/// `ErrorKind::Memory` (1) where memory runs out; `ErrorKind::Overflow` (9) where there are more
-/// than 4294967295 octets.
-pub fn write_attribute_type_and_value<'a>(
-    alloc: Global,
-    value: &AttributeTypeAndValue<'a>,
-) -> Result<Vec<u8>, Error>
-    ensures { WritesAll ⟦<AttributeTypeAndValue<'a> as Form>⟧ value.now result }
-{
-    value.to_der(alloc)
-}

@@ -1,9 +1,10 @@
 //! The primes of a private key of RSA, and what is computed of them.
 
 ghost use Rattle.std.specs.Prelude.{refl};
+ghost use Rattle.der_fields.specs.Parts.{part_of};
 
 use der_elem::WithoutMemory;
-use der_fields::{DecodeFields, EncodeFields, End, Field, FieldList, FieldsMemory};
+use der_fields::{DecodeFields, EncodeFields, End, Field, FieldList, FieldsMemory, FieldsPart};
 use der_numbers::UintRef;
 use der_tlv::{Error, Length, Reader, Writer};
 use std::alloc::Global;
@@ -21,36 +22,8 @@ pub struct Crt<'a> {
     pub fields: CrtFields<'a>,
 }
 
-impl<'a> FieldList for Crt<'a> {
-    ghost joined = { λ v. ⟦<CrtFields<'a> as FieldList>⟧.joined v.fields };
-
-    ghost first_tag = { λ v. ⟦<CrtFields<'a> as FieldList>⟧.first_tag v.fields };
-
-    ghost all_comparable = { λ v w. ⟦<CrtFields<'a> as FieldList>⟧.all_comparable v.fields w.fields };
-
-    ghost re_read = { λ v. ⟦<CrtFields<'a> as FieldList>⟧.re_read v.fields };
-
-    ghost accepts_fields = { λ rules v. ⟦<CrtFields<'a> as FieldList>⟧.accepts_fields rules v.fields };
-
-    ghost parse_fields = { ⟦<CrtFields<'a> as FieldList>⟧.parse_fields };
-
-    ghost readable_fields = { λ v. ⟦<CrtFields<'a> as FieldList>⟧.readable_fields v.fields };
-
-    ghost FIELDS_TAKE_MEMORY = { ⟦<CrtFields<'a> as FieldList>⟧.FIELDS_TAKE_MEMORY };
-
-    ghost parse_of_accepted_fields = { λ rules v. ⟦<CrtFields<'a> as FieldList>⟧.parse_of_accepted_fields rules v.fields };
-
-    ghost led_fields = { λ rules v. ⟦<CrtFields<'a> as FieldList>⟧.led_fields rules v.fields };
-
-    ghost same_length_fields = { λ rules v. ⟦<CrtFields<'a> as FieldList>⟧.same_length_fields rules v.fields };
-
-    ghost accepts_joined = { λ rules v. ⟦<CrtFields<'a> as FieldList>⟧.accepts_joined rules v.fields };
-
-    ghost only_readable_fields = { λ rules v. ⟦<CrtFields<'a> as FieldList>⟧.only_readable_fields rules v.fields };
-
-    ghost accepts_all_comparable = { λ rules v w. ⟦<CrtFields<'a> as FieldList>⟧.accepts_all_comparable rules v.fields w.fields };
-
-    ghost re_read_memory = { λ v. ⟦<CrtFields<'a> as FieldList>⟧.re_read_memory v.fields };
+impl<'a> FieldsPart for Crt<'a> {
+    ghost list = { part_of (λ v. v.fields) ⟦<CrtFields<'a> as FieldList>⟧ };
 }
 
 impl<'a> FieldsMemory for Crt<'a> {

@@ -2,8 +2,9 @@
 
 ghost use Rattle.der_elem.specs.Decoding.{ReadsAll};
 ghost use Rattle.der_pkix.specs.Writing.{WritesAll};
+ghost use Rattle.der_pkix.specs.Grammars.{extension, extensions};
 
-use der_elem::{Encode, Form, FromDer};
+use der_elem::{Encode, FromDer};
 use der_fields::{
     DefaultFalse, End, Field, FieldSequence, WithDefault, read_sequence, write_sequence,
 };
@@ -37,7 +38,7 @@ pub type Extensions<'a> = Vec<Extension<'a>>;
 /// The first fault of the octets, in the order of the fields; (3) where octets are left over; (9)
 /// where there are more than 4294967295; (1) where a type that takes memory has none.
 pub fn read_extension<'a>(alloc: Global, bytes: &'a [u8]) -> Result<Extension<'a>, Error>
-    ensures { ReadsAll ⟦<Extension<'a> as Form>⟧ bytes.now result }
+    ensures { ReadsAll extension.grammar bytes.now result }
 {
     read_sequence(alloc, bytes)
 }
@@ -47,7 +48,7 @@ pub fn read_extension<'a>(alloc: Global, bytes: &'a [u8]) -> Result<Extension<'a
 /// # Errors
 /// (1) where memory runs out; (9) where there are more than 4294967295 octets.
 pub fn write_extension<'a>(alloc: Global, value: &Extension<'a>) -> Result<Vec<u8>, Error>
-    ensures { WritesAll ⟦<Extension<'a> as Form>⟧ value.now result }
+    ensures { WritesAll extension.grammar value.now result }
 {
     write_sequence(alloc, value)
 }
@@ -58,7 +59,7 @@ pub fn write_extension<'a>(alloc: Global, value: &Extension<'a>) -> Result<Vec<u
 /// The first fault of the octets, in the order of the extensions; (3) where octets are left over;
 /// (9) where there are more than 4294967295; (1) where memory runs out.
 pub fn read_extensions<'a>(alloc: Global, bytes: &'a [u8]) -> Result<Extensions<'a>, Error>
-    ensures { ReadsAll ⟦<Extensions<'a> as Form>⟧ bytes.now result }
+    ensures { ReadsAll extensions.grammar bytes.now result }
 {
     Extensions::from_der(alloc, bytes)
 }
@@ -68,7 +69,7 @@ pub fn read_extensions<'a>(alloc: Global, bytes: &'a [u8]) -> Result<Extensions<
 /// # Errors
 /// (1) where memory runs out; (9) where there are more than 4294967295 octets.
 pub fn write_extensions<'a>(alloc: Global, value: &Extensions<'a>) -> Result<Vec<u8>, Error>
-    ensures { WritesAll ⟦<Extensions<'a> as Form>⟧ value.now result }
+    ensures { WritesAll extensions.grammar value.now result }
 {
     value.to_der(alloc)
 }

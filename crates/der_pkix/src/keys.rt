@@ -2,10 +2,10 @@
 
 ghost use Rattle.der_elem.specs.Decoding.{ReadsAll};
 ghost use Rattle.der_pkix.specs.Writing.{WritesAll};
+ghost use Rattle.der_pkix.specs.Grammars.{private_key_info, rsa_public_key, ec_private_key};
 
 use crate::algorithm::AlgorithmIdentifier;
 use der_bits::BitStringRef;
-use der_elem::Form;
 use der_fields::{End, Explicit, Field, FieldSequence, read_sequence, write_sequence};
 use der_numbers::UintRef;
 use der_opaque::{ObjectIdentifier, OctetStringRef};
@@ -60,7 +60,7 @@ pub fn read_private_key_info<'a>(
     alloc: Global,
     bytes: &'a [u8],
 ) -> Result<PrivateKeyInfo<'a>, Error>
-    ensures { ReadsAll ⟦<PrivateKeyInfo<'a> as Form>⟧ bytes.now result }
+    ensures { ReadsAll private_key_info.grammar bytes.now result }
 {
     read_sequence(alloc, bytes)
 }
@@ -73,7 +73,7 @@ pub fn write_private_key_info<'a>(
     alloc: Global,
     value: &PrivateKeyInfo<'a>,
 ) -> Result<Vec<u8>, Error>
-    ensures { WritesAll ⟦<PrivateKeyInfo<'a> as Form>⟧ value.now result }
+    ensures { WritesAll private_key_info.grammar value.now result }
 {
     write_sequence(alloc, value)
 }
@@ -84,7 +84,7 @@ pub fn write_private_key_info<'a>(
 /// The first fault of the octets, in the order of the fields; (3) where octets are left over; (9)
 /// where there are more than 4294967295; (1) where a type that takes memory has none.
 pub fn read_rsa_public_key<'a>(alloc: Global, bytes: &'a [u8]) -> Result<RsaPublicKey<'a>, Error>
-    ensures { ReadsAll ⟦<RsaPublicKey<'a> as Form>⟧ bytes.now result }
+    ensures { ReadsAll rsa_public_key.grammar bytes.now result }
 {
     read_sequence(alloc, bytes)
 }
@@ -94,7 +94,7 @@ pub fn read_rsa_public_key<'a>(alloc: Global, bytes: &'a [u8]) -> Result<RsaPubl
 /// # Errors
 /// (1) where memory runs out; (9) where there are more than 4294967295 octets.
 pub fn write_rsa_public_key<'a>(alloc: Global, value: &RsaPublicKey<'a>) -> Result<Vec<u8>, Error>
-    ensures { WritesAll ⟦<RsaPublicKey<'a> as Form>⟧ value.now result }
+    ensures { WritesAll rsa_public_key.grammar value.now result }
 {
     write_sequence(alloc, value)
 }
@@ -105,7 +105,7 @@ pub fn write_rsa_public_key<'a>(alloc: Global, value: &RsaPublicKey<'a>) -> Resu
 /// The first fault of the octets, in the order of the fields; (3) where octets are left over; (9)
 /// where there are more than 4294967295; (1) where a type that takes memory has none.
 pub fn read_ec_private_key<'a>(alloc: Global, bytes: &'a [u8]) -> Result<EcPrivateKey<'a>, Error>
-    ensures { ReadsAll ⟦<EcPrivateKey<'a> as Form>⟧ bytes.now result }
+    ensures { ReadsAll ec_private_key.grammar bytes.now result }
 {
     read_sequence(alloc, bytes)
 }
@@ -115,7 +115,7 @@ pub fn read_ec_private_key<'a>(alloc: Global, bytes: &'a [u8]) -> Result<EcPriva
 /// # Errors
 /// (1) where memory runs out; (9) where there are more than 4294967295 octets.
 pub fn write_ec_private_key<'a>(alloc: Global, value: &EcPrivateKey<'a>) -> Result<Vec<u8>, Error>
-    ensures { WritesAll ⟦<EcPrivateKey<'a> as Form>⟧ value.now result }
+    ensures { WritesAll ec_private_key.grammar value.now result }
 {
     write_sequence(alloc, value)
 }

@@ -8,6 +8,7 @@ mod algorithm;
 mod attribute;
 mod crt;
 mod extension;
+mod grammars;
 mod keys;
 mod name;
 mod rsa;
@@ -17,10 +18,7 @@ pub use algorithm::{
     AlgorithmIdentifier, SubjectPublicKeyInfo, read_algorithm_identifier,
     read_subject_public_key_info, write_algorithm_identifier, write_subject_public_key_info,
 };
-pub use attribute::{
-    AttributeFields, AttributeTypeAndValue, read_attribute_type_and_value,
-    write_attribute_type_and_value,
-};
+pub use attribute::{AttributeFields, AttributeTypeAndValue};
 pub use crt::{Crt, CrtFields};
 pub use extension::{
     Extension, Extensions, read_extension, read_extensions, write_extension, write_extensions,
@@ -30,7 +28,8 @@ pub use keys::{
     read_rsa_public_key, write_ec_private_key, write_private_key_info, write_rsa_public_key,
 };
 pub use name::{
-    Name, RelativeDistinguishedName, read_name, read_relative_distinguished_name, write_name,
+    Name, RelativeDistinguishedName, read_attribute_type_and_value, read_name,
+    read_relative_distinguished_name, write_attribute_type_and_value, write_name,
     write_relative_distinguished_name,
 };
 pub use rsa::{RsaPrivateKey, read_rsa_private_key, write_rsa_private_key};

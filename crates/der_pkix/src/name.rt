@@ -2,9 +2,10 @@
 
 ghost use Rattle.der_elem.specs.Decoding.{ReadsAll};
 ghost use Rattle.der_pkix.specs.Writing.{WritesAll};
+ghost use Rattle.der_pkix.specs.Grammars.{attribute_type_and_value, relative_distinguished_name, name};
 
 use crate::attribute::AttributeTypeAndValue;
-use der_elem::{Encode, Form, FromDer};
+use der_elem::{Encode, FromDer};
 use der_nest::SetOfVec;
 use der_tlv::Error;
 use std::alloc::Global;
@@ -21,6 +22,35 @@ pub type RelativeDistinguishedName<'a> = SetOfVec<AttributeTypeAndValue<'a>>;
 /// ```
 pub type Name<'a> = Vec<RelativeDistinguishedName<'a>>;
 
+/// Reads an attribute: all of the octets, under DER.
+///
+/// # Errors
+/// The first fault of the octets, in the order of the fields; `ErrorKind::TrailingData` (3) where
+/// octets are left over; `ErrorKind::Overflow` (9) where there are more than 4294967295;
+/// `ErrorKind::Memory` (1) where a type that takes memory has none.
+pub fn read_attribute_type_and_value<'a>(
+    alloc: Global,
+    bytes: &'a [u8],
+) -> Result<AttributeTypeAndValue<'a>, Error>
+    ensures { ReadsAll attribute_type_and_value.grammar bytes.now result }
+{
+    AttributeTypeAndValue::from_der(alloc, bytes)
+}
+
+/// The one encoding of an attribute.
+///
+/// # Errors
+/// `ErrorKind::Memory` (1) where memory runs out; `ErrorKind::Overflow` (9) where there are more
+/// than 4294967295 octets.
+pub fn write_attribute_type_and_value<'a>(
+    alloc: Global,
+    value: &AttributeTypeAndValue<'a>,
+) -> Result<Vec<u8>, Error>
+    ensures { WritesAll attribute_type_and_value.grammar value.now result }
+{
+    value.to_der(alloc)
+}
+
 /// Reads the attributes at one place of a name: all of the octets, under DER.
 ///
 /// # Errors
@@ -31,7 +61,7 @@ pub fn read_relative_distinguished_name<'a>(
     alloc: Global,
     bytes: &'a [u8],
 ) -> Result<RelativeDistinguishedName<'a>, Error>
-    ensures { ReadsAll ⟦<RelativeDistinguishedName<'a> as Form>⟧ bytes.now result }
+    ensures { ReadsAll relative_distinguished_name.grammar bytes.now result }
 {
     RelativeDistinguishedName::from_der(alloc, bytes)
 }
@@ -45,7 +75,7 @@ pub fn write_relative_distinguished_name<'a>(
     alloc: Global,
     value: &RelativeDistinguishedName<'a>,
 ) -> Result<Vec<u8>, Error>
-    ensures { WritesAll ⟦<RelativeDistinguishedName<'a> as Form>⟧ value.now result }
+    ensures { WritesAll relative_distinguished_name.grammar value.now result }
 {
     value.to_der(alloc)
 }
@@ -57,7 +87,7 @@ pub fn write_relative_distinguished_name<'a>(
 /// octets are left over; `ErrorKind::Overflow` (9) where there are more than 4294967295;
 /// `ErrorKind::Memory` (1) where a type that takes memory has none.
 pub fn read_name<'a>(alloc: Global, bytes: &'a [u8]) -> Result<Name<'a>, Error>
-    ensures { ReadsAll ⟦<Name<'a> as Form>⟧ bytes.now result }
+    ensures { ReadsAll name.grammar bytes.now result }
 {
     Name::from_der(alloc, bytes)
 }
@@ -68,7 +98,7 @@ pub fn read_name<'a>(alloc: Global, bytes: &'a [u8]) -> Result<Name<'a>, Error>
 /// `ErrorKind::Memory` (1) where memory runs out; `ErrorKind::Overflow` (9) where there are more
 /// than 4294967295 octets.
 pub fn write_name<'a>(alloc: Global, value: &Name<'a>) -> Result<Vec<u8>, Error>
-    ensures { WritesAll ⟦<Name<'a> as Form>⟧ value.now result }
+    ensures { WritesAll name.grammar value.now result }
 {
     value.to_der(alloc)
 }

@@ -2,9 +2,9 @@
 
 ghost use Rattle.der_elem.specs.Decoding.{ReadsAll};
 ghost use Rattle.der_pkix.specs.Writing.{WritesAll};
+ghost use Rattle.der_pkix.specs.Grammars.{rsa_private_key};
 
 use crate::crt::Crt;
-use der_elem::Form;
 use der_fields::{Field, FieldSequence, read_sequence, write_sequence};
 use der_numbers::UintRef;
 use der_tlv::Error;
@@ -35,7 +35,7 @@ pub type RsaPrivateKey<'a> = FieldSequence<
 /// The first fault of the octets, in the order of the fields; (3) where octets are left over; (9)
 /// where there are more than 4294967295; (1) where a type that takes memory has none.
 pub fn read_rsa_private_key<'a>(alloc: Global, bytes: &'a [u8]) -> Result<RsaPrivateKey<'a>, Error>
-    ensures { ReadsAll ⟦<RsaPrivateKey<'a> as Form>⟧ bytes.now result }
+    ensures { ReadsAll rsa_private_key.grammar bytes.now result }
 {
     read_sequence(alloc, bytes)
 }
@@ -45,7 +45,7 @@ pub fn read_rsa_private_key<'a>(alloc: Global, bytes: &'a [u8]) -> Result<RsaPri
 /// # Errors
 /// (1) where memory runs out; (9) where there are more than 4294967295 octets.
 pub fn write_rsa_private_key<'a>(alloc: Global, value: &RsaPrivateKey<'a>) -> Result<Vec<u8>, Error>
-    ensures { WritesAll ⟦<RsaPrivateKey<'a> as Form>⟧ value.now result }
+    ensures { WritesAll rsa_private_key.grammar value.now result }
 {
     write_sequence(alloc, value)
 }

@@ -2,8 +2,9 @@
 
 ghost use Rattle.der_elem.specs.Decoding.{ReadsAll};
 ghost use Rattle.der_pkix.specs.Writing.{WritesAll};
+ghost use Rattle.der_pkix.specs.Grammars.{time, validity};
 
-use der_elem::{Encode, Form, FromDer};
+use der_elem::{Encode, FromDer};
 use der_fields::{End, Field, FieldSequence, OneOf, read_sequence, write_sequence};
 use der_time::{GeneralizedTime, UtcTime};
 use der_tlv::Error;
@@ -33,7 +34,7 @@ pub type Validity = FieldSequence<Field<Time, Field<Time, End>>>;
 /// octets are left over; `ErrorKind::Overflow` (9) where there are more than 4294967295;
 /// `ErrorKind::Memory` (1) where a type that takes memory has none.
 pub fn read_time(alloc: Global, bytes: &[u8]) -> Result<Time, Error>
-    ensures { ReadsAll ⟦<Time as Form>⟧ bytes.now result }
+    ensures { ReadsAll time.grammar bytes.now result }
 {
     Time::from_der(alloc, bytes)
 }
@@ -44,7 +45,7 @@ pub fn read_time(alloc: Global, bytes: &[u8]) -> Result<Time, Error>
 /// `ErrorKind::Memory` (1) where memory runs out; `ErrorKind::Overflow` (9) where there are more
 /// than 4294967295 octets.
 pub fn write_time(alloc: Global, value: &Time) -> Result<Vec<u8>, Error>
-    ensures { WritesAll ⟦<Time as Form>⟧ value.now result }
+    ensures { WritesAll time.grammar value.now result }
 {
     value.to_der(alloc)
 }
@@ -56,7 +57,7 @@ pub fn write_time(alloc: Global, value: &Time) -> Result<Vec<u8>, Error>
 /// octets are left over; `ErrorKind::Overflow` (9) where there are more than 4294967295;
 /// `ErrorKind::Memory` (1) where a type that takes memory has none.
 pub fn read_validity(alloc: Global, bytes: &[u8]) -> Result<Validity, Error>
-    ensures { ReadsAll ⟦<Validity as Form>⟧ bytes.now result }
+    ensures { ReadsAll validity.grammar bytes.now result }
 {
     read_sequence(alloc, bytes)
 }
@@ -67,7 +68,7 @@ pub fn read_validity(alloc: Global, bytes: &[u8]) -> Result<Validity, Error>
 /// `ErrorKind::Memory` (1) where memory runs out; `ErrorKind::Overflow` (9) where there are more
 /// than 4294967295 octets.
 pub fn write_validity(alloc: Global, value: &Validity) -> Result<Vec<u8>, Error>
-    ensures { WritesAll ⟦<Validity as Form>⟧ value.now result }
+    ensures { WritesAll validity.grammar value.now result }
 {
     write_sequence(alloc, value)
 }

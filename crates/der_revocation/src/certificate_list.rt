@@ -2,10 +2,10 @@
 
 ghost use Rattle.der_elem.specs.Decoding.{ReadsAll};
 ghost use Rattle.der_pkix.specs.Writing.{WritesAll};
+ghost use Rattle.der_revocation.specs.Grammars.{tbs_cert_list, certificate_list};
 
 use crate::updates::Updates;
 use der_bits::BitStringRef;
-use der_elem::Form;
 use der_fields::{End, Field, FieldSequence, read_sequence, write_sequence};
 use der_opaque::AnyRef;
 use der_pkix::AlgorithmIdentifier;
@@ -48,7 +48,7 @@ pub type CertificateList<'a> = FieldSequence<
 /// octets are left over; `ErrorKind::Overflow` (9) where there are more than 4294967295;
 /// `ErrorKind::Memory` (1) where memory runs out.
 pub fn read_tbs_cert_list<'a>(alloc: Global, bytes: &'a [u8]) -> Result<TbsCertList<'a>, Error>
-    ensures { ReadsAll ⟦<TbsCertList<'a> as Form>⟧ bytes.now result }
+    ensures { ReadsAll tbs_cert_list.grammar bytes.now result }
 {
     read_sequence(alloc, bytes)
 }
@@ -59,7 +59,7 @@ pub fn read_tbs_cert_list<'a>(alloc: Global, bytes: &'a [u8]) -> Result<TbsCertL
 /// `ErrorKind::Memory` (1) where memory runs out; `ErrorKind::Overflow` (9) where there are more
 /// than 4294967295 octets.
 pub fn write_tbs_cert_list<'a>(alloc: Global, value: &TbsCertList<'a>) -> Result<Vec<u8>, Error>
-    ensures { WritesAll ⟦<TbsCertList<'a> as Form>⟧ value.now result }
+    ensures { WritesAll tbs_cert_list.grammar value.now result }
 {
     write_sequence(alloc, value)
 }
@@ -73,7 +73,7 @@ pub fn read_certificate_list<'a>(
     alloc: Global,
     bytes: &'a [u8],
 ) -> Result<CertificateList<'a>, Error>
-    ensures { ReadsAll ⟦<CertificateList<'a> as Form>⟧ bytes.now result }
+    ensures { ReadsAll certificate_list.grammar bytes.now result }
 {
     read_sequence(alloc, bytes)
 }
@@ -87,7 +87,7 @@ pub fn write_certificate_list<'a>(
     alloc: Global,
     value: &CertificateList<'a>,
 ) -> Result<Vec<u8>, Error>
-    ensures { WritesAll ⟦<CertificateList<'a> as Form>⟧ value.now result }
+    ensures { WritesAll certificate_list.grammar value.now result }
 {
     write_sequence(alloc, value)
 }

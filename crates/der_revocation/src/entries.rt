@@ -1,7 +1,9 @@
 //! The revoked certificates and the extensions of a TBSCertList.
 
 ghost use Rattle.std.specs.Prelude.{refl};
+ghost use Rattle.der_fields.specs.Parts.{part_of};
 
+use crate::listed::Listed;
 use crate::revoked_certificate::RevokedCertificate;
 use der_elem::WithMemory;
 use der_fields::{DecodeFields, EncodeFields, End, Explicit, Field, FieldList, FieldsMemory};
@@ -22,36 +24,42 @@ pub struct Entries<'a> {
     pub fields: EntriesFields<'a>,
 }
 
+impl<'a> Listed for Entries<'a> {
+    ghost list = { part_of (λ v. v.fields) ⟦<EntriesFields<'a> as FieldList>⟧ };
+}
+
 impl<'a> FieldList for Entries<'a> {
-    ghost joined = { λ v. ⟦<EntriesFields<'a> as FieldList>⟧.joined v.fields };
+    ghost use Rattle.der_revocation.specs.contracts.entries.EntriesListed.TheImpl.{ghosts as entries};
 
-    ghost first_tag = { λ v. ⟦<EntriesFields<'a> as FieldList>⟧.first_tag v.fields };
+    ghost joined = { entries.list.joined };
 
-    ghost all_comparable = { λ v w. ⟦<EntriesFields<'a> as FieldList>⟧.all_comparable v.fields w.fields };
+    ghost first_tag = { entries.list.first_tag };
 
-    ghost re_read = { λ v. ⟦<EntriesFields<'a> as FieldList>⟧.re_read v.fields };
+    ghost all_comparable = { entries.list.all_comparable };
 
-    ghost accepts_fields = { λ rules v. ⟦<EntriesFields<'a> as FieldList>⟧.accepts_fields rules v.fields };
+    ghost re_read = { entries.list.re_read };
 
-    ghost parse_fields = { ⟦<EntriesFields<'a> as FieldList>⟧.parse_fields };
+    ghost accepts_fields = { entries.list.accepts_fields };
 
-    ghost readable_fields = { λ v. ⟦<EntriesFields<'a> as FieldList>⟧.readable_fields v.fields };
+    ghost parse_fields = { entries.list.parse_fields };
 
-    ghost FIELDS_TAKE_MEMORY = { ⟦<EntriesFields<'a> as FieldList>⟧.FIELDS_TAKE_MEMORY };
+    ghost readable_fields = { entries.list.readable_fields };
 
-    ghost parse_of_accepted_fields = { λ rules v. ⟦<EntriesFields<'a> as FieldList>⟧.parse_of_accepted_fields rules v.fields };
+    ghost FIELDS_TAKE_MEMORY = { entries.list.FIELDS_TAKE_MEMORY };
 
-    ghost led_fields = { λ rules v. ⟦<EntriesFields<'a> as FieldList>⟧.led_fields rules v.fields };
+    ghost parse_of_accepted_fields = { entries.list.parse_of_accepted_fields };
 
-    ghost same_length_fields = { λ rules v. ⟦<EntriesFields<'a> as FieldList>⟧.same_length_fields rules v.fields };
+    ghost led_fields = { entries.list.led_fields };
 
-    ghost accepts_joined = { λ rules v. ⟦<EntriesFields<'a> as FieldList>⟧.accepts_joined rules v.fields };
+    ghost same_length_fields = { entries.list.same_length_fields };
 
-    ghost only_readable_fields = { λ rules v. ⟦<EntriesFields<'a> as FieldList>⟧.only_readable_fields rules v.fields };
+    ghost accepts_joined = { entries.list.accepts_joined };
 
-    ghost accepts_all_comparable = { λ rules v w. ⟦<EntriesFields<'a> as FieldList>⟧.accepts_all_comparable rules v.fields w.fields };
+    ghost only_readable_fields = { entries.list.only_readable_fields };
 
-    ghost re_read_memory = { λ v. ⟦<EntriesFields<'a> as FieldList>⟧.re_read_memory v.fields };
+    ghost accepts_all_comparable = { entries.list.accepts_all_comparable };
+
+    ghost re_read_memory = { entries.list.re_read_memory };
 }
 
 impl<'a> FieldsMemory for Entries<'a> {

@@ -2,8 +2,8 @@
 
 ghost use Rattle.der_elem.specs.Decoding.{ReadsAll};
 ghost use Rattle.der_pkix.specs.Writing.{WritesAll};
+ghost use Rattle.der_revocation.specs.Grammars.{revoked_certificate};
 
-use der_elem::Form;
 use der_fields::{End, Field, FieldSequence, read_sequence, write_sequence};
 use der_numbers::IntRef;
 use der_opaque::AnyRef;
@@ -34,7 +34,7 @@ pub fn read_revoked_certificate<'a>(
     alloc: Global,
     bytes: &'a [u8],
 ) -> Result<RevokedCertificate<'a>, Error>
-    ensures { ReadsAll ⟦<RevokedCertificate<'a> as Form>⟧ bytes.now result }
+    ensures { ReadsAll revoked_certificate.grammar bytes.now result }
 {
     read_sequence(alloc, bytes)
 }
@@ -47,7 +47,7 @@ pub fn write_revoked_certificate<'a>(
     alloc: Global,
     value: &RevokedCertificate<'a>,
 ) -> Result<Vec<u8>, Error>
-    ensures { WritesAll ⟦<RevokedCertificate<'a> as Form>⟧ value.now result }
+    ensures { WritesAll revoked_certificate.grammar value.now result }
 {
     write_sequence(alloc, value)
 }

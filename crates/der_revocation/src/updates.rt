@@ -1,8 +1,10 @@
 //! The fields from thisUpdate on of a TBSCertList.
 
 ghost use Rattle.std.specs.Prelude.{refl};
+ghost use Rattle.der_fields.specs.Parts.{part_of};
 
 use crate::entries::Entries;
+use crate::listed::Listed;
 use der_elem::WithMemory;
 use der_fields::{DecodeFields, EncodeFields, Field, FieldList, FieldsMemory};
 use der_pkix::Time;
@@ -19,36 +21,42 @@ pub struct Updates<'a> {
     pub fields: UpdatesFields<'a>,
 }
 
+impl<'a> Listed for Updates<'a> {
+    ghost list = { part_of (λ v. v.fields) ⟦<UpdatesFields<'a> as FieldList>⟧ };
+}
+
 impl<'a> FieldList for Updates<'a> {
-    ghost joined = { λ v. ⟦<UpdatesFields<'a> as FieldList>⟧.joined v.fields };
+    ghost use Rattle.der_revocation.specs.contracts.updates.UpdatesListed.TheImpl.{ghosts as updates};
 
-    ghost first_tag = { λ v. ⟦<UpdatesFields<'a> as FieldList>⟧.first_tag v.fields };
+    ghost joined = { updates.list.joined };
 
-    ghost all_comparable = { λ v w. ⟦<UpdatesFields<'a> as FieldList>⟧.all_comparable v.fields w.fields };
+    ghost first_tag = { updates.list.first_tag };
 
-    ghost re_read = { λ v. ⟦<UpdatesFields<'a> as FieldList>⟧.re_read v.fields };
+    ghost all_comparable = { updates.list.all_comparable };
 
-    ghost accepts_fields = { λ rules v. ⟦<UpdatesFields<'a> as FieldList>⟧.accepts_fields rules v.fields };
+    ghost re_read = { updates.list.re_read };
 
-    ghost parse_fields = { ⟦<UpdatesFields<'a> as FieldList>⟧.parse_fields };
+    ghost accepts_fields = { updates.list.accepts_fields };
 
-    ghost readable_fields = { λ v. ⟦<UpdatesFields<'a> as FieldList>⟧.readable_fields v.fields };
+    ghost parse_fields = { updates.list.parse_fields };
 
-    ghost FIELDS_TAKE_MEMORY = { ⟦<UpdatesFields<'a> as FieldList>⟧.FIELDS_TAKE_MEMORY };
+    ghost readable_fields = { updates.list.readable_fields };
 
-    ghost parse_of_accepted_fields = { λ rules v. ⟦<UpdatesFields<'a> as FieldList>⟧.parse_of_accepted_fields rules v.fields };
+    ghost FIELDS_TAKE_MEMORY = { updates.list.FIELDS_TAKE_MEMORY };
 
-    ghost led_fields = { λ rules v. ⟦<UpdatesFields<'a> as FieldList>⟧.led_fields rules v.fields };
+    ghost parse_of_accepted_fields = { updates.list.parse_of_accepted_fields };
 
-    ghost same_length_fields = { λ rules v. ⟦<UpdatesFields<'a> as FieldList>⟧.same_length_fields rules v.fields };
+    ghost led_fields = { updates.list.led_fields };
 
-    ghost accepts_joined = { λ rules v. ⟦<UpdatesFields<'a> as FieldList>⟧.accepts_joined rules v.fields };
+    ghost same_length_fields = { updates.list.same_length_fields };
 
-    ghost only_readable_fields = { λ rules v. ⟦<UpdatesFields<'a> as FieldList>⟧.only_readable_fields rules v.fields };
+    ghost accepts_joined = { updates.list.accepts_joined };
 
-    ghost accepts_all_comparable = { λ rules v w. ⟦<UpdatesFields<'a> as FieldList>⟧.accepts_all_comparable rules v.fields w.fields };
+    ghost only_readable_fields = { updates.list.only_readable_fields };
 
-    ghost re_read_memory = { λ v. ⟦<UpdatesFields<'a> as FieldList>⟧.re_read_memory v.fields };
+    ghost accepts_all_comparable = { updates.list.accepts_all_comparable };
+
+    ghost re_read_memory = { updates.list.re_read_memory };
 }
 
 impl<'a> FieldsMemory for Updates<'a> {

@@ -1,6 +1,9 @@
-//! The callers, called.
+//! The callers, called; and values of several crates in one another.
 
+mod canonical;
 mod examples;
+mod rooms;
+mod rows;
 
 use crate::{
     attribute_set, common_name, contents_of_string, country, explicit_version, first_header,

@@ -1,9 +1,6 @@
 -- The types by their names.
-use Rattle.std.specs.Prelude.{◌≡◌, ℕ, true, List, Option, None, Some, Result, if◌then◌else◌, codes}
+use Rattle.std.specs.Prelude.{ℕ, true, None, Some, if◌then◌else◌, codes}
 use Rattle.std.specs.Str.{bytes_eq}
-use Rattle.der_asn1_types.specs.Error.{Error}
-use Rattle.der_asn1_types.specs.ErrorKind.{ErrorKind}
-use Rattle.der_asn1_types.specs.Tag.{Tag}
 use Rattle.der_asn1_types.specs.Tag.TheVariants.{Boolean, Integer, Null, OctetString, ObjectIdentifier, Sequence, Set, BitString, Utf8String, GeneralString, BmpString, UtcTime, GeneralizedTime}
 use Rattle.der_asn1_types.specs.Identifier.{same_identifier}
 use Rattle.der_asn1_types.specs.Items.{parse_items}
@@ -28,25 +25,17 @@ use Rattle.der_asn1_types.specs.BorrowedSets.{parse_borrowed}
 use Rattle.der_asn1_types.specs.TimeReading.{parse_generalized, parse_utc}
 use Rattle.der_asn1_types.specs.TaggedValues.{parse_explicit}
 use Rattle.der_asn1_types.specs.FieldLists.{parse_field, parse_end}
-use Rattle.derview.specs.Puts.{Puts}
-
--- the canonical encoding of what some octets encode as one type, or the first fault
-abbrev pub CanonicalFunction : Type 0
-CanonicalFunction = List ℕ → Result (List ℕ) ErrorKind
-
--- that of a type with one tag
-abbrev pub canonical_tagged : Tag → ContentsParse → CanonicalFunction
-canonical_tagged tag parse = parse_all (parse_tagged tag parse)
+use Rattle.der_lines.specs.Tables.{CanonicalFunction, canonical_tagged, Table, or_else}
 
 -- BOOLEAN and NULL
-unfoldable pub plain_types : List ℕ → Option CanonicalFunction
+unfoldable pub plain_types : Table
 plain_types name =
     if bytes_eq name (codes "bool") then Some (canonical_tagged Boolean parse_boolean)
     else if bytes_eq name (codes "unit") then Some (canonical_tagged Null parse_null)
     else None
 
 -- INTEGER, within the range of a machine integer
-unfoldable pub signed_types : List ℕ → Option CanonicalFunction
+unfoldable pub signed_types : Table
 signed_types name =
     if bytes_eq name (codes "i8") then Some (canonical_tagged Integer (parse_signed 1))
     else if bytes_eq name (codes "i16") then Some (canonical_tagged Integer (parse_signed 2))
@@ -55,7 +44,7 @@ signed_types name =
     else if bytes_eq name (codes "i128") then Some (canonical_tagged Integer (parse_signed 16))
     else None
 
-unfoldable pub unsigned_types : List ℕ → Option CanonicalFunction
+unfoldable pub unsigned_types : Table
 unsigned_types name =
     if bytes_eq name (codes "u8") then Some (canonical_tagged Integer (parse_unsigned 1))
     else if bytes_eq name (codes "u16") then Some (canonical_tagged Integer (parse_unsigned 2))
@@ -66,7 +55,7 @@ unsigned_types name =
 
 -- values whose contents octets are kept as they stand: NULL, any value, OCTET STRING, and OBJECT
 -- IDENTIFIER in at most 39 octets
-unfoldable pub opaque_types : List ℕ → Option CanonicalFunction
+unfoldable pub opaque_types : Table
 opaque_types name =
     if bytes_eq name (codes "null") then Some (canonical_tagged Null parse_null)
     else if bytes_eq name (codes "any") then Some (parse_all parse_any)
@@ -77,7 +66,7 @@ opaque_types name =
     else None
 
 -- a list of 64-bit integers, a list of any values, a pair of octets, and an octet that may be absent
-unfoldable pub composed_types : List ℕ → Option CanonicalFunction
+unfoldable pub composed_types : Table
 composed_types name =
     if bytes_eq name (codes "vec-i64") then Some (canonical_tagged Sequence (parse_items (parse_tagged Integer (parse_signed 8))))
     else if bytes_eq name (codes "vec-anyref") then Some (canonical_tagged Sequence (parse_items parse_any))
@@ -86,7 +75,7 @@ composed_types name =
     else None
 
 -- explicit tagging of an octet with an application, a context-specific or a private tag, and a list of such values
-unfoldable pub tagged_types : List ℕ → Option CanonicalFunction
+unfoldable pub tagged_types : Table
 tagged_types name =
     if bytes_eq name (codes "ctx-u8") then Some (parse_all (parse_explicit 2 (parse_tagged Integer (parse_unsigned 1))))
     else if bytes_eq name (codes "app-u8") then Some (parse_all (parse_explicit 1 (parse_tagged Integer (parse_unsigned 1))))
@@ -95,7 +84,7 @@ tagged_types name =
     else None
 
 -- INTEGER at any number of contents octets, and such as are not negative
-unfoldable pub number_types : List ℕ → Option CanonicalFunction
+unfoldable pub number_types : Table
 number_types name =
     if bytes_eq name (codes "int") then Some (canonical_tagged Integer parse_integer)
     else if bytes_eq name (codes "intref") then Some (canonical_tagged Integer parse_integer)
@@ -107,7 +96,7 @@ number_types name =
 abbrev pub canonical_string : ℕ → CanonicalFunction
 canonical_string number = canonical_tagged (string_tag number) (parse_string number)
 
-unfoldable pub string_types : List ℕ → Option CanonicalFunction
+unfoldable pub string_types : Table
 string_types name =
     if bytes_eq name (codes "printable") then Some (canonical_string 19)
     else if bytes_eq name (codes "printableref") then Some (canonical_string 19)
@@ -123,7 +112,7 @@ string_types name =
     else None
 
 -- BIT STRING, and explicit tagging of one
-unfoldable pub bit_types : List ℕ → Option CanonicalFunction
+unfoldable pub bit_types : Table
 bit_types name =
     if bytes_eq name (codes "bits") then Some (canonical_tagged BitString parse_bit_string)
     else if bytes_eq name (codes "bitsref") then Some (canonical_tagged BitString parse_bit_string)
@@ -139,7 +128,7 @@ abbrev pub parse_algorithm_identifier : ContentsParse
 parse_algorithm_identifier = parse_field (parse_tagged ObjectIdentifier (parse_identifier 39)) (parse_field (parse_option (λ tag. true) parse_any) parse_end)
 
 -- a SEQUENCE whose contents octets are kept, one of at most five items, and an AlgorithmIdentifier
-unfoldable pub nested_types : List ℕ → Option CanonicalFunction
+unfoldable pub nested_types : Table
 nested_types name =
     if bytes_eq name (codes "sequenceref") then Some (canonical_tagged Sequence parse_octets)
     else if bytes_eq name (codes "seqof5-u16") then Some (canonical_tagged Sequence (parse_items_up_to 5 parse_u16))
@@ -147,7 +136,7 @@ nested_types name =
     else None
 
 -- sets of integers, of any values, and of AlgorithmIdentifiers
-unfoldable pub set_types : List ℕ → Option CanonicalFunction
+unfoldable pub set_types : Table
 set_types name =
     if bytes_eq name (codes "setvec-anyref") then Some (canonical_tagged Set (parse_set parse_any))
     else if bytes_eq name (codes "setvec-u16") then Some (canonical_tagged Set (parse_set parse_u16))
@@ -157,7 +146,7 @@ set_types name =
     else None
 
 -- sets that borrow their contents octets
-unfoldable pub borrowed_set_types : List ℕ → Option CanonicalFunction
+unfoldable pub borrowed_set_types : Table
 borrowed_set_types name =
     if bytes_eq name (codes "setref-u16") then Some (canonical_tagged Set (parse_borrowed parse_u16))
     else if bytes_eq name (codes "setref-octetsref") then Some (canonical_tagged Set (parse_borrowed (parse_tagged OctetString parse_octets)))
@@ -165,24 +154,13 @@ borrowed_set_types name =
     else None
 
 -- dates and times
-unfoldable pub time_types : List ℕ → Option CanonicalFunction
+unfoldable pub time_types : Table
 time_types name =
     if bytes_eq name (codes "datetime") then Some (canonical_tagged GeneralizedTime parse_generalized)
     else if bytes_eq name (codes "gentime") then Some (canonical_tagged GeneralizedTime parse_generalized)
     else if bytes_eq name (codes "utctime") then Some (canonical_tagged UtcTime parse_utc)
     else None
 
--- the first of two that there is
-abbrev pub or_else : Option CanonicalFunction → Option CanonicalFunction → Option CanonicalFunction
-or_else None other = other
-or_else (Some function) other = Some function
-
 -- the function of the type with a name
-unfoldable pub canonical_function_of : List ℕ → Option CanonicalFunction
+unfoldable pub canonical_function_of : Table
 canonical_function_of name = or_else (plain_types name) (or_else (signed_types name) (or_else (unsigned_types name) (or_else (opaque_types name) (or_else (composed_types name) (or_else (tagged_types name) (or_else (number_types name) (or_else (string_types name) (or_else (bit_types name) (or_else (nested_types name) (or_else (set_types name) (or_else (borrowed_set_types name) (time_types name))))))))))))
-
--- there is a result where there is a function, and what it gives of the octets was put
-abbrev pub AnswersAs : Option CanonicalFunction → List ℕ → List ℕ → Option (Result (Unit {0}) Error) → Type 0
-AnswersAs None octets encoding result = result ≡ None
-AnswersAs (Some function) octets encoding None = ⊥
-AnswersAs (Some function) octets encoding (Some result) = Puts (function octets) encoding result

@@ -2,23 +2,13 @@
 //! encoding of the value that the digits encode, or with the number of what is wrong with them.
 #![tactic(auto)]
 
-use fault::Fault;
-use run::run;
-use sink::OctetWriter;
-use source::LineReader;
+use der_lines::{Fault, LineReader, OctetWriter, run};
+use names::TypeNames;
 use std::io::{self, BufReader};
 use std::process::ExitCode;
 
 mod algorithm_identifier;
-mod answer;
-mod canonical;
-mod fault;
-mod kept_writer;
-mod lines;
 mod names;
-mod run;
-mod sink;
-mod source;
 #[cfg(test)]
 mod tests;
 
@@ -28,7 +18,7 @@ fn answer_all(rt: &(impl Input + Print + AllocGlobal)) -> Result<(), Fault> {
     };
     let mut input = LineReader::new(reader, u64::MAX);
     let mut output = OctetWriter::new(io::writer(rt));
-    run(rt.alloc(), &mut input, &mut output)
+    run::<TypeNames, _, _>(rt.alloc(), &mut input, &mut output)
 }
 
 fn main(rt: HostRuntime) -> ExitCode {

@@ -1,11 +1,9 @@
 //! The types by their names.
 ghost use Rattle.std.specs.Prelude.{◌≡◌};
-ghost use Rattle.std.specs.Str.{bytes_eq};
-ghost use Rattle.derview.specs.Names.{canonical_function_of, plain_types, signed_types, unsigned_types, opaque_types, composed_types, tagged_types, number_types, string_types, bit_types, nested_types, set_types, borrowed_set_types, time_types, AnswersAs};
+ghost use Rattle.der_lines.specs.Tables.{AnswersAs};
+ghost use Rattle.derview.specs.Names.{canonical_function_of, plain_types, signed_types, unsigned_types, opaque_types, composed_types, tagged_types, number_types, string_types, bit_types, nested_types, set_types, borrowed_set_types, time_types};
 
 use crate::algorithm_identifier::AlgorithmIdentifier;
-use crate::canonical::{put_canonical, put_canonical_set};
-use crate::kept_writer::KeptWriter;
 use der_asn1_types::asn1::{
     Any, AnyRef, Application, BitString, BitStringRef, BmpString, ContextSpecific,
     GeneralStringRef, GeneralizedTime, Ia5String, Ia5StringRef, Int, IntRef, Null,
@@ -14,68 +12,60 @@ use der_asn1_types::asn1::{
     UintRef, UtcTime, Utf8StringRef, VideotexStringRef,
 };
 use der_asn1_types::{DateTime, Error};
+use der_lines::{KeptWriter, Names, choose, is_name, put_canonical_set};
 use std::alloc::Global;
 
-/// Takes the type that stands at the name, and puts the canonical encoding of what the octets encode
-/// as it.
-macro_rules! choose {
-    ($alloc:expr, $name:expr, $octets:expr, $encoding:expr; $($text:literal => $type:ty,)*) => {
-        $(if is($name, $text) {
-            return Some(put_canonical::<$type>($alloc, $octets, $encoding));
-        })*
-        None
-    };
-}
+/// The names of the types of `der_asn1_types`, and of an AlgorithmIdentifier.
+pub struct TypeNames;
 
-/// Puts the canonical encoding of the value that the octets encode, as the type of that name, if
-/// there is such a type, in the place of what was written.
-#[tactic(auto, unfolding(crate::specs::Names::canonical_function_of))]
-pub fn put_canonical_of_name(
-    alloc: Global,
-    name: &[u8],
-    octets: &[u8],
-    encoding: &mut KeptWriter,
-) -> Option<Result<(), Error>>
-    ensures { AnswersAs (canonical_function_of name.now) octets.now
-        encoding.new.octets.items result }
-{
-    if let Some(result) = put_plain(alloc, name, octets, encoding) {
-        return Some(result);
+impl Names for TypeNames {
+    ghost canonical_function_of = { canonical_function_of };
+
+    #[tactic(auto, unfolding(crate::specs::Names::canonical_function_of))]
+    fn put_canonical_of_name(
+        alloc: Global,
+        name: &[u8],
+        octets: &[u8],
+        encoding: &mut KeptWriter,
+    ) -> Option<Result<(), Error>> {
+        if let Some(result) = put_plain(alloc, name, octets, encoding) {
+            return Some(result);
+        }
+        if let Some(result) = put_signed(alloc, name, octets, encoding) {
+            return Some(result);
+        }
+        if let Some(result) = put_unsigned(alloc, name, octets, encoding) {
+            return Some(result);
+        }
+        if let Some(result) = put_opaque(alloc, name, octets, encoding) {
+            return Some(result);
+        }
+        if let Some(result) = put_composed(alloc, name, octets, encoding) {
+            return Some(result);
+        }
+        if let Some(result) = put_tagged(alloc, name, octets, encoding) {
+            return Some(result);
+        }
+        if let Some(result) = put_number(alloc, name, octets, encoding) {
+            return Some(result);
+        }
+        if let Some(result) = put_string(alloc, name, octets, encoding) {
+            return Some(result);
+        }
+        if let Some(result) = put_bits(alloc, name, octets, encoding) {
+            return Some(result);
+        }
+        if let Some(result) = put_nested(alloc, name, octets, encoding) {
+            return Some(result);
+        }
+        if let Some(result) = put_set(alloc, name, octets, encoding) {
+            return Some(result);
+        }
+        if let Some(result) = put_borrowed_set(alloc, name, octets, encoding) {
+            return Some(result);
+        }
+        put_time(alloc, name, octets, encoding)
     }
-    if let Some(result) = put_signed(alloc, name, octets, encoding) {
-        return Some(result);
-    }
-    if let Some(result) = put_unsigned(alloc, name, octets, encoding) {
-        return Some(result);
-    }
-    if let Some(result) = put_opaque(alloc, name, octets, encoding) {
-        return Some(result);
-    }
-    if let Some(result) = put_composed(alloc, name, octets, encoding) {
-        return Some(result);
-    }
-    if let Some(result) = put_tagged(alloc, name, octets, encoding) {
-        return Some(result);
-    }
-    if let Some(result) = put_number(alloc, name, octets, encoding) {
-        return Some(result);
-    }
-    if let Some(result) = put_string(alloc, name, octets, encoding) {
-        return Some(result);
-    }
-    if let Some(result) = put_bits(alloc, name, octets, encoding) {
-        return Some(result);
-    }
-    if let Some(result) = put_nested(alloc, name, octets, encoding) {
-        return Some(result);
-    }
-    if let Some(result) = put_set(alloc, name, octets, encoding) {
-        return Some(result);
-    }
-    if let Some(result) = put_borrowed_set(alloc, name, octets, encoding) {
-        return Some(result);
-    }
-    put_time(alloc, name, octets, encoding)
 }
 
 #[tactic(auto, unfolding(crate::specs::Names::plain_types))]
@@ -274,7 +264,7 @@ fn put_set(
 ) -> Option<Result<(), Error>>
     ensures { AnswersAs (set_types name.now) octets.now encoding.new.octets.items result }
 {
-    if is(name, "setvec-anyref") {
+    if is_name(name, "setvec-anyref") {
         return Some(put_canonical_set::<AnyRef>(alloc, octets, encoding));
     }
     choose! {
@@ -318,10 +308,4 @@ fn put_time(
         "gentime" => GeneralizedTime,
         "utctime" => UtcTime,
     }
-}
-
-fn is(name: &[u8], text: &str) -> bool
-    ensures { result ≡ bytes_eq name.now text.now }
-{
-    name == text.as_bytes()
 }

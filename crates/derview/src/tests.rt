@@ -3,10 +3,8 @@
 mod algorithm_identifier;
 mod beginnings;
 
-use crate::fault::Fault;
-use crate::run::run;
-use crate::sink::OctetWriter;
-use crate::source::LineReader;
+use crate::names::TypeNames;
+use der_lines::{Fault, LineReader, OctetWriter, run};
 use std::alloc::Global;
 use std::io::{self, BufReader, ErrorKind, Read, Write};
 use std::test::Fail;
@@ -15,7 +13,7 @@ use std::test::Fail;
 fn answers(alloc: Global, text: &[u8]) -> (Result<(), Fault>, Vec<u8>) {
     let mut written = Vec::new(alloc);
     let mut input = LineReader::new(text, u64::MAX);
-    let result = run(alloc, &mut input, &mut OctetWriter::new(&mut written));
+    let result = run::<TypeNames, _, _>(alloc, &mut input, &mut OctetWriter::new(&mut written));
     (result, written)
 }
 
@@ -92,7 +90,11 @@ fn refuses_too_many_lines(rt: HostRuntime) {
     for (text, want, answers) in rows {
         let mut written = Vec::new(rt.alloc());
         let mut input = LineReader::new(text, 2);
-        let result = run(rt.alloc(), &mut input, &mut OctetWriter::new(&mut written));
+        let result = run::<TypeNames, _, _>(
+            rt.alloc(),
+            &mut input,
+            &mut OctetWriter::new(&mut written),
+        );
         assert_eq!(rt; result, want, "at {text:?}");
         assert_eq!(rt; written.as_slice(), answers, "at {text:?}");
     }
@@ -152,7 +154,11 @@ fn stops_where_a_read_fails(rt: HostRuntime) -> Result<(), Fail> {
                 },
             )?;
             let mut input = LineReader::new(reader, u64::MAX);
-            let result = run(rt.alloc(), &mut input, &mut OctetWriter::new(&mut written));
+            let result = run::<TypeNames, _, _>(
+                rt.alloc(),
+                &mut input,
+                &mut OctetWriter::new(&mut written),
+            );
             assert_eq!(rt; result, Err(fault), "at {text:?}");
             assert!(rt; input.failure == Some(kind), "at {text:?}");
             assert_eq!(rt; written.as_slice(), want, "at {text:?}");
@@ -213,7 +219,7 @@ fn stops_where_a_write_fails(rt: HostRuntime) {
                 is_interrupted: false,
                 kind,
             });
-            let result = run(rt.alloc(), &mut input, &mut output);
+            let result = run::<TypeNames, _, _>(rt.alloc(), &mut input, &mut output);
             let expected = if room == want.len() {
                 Ok(())
             } else {

@@ -1,0 +1,48 @@
+-- The answer to a line, as a function of a table of types and the line's octets.
+use Rattle.std.specs.Prelude.{ℕ, ◌+◌, ◌==◌, List, [], ◌++◌, length, take, drop, position, Option, None, Some, option_map, Result, Ok, Err, if◌then◌else◌, codes}
+use Rattle.std.specs.Fmt.{decimal}
+use Rattle.std.specs.Str.{bytes_eq}
+use Rattle.std.specs.Result.{result_ok}
+use Rattle.hex.specs.Hex.{decode_of, encode_lower}
+use Rattle.der_tlv.specs.ErrorNumber.{error_number}
+use Rattle.der_tlv.specs.declared.error.ErrorKind.{ErrorKind}
+use Rattle.der_lines.specs.Tables.{CanonicalFunction, Table}
+
+-- what stands before the first space, and what stands behind it
+abbrev pub parts_of : List ℕ → Option (List ℕ × List ℕ)
+parts_of line = option_map (λ end. (take end line, drop (end + 1) line)) (position (λ octet. octet == 32) line)
+
+-- the octets that an even number of hex digits stand for, at least two of them, or a `-` for none
+abbrev pub octets_of : List ℕ → Option (List ℕ)
+octets_of text =
+    if length text == 0 then None
+    else if bytes_eq text (codes "-") then Some []
+    else result_ok (decode_of text)
+
+-- the text of a canonical encoding
+abbrev pub accepted_of : List ℕ → List ℕ
+accepted_of encoding = if length encoding == 0 then codes "ok -" else codes "ok " ++ encode_lower encoding
+
+-- the text of a fault
+abbrev pub refused_of : ErrorKind → List ℕ
+refused_of kind = codes "refused " ++ decimal (error_number kind)
+
+abbrev pub verdict_of : Result (List ℕ) ErrorKind → List ℕ
+verdict_of (Ok encoding) = accepted_of encoding
+verdict_of (Err kind) = refused_of kind
+
+abbrev pub verdict_by : Option CanonicalFunction → List ℕ → List ℕ
+verdict_by None octets = codes "bad line"
+verdict_by (Some function) octets = verdict_of (function octets)
+
+abbrev pub answer_to_text : Table → List ℕ → Option (List ℕ) → List ℕ
+answer_to_text table name None = codes "bad line"
+answer_to_text table name (Some octets) = verdict_by (table name) octets
+
+abbrev pub answer_to_parts : Table → Option (List ℕ × List ℕ) → List ℕ
+answer_to_parts table None = codes "bad line"
+answer_to_parts table (Some parts) = answer_to_text table parts.0 (octets_of parts.1)
+
+-- the answer to a line, by the types of a table
+unfoldable pub answer_of : Table → List ℕ → List ℕ
+answer_of table line = answer_to_parts table (parts_of line)

@@ -1,0 +1,19 @@
+-- How a call of a reader or a writer that failed is told.
+use Rattle.std.specs.Prelude.{◌≡◌, ◌≢◌, ◌⊎◌, Option, Some, Result, Ok, Err}
+use Rattle.std.specs.declared.io.ErrorKind.{ErrorKind}
+use Rattle.std.specs.declared.io.ErrorKind.TheVariants.{OutOfMemory}
+use Rattle.der_lines.specs.declared.fault.Fault.{Fault}
+use Rattle.der_lines.specs.declared.fault.Fault.TheVariants.{Memory}
+
+-- the fault of an error of a kind: want of memory is told as such, and every other kind as a failed read, or a failed write
+abbrev pub IsFaultOf : Fault → ErrorKind → Fault → Type 0
+IsFaultOf failed kind fault = (kind ≡ OutOfMemory → fault ≡ Memory) × (kind ≢ OutOfMemory → fault ≡ failed)
+
+-- no call failed, or the fault is that of the last error
+abbrev pub TellsFailure : {T : Type 0} → Fault → Option ErrorKind → Option ErrorKind → Result T Fault → Type 0
+TellsFailure failed old new (Ok x) = new ≡ old
+TellsFailure failed old new (Err fault) = (new ≡ old) ⊎ ((kind : ErrorKind) × (new ≡ Some kind) × IsFaultOf failed kind fault)
+
+-- a call failed, and not for want of memory
+abbrev pub HasFailed : Option ErrorKind → Type 0
+HasFailed failure = (kind : ErrorKind) × (failure ≡ Some kind) × (kind ≢ OutOfMemory)

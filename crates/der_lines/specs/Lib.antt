@@ -1,0 +1,11 @@
+pub mod Answer
+pub mod Failure
+pub mod Fault
+pub mod Kept
+pub mod Lines
+pub mod Piece
+pub mod Puts
+pub mod Run
+pub mod Sink
+pub mod Source
+pub mod Tables

@@ -1,0 +1,54 @@
+//! Lines to answers.
+ghost use Rattle.std.specs.Prelude.{◌≡◌, ◌⊎◌, [], Some, IfSome, OnOk, OnErr, IsErrOf};
+ghost use Rattle.std.specs.Io.KnownBytes.{Appends};
+ghost use Rattle.der_lines.specs.Failure.{TellsFailure, HasFailed};
+ghost use Rattle.der_lines.specs.Lines.{replies_to};
+ghost use Rattle.der_lines.specs.Run.{AnswersWholeLines, AnswersAllButOne, WritesBeginning, HasTooManyLines};
+
+use crate::answer::Room;
+use crate::fault::Fault;
+use crate::names::Names;
+use crate::sink::OctetWriter;
+use crate::source::LineReader;
+use std::alloc::Global;
+use std::io::{BufRead, Write};
+
+/// Answers each line of the input, before it reads the next.
+pub fn run<N: Names, R: BufRead, W: Write>(
+    alloc: Global,
+    input: &mut LineReader<R>,
+    output: &mut OctetWriter<W>,
+) -> Result<(), Fault>
+    // All lines were read and answered.
+    ensures ok { OnOk result (IfSome (R.remaining input.old.reader) (λ text.
+        Appends (W.contents output.old.writer) (W.contents output.new.writer)
+        (replies_to N.canonical_function_of text))) }
+    ensures ended { OnOk result (IfSome (R.remaining input.old.reader) (λ _.
+        R.remaining input.new.reader ≡ Some [])) }
+
+    // After a fault, a beginning of that was written.
+    ensures beginning { OnErr result (IfSome (R.remaining input.old.reader) (λ text.
+        WritesBeginning N.canonical_function_of text
+        (W.contents output.old.writer) (W.contents output.new.writer))) }
+    ensures prompt { OnErr result (IfSome (R.remaining input.old.reader) (λ text.
+        AnswersAllButOne N.canonical_function_of text (R.remaining input.new.reader)
+        (W.contents output.old.writer) (W.contents output.new.writer))) }
+    ensures exact { IsErrOf result Fault.Input → IfSome (R.remaining input.old.reader) (λ text.
+        AnswersWholeLines N.canonical_function_of text (R.remaining input.new.reader)
+        (W.contents output.old.writer) (W.contents output.new.writer)) }
+
+    // Each fault has its cause, and each error with which a read or a write failed is told as it is.
+    ensures input { IsErrOf result Fault.Input → HasFailed input.new.failure
+        ⊎ HasTooManyLines (R.remaining input.old.reader) input.old.lines_left input.new.lines_left }
+    ensures told_read { TellsFailure Fault.Input input.old.failure input.new.failure result }
+    ensures output { IsErrOf result Fault.Output → HasFailed output.new.failure }
+    ensures told_write { TellsFailure Fault.Output output.old.failure output.new.failure result }
+{
+    let mut line = Vec::new(alloc);
+    let mut room = Room::new(alloc);
+    'lines: while input.next_line(&mut line)? {
+        room.reply_to::<N>(alloc, &line)?;
+        output.put(&room.reply)?;
+    }
+    Ok(())
+}

@@ -1,0 +1,68 @@
+//! The canonical encoding of the value that octets encode, in room that is kept.
+
+ghost use Rattle.der_elem.specs.Decoding.{parse_all};
+ghost use Rattle.der_tlv.specs.declared.tag.Tag.TheVariants.{Sequence, Set};
+ghost use Rattle.der_elem.specs.Parsing.{parse_tagged};
+ghost use Rattle.der_nest.specs.Sets.{parse_set};
+ghost use Rattle.der_lines.specs.Puts.{Puts};
+
+use crate::kept_writer::KeptWriter;
+use der_elem::{Decode, DerOrd, Encode, FromDer, Tagged};
+use der_fields::{DecodeFields, EncodeFields, FieldSequence, FieldsMemory};
+use der_nest::SetOfVec;
+use der_tlv::{Error, SliceReader};
+use std::alloc::Global;
+use std::marker::PhantomData;
+
+/// Reads a value from octets that are its encoding and nothing else, and puts its encoding in the
+/// place of what was written.
+///
+/// # Errors
+/// The first fault of the octets; `ErrorKind::Memory` (1) where memory runs out.
+pub fn put_canonical<'a, T: FromDer<'a> + Encode>(
+    alloc: Global,
+    octets: &'a [u8],
+    encoding: &mut KeptWriter,
+) -> Result<(), Error>
+    ensures { Puts (parse_all T.parse octets.now) encoding.new.octets.items result }
+{
+    let value = T::from_der(alloc, octets)?;
+    encoding.clear();
+    value.encode(encoding)
+}
+
+/// The same of a set of any number of items.
+///
+/// # Errors
+/// The first fault of the octets; `ErrorKind::Memory` (1) where memory runs out.
+pub fn put_canonical_set<'a, T: Decode<'a, SliceReader<'a>> + Encode + DerOrd + Tagged>(
+    alloc: Global,
+    octets: &'a [u8],
+    encoding: &mut KeptWriter,
+) -> Result<(), Error>
+    ensures { Puts (parse_all (parse_tagged Set (parse_set T.parse)) octets.now)
+        encoding.new.octets.items result }
+{
+    put_canonical::<SetOfVec<T>>(alloc, octets, encoding)
+}
+
+/// The same of a SEQUENCE of a list of fields, of which the type is told.
+///
+/// It is proved once for every list, so that a call at a long list is checked sooner.
+///
+/// # Errors
+/// The first fault of the octets; `ErrorKind::Memory` (1) where memory runs out.
+pub fn put_canonical_sequence<
+    'a,
+    F: DecodeFields<'a, SliceReader<'a>> + FieldsMemory + EncodeFields,
+>(
+    alloc: Global,
+    octets: &'a [u8],
+    encoding: &mut KeptWriter,
+    _sequence: PhantomData<FieldSequence<F>>,
+) -> Result<(), Error>
+    ensures { Puts (parse_all (parse_tagged Sequence F.parse_fields) octets.now)
+        encoding.new.octets.items result }
+{
+    put_canonical::<FieldSequence<F>>(alloc, octets, encoding)
+}

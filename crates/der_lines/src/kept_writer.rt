@@ -1,0 +1,56 @@
+//! A writer whose room is kept.
+ghost use Rattle.std.specs.Prelude.{◌≡◌, [], false};
+ghost use Rattle.der_tlv.specs.Writing.{WriterState, Writes};
+
+use der_tlv::{Error, ErrorKind, Writer};
+use std::alloc::Global;
+
+/// A writer into a vector, whose room is kept where it is cleared.
+///
+/// A growth that is refused (1) leaves the octets as they were; from then on each write is refused
+/// `ErrorKind::Failed` (17).
+#[derive(Drop)]
+pub struct KeptWriter {
+    /// The octets that were written.
+    pub octets: Vec<u8>,
+    /// Whether a write was refused.
+    pub failed: bool,
+}
+
+impl KeptWriter {
+    /// A writer that holds nothing. It takes no memory yet.
+    pub fn new(alloc: Global) -> KeptWriter {
+        KeptWriter {
+            octets: Vec::new(alloc),
+            failed: false,
+        }
+    }
+
+    /// Forgets what was written.
+    pub fn clear(&mut self)
+        ensures octets { self.new.octets.items ≡ [] }
+        ensures failed { self.new.failed ≡ false }
+    {
+        self.octets.clear();
+        self.failed = false;
+    }
+}
+
+impl Writer for KeptWriter {
+    ghost use Rattle.der_lines.specs.Kept.{kept_writer_state};
+
+    ghost state = { kept_writer_state };
+
+    fn write(&mut self, octets: &[u8]) -> Result<(), Error> {
+        if self.failed {
+            return Err(Error::from_kind(ErrorKind::Failed));
+        }
+        match self.octets.extend_from_slice(octets) {
+            Ok(()) => Ok(()),
+            Err(_) => {
+                self.failed = true;
+                Err(Error::from_kind(ErrorKind::Memory))
+            }
+        }
+    }
+}

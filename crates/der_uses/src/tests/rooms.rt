@@ -1,0 +1,136 @@
+//! Writing where there is too little room.
+
+ghost use Rattle.std.specs.Prelude.{true};
+ghost use Rattle.der_asn1_types.specs.Writing.{WriterState};
+
+use crate::tests::numbered;
+use der_asn1_types::asn1::{AnyRef, ContextSpecific, SetOf};
+use der_asn1_types::{Encode, Error, ErrorKind, SliceWriter, Tag, TagMode, TagNumber, Writer};
+use std::alloc::Global;
+use std::process::Abort;
+use std::test::Fail;
+
+// A writer that takes so many octets in all, a beginning of a write too, and then refuses (10).
+#[derive(Drop)]
+struct Bounded {
+    octets: Vec<u8>,
+    left: usize,
+    failed: bool,
+}
+
+impl Writer for Bounded {
+    ghost state = { λ w. record { taken = w.octets.items; start = (0, 0); failed = w.failed; room = 0; may_refuse = λ kind. true } };
+
+    fn write(&mut self, octets: &[u8]) -> Result<(), Error> {
+        if self.failed {
+            return Err(Error::from_kind(ErrorKind::Failed));
+        }
+        if octets.is_empty() {
+            return Ok(());
+        }
+        let count = octets.len().min(self.left);
+        if self.octets.extend_from_slice(&octets[..count]).is_err() {
+            self.failed = true;
+            return Err(Error::from_kind(ErrorKind::Memory));
+        }
+        self.left -= count;
+        if count < octets.len() {
+            self.failed = true;
+            return Err(Error::from_kind(ErrorKind::Overlength));
+        }
+        Ok(())
+    }
+}
+
+// A writer that takes so many octets holds a beginning of the encoding, if it refuses it.
+fn stops_after<T: Encode>(rt: &impl Abort, alloc: Global, value: &T, left: usize, encoding: &[u8]) {
+    let mut writer = Bounded {
+        octets: Vec::new(alloc),
+        left,
+        failed: false,
+    };
+    let answer = numbered(value.encode(&mut writer));
+    assert_eq!(rt; answer.err(), Some(10), "{left}");
+    assert!(rt; writer.octets.len() <= left, "{left}");
+    assert!(rt; encoding.starts_with(&writer.octets), "{left}");
+}
+
+// A buffer that is too short is refused, and a writer into it from then on.
+fn finds_no_room<T: Encode>(rt: &impl Abort, value: &T, buffer: &mut [u8]) {
+    assert_eq!(rt; numbered(value.encode_to_slice(buffer)).err(), Some(10));
+    let mut writer = SliceWriter::new(buffer);
+    assert_eq!(rt; numbered(value.encode(&mut writer)).err(), Some(10));
+    assert_eq!(rt; numbered(writer.write_byte(0)).err(), Some(17));
+    assert_eq!(rt; numbered(writer.write(&[])).err(), Some(17));
+}
+
+// Refuses a value at each number of octets that is too few, and writes it where there are enough.
+fn needs_room<T: Encode>(
+    rt: &impl Abort,
+    alloc: Global,
+    value: &T,
+    encoding: &[u8],
+) -> Result<(), Fail> {
+    let mut buffer: Vec<u8> = Vec::new(alloc);
+    for left in 0..encoding.len() {
+        stops_after(rt, alloc, value, left, encoding);
+        finds_no_room(rt, value, &mut buffer);
+        buffer.push(0)?;
+    }
+    assert_eq!(rt; numbered(value.encode_to_slice(&mut buffer)), Ok(encoding));
+    Ok(())
+}
+
+fn tagged<T>(number: u32, tag_mode: TagMode, value: T) -> ContextSpecific<T> {
+    ContextSpecific {
+        tag_number: TagNumber(number),
+        tag_mode,
+        value,
+    }
+}
+
+#[test]
+fn a_number_needs_its_octets(rt: HostRuntime) -> Result<(), Fail> {
+    needs_room(&rt, rt.alloc(), &-129i16, &[0x02, 0x02, 0xff, 0x7f])
+}
+
+#[test]
+fn a_tagged_set_needs_its_octets(rt: HostRuntime) -> Result<(), Fail> {
+    let mut set: SetOf<u16, 2> = SetOf::new();
+    numbered(set.insert(8))?;
+    numbered(set.insert(7))?;
+    let octets = [0xa2, 0x08, 0x31, 0x06, 0x02, 0x01, 0x07, 0x02, 0x01, 0x08];
+    needs_room(&rt, rt.alloc(), &tagged(2, TagMode::Explicit, set), &octets)
+}
+
+#[test]
+fn two_modes_need_their_octets(rt: HostRuntime) -> Result<(), Fail> {
+    let alloc = rt.alloc();
+    let octets = [0xa1, 0x05, 0x30, 0x03, 0x02, 0x01, 0x05];
+    let modes = [
+        (
+            TagMode::Implicit,
+            Tag::Sequence,
+            [0x02, 0x01, 0x05].as_slice(),
+        ),
+        (TagMode::Explicit, Tag::Integer, [0x05].as_slice()),
+    ];
+    for (mode, tag, contents) in modes {
+        let Ok(item) = AnyRef::new(tag, contents) else {
+            return Err(Fail::from("refused"));
+        };
+        let value = tagged(1, mode, vec![in alloc; item]?);
+        needs_room(&rt, alloc, &value, &octets)?;
+    }
+    Ok(())
+}
+
+#[test]
+fn a_set_of_an_array_needs_its_octets(rt: HostRuntime) -> Result<(), Fail> {
+    let set: SetOf<u16, 5> = numbered(SetOf::try_from([3, 2, 1, 65535, 0]))?;
+    let octets = [
+        0x31, 0x11, 0x02, 0x01, 0x00, 0x02, 0x01, 0x01, 0x02, 0x01, 0x02, 0x02, 0x01, 0x03, 0x02,
+        0x03, 0x00, 0xff, 0xff,
+    ];
+    needs_room(&rt, rt.alloc(), &set, &octets)
+}
