@@ -3,10 +3,9 @@
 ghost use Rattle.std.specs.Prelude.{refl};
 ghost use Rattle.der_fields.specs.Parts.{part_of};
 
-use crate::listed::Listed;
 use crate::subject::Subject;
 use der_elem::WithMemory;
-use der_fields::{DecodeFields, EncodeFields, Field, FieldList, FieldsMemory};
+use der_fields::{DecodeFields, EncodeFields, Field, FieldList, FieldsMemory, FieldsPart};
 use der_opaque::AnyRef;
 use der_pkix::AlgorithmIdentifier;
 use der_tlv::{Error, Length, Reader, Writer};
@@ -22,12 +21,12 @@ pub struct Issuer<'a> {
     pub fields: IssuerFields<'a>,
 }
 
-impl<'a> Listed for Issuer<'a> {
+impl<'a> FieldsPart for Issuer<'a> {
     ghost list = { part_of (λ v. v.fields) ⟦<IssuerFields<'a> as FieldList>⟧ };
 }
 
 impl<'a> FieldList for Issuer<'a> {
-    ghost use Rattle.der_certificate.specs.contracts.issuer.IssuerListed.TheImpl.{ghosts as issuer};
+    ghost use Rattle.der_certificate.specs.contracts.issuer.IssuerFieldsPart.TheImpl.{ghosts as issuer};
 
     ghost joined = { issuer.list.joined };
 

@@ -3,11 +3,10 @@
 ghost use Rattle.std.specs.Prelude.{refl};
 ghost use Rattle.der_fields.specs.Parts.{part_of};
 
-use crate::listed::Listed;
 use der_bits::BitStringRef;
 use der_elem::WithMemory;
 use der_fields::{
-    DecodeFields, EncodeFields, End, Explicit, Field, FieldList, FieldsMemory, Implicit,
+    DecodeFields, EncodeFields, End, Explicit, Field, FieldList, FieldsMemory, FieldsPart, Implicit,
 };
 use der_pkix::Extension;
 use der_tlv::{Error, Length, Reader, Writer};
@@ -29,12 +28,12 @@ pub struct Last<'a> {
     pub fields: LastFields<'a>,
 }
 
-impl<'a> Listed for Last<'a> {
+impl<'a> FieldsPart for Last<'a> {
     ghost list = { part_of (λ v. v.fields) ⟦<LastFields<'a> as FieldList>⟧ };
 }
 
 impl<'a> FieldList for Last<'a> {
-    ghost use Rattle.der_certificate.specs.contracts.last.LastListed.TheImpl.{ghosts as last};
+    ghost use Rattle.der_certificate.specs.contracts.last.LastFieldsPart.TheImpl.{ghosts as last};
 
     ghost joined = { last.list.joined };
 

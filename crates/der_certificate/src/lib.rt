@@ -8,7 +8,6 @@ mod certificate;
 mod grammars;
 mod issuer;
 mod last;
-mod listed;
 mod signed;
 mod subject;
 pub mod tbs;

@@ -4,9 +4,8 @@ ghost use Rattle.std.specs.Prelude.{refl};
 ghost use Rattle.der_fields.specs.Parts.{part_of};
 
 use crate::last::Last;
-use crate::listed::Listed;
 use der_elem::WithMemory;
-use der_fields::{DecodeFields, EncodeFields, Field, FieldList, FieldsMemory};
+use der_fields::{DecodeFields, EncodeFields, Field, FieldList, FieldsMemory, FieldsPart};
 use der_opaque::AnyRef;
 use der_pkix::{SubjectPublicKeyInfo, Validity};
 use der_tlv::{Error, Length, Reader, Writer};
@@ -25,12 +24,12 @@ pub struct Subject<'a> {
     pub fields: SubjectFields<'a>,
 }
 
-impl<'a> Listed for Subject<'a> {
+impl<'a> FieldsPart for Subject<'a> {
     ghost list = { part_of (λ v. v.fields) ⟦<SubjectFields<'a> as FieldList>⟧ };
 }
 
 impl<'a> FieldList for Subject<'a> {
-    ghost use Rattle.der_certificate.specs.contracts.subject.SubjectListed.TheImpl.{ghosts as subject};
+    ghost use Rattle.der_certificate.specs.contracts.subject.SubjectFieldsPart.TheImpl.{ghosts as subject};
 
     ghost joined = { subject.list.joined };
 

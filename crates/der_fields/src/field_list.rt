@@ -11,8 +11,8 @@ use der_elem::Memory;
 
 /// The fields of a SEQUENCE, whose encodings stand one after another (X.690 8.9).
 ///
-/// `End` and `Field` are lists. A struct of one's own that has a list as its one member is one too
-/// where it gives `FieldsPart`: so a long list is kept in parts.
+/// `End` and `Field` are lists. A struct of one's own that has a list as its one member may be one
+/// too, by handing each member on (`FieldsPart`): so a long list is kept in parts.
 pub trait FieldList: Sized + Drop {
     // the joined encodings of the fields
     ghost joined: { Self → List ℕ };

@@ -26,6 +26,40 @@ impl<'a> FieldsPart for Crt<'a> {
     ghost list = { part_of (λ v. v.fields) ⟦<CrtFields<'a> as FieldList>⟧ };
 }
 
+impl<'a> FieldList for Crt<'a> {
+    ghost use Rattle.der_pkix.specs.contracts.crt.CrtFieldsPart.TheImpl.{ghosts as crt};
+
+    ghost joined = { crt.list.joined };
+
+    ghost first_tag = { crt.list.first_tag };
+
+    ghost all_comparable = { crt.list.all_comparable };
+
+    ghost re_read = { crt.list.re_read };
+
+    ghost accepts_fields = { crt.list.accepts_fields };
+
+    ghost parse_fields = { crt.list.parse_fields };
+
+    ghost readable_fields = { crt.list.readable_fields };
+
+    ghost FIELDS_TAKE_MEMORY = { crt.list.FIELDS_TAKE_MEMORY };
+
+    ghost parse_of_accepted_fields = { crt.list.parse_of_accepted_fields };
+
+    ghost led_fields = { crt.list.led_fields };
+
+    ghost same_length_fields = { crt.list.same_length_fields };
+
+    ghost accepts_joined = { crt.list.accepts_joined };
+
+    ghost only_readable_fields = { crt.list.only_readable_fields };
+
+    ghost accepts_all_comparable = { crt.list.accepts_all_comparable };
+
+    ghost re_read_memory = { crt.list.re_read_memory };
+}
+
 impl<'a> FieldsMemory for Crt<'a> {
     type OfFields = WithoutMemory;
 

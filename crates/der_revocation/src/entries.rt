@@ -3,10 +3,11 @@
 ghost use Rattle.std.specs.Prelude.{refl};
 ghost use Rattle.der_fields.specs.Parts.{part_of};
 
-use crate::listed::Listed;
 use crate::revoked_certificate::RevokedCertificate;
 use der_elem::WithMemory;
-use der_fields::{DecodeFields, EncodeFields, End, Explicit, Field, FieldList, FieldsMemory};
+use der_fields::{
+    DecodeFields, EncodeFields, End, Explicit, Field, FieldList, FieldsMemory, FieldsPart,
+};
 use der_pkix::Extensions;
 use der_tlv::{Error, Length, Reader, Writer};
 use std::alloc::Global;
@@ -24,12 +25,12 @@ pub struct Entries<'a> {
     pub fields: EntriesFields<'a>,
 }
 
-impl<'a> Listed for Entries<'a> {
+impl<'a> FieldsPart for Entries<'a> {
     ghost list = { part_of (λ v. v.fields) ⟦<EntriesFields<'a> as FieldList>⟧ };
 }
 
 impl<'a> FieldList for Entries<'a> {
-    ghost use Rattle.der_revocation.specs.contracts.entries.EntriesListed.TheImpl.{ghosts as entries};
+    ghost use Rattle.der_revocation.specs.contracts.entries.EntriesFieldsPart.TheImpl.{ghosts as entries};
 
     ghost joined = { entries.list.joined };
 

@@ -7,7 +7,6 @@
 mod certificate_list;
 mod entries;
 mod grammars;
-mod listed;
 mod revoked_certificate;
 pub mod tbs;
 mod updates;

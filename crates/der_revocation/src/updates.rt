@@ -4,9 +4,8 @@ ghost use Rattle.std.specs.Prelude.{refl};
 ghost use Rattle.der_fields.specs.Parts.{part_of};
 
 use crate::entries::Entries;
-use crate::listed::Listed;
 use der_elem::WithMemory;
-use der_fields::{DecodeFields, EncodeFields, Field, FieldList, FieldsMemory};
+use der_fields::{DecodeFields, EncodeFields, Field, FieldList, FieldsMemory, FieldsPart};
 use der_pkix::Time;
 use der_tlv::{Error, Length, Reader, Writer};
 use std::alloc::Global;
@@ -21,12 +20,12 @@ pub struct Updates<'a> {
     pub fields: UpdatesFields<'a>,
 }
 
-impl<'a> Listed for Updates<'a> {
+impl<'a> FieldsPart for Updates<'a> {
     ghost list = { part_of (λ v. v.fields) ⟦<UpdatesFields<'a> as FieldList>⟧ };
 }
 
 impl<'a> FieldList for Updates<'a> {
-    ghost use Rattle.der_revocation.specs.contracts.updates.UpdatesListed.TheImpl.{ghosts as updates};
+    ghost use Rattle.der_revocation.specs.contracts.updates.UpdatesFieldsPart.TheImpl.{ghosts as updates};
 
     ghost joined = { updates.list.joined };
 
