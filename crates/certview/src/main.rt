@@ -1,4 +1,4 @@
-//! Reads a certificate or a key from standard input, in DER or as PEM
+//! Reads a certificate, a list of revoked certificates or a key from standard input, in DER or as PEM
 //! text, and prints its fields.
 #![tactic(auto)]
 
@@ -25,6 +25,7 @@ mod part;
 mod path;
 mod pem;
 mod place;
+mod revocation;
 mod rsa;
 mod run;
 mod shown;
