@@ -7,6 +7,7 @@ ghost use Rattle.certview.specs.Grammars.{by_kind, by_signed_kind};
 use der_certificate::{Certificate, TbsCertificate};
 use der_elem::Form;
 use der_pkix::{EcPrivateKey, PrivateKeyInfo, RsaPrivateKey, RsaPublicKey, SubjectPublicKeyInfo};
+use der_revocation::{CertificateList, TbsCertList};
 
 /// What octets of each kind are read by.
 pub trait Grammars {
@@ -21,7 +22,7 @@ pub struct Messages;
 impl Grammars for Messages {
     ghost grammar = { by_kind
         ⟦<Certificate<'static> as Form>⟧.parse
-        ⟦<Certificate<'static> as Form>⟧.parse
+        ⟦<CertificateList<'static> as Form>⟧.parse
         ⟦<SubjectPublicKeyInfo<'static> as Form>⟧.parse
         ⟦<PrivateKeyInfo<'static> as Form>⟧.parse
         ⟦<RsaPrivateKey<'static> as Form>⟧.parse
@@ -30,5 +31,5 @@ impl Grammars for Messages {
 
     ghost signed_grammar = { by_signed_kind
         ⟦<TbsCertificate<'static> as Form>⟧.parse
-        ⟦<TbsCertificate<'static> as Form>⟧.parse };
+        ⟦<TbsCertList<'static> as Form>⟧.parse };
 }

@@ -1,5 +1,6 @@
-//! Reads a certificate or a key from standard input, in DER or as PEM text, and prints its fields. With
-//! the argument `lines` it answers lines, each a message's name, a space and hex digits.
+//! Reads a certificate, a list of revoked certificates or a key from standard input, in DER or as PEM
+//! text, and prints its fields. With the argument `lines` it answers lines, each a message's name, a
+//! space and hex digits.
 #![tactic(auto)]
 
 use der_lines::{LineReader, OctetWriter};
@@ -30,6 +31,7 @@ mod part;
 mod path;
 mod pem;
 mod place;
+mod revocation;
 mod rsa;
 mod run;
 mod shown;

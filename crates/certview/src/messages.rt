@@ -13,13 +13,11 @@ use der_pkix::{
     AlgorithmIdentifier, EcPrivateKey, Extensions, Name, PrivateKeyInfo, RsaPrivateKey,
     RsaPublicKey, SubjectPublicKeyInfo,
 };
+use der_revocation::CertificateList;
 use der_tlv::Error;
 use std::alloc::Global;
 
 /// The names of messages, and of the values of extensions.
-///
-/// A CertificateList has the fields of a Certificate, with what is signed kept as it is encoded; so
-/// both have one type.
 pub struct MessageNames;
 
 impl Names for MessageNames {
@@ -67,7 +65,7 @@ fn put_certificate(
     choose_sequence! {
         alloc, name, octets, encoding;
         "cert" => Certificate,
-        "crl" => Certificate,
+        "crl" => CertificateList,
         "algid" => AlgorithmIdentifier,
         "spki" => SubjectPublicKeyInfo,
     }

@@ -9,6 +9,7 @@ use crate::certificate::certificate_text;
 use crate::grammars::{Grammars, Messages};
 use crate::keys::{ec_private_key_text, private_key_text, public_key_text, rsa_public_key_text};
 use crate::kind::Kind;
+use crate::revocation::list_text;
 use crate::rsa::rsa_private_key_text;
 use der_tlv::Error;
 use std::alloc::Global;
@@ -26,7 +27,7 @@ pub fn shown(alloc: Global, kind: Kind, octets: &[u8]) -> Result<String, Error>
 {
     match kind {
         Kind::Certificate => certificate_text(alloc, octets),
-        Kind::RevocationList => certificate_text(alloc, octets),
+        Kind::RevocationList => list_text(alloc, octets),
         Kind::PublicKey => public_key_text(alloc, octets),
         Kind::PrivateKey => private_key_text(alloc, octets),
         Kind::RsaPrivateKey => rsa_private_key_text(alloc, octets),
