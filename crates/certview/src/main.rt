@@ -1,10 +1,14 @@
-//! Reads a certificate or a key from standard input, in DER or as PEM
-//! text, and prints its fields.
+//! Reads a certificate, a list of revoked certificates or a key from standard input, in DER or as PEM
+//! text, and prints its fields. With the argument `lines` it answers lines, each a message's name, a
+//! space and hex digits.
 #![tactic(auto)]
 
+use der_lines::{LineReader, OctetWriter};
 use fault::Fault;
+use lines::{answer_lines, asks_for_lines};
 use run::run;
-use std::io;
+use std::env::{self, Env};
+use std::io::{self, BufReader};
 use std::process::ExitCode;
 
 mod algorithms;
@@ -12,19 +16,21 @@ mod certificate;
 mod constraints;
 mod extensions;
 mod fault;
-mod grammars;
 mod hexadecimal;
 mod identifiers;
 mod key_identifiers;
 mod keys;
 mod kind;
 mod labels;
+mod lines;
+mod messages;
 mod names;
 mod other_names;
 mod part;
 mod path;
 mod pem;
 mod place;
+mod revocation;
 mod rsa;
 mod run;
 mod shown;
@@ -35,7 +41,33 @@ mod times;
 mod usages;
 mod values;
 
-fn view(rt: &(impl Input + Print + AllocGlobal)) -> Result<(), Fault> {
+/// Whether the first argument asks for lines.
+fn wants_lines(rt: &(impl AllocGlobal + Env)) -> Result<bool, Fault> {
+    match env::args(rt) {
+        Ok(words) => Ok(
+            words
+                .skip(1)
+                .next()
+                .is_some_and(|word| asks_for_lines(word.as_str())),
+        ),
+        Err(error) if error.kind() == io::ErrorKind::OutOfMemory => Err(Fault::Memory),
+        Err(_) => Err(Fault::Input),
+    }
+}
+
+fn answer_all(rt: &(impl Input + Print + AllocGlobal)) -> Result<(), Fault> {
+    let Ok(reader) = BufReader::new(rt.alloc(), rt.reader()) else {
+        return Err(Fault::Memory);
+    };
+    let mut input = LineReader::new(reader, u64::MAX);
+    let mut output = OctetWriter::new(io::writer(rt));
+    answer_lines(rt.alloc(), &mut input, &mut output)
+}
+
+fn view(rt: &(impl Input + Print + AllocGlobal + Env)) -> Result<(), Fault> {
+    if wants_lines(rt)? {
+        return answer_all(rt);
+    }
     run(rt.alloc(), &mut rt.reader(), &mut io::writer(rt))
 }
 

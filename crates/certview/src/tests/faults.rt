@@ -1,13 +1,13 @@
 //! Faults and the fields in which they are met: an octet of a message is another one.
 
 use crate::fault::Fault;
-use crate::tests::messages::{CURVE_PRIVATE, ED25519};
+use crate::tests::messages::{CURVE_PRIVATE, ED25519, LIST};
 use crate::tests::written;
 use std::test::Fail;
 
 #[test]
 fn names_the_field_of_a_fault(rt: HostRuntime) -> Result<(), Fail> {
-    let rows: [(&str, usize, u8, &str); 10] = [
+    let rows: [(&str, usize, u8, &str); 12] = [
         (ED25519, 0, 0x31, "at position 4"),
         (ED25519, 3, 0xff, "at position 4"),
         (
@@ -52,6 +52,13 @@ fn names_the_field_of_a_fault(rt: HostRuntime) -> Result<(), Fail> {
             0x04,
             "at position 245, in signatureAlgorithm.algorithm",
         ),
+        (
+            LIST,
+            74,
+            0x39,
+            "in tbsCertList.revokedCertificates.revocationDate",
+        ),
+        (LIST, 48, 0x18, "in tbsCertList.nextUpdate"),
         (CURVE_PRIVATE, 41, 0x05, "in parameters"),
     ];
     for (message, place, octet, words) in rows {

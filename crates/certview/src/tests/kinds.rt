@@ -13,6 +13,16 @@ use std::test::Fail;
 fn shows_each_kind(rt: HostRuntime) -> Result<(), Fail> {
     let rows = [
         (
+            LIST,
+            "   65    34  revoked: 01, 2026-11-23 13:43:58 UTC, extensions #300c300a0603551d1504030a0101\n",
+        ),
+        (LIST, "   99    20  revoked: 02, 2026-11-23 13:43:58 UTC\n"),
+        (LIST, "   48    15  next update: 2026-12-23 13:43:58 UTC\n"),
+        (
+            LIST,
+            "  156    12  extension: 2.5.29.20 (cRLNumber), 3 octets\n",
+        ),
+        (
             RSA_PUBLIC,
             "key algorithm: 1.2.840.113549.1.1.1 (rsaEncryption)\n",
         ),

@@ -5,7 +5,7 @@ pub returns-in-Certificate-clause-read : goal.returns-in-Certificate-clause-read
 returns-in-Certificate-clause-read c = rw c.in-Certificate.is c.certificate_text.ensures.whole
 
 pub returns-in-RevocationList-clause-read : goal.returns-in-RevocationList-clause-read
-returns-in-RevocationList-clause-read c = rw c.in-RevocationList.is c.certificate_text-in-RevocationList.ensures.whole
+returns-in-RevocationList-clause-read c = rw c.in-RevocationList.is c.list_text.ensures.whole
 
 pub returns-in-RsaPrivateKey-clause-read : goal.returns-in-RsaPrivateKey-clause-read
 returns-in-RsaPrivateKey-clause-read c = rw c.in-RsaPrivateKey.is c.rsa_private_key_text.ensures
