@@ -4,10 +4,11 @@
 //! fields. A part has a name, and what is known of it stands with the name: so each part costs as
 //! much as its own fields.
 
-/// A struct of one's own whose one member is a list of fields: with a `FieldList` that names what
-/// stands here it is a list of fields too, and stands as the tail of another list.
+/// A struct of one's own that is seen as a list of fields, as one whose one member is a list: with a
+/// `FieldList` that names what stands here it is a list too, and stands as the tail of another; with
+/// a `FormValue` it is a SEQUENCE with fields of names of its own.
 ///
-/// `list` is `part_of` (`specs/Parts.antt`) of the member and of what its list means.
+/// `list` is `part_of` (`specs/Parts.antt`) of how it is seen, and of what that list means.
 pub trait FieldsPart: Sized + Drop {
     ghost use Rattle.der_fields.specs.declared.field_list.FieldList as fields;
 

@@ -8,20 +8,23 @@ ghost use Rattle.std.proofs.Common.{◌≡◌, [], ◌++◌, ◌&&◌, ◌∙◌
 ghost use Rattle.std.proofs.lemmas.Bool.{and_parts};
 ghost use Rattle.der_asn1_types.specs.EqualityLaws.{encoding-unique};
 ghost use Rattle.der_asn1_types.specs.OptionLaws.{encoding_eq_option};
+ghost use Rattle.der_asn1_types.specs.Parts.{part_of};
 ghost use Rattle.der_asn1_types.specs.TaggedLaws.{encoding_eq_tagged};
 ghost use Rattle.der_asn1_types.specs.AnyRefEncodingEqLaws as any;
 ghost use Rattle.der_asn1_types.specs.ObjectIdentifierContentsEqLaws as identifier;
 
 use der_asn1_types::asn1::{AnyRef, ObjectIdentifier};
 use der_asn1_types::{
-    ContentsEq, CopyIsDuplicate, DecodeValue, EncodeValue, End, Error, Field, FieldSequence,
-    FixedTag, Form, FormValue, Header, Length, OneTag, Reader, Sequence, SequenceTag, Tagged,
-    ValueMemory, ValueOrd, WithoutMemory, Writer,
+    ContentsEq, CopyIsDuplicate, DecodeValue, EncodeValue, End, Error, Field, FieldList,
+    FieldSequence, FieldsPart, FixedTag, Form, FormValue, Header, Length, OneTag, Reader, Sequence,
+    SequenceTag, Tagged, ValueMemory, ValueOrd, WithoutMemory, Writer,
 };
 use std::alloc::Global;
 use std::cmp::Ordering;
 
-type Fields<'a> = FieldSequence<Field<ObjectIdentifier<39>, Field<Option<AnyRef<'a>>, End>>>;
+type FieldsOf<'a> = Field<ObjectIdentifier<39>, Field<Option<AnyRef<'a>>, End>>;
+
+type Fields<'a> = FieldSequence<FieldsOf<'a>>;
 
 /// An algorithm, and its parameters: 30 05 06 03 2B 65 70 is 1.3.101.112 with none.
 #[derive(Clone, Copy, Debug, PartialEq, Eq)]
@@ -43,30 +46,37 @@ impl<'a> AlgorithmIdentifier<'a> {
     }
 }
 
+impl<'a> FieldsPart for AlgorithmIdentifier<'a> {
+    ghost list = { part_of (λ v. record { first = v.oid; rest = record { first = v.parameters; rest = record {} } })
+        ⟦<FieldsOf<'a> as FieldList>⟧ };
+}
+
 impl<'a> FormValue for AlgorithmIdentifier<'a> {
-    ghost contents = { λ v. ⟦<Fields<'a> as FormValue>⟧.contents (record { fields = record { first = v.oid; rest = record { first = v.parameters; rest = record {} } } }) };
+    ghost use Rattle.derview.specs.contracts.algorithm_identifier.AlgorithmIdentifierFieldsPart.TheImpl.{ghosts as fields};
 
-    ghost comparable_value = { λ v w. ⟦<Fields<'a> as FormValue>⟧.comparable_value (record { fields = record { first = v.oid; rest = record { first = v.parameters; rest = record {} } } }) (record { fields = record { first = w.oid; rest = record { first = w.parameters; rest = record {} } } }) };
+    ghost contents = { fields.list.joined };
 
-    ghost re_reads_value = { λ v. ⟦<Fields<'a> as FormValue>⟧.re_reads_value (record { fields = record { first = v.oid; rest = record { first = v.parameters; rest = record {} } } }) };
+    ghost comparable_value = { fields.list.all_comparable };
 
-    ghost accepts_value = { λ rules v. ⟦<Fields<'a> as FormValue>⟧.accepts_value rules (record { fields = record { first = v.oid; rest = record { first = v.parameters; rest = record {} } } }) };
+    ghost re_reads_value = { fields.list.re_read };
 
-    ghost parse_value = { ⟦<Fields<'a> as FormValue>⟧.parse_value };
+    ghost accepts_value = { fields.list.accepts_fields };
 
-    ghost readable_value = { λ v. ⟦<Fields<'a> as FormValue>⟧.readable_value (record { fields = record { first = v.oid; rest = record { first = v.parameters; rest = record {} } } }) };
+    ghost parse_value = { fields.list.parse_fields };
 
-    ghost parse_of_accepted_value = { λ rules v. ⟦<Fields<'a> as FormValue>⟧.parse_of_accepted_value rules (record { fields = record { first = v.oid; rest = record { first = v.parameters; rest = record {} } } }) };
+    ghost readable_value = { fields.list.readable_fields };
 
-    ghost same_length_value = { λ rules v. ⟦<Fields<'a> as FormValue>⟧.same_length_value rules (record { fields = record { first = v.oid; rest = record { first = v.parameters; rest = record {} } } }) };
+    ghost parse_of_accepted_value = { fields.list.parse_of_accepted_fields };
 
-    ghost accepts_contents = { λ rules v. ⟦<Fields<'a> as FormValue>⟧.accepts_contents rules (record { fields = record { first = v.oid; rest = record { first = v.parameters; rest = record {} } } }) };
+    ghost same_length_value = { fields.list.same_length_fields };
 
-    ghost only_readable_value = { λ rules v. ⟦<Fields<'a> as FormValue>⟧.only_readable_value rules (record { fields = record { first = v.oid; rest = record { first = v.parameters; rest = record {} } } }) };
+    ghost accepts_contents = { fields.list.accepts_joined };
 
-    ghost accepts_comparable_value = { λ rules v w. ⟦<Fields<'a> as FormValue>⟧.accepts_comparable_value rules (record { fields = record { first = v.oid; rest = record { first = v.parameters; rest = record {} } } }) (record { fields = record { first = w.oid; rest = record { first = w.parameters; rest = record {} } } }) };
+    ghost only_readable_value = { fields.list.only_readable_fields };
 
-    ghost re_reads_memory_value = { λ v. ⟦<Fields<'a> as FormValue>⟧.re_reads_memory_value (record { fields = record { first = v.oid; rest = record { first = v.parameters; rest = record {} } } }) };
+    ghost accepts_comparable_value = { fields.list.accepts_all_comparable };
+
+    ghost re_reads_memory_value = { fields.list.re_read_memory };
 }
 
 impl<'a> OneTag for AlgorithmIdentifier<'a> {
