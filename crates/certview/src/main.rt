@@ -16,6 +16,7 @@ mod certificate;
 mod constraints;
 mod extensions;
 mod fault;
+mod grammars;
 mod hexadecimal;
 mod identifiers;
 mod key_identifiers;
