@@ -1,21 +1,9 @@
 //! The grammars of the messages, by the names that clauses cite (`specs/Grammars.antt`).
 
-ghost use Rattle.der_elem.specs.declared.form.Form as form;
-
 use crate::certificate::TbsCertificate;
 use crate::signed::Certificate;
-use der_elem::Form;
+use der_fields::Message;
 
-/// A message: a type whose grammar has a name.
-pub trait Message: Sized {
-    // what its octets mean
-    ghost grammar: { form.Ghosts Self };
-}
+impl<'a> Message for TbsCertificate<'a> {}
 
-impl<'a> Message for TbsCertificate<'a> {
-    ghost grammar = { ⟦<TbsCertificate<'a> as Form>⟧ };
-}
-
-impl<'a> Message for Certificate<'a> {
-    ghost grammar = { ⟦<Certificate<'a> as Form>⟧ };
-}
+impl<'a> Message for Certificate<'a> {}
