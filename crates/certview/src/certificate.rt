@@ -1,6 +1,7 @@
 //! A certificate as text.
 
 ghost use Rattle.std.specs.Prelude.{◌≡◌, None, OnOk};
+ghost use Rattle.der_certificate.specs.Grammars.{certificate, tbs_certificate};
 ghost use Rattle.certview.specs.Faults.{first_fault};
 ghost use Rattle.certview.specs.Kinds.{signed_part};
 
@@ -14,7 +15,6 @@ use crate::names::push_name;
 use crate::site::Site;
 use crate::times::push_validity;
 use der_certificate::{Certificate, TbsCertificate, read_certificate, read_tbs_certificate, tbs};
-use der_elem::Form;
 use der_numbers::IntRef;
 use der_tlv::Error;
 use std::alloc::{AllocError, Global};
@@ -27,8 +27,8 @@ use std::fmt::Write;
 /// signed; `ErrorKind::TrailingData` (3) where octets are left over; `ErrorKind::Overflow` (9)
 /// where there are more than 4294967295; `ErrorKind::Memory` (1) where memory runs out.
 pub fn certificate_text(alloc: Global, octets: &[u8]) -> Result<String, Error>
-    ensures whole { OnOk result (first_fault ⟦<Certificate<'static> as Form>⟧.parse octets.now ≡ None) }
-    ensures signed { OnOk result (first_fault ⟦<TbsCertificate<'static> as Form>⟧.parse (signed_part octets.now) ≡ None) }
+    ensures whole { OnOk result (first_fault certificate.grammar.parse octets.now ≡ None) }
+    ensures signed { OnOk result (first_fault tbs_certificate.grammar.parse (signed_part octets.now) ≡ None) }
 {
     match read_certificate(alloc, octets) {
         Ok(certificate) => with_signed(alloc, octets, &certificate),
@@ -37,7 +37,7 @@ pub fn certificate_text(alloc: Global, octets: &[u8]) -> Result<String, Error>
 }
 
 fn with_signed(alloc: Global, octets: &[u8], certificate: &Certificate<'_>) -> Result<String, Error>
-    ensures { OnOk result (first_fault ⟦<TbsCertificate<'static> as Form>⟧.parse (signed_part octets.now) ≡ None) }
+    ensures { OnOk result (first_fault tbs_certificate.grammar.parse (signed_part octets.now) ≡ None) }
 {
     match read_tbs_certificate(alloc, signed_part(octets)) {
         Ok(signed) => Ok(text_of(alloc, octets, certificate, &signed)?),

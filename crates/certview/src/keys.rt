@@ -1,6 +1,7 @@
 //! Keys as text. Of what is secret only the length is shown.
 
 ghost use Rattle.std.specs.Prelude.{◌≡◌, None, OnOk};
+ghost use Rattle.der_pkix.specs.Grammars.{subject_public_key_info, private_key_info, rsa_public_key, ec_private_key};
 ghost use Rattle.certview.specs.Faults.{first_fault};
 
 use crate::algorithms::{bits_of, push_algorithm, push_key};
@@ -9,7 +10,6 @@ use crate::identifiers::push_identifier;
 use crate::kind::Kind;
 use crate::labels::{push_label, push_number, push_title};
 use crate::site::Site;
-use der_elem::Form;
 use der_numbers::UintRef;
 use der_pkix::{
     EcPrivateKey, PrivateKeyInfo, RsaPublicKey, SubjectPublicKeyInfo, read_ec_private_key,
@@ -26,7 +26,7 @@ use std::fmt::Write;
 /// octets are left over; `ErrorKind::Overflow` (9) where there are more than 4294967295;
 /// `ErrorKind::Memory` (1) where memory runs out.
 pub fn public_key_text(alloc: Global, octets: &[u8]) -> Result<String, Error>
-    ensures { OnOk result (first_fault ⟦<SubjectPublicKeyInfo<'static> as Form>⟧.parse octets.now ≡ None) }
+    ensures { OnOk result (first_fault subject_public_key_info.grammar.parse octets.now ≡ None) }
 {
     match read_subject_public_key_info(alloc, octets) {
         Ok(key) => Ok(public_key(alloc, octets, &key)?),
@@ -51,7 +51,7 @@ fn public_key(
 /// # Errors
 /// As `public_key_text`.
 pub fn private_key_text(alloc: Global, octets: &[u8]) -> Result<String, Error>
-    ensures { OnOk result (first_fault ⟦<PrivateKeyInfo<'static> as Form>⟧.parse octets.now ≡ None) }
+    ensures { OnOk result (first_fault private_key_info.grammar.parse octets.now ≡ None) }
 {
     match read_private_key_info(alloc, octets) {
         Ok(key) => Ok(private_key(alloc, octets, &key)?),
@@ -86,7 +86,7 @@ fn private_key(
 /// # Errors
 /// As `public_key_text`.
 pub fn rsa_public_key_text(alloc: Global, octets: &[u8]) -> Result<String, Error>
-    ensures { OnOk result (first_fault ⟦<RsaPublicKey<'static> as Form>⟧.parse octets.now ≡ None) }
+    ensures { OnOk result (first_fault rsa_public_key.grammar.parse octets.now ≡ None) }
 {
     match read_rsa_public_key(alloc, octets) {
         Ok(key) => Ok(rsa_public_key(alloc, octets, &key)?),
@@ -112,7 +112,7 @@ fn rsa_public_key(
 /// # Errors
 /// As `public_key_text`.
 pub fn ec_private_key_text(alloc: Global, octets: &[u8]) -> Result<String, Error>
-    ensures { OnOk result (first_fault ⟦<EcPrivateKey<'static> as Form>⟧.parse octets.now ≡ None) }
+    ensures { OnOk result (first_fault ec_private_key.grammar.parse octets.now ≡ None) }
 {
     match read_ec_private_key(alloc, octets) {
         Ok(key) => Ok(ec_private_key(alloc, octets, &key)?),

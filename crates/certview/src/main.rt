@@ -16,7 +16,6 @@ mod certificate;
 mod constraints;
 mod extensions;
 mod fault;
-mod grammars;
 mod hexadecimal;
 mod identifiers;
 mod key_identifiers;

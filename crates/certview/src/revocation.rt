@@ -1,6 +1,7 @@
 //! A list of revoked certificates as text.
 
 ghost use Rattle.std.specs.Prelude.{◌≡◌, None, OnOk};
+ghost use Rattle.der_revocation.specs.Grammars.{certificate_list, tbs_cert_list};
 ghost use Rattle.certview.specs.Faults.{first_fault};
 ghost use Rattle.certview.specs.Kinds.{signed_part};
 
@@ -14,7 +15,6 @@ use crate::labels::{push_label, push_title};
 use crate::names::{push_encoding, push_name};
 use crate::site::{Site, Sites};
 use crate::times::{push_moment, push_time};
-use der_elem::Form;
 use der_revocation::{
     CertificateList, RevokedCertificate, TbsCertList, read_certificate_list, read_tbs_cert_list,
     tbs,
@@ -29,8 +29,8 @@ use std::alloc::{AllocError, Global};
 /// signed; `ErrorKind::TrailingData` (3) where octets are left over; `ErrorKind::Overflow` (9)
 /// where there are more than 4294967295; `ErrorKind::Memory` (1) where memory runs out.
 pub fn list_text(alloc: Global, octets: &[u8]) -> Result<String, Error>
-    ensures whole { OnOk result (first_fault ⟦<CertificateList<'static> as Form>⟧.parse octets.now ≡ None) }
-    ensures signed { OnOk result (first_fault ⟦<TbsCertList<'static> as Form>⟧.parse (signed_part octets.now) ≡ None) }
+    ensures whole { OnOk result (first_fault certificate_list.grammar.parse octets.now ≡ None) }
+    ensures signed { OnOk result (first_fault tbs_cert_list.grammar.parse (signed_part octets.now) ≡ None) }
 {
     match read_certificate_list(alloc, octets) {
         Ok(list) => with_signed(alloc, octets, &list),
@@ -39,7 +39,7 @@ pub fn list_text(alloc: Global, octets: &[u8]) -> Result<String, Error>
 }
 
 fn with_signed(alloc: Global, octets: &[u8], list: &CertificateList<'_>) -> Result<String, Error>
-    ensures { OnOk result (first_fault ⟦<TbsCertList<'static> as Form>⟧.parse (signed_part octets.now) ≡ None) }
+    ensures { OnOk result (first_fault tbs_cert_list.grammar.parse (signed_part octets.now) ≡ None) }
 {
     match read_tbs_cert_list(alloc, signed_part(octets)) {
         Ok(signed) => Ok(text_of(alloc, octets, list, &signed)?),

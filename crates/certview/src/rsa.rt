@@ -1,13 +1,13 @@
 //! A private key of RSA as text.
 
 ghost use Rattle.std.specs.Prelude.{◌≡◌, None, OnOk};
+ghost use Rattle.der_pkix.specs.Grammars.{rsa_private_key};
 ghost use Rattle.certview.specs.Faults.{first_fault};
 
 use crate::keys::{push_exponent, push_modulus, push_secret, push_version};
 use crate::kind::Kind;
 use crate::labels::push_title;
 use crate::site::Site;
-use der_elem::Form;
 use der_pkix::{RsaPrivateKey, read_rsa_private_key};
 use der_tlv::Error;
 use std::alloc::{AllocError, Global};
@@ -29,7 +29,7 @@ const SECRETS: [&str; 6] = [
 /// octets are left over; `ErrorKind::Overflow` (9) where there are more than 4294967295;
 /// `ErrorKind::Memory` (1) where memory runs out.
 pub fn rsa_private_key_text(alloc: Global, octets: &[u8]) -> Result<String, Error>
-    ensures { OnOk result (first_fault ⟦<RsaPrivateKey<'static> as Form>⟧.parse octets.now ≡ None) }
+    ensures { OnOk result (first_fault rsa_private_key.grammar.parse octets.now ≡ None) }
 {
     match read_rsa_private_key(alloc, octets) {
         Ok(key) => Ok(text_of(alloc, octets, &key)?),

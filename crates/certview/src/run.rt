@@ -3,12 +3,11 @@
 ghost use Rattle.std.specs.Prelude.{◌≡◌, ◌≢◌, None, true, false, OnOk, IfErr, IfSome};
 ghost use Rattle.std.specs.Io.KnownBytes.{Keeps};
 ghost use Rattle.certview.specs.Faults.{first_fault};
-ghost use Rattle.certview.specs.Grammars.{is_signed};
+ghost use Rattle.certview.specs.Grammars.{grammar_of, is_signed, signed_grammar_of};
 ghost use Rattle.certview.specs.Kinds.{kind_of, signed_part};
 ghost use Rattle.certview.specs.Pem.{is_pem};
 
 use crate::fault::Fault;
-use crate::grammars::{Grammars, Messages};
 use crate::kind::Kind;
 use crate::path::path_of;
 use crate::pem::message_of;
@@ -21,11 +20,11 @@ use std::io::{self, Read, Write};
 pub fn run<R: Read, W: Write>(alloc: Global, input: &mut R, output: &mut W) -> Result<(), Fault>
     // What was read is shown only where the grammar of its kind reads exactly these octets.
     ensures read { OnOk result (IfSome (R.remaining input.old) (λ octets. is_pem octets ≡ false →
-        first_fault (⟦<Messages as Grammars>⟧.grammar (kind_of octets)) octets ≡ None)) }
+        first_fault (grammar_of (kind_of octets)) octets ≡ None)) }
     // And where the grammar of what is signed reads exactly the octets of that.
     ensures signed { OnOk result (IfSome (R.remaining input.old) (λ octets. is_pem octets ≡ false →
         is_signed (kind_of octets) ≡ true →
-        first_fault (⟦<Messages as Grammars>⟧.signed_grammar (kind_of octets)) (signed_part octets)
+        first_fault (signed_grammar_of (kind_of octets)) (signed_part octets)
         ≡ None)) }
     // Unless a write fails, nothing was written where there is a fault.
     ensures kept { IfErr result (λ fault. fault ≢ Fault.Output → Keeps (W.contents output.old) (W.contents output.new)) }
@@ -52,9 +51,9 @@ fn read_fault(error: &io::Error) -> Fault {
 /// What is written for an input.
 fn answer(alloc: Global, input: Vec<u8>) -> Result<String, Fault>
     ensures read { OnOk result (is_pem input.items ≡ false →
-        first_fault (⟦<Messages as Grammars>⟧.grammar (kind_of input.items)) input.items ≡ None) }
+        first_fault (grammar_of (kind_of input.items)) input.items ≡ None) }
     ensures signed { OnOk result (is_pem input.items ≡ false → is_signed (kind_of input.items) ≡ true →
-        first_fault (⟦<Messages as Grammars>⟧.signed_grammar (kind_of input.items))
+        first_fault (signed_grammar_of (kind_of input.items))
         (signed_part input.items) ≡ None) }
 {
     let message = message_of(alloc, input)?;

@@ -2,11 +2,10 @@
 
 ghost use Rattle.std.specs.Prelude.{◌≡◌, true, None, OnOk};
 ghost use Rattle.certview.specs.Faults.{first_fault};
-ghost use Rattle.certview.specs.Grammars.{is_signed};
+ghost use Rattle.certview.specs.Grammars.{grammar_of, is_signed, signed_grammar_of};
 ghost use Rattle.certview.specs.Kinds.{signed_part};
 
 use crate::certificate::certificate_text;
-use crate::grammars::{Grammars, Messages};
 use crate::keys::{ec_private_key_text, private_key_text, public_key_text, rsa_public_key_text};
 use crate::kind::Kind;
 use crate::revocation::list_text;
@@ -21,9 +20,9 @@ use std::alloc::Global;
 /// `ErrorKind::TrailingData` (3) where octets are left over; `ErrorKind::Overflow` (9) where there
 /// are more than 4294967295; `ErrorKind::Memory` (1) where memory runs out.
 pub fn shown(alloc: Global, kind: Kind, octets: &[u8]) -> Result<String, Error>
-    ensures read { OnOk result (first_fault (⟦<Messages as Grammars>⟧.grammar kind) octets.now ≡ None) }
+    ensures read { OnOk result (first_fault (grammar_of kind) octets.now ≡ None) }
     ensures signed { OnOk result (is_signed kind ≡ true →
-        first_fault (⟦<Messages as Grammars>⟧.signed_grammar kind) (signed_part octets.now) ≡ None) }
+        first_fault (signed_grammar_of kind) (signed_part octets.now) ≡ None) }
 {
     match kind {
         Kind::Certificate => certificate_text(alloc, octets),

@@ -2,8 +2,13 @@
 
 use crate::certificate::TbsCertificate;
 use crate::signed::Certificate;
+use der_elem::Form;
 use der_fields::Message;
 
-impl<'a> Message for TbsCertificate<'a> {}
+impl<'a> Message for TbsCertificate<'a> {
+    ghost grammar = { Self.Form };
+}
 
-impl<'a> Message for Certificate<'a> {}
+impl<'a> Message for Certificate<'a> {
+    ghost grammar = { Self.Form };
+}

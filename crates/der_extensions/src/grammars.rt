@@ -6,18 +6,33 @@ use crate::general_name::{GeneralName, SubjectAltName};
 use crate::key_identifier::SubjectKeyIdentifier;
 use crate::key_usage::KeyUsage;
 use crate::purposes::ExtKeyUsage;
+use der_elem::Form;
 use der_fields::Message;
 
-impl<'a> Message for AuthorityKeyIdentifier<'a> {}
+impl<'a> Message for AuthorityKeyIdentifier<'a> {
+    ghost grammar = { Self.Form };
+}
 
-impl<'a> Message for BasicConstraints<'a> {}
+impl<'a> Message for BasicConstraints<'a> {
+    ghost grammar = { Self.Form };
+}
 
-impl<'a> Message for GeneralName<'a> {}
+impl<'a> Message for GeneralName<'a> {
+    ghost grammar = { Self.Form };
+}
 
-impl<'a> Message for SubjectAltName<'a> {}
+impl<'a> Message for SubjectAltName<'a> {
+    ghost grammar = { Self.Form };
+}
 
-impl<'a> Message for SubjectKeyIdentifier<'a> {}
+impl<'a> Message for SubjectKeyIdentifier<'a> {
+    ghost grammar = { Self.Form };
+}
 
-impl<'a> Message for KeyUsage<'a> {}
+impl<'a> Message for KeyUsage<'a> {
+    ghost grammar = { Self.Form };
+}
 
-impl Message for ExtKeyUsage {}
+impl Message for ExtKeyUsage {
+    ghost grammar = { Self.Form };
+}

@@ -6,10 +6,11 @@ use der_elem::Form;
 
 /// A type whose grammar has a name: what its octets mean, without writing its fields out.
 ///
-/// `impl Message for Policy {}` in the module `policy` of a crate, and in its `specs/`
-/// `pub use Rattle.CRATE.specs.contracts.policy.PolicyMessage.TheImpl.{ghosts as policy}`, give a
-/// clause such as `ReadsAll policy.grammar octets.now result`.
+/// In a module `policy`, `impl Message for Policy { ghost grammar = { Self.Form }; }`, and in the
+/// crate's `specs/`
+/// `pub use Rattle.CRATE.specs.contracts.policy.PolicyMessage.TheImpl.{ghosts as policy}`: then a
+/// clause says `ReadsAll policy.grammar octets.now result`.
 pub trait Message: Form {
     // what its octets mean
-    ghost grammar: { form.Ghosts Self } = { Self.Form };
+    ghost grammar: { form.Ghosts Self };
 }

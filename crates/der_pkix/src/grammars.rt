@@ -7,30 +7,57 @@ use crate::keys::{EcPrivateKey, PrivateKeyInfo, RsaPublicKey};
 use crate::name::{Name, RelativeDistinguishedName};
 use crate::rsa::RsaPrivateKey;
 use crate::time::{Time, Validity};
+use der_elem::Form;
 use der_fields::Message;
 
-impl<'a> Message for AlgorithmIdentifier<'a> {}
+impl<'a> Message for AlgorithmIdentifier<'a> {
+    ghost grammar = { Self.Form };
+}
 
-impl<'a> Message for SubjectPublicKeyInfo<'a> {}
+impl<'a> Message for SubjectPublicKeyInfo<'a> {
+    ghost grammar = { Self.Form };
+}
 
-impl<'a> Message for AttributeTypeAndValue<'a> {}
+impl<'a> Message for AttributeTypeAndValue<'a> {
+    ghost grammar = { Self.Form };
+}
 
-impl<'a> Message for Extension<'a> {}
+impl<'a> Message for Extension<'a> {
+    ghost grammar = { Self.Form };
+}
 
-impl<'a> Message for Extensions<'a> {}
+impl<'a> Message for Extensions<'a> {
+    ghost grammar = { Self.Form };
+}
 
-impl<'a> Message for PrivateKeyInfo<'a> {}
+impl<'a> Message for PrivateKeyInfo<'a> {
+    ghost grammar = { Self.Form };
+}
 
-impl<'a> Message for RsaPublicKey<'a> {}
+impl<'a> Message for RsaPublicKey<'a> {
+    ghost grammar = { Self.Form };
+}
 
-impl<'a> Message for EcPrivateKey<'a> {}
+impl<'a> Message for EcPrivateKey<'a> {
+    ghost grammar = { Self.Form };
+}
 
-impl<'a> Message for RelativeDistinguishedName<'a> {}
+impl<'a> Message for RelativeDistinguishedName<'a> {
+    ghost grammar = { Self.Form };
+}
 
-impl<'a> Message for Name<'a> {}
+impl<'a> Message for Name<'a> {
+    ghost grammar = { Self.Form };
+}
 
-impl<'a> Message for RsaPrivateKey<'a> {}
+impl<'a> Message for RsaPrivateKey<'a> {
+    ghost grammar = { Self.Form };
+}
 
-impl Message for Time {}
+impl Message for Time {
+    ghost grammar = { Self.Form };
+}
 
-impl Message for Validity {}
+impl Message for Validity {
+    ghost grammar = { Self.Form };
+}
