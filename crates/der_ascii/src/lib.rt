@@ -42,6 +42,3 @@ pub type Ia5StringRef<'a> = CharacterStringRef<'a, 22>;
 
 /// IA5String: the octets 00 to 7F.
 pub type Ia5String = CharacterString<22>;
-
-#[cfg(test)]
-mod tests;

@@ -22,6 +22,3 @@ pub use allowed_len::AllowedLenBitString;
 pub use bit_string::BitString;
 pub use bit_string_iter::BitStringIter;
 pub use bit_string_ref::{AsBitStringRef, BitStringRef};
-
-#[cfg(test)]
-mod tests;

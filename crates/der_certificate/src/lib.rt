@@ -13,6 +13,7 @@ mod subject;
 pub mod tbs;
 
 pub use certificate::{TbsCertificate, read_tbs_certificate, write_tbs_certificate};
+pub use grammars::Message;
 pub use issuer::{Issuer, IssuerFields};
 pub use last::{Last, LastFields};
 pub use signed::{Certificate, read_certificate, write_certificate};

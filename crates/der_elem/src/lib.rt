@@ -29,10 +29,7 @@ mod ord;
 mod readiness;
 mod sequence;
 mod string;
-mod tag;
-#[cfg(test)]
-mod tests;
-mod unit;
+mod tag;mod unit;
 mod universal_tags;
 mod utf8_text;
 mod vec;

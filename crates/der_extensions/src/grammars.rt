@@ -1,5 +1,7 @@
 //! The grammars of the messages, by the names that clauses cite (`specs/Grammars.antt`).
 
+ghost use Rattle.der_elem.specs.declared.form.Form as form;
+
 use crate::authority::AuthorityKeyIdentifier;
 use crate::constraints::BasicConstraints;
 use crate::general_name::{GeneralName, SubjectAltName};
@@ -7,7 +9,12 @@ use crate::key_identifier::SubjectKeyIdentifier;
 use crate::key_usage::KeyUsage;
 use crate::purposes::ExtKeyUsage;
 use der_elem::Form;
-use der_fields::Message;
+
+/// A message: a type whose grammar has a name.
+pub trait Message: Form {
+    // what its octets mean
+    ghost grammar: { form.Ghosts Self };
+}
 
 impl<'a> Message for AuthorityKeyIdentifier<'a> {
     ghost grammar = { Self.Form };

@@ -20,6 +20,7 @@ pub use general_name::{
     GeneralName, SubjectAltName, read_general_name, read_subject_alt_name, write_general_name,
     write_subject_alt_name,
 };
+pub use grammars::Message;
 pub use key_identifier::{
     SubjectKeyIdentifier, read_subject_key_identifier, write_subject_key_identifier,
 };

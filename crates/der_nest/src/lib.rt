@@ -20,6 +20,7 @@ mod set_of_ref;
 mod set_of_ref_iter;
 mod set_of_vec;
 
+pub use merging::Runs;
 pub use probe::{Asks, ItemProbe, Probe, insertion_place};
 pub use sequence_of::SequenceOf;
 pub use sequence_ref::SequenceRef;
@@ -27,6 +28,3 @@ pub use set_of::SetOf;
 pub use set_of_ref::SetOfRef;
 pub use set_of_ref_iter::SetOfRefIter;
 pub use set_of_vec::SetOfVec;
-
-#[cfg(test)]
-mod tests;

@@ -26,6 +26,3 @@ pub use int::Int;
 pub use int_ref::{AsIntRef, IntRef};
 pub use uint::Uint;
 pub use uint_ref::{AsUintRef, UintRef};
-
-#[cfg(test)]
-mod tests;

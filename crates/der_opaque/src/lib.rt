@@ -24,6 +24,3 @@ pub use null::Null;
 pub use object_identifier::ObjectIdentifier;
 pub use octet_string::OctetString;
 pub use octet_string_ref::OctetStringRef;
-
-#[cfg(test)]
-mod tests;

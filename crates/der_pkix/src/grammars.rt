@@ -1,5 +1,7 @@
 //! The grammars of the messages, by the names that clauses cite (`specs/Grammars.antt`).
 
+ghost use Rattle.der_elem.specs.declared.form.Form as form;
+
 use crate::algorithm::{AlgorithmIdentifier, SubjectPublicKeyInfo};
 use crate::attribute::AttributeTypeAndValue;
 use crate::extension::{Extension, Extensions};
@@ -8,7 +10,12 @@ use crate::name::{Name, RelativeDistinguishedName};
 use crate::rsa::RsaPrivateKey;
 use crate::time::{Time, Validity};
 use der_elem::Form;
-use der_fields::Message;
+
+/// A message: a type whose grammar has a name.
+pub trait Message: Form {
+    // what its octets mean
+    ghost grammar: { form.Ghosts Self };
+}
 
 impl<'a> Message for AlgorithmIdentifier<'a> {
     ghost grammar = { Self.Form };

@@ -23,6 +23,7 @@ pub use crt::{Crt, CrtFields};
 pub use extension::{
     Extension, Extensions, read_extension, read_extensions, write_extension, write_extensions,
 };
+pub use grammars::Message;
 pub use keys::{
     EcPrivateKey, PrivateKeyInfo, RsaPublicKey, read_ec_private_key, read_private_key_info,
     read_rsa_public_key, write_ec_private_key, write_private_key_info, write_rsa_public_key,

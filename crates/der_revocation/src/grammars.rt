@@ -1,9 +1,16 @@
 //! The grammars of the messages, by the names that clauses cite (`specs/Grammars.antt`).
 
+ghost use Rattle.der_elem.specs.declared.form.Form as form;
+
 use crate::certificate_list::{CertificateList, TbsCertList};
 use crate::revoked_certificate::RevokedCertificate;
 use der_elem::Form;
-use der_fields::Message;
+
+/// A message: a type whose grammar has a name.
+pub trait Message: Form {
+    // what its octets mean
+    ghost grammar: { form.Ghosts Self };
+}
 
 impl<'a> Message for TbsCertList<'a> {
     ghost grammar = { Self.Form };

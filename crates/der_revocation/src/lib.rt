@@ -16,6 +16,7 @@ pub use certificate_list::{
     write_certificate_list, write_tbs_cert_list,
 };
 pub use entries::{Entries, EntriesFields};
+pub use grammars::Message;
 pub use revoked_certificate::{
     RevokedCertificate, read_revoked_certificate, write_revoked_certificate,
 };

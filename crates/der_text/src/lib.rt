@@ -19,6 +19,3 @@ pub use bmp_iter::{BmpChars, BmpCodepoints};
 pub use bmp_string::BmpString;
 pub use general_string::GeneralStringRef;
 pub use utf8_string::Utf8StringRef;
-
-#[cfg(test)]
-mod tests;

@@ -22,6 +22,3 @@ pub use const_range::const_contains_u8;
 pub use date_time::DateTime;
 pub use generalized_time::GeneralizedTime;
 pub use utc_time::UtcTime;
-
-#[cfg(test)]
-mod tests;

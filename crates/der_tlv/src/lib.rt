@@ -38,6 +38,3 @@ pub use tag::{
     identifiers_are_unique, identifiers_decide_order, identifiers_read_back, identifiers_tell_tags,
 };
 pub use writer::{SliceWriter, VecWriter, Writer};
-
-#[cfg(test)]
-mod tests;

@@ -217,6 +217,3 @@ impl Tag {
         ErrorKind::Noncanonical { tag: self }
     }
 }
-
-#[cfg(test)]
-mod tests;

@@ -37,6 +37,3 @@ pub type ApplicationRef<'a, T> = TaggedValueRef<'a, T, 1>;
 
 /// A borrowed value with a private tag, to be written.
 pub type PrivateRef<'a, T> = TaggedValueRef<'a, T, 3>;
-
-#[cfg(test)]
-mod tests;

@@ -1,0 +1,4 @@
+//! The tests of each crate.
+
+mod elem;
+mod opaque;

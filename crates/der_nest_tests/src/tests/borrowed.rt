@@ -1,0 +1,288 @@
+//! Borrowed sets: the octets that they are read from and written as, and their calls.
+
+use der_elem::{Decode, DerOrd, Duplicate, Encode, EncodeValue, FromDer, Tagged, TakesMemory};
+use der_nest::{SetOfRef, SetOfVec};
+use der_opaque::OctetStringRef;
+use der_tlv::{Error, ErrorKind, SliceReader, Tag};
+use std::alloc::Global;
+use std::cmp::Ordering;
+use std::process::Abort;
+use std::test::Fail;
+
+// What a call answers, with a refusal by its number.
+fn numbered<T>(answer: Result<T, Error>) -> Result<T, u8> {
+    match answer {
+        Ok(value) => Ok(value),
+        Err(e) => Err(e.kind().number()),
+    }
+}
+
+// The octets that a set is written as which is read from these, or the number of the refusal.
+fn canonical<'a, T: 'a + Decode<'a, SliceReader<'a>> + Encode + DerOrd + Tagged>(
+    alloc: Global,
+    octets: &'a [u8],
+) -> Result<Vec<u8>, u8> {
+    let set: SetOfRef<'a, T> = numbered(SetOfRef::from_der(alloc, octets))?;
+    numbered(set.to_der(alloc))
+}
+
+// The octets are read as a set that is written as these.
+fn reads_as<'a, T: 'a + Decode<'a, SliceReader<'a>> + Encode + DerOrd + Tagged>(
+    rt: &impl Abort,
+    alloc: Global,
+    octets: &'a [u8],
+    encoding: &[u8],
+) -> Result<(), u8> {
+    let written = canonical::<T>(alloc, octets)?;
+    assert_eq!(rt; written.as_slice(), encoding);
+    Ok(())
+}
+
+const ORDERED: [u8; 8] = [0x31, 0x06, 0x02, 0x01, 0x07, 0x02, 0x01, 0x08];
+
+#[test]
+fn reads_items_in_order(rt: HostRuntime) -> Result<(), Fail> {
+    let alloc = rt.alloc();
+    reads_as::<u16>(&rt, alloc, &ORDERED, &ORDERED)?;
+    reads_as::<u16>(&rt, alloc, &[0x31, 0x00], &[0x31, 0x00])?;
+    reads_as::<OctetStringRef>(
+        &rt,
+        alloc,
+        &[0x31, 0x04, 0x04, 0x00, 0x04, 0x00],
+        &[0x31, 0x04, 0x04, 0x00, 0x04, 0x00],
+    )?;
+    Ok(())
+}
+
+#[test]
+fn writes_the_items_encodings(rt: HostRuntime) -> Result<(), Fail> {
+    let alloc = rt.alloc();
+    reads_as::<SetOfVec<u16>>(
+        &rt,
+        alloc,
+        &[0x31, 0x08, 0x31, 0x06, 0x02, 0x01, 0x08, 0x02, 0x01, 0x07],
+        &[0x31, 0x08, 0x31, 0x06, 0x02, 0x01, 0x07, 0x02, 0x01, 0x08],
+    )?;
+    Ok(())
+}
+
+#[test]
+fn refuses_by_number(rt: HostRuntime) {
+    let alloc = rt.alloc();
+    let falling = [0x31, 0x06, 0x02, 0x01, 0x08, 0x02, 0x01, 0x07];
+    assert_eq!(rt; canonical::<u16>(alloc, &falling).err(), Some(11));
+    let null = [0x31, 0x04, 0x04, 0x00, 0x05, 0x00];
+    assert_eq!(rt; canonical::<OctetStringRef>(alloc, &null).err(), Some(4));
+    let short = [0x31, 0x03, 0x04, 0x01, 0x00, 0x04];
+    assert_eq!(rt; canonical::<OctetStringRef>(alloc, &short).err(), Some(3));
+    let cut = [0x31, 0x03, 0x04, 0x02, 0x00];
+    assert_eq!(rt; canonical::<OctetStringRef>(alloc, &cut).err(), Some(2));
+    assert_eq!(rt;
+        canonical::<u16>(alloc, &[0x31, 0x06, 0x02, 0x01]).err(),
+        Some(2)
+    );
+    assert_eq!(rt; canonical::<u16>(alloc, &[0x30, 0x00]).err(), Some(4));
+}
+
+#[test]
+fn counts_positions_from_the_contents(rt: HostRuntime) {
+    let answer: Result<SetOfRef<OctetStringRef>, Error> = SetOfRef::from_der(
+        rt.alloc(),
+        &[0x31, 0x03, 0x04, 0x02, 0x00],
+    );
+    match answer {
+        Err(e) => match e.kind() {
+            ErrorKind::Incomplete {
+                expected_len,
+                actual_len,
+            } => {
+                assert_eq!(rt; expected_len.value(), 4);
+                assert_eq!(rt; actual_len.value(), 3);
+            }
+            _ => assert!(rt; false),
+        },
+        Ok(_) => assert!(rt; false),
+    }
+    let other: Result<SetOfRef<OctetStringRef>, Error> = SetOfRef::from_der(
+        rt.alloc(),
+        &[0x31, 0x04, 0x04, 0x00, 0x05, 0x00],
+    );
+    match other {
+        Err(e) => assert_eq!(rt;
+            e.kind(),
+            ErrorKind::TagUnexpected {
+                expected: Some(Tag::OctetString),
+                actual: Tag::Null,
+            }
+        ),
+        Ok(_) => assert!(rt; false),
+    }
+}
+
+#[test]
+fn borrows_slices_in_order(rt: HostRuntime) -> Result<(), Fail> {
+    let alloc = rt.alloc();
+    let rising: [u16; 5] = [0, 1, 2, 3, 65535];
+    let set = numbered(SetOfRef::try_from(rising.as_slice()))?;
+    assert_eq!(rt; set.len(), 5);
+    assert!(rt; !set.is_empty());
+    let written = numbered(set.to_der(alloc))?;
+    assert_eq!(rt;
+        written.as_slice(),
+        [
+            0x31, 0x11, 0x02, 0x01, 0x00, 0x02, 0x01, 0x01, 0x02, 0x01, 0x02, 0x02, 0x01, 0x03,
+            0x02, 0x03, 0x00, 0xff, 0xff,
+        ]
+        .as_slice()
+    );
+    let equal: [u16; 2] = [1, 1];
+    assert_eq!(rt; numbered(SetOfRef::try_from(equal.as_slice()))?.len(), 2);
+    let falling: [u16; 5] = [3, 2, 1, 65535, 0];
+    assert_eq!(rt;
+        numbered(SetOfRef::try_from(falling.as_slice())).err(),
+        Some(11)
+    );
+    Ok(())
+}
+
+// The numbers of a set's items, in order.
+fn numbers(rt: &impl Abort, alloc: Global, set: &SetOfRef<'_, u16>) -> Result<Vec<u16>, u8> {
+    let mut numbers = Vec::new(alloc);
+    let mut items = set.iter();
+    let mut left = set.len();
+    while let Some(item) = items.next() {
+        let number = numbered(item)?;
+        if left > 0 {
+            left -= 1;
+        }
+        assert_eq!(rt; items.len(), left);
+        if numbers.push(number).is_err() {
+            return Err(1);
+        }
+    }
+    assert_eq!(rt; left, 0);
+    assert!(rt; items.next().is_none());
+    Ok(numbers)
+}
+
+#[test]
+fn gives_the_items_of_octets(rt: HostRuntime) -> Result<(), Fail> {
+    let alloc = rt.alloc();
+    let set: SetOfRef<u16> = numbered(SetOfRef::from_der(alloc, &ORDERED))?;
+    assert_eq!(rt; numbers(&rt, alloc, &set)?.as_slice(), [7, 8].as_slice());
+    assert_eq!(rt; numbered(set.get(0).ok_or("none")?)?, 7);
+    assert_eq!(rt; numbered(set.get(1).ok_or("none")?)?, 8);
+    assert!(rt; set.get(2).is_none());
+    let owned = numbered(set.ref_to_owned(alloc))?;
+    assert_eq!(rt; owned.as_slice(), [7, 8].as_slice());
+    Ok(())
+}
+
+#[test]
+fn gives_the_items_of_a_slice(rt: HostRuntime) -> Result<(), Fail> {
+    let alloc = rt.alloc();
+    let owned = numbered(SetOfVec::from_array(alloc, [8u16, 7, 300]))?;
+    let set = owned.owned_to_ref();
+    assert_eq!(rt;
+        numbers(&rt, alloc, &set)?.as_slice(),
+        [7, 8, 300].as_slice()
+    );
+    assert_eq!(rt; numbered(set.get(2).ok_or("none")?)?, 300);
+    assert!(rt; set.get(3).is_none());
+    let again = SetOfRef::from(&set);
+    let copy = numbered(again.duplicate())?;
+    assert_eq!(rt;
+        numbered(copy.ref_to_owned(alloc))?.as_slice(),
+        owned.as_slice()
+    );
+    let cloned = copy.clone()?;
+    assert_eq!(rt; numbered(cloned.der_cmp(&set)), Ok(Ordering::Equal));
+    Ok(())
+}
+
+// The order of two sets of borrowed numbers.
+fn order<'a>(items: &'a [u16], others: &'a [u16]) -> Result<Ordering, u8> {
+    let set = numbered(SetOfRef::try_from(items))?;
+    let other = numbered(SetOfRef::try_from(others))?;
+    numbered(set.der_cmp(&other))
+}
+
+#[test]
+fn orders_slices_by_encodings(rt: HostRuntime) {
+    assert_eq!(rt;
+        order(&[0, 1, 2, 3, 5], &[0, 1, 2, 3, 4]),
+        Ok(Ordering::Greater)
+    );
+    assert_eq!(rt;
+        order(&[0, 1, 2, 3, 4], &[0, 1, 2, 3, 5]),
+        Ok(Ordering::Less)
+    );
+    assert_eq!(rt; order(&[1, 2], &[1, 2]), Ok(Ordering::Equal));
+}
+
+// The order of a set that is read and of one of borrowed numbers, and the other way round.
+fn orders<'a>(
+    alloc: Global,
+    octets: &'a [u8],
+    items: &'a [u16],
+) -> Result<(Ordering, Ordering), u8> {
+    let read: SetOfRef<'a, u16> = numbered(SetOfRef::from_der(alloc, octets))?;
+    let lent = numbered(SetOfRef::try_from(items))?;
+    let order = numbered(read.der_cmp(&lent))?;
+    Ok((order, numbered(lent.der_cmp(&read))?))
+}
+
+#[test]
+fn orders_octets_by_encodings(rt: HostRuntime) {
+    let alloc = rt.alloc();
+    assert_eq!(rt;
+        orders(alloc, &ORDERED, &[7, 8]),
+        Ok((Ordering::Equal, Ordering::Equal))
+    );
+    assert_eq!(rt;
+        orders(alloc, &ORDERED, &[7, 9]),
+        Ok((Ordering::Less, Ordering::Greater))
+    );
+    assert_eq!(rt;
+        orders(alloc, &ORDERED, &[7]),
+        Ok((Ordering::Greater, Ordering::Less))
+    );
+}
+
+// Whether reading a set of these items takes memory.
+fn takes_memory<'a, T: 'a + Decode<'a, SliceReader<'a>> + DerOrd + Tagged>() -> bool {
+    <SetOfRef<'a, T> as TakesMemory>::TAKES_MEMORY
+}
+
+#[test]
+fn takes_memory_as_the_items_do(rt: HostRuntime) {
+    assert!(rt; !takes_memory::<u16>());
+    assert!(rt; takes_memory::<SetOfVec<u16>>());
+}
+
+// Reads a set of sets and walks it: how many items came, or the refusal, which is then the last.
+fn walked(rt: &impl Abort, alloc: Global, octets: &[u8]) -> Result<usize, u8> {
+    let set: SetOfRef<SetOfVec<u16>> = numbered(SetOfRef::from_der(alloc, octets))?;
+    let mut items = set.iter();
+    while let Some(item) = items.next() {
+        match item {
+            Ok(_item) => {}
+            Err(e) => {
+                assert_eq!(rt; items.len(), 0);
+                assert!(rt; items.next().is_none());
+                return Err(e.kind().number());
+            }
+        }
+    }
+    numbered(set.value_len())?;
+    numbered(set.der_cmp(&set))?;
+    Ok(set.len())
+}
+
+#[test]
+fn a_set_of_sets_is_walked(rt: HostRuntime) {
+    let octets = [
+        0x31, 0x0a, 0x31, 0x03, 0x02, 0x01, 0x07, 0x31, 0x03, 0x02, 0x01, 0x08,
+    ];
+    assert_eq!(rt; walked(&rt, rt.alloc(), &octets), Ok(2));
+}

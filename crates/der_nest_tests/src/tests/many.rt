@@ -1,0 +1,120 @@
+//! Sets of many items.
+
+use crate::tests::numbered;
+use der_elem::{Encode, FromDer};
+use der_nest::{SetOfRef, SetOfVec};
+use std::alloc::{AllocError, Global};
+use std::process::Abort;
+use std::test::Fail;
+
+// The numbers below 4000, falling.
+fn falling(alloc: Global) -> Result<Vec<u16>, AllocError> {
+    let mut numbers = Vec::new(alloc);
+    for i in 0..4000u16 {
+        numbers.push(3999 - i)?;
+    }
+    Ok(numbers)
+}
+
+// The number with which a borrowed set refuses the octets.
+fn refusal(alloc: Global, octets: &[u8]) -> Option<u8> {
+    match SetOfRef::<u16>::from_der(alloc, octets) {
+        Ok(_) => None,
+        Err(e) => Some(e.kind().number()),
+    }
+}
+
+// The item at each place is its place.
+fn counts_up(rt: &impl Abort, items: &[u16]) {
+    assert_eq!(rt; items.len(), 4000);
+    for i in 0..items.len() {
+        assert_eq!(rt; usize::from(items[i]), i);
+    }
+}
+
+#[test]
+fn falling_numbers_are_put_in_order(rt: HostRuntime) -> Result<(), Fail> {
+    let numbers = falling(rt.alloc())?;
+    let mut octets = numbered(numbers.to_der(rt.alloc()))?;
+    assert_eq!(rt; octets.len(), 15876);
+    octets[0] = 0x31;
+    let read: SetOfVec<u16> = numbered(SetOfVec::from_der(rt.alloc(), octets.as_slice()))?;
+    counts_up(&rt, read.as_slice());
+    let sorted: SetOfVec<u16> = numbered(SetOfVec::try_from(numbers))?;
+    assert!(rt; sorted == read);
+    let written = numbered(sorted.to_der(rt.alloc()))?;
+    assert_eq!(rt; refusal(rt.alloc(), written.as_slice()), None);
+    assert_eq!(rt; refusal(rt.alloc(), octets.as_slice()), Some(11));
+    Ok(())
+}
+
+// A set of the numbers is what sorting makes of them, and so is one that is read.
+fn is_sorted_as_a_list(rt: &impl Abort, alloc: Global, numbers: Vec<u16>) -> Result<(), Fail> {
+    let mut list = numbers.clone()?;
+    list.sort()?;
+    let mut octets = numbered(numbers.to_der(alloc))?;
+    assert!(rt; !octets.is_empty());
+    octets[0] = 0x31;
+    let set: SetOfVec<u16> = numbered(SetOfVec::try_from(numbers))?;
+    assert!(rt; set.as_slice() == list.as_slice());
+    let read: SetOfVec<u16> = numbered(SetOfVec::from_der(alloc, octets.as_slice()))?;
+    assert!(rt; read.as_slice() == list.as_slice());
+    Ok(())
+}
+
+// 1000 numbers below 1000, of which each is the one before it and a step on.
+fn stepping(alloc: Global, step: u16) -> Result<Vec<u16>, AllocError> {
+    let mut numbers = Vec::new(alloc);
+    let mut number = 0;
+    for _i in 0..1000u16 {
+        numbers.push(number)?;
+        number = (number % 1000 + step % 1000) % 1000;
+    }
+    Ok(numbers)
+}
+
+// 1000 numbers that fall, each as often as it says.
+fn falling_in_steps(alloc: Global, times: u16) -> Result<Vec<u16>, AllocError> {
+    let mut numbers = Vec::new(alloc);
+    for i in 0..1000u16 {
+        numbers.push(1000 - i / times.max(1))?;
+    }
+    Ok(numbers)
+}
+
+// So many numbers below 50, in no order.
+fn scattered(alloc: Global, count: u16) -> Result<Vec<u16>, AllocError> {
+    let mut numbers = Vec::new(alloc);
+    let mut state: u64 = 0x2319;
+    for _i in 0..count {
+        numbers.push(((state >> 33 & 0xffff) % 50) as u16)?;
+        state = state
+            .wrapping_mul(6_364_136_223_846_793_005)
+            .wrapping_add(1_442_695_040_888_963_407);
+    }
+    Ok(numbers)
+}
+
+#[test]
+fn sets_are_sorted_as_lists_are(rt: HostRuntime) -> Result<(), Fail> {
+    let mut numbers = Vec::new(rt.alloc());
+    for i in 0..2000u16 {
+        numbers.push(1999 - i)?;
+    }
+    is_sorted_as_a_list(&rt, rt.alloc(), numbers)?;
+    for count in [0, 1, 2, 5, 17, 64, 257, 1000] {
+        is_sorted_as_a_list(&rt, rt.alloc(), scattered(rt.alloc(), count)?)?;
+    }
+    Ok(())
+}
+
+#[test]
+fn runs_that_fall_and_rise_are_sorted_as_lists_are(rt: HostRuntime) -> Result<(), Fail> {
+    for step in [1, 2, 5, 200, 333, 500, 800, 995, 998, 999] {
+        is_sorted_as_a_list(&rt, rt.alloc(), stepping(rt.alloc(), step)?)?;
+    }
+    for times in [1, 2, 3, 140, 1000] {
+        is_sorted_as_a_list(&rt, rt.alloc(), falling_in_steps(rt.alloc(), times)?)?;
+    }
+    Ok(())
+}

@@ -1,0 +1,166 @@
+//! Strings of each type, through the traits' bounds.
+
+use der_ascii::{
+    Ia5String, Ia5StringRef, PrintableString, PrintableStringRef, TeletexString, TeletexStringRef,
+    VideotexStringRef,
+};
+use der_elem::{DerOrd, Duplicate, Encode, EncodingEq, FromDer, TakesMemory, ValueOrd};
+use der_opaque::{Any, AnyRef, OctetStringRef};
+use der_tlv::{Error, Tag};
+use std::alloc::Global;
+use std::cmp::Ordering;
+use std::process::Abort;
+use std::test::Fail;
+
+// The number of a refusal.
+fn numbered<T>(answer: Result<T, Error>) -> Result<T, u8> {
+    match answer {
+        Ok(value) => Ok(value),
+        Err(e) => Err(e.kind().number()),
+    }
+}
+
+// The octets are read as a value that is written as them, measured as that many, and copied.
+fn reads_back<'a, T: FromDer<'a> + Encode + Duplicate + DerOrd + EncodingEq>(
+    rt: &impl Abort,
+    alloc: Global,
+    octets: &'a [u8],
+) -> Result<(), u8> {
+    let value = numbered(T::from_der(alloc, octets))?;
+    let written = numbered(value.to_der(alloc))?;
+    assert_eq!(rt; written.as_slice(), octets);
+    let len = numbered(value.encoded_len())?;
+    assert_eq!(rt; len.value() as usize, octets.len());
+    let copy = numbered(value.duplicate())?;
+    assert!(rt; copy == value);
+    assert_eq!(rt; numbered(copy.der_cmp(&value)), Ok(Ordering::Equal));
+    Ok(())
+}
+
+// `Test User 1` behind a tag.
+fn test_user(tag: u8) -> [u8; 13] {
+    [
+        tag, 0x0b, 0x54, 0x65, 0x73, 0x74, 0x20, 0x55, 0x73, 0x65, 0x72, 0x20, 0x31,
+    ]
+}
+
+#[test]
+fn reads_strings(rt: HostRuntime) -> Result<(), Fail> {
+    let alloc = rt.alloc();
+    let address = [
+        0x16, 0x0d, 0x74, 0x65, 0x73, 0x74, 0x31, 0x40, 0x72, 0x73, 0x61, 0x2e, 0x63, 0x6f, 0x6d,
+    ];
+    reads_back::<Ia5StringRef>(&rt, alloc, &address)?;
+    reads_back::<Ia5String>(&rt, alloc, &address)?;
+    reads_back::<PrintableStringRef>(&rt, alloc, &test_user(0x13))?;
+    reads_back::<PrintableString>(&rt, alloc, &test_user(0x13))?;
+    reads_back::<TeletexStringRef>(&rt, alloc, &test_user(0x14))?;
+    reads_back::<TeletexString>(&rt, alloc, &test_user(0x14))?;
+    reads_back::<VideotexStringRef>(&rt, alloc, &test_user(0x15))?;
+    reads_back::<PrintableString>(&rt, alloc, &[0x13, 0x00])?;
+    assert!(rt; !PrintableStringRef::TAKES_MEMORY);
+    assert!(rt; PrintableString::TAKES_MEMORY);
+    Ok(())
+}
+
+#[test]
+fn refuses_other_octets(rt: HostRuntime) {
+    let alloc = rt.alloc();
+    let printable = |octets: &[u8]| numbered(PrintableString::from_der(alloc, octets)).err();
+    assert_eq!(rt; printable(&[0x13, 0x01, 0x27]), None);
+    assert_eq!(rt; printable(&[0x13, 0x01, 0x5c]), Some(13));
+    assert_eq!(rt; printable(&[0x13, 0x01, 0x2a]), Some(13));
+    assert_eq!(rt; printable(&[0x16, 0x01, 0x27]), Some(4));
+    assert_eq!(rt; printable(&[0x13, 0x02, 0x27]), Some(2));
+    let ia5 = |octets: &[u8]| numbered(Ia5String::from_der(alloc, octets)).err();
+    assert_eq!(rt; ia5(&[0x16, 0x01, 0x80]), Some(13));
+    assert_eq!(rt; ia5(&[0x16, 0x01, 0x7f]), None);
+    assert!(rt; matches!(TeletexStringRef::new(&[0x80]), Err(e) if e.kind().number() == 13));
+    assert_eq!(rt;
+        numbered(TeletexString::new(alloc, &[0xff])).err(),
+        Some(13)
+    );
+}
+
+#[test]
+fn takes_the_printable_characters(rt: HostRuntime) {
+    let others = b" '()+,-./:=?";
+    let mut count = 0;
+    for octet in 0..=255u8 {
+        let expected = octet.is_ascii_alphanumeric() || others.contains(&octet);
+        let taken = PrintableStringRef::new(&[octet]).is_ok();
+        assert_eq!(rt; taken, expected, "{octet}");
+        let ascii = VideotexStringRef::new(&[octet]).is_ok();
+        assert_eq!(rt; ascii, octet < 0x80, "{octet}");
+        if taken && count < 255u8 {
+            count += 1;
+        }
+    }
+    assert_eq!(rt; count, 74);
+}
+
+#[test]
+fn converts(rt: HostRuntime) -> Result<(), Fail> {
+    let alloc = rt.alloc();
+    let Ok(hi) = PrintableStringRef::new(b"hi") else {
+        return Err(Fail::from("refused"));
+    };
+    assert_eq!(rt; hi.as_str(), "hi");
+    assert_eq!(rt; hi.as_bytes(), b"hi".as_slice());
+    assert_eq!(rt; (hi.len().value(), hi.is_empty()), (2, false));
+    assert_eq!(rt; <&[u8]>::from(hi), b"hi".as_slice());
+    let owned = hi.ref_to_owned(alloc)?;
+    assert_eq!(rt;
+        (owned.as_str(), owned.as_bytes()),
+        ("hi", b"hi".as_slice())
+    );
+    assert_eq!(rt; (owned.len().value(), owned.is_empty()), (2, false));
+    assert!(rt; owned.owned_to_ref() == hi);
+    assert!(rt; PrintableStringRef::from(&owned) == PrintableStringRef::from(&hi));
+    assert!(rt; owned.clone()? == owned);
+    let text = format!(in alloc; "{hi} {owned} {hi:?} {owned:?}")?;
+    assert_eq!(rt;
+        text.as_str(),
+        "hi hi PrintableString(\"hi\") PrintableString(\"hi\")"
+    );
+    let any = AnyRef::from(hi);
+    assert!(rt; any == AnyRef::from(&owned));
+    let Ok(again) = PrintableStringRef::try_from(any) else {
+        return Err(Fail::from("refused"));
+    };
+    assert!(rt; again == hi);
+    let kept = Any::from_ref(alloc, any)?;
+    assert!(rt; PrintableStringRef::try_from(&kept).is_ok());
+    assert!(rt; matches!(Ia5StringRef::try_from(any), Err(e) if e.kind().number() == 4));
+    let Ok(star) = AnyRef::new(Tag::PrintableString, b"*") else {
+        return Err(Fail::from("refused"));
+    };
+    assert!(rt; matches!(PrintableStringRef::try_from(star), Err(e) if e.kind().number() == 13));
+    let from_text = PrintableString::try_from(String::from_str(alloc, "hi")?);
+    assert!(rt; numbered(from_text).is_ok());
+    let refused = PrintableString::try_from(String::from_str(alloc, "a*b")?);
+    assert_eq!(rt; numbered(refused).err(), Some(13));
+    Ok(())
+}
+
+#[test]
+fn orders_by_contents(rt: HostRuntime) -> Result<(), Fail> {
+    let alloc = rt.alloc();
+    let (short, long) = (Ia5String::new(alloc, b"b")?, Ia5String::new(alloc, b"aa")?);
+    assert!(rt; long < short);
+    assert_eq!(rt; numbered(long.value_cmp(&short)), Ok(Ordering::Less));
+    assert_eq!(rt; numbered(long.der_cmp(&short)), Ok(Ordering::Greater));
+    Ok(())
+}
+
+#[test]
+fn reads_octet_strings_of_strings(rt: HostRuntime) -> Result<(), Fail> {
+    let Ok(octets) = OctetStringRef::new(&[0x13, 0x02, 0x68, 0x69]) else {
+        return Err(Fail::from("refused"));
+    };
+    let Ok(hi) = octets.decode_into::<PrintableStringRef>(rt.alloc()) else {
+        return Err(Fail::from("refused"));
+    };
+    assert_eq!(rt; hi.as_str(), "hi");
+    Ok(())
+}

@@ -1,0 +1,261 @@
+//! Strings of each type, through the traits' bounds.
+
+use der_elem::{DerOrd, Duplicate, Encode, EncodingEq, FromDer, Tagged, TakesMemory, ValueOrd};
+use der_opaque::{Any, AnyRef, OctetStringRef};
+use der_text::{BmpString, GeneralStringRef, Utf8StringRef};
+use der_tlv::{Error, Tag};
+use std::alloc::Global;
+use std::cmp::Ordering;
+use std::process::Abort;
+use std::test::Fail;
+
+// The number of a refusal.
+fn numbered<T>(answer: Result<T, Error>) -> Result<T, u8> {
+    match answer {
+        Ok(value) => Ok(value),
+        Err(e) => Err(e.kind().number()),
+    }
+}
+
+// The octets are read as a value that is written as them, measured as that many, and copied.
+fn reads_back<'a, T: FromDer<'a> + Encode + Duplicate + EncodingEq>(
+    rt: &impl Abort,
+    alloc: Global,
+    octets: &'a [u8],
+) -> Result<(), u8> {
+    let value = numbered(T::from_der(alloc, octets))?;
+    let written = numbered(value.to_der(alloc))?;
+    assert_eq!(rt; written.as_slice(), octets);
+    let len = numbered(value.encoded_len())?;
+    assert_eq!(rt; len.value() as usize, octets.len());
+    let copy = numbered(value.duplicate())?;
+    assert!(rt; copy == value);
+    Ok(())
+}
+
+// The number with which the octets are refused.
+fn refusal<'a, T: FromDer<'a>>(alloc: Global, octets: &'a [u8]) -> Option<u8> {
+    numbered(T::from_der(alloc, octets)).err()
+}
+
+#[test]
+fn reads_utf8(rt: HostRuntime) -> Result<(), Fail> {
+    let alloc = rt.alloc();
+    let test_user = [
+        0x0c, 0x0b, 0x54, 0x65, 0x73, 0x74, 0x20, 0x55, 0x73, 0x65, 0x72, 0x20, 0x31,
+    ];
+    reads_back::<Utf8StringRef>(&rt, alloc, &test_user)?;
+    reads_back::<Utf8StringRef>(
+        &rt,
+        alloc,
+        &[0x0c, 0x06, 0x48, 0x65, 0x6c, 0x6c, 0xc3, 0xb3],
+    )?;
+    reads_back::<Utf8StringRef>(&rt, alloc, &[0x0c, 0x00])?;
+    reads_back::<Utf8StringRef>(&rt, alloc, &[0x0c, 0x04, 0xf0, 0x9f, 0x98, 0x80])?;
+    assert!(rt; !Utf8StringRef::TAKES_MEMORY);
+    Ok(())
+}
+
+#[test]
+fn refuses_what_is_not_utf8(rt: HostRuntime) -> Result<(), Fail> {
+    let alloc = rt.alloc();
+    let refused = |octets: &[u8]| refusal::<Utf8StringRef>(alloc, octets);
+    assert_eq!(rt; refused(&[0x0c, 0x01, 0xff]), Some(12));
+    assert_eq!(rt; refused(&[0x0c, 0x03, 0xed, 0xa0, 0x80]), Some(12));
+    assert_eq!(rt; refused(&[0x0c, 0x02, 0xc0, 0x80]), Some(12));
+    assert_eq!(rt; refused(&[0x0c, 0x01, 0xc3]), Some(12));
+    assert_eq!(rt; refused(&[0x13, 0x01, 0x41]), Some(4));
+    assert_eq!(rt; refused(&[0x0c, 0x02, 0x41]), Some(2));
+    assert_eq!(rt; refused(&[0x0c, 0x01, 0x41, 0x00]), Some(3));
+    let Err(e) = Utf8StringRef::new(&[0x80]) else {
+        return Err(Fail::from("taken"));
+    };
+    assert_eq!(rt; e.kind().number(), 12);
+    Ok(())
+}
+
+#[test]
+fn converts_utf8(rt: HostRuntime) -> Result<(), Fail> {
+    let alloc = rt.alloc();
+    let Ok(hello) = Utf8StringRef::try_from("Helló") else {
+        return Err(Fail::from("refused"));
+    };
+    assert_eq!(rt; hello.as_str(), "Helló");
+    assert_eq!(rt;
+        hello.as_bytes(),
+        [0x48, 0x65, 0x6c, 0x6c, 0xc3, 0xb3].as_slice()
+    );
+    assert_eq!(rt; (hello.len().value(), hello.is_empty()), (6, false));
+    let owned = hello.ref_to_owned(alloc)?;
+    assert_eq!(rt; owned.as_str(), "Helló");
+    let Ok(from_owned) = Utf8StringRef::try_from(&owned) else {
+        return Err(Fail::from("refused"));
+    };
+    assert!(rt; from_owned == Utf8StringRef::from(&hello));
+    let text = format!(in alloc; "{hello} {hello:?}")?;
+    assert_eq!(rt; text.as_str(), "Helló Utf8String(\"Helló\")");
+    let any = AnyRef::from(hello);
+    assert!(rt; any.tag().equals(Tag::Utf8String));
+    let Ok(again) = Utf8StringRef::try_from(any) else {
+        return Err(Fail::from("refused"));
+    };
+    assert!(rt; again == hello);
+    let kept = Any::from_ref(alloc, any)?;
+    let Ok(kept) = Utf8StringRef::try_from(&kept) else {
+        return Err(Fail::from("refused"));
+    };
+    assert!(rt; kept == hello);
+    Ok(())
+}
+
+#[test]
+fn converts_only_utf8_strings(rt: HostRuntime) -> Result<(), Fail> {
+    let Ok(bad) = AnyRef::new(Tag::Utf8String, &[0xff]) else {
+        return Err(Fail::from("refused"));
+    };
+    let Err(e) = Utf8StringRef::try_from(bad) else {
+        return Err(Fail::from("taken"));
+    };
+    assert_eq!(rt; e.kind().number(), 12);
+    let Ok(other) = AnyRef::new(Tag::Ia5String, b"hi") else {
+        return Err(Fail::from("refused"));
+    };
+    let Err(e) = Utf8StringRef::try_from(other) else {
+        return Err(Fail::from("taken"));
+    };
+    assert_eq!(rt; e.kind().number(), 4);
+    Ok(())
+}
+
+#[test]
+fn orders_utf8_by_contents(rt: HostRuntime) -> Result<(), Fail> {
+    let (Ok(short), Ok(long)) = (Utf8StringRef::new(b"b"), Utf8StringRef::new(b"aa")) else {
+        return Err(Fail::from("refused"));
+    };
+    assert!(rt; long < short);
+    assert_eq!(rt; numbered(long.value_cmp(&short)), Ok(Ordering::Less));
+    assert_eq!(rt; numbered(long.der_cmp(&short)), Ok(Ordering::Greater));
+    Ok(())
+}
+
+#[test]
+fn reads_octet_strings_of_utf8(rt: HostRuntime) -> Result<(), Fail> {
+    let Ok(octets) = OctetStringRef::new(&[0x0c, 0x02, 0x68, 0x69]) else {
+        return Err(Fail::from("refused"));
+    };
+    let Ok(hi) = octets.decode_into::<Utf8StringRef>(rt.alloc()) else {
+        return Err(Fail::from("refused"));
+    };
+    assert_eq!(rt; hi.as_str(), "hi");
+    Ok(())
+}
+
+#[test]
+fn reads_general_strings(rt: HostRuntime) -> Result<(), Fail> {
+    let alloc = rt.alloc();
+    reads_back::<GeneralStringRef>(&rt, alloc, &[0x1b, 0x01, 0x80])?;
+    reads_back::<GeneralStringRef>(&rt, alloc, &[0x1b, 0x00])?;
+    let Ok(string) = GeneralStringRef::from_der(alloc, &[0x1b, 0x02, 0x0e, 0xff]) else {
+        return Err(Fail::from("refused"));
+    };
+    assert_eq!(rt; string.as_bytes(), [0x0e, 0xff].as_slice());
+    assert_eq!(rt; refusal::<GeneralStringRef>(alloc, &[0x16, 0x00]), Some(4));
+    assert_eq!(rt; refusal::<GeneralStringRef>(alloc, &[0x1b, 0x01]), Some(2));
+    assert!(rt; !GeneralStringRef::TAKES_MEMORY);
+    Ok(())
+}
+
+#[test]
+fn reads_bmp(rt: HostRuntime) -> Result<(), Fail> {
+    let alloc = rt.alloc();
+    reads_back::<BmpString>(&rt, alloc, &[0x1e, 0x02, 0xff, 0xff])?;
+    reads_back::<BmpString>(&rt, alloc, &[0x1e, 0x02, 0xd7, 0xff])?;
+    reads_back::<BmpString>(&rt, alloc, &[0x1e, 0x04, 0xe0, 0x00, 0x00, 0x00])?;
+    reads_back::<BmpString>(&rt, alloc, &[0x1e, 0x00])?;
+    assert_eq!(rt;
+        refusal::<BmpString>(alloc, &[0x1e, 0x02, 0xd8, 0x00]),
+        Some(13)
+    );
+    assert_eq!(rt;
+        refusal::<BmpString>(alloc, &[0x1e, 0x02, 0xdf, 0xff]),
+        Some(13)
+    );
+    assert_eq!(rt; refusal::<BmpString>(alloc, &[0x1e, 0x01, 0x41]), Some(7));
+    let pair = [0x1e, 0x04, 0xd8, 0x3d, 0xde, 0x00];
+    assert_eq!(rt; refusal::<BmpString>(alloc, &pair), Some(13));
+    let odd_pair = [0x1e, 0x03, 0xd8, 0x3d, 0xde];
+    assert_eq!(rt; refusal::<BmpString>(alloc, &odd_pair), Some(7));
+    assert_eq!(rt; refusal::<BmpString>(alloc, &[0x0c, 0x00]), Some(4));
+    assert!(rt; BmpString::TAKES_MEMORY);
+    Ok(())
+}
+
+#[test]
+fn makes_bmp_of_texts(rt: HostRuntime) -> Result<(), Fail> {
+    let alloc = rt.alloc();
+    let template = numbered(BmpString::from_utf8(alloc, "CertificateTemplate"))?;
+    let written = numbered(template.to_der(alloc))?;
+    assert_eq!(rt; written.len(), 40);
+    assert_eq!(rt;
+        written[..6].to_vec(alloc)?.as_slice(),
+        [0x1e, 0x26, 0x00, 0x43, 0x00, 0x65].as_slice()
+    );
+    assert_eq!(rt;
+        written[36..].to_vec(alloc)?.as_slice(),
+        [0x00, 0x74, 0x00, 0x65].as_slice()
+    );
+    let text = format!(in alloc; "{template} {template:?}")?;
+    assert_eq!(rt;
+        text.as_str(),
+        "CertificateTemplate BmpString(\"CertificateTemplate\")"
+    );
+    let past = numbered(BmpString::from_utf8(alloc, "a\u{1f600}"));
+    assert_eq!(rt; past.err(), Some(13));
+    let mixed = numbered(BmpString::from_utf8(alloc, "é\u{ffff}"))?;
+    assert_eq!(rt; mixed.as_bytes(), [0x00, 0xe9, 0xff, 0xff].as_slice());
+    let text = format!(in alloc; "{mixed}")?;
+    assert_eq!(rt; text.as_str(), "é\u{ffff}");
+    Ok(())
+}
+
+#[test]
+fn makes_bmp_of_octets(rt: HostRuntime) -> Result<(), Fail> {
+    let alloc = rt.alloc();
+    let hi = numbered(BmpString::from_ucs2([0x00, 0x68, 0x00, 0x69].to_vec(alloc)?))?;
+    assert!(rt; hi == numbered(BmpString::from_utf8(alloc, "hi"))?);
+    let mut codepoints = hi.codepoints();
+    assert_eq!(rt; codepoints.len(), 2);
+    assert_eq!(rt; codepoints.next(), Some(0x68));
+    assert_eq!(rt; codepoints.len(), 1);
+    assert_eq!(rt; codepoints.next(), Some(0x69));
+    assert_eq!(rt; (codepoints.next(), codepoints.next()), (None, None));
+    let mut chars = hi.chars();
+    assert_eq!(rt; chars.len(), 2);
+    assert_eq!(rt; chars.next(), Some('h'));
+    assert_eq!(rt;
+        (chars.next(), chars.next(), chars.len()),
+        (Some('i'), None, 0)
+    );
+    assert!(rt; hi.clone()? == hi);
+    assert!(rt; numbered(hi.clone_from_ref(alloc))? == hi);
+    assert_eq!(rt;
+        hi.into_bytes().as_slice(),
+        [0x00, 0x68, 0x00, 0x69].as_slice()
+    );
+    let odd = numbered(BmpString::from_ucs2([0xd8, 0x00, 0x00].to_vec(alloc)?));
+    assert_eq!(rt; odd.err(), Some(7));
+    let surrogate = numbered(BmpString::from_ucs2([0x00, 0x41, 0xd8, 0x00].to_vec(alloc)?));
+    assert_eq!(rt; surrogate.err(), Some(13));
+    Ok(())
+}
+
+#[test]
+fn orders_bmp_by_contents(rt: HostRuntime) -> Result<(), Fail> {
+    let alloc = rt.alloc();
+    let short = numbered(BmpString::from_utf8(alloc, "b"))?;
+    let long = numbered(BmpString::from_utf8(alloc, "aa"))?;
+    assert!(rt; long < short);
+    assert_eq!(rt; numbered(long.value_cmp(&short)), Ok(Ordering::Less));
+    assert_eq!(rt; numbered(long.der_cmp(&short)), Ok(Ordering::Greater));
+    Ok(())
+}

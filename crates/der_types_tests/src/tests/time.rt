@@ -1,0 +1,452 @@
+use der_elem::{DerOrd, Duplicate, Encode, FixedTag, FromDer, ValueOrd};
+use der_opaque::{Any, AnyRef};
+use der_time::laws::{chronological, days_since_1970, equal_times, utc_chronological};
+use der_time::{DateTime, GeneralizedTime, UtcTime, const_contains_u8};
+use der_tlv::{Error, ErrorKind, Tag};
+use std::alloc::Global;
+use std::cmp::Ordering;
+use std::str::FromStr;
+use std::test::Fail;
+use std::time::Duration;
+
+/// The encoding of 1991-05-06T23:45:40Z as a GeneralizedTime.
+const GENERALIZED: &[u8; 17] = b"\x18\x0f19910506234540Z";
+
+/// The same as a UTCTime.
+const UTC: &[u8; 15] = b"\x17\x0d910506234540Z";
+
+/// The seconds of the last time.
+const LAST: u64 = 253_402_300_799;
+
+/// Octets that are read as a value of the type, and written again.
+fn round_trip<'a, T: FromDer<'a> + Encode>(
+    alloc: Global,
+    octets: &'a [u8],
+) -> Result<Vec<u8>, Error> {
+    let value = T::from_der(alloc, octets)?;
+    value.to_der(alloc)
+}
+
+/// Whether octets are read as a value of the type, and written again as they were.
+fn stays<'a, T: FromDer<'a> + Encode>(alloc: Global, octets: &'a [u8]) -> bool {
+    match round_trip::<T>(alloc, octets) {
+        Ok(written) => written.as_slice() == octets,
+        Err(_) => false,
+    }
+}
+
+/// The number of the error with which octets are refused, or 0.
+fn refusal<'a, T: FromDer<'a> + Encode>(alloc: Global, octets: &'a [u8]) -> u8 {
+    match round_trip::<T>(alloc, octets) {
+        Ok(_written) => 0,
+        Err(e) => e.kind.number(),
+    }
+}
+
+/// The number of the error with which these fields are refused, or 0.
+fn refused_as_new(year: u16, date: (u8, u8), clock: (u8, u8, u8)) -> u8 {
+    match DateTime::new(year, date.0, date.1, clock.0, clock.1, clock.2) {
+        Ok(_) => 0,
+        Err(e) => e.kind.number(),
+    }
+}
+
+/// The number of the error with which a text is refused, or 0.
+fn refused_as_text(text: &str) -> u8 {
+    match DateTime::from_str(text) {
+        Ok(_) => 0,
+        Err(e) => e.kind.number(),
+    }
+}
+
+/// The order that a comparison answered, if it answered one.
+fn order_of(answer: Result<Ordering, Error>) -> Option<Ordering> {
+    match answer {
+        Ok(order) => Some(order),
+        Err(_) => None,
+    }
+}
+
+/// The seconds of a text, or 0.
+fn seconds_of_text(text: &str) -> u64 {
+    match DateTime::from_str(text) {
+        Ok(time) => time.unix_duration().as_secs(),
+        Err(_) => 0,
+    }
+}
+
+#[test]
+fn encodings_stay(rt: HostRuntime) -> Result<(), Fail> {
+    let alloc = rt.alloc();
+    let generalized: [&[u8]; 4] = [
+        GENERALIZED,
+        b"\x18\x0f99991231235959Z",
+        b"\x18\x0f19700101000000Z",
+        b"\x18\x0f20000229120000Z",
+    ];
+    for octets in &generalized {
+        assert!(rt; stays::<GeneralizedTime>(alloc, *octets));
+        assert!(rt; stays::<DateTime>(alloc, *octets));
+    }
+    let utc: [&[u8]; 4] = [
+        UTC,
+        b"\x17\x0d700101000000Z",
+        b"\x17\x0d491231235959Z",
+        b"\x17\x0d000229235959Z",
+    ];
+    for octets in &utc {
+        assert!(rt; stays::<UtcTime>(alloc, *octets));
+    }
+    Ok(())
+}
+
+#[test]
+fn octets_of_no_generalized_time_are_refused(rt: HostRuntime) -> Result<(), Fail> {
+    let alloc = rt.alloc();
+    let refused: [(&[u8], u8); 17] = [
+        (b"\x18\x0f99991331235959Z", 13),
+        (b"\x18\x0f99991232235959Z", 13),
+        (b"\x18\x0f99991231245959Z", 13),
+        (b"\x18\x0f99991231236059Z", 13),
+        (b"\x18\x0f99991231235960Z", 13),
+        (b"\x18\x0f9x991231235959Z", 13),
+        (b"\x18\x0f999@1231235959Z", 14),
+        (b"\x18\x0f99x91231235959Z", 14),
+        (b"\x18\x0f99xx1331235959Z", 14),
+        (b"\x18\x0f99xx1231235959z", 13),
+        (b"\x18\x0e99xx123123595Z", 13),
+        (b"\x18\x0f19690101000000Z", 13),
+        (b"\x18\x0f21000229000000Z", 13),
+        (b"\x18\x0d991231235959Z", 13),
+        (b"\x18\x00", 13),
+        (b"\x18\x1119910506234540.5Z", 13),
+        (b"\x17\x0f19910506234540Z", 4),
+    ];
+    for row in &refused {
+        assert_eq!(rt; refusal::<GeneralizedTime>(alloc, row.0), row.1);
+        assert_eq!(rt; refusal::<DateTime>(alloc, row.0), row.1);
+    }
+    Ok(())
+}
+
+#[test]
+fn octets_of_no_utc_time_are_refused(rt: HostRuntime) -> Result<(), Fail> {
+    let alloc = rt.alloc();
+    let refused: [(&[u8], u8); 10] = [
+        (b"\x17\x0d500101000000Z", 13),
+        (b"\x17\x0d691231235959Z", 13),
+        (b"\x17\x0d911306234540Z", 13),
+        (b"\x17\x0d910532234540Z", 13),
+        (b"\x17\x0d910506244540Z", 13),
+        (b"\x17\x0d9x0506234540Z", 13),
+        (b"\x17\x0d910506234540z", 13),
+        (b"\x17\x0b9105062345Z", 13),
+        (b"\x17\x0f19910506234540Z", 13),
+        (b"\x18\x0d910506234540Z", 4),
+    ];
+    for row in &refused {
+        assert_eq!(rt; refusal::<UtcTime>(alloc, row.0), row.1);
+    }
+    Ok(())
+}
+
+#[test]
+fn fields_are_a_time_or_none(rt: HostRuntime) {
+    let taken: [(u16, (u8, u8), (u8, u8, u8)); 8] = [
+        (1970, (1, 26), (0, 0, 0)),
+        (2039, (2, 27), (0, 0, 0)),
+        (2055, (12, 31), (0, 0, 0)),
+        (2055, (12, 31), (23, 0, 0)),
+        (2055, (12, 31), (0, 59, 0)),
+        (2055, (12, 31), (0, 0, 59)),
+        (2000, (2, 29), (0, 0, 0)),
+        (2024, (2, 29), (0, 0, 0)),
+    ];
+    for row in &taken {
+        assert_eq!(rt; refused_as_new(row.0, row.1, row.2), 0);
+    }
+    let refused: [(u16, (u8, u8), (u8, u8, u8)); 18] = [
+        (2, (3, 25), (0, 0, 0)),
+        (1969, (1, 26), (0, 0, 0)),
+        (1968, (1, 26), (0, 0, 0)),
+        (1600, (1, 26), (0, 0, 0)),
+        (2039, (2, 27), (255, 0, 0)),
+        (2039, (2, 27), (0, 255, 0)),
+        (2039, (2, 27), (0, 0, 255)),
+        (2055, (12, 31), (24, 0, 0)),
+        (2055, (12, 31), (0, 60, 0)),
+        (2055, (12, 31), (0, 0, 60)),
+        (10000, (1, 1), (0, 0, 0)),
+        (2001, (0, 1), (0, 0, 0)),
+        (2001, (13, 1), (0, 0, 0)),
+        (2001, (1, 0), (0, 0, 0)),
+        (2001, (4, 31), (0, 0, 0)),
+        (2001, (2, 29), (0, 0, 0)),
+        (2023, (2, 29), (0, 0, 0)),
+        (2100, (2, 29), (0, 0, 0)),
+    ];
+    for row in &refused {
+        assert_eq!(rt; refused_as_new(row.0, row.1, row.2), 14);
+    }
+}
+
+#[test]
+fn a_time_shows_its_fields(rt: HostRuntime) {
+    let Ok(time) = DateTime::new(2001, 1, 2, 12, 13, 14) else {
+        panic!(rt; "refused")
+    };
+    assert_eq!(rt; time.year(), 2001);
+    assert_eq!(rt; time.month(), 1);
+    assert_eq!(rt; time.day(), 2);
+    assert_eq!(rt; time.hour(), 12);
+    assert_eq!(rt; time.minutes(), 13);
+    assert_eq!(rt; time.seconds(), 14);
+    let last = DateTime::INFINITY;
+    assert_eq!(rt; last.year(), 9999);
+    assert_eq!(rt; last.unix_duration().as_secs(), LAST);
+    assert!(rt; chronological(&time, &last) == Ordering::Less);
+    assert!(rt; time < last);
+    assert!(rt; !equal_times(&time, &last));
+    assert_eq!(rt; days_since_1970(&last), 2_932_896);
+}
+
+#[test]
+fn texts_are_times(rt: HostRuntime) -> Result<(), Fail> {
+    let alloc = rt.alloc();
+    let Ok(time) = DateTime::from_str("2001-01-02T12:13:14Z") else {
+        panic!(rt; "refused")
+    };
+    let Ok(same) = DateTime::new(2001, 1, 2, 12, 13, 14) else {
+        panic!(rt; "refused")
+    };
+    assert!(rt; time == same);
+    let text = format!(in alloc; "{time}")?;
+    assert_eq!(rt; text.as_str(), "2001-01-02T12:13:14Z");
+    let last = format!(in alloc; "{}", DateTime::INFINITY)?;
+    assert_eq!(rt; last.as_str(), "9999-12-31T23:59:59Z");
+    let refused = [
+        "",
+        "2001-01-02",
+        "2001-01-02t12:13:14Z",
+        "2001-01-02T12:13:14z",
+        "2001-01-02 12:13:14Z",
+        "2001-01-02T12:13:14",
+        "2001-01-02T12:13:14.0Z",
+        "2001-01-02T12:13:14+00:00",
+        "2001-1-02T12:13:14Z",
+        "2001/01/02T12:13:14Z",
+        "2001-02-29T12:13:14Z",
+        "2001-01-02T24:00:00Z",
+        "1969-12-31T23:59:59Z",
+        "12001-01-02T12:13:14Z",
+        " 2001-01-02T12:13:14Z",
+        "2001-01-02T12:13:14Z ",
+    ];
+    for text in &refused {
+        assert_eq!(rt; refused_as_text(*text), 14);
+    }
+    Ok(())
+}
+
+#[test]
+fn seconds_are_those_of_the_calendar(rt: HostRuntime) -> Result<(), Fail> {
+    let alloc = rt.alloc();
+    let known = [
+        ("1970-01-01T00:00:01Z", 1),
+        ("1991-05-06T23:45:40Z", 673_573_540),
+        ("2000-02-29T00:00:00Z", 951_782_400),
+        ("2000-03-01T00:00:00Z", 951_868_800),
+        ("2001-09-09T01:46:40Z", 1_000_000_000),
+        ("2009-02-13T23:31:30Z", 1_234_567_890),
+        ("2049-12-31T23:59:59Z", 2_524_607_999),
+        ("2050-01-01T00:00:00Z", 2_524_608_000),
+        ("2100-03-01T00:00:00Z", 4_107_542_400),
+        ("9999-12-31T23:59:59Z", LAST),
+    ];
+    for row in &known {
+        assert_eq!(rt; seconds_of_text(row.0), row.1);
+        let Ok(time) = DateTime::from_unix_duration(Duration::from_secs(row.1)) else {
+            panic!(rt; "refused")
+        };
+        let text = format!(in alloc; "{time}")?;
+        assert_eq!(rt; text.as_str(), row.0);
+    }
+    Ok(())
+}
+
+#[test]
+fn the_second_behind_the_last_is_refused(rt: HostRuntime) {
+    match GeneralizedTime::from_unix_duration(Duration::from_secs(LAST + 1)) {
+        Ok(_) => panic!(rt; "taken"),
+        Err(e) => assert_eq!(rt; e.kind.number(), 13),
+    }
+}
+
+#[test]
+fn durations_have_a_last_second(rt: HostRuntime) {
+    let Ok(last) = DateTime::from_unix_duration(Duration::from_secs(LAST)) else {
+        panic!(rt; "refused")
+    };
+    assert!(rt; last == DateTime::INFINITY);
+    let Ok(first) = DateTime::from_unix_duration(Duration::from_nanos(999_999_999)) else {
+        panic!(rt; "refused")
+    };
+    assert_eq!(rt; first.unix_duration().as_secs(), 0);
+    let beyond = Duration::new(LAST, 1);
+    match DateTime::from_unix_duration(beyond) {
+        Ok(_) => panic!(rt; "taken"),
+        Err(e) => assert_eq!(rt; e.kind.number(), 14),
+    }
+    match GeneralizedTime::from_unix_duration(beyond) {
+        Ok(_) => panic!(rt; "taken"),
+        Err(e) => assert_eq!(rt; e.kind.number(), 13),
+    }
+    match UtcTime::from_unix_duration(beyond) {
+        Ok(_) => panic!(rt; "taken"),
+        Err(e) => assert_eq!(rt; e.kind.number(), 14),
+    }
+    match UtcTime::from_unix_duration(Duration::from_secs(2_524_608_000)) {
+        Ok(_) => panic!(rt; "taken"),
+        Err(e) => assert_eq!(rt; e.kind.number(), 13),
+    }
+    let Ok(utc) = UtcTime::from_unix_duration(Duration::new(2_524_607_999, 999_999_999)) else {
+        panic!(rt; "refused")
+    };
+    assert_eq!(rt; utc.to_unix_duration().as_secs(), 2_524_607_999);
+    assert_eq!(rt; utc.to_date_time().year(), UtcTime::MAX_YEAR);
+    let Ok(generalized) = GeneralizedTime::from_unix_duration(Duration::from_secs(LAST)) else {
+        panic!(rt; "refused")
+    };
+    assert_eq!(rt; generalized.to_unix_duration().as_secs(), LAST);
+}
+
+#[test]
+fn utc_times_have_two_orders(rt: HostRuntime) -> Result<(), Fail> {
+    let alloc = rt.alloc();
+    let Ok(later) = UtcTime::from_der(alloc, b"\x17\x0d000101000000Z") else {
+        panic!(rt; "refused")
+    };
+    let Ok(earlier) = UtcTime::from_der(alloc, b"\x17\x0d991231235959Z") else {
+        panic!(rt; "refused")
+    };
+    assert_eq!(rt; later.to_date_time().year(), 2000);
+    assert_eq!(rt; earlier.to_date_time().year(), 1999);
+    assert!(rt; order_of(later.value_cmp(&earlier)) == Some(Ordering::Less));
+    assert!(rt; order_of(later.der_cmp(&earlier)) == Some(Ordering::Less));
+    assert!(rt; later.cmp(&earlier) == Ordering::Greater);
+    assert!(rt; utc_chronological(&later, &earlier) == Ordering::Greater);
+    assert!(rt; order_of(later.value_cmp(&later)) == Some(Ordering::Equal));
+    assert!(rt; later != earlier);
+    Ok(())
+}
+
+#[test]
+fn generalized_times_have_one_order(rt: HostRuntime) -> Result<(), Fail> {
+    let alloc = rt.alloc();
+    let Ok(one) = GeneralizedTime::from_der(alloc, GENERALIZED) else {
+        panic!(rt; "refused")
+    };
+    let last = GeneralizedTime::from_date_time(DateTime::INFINITY);
+    assert!(rt; order_of(one.value_cmp(&last)) == Some(Ordering::Less));
+    assert!(rt; order_of(last.der_cmp(&one)) == Some(Ordering::Greater));
+    assert!(rt; one.cmp(&last) == Ordering::Less);
+    assert!(rt; order_of(one.date_time.value_cmp(&last.date_time)) == Some(Ordering::Less));
+    assert!(rt; one == one);
+    assert!(rt; one != last);
+    Ok(())
+}
+
+#[test]
+fn times_convert(rt: HostRuntime) -> Result<(), Fail> {
+    let Ok(time) = DateTime::new(1991, 5, 6, 23, 45, 40) else {
+        panic!(rt; "refused")
+    };
+    let generalized = GeneralizedTime::from(time);
+    assert!(rt; generalized == GeneralizedTime::from(&time));
+    assert!(rt; generalized == GeneralizedTime::from(&generalized));
+    assert!(rt; generalized.to_date_time() == time);
+    assert!(rt; DateTime::from(generalized) == time);
+    assert!(rt; DateTime::from(&generalized) == time);
+    let Ok(utc) = UtcTime::try_from(time) else {
+        panic!(rt; "refused")
+    };
+    let Ok(same) = UtcTime::try_from(&time) else {
+        panic!(rt; "refused")
+    };
+    assert!(rt; utc == same);
+    assert!(rt; utc == UtcTime::from(&utc));
+    assert!(rt; utc.to_date_time() == time);
+    assert!(rt; DateTime::from(utc) == time);
+    assert!(rt; DateTime::from(&utc) == time);
+    match UtcTime::from_date_time(DateTime::INFINITY) {
+        Ok(_) => panic!(rt; "taken"),
+        Err(e) => assert_eq!(rt; e.kind.number(), 13),
+    }
+    let Ok(copy) = utc.duplicate() else {
+        panic!(rt; "refused")
+    };
+    assert!(rt; copy == utc);
+    assert_eq!(rt; UtcTime::LENGTH, 13);
+    Ok(())
+}
+
+#[test]
+fn carried_octets_are_times(rt: HostRuntime) -> Result<(), Fail> {
+    let alloc = rt.alloc();
+    let Ok(any) = AnyRef::new(Tag::UtcTime, b"910506234540Z") else {
+        panic!(rt; "refused")
+    };
+    let Ok(utc) = UtcTime::try_from(any) else {
+        panic!(rt; "refused")
+    };
+    assert_eq!(rt; utc.to_unix_duration().as_secs(), 673_573_540);
+    match GeneralizedTime::try_from(any) {
+        Ok(_) => panic!(rt; "taken"),
+        Err(e) => assert!(rt;
+            e.kind
+                == ErrorKind::TagUnexpected {
+                    expected: None,
+                    actual: Tag::UtcTime
+                }
+        ),
+    }
+    let Ok(owned) = Any::from_der(alloc, GENERALIZED) else {
+        panic!(rt; "refused")
+    };
+    let Ok(generalized) = GeneralizedTime::try_from(&owned) else {
+        panic!(rt; "refused")
+    };
+    assert!(rt; generalized.to_date_time() == utc.to_date_time());
+    match UtcTime::try_from(&owned) {
+        Ok(_) => panic!(rt; "taken"),
+        Err(e) => assert!(rt;
+            e.kind
+                == ErrorKind::TagUnexpected {
+                    expected: None,
+                    actual: Tag::GeneralizedTime
+                }
+        ),
+    }
+    let Ok(decoded) = any.decode_as::<UtcTime>(alloc) else {
+        panic!(rt; "refused")
+    };
+    assert!(rt; decoded == utc);
+    Ok(())
+}
+
+#[test]
+fn tags_are_universal(rt: HostRuntime) {
+    assert!(rt; <UtcTime as FixedTag>::TAG == Tag::UtcTime);
+    assert!(rt; <GeneralizedTime as FixedTag>::TAG == Tag::GeneralizedTime);
+    assert!(rt; <DateTime as FixedTag>::TAG == Tag::GeneralizedTime);
+}
+
+#[test]
+fn ranges_hold_their_ends(rt: HostRuntime) {
+    assert!(rt; const_contains_u8(1..=12, 1));
+    assert!(rt; const_contains_u8(1..=12, 12));
+    assert!(rt; !const_contains_u8(1..=12, 0));
+    assert!(rt; !const_contains_u8(1..=12, 13));
+    assert!(rt; const_contains_u8(7..=7, 7));
+    assert!(rt; !const_contains_u8(8..=7, 7));
+}
