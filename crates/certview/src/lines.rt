@@ -4,11 +4,11 @@ ghost use Rattle.std.specs.Io.KnownBytes.{Appends};
 ghost use Rattle.std.specs.Str.{bytes_eq};
 ghost use Rattle.der_lines.specs.Lines.{replies_to};
 ghost use Rattle.der_lines.specs.Run.{WritesBeginning};
-ghost use Rattle.certview.specs.Messages.{message_of};
+ghost use Rattle.der_message_lines.specs.Messages.{message_of};
 
-use crate::fault::Fault;
-use crate::messages::MessageNames;
 use der_lines::{LineReader, OctetWriter, run};
+use der_message_lines::MessageNames;
+use der_message_text::Fault;
 use std::alloc::Global;
 use std::io::{BufRead, Write};
 

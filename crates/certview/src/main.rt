@@ -4,42 +4,15 @@
 #![tactic(auto)]
 
 use der_lines::{LineReader, OctetWriter};
-use fault::Fault;
+use der_message_text::{Fault, run};
 use lines::{answer_lines, asks_for_lines};
-use run::run;
 use std::env::{self, Env};
 use std::io::{self, BufReader};
 use std::process::ExitCode;
 
-mod algorithms;
-mod certificate;
-mod constraints;
-mod extensions;
-mod fault;
-mod hexadecimal;
-mod identifiers;
-mod key_identifiers;
-mod keys;
-mod kind;
-mod labels;
 mod lines;
-mod messages;
-mod names;
-mod other_names;
-mod part;
-mod path;
-mod pem;
-mod place;
-mod revocation;
-mod rsa;
-mod run;
-mod shown;
-mod site;
 #[cfg(test)]
 mod tests;
-mod times;
-mod usages;
-mod values;
 
 /// Whether the first argument asks for lines.
 fn wants_lines(rt: &(impl AllocGlobal + Env)) -> Result<bool, Fault> {

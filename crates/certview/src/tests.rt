@@ -4,11 +4,8 @@ mod faults;
 mod kinds;
 mod messages;
 
-use crate::fault::Fault;
-use crate::kind::kind_of;
-use crate::run::run;
-use crate::shown::shown;
 use crate::tests::messages::{ED25519, RSA};
+use der_message_text::{Fault, kind_of, run, shown};
 use std::alloc::Global;
 use std::process::Abort;
 use std::test::Fail;

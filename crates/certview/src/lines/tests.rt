@@ -2,8 +2,8 @@
 //! none is a bad line.
 
 use super::answer_lines;
-use crate::fault::Fault;
 use der_lines::{LineReader, OctetWriter};
+use der_message_text::Fault;
 use std::alloc::{AllocError, Global};
 use std::process::Abort;
 use std::test::Fail;

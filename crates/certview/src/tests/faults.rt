@@ -1,8 +1,8 @@
 //! Faults and the fields in which they are met: an octet of a message is another one.
 
-use crate::fault::Fault;
 use crate::tests::messages::{CURVE_PRIVATE, ED25519, LIST};
 use crate::tests::written;
+use der_message_text::Fault;
 use std::test::Fail;
 
 #[test]

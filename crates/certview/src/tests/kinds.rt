@@ -1,12 +1,11 @@
 //! A message of each kind: what is shown, and that each of its cuts is refused.
 
-use crate::kind::{Kind, kind_of};
-use crate::shown::shown;
 use crate::tests::messages::{
     CURVE_PRIVATE, CURVE_PUBLIC, CURVE_WRAPPED, ED25519, ED25519_PUBLIC, ED25519_WRAPPED,
     EXTENSIONS, LIST, RSA_MODULUS, RSA_PRIVATE, RSA_PUBLIC, RSA_WRAPPED,
 };
 use crate::tests::{assert_contains, number_of};
+use der_message_text::{Kind, kind_of, shown};
 use std::test::Fail;
 
 #[test]

@@ -2,7 +2,7 @@
 
 ghost use Rattle.std.specs.Prelude.{◌≡◌, None, OnOk};
 ghost use Rattle.der_pkix.specs.Grammars.{rsa_private_key};
-ghost use Rattle.certview.specs.Faults.{first_fault};
+ghost use Rattle.der_message_text.specs.Faults.{first_fault};
 
 use crate::keys::{push_exponent, push_modulus, push_secret, push_version};
 use crate::kind::Kind;

@@ -1,7 +1,7 @@
 //! The messages by their names.
 ghost use Rattle.std.specs.Prelude.{◌≡◌};
 ghost use Rattle.der_lines.specs.Tables.{AnswersAs};
-ghost use Rattle.certview.specs.Messages.{message_of, certificate_messages, tbs_message, key_messages, item_messages, plain_values, field_values, name_values};
+ghost use Rattle.der_message_lines.specs.Messages.{message_of, certificate_messages, tbs_message, key_messages, item_messages, plain_values, field_values, name_values};
 
 use der_certificate::{Certificate, TbsCertificate};
 use der_extensions::{

@@ -2,10 +2,10 @@
 
 ghost use Rattle.std.specs.Prelude.{◌≡◌, ◌≢◌, None, true, false, OnOk, IfErr, IfSome};
 ghost use Rattle.std.specs.Io.KnownBytes.{Keeps};
-ghost use Rattle.certview.specs.Faults.{first_fault};
-ghost use Rattle.certview.specs.Grammars.{grammar_of, is_signed, signed_grammar_of};
-ghost use Rattle.certview.specs.Kinds.{kind_of, signed_part};
-ghost use Rattle.certview.specs.Pem.{is_pem};
+ghost use Rattle.der_message_text.specs.Faults.{first_fault};
+ghost use Rattle.der_message_text.specs.Grammars.{grammar_of, is_signed, signed_grammar_of};
+ghost use Rattle.der_message_text.specs.Kinds.{kind_of, signed_part};
+ghost use Rattle.der_message_text.specs.Pem.{is_pem};
 
 use crate::fault::Fault;
 use crate::kind::Kind;

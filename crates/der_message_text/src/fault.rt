@@ -1,7 +1,7 @@
 //! Why nothing is printed.
 
 ghost use Rattle.std.specs.Prelude.{◌≡◌};
-ghost use Rattle.certview.specs.declared.fault.Fault.TheVariants.{Memory};
+ghost use Rattle.der_message_text.specs.declared.fault.Fault.TheVariants.{Memory};
 ghost use Rattle.der_tlv.specs.ErrorNumber.{error_number};
 
 use crate::path::Path;

@@ -1,7 +1,7 @@
 //! What kind of message octets are.
 
 ghost use Rattle.std.specs.Prelude.{◌≡◌};
-ghost use Rattle.certview.specs.Kinds.{has_tag, is_time, signed_kind, key_kind, kind_of, signed_part};
+ghost use Rattle.der_message_text.specs.Kinds.{has_tag, is_time, signed_kind, key_kind, kind_of, signed_part};
 
 use crate::values::{behind, first_value, within};
 

@@ -1,7 +1,7 @@
 //! Values that stand one behind another in octets.
 
 ghost use Rattle.std.specs.Prelude.{◌≡◌, ◌≤◌, length};
-ghost use Rattle.certview.specs.Values.{at_most, sizes, within, behind, first_value};
+ghost use Rattle.der_message_text.specs.Values.{at_most, sizes, within, behind, first_value};
 
 use der_tlv::{Header, Reader, SliceReader};
 

@@ -1,8 +1,8 @@
 //! A message's octets and its kind from PEM text (RFC 7468).
 
 ghost use Rattle.std.specs.Prelude.{◌≡◌, false, IfOk};
-ghost use Rattle.certview.specs.Kinds.{kind_of};
-ghost use Rattle.certview.specs.Pem.{is_pem};
+ghost use Rattle.der_message_text.specs.Kinds.{kind_of};
+ghost use Rattle.der_message_text.specs.Pem.{is_pem};
 
 use crate::fault::Fault;
 use crate::kind::{Kind, kind_of};

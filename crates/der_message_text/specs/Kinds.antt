@@ -1,8 +1,8 @@
 -- What kind of message octets are, by the tags of their fields.
 use Rattle.std.specs.Prelude.{ℕ, List, [], ◌∷◌, Bool, false, ◌==◌, ◌||◌, if◌then◌else◌}
-use Rattle.certview.specs.declared.kind.Kind.{Kind}
-use Rattle.certview.specs.declared.kind.Kind.TheVariants.{Certificate, RevocationList, PublicKey, PrivateKey, RsaPrivateKey, RsaPublicKey, EcPrivateKey}
-use Rattle.certview.specs.Values.{within, behind, first_value}
+use Rattle.der_message_text.specs.declared.kind.Kind.{Kind}
+use Rattle.der_message_text.specs.declared.kind.Kind.TheVariants.{Certificate, RevocationList, PublicKey, PrivateKey, RsaPrivateKey, RsaPublicKey, EcPrivateKey}
+use Rattle.der_message_text.specs.Values.{within, behind, first_value}
 
 -- whether the first value has this identifier octet
 abbrev pub has_tag : ℕ → List ℕ → Bool

@@ -2,7 +2,7 @@
 
 ghost use Rattle.std.specs.Prelude.{◌≡◌, None, OnOk};
 ghost use Rattle.der_pkix.specs.Grammars.{subject_public_key_info, private_key_info, rsa_public_key, ec_private_key};
-ghost use Rattle.certview.specs.Faults.{first_fault};
+ghost use Rattle.der_message_text.specs.Faults.{first_fault};
 
 use crate::algorithms::{bits_of, push_algorithm, push_key};
 use crate::hexadecimal::push_with_colons;

@@ -1,9 +1,9 @@
 //! A message as text.
 
 ghost use Rattle.std.specs.Prelude.{◌≡◌, true, None, OnOk};
-ghost use Rattle.certview.specs.Faults.{first_fault};
-ghost use Rattle.certview.specs.Grammars.{grammar_of, is_signed, signed_grammar_of};
-ghost use Rattle.certview.specs.Kinds.{signed_part};
+ghost use Rattle.der_message_text.specs.Faults.{first_fault};
+ghost use Rattle.der_message_text.specs.Grammars.{grammar_of, is_signed, signed_grammar_of};
+ghost use Rattle.der_message_text.specs.Kinds.{signed_part};
 
 use crate::certificate::certificate_text;
 use crate::keys::{ec_private_key_text, private_key_text, public_key_text, rsa_public_key_text};

@@ -2,8 +2,8 @@
 
 ghost use Rattle.std.specs.Prelude.{◌≡◌, None, OnOk};
 ghost use Rattle.der_revocation.specs.Grammars.{certificate_list, tbs_cert_list};
-ghost use Rattle.certview.specs.Faults.{first_fault};
-ghost use Rattle.certview.specs.Kinds.{signed_part};
+ghost use Rattle.der_message_text.specs.Faults.{first_fault};
+ghost use Rattle.der_message_text.specs.Kinds.{signed_part};
 
 use crate::algorithms::push_algorithm;
 use crate::certificate::{push_signature, push_version};

@@ -4,8 +4,8 @@ use Rattle.der_elem.specs.Parsing.{Parse}
 use Rattle.der_pkix.specs.Grammars.{ec_private_key, private_key_info, rsa_private_key, rsa_public_key, subject_public_key_info}
 use Rattle.der_certificate.specs.Grammars.{certificate, tbs_certificate}
 use Rattle.der_revocation.specs.Grammars.{certificate_list, tbs_cert_list}
-use Rattle.certview.specs.declared.kind.Kind.{Kind}
-use Rattle.certview.specs.declared.kind.Kind.TheVariants.{Certificate, RevocationList, PublicKey, PrivateKey, RsaPrivateKey, RsaPublicKey, EcPrivateKey}
+use Rattle.der_message_text.specs.declared.kind.Kind.{Kind}
+use Rattle.der_message_text.specs.declared.kind.Kind.TheVariants.{Certificate, RevocationList, PublicKey, PrivateKey, RsaPrivateKey, RsaPublicKey, EcPrivateKey}
 
 -- what octets of a kind are read by
 abbrev pub grammar_of : Kind → Parse

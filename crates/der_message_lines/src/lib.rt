@@ -1,0 +1,6 @@
+//! The names by which lines name messages, and the values of extensions.
+#![tactic(auto)]
+
+mod messages;
+
+pub use messages::MessageNames;

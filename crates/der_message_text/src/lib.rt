@@ -1,0 +1,35 @@
+//! Messages as text for people: certificates, lists of revoked certificates and keys, a field a line,
+//! with where each stands in the octets.
+#![tactic(auto)]
+
+mod algorithms;
+mod certificate;
+mod constraints;
+mod extensions;
+mod fault;
+mod hexadecimal;
+mod identifiers;
+mod key_identifiers;
+mod keys;
+mod kind;
+mod labels;
+mod names;
+mod other_names;
+mod part;
+mod path;
+mod pem;
+mod place;
+mod revocation;
+mod rsa;
+mod run;
+mod shown;
+mod site;
+mod times;
+mod usages;
+mod values;
+
+pub use fault::Fault;
+pub use kind::{Kind, kind_of};
+pub use path::Path;
+pub use run::run;
+pub use shown::shown;
