@@ -7,15 +7,15 @@ use crate::signed::Certificate;
 use der_elem::Form;
 
 /// A message: a type whose grammar has a name.
-pub trait Message: Form {
+pub trait Message: Sized {
     // what its octets mean
     ghost grammar: { form.Ghosts Self };
 }
 
 impl<'a> Message for TbsCertificate<'a> {
-    ghost grammar = { Self.Form };
+    ghost grammar = { ⟦<TbsCertificate<'a> as Form>⟧ };
 }
 
 impl<'a> Message for Certificate<'a> {
-    ghost grammar = { Self.Form };
+    ghost grammar = { ⟦<Certificate<'a> as Form>⟧ };
 }

@@ -11,35 +11,35 @@ use crate::purposes::ExtKeyUsage;
 use der_elem::Form;
 
 /// A message: a type whose grammar has a name.
-pub trait Message: Form {
+pub trait Message: Sized {
     // what its octets mean
     ghost grammar: { form.Ghosts Self };
 }
 
 impl<'a> Message for AuthorityKeyIdentifier<'a> {
-    ghost grammar = { Self.Form };
+    ghost grammar = { ⟦<AuthorityKeyIdentifier<'a> as Form>⟧ };
 }
 
 impl<'a> Message for BasicConstraints<'a> {
-    ghost grammar = { Self.Form };
+    ghost grammar = { ⟦<BasicConstraints<'a> as Form>⟧ };
 }
 
 impl<'a> Message for GeneralName<'a> {
-    ghost grammar = { Self.Form };
+    ghost grammar = { ⟦<GeneralName<'a> as Form>⟧ };
 }
 
 impl<'a> Message for SubjectAltName<'a> {
-    ghost grammar = { Self.Form };
+    ghost grammar = { ⟦<SubjectAltName<'a> as Form>⟧ };
 }
 
 impl<'a> Message for SubjectKeyIdentifier<'a> {
-    ghost grammar = { Self.Form };
+    ghost grammar = { ⟦<SubjectKeyIdentifier<'a> as Form>⟧ };
 }
 
 impl<'a> Message for KeyUsage<'a> {
-    ghost grammar = { Self.Form };
+    ghost grammar = { ⟦<KeyUsage<'a> as Form>⟧ };
 }
 
 impl Message for ExtKeyUsage {
-    ghost grammar = { Self.Form };
+    ghost grammar = { ⟦<ExtKeyUsage as Form>⟧ };
 }

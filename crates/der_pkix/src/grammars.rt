@@ -12,59 +12,59 @@ use crate::time::{Time, Validity};
 use der_elem::Form;
 
 /// A message: a type whose grammar has a name.
-pub trait Message: Form {
+pub trait Message: Sized {
     // what its octets mean
     ghost grammar: { form.Ghosts Self };
 }
 
 impl<'a> Message for AlgorithmIdentifier<'a> {
-    ghost grammar = { Self.Form };
+    ghost grammar = { ⟦<AlgorithmIdentifier<'a> as Form>⟧ };
 }
 
 impl<'a> Message for SubjectPublicKeyInfo<'a> {
-    ghost grammar = { Self.Form };
+    ghost grammar = { ⟦<SubjectPublicKeyInfo<'a> as Form>⟧ };
 }
 
 impl<'a> Message for AttributeTypeAndValue<'a> {
-    ghost grammar = { Self.Form };
+    ghost grammar = { ⟦<AttributeTypeAndValue<'a> as Form>⟧ };
 }
 
 impl<'a> Message for Extension<'a> {
-    ghost grammar = { Self.Form };
+    ghost grammar = { ⟦<Extension<'a> as Form>⟧ };
 }
 
 impl<'a> Message for Extensions<'a> {
-    ghost grammar = { Self.Form };
+    ghost grammar = { ⟦<Extensions<'a> as Form>⟧ };
 }
 
 impl<'a> Message for PrivateKeyInfo<'a> {
-    ghost grammar = { Self.Form };
+    ghost grammar = { ⟦<PrivateKeyInfo<'a> as Form>⟧ };
 }
 
 impl<'a> Message for RsaPublicKey<'a> {
-    ghost grammar = { Self.Form };
+    ghost grammar = { ⟦<RsaPublicKey<'a> as Form>⟧ };
 }
 
 impl<'a> Message for EcPrivateKey<'a> {
-    ghost grammar = { Self.Form };
+    ghost grammar = { ⟦<EcPrivateKey<'a> as Form>⟧ };
 }
 
 impl<'a> Message for RelativeDistinguishedName<'a> {
-    ghost grammar = { Self.Form };
+    ghost grammar = { ⟦<RelativeDistinguishedName<'a> as Form>⟧ };
 }
 
 impl<'a> Message for Name<'a> {
-    ghost grammar = { Self.Form };
+    ghost grammar = { ⟦<Name<'a> as Form>⟧ };
 }
 
 impl<'a> Message for RsaPrivateKey<'a> {
-    ghost grammar = { Self.Form };
+    ghost grammar = { ⟦<RsaPrivateKey<'a> as Form>⟧ };
 }
 
 impl Message for Time {
-    ghost grammar = { Self.Form };
+    ghost grammar = { ⟦<Time as Form>⟧ };
 }
 
 impl Message for Validity {
-    ghost grammar = { Self.Form };
+    ghost grammar = { ⟦<Validity as Form>⟧ };
 }

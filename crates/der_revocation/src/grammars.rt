@@ -7,19 +7,19 @@ use crate::revoked_certificate::RevokedCertificate;
 use der_elem::Form;
 
 /// A message: a type whose grammar has a name.
-pub trait Message: Form {
+pub trait Message: Sized {
     // what its octets mean
     ghost grammar: { form.Ghosts Self };
 }
 
 impl<'a> Message for TbsCertList<'a> {
-    ghost grammar = { Self.Form };
+    ghost grammar = { ⟦<TbsCertList<'a> as Form>⟧ };
 }
 
 impl<'a> Message for CertificateList<'a> {
-    ghost grammar = { Self.Form };
+    ghost grammar = { ⟦<CertificateList<'a> as Form>⟧ };
 }
 
 impl<'a> Message for RevokedCertificate<'a> {
-    ghost grammar = { Self.Form };
+    ghost grammar = { ⟦<RevokedCertificate<'a> as Form>⟧ };
 }
