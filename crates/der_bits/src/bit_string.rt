@@ -237,11 +237,13 @@ impl OneTag for BitString {
 }
 
 impl<'a, R: Reader<'a>> DecodeValue<'a, R> for BitString {
+    ghost use Rattle.der_bits.specs.contracts.bit_string.BitStringFormValue.TheImpl.{ghosts as bit_string};
+
     /// # Errors
     /// (17) on a failed reader; the first fault of the contents octets; else (1) where memory runs
     /// out.
     fn decode_value(alloc: Global, reader: &mut R, header: Header) -> Result<BitString, Error>
-        ensures exact { length (rest (R.state reader.old)) ≡ header.length → DecodesValue ⟦<BitString as FormValue>⟧ header (R.state reader.old) (R.state reader.new) result }
+        ensures exact { length (rest (R.state reader.old)) ≡ header.length → DecodesValue bit_string header (R.state reader.old) (R.state reader.new) result }
         ensures reader { Stands (R.state reader.old) (R.state reader.new) result }
         ensures faults_first { length (rest (R.state reader.old)) ≡ header.length → FaultsFirst parse_bit_string (R.state reader.old) result }
     {

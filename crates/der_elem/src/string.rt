@@ -63,10 +63,12 @@ impl OneTag for String {
 }
 
 impl<'a, R: Reader<'a>> DecodeValue<'a, R> for String {
+    ghost use Rattle.der_elem.specs.contracts.string.StringFormValue.TheImpl.{ghosts as string};
+
     /// # Errors
     /// (17) on a failed reader; octets that are not UTF-8 (12); else (1) where memory runs out.
     fn decode_value(alloc: Global, reader: &mut R, header: Header) -> Result<String, Error>
-        ensures exact { length (rest (R.state reader.old)) ≡ header.length → DecodesValue ⟦<String as FormValue>⟧ header (R.state reader.old) (R.state reader.new) result }
+        ensures exact { length (rest (R.state reader.old)) ≡ header.length → DecodesValue string header (R.state reader.old) (R.state reader.new) result }
         ensures reader { Stands (R.state reader.old) (R.state reader.new) result }
         ensures faults_first { length (rest (R.state reader.old)) ≡ header.length → FaultsFirst parse_utf8 (R.state reader.old) result }
     {

@@ -171,11 +171,13 @@ impl OneTag for Int {
 }
 
 impl<'a, R: Reader<'a>> DecodeValue<'a, R> for Int {
+    ghost use Rattle.der_numbers.specs.contracts.int.IntFormValue.TheImpl.{ghosts as int};
+
     /// # Errors
     /// (17) on a failed reader; the first fault of the contents octets; else (1) where memory runs
     /// out.
     fn decode_value(alloc: Global, reader: &mut R, header: Header) -> Result<Int, Error>
-        ensures exact { length (rest (R.state reader.old)) ≡ header.length → DecodesValue ⟦<Int as FormValue>⟧ header (R.state reader.old) (R.state reader.new) result }
+        ensures exact { length (rest (R.state reader.old)) ≡ header.length → DecodesValue int header (R.state reader.old) (R.state reader.new) result }
         ensures reader { Stands (R.state reader.old) (R.state reader.new) result }
         ensures faults_first { length (rest (R.state reader.old)) ≡ header.length → FaultsFirst parse_integer (R.state reader.old) result }
     {

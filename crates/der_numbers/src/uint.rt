@@ -155,11 +155,13 @@ impl OneTag for Uint {
 }
 
 impl<'a, R: Reader<'a>> DecodeValue<'a, R> for Uint {
+    ghost use Rattle.der_numbers.specs.contracts.uint.UintFormValue.TheImpl.{ghosts as uint};
+
     /// # Errors
     /// (17) on a failed reader; the first fault of the contents octets; else (1) where memory runs
     /// out.
     fn decode_value(alloc: Global, reader: &mut R, header: Header) -> Result<Uint, Error>
-        ensures exact { length (rest (R.state reader.old)) ≡ header.length → DecodesValue ⟦<Uint as FormValue>⟧ header (R.state reader.old) (R.state reader.new) result }
+        ensures exact { length (rest (R.state reader.old)) ≡ header.length → DecodesValue uint header (R.state reader.old) (R.state reader.new) result }
         ensures reader { Stands (R.state reader.old) (R.state reader.new) result }
         ensures faults_first { length (rest (R.state reader.old)) ≡ header.length → FaultsFirst parse_natural (R.state reader.old) result }
     {

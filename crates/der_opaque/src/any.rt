@@ -321,10 +321,12 @@ impl Choice for Any {
 }
 
 impl<'a, R: Reader<'a>> DecodeValue<'a, R> for Any {
+    ghost use Rattle.der_opaque.specs.contracts.any.AnyFormValue.TheImpl.{ghosts as any};
+
     /// # Errors
     /// (17) on a failed reader; else (1) where memory runs out.
     fn decode_value(alloc: Global, reader: &mut R, header: Header) -> Result<Any, Error>
-        ensures exact { length (rest (R.state reader.old)) ≡ header.length → DecodesValue ⟦<Any as FormValue>⟧ header (R.state reader.old) (R.state reader.new) result }
+        ensures exact { length (rest (R.state reader.old)) ≡ header.length → DecodesValue any header (R.state reader.old) (R.state reader.new) result }
         ensures reader { Stands (R.state reader.old) (R.state reader.new) result }
         ensures faults_first { length (rest (R.state reader.old)) ≡ header.length → FaultsFirst parse_octets (R.state reader.old) result }
     {
@@ -339,11 +341,13 @@ impl<'a, R: Reader<'a>> DecodeValue<'a, R> for Any {
 }
 
 impl<'a, R: Reader<'a>> Decode<'a, R> for Any {
+    ghost use Rattle.der_opaque.specs.contracts.any.AnyForm.TheImpl.{ghosts as any_form};
+
     /// # Errors
     /// (17) on a failed reader; the header's faults; contents longer than what is left (2), (9); else
     /// `ErrorKind::Memory` (1) where memory runs out.
     fn decode(alloc: Global, reader: &mut R) -> Result<Any, Error>
-        ensures decoded { Decodes ⟦<Any as Form>⟧ (R.state reader.old) (R.state reader.new) result }
+        ensures decoded { Decodes any_form (R.state reader.old) (R.state reader.new) result }
         ensures faults_first { AnyFaultsFirst (R.state reader.old) result }
     {
         match AnyRef::decode(alloc, reader) {

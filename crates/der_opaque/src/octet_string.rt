@@ -132,10 +132,12 @@ impl OneTag for OctetString {
 }
 
 impl<'a, R: Reader<'a>> DecodeValue<'a, R> for OctetString {
+    ghost use Rattle.der_opaque.specs.contracts.octet_string.OctetStringFormValue.TheImpl.{ghosts as octet_string};
+
     /// # Errors
     /// (17) on a failed reader; else (1) where memory runs out.
     fn decode_value(alloc: Global, reader: &mut R, header: Header) -> Result<OctetString, Error>
-        ensures exact { length (rest (R.state reader.old)) ≡ header.length → DecodesValue ⟦<OctetString as FormValue>⟧ header (R.state reader.old) (R.state reader.new) result }
+        ensures exact { length (rest (R.state reader.old)) ≡ header.length → DecodesValue octet_string header (R.state reader.old) (R.state reader.new) result }
         ensures reader { Stands (R.state reader.old) (R.state reader.new) result }
         ensures faults_first { length (rest (R.state reader.old)) ≡ header.length → FaultsFirst parse_octets (R.state reader.old) result }
     {

@@ -177,11 +177,13 @@ impl OneTag for BmpString {
 }
 
 impl<'a, R: Reader<'a>> DecodeValue<'a, R> for BmpString {
+    ghost use Rattle.der_text.specs.contracts.bmp_string.BmpStringFormValue.TheImpl.{ghosts as bmp_string};
+
     /// # Errors
     /// (17) on a failed reader; an odd number of octets (7); a unit from D800 to DFFF (13); else (1)
     /// where memory runs out.
     fn decode_value(alloc: Global, reader: &mut R, header: Header) -> Result<BmpString, Error>
-        ensures exact { length (rest (R.state reader.old)) ≡ header.length → DecodesValue ⟦<BmpString as FormValue>⟧ header (R.state reader.old) (R.state reader.new) result }
+        ensures exact { length (rest (R.state reader.old)) ≡ header.length → DecodesValue bmp_string header (R.state reader.old) (R.state reader.new) result }
         ensures reader { Stands (R.state reader.old) (R.state reader.new) result }
         ensures faults_first { length (rest (R.state reader.old)) ≡ header.length → FaultsFirst parse_bmp (R.state reader.old) result }
     {

@@ -1,15 +1,18 @@
 //! Sets, whose items stand in the order of their encodings.
 
 ghost use Rattle.std.specs.Prelude.{◌≡◌, [], OnOk, OnErr, IfOk};
+ghost use Rattle.der_asn1_types.specs.HeaderOctets.{tlv};
+ghost use Rattle.der_asn1_types.specs.Integer.{natural_contents};
+ghost use Rattle.der_asn1_types.specs.Tag.TheVariants.{Integer};
 ghost use Rattle.der_asn1_types.specs.Places.{insert_in_order, insert_each};
 
+use der_asn1_types::Error;
 use der_asn1_types::asn1::SetOfVec;
-use der_asn1_types::{Error, Form};
 use std::alloc::Global;
 
 /// A set of four numbers, put in order.
 pub fn attribute_set(alloc: Global, numbers: [u16; 4]) -> Result<SetOfVec<u16>, Error>
-    ensures { IfOk result (λ set. set ≡ insert_each ⟦<u16 as Form>⟧.encoding [] numbers) }
+    ensures { IfOk result (λ set. set ≡ insert_each (λ n. tlv Integer (natural_contents n)) [] numbers) }
 {
     SetOfVec::from_array(alloc, numbers)
 }
@@ -17,7 +20,7 @@ pub fn attribute_set(alloc: Global, numbers: [u16; 4]) -> Result<SetOfVec<u16>, 
 /// Puts a number into a set at its place. Where that is refused, the set is as it was.
 pub fn with_attribute(set: &mut SetOfVec<u16>, number: u16) -> Result<(), Error>
     ensures placed { OnOk result
-        (set.new ≡ insert_in_order ⟦<u16 as Form>⟧.encoding set.old number) }
+        (set.new ≡ insert_in_order (λ n. tlv Integer (natural_contents n)) set.old number) }
     ensures unchanged { OnErr result (set.new ≡ set.old) }
 {
     set.insert(number)

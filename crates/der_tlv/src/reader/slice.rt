@@ -27,6 +27,7 @@ pub struct SliceReader<'a> {
 }
 
 impl<'a> SliceReader<'a> {
+    ghost use Rattle.der_tlv.specs.contracts.reader.slice.SliceReaderReader.TheImpl.{ghosts as slice_reader};
     ghost use Rattle.der_tlv.specs.Views.{slice_reader_state};
 
     /// A reader of all of the octets, under DER.
@@ -100,8 +101,8 @@ impl<'a> SliceReader<'a> {
     /// As `read_slice`.
     #[inline]
     fn fill(&mut self, buffer: &mut [u8]) -> Result<(), Error>
-        ensures ok { OnOk result (OctetsRead (⟦<SliceReader<'a> as Reader<'a>>⟧.state self.old) (⟦<SliceReader<'a> as Reader<'a>>⟧.state self.new) (length buffer.old) buffer.new) }
-        ensures err { IfErr result (λ e. OctetsRefused (⟦<SliceReader<'a> as Reader<'a>>⟧.state self.old) (⟦<SliceReader<'a> as Reader<'a>>⟧.state self.new) (length buffer.old) e.kind) }
+        ensures ok { OnOk result (OctetsRead (slice_reader.state self.old) (slice_reader.state self.new) (length buffer.old) buffer.new) }
+        ensures err { IfErr result (λ e. OctetsRefused (slice_reader.state self.old) (slice_reader.state self.new) (length buffer.old) e.kind) }
         ensures kept { OnErr result (buffer.new ≡ buffer.old) }
     {
         if self.failed || buffer.len() > (self.end - self.position) as usize {
