@@ -3,12 +3,10 @@
 #![tactic(auto)]
 
 use der_lines::{Fault, LineReader, OctetWriter, run};
-use names::TypeNames;
+use der_type_lines::TypeNames;
 use std::io::{self, BufReader};
 use std::process::ExitCode;
 
-mod algorithm_identifier;
-mod names;
 #[cfg(test)]
 mod tests;
 

@@ -3,8 +3,8 @@
 mod algorithm_identifier;
 mod beginnings;
 
-use crate::names::TypeNames;
 use der_lines::{Fault, LineReader, OctetWriter, run};
+use der_type_lines::TypeNames;
 use std::alloc::Global;
 use std::io::{self, BufReader, ErrorKind, Read, Write};
 use std::test::Fail;

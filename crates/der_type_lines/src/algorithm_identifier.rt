@@ -52,7 +52,7 @@ impl<'a> FieldsPart for AlgorithmIdentifier<'a> {
 }
 
 impl<'a> FormValue for AlgorithmIdentifier<'a> {
-    ghost use Rattle.derview.specs.contracts.algorithm_identifier.AlgorithmIdentifierFieldsPart.TheImpl.{ghosts as fields};
+    ghost use Rattle.der_type_lines.specs.contracts.algorithm_identifier.AlgorithmIdentifierFieldsPart.TheImpl.{ghosts as fields};
 
     ghost contents = { fields.list.joined };
 

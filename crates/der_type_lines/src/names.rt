@@ -1,7 +1,7 @@
 //! The types by their names.
 ghost use Rattle.std.specs.Prelude.{◌≡◌};
 ghost use Rattle.der_lines.specs.Tables.{AnswersAs};
-ghost use Rattle.derview.specs.Names.{canonical_function_of, plain_types, signed_types, unsigned_types, opaque_types, composed_types, tagged_types, number_types, string_types, bit_types, nested_types, set_types, borrowed_set_types, time_types};
+ghost use Rattle.der_type_lines.specs.Names.{canonical_function_of, plain_types, signed_types, unsigned_types, opaque_types, composed_types, tagged_types, number_types, string_types, bit_types, nested_types, set_types, borrowed_set_types, time_types};
 
 use crate::algorithm_identifier::AlgorithmIdentifier;
 use der_asn1_types::asn1::{
