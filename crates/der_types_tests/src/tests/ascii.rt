@@ -1,41 +1,15 @@
 //! Strings of each type, through the traits' bounds.
 
+use crate::tests::{numbered, reads_back_in_order};
 use der_ascii::{
     Ia5String, Ia5StringRef, PrintableString, PrintableStringRef, TeletexString, TeletexStringRef,
     VideotexStringRef,
 };
-use der_elem::{DerOrd, Duplicate, Encode, EncodingEq, FromDer, TakesMemory, ValueOrd};
+use der_elem::{DerOrd, FromDer, TakesMemory, ValueOrd};
 use der_opaque::{Any, AnyRef, OctetStringRef};
-use der_tlv::{Error, Tag};
-use std::alloc::Global;
+use der_tlv::Tag;
 use std::cmp::Ordering;
-use std::process::Abort;
 use std::test::Fail;
-
-// The number of a refusal.
-fn numbered<T>(answer: Result<T, Error>) -> Result<T, u8> {
-    match answer {
-        Ok(value) => Ok(value),
-        Err(e) => Err(e.kind().number()),
-    }
-}
-
-// The octets are read as a value that is written as them, measured as that many, and copied.
-fn reads_back<'a, T: FromDer<'a> + Encode + Duplicate + DerOrd + EncodingEq>(
-    rt: &impl Abort,
-    alloc: Global,
-    octets: &'a [u8],
-) -> Result<(), u8> {
-    let value = numbered(T::from_der(alloc, octets))?;
-    let written = numbered(value.to_der(alloc))?;
-    assert_eq!(rt; written.as_slice(), octets);
-    let len = numbered(value.encoded_len())?;
-    assert_eq!(rt; len.value() as usize, octets.len());
-    let copy = numbered(value.duplicate())?;
-    assert!(rt; copy == value);
-    assert_eq!(rt; numbered(copy.der_cmp(&value)), Ok(Ordering::Equal));
-    Ok(())
-}
 
 // `Test User 1` behind a tag.
 fn test_user(tag: u8) -> [u8; 13] {
@@ -50,14 +24,14 @@ fn reads_strings(rt: HostRuntime) -> Result<(), Fail> {
     let address = [
         0x16, 0x0d, 0x74, 0x65, 0x73, 0x74, 0x31, 0x40, 0x72, 0x73, 0x61, 0x2e, 0x63, 0x6f, 0x6d,
     ];
-    reads_back::<Ia5StringRef>(&rt, alloc, &address)?;
-    reads_back::<Ia5String>(&rt, alloc, &address)?;
-    reads_back::<PrintableStringRef>(&rt, alloc, &test_user(0x13))?;
-    reads_back::<PrintableString>(&rt, alloc, &test_user(0x13))?;
-    reads_back::<TeletexStringRef>(&rt, alloc, &test_user(0x14))?;
-    reads_back::<TeletexString>(&rt, alloc, &test_user(0x14))?;
-    reads_back::<VideotexStringRef>(&rt, alloc, &test_user(0x15))?;
-    reads_back::<PrintableString>(&rt, alloc, &[0x13, 0x00])?;
+    reads_back_in_order::<Ia5StringRef>(&rt, alloc, &address)?;
+    reads_back_in_order::<Ia5String>(&rt, alloc, &address)?;
+    reads_back_in_order::<PrintableStringRef>(&rt, alloc, &test_user(0x13))?;
+    reads_back_in_order::<PrintableString>(&rt, alloc, &test_user(0x13))?;
+    reads_back_in_order::<TeletexStringRef>(&rt, alloc, &test_user(0x14))?;
+    reads_back_in_order::<TeletexString>(&rt, alloc, &test_user(0x14))?;
+    reads_back_in_order::<VideotexStringRef>(&rt, alloc, &test_user(0x15))?;
+    reads_back_in_order::<PrintableString>(&rt, alloc, &[0x13, 0x00])?;
     assert!(rt; !PrintableStringRef::TAKES_MEMORY);
     assert!(rt; PrintableString::TAKES_MEMORY);
     Ok(())

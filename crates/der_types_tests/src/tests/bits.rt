@@ -1,9 +1,9 @@
+use crate::tests::{number_of, refusal, stays};
 use der_bits::laws::equal_bits;
 use der_bits::{AllowedLenBitString, AsBitStringRef, BitString, BitStringRef};
 use der_elem::{DerOrd, Duplicate, Encode, FixedTag, FromDer, ValueOrd};
 use der_opaque::AnyRef;
-use der_tlv::{EncodingRules, Error, ErrorKind, Length, Tag};
-use std::alloc::Global;
+use der_tlv::{EncodingRules, ErrorKind, Length, Tag};
 use std::cmp::Ordering;
 use std::test::Fail;
 
@@ -18,36 +18,6 @@ const STRINGS: [&[u8]; 5] = [
     &[0x03, 0x02, 0x01, 0x80],
     &[0x03, 0x02, 0x07, 0x80],
 ];
-
-/// Octets that are read as a value of the type, and written again.
-fn round_trip<'a, T: FromDer<'a> + Encode>(
-    alloc: Global,
-    octets: &'a [u8],
-) -> Result<Vec<u8>, Error> {
-    let value = T::from_der(alloc, octets)?;
-    value.to_der(alloc)
-}
-
-/// Whether octets are read as a value of the type, and written again as they were.
-fn stays<'a, T: FromDer<'a> + Encode>(alloc: Global, octets: &'a [u8]) -> bool {
-    match round_trip::<T>(alloc, octets) {
-        Ok(written) => written.as_slice() == octets,
-        Err(_) => false,
-    }
-}
-
-/// The number of the error, or 0.
-fn number_of<T: Drop>(answer: Result<T, Error>) -> u8 {
-    match answer {
-        Ok(_value) => 0,
-        Err(e) => e.kind.number(),
-    }
-}
-
-/// The number of the error with which octets are refused, or 0.
-fn refusal<'a, T: FromDer<'a> + Encode>(alloc: Global, octets: &'a [u8]) -> u8 {
-    number_of(round_trip::<T>(alloc, octets))
-}
 
 /// The number of the error with which these are refused as a borrowed bit string, or 0.
 fn refused_as_new(unused_bits: u8, octets: &[u8]) -> u8 {

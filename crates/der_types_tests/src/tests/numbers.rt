@@ -1,8 +1,8 @@
-use der_elem::{DerOrd, Duplicate, Encode, FixedTag, FromDer};
+use crate::tests::{refusal, stays};
+use der_elem::{DerOrd, Duplicate, Encode, FixedTag};
 use der_numbers::{AsIntRef, AsUintRef, Int, IntRef, Uint, UintRef};
 use der_opaque::{Any, AnyRef};
 use der_tlv::{Error, ErrorKind, Length, Tag};
-use std::alloc::Global;
 use std::cmp::Ordering;
 use std::test::Fail;
 
@@ -31,36 +31,11 @@ const NEITHER: [&[u8]; 3] = [
     &[0x02, 0x02, 0x00, 0x7f],
 ];
 
-/// Octets that are read as a value of the type, and written again.
-fn round_trip<'a, T: FromDer<'a> + Encode>(
-    alloc: Global,
-    octets: &'a [u8],
-) -> Result<Vec<u8>, Error> {
-    let value = T::from_der(alloc, octets)?;
-    value.to_der(alloc)
-}
-
-/// Whether octets are read as a value of the type, and written again as they were.
-fn stays<'a, T: FromDer<'a> + Encode>(alloc: Global, octets: &'a [u8]) -> bool {
-    match round_trip::<T>(alloc, octets) {
-        Ok(written) => written.as_slice() == octets,
-        Err(_) => false,
-    }
-}
-
 /// The kind of an error, if this is one.
 fn kind_of<T: Drop>(answer: Result<T, Error>) -> Option<ErrorKind> {
     match answer {
         Ok(_value) => None,
         Err(e) => Some(e.kind),
-    }
-}
-
-/// The number of the error with which octets are refused, or 0.
-fn refusal<'a, T: FromDer<'a>>(alloc: Global, octets: &'a [u8]) -> u8 {
-    match kind_of(T::from_der(alloc, octets)) {
-        Some(kind) => kind.number(),
-        None => 0,
     }
 }
 

@@ -1,37 +1,13 @@
 //! Strings of each type, through the traits' bounds.
 
-use der_elem::{DerOrd, Duplicate, Encode, EncodingEq, FromDer, Tagged, TakesMemory, ValueOrd};
+use crate::tests::{numbered, reads_back};
+use der_elem::{DerOrd, Encode, FromDer, Tagged, TakesMemory, ValueOrd};
 use der_opaque::{Any, AnyRef, OctetStringRef};
 use der_text::{BmpString, GeneralStringRef, Utf8StringRef};
-use der_tlv::{Error, Tag};
+use der_tlv::Tag;
 use std::alloc::Global;
 use std::cmp::Ordering;
-use std::process::Abort;
 use std::test::Fail;
-
-// The number of a refusal.
-fn numbered<T>(answer: Result<T, Error>) -> Result<T, u8> {
-    match answer {
-        Ok(value) => Ok(value),
-        Err(e) => Err(e.kind().number()),
-    }
-}
-
-// The octets are read as a value that is written as them, measured as that many, and copied.
-fn reads_back<'a, T: FromDer<'a> + Encode + Duplicate + EncodingEq>(
-    rt: &impl Abort,
-    alloc: Global,
-    octets: &'a [u8],
-) -> Result<(), u8> {
-    let value = numbered(T::from_der(alloc, octets))?;
-    let written = numbered(value.to_der(alloc))?;
-    assert_eq!(rt; written.as_slice(), octets);
-    let len = numbered(value.encoded_len())?;
-    assert_eq!(rt; len.value() as usize, octets.len());
-    let copy = numbered(value.duplicate())?;
-    assert!(rt; copy == value);
-    Ok(())
-}
 
 // The number with which the octets are refused.
 fn refusal<'a, T: FromDer<'a>>(alloc: Global, octets: &'a [u8]) -> Option<u8> {

@@ -1,9 +1,9 @@
-use der_elem::{DerOrd, Duplicate, Encode, FixedTag, FromDer, ValueOrd};
+use crate::tests::{refusal, stays};
+use der_elem::{DerOrd, Duplicate, FixedTag, FromDer, ValueOrd};
 use der_opaque::{Any, AnyRef};
 use der_time::laws::{chronological, days_since_1970, equal_times, utc_chronological};
 use der_time::{DateTime, GeneralizedTime, UtcTime, const_contains_u8};
 use der_tlv::{Error, ErrorKind, Tag};
-use std::alloc::Global;
 use std::cmp::Ordering;
 use std::str::FromStr;
 use std::test::Fail;
@@ -17,31 +17,6 @@ const UTC: &[u8; 15] = b"\x17\x0d910506234540Z";
 
 /// The seconds of the last time.
 const LAST: u64 = 253_402_300_799;
-
-/// Octets that are read as a value of the type, and written again.
-fn round_trip<'a, T: FromDer<'a> + Encode>(
-    alloc: Global,
-    octets: &'a [u8],
-) -> Result<Vec<u8>, Error> {
-    let value = T::from_der(alloc, octets)?;
-    value.to_der(alloc)
-}
-
-/// Whether octets are read as a value of the type, and written again as they were.
-fn stays<'a, T: FromDer<'a> + Encode>(alloc: Global, octets: &'a [u8]) -> bool {
-    match round_trip::<T>(alloc, octets) {
-        Ok(written) => written.as_slice() == octets,
-        Err(_) => false,
-    }
-}
-
-/// The number of the error with which octets are refused, or 0.
-fn refusal<'a, T: FromDer<'a> + Encode>(alloc: Global, octets: &'a [u8]) -> u8 {
-    match round_trip::<T>(alloc, octets) {
-        Ok(_written) => 0,
-        Err(e) => e.kind.number(),
-    }
-}
 
 /// The number of the error with which these fields are refused, or 0.
 fn refused_as_new(year: u16, date: (u8, u8), clock: (u8, u8, u8)) -> u8 {

@@ -1,26 +1,16 @@
 //! Tagged values of each class, in both modes.
 
-use der_elem::{
-    Choice, Decode, DerOrd, Duplicate, Encode, EncodingEq, FromDer, Tagged, TakesMemory, ValueOrd,
-};
+use crate::tests::{numbered, reads_back_in_order};
+use der_elem::{Choice, Decode, DerOrd, Encode, FromDer, Tagged, TakesMemory, ValueOrd};
 use der_opaque::{AnyRef, OctetStringRef};
-use der_tlv::{EncodingRules, Error, Reader, SliceReader, Tag, TagMode, TagNumber};
+use der_tlv::{EncodingRules, Reader, SliceReader, Tag, TagMode, TagNumber};
 use der_wrap::{
     Application, ApplicationRef, ContextSpecific, ContextSpecificRef, Private, PrivateRef,
     TaggedValue, laws,
 };
 use std::alloc::Global;
 use std::cmp::Ordering;
-use std::process::Abort;
 use std::test::Fail;
-
-// The number of a refusal.
-fn numbered<T>(answer: Result<T, Error>) -> Result<T, u8> {
-    match answer {
-        Ok(value) => Ok(value),
-        Err(e) => Err(e.kind().number()),
-    }
-}
 
 fn tagged<T, const CLASS: u8>(number: u32, tag_mode: TagMode, value: T) -> TaggedValue<T, CLASS> {
     TaggedValue {
@@ -30,38 +20,19 @@ fn tagged<T, const CLASS: u8>(number: u32, tag_mode: TagMode, value: T) -> Tagge
     }
 }
 
-// The octets are read as a value that is written as them, measured as that many, and copied.
-fn reads_back<'a, T: FromDer<'a> + Encode + Duplicate + DerOrd + EncodingEq>(
-    rt: &impl Abort,
-    alloc: Global,
-    octets: &'a [u8],
-) -> Result<(), u8> {
-    let value = numbered(T::from_der(alloc, octets))?;
-    let written = numbered(value.to_der(alloc))?;
-    assert_eq!(rt; written.as_slice(), octets);
-    assert_eq!(rt;
-        numbered(value.encoded_len())?.value() as usize,
-        octets.len()
-    );
-    let copy = numbered(value.duplicate())?;
-    assert!(rt; copy == value);
-    assert_eq!(rt; numbered(copy.der_cmp(&value)), Ok(Ordering::Equal));
-    Ok(())
-}
-
 #[test]
 fn reads_explicit_tagging(rt: HostRuntime) -> Result<(), Fail> {
     let alloc = rt.alloc();
-    reads_back::<ContextSpecific<u8>>(&rt, alloc, &[0xa1, 0x03, 0x02, 0x01, 0x05])?;
-    reads_back::<ContextSpecific<u8>>(&rt, alloc, &[0xbf, 0x1f, 0x03, 0x02, 0x01, 0x05])?;
-    reads_back::<Application<u8>>(&rt, alloc, &[0x61, 0x03, 0x02, 0x01, 0x05])?;
-    reads_back::<Private<u8>>(&rt, alloc, &[0xe1, 0x03, 0x02, 0x01, 0x05])?;
-    reads_back::<Vec<ContextSpecific<u8>>>(
+    reads_back_in_order::<ContextSpecific<u8>>(&rt, alloc, &[0xa1, 0x03, 0x02, 0x01, 0x05])?;
+    reads_back_in_order::<ContextSpecific<u8>>(&rt, alloc, &[0xbf, 0x1f, 0x03, 0x02, 0x01, 0x05])?;
+    reads_back_in_order::<Application<u8>>(&rt, alloc, &[0x61, 0x03, 0x02, 0x01, 0x05])?;
+    reads_back_in_order::<Private<u8>>(&rt, alloc, &[0xe1, 0x03, 0x02, 0x01, 0x05])?;
+    reads_back_in_order::<Vec<ContextSpecific<u8>>>(
         &rt,
         alloc,
         &[0x30, 0x05, 0xa1, 0x03, 0x02, 0x01, 0x05],
     )?;
-    reads_back::<ContextSpecific<Application<bool>>>(
+    reads_back_in_order::<ContextSpecific<Application<bool>>>(
         &rt,
         alloc,
         &[0xa0, 0x05, 0x62, 0x03, 0x01, 0x01, 0xff],
