@@ -1,5 +1,6 @@
 //! Messages that OpenSSL wrote, whole, cut short and with octets behind them.
 
+mod examples;
 mod faults;
 mod kinds;
 mod messages;

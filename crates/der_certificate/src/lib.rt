@@ -2,6 +2,19 @@
 //!
 //! The ten fields of a TBSCertificate are kept in four parts: `TbsCertificate` has the version and the
 //! serial number, and then `Issuer`, of which the tail is `Subject`, of which the tail is `Last`.
+//!
+//! `CERTIFICATE` is a certificate as hex digits:
+//!
+//! ```rust
+//! let octets = hex::decode(rt.alloc(), CERTIFICATE)?;
+//! match read_certificate(rt.alloc(), octets.as_slice()) {
+//!     Ok(certificate) => {
+//!         let signature = certificate.fields.rest.rest.first;
+//!         assert_eq!(rt; signature.bit_len(), 512);
+//!     }
+//!     Err(_) => return Err("refused".into()),
+//! }
+//! ```
 #![tactic(auto)]
 
 mod certificate;

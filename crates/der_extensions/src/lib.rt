@@ -2,6 +2,17 @@
 //!
 //! An `Extension` of `der_pkix` has such a value's octets. `read_..` reads octets as a whole under
 //! DER, `write_..` gives the one encoding.
+//!
+//! ```rust
+//! let octets = [0x30, 0x06, 0x01, 0x01, 0xff, 0x02, 0x01, 0x03];
+//! match read_basic_constraints(rt.alloc(), &octets) {
+//!     Ok(constraints) => {
+//!         assert!(rt; constraints.fields.first.value);
+//!         assert!(rt; constraints.fields.rest.first.is_some());
+//!     }
+//!     Err(_) => return Err("refused".into()),
+//! }
+//! ```
 #![tactic(auto)]
 
 mod authority;

@@ -3,6 +3,17 @@
 //! The answer to a line is `ok` and the canonical encoding of the value that the octets encode,
 //! `refused` and the number of their first fault, or `bad line`. A program says by `Names` which types
 //! its lines name; `run` answers each line of its input, before it reads the next.
+//!
+//! With `TypeNames` of `der_type_lines` as its table:
+//!
+//! ```rust
+//! let mut written = Vec::new(rt.alloc());
+//! let mut input = LineReader::new(b"u16 020105\nu16 0200\n".as_slice(), u64::MAX);
+//! let mut output = OctetWriter::new(&mut written);
+//! let result = run::<TypeNames, _, _>(rt.alloc(), &mut input, &mut output);
+//! assert!(rt; result.is_ok());
+//! assert_eq!(rt; written.as_slice(), b"ok 020105\nrefused 7\n".as_slice());
+//! ```
 #![tactic(auto)]
 
 mod answer;

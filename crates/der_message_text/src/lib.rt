@@ -1,5 +1,14 @@
 //! Messages as text for people: certificates, lists of revoked certificates and keys, a field a line,
 //! with where each stands in the octets.
+//!
+//! `ED25519_PUBLIC` is a key as hex digits:
+//!
+//! ```rust
+//! let octets = hex::decode(rt.alloc(), ED25519_PUBLIC)?;
+//! let kind = kind_of(octets.as_slice());
+//! let text = shown(rt.alloc(), kind, octets.as_slice())?;
+//! assert!(rt; text.contains("key algorithm: 1.3.101.112 (Ed25519)"));
+//! ```
 #![tactic(auto)]
 
 mod algorithms;

@@ -1,6 +1,7 @@
 //! Messages that OpenSSL wrote, read and written back, and octets that are refused.
 
 mod choices;
+mod examples;
 mod extensions;
 mod keys;
 mod names;

@@ -2,6 +2,20 @@
 //!
 //! What is proved of every list and of every CHOICE holds of each. `read_..` reads octets as a whole
 //! under DER, `write_..` gives the one encoding.
+//!
+//! ```rust
+//! let octets = [0x30, 0x05, 0x06, 0x03, 0x2b, 0x65, 0x70];
+//! match read_algorithm_identifier(rt.alloc(), &octets) {
+//!     Ok(algorithm) => {
+//!         assert!(rt; algorithm.fields.rest.first.is_none());
+//!         match write_algorithm_identifier(rt.alloc(), &algorithm) {
+//!             Ok(written) => assert_eq!(rt; written.as_slice(), octets.as_slice()),
+//!             Err(_) => return Err("no memory".into()),
+//!         }
+//!     }
+//!     Err(_) => return Err("refused".into()),
+//! }
+//! ```
 #![tactic(auto)]
 
 mod algorithm;

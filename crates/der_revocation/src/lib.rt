@@ -2,6 +2,19 @@
 //!
 //! The seven fields of a TBSCertList are kept in three parts: `TbsCertList` has the version, the
 //! algorithm and the issuer, and then `Updates`, of which the tail is `Entries`.
+//!
+//! `LIST` is a list as hex digits:
+//!
+//! ```rust
+//! let octets = hex::decode(rt.alloc(), LIST)?;
+//! match read_certificate_list(rt.alloc(), octets.as_slice()) {
+//!     Ok(list) => {
+//!         let signature = list.fields.rest.rest.first;
+//!         assert_eq!(rt; signature.bit_len(), 512);
+//!     }
+//!     Err(_) => return Err("refused".into()),
+//! }
+//! ```
 #![tactic(auto)]
 
 mod certificate_list;

@@ -1,4 +1,12 @@
 //! The names by which lines name the types of `der_asn1_types`, and a struct of two named fields.
+//!
+//! ```rust
+//! let octets = [0x30, 0x05, 0x06, 0x03, 0x2b, 0x65, 0x70];
+//! match AlgorithmIdentifier::from_der(rt.alloc(), &octets) {
+//!     Ok(algorithm) => assert!(rt; algorithm.parameters.is_none()),
+//!     Err(_) => return Err("refused".into()),
+//! }
+//! ```
 #![tactic(auto)]
 
 mod algorithm_identifier;

@@ -2,6 +2,7 @@
 
 mod algorithm_identifier;
 mod beginnings;
+mod examples;
 
 use der_lines::{Fault, LineReader, OctetWriter, run};
 use der_type_lines::TypeNames;

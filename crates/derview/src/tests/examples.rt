@@ -1,0 +1,27 @@
+//! The examples that open the sources of crates: `tests/contracts` compares them with these tests.
+
+use der_asn1_types::FromDer;
+use der_lines::{LineReader, OctetWriter, run};
+use der_type_lines::{AlgorithmIdentifier, TypeNames};
+use std::test::Fail;
+
+#[test]
+fn der_lines(rt: HostRuntime) -> Result<(), Fail> {
+    let mut written = Vec::new(rt.alloc());
+    let mut input = LineReader::new(b"u16 020105\nu16 0200\n".as_slice(), u64::MAX);
+    let mut output = OctetWriter::new(&mut written);
+    let result = run::<TypeNames, _, _>(rt.alloc(), &mut input, &mut output);
+    assert!(rt; result.is_ok());
+    assert_eq!(rt; written.as_slice(), b"ok 020105\nrefused 7\n".as_slice());
+    Ok(())
+}
+
+#[test]
+fn der_type_lines(rt: HostRuntime) -> Result<(), Fail> {
+    let octets = [0x30, 0x05, 0x06, 0x03, 0x2b, 0x65, 0x70];
+    match AlgorithmIdentifier::from_der(rt.alloc(), &octets) {
+        Ok(algorithm) => assert!(rt; algorithm.parameters.is_none()),
+        Err(_) => return Err("refused".into()),
+    }
+    Ok(())
+}
