@@ -1,5 +1,5 @@
 use Rattle.std.proofs.Common.{rules, ◌≡◌, None, OnOk, Result, Ok, Err}
-use Rattle.der_message_text.proofs.shown.shown.Goals as goal
+use Rattle.der_message_text.proofs.text.shown.Goals as goal
 
 -- what holds of an answer holds of it under a premise
 under : {T E : Type 0} (P Q : Type 0) (result : Result T E) → OnOk result P → OnOk result (Q → P)

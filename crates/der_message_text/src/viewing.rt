@@ -11,7 +11,7 @@ use crate::fault::Fault;
 use crate::kind::Kind;
 use crate::path::path_of;
 use crate::pem::message_of;
-use crate::shown::shown;
+use crate::text::shown;
 use der_tlv::{Error, ErrorKind};
 use std::alloc::Global;
 use std::io::{self, Read, Write};

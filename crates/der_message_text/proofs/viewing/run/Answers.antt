@@ -1,5 +1,5 @@
 use Rattle.std.proofs.Common.{◌≡◌, ◌++◌, ℕ, List, [], Option, Some, None, IfSome, ap, subst, ◌∙◌}
-use Rattle.der_message_text.proofs.run.run.Goals as goal
+use Rattle.der_message_text.proofs.viewing.run.Goals as goal
 
 -- what holds of the octets that were read holds of those that were there
 tied : (remaining : Option (List ℕ)) (start got : List ℕ) (P : List ℕ → Type 0) → start ≡ [] → IfSome remaining (λ xs. got ≡ start ++ xs) → P got → IfSome remaining P
