@@ -1,9 +1,15 @@
 -- The grammar of each kind of message.
 use Rattle.std.specs.Prelude.{Bool, true, false}
 use Rattle.der_elem.specs.Parsing.{Parse}
-use Rattle.der_pkix.specs.Grammars.{ec_private_key, private_key_info, rsa_private_key, rsa_public_key, subject_public_key_info}
-use Rattle.der_certificate.specs.Grammars.{certificate, tbs_certificate}
-use Rattle.der_revocation.specs.Grammars.{certificate_list, tbs_cert_list}
+use Rattle.der_pkix.specs.contracts.grammars.EcPrivateKeyMessage.TheImpl.{ghosts as ec_private_key}
+use Rattle.der_pkix.specs.contracts.grammars.PrivateKeyInfoMessage.TheImpl.{ghosts as private_key_info}
+use Rattle.der_pkix.specs.contracts.grammars.RsaPrivateKeyMessage.TheImpl.{ghosts as rsa_private_key}
+use Rattle.der_pkix.specs.contracts.grammars.RsaPublicKeyMessage.TheImpl.{ghosts as rsa_public_key}
+use Rattle.der_pkix.specs.contracts.grammars.SubjectPublicKeyInfoMessage.TheImpl.{ghosts as subject_public_key_info}
+use Rattle.der_certificate.specs.contracts.grammars.CertificateMessage.TheImpl.{ghosts as certificate}
+use Rattle.der_certificate.specs.contracts.grammars.TbsCertificateMessage.TheImpl.{ghosts as tbs_certificate}
+use Rattle.der_revocation.specs.contracts.grammars.CertificateListMessage.TheImpl.{ghosts as certificate_list}
+use Rattle.der_revocation.specs.contracts.grammars.TbsCertListMessage.TheImpl.{ghosts as tbs_cert_list}
 use Rattle.der_message_text.specs.declared.kind.Kind.{Kind}
 use Rattle.der_message_text.specs.declared.kind.Kind.TheVariants.{Certificate, RevocationList, PublicKey, PrivateKey, RsaPrivateKey, RsaPublicKey, EcPrivateKey}
 

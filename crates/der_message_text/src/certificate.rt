@@ -1,7 +1,8 @@
 //! A certificate as text.
 
 ghost use Rattle.std.specs.Prelude.{◌≡◌, None, OnOk};
-ghost use Rattle.der_certificate.specs.Grammars.{certificate, tbs_certificate};
+ghost use Rattle.der_certificate.specs.contracts.grammars.CertificateMessage.TheImpl.{ghosts as certificate};
+ghost use Rattle.der_certificate.specs.contracts.grammars.TbsCertificateMessage.TheImpl.{ghosts as tbs_certificate};
 ghost use Rattle.der_message_text.specs.Faults.{first_fault};
 ghost use Rattle.der_message_text.specs.Kinds.{signed_part};
 

@@ -1,7 +1,10 @@
 //! Keys as text. Of what is secret only the length is shown.
 
 ghost use Rattle.std.specs.Prelude.{◌≡◌, None, OnOk};
-ghost use Rattle.der_pkix.specs.Grammars.{subject_public_key_info, private_key_info, rsa_public_key, ec_private_key};
+ghost use Rattle.der_pkix.specs.contracts.grammars.SubjectPublicKeyInfoMessage.TheImpl.{ghosts as subject_public_key_info};
+ghost use Rattle.der_pkix.specs.contracts.grammars.PrivateKeyInfoMessage.TheImpl.{ghosts as private_key_info};
+ghost use Rattle.der_pkix.specs.contracts.grammars.RsaPublicKeyMessage.TheImpl.{ghosts as rsa_public_key};
+ghost use Rattle.der_pkix.specs.contracts.grammars.EcPrivateKeyMessage.TheImpl.{ghosts as ec_private_key};
 ghost use Rattle.der_message_text.specs.Faults.{first_fault};
 
 use crate::algorithms::{bits_of, push_algorithm, push_key};

@@ -1,7 +1,8 @@
 //! A list of revoked certificates as text.
 
 ghost use Rattle.std.specs.Prelude.{◌≡◌, None, OnOk};
-ghost use Rattle.der_revocation.specs.Grammars.{certificate_list, tbs_cert_list};
+ghost use Rattle.der_revocation.specs.contracts.grammars.CertificateListMessage.TheImpl.{ghosts as certificate_list};
+ghost use Rattle.der_revocation.specs.contracts.grammars.TbsCertListMessage.TheImpl.{ghosts as tbs_cert_list};
 ghost use Rattle.der_message_text.specs.Faults.{first_fault};
 ghost use Rattle.der_message_text.specs.Kinds.{signed_part};
 

@@ -1,7 +1,7 @@
 //! A private key of RSA as text.
 
 ghost use Rattle.std.specs.Prelude.{◌≡◌, None, OnOk};
-ghost use Rattle.der_pkix.specs.Grammars.{rsa_private_key};
+ghost use Rattle.der_pkix.specs.contracts.grammars.RsaPrivateKeyMessage.TheImpl.{ghosts as rsa_private_key};
 ghost use Rattle.der_message_text.specs.Faults.{first_fault};
 
 use crate::keys::{push_exponent, push_modulus, push_secret, push_version};
