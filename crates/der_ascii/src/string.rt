@@ -154,6 +154,8 @@ impl<const NUMBER: u8> OneTag for CharacterString<NUMBER> {
 }
 
 impl<'a, R: Reader<'a>, const NUMBER: u8> DecodeValue<'a, R> for CharacterString<NUMBER> {
+    ghost use Rattle.der_ascii.specs.contracts.string.CharacterStringFormValue.TheImpl as string;
+
     /// # Errors
     /// (17) on a failed reader; octets that are no characters (13); else (1) where memory runs out.
     fn decode_value(
@@ -161,7 +163,7 @@ impl<'a, R: Reader<'a>, const NUMBER: u8> DecodeValue<'a, R> for CharacterString
         reader: &mut R,
         header: Header,
     ) -> Result<CharacterString<NUMBER>, Error>
-        ensures exact { length (rest (R.state reader.old)) ≡ header.length → DecodesValue ⟦<CharacterString<NUMBER> as FormValue>⟧ header (R.state reader.old) (R.state reader.new) result }
+        ensures exact { length (rest (R.state reader.old)) ≡ header.length → DecodesValue (string.ghosts NUMBER.row) header (R.state reader.old) (R.state reader.new) result }
         ensures reader { Stands (R.state reader.old) (R.state reader.new) result }
         ensures faults_first { length (rest (R.state reader.old)) ≡ header.length → FaultsFirst (parse_string NUMBER) (R.state reader.old) result }
     {
