@@ -10,6 +10,8 @@ use Rattle.der_tlv.specs.declared.error.Error.{Error}
 use Rattle.der_tlv.specs.declared.tag.Tag.{Tag}
 use Rattle.der_tlv.specs.Octets.{lex}
 use Rattle.der_tlv.specs.OctetLaws.{SameBeginning, lex-append}
+use Rattle.der_tlv.specs.HeaderOctets.{tlv}
+use Rattle.der_tlv.specs.HeaderLaws.{tlv-unique}
 use Rattle.der_tlv.specs.Identifier.{identifier}
 use Rattle.der_tlv.specs.IdentifierLaws.{identifier-unique, identifier-beginning, lex-identifier-equal, length-identifier-positive}
 use Rattle.der_elem.specs.declared.form.Form as form
@@ -69,11 +71,22 @@ both_true false b h = absurd (cc)
 and_true : (a b : Bool) → a ≡ true → b ≡ true → (a && b) ≡ true
 and_true a b h k = ap (λ a. a && b) h ∙ k
 
+-- an encoding is found again before what follows it
+pub tlv_apart : (t u : Tag) (c d x y : List ℕ) → tlv t c ++ x ≡ tlv u d ++ y → (tlv t c ≡ tlv u d) × (x ≡ y)
+tlv_apart t u c d x y e = let same = tlv-unique t u c d x y e in (ap (λ t. tlv t c) same.0 ∙ ap (tlv u) same.1, same.2)
+
 -- fields are equal exactly where their joined encodings are
 pub eq_both : (p q : Bool) (a b c d : List ℕ) → (IsTrue p ↔ (a ≡ b)) → (IsTrue q ↔ (c ≡ d)) → (a ++ c ≡ b ++ d → (a ≡ b) × (c ≡ d)) → IsTrue (p && q) ↔ (a ++ c ≡ b ++ d)
 eq_both p q a b c d first others told = (
   (λ h. let r = both_true p q h in ap (λ a. a ++ c) (first.0 r.0) ∙ ap (λ c. b ++ c) (others.0 r.1)),
   (λ e. let t = told e in and_true p q (first.1 t.0) (others.1 t.1)),
+)
+
+-- the last field has nothing behind it
+pub eq_last : (p : Bool) (a b : List ℕ) → (IsTrue p ↔ (a ≡ b)) → IsTrue p ↔ (a ++ [] ≡ b ++ [])
+eq_last p a b last = (
+  (λ h. ap (λ o. o ++ []) (last.0 h)),
+  (λ e. last.1 (sym (append-nil a) ∙ e ∙ append-nil b)),
 )
 
 decided : (o p : Ordering) → o ≢ Equal → ordering_then o p ≡ o

@@ -2,17 +2,15 @@
 
 ghost use Rattle.std.specs.Prelude.{refl};
 ghost use Rattle.std.proofs.Common.{lit<};
-ghost use Rattle.der_tlv.specs.declared.tag.Tag.TheVariants as tags;
-ghost use Rattle.der_elem.specs.EqualityLaws.{encoding-unique};
 ghost use Rattle.der_elem.specs.TaggedLaws.{encoding_eq_tagged};
-ghost use Rattle.der_fields.specs.TellingLaws.{eq_both};
+ghost use Rattle.der_fields.specs.TellingLaws.{eq_both, tlv_apart};
 ghost use Rattle.der_opaque.specs.contracts.any_ref.AnyRefEncodingEq.TheImpl.Laws as any;
 ghost use Rattle.der_opaque.specs.contracts.object_identifier.ObjectIdentifierContentsEq.TheImpl.Laws as identifier;
 ghost use Rattle.der_fields.specs.Parts.{part_of};
 
 use der_elem::{
-    ContentsEq, CopyIsDuplicate, DecodeValue, EncodeValue, Form, FormValue, OneTag, Sequence,
-    SequenceTag, Tagged, ValueMemory, ValueOrd, WithoutMemory,
+    ContentsEq, CopyIsDuplicate, DecodeValue, EncodeValue, FormValue, OneTag, Sequence,
+    SequenceTag, ValueMemory, ValueOrd, WithoutMemory,
 };
 use der_fields::{DecodeFields, EncodeFields, End, Field, FieldList, FieldsOrd};
 use der_opaque::{AnyRef, ObjectIdentifier};
@@ -123,10 +121,9 @@ impl<'a> ValueOrd for AttributeTypeAndValue<'a> {
 
 impl<'a> ContentsEq for AttributeTypeAndValue<'a> {
     ghost contents_eq = { λ v w one.
-        let kind = encoding_eq_tagged tags.ObjectIdentifier ⟦<ObjectIdentifier<39> as FormValue>⟧.contents ⟦<ObjectIdentifier<39> as FormValue>⟧.comparable_value ⟦<ObjectIdentifier<39> as PartialEq>⟧.eq (identifier.contents_eq-law 39 (record { fits = lit< tt })) v.fields.first w.fields.first one.0 in
-        let value = any.encoding_eq-law v.fields.rest.first w.fields.rest.first one.1.0 in
-        let last = eq_both _ _ _ _ _ _ value (λ _. refl, λ _. refl) (encoding-unique ⟦<AnyRef<'a> as Tagged>⟧.tag_of ⟦<AnyRef<'a> as FormValue>⟧.contents ⟦<AnyRef<'a> as Form>⟧.encoding (λ _. refl) v.fields.rest.first w.fields.rest.first _ _) in
-        eq_both _ _ _ _ _ _ kind last (encoding-unique (λ _. tags.ObjectIdentifier) ⟦<ObjectIdentifier<39> as FormValue>⟧.contents ⟦<ObjectIdentifier<39> as Form>⟧.encoding (λ _. refl) v.fields.first w.fields.first _ _) };
+        let first = encoding_eq_tagged _ _ _ _ (identifier.contents_eq-law 39 (record { fits = lit< tt })) v.fields.first w.fields.first one.0 in
+        let rest = eq_both _ _ _ _ _ _ (any.encoding_eq-law v.fields.rest.first w.fields.rest.first one.1.0) (λ _. refl, λ _. refl) (tlv_apart _ _ _ _ _ _) in
+        eq_both _ _ _ _ _ _ first rest (tlv_apart _ _ _ _ _ _) };
 }
 
 impl<'a> CopyIsDuplicate for AttributeTypeAndValue<'a> {}

@@ -4,20 +4,19 @@
 //! refuses with the faults of the fields in their order, and then octets that are left over
 //! (`ErrorKind::TrailingData`, 3).
 
-ghost use Rattle.std.proofs.Common.{◌≡◌, [], ◌++◌, ◌&&◌, ◌∙◌, refl, sym, ap, lit<, append-nil};
-ghost use Rattle.std.proofs.lemmas.Bool.{and_parts};
-ghost use Rattle.der_asn1_types.specs.EqualityLaws.{encoding-unique};
+ghost use Rattle.std.proofs.Common.{◌≡◌, refl, lit<};
 ghost use Rattle.der_asn1_types.specs.OptionLaws.{encoding_eq_option};
 ghost use Rattle.der_asn1_types.specs.Parts.{part_of};
 ghost use Rattle.der_asn1_types.specs.TaggedLaws.{encoding_eq_tagged};
+ghost use Rattle.der_asn1_types.specs.TellingLaws.{eq_both, eq_last, tlv_apart};
 ghost use Rattle.der_asn1_types.specs.AnyRefEncodingEqLaws as any;
 ghost use Rattle.der_asn1_types.specs.ObjectIdentifierContentsEqLaws as identifier;
 
 use der_asn1_types::asn1::{AnyRef, ObjectIdentifier};
 use der_asn1_types::{
     ContentsEq, CopyIsDuplicate, DecodeValue, EncodeValue, End, Error, Field, FieldList,
-    FieldSequence, FieldsPart, FixedTag, Form, FormValue, Header, Length, OneTag, Reader, Sequence,
-    SequenceTag, Tagged, ValueMemory, ValueOrd, WithoutMemory, Writer,
+    FieldSequence, FieldsPart, FormValue, Header, Length, OneTag, Reader, Sequence, SequenceTag,
+    ValueMemory, ValueOrd, WithoutMemory, Writer,
 };
 use std::alloc::Global;
 use std::cmp::Ordering;
@@ -122,10 +121,9 @@ impl<'a> ValueOrd for AlgorithmIdentifier<'a> {
 
 impl<'a> ContentsEq for AlgorithmIdentifier<'a> {
     ghost contents_eq = { λ v w one.
-        let oid = encoding_eq_tagged ⟦<ObjectIdentifier<39> as FixedTag>⟧.TAG ⟦<ObjectIdentifier<39> as FormValue>⟧.contents ⟦<ObjectIdentifier<39> as FormValue>⟧.comparable_value ⟦<ObjectIdentifier<39> as PartialEq>⟧.eq (identifier.contents_eq-law 39 (record { fits = lit< tt })) v.oid w.oid one.0 in let parameters = encoding_eq_option ⟦<AnyRef<'a> as Tagged>⟧.tag_of ⟦<AnyRef<'a> as FormValue>⟧.contents ⟦<AnyRef<'a> as Form>⟧.encoding (λ _. refl) ⟦<AnyRef<'a> as Form>⟧.comparable ⟦<AnyRef<'a> as PartialEq>⟧.eq any.encoding_eq-law v.parameters w.parameters one.1.0 in (
-          λ h. let both = and_parts _ _ h in ap (λ o. o ++ (⟦<Option<AnyRef<'a>> as Form>⟧.encoding v.parameters ++ [])) (oid.0 both.0) ∙ ap (λ o. ⟦<ObjectIdentifier<39> as Form>⟧.encoding w.oid ++ (o ++ [])) (parameters.0 both.1),
-          λ e. let both = encoding-unique (λ _. ⟦<ObjectIdentifier<39> as FixedTag>⟧.TAG) ⟦<ObjectIdentifier<39> as FormValue>⟧.contents ⟦<ObjectIdentifier<39> as Form>⟧.encoding (λ _. refl) v.oid w.oid _ _ e in ap (λ b. b && ⟦<Option<AnyRef<'a>> as PartialEq>⟧.eq v.parameters w.parameters) (oid.1 both.0) ∙ parameters.1 (sym (append-nil _) ∙ both.1 ∙ append-nil _),
-        ) };
+        let oid = encoding_eq_tagged _ _ _ _ (identifier.contents_eq-law 39 (record { fits = lit< tt })) v.oid w.oid one.0 in
+        let parameters = encoding_eq_option _ _ _ (λ _. refl) _ _ any.encoding_eq-law v.parameters w.parameters one.1.0 in
+        eq_both _ _ _ _ _ _ oid (eq_last _ _ _ parameters) (tlv_apart _ _ _ _ _ _) };
 }
 
 impl<'a> CopyIsDuplicate for AlgorithmIdentifier<'a> {}
