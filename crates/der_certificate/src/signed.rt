@@ -1,7 +1,7 @@
 //! Signed certificates (RFC 5280 section 4.1).
 
 ghost use Rattle.der_elem.specs.Decoding.{ReadsAll};
-ghost use Rattle.der_pkix.specs.Writing.{WritesAll};
+ghost use Rattle.der_fields.specs.SequenceWriting.{WritesAll};
 ghost use Rattle.der_certificate.specs.Grammars.{certificate};
 
 use der_bits::BitStringRef;

@@ -1,7 +1,7 @@
 //! The value of the extension authorityKeyIdentifier (RFC 5280 section 4.2.1.1).
 
 ghost use Rattle.der_elem.specs.Decoding.{ReadsAll};
-ghost use Rattle.der_pkix.specs.Writing.{WritesAll};
+ghost use Rattle.der_fields.specs.SequenceWriting.{WritesAll};
 ghost use Rattle.der_extensions.specs.Grammars.{authority_key_identifier};
 
 use der_fields::{End, Field, FieldSequence, Implicit, read_sequence, write_sequence};

@@ -1,7 +1,7 @@
 //! The value of the extension subjectKeyIdentifier (RFC 5280 section 4.2.1.2).
 
 ghost use Rattle.der_elem.specs.Decoding.{ReadsAll};
-ghost use Rattle.der_pkix.specs.Writing.{WritesAll};
+ghost use Rattle.der_fields.specs.SequenceWriting.{WritesAll};
 ghost use Rattle.der_extensions.specs.Grammars.{subject_key_identifier};
 
 use der_elem::{Encode, FromDer};

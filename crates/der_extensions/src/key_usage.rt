@@ -1,7 +1,7 @@
 //! The value of the extension keyUsage (RFC 5280 section 4.2.1.3).
 
 ghost use Rattle.der_elem.specs.Decoding.{ReadsAll};
-ghost use Rattle.der_pkix.specs.Writing.{WritesAll};
+ghost use Rattle.der_fields.specs.SequenceWriting.{WritesAll};
 ghost use Rattle.der_extensions.specs.Grammars.{key_usage};
 
 use der_bits::BitStringRef;

@@ -10,3 +10,4 @@ pub mod ClassTags
 pub mod Defaults
 pub mod DefaultLaws
 pub mod Parts
+pub mod SequenceWriting

@@ -1,4 +1,4 @@
--- What writing a message answers.
+-- What writing a value as a new vector answers.
 use Rattle.std.specs.Prelude.{◌≡◌, ℕ, Result, Ok, Err, Vec}
 use Rattle.std.specs.declared.alloc.Global.{Global}
 use Rattle.der_tlv.specs.declared.error.Error.{Error}

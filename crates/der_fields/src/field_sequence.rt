@@ -6,9 +6,9 @@
 //! Reading refuses with the first fault of the fields, in their order, and then octets that are left
 //! over (`ErrorKind::TrailingData`, 3). The order of two values is that of their encodings.
 
-ghost use Rattle.std.specs.Prelude.{◌≡◌, refl, IfOk, IfErr};
-ghost use Rattle.der_elem.specs.Encoding.{NoVector};
+ghost use Rattle.std.specs.Prelude.{refl};
 ghost use Rattle.der_elem.specs.Decoding.{ReadsAll};
+ghost use Rattle.der_fields.specs.SequenceWriting.{WritesAll};
 
 use crate::coded::{DecodeFields, EncodeFields};
 use crate::copied::DuplicateFields;
@@ -152,10 +152,7 @@ pub fn write_sequence<F: EncodeFields>(
     alloc: Global,
     value: &FieldSequence<F>,
 ) -> Result<Vec<u8>, Error>
-    ensures ok { IfOk result (λ octets.
-        octets.items ≡ ⟦<FieldSequence<F> as Form>⟧.encoding value.now) }
-    ensures err { IfErr result (λ e. NoVector (⟦<FieldSequence<F> as Form>⟧.encoding value.now)
-        (⟦<FieldSequence<F> as Form>⟧.re_reads value.now) e.kind) }
+    ensures { WritesAll ⟦<FieldSequence<F> as Form>⟧ value.now result }
 {
     value.to_der(alloc)
 }

@@ -1,7 +1,7 @@
 //! Algorithms, and public keys with theirs (RFC 5280 sections 4.1.1.2 and 4.1.2.7).
 
 ghost use Rattle.der_elem.specs.Decoding.{ReadsAll};
-ghost use Rattle.der_pkix.specs.Writing.{WritesAll};
+ghost use Rattle.der_fields.specs.SequenceWriting.{WritesAll};
 ghost use Rattle.der_pkix.specs.Grammars.{algorithm_identifier, subject_public_key_info};
 
 use der_bits::BitStringRef;

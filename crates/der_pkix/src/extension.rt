@@ -1,7 +1,7 @@
 //! Extensions of certificates (RFC 5280 section 4.2).
 
 ghost use Rattle.der_elem.specs.Decoding.{ReadsAll};
-ghost use Rattle.der_pkix.specs.Writing.{WritesAll};
+ghost use Rattle.der_fields.specs.SequenceWriting.{WritesAll};
 ghost use Rattle.der_pkix.specs.Grammars.{extension, extensions};
 
 use der_elem::{Encode, FromDer};

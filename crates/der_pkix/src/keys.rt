@@ -1,7 +1,7 @@
 //! Private keys (RFC 5208, RFC 5915) and the public keys of RSA (RFC 8017).
 
 ghost use Rattle.der_elem.specs.Decoding.{ReadsAll};
-ghost use Rattle.der_pkix.specs.Writing.{WritesAll};
+ghost use Rattle.der_fields.specs.SequenceWriting.{WritesAll};
 ghost use Rattle.der_pkix.specs.Grammars.{private_key_info, rsa_public_key, ec_private_key};
 
 use crate::algorithm::AlgorithmIdentifier;

@@ -1,7 +1,7 @@
 //! Names (RFC 5280 section 4.1.2.4).
 
 ghost use Rattle.der_elem.specs.Decoding.{ReadsAll};
-ghost use Rattle.der_pkix.specs.Writing.{WritesAll};
+ghost use Rattle.der_fields.specs.SequenceWriting.{WritesAll};
 ghost use Rattle.der_pkix.specs.Grammars.{attribute_type_and_value, relative_distinguished_name, name};
 
 use crate::attribute::AttributeTypeAndValue;

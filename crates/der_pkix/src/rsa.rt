@@ -1,7 +1,7 @@
 //! The private keys of RSA (RFC 8017 appendix A.1.2).
 
 ghost use Rattle.der_elem.specs.Decoding.{ReadsAll};
-ghost use Rattle.der_pkix.specs.Writing.{WritesAll};
+ghost use Rattle.der_fields.specs.SequenceWriting.{WritesAll};
 ghost use Rattle.der_pkix.specs.Grammars.{rsa_private_key};
 
 use crate::crt::Crt;

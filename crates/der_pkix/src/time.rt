@@ -1,7 +1,7 @@
 //! Times, and the time in which a certificate is valid (RFC 5280 section 4.1.2.5).
 
 ghost use Rattle.der_elem.specs.Decoding.{ReadsAll};
-ghost use Rattle.der_pkix.specs.Writing.{WritesAll};
+ghost use Rattle.der_fields.specs.SequenceWriting.{WritesAll};
 ghost use Rattle.der_pkix.specs.Grammars.{time, validity};
 
 use der_elem::{Encode, FromDer};

@@ -1,7 +1,7 @@
 //! Lists of revoked certificates (RFC 5280 section 5.1).
 
 ghost use Rattle.der_elem.specs.Decoding.{ReadsAll};
-ghost use Rattle.der_pkix.specs.Writing.{WritesAll};
+ghost use Rattle.der_fields.specs.SequenceWriting.{WritesAll};
 ghost use Rattle.der_revocation.specs.Grammars.{tbs_cert_list, certificate_list};
 
 use crate::updates::Updates;

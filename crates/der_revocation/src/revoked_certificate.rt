@@ -1,7 +1,7 @@
 //! An entry of a list of revoked certificates (RFC 5280 section 5.1.2.6).
 
 ghost use Rattle.der_elem.specs.Decoding.{ReadsAll};
-ghost use Rattle.der_pkix.specs.Writing.{WritesAll};
+ghost use Rattle.der_fields.specs.SequenceWriting.{WritesAll};
 ghost use Rattle.der_revocation.specs.Grammars.{revoked_certificate};
 
 use der_fields::{End, Field, FieldSequence, read_sequence, write_sequence};
