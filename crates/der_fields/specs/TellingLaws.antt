@@ -18,6 +18,7 @@ use Rattle.der_elem.specs.declared.form.Form as form
 use Rattle.der_elem.specs.Comparing.{IncomparableOctets, ComparesOctets, Incomparable}
 use Rattle.der_elem.specs.Leading.{SameLeads, Starts, StartsWith}
 use Rattle.der_fields.specs.FieldLists.{Apart, first_of}
+use Rattle.der_fields.specs.Defaults.{octets_unless}
 use Rattle.der_fields.specs.ComparingFields.{lex_leads}
 
 starts_some : {t : Tag} {a : List ℕ} → StartsWith t a → 0 < length a
@@ -165,3 +166,10 @@ same_leads_of {l} {m} {l'} {m'} e f h = subst (λ l. SameLeads l m) e (subst (Sa
 
 pub other_leads_of : {l m l' m' : Option Tag} → l' ≡ l → m' ≡ m → (SameLeads l' m' → ⊥) → SameLeads l m → ⊥
 other_leads_of {l} {m} {l'} {m'} e f h k = h (subst (λ l. SameLeads l m') (sym e) (subst (SameLeads l) (sym f) k))
+
+-- a field that may be absent is found again before an encoding with another tag
+pub unless_apart : (k l : Bool) (t u : Tag) (c d e f x y : List ℕ) → (t ≡ u → ⊥) → octets_unless k (tlv t c) ++ (tlv u e ++ x) ≡ octets_unless l (tlv t d) ++ (tlv u f ++ y) → (octets_unless k (tlv t c) ≡ octets_unless l (tlv t d)) × (tlv u e ++ x ≡ tlv u f ++ y)
+unless_apart true true t u c d e f x y other same = (refl, same)
+unless_apart false false t u c d e f x y other same = tlv_apart t t c d (tlv u e ++ x) (tlv u f ++ y) same
+unless_apart true false t u c d e f x y other same = absurd (other (sym (tlv-unique u t e d x (tlv u f ++ y) same).0))
+unless_apart false true t u c d e f x y other same = absurd (other (tlv-unique t u c f (tlv u e ++ x) y same).0)

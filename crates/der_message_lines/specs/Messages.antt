@@ -186,7 +186,6 @@ unfoldable pub certificate_messages : Table
 certificate_messages name =
     if bytes_eq name (codes "cert") then Some (canonical_tagged Sequence signed_fields)
     else if bytes_eq name (codes "crl") then Some (canonical_tagged Sequence signed_fields)
-    else if bytes_eq name (codes "algid") then Some (canonical_tagged Sequence algorithm_fields)
     else if bytes_eq name (codes "spki") then Some (canonical_tagged Sequence public_key_fields)
     else None
 
@@ -201,10 +200,11 @@ key_messages name =
     else if bytes_eq name (codes "ecpriv") then Some (canonical_tagged Sequence curve_private_fields)
     else None
 
--- SEQUENCEs of any number of items, and types that are no SEQUENCE
+-- SEQUENCEs of any number of items, and one that is a struct
 unfoldable pub item_messages : Table
 item_messages name =
     if bytes_eq name (codes "name") then Some (canonical_tagged Sequence name_items)
+    else if bytes_eq name (codes "algid") then Some (canonical_tagged Sequence algorithm_fields)
     else if bytes_eq name (codes "exts") then Some (canonical_tagged Sequence extension_items)
     else None
 

@@ -66,7 +66,6 @@ fn put_certificate(
         alloc, name, octets, encoding;
         "cert" => Certificate,
         "crl" => CertificateList,
-        "algid" => AlgorithmIdentifier,
         "spki" => SubjectPublicKeyInfo,
     }
 }
@@ -116,6 +115,7 @@ fn put_items(
     choose! {
         alloc, name, octets, encoding;
         "name" => Name,
+        "algid" => AlgorithmIdentifier,
         "exts" => Extensions,
     }
 }

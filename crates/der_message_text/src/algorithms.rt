@@ -23,8 +23,8 @@ pub fn push_algorithm(
     algorithm: &AlgorithmIdentifier<'_>,
 ) -> Result<(), AllocError> {
     push_label(text, &site.place, label)?;
-    push_identifier(alloc, text, algorithm.fields.first.as_bytes())?;
-    if let Some(parameters) = &algorithm.fields.rest.first {
+    push_identifier(alloc, text, algorithm.oid.as_bytes())?;
+    if let Some(parameters) = &algorithm.parameters {
         push_parameters(alloc, text, parameters)?;
     }
     text.push('\n')
@@ -63,7 +63,7 @@ pub fn push_key(
     push_label(text, &site.field(octets, "subjectPublicKey").place, "key")?;
     let bits = key.fields.rest.first.bit_len();
     write!(text, "{bits} bits")?;
-    if key.fields.first.fields.first.as_bytes() == RSA_ENCRYPTION.as_slice() {
+    if key.fields.first.oid.as_bytes() == RSA_ENCRYPTION.as_slice() {
         if let Some(octets) = key.fields.rest.first.as_bytes() {
             push_rsa_key(alloc, text, octets)?;
         }

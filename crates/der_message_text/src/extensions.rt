@@ -35,12 +35,12 @@ pub fn push_extension(
     text: &mut String,
     extension: &Extension<'_>,
 ) -> Result<(), AllocError> {
-    let identifier = extension.fields.first.as_bytes();
+    let identifier = extension.extn_id.as_bytes();
     push_identifier(alloc, text, identifier)?;
-    if extension.fields.rest.first.value {
+    if extension.critical {
         text.push_str(", critical")?;
     }
-    let octets = extension.fields.rest.rest.first.as_bytes();
+    let octets = extension.extn_value.as_bytes();
     let count = octets.len();
     write!(text, ", {count} octets")?;
     push_value(alloc, text, identifier, octets)?;

@@ -4,20 +4,12 @@ ghost use Rattle.der_elem.specs.Decoding.{ReadsAll};
 ghost use Rattle.der_fields.specs.SequenceWriting.{WritesAll};
 ghost use Rattle.der_pkix.specs.Grammars.{algorithm_identifier, subject_public_key_info};
 
+use crate::algorithm_identifier::AlgorithmIdentifier;
 use der_bits::BitStringRef;
+use der_elem::{Encode, FromDer};
 use der_fields::{End, Field, FieldSequence, read_sequence, write_sequence};
-use der_opaque::{AnyRef, ObjectIdentifier};
 use der_tlv::Error;
 use std::alloc::Global;
-
-/// ```text
-/// AlgorithmIdentifier ::= SEQUENCE {
-///     algorithm   OBJECT IDENTIFIER,
-///     parameters  ANY DEFINED BY algorithm OPTIONAL }
-/// ```
-pub type AlgorithmIdentifier<'a> = FieldSequence<
-    Field<ObjectIdentifier<39>, Field<Option<AnyRef<'a>>, End>>,
->;
 
 /// ```text
 /// SubjectPublicKeyInfo ::= SEQUENCE {
@@ -40,7 +32,7 @@ pub fn read_algorithm_identifier<'a>(
 ) -> Result<AlgorithmIdentifier<'a>, Error>
     ensures { ReadsAll algorithm_identifier.grammar bytes.now result }
 {
-    read_sequence(alloc, bytes)
+    AlgorithmIdentifier::from_der(alloc, bytes)
 }
 
 /// The one encoding of an algorithm.
@@ -54,7 +46,7 @@ pub fn write_algorithm_identifier<'a>(
 ) -> Result<Vec<u8>, Error>
     ensures { WritesAll algorithm_identifier.grammar value.now result }
 {
-    write_sequence(alloc, value)
+    value.to_der(alloc)
 }
 
 /// Reads a public key: all of the octets, under DER.

@@ -12,7 +12,7 @@ use der_elem::{
     ContentsEq, CopyIsDuplicate, DecodeValue, EncodeValue, FormValue, OneTag, Sequence,
     SequenceTag, ValueMemory, ValueOrd, WithoutMemory,
 };
-use der_fields::{DecodeFields, EncodeFields, End, Field, FieldList, FieldsOrd};
+use der_fields::{DecodeFields, EncodeFields, End, Field, FieldList, FieldsOrd, FieldsPart};
 use der_opaque::{AnyRef, ObjectIdentifier};
 use der_tlv::{Error, Header, Length, Reader, Writer};
 use std::alloc::Global;
@@ -42,20 +42,12 @@ impl<'a> Sequence<'a> for AttributeTypeAndValue<'a> {
     ghost is_sequence = { refl };
 }
 
-/// A value that is a list of fields.
-pub trait Listed: Sized {
-    ghost use Rattle.der_fields.specs.declared.field_list.FieldList as fields;
-
-    // what the octets of the fields mean
-    ghost list: { fields.Ghosts Self };
-}
-
-impl<'a> Listed for AttributeTypeAndValue<'a> {
+impl<'a> FieldsPart for AttributeTypeAndValue<'a> {
     ghost list = { part_of (λ v. v.fields) ⟦<AttributeFields<'a> as FieldList>⟧ };
 }
 
 impl<'a> FormValue for AttributeTypeAndValue<'a> {
-    ghost use Rattle.der_pkix.specs.contracts.attribute.AttributeTypeAndValueListed.TheImpl.{ghosts as attribute};
+    ghost use Rattle.der_pkix.specs.contracts.attribute.AttributeTypeAndValueFieldsPart.TheImpl.{ghosts as attribute};
 
     ghost contents = { attribute.list.joined };
 

@@ -1,16 +1,35 @@
-//! Extensions of certificates (RFC 5280 section 4.2).
+//! An extension of a certificate (RFC 5280 section 4.2): its meaning and laws are those of a list of
+//! fields.
 
-ghost use Rattle.der_elem.specs.Decoding.{ReadsAll};
-ghost use Rattle.der_fields.specs.SequenceWriting.{WritesAll};
-ghost use Rattle.der_pkix.specs.Grammars.{extension, extensions};
+ghost use Rattle.std.proofs.Common.{◌≡◌, refl, lit<};
+ghost use Rattle.std.specs.Bool.{beq};
+ghost use Rattle.std.specs.Cmp.{booleans_Decides};
+ghost use Rattle.der_tlv.specs.declared.tag.Tag.TheVariants as tags;
+ghost use Rattle.der_elem.specs.Boolean.{boolean_contents, boolean_contents-injective};
+ghost use Rattle.der_elem.specs.OwnContentsLaws.{contents_eq_own};
+ghost use Rattle.der_elem.specs.TaggedLaws.{encoding_eq_tagged};
+ghost use Rattle.der_fields.specs.DefaultLaws.{encoding_eq_default};
+ghost use Rattle.der_fields.specs.Parts.{part_of};
+ghost use Rattle.der_fields.specs.TellingLaws.{eq_both, eq_last, tlv_apart, unless_apart};
+ghost use Rattle.der_opaque.specs.contracts.object_identifier.ObjectIdentifierContentsEq.TheImpl.Laws as identifier;
+ghost use Rattle.der_opaque.specs.contracts.octet_string_ref.OctetStringRefContentsEq.TheImpl.Laws as octets;
 
-use der_elem::{Encode, FromDer};
-use der_fields::{
-    DefaultFalse, End, Field, FieldSequence, WithDefault, read_sequence, write_sequence,
+use der_elem::{
+    ContentsEq, CopyIsDuplicate, DecodeValue, EncodeValue, FormValue, OneTag, Sequence,
+    SequenceTag, ValueMemory, ValueOrd, WithoutMemory,
 };
+use der_fields::{DefaultFalse, End, Field, FieldList, FieldSequence, FieldsPart, WithDefault};
 use der_opaque::{ObjectIdentifier, OctetStringRef};
-use der_tlv::Error;
+use der_tlv::{Error, Header, Length, Reader, Writer};
 use std::alloc::Global;
+use std::cmp::Ordering;
+
+type FieldsOf<'a> = Field<
+    ObjectIdentifier<39>,
+    Field<WithDefault<bool, DefaultFalse>, Field<OctetStringRef<'a>, End>>,
+>;
+
+type Fields<'a> = FieldSequence<FieldsOf<'a>>;
 
 /// ```text
 /// Extension ::= SEQUENCE {
@@ -18,58 +37,134 @@ use std::alloc::Global;
 ///     critical   BOOLEAN DEFAULT FALSE,
 ///     extnValue  OCTET STRING }
 /// ```
-pub type Extension<'a> = FieldSequence<
-    Field<
-        ObjectIdentifier<39>,
-        Field<WithDefault<bool, DefaultFalse>, Field<OctetStringRef<'a>, End>>,
-    >,
->;
-
-/// ```text
-/// Extensions ::= SEQUENCE OF Extension
-/// ```
-///
-/// No extension and one given twice, which RFC 5280 has not, are read too.
-pub type Extensions<'a> = Vec<Extension<'a>>;
-
-/// Reads an extension: all of the octets, under DER.
-///
-/// # Errors
-/// The first fault of the octets, in the order of the fields; (3) where octets are left over; (9)
-/// where there are more than 4294967295; (1) where a type that takes memory has none.
-pub fn read_extension<'a>(alloc: Global, bytes: &'a [u8]) -> Result<Extension<'a>, Error>
-    ensures { ReadsAll extension.grammar bytes.now result }
-{
-    read_sequence(alloc, bytes)
+#[derive(Clone, Copy, Debug, PartialEq, Eq)]
+pub struct Extension<'a> {
+    /// What the extension is.
+    pub extn_id: ObjectIdentifier<39>,
+    /// Whether who doesn't know it has to refuse the certificate.
+    pub critical: bool,
+    /// Its value, as octets.
+    pub extn_value: OctetStringRef<'a>,
 }
 
-/// The one encoding of an extension.
-///
-/// # Errors
-/// (1) where memory runs out; (9) where there are more than 4294967295 octets.
-pub fn write_extension<'a>(alloc: Global, value: &Extension<'a>) -> Result<Vec<u8>, Error>
-    ensures { WritesAll extension.grammar value.now result }
-{
-    write_sequence(alloc, value)
+impl<'a> Extension<'a> {
+    fn list(&self) -> Fields<'a>
+        ensures { result ≡ record {
+          fields = record {
+            first = self.now.extn_id;
+            rest = record {
+              first = record { value = self.now.critical; default = record {} };
+              rest = record {
+                first = self.now.extn_value;
+                rest = record {};
+              };
+            };
+          };
+        } }
+    {
+        let (first, rest) = (self.extn_value, End);
+        let (first, rest) = (WithDefault::new(self.critical), Field { first, rest });
+        let (first, rest) = (self.extn_id, Field { first, rest });
+        let fields = Field { first, rest };
+        FieldSequence { fields }
+    }
 }
 
-/// Reads a list of extensions: all of the octets, under DER.
-///
-/// # Errors
-/// The first fault of the octets, in the order of the extensions; (3) where octets are left over;
-/// (9) where there are more than 4294967295; (1) where memory runs out.
-pub fn read_extensions<'a>(alloc: Global, bytes: &'a [u8]) -> Result<Extensions<'a>, Error>
-    ensures { ReadsAll extensions.grammar bytes.now result }
-{
-    Extensions::from_der(alloc, bytes)
+impl<'a> FieldsPart for Extension<'a> {
+    ghost list = { part_of (λ v. record {
+      first = v.extn_id;
+      rest = record {
+        first = record { value = v.critical; default = record {} };
+        rest = record {
+          first = v.extn_value;
+          rest = record {};
+        };
+      };
+    }) ⟦<FieldsOf<'a> as FieldList>⟧ };
 }
 
-/// The one encoding of a list of extensions.
-///
-/// # Errors
-/// (1) where memory runs out; (9) where there are more than 4294967295 octets.
-pub fn write_extensions<'a>(alloc: Global, value: &Extensions<'a>) -> Result<Vec<u8>, Error>
-    ensures { WritesAll extensions.grammar value.now result }
-{
-    value.to_der(alloc)
+impl<'a> FormValue for Extension<'a> {
+    ghost use Rattle.der_pkix.specs.contracts.extension.ExtensionFieldsPart.TheImpl.{ghosts as fields};
+
+    ghost contents = { fields.list.joined };
+
+    ghost comparable_value = { fields.list.all_comparable };
+
+    ghost re_reads_value = { fields.list.re_read };
+
+    ghost accepts_value = { fields.list.accepts_fields };
+
+    ghost parse_value = { fields.list.parse_fields };
+
+    ghost readable_value = { fields.list.readable_fields };
+
+    ghost parse_of_accepted_value = { fields.list.parse_of_accepted_fields };
+
+    ghost same_length_value = { fields.list.same_length_fields };
+
+    ghost accepts_contents = { fields.list.accepts_joined };
+
+    ghost only_readable_value = { fields.list.only_readable_fields };
+
+    ghost accepts_comparable_value = { fields.list.accepts_all_comparable };
+
+    ghost re_reads_memory_value = { fields.list.re_read_memory };
 }
+
+impl<'a> OneTag for Extension<'a> {
+    type Marker = SequenceTag;
+}
+
+impl<'a> Sequence<'a> for Extension<'a> {
+    ghost is_sequence = { refl };
+}
+
+impl<'a> ValueMemory for Extension<'a> {
+    type OfValue = WithoutMemory;
+
+    ghost memory_of_value = { refl };
+}
+
+impl<'a, R: Reader<'a>> DecodeValue<'a, R> for Extension<'a> {
+    fn decode_value(alloc: Global, reader: &mut R, header: Header) -> Result<Self, Error> {
+        let fields = match Fields::<'a>::decode_value(alloc, reader, header) {
+            Ok(list) => list.fields,
+            Err(e) => return Err(e),
+        };
+        let (extn_id, critical) = (fields.first, fields.rest.first.value);
+        let extn_value = fields.rest.rest.first;
+        Ok(Extension {
+            extn_id,
+            critical,
+            extn_value,
+        })
+    }
+}
+
+impl<'a> EncodeValue for Extension<'a> {
+    fn value_len(&self) -> Result<Length, Error> {
+        self.list().value_len()
+    }
+
+    fn encode_value<W: Writer>(&self, writer: &mut W) -> Result<(), Error> {
+        self.list().encode_value(writer)
+    }
+}
+
+impl<'a> ValueOrd for Extension<'a> {
+    fn value_cmp(&self, other: &Extension<'a>) -> Result<Ordering, Error> {
+        self.list().value_cmp(&other.list())
+    }
+}
+
+impl<'a> ContentsEq for Extension<'a> {
+    ghost contents_eq = { λ v w one.
+        let id = encoding_eq_tagged _ _ _ _ (identifier.contents_eq-law 39 (record { fits = lit< tt })) v.extn_id w.extn_id one.0 in
+        let boolean = contents_eq_own boolean_contents beq booleans_Decides boolean_contents-injective in
+        let critical = encoding_eq_default _ _ _ (λ _. refl) _ _ (encoding_eq_tagged _ _ _ _ boolean) _ v.critical w.critical one.1.0 in
+        let value = encoding_eq_tagged _ _ _ _ octets.contents_eq-law v.extn_value w.extn_value one.1.1.0 in
+        let rest = eq_both _ _ _ _ _ _ critical (eq_last _ _ _ value) (unless_apart _ _ tags.Boolean tags.OctetString _ _ _ _ _ _ (λ e. cc)) in
+        eq_both _ _ _ _ _ _ id rest (tlv_apart _ _ _ _ _ _) };
+}
+
+impl<'a> CopyIsDuplicate for Extension<'a> {}

@@ -2,9 +2,11 @@
 
 ghost use Rattle.der_elem.specs.declared.form.Form as form;
 
-use crate::algorithm::{AlgorithmIdentifier, SubjectPublicKeyInfo};
+use crate::algorithm::SubjectPublicKeyInfo;
+use crate::algorithm_identifier::AlgorithmIdentifier;
 use crate::attribute::AttributeTypeAndValue;
-use crate::extension::{Extension, Extensions};
+use crate::extension::Extension;
+use crate::extensions::Extensions;
 use crate::keys::{EcPrivateKey, PrivateKeyInfo, RsaPublicKey};
 use crate::name::{Name, RelativeDistinguishedName};
 use crate::rsa::RsaPrivateKey;

@@ -4,7 +4,7 @@ ghost use Rattle.der_elem.specs.Decoding.{ReadsAll};
 ghost use Rattle.der_fields.specs.SequenceWriting.{WritesAll};
 ghost use Rattle.der_pkix.specs.Grammars.{private_key_info, rsa_public_key, ec_private_key};
 
-use crate::algorithm::AlgorithmIdentifier;
+use crate::algorithm_identifier::AlgorithmIdentifier;
 use der_bits::BitStringRef;
 use der_fields::{End, Explicit, Field, FieldSequence, read_sequence, write_sequence};
 use der_numbers::UintRef;

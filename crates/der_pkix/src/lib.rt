@@ -7,7 +7,7 @@
 //! let octets = [0x30, 0x05, 0x06, 0x03, 0x2b, 0x65, 0x70];
 //! match read_algorithm_identifier(rt.alloc(), &octets) {
 //!     Ok(algorithm) => {
-//!         assert!(rt; algorithm.fields.rest.first.is_none());
+//!         assert!(rt; algorithm.parameters.is_none());
 //!         match write_algorithm_identifier(rt.alloc(), &algorithm) {
 //!             Ok(written) => assert_eq!(rt; written.as_slice(), octets.as_slice()),
 //!             Err(_) => return Err("no memory".into()),
@@ -19,9 +19,11 @@
 #![tactic(auto)]
 
 mod algorithm;
+mod algorithm_identifier;
 mod attribute;
 mod crt;
 mod extension;
+mod extensions;
 mod grammars;
 mod keys;
 mod name;
@@ -29,13 +31,15 @@ mod rsa;
 mod time;
 
 pub use algorithm::{
-    AlgorithmIdentifier, SubjectPublicKeyInfo, read_algorithm_identifier,
-    read_subject_public_key_info, write_algorithm_identifier, write_subject_public_key_info,
+    SubjectPublicKeyInfo, read_algorithm_identifier, read_subject_public_key_info,
+    write_algorithm_identifier, write_subject_public_key_info,
 };
+pub use algorithm_identifier::AlgorithmIdentifier;
 pub use attribute::{AttributeFields, AttributeTypeAndValue};
 pub use crt::{Crt, CrtFields};
-pub use extension::{
-    Extension, Extensions, read_extension, read_extensions, write_extension, write_extensions,
+pub use extension::Extension;
+pub use extensions::{
+    Extensions, read_extension, read_extensions, write_extension, write_extensions,
 };
 pub use grammars::Message;
 pub use keys::{

@@ -1,4 +1,4 @@
-//! The names by which lines name the types of `der_asn1_types`, and a struct of two named fields.
+//! The names by which lines name the types of `der_asn1_types`, and of an AlgorithmIdentifier of `der_pkix`.
 //!
 //! ```rust
 //! let octets = [0x30, 0x05, 0x06, 0x03, 0x2b, 0x65, 0x70];
@@ -9,8 +9,7 @@
 //! ```
 #![tactic(auto)]
 
-mod algorithm_identifier;
 mod names;
 
-pub use algorithm_identifier::AlgorithmIdentifier;
+pub use der_pkix::AlgorithmIdentifier;
 pub use names::TypeNames;

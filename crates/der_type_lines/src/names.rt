@@ -3,7 +3,6 @@ ghost use Rattle.std.specs.Prelude.{◌≡◌};
 ghost use Rattle.der_lines.specs.Tables.{AnswersAs};
 ghost use Rattle.der_type_lines.specs.Names.{canonical_function_of, plain_types, signed_types, unsigned_types, opaque_types, composed_types, tagged_types, number_types, string_types, bit_types, nested_types, set_types, borrowed_set_types, time_types};
 
-use crate::algorithm_identifier::AlgorithmIdentifier;
 use der_asn1_types::asn1::{
     Any, AnyRef, Application, BitString, BitStringRef, BmpString, ContextSpecific,
     GeneralStringRef, GeneralizedTime, Ia5String, Ia5StringRef, Int, IntRef, Null,
@@ -13,6 +12,7 @@ use der_asn1_types::asn1::{
 };
 use der_asn1_types::{DateTime, Error};
 use der_lines::{KeptWriter, Names, choose, is_name, put_canonical_set};
+use der_pkix::AlgorithmIdentifier;
 use std::alloc::Global;
 
 /// The names of the types of `der_asn1_types`, and of an AlgorithmIdentifier.

@@ -19,7 +19,7 @@ fn der_pkix(rt: HostRuntime) -> Result<(), Fail> {
     let octets = [0x30, 0x05, 0x06, 0x03, 0x2b, 0x65, 0x70];
     match read_algorithm_identifier(rt.alloc(), &octets) {
         Ok(algorithm) => {
-            assert!(rt; algorithm.fields.rest.first.is_none());
+            assert!(rt; algorithm.parameters.is_none());
             match write_algorithm_identifier(rt.alloc(), &algorithm) {
                 Ok(written) => assert_eq!(rt; written.as_slice(), octets.as_slice()),
                 Err(_) => return Err("no memory".into()),

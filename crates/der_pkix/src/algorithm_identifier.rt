@@ -5,19 +5,20 @@
 //! (`ErrorKind::TrailingData`, 3).
 
 ghost use Rattle.std.proofs.Common.{◌≡◌, refl, lit<};
-ghost use Rattle.der_asn1_types.specs.OptionLaws.{encoding_eq_option};
-ghost use Rattle.der_asn1_types.specs.Parts.{part_of};
-ghost use Rattle.der_asn1_types.specs.TaggedLaws.{encoding_eq_tagged};
-ghost use Rattle.der_asn1_types.specs.TellingLaws.{eq_both, eq_last, tlv_apart};
-ghost use Rattle.der_asn1_types.specs.AnyRefEncodingEqLaws as any;
-ghost use Rattle.der_asn1_types.specs.ObjectIdentifierContentsEqLaws as identifier;
+ghost use Rattle.der_elem.specs.OptionLaws.{encoding_eq_option};
+ghost use Rattle.der_elem.specs.TaggedLaws.{encoding_eq_tagged};
+ghost use Rattle.der_fields.specs.Parts.{part_of};
+ghost use Rattle.der_fields.specs.TellingLaws.{eq_both, eq_last, tlv_apart};
+ghost use Rattle.der_opaque.specs.contracts.any_ref.AnyRefEncodingEq.TheImpl.Laws as any;
+ghost use Rattle.der_opaque.specs.contracts.object_identifier.ObjectIdentifierContentsEq.TheImpl.Laws as identifier;
 
-use der_asn1_types::asn1::{AnyRef, ObjectIdentifier};
-use der_asn1_types::{
-    ContentsEq, CopyIsDuplicate, DecodeValue, EncodeValue, End, Error, Field, FieldList,
-    FieldSequence, FieldsPart, FormValue, Header, Length, OneTag, Reader, Sequence, SequenceTag,
-    ValueMemory, ValueOrd, WithoutMemory, Writer,
+use der_elem::{
+    ContentsEq, CopyIsDuplicate, DecodeValue, EncodeValue, FormValue, OneTag, Sequence,
+    SequenceTag, ValueMemory, ValueOrd, WithoutMemory,
 };
+use der_fields::{End, Field, FieldList, FieldSequence, FieldsPart};
+use der_opaque::{AnyRef, ObjectIdentifier};
+use der_tlv::{Error, Header, Length, Reader, Writer};
 use std::alloc::Global;
 use std::cmp::Ordering;
 
@@ -36,7 +37,15 @@ pub struct AlgorithmIdentifier<'a> {
 
 impl<'a> AlgorithmIdentifier<'a> {
     fn list(&self) -> Fields<'a>
-        ensures { result ≡ record { fields = record { first = self.now.oid; rest = record { first = self.now.parameters; rest = record {} } } } }
+        ensures { result ≡ record {
+          fields = record {
+            first = self.now.oid;
+            rest = record {
+              first = self.now.parameters;
+              rest = record {};
+            };
+          };
+        } }
     {
         let (oid, first, rest) = (self.oid, self.parameters, End);
         let (first, rest) = (oid, Field { first, rest });
@@ -46,12 +55,17 @@ impl<'a> AlgorithmIdentifier<'a> {
 }
 
 impl<'a> FieldsPart for AlgorithmIdentifier<'a> {
-    ghost list = { part_of (λ v. record { first = v.oid; rest = record { first = v.parameters; rest = record {} } })
-        ⟦<FieldsOf<'a> as FieldList>⟧ };
+    ghost list = { part_of (λ v. record {
+      first = v.oid;
+      rest = record {
+        first = v.parameters;
+        rest = record {};
+      };
+    }) ⟦<FieldsOf<'a> as FieldList>⟧ };
 }
 
 impl<'a> FormValue for AlgorithmIdentifier<'a> {
-    ghost use Rattle.der_type_lines.specs.contracts.algorithm_identifier.AlgorithmIdentifierFieldsPart.TheImpl.{ghosts as fields};
+    ghost use Rattle.der_pkix.specs.contracts.algorithm_identifier.AlgorithmIdentifierFieldsPart.TheImpl.{ghosts as fields};
 
     ghost contents = { fields.list.joined };
 
