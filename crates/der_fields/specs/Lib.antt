@@ -9,5 +9,6 @@ pub mod CopyingLaws
 pub mod ClassTags
 pub mod Defaults
 pub mod DefaultLaws
+pub mod Listing
 pub mod Parts
 pub mod SequenceWriting

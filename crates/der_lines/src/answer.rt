@@ -1,5 +1,5 @@
 //! The answer to one line.
-ghost use Rattle.std.specs.Prelude.{◌≡◌, ◌≢◌, ◌==◌, ◌<◌, ◌+◌, ◌*◌, ◌++◌, None, Some, length, position, OnOk, IfOk, IfSome, option_map, codes, if◌then◌else◌};
+ghost use Rattle.std.specs.Prelude.{◌≡◌, ◌≢◌, [], ◌==◌, ◌<◌, ◌+◌, ◌*◌, ◌++◌, None, Some, length, position, OnOk, IfOk, IfSome, option_map, codes, if◌then◌else◌};
 ghost use Rattle.hex.specs.Hex.{encode_lower};
 ghost use Rattle.der_tlv.specs.declared.error.ErrorKind.TheVariants.{Memory};
 ghost use Rattle.der_lines.specs.Answer.{answer_of, accepted_of, refused_of, octets_of, parts_of};
@@ -21,7 +21,9 @@ pub struct Room {
 
 impl Room {
     /// Room for nothing yet.
-    pub fn new(alloc: Global) -> Room {
+    pub fn new(alloc: Global) -> Room
+        ensures { result.reply.items ≡ [] }
+    {
         Room {
             octets: Vec::new(alloc),
             encoding: KeptWriter::new(alloc),

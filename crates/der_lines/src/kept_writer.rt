@@ -19,7 +19,10 @@ pub struct KeptWriter {
 
 impl KeptWriter {
     /// A writer that holds nothing. It takes no memory yet.
-    pub fn new(alloc: Global) -> KeptWriter {
+    pub fn new(alloc: Global) -> KeptWriter
+        ensures octets { result.octets.items ≡ [] }
+        ensures failed { result.failed ≡ false }
+    {
         KeptWriter {
             octets: Vec::new(alloc),
             failed: false,

@@ -7,6 +7,7 @@
 ghost use Rattle.std.proofs.Common.{◌≡◌, refl, lit<};
 ghost use Rattle.der_elem.specs.OptionLaws.{encoding_eq_option};
 ghost use Rattle.der_elem.specs.TaggedLaws.{encoding_eq_tagged};
+ghost use Rattle.der_fields.specs.Listing.{field, end};
 ghost use Rattle.der_fields.specs.Parts.{part_of};
 ghost use Rattle.der_fields.specs.TellingLaws.{eq_both, eq_last, tlv_apart};
 ghost use Rattle.der_opaque.specs.contracts.any_ref.AnyRefEncodingEq.TheImpl.Laws as any;
@@ -37,15 +38,7 @@ pub struct AlgorithmIdentifier<'a> {
 
 impl<'a> AlgorithmIdentifier<'a> {
     fn list(&self) -> Fields<'a>
-        ensures { result ≡ record {
-          fields = record {
-            first = self.now.oid;
-            rest = record {
-              first = self.now.parameters;
-              rest = record {};
-            };
-          };
-        } }
+        ensures { result.fields ≡ field self.now.oid (field self.now.parameters end) }
     {
         let (oid, first, rest) = (self.oid, self.parameters, End);
         let (first, rest) = (oid, Field { first, rest });
@@ -55,13 +48,7 @@ impl<'a> AlgorithmIdentifier<'a> {
 }
 
 impl<'a> FieldsPart for AlgorithmIdentifier<'a> {
-    ghost list = { part_of (λ v. record {
-      first = v.oid;
-      rest = record {
-        first = v.parameters;
-        rest = record {};
-      };
-    }) ⟦<FieldsOf<'a> as FieldList>⟧ };
+    ghost list = { part_of (λ v. field v.oid (field v.parameters end)) ⟦<FieldsOf<'a> as FieldList>⟧ };
 }
 
 impl<'a> FormValue for AlgorithmIdentifier<'a> {

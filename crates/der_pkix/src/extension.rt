@@ -9,6 +9,7 @@ ghost use Rattle.der_elem.specs.Boolean.{boolean_contents, boolean_contents-inje
 ghost use Rattle.der_elem.specs.OwnContentsLaws.{contents_eq_own};
 ghost use Rattle.der_elem.specs.TaggedLaws.{encoding_eq_tagged};
 ghost use Rattle.der_fields.specs.DefaultLaws.{encoding_eq_default};
+ghost use Rattle.der_fields.specs.Listing.{field, end, with_default};
 ghost use Rattle.der_fields.specs.Parts.{part_of};
 ghost use Rattle.der_fields.specs.TellingLaws.{eq_both, eq_last, tlv_apart, unless_apart};
 ghost use Rattle.der_opaque.specs.contracts.object_identifier.ObjectIdentifierContentsEq.TheImpl.Laws as identifier;
@@ -49,18 +50,7 @@ pub struct Extension<'a> {
 
 impl<'a> Extension<'a> {
     fn list(&self) -> Fields<'a>
-        ensures { result ≡ record {
-          fields = record {
-            first = self.now.extn_id;
-            rest = record {
-              first = record { value = self.now.critical; default = record {} };
-              rest = record {
-                first = self.now.extn_value;
-                rest = record {};
-              };
-            };
-          };
-        } }
+        ensures { result.fields ≡ field self.now.extn_id (field (with_default self.now.critical) (field self.now.extn_value end)) }
     {
         let (first, rest) = (self.extn_value, End);
         let (first, rest) = (WithDefault::new(self.critical), Field { first, rest });
@@ -71,16 +61,8 @@ impl<'a> Extension<'a> {
 }
 
 impl<'a> FieldsPart for Extension<'a> {
-    ghost list = { part_of (λ v. record {
-      first = v.extn_id;
-      rest = record {
-        first = record { value = v.critical; default = record {} };
-        rest = record {
-          first = v.extn_value;
-          rest = record {};
-        };
-      };
-    }) ⟦<FieldsOf<'a> as FieldList>⟧ };
+    ghost list = { part_of (λ v. field v.extn_id (field (with_default v.critical) (field v.extn_value end)))
+        ⟦<FieldsOf<'a> as FieldList>⟧ };
 }
 
 impl<'a> FormValue for Extension<'a> {
