@@ -1,6 +1,6 @@
 //! A message's octets and its kind from PEM text (RFC 7468).
 
-ghost use Rattle.std.specs.Prelude.{◌≡◌, false, IfOk};
+ghost use Rattle.std.specs.Prelude.{◌≡◌, false, true, IfOk, IfErr};
 ghost use Rattle.der_message_text.specs.Kinds.{kind_of};
 ghost use Rattle.der_message_text.specs.Pem.{is_pem};
 
@@ -41,6 +41,7 @@ pub struct Message {
 pub fn message_of(alloc: Global, input: Vec<u8>) -> Result<Message, Fault>
     ensures octets { IfOk result (λ m. is_pem input.items ≡ false → m.octets.items ≡ input.items) }
     ensures kind { IfOk result (λ m. is_pem input.items ≡ false → m.kind ≡ kind_of input.items) }
+    ensures text { IfErr result (λ fault. is_pem input.items ≡ true) }
 {
     match input.as_slice() {
         [b'-', ..] => decoded(alloc, input.as_slice()),
