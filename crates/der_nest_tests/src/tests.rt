@@ -5,6 +5,7 @@ use der_nest::{SequenceOf, SequenceRef, SetOf, SetOfVec};
 use der_tlv::Error;
 use std::alloc::Global;
 use std::cmp::Ordering;
+use std::fmt::Debug;
 use std::hash::{DefaultHasher, Hash, Hasher};
 use std::process::Abort;
 use std::test::Fail;
@@ -15,6 +16,24 @@ mod counting;
 mod history;
 mod many;
 mod probes;
+
+/// Asserts that what was found is what is wanted.
+///
+/// The proof of a test takes an assertion in its own body with all that stands before it; so
+/// assertions stand in functions of their own, and each is proved once.
+fn same<T: PartialEq + Debug + Drop>(rt: &impl Abort, found: T, wanted: T) {
+    assert_eq!(rt; found, wanted);
+}
+
+/// The same in one of several cases, which is told where it fails.
+fn same_in<C: Debug, T: PartialEq + Debug + Drop>(rt: &impl Abort, case: &C, found: T, wanted: T) {
+    assert_eq!(rt; found, wanted, "{case:?}");
+}
+
+/// Asserts that the condition holds.
+fn holds(rt: &impl Abort, condition: bool) {
+    assert!(rt; condition);
+}
 
 // The number of a refusal.
 fn numbered<T>(answer: Result<T, Error>) -> Result<T, u8> {
@@ -33,14 +52,15 @@ fn reads_as<'a, T: FromDer<'a> + Encode + Duplicate + DerOrd + EncodingEq>(
 ) -> Result<(), u8> {
     let value = numbered(T::from_der(alloc, octets))?;
     let written = numbered(value.to_der(alloc))?;
-    assert_eq!(rt; written.as_slice(), canonical);
-    assert_eq!(rt;
+    same(rt, written.as_slice(), canonical);
+    same(
+        rt,
         numbered(value.encoded_len())?.value() as usize,
-        canonical.len()
+        canonical.len(),
     );
     let copy = numbered(value.duplicate())?;
-    assert!(rt; copy == value);
-    assert_eq!(rt; numbered(copy.der_cmp(&value)), Ok(Ordering::Equal));
+    holds(rt, copy == value);
+    same(rt, numbered(copy.der_cmp(&value)), Ok(Ordering::Equal));
     Ok(())
 }
 
@@ -75,76 +95,81 @@ fn sets_refuse_other_octets(rt: HostRuntime) {
     let three = [
         0x31, 0x09, 0x02, 0x01, 0x03, 0x02, 0x01, 0x02, 0x02, 0x01, 0x01,
     ];
-    assert_eq!(rt; refusals(alloc, &three), (None, Some(10)));
+    same(&rt, refusals(alloc, &three), (None, Some(10)));
     let other = [
         0x31, 0x09, 0x02, 0x01, 0x03, 0x02, 0x01, 0x02, 0x01, 0x01, 0xff,
     ];
-    assert_eq!(rt; refusals(alloc, &other), (Some(4), Some(4)));
-    assert_eq!(rt; refusals(alloc, &[0x30, 0x00]), (Some(4), Some(4)));
-    assert_eq!(rt;
+    same(&rt, refusals(alloc, &other), (Some(4), Some(4)));
+    same(&rt, refusals(alloc, &[0x30, 0x00]), (Some(4), Some(4)));
+    same(
+        &rt,
         refusals(alloc, &[0x31, 0x04, 0x02, 0x02, 0x00, 0x05]),
-        (Some(8), Some(8))
+        (Some(8), Some(8)),
     );
-    assert_eq!(rt;
+    same(
+        &rt,
         refusals(alloc, &[0x31, 0x03, 0x02, 0x01, 0x05, 0x00]),
-        (Some(3), Some(3))
+        (Some(3), Some(3)),
     );
 }
 
 // The calls of a set on the heap, with items of which each is greater than those before it.
 fn heap_calls(rt: &impl Abort, alloc: Global, a: i32, b: i32, c: i32) -> Result<(), Fail> {
     let mut set: SetOfVec<i32> = SetOfVec::new(alloc);
-    assert!(rt; set.is_empty());
+    holds(rt, set.is_empty());
     numbered(set.insert(c))?;
     numbered(set.insert(b))?;
     numbered(set.insert(c))?;
-    assert!(rt; set.as_slice() == [b, c, c].as_slice());
-    assert_eq!(rt; set.len(), 3);
-    assert!(rt; set.get(0) == Some(&b));
-    assert!(rt; set.get(3).is_none());
-    assert_eq!(rt; set.iter().len(), 3);
-    assert_eq!(rt; numbered(set.insert_ordered(b)), Err(11));
-    assert!(rt; set.as_slice() == [b, c, c].as_slice());
+    holds(rt, set.as_slice() == [b, c, c].as_slice());
+    same(rt, set.len(), 3);
+    holds(rt, set.get(0) == Some(&b));
+    holds(rt, set.get(3).is_none());
+    same(rt, set.iter().len(), 3);
+    same(rt, numbered(set.insert_ordered(b)), Err(11));
+    holds(rt, set.as_slice() == [b, c, c].as_slice());
     numbered(set.insert_ordered(c))?;
     numbered(set.extend(Vec::from_array(alloc, [c, a])?))?;
-    assert!(rt; set.as_slice() == [a, b, c, c, c, c].as_slice());
+    holds(rt, set.as_slice() == [a, b, c, c, c, c].as_slice());
     let again: SetOfVec<i32> = numbered(SetOfVec::from_iter(
         alloc,
         Vec::from_array(alloc, [c, b, c, a, c, c])?,
     ))?;
-    assert!(rt; again == set);
-    let same: SetOfVec<i32> = numbered(SetOfVec::from_array(alloc, [c, c, a, b, c, c]))?;
-    assert!(rt; same == set);
+    holds(rt, again == set);
+    let of_array: SetOfVec<i32> = numbered(SetOfVec::from_array(alloc, [c, c, a, b, c, c]))?;
+    holds(rt, of_array == set);
     let sorted: SetOfVec<i32> = numbered(SetOfVec::try_from(Vec::from_array(
         alloc,
         [c, a, c, a, b, a, c],
     )?))?;
     let items: Vec<i32> = sorted.into();
-    assert!(rt; items.as_slice() == [a, a, a, b, c, c, c].as_slice());
-    assert!(rt; same.into_vec().as_slice() == [a, b, c, c, c, c].as_slice());
+    holds(rt, items.as_slice() == [a, a, a, b, c, c, c].as_slice());
+    holds(
+        rt,
+        of_array.into_vec().as_slice() == [a, b, c, c, c, c].as_slice(),
+    );
     Ok(())
 }
 
 // The calls of a set of two items, with items of which each is greater than those before it.
 fn array_calls(rt: &impl Abort, a: u16, b: u16, c: u16, d: u16) -> Result<(), Fail> {
     let mut set: SetOf<u16, 2> = SetOf::new();
-    assert!(rt; set.is_empty());
+    holds(rt, set.is_empty());
     numbered(set.insert(c))?;
     numbered(set.insert(b))?;
-    assert_eq!(rt; numbered(set.insert(a)), Err(10));
-    assert_eq!(rt; numbered(set.insert_ordered(a)), Err(11));
-    assert_eq!(rt; numbered(set.insert_ordered(d)), Err(10));
-    assert!(rt; set.as_slice() == [b, c].as_slice());
-    assert!(rt; set.get(0) == Some(&b));
-    assert_eq!(rt; set.iter().len(), set.len());
-    assert!(rt; set.into_inner().as_slice() == [b, c].as_slice());
+    same(rt, numbered(set.insert(a)), Err(10));
+    same(rt, numbered(set.insert_ordered(a)), Err(11));
+    same(rt, numbered(set.insert_ordered(d)), Err(10));
+    holds(rt, set.as_slice() == [b, c].as_slice());
+    holds(rt, set.get(0) == Some(&b));
+    same(rt, set.iter().len(), set.len());
+    holds(rt, set.into_inner().as_slice() == [b, c].as_slice());
     let mut twice: SetOf<u16, 10> = SetOf::default();
     numbered(twice.insert(b))?;
     numbered(twice.insert(b))?;
     numbered(twice.insert_ordered(c))?;
-    assert!(rt; twice.as_slice() == [b, b, c].as_slice());
+    holds(rt, twice.as_slice() == [b, b, c].as_slice());
     let five: SetOf<u16, 5> = numbered(SetOf::try_from([c, b, b, d, a]))?;
-    assert!(rt; five.as_slice() == [a, b, b, c, d].as_slice());
+    holds(rt, five.as_slice() == [a, b, b, c, d].as_slice());
     Ok(())
 }
 
@@ -167,13 +192,13 @@ fn set_order(alloc: Global, small: u16, great: u16) -> Result<(Ordering, Orderin
 #[test]
 fn items_decide_the_order_before_their_number(rt: HostRuntime) -> Result<(), Fail> {
     let order = set_order(rt.alloc(), 7, 8)?;
-    assert!(rt; order == (Ordering::Greater, Ordering::Less));
+    holds(&rt, order == (Ordering::Greater, Ordering::Less));
     let mut one: SequenceOf<u16, 2> = SequenceOf::new();
     numbered(one.add(8))?;
     let mut two: SequenceOf<u16, 2> = SequenceOf::new();
     numbered(two.add(8))?;
     numbered(two.add(7))?;
-    assert_eq!(rt; numbered(one.value_cmp(&two)), Ok(Ordering::Less));
+    same(&rt, numbered(one.value_cmp(&two)), Ok(Ordering::Less));
     Ok(())
 }
 
@@ -188,12 +213,16 @@ fn pair(first: u16, second: u16) -> Result<SequenceOf<u16, 2>, u8> {
 #[test]
 fn the_first_items_that_differ_decide(rt: HostRuntime) -> Result<(), Fail> {
     let (great, small) = (pair(0, 2)?, pair(0, 1)?);
-    assert_eq!(rt; numbered(great.der_cmp(&small)), Ok(Ordering::Greater));
-    assert_eq!(rt; numbered(great.value_cmp(&small)), Ok(Ordering::Greater));
+    same(&rt, numbered(great.der_cmp(&small)), Ok(Ordering::Greater));
+    same(
+        &rt,
+        numbered(great.value_cmp(&small)),
+        Ok(Ordering::Greater),
+    );
     let alloc = rt.alloc();
     let great: SetOfVec<u16> = numbered(SetOfVec::from_array(alloc, [0, 1, 2, 3, 5]))?;
     let small: SetOfVec<u16> = numbered(SetOfVec::from_array(alloc, [0, 1, 2, 3, 4]))?;
-    assert_eq!(rt; numbered(great.der_cmp(&small)), Ok(Ordering::Greater));
+    same(&rt, numbered(great.der_cmp(&small)), Ok(Ordering::Greater));
     Ok(())
 }
 
@@ -202,9 +231,9 @@ fn equal_items_are_kept(rt: HostRuntime) -> Result<(), Fail> {
     let alloc = rt.alloc();
     let items = Vec::from_array(alloc, [5u16, 1, 5, 1, 3, 1, 5])?;
     let set = numbered(SetOfVec::try_from(items))?;
-    assert!(rt; set.as_slice() == [1, 1, 1, 3, 5, 5, 5].as_slice());
+    holds(&rt, set.as_slice() == [1, 1, 1, 3, 5, 5, 5].as_slice());
     let written = numbered(set.to_der(alloc))?;
-    assert_eq!(rt; written.get(0..2), Some([0x31u8, 0x15].as_slice()));
+    same(&rt, written.get(0..2), Some([0x31u8, 0x15].as_slice()));
     Ok(())
 }
 
@@ -220,21 +249,21 @@ fn sets_are_compared_as_values(rt: HostRuntime) -> Result<(), Fail> {
     let small: SetOfVec<i32> = numbered(SetOfVec::from_array(rt.alloc(), [127, -1000]))?;
     let great: SetOfVec<i32> = numbered(SetOfVec::from_array(rt.alloc(), [1000, 127]))?;
     // By numbers 127, -1000 is before 127, 1000; by encodings, 02 02 03 E8 is before 02 02 FC 18.
-    assert_eq!(rt; small.cmp(&great), Ordering::Less);
-    assert_eq!(rt; numbered(small.der_cmp(&great)), Ok(Ordering::Greater));
-    assert!(rt; small != great);
-    assert_eq!(rt; small.partial_cmp(&small), Some(Ordering::Equal));
-    assert_eq!(rt; hashed(&small), hashed(&small));
+    same(&rt, small.cmp(&great), Ordering::Less);
+    same(&rt, numbered(small.der_cmp(&great)), Ok(Ordering::Greater));
+    holds(&rt, small != great);
+    same(&rt, small.partial_cmp(&small), Some(Ordering::Equal));
+    same(&rt, hashed(&small), hashed(&small));
     let two: SetOf<u16, 2> = numbered(SetOf::try_from([8, 7]))?;
-    let same: SetOf<u16, 2> = numbered(SetOf::try_from([7, 8]))?;
-    assert!(rt; two == same);
-    assert_eq!(rt; two.cmp(&same), Ordering::Equal);
-    assert_eq!(rt; two.partial_cmp(&same), Some(Ordering::Equal));
-    assert_eq!(rt; hashed(&two), hashed(&same));
+    let of_array: SetOf<u16, 2> = numbered(SetOf::try_from([7, 8]))?;
+    holds(&rt, two == of_array);
+    same(&rt, two.cmp(&of_array), Ordering::Equal);
+    same(&rt, two.partial_cmp(&of_array), Some(Ordering::Equal));
+    same(&rt, hashed(&two), hashed(&of_array));
     let mut sequence: SequenceOf<u16, 2> = SequenceOf::new();
     numbered(sequence.add(8))?;
     let text = format!(in rt.alloc(); "{small:?} {two:?} {sequence:?}")?;
-    assert_eq!(rt; text.as_str(), "[127, -1000] [7, 8] [8]");
+    same(&rt, text.as_str(), "[127, -1000] [7, 8] [8]");
     Ok(())
 }
 
@@ -242,32 +271,33 @@ fn sets_are_compared_as_values(rt: HostRuntime) -> Result<(), Fail> {
 fn sequences_of_fixed_capacity(rt: HostRuntime) -> Result<(), Fail> {
     let alloc = rt.alloc();
     let mut sequence: SequenceOf<u16, 2> = SequenceOf::default();
-    assert!(rt; sequence.is_empty());
+    holds(&rt, sequence.is_empty());
     numbered(sequence.add(8))?;
     numbered(sequence.add(7))?;
-    assert_eq!(rt; numbered(sequence.add(6)), Err(10));
-    assert_eq!(rt; sequence.as_slice(), [8, 7].as_slice());
-    assert_eq!(rt; sequence.get(1), Some(&7));
-    assert_eq!(rt; sequence.iter().len(), sequence.len());
+    same(&rt, numbered(sequence.add(6)), Err(10));
+    same(&rt, sequence.as_slice(), [8, 7].as_slice());
+    same(&rt, sequence.get(1), Some(&7));
+    same(&rt, sequence.iter().len(), sequence.len());
     let written = numbered(sequence.to_der(alloc))?;
     let octets = [0x30, 0x06, 0x02, 0x01, 0x08, 0x02, 0x01, 0x07];
-    assert_eq!(rt; written.as_slice(), octets.as_slice());
+    same(&rt, written.as_slice(), octets.as_slice());
     let items = sequence.as_mut_slice();
     if items.len() == 2 {
         items[1] = 9;
     }
-    assert_eq!(rt; sequence.into_inner().as_slice(), [8, 9].as_slice());
+    same(&rt, sequence.into_inner().as_slice(), [8, 9].as_slice());
     reads_as::<SequenceOf<u16, 2>>(&rt, alloc, &octets, &octets)?;
     let six = [
         0x30, 0x12, 0x02, 0x01, 0x00, 0x02, 0x01, 0x00, 0x02, 0x01, 0x00, 0x02, 0x01, 0x00, 0x02,
         0x01, 0x00, 0x02, 0x01, 0x00,
     ];
-    assert_eq!(rt;
+    same(
+        &rt,
         numbered(SequenceOf::<u16, 5>::from_der(alloc, &six)).err(),
-        Some(10)
+        Some(10),
     );
     reads_as::<SequenceOf<u16, 6>>(&rt, alloc, &six, &six)?;
-    assert!(rt; !SequenceOf::<u16, 2>::TAKES_MEMORY);
+    holds(&rt, !SequenceOf::<u16, 2>::TAKES_MEMORY);
     Ok(())
 }
 
@@ -276,9 +306,9 @@ fn sequences_that_are_not_looked_at(rt: HostRuntime) {
     let Ok(shorter) = SequenceRef::new(&[0xff, 0xff]) else {
         return;
     };
-    assert_eq!(rt; shorter.as_bytes(), [0xff, 0xff].as_slice());
+    same(&rt, shorter.as_bytes(), [0xff, 0xff].as_slice());
     let Ok(longer) = SequenceRef::new(&[0xff, 0xff, 0x00]) else {
         return;
     };
-    assert_eq!(rt; shorter.cmp(&longer), Ordering::Less);
+    same(&rt, shorter.cmp(&longer), Ordering::Less);
 }

@@ -9,10 +9,30 @@ use der_tlv::{
 };
 use std::alloc::{AllocError, Global};
 use std::cmp::Ordering;
+use std::fmt::Debug;
+use std::process::Abort;
 use std::test::Fail;
 
 mod blocks;
 mod tag;
+
+/// Asserts that what was found is what is wanted.
+///
+/// The proof of a test takes an assertion in its own body with all that stands before it; so
+/// assertions stand in functions of their own, and each is proved once.
+fn same<T: PartialEq + Debug + Drop>(rt: &impl Abort, found: T, wanted: T) {
+    assert_eq!(rt; found, wanted);
+}
+
+/// The same in one of several cases, which is told where it fails.
+fn same_in<C: Debug, T: PartialEq + Debug + Drop>(rt: &impl Abort, case: &C, found: T, wanted: T) {
+    assert_eq!(rt; found, wanted, "{case:?}");
+}
+
+/// Asserts that the condition holds.
+fn holds(rt: &impl Abort, condition: bool) {
+    assert!(rt; condition);
+}
 
 /// What was refused, if anything was.
 fn fault<T: Drop>(outcome: Result<T, Error>) -> Option<ErrorKind> {
@@ -156,7 +176,7 @@ fn values(rt: HostRuntime) {
     ];
     for (octets, number) in rows {
         let found = fault_of_value(octets).map_or(0, |kind| kind.number());
-        assert_eq!(rt; found, number, "{octets:?}");
+        same_in(&rt, &octets, found, number);
     }
 }
 
@@ -174,9 +194,10 @@ fn incomplete_values(rt: HostRuntime) {
         ),
     ];
     for (octets, expected_len, actual_len) in rows {
-        assert_eq!(rt;
+        same(
+            &rt,
             fault_of_value(octets),
-            incomplete(expected_len, actual_len)
+            incomplete(expected_len, actual_len),
         );
     }
 }
@@ -197,10 +218,10 @@ fn lengths_there_and_back(rt: HostRuntime) -> Result<(), Fail> {
     ];
     for (len, octets) in rows {
         let header = Header::new(Tag::OctetString, Length::new(len));
-        assert_eq!(rt; usize::from(header.encoded_len()), octets.len(), "{len}");
+        same_in(&rt, &len, usize::from(header.encoded_len()), octets.len());
         let found = written(rt.alloc(), header)?;
-        assert_eq!(rt; found.as_slice(), octets, "{len}");
-        assert_eq!(rt; length_of_header(octets)?, len);
+        same_in(&rt, &len, found.as_slice(), octets);
+        same(&rt, length_of_header(octets)?, len);
     }
     Ok(())
 }
@@ -225,8 +246,8 @@ fn tag_numbers_there_and_back(rt: HostRuntime) -> Result<(), Fail> {
             number: TagNumber(number),
         };
         let found = written(rt.alloc(), Header::new(tag, Length::ZERO))?;
-        assert_eq!(rt; found.as_slice(), octets, "{number}");
-        assert_eq!(rt; tag_of_header(octets)?, tag);
+        same_in(&rt, &number, found.as_slice(), octets);
+        same(&rt, tag_of_header(octets)?, tag);
     }
     Ok(())
 }
@@ -238,58 +259,58 @@ fn integer_header(len: u32) -> Header {
 
 #[test]
 fn headers(rt: HostRuntime) {
-    assert_eq!(rt; integer_header(300).tag(), Tag::Integer);
-    assert_eq!(rt; integer_header(300).length().value(), 300);
-    assert_eq!(rt; integer_header(127).encoded_len().value(), 2);
-    assert_eq!(rt; integer_header(300).encoded_len().value(), 4);
+    same(&rt, integer_header(300).tag(), Tag::Integer);
+    same(&rt, integer_header(300).length().value(), 300);
+    same(&rt, integer_header(127).encoded_len().value(), 2);
+    same(&rt, integer_header(300).encoded_len().value(), 4);
     let longest = Header::new(long_tag(), Length::MAX);
-    assert_eq!(rt; longest.encoded_len().value(), 11);
+    same(&rt, longest.encoded_len().value(), 11);
 }
 
 #[test]
 fn length_arithmetic(rt: HostRuntime) -> Result<(), Fail> {
-    assert_eq!(rt; Length::of(0)?, Length::ZERO);
-    assert_eq!(rt; Length::of(0xffff_ffff)?, Length::MAX);
-    assert_eq!(rt; refusal(Length::of(0x1_0000_0000)), 9);
-    assert_eq!(rt; refusal(Length::of(usize::MAX)), 9);
-    assert_eq!(rt; Length::new(5).add(Length::ONE)?.value(), 6);
-    assert_eq!(rt; Length::MAX.add(Length::ZERO)?, Length::MAX);
-    assert_eq!(rt; refusal(Length::MAX.add(Length::ONE)), 9);
-    assert_eq!(rt; Length::new(5).sub(Length::ONE)?.value(), 4);
-    assert_eq!(rt; Length::MAX.sub(Length::MAX)?, Length::ZERO);
-    assert_eq!(rt; refusal(Length::ZERO.sub(Length::ONE)), 9);
-    assert!(rt; Length::ZERO.is_zero());
-    assert!(rt; !Length::ONE.is_zero());
-    assert!(rt; Length::ONE < Length::MAX);
+    same(&rt, Length::of(0)?, Length::ZERO);
+    same(&rt, Length::of(0xffff_ffff)?, Length::MAX);
+    same(&rt, refusal(Length::of(0x1_0000_0000)), 9);
+    same(&rt, refusal(Length::of(usize::MAX)), 9);
+    same(&rt, Length::new(5).add(Length::ONE)?.value(), 6);
+    same(&rt, Length::MAX.add(Length::ZERO)?, Length::MAX);
+    same(&rt, refusal(Length::MAX.add(Length::ONE)), 9);
+    same(&rt, Length::new(5).sub(Length::ONE)?.value(), 4);
+    same(&rt, Length::MAX.sub(Length::MAX)?, Length::ZERO);
+    same(&rt, refusal(Length::ZERO.sub(Length::ONE)), 9);
+    holds(&rt, Length::ZERO.is_zero());
+    holds(&rt, !Length::ONE.is_zero());
+    holds(&rt, Length::ONE < Length::MAX);
     Ok(())
 }
 
 #[test]
 fn length_conversions(rt: HostRuntime) -> Result<(), Fail> {
-    assert_eq!(rt; Length::try_from(7_usize)?, Length::from(7_u32));
-    assert_eq!(rt; refusal(Length::try_from(0x1_0000_0000_usize)), 9);
-    assert_eq!(rt; usize::from(Length::MAX), 0xffff_ffff);
-    assert_eq!(rt; u32::from(Length::MAX), 0xffff_ffff);
+    same(&rt, Length::try_from(7_usize)?, Length::from(7_u32));
+    same(&rt, refusal(Length::try_from(0x1_0000_0000_usize)), 9);
+    same(&rt, usize::from(Length::MAX), 0xffff_ffff);
+    same(&rt, u32::from(Length::MAX), 0xffff_ffff);
     Ok(())
 }
 
 #[test]
 fn reads(rt: HostRuntime) {
     let mut reader = reader_of(&[1, 2, 3, 4, 5, 6]);
-    assert_eq!(rt; next(&mut reader), Some(1));
-    assert!(rt; reads_next(&mut reader, &[2, 3]));
+    same(&rt, next(&mut reader), Some(1));
+    holds(&rt, reads_next(&mut reader, &[2, 3]));
     let mut buffer = [0; 2];
     match reader.read_into(&mut buffer) {
-        Ok(octets) => assert_eq!(rt; octets, [4, 5].as_slice()),
+        Ok(octets) => same(&rt, octets, [4, 5].as_slice()),
         Err(_) => assert!(rt; false, "three octets are left"),
     }
-    assert_eq!(rt; buffer, [4, 5]);
-    assert_eq!(rt; reader.position().value(), 5);
-    assert_eq!(rt; reader.remaining_len(), Length::ONE);
-    assert!(rt; !reader.is_finished());
-    assert_eq!(rt; next(&mut reader), Some(6));
-    assert!(rt; reader.is_finished());
-    assert_eq!(rt; refusal(reader.finish()), 0);
+    same(&rt, buffer, [4, 5]);
+    same(&rt, reader.position().value(), 5);
+    same(&rt, reader.remaining_len(), Length::ONE);
+    holds(&rt, !reader.is_finished());
+    same(&rt, next(&mut reader), Some(6));
+    holds(&rt, reader.is_finished());
+    same(&rt, refusal(reader.finish()), 0);
 }
 
 #[test]
@@ -298,18 +319,18 @@ fn rewinds(rt: HostRuntime) {
     match reader.read_slice(Length::new(3)) {
         Ok(octets) => {
             reader.rewind(Length::ONE);
-            assert_eq!(rt; octets, [1, 2, 3].as_slice());
+            same(&rt, octets, [1, 2, 3].as_slice());
         }
         Err(_) => assert!(rt; false, "three octets are left"),
     }
-    assert_eq!(rt; reader.position(), Length::ONE);
-    assert_eq!(rt; reader.remaining_len().value(), 2);
-    assert_eq!(rt; next(&mut reader), Some(2));
+    same(&rt, reader.position(), Length::ONE);
+    same(&rt, reader.remaining_len().value(), 2);
+    same(&rt, next(&mut reader), Some(2));
     match reader.finish() {
         Ok(()) => assert!(rt; false, "one octet is left"),
         Err(e) => {
-            assert_eq!(rt; e.position, Some(Length::new(2)));
-            assert_eq!(rt; Some(e.kind), trailing(2, 1));
+            same(&rt, e.position, Some(Length::new(2)));
+            same(&rt, Some(e.kind), trailing(2, 1));
         }
     }
 }
@@ -317,15 +338,15 @@ fn rewinds(rt: HostRuntime) {
 #[test]
 fn copies_of_readers(rt: HostRuntime) {
     let mut reader = reader_of(&[1, 2]);
-    assert_eq!(rt; next(&mut reader), Some(1));
+    same(&rt, next(&mut reader), Some(1));
     match reader.clone() {
         Ok(mut other) => {
-            assert_eq!(rt; next(&mut reader), Some(2));
-            assert_eq!(rt; next(&mut other), Some(2));
-            assert_eq!(rt; next(&mut other), None);
-            assert_eq!(rt; refusal(reader.finish()), 0);
+            same(&rt, next(&mut reader), Some(2));
+            same(&rt, next(&mut other), Some(2));
+            same(&rt, next(&mut other), None);
+            same(&rt, refusal(reader.finish()), 0);
             match other.clone() {
-                Ok(failed) => assert_eq!(rt; refusal(failed.finish()), 17),
+                Ok(failed) => same(&rt, refusal(failed.finish()), 17),
                 Err(_) => assert!(rt; false, "no memory is taken"),
             }
         }
@@ -336,83 +357,106 @@ fn copies_of_readers(rt: HostRuntime) {
 #[test]
 fn failed_readers(rt: HostRuntime) {
     let mut reader = reader_of(&[0x02, 0x00]);
-    assert_eq!(rt; next(&mut reader), Some(2));
+    same(&rt, next(&mut reader), Some(2));
     let error = reader.error(ErrorKind::Utf8);
-    assert_eq!(rt; error.kind, ErrorKind::Utf8);
-    assert_eq!(rt; error.position, Some(Length::ONE));
-    assert_eq!(rt; refusal(reader.read_byte()), 17, "read_byte");
-    assert_eq!(rt; refusal(reader.read_slice(Length::ZERO)), 17, "read_slice");
-    assert_eq!(rt; refusal(reader.read_slice(Length::ONE)), 17, "read_slice");
+    same(&rt, error.kind, ErrorKind::Utf8);
+    same(&rt, error.position, Some(Length::ONE));
+    same_in(&rt, &"read_byte", refusal(reader.read_byte()), 17);
+    same_in(
+        &rt,
+        &"read_slice",
+        refusal(reader.read_slice(Length::ZERO)),
+        17,
+    );
+    same_in(
+        &rt,
+        &"read_slice",
+        refusal(reader.read_slice(Length::ONE)),
+        17,
+    );
     let mut buffer = [7];
-    assert_eq!(rt; refusal(reader.read_into(&mut buffer)), 17, "read_into");
-    assert_eq!(rt; buffer, [7]);
-    assert_eq!(rt; refusal(reader.nest(Length::ZERO)), 17, "nest");
-    assert_eq!(rt; refusal(reader.unnest(Length::new(2))), 17, "unnest");
-    assert_eq!(rt; refusal(Tag::peek(&mut reader)), 17, "peek");
-    assert_eq!(rt; refusal(Tag::decode(&mut reader)), 17, "decode");
-    assert_eq!(rt; refusal(Length::decode(&mut reader)), 17, "decode");
-    assert_eq!(rt; refusal(Header::decode(&mut reader)), 17, "decode");
+    same_in(
+        &rt,
+        &"read_into",
+        refusal(reader.read_into(&mut buffer)),
+        17,
+    );
+    same(&rt, buffer, [7]);
+    same_in(&rt, &"nest", refusal(reader.nest(Length::ZERO)), 17);
+    same_in(&rt, &"unnest", refusal(reader.unnest(Length::new(2))), 17);
+    same_in(&rt, &"peek", refusal(Tag::peek(&mut reader)), 17);
+    same_in(&rt, &"decode", refusal(Tag::decode(&mut reader)), 17);
+    same_in(&rt, &"decode", refusal(Length::decode(&mut reader)), 17);
+    same_in(&rt, &"decode", refusal(Header::decode(&mut reader)), 17);
     let found = Tag::peek_matches(&mut reader, Class::Universal, TagNumber(2));
-    assert_eq!(rt; refusal(found), 17, "peek_matches");
-    assert_eq!(rt; reader.position(), Length::ONE);
-    assert_eq!(rt; reader.remaining_len(), Length::ONE);
-    assert!(rt; !reader.is_finished());
-    assert_eq!(rt; refusal(reader.finish()), 17, "finish");
+    same_in(&rt, &"peek_matches", refusal(found), 17);
+    same(&rt, reader.position(), Length::ONE);
+    same(&rt, reader.remaining_len(), Length::ONE);
+    holds(&rt, !reader.is_finished());
+    same_in(&rt, &"finish", refusal(reader.finish()), 17);
 }
 
 #[test]
 fn failed_readers_at_the_end(rt: HostRuntime) {
     let mut reader = reader_of(&[]);
-    assert_eq!(rt; fault(reader.read_byte()), incomplete(1, 0));
-    assert!(rt; reader.is_finished());
+    same(&rt, fault(reader.read_byte()), incomplete(1, 0));
+    holds(&rt, reader.is_finished());
     let found = Tag::peek_matches(&mut reader, Class::Universal, TagNumber(2));
-    assert_eq!(rt; refusal(found), 17);
-    assert_eq!(rt; refusal(reader.unnest(Length::ZERO)), 17);
-    assert_eq!(rt; refusal(reader.finish()), 17);
+    same(&rt, refusal(found), 17);
+    same(&rt, refusal(reader.unnest(Length::ZERO)), 17);
+    same(&rt, refusal(reader.finish()), 17);
 }
 
 #[test]
 fn refused_reads(rt: HostRuntime) {
     let mut reader = reader_of(&[1, 2, 3]);
-    assert_eq!(rt; fault(reader.read_slice(Length::new(4))), incomplete(4, 3));
-    assert_eq!(rt; reader.position(), Length::ZERO);
+    same(
+        &rt,
+        fault(reader.read_slice(Length::new(4))),
+        incomplete(4, 3),
+    );
+    same(&rt, reader.position(), Length::ZERO);
     let mut reader = reader_of(&[1, 2, 3]);
-    assert_eq!(rt; next(&mut reader), Some(1));
+    same(&rt, next(&mut reader), Some(1));
     let mut buffer = [0; 3];
-    assert_eq!(rt; fault(reader.read_into(&mut buffer)), incomplete(4, 3));
-    assert_eq!(rt; buffer, [0; 3]);
+    same(&rt, fault(reader.read_into(&mut buffer)), incomplete(4, 3));
+    same(&rt, buffer, [0; 3]);
     let mut reader = reader_of(&[1, 2, 3]);
-    assert_eq!(rt; next(&mut reader), Some(1));
-    assert_eq!(rt; refusal(reader.read_slice(Length::MAX)), 9);
+    same(&rt, next(&mut reader), Some(1));
+    same(&rt, refusal(reader.read_slice(Length::MAX)), 9);
     let mut reader = reader_of(&[1, 2, 3]);
-    assert_eq!(rt; fault(reader.nest(Length::MAX)), incomplete(4294967295, 3));
+    same(
+        &rt,
+        fault(reader.nest(Length::MAX)),
+        incomplete(4294967295, 3),
+    );
 }
 
 #[test]
 fn nesting(rt: HostRuntime) {
     let mut reader = reader_of(&[1, 2, 3, 4]);
-    assert_eq!(rt; nested(&mut reader, 3), Some(4));
-    assert_eq!(rt; next(&mut reader), Some(1));
-    assert_eq!(rt; nested(&mut reader, 1), Some(3));
-    assert_eq!(rt; reader.remaining_len(), Length::ONE);
-    assert_eq!(rt; next(&mut reader), Some(2));
-    assert!(rt; reader.is_finished());
-    assert_eq!(rt; refusal(reader.unnest(Length::new(3))), 0);
-    assert!(rt; !reader.is_finished());
-    assert_eq!(rt; next(&mut reader), Some(3));
-    assert!(rt; reader.is_finished());
-    assert_eq!(rt; refusal(reader.unnest(Length::new(4))), 0);
-    assert_eq!(rt; next(&mut reader), Some(4));
-    assert_eq!(rt; refusal(reader.finish()), 0);
+    same(&rt, nested(&mut reader, 3), Some(4));
+    same(&rt, next(&mut reader), Some(1));
+    same(&rt, nested(&mut reader, 1), Some(3));
+    same(&rt, reader.remaining_len(), Length::ONE);
+    same(&rt, next(&mut reader), Some(2));
+    holds(&rt, reader.is_finished());
+    same(&rt, refusal(reader.unnest(Length::new(3))), 0);
+    holds(&rt, !reader.is_finished());
+    same(&rt, next(&mut reader), Some(3));
+    holds(&rt, reader.is_finished());
+    same(&rt, refusal(reader.unnest(Length::new(4))), 0);
+    same(&rt, next(&mut reader), Some(4));
+    same(&rt, refusal(reader.finish()), 0);
 }
 
 #[test]
 fn finishing_in_a_nest(rt: HostRuntime) {
     let mut reader = reader_of(&[1, 2]);
-    assert_eq!(rt; nested(&mut reader, 1), Some(2));
-    assert_eq!(rt; next(&mut reader), Some(1));
-    assert!(rt; reader.is_finished());
-    assert_eq!(rt; fault(reader.finish()), trailing(1, 1));
+    same(&rt, nested(&mut reader, 1), Some(2));
+    same(&rt, next(&mut reader), Some(1));
+    holds(&rt, reader.is_finished());
+    same(&rt, fault(reader.finish()), trailing(1, 1));
 }
 
 /// What putting back an end refuses, where two octets of four are nested and so many are read.
@@ -440,16 +484,16 @@ fn refused_nesting(rt: HostRuntime) {
         (2, 2, 0),
     ];
     for (read, end, number) in rows {
-        assert_eq!(rt; unnest_refusal(read, end), number, "{read} {end}");
+        same_in(&rt, &(read, end), unnest_refusal(read, end), number);
     }
     let mut reader = reader_of(&[1, 2, 3, 4]);
-    assert_eq!(rt; nested(&mut reader, 2), Some(4));
-    assert_eq!(rt; next(&mut reader), Some(1));
-    assert_eq!(rt; fault(reader.unnest(Length::new(4))), trailing(1, 1));
+    same(&rt, nested(&mut reader, 2), Some(4));
+    same(&rt, next(&mut reader), Some(1));
+    same(&rt, fault(reader.unnest(Length::new(4))), trailing(1, 1));
     let mut reader = reader_of(&[1, 2, 3, 4]);
-    assert_eq!(rt; nested(&mut reader, 2), Some(4));
-    assert_eq!(rt; next(&mut reader), Some(1));
-    assert_eq!(rt; fault(reader.nest(Length::new(2))), incomplete(3, 2));
+    same(&rt, nested(&mut reader, 2), Some(4));
+    same(&rt, next(&mut reader), Some(1));
+    same(&rt, fault(reader.nest(Length::new(2))), incomplete(3, 2));
 }
 
 #[test]
@@ -457,11 +501,11 @@ fn slice_writers_without_room(rt: HostRuntime) {
     for room in 0..6 {
         let mut buffer = [0xaa; 8];
         let mut writer = SliceWriter::new(&mut buffer[..room]);
-        assert_eq!(rt; refusal(header_of_six_octets().encode(&mut writer)), 10);
-        assert_eq!(rt; refusal(writer.write(&[])), 17, "{room}");
-        assert_eq!(rt; refusal(writer.write_byte(1)), 17, "{room}");
-        assert_eq!(rt; writer.finish(), [].as_slice(), "{room}");
-        assert_eq!(rt; buffer, [0xaa; 8], "{room}");
+        same(&rt, refusal(header_of_six_octets().encode(&mut writer)), 10);
+        same_in(&rt, &room, refusal(writer.write(&[])), 17);
+        same_in(&rt, &room, refusal(writer.write_byte(1)), 17);
+        same_in(&rt, &room, writer.finish(), [].as_slice());
+        same_in(&rt, &room, buffer, [0xaa; 8]);
     }
 }
 
@@ -470,9 +514,9 @@ fn slice_writers_with_room(rt: HostRuntime) {
     for room in 6..9 {
         let mut buffer = [0xaa; 8];
         let mut writer = SliceWriter::new(&mut buffer[..room]);
-        assert_eq!(rt; refusal(header_of_six_octets().encode(&mut writer)), 0);
+        same(&rt, refusal(header_of_six_octets().encode(&mut writer)), 0);
         let octets = [0xbf, 0xff, 0x7f, 0x82, 0x01, 0x00];
-        assert_eq!(rt; writer.finish(), octets.as_slice(), "{room}");
+        same_in(&rt, &room, writer.finish(), octets.as_slice());
     }
 }
 
@@ -482,7 +526,7 @@ fn vector_writers_with_room(rt: HostRuntime) -> Result<(), Fail> {
     for room in 0..7 {
         let mut writer = VecWriter::with_capacity(rt.alloc(), room)?;
         header_of_six_octets().encode(&mut writer)?;
-        assert_eq!(rt; writer.finish().as_slice(), octets.as_slice(), "{room}");
+        same_in(&rt, &room, writer.finish().as_slice(), octets.as_slice());
     }
     Ok(())
 }
@@ -493,12 +537,12 @@ fn slice_writers_octet_by_octet(rt: HostRuntime) {
         let mut buffer = [0xaa; 3];
         let mut writer = SliceWriter::new(&mut buffer[..room]);
         for octet in 0..room {
-            assert_eq!(rt; refusal(writer.write_byte(octet as u8)), 0, "{room}");
+            same_in(&rt, &room, refusal(writer.write_byte(octet as u8)), 0);
         }
-        assert_eq!(rt; refusal(writer.write_byte(9)), 10, "{room}");
-        assert_eq!(rt; refusal(writer.write_byte(9)), 17, "{room}");
+        same_in(&rt, &room, refusal(writer.write_byte(9)), 10);
+        same_in(&rt, &room, refusal(writer.write_byte(9)), 17);
         let octets = [0, 1, 2];
-        assert_eq!(rt; writer.finish(), &octets[..room], "{room}");
+        same_in(&rt, &room, writer.finish(), &octets[..room]);
     }
 }
 
@@ -512,10 +556,10 @@ fn overwrite(slice: &mut [u8], octets: &[u8]) -> Result<(), Error>
 #[test]
 fn slice_writers_leave_the_slice(rt: HostRuntime) {
     let mut buffer = [0xaa; 3];
-    assert_eq!(rt; refusal(overwrite(&mut buffer, &[1, 2, 3, 4])), 10);
-    assert_eq!(rt; buffer, [0xaa; 3]);
-    assert_eq!(rt; refusal(overwrite(&mut buffer, &[1, 2])), 0);
-    assert_eq!(rt; buffer, [1, 2, 0xaa]);
+    same(&rt, refusal(overwrite(&mut buffer, &[1, 2, 3, 4])), 10);
+    same(&rt, buffer, [0xaa; 3]);
+    same(&rt, refusal(overwrite(&mut buffer, &[1, 2])), 0);
+    same(&rt, buffer, [1, 2, 0xaa]);
 }
 
 #[test]
@@ -524,10 +568,10 @@ fn slice_writers_keep_what_they_hold(rt: HostRuntime) -> Result<(), Fail> {
     let mut writer = SliceWriter::new(&mut buffer);
     writer.write_byte(1)?;
     writer.write(&[])?;
-    assert_eq!(rt; refusal(writer.write(&[2, 3, 4])), 10);
-    assert_eq!(rt; refusal(writer.write_byte(5)), 17);
-    assert_eq!(rt; writer.finish(), [1].as_slice());
-    assert_eq!(rt; buffer, [1, 0xaa, 0xaa]);
+    same(&rt, refusal(writer.write(&[2, 3, 4])), 10);
+    same(&rt, refusal(writer.write_byte(5)), 17);
+    same(&rt, writer.finish(), [1].as_slice());
+    same(&rt, buffer, [1, 0xaa, 0xaa]);
     Ok(())
 }
 
@@ -536,13 +580,14 @@ fn vector_writers(rt: HostRuntime) -> Result<(), Fail> {
     let mut writer = VecWriter::new(rt.alloc());
     writer.write_byte(1)?;
     writer.write(&[2, 3])?;
-    assert_eq!(rt; writer.finish().as_slice(), [1, 2, 3].as_slice());
+    same(&rt, writer.finish().as_slice(), [1, 2, 3].as_slice());
     let mut writer = VecWriter::with_capacity(rt.alloc(), 2)?;
     writer.write(&[4, 5])?;
-    assert_eq!(rt; writer.finish().as_slice(), [4, 5].as_slice());
-    assert_eq!(rt;
+    same(&rt, writer.finish().as_slice(), [4, 5].as_slice());
+    same(
+        &rt,
         refusal(VecWriter::with_capacity(rt.alloc(), usize::MAX)),
-        1
+        1,
     );
     Ok(())
 }
@@ -556,13 +601,13 @@ fn vector_writers_without_memory(rt: HostRuntime) {
     let third = refusal(writer.write_byte(7));
     let len = writer.finish().len();
     if first != 0 {
-        assert_eq!(rt; (first, second, third, len), (1, 17, 17, 0));
+        same(&rt, (first, second, third, len), (1, 17, 17, 0));
     } else if second != 0 {
-        assert_eq!(rt; (second, third, len), (1, 17, 10));
+        same(&rt, (second, third, len), (1, 17, 10));
     } else if third != 0 {
-        assert_eq!(rt; (third, len), (1, 110));
+        same(&rt, (third, len), (1, 110));
     } else {
-        assert_eq!(rt; len, 111);
+        same(&rt, len, 111);
     }
 }
 
@@ -570,14 +615,14 @@ fn vector_writers_without_memory(rt: HostRuntime) {
 fn borrowed_bytes(rt: HostRuntime) {
     match BytesRef::new(&[1, 2]) {
         Ok(bytes) => {
-            assert_eq!(rt; bytes.as_slice(), [1, 2].as_slice());
-            assert_eq!(rt; bytes.len().value(), 2);
-            assert!(rt; !bytes.is_empty());
+            same(&rt, bytes.as_slice(), [1, 2].as_slice());
+            same(&rt, bytes.len().value(), 2);
+            holds(&rt, !bytes.is_empty());
         }
         Err(_) => assert!(rt; false, "two octets"),
     }
     match BytesRef::new(&[]) {
-        Ok(bytes) => assert!(rt; bytes.is_empty()),
+        Ok(bytes) => holds(&rt, bytes.is_empty()),
         Err(_) => assert!(rt; false, "no octets"),
     }
 }
@@ -585,63 +630,72 @@ fn borrowed_bytes(rt: HostRuntime) {
 #[test]
 fn owned_bytes(rt: HostRuntime) -> Result<(), Fail> {
     let bytes = BytesOwned::new([1, 2].to_vec(rt.alloc())?)?;
-    assert_eq!(rt; bytes.as_slice(), [1, 2].as_slice());
-    assert_eq!(rt; bytes.to_ref().as_slice(), [1, 2].as_slice());
-    assert_eq!(rt; bytes.len().value(), 2);
-    assert!(rt; !bytes.is_empty());
-    assert_eq!(rt; bytes.into_vec().as_slice(), [1, 2].as_slice());
+    same(&rt, bytes.as_slice(), [1, 2].as_slice());
+    same(&rt, bytes.to_ref().as_slice(), [1, 2].as_slice());
+    same(&rt, bytes.len().value(), 2);
+    holds(&rt, !bytes.is_empty());
+    same(&rt, bytes.into_vec().as_slice(), [1, 2].as_slice());
     let nothing = BytesOwned::new(Vec::new(rt.alloc()))?;
-    assert!(rt; nothing.is_empty());
+    holds(&rt, nothing.is_empty());
     let copied = BytesOwned::new([3].to_vec(rt.alloc())?)?.clone()?;
-    assert_eq!(rt; copied.as_slice(), [3].as_slice());
+    same(&rt, copied.as_slice(), [3].as_slice());
     Ok(())
 }
 
 #[test]
 fn constants(rt: HostRuntime) {
-    assert_eq!(rt; explicit_before_implicit(), Ordering::Less);
-    assert_eq!(rt; default_mode(), TagMode::Explicit);
-    assert!(rt; default_rules().is_der());
-    assert_eq!(rt; greatest_length().value(), 0xffff_ffff);
+    same(&rt, explicit_before_implicit(), Ordering::Less);
+    same(&rt, default_mode(), TagMode::Explicit);
+    holds(&rt, default_rules().is_der());
+    same(&rt, greatest_length().value(), 0xffff_ffff);
 }
 
 #[test]
 fn numbers_of_errors(rt: HostRuntime) {
-    assert_eq!(rt; ErrorKind::Memory.number(), 1);
-    assert_eq!(rt; incomplete(1, 0).map_or(0, |kind| kind.number()), 2);
-    assert_eq!(rt; trailing(1, 1).map_or(0, |kind| kind.number()), 3);
-    assert_eq!(rt; Tag::Null.unexpected_error(None).number(), 4);
-    assert_eq!(rt; ErrorKind::TagUnknown { byte: 0 }.number(), 5);
-    assert_eq!(rt; ErrorKind::TagNumberInvalid.number(), 6);
-    assert_eq!(rt; ErrorKind::Length { tag: Tag::Null }.number(), 7);
-    assert_eq!(rt; ErrorKind::Noncanonical { tag: Tag::Null }.number(), 8);
-    assert_eq!(rt; ErrorKind::Overflow.number(), 9);
-    assert_eq!(rt; ErrorKind::Overlength.number(), 10);
-    assert_eq!(rt; ErrorKind::SetOrdering.number(), 11);
-    assert_eq!(rt; ErrorKind::Utf8.number(), 12);
-    assert_eq!(rt; ErrorKind::Value { tag: Tag::Null }.number(), 13);
-    assert_eq!(rt; ErrorKind::DateTime.number(), 14);
-    assert_eq!(rt; ErrorKind::OidMalformed.number(), 15);
-    assert_eq!(rt; ErrorKind::IndefiniteLength.number(), 16);
-    assert_eq!(rt; ErrorKind::Failed.number(), 17);
+    same(&rt, ErrorKind::Memory.number(), 1);
+    same(&rt, incomplete(1, 0).map_or(0, |kind| kind.number()), 2);
+    same(&rt, trailing(1, 1).map_or(0, |kind| kind.number()), 3);
+    same(&rt, Tag::Null.unexpected_error(None).number(), 4);
+    same(&rt, ErrorKind::TagUnknown { byte: 0 }.number(), 5);
+    same(&rt, ErrorKind::TagNumberInvalid.number(), 6);
+    same(&rt, ErrorKind::Length { tag: Tag::Null }.number(), 7);
+    same(&rt, ErrorKind::Noncanonical { tag: Tag::Null }.number(), 8);
+    same(&rt, ErrorKind::Overflow.number(), 9);
+    same(&rt, ErrorKind::Overlength.number(), 10);
+    same(&rt, ErrorKind::SetOrdering.number(), 11);
+    same(&rt, ErrorKind::Utf8.number(), 12);
+    same(&rt, ErrorKind::Value { tag: Tag::Null }.number(), 13);
+    same(&rt, ErrorKind::DateTime.number(), 14);
+    same(&rt, ErrorKind::OidMalformed.number(), 15);
+    same(&rt, ErrorKind::IndefiniteLength.number(), 16);
+    same(&rt, ErrorKind::Failed.number(), 17);
 }
 
 #[test]
 fn errors_without_a_position(rt: HostRuntime) {
-    assert_eq!(rt; Error::from_kind(ErrorKind::Utf8).kind(), ErrorKind::Utf8);
-    assert_eq!(rt; Error::from_kind(ErrorKind::Utf8).position(), None);
+    same(
+        &rt,
+        Error::from_kind(ErrorKind::Utf8).kind(),
+        ErrorKind::Utf8,
+    );
+    same(&rt, Error::from_kind(ErrorKind::Utf8).position(), None);
 }
 
 #[test]
 fn rules(rt: HostRuntime) {
-    assert!(rt; EncodingRules::default().is_der());
-    assert!(rt; !EncodingRules::Ber.is_der());
-    assert_eq!(rt; TagMode::default(), TagMode::Explicit);
-    assert_eq!(rt; reader_of(&[]).encoding_rules(), EncodingRules::Der);
+    holds(&rt, EncodingRules::default().is_der());
+    holds(&rt, !EncodingRules::Ber.is_der());
+    same(&rt, TagMode::default(), TagMode::Explicit);
+    same(&rt, reader_of(&[]).encoding_rules(), EncodingRules::Der);
     match SliceReader::new_with_encoding_rules(&[0x05, 0x80], EncodingRules::Ber) {
         Ok(mut reader) => {
-            assert_eq!(rt; reader.encoding_rules(), EncodingRules::Ber);
-            assert_eq!(rt; refusal(Header::decode(&mut reader)), 16, "also under Ber");
+            same(&rt, reader.encoding_rules(), EncodingRules::Ber);
+            same_in(
+                &rt,
+                &"also under Ber",
+                refusal(Header::decode(&mut reader)),
+                16,
+            );
         }
         Err(_) => assert!(rt; false, "two octets"),
     }
@@ -665,23 +719,29 @@ fn texts(rt: HostRuntime) -> Result<(), Fail> {
     match end {
         Some(e) => {
             let text = format!(in rt.alloc(); "{e}")?;
-            assert_eq!(rt;
+            same(
+                &rt,
                 text.as_str(),
-                "the octets end too soon: 4 are needed, and 1 are there, at position 1"
+                "the octets end too soon: 4 are needed, and 1 are there, at position 1",
             );
         }
         None => assert!(rt; false, "one octet"),
     }
     let kind = long_tag().unexpected_error(Some(Tag::OctetString));
     let text = format!(in rt.alloc(); "{kind}")?;
-    assert_eq!(rt;
+    same(
+        &rt,
         text.as_str(),
-        "primitive [PRIVATE 4294967295] stands where OCTET STRING is expected"
+        "primitive [PRIVATE 4294967295] stands where OCTET STRING is expected",
     );
     let text = format!(in rt.alloc(); "{}", ErrorKind::TagUnknown { byte: 0x1f })?;
-    assert_eq!(rt; text.as_str(), "no known tag begins with the octet 0x1f");
+    same(
+        &rt,
+        text.as_str(),
+        "no known tag begins with the octet 0x1f",
+    );
     match refused_memory() {
-        Err(e) => assert_eq!(rt; e, Error::from_kind(ErrorKind::Memory)),
+        Err(e) => same(&rt, e, Error::from_kind(ErrorKind::Memory)),
         Ok(()) => assert!(rt; false, "memory was refused"),
     }
     Ok(())

@@ -11,7 +11,26 @@ use der_elem::{DerOrd, Duplicate, Encode, EncodingEq, FromDer};
 use der_tlv::Error;
 use std::alloc::Global;
 use std::cmp::Ordering;
+use std::fmt::Debug;
 use std::process::Abort;
+
+/// Asserts that what was found is what is wanted.
+///
+/// The proof of a test takes an assertion in its own body with all that stands before it; so
+/// assertions stand in functions of their own, and each is proved once.
+fn same<T: PartialEq + Debug + Drop>(rt: &impl Abort, found: T, wanted: T) {
+    assert_eq!(rt; found, wanted);
+}
+
+/// The same in one of several cases, which is told where it fails.
+fn same_in<C: Debug, T: PartialEq + Debug + Drop>(rt: &impl Abort, case: &C, found: T, wanted: T) {
+    assert_eq!(rt; found, wanted, "{case:?}");
+}
+
+/// Asserts that the condition holds.
+fn holds(rt: &impl Abort, condition: bool) {
+    assert!(rt; condition);
+}
 
 /// What a call answers, with a refusal by its number.
 fn numbered<T>(answer: Result<T, Error>) -> Result<T, u8> {
@@ -59,11 +78,11 @@ fn reads_back<'a, T: FromDer<'a> + Encode + Duplicate + EncodingEq>(
 ) -> Result<(), u8> {
     let value = numbered(T::from_der(alloc, octets))?;
     let written = numbered(value.to_der(alloc))?;
-    assert_eq!(rt; written.as_slice(), octets);
+    same(rt, written.as_slice(), octets);
     let len = numbered(value.encoded_len())?;
-    assert_eq!(rt; len.value() as usize, octets.len());
+    same(rt, len.value() as usize, octets.len());
     let copy = numbered(value.duplicate())?;
-    assert!(rt; copy == value);
+    holds(rt, copy == value);
     Ok(())
 }
 
@@ -76,6 +95,6 @@ fn reads_back_in_order<'a, T: FromDer<'a> + Encode + Duplicate + DerOrd + Encodi
     reads_back::<T>(rt, alloc, octets)?;
     let value = numbered(T::from_der(alloc, octets))?;
     let copy = numbered(value.duplicate())?;
-    assert_eq!(rt; numbered(copy.der_cmp(&value)), Ok(Ordering::Equal));
+    same(rt, numbered(copy.der_cmp(&value)), Ok(Ordering::Equal));
     Ok(())
 }

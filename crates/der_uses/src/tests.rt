@@ -12,7 +12,27 @@ use crate::{
 };
 use der_asn1_types::asn1::{AnyRef, BitStringRef};
 use der_asn1_types::{DateTime, Error, FromDer, Length, Tag};
+use std::fmt::Debug;
+use std::process::Abort;
 use std::test::Fail;
+
+/// Asserts that what was found is what is wanted.
+///
+/// The proof of a test takes an assertion in its own body with all that stands before it; so
+/// assertions stand in functions of their own, and each is proved once.
+fn same<T: PartialEq + Debug + Drop>(rt: &impl Abort, found: T, wanted: T) {
+    assert_eq!(rt; found, wanted);
+}
+
+/// The same in one of several cases, which is told where it fails.
+fn same_in<C: Debug, T: PartialEq + Debug + Drop>(rt: &impl Abort, case: &C, found: T, wanted: T) {
+    assert_eq!(rt; found, wanted, "{case:?}");
+}
+
+/// Asserts that the condition holds.
+fn holds(rt: &impl Abort, condition: bool) {
+    assert!(rt; condition);
+}
 
 // The number of a refusal.
 fn numbered<T>(answer: Result<T, Error>) -> Result<T, u8> {
@@ -26,9 +46,9 @@ fn numbered<T>(answer: Result<T, Error>) -> Result<T, u8> {
 fn numbers_are_read_and_written(rt: HostRuntime) -> Result<(), Fail> {
     let octets = [0x30, 0x07, 0x02, 0x01, 0x05, 0x02, 0x02, 0x00, 0x80];
     let numbers = numbered(read_numbers(rt.alloc(), &octets))?;
-    assert_eq!(rt; numbers.as_slice(), [5, 128].as_slice());
+    same(&rt, numbers.as_slice(), [5, 128].as_slice());
     let written = numbered(write_numbers(rt.alloc(), &numbers))?;
-    assert_eq!(rt; written.as_slice(), octets.as_slice());
+    same(&rt, written.as_slice(), octets.as_slice());
     Ok(())
 }
 
@@ -36,10 +56,10 @@ fn numbers_are_read_and_written(rt: HostRuntime) -> Result<(), Fail> {
 fn octets_are_borrowed(rt: HostRuntime) -> Result<(), Fail> {
     let octets = [0x04, 0x02, 0x01, 0x02];
     let contents = numbered(contents_of_string(rt.alloc(), &octets))?;
-    assert_eq!(rt; contents, [0x01, 0x02].as_slice());
+    same(&rt, contents, [0x01, 0x02].as_slice());
     match serial_number(rt.alloc(), &[0x02, 0x01, 0x80]) {
         Ok(_) => return Err("read".into()),
-        Err(e) => assert_eq!(rt; e.kind().number(), 13),
+        Err(e) => same(&rt, e.kind().number(), 13),
     }
     Ok(())
 }
@@ -48,17 +68,17 @@ fn octets_are_borrowed(rt: HostRuntime) -> Result<(), Fail> {
 fn a_number_is_written_into_a_buffer(rt: HostRuntime) -> Result<(), Fail> {
     let mut buffer = [0; 8];
     let octets = numbered(number_in(300, &mut buffer))?;
-    assert_eq!(rt; octets, [0x02, 0x02, 0x01, 0x2c].as_slice());
+    same(&rt, octets, [0x02, 0x02, 0x01, 0x2c].as_slice());
     let mut short = [0; 3];
-    assert_eq!(rt; numbered(number_in(300, &mut short)).err(), Some(10));
+    same(&rt, numbered(number_in(300, &mut short)).err(), Some(10));
     Ok(())
 }
 
 #[test]
 fn the_order_is_that_of_encodings(rt: HostRuntime) -> Result<(), Fail> {
-    assert!(rt; numbered(is_before(&1, &2))?);
-    assert!(rt; !numbered(is_before(&-1, &1))?);
-    assert!(rt; numbered(is_before(&-1, &128))?);
+    holds(&rt, numbered(is_before(&1, &2))?);
+    holds(&rt, !numbered(is_before(&-1, &1))?);
+    holds(&rt, numbered(is_before(&-1, &128))?);
     Ok(())
 }
 
@@ -66,7 +86,7 @@ fn the_order_is_that_of_encodings(rt: HostRuntime) -> Result<(), Fail> {
 fn a_set_stands_in_order(rt: HostRuntime) -> Result<(), Fail> {
     let mut set = numbered(attribute_set(rt.alloc(), [8, 7, 300, 7]))?;
     numbered(with_attribute(&mut set, 9))?;
-    assert_eq!(rt; set.as_slice(), [7, 7, 8, 9, 300].as_slice());
+    same(&rt, set.as_slice(), [7, 7, 8, 9, 300].as_slice());
     Ok(())
 }
 
@@ -77,23 +97,23 @@ fn a_policy_is_read(rt: HostRuntime) -> Result<(), Fail> {
     ];
     match read_policy_fields(rt.alloc(), &octets) {
         Ok(policy) => {
-            assert!(rt; policy.qualifier.is_some());
-            assert!(rt; policy.version.is_some());
+            holds(&rt, policy.qualifier.is_some());
+            holds(&rt, policy.version.is_some());
         }
         Err(_) => return Err("refused".into()),
     }
     match read_policy(rt.alloc(), &octets) {
         Ok(policy) => {
-            assert!(rt; policy.fields.rest.first.is_some());
+            holds(&rt, policy.fields.rest.first.is_some());
             let written = numbered(write_policy(rt.alloc(), &policy))?;
-            assert_eq!(rt; written.as_slice(), octets.as_slice());
+            same(&rt, written.as_slice(), octets.as_slice());
         }
         Err(_) => return Err("refused".into()),
     }
     let left_over = [0x30, 0x05, 0x06, 0x01, 0x2a, 0x05, 0x00];
     match read_policy_fields(rt.alloc(), &left_over) {
         Ok(_) => return Err("read".into()),
-        Err(e) => assert_eq!(rt; e.kind().number(), 3),
+        Err(e) => same(&rt, e.kind().number(), 3),
     }
     Ok(())
 }
@@ -101,21 +121,21 @@ fn a_policy_is_read(rt: HostRuntime) -> Result<(), Fail> {
 #[test]
 fn a_header_says_how_many_octets_follow(rt: HostRuntime) -> Result<(), Fail> {
     let header = numbered(first_header(&[0x30, 0x82, 0x01, 0x00]))?;
-    assert!(rt; header.tag == Tag::Sequence);
-    assert!(rt; header.length == Length::new(256));
-    assert_eq!(rt; numbered(first_header(&[0x30])).err(), Some(2));
+    holds(&rt, header.tag == Tag::Sequence);
+    holds(&rt, header.length == Length::new(256));
+    same(&rt, numbered(first_header(&[0x30])).err(), Some(2));
     Ok(())
 }
 
 #[test]
 fn names_are_borrowed(rt: HostRuntime) -> Result<(), Fail> {
     match country(b"NO") {
-        Ok(country) => assert_eq!(rt; country.as_str(), "NO"),
+        Ok(country) => same(&rt, country.as_str(), "NO"),
         Err(_) => return Err("refused".into()),
     }
-    assert!(rt; country(b"N*").is_err());
+    holds(&rt, country(b"N*").is_err());
     match common_name(rt.alloc(), &[0x0c, 0x02, 0xc3, 0xa6]) {
-        Ok(name) => assert_eq!(rt; name.as_str(), "\u{e6}"),
+        Ok(name) => same(&rt, name.as_str(), "\u{e6}"),
         Err(_) => return Err("refused".into()),
     }
     Ok(())
@@ -124,11 +144,11 @@ fn names_are_borrowed(rt: HostRuntime) -> Result<(), Fail> {
 #[test]
 fn a_key_may_sign_certificates(rt: HostRuntime) -> Result<(), Fail> {
     match BitStringRef::from_der(rt.alloc(), &[0x03, 0x02, 0x02, 0x04]) {
-        Ok(usage) => assert!(rt; may_sign_certificates(usage)),
+        Ok(usage) => holds(&rt, may_sign_certificates(usage)),
         Err(_) => return Err("refused".into()),
     }
     match BitStringRef::from_der(rt.alloc(), &[0x03, 0x02, 0x07, 0x80]) {
-        Ok(usage) => assert!(rt; !may_sign_certificates(usage)),
+        Ok(usage) => holds(&rt, !may_sign_certificates(usage)),
         Err(_) => return Err("refused".into()),
     }
     Ok(())
@@ -139,8 +159,8 @@ fn a_time_is_within_a_validity(rt: HostRuntime) -> Result<(), Fail> {
     let first = numbered(DateTime::new(2026, 1, 1, 0, 0, 0))?;
     let last = numbered(DateTime::new(2026, 12, 31, 23, 59, 59))?;
     let later = numbered(DateTime::new(2027, 1, 1, 0, 0, 0))?;
-    assert!(rt; is_within(&last, &first, &last));
-    assert!(rt; !is_within(&later, &first, &last));
+    holds(&rt, is_within(&last, &first, &last));
+    holds(&rt, !is_within(&later, &first, &last));
     Ok(())
 }
 
@@ -148,19 +168,20 @@ fn a_time_is_within_a_validity(rt: HostRuntime) -> Result<(), Fail> {
 fn parameters_name_a_curve(rt: HostRuntime) -> Result<(), Fail> {
     let curve = [0x2b, 0x81, 0x04, 0x00, 0x22];
     match AnyRef::new(Tag::ObjectIdentifier, &curve) {
-        Ok(parameters) => assert!(rt; named_curve(rt.alloc(), parameters).is_ok()),
+        Ok(parameters) => holds(&rt, named_curve(rt.alloc(), parameters).is_ok()),
         Err(_) => return Err("refused".into()),
     }
-    assert!(rt; named_curve(rt.alloc(), AnyRef::NULL).is_err());
+    holds(&rt, named_curve(rt.alloc(), AnyRef::NULL).is_err());
     Ok(())
 }
 
 #[test]
 fn a_version_is_written(rt: HostRuntime) -> Result<(), Fail> {
     let written = numbered(explicit_version(rt.alloc(), 2))?;
-    assert_eq!(rt;
+    same(
+        &rt,
         written.as_slice(),
-        [0xa0, 0x03, 0x02, 0x01, 0x02].as_slice()
+        [0xa0, 0x03, 0x02, 0x01, 0x02].as_slice(),
     );
     Ok(())
 }

@@ -4,6 +4,7 @@ mod composed;
 mod integer_order;
 mod refusals;
 
+use crate::tests::same;
 use der_elem::{DecodeValue, Duplicate, EncodeValue, FixedTag, FormValue, ValueOrd};
 use der_tlv::{Error, ErrorKind, Header, Reader, SliceReader, Tag, VecWriter};
 use std::alloc::Global;
@@ -66,34 +67,34 @@ fn is_coded<
     T: DecodeValue<'a, SliceReader<'a>> + FixedTag + EncodeValue + Duplicate + PartialEq + Debug,
 >(rt: &impl Abort, alloc: Global, value: T, contents: &'a [u8]) -> Result<(), u8> {
     let octets = written(alloc, &value)?;
-    assert_eq!(rt; octets.as_slice(), contents);
+    same(rt, octets.as_slice(), contents);
     let len = numbered(value.value_len())?;
-    assert_eq!(rt; len.value() as usize, contents.len());
+    same(rt, len.value() as usize, contents.len());
     let copy = numbered(value.duplicate())?;
     let read_back: T = read(alloc, contents)?;
-    assert_eq!(rt; read_back, copy);
+    same(rt, read_back, copy);
     Ok(())
 }
 
 #[test]
 fn codes_booleans(rt: HostRuntime) -> Result<(), Fail> {
     let alloc = rt.alloc();
-    assert_eq!(rt; bool::TAG, Tag::Boolean);
+    same(&rt, bool::TAG, Tag::Boolean);
     is_coded(&rt, alloc, false, &[0x00])?;
     is_coded(&rt, alloc, true, &[0xff])?;
-    assert_eq!(rt; read::<bool>(alloc, &[0x01]), Err(8));
-    assert_eq!(rt; read::<bool>(alloc, &[]), Err(7));
-    assert_eq!(rt; read::<bool>(alloc, &[0x00, 0x00]), Err(7));
-    assert_eq!(rt; order(&false, &true)?, Ordering::Less);
+    same(&rt, read::<bool>(alloc, &[0x01]), Err(8));
+    same(&rt, read::<bool>(alloc, &[]), Err(7));
+    same(&rt, read::<bool>(alloc, &[0x00, 0x00]), Err(7));
+    same(&rt, order(&false, &true)?, Ordering::Less);
     Ok(())
 }
 
 #[test]
 fn codes_nulls(rt: HostRuntime) -> Result<(), Fail> {
     let alloc = rt.alloc();
-    assert_eq!(rt; <()>::TAG, Tag::Null);
+    same(&rt, <()>::TAG, Tag::Null);
     is_coded(&rt, alloc, (), &[])?;
-    assert_eq!(rt; read::<()>(alloc, &[0x00]), Err(7));
+    same(&rt, read::<()>(alloc, &[0x00]), Err(7));
     Ok(())
 }
 
@@ -101,7 +102,7 @@ fn codes_nulls(rt: HostRuntime) -> Result<(), Fail> {
 #[test]
 fn codes_texts(rt: HostRuntime) -> Result<(), Fail> {
     let alloc = rt.alloc();
-    assert_eq!(rt; String::TAG, Tag::Utf8String);
+    same(&rt, String::TAG, Tag::Utf8String);
     is_coded(&rt, alloc, String::from_str(alloc, "hi")?, &[0x68, 0x69])?;
     is_coded(
         &rt,
@@ -110,13 +111,13 @@ fn codes_texts(rt: HostRuntime) -> Result<(), Fail> {
         &[0xc3, 0xa9],
     )?;
     is_coded(&rt, alloc, String::new(alloc), &[])?;
-    assert_eq!(rt; read::<String>(alloc, &[0xff]), Err(12));
-    assert_eq!(rt; read::<String>(alloc, &[0xc3]), Err(12));
+    same(&rt, read::<String>(alloc, &[0xff]), Err(12));
+    same(&rt, read::<String>(alloc, &[0xc3]), Err(12));
     let (short, long) = (
         String::from_str(alloc, "a")?,
         String::from_str(alloc, "ab")?,
     );
-    assert_eq!(rt; order(&short, &long)?, Ordering::Less);
+    same(&rt, order(&short, &long)?, Ordering::Less);
     Ok(())
 }
 
@@ -124,7 +125,7 @@ fn codes_texts(rt: HostRuntime) -> Result<(), Fail> {
 #[test]
 fn codes_known_integers(rt: HostRuntime) -> Result<(), Fail> {
     let alloc = rt.alloc();
-    assert_eq!(rt; i16::TAG, Tag::Integer);
+    same(&rt, i16::TAG, Tag::Integer);
     is_coded(&rt, alloc, 0i16, &[0x00])?;
     is_coded(&rt, alloc, 127i16, &[0x7f])?;
     is_coded(&rt, alloc, 128i16, &[0x00, 0x80])?;
@@ -199,58 +200,62 @@ fn codes_least_and_greatest_unsigned(rt: HostRuntime) -> Result<(), Fail> {
 #[test]
 fn refuses_other_signed_contents(rt: HostRuntime) {
     let alloc = rt.alloc();
-    assert_eq!(rt; read::<i16>(alloc, &[]), Err(7));
-    assert_eq!(rt; read::<i16>(alloc, &[0xff, 0x80]), Err(8));
-    assert_eq!(rt; read::<i16>(alloc, &[0x00, 0x00]), Err(8));
-    assert_eq!(rt; read::<i16>(alloc, &[0x00, 0xff, 0xff]), Err(8));
-    assert_eq!(rt; read::<i8>(alloc, &[0x00, 0x80]), Err(8));
-    assert_eq!(rt; read::<i128>(alloc, &[0x01; 17]), Err(8));
+    same(&rt, read::<i16>(alloc, &[]), Err(7));
+    same(&rt, read::<i16>(alloc, &[0xff, 0x80]), Err(8));
+    same(&rt, read::<i16>(alloc, &[0x00, 0x00]), Err(8));
+    same(&rt, read::<i16>(alloc, &[0x00, 0xff, 0xff]), Err(8));
+    same(&rt, read::<i8>(alloc, &[0x00, 0x80]), Err(8));
+    same(&rt, read::<i128>(alloc, &[0x01; 17]), Err(8));
 }
 
 #[test]
 fn refuses_other_unsigned_contents(rt: HostRuntime) {
     let alloc = rt.alloc();
-    assert_eq!(rt; read::<u16>(alloc, &[]), Err(7));
-    assert_eq!(rt; read::<u16>(alloc, &[0xff, 0xff]), Err(13));
-    assert_eq!(rt; read::<u16>(alloc, &[0x01, 0x00, 0x00]), Err(7));
-    assert_eq!(rt; read::<u8>(alloc, &[0x01, 0x00]), Err(7));
-    assert_eq!(rt; read::<u8>(alloc, &[0x00, 0x01, 0x00]), Err(8));
-    assert_eq!(rt; read::<u8>(alloc, &[0x00, 0x00]), Err(8));
-    assert_eq!(rt; read::<u128>(alloc, &[0x80; 17]), Err(13));
+    same(&rt, read::<u16>(alloc, &[]), Err(7));
+    same(&rt, read::<u16>(alloc, &[0xff, 0xff]), Err(13));
+    same(&rt, read::<u16>(alloc, &[0x01, 0x00, 0x00]), Err(7));
+    same(&rt, read::<u8>(alloc, &[0x01, 0x00]), Err(7));
+    same(&rt, read::<u8>(alloc, &[0x00, 0x01, 0x00]), Err(8));
+    same(&rt, read::<u8>(alloc, &[0x00, 0x00]), Err(8));
+    same(&rt, read::<u128>(alloc, &[0x80; 17]), Err(13));
 }
 
 #[test]
 fn orders_by_contents(rt: HostRuntime) -> Result<(), Fail> {
-    assert_eq!(rt; order(&-1i16, &1)?, Ordering::Greater);
-    assert_eq!(rt; order(&127i16, &128)?, Ordering::Greater);
-    assert_eq!(rt; order(&127u8, &128)?, Ordering::Greater);
-    assert_eq!(rt; order(&u128::MAX, &(1 << 127))?, Ordering::Greater);
-    assert_eq!(rt; order(&5i64, &5)?, Ordering::Equal);
+    same(&rt, order(&-1i16, &1)?, Ordering::Greater);
+    same(&rt, order(&127i16, &128)?, Ordering::Greater);
+    same(&rt, order(&127u8, &128)?, Ordering::Greater);
+    same(&rt, order(&u128::MAX, &(1 << 127))?, Ordering::Greater);
+    same(&rt, order(&5i64, &5)?, Ordering::Equal);
     Ok(())
 }
 
 #[test]
 fn refuses_on_a_failed_reader(rt: HostRuntime) {
     let alloc = rt.alloc();
-    assert_eq!(rt; read_again::<()>(alloc, &[]), Err(17));
-    assert_eq!(rt; read_again::<()>(alloc, &[0x00]), Err(17));
-    assert_eq!(rt; read_again::<bool>(alloc, &[0x00]), Err(17));
-    assert_eq!(rt; read_again::<bool>(alloc, &[]), Err(17));
-    assert_eq!(rt; read_again::<i8>(alloc, &[0x00]), Err(17));
-    assert_eq!(rt; read_again::<i16>(alloc, &[]), Err(17));
-    assert_eq!(rt; read_again::<i32>(alloc, &[0x00]), Err(17));
-    assert_eq!(rt; read_again::<i64>(alloc, &[0x00]), Err(17));
-    assert_eq!(rt; read_again::<i128>(alloc, &[0x00]), Err(17));
-    assert_eq!(rt; read_again::<u8>(alloc, &[0x00]), Err(17));
-    assert_eq!(rt; read_again::<u16>(alloc, &[0xff]), Err(17));
-    assert_eq!(rt; read_again::<u32>(alloc, &[0x00]), Err(17));
-    assert_eq!(rt; read_again::<u64>(alloc, &[0x00]), Err(17));
-    assert_eq!(rt; read_again::<u128>(alloc, &[]), Err(17));
-    assert_eq!(rt; read_again::<Vec<u8>>(alloc, &[]), Err(17));
-    assert_eq!(rt; read_again::<Vec<u8>>(alloc, &[0x02, 0x01, 0x05]), Err(17));
-    assert_eq!(rt; read_again::<[u8; 0]>(alloc, &[]), Err(17));
-    assert_eq!(rt; read_again::<[u8; 2]>(alloc, &[]), Err(17));
-    assert_eq!(rt; read_again::<Box<u8>>(alloc, &[0x05]), Err(17));
-    assert_eq!(rt; read_again::<String>(alloc, &[0xff]), Err(17));
-    assert_eq!(rt; read_again::<String>(alloc, &[]), Err(17));
+    same(&rt, read_again::<()>(alloc, &[]), Err(17));
+    same(&rt, read_again::<()>(alloc, &[0x00]), Err(17));
+    same(&rt, read_again::<bool>(alloc, &[0x00]), Err(17));
+    same(&rt, read_again::<bool>(alloc, &[]), Err(17));
+    same(&rt, read_again::<i8>(alloc, &[0x00]), Err(17));
+    same(&rt, read_again::<i16>(alloc, &[]), Err(17));
+    same(&rt, read_again::<i32>(alloc, &[0x00]), Err(17));
+    same(&rt, read_again::<i64>(alloc, &[0x00]), Err(17));
+    same(&rt, read_again::<i128>(alloc, &[0x00]), Err(17));
+    same(&rt, read_again::<u8>(alloc, &[0x00]), Err(17));
+    same(&rt, read_again::<u16>(alloc, &[0xff]), Err(17));
+    same(&rt, read_again::<u32>(alloc, &[0x00]), Err(17));
+    same(&rt, read_again::<u64>(alloc, &[0x00]), Err(17));
+    same(&rt, read_again::<u128>(alloc, &[]), Err(17));
+    same(&rt, read_again::<Vec<u8>>(alloc, &[]), Err(17));
+    same(
+        &rt,
+        read_again::<Vec<u8>>(alloc, &[0x02, 0x01, 0x05]),
+        Err(17),
+    );
+    same(&rt, read_again::<[u8; 0]>(alloc, &[]), Err(17));
+    same(&rt, read_again::<[u8; 2]>(alloc, &[]), Err(17));
+    same(&rt, read_again::<Box<u8>>(alloc, &[0x05]), Err(17));
+    same(&rt, read_again::<String>(alloc, &[0xff]), Err(17));
+    same(&rt, read_again::<String>(alloc, &[]), Err(17));
 }

@@ -2,6 +2,7 @@ mod builtin_types;
 mod conversions;
 mod real_values;
 
+use crate::tests::{holds, same};
 use der_elem::{Decode, DerOrd, Duplicate, Encode, FixedTag, FromDer, Tagged, ValueOrd};
 use der_opaque::{Any, AnyRef, Null, ObjectIdentifier, OctetString, OctetStringRef, laws};
 use der_tlv::{
@@ -29,20 +30,24 @@ fn refusal(bytes: &[u8]) -> u8 {
 fn octet_strings_are_read_and_written(rt: HostRuntime) -> Result<(), Fail> {
     let alloc = rt.alloc();
     let owned = OctetString::from_der(alloc, &HELLO)?;
-    assert_eq!(rt; owned.as_bytes(), b"Hello, world".as_slice());
-    assert_eq!(rt; owned.len(), Length::new(12));
-    assert!(rt; !owned.is_empty());
-    assert_eq!(rt; owned.to_der(alloc)?.as_slice(), HELLO.as_slice());
+    same(&rt, owned.as_bytes(), b"Hello, world".as_slice());
+    same(&rt, owned.len(), Length::new(12));
+    holds(&rt, !owned.is_empty());
+    same(&rt, owned.to_der(alloc)?.as_slice(), HELLO.as_slice());
     let copy = owned.duplicate()?;
-    assert!(rt; copy == owned);
-    assert_eq!(rt; copy.into_bytes().as_slice(), b"Hello, world".as_slice());
+    holds(&rt, copy == owned);
+    same(
+        &rt,
+        copy.into_bytes().as_slice(),
+        b"Hello, world".as_slice(),
+    );
     let Ok(borrowed) = OctetStringRef::from_der(alloc, &HELLO) else {
         panic!(rt; "refused")
     };
-    assert_eq!(rt; borrowed.as_bytes(), b"Hello, world".as_slice());
-    assert_eq!(rt; borrowed.len(), Length::new(12));
-    assert!(rt; !borrowed.is_empty());
-    assert_eq!(rt; borrowed.to_der(alloc)?.as_slice(), HELLO.as_slice());
+    same(&rt, borrowed.as_bytes(), b"Hello, world".as_slice());
+    same(&rt, borrowed.len(), Length::new(12));
+    holds(&rt, !borrowed.is_empty());
+    same(&rt, borrowed.to_der(alloc)?.as_slice(), HELLO.as_slice());
     Ok(())
 }
 
@@ -53,14 +58,14 @@ fn octet_strings_are_read_under_ber(rt: HostRuntime) -> Result<(), Fail> {
         panic!(rt; "refused")
     };
     let owned = OctetString::decode(alloc, &mut reader)?;
-    assert_eq!(rt; owned.as_bytes(), b"Hello, world".as_slice());
+    same(&rt, owned.as_bytes(), b"Hello, world".as_slice());
     let Ok(mut reader) = SliceReader::new_with_encoding_rules(&HELLO, EncodingRules::Ber) else {
         panic!(rt; "refused")
     };
     let Ok(borrowed) = OctetStringRef::decode(alloc, &mut reader) else {
         panic!(rt; "refused")
     };
-    assert_eq!(rt; borrowed.as_bytes(), b"Hello, world".as_slice());
+    same(&rt, borrowed.as_bytes(), b"Hello, world".as_slice());
     Ok(())
 }
 
@@ -70,18 +75,30 @@ fn octet_strings_convert(rt: HostRuntime) -> Result<(), Fail> {
     let Ok(string) = OctetStringRef::new(&[1, 2]) else {
         panic!(rt; "refused")
     };
-    assert_eq!(rt; string.to_vec(alloc)?.as_slice(), [1, 2].as_slice());
+    same(&rt, string.to_vec(alloc)?.as_slice(), [1, 2].as_slice());
     let owned = string.ref_to_owned(alloc)?;
-    assert!(rt; owned.owned_to_ref() == string);
-    assert!(rt; OctetStringRef::from(&owned) == string);
-    assert_eq!(rt; <[u8; 2]>::try_from(string)?, [1, 2]);
-    assert!(rt; matches!(<[u8; 3]>::try_from(string), Err(e) if e.kind.number() == 7));
+    holds(&rt, owned.owned_to_ref() == string);
+    holds(&rt, OctetStringRef::from(&owned) == string);
+    same(&rt, <[u8; 2]>::try_from(string)?, [1, 2]);
+    holds(
+        &rt,
+        matches!(<[u8; 3]>::try_from(string), Err(e) if e.kind.number() == 7),
+    );
     let any = AnyRef::from(string);
-    assert_eq!(rt; any.tag(), Tag::OctetString);
-    assert!(rt; matches!(OctetStringRef::try_from(any), Ok(same) if same == string));
-    assert!(rt; matches!(OctetStringRef::try_from(AnyRef::NULL), Err(e) if e.kind.number() == 4));
+    same(&rt, any.tag(), Tag::OctetString);
+    holds(
+        &rt,
+        matches!(OctetStringRef::try_from(any), Ok(same) if same == string),
+    );
+    holds(
+        &rt,
+        matches!(OctetStringRef::try_from(AnyRef::NULL), Err(e) if e.kind.number() == 4),
+    );
     let bytes: Vec<u8> = owned.into();
-    assert!(rt; matches!(OctetStringRef::try_from(&bytes), Ok(same) if same == string));
+    holds(
+        &rt,
+        matches!(OctetStringRef::try_from(&bytes), Ok(same) if same == string),
+    );
     Ok(())
 }
 
@@ -91,22 +108,25 @@ fn octet_strings_hold_encodings(rt: HostRuntime) -> Result<(), Fail> {
         panic!(rt; "refused")
     };
     let held: OctetString = string.decode_into(rt.alloc())?;
-    assert_eq!(rt; held.as_bytes(), b"Hello, world".as_slice());
+    same(&rt, held.as_bytes(), b"Hello, world".as_slice());
     Ok(())
 }
 
 #[test]
 fn null_has_no_contents(rt: HostRuntime) -> Result<(), Fail> {
     let alloc = rt.alloc();
-    assert_eq!(rt; Null::from_der(alloc, &[5, 0])?, Null);
-    assert!(rt; matches!(Null::from_der(alloc, &[5, 1, 0xaa]), Err(e) if e.kind.number() == 7));
-    assert_eq!(rt; Null.to_der(alloc)?.as_slice(), [5, 0].as_slice());
-    assert!(rt; AnyRef::NULL.is_null());
-    assert!(rt; AnyRef::from(Null).is_null());
-    assert!(rt; AnyRef::from(()).is_null());
-    assert!(rt; Any::null(alloc).is_null());
-    assert_eq!(rt; Null::try_from(AnyRef::NULL)?, Null);
-    assert_eq!(rt; Null::try_from(&Any::null(alloc))?, Null);
+    same(&rt, Null::from_der(alloc, &[5, 0])?, Null);
+    holds(
+        &rt,
+        matches!(Null::from_der(alloc, &[5, 1, 0xaa]), Err(e) if e.kind.number() == 7),
+    );
+    same(&rt, Null.to_der(alloc)?.as_slice(), [5, 0].as_slice());
+    holds(&rt, AnyRef::NULL.is_null());
+    holds(&rt, AnyRef::from(Null).is_null());
+    holds(&rt, AnyRef::from(()).is_null());
+    holds(&rt, Any::null(alloc).is_null());
+    same(&rt, Null::try_from(AnyRef::NULL)?, Null);
+    same(&rt, Null::try_from(&Any::null(alloc))?, Null);
     Ok(())
 }
 
@@ -115,28 +135,29 @@ fn any_header_is_kept(rt: HostRuntime) {
     let Ok(any) = AnyRef::try_from([0x0a, 0x01, 0x05].as_slice()) else {
         panic!(rt; "refused")
     };
-    assert_eq!(rt; any.tag(), Tag::Enumerated);
-    assert_eq!(rt; any.value(), [5].as_slice());
-    assert_eq!(rt; any.header().length, Length::ONE);
-    assert_eq!(rt; BytesRef::from(any).as_slice(), [5].as_slice());
+    same(&rt, any.tag(), Tag::Enumerated);
+    same(&rt, any.value(), [5].as_slice());
+    same(&rt, any.header().length, Length::ONE);
+    same(&rt, BytesRef::from(any).as_slice(), [5].as_slice());
 }
 
 #[test]
 fn any_header_is_refused(rt: HostRuntime) {
-    assert_eq!(rt; refusal(&[0x05, 0x80]), 16);
-    assert_eq!(rt; refusal(&[0x02, 0x85]), 10);
-    assert_eq!(rt; refusal(&[0x19, 0x00]), 5);
-    assert_eq!(rt; refusal(&[0x22, 0x01, 0x05]), 8);
-    assert_eq!(rt; refusal(&[0x05, 0x00, 0x00]), 3);
+    same(&rt, refusal(&[0x05, 0x80]), 16);
+    same(&rt, refusal(&[0x02, 0x85]), 10);
+    same(&rt, refusal(&[0x19, 0x00]), 5);
+    same(&rt, refusal(&[0x22, 0x01, 0x05]), 8);
+    same(&rt, refusal(&[0x05, 0x00, 0x00]), 3);
     let Err(e) = AnyRef::try_from([].as_slice()) else {
         panic!(rt; "accepted")
     };
-    assert_eq!(rt;
+    same(
+        &rt,
         e.kind,
         ErrorKind::Incomplete {
             expected_len: Length::ONE,
-            actual_len: Length::ZERO
-        }
+            actual_len: Length::ZERO,
+        },
     );
 }
 
@@ -144,17 +165,20 @@ fn any_header_is_refused(rt: HostRuntime) {
 fn any_keeps_what_it_is_given(rt: HostRuntime) -> Result<(), Fail> {
     let alloc = rt.alloc();
     let any = Any::from_der(alloc, &HELLO)?;
-    assert_eq!(rt; any.tag(), Tag::OctetString);
-    assert_eq!(rt; any.value(), b"Hello, world".as_slice());
-    assert_eq!(rt; any.header().length, Length::new(12));
-    assert_eq!(rt; any.to_der(alloc)?.as_slice(), HELLO.as_slice());
-    assert!(rt; any.duplicate()? == any);
-    assert!(rt; Any::new(Tag::OctetString, b"Hello, world".to_vec(alloc)?)? == any);
+    same(&rt, any.tag(), Tag::OctetString);
+    same(&rt, any.value(), b"Hello, world".as_slice());
+    same(&rt, any.header().length, Length::new(12));
+    same(&rt, any.to_der(alloc)?.as_slice(), HELLO.as_slice());
+    holds(&rt, any.duplicate()? == any);
+    holds(
+        &rt,
+        Any::new(Tag::OctetString, b"Hello, world".to_vec(alloc)?)? == any,
+    );
     let borrowed = any.owned_to_ref();
-    assert!(rt; AnyRef::from(&any) == borrowed);
-    assert!(rt; borrowed.ref_to_owned(alloc)? == any);
+    holds(&rt, AnyRef::from(&any) == borrowed);
+    holds(&rt, borrowed.ref_to_owned(alloc)? == any);
     let string = OctetString::from_der(alloc, &HELLO)?;
-    assert!(rt; Any::encode_from(alloc, &string)? == any);
+    holds(&rt, Any::encode_from(alloc, &string)? == any);
     Ok(())
 }
 
@@ -165,20 +189,21 @@ fn any_is_decoded_as_a_type(rt: HostRuntime) -> Result<(), Fail> {
         panic!(rt; "refused")
     };
     let string: OctetString = any.decode_as(alloc)?;
-    assert_eq!(rt; string.as_bytes(), [1, 2].as_slice());
+    same(&rt, string.as_bytes(), [1, 2].as_slice());
     let owned = any.ref_to_owned(alloc)?;
     let string: OctetString = owned.decode_as_encoding(alloc, EncodingRules::Ber)?;
-    assert_eq!(rt; string.as_bytes(), [1, 2].as_slice());
+    same(&rt, string.as_bytes(), [1, 2].as_slice());
     let refused: Result<Null, Error> = any.decode_as(alloc);
     let Err(e) = refused else {
         panic!(rt; "accepted")
     };
-    assert_eq!(rt;
+    same(
+        &rt,
         e.kind,
         ErrorKind::TagUnexpected {
             expected: None,
-            actual: Tag::OctetString
-        }
+            actual: Tag::OctetString,
+        },
     );
     Ok(())
 }
@@ -230,24 +255,27 @@ fn refused(e: Error) -> Result<Length, ErrorKind> {
 #[test]
 fn sequences_are_read_by_a_function(rt: HostRuntime) {
     let alloc = rt.alloc();
-    assert_eq!(rt;
+    same(
+        &rt,
         sequence_of_two(alloc, Tag::Sequence, &[5, 0, 4, 1, 7]),
-        Ok(Length::ONE)
+        Ok(Length::ONE),
     );
-    assert_eq!(rt;
+    same(
+        &rt,
         sequence_of_two(alloc, Tag::Sequence, &[5, 0, 4, 1, 7, 5, 0]),
         Err(ErrorKind::TrailingData {
             decoded: Length::new(5),
-            remaining: Length::new(2)
-        })
+            remaining: Length::new(2),
+        }),
     );
-    assert_eq!(rt; sequence_of_none(&[5, 0]), Err(ErrorKind::Failed));
-    assert_eq!(rt;
+    same(&rt, sequence_of_none(&[5, 0]), Err(ErrorKind::Failed));
+    same(
+        &rt,
         sequence_of_two(alloc, Tag::Null, &[]),
         Err(ErrorKind::TagUnexpected {
             expected: Some(Tag::Sequence),
-            actual: Tag::Null
-        })
+            actual: Tag::Null,
+        }),
     );
 }
 
@@ -272,8 +300,8 @@ fn order_is_that_of_identifier_octets(rt: HostRuntime) -> Result<(), Fail> {
         Ok(any) => any,
         Err(e) => panic!(rt; "refused: {:?}", e.kind)
     };
-    assert_eq!(rt; high.der_cmp(&low)?, Ordering::Less);
-    assert_eq!(rt; high.cmp(&low), Ordering::Less);
+    same(&rt, high.der_cmp(&low)?, Ordering::Less);
+    same(&rt, high.cmp(&low), Ordering::Less);
     let short = match AnyRef::new(Tag::OctetString, &[9]) {
         Ok(any) => any,
         Err(e) => panic!(rt; "refused: {:?}", e.kind)
@@ -282,8 +310,8 @@ fn order_is_that_of_identifier_octets(rt: HostRuntime) -> Result<(), Fail> {
         Ok(any) => any,
         Err(e) => panic!(rt; "refused: {:?}", e.kind)
     };
-    assert_eq!(rt; short.der_cmp(&long)?, Ordering::Less);
-    assert_eq!(rt; short.cmp(&long), Ordering::Greater);
+    same(&rt, short.der_cmp(&long)?, Ordering::Less);
+    same(&rt, short.cmp(&long), Ordering::Greater);
     Ok(())
 }
 
@@ -293,20 +321,27 @@ fn identifiers_are_opaque(rt: HostRuntime) -> Result<(), Fail> {
     let Ok(name) = ObjectIdentifier::<3>::from_bytes(&[0x55, 0x04, 0x03]) else {
         panic!(rt; "refused")
     };
-    assert_eq!(rt; name.as_bytes(), [0x55, 0x04, 0x03].as_slice());
-    assert_eq!(rt; name.to_der(alloc)?.as_slice(), NAME.as_slice());
-    assert!(rt; matches!(ObjectIdentifier::<3>::from_der(alloc, &NAME), Ok(same) if same == name));
-    assert!(rt;
-        matches!(ObjectIdentifier::<3>::from_der(alloc, &[6, 0]), Err(e) if e.kind.number() == 15)
+    same(&rt, name.as_bytes(), [0x55, 0x04, 0x03].as_slice());
+    same(&rt, name.to_der(alloc)?.as_slice(), NAME.as_slice());
+    holds(
+        &rt,
+        matches!(ObjectIdentifier::<3>::from_der(alloc, &NAME), Ok(same) if same == name),
     );
-    assert!(rt;
-        matches!(ObjectIdentifier::<2>::from_der(alloc, &NAME), Err(e) if e.kind.number() == 7)
+    holds(
+        &rt,
+        matches!(ObjectIdentifier::<3>::from_der(alloc, &[6, 0]), Err(e) if e.kind.number() == 15),
     );
-    assert!(rt;
-        matches!(ObjectIdentifier::<3>::try_from(AnyRef::from(&name)), Ok(same) if same == name)
+    holds(
+        &rt,
+        matches!(ObjectIdentifier::<2>::from_der(alloc, &NAME), Err(e) if e.kind.number() == 7),
     );
-    assert!(rt;
-        matches!(ObjectIdentifier::<3>::try_from(AnyRef::NULL), Err(e) if e.kind.number() == 4)
+    holds(
+        &rt,
+        matches!(ObjectIdentifier::<3>::try_from(AnyRef::from(&name)), Ok(same) if same == name),
+    );
+    holds(
+        &rt,
+        matches!(ObjectIdentifier::<3>::try_from(AnyRef::NULL), Err(e) if e.kind.number() == 4),
     );
     Ok(())
 }
@@ -318,12 +353,12 @@ fn measured<T: Encode + FixedTag>(value: &T) -> Result<(Tag, Length), Error> {
 
 #[test]
 fn types_are_used_through_their_traits(rt: HostRuntime) -> Result<(), Fail> {
-    assert_eq!(rt; measured(&Null)?, (Tag::Null, Length::new(2)));
+    same(&rt, measured(&Null)?, (Tag::Null, Length::new(2)));
     let string = match OctetStringRef::new(&[1]) {
         Ok(string) => string,
         Err(e) => panic!(rt; "refused: {:?}", e.kind)
     };
-    assert_eq!(rt; measured(&string)?, (Tag::OctetString, Length::new(3)));
+    same(&rt, measured(&string)?, (Tag::OctetString, Length::new(3)));
     Ok(())
 }
 
@@ -332,27 +367,33 @@ fn any_values_are_ordered_by_their_tags_first(rt: HostRuntime) -> Result<(), Fai
     let alloc = rt.alloc();
     let integer = Any::from_der(alloc, &[0x02, 0x01, 0x7f])?;
     let octets = Any::from_der(alloc, &[0x04, 0x01, 0x00])?;
-    assert_eq!(rt; laws::tag_then_contents(&integer, &octets), Ordering::Less);
+    same(
+        &rt,
+        laws::tag_then_contents(&integer, &octets),
+        Ordering::Less,
+    );
     let (Ok(integer), Ok(octets)) = (
         AnyRef::from_der(alloc, &[0x02, 0x01, 0x7f]),
         AnyRef::from_der(alloc, &[0x04, 0x01, 0x00]),
     ) else {
         panic!(rt; "refused")
     };
-    assert_eq!(rt;
+    same(
+        &rt,
         laws::borrowed_tag_then_contents(&integer, &octets),
-        Ordering::Less
+        Ordering::Less,
     );
-    assert_eq!(rt;
+    same(
+        &rt,
         laws::universal_tags(),
         [
             Tag::Null,
             Tag::OctetString,
             Tag::OctetString,
-            Tag::ObjectIdentifier
-        ]
+            Tag::ObjectIdentifier,
+        ],
     );
-    assert_eq!(rt; laws::null().tag(), Tag::Null);
+    same(&rt, laws::null().tag(), Tag::Null);
     Ok(())
 }
 
@@ -364,6 +405,6 @@ fn a_list_is_before_one_with_more_items(rt: HostRuntime) -> Result<(), Fail> {
     };
     let short = vec![in alloc; five]?;
     let long = vec![in alloc; five, AnyRef::NULL]?;
-    assert!(rt; matches!(short.value_cmp(&long), Ok(Ordering::Less)));
+    holds(&rt, matches!(short.value_cmp(&long), Ok(Ordering::Less)));
     Ok(())
 }

@@ -1,5 +1,6 @@
 //! Borrowed sets: the octets that they are read from and written as, and their calls.
 
+use crate::tests::{holds, same};
 use der_elem::{Decode, DerOrd, Duplicate, Encode, EncodeValue, FromDer, Tagged, TakesMemory};
 use der_nest::{SetOfRef, SetOfVec};
 use der_opaque::OctetStringRef;
@@ -34,7 +35,7 @@ fn reads_as<'a, T: 'a + Decode<'a, SliceReader<'a>> + Encode + DerOrd + Tagged>(
     encoding: &[u8],
 ) -> Result<(), u8> {
     let written = canonical::<T>(alloc, octets)?;
-    assert_eq!(rt; written.as_slice(), encoding);
+    same(rt, written.as_slice(), encoding);
     Ok(())
 }
 
@@ -70,18 +71,27 @@ fn writes_the_items_encodings(rt: HostRuntime) -> Result<(), Fail> {
 fn refuses_by_number(rt: HostRuntime) {
     let alloc = rt.alloc();
     let falling = [0x31, 0x06, 0x02, 0x01, 0x08, 0x02, 0x01, 0x07];
-    assert_eq!(rt; canonical::<u16>(alloc, &falling).err(), Some(11));
+    same(&rt, canonical::<u16>(alloc, &falling).err(), Some(11));
     let null = [0x31, 0x04, 0x04, 0x00, 0x05, 0x00];
-    assert_eq!(rt; canonical::<OctetStringRef>(alloc, &null).err(), Some(4));
-    let short = [0x31, 0x03, 0x04, 0x01, 0x00, 0x04];
-    assert_eq!(rt; canonical::<OctetStringRef>(alloc, &short).err(), Some(3));
-    let cut = [0x31, 0x03, 0x04, 0x02, 0x00];
-    assert_eq!(rt; canonical::<OctetStringRef>(alloc, &cut).err(), Some(2));
-    assert_eq!(rt;
-        canonical::<u16>(alloc, &[0x31, 0x06, 0x02, 0x01]).err(),
-        Some(2)
+    same(
+        &rt,
+        canonical::<OctetStringRef>(alloc, &null).err(),
+        Some(4),
     );
-    assert_eq!(rt; canonical::<u16>(alloc, &[0x30, 0x00]).err(), Some(4));
+    let short = [0x31, 0x03, 0x04, 0x01, 0x00, 0x04];
+    same(
+        &rt,
+        canonical::<OctetStringRef>(alloc, &short).err(),
+        Some(3),
+    );
+    let cut = [0x31, 0x03, 0x04, 0x02, 0x00];
+    same(&rt, canonical::<OctetStringRef>(alloc, &cut).err(), Some(2));
+    same(
+        &rt,
+        canonical::<u16>(alloc, &[0x31, 0x06, 0x02, 0x01]).err(),
+        Some(2),
+    );
+    same(&rt, canonical::<u16>(alloc, &[0x30, 0x00]).err(), Some(4));
 }
 
 #[test]
@@ -96,8 +106,8 @@ fn counts_positions_from_the_contents(rt: HostRuntime) {
                 expected_len,
                 actual_len,
             } => {
-                assert_eq!(rt; expected_len.value(), 4);
-                assert_eq!(rt; actual_len.value(), 3);
+                same(&rt, expected_len.value(), 4);
+                same(&rt, actual_len.value(), 3);
             }
             _ => assert!(rt; false),
         },
@@ -108,12 +118,13 @@ fn counts_positions_from_the_contents(rt: HostRuntime) {
         &[0x31, 0x04, 0x04, 0x00, 0x05, 0x00],
     );
     match other {
-        Err(e) => assert_eq!(rt;
+        Err(e) => same(
+            &rt,
             e.kind(),
             ErrorKind::TagUnexpected {
                 expected: Some(Tag::OctetString),
                 actual: Tag::Null,
-            }
+            },
         ),
         Ok(_) => assert!(rt; false),
     }
@@ -124,23 +135,29 @@ fn borrows_slices_in_order(rt: HostRuntime) -> Result<(), Fail> {
     let alloc = rt.alloc();
     let rising: [u16; 5] = [0, 1, 2, 3, 65535];
     let set = numbered(SetOfRef::try_from(rising.as_slice()))?;
-    assert_eq!(rt; set.len(), 5);
-    assert!(rt; !set.is_empty());
+    same(&rt, set.len(), 5);
+    holds(&rt, !set.is_empty());
     let written = numbered(set.to_der(alloc))?;
-    assert_eq!(rt;
+    same(
+        &rt,
         written.as_slice(),
         [
             0x31, 0x11, 0x02, 0x01, 0x00, 0x02, 0x01, 0x01, 0x02, 0x01, 0x02, 0x02, 0x01, 0x03,
             0x02, 0x03, 0x00, 0xff, 0xff,
         ]
-        .as_slice()
+        .as_slice(),
     );
     let equal: [u16; 2] = [1, 1];
-    assert_eq!(rt; numbered(SetOfRef::try_from(equal.as_slice()))?.len(), 2);
+    same(
+        &rt,
+        numbered(SetOfRef::try_from(equal.as_slice()))?.len(),
+        2,
+    );
     let falling: [u16; 5] = [3, 2, 1, 65535, 0];
-    assert_eq!(rt;
+    same(
+        &rt,
         numbered(SetOfRef::try_from(falling.as_slice())).err(),
-        Some(11)
+        Some(11),
     );
     Ok(())
 }
@@ -155,13 +172,13 @@ fn numbers(rt: &impl Abort, alloc: Global, set: &SetOfRef<'_, u16>) -> Result<Ve
         if left > 0 {
             left -= 1;
         }
-        assert_eq!(rt; items.len(), left);
+        same(rt, items.len(), left);
         if numbers.push(number).is_err() {
             return Err(1);
         }
     }
-    assert_eq!(rt; left, 0);
-    assert!(rt; items.next().is_none());
+    same(rt, left, 0);
+    holds(rt, items.next().is_none());
     Ok(numbers)
 }
 
@@ -169,12 +186,16 @@ fn numbers(rt: &impl Abort, alloc: Global, set: &SetOfRef<'_, u16>) -> Result<Ve
 fn gives_the_items_of_octets(rt: HostRuntime) -> Result<(), Fail> {
     let alloc = rt.alloc();
     let set: SetOfRef<u16> = numbered(SetOfRef::from_der(alloc, &ORDERED))?;
-    assert_eq!(rt; numbers(&rt, alloc, &set)?.as_slice(), [7, 8].as_slice());
-    assert_eq!(rt; numbered(set.get(0).ok_or("none")?)?, 7);
-    assert_eq!(rt; numbered(set.get(1).ok_or("none")?)?, 8);
-    assert!(rt; set.get(2).is_none());
+    same(
+        &rt,
+        numbers(&rt, alloc, &set)?.as_slice(),
+        [7, 8].as_slice(),
+    );
+    same(&rt, numbered(set.get(0).ok_or("none")?)?, 7);
+    same(&rt, numbered(set.get(1).ok_or("none")?)?, 8);
+    holds(&rt, set.get(2).is_none());
     let owned = numbered(set.ref_to_owned(alloc))?;
-    assert_eq!(rt; owned.as_slice(), [7, 8].as_slice());
+    same(&rt, owned.as_slice(), [7, 8].as_slice());
     Ok(())
 }
 
@@ -183,20 +204,22 @@ fn gives_the_items_of_a_slice(rt: HostRuntime) -> Result<(), Fail> {
     let alloc = rt.alloc();
     let owned = numbered(SetOfVec::from_array(alloc, [8u16, 7, 300]))?;
     let set = owned.owned_to_ref();
-    assert_eq!(rt;
+    same(
+        &rt,
         numbers(&rt, alloc, &set)?.as_slice(),
-        [7, 8, 300].as_slice()
+        [7, 8, 300].as_slice(),
     );
-    assert_eq!(rt; numbered(set.get(2).ok_or("none")?)?, 300);
-    assert!(rt; set.get(3).is_none());
+    same(&rt, numbered(set.get(2).ok_or("none")?)?, 300);
+    holds(&rt, set.get(3).is_none());
     let again = SetOfRef::from(&set);
     let copy = numbered(again.duplicate())?;
-    assert_eq!(rt;
+    same(
+        &rt,
         numbered(copy.ref_to_owned(alloc))?.as_slice(),
-        owned.as_slice()
+        owned.as_slice(),
     );
     let cloned = copy.clone()?;
-    assert_eq!(rt; numbered(cloned.der_cmp(&set)), Ok(Ordering::Equal));
+    same(&rt, numbered(cloned.der_cmp(&set)), Ok(Ordering::Equal));
     Ok(())
 }
 
@@ -209,15 +232,17 @@ fn order<'a>(items: &'a [u16], others: &'a [u16]) -> Result<Ordering, u8> {
 
 #[test]
 fn orders_slices_by_encodings(rt: HostRuntime) {
-    assert_eq!(rt;
+    same(
+        &rt,
         order(&[0, 1, 2, 3, 5], &[0, 1, 2, 3, 4]),
-        Ok(Ordering::Greater)
+        Ok(Ordering::Greater),
     );
-    assert_eq!(rt;
+    same(
+        &rt,
         order(&[0, 1, 2, 3, 4], &[0, 1, 2, 3, 5]),
-        Ok(Ordering::Less)
+        Ok(Ordering::Less),
     );
-    assert_eq!(rt; order(&[1, 2], &[1, 2]), Ok(Ordering::Equal));
+    same(&rt, order(&[1, 2], &[1, 2]), Ok(Ordering::Equal));
 }
 
 // The order of a set that is read and of one of borrowed numbers, and the other way round.
@@ -235,17 +260,20 @@ fn orders<'a>(
 #[test]
 fn orders_octets_by_encodings(rt: HostRuntime) {
     let alloc = rt.alloc();
-    assert_eq!(rt;
+    same(
+        &rt,
         orders(alloc, &ORDERED, &[7, 8]),
-        Ok((Ordering::Equal, Ordering::Equal))
+        Ok((Ordering::Equal, Ordering::Equal)),
     );
-    assert_eq!(rt;
+    same(
+        &rt,
         orders(alloc, &ORDERED, &[7, 9]),
-        Ok((Ordering::Less, Ordering::Greater))
+        Ok((Ordering::Less, Ordering::Greater)),
     );
-    assert_eq!(rt;
+    same(
+        &rt,
         orders(alloc, &ORDERED, &[7]),
-        Ok((Ordering::Greater, Ordering::Less))
+        Ok((Ordering::Greater, Ordering::Less)),
     );
 }
 
@@ -256,8 +284,8 @@ fn takes_memory<'a, T: 'a + Decode<'a, SliceReader<'a>> + DerOrd + Tagged>() -> 
 
 #[test]
 fn takes_memory_as_the_items_do(rt: HostRuntime) {
-    assert!(rt; !takes_memory::<u16>());
-    assert!(rt; takes_memory::<SetOfVec<u16>>());
+    holds(&rt, !takes_memory::<u16>());
+    holds(&rt, takes_memory::<SetOfVec<u16>>());
 }
 
 // Reads a set of sets and walks it: how many items came, or the refusal, which is then the last.
@@ -268,8 +296,8 @@ fn walked(rt: &impl Abort, alloc: Global, octets: &[u8]) -> Result<usize, u8> {
         match item {
             Ok(_item) => {}
             Err(e) => {
-                assert_eq!(rt; items.len(), 0);
-                assert!(rt; items.next().is_none());
+                same(rt, items.len(), 0);
+                holds(rt, items.next().is_none());
                 return Err(e.kind().number());
             }
         }
@@ -284,5 +312,5 @@ fn a_set_of_sets_is_walked(rt: HostRuntime) {
     let octets = [
         0x31, 0x0a, 0x31, 0x03, 0x02, 0x01, 0x07, 0x31, 0x03, 0x02, 0x01, 0x08,
     ];
-    assert_eq!(rt; walked(&rt, rt.alloc(), &octets), Ok(2));
+    same(&rt, walked(&rt, rt.alloc(), &octets), Ok(2));
 }

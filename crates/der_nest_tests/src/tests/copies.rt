@@ -1,5 +1,6 @@
 //! The walk over a borrowed set: its copies, and its text. The order of sequences.
 
+use crate::tests::{holds, same};
 use der_nest::laws::sequences_by_contents;
 use der_nest::{SequenceRef, SetOfRef};
 use std::cmp::Ordering;
@@ -13,15 +14,16 @@ fn a_copied_walk_goes_on_from_the_same_place(rt: HostRuntime) -> Result<(), Fail
         Err(_) => return Err("refused".into()),
     };
     let mut items = set.iter();
-    assert!(rt; items.next().is_some());
+    holds(&rt, items.next().is_some());
     let mut others = items.clone()?;
-    assert_eq!(rt; others.len(), 2);
-    assert!(rt; others.next().is_some());
-    assert_eq!(rt; items.len(), 2);
+    same(&rt, others.len(), 2);
+    holds(&rt, others.next().is_some());
+    same(&rt, items.len(), 2);
     let text = format!(in rt.alloc(); "{set:?} {items:?}")?;
-    assert_eq!(rt;
+    same(
+        &rt,
         text.as_str(),
-        "SetOfRef { len: 3, .. } SetOfRefIter { len: 2, .. }"
+        "SetOfRef { len: 3, .. } SetOfRefIter { len: 2, .. }",
     );
     Ok(())
 }
@@ -32,6 +34,6 @@ fn sequences_are_ordered_by_their_octets(rt: HostRuntime) -> Result<(), Fail> {
         (Ok(one), Ok(other)) => (one, other),
         _ => return Err("refused".into()),
     };
-    assert_eq!(rt; sequences_by_contents(one, other), Ordering::Less);
+    same(&rt, sequences_by_contents(one, other), Ordering::Less);
     Ok(())
 }

@@ -1,6 +1,6 @@
 //! How many comparisons insertions make.
 
-use crate::tests::numbered;
+use crate::tests::{holds, numbered, same};
 use der_elem::{DerOrd, Form};
 use der_nest::{Runs, SetOfVec};
 use der_tlv::Error;
@@ -76,7 +76,7 @@ fn inserts<T: DerOrd>(
         comparisons.set(0);
         let digits = usize::BITS - set.len().leading_zeros();
         numbered(set.insert(item))?;
-        assert!(rt; comparisons.get() <= digits);
+        holds(rt, comparisons.get() <= digits);
     }
     Ok(())
 }
@@ -152,14 +152,14 @@ fn three_ways(alloc: Global, factor: u32, step: u32) -> Result<[u32; 3], Fail> {
 #[test]
 fn rising_items_are_compared_once_each(rt: HostRuntime) -> Result<(), Fail> {
     let counts = three_ways(rt.alloc(), 1, 1)?;
-    assert_eq!(rt; counts, [4000, 3999, 3999]);
+    same(&rt, counts, [4000, 3999, 3999]);
     Ok(())
 }
 
 #[test]
 fn falling_items_that_are_read_are_compared_once_each(rt: HostRuntime) -> Result<(), Fail> {
     let counts = three_ways(rt.alloc(), 1, 4000)?;
-    assert_eq!(rt; counts, [3999, 47904, 47904]);
+    same(&rt, counts, [3999, 47904, 47904]);
     Ok(())
 }
 
@@ -168,6 +168,6 @@ fn other_items_are_compared_as_often_as_their_numbers_have_digits(
     rt: HostRuntime,
 ) -> Result<(), Fail> {
     let scattered = three_ways(rt.alloc(), 3, 0)?;
-    assert_eq!(rt; scattered, [49553, 46289, 46289]);
+    same(&rt, scattered, [49553, 46289, 46289]);
     Ok(())
 }

@@ -3,7 +3,7 @@
 ghost use Rattle.std.specs.Prelude.{◌≡◌, List, [], ◌∷◌, ◌++◌, IfOk};
 ghost use Rattle.der_nest.specs.Stable.{IsSetOf};
 
-use crate::tests::numbered;
+use crate::tests::{holds, numbered};
 use der_elem::DerOrd;
 use der_nest::SetOfVec;
 use der_nest::laws::set_of_what_came;
@@ -31,6 +31,6 @@ fn three_calls<T: DerOrd + Copy>(
 #[test]
 fn a_set_after_three_calls(rt: HostRuntime) -> Result<(), Fail> {
     let set = numbered(three_calls(rt.alloc(), [9u16, 4, 9], 7, 11))?;
-    assert!(rt; set.as_slice() == [4, 7, 9, 9, 11].as_slice());
+    holds(&rt, set.as_slice() == [4, 7, 9, 9, 11].as_slice());
     Ok(())
 }

@@ -1,6 +1,6 @@
 //! Sets of many items.
 
-use crate::tests::numbered;
+use crate::tests::{holds, numbered, same};
 use der_elem::{Encode, FromDer};
 use der_nest::{SetOfRef, SetOfVec};
 use std::alloc::{AllocError, Global};
@@ -28,7 +28,7 @@ fn refusal(alloc: Global, octets: &[u8]) -> Option<u8> {
 fn counts_up(rt: &impl Abort, items: &[u16]) {
     assert_eq!(rt; items.len(), 4000);
     for i in 0..items.len() {
-        assert_eq!(rt; usize::from(items[i]), i);
+        same(rt, usize::from(items[i]), i);
     }
 }
 
@@ -41,10 +41,10 @@ fn falling_numbers_are_put_in_order(rt: HostRuntime) -> Result<(), Fail> {
     let read: SetOfVec<u16> = numbered(SetOfVec::from_der(rt.alloc(), octets.as_slice()))?;
     counts_up(&rt, read.as_slice());
     let sorted: SetOfVec<u16> = numbered(SetOfVec::try_from(numbers))?;
-    assert!(rt; sorted == read);
+    holds(&rt, sorted == read);
     let written = numbered(sorted.to_der(rt.alloc()))?;
-    assert_eq!(rt; refusal(rt.alloc(), written.as_slice()), None);
-    assert_eq!(rt; refusal(rt.alloc(), octets.as_slice()), Some(11));
+    same(&rt, refusal(rt.alloc(), written.as_slice()), None);
+    same(&rt, refusal(rt.alloc(), octets.as_slice()), Some(11));
     Ok(())
 }
 
@@ -56,9 +56,9 @@ fn is_sorted_as_a_list(rt: &impl Abort, alloc: Global, numbers: Vec<u16>) -> Res
     assert!(rt; !octets.is_empty());
     octets[0] = 0x31;
     let set: SetOfVec<u16> = numbered(SetOfVec::try_from(numbers))?;
-    assert!(rt; set.as_slice() == list.as_slice());
+    holds(rt, set.as_slice() == list.as_slice());
     let read: SetOfVec<u16> = numbered(SetOfVec::from_der(alloc, octets.as_slice()))?;
-    assert!(rt; read.as_slice() == list.as_slice());
+    holds(rt, read.as_slice() == list.as_slice());
     Ok(())
 }
 

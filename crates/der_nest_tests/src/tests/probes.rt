@@ -4,7 +4,7 @@ ghost use Rattle.std.specs.Prelude.{◌≡◌, ◌<◌};
 ghost use Rattle.der_nest.specs.Places.{IsInOrder};
 
 use crate::tests::counting::with_count;
-use crate::tests::numbered;
+use crate::tests::{numbered, same, same_in};
 use der_elem::DerOrd;
 use der_nest::{ItemProbe, Probe, SetOfVec, insertion_place};
 use der_tlv::Error;
@@ -79,9 +79,9 @@ fn a_probe_is_asked_as_often_as_the_number_of_items_has_digits(
     let rows = [(0, 0), (1, 1), (3, 2), (4, 3), (1000, 10), (4000, 12)];
     for (count, most) in rows {
         let (place, asks) = place_among_equals(rt.alloc(), count, item, &comparisons)?;
-        assert_eq!(rt; place, usize::from(count));
-        assert!(rt; asks <= most, "{count}");
-        assert_eq!(rt; comparisons.get(), asks, "an ask compares once");
+        same(&rt, place, usize::from(count));
+        same_in(&rt, &count, asks <= most, true);
+        same_in(&rt, &"an ask compares once", comparisons.get(), asks);
     }
     Ok(())
 }

@@ -1,5 +1,6 @@
 //! Tests of tags.
 
+use super::{holds, same, same_in};
 use der_tlv::{
     Class, Error, ErrorKind, Header, Length, Reader, SliceReader, SliceWriter, Tag, TagNumber,
 };
@@ -23,65 +24,80 @@ fn decoded(octets: &[u8]) -> Result<Tag, ErrorKind> {
 
 #[test]
 fn short_form(rt: HostRuntime) {
-    assert_eq!(rt; decoded(&[0x30, 0x00]), Ok(Tag::Sequence));
-    assert_eq!(rt; decoded(&[0xbe]), Ok(context(30)));
+    same(&rt, decoded(&[0x30, 0x00]), Ok(Tag::Sequence));
+    same(&rt, decoded(&[0xbe]), Ok(context(30)));
     let application = Tag::Application {
         constructed: false,
         number: TagNumber(0),
     };
-    assert_eq!(rt; decoded(&[0x40]), Ok(application));
+    same(&rt, decoded(&[0x40]), Ok(application));
     let private = Tag::Private {
         constructed: true,
         number: TagNumber(30),
     };
-    assert_eq!(rt; decoded(&[0xfe]), Ok(private));
+    same(&rt, decoded(&[0xfe]), Ok(private));
 }
 
 #[test]
 fn long_form(rt: HostRuntime) {
-    assert_eq!(rt; decoded(&[0xbf, 0x1f]), Ok(context(31)));
-    assert_eq!(rt; decoded(&[0xbf, 0x7f]), Ok(context(127)));
-    assert_eq!(rt; decoded(&[0xbf, 0x81, 0x00]), Ok(context(128)));
-    assert_eq!(rt; decoded(&[0xbf, 0xff, 0x7f]), Ok(context(16383)));
-    assert_eq!(rt; decoded(&[0xbf, 0x81, 0x80, 0x00]), Ok(context(16384)));
-    assert_eq!(rt;
+    same(&rt, decoded(&[0xbf, 0x1f]), Ok(context(31)));
+    same(&rt, decoded(&[0xbf, 0x7f]), Ok(context(127)));
+    same(&rt, decoded(&[0xbf, 0x81, 0x00]), Ok(context(128)));
+    same(&rt, decoded(&[0xbf, 0xff, 0x7f]), Ok(context(16383)));
+    same(&rt, decoded(&[0xbf, 0x81, 0x80, 0x00]), Ok(context(16384)));
+    same(
+        &rt,
         decoded(&[0xbf, 0x8f, 0xff, 0xff, 0xff, 0x7f]),
-        Ok(context(4294967295))
+        Ok(context(4294967295)),
     );
 }
 
 #[test]
 fn invalid_numbers(rt: HostRuntime) {
-    let invalid = Err(ErrorKind::TagNumberInvalid);
-    assert_eq!(rt;
-        decoded(&[0xbf, 0x90, 0x80, 0x80, 0x80, 0x00]),
-        invalid,
-        "2 to the power 32"
-    );
-    assert_eq!(rt;
-        decoded(&[0xbf, 0x90, 0x80, 0x80, 0x80, 0x80]),
-        invalid,
-        "with no last octet"
-    );
-    assert_eq!(rt; decoded(&[0x1f, 0x1e]), invalid, "30 in the long form");
-    assert_eq!(rt; decoded(&[0xbf, 0x00]), invalid, "0 in the long form");
-    assert_eq!(rt; decoded(&[0xbf, 0x80]), invalid, "a leading zero digit");
+    let rows = [
+        (
+            "2 to the power 32",
+            [0xbf, 0x90, 0x80, 0x80, 0x80, 0x00].as_slice(),
+        ),
+        (
+            "with no last octet",
+            [0xbf, 0x90, 0x80, 0x80, 0x80, 0x80].as_slice(),
+        ),
+        ("30 in the long form", [0x1f, 0x1e].as_slice()),
+        ("0 in the long form", [0xbf, 0x00].as_slice()),
+        ("a leading zero digit", [0xbf, 0x80].as_slice()),
+    ];
+    for (case, octets) in rows {
+        same_in(
+            &rt,
+            &case,
+            decoded(octets),
+            Err(ErrorKind::TagNumberInvalid),
+        );
+    }
 }
 
 #[test]
 fn universal_tags(rt: HostRuntime) {
-    assert_eq!(rt; decoded(&[0x19]), Err(ErrorKind::TagUnknown { byte: 0x19 }));
-    assert_eq!(rt;
+    same(
+        &rt,
+        decoded(&[0x19]),
+        Err(ErrorKind::TagUnknown { byte: 0x19 }),
+    );
+    same(
+        &rt,
         decoded(&[0x1f, 0x1f]),
-        Err(ErrorKind::TagUnknown { byte: 0x1f })
+        Err(ErrorKind::TagUnknown { byte: 0x1f }),
     );
-    assert_eq!(rt;
+    same(
+        &rt,
         decoded(&[0x22]),
-        Err(ErrorKind::Noncanonical { tag: Tag::Integer })
+        Err(ErrorKind::Noncanonical { tag: Tag::Integer }),
     );
-    assert_eq!(rt;
+    same(
+        &rt,
         decoded(&[0x10]),
-        Err(ErrorKind::Noncanonical { tag: Tag::Sequence })
+        Err(ErrorKind::Noncanonical { tag: Tag::Sequence }),
     );
 }
 
@@ -93,9 +109,9 @@ fn missing_octets(rt: HostRuntime) {
             actual_len: Length::new(expected_len - 1),
         })
     };
-    assert_eq!(rt; decoded(&[]), missing(1));
-    assert_eq!(rt; decoded(&[0xbf]), missing(2));
-    assert_eq!(rt; decoded(&[0xbf, 0x81]), missing(3));
+    same(&rt, decoded(&[]), missing(1));
+    same(&rt, decoded(&[0xbf]), missing(2));
+    same(&rt, decoded(&[0xbf, 0x81]), missing(3));
 }
 
 /// Whether these are the identifier octets of a tag, which the length octet of no contents octets
@@ -114,31 +130,34 @@ fn identifier_is(tag: Tag, octets: &[u8]) -> bool {
 
 #[test]
 fn identifier_octets(rt: HostRuntime) {
-    assert!(rt; identifier_is(Tag::Set, &[0x31]));
-    assert!(rt; identifier_is(context(128), &[0xbf, 0x81, 0x00]));
-    assert!(rt; identifier_is(context(4294967295), &[0xbf, 0x8f, 0xff, 0xff, 0xff, 0x7f]));
+    holds(&rt, identifier_is(Tag::Set, &[0x31]));
+    holds(&rt, identifier_is(context(128), &[0xbf, 0x81, 0x00]));
+    holds(
+        &rt,
+        identifier_is(context(4294967295), &[0xbf, 0x8f, 0xff, 0xff, 0xff, 0x7f]),
+    );
 }
 
 #[test]
 fn order(rt: HostRuntime) {
-    assert!(rt; context(16384) < context(16383), "81 80 00 before FF 7F");
-    assert!(rt; context(127) > context(31));
-    assert!(rt; Tag::Sequence < context(0));
-    assert!(rt; Tag::Utf8String > Tag::Integer);
-    assert_eq!(rt; context(16384).cmp(&context(16384)), Ordering::Equal);
-    assert_eq!(rt; Tag::Null.cmp(&Tag::Null), Ordering::Equal);
+    holds(&rt, context(16384) < context(16383));
+    holds(&rt, context(127) > context(31));
+    holds(&rt, Tag::Sequence < context(0));
+    holds(&rt, Tag::Utf8String > Tag::Integer);
+    same(&rt, context(16384).cmp(&context(16384)), Ordering::Equal);
+    same(&rt, Tag::Null.cmp(&Tag::Null), Ordering::Equal);
 }
 
 #[test]
 fn peeks(rt: HostRuntime) {
     match SliceReader::new(&[0xbf, 0x1f, 0x30]) {
         Ok(mut reader) => {
-            assert_eq!(rt; known(Tag::peek(&mut reader)), Ok(context(31)));
-            assert_eq!(rt; reader.position(), Length::ZERO);
-            assert_eq!(rt; known(Tag::decode(&mut reader)), Ok(context(31)));
-            assert_eq!(rt; known(Tag::decode(&mut reader)), Ok(Tag::Sequence));
-            assert!(rt; Tag::peek(&mut reader).is_err(), "nothing is left");
-            assert_eq!(rt; known(Tag::decode(&mut reader)), Err(ErrorKind::Failed));
+            same(&rt, known(Tag::peek(&mut reader)), Ok(context(31)));
+            same(&rt, reader.position(), Length::ZERO);
+            same(&rt, known(Tag::decode(&mut reader)), Ok(context(31)));
+            same(&rt, known(Tag::decode(&mut reader)), Ok(Tag::Sequence));
+            holds(&rt, Tag::peek(&mut reader).is_err());
+            same(&rt, known(Tag::decode(&mut reader)), Err(ErrorKind::Failed));
         }
         Err(_) => assert!(rt; false, "three octets"),
     }
@@ -148,20 +167,30 @@ fn peeks(rt: HostRuntime) {
 fn peeks_that_match(rt: HostRuntime) {
     match SliceReader::new(&[0xbf, 0x1f]) {
         Ok(mut reader) => {
-            assert_eq!(rt; next_has(&mut reader, Class::ContextSpecific, 31), Ok(true));
-            assert_eq!(rt;
-                next_has(&mut reader, Class::ContextSpecific, 30),
-                Ok(false)
-            );
-            assert_eq!(rt; next_has(&mut reader, Class::Application, 31), Ok(false));
-            assert_eq!(rt; known(Tag::decode(&mut reader)), Ok(context(31)));
-            assert_eq!(rt;
+            same(
+                &rt,
                 next_has(&mut reader, Class::ContextSpecific, 31),
-                Ok(false)
+                Ok(true),
             );
-            assert!(rt; Tag::decode(&mut reader).is_err(), "nothing is left");
+            same(
+                &rt,
+                next_has(&mut reader, Class::ContextSpecific, 30),
+                Ok(false),
+            );
+            same(
+                &rt,
+                next_has(&mut reader, Class::Application, 31),
+                Ok(false),
+            );
+            same(&rt, known(Tag::decode(&mut reader)), Ok(context(31)));
+            same(
+                &rt,
+                next_has(&mut reader, Class::ContextSpecific, 31),
+                Ok(false),
+            );
+            holds(&rt, Tag::decode(&mut reader).is_err());
             let failed = next_has(&mut reader, Class::ContextSpecific, 31);
-            assert_eq!(rt; failed, Err(ErrorKind::Failed));
+            same(&rt, failed, Err(ErrorKind::Failed));
         }
         Err(_) => assert!(rt; false, "two octets"),
     }
@@ -189,13 +218,13 @@ fn known(tag: Result<Tag, Error>) -> Result<Tag, ErrorKind> {
 
 #[test]
 fn parts(rt: HostRuntime) {
-    assert_eq!(rt; Tag::Set.class(), Class::Universal);
-    assert!(rt; Tag::Set.is_constructed());
-    assert_eq!(rt; Tag::Set.number().value(), 17);
-    assert_eq!(rt; context(5).class(), Class::ContextSpecific);
-    assert!(rt; context(5).equals(context(5)));
-    assert!(rt; !context(5).equals(context(6)));
-    assert!(rt; !Tag::Set.equals(Tag::Sequence));
+    same(&rt, Tag::Set.class(), Class::Universal);
+    holds(&rt, Tag::Set.is_constructed());
+    same(&rt, Tag::Set.number().value(), 17);
+    same(&rt, context(5).class(), Class::ContextSpecific);
+    holds(&rt, context(5).equals(context(5)));
+    holds(&rt, !context(5).equals(context(6)));
+    holds(&rt, !Tag::Set.equals(Tag::Sequence));
 }
 
 #[test]
@@ -203,13 +232,14 @@ fn errors(rt: HostRuntime) {
     let expected = Some(Tag::Integer);
     let actual = Tag::Null;
     let unexpected = ErrorKind::TagUnexpected { expected, actual };
-    assert_eq!(rt;
+    same(
+        &rt,
         Tag::Null.assert_eq(Tag::Integer),
-        Err(Error::from_kind(unexpected))
+        Err(Error::from_kind(unexpected)),
     );
-    assert_eq!(rt; Tag::Null.assert_eq(Tag::Null), Ok(Tag::Null));
-    assert_eq!(rt; Tag::Null.unexpected_error(expected).number(), 4);
-    assert_eq!(rt; Tag::Null.value_error().number(), 13);
-    assert_eq!(rt; Tag::Null.length_error().number(), 7);
-    assert_eq!(rt; Tag::Null.non_canonical_error().number(), 8);
+    same(&rt, Tag::Null.assert_eq(Tag::Null), Ok(Tag::Null));
+    same(&rt, Tag::Null.unexpected_error(expected).number(), 4);
+    same(&rt, Tag::Null.value_error().number(), 13);
+    same(&rt, Tag::Null.length_error().number(), 7);
+    same(&rt, Tag::Null.non_canonical_error().number(), 8);
 }

@@ -1,6 +1,6 @@
 //! Strings of each type, through the traits' bounds.
 
-use crate::tests::{numbered, reads_back_in_order};
+use crate::tests::{holds, numbered, reads_back_in_order, same, same_in};
 use der_ascii::{
     Ia5String, Ia5StringRef, PrintableString, PrintableStringRef, TeletexString, TeletexStringRef,
     VideotexStringRef,
@@ -32,8 +32,8 @@ fn reads_strings(rt: HostRuntime) -> Result<(), Fail> {
     reads_back_in_order::<TeletexString>(&rt, alloc, &test_user(0x14))?;
     reads_back_in_order::<VideotexStringRef>(&rt, alloc, &test_user(0x15))?;
     reads_back_in_order::<PrintableString>(&rt, alloc, &[0x13, 0x00])?;
-    assert!(rt; !PrintableStringRef::TAKES_MEMORY);
-    assert!(rt; PrintableString::TAKES_MEMORY);
+    holds(&rt, !PrintableStringRef::TAKES_MEMORY);
+    holds(&rt, PrintableString::TAKES_MEMORY);
     Ok(())
 }
 
@@ -41,18 +41,22 @@ fn reads_strings(rt: HostRuntime) -> Result<(), Fail> {
 fn refuses_other_octets(rt: HostRuntime) {
     let alloc = rt.alloc();
     let printable = |octets: &[u8]| numbered(PrintableString::from_der(alloc, octets)).err();
-    assert_eq!(rt; printable(&[0x13, 0x01, 0x27]), None);
-    assert_eq!(rt; printable(&[0x13, 0x01, 0x5c]), Some(13));
-    assert_eq!(rt; printable(&[0x13, 0x01, 0x2a]), Some(13));
-    assert_eq!(rt; printable(&[0x16, 0x01, 0x27]), Some(4));
-    assert_eq!(rt; printable(&[0x13, 0x02, 0x27]), Some(2));
+    same(&rt, printable(&[0x13, 0x01, 0x27]), None);
+    same(&rt, printable(&[0x13, 0x01, 0x5c]), Some(13));
+    same(&rt, printable(&[0x13, 0x01, 0x2a]), Some(13));
+    same(&rt, printable(&[0x16, 0x01, 0x27]), Some(4));
+    same(&rt, printable(&[0x13, 0x02, 0x27]), Some(2));
     let ia5 = |octets: &[u8]| numbered(Ia5String::from_der(alloc, octets)).err();
-    assert_eq!(rt; ia5(&[0x16, 0x01, 0x80]), Some(13));
-    assert_eq!(rt; ia5(&[0x16, 0x01, 0x7f]), None);
-    assert!(rt; matches!(TeletexStringRef::new(&[0x80]), Err(e) if e.kind().number() == 13));
-    assert_eq!(rt;
+    same(&rt, ia5(&[0x16, 0x01, 0x80]), Some(13));
+    same(&rt, ia5(&[0x16, 0x01, 0x7f]), None);
+    holds(
+        &rt,
+        matches!(TeletexStringRef::new(&[0x80]), Err(e) if e.kind().number() == 13),
+    );
+    same(
+        &rt,
         numbered(TeletexString::new(alloc, &[0xff])).err(),
-        Some(13)
+        Some(13),
     );
 }
 
@@ -63,14 +67,14 @@ fn takes_the_printable_characters(rt: HostRuntime) {
     for octet in 0..=255u8 {
         let expected = octet.is_ascii_alphanumeric() || others.contains(&octet);
         let taken = PrintableStringRef::new(&[octet]).is_ok();
-        assert_eq!(rt; taken, expected, "{octet}");
+        same_in(&rt, &octet, taken, expected);
         let ascii = VideotexStringRef::new(&[octet]).is_ok();
-        assert_eq!(rt; ascii, octet < 0x80, "{octet}");
+        same_in(&rt, &octet, ascii, octet < 0x80);
         if taken && count < 255u8 {
             count += 1;
         }
     }
-    assert_eq!(rt; count, 74);
+    same(&rt, count, 74);
 }
 
 #[test]
@@ -79,41 +83,52 @@ fn converts(rt: HostRuntime) -> Result<(), Fail> {
     let Ok(hi) = PrintableStringRef::new(b"hi") else {
         return Err(Fail::from("refused"));
     };
-    assert_eq!(rt; hi.as_str(), "hi");
-    assert_eq!(rt; hi.as_bytes(), b"hi".as_slice());
-    assert_eq!(rt; (hi.len().value(), hi.is_empty()), (2, false));
-    assert_eq!(rt; <&[u8]>::from(hi), b"hi".as_slice());
+    same(&rt, hi.as_str(), "hi");
+    same(&rt, hi.as_bytes(), b"hi".as_slice());
+    same(&rt, (hi.len().value(), hi.is_empty()), (2, false));
+    same(&rt, <&[u8]>::from(hi), b"hi".as_slice());
     let owned = hi.ref_to_owned(alloc)?;
-    assert_eq!(rt;
+    same(
+        &rt,
         (owned.as_str(), owned.as_bytes()),
-        ("hi", b"hi".as_slice())
+        ("hi", b"hi".as_slice()),
     );
-    assert_eq!(rt; (owned.len().value(), owned.is_empty()), (2, false));
-    assert!(rt; owned.owned_to_ref() == hi);
-    assert!(rt; PrintableStringRef::from(&owned) == PrintableStringRef::from(&hi));
-    assert!(rt; owned.clone()? == owned);
+    same(&rt, (owned.len().value(), owned.is_empty()), (2, false));
+    holds(&rt, owned.owned_to_ref() == hi);
+    holds(
+        &rt,
+        PrintableStringRef::from(&owned) == PrintableStringRef::from(&hi),
+    );
+    holds(&rt, owned.clone()? == owned);
     let text = format!(in alloc; "{hi} {owned} {hi:?} {owned:?}")?;
-    assert_eq!(rt;
+    same(
+        &rt,
         text.as_str(),
-        "hi hi PrintableString(\"hi\") PrintableString(\"hi\")"
+        "hi hi PrintableString(\"hi\") PrintableString(\"hi\")",
     );
     let any = AnyRef::from(hi);
-    assert!(rt; any == AnyRef::from(&owned));
+    holds(&rt, any == AnyRef::from(&owned));
     let Ok(again) = PrintableStringRef::try_from(any) else {
         return Err(Fail::from("refused"));
     };
-    assert!(rt; again == hi);
+    holds(&rt, again == hi);
     let kept = Any::from_ref(alloc, any)?;
-    assert!(rt; PrintableStringRef::try_from(&kept).is_ok());
-    assert!(rt; matches!(Ia5StringRef::try_from(any), Err(e) if e.kind().number() == 4));
+    holds(&rt, PrintableStringRef::try_from(&kept).is_ok());
+    holds(
+        &rt,
+        matches!(Ia5StringRef::try_from(any), Err(e) if e.kind().number() == 4),
+    );
     let Ok(star) = AnyRef::new(Tag::PrintableString, b"*") else {
         return Err(Fail::from("refused"));
     };
-    assert!(rt; matches!(PrintableStringRef::try_from(star), Err(e) if e.kind().number() == 13));
+    holds(
+        &rt,
+        matches!(PrintableStringRef::try_from(star), Err(e) if e.kind().number() == 13),
+    );
     let from_text = PrintableString::try_from(String::from_str(alloc, "hi")?);
-    assert!(rt; numbered(from_text).is_ok());
+    holds(&rt, numbered(from_text).is_ok());
     let refused = PrintableString::try_from(String::from_str(alloc, "a*b")?);
-    assert_eq!(rt; numbered(refused).err(), Some(13));
+    same(&rt, numbered(refused).err(), Some(13));
     Ok(())
 }
 
@@ -121,9 +136,9 @@ fn converts(rt: HostRuntime) -> Result<(), Fail> {
 fn orders_by_contents(rt: HostRuntime) -> Result<(), Fail> {
     let alloc = rt.alloc();
     let (short, long) = (Ia5String::new(alloc, b"b")?, Ia5String::new(alloc, b"aa")?);
-    assert!(rt; long < short);
-    assert_eq!(rt; numbered(long.value_cmp(&short)), Ok(Ordering::Less));
-    assert_eq!(rt; numbered(long.der_cmp(&short)), Ok(Ordering::Greater));
+    holds(&rt, long < short);
+    same(&rt, numbered(long.value_cmp(&short)), Ok(Ordering::Less));
+    same(&rt, numbered(long.der_cmp(&short)), Ok(Ordering::Greater));
     Ok(())
 }
 
@@ -135,6 +150,6 @@ fn reads_octet_strings_of_strings(rt: HostRuntime) -> Result<(), Fail> {
     let Ok(hi) = octets.decode_into::<PrintableStringRef>(rt.alloc()) else {
         return Err(Fail::from("refused"));
     };
-    assert_eq!(rt; hi.as_str(), "hi");
+    same(&rt, hi.as_str(), "hi");
     Ok(())
 }

@@ -1,4 +1,4 @@
-use crate::tests::{refusal, stays};
+use crate::tests::{holds, refusal, same, same_in, stays};
 use der_elem::{DerOrd, Duplicate, Encode, FixedTag};
 use der_numbers::{AsIntRef, AsUintRef, Int, IntRef, Uint, UintRef};
 use der_opaque::{Any, AnyRef};
@@ -43,14 +43,14 @@ fn kind_of<T: Drop>(answer: Result<T, Error>) -> Option<ErrorKind> {
 fn integers_are_read_and_written(rt: HostRuntime) {
     let alloc = rt.alloc();
     for octets in BOTH {
-        assert!(rt; stays::<IntRef<'_>>(alloc, octets), "{octets:?}");
-        assert!(rt; stays::<Int>(alloc, octets), "{octets:?}");
-        assert!(rt; stays::<UintRef<'_>>(alloc, octets), "{octets:?}");
-        assert!(rt; stays::<Uint>(alloc, octets), "{octets:?}");
+        same_in(&rt, &octets, stays::<IntRef<'_>>(alloc, octets), true);
+        same_in(&rt, &octets, stays::<Int>(alloc, octets), true);
+        same_in(&rt, &octets, stays::<UintRef<'_>>(alloc, octets), true);
+        same_in(&rt, &octets, stays::<Uint>(alloc, octets), true);
     }
     for octets in NEGATIVE {
-        assert!(rt; stays::<IntRef<'_>>(alloc, octets), "{octets:?}");
-        assert!(rt; stays::<Int>(alloc, octets), "{octets:?}");
+        same_in(&rt, &octets, stays::<IntRef<'_>>(alloc, octets), true);
+        same_in(&rt, &octets, stays::<Int>(alloc, octets), true);
     }
 }
 
@@ -58,17 +58,21 @@ fn integers_are_read_and_written(rt: HostRuntime) {
 fn integers_are_refused(rt: HostRuntime) {
     let alloc = rt.alloc();
     for octets in NEITHER {
-        assert_eq!(rt; refusal::<IntRef<'_>>(alloc, octets), 8, "{octets:?}");
-        assert_eq!(rt; refusal::<Int>(alloc, octets), 8, "{octets:?}");
-        assert_eq!(rt; refusal::<UintRef<'_>>(alloc, octets), 8, "{octets:?}");
-        assert_eq!(rt; refusal::<Uint>(alloc, octets), 8, "{octets:?}");
+        same_in(&rt, &octets, refusal::<IntRef<'_>>(alloc, octets), 8);
+        same_in(&rt, &octets, refusal::<Int>(alloc, octets), 8);
+        same_in(&rt, &octets, refusal::<UintRef<'_>>(alloc, octets), 8);
+        same_in(&rt, &octets, refusal::<Uint>(alloc, octets), 8);
     }
-    assert_eq!(rt; refusal::<IntRef<'_>>(alloc, &[0x02, 0x02, 0xff, 0x80]), 8);
-    assert_eq!(rt; refusal::<Int>(alloc, &[0x02, 0x02, 0xff, 0x80]), 8);
-    assert_eq!(rt; refusal::<UintRef<'_>>(alloc, &[0x02, 0x01, 0x81]), 13);
-    assert_eq!(rt; refusal::<Uint>(alloc, &[0x02, 0x01, 0x81]), 13);
-    assert_eq!(rt; refusal::<IntRef<'_>>(alloc, &[0x04, 0x01, 0x01]), 4);
-    assert_eq!(rt; refusal::<UintRef<'_>>(alloc, &[0x02, 0x02, 0x01]), 2);
+    same(
+        &rt,
+        refusal::<IntRef<'_>>(alloc, &[0x02, 0x02, 0xff, 0x80]),
+        8,
+    );
+    same(&rt, refusal::<Int>(alloc, &[0x02, 0x02, 0xff, 0x80]), 8);
+    same(&rt, refusal::<UintRef<'_>>(alloc, &[0x02, 0x01, 0x81]), 13);
+    same(&rt, refusal::<Uint>(alloc, &[0x02, 0x01, 0x81]), 13);
+    same(&rt, refusal::<IntRef<'_>>(alloc, &[0x04, 0x01, 0x01]), 4);
+    same(&rt, refusal::<UintRef<'_>>(alloc, &[0x02, 0x02, 0x01]), 2);
 }
 
 /// The octets of the integer that some octets say, or none where they are refused.
@@ -97,10 +101,10 @@ fn octets_are_kept_as_the_fewest(rt: HostRuntime) -> Result<(), Fail> {
         (&[0xff], &[0xff], &[0x02, 0x01, 0xff]),
     ];
     for (given, kept, encoding) in integers {
-        assert_eq!(rt; integer(given), kept);
+        same(&rt, integer(given), kept);
         let owned = Int::new(alloc, given)?;
-        assert_eq!(rt; owned.as_bytes(), kept);
-        assert_eq!(rt; owned.to_der(alloc)?.as_slice(), encoding);
+        same(&rt, owned.as_bytes(), kept);
+        same(&rt, owned.to_der(alloc)?.as_slice(), encoding);
     }
     let numbers: [(&[u8], &[u8], &[u8]); 4] = [
         (&[0x00, 0x00, 0x00], &[0x00], &[0x02, 0x01, 0x00]),
@@ -113,10 +117,10 @@ fn octets_are_kept_as_the_fewest(rt: HostRuntime) -> Result<(), Fail> {
         ),
     ];
     for (given, kept, encoding) in numbers {
-        assert_eq!(rt; number(given), kept);
+        same(&rt, number(given), kept);
         let owned = Uint::new(alloc, given)?;
-        assert_eq!(rt; owned.as_bytes(), kept);
-        assert_eq!(rt; owned.to_der(alloc)?.as_slice(), encoding);
+        same(&rt, owned.as_bytes(), kept);
+        same(&rt, owned.to_der(alloc)?.as_slice(), encoding);
     }
     Ok(())
 }
@@ -125,10 +129,16 @@ fn octets_are_kept_as_the_fewest(rt: HostRuntime) -> Result<(), Fail> {
 fn no_octets_are_refused(rt: HostRuntime) {
     let alloc = rt.alloc();
     let expected = ErrorKind::Length { tag: Tag::Integer };
-    assert!(rt; matches!(IntRef::new(&[]), Err(e) if e.kind == expected));
-    assert!(rt; matches!(UintRef::new(&[]), Err(e) if e.kind == expected));
-    assert_eq!(rt; kind_of(Int::new(alloc, &[])), Some(expected));
-    assert_eq!(rt; kind_of(Uint::new(alloc, &[])), Some(expected));
+    holds(
+        &rt,
+        matches!(IntRef::new(&[]), Err(e) if e.kind == expected),
+    );
+    holds(
+        &rt,
+        matches!(UintRef::new(&[]), Err(e) if e.kind == expected),
+    );
+    same(&rt, kind_of(Int::new(alloc, &[])), Some(expected));
+    same(&rt, kind_of(Uint::new(alloc, &[])), Some(expected));
 }
 
 #[test]
@@ -136,28 +146,28 @@ fn borrowed_and_owned_agree(rt: HostRuntime) -> Result<(), Fail> {
     let alloc = rt.alloc();
     let int = Int::new(alloc, &[0x00, 0x80])?;
     let int_ref = int.owned_to_ref();
-    assert_eq!(rt; int.len(), Length::new(2));
-    assert_eq!(rt; int_ref.len(), Length::new(2));
-    assert!(rt; !int.is_empty());
-    assert!(rt; !int_ref.is_empty());
-    assert_eq!(rt; int.as_int_ref(), int_ref);
-    assert_eq!(rt; int_ref.as_int_ref(), int_ref);
-    assert_eq!(rt; IntRef::from(&int_ref), int_ref);
-    assert!(rt; int_ref.ref_to_owned(alloc)? == int);
-    assert!(rt; int.duplicate()? == int);
-    assert!(rt; matches!(int.clone(), Ok(copy) if copy == int));
+    same(&rt, int.len(), Length::new(2));
+    same(&rt, int_ref.len(), Length::new(2));
+    holds(&rt, !int.is_empty());
+    holds(&rt, !int_ref.is_empty());
+    same(&rt, int.as_int_ref(), int_ref);
+    same(&rt, int_ref.as_int_ref(), int_ref);
+    same(&rt, IntRef::from(&int_ref), int_ref);
+    holds(&rt, int_ref.ref_to_owned(alloc)? == int);
+    holds(&rt, int.duplicate()? == int);
+    holds(&rt, int.clone()? == int);
     let uint = Uint::new(alloc, &[0x00, 0x80])?;
     let uint_ref = uint.owned_to_ref();
-    assert_eq!(rt; uint.len(), Length::ONE);
-    assert_eq!(rt; uint_ref.len(), Length::ONE);
-    assert!(rt; !uint.is_empty());
-    assert!(rt; !uint_ref.is_empty());
-    assert_eq!(rt; uint.as_uint_ref(), uint_ref);
-    assert_eq!(rt; uint_ref.as_uint_ref(), uint_ref);
-    assert_eq!(rt; UintRef::from(&uint_ref), uint_ref);
-    assert!(rt; uint_ref.ref_to_owned(alloc)? == uint);
-    assert!(rt; uint.duplicate()? == uint);
-    assert!(rt; matches!(uint.clone(), Ok(copy) if copy == uint));
+    same(&rt, uint.len(), Length::ONE);
+    same(&rt, uint_ref.len(), Length::ONE);
+    holds(&rt, !uint.is_empty());
+    holds(&rt, !uint_ref.is_empty());
+    same(&rt, uint.as_uint_ref(), uint_ref);
+    same(&rt, uint_ref.as_uint_ref(), uint_ref);
+    same(&rt, UintRef::from(&uint_ref), uint_ref);
+    holds(&rt, uint_ref.ref_to_owned(alloc)? == uint);
+    holds(&rt, uint.duplicate()? == uint);
+    holds(&rt, uint.clone()? == uint);
     Ok(())
 }
 
@@ -168,25 +178,56 @@ fn signed_machine_integers_are_taken(rt: HostRuntime) -> Result<(), Fail> {
     low[0] = 0x80;
     let mut high = [0xffu8; 16];
     high[0] = 0x7f;
-    assert_eq!(rt; Int::try_from_i8(alloc, i8::MIN)?.as_bytes(), &low[..1]);
-    assert_eq!(rt; Int::try_from_i16(alloc, i16::MIN)?.as_bytes(), &low[..2]);
-    assert_eq!(rt; Int::try_from_i32(alloc, i32::MIN)?.as_bytes(), &low[..4]);
-    assert_eq!(rt; Int::try_from_i64(alloc, i64::MIN)?.as_bytes(), &low[..8]);
-    assert_eq!(rt;
+    same(&rt, Int::try_from_i8(alloc, i8::MIN)?.as_bytes(), &low[..1]);
+    same(
+        &rt,
+        Int::try_from_i16(alloc, i16::MIN)?.as_bytes(),
+        &low[..2],
+    );
+    same(
+        &rt,
+        Int::try_from_i32(alloc, i32::MIN)?.as_bytes(),
+        &low[..4],
+    );
+    same(
+        &rt,
+        Int::try_from_i64(alloc, i64::MIN)?.as_bytes(),
+        &low[..8],
+    );
+    same(
+        &rt,
         Int::try_from_i128(alloc, i128::MIN)?.as_bytes(),
-        low.as_slice()
+        low.as_slice(),
     );
-    assert_eq!(rt; Int::try_from_i8(alloc, i8::MAX)?.as_bytes(), &high[..1]);
-    assert_eq!(rt; Int::try_from_i16(alloc, i16::MAX)?.as_bytes(), &high[..2]);
-    assert_eq!(rt; Int::try_from_i32(alloc, i32::MAX)?.as_bytes(), &high[..4]);
-    assert_eq!(rt; Int::try_from_i64(alloc, i64::MAX)?.as_bytes(), &high[..8]);
-    assert_eq!(rt;
+    same(
+        &rt,
+        Int::try_from_i8(alloc, i8::MAX)?.as_bytes(),
+        &high[..1],
+    );
+    same(
+        &rt,
+        Int::try_from_i16(alloc, i16::MAX)?.as_bytes(),
+        &high[..2],
+    );
+    same(
+        &rt,
+        Int::try_from_i32(alloc, i32::MAX)?.as_bytes(),
+        &high[..4],
+    );
+    same(
+        &rt,
+        Int::try_from_i64(alloc, i64::MAX)?.as_bytes(),
+        &high[..8],
+    );
+    same(
+        &rt,
         Int::try_from_i128(alloc, i128::MAX)?.as_bytes(),
-        high.as_slice()
+        high.as_slice(),
     );
-    assert_eq!(rt;
+    same(
+        &rt,
         Int::try_from_i16(alloc, -129)?.as_bytes(),
-        [0xff, 0x7f].as_slice()
+        [0xff, 0x7f].as_slice(),
     );
     Ok(())
 }
@@ -195,21 +236,55 @@ fn signed_machine_integers_are_taken(rt: HostRuntime) -> Result<(), Fail> {
 fn unsigned_machine_integers_are_taken(rt: HostRuntime) -> Result<(), Fail> {
     let alloc = rt.alloc();
     let high = [0xffu8; 16];
-    assert_eq!(rt; Uint::try_from_u8(alloc, 0)?.as_bytes(), [0x00].as_slice());
-    assert_eq!(rt; Uint::try_from_u16(alloc, 0)?.as_bytes(), [0x00].as_slice());
-    assert_eq!(rt; Uint::try_from_u32(alloc, 0)?.as_bytes(), [0x00].as_slice());
-    assert_eq!(rt; Uint::try_from_u64(alloc, 0)?.as_bytes(), [0x00].as_slice());
-    assert_eq!(rt;
-        Uint::try_from_u128(alloc, 0)?.as_bytes(),
-        [0x00].as_slice()
+    same(
+        &rt,
+        Uint::try_from_u8(alloc, 0)?.as_bytes(),
+        [0x00].as_slice(),
     );
-    assert_eq!(rt; Uint::try_from_u8(alloc, u8::MAX)?.as_bytes(), &high[..1]);
-    assert_eq!(rt; Uint::try_from_u16(alloc, u16::MAX)?.as_bytes(), &high[..2]);
-    assert_eq!(rt; Uint::try_from_u32(alloc, u32::MAX)?.as_bytes(), &high[..4]);
-    assert_eq!(rt; Uint::try_from_u64(alloc, u64::MAX)?.as_bytes(), &high[..8]);
-    assert_eq!(rt;
+    same(
+        &rt,
+        Uint::try_from_u16(alloc, 0)?.as_bytes(),
+        [0x00].as_slice(),
+    );
+    same(
+        &rt,
+        Uint::try_from_u32(alloc, 0)?.as_bytes(),
+        [0x00].as_slice(),
+    );
+    same(
+        &rt,
+        Uint::try_from_u64(alloc, 0)?.as_bytes(),
+        [0x00].as_slice(),
+    );
+    same(
+        &rt,
+        Uint::try_from_u128(alloc, 0)?.as_bytes(),
+        [0x00].as_slice(),
+    );
+    same(
+        &rt,
+        Uint::try_from_u8(alloc, u8::MAX)?.as_bytes(),
+        &high[..1],
+    );
+    same(
+        &rt,
+        Uint::try_from_u16(alloc, u16::MAX)?.as_bytes(),
+        &high[..2],
+    );
+    same(
+        &rt,
+        Uint::try_from_u32(alloc, u32::MAX)?.as_bytes(),
+        &high[..4],
+    );
+    same(
+        &rt,
+        Uint::try_from_u64(alloc, u64::MAX)?.as_bytes(),
+        &high[..8],
+    );
+    same(
+        &rt,
         Uint::try_from_u128(alloc, u128::MAX)?.as_bytes(),
-        high.as_slice()
+        high.as_slice(),
     );
     Ok(())
 }
@@ -218,9 +293,9 @@ fn unsigned_machine_integers_are_taken(rt: HostRuntime) -> Result<(), Fail> {
 fn numbers_are_integers(rt: HostRuntime) -> Result<(), Fail> {
     let alloc = rt.alloc();
     let high = Int::from_uint(alloc, Uint::try_from_u8(alloc, 128)?)?;
-    assert_eq!(rt; high.as_bytes(), [0x00, 0x80].as_slice());
+    same(&rt, high.as_bytes(), [0x00, 0x80].as_slice());
     let low = Int::from_uint(alloc, Uint::try_from_u8(alloc, 127)?)?;
-    assert_eq!(rt; low.as_bytes(), [0x7f].as_slice());
+    same(&rt, low.as_bytes(), [0x7f].as_slice());
     Ok(())
 }
 
@@ -231,29 +306,57 @@ fn any_value_is_taken_as_an_integer(rt: HostRuntime) -> Result<(), Fail> {
         panic!(rt; "refused")
     };
     let owned = any.ref_to_owned(alloc)?;
-    assert!(rt; matches!(IntRef::try_from(any), Ok(i) if i.as_bytes() == [0x00, 0x80].as_slice()));
-    assert!(rt;
-        matches!(IntRef::try_from(&owned), Ok(i) if i.as_bytes() == [0x00, 0x80].as_slice())
+    holds(
+        &rt,
+        matches!(IntRef::try_from(any), Ok(i) if i.as_bytes() == [0x00, 0x80].as_slice()),
     );
-    assert!(rt; matches!(UintRef::try_from(any), Ok(n) if n.as_bytes() == [0x80].as_slice()));
-    assert!(rt; matches!(UintRef::try_from(&owned), Ok(n) if n.as_bytes() == [0x80].as_slice()));
+    holds(
+        &rt,
+        matches!(IntRef::try_from(&owned), Ok(i) if i.as_bytes() == [0x00, 0x80].as_slice()),
+    );
+    holds(
+        &rt,
+        matches!(UintRef::try_from(any), Ok(n) if n.as_bytes() == [0x80].as_slice()),
+    );
+    holds(
+        &rt,
+        matches!(UintRef::try_from(&owned), Ok(n) if n.as_bytes() == [0x80].as_slice()),
+    );
     let other = ErrorKind::TagUnexpected {
         expected: None,
         actual: Tag::Null,
     };
-    assert!(rt; matches!(IntRef::try_from(AnyRef::NULL), Err(e) if e.kind == other));
-    assert!(rt; matches!(UintRef::try_from(AnyRef::NULL), Err(e) if e.kind == other));
+    holds(
+        &rt,
+        matches!(IntRef::try_from(AnyRef::NULL), Err(e) if e.kind == other),
+    );
+    holds(
+        &rt,
+        matches!(UintRef::try_from(AnyRef::NULL), Err(e) if e.kind == other),
+    );
     let null = Any::null(alloc);
-    assert!(rt; matches!(IntRef::try_from(&null), Err(e) if e.kind == other));
-    assert!(rt; matches!(UintRef::try_from(&null), Err(e) if e.kind == other));
+    holds(
+        &rt,
+        matches!(IntRef::try_from(&null), Err(e) if e.kind == other),
+    );
+    holds(
+        &rt,
+        matches!(UintRef::try_from(&null), Err(e) if e.kind == other),
+    );
     let Ok(negative) = AnyRef::new(Tag::Integer, &[0x80]) else {
         panic!(rt; "refused")
     };
-    assert!(rt; matches!(UintRef::try_from(negative), Err(e) if e.kind.number() == 13));
+    holds(
+        &rt,
+        matches!(UintRef::try_from(negative), Err(e) if e.kind.number() == 13),
+    );
     let Ok(redundant) = AnyRef::new(Tag::Integer, &[0xff, 0x80]) else {
         panic!(rt; "refused")
     };
-    assert!(rt; matches!(IntRef::try_from(redundant), Err(e) if e.kind.number() == 8));
+    holds(
+        &rt,
+        matches!(IntRef::try_from(redundant), Err(e) if e.kind.number() == 8),
+    );
     Ok(())
 }
 
@@ -265,9 +368,9 @@ fn order_is_that_of_encodings(rt: HostRuntime) -> Result<(), Fail> {
         for b in numbers {
             let (a, b) = (Uint::try_from_u32(alloc, a)?, Uint::try_from_u32(alloc, b)?);
             let expected = a.to_der(alloc)?.as_slice().cmp(b.to_der(alloc)?.as_slice());
-            assert_eq!(rt; a.der_cmp(&b)?, expected);
-            assert_eq!(rt; a.owned_to_ref().der_cmp(&b.owned_to_ref())?, expected);
-            assert_eq!(rt; a == b, expected == Ordering::Equal);
+            same(&rt, a.der_cmp(&b)?, expected);
+            same(&rt, a.owned_to_ref().der_cmp(&b.owned_to_ref())?, expected);
+            same(&rt, a == b, expected == Ordering::Equal);
         }
     }
     let integers = [
@@ -277,9 +380,9 @@ fn order_is_that_of_encodings(rt: HostRuntime) -> Result<(), Fail> {
         for b in integers {
             let (a, b) = (Int::try_from_i32(alloc, a)?, Int::try_from_i32(alloc, b)?);
             let expected = a.to_der(alloc)?.as_slice().cmp(b.to_der(alloc)?.as_slice());
-            assert_eq!(rt; a.der_cmp(&b)?, expected);
-            assert_eq!(rt; a.owned_to_ref().der_cmp(&b.owned_to_ref())?, expected);
-            assert_eq!(rt; a == b, expected == Ordering::Equal);
+            same(&rt, a.der_cmp(&b)?, expected);
+            same(&rt, a.owned_to_ref().der_cmp(&b.owned_to_ref())?, expected);
+            same(&rt, a == b, expected == Ordering::Equal);
         }
     }
     Ok(())
@@ -289,21 +392,28 @@ fn order_is_that_of_encodings(rt: HostRuntime) -> Result<(), Fail> {
 fn order_is_not_that_of_numbers(rt: HostRuntime) -> Result<(), Fail> {
     let alloc = rt.alloc();
     let minus_one = Int::try_from_i8(alloc, -1)?;
-    assert_eq!(rt;
+    same(
+        &rt,
         minus_one.der_cmp(&Int::try_from_i8(alloc, 1)?)?,
-        Ordering::Greater
+        Ordering::Greater,
     );
-    assert_eq!(rt;
+    same(
+        &rt,
         minus_one.der_cmp(&Int::try_from_i16(alloc, 256)?)?,
-        Ordering::Less
+        Ordering::Less,
     );
     let high = Uint::try_from_u8(alloc, 128)?;
-    assert_eq!(rt;
+    same(
+        &rt,
         high.der_cmp(&Uint::try_from_u16(alloc, 256)?)?,
-        Ordering::Less
+        Ordering::Less,
     );
-    assert_eq!(rt; high.cmp(&Uint::try_from_u8(alloc, 1)?), Ordering::Less);
-    assert_eq!(rt; high.cmp(&Uint::try_from_u8(alloc, 0)?), Ordering::Greater);
+    same(&rt, high.cmp(&Uint::try_from_u8(alloc, 1)?), Ordering::Less);
+    same(
+        &rt,
+        high.cmp(&Uint::try_from_u8(alloc, 0)?),
+        Ordering::Greater,
+    );
     Ok(())
 }
 
@@ -317,15 +427,17 @@ fn types_are_used_through_their_traits(rt: HostRuntime) -> Result<(), Fail> {
     let alloc = rt.alloc();
     let uint = Uint::try_from_u8(alloc, 128)?;
     let int = Int::try_from_i8(alloc, -128)?;
-    assert_eq!(rt; measured(&uint)?, (Tag::Integer, Length::new(4)));
-    assert_eq!(rt;
+    same(&rt, measured(&uint)?, (Tag::Integer, Length::new(4)));
+    same(
+        &rt,
         measured(&uint.owned_to_ref())?,
-        (Tag::Integer, Length::new(4))
+        (Tag::Integer, Length::new(4)),
     );
-    assert_eq!(rt; measured(&int)?, (Tag::Integer, Length::new(3)));
-    assert_eq!(rt;
+    same(&rt, measured(&int)?, (Tag::Integer, Length::new(3)));
+    same(
+        &rt,
         measured(&int.owned_to_ref())?,
-        (Tag::Integer, Length::new(3))
+        (Tag::Integer, Length::new(3)),
     );
     Ok(())
 }

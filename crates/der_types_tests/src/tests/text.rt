@@ -1,6 +1,6 @@
 //! Strings of each type, through the traits' bounds.
 
-use crate::tests::{numbered, reads_back};
+use crate::tests::{holds, numbered, reads_back, same};
 use der_elem::{DerOrd, Encode, FromDer, Tagged, TakesMemory, ValueOrd};
 use der_opaque::{Any, AnyRef, OctetStringRef};
 use der_text::{BmpString, GeneralStringRef, Utf8StringRef};
@@ -28,7 +28,7 @@ fn reads_utf8(rt: HostRuntime) -> Result<(), Fail> {
     )?;
     reads_back::<Utf8StringRef>(&rt, alloc, &[0x0c, 0x00])?;
     reads_back::<Utf8StringRef>(&rt, alloc, &[0x0c, 0x04, 0xf0, 0x9f, 0x98, 0x80])?;
-    assert!(rt; !Utf8StringRef::TAKES_MEMORY);
+    holds(&rt, !Utf8StringRef::TAKES_MEMORY);
     Ok(())
 }
 
@@ -36,17 +36,17 @@ fn reads_utf8(rt: HostRuntime) -> Result<(), Fail> {
 fn refuses_what_is_not_utf8(rt: HostRuntime) -> Result<(), Fail> {
     let alloc = rt.alloc();
     let refused = |octets: &[u8]| refusal::<Utf8StringRef>(alloc, octets);
-    assert_eq!(rt; refused(&[0x0c, 0x01, 0xff]), Some(12));
-    assert_eq!(rt; refused(&[0x0c, 0x03, 0xed, 0xa0, 0x80]), Some(12));
-    assert_eq!(rt; refused(&[0x0c, 0x02, 0xc0, 0x80]), Some(12));
-    assert_eq!(rt; refused(&[0x0c, 0x01, 0xc3]), Some(12));
-    assert_eq!(rt; refused(&[0x13, 0x01, 0x41]), Some(4));
-    assert_eq!(rt; refused(&[0x0c, 0x02, 0x41]), Some(2));
-    assert_eq!(rt; refused(&[0x0c, 0x01, 0x41, 0x00]), Some(3));
+    same(&rt, refused(&[0x0c, 0x01, 0xff]), Some(12));
+    same(&rt, refused(&[0x0c, 0x03, 0xed, 0xa0, 0x80]), Some(12));
+    same(&rt, refused(&[0x0c, 0x02, 0xc0, 0x80]), Some(12));
+    same(&rt, refused(&[0x0c, 0x01, 0xc3]), Some(12));
+    same(&rt, refused(&[0x13, 0x01, 0x41]), Some(4));
+    same(&rt, refused(&[0x0c, 0x02, 0x41]), Some(2));
+    same(&rt, refused(&[0x0c, 0x01, 0x41, 0x00]), Some(3));
     let Err(e) = Utf8StringRef::new(&[0x80]) else {
         return Err(Fail::from("taken"));
     };
-    assert_eq!(rt; e.kind().number(), 12);
+    same(&rt, e.kind().number(), 12);
     Ok(())
 }
 
@@ -56,31 +56,32 @@ fn converts_utf8(rt: HostRuntime) -> Result<(), Fail> {
     let Ok(hello) = Utf8StringRef::try_from("Helló") else {
         return Err(Fail::from("refused"));
     };
-    assert_eq!(rt; hello.as_str(), "Helló");
-    assert_eq!(rt;
+    same(&rt, hello.as_str(), "Helló");
+    same(
+        &rt,
         hello.as_bytes(),
-        [0x48, 0x65, 0x6c, 0x6c, 0xc3, 0xb3].as_slice()
+        [0x48, 0x65, 0x6c, 0x6c, 0xc3, 0xb3].as_slice(),
     );
-    assert_eq!(rt; (hello.len().value(), hello.is_empty()), (6, false));
+    same(&rt, (hello.len().value(), hello.is_empty()), (6, false));
     let owned = hello.ref_to_owned(alloc)?;
-    assert_eq!(rt; owned.as_str(), "Helló");
+    same(&rt, owned.as_str(), "Helló");
     let Ok(from_owned) = Utf8StringRef::try_from(&owned) else {
         return Err(Fail::from("refused"));
     };
-    assert!(rt; from_owned == Utf8StringRef::from(&hello));
+    holds(&rt, from_owned == Utf8StringRef::from(&hello));
     let text = format!(in alloc; "{hello} {hello:?}")?;
-    assert_eq!(rt; text.as_str(), "Helló Utf8String(\"Helló\")");
+    same(&rt, text.as_str(), "Helló Utf8String(\"Helló\")");
     let any = AnyRef::from(hello);
-    assert!(rt; any.tag().equals(Tag::Utf8String));
+    holds(&rt, any.tag().equals(Tag::Utf8String));
     let Ok(again) = Utf8StringRef::try_from(any) else {
         return Err(Fail::from("refused"));
     };
-    assert!(rt; again == hello);
+    holds(&rt, again == hello);
     let kept = Any::from_ref(alloc, any)?;
     let Ok(kept) = Utf8StringRef::try_from(&kept) else {
         return Err(Fail::from("refused"));
     };
-    assert!(rt; kept == hello);
+    holds(&rt, kept == hello);
     Ok(())
 }
 
@@ -92,14 +93,14 @@ fn converts_only_utf8_strings(rt: HostRuntime) -> Result<(), Fail> {
     let Err(e) = Utf8StringRef::try_from(bad) else {
         return Err(Fail::from("taken"));
     };
-    assert_eq!(rt; e.kind().number(), 12);
+    same(&rt, e.kind().number(), 12);
     let Ok(other) = AnyRef::new(Tag::Ia5String, b"hi") else {
         return Err(Fail::from("refused"));
     };
     let Err(e) = Utf8StringRef::try_from(other) else {
         return Err(Fail::from("taken"));
     };
-    assert_eq!(rt; e.kind().number(), 4);
+    same(&rt, e.kind().number(), 4);
     Ok(())
 }
 
@@ -108,9 +109,9 @@ fn orders_utf8_by_contents(rt: HostRuntime) -> Result<(), Fail> {
     let (Ok(short), Ok(long)) = (Utf8StringRef::new(b"b"), Utf8StringRef::new(b"aa")) else {
         return Err(Fail::from("refused"));
     };
-    assert!(rt; long < short);
-    assert_eq!(rt; numbered(long.value_cmp(&short)), Ok(Ordering::Less));
-    assert_eq!(rt; numbered(long.der_cmp(&short)), Ok(Ordering::Greater));
+    holds(&rt, long < short);
+    same(&rt, numbered(long.value_cmp(&short)), Ok(Ordering::Less));
+    same(&rt, numbered(long.der_cmp(&short)), Ok(Ordering::Greater));
     Ok(())
 }
 
@@ -122,7 +123,7 @@ fn reads_octet_strings_of_utf8(rt: HostRuntime) -> Result<(), Fail> {
     let Ok(hi) = octets.decode_into::<Utf8StringRef>(rt.alloc()) else {
         return Err(Fail::from("refused"));
     };
-    assert_eq!(rt; hi.as_str(), "hi");
+    same(&rt, hi.as_str(), "hi");
     Ok(())
 }
 
@@ -134,10 +135,18 @@ fn reads_general_strings(rt: HostRuntime) -> Result<(), Fail> {
     let Ok(string) = GeneralStringRef::from_der(alloc, &[0x1b, 0x02, 0x0e, 0xff]) else {
         return Err(Fail::from("refused"));
     };
-    assert_eq!(rt; string.as_bytes(), [0x0e, 0xff].as_slice());
-    assert_eq!(rt; refusal::<GeneralStringRef>(alloc, &[0x16, 0x00]), Some(4));
-    assert_eq!(rt; refusal::<GeneralStringRef>(alloc, &[0x1b, 0x01]), Some(2));
-    assert!(rt; !GeneralStringRef::TAKES_MEMORY);
+    same(&rt, string.as_bytes(), [0x0e, 0xff].as_slice());
+    same(
+        &rt,
+        refusal::<GeneralStringRef>(alloc, &[0x16, 0x00]),
+        Some(4),
+    );
+    same(
+        &rt,
+        refusal::<GeneralStringRef>(alloc, &[0x1b, 0x01]),
+        Some(2),
+    );
+    holds(&rt, !GeneralStringRef::TAKES_MEMORY);
     Ok(())
 }
 
@@ -148,21 +157,27 @@ fn reads_bmp(rt: HostRuntime) -> Result<(), Fail> {
     reads_back::<BmpString>(&rt, alloc, &[0x1e, 0x02, 0xd7, 0xff])?;
     reads_back::<BmpString>(&rt, alloc, &[0x1e, 0x04, 0xe0, 0x00, 0x00, 0x00])?;
     reads_back::<BmpString>(&rt, alloc, &[0x1e, 0x00])?;
-    assert_eq!(rt;
+    same(
+        &rt,
         refusal::<BmpString>(alloc, &[0x1e, 0x02, 0xd8, 0x00]),
-        Some(13)
+        Some(13),
     );
-    assert_eq!(rt;
+    same(
+        &rt,
         refusal::<BmpString>(alloc, &[0x1e, 0x02, 0xdf, 0xff]),
-        Some(13)
+        Some(13),
     );
-    assert_eq!(rt; refusal::<BmpString>(alloc, &[0x1e, 0x01, 0x41]), Some(7));
+    same(
+        &rt,
+        refusal::<BmpString>(alloc, &[0x1e, 0x01, 0x41]),
+        Some(7),
+    );
     let pair = [0x1e, 0x04, 0xd8, 0x3d, 0xde, 0x00];
-    assert_eq!(rt; refusal::<BmpString>(alloc, &pair), Some(13));
+    same(&rt, refusal::<BmpString>(alloc, &pair), Some(13));
     let odd_pair = [0x1e, 0x03, 0xd8, 0x3d, 0xde];
-    assert_eq!(rt; refusal::<BmpString>(alloc, &odd_pair), Some(7));
-    assert_eq!(rt; refusal::<BmpString>(alloc, &[0x0c, 0x00]), Some(4));
-    assert!(rt; BmpString::TAKES_MEMORY);
+    same(&rt, refusal::<BmpString>(alloc, &odd_pair), Some(7));
+    same(&rt, refusal::<BmpString>(alloc, &[0x0c, 0x00]), Some(4));
+    holds(&rt, BmpString::TAKES_MEMORY);
     Ok(())
 }
 
@@ -172,25 +187,28 @@ fn makes_bmp_of_texts(rt: HostRuntime) -> Result<(), Fail> {
     let template = numbered(BmpString::from_utf8(alloc, "CertificateTemplate"))?;
     let written = numbered(template.to_der(alloc))?;
     assert_eq!(rt; written.len(), 40);
-    assert_eq!(rt;
+    same(
+        &rt,
         written[..6].to_vec(alloc)?.as_slice(),
-        [0x1e, 0x26, 0x00, 0x43, 0x00, 0x65].as_slice()
+        [0x1e, 0x26, 0x00, 0x43, 0x00, 0x65].as_slice(),
     );
-    assert_eq!(rt;
+    same(
+        &rt,
         written[36..].to_vec(alloc)?.as_slice(),
-        [0x00, 0x74, 0x00, 0x65].as_slice()
+        [0x00, 0x74, 0x00, 0x65].as_slice(),
     );
     let text = format!(in alloc; "{template} {template:?}")?;
-    assert_eq!(rt;
+    same(
+        &rt,
         text.as_str(),
-        "CertificateTemplate BmpString(\"CertificateTemplate\")"
+        "CertificateTemplate BmpString(\"CertificateTemplate\")",
     );
     let past = numbered(BmpString::from_utf8(alloc, "a\u{1f600}"));
-    assert_eq!(rt; past.err(), Some(13));
+    same(&rt, past.err(), Some(13));
     let mixed = numbered(BmpString::from_utf8(alloc, "é\u{ffff}"))?;
-    assert_eq!(rt; mixed.as_bytes(), [0x00, 0xe9, 0xff, 0xff].as_slice());
+    same(&rt, mixed.as_bytes(), [0x00, 0xe9, 0xff, 0xff].as_slice());
     let text = format!(in alloc; "{mixed}")?;
-    assert_eq!(rt; text.as_str(), "é\u{ffff}");
+    same(&rt, text.as_str(), "é\u{ffff}");
     Ok(())
 }
 
@@ -198,30 +216,32 @@ fn makes_bmp_of_texts(rt: HostRuntime) -> Result<(), Fail> {
 fn makes_bmp_of_octets(rt: HostRuntime) -> Result<(), Fail> {
     let alloc = rt.alloc();
     let hi = numbered(BmpString::from_ucs2([0x00, 0x68, 0x00, 0x69].to_vec(alloc)?))?;
-    assert!(rt; hi == numbered(BmpString::from_utf8(alloc, "hi"))?);
+    holds(&rt, hi == numbered(BmpString::from_utf8(alloc, "hi"))?);
     let mut codepoints = hi.codepoints();
-    assert_eq!(rt; codepoints.len(), 2);
-    assert_eq!(rt; codepoints.next(), Some(0x68));
-    assert_eq!(rt; codepoints.len(), 1);
-    assert_eq!(rt; codepoints.next(), Some(0x69));
-    assert_eq!(rt; (codepoints.next(), codepoints.next()), (None, None));
+    same(&rt, codepoints.len(), 2);
+    same(&rt, codepoints.next(), Some(0x68));
+    same(&rt, codepoints.len(), 1);
+    same(&rt, codepoints.next(), Some(0x69));
+    same(&rt, (codepoints.next(), codepoints.next()), (None, None));
     let mut chars = hi.chars();
-    assert_eq!(rt; chars.len(), 2);
-    assert_eq!(rt; chars.next(), Some('h'));
-    assert_eq!(rt;
+    same(&rt, chars.len(), 2);
+    same(&rt, chars.next(), Some('h'));
+    same(
+        &rt,
         (chars.next(), chars.next(), chars.len()),
-        (Some('i'), None, 0)
+        (Some('i'), None, 0),
     );
-    assert!(rt; hi.clone()? == hi);
-    assert!(rt; numbered(hi.clone_from_ref(alloc))? == hi);
-    assert_eq!(rt;
+    holds(&rt, hi.clone()? == hi);
+    holds(&rt, numbered(hi.clone_from_ref(alloc))? == hi);
+    same(
+        &rt,
         hi.into_bytes().as_slice(),
-        [0x00, 0x68, 0x00, 0x69].as_slice()
+        [0x00, 0x68, 0x00, 0x69].as_slice(),
     );
     let odd = numbered(BmpString::from_ucs2([0xd8, 0x00, 0x00].to_vec(alloc)?));
-    assert_eq!(rt; odd.err(), Some(7));
+    same(&rt, odd.err(), Some(7));
     let surrogate = numbered(BmpString::from_ucs2([0x00, 0x41, 0xd8, 0x00].to_vec(alloc)?));
-    assert_eq!(rt; surrogate.err(), Some(13));
+    same(&rt, surrogate.err(), Some(13));
     Ok(())
 }
 
@@ -230,8 +250,8 @@ fn orders_bmp_by_contents(rt: HostRuntime) -> Result<(), Fail> {
     let alloc = rt.alloc();
     let short = numbered(BmpString::from_utf8(alloc, "b"))?;
     let long = numbered(BmpString::from_utf8(alloc, "aa"))?;
-    assert!(rt; long < short);
-    assert_eq!(rt; numbered(long.value_cmp(&short)), Ok(Ordering::Less));
-    assert_eq!(rt; numbered(long.der_cmp(&short)), Ok(Ordering::Greater));
+    holds(&rt, long < short);
+    same(&rt, numbered(long.value_cmp(&short)), Ok(Ordering::Less));
+    same(&rt, numbered(long.der_cmp(&short)), Ok(Ordering::Greater));
     Ok(())
 }

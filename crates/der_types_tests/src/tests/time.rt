@@ -1,4 +1,4 @@
-use crate::tests::{refusal, stays};
+use crate::tests::{holds, refusal, same, stays};
 use der_elem::{DerOrd, Duplicate, FixedTag, FromDer, ValueOrd};
 use der_opaque::{Any, AnyRef};
 use der_time::laws::{chronological, days_since_1970, equal_times, utc_chronological};
@@ -60,8 +60,8 @@ fn encodings_stay(rt: HostRuntime) -> Result<(), Fail> {
         b"\x18\x0f20000229120000Z",
     ];
     for octets in &generalized {
-        assert!(rt; stays::<GeneralizedTime>(alloc, *octets));
-        assert!(rt; stays::<DateTime>(alloc, *octets));
+        holds(&rt, stays::<GeneralizedTime>(alloc, *octets));
+        holds(&rt, stays::<DateTime>(alloc, *octets));
     }
     let utc: [&[u8]; 4] = [
         UTC,
@@ -70,7 +70,7 @@ fn encodings_stay(rt: HostRuntime) -> Result<(), Fail> {
         b"\x17\x0d000229235959Z",
     ];
     for octets in &utc {
-        assert!(rt; stays::<UtcTime>(alloc, *octets));
+        holds(&rt, stays::<UtcTime>(alloc, *octets));
     }
     Ok(())
 }
@@ -98,8 +98,8 @@ fn octets_of_no_generalized_time_are_refused(rt: HostRuntime) -> Result<(), Fail
         (b"\x17\x0f19910506234540Z", 4),
     ];
     for row in &refused {
-        assert_eq!(rt; refusal::<GeneralizedTime>(alloc, row.0), row.1);
-        assert_eq!(rt; refusal::<DateTime>(alloc, row.0), row.1);
+        same(&rt, refusal::<GeneralizedTime>(alloc, row.0), row.1);
+        same(&rt, refusal::<DateTime>(alloc, row.0), row.1);
     }
     Ok(())
 }
@@ -120,7 +120,7 @@ fn octets_of_no_utc_time_are_refused(rt: HostRuntime) -> Result<(), Fail> {
         (b"\x18\x0d910506234540Z", 4),
     ];
     for row in &refused {
-        assert_eq!(rt; refusal::<UtcTime>(alloc, row.0), row.1);
+        same(&rt, refusal::<UtcTime>(alloc, row.0), row.1);
     }
     Ok(())
 }
@@ -138,7 +138,7 @@ fn fields_are_a_time_or_none(rt: HostRuntime) {
         (2024, (2, 29), (0, 0, 0)),
     ];
     for row in &taken {
-        assert_eq!(rt; refused_as_new(row.0, row.1, row.2), 0);
+        same(&rt, refused_as_new(row.0, row.1, row.2), 0);
     }
     let refused: [(u16, (u8, u8), (u8, u8, u8)); 18] = [
         (2, (3, 25), (0, 0, 0)),
@@ -161,7 +161,7 @@ fn fields_are_a_time_or_none(rt: HostRuntime) {
         (2100, (2, 29), (0, 0, 0)),
     ];
     for row in &refused {
-        assert_eq!(rt; refused_as_new(row.0, row.1, row.2), 14);
+        same(&rt, refused_as_new(row.0, row.1, row.2), 14);
     }
 }
 
@@ -170,19 +170,19 @@ fn a_time_shows_its_fields(rt: HostRuntime) {
     let Ok(time) = DateTime::new(2001, 1, 2, 12, 13, 14) else {
         panic!(rt; "refused")
     };
-    assert_eq!(rt; time.year(), 2001);
-    assert_eq!(rt; time.month(), 1);
-    assert_eq!(rt; time.day(), 2);
-    assert_eq!(rt; time.hour(), 12);
-    assert_eq!(rt; time.minutes(), 13);
-    assert_eq!(rt; time.seconds(), 14);
+    same(&rt, time.year(), 2001);
+    same(&rt, time.month(), 1);
+    same(&rt, time.day(), 2);
+    same(&rt, time.hour(), 12);
+    same(&rt, time.minutes(), 13);
+    same(&rt, time.seconds(), 14);
     let last = DateTime::INFINITY;
-    assert_eq!(rt; last.year(), 9999);
-    assert_eq!(rt; last.unix_duration().as_secs(), LAST);
-    assert!(rt; chronological(&time, &last) == Ordering::Less);
-    assert!(rt; time < last);
-    assert!(rt; !equal_times(&time, &last));
-    assert_eq!(rt; days_since_1970(&last), 2_932_896);
+    same(&rt, last.year(), 9999);
+    same(&rt, last.unix_duration().as_secs(), LAST);
+    holds(&rt, chronological(&time, &last) == Ordering::Less);
+    holds(&rt, time < last);
+    holds(&rt, !equal_times(&time, &last));
+    same(&rt, days_since_1970(&last), 2_932_896);
 }
 
 #[test]
@@ -191,14 +191,14 @@ fn texts_are_times(rt: HostRuntime) -> Result<(), Fail> {
     let Ok(time) = DateTime::from_str("2001-01-02T12:13:14Z") else {
         panic!(rt; "refused")
     };
-    let Ok(same) = DateTime::new(2001, 1, 2, 12, 13, 14) else {
+    let Ok(of_fields) = DateTime::new(2001, 1, 2, 12, 13, 14) else {
         panic!(rt; "refused")
     };
-    assert!(rt; time == same);
+    holds(&rt, time == of_fields);
     let text = format!(in alloc; "{time}")?;
-    assert_eq!(rt; text.as_str(), "2001-01-02T12:13:14Z");
+    same(&rt, text.as_str(), "2001-01-02T12:13:14Z");
     let last = format!(in alloc; "{}", DateTime::INFINITY)?;
-    assert_eq!(rt; last.as_str(), "9999-12-31T23:59:59Z");
+    same(&rt, last.as_str(), "9999-12-31T23:59:59Z");
     let refused = [
         "",
         "2001-01-02",
@@ -218,7 +218,7 @@ fn texts_are_times(rt: HostRuntime) -> Result<(), Fail> {
         "2001-01-02T12:13:14Z ",
     ];
     for text in &refused {
-        assert_eq!(rt; refused_as_text(*text), 14);
+        same(&rt, refused_as_text(*text), 14);
     }
     Ok(())
 }
@@ -239,12 +239,12 @@ fn seconds_are_those_of_the_calendar(rt: HostRuntime) -> Result<(), Fail> {
         ("9999-12-31T23:59:59Z", LAST),
     ];
     for row in &known {
-        assert_eq!(rt; seconds_of_text(row.0), row.1);
+        same(&rt, seconds_of_text(row.0), row.1);
         let Ok(time) = DateTime::from_unix_duration(Duration::from_secs(row.1)) else {
             panic!(rt; "refused")
         };
         let text = format!(in alloc; "{time}")?;
-        assert_eq!(rt; text.as_str(), row.0);
+        same(&rt, text.as_str(), row.0);
     }
     Ok(())
 }
@@ -253,7 +253,7 @@ fn seconds_are_those_of_the_calendar(rt: HostRuntime) -> Result<(), Fail> {
 fn the_second_behind_the_last_is_refused(rt: HostRuntime) {
     match GeneralizedTime::from_unix_duration(Duration::from_secs(LAST + 1)) {
         Ok(_) => panic!(rt; "taken"),
-        Err(e) => assert_eq!(rt; e.kind.number(), 13),
+        Err(e) => same(&rt, e.kind.number(), 13),
     }
 }
 
@@ -262,37 +262,37 @@ fn durations_have_a_last_second(rt: HostRuntime) {
     let Ok(last) = DateTime::from_unix_duration(Duration::from_secs(LAST)) else {
         panic!(rt; "refused")
     };
-    assert!(rt; last == DateTime::INFINITY);
+    holds(&rt, last == DateTime::INFINITY);
     let Ok(first) = DateTime::from_unix_duration(Duration::from_nanos(999_999_999)) else {
         panic!(rt; "refused")
     };
-    assert_eq!(rt; first.unix_duration().as_secs(), 0);
+    same(&rt, first.unix_duration().as_secs(), 0);
     let beyond = Duration::new(LAST, 1);
     match DateTime::from_unix_duration(beyond) {
         Ok(_) => panic!(rt; "taken"),
-        Err(e) => assert_eq!(rt; e.kind.number(), 14),
+        Err(e) => same(&rt, e.kind.number(), 14),
     }
     match GeneralizedTime::from_unix_duration(beyond) {
         Ok(_) => panic!(rt; "taken"),
-        Err(e) => assert_eq!(rt; e.kind.number(), 13),
+        Err(e) => same(&rt, e.kind.number(), 13),
     }
     match UtcTime::from_unix_duration(beyond) {
         Ok(_) => panic!(rt; "taken"),
-        Err(e) => assert_eq!(rt; e.kind.number(), 14),
+        Err(e) => same(&rt, e.kind.number(), 14),
     }
     match UtcTime::from_unix_duration(Duration::from_secs(2_524_608_000)) {
         Ok(_) => panic!(rt; "taken"),
-        Err(e) => assert_eq!(rt; e.kind.number(), 13),
+        Err(e) => same(&rt, e.kind.number(), 13),
     }
     let Ok(utc) = UtcTime::from_unix_duration(Duration::new(2_524_607_999, 999_999_999)) else {
         panic!(rt; "refused")
     };
-    assert_eq!(rt; utc.to_unix_duration().as_secs(), 2_524_607_999);
-    assert_eq!(rt; utc.to_date_time().year(), UtcTime::MAX_YEAR);
+    same(&rt, utc.to_unix_duration().as_secs(), 2_524_607_999);
+    same(&rt, utc.to_date_time().year(), UtcTime::MAX_YEAR);
     let Ok(generalized) = GeneralizedTime::from_unix_duration(Duration::from_secs(LAST)) else {
         panic!(rt; "refused")
     };
-    assert_eq!(rt; generalized.to_unix_duration().as_secs(), LAST);
+    same(&rt, generalized.to_unix_duration().as_secs(), LAST);
 }
 
 #[test]
@@ -304,14 +304,26 @@ fn utc_times_have_two_orders(rt: HostRuntime) -> Result<(), Fail> {
     let Ok(earlier) = UtcTime::from_der(alloc, b"\x17\x0d991231235959Z") else {
         panic!(rt; "refused")
     };
-    assert_eq!(rt; later.to_date_time().year(), 2000);
-    assert_eq!(rt; earlier.to_date_time().year(), 1999);
-    assert!(rt; order_of(later.value_cmp(&earlier)) == Some(Ordering::Less));
-    assert!(rt; order_of(later.der_cmp(&earlier)) == Some(Ordering::Less));
-    assert!(rt; later.cmp(&earlier) == Ordering::Greater);
-    assert!(rt; utc_chronological(&later, &earlier) == Ordering::Greater);
-    assert!(rt; order_of(later.value_cmp(&later)) == Some(Ordering::Equal));
-    assert!(rt; later != earlier);
+    same(&rt, later.to_date_time().year(), 2000);
+    same(&rt, earlier.to_date_time().year(), 1999);
+    holds(
+        &rt,
+        order_of(later.value_cmp(&earlier)) == Some(Ordering::Less),
+    );
+    holds(
+        &rt,
+        order_of(later.der_cmp(&earlier)) == Some(Ordering::Less),
+    );
+    holds(&rt, later.cmp(&earlier) == Ordering::Greater);
+    holds(
+        &rt,
+        utc_chronological(&later, &earlier) == Ordering::Greater,
+    );
+    holds(
+        &rt,
+        order_of(later.value_cmp(&later)) == Some(Ordering::Equal),
+    );
+    holds(&rt, later != earlier);
     Ok(())
 }
 
@@ -322,12 +334,15 @@ fn generalized_times_have_one_order(rt: HostRuntime) -> Result<(), Fail> {
         panic!(rt; "refused")
     };
     let last = GeneralizedTime::from_date_time(DateTime::INFINITY);
-    assert!(rt; order_of(one.value_cmp(&last)) == Some(Ordering::Less));
-    assert!(rt; order_of(last.der_cmp(&one)) == Some(Ordering::Greater));
-    assert!(rt; one.cmp(&last) == Ordering::Less);
-    assert!(rt; order_of(one.date_time.value_cmp(&last.date_time)) == Some(Ordering::Less));
-    assert!(rt; one == one);
-    assert!(rt; one != last);
+    holds(&rt, order_of(one.value_cmp(&last)) == Some(Ordering::Less));
+    holds(&rt, order_of(last.der_cmp(&one)) == Some(Ordering::Greater));
+    holds(&rt, one.cmp(&last) == Ordering::Less);
+    holds(
+        &rt,
+        order_of(one.date_time.value_cmp(&last.date_time)) == Some(Ordering::Less),
+    );
+    holds(&rt, one == one);
+    holds(&rt, one != last);
     Ok(())
 }
 
@@ -337,31 +352,31 @@ fn times_convert(rt: HostRuntime) -> Result<(), Fail> {
         panic!(rt; "refused")
     };
     let generalized = GeneralizedTime::from(time);
-    assert!(rt; generalized == GeneralizedTime::from(&time));
-    assert!(rt; generalized == GeneralizedTime::from(&generalized));
-    assert!(rt; generalized.to_date_time() == time);
-    assert!(rt; DateTime::from(generalized) == time);
-    assert!(rt; DateTime::from(&generalized) == time);
+    holds(&rt, generalized == GeneralizedTime::from(&time));
+    holds(&rt, generalized == GeneralizedTime::from(&generalized));
+    holds(&rt, generalized.to_date_time() == time);
+    holds(&rt, DateTime::from(generalized) == time);
+    holds(&rt, DateTime::from(&generalized) == time);
     let Ok(utc) = UtcTime::try_from(time) else {
         panic!(rt; "refused")
     };
-    let Ok(same) = UtcTime::try_from(&time) else {
+    let Ok(borrowed) = UtcTime::try_from(&time) else {
         panic!(rt; "refused")
     };
-    assert!(rt; utc == same);
-    assert!(rt; utc == UtcTime::from(&utc));
-    assert!(rt; utc.to_date_time() == time);
-    assert!(rt; DateTime::from(utc) == time);
-    assert!(rt; DateTime::from(&utc) == time);
+    holds(&rt, utc == borrowed);
+    holds(&rt, utc == UtcTime::from(&utc));
+    holds(&rt, utc.to_date_time() == time);
+    holds(&rt, DateTime::from(utc) == time);
+    holds(&rt, DateTime::from(&utc) == time);
     match UtcTime::from_date_time(DateTime::INFINITY) {
         Ok(_) => panic!(rt; "taken"),
-        Err(e) => assert_eq!(rt; e.kind.number(), 13),
+        Err(e) => same(&rt, e.kind.number(), 13),
     }
     let Ok(copy) = utc.duplicate() else {
         panic!(rt; "refused")
     };
-    assert!(rt; copy == utc);
-    assert_eq!(rt; UtcTime::LENGTH, 13);
+    holds(&rt, copy == utc);
+    same(&rt, UtcTime::LENGTH, 13);
     Ok(())
 }
 
@@ -374,15 +389,16 @@ fn carried_octets_are_times(rt: HostRuntime) -> Result<(), Fail> {
     let Ok(utc) = UtcTime::try_from(any) else {
         panic!(rt; "refused")
     };
-    assert_eq!(rt; utc.to_unix_duration().as_secs(), 673_573_540);
+    same(&rt, utc.to_unix_duration().as_secs(), 673_573_540);
     match GeneralizedTime::try_from(any) {
         Ok(_) => panic!(rt; "taken"),
-        Err(e) => assert!(rt;
+        Err(e) => holds(
+            &rt,
             e.kind
                 == ErrorKind::TagUnexpected {
                     expected: None,
-                    actual: Tag::UtcTime
-                }
+                    actual: Tag::UtcTime,
+                },
         ),
     }
     let Ok(owned) = Any::from_der(alloc, GENERALIZED) else {
@@ -391,37 +407,41 @@ fn carried_octets_are_times(rt: HostRuntime) -> Result<(), Fail> {
     let Ok(generalized) = GeneralizedTime::try_from(&owned) else {
         panic!(rt; "refused")
     };
-    assert!(rt; generalized.to_date_time() == utc.to_date_time());
+    holds(&rt, generalized.to_date_time() == utc.to_date_time());
     match UtcTime::try_from(&owned) {
         Ok(_) => panic!(rt; "taken"),
-        Err(e) => assert!(rt;
+        Err(e) => holds(
+            &rt,
             e.kind
                 == ErrorKind::TagUnexpected {
                     expected: None,
-                    actual: Tag::GeneralizedTime
-                }
+                    actual: Tag::GeneralizedTime,
+                },
         ),
     }
     let Ok(decoded) = any.decode_as::<UtcTime>(alloc) else {
         panic!(rt; "refused")
     };
-    assert!(rt; decoded == utc);
+    holds(&rt, decoded == utc);
     Ok(())
 }
 
 #[test]
 fn tags_are_universal(rt: HostRuntime) {
-    assert!(rt; <UtcTime as FixedTag>::TAG == Tag::UtcTime);
-    assert!(rt; <GeneralizedTime as FixedTag>::TAG == Tag::GeneralizedTime);
-    assert!(rt; <DateTime as FixedTag>::TAG == Tag::GeneralizedTime);
+    holds(&rt, <UtcTime as FixedTag>::TAG == Tag::UtcTime);
+    holds(
+        &rt,
+        <GeneralizedTime as FixedTag>::TAG == Tag::GeneralizedTime,
+    );
+    holds(&rt, <DateTime as FixedTag>::TAG == Tag::GeneralizedTime);
 }
 
 #[test]
 fn ranges_hold_their_ends(rt: HostRuntime) {
-    assert!(rt; const_contains_u8(1..=12, 1));
-    assert!(rt; const_contains_u8(1..=12, 12));
-    assert!(rt; !const_contains_u8(1..=12, 0));
-    assert!(rt; !const_contains_u8(1..=12, 13));
-    assert!(rt; const_contains_u8(7..=7, 7));
-    assert!(rt; !const_contains_u8(8..=7, 7));
+    holds(&rt, const_contains_u8(1..=12, 1));
+    holds(&rt, const_contains_u8(1..=12, 12));
+    holds(&rt, !const_contains_u8(1..=12, 0));
+    holds(&rt, !const_contains_u8(1..=12, 13));
+    holds(&rt, const_contains_u8(7..=7, 7));
+    holds(&rt, !const_contains_u8(8..=7, 7));
 }

@@ -1,6 +1,6 @@
 //! Tagged values of each class, in both modes.
 
-use crate::tests::{numbered, reads_back_in_order};
+use crate::tests::{holds, numbered, reads_back_in_order, same};
 use der_elem::{Choice, Decode, DerOrd, Encode, FromDer, Tagged, TakesMemory, ValueOrd};
 use der_opaque::{AnyRef, OctetStringRef};
 use der_tlv::{EncodingRules, Reader, SliceReader, Tag, TagMode, TagNumber};
@@ -44,24 +44,27 @@ fn reads_explicit_tagging(rt: HostRuntime) -> Result<(), Fail> {
 fn refuses_other_explicit_tagging(rt: HostRuntime) {
     let alloc = rt.alloc();
     let read = |octets: &[u8]| numbered(ContextSpecific::<u8>::from_der(alloc, octets)).err();
-    assert_eq!(rt; read(&[0x02, 0x01, 0x05]), Some(8));
-    assert_eq!(rt; read(&[0x81, 0x03, 0x02, 0x01, 0x05]), Some(8));
-    assert_eq!(rt; read(&[0x30, 0x00]), Some(4));
-    assert_eq!(rt; read(&[0x61, 0x03, 0x02, 0x01, 0x05]), Some(4));
-    assert_eq!(rt; read(&[0xa1, 0x03, 0x02, 0x01]), Some(2));
-    assert_eq!(rt; read(&[0xa1, 0x03, 0x02, 0x02, 0x05]), Some(2));
-    assert_eq!(rt;
+    same(&rt, read(&[0x02, 0x01, 0x05]), Some(8));
+    same(&rt, read(&[0x81, 0x03, 0x02, 0x01, 0x05]), Some(8));
+    same(&rt, read(&[0x30, 0x00]), Some(4));
+    same(&rt, read(&[0x61, 0x03, 0x02, 0x01, 0x05]), Some(4));
+    same(&rt, read(&[0xa1, 0x03, 0x02, 0x01]), Some(2));
+    same(&rt, read(&[0xa1, 0x03, 0x02, 0x02, 0x05]), Some(2));
+    same(
+        &rt,
         read(&[0xa0, 0x06, 0x02, 0x01, 0x05, 0x02, 0x01, 0x06]),
-        Some(3)
+        Some(3),
     );
-    assert_eq!(rt; read(&[0xa1, 0x03, 0x01, 0x01, 0xff]), Some(4));
-    assert_eq!(rt;
+    same(&rt, read(&[0xa1, 0x03, 0x01, 0x01, 0xff]), Some(4));
+    same(
+        &rt,
         numbered(Application::<u8>::from_der(alloc, &[0xa1, 0x03, 0x02, 0x01, 0x05])).err(),
-        Some(4)
+        Some(4),
     );
-    assert_eq!(rt;
+    same(
+        &rt,
         numbered(Application::<u8>::from_der(alloc, &[0xe1, 0x03, 0x02, 0x01, 0x05])).err(),
-        Some(4)
+        Some(4),
     );
 }
 
@@ -89,13 +92,13 @@ fn explicit(alloc: Global, number: u32, octets: &[u8]) -> Result<(Option<u8>, u3
 fn reads_explicit_fields(rt: HostRuntime) {
     let alloc = rt.alloc();
     let two = [0xa0, 0x03, 0x02, 0x01, 0x00, 0xa1, 0x03, 0x02, 0x01, 0x01];
-    assert_eq!(rt; explicit(alloc, 1, &two), Ok((None, 0)));
-    assert_eq!(rt; explicit(alloc, 0, &two), Ok((Some(0), 5)));
-    assert_eq!(rt; explicit(alloc, 0, &[]), Ok((None, 0)));
-    assert_eq!(rt; explicit(alloc, 0, &[0x02, 0x01, 0x00]), Ok((None, 0)));
-    assert_eq!(rt; explicit(alloc, 0, &[0x80, 0x01, 0x00]), Err(8));
-    assert_eq!(rt; explicit(alloc, 0, &[0xa0, 0x02, 0x02, 0x00]), Err(7));
-    assert_eq!(rt; explicit(alloc, 0, &[0x1f]), Err(2));
+    same(&rt, explicit(alloc, 1, &two), Ok((None, 0)));
+    same(&rt, explicit(alloc, 0, &two), Ok((Some(0), 5)));
+    same(&rt, explicit(alloc, 0, &[]), Ok((None, 0)));
+    same(&rt, explicit(alloc, 0, &[0x02, 0x01, 0x00]), Ok((None, 0)));
+    same(&rt, explicit(alloc, 0, &[0x80, 0x01, 0x00]), Err(8));
+    same(&rt, explicit(alloc, 0, &[0xa0, 0x02, 0x02, 0x00]), Err(7));
+    same(&rt, explicit(alloc, 0, &[0x1f]), Err(2));
 }
 
 // The octets of a field with implicit tagging, and where the reader stands.
@@ -132,35 +135,50 @@ fn reads_implicit_fields(rt: HostRuntime) {
     let primitive: &[u8] = &[0x81, 0x02, 0x00, 0x0f];
     let constructed: &[u8] = &[0xa1, 0x02, 0x00, 0x0f];
     let octets: &[u8] = &[0x00, 0x0f];
-    assert_eq!(rt;
+    same(
+        &rt,
         implicit(alloc, 1, primitive, EncodingRules::Der),
-        Ok((Some(octets), 4))
+        Ok((Some(octets), 4)),
     );
-    assert_eq!(rt;
+    same(
+        &rt,
         implicit(alloc, 1, primitive, EncodingRules::Ber),
-        Ok((Some(octets), 4))
+        Ok((Some(octets), 4)),
     );
-    assert_eq!(rt; implicit(alloc, 1, constructed, EncodingRules::Der), Err(8));
-    assert_eq!(rt;
+    same(
+        &rt,
+        implicit(alloc, 1, constructed, EncodingRules::Der),
+        Err(8),
+    );
+    same(
+        &rt,
         implicit(alloc, 1, constructed, EncodingRules::Ber),
-        Ok((Some(octets), 4))
+        Ok((Some(octets), 4)),
     );
-    assert_eq!(rt; implicit(alloc, 1, &[], EncodingRules::Der), Ok((None, 0)));
-    assert_eq!(rt;
+    same(
+        &rt,
+        implicit(alloc, 1, &[], EncodingRules::Der),
+        Ok((None, 0)),
+    );
+    same(
+        &rt,
         implicit(alloc, 1, &[0x82, 0x00], EncodingRules::Der),
-        Ok((None, 0))
+        Ok((None, 0)),
     );
-    assert_eq!(rt;
+    same(
+        &rt,
         implicit(alloc, 1, &[0x41, 0x00], EncodingRules::Der),
-        Ok((None, 0))
+        Ok((None, 0)),
     );
-    assert_eq!(rt;
+    same(
+        &rt,
         implicit(alloc, 1, &[0x81, 0x03, 0x00], EncodingRules::Der),
-        Err(2)
+        Err(2),
     );
-    assert_eq!(rt;
+    same(
+        &rt,
         implicit(alloc, 1, &[0x81, 0x80], EncodingRules::Der),
-        Err(16)
+        Err(16),
     );
 }
 
@@ -175,12 +193,12 @@ fn reads_implicit_integers(rt: HostRuntime) -> Result<(), Fail> {
         &mut octets,
         TagNumber(0),
     ))?;
-    assert_eq!(rt; field, Some(tagged(0, TagMode::Implicit, 5)));
+    same(&rt, field, Some(tagged(0, TagMode::Implicit, 5)));
     let constructed: Result<Option<ContextSpecific<u8>>, u8> = numbered(
         TaggedValue::decode_implicit(alloc, &mut octets, TagNumber(0)),
     );
-    assert_eq!(rt; constructed.err(), Some(8));
-    assert_eq!(rt; numbered(octets.read_byte()).err(), Some(17));
+    same(&rt, constructed.err(), Some(8));
+    same(&rt, numbered(octets.read_byte()).err(), Some(17));
     Ok(())
 }
 
@@ -195,11 +213,15 @@ fn reads_anys(rt: HostRuntime) -> Result<(), Fail> {
         numbered(ContextSpecific::<u8>::from_any(alloc, any))
     };
     let five: &[u8] = &[0xa1, 0x03, 0x02, 0x01, 0x05];
-    assert_eq!(rt; read(five), Ok(tagged(1, TagMode::Explicit, 5)));
-    assert_eq!(rt; read(&[0x81, 0x03, 0x02, 0x01, 0x05]).err(), Some(4));
-    assert_eq!(rt; read(&[0x61, 0x03, 0x02, 0x01, 0x05]).err(), Some(4));
-    assert_eq!(rt; read(&[0xa1, 0x04, 0x02, 0x01, 0x05, 0x00]).err(), Some(3));
-    assert_eq!(rt; read(&[0xa1, 0x02, 0x02, 0x00]).err(), Some(7));
+    same(&rt, read(five), Ok(tagged(1, TagMode::Explicit, 5)));
+    same(&rt, read(&[0x81, 0x03, 0x02, 0x01, 0x05]).err(), Some(4));
+    same(&rt, read(&[0x61, 0x03, 0x02, 0x01, 0x05]).err(), Some(4));
+    same(
+        &rt,
+        read(&[0xa1, 0x04, 0x02, 0x01, 0x05, 0x00]).err(),
+        Some(3),
+    );
+    same(&rt, read(&[0xa1, 0x02, 0x02, 0x00]).err(), Some(7));
     Ok(())
 }
 
@@ -217,8 +239,8 @@ fn writes_both_modes(rt: HostRuntime) -> Result<(), Fail> {
         [0xa1u8, 0x03, 0x02, 0x01, 0x05].as_slice(),
         &[0x81, 0x01, 0x05],
     ];
-    assert_eq!(rt; encoding(alloc, &explicit)?.as_slice(), octets[0]);
-    assert_eq!(rt; encoding(alloc, &implicit)?.as_slice(), octets[1]);
+    same(&rt, encoding(alloc, &explicit)?.as_slice(), octets[0]);
+    same(&rt, encoding(alloc, &implicit)?.as_slice(), octets[1]);
     let list = [1u8, 2];
     let borrowed = ApplicationRef {
         tag_number: TagNumber(2),
@@ -226,8 +248,12 @@ fn writes_both_modes(rt: HostRuntime) -> Result<(), Fail> {
         value: &list,
     };
     let nested = [0x62u8, 0x06, 0x02, 0x01, 0x01, 0x02, 0x01, 0x02];
-    assert_eq!(rt; encoding(alloc, &borrowed)?.as_slice(), nested.as_slice());
-    assert_eq!(rt; numbered(borrowed.encoded_len())?.value(), 8);
+    same(
+        &rt,
+        encoding(alloc, &borrowed)?.as_slice(),
+        nested.as_slice(),
+    );
+    same(&rt, numbered(borrowed.encoded_len())?.value(), 8);
     let five = 5u8;
     for (i, tag_mode) in [TagMode::Explicit, TagMode::Implicit]
         .into_iter()
@@ -239,15 +265,16 @@ fn writes_both_modes(rt: HostRuntime) -> Result<(), Fail> {
             tag_mode,
             value: &five,
         };
-        assert_eq!(rt; encoding(alloc, &borrowed)?.as_slice(), octets[i]);
+        same(&rt, encoding(alloc, &borrowed)?.as_slice(), octets[i]);
         let private = PrivateRef {
             tag_number,
             tag_mode,
             value: &five,
         };
-        assert_eq!(rt;
+        same(
+            &rt,
             private.tag().is_constructed(),
-            tag_mode == TagMode::Explicit
+            tag_mode == TagMode::Explicit,
         );
     }
     Ok(())
@@ -269,10 +296,18 @@ fn writes_two_modes_alike(rt: HostRuntime) -> Result<(), Fail> {
     );
     let integers = tagged(1, TagMode::Explicit, vec![in alloc; integer]?);
     let octets = [0xa1u8, 0x05, 0x30, 0x03, 0x02, 0x01, 0x05];
-    assert_eq!(rt; encoding(alloc, &implicit)?.as_slice(), octets.as_slice());
-    assert_eq!(rt; encoding(alloc, &integers)?.as_slice(), octets.as_slice());
-    assert_eq!(rt; numbered(implicit.value_cmp(&integers)).err(), Some(13));
-    assert_eq!(rt; numbered(implicit.der_cmp(&integers)).err(), Some(13));
+    same(
+        &rt,
+        encoding(alloc, &implicit)?.as_slice(),
+        octets.as_slice(),
+    );
+    same(
+        &rt,
+        encoding(alloc, &integers)?.as_slice(),
+        octets.as_slice(),
+    );
+    same(&rt, numbered(implicit.value_cmp(&integers)).err(), Some(13));
+    same(&rt, numbered(implicit.der_cmp(&integers)).err(), Some(13));
     Ok(())
 }
 
@@ -288,18 +323,19 @@ fn orders_values(rt: HostRuntime) {
         order(&a, &b)
     };
     let less = (Ok(Ordering::Less), Ok(Ordering::Less));
-    assert_eq!(rt; both(TagMode::Explicit, TagMode::Explicit, 5, 6), less);
-    assert_eq!(rt; both(TagMode::Implicit, TagMode::Implicit, 5, 6), less);
-    assert_eq!(rt;
+    same(&rt, both(TagMode::Explicit, TagMode::Explicit, 5, 6), less);
+    same(&rt, both(TagMode::Implicit, TagMode::Implicit, 5, 6), less);
+    same(
+        &rt,
         both(TagMode::Implicit, TagMode::Explicit, 5, 5),
-        (Ok(Ordering::Less), Err(13))
+        (Ok(Ordering::Less), Err(13)),
     );
     let first: ContextSpecific<u8> = tagged(16383, TagMode::Explicit, 0);
     let second = tagged(16384, TagMode::Explicit, 0);
-    assert_eq!(rt; numbered(first.der_cmp(&second)), Ok(Ordering::Greater));
-    assert!(rt; first < second);
+    same(&rt, numbered(first.der_cmp(&second)), Ok(Ordering::Greater));
+    holds(&rt, first < second);
     let implicit: ContextSpecific<u8> = tagged(1, TagMode::Implicit, 0);
-    assert!(rt; tagged(1, TagMode::Explicit, 9) < implicit);
+    holds(&rt, tagged(1, TagMode::Explicit, 9) < implicit);
 }
 
 #[test]
@@ -314,22 +350,23 @@ fn knows_tags(rt: HostRuntime) {
         number,
     };
     let value: ContextSpecific<u8> = tagged(3, TagMode::Explicit, 0);
-    assert_eq!(rt; value.tag(), context);
-    assert!(rt; ContextSpecific::<u8>::can_decode(context));
-    assert!(rt; !Application::<u8>::can_decode(context));
-    assert!(rt; Private::<u8>::can_decode(private));
-    assert!(rt; !Private::<u8>::can_decode(Tag::Integer));
-    assert!(rt; !ContextSpecific::<u8>::TAKES_MEMORY);
-    assert!(rt; Application::<Vec<u8>>::TAKES_MEMORY);
+    same(&rt, value.tag(), context);
+    holds(&rt, ContextSpecific::<u8>::can_decode(context));
+    holds(&rt, !Application::<u8>::can_decode(context));
+    holds(&rt, Private::<u8>::can_decode(private));
+    holds(&rt, !Private::<u8>::can_decode(Tag::Integer));
+    holds(&rt, !ContextSpecific::<u8>::TAKES_MEMORY);
+    holds(&rt, Application::<Vec<u8>>::TAKES_MEMORY);
 }
 
 #[test]
 fn the_mode_is_compared_before_the_value(rt: HostRuntime) {
     let explicit: ContextSpecific<u8> = tagged(1, TagMode::Explicit, 5);
     let implicit: ContextSpecific<u8> = tagged(1, TagMode::Implicit, 4);
-    assert_eq!(rt;
+    same(
+        &rt,
         laws::number_then_mode_then_value(&explicit, &implicit),
-        Ordering::Less
+        Ordering::Less,
     );
     let (five, four) = (5u8, 4u8);
     let explicit: ContextSpecificRef<u8> = ContextSpecificRef {
@@ -343,5 +380,5 @@ fn the_mode_is_compared_before_the_value(rt: HostRuntime) {
         value: &four,
     };
     let order = laws::borrowed_number_then_mode_then_value(&explicit, &implicit);
-    assert_eq!(rt; order, Ordering::Less);
+    same(&rt, order, Ordering::Less);
 }

@@ -1,6 +1,6 @@
 //! Canonical encodings.
 
-use crate::tests::numbered;
+use crate::tests::{numbered, same};
 use der_asn1_types::asn1::{SetOfVec, Utf8StringRef};
 use der_asn1_types::{FromDer, canonical};
 use std::test::Fail;
@@ -10,22 +10,24 @@ fn items_are_put_in_order(rt: HostRuntime) -> Result<(), Fail> {
     let falling = [0x31, 0x06, 0x02, 0x01, 0x08, 0x02, 0x01, 0x07];
     let once = numbered(canonical::<SetOfVec<u16>>(rt.alloc(), &falling))?;
     let rising = [0x31, 0x06, 0x02, 0x01, 0x07, 0x02, 0x01, 0x08];
-    assert_eq!(rt; once.as_slice(), rising.as_slice());
+    same(&rt, once.as_slice(), rising.as_slice());
     let twice = numbered(canonical::<SetOfVec<u16>>(rt.alloc(), once.as_slice()))?;
-    assert_eq!(rt; twice.as_slice(), rising.as_slice());
+    same(&rt, twice.as_slice(), rising.as_slice());
     Ok(())
 }
 
 #[test]
 fn faults_have_their_numbers(rt: HostRuntime) {
     let octets = [0x31, 0x04, 0x02, 0x02, 0x00, 0x05];
-    assert_eq!(rt;
+    same(
+        &rt,
         numbered(canonical::<SetOfVec<u16>>(rt.alloc(), &octets)).err(),
-        Some(8)
+        Some(8),
     );
-    assert_eq!(rt;
+    same(
+        &rt,
         numbered(canonical::<bool>(rt.alloc(), &[0x01, 0x01, 0xff, 0x00])).err(),
-        Some(3)
+        Some(3),
     );
 }
 
@@ -36,9 +38,9 @@ fn a_set_of_strings(rt: HostRuntime) -> Result<(), Fail> {
         b'o',
     ];
     let set = numbered(SetOfVec::<Utf8StringRef>::from_der(rt.alloc(), &octets))?;
-    assert_eq!(rt; set.len(), 2);
+    same(&rt, set.len(), 2);
     let written = numbered(canonical::<SetOfVec<Utf8StringRef>>(rt.alloc(), &octets))?;
-    assert_eq!(rt; written.as_slice().get(4), Some(&b'H'));
+    same(&rt, written.as_slice().get(4), Some(&b'H'));
     Ok(())
 }
 
@@ -47,6 +49,6 @@ fn a_set_in_a_list_is_put_in_order(rt: HostRuntime) -> Result<(), Fail> {
     let octets = [0x30, 0x08, 0x31, 0x06, 0x02, 0x01, 0x08, 0x02, 0x01, 0x07];
     let written = numbered(canonical::<Vec<SetOfVec<u16>>>(rt.alloc(), &octets))?;
     let rising = [0x30, 0x08, 0x31, 0x06, 0x02, 0x01, 0x07, 0x02, 0x01, 0x08];
-    assert_eq!(rt; written.as_slice(), rising.as_slice());
+    same(&rt, written.as_slice(), rising.as_slice());
     Ok(())
 }

@@ -3,7 +3,7 @@
 ghost use Rattle.std.specs.Prelude.{true};
 ghost use Rattle.der_asn1_types.specs.Writing.{WriterState};
 
-use crate::tests::numbered;
+use crate::tests::{numbered, same, same_in};
 use der_asn1_types::asn1::{AnyRef, ContextSpecific, SetOf};
 use der_asn1_types::{Encode, Error, ErrorKind, SliceWriter, Tag, TagMode, TagNumber, Writer};
 use std::alloc::Global;
@@ -50,18 +50,18 @@ fn stops_after<T: Encode>(rt: &impl Abort, alloc: Global, value: &T, left: usize
         failed: false,
     };
     let answer = numbered(value.encode(&mut writer));
-    assert_eq!(rt; answer.err(), Some(10), "{left}");
-    assert!(rt; writer.octets.len() <= left, "{left}");
-    assert!(rt; encoding.starts_with(&writer.octets), "{left}");
+    same_in(rt, &left, answer.err(), Some(10));
+    same_in(rt, &left, writer.octets.len() <= left, true);
+    same_in(rt, &left, encoding.starts_with(&writer.octets), true);
 }
 
 // A buffer that is too short is refused, and a writer into it from then on.
 fn finds_no_room<T: Encode>(rt: &impl Abort, value: &T, buffer: &mut [u8]) {
-    assert_eq!(rt; numbered(value.encode_to_slice(buffer)).err(), Some(10));
+    same(rt, numbered(value.encode_to_slice(buffer)).err(), Some(10));
     let mut writer = SliceWriter::new(buffer);
-    assert_eq!(rt; numbered(value.encode(&mut writer)).err(), Some(10));
-    assert_eq!(rt; numbered(writer.write_byte(0)).err(), Some(17));
-    assert_eq!(rt; numbered(writer.write(&[])).err(), Some(17));
+    same(rt, numbered(value.encode(&mut writer)).err(), Some(10));
+    same(rt, numbered(writer.write_byte(0)).err(), Some(17));
+    same(rt, numbered(writer.write(&[])).err(), Some(17));
 }
 
 // Refuses a value at each number of octets that is too few, and writes it where there are enough.
@@ -77,7 +77,11 @@ fn needs_room<T: Encode>(
         finds_no_room(rt, value, &mut buffer);
         buffer.push(0)?;
     }
-    assert_eq!(rt; numbered(value.encode_to_slice(&mut buffer)), Ok(encoding));
+    same(
+        rt,
+        numbered(value.encode_to_slice(&mut buffer)),
+        Ok(encoding),
+    );
     Ok(())
 }
 

@@ -1,6 +1,6 @@
 //! Values of several kinds in one another: tagged sets, sets of tagged values, tagged bit strings.
 
-use crate::tests::numbered;
+use crate::tests::{numbered, same};
 use der_asn1_types::asn1::{
     AnyRef, BitStringRef, ContextSpecific, ContextSpecificRef, SetOf, SetOfVec, Utf8StringRef,
 };
@@ -26,10 +26,10 @@ fn a_tagged_set_of_two_insertions(rt: HostRuntime) -> Result<(), Fail> {
     let mut set: SetOf<u16, 2> = SetOf::new();
     numbered(set.insert(8))?;
     numbered(set.insert(7))?;
-    assert_eq!(rt; numbered(set.insert(6)).err(), Some(10));
+    same(&rt, numbered(set.insert(6)).err(), Some(10));
     let octets = [0xa2, 0x08, 0x31, 0x06, 0x02, 0x01, 0x07, 0x02, 0x01, 0x08];
     let written = encoding(rt.alloc(), &tagged(2, TagMode::Explicit, set))?;
-    assert_eq!(rt; written.as_slice(), octets.as_slice());
+    same(&rt, written.as_slice(), octets.as_slice());
     Ok(())
 }
 
@@ -105,11 +105,11 @@ fn two_modes_do_not_stand_in_one_set(rt: HostRuntime) -> Result<(), Fail> {
     others.push(explicit)?;
     others.push(list(alloc, 2, TagMode::Explicit, None)?)?;
     let (refused, stands) = extended(alloc, implicit, others)?;
-    assert_eq!(rt; refused, Some(13));
+    same(&rt, refused, Some(13));
     let octets = [
         0x31, 0x0b, 0xa0, 0x02, 0x30, 0x00, 0xa1, 0x05, 0x30, 0x03, 0x02, 0x01, 0x05,
     ];
-    assert_eq!(rt; stands.as_slice(), octets.as_slice());
+    same(&rt, stands.as_slice(), octets.as_slice());
     Ok(())
 }
 
@@ -120,14 +120,14 @@ fn two_modes_are_not_inserted(rt: HostRuntime) -> Result<(), Fail> {
     let mut others = Vec::new(alloc);
     others.push(explicit)?;
     let (refused, stands) = inserted(alloc, implicit, others)?;
-    assert_eq!(rt; refused, Some(13));
+    same(&rt, refused, Some(13));
     let octets = [0x31, 0x07, 0xa1, 0x05, 0x30, 0x03, 0x02, 0x01, 0x05];
-    assert_eq!(rt; stands.as_slice(), octets.as_slice());
+    same(&rt, stands.as_slice(), octets.as_slice());
     let (implicit, explicit) = two_modes(alloc)?;
     let mut items = Vec::new(alloc);
     items.push(implicit)?;
     items.push(explicit)?;
-    assert_eq!(rt; collected(alloc, items), Some(13));
+    same(&rt, collected(alloc, items), Some(13));
     Ok(())
 }
 
@@ -138,12 +138,12 @@ fn identifier_octets_decide_and_not_numbers(rt: HostRuntime) -> Result<(), Fail>
     let mut others = Vec::new(alloc);
     others.push(tagged(16384, TagMode::Explicit, 0))?;
     let (refused, stands) = extended(alloc, first, others)?;
-    assert_eq!(rt; refused, None);
+    same(&rt, refused, None);
     let octets = [
         0x31, 0x0f, 0xbf, 0x81, 0x80, 0x00, 0x03, 0x02, 0x01, 0x00, 0xbf, 0xff, 0x7f, 0x03, 0x02,
         0x01, 0x00,
     ];
-    assert_eq!(rt; stands.as_slice(), octets.as_slice());
+    same(&rt, stands.as_slice(), octets.as_slice());
     Ok(())
 }
 
@@ -176,21 +176,25 @@ fn bit_strings_with_implicit_tagging(rt: HostRuntime) {
     let alloc = rt.alloc();
     let octets: &[u8] = &[0x0f];
     let constructed = [0xa1, 0x02, 0x00, 0x0f];
-    assert_eq!(rt;
+    same(
+        &rt,
         implicit_bits(alloc, &[0x81, 0x02, 0x00, 0x0f], EncodingRules::Der),
-        Ok(Some(octets))
+        Ok(Some(octets)),
     );
-    assert_eq!(rt;
+    same(
+        &rt,
         implicit_bits(alloc, &constructed, EncodingRules::Der),
-        Err(8)
+        Err(8),
     );
-    assert_eq!(rt;
+    same(
+        &rt,
         implicit_bits(alloc, &constructed, EncodingRules::Ber),
-        Ok(Some(octets))
+        Ok(Some(octets)),
     );
-    assert_eq!(rt;
+    same(
+        &rt,
         implicit_bits(alloc, &[0x81, 0x02, 0x01, 0x81], EncodingRules::Ber),
-        Err(8)
+        Err(8),
     );
 }
 
@@ -202,7 +206,7 @@ fn a_public_key_with_implicit_tagging(rt: HostRuntime) {
         0xad, 0x70, 0x31, 0x66, 0xe1,
     ];
     let key = implicit_bits(rt.alloc(), &octets, EncodingRules::Der);
-    assert_eq!(rt; key, Ok(Some(&octets[3..])));
+    same(&rt, key, Ok(Some(&octets[3..])));
 }
 
 #[test]
@@ -220,9 +224,10 @@ fn a_borrowed_set_of_texts_with_implicit_tagging(rt: HostRuntime) -> Result<(), 
         value: &texts,
     };
     let written = encoding(alloc, &value)?;
-    assert_eq!(rt;
+    same(
+        &rt,
         written.as_slice(),
-        b"\xa2\x0e\x0c\x05Hello\x0c\x05world".as_slice()
+        b"\xa2\x0e\x0c\x05Hello\x0c\x05world".as_slice(),
     );
     Ok(())
 }
@@ -247,5 +252,5 @@ fn implicit_texts(alloc: Global, octets: &[u8]) -> Result<Option<usize>, u8> {
 #[test]
 fn a_set_of_texts_with_implicit_tagging(rt: HostRuntime) {
     let octets = b"\xa2\x0e\x0c\x05Hello\x0c\x05world";
-    assert_eq!(rt; implicit_texts(rt.alloc(), octets), Ok(Some(2)));
+    same(&rt, implicit_texts(rt.alloc(), octets), Ok(Some(2)));
 }

@@ -1,6 +1,7 @@
 //! Whole encodings: lists, arrays, optional values and boxes, through the traits' bounds.
 
 use crate::tests::elem::numbered;
+use crate::tests::{holds, same, same_in};
 use der_elem::{
     Choice, Decode, DerOrd, Duplicate, Encode, EncodingEq, FixedTag, FormMemory, FromDer,
     IsConstructed, Tagged, TakesMemory, ValueOrd,
@@ -28,26 +29,27 @@ fn reads_back<'a, T: FromDer<'a> + Encode + Duplicate + DerOrd>(
 ) -> Result<(), u8> {
     let value: T = read(alloc, octets)?;
     let written = numbered(value.to_der(alloc))?;
-    assert_eq!(rt; written.as_slice(), octets);
+    same(rt, written.as_slice(), octets);
     let len = numbered(value.encoded_len())?;
-    assert_eq!(rt; len.value() as usize, octets.len());
+    same(rt, len.value() as usize, octets.len());
     let mut writer = VecWriter::new(alloc);
     numbered(value.encode(&mut writer))?;
-    assert_eq!(rt; writer.finish().as_slice(), octets);
+    same(rt, writer.finish().as_slice(), octets);
     let copy = numbered(value.duplicate())?;
-    assert_eq!(rt; order(&copy, &value), Ok(Ordering::Equal));
+    same(rt, order(&copy, &value), Ok(Ordering::Equal));
     let mut buffer = Vec::new(alloc);
     for room in 0..octets.len() {
-        assert_eq!(rt;
+        same_in(
+            rt,
+            &room,
             numbered(value.encode_to_slice(&mut buffer)).err(),
             Some(10),
-            "room {room}"
         );
         if buffer.push(0).is_err() {
             return Err(1);
         }
     }
-    assert_eq!(rt; numbered(value.encode_to_slice(&mut buffer)), Ok(octets));
+    same(rt, numbered(value.encode_to_slice(&mut buffer)), Ok(octets));
     Ok(())
 }
 
@@ -79,36 +81,42 @@ fn reads_whole_encodings(rt: HostRuntime) -> Result<(), Fail> {
 #[test]
 fn refuses_whole_encodings(rt: HostRuntime) {
     let alloc = rt.alloc();
-    assert_eq!(rt; read::<bool>(alloc, &[0x05, 0x01, 0xff]).err(), Some(4));
-    assert_eq!(rt;
+    same(&rt, read::<bool>(alloc, &[0x05, 0x01, 0xff]).err(), Some(4));
+    same(
+        &rt,
         read::<bool>(alloc, &[0x01, 0x01, 0xff, 0x00]).err(),
-        Some(3)
+        Some(3),
     );
-    assert_eq!(rt; read::<bool>(alloc, &[]).err(), Some(2));
-    assert_eq!(rt; read::<Vec<i64>>(alloc, &[0x31, 0x00]).err(), Some(4));
-    assert_eq!(rt;
+    same(&rt, read::<bool>(alloc, &[]).err(), Some(2));
+    same(&rt, read::<Vec<i64>>(alloc, &[0x31, 0x00]).err(), Some(4));
+    same(
+        &rt,
         read::<Vec<i64>>(alloc, &[0x30, 0x04, 2, 1, 5, 5]).err(),
-        Some(2)
+        Some(2),
     );
-    assert_eq!(rt;
+    same(
+        &rt,
         read::<Vec<i64>>(alloc, &[0x30, 0x05, 2, 1, 5, 5, 0]).err(),
-        Some(4)
+        Some(4),
     );
-    assert_eq!(rt;
+    same(
+        &rt,
         read::<[u8; 2]>(alloc, &[0x30, 0x03, 2, 1, 1]).err(),
-        Some(7)
+        Some(7),
     );
     let three = [0x30, 0x09, 2, 1, 1, 2, 1, 2, 2, 1, 3];
-    assert_eq!(rt; read::<[u8; 2]>(alloc, &three).err(), Some(10));
-    assert_eq!(rt;
+    same(&rt, read::<[u8; 2]>(alloc, &three).err(), Some(10));
+    same(
+        &rt,
         read::<Option<u8>>(alloc, &[0x01, 0x01, 0xff]).err(),
-        Some(3)
+        Some(3),
     );
-    assert_eq!(rt; read::<Option<u8>>(alloc, &[0x02, 0x00]).err(), Some(7));
-    assert_eq!(rt; read::<Option<u8>>(alloc, &[0x19, 0x00]).err(), Some(5));
-    assert_eq!(rt;
+    same(&rt, read::<Option<u8>>(alloc, &[0x02, 0x00]).err(), Some(7));
+    same(&rt, read::<Option<u8>>(alloc, &[0x19, 0x00]).err(), Some(5));
+    same(
+        &rt,
         read::<Box<u8>>(alloc, &[0x02, 0x02, 0x00, 0x05]).err(),
-        Some(8)
+        Some(8),
     );
 }
 
@@ -123,35 +131,40 @@ fn kinded<T>(answer: Result<T, Error>) -> Result<T, ErrorKind> {
 #[test]
 fn says_how_many_octets_are_missing(rt: HostRuntime) {
     let octets = [0x30, 0x02, 0x02, 0x01, 0x05];
-    assert_eq!(rt;
+    same(
+        &rt,
         kinded(Vec::<i64>::from_der(rt.alloc(), &octets)).err(),
         Some(ErrorKind::Incomplete {
             expected_len: Length::new(5),
-            actual_len: Length::new(4)
-        })
+            actual_len: Length::new(4),
+        }),
     );
 }
 
 #[test]
 fn orders_by_encodings(rt: HostRuntime) -> Result<(), Fail> {
     let alloc = rt.alloc();
-    assert_eq!(rt; order(&127i16, &128), Ok(Ordering::Less));
-    assert_eq!(rt; order(&-1i16, &1), Ok(Ordering::Greater));
+    same(&rt, order(&127i16, &128), Ok(Ordering::Less));
+    same(&rt, order(&-1i16, &1), Ok(Ordering::Greater));
     let one = vec![in alloc; 1u8]?;
     let one_nought = vec![in alloc; 1u8, 0]?;
-    assert_eq!(rt; order(&one, &one_nought), Ok(Ordering::Less));
-    assert_eq!(rt; numbered(one.value_cmp(&one_nought)), Ok(Ordering::Less));
+    same(&rt, order(&one, &one_nought), Ok(Ordering::Less));
+    same(
+        &rt,
+        numbered(one.value_cmp(&one_nought)),
+        Ok(Ordering::Less),
+    );
     let large = vec![in alloc; 16909060i64]?;
     let two = vec![in alloc; 127i64, 127]?;
-    assert_eq!(rt; order(&large, &two), Ok(Ordering::Greater));
-    assert_eq!(rt; order(&[1u8, 2], &[1, 3]), Ok(Ordering::Less));
-    assert_eq!(rt; order(&None::<u8>, &None), Ok(Ordering::Equal));
-    assert_eq!(rt; order(&None, &Some(0u8)), Ok(Ordering::Less));
-    assert_eq!(rt; order(&Some(0u8), &None), Ok(Ordering::Greater));
-    assert_eq!(rt; order(&Some(1u8), &Some(2)), Ok(Ordering::Less));
+    same(&rt, order(&large, &two), Ok(Ordering::Greater));
+    same(&rt, order(&[1u8, 2], &[1, 3]), Ok(Ordering::Less));
+    same(&rt, order(&None::<u8>, &None), Ok(Ordering::Equal));
+    same(&rt, order(&None, &Some(0u8)), Ok(Ordering::Less));
+    same(&rt, order(&Some(0u8), &None), Ok(Ordering::Greater));
+    same(&rt, order(&Some(1u8), &Some(2)), Ok(Ordering::Less));
     let absent: Option<Vec<u8>> = None;
     let empty: Option<Vec<u8>> = Some(Vec::new(alloc));
-    assert_eq!(rt; order(&absent, &empty), Ok(Ordering::Less));
+    same(&rt, order(&absent, &empty), Ok(Ordering::Less));
     Ok(())
 }
 
@@ -164,9 +177,12 @@ fn reads_a_thousand_items(rt: HostRuntime) -> Result<(), Fail> {
     }
     let octets = numbered(numbers.to_der(alloc))?;
     let again: Vec<u16> = read(alloc, &octets)?;
-    assert_eq!(rt; again.as_slice(), numbers.as_slice());
+    same(&rt, again.as_slice(), numbers.as_slice());
     for room in [0usize, 1, 2, 100] {
-        assert!(rt; read::<Vec<u16>>(alloc, &octets[..room.min(octets.len())]).is_err());
+        holds(
+            &rt,
+            read::<Vec<u16>>(alloc, &octets[..room.min(octets.len())]).is_err(),
+        );
     }
     Ok(())
 }
@@ -183,11 +199,11 @@ fn tag_of<T: Tagged + Choice + FixedTag + IsConstructed>(value: &T) -> (Tag, boo
 
 #[test]
 fn knows_tags(rt: HostRuntime) -> Result<(), Fail> {
-    assert_eq!(rt; tag_of(&true), (Tag::Boolean, true, false, false));
-    assert_eq!(rt; tag_of(&5i32), (Tag::Integer, true, false, false));
-    assert_eq!(rt; tag_of(&()), (Tag::Null, true, true, false));
+    same(&rt, tag_of(&true), (Tag::Boolean, true, false, false));
+    same(&rt, tag_of(&5i32), (Tag::Integer, true, false, false));
+    same(&rt, tag_of(&()), (Tag::Null, true, true, false));
     let numbers: Vec<u8> = Vec::new(rt.alloc());
-    assert_eq!(rt; tag_of(&numbers), (Tag::Sequence, true, false, true));
+    same(&rt, tag_of(&numbers), (Tag::Sequence, true, false, true));
     Ok(())
 }
 
@@ -210,17 +226,23 @@ fn decode<'a, T: Decode<'a, SliceReader<'a>>>(
 fn reads_the_first_value(rt: HostRuntime) {
     let alloc = rt.alloc();
     let two = [0x02, 0x01, 0x05, 0x01, 0x01, 0xff];
-    assert_eq!(rt; decode::<u8>(alloc, &two), (Ok(5), 3, Ok(0x01)));
-    assert_eq!(rt;
+    same(&rt, decode::<u8>(alloc, &two), (Ok(5), 3, Ok(0x01)));
+    same(
+        &rt,
         decode::<Option<bool>>(alloc, &two),
-        (Ok(None), 0, Ok(0x02))
+        (Ok(None), 0, Ok(0x02)),
     );
-    assert_eq!(rt;
+    same(
+        &rt,
         decode::<Option<u8>>(alloc, &two),
-        (Ok(Some(5)), 3, Ok(0x01))
+        (Ok(Some(5)), 3, Ok(0x01)),
     );
-    assert_eq!(rt; decode::<u8>(alloc, &[0x02, 0x00]), (Err(7), 2, Err(17)));
-    assert_eq!(rt; decode::<Option<u8>>(alloc, &[]), (Ok(None), 0, Err(2)));
+    same(
+        &rt,
+        decode::<u8>(alloc, &[0x02, 0x00]),
+        (Err(7), 2, Err(17)),
+    );
+    same(&rt, decode::<Option<u8>>(alloc, &[]), (Ok(None), 0, Err(2)));
 }
 
 // The encoding of a value, through the bound.
@@ -238,17 +260,19 @@ fn encoding<T: Encode>(alloc: Global, value: &T) -> Result<Vec<u8>, u8> {
 fn writes_borrowed_options(rt: HostRuntime) -> Result<(), Fail> {
     let alloc = rt.alloc();
     let (present, absent) = (Some(5u8), None::<u8>);
-    assert_eq!(rt;
+    same(
+        &rt,
         encoding(alloc, &&present)?.as_slice(),
-        [0x02, 0x01, 0x05].as_slice()
+        [0x02, 0x01, 0x05].as_slice(),
     );
-    assert!(rt; encoding(alloc, &&absent)?.is_empty());
+    holds(&rt, encoding(alloc, &&absent)?.is_empty());
     let mut buffer = [0; 3];
-    assert_eq!(rt;
+    same(
+        &rt,
         numbered(Encode::encode_to_slice(&&present, &mut buffer)).err(),
-        None
+        None,
     );
-    assert_eq!(rt; buffer, [0x02, 0x01, 0x05]);
+    same(&rt, buffer, [0x02, 0x01, 0x05]);
     Ok(())
 }
 
@@ -272,20 +296,24 @@ fn equal_as<'a, T: FromDer<'a> + EncodingEq + Duplicate>(
 fn equals_by_encodings(rt: HostRuntime) {
     let alloc = rt.alloc();
     let (five, six) = ([0x02, 0x01, 0x05], [0x02, 0x01, 0x06]);
-    assert_eq!(rt; equal_as::<i64>(alloc, &five, &five), Ok(true));
-    assert_eq!(rt; equal_as::<i64>(alloc, &five, &six), Ok(false));
-    assert_eq!(rt; equal_as::<Box<u8>>(alloc, &five, &five), Ok(true));
-    assert_eq!(rt; equal_as::<Box<u8>>(alloc, &five, &six), Ok(false));
-    assert_eq!(rt; equal_as::<Option<u8>>(alloc, &five, &[]), Ok(false));
-    assert_eq!(rt; equal_as::<Option<u8>>(alloc, &[], &[]), Ok(true));
+    same(&rt, equal_as::<i64>(alloc, &five, &five), Ok(true));
+    same(&rt, equal_as::<i64>(alloc, &five, &six), Ok(false));
+    same(&rt, equal_as::<Box<u8>>(alloc, &five, &five), Ok(true));
+    same(&rt, equal_as::<Box<u8>>(alloc, &five, &six), Ok(false));
+    same(&rt, equal_as::<Option<u8>>(alloc, &five, &[]), Ok(false));
+    same(&rt, equal_as::<Option<u8>>(alloc, &[], &[]), Ok(true));
     let (list, longer) = (
         [0x30, 0x03, 0x02, 0x01, 0x05],
         [0x30, 0x06, 0x02, 0x01, 0x05, 0x02, 0x01, 0x05],
     );
-    assert_eq!(rt; equal_as::<Vec<u8>>(alloc, &list, &list), Ok(true));
-    assert_eq!(rt; equal_as::<Vec<u8>>(alloc, &list, &longer), Ok(false));
-    assert_eq!(rt; equal_as::<[u8; 1]>(alloc, &list, &list), Ok(true));
-    assert_eq!(rt; equal_as::<Vec<Box<u8>>>(alloc, &longer, &longer), Ok(true));
+    same(&rt, equal_as::<Vec<u8>>(alloc, &list, &list), Ok(true));
+    same(&rt, equal_as::<Vec<u8>>(alloc, &list, &longer), Ok(false));
+    same(&rt, equal_as::<[u8; 1]>(alloc, &list, &list), Ok(true));
+    same(
+        &rt,
+        equal_as::<Vec<Box<u8>>>(alloc, &longer, &longer),
+        Ok(true),
+    );
 }
 
 // Whether reading takes memory, through the bound.
@@ -306,13 +334,14 @@ fn says_what_takes_memory(rt: HostRuntime) {
         ],
         [false; 6]
     );
-    assert_eq!(rt;
+    same(
+        &rt,
         [
             Vec::<bool>::TAKES_MEMORY,
             takes_memory::<Box<u8>>(),
             takes_memory::<[Box<u8>; 2]>(),
-            takes_memory::<Option<Vec<u8>>>()
+            takes_memory::<Option<Vec<u8>>>(),
         ],
-        [true; 4]
+        [true; 4],
     );
 }

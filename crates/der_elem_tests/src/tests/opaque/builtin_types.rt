@@ -1,5 +1,6 @@
 //! The built-in types from carried contents octets.
 
+use crate::tests::same;
 use der_elem::{Choice, DecodeValue, Tagged};
 use der_opaque::{Any, AnyRef};
 use der_tlv::{Error, ErrorKind, SliceReader, Tag};
@@ -23,68 +24,81 @@ fn read<'a, T: TryFrom<AnyRef<'a>, Error = Error> + Drop>(
 
 #[test]
 fn booleans(rt: HostRuntime) {
-    assert_eq!(rt; read::<bool>(Tag::Boolean, &[0xff]), Ok(true));
-    assert_eq!(rt; read::<bool>(Tag::Boolean, &[0x00]), Ok(false));
-    assert_eq!(rt; read::<bool>(Tag::Integer, &[0x00]), Err(4));
-    assert_eq!(rt; read::<bool>(Tag::Boolean, &[]), Err(7));
-    assert_eq!(rt; read::<bool>(Tag::Boolean, &[0x00, 0x00]), Err(7));
-    assert_eq!(rt; read::<bool>(Tag::Boolean, &[0x01]), Err(8));
+    same(&rt, read::<bool>(Tag::Boolean, &[0xff]), Ok(true));
+    same(&rt, read::<bool>(Tag::Boolean, &[0x00]), Ok(false));
+    same(&rt, read::<bool>(Tag::Integer, &[0x00]), Err(4));
+    same(&rt, read::<bool>(Tag::Boolean, &[]), Err(7));
+    same(&rt, read::<bool>(Tag::Boolean, &[0x00, 0x00]), Err(7));
+    same(&rt, read::<bool>(Tag::Boolean, &[0x01]), Err(8));
 }
 
 #[test]
 fn nothing(rt: HostRuntime) {
-    assert_eq!(rt; read::<()>(Tag::Null, &[]), Ok(()));
-    assert_eq!(rt; read::<()>(Tag::Null, &[0x00]), Err(7));
-    assert_eq!(rt; read::<()>(Tag::Boolean, &[]), Err(4));
+    same(&rt, read::<()>(Tag::Null, &[]), Ok(()));
+    same(&rt, read::<()>(Tag::Null, &[0x00]), Err(7));
+    same(&rt, read::<()>(Tag::Boolean, &[]), Err(4));
 }
 
 #[test]
 fn texts(rt: HostRuntime) {
-    assert_eq!(rt; read::<&str>(Tag::Utf8String, &[0x68, 0x69]), Ok("hi"));
-    assert_eq!(rt; read::<&str>(Tag::Utf8String, &[]), Ok(""));
-    assert_eq!(rt; read::<&str>(Tag::Utf8String, &[0xff]), Err(12));
-    assert_eq!(rt; read::<&str>(Tag::PrintableString, &[0x68]), Err(4));
-    assert_eq!(rt; read::<&str>(Tag::PrintableString, &[0xff]), Err(4));
+    same(&rt, read::<&str>(Tag::Utf8String, &[0x68, 0x69]), Ok("hi"));
+    same(&rt, read::<&str>(Tag::Utf8String, &[]), Ok(""));
+    same(&rt, read::<&str>(Tag::Utf8String, &[0xff]), Err(12));
+    same(&rt, read::<&str>(Tag::PrintableString, &[0x68]), Err(4));
+    same(&rt, read::<&str>(Tag::PrintableString, &[0xff]), Err(4));
 }
 
 #[test]
 fn signed_integers(rt: HostRuntime) {
-    assert_eq!(rt; read::<i8>(Tag::Integer, &[0x80]), Ok(-128));
-    assert_eq!(rt; read::<i8>(Tag::Integer, &[0x00, 0x80]), Err(8));
-    assert_eq!(rt; read::<i8>(Tag::Integer, &[]), Err(7));
-    assert_eq!(rt; read::<i8>(Tag::Enumerated, &[0x05]), Err(4));
-    assert_eq!(rt; read::<i16>(Tag::Integer, &[0xff, 0x7f]), Ok(-129));
-    assert_eq!(rt; read::<i16>(Tag::Integer, &[0xff, 0x80]), Err(8));
-    assert_eq!(rt; read::<i32>(Tag::Integer, &[0x01, 0x00, 0x00]), Ok(65536));
-    assert_eq!(rt; read::<i32>(Tag::Null, &[]), Err(4));
-    assert_eq!(rt;
-        read::<i64>(Tag::Integer, &[0x80, 0, 0, 0, 0, 0, 0, 0]),
-        Ok(i64::MIN)
+    same(&rt, read::<i8>(Tag::Integer, &[0x80]), Ok(-128));
+    same(&rt, read::<i8>(Tag::Integer, &[0x00, 0x80]), Err(8));
+    same(&rt, read::<i8>(Tag::Integer, &[]), Err(7));
+    same(&rt, read::<i8>(Tag::Enumerated, &[0x05]), Err(4));
+    same(&rt, read::<i16>(Tag::Integer, &[0xff, 0x7f]), Ok(-129));
+    same(&rt, read::<i16>(Tag::Integer, &[0xff, 0x80]), Err(8));
+    same(
+        &rt,
+        read::<i32>(Tag::Integer, &[0x01, 0x00, 0x00]),
+        Ok(65536),
     );
-    assert_eq!(rt; read::<i64>(Tag::Integer, &[0x00, 0x7f]), Err(8));
+    same(&rt, read::<i32>(Tag::Null, &[]), Err(4));
+    same(
+        &rt,
+        read::<i64>(Tag::Integer, &[0x80, 0, 0, 0, 0, 0, 0, 0]),
+        Ok(i64::MIN),
+    );
+    same(&rt, read::<i64>(Tag::Integer, &[0x00, 0x7f]), Err(8));
     let mut least = [0; 16];
     least[0] = 0x80;
-    assert_eq!(rt; read::<i128>(Tag::Integer, &least), Ok(i128::MIN));
-    assert_eq!(rt; read::<i128>(Tag::Integer, &[0x00; 17]), Err(8));
+    same(&rt, read::<i128>(Tag::Integer, &least), Ok(i128::MIN));
+    same(&rt, read::<i128>(Tag::Integer, &[0x00; 17]), Err(8));
 }
 
 #[test]
 fn unsigned_integers(rt: HostRuntime) {
-    assert_eq!(rt; read::<u8>(Tag::Integer, &[0x00, 0x80]), Ok(128));
-    assert_eq!(rt; read::<u8>(Tag::Integer, &[0x80]), Err(13));
-    assert_eq!(rt; read::<u8>(Tag::Integer, &[0x01, 0x00]), Err(7));
-    assert_eq!(rt; read::<u8>(Tag::Boolean, &[0xff]), Err(4));
-    assert_eq!(rt; read::<u16>(Tag::Integer, &[0x00, 0xff, 0xff]), Ok(65535));
-    assert_eq!(rt; read::<u16>(Tag::Integer, &[0x00, 0x7f]), Err(8));
-    assert_eq!(rt; read::<u32>(Tag::Integer, &[0x01, 0x00, 0x01]), Ok(65537));
-    assert_eq!(rt; read::<u32>(Tag::Integer, &[]), Err(7));
-    assert_eq!(rt; read::<u64>(Tag::Integer, &[0x7f]), Ok(127));
-    assert_eq!(rt; read::<u64>(Tag::Integer, &[0xff]), Err(13));
+    same(&rt, read::<u8>(Tag::Integer, &[0x00, 0x80]), Ok(128));
+    same(&rt, read::<u8>(Tag::Integer, &[0x80]), Err(13));
+    same(&rt, read::<u8>(Tag::Integer, &[0x01, 0x00]), Err(7));
+    same(&rt, read::<u8>(Tag::Boolean, &[0xff]), Err(4));
+    same(
+        &rt,
+        read::<u16>(Tag::Integer, &[0x00, 0xff, 0xff]),
+        Ok(65535),
+    );
+    same(&rt, read::<u16>(Tag::Integer, &[0x00, 0x7f]), Err(8));
+    same(
+        &rt,
+        read::<u32>(Tag::Integer, &[0x01, 0x00, 0x01]),
+        Ok(65537),
+    );
+    same(&rt, read::<u32>(Tag::Integer, &[]), Err(7));
+    same(&rt, read::<u64>(Tag::Integer, &[0x7f]), Ok(127));
+    same(&rt, read::<u64>(Tag::Integer, &[0xff]), Err(13));
     let mut most = [0xff; 17];
     most[0] = 0;
-    assert_eq!(rt; read::<u128>(Tag::Integer, &most), Ok(u128::MAX));
-    assert_eq!(rt; read::<u128>(Tag::Integer, &[0x01; 17]), Err(7));
-    assert_eq!(rt; read::<u128>(Tag::Integer, &[0x01; 18]), Err(8));
+    same(&rt, read::<u128>(Tag::Integer, &most), Ok(u128::MAX));
+    same(&rt, read::<u128>(Tag::Integer, &[0x01; 17]), Err(7));
+    same(&rt, read::<u128>(Tag::Integer, &[0x01; 18]), Err(8));
 }
 
 /// What the contents octets of an INTEGER are decoded as, or the kind of the refusal.
@@ -105,17 +119,19 @@ fn integer_as<'a, T: Choice + DecodeValue<'a, SliceReader<'a>>>(
 #[test]
 fn carried_octets_are_read_under_their_tag(rt: HostRuntime) {
     let alloc = rt.alloc();
-    assert_eq!(rt; integer_as::<u8>(alloc, &[0x00, 0x80]), Ok(128));
-    assert_eq!(rt;
+    same(&rt, integer_as::<u8>(alloc, &[0x00, 0x80]), Ok(128));
+    same(
+        &rt,
         integer_as::<bool>(alloc, &[0x00, 0x80]),
         Err(ErrorKind::TagUnexpected {
             expected: None,
-            actual: Tag::Integer
-        })
+            actual: Tag::Integer,
+        }),
     );
-    assert_eq!(rt;
+    same(
+        &rt,
         integer_as::<i8>(alloc, &[0x00, 0x80]),
-        Err(ErrorKind::Noncanonical { tag: Tag::Integer })
+        Err(ErrorKind::Noncanonical { tag: Tag::Integer }),
     );
 }
 
@@ -123,8 +139,8 @@ fn carried_octets_are_read_under_their_tag(rt: HostRuntime) {
 fn an_encoding_is_kept_as_any(rt: HostRuntime) -> Result<(), Fail> {
     let alloc = rt.alloc();
     let any = Any::encode_from(alloc, &256u16)?;
-    assert_eq!(rt; any.tag(), Tag::Integer);
-    assert_eq!(rt; any.value(), [0x01, 0x00].as_slice());
-    assert_eq!(rt; any.decode_as::<u16>(alloc)?, 256);
+    same(&rt, any.tag(), Tag::Integer);
+    same(&rt, any.value(), [0x01, 0x00].as_slice());
+    same(&rt, any.decode_as::<u16>(alloc)?, 256);
     Ok(())
 }

@@ -1,5 +1,6 @@
 //! Copies, orders and conversions.
 
+use crate::tests::{holds, same};
 use der_elem::{Choice, DerOrd, Duplicate, ValueOrd};
 use der_opaque::{Any, AnyRef, Null, ObjectIdentifier, OctetString, OctetStringRef};
 use der_tlv::{Error, Reader, Tag};
@@ -29,19 +30,19 @@ fn any_is_copied(rt: HostRuntime) -> Result<(), Fail> {
         panic!(rt; "refused")
     };
     let owned = Any::from_ref(alloc, any)?;
-    assert!(rt; owned.clone()? == owned);
-    assert!(rt; owned.to_ref() == any);
-    assert!(rt; is_copied(&owned));
-    assert!(rt; is_copied(&any));
-    assert_eq!(rt; digest(&owned), digest(&owned.clone()?));
-    assert_eq!(rt; digest(&any), digest(&owned.to_ref()));
-    assert!(rt; !owned.is_null());
-    assert!(rt; Any::can_decode(Tag::Null));
-    assert!(rt; AnyRef::can_decode(Tag::Null));
+    holds(&rt, owned.clone()? == owned);
+    holds(&rt, owned.to_ref() == any);
+    holds(&rt, is_copied(&owned));
+    holds(&rt, is_copied(&any));
+    same(&rt, digest(&owned), digest(&owned.clone()?));
+    same(&rt, digest(&any), digest(&owned.to_ref()));
+    holds(&rt, !owned.is_null());
+    holds(&rt, Any::can_decode(Tag::Null));
+    holds(&rt, AnyRef::can_decode(Tag::Null));
     let decoded: Any = any.decode_as(alloc)?;
-    assert!(rt; decoded == owned);
-    assert_eq!(rt; owned.value_cmp(&Any::null(alloc))?, Ordering::Greater);
-    assert_eq!(rt; owned.cmp(&Any::null(alloc)), Ordering::Greater);
+    holds(&rt, decoded == owned);
+    same(&rt, owned.value_cmp(&Any::null(alloc))?, Ordering::Greater);
+    same(&rt, owned.cmp(&Any::null(alloc)), Ordering::Greater);
     Ok(())
 }
 
@@ -54,7 +55,7 @@ fn any_of_a_sequence_is_walked(rt: HostRuntime) -> Result<(), Fail> {
         let _slice = reader.read_into(&mut octets)?;
         Ok::<u8, Error>(octets[0])
     });
-    assert!(rt; matches!(first, Ok(1)));
+    holds(&rt, matches!(first, Ok(1)));
     Ok(())
 }
 
@@ -62,12 +63,16 @@ fn any_of_a_sequence_is_walked(rt: HostRuntime) -> Result<(), Fail> {
 fn octet_strings_are_copied(rt: HostRuntime) -> Result<(), Fail> {
     let alloc = rt.alloc();
     let owned = OctetString::new([1, 2].to_vec(alloc)?)?;
-    assert!(rt; owned.clone()? == owned);
-    assert!(rt; is_copied(&owned));
+    holds(&rt, owned.clone()? == owned);
+    holds(&rt, is_copied(&owned));
     let borrowed = owned.owned_to_ref();
-    assert!(rt; is_copied(&borrowed));
-    assert_eq!(rt; digest(&borrowed), digest(&OctetStringRef::from(&owned)));
-    assert_eq!(rt; owned.into_bytes().as_slice(), [1, 2].as_slice());
+    holds(&rt, is_copied(&borrowed));
+    same(
+        &rt,
+        digest(&borrowed),
+        digest(&OctetStringRef::from(&owned)),
+    );
+    same(&rt, owned.into_bytes().as_slice(), [1, 2].as_slice());
     Ok(())
 }
 
@@ -79,21 +84,33 @@ fn octet_strings_are_made_of_octets(rt: HostRuntime) -> Result<(), Fail> {
     let Ok(string) = OctetStringRef::try_from(slice) else {
         panic!(rt; "refused")
     };
-    assert!(rt; matches!(OctetStringRef::try_from(&slice), Ok(same) if same == string));
-    assert!(rt; matches!(OctetStringRef::try_from(&octets), Ok(same) if same == string));
+    holds(
+        &rt,
+        matches!(OctetStringRef::try_from(&slice), Ok(same) if same == string),
+    );
+    holds(
+        &rt,
+        matches!(OctetStringRef::try_from(&octets), Ok(same) if same == string),
+    );
     let back: &[u8] = string.into();
-    assert_eq!(rt; back, slice);
+    same(&rt, back, slice);
     let any = Any::from_ref(alloc, AnyRef::from(string))?;
-    assert!(rt; matches!(OctetStringRef::try_from(&any), Ok(same) if same == string));
+    holds(
+        &rt,
+        matches!(OctetStringRef::try_from(&any), Ok(same) if same == string),
+    );
     let null = Any::null(alloc);
-    assert!(rt; matches!(OctetStringRef::try_from(&null), Err(e) if e.kind.number() == 4));
+    holds(
+        &rt,
+        matches!(OctetStringRef::try_from(&null), Err(e) if e.kind.number() == 4),
+    );
     Ok(())
 }
 
 #[test]
 fn null_is_copied(rt: HostRuntime) {
-    assert!(rt; is_copied(&Null));
-    assert!(rt; matches!(Null::try_from(AnyRef::from(Null)), Ok(Null)));
+    holds(&rt, is_copied(&Null));
+    holds(&rt, matches!(Null::try_from(AnyRef::from(Null)), Ok(Null)));
 }
 
 #[test]
@@ -104,8 +121,8 @@ fn identifiers_are_copied(rt: HostRuntime) {
     let Ok(long) = ObjectIdentifier::<3>::from_bytes(&[0x2a, 0x03]) else {
         panic!(rt; "refused")
     };
-    assert!(rt; is_copied(&short));
-    assert_eq!(rt; digest(&short), digest(&short));
-    assert_eq!(rt; short.cmp(&long), Ordering::Greater);
-    assert!(rt; matches!(short.der_cmp(&long), Ok(Ordering::Less)));
+    holds(&rt, is_copied(&short));
+    same(&rt, digest(&short), digest(&short));
+    same(&rt, short.cmp(&long), Ordering::Greater);
+    holds(&rt, matches!(short.der_cmp(&long), Ok(Ordering::Less)));
 }

@@ -1,5 +1,6 @@
 //! A certificate and a public key as another program writes them.
 
+use crate::tests::{holds, same};
 use der_elem::{Decode, Encode, FromDer, Tagged};
 use der_opaque::{Any, AnyRef, ObjectIdentifier, OctetStringRef};
 use der_tlv::{Error, ErrorKind, Length, SliceReader, Tag, TagNumber};
@@ -82,20 +83,21 @@ fn parts(alloc: Global, encoding: &[u8], count: usize) -> Result<Vec<(Tag, Vec<u
 fn a_certificate_has_three_parts(rt: HostRuntime) -> Result<(), Fail> {
     let alloc = rt.alloc();
     let certificate = Any::from_der(alloc, &CERTIFICATE)?;
-    assert_eq!(rt; certificate.tag(), Tag::Sequence);
-    assert_eq!(rt; certificate.header().length, Length::new(377));
-    assert_eq!(rt;
+    same(&rt, certificate.tag(), Tag::Sequence);
+    same(&rt, certificate.header().length, Length::new(377));
+    same(
+        &rt,
         certificate.to_der(alloc)?.as_slice(),
-        CERTIFICATE.as_slice()
+        CERTIFICATE.as_slice(),
     );
     let parts = parts(alloc, &CERTIFICATE, 3)?;
     assert_eq!(rt; parts.len(), 3);
-    assert_eq!(rt; parts[0].0, Tag::Sequence);
-    assert_eq!(rt; parts[0].1.as_slice(), &CERTIFICATE[4..295]);
-    assert_eq!(rt; parts[1].0, Tag::Sequence);
-    assert_eq!(rt; parts[1].1.as_slice(), &CERTIFICATE[295..307]);
-    assert_eq!(rt; parts[2].0, Tag::BitString);
-    assert_eq!(rt; parts[2].1.as_slice(), &CERTIFICATE[307..]);
+    same(&rt, parts[0].0, Tag::Sequence);
+    same(&rt, parts[0].1.as_slice(), &CERTIFICATE[4..295]);
+    same(&rt, parts[1].0, Tag::Sequence);
+    same(&rt, parts[1].1.as_slice(), &CERTIFICATE[295..307]);
+    same(&rt, parts[2].0, Tag::BitString);
+    same(&rt, parts[2].1.as_slice(), &CERTIFICATE[307..]);
     Ok(())
 }
 
@@ -108,22 +110,23 @@ fn the_signed_part_of_a_certificate(rt: HostRuntime) -> Result<(), Fail> {
         constructed: true,
         number: TagNumber(number),
     };
-    assert_eq!(rt; fields[0].0, numbered(0));
-    assert_eq!(rt; fields[1].0, Tag::Integer);
-    assert_eq!(rt; fields[7].0, numbered(3));
+    same(&rt, fields[0].0, numbered(0));
+    same(&rt, fields[1].0, Tag::Integer);
+    same(&rt, fields[7].0, numbered(3));
     let mut all = Vec::new(alloc);
     for field in &fields {
         all.extend_from_slice(&field.1)?;
     }
-    assert_eq!(rt; all.as_slice(), &CERTIFICATE[8..295]);
+    same(&rt, all.as_slice(), &CERTIFICATE[8..295]);
     let algorithm = parts(alloc, &fields[2].1, 1)?;
     assert_eq!(rt; algorithm.len(), 1);
     let Ok(name) = ObjectIdentifier::<8>::from_der(alloc, &algorithm[0].1) else {
         panic!(rt; "refused")
     };
-    assert_eq!(rt;
+    same(
+        &rt,
         name.as_bytes(),
-        [0x2a, 0x86, 0x48, 0xce, 0x3d, 4, 3, 2].as_slice()
+        [0x2a, 0x86, 0x48, 0xce, 0x3d, 4, 3, 2].as_slice(),
     );
     Ok(())
 }
@@ -137,13 +140,13 @@ fn basic_constraints_of_a_certificate(rt: HostRuntime) -> Result<(), Fail> {
         Ok(any) => bool::try_from(any)?,
         Err(e) => panic!(rt; "refused: {:?}", e.kind)
     };
-    assert!(rt; critical);
+    holds(&rt, critical);
     let Ok(value) = OctetStringRef::from_der(alloc, &extension[2].1) else {
         panic!(rt; "refused")
     };
     let inner = parts(alloc, value.as_bytes(), 1)?;
     assert_eq!(rt; inner.len(), 1);
-    assert_eq!(rt; inner[0].1.as_slice(), [0x01, 0x01, 0xff].as_slice());
+    same(&rt, inner[0].1.as_slice(), [0x01, 0x01, 0xff].as_slice());
     Ok(())
 }
 
@@ -152,14 +155,17 @@ fn the_numbers_of_a_public_key(rt: HostRuntime) -> Result<(), Fail> {
     let alloc = rt.alloc();
     let numbers = parts(alloc, &PUBLIC_KEY, 2)?;
     assert_eq!(rt; numbers.len(), 2);
-    assert_eq!(rt; numbers[0].1.as_slice(), &PUBLIC_KEY[3..135]);
-    assert_eq!(rt; numbers[1].1.as_slice(), &PUBLIC_KEY[135..]);
+    same(&rt, numbers[0].1.as_slice(), &PUBLIC_KEY[3..135]);
+    same(&rt, numbers[1].1.as_slice(), &PUBLIC_KEY[135..]);
     let modulus = Any::from_der(alloc, &numbers[0].1)?;
-    assert_eq!(rt; modulus.tag(), Tag::Integer);
-    assert_eq!(rt; modulus.value(), &PUBLIC_KEY[6..135]);
-    assert!(rt; matches!(u128::try_from(modulus.to_ref()), Err(e) if e.kind.number() == 8));
+    same(&rt, modulus.tag(), Tag::Integer);
+    same(&rt, modulus.value(), &PUBLIC_KEY[6..135]);
+    holds(
+        &rt,
+        matches!(u128::try_from(modulus.to_ref()), Err(e) if e.kind.number() == 8),
+    );
     let exponent = Any::from_der(alloc, &numbers[1].1)?;
-    assert_eq!(rt; exponent.value(), [0x01, 0x00, 0x01].as_slice());
-    assert_eq!(rt; u32::try_from(exponent.to_ref())?, 65537);
+    same(&rt, exponent.value(), [0x01, 0x00, 0x01].as_slice());
+    same(&rt, u32::try_from(exponent.to_ref())?, 65537);
     Ok(())
 }
