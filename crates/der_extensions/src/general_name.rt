@@ -4,6 +4,7 @@ ghost use Rattle.der_elem.specs.Decoding.{ReadsAll};
 ghost use Rattle.der_fields.specs.SequenceWriting.{WritesAll};
 ghost use Rattle.der_extensions.specs.Grammars.{general_name, subject_alt_name};
 
+use crate::kept_name::KeptName;
 use der_ascii::Ia5StringRef;
 use der_elem::{Encode, FromDer};
 use der_fields::{Implicit, OneOf};
@@ -11,21 +12,25 @@ use der_opaque::OctetStringRef;
 use der_tlv::Error;
 use std::alloc::Global;
 
-/// The alternatives that name a host, a resource or a mailbox. A name of another one is refused
-/// (`ErrorKind::TagUnexpected`, 4):
+/// A name of any kind. One with a structure of its own is kept as it is encoded (`KeptName`):
 ///
 /// ```text
 /// GeneralName ::= CHOICE {
+///     otherName                  [0] OtherName,
 ///     rfc822Name                 [1] IA5String,
 ///     dNSName                    [2] IA5String,
+///     x400Address                [3] ORAddress,
+///     directoryName              [4] Name,
+///     ediPartyName               [5] EDIPartyName,
 ///     uniformResourceIdentifier  [6] IA5String,
-///     iPAddress                  [7] OCTET STRING }
+///     iPAddress                  [7] OCTET STRING,
+///     registeredID               [8] OBJECT IDENTIFIER }
 /// ```
 pub type GeneralName<'a> = OneOf<
     Implicit<Ia5StringRef<'a>, 1>,
     OneOf<
         Implicit<Ia5StringRef<'a>, 2>,
-        OneOf<Implicit<Ia5StringRef<'a>, 6>, Implicit<OctetStringRef<'a>, 7>>,
+        OneOf<Implicit<Ia5StringRef<'a>, 6>, OneOf<Implicit<OctetStringRef<'a>, 7>, KeptName<'a>>>,
     >,
 >;
 

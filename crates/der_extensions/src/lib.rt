@@ -19,6 +19,7 @@ mod authority;
 mod constraints;
 mod general_name;
 mod grammars;
+mod kept_name;
 mod key_identifier;
 mod key_usage;
 mod purposes;
@@ -32,6 +33,7 @@ pub use general_name::{
     write_subject_alt_name,
 };
 pub use grammars::Message;
+pub use kept_name::KeptName;
 pub use key_identifier::{
     SubjectKeyIdentifier, read_subject_key_identifier, write_subject_key_identifier,
 };

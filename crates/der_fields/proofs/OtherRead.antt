@@ -13,7 +13,7 @@ use Rattle.der_elem.specs.Leading.{LeadsTag, Leads}
 use Rattle.der_fields.specs.Alternatives.{TagIs, parse_one}
 
 -- the next tag is the one that the front begins with
-same_tag : (octets : List ℕ) (t u : Tag) (n : ℕ) → take (length (identifier t)) octets ≡ identifier t → LeadsTag u (take n octets) → t ≡ u
+pub same_tag : (octets : List ℕ) (t u : Tag) (n : ℕ) → take (length (identifier t)) octets ≡ identifier t → LeadsTag u (take n octets) → t ≡ u
 same_tag octets t u n e l =
     let f : identifier t ++ drop (length (identifier t)) octets ≡ octets = ap (λ o. o ++ drop (length (identifier t)) octets) (sym e) ∙ take-append-drop (length (identifier t)) octets in
     let h : octets ≡ identifier u ++ (l.others ++ drop n octets) = sym (take-append-drop n octets) ∙ ap (λ o. o ++ drop n octets) l.octets_are ∙ append_assoc (identifier u) l.others (drop n octets) in

@@ -23,6 +23,7 @@ use Rattle.der_fields.specs.Alternatives.{parse_one}
 use Rattle.der_fields.specs.ClassTags.{class_tag}
 use Rattle.der_fields.specs.Defaults.{parse_default}
 use Rattle.der_fields.specs.FieldLists.{parse_field, parse_end}
+use Rattle.der_extensions.specs.KeptNames.{is_kept, parse_kept}
 use Rattle.der_lines.specs.Tables.{CanonicalFunction, canonical_tagged, Table, or_else}
 
 -- ---- what fields are made of
@@ -166,12 +167,13 @@ constraints_fields = parse_field flag (parse_field (optional Integer parse_natur
 abbrev pub text_name : ℕ → Parse
 text_name number = parse_tagged (primitive number) (parse_string 22)
 
--- GeneralName of four alternatives (section 4.2.1.6)
+-- GeneralName (section 4.2.1.6); the names with structures of their own are kept as they are encoded
 abbrev pub general_name : Parse
 general_name =
-    parse_one (is_tag (primitive 1)) (λ tag. is_tag (primitive 2) tag || (is_tag (primitive 6) tag || is_tag (primitive 7) tag)) (text_name 1)
-    (parse_one (is_tag (primitive 2)) (λ tag. is_tag (primitive 6) tag || is_tag (primitive 7) tag) (text_name 2)
-    (parse_one (is_tag (primitive 6)) (is_tag (primitive 7)) (text_name 6) (parse_tagged (primitive 7) parse_octets)))
+    parse_one (is_tag (primitive 1)) (λ tag. is_tag (primitive 2) tag || (is_tag (primitive 6) tag || (is_tag (primitive 7) tag || is_kept tag))) (text_name 1)
+    (parse_one (is_tag (primitive 2)) (λ tag. is_tag (primitive 6) tag || (is_tag (primitive 7) tag || is_kept tag)) (text_name 2)
+    (parse_one (is_tag (primitive 6)) (λ tag. is_tag (primitive 7) tag || is_kept tag) (text_name 6)
+    (parse_one (is_tag (primitive 7)) is_kept (parse_tagged (primitive 7) parse_octets) parse_kept)))
 
 -- AuthorityKeyIdentifier (section 4.2.1.1); the names are kept as they are encoded
 abbrev pub authority_fields : ContentsParse

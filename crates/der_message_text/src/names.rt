@@ -4,7 +4,7 @@ use crate::hexadecimal::{push_digits, push_octet};
 use crate::identifiers::{dotted, name_in};
 use crate::labels::push_label;
 use crate::site::Site;
-use der_elem::Encode;
+use der_elem::{Encode, FromDer};
 use der_opaque::AnyRef;
 use der_pkix::{AttributeTypeAndValue, Name, RelativeDistinguishedName};
 use der_tlv::{Error, ErrorKind, Tag};
@@ -41,6 +41,18 @@ pub fn push_name(
         Err(error) => push_malformed(text, error)?,
     }
     text.push('\n')
+}
+
+/// Adds the name that octets encode; `malformed` and the fault where they encode none.
+pub fn push_encoded_name(
+    alloc: Global,
+    text: &mut String,
+    octets: &[u8],
+) -> Result<(), AllocError> {
+    match Name::from_der(alloc, octets) {
+        Ok(name) => push_places(alloc, text, name.as_slice()),
+        Err(error) => push_malformed(text, error),
+    }
 }
 
 /// Adds what is wrong with octets, unless memory ran out.

@@ -1,16 +1,18 @@
 //! The value of the extension subjectAltName as text (RFC 5280 section 4.2.1.6).
 
 use crate::hexadecimal::{push_digits, push_octet};
-use crate::names::{push_escaped, push_malformed};
+use crate::identifiers::push_identifier;
+use crate::names::{push_encoded_name, push_encoding, push_escaped, push_malformed};
 use der_extensions::{GeneralName, read_subject_alt_name};
 use der_fields::OneOf;
+use der_opaque::AnyRef;
 use std::alloc::{AllocError, Global};
 use std::fmt::Write;
 
-/// Adds the names. A name of a kind that is not read makes the value malformed.
+/// Adds the names; `malformed` and the fault where the octets are no names.
 pub fn push_other_names(alloc: Global, text: &mut String, octets: &[u8]) -> Result<(), AllocError> {
     match read_subject_alt_name(alloc, octets) {
-        Ok(names) => push_each(text, names.as_slice()),
+        Ok(names) => push_each(alloc, text, names.as_slice()),
         Err(error) => {
             text.push_str(", ")?;
             push_malformed(text, error)
@@ -18,23 +20,53 @@ pub fn push_other_names(alloc: Global, text: &mut String, octets: &[u8]) -> Resu
     }
 }
 
-fn push_each(text: &mut String, names: &[GeneralName<'_>]) -> Result<(), AllocError> {
+fn push_each(
+    alloc: Global,
+    text: &mut String,
+    names: &[GeneralName<'_>],
+) -> Result<(), AllocError> {
     for name in names {
         text.push_str(", ")?;
-        push_other_name(text, name)?;
+        push_other_name(alloc, text, name)?;
     }
     Ok(())
 }
 
-fn push_other_name(text: &mut String, name: &GeneralName<'_>) -> Result<(), AllocError> {
+fn push_other_name(
+    alloc: Global,
+    text: &mut String,
+    name: &GeneralName<'_>,
+) -> Result<(), AllocError> {
     match name {
         OneOf::First(mail) => push_text(text, "mail ", mail.value.as_str()),
         OneOf::Other(OneOf::First(host)) => push_text(text, "host ", host.value.as_str()),
         OneOf::Other(OneOf::Other(OneOf::First(resource))) => {
             push_text(text, "resource ", resource.value.as_str())
         }
-        OneOf::Other(OneOf::Other(OneOf::Other(address))) => {
+        OneOf::Other(OneOf::Other(OneOf::Other(OneOf::First(address)))) => {
             push_address(text, address.value.as_bytes())
+        }
+        OneOf::Other(OneOf::Other(OneOf::Other(OneOf::Other(kept)))) => {
+            push_kept(alloc, text, kept.to_any())
+        }
+    }
+}
+
+/// Adds a name that is kept as it is encoded: the places of a directory, a registered identifier, or
+/// else `#` and the encoding.
+fn push_kept(alloc: Global, text: &mut String, name: AnyRef<'_>) -> Result<(), AllocError> {
+    match name.header().tag.number().value() {
+        4 => {
+            text.push_str("directory ")?;
+            push_encoded_name(alloc, text, name.value())
+        }
+        8 => {
+            text.push_str("identifier ")?;
+            push_identifier(alloc, text, name.value())
+        }
+        _ => {
+            text.push_str("other ")?;
+            push_encoding(alloc, text, name)
         }
     }
 }

@@ -153,9 +153,10 @@ fn octets_are_refused_or_put_in_order(rt: HostRuntime) -> Result<(), Fail> {
         ("algid 300506032b657000", "refused 3\n"),
         ("spki 300506032b6570", "refused 4\n"),
         ("keyusage 3000", "refused 4\n"),
-        // an encoded DEFAULT, and a name of another kind
+        // an encoded DEFAULT, a name that is kept, and one of no kind
         ("basicconstraints 3003010100", "refused 8\n"),
-        ("subjectaltname 300588032a0304", "refused 4\n"),
+        ("subjectaltname 300588032a0304", "ok 300588032a0304\n"),
+        ("subjectaltname 30028900", "refused 4\n"),
         // attributes at one place, put in order
         (
             "name 303d310b3009060355040613025345311e300d060355040b0c064261726c6579300d060355040a0c0650756c6c6579310e300c06035504030c05677261696e",

@@ -2,7 +2,7 @@
 
 use crate::tests::messages::{
     CURVE_PRIVATE, CURVE_PUBLIC, CURVE_WRAPPED, ED25519, ED25519_PUBLIC, ED25519_WRAPPED,
-    EXTENSIONS, LIST, RSA_MODULUS, RSA_PRIVATE, RSA_PUBLIC, RSA_WRAPPED,
+    EXTENSIONS, LIST, NAMES, RSA_MODULUS, RSA_PRIVATE, RSA_PUBLIC, RSA_WRAPPED,
 };
 use crate::tests::{assert_contains, number_of};
 use der_message_text::{Kind, kind_of, shown};
@@ -93,6 +93,20 @@ fn shows_each_extension(rt: HostRuntime) -> Result<(), Fail> {
         "22 octets, c8:20:a3:2b:b1:1d:97:2a:7c:ce:b7:82:8d:0c:52:50:fe:49:6d:ae\n",
         "24 octets, 43:53:0f:b6:38:35:16:df:38:d5:c8:ec:c7:94:d3:c5:15:fc:f4:fd\n",
         "  506    18  extension: 2.5.29.32 (certificatePolicies), 9 octets\n",
+    ] {
+        assert_contains(&rt, text.as_str(), line);
+    }
+    Ok(())
+}
+
+#[test]
+fn shows_names_of_each_kind(rt: HostRuntime) -> Result<(), Fail> {
+    let octets = hex::decode(rt.alloc(), NAMES)?;
+    let text = shown(rt.alloc(), Kind::Certificate, octets.as_slice())?;
+    for line in [
+        "(subjectAltName), 112 octets, host barley.example, directory C=SE, O=Barley, CN=Grain, ",
+        ", other #a025060a2b060104018237140203a0170c156d696c6c6572406261726c65792e6578616d706c65, ",
+        ", identifier 1.2.3.4\n",
     ] {
         assert_contains(&rt, text.as_str(), line);
     }

@@ -1,6 +1,6 @@
 //! A CHOICE as a field that may be absent, its order, its equality and its copies.
 
-use super::numbered;
+use super::{holds, numbered, same};
 use der_elem::{DerOrd, Duplicate, Encode, FromDer};
 use der_fields::{End, Field, FieldSequence};
 use der_pkix::{Time, read_time};
@@ -51,7 +51,7 @@ fn a_choice_may_be_absent(rt: HostRuntime) -> Result<(), Fail> {
     for digits in rows {
         let octets = hex::decode(alloc, digits)?;
         let written = expiring_again(alloc, octets.as_slice())?;
-        assert_eq!(rt; written.as_slice(), octets.as_slice());
+        same(&rt, written.as_slice(), octets.as_slice());
     }
     Ok(())
 }
@@ -63,10 +63,14 @@ fn times_are_ordered_as_their_encodings(rt: HostRuntime) -> Result<(), Fail> {
     let general = hex::decode(alloc, "180f32303236313132333034313033355a")?;
     let utc = time_of(alloc, utc.as_slice())?;
     let general = time_of(alloc, general.as_slice())?;
-    assert_eq!(rt; compared(&utc, &utc), Ok((Ordering::Equal, true)));
+    same(&rt, compared(&utc, &utc), Ok((Ordering::Equal, true)));
     // the same second, of the other type
-    assert_eq!(rt; compared(&utc, &general), Ok((Ordering::Less, false)));
-    assert_eq!(rt; compared(&general, &utc), Ok((Ordering::Greater, false)));
-    assert!(rt; is_copied(&general));
+    same(&rt, compared(&utc, &general), Ok((Ordering::Less, false)));
+    same(
+        &rt,
+        compared(&general, &utc),
+        Ok((Ordering::Greater, false)),
+    );
+    holds(&rt, is_copied(&general));
     Ok(())
 }

@@ -1,6 +1,6 @@
 //! Values of extensions that OpenSSL wrote, read and written back, and octets that are refused.
 
-use super::numbered;
+use super::{numbered, same};
 use der_extensions::{
     read_authority_key_identifier, read_basic_constraints, read_ext_key_usage, read_general_name,
     read_key_usage, read_subject_alt_name, read_subject_key_identifier,
@@ -66,7 +66,7 @@ fn constraints_are_written_back(rt: HostRuntime) -> Result<(), Fail> {
     for digits in ["3000", "30030101ff", "30060101ff020103"] {
         let octets = hex::decode(alloc, digits)?;
         let written = constraints_again(alloc, octets.as_slice())?;
-        assert_eq!(rt; written.as_slice(), octets.as_slice());
+        same(&rt, written.as_slice(), octets.as_slice());
     }
     Ok(())
 }
@@ -79,20 +79,51 @@ fn alternative_names_are_written_back(rt: HostRuntime) -> Result<(), Fail> {
         "3044820e6261726c65792e6578616d706c6581136d696c6c406261726c65792e6578616d706c658704c0000201861768747470733a2f2f6261726c65792e6578616d706c652f",
     )?;
     let written = alternative_names_again(alloc, octets.as_slice())?;
-    assert_eq!(rt; written.as_slice(), octets.as_slice());
+    same(&rt, written.as_slice(), octets.as_slice());
     Ok(())
 }
 
 #[test]
-fn a_name_of_another_kind_is_refused(rt: HostRuntime) -> Result<(), Fail> {
+fn names_of_each_kind_are_written_back(rt: HostRuntime) -> Result<(), Fail> {
     let alloc = rt.alloc();
-    // registeredID
-    let octets = hex::decode(alloc, "300588032a0304")?;
+    // a host, a directory's name, the name of a user and a registered identifier, by OpenSSL
+    let octets = hex::decode(
+        alloc,
+        "306e820e6261726c65792e6578616d706c65a430302e310b3009060355040613025345310f300d060355040a0c064261726c6579310e300c06035504030c05477261696ea025060a2b060104018237140203a0170c156d696c6c6572406261726c65792e6578616d706c6588032a0304",
+    )?;
+    let written = alternative_names_again(alloc, octets.as_slice())?;
+    same(&rt, written.as_slice(), octets.as_slice());
+    // otherName, x400Address, directoryName, ediPartyName and registeredID
+    for digits in ["a000", "a300", "a4023000", "a5028100", "88032a0304"] {
+        let octets = hex::decode(alloc, digits)?;
+        let written = general_name_again(alloc, octets.as_slice())?;
+        same(&rt, written.as_slice(), octets.as_slice());
+    }
+    Ok(())
+}
+
+#[test]
+fn names_of_no_kind_are_refused(rt: HostRuntime) -> Result<(), Fail> {
+    let alloc = rt.alloc();
+    // tags that no alternative has, those of which the constructed bit is another, and other classes
+    for digits in [
+        "8900",
+        "a900",
+        "8000",
+        "a100",
+        "8400",
+        "a803020105",
+        "6400",
+        "3000",
+        "060100",
+    ] {
+        let octets = hex::decode(alloc, digits)?;
+        let again = general_name_again(alloc, octets.as_slice());
+        same(&rt, again.err(), Some(4));
+    }
+    let octets = hex::decode(alloc, "30028900")?;
     let again = alternative_names_again(alloc, octets.as_slice());
-    assert_eq!(rt; again.err(), Some(4));
-    let octets = hex::decode(alloc, "88032a0304")?;
-    let again = general_name_again(alloc, octets.as_slice());
-    assert_eq!(rt; again.err(), Some(4));
+    same(&rt, again.err(), Some(4));
     Ok(())
 }
 
@@ -102,7 +133,7 @@ fn usages_are_written_back(rt: HostRuntime) -> Result<(), Fail> {
     for digits in ["030205a0", "03020106", "0303070080"] {
         let octets = hex::decode(alloc, digits)?;
         let written = usage_again(alloc, octets.as_slice())?;
-        assert_eq!(rt; written.as_slice(), octets.as_slice());
+        same(&rt, written.as_slice(), octets.as_slice());
     }
     Ok(())
 }
@@ -112,7 +143,7 @@ fn purposes_are_written_back(rt: HostRuntime) -> Result<(), Fail> {
     let alloc = rt.alloc();
     let octets = hex::decode(alloc, "301406082b0601050507030106082b06010505070302")?;
     let written = purposes_again(alloc, octets.as_slice())?;
-    assert_eq!(rt; written.as_slice(), octets.as_slice());
+    same(&rt, written.as_slice(), octets.as_slice());
     Ok(())
 }
 
@@ -121,7 +152,7 @@ fn key_identifiers_are_written_back(rt: HostRuntime) -> Result<(), Fail> {
     let alloc = rt.alloc();
     let octets = hex::decode(alloc, "0414d861bbf0f0e49add54a4c9082f3a2f0afa983135")?;
     let written = key_identifier_again(alloc, octets.as_slice())?;
-    assert_eq!(rt; written.as_slice(), octets.as_slice());
+    same(&rt, written.as_slice(), octets.as_slice());
     Ok(())
 }
 
@@ -137,7 +168,7 @@ fn authorities_are_written_back(rt: HostRuntime) -> Result<(), Fail> {
     for digits in rows {
         let octets = hex::decode(alloc, digits)?;
         let written = authority_again(alloc, octets.as_slice())?;
-        assert_eq!(rt; written.as_slice(), octets.as_slice());
+        same(&rt, written.as_slice(), octets.as_slice());
     }
     Ok(())
 }
@@ -157,7 +188,7 @@ fn authorities_have_their_fields_in_order(rt: HostRuntime) -> Result<(), Fail> {
     for (digits, number) in rows {
         let octets = hex::decode(alloc, digits)?;
         let again = authority_again(alloc, octets.as_slice());
-        assert_eq!(rt; again.err(), Some(number));
+        same(&rt, again.err(), Some(number));
     }
     Ok(())
 }

@@ -1,6 +1,6 @@
 //! Names, times and extensions that OpenSSL wrote, read and written back, and octets that are refused.
 
-use super::numbered;
+use super::{numbered, same};
 use der_pkix::{
     read_extension, read_extensions, read_name, read_time, read_validity, write_extension,
     write_extensions, write_name, write_time, write_validity,
@@ -52,7 +52,7 @@ fn names_are_written_back(rt: HostRuntime) -> Result<(), Fail> {
         "303d310b3009060355040613025345311e300d060355040a0c0650756c6c6579300d060355040b0c064261726c6579310e300c06035504030c05677261696e",
     )?;
     let written = name_again(alloc, octets.as_slice())?;
-    assert_eq!(rt; written.as_slice(), octets.as_slice());
+    same(&rt, written.as_slice(), octets.as_slice());
     Ok(())
 }
 
@@ -65,9 +65,10 @@ fn attributes_are_put_in_order(rt: HostRuntime) -> Result<(), Fail> {
         "303d310b3009060355040613025345311e300d060355040b0c064261726c6579300d060355040a0c0650756c6c6579310e300c06035504030c05677261696e",
     )?;
     let written = hex::encode(alloc, name_again(alloc, octets.as_slice())?.as_slice())?;
-    assert_eq!(rt;
+    same(
+        &rt,
         written.as_str(),
-        "303d310b3009060355040613025345311e300d060355040a0c0650756c6c6579300d060355040b0c064261726c6579310e300c06035504030c05677261696e"
+        "303d310b3009060355040613025345311e300d060355040a0c0650756c6c6579300d060355040b0c064261726c6579310e300c06035504030c05677261696e",
     );
     Ok(())
 }
@@ -80,7 +81,7 @@ fn validities_are_written_back(rt: HostRuntime) -> Result<(), Fail> {
         "3020170d3236313132333034313033355a180f32303539313030313034313033355a",
     )?;
     let written = validity_again(alloc, octets.as_slice())?;
-    assert_eq!(rt; written.as_slice(), octets.as_slice());
+    same(&rt, written.as_slice(), octets.as_slice());
     Ok(())
 }
 
@@ -98,7 +99,11 @@ fn times_are_told_by_their_tags(rt: HostRuntime) -> Result<(), Fail> {
     ];
     for (digits, number) in rows {
         let octets = hex::decode(alloc, digits)?;
-        assert_eq!(rt; time_again(alloc, octets.as_slice()).err(), Some(number));
+        same(
+            &rt,
+            time_again(alloc, octets.as_slice()).err(),
+            Some(number),
+        );
     }
     Ok(())
 }
@@ -113,7 +118,7 @@ fn extensions_are_written_back(rt: HostRuntime) -> Result<(), Fail> {
     for digits in rows {
         let octets = hex::decode(alloc, digits)?;
         let written = extension_again(alloc, octets.as_slice())?;
-        assert_eq!(rt; written.as_slice(), octets.as_slice());
+        same(&rt, written.as_slice(), octets.as_slice());
     }
     Ok(())
 }
@@ -128,7 +133,7 @@ fn lists_of_extensions_are_written_back(rt: HostRuntime) -> Result<(), Fail> {
     for digits in rows {
         let octets = hex::decode(alloc, digits)?;
         let written = extensions_again(alloc, octets.as_slice())?;
-        assert_eq!(rt; written.as_slice(), octets.as_slice());
+        same(&rt, written.as_slice(), octets.as_slice());
     }
     Ok(())
 }
@@ -149,9 +154,10 @@ fn extensions_have_their_fields_in_order_and_no_default(rt: HostRuntime) -> Resu
     ];
     for (digits, number) in rows {
         let octets = hex::decode(alloc, digits)?;
-        assert_eq!(rt;
+        same(
+            &rt,
             extension_again(alloc, octets.as_slice()).err(),
-            Some(number)
+            Some(number),
         );
     }
     Ok(())

@@ -1,7 +1,7 @@
 //! Lists of revoked certificates that OpenSSL wrote, read and written back, and octets that are
 //! refused.
 
-use super::numbered;
+use super::{numbered, same, same_in};
 use der_revocation::{
     read_certificate_list, read_revoked_certificate, read_tbs_cert_list, write_certificate_list,
     write_revoked_certificate, write_tbs_cert_list,
@@ -44,10 +44,10 @@ fn lists_are_written_back(rt: HostRuntime) -> Result<(), Fail> {
     let alloc = rt.alloc();
     let octets = hex::decode(alloc, TWO)?;
     let written = list_again(alloc, octets.as_slice())?;
-    assert_eq!(rt; written.as_slice(), octets.as_slice());
+    same(&rt, written.as_slice(), octets.as_slice());
     let signed = hex::decode(alloc, SIGNED)?;
     let written = signed_again(alloc, signed.as_slice())?;
-    assert_eq!(rt; written.as_slice(), signed.as_slice());
+    same(&rt, written.as_slice(), signed.as_slice());
     Ok(())
 }
 
@@ -61,7 +61,7 @@ fn entries_are_written_back(rt: HostRuntime) -> Result<(), Fail> {
     for digits in rows {
         let octets = hex::decode(alloc, digits)?;
         let written = entry_again(alloc, octets.as_slice())?;
-        assert_eq!(rt; written.as_slice(), octets.as_slice());
+        same(&rt, written.as_slice(), octets.as_slice());
     }
     Ok(())
 }
@@ -77,7 +77,7 @@ fn the_first_version_has_no_number(rt: HostRuntime) -> Result<(), Fail> {
     for digits in rows {
         let octets = hex::decode(alloc, digits)?;
         let written = signed_again(alloc, octets.as_slice())?;
-        assert_eq!(rt; written.as_slice(), octets.as_slice());
+        same(&rt, written.as_slice(), octets.as_slice());
     }
     Ok(())
 }
@@ -88,7 +88,7 @@ fn each_cut_of_a_list_is_refused(rt: HostRuntime) -> Result<(), Fail> {
     let octets = hex::decode(alloc, SIGNED)?;
     for i in 0..octets.len() {
         let number = signed_again(alloc, &octets[..i]).err();
-        assert_eq!(rt; number, Some(2), "at {i}");
+        same_in(&rt, &i, number, Some(2));
     }
     Ok(())
 }
@@ -107,7 +107,7 @@ fn entries_have_their_fields_in_order(rt: HostRuntime) -> Result<(), Fail> {
     for (digits, number) in rows {
         let octets = hex::decode(alloc, digits)?;
         let again = entry_again(alloc, octets.as_slice());
-        assert_eq!(rt; again.err(), Some(number));
+        same(&rt, again.err(), Some(number));
     }
     Ok(())
 }

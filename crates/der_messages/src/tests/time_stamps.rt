@@ -3,7 +3,7 @@
 
 ghost use Rattle.der_elem.specs.Decoding.{ReadsAll};
 
-use super::numbered;
+use super::{numbered, same};
 use der_elem::{Encode, Form, FromDer};
 use der_fields::{End, Field, FieldSequence};
 use der_numbers::IntRef;
@@ -52,6 +52,6 @@ fn time_stamps_are_written_back(rt: HostRuntime) -> Result<(), Fail> {
         "305502010106042a0304013031300d060960864801650304020105000420e4d1c01e61563d42ff2b16d56d43945bf225088d822121a89530486440c4056a020102180f32303236313132333034323230355a3003020101",
     )?;
     let written = tst_info_again(alloc, octets.as_slice())?;
-    assert_eq!(rt; written.as_slice(), octets.as_slice());
+    same(&rt, written.as_slice(), octets.as_slice());
     Ok(())
 }

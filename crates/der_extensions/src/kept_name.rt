@@ -1,0 +1,205 @@
+//! Names of the kinds that have structures of their own, kept as they are encoded (RFC 5280 section
+//! 4.2.1.6).
+//!
+//! The registered identifier 1.2.3.4, 88 03 2A 03 04, is kept as the primitive tag [8] and the octets
+//! 2A 03 04.
+//!
+//! Reading refuses with the next tag's faults, a tag of none of these names
+//! (`ErrorKind::TagUnexpected`, 4, with none expected), and then as `AnyRef`.
+
+ghost use Rattle.std.specs.Prelude.{◌≡◌, length, true, false, refl};
+ghost use Rattle.std.proofs.Common.{ap, sym, Ok, Some};
+ghost use Rattle.der_tlv.specs.HeaderOctets.{tlv};
+ghost use Rattle.der_tlv.specs.TagParts.{IsTag};
+ghost use Rattle.der_fields.specs.ClassTags.{class_tag};
+ghost use Rattle.der_opaque.specs.AnyForm.{accepts_any};
+ghost use Rattle.der_opaque.specs.AnyLaws.{led_any, same_length_any};
+ghost use Rattle.der_opaque.specs.AnyRef as any_ref;
+ghost use Rattle.der_elem.specs.OwnContents.{accepts_own};
+ghost use Rattle.der_fields.specs.Alternatives.{parse_untold};
+ghost use Rattle.der_extensions.specs.KeptNames.{is_kept, parse_kept, parse_of_kept, begins_kept};
+
+use der_elem::{
+    Choice, Decode, EncodeValue, Form, FormMemory, FormValue, Tagged, ValueMemory, WithoutMemory,
+};
+use der_opaque::AnyRef;
+use der_tlv::{Error, Length, Reader, Tag, TagNumber, Writer};
+use std::alloc::Global;
+
+/// The name of one of these kinds, with the tag and the contents octets that it is encoded with:
+///
+/// ```text
+///     otherName        [0] IMPLICIT SEQUENCE
+///     x400Address      [3] IMPLICIT SEQUENCE
+///     directoryName    [4] EXPLICIT Name
+///     ediPartyName     [5] IMPLICIT SEQUENCE
+///     registeredID     [8] IMPLICIT OBJECT IDENTIFIER
+/// ```
+#[derive(Clone, Copy, Debug, PartialEq, Eq)]
+pub struct KeptName<'a> {
+    any: AnyRef<'a>,
+    ghost kept: { is_kept (any_ref.tag_of any) ≡ true },
+}
+
+impl<'a> KeptName<'a> {
+    ghost use Rattle.der_extensions.specs.KeptName.{tag_of, contents_of};
+
+    /// The tag and the contents octets.
+    pub fn to_any(&self) -> AnyRef<'a>
+        ensures tag { any_ref.tag_of result ≡ tag_of self.now }
+        ensures contents { any_ref.contents_of result ≡ contents_of self.now }
+    {
+        self.any
+    }
+}
+
+/// Whether a name with this tag is kept as it is encoded.
+fn is_kept_tag(tag: Tag) -> bool
+    ensures { result ≡ is_kept tag }
+{
+    tag.equals(structure(0))
+        || tag.equals(structure(3))
+        || tag.equals(structure(4))
+        || tag.equals(structure(5))
+        || tag.equals(Tag::ContextSpecific {
+            constructed: false,
+            number: TagNumber(8),
+        })
+}
+
+/// The constructed context-specific tag with this number.
+fn structure(number: u32) -> Tag
+    ensures { result ≡ class_tag 2 true number }
+{
+    Tag::ContextSpecific {
+        constructed: true,
+        number: TagNumber(number),
+    }
+}
+
+impl<'a> FormValue for KeptName<'a> {
+    ghost use Rattle.der_extensions.specs.KeptName.{contents_of};
+
+    ghost contents = { contents_of };
+
+    ghost accepts_value = { accepts_own contents_of };
+
+    ghost parse_value = { parse_untold };
+
+    ghost parse_of_accepted_value = { λ rules v p c a fits. ap Ok a };
+
+    ghost same_length_value = { λ rules v c a. ap length (sym a) };
+
+    ghost accepts_contents = { λ rules v r. refl };
+
+    ghost only_readable_value = { λ rules v c a. tt };
+
+    ghost accepts_comparable_value = { λ rules v w c d a b. tt };
+
+    ghost re_reads_memory_value = { λ v e. e };
+}
+
+impl<'a> Form for KeptName<'a> {
+    ghost use Rattle.der_extensions.specs.KeptName.{tag_of, contents_of, tag_is_kept};
+
+    ghost encoding = { λ v. tlv (tag_of v) (contents_of v) };
+
+    ghost comparable = { λ v w. Unit {0} };
+
+    ghost re_reads = { λ v. false };
+
+    ghost accepts = { accepts_any tag_of contents_of };
+
+    ghost parse = { parse_kept };
+
+    ghost tags = { is_kept };
+
+    ghost lead = { λ v. Some (tag_of v) };
+
+    ghost readable = { λ v. IsTag (tag_of v) };
+
+    ghost TAKES_MEMORY = { false };
+
+    ghost parse_of_accepted = { parse_of_kept tag_of contents_of tag_is_kept };
+
+    ghost begins = { begins_kept tag_of contents_of tag_is_kept };
+
+    ghost led = { led_any tag_of contents_of };
+
+    ghost same_length = { same_length_any tag_of contents_of };
+
+    ghost accepts_encoding = { λ rules v r. (r, refl) };
+
+    ghost only_readable = { λ rules v b a. a.0 };
+
+    ghost accepts_comparable = { λ rules v w b c d e. tt };
+
+    ghost re_reads_memory = { λ v e. e };
+}
+
+impl<'a> ValueMemory for KeptName<'a> {
+    type OfValue = WithoutMemory;
+
+    ghost memory_of_value = { refl };
+}
+
+impl<'a> FormMemory for KeptName<'a> {
+    type OfForm = WithoutMemory;
+
+    ghost memory_of_form = { refl };
+}
+
+impl<'a> Tagged for KeptName<'a> {
+    ghost use Rattle.der_extensions.specs.KeptName.{tag_of, contents_of, tag_is_kept};
+
+    ghost tag_of = { tag_of };
+
+    fn tag(&self) -> Tag {
+        self.any.tag()
+    }
+
+    ghost encoding_is = { λ v. refl };
+
+    ghost accepted_is_tlv = { λ rules v b a.
+        record { tag = tag_of v; contents = contents_of v; octets_are = a.1 } };
+
+    ghost own_tag = { tag_is_kept };
+
+    ghost lead_is = { λ v. refl };
+
+    ghost re_reads_alike = { λ v h. h };
+
+    ghost comparable_alike = { λ v w h. h };
+}
+
+impl<'a> Choice for KeptName<'a> {
+    /// Whether this is the tag of one of these names.
+    fn can_decode(tag: Tag) -> bool
+        ensures { result ≡ is_kept tag }
+    {
+        is_kept_tag(tag)
+    }
+}
+
+impl<'a, R: Reader<'a>> Decode<'a, R> for KeptName<'a> {
+    fn decode(alloc: Global, reader: &mut R) -> Result<KeptName<'a>, Error> {
+        let tag = Tag::peek(reader)?;
+        if !is_kept_tag(tag) {
+            return Err(reader.error(tag.unexpected_error(None)));
+        }
+        match AnyRef::decode(alloc, reader) {
+            Ok(any) => Ok(KeptName { any }),
+            Err(e) => Err(e),
+        }
+    }
+}
+
+impl<'a> EncodeValue for KeptName<'a> {
+    fn value_len(&self) -> Result<Length, Error> {
+        self.any.value_len()
+    }
+
+    fn encode_value<W: Writer>(&self, writer: &mut W) -> Result<(), Error> {
+        self.any.encode_value(writer)
+    }
+}
