@@ -11,20 +11,24 @@ ghost use Rattle.std.specs.Prelude.{◌≡◌, length, true, false, refl};
 ghost use Rattle.std.proofs.Common.{ap, sym, Ok, Some};
 ghost use Rattle.der_tlv.specs.HeaderOctets.{tlv};
 ghost use Rattle.der_tlv.specs.TagParts.{IsTag};
+ghost use Rattle.der_tlv.specs.TagEquality.{tag_eq-decides};
+ghost use Rattle.std.specs.Cmp.Lexicographic.{bytes_decides};
 ghost use Rattle.der_fields.specs.ClassTags.{class_tag};
 ghost use Rattle.der_opaque.specs.AnyForm.{accepts_any};
-ghost use Rattle.der_opaque.specs.AnyLaws.{led_any, same_length_any};
+ghost use Rattle.der_opaque.specs.AnyLaws.{led_any, same_length_any, encoding_eq_any};
 ghost use Rattle.der_opaque.specs.AnyRef as any_ref;
 ghost use Rattle.der_elem.specs.OwnContents.{accepts_own};
 ghost use Rattle.der_fields.specs.Alternatives.{parse_untold};
 ghost use Rattle.der_extensions.specs.KeptNames.{is_kept, parse_kept, parse_of_kept, begins_kept};
 
 use der_elem::{
-    Choice, Decode, EncodeValue, Form, FormMemory, FormValue, Tagged, ValueMemory, WithoutMemory,
+    Choice, Decode, Duplicate, EncodeValue, EncodingEq, Form, FormMemory, FormValue, Tagged,
+    ValueMemory, ValueOrd, WithoutMemory,
 };
 use der_opaque::AnyRef;
 use der_tlv::{Error, Length, Reader, Tag, TagNumber, Writer};
 use std::alloc::Global;
+use std::cmp::Ordering;
 
 /// The name of one of these kinds, with the tag and the contents octets that it is encoded with:
 ///
@@ -202,4 +206,34 @@ impl<'a> EncodeValue for KeptName<'a> {
     fn encode_value<W: Writer>(&self, writer: &mut W) -> Result<(), Error> {
         self.any.encode_value(writer)
     }
+}
+
+impl<'a> ValueOrd for KeptName<'a> {
+    fn value_cmp(&self, other: &KeptName<'a>) -> Result<Ordering, Error> {
+        self.any.value_cmp(&other.any)
+    }
+}
+
+impl<'a> EncodingEq for KeptName<'a> {
+    ghost encoding_eq = { λ v w one. encoding_eq_any _ _ v.any.tag w.any.tag v.any.value.now
+        w.any.value.now (tag_eq-decides v.any.tag w.any.tag)
+        (bytes_decides v.any.value.now w.any.value.now) };
+}
+
+impl<'a> Duplicate for KeptName<'a> {
+    ghost use Rattle.der_extensions.specs.KeptName.{tag_of, contents_of};
+
+    ghost is_copy = { λ v w. (tag_of w ≡ tag_of v) × (contents_of w ≡ contents_of v) };
+
+    ghost takes_memory_to_copy = { false };
+
+    fn duplicate(&self) -> Result<KeptName<'a>, Error> {
+        Ok(*self)
+    }
+
+    ghost copy_encoding = { λ v w e. Prim.cc };
+
+    ghost copy_form = { λ v w x e f. tt };
+
+    ghost copy_re_reads = { λ v w e. refl };
 }

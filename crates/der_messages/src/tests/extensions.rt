@@ -1,13 +1,16 @@
 //! Values of extensions that OpenSSL wrote, read and written back, and octets that are refused.
 
 use super::{numbered, same};
+use der_elem::{DerOrd, Duplicate, EncodingEq, FromDer};
 use der_extensions::{
-    read_authority_key_identifier, read_basic_constraints, read_ext_key_usage, read_general_name,
-    read_key_usage, read_subject_alt_name, read_subject_key_identifier,
+    KeptName, read_authority_key_identifier, read_basic_constraints, read_ext_key_usage,
+    read_general_name, read_key_usage, read_subject_alt_name, read_subject_key_identifier,
     write_authority_key_identifier, write_basic_constraints, write_ext_key_usage,
     write_general_name, write_key_usage, write_subject_alt_name, write_subject_key_identifier,
 };
+use der_tlv::Error;
 use std::alloc::Global;
+use std::cmp::Ordering;
 use std::process::Abort;
 use std::test::Fail;
 
@@ -125,6 +128,40 @@ fn names_of_no_kind_are_refused(rt: HostRuntime) -> Result<(), Fail> {
     let again = alternative_names_again(alloc, octets.as_slice());
     same(&rt, again.err(), Some(4));
     Ok(())
+}
+
+/// The order of two values, whether they are equal, and whether a copy equals its source.
+fn told<T: DerOrd + EncodingEq + Duplicate>(a: &T, b: &T) -> Result<(Ordering, bool, bool), Error> {
+    let copy = a.duplicate()?;
+    Ok((a.der_cmp(b)?, a == b, copy == *a))
+}
+
+/// What is told of two names that are kept.
+fn told_of_kept(alloc: Global, a: &[u8], b: &[u8]) -> Result<(Ordering, bool, bool), u8> {
+    match KeptName::from_der(alloc, a) {
+        Ok(a) => match KeptName::from_der(alloc, b) {
+            Ok(b) => match told(&a, &b) {
+                Ok(answers) => Ok(answers),
+                Err(e) => Err(e.kind().number()),
+            },
+            Err(e) => Err(e.kind().number()),
+        },
+        Err(e) => Err(e.kind().number()),
+    }
+}
+
+#[test]
+fn kept_names_are_compared_and_copied(rt: HostRuntime) {
+    let (low, high) = ([0x88, 0x01, 0x2a], [0x88, 0x01, 0x2b]);
+    let alloc = rt.alloc();
+    let less = Ok((Ordering::Less, false, true));
+    same(&rt, told_of_kept(alloc, &low, &high), less);
+    let equal = Ok((Ordering::Equal, true, true));
+    same(&rt, told_of_kept(alloc, &high, &high), equal);
+    match KeptName::from_der(alloc, &low) {
+        Ok(name) => same(&rt, name.to_any().value(), [0x2a].as_slice()),
+        Err(_) => panic!(rt; "refused"),
+    }
 }
 
 #[test]
