@@ -46,7 +46,22 @@ pub struct KeptName<'a> {
 }
 
 impl<'a> KeptName<'a> {
-    ghost use Rattle.der_extensions.specs.KeptName.{tag_of, contents_of};
+    ghost use Rattle.der_extensions.specs.KeptName.{tag_of, contents_of, KeepsName};
+
+    /// The name with this tag and these contents octets, as of a directory the tag [4] and the
+    /// encoding of a `Name`.
+    ///
+    /// # Errors
+    /// `ErrorKind::TagUnexpected` (4) with no expected tag for a tag of none of these names.
+    pub fn new(any: AnyRef<'a>) -> Result<KeptName<'a>, Error>
+        ensures { KeepsName any.entry result }
+    {
+        let tag = any.tag();
+        if !is_kept_tag(tag) {
+            return Err(Error::from_kind(tag.unexpected_error(None)));
+        }
+        Ok(KeptName { any })
+    }
 
     /// The tag and the contents octets.
     pub fn to_any(&self) -> AnyRef<'a>

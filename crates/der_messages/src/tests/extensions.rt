@@ -1,14 +1,15 @@
 //! Values of extensions that OpenSSL wrote, read and written back, and octets that are refused.
 
 use super::{numbered, same};
-use der_elem::{DerOrd, Duplicate, EncodingEq, FromDer};
+use der_elem::{DerOrd, Duplicate, Encode, EncodingEq, FromDer};
 use der_extensions::{
     KeptName, read_authority_key_identifier, read_basic_constraints, read_ext_key_usage,
     read_general_name, read_key_usage, read_subject_alt_name, read_subject_key_identifier,
     write_authority_key_identifier, write_basic_constraints, write_ext_key_usage,
     write_general_name, write_key_usage, write_subject_alt_name, write_subject_key_identifier,
 };
-use der_tlv::Error;
+use der_opaque::AnyRef;
+use der_tlv::{Error, Tag, TagNumber};
 use std::alloc::Global;
 use std::cmp::Ordering;
 use std::process::Abort;
@@ -162,6 +163,31 @@ fn kept_names_are_compared_and_copied(rt: HostRuntime) {
         Ok(name) => same(&rt, name.to_any().value(), [0x2a].as_slice()),
         Err(_) => panic!(rt; "refused"),
     }
+}
+
+/// The encoding of the name of a directory that is kept, with this context-specific tag.
+fn directory_again(alloc: Global, number: u32) -> Result<Vec<u8>, u8> {
+    let tag = Tag::ContextSpecific {
+        constructed: true,
+        number: TagNumber(number),
+    };
+    let any = match AnyRef::new(tag, &[0x30, 0x00]) {
+        Ok(any) => any,
+        Err(e) => return Err(e.kind().number()),
+    };
+    match KeptName::new(any) {
+        Ok(name) => numbered(name.to_der(alloc)),
+        Err(e) => Err(e.kind().number()),
+    }
+}
+
+#[test]
+fn names_to_keep_are_made(rt: HostRuntime) -> Result<(), Fail> {
+    let alloc = rt.alloc();
+    let written = directory_again(alloc, 4)?;
+    same(&rt, written.as_slice(), [0xa4, 0x02, 0x30, 0x00].as_slice());
+    same(&rt, directory_again(alloc, 1).err(), Some(4));
+    Ok(())
 }
 
 #[test]
