@@ -4,8 +4,9 @@
 #![tactic(auto)]
 
 use der_lines::{LineReader, OctetWriter};
+use der_message_lines::MessageNames;
 use der_message_text::{Fault, run};
-use lines::{answer_lines, asks_for_lines};
+use lines::{asks_for_lines, fault_of_run};
 use std::env::{self, Env};
 use std::io::{self, BufReader};
 use std::process::ExitCode;
@@ -28,18 +29,21 @@ fn wants_lines(rt: &(impl AllocGlobal + Env)) -> Result<bool, Fault> {
     }
 }
 
-fn answer_all(rt: &(impl Input + Print + AllocGlobal)) -> Result<(), Fault> {
+fn answer_lines(rt: &(impl Input + Print + AllocGlobal)) -> Result<(), Fault> {
     let Ok(reader) = BufReader::new(rt.alloc(), rt.reader()) else {
         return Err(Fault::Memory);
     };
     let mut input = LineReader::new(reader, u64::MAX);
     let mut output = OctetWriter::new(io::writer(rt));
-    answer_lines(rt.alloc(), &mut input, &mut output)
+    match der_lines::run::<MessageNames, _, _>(rt.alloc(), &mut input, &mut output) {
+        Ok(()) => Ok(()),
+        Err(fault) => Err(fault_of_run(fault)),
+    }
 }
 
 fn view(rt: &(impl Input + Print + AllocGlobal + Env)) -> Result<(), Fault> {
     if wants_lines(rt)? {
-        return answer_all(rt);
+        return answer_lines(rt);
     }
     run(rt.alloc(), &mut rt.reader(), &mut io::writer(rt))
 }

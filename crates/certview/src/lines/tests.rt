@@ -1,8 +1,9 @@
 //! Lines of messages: each message comes to itself, each beginning of one is refused, and a name of
 //! none is a bad line.
 
-use super::answer_lines;
-use der_lines::{LineReader, OctetWriter};
+use super::fault_of_run;
+use der_lines::{LineReader, OctetWriter, run};
+use der_message_lines::MessageNames;
 use der_message_text::Fault;
 use std::alloc::{AllocError, Global};
 use std::process::Abort;
@@ -75,7 +76,8 @@ const MESSAGES: [(&str, &str); 17] = [
 fn answers(alloc: Global, text: &[u8]) -> (Result<(), Fault>, Vec<u8>) {
     let mut written = Vec::new(alloc);
     let mut input = LineReader::new(text, u64::MAX);
-    let result = answer_lines(alloc, &mut input, &mut OctetWriter::new(&mut written));
+    let mut output = OctetWriter::new(&mut written);
+    let result = run::<MessageNames, _, _>(alloc, &mut input, &mut output).map_err(fault_of_run);
     (result, written)
 }
 
