@@ -140,9 +140,9 @@ unfoldable pub set_types : Table
 set_types name =
     if bytes_eq name (codes "setvec-anyref") then Some (canonical_tagged Set (parse_set parse_any))
     else if bytes_eq name (codes "setvec-u16") then Some (canonical_tagged Set (parse_set parse_u16))
+    else if bytes_eq name (codes "setvec-algid") then Some (canonical_tagged Set (parse_set (parse_tagged Sequence parse_algorithm_identifier)))
     else if bytes_eq name (codes "setof2-u16") then Some (canonical_tagged Set (parse_set_up_to 2 parse_u16))
     else if bytes_eq name (codes "ctx-setof2-u16") then Some (parse_all (parse_explicit 2 (parse_tagged Set (parse_set_up_to 2 parse_u16))))
-    else if bytes_eq name (codes "setvec-algid") then Some (canonical_tagged Set (parse_set (parse_tagged Sequence parse_algorithm_identifier)))
     else None
 
 -- sets that borrow their contents octets

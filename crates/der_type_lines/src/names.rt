@@ -1,5 +1,10 @@
 //! The types by their names.
 ghost use Rattle.std.specs.Prelude.{◌≡◌};
+ghost use Rattle.der_asn1_types.specs.BorrowedSets.{parse_borrowed};
+ghost use Rattle.der_asn1_types.specs.Decoding.{parse_all};
+ghost use Rattle.der_asn1_types.specs.Parsing.{parse_tagged};
+ghost use Rattle.der_asn1_types.specs.Tag.TheVariants.{Set};
+ghost use Rattle.der_lines.specs.Puts.{Puts};
 ghost use Rattle.der_lines.specs.Tables.{AnswersAs};
 ghost use Rattle.der_type_lines.specs.Names.{canonical_function_of, plain_types, signed_types, unsigned_types, opaque_types, composed_types, tagged_types, number_types, string_types, bit_types, nested_types, set_types, borrowed_set_types, time_types};
 
@@ -10,8 +15,8 @@ use der_asn1_types::asn1::{
     SequenceOf, SequenceRef, SetOf, SetOfRef, SetOfVec, TeletexString, TeletexStringRef, Uint,
     UintRef, UtcTime, Utf8StringRef, VideotexStringRef,
 };
-use der_asn1_types::{DateTime, Error};
-use der_lines::{KeptWriter, Names, choose, is_name, put_canonical_set};
+use der_asn1_types::{DateTime, Decode, DerOrd, Encode, Error, SliceReader, Tagged};
+use der_lines::{KeptWriter, Names, choose, is_name, put_canonical, put_canonical_set};
 use der_pkix::AlgorithmIdentifier;
 use std::alloc::Global;
 
@@ -267,12 +272,16 @@ fn put_set(
     if is_name(name, "setvec-anyref") {
         return Some(put_canonical_set::<AnyRef>(alloc, octets, encoding));
     }
+    if is_name(name, "setvec-u16") {
+        return Some(put_canonical_set::<u16>(alloc, octets, encoding));
+    }
+    if is_name(name, "setvec-algid") {
+        return Some(put_canonical_set::<AlgorithmIdentifier>(alloc, octets, encoding));
+    }
     choose! {
         alloc, name, octets, encoding;
-        "setvec-u16" => SetOfVec<u16>,
         "setof2-u16" => SetOf<u16, 2>,
         "ctx-setof2-u16" => ContextSpecific<SetOf<u16, 2>>,
-        "setvec-algid" => SetOfVec<AlgorithmIdentifier>,
     }
 }
 
@@ -285,12 +294,29 @@ fn put_borrowed_set(
 ) -> Option<Result<(), Error>>
     ensures { AnswersAs (borrowed_set_types name.now) octets.now encoding.new.octets.items result }
 {
-    choose! {
-        alloc, name, octets, encoding;
-        "setref-u16" => SetOfRef<u16>,
-        "setref-octetsref" => SetOfRef<OctetStringRef>,
-        "setref-setvec-u16" => SetOfRef<SetOfVec<u16>>,
+    if is_name(name, "setref-u16") {
+        return Some(put_canonical_borrowed::<u16>(alloc, octets, encoding));
     }
+    if is_name(name, "setref-octetsref") {
+        return Some(put_canonical_borrowed::<OctetStringRef>(alloc, octets, encoding));
+    }
+    if is_name(name, "setref-setvec-u16") {
+        return Some(put_canonical_borrowed::<SetOfVec<u16>>(alloc, octets, encoding));
+    }
+    None
+}
+
+/// Puts the canonical encoding of a set that borrows its contents octets. It is proved once for every
+/// type of items, so that a call is checked sooner.
+fn put_canonical_borrowed<'a, T: Decode<'a, SliceReader<'a>> + Encode + DerOrd + Tagged + 'a>(
+    alloc: Global,
+    octets: &'a [u8],
+    encoding: &mut KeptWriter,
+) -> Result<(), Error>
+    ensures { Puts (parse_all (parse_tagged Set (parse_borrowed T.parse)) octets.now)
+        encoding.new.octets.items result }
+{
+    put_canonical::<SetOfRef<T>>(alloc, octets, encoding)
 }
 
 #[tactic(auto, unfolding(crate::specs::Names::time_types))]
