@@ -18,6 +18,11 @@ abbrev pub Leads : Option Tag → List ℕ → Type 0
 Leads None octets = octets ≡ []
 Leads (Some t) octets = LeadsTag t octets
 
+-- what leads is a tag
+pub record IsLed (lead : Option Tag) : Type 0 where
+  pub tag : Tag
+  pub is_tag : lead ≡ Some tag
+
 -- octets that start with this tag's identifier octets
 pub record StartsWith (t : Tag) (octets : List ℕ) : Type 0 where
   pub others : List ℕ

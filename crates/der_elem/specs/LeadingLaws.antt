@@ -1,11 +1,14 @@
 -- Where the encoding of a field starts; no encoding begins another, where both are there.
-use Rattle.std.proofs.Common.{◌≡◌, ℕ, List, ◌++◌, length, Bool, true, Option, Some, None, refl, sym, ◌∙◌, subst, append_assoc}
+use Rattle.std.proofs.Common.{◌≡◌, ℕ, ◌<◌, List, ◌++◌, length, Bool, true, Option, Some, None, refl, sym, ap, ◌∙◌, subst, arith, append_assoc, length-append}
+use Rattle.der_tlv.specs.declared.encoding_rules.EncodingRules.{EncodingRules}
 use Rattle.der_tlv.specs.declared.tag.Tag.{Tag}
 use Rattle.der_tlv.specs.Identifier.{identifier}
+use Rattle.der_tlv.specs.IdentifierLaws.{length-identifier-positive}
 use Rattle.der_tlv.specs.LengthOctets.{length_octets}
 use Rattle.der_tlv.specs.HeaderOctets.{tlv}
 use Rattle.der_tlv.specs.OctetLaws.{SameBeginning}
-use Rattle.der_elem.specs.Leading.{SameLeads, Starts, StartsWith}
+use Rattle.der_elem.specs.declared.form.Form as form
+use Rattle.der_elem.specs.Leading.{IsLed, Leads, LeadsTag, SameLeads, Starts, StartsWith}
 use Rattle.der_elem.specs.FieldDecoding.{ToldApart}
 use Rattle.der_elem.specs.Options.{encoding_option, lead_option}
 use Rattle.der_elem.specs.OrderLaws.{encoding-beginning}
@@ -42,5 +45,14 @@ module _ {T : Type 0} (tag_of : T → Tag) (contents encoding : T → List ℕ) 
   beginning_option lead lead_is (Some v) None h = absurd (subst (λ l. SameLeads l None) (lead_is v) h)
 
 -- a field that is there is told from what follows it
+-- octets that begin with a tag are some
+leads-some : (t : Tag) (b : List ℕ) → LeadsTag t b → 0 < length b
+leads-some t b l = omega (arith, ap length l.octets_are, length-append (identifier t) l.others, length-identifier-positive t)
+
+pub led-some : {T : Type 0} (F : form.Ghosts T) → ((v : T) → IsLed (F.lead v)) → (rules : EncodingRules) (v : T) (b : List ℕ) → F.accepts rules v b → 0 < length b
+led-some F is_led rules v b a =
+    let led = is_led v in
+    leads-some led.tag b (subst (λ lead. Leads lead b) led.is_tag (F.led rules v b a))
+
 pub told_there : (tags : Tag → Bool) (lead : Option Tag) (t : Tag) (p : ℕ) (octets : List ℕ) → lead ≡ Some t → ToldApart tags lead p octets
 told_there tags lead t p octets e = subst (λ l. ToldApart tags l p octets) (sym e) tt

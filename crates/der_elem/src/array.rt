@@ -27,7 +27,7 @@ use crate::memory::{FormMemory, ValueMemory};
 use crate::ord::{DerOrd, ValueOrd};
 use crate::readiness::check_ready;
 use crate::sequence::Sequence;
-use crate::tag::Tagged;
+use crate::tag::{Choice, Tagged};
 use crate::universal_tags::SequenceTag;
 use der_tlv::{Error, ErrorKind, Header, Length, Reader, Tag, Writer};
 use std::alloc::Global;
@@ -96,7 +96,7 @@ impl<T: EncodingEq + Tagged, const N: usize> ContentsEq for [T; N] {
         T.encoding_eq };
 }
 
-impl<'a, R: Reader<'a>, T: Decode<'a, R> + Tagged + Copy, const N: usize> DecodeValue<'a, R>
+impl<'a, R: Reader<'a>, T: Decode<'a, R> + Choice + Copy, const N: usize> DecodeValue<'a, R>
     for [T; N] {
     fn decode_value(alloc: Global, reader: &mut R, _header: Header) -> Result<[T; N], Error> {
         check_ready(reader)?;

@@ -2,18 +2,19 @@
 
 use crate::decode::{Decode, DecodeValue, FromDer};
 use crate::encode::{Encode, EncodeValue};
-use crate::fixed_tag::FixedTag;
+use crate::fixed_tag::{OneTag, TagMarker};
 use crate::ord::{DerOrd, ValueOrd};
 use crate::tag::Tagged;
 use der_tlv::{Error, Header, Length, Reader, SliceReader, VecWriter, Writer};
 use std::alloc::Global;
 use std::cmp::Ordering;
 
-impl<'a, R: Reader<'a>, T: DecodeValue<'a, R> + FixedTag> Decode<'a, R> for T {
+impl<'a, R: Reader<'a>, T: DecodeValue<'a, R> + OneTag> Decode<'a, R> for T {
     fn decode(alloc: Global, reader: &mut R) -> Result<T, Error> {
         let header = Header::decode(reader)?;
-        if !header.tag.equals(T::TAG) {
-            return Err(reader.error(header.tag.unexpected_error(Some(T::TAG))));
+        let tag = <T::Marker as TagMarker>::TAG;
+        if !header.tag.equals(tag) {
+            return Err(reader.error(header.tag.unexpected_error(Some(tag))));
         }
         let end = reader.nest(header.length)?;
         let value = T::decode_value(alloc, reader, header)?;

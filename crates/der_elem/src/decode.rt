@@ -11,7 +11,7 @@ use der_tlv::{Error, Header, Reader, SliceReader};
 use std::alloc::Global;
 
 /// Reading a value from its contents octets.
-pub trait DecodeValue<'a, R: Reader<'a>>: FormValue + ValueMemory {
+pub trait DecodeValue<'a, R: Reader<'a>>: ValueMemory {
     /// Reads the value from all of the octets that the reader shows, of which the header says how
     /// many there are.
     ///
@@ -27,7 +27,7 @@ pub trait DecodeValue<'a, R: Reader<'a>>: FormValue + ValueMemory {
 }
 
 /// Reading a value from its encoding.
-pub trait Decode<'a, R: Reader<'a>>: Form + FormMemory {
+pub trait Decode<'a, R: Reader<'a>>: FormMemory {
     /// Reads the value whose encoding stands at the reader's position.
     ///
     /// # Errors

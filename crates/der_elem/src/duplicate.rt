@@ -5,7 +5,7 @@ ghost use Rattle.std.proofs.Common.{ap, subst, sym};
 ghost use Rattle.der_tlv.specs.HeaderOctets.{tlv};
 ghost use Rattle.der_tlv.specs.declared.error.ErrorKind.TheVariants.{Memory};
 
-use crate::fixed_tag::FixedTag;
+use crate::fixed_tag::OneTag;
 use crate::form::{Form, FormValue};
 use der_tlv::Error;
 
@@ -59,7 +59,7 @@ pub trait DuplicateValue: FormValue {
         → Self.re_reads_value w ≡ Self.re_reads_value v };
 }
 
-impl<T: DuplicateValue + FixedTag> Duplicate for T {
+impl<T: DuplicateValue + OneTag> Duplicate for T {
     ghost is_copy = { T.is_copy_value };
 
     ghost takes_memory_to_copy = { T.takes_memory_to_copy_value };
@@ -68,7 +68,7 @@ impl<T: DuplicateValue + FixedTag> Duplicate for T {
         self.duplicate_value()
     }
 
-    ghost copy_encoding = { λ v w c. ap (tlv T.TAG) (T.copy_contents v w c) };
+    ghost copy_encoding = { λ v w c. ap (tlv T.Marker.TAG) (T.copy_contents v w c) };
 
     ghost copy_form = { T.copy_form_value };
 

@@ -3,7 +3,7 @@
 ghost use Rattle.std.specs.Prelude.{◌≡◌, ◌↔◌, IsTrue};
 ghost use Rattle.der_elem.specs.TaggedLaws.{encoding_eq_tagged};
 
-use crate::fixed_tag::FixedTag;
+use crate::fixed_tag::OneTag;
 use crate::form::{Form, FormValue};
 
 /// A type whose comparable values are equal exactly if their encodings are.
@@ -18,7 +18,7 @@ pub trait ContentsEq: FormValue + PartialEq {
         → (IsTrue (Self.eq v w) ↔ (Self.contents v ≡ Self.contents w)) };
 }
 
-impl<T: ContentsEq + FixedTag> EncodingEq for T {
-    ghost encoding_eq = { encoding_eq_tagged T.TAG T.contents T.comparable_value T.eq
+impl<T: ContentsEq + OneTag> EncodingEq for T {
+    ghost encoding_eq = { encoding_eq_tagged T.Marker.TAG T.contents T.comparable_value T.eq
         T.contents_eq };
 }

@@ -22,7 +22,7 @@ use std::alloc::Global;
 
 /// Reading a field, which is told from what follows it: an absent one stands only at the end, or
 /// before a tag that is none of its.
-pub trait DecodeField<'a, R: Reader<'a>>: Form + FormMemory {
+pub trait DecodeField<'a, R: Reader<'a>>: FormMemory {
     /// Reads the field at the reader's position.
     ///
     /// # Errors
@@ -32,13 +32,13 @@ pub trait DecodeField<'a, R: Reader<'a>>: Form + FormMemory {
         ensures { DecodesField Self.Form (R.state reader.old) (R.state reader.new) result };
 }
 
-impl<'a, R: Reader<'a>, T: Decode<'a, R> + Tagged> DecodeField<'a, R> for T {
+impl<'a, R: Reader<'a>, T: Decode<'a, R> + Choice> DecodeField<'a, R> for T {
     fn decode_field(alloc: Global, reader: &mut R) -> Result<T, Error> {
         T::decode(alloc, reader)
     }
 }
 
-impl<'a, R: Reader<'a>, T: Decode<'a, R> + Tagged + Choice> DecodeField<'a, R> for Option<T> {
+impl<'a, R: Reader<'a>, T: Decode<'a, R> + Choice> DecodeField<'a, R> for Option<T> {
     fn decode_field(alloc: Global, reader: &mut R) -> Result<Option<T>, Error> {
         if reader.is_finished() {
             check_ready(reader)?;

@@ -1,7 +1,7 @@
 //! Types whose encodings have one tag.
 //!
-//! Such a type names its tag by a type that stands for the tag, and gets [`FixedTag`] from that. So
-//! `FixedTag` of a type is always met by one implementation, which structs with a bound on it need.
+//! Such a type names its tag by a type that stands for the tag ([`OneTag`]), and gets its form,
+//! reading and writing from that and from its contents octets. [`FixedTag`] has the tag as a constant.
 
 ghost use Rattle.der_tlv.specs.declared.tag.Tag.{Tag};
 ghost use Rattle.der_tlv.specs.TagParts.{IsTag};

@@ -13,7 +13,7 @@ ghost use Rattle.der_elem.specs.Accepting.{Fits, BeginsWith, MayFollow, accepts_
 ghost use Rattle.der_elem.specs.Leading.{Leads, led_tagged};
 ghost use Rattle.der_elem.specs.TaggedLaws.{parse_of_tagged, begins_tagged, same_length_tagged, accepts_tagged_encoding, readable_tagged, comparable_tagged};
 
-use crate::fixed_tag::FixedTag;
+use crate::fixed_tag::OneTag;
 
 /// The contents octets that stand for a value, and which contents octets are read as it.
 pub trait FormValue: Sized + Drop {
@@ -115,41 +115,41 @@ pub trait Form: Sized + Drop {
     ghost re_reads_memory: { (v : Self) → re_reads v ≡ true → TAKES_MEMORY ≡ true };
 }
 
-impl<T: FormValue + FixedTag> Form for T {
-    ghost encoding = { λ v. tlv T.TAG (T.contents v) };
+impl<T: FormValue + OneTag> Form for T {
+    ghost encoding = { λ v. tlv T.Marker.TAG (T.contents v) };
 
     ghost comparable = { T.comparable_value };
 
     ghost re_reads = { T.re_reads_value };
 
-    ghost accepts = { accepts_tagged T.TAG T.accepts_value };
+    ghost accepts = { accepts_tagged T.Marker.TAG T.accepts_value };
 
-    ghost parse = { parse_tagged T.TAG T.parse_value };
+    ghost parse = { parse_tagged T.Marker.TAG T.parse_value };
 
-    ghost tags = { λ t. same_identifier t T.TAG };
+    ghost tags = { λ t. same_identifier t T.Marker.TAG };
 
-    ghost lead = { λ v. Some T.TAG };
+    ghost lead = { λ v. Some T.Marker.TAG };
 
     ghost readable = { T.readable_value };
 
     ghost TAKES_MEMORY = { T.VALUE_TAKES_MEMORY };
 
-    ghost parse_of_accepted = { parse_of_tagged T.TAG T.tag_in_range T.accepts_value T.contents
+    ghost parse_of_accepted = { parse_of_tagged T.Marker.TAG T.Marker.tag_in_range T.accepts_value T.contents
         T.parse_value T.parse_of_accepted_value };
 
-    ghost begins = { begins_tagged T.TAG T.tag_in_range T.accepts_value };
+    ghost begins = { begins_tagged T.Marker.TAG T.Marker.tag_in_range T.accepts_value };
 
-    ghost led = { led_tagged T.TAG T.tag_in_range T.accepts_value };
+    ghost led = { led_tagged T.Marker.TAG T.Marker.tag_in_range T.accepts_value };
 
-    ghost same_length = { same_length_tagged T.TAG T.accepts_value T.contents T.same_length_value };
+    ghost same_length = { same_length_tagged T.Marker.TAG T.accepts_value T.contents T.same_length_value };
 
-    ghost accepts_encoding = { accepts_tagged_encoding T.TAG T.accepts_value T.contents
+    ghost accepts_encoding = { accepts_tagged_encoding T.Marker.TAG T.accepts_value T.contents
         T.readable_value T.accepts_contents };
 
-    ghost only_readable = { readable_tagged T.TAG T.accepts_value T.readable_value
+    ghost only_readable = { readable_tagged T.Marker.TAG T.accepts_value T.readable_value
         T.only_readable_value };
 
-    ghost accepts_comparable = { comparable_tagged T.TAG T.accepts_value T.comparable_value
+    ghost accepts_comparable = { comparable_tagged T.Marker.TAG T.accepts_value T.comparable_value
         T.accepts_comparable_value };
 
     ghost re_reads_memory = { T.re_reads_memory_value };

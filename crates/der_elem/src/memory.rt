@@ -5,7 +5,7 @@
 
 ghost use Rattle.std.specs.Prelude.{◌≡◌, Bool, true, false};
 
-use crate::fixed_tag::FixedTag;
+use crate::fixed_tag::OneTag;
 use crate::form::{Form, FormValue};
 
 /// An answer to whether reading takes memory, as a type.
@@ -50,7 +50,7 @@ pub trait FormMemory: Form {
     ghost memory_of_form: { Self.OfForm.IS_TAKEN ≡ Self.TAKES_MEMORY };
 }
 
-impl<T: ValueMemory + FixedTag> FormMemory for T {
+impl<T: ValueMemory + OneTag> FormMemory for T {
     type OfForm = <T as ValueMemory>::OfValue;
 
     ghost memory_of_form = { T.memory_of_value };

@@ -7,9 +7,10 @@ ghost use Rattle.der_tlv.specs.TagParts.{IsTag, is_constructed};
 ghost use Rattle.der_tlv.specs.HeaderLaws.{same_identifier-same};
 ghost use Rattle.der_tlv.specs.HeaderOctets.{tlv};
 ghost use Rattle.der_elem.specs.Accepting.{IsTlv};
+ghost use Rattle.der_elem.specs.Leading.{IsLed};
 ghost use Rattle.der_elem.specs.TaggedLaws.{tlv_tagged};
 
-use crate::fixed_tag::FixedTag;
+use crate::fixed_tag::{OneTag, TagMarker};
 use crate::form::{Form, FormValue};
 use der_tlv::Tag;
 
@@ -36,18 +37,18 @@ pub trait Tagged: FormValue + Form {
     ghost comparable_alike: { (v w : Self) → Self.comparable v w → Self.comparable_value v w };
 }
 
-impl<T: FormValue + FixedTag> Tagged for T {
-    ghost tag_of = { λ _. T.TAG };
+impl<T: FormValue + OneTag> Tagged for T {
+    ghost tag_of = { λ _. T.Marker.TAG };
 
     fn tag(&self) -> Tag {
-        T::TAG
+        <T::Marker as TagMarker>::TAG
     }
 
     ghost encoding_is = { λ v. refl };
 
-    ghost accepted_is_tlv = { tlv_tagged T.TAG T.accepts_value };
+    ghost accepted_is_tlv = { tlv_tagged T.Marker.TAG T.accepts_value };
 
-    ghost own_tag = { λ v. same_identifier-same T.TAG };
+    ghost own_tag = { λ v. same_identifier-same T.Marker.TAG };
 
     ghost lead_is = { λ v. refl };
 
@@ -56,17 +57,21 @@ impl<T: FormValue + FixedTag> Tagged for T {
     ghost comparable_alike = { λ v w h. h };
 }
 
-/// A type whose values are told from others by their tags.
+/// A type whose values are told from others by their tags: each encoding begins with one.
 pub trait Choice: Form {
     /// Whether an encoding of a value of the type may begin with this tag.
     fn can_decode(tag: Tag) -> bool
         ensures { result ≡ Self.tags tag };
+
+    ghost is_led: { (v : Self) → IsLed (Self.lead v) };
 }
 
-impl<T: FormValue + FixedTag> Choice for T {
+impl<T: FormValue + OneTag> Choice for T {
     fn can_decode(tag: Tag) -> bool {
-        tag.equals(T::TAG)
+        tag.equals(<T::Marker as TagMarker>::TAG)
     }
+
+    ghost is_led = { λ v. record { tag = T.Marker.TAG; is_tag = refl } };
 }
 
 /// A type whose encodings are all constructed, or all primitive.
@@ -77,10 +82,10 @@ pub trait IsConstructed {
     const CONSTRUCTED: bool;
 }
 
-impl<T: FixedTag> IsConstructed for T {
-    ghost CONSTRUCTED = { is_constructed T.TAG };
+impl<T: OneTag> IsConstructed for T {
+    ghost CONSTRUCTED = { is_constructed T.Marker.TAG };
 
-    const CONSTRUCTED: bool = match T::TAG {
+    const CONSTRUCTED: bool = match <T::Marker as TagMarker>::TAG {
         Tag::Sequence | Tag::Set => true,
         Tag::Application { constructed, .. } => constructed,
         Tag::ContextSpecific { constructed, .. } => constructed,

@@ -25,7 +25,7 @@ use crate::memory::{ValueMemory, WithMemory};
 use crate::ord::{DerOrd, ValueOrd};
 use crate::readiness::check_ready;
 use crate::sequence::Sequence;
-use crate::tag::Tagged;
+use crate::tag::{Choice, Tagged};
 use crate::universal_tags::SequenceTag;
 use der_tlv::{Error, ErrorKind, Header, Length, Reader, Writer};
 use std::alloc::Global;
@@ -73,7 +73,7 @@ impl<T: Form> ValueMemory for Vec<T> {
     ghost memory_of_value = { refl };
 }
 
-impl<'a, R: Reader<'a>, T: Decode<'a, R> + Tagged> DecodeValue<'a, R> for Vec<T> {
+impl<'a, R: Reader<'a>, T: Decode<'a, R> + Choice> DecodeValue<'a, R> for Vec<T> {
     fn decode_value(alloc: Global, reader: &mut R, _header: Header) -> Result<Vec<T>, Error> {
         check_ready(reader)?;
         let mut items = Vec::new(alloc);

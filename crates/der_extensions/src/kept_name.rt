@@ -192,12 +192,16 @@ impl<'a> Tagged for KeptName<'a> {
 }
 
 impl<'a> Choice for KeptName<'a> {
+    ghost use Rattle.der_extensions.specs.KeptName.{tag_of};
+
     /// Whether this is the tag of one of these names.
     fn can_decode(tag: Tag) -> bool
         ensures { result ≡ is_kept tag }
     {
         is_kept_tag(tag)
     }
+
+    ghost is_led = { λ v. record { tag = tag_of v; is_tag = refl } };
 }
 
 impl<'a, R: Reader<'a>> Decode<'a, R> for KeptName<'a> {

@@ -9,7 +9,7 @@ use Rattle.der_tlv.specs.Identifier.{identifier}
 use Rattle.der_tlv.specs.TagReadingLaws.{read_tag-identifier}
 use Rattle.der_elem.specs.declared.form.Form as form
 use Rattle.der_elem.specs.Accepting.{Fits, BeginsWith, IsTlv, MayFollow}
-use Rattle.der_elem.specs.Leading.{Leads, Starts}
+use Rattle.der_elem.specs.Leading.{IsLed, Leads, Starts}
 use Rattle.der_fields.specs.declared.one_of.OneOf.{OneOf}
 use Rattle.der_fields.specs.declared.one_of.OneOf.TheVariants.{First, Other}
 use Rattle.der_fields.specs.FieldLaws.{follows_some, led_some, left_part, right_part}
@@ -125,6 +125,10 @@ lead_is_one tag_of tag_of' lead lead' f g (Other w) = g w
 pub own_tag_one : {A B : Type 0} (tags tags' : Tag → Bool) (tag_of : A → Tag) (tag_of' : B → Tag) → ((v : A) → tags (tag_of v) ≡ true) → ((w : B) → tags' (tag_of' w) ≡ true) → (v : OneOf A B) → (tags (of_one tag_of tag_of' v) || tags' (of_one tag_of tag_of' v)) ≡ true
 own_tag_one tags tags' tag_of tag_of' f g (First v) = left_part (tags (tag_of v)) (tags' (tag_of v)) (f v)
 own_tag_one tags tags' tag_of tag_of' f g (Other w) = right_part (tags (tag_of' w)) (tags' (tag_of' w)) (g w)
+
+pub is_led_one : {A B : Type 0} (lead : A → Option Tag) (lead' : B → Option Tag) → ((v : A) → IsLed (lead v)) → ((w : B) → IsLed (lead' w)) → (v : OneOf A B) → IsLed (of_one lead lead' v)
+is_led_one lead lead' f g (First v) = f v
+is_led_one lead lead' f g (Other w) = g w
 
 pub is_tlv_one : {A B : Type 0} (F : form.Ghosts A) (G : form.Ghosts B) → ((rules : EncodingRules) (v : A) (b : List ℕ) → F.accepts rules v b → IsTlv b) → ((rules : EncodingRules) (w : B) (b : List ℕ) → G.accepts rules w b → IsTlv b) → (rules : EncodingRules) (v : OneOf A B) (b : List ℕ) → AcceptsOne F.tags F.lead G.lead (F.accepts rules) (G.accepts rules) v b → IsTlv b
 is_tlv_one F G f g rules (First v) b a = f rules v b a.0

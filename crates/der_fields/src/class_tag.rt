@@ -2,9 +2,10 @@
 //! the type (X.690 8.14).
 
 ghost use Rattle.std.specs.Prelude.{true};
+ghost use Rattle.der_tlv.specs.TagParts.{is_constructed};
 ghost use Rattle.der_fields.specs.ClassTags.{class_tag, class_tag-in_range};
 
-use der_elem::{IsConstructed, TagMarker};
+use der_elem::TagMarker;
 use der_tlv::{Tag, TagNumber};
 use std::marker::PhantomData;
 
@@ -35,32 +36,41 @@ impl<const CLASS: u8, const NUMBER: u32> TagMarker for ExplicitTag<CLASS, NUMBER
     ghost tag_in_range = { class_tag-in_range CLASS true NUMBER };
 }
 
-/// The tag of this class with this number, which is constructed where the type's own is. The class is
+/// The tag of this class with this number, which is constructed where the marked tag is. The class is
 /// numbered as that of `ExplicitTag`.
-pub struct ImplicitTag<T, const CLASS: u8, const NUMBER: u32> {
-    of: PhantomData<T>,
+pub struct ImplicitTag<M, const CLASS: u8, const NUMBER: u32> {
+    of: PhantomData<M>,
 }
 
-impl<T: IsConstructed, const CLASS: u8, const NUMBER: u32> TagMarker
-    for ImplicitTag<T, CLASS, NUMBER> {
-    ghost TAG = { class_tag CLASS T.CONSTRUCTED NUMBER };
+impl<M: TagMarker, const CLASS: u8, const NUMBER: u32> TagMarker for ImplicitTag<M, CLASS, NUMBER> {
+    ghost TAG = { class_tag CLASS (is_constructed M.TAG) NUMBER };
 
-    const TAG: Tag = if CLASS == 1 {
-        Tag::Application {
-            constructed: T::CONSTRUCTED,
-            number: TagNumber(NUMBER),
-        }
-    } else if CLASS == 2 {
-        Tag::ContextSpecific {
-            constructed: T::CONSTRUCTED,
-            number: TagNumber(NUMBER),
-        }
-    } else {
-        Tag::Private {
-            constructed: T::CONSTRUCTED,
-            number: TagNumber(NUMBER),
+    const TAG: Tag = {
+        let constructed = match M::TAG {
+            Tag::Sequence | Tag::Set => true,
+            Tag::Application { constructed, .. } => constructed,
+            Tag::ContextSpecific { constructed, .. } => constructed,
+            Tag::Private { constructed, .. } => constructed,
+            _ => false,
+        };
+        let number = TagNumber(NUMBER);
+        if CLASS == 1 {
+            Tag::Application {
+                constructed,
+                number,
+            }
+        } else if CLASS == 2 {
+            Tag::ContextSpecific {
+                constructed,
+                number,
+            }
+        } else {
+            Tag::Private {
+                constructed,
+                number,
+            }
         }
     };
 
-    ghost tag_in_range = { class_tag-in_range CLASS T.CONSTRUCTED NUMBER };
+    ghost tag_in_range = { class_tag-in_range CLASS (is_constructed M.TAG) NUMBER };
 }

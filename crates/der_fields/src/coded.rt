@@ -3,12 +3,12 @@
 ghost use Rattle.der_elem.specs.Encoding.{Encodes, Measures};
 ghost use Rattle.der_fields.specs.FieldsDecoding.{DecodesFields};
 
-use crate::field_list::FieldList;
+use crate::field_list::{FieldList, FieldsMemory};
 use der_tlv::{Error, Length, Reader, Writer};
 use std::alloc::Global;
 
 /// Reading fields from all of the octets that a reader shows.
-pub trait DecodeFields<'a, R: Reader<'a>>: FieldList {
+pub trait DecodeFields<'a, R: Reader<'a>>: FieldsMemory {
     /// Reads the fields from all of the octets that the reader shows.
     ///
     /// # Errors

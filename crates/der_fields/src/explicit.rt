@@ -79,13 +79,10 @@ impl<F: FieldsMemory, const CLASS: u8, const NUMBER: u32> ValueMemory
     ghost memory_of_value = { F.memory_of_fields };
 }
 
-impl<
+impl<'a, R: Reader<'a>, F: DecodeFields<'a, R>, const CLASS: u8, const NUMBER: u32> DecodeValue<
     'a,
-    R: Reader<'a>,
-    F: DecodeFields<'a, R> + FieldsMemory,
-    const CLASS: u8,
-    const NUMBER: u32,
-> DecodeValue<'a, R> for ExplicitIn<F, CLASS, NUMBER> {
+    R,
+> for ExplicitIn<F, CLASS, NUMBER> {
     fn decode_value(
         alloc: Global,
         reader: &mut R,

@@ -75,8 +75,7 @@ impl<F: FieldsMemory> ValueMemory for FieldSequence<F> {
     ghost memory_of_value = { F.memory_of_fields };
 }
 
-impl<'a, R: Reader<'a>, F: DecodeFields<'a, R> + FieldsMemory> DecodeValue<'a, R>
-    for FieldSequence<F> {
+impl<'a, R: Reader<'a>, F: DecodeFields<'a, R>> DecodeValue<'a, R> for FieldSequence<F> {
     fn decode_value(
         alloc: Global,
         reader: &mut R,
@@ -132,7 +131,7 @@ impl<F: DuplicateFields> DuplicateValue for FieldSequence<F> {
 /// The first fault of the octets, in the order of the fields; `ErrorKind::TrailingData` (3) where
 /// octets are left over; `ErrorKind::Overflow` (9) where there are more than 4294967295;
 /// `ErrorKind::Memory` (1) where a type that takes memory has none.
-pub fn read_sequence<'a, F: DecodeFields<'a, SliceReader<'a>> + FieldsMemory>(
+pub fn read_sequence<'a, F: DecodeFields<'a, SliceReader<'a>>>(
     alloc: Global,
     bytes: &'a [u8],
 ) -> Result<FieldSequence<F>, Error>

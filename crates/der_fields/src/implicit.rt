@@ -7,8 +7,7 @@
 
 use crate::class_tag::ImplicitTag;
 use der_elem::{
-    ContentsEq, DecodeValue, DuplicateValue, EncodeValue, FormValue, IsConstructed, OneTag,
-    ValueMemory, ValueOrd,
+    ContentsEq, DecodeValue, DuplicateValue, EncodeValue, FormValue, OneTag, ValueMemory, ValueOrd,
 };
 use der_tlv::{Error, Header, Length, Reader, Writer};
 use std::alloc::Global;
@@ -31,8 +30,8 @@ pub type ImplicitApplication<T, const NUMBER: u32> = ImplicitIn<T, 1, NUMBER>;
 /// A value behind a private tag with this number: `[PRIVATE NUMBER] IMPLICIT T`.
 pub type ImplicitPrivate<T, const NUMBER: u32> = ImplicitIn<T, 3, NUMBER>;
 
-impl<T: IsConstructed, const CLASS: u8, const NUMBER: u32> OneTag for ImplicitIn<T, CLASS, NUMBER> {
-    type Marker = ImplicitTag<T, CLASS, NUMBER>;
+impl<T: OneTag, const CLASS: u8, const NUMBER: u32> OneTag for ImplicitIn<T, CLASS, NUMBER> {
+    type Marker = ImplicitTag<<T as OneTag>::Marker, CLASS, NUMBER>;
 }
 
 impl<T: FormValue, const CLASS: u8, const NUMBER: u32> FormValue for ImplicitIn<T, CLASS, NUMBER> {

@@ -13,7 +13,7 @@ ghost use Rattle.std.proofs.Common.{Ok, ap, sym, refl};
 ghost use Rattle.der_elem.specs.OwnContents.{accepts_own};
 ghost use Rattle.der_fields.specs.Alternatives.{of_one, AcceptsOne, ReadableOne, OneFormOne, IsCopyOne, TellsHeaders, parse_one, parse_untold};
 ghost use Rattle.der_fields.specs.FieldLaws.{either_memory};
-ghost use Rattle.der_fields.specs.AlternativeLaws.{parse_of_one, begins_one, led_one, same_length_one, accepts_one_encoding, readable_of_one, comparable_of_one, test_of_one, test_alike, encoding_is_one, lead_is_one, own_tag_one, is_tlv_one, encoding_eq_one, copy_encoding_one, copy_form_one, copy_re_reads_one};
+ghost use Rattle.der_fields.specs.AlternativeLaws.{parse_of_one, begins_one, led_one, same_length_one, accepts_one_encoding, readable_of_one, comparable_of_one, test_of_one, test_alike, encoding_is_one, lead_is_one, own_tag_one, is_led_one, is_tlv_one, encoding_eq_one, copy_encoding_one, copy_form_one, copy_re_reads_one};
 
 use crate::memory::EitherMemory;
 use der_elem::{
@@ -133,14 +133,12 @@ impl<A: Choice, B: Choice> Choice for OneOf<A, B> {
     fn can_decode(tag: Tag) -> bool {
         A::can_decode(tag) || B::can_decode(tag)
     }
+
+    ghost is_led = { is_led_one A.lead B.lead A.is_led B.is_led };
 }
 
-impl<
-    'a,
-    R: Reader<'a>,
-    A: Decode<'a, R> + Tagged + Choice,
-    B: Decode<'a, R> + Tagged + Choice,
-> Decode<'a, R> for OneOf<A, B> {
+impl<'a, R: Reader<'a>, A: Decode<'a, R> + Choice, B: Decode<'a, R> + Choice> Decode<'a, R>
+    for OneOf<A, B> {
     fn decode(alloc: Global, reader: &mut R) -> Result<OneOf<A, B>, Error> {
         let tag = Tag::peek(reader)?;
         if A::can_decode(tag) {

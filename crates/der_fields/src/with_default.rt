@@ -112,7 +112,7 @@ impl<T: Encode, D: DefaultOf<T>> Encode for WithDefault<T, D> {
     }
 }
 
-impl<'a, R: Reader<'a>, T: Decode<'a, R> + Tagged + Choice, D: DefaultOf<T>> DecodeField<'a, R>
+impl<'a, R: Reader<'a>, T: Decode<'a, R> + Choice, D: DefaultOf<T>> DecodeField<'a, R>
     for WithDefault<T, D> {
     fn decode_field(alloc: Global, reader: &mut R) -> Result<WithDefault<T, D>, Error> {
         if reader.is_finished() {

@@ -8,7 +8,7 @@ ghost use Rattle.der_lines.specs.Puts.{Puts};
 
 use crate::kept_writer::KeptWriter;
 use der_elem::{Decode, DerOrd, Encode, FromDer, Tagged};
-use der_fields::{DecodeFields, EncodeFields, FieldSequence, FieldsMemory};
+use der_fields::{DecodeFields, EncodeFields, FieldSequence};
 use der_nest::SetOfVec;
 use der_tlv::{Error, SliceReader};
 use std::alloc::Global;
@@ -52,10 +52,7 @@ pub fn put_canonical_set<'a, T: Decode<'a, SliceReader<'a>> + Encode + DerOrd + 
 ///
 /// # Errors
 /// The first fault of the octets; `ErrorKind::Memory` (1) where memory runs out.
-pub fn put_canonical_sequence<
-    'a,
-    F: DecodeFields<'a, SliceReader<'a>> + FieldsMemory + EncodeFields,
->(
+pub fn put_canonical_sequence<'a, F: DecodeFields<'a, SliceReader<'a>> + EncodeFields>(
     alloc: Global,
     octets: &'a [u8],
     encoding: &mut KeptWriter,

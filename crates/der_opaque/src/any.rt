@@ -315,9 +315,13 @@ impl Tagged for Any {
 }
 
 impl Choice for Any {
+    ghost use Rattle.der_opaque.specs.Any.{tag_of};
+
     fn can_decode(_tag: Tag) -> bool {
         true
     }
+
+    ghost is_led = { λ v. record { tag = tag_of v; is_tag = refl } };
 }
 
 impl<'a, R: Reader<'a>> DecodeValue<'a, R> for Any {

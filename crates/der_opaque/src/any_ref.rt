@@ -280,12 +280,16 @@ impl<'a> Tagged for AnyRef<'a> {
 }
 
 impl<'a> Choice for AnyRef<'a> {
+    ghost use Rattle.der_opaque.specs.AnyRef.{tag_of};
+
     /// Any tag is one of its encodings.
     fn can_decode(_tag: Tag) -> bool
         ensures { result ≡ true }
     {
         true
     }
+
+    ghost is_led = { λ v. record { tag = tag_of v; is_tag = refl } };
 }
 
 impl<'a, R: Reader<'a>> DecodeValue<'a, R> for AnyRef<'a> {

@@ -170,6 +170,11 @@ impl<T: Tagged, const CLASS: u8> Choice for TaggedValue<T, CLASS> {
     fn can_decode(tag: Tag) -> bool {
         in_class(CLASS, tag)
     }
+
+    ghost is_led = { λ v. record {
+      tag = tag_of_mode CLASS v.tag_mode v.tag_number.0 (T.tag_of v.value);
+      is_tag = refl;
+    } };
 }
 
 impl<T: Tagged + EncodeValue + Encode, const CLASS: u8> EncodeValue for TaggedValue<T, CLASS> {

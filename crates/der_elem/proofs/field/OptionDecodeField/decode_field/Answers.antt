@@ -7,5 +7,6 @@ pub returns : goal.returns
 returns g c =
     let v = c.in_ok-decode.field-0 in
     let old = g.R.Reader.state c.args.reader.now in
-    let told = told_there g.T.Form.tags (g.T.Form.lead v) (g.T.Tagged.tag_of v) old.position (rest old) (g.met.T.Tagged.lead_is v) in
+    let led = g.met.T.Choice.is_led v in
+    let told = told_there g.T.Form.tags (g.T.Form.lead v) led.tag old.position (rest old) led.is_tag in
     search rules

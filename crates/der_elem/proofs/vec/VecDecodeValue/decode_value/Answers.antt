@@ -1,7 +1,7 @@
 use Rattle.std.proofs.Common.{rules, ◌≡◌, ◌++◌, ◌∷◌, [], refl, subst, sym, ap, ◌∙◌, arith}
 use Rattle.std.proofs.lemmas.Grind.{common_steps}
 use Rattle.der_tlv.specs.ReaderState.{IsReaderState, rest, after_read}
-use Rattle.der_elem.specs.OrderLaws.{accepted-some}
+use Rattle.der_elem.specs.LeadingLaws.{led-some}
 use Rattle.der_elem.proofs.ItemReading.{ItemsSoFar, items_more, items_smaller, items_fault, items_end, items_accepted, more_left, all_taken}
 use Rattle.der_elem.proofs.vec.VecDecodeValue.decode_value.Goals as goal
 
@@ -15,13 +15,13 @@ returns-in_err-item-clause-exact g c = λ shows.
 pub items-smaller : goal.items-smaller
 items-smaller g c =
     let some = more_left _ _ c.is_finished.ensures c.items-test.true in
-    let nonempty = accepted-some g.T.Tagged.tag_of g.T.FormValue.contents g.T.Form.encoding g.met.T.Tagged.encoding_is g.T.Form (λ v. refl) (g.R.Reader.state c.items.reader).rules in
+    let nonempty = led-some g.T.Form g.met.T.Choice.is_led (g.R.Reader.state c.items.reader).rules in
     items_smaller c.items.invariant nonempty some c.in_ok-item.ensures
 
 pub items-preserved : goal.items-preserved
 items-preserved g c =
     let some = more_left _ _ c.is_finished.ensures c.items-test.true in
-    let nonempty = accepted-some g.T.Tagged.tag_of g.T.FormValue.contents g.T.Form.encoding g.met.T.Tagged.encoding_is g.T.Form (λ v. refl) (g.R.Reader.state c.items.reader).rules in
+    let nonempty = led-some g.T.Form g.met.T.Choice.is_led (g.R.Reader.state c.items.reader).rules in
     let pushed : c.push.new.self.items ≡ c.items.items.items ++ c.in_ok-item.item ∷ [] = grind (arith, common_steps) in
     subst (ItemsSoFar g.T.Form (g.R.Reader.state c.args.reader.now) (g.R.Reader.state c.decode.new.reader)) (sym pushed) (items_more c.items.invariant nonempty some c.in_ok-item.ensures)
 

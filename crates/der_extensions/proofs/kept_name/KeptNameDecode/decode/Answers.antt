@@ -4,7 +4,7 @@ use Rattle.der_elem.specs.Decoding.{Decoded}
 use Rattle.der_opaque.specs.AnyLaws.{led_any}
 use Rattle.der_opaque.specs.AnyRef.{tag_of, contents_of}
 use Rattle.der_opaque.specs.contracts.any_ref.AnyRefForm.TheImpl.{ghosts as any_form}
-use Rattle.der_fields.proofs.OtherRead.{same_tag}
+use Rattle.der_fields.proofs.AlternativeRead.{same_tag}
 use Rattle.der_extensions.specs.KeptNames.{is_kept}
 use Rattle.der_extensions.proofs.kept_name.KeptNameDecode.decode.Goals as goal
 

@@ -1,4 +1,4 @@
--- The other alternative is read where the next tag is none of the first's.
+-- The alternative that has the next tag is read: the first, or the other where it is none of the first's.
 use Rattle.std.proofs.Common.{◌≡◌, ℕ, List, ◌++◌, length, take, drop, Bool, true, false, Option, Some, Ok, sym, ap, ◌∙◌, append_assoc, subst}
 use Rattle.std.proofs.lemmas.List.{take-append-drop}
 use Rattle.der_tlv.specs.declared.tag.Tag.{Tag}
@@ -19,10 +19,30 @@ same_tag octets t u n e l =
     let h : octets ≡ identifier u ++ (l.others ++ drop n octets) = sym (take-append-drop n octets) ∙ ap (λ o. o ++ drop n octets) l.octets_are ∙ append_assoc (identifier u) l.others (drop n octets) in
     (identifier-unique t u _ _ (f ∙ h)).0
 
-tag_is_other : (tags : Tag → Bool) (octets : List ℕ) (t u : Tag) (n : ℕ) (lead : Option Tag) → take (length (identifier t)) octets ≡ identifier t → tags t ≡ false → lead ≡ Some u → Leads lead (take n octets) → TagIs tags false lead
-tag_is_other tags octets t u n lead e h is l =
+-- what the tests say of the next tag, they say of the tag that was read
+tag_is_next : (tags : Tag → Bool) (one : Bool) (octets : List ℕ) (t u : Tag) (n : ℕ) (lead : Option Tag) → take (length (identifier t)) octets ≡ identifier t → tags t ≡ one → lead ≡ Some u → Leads lead (take n octets) → TagIs tags one lead
+tag_is_next tags one octets t u n lead e h is l =
     let same = same_tag octets t u n e (subst (λ lead. Leads lead (take n octets)) is l) in
-    subst (TagIs tags false) (sym is) (ap tags (sym same) ∙ h)
+    subst (TagIs tags one) (sym is) (ap tags (sym same) ∙ h)
+
+-- what reading the first alternative shows of the CHOICE
+pub record FirstRead {A B : Type 0} (F : form.Ghosts A) (G : form.Ghosts B) (old new : ReaderState) (v : A) : Type 0 where
+  pub taken : ℕ
+  pub ready : old.failed ≡ false
+  pub parsed : parse_one F.tags G.tags F.parse G.parse old.rules old.position (rest old) ≡ Ok (taken, F.encoding v)
+  pub accepted : F.accepts old.rules v (take taken (rest old)) × TagIs F.tags true (F.lead v)
+  pub after : new ≡ after_read old taken
+
+pub first_read : {A B : Type 0} (F : form.Ghosts A) (G : form.Ghosts B) (old seen_at new : ReaderState) (v : A) (t u : Tag) → HeadSeen read_tag (identifier t) old seen_at t → F.tags t ≡ true → F.lead v ≡ Some u → Decoded F seen_at new v → FirstRead F G old new v
+first_read F G old seen_at new v t u seen own is read' =
+    let read : Decoded F old new v = subst (λ s. Decoded F s new v) seen.after read' in
+    record {
+      taken = read.taken;
+      ready = read.ready;
+      parsed = rw (seen.parsed, own) read.parsed;
+      accepted = (read.accepted, tag_is_next F.tags true (rest old) t u read.taken (F.lead v) seen.taken own is (F.led old.rules v (take read.taken (rest old)) read.accepted));
+      after = read.after;
+    }
 
 -- what reading the other alternative shows of the CHOICE
 pub record OtherRead {A B : Type 0} (F : form.Ghosts A) (G : form.Ghosts B) (old new : ReaderState) (w : B) : Type 0 where
@@ -33,12 +53,12 @@ pub record OtherRead {A B : Type 0} (F : form.Ghosts A) (G : form.Ghosts B) (old
   pub after : new ≡ after_read old taken
 
 pub other_read : {A B : Type 0} (F : form.Ghosts A) (G : form.Ghosts B) (old seen_at new : ReaderState) (w : B) (t u : Tag) → HeadSeen read_tag (identifier t) old seen_at t → F.tags t ≡ false → G.tags t ≡ true → G.lead w ≡ Some u → Decoded G seen_at new w → OtherRead F G old new w
-other_read F G old seen_at new w t u unless_failed none own is read' =
-    let read : Decoded G old new w = subst (λ s. Decoded G s new w) unless_failed.after read' in
+other_read F G old seen_at new w t u seen none own is read' =
+    let read : Decoded G old new w = subst (λ s. Decoded G s new w) seen.after read' in
     record {
       taken = read.taken;
       ready = read.ready;
-      parsed = rw (unless_failed.parsed, none, own) read.parsed;
-      accepted = (read.accepted, tag_is_other F.tags (rest old) t u read.taken (G.lead w) unless_failed.taken none is (G.led old.rules w (take read.taken (rest old)) read.accepted));
+      parsed = rw (seen.parsed, none, own) read.parsed;
+      accepted = (read.accepted, tag_is_next F.tags false (rest old) t u read.taken (G.lead w) seen.taken none is (G.led old.rules w (take read.taken (rest old)) read.accepted));
       after = read.after;
     }
