@@ -22,7 +22,6 @@ use crate::string_ref::CharacterStringRef;
 use crate::string_tag::CharacterStringTag;
 use der_elem::{
     ContentsEq, DecodeValue, DuplicateValue, EncodeValue, FormValue, OneTag, OrdIsValueOrd, Tagged,
-    ValueMemory, WithMemory,
 };
 use der_opaque::AnyRef;
 use der_tlv::{Error, Header, Length, Reader, Writer};
@@ -143,17 +142,15 @@ impl<const NUMBER: u8> FormValue for CharacterString<NUMBER> {
     ghost re_reads_memory_value = { λ v e. refl };
 }
 
-impl<const NUMBER: u8> ValueMemory for CharacterString<NUMBER> {
-    type OfValue = WithMemory;
-
-    ghost memory_of_value = { refl };
-}
-
 impl<const NUMBER: u8> OneTag for CharacterString<NUMBER> {
     type Marker = CharacterStringTag<NUMBER>;
 }
 
 impl<'a, R: Reader<'a>, const NUMBER: u8> DecodeValue<'a, R> for CharacterString<NUMBER> {
+    ghost VALUE_NEEDS_MEMORY = { true };
+
+    const VALUE_NEEDS_MEMORY: bool = true;
+
     ghost use Rattle.der_ascii.specs.contracts.string.CharacterStringFormValue.TheImpl as string;
 
     /// # Errors
@@ -175,6 +172,8 @@ impl<'a, R: Reader<'a>, const NUMBER: u8> DecodeValue<'a, R> for CharacterString
             Err(e) => Err(e),
         }
     }
+
+    ghost memory_of_value = { refl };
 }
 
 impl<const NUMBER: u8> EncodeValue for CharacterString<NUMBER> {

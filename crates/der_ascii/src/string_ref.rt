@@ -3,7 +3,7 @@
 //! The contents octets are the characters: the PrintableString `hi` is encoded as 13 02 68 69.
 //! Reading refuses any octet that is no character of the type (`ErrorKind::Value`, 13).
 
-ghost use Rattle.std.specs.Prelude.{◌≡◌, ◌↔◌, ◌^◌, ◌<◌, [], Some, length, true, refl, IsTrue, IfOk, IfErr};
+ghost use Rattle.std.specs.Prelude.{◌≡◌, ◌↔◌, ◌^◌, ◌<◌, [], Some, length, true, refl, IsTrue, IfOk, IfErr, false};
 ghost use Rattle.std.specs.Cmp.Lexicographic.{bytes_decides};
 ghost use Rattle.der_tlv.specs.declared.error.ErrorKind.TheVariants as kinds;
 ghost use Rattle.der_tlv.specs.declared.encoding_rules.EncodingRules.TheVariants.{Der};
@@ -20,7 +20,7 @@ use crate::string::CharacterString;
 use crate::string_tag::CharacterStringTag;
 use der_elem::{
     ContentsEq, CopyIsDuplicate, DecodeValue, EncodeValue, Form, FormValue, OneTag, OrdIsValueOrd,
-    Tagged, ValueMemory, WithoutMemory,
+    Tagged,
 };
 use der_opaque::{Any, AnyRef};
 use der_tlv::{Error, Header, Length, Reader, Writer};
@@ -135,17 +135,15 @@ impl<'a, const NUMBER: u8> FormValue for CharacterStringRef<'a, NUMBER> {
     ghost re_reads_memory_value = { λ v e. e };
 }
 
-impl<'a, const NUMBER: u8> ValueMemory for CharacterStringRef<'a, NUMBER> {
-    type OfValue = WithoutMemory;
-
-    ghost memory_of_value = { refl };
-}
-
 impl<'a, const NUMBER: u8> OneTag for CharacterStringRef<'a, NUMBER> {
     type Marker = CharacterStringTag<NUMBER>;
 }
 
 impl<'a, R: Reader<'a>, const NUMBER: u8> DecodeValue<'a, R> for CharacterStringRef<'a, NUMBER> {
+    ghost VALUE_NEEDS_MEMORY = { false };
+
+    const VALUE_NEEDS_MEMORY: bool = false;
+
     fn decode_value(
         _alloc: Global,
         reader: &mut R,
@@ -157,6 +155,8 @@ impl<'a, R: Reader<'a>, const NUMBER: u8> DecodeValue<'a, R> for CharacterString
             Err(kind) => Err(reader.error(kind)),
         }
     }
+
+    ghost memory_of_value = { refl };
 }
 
 impl<'a, const NUMBER: u8> EncodeValue for CharacterStringRef<'a, NUMBER> {

@@ -19,16 +19,15 @@ pub use der_ascii::{CharacterString, CharacterStringRef, CharacterStringTag};
 pub use der_elem::{
     BitStringTag, BmpStringTag, BooleanTag, Choice, ContentsEq, CopyIsDuplicate, Decode,
     DecodeField, DecodeValue, DerOrd, Duplicate, DuplicateValue, Encode, EncodeValue, EncodingEq,
-    FirstTag, FixedTag, Form, FormMemory, FormValue, FromDer, GeneralStringTag, GeneralizedTimeTag,
-    IntegerTag, IsConstructed, Memory, NullTag, ObjectIdentifierTag, OctetStringTag, OneTag,
-    OrdIsValueOrd, Sequence, SequenceTag, SetTag, TagMarker, Tagged, TakesMemory, UtcTimeTag,
-    Utf8StringTag, ValueMemory, ValueOrd, WithMemory, WithoutMemory, read_contents,
+    FirstTag, FixedTag, Form, FormValue, FromDer, GeneralStringTag, GeneralizedTimeTag, IntegerTag,
+    IsConstructed, NullTag, ObjectIdentifierTag, OctetStringTag, OneTag, OrdIsValueOrd, Sequence,
+    SequenceTag, SetTag, TagMarker, Tagged, TakesMemory, UtcTimeTag, Utf8StringTag, ValueOrd,
+    read_contents,
 };
 pub use der_fields::{
     DefaultFalse, DefaultNumber, DefaultOf, End, Explicit, ExplicitApplication, ExplicitIn,
-    ExplicitPrivate, Field, FieldList, FieldSequence, FieldsMemory, FieldsPart, Implicit,
-    ImplicitApplication, ImplicitIn, ImplicitPrivate, OneOf, WithDefault, read_sequence,
-    write_sequence,
+    ExplicitPrivate, Field, FieldList, FieldSequence, FieldsPart, Implicit, ImplicitApplication,
+    ImplicitIn, ImplicitPrivate, OneOf, WithDefault, read_sequence, write_sequence,
 };
 pub use der_nest::Asks;
 pub use der_time::{DateTime, const_contains_u8};

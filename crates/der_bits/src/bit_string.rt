@@ -23,8 +23,7 @@ use crate::bit_string_iter::BitStringIter;
 use crate::bit_string_ref::BitStringRef;
 use crate::unused_bits::{are_zero, can_be_unused, clear};
 use der_elem::{
-    BitStringTag, ContentsEq, DecodeValue, DuplicateValue, EncodeValue, FormValue, OneTag,
-    ValueMemory, ValueOrd, WithMemory,
+    BitStringTag, ContentsEq, DecodeValue, DuplicateValue, EncodeValue, FormValue, OneTag, ValueOrd,
 };
 use der_tlv::{Error, Header, Length, Reader, Tag, Writer};
 use std::alloc::{AllocError, Global};
@@ -226,17 +225,15 @@ impl FormValue for BitString {
     ghost re_reads_memory_value = { λ v e. refl };
 }
 
-impl ValueMemory for BitString {
-    type OfValue = WithMemory;
-
-    ghost memory_of_value = { refl };
-}
-
 impl OneTag for BitString {
     type Marker = BitStringTag;
 }
 
 impl<'a, R: Reader<'a>> DecodeValue<'a, R> for BitString {
+    ghost VALUE_NEEDS_MEMORY = { true };
+
+    const VALUE_NEEDS_MEMORY: bool = true;
+
     ghost use Rattle.der_bits.specs.contracts.bit_string.BitStringFormValue.TheImpl.{ghosts as bit_string};
 
     /// # Errors
@@ -255,6 +252,8 @@ impl<'a, R: Reader<'a>> DecodeValue<'a, R> for BitString {
             Err(e) => Err(e),
         }
     }
+
+    ghost memory_of_value = { refl };
 }
 
 impl EncodeValue for BitString {

@@ -8,7 +8,7 @@
 //! where there is no octet (`ErrorKind::Value`, 13), then an unused bit that is not zero
 //! (`ErrorKind::Noncanonical`, 8).
 
-ghost use Rattle.std.specs.Prelude.{◌≡◌, ◌≢◌, ◌↔◌, MatchResult, MatchOption, ◌^◌, ◌<◌, ◌≤◌, [], ◌∷◌, length, true, refl, IsTrue, IfOk, IfErr, Some, None};
+ghost use Rattle.std.specs.Prelude.{◌≡◌, ◌≢◌, ◌↔◌, MatchResult, MatchOption, ◌^◌, ◌<◌, ◌≤◌, [], ◌∷◌, length, true, refl, IsTrue, IfOk, IfErr, Some, None, false};
 ghost use Rattle.std.proofs.Common.{◌∙◌};
 ghost use Rattle.std.specs.Cmp.{on_per, on_equiv, on_total, partial_equiv_from_equiv};
 ghost use Rattle.std.specs.Cmp.Lexicographic.{nat_list_cmp_total, texts_ties};
@@ -30,7 +30,7 @@ use crate::bit_string_iter::BitStringIter;
 use crate::unused_bits::{are_zero, can_be_unused};
 use der_elem::{
     BitStringTag, ContentsEq, CopyIsDuplicate, DecodeValue, EncodeValue, Form, FormValue, OneTag,
-    Tagged, ValueMemory, ValueOrd, WithoutMemory,
+    Tagged, ValueOrd,
 };
 use der_opaque::{Any, AnyRef};
 use der_tlv::{Error, ErrorKind, Header, Length, Reader, Tag, Writer};
@@ -243,17 +243,15 @@ impl<'a> FormValue for BitStringRef<'a> {
     ghost re_reads_memory_value = { λ v e. e };
 }
 
-impl<'a> ValueMemory for BitStringRef<'a> {
-    type OfValue = WithoutMemory;
-
-    ghost memory_of_value = { refl };
-}
-
 impl<'a> OneTag for BitStringRef<'a> {
     type Marker = BitStringTag;
 }
 
 impl<'a, R: Reader<'a>> DecodeValue<'a, R> for BitStringRef<'a> {
+    ghost VALUE_NEEDS_MEMORY = { false };
+
+    const VALUE_NEEDS_MEMORY: bool = false;
+
     fn decode_value(
         _alloc: Global,
         reader: &mut R,
@@ -265,6 +263,8 @@ impl<'a, R: Reader<'a>> DecodeValue<'a, R> for BitStringRef<'a> {
             Err(kind) => Err(reader.error(kind)),
         }
     }
+
+    ghost memory_of_value = { refl };
 }
 
 impl<'a> EncodeValue for BitStringRef<'a> {

@@ -1,11 +1,10 @@
 //! The fields from the signature on of a TBSCertificate.
 
-ghost use Rattle.std.specs.Prelude.{refl};
+ghost use Rattle.std.specs.Prelude.{refl, true};
 ghost use Rattle.der_fields.specs.Parts.{part_of};
 
 use crate::subject::Subject;
-use der_elem::WithMemory;
-use der_fields::{DecodeFields, EncodeFields, Field, FieldList, FieldsMemory, FieldsPart};
+use der_fields::{DecodeFields, EncodeFields, Field, FieldList, FieldsPart};
 use der_opaque::AnyRef;
 use der_pkix::AlgorithmIdentifier;
 use der_tlv::{Error, Length, Reader, Writer};
@@ -59,19 +58,19 @@ impl<'a> FieldList for Issuer<'a> {
     ghost re_read_memory = { issuer.list.re_read_memory };
 }
 
-impl<'a> FieldsMemory for Issuer<'a> {
-    type OfFields = WithMemory;
-
-    ghost memory_of_fields = { refl };
-}
-
 impl<'a, R: Reader<'a>> DecodeFields<'a, R> for Issuer<'a> {
+    ghost FIELDS_NEED_MEMORY = { true };
+
+    const FIELDS_NEED_MEMORY: bool = true;
+
     fn decode_fields(alloc: Global, reader: &mut R) -> Result<Issuer<'a>, Error> {
         match IssuerFields::<'a>::decode_fields(alloc, reader) {
             Ok(fields) => Ok(Issuer { fields }),
             Err(e) => Err(e),
         }
     }
+
+    ghost memory_of_fields = { refl };
 }
 
 impl<'a> EncodeFields for Issuer<'a> {

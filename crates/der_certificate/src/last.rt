@@ -1,12 +1,11 @@
 //! The unique identifiers and the extensions of a TBSCertificate.
 
-ghost use Rattle.std.specs.Prelude.{refl};
+ghost use Rattle.std.specs.Prelude.{refl, true};
 ghost use Rattle.der_fields.specs.Parts.{part_of};
 
 use der_bits::BitStringRef;
-use der_elem::WithMemory;
 use der_fields::{
-    DecodeFields, EncodeFields, End, Explicit, Field, FieldList, FieldsMemory, FieldsPart, Implicit,
+    DecodeFields, EncodeFields, End, Explicit, Field, FieldList, FieldsPart, Implicit,
 };
 use der_pkix::Extension;
 use der_tlv::{Error, Length, Reader, Writer};
@@ -66,19 +65,19 @@ impl<'a> FieldList for Last<'a> {
     ghost re_read_memory = { last.list.re_read_memory };
 }
 
-impl<'a> FieldsMemory for Last<'a> {
-    type OfFields = WithMemory;
-
-    ghost memory_of_fields = { refl };
-}
-
 impl<'a, R: Reader<'a>> DecodeFields<'a, R> for Last<'a> {
+    ghost FIELDS_NEED_MEMORY = { true };
+
+    const FIELDS_NEED_MEMORY: bool = true;
+
     fn decode_fields(alloc: Global, reader: &mut R) -> Result<Last<'a>, Error> {
         match LastFields::<'a>::decode_fields(alloc, reader) {
             Ok(fields) => Ok(Last { fields }),
             Err(e) => Err(e),
         }
     }
+
+    ghost memory_of_fields = { refl };
 }
 
 impl<'a> EncodeFields for Last<'a> {

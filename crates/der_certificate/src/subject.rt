@@ -1,11 +1,10 @@
 //! The fields from the validity on of a TBSCertificate.
 
-ghost use Rattle.std.specs.Prelude.{refl};
+ghost use Rattle.std.specs.Prelude.{refl, true};
 ghost use Rattle.der_fields.specs.Parts.{part_of};
 
 use crate::last::Last;
-use der_elem::WithMemory;
-use der_fields::{DecodeFields, EncodeFields, Field, FieldList, FieldsMemory, FieldsPart};
+use der_fields::{DecodeFields, EncodeFields, Field, FieldList, FieldsPart};
 use der_opaque::AnyRef;
 use der_pkix::{SubjectPublicKeyInfo, Validity};
 use der_tlv::{Error, Length, Reader, Writer};
@@ -62,19 +61,19 @@ impl<'a> FieldList for Subject<'a> {
     ghost re_read_memory = { subject.list.re_read_memory };
 }
 
-impl<'a> FieldsMemory for Subject<'a> {
-    type OfFields = WithMemory;
-
-    ghost memory_of_fields = { refl };
-}
-
 impl<'a, R: Reader<'a>> DecodeFields<'a, R> for Subject<'a> {
+    ghost FIELDS_NEED_MEMORY = { true };
+
+    const FIELDS_NEED_MEMORY: bool = true;
+
     fn decode_fields(alloc: Global, reader: &mut R) -> Result<Subject<'a>, Error> {
         match SubjectFields::<'a>::decode_fields(alloc, reader) {
             Ok(fields) => Ok(Subject { fields }),
             Err(e) => Err(e),
         }
     }
+
+    ghost memory_of_fields = { refl };
 }
 
 impl<'a> EncodeFields for Subject<'a> {

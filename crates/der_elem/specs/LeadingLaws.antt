@@ -44,15 +44,15 @@ module _ {T : Type 0} (tag_of : T → Tag) (contents encoding : T → List ℕ) 
   beginning_option lead lead_is None (Some w) h = absurd (subst (SameLeads None) (lead_is w) h)
   beginning_option lead lead_is (Some v) None h = absurd (subst (λ l. SameLeads l None) (lead_is v) h)
 
--- a field that is there is told from what follows it
 -- octets that begin with a tag are some
-leads-some : (t : Tag) (b : List ℕ) → LeadsTag t b → 0 < length b
-leads-some t b l = omega (arith, ap length l.octets_are, length-append (identifier t) l.others, length-identifier-positive t)
+pub led_some : {t : Tag} {b : List ℕ} → LeadsTag t b → 0 < length b
+led_some {t} {b} l = omega (arith, ap length l.octets_are, length-append (identifier t) l.others, length-identifier-positive t)
 
 pub led-some : {T : Type 0} (F : form.Ghosts T) → ((v : T) → IsLed (F.lead v)) → (rules : EncodingRules) (v : T) (b : List ℕ) → F.accepts rules v b → 0 < length b
 led-some F is_led rules v b a =
     let led = is_led v in
-    leads-some led.tag b (subst (λ lead. Leads lead b) led.is_tag (F.led rules v b a))
+    led_some (subst (λ lead. Leads lead b) led.is_tag (F.led rules v b a))
 
+-- a field that is there is told from what follows it
 pub told_there : (tags : Tag → Bool) (lead : Option Tag) (t : Tag) (p : ℕ) (octets : List ℕ) → lead ≡ Some t → ToldApart tags lead p octets
 told_there tags lead t p octets e = subst (λ l. ToldApart tags l p octets) (sym e) tt

@@ -23,7 +23,6 @@ use crate::equality::{ContentsEq, EncodingEq};
 use crate::fixed_tag::OneTag;
 use crate::form::{Form, FormValue};
 use crate::items::{cmp_items, encode_items, items_len};
-use crate::memory::{FormMemory, ValueMemory};
 use crate::ord::{DerOrd, ValueOrd};
 use crate::readiness::check_ready;
 use crate::sequence::Sequence;
@@ -69,12 +68,6 @@ impl<T: Form, const N: usize> FormValue for [T; N] {
     ghost re_reads_memory_value = { re_reads_items T.Form };
 }
 
-impl<T: FormMemory, const N: usize> ValueMemory for [T; N] {
-    type OfValue = <T as FormMemory>::OfForm;
-
-    ghost memory_of_value = { T.memory_of_form };
-}
-
 impl<T: Encode + Tagged, const N: usize> EncodeValue for [T; N] {
     fn value_len(&self) -> Result<Length, Error> {
         items_len(self)
@@ -98,6 +91,10 @@ impl<T: EncodingEq + Tagged, const N: usize> ContentsEq for [T; N] {
 
 impl<'a, R: Reader<'a>, T: Decode<'a, R> + Choice + Copy, const N: usize> DecodeValue<'a, R>
     for [T; N] {
+    ghost VALUE_NEEDS_MEMORY = { T.NEEDS_MEMORY };
+
+    const VALUE_NEEDS_MEMORY: bool = T::NEEDS_MEMORY;
+
     fn decode_value(alloc: Global, reader: &mut R, _header: Header) -> Result<[T; N], Error> {
         check_ready(reader)?;
         let none: &[T] = &[];
@@ -112,6 +109,8 @@ impl<'a, R: Reader<'a>, T: Decode<'a, R> + Choice + Copy, const N: usize> Decode
         refuse_item::<R, T>(alloc, reader)?;
         Ok(items)
     }
+
+    ghost memory_of_value = { T.memory_of_form };
 }
 
 impl<T: Form + Copy, const N: usize> CopyIsDuplicate for [T; N] {}

@@ -10,6 +10,10 @@ use std::alloc::Global;
 use std::cmp::Ordering;
 
 impl<'a, R: Reader<'a>, T: DecodeValue<'a, R> + OneTag> Decode<'a, R> for T {
+    ghost NEEDS_MEMORY = { T.VALUE_NEEDS_MEMORY };
+
+    const NEEDS_MEMORY: bool = T::VALUE_NEEDS_MEMORY;
+
     fn decode(alloc: Global, reader: &mut R) -> Result<T, Error> {
         let header = Header::decode(reader)?;
         let tag = <T::Marker as TagMarker>::TAG;
@@ -21,6 +25,8 @@ impl<'a, R: Reader<'a>, T: DecodeValue<'a, R> + OneTag> Decode<'a, R> for T {
         reader.unnest(end)?;
         Ok(value)
     }
+
+    ghost memory_of_form = { T.memory_of_value };
 }
 
 impl<'a, T: Decode<'a, SliceReader<'a>>> FromDer<'a> for T {

@@ -20,7 +20,6 @@ use crate::encode::EncodeValue;
 use crate::equality::ContentsEq;
 use crate::fixed_tag::OneTag;
 use crate::form::FormValue;
-use crate::memory::{ValueMemory, WithoutMemory};
 use crate::ord::OrdIsValueOrd;
 use crate::universal_tags::BooleanTag;
 use der_tlv::{Error, ErrorKind, Header, Length, Reader, Tag, Writer};
@@ -63,23 +62,23 @@ impl FormValue for bool {
     ghost re_reads_memory_value = { λ v e. e };
 }
 
-impl ValueMemory for bool {
-    type OfValue = WithoutMemory;
-
-    ghost memory_of_value = { refl };
-}
-
 impl OneTag for bool {
     type Marker = BooleanTag;
 }
 
 impl<'a, R: Reader<'a>> DecodeValue<'a, R> for bool {
+    ghost VALUE_NEEDS_MEMORY = { false };
+
+    const VALUE_NEEDS_MEMORY: bool = false;
+
     fn decode_value(_alloc: Global, reader: &mut R, header: Header) -> Result<bool, Error> {
         match boolean_of(read_contents(reader, header)?) {
             Ok(truth) => Ok(truth),
             Err(kind) => Err(reader.error(kind)),
         }
     }
+
+    ghost memory_of_value = { refl };
 }
 
 impl EncodeValue for bool {

@@ -10,7 +10,6 @@ use crate::encode::EncodeValue;
 use crate::equality::ContentsEq;
 use crate::fixed_tag::OneTag;
 use crate::form::FormValue;
-use crate::memory::{ValueMemory, WithMemory};
 use crate::sequence::Sequence;
 use der_tlv::{Error, ErrorKind, Header, Length, Reader, Writer};
 use std::alloc::Global;
@@ -54,13 +53,11 @@ impl<T: FormValue> FormValue for Box<T> {
     ghost re_reads_memory_value = { λ v h. refl };
 }
 
-impl<T: FormValue> ValueMemory for Box<T> {
-    type OfValue = WithMemory;
-
-    ghost memory_of_value = { refl };
-}
-
 impl<'a, R: Reader<'a>, T: DecodeValue<'a, R>> DecodeValue<'a, R> for Box<T> {
+    ghost VALUE_NEEDS_MEMORY = { true };
+
+    const VALUE_NEEDS_MEMORY: bool = true;
+
     fn decode_value(alloc: Global, reader: &mut R, header: Header) -> Result<Box<T>, Error> {
         let value = T::decode_value(alloc, reader, header)?;
         match Box::new(alloc, value) {
@@ -68,6 +65,8 @@ impl<'a, R: Reader<'a>, T: DecodeValue<'a, R>> DecodeValue<'a, R> for Box<T> {
             Err(_) => Err(reader.error(ErrorKind::Memory)),
         }
     }
+
+    ghost memory_of_value = { refl };
 }
 
 impl<T: EncodeValue> EncodeValue for Box<T> {

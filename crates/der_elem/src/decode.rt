@@ -1,17 +1,21 @@
 //! Reading values.
 
-ghost use Rattle.std.specs.Prelude.{◌≡◌, length};
+ghost use Rattle.std.specs.Prelude.{◌≡◌, length, Bool};
 ghost use Rattle.der_tlv.specs.ReaderState.{ReaderState, rest};
 ghost use Rattle.der_tlv.specs.Reading.{Stands};
 ghost use Rattle.der_elem.specs.Decoding.{Decodes, DecodesValue, ReadsAll};
 
 use crate::form::{Form, FormValue};
-use crate::memory::{FormMemory, ValueMemory};
 use der_tlv::{Error, Header, Reader, SliceReader};
 use std::alloc::Global;
 
 /// Reading a value from its contents octets.
-pub trait DecodeValue<'a, R: Reader<'a>>: ValueMemory {
+pub trait DecodeValue<'a, R: Reader<'a>>: FormValue {
+    ghost VALUE_NEEDS_MEMORY: { Bool };
+
+    /// Whether reading the contents octets takes memory.
+    const VALUE_NEEDS_MEMORY: bool;
+
     /// Reads the value from all of the octets that the reader shows, of which the header says how
     /// many there are.
     ///
@@ -24,10 +28,17 @@ pub trait DecodeValue<'a, R: Reader<'a>>: ValueMemory {
         ensures exact { length (rest (R.state reader.old)) ≡ header.length
             → DecodesValue Self.FormValue header (R.state reader.old) (R.state reader.new) result }
         ensures reader { Stands (R.state reader.old) (R.state reader.new) result };
+
+    ghost memory_of_value: { Self.VALUE_NEEDS_MEMORY ≡ Self.VALUE_TAKES_MEMORY };
 }
 
 /// Reading a value from its encoding.
-pub trait Decode<'a, R: Reader<'a>>: FormMemory {
+pub trait Decode<'a, R: Reader<'a>>: Form {
+    ghost NEEDS_MEMORY: { Bool };
+
+    /// Whether reading the encoding takes memory.
+    const NEEDS_MEMORY: bool;
+
     /// Reads the value whose encoding stands at the reader's position.
     ///
     /// # Errors
@@ -35,6 +46,8 @@ pub trait Decode<'a, R: Reader<'a>>: FormMemory {
     /// order; `ErrorKind::Memory` (1) where the type takes memory.
     fn decode(alloc: Global, reader: &mut R) -> Result<Self, Error>
         ensures { Decodes Self.Form (R.state reader.old) (R.state reader.new) result };
+
+    ghost memory_of_form: { Self.NEEDS_MEMORY ≡ Self.TAKES_MEMORY };
 }
 
 /// Reading a value from octets that are its encoding and nothing else, under DER.

@@ -4,7 +4,7 @@
 //! absent at the end of what the reader shows, and before a tag that none of its encodings begins
 //! with.
 
-ghost use Rattle.std.specs.Prelude.{◌≡◌, Option, Some, true};
+ghost use Rattle.std.specs.Prelude.{◌≡◌, Option, Some, true, Bool};
 ghost use Rattle.der_tlv.specs.declared.tag.Tag.{Tag};
 ghost use Rattle.der_tlv.specs.ReaderState.{ReaderState};
 ghost use Rattle.der_elem.specs.FieldDecoding.{DecodesField};
@@ -12,9 +12,9 @@ ghost use Rattle.der_tlv.specs.OctetLaws.{SameBeginning};
 ghost use Rattle.der_elem.specs.Leading.{SameLeads, Starts};
 ghost use Rattle.der_elem.specs.LeadingLaws.{beginning_tagged, beginning_option, starts_tagged, starts_option, own_lead_tagged, own_lead_option};
 
-use crate::decode::Decode;
+use crate::decode::{Decode, DecodeValue};
+use crate::fixed_tag::OneTag;
 use crate::form::Form;
-use crate::memory::FormMemory;
 use crate::readiness::check_ready;
 use crate::tag::{Choice, Tagged};
 use der_tlv::{Error, Reader, Tag};
@@ -22,7 +22,12 @@ use std::alloc::Global;
 
 /// Reading a field, which is told from what follows it: an absent one stands only at the end, or
 /// before a tag that is none of its.
-pub trait DecodeField<'a, R: Reader<'a>>: FormMemory {
+pub trait DecodeField<'a, R: Reader<'a>>: Form {
+    ghost FIELD_NEEDS_MEMORY: { Bool };
+
+    /// Whether reading the field takes memory.
+    const FIELD_NEEDS_MEMORY: bool;
+
     /// Reads the field at the reader's position.
     ///
     /// # Errors
@@ -30,15 +35,27 @@ pub trait DecodeField<'a, R: Reader<'a>>: FormMemory {
     /// reader that has failed; `ErrorKind::Memory` (1) where the type takes memory.
     fn decode_field(alloc: Global, reader: &mut R) -> Result<Self, Error>
         ensures { DecodesField Self.Form (R.state reader.old) (R.state reader.new) result };
+
+    ghost memory_of_field: { Self.FIELD_NEEDS_MEMORY ≡ Self.TAKES_MEMORY };
 }
 
-impl<'a, R: Reader<'a>, T: Decode<'a, R> + Choice> DecodeField<'a, R> for T {
+impl<'a, R: Reader<'a>, T: DecodeValue<'a, R> + OneTag> DecodeField<'a, R> for T {
+    ghost FIELD_NEEDS_MEMORY = { T.VALUE_NEEDS_MEMORY };
+
+    const FIELD_NEEDS_MEMORY: bool = T::VALUE_NEEDS_MEMORY;
+
     fn decode_field(alloc: Global, reader: &mut R) -> Result<T, Error> {
         T::decode(alloc, reader)
     }
+
+    ghost memory_of_field = { T.memory_of_value };
 }
 
 impl<'a, R: Reader<'a>, T: Decode<'a, R> + Choice> DecodeField<'a, R> for Option<T> {
+    ghost FIELD_NEEDS_MEMORY = { T.NEEDS_MEMORY };
+
+    const FIELD_NEEDS_MEMORY: bool = T::NEEDS_MEMORY;
+
     fn decode_field(alloc: Global, reader: &mut R) -> Result<Option<T>, Error> {
         if reader.is_finished() {
             check_ready(reader)?;
@@ -50,6 +67,8 @@ impl<'a, R: Reader<'a>, T: Decode<'a, R> + Choice> DecodeField<'a, R> for Option
         }
         Ok(Some(T::decode(alloc, reader)?))
     }
+
+    ghost memory_of_field = { T.memory_of_form };
 }
 
 /// The tag that a field's encoding begins with, by which it is told from other fields.

@@ -46,7 +46,7 @@ pub use fixed_tag::{FixedTag, OneTag, TagMarker};
 pub use form::{Form, FormValue};
 pub use integer::{signed_of, unsigned_of};
 pub use items::{cmp_items, encode_items, items_len};
-pub use memory::{FormMemory, Memory, TakesMemory, ValueMemory, WithMemory, WithoutMemory};
+pub use memory::TakesMemory;
 pub use ord::{DerOrd, OrdIsValueOrd, ValueOrd};
 pub use readiness::check_ready;
 pub use sequence::Sequence;

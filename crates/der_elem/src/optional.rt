@@ -15,7 +15,6 @@ use crate::duplicate::Duplicate;
 use crate::encode::Encode;
 use crate::equality::EncodingEq;
 use crate::form::Form;
-use crate::memory::FormMemory;
 use crate::ord::DerOrd;
 use crate::readiness::check_ready;
 use crate::tag::{Choice, Tagged};
@@ -59,13 +58,11 @@ impl<T: Form> Form for Option<T> {
     ghost re_reads_memory = { re_reads_option T.Form };
 }
 
-impl<T: FormMemory> FormMemory for Option<T> {
-    type OfForm = <T as FormMemory>::OfForm;
-
-    ghost memory_of_form = { T.memory_of_form };
-}
-
 impl<'a, R: Reader<'a>, T: Decode<'a, R> + Choice> Decode<'a, R> for Option<T> {
+    ghost NEEDS_MEMORY = { T.NEEDS_MEMORY };
+
+    const NEEDS_MEMORY: bool = T::NEEDS_MEMORY;
+
     fn decode(alloc: Global, reader: &mut R) -> Result<Option<T>, Error> {
         if reader.is_finished() {
             check_ready(reader)?;
@@ -77,6 +74,8 @@ impl<'a, R: Reader<'a>, T: Decode<'a, R> + Choice> Decode<'a, R> for Option<T> {
         }
         Ok(Some(T::decode(alloc, reader)?))
     }
+
+    ghost memory_of_form = { T.memory_of_form };
 }
 
 impl<T: Encode + Tagged> Encode for Option<T> {

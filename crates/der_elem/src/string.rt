@@ -22,7 +22,6 @@ use crate::encode::EncodeValue;
 use crate::equality::ContentsEq;
 use crate::fixed_tag::OneTag;
 use crate::form::FormValue;
-use crate::memory::{ValueMemory, WithMemory};
 use crate::ord::OrdIsValueOrd;
 use crate::universal_tags::Utf8StringTag;
 use crate::utf8_text::text_of;
@@ -52,17 +51,15 @@ impl FormValue for String {
     ghost re_reads_memory_value = { λ v e. refl };
 }
 
-impl ValueMemory for String {
-    type OfValue = WithMemory;
-
-    ghost memory_of_value = { refl };
-}
-
 impl OneTag for String {
     type Marker = Utf8StringTag;
 }
 
 impl<'a, R: Reader<'a>> DecodeValue<'a, R> for String {
+    ghost VALUE_NEEDS_MEMORY = { true };
+
+    const VALUE_NEEDS_MEMORY: bool = true;
+
     ghost use Rattle.der_elem.specs.contracts.string.StringFormValue.TheImpl.{ghosts as string};
 
     /// # Errors
@@ -81,6 +78,8 @@ impl<'a, R: Reader<'a>> DecodeValue<'a, R> for String {
             Err(kind) => Err(reader.error(kind)),
         }
     }
+
+    ghost memory_of_value = { refl };
 }
 
 impl EncodeValue for String {

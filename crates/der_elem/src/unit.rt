@@ -4,7 +4,7 @@
 //!
 //! Reading refuses contents of any octets (7).
 
-ghost use Rattle.std.specs.Prelude.{true, refl};
+ghost use Rattle.std.specs.Prelude.{true, refl, false};
 ghost use Rattle.der_tlv.specs.declared.tag.Tag.TheVariants.{Null};
 ghost use Rattle.der_elem.specs.OwnContentsLaws.{contents_eq_own, parse_of_within, same_length_within, accepts_contents_within, only_within};
 ghost use Rattle.der_elem.specs.Null.{null_contents, parse_null, ReadsNull, unit_eq_decides};
@@ -17,7 +17,6 @@ use crate::encode::EncodeValue;
 use crate::equality::ContentsEq;
 use crate::fixed_tag::OneTag;
 use crate::form::FormValue;
-use crate::memory::{ValueMemory, WithoutMemory};
 use crate::universal_tags::NullTag;
 use der_tlv::{Error, ErrorKind, Header, Length, Reader, Tag, Writer};
 use std::alloc::Global;
@@ -56,23 +55,23 @@ impl FormValue for () {
     ghost re_reads_memory_value = { λ v e. e };
 }
 
-impl ValueMemory for () {
-    type OfValue = WithoutMemory;
-
-    ghost memory_of_value = { refl };
-}
-
 impl OneTag for () {
     type Marker = NullTag;
 }
 
 impl<'a, R: Reader<'a>> DecodeValue<'a, R> for () {
+    ghost VALUE_NEEDS_MEMORY = { false };
+
+    const VALUE_NEEDS_MEMORY: bool = false;
+
     fn decode_value(_alloc: Global, reader: &mut R, header: Header) -> Result<(), Error> {
         match null_of(read_contents(reader, header)?) {
             Ok(()) => Ok(()),
             Err(kind) => Err(reader.error(kind)),
         }
     }
+
+    ghost memory_of_value = { refl };
 }
 
 impl EncodeValue for () {

@@ -21,7 +21,6 @@ use crate::equality::{ContentsEq, EncodingEq};
 use crate::fixed_tag::OneTag;
 use crate::form::{Form, FormValue};
 use crate::items::{cmp_items, duplicate_items, encode_items, items_len};
-use crate::memory::{ValueMemory, WithMemory};
 use crate::ord::{DerOrd, ValueOrd};
 use crate::readiness::check_ready;
 use crate::sequence::Sequence;
@@ -67,13 +66,11 @@ impl<T: Form> FormValue for Vec<T> {
     ghost re_reads_memory_value = { λ v h. refl };
 }
 
-impl<T: Form> ValueMemory for Vec<T> {
-    type OfValue = WithMemory;
-
-    ghost memory_of_value = { refl };
-}
-
 impl<'a, R: Reader<'a>, T: Decode<'a, R> + Choice> DecodeValue<'a, R> for Vec<T> {
+    ghost VALUE_NEEDS_MEMORY = { true };
+
+    const VALUE_NEEDS_MEMORY: bool = true;
+
     fn decode_value(alloc: Global, reader: &mut R, _header: Header) -> Result<Vec<T>, Error> {
         check_ready(reader)?;
         let mut items = Vec::new(alloc);
@@ -85,6 +82,8 @@ impl<'a, R: Reader<'a>, T: Decode<'a, R> + Choice> DecodeValue<'a, R> for Vec<T>
         }
         Ok(items)
     }
+
+    ghost memory_of_value = { refl };
 }
 
 impl<T: Encode + Tagged> EncodeValue for Vec<T> {

@@ -14,7 +14,8 @@ use Rattle.der_opaque.specs.AnyForm.{accepts_any, parse_any}
 use Rattle.der_opaque.specs.AnyLaws.{led_any, parse_of_any}
 use Rattle.der_fields.specs.Alternatives.{parse_one}
 use Rattle.der_fields.specs.ClassTags.{class_tag}
-use Rattle.der_fields.specs.FieldLaws.{follows_some, led_some}
+use Rattle.der_elem.specs.LeadingLaws.{led_some}
+use Rattle.der_fields.specs.FieldLaws.{follows_some}
 
 -- whether this is the tag of otherName, x400Address, directoryName, ediPartyName or registeredID
 abbrev pub is_kept : Tag → Bool

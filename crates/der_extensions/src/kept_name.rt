@@ -22,8 +22,8 @@ ghost use Rattle.der_fields.specs.Alternatives.{parse_untold};
 ghost use Rattle.der_extensions.specs.KeptNames.{is_kept, parse_kept, parse_of_kept, begins_kept};
 
 use der_elem::{
-    Choice, Decode, Duplicate, EncodeValue, EncodingEq, Form, FormMemory, FormValue, Tagged,
-    ValueMemory, ValueOrd, WithoutMemory,
+    Choice, Decode, DecodeField, Duplicate, EncodeValue, EncodingEq, Form, FormValue, Tagged,
+    ValueOrd,
 };
 use der_opaque::AnyRef;
 use der_tlv::{Error, Length, Reader, Tag, TagNumber, Writer};
@@ -156,18 +156,6 @@ impl<'a> Form for KeptName<'a> {
     ghost re_reads_memory = { λ v e. e };
 }
 
-impl<'a> ValueMemory for KeptName<'a> {
-    type OfValue = WithoutMemory;
-
-    ghost memory_of_value = { refl };
-}
-
-impl<'a> FormMemory for KeptName<'a> {
-    type OfForm = WithoutMemory;
-
-    ghost memory_of_form = { refl };
-}
-
 impl<'a> Tagged for KeptName<'a> {
     ghost use Rattle.der_extensions.specs.KeptName.{tag_of, contents_of, tag_is_kept};
 
@@ -205,6 +193,10 @@ impl<'a> Choice for KeptName<'a> {
 }
 
 impl<'a, R: Reader<'a>> Decode<'a, R> for KeptName<'a> {
+    ghost NEEDS_MEMORY = { false };
+
+    const NEEDS_MEMORY: bool = false;
+
     fn decode(alloc: Global, reader: &mut R) -> Result<KeptName<'a>, Error> {
         let tag = Tag::peek(reader)?;
         if !is_kept_tag(tag) {
@@ -215,6 +207,20 @@ impl<'a, R: Reader<'a>> Decode<'a, R> for KeptName<'a> {
             Err(e) => Err(e),
         }
     }
+
+    ghost memory_of_form = { refl };
+}
+
+impl<'a, R: Reader<'a>> DecodeField<'a, R> for KeptName<'a> {
+    ghost FIELD_NEEDS_MEMORY = { false };
+
+    const FIELD_NEEDS_MEMORY: bool = false;
+
+    fn decode_field(alloc: Global, reader: &mut R) -> Result<KeptName<'a>, Error> {
+        KeptName::decode(alloc, reader)
+    }
+
+    ghost memory_of_field = { refl };
 }
 
 impl<'a> EncodeValue for KeptName<'a> {

@@ -17,7 +17,7 @@ use Rattle.der_elem.specs.FieldDecoding.{OtherTag, ToldApart, FieldDecoded}
 use Rattle.der_elem.proofs.ItemReading.{all_taken}
 use Rattle.der_fields.specs.declared.field_list.FieldList as fields
 use Rattle.der_fields.specs.FieldLists.{Apart, AcceptsField, behind_field, parse_field, parse_end}
-use Rattle.der_fields.specs.FieldLaws.{led_some}
+use Rattle.der_elem.specs.LeadingLaws.{led_some}
 use Rattle.der_fields.specs.FieldsDecoding.{FieldsDecoded}
 
 pub end_fault : (rules : EncodingRules) (p : ℕ) (c : List ℕ) → 0 < length c → parse_end rules p c ≡ Err (TrailingData p (length c))

@@ -12,7 +12,8 @@ use Rattle.der_elem.specs.Accepting.{Fits, BeginsWith, IsTlv, MayFollow}
 use Rattle.der_elem.specs.Leading.{IsLed, Leads, Starts}
 use Rattle.der_fields.specs.declared.one_of.OneOf.{OneOf}
 use Rattle.der_fields.specs.declared.one_of.OneOf.TheVariants.{First, Other}
-use Rattle.der_fields.specs.FieldLaws.{follows_some, led_some, left_part, right_part}
+use Rattle.der_elem.specs.LeadingLaws.{led_some}
+use Rattle.der_fields.specs.FieldLaws.{follows_some, left_part, right_part}
 use Rattle.der_fields.specs.TellingLaws.{same_lead}
 use Rattle.der_fields.specs.Alternatives.{TagIs, of_one, AcceptsOne, ReadableOne, OneFormOne, IsCopyOne, parse_by_tag, parse_one}
 

@@ -5,12 +5,12 @@ use Rattle.std.proofs.Math.Seq.{drop-append_seam}
 use Rattle.der_tlv.specs.declared.encoding_rules.EncodingRules.{EncodingRules}
 use Rattle.der_tlv.specs.declared.tag.Tag.{Tag}
 use Rattle.der_tlv.specs.Identifier.{identifier}
-use Rattle.der_tlv.specs.IdentifierLaws.{length-identifier-positive}
 use Rattle.der_elem.specs.declared.form.Form as form
 use Rattle.der_elem.specs.Items.{join_items}
 use Rattle.der_elem.specs.Parsing.{Parse, ContentsParse}
 use Rattle.der_elem.specs.Accepting.{Fits, BeginsWith, MayFollow}
 use Rattle.der_elem.specs.Leading.{LeadsTag, Leads}
+use Rattle.der_elem.specs.LeadingLaws.{led_some}
 use Rattle.der_fields.specs.declared.field_list.FieldList as fields
 use Rattle.der_fields.specs.FieldLists.{Apart, first_of, AcceptsField, behind_field, parse_field}
 
@@ -18,10 +18,6 @@ use Rattle.der_fields.specs.FieldLists.{Apart, first_of, AcceptsField, behind_fi
 pub follows_some : (tags : Tag → Bool) (b x : List ℕ) → 0 < length b → MayFollow tags b x
 follows_some tags [] x h = absurd (omega arith)
 follows_some tags (z ∷ b) x h = tt
-
--- octets that begin with a tag are some
-pub led_some : {t : Tag} {b : List ℕ} → LeadsTag t b → 0 < length b
-led_some {t} {b} l = omega (arith, ap length l.octets_are, length-append (identifier t) l.others, length-identifier-positive t)
 
 pub left_part : (a b : Bool) → a ≡ true → (a || b) ≡ true
 left_part a b e = ap (λ a. a || b) e

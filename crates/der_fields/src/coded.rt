@@ -1,14 +1,20 @@
 //! Reading and writing the fields of a SEQUENCE.
 
+ghost use Rattle.std.specs.Prelude.{◌≡◌, Bool};
 ghost use Rattle.der_elem.specs.Encoding.{Encodes, Measures};
 ghost use Rattle.der_fields.specs.FieldsDecoding.{DecodesFields};
 
-use crate::field_list::{FieldList, FieldsMemory};
+use crate::field_list::FieldList;
 use der_tlv::{Error, Length, Reader, Writer};
 use std::alloc::Global;
 
 /// Reading fields from all of the octets that a reader shows.
-pub trait DecodeFields<'a, R: Reader<'a>>: FieldsMemory {
+pub trait DecodeFields<'a, R: Reader<'a>>: FieldList {
+    ghost FIELDS_NEED_MEMORY: { Bool };
+
+    /// Whether reading the fields takes memory.
+    const FIELDS_NEED_MEMORY: bool;
+
     /// Reads the fields from all of the octets that the reader shows.
     ///
     /// # Errors
@@ -17,6 +23,8 @@ pub trait DecodeFields<'a, R: Reader<'a>>: FieldsMemory {
     /// field takes memory.
     fn decode_fields(alloc: Global, reader: &mut R) -> Result<Self, Error>
         ensures { DecodesFields Self.FieldList (R.state reader.old) (R.state reader.new) result };
+
+    ghost memory_of_fields: { Self.FIELDS_NEED_MEMORY ≡ Self.FIELDS_TAKE_MEMORY };
 }
 
 /// Writing fields.

@@ -10,10 +10,10 @@ ghost use Rattle.der_fields.specs.FieldLists.{parse_end};
 use crate::coded::{DecodeFields, EncodeFields};
 use crate::copied::DuplicateFields;
 use crate::equal::FieldsEq;
-use crate::field_list::{FieldList, FieldsMemory};
+use crate::field_list::FieldList;
 use crate::ordered::{FieldsLead, FieldsOrd};
 use crate::soundness::is_sound;
-use der_elem::{WithoutMemory, check_ready};
+use der_elem::check_ready;
 use der_tlv::{Error, ErrorKind, Length, Reader, Tag, Writer};
 use std::alloc::Global;
 use std::cmp::Ordering;
@@ -54,13 +54,11 @@ impl FieldList for End {
     ghost re_read_memory = { λ v e. e };
 }
 
-impl FieldsMemory for End {
-    type OfFields = WithoutMemory;
-
-    ghost memory_of_fields = { refl };
-}
-
 impl<'a, R: Reader<'a>> DecodeFields<'a, R> for End {
+    ghost FIELDS_NEED_MEMORY = { false };
+
+    const FIELDS_NEED_MEMORY: bool = false;
+
     fn decode_fields(_alloc: Global, reader: &mut R) -> Result<End, Error> {
         check_ready(reader)?;
         if reader.is_finished() {
@@ -71,6 +69,8 @@ impl<'a, R: Reader<'a>> DecodeFields<'a, R> for End {
         let remaining = reader.remaining_len();
         Err(reader.error(ErrorKind::TrailingData { decoded, remaining }))
     }
+
+    ghost memory_of_fields = { refl };
 }
 
 impl EncodeFields for End {

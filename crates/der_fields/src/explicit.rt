@@ -11,11 +11,9 @@ use crate::copied::DuplicateFields;
 use crate::end::End;
 use crate::equal::FieldsEq;
 use crate::field::Field;
-use crate::field_list::{FieldList, FieldsMemory};
+use crate::field_list::FieldList;
 use crate::ordered::FieldsOrd;
-use der_elem::{
-    ContentsEq, DecodeValue, DuplicateValue, EncodeValue, FormValue, OneTag, ValueMemory, ValueOrd,
-};
+use der_elem::{ContentsEq, DecodeValue, DuplicateValue, EncodeValue, FormValue, OneTag, ValueOrd};
 use der_tlv::{Error, Header, Length, Reader, Writer};
 use std::alloc::Global;
 use std::cmp::Ordering;
@@ -72,17 +70,14 @@ impl<F: FieldList, const CLASS: u8, const NUMBER: u32> FormValue for ExplicitIn<
     ghost re_reads_memory_value = { λ v. F.re_read_memory v.fields };
 }
 
-impl<F: FieldsMemory, const CLASS: u8, const NUMBER: u32> ValueMemory
-    for ExplicitIn<F, CLASS, NUMBER> {
-    type OfValue = <F as FieldsMemory>::OfFields;
-
-    ghost memory_of_value = { F.memory_of_fields };
-}
-
 impl<'a, R: Reader<'a>, F: DecodeFields<'a, R>, const CLASS: u8, const NUMBER: u32> DecodeValue<
     'a,
     R,
 > for ExplicitIn<F, CLASS, NUMBER> {
+    ghost VALUE_NEEDS_MEMORY = { F.FIELDS_NEED_MEMORY };
+
+    const VALUE_NEEDS_MEMORY: bool = F::FIELDS_NEED_MEMORY;
+
     fn decode_value(
         alloc: Global,
         reader: &mut R,
@@ -91,6 +86,8 @@ impl<'a, R: Reader<'a>, F: DecodeFields<'a, R>, const CLASS: u8, const NUMBER: u
         let fields = F::decode_fields(alloc, reader)?;
         Ok(ExplicitIn { fields })
     }
+
+    ghost memory_of_value = { F.memory_of_fields };
 }
 
 impl<F: EncodeFields, const CLASS: u8, const NUMBER: u32> EncodeValue

@@ -13,11 +13,10 @@ ghost use Rattle.der_fields.specs.CopyingLaws.{copy_both, copy_forms_both, copy_
 use crate::coded::{DecodeFields, EncodeFields};
 use crate::copied::DuplicateFields;
 use crate::equal::FieldsEq;
-use crate::field_list::{FieldList, FieldsMemory};
-use crate::memory::EitherMemory;
+use crate::field_list::FieldList;
 use crate::ordered::{FieldsLead, FieldsOrd, both_or_none, cmp_leads};
 use crate::soundness::is_sound;
-use der_elem::{DecodeField, DerOrd, Duplicate, Encode, EncodingEq, FirstTag, Form, FormMemory};
+use der_elem::{DecodeField, DerOrd, Duplicate, Encode, EncodingEq, FirstTag, Form};
 use der_tlv::{Error, Length, Reader, Tag, Writer};
 use std::alloc::Global;
 use std::cmp::Ordering;
@@ -72,14 +71,12 @@ impl<T: Form, Rest: FieldList> FieldList for Field<T, Rest> {
     ghost re_read_memory = { λ v. re_read_field T.Form Rest.FieldList v.first v.rest };
 }
 
-impl<T: FormMemory, Rest: FieldsMemory> FieldsMemory for Field<T, Rest> {
-    type OfFields = EitherMemory<<T as FormMemory>::OfForm, <Rest as FieldsMemory>::OfFields>;
-
-    ghost memory_of_fields = { either_memory T.memory_of_form Rest.memory_of_fields };
-}
-
 impl<'a, R: Reader<'a>, T: DecodeField<'a, R>, Rest: DecodeFields<'a, R>> DecodeFields<'a, R>
     for Field<T, Rest> {
+    ghost FIELDS_NEED_MEMORY = { T.FIELD_NEEDS_MEMORY || Rest.FIELDS_NEED_MEMORY };
+
+    const FIELDS_NEED_MEMORY: bool = T::FIELD_NEEDS_MEMORY || Rest::FIELDS_NEED_MEMORY;
+
     fn decode_fields(alloc: Global, reader: &mut R) -> Result<Field<T, Rest>, Error> {
         is_sound(reader);
         let first = T::decode_field(alloc, reader)?;
@@ -87,6 +84,8 @@ impl<'a, R: Reader<'a>, T: DecodeField<'a, R>, Rest: DecodeFields<'a, R>> Decode
         is_sound(reader);
         Ok(Field { first, rest })
     }
+
+    ghost memory_of_fields = { either_memory T.memory_of_field Rest.memory_of_fields };
 }
 
 impl<T: Encode, Rest: EncodeFields> EncodeFields for Field<T, Rest> {

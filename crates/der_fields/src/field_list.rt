@@ -7,8 +7,6 @@ ghost use Rattle.der_elem.specs.Parsing.{ContentsParse};
 ghost use Rattle.der_elem.specs.Accepting.{Fits};
 ghost use Rattle.der_elem.specs.Leading.{Leads};
 
-use der_elem::Memory;
-
 /// The fields of a SEQUENCE, whose encodings stand one after another (X.690 8.9).
 ///
 /// `End` and `Field` are lists. A struct of one's own that has a list as its one member may be one
@@ -57,12 +55,4 @@ pub trait FieldList: Sized + Drop {
         → accepts_fields rules v c → accepts_fields rules w d → all_comparable v w };
 
     ghost re_read_memory: { (v : Self) → re_read v ≡ true → FIELDS_TAKE_MEMORY ≡ true };
-}
-
-/// Fields that say whether reading them takes memory.
-pub trait FieldsMemory: FieldList {
-    /// The answer.
-    type OfFields: Memory;
-
-    ghost memory_of_fields: { Self.OfFields.IS_TAKEN ≡ Self.FIELDS_TAKE_MEMORY };
 }

@@ -13,11 +13,11 @@ ghost use Rattle.der_fields.specs.SequenceWriting.{WritesAll};
 use crate::coded::{DecodeFields, EncodeFields};
 use crate::copied::DuplicateFields;
 use crate::equal::FieldsEq;
-use crate::field_list::{FieldList, FieldsMemory};
+use crate::field_list::FieldList;
 use crate::ordered::FieldsOrd;
 use der_elem::{
     ContentsEq, DecodeValue, DuplicateValue, Encode, EncodeValue, Form, FormValue, FromDer, OneTag,
-    Sequence, SequenceTag, ValueMemory, ValueOrd,
+    Sequence, SequenceTag, ValueOrd,
 };
 use der_tlv::{Error, Header, Length, Reader, SliceReader, Writer};
 use std::alloc::Global;
@@ -69,13 +69,11 @@ impl<'a, F> Sequence<'a> for FieldSequence<F> {
     ghost is_sequence = { refl };
 }
 
-impl<F: FieldsMemory> ValueMemory for FieldSequence<F> {
-    type OfValue = <F as FieldsMemory>::OfFields;
-
-    ghost memory_of_value = { F.memory_of_fields };
-}
-
 impl<'a, R: Reader<'a>, F: DecodeFields<'a, R>> DecodeValue<'a, R> for FieldSequence<F> {
+    ghost VALUE_NEEDS_MEMORY = { F.FIELDS_NEED_MEMORY };
+
+    const VALUE_NEEDS_MEMORY: bool = F::FIELDS_NEED_MEMORY;
+
     fn decode_value(
         alloc: Global,
         reader: &mut R,
@@ -84,6 +82,8 @@ impl<'a, R: Reader<'a>, F: DecodeFields<'a, R>> DecodeValue<'a, R> for FieldSequ
         let fields = F::decode_fields(alloc, reader)?;
         Ok(FieldSequence { fields })
     }
+
+    ghost memory_of_value = { F.memory_of_fields };
 }
 
 impl<F: EncodeFields> EncodeValue for FieldSequence<F> {

@@ -6,9 +6,7 @@
 //! Reading refuses another tag, also that of the other form, (4), and the contents' faults.
 
 use crate::class_tag::ImplicitTag;
-use der_elem::{
-    ContentsEq, DecodeValue, DuplicateValue, EncodeValue, FormValue, OneTag, ValueMemory, ValueOrd,
-};
+use der_elem::{ContentsEq, DecodeValue, DuplicateValue, EncodeValue, FormValue, OneTag, ValueOrd};
 use der_tlv::{Error, Header, Length, Reader, Writer};
 use std::alloc::Global;
 use std::cmp::Ordering;
@@ -65,17 +63,14 @@ impl<T: FormValue, const CLASS: u8, const NUMBER: u32> FormValue for ImplicitIn<
     ghost re_reads_memory_value = { λ v. T.re_reads_memory_value v.value };
 }
 
-impl<T: ValueMemory, const CLASS: u8, const NUMBER: u32> ValueMemory
-    for ImplicitIn<T, CLASS, NUMBER> {
-    type OfValue = <T as ValueMemory>::OfValue;
-
-    ghost memory_of_value = { T.memory_of_value };
-}
-
 impl<'a, R: Reader<'a>, T: DecodeValue<'a, R>, const CLASS: u8, const NUMBER: u32> DecodeValue<
     'a,
     R,
 > for ImplicitIn<T, CLASS, NUMBER> {
+    ghost VALUE_NEEDS_MEMORY = { T.VALUE_NEEDS_MEMORY };
+
+    const VALUE_NEEDS_MEMORY: bool = T::VALUE_NEEDS_MEMORY;
+
     fn decode_value(
         alloc: Global,
         reader: &mut R,
@@ -84,6 +79,8 @@ impl<'a, R: Reader<'a>, T: DecodeValue<'a, R>, const CLASS: u8, const NUMBER: u3
         let value = T::decode_value(alloc, reader, header)?;
         Ok(ImplicitIn { value })
     }
+
+    ghost memory_of_value = { T.memory_of_value };
 }
 
 impl<T: EncodeValue, const CLASS: u8, const NUMBER: u32> EncodeValue

@@ -15,9 +15,8 @@ ghost use Rattle.der_fields.specs.Alternatives.{of_one, AcceptsOne, ReadableOne,
 ghost use Rattle.der_fields.specs.FieldLaws.{either_memory};
 ghost use Rattle.der_fields.specs.AlternativeLaws.{parse_of_one, begins_one, led_one, same_length_one, accepts_one_encoding, readable_of_one, comparable_of_one, test_of_one, test_alike, encoding_is_one, lead_is_one, own_tag_one, is_led_one, is_tlv_one, encoding_eq_one, copy_encoding_one, copy_form_one, copy_re_reads_one};
 
-use crate::memory::EitherMemory;
 use der_elem::{
-    Choice, Decode, DerOrd, Duplicate, EncodeValue, EncodingEq, FirstTag, Form, FormMemory,
+    Choice, Decode, DecodeField, DerOrd, Duplicate, EncodeValue, EncodingEq, FirstTag, Form,
     FormValue, Tagged,
 };
 use der_tlv::{Error, Length, Reader, Tag, Writer};
@@ -69,12 +68,6 @@ impl<A: Form, B: Form> Form for OneOf<A, B> {
 
     ghost re_reads_memory = { test_of_one A.re_reads B.re_reads A.TAKES_MEMORY B.TAKES_MEMORY
         A.re_reads_memory B.re_reads_memory };
-}
-
-impl<A: FormMemory, B: FormMemory> FormMemory for OneOf<A, B> {
-    type OfForm = EitherMemory<<A as FormMemory>::OfForm, <B as FormMemory>::OfForm>;
-
-    ghost memory_of_form = { either_memory A.memory_of_form B.memory_of_form };
 }
 
 /// The contents octets are those of the alternative. With no tag they do not tell which it is, so a
@@ -139,6 +132,10 @@ impl<A: Choice, B: Choice> Choice for OneOf<A, B> {
 
 impl<'a, R: Reader<'a>, A: Decode<'a, R> + Choice, B: Decode<'a, R> + Choice> Decode<'a, R>
     for OneOf<A, B> {
+    ghost NEEDS_MEMORY = { A.NEEDS_MEMORY || B.NEEDS_MEMORY };
+
+    const NEEDS_MEMORY: bool = A::NEEDS_MEMORY || B::NEEDS_MEMORY;
+
     fn decode(alloc: Global, reader: &mut R) -> Result<OneOf<A, B>, Error> {
         let tag = Tag::peek(reader)?;
         if A::can_decode(tag) {
@@ -149,6 +146,21 @@ impl<'a, R: Reader<'a>, A: Decode<'a, R> + Choice, B: Decode<'a, R> + Choice> De
         }
         Err(reader.error(tag.unexpected_error(None)))
     }
+
+    ghost memory_of_form = { either_memory A.memory_of_form B.memory_of_form };
+}
+
+impl<'a, R: Reader<'a>, A: Decode<'a, R> + Choice, B: Decode<'a, R> + Choice> DecodeField<'a, R>
+    for OneOf<A, B> {
+    ghost FIELD_NEEDS_MEMORY = { A.NEEDS_MEMORY || B.NEEDS_MEMORY };
+
+    const FIELD_NEEDS_MEMORY: bool = A::NEEDS_MEMORY || B::NEEDS_MEMORY;
+
+    fn decode_field(alloc: Global, reader: &mut R) -> Result<OneOf<A, B>, Error> {
+        OneOf::<A, B>::decode(alloc, reader)
+    }
+
+    ghost memory_of_field = { either_memory A.memory_of_form B.memory_of_form };
 }
 
 impl<A: EncodeValue, B: EncodeValue> EncodeValue for OneOf<A, B> {

@@ -14,8 +14,8 @@ ghost use Rattle.der_fields.specs.DefaultLaws.{parse_of_default, begins_default,
 
 use crate::default::DefaultOf;
 use der_elem::{
-    Choice, Decode, DecodeField, DerOrd, Duplicate, Encode, EncodingEq, FirstTag, Form, FormMemory,
-    Tagged, check_ready,
+    Choice, Decode, DecodeField, DerOrd, Duplicate, Encode, EncodingEq, FirstTag, Form, Tagged,
+    check_ready,
 };
 use der_tlv::{Error, Length, Reader, Tag, Writer};
 use std::alloc::Global;
@@ -90,12 +90,6 @@ impl<T: Form, D: DefaultOf<T>> Form for WithDefault<T, D> {
         (is_default D.octets (T.encoding v.value)) v.value };
 }
 
-impl<T: FormMemory, D: DefaultOf<T>> FormMemory for WithDefault<T, D> {
-    type OfForm = <T as FormMemory>::OfForm;
-
-    ghost memory_of_form = { T.memory_of_form };
-}
-
 impl<T: Encode, D: DefaultOf<T>> Encode for WithDefault<T, D> {
     fn encoded_len(&self) -> Result<Length, Error> {
         if D::is_default(&self.value) {
@@ -114,6 +108,10 @@ impl<T: Encode, D: DefaultOf<T>> Encode for WithDefault<T, D> {
 
 impl<'a, R: Reader<'a>, T: Decode<'a, R> + Choice, D: DefaultOf<T>> DecodeField<'a, R>
     for WithDefault<T, D> {
+    ghost FIELD_NEEDS_MEMORY = { T.NEEDS_MEMORY };
+
+    const FIELD_NEEDS_MEMORY: bool = T::NEEDS_MEMORY;
+
     fn decode_field(alloc: Global, reader: &mut R) -> Result<WithDefault<T, D>, Error> {
         if reader.is_finished() {
             check_ready(reader)?;
@@ -131,6 +129,8 @@ impl<'a, R: Reader<'a>, T: Decode<'a, R> + Choice, D: DefaultOf<T>> DecodeField<
         }
         Ok(WithDefault::new(value))
     }
+
+    ghost memory_of_field = { T.memory_of_form };
 }
 
 impl<T: PartialEq, D> PartialEq for WithDefault<T, D> {

@@ -2,7 +2,7 @@
 //!
 //! The tag is 30. Any octets are taken.
 
-ghost use Rattle.std.specs.Prelude.{◌≡◌, ◌^◌, ◌<◌, length, refl};
+ghost use Rattle.std.specs.Prelude.{◌≡◌, ◌^◌, ◌<◌, length, refl, false};
 ghost use Rattle.std.proofs.Common.{Ok};
 ghost use Rattle.std.specs.Cmp.Lexicographic.{bytes_decides};
 ghost use Rattle.der_tlv.specs.declared.tag.Tag.TheVariants as tags;
@@ -11,8 +11,7 @@ ghost use Rattle.der_elem.specs.OwnContents.{accepts_within};
 ghost use Rattle.der_elem.specs.OwnContentsLaws.{parse_of_within, same_length_within, accepts_contents_within, only_within};
 
 use der_elem::{
-    ContentsEq, CopyIsDuplicate, DecodeValue, EncodeValue, FormValue, OneTag, Sequence,
-    SequenceTag, ValueMemory, WithoutMemory,
+    ContentsEq, CopyIsDuplicate, DecodeValue, EncodeValue, FormValue, OneTag, Sequence, SequenceTag,
 };
 use der_tlv::{Error, Header, Length, Reader, Tag, Writer};
 use std::alloc::Global;
@@ -73,12 +72,6 @@ impl<'a> FormValue for SequenceRef<'a> {
     ghost re_reads_memory_value = { λ v e. e };
 }
 
-impl<'a> ValueMemory for SequenceRef<'a> {
-    type OfValue = WithoutMemory;
-
-    ghost memory_of_value = { refl };
-}
-
 impl<'a> OneTag for SequenceRef<'a> {
     type Marker = SequenceTag;
 }
@@ -88,6 +81,10 @@ impl<'a> Sequence<'a> for SequenceRef<'a> {
 }
 
 impl<'a, R: Reader<'a>> DecodeValue<'a, R> for SequenceRef<'a> {
+    ghost VALUE_NEEDS_MEMORY = { false };
+
+    const VALUE_NEEDS_MEMORY: bool = false;
+
     fn decode_value(
         _alloc: Global,
         reader: &mut R,
@@ -96,6 +93,8 @@ impl<'a, R: Reader<'a>> DecodeValue<'a, R> for SequenceRef<'a> {
         let octets = reader.read_slice(header.length)?;
         Ok(SequenceRef { octets })
     }
+
+    ghost memory_of_value = { refl };
 }
 
 impl<'a> EncodeValue for SequenceRef<'a> {

@@ -31,9 +31,8 @@ use crate::set_of_vec::SetOfVec;
 use checked_octets::CheckedOctets;
 use comparing::cmp_borrowed;
 use der_elem::{
-    Decode, DecodeValue, DerOrd, Duplicate, DuplicateValue, Encode, EncodeValue, Form, FormMemory,
-    FormValue, OneTag, SetTag, Tagged, ValueMemory, ValueOrd, encode_items, items_len,
-    read_contents,
+    Decode, DecodeValue, DerOrd, Duplicate, DuplicateValue, Encode, EncodeValue, Form, FormValue,
+    OneTag, SetTag, Tagged, ValueOrd, encode_items, items_len, read_contents,
 };
 use der_tlv::{Error, ErrorKind, Header, Length, Reader, SliceReader, Writer};
 use std::alloc::{AllocError, Global};
@@ -237,14 +236,12 @@ impl<'a, T: Form> FormValue for SetOfRef<'a, T> {
     ghost re_reads_memory_value = { re_reads_borrowed_memory T.Form };
 }
 
-impl<'a, T: FormMemory> ValueMemory for SetOfRef<'a, T> {
-    type OfValue = <T as FormMemory>::OfForm;
-
-    ghost memory_of_value = { T.memory_of_form };
-}
-
 impl<'a, R: Reader<'a>, T: Decode<'a, SliceReader<'a>> + DerOrd + Tagged> DecodeValue<'a, R>
     for SetOfRef<'a, T> {
+    ghost VALUE_NEEDS_MEMORY = { T.NEEDS_MEMORY };
+
+    const VALUE_NEEDS_MEMORY: bool = T::NEEDS_MEMORY;
+
     fn decode_value(
         alloc: Global,
         reader: &mut R,
@@ -262,6 +259,8 @@ impl<'a, R: Reader<'a>, T: Decode<'a, SliceReader<'a>> + DerOrd + Tagged> Decode
             }
         }
     }
+
+    ghost memory_of_value = { T.memory_of_form };
 }
 
 impl<'a, T: Decode<'a, SliceReader<'a>> + Encode + Tagged> EncodeValue for SetOfRef<'a, T> {

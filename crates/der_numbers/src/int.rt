@@ -23,7 +23,7 @@ use crate::octets::{contents_len, is_high};
 use crate::uint::Uint;
 use der_elem::{
     ContentsEq, DecodeValue, DuplicateValue, EncodeValue, FormValue, IntegerTag, OneTag,
-    OrdIsValueOrd, ValueMemory, WithMemory,
+    OrdIsValueOrd,
 };
 use der_tlv::{Error, Header, Length, Reader, Tag, VecWriter, Writer};
 use std::alloc::{AllocError, Global};
@@ -160,17 +160,15 @@ impl FormValue for Int {
     ghost re_reads_memory_value = { λ v e. refl };
 }
 
-impl ValueMemory for Int {
-    type OfValue = WithMemory;
-
-    ghost memory_of_value = { refl };
-}
-
 impl OneTag for Int {
     type Marker = IntegerTag;
 }
 
 impl<'a, R: Reader<'a>> DecodeValue<'a, R> for Int {
+    ghost VALUE_NEEDS_MEMORY = { true };
+
+    const VALUE_NEEDS_MEMORY: bool = true;
+
     ghost use Rattle.der_numbers.specs.contracts.int.IntFormValue.TheImpl.{ghosts as int};
 
     /// # Errors
@@ -189,6 +187,8 @@ impl<'a, R: Reader<'a>> DecodeValue<'a, R> for Int {
             Err(e) => Err(e),
         }
     }
+
+    ghost memory_of_value = { refl };
 }
 
 impl EncodeValue for Int {

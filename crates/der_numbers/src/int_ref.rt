@@ -21,7 +21,7 @@ use crate::int::Int;
 use crate::octets::{check_integer, strip_redundant};
 use der_elem::{
     ContentsEq, CopyIsDuplicate, DecodeValue, EncodeValue, Form, FormValue, IntegerTag, OneTag,
-    OrdIsValueOrd, Tagged, ValueMemory, WithoutMemory,
+    OrdIsValueOrd, Tagged,
 };
 use der_opaque::{Any, AnyRef};
 use der_tlv::{Error, ErrorKind, Header, Length, Reader, Tag, Writer};
@@ -135,17 +135,15 @@ impl<'a> FormValue for IntRef<'a> {
     ghost re_reads_memory_value = { λ v e. e };
 }
 
-impl<'a> ValueMemory for IntRef<'a> {
-    type OfValue = WithoutMemory;
-
-    ghost memory_of_value = { refl };
-}
-
 impl<'a> OneTag for IntRef<'a> {
     type Marker = IntegerTag;
 }
 
 impl<'a, R: Reader<'a>> DecodeValue<'a, R> for IntRef<'a> {
+    ghost VALUE_NEEDS_MEMORY = { false };
+
+    const VALUE_NEEDS_MEMORY: bool = false;
+
     fn decode_value(_alloc: Global, reader: &mut R, header: Header) -> Result<IntRef<'a>, Error> {
         let octets = reader.read_slice(header.length)?;
         match IntRef::from_contents(octets) {
@@ -153,6 +151,8 @@ impl<'a, R: Reader<'a>> DecodeValue<'a, R> for IntRef<'a> {
             Err(kind) => Err(reader.error(kind)),
         }
     }
+
+    ghost memory_of_value = { refl };
 }
 
 impl<'a> EncodeValue for IntRef<'a> {

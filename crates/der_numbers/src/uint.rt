@@ -26,7 +26,7 @@ use crate::octets::{compare_contents, contents_len, write_contents};
 use crate::uint_ref::{AsUintRef, UintRef};
 use der_elem::{
     ContentsEq, DecodeValue, DuplicateValue, EncodeValue, FormValue, IntegerTag, OneTag,
-    OrdIsValueOrd, ValueMemory, WithMemory,
+    OrdIsValueOrd,
 };
 use der_tlv::{Error, Header, Length, Reader, Writer};
 use std::alloc::{AllocError, Global};
@@ -144,17 +144,15 @@ impl FormValue for Uint {
     ghost re_reads_memory_value = { λ v e. refl };
 }
 
-impl ValueMemory for Uint {
-    type OfValue = WithMemory;
-
-    ghost memory_of_value = { refl };
-}
-
 impl OneTag for Uint {
     type Marker = IntegerTag;
 }
 
 impl<'a, R: Reader<'a>> DecodeValue<'a, R> for Uint {
+    ghost VALUE_NEEDS_MEMORY = { true };
+
+    const VALUE_NEEDS_MEMORY: bool = true;
+
     ghost use Rattle.der_numbers.specs.contracts.uint.UintFormValue.TheImpl.{ghosts as uint};
 
     /// # Errors
@@ -173,6 +171,8 @@ impl<'a, R: Reader<'a>> DecodeValue<'a, R> for Uint {
             Err(e) => Err(e),
         }
     }
+
+    ghost memory_of_value = { refl };
 }
 
 impl EncodeValue for Uint {

@@ -26,7 +26,7 @@ use crate::octets::{check_natural, compare_contents, contents_len, strip_zeros, 
 use crate::uint::Uint;
 use der_elem::{
     ContentsEq, CopyIsDuplicate, DecodeValue, EncodeValue, Form, FormValue, IntegerTag, OneTag,
-    OrdIsValueOrd, Tagged, ValueMemory, WithoutMemory,
+    OrdIsValueOrd, Tagged,
 };
 use der_opaque::{Any, AnyRef};
 use der_tlv::{Error, ErrorKind, Header, Length, Reader, Tag, Writer};
@@ -153,17 +153,15 @@ impl<'a> FormValue for UintRef<'a> {
     ghost re_reads_memory_value = { λ v e. e };
 }
 
-impl<'a> ValueMemory for UintRef<'a> {
-    type OfValue = WithoutMemory;
-
-    ghost memory_of_value = { refl };
-}
-
 impl<'a> OneTag for UintRef<'a> {
     type Marker = IntegerTag;
 }
 
 impl<'a, R: Reader<'a>> DecodeValue<'a, R> for UintRef<'a> {
+    ghost VALUE_NEEDS_MEMORY = { false };
+
+    const VALUE_NEEDS_MEMORY: bool = false;
+
     fn decode_value(_alloc: Global, reader: &mut R, header: Header) -> Result<UintRef<'a>, Error> {
         let octets = reader.read_slice(header.length)?;
         match UintRef::from_contents(octets) {
@@ -171,6 +169,8 @@ impl<'a, R: Reader<'a>> DecodeValue<'a, R> for UintRef<'a> {
             Err(kind) => Err(reader.error(kind)),
         }
     }
+
+    ghost memory_of_value = { refl };
 }
 
 impl<'a> EncodeValue for UintRef<'a> {

@@ -25,8 +25,8 @@ ghost use Rattle.der_tlv.specs.Views.{slice_reader_state};
 
 use crate::any_ref::AnyRef;
 use der_elem::{
-    Choice, Decode, DecodeValue, Duplicate, EncodeValue, EncodingEq, Form, FormMemory, FormValue,
-    Tagged, ValueMemory, ValueOrd, WithMemory,
+    Choice, Decode, DecodeField, DecodeValue, Duplicate, EncodeValue, EncodingEq, Form, FormValue,
+    Tagged, ValueOrd,
 };
 use der_tlv::{
     EncodingRules, Error, ErrorKind, Header, Length, Reader, SliceReader, Tag, VecWriter, Writer,
@@ -279,18 +279,6 @@ impl Form for Any {
     ghost re_reads_memory = { λ v e. refl };
 }
 
-impl ValueMemory for Any {
-    type OfValue = WithMemory;
-
-    ghost memory_of_value = { refl };
-}
-
-impl FormMemory for Any {
-    type OfForm = WithMemory;
-
-    ghost memory_of_form = { refl };
-}
-
 impl Tagged for Any {
     ghost use Rattle.der_opaque.specs.Any.{tag_of, contents_of};
 
@@ -325,6 +313,10 @@ impl Choice for Any {
 }
 
 impl<'a, R: Reader<'a>> DecodeValue<'a, R> for Any {
+    ghost VALUE_NEEDS_MEMORY = { true };
+
+    const VALUE_NEEDS_MEMORY: bool = true;
+
     ghost use Rattle.der_opaque.specs.contracts.any.AnyFormValue.TheImpl.{ghosts as any};
 
     /// # Errors
@@ -342,9 +334,15 @@ impl<'a, R: Reader<'a>> DecodeValue<'a, R> for Any {
             Err(e) => Err(e),
         }
     }
+
+    ghost memory_of_value = { refl };
 }
 
 impl<'a, R: Reader<'a>> Decode<'a, R> for Any {
+    ghost NEEDS_MEMORY = { true };
+
+    const NEEDS_MEMORY: bool = true;
+
     ghost use Rattle.der_opaque.specs.contracts.any.AnyForm.TheImpl.{ghosts as any_form};
 
     /// # Errors
@@ -362,6 +360,20 @@ impl<'a, R: Reader<'a>> Decode<'a, R> for Any {
             Err(e) => Err(e),
         }
     }
+
+    ghost memory_of_form = { refl };
+}
+
+impl<'a, R: Reader<'a>> DecodeField<'a, R> for Any {
+    ghost FIELD_NEEDS_MEMORY = { true };
+
+    const FIELD_NEEDS_MEMORY: bool = true;
+
+    fn decode_field(alloc: Global, reader: &mut R) -> Result<Any, Error> {
+        Any::decode(alloc, reader)
+    }
+
+    ghost memory_of_field = { refl };
 }
 
 impl EncodeValue for Any {

@@ -20,8 +20,8 @@ ghost use Rattle.der_tlv.specs.Views.{slice_reader_state};
 
 use crate::any::Any;
 use der_elem::{
-    Choice, Decode, DecodeValue, Duplicate, EncodeValue, EncodingEq, Form, FormMemory, FormValue,
-    Tagged, ValueMemory, ValueOrd, WithoutMemory,
+    Choice, Decode, DecodeField, DecodeValue, Duplicate, EncodeValue, EncodingEq, Form, FormValue,
+    Tagged, ValueOrd,
 };
 use der_tlv::{BytesRef, EncodingRules, Error, Header, Length, Reader, SliceReader, Tag, Writer};
 use std::alloc::Global;
@@ -244,18 +244,6 @@ impl<'a> Form for AnyRef<'a> {
     ghost re_reads_memory = { λ v e. e };
 }
 
-impl<'a> ValueMemory for AnyRef<'a> {
-    type OfValue = WithoutMemory;
-
-    ghost memory_of_value = { refl };
-}
-
-impl<'a> FormMemory for AnyRef<'a> {
-    type OfForm = WithoutMemory;
-
-    ghost memory_of_form = { refl };
-}
-
 impl<'a> Tagged for AnyRef<'a> {
     ghost use Rattle.der_opaque.specs.AnyRef.{tag_of, contents_of};
 
@@ -293,6 +281,10 @@ impl<'a> Choice for AnyRef<'a> {
 }
 
 impl<'a, R: Reader<'a>> DecodeValue<'a, R> for AnyRef<'a> {
+    ghost VALUE_NEEDS_MEMORY = { false };
+
+    const VALUE_NEEDS_MEMORY: bool = false;
+
     fn decode_value(_alloc: Global, reader: &mut R, header: Header) -> Result<AnyRef<'a>, Error> {
         let _number = header.tag.number();
         let value = reader.read_slice(header.length)?;
@@ -301,13 +293,33 @@ impl<'a, R: Reader<'a>> DecodeValue<'a, R> for AnyRef<'a> {
             value,
         })
     }
+
+    ghost memory_of_value = { refl };
 }
 
 impl<'a, R: Reader<'a>> Decode<'a, R> for AnyRef<'a> {
+    ghost NEEDS_MEMORY = { false };
+
+    const NEEDS_MEMORY: bool = false;
+
     #[inline(always)]
     fn decode(_alloc: Global, reader: &mut R) -> Result<AnyRef<'a>, Error> {
         AnyRef::read(reader)
     }
+
+    ghost memory_of_form = { refl };
+}
+
+impl<'a, R: Reader<'a>> DecodeField<'a, R> for AnyRef<'a> {
+    ghost FIELD_NEEDS_MEMORY = { false };
+
+    const FIELD_NEEDS_MEMORY: bool = false;
+
+    fn decode_field(_alloc: Global, reader: &mut R) -> Result<AnyRef<'a>, Error> {
+        AnyRef::read(reader)
+    }
+
+    ghost memory_of_field = { refl };
 }
 
 impl<'a> EncodeValue for AnyRef<'a> {

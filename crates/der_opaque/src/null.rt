@@ -2,7 +2,7 @@
 //!
 //! The tag is 05, and there are no contents octets.
 
-ghost use Rattle.std.specs.Prelude.{◌≡◌, [], length, refl};
+ghost use Rattle.std.specs.Prelude.{◌≡◌, [], length, refl, false};
 ghost use Rattle.der_tlv.specs.declared.tag.Tag.TheVariants as tags;
 ghost use Rattle.der_tlv.specs.declared.encoding_rules.EncodingRules.TheVariants.{Der};
 ghost use Rattle.der_opaque.specs.DecodingAs.{DecodesAs};
@@ -17,7 +17,7 @@ use crate::any::Any;
 use crate::any_ref::AnyRef;
 use der_elem::{
     ContentsEq, CopyIsDuplicate, DecodeValue, EncodeValue, Form, FormValue, NullTag, OneTag,
-    OrdIsValueOrd, Tagged, ValueMemory, WithoutMemory,
+    OrdIsValueOrd, Tagged,
 };
 use der_tlv::{Error, Header, Length, Reader, Tag, Writer};
 use std::alloc::Global;
@@ -50,23 +50,23 @@ impl FormValue for Null {
     ghost re_reads_memory_value = { λ v e. e };
 }
 
-impl ValueMemory for Null {
-    type OfValue = WithoutMemory;
-
-    ghost memory_of_value = { refl };
-}
-
 impl OneTag for Null {
     type Marker = NullTag;
 }
 
 impl<'a, R: Reader<'a>> DecodeValue<'a, R> for Null {
+    ghost VALUE_NEEDS_MEMORY = { false };
+
+    const VALUE_NEEDS_MEMORY: bool = false;
+
     fn decode_value(_alloc: Global, reader: &mut R, header: Header) -> Result<Null, Error> {
         match reader.read_slice(header.length)? {
             [] => Ok(Null),
             _ => Err(reader.error(Tag::Null.length_error())),
         }
     }
+
+    ghost memory_of_value = { refl };
 }
 
 impl EncodeValue for Null {

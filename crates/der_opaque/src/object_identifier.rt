@@ -2,7 +2,7 @@
 //!
 //! The tag is 06. The contents octets are kept as they stand: they are not split into arcs.
 
-ghost use Rattle.std.specs.Prelude.{◌≡◌, ◌↔◌, ◌^◌, ◌<◌, ◌≤◌, nat_eq, if◌then◌else◌, length, take, refl, IsOk, IfOk, IfErr, Some};
+ghost use Rattle.std.specs.Prelude.{◌≡◌, ◌↔◌, ◌^◌, ◌<◌, ◌≤◌, nat_eq, if◌then◌else◌, length, take, refl, IsOk, IfOk, IfErr, Some, false};
 ghost use Rattle.std.proofs.Common.{Ok, ap};
 ghost use Rattle.std.specs.Cmp.{on_per, on_equiv, on_po, on_total, partial_equiv_from_equiv};
 ghost use Rattle.std.specs.Cmp.Lexicographic.{pointwise, bytes_decides, nat_list_eq_equiv, nat_list_cmp_total, texts_po, texts_ties};
@@ -18,7 +18,7 @@ ghost use Rattle.der_opaque.specs.AnyRef.{tag_of, contents_of};
 use crate::any_ref::AnyRef;
 use der_elem::{
     ContentsEq, CopyIsDuplicate, DecodeValue, EncodeValue, FormValue, ObjectIdentifierTag, OneTag,
-    OrdIsValueOrd, Tagged, ValueMemory, WithoutMemory,
+    OrdIsValueOrd, Tagged,
 };
 use der_tlv::{Error, ErrorKind, Header, Length, Reader, Tag, Writer};
 use std::alloc::Global;
@@ -102,17 +102,15 @@ impl<const MAX_SIZE: usize> FormValue for ObjectIdentifier<MAX_SIZE> {
     ghost re_reads_memory_value = { λ v e. e };
 }
 
-impl<const MAX_SIZE: usize> ValueMemory for ObjectIdentifier<MAX_SIZE> {
-    type OfValue = WithoutMemory;
-
-    ghost memory_of_value = { refl };
-}
-
 impl<const MAX_SIZE: usize> OneTag for ObjectIdentifier<MAX_SIZE> {
     type Marker = ObjectIdentifierTag;
 }
 
 impl<'a, R: Reader<'a>, const MAX_SIZE: usize> DecodeValue<'a, R> for ObjectIdentifier<MAX_SIZE> {
+    ghost VALUE_NEEDS_MEMORY = { false };
+
+    const VALUE_NEEDS_MEMORY: bool = false;
+
     fn decode_value(
         _alloc: Global,
         reader: &mut R,
@@ -124,6 +122,8 @@ impl<'a, R: Reader<'a>, const MAX_SIZE: usize> DecodeValue<'a, R> for ObjectIden
             Err(e) => Err(reader.error(e.kind)),
         }
     }
+
+    ghost memory_of_value = { refl };
 }
 
 impl<const MAX_SIZE: usize> EncodeValue for ObjectIdentifier<MAX_SIZE> {

@@ -18,7 +18,7 @@ ghost use Rattle.der_opaque.specs.OctetStringRef as borrowed;
 use crate::octet_string_ref::OctetStringRef;
 use der_elem::{
     ContentsEq, DecodeValue, DuplicateValue, EncodeValue, FormValue, OctetStringTag, OneTag,
-    OrdIsValueOrd, ValueMemory, WithMemory,
+    OrdIsValueOrd,
 };
 use der_tlv::{Error, Header, Length, Reader, Tag, Writer};
 use std::alloc::{AllocError, Global};
@@ -121,17 +121,15 @@ impl FormValue for OctetString {
     ghost re_reads_memory_value = { λ v e. refl };
 }
 
-impl ValueMemory for OctetString {
-    type OfValue = WithMemory;
-
-    ghost memory_of_value = { refl };
-}
-
 impl OneTag for OctetString {
     type Marker = OctetStringTag;
 }
 
 impl<'a, R: Reader<'a>> DecodeValue<'a, R> for OctetString {
+    ghost VALUE_NEEDS_MEMORY = { true };
+
+    const VALUE_NEEDS_MEMORY: bool = true;
+
     ghost use Rattle.der_opaque.specs.contracts.octet_string.OctetStringFormValue.TheImpl.{ghosts as octet_string};
 
     /// # Errors
@@ -149,6 +147,8 @@ impl<'a, R: Reader<'a>> DecodeValue<'a, R> for OctetString {
             Err(e) => Err(e),
         }
     }
+
+    ghost memory_of_value = { refl };
 }
 
 impl EncodeValue for OctetString {

@@ -2,7 +2,7 @@
 //!
 //! The tag is 04, and the contents octets are the octets of the string.
 
-ghost use Rattle.std.specs.Prelude.{◌≡◌, ◌≢◌, ◌↔◌, MatchResult, ◌^◌, ◌<◌, [], length, refl, IsTrue, IfOk, IfErr};
+ghost use Rattle.std.specs.Prelude.{◌≡◌, ◌≢◌, ◌↔◌, MatchResult, ◌^◌, ◌<◌, [], length, refl, IsTrue, IfOk, IfErr, false};
 ghost use Rattle.std.proofs.Common.{Ok};
 ghost use Rattle.der_tlv.specs.declared.error.ErrorKind.TheVariants as kinds;
 ghost use Rattle.der_tlv.specs.declared.tag.Tag.TheVariants as tags;
@@ -21,7 +21,7 @@ use crate::any_ref::AnyRef;
 use crate::octet_string::OctetString;
 use der_elem::{
     ContentsEq, CopyIsDuplicate, DecodeValue, EncodeValue, Form, FormValue, FromDer,
-    OctetStringTag, OneTag, OrdIsValueOrd, Tagged, ValueMemory, WithoutMemory,
+    OctetStringTag, OneTag, OrdIsValueOrd, Tagged,
 };
 use der_tlv::{Error, Header, Length, Reader, Tag, Writer};
 use std::alloc::Global;
@@ -131,17 +131,15 @@ impl<'a> FormValue for OctetStringRef<'a> {
     ghost re_reads_memory_value = { λ v e. e };
 }
 
-impl<'a> ValueMemory for OctetStringRef<'a> {
-    type OfValue = WithoutMemory;
-
-    ghost memory_of_value = { refl };
-}
-
 impl<'a> OneTag for OctetStringRef<'a> {
     type Marker = OctetStringTag;
 }
 
 impl<'a, R: Reader<'a>> DecodeValue<'a, R> for OctetStringRef<'a> {
+    ghost VALUE_NEEDS_MEMORY = { false };
+
+    const VALUE_NEEDS_MEMORY: bool = false;
+
     fn decode_value(
         _alloc: Global,
         reader: &mut R,
@@ -150,6 +148,8 @@ impl<'a, R: Reader<'a>> DecodeValue<'a, R> for OctetStringRef<'a> {
         let octets = reader.read_slice(header.length)?;
         Ok(OctetStringRef { octets })
     }
+
+    ghost memory_of_value = { refl };
 }
 
 impl<'a> EncodeValue for OctetStringRef<'a> {

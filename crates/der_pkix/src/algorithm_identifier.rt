@@ -4,7 +4,7 @@
 //! refuses with the faults of the fields in their order, and then octets that are left over
 //! (`ErrorKind::TrailingData`, 3).
 
-ghost use Rattle.std.proofs.Common.{◌≡◌, refl, lit<};
+ghost use Rattle.std.proofs.Common.{◌≡◌, refl, lit<, false};
 ghost use Rattle.der_elem.specs.OptionLaws.{encoding_eq_option};
 ghost use Rattle.der_elem.specs.TaggedLaws.{encoding_eq_tagged};
 ghost use Rattle.der_fields.specs.Listing.{field, end};
@@ -15,7 +15,7 @@ ghost use Rattle.der_opaque.specs.contracts.object_identifier.ObjectIdentifierCo
 
 use der_elem::{
     ContentsEq, CopyIsDuplicate, DecodeValue, EncodeValue, FormValue, OneTag, Sequence,
-    SequenceTag, ValueMemory, ValueOrd, WithoutMemory,
+    SequenceTag, ValueOrd,
 };
 use der_fields::{End, Field, FieldList, FieldSequence, FieldsPart};
 use der_opaque::{AnyRef, ObjectIdentifier};
@@ -87,13 +87,11 @@ impl<'a> Sequence<'a> for AlgorithmIdentifier<'a> {
     ghost is_sequence = { refl };
 }
 
-impl<'a> ValueMemory for AlgorithmIdentifier<'a> {
-    type OfValue = WithoutMemory;
-
-    ghost memory_of_value = { refl };
-}
-
 impl<'a, R: Reader<'a>> DecodeValue<'a, R> for AlgorithmIdentifier<'a> {
+    ghost VALUE_NEEDS_MEMORY = { false };
+
+    const VALUE_NEEDS_MEMORY: bool = false;
+
     fn decode_value(alloc: Global, reader: &mut R, header: Header) -> Result<Self, Error> {
         let fields = match Fields::<'a>::decode_value(alloc, reader, header) {
             Ok(list) => list.fields,
@@ -102,6 +100,8 @@ impl<'a, R: Reader<'a>> DecodeValue<'a, R> for AlgorithmIdentifier<'a> {
         let (oid, parameters) = (fields.first, fields.rest.first);
         Ok(AlgorithmIdentifier { oid, parameters })
     }
+
+    ghost memory_of_value = { refl };
 }
 
 impl<'a> EncodeValue for AlgorithmIdentifier<'a> {

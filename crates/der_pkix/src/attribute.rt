@@ -1,6 +1,6 @@
 //! Attributes of names (RFC 5280 section 4.1.2.4).
 
-ghost use Rattle.std.specs.Prelude.{refl};
+ghost use Rattle.std.specs.Prelude.{refl, false};
 ghost use Rattle.std.proofs.Common.{lit<};
 ghost use Rattle.der_elem.specs.TaggedLaws.{encoding_eq_tagged};
 ghost use Rattle.der_fields.specs.TellingLaws.{eq_both, tlv_apart};
@@ -10,7 +10,7 @@ ghost use Rattle.der_fields.specs.Parts.{part_of};
 
 use der_elem::{
     ContentsEq, CopyIsDuplicate, DecodeValue, EncodeValue, FormValue, OneTag, Sequence,
-    SequenceTag, ValueMemory, ValueOrd, WithoutMemory,
+    SequenceTag, ValueOrd,
 };
 use der_fields::{DecodeFields, EncodeFields, End, Field, FieldList, FieldsOrd, FieldsPart};
 use der_opaque::{AnyRef, ObjectIdentifier};
@@ -76,13 +76,11 @@ impl<'a> FormValue for AttributeTypeAndValue<'a> {
     ghost re_reads_memory_value = { attribute.list.re_read_memory };
 }
 
-impl<'a> ValueMemory for AttributeTypeAndValue<'a> {
-    type OfValue = WithoutMemory;
-
-    ghost memory_of_value = { refl };
-}
-
 impl<'a, R: Reader<'a>> DecodeValue<'a, R> for AttributeTypeAndValue<'a> {
+    ghost VALUE_NEEDS_MEMORY = { false };
+
+    const VALUE_NEEDS_MEMORY: bool = false;
+
     fn decode_value(
         alloc: Global,
         reader: &mut R,
@@ -93,6 +91,8 @@ impl<'a, R: Reader<'a>> DecodeValue<'a, R> for AttributeTypeAndValue<'a> {
             Err(e) => Err(e),
         }
     }
+
+    ghost memory_of_value = { refl };
 }
 
 impl<'a> EncodeValue for AttributeTypeAndValue<'a> {

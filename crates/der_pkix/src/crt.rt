@@ -1,10 +1,9 @@
 //! The primes of a private key of RSA, and what is computed of them.
 
-ghost use Rattle.std.specs.Prelude.{refl};
+ghost use Rattle.std.specs.Prelude.{refl, false};
 ghost use Rattle.der_fields.specs.Parts.{part_of};
 
-use der_elem::WithoutMemory;
-use der_fields::{DecodeFields, EncodeFields, End, Field, FieldList, FieldsMemory, FieldsPart};
+use der_fields::{DecodeFields, EncodeFields, End, Field, FieldList, FieldsPart};
 use der_numbers::UintRef;
 use der_tlv::{Error, Length, Reader, Writer};
 use std::alloc::Global;
@@ -60,19 +59,19 @@ impl<'a> FieldList for Crt<'a> {
     ghost re_read_memory = { crt.list.re_read_memory };
 }
 
-impl<'a> FieldsMemory for Crt<'a> {
-    type OfFields = WithoutMemory;
-
-    ghost memory_of_fields = { refl };
-}
-
 impl<'a, R: Reader<'a>> DecodeFields<'a, R> for Crt<'a> {
+    ghost FIELDS_NEED_MEMORY = { false };
+
+    const FIELDS_NEED_MEMORY: bool = false;
+
     fn decode_fields(alloc: Global, reader: &mut R) -> Result<Crt<'a>, Error> {
         match CrtFields::<'a>::decode_fields(alloc, reader) {
             Ok(fields) => Ok(Crt { fields }),
             Err(e) => Err(e),
         }
     }
+
+    ghost memory_of_fields = { refl };
 }
 
 impl<'a> EncodeFields for Crt<'a> {

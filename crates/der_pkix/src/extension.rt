@@ -1,7 +1,7 @@
 //! An extension of a certificate (RFC 5280 section 4.2): its meaning and laws are those of a list of
 //! fields.
 
-ghost use Rattle.std.proofs.Common.{◌≡◌, refl, lit<};
+ghost use Rattle.std.proofs.Common.{◌≡◌, refl, lit<, false};
 ghost use Rattle.std.specs.Bool.{beq};
 ghost use Rattle.std.specs.Cmp.{booleans_Decides};
 ghost use Rattle.der_tlv.specs.declared.tag.Tag.TheVariants as tags;
@@ -17,7 +17,7 @@ ghost use Rattle.der_opaque.specs.contracts.octet_string_ref.OctetStringRefConte
 
 use der_elem::{
     ContentsEq, CopyIsDuplicate, DecodeValue, EncodeValue, FormValue, OneTag, Sequence,
-    SequenceTag, ValueMemory, ValueOrd, WithoutMemory,
+    SequenceTag, ValueOrd,
 };
 use der_fields::{DefaultFalse, End, Field, FieldList, FieldSequence, FieldsPart, WithDefault};
 use der_opaque::{ObjectIdentifier, OctetStringRef};
@@ -101,13 +101,11 @@ impl<'a> Sequence<'a> for Extension<'a> {
     ghost is_sequence = { refl };
 }
 
-impl<'a> ValueMemory for Extension<'a> {
-    type OfValue = WithoutMemory;
-
-    ghost memory_of_value = { refl };
-}
-
 impl<'a, R: Reader<'a>> DecodeValue<'a, R> for Extension<'a> {
+    ghost VALUE_NEEDS_MEMORY = { false };
+
+    const VALUE_NEEDS_MEMORY: bool = false;
+
     fn decode_value(alloc: Global, reader: &mut R, header: Header) -> Result<Self, Error> {
         let fields = match Fields::<'a>::decode_value(alloc, reader, header) {
             Ok(list) => list.fields,
@@ -121,6 +119,8 @@ impl<'a, R: Reader<'a>> DecodeValue<'a, R> for Extension<'a> {
             extn_value,
         })
     }
+
+    ghost memory_of_value = { refl };
 }
 
 impl<'a> EncodeValue for Extension<'a> {

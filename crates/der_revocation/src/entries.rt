@@ -1,13 +1,10 @@
 //! The revoked certificates and the extensions of a TBSCertList.
 
-ghost use Rattle.std.specs.Prelude.{refl};
+ghost use Rattle.std.specs.Prelude.{refl, true};
 ghost use Rattle.der_fields.specs.Parts.{part_of};
 
 use crate::revoked_certificate::RevokedCertificate;
-use der_elem::WithMemory;
-use der_fields::{
-    DecodeFields, EncodeFields, End, Explicit, Field, FieldList, FieldsMemory, FieldsPart,
-};
+use der_fields::{DecodeFields, EncodeFields, End, Explicit, Field, FieldList, FieldsPart};
 use der_pkix::Extensions;
 use der_tlv::{Error, Length, Reader, Writer};
 use std::alloc::Global;
@@ -63,19 +60,19 @@ impl<'a> FieldList for Entries<'a> {
     ghost re_read_memory = { entries.list.re_read_memory };
 }
 
-impl<'a> FieldsMemory for Entries<'a> {
-    type OfFields = WithMemory;
-
-    ghost memory_of_fields = { refl };
-}
-
 impl<'a, R: Reader<'a>> DecodeFields<'a, R> for Entries<'a> {
+    ghost FIELDS_NEED_MEMORY = { true };
+
+    const FIELDS_NEED_MEMORY: bool = true;
+
     fn decode_fields(alloc: Global, reader: &mut R) -> Result<Entries<'a>, Error> {
         match EntriesFields::<'a>::decode_fields(alloc, reader) {
             Ok(fields) => Ok(Entries { fields }),
             Err(e) => Err(e),
         }
     }
+
+    ghost memory_of_fields = { refl };
 }
 
 impl<'a> EncodeFields for Entries<'a> {

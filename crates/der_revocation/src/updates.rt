@@ -1,11 +1,10 @@
 //! The fields from thisUpdate on of a TBSCertList.
 
-ghost use Rattle.std.specs.Prelude.{refl};
+ghost use Rattle.std.specs.Prelude.{refl, true};
 ghost use Rattle.der_fields.specs.Parts.{part_of};
 
 use crate::entries::Entries;
-use der_elem::WithMemory;
-use der_fields::{DecodeFields, EncodeFields, Field, FieldList, FieldsMemory, FieldsPart};
+use der_fields::{DecodeFields, EncodeFields, Field, FieldList, FieldsPart};
 use der_pkix::Time;
 use der_tlv::{Error, Length, Reader, Writer};
 use std::alloc::Global;
@@ -58,19 +57,19 @@ impl<'a> FieldList for Updates<'a> {
     ghost re_read_memory = { updates.list.re_read_memory };
 }
 
-impl<'a> FieldsMemory for Updates<'a> {
-    type OfFields = WithMemory;
-
-    ghost memory_of_fields = { refl };
-}
-
 impl<'a, R: Reader<'a>> DecodeFields<'a, R> for Updates<'a> {
+    ghost FIELDS_NEED_MEMORY = { true };
+
+    const FIELDS_NEED_MEMORY: bool = true;
+
     fn decode_fields(alloc: Global, reader: &mut R) -> Result<Updates<'a>, Error> {
         match UpdatesFields::<'a>::decode_fields(alloc, reader) {
             Ok(fields) => Ok(Updates { fields }),
             Err(e) => Err(e),
         }
     }
+
+    ghost memory_of_fields = { refl };
 }
 
 impl<'a> EncodeFields for Updates<'a> {

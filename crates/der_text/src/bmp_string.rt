@@ -21,7 +21,7 @@ use crate::bmp_iter::{BmpChars, BmpCodepoints};
 use crate::bmp_units::{check_units, octets_of};
 use der_elem::{
     BmpStringTag, ContentsEq, DecodeValue, DuplicateValue, EncodeValue, FormValue, OneTag,
-    OrdIsValueOrd, ValueMemory, WithMemory,
+    OrdIsValueOrd,
 };
 use der_tlv::{Error, ErrorKind, Header, Length, Reader, Writer};
 use std::alloc::{AllocError, Global};
@@ -166,17 +166,15 @@ impl FormValue for BmpString {
     ghost re_reads_memory_value = { λ v e. refl };
 }
 
-impl ValueMemory for BmpString {
-    type OfValue = WithMemory;
-
-    ghost memory_of_value = { refl };
-}
-
 impl OneTag for BmpString {
     type Marker = BmpStringTag;
 }
 
 impl<'a, R: Reader<'a>> DecodeValue<'a, R> for BmpString {
+    ghost VALUE_NEEDS_MEMORY = { true };
+
+    const VALUE_NEEDS_MEMORY: bool = true;
+
     ghost use Rattle.der_text.specs.contracts.bmp_string.BmpStringFormValue.TheImpl.{ghosts as bmp_string};
 
     /// # Errors
@@ -196,6 +194,8 @@ impl<'a, R: Reader<'a>> DecodeValue<'a, R> for BmpString {
             Err(kind) => Err(reader.error(kind)),
         }
     }
+
+    ghost memory_of_value = { refl };
 }
 
 impl EncodeValue for BmpString {

@@ -3,7 +3,7 @@
 //! The tag is 1B. The contents octets are kept as they stand: which characters they are depends on
 //! escape sequences, and is not looked at.
 
-ghost use Rattle.std.specs.Prelude.{◌≡◌, ◌^◌, ◌<◌, length, refl};
+ghost use Rattle.std.specs.Prelude.{◌≡◌, ◌^◌, ◌<◌, length, refl, false};
 ghost use Rattle.std.proofs.Common.{Ok};
 ghost use Rattle.std.specs.Cmp.Lexicographic.{bytes_decides};
 ghost use Rattle.der_opaque.specs.Opaque.{parse_octets};
@@ -12,7 +12,6 @@ ghost use Rattle.der_elem.specs.OwnContentsLaws.{parse_of_within, same_length_wi
 
 use der_elem::{
     ContentsEq, CopyIsDuplicate, DecodeValue, EncodeValue, FormValue, GeneralStringTag, OneTag,
-    ValueMemory, WithoutMemory,
 };
 use der_tlv::{Error, Header, Length, Reader, Writer};
 use std::alloc::Global;
@@ -60,17 +59,15 @@ impl<'a> FormValue for GeneralStringRef<'a> {
     ghost re_reads_memory_value = { λ v e. e };
 }
 
-impl<'a> ValueMemory for GeneralStringRef<'a> {
-    type OfValue = WithoutMemory;
-
-    ghost memory_of_value = { refl };
-}
-
 impl<'a> OneTag for GeneralStringRef<'a> {
     type Marker = GeneralStringTag;
 }
 
 impl<'a, R: Reader<'a>> DecodeValue<'a, R> for GeneralStringRef<'a> {
+    ghost VALUE_NEEDS_MEMORY = { false };
+
+    const VALUE_NEEDS_MEMORY: bool = false;
+
     fn decode_value(
         _alloc: Global,
         reader: &mut R,
@@ -79,6 +76,8 @@ impl<'a, R: Reader<'a>> DecodeValue<'a, R> for GeneralStringRef<'a> {
         let octets = reader.read_slice(header.length)?;
         Ok(GeneralStringRef { octets })
     }
+
+    ghost memory_of_value = { refl };
 }
 
 impl<'a> EncodeValue for GeneralStringRef<'a> {

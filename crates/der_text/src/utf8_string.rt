@@ -3,7 +3,7 @@
 //! The tag is 0C, and the contents octets are the text in UTF-8: `hi` is encoded as 0C 02 68 69.
 //! Reading refuses octets that are not UTF-8 (`ErrorKind::Utf8`, 12).
 
-ghost use Rattle.std.specs.Prelude.{◌≡◌, ◌↔◌, ◌^◌, ◌<◌, [], Some, length, true, refl, IsTrue, IfOk, IfErr};
+ghost use Rattle.std.specs.Prelude.{◌≡◌, ◌↔◌, ◌^◌, ◌<◌, [], Some, length, true, refl, IsTrue, IfOk, IfErr, false};
 ghost use Rattle.std.specs.Cmp.Lexicographic.{bytes_decides};
 ghost use Rattle.std.specs.Str.{is_utf8};
 ghost use Rattle.std.specs.String.{string_bytes};
@@ -20,7 +20,7 @@ ghost use Rattle.der_opaque.specs.AnyRef as borrowed_any;
 
 use der_elem::{
     ContentsEq, CopyIsDuplicate, DecodeValue, EncodeValue, Form, FormValue, OneTag, OrdIsValueOrd,
-    Tagged, Utf8StringTag, ValueMemory, WithoutMemory, text_of,
+    Tagged, Utf8StringTag, text_of,
 };
 use der_opaque::{Any, AnyRef};
 use der_tlv::{Error, ErrorKind, Header, Length, Reader, Tag, Writer};
@@ -134,17 +134,15 @@ impl<'a> FormValue for Utf8StringRef<'a> {
     ghost re_reads_memory_value = { λ v e. e };
 }
 
-impl<'a> ValueMemory for Utf8StringRef<'a> {
-    type OfValue = WithoutMemory;
-
-    ghost memory_of_value = { refl };
-}
-
 impl<'a> OneTag for Utf8StringRef<'a> {
     type Marker = Utf8StringTag;
 }
 
 impl<'a, R: Reader<'a>> DecodeValue<'a, R> for Utf8StringRef<'a> {
+    ghost VALUE_NEEDS_MEMORY = { false };
+
+    const VALUE_NEEDS_MEMORY: bool = false;
+
     fn decode_value(
         _alloc: Global,
         reader: &mut R,
@@ -156,6 +154,8 @@ impl<'a, R: Reader<'a>> DecodeValue<'a, R> for Utf8StringRef<'a> {
             Err(kind) => Err(reader.error(kind)),
         }
     }
+
+    ghost memory_of_value = { refl };
 }
 
 impl<'a> EncodeValue for Utf8StringRef<'a> {

@@ -1,6 +1,6 @@
 //! A date and a time of day in UTC.
 
-ghost use Rattle.std.specs.Prelude.{◌≡◌, ◌+◌, ◌*◌, ◌≤◌, ◌≤ℤ◌, pos, Some, refl};
+ghost use Rattle.std.specs.Prelude.{◌≡◌, ◌+◌, ◌*◌, ◌≤◌, ◌≤ℤ◌, pos, Some, refl, false};
 ghost use Rattle.std.specs.Int.{IsInRange};
 ghost use Rattle.jiff_core.specs.Calendar.{days_in_month};
 ghost use Rattle.jiff_core.specs.Date.{epoch_day};
@@ -14,7 +14,7 @@ use crate::reading::{generalized_fault, read_generalized};
 use crate::text::read_text;
 use der_elem::{
     ContentsEq, CopyIsDuplicate, DecodeValue, EncodeValue, FormValue, GeneralizedTimeTag, OneTag,
-    OrdIsValueOrd, ValueMemory, WithoutMemory,
+    OrdIsValueOrd,
 };
 use der_tlv::{Error, ErrorKind, Header, Length, Reader, Writer};
 use jiff_core::civil;
@@ -335,17 +335,15 @@ impl FormValue for DateTime {
     ghost re_reads_memory_value = { λ v e. e };
 }
 
-impl ValueMemory for DateTime {
-    type OfValue = WithoutMemory;
-
-    ghost memory_of_value = { refl };
-}
-
 impl OneTag for DateTime {
     type Marker = GeneralizedTimeTag;
 }
 
 impl<'a, R: Reader<'a>> DecodeValue<'a, R> for DateTime {
+    ghost VALUE_NEEDS_MEMORY = { false };
+
+    const VALUE_NEEDS_MEMORY: bool = false;
+
     fn decode_value(_alloc: Global, reader: &mut R, header: Header) -> Result<DateTime, Error> {
         let octets = reader.read_slice(header.length)?;
         match DateTime::of_contents(octets) {
@@ -353,6 +351,8 @@ impl<'a, R: Reader<'a>> DecodeValue<'a, R> for DateTime {
             Err(kind) => Err(reader.error(kind)),
         }
     }
+
+    ghost memory_of_value = { refl };
 }
 
 impl EncodeValue for DateTime {

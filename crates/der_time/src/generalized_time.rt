@@ -3,7 +3,7 @@
 //! The tag is 18 (hexadecimal). The contents octets are 15: the year in four digits, then month,
 //! day, hour, minutes and seconds in two digits each, then `Z`.
 
-ghost use Rattle.std.specs.Prelude.{◌≡◌, refl};
+ghost use Rattle.std.specs.Prelude.{◌≡◌, refl, false};
 ghost use Rattle.der_tlv.specs.declared.error.ErrorKind.TheVariants as kinds;
 ghost use Rattle.der_tlv.specs.declared.tag.Tag.TheVariants as tags;
 ghost use Rattle.der_tlv.specs.declared.encoding_rules.EncodingRules.TheVariants.{Der};
@@ -21,7 +21,7 @@ ghost use Rattle.der_opaque.specs.AnyRef as borrowed_any;
 use crate::date_time::DateTime;
 use der_elem::{
     ContentsEq, CopyIsDuplicate, DecodeValue, EncodeValue, Form, FormValue, GeneralizedTimeTag,
-    OneTag, OrdIsValueOrd, Tagged, ValueMemory, WithoutMemory,
+    OneTag, OrdIsValueOrd, Tagged,
 };
 use der_opaque::{Any, AnyRef};
 use der_tlv::{Error, Header, Length, Reader, Tag, Writer};
@@ -101,17 +101,15 @@ impl FormValue for GeneralizedTime {
     ghost re_reads_memory_value = { λ v e. e };
 }
 
-impl ValueMemory for GeneralizedTime {
-    type OfValue = WithoutMemory;
-
-    ghost memory_of_value = { refl };
-}
-
 impl OneTag for GeneralizedTime {
     type Marker = GeneralizedTimeTag;
 }
 
 impl<'a, R: Reader<'a>> DecodeValue<'a, R> for GeneralizedTime {
+    ghost VALUE_NEEDS_MEMORY = { false };
+
+    const VALUE_NEEDS_MEMORY: bool = false;
+
     fn decode_value(
         _alloc: Global,
         reader: &mut R,
@@ -123,6 +121,8 @@ impl<'a, R: Reader<'a>> DecodeValue<'a, R> for GeneralizedTime {
             Err(kind) => Err(reader.error(kind)),
         }
     }
+
+    ghost memory_of_value = { refl };
 }
 
 impl EncodeValue for GeneralizedTime {

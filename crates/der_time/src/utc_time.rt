@@ -4,7 +4,7 @@
 //! seconds in two digits each, then `Z`. Of the year these are the last two digits: 50 and more
 //! stand for 19YY, less for 20YY.
 
-ghost use Rattle.std.specs.Prelude.{◌≡◌, ◌≤◌, ◌<◌, refl};
+ghost use Rattle.std.specs.Prelude.{◌≡◌, ◌≤◌, ◌<◌, refl, false};
 ghost use Rattle.der_tlv.specs.declared.encoding_rules.EncodingRules.TheVariants.{Der};
 ghost use Rattle.der_opaque.specs.DecodingAs.{DecodesAs};
 ghost use Rattle.der_elem.specs.OwnContents.{accepts_within};
@@ -17,7 +17,7 @@ use crate::digits::two_digits;
 use crate::reading::read_utc;
 use der_elem::{
     ContentsEq, CopyIsDuplicate, DecodeValue, EncodeValue, Form, FormValue, OneTag, Tagged,
-    UtcTimeTag, ValueMemory, ValueOrd, WithoutMemory,
+    UtcTimeTag, ValueOrd,
 };
 use der_opaque::{Any, AnyRef};
 use der_tlv::{Error, ErrorKind, Header, Length, Reader, Tag, Writer};
@@ -151,17 +151,15 @@ impl FormValue for UtcTime {
     ghost re_reads_memory_value = { λ v e. e };
 }
 
-impl ValueMemory for UtcTime {
-    type OfValue = WithoutMemory;
-
-    ghost memory_of_value = { refl };
-}
-
 impl OneTag for UtcTime {
     type Marker = UtcTimeTag;
 }
 
 impl<'a, R: Reader<'a>> DecodeValue<'a, R> for UtcTime {
+    ghost VALUE_NEEDS_MEMORY = { false };
+
+    const VALUE_NEEDS_MEMORY: bool = false;
+
     fn decode_value(_alloc: Global, reader: &mut R, header: Header) -> Result<UtcTime, Error> {
         let octets = reader.read_slice(header.length)?;
         match UtcTime::of_contents(octets) {
@@ -169,6 +167,8 @@ impl<'a, R: Reader<'a>> DecodeValue<'a, R> for UtcTime {
             Err(kind) => Err(reader.error(kind)),
         }
     }
+
+    ghost memory_of_value = { refl };
 }
 
 impl EncodeValue for UtcTime {

@@ -19,8 +19,8 @@ ghost use Rattle.der_wrap.specs.TaggedValueEquality.{encoding_eq_tagged_value, c
 
 use crate::class_tag::{class_tag, explicit_number, in_class};
 use der_elem::{
-    Choice, Decode, DerOrd, Duplicate, Encode, EncodeValue, EncodingEq, Form, FormMemory,
-    FormValue, Tagged, ValueMemory, ValueOrd,
+    Choice, Decode, DecodeField, DerOrd, Duplicate, Encode, EncodeValue, EncodingEq, Form,
+    FormValue, Tagged, ValueOrd,
 };
 use der_tlv::{Error, Header, Length, Reader, Tag, TagMode, TagNumber, Writer};
 use std::alloc::Global;
@@ -121,18 +121,6 @@ impl<T: Tagged, const CLASS: u8> Form for TaggedValue<T, CLASS> {
         (T.accepts_comparable rules v.value w.value a.inner d.inner a.accepted d.accepted) };
 
     ghost re_reads_memory = { λ v. T.re_reads_memory v.value };
-}
-
-impl<T: Tagged + FormMemory, const CLASS: u8> ValueMemory for TaggedValue<T, CLASS> {
-    type OfValue = <T as FormMemory>::OfForm;
-
-    ghost memory_of_value = { T.memory_of_form };
-}
-
-impl<T: Tagged + FormMemory, const CLASS: u8> FormMemory for TaggedValue<T, CLASS> {
-    type OfForm = <T as FormMemory>::OfForm;
-
-    ghost memory_of_form = { T.memory_of_form };
 }
 
 impl<T: Tagged, const CLASS: u8> Tagged for TaggedValue<T, CLASS> {
@@ -239,6 +227,10 @@ impl<T: Tagged + Duplicate, const CLASS: u8> Duplicate for TaggedValue<T, CLASS>
 
 impl<'a, R: Reader<'a>, T: Tagged + Decode<'a, R>, const CLASS: u8> Decode<'a, R>
     for TaggedValue<T, CLASS> {
+    ghost NEEDS_MEMORY = { T.NEEDS_MEMORY };
+
+    const NEEDS_MEMORY: bool = T::NEEDS_MEMORY;
+
     /// Reads a value with explicit tagging.
     fn decode(alloc: Global, reader: &mut R) -> Result<TaggedValue<T, CLASS>, Error> {
         let header = Header::decode(reader)?;
@@ -255,4 +247,20 @@ impl<'a, R: Reader<'a>, T: Tagged + Decode<'a, R>, const CLASS: u8> Decode<'a, R
             value,
         })
     }
+
+    ghost memory_of_form = { T.memory_of_form };
+}
+
+impl<'a, R: Reader<'a>, T: Tagged + Decode<'a, R>, const CLASS: u8> DecodeField<'a, R>
+    for TaggedValue<T, CLASS> {
+    ghost FIELD_NEEDS_MEMORY = { T.NEEDS_MEMORY };
+
+    const FIELD_NEEDS_MEMORY: bool = T::NEEDS_MEMORY;
+
+    /// Reads a value with explicit tagging.
+    fn decode_field(alloc: Global, reader: &mut R) -> Result<TaggedValue<T, CLASS>, Error> {
+        TaggedValue::<T, CLASS>::decode(alloc, reader)
+    }
+
+    ghost memory_of_field = { T.memory_of_form };
 }

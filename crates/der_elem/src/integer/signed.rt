@@ -3,7 +3,7 @@
 //! Reading refuses, in this order: no contents octets (7); more than the type has (8); a first
 //! octet 00 before one below 80, or FF before one of 80 or more (`ErrorKind::Noncanonical`, 8).
 
-ghost use Rattle.std.proofs.Common.{lit<};
+ghost use Rattle.std.proofs.Common.{lit<, false};
 ghost use Rattle.std.specs.Ordering.{int_eq};
 ghost use Rattle.std.proofs.lemmas.Bool.Decides.{Decides-int_eq};
 ghost use Rattle.der_elem.specs.OwnContentsLaws.{contents_eq_own, parse_of_within, same_length_within, accepts_contents_within, only_within};
@@ -23,7 +23,6 @@ use crate::encode::EncodeValue;
 use crate::equality::ContentsEq;
 use crate::fixed_tag::OneTag;
 use crate::form::FormValue;
-use crate::memory::{ValueMemory, WithoutMemory};
 use crate::ord::ValueOrd;
 use crate::universal_tags::IntegerTag;
 use der_tlv::{Error, Header, Length, Reader, Writer};
@@ -53,21 +52,21 @@ impl FormValue for i8 {
     ghost re_reads_memory_value = { λ v e. e };
 }
 
-impl ValueMemory for i8 {
-    type OfValue = WithoutMemory;
-
-    ghost memory_of_value = { refl };
-}
-
 impl OneTag for i8 {
     type Marker = IntegerTag;
 }
 
 impl<'a, R: Reader<'a>> DecodeValue<'a, R> for i8 {
+    ghost VALUE_NEEDS_MEMORY = { false };
+
+    const VALUE_NEEDS_MEMORY: bool = false;
+
     fn decode_value(_alloc: Global, reader: &mut R, header: Header) -> Result<i8, Error> {
         let integer = read_signed(reader, header, 1)?;
         Ok(integer as i8)
     }
+
+    ghost memory_of_value = { refl };
 }
 
 impl EncodeValue for i8 {
@@ -116,21 +115,21 @@ impl FormValue for i16 {
     ghost re_reads_memory_value = { λ v e. e };
 }
 
-impl ValueMemory for i16 {
-    type OfValue = WithoutMemory;
-
-    ghost memory_of_value = { refl };
-}
-
 impl OneTag for i16 {
     type Marker = IntegerTag;
 }
 
 impl<'a, R: Reader<'a>> DecodeValue<'a, R> for i16 {
+    ghost VALUE_NEEDS_MEMORY = { false };
+
+    const VALUE_NEEDS_MEMORY: bool = false;
+
     fn decode_value(_alloc: Global, reader: &mut R, header: Header) -> Result<i16, Error> {
         let integer = read_signed(reader, header, 2)?;
         Ok(integer as i16)
     }
+
+    ghost memory_of_value = { refl };
 }
 
 impl EncodeValue for i16 {
@@ -179,21 +178,21 @@ impl FormValue for i32 {
     ghost re_reads_memory_value = { λ v e. e };
 }
 
-impl ValueMemory for i32 {
-    type OfValue = WithoutMemory;
-
-    ghost memory_of_value = { refl };
-}
-
 impl OneTag for i32 {
     type Marker = IntegerTag;
 }
 
 impl<'a, R: Reader<'a>> DecodeValue<'a, R> for i32 {
+    ghost VALUE_NEEDS_MEMORY = { false };
+
+    const VALUE_NEEDS_MEMORY: bool = false;
+
     fn decode_value(_alloc: Global, reader: &mut R, header: Header) -> Result<i32, Error> {
         let integer = read_signed(reader, header, 4)?;
         Ok(integer as i32)
     }
+
+    ghost memory_of_value = { refl };
 }
 
 impl EncodeValue for i32 {
@@ -242,21 +241,21 @@ impl FormValue for i64 {
     ghost re_reads_memory_value = { λ v e. e };
 }
 
-impl ValueMemory for i64 {
-    type OfValue = WithoutMemory;
-
-    ghost memory_of_value = { refl };
-}
-
 impl OneTag for i64 {
     type Marker = IntegerTag;
 }
 
 impl<'a, R: Reader<'a>> DecodeValue<'a, R> for i64 {
+    ghost VALUE_NEEDS_MEMORY = { false };
+
+    const VALUE_NEEDS_MEMORY: bool = false;
+
     fn decode_value(_alloc: Global, reader: &mut R, header: Header) -> Result<i64, Error> {
         let integer = read_signed(reader, header, 8)?;
         Ok(integer as i64)
     }
+
+    ghost memory_of_value = { refl };
 }
 
 impl EncodeValue for i64 {
@@ -305,20 +304,20 @@ impl FormValue for i128 {
     ghost re_reads_memory_value = { λ v e. e };
 }
 
-impl ValueMemory for i128 {
-    type OfValue = WithoutMemory;
-
-    ghost memory_of_value = { refl };
-}
-
 impl OneTag for i128 {
     type Marker = IntegerTag;
 }
 
 impl<'a, R: Reader<'a>> DecodeValue<'a, R> for i128 {
+    ghost VALUE_NEEDS_MEMORY = { false };
+
+    const VALUE_NEEDS_MEMORY: bool = false;
+
     fn decode_value(_alloc: Global, reader: &mut R, header: Header) -> Result<i128, Error> {
         read_signed(reader, header, 16)
     }
+
+    ghost memory_of_value = { refl };
 }
 
 impl EncodeValue for i128 {

@@ -5,7 +5,7 @@
 //! which makes the number negative (`ErrorKind::Value`, 13); one octet more than the type has, of
 //! which the first is 01 to 7F (`ErrorKind::Length`, 7).
 
-ghost use Rattle.std.specs.Prelude.{nat_eq, refl};
+ghost use Rattle.std.specs.Prelude.{nat_eq, refl, false};
 ghost use Rattle.std.proofs.lemmas.Bool.Decides.{Decides-eqb};
 ghost use Rattle.der_elem.specs.OwnContentsLaws.{contents_eq_own, parse_of_within, same_length_within, accepts_contents_within, only_within};
 ghost use Rattle.der_elem.specs.Integer.{natural_contents, FitsUnsignedWidth};
@@ -23,7 +23,6 @@ use crate::encode::EncodeValue;
 use crate::equality::ContentsEq;
 use crate::fixed_tag::OneTag;
 use crate::form::FormValue;
-use crate::memory::{ValueMemory, WithoutMemory};
 use crate::ord::ValueOrd;
 use crate::universal_tags::IntegerTag;
 use der_tlv::{Error, Header, Length, Reader, Writer};
@@ -53,21 +52,21 @@ impl FormValue for u8 {
     ghost re_reads_memory_value = { λ v e. e };
 }
 
-impl ValueMemory for u8 {
-    type OfValue = WithoutMemory;
-
-    ghost memory_of_value = { refl };
-}
-
 impl OneTag for u8 {
     type Marker = IntegerTag;
 }
 
 impl<'a, R: Reader<'a>> DecodeValue<'a, R> for u8 {
+    ghost VALUE_NEEDS_MEMORY = { false };
+
+    const VALUE_NEEDS_MEMORY: bool = false;
+
     fn decode_value(_alloc: Global, reader: &mut R, header: Header) -> Result<u8, Error> {
         let number = read_unsigned(reader, header, 1)?;
         Ok(number as u8)
     }
+
+    ghost memory_of_value = { refl };
 }
 
 impl EncodeValue for u8 {
@@ -116,21 +115,21 @@ impl FormValue for u16 {
     ghost re_reads_memory_value = { λ v e. e };
 }
 
-impl ValueMemory for u16 {
-    type OfValue = WithoutMemory;
-
-    ghost memory_of_value = { refl };
-}
-
 impl OneTag for u16 {
     type Marker = IntegerTag;
 }
 
 impl<'a, R: Reader<'a>> DecodeValue<'a, R> for u16 {
+    ghost VALUE_NEEDS_MEMORY = { false };
+
+    const VALUE_NEEDS_MEMORY: bool = false;
+
     fn decode_value(_alloc: Global, reader: &mut R, header: Header) -> Result<u16, Error> {
         let number = read_unsigned(reader, header, 2)?;
         Ok(number as u16)
     }
+
+    ghost memory_of_value = { refl };
 }
 
 impl EncodeValue for u16 {
@@ -179,21 +178,21 @@ impl FormValue for u32 {
     ghost re_reads_memory_value = { λ v e. e };
 }
 
-impl ValueMemory for u32 {
-    type OfValue = WithoutMemory;
-
-    ghost memory_of_value = { refl };
-}
-
 impl OneTag for u32 {
     type Marker = IntegerTag;
 }
 
 impl<'a, R: Reader<'a>> DecodeValue<'a, R> for u32 {
+    ghost VALUE_NEEDS_MEMORY = { false };
+
+    const VALUE_NEEDS_MEMORY: bool = false;
+
     fn decode_value(_alloc: Global, reader: &mut R, header: Header) -> Result<u32, Error> {
         let number = read_unsigned(reader, header, 4)?;
         Ok(number as u32)
     }
+
+    ghost memory_of_value = { refl };
 }
 
 impl EncodeValue for u32 {
@@ -242,21 +241,21 @@ impl FormValue for u64 {
     ghost re_reads_memory_value = { λ v e. e };
 }
 
-impl ValueMemory for u64 {
-    type OfValue = WithoutMemory;
-
-    ghost memory_of_value = { refl };
-}
-
 impl OneTag for u64 {
     type Marker = IntegerTag;
 }
 
 impl<'a, R: Reader<'a>> DecodeValue<'a, R> for u64 {
+    ghost VALUE_NEEDS_MEMORY = { false };
+
+    const VALUE_NEEDS_MEMORY: bool = false;
+
     fn decode_value(_alloc: Global, reader: &mut R, header: Header) -> Result<u64, Error> {
         let number = read_unsigned(reader, header, 8)?;
         Ok(number as u64)
     }
+
+    ghost memory_of_value = { refl };
 }
 
 impl EncodeValue for u64 {
@@ -305,20 +304,20 @@ impl FormValue for u128 {
     ghost re_reads_memory_value = { λ v e. e };
 }
 
-impl ValueMemory for u128 {
-    type OfValue = WithoutMemory;
-
-    ghost memory_of_value = { refl };
-}
-
 impl OneTag for u128 {
     type Marker = IntegerTag;
 }
 
 impl<'a, R: Reader<'a>> DecodeValue<'a, R> for u128 {
+    ghost VALUE_NEEDS_MEMORY = { false };
+
+    const VALUE_NEEDS_MEMORY: bool = false;
+
     fn decode_value(_alloc: Global, reader: &mut R, header: Header) -> Result<u128, Error> {
         read_unsigned(reader, header, 16)
     }
+
+    ghost memory_of_value = { refl };
 }
 
 impl EncodeValue for u128 {

@@ -279,7 +279,7 @@ fn orders_octets_by_encodings(rt: HostRuntime) {
 
 // Whether reading a set of these items takes memory.
 fn takes_memory<'a, T: 'a + Decode<'a, SliceReader<'a>> + DerOrd + Tagged>() -> bool {
-    <SetOfRef<'a, T> as TakesMemory>::TAKES_MEMORY
+    <SetOfRef<'a, T> as TakesMemory<'a>>::TAKES_MEMORY
 }
 
 #[test]

@@ -3,8 +3,8 @@
 use crate::tests::elem::numbered;
 use crate::tests::{holds, same, same_in};
 use der_elem::{
-    Choice, Decode, DerOrd, Duplicate, Encode, EncodingEq, FixedTag, FormMemory, FromDer,
-    IsConstructed, Tagged, TakesMemory, ValueOrd,
+    Choice, Decode, DerOrd, Duplicate, Encode, EncodingEq, FixedTag, FromDer, IsConstructed,
+    Tagged, TakesMemory, ValueOrd,
 };
 use der_tlv::{Error, ErrorKind, Length, Reader, SliceReader, Tag, VecWriter};
 use std::alloc::Global;
@@ -317,7 +317,7 @@ fn equals_by_encodings(rt: HostRuntime) {
 }
 
 // Whether reading takes memory, through the bound.
-fn takes_memory<T: FormMemory>() -> bool {
+fn takes_memory<'a, T: Decode<'a, SliceReader<'a>>>() -> bool {
     T::TAKES_MEMORY
 }
 
