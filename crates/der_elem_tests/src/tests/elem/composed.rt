@@ -339,7 +339,7 @@ fn says_what_takes_memory(rt: HostRuntime) {
         [
             Vec::<bool>::TAKES_MEMORY,
             takes_memory::<Box<u8>>(),
-            takes_memory::<[Box<u8>; 2]>(),
+            takes_memory::<Vec<[u8; 2]>>(),
             takes_memory::<Option<Vec<u8>>>(),
         ],
         [true; 4],
