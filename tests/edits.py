@@ -27,6 +27,7 @@ STATUS = re.compile(r"^fn (\S+): (.*)$", re.M)
 UNREAD = re.compile(r"is not in scope|has no field|is no name|operand is missing|expected the end|cannot continue")
 # What a proof file says where the edit took away a name that it cites.
 NAMES = re.compile(r"(has no field|is not in scope|has no `|was not admitted)")
+WEAK = " (only because a proof file names what the edit took away)"
 printing = threading.Lock()
 
 
@@ -53,6 +54,9 @@ class Crate:
 
     def rlib(self):
         return f"{self.built}/crates/{self.name}/out/rlib/{self.name}.rlib"
+
+    def size(self):
+        return sum(map(os.path.getsize, glob.glob(f"{self.folder}/**/*.*t", recursive=True)))
 
     def command(self, kept, only):
         kit = self.kit
@@ -111,8 +115,8 @@ class Answer:
         """Whether all that is said of the function is that its proof file cites what is not there any more."""
         if self.said.get(path) != "not proved":
             return False
-        words = path.split("::")
-        told = [it for it in self.text.split("\n") if re.match(r"(\./)?proofs/", it) and f"/{words[-1]}/" in it and ": error" in it]
+        own = re.compile(rf"(\./)?proofs/.*/{path.split('::')[-1]}/.*: error")
+        told = [it for it in self.text.split("\n") if own.match(it)]
         return bool(told) and all(NAMES.search(it) for it in told)
 
 
@@ -179,7 +183,7 @@ def end_of(lines, start, indent):
 
 
 def block_of(lines, start):
-    """The type and the trait of the impl or trait that a function stands in, as a check names them; else two empty texts."""
+    """The type and the trait of the impl that a function stands in, as a check names them; else two empty texts."""
     if not lines[start].startswith(" "):
         return "", ""
     top = next((it for it in range(start, -1, -1) if BLOCK.match(lines[it])), None)
@@ -266,8 +270,7 @@ def try_edits(crate, edits):
                 failing = [it for it in edit.candidates(answer.said) if answer.fails(it)]
                 if answer.judged and failing and not answer.unread():
                     refused.append(edit)
-                    weak = " (only because a proof file names what the edit took away)" if answer.only_names(failing[0]) else ""
-                    say(f"{edit.label}: refused: {failing[0]}{weak}")
+                    say(f"{edit.label}: refused: {failing[0]}{WEAK if answer.only_names(failing[0]) else ''}")
             left = [it for it in left if it not in refused]
             taken, texts = group_of(left) if refused else ([], {})
         for edit in left:
@@ -298,8 +301,10 @@ def main(words):
     if missing:
         print(f"{missing[0]} is not built: run 'rt all check' first")
         return 2
+    # the longest first
+    chosen.sort(key=lambda it: -it.size())
     tasks = [(it, [Edit(it, file) for file in sorted(glob.glob(f"{it.folder}/must-fail/*.edit"))]) for it in chosen]
-    tasks = sorted((it for it in tasks if it[1]), key=lambda it: -sum(map(os.path.getsize, glob.glob(f"{it[0].folder}/**/*.*t", recursive=True))))
+    tasks = [it for it in tasks if it[1]]
     with ThreadPoolExecutor(int(os.environ.get("JOBS") or len(os.sched_getaffinity(0)))) as lanes:
         counts = list(lanes.map(lambda it: try_edits(*it), tasks))
     passed, failed = (sum(it[part] for it in counts) for part in (0, 1))
