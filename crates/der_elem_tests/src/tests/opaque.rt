@@ -41,6 +41,12 @@ fn octet_strings_are_read_and_written(rt: HostRuntime) -> Result<(), Fail> {
         copy.into_bytes().as_slice(),
         b"Hello, world".as_slice(),
     );
+    Ok(())
+}
+
+#[test]
+fn borrowed_octet_strings_are_read_and_written(rt: HostRuntime) -> Result<(), Fail> {
+    let alloc = rt.alloc();
     let Ok(borrowed) = OctetStringRef::from_der(alloc, &HELLO) else {
         panic!(rt; "refused")
     };
@@ -169,16 +175,41 @@ fn any_keeps_what_it_is_given(rt: HostRuntime) -> Result<(), Fail> {
     same(&rt, any.value(), b"Hello, world".as_slice());
     same(&rt, any.header().length, Length::new(12));
     same(&rt, any.to_der(alloc)?.as_slice(), HELLO.as_slice());
-    holds(&rt, any.duplicate()? == any);
-    holds(
-        &rt,
-        Any::new(Tag::OctetString, b"Hello, world".to_vec(alloc)?)? == any,
-    );
+    Ok(())
+}
+
+/// Whether the copy of the value, and one made of its tag and its contents octets, are equal to it.
+fn is_made_again(alloc: Global, any: &Any) -> Result<bool, Error> {
+    let copy = any.duplicate()?;
+    let Ok(octets) = any.value().to_vec(alloc) else {
+        return Ok(false);
+    };
+    let made = Any::new(any.tag(), octets)?;
+    Ok(copy == *any && made == *any)
+}
+
+/// Whether what is borrowed from the value is the same in both ways, and owned again is equal to it.
+fn is_borrowed(alloc: Global, any: &Any) -> Result<bool, Error> {
     let borrowed = any.owned_to_ref();
-    holds(&rt, AnyRef::from(&any) == borrowed);
-    holds(&rt, borrowed.ref_to_owned(alloc)? == any);
-    let string = OctetString::from_der(alloc, &HELLO)?;
-    holds(&rt, Any::encode_from(alloc, &string)? == any);
+    let owned = borrowed.ref_to_owned(alloc)?;
+    Ok(AnyRef::from(any) == borrowed && owned == *any)
+}
+
+/// Whether the value is what is kept of the OCTET STRING that these octets encode.
+fn is_kept_of(alloc: Global, any: &Any, octets: &[u8]) -> Result<bool, Error> {
+    let string = OctetString::from_der(alloc, octets)?;
+    let kept = Any::encode_from(alloc, &string)?;
+    Ok(kept == *any)
+}
+
+#[test]
+fn any_is_made_in_several_ways(rt: HostRuntime) -> Result<(), Fail> {
+    let alloc = rt.alloc();
+    let any = Any::new(Tag::OctetString, b"Hello, world".to_vec(alloc)?)?;
+    holds(&rt, Any::from_der(alloc, &HELLO)? == any);
+    holds(&rt, is_made_again(alloc, &any)?);
+    holds(&rt, is_borrowed(alloc, &any)?);
+    holds(&rt, is_kept_of(alloc, &any, &HELLO)?);
     Ok(())
 }
 
@@ -329,6 +360,16 @@ fn identifiers_are_opaque(rt: HostRuntime) -> Result<(), Fail> {
     );
     holds(
         &rt,
+        matches!(ObjectIdentifier::<3>::try_from(AnyRef::from(&name)), Ok(same) if same == name),
+    );
+    Ok(())
+}
+
+#[test]
+fn identifiers_are_refused(rt: HostRuntime) {
+    let alloc = rt.alloc();
+    holds(
+        &rt,
         matches!(ObjectIdentifier::<3>::from_der(alloc, &[6, 0]), Err(e) if e.kind.number() == 15),
     );
     holds(
@@ -337,13 +378,8 @@ fn identifiers_are_opaque(rt: HostRuntime) -> Result<(), Fail> {
     );
     holds(
         &rt,
-        matches!(ObjectIdentifier::<3>::try_from(AnyRef::from(&name)), Ok(same) if same == name),
-    );
-    holds(
-        &rt,
         matches!(ObjectIdentifier::<3>::try_from(AnyRef::NULL), Err(e) if e.kind.number() == 4),
     );
-    Ok(())
 }
 
 /// The tag of any type with a fixed tag, and the length of a value's encoding.

@@ -3,12 +3,14 @@
 use crate::tests::elem::numbered;
 use crate::tests::{holds, same, same_in};
 use der_elem::{
-    Choice, Decode, DerOrd, Duplicate, Encode, EncodingEq, FixedTag, FromDer, IsConstructed,
-    Tagged, TakesMemory, ValueOrd,
+    Choice, ContentsEq, Decode, DecodeValue, DerOrd, Duplicate, DuplicateValue, Encode,
+    EncodeValue, EncodingEq, FixedTag, FromDer, IsConstructed, OneTag, Tagged, TakesMemory,
+    ValueOrd,
 };
 use der_tlv::{Error, ErrorKind, Length, Reader, SliceReader, Tag, VecWriter};
 use std::alloc::Global;
 use std::cmp::Ordering;
+use std::fmt::Debug;
 use std::process::Abort;
 use std::test::Fail;
 
@@ -19,6 +21,29 @@ fn read<'a, T: FromDer<'a>>(alloc: Global, octets: &'a [u8]) -> Result<T, u8> {
 
 fn order<T: DerOrd>(a: &T, b: &T) -> Result<Ordering, u8> {
     numbered(a.der_cmp(b))
+}
+
+// The value is written as these octets into a buffer of as many, and into no shorter one.
+fn needs_room<T: Encode>(
+    rt: &impl Abort,
+    alloc: Global,
+    value: &T,
+    octets: &[u8],
+) -> Result<(), u8> {
+    let mut buffer = Vec::new(alloc);
+    for room in 0..octets.len() {
+        same_in(
+            rt,
+            &room,
+            numbered(value.encode_to_slice(&mut buffer)).err(),
+            Some(10),
+        );
+        if buffer.push(0).is_err() {
+            return Err(1);
+        }
+    }
+    same(rt, numbered(value.encode_to_slice(&mut buffer)), Ok(octets));
+    Ok(())
 }
 
 // The octets are read as a value that is written as them, measured as that many, and copied.
@@ -37,40 +62,84 @@ fn reads_back<'a, T: FromDer<'a> + Encode + Duplicate + DerOrd>(
     same(rt, writer.finish().as_slice(), octets);
     let copy = numbered(value.duplicate())?;
     same(rt, order(&copy, &value), Ok(Ordering::Equal));
-    let mut buffer = Vec::new(alloc);
-    for room in 0..octets.len() {
-        same_in(
-            rt,
-            &room,
-            numbered(value.encode_to_slice(&mut buffer)).err(),
-            Some(10),
-        );
-        if buffer.push(0).is_err() {
-            return Err(1);
-        }
+    needs_room(rt, alloc, &value, octets)
+}
+
+// The octets of each row are refused, by this number.
+fn refuses<'a, T: FromDer<'a>>(rt: &impl Abort, alloc: Global, refused: &[(&'a [u8], u8)]) {
+    for (octets, number) in refused {
+        same_in(rt, octets, read::<T>(alloc, octets).err(), Some(*number));
     }
-    same(rt, numbered(value.encode_to_slice(&mut buffer)), Ok(octets));
+}
+
+// Some octets are read back as values of a type, and others are refused.
+fn whole<
+    'a,
+    T: DecodeValue<'a, SliceReader<'a>> + OneTag + EncodeValue + DuplicateValue + ValueOrd,
+>(rt: &impl Abort, alloc: Global, kept: &[&'a [u8]], refused: &[(&'a [u8], u8)]) -> Result<(), u8> {
+    for octets in kept {
+        reads_back::<T>(rt, alloc, octets)?;
+    }
+    refuses::<T>(rt, alloc, refused);
+    Ok(())
+}
+
+// The same of a list of values of the type.
+fn whole_lists<
+    'a,
+    T: DecodeValue<'a, SliceReader<'a>> + OneTag + EncodeValue + DuplicateValue + ValueOrd,
+>(rt: &impl Abort, alloc: Global, kept: &[&'a [u8]], refused: &[(&'a [u8], u8)]) -> Result<(), u8> {
+    whole::<Vec<T>>(rt, alloc, kept, refused)
+}
+
+// The same of a list of lists of such lists.
+fn whole_nested_lists<
+    'a,
+    T: DecodeValue<'a, SliceReader<'a>> + OneTag + EncodeValue + DuplicateValue + ValueOrd,
+>(rt: &impl Abort, alloc: Global, lists: &'a [u8], lists_of_lists: &'a [u8]) -> Result<(), u8> {
+    whole_lists::<T>(rt, alloc, &[lists], &[])?;
+    whole_lists::<Vec<T>>(rt, alloc, &[lists_of_lists], &[])
+}
+
+#[test]
+fn whole_booleans_and_integers(rt: HostRuntime) -> Result<(), Fail> {
+    let alloc = rt.alloc();
+    let refused: [(&[u8], u8); 3] = [
+        (&[0x05, 0x01, 0xff], 4),
+        (&[0x01, 0x01, 0xff, 0x00], 3),
+        (&[], 2),
+    ];
+    whole::<bool>(&rt, alloc, &[&[0x01, 0x01, 0xff]], &refused)?;
+    whole::<i16>(&rt, alloc, &[&[0x02, 0x02, 0xff, 0x7f]], &[])?;
+    refuses::<Box<u8>>(&rt, alloc, &[(&[0x02, 0x02, 0x00, 0x05], 8)]);
     Ok(())
 }
 
 #[test]
-fn reads_whole_encodings(rt: HostRuntime) -> Result<(), Fail> {
+fn whole_lists_and_arrays(rt: HostRuntime) -> Result<(), Fail> {
     let alloc = rt.alloc();
-    reads_back::<bool>(&rt, alloc, &[0x01, 0x01, 0xff])?;
-    reads_back::<i16>(&rt, alloc, &[0x02, 0x02, 0xff, 0x7f])?;
-    reads_back::<Vec<i64>>(&rt, alloc, &[0x30, 0x06, 0x02, 0x04, 1, 2, 3, 4])?;
-    reads_back::<Vec<i64>>(&rt, alloc, &[0x30, 0x00])?;
-    reads_back::<[u8; 2]>(
+    let kept: [&[u8]; 2] = [&[0x30, 0x06, 0x02, 0x04, 1, 2, 3, 4], &[0x30, 0x00]];
+    let refused: [(&[u8], u8); 3] = [
+        (&[0x31, 0x00], 4),
+        (&[0x30, 0x04, 2, 1, 5, 5], 2),
+        (&[0x30, 0x05, 2, 1, 5, 5, 0], 4),
+    ];
+    whole_lists::<i64>(&rt, alloc, &kept, &refused)?;
+    let other_counts: [(&[u8], u8); 2] = [
+        (&[0x30, 0x03, 2, 1, 1], 7),
+        (&[0x30, 0x09, 2, 1, 1, 2, 1, 2, 2, 1, 3], 10),
+    ];
+    let two = [0x30, 0x06, 0x02, 0x01, 0x01, 0x02, 0x01, 0x02];
+    whole::<[u8; 2]>(&rt, alloc, &[&two], &other_counts)?;
+    Ok(())
+}
+
+#[test]
+fn whole_lists_of_lists(rt: HostRuntime) -> Result<(), Fail> {
+    whole_nested_lists::<Vec<u8>>(
         &rt,
-        alloc,
-        &[0x30, 0x06, 0x02, 0x01, 0x01, 0x02, 0x01, 0x02],
-    )?;
-    reads_back::<Option<u8>>(&rt, alloc, &[])?;
-    reads_back::<Option<u8>>(&rt, alloc, &[0x02, 0x01, 0x05])?;
-    reads_back::<Vec<Vec<u8>>>(&rt, alloc, &[0x30, 0x05, 0x30, 0x03, 0x02, 0x01, 0x05])?;
-    reads_back::<Vec<Vec<Vec<u8>>>>(
-        &rt,
-        alloc,
+        rt.alloc(),
+        &[0x30, 0x05, 0x30, 0x03, 0x02, 0x01, 0x05],
         &[
             0x30, 0x09, 0x30, 0x05, 0x30, 0x03, 0x02, 0x01, 0x05, 0x30, 0x00,
         ],
@@ -78,46 +147,27 @@ fn reads_whole_encodings(rt: HostRuntime) -> Result<(), Fail> {
     Ok(())
 }
 
+// The same of an optional value of the type.
+fn whole_options<
+    'a,
+    T: DecodeValue<'a, SliceReader<'a>> + OneTag + EncodeValue + DuplicateValue + ValueOrd,
+>(rt: &impl Abort, alloc: Global, kept: &[&'a [u8]], refused: &[(&'a [u8], u8)]) -> Result<(), u8> {
+    for octets in kept {
+        reads_back::<Option<T>>(rt, alloc, octets)?;
+    }
+    refuses::<Option<T>>(rt, alloc, refused);
+    Ok(())
+}
+
 #[test]
-fn refuses_whole_encodings(rt: HostRuntime) {
-    let alloc = rt.alloc();
-    same(&rt, read::<bool>(alloc, &[0x05, 0x01, 0xff]).err(), Some(4));
-    same(
-        &rt,
-        read::<bool>(alloc, &[0x01, 0x01, 0xff, 0x00]).err(),
-        Some(3),
-    );
-    same(&rt, read::<bool>(alloc, &[]).err(), Some(2));
-    same(&rt, read::<Vec<i64>>(alloc, &[0x31, 0x00]).err(), Some(4));
-    same(
-        &rt,
-        read::<Vec<i64>>(alloc, &[0x30, 0x04, 2, 1, 5, 5]).err(),
-        Some(2),
-    );
-    same(
-        &rt,
-        read::<Vec<i64>>(alloc, &[0x30, 0x05, 2, 1, 5, 5, 0]).err(),
-        Some(4),
-    );
-    same(
-        &rt,
-        read::<[u8; 2]>(alloc, &[0x30, 0x03, 2, 1, 1]).err(),
-        Some(7),
-    );
-    let three = [0x30, 0x09, 2, 1, 1, 2, 1, 2, 2, 1, 3];
-    same(&rt, read::<[u8; 2]>(alloc, &three).err(), Some(10));
-    same(
-        &rt,
-        read::<Option<u8>>(alloc, &[0x01, 0x01, 0xff]).err(),
-        Some(3),
-    );
-    same(&rt, read::<Option<u8>>(alloc, &[0x02, 0x00]).err(), Some(7));
-    same(&rt, read::<Option<u8>>(alloc, &[0x19, 0x00]).err(), Some(5));
-    same(
-        &rt,
-        read::<Box<u8>>(alloc, &[0x02, 0x02, 0x00, 0x05]).err(),
-        Some(8),
-    );
+fn whole_optional_integers(rt: HostRuntime) -> Result<(), Fail> {
+    let refused: [(&[u8], u8); 3] = [
+        (&[0x01, 0x01, 0xff], 3),
+        (&[0x02, 0x00], 7),
+        (&[0x19, 0x00], 5),
+    ];
+    whole_options::<u8>(&rt, rt.alloc(), &[&[], &[0x02, 0x01, 0x05]], &refused)?;
+    Ok(())
 }
 
 // What a call answers, with the kind of a refusal.
@@ -168,6 +218,14 @@ fn orders_by_encodings(rt: HostRuntime) -> Result<(), Fail> {
     Ok(())
 }
 
+// Whether the octets are read as these numbers; nothing where they are refused.
+fn read_as(alloc: Global, octets: &[u8], numbers: &[u16]) -> Option<bool> {
+    match read::<Vec<u16>>(alloc, octets) {
+        Ok(again) => Some(again.as_slice() == numbers),
+        Err(_) => None,
+    }
+}
+
 #[test]
 fn reads_a_thousand_items(rt: HostRuntime) -> Result<(), Fail> {
     let alloc = rt.alloc();
@@ -176,13 +234,10 @@ fn reads_a_thousand_items(rt: HostRuntime) -> Result<(), Fail> {
         numbers.push(number)?;
     }
     let octets = numbered(numbers.to_der(alloc))?;
-    let again: Vec<u16> = read(alloc, &octets)?;
-    same(&rt, again.as_slice(), numbers.as_slice());
+    same(&rt, read_as(alloc, &octets, &numbers), Some(true));
     for room in [0usize, 1, 2, 100] {
-        holds(
-            &rt,
-            read::<Vec<u16>>(alloc, &octets[..room.min(octets.len())]).is_err(),
-        );
+        let octets = &octets[..room.min(octets.len())];
+        same_in(&rt, &room, read_as(alloc, octets, &numbers), None);
     }
     Ok(())
 }
@@ -222,27 +277,44 @@ fn decode<'a, T: Decode<'a, SliceReader<'a>>>(
     }
 }
 
+// What a value is read as, where the reader stands then, and the next octet.
+type First<T> = (Result<T, u8>, u32, Result<u8, u8>);
+
+// The first value of the octets of each row is read so.
+fn first_values<'a, T: Decode<'a, SliceReader<'a>> + Copy + PartialEq + Debug>(
+    rt: &impl Abort,
+    alloc: Global,
+    rows: &[(&'a [u8], First<T>)],
+) {
+    for (octets, wanted) in rows {
+        same_in(rt, octets, decode::<T>(alloc, octets), *wanted);
+    }
+}
+
 #[test]
 fn reads_the_first_value(rt: HostRuntime) {
+    let two: &[u8] = &[0x02, 0x01, 0x05, 0x01, 0x01, 0xff];
+    let cut: &[u8] = &[0x02, 0x00];
+    first_values(
+        &rt,
+        rt.alloc(),
+        &[(two, (Ok(5u8), 3, Ok(0x01))), (cut, (Err(7), 2, Err(17)))],
+    );
+}
+
+#[test]
+fn reads_the_first_optional_value(rt: HostRuntime) {
     let alloc = rt.alloc();
-    let two = [0x02, 0x01, 0x05, 0x01, 0x01, 0xff];
-    same(&rt, decode::<u8>(alloc, &two), (Ok(5), 3, Ok(0x01)));
-    same(
+    let two: &[u8] = &[0x02, 0x01, 0x05, 0x01, 0x01, 0xff];
+    first_values(&rt, alloc, &[(two, (Ok(None::<bool>), 0, Ok(0x02)))]);
+    first_values(
         &rt,
-        decode::<Option<bool>>(alloc, &two),
-        (Ok(None), 0, Ok(0x02)),
+        alloc,
+        &[
+            (two, (Ok(Some(5u8)), 3, Ok(0x01))),
+            (&[], (Ok(None), 0, Err(2))),
+        ],
     );
-    same(
-        &rt,
-        decode::<Option<u8>>(alloc, &two),
-        (Ok(Some(5)), 3, Ok(0x01)),
-    );
-    same(
-        &rt,
-        decode::<u8>(alloc, &[0x02, 0x00]),
-        (Err(7), 2, Err(17)),
-    );
-    same(&rt, decode::<Option<u8>>(alloc, &[]), (Ok(None), 0, Err(2)));
 }
 
 // The encoding of a value, through the bound.
@@ -292,56 +364,69 @@ fn equal_as<'a, T: FromDer<'a> + EncodingEq + Duplicate>(
     Ok(equal(&a, &b) && equal(&copy, &a))
 }
 
+// The octets of each row are read as values that are equal, or that are not.
+fn equals<'a, T: DecodeValue<'a, SliceReader<'a>> + OneTag + ContentsEq + DuplicateValue>(
+    rt: &impl Abort,
+    alloc: Global,
+    rows: &[(&'a [u8], &'a [u8], bool)],
+) {
+    for (octets, others, wanted) in rows {
+        same_in(
+            rt,
+            &(octets, others),
+            equal_as::<T>(alloc, octets, others),
+            Ok(*wanted),
+        );
+    }
+}
+
+// The same of a list of values.
+fn equal_lists<'a, T: DecodeValue<'a, SliceReader<'a>> + OneTag + ContentsEq + DuplicateValue>(
+    rt: &impl Abort,
+    alloc: Global,
+    rows: &[(&'a [u8], &'a [u8], bool)],
+) {
+    equals::<Vec<T>>(rt, alloc, rows);
+}
+
+// The same of optional values.
+fn equal_options<'a, T: DecodeValue<'a, SliceReader<'a>> + OneTag + ContentsEq + DuplicateValue>(
+    rt: &impl Abort,
+    alloc: Global,
+    rows: &[(&'a [u8], &'a [u8], bool)],
+) {
+    for (octets, others, wanted) in rows {
+        same_in(
+            rt,
+            &(octets, others),
+            equal_as::<Option<T>>(alloc, octets, others),
+            Ok(*wanted),
+        );
+    }
+}
+
 #[test]
-fn equals_by_encodings(rt: HostRuntime) {
+fn integers_equal_by_encodings(rt: HostRuntime) {
     let alloc = rt.alloc();
-    let (five, six) = ([0x02, 0x01, 0x05], [0x02, 0x01, 0x06]);
-    same(&rt, equal_as::<i64>(alloc, &five, &five), Ok(true));
-    same(&rt, equal_as::<i64>(alloc, &five, &six), Ok(false));
-    same(&rt, equal_as::<Box<u8>>(alloc, &five, &five), Ok(true));
-    same(&rt, equal_as::<Box<u8>>(alloc, &five, &six), Ok(false));
-    same(&rt, equal_as::<Option<u8>>(alloc, &five, &[]), Ok(false));
-    same(&rt, equal_as::<Option<u8>>(alloc, &[], &[]), Ok(true));
-    let (list, longer) = (
-        [0x30, 0x03, 0x02, 0x01, 0x05],
-        [0x30, 0x06, 0x02, 0x01, 0x05, 0x02, 0x01, 0x05],
-    );
-    same(&rt, equal_as::<Vec<u8>>(alloc, &list, &list), Ok(true));
-    same(&rt, equal_as::<Vec<u8>>(alloc, &list, &longer), Ok(false));
-    same(&rt, equal_as::<[u8; 1]>(alloc, &list, &list), Ok(true));
-    same(
-        &rt,
-        equal_as::<Vec<Box<u8>>>(alloc, &longer, &longer),
-        Ok(true),
-    );
-}
-
-// Whether reading takes memory, through the bound.
-fn takes_memory<'a, T: Decode<'a, SliceReader<'a>>>() -> bool {
-    T::TAKES_MEMORY
+    let five: &[u8] = &[0x02, 0x01, 0x05];
+    let rows = [(five, five, true), (five, &[0x02, 0x01, 0x06], false)];
+    equals::<i64>(&rt, alloc, &rows);
+    equals::<Box<u8>>(&rt, alloc, &rows);
+    equal_options::<u8>(&rt, alloc, &[(five, &[], false), (&[], &[], true)]);
 }
 
 #[test]
-fn says_what_takes_memory(rt: HostRuntime) {
-    assert_eq!(rt;
-        [
-            bool::TAKES_MEMORY,
-            <()>::TAKES_MEMORY,
-            takes_memory::<i8>(),
-            takes_memory::<u128>(),
-            takes_memory::<[u8; 2]>(),
-            takes_memory::<Option<i64>>()
-        ],
-        [false; 6]
-    );
-    same(
-        &rt,
-        [
-            Vec::<bool>::TAKES_MEMORY,
-            takes_memory::<Box<u8>>(),
-            takes_memory::<Vec<[u8; 2]>>(),
-            takes_memory::<Option<Vec<u8>>>(),
-        ],
-        [true; 4],
-    );
+fn lists_equal_by_encodings(rt: HostRuntime) {
+    let alloc = rt.alloc();
+    let list: &[u8] = &[0x30, 0x03, 0x02, 0x01, 0x05];
+    let longer: &[u8] = &[0x30, 0x06, 0x02, 0x01, 0x05, 0x02, 0x01, 0x05];
+    equal_lists::<u8>(&rt, alloc, &[(list, list, true), (list, longer, false)]);
+    equals::<[u8; 1]>(&rt, alloc, &[(list, list, true)]);
+    equal_lists::<Box<u8>>(&rt, alloc, &[(longer, longer, true)]);
+}
+
+#[test]
+fn says_that_booleans_and_nulls_take_no_memory(rt: HostRuntime) {
+    same(&rt, <()>::TAKES_MEMORY, false);
+    same(&rt, bool::TAKES_MEMORY, false);
 }

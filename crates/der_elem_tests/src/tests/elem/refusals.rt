@@ -1,10 +1,11 @@
 //! What stands after a refusal: the reader, and where the fault was found.
 
 use crate::tests::elem::numbered;
-use crate::tests::{holds, same};
-use der_elem::{Decode, FromDer};
+use crate::tests::{holds, same, same_in};
+use der_elem::{Decode, DecodeValue, FromDer, OneTag};
 use der_tlv::{Error, Length, Reader, SliceReader, Tag};
 use std::alloc::Global;
+use std::process::Abort;
 use std::test::Fail;
 
 #[test]
@@ -35,18 +36,34 @@ fn place<'a, T: FromDer<'a>>(alloc: Global, octets: &'a [u8]) -> Option<Option<L
     placed(T::from_der(alloc, octets)).err()
 }
 
+// The octets of each row are refused at this position.
+fn places<'a, T: DecodeValue<'a, SliceReader<'a>> + OneTag>(
+    rt: &impl Abort,
+    alloc: Global,
+    rows: &[(&'a [u8], u32)],
+) {
+    for (octets, position) in rows {
+        same_in(
+            rt,
+            octets,
+            place::<T>(alloc, octets),
+            Some(Some(Length::new(*position))),
+        );
+    }
+}
+
 #[test]
 fn a_fault_has_its_position(rt: HostRuntime) {
     let alloc = rt.alloc();
-    let at = |position| Some(Some(Length::new(position)));
     // Another tag, behind its header; contents octets, behind them; octets left over, before them.
-    same(&rt, place::<bool>(alloc, &[0x05, 0x00]), at(2));
-    same(&rt, place::<u8>(alloc, &[0x02, 0x00]), at(2));
-    same(&rt, place::<i16>(alloc, &[0x02, 0x02, 0x00, 0x05]), at(4));
-    same(&rt, place::<bool>(alloc, &[0x01, 0x01, 0xff, 0x00]), at(3));
+    let booleans: [(&[u8], u32); 2] = [(&[0x05, 0x00], 2), (&[0x01, 0x01, 0xff, 0x00], 3)];
+    places::<bool>(&rt, alloc, &booleans);
+    places::<u8>(&rt, alloc, &[(&[0x02, 0x00], 2)]);
+    places::<i16>(&rt, alloc, &[(&[0x02, 0x02, 0x00, 0x05], 4)]);
     // In the second item of a list: what is cut, and another tag.
-    let list = [0x30, 0x05, 0x02, 0x01, 0x05, 0x02, 0x01];
-    same(&rt, place::<Vec<i64>>(alloc, &list), at(7));
-    let other = [0x30, 0x05, 0x02, 0x01, 0x05, 0x05, 0x00];
-    same(&rt, place::<Vec<i64>>(alloc, &other), at(7));
+    let lists: [(&[u8], u32); 2] = [
+        (&[0x30, 0x05, 0x02, 0x01, 0x05, 0x02, 0x01], 7),
+        (&[0x30, 0x05, 0x02, 0x01, 0x05, 0x05, 0x00], 7),
+    ];
+    places::<Vec<i64>>(&rt, alloc, &lists);
 }

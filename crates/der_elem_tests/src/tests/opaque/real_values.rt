@@ -1,10 +1,11 @@
 //! A certificate and a public key as another program writes them.
 
-use crate::tests::{holds, same};
+use crate::tests::{holds, same, same_in};
 use der_elem::{Decode, Encode, FromDer, Tagged};
 use der_opaque::{Any, AnyRef, ObjectIdentifier, OctetStringRef};
 use der_tlv::{Error, ErrorKind, Length, SliceReader, Tag, TagNumber};
 use std::alloc::Global;
+use std::process::Abort;
 use std::test::Fail;
 
 /// A self-signed certificate, made with OpenSSL 3.0.19:
@@ -79,8 +80,24 @@ fn parts(alloc: Global, encoding: &[u8], count: usize) -> Result<Vec<(Tag, Vec<u
     })
 }
 
+/// The encoding of one of the values; no octets where there are fewer.
+fn octets_of(parts: &[(Tag, Vec<u8>)], number: usize) -> &[u8] {
+    match parts.get(number) {
+        Some(part) => part.1.as_slice(),
+        None => &[],
+    }
+}
+
+/// The tag of one of the values.
+fn tag_of(parts: &[(Tag, Vec<u8>)], number: usize) -> Option<Tag> {
+    match parts.get(number) {
+        Some(part) => Some(part.0),
+        None => None,
+    }
+}
+
 #[test]
-fn a_certificate_has_three_parts(rt: HostRuntime) -> Result<(), Fail> {
+fn a_certificate_is_kept(rt: HostRuntime) -> Result<(), Fail> {
     let alloc = rt.alloc();
     let certificate = Any::from_der(alloc, &CERTIFICATE)?;
     same(&rt, certificate.tag(), Tag::Sequence);
@@ -90,14 +107,24 @@ fn a_certificate_has_three_parts(rt: HostRuntime) -> Result<(), Fail> {
         certificate.to_der(alloc)?.as_slice(),
         CERTIFICATE.as_slice(),
     );
-    let parts = parts(alloc, &CERTIFICATE, 3)?;
-    assert_eq!(rt; parts.len(), 3);
-    same(&rt, parts[0].0, Tag::Sequence);
-    same(&rt, parts[0].1.as_slice(), &CERTIFICATE[4..295]);
-    same(&rt, parts[1].0, Tag::Sequence);
-    same(&rt, parts[1].1.as_slice(), &CERTIFICATE[295..307]);
-    same(&rt, parts[2].0, Tag::BitString);
-    same(&rt, parts[2].1.as_slice(), &CERTIFICATE[307..]);
+    Ok(())
+}
+
+#[test]
+fn a_certificate_has_three_parts(rt: HostRuntime) -> Result<(), Fail> {
+    let parts = parts(rt.alloc(), &CERTIFICATE, 3)?;
+    same(&rt, parts.len(), 3);
+    let wanted: [(Tag, &[u8]); 3] = [
+        (Tag::Sequence, &CERTIFICATE[4..295]),
+        (Tag::Sequence, &CERTIFICATE[295..307]),
+        (Tag::BitString, &CERTIFICATE[307..]),
+    ];
+    let mut number = 0usize;
+    for (tag, octets) in wanted {
+        same_in(&rt, &number, tag_of(&parts, number), Some(tag));
+        same_in(&rt, &number, octets_of(&parts, number), octets);
+        number = number.wrapping_add(1);
+    }
     Ok(())
 }
 
@@ -105,22 +132,29 @@ fn a_certificate_has_three_parts(rt: HostRuntime) -> Result<(), Fail> {
 fn the_signed_part_of_a_certificate(rt: HostRuntime) -> Result<(), Fail> {
     let alloc = rt.alloc();
     let fields = parts(alloc, &CERTIFICATE[4..295], 8)?;
-    assert_eq!(rt; fields.len(), 8);
+    same(&rt, fields.len(), 8);
     let numbered = |number| Tag::ContextSpecific {
         constructed: true,
         number: TagNumber(number),
     };
-    same(&rt, fields[0].0, numbered(0));
-    same(&rt, fields[1].0, Tag::Integer);
-    same(&rt, fields[7].0, numbered(3));
+    same(&rt, tag_of(&fields, 0), Some(numbered(0)));
+    same(&rt, tag_of(&fields, 1), Some(Tag::Integer));
+    same(&rt, tag_of(&fields, 7), Some(numbered(3)));
     let mut all = Vec::new(alloc);
     for field in &fields {
         all.extend_from_slice(&field.1)?;
     }
     same(&rt, all.as_slice(), &CERTIFICATE[8..295]);
-    let algorithm = parts(alloc, &fields[2].1, 1)?;
-    assert_eq!(rt; algorithm.len(), 1);
-    let Ok(name) = ObjectIdentifier::<8>::from_der(alloc, &algorithm[0].1) else {
+    Ok(())
+}
+
+#[test]
+fn the_algorithm_of_a_certificate(rt: HostRuntime) -> Result<(), Fail> {
+    let alloc = rt.alloc();
+    let fields = parts(alloc, &CERTIFICATE[4..295], 8)?;
+    let algorithm = parts(alloc, octets_of(&fields, 2), 1)?;
+    same(&rt, algorithm.len(), 1);
+    let Ok(name) = ObjectIdentifier::<8>::from_der(alloc, octets_of(&algorithm, 0)) else {
         panic!(rt; "refused")
     };
     same(
@@ -131,40 +165,58 @@ fn the_signed_part_of_a_certificate(rt: HostRuntime) -> Result<(), Fail> {
     Ok(())
 }
 
+/// The BOOLEAN that the octets encode, or the number of the refusal.
+fn boolean(octets: &[u8]) -> Result<bool, u8> {
+    let any = match AnyRef::try_from(octets) {
+        Ok(any) => any,
+        Err(e) => return Err(e.kind.number()),
+    };
+    match bool::try_from(any) {
+        Ok(value) => Ok(value),
+        Err(e) => Err(e.kind.number()),
+    }
+}
+
+/// The values in the SEQUENCE that an OCTET STRING holds.
+fn held_parts(alloc: Global, octets: &[u8], count: usize) -> Result<Vec<(Tag, Vec<u8>)>, Error> {
+    match OctetStringRef::from_der(alloc, octets) {
+        Ok(value) => parts(alloc, value.as_bytes(), count),
+        Err(e) => Err(e),
+    }
+}
+
 #[test]
 fn basic_constraints_of_a_certificate(rt: HostRuntime) -> Result<(), Fail> {
     let alloc = rt.alloc();
     let extension = parts(alloc, &CERTIFICATE[278..295], 3)?;
-    assert_eq!(rt; extension.len(), 3);
-    let critical = match AnyRef::try_from(extension[1].1.as_slice()) {
-        Ok(any) => bool::try_from(any)?,
-        Err(e) => panic!(rt; "refused: {:?}", e.kind)
-    };
-    holds(&rt, critical);
-    let Ok(value) = OctetStringRef::from_der(alloc, &extension[2].1) else {
-        panic!(rt; "refused")
-    };
-    let inner = parts(alloc, value.as_bytes(), 1)?;
-    assert_eq!(rt; inner.len(), 1);
-    same(&rt, inner[0].1.as_slice(), [0x01, 0x01, 0xff].as_slice());
+    same(&rt, extension.len(), 3);
+    same(&rt, boolean(octets_of(&extension, 1)), Ok(true));
+    let inner = held_parts(alloc, octets_of(&extension, 2), 1)?;
+    same(&rt, inner.len(), 1);
+    same(&rt, octets_of(&inner, 0), [0x01, 0x01, 0xff].as_slice());
+    Ok(())
+}
+
+#[test]
+fn a_public_key_has_two_numbers(rt: HostRuntime) -> Result<(), Fail> {
+    let numbers = parts(rt.alloc(), &PUBLIC_KEY, 2)?;
+    same(&rt, numbers.len(), 2);
+    same(&rt, octets_of(&numbers, 0), &PUBLIC_KEY[3..135]);
+    same(&rt, octets_of(&numbers, 1), &PUBLIC_KEY[135..]);
     Ok(())
 }
 
 #[test]
 fn the_numbers_of_a_public_key(rt: HostRuntime) -> Result<(), Fail> {
     let alloc = rt.alloc();
-    let numbers = parts(alloc, &PUBLIC_KEY, 2)?;
-    assert_eq!(rt; numbers.len(), 2);
-    same(&rt, numbers[0].1.as_slice(), &PUBLIC_KEY[3..135]);
-    same(&rt, numbers[1].1.as_slice(), &PUBLIC_KEY[135..]);
-    let modulus = Any::from_der(alloc, &numbers[0].1)?;
+    let modulus = Any::from_der(alloc, &PUBLIC_KEY[3..135])?;
     same(&rt, modulus.tag(), Tag::Integer);
     same(&rt, modulus.value(), &PUBLIC_KEY[6..135]);
     holds(
         &rt,
         matches!(u128::try_from(modulus.to_ref()), Err(e) if e.kind.number() == 8),
     );
-    let exponent = Any::from_der(alloc, &numbers[1].1)?;
+    let exponent = Any::from_der(alloc, &PUBLIC_KEY[135..])?;
     same(&rt, exponent.value(), [0x01, 0x00, 0x01].as_slice());
     same(&rt, u32::try_from(exponent.to_ref())?, 65537);
     Ok(())
