@@ -1,14 +1,16 @@
 #!/usr/bin/env python3
 """Tries the edits of crates/NAME/must-fail: each turns the meaning of a function, and the prover must refuse it.
 
-    python3 tests/edits.py [--built TREE] [NAME..]
+    python3 tests/edits.py [--built TREE [--log FILE]] [NAME..]
 
 Edits of different functions are tried in one check: a function is proved from the contracts of those that it calls, and
 not from their bodies. An edit is refused where the check says of the function that it changes that its own proof fails.
 Where it says only that a callee has no proof, the edit is tried again with others, and last alone; there any function may
 be the one that is refused, as under 'rt must-fail'. At the end each crate has to be proved as it stands, over what these
-checks kept. TREE is a copy of the repository in which 'rt ci' has built the crates; without it, what 'rt check' has built
-is taken. JOBS says how many crates are tried at a time. The last line counts."""
+checks kept. TREE is a copy of the repository in which 'rt ci' builds the crates; without it, what 'rt check' has built is
+taken. FILE is what that 'rt ci' prints, where it is still at work: the edits of a crate are tried as soon as those below it
+are proved, at low priority, so that they fill what the proofs leave free. JOBS says how many crates are tried at a time, of
+which half wait for the end of 'rt ci'. The last line counts."""
 import glob
 import os
 import re
@@ -17,6 +19,7 @@ import subprocess
 import sys
 import tempfile
 import threading
+import time
 from concurrent.futures import ThreadPoolExecutor
 
 ROOT = os.path.dirname(os.path.dirname(os.path.abspath(__file__)))
@@ -29,6 +32,7 @@ UNREAD = re.compile(r"is not in scope|has no field|is no name|operand is missing
 NAMES = re.compile(r"(has no field|is not in scope|has no `|was not admitted)")
 WEAK = " (only because a proof file names what the edit took away)"
 printing = threading.Lock()
+choosing = threading.Lock()
 
 
 def say(text):
@@ -39,8 +43,8 @@ def say(text):
 class Crate:
     """A crate of the repository: its line of crates.txt, and where its libraries are built."""
 
-    def __init__(self, name, uses, crates, built, kit):
-        self.name, self.kit, self.built = name, kit, built
+    def __init__(self, name, uses, crates, built, kit, builds):
+        self.name, self.kit, self.built, self.builds = name, kit, built, builds
         self.folder = f"{ROOT}/crates/{name}"
         self.deps = [crates[it] for it in uses if it in crates]
         self.of_kit = ["std", *(it for it in uses if it not in crates and it != "std")]
@@ -84,8 +88,33 @@ class Crate:
                 with open(f"{room}/{path}", "w", encoding="utf-8") as file:
                     file.write(text)
             how = {"stdin": subprocess.DEVNULL, "stdout": subprocess.PIPE, "stderr": subprocess.STDOUT}
-            ran = subprocess.run(self.command(kept, only), cwd=room, errors="replace", **how)
+            words = self.command(kept, only) if self.builds.ended() else ["nice", "-n", "19", *self.command(kept, only)]
+            ran = subprocess.run(words, cwd=room, errors="replace", **how)
         return Answer(ran.stdout, ran.returncode)
+
+
+class Builds:
+    """What 'rt ci' has said so far, where it is still at work: which crates are proved and built, and whether it has ended."""
+
+    PROVED = re.compile(r"^rt: (\w+) (?:proved$|is kept: )", re.M)
+    END = re.compile(r"^\d+ passed, \d+ failed", re.M)
+
+    def __init__(self, log):
+        self.log = log
+
+    def text(self):
+        with open(self.log, encoding="utf-8", errors="replace") as file:
+            return file.read()
+
+    def ended(self):
+        return not self.log or bool(self.END.search(self.text()))
+
+    def has(self, crate):
+        """Whether all libraries below a crate are built."""
+        if not self.log:
+            return all(os.path.isdir(it.rlib()) for it in crate.below())
+        proved = set(self.PROVED.findall(self.text()))
+        return all(it.name in proved for it in crate.below())
 
 
 class Answer:
@@ -284,29 +313,50 @@ def try_edits(crate, edits):
     return len(edits) - len(faults), len(faults)
 
 
+def lane(tasks, builds, waits):
+    """Tries the edits of one crate after another, of those whose libraries are built the first; counts what was refused."""
+    passed = failed = 0
+    while True:
+        ended = builds.ended()
+        with choosing:
+            if not tasks:
+                return passed, failed
+            ready = next((it for it in tasks if builds.has(it[0])), None) if ended or not waits else None
+            if ready or ended:
+                tasks.remove(ready or tasks[0])
+        if ready:
+            found = try_edits(*ready)
+            passed, failed = passed + found[0], failed + found[1]
+        elif ended:
+            # what is left has a library that is not proved
+            say("the edits that are left stand on a crate that is not built: see 'rt ci', or run 'rt all check' first")
+            failed += 1
+        else:
+            time.sleep(1)
+
+
 def main(words):
-    built = ROOT
+    built, log = ROOT, None
     if words[:1] == ["--built"]:
         built, words = words[1], words[2:]
+    if words[:1] == ["--log"]:
+        log, words = words[1], words[2:]
     kit = os.path.dirname(subprocess.run(["rt", "doc"], capture_output=True, text=True, check=True).stdout.strip())
     lines = [it.partition("#")[0].strip() for it in open(f"{ROOT}/crates.txt", encoding="utf-8")]
     uses = {it.split(":")[0].split()[0]: it.split(":")[1].split() for it in lines if it}
-    crates = {}
+    builds, crates = Builds(log), {}
     while len(crates) < len(uses):
         for name in (it for it in uses if it not in crates):
             if all(it in crates for it in uses[name] if it in uses):
-                crates[name] = Crate(name, uses[name], crates, built, kit)
-    chosen = [crates[it] for it in (words or uses)]
-    missing = [dep.name for it in chosen for dep in it.below() if not os.path.isdir(dep.rlib())]
-    if missing:
-        print(f"{missing[0]} is not built: run 'rt all check' first")
-        return 2
+                crates[name] = Crate(name, uses[name], crates, built, kit, builds)
     # the longest first
-    chosen.sort(key=lambda it: -it.size())
+    chosen = sorted((crates[it] for it in (words or uses)), key=lambda it: -it.size())
     tasks = [(it, [Edit(it, file) for file in sorted(glob.glob(f"{it.folder}/must-fail/*.edit"))]) for it in chosen]
     tasks = [it for it in tasks if it[1]]
-    with ThreadPoolExecutor(int(os.environ.get("JOBS") or len(os.sched_getaffinity(0)))) as lanes:
-        counts = list(lanes.map(lambda it: try_edits(*it), tasks))
+    number = int(os.environ.get("JOBS") or len(os.sched_getaffinity(0)))
+    with ThreadPoolExecutor(number) as lanes:
+        ran = [lanes.submit(lane, tasks, builds, at >= (number + 1) // 2) for at in range(number)]
+    counts = [it.result() for it in ran]
     passed, failed = (sum(it[part] for it in counts) for part in (0, 1))
     print(f"{passed} passed, {failed} failed")
     return 1 if failed else 0

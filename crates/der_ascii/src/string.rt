@@ -4,14 +4,13 @@
 //! type (`ErrorKind::Value`, 13), and then where memory runs out (`ErrorKind::Memory`, 1).
 
 ghost use Rattle.std.specs.Prelude.{◌≡◌, ◌↔◌, ◌^◌, ◌<◌, [], Some, length, true, refl, IsTrue};
-ghost use Rattle.std.proofs.Common.{ap, sym};
 ghost use Rattle.std.specs.Cmp.Lexicographic.{bytes_decides};
 ghost use Rattle.std.specs.String.{string_bytes};
-ghost use Rattle.der_tlv.specs.ReaderState.{ReaderState, rest};
+ghost use Rattle.der_tlv.specs.ReaderState.{rest};
 ghost use Rattle.der_tlv.specs.Reading.{Stands};
 ghost use Rattle.der_elem.specs.Decoding.{DecodesValue};
 ghost use Rattle.der_elem.specs.RunningOut.{FaultsFirst};
-ghost use Rattle.der_elem.specs.OwnContents.{accepts_own};
+ghost use Rattle.der_elem.specs.ValueForms.{owned_form};
 ghost use Rattle.der_ascii.specs.Characters.{are_characters, string_tag, parse_string, KeepsOwnedString, KeepsString};
 ghost use Rattle.der_ascii.specs.StringLaws.{parse_of_characters};
 ghost use Rattle.der_opaque.specs.AnyRef as borrowed_any;
@@ -120,26 +119,7 @@ impl<const NUMBER: u8> fmt::Debug for CharacterString<NUMBER> {
 impl<const NUMBER: u8> FormValue for CharacterString<NUMBER> {
     ghost use Rattle.der_ascii.specs.CharacterString.{octets_of};
 
-    ghost contents = { octets_of };
-
-    ghost accepts_value = { accepts_own octets_of };
-
-    ghost parse_value = { parse_string NUMBER };
-
-    ghost VALUE_TAKES_MEMORY = { true };
-
-    ghost parse_of_accepted_value = { λ rules v p c a fits.
-        parse_of_characters NUMBER rules p (string_bytes v.text) c v.characters a };
-
-    ghost same_length_value = { λ rules v c a. ap length (sym a) };
-
-    ghost accepts_contents = { λ rules v r. refl };
-
-    ghost only_readable_value = { λ rules v c a. tt };
-
-    ghost accepts_comparable_value = { λ rules v w c d a b. tt };
-
-    ghost re_reads_memory_value = { λ v e. refl };
+    ghost value = { owned_form octets_of (parse_string NUMBER) (λ rules v p. parse_of_characters NUMBER rules p (string_bytes v.text) (string_bytes v.text) v.characters refl) };
 }
 
 impl<const NUMBER: u8> OneTag for CharacterString<NUMBER> {
@@ -160,7 +140,7 @@ impl<'a, R: Reader<'a>, const NUMBER: u8> DecodeValue<'a, R> for CharacterString
         reader: &mut R,
         header: Header,
     ) -> Result<CharacterString<NUMBER>, Error>
-        ensures exact { length (rest (R.state reader.old)) ≡ header.length → DecodesValue (string.ghosts NUMBER.row) header (R.state reader.old) (R.state reader.new) result }
+        ensures exact { length (rest (R.state reader.old)) ≡ header.length → DecodesValue (string.ghosts NUMBER.row).value header (R.state reader.old) (R.state reader.new) result }
         ensures reader { Stands (R.state reader.old) (R.state reader.new) result }
         ensures faults_first { length (rest (R.state reader.old)) ≡ header.length → FaultsFirst (parse_string NUMBER) (R.state reader.old) result }
     {

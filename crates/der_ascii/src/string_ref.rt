@@ -6,12 +6,9 @@
 ghost use Rattle.std.specs.Prelude.{◌≡◌, ◌↔◌, ◌^◌, ◌<◌, [], Some, length, true, refl, IsTrue, IfOk, IfErr, false};
 ghost use Rattle.std.specs.Cmp.Lexicographic.{bytes_decides};
 ghost use Rattle.der_tlv.specs.declared.error.ErrorKind.TheVariants as kinds;
-ghost use Rattle.der_tlv.specs.declared.encoding_rules.EncodingRules.TheVariants.{Der};
-ghost use Rattle.der_opaque.specs.DecodingAs.{DecodesAs};
+ghost use Rattle.der_elem.specs.ValueForms.{own_form};
 ghost use Rattle.der_ascii.specs.Characters.{are_characters, string_tag, parse_string, KeepsString};
 ghost use Rattle.der_ascii.specs.StringLaws.{parse_of_characters};
-ghost use Rattle.der_elem.specs.OwnContents.{accepts_within};
-ghost use Rattle.der_elem.specs.OwnContentsLaws.{parse_of_within, same_length_within, accepts_contents_within, only_within};
 ghost use Rattle.der_opaque.specs.Any as owned_any;
 ghost use Rattle.der_opaque.specs.AnyRef as borrowed_any;
 
@@ -114,25 +111,7 @@ impl<'a, const NUMBER: u8> fmt::Debug for CharacterStringRef<'a, NUMBER> {
 impl<'a, const NUMBER: u8> FormValue for CharacterStringRef<'a, NUMBER> {
     ghost use Rattle.der_ascii.specs.CharacterStringRef.{octets_of};
 
-    ghost contents = { octets_of };
-
-    ghost accepts_value = { accepts_within octets_of (λ v. Unit {0}) };
-
-    ghost parse_value = { parse_string NUMBER };
-
-    ghost parse_of_accepted_value = { parse_of_within octets_of
-        (λ v. Unit {0}) (parse_string NUMBER) (λ rules v p r.
-        parse_of_characters NUMBER rules p v.text.now v.text.now v.characters refl) };
-
-    ghost same_length_value = { same_length_within octets_of (λ v. Unit {0}) };
-
-    ghost accepts_contents = { accepts_contents_within octets_of (λ v. Unit {0}) };
-
-    ghost only_readable_value = { only_within octets_of (λ v. Unit {0}) };
-
-    ghost accepts_comparable_value = { λ rules v w c d a b. tt };
-
-    ghost re_reads_memory_value = { λ v e. e };
+    ghost value = { own_form octets_of (parse_string NUMBER) (λ rules v p. parse_of_characters NUMBER rules p v.text.now v.text.now v.characters refl) };
 }
 
 impl<'a, const NUMBER: u8> OneTag for CharacterStringRef<'a, NUMBER> {

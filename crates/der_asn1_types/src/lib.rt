@@ -26,8 +26,8 @@ pub use der_elem::{
 };
 pub use der_fields::{
     DefaultFalse, DefaultNumber, DefaultOf, End, Explicit, ExplicitApplication, ExplicitIn,
-    ExplicitPrivate, Field, FieldList, FieldSequence, FieldsPart, Implicit, ImplicitApplication,
-    ImplicitIn, ImplicitPrivate, OneOf, WithDefault, read_sequence, write_sequence,
+    ExplicitPrivate, Field, FieldList, FieldSequence, Implicit, ImplicitApplication, ImplicitIn,
+    ImplicitPrivate, NamedFields, NamedSequence, OneOf, WithDefault, read_sequence, write_sequence,
 };
 pub use der_nest::Asks;
 pub use der_time::{DateTime, const_contains_u8};

@@ -3,17 +3,17 @@
 //! The tag is 03. The contents octets, and what reading refuses, are those of the borrowed form.
 
 ghost use Rattle.std.specs.Prelude.{◌≡◌, ◌≢◌, ◌↔◌, MatchOption, ◌^◌, ◌<◌, ◌≤◌, [], ◌∷◌, length, true, refl, IsTrue, IfOk, IfErr, Some, None};
-ghost use Rattle.std.proofs.Common.{ap, sym, ◌∙◌};
+ghost use Rattle.std.proofs.Common.{◌∙◌};
 ghost use Rattle.std.specs.Cmp.{on_per, on_equiv, on_total, partial_equiv_from_equiv};
 ghost use Rattle.std.specs.Cmp.Lexicographic.{nat_list_cmp_total, texts_ties};
 ghost use Rattle.der_tlv.specs.declared.error.ErrorKind.TheVariants as kinds;
 ghost use Rattle.der_tlv.specs.declared.tag.Tag.TheVariants as tags;
 ghost use Rattle.der_tlv.specs.Octets.{lex};
-ghost use Rattle.der_tlv.specs.ReaderState.{ReaderState, rest};
+ghost use Rattle.der_tlv.specs.ReaderState.{rest};
 ghost use Rattle.der_tlv.specs.Reading.{Stands};
 ghost use Rattle.der_elem.specs.Decoding.{DecodesValue};
 ghost use Rattle.der_elem.specs.RunningOut.{FaultsFirst};
-ghost use Rattle.der_elem.specs.OwnContents.{accepts_own};
+ghost use Rattle.der_elem.specs.ValueForms.{owned_form};
 ghost use Rattle.der_bits.specs.BitString.{AreOctets, can_be_unused, are_zero, parse_bit_string, unused_count, bit_octets, bit_count, bit, bits, same_bits, KeepsBits, KeepsCleared};
 ghost use Rattle.der_bits.specs.BitStringLaws.{parse_of_bits};
 ghost use Rattle.der_bits.specs.EqualBitsLaws.{same_tests, contents_decided, bit_lists_equiv, bits_po};
@@ -203,26 +203,7 @@ impl Clone for BitString {
 impl FormValue for BitString {
     ghost use Rattle.der_bits.specs.OwnedBitString.{contents_of};
 
-    ghost contents = { contents_of };
-
-    ghost accepts_value = { accepts_own contents_of };
-
-    ghost parse_value = { parse_bit_string };
-
-    ghost VALUE_TAKES_MEMORY = { true };
-
-    ghost parse_of_accepted_value = { λ rules v p c a fits.
-        parse_of_bits v.unused v.octets.items v.possible v.zero rules p c a };
-
-    ghost same_length_value = { λ rules v c a. ap length (sym a) };
-
-    ghost accepts_contents = { λ rules v r. refl };
-
-    ghost only_readable_value = { λ rules v c a. tt };
-
-    ghost accepts_comparable_value = { λ rules v w c d a b. tt };
-
-    ghost re_reads_memory_value = { λ v e. refl };
+    ghost value = { owned_form contents_of parse_bit_string (λ rules v p. parse_of_bits v.unused v.octets.items v.possible v.zero rules p (v.unused ∷ v.octets.items) refl) };
 }
 
 impl OneTag for BitString {
@@ -240,7 +221,7 @@ impl<'a, R: Reader<'a>> DecodeValue<'a, R> for BitString {
     /// (17) on a failed reader; the first fault of the contents octets; else (1) where memory runs
     /// out.
     fn decode_value(alloc: Global, reader: &mut R, header: Header) -> Result<BitString, Error>
-        ensures exact { length (rest (R.state reader.old)) ≡ header.length → DecodesValue bit_string header (R.state reader.old) (R.state reader.new) result }
+        ensures exact { length (rest (R.state reader.old)) ≡ header.length → DecodesValue bit_string.value header (R.state reader.old) (R.state reader.new) result }
         ensures reader { Stands (R.state reader.old) (R.state reader.new) result }
         ensures faults_first { length (rest (R.state reader.old)) ≡ header.length → FaultsFirst parse_bit_string (R.state reader.old) result }
     {

@@ -14,14 +14,11 @@ ghost use Rattle.std.specs.Cmp.{on_per, on_equiv, on_total, partial_equiv_from_e
 ghost use Rattle.std.specs.Cmp.Lexicographic.{nat_list_cmp_total, texts_ties};
 ghost use Rattle.der_tlv.specs.declared.error.ErrorKind.TheVariants as kinds;
 ghost use Rattle.der_tlv.specs.declared.tag.Tag.TheVariants as tags;
-ghost use Rattle.der_tlv.specs.declared.encoding_rules.EncodingRules.TheVariants.{Der};
 ghost use Rattle.der_tlv.specs.Octets.{lex};
-ghost use Rattle.der_opaque.specs.DecodingAs.{DecodesAs};
+ghost use Rattle.der_elem.specs.ValueForms.{own_form};
 ghost use Rattle.der_bits.specs.BitString.{AreOctets, can_be_unused, are_zero, parse_bit_string, unused_count, bit_octets, bit_count, bit, bits, same_bits, KeepsBits, KeepsAll, ParsedAs, FillsArray};
 ghost use Rattle.der_bits.specs.BitStringLaws.{parse_of_bits};
 ghost use Rattle.der_bits.specs.EqualBitsLaws.{same_tests, contents_decided, bit_lists_equiv, bits_po};
-ghost use Rattle.der_elem.specs.OwnContents.{accepts_within};
-ghost use Rattle.der_elem.specs.OwnContentsLaws.{parse_of_within, same_length_within, accepts_contents_within, only_within};
 ghost use Rattle.der_opaque.specs.Any as owned_any;
 ghost use Rattle.der_opaque.specs.AnyRef as borrowed_any;
 
@@ -222,25 +219,7 @@ impl<'a> BitStringRef<'a> {
 impl<'a> FormValue for BitStringRef<'a> {
     ghost use Rattle.der_bits.specs.BitStringRef.{contents_of};
 
-    ghost contents = { contents_of };
-
-    ghost accepts_value = { accepts_within contents_of (λ v. Unit {0}) };
-
-    ghost parse_value = { parse_bit_string };
-
-    ghost parse_of_accepted_value = { parse_of_within contents_of (λ v. Unit {0}) parse_bit_string
-        (λ rules v p r. parse_of_bits v.unused v.octets.now v.possible v.zero rules p
-        (v.unused ∷ v.octets.now) refl) };
-
-    ghost same_length_value = { same_length_within contents_of (λ v. Unit {0}) };
-
-    ghost accepts_contents = { accepts_contents_within contents_of (λ v. Unit {0}) };
-
-    ghost only_readable_value = { only_within contents_of (λ v. Unit {0}) };
-
-    ghost accepts_comparable_value = { λ rules v w c d a b. tt };
-
-    ghost re_reads_memory_value = { λ v e. e };
+    ghost value = { own_form contents_of parse_bit_string (λ rules v p. parse_of_bits v.unused v.octets.now v.possible v.zero rules p (v.unused ∷ v.octets.now) refl) };
 }
 
 impl<'a> OneTag for BitStringRef<'a> {
@@ -488,7 +467,7 @@ pub trait AsBitStringRef: FormValue {
 
     /// The same bit string, borrowed.
     fn as_bit_string_ref(&self) -> BitStringRef<'_>
-        ensures { contents_of result ≡ Self.contents self.now };
+        ensures { contents_of result ≡ Self.value.contents self.now };
 }
 
 impl<'a> AsBitStringRef for BitStringRef<'a> {

@@ -1,10 +1,10 @@
 //! The fields from the signature on of a TBSCertificate.
 
 ghost use Rattle.std.specs.Prelude.{refl, true};
-ghost use Rattle.der_fields.specs.Parts.{part_of};
+ghost use Rattle.der_fields.specs.FieldForms.{part_of};
 
 use crate::subject::Subject;
-use der_fields::{DecodeFields, EncodeFields, Field, FieldList, FieldsPart};
+use der_fields::{DecodeFields, EncodeFields, Field, FieldList};
 use der_opaque::AnyRef;
 use der_pkix::AlgorithmIdentifier;
 use der_tlv::{Error, Length, Reader, Writer};
@@ -20,42 +20,8 @@ pub struct Issuer<'a> {
     pub fields: IssuerFields<'a>,
 }
 
-impl<'a> FieldsPart for Issuer<'a> {
-    ghost list = { part_of (λ v. v.fields) ⟦<IssuerFields<'a> as FieldList>⟧ };
-}
-
 impl<'a> FieldList for Issuer<'a> {
-    ghost use Rattle.der_certificate.specs.contracts.issuer.IssuerFieldsPart.TheImpl.{ghosts as issuer};
-
-    ghost joined = { issuer.list.joined };
-
-    ghost first_tag = { issuer.list.first_tag };
-
-    ghost all_comparable = { issuer.list.all_comparable };
-
-    ghost re_read = { issuer.list.re_read };
-
-    ghost accepts_fields = { issuer.list.accepts_fields };
-
-    ghost parse_fields = { issuer.list.parse_fields };
-
-    ghost readable_fields = { issuer.list.readable_fields };
-
-    ghost FIELDS_TAKE_MEMORY = { issuer.list.FIELDS_TAKE_MEMORY };
-
-    ghost parse_of_accepted_fields = { issuer.list.parse_of_accepted_fields };
-
-    ghost led_fields = { issuer.list.led_fields };
-
-    ghost same_length_fields = { issuer.list.same_length_fields };
-
-    ghost accepts_joined = { issuer.list.accepts_joined };
-
-    ghost only_readable_fields = { issuer.list.only_readable_fields };
-
-    ghost accepts_all_comparable = { issuer.list.accepts_all_comparable };
-
-    ghost re_read_memory = { issuer.list.re_read_memory };
+    ghost list = { part_of (λ v. v.fields) ⟦<IssuerFields<'a> as FieldList>⟧.list };
 }
 
 impl<'a, R: Reader<'a>> DecodeFields<'a, R> for Issuer<'a> {

@@ -1,12 +1,10 @@
 //! The unique identifiers and the extensions of a TBSCertificate.
 
 ghost use Rattle.std.specs.Prelude.{refl, true};
-ghost use Rattle.der_fields.specs.Parts.{part_of};
+ghost use Rattle.der_fields.specs.FieldForms.{part_of};
 
 use der_bits::BitStringRef;
-use der_fields::{
-    DecodeFields, EncodeFields, End, Explicit, Field, FieldList, FieldsPart, Implicit,
-};
+use der_fields::{DecodeFields, EncodeFields, End, Explicit, Field, FieldList, Implicit};
 use der_pkix::Extension;
 use der_tlv::{Error, Length, Reader, Writer};
 use std::alloc::Global;
@@ -27,42 +25,8 @@ pub struct Last<'a> {
     pub fields: LastFields<'a>,
 }
 
-impl<'a> FieldsPart for Last<'a> {
-    ghost list = { part_of (λ v. v.fields) ⟦<LastFields<'a> as FieldList>⟧ };
-}
-
 impl<'a> FieldList for Last<'a> {
-    ghost use Rattle.der_certificate.specs.contracts.last.LastFieldsPart.TheImpl.{ghosts as last};
-
-    ghost joined = { last.list.joined };
-
-    ghost first_tag = { last.list.first_tag };
-
-    ghost all_comparable = { last.list.all_comparable };
-
-    ghost re_read = { last.list.re_read };
-
-    ghost accepts_fields = { last.list.accepts_fields };
-
-    ghost parse_fields = { last.list.parse_fields };
-
-    ghost readable_fields = { last.list.readable_fields };
-
-    ghost FIELDS_TAKE_MEMORY = { last.list.FIELDS_TAKE_MEMORY };
-
-    ghost parse_of_accepted_fields = { last.list.parse_of_accepted_fields };
-
-    ghost led_fields = { last.list.led_fields };
-
-    ghost same_length_fields = { last.list.same_length_fields };
-
-    ghost accepts_joined = { last.list.accepts_joined };
-
-    ghost only_readable_fields = { last.list.only_readable_fields };
-
-    ghost accepts_all_comparable = { last.list.accepts_all_comparable };
-
-    ghost re_read_memory = { last.list.re_read_memory };
+    ghost list = { part_of (λ v. v.fields) ⟦<LastFields<'a> as FieldList>⟧.list };
 }
 
 impl<'a, R: Reader<'a>> DecodeFields<'a, R> for Last<'a> {

@@ -13,7 +13,7 @@ use Rattle.der_tlv.specs.Identifier.{identifier}
 use Rattle.der_tlv.specs.IdentifierLaws.{lex-identifier-equal}
 use Rattle.der_tlv.specs.HeaderOctets.{header_octets, tlv}
 use Rattle.der_tlv.specs.HeaderOrder.{lex-tlv}
-use Rattle.der_elem.specs.declared.form.FormValue as value
+use Rattle.der_elem.specs.ValueForm.{ValueForm}
 use Rattle.der_elem.specs.declared.form.Form as form
 use Rattle.der_elem.specs.Comparing.{IncomparableValues, Incomparable, ComparesValues, Compares, SameHeader}
 
@@ -23,12 +23,12 @@ decided Equal p h = absurd (h refl)
 decided Greater p h = refl
 
 -- two values with tags
-pub record Headed {T : Type 0} (V : value.Ghosts T) (F : form.Ghosts T) (tag_of : T → Tag) : Type 0 where
+pub record Headed {T : Type 0} (V : ValueForm T) (F : form.Ghosts T) (tag_of : T → Tag) : Type 0 where
   pub encoding_is : (v : T) → F.encoding v ≡ tlv (tag_of v) (V.contents v)
-  pub re_reads_alike : (v : T) → V.re_reads_value v ≡ true → F.re_reads v ≡ true
-  pub comparable_alike : (v w : T) → F.comparable v w → V.comparable_value v w
+  pub re_reads_alike : (v : T) → V.re_reads v ≡ true → F.re_reads v ≡ true
+  pub comparable_alike : (v w : T) → F.comparable v w → V.comparable v w
 
-module _ {T : Type 0} {V : value.Ghosts T} {F : form.Ghosts T} {tag_of : T → Tag} (h : Headed V F tag_of) (x y : T) where
+module _ {T : Type 0} {V : ValueForm T} {F : form.Ghosts T} {tag_of : T → Tag} (h : Headed V F tag_of) (x y : T) where
   order_is : lex (F.encoding x) (F.encoding y) ≡ ordering_then (lex (identifier (tag_of x)) (identifier (tag_of y))) (ordering_then (nat_cmp (length (V.contents x)) (length (V.contents y))) (lex (V.contents x) (V.contents y)))
   order_is =
       ap (λ o. lex o (F.encoding y)) (h.encoding_is x) ∙ ap (lex (tlv (tag_of x) (V.contents x))) (h.encoding_is y) ∙ lex-tlv (tag_of x) (tag_of y) (V.contents x) (V.contents y)

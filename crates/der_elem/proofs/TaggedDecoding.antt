@@ -10,7 +10,7 @@ use Rattle.der_tlv.specs.HeaderOctets.{tlv}
 use Rattle.der_tlv.specs.HeaderReading.{read_header, octets_of}
 use Rattle.der_tlv.specs.Reading.{HeadFault, OctetsRefused}
 use Rattle.der_tlv.specs.ReaderState.{ReaderState, rest, unless_failed}
-use Rattle.der_elem.specs.declared.form.FormValue as value
+use Rattle.der_elem.specs.ValueForm.{ValueForm}
 use Rattle.der_elem.specs.Parsing.{ContentsParse, parse_tagged, parse_with_tag, tagged_contents}
 use Rattle.der_elem.specs.Accepting.{accepts_tagged}
 use Rattle.der_elem.specs.Decoding.{Faults, ValueDecoded, ValueNotDecoded}
@@ -33,26 +33,26 @@ other_tag_fault at t e parse rules = rw at.head.ready (parse_other_tag at t e pa
 pub too_long_fault : {header : Header} {old mid new : ReaderState} {kind : ErrorKind} → AtHeader header old mid → OctetsRefused mid new header.length kind → (t : Tag) → header.tag ≡ t → (parse : ContentsParse) (rules : EncodingRules) → unless_failed (parse_tagged t parse rules) old ≡ Err kind
 too_long_fault at refused t e parse rules = rw at.head.ready (parse_own_tag at t e parse rules ∙ parse_too_long at refused parse rules)
 
-module _ {T : Type 0} (F : value.Ghosts T) (t : Tag) {header : Header} {old mid shown : ReaderState} {end : ℕ} (c : AtContents header old mid shown end) (same : header.tag ≡ t) where
-  parse_all : parse_tagged t F.parse_value old.rules old.position (rest old) ≡ tagged_contents header.tag (length (octets_of header) + header.length) (F.parse_value old.rules shown.position (rest shown))
-  parse_all = parse_own_tag c.at t same F.parse_value old.rules ∙ parse_shown c F.parse_value old.rules
+module _ {T : Type 0} (F : ValueForm T) (t : Tag) {header : Header} {old mid shown : ReaderState} {end : ℕ} (c : AtContents header old mid shown end) (same : header.tag ≡ t) where
+  parse_all : parse_tagged t F.parse old.rules old.position (rest old) ≡ tagged_contents header.tag (length (octets_of header) + header.length) (F.parse old.rules shown.position (rest shown))
+  parse_all = parse_own_tag c.at t same F.parse old.rules ∙ parse_shown c F.parse old.rules
 
   -- the fault of the contents octets
-  pub contents_fault : {kind : ErrorKind} → ValueNotDecoded F shown kind → Faults F.VALUE_TAKES_MEMORY (unless_failed (parse_tagged t F.parse_value old.rules) old) kind
+  pub contents_fault : {kind : ErrorKind} → ValueNotDecoded F shown kind → Faults F.TAKES_MEMORY (unless_failed (parse_tagged t F.parse old.rules) old) kind
   contents_fault {kind} told =
       elim told.reason [
         | inl m ↦ inl m
         | inr e ↦
-            let there : F.parse_value old.rules shown.position (rest shown) ≡ Err kind = ap (λ rules. F.parse_value rules shown.position (rest shown)) (sym (shown_rules c)) ∙ (let s = rw (shown_ready c) at e in s) in
+            let there : F.parse old.rules shown.position (rest shown) ≡ Err kind = ap (λ rules. F.parse rules shown.position (rest shown)) (sym (shown_rules c)) ∙ (let s = rw (shown_ready c) at e in s) in
             inr (rw c.at.head.ready (parse_all ∙ ap (tagged_contents header.tag (length (octets_of header) + header.length)) there))
       ]
 
   -- the value
-  pub parsed_value : {after : ReaderState} {v : T} → ValueDecoded F header shown after v → parse_tagged t F.parse_value old.rules old.position (rest old) ≡ Ok (length (octets_of header) + header.length, tlv t (F.contents v))
+  pub parsed_value : {after : ReaderState} {v : T} → ValueDecoded F header shown after v → parse_tagged t F.parse old.rules old.position (rest old) ≡ Ok (length (octets_of header) + header.length, tlv t (F.contents v))
   parsed_value {after} {v} told =
-      let there : F.parse_value old.rules shown.position (rest shown) ≡ Ok (F.contents v) = ap (λ rules. F.parse_value rules shown.position (rest shown)) (sym (shown_rules c)) ∙ told.parsed in
+      let there : F.parse old.rules shown.position (rest shown) ≡ Ok (F.contents v) = ap (λ rules. F.parse rules shown.position (rest shown)) (sym (shown_rules c)) ∙ told.parsed in
       parse_all ∙ ap (tagged_contents header.tag (length (octets_of header) + header.length)) there ∙ ap (λ t. Ok (length (octets_of header) + header.length, tlv t (F.contents v))) same
 
-  pub accepted_value : {after : ReaderState} {v : T} → ValueDecoded F header shown after v → accepts_tagged t F.accepts_value old.rules v (take (length (octets_of header) + header.length) (rest old))
+  pub accepted_value : {after : ReaderState} {v : T} → ValueDecoded F header shown after v → accepts_tagged t F.accepts old.rules v (take (length (octets_of header) + header.length) (rest old))
   accepted_value {after} {v} told =
-      (rest shown, taken c ∙ ap (λ t. tlv t (rest shown)) same, subst (λ rules. F.accepts_value rules v (rest shown)) (shown_rules c) told.accepted)
+      (rest shown, taken c ∙ ap (λ t. tlv t (rest shown)) same, subst (λ rules. F.accepts rules v (rest shown)) (shown_rules c) told.accepted)

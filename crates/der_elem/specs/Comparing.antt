@@ -7,7 +7,7 @@ use Rattle.der_tlv.specs.declared.error.Error.{Error}
 use Rattle.der_tlv.specs.declared.tag.Tag.{Tag}
 use Rattle.der_tlv.specs.Octets.{lex}
 use Rattle.der_tlv.specs.HeaderOctets.{tlv}
-use Rattle.der_elem.specs.declared.form.FormValue as value
+use Rattle.der_elem.specs.ValueForm.{ValueForm}
 use Rattle.der_elem.specs.declared.form.Form as form
 
 -- why octets that stand for two values are not compared: no length says how many one has, the values are apart, or memory ran out where the one or the other is read again
@@ -23,12 +23,12 @@ ComparesOctets a b Apart re_reads_a re_reads_b (Ok order) = order ≡ lex a b
 ComparesOctets a b Apart re_reads_a re_reads_b (Err e) = IncomparableOctets a b Apart re_reads_a re_reads_b e.kind
 
 -- why the contents octets of two values are not compared, which are apart where they are not comparable
-abbrev pub IncomparableValues : {T : Type 0} → value.Ghosts T → T → T → ErrorKind → Type 0
-IncomparableValues F x y = IncomparableOctets (F.contents x) (F.contents y) (F.comparable_value x y → ⊥) (F.re_reads_value x) (F.re_reads_value y)
+abbrev pub IncomparableValues : {T : Type 0} → ValueForm T → T → T → ErrorKind → Type 0
+IncomparableValues F x y = IncomparableOctets (F.contents x) (F.contents y) (F.comparable x y → ⊥) (F.re_reads x) (F.re_reads y)
 
 -- what comparing contents octets answers
-abbrev pub ComparesValues : {T : Type 0} → value.Ghosts T → T → T → Result Ordering Error → Type 0
-ComparesValues F x y = ComparesOctets (F.contents x) (F.contents y) (F.comparable_value x y → ⊥) (F.re_reads_value x) (F.re_reads_value y)
+abbrev pub ComparesValues : {T : Type 0} → ValueForm T → T → T → Result Ordering Error → Type 0
+ComparesValues F x y = ComparesOctets (F.contents x) (F.contents y) (F.comparable x y → ⊥) (F.re_reads x) (F.re_reads y)
 
 -- two encodings with equal identifier octets and equal length octets
 pub record SameHeader (a b : List ℕ) : Type 0 where

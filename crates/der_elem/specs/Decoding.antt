@@ -8,7 +8,7 @@ use Rattle.der_tlv.specs.declared.encoding_rules.EncodingRules.TheVariants.{Der}
 use Rattle.der_tlv.specs.ReaderState.{ReaderState, after_read, rest, unless_failed}
 use Rattle.der_tlv.specs.Reading.{Refused}
 use Rattle.der_elem.specs.Parsing.{Parse}
-use Rattle.der_elem.specs.declared.form.FormValue as value
+use Rattle.der_elem.specs.ValueForm.{ValueForm}
 use Rattle.der_elem.specs.declared.form.Form as form
 
 -- why there is no value: memory ran out where that can be, or this is the first fault
@@ -34,19 +34,19 @@ Decodes F old new (Ok v) = Decoded F old new v
 Decodes F old new (Err e) = NotDecoded F old new e.kind
 
 -- a value was decoded from contents octets
-pub record ValueDecoded {T : Type 0} (F : value.Ghosts T) (header : Header) (old new : ReaderState) (v : T) : Type 0 where
+pub record ValueDecoded {T : Type 0} (F : ValueForm T) (header : Header) (old new : ReaderState) (v : T) : Type 0 where
   pub ready : old.failed ≡ false
-  pub parsed : F.parse_value old.rules old.position (rest old) ≡ Ok (F.contents v)
-  pub accepted : F.accepts_value old.rules v (rest old)
+  pub parsed : F.parse old.rules old.position (rest old) ≡ Ok (F.contents v)
+  pub accepted : F.accepts old.rules v (rest old)
   pub tag : F.has_tag v header.tag
   pub after : new ≡ after_read old (length (rest old))
 
 -- no value was decoded from contents octets, for this reason
-pub record ValueNotDecoded {T : Type 0} (F : value.Ghosts T) (old : ReaderState) (kind : ErrorKind) : Type 0 where
-  pub reason : Faults F.VALUE_TAKES_MEMORY (unless_failed (F.parse_value old.rules) old) kind
+pub record ValueNotDecoded {T : Type 0} (F : ValueForm T) (old : ReaderState) (kind : ErrorKind) : Type 0 where
+  pub reason : Faults F.TAKES_MEMORY (unless_failed (F.parse old.rules) old) kind
 
 -- what decoding contents octets answers, of a reader that shows as many octets as the header says
-abbrev pub DecodesValue : {T : Type 0} → value.Ghosts T → Header → ReaderState → ReaderState → Result T Error → Type 0
+abbrev pub DecodesValue : {T : Type 0} → ValueForm T → Header → ReaderState → ReaderState → Result T Error → Type 0
 DecodesValue F header old new (Ok v) = ValueDecoded F header old new v
 DecodesValue F header old new (Err e) = ValueNotDecoded F old e.kind
 

@@ -8,6 +8,8 @@ pub mod Integer
 pub mod IntegerLaws
 pub mod OwnContents
 pub mod OwnContentsLaws
+pub mod ValueForm
+pub mod ValueForms
 pub mod Contents
 pub mod Boolean
 pub mod Null

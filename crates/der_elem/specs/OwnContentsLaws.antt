@@ -35,10 +35,6 @@ module _ {T : Type 0} (contents : T → List ℕ) (Within : T → Type 0) where
   pub only_within : (rules : EncodingRules) (v : T) (c : List ℕ) → accepts_within contents Within rules v c → Within v
   only_within rules v c (e, within) = within
 
--- a value that reads nothing again takes no memory for that
-pub never_re_read : (taken : Bool) → false ≡ true → taken ≡ true
-never_re_read taken e = absurd (cc)
-
 -- where no two values have the same contents octets, values are equal exactly if their contents octets are
 pub contents_eq_own : {T : Type 0} (contents : T → List ℕ) (eq : T → T → Bool) (decides : (v w : T) → Decides (eq v w) (v ≡ w)) (injective : (v w : T) → contents v ≡ contents w → v ≡ w) (v w : T) → Unit {0} → (IsTrue (eq v w) ↔ (contents v ≡ contents w))
 contents_eq_own contents eq decides injective v w _ =

@@ -9,9 +9,9 @@ ghost use Rattle.std.specs.Prelude.{false, refl};
 ghost use Rattle.std.specs.Bool.{beq};
 ghost use Rattle.std.specs.Cmp.{booleans_Decides};
 ghost use Rattle.der_tlv.specs.declared.tag.Tag.TheVariants.{Boolean};
-ghost use Rattle.der_elem.specs.OwnContentsLaws.{contents_eq_own, parse_of_within, same_length_within, accepts_contents_within, only_within};
+ghost use Rattle.der_elem.specs.OwnContentsLaws.{contents_eq_own};
 ghost use Rattle.der_elem.specs.Boolean.{boolean_contents, parse_boolean, ReadsBoolean, parse_boolean-own, boolean_contents-injective, bool_cmp-lex};
-ghost use Rattle.der_elem.specs.OwnContents.{accepts_within};
+ghost use Rattle.der_elem.specs.ValueForms.{own_form};
 
 use crate::contents::read_contents;
 use crate::decode::DecodeValue;
@@ -42,24 +42,7 @@ pub fn boolean_of(octets: &[u8]) -> Result<bool, ErrorKind>
 }
 
 impl FormValue for bool {
-    ghost contents = { boolean_contents };
-
-    ghost accepts_value = { accepts_within boolean_contents (λ v. Unit {0}) };
-
-    ghost parse_value = { parse_boolean };
-
-    ghost parse_of_accepted_value = { parse_of_within boolean_contents (λ v. Unit {0}) parse_boolean
-        (λ rules v p r. parse_boolean-own rules v p) };
-
-    ghost same_length_value = { same_length_within boolean_contents (λ v. Unit {0}) };
-
-    ghost accepts_contents = { accepts_contents_within boolean_contents (λ v. Unit {0}) };
-
-    ghost only_readable_value = { only_within boolean_contents (λ v. Unit {0}) };
-
-    ghost accepts_comparable_value = { λ rules v w c d a b. tt };
-
-    ghost re_reads_memory_value = { λ v e. e };
+    ghost value = { own_form boolean_contents parse_boolean parse_boolean-own };
 }
 
 impl OneTag for bool {

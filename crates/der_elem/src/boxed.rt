@@ -3,6 +3,7 @@
 //! Reading refuses with the value's faults, and then where memory runs out (1).
 
 ghost use Rattle.std.specs.Prelude.{true, refl};
+ghost use Rattle.der_elem.specs.ValueForms.{owning, held_form};
 
 use crate::decode::DecodeValue;
 use crate::duplicate::DuplicateValue;
@@ -23,34 +24,7 @@ impl<'a, T: Sequence<'a> + OneTag> Sequence<'a> for Box<T> {
 }
 
 impl<T: FormValue> FormValue for Box<T> {
-    ghost contents = { λ v. T.contents v.value };
-
-    ghost comparable_value = { λ v w. T.comparable_value v.value w.value };
-
-    ghost re_reads_value = { λ v. T.re_reads_value v.value };
-
-    ghost accepts_value = { λ rules v. T.accepts_value rules v.value };
-
-    ghost parse_value = { T.parse_value };
-
-    ghost readable_value = { λ v. T.readable_value v.value };
-
-    ghost has_tag = { λ v. T.has_tag v.value };
-
-    ghost VALUE_TAKES_MEMORY = { true };
-
-    ghost parse_of_accepted_value = { λ rules v. T.parse_of_accepted_value rules v.value };
-
-    ghost same_length_value = { λ rules v. T.same_length_value rules v.value };
-
-    ghost accepts_contents = { λ rules v. T.accepts_contents rules v.value };
-
-    ghost only_readable_value = { λ rules v. T.only_readable_value rules v.value };
-
-    ghost accepts_comparable_value = { λ rules v w.
-        T.accepts_comparable_value rules v.value w.value };
-
-    ghost re_reads_memory_value = { λ v h. refl };
+    ghost value = { owning (record (held_form (λ v. v.value) T.value) { has_tag = λ v. T.value.has_tag v.value }) };
 }
 
 impl<'a, R: Reader<'a>, T: DecodeValue<'a, R>> DecodeValue<'a, R> for Box<T> {

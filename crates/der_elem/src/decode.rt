@@ -1,7 +1,7 @@
 //! Reading values.
 
 ghost use Rattle.std.specs.Prelude.{◌≡◌, length, Bool};
-ghost use Rattle.der_tlv.specs.ReaderState.{ReaderState, rest};
+ghost use Rattle.der_tlv.specs.ReaderState.{rest};
 ghost use Rattle.der_tlv.specs.Reading.{Stands};
 ghost use Rattle.der_elem.specs.Decoding.{Decodes, DecodesValue, ReadsAll};
 
@@ -26,10 +26,10 @@ pub trait DecodeValue<'a, R: Reader<'a>>: FormValue {
     /// as every other does.
     fn decode_value(alloc: Global, reader: &mut R, header: Header) -> Result<Self, Error>
         ensures exact { length (rest (R.state reader.old)) ≡ header.length
-            → DecodesValue Self.FormValue header (R.state reader.old) (R.state reader.new) result }
+            → DecodesValue Self.value header (R.state reader.old) (R.state reader.new) result }
         ensures reader { Stands (R.state reader.old) (R.state reader.new) result };
 
-    ghost memory_of_value: { Self.VALUE_NEEDS_MEMORY ≡ Self.VALUE_TAKES_MEMORY };
+    ghost memory_of_value: { Self.VALUE_NEEDS_MEMORY ≡ Self.value.TAKES_MEMORY };
 }
 
 /// Reading a value from its encoding.

@@ -50,13 +50,13 @@ pub trait DuplicateValue: FormValue {
         ensures kind { IfErr result (λ e. e.kind ≡ Memory) }
         ensures memory { IfErr result (λ e. takes_memory_to_copy_value ≡ true) };
 
-    ghost copy_contents: { (v w : Self) → is_copy_value v w → Self.contents w ≡ Self.contents v };
+    ghost copy_contents: { (v w : Self) → is_copy_value v w → Self.value.contents w ≡ Self.value.contents v };
 
-    ghost copy_form_value: { (v w x : Self) → is_copy_value v w → Self.comparable_value v x
-        → Self.comparable_value w x };
+    ghost copy_form_value: { (v w x : Self) → is_copy_value v w → Self.value.comparable v x
+        → Self.value.comparable w x };
 
     ghost copy_re_reads_value: { (v w : Self) → is_copy_value v w
-        → Self.re_reads_value w ≡ Self.re_reads_value v };
+        → Self.value.re_reads w ≡ Self.value.re_reads v };
 }
 
 impl<T: DuplicateValue + OneTag> Duplicate for T {
@@ -87,9 +87,9 @@ impl<T: CopyIsDuplicate> DuplicateValue for T {
         Ok(*self)
     }
 
-    ghost copy_contents = { λ v w e. ap T.contents e };
+    ghost copy_contents = { λ v w e. ap T.value.contents e };
 
-    ghost copy_form_value = { λ v w x e f. subst (λ u. T.comparable_value u x) (sym e) f };
+    ghost copy_form_value = { λ v w x e f. subst (λ u. T.value.comparable u x) (sym e) f };
 
-    ghost copy_re_reads_value = { λ v w e. ap T.re_reads_value e };
+    ghost copy_re_reads_value = { λ v w e. ap T.value.re_reads e };
 }

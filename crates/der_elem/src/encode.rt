@@ -15,7 +15,7 @@ pub trait EncodeValue: FormValue {
     /// `ErrorKind::Overflow` (9) where there are more than 4294967295; `ErrorKind::Memory` (1)
     /// where items are read again.
     fn value_len(&self) -> Result<Length, Error>
-        ensures { Measures (Self.contents self.now) (Self.re_reads_value self.now) result };
+        ensures { Measures (Self.value.contents self.now) (Self.value.re_reads self.now) result };
 
     /// Writes the contents octets.
     ///
@@ -23,7 +23,7 @@ pub trait EncodeValue: FormValue {
     /// The writer's; `ErrorKind::Overflow` (9) where there are more than 4294967295;
     /// `ErrorKind::Memory` (1) where items are read again.
     fn encode_value<W: Writer>(&self, writer: &mut W) -> Result<(), Error>
-        ensures { Encodes (Self.contents self.now) (Self.re_reads_value self.now)
+        ensures { Encodes (Self.value.contents self.now) (Self.value.re_reads self.now)
             (W.state writer.old) (W.state writer.new) result };
 }
 

@@ -14,11 +14,11 @@ pub trait EncodingEq: Form + PartialEq {
 
 /// A type whose comparable values are equal exactly if their contents octets are.
 pub trait ContentsEq: FormValue + PartialEq {
-    ghost contents_eq: { (v w : Self) → Self.comparable_value v w
-        → (IsTrue (Self.eq v w) ↔ (Self.contents v ≡ Self.contents w)) };
+    ghost contents_eq: { (v w : Self) → Self.value.comparable v w
+        → (IsTrue (Self.eq v w) ↔ (Self.value.contents v ≡ Self.value.contents w)) };
 }
 
 impl<T: ContentsEq + OneTag> EncodingEq for T {
-    ghost encoding_eq = { encoding_eq_tagged T.Marker.TAG T.contents T.comparable_value T.eq
+    ghost encoding_eq = { encoding_eq_tagged T.Marker.TAG T.value.contents T.value.comparable T.eq
         T.contents_eq };
 }

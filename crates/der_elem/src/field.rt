@@ -6,7 +6,6 @@
 
 ghost use Rattle.std.specs.Prelude.{◌≡◌, Option, Some, true, Bool};
 ghost use Rattle.der_tlv.specs.declared.tag.Tag.{Tag};
-ghost use Rattle.der_tlv.specs.ReaderState.{ReaderState};
 ghost use Rattle.der_elem.specs.FieldDecoding.{DecodesField};
 ghost use Rattle.der_tlv.specs.OctetLaws.{SameBeginning};
 ghost use Rattle.der_elem.specs.Leading.{SameLeads, Starts};
@@ -90,14 +89,14 @@ impl<T: Tagged> FirstTag for T {
         Some(self.tag())
     }
 
-    ghost starts = { λ v. starts_tagged T.tag_of T.contents T.encoding T.encoding_is v (T.lead v)
+    ghost starts = { λ v. starts_tagged T.tag_of T.value.contents T.encoding T.encoding_is v (T.lead v)
         (T.lead_is v) };
 
     ghost own_lead = { λ v. own_lead_tagged T.tags (T.tag_of v) (T.own_tag v) (T.lead v)
         (T.lead_is v) };
 
     ghost same_beginning = { λ v w h.
-        beginning_tagged T.tag_of T.contents T.encoding T.encoding_is v w };
+        beginning_tagged T.tag_of T.value.contents T.encoding T.encoding_is v w };
 }
 
 impl<T: Tagged> FirstTag for Option<T> {
@@ -108,10 +107,10 @@ impl<T: Tagged> FirstTag for Option<T> {
         }
     }
 
-    ghost starts = { starts_option T.tag_of T.contents T.encoding T.encoding_is T.lead T.lead_is };
+    ghost starts = { starts_option T.tag_of T.value.contents T.encoding T.encoding_is T.lead T.lead_is };
 
     ghost own_lead = { own_lead_option T.tags T.tag_of T.own_tag T.lead T.lead_is };
 
-    ghost same_beginning = { beginning_option T.tag_of T.contents T.encoding T.encoding_is T.lead
+    ghost same_beginning = { beginning_option T.tag_of T.value.contents T.encoding T.encoding_is T.lead
         T.lead_is };
 }

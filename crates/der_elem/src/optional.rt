@@ -154,7 +154,7 @@ impl<T: DerOrd + Tagged> DerOrd for Option<T> {
 }
 
 impl<T: EncodingEq + Tagged> EncodingEq for Option<T> {
-    ghost encoding_eq = { encoding_eq_option T.tag_of T.contents T.encoding T.encoding_is
+    ghost encoding_eq = { encoding_eq_option T.tag_of T.value.contents T.encoding T.encoding_is
         T.comparable T.eq T.encoding_eq };
 }
 

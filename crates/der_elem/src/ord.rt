@@ -16,7 +16,7 @@ pub trait ValueOrd: FormValue {
     /// `ErrorKind::Overflow` (9) where one has more than 4294967295 octets, `ErrorKind::Value` (13)
     /// where the two are not comparable, `ErrorKind::Memory` (1) where one reads items again.
     fn value_cmp(&self, other: &Self) -> Result<Ordering, Error>
-        ensures { ComparesValues Self.FormValue self.now other.now result };
+        ensures { ComparesValues Self.value self.now other.now result };
 }
 
 /// The order of encodings.
@@ -34,7 +34,7 @@ pub trait DerOrd: Form {
 /// A type whose `Ord` is the lexicographic order of contents octets.
 pub trait OrdIsValueOrd: FormValue + Ord {
     ghost ord_is_value_ord: { (v w : Self)
-        → Self.cmp v w ≡ lex (Self.contents v) (Self.contents w) };
+        → Self.cmp v w ≡ lex (Self.value.contents v) (Self.value.contents w) };
 }
 
 impl<T: OrdIsValueOrd> ValueOrd for T {

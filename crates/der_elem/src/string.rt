@@ -7,13 +7,12 @@
 ghost use Rattle.std.specs.Prelude.{◌≡◌, length, true, refl};
 ghost use Rattle.std.specs.Cmp.Lexicographic.{bytes_decides};
 ghost use Rattle.std.specs.String.{string_bytes};
-ghost use Rattle.der_tlv.specs.ReaderState.{ReaderState, rest};
+ghost use Rattle.der_tlv.specs.ReaderState.{rest};
 ghost use Rattle.der_tlv.specs.Reading.{Stands};
 ghost use Rattle.der_elem.specs.Decoding.{DecodesValue};
 ghost use Rattle.der_elem.specs.RunningOut.{FaultsFirst};
 ghost use Rattle.der_elem.specs.Utf8String.{parse_utf8, parse_utf8-own};
-ghost use Rattle.der_elem.specs.OwnContents.{accepts_within};
-ghost use Rattle.der_elem.specs.OwnContentsLaws.{parse_of_within, same_length_within, accepts_contents_within, only_within};
+ghost use Rattle.der_elem.specs.ValueForms.{own_form, owning};
 
 use crate::contents::read_contents;
 use crate::decode::DecodeValue;
@@ -29,26 +28,7 @@ use der_tlv::{Error, ErrorKind, Header, Length, Reader, Writer};
 use std::alloc::Global;
 
 impl FormValue for String {
-    ghost contents = { string_bytes };
-
-    ghost accepts_value = { accepts_within string_bytes (λ v. Unit {0}) };
-
-    ghost parse_value = { parse_utf8 };
-
-    ghost VALUE_TAKES_MEMORY = { true };
-
-    ghost parse_of_accepted_value = { parse_of_within string_bytes (λ v. Unit {0}) parse_utf8
-        (λ rules v p r. parse_utf8-own rules v p) };
-
-    ghost same_length_value = { same_length_within string_bytes (λ v. Unit {0}) };
-
-    ghost accepts_contents = { accepts_contents_within string_bytes (λ v. Unit {0}) };
-
-    ghost only_readable_value = { only_within string_bytes (λ v. Unit {0}) };
-
-    ghost accepts_comparable_value = { λ rules v w c d a b. tt };
-
-    ghost re_reads_memory_value = { λ v e. refl };
+    ghost value = { owning (own_form string_bytes parse_utf8 parse_utf8-own) };
 }
 
 impl OneTag for String {
@@ -65,7 +45,7 @@ impl<'a, R: Reader<'a>> DecodeValue<'a, R> for String {
     /// # Errors
     /// (17) on a failed reader; octets that are not UTF-8 (12); else (1) where memory runs out.
     fn decode_value(alloc: Global, reader: &mut R, header: Header) -> Result<String, Error>
-        ensures exact { length (rest (R.state reader.old)) ≡ header.length → DecodesValue string header (R.state reader.old) (R.state reader.new) result }
+        ensures exact { length (rest (R.state reader.old)) ≡ header.length → DecodesValue string.value header (R.state reader.old) (R.state reader.new) result }
         ensures reader { Stands (R.state reader.old) (R.state reader.new) result }
         ensures faults_first { length (rest (R.state reader.old)) ≡ header.length → FaultsFirst parse_utf8 (R.state reader.old) result }
     {

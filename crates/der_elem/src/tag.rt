@@ -23,7 +23,7 @@ pub trait Tagged: FormValue + Form {
         ensures value { result ≡ tag_of self.now }
         ensures bounded { IsTag (tag_of self.now) };
 
-    ghost encoding_is: { (v : Self) → Self.encoding v ≡ tlv (tag_of v) (Self.contents v) };
+    ghost encoding_is: { (v : Self) → Self.encoding v ≡ tlv (tag_of v) (Self.value.contents v) };
 
     ghost accepted_is_tlv: { (rules : EncodingRules) (v : Self) (b : List ℕ)
         → Self.accepts rules v b → IsTlv b };
@@ -32,9 +32,9 @@ pub trait Tagged: FormValue + Form {
 
     ghost lead_is: { (v : Self) → Self.lead v ≡ Some (tag_of v) };
 
-    ghost re_reads_alike: { (v : Self) → Self.re_reads_value v ≡ true → Self.re_reads v ≡ true };
+    ghost re_reads_alike: { (v : Self) → Self.value.re_reads v ≡ true → Self.re_reads v ≡ true };
 
-    ghost comparable_alike: { (v w : Self) → Self.comparable v w → Self.comparable_value v w };
+    ghost comparable_alike: { (v w : Self) → Self.comparable v w → Self.value.comparable v w };
 }
 
 impl<T: FormValue + OneTag> Tagged for T {
@@ -46,7 +46,7 @@ impl<T: FormValue + OneTag> Tagged for T {
 
     ghost encoding_is = { λ v. refl };
 
-    ghost accepted_is_tlv = { tlv_tagged T.Marker.TAG T.accepts_value };
+    ghost accepted_is_tlv = { tlv_tagged T.Marker.TAG T.value.accepts };
 
     ghost own_tag = { λ v. same_identifier-same T.Marker.TAG };
 

@@ -6,9 +6,9 @@
 
 ghost use Rattle.std.specs.Prelude.{true, refl, false};
 ghost use Rattle.der_tlv.specs.declared.tag.Tag.TheVariants.{Null};
-ghost use Rattle.der_elem.specs.OwnContentsLaws.{contents_eq_own, parse_of_within, same_length_within, accepts_contents_within, only_within};
+ghost use Rattle.der_elem.specs.OwnContentsLaws.{contents_eq_own};
 ghost use Rattle.der_elem.specs.Null.{null_contents, parse_null, ReadsNull, unit_eq_decides};
-ghost use Rattle.der_elem.specs.OwnContents.{accepts_within};
+ghost use Rattle.der_elem.specs.ValueForms.{own_form};
 
 use crate::contents::read_contents;
 use crate::decode::DecodeValue;
@@ -35,24 +35,7 @@ pub fn null_of(octets: &[u8]) -> Result<(), ErrorKind>
 }
 
 impl FormValue for () {
-    ghost contents = { null_contents };
-
-    ghost accepts_value = { accepts_within null_contents (λ v. Unit {0}) };
-
-    ghost parse_value = { parse_null };
-
-    ghost parse_of_accepted_value = { parse_of_within null_contents (λ v. Unit {0}) parse_null
-        (λ rules v p r. refl) };
-
-    ghost same_length_value = { same_length_within null_contents (λ v. Unit {0}) };
-
-    ghost accepts_contents = { accepts_contents_within null_contents (λ v. Unit {0}) };
-
-    ghost only_readable_value = { only_within null_contents (λ v. Unit {0}) };
-
-    ghost accepts_comparable_value = { λ rules v w c d a b. tt };
-
-    ghost re_reads_memory_value = { λ v e. e };
+    ghost value = { own_form null_contents parse_null (λ rules v p. refl) };
 }
 
 impl OneTag for () {

@@ -39,31 +39,22 @@ impl<'a, T> Sequence<'a> for Vec<T> {
 }
 
 impl<T: Form> FormValue for Vec<T> {
-    ghost contents = { λ v. flat_map T.encoding v.items };
-
-    ghost comparable_value = { λ v w. OneForms T.comparable v.items w.items };
-
-    ghost re_reads_value = { λ v. list_any T.re_reads v.items };
-
-    ghost accepts_value = { λ rules v. AcceptsItems (T.accepts rules) v.items };
-
-    ghost parse_value = { parse_items T.parse };
-
-    ghost readable_value = { λ v. EachItem T.readable v.items };
-
-    ghost VALUE_TAKES_MEMORY = { true };
-
-    ghost parse_of_accepted_value = { λ rules v. parse_of_items T.Form rules v.items };
-
-    ghost same_length_value = { λ rules v. same_length_items T.Form rules v.items };
-
-    ghost accepts_contents = { λ rules v. accepts_items_contents T.Form rules v.items };
-
-    ghost only_readable_value = { λ rules v. readable_items T.Form rules v.items };
-
-    ghost accepts_comparable_value = { λ rules v w. comparable_items T.Form rules v.items w.items };
-
-    ghost re_reads_memory_value = { λ v h. refl };
+    ghost value = { record {
+      contents = λ v. flat_map T.encoding v.items;
+      comparable = λ v w. OneForms T.comparable v.items w.items;
+      re_reads = λ v. list_any T.re_reads v.items;
+      accepts = λ rules v. AcceptsItems (T.accepts rules) v.items;
+      parse = parse_items T.parse;
+      readable = λ v. EachItem T.readable v.items;
+      has_tag = λ v t. Unit {0};
+      TAKES_MEMORY = true;
+      parse_of_accepted = λ rules v. parse_of_items T.Form rules v.items;
+      same_length = λ rules v. same_length_items T.Form rules v.items;
+      accepts_contents = λ rules v. accepts_items_contents T.Form rules v.items;
+      only_readable = λ rules v. readable_items T.Form rules v.items;
+      accepts_comparable = λ rules v w. comparable_items T.Form rules v.items w.items;
+      re_reads_memory = λ v h. refl;
+    } };
 }
 
 impl<'a, R: Reader<'a>, T: Decode<'a, R> + Choice> DecodeValue<'a, R> for Vec<T> {
@@ -103,7 +94,7 @@ impl<T: DerOrd + Tagged> ValueOrd for Vec<T> {
 }
 
 impl<T: EncodingEq + Tagged> ContentsEq for Vec<T> {
-    ghost contents_eq = { λ v w. items_eq T.tag_of T.contents T.encoding T.encoding_is T.comparable
+    ghost contents_eq = { λ v w. items_eq T.tag_of T.value.contents T.encoding T.encoding_is T.comparable
         T.eq T.encoding_eq v.items w.items };
 }
 

@@ -7,17 +7,17 @@
 //! Reading refuses with the next tag's faults, a tag of none of these names
 //! (`ErrorKind::TagUnexpected`, 4, with none expected), and then as `AnyRef`.
 
-ghost use Rattle.std.specs.Prelude.{◌≡◌, length, true, false, refl};
-ghost use Rattle.std.proofs.Common.{ap, sym, Ok, Some};
+ghost use Rattle.std.specs.Prelude.{◌≡◌, true, false, refl};
+ghost use Rattle.std.proofs.Common.{Ok, Some};
 ghost use Rattle.der_tlv.specs.HeaderOctets.{tlv};
 ghost use Rattle.der_tlv.specs.TagParts.{IsTag};
 ghost use Rattle.der_tlv.specs.TagEquality.{tag_eq-decides};
 ghost use Rattle.std.specs.Cmp.Lexicographic.{bytes_decides};
+ghost use Rattle.der_elem.specs.ValueForms.{kept_form};
 ghost use Rattle.der_fields.specs.ClassTags.{class_tag};
 ghost use Rattle.der_opaque.specs.AnyForm.{accepts_any};
 ghost use Rattle.der_opaque.specs.AnyLaws.{led_any, same_length_any, encoding_eq_any};
 ghost use Rattle.der_opaque.specs.AnyRef as any_ref;
-ghost use Rattle.der_elem.specs.OwnContents.{accepts_own};
 ghost use Rattle.der_fields.specs.Alternatives.{parse_untold};
 ghost use Rattle.der_extensions.specs.KeptNames.{is_kept, parse_kept, parse_of_kept, begins_kept};
 
@@ -99,23 +99,7 @@ fn structure(number: u32) -> Tag
 impl<'a> FormValue for KeptName<'a> {
     ghost use Rattle.der_extensions.specs.KeptName.{contents_of};
 
-    ghost contents = { contents_of };
-
-    ghost accepts_value = { accepts_own contents_of };
-
-    ghost parse_value = { parse_untold };
-
-    ghost parse_of_accepted_value = { λ rules v p c a fits. ap Ok a };
-
-    ghost same_length_value = { λ rules v c a. ap length (sym a) };
-
-    ghost accepts_contents = { λ rules v r. refl };
-
-    ghost only_readable_value = { λ rules v c a. tt };
-
-    ghost accepts_comparable_value = { λ rules v w c d a b. tt };
-
-    ghost re_reads_memory_value = { λ v e. e };
+    ghost value = { kept_form contents_of (λ v t. Unit {0}) parse_untold (λ rules v p. refl) };
 }
 
 impl<'a> Form for KeptName<'a> {

@@ -15,7 +15,7 @@ use Rattle.der_elem.specs.Leading.{LeadsTag, Leads}
 use Rattle.der_elem.specs.Items.{join_items}
 use Rattle.der_elem.specs.FieldDecoding.{OtherTag, ToldApart, FieldDecoded}
 use Rattle.der_elem.proofs.ItemReading.{all_taken}
-use Rattle.der_fields.specs.declared.field_list.FieldList as fields
+use Rattle.der_fields.specs.FieldsForm.{FieldsForm}
 use Rattle.der_fields.specs.FieldLists.{Apart, AcceptsField, behind_field, parse_field, parse_end}
 use Rattle.der_elem.specs.LeadingLaws.{led_some}
 use Rattle.der_fields.specs.FieldsDecoding.{FieldsDecoded}
@@ -53,24 +53,24 @@ apart tags None (Some t) p front others octets e k l h =
     let same : others ≡ octets = sym (e ∙ ap (λ f. f ++ others) k) in
     other_tag tags p octets (subst (LeadsTag t) same l) h
 
-module _ {T U : Type 0} {F : form.Ghosts T} {G : fields.Ghosts U} {old mid now : ReaderState} {v : T} {w : U} (first : FieldDecoded F old mid v) (second : FieldsDecoded G mid now w) where
+module _ {T U : Type 0} {F : form.Ghosts T} {G : FieldsForm U} {old mid now : ReaderState} {v : T} {w : U} (first : FieldDecoded F old mid v) (second : FieldsDecoded G mid now w) where
   same_rules : mid.rules ≡ old.rules
   same_rules = ap (λ s. s.rules) first.decoded.after
 
   rest_mid : rest mid ≡ drop first.decoded.taken (rest old)
   rest_mid = ap rest first.decoded.after ∙ rest-after_read old first.decoded.taken
 
-  rest_parsed : G.parse_fields old.rules (old.position + first.decoded.taken) (drop first.decoded.taken (rest old)) ≡ Ok (G.joined w)
+  rest_parsed : G.octets.parse old.rules (old.position + first.decoded.taken) (drop first.decoded.taken (rest old)) ≡ Ok (G.octets.contents w)
   rest_parsed =
-      ap (λ r. G.parse_fields r (old.position + first.decoded.taken) (drop first.decoded.taken (rest old))) (sym same_rules) ∙ ap (λ p. G.parse_fields mid.rules p (drop first.decoded.taken (rest old))) (sym (ap (λ s. s.position) first.decoded.after)) ∙ ap (G.parse_fields mid.rules mid.position) (sym rest_mid) ∙ second.parsed
+      ap (λ r. G.octets.parse r (old.position + first.decoded.taken) (drop first.decoded.taken (rest old))) (sym same_rules) ∙ ap (λ p. G.octets.parse mid.rules p (drop first.decoded.taken (rest old))) (sym (ap (λ s. s.position) first.decoded.after)) ∙ ap (G.octets.parse mid.rules mid.position) (sym rest_mid) ∙ second.parsed
 
-  rest_accepted : G.accepts_fields old.rules w (drop first.decoded.taken (rest old))
-  rest_accepted = subst (λ r. G.accepts_fields r w (drop first.decoded.taken (rest old))) same_rules (subst (G.accepts_fields mid.rules w) rest_mid second.accepted)
+  rest_accepted : G.octets.accepts old.rules w (drop first.decoded.taken (rest old))
+  rest_accepted = subst (λ r. G.octets.accepts r w (drop first.decoded.taken (rest old))) same_rules (subst (G.octets.accepts mid.rules w) rest_mid second.accepted)
 
-  pub both_parsed : parse_field F.parse G.parse_fields old.rules old.position (rest old) ≡ Ok (F.encoding v ++ G.joined w)
-  both_parsed = ap (behind_field (G.parse_fields old.rules) old.position (rest old)) first.decoded.parsed ∙ ap (join_items (F.encoding v)) rest_parsed
+  pub both_parsed : parse_field F.parse G.octets.parse old.rules old.position (rest old) ≡ Ok (F.encoding v ++ G.octets.contents w)
+  both_parsed = ap (behind_field (G.octets.parse old.rules) old.position (rest old)) first.decoded.parsed ∙ ap (join_items (F.encoding v)) rest_parsed
 
-  pub both_accepted : AcceptsField F.tags (F.lead v) (G.first_tag w) (F.accepts old.rules) (G.accepts_fields old.rules) v w (rest old)
+  pub both_accepted : AcceptsField F.tags (F.lead v) (G.first_tag w) (F.accepts old.rules) (G.octets.accepts old.rules) v w (rest old)
   both_accepted =
       let whole : rest old ≡ take first.decoded.taken (rest old) ++ drop first.decoded.taken (rest old) = sym (take-append-drop first.decoded.taken (rest old)) in
       record {
@@ -79,7 +79,7 @@ module _ {T U : Type 0} {F : form.Ghosts T} {G : fields.Ghosts U} {old mid now :
         octets_are = whole;
         first = first.decoded.accepted;
         rest = rest_accepted;
-        apart = apart F.tags (F.lead v) (G.first_tag w) old.position (take first.decoded.taken (rest old)) (drop first.decoded.taken (rest old)) (rest old) whole (F.led old.rules v (take first.decoded.taken (rest old)) first.decoded.accepted) (G.led_fields old.rules w (drop first.decoded.taken (rest old)) rest_accepted) first.told;
+        apart = apart F.tags (F.lead v) (G.first_tag w) old.position (take first.decoded.taken (rest old)) (drop first.decoded.taken (rest old)) (rest old) whole (F.led old.rules v (take first.decoded.taken (rest old)) first.decoded.accepted) (G.led old.rules w (drop first.decoded.taken (rest old)) rest_accepted) first.told;
       }
 
   both_after : now ≡ after_read old (first.decoded.taken + length (rest mid))

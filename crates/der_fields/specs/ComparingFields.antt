@@ -8,11 +8,11 @@ use Rattle.der_tlv.specs.Identifier.{identifier}
 use Rattle.der_tlv.specs.Octets.{lex}
 use Rattle.der_elem.specs.Comparing.{ComparesOctets}
 use Rattle.der_elem.specs.Leading.{SameLeads}
-use Rattle.der_fields.specs.declared.field_list.FieldList as fields
+use Rattle.der_fields.specs.FieldsForm.{FieldsForm}
 
 -- what comparing fields answers
-abbrev pub ComparesFields : {T : Type 0} → fields.Ghosts T → T → T → Result Ordering Error → Type 0
-ComparesFields G x y = ComparesOctets (G.joined x) (G.joined y) (G.all_comparable x y → ⊥) (G.re_read x) (G.re_read y)
+abbrev pub ComparesFields : {T : Type 0} → FieldsForm T → T → T → Result Ordering Error → Type 0
+ComparesFields G x y = ComparesOctets (G.octets.contents x) (G.octets.contents y) (G.octets.comparable x y → ⊥) (G.octets.re_reads x) (G.octets.re_reads y)
 
 -- whether both fields are there or both absent
 abbrev pub TellsLeads : Option Tag → Option Tag → Bool → Type 0

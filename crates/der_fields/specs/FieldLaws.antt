@@ -11,7 +11,7 @@ use Rattle.der_elem.specs.Parsing.{Parse, ContentsParse}
 use Rattle.der_elem.specs.Accepting.{Fits, BeginsWith, MayFollow}
 use Rattle.der_elem.specs.Leading.{LeadsTag, Leads}
 use Rattle.der_elem.specs.LeadingLaws.{led_some}
-use Rattle.der_fields.specs.declared.field_list.FieldList as fields
+use Rattle.der_fields.specs.FieldsForm.{FieldsForm}
 use Rattle.der_fields.specs.FieldLists.{Apart, first_of, AcceptsField, behind_field, parse_field}
 
 -- what follows octets that are some is told from them
@@ -59,8 +59,8 @@ led_both None next c x y e k l = subst (Leads next) (sym (e ∙ ap (λ x. x ++ y
 led_both (Some t) next c x y e k l =
     record { others = k.others ++ y; octets_are = e ∙ ap (λ o. o ++ y) k.octets_are ∙ append_assoc (identifier t) k.others y; is_tag = k.is_tag }
 
-module _ {T U : Type 0} (F : form.Ghosts T) (G : fields.Ghosts U) (rules : EncodingRules) where
-  pub parse_of_field : (v : T) (w : U) (p : ℕ) (c : List ℕ) → AcceptsField F.tags (F.lead v) (G.first_tag w) (F.accepts rules) (G.accepts_fields rules) v w c → Fits c → parse_field F.parse G.parse_fields rules p c ≡ Ok (F.encoding v ++ G.joined w)
+module _ {T U : Type 0} (F : form.Ghosts T) (G : FieldsForm U) (rules : EncodingRules) where
+  pub parse_of_field : (v : T) (w : U) (p : ℕ) (c : List ℕ) → AcceptsField F.tags (F.lead v) (G.first_tag w) (F.accepts rules) (G.octets.accepts rules) v w c → Fits c → parse_field F.parse G.octets.parse rules p c ≡ Ok (F.encoding v ++ G.octets.contents w)
   parse_of_field v w p c a fits =
       let x = a.front in
       let y = a.others in
@@ -68,30 +68,30 @@ module _ {T U : Type 0} (F : form.Ghosts T) (G : fields.Ghosts U) (rules : Encod
       let whole = ap length a.octets_are in
       let first_fits : Fits x = omega arith in
       let rest_fits : Fits y = omega arith in
-      let may = follows F.tags (F.lead v) (G.first_tag w) x y (F.led rules v x a.first) (G.led_fields rules w y a.rest) a.apart in
-      parse_both F.parse G.parse_fields rules p c x y (F.encoding v) (G.joined w) a.octets_are (F.parse_of_accepted rules v p x y a.first first_fits may) (G.parse_of_accepted_fields rules w (p + length x) y a.rest rest_fits)
+      let may = follows F.tags (F.lead v) (G.first_tag w) x y (F.led rules v x a.first) (G.led rules w y a.rest) a.apart in
+      parse_both F.parse G.octets.parse rules p c x y (F.encoding v) (G.octets.contents w) a.octets_are (F.parse_of_accepted rules v p x y a.first first_fits may) (G.octets.parse_of_accepted rules w (p + length x) y a.rest rest_fits)
 
-  pub led_field : (v : T) (w : U) (c : List ℕ) → AcceptsField F.tags (F.lead v) (G.first_tag w) (F.accepts rules) (G.accepts_fields rules) v w c → Leads (first_of (F.lead v) (G.first_tag w)) c
-  led_field v w c a = led_both (F.lead v) (G.first_tag w) c a.front a.others a.octets_are (F.led rules v a.front a.first) (G.led_fields rules w a.others a.rest)
+  pub led_field : (v : T) (w : U) (c : List ℕ) → AcceptsField F.tags (F.lead v) (G.first_tag w) (F.accepts rules) (G.octets.accepts rules) v w c → Leads (first_of (F.lead v) (G.first_tag w)) c
+  led_field v w c a = led_both (F.lead v) (G.first_tag w) c a.front a.others a.octets_are (F.led rules v a.front a.first) (G.led rules w a.others a.rest)
 
-  pub same_length_field : (v : T) (w : U) (c : List ℕ) → AcceptsField F.tags (F.lead v) (G.first_tag w) (F.accepts rules) (G.accepts_fields rules) v w c → length (F.encoding v ++ G.joined w) ≡ length c
+  pub same_length_field : (v : T) (w : U) (c : List ℕ) → AcceptsField F.tags (F.lead v) (G.first_tag w) (F.accepts rules) (G.octets.accepts rules) v w c → length (F.encoding v ++ G.octets.contents w) ≡ length c
   same_length_field v w c a =
-      same_lengths (F.encoding v) (G.joined w) c a.front a.others a.octets_are (F.same_length rules v a.front a.first) (G.same_length_fields rules w a.others a.rest)
+      same_lengths (F.encoding v) (G.octets.contents w) c a.front a.others a.octets_are (F.same_length rules v a.front a.first) (G.octets.same_length rules w a.others a.rest)
 
-  pub accepts_field_joined : (v : T) (w : U) → F.readable v × G.readable_fields w × Apart F.tags (F.lead v) (G.first_tag w) → AcceptsField F.tags (F.lead v) (G.first_tag w) (F.accepts rules) (G.accepts_fields rules) v w (F.encoding v ++ G.joined w)
+  pub accepts_field_joined : (v : T) (w : U) → F.readable v × G.octets.readable w × Apart F.tags (F.lead v) (G.first_tag w) → AcceptsField F.tags (F.lead v) (G.first_tag w) (F.accepts rules) (G.octets.accepts rules) v w (F.encoding v ++ G.octets.contents w)
   accepts_field_joined v w (r, s, h) =
-      record { front = F.encoding v; others = G.joined w; octets_are = refl; first = F.accepts_encoding rules v r; rest = G.accepts_joined rules w s; apart = h }
+      record { front = F.encoding v; others = G.octets.contents w; octets_are = refl; first = F.accepts_encoding rules v r; rest = G.octets.accepts_contents rules w s; apart = h }
 
-  pub readable_field : (v : T) (w : U) (c : List ℕ) → AcceptsField F.tags (F.lead v) (G.first_tag w) (F.accepts rules) (G.accepts_fields rules) v w c → F.readable v × G.readable_fields w × Apart F.tags (F.lead v) (G.first_tag w)
-  readable_field v w c a = (F.only_readable rules v a.front a.first, G.only_readable_fields rules w a.others a.rest, a.apart)
+  pub readable_field : (v : T) (w : U) (c : List ℕ) → AcceptsField F.tags (F.lead v) (G.first_tag w) (F.accepts rules) (G.octets.accepts rules) v w c → F.readable v × G.octets.readable w × Apart F.tags (F.lead v) (G.first_tag w)
+  readable_field v w c a = (F.only_readable rules v a.front a.first, G.octets.only_readable rules w a.others a.rest, a.apart)
 
-  pub all_comparable_field : (v x : T) (w y : U) (c d : List ℕ) → AcceptsField F.tags (F.lead v) (G.first_tag w) (F.accepts rules) (G.accepts_fields rules) v w c → AcceptsField F.tags (F.lead x) (G.first_tag y) (F.accepts rules) (G.accepts_fields rules) x y d → F.comparable v x × G.all_comparable w y × Apart F.tags (F.lead v) (G.first_tag w) × Apart F.tags (F.lead x) (G.first_tag y)
+  pub all_comparable_field : (v x : T) (w y : U) (c d : List ℕ) → AcceptsField F.tags (F.lead v) (G.first_tag w) (F.accepts rules) (G.octets.accepts rules) v w c → AcceptsField F.tags (F.lead x) (G.first_tag y) (F.accepts rules) (G.octets.accepts rules) x y d → F.comparable v x × G.octets.comparable w y × Apart F.tags (F.lead v) (G.first_tag w) × Apart F.tags (F.lead x) (G.first_tag y)
   all_comparable_field v x w y c d a b =
-      (F.accepts_comparable rules v x a.front b.front a.first b.first, G.accepts_all_comparable rules w y a.others b.others a.rest b.rest, a.apart, b.apart)
+      (F.accepts_comparable rules v x a.front b.front a.first b.first, G.octets.accepts_comparable rules w y a.others b.others a.rest b.rest, a.apart, b.apart)
 
-module _ {T U : Type 0} (F : form.Ghosts T) (G : fields.Ghosts U) where
-  pub re_read_field : (v : T) (w : U) → (F.re_reads v || G.re_read w) ≡ true → (F.TAKES_MEMORY || G.FIELDS_TAKE_MEMORY) ≡ true
-  re_read_field v w = either_part (F.re_reads v) (G.re_read w) F.TAKES_MEMORY G.FIELDS_TAKE_MEMORY (F.re_reads_memory v) (G.re_read_memory w)
+module _ {T U : Type 0} (F : form.Ghosts T) (G : FieldsForm U) where
+  pub re_read_field : (v : T) (w : U) → (F.re_reads v || G.octets.re_reads w) ≡ true → (F.TAKES_MEMORY || G.octets.TAKES_MEMORY) ≡ true
+  re_read_field v w = either_part (F.re_reads v) (G.octets.re_reads w) F.TAKES_MEMORY G.octets.TAKES_MEMORY (F.re_reads_memory v) (G.octets.re_reads_memory w)
 
 pub either_memory : {a b c d : Bool} → a ≡ c → b ≡ d → (a || b) ≡ (c || d)
 either_memory {a} {b} {c} {d} e f = ap (λ x. x || b) e ∙ ap (λ x. c || x) f

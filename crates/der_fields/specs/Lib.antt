@@ -1,3 +1,5 @@
+pub mod FieldsForm
+pub mod FieldForms
 pub mod FieldLists
 pub mod Alternatives
 pub mod AlternativeLaws
@@ -10,5 +12,4 @@ pub mod ClassTags
 pub mod Defaults
 pub mod DefaultLaws
 pub mod Listing
-pub mod Parts
 pub mod SequenceWriting

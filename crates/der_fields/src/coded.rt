@@ -22,9 +22,9 @@ pub trait DecodeFields<'a, R: Reader<'a>>: FieldList {
     /// `ErrorKind::TrailingData` (3) where octets are left over; `ErrorKind::Memory` (1) where a
     /// field takes memory.
     fn decode_fields(alloc: Global, reader: &mut R) -> Result<Self, Error>
-        ensures { DecodesFields Self.FieldList (R.state reader.old) (R.state reader.new) result };
+        ensures { DecodesFields Self.list (R.state reader.old) (R.state reader.new) result };
 
-    ghost memory_of_fields: { Self.FIELDS_NEED_MEMORY ≡ Self.FIELDS_TAKE_MEMORY };
+    ghost memory_of_fields: { Self.FIELDS_NEED_MEMORY ≡ Self.list.octets.TAKES_MEMORY };
 }
 
 /// Writing fields.
@@ -35,7 +35,7 @@ pub trait EncodeFields: FieldList {
     /// `ErrorKind::Overflow` (9) where there are more than 4294967295; `ErrorKind::Memory` (1)
     /// where items are read again.
     fn fields_len(&self) -> Result<Length, Error>
-        ensures { Measures (Self.joined self.now) (Self.re_read self.now) result };
+        ensures { Measures (Self.list.octets.contents self.now) (Self.list.octets.re_reads self.now) result };
 
     /// Writes the fields.
     ///
@@ -43,6 +43,6 @@ pub trait EncodeFields: FieldList {
     /// The writer's; `ErrorKind::Overflow` (9) where there are more than 4294967295;
     /// `ErrorKind::Memory` (1) where items are read again.
     fn encode_fields<W: Writer>(&self, writer: &mut W) -> Result<(), Error>
-        ensures { Encodes (Self.joined self.now) (Self.re_read self.now) (W.state writer.old)
+        ensures { Encodes (Self.list.octets.contents self.now) (Self.list.octets.re_reads self.now) (W.state writer.old)
             (W.state writer.new) result };
 }

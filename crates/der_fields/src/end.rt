@@ -2,10 +2,8 @@
 //!
 //! Reading refuses octets that are left over (3).
 
-ghost use Rattle.std.specs.Prelude.{◌≡◌, [], false, None, refl};
-ghost use Rattle.std.proofs.Common.{ap, sym};
-ghost use Rattle.std.specs.Prelude.{length};
-ghost use Rattle.der_fields.specs.FieldLists.{parse_end};
+ghost use Rattle.std.specs.Prelude.{◌≡◌, false, None, refl};
+ghost use Rattle.der_fields.specs.FieldForms.{end_list};
 
 use crate::coded::{DecodeFields, EncodeFields};
 use crate::copied::DuplicateFields;
@@ -23,35 +21,7 @@ use std::cmp::Ordering;
 pub struct End;
 
 impl FieldList for End {
-    ghost joined = { λ v. [] };
-
-    ghost first_tag = { λ v. None };
-
-    ghost all_comparable = { λ v w. Unit {0} };
-
-    ghost re_read = { λ v. false };
-
-    ghost accepts_fields = { λ rules v c. c ≡ [] };
-
-    ghost parse_fields = { parse_end };
-
-    ghost readable_fields = { λ v. Unit {0} };
-
-    ghost FIELDS_TAKE_MEMORY = { false };
-
-    ghost parse_of_accepted_fields = { λ rules v p c a fits. ap (parse_end rules p) a };
-
-    ghost led_fields = { λ rules v c a. a };
-
-    ghost same_length_fields = { λ rules v c a. ap length (sym a) };
-
-    ghost accepts_joined = { λ rules v r. refl };
-
-    ghost only_readable_fields = { λ rules v c a. tt };
-
-    ghost accepts_all_comparable = { λ rules v w c d a b. tt };
-
-    ghost re_read_memory = { λ v e. e };
+    ghost list = { end_list };
 }
 
 impl<'a, R: Reader<'a>> DecodeFields<'a, R> for End {

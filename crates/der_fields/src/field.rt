@@ -4,9 +4,10 @@
 //! from what follows it: nothing follows, or a tag that none of its encodings begins with. Values of
 //! which that does not hold are read from no octets.
 
-ghost use Rattle.std.specs.Prelude.{◌++◌, ◌||◌};
-ghost use Rattle.der_fields.specs.FieldLists.{AcceptsField, Apart, first_of, parse_field};
-ghost use Rattle.der_fields.specs.FieldLaws.{parse_of_field, led_field, same_length_field, accepts_field_joined, readable_field, all_comparable_field, re_read_field, either_memory};
+ghost use Rattle.std.specs.Prelude.{◌≡◌, ◌||◌};
+ghost use Rattle.der_fields.specs.FieldForms.{field_list};
+ghost use Rattle.der_fields.specs.FieldLaws.{either_memory};
+ghost use Rattle.der_fields.specs.Listing.{field};
 ghost use Rattle.der_fields.specs.TellingLaws.{starts_both, told_apart, eq_both};
 ghost use Rattle.der_fields.specs.CopyingLaws.{copy_both, copy_forms_both, copy_re_read_both};
 
@@ -30,45 +31,17 @@ pub struct Field<T, Rest> {
     pub rest: Rest,
 }
 
+impl<T, Rest> Field<T, Rest> {
+    /// This field, and those behind it.
+    pub fn new(first: T, rest: Rest) -> Field<T, Rest>
+        ensures { result ≡ field first rest }
+    {
+        Field { first, rest }
+    }
+}
+
 impl<T: Form, Rest: FieldList> FieldList for Field<T, Rest> {
-    ghost joined = { λ v. T.encoding v.first ++ Rest.joined v.rest };
-
-    ghost first_tag = { λ v. first_of (T.lead v.first) (Rest.first_tag v.rest) };
-
-    ghost all_comparable = { λ v w. T.comparable v.first w.first × Rest.all_comparable v.rest w.rest
-        × Apart T.tags (T.lead v.first) (Rest.first_tag v.rest)
-        × Apart T.tags (T.lead w.first) (Rest.first_tag w.rest) };
-
-    ghost re_read = { λ v. T.re_reads v.first || Rest.re_read v.rest };
-
-    ghost accepts_fields = { λ rules v. AcceptsField T.tags (T.lead v.first) (Rest.first_tag v.rest)
-        (T.accepts rules) (Rest.accepts_fields rules) v.first v.rest };
-
-    ghost parse_fields = { parse_field T.parse Rest.parse_fields };
-
-    ghost readable_fields = { λ v. T.readable v.first × Rest.readable_fields v.rest
-        × Apart T.tags (T.lead v.first) (Rest.first_tag v.rest) };
-
-    ghost FIELDS_TAKE_MEMORY = { T.TAKES_MEMORY || Rest.FIELDS_TAKE_MEMORY };
-
-    ghost parse_of_accepted_fields = { λ rules v.
-        parse_of_field T.Form Rest.FieldList rules v.first v.rest };
-
-    ghost led_fields = { λ rules v. led_field T.Form Rest.FieldList rules v.first v.rest };
-
-    ghost same_length_fields = { λ rules v.
-        same_length_field T.Form Rest.FieldList rules v.first v.rest };
-
-    ghost accepts_joined = { λ rules v.
-        accepts_field_joined T.Form Rest.FieldList rules v.first v.rest };
-
-    ghost only_readable_fields = { λ rules v.
-        readable_field T.Form Rest.FieldList rules v.first v.rest };
-
-    ghost accepts_all_comparable = { λ rules v w.
-        all_comparable_field T.Form Rest.FieldList rules v.first w.first v.rest w.rest };
-
-    ghost re_read_memory = { λ v. re_read_field T.Form Rest.FieldList v.first v.rest };
+    ghost list = { field_list T.Form Rest.list };
 }
 
 impl<'a, R: Reader<'a>, T: DecodeField<'a, R>, Rest: DecodeFields<'a, R>> DecodeFields<'a, R>
@@ -108,8 +81,8 @@ impl<T: FirstTag, Rest: FieldsLead> FieldsLead for Field<T, Rest> {
         }
     }
 
-    ghost starts_fields = { λ v. starts_both (T.lead v.first) (Rest.first_tag v.rest)
-        (T.encoding v.first) (Rest.joined v.rest) (T.starts v.first) (Rest.starts_fields v.rest) };
+    ghost starts_fields = { λ v. starts_both (T.lead v.first) (Rest.list.first_tag v.rest)
+        (T.encoding v.first) (Rest.list.octets.contents v.rest) (T.starts v.first) (Rest.starts_fields v.rest) };
 }
 
 impl<T: DerOrd + FirstTag, Rest: FieldsOrd + FieldsLead> FieldsOrd for Field<T, Rest> {
@@ -130,11 +103,11 @@ impl<T: DerOrd + FirstTag, Rest: FieldsOrd + FieldsLead> FieldsOrd for Field<T, 
 impl<T: EncodingEq + FirstTag, Rest: FieldsEq + FieldsLead> FieldsEq for Field<T, Rest> {
     ghost fields_eq = { λ v w one.
         eq_both (T.eq v.first w.first) (Rest.eq v.rest w.rest) (T.encoding v.first)
-        (T.encoding w.first) (Rest.joined v.rest) (Rest.joined w.rest)
+        (T.encoding w.first) (Rest.list.octets.contents v.rest) (Rest.list.octets.contents w.rest)
         (T.encoding_eq v.first w.first one.0) (Rest.fields_eq v.rest w.rest one.1)
-        (told_apart T.tags (T.lead v.first) (T.lead w.first) (Rest.first_tag v.rest)
-        (Rest.first_tag w.rest) (T.encoding v.first) (T.encoding w.first) (Rest.joined v.rest)
-        (Rest.joined w.rest) (T.own_lead v.first) (T.own_lead w.first) (T.starts v.first)
+        (told_apart T.tags (T.lead v.first) (T.lead w.first) (Rest.list.first_tag v.rest)
+        (Rest.list.first_tag w.rest) (T.encoding v.first) (T.encoding w.first) (Rest.list.octets.contents v.rest)
+        (Rest.list.octets.contents w.rest) (T.own_lead v.first) (T.own_lead w.first) (T.starts v.first)
         (T.starts w.first) (Rest.starts_fields v.rest) (Rest.starts_fields w.rest)
         (T.same_beginning v.first w.first) one.2 one.3) };
 }
@@ -152,7 +125,7 @@ impl<T: Duplicate + FirstTag, Rest: DuplicateFields + FieldsLead> DuplicateField
     }
 
     ghost copy_joined = { λ v w c. copy_both (T.encoding v.first) (T.encoding w.first)
-        (Rest.joined v.rest) (Rest.joined w.rest) (T.copy_encoding v.first w.first c.0)
+        (Rest.list.octets.contents v.rest) (Rest.list.octets.contents w.rest) (T.copy_encoding v.first w.first c.0)
         (Rest.copy_joined v.rest w.rest c.1) };
 
     ghost copy_all_comparable = { λ v w x c one. (
@@ -160,8 +133,8 @@ impl<T: Duplicate + FirstTag, Rest: DuplicateFields + FieldsLead> DuplicateField
       Rest.copy_all_comparable v.rest w.rest
           x.rest c.1 one.1,
       copy_forms_both T.tags (T.lead v.first) (T.lead w.first)
-          (Rest.first_tag v.rest) (Rest.first_tag w.rest) (T.encoding v.first) (T.encoding w.first)
-          (Rest.joined v.rest) (Rest.joined w.rest) (T.starts v.first) (T.starts w.first)
+          (Rest.list.first_tag v.rest) (Rest.list.first_tag w.rest) (T.encoding v.first) (T.encoding w.first)
+          (Rest.list.octets.contents v.rest) (Rest.list.octets.contents w.rest) (T.starts v.first) (T.starts w.first)
           (Rest.starts_fields v.rest) (Rest.starts_fields w.rest)
           (T.copy_encoding v.first w.first c.0) (Rest.copy_joined v.rest w.rest c.1) one.2,
       one.3,

@@ -8,6 +8,7 @@
 
 ghost use Rattle.std.specs.Prelude.{refl};
 ghost use Rattle.der_elem.specs.Decoding.{ReadsAll};
+ghost use Rattle.der_elem.specs.ValueForms.{held_form};
 ghost use Rattle.der_fields.specs.SequenceWriting.{WritesAll};
 
 use crate::coded::{DecodeFields, EncodeFields};
@@ -31,34 +32,7 @@ pub struct FieldSequence<F> {
 }
 
 impl<F: FieldList> FormValue for FieldSequence<F> {
-    ghost contents = { λ v. F.joined v.fields };
-
-    ghost comparable_value = { λ v w. F.all_comparable v.fields w.fields };
-
-    ghost re_reads_value = { λ v. F.re_read v.fields };
-
-    ghost accepts_value = { λ rules v. F.accepts_fields rules v.fields };
-
-    ghost parse_value = { F.parse_fields };
-
-    ghost readable_value = { λ v. F.readable_fields v.fields };
-
-    ghost has_tag = { λ v t. Unit {0} };
-
-    ghost VALUE_TAKES_MEMORY = { F.FIELDS_TAKE_MEMORY };
-
-    ghost parse_of_accepted_value = { λ rules v. F.parse_of_accepted_fields rules v.fields };
-
-    ghost same_length_value = { λ rules v. F.same_length_fields rules v.fields };
-
-    ghost accepts_contents = { λ rules v. F.accepts_joined rules v.fields };
-
-    ghost only_readable_value = { λ rules v. F.only_readable_fields rules v.fields };
-
-    ghost accepts_comparable_value = { λ rules v w.
-        F.accepts_all_comparable rules v.fields w.fields };
-
-    ghost re_reads_memory_value = { λ v. F.re_read_memory v.fields };
+    ghost value = { held_form (λ v. v.fields) F.list.octets };
 }
 
 impl<F> OneTag for FieldSequence<F> {

@@ -5,6 +5,8 @@
 //!
 //! Reading refuses another tag, also that of the other form, (4), and the contents' faults.
 
+ghost use Rattle.der_elem.specs.ValueForms.{held_form};
+
 use crate::class_tag::ImplicitTag;
 use der_elem::{ContentsEq, DecodeValue, DuplicateValue, EncodeValue, FormValue, OneTag, ValueOrd};
 use der_tlv::{Error, Header, Length, Reader, Writer};
@@ -33,34 +35,7 @@ impl<T: OneTag, const CLASS: u8, const NUMBER: u32> OneTag for ImplicitIn<T, CLA
 }
 
 impl<T: FormValue, const CLASS: u8, const NUMBER: u32> FormValue for ImplicitIn<T, CLASS, NUMBER> {
-    ghost contents = { λ v. T.contents v.value };
-
-    ghost comparable_value = { λ v w. T.comparable_value v.value w.value };
-
-    ghost re_reads_value = { λ v. T.re_reads_value v.value };
-
-    ghost accepts_value = { λ rules v. T.accepts_value rules v.value };
-
-    ghost parse_value = { T.parse_value };
-
-    ghost readable_value = { λ v. T.readable_value v.value };
-
-    ghost has_tag = { λ v t. Unit {0} };
-
-    ghost VALUE_TAKES_MEMORY = { T.VALUE_TAKES_MEMORY };
-
-    ghost parse_of_accepted_value = { λ rules v. T.parse_of_accepted_value rules v.value };
-
-    ghost same_length_value = { λ rules v. T.same_length_value rules v.value };
-
-    ghost accepts_contents = { λ rules v. T.accepts_contents rules v.value };
-
-    ghost only_readable_value = { λ rules v. T.only_readable_value rules v.value };
-
-    ghost accepts_comparable_value = { λ rules v w.
-        T.accepts_comparable_value rules v.value w.value };
-
-    ghost re_reads_memory_value = { λ v. T.re_reads_memory_value v.value };
+    ghost value = { held_form (λ v. v.value) T.value };
 }
 
 impl<'a, R: Reader<'a>, T: DecodeValue<'a, R>, const CLASS: u8, const NUMBER: u32> DecodeValue<

@@ -8,9 +8,9 @@
 //! and the faults of the alternative that has the tag. A value of the other alternative whose tag is
 //! one of the first's is read from no octets.
 
-ghost use Rattle.std.specs.Prelude.{◌||◌, length};
-ghost use Rattle.std.proofs.Common.{Ok, ap, sym, refl};
-ghost use Rattle.der_elem.specs.OwnContents.{accepts_own};
+ghost use Rattle.std.specs.Prelude.{◌||◌};
+ghost use Rattle.std.proofs.Common.{Ok, refl};
+ghost use Rattle.der_elem.specs.ValueForms.{kept_form};
 ghost use Rattle.der_fields.specs.Alternatives.{of_one, AcceptsOne, ReadableOne, OneFormOne, IsCopyOne, TellsHeaders, parse_one, parse_untold};
 ghost use Rattle.der_fields.specs.FieldLaws.{either_memory};
 ghost use Rattle.der_fields.specs.AlternativeLaws.{parse_of_one, begins_one, led_one, same_length_one, accepts_one_encoding, readable_of_one, comparable_of_one, test_of_one, test_alike, encoding_is_one, lead_is_one, own_tag_one, is_led_one, is_tlv_one, encoding_eq_one, copy_encoding_one, copy_form_one, copy_re_reads_one};
@@ -73,28 +73,11 @@ impl<A: Form, B: Form> Form for OneOf<A, B> {
 /// The contents octets are those of the alternative. With no tag they do not tell which it is, so a
 /// CHOICE is read from whole encodings alone.
 impl<A: FormValue, B: FormValue> FormValue for OneOf<A, B> {
-    ghost contents = { of_one A.contents B.contents };
-
-    ghost re_reads_value = { of_one A.re_reads_value B.re_reads_value };
-
-    ghost accepts_value = { accepts_own (of_one A.contents B.contents) };
-
-    ghost parse_value = { parse_untold };
-
-    ghost VALUE_TAKES_MEMORY = { A.VALUE_TAKES_MEMORY || B.VALUE_TAKES_MEMORY };
-
-    ghost parse_of_accepted_value = { λ rules v p c a fits. ap Ok a };
-
-    ghost same_length_value = { λ rules v c a. ap length (sym a) };
-
-    ghost accepts_contents = { λ rules v r. refl };
-
-    ghost only_readable_value = { λ rules v c a. tt };
-
-    ghost accepts_comparable_value = { λ rules v w c d a b. tt };
-
-    ghost re_reads_memory_value = { test_of_one A.re_reads_value B.re_reads_value
-        A.VALUE_TAKES_MEMORY B.VALUE_TAKES_MEMORY A.re_reads_memory_value B.re_reads_memory_value };
+    ghost value = { record (kept_form (of_one A.value.contents B.value.contents) (λ v t. Unit {0}) parse_untold (λ rules v p. refl)) {
+      re_reads = of_one A.value.re_reads B.value.re_reads;
+      TAKES_MEMORY = A.value.TAKES_MEMORY || B.value.TAKES_MEMORY;
+      re_reads_memory = test_of_one A.value.re_reads B.value.re_reads A.value.TAKES_MEMORY B.value.TAKES_MEMORY A.value.re_reads_memory B.value.re_reads_memory;
+    } };
 }
 
 impl<A: Tagged, B: Tagged> Tagged for OneOf<A, B> {
@@ -107,7 +90,7 @@ impl<A: Tagged, B: Tagged> Tagged for OneOf<A, B> {
         }
     }
 
-    ghost encoding_is = { encoding_is_one A.tag_of B.tag_of A.contents A.encoding B.contents
+    ghost encoding_is = { encoding_is_one A.tag_of B.tag_of A.value.contents A.encoding B.value.contents
         B.encoding A.encoding_is B.encoding_is };
 
     ghost accepted_is_tlv = { is_tlv_one A.Form B.Form A.accepted_is_tlv B.accepted_is_tlv };
@@ -116,7 +99,7 @@ impl<A: Tagged, B: Tagged> Tagged for OneOf<A, B> {
 
     ghost lead_is = { lead_is_one A.tag_of B.tag_of A.lead B.lead A.lead_is B.lead_is };
 
-    ghost re_reads_alike = { test_alike A.re_reads_value A.re_reads B.re_reads_value B.re_reads
+    ghost re_reads_alike = { test_alike A.value.re_reads A.re_reads B.value.re_reads B.re_reads
         A.re_reads_alike B.re_reads_alike };
 
     ghost comparable_alike = { λ v w h. tt };

@@ -12,9 +12,9 @@ use std::cmp::Ordering;
 pub trait FieldsLead: FieldList {
     /// The tag that the first encoding begins with, if any field has octets.
     fn first_of_fields(&self) -> Option<Tag>
-        ensures { result ≡ Self.first_tag self.now };
+        ensures { result ≡ Self.list.first_tag self.now };
 
-    ghost starts_fields: { (v : Self) → Starts (Self.first_tag v) (Self.joined v) };
+    ghost starts_fields: { (v : Self) → Starts (Self.list.first_tag v) (Self.list.octets.contents v) };
 }
 
 /// The order of fields.
@@ -25,7 +25,7 @@ pub trait FieldsOrd: FieldList {
     /// `ErrorKind::Overflow` (9) where one has more than 4294967295 octets, `ErrorKind::Value` (13)
     /// where two are not comparable, `ErrorKind::Memory` (1) where one reads items again.
     fn cmp_fields(&self, other: &Self) -> Result<Ordering, Error>
-        ensures { ComparesFields Self.FieldList self.now other.now result };
+        ensures { ComparesFields Self.list self.now other.now result };
 }
 
 /// Whether both fields are there, or both absent.

@@ -151,13 +151,13 @@ impl<T: Tagged, D: DefaultOf<T>> FirstTag for WithDefault<T, D> {
         self.value.first_tag()
     }
 
-    ghost starts = { λ v. starts_default T.tag_of T.contents T.encoding T.encoding_is v.value
+    ghost starts = { λ v. starts_default T.tag_of T.value.contents T.encoding T.encoding_is v.value
         (T.lead v.value) (T.lead_is v.value) (is_default D.octets (T.encoding v.value)) };
 
     ghost own_lead = { λ v. own_lead_default T.tags (T.tag_of v.value) (T.own_tag v.value)
         (T.lead v.value) (T.lead_is v.value) (is_default D.octets (T.encoding v.value)) };
 
-    ghost same_beginning = { λ v w. beginning_default T.tag_of T.contents T.encoding T.encoding_is
+    ghost same_beginning = { λ v w. beginning_default T.tag_of T.value.contents T.encoding T.encoding_is
         T.lead T.lead_is (is_default D.octets (T.encoding v.value))
         (is_default D.octets (T.encoding w.value)) v.value w.value };
 }
@@ -176,7 +176,7 @@ impl<T: DerOrd + Tagged, D: DefaultOf<T>> DerOrd for WithDefault<T, D> {
 }
 
 impl<T: EncodingEq + Tagged, D: DefaultOf<T>> EncodingEq for WithDefault<T, D> {
-    ghost encoding_eq = { λ v w. encoding_eq_default T.tag_of T.contents T.encoding T.encoding_is
+    ghost encoding_eq = { λ v w. encoding_eq_default T.tag_of T.value.contents T.encoding T.encoding_is
         T.comparable T.eq T.encoding_eq D.octets v.value w.value };
 }
 

@@ -58,7 +58,7 @@ pub fn put_canonical_sequence<'a, F: DecodeFields<'a, SliceReader<'a>> + EncodeF
     encoding: &mut KeptWriter,
     _sequence: PhantomData<FieldSequence<F>>,
 ) -> Result<(), Error>
-    ensures { Puts (parse_all (parse_tagged Sequence F.parse_fields) octets.now)
+    ensures { Puts (parse_all (parse_tagged Sequence F.list.octets.parse) octets.now)
         encoding.new.octets.items result }
 {
     put_canonical::<FieldSequence<F>>(alloc, octets, encoding)

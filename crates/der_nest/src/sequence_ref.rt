@@ -6,9 +6,8 @@ ghost use Rattle.std.specs.Prelude.{◌≡◌, ◌^◌, ◌<◌, length, refl, f
 ghost use Rattle.std.proofs.Common.{Ok};
 ghost use Rattle.std.specs.Cmp.Lexicographic.{bytes_decides};
 ghost use Rattle.der_tlv.specs.declared.tag.Tag.TheVariants as tags;
+ghost use Rattle.der_elem.specs.ValueForms.{own_form};
 ghost use Rattle.der_opaque.specs.Opaque.{parse_octets, KeepsOctets};
-ghost use Rattle.der_elem.specs.OwnContents.{accepts_within};
-ghost use Rattle.der_elem.specs.OwnContentsLaws.{parse_of_within, same_length_within, accepts_contents_within, only_within};
 
 use der_elem::{
     ContentsEq, CopyIsDuplicate, DecodeValue, EncodeValue, FormValue, OneTag, Sequence, SequenceTag,
@@ -52,24 +51,7 @@ impl<'a> SequenceRef<'a> {
 impl<'a> FormValue for SequenceRef<'a> {
     ghost use Rattle.der_nest.specs.SequenceRef.{octets_of};
 
-    ghost contents = { octets_of };
-
-    ghost accepts_value = { accepts_within octets_of (λ v. Unit {0}) };
-
-    ghost parse_value = { parse_octets };
-
-    ghost parse_of_accepted_value = { parse_of_within octets_of (λ v. Unit {0}) parse_octets
-        (λ rules v p r. refl) };
-
-    ghost same_length_value = { same_length_within octets_of (λ v. Unit {0}) };
-
-    ghost accepts_contents = { accepts_contents_within octets_of (λ v. Unit {0}) };
-
-    ghost only_readable_value = { only_within octets_of (λ v. Unit {0}) };
-
-    ghost accepts_comparable_value = { λ rules v w c d a b. tt };
-
-    ghost re_reads_memory_value = { λ v e. e };
+    ghost value = { own_form octets_of parse_octets (λ rules v p. refl) };
 }
 
 impl<'a> OneTag for SequenceRef<'a> {

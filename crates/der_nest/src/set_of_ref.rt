@@ -209,31 +209,22 @@ impl<'a, T: Form> OneTag for SetOfRef<'a, T> {
 }
 
 impl<'a, T: Form> FormValue for SetOfRef<'a, T> {
-    ghost contents = { borrowed_contents T.encoding };
-
-    ghost comparable_value = { OneFormBorrowed T.Form };
-
-    ghost re_reads_value = { re_reads_borrowed T.Form };
-
-    ghost accepts_value = { λ rules. AcceptsBorrowed T.Form };
-
-    ghost parse_value = { parse_borrowed T.parse };
-
-    ghost readable_value = { ReadableBorrowed T.Form };
-
-    ghost VALUE_TAKES_MEMORY = { T.TAKES_MEMORY };
-
-    ghost parse_of_accepted_value = { parse_of_borrowed T.Form };
-
-    ghost same_length_value = { same_length_borrowed T.Form };
-
-    ghost accepts_contents = { accepts_borrowed_contents T.Form };
-
-    ghost only_readable_value = { readable_borrowed T.Form };
-
-    ghost accepts_comparable_value = { comparable_borrowed T.Form };
-
-    ghost re_reads_memory_value = { re_reads_borrowed_memory T.Form };
+    ghost value = { record {
+      contents = borrowed_contents T.encoding;
+      comparable = OneFormBorrowed T.Form;
+      re_reads = re_reads_borrowed T.Form;
+      accepts = λ rules. AcceptsBorrowed T.Form;
+      parse = parse_borrowed T.parse;
+      readable = ReadableBorrowed T.Form;
+      has_tag = λ v t. Unit {0};
+      TAKES_MEMORY = T.TAKES_MEMORY;
+      parse_of_accepted = parse_of_borrowed T.Form;
+      same_length = same_length_borrowed T.Form;
+      accepts_contents = accepts_borrowed_contents T.Form;
+      only_readable = readable_borrowed T.Form;
+      accepts_comparable = comparable_borrowed T.Form;
+      re_reads_memory = re_reads_borrowed_memory T.Form;
+    } };
 }
 
 impl<'a, R: Reader<'a>, T: Decode<'a, SliceReader<'a>> + DerOrd + Tagged> DecodeValue<'a, R>

@@ -1,6 +1,6 @@
 //! The items of a borrowed set, one after another.
 
-ghost use Rattle.std.specs.Prelude.{⊤, ◌≡◌, length, false};
+ghost use Rattle.std.specs.Prelude.{⊤, ◌≡◌, length};
 ghost use Rattle.std.specs.Iterator.{at_most};
 ghost use Rattle.der_nest.specs.BorrowedSets.{encodings_of};
 ghost use Rattle.der_nest.specs.BorrowedItems.{GivesNext};

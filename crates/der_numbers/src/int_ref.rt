@@ -7,13 +7,10 @@ ghost use Rattle.std.specs.Prelude.{◌≡◌, ◌^◌, ◌<◌, length, false, 
 ghost use Rattle.std.proofs.Common.{Ok};
 ghost use Rattle.std.specs.Cmp.Lexicographic.{bytes_decides};
 ghost use Rattle.der_tlv.specs.declared.tag.Tag.TheVariants as tags;
-ghost use Rattle.der_tlv.specs.declared.encoding_rules.EncodingRules.TheVariants.{Der};
 ghost use Rattle.der_elem.specs.Integer.{integer_contents, twos_complement};
-ghost use Rattle.der_opaque.specs.DecodingAs.{DecodesAs};
+ghost use Rattle.der_elem.specs.ValueForms.{own_form};
 ghost use Rattle.der_numbers.specs.AnyLength.{integer_or_fault, parse_integer, TakesContents, KeepsNumber, CopiesContents};
 ghost use Rattle.der_numbers.specs.AnyLengthLaws.{parse_of_integer};
-ghost use Rattle.der_elem.specs.OwnContents.{accepts_within};
-ghost use Rattle.der_elem.specs.OwnContentsLaws.{parse_of_within, same_length_within, accepts_contents_within, only_within};
 ghost use Rattle.der_opaque.specs.Any as owned_any;
 ghost use Rattle.der_opaque.specs.AnyRef as borrowed_any;
 
@@ -115,24 +112,7 @@ impl<'a> IntRef<'a> {
 impl<'a> FormValue for IntRef<'a> {
     ghost use Rattle.der_numbers.specs.IntRef.{contents_of};
 
-    ghost contents = { contents_of };
-
-    ghost accepts_value = { accepts_within contents_of (λ v. Unit {0}) };
-
-    ghost parse_value = { parse_integer };
-
-    ghost parse_of_accepted_value = { parse_of_within contents_of (λ v. Unit {0}) parse_integer
-        (λ rules v p r. parse_of_integer v.octets.now v.octets.now v.fewest refl) };
-
-    ghost same_length_value = { same_length_within contents_of (λ v. Unit {0}) };
-
-    ghost accepts_contents = { accepts_contents_within contents_of (λ v. Unit {0}) };
-
-    ghost only_readable_value = { only_within contents_of (λ v. Unit {0}) };
-
-    ghost accepts_comparable_value = { λ rules v w c d a b. tt };
-
-    ghost re_reads_memory_value = { λ v e. e };
+    ghost value = { own_form contents_of parse_integer (λ rules v p. parse_of_integer v.octets.now v.octets.now v.fewest refl) };
 }
 
 impl<'a> OneTag for IntRef<'a> {
@@ -181,7 +161,7 @@ pub trait AsIntRef: FormValue {
 
     /// The same integer, borrowed.
     fn as_int_ref(&self) -> IntRef<'_>
-        ensures { contents_of result ≡ Self.contents self.now };
+        ensures { contents_of result ≡ Self.value.contents self.now };
 }
 
 impl<'a> AsIntRef for IntRef<'a> {

@@ -18,9 +18,9 @@ const MAX_OCTETS: usize = 17;
 
 /// The contents octets of a value that has at most 17, in a buffer.
 fn contents_in<'b, T: EncodeValue>(value: &T, buffer: &'b mut [u8; MAX_OCTETS]) -> &'b [u8]
-    requires short { length (T.contents value.now) ≤ 17 }
-    requires kept { T.re_reads_value value.now ≡ false }
-    ensures { result.now ≡ T.contents value.now }
+    requires short { length (T.value.contents value.now) ≤ 17 }
+    requires kept { T.value.re_reads value.now ≡ false }
+    ensures { result.now ≡ T.value.contents value.now }
 {
     let mut writer = SliceWriter::new(buffer);
     match value.encode_value(&mut writer) {

@@ -7,17 +7,17 @@
 //! before 1, and 255 before 127.
 
 ghost use Rattle.std.specs.Prelude.{◌≡◌, ◌^◌, ◌<◌, nat_eq, length, true, false, refl, Some};
-ghost use Rattle.std.proofs.Common.{Ok, ap, sym};
+ghost use Rattle.std.proofs.Common.{Ok, ap};
 ghost use Rattle.std.specs.Cmp.{on_per, on_equiv, on_po, on_total, partial_equiv_from_equiv};
 ghost use Rattle.std.specs.Cmp.Lexicographic.{pointwise, bytes_decides, nat_list_eq_equiv, nat_list_cmp_total, texts_po, texts_ties};
 ghost use Rattle.der_tlv.specs.declared.tag.Tag.TheVariants as tags;
 ghost use Rattle.der_tlv.specs.Octets.{lex};
 ghost use Rattle.der_elem.specs.Integer.{big_endian_number, with_sign_octet, natural_contents};
-ghost use Rattle.der_tlv.specs.ReaderState.{ReaderState, rest};
+ghost use Rattle.der_tlv.specs.ReaderState.{rest};
 ghost use Rattle.der_tlv.specs.Reading.{Stands};
 ghost use Rattle.der_elem.specs.Decoding.{DecodesValue};
 ghost use Rattle.der_elem.specs.RunningOut.{FaultsFirst};
-ghost use Rattle.der_elem.specs.OwnContents.{accepts_own};
+ghost use Rattle.der_elem.specs.ValueForms.{owned_form};
 ghost use Rattle.der_numbers.specs.AnyLength.{parse_natural, has_leading_zero, without_sign_octet, KeepsNaturalCopy};
 ghost use Rattle.der_numbers.specs.UnsignedLaws.{parse_of_natural};
 ghost use Rattle.der_numbers.specs.UintRef as borrowed;
@@ -122,26 +122,7 @@ impl Clone for Uint {
 impl FormValue for Uint {
     ghost use Rattle.der_numbers.specs.Uint.{contents_of};
 
-    ghost contents = { contents_of };
-
-    ghost accepts_value = { accepts_own contents_of };
-
-    ghost parse_value = { parse_natural };
-
-    ghost VALUE_TAKES_MEMORY = { true };
-
-    ghost parse_of_accepted_value = { λ rules v p c a fits.
-        parse_of_natural v.octets.items c v.fewest a };
-
-    ghost same_length_value = { λ rules v c a. ap length (sym a) };
-
-    ghost accepts_contents = { λ rules v r. refl };
-
-    ghost only_readable_value = { λ rules v c a. tt };
-
-    ghost accepts_comparable_value = { λ rules v w c d a b. tt };
-
-    ghost re_reads_memory_value = { λ v e. refl };
+    ghost value = { owned_form contents_of parse_natural (λ rules v p. parse_of_natural v.octets.items (with_sign_octet v.octets.items) v.fewest refl) };
 }
 
 impl OneTag for Uint {
@@ -159,7 +140,7 @@ impl<'a, R: Reader<'a>> DecodeValue<'a, R> for Uint {
     /// (17) on a failed reader; the first fault of the contents octets; else (1) where memory runs
     /// out.
     fn decode_value(alloc: Global, reader: &mut R, header: Header) -> Result<Uint, Error>
-        ensures exact { length (rest (R.state reader.old)) ≡ header.length → DecodesValue uint header (R.state reader.old) (R.state reader.new) result }
+        ensures exact { length (rest (R.state reader.old)) ≡ header.length → DecodesValue uint.value header (R.state reader.old) (R.state reader.new) result }
         ensures reader { Stands (R.state reader.old) (R.state reader.new) result }
         ensures faults_first { length (rest (R.state reader.old)) ≡ header.length → FaultsFirst parse_natural (R.state reader.old) result }
     {

@@ -11,14 +11,11 @@ ghost use Rattle.std.proofs.Common.{Ok};
 ghost use Rattle.std.specs.Cmp.{on_per, on_equiv, on_po, on_total, partial_equiv_from_equiv};
 ghost use Rattle.std.specs.Cmp.Lexicographic.{pointwise, bytes_decides, nat_list_eq_equiv, nat_list_cmp_total, texts_po, texts_ties};
 ghost use Rattle.der_tlv.specs.declared.tag.Tag.TheVariants as tags;
-ghost use Rattle.der_tlv.specs.declared.encoding_rules.EncodingRules.TheVariants.{Der};
 ghost use Rattle.der_tlv.specs.Octets.{lex};
 ghost use Rattle.der_elem.specs.Integer.{big_endian_number, with_sign_octet, natural_contents};
-ghost use Rattle.der_opaque.specs.DecodingAs.{DecodesAs};
+ghost use Rattle.der_elem.specs.ValueForms.{own_form};
 ghost use Rattle.der_numbers.specs.AnyLength.{natural_or_fault, parse_natural, has_leading_zero, without_sign_octet, TakesContents, KeepsNatural, CopiesContents};
 ghost use Rattle.der_numbers.specs.UnsignedLaws.{parse_of_natural};
-ghost use Rattle.der_elem.specs.OwnContents.{accepts_within};
-ghost use Rattle.der_elem.specs.OwnContentsLaws.{parse_of_within, same_length_within, accepts_contents_within, only_within};
 ghost use Rattle.der_opaque.specs.Any as owned_any;
 ghost use Rattle.der_opaque.specs.AnyRef as borrowed_any;
 
@@ -133,24 +130,7 @@ impl<'a> UintRef<'a> {
 impl<'a> FormValue for UintRef<'a> {
     ghost use Rattle.der_numbers.specs.UintRef.{contents_of};
 
-    ghost contents = { contents_of };
-
-    ghost accepts_value = { accepts_within contents_of (λ v. Unit {0}) };
-
-    ghost parse_value = { parse_natural };
-
-    ghost parse_of_accepted_value = { parse_of_within contents_of (λ v. Unit {0}) parse_natural (λ
-        rules v p r. parse_of_natural v.octets.now (with_sign_octet v.octets.now) v.fewest refl) };
-
-    ghost same_length_value = { same_length_within contents_of (λ v. Unit {0}) };
-
-    ghost accepts_contents = { accepts_contents_within contents_of (λ v. Unit {0}) };
-
-    ghost only_readable_value = { only_within contents_of (λ v. Unit {0}) };
-
-    ghost accepts_comparable_value = { λ rules v w c d a b. tt };
-
-    ghost re_reads_memory_value = { λ v e. e };
+    ghost value = { own_form contents_of parse_natural (λ rules v p. parse_of_natural v.octets.now (with_sign_octet v.octets.now) v.fewest refl) };
 }
 
 impl<'a> OneTag for UintRef<'a> {
@@ -251,7 +231,7 @@ pub trait AsUintRef: FormValue {
 
     /// The same number, borrowed.
     fn as_uint_ref(&self) -> UintRef<'_>
-        ensures { contents_of result ≡ Self.contents self.now };
+        ensures { contents_of result ≡ Self.value.contents self.now };
 }
 
 impl<'a> AsUintRef for UintRef<'a> {

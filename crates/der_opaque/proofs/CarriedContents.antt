@@ -6,7 +6,7 @@ use Rattle.der_tlv.specs.declared.error.Error.{Error}
 use Rattle.der_tlv.specs.declared.encoding_rules.EncodingRules.{EncodingRules}
 use Rattle.der_tlv.specs.declared.header.Header.{Header}
 use Rattle.der_tlv.specs.ReaderState.{ReaderState, rest, new_reader}
-use Rattle.der_elem.specs.declared.form.FormValue as value
+use Rattle.der_elem.specs.ValueForm.{ValueForm}
 use Rattle.der_elem.specs.declared.form.Form as form
 use Rattle.der_elem.specs.Accepting.{Fits}
 use Rattle.der_elem.specs.Decoding.{DecodesValue}
@@ -16,26 +16,26 @@ use Rattle.der_opaque.specs.DecodingAs.{DecodesAs, NotDecodedAs}
 pub rest_opened : (octets : List ℕ) (rules : EncodingRules) {s : ReaderState} → s ≡ new_reader octets rules → rest s ≡ octets
 rest_opened octets rules opens = ap rest opens ∙ take-length octets
 
-module _ {T : Type 0} (C : form.Ghosts T) (F : value.Ghosts T) (rules : EncodingRules) (header : Header) (octets : List ℕ) (fits : Fits octets) (allowed : C.tags header.tag ≡ true) where
-  not_decoded : (kind : ErrorKind) → F.parse_value rules 0 octets ≡ Err kind → NotDecodedAs C F rules header.tag octets kind
+module _ {T : Type 0} (C : form.Ghosts T) (F : ValueForm T) (rules : EncodingRules) (header : Header) (octets : List ℕ) (fits : Fits octets) (allowed : C.tags header.tag ≡ true) where
+  not_decoded : (kind : ErrorKind) → F.parse rules 0 octets ≡ Err kind → NotDecodedAs C F rules header.tag octets kind
   not_decoded kind e =
       record {
         fault = rw allowed e;
-        nothing = λ t w accepted. let k = sym (F.parse_of_accepted_value rules w 0 octets accepted fits) ∙ e in absurd (cc);
+        nothing = λ t w accepted. let k = sym (F.parse_of_accepted rules w 0 octets accepted fits) ∙ e in absurd (cc);
       }
 
   at_opened : (new : ReaderState) (r : Result T Error) → DecodesValue F header (new_reader octets rules) new r → DecodesAs C F rules header.tag octets r
   at_opened new (Ok v) told =
       record {
         allowed = allowed;
-        parsed = ap (F.parse_value rules 0) (sym (take-length octets)) ∙ told.parsed;
-        accepted = subst (F.accepts_value rules v) (take-length octets) told.accepted;
+        parsed = ap (F.parse rules 0) (sym (take-length octets)) ∙ told.parsed;
+        accepted = subst (F.accepts rules v) (take-length octets) told.accepted;
         tag = told.tag;
       }
   at_opened new (Err e) told =
       elim told.reason [
         | inl m ↦ inl (m.0, m.1, allowed)
-        | inr f ↦ inr (not_decoded e.kind (ap (F.parse_value rules 0) (sym (take-length octets)) ∙ f))
+        | inr f ↦ inr (not_decoded e.kind (ap (F.parse rules 0) (sym (take-length octets)) ∙ f))
       ]
 
   -- what the type answers of the octets

@@ -1,19 +1,18 @@
 //! Values with any tag.
 
 ghost use Rattle.std.specs.Prelude.{◌≡◌, ◌≢◌, Some, ◌↔◌, ◌⊎◌, ◌^◌, ◌<◌, [], length, true, false, refl, IsTrue, IfOk, IfErr};
-ghost use Rattle.std.proofs.Common.{Ok, ap, sym};
+ghost use Rattle.std.proofs.Common.{Ok};
 ghost use Rattle.std.specs.Cmp.Lexicographic.{bytes_decides};
 ghost use Rattle.der_tlv.specs.declared.error.ErrorKind.TheVariants as kinds;
 ghost use Rattle.der_tlv.specs.declared.tag.Tag.TheVariants as tags;
 ghost use Rattle.der_tlv.specs.TagParts.{IsTag};
 ghost use Rattle.der_tlv.specs.TagEquality.{tag_eq-decides};
 ghost use Rattle.der_tlv.specs.HeaderOctets.{tlv};
-ghost use Rattle.der_tlv.specs.ReaderState.{ReaderState, rest};
+ghost use Rattle.der_tlv.specs.ReaderState.{rest};
 ghost use Rattle.der_tlv.specs.Reading.{Stands};
 ghost use Rattle.der_elem.specs.Decoding.{Decodes, DecodesValue};
 ghost use Rattle.der_elem.specs.RunningOut.{FaultsFirst};
 ghost use Rattle.der_elem.specs.Encoding.{NoVector};
-ghost use Rattle.der_elem.specs.OwnContents.{accepts_own};
 ghost use Rattle.der_opaque.specs.Opaque.{parse_octets, KeepsTagged};
 ghost use Rattle.der_tlv.specs.declared.encoding_rules.EncodingRules.TheVariants.{Der};
 ghost use Rattle.der_opaque.specs.DecodingAs.{DecodesAs};
@@ -22,6 +21,7 @@ ghost use Rattle.der_opaque.specs.AnyForm.{accepts_any, parse_any, AnyFaultsFirs
 ghost use Rattle.der_opaque.specs.AnyLaws.{led_any, parse_of_any, begins_any, same_length_any, encoding_eq_any};
 ghost use Rattle.der_opaque.specs.AnyRef as borrowed;
 ghost use Rattle.der_tlv.specs.Views.{slice_reader_state};
+ghost use Rattle.der_elem.specs.ValueForms.{kept_form, owning};
 
 use crate::any_ref::AnyRef;
 use der_elem::{
@@ -97,9 +97,9 @@ impl Any {
     /// again.
     pub fn encode_from<T: Tagged + EncodeValue>(alloc: Global, value: &T) -> Result<Any, Error>
         ensures ok { IfOk result (λ any.
-            (tag_of any ≡ T.tag_of value.now) × (contents_of any ≡ T.contents value.now)) }
+            (tag_of any ≡ T.tag_of value.now) × (contents_of any ≡ T.value.contents value.now)) }
         ensures err { IfErr result (λ e.
-            NoVector (T.contents value.now) (T.re_reads_value value.now) e.kind) }
+            NoVector (T.value.contents value.now) (T.value.re_reads value.now) e.kind) }
     {
         let len = value.value_len()?;
         let mut writer = VecWriter::with_capacity(alloc, usize::from(len))?;
@@ -134,7 +134,7 @@ impl Any {
         &'a self,
         alloc: Global,
     ) -> Result<T, Error>
-        ensures { DecodesAs T.Form T.FormValue Der (tag_of self.now) (contents_of self.now) result }
+        ensures { DecodesAs T.Form T.value Der (tag_of self.now) (contents_of self.now) result }
     {
         self.to_ref().decode_as(alloc)
     }
@@ -149,7 +149,7 @@ impl Any {
         alloc: Global,
         rules: EncodingRules,
     ) -> Result<T, Error>
-        ensures { DecodesAs T.Form T.FormValue rules (tag_of self.now)
+        ensures { DecodesAs T.Form T.value rules (tag_of self.now)
             (contents_of self.now) result }
     {
         self.to_ref().decode_as_encoding(alloc, rules)
@@ -218,27 +218,7 @@ impl Clone for Any {
 impl FormValue for Any {
     ghost use Rattle.der_opaque.specs.Any.{tag_of, contents_of};
 
-    ghost contents = { contents_of };
-
-    ghost accepts_value = { accepts_own contents_of };
-
-    ghost parse_value = { parse_octets };
-
-    ghost has_tag = { λ v t. v.tag ≡ t };
-
-    ghost VALUE_TAKES_MEMORY = { true };
-
-    ghost parse_of_accepted_value = { λ rules v p c a fits. ap Ok a };
-
-    ghost same_length_value = { λ rules v c a. ap length (sym a) };
-
-    ghost accepts_contents = { λ rules v r. refl };
-
-    ghost only_readable_value = { λ rules v c a. tt };
-
-    ghost accepts_comparable_value = { λ rules v w c d a b. tt };
-
-    ghost re_reads_memory_value = { λ v e. refl };
+    ghost value = { owning (kept_form contents_of (λ v t. v.tag ≡ t) parse_octets (λ rules v p. refl)) };
 }
 
 impl Form for Any {
@@ -322,7 +302,7 @@ impl<'a, R: Reader<'a>> DecodeValue<'a, R> for Any {
     /// # Errors
     /// (17) on a failed reader; else (1) where memory runs out.
     fn decode_value(alloc: Global, reader: &mut R, header: Header) -> Result<Any, Error>
-        ensures exact { length (rest (R.state reader.old)) ≡ header.length → DecodesValue any header (R.state reader.old) (R.state reader.new) result }
+        ensures exact { length (rest (R.state reader.old)) ≡ header.length → DecodesValue any.value header (R.state reader.old) (R.state reader.new) result }
         ensures reader { Stands (R.state reader.old) (R.state reader.new) result }
         ensures faults_first { length (rest (R.state reader.old)) ≡ header.length → FaultsFirst parse_octets (R.state reader.old) result }
     {

@@ -1,14 +1,13 @@
 //! Values with any tag, borrowed.
 
 ghost use Rattle.std.specs.Prelude.{◌≡◌, ◌≢◌, Some, ◌↔◌, ◌^◌, ◌<◌, [], length, true, false, refl, IsTrue, IfOk, IfErr};
-ghost use Rattle.std.proofs.Common.{Ok, ap, sym};
+ghost use Rattle.std.proofs.Common.{Ok};
 ghost use Rattle.std.specs.Cmp.Lexicographic.{bytes_decides};
 ghost use Rattle.der_tlv.specs.declared.error.ErrorKind.TheVariants as kinds;
 ghost use Rattle.der_tlv.specs.declared.tag.Tag.TheVariants as tags;
 ghost use Rattle.der_tlv.specs.TagParts.{IsTag};
 ghost use Rattle.der_tlv.specs.TagEquality.{tag_eq-decides};
 ghost use Rattle.der_tlv.specs.HeaderOctets.{tlv};
-ghost use Rattle.der_elem.specs.OwnContents.{accepts_own};
 ghost use Rattle.der_opaque.specs.Opaque.{parse_octets, KeepsTagged};
 ghost use Rattle.der_tlv.specs.declared.encoding_rules.EncodingRules.TheVariants.{Der};
 ghost use Rattle.der_elem.specs.Decoding.{Decodes, ReadsAll};
@@ -17,6 +16,7 @@ ghost use Rattle.der_opaque.specs.InSequence.{RefusesWith, CalledOn};
 ghost use Rattle.der_opaque.specs.AnyForm.{accepts_any, parse_any};
 ghost use Rattle.der_opaque.specs.AnyLaws.{led_any, parse_of_any, begins_any, same_length_any, encoding_eq_any};
 ghost use Rattle.der_tlv.specs.Views.{slice_reader_state};
+ghost use Rattle.der_elem.specs.ValueForms.{kept_form};
 
 use crate::any::Any;
 use der_elem::{
@@ -95,7 +95,7 @@ impl<'a> AnyRef<'a> {
         self,
         alloc: Global,
     ) -> Result<T, Error>
-        ensures { DecodesAs T.Form T.FormValue Der (tag_of self.entry)
+        ensures { DecodesAs T.Form T.value Der (tag_of self.entry)
             (contents_of self.entry) result }
     {
         self.decode_as_encoding(alloc, EncodingRules::Der)
@@ -111,7 +111,7 @@ impl<'a> AnyRef<'a> {
         alloc: Global,
         rules: EncodingRules,
     ) -> Result<T, Error>
-        ensures { DecodesAs T.Form T.FormValue rules (tag_of self.entry)
+        ensures { DecodesAs T.Form T.value rules (tag_of self.entry)
             (contents_of self.entry) result }
     {
         if !T::can_decode(self.tag) {
@@ -185,25 +185,7 @@ impl<'a> AnyRef<'a> {
 impl<'a> FormValue for AnyRef<'a> {
     ghost use Rattle.der_opaque.specs.AnyRef.{tag_of, contents_of};
 
-    ghost contents = { contents_of };
-
-    ghost accepts_value = { accepts_own contents_of };
-
-    ghost parse_value = { parse_octets };
-
-    ghost has_tag = { λ v t. v.tag ≡ t };
-
-    ghost parse_of_accepted_value = { λ rules v p c a fits. ap Ok a };
-
-    ghost same_length_value = { λ rules v c a. ap length (sym a) };
-
-    ghost accepts_contents = { λ rules v r. refl };
-
-    ghost only_readable_value = { λ rules v c a. tt };
-
-    ghost accepts_comparable_value = { λ rules v w c d a b. tt };
-
-    ghost re_reads_memory_value = { λ v e. e };
+    ghost value = { kept_form contents_of (λ v t. v.tag ≡ t) parse_octets (λ rules v p. refl) };
 }
 
 impl<'a> Form for AnyRef<'a> {

@@ -3,14 +3,11 @@
 //! Each refuses another tag (4, with no expected tag), and then what reading the type refuses. It
 //! takes no memory.
 
-ghost use Rattle.std.specs.Prelude.{◌≡◌, ◌≤◌, ◌<◌, ℕ, true};
+ghost use Rattle.std.specs.Prelude.{◌≡◌, ◌≤◌, ◌<◌, true};
 ghost use Rattle.std.specs.Str.{is_utf8};
-ghost use Rattle.der_tlv.specs.declared.encoding_rules.EncodingRules.TheVariants.{Der};
 ghost use Rattle.der_tlv.specs.declared.tag.Tag.TheVariants.{Integer, Utf8String};
-ghost use Rattle.der_elem.specs.Integer.{integer_contents, natural_contents, FitsSignedWidth, FitsUnsignedWidth};
-ghost use Rattle.der_elem.specs.IntegerReading.{parse_signed, parse_unsigned};
 ghost use Rattle.der_elem.specs.Utf8String.{parse_utf8};
-ghost use Rattle.der_opaque.specs.DecodingAs.{DecodesAs, DecodesOwnAs};
+ghost use Rattle.der_opaque.specs.DecodingAs.{DecodesOwnAs};
 ghost use Rattle.der_opaque.specs.AnyRef.{tag_of, contents_of};
 ghost use Rattle.der_opaque.specs.BuiltinTypes.{DecodesBoolean, DecodesNull, DecodesSigned, DecodesUnsigned};
 

@@ -4,11 +4,8 @@
 
 ghost use Rattle.std.specs.Prelude.{◌≡◌, [], length, refl, false};
 ghost use Rattle.der_tlv.specs.declared.tag.Tag.TheVariants as tags;
-ghost use Rattle.der_tlv.specs.declared.encoding_rules.EncodingRules.TheVariants.{Der};
-ghost use Rattle.der_opaque.specs.DecodingAs.{DecodesAs};
 ghost use Rattle.der_elem.specs.Null.{parse_null};
-ghost use Rattle.der_elem.specs.OwnContents.{accepts_within};
-ghost use Rattle.der_elem.specs.OwnContentsLaws.{parse_of_within, same_length_within, accepts_contents_within, only_within};
+ghost use Rattle.der_elem.specs.ValueForms.{own_form};
 ghost use Rattle.der_opaque.specs.Any as owned;
 ghost use Rattle.der_opaque.specs.AnyRef.{tag_of, contents_of};
 ghost use Rattle.der_opaque.specs.BuiltinTypes.{DecodesNull};
@@ -30,24 +27,7 @@ use std::alloc::Global;
 pub struct Null;
 
 impl FormValue for Null {
-    ghost contents = { λ v. [] };
-
-    ghost accepts_value = { accepts_within (λ v. []) (λ v. Unit {0}) };
-
-    ghost parse_value = { parse_null };
-
-    ghost parse_of_accepted_value = { parse_of_within (λ v. []) (λ v. Unit {0}) parse_null
-        (λ rules v p r. refl) };
-
-    ghost same_length_value = { same_length_within (λ v. []) (λ v. Unit {0}) };
-
-    ghost accepts_contents = { accepts_contents_within (λ v. []) (λ v. Unit {0}) };
-
-    ghost only_readable_value = { only_within (λ v. []) (λ v. Unit {0}) };
-
-    ghost accepts_comparable_value = { λ rules v w c d a b. tt };
-
-    ghost re_reads_memory_value = { λ v e. e };
+    ghost value = { own_form (λ v. []) parse_null (λ rules v p. refl) };
 }
 
 impl OneTag for Null {

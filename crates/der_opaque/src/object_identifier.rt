@@ -10,9 +10,8 @@ ghost use Rattle.std.specs.Hash as fed;
 ghost use Rattle.der_tlv.specs.declared.error.ErrorKind.TheVariants as kinds;
 ghost use Rattle.der_tlv.specs.declared.tag.Tag.TheVariants as tags;
 ghost use Rattle.der_tlv.specs.Octets.{lex};
-ghost use Rattle.der_opaque.specs.ObjectIdentifierOctets.{parse_identifier, parse_identifier-kept, FromAny};
-ghost use Rattle.der_elem.specs.OwnContents.{accepts_within};
-ghost use Rattle.der_elem.specs.OwnContentsLaws.{parse_of_within, same_length_within, accepts_contents_within, only_within};
+ghost use Rattle.der_elem.specs.ValueForms.{own_form};
+ghost use Rattle.der_opaque.specs.ObjectIdentifierOctets.{parse_identifier, parse_identifier-kept};
 ghost use Rattle.der_opaque.specs.AnyRef.{tag_of, contents_of};
 
 use crate::any_ref::AnyRef;
@@ -81,25 +80,7 @@ impl<const MAX_SIZE: usize> ObjectIdentifier<MAX_SIZE> {
 impl<const MAX_SIZE: usize> FormValue for ObjectIdentifier<MAX_SIZE> {
     ghost use Rattle.der_opaque.specs.ObjectIdentifier.{octets_of};
 
-    ghost contents = { octets_of };
-
-    ghost accepts_value = { accepts_within octets_of (λ v. Unit {0}) };
-
-    ghost parse_value = { parse_identifier MAX_SIZE };
-
-    ghost parse_of_accepted_value = { parse_of_within octets_of (λ v. Unit {0})
-        (parse_identifier MAX_SIZE) (λ rules v p r. parse_identifier-kept MAX_SIZE v.count v.octets
-        (take v.count v.octets) rules p v.some v.fits v.full refl) };
-
-    ghost same_length_value = { same_length_within octets_of (λ v. Unit {0}) };
-
-    ghost accepts_contents = { accepts_contents_within octets_of (λ v. Unit {0}) };
-
-    ghost only_readable_value = { only_within octets_of (λ v. Unit {0}) };
-
-    ghost accepts_comparable_value = { λ rules v w c d a b. tt };
-
-    ghost re_reads_memory_value = { λ v e. e };
+    ghost value = { own_form octets_of (parse_identifier MAX_SIZE) (λ rules v p. parse_identifier-kept MAX_SIZE v.count v.octets (take v.count v.octets) rules p v.some v.fits v.full refl) };
 }
 
 impl<const MAX_SIZE: usize> OneTag for ObjectIdentifier<MAX_SIZE> {

@@ -3,15 +3,15 @@
 //! The tag is 04, and the contents octets are the octets of the string.
 
 ghost use Rattle.std.specs.Prelude.{◌≡◌, ◌↔◌, ◌^◌, ◌<◌, [], length, true, refl, IsTrue};
-ghost use Rattle.std.proofs.Common.{Ok, ap, sym};
+ghost use Rattle.std.proofs.Common.{Ok};
 ghost use Rattle.std.specs.Cmp.Lexicographic.{bytes_decides};
 ghost use Rattle.der_tlv.specs.declared.error.ErrorKind.TheVariants as kinds;
 ghost use Rattle.der_tlv.specs.declared.tag.Tag.TheVariants as tags;
-ghost use Rattle.der_tlv.specs.ReaderState.{ReaderState, rest};
+ghost use Rattle.der_tlv.specs.ReaderState.{rest};
 ghost use Rattle.der_tlv.specs.Reading.{Stands};
 ghost use Rattle.der_elem.specs.Decoding.{DecodesValue};
 ghost use Rattle.der_elem.specs.RunningOut.{FaultsFirst};
-ghost use Rattle.der_elem.specs.OwnContents.{accepts_own};
+ghost use Rattle.der_elem.specs.ValueForms.{owned_form};
 ghost use Rattle.der_opaque.specs.Opaque.{parse_octets, KeepsOctets};
 ghost use Rattle.der_opaque.specs.OctetStringRef as borrowed;
 
@@ -100,25 +100,7 @@ impl Clone for OctetString {
 impl FormValue for OctetString {
     ghost use Rattle.der_opaque.specs.OctetString.{octets_of};
 
-    ghost contents = { octets_of };
-
-    ghost accepts_value = { accepts_own octets_of };
-
-    ghost parse_value = { parse_octets };
-
-    ghost VALUE_TAKES_MEMORY = { true };
-
-    ghost parse_of_accepted_value = { λ rules v p c a fits. ap Ok a };
-
-    ghost same_length_value = { λ rules v c a. ap length (sym a) };
-
-    ghost accepts_contents = { λ rules v r. refl };
-
-    ghost only_readable_value = { λ rules v c a. tt };
-
-    ghost accepts_comparable_value = { λ rules v w c d a b. tt };
-
-    ghost re_reads_memory_value = { λ v e. refl };
+    ghost value = { owned_form octets_of parse_octets (λ rules v p. refl) };
 }
 
 impl OneTag for OctetString {
@@ -135,7 +117,7 @@ impl<'a, R: Reader<'a>> DecodeValue<'a, R> for OctetString {
     /// # Errors
     /// (17) on a failed reader; else (1) where memory runs out.
     fn decode_value(alloc: Global, reader: &mut R, header: Header) -> Result<OctetString, Error>
-        ensures exact { length (rest (R.state reader.old)) ≡ header.length → DecodesValue octet_string header (R.state reader.old) (R.state reader.new) result }
+        ensures exact { length (rest (R.state reader.old)) ≡ header.length → DecodesValue octet_string.value header (R.state reader.old) (R.state reader.new) result }
         ensures reader { Stands (R.state reader.old) (R.state reader.new) result }
         ensures faults_first { length (rest (R.state reader.old)) ≡ header.length → FaultsFirst parse_octets (R.state reader.old) result }
     {

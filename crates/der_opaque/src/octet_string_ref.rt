@@ -8,11 +8,8 @@ ghost use Rattle.der_tlv.specs.declared.error.ErrorKind.TheVariants as kinds;
 ghost use Rattle.der_tlv.specs.declared.tag.Tag.TheVariants as tags;
 ghost use Rattle.std.specs.Cmp.Lexicographic.{bytes_decides};
 ghost use Rattle.der_elem.specs.Decoding.{ReadsAll};
-ghost use Rattle.der_tlv.specs.declared.encoding_rules.EncodingRules.TheVariants.{Der};
-ghost use Rattle.der_opaque.specs.DecodingAs.{DecodesAs};
+ghost use Rattle.der_elem.specs.ValueForms.{own_form};
 ghost use Rattle.der_opaque.specs.Opaque.{parse_octets, KeepsOctets};
-ghost use Rattle.der_elem.specs.OwnContents.{accepts_within};
-ghost use Rattle.der_elem.specs.OwnContentsLaws.{parse_of_within, same_length_within, accepts_contents_within, only_within};
 ghost use Rattle.der_opaque.specs.Any as owned_any;
 ghost use Rattle.der_opaque.specs.AnyRef.{tag_of, contents_of};
 
@@ -111,24 +108,7 @@ impl<'a> OctetStringRef<'a> {
 impl<'a> FormValue for OctetStringRef<'a> {
     ghost use Rattle.der_opaque.specs.OctetStringRef.{octets_of};
 
-    ghost contents = { octets_of };
-
-    ghost accepts_value = { accepts_within octets_of (λ v. Unit {0}) };
-
-    ghost parse_value = { parse_octets };
-
-    ghost parse_of_accepted_value = { parse_of_within octets_of (λ v. Unit {0}) parse_octets
-        (λ rules v p r. refl) };
-
-    ghost same_length_value = { same_length_within octets_of (λ v. Unit {0}) };
-
-    ghost accepts_contents = { accepts_contents_within octets_of (λ v. Unit {0}) };
-
-    ghost only_readable_value = { only_within octets_of (λ v. Unit {0}) };
-
-    ghost accepts_comparable_value = { λ rules v w c d a b. tt };
-
-    ghost re_reads_memory_value = { λ v e. e };
+    ghost value = { own_form octets_of parse_octets (λ rules v p. refl) };
 }
 
 impl<'a> OneTag for OctetStringRef<'a> {

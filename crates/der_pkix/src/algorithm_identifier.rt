@@ -7,8 +7,8 @@
 ghost use Rattle.std.proofs.Common.{◌≡◌, refl, lit<, false};
 ghost use Rattle.der_elem.specs.OptionLaws.{encoding_eq_option};
 ghost use Rattle.der_elem.specs.TaggedLaws.{encoding_eq_tagged};
+ghost use Rattle.der_elem.specs.ValueForms.{held_form};
 ghost use Rattle.der_fields.specs.Listing.{field, end};
-ghost use Rattle.der_fields.specs.Parts.{part_of};
 ghost use Rattle.der_fields.specs.TellingLaws.{eq_both, eq_last, tlv_apart};
 ghost use Rattle.der_opaque.specs.contracts.any_ref.AnyRefEncodingEq.TheImpl.Laws as any;
 ghost use Rattle.der_opaque.specs.contracts.object_identifier.ObjectIdentifierContentsEq.TheImpl.Laws as identifier;
@@ -17,7 +17,7 @@ use der_elem::{
     ContentsEq, CopyIsDuplicate, DecodeValue, EncodeValue, FormValue, OneTag, Sequence,
     SequenceTag, ValueOrd,
 };
-use der_fields::{End, Field, FieldList, FieldSequence, FieldsPart};
+use der_fields::{End, Field, FieldList, FieldSequence};
 use der_opaque::{AnyRef, ObjectIdentifier};
 use der_tlv::{Error, Header, Length, Reader, Writer};
 use std::alloc::Global;
@@ -47,36 +47,8 @@ impl<'a> AlgorithmIdentifier<'a> {
     }
 }
 
-impl<'a> FieldsPart for AlgorithmIdentifier<'a> {
-    ghost list = { part_of (λ v. field v.oid (field v.parameters end)) ⟦<FieldsOf<'a> as FieldList>⟧ };
-}
-
 impl<'a> FormValue for AlgorithmIdentifier<'a> {
-    ghost use Rattle.der_pkix.specs.contracts.algorithm_identifier.AlgorithmIdentifierFieldsPart.TheImpl.{ghosts as fields};
-
-    ghost contents = { fields.list.joined };
-
-    ghost comparable_value = { fields.list.all_comparable };
-
-    ghost re_reads_value = { fields.list.re_read };
-
-    ghost accepts_value = { fields.list.accepts_fields };
-
-    ghost parse_value = { fields.list.parse_fields };
-
-    ghost readable_value = { fields.list.readable_fields };
-
-    ghost parse_of_accepted_value = { fields.list.parse_of_accepted_fields };
-
-    ghost same_length_value = { fields.list.same_length_fields };
-
-    ghost accepts_contents = { fields.list.accepts_joined };
-
-    ghost only_readable_value = { fields.list.only_readable_fields };
-
-    ghost accepts_comparable_value = { fields.list.accepts_all_comparable };
-
-    ghost re_reads_memory_value = { fields.list.re_read_memory };
+    ghost value = { held_form (λ v. field v.oid (field v.parameters end)) ⟦<FieldsOf<'a> as FieldList>⟧.list.octets };
 }
 
 impl<'a> OneTag for AlgorithmIdentifier<'a> {

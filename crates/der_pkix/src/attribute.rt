@@ -3,16 +3,16 @@
 ghost use Rattle.std.specs.Prelude.{refl, false};
 ghost use Rattle.std.proofs.Common.{lit<};
 ghost use Rattle.der_elem.specs.TaggedLaws.{encoding_eq_tagged};
+ghost use Rattle.der_elem.specs.ValueForms.{held_form};
 ghost use Rattle.der_fields.specs.TellingLaws.{eq_both, tlv_apart};
 ghost use Rattle.der_opaque.specs.contracts.any_ref.AnyRefEncodingEq.TheImpl.Laws as any;
 ghost use Rattle.der_opaque.specs.contracts.object_identifier.ObjectIdentifierContentsEq.TheImpl.Laws as identifier;
-ghost use Rattle.der_fields.specs.Parts.{part_of};
 
 use der_elem::{
     ContentsEq, CopyIsDuplicate, DecodeValue, EncodeValue, FormValue, OneTag, Sequence,
     SequenceTag, ValueOrd,
 };
-use der_fields::{DecodeFields, EncodeFields, End, Field, FieldList, FieldsOrd, FieldsPart};
+use der_fields::{DecodeFields, EncodeFields, End, Field, FieldList, FieldsOrd};
 use der_opaque::{AnyRef, ObjectIdentifier};
 use der_tlv::{Error, Header, Length, Reader, Writer};
 use std::alloc::Global;
@@ -42,38 +42,8 @@ impl<'a> Sequence<'a> for AttributeTypeAndValue<'a> {
     ghost is_sequence = { refl };
 }
 
-impl<'a> FieldsPart for AttributeTypeAndValue<'a> {
-    ghost list = { part_of (λ v. v.fields) ⟦<AttributeFields<'a> as FieldList>⟧ };
-}
-
 impl<'a> FormValue for AttributeTypeAndValue<'a> {
-    ghost use Rattle.der_pkix.specs.contracts.attribute.AttributeTypeAndValueFieldsPart.TheImpl.{ghosts as attribute};
-
-    ghost contents = { attribute.list.joined };
-
-    ghost comparable_value = { attribute.list.all_comparable };
-
-    ghost re_reads_value = { attribute.list.re_read };
-
-    ghost accepts_value = { attribute.list.accepts_fields };
-
-    ghost parse_value = { attribute.list.parse_fields };
-
-    ghost readable_value = { attribute.list.readable_fields };
-
-    ghost VALUE_TAKES_MEMORY = { attribute.list.FIELDS_TAKE_MEMORY };
-
-    ghost parse_of_accepted_value = { attribute.list.parse_of_accepted_fields };
-
-    ghost same_length_value = { attribute.list.same_length_fields };
-
-    ghost accepts_contents = { attribute.list.accepts_joined };
-
-    ghost only_readable_value = { attribute.list.only_readable_fields };
-
-    ghost accepts_comparable_value = { attribute.list.accepts_all_comparable };
-
-    ghost re_reads_memory_value = { attribute.list.re_read_memory };
+    ghost value = { held_form (λ v. v.fields) ⟦<AttributeFields<'a> as FieldList>⟧.list.octets };
 }
 
 impl<'a, R: Reader<'a>> DecodeValue<'a, R> for AttributeTypeAndValue<'a> {

@@ -1,9 +1,9 @@
 //! The primes of a private key of RSA, and what is computed of them.
 
 ghost use Rattle.std.specs.Prelude.{refl, false};
-ghost use Rattle.der_fields.specs.Parts.{part_of};
+ghost use Rattle.der_fields.specs.FieldForms.{part_of};
 
-use der_fields::{DecodeFields, EncodeFields, End, Field, FieldList, FieldsPart};
+use der_fields::{DecodeFields, EncodeFields, End, Field, FieldList};
 use der_numbers::UintRef;
 use der_tlv::{Error, Length, Reader, Writer};
 use std::alloc::Global;
@@ -21,42 +21,8 @@ pub struct Crt<'a> {
     pub fields: CrtFields<'a>,
 }
 
-impl<'a> FieldsPart for Crt<'a> {
-    ghost list = { part_of (λ v. v.fields) ⟦<CrtFields<'a> as FieldList>⟧ };
-}
-
 impl<'a> FieldList for Crt<'a> {
-    ghost use Rattle.der_pkix.specs.contracts.crt.CrtFieldsPart.TheImpl.{ghosts as crt};
-
-    ghost joined = { crt.list.joined };
-
-    ghost first_tag = { crt.list.first_tag };
-
-    ghost all_comparable = { crt.list.all_comparable };
-
-    ghost re_read = { crt.list.re_read };
-
-    ghost accepts_fields = { crt.list.accepts_fields };
-
-    ghost parse_fields = { crt.list.parse_fields };
-
-    ghost readable_fields = { crt.list.readable_fields };
-
-    ghost FIELDS_TAKE_MEMORY = { crt.list.FIELDS_TAKE_MEMORY };
-
-    ghost parse_of_accepted_fields = { crt.list.parse_of_accepted_fields };
-
-    ghost led_fields = { crt.list.led_fields };
-
-    ghost same_length_fields = { crt.list.same_length_fields };
-
-    ghost accepts_joined = { crt.list.accepts_joined };
-
-    ghost only_readable_fields = { crt.list.only_readable_fields };
-
-    ghost accepts_all_comparable = { crt.list.accepts_all_comparable };
-
-    ghost re_read_memory = { crt.list.re_read_memory };
+    ghost list = { part_of (λ v. v.fields) ⟦<CrtFields<'a> as FieldList>⟧.list };
 }
 
 impl<'a, R: Reader<'a>> DecodeFields<'a, R> for Crt<'a> {

@@ -8,9 +8,9 @@ ghost use Rattle.der_tlv.specs.declared.tag.Tag.TheVariants as tags;
 ghost use Rattle.der_elem.specs.Boolean.{boolean_contents, boolean_contents-injective};
 ghost use Rattle.der_elem.specs.OwnContentsLaws.{contents_eq_own};
 ghost use Rattle.der_elem.specs.TaggedLaws.{encoding_eq_tagged};
+ghost use Rattle.der_elem.specs.ValueForms.{held_form};
 ghost use Rattle.der_fields.specs.DefaultLaws.{encoding_eq_default};
 ghost use Rattle.der_fields.specs.Listing.{field, end, with_default};
-ghost use Rattle.der_fields.specs.Parts.{part_of};
 ghost use Rattle.der_fields.specs.TellingLaws.{eq_both, eq_last, tlv_apart, unless_apart};
 ghost use Rattle.der_opaque.specs.contracts.object_identifier.ObjectIdentifierContentsEq.TheImpl.Laws as identifier;
 ghost use Rattle.der_opaque.specs.contracts.octet_string_ref.OctetStringRefContentsEq.TheImpl.Laws as octets;
@@ -19,7 +19,7 @@ use der_elem::{
     ContentsEq, CopyIsDuplicate, DecodeValue, EncodeValue, FormValue, OneTag, Sequence,
     SequenceTag, ValueOrd,
 };
-use der_fields::{DefaultFalse, End, Field, FieldList, FieldSequence, FieldsPart, WithDefault};
+use der_fields::{DefaultFalse, End, Field, FieldList, FieldSequence, WithDefault};
 use der_opaque::{ObjectIdentifier, OctetStringRef};
 use der_tlv::{Error, Header, Length, Reader, Writer};
 use std::alloc::Global;
@@ -60,37 +60,9 @@ impl<'a> Extension<'a> {
     }
 }
 
-impl<'a> FieldsPart for Extension<'a> {
-    ghost list = { part_of (λ v. field v.extn_id (field (with_default v.critical) (field v.extn_value end)))
-        ⟦<FieldsOf<'a> as FieldList>⟧ };
-}
-
 impl<'a> FormValue for Extension<'a> {
-    ghost use Rattle.der_pkix.specs.contracts.extension.ExtensionFieldsPart.TheImpl.{ghosts as fields};
-
-    ghost contents = { fields.list.joined };
-
-    ghost comparable_value = { fields.list.all_comparable };
-
-    ghost re_reads_value = { fields.list.re_read };
-
-    ghost accepts_value = { fields.list.accepts_fields };
-
-    ghost parse_value = { fields.list.parse_fields };
-
-    ghost readable_value = { fields.list.readable_fields };
-
-    ghost parse_of_accepted_value = { fields.list.parse_of_accepted_fields };
-
-    ghost same_length_value = { fields.list.same_length_fields };
-
-    ghost accepts_contents = { fields.list.accepts_joined };
-
-    ghost only_readable_value = { fields.list.only_readable_fields };
-
-    ghost accepts_comparable_value = { fields.list.accepts_all_comparable };
-
-    ghost re_reads_memory_value = { fields.list.re_read_memory };
+    ghost value = { held_form (λ v. field v.extn_id (field (with_default v.critical) (field v.extn_value end)))
+        ⟦<FieldsOf<'a> as FieldList>⟧.list.octets };
 }
 
 impl<'a> OneTag for Extension<'a> {

@@ -1,10 +1,10 @@
 //! The revoked certificates and the extensions of a TBSCertList.
 
 ghost use Rattle.std.specs.Prelude.{refl, true};
-ghost use Rattle.der_fields.specs.Parts.{part_of};
+ghost use Rattle.der_fields.specs.FieldForms.{part_of};
 
 use crate::revoked_certificate::RevokedCertificate;
-use der_fields::{DecodeFields, EncodeFields, End, Explicit, Field, FieldList, FieldsPart};
+use der_fields::{DecodeFields, EncodeFields, End, Explicit, Field, FieldList};
 use der_pkix::Extensions;
 use der_tlv::{Error, Length, Reader, Writer};
 use std::alloc::Global;
@@ -22,42 +22,8 @@ pub struct Entries<'a> {
     pub fields: EntriesFields<'a>,
 }
 
-impl<'a> FieldsPart for Entries<'a> {
-    ghost list = { part_of (λ v. v.fields) ⟦<EntriesFields<'a> as FieldList>⟧ };
-}
-
 impl<'a> FieldList for Entries<'a> {
-    ghost use Rattle.der_revocation.specs.contracts.entries.EntriesFieldsPart.TheImpl.{ghosts as entries};
-
-    ghost joined = { entries.list.joined };
-
-    ghost first_tag = { entries.list.first_tag };
-
-    ghost all_comparable = { entries.list.all_comparable };
-
-    ghost re_read = { entries.list.re_read };
-
-    ghost accepts_fields = { entries.list.accepts_fields };
-
-    ghost parse_fields = { entries.list.parse_fields };
-
-    ghost readable_fields = { entries.list.readable_fields };
-
-    ghost FIELDS_TAKE_MEMORY = { entries.list.FIELDS_TAKE_MEMORY };
-
-    ghost parse_of_accepted_fields = { entries.list.parse_of_accepted_fields };
-
-    ghost led_fields = { entries.list.led_fields };
-
-    ghost same_length_fields = { entries.list.same_length_fields };
-
-    ghost accepts_joined = { entries.list.accepts_joined };
-
-    ghost only_readable_fields = { entries.list.only_readable_fields };
-
-    ghost accepts_all_comparable = { entries.list.accepts_all_comparable };
-
-    ghost re_read_memory = { entries.list.re_read_memory };
+    ghost list = { part_of (λ v. v.fields) ⟦<EntriesFields<'a> as FieldList>⟧.list };
 }
 
 impl<'a, R: Reader<'a>> DecodeFields<'a, R> for Entries<'a> {

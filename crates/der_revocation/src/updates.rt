@@ -1,10 +1,10 @@
 //! The fields from thisUpdate on of a TBSCertList.
 
 ghost use Rattle.std.specs.Prelude.{refl, true};
-ghost use Rattle.der_fields.specs.Parts.{part_of};
+ghost use Rattle.der_fields.specs.FieldForms.{part_of};
 
 use crate::entries::Entries;
-use der_fields::{DecodeFields, EncodeFields, Field, FieldList, FieldsPart};
+use der_fields::{DecodeFields, EncodeFields, Field, FieldList};
 use der_pkix::Time;
 use der_tlv::{Error, Length, Reader, Writer};
 use std::alloc::Global;
@@ -19,42 +19,8 @@ pub struct Updates<'a> {
     pub fields: UpdatesFields<'a>,
 }
 
-impl<'a> FieldsPart for Updates<'a> {
-    ghost list = { part_of (λ v. v.fields) ⟦<UpdatesFields<'a> as FieldList>⟧ };
-}
-
 impl<'a> FieldList for Updates<'a> {
-    ghost use Rattle.der_revocation.specs.contracts.updates.UpdatesFieldsPart.TheImpl.{ghosts as updates};
-
-    ghost joined = { updates.list.joined };
-
-    ghost first_tag = { updates.list.first_tag };
-
-    ghost all_comparable = { updates.list.all_comparable };
-
-    ghost re_read = { updates.list.re_read };
-
-    ghost accepts_fields = { updates.list.accepts_fields };
-
-    ghost parse_fields = { updates.list.parse_fields };
-
-    ghost readable_fields = { updates.list.readable_fields };
-
-    ghost FIELDS_TAKE_MEMORY = { updates.list.FIELDS_TAKE_MEMORY };
-
-    ghost parse_of_accepted_fields = { updates.list.parse_of_accepted_fields };
-
-    ghost led_fields = { updates.list.led_fields };
-
-    ghost same_length_fields = { updates.list.same_length_fields };
-
-    ghost accepts_joined = { updates.list.accepts_joined };
-
-    ghost only_readable_fields = { updates.list.only_readable_fields };
-
-    ghost accepts_all_comparable = { updates.list.accepts_all_comparable };
-
-    ghost re_read_memory = { updates.list.re_read_memory };
+    ghost list = { part_of (λ v. v.fields) ⟦<UpdatesFields<'a> as FieldList>⟧.list };
 }
 
 impl<'a, R: Reader<'a>> DecodeFields<'a, R> for Updates<'a> {

@@ -6,15 +6,14 @@
 //! DFFF (`ErrorKind::Value`, 13), and then where memory runs out (`ErrorKind::Memory`, 1).
 
 ghost use Rattle.std.specs.Prelude.{◌≡◌, ◌%◌, ◌^◌, ◌<◌, Some, chars, encode_utf8_all, length, true, refl, IfOk, IfErr};
-ghost use Rattle.std.proofs.Common.{ap, sym};
 ghost use Rattle.std.specs.Cmp.Lexicographic.{bytes_decides};
 ghost use Rattle.der_tlv.specs.declared.error.ErrorKind.TheVariants as kinds;
 ghost use Rattle.der_tlv.specs.declared.tag.Tag.TheVariants as tags;
-ghost use Rattle.der_tlv.specs.ReaderState.{ReaderState, rest};
+ghost use Rattle.der_tlv.specs.ReaderState.{rest};
 ghost use Rattle.der_tlv.specs.Reading.{Stands};
 ghost use Rattle.der_elem.specs.Decoding.{DecodesValue};
 ghost use Rattle.der_elem.specs.RunningOut.{FaultsFirst};
-ghost use Rattle.der_elem.specs.OwnContents.{accepts_own};
+ghost use Rattle.der_elem.specs.ValueForms.{owned_form};
 ghost use Rattle.der_text.specs.BmpUnits.{units, are_characters, parse_bmp, parse_of_units, KeepsUnits, KeepsCharacters};
 
 use crate::bmp_iter::{BmpChars, BmpCodepoints};
@@ -144,26 +143,7 @@ impl Clone for BmpString {
 impl FormValue for BmpString {
     ghost use Rattle.der_text.specs.BmpString.{octets_of};
 
-    ghost contents = { octets_of };
-
-    ghost accepts_value = { accepts_own octets_of };
-
-    ghost parse_value = { parse_bmp };
-
-    ghost VALUE_TAKES_MEMORY = { true };
-
-    ghost parse_of_accepted_value = { λ rules v p c a fits.
-        parse_of_units rules p v.octets.items c v.even v.characters a };
-
-    ghost same_length_value = { λ rules v c a. ap length (sym a) };
-
-    ghost accepts_contents = { λ rules v r. refl };
-
-    ghost only_readable_value = { λ rules v c a. tt };
-
-    ghost accepts_comparable_value = { λ rules v w c d a b. tt };
-
-    ghost re_reads_memory_value = { λ v e. refl };
+    ghost value = { owned_form octets_of parse_bmp (λ rules v p. parse_of_units rules p v.octets.items v.octets.items v.even v.characters refl) };
 }
 
 impl OneTag for BmpString {
@@ -181,7 +161,7 @@ impl<'a, R: Reader<'a>> DecodeValue<'a, R> for BmpString {
     /// (17) on a failed reader; an odd number of octets (7); a unit from D800 to DFFF (13); else (1)
     /// where memory runs out.
     fn decode_value(alloc: Global, reader: &mut R, header: Header) -> Result<BmpString, Error>
-        ensures exact { length (rest (R.state reader.old)) ≡ header.length → DecodesValue bmp_string header (R.state reader.old) (R.state reader.new) result }
+        ensures exact { length (rest (R.state reader.old)) ≡ header.length → DecodesValue bmp_string.value header (R.state reader.old) (R.state reader.new) result }
         ensures reader { Stands (R.state reader.old) (R.state reader.new) result }
         ensures faults_first { length (rest (R.state reader.old)) ≡ header.length → FaultsFirst parse_bmp (R.state reader.old) result }
     {

@@ -9,12 +9,9 @@ ghost use Rattle.std.specs.Str.{is_utf8};
 ghost use Rattle.std.specs.String.{string_bytes};
 ghost use Rattle.der_tlv.specs.declared.error.ErrorKind.TheVariants as kinds;
 ghost use Rattle.der_tlv.specs.declared.tag.Tag.TheVariants as tags;
-ghost use Rattle.der_tlv.specs.declared.encoding_rules.EncodingRules.TheVariants.{Der};
-ghost use Rattle.der_opaque.specs.DecodingAs.{DecodesAs};
 ghost use Rattle.der_elem.specs.Utf8String.{parse_utf8, parse_of_utf8};
+ghost use Rattle.der_elem.specs.ValueForms.{own_form};
 ghost use Rattle.der_text.specs.Utf8Octets.{KeepsUtf8, KeepsText};
-ghost use Rattle.der_elem.specs.OwnContents.{accepts_within};
-ghost use Rattle.der_elem.specs.OwnContentsLaws.{parse_of_within, same_length_within, accepts_contents_within, only_within};
 ghost use Rattle.der_opaque.specs.Any as owned_any;
 ghost use Rattle.der_opaque.specs.AnyRef as borrowed_any;
 
@@ -114,24 +111,7 @@ impl<'a> fmt::Debug for Utf8StringRef<'a> {
 impl<'a> FormValue for Utf8StringRef<'a> {
     ghost use Rattle.der_text.specs.Utf8StringRef.{octets_of};
 
-    ghost contents = { octets_of };
-
-    ghost accepts_value = { accepts_within octets_of (λ v. Unit {0}) };
-
-    ghost parse_value = { parse_utf8 };
-
-    ghost parse_of_accepted_value = { parse_of_within octets_of (λ v. Unit {0}) parse_utf8
-        (λ rules v p r. parse_of_utf8 rules p v.text.now v.text.now v.utf8 refl) };
-
-    ghost same_length_value = { same_length_within octets_of (λ v. Unit {0}) };
-
-    ghost accepts_contents = { accepts_contents_within octets_of (λ v. Unit {0}) };
-
-    ghost only_readable_value = { only_within octets_of (λ v. Unit {0}) };
-
-    ghost accepts_comparable_value = { λ rules v w c d a b. tt };
-
-    ghost re_reads_memory_value = { λ v e. e };
+    ghost value = { own_form octets_of parse_utf8 (λ rules v p. parse_of_utf8 rules p v.text.now v.text.now v.utf8 refl) };
 }
 
 impl<'a> OneTag for Utf8StringRef<'a> {

@@ -5,8 +5,7 @@ ghost use Rattle.std.specs.Int.{IsInRange};
 ghost use Rattle.jiff_core.specs.Calendar.{days_in_month};
 ghost use Rattle.jiff_core.specs.Date.{epoch_day};
 ghost use Rattle.der_tlv.specs.declared.error.ErrorKind.TheVariants as kinds;
-ghost use Rattle.der_elem.specs.OwnContents.{accepts_within};
-ghost use Rattle.der_elem.specs.OwnContentsLaws.{parse_of_within, same_length_within, accepts_contents_within, only_within};
+ghost use Rattle.der_elem.specs.ValueForms.{own_form};
 
 use crate::digits::two_digits;
 use crate::fields::Fields;
@@ -315,24 +314,7 @@ impl FormValue for DateTime {
     ghost use Rattle.der_time.specs.DateTime.{time_contents};
     ghost use Rattle.der_time.specs.TimeLaws.{generalized_of};
 
-    ghost contents = { time_contents };
-
-    ghost accepts_value = { accepts_within time_contents (λ v. Unit {0}) };
-
-    ghost parse_value = { parse_generalized };
-
-    ghost parse_of_accepted_value = { parse_of_within time_contents
-        (λ v. Unit {0}) parse_generalized (λ rules v p r. generalized_of v) };
-
-    ghost same_length_value = { same_length_within time_contents (λ v. Unit {0}) };
-
-    ghost accepts_contents = { accepts_contents_within time_contents (λ v. Unit {0}) };
-
-    ghost only_readable_value = { only_within time_contents (λ v. Unit {0}) };
-
-    ghost accepts_comparable_value = { λ rules v w c d a b. tt };
-
-    ghost re_reads_memory_value = { λ v e. e };
+    ghost value = { own_form time_contents parse_generalized (λ rules v p. generalized_of v) };
 }
 
 impl OneTag for DateTime {

@@ -6,15 +6,12 @@
 ghost use Rattle.std.specs.Prelude.{◌≡◌, refl, false};
 ghost use Rattle.der_tlv.specs.declared.error.ErrorKind.TheVariants as kinds;
 ghost use Rattle.der_tlv.specs.declared.tag.Tag.TheVariants as tags;
-ghost use Rattle.der_tlv.specs.declared.encoding_rules.EncodingRules.TheVariants.{Der};
-ghost use Rattle.der_opaque.specs.DecodingAs.{DecodesAs};
+ghost use Rattle.der_elem.specs.ValueForms.{own_form};
 ghost use Rattle.der_time.specs.Reading.{parse_generalized};
 ghost use Rattle.der_time.specs.GeneralizedTime.{generalized_time_contents, DecodesGeneralizedTime};
 ghost use Rattle.der_time.specs.UnixTime.{unix_seconds, LastsSeconds, IsTimeAfter};
 ghost use Rattle.der_time.specs.TimeLaws.{generalized_of};
 ghost use Rattle.der_time.specs.TimeOrder.{ord_is_contents_ord, eq_is_contents_eq};
-ghost use Rattle.der_elem.specs.OwnContents.{accepts_within};
-ghost use Rattle.der_elem.specs.OwnContentsLaws.{parse_of_within, same_length_within, accepts_contents_within, only_within};
 ghost use Rattle.der_opaque.specs.Any as owned_any;
 ghost use Rattle.der_opaque.specs.AnyRef as borrowed_any;
 
@@ -81,24 +78,7 @@ impl GeneralizedTime {
 }
 
 impl FormValue for GeneralizedTime {
-    ghost contents = { generalized_time_contents };
-
-    ghost accepts_value = { accepts_within generalized_time_contents (λ v. Unit {0}) };
-
-    ghost parse_value = { parse_generalized };
-
-    ghost parse_of_accepted_value = { parse_of_within generalized_time_contents
-        (λ v. Unit {0}) parse_generalized (λ rules v p r. generalized_of v.date_time) };
-
-    ghost same_length_value = { same_length_within generalized_time_contents (λ v. Unit {0}) };
-
-    ghost accepts_contents = { accepts_contents_within generalized_time_contents (λ v. Unit {0}) };
-
-    ghost only_readable_value = { only_within generalized_time_contents (λ v. Unit {0}) };
-
-    ghost accepts_comparable_value = { λ rules v w c d a b. tt };
-
-    ghost re_reads_memory_value = { λ v e. e };
+    ghost value = { own_form generalized_time_contents parse_generalized (λ rules v p. generalized_of v.date_time) };
 }
 
 impl OneTag for GeneralizedTime {

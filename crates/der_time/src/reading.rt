@@ -1,6 +1,6 @@
 //! The six numbers that contents octets have as digits.
 
-ghost use Rattle.std.specs.Prelude.{◌≡◌, ◌<◌, ◌/◌, ◌%◌, ◌*◌, ◌+◌, ◌++◌, IfSome, length, ◌^◌};
+ghost use Rattle.std.specs.Prelude.{◌≡◌, ◌<◌, ◌/◌, ◌%◌, ◌*◌, ◌+◌, ◌++◌, IfSome, ◌^◌};
 ghost use Rattle.der_time.specs.Times.{after_year, clock_contents, generalized_contents, utc_contents};
 ghost use Rattle.der_time.specs.Reading as spec;
 

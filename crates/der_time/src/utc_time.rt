@@ -5,10 +5,7 @@
 //! stand for 19YY, less for 20YY.
 
 ghost use Rattle.std.specs.Prelude.{◌≡◌, ◌≤◌, ◌<◌, refl, false};
-ghost use Rattle.der_tlv.specs.declared.encoding_rules.EncodingRules.TheVariants.{Der};
-ghost use Rattle.der_opaque.specs.DecodingAs.{DecodesAs};
-ghost use Rattle.der_elem.specs.OwnContents.{accepts_within};
-ghost use Rattle.der_elem.specs.OwnContentsLaws.{parse_of_within, same_length_within, accepts_contents_within, only_within};
+ghost use Rattle.der_elem.specs.ValueForms.{own_form};
 ghost use Rattle.der_opaque.specs.Any as owned_any;
 ghost use Rattle.der_opaque.specs.AnyRef as borrowed_any;
 
@@ -131,24 +128,7 @@ impl FormValue for UtcTime {
     ghost use Rattle.der_time.specs.UtcTime.{utc_time_contents};
     ghost use Rattle.der_time.specs.UtcTimeLaws.{utc_time_of};
 
-    ghost contents = { utc_time_contents };
-
-    ghost accepts_value = { accepts_within utc_time_contents (λ v. Unit {0}) };
-
-    ghost parse_value = { parse_utc };
-
-    ghost parse_of_accepted_value = { parse_of_within utc_time_contents (λ v. Unit {0}) parse_utc
-        (λ rules v p r. utc_time_of v) };
-
-    ghost same_length_value = { same_length_within utc_time_contents (λ v. Unit {0}) };
-
-    ghost accepts_contents = { accepts_contents_within utc_time_contents (λ v. Unit {0}) };
-
-    ghost only_readable_value = { only_within utc_time_contents (λ v. Unit {0}) };
-
-    ghost accepts_comparable_value = { λ rules v w c d a b. tt };
-
-    ghost re_reads_memory_value = { λ v e. e };
+    ghost value = { own_form utc_time_contents parse_utc (λ rules v p. utc_time_of v) };
 }
 
 impl OneTag for UtcTime {

@@ -12,7 +12,7 @@ use std::alloc::Global;
 /// The parameters of an algorithm, where they are the identifier of a curve: refused where they
 /// have another tag, or are no identifier.
 pub fn named_curve<'a>(alloc: Global, parameters: AnyRef<'a>) -> Result<ObjectIdentifier<39>, Error>
-    ensures { DecodesAs ⟦<ObjectIdentifier<39> as Form>⟧ ⟦<ObjectIdentifier<39> as FormValue>⟧ Der
+    ensures { DecodesAs ⟦<ObjectIdentifier<39> as Form>⟧ ⟦<ObjectIdentifier<39> as FormValue>⟧.value Der
         (tag_of parameters.entry) (contents_of parameters.entry) result }
 {
     parameters.decode_as::<ObjectIdentifier<39>>(alloc)

@@ -10,7 +10,7 @@ use Rattle.der_tlv.specs.HeaderOctets.{tlv}
 use Rattle.der_tlv.specs.HeaderReading.{read_header, octets_of}
 use Rattle.der_tlv.specs.Reading.{HeadFault, OctetsRefused}
 use Rattle.der_tlv.specs.ReaderState.{ReaderState, rest, unless_failed}
-use Rattle.der_elem.specs.declared.form.FormValue as value
+use Rattle.der_elem.specs.ValueForm.{ValueForm}
 use Rattle.der_elem.specs.Parsing.{ContentsParse, tagged_contents}
 use Rattle.der_elem.specs.Decoding.{Faults, ValueDecoded, ValueNotDecoded}
 use Rattle.der_elem.proofs.AtContents.{AtHeader, AtContents, parse_behind_as, parse_too_long_as, shown_ready, shown_rules, parse_shown_as, taken}
@@ -46,32 +46,32 @@ module _ {header : Header} {old mid : ReaderState} (at : AtHeader header old mid
     pub too_long_implicit : {new : ReaderState} {kind : ErrorKind} → OctetsRefused mid new header.length kind → unless_failed (parse_implicit t own parse rules) old ≡ Err kind
     too_long_implicit refused = rw at.head.ready (behind ∙ parse_too_long_as at refused t parse rules)
 
-module _ {T : Type 0} (F : value.Ghosts T) {header : Header} {old mid shown : ReaderState} {end : ℕ} (c : AtContents header old mid shown end) (t : Tag) (own : Bool) (allowed : form_allowed old.rules (is_constructed header.tag) own ≡ true) where
-  parse_inner : parse_implicit t own F.parse_value old.rules old.position (rest old) ≡ tagged_contents t (length (octets_of header) + header.length) (F.parse_value shown.rules shown.position (rest shown))
+module _ {T : Type 0} (F : ValueForm T) {header : Header} {old mid shown : ReaderState} {end : ℕ} (c : AtContents header old mid shown end) (t : Tag) (own : Bool) (allowed : form_allowed old.rules (is_constructed header.tag) own ≡ true) where
+  parse_inner : parse_implicit t own F.parse old.rules old.position (rest old) ≡ tagged_contents t (length (octets_of header) + header.length) (F.parse shown.rules shown.position (rest shown))
   parse_inner =
-      behind c.at t own F.parse_value old.rules allowed ∙ parse_shown_as c t F.parse_value old.rules ∙ ap (λ rules. tagged_contents t (length (octets_of header) + header.length) (F.parse_value rules shown.position (rest shown))) (sym (shown_rules c))
+      behind c.at t own F.parse old.rules allowed ∙ parse_shown_as c t F.parse old.rules ∙ ap (λ rules. tagged_contents t (length (octets_of header) + header.length) (F.parse rules shown.position (rest shown))) (sym (shown_rules c))
 
   -- the fault of the contents octets
-  pub contents_fault_implicit : {kind : ErrorKind} → ValueNotDecoded F shown kind → Faults F.VALUE_TAKES_MEMORY (unless_failed (parse_implicit t own F.parse_value old.rules) old) kind
+  pub contents_fault_implicit : {kind : ErrorKind} → ValueNotDecoded F shown kind → Faults F.TAKES_MEMORY (unless_failed (parse_implicit t own F.parse old.rules) old) kind
   contents_fault_implicit {kind} told =
       elim told.reason [
         | inl m ↦ inl m
         | inr e ↦
-            let there : F.parse_value shown.rules shown.position (rest shown) ≡ Err kind = rw (shown_ready c) at e in
+            let there : F.parse shown.rules shown.position (rest shown) ≡ Err kind = rw (shown_ready c) at e in
             inr (rw c.at.head.ready (parse_inner ∙ ap (tagged_contents t (length (octets_of header) + header.length)) there))
       ]
 
   module _ {after : ReaderState} {v : T} (told : ValueDecoded F header shown after v) where
     -- the value
-    pub parsed_implicit : parse_implicit t own F.parse_value old.rules old.position (rest old) ≡ Ok (length (octets_of header) + header.length, tlv t (F.contents v))
+    pub parsed_implicit : parse_implicit t own F.parse old.rules old.position (rest old) ≡ Ok (length (octets_of header) + header.length, tlv t (F.contents v))
     parsed_implicit = parse_inner ∙ ap (tagged_contents t (length (octets_of header) + header.length)) told.parsed
 
-    pub accepted_implicit : (bits n : ℕ) → header.tag ≡ class_tag bits (is_constructed header.tag) n → AcceptsImplicit F.accepts_value bits n own v old.rules (take (length (octets_of header) + header.length) (rest old))
+    pub accepted_implicit : (bits n : ℕ) → header.tag ≡ class_tag bits (is_constructed header.tag) n → AcceptsImplicit F.accepts bits n own v old.rules (take (length (octets_of header) + header.length) (rest old))
     accepted_implicit bits n tag_is =
         record {
           constructed = is_constructed header.tag;
           allowed = allowed;
           inner = rest shown;
           octets_are = taken c ∙ ap (λ t. tlv t (rest shown)) tag_is;
-          accepted = subst (λ rules. F.accepts_value rules v (rest shown)) (shown_rules c) told.accepted;
+          accepted = subst (λ rules. F.accepts rules v (rest shown)) (shown_rules c) told.accepted;
         }

@@ -14,7 +14,7 @@ use Rattle.der_tlv.specs.declared.tag.mode.TagMode.TheVariants.{Explicit, Implic
 use Rattle.der_tlv.specs.TagParts.{is_constructed}
 use Rattle.der_tlv.specs.HeaderOctets.{tlv}
 use Rattle.der_elem.specs.declared.form.Form as form
-use Rattle.der_elem.specs.declared.form.FormValue as value
+use Rattle.der_elem.specs.ValueForm.{ValueForm}
 use Rattle.der_wrap.specs.declared.tagged_value.TaggedValue.{TaggedValue}
 use Rattle.der_wrap.specs.ClassTags.{class_tag, in_class}
 use Rattle.der_wrap.specs.TaggedValues.{parse_field, parse_explicit, parse_implicit, AcceptsExplicit, AcceptsImplicit}
@@ -43,9 +43,9 @@ DecodesExplicit {T} F bits n old new result =
     DecodesField F.TAKES_MEMORY (parse_field bits n (parse_explicit bits F.parse)) (λ (w : TaggedValue T bits). tlv (class_tag bits true n) (F.encoding w.value)) (λ rules w octets. (w.tag_number.0 ≡ n) × AcceptsExplicit F.accepts bits n w.tag_mode w.value rules octets) old new result
 
 -- the same of implicit tagging, of a type whose own encodings are constructed or not
-abbrev pub DecodesImplicit : {T : Type 0} → value.Ghosts T → (own : Bool) (bits n : ℕ) → ReaderState → ReaderState → Result (Option (TaggedValue T bits)) Error → Type 0
+abbrev pub DecodesImplicit : {T : Type 0} → ValueForm T → (own : Bool) (bits n : ℕ) → ReaderState → ReaderState → Result (Option (TaggedValue T bits)) Error → Type 0
 DecodesImplicit {T} F own bits n old new result =
-    DecodesField F.VALUE_TAKES_MEMORY (parse_field bits n (parse_implicit (class_tag bits own n) own F.parse_value)) (λ (w : TaggedValue T bits). tlv (class_tag bits own n) (F.contents w.value)) (λ rules w octets. (w.tag_number.0 ≡ n) × (w.tag_mode ≡ Implicit) × AcceptsImplicit F.accepts_value bits n own w.value rules octets) old new result
+    DecodesField F.TAKES_MEMORY (parse_field bits n (parse_implicit (class_tag bits own n) own F.parse)) (λ (w : TaggedValue T bits). tlv (class_tag bits own n) (F.contents w.value)) (λ rules w octets. (w.tag_number.0 ≡ n) × (w.tag_mode ≡ Implicit) × AcceptsImplicit F.accepts bits n own w.value rules octets) old new result
 
 -- What an encoding with any tag is read as under explicit tagging: (4) with no expected tag unless it is constructed and of the class, else what its contents octets are read as.
 abbrev pub ReadsAny : {T : Type 0} → form.Ghosts T → (bits : ℕ) → Tag → List ℕ → Result (TaggedValue T bits) Error → Type 0

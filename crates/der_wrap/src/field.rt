@@ -73,7 +73,7 @@ impl<T, const CLASS: u8> TaggedValue<T, CLASS> {
     ) -> Result<Option<TaggedValue<T, CLASS>>, Error>
     where
         T: DecodeValue<'a, R> + IsConstructed,
-        ensures { DecodesImplicit T.FormValue T.CONSTRUCTED CLASS tag_number.0 (R.state reader.old)
+        ensures { DecodesImplicit T.value T.CONSTRUCTED CLASS tag_number.0 (R.state reader.old)
             (R.state reader.new) result }
     {
         let class = class_of_bits(CLASS);

@@ -41,44 +41,27 @@ pub struct TaggedValue<T, const CLASS: u8> {
 }
 
 impl<T: Tagged, const CLASS: u8> FormValue for TaggedValue<T, CLASS> {
-    ghost contents = { λ v. contents_of_mode v.tag_mode (T.encoding v.value) (T.contents v.value) };
-
-    ghost comparable_value = { λ v w. OneTaggedForm T.comparable T.tag_of v.tag_mode w.tag_mode
-        v.value w.value };
-
-    ghost re_reads_value = { λ v. T.re_reads v.value };
-
-    ghost accepts_value = { λ rules v. accepts_one_encoding T.accepts v.tag_mode rules v.value };
-
-    ghost parse_value = { one_encoding T.parse };
-
-    ghost readable_value = { λ v. (v.tag_mode ≡ Explicit) × T.readable v.value };
-
-    ghost has_tag = { λ v t. Unit {0} };
-
-    ghost VALUE_TAKES_MEMORY = { T.TAKES_MEMORY };
-
-    ghost parse_of_accepted_value = { λ rules v.
-        parse_of_one_encoding T.Form v.tag_mode v.value (T.contents v.value) rules };
-
-    ghost same_length_value = { λ rules v.
-        same_length_one_encoding T.Form v.tag_mode v.value (T.contents v.value) rules };
-
-    ghost accepts_contents = { λ rules v.
-        accepts_own_encoding T.Form v.tag_mode v.value (T.contents v.value) rules };
-
-    ghost only_readable_value = { λ rules v c a. (a.0, T.only_readable rules v.value c a.1) };
-
-    ghost accepts_comparable_value = { λ rules v w c d a b.
-        one_explicit_form T.Form T.tag_of v.tag_mode w.tag_mode v.value w.value a.0 b.0
-        (T.accepts_comparable rules v.value w.value c d a.1 b.1) };
-
-    ghost re_reads_memory_value = { λ v. T.re_reads_memory v.value };
+    ghost value = { record {
+      contents = λ v. contents_of_mode v.tag_mode (T.encoding v.value) (T.value.contents v.value);
+      comparable = λ v w. OneTaggedForm T.comparable T.tag_of v.tag_mode w.tag_mode v.value w.value;
+      re_reads = λ v. T.re_reads v.value;
+      accepts = λ rules v. accepts_one_encoding T.accepts v.tag_mode rules v.value;
+      parse = one_encoding T.parse;
+      readable = λ v. (v.tag_mode ≡ Explicit) × T.readable v.value;
+      has_tag = λ v t. Unit {0};
+      TAKES_MEMORY = T.TAKES_MEMORY;
+      parse_of_accepted = λ rules v. parse_of_one_encoding T.Form v.tag_mode v.value (T.value.contents v.value) rules;
+      same_length = λ rules v. same_length_one_encoding T.Form v.tag_mode v.value (T.value.contents v.value) rules;
+      accepts_contents = λ rules v. accepts_own_encoding T.Form v.tag_mode v.value (T.value.contents v.value) rules;
+      only_readable = λ rules v c a. (a.0, T.only_readable rules v.value c a.1);
+      accepts_comparable = λ rules v w c d a b. one_explicit_form T.Form T.tag_of v.tag_mode w.tag_mode v.value w.value a.0 b.0 (T.accepts_comparable rules v.value w.value c d a.1 b.1);
+      re_reads_memory = λ v. T.re_reads_memory v.value;
+    } };
 }
 
 impl<T: Tagged, const CLASS: u8> Form for TaggedValue<T, CLASS> {
     ghost encoding = { λ v. tlv (tag_of_mode CLASS v.tag_mode v.tag_number.0 (T.tag_of v.value))
-        (contents_of_mode v.tag_mode (T.encoding v.value) (T.contents v.value)) };
+        (contents_of_mode v.tag_mode (T.encoding v.value) (T.value.contents v.value)) };
 
     ghost comparable = { λ v w. OneTaggedForm T.comparable T.tag_of v.tag_mode w.tag_mode
         v.value w.value };
@@ -99,22 +82,22 @@ impl<T: Tagged, const CLASS: u8> Form for TaggedValue<T, CLASS> {
     ghost TAKES_MEMORY = { T.TAKES_MEMORY };
 
     ghost parse_of_accepted = { λ rules v. parse_of_explicit T.Form CLASS v.tag_number.0 v.tag_mode
-        v.value (T.tag_of v.value) (T.contents v.value) rules };
+        v.value (T.tag_of v.value) (T.value.contents v.value) rules };
 
     ghost begins = { λ rules v. begins_explicit T.Form CLASS v.tag_number.0 v.tag_mode v.value
-        (T.tag_of v.value) (T.contents v.value) rules };
+        (T.tag_of v.value) (T.value.contents v.value) rules };
 
     ghost led = { λ rules v. led_explicit T.Form CLASS v.tag_number.0 v.tag_mode v.value
-        (T.tag_of v.value) (T.contents v.value) rules };
+        (T.tag_of v.value) (T.value.contents v.value) rules };
 
     ghost same_length = { λ rules v. same_length_explicit T.Form CLASS v.tag_number.0 v.tag_mode
-        v.value (T.tag_of v.value) (T.contents v.value) rules };
+        v.value (T.tag_of v.value) (T.value.contents v.value) rules };
 
     ghost accepts_encoding = { λ rules v. accepts_explicit_encoding T.Form CLASS v.tag_number.0
-        v.tag_mode v.value (T.tag_of v.value) (T.contents v.value) rules };
+        v.tag_mode v.value (T.tag_of v.value) (T.value.contents v.value) rules };
 
     ghost only_readable = { λ rules v. readable_explicit T.Form CLASS v.tag_number.0 v.tag_mode
-        v.value (T.tag_of v.value) (T.contents v.value) rules };
+        v.value (T.tag_of v.value) (T.value.contents v.value) rules };
 
     ghost accepts_comparable = { λ rules v w b c a d.
         one_explicit_form T.Form T.tag_of v.tag_mode w.tag_mode v.value w.value a.mode_is d.mode_is
@@ -194,7 +177,7 @@ impl<T: Tagged + DerOrd + ValueOrd, const CLASS: u8> ValueOrd for TaggedValue<T,
 }
 
 impl<T: Tagged + EncodingEq, const CLASS: u8> EncodingEq for TaggedValue<T, CLASS> {
-    ghost encoding_eq = { λ v w. encoding_eq_tagged_value T.tag_of T.contents T.encoding
+    ghost encoding_eq = { λ v w. encoding_eq_tagged_value T.tag_of T.value.contents T.encoding
         T.encoding_is T.comparable T.eq T.encoding_eq CLASS v.tag_number.0 w.tag_number.0 v.tag_mode
         w.tag_mode v.value w.value };
 }
@@ -214,11 +197,11 @@ impl<T: Tagged + Duplicate, const CLASS: u8> Duplicate for TaggedValue<T, CLASS>
         })
     }
 
-    ghost copy_encoding = { λ v w c. copy_encoding_tagged_value T.tag_of T.contents T.encoding
+    ghost copy_encoding = { λ v w c. copy_encoding_tagged_value T.tag_of T.value.contents T.encoding
         T.encoding_is CLASS v.tag_number.0 w.tag_number.0 v.tag_mode w.tag_mode v.value w.value c.0
         c.1 (T.copy_encoding v.value w.value c.2) };
 
-    ghost copy_form = { λ v w x c. copy_form_tagged_value T.tag_of T.contents T.encoding
+    ghost copy_form = { λ v w x c. copy_form_tagged_value T.tag_of T.value.contents T.encoding
         T.encoding_is T.comparable v.tag_mode w.tag_mode x.tag_mode v.value w.value x.value c.1
         (T.copy_encoding v.value w.value c.2) (T.copy_form v.value w.value x.value c.2) };
 

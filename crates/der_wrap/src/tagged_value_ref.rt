@@ -25,46 +25,27 @@ pub struct TaggedValueRef<'a, T, const CLASS: u8> {
 }
 
 impl<'a, T: Tagged, const CLASS: u8> FormValue for TaggedValueRef<'a, T, CLASS> {
-    ghost contents = { λ v. contents_of_mode v.tag_mode (T.encoding v.value.now)
-        (T.contents v.value.now) };
-
-    ghost comparable_value = { λ v w. OneTaggedForm T.comparable T.tag_of v.tag_mode w.tag_mode
-        v.value.now w.value.now };
-
-    ghost re_reads_value = { λ v. T.re_reads v.value.now };
-
-    ghost accepts_value = { λ rules v. accepts_one_encoding T.accepts v.tag_mode rules
-        v.value.now };
-
-    ghost parse_value = { one_encoding T.parse };
-
-    ghost readable_value = { λ v. (v.tag_mode ≡ Explicit) × T.readable v.value.now };
-
-    ghost has_tag = { λ v t. Unit {0} };
-
-    ghost VALUE_TAKES_MEMORY = { T.TAKES_MEMORY };
-
-    ghost parse_of_accepted_value = { λ rules v.
-        parse_of_one_encoding T.Form v.tag_mode v.value.now (T.contents v.value.now) rules };
-
-    ghost same_length_value = { λ rules v.
-        same_length_one_encoding T.Form v.tag_mode v.value.now (T.contents v.value.now) rules };
-
-    ghost accepts_contents = { λ rules v.
-        accepts_own_encoding T.Form v.tag_mode v.value.now (T.contents v.value.now) rules };
-
-    ghost only_readable_value = { λ rules v c a. (a.0, T.only_readable rules v.value.now c a.1) };
-
-    ghost accepts_comparable_value = { λ rules v w c d a b.
-        one_explicit_form T.Form T.tag_of v.tag_mode w.tag_mode v.value.now w.value.now a.0 b.0
-        (T.accepts_comparable rules v.value.now w.value.now c d a.1 b.1) };
-
-    ghost re_reads_memory_value = { λ v. T.re_reads_memory v.value.now };
+    ghost value = { record {
+      contents = λ v. contents_of_mode v.tag_mode (T.encoding v.value.now) (T.value.contents v.value.now);
+      comparable = λ v w. OneTaggedForm T.comparable T.tag_of v.tag_mode w.tag_mode v.value.now w.value.now;
+      re_reads = λ v. T.re_reads v.value.now;
+      accepts = λ rules v. accepts_one_encoding T.accepts v.tag_mode rules v.value.now;
+      parse = one_encoding T.parse;
+      readable = λ v. (v.tag_mode ≡ Explicit) × T.readable v.value.now;
+      has_tag = λ v t. Unit {0};
+      TAKES_MEMORY = T.TAKES_MEMORY;
+      parse_of_accepted = λ rules v. parse_of_one_encoding T.Form v.tag_mode v.value.now (T.value.contents v.value.now) rules;
+      same_length = λ rules v. same_length_one_encoding T.Form v.tag_mode v.value.now (T.value.contents v.value.now) rules;
+      accepts_contents = λ rules v. accepts_own_encoding T.Form v.tag_mode v.value.now (T.value.contents v.value.now) rules;
+      only_readable = λ rules v c a. (a.0, T.only_readable rules v.value.now c a.1);
+      accepts_comparable = λ rules v w c d a b. one_explicit_form T.Form T.tag_of v.tag_mode w.tag_mode v.value.now w.value.now a.0 b.0 (T.accepts_comparable rules v.value.now w.value.now c d a.1 b.1);
+      re_reads_memory = λ v. T.re_reads_memory v.value.now;
+    } };
 }
 
 impl<'a, T: Tagged, const CLASS: u8> Form for TaggedValueRef<'a, T, CLASS> {
     ghost encoding = { λ v. tlv (tag_of_mode CLASS v.tag_mode v.tag_number.0 (T.tag_of v.value.now))
-        (contents_of_mode v.tag_mode (T.encoding v.value.now) (T.contents v.value.now)) };
+        (contents_of_mode v.tag_mode (T.encoding v.value.now) (T.value.contents v.value.now)) };
 
     ghost comparable = { λ v w. OneTaggedForm T.comparable T.tag_of v.tag_mode w.tag_mode
         v.value.now w.value.now };
@@ -85,22 +66,22 @@ impl<'a, T: Tagged, const CLASS: u8> Form for TaggedValueRef<'a, T, CLASS> {
     ghost TAKES_MEMORY = { T.TAKES_MEMORY };
 
     ghost parse_of_accepted = { λ rules v. parse_of_explicit T.Form CLASS v.tag_number.0 v.tag_mode
-        v.value.now (T.tag_of v.value.now) (T.contents v.value.now) rules };
+        v.value.now (T.tag_of v.value.now) (T.value.contents v.value.now) rules };
 
     ghost begins = { λ rules v. begins_explicit T.Form CLASS v.tag_number.0 v.tag_mode v.value.now
-        (T.tag_of v.value.now) (T.contents v.value.now) rules };
+        (T.tag_of v.value.now) (T.value.contents v.value.now) rules };
 
     ghost led = { λ rules v. led_explicit T.Form CLASS v.tag_number.0 v.tag_mode v.value.now
-        (T.tag_of v.value.now) (T.contents v.value.now) rules };
+        (T.tag_of v.value.now) (T.value.contents v.value.now) rules };
 
     ghost same_length = { λ rules v. same_length_explicit T.Form CLASS v.tag_number.0 v.tag_mode
-        v.value.now (T.tag_of v.value.now) (T.contents v.value.now) rules };
+        v.value.now (T.tag_of v.value.now) (T.value.contents v.value.now) rules };
 
     ghost accepts_encoding = { λ rules v. accepts_explicit_encoding T.Form CLASS v.tag_number.0
-        v.tag_mode v.value.now (T.tag_of v.value.now) (T.contents v.value.now) rules };
+        v.tag_mode v.value.now (T.tag_of v.value.now) (T.value.contents v.value.now) rules };
 
     ghost only_readable = { λ rules v. readable_explicit T.Form CLASS v.tag_number.0 v.tag_mode
-        v.value.now (T.tag_of v.value.now) (T.contents v.value.now) rules };
+        v.value.now (T.tag_of v.value.now) (T.value.contents v.value.now) rules };
 
     ghost accepts_comparable = { λ rules v w b c a d. one_explicit_form T.Form T.tag_of v.tag_mode
         w.tag_mode v.value.now w.value.now a.mode_is d.mode_is (T.accepts_comparable rules

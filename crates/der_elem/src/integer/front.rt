@@ -1,8 +1,7 @@
 //! The contents octets of INTEGER (X.690 8.3) at the front of a block of eight octets, of which the
 //! others say nothing.
 
-ghost use Rattle.std.specs.Prelude.{◌≡◌, false, cond, ◌-◌, ◌^◌, ◌<◌, ◌≤◌, length, slice_index, take};
-ghost use Rattle.std.specs.Int.{complement_if};
+ghost use Rattle.std.specs.Prelude.{◌≡◌, false, cond, ◌-◌, ◌^◌, ◌<◌, ◌≤◌, slice_index, take};
 ghost use Rattle.der_elem.specs.IntegerReading.{ReadsSigned, ReadsUnsigned};
 ghost use Rattle.der_elem.specs.Integer.{big_endian_number, complement_octets_if, integer_contents, twos_complement, is_redundant, natural_contents, FitsSignedWidth, FitsUnsignedOctets, FitsUnsignedWidth};
 

@@ -3,10 +3,8 @@
 //! An integer z is handled as a sign and a magnitude: z itself where it is not negative, and else
 //! -1 - z.
 
-ghost use Rattle.std.specs.Prelude.{◌≡◌, ◌↔◌, IsTrue, ℕ, ◌+◌, ◌*◌, ◌^◌, ◌-◌, ◌<◌, ◌≤◌, false, cond, nat_le, List, length, drop, slice_index};
+ghost use Rattle.std.specs.Prelude.{◌≡◌, ◌↔◌, IsTrue, ◌+◌, ◌*◌, ◌^◌, ◌-◌, ◌<◌, ◌≤◌, false, cond, nat_le, length, slice_index};
 ghost use Rattle.std.specs.Int.{complement_if};
-ghost use Rattle.std.specs.Int.Signed.{mag};
-ghost use Rattle.der_tlv.specs.Octets.{lex};
 ghost use Rattle.der_elem.specs.Integer.{big_endian_number, natural_contents, complement_octets_if, integer_contents, twos_complement, is_redundant, FitsSignedWidth, FitsUnsignedOctets, fits_unsigned};
 
 use std::cmp::Ordering;

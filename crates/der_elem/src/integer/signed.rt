@@ -6,13 +6,13 @@
 ghost use Rattle.std.proofs.Common.{lit<, false};
 ghost use Rattle.std.specs.Ordering.{int_eq};
 ghost use Rattle.std.proofs.lemmas.Bool.Decides.{Decides-int_eq};
-ghost use Rattle.der_elem.specs.OwnContentsLaws.{contents_eq_own, parse_of_within, same_length_within, accepts_contents_within, only_within};
+ghost use Rattle.der_elem.specs.OwnContentsLaws.{contents_eq_own};
 ghost use Rattle.der_elem.specs.Integer.{integer_contents, FitsSignedWidth};
 ghost use Rattle.der_elem.specs.IntegerLaws.{integer_contents-injective};
 ghost use Rattle.der_elem.specs.IntegerReading.{parse_signed};
 ghost use Rattle.der_elem.specs.IntegerReadingLaws.{parse_signed-own};
 ghost use Rattle.std.specs.Prelude.{refl};
-ghost use Rattle.der_elem.specs.OwnContents.{accepts_within};
+ghost use Rattle.der_elem.specs.ValueForms.{own_form_within};
 
 use super::ordering::compare_signed;
 use super::reading::read_signed;
@@ -30,26 +30,7 @@ use std::alloc::Global;
 use std::cmp::Ordering;
 
 impl FormValue for i8 {
-    ghost contents = { integer_contents };
-
-    ghost accepts_value = { accepts_within integer_contents (FitsSignedWidth 1) };
-
-    ghost parse_value = { parse_signed 1 };
-
-    ghost readable_value = { FitsSignedWidth 1 };
-
-    ghost parse_of_accepted_value = { parse_of_within integer_contents (FitsSignedWidth 1)
-        (parse_signed 1) (parse_signed-own 1 (lit< tt)) };
-
-    ghost same_length_value = { same_length_within integer_contents (FitsSignedWidth 1) };
-
-    ghost accepts_contents = { accepts_contents_within integer_contents (FitsSignedWidth 1) };
-
-    ghost only_readable_value = { only_within integer_contents (FitsSignedWidth 1) };
-
-    ghost accepts_comparable_value = { λ rules v w c d a b. tt };
-
-    ghost re_reads_memory_value = { λ v e. e };
+    ghost value = { own_form_within integer_contents (FitsSignedWidth 1) (parse_signed 1) (parse_signed-own 1 (lit< tt)) };
 }
 
 impl OneTag for i8 {
@@ -93,26 +74,7 @@ impl ContentsEq for i8 {
 impl CopyIsDuplicate for i8 {}
 
 impl FormValue for i16 {
-    ghost contents = { integer_contents };
-
-    ghost accepts_value = { accepts_within integer_contents (FitsSignedWidth 2) };
-
-    ghost parse_value = { parse_signed 2 };
-
-    ghost readable_value = { FitsSignedWidth 2 };
-
-    ghost parse_of_accepted_value = { parse_of_within integer_contents (FitsSignedWidth 2)
-        (parse_signed 2) (parse_signed-own 2 (lit< tt)) };
-
-    ghost same_length_value = { same_length_within integer_contents (FitsSignedWidth 2) };
-
-    ghost accepts_contents = { accepts_contents_within integer_contents (FitsSignedWidth 2) };
-
-    ghost only_readable_value = { only_within integer_contents (FitsSignedWidth 2) };
-
-    ghost accepts_comparable_value = { λ rules v w c d a b. tt };
-
-    ghost re_reads_memory_value = { λ v e. e };
+    ghost value = { own_form_within integer_contents (FitsSignedWidth 2) (parse_signed 2) (parse_signed-own 2 (lit< tt)) };
 }
 
 impl OneTag for i16 {
@@ -156,26 +118,7 @@ impl ContentsEq for i16 {
 impl CopyIsDuplicate for i16 {}
 
 impl FormValue for i32 {
-    ghost contents = { integer_contents };
-
-    ghost accepts_value = { accepts_within integer_contents (FitsSignedWidth 4) };
-
-    ghost parse_value = { parse_signed 4 };
-
-    ghost readable_value = { FitsSignedWidth 4 };
-
-    ghost parse_of_accepted_value = { parse_of_within integer_contents (FitsSignedWidth 4)
-        (parse_signed 4) (parse_signed-own 4 (lit< tt)) };
-
-    ghost same_length_value = { same_length_within integer_contents (FitsSignedWidth 4) };
-
-    ghost accepts_contents = { accepts_contents_within integer_contents (FitsSignedWidth 4) };
-
-    ghost only_readable_value = { only_within integer_contents (FitsSignedWidth 4) };
-
-    ghost accepts_comparable_value = { λ rules v w c d a b. tt };
-
-    ghost re_reads_memory_value = { λ v e. e };
+    ghost value = { own_form_within integer_contents (FitsSignedWidth 4) (parse_signed 4) (parse_signed-own 4 (lit< tt)) };
 }
 
 impl OneTag for i32 {
@@ -219,26 +162,7 @@ impl ContentsEq for i32 {
 impl CopyIsDuplicate for i32 {}
 
 impl FormValue for i64 {
-    ghost contents = { integer_contents };
-
-    ghost accepts_value = { accepts_within integer_contents (FitsSignedWidth 8) };
-
-    ghost parse_value = { parse_signed 8 };
-
-    ghost readable_value = { FitsSignedWidth 8 };
-
-    ghost parse_of_accepted_value = { parse_of_within integer_contents (FitsSignedWidth 8)
-        (parse_signed 8) (parse_signed-own 8 (lit< tt)) };
-
-    ghost same_length_value = { same_length_within integer_contents (FitsSignedWidth 8) };
-
-    ghost accepts_contents = { accepts_contents_within integer_contents (FitsSignedWidth 8) };
-
-    ghost only_readable_value = { only_within integer_contents (FitsSignedWidth 8) };
-
-    ghost accepts_comparable_value = { λ rules v w c d a b. tt };
-
-    ghost re_reads_memory_value = { λ v e. e };
+    ghost value = { own_form_within integer_contents (FitsSignedWidth 8) (parse_signed 8) (parse_signed-own 8 (lit< tt)) };
 }
 
 impl OneTag for i64 {
@@ -282,26 +206,7 @@ impl ContentsEq for i64 {
 impl CopyIsDuplicate for i64 {}
 
 impl FormValue for i128 {
-    ghost contents = { integer_contents };
-
-    ghost accepts_value = { accepts_within integer_contents (FitsSignedWidth 16) };
-
-    ghost parse_value = { parse_signed 16 };
-
-    ghost readable_value = { FitsSignedWidth 16 };
-
-    ghost parse_of_accepted_value = { parse_of_within integer_contents (FitsSignedWidth 16)
-        (parse_signed 16) (parse_signed-own 16 (lit< tt)) };
-
-    ghost same_length_value = { same_length_within integer_contents (FitsSignedWidth 16) };
-
-    ghost accepts_contents = { accepts_contents_within integer_contents (FitsSignedWidth 16) };
-
-    ghost only_readable_value = { only_within integer_contents (FitsSignedWidth 16) };
-
-    ghost accepts_comparable_value = { λ rules v w c d a b. tt };
-
-    ghost re_reads_memory_value = { λ v e. e };
+    ghost value = { own_form_within integer_contents (FitsSignedWidth 16) (parse_signed 16) (parse_signed-own 16 (lit< tt)) };
 }
 
 impl OneTag for i128 {

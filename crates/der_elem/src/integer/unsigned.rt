@@ -7,12 +7,12 @@
 
 ghost use Rattle.std.specs.Prelude.{nat_eq, refl, false};
 ghost use Rattle.std.proofs.lemmas.Bool.Decides.{Decides-eqb};
-ghost use Rattle.der_elem.specs.OwnContentsLaws.{contents_eq_own, parse_of_within, same_length_within, accepts_contents_within, only_within};
+ghost use Rattle.der_elem.specs.OwnContentsLaws.{contents_eq_own};
 ghost use Rattle.der_elem.specs.Integer.{natural_contents, FitsUnsignedWidth};
 ghost use Rattle.der_elem.specs.IntegerLaws.{natural_contents-injective};
 ghost use Rattle.der_elem.specs.IntegerReading.{parse_unsigned};
 ghost use Rattle.der_elem.specs.IntegerReadingLaws.{parse_unsigned-own};
-ghost use Rattle.der_elem.specs.OwnContents.{accepts_within};
+ghost use Rattle.der_elem.specs.ValueForms.{own_form_within};
 
 use super::ordering::compare_unsigned;
 use super::reading::read_unsigned;
@@ -30,26 +30,7 @@ use std::alloc::Global;
 use std::cmp::Ordering;
 
 impl FormValue for u8 {
-    ghost contents = { natural_contents };
-
-    ghost accepts_value = { accepts_within natural_contents (FitsUnsignedWidth 1) };
-
-    ghost parse_value = { parse_unsigned 1 };
-
-    ghost readable_value = { FitsUnsignedWidth 1 };
-
-    ghost parse_of_accepted_value = { parse_of_within natural_contents (FitsUnsignedWidth 1)
-        (parse_unsigned 1) (parse_unsigned-own 1) };
-
-    ghost same_length_value = { same_length_within natural_contents (FitsUnsignedWidth 1) };
-
-    ghost accepts_contents = { accepts_contents_within natural_contents (FitsUnsignedWidth 1) };
-
-    ghost only_readable_value = { only_within natural_contents (FitsUnsignedWidth 1) };
-
-    ghost accepts_comparable_value = { λ rules v w c d a b. tt };
-
-    ghost re_reads_memory_value = { λ v e. e };
+    ghost value = { own_form_within natural_contents (FitsUnsignedWidth 1) (parse_unsigned 1) (parse_unsigned-own 1) };
 }
 
 impl OneTag for u8 {
@@ -93,26 +74,7 @@ impl ContentsEq for u8 {
 impl CopyIsDuplicate for u8 {}
 
 impl FormValue for u16 {
-    ghost contents = { natural_contents };
-
-    ghost accepts_value = { accepts_within natural_contents (FitsUnsignedWidth 2) };
-
-    ghost parse_value = { parse_unsigned 2 };
-
-    ghost readable_value = { FitsUnsignedWidth 2 };
-
-    ghost parse_of_accepted_value = { parse_of_within natural_contents (FitsUnsignedWidth 2)
-        (parse_unsigned 2) (parse_unsigned-own 2) };
-
-    ghost same_length_value = { same_length_within natural_contents (FitsUnsignedWidth 2) };
-
-    ghost accepts_contents = { accepts_contents_within natural_contents (FitsUnsignedWidth 2) };
-
-    ghost only_readable_value = { only_within natural_contents (FitsUnsignedWidth 2) };
-
-    ghost accepts_comparable_value = { λ rules v w c d a b. tt };
-
-    ghost re_reads_memory_value = { λ v e. e };
+    ghost value = { own_form_within natural_contents (FitsUnsignedWidth 2) (parse_unsigned 2) (parse_unsigned-own 2) };
 }
 
 impl OneTag for u16 {
@@ -156,26 +118,7 @@ impl ContentsEq for u16 {
 impl CopyIsDuplicate for u16 {}
 
 impl FormValue for u32 {
-    ghost contents = { natural_contents };
-
-    ghost accepts_value = { accepts_within natural_contents (FitsUnsignedWidth 4) };
-
-    ghost parse_value = { parse_unsigned 4 };
-
-    ghost readable_value = { FitsUnsignedWidth 4 };
-
-    ghost parse_of_accepted_value = { parse_of_within natural_contents (FitsUnsignedWidth 4)
-        (parse_unsigned 4) (parse_unsigned-own 4) };
-
-    ghost same_length_value = { same_length_within natural_contents (FitsUnsignedWidth 4) };
-
-    ghost accepts_contents = { accepts_contents_within natural_contents (FitsUnsignedWidth 4) };
-
-    ghost only_readable_value = { only_within natural_contents (FitsUnsignedWidth 4) };
-
-    ghost accepts_comparable_value = { λ rules v w c d a b. tt };
-
-    ghost re_reads_memory_value = { λ v e. e };
+    ghost value = { own_form_within natural_contents (FitsUnsignedWidth 4) (parse_unsigned 4) (parse_unsigned-own 4) };
 }
 
 impl OneTag for u32 {
@@ -219,26 +162,7 @@ impl ContentsEq for u32 {
 impl CopyIsDuplicate for u32 {}
 
 impl FormValue for u64 {
-    ghost contents = { natural_contents };
-
-    ghost accepts_value = { accepts_within natural_contents (FitsUnsignedWidth 8) };
-
-    ghost parse_value = { parse_unsigned 8 };
-
-    ghost readable_value = { FitsUnsignedWidth 8 };
-
-    ghost parse_of_accepted_value = { parse_of_within natural_contents (FitsUnsignedWidth 8)
-        (parse_unsigned 8) (parse_unsigned-own 8) };
-
-    ghost same_length_value = { same_length_within natural_contents (FitsUnsignedWidth 8) };
-
-    ghost accepts_contents = { accepts_contents_within natural_contents (FitsUnsignedWidth 8) };
-
-    ghost only_readable_value = { only_within natural_contents (FitsUnsignedWidth 8) };
-
-    ghost accepts_comparable_value = { λ rules v w c d a b. tt };
-
-    ghost re_reads_memory_value = { λ v e. e };
+    ghost value = { own_form_within natural_contents (FitsUnsignedWidth 8) (parse_unsigned 8) (parse_unsigned-own 8) };
 }
 
 impl OneTag for u64 {
@@ -282,26 +206,7 @@ impl ContentsEq for u64 {
 impl CopyIsDuplicate for u64 {}
 
 impl FormValue for u128 {
-    ghost contents = { natural_contents };
-
-    ghost accepts_value = { accepts_within natural_contents (FitsUnsignedWidth 16) };
-
-    ghost parse_value = { parse_unsigned 16 };
-
-    ghost readable_value = { FitsUnsignedWidth 16 };
-
-    ghost parse_of_accepted_value = { parse_of_within natural_contents (FitsUnsignedWidth 16)
-        (parse_unsigned 16) (parse_unsigned-own 16) };
-
-    ghost same_length_value = { same_length_within natural_contents (FitsUnsignedWidth 16) };
-
-    ghost accepts_contents = { accepts_contents_within natural_contents (FitsUnsignedWidth 16) };
-
-    ghost only_readable_value = { only_within natural_contents (FitsUnsignedWidth 16) };
-
-    ghost accepts_comparable_value = { λ rules v w c d a b. tt };
-
-    ghost re_reads_memory_value = { λ v e. e };
+    ghost value = { own_form_within natural_contents (FitsUnsignedWidth 16) (parse_unsigned 16) (parse_unsigned-own 16) };
 }
 
 impl OneTag for u128 {

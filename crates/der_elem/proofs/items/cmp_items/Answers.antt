@@ -19,7 +19,7 @@ returns-in_default g c =
     let w = c.index-others-i.result in
     let vs = c.args.items.now in
     let ws = c.args.others.now in
-    let joined = lex-items g.T.Tagged.tag_of g.T.FormValue.contents g.T.Form.encoding g.met.T.Tagged.encoding_is vs ws in
+    let joined = lex-items g.T.Tagged.tag_of g.T.FormValue.value.contents g.T.Form.encoding g.met.T.Tagged.encoding_is vs ws in
     let decided = decided_at (on g.T.Form.encoding lex) vs ws c.items.i v w c.in_ok-order.order (search rules) (search rules) (search rules) (search rules) c.items.invariant c.in_ok-order.ensures c.in_default.not-Equal in
     cc
 
@@ -28,7 +28,7 @@ returns g c =
     let vs = c.args.items.now in
     let ws = c.args.others.now in
     let end : c.items.i ≡ min (length vs) (length ws) = search rules in
-    let joined = lex-items g.T.Tagged.tag_of g.T.FormValue.contents g.T.Form.encoding g.met.T.Tagged.encoding_is vs ws in
+    let joined = lex-items g.T.Tagged.tag_of g.T.FormValue.value.contents g.T.Form.encoding g.met.T.Tagged.encoding_is vs ws in
     let counts : slice_cmp (on g.T.Form.encoding lex) (drop c.items.i vs) (drop c.items.i ws) ≡ nat_cmp (length vs) (length ws) = cmp_end (on g.T.Form.encoding lex) vs ws c.items.i end in
     let invariant = c.items.invariant in
     let count : c.cmp.result ≡ nat_cmp (length vs) (length ws) = search rules in

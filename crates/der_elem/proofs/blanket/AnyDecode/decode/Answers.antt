@@ -14,7 +14,7 @@ header_at g c = record { head = c.in_ok-header.ensures.head; sound = search rule
 
 pub returns-in_err-header : goal.returns-in_err-header
 returns-in_err-header g c =
-    let fault = header_fault c.in_err-header.ensures.head g.T.Marker.TagMarker.TAG g.T.FormValue.parse_value (g.R.Reader.state c.args.reader.now).rules in
+    let fault = header_fault c.in_err-header.ensures.head g.T.Marker.TagMarker.TAG g.T.FormValue.value.parse (g.R.Reader.state c.args.reader.now).rules in
     search rules
 
 pub returns-then-not-equals : goal.returns-then-not-equals
@@ -22,13 +22,13 @@ returns-then-not-equals g c =
     let at = header_at g (goal.at.returns-then-not-equals g c).In_ok-header in
     let other : same_identifier c.in_ok-header.header.tag g.T.Marker.TagMarker.TAG ≡ false = ap (same_identifier c.in_ok-header.header.tag) (sym c.TAG-tag.ensures) ∙ sym c.if-not-equals.ensures in
     let kind : c.error.result.kind ≡ TagUnexpected (Some g.T.Marker.TagMarker.TAG) c.in_ok-header.header.tag = c.error.ensures.kind ∙ c.unexpected_error.ensures ∙ ap (λ t. TagUnexpected (Some t) c.in_ok-header.header.tag) c.TAG-tag.ensures in
-    record { reason = inr (other_tag_fault at g.T.Marker.TagMarker.TAG other g.T.FormValue.parse_value (g.R.Reader.state c.args.reader.now).rules ∙ ap Err (sym kind)); reader = refused_at_header at c.error.ensures.failed }
+    record { reason = inr (other_tag_fault at g.T.Marker.TagMarker.TAG other g.T.FormValue.value.parse (g.R.Reader.state c.args.reader.now).rules ∙ ap Err (sym kind)); reader = refused_at_header at c.error.ensures.failed }
 
 pub returns-in_err-end : goal.returns-in_err-end
 returns-in_err-end g c =
     let at = header_at g (goal.at.returns-in_err-end g c).In_ok-header in
     let same : c.in_ok-header.header.tag ≡ g.T.Marker.TagMarker.TAG = same_identifier-true c.in_ok-header.header.tag c.TAG-tag.result (sym c.if-not-equals.ensures) ∙ c.TAG-tag.ensures in
-    let fault = too_long_fault at c.in_err-end.ensures g.T.Marker.TagMarker.TAG same g.T.FormValue.parse_value (g.R.Reader.state c.args.reader.now).rules in
+    let fault = too_long_fault at c.in_err-end.ensures g.T.Marker.TagMarker.TAG same g.T.FormValue.value.parse (g.R.Reader.state c.args.reader.now).rules in
     let reader = refused_behind_header at (refused_octets c.in_err-end.ensures) in
     search rules
 
@@ -41,7 +41,7 @@ returns-in_err-value g c =
     let at = contents_at g (goal.at.returns-in_err-value g c).In_ok-end in
     let same : c.in_ok-header.header.tag ≡ g.T.Marker.TagMarker.TAG = same_identifier-true c.in_ok-header.header.tag c.TAG-tag.result (sym c.if-not-equals.ensures) ∙ c.TAG-tag.ensures in
     let told = c.in_err-value.ensures.exact (shown_length at) in
-    let fault = contents_fault g.T.FormValue g.T.Marker.TagMarker.TAG at same told in
+    let fault = contents_fault g.T.FormValue.value g.T.Marker.TagMarker.TAG at same told in
     let reader = refused_inside at c.in_err-value.ensures.reader in
     search rules
 
@@ -53,7 +53,7 @@ returns g c =
     record {
       taken = length (octets_of c.in_ok-header.header) + c.in_ok-header.header.length;
       ready = at.at.head.ready;
-      parsed = parsed_value g.T.FormValue g.T.Marker.TagMarker.TAG at same told;
-      accepted = accepted_value g.T.FormValue g.T.Marker.TagMarker.TAG at same told;
+      parsed = parsed_value g.T.FormValue.value g.T.Marker.TagMarker.TAG at same told;
+      accepted = accepted_value g.T.FormValue.value g.T.Marker.TagMarker.TAG at same told;
       after = after_contents at told.after c.in_ok-unnest.ensures.after;
     }

@@ -10,7 +10,7 @@ pub returns-in_default-next_found : goal.returns-in_default-next_found
 returns-in_default-next_found g c =
     let told = rw c.in_ok-item.was at c.in-Some.ensures in
     let none = rw c.in_default-next_found.is at c.next_found-in-Some.ensures in
-    right_ends c.items.invariant g.T.Tagged.tag_of g.T.FormValue.contents g.met.T.Tagged.encoding_is c.in_ok-item.item c.next_found.new.self told none.0
+    right_ends c.items.invariant g.T.Tagged.tag_of g.T.FormValue.value.contents g.met.T.Tagged.encoding_is c.in_ok-item.item c.next_found.new.self told none.0
 
 pub returns-in_err-order : goal.returns-in_err-order
 returns-in_err-order g c =
@@ -31,24 +31,24 @@ returns-in_default-2 g c =
     let told = rw c.in_ok-item.was at c.in-Some.ensures in
     let told' = rw c.in_ok-other.was at c.in-Some-next_found.ensures in
     let is = pair_is g (goal.at.returns-in_default-2 g c).In_ok-order in
-    pair_decides c.items.invariant g.T.Tagged.tag_of g.T.FormValue.contents g.met.T.Tagged.encoding_is c.in_ok-item.item c.in_ok-other.other c.next_found.new.self c.next_found-in-Some.new.self told told' c.in_ok-order.order is c.in_default-2.not-Equal
+    pair_decides c.items.invariant g.T.Tagged.tag_of g.T.FormValue.value.contents g.met.T.Tagged.encoding_is c.in_ok-item.item c.in_ok-other.other c.next_found.new.self c.next_found-in-Some.new.self told told' c.in_ok-order.order is c.in_default-2.not-Equal
 
 pub items-preserved-in-Equal : goal.items-preserved-in-Equal
 items-preserved-in-Equal g c =
     let told = rw c.in_ok-item.was at c.in-Some.ensures in
     let told' = rw c.in_ok-other.was at c.in-Some-next_found.ensures in
     let is = pair_is g (goal.at.items-preserved-in-Equal g c).In_ok-order in
-    one_more_pair c.items.invariant g.T.Tagged.tag_of g.T.FormValue.contents g.met.T.Tagged.encoding_is c.in_ok-item.item c.in_ok-other.other c.next_found.new.self c.next_found-in-Some.new.self told told' (sym c.in-Equal.is ∙ is)
+    one_more_pair c.items.invariant g.T.Tagged.tag_of g.T.FormValue.value.contents g.met.T.Tagged.encoding_is c.in_ok-item.item c.in_ok-other.other c.next_found.new.self c.next_found-in-Some.new.self told told' (sym c.in-Equal.is ∙ is)
 
 pub items-preserved : goal.items-preserved
 items-preserved g c =
     let told = rw c.in_ok-item.was at c.in-Some.ensures in
     let told' = rw c.in_ok-other.was at c.in-Some-next_found.ensures in
     let is = pair_is g (goal.at.items-preserved g c).In_ok-order in
-    one_more_pair c.items.invariant g.T.Tagged.tag_of g.T.FormValue.contents g.met.T.Tagged.encoding_is c.in_ok-item.item c.in_ok-other.other c.next_found.new.self c.next_found-in-Some.new.self told told' (sym c.in-Equal.is ∙ is)
+    one_more_pair c.items.invariant g.T.Tagged.tag_of g.T.FormValue.value.contents g.met.T.Tagged.encoding_is c.in_ok-item.item c.in_ok-other.other c.next_found.new.self c.next_found-in-Some.new.self told told' (sym c.in-Equal.is ∙ is)
 
 pub returns : goal.returns
 returns g c =
     let told = rw c.in_ok-_other.was at c.in-Some-next_found-2.ensures in
     let none = rw c.in_default.is at c.next_found.ensures in
-    left_ends c.items.invariant g.T.Tagged.tag_of g.T.FormValue.contents g.met.T.Tagged.encoding_is c.in_ok-_other._other c.next_found-2.new.self none.0 told
+    left_ends c.items.invariant g.T.Tagged.tag_of g.T.FormValue.value.contents g.met.T.Tagged.encoding_is c.in_ok-_other._other c.next_found-2.new.self none.0 told

@@ -17,7 +17,7 @@ returns g c =
     let told = c.in_ok-decode.ensures in
     let w = c.in_ok-decode.field-0 in
     let own = g.T.Tagged.tag_of w.value in
-    let contents = g.T.FormValue.contents w.value in
+    let contents = g.T.FormValue.value.contents w.value in
     let parsed : parse_explicit bits g.T.Form.parse old.rules old.position (rest old) ≡ Ok (told.taken, tlv (tag_of_mode bits w.tag_mode w.tag_number.0 own) (contents_of_mode w.tag_mode (g.T.Form.encoding w.value) contents)) = subst (λ s. parse_explicit bits g.T.Form.parse s.rules s.position (rest s) ≡ Ok (told.taken, tlv (tag_of_mode bits w.tag_mode w.tag_number.0 own) (contents_of_mode w.tag_mode (g.T.Form.encoding w.value) contents))) same told.parsed in
     let accepted : AcceptsExplicit g.T.Form.accepts bits w.tag_number.0 w.tag_mode w.value old.rules (take told.taken (rest old)) = subst (λ s. AcceptsExplicit g.T.Form.accepts bits w.tag_number.0 w.tag_mode w.value s.rules (take told.taken (rest s))) same told.accepted in
     record {

@@ -35,7 +35,7 @@ returns-in_err-header g c =
     let same : g.R.Reader.state c.peek_matches.new.reader ≡ old = search rules in
     let ready : old.failed ≡ false = search rules in
     let head : HeadFault read_header old (g.R.Reader.state c.decode.new.reader) c.in_err-header.field-0.0.kind = subst (λ s. HeadFault read_header s (g.R.Reader.state c.decode.new.reader) c.in_err-header.field-0.0.kind) same c.in_err-header.ensures.head in
-    let fault = found_fault bits n old ready found (parse_implicit t own g.T.FormValue.parse_value) old.rules (header_fault_implicit head t own g.T.FormValue.parse_value old.rules) in
+    let fault = found_fault bits n old ready found (parse_implicit t own g.T.FormValue.value.parse) old.rules (header_fault_implicit head t own g.T.FormValue.value.parse old.rules) in
     let reader = head.reader in
     search rules
 
@@ -54,8 +54,8 @@ returns-in-Err g c =
     let rules_are : c.encoding_rules.result ≡ old.rules = c.encoding_rules.ensures ∙ ap (λ s. s.rules) at.head.after in
     let by_constant : (parsed : Result (ℕ × List ℕ) ErrorKind) → in_implicit c.encoding_rules.result own tag parsed ≡ Err kind = subst (λ o. (parsed : Result (ℕ × List ℕ) ErrorKind) → in_implicit c.encoding_rules.result o tag parsed ≡ Err kind) c.CONSTRUCTED.ensures c.in-Err.ensures in
     let refused : (parsed : Result (ℕ × List ℕ) ErrorKind) → in_implicit old.rules own tag parsed ≡ Err kind = subst (λ r. (parsed : Result (ℕ × List ℕ) ErrorKind) → in_implicit r own tag parsed ≡ Err kind) rules_are by_constant in
-    let fault = form_fault_implicit at t own g.T.FormValue.parse_value old.rules kind refused in
-    record { reason = inr (found_fault bits n old ready found (parse_implicit t own g.T.FormValue.parse_value) old.rules fault ∙ ap Err (sym c.error.ensures.kind)); reader = refused_at_header at c.error.ensures.failed }
+    let fault = form_fault_implicit at t own g.T.FormValue.value.parse old.rules kind refused in
+    record { reason = inr (found_fault bits n old ready found (parse_implicit t own g.T.FormValue.value.parse) old.rules fault ∙ ap Err (sym c.error.ensures.kind)); reader = refused_at_header at c.error.ensures.failed }
 
 allowed_at : (g : _) (c : In-Ok g) → form_allowed (g.R.Reader.state c.args.reader.now).rules (is_constructed c.in_ok-header.header.tag) g.T.IsConstructed.CONSTRUCTED ≡ true
 allowed_at g c =
@@ -79,7 +79,7 @@ returns-in_err-end g c =
     let at = header_at g (goal.at.returns-in_err-end g c).In_ok-header in
     let allowed = allowed_at g (goal.at.returns-in_err-end g c).In-Ok in
     let refused = c.in_err-end.ensures in
-    let fault = found_fault bits n old ready found (parse_implicit t own g.T.FormValue.parse_value) old.rules (too_long_implicit at t own g.T.FormValue.parse_value old.rules allowed refused) in
+    let fault = found_fault bits n old ready found (parse_implicit t own g.T.FormValue.value.parse) old.rules (too_long_implicit at t own g.T.FormValue.value.parse old.rules allowed refused) in
     let reader = refused_behind_header at (refused_octets refused) in
     search rules
 
@@ -95,8 +95,8 @@ returns-in_err-value g c =
     let at = contents_at g (goal.at.returns-in_err-value g c).In_ok-end (header_at g (goal.at.returns-in_err-value g c).In_ok-header) in
     let allowed = allowed_at g (goal.at.returns-in_err-value g c).In-Ok in
     let told = c.in_err-value.ensures.exact (shown_length at) in
-    let parse = parse_implicit t own g.T.FormValue.parse_value in
-    let faults : Faults g.T.FormValue.VALUE_TAKES_MEMORY (unless_failed (parse_field bits n parse old.rules) old) c.in_err-value.field-0.0.kind = elim (contents_fault_implicit g.T.FormValue at t own allowed told) [
+    let parse = parse_implicit t own g.T.FormValue.value.parse in
+    let faults : Faults g.T.FormValue.value.TAKES_MEMORY (unless_failed (parse_field bits n parse old.rules) old) c.in_err-value.field-0.0.kind = elim (contents_fault_implicit g.T.FormValue.value at t own allowed told) [
       | inl m ↦ inl m
       | inr e ↦ inr (found_fault bits n old ready found parse old.rules e)
     ] in
@@ -115,12 +115,12 @@ returns g c =
     let allowed = allowed_at g (goal.at.returns g c).In-Ok in
     let told = c.in_ok-value.ensures.exact (shown_length at) in
     let header = c.in_ok-header.header in
-    let parse = parse_implicit t own g.T.FormValue.parse_value in
+    let parse = parse_implicit t own g.T.FormValue.value.parse in
     let tag_is = header_matched bits n old.position (rest old) (length (octets_of header)) header found at.at.head.parsed in
     record {
       taken = length (octets_of header) + header.length;
       ready = at.at.head.ready;
-      parsed = found_field bits n old.position parse old.rules (rest old) found ∙ parsed_implicit g.T.FormValue at t own allowed told;
-      accepted = (refl, refl, accepted_implicit g.T.FormValue at t own allowed told bits n tag_is);
+      parsed = found_field bits n old.position parse old.rules (rest old) found ∙ parsed_implicit g.T.FormValue.value at t own allowed told;
+      accepted = (refl, refl, accepted_implicit g.T.FormValue.value at t own allowed told bits n tag_is);
       after = after_contents at told.after c.in_ok-unnest.ensures.after;
     }

@@ -28,14 +28,14 @@ returns-in_err-may_follow-clause-refused g c =
 pub items-smaller : goal.items-smaller
 items-smaller g c =
     let some = more_left _ _ c.is_finished.ensures c.items-test.true in
-    let nonempty = accepted-some g.T.Tagged.tag_of g.T.FormValue.contents g.T.Form.encoding g.met.T.Tagged.encoding_is g.T.Form (λ v. refl) Der in
+    let nonempty = accepted-some g.T.Tagged.tag_of g.T.FormValue.value.contents g.T.Form.encoding g.met.T.Tagged.encoding_is g.T.Form (λ v. refl) Der in
     smaller c.items.invariant.so_far nonempty some c.in_ok-item.ensures
 
 pub items-preserved : goal.items-preserved
 items-preserved g c =
     let sound : IsReaderState (slice_reader_state c.items.reader) = record { ordered = c.items.reader.ordered; inside = c.items.reader.inside; short = c.items.reader.short } in
     let some = more_left _ _ c.is_finished.ensures c.items-test.true in
-    let nonempty = accepted-some g.T.Tagged.tag_of g.T.FormValue.contents g.T.Form.encoding g.met.T.Tagged.encoding_is g.T.Form (λ v. refl) Der in
+    let nonempty = accepted-some g.T.Tagged.tag_of g.T.FormValue.value.contents g.T.Form.encoding g.met.T.Tagged.encoding_is g.T.Form (λ v. refl) Der in
     one_more_borrowed c.items.invariant sound nonempty some c.in_ok-item.ensures c.in_ok-may_follow.ensures.ok
 
 pub invariant_of-result : goal.invariant_of-result

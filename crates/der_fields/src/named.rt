@@ -1,0 +1,157 @@
+//! SEQUENCE of the fields of a struct of one's own, with names of their own (X.690 8.9, X.680 25).
+//!
+//! The tag is 30. The contents octets are those of the list of the fields, and so is the first fault
+//! in reading, and the order: as of a `FieldSequence`.
+//!
+//! The fields are copied where a value is written, compared or told equal; so they are small, as
+//! borrowed values are.
+
+ghost use Rattle.std.specs.Prelude.{◌≡◌, refl};
+ghost use Rattle.std.specs.Cmp.{on_per, on_equiv};
+ghost use Rattle.der_elem.specs.ValueForms.{held_form};
+
+use crate::coded::{DecodeFields, EncodeFields};
+use crate::copied::DuplicateFields;
+use crate::equal::FieldsEq;
+use crate::field_list::FieldList;
+use crate::ordered::FieldsOrd;
+use der_elem::{
+    ContentsEq, DecodeValue, DuplicateValue, EncodeValue, FormValue, OneTag, Sequence, SequenceTag,
+    ValueOrd,
+};
+use der_tlv::{Error, Header, Length, Reader, Writer};
+use std::alloc::Global;
+use std::cmp::Ordering;
+
+/// A struct of one's own whose members are the fields of a SEQUENCE.
+///
+/// The list of the fields, as of a `FieldSequence`, says what octets they have; the struct says their
+/// names. `list_of` is the list of a value, which `field`, `with_default` and `end` of
+/// `specs/Listing.antt` write.
+pub trait NamedFields: Sized + Drop {
+    /// The list of the fields.
+    type List: FieldList;
+
+    // the list as which a value is seen
+    ghost list_of: { Self → Self.List };
+
+    /// The struct of these fields.
+    fn of_list(list: &Self::List) -> Self
+        ensures { list_of result ≡ list.now };
+
+    /// The fields of the struct.
+    fn to_list(&self) -> Self::List
+        ensures { result ≡ list_of self.now };
+}
+
+/// A SEQUENCE of the fields of a struct of one's own, which stand in its member `fields`.
+#[derive(Clone, Copy, Debug, Drop)]
+pub struct NamedSequence<S> {
+    /// The fields.
+    pub fields: S,
+}
+
+impl<S: NamedFields> FormValue for NamedSequence<S> {
+    ghost value = { held_form (λ v. S.list_of v.fields) S.List.list.octets };
+}
+
+impl<S> OneTag for NamedSequence<S> {
+    type Marker = SequenceTag;
+}
+
+impl<'a, S> Sequence<'a> for NamedSequence<S> {
+    ghost is_sequence = { refl };
+}
+
+impl<'a, R: Reader<'a>, S: NamedFields> DecodeValue<'a, R> for NamedSequence<S>
+where
+    S::List: DecodeFields<'a, R>,
+{
+    ghost VALUE_NEEDS_MEMORY = { S.List.FIELDS_NEED_MEMORY };
+
+    const VALUE_NEEDS_MEMORY: bool = <S::List as DecodeFields<'a, R>>::FIELDS_NEED_MEMORY;
+
+    fn decode_value(
+        alloc: Global,
+        reader: &mut R,
+        _header: Header,
+    ) -> Result<NamedSequence<S>, Error> {
+        let list = S::List::decode_fields(alloc, reader)?;
+        let fields = S::of_list(&list);
+        Ok(NamedSequence { fields })
+    }
+
+    ghost memory_of_value = { S.List.memory_of_fields };
+}
+
+impl<S: NamedFields> EncodeValue for NamedSequence<S>
+where
+    S::List: EncodeFields,
+{
+    fn value_len(&self) -> Result<Length, Error> {
+        self.fields.to_list().fields_len()
+    }
+
+    fn encode_value<W: Writer>(&self, writer: &mut W) -> Result<(), Error> {
+        self.fields.to_list().encode_fields(writer)
+    }
+}
+
+impl<S: NamedFields> ValueOrd for NamedSequence<S>
+where
+    S::List: FieldsOrd,
+{
+    fn value_cmp(&self, other: &NamedSequence<S>) -> Result<Ordering, Error> {
+        self.fields.to_list().cmp_fields(&other.fields.to_list())
+    }
+}
+
+impl<S: NamedFields> PartialEq for NamedSequence<S>
+where
+    S::List: PartialEq,
+{
+    ghost eq = { λ v w. S.List.eq (S.list_of v.fields) (S.list_of w.fields) };
+
+    ghost laws = { on_per (λ v. S.list_of v.fields) S.List.laws };
+
+    fn eq(&self, other: &NamedSequence<S>) -> bool {
+        self.fields.to_list() == other.fields.to_list()
+    }
+}
+
+impl<S: NamedFields> Eq for NamedSequence<S>
+where
+    S::List: Eq,
+{
+    ghost laws = { on_equiv (λ v. S.list_of v.fields) S.List.Eq.laws };
+}
+
+impl<S: NamedFields> ContentsEq for NamedSequence<S>
+where
+    S::List: FieldsEq,
+{
+    ghost contents_eq = { λ v w. S.List.fields_eq (S.list_of v.fields) (S.list_of w.fields) };
+}
+
+impl<S: NamedFields> DuplicateValue for NamedSequence<S>
+where
+    S::List: DuplicateFields,
+{
+    ghost is_copy_value = { λ v w. S.List.are_copies (S.list_of v.fields) (S.list_of w.fields) };
+
+    ghost takes_memory_to_copy_value = { S.List.take_memory_to_copy };
+
+    fn duplicate_value(&self) -> Result<NamedSequence<S>, Error> {
+        let list = self.fields.to_list().duplicate_fields()?;
+        let fields = S::of_list(&list);
+        Ok(NamedSequence { fields })
+    }
+
+    ghost copy_contents = { λ v w c. S.List.copy_joined (S.list_of v.fields) (S.list_of w.fields) c };
+
+    ghost copy_form_value = { λ v w x c f. S.List.copy_all_comparable (S.list_of v.fields)
+        (S.list_of w.fields) (S.list_of x.fields) c f };
+
+    ghost copy_re_reads_value = { λ v w c. S.List.copy_re_read (S.list_of v.fields)
+        (S.list_of w.fields) c };
+}
