@@ -97,7 +97,8 @@ class Builds:
     """What 'rt ci' has said so far, where it is still at work: which crates are proved and built, and whether it has ended."""
 
     PROVED = re.compile(r"^rt: (\w+) (?:proved$|is kept: )", re.M)
-    END = re.compile(r"^\d+ passed, \d+ failed", re.M)
+    # (a line of tests/all)
+    END = re.compile(r"^rt ci took \d+ seconds$", re.M)
 
     def __init__(self, log):
         self.log = log

@@ -7,11 +7,13 @@ mod rows;
 
 use crate::{
     attribute_set, common_name, contents_of_string, country, explicit_version, first_header,
-    is_before, is_within, may_sign_certificates, named_curve, number_in, read_numbers, read_policy,
-    read_policy_fields, serial_number, with_attribute, write_numbers, write_policy,
+    is_before, is_within, may_sign_certificates, named_curve, number_in, read_named_policy,
+    read_numbers, read_policy, read_policy_fields, serial_number, with_attribute,
+    write_named_policy, write_numbers, write_policy,
 };
 use der_asn1_types::asn1::{AnyRef, BitStringRef};
-use der_asn1_types::{DateTime, Error, FromDer, Length, Tag};
+use der_asn1_types::{DateTime, DerOrd, Duplicate, Error, FromDer, Length, Tag};
+use std::cmp::Ordering;
 use std::fmt::Debug;
 use std::process::Abort;
 use std::test::Fail;
@@ -112,6 +114,34 @@ fn a_policy_is_read(rt: HostRuntime) -> Result<(), Fail> {
     }
     let left_over = [0x30, 0x05, 0x06, 0x01, 0x2a, 0x05, 0x00];
     match read_policy_fields(rt.alloc(), &left_over) {
+        Ok(_) => return Err("read".into()),
+        Err(e) => same(&rt, e.kind().number(), 3),
+    }
+    Ok(())
+}
+
+#[test]
+fn a_policy_with_names_is_read(rt: HostRuntime) -> Result<(), Fail> {
+    let octets = [
+        0x30, 0x0b, 0x06, 0x02, 0x2a, 0x03, 0x04, 0x02, 0x01, 0x02, 0x80, 0x01, 0x05,
+    ];
+    match read_named_policy(rt.alloc(), &octets) {
+        Ok(policy) => {
+            holds(&rt, policy.fields.qualifier.is_some());
+            holds(&rt, policy.fields.version.is_some());
+            holds(&rt, policy == policy);
+            same(&rt, numbered(policy.der_cmp(&policy)), Ok(Ordering::Equal));
+            let written = numbered(write_named_policy(rt.alloc(), &policy))?;
+            same(&rt, written.as_slice(), octets.as_slice());
+            match policy.duplicate() {
+                Ok(copy) => holds(&rt, copy == policy),
+                Err(_) => return Err("not copied".into()),
+            }
+        }
+        Err(_) => return Err("refused".into()),
+    }
+    let left_over = [0x30, 0x05, 0x06, 0x01, 0x2a, 0x05, 0x00];
+    match read_named_policy(rt.alloc(), &left_over) {
         Ok(_) => return Err("read".into()),
         Err(e) => same(&rt, e.kind().number(), 3),
     }

@@ -1,0 +1,61 @@
+//! A SEQUENCE of one's own with names for its fields.
+
+ghost use Rattle.std.specs.Prelude.{◌≡◌, IfOk};
+ghost use Rattle.der_asn1_types.specs.Decoding.{ReadsAll};
+ghost use Rattle.der_asn1_types.specs.Listing.{field, end};
+
+use der_asn1_types::asn1::{ObjectIdentifier, OctetStringRef};
+use der_asn1_types::{
+    Encode, End, Error, Field, Form, FromDer, Implicit, NamedFields, NamedSequence,
+};
+use std::alloc::Global;
+
+/// The fields of a policy, by their names.
+#[derive(Clone, Copy, Debug)]
+pub struct PolicyMembers<'a> {
+    /// What the policy is.
+    pub identifier: ObjectIdentifier<39>,
+    /// What is said of it.
+    pub qualifier: Option<OctetStringRef<'a>>,
+    /// `[0] IMPLICIT INTEGER OPTIONAL`.
+    pub version: Option<Implicit<u8, 0>>,
+}
+
+impl<'a> NamedFields for PolicyMembers<'a> {
+    type List = Field<
+        ObjectIdentifier<39>,
+        Field<Option<OctetStringRef<'a>>, Field<Option<Implicit<u8, 0>>, End>>,
+    >;
+
+    ghost list_of = { λ v. field v.identifier (field v.qualifier (field v.version end)) };
+
+    fn of_list(list: &Self::List) -> Self {
+        PolicyMembers {
+            identifier: list.first,
+            qualifier: list.rest.first,
+            version: list.rest.rest.first,
+        }
+    }
+
+    fn to_list(&self) -> Self::List {
+        let rest = Field::new(self.qualifier, Field::new(self.version, End));
+        Field::new(self.identifier, rest)
+    }
+}
+
+/// A policy, whose fields have names.
+pub type NamedPolicy<'a> = NamedSequence<PolicyMembers<'a>>;
+
+/// Reads a policy: exactly the octets that the grammar reads as one are taken.
+pub fn read_named_policy<'a>(alloc: Global, octets: &'a [u8]) -> Result<NamedPolicy<'a>, Error>
+    ensures { ReadsAll ⟦<NamedPolicy<'a> as Form>⟧ octets.now result }
+{
+    NamedPolicy::from_der(alloc, octets)
+}
+
+/// The one encoding of a policy.
+pub fn write_named_policy<'a>(alloc: Global, policy: &NamedPolicy<'a>) -> Result<Vec<u8>, Error>
+    ensures { IfOk result (λ octets. octets.items ≡ ⟦<NamedPolicy<'a> as Form>⟧.encoding policy.now) }
+{
+    policy.to_der(alloc)
+}
