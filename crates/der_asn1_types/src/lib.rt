@@ -27,7 +27,8 @@ pub use der_elem::{
 pub use der_fields::{
     DefaultFalse, DefaultNumber, DefaultOf, End, Explicit, ExplicitApplication, ExplicitIn,
     ExplicitPrivate, Field, FieldList, FieldSequence, Implicit, ImplicitApplication, ImplicitIn,
-    ImplicitPrivate, NamedFields, NamedSequence, OneOf, WithDefault, read_sequence, write_sequence,
+    ImplicitPrivate, NamedFields, NamedSequence, OneOf, WithDefault, read_named_sequence,
+    read_sequence, write_named_sequence, write_sequence,
 };
 pub use der_nest::Asks;
 pub use der_time::{DateTime, const_contains_u8};

@@ -7,8 +7,8 @@
 //! let octets = [0x30, 0x06, 0x01, 0x01, 0xff, 0x02, 0x01, 0x03];
 //! match read_basic_constraints(rt.alloc(), &octets) {
 //!     Ok(constraints) => {
-//!         assert!(rt; constraints.fields.first.value);
-//!         assert!(rt; constraints.fields.rest.first.is_some());
+//!         assert!(rt; constraints.fields.ca);
+//!         assert!(rt; constraints.fields.path_len_constraint.is_some());
 //!     }
 //!     Err(_) => return Err("refused".into()),
 //! }
@@ -27,7 +27,9 @@ mod purposes;
 pub use authority::{
     AuthorityKeyIdentifier, read_authority_key_identifier, write_authority_key_identifier,
 };
-pub use constraints::{BasicConstraints, read_basic_constraints, write_basic_constraints};
+pub use constraints::{
+    BasicConstraints, ConstraintsFields, read_basic_constraints, write_basic_constraints,
+};
 pub use general_name::{
     GeneralName, SubjectAltName, read_general_name, read_subject_alt_name, write_general_name,
     write_subject_alt_name,

@@ -49,7 +49,7 @@ pub use field::Field;
 pub use field_list::FieldList;
 pub use field_sequence::{FieldSequence, read_sequence, write_sequence};
 pub use implicit::{Implicit, ImplicitApplication, ImplicitIn, ImplicitPrivate};
-pub use named::{NamedFields, NamedSequence};
+pub use named::{NamedFields, NamedSequence, read_named_sequence, write_named_sequence};
 pub use one_of::OneOf;
 pub use ordered::{FieldsLead, FieldsOrd};
 pub use with_default::WithDefault;

@@ -8,7 +8,9 @@
 
 ghost use Rattle.std.specs.Prelude.{◌≡◌, refl};
 ghost use Rattle.std.specs.Cmp.{on_per, on_equiv};
+ghost use Rattle.der_elem.specs.Decoding.{ReadsAll};
 ghost use Rattle.der_elem.specs.ValueForms.{held_form};
+ghost use Rattle.der_fields.specs.SequenceWriting.{WritesAll};
 
 use crate::coded::{DecodeFields, EncodeFields};
 use crate::copied::DuplicateFields;
@@ -16,10 +18,10 @@ use crate::equal::FieldsEq;
 use crate::field_list::FieldList;
 use crate::ordered::FieldsOrd;
 use der_elem::{
-    ContentsEq, DecodeValue, DuplicateValue, EncodeValue, FormValue, OneTag, Sequence, SequenceTag,
-    ValueOrd,
+    ContentsEq, DecodeValue, DuplicateValue, Encode, EncodeValue, Form, FormValue, FromDer, OneTag,
+    Sequence, SequenceTag, ValueOrd,
 };
-use der_tlv::{Error, Header, Length, Reader, Writer};
+use der_tlv::{Error, Header, Length, Reader, SliceReader, Writer};
 use std::alloc::Global;
 use std::cmp::Ordering;
 
@@ -154,4 +156,41 @@ where
 
     ghost copy_re_reads_value = { λ v w c. S.List.copy_re_read (S.list_of v.fields)
         (S.list_of w.fields) c };
+}
+
+/// Reads a SEQUENCE with these fields: all of the octets, under DER.
+///
+/// It is `from_der`, proved once for every struct of fields, so that a call is checked sooner.
+///
+/// # Errors
+/// The first fault of the octets, in the order of the fields; `ErrorKind::TrailingData` (3) where
+/// octets are left over; `ErrorKind::Overflow` (9) where there are more than 4294967295;
+/// `ErrorKind::Memory` (1) where a type that takes memory has none.
+pub fn read_named_sequence<'a, S: NamedFields>(
+    alloc: Global,
+    bytes: &'a [u8],
+) -> Result<NamedSequence<S>, Error>
+where
+    S::List: DecodeFields<'a, SliceReader<'a>>,
+    ensures { ReadsAll ⟦<NamedSequence<S> as Form>⟧ bytes.now result }
+{
+    NamedSequence::<S>::from_der(alloc, bytes)
+}
+
+/// The one encoding of a SEQUENCE with these fields.
+///
+/// It is `to_der`, proved once for every struct of fields.
+///
+/// # Errors
+/// `ErrorKind::Memory` (1) where memory runs out; `ErrorKind::Overflow` (9) where there are more
+/// than 4294967295 octets.
+pub fn write_named_sequence<S: NamedFields>(
+    alloc: Global,
+    value: &NamedSequence<S>,
+) -> Result<Vec<u8>, Error>
+where
+    S::List: EncodeFields,
+    ensures { WritesAll ⟦<NamedSequence<S> as Form>⟧ value.now result }
+{
+    value.to_der(alloc)
 }

@@ -215,12 +215,12 @@ plain_values name =
     if bytes_eq name (codes "keyusage") then Some (canonical_tagged BitString parse_bit_string)
     else if bytes_eq name (codes "extkeyusage") then Some (canonical_tagged Sequence (parse_items identifier))
     else if bytes_eq name (codes "subjectkeyid") then Some (canonical_tagged OctetString parse_octets)
+    else if bytes_eq name (codes "basicconstraints") then Some (canonical_tagged Sequence constraints_fields)
     else None
 
 unfoldable pub field_values : Table
 field_values name =
-    if bytes_eq name (codes "basicconstraints") then Some (canonical_tagged Sequence constraints_fields)
-    else if bytes_eq name (codes "authoritykeyid") then Some (canonical_tagged Sequence authority_fields)
+    if bytes_eq name (codes "authoritykeyid") then Some (canonical_tagged Sequence authority_fields)
     else None
 
 unfoldable pub name_values : Table

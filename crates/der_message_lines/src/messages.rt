@@ -134,6 +134,7 @@ fn put_plain_value(
         "keyusage" => KeyUsage,
         "extkeyusage" => ExtKeyUsage,
         "subjectkeyid" => SubjectKeyIdentifier,
+        "basicconstraints" => BasicConstraints,
     }
 }
 
@@ -148,7 +149,6 @@ fn put_field_value(
 {
     choose_sequence! {
         alloc, name, octets, encoding;
-        "basicconstraints" => BasicConstraints,
         "authoritykeyid" => AuthorityKeyIdentifier,
     }
 }

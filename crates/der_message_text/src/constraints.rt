@@ -16,12 +16,12 @@ pub fn push_constraints(alloc: Global, text: &mut String, octets: &[u8]) -> Resu
 }
 
 fn push_authority(text: &mut String, constraints: &BasicConstraints<'_>) -> Result<(), AllocError> {
-    if constraints.fields.first.value {
+    if constraints.fields.ca {
         text.push_str("CA")?;
     } else {
         text.push_str("no CA")?;
     }
-    match constraints.fields.rest.first {
+    match constraints.fields.path_len_constraint {
         Some(length) => push_path_length(text, length.as_bytes()),
         None => Ok(()),
     }

@@ -15,7 +15,7 @@ pub fn push_validity(
     site: &Site,
     validity: &Validity,
 ) -> Result<(), AllocError> {
-    let (begin, end) = (&validity.fields.first, &validity.fields.rest.first);
+    let (begin, end) = (&validity.fields.not_before, &validity.fields.not_after);
     push_moment(text, &site.field(octets, "notBefore"), "not before", begin)?;
     push_moment(text, &site.field(octets, "notAfter"), "not after", end)
 }

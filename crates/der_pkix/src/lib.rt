@@ -52,4 +52,6 @@ pub use name::{
     write_relative_distinguished_name,
 };
 pub use rsa::{RsaPrivateKey, read_rsa_private_key, write_rsa_private_key};
-pub use time::{Time, Validity, read_time, read_validity, write_time, write_validity};
+pub use time::{
+    Time, Validity, ValidityFields, read_time, read_validity, write_time, write_validity,
+};

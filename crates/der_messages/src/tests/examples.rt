@@ -35,8 +35,8 @@ fn der_extensions(rt: HostRuntime) -> Result<(), Fail> {
     let octets = [0x30, 0x06, 0x01, 0x01, 0xff, 0x02, 0x01, 0x03];
     match read_basic_constraints(rt.alloc(), &octets) {
         Ok(constraints) => {
-            assert!(rt; constraints.fields.first.value);
-            assert!(rt; constraints.fields.rest.first.is_some());
+            assert!(rt; constraints.fields.ca);
+            assert!(rt; constraints.fields.path_len_constraint.is_some());
         }
         Err(_) => return Err("refused".into()),
     }
