@@ -1,5 +1,5 @@
 -- The laws of types of which each value is read from its own contents octets alone.
-use Rattle.std.proofs.Common.{◌≡◌, ℕ, List, length, Bool, true, false, Ok, refl, sym, ap, ◌∙◌, IsTrue, ◌↔◌, Decides}
+use Rattle.std.proofs.Common.{◌≡◌, ℕ, List, length, Bool, Ok, refl, sym, ap, ◌∙◌, IsTrue, ◌↔◌, Decides}
 use Rattle.der_tlv.specs.declared.encoding_rules.EncodingRules.{EncodingRules}
 use Rattle.der_elem.specs.Parsing.{ContentsParse}
 use Rattle.der_elem.specs.Accepting.{Fits}
