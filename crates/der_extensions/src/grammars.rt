@@ -3,7 +3,7 @@
 ghost use Rattle.der_elem.specs.declared.form.Form as form;
 
 use crate::authority::AuthorityKeyIdentifier;
-use crate::constraints::BasicConstraints;
+use crate::basic_constraints::BasicConstraints;
 use crate::general_name::{GeneralName, SubjectAltName};
 use crate::key_identifier::SubjectKeyIdentifier;
 use crate::key_usage::KeyUsage;

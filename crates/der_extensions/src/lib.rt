@@ -16,6 +16,7 @@
 #![tactic(auto)]
 
 mod authority;
+mod basic_constraints;
 mod constraints;
 mod general_name;
 mod grammars;
@@ -27,9 +28,8 @@ mod purposes;
 pub use authority::{
     AuthorityKeyIdentifier, read_authority_key_identifier, write_authority_key_identifier,
 };
-pub use constraints::{
-    BasicConstraints, ConstraintsFields, read_basic_constraints, write_basic_constraints,
-};
+pub use basic_constraints::{BasicConstraints, ConstraintsFields};
+pub use constraints::{read_basic_constraints, write_basic_constraints};
 pub use general_name::{
     GeneralName, SubjectAltName, read_general_name, read_subject_alt_name, write_general_name,
     write_subject_alt_name,

@@ -10,7 +10,8 @@ use crate::extensions::Extensions;
 use crate::keys::{EcPrivateKey, PrivateKeyInfo, RsaPublicKey};
 use crate::name::{Name, RelativeDistinguishedName};
 use crate::rsa::RsaPrivateKey;
-use crate::time::{Time, Validity};
+use crate::time::Time;
+use crate::validity::Validity;
 use der_elem::Form;
 
 /// A message: a type whose grammar has a name.

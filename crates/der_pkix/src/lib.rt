@@ -29,6 +29,7 @@ mod keys;
 mod name;
 mod rsa;
 mod time;
+mod validity;
 
 pub use algorithm::{
     SubjectPublicKeyInfo, read_algorithm_identifier, read_subject_public_key_info,
@@ -52,6 +53,5 @@ pub use name::{
     write_relative_distinguished_name,
 };
 pub use rsa::{RsaPrivateKey, read_rsa_private_key, write_rsa_private_key};
-pub use time::{
-    Time, Validity, ValidityFields, read_time, read_validity, write_time, write_validity,
-};
+pub use time::{Time, read_time, read_validity, write_time, write_validity};
+pub use validity::{Validity, ValidityFields};

@@ -1,14 +1,13 @@
-//! Times, and the time in which a certificate is valid (RFC 5280 section 4.1.2.5).
+//! Times, and reading and writing of the time in which a certificate is valid (RFC 5280 section
+//! 4.1.2.5).
 
 ghost use Rattle.der_elem.specs.Decoding.{ReadsAll};
-ghost use Rattle.der_fields.specs.Listing.{field, end};
 ghost use Rattle.der_fields.specs.SequenceWriting.{WritesAll};
 ghost use Rattle.der_pkix.specs.Grammars.{time, validity};
 
+use crate::validity::Validity;
 use der_elem::{Encode, FromDer};
-use der_fields::{
-    End, Field, NamedFields, NamedSequence, OneOf, read_named_sequence, write_named_sequence,
-};
+use der_fields::{OneOf, read_named_sequence, write_named_sequence};
 use der_time::{GeneralizedTime, UtcTime};
 use der_tlv::Error;
 use std::alloc::Global;
@@ -22,39 +21,6 @@ use std::alloc::Global;
 /// RFC 5280 has the years to 2049 as UTCTime, and those from 2050 on as GeneralizedTime; a year that
 /// either type has is read in either.
 pub type Time = OneOf<UtcTime, GeneralizedTime>;
-
-/// The fields of a `Validity`.
-#[derive(Clone, Copy, Debug)]
-pub struct ValidityFields {
-    /// `notBefore`: the first second in which a certificate is valid.
-    pub not_before: Time,
-    /// `notAfter`: the last.
-    pub not_after: Time,
-}
-
-impl NamedFields for ValidityFields {
-    type List = Field<Time, Field<Time, End>>;
-
-    ghost list_of = { λ v. field v.not_before (field v.not_after end) };
-
-    fn of_list(list: &Self::List) -> Self {
-        ValidityFields {
-            not_before: list.first,
-            not_after: list.rest.first,
-        }
-    }
-
-    fn to_list(&self) -> Self::List {
-        Field::new(self.not_before, Field::new(self.not_after, End))
-    }
-}
-
-/// ```text
-/// Validity ::= SEQUENCE {
-///     notBefore  Time,
-///     notAfter   Time }
-/// ```
-pub type Validity = NamedSequence<ValidityFields>;
 
 /// Reads a time: all of the octets, under DER.
 ///

@@ -1,0 +1,41 @@
+//! The value of the extension basicConstraints (RFC 5280 section 4.2.1.9).
+
+ghost use Rattle.std.specs.Prelude.{◌≡◌};
+ghost use Rattle.der_fields.specs.Listing.{field, end, with_default};
+
+use der_fields::{DefaultFalse, End, Field, NamedFields, NamedSequence, WithDefault};
+use der_numbers::UintRef;
+
+/// The fields of `BasicConstraints`.
+#[derive(Clone, Copy, Debug)]
+pub struct ConstraintsFields<'a> {
+    /// `cA`: whether the key may sign certificates.
+    pub ca: bool,
+    /// `pathLenConstraint`: how many certificates of authorities may follow.
+    pub path_len_constraint: Option<UintRef<'a>>,
+}
+
+impl<'a> NamedFields for ConstraintsFields<'a> {
+    type List = Field<WithDefault<bool, DefaultFalse>, Field<Option<UintRef<'a>>, End>>;
+
+    ghost list_of = { λ v. field (with_default v.ca) (field v.path_len_constraint end) };
+
+    fn of_list(list: &Self::List) -> Self {
+        ConstraintsFields {
+            ca: list.first.value,
+            path_len_constraint: list.rest.first,
+        }
+    }
+
+    fn to_list(&self) -> Self::List {
+        let rest = Field::new(self.path_len_constraint, End);
+        Field::new(WithDefault::new(self.ca), rest)
+    }
+}
+
+/// ```text
+/// BasicConstraints ::= SEQUENCE {
+///     cA                 BOOLEAN DEFAULT FALSE,
+///     pathLenConstraint  INTEGER (0..MAX) OPTIONAL }
+/// ```
+pub type BasicConstraints<'a> = NamedSequence<ConstraintsFields<'a>>;

@@ -1,0 +1,40 @@
+//! The time in which a certificate is valid (RFC 5280 section 4.1.2.5).
+
+ghost use Rattle.std.specs.Prelude.{◌≡◌};
+ghost use Rattle.der_fields.specs.Listing.{field, end};
+
+use crate::time::Time;
+use der_fields::{End, Field, NamedFields, NamedSequence};
+
+/// The fields of a `Validity`.
+#[derive(Clone, Copy, Debug)]
+pub struct ValidityFields {
+    /// `notBefore`: the first second in which a certificate is valid.
+    pub not_before: Time,
+    /// `notAfter`: the last.
+    pub not_after: Time,
+}
+
+impl NamedFields for ValidityFields {
+    type List = Field<Time, Field<Time, End>>;
+
+    ghost list_of = { λ v. field v.not_before (field v.not_after end) };
+
+    fn of_list(list: &Self::List) -> Self {
+        ValidityFields {
+            not_before: list.first,
+            not_after: list.rest.first,
+        }
+    }
+
+    fn to_list(&self) -> Self::List {
+        Field::new(self.not_before, Field::new(self.not_after, End))
+    }
+}
+
+/// ```text
+/// Validity ::= SEQUENCE {
+///     notBefore  Time,
+///     notAfter   Time }
+/// ```
+pub type Validity = NamedSequence<ValidityFields>;
