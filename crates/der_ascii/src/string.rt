@@ -23,7 +23,7 @@ use der_elem::{
     ContentsEq, DecodeValue, DuplicateValue, EncodeValue, FormValue, OneTag, OrdIsValueOrd, Tagged,
 };
 use der_opaque::AnyRef;
-use der_tlv::{Error, Header, Length, Reader, Writer};
+use der_tlv::{Error, Header, Length, Reader, Source, Writer};
 use std::alloc::{AllocError, Global};
 use std::fmt;
 
@@ -126,7 +126,7 @@ impl<const NUMBER: u8> OneTag for CharacterString<NUMBER> {
     type Marker = CharacterStringTag<NUMBER>;
 }
 
-impl<'a, R: Reader<'a>, const NUMBER: u8> DecodeValue<'a, R> for CharacterString<NUMBER> {
+impl<'a, R: Source<'a>, const NUMBER: u8> DecodeValue<'a, R> for CharacterString<NUMBER> {
     ghost VALUE_NEEDS_MEMORY = { true };
 
     const VALUE_NEEDS_MEMORY: bool = true;

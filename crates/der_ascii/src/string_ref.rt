@@ -20,7 +20,7 @@ use der_elem::{
     Tagged,
 };
 use der_opaque::{Any, AnyRef};
-use der_tlv::{Error, Header, Length, Reader, Writer};
+use der_tlv::{Error, Header, Length, Reader, Source, Writer};
 use std::alloc::Global;
 use std::fmt;
 
@@ -118,7 +118,7 @@ impl<'a, const NUMBER: u8> OneTag for CharacterStringRef<'a, NUMBER> {
     type Marker = CharacterStringTag<NUMBER>;
 }
 
-impl<'a, R: Reader<'a>, const NUMBER: u8> DecodeValue<'a, R> for CharacterStringRef<'a, NUMBER> {
+impl<'a, R: Source<'a>, const NUMBER: u8> DecodeValue<'a, R> for CharacterStringRef<'a, NUMBER> {
     ghost VALUE_NEEDS_MEMORY = { false };
 
     const VALUE_NEEDS_MEMORY: bool = false;

@@ -33,7 +33,7 @@ pub use der_fields::{
 pub use der_nest::Asks;
 pub use der_time::{DateTime, const_contains_u8};
 pub use der_tlv::{
-    BytesOwned, BytesRef, Class, EncodingRules, Error, ErrorKind, Header, Length, Reader,
-    SliceReader, SliceWriter, Tag, TagMode, TagNumber, VecWriter, Writer,
+    BytesOwned, BytesRef, Class, Cursor, EncodingRules, Error, ErrorKind, Header, Length, Reader,
+    SliceReader, SliceWriter, Source, Tag, TagMode, TagNumber, VecWriter, Writer,
 };
 pub use der_wrap::{TaggedValue, TaggedValueRef};

@@ -25,7 +25,7 @@ use crate::unused_bits::{are_zero, can_be_unused, clear};
 use der_elem::{
     BitStringTag, ContentsEq, DecodeValue, DuplicateValue, EncodeValue, FormValue, OneTag, ValueOrd,
 };
-use der_tlv::{Error, Header, Length, Reader, Tag, Writer};
+use der_tlv::{Error, Header, Length, Reader, Source, Tag, Writer};
 use std::alloc::{AllocError, Global};
 use std::cmp::Ordering;
 
@@ -210,7 +210,7 @@ impl OneTag for BitString {
     type Marker = BitStringTag;
 }
 
-impl<'a, R: Reader<'a>> DecodeValue<'a, R> for BitString {
+impl<'a, R: Source<'a>> DecodeValue<'a, R> for BitString {
     ghost VALUE_NEEDS_MEMORY = { true };
 
     const VALUE_NEEDS_MEMORY: bool = true;

@@ -30,7 +30,7 @@ use der_elem::{
     Tagged, ValueOrd,
 };
 use der_opaque::{Any, AnyRef};
-use der_tlv::{Error, ErrorKind, Header, Length, Reader, Tag, Writer};
+use der_tlv::{Error, ErrorKind, Header, Length, Reader, Source, Tag, Writer};
 use std::alloc::Global;
 use std::cmp::Ordering;
 
@@ -226,7 +226,7 @@ impl<'a> OneTag for BitStringRef<'a> {
     type Marker = BitStringTag;
 }
 
-impl<'a, R: Reader<'a>> DecodeValue<'a, R> for BitStringRef<'a> {
+impl<'a, R: Source<'a>> DecodeValue<'a, R> for BitStringRef<'a> {
     ghost VALUE_NEEDS_MEMORY = { false };
 
     const VALUE_NEEDS_MEMORY: bool = false;

@@ -7,7 +7,7 @@ use crate::subject::Subject;
 use der_fields::{DecodeFields, EncodeFields, Field, FieldList};
 use der_opaque::AnyRef;
 use der_pkix::AlgorithmIdentifier;
-use der_tlv::{Error, Length, Reader, Writer};
+use der_tlv::{Error, Length, Source, Writer};
 use std::alloc::Global;
 
 /// The list of the fields from the signature on.
@@ -24,7 +24,7 @@ impl<'a> FieldList for Issuer<'a> {
     ghost list = { part_of (λ v. v.fields) ⟦<IssuerFields<'a> as FieldList>⟧.list };
 }
 
-impl<'a, R: Reader<'a>> DecodeFields<'a, R> for Issuer<'a> {
+impl<'a, R: Source<'a>> DecodeFields<'a, R> for Issuer<'a> {
     ghost FIELDS_NEED_MEMORY = { true };
 
     const FIELDS_NEED_MEMORY: bool = true;

@@ -6,7 +6,7 @@ ghost use Rattle.der_fields.specs.FieldForms.{part_of};
 use der_bits::BitStringRef;
 use der_fields::{DecodeFields, EncodeFields, End, Explicit, Field, FieldList, Implicit};
 use der_pkix::Extension;
-use der_tlv::{Error, Length, Reader, Writer};
+use der_tlv::{Error, Length, Source, Writer};
 use std::alloc::Global;
 
 /// The list of the unique identifiers and the extensions.
@@ -29,7 +29,7 @@ impl<'a> FieldList for Last<'a> {
     ghost list = { part_of (λ v. v.fields) ⟦<LastFields<'a> as FieldList>⟧.list };
 }
 
-impl<'a, R: Reader<'a>> DecodeFields<'a, R> for Last<'a> {
+impl<'a, R: Source<'a>> DecodeFields<'a, R> for Last<'a> {
     ghost FIELDS_NEED_MEMORY = { true };
 
     const FIELDS_NEED_MEMORY: bool = true;

@@ -7,7 +7,7 @@ use crate::last::Last;
 use der_fields::{DecodeFields, EncodeFields, Field, FieldList};
 use der_opaque::AnyRef;
 use der_pkix::{SubjectPublicKeyInfo, Validity};
-use der_tlv::{Error, Length, Reader, Writer};
+use der_tlv::{Error, Length, Source, Writer};
 use std::alloc::Global;
 
 /// The list of the fields from the validity on.
@@ -27,7 +27,7 @@ impl<'a> FieldList for Subject<'a> {
     ghost list = { part_of (λ v. v.fields) ⟦<SubjectFields<'a> as FieldList>⟧.list };
 }
 
-impl<'a, R: Reader<'a>> DecodeFields<'a, R> for Subject<'a> {
+impl<'a, R: Source<'a>> DecodeFields<'a, R> for Subject<'a> {
     ghost FIELDS_NEED_MEMORY = { true };
 
     const FIELDS_NEED_MEMORY: bool = true;

@@ -28,7 +28,7 @@ use crate::readiness::check_ready;
 use crate::sequence::Sequence;
 use crate::tag::{Choice, Tagged};
 use crate::universal_tags::SequenceTag;
-use der_tlv::{Error, ErrorKind, Header, Length, Reader, Tag, Writer};
+use der_tlv::{Error, ErrorKind, Header, Length, Reader, Source, Tag, Writer};
 use std::alloc::Global;
 use std::cmp::Ordering;
 
@@ -80,7 +80,7 @@ impl<T: EncodingEq + Tagged, const N: usize> ContentsEq for [T; N] {
         T.encoding_eq };
 }
 
-impl<'a, R: Reader<'a>, T: Decode<'a, R> + Choice + Copy, const N: usize> DecodeValue<'a, R>
+impl<'a, R: Source<'a>, T: Decode<'a, R> + Choice + Copy, const N: usize> DecodeValue<'a, R>
     for [T; N] {
     ghost VALUE_NEEDS_MEMORY = { T.NEEDS_MEMORY };
 
@@ -110,7 +110,7 @@ impl<T: Form + Copy, const N: usize> CopyIsDuplicate for [T; N] {}
 ///
 /// # Errors
 /// `ErrorKind::Length` (7) where there is none; the item's.
-fn decode_item<'a, R: Reader<'a>, T: Decode<'a, R>>(
+fn decode_item<'a, R: Source<'a>, T: Decode<'a, R>>(
     alloc: Global,
     reader: &mut R,
 ) -> Result<T, Error>
@@ -126,7 +126,7 @@ fn decode_item<'a, R: Reader<'a>, T: Decode<'a, R>>(
 ///
 /// # Errors
 /// The item's; `ErrorKind::Overlength` (10) for an item.
-fn refuse_item<'a, R: Reader<'a>, T: Decode<'a, R>>(
+fn refuse_item<'a, R: Source<'a>, T: Decode<'a, R>>(
     alloc: Global,
     reader: &mut R,
 ) -> Result<(), Error>

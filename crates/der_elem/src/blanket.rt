@@ -5,11 +5,11 @@ use crate::encode::{Encode, EncodeValue};
 use crate::fixed_tag::{OneTag, TagMarker};
 use crate::ord::{DerOrd, ValueOrd};
 use crate::tag::Tagged;
-use der_tlv::{Error, Header, Length, Reader, SliceReader, VecWriter, Writer};
+use der_tlv::{Error, Header, Length, Reader, SliceReader, Source, VecWriter, Writer};
 use std::alloc::Global;
 use std::cmp::Ordering;
 
-impl<'a, R: Reader<'a>, T: DecodeValue<'a, R> + OneTag> Decode<'a, R> for T {
+impl<'a, R: Source<'a>, T: DecodeValue<'a, R> + OneTag> Decode<'a, R> for T {
     ghost NEEDS_MEMORY = { T.VALUE_NEEDS_MEMORY };
 
     const NEEDS_MEMORY: bool = T::VALUE_NEEDS_MEMORY;

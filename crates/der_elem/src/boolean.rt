@@ -22,7 +22,7 @@ use crate::fixed_tag::OneTag;
 use crate::form::FormValue;
 use crate::ord::OrdIsValueOrd;
 use crate::universal_tags::BooleanTag;
-use der_tlv::{Error, ErrorKind, Header, Length, Reader, Tag, Writer};
+use der_tlv::{Error, ErrorKind, Header, Length, Reader, Source, Tag, Writer};
 use std::alloc::Global;
 
 /// The truth value that contents octets represent, under DER: 00 is false, FF is true.
@@ -49,7 +49,7 @@ impl OneTag for bool {
     type Marker = BooleanTag;
 }
 
-impl<'a, R: Reader<'a>> DecodeValue<'a, R> for bool {
+impl<'a, R: Source<'a>> DecodeValue<'a, R> for bool {
     ghost VALUE_NEEDS_MEMORY = { false };
 
     const VALUE_NEEDS_MEMORY: bool = false;

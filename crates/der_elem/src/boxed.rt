@@ -12,7 +12,7 @@ use crate::equality::ContentsEq;
 use crate::fixed_tag::OneTag;
 use crate::form::FormValue;
 use crate::sequence::Sequence;
-use der_tlv::{Error, ErrorKind, Header, Length, Reader, Writer};
+use der_tlv::{Error, ErrorKind, Header, Length, Reader, Source, Writer};
 use std::alloc::Global;
 
 impl<T: OneTag> OneTag for Box<T> {
@@ -27,7 +27,7 @@ impl<T: FormValue> FormValue for Box<T> {
     ghost value = { owning (record (held_form (λ v. v.value) T.value) { has_tag = λ v. T.value.has_tag v.value }) };
 }
 
-impl<'a, R: Reader<'a>, T: DecodeValue<'a, R>> DecodeValue<'a, R> for Box<T> {
+impl<'a, R: Source<'a>, T: DecodeValue<'a, R>> DecodeValue<'a, R> for Box<T> {
     ghost VALUE_NEEDS_MEMORY = { true };
 
     const VALUE_NEEDS_MEMORY: bool = true;

@@ -6,11 +6,11 @@ ghost use Rattle.der_tlv.specs.Reading.{Stands};
 ghost use Rattle.der_elem.specs.Decoding.{Decodes, DecodesValue, ReadsAll};
 
 use crate::form::{Form, FormValue};
-use der_tlv::{Error, Header, Reader, SliceReader};
+use der_tlv::{Error, Header, SliceReader, Source};
 use std::alloc::Global;
 
 /// Reading a value from its contents octets.
-pub trait DecodeValue<'a, R: Reader<'a>>: FormValue {
+pub trait DecodeValue<'a, R: Source<'a>>: FormValue {
     ghost VALUE_NEEDS_MEMORY: { Bool };
 
     /// Whether reading the contents octets takes memory.
@@ -33,7 +33,7 @@ pub trait DecodeValue<'a, R: Reader<'a>>: FormValue {
 }
 
 /// Reading a value from its encoding.
-pub trait Decode<'a, R: Reader<'a>>: Form {
+pub trait Decode<'a, R: Source<'a>>: Form {
     ghost NEEDS_MEMORY: { Bool };
 
     /// Whether reading the encoding takes memory.

@@ -16,12 +16,12 @@ use crate::fixed_tag::OneTag;
 use crate::form::Form;
 use crate::readiness::check_ready;
 use crate::tag::{Choice, Tagged};
-use der_tlv::{Error, Reader, Tag};
+use der_tlv::{Error, Reader, Source, Tag};
 use std::alloc::Global;
 
 /// Reading a field, which is told from what follows it: an absent one stands only at the end, or
 /// before a tag that is none of its.
-pub trait DecodeField<'a, R: Reader<'a>>: Form {
+pub trait DecodeField<'a, R: Source<'a>>: Form {
     ghost FIELD_NEEDS_MEMORY: { Bool };
 
     /// Whether reading the field takes memory.
@@ -38,7 +38,7 @@ pub trait DecodeField<'a, R: Reader<'a>>: Form {
     ghost memory_of_field: { Self.FIELD_NEEDS_MEMORY ≡ Self.TAKES_MEMORY };
 }
 
-impl<'a, R: Reader<'a>, T: DecodeValue<'a, R> + OneTag> DecodeField<'a, R> for T {
+impl<'a, R: Source<'a>, T: DecodeValue<'a, R> + OneTag> DecodeField<'a, R> for T {
     ghost FIELD_NEEDS_MEMORY = { T.VALUE_NEEDS_MEMORY };
 
     const FIELD_NEEDS_MEMORY: bool = T::VALUE_NEEDS_MEMORY;
@@ -50,7 +50,7 @@ impl<'a, R: Reader<'a>, T: DecodeValue<'a, R> + OneTag> DecodeField<'a, R> for T
     ghost memory_of_field = { T.memory_of_value };
 }
 
-impl<'a, R: Reader<'a>, T: Decode<'a, R> + Choice> DecodeField<'a, R> for Option<T> {
+impl<'a, R: Source<'a>, T: Decode<'a, R> + Choice> DecodeField<'a, R> for Option<T> {
     ghost FIELD_NEEDS_MEMORY = { T.NEEDS_MEMORY };
 
     const FIELD_NEEDS_MEMORY: bool = T::NEEDS_MEMORY;

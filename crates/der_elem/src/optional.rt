@@ -18,7 +18,7 @@ use crate::form::Form;
 use crate::ord::DerOrd;
 use crate::readiness::check_ready;
 use crate::tag::{Choice, Tagged};
-use der_tlv::{Error, Length, Reader, Tag, Writer};
+use der_tlv::{Error, Length, Reader, Source, Tag, Writer};
 use std::alloc::Global;
 use std::cmp::Ordering;
 
@@ -58,7 +58,7 @@ impl<T: Form> Form for Option<T> {
     ghost re_reads_memory = { re_reads_option T.Form };
 }
 
-impl<'a, R: Reader<'a>, T: Decode<'a, R> + Choice> Decode<'a, R> for Option<T> {
+impl<'a, R: Source<'a>, T: Decode<'a, R> + Choice> Decode<'a, R> for Option<T> {
     ghost NEEDS_MEMORY = { T.NEEDS_MEMORY };
 
     const NEEDS_MEMORY: bool = T::NEEDS_MEMORY;

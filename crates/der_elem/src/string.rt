@@ -24,7 +24,7 @@ use crate::form::FormValue;
 use crate::ord::OrdIsValueOrd;
 use crate::universal_tags::Utf8StringTag;
 use crate::utf8_text::text_of;
-use der_tlv::{Error, ErrorKind, Header, Length, Reader, Writer};
+use der_tlv::{Error, ErrorKind, Header, Length, Reader, Source, Writer};
 use std::alloc::Global;
 
 impl FormValue for String {
@@ -35,7 +35,7 @@ impl OneTag for String {
     type Marker = Utf8StringTag;
 }
 
-impl<'a, R: Reader<'a>> DecodeValue<'a, R> for String {
+impl<'a, R: Source<'a>> DecodeValue<'a, R> for String {
     ghost VALUE_NEEDS_MEMORY = { true };
 
     const VALUE_NEEDS_MEMORY: bool = true;

@@ -18,7 +18,7 @@ use crate::equality::ContentsEq;
 use crate::fixed_tag::OneTag;
 use crate::form::FormValue;
 use crate::universal_tags::NullTag;
-use der_tlv::{Error, ErrorKind, Header, Length, Reader, Tag, Writer};
+use der_tlv::{Error, ErrorKind, Header, Length, Reader, Source, Tag, Writer};
 use std::alloc::Global;
 
 /// Checks that there are no contents octets.
@@ -42,7 +42,7 @@ impl OneTag for () {
     type Marker = NullTag;
 }
 
-impl<'a, R: Reader<'a>> DecodeValue<'a, R> for () {
+impl<'a, R: Source<'a>> DecodeValue<'a, R> for () {
     ghost VALUE_NEEDS_MEMORY = { false };
 
     const VALUE_NEEDS_MEMORY: bool = false;

@@ -26,7 +26,7 @@ use crate::readiness::check_ready;
 use crate::sequence::Sequence;
 use crate::tag::{Choice, Tagged};
 use crate::universal_tags::SequenceTag;
-use der_tlv::{Error, ErrorKind, Header, Length, Reader, Writer};
+use der_tlv::{Error, ErrorKind, Header, Length, Reader, Source, Writer};
 use std::alloc::Global;
 use std::cmp::Ordering;
 
@@ -57,7 +57,7 @@ impl<T: Form> FormValue for Vec<T> {
     } };
 }
 
-impl<'a, R: Reader<'a>, T: Decode<'a, R> + Choice> DecodeValue<'a, R> for Vec<T> {
+impl<'a, R: Source<'a>, T: Decode<'a, R> + Choice> DecodeValue<'a, R> for Vec<T> {
     ghost VALUE_NEEDS_MEMORY = { true };
 
     const VALUE_NEEDS_MEMORY: bool = true;

@@ -26,7 +26,7 @@ use der_elem::{
     ValueOrd,
 };
 use der_opaque::AnyRef;
-use der_tlv::{Error, Length, Reader, Tag, TagNumber, Writer};
+use der_tlv::{Error, Length, Reader, Source, Tag, TagNumber, Writer};
 use std::alloc::Global;
 use std::cmp::Ordering;
 
@@ -176,7 +176,7 @@ impl<'a> Choice for KeptName<'a> {
     ghost is_led = { λ v. record { tag = tag_of v; is_tag = refl } };
 }
 
-impl<'a, R: Reader<'a>> Decode<'a, R> for KeptName<'a> {
+impl<'a, R: Source<'a>> Decode<'a, R> for KeptName<'a> {
     ghost NEEDS_MEMORY = { false };
 
     const NEEDS_MEMORY: bool = false;
@@ -195,7 +195,7 @@ impl<'a, R: Reader<'a>> Decode<'a, R> for KeptName<'a> {
     ghost memory_of_form = { refl };
 }
 
-impl<'a, R: Reader<'a>> DecodeField<'a, R> for KeptName<'a> {
+impl<'a, R: Source<'a>> DecodeField<'a, R> for KeptName<'a> {
     ghost FIELD_NEEDS_MEMORY = { false };
 
     const FIELD_NEEDS_MEMORY: bool = false;

@@ -5,11 +5,11 @@ ghost use Rattle.der_elem.specs.Encoding.{Encodes, Measures};
 ghost use Rattle.der_fields.specs.FieldsDecoding.{DecodesFields};
 
 use crate::field_list::FieldList;
-use der_tlv::{Error, Length, Reader, Writer};
+use der_tlv::{Error, Length, Source, Writer};
 use std::alloc::Global;
 
 /// Reading fields from all of the octets that a reader shows.
-pub trait DecodeFields<'a, R: Reader<'a>>: FieldList {
+pub trait DecodeFields<'a, R: Source<'a>>: FieldList {
     ghost FIELDS_NEED_MEMORY: { Bool };
 
     /// Whether reading the fields takes memory.

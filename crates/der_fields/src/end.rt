@@ -12,7 +12,7 @@ use crate::field_list::FieldList;
 use crate::ordered::{FieldsLead, FieldsOrd};
 use crate::soundness::is_sound;
 use der_elem::check_ready;
-use der_tlv::{Error, ErrorKind, Length, Reader, Tag, Writer};
+use der_tlv::{Error, ErrorKind, Length, Reader, Source, Tag, Writer};
 use std::alloc::Global;
 use std::cmp::Ordering;
 
@@ -24,7 +24,7 @@ impl FieldList for End {
     ghost list = { end_list };
 }
 
-impl<'a, R: Reader<'a>> DecodeFields<'a, R> for End {
+impl<'a, R: Source<'a>> DecodeFields<'a, R> for End {
     ghost FIELDS_NEED_MEMORY = { false };
 
     const FIELDS_NEED_MEMORY: bool = false;

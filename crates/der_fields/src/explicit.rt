@@ -16,7 +16,7 @@ use crate::field::Field;
 use crate::field_list::FieldList;
 use crate::ordered::FieldsOrd;
 use der_elem::{ContentsEq, DecodeValue, DuplicateValue, EncodeValue, FormValue, OneTag, ValueOrd};
-use der_tlv::{Error, Header, Length, Reader, Writer};
+use der_tlv::{Error, Header, Length, Source, Writer};
 use std::alloc::Global;
 use std::cmp::Ordering;
 
@@ -45,7 +45,7 @@ impl<F: FieldList, const CLASS: u8, const NUMBER: u32> FormValue for ExplicitIn<
     ghost value = { held_form (λ v. v.fields) F.list.octets };
 }
 
-impl<'a, R: Reader<'a>, F: DecodeFields<'a, R>, const CLASS: u8, const NUMBER: u32> DecodeValue<
+impl<'a, R: Source<'a>, F: DecodeFields<'a, R>, const CLASS: u8, const NUMBER: u32> DecodeValue<
     'a,
     R,
 > for ExplicitIn<F, CLASS, NUMBER> {

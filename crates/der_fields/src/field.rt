@@ -18,7 +18,7 @@ use crate::field_list::FieldList;
 use crate::ordered::{FieldsLead, FieldsOrd, both_or_none, cmp_leads};
 use crate::soundness::is_sound;
 use der_elem::{DecodeField, DerOrd, Duplicate, Encode, EncodingEq, FirstTag, Form};
-use der_tlv::{Error, Length, Reader, Tag, Writer};
+use der_tlv::{Error, Length, Source, Tag, Writer};
 use std::alloc::Global;
 use std::cmp::Ordering;
 
@@ -44,7 +44,7 @@ impl<T: Form, Rest: FieldList> FieldList for Field<T, Rest> {
     ghost list = { field_list T.Form Rest.list };
 }
 
-impl<'a, R: Reader<'a>, T: DecodeField<'a, R>, Rest: DecodeFields<'a, R>> DecodeFields<'a, R>
+impl<'a, R: Source<'a>, T: DecodeField<'a, R>, Rest: DecodeFields<'a, R>> DecodeFields<'a, R>
     for Field<T, Rest> {
     ghost FIELDS_NEED_MEMORY = { T.FIELD_NEEDS_MEMORY || Rest.FIELDS_NEED_MEMORY };
 

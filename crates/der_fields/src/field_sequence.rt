@@ -20,7 +20,7 @@ use der_elem::{
     ContentsEq, DecodeValue, DuplicateValue, Encode, EncodeValue, Form, FormValue, FromDer, OneTag,
     Sequence, SequenceTag, ValueOrd,
 };
-use der_tlv::{Error, Header, Length, Reader, SliceReader, Writer};
+use der_tlv::{Error, Header, Length, SliceReader, Source, Writer};
 use std::alloc::Global;
 use std::cmp::Ordering;
 
@@ -43,7 +43,7 @@ impl<'a, F> Sequence<'a> for FieldSequence<F> {
     ghost is_sequence = { refl };
 }
 
-impl<'a, R: Reader<'a>, F: DecodeFields<'a, R>> DecodeValue<'a, R> for FieldSequence<F> {
+impl<'a, R: Source<'a>, F: DecodeFields<'a, R>> DecodeValue<'a, R> for FieldSequence<F> {
     ghost VALUE_NEEDS_MEMORY = { F.FIELDS_NEED_MEMORY };
 
     const VALUE_NEEDS_MEMORY: bool = F::FIELDS_NEED_MEMORY;

@@ -9,7 +9,7 @@ ghost use Rattle.der_elem.specs.ValueForms.{held_form};
 
 use crate::class_tag::ImplicitTag;
 use der_elem::{ContentsEq, DecodeValue, DuplicateValue, EncodeValue, FormValue, OneTag, ValueOrd};
-use der_tlv::{Error, Header, Length, Reader, Writer};
+use der_tlv::{Error, Header, Length, Source, Writer};
 use std::alloc::Global;
 use std::cmp::Ordering;
 
@@ -38,7 +38,7 @@ impl<T: FormValue, const CLASS: u8, const NUMBER: u32> FormValue for ImplicitIn<
     ghost value = { held_form (λ v. v.value) T.value };
 }
 
-impl<'a, R: Reader<'a>, T: DecodeValue<'a, R>, const CLASS: u8, const NUMBER: u32> DecodeValue<
+impl<'a, R: Source<'a>, T: DecodeValue<'a, R>, const CLASS: u8, const NUMBER: u32> DecodeValue<
     'a,
     R,
 > for ImplicitIn<T, CLASS, NUMBER> {

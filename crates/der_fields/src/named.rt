@@ -21,7 +21,7 @@ use der_elem::{
     ContentsEq, DecodeValue, DuplicateValue, Encode, EncodeValue, Form, FormValue, FromDer, OneTag,
     Sequence, SequenceTag, ValueOrd,
 };
-use der_tlv::{Error, Header, Length, Reader, SliceReader, Writer};
+use der_tlv::{Error, Header, Length, SliceReader, Source, Writer};
 use std::alloc::Global;
 use std::cmp::Ordering;
 
@@ -65,7 +65,7 @@ impl<'a, S> Sequence<'a> for NamedSequence<S> {
     ghost is_sequence = { refl };
 }
 
-impl<'a, R: Reader<'a>, S: NamedFields> DecodeValue<'a, R> for NamedSequence<S>
+impl<'a, R: Source<'a>, S: NamedFields> DecodeValue<'a, R> for NamedSequence<S>
 where
     S::List: DecodeFields<'a, R>,
 {

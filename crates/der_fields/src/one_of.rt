@@ -19,7 +19,7 @@ use der_elem::{
     Choice, Decode, DecodeField, DerOrd, Duplicate, EncodeValue, EncodingEq, FirstTag, Form,
     FormValue, Tagged,
 };
-use der_tlv::{Error, Length, Reader, Tag, Writer};
+use der_tlv::{Error, Length, Reader, Source, Tag, Writer};
 use std::alloc::Global;
 use std::cmp::Ordering;
 
@@ -113,7 +113,7 @@ impl<A: Choice, B: Choice> Choice for OneOf<A, B> {
     ghost is_led = { is_led_one A.lead B.lead A.is_led B.is_led };
 }
 
-impl<'a, R: Reader<'a>, A: Decode<'a, R> + Choice, B: Decode<'a, R> + Choice> Decode<'a, R>
+impl<'a, R: Source<'a>, A: Decode<'a, R> + Choice, B: Decode<'a, R> + Choice> Decode<'a, R>
     for OneOf<A, B> {
     ghost NEEDS_MEMORY = { A.NEEDS_MEMORY || B.NEEDS_MEMORY };
 
@@ -133,7 +133,7 @@ impl<'a, R: Reader<'a>, A: Decode<'a, R> + Choice, B: Decode<'a, R> + Choice> De
     ghost memory_of_form = { either_memory A.memory_of_form B.memory_of_form };
 }
 
-impl<'a, R: Reader<'a>, A: Decode<'a, R> + Choice, B: Decode<'a, R> + Choice> DecodeField<'a, R>
+impl<'a, R: Source<'a>, A: Decode<'a, R> + Choice, B: Decode<'a, R> + Choice> DecodeField<'a, R>
     for OneOf<A, B> {
     ghost FIELD_NEEDS_MEMORY = { A.NEEDS_MEMORY || B.NEEDS_MEMORY };
 

@@ -17,7 +17,7 @@ use der_elem::{
     Choice, Decode, DecodeField, DerOrd, Duplicate, Encode, EncodingEq, FirstTag, Form, Tagged,
     check_ready,
 };
-use der_tlv::{Error, Length, Reader, Tag, Writer};
+use der_tlv::{Error, Length, Reader, Source, Tag, Writer};
 use std::alloc::Global;
 use std::cmp::Ordering;
 use std::marker::PhantomData;
@@ -106,7 +106,7 @@ impl<T: Encode, D: DefaultOf<T>> Encode for WithDefault<T, D> {
     }
 }
 
-impl<'a, R: Reader<'a>, T: Decode<'a, R> + Choice, D: DefaultOf<T>> DecodeField<'a, R>
+impl<'a, R: Source<'a>, T: Decode<'a, R> + Choice, D: DefaultOf<T>> DecodeField<'a, R>
     for WithDefault<T, D> {
     ghost FIELD_NEEDS_MEMORY = { T.NEEDS_MEMORY };
 

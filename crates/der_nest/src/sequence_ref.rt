@@ -12,7 +12,7 @@ ghost use Rattle.der_opaque.specs.Opaque.{parse_octets, KeepsOctets};
 use der_elem::{
     ContentsEq, CopyIsDuplicate, DecodeValue, EncodeValue, FormValue, OneTag, Sequence, SequenceTag,
 };
-use der_tlv::{Error, Header, Length, Reader, Tag, Writer};
+use der_tlv::{Error, Header, Length, Reader, Source, Tag, Writer};
 use std::alloc::Global;
 
 /// The contents octets of a SEQUENCE, borrowed: at most 4294967295 of them.
@@ -62,7 +62,7 @@ impl<'a> Sequence<'a> for SequenceRef<'a> {
     ghost is_sequence = { refl };
 }
 
-impl<'a, R: Reader<'a>> DecodeValue<'a, R> for SequenceRef<'a> {
+impl<'a, R: Source<'a>> DecodeValue<'a, R> for SequenceRef<'a> {
     ghost VALUE_NEEDS_MEMORY = { false };
 
     const VALUE_NEEDS_MEMORY: bool = false;

@@ -34,7 +34,7 @@ use der_elem::{
     Decode, DecodeValue, DerOrd, Duplicate, DuplicateValue, Encode, EncodeValue, Form, FormValue,
     OneTag, SetTag, Tagged, ValueOrd, encode_items, items_len, read_contents,
 };
-use der_tlv::{Error, ErrorKind, Header, Length, Reader, SliceReader, Writer};
+use der_tlv::{Error, ErrorKind, Header, Length, Reader, SliceReader, Source, Writer};
 use std::alloc::{AllocError, Global};
 use std::cmp::Ordering;
 use std::marker::Model;
@@ -227,7 +227,7 @@ impl<'a, T: Form> FormValue for SetOfRef<'a, T> {
     } };
 }
 
-impl<'a, R: Reader<'a>, T: Decode<'a, SliceReader<'a>> + DerOrd + Tagged> DecodeValue<'a, R>
+impl<'a, R: Source<'a>, T: Decode<'a, SliceReader<'a>> + DerOrd + Tagged> DecodeValue<'a, R>
     for SetOfRef<'a, T> {
     ghost VALUE_NEEDS_MEMORY = { T.NEEDS_MEMORY };
 

@@ -25,7 +25,7 @@ use der_elem::{
     ContentsEq, DecodeValue, DuplicateValue, EncodeValue, FormValue, IntegerTag, OneTag,
     OrdIsValueOrd,
 };
-use der_tlv::{Error, Header, Length, Reader, Tag, VecWriter, Writer};
+use der_tlv::{Error, Header, Length, Reader, Source, Tag, VecWriter, Writer};
 use std::alloc::{AllocError, Global};
 
 /// An integer of any length: at most 4294967295 contents octets.
@@ -145,7 +145,7 @@ impl OneTag for Int {
     type Marker = IntegerTag;
 }
 
-impl<'a, R: Reader<'a>> DecodeValue<'a, R> for Int {
+impl<'a, R: Source<'a>> DecodeValue<'a, R> for Int {
     ghost VALUE_NEEDS_MEMORY = { true };
 
     const VALUE_NEEDS_MEMORY: bool = true;

@@ -21,7 +21,7 @@ use der_elem::{
     OrdIsValueOrd, Tagged,
 };
 use der_opaque::{Any, AnyRef};
-use der_tlv::{Error, ErrorKind, Header, Length, Reader, Tag, Writer};
+use der_tlv::{Error, ErrorKind, Header, Length, Reader, Source, Tag, Writer};
 use std::alloc::Global;
 
 /// An integer of any length, borrowed: at most 4294967295 contents octets.
@@ -119,7 +119,7 @@ impl<'a> OneTag for IntRef<'a> {
     type Marker = IntegerTag;
 }
 
-impl<'a, R: Reader<'a>> DecodeValue<'a, R> for IntRef<'a> {
+impl<'a, R: Source<'a>> DecodeValue<'a, R> for IntRef<'a> {
     ghost VALUE_NEEDS_MEMORY = { false };
 
     const VALUE_NEEDS_MEMORY: bool = false;

@@ -28,7 +28,7 @@ use der_elem::{
     ContentsEq, DecodeValue, DuplicateValue, EncodeValue, FormValue, IntegerTag, OneTag,
     OrdIsValueOrd,
 };
-use der_tlv::{Error, Header, Length, Reader, Writer};
+use der_tlv::{Error, Header, Length, Reader, Source, Writer};
 use std::alloc::{AllocError, Global};
 use std::cmp::Ordering;
 
@@ -129,7 +129,7 @@ impl OneTag for Uint {
     type Marker = IntegerTag;
 }
 
-impl<'a, R: Reader<'a>> DecodeValue<'a, R> for Uint {
+impl<'a, R: Source<'a>> DecodeValue<'a, R> for Uint {
     ghost VALUE_NEEDS_MEMORY = { true };
 
     const VALUE_NEEDS_MEMORY: bool = true;

@@ -26,7 +26,7 @@ use der_elem::{
     OrdIsValueOrd, Tagged,
 };
 use der_opaque::{Any, AnyRef};
-use der_tlv::{Error, ErrorKind, Header, Length, Reader, Tag, Writer};
+use der_tlv::{Error, ErrorKind, Header, Length, Reader, Source, Tag, Writer};
 use std::alloc::Global;
 use std::cmp::Ordering;
 
@@ -137,7 +137,7 @@ impl<'a> OneTag for UintRef<'a> {
     type Marker = IntegerTag;
 }
 
-impl<'a, R: Reader<'a>> DecodeValue<'a, R> for UintRef<'a> {
+impl<'a, R: Source<'a>> DecodeValue<'a, R> for UintRef<'a> {
     ghost VALUE_NEEDS_MEMORY = { false };
 
     const VALUE_NEEDS_MEMORY: bool = false;

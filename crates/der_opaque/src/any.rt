@@ -29,7 +29,8 @@ use der_elem::{
     Tagged, ValueOrd,
 };
 use der_tlv::{
-    EncodingRules, Error, ErrorKind, Header, Length, Reader, SliceReader, Tag, VecWriter, Writer,
+    EncodingRules, Error, ErrorKind, Header, Length, Reader, SliceReader, Source, Tag, VecWriter,
+    Writer,
 };
 use std::alloc::{AllocError, Global};
 use std::cmp::Ordering;
@@ -292,7 +293,7 @@ impl Choice for Any {
     ghost is_led = { λ v. record { tag = tag_of v; is_tag = refl } };
 }
 
-impl<'a, R: Reader<'a>> DecodeValue<'a, R> for Any {
+impl<'a, R: Source<'a>> DecodeValue<'a, R> for Any {
     ghost VALUE_NEEDS_MEMORY = { true };
 
     const VALUE_NEEDS_MEMORY: bool = true;
@@ -318,7 +319,7 @@ impl<'a, R: Reader<'a>> DecodeValue<'a, R> for Any {
     ghost memory_of_value = { refl };
 }
 
-impl<'a, R: Reader<'a>> Decode<'a, R> for Any {
+impl<'a, R: Source<'a>> Decode<'a, R> for Any {
     ghost NEEDS_MEMORY = { true };
 
     const NEEDS_MEMORY: bool = true;
@@ -344,7 +345,7 @@ impl<'a, R: Reader<'a>> Decode<'a, R> for Any {
     ghost memory_of_form = { refl };
 }
 
-impl<'a, R: Reader<'a>> DecodeField<'a, R> for Any {
+impl<'a, R: Source<'a>> DecodeField<'a, R> for Any {
     ghost FIELD_NEEDS_MEMORY = { true };
 
     const FIELD_NEEDS_MEMORY: bool = true;

@@ -23,7 +23,9 @@ use der_elem::{
     Choice, Decode, DecodeField, DecodeValue, Duplicate, EncodeValue, EncodingEq, Form, FormValue,
     Tagged, ValueOrd,
 };
-use der_tlv::{BytesRef, EncodingRules, Error, Header, Length, Reader, SliceReader, Tag, Writer};
+use der_tlv::{
+    BytesRef, EncodingRules, Error, Header, Length, Reader, SliceReader, Source, Tag, Writer,
+};
 use std::alloc::Global;
 use std::cmp::Ordering;
 
@@ -170,7 +172,7 @@ impl<'a> AnyRef<'a> {
 
     /// Reads an encoding with any tag.
     #[inline(always)]
-    fn read<R: Reader<'a>>(reader: &mut R) -> Result<AnyRef<'a>, Error>
+    fn read<R: Source<'a>>(reader: &mut R) -> Result<AnyRef<'a>, Error>
         ensures { Decodes any_form (R.state reader.old) (R.state reader.new) result }
     {
         let header = Header::decode(reader)?;
@@ -262,7 +264,7 @@ impl<'a> Choice for AnyRef<'a> {
     ghost is_led = { λ v. record { tag = tag_of v; is_tag = refl } };
 }
 
-impl<'a, R: Reader<'a>> DecodeValue<'a, R> for AnyRef<'a> {
+impl<'a, R: Source<'a>> DecodeValue<'a, R> for AnyRef<'a> {
     ghost VALUE_NEEDS_MEMORY = { false };
 
     const VALUE_NEEDS_MEMORY: bool = false;
@@ -279,7 +281,7 @@ impl<'a, R: Reader<'a>> DecodeValue<'a, R> for AnyRef<'a> {
     ghost memory_of_value = { refl };
 }
 
-impl<'a, R: Reader<'a>> Decode<'a, R> for AnyRef<'a> {
+impl<'a, R: Source<'a>> Decode<'a, R> for AnyRef<'a> {
     ghost NEEDS_MEMORY = { false };
 
     const NEEDS_MEMORY: bool = false;
@@ -292,7 +294,7 @@ impl<'a, R: Reader<'a>> Decode<'a, R> for AnyRef<'a> {
     ghost memory_of_form = { refl };
 }
 
-impl<'a, R: Reader<'a>> DecodeField<'a, R> for AnyRef<'a> {
+impl<'a, R: Source<'a>> DecodeField<'a, R> for AnyRef<'a> {
     ghost FIELD_NEEDS_MEMORY = { false };
 
     const FIELD_NEEDS_MEMORY: bool = false;

@@ -16,7 +16,7 @@ use der_elem::{
     ContentsEq, CopyIsDuplicate, DecodeValue, EncodeValue, Form, FormValue, NullTag, OneTag,
     OrdIsValueOrd, Tagged,
 };
-use der_tlv::{Error, Header, Length, Reader, Tag, Writer};
+use der_tlv::{Error, Header, Length, Reader, Source, Tag, Writer};
 use std::alloc::Global;
 
 /// The one value of NULL, which is encoded as 05 00.
@@ -34,7 +34,7 @@ impl OneTag for Null {
     type Marker = NullTag;
 }
 
-impl<'a, R: Reader<'a>> DecodeValue<'a, R> for Null {
+impl<'a, R: Source<'a>> DecodeValue<'a, R> for Null {
     ghost VALUE_NEEDS_MEMORY = { false };
 
     const VALUE_NEEDS_MEMORY: bool = false;

@@ -19,7 +19,7 @@ use der_elem::{
     ContentsEq, CopyIsDuplicate, DecodeValue, EncodeValue, FormValue, ObjectIdentifierTag, OneTag,
     OrdIsValueOrd, Tagged,
 };
-use der_tlv::{Error, ErrorKind, Header, Length, Reader, Tag, Writer};
+use der_tlv::{Error, ErrorKind, Header, Length, Reader, Source, Tag, Writer};
 use std::alloc::Global;
 use std::cmp::Ordering;
 use std::hash::{Hash, Hasher};
@@ -87,7 +87,7 @@ impl<const MAX_SIZE: usize> OneTag for ObjectIdentifier<MAX_SIZE> {
     type Marker = ObjectIdentifierTag;
 }
 
-impl<'a, R: Reader<'a>, const MAX_SIZE: usize> DecodeValue<'a, R> for ObjectIdentifier<MAX_SIZE> {
+impl<'a, R: Source<'a>, const MAX_SIZE: usize> DecodeValue<'a, R> for ObjectIdentifier<MAX_SIZE> {
     ghost VALUE_NEEDS_MEMORY = { false };
 
     const VALUE_NEEDS_MEMORY: bool = false;

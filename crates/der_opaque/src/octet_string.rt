@@ -20,7 +20,7 @@ use der_elem::{
     ContentsEq, DecodeValue, DuplicateValue, EncodeValue, FormValue, OctetStringTag, OneTag,
     OrdIsValueOrd,
 };
-use der_tlv::{Error, Header, Length, Reader, Tag, Writer};
+use der_tlv::{Error, Header, Length, Reader, Source, Tag, Writer};
 use std::alloc::{AllocError, Global};
 
 /// The octets of an OCTET STRING: at most 4294967295 of them.
@@ -107,7 +107,7 @@ impl OneTag for OctetString {
     type Marker = OctetStringTag;
 }
 
-impl<'a, R: Reader<'a>> DecodeValue<'a, R> for OctetString {
+impl<'a, R: Source<'a>> DecodeValue<'a, R> for OctetString {
     ghost VALUE_NEEDS_MEMORY = { true };
 
     const VALUE_NEEDS_MEMORY: bool = true;

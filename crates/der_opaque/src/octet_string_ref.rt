@@ -20,7 +20,7 @@ use der_elem::{
     ContentsEq, CopyIsDuplicate, DecodeValue, EncodeValue, Form, FormValue, FromDer,
     OctetStringTag, OneTag, OrdIsValueOrd, Tagged,
 };
-use der_tlv::{Error, Header, Length, Reader, Tag, Writer};
+use der_tlv::{Error, Header, Length, Reader, Source, Tag, Writer};
 use std::alloc::Global;
 
 /// The octets of an OCTET STRING, borrowed: at most 4294967295 of them.
@@ -115,7 +115,7 @@ impl<'a> OneTag for OctetStringRef<'a> {
     type Marker = OctetStringTag;
 }
 
-impl<'a, R: Reader<'a>> DecodeValue<'a, R> for OctetStringRef<'a> {
+impl<'a, R: Source<'a>> DecodeValue<'a, R> for OctetStringRef<'a> {
     ghost VALUE_NEEDS_MEMORY = { false };
 
     const VALUE_NEEDS_MEMORY: bool = false;

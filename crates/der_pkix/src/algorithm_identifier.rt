@@ -19,7 +19,7 @@ use der_elem::{
 };
 use der_fields::{End, Field, FieldList, FieldSequence};
 use der_opaque::{AnyRef, ObjectIdentifier};
-use der_tlv::{Error, Header, Length, Reader, Writer};
+use der_tlv::{Error, Header, Length, Source, Writer};
 use std::alloc::Global;
 use std::cmp::Ordering;
 
@@ -59,7 +59,7 @@ impl<'a> Sequence<'a> for AlgorithmIdentifier<'a> {
     ghost is_sequence = { refl };
 }
 
-impl<'a, R: Reader<'a>> DecodeValue<'a, R> for AlgorithmIdentifier<'a> {
+impl<'a, R: Source<'a>> DecodeValue<'a, R> for AlgorithmIdentifier<'a> {
     ghost VALUE_NEEDS_MEMORY = { false };
 
     const VALUE_NEEDS_MEMORY: bool = false;

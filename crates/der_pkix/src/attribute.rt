@@ -14,7 +14,7 @@ use der_elem::{
 };
 use der_fields::{DecodeFields, EncodeFields, End, Field, FieldList, FieldsOrd};
 use der_opaque::{AnyRef, ObjectIdentifier};
-use der_tlv::{Error, Header, Length, Reader, Writer};
+use der_tlv::{Error, Header, Length, Source, Writer};
 use std::alloc::Global;
 use std::cmp::Ordering;
 
@@ -46,7 +46,7 @@ impl<'a> FormValue for AttributeTypeAndValue<'a> {
     ghost value = { held_form (λ v. v.fields) ⟦<AttributeFields<'a> as FieldList>⟧.list.octets };
 }
 
-impl<'a, R: Reader<'a>> DecodeValue<'a, R> for AttributeTypeAndValue<'a> {
+impl<'a, R: Source<'a>> DecodeValue<'a, R> for AttributeTypeAndValue<'a> {
     ghost VALUE_NEEDS_MEMORY = { false };
 
     const VALUE_NEEDS_MEMORY: bool = false;

@@ -5,7 +5,7 @@ ghost use Rattle.der_fields.specs.FieldForms.{part_of};
 
 use der_fields::{DecodeFields, EncodeFields, End, Field, FieldList};
 use der_numbers::UintRef;
-use der_tlv::{Error, Length, Reader, Writer};
+use der_tlv::{Error, Length, Source, Writer};
 use std::alloc::Global;
 
 /// The list of the two primes, the two exponents and the coefficient.
@@ -25,7 +25,7 @@ impl<'a> FieldList for Crt<'a> {
     ghost list = { part_of (λ v. v.fields) ⟦<CrtFields<'a> as FieldList>⟧.list };
 }
 
-impl<'a, R: Reader<'a>> DecodeFields<'a, R> for Crt<'a> {
+impl<'a, R: Source<'a>> DecodeFields<'a, R> for Crt<'a> {
     ghost FIELDS_NEED_MEMORY = { false };
 
     const FIELDS_NEED_MEMORY: bool = false;

@@ -21,7 +21,7 @@ use der_elem::{
 };
 use der_fields::{DefaultFalse, End, Field, FieldList, FieldSequence, WithDefault};
 use der_opaque::{ObjectIdentifier, OctetStringRef};
-use der_tlv::{Error, Header, Length, Reader, Writer};
+use der_tlv::{Error, Header, Length, Source, Writer};
 use std::alloc::Global;
 use std::cmp::Ordering;
 
@@ -73,7 +73,7 @@ impl<'a> Sequence<'a> for Extension<'a> {
     ghost is_sequence = { refl };
 }
 
-impl<'a, R: Reader<'a>> DecodeValue<'a, R> for Extension<'a> {
+impl<'a, R: Source<'a>> DecodeValue<'a, R> for Extension<'a> {
     ghost VALUE_NEEDS_MEMORY = { false };
 
     const VALUE_NEEDS_MEMORY: bool = false;

@@ -6,7 +6,7 @@ ghost use Rattle.der_fields.specs.FieldForms.{part_of};
 use crate::revoked_certificate::RevokedCertificate;
 use der_fields::{DecodeFields, EncodeFields, End, Explicit, Field, FieldList};
 use der_pkix::Extensions;
-use der_tlv::{Error, Length, Reader, Writer};
+use der_tlv::{Error, Length, Source, Writer};
 use std::alloc::Global;
 
 /// The list of the revoked certificates and the extensions.
@@ -26,7 +26,7 @@ impl<'a> FieldList for Entries<'a> {
     ghost list = { part_of (λ v. v.fields) ⟦<EntriesFields<'a> as FieldList>⟧.list };
 }
 
-impl<'a, R: Reader<'a>> DecodeFields<'a, R> for Entries<'a> {
+impl<'a, R: Source<'a>> DecodeFields<'a, R> for Entries<'a> {
     ghost FIELDS_NEED_MEMORY = { true };
 
     const FIELDS_NEED_MEMORY: bool = true;

@@ -6,7 +6,7 @@ ghost use Rattle.der_fields.specs.FieldForms.{part_of};
 use crate::entries::Entries;
 use der_fields::{DecodeFields, EncodeFields, Field, FieldList};
 use der_pkix::Time;
-use der_tlv::{Error, Length, Reader, Writer};
+use der_tlv::{Error, Length, Source, Writer};
 use std::alloc::Global;
 
 /// The list of the fields from thisUpdate on.
@@ -23,7 +23,7 @@ impl<'a> FieldList for Updates<'a> {
     ghost list = { part_of (λ v. v.fields) ⟦<UpdatesFields<'a> as FieldList>⟧.list };
 }
 
-impl<'a, R: Reader<'a>> DecodeFields<'a, R> for Updates<'a> {
+impl<'a, R: Source<'a>> DecodeFields<'a, R> for Updates<'a> {
     ghost FIELDS_NEED_MEMORY = { true };
 
     const FIELDS_NEED_MEMORY: bool = true;

@@ -22,7 +22,7 @@ use der_elem::{
     BmpStringTag, ContentsEq, DecodeValue, DuplicateValue, EncodeValue, FormValue, OneTag,
     OrdIsValueOrd,
 };
-use der_tlv::{Error, ErrorKind, Header, Length, Reader, Writer};
+use der_tlv::{Error, ErrorKind, Header, Length, Reader, Source, Writer};
 use std::alloc::{AllocError, Global};
 use std::fmt;
 
@@ -150,7 +150,7 @@ impl OneTag for BmpString {
     type Marker = BmpStringTag;
 }
 
-impl<'a, R: Reader<'a>> DecodeValue<'a, R> for BmpString {
+impl<'a, R: Source<'a>> DecodeValue<'a, R> for BmpString {
     ghost VALUE_NEEDS_MEMORY = { true };
 
     const VALUE_NEEDS_MEMORY: bool = true;

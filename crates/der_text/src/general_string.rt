@@ -12,7 +12,7 @@ ghost use Rattle.der_opaque.specs.Opaque.{parse_octets};
 use der_elem::{
     ContentsEq, CopyIsDuplicate, DecodeValue, EncodeValue, FormValue, GeneralStringTag, OneTag,
 };
-use der_tlv::{Error, Header, Length, Reader, Writer};
+use der_tlv::{Error, Header, Length, Reader, Source, Writer};
 use std::alloc::Global;
 
 /// The octets of a GeneralString, borrowed: at most 4294967295 of them.
@@ -45,7 +45,7 @@ impl<'a> OneTag for GeneralStringRef<'a> {
     type Marker = GeneralStringTag;
 }
 
-impl<'a, R: Reader<'a>> DecodeValue<'a, R> for GeneralStringRef<'a> {
+impl<'a, R: Source<'a>> DecodeValue<'a, R> for GeneralStringRef<'a> {
     ghost VALUE_NEEDS_MEMORY = { false };
 
     const VALUE_NEEDS_MEMORY: bool = false;

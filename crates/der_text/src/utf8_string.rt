@@ -20,7 +20,7 @@ use der_elem::{
     Tagged, Utf8StringTag, text_of,
 };
 use der_opaque::{Any, AnyRef};
-use der_tlv::{Error, ErrorKind, Header, Length, Reader, Tag, Writer};
+use der_tlv::{Error, ErrorKind, Header, Length, Reader, Source, Tag, Writer};
 use std::alloc::Global;
 use std::fmt;
 
@@ -118,7 +118,7 @@ impl<'a> OneTag for Utf8StringRef<'a> {
     type Marker = Utf8StringTag;
 }
 
-impl<'a, R: Reader<'a>> DecodeValue<'a, R> for Utf8StringRef<'a> {
+impl<'a, R: Source<'a>> DecodeValue<'a, R> for Utf8StringRef<'a> {
     ghost VALUE_NEEDS_MEMORY = { false };
 
     const VALUE_NEEDS_MEMORY: bool = false;

@@ -15,7 +15,7 @@ use der_elem::{
     ContentsEq, CopyIsDuplicate, DecodeValue, EncodeValue, FormValue, GeneralizedTimeTag, OneTag,
     OrdIsValueOrd,
 };
-use der_tlv::{Error, ErrorKind, Header, Length, Reader, Writer};
+use der_tlv::{Error, ErrorKind, Header, Length, Reader, Source, Writer};
 use jiff_core::civil;
 use std::alloc::Global;
 use std::str::FromStr;
@@ -321,7 +321,7 @@ impl OneTag for DateTime {
     type Marker = GeneralizedTimeTag;
 }
 
-impl<'a, R: Reader<'a>> DecodeValue<'a, R> for DateTime {
+impl<'a, R: Source<'a>> DecodeValue<'a, R> for DateTime {
     ghost VALUE_NEEDS_MEMORY = { false };
 
     const VALUE_NEEDS_MEMORY: bool = false;

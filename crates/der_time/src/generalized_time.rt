@@ -21,7 +21,7 @@ use der_elem::{
     OneTag, OrdIsValueOrd, Tagged,
 };
 use der_opaque::{Any, AnyRef};
-use der_tlv::{Error, Header, Length, Reader, Tag, Writer};
+use der_tlv::{Error, Header, Length, Reader, Source, Tag, Writer};
 use std::alloc::Global;
 use std::time::Duration;
 
@@ -85,7 +85,7 @@ impl OneTag for GeneralizedTime {
     type Marker = GeneralizedTimeTag;
 }
 
-impl<'a, R: Reader<'a>> DecodeValue<'a, R> for GeneralizedTime {
+impl<'a, R: Source<'a>> DecodeValue<'a, R> for GeneralizedTime {
     ghost VALUE_NEEDS_MEMORY = { false };
 
     const VALUE_NEEDS_MEMORY: bool = false;

@@ -17,7 +17,7 @@ use der_elem::{
     UtcTimeTag, ValueOrd,
 };
 use der_opaque::{Any, AnyRef};
-use der_tlv::{Error, ErrorKind, Header, Length, Reader, Tag, Writer};
+use der_tlv::{Error, ErrorKind, Header, Length, Reader, Source, Tag, Writer};
 use std::alloc::Global;
 use std::cmp::Ordering;
 use std::time::Duration;
@@ -135,7 +135,7 @@ impl OneTag for UtcTime {
     type Marker = UtcTimeTag;
 }
 
-impl<'a, R: Reader<'a>> DecodeValue<'a, R> for UtcTime {
+impl<'a, R: Source<'a>> DecodeValue<'a, R> for UtcTime {
     ghost VALUE_NEEDS_MEMORY = { false };
 
     const VALUE_NEEDS_MEMORY: bool = false;

@@ -27,10 +27,10 @@ nothing [] h = refl
 nothing (x ∷ c) h = absurd (omega arith)
 
 -- the position is the end where nothing is left
-pub finished : (s : ReaderState) → IsReaderState s → IsTrue (nat_eq s.position s.end) ↔ (rest s ≡ [])
-finished s h =
+pub finished : (s : ReaderState) → IsReaderState s → (position end : ℕ) → position ≡ s.position → end ≡ s.end → IsTrue (nat_eq position end) ↔ (rest s ≡ [])
+finished s h position end p q =
     let l = length-rest s h in
-    (λ e. let k : s.position ≡ s.end = grind (arith, nat_tests) in nothing (rest s) (omega arith), λ e. let k = ap length e in let m : s.position ≡ s.end = omega arith in grind (arith, nat_tests))
+    (λ e. let k : position ≡ end = grind (arith, nat_tests) in nothing (rest s) (omega arith), λ e. let k = ap length e in let m : position ≡ end = omega arith in grind (arith, nat_tests))
 
 pub end_reached : (s : ReaderState) → IsReaderState s → rest s ≡ [] → s.position ≡ s.end
 end_reached s h e = let l = length-rest s h in let n = ap length e in omega arith

@@ -3,6 +3,7 @@ use Rattle.std.specs.Prelude.{ℕ, ◌+◌, ◌-◌, ◌^◌, ◌<◌, ◌≤◌
 use Rattle.der_tlv.specs.declared.error.ErrorKind.{ErrorKind}
 use Rattle.der_tlv.specs.declared.error.ErrorKind.TheVariants.{Incomplete, Overflow, Failed, TrailingData}
 use Rattle.der_tlv.specs.declared.encoding_rules.EncodingRules.{EncodingRules}
+use Rattle.der_tlv.specs.declared.reader.source.Cursor.{Cursor}
 
 -- the whole input, the position in it, where the octets that are shown now end, whether a call has refused, and the rules
 pub record ReaderState : Type 0 where
@@ -21,6 +22,10 @@ pub record IsReaderState (s : ReaderState) : Type 0 where
 -- a new reader of these octets
 abbrev pub new_reader : List ℕ → EncodingRules → ReaderState
 new_reader input rules = record { input = input; position = 0; end = length input; failed = false; rules = rules }
+
+-- the same input, read from where the cursor says
+abbrev pub with_cursor : ReaderState → Cursor → ReaderState
+with_cursor s c = record { input = s.input; position = c.position; end = c.end; failed = c.failed; rules = c.rules }
 
 -- the octets that it can still give
 abbrev pub rest : ReaderState → List ℕ

@@ -10,7 +10,7 @@ use Rattle.der_tlv.specs.declared.writer.vec.VecWriter.{VecWriter}
 
 abbrev pub slice_reader_state : SliceReader → ReaderState
 slice_reader_state r =
-    record { input = r.bytes.now; position = r.position; end = r.end; failed = r.failed; rules = r.rules }
+    record { input = r.bytes.now; position = r.cursor.position; end = r.cursor.end; failed = r.cursor.failed; rules = r.cursor.rules }
 
 abbrev pub slice_writer_state : SliceWriter → WriterState
 slice_writer_state w =

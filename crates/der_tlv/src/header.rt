@@ -12,7 +12,7 @@ ghost use Rattle.der_tlv.specs.Writing.{Writes};
 use crate::error::Error;
 use crate::header_octets::{HeaderOctets, first_octet};
 use crate::length::Length;
-use crate::reader::Reader;
+use crate::reader::{Reader, Source};
 use crate::tag::Tag;
 use crate::tag::short::short_tag;
 use crate::writer::Writer;
@@ -97,7 +97,7 @@ impl Header {
     /// `ErrorKind::Failed` (17) on a failed reader; the first fault of the identifier octets, then
     /// of the length octets.
     #[inline(always)]
-    pub fn decode<'a, R: Reader<'a>>(reader: &mut R) -> Result<Header, Error>
+    pub fn decode<'a, R: Source<'a>>(reader: &mut R) -> Result<Header, Error>
         ensures head { ReadsHead read_header octets_of (R.state reader.old)
             (R.state reader.new) result }
         ensures bounded { IfOk result (λ h. IsTag h.tag) }
@@ -123,7 +123,7 @@ impl Header {
     /// As `decode`.
     #[cold]
     #[inline(never)]
-    fn decode_octets<'a, R: Reader<'a>>(reader: &mut R) -> Result<Header, Error>
+    fn decode_octets<'a, R: Source<'a>>(reader: &mut R) -> Result<Header, Error>
         ensures head { ReadsHead read_header octets_of (R.state reader.old)
             (R.state reader.new) result }
         ensures bounded { IfOk result (λ h. IsTag h.tag) }

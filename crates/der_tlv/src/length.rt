@@ -11,7 +11,7 @@ ghost use Rattle.der_tlv.specs.Fitting.{FitsLength};
 ghost use Rattle.der_tlv.specs.declared.error.ErrorKind.TheVariants.{Overflow};
 
 use crate::error::{Error, ErrorKind};
-use crate::reader::Reader;
+use crate::reader::{Reader, Source};
 pub use laws::{greatest_length, lengths_are_short, lengths_are_unique, lengths_read_back};
 use std::marker::Model;
 
@@ -116,7 +116,7 @@ impl Length {
     /// 85 to FF, more than four octets (`ErrorKind::Overlength`, 10); one of the octets missing
     /// (`ErrorKind::Incomplete`, 2); a length that fewer octets could say
     /// (`ErrorKind::Overlength`, 10).
-    pub fn decode<'a, R: Reader<'a>>(reader: &mut R) -> Result<Length, Error>
+    pub fn decode<'a, R: Source<'a>>(reader: &mut R) -> Result<Length, Error>
         ensures { ReadsHead read_length length_octets (R.state reader.old)
             (R.state reader.new) result }
     {
@@ -131,7 +131,7 @@ impl Length {
 }
 
 /// Reads the octets of a length of 128 and more, of which there are `count`.
-fn decode_long<'a, R: Reader<'a>>(reader: &mut R, count: u8) -> Result<Length, Error>
+fn decode_long<'a, R: Source<'a>>(reader: &mut R, count: u8) -> Result<Length, Error>
     requires some { 1 ≤ count }
     requires few { count ≤ 4 }
     ensures head { ReadsHead (read_long_length count) (digits_of 256) (R.state reader.old)

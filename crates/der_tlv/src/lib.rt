@@ -32,7 +32,7 @@ pub use header::{Header, headers_are_unique, headers_read_back};
 pub use length::{
     Length, greatest_length, lengths_are_short, lengths_are_unique, lengths_read_back,
 };
-pub use reader::{Reader, SliceReader};
+pub use reader::{Cursor, Reader, SliceReader, Source};
 pub use tag::{
     Class, Tag, TagMode, TagNumber, default_mode, explicit_before_implicit, identifiers_are_short,
     identifiers_are_unique, identifiers_decide_order, identifiers_read_back, identifiers_tell_tags,

@@ -4,7 +4,7 @@ ghost use Rattle.std.specs.Prelude.{◌≡◌, length, ◌<◌, ◌^◌, OnErr};
 
 use der_tlv::{
     BytesOwned, BytesRef, Class, EncodingRules, Error, ErrorKind, Header, Length, Reader,
-    SliceReader, SliceWriter, Tag, TagMode, TagNumber, VecWriter, Writer, default_mode,
+    SliceReader, SliceWriter, Source, Tag, TagMode, TagNumber, VecWriter, Writer, default_mode,
     default_rules, explicit_before_implicit, greatest_length,
 };
 use std::alloc::{AllocError, Global};
@@ -81,7 +81,7 @@ fn nested(reader: &mut SliceReader<'_>, len: u32) -> Option<u32> {
 }
 
 /// Reads a header, and then the contents octets as a value does.
-fn read_value<'a, R: Reader<'a>>(reader: &mut R) -> Result<&'a [u8], Error> {
+fn read_value<'a, R: Source<'a>>(reader: &mut R) -> Result<&'a [u8], Error> {
     let header = Header::decode(reader)?;
     let end = reader.nest(header.length())?;
     let contents = reader.read_slice(reader.remaining_len())?;

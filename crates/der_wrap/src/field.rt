@@ -8,7 +8,7 @@ use crate::class_tag::{check_form, class_of_bits, in_class};
 use crate::tagged_value::TaggedValue;
 use der_elem::{Decode, DecodeValue, Form, FormValue, FromDer, IsConstructed, Tagged};
 use der_opaque::AnyRef;
-use der_tlv::{Error, Header, Reader, Tag, TagMode, TagNumber};
+use der_tlv::{Error, Header, Reader, Source, Tag, TagMode, TagNumber};
 use std::alloc::Global;
 
 impl<T: Tagged, const CLASS: u8> TaggedValue<T, CLASS> {
@@ -19,7 +19,7 @@ impl<T: Tagged, const CLASS: u8> TaggedValue<T, CLASS> {
     /// `ErrorKind::Failed` (17) on a failed reader; the faults of the next tag;
     /// `ErrorKind::Noncanonical` (8) for a primitive tag; the value's faults;
     /// `ErrorKind::TrailingData` (3) where octets are left over behind the value.
-    pub fn decode_explicit<'a, R: Reader<'a>>(
+    pub fn decode_explicit<'a, R: Source<'a>>(
         alloc: Global,
         reader: &mut R,
         tag_number: TagNumber,
@@ -66,7 +66,7 @@ impl<T, const CLASS: u8> TaggedValue<T, CLASS> {
     /// `ErrorKind::Failed` (17) on a failed reader; the faults of the next tag; under DER
     /// `ErrorKind::Noncanonical` (8) for a constructed tag where the type's own is primitive, and
     /// for a primitive tag where it is constructed; the faults of the contents octets.
-    pub fn decode_implicit<'a, R: Reader<'a>>(
+    pub fn decode_implicit<'a, R: Source<'a>>(
         alloc: Global,
         reader: &mut R,
         tag_number: TagNumber,

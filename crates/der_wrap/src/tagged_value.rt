@@ -22,7 +22,7 @@ use der_elem::{
     Choice, Decode, DecodeField, DerOrd, Duplicate, Encode, EncodeValue, EncodingEq, Form,
     FormValue, Tagged, ValueOrd,
 };
-use der_tlv::{Error, Header, Length, Reader, Tag, TagMode, TagNumber, Writer};
+use der_tlv::{Error, Header, Length, Reader, Source, Tag, TagMode, TagNumber, Writer};
 use std::alloc::Global;
 use std::cmp::Ordering;
 
@@ -208,7 +208,7 @@ impl<T: Tagged + Duplicate, const CLASS: u8> Duplicate for TaggedValue<T, CLASS>
     ghost copy_re_reads = { λ v w c. T.copy_re_reads v.value w.value c.2 };
 }
 
-impl<'a, R: Reader<'a>, T: Tagged + Decode<'a, R>, const CLASS: u8> Decode<'a, R>
+impl<'a, R: Source<'a>, T: Tagged + Decode<'a, R>, const CLASS: u8> Decode<'a, R>
     for TaggedValue<T, CLASS> {
     ghost NEEDS_MEMORY = { T.NEEDS_MEMORY };
 
@@ -234,7 +234,7 @@ impl<'a, R: Reader<'a>, T: Tagged + Decode<'a, R>, const CLASS: u8> Decode<'a, R
     ghost memory_of_form = { T.memory_of_form };
 }
 
-impl<'a, R: Reader<'a>, T: Tagged + Decode<'a, R>, const CLASS: u8> DecodeField<'a, R>
+impl<'a, R: Source<'a>, T: Tagged + Decode<'a, R>, const CLASS: u8> DecodeField<'a, R>
     for TaggedValue<T, CLASS> {
     ghost FIELD_NEEDS_MEMORY = { T.NEEDS_MEMORY };
 

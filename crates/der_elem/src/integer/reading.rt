@@ -11,7 +11,7 @@ ghost use Rattle.der_elem.specs.IntegerReading.{has_needless_zero, ReadsSigned, 
 use super::front::{signed_front, unsigned_front};
 use super::octets::{decode_signed, decode_unsigned, fits_unsigned, is_negative, is_redundant};
 use crate::contents::read_contents;
-use der_tlv::{Error, ErrorKind, Header, Reader, Tag};
+use der_tlv::{Error, ErrorKind, Header, Reader, Source, Tag};
 
 /// Whether a first octet 00 stands before an octet below 80 (X.690 8.3.2).
 pub(super) fn has_needless_zero(bytes: &[u8]) -> bool
@@ -75,7 +75,7 @@ pub fn unsigned_of(bytes: &[u8], width: usize) -> Result<u128, ErrorKind>
 /// # Errors
 /// `ErrorKind::Failed` (17) on a failed reader.
 #[inline(always)]
-fn read_front_contents<'a, R: Reader<'a>>(reader: &mut R, header: Header) -> Result<[u8; 8], Error>
+fn read_front_contents<'a, R: Source<'a>>(reader: &mut R, header: Header) -> Result<[u8; 8], Error>
     requires few { header.length ≤ 8 }
     ensures reader { Stands (R.state reader.old) (R.state reader.new) result }
     ensures ok { length (rest (R.state reader.old)) ≡ header.length → IfOk result (λ block.
@@ -91,7 +91,7 @@ fn read_front_contents<'a, R: Reader<'a>>(reader: &mut R, header: Header) -> Res
 /// # Errors
 /// As `read_signed`.
 #[inline(always)]
-fn read_short_signed<'a, R: Reader<'a>>(
+fn read_short_signed<'a, R: Source<'a>>(
     reader: &mut R,
     header: Header,
     width: usize,
@@ -123,7 +123,7 @@ fn read_short_signed<'a, R: Reader<'a>>(
 /// (`ErrorKind::Length`, 7); more than the width (`ErrorKind::Noncanonical`, 8); a redundant first
 /// octet (`ErrorKind::Noncanonical`, 8).
 #[inline(always)]
-pub fn read_signed<'a, R: Reader<'a>>(
+pub fn read_signed<'a, R: Source<'a>>(
     reader: &mut R,
     header: Header,
     width: usize,
@@ -151,7 +151,7 @@ pub fn read_signed<'a, R: Reader<'a>>(
 /// # Errors
 /// As `read_unsigned`.
 #[inline(always)]
-fn read_short_unsigned<'a, R: Reader<'a>>(
+fn read_short_unsigned<'a, R: Source<'a>>(
     reader: &mut R,
     header: Header,
     width: usize,
@@ -185,7 +185,7 @@ fn read_short_unsigned<'a, R: Reader<'a>>(
 /// (`ErrorKind::Value`, 13); one octet more than the width, of which the first is not 00
 /// (`ErrorKind::Length`, 7).
 #[inline(always)]
-pub fn read_unsigned<'a, R: Reader<'a>>(
+pub fn read_unsigned<'a, R: Source<'a>>(
     reader: &mut R,
     header: Header,
     width: usize,

@@ -25,7 +25,7 @@ use crate::fixed_tag::OneTag;
 use crate::form::FormValue;
 use crate::ord::ValueOrd;
 use crate::universal_tags::IntegerTag;
-use der_tlv::{Error, Header, Length, Reader, Writer};
+use der_tlv::{Error, Header, Length, Source, Writer};
 use std::alloc::Global;
 use std::cmp::Ordering;
 
@@ -37,7 +37,7 @@ impl OneTag for i8 {
     type Marker = IntegerTag;
 }
 
-impl<'a, R: Reader<'a>> DecodeValue<'a, R> for i8 {
+impl<'a, R: Source<'a>> DecodeValue<'a, R> for i8 {
     ghost VALUE_NEEDS_MEMORY = { false };
 
     const VALUE_NEEDS_MEMORY: bool = false;
@@ -81,7 +81,7 @@ impl OneTag for i16 {
     type Marker = IntegerTag;
 }
 
-impl<'a, R: Reader<'a>> DecodeValue<'a, R> for i16 {
+impl<'a, R: Source<'a>> DecodeValue<'a, R> for i16 {
     ghost VALUE_NEEDS_MEMORY = { false };
 
     const VALUE_NEEDS_MEMORY: bool = false;
@@ -125,7 +125,7 @@ impl OneTag for i32 {
     type Marker = IntegerTag;
 }
 
-impl<'a, R: Reader<'a>> DecodeValue<'a, R> for i32 {
+impl<'a, R: Source<'a>> DecodeValue<'a, R> for i32 {
     ghost VALUE_NEEDS_MEMORY = { false };
 
     const VALUE_NEEDS_MEMORY: bool = false;
@@ -169,7 +169,7 @@ impl OneTag for i64 {
     type Marker = IntegerTag;
 }
 
-impl<'a, R: Reader<'a>> DecodeValue<'a, R> for i64 {
+impl<'a, R: Source<'a>> DecodeValue<'a, R> for i64 {
     ghost VALUE_NEEDS_MEMORY = { false };
 
     const VALUE_NEEDS_MEMORY: bool = false;
@@ -213,7 +213,7 @@ impl OneTag for i128 {
     type Marker = IntegerTag;
 }
 
-impl<'a, R: Reader<'a>> DecodeValue<'a, R> for i128 {
+impl<'a, R: Source<'a>> DecodeValue<'a, R> for i128 {
     ghost VALUE_NEEDS_MEMORY = { false };
 
     const VALUE_NEEDS_MEMORY: bool = false;

@@ -25,7 +25,7 @@ use crate::fixed_tag::OneTag;
 use crate::form::FormValue;
 use crate::ord::ValueOrd;
 use crate::universal_tags::IntegerTag;
-use der_tlv::{Error, Header, Length, Reader, Writer};
+use der_tlv::{Error, Header, Length, Source, Writer};
 use std::alloc::Global;
 use std::cmp::Ordering;
 
@@ -37,7 +37,7 @@ impl OneTag for u8 {
     type Marker = IntegerTag;
 }
 
-impl<'a, R: Reader<'a>> DecodeValue<'a, R> for u8 {
+impl<'a, R: Source<'a>> DecodeValue<'a, R> for u8 {
     ghost VALUE_NEEDS_MEMORY = { false };
 
     const VALUE_NEEDS_MEMORY: bool = false;
@@ -81,7 +81,7 @@ impl OneTag for u16 {
     type Marker = IntegerTag;
 }
 
-impl<'a, R: Reader<'a>> DecodeValue<'a, R> for u16 {
+impl<'a, R: Source<'a>> DecodeValue<'a, R> for u16 {
     ghost VALUE_NEEDS_MEMORY = { false };
 
     const VALUE_NEEDS_MEMORY: bool = false;
@@ -125,7 +125,7 @@ impl OneTag for u32 {
     type Marker = IntegerTag;
 }
 
-impl<'a, R: Reader<'a>> DecodeValue<'a, R> for u32 {
+impl<'a, R: Source<'a>> DecodeValue<'a, R> for u32 {
     ghost VALUE_NEEDS_MEMORY = { false };
 
     const VALUE_NEEDS_MEMORY: bool = false;
@@ -169,7 +169,7 @@ impl OneTag for u64 {
     type Marker = IntegerTag;
 }
 
-impl<'a, R: Reader<'a>> DecodeValue<'a, R> for u64 {
+impl<'a, R: Source<'a>> DecodeValue<'a, R> for u64 {
     ghost VALUE_NEEDS_MEMORY = { false };
 
     const VALUE_NEEDS_MEMORY: bool = false;
@@ -213,7 +213,7 @@ impl OneTag for u128 {
     type Marker = IntegerTag;
 }
 
-impl<'a, R: Reader<'a>> DecodeValue<'a, R> for u128 {
+impl<'a, R: Source<'a>> DecodeValue<'a, R> for u128 {
     ghost VALUE_NEEDS_MEMORY = { false };
 
     const VALUE_NEEDS_MEMORY: bool = false;

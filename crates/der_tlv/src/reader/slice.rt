@@ -10,24 +10,20 @@ ghost use Rattle.der_tlv.specs.declared.encoding_rules.EncodingRules.TheVariants
 use crate::encoding_rules::EncodingRules;
 use crate::error::{Error, ErrorKind};
 use crate::length::Length;
-use crate::reader::Reader;
+use crate::reader::source::{Cursor, Source};
 use std::alloc::AllocError;
 
 /// A reader of octets in memory, which hands them out as they stand there.
 #[derive(Debug, Drop)]
 pub struct SliceReader<'a> {
     bytes: &'a [u8],
-    position: u32,
-    end: u32,
-    failed: bool,
-    rules: EncodingRules,
+    cursor: Cursor,
     ghost short: { length bytes.now < 2 ^ 32 },
-    ghost ordered: { position ≤ end },
-    ghost inside: { end ≤ length bytes.now },
+    ghost ordered: { cursor.position ≤ cursor.end },
+    ghost inside: { cursor.end ≤ length bytes.now },
 }
 
 impl<'a> SliceReader<'a> {
-    ghost use Rattle.der_tlv.specs.contracts.reader.slice.SliceReaderReader.TheImpl.{ghosts as slice_reader};
     ghost use Rattle.der_tlv.specs.Views.{slice_reader_state};
 
     /// A reader of all of the octets, under DER.
@@ -59,10 +55,12 @@ impl<'a> SliceReader<'a> {
         }
         Ok(SliceReader {
             bytes,
-            position: 0,
-            end: bytes.len() as u32,
-            failed: false,
-            rules,
+            cursor: Cursor {
+                position: 0,
+                end: bytes.len() as u32,
+                failed: false,
+                rules,
+            },
         })
     }
 
@@ -75,15 +73,15 @@ impl<'a> SliceReader<'a> {
         ensures ok { IsOk result ↔ (can_finish (slice_reader_state self.entry) ≡ true) }
         ensures err { IfErr result (λ e. e.kind ≡ finish_fault (slice_reader_state self.entry)) }
     {
-        if self.failed {
+        if self.cursor.failed {
             return Err(Error {
                 kind: ErrorKind::Failed,
-                position: Some(Length::new(self.position)),
+                position: Some(Length::new(self.cursor.position)),
             });
         }
-        let remaining = self.bytes.len() - self.position as usize;
+        let remaining = self.bytes.len() - self.cursor.position as usize;
         if remaining != 0 {
-            let decoded = Length::new(self.position);
+            let decoded = Length::new(self.cursor.position);
             return Err(Error {
                 kind: ErrorKind::TrailingData {
                     decoded,
@@ -93,47 +91,6 @@ impl<'a> SliceReader<'a> {
             });
         }
         Ok(())
-    }
-
-    /// Reads as many octets as the buffer has, into the buffer, which a refusal leaves as it was.
-    ///
-    /// # Errors
-    /// As `read_slice`.
-    #[inline]
-    fn fill(&mut self, buffer: &mut [u8]) -> Result<(), Error>
-        ensures ok { OnOk result (OctetsRead (slice_reader.state self.old) (slice_reader.state self.new) (length buffer.old) buffer.new) }
-        ensures err { IfErr result (λ e. OctetsRefused (slice_reader.state self.old) (slice_reader.state self.new) (length buffer.old) e.kind) }
-        ensures kept { OnErr result (buffer.new ≡ buffer.old) }
-    {
-        if self.failed || buffer.len() > (self.end - self.position) as usize {
-            return Err(self.refusal(buffer.len()));
-        }
-        let start = self.position as usize;
-        self.position += buffer.len() as u32;
-        buffer.copy_from_slice(&self.bytes[start..self.position as usize]);
-        Ok(())
-    }
-
-    /// Refuses a read of so many octets.
-    #[cold]
-    #[inline(never)]
-    fn refusal(&mut self, len: usize) -> Error
-        requires { can_read (slice_reader_state self.old) len ≡ false }
-        ensures kind { result.kind ≡ read_fault (slice_reader_state self.old) len }
-        ensures failed { slice_reader_state self.new ≡ after_fault (slice_reader_state self.old) }
-    {
-        let kind = if self.failed {
-            ErrorKind::Failed
-        } else {
-            match Length::of(len.saturating_add(self.position as usize)) {
-                Ok(expected_len) => ErrorKind::Incomplete {
-                    expected_len,
-                    actual_len: Length::new(self.end),
-                },
-                Err(_) => ErrorKind::Overflow,
-            }
-        };
-        self.error(kind)
     }
 }
 
@@ -147,31 +104,12 @@ impl<'a> Clone for SliceReader<'a> {
     fn clone(&self) -> Result<SliceReader<'a>, AllocError> {
         Ok(SliceReader {
             bytes: self.bytes,
-            position: self.position,
-            end: self.end,
-            failed: self.failed,
-            rules: self.rules,
+            cursor: self.cursor,
         })
     }
 }
 
-/// A block whose first octets, so many, are those that stand behind `start`.
-#[inline(always)]
-fn block_at(bytes: &[u8], start: usize, len: usize) -> [u8; 8]
-    requires few { len ≤ 8 }
-    requires within { start + len ≤ length bytes.now }
-    ensures { take len result ≡ take len (drop start bytes.now) }
-{
-    let mut block = [0; 8];
-    if bytes.len() - start >= 8 {
-        block.copy_from_slice(&bytes[start..start + 8]);
-    } else {
-        block[..len].copy_from_slice(&bytes[start..start + len]);
-    }
-    block
-}
-
-impl<'a> Reader<'a> for SliceReader<'a> {
+impl<'a> Source<'a> for SliceReader<'a> {
     ghost use Rattle.der_tlv.specs.ReaderState.{ReaderState};
     ghost use Rattle.der_tlv.specs.Views.{slice_reader_state};
 
@@ -179,107 +117,18 @@ impl<'a> Reader<'a> for SliceReader<'a> {
 
     ghost sound = { λ r. record { ordered = r.ordered; inside = r.inside; short = r.short } };
 
-    #[inline]
-    fn read_byte(&mut self) -> Result<u8, Error> {
-        if self.failed || self.position == self.end {
-            return Err(self.refusal(1));
-        }
-        let octet = self.bytes[self.position as usize];
-        self.position += 1;
-        Ok(octet)
-    }
-
-    #[inline]
-    fn read_slice(&mut self, len: Length) -> Result<&'a [u8], Error> {
-        let len = len.value();
-        if self.failed || len > self.end - self.position {
-            return Err(self.refusal(len as usize));
-        }
-        let start = self.position as usize;
-        self.position += len;
-        Ok(&self.bytes[start..self.position as usize])
-    }
-
-    // Moves eight octets where the input has them, also behind those that are read.
     #[inline(always)]
-    fn read_front(&mut self, len: Length) -> Result<[u8; 8], Error> {
-        let len = len.value();
-        if self.failed || len > self.end - self.position {
-            return Err(self.refusal(len as usize));
-        }
-        let start = self.position as usize;
-        self.position += len;
-        Ok(block_at(self.bytes, start, len as usize))
+    fn octets(&self) -> &'a [u8] {
+        self.bytes
     }
 
-    // A refusal leaves the buffer as it was.
-    fn read_into<'b>(&mut self, buffer: &'b mut [u8]) -> Result<&'b [u8], Error> {
-        match self.fill(buffer) {
-            Ok(()) => Ok(buffer),
-            Err(e) => Err(e),
-        }
+    #[inline(always)]
+    fn cursor(&self) -> Cursor {
+        self.cursor
     }
 
-    #[inline]
-    fn nest(&mut self, len: Length) -> Result<Length, Error> {
-        let len = len.value();
-        if self.failed || len > self.end - self.position {
-            return Err(self.refusal(len as usize));
-        }
-        let end = self.end;
-        self.end = self.position + len;
-        Ok(Length::new(end))
-    }
-
-    #[inline]
-    fn unnest(&mut self, end: Length) -> Result<(), Error> {
-        let end = end.value();
-        if self.failed {
-            return Err(self.error(ErrorKind::Failed));
-        }
-        if self.position != self.end {
-            let decoded = self.position();
-            let remaining = self.remaining_len();
-            return Err(self.error(ErrorKind::TrailingData { decoded, remaining }));
-        }
-        if end < self.end || end as usize > self.bytes.len() {
-            return Err(self.error(ErrorKind::Overflow));
-        }
-        self.end = end;
-        Ok(())
-    }
-
-    #[inline]
-    fn rewind(&mut self, position: Length) {
-        self.position = position.value();
-    }
-
-    #[inline]
-    fn is_finished(&self) -> bool {
-        self.position == self.end
-    }
-
-    #[inline]
-    fn position(&self) -> Length {
-        Length::new(self.position)
-    }
-
-    #[inline]
-    fn remaining_len(&self) -> Length {
-        Length::new(self.end - self.position)
-    }
-
-    fn encoding_rules(&self) -> EncodingRules {
-        self.rules
-    }
-
-    #[cold]
-    #[inline(never)]
-    fn error(&mut self, kind: ErrorKind) -> Error {
-        self.failed = true;
-        Error {
-            kind,
-            position: Some(self.position()),
-        }
+    #[inline(always)]
+    fn set_cursor(&mut self, cursor: Cursor) {
+        self.cursor = cursor;
     }
 }

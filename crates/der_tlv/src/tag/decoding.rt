@@ -10,7 +10,7 @@ ghost use Rattle.der_tlv.specs.TagParts.{IsTag, universal_tag};
 
 use crate::error::{Error, ErrorKind};
 use crate::length::Length;
-use crate::reader::Reader;
+use crate::reader::{Reader, Source};
 use crate::tag::short::short_tag;
 use crate::tag::{Class, Tag, TagNumber};
 
@@ -25,7 +25,7 @@ impl Tag {
     /// number (`ErrorKind::TagUnknown`, 5); a universal type with the constructed bit that it does
     /// not have (`ErrorKind::Noncanonical`, 8).
     #[inline]
-    pub fn decode<'a, R: Reader<'a>>(reader: &mut R) -> Result<Tag, Error>
+    pub fn decode<'a, R: Source<'a>>(reader: &mut R) -> Result<Tag, Error>
         ensures head { ReadsHead read_tag identifier (R.state reader.old)
             (R.state reader.new) result }
         ensures bounded { IfOk result (λ t. IsTag t) }
@@ -50,7 +50,7 @@ impl Tag {
     ///
     /// # Errors
     /// As `decode`; the reader has failed then.
-    pub fn peek<'a, R: Reader<'a>>(reader: &mut R) -> Result<Tag, Error>
+    pub fn peek<'a, R: Source<'a>>(reader: &mut R) -> Result<Tag, Error>
         ensures head { PeeksHead read_tag identifier (R.state reader.old)
             (R.state reader.new) result }
         ensures bounded { IfOk result (λ t. IsTag t) }
@@ -66,7 +66,7 @@ impl Tag {
     ///
     /// # Errors
     /// As `decode`, unless at the end; the reader has failed then.
-    pub fn peek_matches<'a, R: Reader<'a>>(
+    pub fn peek_matches<'a, R: Source<'a>>(
         reader: &mut R,
         class: Class,
         number: TagNumber,
@@ -85,7 +85,7 @@ impl Tag {
 
 /// Reads the octets of a number of more than 30: its digits in base 128, highest first, with bit 8
 /// set in all but the last.
-fn decode_number<'a, R: Reader<'a>>(reader: &mut R) -> Result<u32, Error>
+fn decode_number<'a, R: Source<'a>>(reader: &mut R) -> Result<u32, Error>
     ensures head { ReadsHead read_number number_octets (R.state reader.old)
         (R.state reader.new) result }
     ensures long { IfOk result (λ n. 31 ≤ n) }

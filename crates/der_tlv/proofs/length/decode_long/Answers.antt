@@ -9,7 +9,7 @@ use Rattle.der_tlv.proofs.length.decode_long.Goals.{then-first-eq0-via-then-firs
 
 pub returns-in_err-first : goal.returns-in_err-first
 returns-in_err-first g c =
-    let there = first_missing _ (g.R.Reader.state c.read_byte.new.self) c.args.count (omega (arith, c.requires.some)) c.in_err-first.ensures in
+    let there = first_missing _ (g.R.Source.state c.read_byte.new.self) c.args.count (omega (arith, c.requires.some)) c.in_err-first.ensures in
     search rules
 
 pub overflow_mul-length : goal.overflow_mul-length
@@ -32,12 +32,12 @@ overflow_add-length g c =
 pub octets-preserved : goal.octets-preserved
 octets-preserved g c =
     let small : c.in_ok-read_byte.field-0 < 256 = search rules in
-    subst (λ octet. OctetsSoFar (g.R.Reader.state c.args.reader.now) (g.R.Reader.state c.read_byte-in-octets.new.self) (c.octets.read + 1) (c.octets.length * 256 + octet)) (sym c.from.ensures) (one_more _ _ _ _ _ _ c.octets.invariant c.in_ok-read_byte.ensures small)
+    subst (λ octet. OctetsSoFar (g.R.Source.state c.args.reader.now) (g.R.Source.state c.read_byte-in-octets.new.self) (c.octets.read + 1) (c.octets.length * 256 + octet)) (sym c.from.ensures) (one_more _ _ _ _ _ _ c.octets.invariant c.in_ok-read_byte.ensures small)
 
 pub returns-then-first-eq0-clause-head : goal.returns-then-first-eq0-clause-head
 returns-then-first-eq0-clause-head g c =
     let all : c.octets.read ≡ c.args.count = omega (arith, c.requires.some) in
-    let so_far = subst (λ k. OctetsSoFar (g.R.Reader.state c.args.reader.now) (g.R.Reader.state c.octets.reader) k c.octets.length) all c.octets.invariant in
+    let so_far = subst (λ k. OctetsSoFar (g.R.Source.state c.args.reader.now) (g.R.Source.state c.octets.reader) k c.octets.length) all c.octets.invariant in
     let octets = long_octets so_far c.in_ok-first.ensures c.requires.some in
     not_fewest octets (elim c.then-first-eq0.branch [
       | then-first-eq0-via-then-first-eq0 w ↦ inl w.if-first-eq0.true
@@ -47,13 +47,13 @@ returns-then-first-eq0-clause-head g c =
 pub returns-clause-head : goal.returns-clause-head
 returns-clause-head g c =
     let all : c.octets.read ≡ c.args.count = omega (arith, c.requires.some) in
-    let so_far = subst (λ k. OctetsSoFar (g.R.Reader.state c.args.reader.now) (g.R.Reader.state c.octets.reader) k c.octets.length) all c.octets.invariant in
+    let so_far = subst (λ k. OctetsSoFar (g.R.Source.state c.args.reader.now) (g.R.Source.state c.octets.reader) k c.octets.length) all c.octets.invariant in
     let some : 0 < c.in_ok-first.first = grind (arith, common_steps) in
     fewest_read (long_octets so_far c.in_ok-first.ensures c.requires.some) some c.if-length-lt128.false so_far.after
 
 pub returns-clause-whole : goal.returns-clause-whole
 returns-clause-whole g c =
     let all : c.octets.read ≡ c.args.count = omega (arith, c.requires.some) in
-    let so_far = subst (λ k. OctetsSoFar (g.R.Reader.state c.args.reader.now) (g.R.Reader.state c.octets.reader) k c.octets.length) all c.octets.invariant in
+    let so_far = subst (λ k. OctetsSoFar (g.R.Source.state c.args.reader.now) (g.R.Source.state c.octets.reader) k c.octets.length) all c.octets.invariant in
     let some : 0 < c.in_ok-first.first = grind (arith, common_steps) in
     whole_long (long_octets so_far c.in_ok-first.ensures c.requires.some) some c.if-length-lt128.false

@@ -9,12 +9,12 @@ use Rattle.der_elem.proofs.TaggedDecoding.{header_fault, other_tag_fault, too_lo
 use Rattle.der_elem.proofs.blanket.AnyDecode.decode.Goals as goal
 use Rattle.der_elem.proofs.blanket.AnyDecode.decode.Goals.{In_ok-header, In_ok-end}
 
-header_at : (g : _) (c : In_ok-header g) → AtHeader c.in_ok-header.header (g.R.Reader.state c.args.reader.now) (g.R.Reader.state c.decode.new.reader)
+header_at : (g : _) (c : In_ok-header g) → AtHeader c.in_ok-header.header (g.R.Source.state c.args.reader.now) (g.R.Source.state c.decode.new.reader)
 header_at g c = record { head = c.in_ok-header.ensures.head; sound = search rules }
 
 pub returns-in_err-header : goal.returns-in_err-header
 returns-in_err-header g c =
-    let fault = header_fault c.in_err-header.ensures.head g.T.Marker.TagMarker.TAG g.T.FormValue.value.parse (g.R.Reader.state c.args.reader.now).rules in
+    let fault = header_fault c.in_err-header.ensures.head g.T.Marker.TagMarker.TAG g.T.FormValue.value.parse (g.R.Source.state c.args.reader.now).rules in
     search rules
 
 pub returns-then-not-equals : goal.returns-then-not-equals
@@ -22,17 +22,17 @@ returns-then-not-equals g c =
     let at = header_at g (goal.at.returns-then-not-equals g c).In_ok-header in
     let other : same_identifier c.in_ok-header.header.tag g.T.Marker.TagMarker.TAG ≡ false = ap (same_identifier c.in_ok-header.header.tag) (sym c.TAG-tag.ensures) ∙ sym c.if-not-equals.ensures in
     let kind : c.error.result.kind ≡ TagUnexpected (Some g.T.Marker.TagMarker.TAG) c.in_ok-header.header.tag = c.error.ensures.kind ∙ c.unexpected_error.ensures ∙ ap (λ t. TagUnexpected (Some t) c.in_ok-header.header.tag) c.TAG-tag.ensures in
-    record { reason = inr (other_tag_fault at g.T.Marker.TagMarker.TAG other g.T.FormValue.value.parse (g.R.Reader.state c.args.reader.now).rules ∙ ap Err (sym kind)); reader = refused_at_header at c.error.ensures.failed }
+    record { reason = inr (other_tag_fault at g.T.Marker.TagMarker.TAG other g.T.FormValue.value.parse (g.R.Source.state c.args.reader.now).rules ∙ ap Err (sym kind)); reader = refused_at_header at c.error.ensures.failed }
 
 pub returns-in_err-end : goal.returns-in_err-end
 returns-in_err-end g c =
     let at = header_at g (goal.at.returns-in_err-end g c).In_ok-header in
     let same : c.in_ok-header.header.tag ≡ g.T.Marker.TagMarker.TAG = same_identifier-true c.in_ok-header.header.tag c.TAG-tag.result (sym c.if-not-equals.ensures) ∙ c.TAG-tag.ensures in
-    let fault = too_long_fault at c.in_err-end.ensures g.T.Marker.TagMarker.TAG same g.T.FormValue.value.parse (g.R.Reader.state c.args.reader.now).rules in
+    let fault = too_long_fault at c.in_err-end.ensures g.T.Marker.TagMarker.TAG same g.T.FormValue.value.parse (g.R.Source.state c.args.reader.now).rules in
     let reader = refused_behind_header at (refused_octets c.in_err-end.ensures) in
     search rules
 
-contents_at : (g : _) (c : In_ok-end g) → AtContents c.in_ok-header.header (g.R.Reader.state c.args.reader.now) (g.R.Reader.state c.decode.new.reader) (g.R.Reader.state c.nest.new.self) c.in_ok-end.end
+contents_at : (g : _) (c : In_ok-end g) → AtContents c.in_ok-header.header (g.R.Source.state c.args.reader.now) (g.R.Source.state c.decode.new.reader) (g.R.Source.state c.nest.new.self) c.in_ok-end.end
 contents_at g c =
     record { at = record { head = c.in_ok-header.ensures.head; sound = search rules }; nest = c.in_ok-end.ensures }
 

@@ -15,22 +15,22 @@ returns-in_err-item-clause-exact g c = λ shows.
 pub items-smaller : goal.items-smaller
 items-smaller g c =
     let some = more_left _ _ c.is_finished.ensures c.items-test.true in
-    let nonempty = led-some g.T.Form g.met.T.Choice.is_led (g.R.Reader.state c.items.reader).rules in
+    let nonempty = led-some g.T.Form g.met.T.Choice.is_led (g.R.Source.state c.items.reader).rules in
     items_smaller c.items.invariant nonempty some c.in_ok-item.ensures
 
 pub items-preserved : goal.items-preserved
 items-preserved g c =
     let some = more_left _ _ c.is_finished.ensures c.items-test.true in
-    let nonempty = led-some g.T.Form g.met.T.Choice.is_led (g.R.Reader.state c.items.reader).rules in
+    let nonempty = led-some g.T.Form g.met.T.Choice.is_led (g.R.Source.state c.items.reader).rules in
     let pushed : c.push.new.self.items ≡ c.items.items.items ++ c.in_ok-item.item ∷ [] = grind (arith, common_steps) in
-    subst (ItemsSoFar g.T.Form (g.R.Reader.state c.args.reader.now) (g.R.Reader.state c.decode.new.reader)) (sym pushed) (items_more c.items.invariant nonempty some c.in_ok-item.ensures)
+    subst (ItemsSoFar g.T.Form (g.R.Source.state c.args.reader.now) (g.R.Source.state c.decode.new.reader)) (sym pushed) (items_more c.items.invariant nonempty some c.in_ok-item.ensures)
 
 pub returns-clause-exact : goal.returns-clause-exact
 returns-clause-exact g c = λ shows.
     let so_far = c.items.invariant in
-    let none : rest (g.R.Reader.state c.items.reader) ≡ [] = search rules in
-    let sound : IsReaderState (g.R.Reader.state c.args.reader.now) = search rules in
-    let sound' : IsReaderState (g.R.Reader.state c.items.reader) = search rules in
+    let none : rest (g.R.Source.state c.items.reader) ≡ [] = search rules in
+    let sound : IsReaderState (g.R.Source.state c.args.reader.now) = search rules in
+    let sound' : IsReaderState (g.R.Source.state c.items.reader) = search rules in
     let taken = all_taken _ _ so_far.taken sound sound' so_far.after none in
     let ready = c.in_ok-check_ready.ensures.0 in
     record {
@@ -38,5 +38,5 @@ returns-clause-exact g c = λ shows.
       parsed = items_end so_far ready none;
       accepted = items_accepted so_far taken;
       tag = tt;
-      after = so_far.after ∙ ap (after_read (g.R.Reader.state c.args.reader.now)) taken;
+      after = so_far.after ∙ ap (after_read (g.R.Source.state c.args.reader.now)) taken;
     }

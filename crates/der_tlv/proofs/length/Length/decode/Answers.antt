@@ -11,7 +11,7 @@ returns-in_err-first g c = let there = no_length c.in_err-first.ensures in searc
 
 pub returns-in-0-to-127 : goal.returns-in-0-to-127
 returns-in-0-to-127 g c =
-    subst (λ n. HeadRead read_length (length_octets n) (g.R.Reader.state c.args.reader.now) (g.R.Reader.state c.read_byte.new.self) n) (sym c.from.ensures) (short_length c.in_ok-first.ensures (search rules))
+    subst (λ n. HeadRead read_length (length_octets n) (g.R.Source.state c.args.reader.now) (g.R.Source.state c.read_byte.new.self) n) (sym c.from.ensures) (short_length c.in_ok-first.ensures (search rules))
 
 pub returns-in-128 : goal.returns-in-128
 returns-in-128 g c =

@@ -17,20 +17,20 @@ returns-in_err-number-clause-head g c =
 pub returns-in-Ok-clause-head : goal.returns-in-Ok-clause-head
 returns-in-Ok-clause-head g c =
     let small : c.in_ok-first.first < 256 = search rules in
-    let read : NumberRead (g.R.Reader.state c.args.reader.now) (g.R.Reader.state c.if-low-lt31.reader) c.in_ok-first.first c.if-low-lt31.number =
+    let read : NumberRead (g.R.Source.state c.args.reader.now) (g.R.Source.state c.if-low-lt31.reader) c.in_ok-first.first c.if-low-lt31.number =
     elim c.if-low-lt31.branch [
-      | then-low-lt31 w ↦ number_in_first c.in_ok-first.ensures small w.if-low-lt31.true (omega arith) (ap g.R.Reader.state w.reader-is)
-      | else-low-lt31+in_ok-number w ↦ number_behind c.in_ok-first.ensures small w.if-low-lt31.false w.in_ok-number.ensures.head w.in_ok-number.ensures.long w.number-is (ap g.R.Reader.state w.reader-is)
+      | then-low-lt31 w ↦ number_in_first c.in_ok-first.ensures small w.if-low-lt31.true (omega arith) (ap g.R.Source.state w.reader-is)
+      | else-low-lt31+in_ok-number w ↦ number_behind c.in_ok-first.ensures small w.if-low-lt31.false w.in_ok-number.ensures.head w.in_ok-number.ensures.long w.number-is (ap g.R.Source.state w.reader-is)
     ] in
     tag_read read (sym c.in-Ok.ensures)
 
 pub returns-in-Err-clause-head : goal.returns-in-Err-clause-head
 returns-in-Err-clause-head g c =
     let small : c.in_ok-first.first < 256 = search rules in
-    let read : NumberRead (g.R.Reader.state c.args.reader.now) (g.R.Reader.state c.if-low-lt31.reader) c.in_ok-first.first c.if-low-lt31.number =
+    let read : NumberRead (g.R.Source.state c.args.reader.now) (g.R.Source.state c.if-low-lt31.reader) c.in_ok-first.first c.if-low-lt31.number =
     elim c.if-low-lt31.branch [
-      | then-low-lt31 w ↦ number_in_first c.in_ok-first.ensures small w.if-low-lt31.true (omega arith) (ap g.R.Reader.state w.reader-is)
-      | else-low-lt31+in_ok-number w ↦ number_behind c.in_ok-first.ensures small w.if-low-lt31.false w.in_ok-number.ensures.head w.in_ok-number.ensures.long w.number-is (ap g.R.Reader.state w.reader-is)
+      | then-low-lt31 w ↦ number_in_first c.in_ok-first.ensures small w.if-low-lt31.true (omega arith) (ap g.R.Source.state w.reader-is)
+      | else-low-lt31+in_ok-number w ↦ number_behind c.in_ok-first.ensures small w.if-low-lt31.false w.in_ok-number.ensures.head w.in_ok-number.ensures.long w.number-is (ap g.R.Source.state w.reader-is)
     ] in
     let fault = tag_refused read (sym c.in-Err.ensures) c.error.ensures.failed in
     search rules

@@ -4,7 +4,7 @@ use Rattle.der_tlv.proofs.TagNumbers.{NumberSoFar}
 use Rattle.der_tlv.proofs.tag.decoding.decode_number.Given as goal
 
 abbrev pub invariant-digits : goal.invariant-digits
-invariant-digits g l = NumberSoFar (g.R.Reader.state l.fn.reader) (g.R.Reader.state l.reader) l.number
+invariant-digits g l = NumberSoFar (g.R.Source.state l.fn.reader) (g.R.Source.state l.reader) l.number
 
 abbrev pub decreases-digits : goal.decreases-digits
-decreases-digits g l = length (rest (g.R.Reader.state l.reader))
+decreases-digits g l = length (rest (g.R.Source.state l.reader))

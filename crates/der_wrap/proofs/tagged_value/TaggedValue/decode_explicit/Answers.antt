@@ -9,11 +9,11 @@ use Rattle.der_wrap.proofs.tagged_value.TaggedValue.decode_explicit.Goals as goa
 
 pub returns : goal.returns
 returns g c =
-    let old = g.R.Reader.state c.args.reader.now in
+    let old = g.R.Source.state c.args.reader.now in
     let bits = g.row.CLASS in
     let n = c.args.tag_number.0 in
     let found : match_tag (class_of_bits bits) n old.position (rest old) ≡ Ok true = search rules in
-    let same : g.R.Reader.state c.peek_matches.new.reader ≡ old = search rules in
+    let same : g.R.Source.state c.peek_matches.new.reader ≡ old = search rules in
     let told = c.in_ok-decode.ensures in
     let w = c.in_ok-decode.field-0 in
     let own = g.T.Tagged.tag_of w.value in

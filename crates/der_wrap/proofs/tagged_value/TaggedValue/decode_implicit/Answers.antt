@@ -16,32 +16,32 @@ use Rattle.der_wrap.proofs.ImplicitDecoding.{header_fault_implicit, form_fault_i
 use Rattle.der_wrap.proofs.tagged_value.TaggedValue.decode_implicit.Goals as goal
 use Rattle.der_wrap.proofs.tagged_value.TaggedValue.decode_implicit.Goals.{In_ok-header, In-Ok, In_ok-end}
 
-header_at : (g : _) (c : In_ok-header g) → AtHeader c.in_ok-header.header (g.R.Reader.state c.args.reader.now) (g.R.Reader.state c.decode.new.reader)
+header_at : (g : _) (c : In_ok-header g) → AtHeader c.in_ok-header.header (g.R.Source.state c.args.reader.now) (g.R.Source.state c.decode.new.reader)
 header_at g c =
-    let same : g.R.Reader.state c.peek_matches.new.reader ≡ g.R.Reader.state c.args.reader.now = search rules in
+    let same : g.R.Source.state c.peek_matches.new.reader ≡ g.R.Source.state c.args.reader.now = search rules in
     record {
-      head = subst (λ s. HeadRead read_header (octets_of c.in_ok-header.header) s (g.R.Reader.state c.decode.new.reader) c.in_ok-header.header) same c.in_ok-header.ensures.head;
+      head = subst (λ s. HeadRead read_header (octets_of c.in_ok-header.header) s (g.R.Source.state c.decode.new.reader) c.in_ok-header.header) same c.in_ok-header.ensures.head;
       sound = search rules;
     }
 
 pub returns-in_err-header : goal.returns-in_err-header
 returns-in_err-header g c =
-    let old = g.R.Reader.state c.args.reader.now in
+    let old = g.R.Source.state c.args.reader.now in
     let bits = g.row.CLASS in
     let n = c.args.tag_number.0 in
     let own = g.T.IsConstructed.CONSTRUCTED in
     let t = class_tag bits own n in
     let found : match_tag (class_of_bits bits) n old.position (rest old) ≡ Ok true = search rules in
-    let same : g.R.Reader.state c.peek_matches.new.reader ≡ old = search rules in
+    let same : g.R.Source.state c.peek_matches.new.reader ≡ old = search rules in
     let ready : old.failed ≡ false = search rules in
-    let head : HeadFault read_header old (g.R.Reader.state c.decode.new.reader) c.in_err-header.field-0.0.kind = subst (λ s. HeadFault read_header s (g.R.Reader.state c.decode.new.reader) c.in_err-header.field-0.0.kind) same c.in_err-header.ensures.head in
+    let head : HeadFault read_header old (g.R.Source.state c.decode.new.reader) c.in_err-header.field-0.0.kind = subst (λ s. HeadFault read_header s (g.R.Source.state c.decode.new.reader) c.in_err-header.field-0.0.kind) same c.in_err-header.ensures.head in
     let fault = found_fault bits n old ready found (parse_implicit t own g.T.FormValue.value.parse) old.rules (header_fault_implicit head t own g.T.FormValue.value.parse old.rules) in
     let reader = head.reader in
     search rules
 
 pub returns-in-Err : goal.returns-in-Err
 returns-in-Err g c =
-    let old = g.R.Reader.state c.args.reader.now in
+    let old = g.R.Source.state c.args.reader.now in
     let bits = g.row.CLASS in
     let n = c.args.tag_number.0 in
     let own = g.T.IsConstructed.CONSTRUCTED in
@@ -57,19 +57,19 @@ returns-in-Err g c =
     let fault = form_fault_implicit at t own g.T.FormValue.value.parse old.rules kind refused in
     record { reason = inr (found_fault bits n old ready found (parse_implicit t own g.T.FormValue.value.parse) old.rules fault ∙ ap Err (sym c.error.ensures.kind)); reader = refused_at_header at c.error.ensures.failed }
 
-allowed_at : (g : _) (c : In-Ok g) → form_allowed (g.R.Reader.state c.args.reader.now).rules (is_constructed c.in_ok-header.header.tag) g.T.IsConstructed.CONSTRUCTED ≡ true
+allowed_at : (g : _) (c : In-Ok g) → form_allowed (g.R.Source.state c.args.reader.now).rules (is_constructed c.in_ok-header.header.tag) g.T.IsConstructed.CONSTRUCTED ≡ true
 allowed_at g c =
-    let same : g.R.Reader.state c.peek_matches.new.reader ≡ g.R.Reader.state c.args.reader.now = search rules in
-    let rules_are : c.encoding_rules.result ≡ (g.R.Reader.state c.args.reader.now).rules = c.encoding_rules.ensures ∙ ap (λ s. s.rules) c.in_ok-header.ensures.head.after ∙ ap (λ s. s.rules) same in
+    let same : g.R.Source.state c.peek_matches.new.reader ≡ g.R.Source.state c.args.reader.now = search rules in
+    let rules_are : c.encoding_rules.result ≡ (g.R.Source.state c.args.reader.now).rules = c.encoding_rules.ensures ∙ ap (λ s. s.rules) c.in_ok-header.ensures.head.after ∙ ap (λ s. s.rules) same in
     let constructed = is_constructed c.in_ok-header.header.tag in
     subst (λ r. form_allowed r constructed g.T.IsConstructed.CONSTRUCTED ≡ true) rules_are (subst (λ o. form_allowed c.encoding_rules.result constructed o ≡ true) c.CONSTRUCTED.ensures c.in-Ok.ensures)
 
-contents_at : (g : _) (c : In_ok-end g) → AtHeader c.in_ok-header.header (g.R.Reader.state c.args.reader.now) (g.R.Reader.state c.decode.new.reader) → AtContents c.in_ok-header.header (g.R.Reader.state c.args.reader.now) (g.R.Reader.state c.decode.new.reader) (g.R.Reader.state c.nest.new.self) c.in_ok-end.end
+contents_at : (g : _) (c : In_ok-end g) → AtHeader c.in_ok-header.header (g.R.Source.state c.args.reader.now) (g.R.Source.state c.decode.new.reader) → AtContents c.in_ok-header.header (g.R.Source.state c.args.reader.now) (g.R.Source.state c.decode.new.reader) (g.R.Source.state c.nest.new.self) c.in_ok-end.end
 contents_at g c at = record { at = at; nest = c.in_ok-end.ensures }
 
 pub returns-in_err-end : goal.returns-in_err-end
 returns-in_err-end g c =
-    let old = g.R.Reader.state c.args.reader.now in
+    let old = g.R.Source.state c.args.reader.now in
     let bits = g.row.CLASS in
     let n = c.args.tag_number.0 in
     let own = g.T.IsConstructed.CONSTRUCTED in
@@ -85,7 +85,7 @@ returns-in_err-end g c =
 
 pub returns-in_err-value : goal.returns-in_err-value
 returns-in_err-value g c =
-    let old = g.R.Reader.state c.args.reader.now in
+    let old = g.R.Source.state c.args.reader.now in
     let bits = g.row.CLASS in
     let n = c.args.tag_number.0 in
     let own = g.T.IsConstructed.CONSTRUCTED in
@@ -105,7 +105,7 @@ returns-in_err-value g c =
 
 pub returns : goal.returns
 returns g c =
-    let old = g.R.Reader.state c.args.reader.now in
+    let old = g.R.Source.state c.args.reader.now in
     let bits = g.row.CLASS in
     let n = c.args.tag_number.0 in
     let own = g.T.IsConstructed.CONSTRUCTED in
