@@ -48,7 +48,7 @@ pub(crate) struct OrderedItems<'a, T: Form> {
 
 /// Where the items are.
 #[derive(Drop)]
-pub(crate) enum Source<'a, T: Form> {
+pub(crate) enum Backing<'a, T: Form> {
     Octets(CheckedOctets<'a, T>),
     Items(OrderedItems<'a, T>),
 }
@@ -56,18 +56,18 @@ pub(crate) enum Source<'a, T: Form> {
 /// A set of items that are borrowed, or read again from borrowed contents octets.
 #[derive(Drop)]
 pub struct SetOfRef<'a, T: Form> {
-    pub(crate) source: Source<'a, T>,
+    pub(crate) backing: Backing<'a, T>,
 }
 
 impl<'a, T: Form> Model for SetOfRef<'a, T> {
     ghost use Rattle.der_tlv.specs.declared.encoding_rules.EncodingRules.TheVariants.{Der};
     ghost use Rattle.der_nest.specs.BorrowedSets.{Borrowed, OfItems, OfOctets};
     ghost use Rattle.der_nest.specs.ReReading.{encodings_read};
-    ghost use Rattle.der_nest.specs.declared.set_of_ref.Source.TheVariants.{Octets, Items};
+    ghost use Rattle.der_nest.specs.declared.set_of_ref.Backing.TheVariants.{Octets, Items};
 
     ghost Value = { Borrowed T };
 
-    ghost view = { λ s. elim s.source [
+    ghost view = { λ s. elim s.backing [
       | Octets o ↦ OfOctets
           (encodings_read o.count T.parse Der 0 o.octets.now)
       | Items i ↦ OfItems i.items.now
@@ -79,9 +79,9 @@ impl<'a, T: Form> SetOfRef<'a, T> {
     pub fn len(&self) -> usize
         ensures { result ≡ length (encodings_of T.encoding self.now) }
     {
-        match &self.source {
-            Source::Octets(octets) => octets.count,
-            Source::Items(items) => items.items.len(),
+        match &self.backing {
+            Backing::Octets(octets) => octets.count,
+            Backing::Items(items) => items.items.len(),
         }
     }
 
@@ -90,11 +90,11 @@ impl<'a, T: Form> SetOfRef<'a, T> {
         ensures items { result ≡ self.now }
         ensures in_order { IsSorted lex (encodings_of T.encoding self.now) }
     {
-        match &self.source {
-            Source::Octets(octets) => SetOfRefIter {
+        match &self.backing {
+            Backing::Octets(octets) => SetOfRefIter {
                 rest: Rest::Octets(octets.items()),
             },
-            Source::Items(items) => SetOfRefIter {
+            Backing::Items(items) => SetOfRefIter {
                 rest: Rest::Items(items.items),
             },
         }
@@ -115,7 +115,7 @@ impl<'a, T: Form> SetOfRef<'a, T> {
         ensures { result ≡ OfItems items.now }
     {
         SetOfRef {
-            source: Source::Items(OrderedItems { items }),
+            backing: Backing::Items(OrderedItems { items }),
         }
     }
 }
@@ -128,9 +128,9 @@ impl<'a, T: Decode<'a, SliceReader<'a>> + Duplicate> SetOfRef<'a, T> {
     pub fn get(&self, index: usize) -> Option<Result<T, Error>>
         ensures { GivesAt T.Form T.is_copy T.takes_memory_to_copy self.now index result }
     {
-        match &self.source {
-            Source::Octets(octets) => octets.get(index),
-            Source::Items(items) => {
+        match &self.backing {
+            Backing::Octets(octets) => octets.get(index),
+            Backing::Items(items) => {
                 if index >= items.items.len() {
                     return None;
                 }
@@ -164,11 +164,11 @@ impl<'a, 'b, T: Form> From<&'b SetOfRef<'a, T>> for SetOfRef<'a, T> {
 
     /// The same set, of the same slice or octets.
     fn from(set: &'b SetOfRef<'a, T>) -> SetOfRef<'a, T> {
-        match &set.source {
-            Source::Octets(octets) => SetOfRef {
-                source: Source::Octets(octets.again()),
+        match &set.backing {
+            Backing::Octets(octets) => SetOfRef {
+                backing: Backing::Octets(octets.again()),
             },
-            Source::Items(items) => SetOfRef::of_ordered(items.items),
+            Backing::Items(items) => SetOfRef::of_ordered(items.items),
         }
     }
 }
@@ -241,7 +241,7 @@ impl<'a, R: Source<'a>, T: Decode<'a, SliceReader<'a>> + DerOrd + Tagged> Decode
         let octets = read_contents(reader, header)?;
         match CheckedOctets::read(alloc, octets) {
             Ok(octets) => Ok(SetOfRef {
-                source: Source::Octets(octets),
+                backing: Backing::Octets(octets),
             }),
             Err(e) => {
                 // The reader fails; the position is that of the contents octets' own reader.
@@ -256,16 +256,16 @@ impl<'a, R: Source<'a>, T: Decode<'a, SliceReader<'a>> + DerOrd + Tagged> Decode
 
 impl<'a, T: Decode<'a, SliceReader<'a>> + Encode + Tagged> EncodeValue for SetOfRef<'a, T> {
     fn value_len(&self) -> Result<Length, Error> {
-        match &self.source {
-            Source::Octets(octets) => octets.items_len(),
-            Source::Items(items) => items_len(items.items),
+        match &self.backing {
+            Backing::Octets(octets) => octets.items_len(),
+            Backing::Items(items) => items_len(items.items),
         }
     }
 
     fn encode_value<W: Writer>(&self, writer: &mut W) -> Result<(), Error> {
-        match &self.source {
-            Source::Octets(octets) => octets.encode_items(writer),
-            Source::Items(items) => encode_items(items.items, writer),
+        match &self.backing {
+            Backing::Octets(octets) => octets.encode_items(writer),
+            Backing::Items(items) => encode_items(items.items, writer),
         }
     }
 }

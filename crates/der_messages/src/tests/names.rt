@@ -1,11 +1,13 @@
 //! Names, times and extensions that OpenSSL wrote, read and written back, and octets that are refused.
 
-use super::{numbered, same};
+use super::{holds, numbered, same};
+use der_elem::{DerOrd, Duplicate};
 use der_pkix::{
-    read_extension, read_extensions, read_name, read_time, read_validity, write_extension,
-    write_extensions, write_name, write_time, write_validity,
+    Validity, read_extension, read_extensions, read_name, read_time, read_validity,
+    write_extension, write_extensions, write_name, write_time, write_validity,
 };
 use std::alloc::Global;
+use std::cmp::Ordering;
 use std::process::Abort;
 use std::test::Fail;
 
@@ -160,5 +162,46 @@ fn extensions_have_their_fields_in_order_and_no_default(rt: HostRuntime) -> Resu
             Some(number),
         );
     }
+    Ok(())
+}
+
+fn validity_of(alloc: Global, digits: &str) -> Result<Validity, u8> {
+    let Ok(octets) = hex::decode(alloc, digits) else {
+        return Err(0);
+    };
+    match read_validity(alloc, octets.as_slice()) {
+        Ok(value) => Ok(value),
+        Err(e) => Err(e.kind().number()),
+    }
+}
+
+fn order_of(first: &Validity, second: &Validity) -> Result<Ordering, u8> {
+    match first.der_cmp(second) {
+        Ok(order) => Ok(order),
+        Err(e) => Err(e.kind().number()),
+    }
+}
+
+#[test]
+fn validities_are_compared(rt: HostRuntime) -> Result<(), Fail> {
+    let alloc = rt.alloc();
+    let first = validity_of(
+        alloc,
+        "3020170d3236313132333034313033355a180f32303539313030313034313033355a",
+    )?;
+    // one second longer
+    let longer = validity_of(
+        alloc,
+        "3020170d3236313132333034313033355a180f32303539313030313034313033365a",
+    )?;
+    let copy = match first.duplicate() {
+        Ok(copy) => copy == first,
+        Err(_) => false,
+    };
+    holds(&rt, copy);
+    holds(&rt, longer != first);
+    same(&rt, order_of(&first, &longer)?, Ordering::Less);
+    same(&rt, order_of(&longer, &first)?, Ordering::Greater);
+    same(&rt, order_of(&first, &first)?, Ordering::Equal);
     Ok(())
 }
