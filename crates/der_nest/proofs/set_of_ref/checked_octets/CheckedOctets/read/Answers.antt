@@ -8,7 +8,7 @@ use Rattle.der_tlv.specs.ReaderState.{IsReaderState, rest}
 use Rattle.der_elem.specs.OrderLaws.{accepted-some}
 use Rattle.der_elem.proofs.ItemReading.{more_left}
 use Rattle.der_nest.proofs.EachReading.{smaller}
-use Rattle.der_nest.proofs.BorrowedReading.{octets_fit, borrowed_item_fault, order_fault, one_more_borrowed, encodings_are, borrowed_accepted}
+use Rattle.der_nest.proofs.BorrowedReading.{none_borrowed, octets_fit, borrowed_item_fault, order_fault, one_more_borrowed, encodings_are, borrowed_accepted}
 use Rattle.der_nest.proofs.set_of_ref.checked_octets.CheckedOctets.read.Goals as goal
 
 pub returns-in_err-item-clause-refused : goal.returns-in_err-item-clause-refused
@@ -24,6 +24,9 @@ returns-in_err-may_follow-clause-refused g c =
     let some = more_left _ _ c.is_finished.ensures c.items-test.true in
     let fault = order_fault c.items.invariant sound c.in_err-may_follow.field-0.0.kind some c.in_ok-item.ensures c.in_err-may_follow.ensures.refused in
     search rules
+
+pub items-init : goal.items-init
+items-init g c = none_borrowed g.T.Form c.args.octets.now (slice_reader_state c.in-Ok.reader) c.in-Ok.ensures.state
 
 pub items-smaller : goal.items-smaller
 items-smaller g c =
