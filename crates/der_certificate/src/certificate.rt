@@ -4,13 +4,14 @@ ghost use Rattle.der_elem.specs.Decoding.{ReadsAll};
 ghost use Rattle.der_fields.specs.SequenceWriting.{WritesAll};
 ghost use Rattle.der_certificate.specs.Grammars.{tbs_certificate};
 
-use crate::issuer::Issuer;
 use der_bits::BitStringRef;
 use der_fields::{
-    DefaultNumber, End, Explicit, Field, FieldSequence, WithDefault, read_sequence, write_sequence,
+    DefaultNumber, End, Explicit, Field, FieldSequence, Implicit, WithDefault, read_sequence,
+    write_sequence,
 };
 use der_numbers::IntRef;
-use der_pkix::AlgorithmIdentifier;
+use der_opaque::AnyRef;
+use der_pkix::{AlgorithmIdentifier, Extension, SubjectPublicKeyInfo, Validity};
 use der_tlv::Error;
 use std::alloc::Global;
 
@@ -30,7 +31,25 @@ use std::alloc::Global;
 ///     extensions            [3] SEQUENCE OF Extension OPTIONAL }
 /// ```
 pub type TbsCertificate<'a> = FieldSequence<
-    Field<WithDefault<Explicit<u8, 0>, DefaultNumber<0>>, Field<IntRef<'a>, Issuer<'a>>>,
+    Field<
+        WithDefault<Explicit<u8, 0>, DefaultNumber<0>>,
+        Field<IntRef<'a>, Field<AlgorithmIdentifier<'a>, Field<AnyRef<'a>, SubjectFields<'a>>>>,
+    >,
+>;
+
+/// The fields from the validity on.
+type SubjectFields<'a> = Field<
+    Validity,
+    Field<AnyRef<'a>, Field<SubjectPublicKeyInfo<'a>, LastFields<'a>>>,
+>;
+
+/// The unique identifiers and the extensions.
+type LastFields<'a> = Field<
+    Option<Implicit<BitStringRef<'a>, 1>>,
+    Field<
+        Option<Implicit<BitStringRef<'a>, 2>>,
+        Field<Option<Explicit<Vec<Extension<'a>>, 3>>, End>,
+    >,
 >;
 
 /// Reads what is signed of a certificate: all of the octets, under DER.

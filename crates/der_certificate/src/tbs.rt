@@ -3,7 +3,6 @@
 ghost use Rattle.std.specs.Prelude.{◌≡◌};
 
 use crate::certificate::TbsCertificate;
-use crate::last::Last;
 use der_bits::BitStringRef;
 use der_fields::{Explicit, Implicit};
 use der_numbers::IntRef;
@@ -26,69 +25,72 @@ pub fn serial_number<'a>(tbs: &TbsCertificate<'a>) -> IntRef<'a>
 
 /// `signature`: the algorithm that the certificate says of its signature.
 pub fn signature<'a, 'b>(tbs: &'b TbsCertificate<'a>) -> &'b AlgorithmIdentifier<'a>
-    ensures { result.now ≡ tbs.now.fields.rest.rest.fields.first }
+    ensures { result.now ≡ tbs.now.fields.rest.rest.first }
 {
-    &tbs.fields.rest.rest.fields.first
+    &tbs.fields.rest.rest.first
 }
 
 /// `issuer`: a Name, as it is encoded.
 pub fn issuer<'a>(tbs: &TbsCertificate<'a>) -> AnyRef<'a>
-    ensures { result ≡ tbs.now.fields.rest.rest.fields.rest.first }
+    ensures { result ≡ tbs.now.fields.rest.rest.rest.first }
 {
-    tbs.fields.rest.rest.fields.rest.first
+    tbs.fields.rest.rest.rest.first
 }
 
 /// `validity`.
 pub fn validity<'b>(tbs: &'b TbsCertificate<'_>) -> &'b Validity
-    ensures { result.now ≡ tbs.now.fields.rest.rest.fields.rest.rest.fields.first }
+    ensures { result.now ≡ tbs.now.fields.rest.rest.rest.rest.first }
 {
-    &tbs.fields.rest.rest.fields.rest.rest.fields.first
+    &tbs.fields.rest.rest.rest.rest.first
 }
 
 /// `subject`: a Name, as it is encoded.
 pub fn subject<'a>(tbs: &TbsCertificate<'a>) -> AnyRef<'a>
-    ensures { result ≡ tbs.now.fields.rest.rest.fields.rest.rest.fields.rest.first }
+    ensures { result ≡ tbs.now.fields.rest.rest.rest.rest.rest.first }
 {
-    tbs.fields.rest.rest.fields.rest.rest.fields.rest.first
+    tbs.fields.rest.rest.rest.rest.rest.first
 }
 
 /// `subjectPublicKeyInfo`.
 pub fn subject_public_key_info<'a, 'b>(tbs: &'b TbsCertificate<'a>) -> &'b SubjectPublicKeyInfo<'a>
-    ensures { result.now ≡ tbs.now.fields.rest.rest.fields.rest.rest.fields.rest.rest.first }
+    ensures { result.now ≡ tbs.now.fields.rest.rest.rest.rest.rest.rest.first }
 {
-    &tbs.fields.rest.rest.fields.rest.rest.fields.rest.rest.first
-}
-
-// The fields behind the key.
-fn last<'a, 'b>(tbs: &'b TbsCertificate<'a>) -> &'b Last<'a>
-    ensures { result.now ≡ tbs.now.fields.rest.rest.fields.rest.rest.fields.rest.rest.rest }
-{
-    &tbs.fields.rest.rest.fields.rest.rest.fields.rest.rest.rest
+    &tbs.fields.rest.rest.rest.rest.rest.rest.first
 }
 
 /// `issuerUniqueID`.
 pub fn issuer_unique_id<'a, 'b>(
     tbs: &'b TbsCertificate<'a>,
 ) -> &'b Option<Implicit<BitStringRef<'a>, 1>>
-    ensures { result.now ≡ tbs.now.fields.rest.rest.fields.rest.rest.fields.rest.rest.rest.fields.first }
+    ensures { result.now ≡ tbs.now.fields.rest.rest.rest.rest.rest.rest.rest.first }
 {
-    &last(tbs).fields.first
+    &tbs.fields.rest.rest.rest.rest.rest.rest.rest.first
 }
 
 /// `subjectUniqueID`.
 pub fn subject_unique_id<'a, 'b>(
     tbs: &'b TbsCertificate<'a>,
 ) -> &'b Option<Implicit<BitStringRef<'a>, 2>>
-    ensures { result.now ≡ tbs.now.fields.rest.rest.fields.rest.rest.fields.rest.rest.rest.fields.rest.first }
+    ensures { result.now ≡ tbs.now.fields.rest.rest.rest.rest.rest.rest.rest.rest.first }
 {
-    &last(tbs).fields.rest.first
+    &tbs.fields.rest.rest.rest.rest.rest.rest.rest.rest.first
 }
 
 /// `extensions`, if there are any.
 pub fn extensions<'a, 'b>(
     tbs: &'b TbsCertificate<'a>,
 ) -> &'b Option<Explicit<Vec<Extension<'a>>, 3>>
-    ensures { result.now ≡ tbs.now.fields.rest.rest.fields.rest.rest.fields.rest.rest.rest.fields.rest.rest.first }
+    ensures { result.now ≡ tbs.now.fields.rest.rest.rest.rest.rest.rest.rest.rest.rest.first }
 {
-    &last(tbs).fields.rest.rest.first
+    &tbs.fields
+        .rest
+        .rest
+        .rest
+        .rest
+        .rest
+        .rest
+        .rest
+        .rest
+        .rest
+        .first
 }

@@ -3,7 +3,9 @@
 ghost use Rattle.std.specs.Prelude.{◌≡◌};
 ghost use Rattle.der_fields.specs.Listing.{field, end, with_default};
 
-use der_fields::{DefaultFalse, End, Field, NamedFields, NamedSequence, WithDefault};
+use der_fields::{
+    DefaultFalse, End, Field, NamedFields, NamedSequence, WithDefault, from_list, to_list,
+};
 use der_numbers::UintRef;
 
 /// The fields of `BasicConstraints`.
@@ -21,15 +23,11 @@ impl<'a> NamedFields for ConstraintsFields<'a> {
     ghost list_of = { λ v. field (with_default v.ca) (field v.path_len_constraint end) };
 
     fn of_list(list: &Self::List) -> Self {
-        ConstraintsFields {
-            ca: list.first.value,
-            path_len_constraint: list.rest.first,
-        }
+        from_list!(list => ConstraintsFields { default ca, path_len_constraint })
     }
 
     fn to_list(&self) -> Self::List {
-        let rest = Field::new(self.path_len_constraint, End);
-        Field::new(WithDefault::new(self.ca), rest)
+        to_list!(self => default ca, path_len_constraint)
     }
 }
 

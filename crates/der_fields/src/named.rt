@@ -46,6 +46,41 @@ pub trait NamedFields: Sized + Drop {
         ensures { result ≡ list_of self.now };
 }
 
+/// The struct of a list's fields, as the body of `of_list`: `from_list!(list => Name { a, default b })`
+/// names them in their order, and says `default` before one with a DEFAULT.
+#[macro_export]
+macro_rules! from_list {
+    (@ $name:ident, $at:expr, { $($done:tt)* };) => {
+        $name { $($done)* }
+    };
+    (@ $name:ident, $at:expr, { $($done:tt)* }; default $field:ident $(, $($rest:tt)*)?) => {
+        $crate::from_list!(@ $name, $at.rest, { $($done)* $field: $at.first.value, }; $($($rest)*)?)
+    };
+    (@ $name:ident, $at:expr, { $($done:tt)* }; $field:ident $(, $($rest:tt)*)?) => {
+        $crate::from_list!(@ $name, $at.rest, { $($done)* $field: $at.first, }; $($($rest)*)?)
+    };
+    ($list:expr => $name:ident { $($fields:tt)* }) => {
+        $crate::from_list!(@ $name, $list, {}; $($fields)*)
+    };
+}
+
+/// The list of a struct's fields, as the body of `to_list`: `to_list!(self => a, default b)`.
+#[macro_export]
+macro_rules! to_list {
+    ($value:expr =>) => {
+        $crate::End
+    };
+    ($value:expr => default $field:ident $(, $($rest:tt)*)?) => {
+        $crate::Field::new(
+            $crate::WithDefault::new($value.$field),
+            $crate::to_list!($value => $($($rest)*)?),
+        )
+    };
+    ($value:expr => $field:ident $(, $($rest:tt)*)?) => {
+        $crate::Field::new($value.$field, $crate::to_list!($value => $($($rest)*)?))
+    };
+}
+
 /// A SEQUENCE of the fields of a struct of one's own, which stand in its member `fields`.
 #[derive(Clone, Copy, Debug, Drop)]
 pub struct NamedSequence<S> {

@@ -4,7 +4,7 @@ ghost use Rattle.std.specs.Prelude.{◌≡◌};
 ghost use Rattle.der_fields.specs.Listing.{field, end};
 
 use crate::time::Time;
-use der_fields::{End, Field, NamedFields, NamedSequence};
+use der_fields::{End, Field, NamedFields, NamedSequence, from_list, to_list};
 
 /// The fields of a `Validity`.
 #[derive(Clone, Copy, Debug)]
@@ -21,14 +21,11 @@ impl NamedFields for ValidityFields {
     ghost list_of = { λ v. field v.not_before (field v.not_after end) };
 
     fn of_list(list: &Self::List) -> Self {
-        ValidityFields {
-            not_before: list.first,
-            not_after: list.rest.first,
-        }
+        from_list!(list => ValidityFields { not_before, not_after })
     }
 
     fn to_list(&self) -> Self::List {
-        Field::new(self.not_before, Field::new(self.not_after, End))
+        to_list!(self => not_before, not_after)
     }
 }
 

@@ -4,11 +4,11 @@ ghost use Rattle.der_elem.specs.Decoding.{ReadsAll};
 ghost use Rattle.der_fields.specs.SequenceWriting.{WritesAll};
 ghost use Rattle.der_revocation.specs.Grammars.{tbs_cert_list, certificate_list};
 
-use crate::updates::Updates;
+use crate::revoked_certificate::RevokedCertificate;
 use der_bits::BitStringRef;
-use der_fields::{End, Field, FieldSequence, read_sequence, write_sequence};
+use der_fields::{End, Explicit, Field, FieldSequence, read_sequence, write_sequence};
 use der_opaque::AnyRef;
-use der_pkix::AlgorithmIdentifier;
+use der_pkix::{AlgorithmIdentifier, Extensions, Time};
 use der_tlv::Error;
 use std::alloc::Global;
 
@@ -25,7 +25,16 @@ use std::alloc::Global;
 ///     crlExtensions        [0] SEQUENCE OF Extension OPTIONAL }
 /// ```
 pub type TbsCertList<'a> = FieldSequence<
-    Field<Option<u8>, Field<AlgorithmIdentifier<'a>, Field<AnyRef<'a>, Updates<'a>>>>,
+    Field<Option<u8>, Field<AlgorithmIdentifier<'a>, Field<AnyRef<'a>, UpdatesFields<'a>>>>,
+>;
+
+/// The fields from thisUpdate on.
+type UpdatesFields<'a> = Field<
+    Time,
+    Field<
+        Option<Time>,
+        Field<Option<Vec<RevokedCertificate<'a>>>, Field<Option<Explicit<Extensions<'a>, 0>>, End>>,
+    >,
 >;
 
 /// A list of revoked certificates with its signature, which nothing here verifies. What is signed is

@@ -1,7 +1,6 @@
 //! Lists of revoked certificates (RFC 5280 section 5.1), over lists of fields.
 //!
-//! The seven fields of a TBSCertList are kept in three parts: `TbsCertList` has the version, the
-//! algorithm and the issuer, and then `Updates`, of which the tail is `Entries`.
+//! A TBSCertList is one list of seven fields; `tbs` has a function for each, by its name.
 //!
 //! `LIST` is a list as hex digits:
 //!
@@ -18,19 +17,15 @@
 #![tactic(auto)]
 
 mod certificate_list;
-mod entries;
 mod grammars;
 mod revoked_certificate;
 pub mod tbs;
-mod updates;
 
 pub use certificate_list::{
     CertificateList, TbsCertList, read_certificate_list, read_tbs_cert_list,
     write_certificate_list, write_tbs_cert_list,
 };
-pub use entries::{Entries, EntriesFields};
 pub use grammars::Message;
 pub use revoked_certificate::{
     RevokedCertificate, read_revoked_certificate, write_revoked_certificate,
 };
-pub use updates::{Updates, UpdatesFields};

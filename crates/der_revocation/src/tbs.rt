@@ -31,30 +31,30 @@ pub fn issuer<'a>(tbs: &TbsCertList<'a>) -> AnyRef<'a>
 
 /// `thisUpdate`.
 pub fn this_update<'b>(tbs: &'b TbsCertList<'_>) -> &'b Time
-    ensures { result.now ≡ tbs.now.fields.rest.rest.rest.fields.first }
+    ensures { result.now ≡ tbs.now.fields.rest.rest.rest.first }
 {
-    &tbs.fields.rest.rest.rest.fields.first
+    &tbs.fields.rest.rest.rest.first
 }
 
 /// `nextUpdate`, if there is one.
 pub fn next_update<'b>(tbs: &'b TbsCertList<'_>) -> &'b Option<Time>
-    ensures { result.now ≡ tbs.now.fields.rest.rest.rest.fields.rest.first }
+    ensures { result.now ≡ tbs.now.fields.rest.rest.rest.rest.first }
 {
-    &tbs.fields.rest.rest.rest.fields.rest.first
+    &tbs.fields.rest.rest.rest.rest.first
 }
 
 /// `revokedCertificates`, if there are any.
 pub fn revoked_certificates<'a, 'b>(
     tbs: &'b TbsCertList<'a>,
 ) -> &'b Option<Vec<RevokedCertificate<'a>>>
-    ensures { result.now ≡ tbs.now.fields.rest.rest.rest.fields.rest.rest.fields.first }
+    ensures { result.now ≡ tbs.now.fields.rest.rest.rest.rest.rest.first }
 {
-    &tbs.fields.rest.rest.rest.fields.rest.rest.fields.first
+    &tbs.fields.rest.rest.rest.rest.rest.first
 }
 
 /// `crlExtensions`, if there are any.
 pub fn crl_extensions<'a, 'b>(tbs: &'b TbsCertList<'a>) -> &'b Option<Explicit<Extensions<'a>, 0>>
-    ensures { result.now ≡ tbs.now.fields.rest.rest.rest.fields.rest.rest.fields.rest.first }
+    ensures { result.now ≡ tbs.now.fields.rest.rest.rest.rest.rest.rest.first }
 {
-    &tbs.fields.rest.rest.rest.fields.rest.rest.fields.rest.first
+    &tbs.fields.rest.rest.rest.rest.rest.rest.first
 }

@@ -8,6 +8,7 @@ use der_asn1_types::asn1::{ObjectIdentifier, OctetStringRef};
 use der_asn1_types::{
     Encode, End, Error, Field, Form, FromDer, Implicit, NamedFields, NamedSequence,
 };
+use der_fields::{from_list, to_list};
 use std::alloc::Global;
 
 /// The fields of a policy, by their names.
@@ -30,16 +31,11 @@ impl<'a> NamedFields for PolicyMembers<'a> {
     ghost list_of = { λ v. field v.identifier (field v.qualifier (field v.version end)) };
 
     fn of_list(list: &Self::List) -> Self {
-        PolicyMembers {
-            identifier: list.first,
-            qualifier: list.rest.first,
-            version: list.rest.rest.first,
-        }
+        from_list!(list => PolicyMembers { identifier, qualifier, version })
     }
 
     fn to_list(&self) -> Self::List {
-        let rest = Field::new(self.qualifier, Field::new(self.version, End));
-        Field::new(self.identifier, rest)
+        to_list!(self => identifier, qualifier, version)
     }
 }
 
