@@ -4,7 +4,7 @@ mod calls;
 mod slice;
 mod source;
 
-ghost use Rattle.std.specs.Prelude.{◌≡◌, ℕ, ◌-◌, ◌≤◌, ◌↔◌, [], length, take, false, IfOk, IfErr, IsTrue};
+ghost use Rattle.std.specs.Prelude.{◌≡◌, ◌-◌, ◌≤◌, ◌↔◌, [], length, take, false, IfOk, IfErr, IsTrue};
 ghost use Rattle.der_tlv.specs.ReaderState.{rest, after_fault, after_rewind};
 ghost use Rattle.der_tlv.specs.Reading.{ReadsOctet, OctetsRead, OctetsRefused, Nests, Unnests};
 

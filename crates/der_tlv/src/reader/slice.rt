@@ -1,8 +1,7 @@
 //! A reader of octets in memory.
 
-ghost use Rattle.std.specs.Prelude.{⊤, ◌≡◌, ◌↔◌, ◌^◌, ◌<◌, ◌≤◌, ◌+◌, List, length, take, drop, Result, Ok, Err, IsOk, IfOk, IfErr, OnOk, OnErr, true, false};
-ghost use Rattle.der_tlv.specs.Reading.{OctetsRead, OctetsRefused};
-ghost use Rattle.der_tlv.specs.ReaderState.{ReaderState, new_reader, IsReaderState, finish_fault, can_finish, can_read, read_fault, after_fault};
+ghost use Rattle.std.specs.Prelude.{⊤, ◌≡◌, ◌↔◌, ◌^◌, ◌<◌, ◌≤◌, length, IsOk, IfOk, IfErr, true};
+ghost use Rattle.der_tlv.specs.ReaderState.{new_reader, finish_fault, can_finish};
 ghost use Rattle.der_tlv.specs.declared.error.ErrorKind.TheVariants.{Overflow};
 ghost use Rattle.der_tlv.specs.declared.encoding_rules.EncodingRules.{EncodingRules};
 ghost use Rattle.der_tlv.specs.declared.encoding_rules.EncodingRules.TheVariants.{Der};

@@ -18,7 +18,7 @@ pub struct Cursor {
     pub rules: EncodingRules,
 }
 
-/// A source of octets: an input in memory, and a cursor in it.
+/// A source of octets: an input in memory, of at most 4294967295 octets, and a cursor in it.
 ///
 /// Every source is a `Reader`. What reads a value asks for a source and no more.
 pub trait Source<'a> {
