@@ -1,6 +1,6 @@
 //! Owned octets whose number a length can say.
 
-ghost use Rattle.std.specs.Prelude.{◌≡◌, ◌↔◌, ◌^◌, ◌<◌, ℕ, List, [], length, IsTrue, IsOk, IfOk, IfErr};
+ghost use Rattle.std.specs.Prelude.{◌≡◌, ◌↔◌, ◌^◌, ◌<◌, [], length, IsTrue, IsOk, IfOk, IfErr};
 ghost use Rattle.der_tlv.specs.declared.error.ErrorKind.TheVariants.{Overflow};
 
 use crate::bytes_ref::BytesRef;

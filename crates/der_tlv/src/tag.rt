@@ -8,17 +8,13 @@ mod number;
 mod ordering;
 pub(crate) mod short;
 
-ghost use Rattle.std.specs.Prelude.{◌≡◌, ℕ, ◌+◌, ◌^◌, ◌<◌, ◌↔◌, IsTrue, IfOk, IfErr, IsOk, Option, Some, None, OnOk};
-ghost use Rattle.std.specs.Ordering.{on, as_partial_cmp};
+ghost use Rattle.std.specs.Prelude.{◌≡◌, ◌<◌, ◌↔◌, IfOk, IfErr, IsOk, Option, Some};
+ghost use Rattle.std.specs.Ordering.{on};
 ghost use Rattle.der_tlv.specs.declared.error.ErrorKind.TheVariants.{TagUnexpected};
-ghost use Rattle.der_tlv.specs.Octets.{lex};
 ghost use Rattle.der_tlv.specs.TagParts.{IsTag, class_of, is_constructed, number_of};
 ghost use Rattle.der_tlv.specs.Identifier.{identifier, same_identifier};
-ghost use Rattle.der_tlv.specs.HeaderReading.{read_tag};
-ghost use Rattle.der_tlv.specs.Reading.{ReadsHead, PeeksHead};
 
 use crate::error::{Error, ErrorKind};
-use crate::reader::Reader;
 pub use class::Class;
 pub use laws::{
     default_mode, explicit_before_implicit, identifiers_are_short, identifiers_are_unique,

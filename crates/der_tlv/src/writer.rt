@@ -3,7 +3,7 @@
 mod slice;
 mod vec;
 
-ghost use Rattle.std.specs.Prelude.{◌≡◌, ℕ, ◌≤◌, [], ◌∷◌, length, take, IsOk};
+ghost use Rattle.std.specs.Prelude.{◌≤◌, [], ◌∷◌, take};
 ghost use Rattle.der_tlv.specs.Writing.{WriterState, Writes};
 
 use crate::error::Error;
