@@ -1,5 +1,5 @@
 //! Callers of the layer, each a task of a user, with a contract of its own that the prover has
-//! accepted. They stand on `der_asn1_types` alone.
+//! accepted. They stand on `der_asn1_types`, and on `der_fields` for its macros.
 #![tactic(auto)]
 
 mod anys;
@@ -11,6 +11,7 @@ mod headers;
 mod named_fields;
 mod reading;
 mod sets;
+mod sources;
 mod tagged;
 mod texts;
 mod times;
@@ -25,6 +26,7 @@ pub use headers::first_header;
 pub use named_fields::{NamedPolicy, PolicyMembers, read_named_policy, write_named_policy};
 pub use reading::{contents_of_string, read_numbers, serial_number};
 pub use sets::{attribute_set, with_attribute};
+pub use sources::{Watched, read_watched};
 pub use tagged::explicit_version;
 pub use texts::{common_name, country};
 pub use times::is_within;

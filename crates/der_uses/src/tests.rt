@@ -6,13 +6,13 @@ mod rooms;
 mod rows;
 
 use crate::{
-    attribute_set, common_name, contents_of_string, country, explicit_version, first_header,
-    is_before, is_within, may_sign_certificates, named_curve, number_in, read_named_policy,
-    read_numbers, read_policy, read_policy_fields, serial_number, with_attribute,
-    write_named_policy, write_numbers, write_policy,
+    Watched, attribute_set, common_name, contents_of_string, country, explicit_version,
+    first_header, is_before, is_within, may_sign_certificates, named_curve, number_in,
+    read_named_policy, read_numbers, read_policy, read_policy_fields, read_watched, serial_number,
+    with_attribute, write_named_policy, write_numbers, write_policy,
 };
 use der_asn1_types::asn1::{AnyRef, BitStringRef};
-use der_asn1_types::{DateTime, DerOrd, Duplicate, Error, FromDer, Length, Tag};
+use der_asn1_types::{DateTime, DerOrd, Duplicate, Error, FromDer, Length, Reader, Tag};
 use std::cmp::Ordering;
 use std::fmt::Debug;
 use std::process::Abort;
@@ -213,5 +213,30 @@ fn a_version_is_written(rt: HostRuntime) -> Result<(), Fail> {
         written.as_slice(),
         [0xa0, 0x03, 0x02, 0x01, 0x02].as_slice(),
     );
+    Ok(())
+}
+
+#[test]
+fn a_source_of_ones_own_is_read(rt: HostRuntime) -> Result<(), Fail> {
+    let alloc = rt.alloc();
+    let octets = [0x02, 0x01, 0x05, 0x01, 0x01, 0xff];
+    match Watched::new(&octets) {
+        Ok(mut source) => {
+            // a tag is looked at, and is another's
+            let absent: Option<bool> = numbered(read_watched(alloc, &mut source))?;
+            same(&rt, absent, None);
+            same(&rt, (source.position().value(), source.furthest()), (0, 1));
+            same(&rt, numbered(read_watched::<u8>(alloc, &mut source))?, 5);
+            holds(&rt, numbered(read_watched::<bool>(alloc, &mut source))?);
+            same(&rt, (source.position().value(), source.furthest()), (6, 6));
+            // nothing is left, and then it has failed
+            let kinds = [2, 17];
+            for kind in kinds {
+                let refused = numbered(read_watched::<bool>(alloc, &mut source)).err();
+                same(&rt, refused, Some(kind));
+            }
+        }
+        Err(_) => holds(&rt, false),
+    }
     Ok(())
 }
