@@ -1,3 +1,1 @@
 pub mod Grammars
-pub mod KeptName
-pub mod KeptNames

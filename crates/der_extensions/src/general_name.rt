@@ -4,15 +4,16 @@ ghost use Rattle.der_elem.specs.Decoding.{ReadsAll};
 ghost use Rattle.der_fields.specs.SequenceWriting.{WritesAll};
 ghost use Rattle.der_extensions.specs.Grammars.{general_name, subject_alt_name};
 
-use crate::kept_name::KeptName;
 use der_ascii::Ia5StringRef;
 use der_elem::{Encode, FromDer};
-use der_fields::{Implicit, OneOf};
-use der_opaque::OctetStringRef;
+use der_fields::{Explicit, Implicit, OneOf};
+use der_nest::SequenceRef;
+use der_opaque::{AnyRef, ObjectIdentifier, OctetStringRef};
 use der_tlv::Error;
 use std::alloc::Global;
 
-/// A name of any kind. One with a structure of its own is kept as it is encoded (`KeptName`):
+/// A name of any kind. A directory's name is kept as it is encoded, and `decode_as` reads it; of an
+/// otherName, an x400Address and an ediPartyName the contents octets are kept.
 ///
 /// ```text
 /// GeneralName ::= CHOICE {
@@ -27,10 +28,16 @@ use std::alloc::Global;
 ///     registeredID               [8] OBJECT IDENTIFIER }
 /// ```
 pub type GeneralName<'a> = OneOf<
-    Implicit<Ia5StringRef<'a>, 1>,
     OneOf<
-        Implicit<Ia5StringRef<'a>, 2>,
-        OneOf<Implicit<Ia5StringRef<'a>, 6>, OneOf<Implicit<OctetStringRef<'a>, 7>, KeptName<'a>>>,
+        OneOf<Implicit<SequenceRef<'a>, 0>, Implicit<Ia5StringRef<'a>, 1>>,
+        OneOf<Implicit<Ia5StringRef<'a>, 2>, Implicit<SequenceRef<'a>, 3>>,
+    >,
+    OneOf<
+        OneOf<Explicit<AnyRef<'a>, 4>, Implicit<SequenceRef<'a>, 5>>,
+        OneOf<
+            Implicit<Ia5StringRef<'a>, 6>,
+            OneOf<Implicit<OctetStringRef<'a>, 7>, Implicit<ObjectIdentifier<39>, 8>>,
+        >,
     >,
 >;
 

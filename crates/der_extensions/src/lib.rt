@@ -20,7 +20,6 @@ mod basic_constraints;
 mod constraints;
 mod general_name;
 mod grammars;
-mod kept_name;
 mod key_identifier;
 mod key_usage;
 mod purposes;
@@ -35,7 +34,6 @@ pub use general_name::{
     write_subject_alt_name,
 };
 pub use grammars::Message;
-pub use kept_name::KeptName;
 pub use key_identifier::{
     SubjectKeyIdentifier, read_subject_key_identifier, write_subject_key_identifier,
 };

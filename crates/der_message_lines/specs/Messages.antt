@@ -23,7 +23,6 @@ use Rattle.der_fields.specs.Alternatives.{parse_one}
 use Rattle.der_fields.specs.ClassTags.{class_tag}
 use Rattle.der_fields.specs.Defaults.{parse_default}
 use Rattle.der_fields.specs.FieldLists.{parse_field, parse_end}
-use Rattle.der_extensions.specs.KeptNames.{is_kept, parse_kept}
 use Rattle.der_lines.specs.Tables.{CanonicalFunction, canonical_tagged, Table, or_else}
 
 -- ---- what fields are made of
@@ -167,13 +166,35 @@ constraints_fields = parse_field flag (parse_field (optional Integer parse_natur
 abbrev pub text_name : ℕ → Parse
 text_name number = parse_tagged (primitive number) (parse_string 22)
 
--- GeneralName (section 4.2.1.6); the names with structures of their own are kept as they are encoded
+-- an alternative that is a SEQUENCE, of which the contents octets are kept
+abbrev pub kept_name : ℕ → Parse
+kept_name number = parse_tagged (constructed number) parse_octets
+
+-- the alternatives of two kinds, by their tags
+abbrev pub either : Tag → Tag → Tag → Bool
+either first other tag = is_tag first tag || is_tag other tag
+
+-- GeneralName (section 4.2.1.6): the kinds 0 to 3, and 4 to 8; a directory's name is kept as it is encoded
+abbrev pub first_names : Parse
+first_names =
+    parse_one (either (constructed 0) (primitive 1)) (either (primitive 2) (constructed 3))
+    (parse_one (is_tag (constructed 0)) (is_tag (primitive 1)) (kept_name 0) (text_name 1))
+    (parse_one (is_tag (primitive 2)) (is_tag (constructed 3)) (text_name 2) (kept_name 3))
+
+abbrev pub is_last_name : Tag → Bool
+is_last_name tag = is_tag (primitive 6) tag || either (primitive 7) (primitive 8) tag
+
+abbrev pub last_names : Parse
+last_names =
+    parse_one (either (constructed 4) (constructed 5)) is_last_name
+    (parse_one (is_tag (constructed 4)) (is_tag (constructed 5)) (parse_tagged (constructed 4) (alone parse_any)) (kept_name 5))
+    (parse_one (is_tag (primitive 6)) (either (primitive 7) (primitive 8)) (text_name 6)
+    (parse_one (is_tag (primitive 7)) (is_tag (primitive 8)) (parse_tagged (primitive 7) parse_octets) (parse_tagged (primitive 8) (parse_identifier 39))))
+
 abbrev pub general_name : Parse
 general_name =
-    parse_one (is_tag (primitive 1)) (λ tag. is_tag (primitive 2) tag || (is_tag (primitive 6) tag || (is_tag (primitive 7) tag || is_kept tag))) (text_name 1)
-    (parse_one (is_tag (primitive 2)) (λ tag. is_tag (primitive 6) tag || (is_tag (primitive 7) tag || is_kept tag)) (text_name 2)
-    (parse_one (is_tag (primitive 6)) (λ tag. is_tag (primitive 7) tag || is_kept tag) (text_name 6)
-    (parse_one (is_tag (primitive 7)) is_kept (parse_tagged (primitive 7) parse_octets) parse_kept)))
+    parse_one (λ tag. either (constructed 0) (primitive 1) tag || either (primitive 2) (constructed 3) tag)
+    (λ tag. either (constructed 4) (constructed 5) tag || is_last_name tag) first_names last_names
 
 -- AuthorityKeyIdentifier (section 4.2.1.1); the names are kept as they are encoded
 abbrev pub authority_fields : ContentsParse

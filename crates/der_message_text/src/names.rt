@@ -36,20 +36,17 @@ pub fn push_name(
     name: AnyRef<'_>,
 ) -> Result<(), AllocError> {
     push_label(text, &site.place, label)?;
-    match name.decode_as::<Name>(alloc) {
-        Ok(name) => push_places(alloc, text, name.as_slice())?,
-        Err(error) => push_malformed(text, error)?,
-    }
+    push_directory(alloc, text, name)?;
     text.push('\n')
 }
 
-/// Adds the name that octets encode; `malformed` and the fault where they encode none.
-pub fn push_encoded_name(
+/// Adds a name by its places; `malformed` and the fault where the value is no name.
+pub fn push_directory(
     alloc: Global,
     text: &mut String,
-    octets: &[u8],
+    name: AnyRef<'_>,
 ) -> Result<(), AllocError> {
-    match Name::from_der(alloc, octets) {
+    match name.decode_as::<Name>(alloc) {
         Ok(name) => push_places(alloc, text, name.as_slice()),
         Err(error) => push_malformed(text, error),
     }

@@ -2,10 +2,9 @@
 
 use crate::hexadecimal::{push_digits, push_octet};
 use crate::identifiers::push_identifier;
-use crate::names::{push_encoded_name, push_encoding, push_escaped, push_malformed};
-use der_extensions::{GeneralName, read_subject_alt_name};
+use crate::names::{push_directory, push_escaped, push_malformed};
+use der_extensions::{GeneralName, read_subject_alt_name, write_general_name};
 use der_fields::OneOf;
-use der_opaque::AnyRef;
 use std::alloc::{AllocError, Global};
 use std::fmt::Write;
 
@@ -38,36 +37,36 @@ fn push_other_name(
     name: &GeneralName<'_>,
 ) -> Result<(), AllocError> {
     match name {
-        OneOf::First(mail) => push_text(text, "mail ", mail.value.as_str()),
-        OneOf::Other(OneOf::First(host)) => push_text(text, "host ", host.value.as_str()),
+        OneOf::First(OneOf::First(OneOf::Other(mail))) => {
+            push_text(text, "mail ", mail.value.as_str())
+        }
+        OneOf::First(OneOf::Other(OneOf::First(host))) => {
+            push_text(text, "host ", host.value.as_str())
+        }
+        OneOf::Other(OneOf::First(OneOf::First(directory))) => {
+            text.push_str("directory ")?;
+            push_directory(alloc, text, directory.fields.first)
+        }
         OneOf::Other(OneOf::Other(OneOf::First(resource))) => {
             push_text(text, "resource ", resource.value.as_str())
         }
         OneOf::Other(OneOf::Other(OneOf::Other(OneOf::First(address)))) => {
             push_address(text, address.value.as_bytes())
         }
-        OneOf::Other(OneOf::Other(OneOf::Other(OneOf::Other(kept)))) => {
-            push_kept(alloc, text, kept.to_any())
+        OneOf::Other(OneOf::Other(OneOf::Other(OneOf::Other(identifier)))) => {
+            text.push_str("identifier ")?;
+            push_identifier(alloc, text, identifier.value.as_bytes())
         }
+        _ => push_whole(alloc, text, name),
     }
 }
 
-/// Adds a name that is kept as it is encoded: the places of a directory, a registered identifier, or
-/// else `#` and the encoding.
-fn push_kept(alloc: Global, text: &mut String, name: AnyRef<'_>) -> Result<(), AllocError> {
-    match name.header().tag.number().value() {
-        4 => {
-            text.push_str("directory ")?;
-            push_encoded_name(alloc, text, name.value())
-        }
-        8 => {
-            text.push_str("identifier ")?;
-            push_identifier(alloc, text, name.value())
-        }
-        _ => {
-            text.push_str("other ")?;
-            push_encoding(alloc, text, name)
-        }
+/// Adds a name of another kind: `#` and its encoding.
+fn push_whole(alloc: Global, text: &mut String, name: &GeneralName<'_>) -> Result<(), AllocError> {
+    text.push_str("other #")?;
+    match write_general_name(alloc, name) {
+        Ok(octets) => push_digits(text, octets.as_slice()),
+        Err(_) => Err(AllocError),
     }
 }
 

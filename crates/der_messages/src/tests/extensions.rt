@@ -1,17 +1,15 @@
 //! Values of extensions that OpenSSL wrote, read and written back, and octets that are refused.
 
 use super::{numbered, same};
-use der_elem::{DerOrd, Duplicate, Encode, EncodingEq, FromDer};
+use der_elem::Encode;
 use der_extensions::{
-    KeptName, read_authority_key_identifier, read_basic_constraints, read_ext_key_usage,
-    read_general_name, read_key_usage, read_subject_alt_name, read_subject_key_identifier,
+    read_authority_key_identifier, read_basic_constraints, read_ext_key_usage, read_general_name,
+    read_key_usage, read_subject_alt_name, read_subject_key_identifier,
     write_authority_key_identifier, write_basic_constraints, write_ext_key_usage,
     write_general_name, write_key_usage, write_subject_alt_name, write_subject_key_identifier,
 };
-use der_opaque::AnyRef;
-use der_tlv::{Error, Tag, TagNumber};
+use der_fields::OneOf;
 use std::alloc::Global;
-use std::cmp::Ordering;
 use std::process::Abort;
 use std::test::Fail;
 
@@ -131,62 +129,40 @@ fn names_of_no_kind_are_refused(rt: HostRuntime) -> Result<(), Fail> {
     Ok(())
 }
 
-/// The order of two values, whether they are equal, and whether a copy equals its source.
-fn told<T: DerOrd + EncodingEq + Duplicate>(a: &T, b: &T) -> Result<(Ordering, bool, bool), Error> {
-    let copy = a.duplicate()?;
-    Ok((a.der_cmp(b)?, a == b, copy == *a))
-}
-
-/// What is told of two names that are kept.
-fn told_of_kept(alloc: Global, a: &[u8], b: &[u8]) -> Result<(Ordering, bool, bool), u8> {
-    match KeptName::from_der(alloc, a) {
-        Ok(a) => match KeptName::from_der(alloc, b) {
-            Ok(b) => match told(&a, &b) {
-                Ok(answers) => Ok(answers),
-                Err(e) => Err(e.kind().number()),
-            },
-            Err(e) => Err(e.kind().number()),
-        },
+/// The octets of a registered identifier, or of a directory's name.
+fn octets_of_name(alloc: Global, octets: &[u8]) -> Result<Vec<u8>, u8> {
+    match read_general_name(alloc, octets) {
+        Ok(OneOf::Other(OneOf::Other(OneOf::Other(OneOf::Other(identifier))))) => {
+            match Vec::from_slice(alloc, identifier.value.as_bytes()) {
+                Ok(octets) => Ok(octets),
+                Err(_) => Err(1),
+            }
+        }
+        Ok(OneOf::Other(OneOf::First(OneOf::First(directory)))) => {
+            numbered(directory.fields.first.to_der(alloc))
+        }
+        Ok(_) => Err(0),
         Err(e) => Err(e.kind().number()),
     }
 }
 
 #[test]
-fn kept_names_are_compared_and_copied(rt: HostRuntime) {
-    let (low, high) = ([0x88, 0x01, 0x2a], [0x88, 0x01, 0x2b]);
+fn names_have_their_kinds(rt: HostRuntime) -> Result<(), Fail> {
     let alloc = rt.alloc();
-    let less = Ok((Ordering::Less, false, true));
-    same(&rt, told_of_kept(alloc, &low, &high), less);
-    let equal = Ok((Ordering::Equal, true, true));
-    same(&rt, told_of_kept(alloc, &high, &high), equal);
-    match KeptName::from_der(alloc, &low) {
-        Ok(name) => same(&rt, name.to_any().value(), [0x2a].as_slice()),
-        Err(_) => panic!(rt; "refused"),
+    let identifier = octets_of_name(alloc, &[0x88, 0x03, 0x2a, 0x03, 0x04])?;
+    same(&rt, identifier.as_slice(), [0x2a, 0x03, 0x04].as_slice());
+    let directory = octets_of_name(alloc, &[0xa4, 0x02, 0x30, 0x00])?;
+    same(&rt, directory.as_slice(), [0x30, 0x00].as_slice());
+    for (octets, number) in [
+        // otherName, which is neither
+        ([0xa0, 0x00], 0),
+        // a registered identifier of no octets, and a directory of no name
+        // a registered identifier of no octets, and a directory of no name
+        ([0x88, 0x00], 15),
+        ([0xa4, 0x00], 2),
+    ] {
+        same(&rt, octets_of_name(alloc, &octets).err(), Some(number));
     }
-}
-
-/// The encoding of the name of a directory that is kept, with this context-specific tag.
-fn directory_again(alloc: Global, number: u32) -> Result<Vec<u8>, u8> {
-    let tag = Tag::ContextSpecific {
-        constructed: true,
-        number: TagNumber(number),
-    };
-    let any = match AnyRef::new(tag, &[0x30, 0x00]) {
-        Ok(any) => any,
-        Err(e) => return Err(e.kind().number()),
-    };
-    match KeptName::new(any) {
-        Ok(name) => numbered(name.to_der(alloc)),
-        Err(e) => Err(e.kind().number()),
-    }
-}
-
-#[test]
-fn names_to_keep_are_made(rt: HostRuntime) -> Result<(), Fail> {
-    let alloc = rt.alloc();
-    let written = directory_again(alloc, 4)?;
-    same(&rt, written.as_slice(), [0xa4, 0x02, 0x30, 0x00].as_slice());
-    same(&rt, directory_again(alloc, 1).err(), Some(4));
     Ok(())
 }
 
