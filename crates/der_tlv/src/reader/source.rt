@@ -1,6 +1,6 @@
 //! What a reader stands on: the octets of an input, and where it stands in them.
 
-ghost use Rattle.std.specs.Prelude.{◌≡◌, ◌≤◌, length};
+ghost use Rattle.std.specs.Prelude.{◌≡◌, ◌≤◌, length, true};
 ghost use Rattle.der_tlv.specs.ReaderState.{ReaderState, IsReaderState, with_cursor};
 
 use crate::encoding_rules::EncodingRules;
@@ -35,10 +35,13 @@ pub trait Source<'a> {
         ensures failed { result.failed ≡ (state self.now).failed }
         ensures rules { result.rules ≡ (state self.now).rules };
 
-    /// Puts the source at this place of its input.
+    /// Puts the source at this place of its input. A source that has failed stays failed, and the
+    /// rules stay.
     fn set_cursor(&mut self, cursor: Cursor)
         requires ordered { cursor.position ≤ cursor.end }
         requires inside { cursor.end ≤ length (state self.old).input }
+        requires stays { (state self.old).failed ≡ true → cursor.failed ≡ true }
+        requires rules { cursor.rules ≡ (state self.old).rules }
         ensures { state self.new ≡ with_cursor (state self.old) cursor };
 
     ghost sound: { (s : Self) → IsReaderState (state s) };
