@@ -4,16 +4,17 @@ ghost use Rattle.der_elem.specs.Decoding.{ReadsAll};
 ghost use Rattle.der_fields.specs.SequenceWriting.{WritesAll};
 ghost use Rattle.der_extensions.specs.Grammars.{general_name, subject_alt_name};
 
+use crate::directory_name::DirectoryName;
 use der_ascii::Ia5StringRef;
 use der_elem::{Encode, FromDer};
-use der_fields::{Explicit, Implicit, OneOf};
+use der_fields::{Implicit, OneOf};
 use der_nest::SequenceRef;
-use der_opaque::{AnyRef, ObjectIdentifier, OctetStringRef};
+use der_opaque::{ObjectIdentifier, OctetStringRef};
 use der_tlv::Error;
 use std::alloc::Global;
 
-/// A name of any kind. A directory's name is kept as it is encoded, and `decode_as` reads it; of an
-/// otherName, an x400Address and an ediPartyName the contents octets are kept.
+/// A name of any kind. Of an otherName, an x400Address and an ediPartyName the contents octets are
+/// kept.
 ///
 /// ```text
 /// GeneralName ::= CHOICE {
@@ -33,7 +34,7 @@ pub type GeneralName<'a> = OneOf<
         OneOf<Implicit<Ia5StringRef<'a>, 2>, Implicit<SequenceRef<'a>, 3>>,
     >,
     OneOf<
-        OneOf<Explicit<AnyRef<'a>, 4>, Implicit<SequenceRef<'a>, 5>>,
+        OneOf<DirectoryName<'a>, Implicit<SequenceRef<'a>, 5>>,
         OneOf<
             Implicit<Ia5StringRef<'a>, 6>,
             OneOf<Implicit<OctetStringRef<'a>, 7>, Implicit<ObjectIdentifier<39>, 8>>,

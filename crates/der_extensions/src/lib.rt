@@ -18,6 +18,7 @@
 mod authority;
 mod basic_constraints;
 mod constraints;
+mod directory_name;
 mod general_name;
 mod grammars;
 mod key_identifier;
@@ -29,6 +30,7 @@ pub use authority::{
 };
 pub use basic_constraints::{BasicConstraints, ConstraintsFields};
 pub use constraints::{read_basic_constraints, write_basic_constraints};
+pub use directory_name::{DirectoryName, NameList};
 pub use general_name::{
     GeneralName, SubjectAltName, read_general_name, read_subject_alt_name, write_general_name,
     write_subject_alt_name,

@@ -174,7 +174,7 @@ kept_name number = parse_tagged (constructed number) parse_octets
 abbrev pub either : Tag → Tag → Tag → Bool
 either first other tag = is_tag first tag || is_tag other tag
 
--- GeneralName (section 4.2.1.6): the kinds 0 to 3, and 4 to 8; a directory's name is kept as it is encoded
+-- GeneralName (section 4.2.1.6): the kinds 0 to 3, and 4 to 8
 abbrev pub first_names : Parse
 first_names =
     parse_one (either (constructed 0) (primitive 1)) (either (primitive 2) (constructed 3))
@@ -187,7 +187,7 @@ is_last_name tag = is_tag (primitive 6) tag || either (primitive 7) (primitive 8
 abbrev pub last_names : Parse
 last_names =
     parse_one (either (constructed 4) (constructed 5)) is_last_name
-    (parse_one (is_tag (constructed 4)) (is_tag (constructed 5)) (parse_tagged (constructed 4) (alone parse_any)) (kept_name 5))
+    (parse_one (is_tag (constructed 4)) (is_tag (constructed 5)) (parse_tagged (constructed 4) (alone (sequence name_items))) (kept_name 5))
     (parse_one (is_tag (primitive 6)) (either (primitive 7) (primitive 8)) (text_name 6)
     (parse_one (is_tag (primitive 7)) (is_tag (primitive 8)) (parse_tagged (primitive 7) parse_octets) (parse_tagged (primitive 8) (parse_identifier 39))))
 

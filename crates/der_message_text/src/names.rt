@@ -41,11 +41,7 @@ pub fn push_name(
 }
 
 /// Adds a name by its places; `malformed` and the fault where the value is no name.
-pub fn push_directory(
-    alloc: Global,
-    text: &mut String,
-    name: AnyRef<'_>,
-) -> Result<(), AllocError> {
+fn push_directory(alloc: Global, text: &mut String, name: AnyRef<'_>) -> Result<(), AllocError> {
     match name.decode_as::<Name>(alloc) {
         Ok(name) => push_places(alloc, text, name.as_slice()),
         Err(error) => push_malformed(text, error),
@@ -61,7 +57,8 @@ pub fn push_malformed(text: &mut String, error: Error) -> Result<(), AllocError>
     write!(text, "malformed ({kind})")
 }
 
-fn push_places(
+/// Adds the places of a name.
+pub fn push_places(
     alloc: Global,
     text: &mut String,
     places: &[RelativeDistinguishedName<'_>],

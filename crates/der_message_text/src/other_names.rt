@@ -2,7 +2,7 @@
 
 use crate::hexadecimal::{push_digits, push_octet};
 use crate::identifiers::push_identifier;
-use crate::names::{push_directory, push_escaped, push_malformed};
+use crate::names::{push_escaped, push_malformed, push_places};
 use der_extensions::{GeneralName, read_subject_alt_name, write_general_name};
 use der_fields::OneOf;
 use std::alloc::{AllocError, Global};
@@ -45,7 +45,7 @@ fn push_other_name(
         }
         OneOf::Other(OneOf::First(OneOf::First(directory))) => {
             text.push_str("directory ")?;
-            push_directory(alloc, text, directory.fields.first)
+            push_places(alloc, text, directory.fields.first.as_slice())
         }
         OneOf::Other(OneOf::Other(OneOf::First(resource))) => {
             push_text(text, "resource ", resource.value.as_str())

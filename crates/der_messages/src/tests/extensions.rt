@@ -153,10 +153,14 @@ fn names_have_their_kinds(rt: HostRuntime) -> Result<(), Fail> {
     same(&rt, identifier.as_slice(), [0x2a, 0x03, 0x04].as_slice());
     let directory = octets_of_name(alloc, &[0xa4, 0x02, 0x30, 0x00])?;
     same(&rt, directory.as_slice(), [0x30, 0x00].as_slice());
+    // a NULL in place of a directory's name, and a set in which a NULL stands in place of an attribute
+    let null = octets_of_name(alloc, &[0xa4, 0x02, 0x05, 0x00]);
+    same(&rt, null.err(), Some(4));
+    let item = octets_of_name(alloc, &[0xa4, 0x06, 0x30, 0x04, 0x31, 0x02, 0x05, 0x00]);
+    same(&rt, item.err(), Some(4));
     for (octets, number) in [
         // otherName, which is neither
         ([0xa0, 0x00], 0),
-        // a registered identifier of no octets, and a directory of no name
         // a registered identifier of no octets, and a directory of no name
         ([0x88, 0x00], 15),
         ([0xa4, 0x00], 2),
