@@ -3,9 +3,12 @@
 
 pub use der_bits::laws::equal_bits;
 pub use der_elem::laws::{
-    encodings_read_back, fields_are_told_apart, first_field_decides, first_pair_decides,
-    integers_are_fewest, no_encoding_begins_another, no_octets_read_begin_others,
-    one_value_is_read, own_encoding_is_read, padding_is_lexicographic,
+    encodings_read_back, equal_encodings, fields_are_told_apart, first_field_decides,
+    first_pair_decides, integers_are_fewest, no_encoding_begins_another,
+    no_octets_read_begin_others, one_value_is_read, own_encoding_is_read, padding_is_lexicographic,
+};
+pub use der_fields::laws::{
+    distinct_tags_tell_alternatives, distinct_tags_tell_fields, sequence_is_read_back,
 };
 pub use der_nest::laws::{
     sequences_by_contents, set_is_sorted, set_of_what_came, sorted_is_one_list,

@@ -20,15 +20,15 @@ pub use der_elem::{
     BitStringTag, BmpStringTag, BooleanTag, Choice, ContentsEq, CopyIsDuplicate, Decode,
     DecodeField, DecodeValue, DerOrd, Duplicate, DuplicateValue, Encode, EncodeValue, EncodingEq,
     FirstTag, FixedTag, Form, FormValue, FromDer, GeneralStringTag, GeneralizedTimeTag, IntegerTag,
-    IsConstructed, NullTag, ObjectIdentifierTag, OctetStringTag, OneTag, OrdIsValueOrd, Sequence,
-    SequenceTag, SetTag, TagMarker, Tagged, TakesMemory, UtcTimeTag, Utf8StringTag, ValueOrd,
-    read_contents,
+    IsConstructed, KnownTags, NullTag, ObjectIdentifierTag, OctetStringTag, OneTag, OrdIsValueOrd,
+    Sequence, SequenceTag, SetTag, TagMarker, Tagged, TakesMemory, UtcTimeTag, Utf8StringTag,
+    ValueOrd, read_contents,
 };
 pub use der_fields::{
-    DefaultFalse, DefaultNumber, DefaultOf, End, Explicit, ExplicitApplication, ExplicitIn,
-    ExplicitPrivate, Field, FieldList, FieldSequence, Implicit, ImplicitApplication, ImplicitIn,
-    ImplicitPrivate, NamedFields, NamedSequence, OneOf, WithDefault, read_named_sequence,
-    read_sequence, write_named_sequence, write_sequence,
+    DefaultFalse, DefaultNumber, DefaultOf, DistinctTags, End, Explicit, ExplicitApplication,
+    ExplicitIn, ExplicitPrivate, Field, FieldList, FieldSequence, Implicit, ImplicitApplication,
+    ImplicitIn, ImplicitPrivate, NamedFields, NamedSequence, OneOf, WithDefault,
+    read_named_sequence, read_sequence, write_named_sequence, write_sequence,
 };
 pub use der_nest::Asks;
 pub use der_time::{DateTime, const_contains_u8};

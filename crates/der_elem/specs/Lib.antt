@@ -34,6 +34,8 @@ pub mod OptionLaws
 pub mod Utf8String
 pub mod Fields
 pub mod Leading
+pub mod KnownTags
+pub mod KnownTagLaws
 pub mod FieldDecoding
 pub mod LeadingLaws
 pub use Rattle.der_tlv.specs.HeaderOctets

@@ -1,6 +1,6 @@
 //! Laws of encodings: functions that do nothing, and promise what holds of all encodings.
 
-ghost use Rattle.std.specs.Prelude.{◌≡◌, ◌<◌, ◌^◌, length, ◌∷◌, []};
+ghost use Rattle.std.specs.Prelude.{◌≡◌, ◌<◌, ◌^◌, ◌↔◌, IsTrue, length, ◌∷◌, []};
 ghost use Rattle.der_tlv.specs.declared.tag.Tag.TheVariants as tags;
 ghost use Rattle.der_elem.specs.EncodingLaws.{NoneBeginsAnother, NoneReadBeginsAnother, PaddingIsLexicographic, FirstPairDecides, OneValueIsRead, EncodingsReadBack, OwnEncodingIsRead, IntegersAreFewest};
 ghost use Rattle.der_elem.specs.Fields.{FirstFieldDecides, FieldsAreToldApart};
@@ -63,6 +63,11 @@ pub fn encodings_read_back<T: Form>()
 pub fn own_encoding_is_read<T: EncodingEq>()
     ensures { (v : T) → T.readable v → length (T.encoding v) < 2 ^ 32
         → OwnEncodingIsRead T.Form T.eq v }
+{}
+
+/// Two values that can be compared are equal exactly if their encodings are.
+pub fn equal_encodings<T: EncodingEq>()
+    ensures { (v w : T) → T.comparable v w → (IsTrue (T.eq v w) ↔ (T.encoding v ≡ T.encoding w)) }
 {}
 
 /// The contents octets of an integer have it as their two's complement number, and no fewer octets

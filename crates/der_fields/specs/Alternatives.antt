@@ -39,6 +39,18 @@ OneFormOne tags lead lead' comparable comparable' (Other w) (Other y) = comparab
 OneFormOne tags lead lead' comparable comparable' (First v) (Other w) = TagIs tags true (lead v) × TagIs tags false (lead' w)
 OneFormOne tags lead lead' comparable comparable' (Other w) (First v) = TagIs tags true (lead v) × TagIs tags false (lead' w)
 
+-- what the alternative asks of its value
+abbrev pub AskedOfOne : {A B : Type 0} → (A → Type 0) → (B → Type 0) → OneOf A B → Type 0
+AskedOfOne asked asked' (First v) = asked v
+AskedOfOne asked asked' (Other w) = asked' w
+
+-- what the alternative asks of two values that are both of it
+abbrev pub AskedOfBoth : {A B : Type 0} → (A → A → Type 0) → (B → B → Type 0) → OneOf A B → OneOf A B → Type 0
+AskedOfBoth asked asked' (First v) (First x) = asked v x
+AskedOfBoth asked asked' (Other w) (Other y) = asked' w y
+AskedOfBoth asked asked' (First v) (Other w) = Unit {0}
+AskedOfBoth asked asked' (Other w) (First v) = Unit {0}
+
 -- a copy is of the same alternative
 abbrev pub IsCopyOne : {A B : Type 0} → (A → A → Type 0) → (B → B → Type 0) → OneOf A B → OneOf A B → Type 0
 IsCopyOne is_copy is_copy' (First v) (First x) = is_copy v x

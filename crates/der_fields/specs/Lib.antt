@@ -1,6 +1,8 @@
 pub mod FieldsForm
 pub mod FieldForms
 pub mod FieldLists
+pub mod DistinctTags
+pub mod DistinctTagLaws
 pub mod Alternatives
 pub mod AlternativeLaws
 pub mod FieldLaws

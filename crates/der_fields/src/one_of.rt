@@ -8,8 +8,10 @@
 //! and the faults of the alternative that has the tag. A value of the other alternative whose tag is
 //! one of the first's is read from no octets.
 
-ghost use Rattle.std.specs.Prelude.{◌||◌};
+ghost use Rattle.std.specs.Prelude.{◌||◌, false};
 ghost use Rattle.std.proofs.Common.{Ok, refl};
+ghost use Rattle.der_elem.specs.KnownTags.{known_of_both};
+ghost use Rattle.der_elem.specs.KnownTagLaws.{known_either};
 ghost use Rattle.der_elem.specs.ValueForms.{kept_form};
 ghost use Rattle.der_fields.specs.Alternatives.{of_one, AcceptsOne, ReadableOne, OneFormOne, IsCopyOne, TellsHeaders, parse_one, parse_untold};
 ghost use Rattle.der_fields.specs.FieldLaws.{either_memory};
@@ -17,7 +19,7 @@ ghost use Rattle.der_fields.specs.AlternativeLaws.{parse_of_one, begins_one, led
 
 use der_elem::{
     Choice, Decode, DecodeField, DerOrd, Duplicate, EncodeValue, EncodingEq, FirstTag, Form,
-    FormValue, Tagged,
+    FormValue, KnownTags, Tagged,
 };
 use der_tlv::{Error, Length, Reader, Source, Tag, Writer};
 use std::alloc::Global;
@@ -111,6 +113,16 @@ impl<A: Choice, B: Choice> Choice for OneOf<A, B> {
     }
 
     ghost is_led = { is_led_one A.lead B.lead A.is_led B.is_led };
+}
+
+impl<A: Choice + KnownTags, B: Choice + KnownTags> KnownTags for OneOf<A, B> {
+    ghost known_tags = { known_of_both A.known_tags B.known_tags };
+
+    ghost MAY_BE_ABSENT = { false };
+
+    ghost are_known = { known_either A.known_tags B.known_tags A.tags B.tags A.are_known B.are_known };
+
+    ghost is_there = { λ e. is_led_one A.lead B.lead A.is_led B.is_led };
 }
 
 impl<'a, R: Source<'a>, A: Decode<'a, R> + Choice, B: Decode<'a, R> + Choice> Decode<'a, R>

@@ -6,7 +6,7 @@
 //! value is the default; the next tag's faults come first. Reading refuses with the value's faults,
 //! and the default's own encoding (`ErrorKind::Noncanonical`, 8).
 
-ghost use Rattle.std.specs.Prelude.{◌≡◌};
+ghost use Rattle.std.specs.Prelude.{◌≡◌, true};
 ghost use Rattle.std.specs.Cmp.{on_per};
 ghost use Rattle.std.proofs.Common.{ap, ◌∙◌};
 ghost use Rattle.der_fields.specs.Defaults.{is_default, octets_unless, lead_unless, test_unless, accepts_unless, parse_default};
@@ -14,8 +14,8 @@ ghost use Rattle.der_fields.specs.DefaultLaws.{parse_of_default, begins_default,
 
 use crate::default::DefaultOf;
 use der_elem::{
-    Choice, Decode, DecodeField, DerOrd, Duplicate, Encode, EncodingEq, FirstTag, Form, Tagged,
-    check_ready,
+    Choice, Decode, DecodeField, DerOrd, Duplicate, Encode, EncodingEq, FirstTag, Form, KnownTags,
+    Tagged, check_ready,
 };
 use der_tlv::{Error, Length, Reader, Source, Tag, Writer};
 use std::alloc::Global;
@@ -160,6 +160,16 @@ impl<T: Tagged, D: DefaultOf<T>> FirstTag for WithDefault<T, D> {
     ghost same_beginning = { λ v w. beginning_default T.tag_of T.value.contents T.encoding T.encoding_is
         T.lead T.lead_is (is_default D.octets (T.encoding v.value))
         (is_default D.octets (T.encoding w.value)) v.value w.value };
+}
+
+impl<T: KnownTags, D: DefaultOf<T>> KnownTags for WithDefault<T, D> {
+    ghost known_tags = { T.known_tags };
+
+    ghost MAY_BE_ABSENT = { true };
+
+    ghost are_known = { T.are_known };
+
+    ghost is_there = { λ e v. absurd (cc) };
 }
 
 impl<T: DerOrd + Tagged, D: DefaultOf<T>> DerOrd for WithDefault<T, D> {

@@ -5,5 +5,9 @@
 //! them.
 #![tactic(auto)]
 
+mod distinct;
+
+pub use distinct::messages_have_distinct_tags;
+
 #[cfg(test)]
 mod tests;

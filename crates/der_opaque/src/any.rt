@@ -1,6 +1,6 @@
 //! Values with any tag.
 
-ghost use Rattle.std.specs.Prelude.{◌≡◌, ◌≢◌, Some, ◌↔◌, ◌⊎◌, ◌^◌, ◌<◌, [], length, true, false, refl, IsTrue, IfOk, IfErr};
+ghost use Rattle.std.specs.Prelude.{◌≡◌, ◌≢◌, None, Some, ◌↔◌, ◌⊎◌, ◌^◌, ◌<◌, [], length, true, false, refl, IsTrue, IfOk, IfErr};
 ghost use Rattle.std.proofs.Common.{Ok};
 ghost use Rattle.std.specs.Cmp.Lexicographic.{bytes_decides};
 ghost use Rattle.der_tlv.specs.declared.error.ErrorKind.TheVariants as kinds;
@@ -26,7 +26,7 @@ ghost use Rattle.der_elem.specs.ValueForms.{kept_form, owning};
 use crate::any_ref::AnyRef;
 use der_elem::{
     Choice, Decode, DecodeField, DecodeValue, Duplicate, EncodeValue, EncodingEq, Form, FormValue,
-    Tagged, ValueOrd,
+    KnownTags, Tagged, ValueOrd,
 };
 use der_tlv::{
     EncodingRules, Error, ErrorKind, Header, Length, Reader, SliceReader, Source, Tag, VecWriter,
@@ -291,6 +291,16 @@ impl Choice for Any {
     }
 
     ghost is_led = { λ v. record { tag = tag_of v; is_tag = refl } };
+}
+
+impl KnownTags for Any {
+    ghost known_tags = { None };
+
+    ghost MAY_BE_ABSENT = { false };
+
+    ghost are_known = { λ t e. refl };
+
+    ghost is_there = { λ e v. record { tag = v.tag; is_tag = refl } };
 }
 
 impl<'a, R: Source<'a>> DecodeValue<'a, R> for Any {

@@ -1,6 +1,6 @@
 //! Values with any tag, borrowed.
 
-ghost use Rattle.std.specs.Prelude.{◌≡◌, ◌≢◌, Some, ◌↔◌, ◌^◌, ◌<◌, [], length, true, false, refl, IsTrue, IfOk, IfErr};
+ghost use Rattle.std.specs.Prelude.{◌≡◌, ◌≢◌, None, Some, ◌↔◌, ◌^◌, ◌<◌, [], length, true, false, refl, IsTrue, IfOk, IfErr};
 ghost use Rattle.std.proofs.Common.{Ok};
 ghost use Rattle.std.specs.Cmp.Lexicographic.{bytes_decides};
 ghost use Rattle.der_tlv.specs.declared.error.ErrorKind.TheVariants as kinds;
@@ -21,7 +21,7 @@ ghost use Rattle.der_elem.specs.ValueForms.{kept_form};
 use crate::any::Any;
 use der_elem::{
     Choice, Decode, DecodeField, DecodeValue, Duplicate, EncodeValue, EncodingEq, Form, FormValue,
-    Tagged, ValueOrd,
+    KnownTags, Tagged, ValueOrd,
 };
 use der_tlv::{
     BytesRef, EncodingRules, Error, Header, Length, Reader, SliceReader, Source, Tag, Writer,
@@ -262,6 +262,16 @@ impl<'a> Choice for AnyRef<'a> {
     }
 
     ghost is_led = { λ v. record { tag = tag_of v; is_tag = refl } };
+}
+
+impl<'a> KnownTags for AnyRef<'a> {
+    ghost known_tags = { None };
+
+    ghost MAY_BE_ABSENT = { false };
+
+    ghost are_known = { λ t e. refl };
+
+    ghost is_there = { λ e v. record { tag = v.tag; is_tag = refl } };
 }
 
 impl<'a, R: Source<'a>> DecodeValue<'a, R> for AnyRef<'a> {

@@ -1,20 +1,22 @@
 //! A SEQUENCE of one's own, in a line a field.
 
-ghost use Rattle.std.specs.Prelude.{◌≡◌, IfOk};
+ghost use Rattle.std.specs.Prelude.{◌≡◌, ◌↔◌, IsTrue, IfOk};
 ghost use Rattle.der_asn1_types.specs.Decoding.{ReadsAll};
 
 use der_asn1_types::asn1::{ObjectIdentifier, OctetStringRef};
+use der_asn1_types::laws::sequence_is_read_back;
 use der_asn1_types::{Encode, End, Error, Field, FieldSequence, Form, FromDer, Implicit};
 use std::alloc::Global;
 
-/// A policy: an identifier, a qualifier that may be absent, and a version, `[0] IMPLICIT INTEGER`,
-/// that may be absent.
-pub type Policy<'a> = FieldSequence<
-    Field<
-        ObjectIdentifier<39>,
-        Field<Option<OctetStringRef<'a>>, Field<Option<Implicit<u8, 0>>, End>>,
-    >,
+/// An identifier, a qualifier that may be absent, and a version, `[0] IMPLICIT INTEGER`, that may be
+/// absent.
+pub type PolicyList<'a> = Field<
+    ObjectIdentifier<39>,
+    Field<Option<OctetStringRef<'a>>, Field<Option<Implicit<u8, 0>>, End>>,
 >;
+
+/// A policy.
+pub type Policy<'a> = FieldSequence<PolicyList<'a>>;
 
 /// Reads a policy: exactly the octets that the grammar reads as one are taken.
 pub fn read_policy<'a>(alloc: Global, octets: &'a [u8]) -> Result<Policy<'a>, Error>
@@ -28,4 +30,14 @@ pub fn write_policy<'a>(alloc: Global, policy: &Policy<'a>) -> Result<Vec<u8>, E
     ensures { IfOk result (λ octets. octets.items ≡ ⟦<Policy<'a> as Form>⟧.encoding policy.now) }
 {
     policy.to_der(alloc)
+}
+
+/// Whether two policies have the same encoding. The prover computes that the tags of their fields are
+/// distinct, so nothing is asked of the policies.
+pub fn is_same_policy<'a>(policy: &Policy<'a>, other: &Policy<'a>) -> bool
+    ensures { IsTrue result ↔ (⟦<Policy<'a> as Form>⟧.encoding policy.now
+        ≡ ⟦<Policy<'a> as Form>⟧.encoding other.now) }
+{
+    sequence_is_read_back::<PolicyList<'a>>();
+    policy == other
 }

@@ -20,7 +20,7 @@ mod writing;
 pub use anys::named_curve;
 pub use bits::may_sign_certificates;
 pub use comparing::is_before;
-pub use field_list::{Policy, read_policy, write_policy};
+pub use field_list::{Policy, PolicyList, is_same_policy, read_policy, write_policy};
 pub use fields::{PolicyFields, read_policy_fields};
 pub use headers::first_header;
 pub use named_fields::{NamedPolicy, PolicyMembers, read_named_policy, write_named_policy};

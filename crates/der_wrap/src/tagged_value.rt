@@ -9,7 +9,7 @@
 //! left over behind the value (`ErrorKind::TrailingData`, 3). Reading with implicit tagging needs
 //! the number, so it is a call of its own, `decode_implicit`.
 
-ghost use Rattle.std.specs.Prelude.{◌≡◌, true, Some, refl};
+ghost use Rattle.std.specs.Prelude.{◌≡◌, true, false, None, Some, refl};
 ghost use Rattle.der_tlv.specs.declared.tag.mode.TagMode.TheVariants.{Explicit};
 ghost use Rattle.der_tlv.specs.HeaderOctets.{tlv};
 ghost use Rattle.der_wrap.specs.ClassTags.{class_tag, in_class};
@@ -20,7 +20,7 @@ ghost use Rattle.der_wrap.specs.TaggedValueEquality.{encoding_eq_tagged_value, c
 use crate::class_tag::{class_tag, explicit_number, in_class};
 use der_elem::{
     Choice, Decode, DecodeField, DerOrd, Duplicate, Encode, EncodeValue, EncodingEq, Form,
-    FormValue, Tagged, ValueOrd,
+    FormValue, KnownTags, Tagged, ValueOrd,
 };
 use der_tlv::{Error, Header, Length, Reader, Source, Tag, TagMode, TagNumber, Writer};
 use std::alloc::Global;
@@ -143,6 +143,19 @@ impl<T: Tagged, const CLASS: u8> Choice for TaggedValue<T, CLASS> {
     }
 
     ghost is_led = { λ v. record {
+      tag = tag_of_mode CLASS v.tag_mode v.tag_number.0 (T.tag_of v.value);
+      is_tag = refl;
+    } };
+}
+
+impl<T: Tagged, const CLASS: u8> KnownTags for TaggedValue<T, CLASS> {
+    ghost known_tags = { None };
+
+    ghost MAY_BE_ABSENT = { false };
+
+    ghost are_known = { λ t e. refl };
+
+    ghost is_there = { λ e v. record {
       tag = tag_of_mode CLASS v.tag_mode v.tag_number.0 (T.tag_of v.value);
       is_tag = refl;
     } };

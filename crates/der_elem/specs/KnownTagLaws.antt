@@ -1,0 +1,45 @@
+-- Tags of two types are those of one or of the other.
+use Rattle.std.proofs.Common.{◌≡◌, List, [], ◌∷◌, ◌++◌, Bool, true, false, ◌||◌, Option, Some, None, refl, sym, ap, ◌∙◌, subst}
+use Rattle.der_tlv.specs.declared.tag.Tag.{Tag}
+use Rattle.der_tlv.specs.Identifier.{same_identifier, same_tag}
+use Rattle.der_tlv.specs.HeaderLaws.{same_identifier-true}
+use Rattle.der_tlv.specs.IdentifierLaws.{same_tag-same}
+use Rattle.der_elem.specs.KnownTags.{is_one_of, may_be, known_of_both}
+
+or_right : (a b : Bool) → b ≡ true → (a || b) ≡ true
+or_right true b e = refl
+or_right false b e = e
+
+left_of : (p q r : Bool) → (q ≡ true → r ≡ true) → (p || q) ≡ true → (p || r) ≡ true
+left_of true q r f e = refl
+left_of false q r f e = f e
+
+one_of_left : (tags others : List Tag) (t : Tag) → is_one_of tags t ≡ true → is_one_of (tags ++ others) t ≡ true
+one_of_left [] others t e = absurd (cc)
+one_of_left (u ∷ tags) others t e = left_of (same_tag t u) (is_one_of tags t) (is_one_of (tags ++ others) t) (one_of_left tags others t) e
+
+one_of_right : (tags others : List Tag) (t : Tag) → is_one_of others t ≡ true → is_one_of (tags ++ others) t ≡ true
+one_of_right [] others t e = e
+one_of_right (u ∷ tags) others t e = or_right (same_tag t u) (is_one_of (tags ++ others) t) (one_of_right tags others t e)
+
+-- a type with one tag has that one
+pub own_is_known : (u t : Tag) → same_identifier t u ≡ true → may_be (Some (u ∷ [])) t ≡ true
+own_is_known u t e = subst (λ x. may_be (Some (u ∷ [])) x ≡ true) (sym (same_identifier-true t u e)) (ap (λ a. a || false) (same_tag-same u))
+
+pub known_left : (known others : Option (List Tag)) (t : Tag) → may_be known t ≡ true → may_be (known_of_both known others) t ≡ true
+known_left None others t e = refl
+known_left (Some tags) None t e = refl
+known_left (Some tags) (Some others) t e = one_of_left tags others t e
+
+pub known_right : (known others : Option (List Tag)) (t : Tag) → may_be others t ≡ true → may_be (known_of_both known others) t ≡ true
+known_right None others t e = refl
+known_right (Some tags) None t e = refl
+known_right (Some tags) (Some others) t e = one_of_right tags others t e
+
+-- what either has, is known of both
+pub known_either : (known others : Option (List Tag)) (p q : Tag → Bool) → ((t : Tag) → p t ≡ true → may_be known t ≡ true) → ((t : Tag) → q t ≡ true → may_be others t ≡ true) → (t : Tag) → (p t || q t) ≡ true → may_be (known_of_both known others) t ≡ true
+known_either known others p q f g t e = at (p t) refl
+  where
+    at : (b : Bool) → p t ≡ b → may_be (known_of_both known others) t ≡ true
+    at true h = known_left known others t (f t h)
+    at false h = known_right known others t (g t (ap (λ b. b || q t) (sym h) ∙ e))

@@ -1,0 +1,20 @@
+-- The tags of a type, where they are known before any value.
+use Rattle.std.specs.Prelude.{List, [], ◌∷◌, ◌++◌, Bool, true, false, ◌||◌, Option, Some, None}
+use Rattle.der_tlv.specs.declared.tag.Tag.{Tag}
+use Rattle.der_tlv.specs.Identifier.{same_tag}
+
+-- whether a tag is one of these
+abbrev pub is_one_of : List Tag → Tag → Bool
+is_one_of [] t = false
+is_one_of (u ∷ tags) t = same_tag t u || is_one_of tags t
+
+-- whether a tag may be one of these; where none are known, any may
+abbrev pub may_be : Option (List Tag) → Tag → Bool
+may_be None t = true
+may_be (Some tags) t = is_one_of tags t
+
+-- the tags of two types
+abbrev pub known_of_both : Option (List Tag) → Option (List Tag) → Option (List Tag)
+known_of_both None known = None
+known_of_both (Some tags) None = None
+known_of_both (Some tags) (Some others) = Some (tags ++ others)

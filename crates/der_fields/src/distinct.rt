@@ -1,0 +1,86 @@
+//! Lists of fields whose tags are distinct (X.680 25.6).
+
+ghost use Rattle.std.specs.Prelude.{◌≡◌, List, [], Bool, true, ◌&&◌, Option, Some};
+ghost use Rattle.der_tlv.specs.declared.tag.Tag.{Tag};
+ghost use Rattle.der_elem.specs.KnownTags.{may_be};
+ghost use Rattle.der_fields.specs.DistinctTags.{first_known, is_told};
+ghost use Rattle.der_fields.specs.DistinctTagLaws.{both_parts, told, first_is_known};
+
+use crate::end::End;
+use crate::field::Field;
+use crate::field_list::FieldList;
+use der_elem::{FirstTag, KnownTags};
+
+/// Fields of which the tags are known, so that it is told by computing whether they are distinct:
+/// whether each field that may be absent has none of the tags of those that may follow it.
+pub trait DistinctTags: FieldList {
+    // the tags that the joined encodings may begin with; none where any tag may
+    ghost first_tags: { Option (List Tag) };
+
+    // whether the tags are distinct
+    ghost TAGS_ARE_DISTINCT: { Bool };
+
+    // whether reading can give the value of each field
+    ghost each_readable: { Self → Type 0 };
+
+    // whether the values of each field can be compared
+    ghost each_comparable: { Self → Self → Type 0 };
+
+    ghost first_is_known: { (v : Self) (t : Tag) → Self.list.first_tag v ≡ Some t
+        → may_be first_tags t ≡ true };
+
+    ghost readable_if_distinct: { TAGS_ARE_DISTINCT ≡ true → (v : Self) → each_readable v
+        → Self.list.octets.readable v };
+
+    ghost comparable_if_distinct: { TAGS_ARE_DISTINCT ≡ true → (v w : Self) → each_comparable v w
+        → Self.list.octets.comparable v w };
+}
+
+impl DistinctTags for End {
+    ghost first_tags = { Some [] };
+
+    ghost TAGS_ARE_DISTINCT = { true };
+
+    ghost each_readable = { λ v. Unit {0} };
+
+    ghost each_comparable = { λ v w. Unit {0} };
+
+    ghost first_is_known = { λ v t e. absurd (cc) };
+
+    ghost readable_if_distinct = { λ e v r. tt };
+
+    ghost comparable_if_distinct = { λ e v w c. tt };
+}
+
+impl<T: KnownTags + FirstTag, Rest: DistinctTags> DistinctTags for Field<T, Rest> {
+    ghost first_tags = { first_known T.MAY_BE_ABSENT T.known_tags Rest.first_tags };
+
+    ghost TAGS_ARE_DISTINCT = { is_told T.MAY_BE_ABSENT T.known_tags Rest.first_tags
+        && Rest.TAGS_ARE_DISTINCT };
+
+    ghost each_readable = { λ v. T.readable v.first × Rest.each_readable v.rest };
+
+    ghost each_comparable = { λ v w. T.comparable v.first w.first × Rest.each_comparable v.rest w.rest };
+
+    ghost first_is_known = { λ v. first_is_known T.tags T.known_tags Rest.first_tags T.are_known
+        T.MAY_BE_ABSENT (T.lead v.first) (Rest.list.first_tag v.rest) (T.own_lead v.first)
+        (λ e. T.is_there e v.first) (Rest.first_is_known v.rest) };
+
+    ghost readable_if_distinct = { λ e v r.
+        let parts = both_parts (is_told T.MAY_BE_ABSENT T.known_tags Rest.first_tags) Rest.TAGS_ARE_DISTINCT e in (
+          r.0,
+          Rest.readable_if_distinct parts.1 v.rest r.1,
+          told T.tags T.known_tags Rest.first_tags T.are_known T.MAY_BE_ABSENT (T.lead v.first)
+              (Rest.list.first_tag v.rest) (λ e. T.is_there e v.first) (Rest.first_is_known v.rest) parts.0,
+        ) };
+
+    ghost comparable_if_distinct = { λ e v w c.
+        let parts = both_parts (is_told T.MAY_BE_ABSENT T.known_tags Rest.first_tags) Rest.TAGS_ARE_DISTINCT e in (
+          c.0,
+          Rest.comparable_if_distinct parts.1 v.rest w.rest c.1,
+          told T.tags T.known_tags Rest.first_tags T.are_known T.MAY_BE_ABSENT (T.lead v.first)
+              (Rest.list.first_tag v.rest) (λ e. T.is_there e v.first) (Rest.first_is_known v.rest) parts.0,
+          told T.tags T.known_tags Rest.first_tags T.are_known T.MAY_BE_ABSENT (T.lead w.first)
+              (Rest.list.first_tag w.rest) (λ e. T.is_there e w.first) (Rest.first_is_known w.rest) parts.0,
+        ) };
+}

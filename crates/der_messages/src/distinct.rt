@@ -1,0 +1,30 @@
+//! The tags of the messages' fields are distinct, as X.680 25.6 asks: the prover computes it at each
+//! call, and refuses a call at a message of which they are not.
+
+ghost use Rattle.std.specs.Prelude.{◌≡◌, true};
+
+use der_certificate::TbsCertificate;
+use der_extensions::AuthorityKeyIdentifier;
+use der_fields::laws::{distinct_tags_tell_alternatives, distinct_tags_tell_fields};
+use der_fields::{DistinctTags, FieldSequence};
+use der_pkix::EcPrivateKey;
+use der_revocation::{RevokedCertificate, TbsCertList};
+use der_time::{GeneralizedTime, UtcTime};
+use std::marker::PhantomData;
+
+/// A SEQUENCE whose fields have distinct tags.
+fn has_distinct_tags<F: DistinctTags>(_sequence: PhantomData<FieldSequence<F>>)
+    requires { F.TAGS_ARE_DISTINCT ≡ true }
+{
+    distinct_tags_tell_fields::<F>();
+}
+
+/// The messages of which a field may be absent, and is not the last, and the CHOICE Time.
+pub fn messages_have_distinct_tags<'a>() {
+    has_distinct_tags(PhantomData::<TbsCertificate<'a>>);
+    has_distinct_tags(PhantomData::<TbsCertList<'a>>);
+    has_distinct_tags(PhantomData::<RevokedCertificate<'a>>);
+    has_distinct_tags(PhantomData::<EcPrivateKey<'a>>);
+    has_distinct_tags(PhantomData::<AuthorityKeyIdentifier<'a>>);
+    distinct_tags_tell_alternatives::<UtcTime, GeneralizedTime>();
+}
