@@ -8,7 +8,8 @@ pub use der_elem::laws::{
     no_octets_read_begin_others, one_value_is_read, own_encoding_is_read, padding_is_lexicographic,
 };
 pub use der_fields::laws::{
-    distinct_tags_tell_alternatives, distinct_tags_tell_fields, sequence_is_read_back,
+    distinct_tags_tell_alternatives, distinct_tags_tell_fields, named_sequence_is_read_back,
+    sequence_is_read_back,
 };
 pub use der_nest::laws::{
     sequences_by_contents, set_is_sorted, set_of_what_came, sorted_is_one_list,

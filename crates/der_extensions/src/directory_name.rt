@@ -1,13 +1,14 @@
 //! The name of a directory among names of other kinds (RFC 5280 section 4.2.1.6).
 
-ghost use Rattle.std.specs.Prelude.{refl, true};
+ghost use Rattle.std.specs.Prelude.{◌≡◌, refl, true};
 ghost use Rattle.der_elem.specs.ValueForms.{held_form};
 
-use der_elem::{DecodeValue, EncodeValue, FormValue, OneTag};
+use der_elem::{DecodeValue, EncodeValue, FormValue, OneTag, SequenceTag};
 use der_fields::{DecodeFields, EncodeFields, End, ExplicitTag, Field, FieldList};
 use der_pkix::Name;
 use der_tlv::{Error, Header, Length, Source, Writer};
 use std::alloc::Global;
+use std::marker::PhantomData;
 
 /// The list of a name alone.
 pub type NameList<'a> = Field<Name<'a>, End>;
@@ -19,6 +20,20 @@ pub type NameList<'a> = Field<Name<'a>, End>;
 pub struct DirectoryName<'a> {
     /// The name.
     pub fields: NameList<'a>,
+    /// The tag of an attribute, which stands here so that a function with names of all kinds knows it.
+    pub attribute: PhantomData<SequenceTag>,
+}
+
+impl<'a> DirectoryName<'a> {
+    /// This name, behind the tag.
+    pub fn new(name: Name<'a>) -> DirectoryName<'a>
+        ensures { result.fields.first ≡ name.entry }
+    {
+        DirectoryName {
+            fields: Field::new(name, End),
+            attribute: PhantomData,
+        }
+    }
 }
 
 impl<'a> OneTag for DirectoryName<'a> {
@@ -40,7 +55,10 @@ impl<'a, R: Source<'a>> DecodeValue<'a, R> for DirectoryName<'a> {
         _header: Header,
     ) -> Result<DirectoryName<'a>, Error> {
         match NameList::<'a>::decode_fields(alloc, reader) {
-            Ok(fields) => Ok(DirectoryName { fields }),
+            Ok(fields) => Ok(DirectoryName {
+                fields,
+                attribute: PhantomData,
+            }),
             Err(e) => Err(e),
         }
     }

@@ -23,7 +23,9 @@ pub use comparing::is_before;
 pub use field_list::{Policy, PolicyList, is_same_policy, read_policy, write_policy};
 pub use fields::{PolicyFields, read_policy_fields};
 pub use headers::first_header;
-pub use named_fields::{NamedPolicy, PolicyMembers, read_named_policy, write_named_policy};
+pub use named_fields::{
+    NamedPolicy, PolicyMembers, is_same_named_policy, read_named_policy, write_named_policy,
+};
 pub use reading::{contents_of_string, read_numbers, serial_number};
 pub use sets::{attribute_set, with_attribute};
 pub use sources::{Watched, read_watched};

@@ -1,10 +1,11 @@
 //! A SEQUENCE of one's own with names for its fields.
 
-ghost use Rattle.std.specs.Prelude.{◌≡◌, IfOk};
+ghost use Rattle.std.specs.Prelude.{◌≡◌, ◌↔◌, IsTrue, IfOk};
 ghost use Rattle.der_asn1_types.specs.Decoding.{ReadsAll};
 ghost use Rattle.der_asn1_types.specs.Listing.{field, end};
 
 use der_asn1_types::asn1::{ObjectIdentifier, OctetStringRef};
+use der_asn1_types::laws::named_sequence_is_read_back;
 use der_asn1_types::{
     Encode, End, Error, Field, Form, FromDer, Implicit, NamedFields, NamedSequence,
 };
@@ -54,4 +55,13 @@ pub fn write_named_policy<'a>(alloc: Global, policy: &NamedPolicy<'a>) -> Result
     ensures { IfOk result (λ octets. octets.items ≡ ⟦<NamedPolicy<'a> as Form>⟧.encoding policy.now) }
 {
     policy.to_der(alloc)
+}
+
+/// Whether two policies have the same encoding.
+pub fn is_same_named_policy<'a>(policy: &NamedPolicy<'a>, other: &NamedPolicy<'a>) -> bool
+    ensures { IsTrue result ↔ (⟦<NamedPolicy<'a> as Form>⟧.encoding policy.now
+        ≡ ⟦<NamedPolicy<'a> as Form>⟧.encoding other.now) }
+{
+    named_sequence_is_read_back::<PolicyMembers<'a>>();
+    policy == other
 }

@@ -7,9 +7,10 @@ mod rows;
 
 use crate::{
     Watched, attribute_set, common_name, contents_of_string, country, explicit_version,
-    first_header, is_before, is_within, may_sign_certificates, named_curve, number_in,
-    read_named_policy, read_numbers, read_policy, read_policy_fields, read_watched, serial_number,
-    with_attribute, write_named_policy, write_numbers, write_policy,
+    first_header, is_before, is_same_named_policy, is_same_policy, is_within,
+    may_sign_certificates, named_curve, number_in, read_named_policy, read_numbers, read_policy,
+    read_policy_fields, read_watched, serial_number, with_attribute, write_named_policy,
+    write_numbers, write_policy,
 };
 use der_asn1_types::asn1::{AnyRef, BitStringRef};
 use der_asn1_types::{DateTime, DerOrd, Duplicate, Error, FromDer, Length, Reader, Tag};
@@ -92,6 +93,11 @@ fn a_set_stands_in_order(rt: HostRuntime) -> Result<(), Fail> {
     Ok(())
 }
 
+/// A policy with a qualifier, and no version.
+fn octets_without_version() -> [u8; 10] {
+    [0x30, 0x08, 0x06, 0x02, 0x2a, 0x03, 0x04, 0x02, 0x01, 0x02]
+}
+
 #[test]
 fn a_policy_is_read(rt: HostRuntime) -> Result<(), Fail> {
     let octets = [
@@ -109,6 +115,12 @@ fn a_policy_is_read(rt: HostRuntime) -> Result<(), Fail> {
             holds(&rt, policy.fields.rest.first.is_some());
             let written = numbered(write_policy(rt.alloc(), &policy))?;
             same(&rt, written.as_slice(), octets.as_slice());
+            holds(&rt, is_same_policy(&policy, &policy));
+            // the same policy with no version, and so with other octets
+            match read_policy(rt.alloc(), &octets_without_version()) {
+                Ok(other) => holds(&rt, !is_same_policy(&policy, &other)),
+                Err(_) => return Err("refused".into()),
+            }
         }
         Err(_) => return Err("refused".into()),
     }
@@ -129,7 +141,11 @@ fn a_policy_with_names_is_read(rt: HostRuntime) -> Result<(), Fail> {
         Ok(policy) => {
             holds(&rt, policy.fields.qualifier.is_some());
             holds(&rt, policy.fields.version.is_some());
-            holds(&rt, policy == policy);
+            holds(&rt, is_same_named_policy(&policy, &policy));
+            match read_named_policy(rt.alloc(), &octets_without_version()) {
+                Ok(other) => holds(&rt, !is_same_named_policy(&policy, &other)),
+                Err(_) => return Err("refused".into()),
+            }
             same(&rt, numbered(policy.der_cmp(&policy)), Ok(Ordering::Equal));
             let written = numbered(write_named_policy(rt.alloc(), &policy))?;
             same(&rt, written.as_slice(), octets.as_slice());

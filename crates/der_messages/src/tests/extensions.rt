@@ -3,12 +3,14 @@
 use super::{numbered, same};
 use der_elem::Encode;
 use der_extensions::{
-    read_authority_key_identifier, read_basic_constraints, read_ext_key_usage, read_general_name,
-    read_key_usage, read_subject_alt_name, read_subject_key_identifier,
-    write_authority_key_identifier, write_basic_constraints, write_ext_key_usage,
-    write_general_name, write_key_usage, write_subject_alt_name, write_subject_key_identifier,
+    DirectoryName, GeneralName, read_authority_key_identifier, read_basic_constraints,
+    read_ext_key_usage, read_general_name, read_key_usage, read_subject_alt_name,
+    read_subject_key_identifier, write_authority_key_identifier, write_basic_constraints,
+    write_ext_key_usage, write_general_name, write_key_usage, write_subject_alt_name,
+    write_subject_key_identifier,
 };
 use der_fields::OneOf;
+use der_pkix::read_name;
 use std::alloc::Global;
 use std::process::Abort;
 use std::test::Fail;
@@ -144,6 +146,29 @@ fn octets_of_name(alloc: Global, octets: &[u8]) -> Result<Vec<u8>, u8> {
         Ok(_) => Err(0),
         Err(e) => Err(e.kind().number()),
     }
+}
+
+/// A general name that is the directory's name with these octets.
+fn general_name_of(alloc: Global, octets: &[u8]) -> Result<Vec<u8>, u8> {
+    match read_name(alloc, octets) {
+        Ok(name) => {
+            let directory = DirectoryName::new(name);
+            let general: GeneralName<'_> = OneOf::Other(OneOf::First(OneOf::First(directory)));
+            numbered(write_general_name(alloc, &general))
+        }
+        Err(e) => Err(e.kind().number()),
+    }
+}
+
+#[test]
+fn a_name_is_made_general(rt: HostRuntime) -> Result<(), Fail> {
+    let alloc = rt.alloc();
+    // C=SE
+    let name = hex::decode(alloc, "300d310b3009060355040613025345")?;
+    let written = general_name_of(alloc, name.as_slice())?;
+    let octets = hex::decode(alloc, "a40f300d310b3009060355040613025345")?;
+    same(&rt, written.as_slice(), octets.as_slice());
+    Ok(())
 }
 
 #[test]
