@@ -2,6 +2,7 @@
 use Rattle.std.proofs.Common.{◌≡◌, ℕ, ◌<◌, ◌==◌, ◌||◌, ◌&&◌, nat_le, nat_lt, List, [], ◌∷◌, Bool, true, false, refl, arith, if◌then◌else◌, lit<, suc, zero}
 use Rattle.std.specs.Str.{IsUtf8, IsAscii}
 use Rattle.std.proofs.lemmas.Str.{IsUtf8-from_ascii}
+use Rattle.std.proofs.lemmas.Bool.{and_parts}
 use Rattle.std.proofs.lemmas.Bool.Decides.{nat_tests}
 use Rattle.der_ascii.specs.Characters.{within, is_printable, has_character, are_characters}
 
@@ -30,14 +31,10 @@ character-small number n = at (number == 19)
     at true h = printable-small n h
     at false h = grind (arith, nat_tests)
 
-both : (a b : Bool) → (a && b) ≡ true → (a ≡ true) × (b ≡ true)
-both true b h = (refl, h)
-both false b h = absurd (cc)
-
 characters-ascii : (number : ℕ) (octets : List ℕ) → are_characters number octets ≡ true → IsAscii octets
 characters-ascii number [] e i = lit< tt
-characters-ascii number (octet ∷ octets) e zero = character-small number octet (both (has_character number octet) (are_characters number octets) e).0
-characters-ascii number (octet ∷ octets) e (suc i) = characters-ascii number octets (both (has_character number octet) (are_characters number octets) e).1 i
+characters-ascii number (octet ∷ octets) e zero = character-small number octet (and_parts (has_character number octet) (are_characters number octets) e).0
+characters-ascii number (octet ∷ octets) e (suc i) = characters-ascii number octets (and_parts (has_character number octet) (are_characters number octets) e).1 i
 
 pub characters-utf8 : (number : ℕ) (octets : List ℕ) → are_characters number octets ≡ true → IsUtf8 octets
 characters-utf8 number octets e = IsUtf8-from_ascii octets (characters-ascii number octets e)

@@ -1,6 +1,7 @@
 -- Octets that are an encoding and nothing else.
-use Rattle.std.proofs.Common.{◌≡◌, ℕ, ◌+◌, ◌-◌, ◌^◌, nat_lt, ◌≤◌, List, [], ◌∷◌, length, take, Bool, true, false, ◌⊎◌, inl, inr, Ok, Err, refl, sym, ap, ◌∙◌, subst, arith, ◌&&◌, not, ◌==◌}
+use Rattle.std.proofs.Common.{◌≡◌, ℕ, ◌+◌, ◌-◌, ◌^◌, nat_lt, ◌≤◌, List, [], ◌∷◌, length, take, Bool, true, false, ◌⊎◌, inl, inr, Ok, Err, refl, sym, ap, ◌∙◌, subst, arith, not, ◌==◌, zero-add}
 use Rattle.std.proofs.lemmas.List.{append-nil}
+use Rattle.std.proofs.lemmas.Bool.{and_parts, false_from_ne_true, false≢true}
 use Rattle.std.proofs.lemmas.Bool.Decides.{nat_tests}
 use Rattle.std.proofs.Math.Seq.{take-length}
 use Rattle.der_tlv.specs.declared.error.ErrorKind.{ErrorKind}
@@ -68,10 +69,7 @@ module _ {T : Type 0} (F : form.Ghosts T) where
 
   position_of : {octets : List ℕ} {s new : ReaderState} {v : T} → OpenOf octets s → (told : Decoded F s new v) → new.position ≡ told.taken
   position_of h told =
-      ap (λ s. s.position) told.after ∙ ap (λ s. s.position + told.taken) h.state ∙ zero_plus told.taken
-    where
-      zero_plus : (n : ℕ) → 0 + n ≡ n
-      zero_plus n = omega arith
+      ap (λ s. s.position) told.after ∙ ap (λ s. s.position + told.taken) h.state ∙ zero-add told.taken
 
   input_of : {octets : List ℕ} {s new : ReaderState} {v : T} → OpenOf octets s → Decoded F s new v → new.input ≡ octets
   input_of h told = ap (λ s. s.input) told.after ∙ ap (λ s. s.input) h.state
@@ -91,13 +89,13 @@ module _ {T : Type 0} (F : form.Ghosts T) where
   -- all of the octets are the value's
   pub all_read : {octets : List ℕ} {s new : ReaderState} {v : T} → OpenOf octets s → Decoded F s new v → can_finish new ≡ true → AllRead F octets v
   all_read {octets} {s} {new} {v} h told finished =
-      let same : (new.position == length new.input) ≡ true = and_right (not new.failed) (new.position == length new.input) finished in
+      let same : (new.position == length new.input) ≡ true = (and_parts (not new.failed) (new.position == length new.input) finished).1 in
       let ends : new.position ≡ length new.input = grind (arith, nat_tests) in
       let all : told.taken ≡ length octets = sym (position_of h told) ∙ ends ∙ ap length (input_of h told) in
       let octets_are : take told.taken (rest s) ≡ octets = ap (take told.taken) (rest_of h) ∙ ap (λ n. take n octets) all ∙ take-length octets in
       let accepted : F.accepts Der v octets = subst (λ r. F.accepts r v octets) (ap (λ s. s.rules) h.state) (subst (F.accepts s.rules v) octets_are told.accepted) in
       record { accepted = accepted; fits = h.fits; parsed = all_of_accepted v octets accepted h.fits }
-    where
-      and_right : (a b : Bool) → (a && b) ≡ true → b ≡ true
-      and_right true b e = e
-      and_right false b e = absurd (cc)
+
+-- a test that would mean success, of what did not succeed
+pub unless_true : (b : Bool) → (b ≡ true → false ≡ true) → b ≡ false
+unless_true b h = false_from_ne_true b (λ e. false≢true (h e))

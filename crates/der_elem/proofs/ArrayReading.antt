@@ -11,7 +11,8 @@ use Rattle.der_elem.specs.Items.{AcceptsItems, join_items}
 use Rattle.der_elem.specs.Arrays.{then_item, too_many, parse_array}
 use Rattle.der_elem.specs.ArrayLaws.{parse_array-end, parse_array-short, parse_array-over, parse_array-step}
 use Rattle.der_elem.specs.ReadingArrays.{ItemDecoded, NoItem, ItemTooMany}
-use Rattle.der_elem.proofs.ItemReading.{rest-after_read, accepts_items-append, join_items-join, join_items-none}
+use Rattle.der_tlv.proofs.ReaderStates.{rest-after_read}
+use Rattle.der_elem.proofs.ItemReading.{accepts_items-append, join_items-join, join_items-none}
 
 -- the items that were read since the reader was `old`, of so many, and what is left
 pub record ArraySoFar {T : Type 0} (F : form.Ghosts T) (count : ℕ) (old now : ReaderState) (vs : List T) : Type 0 where

@@ -1,26 +1,19 @@
 -- The order of values with tags, from their tags, their lengths and their contents octets.
-use Rattle.std.proofs.Common.{◌≡◌, ◌≢◌, ◌≤◌, ◌^◌, length, true, Result, Ok, Err, inl, inr, refl, sym, ap, ◌∙◌, arith, Ordering}
+use Rattle.std.proofs.Common.{◌≡◌, ◌≢◌, ◌≤◌, ◌^◌, length, true, Result, Ok, Err, inl, inr, sym, ap, ◌∙◌, arith, Ordering}
 use Rattle.std.proofs.lemmas.List.{length-append}
-use Rattle.std.specs.declared.cmp.Ordering.TheVariants.{Less, Equal, Greater}
-use Rattle.std.specs.Ordering.{nat_cmp, ordering_then}
+use Rattle.std.specs.declared.cmp.Ordering.TheVariants.{Equal}
+use Rattle.std.specs.Ordering.{nat_cmp}
 use Rattle.der_tlv.specs.declared.error.ErrorKind.{ErrorKind}
 use Rattle.der_tlv.specs.declared.error.ErrorKind.TheVariants.{Overflow, Memory, Value}
 use Rattle.der_tlv.specs.declared.error.Error.{Error}
 use Rattle.der_tlv.specs.declared.tag.Tag.{Tag}
 use Rattle.der_tlv.specs.Octets.{lex}
-use Rattle.der_tlv.specs.OctetLaws.{nat_cmp-equal}
 use Rattle.der_tlv.specs.Identifier.{identifier}
-use Rattle.der_tlv.specs.IdentifierLaws.{lex-identifier-equal}
 use Rattle.der_tlv.specs.HeaderOctets.{header_octets, tlv}
-use Rattle.der_tlv.specs.HeaderOrder.{lex-tlv}
 use Rattle.der_elem.specs.ValueForm.{ValueForm}
 use Rattle.der_elem.specs.declared.form.Form as form
 use Rattle.der_elem.specs.Comparing.{IncomparableValues, Incomparable, ComparesValues, Compares, SameHeader}
-
-decided : (o p : Ordering) → o ≢ Equal → ordering_then o p ≡ o
-decided Less p h = refl
-decided Equal p h = absurd (h refl)
-decided Greater p h = refl
+use Rattle.der_elem.proofs.HeadersTold as headers
 
 -- two values with tags
 pub record Headed {T : Type 0} (V : ValueForm T) (F : form.Ghosts T) (tag_of : T → Tag) : Type 0 where
@@ -29,29 +22,19 @@ pub record Headed {T : Type 0} (V : ValueForm T) (F : form.Ghosts T) (tag_of : T
   pub comparable_alike : (v w : T) → F.comparable v w → V.comparable v w
 
 module _ {T : Type 0} {V : ValueForm T} {F : form.Ghosts T} {tag_of : T → Tag} (h : Headed V F tag_of) (x y : T) where
-  order_is : lex (F.encoding x) (F.encoding y) ≡ ordering_then (lex (identifier (tag_of x)) (identifier (tag_of y))) (ordering_then (nat_cmp (length (V.contents x)) (length (V.contents y))) (lex (V.contents x) (V.contents y)))
-  order_is =
-      ap (λ o. lex o (F.encoding y)) (h.encoding_is x) ∙ ap (lex (tlv (tag_of x) (V.contents x))) (h.encoding_is y) ∙ lex-tlv (tag_of x) (tag_of y) (V.contents x) (V.contents y)
-
   pub tags_decide : (o : Ordering) → o ≡ lex (identifier (tag_of x)) (identifier (tag_of y)) → o ≢ Equal → o ≡ lex (F.encoding x) (F.encoding y)
-  tags_decide o e unequal =
-      sym (order_is ∙ ap (λ p. ordering_then p (ordering_then (nat_cmp (length (V.contents x)) (length (V.contents y))) (lex (V.contents x) (V.contents y)))) (sym e) ∙ decided o _ unequal)
+  tags_decide = headers.tags_decide (F.encoding x) (F.encoding y) (tag_of x) (tag_of y) (V.contents x) (V.contents y) (h.encoding_is x) (h.encoding_is y)
 
   module _ (same_tag : lex (identifier (tag_of x)) (identifier (tag_of y)) ≡ Equal) where
-    behind_tags : lex (F.encoding x) (F.encoding y) ≡ ordering_then (nat_cmp (length (V.contents x)) (length (V.contents y))) (lex (V.contents x) (V.contents y))
-    behind_tags = order_is ∙ ap (λ p. ordering_then p (ordering_then (nat_cmp (length (V.contents x)) (length (V.contents y))) (lex (V.contents x) (V.contents y)))) same_tag
-
     pub lengths_decide : (o : Ordering) → o ≡ nat_cmp (length (V.contents x)) (length (V.contents y)) → o ≢ Equal → o ≡ lex (F.encoding x) (F.encoding y)
-    lengths_decide o e unequal =
-        sym (behind_tags ∙ ap (λ p. ordering_then p (lex (V.contents x) (V.contents y))) (sym e) ∙ decided o _ unequal)
+    lengths_decide = headers.lengths_decide (F.encoding x) (F.encoding y) (tag_of x) (tag_of y) (V.contents x) (V.contents y) (h.encoding_is x) (h.encoding_is y) same_tag
 
     module _ (same_length : nat_cmp (length (V.contents x)) (length (V.contents y)) ≡ Equal) where
       behind_headers : lex (F.encoding x) (F.encoding y) ≡ lex (V.contents x) (V.contents y)
-      behind_headers = behind_tags ∙ ap (λ p. ordering_then p (lex (V.contents x) (V.contents y))) same_length
+      behind_headers = headers.behind_headers (F.encoding x) (F.encoding y) (tag_of x) (tag_of y) (V.contents x) (V.contents y) (h.encoding_is x) (h.encoding_is y) same_tag same_length
 
       same_header : SameHeader (F.encoding x) (F.encoding y)
-      same_header =
-          record { tag = tag_of x; first = V.contents x; second = V.contents y; first_is = h.encoding_is x; second_is = h.encoding_is y ∙ ap (λ t. tlv t (V.contents y)) (sym (lex-identifier-equal (tag_of x) (tag_of y) same_tag)); same_length = nat_cmp-equal _ _ same_length }
+      same_header = (headers.headers_equal (F.encoding x) (F.encoding y) (tag_of x) (tag_of y) (V.contents x) (V.contents y) (h.encoding_is x) (h.encoding_is y) same_tag same_length).1
 
       longer : (v : T) → 2 ^ 32 ≤ length (V.contents v) → 2 ^ 32 ≤ length (F.encoding v)
       longer v l = omega (arith, ap length (h.encoding_is v), length-append (header_octets (tag_of v) (length (V.contents v))) (V.contents v))

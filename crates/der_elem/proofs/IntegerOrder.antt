@@ -1,6 +1,6 @@
 -- The order of contents octets as that of numbers: of the octets with zeros behind them, and then of how many there are.
-use Rattle.std.proofs.Common.{◌≡◌, ℕ, zero, suc, ◌+◌, ◌-◌, ◌*◌, ◌<◌, ◌≤◌, ◌^◌, ◌/◌, ◌%◌, ◌++◌, inl, inr, List, [], ◌∷◌, length, length-append, refl, sym, ap, ap₂, ◌∙◌, arith, pow-suc, mul-le-mul_right, Ordering, ℤ, pos, SFits}
-use Rattle.std.proofs.Math.Nat.{add-mul, add_assoc, mul_assoc, mul_comm, mul-lt-mul_of_pos_right, one-le-pow, pow-zero}
+use Rattle.std.proofs.Common.{◌≡◌, ℕ, zero, suc, ◌+◌, ◌-◌, ◌*◌, ◌<◌, ◌≤◌, ◌^◌, ◌/◌, ◌%◌, ◌++◌, inl, inr, List, [], ◌∷◌, length, length-append, refl, sym, ap, ap₂, ◌∙◌, arith, mul-le-mul_right, Ordering, ℤ, pos, SFits}
+use Rattle.std.proofs.Math.Nat.{add-mul, mul_assoc, mul-lt-mul_of_pos_right, one-le-pow}
 use Rattle.std.proofs.lemmas.Bool.{cases_lt}
 use Rattle.std.proofs.lemmas.Bool.Decides.{nat_tests}
 use Rattle.std.proofs.lemmas.Nat.{pow-add}
@@ -8,24 +8,12 @@ use Rattle.std.proofs.lemmas.Int.Digits.{number_lt}
 use Rattle.std.specs.declared.cmp.Ordering.TheVariants.{Less, Equal, Greater}
 use Rattle.std.specs.Ordering.{nat_cmp, ordering_then}
 use Rattle.std.specs.Int.{w128}
-use Rattle.std.specs.Int.Digits.{number_from_digits_after}
 use Rattle.der_tlv.specs.Octets.{lex}
+use Rattle.der_tlv.specs.OrderingLaws.{then_assoc, then_equal}
 use Rattle.der_elem.specs.Integer.{AreOctets, big_endian_number, left_aligned, integer_contents, natural_contents}
 use Rattle.der_elem.specs.IntegerLaws.{integer_contents-are_octets, integer_contents-pos, natural_contents-are_octets, natural_contents-length, natural_contents-length_le, natural_contents-step, number_natural_contents}
 use Rattle.der_elem.proofs.IntegerBytes.{wide_length}
-
--- the number of octets after n
-number_after : (n : ℕ) (octets : List ℕ) → number_from_digits_after 256 n octets ≡ n * 256 ^ length octets + big_endian_number octets
-number_after n [] = omega (arith, ap (λ p. n * p) (pow-zero 256))
-number_after n (d ∷ ds) =
-    let unit = 256 ^ length ds in
-    let number = big_endian_number ds in
-    let first : 0 * 256 + d ≡ d = omega arith in
-    let wider : n * 256 * unit ≡ n * 256 ^ suc (length ds) = mul_assoc n 256 unit ∙ ap (λ p. n * p) (mul_comm 256 unit ∙ sym (pow-suc 256 (length ds))) in
-    number_after (n * 256 + d) ds
-    ∙ ap (λ m. m + number) (add-mul (n * 256) d unit ∙ ap (λ m. m + d * unit) wider)
-    ∙ add_assoc (n * 256 ^ suc (length ds)) (d * unit) number
-    ∙ ap (λ m. n * 256 ^ suc (length ds) + m) (sym (number_after (0 * 256 + d) ds ∙ ap (λ e. e * unit + number) first))
+use Rattle.der_elem.proofs.IntegerContents.{number_after_number}
 
 sum_back : (k l : ℕ) → l ≤ k → l + (k - l) ≡ k
 sum_back k l within = omega (arith, within)
@@ -36,7 +24,7 @@ left_aligned-cons k d ds within =
     let first : 0 * 256 + d ≡ d = omega arith in
     let fewer : suc k - suc (length ds) ≡ k - length ds = omega arith in
     ap (λ e. big_endian_number (d ∷ ds) * 256 ^ e) fewer
-    ∙ ap (λ n. n * 256 ^ (k - length ds)) (number_after (0 * 256 + d) ds ∙ ap (λ e. e * 256 ^ length ds + big_endian_number ds) first)
+    ∙ ap (λ n. n * 256 ^ (k - length ds)) (number_after_number (0 * 256 + d) ds ∙ ap (λ e. e * 256 ^ length ds + big_endian_number ds) first)
     ∙ add-mul (d * 256 ^ length ds) (big_endian_number ds) (256 ^ (k - length ds))
     ∙ ap (λ n. n + left_aligned k ds) (mul_assoc d (256 ^ length ds) (256 ^ (k - length ds)) ∙ ap (λ p. d * p) (sym (pow-add 256 (length ds) (k - length ds)) ∙ ap (λ e. 256 ^ e) (sum_back k (length ds) within)))
 
@@ -57,11 +45,6 @@ digit_first p a b x y left right = elim (cases_lt a b) [
         | inr same ↦ let e : a ≡ b = omega arith in rw e (grind (arith, nat_tests))
       ]
 ]
-
-then_assoc : (o p q : Ordering) → ordering_then o (ordering_then p q) ≡ ordering_then (ordering_then o p) q
-then_assoc Less p q = refl
-then_assoc Equal p q = refl
-then_assoc Greater p q = refl
 
 suc_cmp : (m n : ℕ) → nat_cmp m n ≡ nat_cmp (suc m) (suc n)
 suc_cmp m n = grind (arith, nat_tests)
@@ -145,15 +128,10 @@ both_long m n large_m fits_m large_n fits_n =
     let d = long_length n large_n fits_n in
     lex-left_aligned 17 (natural_contents m) (natural_contents n) (natural_contents-are_octets m) (natural_contents-are_octets n) (omega (arith, c)) (omega (arith, d))
     ∙ ap₂ (λ o p. ordering_then o p) (ap₂ nat_cmp (whole m c) (whole n d)) (ap₂ nat_cmp c d)
-    ∙ then_nothing (nat_cmp m n)
+    ∙ then_equal (nat_cmp m n)
   where
     whole : (k : ℕ) → length (natural_contents k) ≡ 17 → left_aligned 17 (natural_contents k) ≡ k
     whole k l = ap (λ e. big_endian_number (natural_contents k) * 256 ^ (17 - e)) l ∙ omega (arith, number_natural_contents k)
-
-    then_nothing : (o : Ordering) → ordering_then o (nat_cmp 17 17) ≡ o
-    then_nothing Less = refl
-    then_nothing Equal = refl
-    then_nothing Greater = refl
 
 pub natural_of : (z : ℤ) (n : ℕ) → z ≡ pos n → integer_contents z ≡ natural_contents n
 natural_of z n e = ap integer_contents e ∙ integer_contents-pos n

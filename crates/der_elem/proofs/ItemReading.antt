@@ -1,19 +1,14 @@
 -- Items that are read one after another.
 use Rattle.std.proofs.Common.{◌≡◌, ℕ, ◌+◌, ◌<◌, List, [], ◌∷◌, ◌++◌, length, take, drop, Bool, true, false, Result, Ok, Err, refl, sym, ap, ◌∙◌, arith, flat_map, inl, inr, subst, append_assoc, add_assoc, IsTrue, ◌↔◌}
 use Rattle.std.proofs.Math.Seq.{take-add, take-length}
-use Rattle.std.proofs.lemmas.List.{flat_map_more, length-take, length-drop, append-nil, drop-drop}
+use Rattle.std.proofs.lemmas.List.{flat_map_more, length-take, length-drop, append-nil}
 use Rattle.der_tlv.specs.declared.error.ErrorKind.{ErrorKind}
 use Rattle.der_tlv.specs.ReaderState.{ReaderState, IsReaderState, rest, after_read, unless_failed}
+use Rattle.der_tlv.proofs.ReaderStates.{rest-after_read, length-rest}
 use Rattle.der_elem.specs.declared.form.Form as form
 use Rattle.der_elem.specs.Decoding.{Faults, Decoded}
 use Rattle.der_elem.specs.Items.{AcceptsItems, join_items, then_items, parse_items}
 use Rattle.der_elem.specs.ItemLaws.{parse_items-end, parse_items-step, parse_items-more}
-
-pub rest-after_read : (s : ReaderState) (n : ℕ) → rest (after_read s n) ≡ drop n (rest s)
-rest-after_read s n = sym (drop-drop n s.position (take s.end s.input))
-
-length-rest : (s : ReaderState) → IsReaderState s → s.position + length (rest s) ≡ s.end
-length-rest s h = let a = length-drop s.position (take s.end s.input) in let b = length-take s.end s.input in let o = h.ordered in let i = h.inside in omega arith
 
 -- the items that were read since the reader was `old`, and what is left
 pub record ItemsSoFar {T : Type 0} (F : form.Ghosts T) (old now : ReaderState) (vs : List T) : Type 0 where

@@ -2,6 +2,7 @@ pub mod AtContents
 pub mod TaggedDecoding
 pub mod Alone
 pub mod Written
+pub mod HeadersTold
 pub mod Headed
 pub mod IntegerContents
 pub mod IntegerReads

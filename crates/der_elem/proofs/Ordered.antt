@@ -1,10 +1,11 @@
 -- The order of lists of items, pair by pair.
 use Rattle.std.proofs.Common.{◌≡◌, ◌≢◌, ℕ, zero, suc, ◌+◌, ◌<◌, List, [], ◌∷◌, length, drop, get_or, min, inl, inr, refl, sym, ap, ◌∙◌, arith, subst, Ordering, add-one}
-use Rattle.std.specs.declared.cmp.Ordering.TheVariants.{Less, Equal, Greater}
+use Rattle.std.specs.declared.cmp.Ordering.TheVariants.{Equal}
 use Rattle.std.specs.Ordering.{nat_cmp, ordering_then}
 use Rattle.std.specs.Cmp.Lexicographic.{slice_cmp}
 use Rattle.std.proofs.Math.Seq.{drop-cons}
 use Rattle.std.proofs.lemmas.Bool.Decides.{nat_tests}
+use Rattle.der_tlv.specs.OrderingLaws.{then_decided, nat_cmp-less, nat_cmp-greater}
 use Rattle.der_tlv.specs.declared.error.ErrorKind.{ErrorKind}
 use Rattle.der_tlv.specs.declared.error.ErrorKind.TheVariants.{Overflow, Memory, Value}
 use Rattle.der_elem.specs.declared.form.Form as form
@@ -20,28 +21,17 @@ item_first xs i x h e = rw (add-one) (drop-cons xs i x h ∙ ap (λ y. y ∷ dro
 pub cmp_at : {T : Type 0} (R : T → T → Ordering) (vs ws : List T) (i : ℕ) (v w : T) → i < length vs → i < length ws → get_or vs i v ≡ v → get_or ws i w ≡ w → slice_cmp R (drop i vs) (drop i ws) ≡ ordering_then (R v w) (slice_cmp R (drop (i + 1) vs) (drop (i + 1) ws))
 cmp_at R vs ws i v w h k e f = rw (item_first vs i v h e, item_first ws i w k f) refl
 
-cmp-less : (m n : ℕ) → m < n → nat_cmp m n ≡ Less
-cmp-less m n h = grind (arith, nat_tests)
-
-cmp-greater : (m n : ℕ) → n < m → nat_cmp m n ≡ Greater
-cmp-greater m n h = grind (arith, nat_tests)
-
 cmp-suc : (m n : ℕ) → nat_cmp (suc m) (suc n) ≡ nat_cmp m n
 cmp-suc m n = grind (arith, nat_tests)
 
 pub cmp_end : {T : Type 0} (R : T → T → Ordering) (vs ws : List T) (i : ℕ) → i ≡ min (length vs) (length ws) → slice_cmp R (drop i vs) (drop i ws) ≡ nat_cmp (length vs) (length ws)
 cmp_end R [] [] zero e = refl
-cmp_end R [] (w ∷ ws) zero e = let h : 0 < suc (length ws) = omega arith in sym (cmp-less _ _ h)
-cmp_end R (v ∷ vs) [] zero e = let h : 0 < suc (length vs) = omega arith in sym (cmp-greater _ _ h)
+cmp_end R [] (w ∷ ws) zero e = let h : 0 < suc (length ws) = omega arith in sym (nat_cmp-less _ _ h)
+cmp_end R (v ∷ vs) [] zero e = let h : 0 < suc (length vs) = omega arith in sym (nat_cmp-greater _ _ h)
 cmp_end R (v ∷ vs) (w ∷ ws) zero e = absurd (omega arith)
 cmp_end R [] ws (suc i) e = absurd (omega arith)
 cmp_end R (v ∷ vs) [] (suc i) e = absurd (omega arith)
 cmp_end R (v ∷ vs) (w ∷ ws) (suc i) e = cmp_end R vs ws i (omega arith) ∙ sym (cmp-suc (length vs) (length ws))
-
-pub then_decided : (a b : Ordering) → a ≢ Equal → ordering_then a b ≡ a
-then_decided Less b h = refl
-then_decided Equal b h = absurd (h refl)
-then_decided Greater b h = refl
 
 -- a pair that differs decides, if the pairs before it do not
 pub decided_at : {T : Type 0} (R : T → T → Ordering) (vs ws : List T) (i : ℕ) (v w : T) (o : Ordering) → i < length vs → i < length ws → get_or vs i v ≡ v → get_or ws i w ≡ w → slice_cmp R vs ws ≡ slice_cmp R (drop i vs) (drop i ws) → o ≡ R v w → o ≢ Equal → o ≡ slice_cmp R vs ws

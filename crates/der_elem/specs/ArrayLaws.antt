@@ -1,6 +1,7 @@
 -- The laws of lists of a fixed number of items, from those of the items.
 use Rattle.std.specs.List.{list_any}
-use Rattle.std.proofs.Common.{◌≡◌, ℕ, suc, ◌+◌, ◌<◌, ◌||◌, List, [], ◌∷◌, ◌++◌, length, drop, Bool, true, false, Ok, Err, refl, sym, ap, ◌∙◌, arith, flat_map}
+use Rattle.std.proofs.Common.{◌≡◌, ℕ, suc, ◌+◌, ◌<◌, List, [], ◌∷◌, ◌++◌, length, drop, true, Ok, Err, refl, sym, ap, ◌∙◌, arith, inl, inr, flat_map}
+use Rattle.std.proofs.lemmas.Bool.{or_cases}
 use Rattle.std.proofs.Math.Seq.{drop-append_seam}
 use Rattle.der_tlv.specs.declared.error.ErrorKind.TheVariants.{Length}
 use Rattle.der_tlv.specs.declared.tag.Tag.TheVariants.{Sequence}
@@ -73,8 +74,4 @@ module _ {T : Type 0} (F : form.Ghosts T) where
   -- a list re-reads only if one of its items does
   pub re_reads_items : (vs : List T) → list_any F.re_reads vs ≡ true → F.TAKES_MEMORY ≡ true
   re_reads_items [] h = absurd (cc)
-  re_reads_items (v ∷ vs) h = either (F.re_reads v) (list_any F.re_reads vs) h (F.re_reads_memory v) (re_reads_items vs)
-    where
-      either : (a b : Bool) → (a || b) ≡ true → (a ≡ true → F.TAKES_MEMORY ≡ true) → (b ≡ true → F.TAKES_MEMORY ≡ true) → F.TAKES_MEMORY ≡ true
-      either true b h f g = f refl
-      either false b h f g = g h
+  re_reads_items (v ∷ vs) h = elim (or_cases (F.re_reads v) (list_any F.re_reads vs) h) [ inl first ↦ F.re_reads_memory v first | inr others ↦ re_reads_items vs others ]

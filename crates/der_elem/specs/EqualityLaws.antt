@@ -1,19 +1,13 @@
 -- Lists of items are equal exactly where their encodings are, if that holds of their items.
-use Rattle.std.proofs.Common.{◌≡◌, ℕ, List, [], ◌∷◌, ◌++◌, length, Bool, true, false, refl, sym, ap, ◌∙◌, arith, flat_map, IsTrue, ◌↔◌, ◌&&◌}
+use Rattle.std.proofs.Common.{◌≡◌, ℕ, List, [], ◌∷◌, ◌++◌, length, Bool, refl, sym, ap, ◌∙◌, arith, flat_map, IsTrue, ◌↔◌}
 use Rattle.std.specs.Cmp.Lexicographic.{pointwise}
+use Rattle.std.proofs.lemmas.Bool.{and_parts, and_from}
 use Rattle.std.proofs.lemmas.List.{length-append}
 use Rattle.der_tlv.specs.declared.tag.Tag.{Tag}
 use Rattle.der_tlv.specs.HeaderOctets.{tlv}
 use Rattle.der_tlv.specs.HeaderLaws.{tlv-unique}
 use Rattle.der_elem.specs.Items.{OneForms}
 use Rattle.der_elem.specs.OrderLaws.{encoding-some}
-
-both_true : (a b : Bool) → (a && b) ≡ true → (a ≡ true) × (b ≡ true)
-both_true true b h = (refl, h)
-both_true false b h = absurd (cc)
-
-and_true : (a b : Bool) → a ≡ true → b ≡ true → (a && b) ≡ true
-and_true a b h k = ap (λ a. a && b) h ∙ k
 
 module _ {T : Type 0} (tag_of : T → Tag) (contents encoding : T → List ℕ) (encoding_is : (v : T) → encoding v ≡ tlv (tag_of v) (contents v)) where
   -- the first of two joined encodings is told from what follows
@@ -31,6 +25,6 @@ module _ {T : Type 0} (tag_of : T → Tag) (contents encoding : T → List ℕ) 
     items_eq (v ∷ vs) (w ∷ ws) (o, os) =
         let others = items_eq vs ws os in
         let one = encoding_eq v w o in (
-          (λ h. let p = both_true (eq v w) (pointwise eq vs ws) h in ap (λ c. c ++ flat_map encoding vs) (one.0 p.0) ∙ ap (λ c. encoding w ++ c) (others.0 p.1)),
-          (λ h. let u = encoding-unique v w (flat_map encoding vs) (flat_map encoding ws) h in and_true (eq v w) (pointwise eq vs ws) (one.1 u.0) (others.1 u.1)),
+          (λ h. let p = and_parts (eq v w) (pointwise eq vs ws) h in ap (λ c. c ++ flat_map encoding vs) (one.0 p.0) ∙ ap (λ c. encoding w ++ c) (others.0 p.1)),
+          (λ h. let u = encoding-unique v w (flat_map encoding vs) (flat_map encoding ws) h in and_from (eq v w) (pointwise eq vs ws) (one.1 u.0) (others.1 u.1)),
         )

@@ -1,5 +1,6 @@
 -- The laws of what contents octets are read as, as an INTEGER of a number of octets.
 use Rattle.std.proofs.Common.{◌≡◌, refl, ◌∙◌, arith, ◌≤◌, slice_index, inl, inr, ℕ, ◌+◌, ◌<◌, ◌||◌, ◌&&◌, ◌==◌, nat_lt, nat_le, if◌then◌else◌, List, [], ◌∷◌, length, Bool, true, false, ℤ, Ok, Err}
+use Rattle.std.proofs.lemmas.Bool.{or_parts}
 use Rattle.std.proofs.lemmas.Bool.Decides.{nat_tests}
 use Rattle.der_tlv.specs.declared.encoding_rules.EncodingRules.{EncodingRules}
 use Rattle.der_tlv.specs.declared.error.ErrorKind.TheVariants as kinds
@@ -22,14 +23,10 @@ signed_or_fault-ok width (first ∷ others) some within needed =
     fault_unless (nat_lt width (length (first ∷ others))) (is_redundant (first ∷ others)) (Err (kinds.Noncanonical Integer)) (Ok (first ∷ others)) few needed
 
 -- octets that are not redundant have no needless 00
-needless_zero-needed : (octets : List ℕ) → is_redundant octets ≡ false → has_needless_zero octets ≡ false
+pub needless_zero-needed : (octets : List ℕ) → is_redundant octets ≡ false → has_needless_zero octets ≡ false
 needless_zero-needed [] needed = refl
 needless_zero-needed (first ∷ []) needed = refl
-needless_zero-needed (first ∷ second ∷ others) needed = left (first == 0 && nat_lt second 128) (first == 255 && nat_le 128 second) needed
-  where
-    left : (a b : Bool) → (a || b) ≡ false → a ≡ false
-    left false b e = refl
-    left true b e = absurd (cc)
+needless_zero-needed (first ∷ second ∷ others) needed = (or_parts (first == 0 && nat_lt second 128) (first == 255 && nat_le 128 second) needed).0
 
 -- what fits in w octets, but for a 00 in front, passes the two tests of its length
 fits_tests : (width : ℕ) (octets : List ℕ) → FitsUnsignedOctets width octets → (nat_lt (width + 1) (length octets) ≡ false) × (fits_unsigned width octets ≡ true)

@@ -1,6 +1,6 @@
 -- The laws of lists of items, from those of the items.
 use Rattle.std.proofs.Common.{◌≡◌, ℕ, zero, suc, ◌+◌, ◌<◌, ◌≤◌, List, [], ◌∷◌, ◌++◌, length, drop, Result, Ok, Err, refl, sym, ap, ◌∙◌, arith, flat_map}
-use Rattle.std.proofs.lemmas.List.{length-append, length-drop}
+use Rattle.std.proofs.lemmas.List.{nil_from_length, length-append, length-drop}
 use Rattle.std.proofs.Math.Seq.{drop-append_seam}
 use Rattle.der_tlv.specs.declared.error.ErrorKind.{ErrorKind}
 use Rattle.der_tlv.specs.declared.encoding_rules.EncodingRules.{EncodingRules}
@@ -41,10 +41,6 @@ parse_items-more parse rules p zero c s h o e = absurd (omega arith)
 parse_items-more parse rules p (suc n) c s h o e =
     parse_items-step parse rules p c h ∙ ap (λ r. then_items r (λ n. parse_items parse rules (p + n) (drop n c))) e
 
-pub no_octets : (s : List ℕ) → length s ≡ 0 → s ≡ []
-no_octets [] h = refl
-no_octets (x ∷ s) h = absurd (omega arith)
-
 -- two parts of octets that fit
 pub first_fits : (c b d : List ℕ) → c ≡ b ++ d → Fits c → Fits b
 first_fits c b d e fits = omega (arith, ap length e, length-append b d)
@@ -56,7 +52,7 @@ module _ {T : Type 0} (F : form.Ghosts T) (rules : EncodingRules) where
   pub parse_of_items : (vs : List T) (p : ℕ) (c : List ℕ) → AcceptsItems (F.accepts rules) vs c → Fits c → parse_items F.parse rules p c ≡ Ok (flat_map F.encoding vs)
   parse_of_items [] p c e fits = ap (parse_items F.parse rules p) e ∙ parse_items-end F.parse rules p
   parse_of_items (v ∷ vs) p c ([], d, e, a, others) fits =
-      ap (parse_items F.parse rules p) e ∙ parse_of_items vs p d others (others_fit c [] d e fits) ∙ ap (λ s. Ok (s ++ flat_map F.encoding vs)) (sym (no_octets (F.encoding v) (F.same_length rules v [] a)))
+      ap (parse_items F.parse rules p) e ∙ parse_of_items vs p d others (others_fit c [] d e fits) ∙ ap (λ s. Ok (s ++ flat_map F.encoding vs)) (sym (nil_from_length (F.encoding v) (F.same_length rules v [] a)))
   parse_of_items (v ∷ vs) p c (y ∷ b, d, e, a, others) fits =
       ap (parse_items F.parse rules p) e
       ∙ parse_items-more F.parse rules p (suc (length b)) (y ∷ (b ++ d)) (F.encoding v) (omega arith) (omega arith) (F.parse_of_accepted rules v p (y ∷ b) d a (first_fits c (y ∷ b) d e fits) tt)

@@ -1,14 +1,11 @@
 -- Tags of two types are those of one or of the other.
 use Rattle.std.proofs.Common.{◌≡◌, List, [], ◌∷◌, ◌++◌, Bool, true, false, ◌||◌, Option, Some, None, refl, sym, ap, ◌∙◌, subst}
+use Rattle.std.proofs.lemmas.Bool.{or_right}
 use Rattle.der_tlv.specs.declared.tag.Tag.{Tag}
 use Rattle.der_tlv.specs.Identifier.{same_identifier, same_tag}
 use Rattle.der_tlv.specs.HeaderLaws.{same_identifier-true}
 use Rattle.der_tlv.specs.IdentifierLaws.{same_tag-same}
 use Rattle.der_elem.specs.KnownTags.{is_one_of, may_be, known_of_both}
-
-or_right : (a b : Bool) → b ≡ true → (a || b) ≡ true
-or_right true b e = refl
-or_right false b e = e
 
 left_of : (p q r : Bool) → (q ≡ true → r ≡ true) → (p || q) ≡ true → (p || r) ≡ true
 left_of true q r f e = refl

@@ -1,6 +1,7 @@
 -- The laws of values that may be absent, from those of the values.
 use Rattle.std.proofs.Common.{◌≡◌, ℕ, List, [], ◌∷◌, ◌++◌, length, Bool, true, false, Option, Some, None, Ok, refl, sym, ap, ◌∙◌, append_assoc, IsTrue, ◌↔◌, arith}
 use Rattle.std.specs.Option.{option_eq}
+use Rattle.std.proofs.lemmas.List.{nil_from_length}
 use Rattle.der_tlv.specs.declared.encoding_rules.EncodingRules.{EncodingRules}
 use Rattle.der_tlv.specs.declared.tag.Tag.{Tag}
 use Rattle.der_tlv.specs.HeaderOctets.{tlv}
@@ -10,7 +11,6 @@ use Rattle.der_tlv.specs.TagReadingLaws.{read_tag-identifier}
 use Rattle.der_elem.specs.declared.form.Form as form
 use Rattle.der_elem.specs.Accepting.{Fits, BeginsWith, MayFollow}
 use Rattle.der_elem.specs.Leading.{Leads}
-use Rattle.der_elem.specs.ItemLaws.{no_octets}
 use Rattle.der_elem.specs.OrderLaws.{encoding-some}
 use Rattle.der_elem.specs.Options.{lead_option, encoding_option, comparable_option, test_option, accepts_option, readable_option, is_copy_option, parse_option}
 
@@ -30,8 +30,8 @@ module _ {T : Type 0} (F : form.Ghosts T) (rules : EncodingRules) where
   parse_of_option None p [] [] a fits follows = refl
   parse_of_option None p [] (z ∷ x) a fits follows = absent p z x follows
   parse_of_option None p (z ∷ b) x a fits follows = absurd (cc)
-  parse_of_option (Some v) p [] [] a fits follows = ap (λ s. Ok (0, s)) (sym (no_octets (F.encoding v) (F.same_length rules v [] a)))
-  parse_of_option (Some v) p [] (z ∷ x) a fits follows = absent p z x follows ∙ ap (λ s. Ok (0, s)) (sym (no_octets (F.encoding v) (F.same_length rules v [] a)))
+  parse_of_option (Some v) p [] [] a fits follows = ap (λ s. Ok (0, s)) (sym (nil_from_length (F.encoding v) (F.same_length rules v [] a)))
+  parse_of_option (Some v) p [] (z ∷ x) a fits follows = absent p z x follows ∙ ap (λ s. Ok (0, s)) (sym (nil_from_length (F.encoding v) (F.same_length rules v [] a)))
   parse_of_option (Some v) p (z ∷ b) x a fits follows =
       let h = F.begins rules v z b a in
       let tag : read_tag p (z ∷ (b ++ x)) ≡ Ok (length (identifier h.tag), h.tag) = next_tag F.tags true p (z ∷ b) x h in

@@ -35,11 +35,11 @@ nothing_behind octets more a b =
 pub lex-tlv : (t u : Tag) (c d x y : List ℕ) → lex (tlv t c ++ x) (tlv u d ++ y) ≡ ordering_then (lex (tlv t c) (tlv u d)) (lex x y)
 lex-tlv t u c d x y = lex-append (tlv t c) (tlv u d) x y (tlv-beginning t u c d)
 
-lex-none-some : (s x : List ℕ) → 0 < length s → lex [] (s ++ x) ≡ Less
+pub lex-none-some : (s x : List ℕ) → 0 < length s → lex [] (s ++ x) ≡ Less
 lex-none-some [] x h = absurd (omega arith)
 lex-none-some (z ∷ s) x h = refl
 
-lex-some-none : (s x : List ℕ) → 0 < length s → lex (s ++ x) [] ≡ Greater
+pub lex-some-none : (s x : List ℕ) → 0 < length s → lex (s ++ x) [] ≡ Greater
 lex-some-none [] x h = absurd (omega arith)
 lex-some-none (z ∷ s) x h = refl
 

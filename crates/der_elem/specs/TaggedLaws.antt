@@ -1,20 +1,17 @@
 -- The laws of encodings with one tag, from those of their contents octets.
-use Rattle.std.proofs.Common.{◌≡◌, ℕ, ◌+◌, List, ◌∷◌, ◌++◌, length, true, false, Ok, refl, sym, ap, ◌∙◌, arith, subst, nat_lt, append_assoc, ◌↔◌, Bool, IsTrue}
+use Rattle.std.proofs.Common.{◌≡◌, ℕ, ◌+◌, List, ◌∷◌, ◌++◌, length, true, Ok, refl, sym, ap, ◌∙◌, arith, subst, append_assoc, ◌↔◌, Bool, IsTrue}
 use Rattle.std.proofs.lemmas.List.{length-append}
-use Rattle.std.proofs.lemmas.Bool.Decides.{nat_tests}
 use Rattle.std.proofs.Math.Seq.{take-append_seam, drop-append_seam}
 use Rattle.der_tlv.specs.declared.encoding_rules.EncodingRules.{EncodingRules}
 use Rattle.der_tlv.specs.declared.tag.Tag.{Tag}
 use Rattle.der_tlv.specs.TagParts.{IsTag}
 use Rattle.der_tlv.specs.Identifier.{identifier, same_identifier}
 use Rattle.der_tlv.specs.LengthOctets.{length_octets}
+use Rattle.der_tlv.specs.LengthLaws.{not_short}
 use Rattle.der_tlv.specs.HeaderOctets.{header_octets, tlv}
 use Rattle.der_tlv.specs.HeaderLaws.{read_header-octets, same_identifier-same, tlv-injective}
 use Rattle.der_elem.specs.Parsing.{ContentsParse, parse_tagged, parse_with_tag}
 use Rattle.der_elem.specs.Accepting.{Fits, BeginsWith, IsTlv, MayFollow, accepts_tagged}
-
-enough : (c x : List ℕ) → nat_lt (length (c ++ x)) (length c) ≡ false
-enough c x = let h = length-append c x in grind (arith, nat_tests)
 
 -- contents are no longer than their encoding
 pub contents_fit : (t : Tag) (c : List ℕ) → Fits (tlv t c) → Fits c
@@ -27,7 +24,7 @@ parse_tagged-tlv t parse rules p c d x is_tag fits parsed =
     let h = header_octets t (length c) in
     let regroup : tlv t c ++ x ≡ h ++ (c ++ x) = append_assoc h c x in
     let head = read_header-octets t (length c) p (c ++ x) is_tag (contents_fit t c fits) in
-    ap (parse_tagged t parse rules p) regroup ∙ ap (parse_with_tag t parse rules p (h ++ (c ++ x))) head ∙ rw (same_identifier-same t, drop-append_seam h (c ++ x), enough c x, take-append_seam c x, parsed (p + length h)) (ap (λ n. Ok (n, tlv t d)) (sym (length-append h c)))
+    ap (parse_tagged t parse rules p) regroup ∙ ap (parse_with_tag t parse rules p (h ++ (c ++ x))) head ∙ rw (same_identifier-same t, drop-append_seam h (c ++ x), not_short c x, take-append_seam c x, parsed (p + length h)) (ap (λ n. Ok (n, tlv t d)) (sym (length-append h c)))
 
 module _ {T : Type 0} (t : Tag) (is_tag : IsTag t) (accepts : EncodingRules → T → List ℕ → Type 0) (contents : T → List ℕ) (parse : ContentsParse) (parse_of_accepted : (rules : EncodingRules) (v : T) (p : ℕ) (c : List ℕ) → accepts rules v c → Fits c → parse rules p c ≡ Ok (contents v)) where
   pub parse_of_tagged : (rules : EncodingRules) (v : T) (p : ℕ) (b x : List ℕ) → accepts_tagged t accepts rules v b → Fits b → MayFollow (λ u. same_identifier u t) b x → parse_tagged t parse rules p (b ++ x) ≡ Ok (length b, tlv t (contents v))

@@ -1,5 +1,6 @@
 -- The laws of a CHOICE, from those of its alternatives.
 use Rattle.std.proofs.Common.{◌≡◌, ℕ, ◌<◌, IsTrue, ◌↔◌, List, [], ◌∷◌, ◌++◌, length, Bool, true, false, ◌||◌, Option, Some, None, Result, Ok, Err, refl, sym, ap, ◌∙◌, arith, append_assoc, subst}
+use Rattle.std.proofs.lemmas.Bool.{or_left, or_right}
 use Rattle.der_tlv.specs.declared.encoding_rules.EncodingRules.{EncodingRules}
 use Rattle.der_tlv.specs.declared.error.ErrorKind.{ErrorKind}
 use Rattle.der_tlv.specs.declared.tag.Tag.{Tag}
@@ -13,7 +14,7 @@ use Rattle.der_elem.specs.Leading.{IsLed, Leads, Starts}
 use Rattle.der_fields.specs.declared.one_of.OneOf.{OneOf}
 use Rattle.der_fields.specs.declared.one_of.OneOf.TheVariants.{First, Other}
 use Rattle.der_elem.specs.LeadingLaws.{led_some}
-use Rattle.der_fields.specs.FieldLaws.{follows_some, left_part, right_part}
+use Rattle.der_fields.specs.FieldLaws.{follows_some}
 use Rattle.der_fields.specs.TellingLaws.{same_lead}
 use Rattle.der_fields.specs.Alternatives.{TagIs, of_one, AcceptsOne, ReadableOne, OneFormOne, IsCopyOne, parse_by_tag, parse_one}
 
@@ -81,8 +82,8 @@ module _ {A B : Type 0} (F : form.Ghosts A) (G : form.Ghosts B) (rules : Encodin
       other_parsed F.tags G.tags p (b ++ x) (F.parse rules p (b ++ x)) (G.parse rules p (b ++ x)) (next_is F.tags false (G.lead w) p b x a.1 l) own ∙ G.parse_of_accepted rules w p b x a.0 fits (follows_some G.tags b x some)
 
   pub begins_one : (v : OneOf A B) (z : ℕ) (b : List ℕ) → AcceptsOne F.tags F.lead G.lead (F.accepts rules) (G.accepts rules) v (z ∷ b) → BeginsWith (λ t. F.tags t || G.tags t) true (z ∷ b)
-  begins_one (First v) z b a = more_tags F.tags (λ t. F.tags t || G.tags t) (z ∷ b) (λ t. left_part (F.tags t) (G.tags t)) (F.begins rules v z b a.0)
-  begins_one (Other w) z b a = more_tags G.tags (λ t. F.tags t || G.tags t) (z ∷ b) (λ t. right_part (F.tags t) (G.tags t)) (G.begins rules w z b a.0)
+  begins_one (First v) z b a = more_tags F.tags (λ t. F.tags t || G.tags t) (z ∷ b) (λ t. or_left (F.tags t) (G.tags t)) (F.begins rules v z b a.0)
+  begins_one (Other w) z b a = more_tags G.tags (λ t. F.tags t || G.tags t) (z ∷ b) (λ t. or_right (F.tags t) (G.tags t)) (G.begins rules w z b a.0)
 
   pub led_one : (v : OneOf A B) (b : List ℕ) → AcceptsOne F.tags F.lead G.lead (F.accepts rules) (G.accepts rules) v b → Leads (of_one F.lead G.lead v) b
   led_one (First v) b a = F.led rules v b a.0
@@ -108,8 +109,8 @@ module _ {A B : Type 0} (F : form.Ghosts A) (G : form.Ghosts B) (rules : Encodin
 
 -- what either alternative has, the CHOICE has
 pub test_of_one : {A B : Type 0} (test : A → Bool) (test' : B → Bool) (p q : Bool) → ((v : A) → test v ≡ true → p ≡ true) → ((w : B) → test' w ≡ true → q ≡ true) → (v : OneOf A B) → of_one test test' v ≡ true → (p || q) ≡ true
-test_of_one test test' p q f g (First v) h = left_part p q (f v h)
-test_of_one test test' p q f g (Other w) h = right_part p q (g w h)
+test_of_one test test' p q f g (First v) h = or_left p q (f v h)
+test_of_one test test' p q f g (Other w) h = or_right p q (g w h)
 
 pub test_alike : {A B : Type 0} (test more : A → Bool) (test' more' : B → Bool) → ((v : A) → test v ≡ true → more v ≡ true) → ((w : B) → test' w ≡ true → more' w ≡ true) → (v : OneOf A B) → of_one test test' v ≡ true → of_one more more' v ≡ true
 test_alike test more test' more' f g (First v) h = f v h
@@ -124,8 +125,8 @@ lead_is_one tag_of tag_of' lead lead' f g (First v) = f v
 lead_is_one tag_of tag_of' lead lead' f g (Other w) = g w
 
 pub own_tag_one : {A B : Type 0} (tags tags' : Tag → Bool) (tag_of : A → Tag) (tag_of' : B → Tag) → ((v : A) → tags (tag_of v) ≡ true) → ((w : B) → tags' (tag_of' w) ≡ true) → (v : OneOf A B) → (tags (of_one tag_of tag_of' v) || tags' (of_one tag_of tag_of' v)) ≡ true
-own_tag_one tags tags' tag_of tag_of' f g (First v) = left_part (tags (tag_of v)) (tags' (tag_of v)) (f v)
-own_tag_one tags tags' tag_of tag_of' f g (Other w) = right_part (tags (tag_of' w)) (tags' (tag_of' w)) (g w)
+own_tag_one tags tags' tag_of tag_of' f g (First v) = or_left (tags (tag_of v)) (tags' (tag_of v)) (f v)
+own_tag_one tags tags' tag_of tag_of' f g (Other w) = or_right (tags (tag_of' w)) (tags' (tag_of' w)) (g w)
 
 pub is_led_one : {A B : Type 0} (lead : A → Option Tag) (lead' : B → Option Tag) → ((v : A) → IsLed (lead v)) → ((w : B) → IsLed (lead' w)) → (v : OneOf A B) → IsLed (of_one lead lead' v)
 is_led_one lead lead' f g (First v) = f v

@@ -1,7 +1,8 @@
 -- The laws of fields with a DEFAULT, from those of the values.
 use Rattle.std.proofs.Common.{◌≡◌, ℕ, List, [], ◌∷◌, ◌++◌, length, Bool, true, false, nat_eq, Option, Some, None, Ok, refl, sym, ap, ◌∙◌, arith, append_assoc, subst, not, eq-eqb, IsTrue, ◌↔◌}
 use borrow.Author.Tests.{eqb-true}
-use Rattle.std.proofs.lemmas.List.{append-nil}
+use Rattle.std.proofs.lemmas.Bool.{false_from_ne_true}
+use Rattle.std.proofs.lemmas.List.{append-nil, nil_from_length}
 use Rattle.std.specs.declared.cmp.Ordering.TheVariants.{Less, Greater}
 use Rattle.std.specs.Cmp.Lexicographic.{pointwise, bytes_decides}
 use Rattle.der_tlv.specs.declared.encoding_rules.EncodingRules.{EncodingRules}
@@ -22,12 +23,7 @@ use Rattle.der_elem.specs.Accepting.{Fits, BeginsWith, MayFollow}
 use Rattle.der_elem.specs.Leading.{Leads, Starts, SameLeads}
 use Rattle.der_elem.specs.LeadingLaws.{starts_tagged, own_lead_tagged, beginning_tagged}
 use Rattle.der_elem.specs.OrderLaws.{encoding-some, lex-absent-present, lex-present-absent}
-use Rattle.der_elem.specs.ItemLaws.{no_octets}
 use Rattle.der_fields.specs.Defaults.{is_default, octets_unless, lead_unless, test_unless, accepts_unless, refuse_default, parse_default}
-
-unless_true : (b : Bool) → (b ≡ true → ⊥) → b ≡ false
-unless_true true h = absurd (h refl)
-unless_true false h = refl
 
 -- the default's encoding is told from every other
 default_refused : (default octets : List ℕ) → octets ≡ default → pointwise nat_eq octets default ≡ true
@@ -38,13 +34,13 @@ is_the_default default octets e = (bytes_decides octets default).0 e
 
 other_passes : (default octets : List ℕ) (n : ℕ) (tag : Tag) → (octets ≡ default → ⊥) → refuse_default default tag (Ok (n, octets)) ≡ Ok (n, octets)
 other_passes default octets n tag h =
-    let differs : pointwise nat_eq octets default ≡ false = unless_true (pointwise nat_eq octets default) (λ e. h (is_the_default default octets e)) in
+    let differs : pointwise nat_eq octets default ≡ false = false_from_ne_true (pointwise nat_eq octets default) (λ e. h (is_the_default default octets e)) in
     rw differs refl
 
 -- a test that holds exactly where octets are the default's
 told_default : (default octets : List ℕ) (test : Bool) → (test ≡ true → octets ≡ default) → (octets ≡ default → test ≡ true) → test ≡ is_default default octets
 told_default default octets true f g = sym (default_refused default octets (f refl))
-told_default default octets false f g = sym (unless_true (pointwise nat_eq octets default) (λ e. let h = g (is_the_default default octets e) in absurd (cc)))
+told_default default octets false f g = sym (false_from_ne_true (pointwise nat_eq octets default) (λ e. let h = g (is_the_default default octets e) in absurd (cc)))
 
 -- an explicit tag stands around the default's encoding
 pub explicit_default : (t : Tag) (default octets : List ℕ) → is_default default octets ≡ is_default (tlv t default) (tlv t (octets ++ []))
@@ -71,8 +67,8 @@ module _ {T : Type 0} (F : form.Ghosts T) (default : List ℕ) (rules : Encoding
   parse_at true v e p [] [] a fits follows = refl
   parse_at true v e p [] (z ∷ x) a fits follows = absent p z x follows
   parse_at true v e p (z ∷ b) x a fits follows = let none = a.0 in absurd (cc)
-  parse_at false v e p [] [] a fits follows = ap (λ s. Ok (0, s)) (sym (no_octets (F.encoding v) (F.same_length rules v [] a)))
-  parse_at false v e p [] (z ∷ x) a fits follows = absent p z x follows ∙ ap (λ s. Ok (0, s)) (sym (no_octets (F.encoding v) (F.same_length rules v [] a)))
+  parse_at false v e p [] [] a fits follows = ap (λ s. Ok (0, s)) (sym (nil_from_length (F.encoding v) (F.same_length rules v [] a)))
+  parse_at false v e p [] (z ∷ x) a fits follows = absent p z x follows ∙ ap (λ s. Ok (0, s)) (sym (nil_from_length (F.encoding v) (F.same_length rules v [] a)))
   parse_at false v e p (z ∷ b) x a fits follows =
       let h = F.begins rules v z b a in
       let whole : z ∷ (b ++ x) ≡ identifier h.tag ++ (h.others ++ x) = ap (λ o. o ++ x) h.octets_are ∙ append_assoc (identifier h.tag) h.others x in

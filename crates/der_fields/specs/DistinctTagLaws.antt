@@ -1,5 +1,6 @@
 -- Where the tags of fields are distinct, each field is told from what follows it.
 use Rattle.std.proofs.Common.{◌≡◌, List, [], ◌∷◌, Bool, true, false, ◌&&◌, ◌||◌, not, Option, Some, None, refl, sym, ap, ◌∙◌, subst}
+use Rattle.std.proofs.lemmas.Bool.{and_parts, not-true, both_ways, false_from_ne_true}
 use Rattle.der_tlv.specs.declared.tag.Tag.{Tag}
 use Rattle.der_tlv.specs.Identifier.{same_tag}
 use Rattle.der_tlv.specs.IdentifierLaws.{same_tag-true}
@@ -12,21 +13,13 @@ use Rattle.der_fields.specs.declared.one_of.OneOf.TheVariants.{First, Other}
 use Rattle.der_fields.specs.Alternatives.{TagIs, AskedOfOne, ReadableOne, OneFormOne, AskedOfBoth}
 use Rattle.der_fields.specs.DistinctTags.{none_may_be, are_distinct, first_known, is_told}
 
-pub both_parts : (a b : Bool) → (a && b) ≡ true → (a ≡ true) × (b ≡ true)
-both_parts true b e = (refl, e)
-both_parts false b e = absurd (cc)
-
-not_true : (b : Bool) → not b ≡ true → b ≡ false
-not_true true e = absurd (cc)
-not_true false e = refl
-
 -- a tag that follows is none of the known ones
 not_known : (known : Option (List Tag)) (following : List Tag) (t : Tag) → none_may_be known following ≡ true → is_one_of following t ≡ true → may_be known t ≡ false
 not_known known [] t e f = absurd (cc)
 not_known known (u ∷ following) t e f =
-    let parts = both_parts (not (may_be known u)) (none_may_be known following) e in
+    let parts = and_parts (not (may_be known u)) (none_may_be known following) e in
     of_either (same_tag t u) (is_one_of following t)
-    (λ h. ap (may_be known) (same_tag-true t u h) ∙ not_true (may_be known u) parts.0)
+    (λ h. ap (may_be known) (same_tag-true t u h) ∙ not-true (may_be known u) parts.0)
     (not_known known following t parts.1) f
   where
     of_either : (p q : Bool) → (p ≡ true → may_be known t ≡ false) → (q ≡ true → may_be known t ≡ false) → (p || q) ≡ true → may_be known t ≡ false
@@ -40,13 +33,6 @@ distinct_tag known (Some following) t e f = not_known known following t e f
 not_none : (next : Option Tag) → IsLed next → next ≡ None → ⊥
 not_none next led e = let is = led.is_tag in absurd (cc)
 
-untold : (b : Bool) → (b ≡ true → ⊥) → b ≡ false
-untold true f = absurd (f refl)
-untold false f = refl
-
-false_true : {b : Bool} → b ≡ false → b ≡ true → ⊥
-false_true e f = cc
-
 module _ (tags : Tag → Bool) (known following : Option (List Tag)) (are_known : (t : Tag) → tags t ≡ true → may_be known t ≡ true) where
   -- a field that is told from those behind it, whatever its value is
   pub told : (may_be_absent : Bool) (lead next : Option Tag) → (may_be_absent ≡ false → IsLed lead) → ((t : Tag) → next ≡ Some t → may_be following t ≡ true) → is_told may_be_absent known following ≡ true → Apart tags lead next
@@ -54,7 +40,7 @@ module _ (tags : Tag → Bool) (known following : Option (List Tag)) (are_known 
   told may_be_absent None None there follows e = tt
   told false None (Some t) there follows e = absurd (not_none None (there refl) refl)
   told true None (Some t) there follows e =
-      untold (tags t) (λ h. false_true (distinct_tag known following t e (follows t refl)) (are_known t h))
+      false_from_ne_true (tags t) (λ h. both_ways _ (distinct_tag known following t e (follows t refl)) (are_known t h))
 
   -- the tag that a field and those behind it begin with is known
   pub first_is_known : (may_be_absent : Bool) (lead next : Option Tag) → ((t : Tag) → lead ≡ Some t → tags t ≡ true) → (may_be_absent ≡ false → IsLed lead) → ((t : Tag) → next ≡ Some t → may_be following t ≡ true) → (t : Tag) → first_of lead next ≡ Some t → may_be (first_known may_be_absent known following) t ≡ true
@@ -77,7 +63,7 @@ module _ {A B : Type 0} (tags : Tag → Bool) (tags' : Tag → Bool) (known know
   other_told : (w : B) → TagIs tags false (lead' w)
   other_told w =
       let other = distinct_tag known known' (tag_of' w) distinct (are_known' (tag_of' w) (own' w)) in
-      tag_is_none tags (lead' w) (tag_of' w) (lead_is' w) (untold (tags (tag_of' w)) (λ h. false_true other (are_known (tag_of' w) h)))
+      tag_is_none tags (lead' w) (tag_of' w) (lead_is' w) (false_from_ne_true (tags (tag_of' w)) (λ h. both_ways _ other (are_known (tag_of' w) h)))
 
   pub readable_told : (readable : A → Type 0) (readable' : B → Type 0) (v : OneOf A B) → AskedOfOne readable readable' v → ReadableOne tags lead lead' readable readable' v
   readable_told readable readable' (First v) r = (r, first_told v)

@@ -1,5 +1,6 @@
 -- The laws of a field and those behind it, from theirs.
 use Rattle.std.proofs.Common.{◌≡◌, ℕ, ◌+◌, ◌<◌, List, [], ◌∷◌, ◌++◌, length, Bool, true, false, ◌||◌, Option, Some, None, Ok, refl, sym, ap, ◌∙◌, arith, append_assoc, subst}
+use Rattle.std.proofs.lemmas.Bool.{or_left, or_right}
 use Rattle.std.proofs.lemmas.List.{length-append}
 use Rattle.std.proofs.Math.Seq.{drop-append_seam}
 use Rattle.der_tlv.specs.declared.encoding_rules.EncodingRules.{EncodingRules}
@@ -19,16 +20,9 @@ pub follows_some : (tags : Tag → Bool) (b x : List ℕ) → 0 < length b → M
 follows_some tags [] x h = absurd (omega arith)
 follows_some tags (z ∷ b) x h = tt
 
-pub left_part : (a b : Bool) → a ≡ true → (a || b) ≡ true
-left_part a b e = ap (λ a. a || b) e
-
-pub right_part : (a b : Bool) → b ≡ true → (a || b) ≡ true
-right_part true b e = refl
-right_part false b e = e
-
 pub either_part : (a b c d : Bool) → (a ≡ true → c ≡ true) → (b ≡ true → d ≡ true) → (a || b) ≡ true → (c || d) ≡ true
-either_part true b c d f g e = left_part c d (f refl)
-either_part false b c d f g e = right_part c d (g e)
+either_part true b c d f g e = or_left c d (f refl)
+either_part false b c d f g e = or_right c d (g e)
 
 -- a front that is parsed, and then the others
 pub parse_both : (first : Parse) (rest : ContentsParse) (rules : EncodingRules) (p : ℕ) (c x y d e : List ℕ) → c ≡ x ++ y → first rules p (x ++ y) ≡ Ok (length x, d) → rest rules (p + length x) y ≡ Ok e → parse_field first rest rules p c ≡ Ok (d ++ e)

@@ -1,6 +1,7 @@
 -- Fields are told apart by the tags that they begin with.
 use Rattle.std.proofs.Common.{◌≡◌, ◌≢◌, ℕ, ◌<◌, List, [], ◌∷◌, ◌++◌, length, Bool, true, false, ◌&&◌, inl, inr, Option, Some, None, Result, Ok, Err, refl, sym, ap, ◌∙◌, arith, subst, append_assoc, IsTrue, ◌↔◌}
-use Rattle.std.proofs.lemmas.List.{length-append, append-nil}
+use Rattle.std.proofs.lemmas.Bool.{and_parts, and_from, both_ways}
+use Rattle.std.proofs.lemmas.List.{length-append, append-nil, append_cancel_left}
 use Rattle.std.specs.declared.cmp.Ordering.{Ordering}
 use Rattle.std.specs.declared.cmp.Ordering.TheVariants.{Less, Equal, Greater}
 use Rattle.std.specs.Ordering.{ordering_then}
@@ -9,6 +10,7 @@ use Rattle.der_tlv.specs.declared.error.ErrorKind.TheVariants.{Overflow, Memory,
 use Rattle.der_tlv.specs.declared.error.Error.{Error}
 use Rattle.der_tlv.specs.declared.tag.Tag.{Tag}
 use Rattle.der_tlv.specs.Octets.{lex}
+use Rattle.der_tlv.specs.OrderingLaws.{then_decided}
 use Rattle.der_tlv.specs.OctetLaws.{SameBeginning, lex-append}
 use Rattle.der_tlv.specs.HeaderOctets.{tlv}
 use Rattle.der_tlv.specs.HeaderLaws.{tlv-unique}
@@ -40,13 +42,6 @@ pub starts_both : (l n : Option Tag) (a c : List ℕ) → Starts l a → Starts 
 starts_both None n a c s r = subst (λ a. Starts n (a ++ c)) (sym s) r
 starts_both (Some t) n a c s r = record { others = s.others ++ c; octets_are = ap (λ o. o ++ c) s.octets_are ∙ append_assoc (identifier t) s.others c }
 
-cancel : (a c d : List ℕ) → a ++ c ≡ a ++ d → c ≡ d
-cancel [] c d e = e
-cancel (x ∷ a) c d e = let f : a ++ c ≡ a ++ d = cc in cancel a c d f
-
-true_false : {b : Bool} → b ≡ true → b ≡ false → ⊥
-true_false e f = cc
-
 -- octets of which one begins with the tag of a field, and the other with that of what follows it where it is absent
 clash : (tags : Tag → Bool) (t : Tag) (next : Option Tag) (a c b d : List ℕ) → tags t ≡ true → StartsWith t a → b ≡ [] → Starts next d → Apart tags None next → a ++ c ≡ b ++ d → ⊥
 clash tags t None a c b d own s none r h e =
@@ -54,23 +49,16 @@ clash tags t None a c b d own s none r h e =
     omega (arith, ap length e, ap length none, ap length r, length-append a c, length-append b d)
 clash tags t (Some u) a c b d own s none r h e =
     let f : a ++ c ≡ d ++ [] = e ∙ ap (λ b. b ++ d) none ∙ sym (append-nil d) in
-    true_false own (ap tags (one_start s r c [] f) ∙ h)
+    both_ways _ (ap tags (one_start s r c [] f) ∙ h) own
 
 -- fields are found again in their joined encodings
 pub told_apart : (tags : Tag → Bool) (l m next next' : Option Tag) (a b c d : List ℕ) → ((t : Tag) → l ≡ Some t → tags t ≡ true) → ((t : Tag) → m ≡ Some t → tags t ≡ true) → Starts l a → Starts m b → Starts next c → Starts next' d → (SameLeads l m → SameBeginning a b) → Apart tags l next → Apart tags m next' → a ++ c ≡ b ++ d → (a ≡ b) × (c ≡ d)
 told_apart tags None None next next' a b c d own own' s r s' r' same h h' e =
-    let one : a ≡ b = (same tt).same c d e in (one, cancel a c d (e ∙ ap (λ b. b ++ d) (sym one)))
+    let one : a ≡ b = (same tt).same c d e in (one, append_cancel_left a c d (e ∙ ap (λ b. b ++ d) (sym one)))
 told_apart tags (Some t) (Some u) next next' a b c d own own' s r s' r' same h h' e =
-    let one : a ≡ b = (same tt).same c d e in (one, cancel a c d (e ∙ ap (λ b. b ++ d) (sym one)))
+    let one : a ≡ b = (same tt).same c d e in (one, append_cancel_left a c d (e ∙ ap (λ b. b ++ d) (sym one)))
 told_apart tags (Some t) None next next' a b c d own own' s r s' r' same h h' e = absurd (clash tags t next' a c b d (own t refl) s r r' h' e)
 told_apart tags None (Some u) next next' a b c d own own' s r s' r' same h h' e = absurd (clash tags u next b d a c (own' u refl) r s s' h (sym e))
-
-both_true : (a b : Bool) → (a && b) ≡ true → (a ≡ true) × (b ≡ true)
-both_true true b h = (refl, h)
-both_true false b h = absurd (cc)
-
-and_true : (a b : Bool) → a ≡ true → b ≡ true → (a && b) ≡ true
-and_true a b h k = ap (λ a. a && b) h ∙ k
 
 -- an encoding is found again before what follows it
 pub tlv_apart : (t u : Tag) (c d x y : List ℕ) → tlv t c ++ x ≡ tlv u d ++ y → (tlv t c ≡ tlv u d) × (x ≡ y)
@@ -79,8 +67,8 @@ tlv_apart t u c d x y e = let same = tlv-unique t u c d x y e in (ap (λ t. tlv 
 -- fields are equal exactly where their joined encodings are
 pub eq_both : (p q : Bool) (a b c d : List ℕ) → (IsTrue p ↔ (a ≡ b)) → (IsTrue q ↔ (c ≡ d)) → (a ++ c ≡ b ++ d → (a ≡ b) × (c ≡ d)) → IsTrue (p && q) ↔ (a ++ c ≡ b ++ d)
 eq_both p q a b c d first others told = (
-  (λ h. let r = both_true p q h in ap (λ a. a ++ c) (first.0 r.0) ∙ ap (λ c. b ++ c) (others.0 r.1)),
-  (λ e. let t = told e in and_true p q (first.1 t.0) (others.1 t.1)),
+  (λ h. let r = and_parts p q h in ap (λ a. a ++ c) (first.0 r.0) ∙ ap (λ c. b ++ c) (others.0 r.1)),
+  (λ e. let t = told e in and_from p q (first.1 t.0) (others.1 t.1)),
 )
 
 -- the last field has nothing behind it
@@ -90,14 +78,9 @@ eq_last p a b last = (
   (λ e. last.1 (sym (append-nil a) ∙ e ∙ append-nil b)),
 )
 
-decided : (o p : Ordering) → o ≢ Equal → ordering_then o p ≡ o
-decided Less p h = refl
-decided Equal p h = absurd (h refl)
-decided Greater p h = refl
-
 -- the first field that differs decides the order
 pub first_decides : (a b c d : List ℕ) (order : Ordering) → SameBeginning a b → order ≡ lex a b → order ≢ Equal → order ≡ lex (a ++ c) (b ++ d)
-first_decides a b c d order same e h = sym (lex-append a b c d same ∙ ap (λ o. ordering_then o (lex c d)) (sym e) ∙ decided order (lex c d) h)
+first_decides a b c d order same e h = sym (lex-append a b c d same ∙ ap (λ o. ordering_then o (lex c d)) (sym e) ∙ then_decided order (lex c d) h)
 
 -- else those behind it
 module _ (a b c d : List ℕ) (one one' : Type 0) (r s r' s' : Bool) (forms : one → one') (left : r' ≡ true → r ≡ true) (right : s' ≡ true → s ≡ true) where
@@ -151,9 +134,9 @@ pub leads_clash : (tags : Tag → Bool) (l m next next' : Option Tag) → ((t : 
 leads_clash tags None None next next' own own' mixed e h h' = mixed tt
 leads_clash tags (Some t) (Some u) next next' own own' mixed e h h' = mixed tt
 leads_clash tags (Some t) None next None own own' mixed e h h' = greater_equal e
-leads_clash tags (Some t) None next (Some u) own own' mixed e h h' = true_false (own t refl) (ap tags (lex-identifier-equal t u e) ∙ h')
+leads_clash tags (Some t) None next (Some u) own own' mixed e h h' = both_ways _ (ap tags (lex-identifier-equal t u e) ∙ h') (own t refl)
 leads_clash tags None (Some u) None next' own own' mixed e h h' = less_equal e
-leads_clash tags None (Some u) (Some t) next' own own' mixed e h h' = true_false (own' u refl) (ap tags (sym (lex-identifier-equal t u e)) ∙ h)
+leads_clash tags None (Some u) (Some t) next' own own' mixed e h h' = both_ways _ (ap tags (sym (lex-identifier-equal t u e)) ∙ h) (own' u refl)
 
 pub same_apart : (tags : Tag → Bool) (l m next next' : Option Tag) → m ≡ l → next' ≡ next → Apart tags l next → Apart tags m next'
 same_apart tags l m next next' e f h = subst (λ m. Apart tags m next') (sym e) (subst (Apart tags l) (sym f) h)

@@ -4,7 +4,8 @@ ghost use Rattle.std.specs.Prelude.{◌≡◌, List, [], Bool, true, ◌&&◌, O
 ghost use Rattle.der_tlv.specs.declared.tag.Tag.{Tag};
 ghost use Rattle.der_elem.specs.KnownTags.{may_be};
 ghost use Rattle.der_fields.specs.DistinctTags.{first_known, is_told};
-ghost use Rattle.der_fields.specs.DistinctTagLaws.{both_parts, told, first_is_known};
+ghost use Rattle.std.proofs.lemmas.Bool.{and_parts};
+ghost use Rattle.der_fields.specs.DistinctTagLaws.{told, first_is_known};
 
 use crate::end::End;
 use crate::field::Field;
@@ -67,7 +68,7 @@ impl<T: KnownTags + FirstTag, Rest: DistinctTags> DistinctTags for Field<T, Rest
         (λ e. T.is_there e v.first) (Rest.first_is_known v.rest) };
 
     ghost readable_if_distinct = { λ e v r.
-        let parts = both_parts (is_told T.MAY_BE_ABSENT T.known_tags Rest.first_tags) Rest.TAGS_ARE_DISTINCT e in (
+        let parts = and_parts (is_told T.MAY_BE_ABSENT T.known_tags Rest.first_tags) Rest.TAGS_ARE_DISTINCT e in (
           r.0,
           Rest.readable_if_distinct parts.1 v.rest r.1,
           told T.tags T.known_tags Rest.first_tags T.are_known T.MAY_BE_ABSENT (T.lead v.first)
@@ -75,7 +76,7 @@ impl<T: KnownTags + FirstTag, Rest: DistinctTags> DistinctTags for Field<T, Rest
         ) };
 
     ghost comparable_if_distinct = { λ e v w c.
-        let parts = both_parts (is_told T.MAY_BE_ABSENT T.known_tags Rest.first_tags) Rest.TAGS_ARE_DISTINCT e in (
+        let parts = and_parts (is_told T.MAY_BE_ABSENT T.known_tags Rest.first_tags) Rest.TAGS_ARE_DISTINCT e in (
           c.0,
           Rest.comparable_if_distinct parts.1 v.rest w.rest c.1,
           told T.tags T.known_tags Rest.first_tags T.are_known T.MAY_BE_ABSENT (T.lead v.first)

@@ -9,11 +9,11 @@ use Rattle.der_tlv.specs.declared.error.ErrorKind.TheVariants.{Overflow, Memory,
 use Rattle.der_tlv.specs.declared.tag.Tag.{Tag}
 use Rattle.der_tlv.specs.HeaderOctets.{tlv}
 use Rattle.der_tlv.specs.Octets.{lex}
+use Rattle.der_tlv.specs.OrderingLaws.{then_decided}
 use Rattle.der_tlv.specs.OctetLaws.{lex-append}
 use Rattle.der_elem.specs.declared.form.Form as form
 use Rattle.der_elem.specs.Comparing.{Incomparable}
-use Rattle.der_elem.specs.OrderLaws.{encoding-some, encoding-beginning}
-use Rattle.der_elem.proofs.Ordered.{then_decided}
+use Rattle.der_elem.specs.OrderLaws.{lex-none-some, lex-some-none, encoding-some, encoding-beginning}
 use Rattle.der_nest.specs.Found.{found_item}
 use Rattle.der_nest.specs.declared.set_of_ref.found.Found.{Found}
 use Rattle.der_nest.specs.declared.set_of_ref.found.Found.TheVariants.{Read, Lent}
@@ -125,14 +125,6 @@ pub record ComparedSoFar {T : Type 0} (F : form.Ghosts T) (v w left right : Borr
 pub none_compared : {T : Type 0} (F : form.Ghosts T) (v w : Borrowed T) → ComparedSoFar F v w v w
 none_compared F v w = record { place = 0; left_is = sym (items_from-none v); right_is = sym (items_from-none w); order = refl }
 
-least : (e c : List ℕ) → 0 < length e → lex [] (e ++ c) ≡ Less
-least [] c h = absurd (omega arith)
-least (x ∷ e) c h = refl
-
-greatest : (e c : List ℕ) → 0 < length e → lex (e ++ c) [] ≡ Greater
-greatest [] c h = absurd (omega arith)
-greatest (x ∷ e) c h = refl
-
 module _ {T : Type 0} {F : form.Ghosts T} {v w left right : Borrowed T} (s : ComparedSoFar F v w left right) where
   left_item : (found : Found T) (new : Borrowed T) → Finds F left found new → ItemAt F v s.place (found_item found) new
   left_item found new finds = item_at_place F v s.place found new (subst (λ l. Finds F l found new) s.left_is finds)
@@ -164,11 +156,11 @@ module _ {T : Type 0} {F : form.Ghosts T} {v w left right : Borrowed T} (s : Com
   module _ (tag_of : T → Tag) (contents : T → List ℕ) (encoding_is : (x : T) → F.encoding x ≡ tlv (tag_of x) (contents x)) where
     pub right_ends : (found : Found T) (new : Borrowed T) → Finds F left found new → encodings_of F.encoding right ≡ [] → Greater ≡ lex (borrowed_contents F.encoding v) (borrowed_contents F.encoding w)
     right_ends found new finds none =
-        sym (s.order ∙ ap (lex (borrowed_contents F.encoding left)) (no_contents F right none) ∙ ap (λ c. lex c []) (left_parts found new finds) ∙ greatest (F.encoding (found_item found)) (borrowed_contents F.encoding new) (encoding-some tag_of contents F.encoding encoding_is (found_item found)))
+        sym (s.order ∙ ap (lex (borrowed_contents F.encoding left)) (no_contents F right none) ∙ ap (λ c. lex c []) (left_parts found new finds) ∙ lex-some-none (F.encoding (found_item found)) (borrowed_contents F.encoding new) (encoding-some tag_of contents F.encoding encoding_is (found_item found)))
 
     pub left_ends : (found : Found T) (new : Borrowed T) → encodings_of F.encoding left ≡ [] → Finds F right found new → Less ≡ lex (borrowed_contents F.encoding v) (borrowed_contents F.encoding w)
     left_ends found new none finds =
-        sym (s.order ∙ ap (λ c. lex c (borrowed_contents F.encoding right)) (no_contents F left none) ∙ ap (lex []) (right_parts found new finds) ∙ least (F.encoding (found_item found)) (borrowed_contents F.encoding new) (encoding-some tag_of contents F.encoding encoding_is (found_item found)))
+        sym (s.order ∙ ap (λ c. lex c (borrowed_contents F.encoding right)) (no_contents F left none) ∙ ap (lex []) (right_parts found new finds) ∙ lex-none-some (F.encoding (found_item found)) (borrowed_contents F.encoding new) (encoding-some tag_of contents F.encoding encoding_is (found_item found)))
 
     pair_order : (found other : Found T) (new new' : Borrowed T) → Finds F left found new → Finds F right other new' → lex (borrowed_contents F.encoding v) (borrowed_contents F.encoding w) ≡ ordering_then (lex (F.encoding (found_item found)) (F.encoding (found_item other))) (lex (borrowed_contents F.encoding new) (borrowed_contents F.encoding new'))
     pair_order found other new new' a b =

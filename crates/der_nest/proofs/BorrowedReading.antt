@@ -1,5 +1,5 @@
 -- Octets that are read item by item, each not smaller than the one before.
-use Rattle.std.proofs.Common.{◌≡◌, ℕ, suc, ◌+◌, ◌-◌, ◌<◌, ◌≤◌, ◌^◌, List, [], ◌∷◌, ◌++◌, length, take, drop, map, get_or, true, false, Option, Some, None, Ok, Err, refl, sym, ap, ◌∙◌, arith, inl, inr, subst}
+use Rattle.std.proofs.Common.{◌≡◌, ℕ, suc, ◌+◌, ◌-◌, ◌<◌, ◌≤◌, ◌^◌, List, [], ◌∷◌, ◌++◌, length, take, drop, map, get_or, true, false, Option, Some, None, Ok, Err, refl, sym, ap, ◌∙◌, arith, inl, inr, subst, zero-add}
 use Rattle.std.specs.Ordering.{is_le}
 use Rattle.std.proofs.Math.Seq.{take-length}
 use Rattle.std.proofs.lemmas.List.{length-append, length-take, length-drop, take-append-drop, get_or_push, map_push}
@@ -58,10 +58,7 @@ module _ {T : Type 0} {F : form.Ghosts T} {octets : List ℕ} {now : ReaderState
   octets_fit = let e = ap (λ s. length s.input) s.so_far.after in let h = sound.short in omega arith
 
   position_is : now.position ≡ s.so_far.taken
-  position_is = ap (λ s. s.position) s.so_far.after ∙ zero_plus s.so_far.taken
-    where
-      zero_plus : (n : ℕ) → 0 + n ≡ n
-      zero_plus n = omega arith
+  position_is = ap (λ s. s.position) s.so_far.after ∙ zero-add s.so_far.taken
 
   taken_inside : s.so_far.taken ≤ length octets
   taken_inside = let o = sound.ordered in let e = ap (λ s. s.end) s.so_far.after in let p = position_is in omega arith

@@ -10,16 +10,8 @@ use Rattle.der_elem.specs.declared.form.Form as form
 use Rattle.der_elem.specs.Decoding.{Faults, Decoded}
 use Rattle.der_elem.proofs.ItemReading.{accepts_items-append}
 use Rattle.der_nest.specs.Lists.{AcceptsEach, before_others, then_others, one_too_many, parse_each}
+use Rattle.der_nest.specs.BorrowedLaws.{before_all, before_all-none}
 use Rattle.der_nest.specs.ListLaws.{parse_each-end, parse_each-over, parse_each-step, length-each}
-
--- encodings before what the others come to
-abbrev before_all : List (List ℕ) → Result (List (List ℕ)) ErrorKind → Result (List (List ℕ)) ErrorKind
-before_all encodings (Ok others) = Ok (encodings ++ others)
-before_all encodings (Err k) = Err k
-
-before_all-none : (r : Result (List (List ℕ)) ErrorKind) → r ≡ before_all [] r
-before_all-none (Ok others) = refl
-before_all-none (Err k) = refl
 
 before_all-one : (es : List (List ℕ)) (e : List ℕ) (r : Result (List (List ℕ)) ErrorKind) → before_all es (before_others e r) ≡ before_all (es ++ e ∷ []) r
 before_all-one es e (Ok others) = ap Ok (sym (append_assoc es (e ∷ []) others))

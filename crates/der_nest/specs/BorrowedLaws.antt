@@ -52,7 +52,7 @@ abbrev pub before_all : List (List ℕ) → Result (List (List ℕ)) ErrorKind �
 before_all encodings (Ok others) = Ok (encodings ++ others)
 before_all encodings (Err k) = Err k
 
-before_all-none : (r : Result (List (List ℕ)) ErrorKind) → r ≡ before_all [] r
+pub before_all-none : (r : Result (List (List ℕ)) ErrorKind) → r ≡ before_all [] r
 before_all-none (Ok others) = refl
 before_all-none (Err k) = refl
 

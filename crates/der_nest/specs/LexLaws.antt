@@ -4,19 +4,13 @@ use Rattle.std.specs.Cmp.{IsStrictWeakOrder}
 use Rattle.std.specs.Ordering.{is_lt, is_le, is_gt, ordering_reverse}
 use Rattle.std.specs.declared.cmp.Ordering.{Ordering}
 use Rattle.std.specs.declared.cmp.Ordering.TheVariants.{Less, Equal, Greater}
-use Rattle.std.specs.FinMap.{slice_cmp-IsAntisymmetric, nat_cmp-IsAntisymmetric}
-use Rattle.std.proofs.lemmas.Cmp.{nat_list_cmp_total, upto, tied_itself}
+use Rattle.std.proofs.lemmas.Cmp.{nat_list_cmp_total, upto}
 use Rattle.std.proofs.lemmas.List.Sorted.{ranks_by}
 use Rattle.der_tlv.specs.Octets.{lex}
+use Rattle.der_tlv.specs.OctetLaws.{lex-equal}
 
 pub lex_weak : IsStrictWeakOrder (λ x y. is_lt (lex x y))
 lex_weak = ranks_by nat_list_cmp_total (λ x. x)
-
-pub lex_same : (x y : List ℕ) → lex x y ≡ Equal → x ≡ y
-lex_same x y e = slice_cmp-IsAntisymmetric nat_cmp-IsAntisymmetric x y e
-
-pub lex_itself : (x : List ℕ) → lex x x ≡ Equal
-lex_itself x = tied_itself nat_list_cmp_total x
 
 pub not_gt : (o : Ordering) → is_le o ≡ true → is_gt o ≡ false
 not_gt Less e = refl
@@ -63,5 +57,5 @@ lex_le_same x y h k = go (lex x y) refl h
   where
     go : (o : Ordering) → lex x y ≡ o → is_le o ≡ true → x ≡ y
     go Less e h = let f : is_lt (lex x y) ≡ true = ap is_lt e in let n = not_lt_from_le y x k in cc
-    go Equal e h = lex_same x y e
+    go Equal e h = lex-equal x y e
     go Greater e h = cc

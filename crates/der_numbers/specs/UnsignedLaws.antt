@@ -7,6 +7,7 @@ use Rattle.der_tlv.specs.declared.error.ErrorKind.{ErrorKind}
 use Rattle.der_elem.specs.Integer.{AreOctets, big_endian_number, with_sign_octet, natural_contents, is_redundant}
 use Rattle.der_elem.specs.IntegerLaws.{natural_contents-small, natural_contents-with_sign_octet, natural_contents-some, natural_contents-first, natural_contents-needed, natural_contents-of_octets}
 use Rattle.der_elem.specs.IntegerReading.{has_needless_zero}
+use Rattle.der_elem.specs.IntegerReadingLaws.{needless_zero-needed}
 use Rattle.der_numbers.specs.AnyLength.{natural_or_fault, has_leading_zero, without_sign_octet}
 
 -- ---- the leading octet that says the sign
@@ -44,16 +45,6 @@ needed [] small least = refl
 needed (first ∷ []) small least = refl
 needed (first ∷ second ∷ others) small least = grind (arith, nat_tests)
 
--- and the other way round
-least : (octets : List ℕ) → is_redundant octets ≡ false → has_needless_zero octets ≡ false
-least [] needed = refl
-least (first ∷ []) needed = refl
-least (first ∷ second ∷ others) needed = left (first == 0 && nat_lt second 128) (first == 255 && nat_le 128 second) needed
-  where
-    left : (a b : Bool) → (a || b) ≡ false → a ≡ false
-    left false b e = refl
-    left true b e = absurd (cc)
-
 -- octets with no fault are read as they are
 pub natural_or_fault-ok : (octets : List ℕ) → 0 < length octets → slice_index octets 0 < 128 → has_needless_zero octets ≡ false → natural_or_fault octets ≡ Ok octets
 natural_or_fault-ok [] some small least = absurd (omega arith)
@@ -65,7 +56,7 @@ natural_contents-read octets all some small least = sym (natural_contents-of_oct
 
 -- the contents octets of a number are read as they are
 pub natural_or_fault-contents : (n : ℕ) → natural_or_fault (natural_contents n) ≡ Ok (natural_contents n)
-natural_or_fault-contents n = natural_or_fault-ok (natural_contents n) (natural_contents-some n) (natural_contents-first n) (least (natural_contents n) (natural_contents-needed n))
+natural_or_fault-contents n = natural_or_fault-ok (natural_contents n) (natural_contents-some n) (natural_contents-first n) (needless_zero-needed (natural_contents n) (natural_contents-needed n))
 
 -- octets that are the contents octets of a number are read as they are
 pub parse_of_natural : (kept c : List ℕ) → with_sign_octet kept ≡ natural_contents (big_endian_number kept) → c ≡ with_sign_octet kept → natural_or_fault c ≡ Ok (with_sign_octet kept)

@@ -1,7 +1,7 @@
 -- The laws of encodings with any tag.
 use Rattle.std.proofs.Common.{◌≡◌, ℕ, List, ◌∷◌, ◌++◌, length, Bool, true, false, Ok, refl, sym, ap, ◌∙◌, arith, subst, nat_lt, append_assoc, ◌↔◌, IsTrue, ◌&&◌}
 use Rattle.std.proofs.lemmas.List.{length-append}
-use Rattle.std.proofs.lemmas.Bool.Decides.{nat_tests}
+use Rattle.std.proofs.lemmas.Bool.{and_parts, and_from}
 use Rattle.std.proofs.Math.Seq.{take-append_seam, drop-append_seam}
 use Rattle.std.specs.Bool.{Decides}
 use Rattle.der_tlv.specs.declared.encoding_rules.EncodingRules.{EncodingRules}
@@ -9,15 +9,13 @@ use Rattle.der_tlv.specs.declared.tag.Tag.{Tag}
 use Rattle.der_tlv.specs.TagParts.{IsTag}
 use Rattle.der_tlv.specs.Identifier.{identifier}
 use Rattle.der_tlv.specs.LengthOctets.{length_octets}
+use Rattle.der_tlv.specs.LengthLaws.{not_short}
 use Rattle.der_tlv.specs.HeaderOctets.{header_octets, tlv}
 use Rattle.der_tlv.specs.HeaderLaws.{read_header-octets, tlv-injective}
 use Rattle.der_elem.specs.Accepting.{Fits, BeginsWith, MayFollow}
 use Rattle.der_elem.specs.TaggedLaws.{contents_fit}
 use Rattle.der_elem.specs.Leading.{LeadsTag}
 use Rattle.der_opaque.specs.AnyForm.{accepts_any, parse_any, parse_behind_header}
-
-enough : (c x : List ℕ) → nat_lt (length (c ++ x)) (length c) ≡ false
-enough c x = let h = length-append c x in grind (arith, nat_tests)
 
 -- an encoding is parsed as itself, whatever follows it
 pub parse_any-tlv : (t : Tag) (rules : EncodingRules) (p : ℕ) (c x : List ℕ) → IsTag t → Fits (tlv t c) → parse_any rules p (tlv t c ++ x) ≡ Ok (length (tlv t c), tlv t c)
@@ -26,7 +24,7 @@ parse_any-tlv t rules p c x is_tag fits =
     let h = header_octets t (length c) in
     let regroup : tlv t c ++ x ≡ h ++ (c ++ x) = append_assoc h c x in
     let head = read_header-octets t (length c) p (c ++ x) is_tag (contents_fit t c fits) in
-    ap (parse_any rules p) regroup ∙ ap (parse_behind_header rules p (h ++ (c ++ x))) head ∙ rw (drop-append_seam h (c ++ x), enough c x, take-append_seam c x) (ap (λ n. Ok (n, tlv t c)) (sym (length-append h c)))
+    ap (parse_any rules p) regroup ∙ ap (parse_behind_header rules p (h ++ (c ++ x))) head ∙ rw (drop-append_seam h (c ++ x), not_short c x, take-append_seam c x) (ap (λ n. Ok (n, tlv t c)) (sym (length-append h c)))
 
 module _ {T : Type 0} (tag_of : T → Tag) (contents : T → List ℕ) where
   pub parse_of_any : (rules : EncodingRules) (v : T) (p : ℕ) (b x : List ℕ) → accepts_any tag_of contents rules v b → Fits b → MayFollow (λ t. true) b x → parse_any rules p (b ++ x) ≡ Ok (length b, tlv (tag_of v) (contents v))
@@ -43,15 +41,7 @@ module _ {T : Type 0} (tag_of : T → Tag) (contents : T → List ℕ) where
 -- values with a carried tag are equal exactly if their encodings are
 pub encoding_eq_any : (same_tag same_contents : Bool) (t u : Tag) (c d : List ℕ) → Decides same_tag (t ≡ u) → Decides same_contents (c ≡ d) → IsTrue (same_tag && same_contents) ↔ (tlv t c ≡ tlv u d)
 encoding_eq_any same_tag same_contents t u c d tags contents =
-    (forth same_tag same_contents tags.0 contents.0, λ e. let same = tlv-injective t u c d e in both same_tag same_contents (tags.1 same.0) (contents.1 same.1))
-  where
-    forth : (a b : Bool) → (a ≡ true → t ≡ u) → (b ≡ true → c ≡ d) → (a && b) ≡ true → tlv t c ≡ tlv u d
-    forth true b f g e = ap (λ v. tlv v c) (f refl) ∙ ap (tlv u) (g e)
-    forth false b f g e = absurd (cc)
-
-    both : (a b : Bool) → a ≡ true → b ≡ true → (a && b) ≡ true
-    both true b e f = f
-    both false b e f = e
+    (λ h. let both = and_parts same_tag same_contents h in ap (λ v. tlv v c) (tags.0 both.0) ∙ ap (tlv u) (contents.0 both.1), λ e. let same = tlv-injective t u c d e in and_from same_tag same_contents (tags.1 same.0) (contents.1 same.1))
 
 pub led_any : {T : Type 0} (tag_of : T → Tag) (contents : T → List ℕ) (rules : EncodingRules) (v : T) (b : List ℕ) → accepts_any tag_of contents rules v b → LeadsTag (tag_of v) b
 led_any tag_of contents rules v b a =

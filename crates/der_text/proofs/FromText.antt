@@ -4,7 +4,9 @@ use Rattle.std.specs.List.{list_all}
 use Rattle.std.specs.Char.{IsScalar}
 use Rattle.std.specs.Str.{all_scalars}
 use Rattle.std.proofs.lemmas.Str.{chars-encodes, chars-append, encodes-append, chars-nil}
+use Rattle.std.proofs.lemmas.Bool.{and_parts, and_from, and_right}
 use Rattle.std.proofs.lemmas.Bool.Decides.{nat_tests}
+use Rattle.std.proofs.lemmas.List.{append-nil, nil_from_length}
 use Rattle.der_text.specs.BmpUnits.{units, is_basic}
 use Rattle.der_text.proofs.Pairs.{units_len, units_more}
 
@@ -18,24 +20,13 @@ pub record Taken (text octets rest : List ℕ) : Type 0 where
   pub basic : list_all small (units octets) ≡ true
   pub joined : encode_utf8_all (units octets) ++ rest ≡ text
 
-both : (a b : Bool) → (a && b) ≡ true → (a ≡ true) × (b ≡ true)
-both true b h = (refl, h)
-both false b h = absurd (cc)
-
-and_true : (a b : Bool) → a ≡ true → b ≡ true → (a && b) ≡ true
-and_true a b e f = rw (e, f) refl
-
-and_false : (a b : Bool) → b ≡ false → (a && b) ≡ false
-and_false true b e = e
-and_false false b e = refl
-
 scalars_more : (us : List ℕ) (c : ℕ) → all_scalars us ≡ true → IsScalar c → all_scalars (us ++ c ∷ []) ≡ true
-scalars_more [] c e s = and_true _ true s refl
-scalars_more (u ∷ us) c e s = let parts = both _ (all_scalars us) e in and_true _ _ parts.0 (scalars_more us c parts.1 s)
+scalars_more [] c e s = and_from _ true s refl
+scalars_more (u ∷ us) c e s = let parts = and_parts _ (all_scalars us) e in and_from _ _ parts.0 (scalars_more us c parts.1 s)
 
 small_more : (us : List ℕ) (c : ℕ) → list_all small us ≡ true → small c ≡ true → list_all small (us ++ c ∷ []) ≡ true
-small_more [] c e s = and_true _ true s refl
-small_more (u ∷ us) c e s = let parts = both _ (list_all small us) e in and_true _ _ parts.0 (small_more us c parts.1 s)
+small_more [] c e s = and_from _ true s refl
+small_more (u ∷ us) c e s = let parts = and_parts _ (list_all small us) e in and_from _ _ parts.0 (small_more us c parts.1 s)
 
 small_tested : (c : ℕ) → c < 65536 → small c ≡ true
 small_tested c l = grind (arith, nat_tests)
@@ -45,7 +36,7 @@ large_tested c l = grind (arith, nat_tests)
 
 large_among : (us rest : List ℕ) (c : ℕ) → 65536 ≤ c → list_all small ((us ++ c ∷ []) ++ rest) ≡ false
 large_among [] rest c l = rw (large_tested c l) refl
-large_among (u ∷ us) rest c l = and_false _ _ (large_among us rest c l)
+large_among (u ∷ us) rest c l = and_right _ _ (large_among us rest c l)
 
 joined_more : (us : List ℕ) (c : ℕ) (rest rest' : List ℕ) → rest ≡ encode_utf8 c ++ rest' → encode_utf8_all us ++ rest ≡ encode_utf8_all (us ++ c ∷ []) ++ rest'
 joined_more us c rest rest' e =
@@ -84,18 +75,10 @@ taken_wide {text} {octets} {rest} c rest' t scalar more e =
     let joined : text ≡ encode_utf8_all us ++ rest' = sym t.joined ∙ joined_more (units octets) c rest rest' e in
     ap is_basic joined ∙ ap (list_all small) (chars_joined us rest' (scalars_more (units octets) c t.characters scalar)) ∙ large_among (units octets) (chars rest') c more
 
-append_nil : (us : List ℕ) → us ++ [] ≡ us
-append_nil [] = refl
-append_nil (u ∷ us) = ap (λ l. u ∷ l) (append_nil us)
-
-nothing : (rest : List ℕ) → length rest ≡ 0 → rest ≡ []
-nothing [] e = refl
-nothing (x ∷ rest) e = absurd (omega arith)
-
 -- with nothing left, the units are the characters
 pub taken_units : {text octets rest : List ℕ} → Taken text octets rest → length rest ≡ 0 → units octets ≡ chars text
 taken_units {text} {octets} {rest} t e =
-    sym (ap chars (sym t.joined ∙ ap (λ r. encode_utf8_all (units octets) ++ r) (nothing rest e)) ∙ chars_joined (units octets) [] t.characters ∙ ap (λ l. units octets ++ l) chars-nil ∙ append_nil (units octets))
+    sym (ap chars (sym t.joined ∙ ap (λ r. encode_utf8_all (units octets) ++ r) (nil_from_length rest e)) ∙ chars_joined (units octets) [] t.characters ∙ ap (λ l. units octets ++ l) chars-nil ∙ append-nil (units octets))
 
 pub taken_basic : {text octets rest : List ℕ} → Taken text octets rest → length rest ≡ 0 → is_basic text ≡ true
 taken_basic t e = ap (list_all small) (sym (taken_units t e)) ∙ t.basic

@@ -6,6 +6,7 @@ use Rattle.std.specs.Ordering.{ordering_then, nat_cmp}
 use Rattle.std.proofs.lemmas.Bool.{and_parts, eqb-true}
 use Rattle.std.proofs.lemmas.Bool.Decides.{nat_tests}
 use Rattle.der_tlv.specs.Octets.{lex}
+use Rattle.der_tlv.specs.OrderingLaws.{then_assoc, then_equal}
 use Rattle.der_time.specs.declared.fields.Fields.{Fields}
 use Rattle.der_time.specs.declared.date_time.DateTime.{DateTime}
 use Rattle.der_time.specs.Digits.{two_digits}
@@ -25,16 +26,6 @@ fields_eq v w =
 -- two digits are in the order of their numbers, and then what follows decides
 order_of_digits : (a b : ℕ) → ordering_then (nat_cmp (48 + a / 10) (48 + b / 10)) (nat_cmp (48 + a % 10) (48 + b % 10)) ≡ nat_cmp a b
 order_of_digits a b = grind (arith, nat_tests)
-
-pub then_assoc : (a b c : Ordering) → ordering_then a (ordering_then b c) ≡ ordering_then (ordering_then a b) c
-then_assoc Less b c = refl
-then_assoc Equal b c = refl
-then_assoc Greater b c = refl
-
-then_equal : (a : Ordering) → ordering_then a Equal ≡ a
-then_equal Less = refl
-then_equal Equal = refl
-then_equal Greater = refl
 
 pub lex_two_digits : (a b : ℕ) (x y : List ℕ) → lex (two_digits a ++ x) (two_digits b ++ y) ≡ ordering_then (nat_cmp a b) (lex x y)
 unfolding two_digits

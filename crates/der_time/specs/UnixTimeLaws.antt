@@ -13,12 +13,13 @@ use Rattle.jiff_core.proofs.SignedLemmas.{signed_arith}
 use Rattle.jiff_core.proofs.CalendarLemmas.{day_count-epoch, days_from_civil-day_count, day_count-later_year, day_count-day_of_year, day_count-lt_year}
 use Rattle.jiff_core.proofs.MarchLemmas.{day_count-early}
 use Rattle.jiff_core.proofs.DateLemmas.{civil, IsEarlier, epoch_day-lt, epoch_day_range}
+use Rattle.der_tlv.specs.OrderingLaws.{then_assoc, nat_cmp-less, nat_cmp-same, nat_cmp-greater}
 use Rattle.der_tlv.specs.OctetLaws.{lex-equal}
 use Rattle.der_time.specs.declared.fields.Fields.{Fields}
 use Rattle.der_time.specs.declared.date_time.DateTime.{DateTime}
 use Rattle.der_time.specs.DateTime.{fields_of, time_contents}
 use Rattle.der_time.specs.TimeLaws.{generalized_injective}
-use Rattle.der_time.specs.TimeOrder.{fields_cmp, then_assoc, ord_is_contents_ord}
+use Rattle.der_time.specs.TimeOrder.{fields_cmp, ord_is_contents_ord}
 use Rattle.der_time.specs.UnixTime.{day_number, second_of_day, unix_seconds, IsOnDate, end_of_2049, last_second}
 
 -- a date from day 0 on is of the year 1970 or a later one
@@ -81,29 +82,20 @@ earlier : (v w : DateTime) → IsEarlier (date_of v) (date_of w) → day_number 
 unfolding date_of
 earlier v w h = omega (arith, signed_arith, days_are v, days_are w, epoch_day-lt (date_of v) (date_of w) h)
 
-cmp_less : (a b : ℕ) → a < b → nat_cmp a b ≡ Less
-cmp_less a b h = grind (arith, nat_tests)
-
-cmp_equal : (a b : ℕ) → a ≡ b → nat_cmp a b ≡ Equal
-cmp_equal a b h = grind (arith, nat_tests)
-
-cmp_greater : (a b : ℕ) → b < a → nat_cmp a b ≡ Greater
-cmp_greater a b h = grind (arith, nat_tests)
-
 -- dates in the order of year, month and day have day numbers in that order
 date_cmp : (v w : DateTime) → ordering_then (nat_cmp v.year w.year) (ordering_then (nat_cmp v.month w.month) (nat_cmp v.day w.day)) ≡ nat_cmp (day_number v) (day_number w)
 unfolding date_of day_number
 date_cmp v w =
     elim (cases_order v.year w.year) [
-      | inr (inl lt) ↦ rw (cmp_less v.year w.year lt, cmp_less (day_number v) (day_number w) (earlier v w (inl (omega (arith, signed_arith))))) refl
-      | inr (inr gt) ↦ rw (cmp_greater v.year w.year gt, cmp_greater (day_number v) (day_number w) (earlier w v (inl (omega (arith, signed_arith))))) refl
+      | inr (inl lt) ↦ rw (nat_cmp-less v.year w.year lt, nat_cmp-less (day_number v) (day_number w) (earlier v w (inl (omega (arith, signed_arith))))) refl
+      | inr (inr gt) ↦ rw (nat_cmp-greater v.year w.year gt, nat_cmp-greater (day_number v) (day_number w) (earlier w v (inl (omega (arith, signed_arith))))) refl
       | inl year ↦ elim (cases_order v.month w.month) [
-        | inr (inl lt) ↦ rw (cmp_equal v.year w.year year, cmp_less v.month w.month lt, cmp_less (day_number v) (day_number w) (earlier v w (inr (ap (λ n. pos n) year, inl lt)))) refl
-        | inr (inr gt) ↦ rw (cmp_equal v.year w.year year, cmp_greater v.month w.month gt, cmp_greater (day_number v) (day_number w) (earlier w v (inr (ap (λ n. pos n) (sym year), inl gt)))) refl
+        | inr (inl lt) ↦ rw (nat_cmp-same v.year w.year year, nat_cmp-less v.month w.month lt, nat_cmp-less (day_number v) (day_number w) (earlier v w (inr (ap (λ n. pos n) year, inl lt)))) refl
+        | inr (inr gt) ↦ rw (nat_cmp-same v.year w.year year, nat_cmp-greater v.month w.month gt, nat_cmp-greater (day_number v) (day_number w) (earlier w v (inr (ap (λ n. pos n) (sym year), inl gt)))) refl
         | inl month ↦ elim (cases_order v.day w.day) [
-          | inr (inl lt) ↦ rw (cmp_equal v.year w.year year, cmp_equal v.month w.month month, cmp_less v.day w.day lt, cmp_less (day_number v) (day_number w) (earlier v w (inr (ap (λ n. pos n) year, inr (month, lt))))) refl
-          | inr (inr gt) ↦ rw (cmp_equal v.year w.year year, cmp_equal v.month w.month month, cmp_greater v.day w.day gt, cmp_greater (day_number v) (day_number w) (earlier w v (inr (ap (λ n. pos n) (sym year), inr (sym month, gt))))) refl
-          | inl day ↦ rw (cmp_equal v.year w.year year, cmp_equal v.month w.month month, cmp_equal v.day w.day day, cmp_equal (day_number v) (day_number w) (rw (year, month, day) refl)) refl
+          | inr (inl lt) ↦ rw (nat_cmp-same v.year w.year year, nat_cmp-same v.month w.month month, nat_cmp-less v.day w.day lt, nat_cmp-less (day_number v) (day_number w) (earlier v w (inr (ap (λ n. pos n) year, inr (month, lt))))) refl
+          | inr (inr gt) ↦ rw (nat_cmp-same v.year w.year year, nat_cmp-same v.month w.month month, nat_cmp-greater v.day w.day gt, nat_cmp-greater (day_number v) (day_number w) (earlier w v (inr (ap (λ n. pos n) (sym year), inr (sym month, gt))))) refl
+          | inl day ↦ rw (nat_cmp-same v.year w.year year, nat_cmp-same v.month w.month month, nat_cmp-same v.day w.day day, nat_cmp-same (day_number v) (day_number w) (rw (year, month, day) refl)) refl
         ]
       ]
     ]
@@ -133,7 +125,7 @@ chronological v w =
 -- and so two times with the same seconds are one
 pub same_seconds : (v w : DateTime) → unix_seconds v ≡ unix_seconds w → fields_of v ≡ fields_of w
 same_seconds v w e =
-    generalized_injective v w (lex-equal (time_contents v) (time_contents w) (sym (ord_is_contents_ord v w) ∙ chronological v w ∙ cmp_equal (unix_seconds v) (unix_seconds w) e))
+    generalized_injective v w (lex-equal (time_contents v) (time_contents w) (sym (ord_is_contents_ord v w) ∙ chronological v w ∙ nat_cmp-same (unix_seconds v) (unix_seconds w) e))
 
 -- equal times have the same seconds
 pub seconds_of_fields : (v w : DateTime) → fields_of v ≡ fields_of w → unix_seconds v ≡ unix_seconds w

@@ -3,13 +3,14 @@ use Rattle.std.proofs.Common.{◌≡◌, ℕ, ◌%◌, ◌≤◌, Ok, sym, ap, �
 use Rattle.std.specs.Ordering.{ordering_then, nat_cmp}
 use Rattle.std.proofs.lemmas.Bool.Decides.{nat_tests}
 use Rattle.der_tlv.specs.Octets.{lex}
+use Rattle.der_tlv.specs.OrderingLaws.{then_assoc}
 use Rattle.der_time.specs.declared.utc_time.UtcTime.{UtcTime}
 use Rattle.der_time.specs.Times.{utc_contents, after_year}
 use Rattle.der_time.specs.Reading.{utc_or_fault}
 use Rattle.der_time.specs.DateTime.{fields_of}
 use Rattle.der_time.specs.UtcTime.{utc_time_contents}
 use Rattle.der_time.specs.TimeLaws.{utc_of, utc_injective}
-use Rattle.der_time.specs.TimeOrder.{fields_cmp, fields_eq, fields_eq_of, same_fields, then_assoc, lex_two_digits, lex_after_year, after_year_cmp}
+use Rattle.der_time.specs.TimeOrder.{fields_cmp, fields_eq, fields_eq_of, same_fields, lex_two_digits, lex_after_year, after_year_cmp}
 
 -- the contents octets of a UTCTime are read
 pub utc_time_of : (t : UtcTime) → utc_or_fault (utc_time_contents t) ≡ Ok (utc_time_contents t)

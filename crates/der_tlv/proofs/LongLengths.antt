@@ -1,6 +1,7 @@
 -- A length of 128 and more, once its octets are read.
 use Rattle.std.proofs.Common.{◌≡◌, ◌≢◌, ℕ, zero, suc, ◌+◌, ◌-◌, ◌<◌, ◌≤◌, Bool, true, false, List, [], ◌∷◌, length, take, get_or, Ok, Err, refl, sym, ap, ◌∙◌, subst, arith, nat_lt, nat_eq, ◌⊎◌, inl, inr, lit≤}
 use Rattle.std.proofs.lemmas.List.{length-take}
+use Rattle.std.proofs.lemmas.Bool.{false_from_ne_true}
 use Rattle.std.proofs.lemmas.Bool.Decides.{nat_tests}
 use Rattle.std.specs.Cmp.Lexicographic.{pointwise, bytes_decides}
 use Rattle.std.specs.Int.Digits.{digits_of, number_from_digits, AllBelowBase}
@@ -101,15 +102,11 @@ differs {old} {count} {n} octets more h = at (nat_lt n 128) refl
       | inr small ↦ let b : n < 128 = small in absurd (grind (arith, nat_tests))
     ]
 
-false_if : (b : Bool) → (b ≡ true → ⊥) → b ≡ false
-false_if true h = absurd (h refl)
-false_if false h = refl
-
 -- a length that begins with 00 or is below 128 could be said by fewer octets
 pub not_fewest : {old new : ReaderState} {count n first : ℕ} → LongOctets old count n first → (first ≡ 0) ⊎ (n < 128) → {kind : ErrorKind} → kind ≡ Overlength → Refused old new kind → HeadFault (read_long_length count) old new kind
 unfolding read_long_length
 not_fewest {old} {new} {count} {n} octets more e refused =
-    let unequal : pointwise nat_eq (length_octets n) ((128 + count) ∷ take count (rest old)) ≡ false = false_if _ (λ h. differs octets more ((bytes_decides (length_octets n) ((128 + count) ∷ take count (rest old))).0 h)) in
+    let unequal : pointwise nat_eq (length_octets n) ((128 + count) ∷ take count (rest old)) ≡ false = false_from_ne_true _ (λ h. differs octets more ((bytes_decides (length_octets n) ((128 + count) ∷ take count (rest old))).0 h)) in
     record { fault_is = rw (octets.ready, enough octets, ← octets.number, unequal) (ap Err (sym e)); reader = refused }
 
 pub whole_long : {old : ReaderState} {count n first : ℕ} → LongOctets old count n first → 0 < first → 128 ≤ n → length_octets n ≡ (128 + count) ∷ digits_of 256 n

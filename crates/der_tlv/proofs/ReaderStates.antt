@@ -1,8 +1,8 @@
 -- What is left in a reader, after each of its calls.
-use Rattle.std.proofs.Common.{◌≡◌, ℕ, ◌+◌, ◌≤◌, List, length, take, drop, Bool, true, false, refl, sym, ap, ◌∙◌, arith, [], ◌∷◌, nat_eq, IsTrue, ◌↔◌, not, ◌&&◌, nat_le}
-use Rattle.std.proofs.lemmas.List.{drop-drop, drop-take, take-take, length-take, length-drop}
+use Rattle.std.proofs.Common.{◌≡◌, ℕ, ◌+◌, ◌≤◌, length, take, drop, true, sym, ap, ◌∙◌, arith, [], nat_eq, IsTrue, ◌↔◌, not, nat_le}
+use Rattle.std.proofs.lemmas.List.{nil_from_length, drop-drop, drop-take, take-take, length-take, length-drop}
 use Rattle.std.proofs.lemmas.Bool.Decides.{nat_tests}
-use Rattle.std.proofs.lemmas.Bool.{leb-true}
+use Rattle.std.proofs.lemmas.Bool.{and_parts, leb-true}
 use Rattle.der_tlv.specs.ReaderState.{ReaderState, IsReaderState, rest, after_read, after_nest, can_read}
 
 pub rest-after_read : (s : ReaderState) (n : ℕ) → rest (after_read s n) ≡ drop n (rest s)
@@ -16,21 +16,13 @@ rest-after_nest s n h =
     ap (drop s.position) (sym (take-take (s.position + n) s.end s.input h)) ∙ drop-take s.position n (take s.end s.input)
 
 pub room_from_can_read : (s : ReaderState) (n : ℕ) → can_read s n ≡ true → s.position + n ≤ s.end
-room_from_can_read s n h = leb-true (s.position + n) s.end (and_right (not s.failed) (nat_le (s.position + n) s.end) h)
-  where
-    and_right : (a b : Bool) → (a && b) ≡ true → b ≡ true
-    and_right true b e = e
-    and_right false b e = absurd (cc)
-
-nothing : (c : List ℕ) → length c ≡ 0 → c ≡ []
-nothing [] h = refl
-nothing (x ∷ c) h = absurd (omega arith)
+room_from_can_read s n h = leb-true (s.position + n) s.end (and_parts (not s.failed) (nat_le (s.position + n) s.end) h).1
 
 -- the position is the end where nothing is left
 pub finished : (s : ReaderState) → IsReaderState s → (position end : ℕ) → position ≡ s.position → end ≡ s.end → IsTrue (nat_eq position end) ↔ (rest s ≡ [])
 finished s h position end p q =
     let l = length-rest s h in
-    (λ e. let k : position ≡ end = grind (arith, nat_tests) in nothing (rest s) (omega arith), λ e. let k = ap length e in let m : position ≡ end = omega arith in grind (arith, nat_tests))
+    (λ e. let k : position ≡ end = grind (arith, nat_tests) in nil_from_length (rest s) (omega arith), λ e. let k = ap length e in let m : position ≡ end = omega arith in grind (arith, nat_tests))
 
 pub end_reached : (s : ReaderState) → IsReaderState s → rest s ≡ [] → s.position ≡ s.end
 end_reached s h e = let l = length-rest s h in let n = ap length e in omega arith

@@ -1,12 +1,12 @@
 -- The order of headers and of encodings, octet by octet.
-use Rattle.std.proofs.Common.{◌≡◌, ℕ, ◌+◌, ◌*◌, ◌<◌, ◌≤◌, ◌^◌, Bool, true, false, List, [], ◌∷◌, ◌++◌, length, refl, sym, ap, ◌∙◌, arith, subst, append_assoc, nat_lt, lit≤, Ordering}
+use Rattle.std.proofs.Common.{◌≡◌, ℕ, ◌+◌, ◌*◌, ◌<◌, ◌≤◌, ◌^◌, Bool, true, false, List, [], ◌∷◌, ◌++◌, length, refl, sym, ap, ◌∙◌, arith, subst, append_assoc, nat_lt, lit≤}
 use Rattle.std.proofs.lemmas.Bool.Decides.{nat_tests}
-use Rattle.std.specs.declared.cmp.Ordering.TheVariants.{Less, Equal, Greater}
 use Rattle.std.specs.Ordering.{nat_cmp, ordering_then}
 use Rattle.std.specs.Int.Digits.{digits_of, number_from_digits, number_from_digits_after, AllBelowBase}
 use Rattle.std.proofs.lemmas.Int.Digits.{number_digits_of, all_below_base_digits_of, number_lt, length-digits_of-le}
 use Rattle.der_tlv.specs.declared.tag.Tag.{Tag}
 use Rattle.der_tlv.specs.Octets.{lex}
+use Rattle.der_tlv.specs.OrderingLaws.{then_assoc, then_equal, nat_cmp-less, nat_cmp-greater, nat_cmp-same}
 use Rattle.der_tlv.specs.OctetLaws.{SameBeginning, lex-append}
 use Rattle.der_tlv.specs.Identifier.{identifier}
 use Rattle.der_tlv.specs.IdentifierLaws.{lex-identifier}
@@ -14,23 +14,13 @@ use Rattle.der_tlv.specs.LengthOctets.{length_octets}
 use Rattle.der_tlv.specs.LengthLaws.{length_octets-unique}
 use Rattle.der_tlv.specs.HeaderOctets.{tlv}
 
-then_assoc : (o p q : Ordering) → ordering_then o (ordering_then p q) ≡ ordering_then (ordering_then o p) q
-then_assoc Less p q = refl
-then_assoc Equal p q = refl
-then_assoc Greater p q = refl
-
-then_nothing : (o : Ordering) → ordering_then o Equal ≡ o
-then_nothing Less = refl
-then_nothing Equal = refl
-then_nothing Greater = refl
-
 -- one more digit
 digit_cmp : (m n x y : ℕ) → x < 256 → y < 256 → nat_cmp (m * 256 + x) (n * 256 + y) ≡ ordering_then (nat_cmp m n) (nat_cmp x y)
 digit_cmp m n x y h k = grind (arith, nat_tests)
 
 -- the order of as many digits is that of their numbers
 digits_cmp : (m n : ℕ) (xs ys : List ℕ) → AllBelowBase 256 xs → AllBelowBase 256 ys → length xs ≡ length ys → nat_cmp (number_from_digits_after 256 m xs) (number_from_digits_after 256 n ys) ≡ ordering_then (nat_cmp m n) (lex xs ys)
-digits_cmp m n [] [] a b l = sym (then_nothing (nat_cmp m n))
+digits_cmp m n [] [] a b l = sym (then_equal (nat_cmp m n))
 digits_cmp m n [] (y ∷ ys) a b l = absurd (omega arith)
 digits_cmp m n (x ∷ xs) [] a b l = absurd (omega arith)
 digits_cmp m n (x ∷ xs) (y ∷ ys) (a, as') (b, bs) l =
@@ -54,15 +44,6 @@ more_digits m n l = at (nat_lt m n) refl
         let few = length-digits_of-le 256 (length (digits_of 256 m)) n (lit≤ tt) less in
         absurd (omega arith)
 
-less_is : (m n : ℕ) → m < n → nat_cmp m n ≡ Less
-less_is m n h = grind (arith, nat_tests)
-
-greater_is : (m n : ℕ) → n < m → nat_cmp m n ≡ Greater
-greater_is m n h = grind (arith, nat_tests)
-
-equal_is : (m n : ℕ) → m ≡ n → nat_cmp m n ≡ Equal
-equal_is m n h = grind (arith, nat_tests)
-
 -- more digits decide
 long_cmp : (m n : ℕ) → ordering_then (nat_cmp (128 + length (digits_of 256 m)) (128 + length (digits_of 256 n))) (lex (digits_of 256 m) (digits_of 256 n)) ≡ nat_cmp m n
 long_cmp m n = at (nat_lt (length (digits_of 256 m)) (length (digits_of 256 n))) (nat_lt (length (digits_of 256 n)) (length (digits_of 256 m))) refl refl
@@ -71,26 +52,26 @@ long_cmp m n = at (nat_lt (length (digits_of 256 m)) (length (digits_of 256 n)))
     at true b e f =
         let l : length (digits_of 256 m) < length (digits_of 256 n) = grind (arith, nat_tests) in
         let k : 128 + length (digits_of 256 m) < 128 + length (digits_of 256 n) = omega arith in
-        ap (λ o. ordering_then o (lex (digits_of 256 m) (digits_of 256 n))) (less_is (128 + length (digits_of 256 m)) (128 + length (digits_of 256 n)) k) ∙ sym (less_is m n (more_digits m n l))
+        ap (λ o. ordering_then o (lex (digits_of 256 m) (digits_of 256 n))) (nat_cmp-less (128 + length (digits_of 256 m)) (128 + length (digits_of 256 n)) k) ∙ sym (nat_cmp-less m n (more_digits m n l))
     at false true e f =
         let l : length (digits_of 256 n) < length (digits_of 256 m) = grind (arith, nat_tests) in
         let k : 128 + length (digits_of 256 n) < 128 + length (digits_of 256 m) = omega arith in
-        ap (λ o. ordering_then o (lex (digits_of 256 m) (digits_of 256 n))) (greater_is (128 + length (digits_of 256 m)) (128 + length (digits_of 256 n)) k) ∙ sym (greater_is m n (more_digits n m l))
+        ap (λ o. ordering_then o (lex (digits_of 256 m) (digits_of 256 n))) (nat_cmp-greater (128 + length (digits_of 256 m)) (128 + length (digits_of 256 n)) k) ∙ sym (nat_cmp-greater m n (more_digits n m l))
     at false false e f =
         let l : length (digits_of 256 m) ≡ length (digits_of 256 n) = grind (arith, nat_tests) in
-        ap (λ o. ordering_then o (lex (digits_of 256 m) (digits_of 256 n))) (equal_is (128 + length (digits_of 256 m)) (128 + length (digits_of 256 n)) (ap (λ k. 128 + k) l)) ∙ lex-digits m n l
+        ap (λ o. ordering_then o (lex (digits_of 256 m) (digits_of 256 n))) (nat_cmp-same (128 + length (digits_of 256 m)) (128 + length (digits_of 256 n)) (ap (λ k. 128 + k) l)) ∙ lex-digits m n l
 
 short_first : (m n k : ℕ) (a : List ℕ) → m < 128 → 128 ≤ n → ordering_then (nat_cmp m (128 + k)) (lex [] a) ≡ nat_cmp m n
 short_first m n k a h g =
     let l : m < 128 + k = omega arith in
     let o : m < n = omega arith in
-    ap (λ o. ordering_then o (lex [] a)) (less_is m (128 + k) l) ∙ sym (less_is m n o)
+    ap (λ o. ordering_then o (lex [] a)) (nat_cmp-less m (128 + k) l) ∙ sym (nat_cmp-less m n o)
 
 short_second : (m n k : ℕ) (a : List ℕ) → 128 ≤ m → n < 128 → ordering_then (nat_cmp (128 + k) n) (lex a []) ≡ nat_cmp m n
 short_second m n k a h g =
     let l : n < 128 + k = omega arith in
     let o : n < m = omega arith in
-    ap (λ o. ordering_then o (lex a [])) (greater_is (128 + k) n l) ∙ sym (greater_is m n o)
+    ap (λ o. ordering_then o (lex a [])) (nat_cmp-greater (128 + k) n l) ∙ sym (nat_cmp-greater m n o)
 
 -- the order of length octets is that of the lengths
 pub lex-length_octets : (m n : ℕ) → lex (length_octets m) (length_octets n) ≡ nat_cmp m n
@@ -98,7 +79,7 @@ unfolding length_octets
 lex-length_octets m n = at (nat_lt m 128) (nat_lt n 128) refl refl
   where
     at : (a b : Bool) → nat_lt m 128 ≡ a → nat_lt n 128 ≡ b → lex (length_octets m) (length_octets n) ≡ nat_cmp m n
-    at true true e f = rw (e, f) (then_nothing (nat_cmp m n))
+    at true true e f = rw (e, f) (then_equal (nat_cmp m n))
     at true false e f =
         let a : m < 128 = grind (arith, nat_tests) in
         let b : 128 ≤ n = grind (arith, nat_tests) in

@@ -3,8 +3,7 @@ use Rattle.std.specs.Prelude.{◌≡◌, ℕ, ◌+◌, ◌/◌, ◌%◌, ◌^◌
 use Rattle.std.specs.Int.Digits.{digits_of}
 use Rattle.std.specs.Ordering.{ordering_then, is_eq}
 use Rattle.std.specs.Bool.{Decides}
-use Rattle.std.specs.declared.cmp.Ordering.{Ordering}
-use Rattle.std.specs.declared.cmp.Ordering.TheVariants.{Less, Equal, Greater}
+use Rattle.std.specs.declared.cmp.Ordering.TheVariants.{Equal}
 use Rattle.std.proofs.Common.{refl, sym, ap, ◌∙◌, arith, append_assoc, length-append, eq-eqb}
 use Rattle.std.proofs.lemmas.List.{length-map}
 use Rattle.std.proofs.lemmas.Int.Digits.{same_from_digits_of, length-digits_of-le}
@@ -16,6 +15,7 @@ use Rattle.der_tlv.specs.declared.tag.Tag.TheVariants.{Boolean, Integer, BitStri
 use Rattle.der_tlv.specs.TagParts.{IsTag, class_of, is_constructed, number_of, universal_tag}
 use Rattle.der_tlv.specs.Identifier.{class_index, form_bit, first_octet, number_octets, identifier_octets, identifier, same_tag}
 use Rattle.der_tlv.specs.Octets.{lex}
+use Rattle.der_tlv.specs.OrderingLaws.{equal_tested}
 use Rattle.der_tlv.specs.OctetLaws.{SameBeginning, lex-append, lex-equal, lex-same}
 
 -- octets with bit 8 set, one without, and a tail: each part is the other's where the whole is
@@ -220,14 +220,9 @@ length-identifier t h =
 -- tags are the same exactly where their identifier octets compare as equal
 pub identifier_decides : (t u : Tag) → Decides (is_eq (lex (identifier t) (identifier u))) (t ≡ u)
 identifier_decides t u = (
-  (λ e. lex-identifier-equal t u (is_equal (lex (identifier t) (identifier u)) e)),
+  (λ e. lex-identifier-equal t u (equal_tested (lex (identifier t) (identifier u)) e)),
   (λ e. ap is_eq (ap (λ x. lex (identifier t) (identifier x)) (sym e) ∙ lex-same (identifier t))),
 )
-  where
-    is_equal : (o : Ordering) → is_eq o ≡ true → o ≡ Equal
-    is_equal Less h = absurd (cc)
-    is_equal Equal h = refl
-    is_equal Greater h = absurd (cc)
 
 three_true : (a b c : Bool) → (a && b && c) ≡ true → (a ≡ true) × (b ≡ true) × (c ≡ true)
 three_true true true true e = (refl, refl, refl)

@@ -102,6 +102,10 @@ pub pointwise-same : (a : List ℕ) → pointwise nat_eq a a ≡ true
 pointwise-same [] = refl
 pointwise-same (x ∷ a) = let e : nat_eq x x ≡ true = grind (arith, nat_tests) in rw (e, pointwise-same a) refl
 
+-- octets in front of others are not missing
+pub not_short : (c x : List ℕ) → nat_lt (length (c ++ x)) (length c) ≡ false
+not_short c x = let h = length-append c x in grind (arith, nat_tests)
+
 -- what is written is read, whatever follows
 pub read_long_length-digits : (n p : ℕ) (x : List ℕ) → nat_lt n 128 ≡ false → read_long_length (length (digits_of 256 n)) p (digits_of 256 n ++ x) ≡ Ok (length (digits_of 256 n), n)
 unfolding read_long_length length_octets
@@ -110,9 +114,6 @@ read_long_length-digits n p x long =
     let enough : nat_lt (length (digits_of 256 n ++ x)) (length (digits_of 256 n)) ≡ false = not_short (digits_of 256 n) x in
     let same : pointwise nat_eq (length_octets n) ((128 + length (digits_of 256 n)) ∷ digits_of 256 n) ≡ true = rw long (pointwise-same ((128 + length (digits_of 256 n)) ∷ digits_of 256 n)) in
     rw (enough, take-append_seam (digits_of 256 n) x, number_digits_of 256 n (lit≤ tt), same) refl
-  where
-    not_short : (c x : List ℕ) → nat_lt (length (c ++ x)) (length c) ≡ false
-    not_short c x = let h = length-append c x in grind (arith, nat_tests)
 
 some_digits : (n : ℕ) → nat_lt n 128 ≡ false → 0 < length (digits_of 256 n)
 some_digits n e =

@@ -12,6 +12,7 @@ pub mod ErrorNumber
 pub mod Texts
 pub mod Fitting
 pub mod LengthLaws
+pub mod OrderingLaws
 pub mod OctetLaws
 pub mod IdentifierLaws
 pub mod TagDigits

@@ -1,31 +1,15 @@
 -- Laws of lists of octets and their order.
 use Rattle.std.specs.Prelude.{◌≡◌, ℕ, List, [], ◌∷◌, ◌++◌}
 use Rattle.std.specs.Ordering.{nat_cmp, ordering_then}
-use Rattle.std.specs.declared.cmp.Ordering.{Ordering}
-use Rattle.std.specs.declared.cmp.Ordering.TheVariants.{Less, Equal, Greater}
-use Rattle.std.proofs.Common.{refl, sym, ◌∙◌}
-use Rattle.std.proofs.lemmas.Cmp.{ranked, tied_itself, nat_list_cmp_total}
+use Rattle.std.specs.declared.cmp.Ordering.TheVariants.{Equal}
+use Rattle.std.proofs.Common.{refl, ◌∙◌}
+use Rattle.std.proofs.lemmas.Cmp.{tied_itself, nat_list_cmp_total}
 use Rattle.der_tlv.specs.Octets.{lex}
+use Rattle.der_tlv.specs.OrderingLaws.{then_within, then_assoc, both_equal, nat_cmp-equal}
 
 -- octets that begin the same list only where they are the same, so that neither is a proper beginning of the other
 pub record SameBeginning (a b : List ℕ) : Type 0 where
   pub same : (x y : List ℕ) → a ++ x ≡ b ++ y → a ≡ b
-
--- what follows an order counts only where that is equal
-then_within : (o p q : Ordering) → (o ≡ Equal → p ≡ q) → ordering_then o p ≡ ordering_then o q
-then_within Less p q h = refl
-then_within Equal p q h = h refl
-then_within Greater p q h = refl
-
--- orders one after another, however they are grouped
-then_assoc : (o p q : Ordering) → ordering_then o (ordering_then p q) ≡ ordering_then (ordering_then o p) q
-then_assoc Less p q = refl
-then_assoc Equal p q = refl
-then_assoc Greater p q = refl
-
--- numbers that compare as equal are the same
-pub nat_cmp-equal : (m n : ℕ) → nat_cmp m n ≡ Equal → m ≡ n
-nat_cmp-equal m n e = ranked m n Equal (sym e)
 
 -- behind a first octet that is the same
 rest_beginning : (r s : ℕ) (a b : List ℕ) → SameBeginning (r ∷ a) (s ∷ b) → r ≡ s → SameBeginning a b
@@ -48,14 +32,9 @@ lex-equal [] [] e = refl
 lex-equal [] (s ∷ b) e = absurd (cc)
 lex-equal (r ∷ a) [] e = absurd (cc)
 lex-equal (r ∷ a) (s ∷ b) e =
-    let both = then_equal (nat_cmp r s) (lex a b) e in
+    let both = both_equal (nat_cmp r s) (lex a b) e in
     let first : r ≡ s = nat_cmp-equal r s both.0 in
     let rest : a ≡ b = lex-equal a b both.1 in cc
-  where
-    then_equal : (o p : Ordering) → ordering_then o p ≡ Equal → (o ≡ Equal) × (p ≡ Equal)
-    then_equal Less p h = absurd (cc)
-    then_equal Equal p h = (refl, h)
-    then_equal Greater p h = absurd (cc)
 
 -- the same octets compare as equal
 pub lex-same : (a : List ℕ) → lex a a ≡ Equal

@@ -1,6 +1,7 @@
 -- Decoding a field that may be absent, behind a tag of its class and number.
 use Rattle.std.proofs.Common.{◌≡◌, ℕ, ◌+◌, ◌<◌, ◌^◌, List, [], ◌∷◌, ◌++◌, length, take, drop, Bool, true, false, Result, Ok, Err, refl, sym, ap, ◌∙◌, subst, append_assoc, ◌==◌, ◌&&◌}
 use borrow.Author.Tests.{eqb-true}
+use Rattle.std.proofs.lemmas.Bool.{and_parts}
 use Rattle.std.proofs.lemmas.List.{take-append-drop}
 use Rattle.der_tlv.specs.declared.error.ErrorKind.{ErrorKind}
 use Rattle.der_tlv.specs.declared.header.Header.{Header}
@@ -21,14 +22,10 @@ use Rattle.der_wrap.specs.TaggedValues.{parse_field, parse_explicit, tag_of_mode
 use Rattle.der_wrap.specs.ClassTags.{class_of_bits, class_tag}
 use Rattle.der_wrap.specs.TaggedValueLaws.{class_tag-number, class_tag-with}
 
-both : (a b : Bool) → (a && b) ≡ true → (a ≡ true) × (b ≡ true)
-both true b h = (refl, h)
-both false b h = absurd (cc)
-
 -- a tag with a class and a number is told by its form
 pub class_tag-match_read : (bits n : ℕ) (t : Tag) → has_number (class_of_bits bits) n t ≡ true → t ≡ class_tag bits (is_constructed t) n
 class_tag-match_read bits n t h =
-    let parts = both (class_index (class_of t) == class_index (class_of_bits bits)) (number_of t == n) h in
+    let parts = and_parts (class_index (class_of t) == class_index (class_of_bits bits)) (number_of t == n) h in
     class_tag-with bits t (is_constructed t) n refl parts.0 (sym (eqb-true (number_of t) n parts.1))
 
 tag_of_header : (count : ℕ) (t : Tag) (r : Result (ℕ × ℕ) ErrorKind) (all : ℕ) (h : Header) → header_with_length count t r ≡ Ok (all, h) → h.tag ≡ t

@@ -1,5 +1,5 @@
 -- The laws of explicit tagging, from those of the values.
-use Rattle.std.proofs.Common.{◌≡◌, ℕ, ◌+◌, ◌*◌, lit<, ◌<◌, ◌^◌, List, [], ◌∷◌, ◌++◌, length, Bool, true, false, Ok, refl, sym, ap, ◌∙◌, arith, subst, nat_lt, ◌==◌, if◌then◌else◌, append_assoc}
+use Rattle.std.proofs.Common.{◌≡◌, ℕ, ◌+◌, ◌*◌, lit<, ◌<◌, ◌^◌, List, [], ◌∷◌, ◌++◌, length, Bool, true, false, Ok, refl, sym, ap, ◌∙◌, arith, subst, nat_lt, ◌==◌, if◌then◌else◌, append_assoc, eq-eqb}
 use borrow.Author.Tests.{eqb-true}
 use Rattle.std.proofs.lemmas.List.{length-append, append-nil}
 use Rattle.std.proofs.lemmas.Bool.Decides.{nat_tests}
@@ -15,6 +15,7 @@ use Rattle.der_tlv.specs.TagParts.{IsTag, is_constructed, number_of, class_of}
 use Rattle.der_tlv.specs.Identifier.{identifier, class_index}
 use Rattle.der_tlv.specs.IdentifierLaws.{first_octet-unique, tag-unique}
 use Rattle.der_tlv.specs.LengthOctets.{length_octets}
+use Rattle.der_tlv.specs.LengthLaws.{not_short}
 use Rattle.der_tlv.specs.HeaderOctets.{header_octets, tlv}
 use Rattle.der_tlv.specs.HeaderLaws.{read_header-octets}
 use Rattle.der_elem.specs.declared.form.Form as form
@@ -83,12 +84,6 @@ pub class_tag-with : (bits : ℕ) (t : Tag) (constructed : Bool) (n : ℕ) → i
 class_tag-with bits t constructed n c h e =
     class_tag-of bits t h ∙ ap (λ c. class_tag bits c (number_of t)) c ∙ ap (class_tag bits constructed) (sym e)
 
-enough : (c x : List ℕ) → nat_lt (length (c ++ x)) (length c) ≡ false
-enough c x = let h = length-append c x in grind (arith, nat_tests)
-
-same : (n : ℕ) → (n == n) ≡ true
-same n = grind (arith, nat_tests)
-
 nothing_follows : (tags : Tag → Bool) (b : List ℕ) → MayFollow tags b []
 nothing_follows tags [] = tt
 nothing_follows tags (y ∷ b) = tt
@@ -98,7 +93,7 @@ module _ {T : Type 0} (F : form.Ghosts T) where
   pub parse_one_encoding : (rules : EncodingRules) (v : T) (p : ℕ) (c : List ℕ) → F.accepts rules v c → Fits c → one_encoding F.parse rules p c ≡ Ok (F.encoding v)
   parse_one_encoding rules v p c a fits =
       let alone : F.parse rules p c ≡ Ok (length c, F.encoding v) = ap (F.parse rules p) (sym (append-nil c)) ∙ F.parse_of_accepted rules v p c [] a fits (nothing_follows F.tags c) in
-      rw (alone, same (length c)) refl
+      rw (alone, eq-eqb (length c) (length c) refl) refl
 
   module _ (bits n : ℕ) where
     explicit_octets : (rules : EncodingRules) (v : T) (p : ℕ) (c x : List ℕ) → IsTag (class_tag bits true n) → Fits (tlv (class_tag bits true n) c) → F.accepts rules v c → parse_explicit bits F.parse rules p (tlv (class_tag bits true n) c ++ x) ≡ Ok (length (tlv (class_tag bits true n) c), tlv (class_tag bits true n) (F.encoding v))
@@ -108,7 +103,7 @@ module _ {T : Type 0} (F : form.Ghosts T) where
         let h = header_octets t (length c) in
         let regroup : tlv t c ++ x ≡ h ++ (c ++ x) = append_assoc h c x in
         let head = read_header-octets t (length c) p (c ++ x) is_tag (contents_fit t c fits) in
-        ap (parse_explicit bits F.parse rules p) regroup ∙ ap (explicit_with_header bits F.parse rules p (h ++ (c ++ x))) head ∙ rw (class_tag-constructed true n bits, class_tag-class true n bits, drop-append_seam h (c ++ x), enough c x, take-append_seam c x, parse_one_encoding rules v (p + length h) c a (contents_fit t c fits)) (ap (λ m. Ok (m, tlv t (F.encoding v))) (sym (length-append h c)))
+        ap (parse_explicit bits F.parse rules p) regroup ∙ ap (explicit_with_header bits F.parse rules p (h ++ (c ++ x))) head ∙ rw (class_tag-constructed true n bits, class_tag-class true n bits, drop-append_seam h (c ++ x), not_short c x, take-append_seam c x, parse_one_encoding rules v (p + length h) c a (contents_fit t c fits)) (ap (λ m. Ok (m, tlv t (F.encoding v))) (sym (length-append h c)))
 
     numbered_tag : n < 2 ^ 32 → IsTag (class_tag bits true n)
     numbered_tag h = subst (λ m. m < 2 ^ 32) (sym (class_tag-number true n bits)) h

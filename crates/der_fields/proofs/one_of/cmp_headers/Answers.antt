@@ -3,7 +3,7 @@ use Rattle.std.specs.Ordering.{nat_cmp}
 use Rattle.der_tlv.specs.Octets.{lex}
 use Rattle.der_tlv.specs.Identifier.{identifier}
 use Rattle.der_fields.specs.Alternatives.{NotTold}
-use Rattle.der_fields.proofs.HeadersTold.{tags_decide, lengths_decide, headers_equal}
+use Rattle.der_elem.proofs.HeadersTold.{tags_decide, lengths_decide, headers_equal}
 use Rattle.der_fields.proofs.one_of.cmp_headers.Goals as goal
 use Rattle.der_fields.proofs.one_of.cmp_headers.Goals.{After-cmp, After-cmp-2}
 

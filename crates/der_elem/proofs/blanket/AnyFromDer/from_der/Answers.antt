@@ -1,10 +1,6 @@
-use Rattle.std.proofs.Common.{rules, refl, ◌≡◌, Bool, true, false}
-use Rattle.der_elem.proofs.Alone.{not_read, left_over_unread, all_read}
+use Rattle.std.proofs.Common.{rules, refl}
+use Rattle.der_elem.proofs.Alone.{not_read, left_over_unread, all_read, unless_true}
 use Rattle.der_elem.proofs.blanket.AnyFromDer.from_der.Goals as goal
-
-unless_true : (b : Bool) → (b ≡ true → false ≡ true) → b ≡ false
-unless_true true h = absurd (let k = h refl in cc)
-unless_true false h = refl
 
 pub returns-in_err-value : goal.returns-in_err-value
 returns-in_err-value g c =

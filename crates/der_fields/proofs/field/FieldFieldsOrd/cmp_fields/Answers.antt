@@ -2,7 +2,7 @@ use Rattle.std.proofs.Common.{◌≡◌, ◌∙◌, ◌++◌, ap, sym}
 use Rattle.std.specs.declared.cmp.Ordering.TheVariants.{Equal}
 use Rattle.der_tlv.specs.Octets.{lex}
 use Rattle.der_fields.specs.FieldLists.{first_of}
-use Rattle.der_fields.specs.FieldLaws.{right_part}
+use Rattle.std.proofs.lemmas.Bool.{or_right}
 use Rattle.der_fields.specs.ComparingFields.{lex_leads}
 use Rattle.der_fields.specs.TellingLaws.{same_leads_of, other_leads_of, first_decides, others_decide, leads_decide, leads_clash, clash_refuses, starts_both}
 use Rattle.der_fields.proofs.field.FieldFieldsOrd.cmp_fields.Goals as goal
@@ -15,7 +15,7 @@ returns-in-Equal g c =
     let x = c.args.other.now in
     let equal : Equal ≡ lex (g.T.Form.encoding c.args.self.now.first) (g.T.Form.encoding c.args.other.now.first) = sym c.in-Equal.is ∙ c.in_ok-order.ensures in
     let same = g.met.T.FirstTag.same_beginning v.first x.first (same_leads_of c.first_tag.ensures c.first_tag-2.ensures c.if-both_or_none.ensures) in
-    others_decide (F.encoding v.first) (F.encoding x.first) (G.octets.contents v.rest) (G.octets.contents x.rest) _ (G.octets.comparable v.rest x.rest) _ _ (G.octets.re_reads v.rest) (G.octets.re_reads x.rest) (λ o. o.1) (right_part (F.re_reads v.first) (G.octets.re_reads v.rest)) (right_part (F.re_reads x.first) (G.octets.re_reads x.rest)) c.cmp_fields.result same equal c.cmp_fields.ensures
+    others_decide (F.encoding v.first) (F.encoding x.first) (G.octets.contents v.rest) (G.octets.contents x.rest) _ (G.octets.comparable v.rest x.rest) _ _ (G.octets.re_reads v.rest) (G.octets.re_reads x.rest) (λ o. o.1) (or_right (F.re_reads v.first) (G.octets.re_reads v.rest)) (or_right (F.re_reads x.first) (G.octets.re_reads x.rest)) c.cmp_fields.result same equal c.cmp_fields.ensures
 
 pub returns-in_default : goal.returns-in_default
 returns-in_default g c =

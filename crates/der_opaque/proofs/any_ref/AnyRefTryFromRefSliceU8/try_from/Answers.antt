@@ -1,11 +1,7 @@
-use Rattle.std.proofs.Common.{inr, refl, ◌≡◌, Bool, true, false}
-use Rattle.der_elem.proofs.Alone.{not_read, left_over_unread}
+use Rattle.std.proofs.Common.{inr, refl}
+use Rattle.der_elem.proofs.Alone.{not_read, left_over_unread, unless_true}
 use Rattle.der_opaque.specs.contracts.any_ref.AnyRefForm.TheImpl.{ghosts}
 use Rattle.der_opaque.proofs.any_ref.AnyRefTryFromRefSliceU8.try_from.Goals as goal
-
-unless_true : (b : Bool) → (b ≡ true → false ≡ true) → b ≡ false
-unless_true true h = absurd (let k = h refl in cc)
-unless_true false h = refl
 
 pub returns-in-Err-read : goal.returns-in-Err-read
 returns-in-Err-read c =
