@@ -1,4 +1,4 @@
--- The order of values of two types, from their tags and their lengths.
+-- The order of two encodings, from their tags, their lengths and their contents octets.
 use Rattle.std.proofs.Common.{◌≡◌, ◌≢◌, ℕ, List, length, sym, ap, ◌∙◌, Ordering}
 use Rattle.std.specs.declared.cmp.Ordering.TheVariants.{Equal}
 use Rattle.std.specs.Ordering.{nat_cmp, ordering_then}

@@ -4,25 +4,27 @@ ghost use Rattle.der_elem.specs.Decoding.{ReadsAll};
 ghost use Rattle.der_fields.specs.SequenceWriting.{WritesAll};
 ghost use Rattle.der_extensions.specs.Grammars.{authority_key_identifier};
 
+use crate::general_names::GeneralNames;
 use der_fields::{End, Field, FieldSequence, Implicit, read_sequence, write_sequence};
 use der_numbers::IntRef;
-use der_opaque::{AnyRef, OctetStringRef};
+use der_opaque::OctetStringRef;
 use der_tlv::Error;
 use std::alloc::Global;
 
-/// The names are kept as they are encoded; `read_general_name` reads one. With the identifier 01 02
-/// alone it is encoded as 30 04 80 02 01 02.
+/// What names the key of the issuer of a certificate: the key's identifier, or the names of the
+/// issuer of the issuer's certificate and that certificate's number. With the identifier 01 02 alone
+/// it is encoded as 30 04 80 02 01 02.
 ///
 /// ```text
 /// AuthorityKeyIdentifier ::= SEQUENCE {
 ///     keyIdentifier              [0] IMPLICIT OCTET STRING OPTIONAL,
-///     authorityCertIssuer        [1] IMPLICIT SEQUENCE OF GeneralName OPTIONAL,
+///     authorityCertIssuer        [1] IMPLICIT GeneralNames OPTIONAL,
 ///     authorityCertSerialNumber  [2] IMPLICIT INTEGER OPTIONAL }
 /// ```
 pub type AuthorityKeyIdentifier<'a> = FieldSequence<
     Field<
         Option<Implicit<OctetStringRef<'a>, 0>>,
-        Field<Option<Implicit<Vec<AnyRef<'a>>, 1>>, Field<Option<Implicit<IntRef<'a>, 2>>, End>>,
+        Field<Option<Implicit<GeneralNames<'a>, 1>>, Field<Option<Implicit<IntRef<'a>, 2>>, End>>,
     >,
 >;
 

@@ -20,6 +20,7 @@ mod basic_constraints;
 mod constraints;
 mod directory_name;
 mod general_name;
+mod general_names;
 mod grammars;
 mod key_identifier;
 mod key_usage;
@@ -31,9 +32,9 @@ pub use authority::{
 pub use basic_constraints::{BasicConstraints, ConstraintsFields};
 pub use constraints::{read_basic_constraints, write_basic_constraints};
 pub use directory_name::{DirectoryName, NameList};
-pub use general_name::{
-    GeneralName, SubjectAltName, read_general_name, read_subject_alt_name, write_general_name,
-    write_subject_alt_name,
+pub use general_name::{GeneralName, read_general_name, write_general_name};
+pub use general_names::{
+    GeneralNames, SubjectAltName, read_subject_alt_name, write_subject_alt_name,
 };
 pub use grammars::Message;
 pub use key_identifier::{

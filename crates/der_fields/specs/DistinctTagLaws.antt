@@ -2,11 +2,11 @@
 use Rattle.std.proofs.Common.{◌≡◌, List, [], ◌∷◌, Bool, true, false, ◌&&◌, ◌||◌, not, Option, Some, None, refl, sym, ap, ◌∙◌, subst}
 use Rattle.std.proofs.lemmas.Bool.{and_parts, not-true, both_ways, false_from_ne_true}
 use Rattle.der_tlv.specs.declared.tag.Tag.{Tag}
-use Rattle.der_tlv.specs.Identifier.{same_tag}
-use Rattle.der_tlv.specs.IdentifierLaws.{same_tag-true}
+use Rattle.der_tlv.specs.TagParts.{class_of, number_of}
+use Rattle.der_tlv.specs.TagMatching.{has_number}
 use Rattle.der_elem.specs.Leading.{IsLed}
 use Rattle.der_elem.specs.KnownTags.{is_one_of, may_be}
-use Rattle.der_elem.specs.KnownTagLaws.{known_left, known_right}
+use Rattle.der_elem.specs.KnownTagLaws.{known_left, known_right, known_alike}
 use Rattle.der_fields.specs.FieldLists.{Apart, first_of}
 use Rattle.der_fields.specs.declared.one_of.OneOf.{OneOf}
 use Rattle.der_fields.specs.declared.one_of.OneOf.TheVariants.{First, Other}
@@ -18,8 +18,8 @@ not_known : (known : Option (List Tag)) (following : List Tag) (t : Tag) → non
 not_known known [] t e f = absurd (cc)
 not_known known (u ∷ following) t e f =
     let parts = and_parts (not (may_be known u)) (none_may_be known following) e in
-    of_either (same_tag t u) (is_one_of following t)
-    (λ h. ap (may_be known) (same_tag-true t u h) ∙ not-true (may_be known u) parts.0)
+    of_either (has_number (class_of u) (number_of u) t) (is_one_of following t)
+    (λ h. known_alike known t u h ∙ not-true (may_be known u) parts.0)
     (not_known known following t parts.1) f
   where
     of_either : (p q : Bool) → (p ≡ true → may_be known t ≡ false) → (q ≡ true → may_be known t ≡ false) → (p || q) ≡ true → may_be known t ≡ false

@@ -196,11 +196,15 @@ general_name =
     parse_one (λ tag. either (constructed 0) (primitive 1) tag || either (primitive 2) (constructed 3) tag)
     (λ tag. either (constructed 4) (constructed 5) tag || is_last_name tag) first_names last_names
 
--- AuthorityKeyIdentifier (section 4.2.1.1); the names are kept as they are encoded
+-- GeneralNames
+abbrev pub names_items : ContentsParse
+names_items = parse_items general_name
+
+-- AuthorityKeyIdentifier (section 4.2.1.1)
 abbrev pub authority_fields : ContentsParse
 authority_fields =
     parse_field (optional (primitive 0) parse_octets)
-    (parse_field (optional (constructed 1) (parse_items parse_any))
+    (parse_field (optional (constructed 1) names_items)
     (parse_field (optional (primitive 2) parse_integer) parse_end))
 
 -- ---- the messages by their names
@@ -245,7 +249,7 @@ field_values name =
     else None
 
 unfoldable pub name_values : Table
-name_values name = if bytes_eq name (codes "subjectaltname") then Some (canonical_tagged Sequence (parse_items general_name)) else None
+name_values name = if bytes_eq name (codes "subjectaltname") then Some (canonical_tagged Sequence names_items) else None
 
 -- the function of the message with a name
 unfoldable pub message_of : Table

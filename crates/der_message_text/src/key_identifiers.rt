@@ -3,11 +3,11 @@
 
 use crate::hexadecimal::push_with_colons;
 use crate::names::push_malformed;
+use crate::other_names::push_names;
 use der_extensions::{
     AuthorityKeyIdentifier, read_authority_key_identifier, read_subject_key_identifier,
 };
 use std::alloc::{AllocError, Global};
-use std::fmt::Write;
 
 /// Adds the identifier of a key.
 pub fn push_subject_key(alloc: Global, text: &mut String, octets: &[u8]) -> Result<(), AllocError> {
@@ -18,15 +18,15 @@ pub fn push_subject_key(alloc: Global, text: &mut String, octets: &[u8]) -> Resu
     }
 }
 
-/// Adds the identifier of the issuer's key, and the serial number of its certificate, where they are
-/// there; of the issuer's names only how many there are.
+/// Adds the identifier of the issuer's key, and the issuer's names and the serial number of the
+/// certificate of that key, where they are there.
 pub fn push_authority_key(
     alloc: Global,
     text: &mut String,
     octets: &[u8],
 ) -> Result<(), AllocError> {
     match read_authority_key_identifier(alloc, octets) {
-        Ok(authority) => push_authority(text, &authority),
+        Ok(authority) => push_authority(alloc, text, &authority),
         Err(error) => {
             text.push_str(", ")?;
             push_malformed(text, error)
@@ -35,6 +35,7 @@ pub fn push_authority_key(
 }
 
 fn push_authority(
+    alloc: Global,
     text: &mut String,
     authority: &AuthorityKeyIdentifier<'_>,
 ) -> Result<(), AllocError> {
@@ -43,8 +44,7 @@ fn push_authority(
         push_with_colons(text, identifier.value.as_bytes())?;
     }
     if let Some(names) = &authority.fields.rest.first {
-        let count = names.value.len();
-        write!(text, ", names: {count}")?;
+        push_names(alloc, text, "issuer ", names.value.as_slice())?;
     }
     match authority.fields.rest.rest.first {
         Some(number) => {

@@ -11,7 +11,7 @@ use std::fmt::Write;
 /// Adds the names; `malformed` and the fault where the octets are no names.
 pub fn push_other_names(alloc: Global, text: &mut String, octets: &[u8]) -> Result<(), AllocError> {
     match read_subject_alt_name(alloc, octets) {
-        Ok(names) => push_each(alloc, text, names.as_slice()),
+        Ok(names) => push_names(alloc, text, "", names.as_slice()),
         Err(error) => {
             text.push_str(", ")?;
             push_malformed(text, error)
@@ -19,13 +19,16 @@ pub fn push_other_names(alloc: Global, text: &mut String, octets: &[u8]) -> Resu
     }
 }
 
-fn push_each(
+/// Adds each of the names, behind a comma and what they are names of.
+pub fn push_names(
     alloc: Global,
     text: &mut String,
+    of: &str,
     names: &[GeneralName<'_>],
 ) -> Result<(), AllocError> {
     for name in names {
         text.push_str(", ")?;
+        text.push_str(of)?;
         push_other_name(alloc, text, name)?;
     }
     Ok(())

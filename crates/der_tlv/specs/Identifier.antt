@@ -1,5 +1,5 @@
 -- The identifier octets (X.690 8.1.2).
-use Rattle.std.specs.Prelude.{ℕ, ◌+◌, ◌*◌, ◌/◌, ◌%◌, Bool, true, false, nat_lt, nat_eq, ◌==◌, ◌&&◌, if◌then◌else◌, List, [], ◌∷◌, ◌++◌, map}
+use Rattle.std.specs.Prelude.{ℕ, ◌+◌, ◌*◌, ◌/◌, ◌%◌, Bool, true, false, nat_lt, nat_eq, if◌then◌else◌, List, [], ◌∷◌, ◌++◌, map}
 use Rattle.std.specs.Cmp.Lexicographic.{pointwise}
 use Rattle.std.specs.Int.Digits.{digits_of}
 use Rattle.der_tlv.specs.declared.tag.class.Class.{Class}
@@ -39,8 +39,3 @@ identifier t = identifier_octets (class_of t) (is_constructed t) (number_of t)
 -- whether two tags have the same identifier octets, and so are one
 unfoldable pub same_identifier : Tag → Tag → Bool
 same_identifier t u = pointwise nat_eq (identifier t) (identifier u)
-
--- the same, by the class, the form and the number, which computes for tags that are known
-abbrev pub same_tag : Tag → Tag → Bool
-same_tag t u =
-    (class_index (class_of t) == class_index (class_of u)) && (form_bit (is_constructed t) == form_bit (is_constructed u)) && (number_of t == number_of u)

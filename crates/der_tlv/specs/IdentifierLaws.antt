@@ -1,19 +1,19 @@
 -- Laws of identifier octets: which tag they are of, and where they end.
-use Rattle.std.specs.Prelude.{◌≡◌, ℕ, ◌+◌, ◌/◌, ◌%◌, ◌^◌, ◌<◌, ◌≤◌, ◌==◌, Bool, true, false, ◌&&◌, nat_lt, if◌then◌else◌, List, [], ◌∷◌, ◌++◌, map, length, Option, Some}
+use Rattle.std.specs.Prelude.{◌≡◌, ℕ, ◌+◌, ◌/◌, ◌%◌, ◌^◌, ◌<◌, ◌≤◌, ◌==◌, Bool, true, false, nat_lt, if◌then◌else◌, List, [], ◌∷◌, ◌++◌, map, length, Option, Some}
 use Rattle.std.specs.Int.Digits.{digits_of}
 use Rattle.std.specs.Ordering.{ordering_then, is_eq}
 use Rattle.std.specs.Bool.{Decides}
 use Rattle.std.specs.declared.cmp.Ordering.TheVariants.{Equal}
-use Rattle.std.proofs.Common.{refl, sym, ap, ◌∙◌, arith, append_assoc, length-append, eq-eqb}
+use Rattle.std.proofs.Common.{refl, sym, ap, ◌∙◌, arith, append_assoc, length-append}
 use Rattle.std.proofs.lemmas.List.{length-map}
 use Rattle.std.proofs.lemmas.Int.Digits.{same_from_digits_of, length-digits_of-le}
-use borrow.Author.Tests.{ltb-true, ltb-false, eqb-true}
+use borrow.Author.Tests.{ltb-true, ltb-false}
 use Rattle.der_tlv.specs.declared.tag.class.Class.{Class}
 use Rattle.der_tlv.specs.declared.tag.class.Class.TheVariants as class
 use Rattle.der_tlv.specs.declared.tag.Tag.{Tag}
 use Rattle.der_tlv.specs.declared.tag.Tag.TheVariants.{Boolean, Integer, BitString, OctetString, Null, ObjectIdentifier, Real, Enumerated, Utf8String, RelativeOid, Sequence, Set, NumericString, PrintableString, TeletexString, VideotexString, Ia5String, UtcTime, GeneralizedTime, VisibleString, GeneralString, BmpString, Application, ContextSpecific, Private}
 use Rattle.der_tlv.specs.TagParts.{IsTag, class_of, is_constructed, number_of, universal_tag}
-use Rattle.der_tlv.specs.Identifier.{class_index, form_bit, first_octet, number_octets, identifier_octets, identifier, same_tag}
+use Rattle.der_tlv.specs.Identifier.{class_index, form_bit, first_octet, number_octets, identifier_octets, identifier}
 use Rattle.der_tlv.specs.Octets.{lex}
 use Rattle.der_tlv.specs.OrderingLaws.{equal_tested}
 use Rattle.der_tlv.specs.OctetLaws.{SameBeginning, lex-append, lex-equal, lex-same}
@@ -223,26 +223,3 @@ identifier_decides t u = (
   (λ e. lex-identifier-equal t u (equal_tested (lex (identifier t) (identifier u)) e)),
   (λ e. ap is_eq (ap (λ x. lex (identifier t) (identifier x)) (sym e) ∙ lex-same (identifier t))),
 )
-
-three_true : (a b c : Bool) → (a && b && c) ≡ true → (a ≡ true) × (b ≡ true) × (c ≡ true)
-three_true true true true e = (refl, refl, refl)
-three_true true true false e = absurd (cc)
-three_true true false c e = absurd (cc)
-three_true false b c e = absurd (cc)
-
--- tags of the same class, form and number are the same
-pub same_tag-true : (t u : Tag) → same_tag t u ≡ true → t ≡ u
-same_tag-true t u e =
-    let c = class_index (class_of t) in
-    let d = class_index (class_of u) in
-    let f = form_bit (is_constructed t) in
-    let g = form_bit (is_constructed u) in
-    let parts = three_true (c == d) (f == g) (number_of t == number_of u) e in
-    tag-unique t u (class_index-injective (class_of t) (class_of u) (eqb-true c d parts.0)) (form_bit-injective (is_constructed t) (is_constructed u) (eqb-true f g parts.1)) (eqb-true (number_of t) (number_of u) parts.2)
-
-pub same_tag-same : (t : Tag) → same_tag t t ≡ true
-same_tag-same t =
-    let c = class_index (class_of t) in
-    let f = form_bit (is_constructed t) in
-    let n = number_of t in
-    ap (λ b. b && (f == f) && (n == n)) (eq-eqb c c refl) ∙ ap (λ b. b && (n == n)) (eq-eqb f f refl) ∙ eq-eqb n n refl

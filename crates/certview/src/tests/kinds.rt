@@ -1,8 +1,8 @@
 //! A message of each kind: what is shown, and that each of its cuts is refused.
 
 use crate::tests::messages::{
-    CURVE_PRIVATE, CURVE_PUBLIC, CURVE_WRAPPED, ED25519, ED25519_PUBLIC, ED25519_WRAPPED,
-    EXTENSIONS, LIST, NAMES, RSA_MODULUS, RSA_PRIVATE, RSA_PUBLIC, RSA_WRAPPED,
+    AUTHORITY, CURVE_PRIVATE, CURVE_PUBLIC, CURVE_WRAPPED, ED25519, ED25519_PUBLIC,
+    ED25519_WRAPPED, EXTENSIONS, LIST, NAMES, RSA_MODULUS, RSA_PRIVATE, RSA_PUBLIC, RSA_WRAPPED,
 };
 use crate::tests::{assert_contains, number_of};
 use der_message_text::{Kind, kind_of, shown};
@@ -110,6 +110,16 @@ fn shows_names_of_each_kind(rt: HostRuntime) -> Result<(), Fail> {
     ] {
         assert_contains(&rt, text.as_str(), line);
     }
+    Ok(())
+}
+
+#[test]
+fn shows_the_names_of_an_authority(rt: HostRuntime) -> Result<(), Fail> {
+    let octets = hex::decode(rt.alloc(), AUTHORITY)?;
+    let text = shown(rt.alloc(), Kind::Certificate, octets.as_slice())?;
+    let line =
+        "(authorityKeyIdentifier), 62 octets, issuer directory C=SE, O=Barley, CN=Authority, serial number 12:34\n";
+    assert_contains(&rt, text.as_str(), line);
     Ok(())
 }
 

@@ -251,6 +251,9 @@ fn authorities_have_their_fields_in_order(rt: HostRuntime) -> Result<(), Fail> {
         ("3004a0020102", 3),
         // a number in more octets than it needs
         ("300482020005", 8),
+        // names of which one is of no kind, and a directory's name in no SEQUENCE
+        ("3005a103020105", 4),
+        ("3006a104a4020500", 4),
         ("30048003010203", 2),
     ];
     for (digits, number) in rows {
