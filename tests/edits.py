@@ -6,8 +6,8 @@
 Edits of different functions are tried in one check: a function is proved from the contracts of those that it calls, and
 not from their bodies. An edit is refused where the check says of the function that it changes that its own proof fails.
 Where it says only that a callee has no proof, the edit is tried again with others, and last alone; there any function may
-be the one that is refused, as under 'rt must-fail'. At the end each crate has to be proved as it stands, over what these
-checks kept. TREE is a copy of the repository in which 'rt ci' builds the crates; without it, what 'rt check' has built is
+be the one that is refused, as under 'rt must-fail'. Before that, the functions that are edited, and no others, have to be
+proved as they stand; the checks begin with what that kept. TREE is a copy of the repository in which 'rt ci' builds the crates; without it, what 'rt check' has built is
 taken. FILE is what that 'rt ci' prints, where it is still at work: the edits of a crate are tried as soon as those below it
 are proved, at low priority, so that they fill what the proofs leave free. JOBS says how many crates are tried at a time, of
 which half wait for the end of 'rt ci'. The last line counts."""
@@ -28,6 +28,9 @@ BLOCK = re.compile(r"^(?:pub )?(?:unsafe )?(impl|trait)\b")
 STATUS = re.compile(r"^fn (\S+): (.*)$", re.M)
 # What antt says of a text that it cannot read, where an edit has to read well.
 UNREAD = re.compile(r"is not in scope|has no field|is no name|operand is missing|expected the end|cannot continue")
+# What a check says of a function's name that it does not know, or knows twice.
+NO_NAME = re.compile(r"has no function `([^`]*)`")
+TWO_NAMES = re.compile(r"several functions are named `([^`]*)`: help: write one of (.*)")
 # What a proof file says where the edit took away a name that it cites.
 NAMES = re.compile(r"(has no field|is not in scope|has no `|was not admitted)")
 WEAK = " (only because a proof file names what the edit took away)"
@@ -170,6 +173,15 @@ class Edit:
         self.module = self.path[4:-3].replace("/", "::")
         self.items = {it for it in map(self.item, self.changed()) if it}
 
+    def names(self):
+        """What to check: the functions that it changes, by the names or the ends of names of a check, else its module."""
+        found = set()
+        for name, of_type, of_trait in self.items:
+            within = f"{self.crate.name}::{self.module}::"
+            # a method of a type's own stands with the type, whatever file its impl is in
+            found.add(f"{of_type}::{name}" if of_type and not of_trait else f"{within}{of_type}{of_trait}::{name}" if of_type else f"{within}{name}")
+        return found or {self.module}
+
     def applied(self, text):
         """The text with the edit, or none where a text of the edit does not stand in it just once."""
         for old, new in self.pairs:
@@ -284,14 +296,27 @@ def try_alone(edit, kept):
     return "NOT REFUSED: the crate is still proved with this edit"
 
 
+def proved_as_it_stands(crate, kept, only):
+    """Whether the functions of these names are proved as they stand, and the names by which a check knows them."""
+    while True:
+        answer = crate.check({}, kept, sorted(only))
+        no_name, two_names = NO_NAME.search(answer.text), TWO_NAMES.search(answer.text)
+        if not (no_name or two_names):
+            return answer.judged and answer.status == 0, sorted(only)
+        told = (no_name or two_names)[1]
+        only = (only - {told}) | (set(re.findall(r"`([^`]*)`", two_names[2])) if two_names else {told.rpartition("::")[0]})
+
+
 def try_edits(crate, edits):
     """Tries the edits of a crate, and returns how many were refused, and how many not."""
     left = [it for it in edits if it.alone]
     faults = [(it, "BAD EDIT: a text of it does not stand just once in its file") for it in edits if not it.alone]
-    only = sorted({it.module for it in left if it.path != crate.root})
-    if any(it.path == crate.root for it in left):
-        only = []
+    only = set().union(*(it.names() for it in left)) if all(it.path != crate.root for it in left) else set()
     with tempfile.TemporaryDirectory(prefix="edits-") as kept:
+        proved, only = proved_as_it_stands(crate, kept, only)
+        if not proved:
+            say(f"{crate.name}: NOT PROVED as it stands, so its edits show nothing")
+            return 0, len(edits)
         taken, texts = group_of(left)
         while taken:
             answer = crate.check(texts, kept, only)
@@ -306,9 +331,6 @@ def try_edits(crate, edits):
         for edit in left:
             why = try_alone(edit, kept)
             faults += [(edit, why)] if why else []
-        if crate.check({}, kept, only).status:
-            say(f"{crate.name}: NOT PROVED as it stands, so its edits show nothing")
-            return 0, len(edits)
     for edit, why in faults:
         say(f"{edit.label}: {why}")
     return len(edits) - len(faults), len(faults)

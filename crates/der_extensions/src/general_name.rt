@@ -5,6 +5,7 @@ ghost use Rattle.der_fields.specs.SequenceWriting.{WritesAll};
 ghost use Rattle.der_extensions.specs.Grammars.{general_name};
 
 use crate::directory_name::DirectoryName;
+use crate::other_name::OtherName;
 use der_ascii::Ia5StringRef;
 use der_elem::{Encode, FromDer};
 use der_fields::{Implicit, OneOf};
@@ -13,8 +14,7 @@ use der_opaque::{ObjectIdentifier, OctetStringRef};
 use der_tlv::Error;
 use std::alloc::Global;
 
-/// A name of any kind. Of an otherName, an x400Address and an ediPartyName the contents octets are
-/// kept.
+/// A name of any kind. Of an x400Address and an ediPartyName the contents octets are kept.
 ///
 /// ```text
 /// GeneralName ::= CHOICE {
@@ -30,7 +30,7 @@ use std::alloc::Global;
 /// ```
 pub type GeneralName<'a> = OneOf<
     OneOf<
-        OneOf<Implicit<SequenceRef<'a>, 0>, Implicit<Ia5StringRef<'a>, 1>>,
+        OneOf<Implicit<OtherName<'a>, 0>, Implicit<Ia5StringRef<'a>, 1>>,
         OneOf<Implicit<Ia5StringRef<'a>, 2>, Implicit<SequenceRef<'a>, 3>>,
     >,
     OneOf<

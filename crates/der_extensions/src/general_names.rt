@@ -1,13 +1,10 @@
-//! Names of any kind, and the value of the extension subjectAltName (RFC 5280 section 4.2.1.6).
+//! Names of any kind (RFC 5280 section 4.2.1.6).
 
 ghost use Rattle.std.specs.Prelude.{◌≡◌, refl, true};
-ghost use Rattle.der_elem.specs.Decoding.{ReadsAll};
 ghost use Rattle.der_elem.specs.ValueForms.{held_form};
-ghost use Rattle.der_fields.specs.SequenceWriting.{WritesAll};
-ghost use Rattle.der_extensions.specs.Grammars.{subject_alt_name};
 
 use crate::general_name::GeneralName;
-use der_elem::{DecodeValue, Encode, EncodeValue, FormValue, FromDer, OneTag, SequenceTag};
+use der_elem::{DecodeValue, EncodeValue, FormValue, OneTag, SequenceTag};
 use der_tlv::{Error, Header, Length, Source, Writer};
 use std::alloc::Global;
 
@@ -23,11 +20,6 @@ pub struct GeneralNames<'a> {
     /// The names.
     pub names: Vec<GeneralName<'a>>,
 }
-
-/// ```text
-/// SubjectAltName ::= GeneralNames
-/// ```
-pub type SubjectAltName<'a> = GeneralNames<'a>;
 
 impl<'a> GeneralNames<'a> {
     /// These names.
@@ -80,31 +72,4 @@ impl<'a> EncodeValue for GeneralNames<'a> {
     fn encode_value<W: Writer>(&self, writer: &mut W) -> Result<(), Error> {
         self.names.encode_value(writer)
     }
-}
-
-/// Reads names of any kind: all of the octets, under DER.
-///
-/// # Errors
-/// The first fault of the octets, in the order of the fields; (3) where octets are left over; (9)
-/// where there are more than 4294967295; (1) where a type that takes memory has none.
-pub fn read_subject_alt_name<'a>(
-    alloc: Global,
-    bytes: &'a [u8],
-) -> Result<SubjectAltName<'a>, Error>
-    ensures { ReadsAll subject_alt_name.grammar bytes.now result }
-{
-    SubjectAltName::from_der(alloc, bytes)
-}
-
-/// The one encoding of names of any kind.
-///
-/// # Errors
-/// (1) where memory runs out; (9) where there are more than 4294967295 octets.
-pub fn write_subject_alt_name<'a>(
-    alloc: Global,
-    value: &SubjectAltName<'a>,
-) -> Result<Vec<u8>, Error>
-    ensures { WritesAll subject_alt_name.grammar value.now result }
-{
-    value.to_der(alloc)
 }

@@ -2,10 +2,10 @@
 
 ghost use Rattle.der_elem.specs.declared.form.Form as form;
 
+use crate::alternative_names::SubjectAltName;
 use crate::authority::AuthorityKeyIdentifier;
 use crate::basic_constraints::BasicConstraints;
 use crate::general_name::GeneralName;
-use crate::general_names::SubjectAltName;
 use crate::key_identifier::SubjectKeyIdentifier;
 use crate::key_usage::KeyUsage;
 use crate::purposes::ExtKeyUsage;

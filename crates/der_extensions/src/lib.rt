@@ -15,6 +15,7 @@
 //! ```
 #![tactic(auto)]
 
+mod alternative_names;
 mod authority;
 mod basic_constraints;
 mod constraints;
@@ -24,8 +25,10 @@ mod general_names;
 mod grammars;
 mod key_identifier;
 mod key_usage;
+mod other_name;
 mod purposes;
 
+pub use alternative_names::{SubjectAltName, read_subject_alt_name, write_subject_alt_name};
 pub use authority::{
     AuthorityKeyIdentifier, read_authority_key_identifier, write_authority_key_identifier,
 };
@@ -33,12 +36,11 @@ pub use basic_constraints::{BasicConstraints, ConstraintsFields};
 pub use constraints::{read_basic_constraints, write_basic_constraints};
 pub use directory_name::{DirectoryName, NameList};
 pub use general_name::{GeneralName, read_general_name, write_general_name};
-pub use general_names::{
-    GeneralNames, SubjectAltName, read_subject_alt_name, write_subject_alt_name,
-};
+pub use general_names::GeneralNames;
 pub use grammars::Message;
 pub use key_identifier::{
     SubjectKeyIdentifier, read_subject_key_identifier, write_subject_key_identifier,
 };
 pub use key_usage::{KeyUsage, read_key_usage, write_key_usage};
+pub use other_name::{OtherName, OtherNameList};
 pub use purposes::{ExtKeyUsage, read_ext_key_usage, write_ext_key_usage};

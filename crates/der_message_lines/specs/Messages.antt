@@ -166,6 +166,10 @@ constraints_fields = parse_field flag (parse_field (optional Integer parse_natur
 abbrev pub text_name : ℕ → Parse
 text_name number = parse_tagged (primitive number) (parse_string 22)
 
+-- OtherName
+abbrev pub other_name_fields : ContentsParse
+other_name_fields = parse_field identifier (parse_field (parse_tagged (constructed 0) (alone parse_any)) parse_end)
+
 -- an alternative that is a SEQUENCE, of which the contents octets are kept
 abbrev pub kept_name : ℕ → Parse
 kept_name number = parse_tagged (constructed number) parse_octets
@@ -178,7 +182,7 @@ either first other tag = is_tag first tag || is_tag other tag
 abbrev pub first_names : Parse
 first_names =
     parse_one (either (constructed 0) (primitive 1)) (either (primitive 2) (constructed 3))
-    (parse_one (is_tag (constructed 0)) (is_tag (primitive 1)) (kept_name 0) (text_name 1))
+    (parse_one (is_tag (constructed 0)) (is_tag (primitive 1)) (parse_tagged (constructed 0) other_name_fields) (text_name 1))
     (parse_one (is_tag (primitive 2)) (is_tag (constructed 3)) (text_name 2) (kept_name 3))
 
 abbrev pub is_last_name : Tag → Bool

@@ -2,7 +2,7 @@
 
 use crate::hexadecimal::{push_digits, push_octet};
 use crate::identifiers::push_identifier;
-use crate::names::{push_escaped, push_malformed, push_places};
+use crate::names::{push_encoding, push_escaped, push_malformed, push_places};
 use der_extensions::{GeneralName, read_subject_alt_name, write_general_name};
 use der_fields::OneOf;
 use std::alloc::{AllocError, Global};
@@ -40,6 +40,12 @@ fn push_other_name(
     name: &GeneralName<'_>,
 ) -> Result<(), AllocError> {
     match name {
+        OneOf::First(OneOf::First(OneOf::First(other))) => {
+            text.push_str("other ")?;
+            push_identifier(alloc, text, other.value.type_id().as_bytes())?;
+            text.push(' ')?;
+            push_encoding(alloc, text, other.value.value())
+        }
         OneOf::First(OneOf::First(OneOf::Other(mail))) => {
             push_text(text, "mail ", mail.value.as_str())
         }
@@ -64,7 +70,7 @@ fn push_other_name(
     }
 }
 
-/// Adds a name of another kind: `#` and its encoding.
+/// Adds a name of a kind that is kept as it is encoded: `#` and its encoding.
 fn push_whole(alloc: Global, text: &mut String, name: &GeneralName<'_>) -> Result<(), AllocError> {
     text.push_str("other #")?;
     match write_general_name(alloc, name) {

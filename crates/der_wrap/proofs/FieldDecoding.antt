@@ -81,7 +81,7 @@ number_matched bits n m p constructed octets inner taken small e found =
     at (x ∷ xs) tag found =
         let t = class_tag bits constructed m in
         let h : has_number (class_of_bits bits) n t ≡ true = sym (ap answer (ap (match_read (class_of_bits bits) n) tag)) ∙ ap answer found in
-        eqb-true (number_of t) n (both (class_index (class_of t) == class_index (class_of_bits bits)) (number_of t == n) h).1
+        eqb-true (number_of t) n (and_parts (class_index (class_of t) == class_index (class_of_bits bits)) (number_of t == n) h).1
 
 module _ {T : Type 0} (F : form.Ghosts T) (bits n m p : ℕ) (mode : TagMode) (v : T) (own : Tag) (contents : List ℕ) (rules : EncodingRules) (octets : List ℕ) (taken : ℕ) (found : match_tag (class_of_bits bits) n p octets ≡ Ok true) (a : AcceptsExplicit F.accepts bits m mode v rules (take taken octets)) where
   -- the value that was decoded has the number that was looked for

@@ -105,7 +105,7 @@ fn shows_names_of_each_kind(rt: HostRuntime) -> Result<(), Fail> {
     let text = shown(rt.alloc(), Kind::Certificate, octets.as_slice())?;
     for line in [
         "(subjectAltName), 112 octets, host barley.example, directory C=SE, O=Barley, CN=Grain, ",
-        ", other #a025060a2b060104018237140203a0170c156d696c6c6572406261726c65792e6578616d706c65, ",
+        ", other 1.3.6.1.4.1.311.20.2.3 #0c156d696c6c6572406261726c65792e6578616d706c65, ",
         ", identifier 1.2.3.4\n",
     ] {
         assert_contains(&rt, text.as_str(), line);

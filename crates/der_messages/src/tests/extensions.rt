@@ -98,10 +98,37 @@ fn names_of_each_kind_are_written_back(rt: HostRuntime) -> Result<(), Fail> {
     let written = alternative_names_again(alloc, octets.as_slice())?;
     same(&rt, written.as_slice(), octets.as_slice());
     // otherName, x400Address, directoryName, ediPartyName and registeredID
-    for digits in ["a000", "a300", "a4023000", "a5028100", "88032a0304"] {
+    for digits in [
+        "a00b06032a0304a0040c026d61",
+        "a300",
+        "a4023000",
+        "a5028100",
+        "88032a0304",
+    ] {
         let octets = hex::decode(alloc, digits)?;
         let written = general_name_again(alloc, octets.as_slice())?;
         same(&rt, written.as_slice(), octets.as_slice());
+    }
+    Ok(())
+}
+
+#[test]
+fn other_names_have_their_fields_in_order(rt: HostRuntime) -> Result<(), Fail> {
+    let alloc = rt.alloc();
+    let rows = [
+        // no field, the identifier alone, the value behind no tag, and the tag with no value
+        ("a000", 2),
+        ("a00506032a0304", 2),
+        ("a00906032a03040c026d61", 4),
+        ("a00706032a0304a000", 2),
+        // two values, and a field too many
+        ("a00b06032a0304a00405000500", 3),
+        ("a00b06032a0304a00205000500", 3),
+    ];
+    for (digits, number) in rows {
+        let octets = hex::decode(alloc, digits)?;
+        let again = general_name_again(alloc, octets.as_slice());
+        same(&rt, again.err(), Some(number));
     }
     Ok(())
 }
@@ -184,8 +211,8 @@ fn names_have_their_kinds(rt: HostRuntime) -> Result<(), Fail> {
     let item = octets_of_name(alloc, &[0xa4, 0x06, 0x30, 0x04, 0x31, 0x02, 0x05, 0x00]);
     same(&rt, item.err(), Some(4));
     for (octets, number) in [
-        // otherName, which is neither
-        ([0xa0, 0x00], 0),
+        // x400Address, which is neither
+        ([0xa3, 0x00], 0),
         // a registered identifier of no octets, and a directory of no name
         ([0x88, 0x00], 15),
         ([0xa4, 0x00], 2),
