@@ -1,10 +1,10 @@
 //! Lists of fields whose tags are distinct (X.680 25.6).
 
 ghost use Rattle.std.specs.Prelude.{◌≡◌, List, [], Bool, true, ◌&&◌, Option, Some};
+ghost use Rattle.std.proofs.lemmas.Bool.{and_parts};
 ghost use Rattle.der_tlv.specs.declared.tag.Tag.{Tag};
 ghost use Rattle.der_elem.specs.KnownTags.{may_be};
 ghost use Rattle.der_fields.specs.DistinctTags.{first_known, is_told};
-ghost use Rattle.std.proofs.lemmas.Bool.{and_parts};
 ghost use Rattle.der_fields.specs.DistinctTagLaws.{told, first_is_known};
 
 use crate::end::End;

@@ -1,5 +1,5 @@
 -- The order of borrowed sets, pair by pair.
-use Rattle.std.proofs.Common.{◌≡◌, ◌≢◌, ℕ, zero, suc, ◌<◌, ◌≤◌, List, [], ◌∷◌, ◌++◌, length, drop, map, Bool, true, false, ◌||◌, Some, inl, inr, refl, sym, ap, ◌∙◌, arith, subst, Ordering}
+use Rattle.std.proofs.Common.{◌≡◌, ◌≢◌, ℕ, zero, suc, ◌≤◌, List, [], ◌∷◌, ◌++◌, length, drop, map, Bool, true, false, ◌||◌, Some, inl, inr, refl, sym, ap, ◌∙◌, arith, subst, Ordering}
 use Rattle.std.specs.List.{concat, list_any, slice_get}
 use Rattle.std.specs.declared.cmp.Ordering.TheVariants.{Less, Equal, Greater}
 use Rattle.std.specs.Ordering.{ordering_then}
