@@ -7,10 +7,10 @@ Edits of different functions are tried in one check: a function is proved from t
 not from their bodies. An edit is refused where the check says of the function that it changes that its own proof fails.
 Where it says only that a callee has no proof, the edit is tried again with others, and last alone; there any function may
 be the one that is refused, as under 'rt must-fail'. Before that, the functions that are edited, and no others, have to be
-proved as they stand; the checks begin with what that kept. TREE is a copy of the repository in which 'rt ci' builds the crates; without it, what 'rt check' has built is
-taken. FILE is what that 'rt ci' prints, where it is still at work: the edits of a crate are tried as soon as those below it
-are proved, at low priority, so that they fill what the proofs leave free. JOBS says how many crates are tried at a time, of
-which half wait for the end of 'rt ci'. The last line counts."""
+proved as they stand; the checks begin with what that kept. TREE is a copy of the repository in which 'rt ci' builds the
+crates; without it, what 'rt check' has built is taken. FILE is what that 'rt ci' prints, where it is still at work: the
+edits of a crate are tried as soon as those below it are proved, at low priority, so that they fill what the proofs leave
+free. JOBS says how many crates are tried at a time, of which half wait for the end of 'rt ci'. The last line counts."""
 import glob
 import os
 import re
@@ -178,8 +178,11 @@ class Edit:
         found = set()
         for name, of_type, of_trait in self.items:
             within = f"{self.crate.name}::{self.module}::"
-            # a method of a type's own stands with the type, whatever file its impl is in
-            found.add(f"{of_type}::{name}" if of_type and not of_trait else f"{within}{of_type}{of_trait}::{name}" if of_type else f"{within}{name}")
+            if of_type and not of_trait:
+                # a method of a type's own stands with the type, whatever file its impl is in
+                found.add(f"{of_type}::{name}")
+            else:
+                found.add(f"{within}{of_type}{of_trait}::{name}" if of_type else f"{within}{name}")
         return found or {self.module}
 
     def applied(self, text):
