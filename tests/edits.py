@@ -6,11 +6,12 @@
 Edits of different functions are tried in one check: a function is proved from the contracts of those that it calls, and
 not from their bodies. An edit is refused where the check says of the function that it changes that its own proof fails.
 Where it says only that a callee has no proof, the edit is tried again with others, and last alone; there any function may
-be the one that is refused, as under 'rt must-fail'. Before that, the functions that are edited, and no others, have to be
-proved as they stand; the checks begin with what that kept. TREE is a copy of the repository in which 'rt ci' builds the
-crates; without it, what 'rt check' has built is taken. FILE is what that 'rt ci' prints, where it is still at work: the
-edits of a crate are tried as soon as those below it are proved, at low priority, so that they fill what the proofs leave
-free. JOBS says how many crates are tried at a time, of which half wait for the end of 'rt ci'. The last line counts."""
+be the one that is refused, as under 'rt must-fail', and has to be proved without the edit. That all functions are proved as
+they stand is for 'rt ci' to show; here it has to be so of one of each crate first, so that checks which could prove
+nothing are found out. TREE is a copy of the repository in which 'rt ci' builds the crates; without it,
+what 'rt check' has built is taken. FILE is what that 'rt ci' prints, where it is still at work: the edits of a crate are
+tried as soon as those below it are proved, at low priority, so that they fill what the proofs leave free. JOBS says how
+many crates are tried at a time, of which half wait for the end of 'rt ci'. The last line counts."""
 import glob
 import os
 import re
@@ -52,6 +53,8 @@ class Crate:
         self.deps = [crates[it] for it in uses if it in crates]
         self.of_kit = ["std", *(it for it in uses if it not in crates and it != "std")]
         self.root = "src/main.rt" if os.path.isfile(f"{self.folder}/src/main.rt") else "src/lib.rt"
+        # by the names of functions as edits have them, those by which a check knows them
+        self.known_as = {}
 
     def below(self):
         found = []
@@ -81,8 +84,21 @@ class Crate:
             words += ["--only", path]
         return words
 
-    def check(self, texts, kept, only):
-        """What a check says of a copy of the crate with these texts in place of its own, and its status."""
+    def check(self, texts, kept, names):
+        """What a check says of the functions or modules of these names, or of the whole crate where there are none, in a copy
+        with these texts in place of its own."""
+        while True:
+            answer = self.run(texts, kept, sorted(set().union(*(self.known_as.get(it, {it}) for it in names))))
+            no_name, two_names = NO_NAME.search(answer.text), TWO_NAMES.search(answer.text)
+            told = (no_name or two_names)[1] if no_name or two_names else None
+            of = next((it for it in names if told in self.known_as.get(it, {it})), None)
+            if of is None:
+                return answer
+            others = set(re.findall(r"`([^`]*)`", two_names[2])) if two_names else {told.rpartition("::")[0]}
+            self.known_as[of] = self.known_as.get(of, {of}) - {told} | others
+
+    def run(self, texts, kept, only):
+        """What a check says, and its status."""
         with tempfile.TemporaryDirectory(prefix="edit-") as room:
             for part in ("src", "specs", "proofs"):
                 if os.path.isdir(f"{self.folder}/{part}"):
@@ -129,6 +145,9 @@ class Answer:
         lines = text.rstrip("\n").split("\n")
         self.judged = status in (0, 1) and lines[-1].startswith(("only=", "logic="))
         self.said = dict(STATUS.findall(text))
+
+    def proves(self):
+        return self.judged and self.status == 0
 
     def fails(self, path):
         said = self.said.get(path, "")
@@ -177,7 +196,7 @@ class Edit:
         """What to check: the functions that it changes, by the names or the ends of names of a check, else its module."""
         found = set()
         for name, of_type, of_trait in self.items:
-            within = f"{self.crate.name}::{self.module}::"
+            within = f"{self.crate.name}::{self.module}::" if self.path != self.crate.root else f"{self.crate.name}::"
             if of_type and not of_trait:
                 # a method of a type's own stands with the type, whatever file its impl is in
                 found.add(f"{of_type}::{name}")
@@ -281,7 +300,7 @@ def group_of(edits):
 
 def try_alone(edit, kept):
     """Tries an edit by itself, in its module and then in the whole crate, and says what is wrong with it, if anything."""
-    for only in ([edit.module], []) if edit.path != edit.crate.root else ([],):
+    for only in ({edit.module}, set()) if edit.path != edit.crate.root else (set(),):
         answer = edit.crate.check({edit.path: edit.alone}, kept, only)
         if not answer.judged:
             if only:
@@ -289,40 +308,29 @@ def try_alone(edit, kept):
             return "BAD EDIT: it did not reach the prover: " + answer.text[:300]
         if answer.unread():
             return f"BAD EDIT: the prover cannot read the edited text: {answer.unread()[:200]}"
-        failing = [it for it in answer.said if answer.fails(it)]
+        uncovered = [it for it in answer.said if answer.status == 1 and answer.uncovered(it)]
+        failing = [it for it in answer.said if answer.fails(it)] or uncovered
         if failing:
-            say(f"{edit.label}: refused, alone: {failing[0]}")
-            return None
-        if answer.status == 1 and any(answer.uncovered(it) for it in answer.said):
-            say(f"{edit.label}: refused, alone (only because the borrow checker does not cover what it writes)")
+            if not edit.crate.check({}, kept, set(failing[:1])).proves():
+                return f"NOT PROVED as it stands ({failing[0]}), so the edit shows nothing"
+            why = " (only because the borrow checker does not cover what it writes)" if failing == uncovered else ""
+            say(f"{edit.label}: refused, alone: {failing[0]}{why}")
             return None
     return "NOT REFUSED: the crate is still proved with this edit"
-
-
-def proved_as_it_stands(crate, kept, only):
-    """Whether the functions of these names are proved as they stand, and the names by which a check knows them."""
-    while True:
-        answer = crate.check({}, kept, sorted(only))
-        no_name, two_names = NO_NAME.search(answer.text), TWO_NAMES.search(answer.text)
-        if not (no_name or two_names):
-            return answer.judged and answer.status == 0, sorted(only)
-        told = (no_name or two_names)[1]
-        only = (only - {told}) | (set(re.findall(r"`([^`]*)`", two_names[2])) if two_names else {told.rpartition("::")[0]})
 
 
 def try_edits(crate, edits):
     """Tries the edits of a crate, and returns how many were refused, and how many not."""
     left = [it for it in edits if it.alone]
     faults = [(it, "BAD EDIT: a text of it does not stand just once in its file") for it in edits if not it.alone]
-    only = set().union(*(it.names() for it in left)) if all(it.path != crate.root for it in left) else set()
     with tempfile.TemporaryDirectory(prefix="edits-") as kept:
-        proved, only = proved_as_it_stands(crate, kept, only)
-        if not proved:
-            say(f"{crate.name}: NOT PROVED as it stands, so its edits show nothing")
+        sample = min(left, key=lambda it: len(it.source)).names() if left else set()
+        if not crate.check({}, kept, sample).proves():
+            say(f"{crate.name}: NOT PROVED as it stands ({', '.join(sample)}), so its edits show nothing")
             return 0, len(edits)
         taken, texts = group_of(left)
         while taken:
-            answer = crate.check(texts, kept, only)
+            answer = crate.check(texts, kept, set().union(*(it.names() for it in taken)))
             refused = []
             for edit in taken:
                 failing = [it for it in edit.candidates(answer.said) if answer.fails(it)]

@@ -1,5 +1,6 @@
 //! The tags of the messages' fields are distinct, as X.680 25.6 asks: the prover computes it at each
-//! call, and refuses a call at a message of which they are not.
+//! call, and refuses a call at a message of which they are not. Each message of which a field may be
+//! absent, and is not the last, has a function here, and so has the CHOICE Time.
 
 ghost use Rattle.std.specs.Prelude.{◌≡◌, true};
 
@@ -19,12 +20,32 @@ fn has_distinct_tags<F: DistinctTags>(_sequence: PhantomData<FieldSequence<F>>)
     distinct_tags_tell_fields::<F>();
 }
 
-/// The messages of which a field may be absent, and is not the last, and the CHOICE Time.
-pub fn messages_have_distinct_tags<'a>() {
+/// A TBSCertificate.
+pub fn tbs_certificate_has_distinct_tags<'a>() {
     has_distinct_tags(PhantomData::<TbsCertificate<'a>>);
+}
+
+/// A TBSCertList.
+pub fn tbs_cert_list_has_distinct_tags<'a>() {
     has_distinct_tags(PhantomData::<TbsCertList<'a>>);
+}
+
+/// An entry of a TBSCertList.
+pub fn revoked_certificate_has_distinct_tags<'a>() {
     has_distinct_tags(PhantomData::<RevokedCertificate<'a>>);
+}
+
+/// An ECPrivateKey.
+pub fn ec_private_key_has_distinct_tags<'a>() {
     has_distinct_tags(PhantomData::<EcPrivateKey<'a>>);
+}
+
+/// An AuthorityKeyIdentifier.
+pub fn authority_key_identifier_has_distinct_tags<'a>() {
     has_distinct_tags(PhantomData::<AuthorityKeyIdentifier<'a>>);
+}
+
+/// The CHOICE Time.
+pub fn time_has_distinct_tags() {
     distinct_tags_tell_alternatives::<UtcTime, GeneralizedTime>();
 }

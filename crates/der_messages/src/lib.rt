@@ -7,7 +7,11 @@
 
 mod distinct;
 
-pub use distinct::messages_have_distinct_tags;
+pub use distinct::{
+    authority_key_identifier_has_distinct_tags, ec_private_key_has_distinct_tags,
+    revoked_certificate_has_distinct_tags, tbs_cert_list_has_distinct_tags,
+    tbs_certificate_has_distinct_tags, time_has_distinct_tags,
+};
 
 #[cfg(test)]
 mod tests;
