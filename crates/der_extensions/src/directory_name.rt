@@ -1,13 +1,29 @@
 //! The name of a directory among names of other kinds (RFC 5280 section 4.2.1.6).
 
-ghost use Rattle.std.specs.Prelude.{◌≡◌, refl, true};
+ghost use Rattle.std.specs.Prelude.{◌≡◌, ◌++◌, [], ◌||◌, flat_map, refl, true, false};
+ghost use Rattle.std.specs.List.{list_any};
+ghost use Rattle.std.proofs.Common.{ap, sym, subst};
+ghost use Rattle.std.proofs.lemmas.Bool.{and_parts, and_from};
+ghost use Rattle.der_tlv.specs.declared.tag.Tag.TheVariants.{Sequence};
+ghost use Rattle.der_tlv.specs.HeaderOctets.{tlv};
+ghost use Rattle.der_elem.specs.Items.{OneForms};
+ghost use Rattle.der_elem.specs.TaggedLaws.{encoding_eq_tagged};
 ghost use Rattle.der_elem.specs.ValueForms.{held_form};
+ghost use Rattle.der_fields.specs.TellingLaws.{eq_both, tlv_apart};
+ghost use Rattle.der_pkix.specs.contracts.attribute.AttributeTypeAndValueContentsEq.TheImpl.Laws as attribute;
+ghost use Rattle.der_extensions.specs.NameLaws.{names_eq, names_copied};
 
-use der_elem::{DecodeValue, EncodeValue, FormValue, OneTag, SequenceTag};
-use der_fields::{DecodeFields, EncodeFields, End, ExplicitTag, Field, FieldList};
-use der_pkix::Name;
+use der_elem::{
+    ContentsEq, DecodeValue, DuplicateValue, EncodeValue, Form, FormValue, OneTag, SequenceTag,
+    ValueOrd,
+};
+use der_fields::{
+    DecodeFields, DuplicateFields, EncodeFields, End, ExplicitTag, Field, FieldList, FieldsOrd,
+};
+use der_pkix::{AttributeTypeAndValue, Name, RelativeDistinguishedName};
 use der_tlv::{Error, Header, Length, Source, Writer};
 use std::alloc::Global;
+use std::cmp::Ordering;
 use std::marker::PhantomData;
 
 /// The list of a name alone.
@@ -16,7 +32,7 @@ pub type NameList<'a> = Field<Name<'a>, End>;
 /// `[4] Name`, which is explicit, since a Name is a CHOICE (X.680 31.2.7).
 ///
 /// A struct, and no alias, so that what stands behind the tag costs a CHOICE of names nothing.
-#[derive(Debug, Drop)]
+#[derive(Debug, PartialEq, Eq, Drop)]
 pub struct DirectoryName<'a> {
     /// The name.
     pub fields: NameList<'a>,
@@ -74,4 +90,51 @@ impl<'a> EncodeValue for DirectoryName<'a> {
     fn encode_value<W: Writer>(&self, writer: &mut W) -> Result<(), Error> {
         self.fields.encode_fields(writer)
     }
+}
+
+impl<'a> ValueOrd for DirectoryName<'a> {
+    fn value_cmp(&self, other: &DirectoryName<'a>) -> Result<Ordering, Error> {
+        self.fields.cmp_fields(&other.fields)
+    }
+}
+
+impl<'a> ContentsEq for DirectoryName<'a> {
+    ghost contents_eq = { λ v w one.
+        let A = ⟦<AttributeTypeAndValue<'a> as FormValue>⟧.value in
+        let N = ⟦<Name<'a> as FormValue>⟧.value in
+        let first = encoding_eq_tagged Sequence N.contents N.comparable ⟦<Name<'a> as PartialEq>⟧.eq (λ v w. names_eq A.contents A.comparable ⟦<AttributeTypeAndValue<'a> as PartialEq>⟧.eq attribute.contents_eq-law v.items w.items) v.fields.first w.fields.first one.0 in
+        let fields = eq_both _ true _ _ [] [] first (λ _. refl, λ _. refl) (tlv_apart _ _ _ _ _ _) in
+        (λ h. fields.0 (and_parts _ _ h).0, λ e. and_from _ _ (fields.1 e) refl) };
+}
+
+impl<'a> DuplicateValue for DirectoryName<'a> {
+    ghost is_copy_value = { λ v w. ⟦<NameList<'a> as DuplicateFields>⟧.are_copies v.fields w.fields };
+
+    ghost takes_memory_to_copy_value = { true };
+
+    fn duplicate_value(&self) -> Result<DirectoryName<'a>, Error> {
+        match self.fields.duplicate_fields() {
+            Ok(fields) => Ok(DirectoryName {
+                fields,
+                attribute: PhantomData,
+            }),
+            Err(e) => Err(e),
+        }
+    }
+
+    ghost copy_contents = { λ v w c. ap
+        (λ name. tlv Sequence (flat_map ⟦<RelativeDistinguishedName<'a> as Form>⟧.encoding name) ++ [])
+        (names_copied v.fields.first.items w.fields.first.items c.0) };
+
+    ghost copy_form_value = { λ v w x c f. (
+      subst (λ name. OneForms ⟦<RelativeDistinguishedName<'a> as Form>⟧.comparable name x.fields.first.items)
+          (sym (names_copied v.fields.first.items w.fields.first.items c.0)) f.0,
+      f.1,
+      f.2,
+      f.3,
+    ) };
+
+    ghost copy_re_reads_value = { λ v w c. ap
+        (λ name. list_any ⟦<RelativeDistinguishedName<'a> as Form>⟧.re_reads name || false)
+        (names_copied v.fields.first.items w.fields.first.items c.0) };
 }

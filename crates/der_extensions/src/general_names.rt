@@ -14,8 +14,9 @@ use std::alloc::Global;
 /// GeneralNames ::= SEQUENCE OF GeneralName
 /// ```
 ///
-/// A struct, and no alias, so that the CHOICE of its items costs a message that has it nothing.
-#[derive(Debug, Drop)]
+/// A struct, and no alias, so that the CHOICE of its items costs a message that has it nothing. `==`
+/// is that of the names, one by one.
+#[derive(Debug, PartialEq, Eq, Drop)]
 pub struct GeneralNames<'a> {
     /// The names.
     pub names: Vec<GeneralName<'a>>,

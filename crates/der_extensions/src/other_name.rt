@@ -1,14 +1,25 @@
 //! A name of a form that another standard says, among names of other kinds (RFC 5280 section
 //! 4.2.1.6).
 
-ghost use Rattle.std.specs.Prelude.{◌≡◌, refl, false};
+ghost use Rattle.std.specs.Prelude.{◌≡◌, [], refl, false};
+ghost use Rattle.std.proofs.Common.{lit<};
+ghost use Rattle.der_elem.specs.TaggedLaws.{encoding_eq_tagged};
 ghost use Rattle.der_elem.specs.ValueForms.{held_form};
+ghost use Rattle.der_fields.specs.TellingLaws.{eq_both, tlv_apart};
+ghost use Rattle.der_opaque.specs.contracts.any_ref.AnyRefEncodingEq.TheImpl.Laws as any;
+ghost use Rattle.der_opaque.specs.contracts.object_identifier.ObjectIdentifierContentsEq.TheImpl.Laws as identifier;
 
-use der_elem::{DecodeValue, EncodeValue, FormValue, OneTag, SequenceTag};
-use der_fields::{DecodeFields, EncodeFields, End, Explicit, Field, FieldList};
+use der_elem::{
+    ContentsEq, CopyIsDuplicate, DecodeValue, EncodeValue, FormValue, OneTag, SequenceTag,
+    TagMarker, ValueOrd,
+};
+use der_fields::{
+    DecodeFields, EncodeFields, End, Explicit, ExplicitTag, Field, FieldList, FieldsOrd,
+};
 use der_opaque::{AnyRef, ObjectIdentifier};
 use der_tlv::{Error, Header, Length, Source, Writer};
 use std::alloc::Global;
+use std::cmp::Ordering;
 
 /// The list of the fields of a name of another form.
 pub type OtherNameList<'a> = Field<ObjectIdentifier<39>, Field<Explicit<AnyRef<'a>, 0>, End>>;
@@ -20,7 +31,7 @@ pub type OtherNameList<'a> = Field<ObjectIdentifier<39>, Field<Explicit<AnyRef<'
 /// ```
 ///
 /// A struct, and no alias, so that its fields cost a CHOICE of names nothing.
-#[derive(Clone, Copy, Debug)]
+#[derive(Clone, Copy, Debug, PartialEq, Eq)]
 pub struct OtherName<'a> {
     /// The fields.
     pub fields: OtherNameList<'a>,
@@ -78,3 +89,20 @@ impl<'a> EncodeValue for OtherName<'a> {
         self.fields.encode_fields(writer)
     }
 }
+
+impl<'a> ValueOrd for OtherName<'a> {
+    fn value_cmp(&self, other: &OtherName<'a>) -> Result<Ordering, Error> {
+        self.fields.cmp_fields(&other.fields)
+    }
+}
+
+impl<'a> ContentsEq for OtherName<'a> {
+    ghost contents_eq = { λ v w one.
+        let first = encoding_eq_tagged _ _ _ _ (identifier.contents_eq-law 39 (record { fits = lit< tt })) v.fields.first w.fields.first one.0 in
+        let E = ⟦<Explicit<AnyRef<'a>, 0> as FormValue>⟧.value in
+        let value = encoding_eq_tagged ⟦<ExplicitTag<2, 0> as TagMarker>⟧.TAG E.contents E.comparable ⟦<Explicit<AnyRef<'a>, 0> as PartialEq>⟧.eq (λ v w one. eq_both _ _ _ _ [] [] (any.encoding_eq-law v.fields.first w.fields.first one.0) (λ _. refl, λ _. refl) (tlv_apart _ _ _ _ _ _)) v.fields.rest.first w.fields.rest.first one.1.0 in
+        let rest = eq_both _ _ _ _ [] [] value (λ _. refl, λ _. refl) (tlv_apart _ _ _ _ _ _) in
+        eq_both _ _ _ _ _ _ first rest (tlv_apart _ _ _ _ _ _) };
+}
+
+impl<'a> CopyIsDuplicate for OtherName<'a> {}

@@ -1,6 +1,7 @@
 //! Messages that OpenSSL wrote, read and written back, and octets that are refused.
 
 mod choices;
+mod comparing;
 mod examples;
 mod extensions;
 mod keys;
@@ -8,7 +9,9 @@ mod names;
 mod revocation;
 mod time_stamps;
 
+use der_elem::{DerOrd, Duplicate};
 use der_tlv::Error;
+use std::cmp::Ordering;
 use std::fmt::Debug;
 use std::process::Abort;
 
@@ -35,5 +38,20 @@ pub(crate) fn numbered(written: Result<Vec<u8>, Error>) -> Result<Vec<u8>, u8> {
     match written {
         Ok(octets) => Ok(octets),
         Err(e) => Err(e.kind().number()),
+    }
+}
+
+// The order of two values, and whether they are equal.
+fn compared<T: DerOrd + PartialEq>(first: &T, second: &T) -> Result<(Ordering, bool), u8> {
+    match first.der_cmp(second) {
+        Ok(order) => Ok((order, first == second)),
+        Err(e) => Err(e.kind().number()),
+    }
+}
+
+fn is_copied<T: Duplicate + PartialEq>(value: &T) -> bool {
+    match value.duplicate() {
+        Ok(copy) => copy == *value,
+        Err(_) => false,
     }
 }

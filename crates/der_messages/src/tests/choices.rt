@@ -3,8 +3,8 @@
 
 ghost use Rattle.der_elem.specs.Decoding.{ReadsAll};
 
-use super::{holds, numbered, same, same_in};
-use der_elem::{DerOrd, Duplicate, Encode, Form, FromDer};
+use super::{compared, holds, is_copied, numbered, same, same_in};
+use der_elem::{Encode, Form, FromDer};
 use der_fields::{End, Field, FieldSequence, Implicit, OneOf};
 use der_opaque::OctetStringRef;
 use der_pkix::{Time, read_time};
@@ -27,21 +27,6 @@ fn time_of(alloc: Global, octets: &[u8]) -> Result<Time, u8> {
     match read_time(alloc, octets) {
         Ok(time) => Ok(time),
         Err(e) => Err(e.kind().number()),
-    }
-}
-
-// The order of two times, and whether they are equal.
-fn compared(first: &Time, second: &Time) -> Result<(Ordering, bool), u8> {
-    match first.der_cmp(second) {
-        Ok(order) => Ok((order, first == second)),
-        Err(e) => Err(e.kind().number()),
-    }
-}
-
-fn is_copied(time: &Time) -> bool {
-    match time.duplicate() {
-        Ok(copy) => copy == *time,
-        Err(_) => false,
     }
 }
 
