@@ -156,6 +156,9 @@ class Answer:
     def uncovered(self, path):
         return "the borrow checker does not cover" in self.said.get(path, "")
 
+    def wrong_files(self):
+        return re.findall(r"^(?:\./)?(src/\S+?):\d+:\d+: error", self.text, re.M)
+
     def unread(self):
         for line in self.text.split("\n"):
             at = re.match(r"(?:\./)?(?:src|specs)/\S+?:\d+:\d+: error: (?:(`[^`]*`): )?(.*)", line)
@@ -328,6 +331,7 @@ def try_edits(crate, edits):
         if not crate.check({}, kept, sample).proves():
             say(f"{crate.name}: NOT PROVED as it stands ({', '.join(sample)}), so its edits show nothing")
             return 0, len(edits)
+        spoilt = []
         taken, texts = group_of(left)
         while taken:
             answer = crate.check(texts, kept, set().union(*(it.names() for it in taken)))
@@ -337,8 +341,11 @@ def try_edits(crate, edits):
                 if answer.judged and failing and not answer.unread():
                     refused.append(edit)
                     say(f"{edit.label}: refused: {failing[0]}{WEAK if answer.only_names(failing[0]) else ''}")
+            # those in a file that does not compile are tried alone
+            stopped = [] if answer.judged else [it for it in taken if it.path in answer.wrong_files()]
+            spoilt += stopped
             left = [it for it in left if it not in refused]
-            taken, texts = group_of(left) if refused else ([], {})
+            taken, texts = group_of([it for it in left if it not in spoilt]) if refused or stopped else ([], {})
         for edit in left:
             why = try_alone(edit, kept)
             faults += [(edit, why)] if why else []
