@@ -1,10 +1,14 @@
 //! Equality of names of any kind, of lists of them, and of what names the key of an authority; copies
-//! of names.
+//! of names, and the order of those of which the kind has one.
 
-use super::{is_copied, same_in};
-use der_elem::EncodingEq;
-use der_extensions::{read_authority_key_identifier, read_general_name, read_subject_alt_name};
+use super::{compared, is_copied, same, same_in};
+use der_elem::{EncodingEq, FromDer};
+use der_extensions::{
+    DirectoryName, OtherName, read_authority_key_identifier, read_general_name,
+    read_subject_alt_name,
+};
 use std::alloc::Global;
+use std::cmp::Ordering;
 use std::process::Abort;
 use std::test::Fail;
 
@@ -20,6 +24,34 @@ fn names_compared(alloc: Global, first: &[u8], second: &[u8]) -> Result<(bool, b
         read_general_name(alloc, second),
     ) {
         (Ok(first), Ok(second)) => Ok((are_equal(&first, &second), is_copied(&first))),
+        (Err(e), _) => Err(e.kind().number()),
+        (Ok(_), Err(e)) => Err(e.kind().number()),
+    }
+}
+
+// The order of two directory's names, and whether they are equal.
+fn directories_compared(
+    alloc: Global,
+    first: &[u8],
+    second: &[u8],
+) -> Result<(Ordering, bool), u8> {
+    match (
+        DirectoryName::from_der(alloc, first),
+        DirectoryName::from_der(alloc, second),
+    ) {
+        (Ok(first), Ok(second)) => compared(&first, &second),
+        (Err(e), _) => Err(e.kind().number()),
+        (Ok(_), Err(e)) => Err(e.kind().number()),
+    }
+}
+
+// The same of two names of other forms.
+fn others_compared(alloc: Global, first: &[u8], second: &[u8]) -> Result<(Ordering, bool), u8> {
+    match (
+        OtherName::from_der(alloc, first),
+        OtherName::from_der(alloc, second),
+    ) {
+        (Ok(first), Ok(second)) => compared(&first, &second),
         (Err(e), _) => Err(e.kind().number()),
         (Ok(_), Err(e)) => Err(e.kind().number()),
     }
@@ -102,5 +134,30 @@ fn authorities_are_compared(rt: HostRuntime) -> Result<(), Fail> {
             same_in(&rt, &(at, place), found, Ok(at == place));
         }
     }
+    Ok(())
+}
+
+#[test]
+fn directories_have_an_order(rt: HostRuntime) -> Result<(), Fail> {
+    let alloc = rt.alloc();
+    // C=SE and C=DE
+    let one = hex::decode(alloc, "a40f300d310b3009060355040613025345")?;
+    let other = hex::decode(alloc, "a40f300d310b3009060355040613024445")?;
+    let found = directories_compared(alloc, one.as_slice(), other.as_slice());
+    same(&rt, found, Ok((Ordering::Greater, false)));
+    let found = directories_compared(alloc, one.as_slice(), one.as_slice());
+    same(&rt, found, Ok((Ordering::Equal, true)));
+    Ok(())
+}
+
+#[test]
+fn other_names_have_an_order(rt: HostRuntime) -> Result<(), Fail> {
+    let alloc = rt.alloc();
+    let one = hex::decode(alloc, "300906032a0304a0020500")?;
+    let other = hex::decode(alloc, "300906032a0305a0020500")?;
+    let found = others_compared(alloc, one.as_slice(), other.as_slice());
+    same(&rt, found, Ok((Ordering::Less, false)));
+    let found = others_compared(alloc, one.as_slice(), one.as_slice());
+    same(&rt, found, Ok((Ordering::Equal, true)));
     Ok(())
 }
