@@ -1,4 +1,4 @@
-//! Messages that OpenSSL wrote, whole, cut short and with octets behind them.
+//! Messages that OpenSSL wrote, whole, cut short and with octets after them.
 
 mod examples;
 mod faults;
@@ -70,7 +70,7 @@ fn shows_a_key_of_rsa(rt: HostRuntime) -> Result<(), Fail> {
 }
 
 #[test]
-fn refuses_octets_behind(rt: HostRuntime) -> Result<(), Fail> {
+fn refuses_octets_after(rt: HostRuntime) -> Result<(), Fail> {
     let mut octets = hex::decode(rt.alloc(), ED25519)?;
     octets.push(0)?;
     let (result, written) = written(rt.alloc(), octets.as_slice());

@@ -10,6 +10,6 @@ use Rattle.der_ascii.specs.Characters.{string_tag, parse_string}
 abbrev pub octets_of : {number : ℕ} → CharacterStringRef number → List ℕ
 octets_of string = string.text.now
 
--- what decoding contents octets behind a tag as characters of the type with a universal number answers
+-- what decoding contents octets after a tag as characters of the type with a universal number answers
 abbrev pub DecodesCharacters : (number : ℕ) → Tag → List ℕ → Result (CharacterStringRef number) Error → Type 0
 DecodesCharacters number = DecodesOwnAs (string_tag number) octets_of (λ string. Unit {0}) (parse_string number)

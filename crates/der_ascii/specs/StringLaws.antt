@@ -1,8 +1,10 @@
 -- The laws of strings of characters.
-use Rattle.std.proofs.Common.{◌≡◌, ℕ, List, Bool, true, false, Ok, refl, ap, ◌∙◌, lit<, ◌==◌, if◌then◌else◌}
+use Rattle.std.proofs.Common.{◌≡◌, ℕ, List, Bool, true, false, Ok, refl, ap, ◌∙◌, lit<, ◌==◌, if◌then◌else◌, Err}
 use Rattle.der_tlv.specs.declared.encoding_rules.EncodingRules.{EncodingRules}
 use Rattle.der_tlv.specs.declared.tag.Tag.TheVariants.{PrintableString, TeletexString, VideotexString, Ia5String}
 use Rattle.der_tlv.specs.TagParts.{IsTag}
+use Rattle.der_tlv.specs.declared.error.ErrorKind.TheVariants as kinds
+use Rattle.der_tlv.specs.OctetFaults.{IsOfOctets, of_octets_either}
 use Rattle.der_ascii.specs.Characters.{are_characters, string_tag, parse_string}
 
 -- characters are parsed as they are
@@ -18,3 +20,7 @@ string_tag-in_range number = at (number == 19) (number == 20) (number == 21)
     at false true c = lit< tt
     at false false true = lit< tt
     at false false false = lit< tt
+
+-- the faults are of the octets
+pub characters_of_octets : (number : ℕ) (rules : EncodingRules) (p : ℕ) (octets : List ℕ) → IsOfOctets (parse_string number rules p octets)
+characters_of_octets number rules p octets = of_octets_either (are_characters number octets) (Ok octets) (Err (kinds.Value (string_tag number))) tt refl

@@ -4,15 +4,12 @@
 //! type (`ErrorKind::Value`, 13), and then where memory runs out (`ErrorKind::Memory`, 1).
 
 ghost use Rattle.std.specs.Prelude.{◌≡◌, ◌↔◌, ◌^◌, ◌<◌, [], Some, length, true, refl, IsTrue};
+ghost use Rattle.std.proofs.Common.{sym};
 ghost use Rattle.std.specs.Cmp.Lexicographic.{bytes_decides};
 ghost use Rattle.std.specs.String.{string_bytes};
-ghost use Rattle.der_tlv.specs.ReaderState.{rest};
-ghost use Rattle.der_tlv.specs.Reading.{Stands};
-ghost use Rattle.der_elem.specs.Decoding.{DecodesValue};
-ghost use Rattle.der_elem.specs.RunningOut.{FaultsFirst};
-ghost use Rattle.der_elem.specs.ValueForms.{owned_form};
+ghost use Rattle.der_elem.specs.FormatMakers.{allocating_format};
 ghost use Rattle.der_ascii.specs.Characters.{are_characters, string_tag, parse_string, KeepsOwnedString, KeepsString};
-ghost use Rattle.der_ascii.specs.StringLaws.{parse_of_characters};
+ghost use Rattle.der_ascii.specs.StringLaws.{parse_of_characters, characters_of_octets};
 ghost use Rattle.der_opaque.specs.AnyRef as borrowed_any;
 ghost use Rattle.der_ascii.specs.CharacterStringRef as borrowed;
 
@@ -20,7 +17,8 @@ use crate::characters::{are_characters, string_tag};
 use crate::string_ref::CharacterStringRef;
 use crate::string_tag::CharacterStringTag;
 use der_elem::{
-    ContentsEq, DecodeValue, DuplicateValue, EncodeValue, FormValue, OneTag, OrdIsValueOrd, Tagged,
+    ContentsEq, DecodeValue, DuplicateValue, DuplicateValueIsEqual, EncodeValue, FormValue, OneTag,
+    OrdIsValueOrd, Tagged,
 };
 use der_opaque::AnyRef;
 use der_tlv::{Error, Header, Length, Reader, Source, Writer};
@@ -119,7 +117,7 @@ impl<const NUMBER: u8> fmt::Debug for CharacterString<NUMBER> {
 impl<const NUMBER: u8> FormValue for CharacterString<NUMBER> {
     ghost use Rattle.der_ascii.specs.CharacterString.{octets_of};
 
-    ghost value = { owned_form octets_of (parse_string NUMBER) (λ rules v p. parse_of_characters NUMBER rules p (string_bytes v.text) (string_bytes v.text) v.characters refl) };
+    ghost value = { allocating_format octets_of (parse_string NUMBER) (λ rules v p. parse_of_characters NUMBER rules p (string_bytes v.text) (string_bytes v.text) v.characters refl) (characters_of_octets NUMBER) };
 }
 
 impl<const NUMBER: u8> OneTag for CharacterString<NUMBER> {
@@ -127,11 +125,9 @@ impl<const NUMBER: u8> OneTag for CharacterString<NUMBER> {
 }
 
 impl<'a, R: Source<'a>, const NUMBER: u8> DecodeValue<'a, R> for CharacterString<NUMBER> {
-    ghost VALUE_NEEDS_MEMORY = { true };
+    ghost TAKES_MEMORY = { true };
 
-    const VALUE_NEEDS_MEMORY: bool = true;
-
-    ghost use Rattle.der_ascii.specs.contracts.string.CharacterStringFormValue.TheImpl as string;
+    const TAKES_MEMORY: bool = true;
 
     /// # Errors
     /// (17) on a failed reader; octets that are no characters (13); else (1) where memory runs out.
@@ -139,11 +135,7 @@ impl<'a, R: Source<'a>, const NUMBER: u8> DecodeValue<'a, R> for CharacterString
         alloc: Global,
         reader: &mut R,
         header: Header,
-    ) -> Result<CharacterString<NUMBER>, Error>
-        ensures exact { length (rest (R.state reader.old)) ≡ header.length → DecodesValue (string.ghosts NUMBER.row).value header (R.state reader.old) (R.state reader.new) result }
-        ensures reader { Stands (R.state reader.old) (R.state reader.new) result }
-        ensures faults_first { length (rest (R.state reader.old)) ≡ header.length → FaultsFirst (parse_string NUMBER) (R.state reader.old) result }
-    {
+    ) -> Result<CharacterString<NUMBER>, Error> {
         match CharacterStringRef::<NUMBER>::decode_value(alloc, reader, header) {
             Ok(string) => match string.ref_to_owned(alloc) {
                 Ok(string) => Ok(string),
@@ -153,7 +145,7 @@ impl<'a, R: Source<'a>, const NUMBER: u8> DecodeValue<'a, R> for CharacterString
         }
     }
 
-    ghost memory_of_value = { refl };
+    ghost takes_memory_is = { refl };
 }
 
 impl<const NUMBER: u8> EncodeValue for CharacterString<NUMBER> {
@@ -185,9 +177,13 @@ impl<const NUMBER: u8> DuplicateValue for CharacterString<NUMBER> {
 
     ghost copy_contents = { λ v w e. e };
 
-    ghost copy_form_value = { λ v w x e f. tt };
+    ghost copy_comparable_value = { λ v w x e f. tt };
 
     ghost copy_re_reads_value = { λ v w e. refl };
+}
+
+impl<const NUMBER: u8> DuplicateValueIsEqual for CharacterString<NUMBER> {
+    ghost copy_value_is_equal = { λ v w e. (bytes_decides (string_bytes v.text) (string_bytes w.text)).1 (sym e) };
 }
 
 impl<'a, const NUMBER: u8> From<&'a CharacterString<NUMBER>> for CharacterStringRef<'a, NUMBER> {

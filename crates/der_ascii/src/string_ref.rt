@@ -6,9 +6,9 @@
 ghost use Rattle.std.specs.Prelude.{◌≡◌, ◌↔◌, ◌^◌, ◌<◌, [], Some, length, true, refl, IsTrue, IfOk, IfErr, false};
 ghost use Rattle.std.specs.Cmp.Lexicographic.{bytes_decides};
 ghost use Rattle.der_tlv.specs.declared.error.ErrorKind.TheVariants as kinds;
-ghost use Rattle.der_elem.specs.ValueForms.{own_form};
+ghost use Rattle.der_elem.specs.FormatMakers.{format_of_contents};
 ghost use Rattle.der_ascii.specs.Characters.{are_characters, string_tag, parse_string, KeepsString};
-ghost use Rattle.der_ascii.specs.StringLaws.{parse_of_characters};
+ghost use Rattle.der_ascii.specs.StringLaws.{parse_of_characters, characters_of_octets};
 ghost use Rattle.der_opaque.specs.Any as owned_any;
 ghost use Rattle.der_opaque.specs.AnyRef as borrowed_any;
 
@@ -111,7 +111,7 @@ impl<'a, const NUMBER: u8> fmt::Debug for CharacterStringRef<'a, NUMBER> {
 impl<'a, const NUMBER: u8> FormValue for CharacterStringRef<'a, NUMBER> {
     ghost use Rattle.der_ascii.specs.CharacterStringRef.{octets_of};
 
-    ghost value = { own_form octets_of (parse_string NUMBER) (λ rules v p. parse_of_characters NUMBER rules p v.text.now v.text.now v.characters refl) };
+    ghost value = { format_of_contents octets_of (parse_string NUMBER) (λ rules v p. parse_of_characters NUMBER rules p v.text.now v.text.now v.characters refl) (characters_of_octets NUMBER) };
 }
 
 impl<'a, const NUMBER: u8> OneTag for CharacterStringRef<'a, NUMBER> {
@@ -119,9 +119,9 @@ impl<'a, const NUMBER: u8> OneTag for CharacterStringRef<'a, NUMBER> {
 }
 
 impl<'a, R: Source<'a>, const NUMBER: u8> DecodeValue<'a, R> for CharacterStringRef<'a, NUMBER> {
-    ghost VALUE_NEEDS_MEMORY = { false };
+    ghost TAKES_MEMORY = { false };
 
-    const VALUE_NEEDS_MEMORY: bool = false;
+    const TAKES_MEMORY: bool = false;
 
     fn decode_value(
         _alloc: Global,
@@ -135,7 +135,7 @@ impl<'a, R: Source<'a>, const NUMBER: u8> DecodeValue<'a, R> for CharacterString
         }
     }
 
-    ghost memory_of_value = { refl };
+    ghost takes_memory_is = { refl };
 }
 
 impl<'a, const NUMBER: u8> EncodeValue for CharacterStringRef<'a, NUMBER> {

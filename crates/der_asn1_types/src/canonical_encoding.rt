@@ -20,7 +20,7 @@ pub fn canonical<'a, T: FromDer<'a> + Encode>(
     octets: &'a [u8],
 ) -> Result<Vec<u8>, Error>
     ensures encoding { Gives result (parse_all T.parse octets.now) }
-    ensures refused { IfErr result (λ e. NotGiven T.TAKES_MEMORY (parse_all T.parse octets.now) e.kind) }
+    ensures refused { IfErr result (λ e. NotGiven T.Form.TAKES_MEMORY (parse_all T.parse octets.now) e.kind) }
     ensures value { IfOk result (λ encoding. EncodingOfRead T.Form octets.now encoding.items) }
     ensures canonical { IfOk result (λ encoding.
         parse_all T.parse encoding.items ≡ Ok encoding.items) }

@@ -12,6 +12,9 @@
 
 pub mod asn1;
 mod canonical_encoding;
+pub mod contents;
+pub mod fields;
+pub mod items;
 pub mod laws;
 
 pub use canonical_encoding::canonical;
@@ -26,9 +29,10 @@ pub use der_elem::{
 };
 pub use der_fields::{
     DefaultFalse, DefaultNumber, DefaultOf, DistinctTags, End, Explicit, ExplicitApplication,
-    ExplicitIn, ExplicitPrivate, Field, FieldList, FieldSequence, Implicit, ImplicitApplication,
-    ImplicitIn, ImplicitPrivate, NamedFields, NamedSequence, OneOf, WithDefault,
-    read_named_sequence, read_sequence, write_named_sequence, write_sequence,
+    ExplicitIn, ExplicitPrivate, Field, FieldList, FieldSequence, Fields1, Fields2, Fields3,
+    Fields4, Fields5, Fields6, Fields7, Fields8, Implicit, ImplicitApplication, ImplicitIn,
+    ImplicitPrivate, NamedFields, NamedSequence, OneOf, WithDefault, read_named_sequence,
+    read_sequence, write_named_sequence, write_sequence,
 };
 pub use der_nest::Asks;
 pub use der_time::{DateTime, const_contains_u8};

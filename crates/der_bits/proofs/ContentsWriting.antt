@@ -18,6 +18,6 @@ module _ (first : ℕ) (octets : List ℕ) where
       refused_within (wrote_nothing old) (first ∷ octets) (first ∷ []) octets refl refused
 
   -- it was written, and then the others, or not all of them
-  pub write_behind : {A : Type 0} (old mid new : WriterState) (r : Result A Error) → Wrote (first ∷ []) old mid → Writes octets mid new r → Encodes (first ∷ octets) false old new r
-  write_behind old mid new r written w =
+  pub write_after : {A : Type 0} (old mid new : WriterState) (r : Result A Error) → Wrote (first ∷ []) old mid → Writes octets mid new r → Encodes (first ∷ octets) false old new r
+  write_after old mid new r written w =
       last_part written (first ∷ octets) octets refl false false (λ h. h) new r (write_all octets mid new r w)

@@ -11,6 +11,6 @@ use Rattle.der_bits.specs.BitString.{parse_bit_string}
 abbrev pub contents_of : BitStringRef → List ℕ
 contents_of string = string.unused ∷ string.octets.now
 
--- what decoding contents octets behind a tag as a BIT STRING answers
+-- what decoding contents octets after a tag as a BIT STRING answers
 abbrev pub DecodesBitString : Tag → List ℕ → Result BitStringRef Error → Type 0
 DecodesBitString = DecodesOwnAs tags.BitString contents_of (λ string. Unit {0}) parse_bit_string

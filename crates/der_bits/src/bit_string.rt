@@ -3,19 +3,15 @@
 //! The tag is 03. The contents octets, and what reading refuses, are those of the borrowed form.
 
 ghost use Rattle.std.specs.Prelude.{◌≡◌, ◌≢◌, ◌↔◌, MatchOption, ◌^◌, ◌<◌, ◌≤◌, [], ◌∷◌, length, true, refl, IsTrue, IfOk, IfErr, Some, None};
-ghost use Rattle.std.proofs.Common.{◌∙◌};
+ghost use Rattle.std.proofs.Common.{◌∙◌, sym};
 ghost use Rattle.std.specs.Cmp.{on_per, on_equiv, on_total, partial_equiv_from_equiv};
 ghost use Rattle.std.specs.Cmp.Lexicographic.{nat_list_cmp_total, texts_ties};
 ghost use Rattle.der_tlv.specs.declared.error.ErrorKind.TheVariants as kinds;
 ghost use Rattle.der_tlv.specs.declared.tag.Tag.TheVariants as tags;
 ghost use Rattle.der_tlv.specs.Octets.{lex};
-ghost use Rattle.der_tlv.specs.ReaderState.{rest};
-ghost use Rattle.der_tlv.specs.Reading.{Stands};
-ghost use Rattle.der_elem.specs.Decoding.{DecodesValue};
-ghost use Rattle.der_elem.specs.RunningOut.{FaultsFirst};
-ghost use Rattle.der_elem.specs.ValueForms.{owned_form};
+ghost use Rattle.der_elem.specs.FormatMakers.{allocating_format};
 ghost use Rattle.der_bits.specs.BitString.{AreOctets, can_be_unused, are_zero, parse_bit_string, unused_count, bit_octets, bit_count, bit, bits, same_bits, KeepsBits, KeepsCleared};
-ghost use Rattle.der_bits.specs.BitStringLaws.{parse_of_bits};
+ghost use Rattle.der_bits.specs.BitStringLaws.{parse_of_bits, bits_of_octets};
 ghost use Rattle.der_bits.specs.EqualBitsLaws.{same_tests, contents_decided, bit_lists_equiv, bits_po};
 ghost use Rattle.der_bits.specs.BitStringRef as borrowed;
 
@@ -23,7 +19,8 @@ use crate::bit_string_iter::BitStringIter;
 use crate::bit_string_ref::BitStringRef;
 use crate::unused_bits::{are_zero, can_be_unused, clear};
 use der_elem::{
-    BitStringTag, ContentsEq, DecodeValue, DuplicateValue, EncodeValue, FormValue, OneTag, ValueOrd,
+    BitStringTag, ContentsEq, DecodeValue, DuplicateValue, DuplicateValueIsEqual, EncodeValue,
+    FormValue, OneTag, ValueOrd,
 };
 use der_tlv::{Error, Header, Length, Reader, Source, Tag, Writer};
 use std::alloc::{AllocError, Global};
@@ -203,7 +200,7 @@ impl Clone for BitString {
 impl FormValue for BitString {
     ghost use Rattle.der_bits.specs.OwnedBitString.{contents_of};
 
-    ghost value = { owned_form contents_of parse_bit_string (λ rules v p. parse_of_bits v.unused v.octets.items v.possible v.zero rules p (v.unused ∷ v.octets.items) refl) };
+    ghost value = { allocating_format contents_of parse_bit_string (λ rules v p. parse_of_bits v.unused v.octets.items v.possible v.zero rules p (v.unused ∷ v.octets.items) refl) bits_of_octets };
 }
 
 impl OneTag for BitString {
@@ -211,20 +208,14 @@ impl OneTag for BitString {
 }
 
 impl<'a, R: Source<'a>> DecodeValue<'a, R> for BitString {
-    ghost VALUE_NEEDS_MEMORY = { true };
+    ghost TAKES_MEMORY = { true };
 
-    const VALUE_NEEDS_MEMORY: bool = true;
-
-    ghost use Rattle.der_bits.specs.contracts.bit_string.BitStringFormValue.TheImpl.{ghosts as bit_string};
+    const TAKES_MEMORY: bool = true;
 
     /// # Errors
     /// (17) on a failed reader; the first fault of the contents octets; else (1) where memory runs
     /// out.
-    fn decode_value(alloc: Global, reader: &mut R, header: Header) -> Result<BitString, Error>
-        ensures exact { length (rest (R.state reader.old)) ≡ header.length → DecodesValue bit_string.value header (R.state reader.old) (R.state reader.new) result }
-        ensures reader { Stands (R.state reader.old) (R.state reader.new) result }
-        ensures faults_first { length (rest (R.state reader.old)) ≡ header.length → FaultsFirst parse_bit_string (R.state reader.old) result }
-    {
+    fn decode_value(alloc: Global, reader: &mut R, header: Header) -> Result<BitString, Error> {
         match BitStringRef::decode_value(alloc, reader, header) {
             Ok(string) => match string.ref_to_owned(alloc) {
                 Ok(string) => Ok(string),
@@ -234,7 +225,7 @@ impl<'a, R: Source<'a>> DecodeValue<'a, R> for BitString {
         }
     }
 
-    ghost memory_of_value = { refl };
+    ghost takes_memory_is = { refl };
 }
 
 impl EncodeValue for BitString {
@@ -321,9 +312,15 @@ impl DuplicateValue for BitString {
 
     ghost copy_contents = { λ v w e. e };
 
-    ghost copy_form_value = { λ v w x e f. tt };
+    ghost copy_comparable_value = { λ v w x e f. tt };
 
     ghost copy_re_reads_value = { λ v w e. refl };
+}
+
+impl DuplicateValueIsEqual for BitString {
+    ghost copy_value_is_equal = { λ v w e. (contents_decided (v.unused ∷ v.octets.items) (w.unused ∷ w.octets.items)
+        (same_tests v.unused w.unused v.octets.items w.octets.items v.possible v.zero w.possible
+        w.zero v.octet w.octet)).1 (sym e) };
 }
 
 impl<'a> From<&'a BitString> for BitStringRef<'a> {

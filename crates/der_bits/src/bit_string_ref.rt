@@ -15,9 +15,9 @@ ghost use Rattle.std.specs.Cmp.Lexicographic.{nat_list_cmp_total, texts_ties};
 ghost use Rattle.der_tlv.specs.declared.error.ErrorKind.TheVariants as kinds;
 ghost use Rattle.der_tlv.specs.declared.tag.Tag.TheVariants as tags;
 ghost use Rattle.der_tlv.specs.Octets.{lex};
-ghost use Rattle.der_elem.specs.ValueForms.{own_form};
+ghost use Rattle.der_elem.specs.FormatMakers.{format_of_contents};
 ghost use Rattle.der_bits.specs.BitString.{AreOctets, can_be_unused, are_zero, parse_bit_string, unused_count, bit_octets, bit_count, bit, bits, same_bits, KeepsBits, KeepsAll, ParsedAs, FillsArray};
-ghost use Rattle.der_bits.specs.BitStringLaws.{parse_of_bits};
+ghost use Rattle.der_bits.specs.BitStringLaws.{parse_of_bits, bits_of_octets};
 ghost use Rattle.der_bits.specs.EqualBitsLaws.{same_tests, contents_decided, bit_lists_equiv, bits_po};
 ghost use Rattle.der_opaque.specs.Any as owned_any;
 ghost use Rattle.der_opaque.specs.AnyRef as borrowed_any;
@@ -219,7 +219,7 @@ impl<'a> BitStringRef<'a> {
 impl<'a> FormValue for BitStringRef<'a> {
     ghost use Rattle.der_bits.specs.BitStringRef.{contents_of};
 
-    ghost value = { own_form contents_of parse_bit_string (λ rules v p. parse_of_bits v.unused v.octets.now v.possible v.zero rules p (v.unused ∷ v.octets.now) refl) };
+    ghost value = { format_of_contents contents_of parse_bit_string (λ rules v p. parse_of_bits v.unused v.octets.now v.possible v.zero rules p (v.unused ∷ v.octets.now) refl) bits_of_octets };
 }
 
 impl<'a> OneTag for BitStringRef<'a> {
@@ -227,9 +227,9 @@ impl<'a> OneTag for BitStringRef<'a> {
 }
 
 impl<'a, R: Source<'a>> DecodeValue<'a, R> for BitStringRef<'a> {
-    ghost VALUE_NEEDS_MEMORY = { false };
+    ghost TAKES_MEMORY = { false };
 
-    const VALUE_NEEDS_MEMORY: bool = false;
+    const TAKES_MEMORY: bool = false;
 
     fn decode_value(
         _alloc: Global,
@@ -243,7 +243,7 @@ impl<'a, R: Source<'a>> DecodeValue<'a, R> for BitStringRef<'a> {
         }
     }
 
-    ghost memory_of_value = { refl };
+    ghost takes_memory_is = { refl };
 }
 
 impl<'a> EncodeValue for BitStringRef<'a> {

@@ -1,18 +1,15 @@
 //! Certificates (RFC 5280 section 4.1).
 
-ghost use Rattle.der_elem.specs.Decoding.{ReadsAll};
-ghost use Rattle.der_fields.specs.SequenceWriting.{WritesAll};
+ghost use Rattle.der_asn1_types.specs.Decoding.{ReadsAll};
+ghost use Rattle.der_asn1_types.specs.SequenceWriting.{WritesAll};
 ghost use Rattle.der_certificate.specs.Grammars.{tbs_certificate};
 
-use der_bits::BitStringRef;
-use der_fields::{
-    DefaultNumber, End, Explicit, Field, FieldSequence, Implicit, WithDefault, read_sequence,
-    write_sequence,
+use der_asn1_types::asn1::{AnyRef, BitStringRef, IntRef};
+use der_asn1_types::{
+    DefaultNumber, End, Error, Explicit, Field, FieldSequence, Implicit, WithDefault,
+    read_sequence, write_sequence,
 };
-use der_numbers::IntRef;
-use der_opaque::AnyRef;
 use der_pkix::{AlgorithmIdentifier, Extension, SubjectPublicKeyInfo, Validity};
-use der_tlv::Error;
 use std::alloc::Global;
 
 /// What is signed of a certificate. Names are kept as they are encoded.

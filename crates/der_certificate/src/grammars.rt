@@ -1,10 +1,10 @@
 //! The grammars of the messages, by the names that clauses cite (`specs/Grammars.antt`).
 
-ghost use Rattle.der_elem.specs.declared.form.Form as form;
+ghost use Rattle.der_asn1_types.specs.Form as form;
 
 use crate::certificate::TbsCertificate;
 use crate::signed::Certificate;
-use der_elem::Form;
+use der_asn1_types::Form;
 
 /// A message: a type whose grammar has a name.
 pub trait Message: Sized {

@@ -1,14 +1,12 @@
 //! Signed certificates (RFC 5280 section 4.1).
 
-ghost use Rattle.der_elem.specs.Decoding.{ReadsAll};
-ghost use Rattle.der_fields.specs.SequenceWriting.{WritesAll};
+ghost use Rattle.der_asn1_types.specs.Decoding.{ReadsAll};
+ghost use Rattle.der_asn1_types.specs.SequenceWriting.{WritesAll};
 ghost use Rattle.der_certificate.specs.Grammars.{certificate};
 
-use der_bits::BitStringRef;
-use der_fields::{End, Field, FieldSequence, read_sequence, write_sequence};
-use der_opaque::AnyRef;
+use der_asn1_types::asn1::{AnyRef, BitStringRef};
+use der_asn1_types::{End, Error, Field, FieldSequence, read_sequence, write_sequence};
 use der_pkix::AlgorithmIdentifier;
-use der_tlv::Error;
 use std::alloc::Global;
 
 /// A certificate with its signature, which nothing here verifies. What is signed is kept as it is

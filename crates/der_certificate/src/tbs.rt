@@ -3,10 +3,8 @@
 ghost use Rattle.std.specs.Prelude.{◌≡◌};
 
 use crate::certificate::TbsCertificate;
-use der_bits::BitStringRef;
-use der_fields::{Explicit, Implicit};
-use der_numbers::IntRef;
-use der_opaque::AnyRef;
+use der_asn1_types::asn1::{AnyRef, BitStringRef, IntRef};
+use der_asn1_types::{Explicit, Implicit};
 use der_pkix::{AlgorithmIdentifier, Extension, SubjectPublicKeyInfo, Validity};
 
 /// `version`: 0 for v1, which is the default, 1 for v2, 2 for v3.

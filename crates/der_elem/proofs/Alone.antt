@@ -1,17 +1,18 @@
 -- Octets that are an encoding and nothing else.
 use Rattle.std.proofs.Common.{◌≡◌, ℕ, ◌+◌, ◌-◌, ◌^◌, nat_lt, ◌≤◌, List, [], ◌∷◌, length, take, Bool, true, false, ◌⊎◌, inl, inr, Ok, Err, refl, sym, ap, ◌∙◌, subst, arith, not, ◌==◌, zero-add}
+use Rattle.std.specs.Prelude.{IsOk}
 use Rattle.std.proofs.lemmas.List.{append-nil}
 use Rattle.std.proofs.lemmas.Bool.{and_parts, false_from_ne_true, false≢true}
 use Rattle.std.proofs.lemmas.Bool.Decides.{nat_tests}
 use Rattle.std.proofs.Math.Seq.{take-length}
 use Rattle.der_tlv.specs.declared.error.ErrorKind.{ErrorKind}
-use Rattle.der_tlv.specs.declared.error.ErrorKind.TheVariants.{Memory, Overflow, TrailingData}
+use Rattle.der_tlv.specs.declared.error.ErrorKind.TheVariants.{Overflow, TrailingData}
 use Rattle.der_tlv.specs.declared.encoding_rules.EncodingRules.TheVariants.{Der}
 use Rattle.der_tlv.specs.declared.tag.Tag.{Tag}
-use Rattle.der_tlv.specs.ReaderState.{ReaderState, rest, new_reader, can_finish, finish_fault}
+use Rattle.der_tlv.specs.ReaderState.{ReaderState, rest, unless_failed, new_reader, can_finish, finish_fault}
 use Rattle.der_elem.specs.declared.form.Form as form
 use Rattle.der_elem.specs.Accepting.{Fits, MayFollow}
-use Rattle.der_elem.specs.Decoding.{Decoded, NotDecoded, parse_all, all_parsed, AllRead, NotAllRead}
+use Rattle.der_elem.specs.Decoding.{RanOut, Decoded, NotDecoded, parse_all, all_parsed, AllRead, NotAllRead}
 
 -- a new reader of all of the octets
 pub record OpenOf (octets : List ℕ) (s : ReaderState) : Type 0 where
@@ -56,10 +57,13 @@ module _ {T : Type 0} (F : form.Ghosts T) where
       let fault : parse_all F.parse octets ≡ Err kind = rw t (ap Err (sym e)) in
       fault_unread fault
 
-  pub not_read : {octets : List ℕ} {s new : ReaderState} {kind : ErrorKind} → OpenOf octets s → NotDecoded F s new kind → ((kind ≡ Memory) × (F.TAKES_MEMORY ≡ true)) ⊎ NotAllRead F octets kind
+  seen_by : {octets : List ℕ} {s : ReaderState} → OpenOf octets s → unless_failed (F.parse s.rules) s ≡ F.parse Der 0 octets
+  seen_by {octets} {s} h = let ready : s.failed ≡ false = ap (λ s. s.failed) h.state in rw ready (parse_seen h)
+
+  pub not_read : {octets : List ℕ} {s new : ReaderState} {kind : ErrorKind} → OpenOf octets s → NotDecoded F s new kind → RanOut F.TAKES_MEMORY F.FAULTS_FIRST (F.parse Der 0 octets) kind ⊎ NotAllRead F octets kind
   not_read {octets} {s} {new} {kind} h told =
       elim told.reason [
-        | inl m ↦ inl m
+        | inl m ↦ inl (record { kind_is = m.kind_is; takes = m.takes; faultless = λ first. subst IsOk (seen_by h) (m.faultless first) })
         | inr e ↦ inr (let ready : s.failed ≡ false = ap (λ s. s.failed) h.state in let there : F.parse s.rules s.position (rest s) ≡ Err kind = rw ready at e in fault_unread (fitting octets h.fits ∙ ap (all_parsed (length octets)) (sym (parse_seen h) ∙ there)))
       ]
 

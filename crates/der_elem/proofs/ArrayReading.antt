@@ -59,19 +59,19 @@ module _ {T : Type 0} {F : form.Ghosts T} {count : ℕ} {old now : ReaderState} 
   fault kind ready e = seen_array ready ∙ so_far.left ∙ ap (join_items (flat_map F.encoding vs)) e
 
   -- an item that is missing, or its fault, is a fault of the array
-  pub item_fault : (kind : ErrorKind) (new : ReaderState) → length vs < count → old.failed ≡ false → NoItem F now new kind → Faults F.TAKES_MEMORY (unless_failed (parse_array count F.parse old.rules) old) kind
+  pub item_fault : (kind : ErrorKind) (new : ReaderState) → length vs < count → old.failed ≡ false → NoItem F now new kind → Faults F.TAKES_MEMORY false (unless_failed (parse_array count F.parse old.rules) old) kind
   item_fault kind new h ready none = let m : ℕ = so_far.more - 1 in let e = one_more h in elim none.reason [
     | inl short ↦ inr (fault kind ready (ap (λ n. parse_array n F.parse old.rules now.position (rest now)) e ∙ ap (parse_array (suc m) F.parse old.rules now.position) short.0 ∙ parse_array-short m F.parse old.rules now.position ∙ ap Err (sym short.1)))
     | inr some ↦ elim some.1 [
-      | inl memory ↦ inl memory
+      | inl m ↦ inl (record { kind_is = m.kind_is; takes = m.takes; faultless = λ h. absurd (cc) })
       | inr f ↦ inr (fault kind ready (ap (λ n. parse_array n F.parse old.rules now.position (rest now)) e ∙ parse_array-step m F.parse old.rules now.position (rest now) some.0 ∙ ap (λ r. then_item r (λ n. parse_array m F.parse old.rules (now.position + n) (drop n (rest now)))) (sym (seen_item ready) ∙ f)))
     ]
   ]
 
   -- so is an item too many
-  pub too_many_fault : (kind : ErrorKind) (new : ReaderState) → length vs ≡ count → old.failed ≡ false → ItemTooMany F now new kind → Faults F.TAKES_MEMORY (unless_failed (parse_array count F.parse old.rules) old) kind
+  pub too_many_fault : (kind : ErrorKind) (new : ReaderState) → length vs ≡ count → old.failed ≡ false → ItemTooMany F now new kind → Faults F.TAKES_MEMORY false (unless_failed (parse_array count F.parse old.rules) old) kind
   too_many_fault kind new h ready over = let e = none_more h in elim over.reason [
-    | inl memory ↦ inl memory
+    | inl m ↦ inl (record { kind_is = m.kind_is; takes = m.takes; faultless = λ h. absurd (cc) })
     | inr f ↦ inr (fault kind ready (ap (λ n. parse_array n F.parse old.rules now.position (rest now)) e ∙ parse_array-over F.parse old.rules now.position (rest now) over.some ∙ ap too_many (sym (seen_item ready)) ∙ f))
   ]
 
@@ -111,6 +111,6 @@ pub take_one : {T : Type 0} (n : ℕ) (v : T) → 0 < n → take 1 (replicate n 
 take_one zero v h = absurd (omega arith)
 take_one (suc n) v h = refl
 
--- a write behind the items so far
+-- a write after the items so far
 pub take_written : {T : Type 0} (xs : List T) (i : ℕ) (v : T) → i < length xs → take (i + 1) (set xs i v) ≡ take i xs ++ v ∷ []
 take_written xs i v h = rw add-one (take-suc-set xs i v h)

@@ -39,13 +39,13 @@ pub record AtHeader (header : Header) (old mid : ReaderState) : Type 0 where
   pub sound : IsReaderState mid
 
 -- what parsing comes to after the header, of an encoding that is written with this tag
-abbrev pub parse_behind_as : Tag → ContentsParse → EncodingRules → ReaderState → Header → Result (ℕ × List ℕ) ErrorKind
-parse_behind_as t parse rules old h =
+abbrev pub parse_after_as : Tag → ContentsParse → EncodingRules → ReaderState → Header → Result (ℕ × List ℕ) ErrorKind
+parse_after_as t parse rules old h =
     parse_contents t parse rules (length (octets_of h)) (old.position + length (octets_of h)) h.length (drop (length (octets_of h)) (rest old))
 
 -- the same of an encoding that is written with the header's tag
-abbrev pub parse_behind : ContentsParse → EncodingRules → ReaderState → Header → Result (ℕ × List ℕ) ErrorKind
-parse_behind parse rules old h = parse_behind_as h.tag parse rules old h
+abbrev pub parse_after : ContentsParse → EncodingRules → ReaderState → Header → Result (ℕ × List ℕ) ErrorKind
+parse_after parse rules old h = parse_after_as h.tag parse rules old h
 
 module _ {header : Header} {old mid : ReaderState} (at : AtHeader header old mid) where
   rest_mid : rest mid ≡ drop (length (octets_of header)) (rest old)
@@ -57,15 +57,15 @@ module _ {header : Header} {old mid : ReaderState} (at : AtHeader header old mid
   pub ready_mid : mid.failed ≡ false
   ready_mid = ap (λ s. s.failed) at.head.after ∙ at.head.ready
 
-  -- what a fault leaves that is found behind the header
-  pub refused_behind_header : {new : ReaderState} {kind : ErrorKind} → Refused mid new kind → Refused old new kind
-  refused_behind_header refused = refused_since at.head.ready (went_on _ at.head.after) refused
+  -- what a fault leaves that is found after the header
+  pub refused_after_header : {new : ReaderState} {kind : ErrorKind} → Refused mid new kind → Refused old new kind
+  refused_after_header refused = refused_since at.head.ready (went_on _ at.head.after) refused
 
   pub refused_at_header : {new : ReaderState} {kind : ErrorKind} → new ≡ after_fault mid → Refused old new kind
   refused_at_header e = refused_at at.head.ready (went_on _ at.head.after) ready_mid e
 
   -- with its own tag, an encoding is parsed by its contents octets
-  pub parse_own_tag : (t : Tag) → header.tag ≡ t → (parse : ContentsParse) (rules : EncodingRules) → parse_tagged t parse rules old.position (rest old) ≡ parse_behind parse rules old header
+  pub parse_own_tag : (t : Tag) → header.tag ≡ t → (parse : ContentsParse) (rules : EncodingRules) → parse_tagged t parse rules old.position (rest old) ≡ parse_after parse rules old header
   unfolding parse_tagged
   parse_own_tag t e parse rules =
       ap (parse_with_tag t parse rules old.position (rest old)) at.head.parsed ∙ rw (← e, same_identifier-same header.tag) refl
@@ -77,7 +77,7 @@ module _ {header : Header} {old mid : ReaderState} (at : AtHeader header old mid
       ap (parse_with_tag t parse rules old.position (rest old)) at.head.parsed ∙ rw e refl
 
   -- contents octets longer than what is left
-  pub parse_too_long_as : {new : ReaderState} {kind : ErrorKind} → OctetsRefused mid new header.length kind → (t : Tag) (parse : ContentsParse) (rules : EncodingRules) → parse_behind_as t parse rules old header ≡ Err kind
+  pub parse_too_long_as : {new : ReaderState} {kind : ErrorKind} → OctetsRefused mid new header.length kind → (t : Tag) (parse : ContentsParse) (rules : EncodingRules) → parse_after_as t parse rules old header ≡ Err kind
   parse_too_long_as {new} {kind} refused t parse rules =
       let l = length-rest mid at.sound in
       let ready = ready_mid in
@@ -90,7 +90,7 @@ module _ {header : Header} {old mid : ReaderState} (at : AtHeader header old mid
       let p = sym position_mid in
       rw (e, p, short) (ap Err (sym fault))
 
-  pub parse_too_long : {new : ReaderState} {kind : ErrorKind} → OctetsRefused mid new header.length kind → (parse : ContentsParse) (rules : EncodingRules) → parse_behind parse rules old header ≡ Err kind
+  pub parse_too_long : {new : ReaderState} {kind : ErrorKind} → OctetsRefused mid new header.length kind → (parse : ContentsParse) (rules : EncodingRules) → parse_after parse rules old header ≡ Err kind
   parse_too_long refused parse rules = parse_too_long_as refused header.tag parse rules
 
 pub record AtContents (header : Header) (old mid shown : ReaderState) (end : ℕ) : Type 0 where
@@ -115,7 +115,7 @@ module _ {header : Header} {old mid shown : ReaderState} {end : ℕ} (c : AtCont
 
   -- what a refusal of the contents octets leaves
   pub refused_inside : {new : ReaderState} {kind : ErrorKind} → Refused shown new kind → Refused old new kind
-  refused_inside refused = refused_behind_header c.at (refused_since (ready_mid c.at) (went_inside _ c.nest.readable c.nest.after) refused)
+  refused_inside refused = refused_after_header c.at (refused_since (ready_mid c.at) (went_inside _ c.nest.readable c.nest.after) refused)
 
   shown_position : shown.position ≡ old.position + length (octets_of header)
   shown_position = ap (λ s. s.position) c.nest.after ∙ position_mid c.at
@@ -123,12 +123,12 @@ module _ {header : Header} {old mid shown : ReaderState} {end : ℕ} (c : AtCont
   pub shown_rules : shown.rules ≡ old.rules
   shown_rules = ap (λ s. s.rules) c.nest.after ∙ ap (λ s. s.rules) c.at.head.after
 
-  pub parse_shown_as : (t : Tag) (parse : ContentsParse) (rules : EncodingRules) → parse_behind_as t parse rules old header ≡ tagged_contents t (length (octets_of header) + header.length) (parse rules shown.position (rest shown))
+  pub parse_shown_as : (t : Tag) (parse : ContentsParse) (rules : EncodingRules) → parse_after_as t parse rules old header ≡ tagged_contents t (length (octets_of header) + header.length) (parse rules shown.position (rest shown))
   parse_shown_as t parse rules =
       let e = sym (rest_mid c.at) in
       rw (e, not_short (length (rest mid)) header.length enough, shown_rest, shown_position) refl
 
-  pub parse_shown : (parse : ContentsParse) (rules : EncodingRules) → parse_behind parse rules old header ≡ tagged_contents header.tag (length (octets_of header) + header.length) (parse rules shown.position (rest shown))
+  pub parse_shown : (parse : ContentsParse) (rules : EncodingRules) → parse_after parse rules old header ≡ tagged_contents header.tag (length (octets_of header) + header.length) (parse rules shown.position (rest shown))
   parse_shown parse rules = parse_shown_as header.tag parse rules
 
   pub taken : take (length (octets_of header) + header.length) (rest old) ≡ tlv header.tag (rest shown)

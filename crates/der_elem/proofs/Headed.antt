@@ -10,18 +10,18 @@ use Rattle.der_tlv.specs.declared.tag.Tag.{Tag}
 use Rattle.der_tlv.specs.Octets.{lex}
 use Rattle.der_tlv.specs.Identifier.{identifier}
 use Rattle.der_tlv.specs.HeaderOctets.{header_octets, tlv}
-use Rattle.der_elem.specs.ValueForm.{ValueForm}
+use Rattle.der_elem.specs.ContentsFormat.{ContentsFormat}
 use Rattle.der_elem.specs.declared.form.Form as form
 use Rattle.der_elem.specs.Comparing.{IncomparableValues, Incomparable, ComparesValues, Compares, SameHeader}
-use Rattle.der_elem.proofs.HeadersTold as headers
+use Rattle.der_elem.proofs.HeadersDecide as headers
 
 -- two values with tags
-pub record Headed {T : Type 0} (V : ValueForm T) (F : form.Ghosts T) (tag_of : T → Tag) : Type 0 where
+pub record Headed {T : Type 0} (V : ContentsFormat T) (F : form.Ghosts T) (tag_of : T → Tag) : Type 0 where
   pub encoding_is : (v : T) → F.encoding v ≡ tlv (tag_of v) (V.contents v)
   pub re_reads_alike : (v : T) → V.re_reads v ≡ true → F.re_reads v ≡ true
   pub comparable_alike : (v w : T) → F.comparable v w → V.comparable v w
 
-module _ {T : Type 0} {V : ValueForm T} {F : form.Ghosts T} {tag_of : T → Tag} (h : Headed V F tag_of) (x y : T) where
+module _ {T : Type 0} {V : ContentsFormat T} {F : form.Ghosts T} {tag_of : T → Tag} (h : Headed V F tag_of) (x y : T) where
   pub tags_decide : (o : Ordering) → o ≡ lex (identifier (tag_of x)) (identifier (tag_of y)) → o ≢ Equal → o ≡ lex (F.encoding x) (F.encoding y)
   tags_decide = headers.tags_decide (F.encoding x) (F.encoding y) (tag_of x) (tag_of y) (V.contents x) (V.contents y) (h.encoding_is x) (h.encoding_is y)
 
@@ -30,8 +30,8 @@ module _ {T : Type 0} {V : ValueForm T} {F : form.Ghosts T} {tag_of : T → Tag}
     lengths_decide = headers.lengths_decide (F.encoding x) (F.encoding y) (tag_of x) (tag_of y) (V.contents x) (V.contents y) (h.encoding_is x) (h.encoding_is y) same_tag
 
     module _ (same_length : nat_cmp (length (V.contents x)) (length (V.contents y)) ≡ Equal) where
-      behind_headers : lex (F.encoding x) (F.encoding y) ≡ lex (V.contents x) (V.contents y)
-      behind_headers = headers.behind_headers (F.encoding x) (F.encoding y) (tag_of x) (tag_of y) (V.contents x) (V.contents y) (h.encoding_is x) (h.encoding_is y) same_tag same_length
+      after_headers : lex (F.encoding x) (F.encoding y) ≡ lex (V.contents x) (V.contents y)
+      after_headers = headers.after_headers (F.encoding x) (F.encoding y) (tag_of x) (tag_of y) (V.contents x) (V.contents y) (h.encoding_is x) (h.encoding_is y) same_tag same_length
 
       same_header : SameHeader (F.encoding x) (F.encoding y)
       same_header = (headers.headers_equal (F.encoding x) (F.encoding y) (tag_of x) (tag_of y) (V.contents x) (V.contents y) (h.encoding_is x) (h.encoding_is y) same_tag same_length).1
@@ -46,5 +46,5 @@ module _ {T : Type 0} {V : ValueForm T} {F : form.Ghosts T} {tag_of : T → Tag}
       incomparable _ r = absurd r
 
       pub contents_decide : (r : Result Ordering Error) → ComparesValues V x y r → Compares F x y r
-      contents_decide (Ok o) e = e ∙ sym behind_headers
+      contents_decide (Ok o) e = e ∙ sym after_headers
       contents_decide (Err e) r = incomparable e.kind r

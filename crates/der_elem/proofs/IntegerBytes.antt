@@ -137,7 +137,7 @@ pub wide_length : (z : ℤ) → SFits w128 z → length (integer_contents z) ≤
 wide_length (pos n) fits = integer_contents-length_le_width 16 (pos n) (omega arith) (omega (arith, fits.sfits))
 wide_length (negsuc n) fits = integer_contents-length_le_width 16 (negsuc n) (omega arith) (omega (arith, fits.sfits))
 
--- ---- the number of the contents octets with zeros behind them
+-- ---- the number of the contents octets with zeros after them
 
 pub pow_octets : (j : ℕ) → 2 ^ (8 * j) ≡ 256 ^ j
 pow_octets zero = refl
@@ -153,7 +153,7 @@ moved_up number k l within =
     ap (λ m. (number * unit) % m) (sym whole) ∙ mod-mul (number * unit) {m = 256 ^ l} {c = unit} low some
     ∙ ap₂ (λ a b. a % 256 ^ l * unit + b) (mul-div_cancel number some) (mul-mod_left number unit) ∙ omega arith
 
--- what represents an integer, moved up, is its contents octets with zeros behind them
+-- what represents an integer, moved up, is its contents octets with zeros after them
 aligned_at : (k number : ℕ) (z : ℤ) (len : ℕ) → Represents k number z → len ≡ length (integer_contents z) → len ≤ k → (number * 2 ^ (8 * (k - len))) % 256 ^ k ≡ left_aligned k (integer_contents z)
 aligned_at k number z len represents count within =
     let contents = integer_contents z in
@@ -169,7 +169,7 @@ aligned_at k number z len represents count within =
 pub aligned_number : (z : ℤ) (len number : ℕ) → SFits w128 z → number ≡ cast_unsigned w128 z → len ≡ length (integer_contents z) → len ≤ 16 → (number * 2 ^ (8 * (16 - len))) % 2 ^ 128 ≡ left_aligned 16 (integer_contents z)
 aligned_number z len number fits cast = aligned_at 16 number z len (subst (λ n. Represents 16 n z) (sym cast) (represents_cast_16 z fits))
 
--- ---- the octets of a number that zeros stand behind
+-- ---- the octets of a number that zeros stand after
 
 byte_is : (i n : ℕ) → byte_at i n ≡ n / 256 ^ i % 256
 byte_is zero n = omega arith

@@ -79,7 +79,7 @@ number-fits_most width octets all within most =
 
 -- ---- the octets at the front of a block
 
--- the number of the octets behind a number
+-- the number of the octets after a number
 pub number_after_number : (n : ℕ) (octets : List ℕ) → number_from_digits_after 256 n octets ≡ n * 256 ^ length octets + big_endian_number octets
 number_after_number n [] = omega (arith, pow-zero 256)
 number_after_number n (octet ∷ octets) =

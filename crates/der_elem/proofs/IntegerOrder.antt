@@ -1,4 +1,4 @@
--- The order of contents octets as that of numbers: of the octets with zeros behind them, and then of how many there are.
+-- The order of contents octets as that of numbers: of the octets with zeros after them, and then of how many there are.
 use Rattle.std.proofs.Common.{◌≡◌, ℕ, zero, suc, ◌+◌, ◌-◌, ◌*◌, ◌<◌, ◌≤◌, ◌^◌, ◌/◌, ◌%◌, ◌++◌, inl, inr, List, [], ◌∷◌, length, length-append, refl, sym, ap, ap₂, ◌∙◌, arith, mul-le-mul_right, Ordering, ℤ, pos, SFits}
 use Rattle.std.proofs.Math.Nat.{add-mul, mul_assoc, mul-lt-mul_of_pos_right, one-le-pow}
 use Rattle.std.proofs.lemmas.Bool.{cases_lt}
@@ -82,18 +82,18 @@ module _ (y z : ℤ) (fits_y : SFits w128 y) (fits_z : SFits w128 z) where
   integers_tied e = sym (told ∙ of_equal (nat_cmp (left_aligned 16 (integer_contents y)) (left_aligned 16 (integer_contents z))) _ e)
 
   -- and else the numbers do
-  pub integers_told : (nat_cmp (left_aligned 16 (integer_contents y)) (left_aligned 16 (integer_contents z)) ≡ Equal → ⊥) → nat_cmp (left_aligned 16 (integer_contents y)) (left_aligned 16 (integer_contents z)) ≡ lex (integer_contents y) (integer_contents z)
-  integers_told other = sym (told ∙ of_other (nat_cmp (left_aligned 16 (integer_contents y)) (left_aligned 16 (integer_contents z))) _ other)
+  pub integers_decided : (nat_cmp (left_aligned 16 (integer_contents y)) (left_aligned 16 (integer_contents z)) ≡ Equal → ⊥) → nat_cmp (left_aligned 16 (integer_contents y)) (left_aligned 16 (integer_contents z)) ≡ lex (integer_contents y) (integer_contents z)
+  integers_decided other = sym (told ∙ of_other (nat_cmp (left_aligned 16 (integer_contents y)) (left_aligned 16 (integer_contents z))) _ other)
 
 -- ---- numbers of 128 bits that are not negative
 
--- one more octet behind octets that are as many as others, or more
-lex-behind : (cs ds : List ℕ) (last : ℕ) → length ds ≤ length cs → lex (cs ++ last ∷ []) ds ≡ ordering_then (lex cs ds) Greater
-lex-behind [] [] last within = refl
-lex-behind [] (y ∷ ds) last within = absurd (omega arith)
-lex-behind (x ∷ cs) [] last within = refl
-lex-behind (x ∷ cs) (y ∷ ds) last within =
-    ap (ordering_then (nat_cmp x y)) (lex-behind cs ds last (omega arith)) ∙ then_assoc (nat_cmp x y) (lex cs ds) Greater
+-- one more octet after octets that are as many as others, or more
+lex-after : (cs ds : List ℕ) (last : ℕ) → length ds ≤ length cs → lex (cs ++ last ∷ []) ds ≡ ordering_then (lex cs ds) Greater
+lex-after [] [] last within = refl
+lex-after [] (y ∷ ds) last within = absurd (omega arith)
+lex-after (x ∷ cs) [] last within = refl
+lex-after (x ∷ cs) (y ∷ ds) last within =
+    ap (ordering_then (nat_cmp x y)) (lex-after cs ds last (omega arith)) ∙ then_assoc (nat_cmp x y) (lex cs ds) Greater
 
 lex-before : (cs ds : List ℕ) (last : ℕ) → length cs ≤ length ds → lex cs (ds ++ last ∷ []) ≡ ordering_then (lex cs ds) Less
 lex-before [] [] last within = refl
@@ -115,7 +115,7 @@ short_natural n fits = natural_contents-length_le n 15 (omega (arith, fits))
 pub long_first : (m n : ℕ) → 2 ^ 127 ≤ m → m < 2 ^ 128 → n < 2 ^ 127 → lex (natural_contents m) (natural_contents n) ≡ ordering_then (lex (natural_contents (m / 256)) (natural_contents n)) Greater
 long_first m n large fits few =
     ap (λ c. lex c (natural_contents n)) (natural_contents-step m (omega (arith, large)))
-    ∙ lex-behind (natural_contents (m / 256)) (natural_contents n) (m % 256) (omega (arith, quotient_length m large fits, short_natural n few))
+    ∙ lex-after (natural_contents (m / 256)) (natural_contents n) (m % 256) (omega (arith, quotient_length m large fits, short_natural n few))
 
 pub long_second : (m n : ℕ) → m < 2 ^ 127 → 2 ^ 127 ≤ n → n < 2 ^ 128 → lex (natural_contents m) (natural_contents n) ≡ ordering_then (lex (natural_contents m) (natural_contents (n / 256))) Less
 long_second m n few large fits =

@@ -53,12 +53,12 @@ module _ {T : Type 0} {F : form.Ghosts T} {old now : ReaderState} {vs : List T} 
   rest_now = ap rest so_far.after ∙ rest-after_read old so_far.taken
 
   -- a fault of the next item is one of the list
-  pub items_fault : old.failed ≡ false → 0 < length (rest now) → (memory : Bool) (kind : ErrorKind) → Faults memory (unless_failed (F.parse now.rules) now) kind → Faults true (unless_failed (parse_items F.parse old.rules) old) kind
-  items_fault ready some memory kind faults =
+  pub items_fault : old.failed ≡ false → 0 < length (rest now) → (memory first : Bool) (kind : ErrorKind) → Faults memory first (unless_failed (F.parse now.rules) now) kind → Faults true false (unless_failed (parse_items F.parse old.rules) old) kind
+  items_fault ready some memory first kind faults =
       let seen_items : unless_failed (parse_items F.parse old.rules) old ≡ parse_items F.parse old.rules old.position (rest old) = rw ready refl in
       let seen_item : unless_failed (F.parse now.rules) now ≡ F.parse old.rules now.position (rest now) = rw (still_ready ready, same_rules) refl in
       elim faults [
-        | inl m ↦ inl (m.0, refl)
+        | inl m ↦ inl (record { kind_is = m.kind_is; takes = refl; faultless = λ h. absurd (cc) })
         | inr e ↦ inr (seen_items ∙ so_far.left ∙ ap (join_items (flat_map F.encoding vs)) (parse_items-step F.parse old.rules now.position (rest now) some ∙ ap (λ r. then_items r (λ n. parse_items F.parse old.rules (now.position + n) (drop n (rest now)))) (sym seen_item ∙ e)))
       ]
 

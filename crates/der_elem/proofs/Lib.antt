@@ -1,8 +1,9 @@
 pub mod AtContents
+pub mod OtherTags
 pub mod TaggedDecoding
 pub mod Alone
 pub mod Written
-pub mod HeadersTold
+pub mod HeadersDecide
 pub mod Headed
 pub mod IntegerContents
 pub mod IntegerReads

@@ -11,7 +11,7 @@ use Rattle.der_tlv.specs.declared.error.ErrorKind.TheVariants.{Overflow, Memory,
 use Rattle.der_elem.specs.declared.form.Form as form
 use Rattle.der_elem.specs.Comparing.{Incomparable}
 use Rattle.der_elem.specs.ComparingItems.{IncomparableItems}
-use Rattle.der_elem.specs.Items.{OneForms}
+use Rattle.der_elem.specs.Items.{AllComparable}
 use Rattle.der_elem.proofs.ItemWriting.{length_at, re_reads_at}
 
 pub item_first : {T : Type 0} (xs : List T) (i : ℕ) (x : T) → i < length xs → get_or xs i x ≡ x → drop i xs ≡ x ∷ drop (i + 1) xs
@@ -38,7 +38,7 @@ pub decided_at : {T : Type 0} (R : T → T → Ordering) (vs ws : List T) (i : �
 decided_at R vs ws i v w o h k e f before is ne =
     is ∙ sym (before ∙ cmp_at R vs ws i v w h k e f ∙ then_decided (R v w) (slice_cmp R (drop (i + 1) vs) (drop (i + 1) ws)) (λ e. ne (is ∙ e)))
 
-comparable_at : {T : Type 0} (comparable : T → T → Type 0) (vs ws : List T) (i : ℕ) (v w : T) → i < length vs → i < length ws → get_or vs i v ≡ v → get_or ws i w ≡ w → OneForms comparable vs ws → comparable v w
+comparable_at : {T : Type 0} (comparable : T → T → Type 0) (vs ws : List T) (i : ℕ) (v w : T) → i < length vs → i < length ws → get_or vs i v ≡ v → get_or ws i w ≡ w → AllComparable comparable vs ws → comparable v w
 comparable_at comparable [] ws i v w h k e f o = absurd (omega arith)
 comparable_at comparable (x ∷ vs) [] i v w h k e f o = absurd (omega arith)
 comparable_at comparable (x ∷ vs) (y ∷ ws) zero v w h k e f (o, os) = subst (λ x. comparable x w) e (subst (λ y. comparable x y) f o)

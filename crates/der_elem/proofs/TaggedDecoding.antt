@@ -1,5 +1,6 @@
 -- Decoding an encoding with one tag: its faults, and its value.
-use Rattle.std.proofs.Common.{◌≡◌, ℕ, ◌+◌, length, take, Bool, true, false, Ok, Err, Some, refl, sym, ap, ◌∙◌, subst, inl, inr}
+use Rattle.std.proofs.Common.{◌≡◌, ℕ, ◌+◌, List, length, take, Bool, true, false, Result, Ok, Err, Some, refl, sym, ap, ◌∙◌, subst, inl, inr}
+use Rattle.std.specs.Prelude.{IsOk}
 use Rattle.der_tlv.specs.declared.error.ErrorKind.{ErrorKind}
 use Rattle.der_tlv.specs.declared.error.ErrorKind.TheVariants.{Failed, TagUnexpected}
 use Rattle.der_tlv.specs.declared.encoding_rules.EncodingRules.{EncodingRules}
@@ -10,7 +11,7 @@ use Rattle.der_tlv.specs.HeaderOctets.{tlv}
 use Rattle.der_tlv.specs.HeaderReading.{read_header, octets_of}
 use Rattle.der_tlv.specs.Reading.{HeadFault, OctetsRefused}
 use Rattle.der_tlv.specs.ReaderState.{ReaderState, rest, unless_failed}
-use Rattle.der_elem.specs.ValueForm.{ValueForm}
+use Rattle.der_elem.specs.ContentsFormat.{ContentsFormat}
 use Rattle.der_elem.specs.Parsing.{ContentsParse, parse_tagged, parse_with_tag, tagged_contents}
 use Rattle.der_elem.specs.Accepting.{accepts_tagged}
 use Rattle.der_elem.specs.Decoding.{Faults, ValueDecoded, ValueNotDecoded}
@@ -33,15 +34,28 @@ other_tag_fault at t e parse rules = rw at.head.ready (parse_other_tag at t e pa
 pub too_long_fault : {header : Header} {old mid new : ReaderState} {kind : ErrorKind} → AtHeader header old mid → OctetsRefused mid new header.length kind → (t : Tag) → header.tag ≡ t → (parse : ContentsParse) (rules : EncodingRules) → unless_failed (parse_tagged t parse rules) old ≡ Err kind
 too_long_fault at refused t e parse rules = rw at.head.ready (parse_own_tag at t e parse rules ∙ parse_too_long at refused parse rules)
 
-module _ {T : Type 0} (F : ValueForm T) (t : Tag) {header : Header} {old mid shown : ReaderState} {end : ℕ} (c : AtContents header old mid shown end) (same : header.tag ≡ t) where
+module _ {T : Type 0} (F : ContentsFormat T) (t : Tag) {header : Header} {old mid shown : ReaderState} {end : ℕ} (c : AtContents header old mid shown end) (same : header.tag ≡ t) where
   parse_all : parse_tagged t F.parse old.rules old.position (rest old) ≡ tagged_contents header.tag (length (octets_of header) + header.length) (F.parse old.rules shown.position (rest shown))
   parse_all = parse_own_tag c.at t same F.parse old.rules ∙ parse_shown c F.parse old.rules
 
+  seen : F.parse shown.rules shown.position (rest shown) ≡ F.parse old.rules shown.position (rest shown)
+  seen = ap (λ rules. F.parse rules shown.position (rest shown)) (shown_rules c)
+
+  -- contents octets without a fault are those of an encoding without one
+  faultless : IsOk (unless_failed (F.parse shown.rules) shown) → IsOk (unless_failed (parse_tagged t F.parse old.rules) old)
+  faultless ok =
+      let there : IsOk (F.parse old.rules shown.position (rest shown)) = subst IsOk seen (let s = rw (shown_ready c) at ok in s) in
+      rw (c.at.head.ready, parse_all) (still (F.parse old.rules shown.position (rest shown)) there)
+    where
+      still : (r : Result (List ℕ) ErrorKind) → IsOk r → IsOk (tagged_contents header.tag (length (octets_of header) + header.length) r)
+      still (Ok contents) h = h
+      still (Err k) h = absurd (cc)
+
   -- the fault of the contents octets
-  pub contents_fault : {kind : ErrorKind} → ValueNotDecoded F shown kind → Faults F.TAKES_MEMORY (unless_failed (parse_tagged t F.parse old.rules) old) kind
+  pub contents_fault : {kind : ErrorKind} → ValueNotDecoded F shown kind → Faults F.TAKES_MEMORY F.FAULTS_FIRST (unless_failed (parse_tagged t F.parse old.rules) old) kind
   contents_fault {kind} told =
       elim told.reason [
-        | inl m ↦ inl m
+        | inl m ↦ inl (record { kind_is = m.kind_is; takes = m.takes; faultless = λ first. faultless (m.faultless first) })
         | inr e ↦
             let there : F.parse old.rules shown.position (rest shown) ≡ Err kind = ap (λ rules. F.parse rules shown.position (rest shown)) (sym (shown_rules c)) ∙ (let s = rw (shown_ready c) at e in s) in
             inr (rw c.at.head.ready (parse_all ∙ ap (tagged_contents header.tag (length (octets_of header) + header.length)) there))

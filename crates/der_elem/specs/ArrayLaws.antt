@@ -1,17 +1,19 @@
 -- The laws of lists of a fixed number of items, from those of the items.
 use Rattle.std.specs.List.{list_any}
-use Rattle.std.proofs.Common.{◌≡◌, ℕ, suc, ◌+◌, ◌<◌, List, [], ◌∷◌, ◌++◌, length, drop, true, Ok, Err, refl, sym, ap, ◌∙◌, arith, inl, inr, flat_map}
+use Rattle.std.proofs.Common.{◌≡◌, ℕ, zero, suc, ◌+◌, ◌<◌, List, [], ◌∷◌, ◌++◌, length, drop, true, Result, Ok, Err, refl, sym, ap, ◌∙◌, arith, inl, inr, flat_map}
 use Rattle.std.proofs.lemmas.Bool.{or_cases}
 use Rattle.std.proofs.Math.Seq.{drop-append_seam}
+use Rattle.der_tlv.specs.declared.error.ErrorKind.{ErrorKind}
 use Rattle.der_tlv.specs.declared.error.ErrorKind.TheVariants.{Length}
 use Rattle.der_tlv.specs.declared.tag.Tag.TheVariants.{Sequence}
 use Rattle.der_tlv.specs.declared.encoding_rules.EncodingRules.{EncodingRules}
+use Rattle.der_tlv.specs.OctetFaults.{IsOfOctets}
 use Rattle.der_elem.specs.declared.form.Form as form
 use Rattle.der_elem.specs.Parsing.{Parse}
 use Rattle.der_elem.specs.Accepting.{Fits}
-use Rattle.der_elem.specs.Items.{AcceptsItems, EachItem, OneForms, join_items}
-use Rattle.der_elem.specs.ItemLaws.{first_fits, others_fit, same_length_items, comparable_items}
-use Rattle.der_elem.specs.Arrays.{AcceptsArray, ReadableArray, then_item, too_many, parse_array}
+use Rattle.der_elem.specs.Items.{AcceptsItems, EachItem, AllComparable, join_items}
+use Rattle.der_elem.specs.ItemLaws.{join_of_octets, first_fits, others_fit, same_length_items, comparable_items}
+use Rattle.der_elem.specs.Arrays.{AcceptsArray, ReadableArray, then_item, too_many, parse_so_many, parse_array}
 
 pub parse_array-end : (parse : Parse) (rules : EncodingRules) (p : ℕ) → parse_array 0 parse rules p [] ≡ Ok []
 unfolding parse_array
@@ -30,6 +32,25 @@ pub parse_array-step : (count : ℕ) (parse : Parse) (rules : EncodingRules) (p 
 unfolding parse_array
 parse_array-step count parse rules p [] h = absurd (omega arith)
 parse_array-step count parse rules p (x ∷ xs) h = refl
+
+-- the faults of a list are of its octets, where those of its items are
+then_item_of_octets : (r : Result (ℕ × List ℕ) ErrorKind) (others : ℕ → Result (List ℕ) ErrorKind) → IsOfOctets r → ((n : ℕ) → IsOfOctets (others n)) → IsOfOctets (then_item r others)
+then_item_of_octets (Err k) others h hs = h
+then_item_of_octets (Ok (n, octets)) others h hs = join_of_octets octets (others n) (hs n)
+
+pub too_many_of_octets : (r : Result (ℕ × List ℕ) ErrorKind) → IsOfOctets r → IsOfOctets (too_many r)
+too_many_of_octets (Err k) h = h
+too_many_of_octets (Ok item) h = refl
+
+pub array_of_octets : (count : ℕ) (parse : Parse) → ((rules : EncodingRules) (p : ℕ) (c : List ℕ) → IsOfOctets (parse rules p c)) → (rules : EncodingRules) (p : ℕ) (c : List ℕ) → IsOfOctets (parse_array count parse rules p c)
+unfolding parse_array
+array_of_octets count parse h rules p c = so_many count p c
+  where
+    so_many : (count p : ℕ) (c : List ℕ) → IsOfOctets (parse_so_many count (parse rules) p c)
+    so_many zero p [] = tt
+    so_many zero p (x ∷ xs) = too_many_of_octets (parse rules p (x ∷ xs)) (h rules p (x ∷ xs))
+    so_many (suc count) p [] = refl
+    so_many (suc count) p (x ∷ xs) = then_item_of_octets (parse rules p (x ∷ xs)) _ (h rules p (x ∷ xs)) (λ n. so_many count (p + n) (drop n (x ∷ xs)))
 
 -- the items without what is asked of their octets
 accepts_parts : {T : Type 0} (accepts : T → List ℕ → Type 0) (vs : List T) (c : List ℕ) → AcceptsItems (λ v part. accepts v part × (0 < length part)) vs c → AcceptsItems accepts vs c
@@ -67,7 +88,7 @@ module _ {T : Type 0} (F : form.Ghosts T) (rules : EncodingRules) where
   pub readable_array : (count : ℕ) (vs : List T) (c : List ℕ) → AcceptsArray (F.accepts rules) count vs c → ReadableArray F.readable F.encoding count vs
   readable_array count vs c a = (a.0, readable_each vs c a.1)
 
-  pub comparable_array : (count : ℕ) (vs ws : List T) (c d : List ℕ) → AcceptsArray (F.accepts rules) count vs c → AcceptsArray (F.accepts rules) count ws d → OneForms F.comparable vs ws
+  pub comparable_array : (count : ℕ) (vs ws : List T) (c d : List ℕ) → AcceptsArray (F.accepts rules) count vs c → AcceptsArray (F.accepts rules) count ws d → AllComparable F.comparable vs ws
   comparable_array count vs ws c d a b = comparable_items F rules vs ws c d (accepts_parts (F.accepts rules) vs c a.1) (accepts_parts (F.accepts rules) ws d b.1)
 
 module _ {T : Type 0} (F : form.Ghosts T) where

@@ -5,6 +5,7 @@ use Rattle.der_tlv.specs.declared.error.ErrorKind.{ErrorKind}
 use Rattle.der_tlv.specs.declared.error.ErrorKind.TheVariants as kinds
 use Rattle.der_tlv.specs.declared.tag.Tag.TheVariants.{Boolean}
 use Rattle.der_tlv.specs.declared.encoding_rules.EncodingRules.{EncodingRules}
+use Rattle.der_tlv.specs.OctetFaults.{IsOfOctets, of_octets_either}
 use Rattle.der_tlv.specs.Octets.{lex}
 use Rattle.der_elem.specs.Parsing.{ContentsParse}
 
@@ -32,6 +33,12 @@ ReadsBoolean octets (Err kind) = boolean_or_fault octets ≡ Err kind
 pub parse_boolean-own : (rules : EncodingRules) (v : Bool) (p : ℕ) → parse_boolean rules p (boolean_contents v) ≡ Ok (boolean_contents v)
 parse_boolean-own rules false p = refl
 parse_boolean-own rules true p = refl
+
+-- the faults are of the octets
+pub boolean_of_octets : (rules : EncodingRules) (p : ℕ) (octets : List ℕ) → IsOfOctets (parse_boolean rules p octets)
+boolean_of_octets rules p [] = refl
+boolean_of_octets rules p (octet ∷ []) = of_octets_either (octet == 0 || octet == 255) (Ok (octet ∷ [])) (Err (kinds.Noncanonical Boolean)) tt refl
+boolean_of_octets rules p (octet ∷ second ∷ others) = refl
 
 -- no two values have the same contents octets
 pub boolean_contents-injective : (v w : Bool) → boolean_contents v ≡ boolean_contents w → v ≡ w

@@ -7,27 +7,27 @@ use Rattle.der_tlv.specs.declared.error.Error.{Error}
 use Rattle.der_tlv.specs.declared.tag.Tag.{Tag}
 use Rattle.der_tlv.specs.Octets.{lex}
 use Rattle.der_tlv.specs.HeaderOctets.{tlv}
-use Rattle.der_elem.specs.ValueForm.{ValueForm}
+use Rattle.der_elem.specs.ContentsFormat.{ContentsFormat}
 use Rattle.der_elem.specs.declared.form.Form as form
 
 -- why octets that stand for two values are not compared: no length says how many one has, the values are apart, or memory ran out where the one or the other is read again
-abbrev pub IncomparableOctets : (a b : List ℕ) → (Apart : Type 0) → (re_reads_a re_reads_b : Bool) → ErrorKind → Type 0
-IncomparableOctets a b Apart re_reads_a re_reads_b Overflow = (2 ^ 32 ≤ length a) ⊎ (2 ^ 32 ≤ length b)
-IncomparableOctets a b Apart re_reads_a re_reads_b (Value tag) = Apart
-IncomparableOctets a b Apart re_reads_a re_reads_b Memory = (re_reads_a ≡ true) ⊎ (re_reads_b ≡ true)
-IncomparableOctets a b Apart re_reads_a re_reads_b _ = ⊥
+abbrev pub IncomparableOctets : (a b : List ℕ) → (NotComparable : Type 0) → (re_reads_a re_reads_b : Bool) → ErrorKind → Type 0
+IncomparableOctets a b NotComparable re_reads_a re_reads_b Overflow = (2 ^ 32 ≤ length a) ⊎ (2 ^ 32 ≤ length b)
+IncomparableOctets a b NotComparable re_reads_a re_reads_b (Value tag) = NotComparable
+IncomparableOctets a b NotComparable re_reads_a re_reads_b Memory = (re_reads_a ≡ true) ⊎ (re_reads_b ≡ true)
+IncomparableOctets a b NotComparable re_reads_a re_reads_b _ = ⊥
 
 -- what comparing them answers: their lexicographic order, or why there is none
-abbrev pub ComparesOctets : (a b : List ℕ) → (Apart : Type 0) → (re_reads_a re_reads_b : Bool) → Result Ordering Error → Type 0
-ComparesOctets a b Apart re_reads_a re_reads_b (Ok order) = order ≡ lex a b
-ComparesOctets a b Apart re_reads_a re_reads_b (Err e) = IncomparableOctets a b Apart re_reads_a re_reads_b e.kind
+abbrev pub ComparesOctets : (a b : List ℕ) → (NotComparable : Type 0) → (re_reads_a re_reads_b : Bool) → Result Ordering Error → Type 0
+ComparesOctets a b NotComparable re_reads_a re_reads_b (Ok order) = order ≡ lex a b
+ComparesOctets a b NotComparable re_reads_a re_reads_b (Err e) = IncomparableOctets a b NotComparable re_reads_a re_reads_b e.kind
 
 -- why the contents octets of two values are not compared, which are apart where they are not comparable
-abbrev pub IncomparableValues : {T : Type 0} → ValueForm T → T → T → ErrorKind → Type 0
+abbrev pub IncomparableValues : {T : Type 0} → ContentsFormat T → T → T → ErrorKind → Type 0
 IncomparableValues F x y = IncomparableOctets (F.contents x) (F.contents y) (F.comparable x y → ⊥) (F.re_reads x) (F.re_reads y)
 
 -- what comparing contents octets answers
-abbrev pub ComparesValues : {T : Type 0} → ValueForm T → T → T → Result Ordering Error → Type 0
+abbrev pub ComparesValues : {T : Type 0} → ContentsFormat T → T → T → Result Ordering Error → Type 0
 ComparesValues F x y = ComparesOctets (F.contents x) (F.contents y) (F.comparable x y → ⊥) (F.re_reads x) (F.re_reads y)
 
 -- two encodings with equal identifier octets and equal length octets
@@ -40,13 +40,13 @@ pub record SameHeader (a b : List ℕ) : Type 0 where
   pub same_length : length first ≡ length second
 
 -- two values that are not comparable although the headers of their encodings are equal
-abbrev pub AreApart : {T : Type 0} → form.Ghosts T → T → T → Type 0
-AreApart F x y = (F.comparable x y → ⊥) × SameHeader (F.encoding x) (F.encoding y)
+abbrev pub Undecided : {T : Type 0} → form.Ghosts T → T → T → Type 0
+Undecided F x y = (F.comparable x y → ⊥) × SameHeader (F.encoding x) (F.encoding y)
 
 -- why two values have no comparison
 abbrev pub Incomparable : {T : Type 0} → form.Ghosts T → T → T → ErrorKind → Type 0
-Incomparable F x y = IncomparableOctets (F.encoding x) (F.encoding y) (AreApart F x y) (F.re_reads x) (F.re_reads y)
+Incomparable F x y = IncomparableOctets (F.encoding x) (F.encoding y) (Undecided F x y) (F.re_reads x) (F.re_reads y)
 
 -- what comparing two values answers: the lexicographic order of their encodings, or why there is none
 abbrev pub Compares : {T : Type 0} → form.Ghosts T → T → T → Result Ordering Error → Type 0
-Compares F x y = ComparesOctets (F.encoding x) (F.encoding y) (AreApart F x y) (F.re_reads x) (F.re_reads y)
+Compares F x y = ComparesOctets (F.encoding x) (F.encoding y) (Undecided F x y) (F.re_reads x) (F.re_reads y)

@@ -1,21 +1,36 @@
 -- What the calls that read answer, and where the reader stands after each.
-use Rattle.std.specs.Prelude.{◌≡◌, ℕ, ◌-◌, ◌<◌, ◌^◌, List, length, take, nat_lt, ◌==◌, if◌then◌else◌, Bool, true, false, ◌⊎◌, Result, Ok, Err}
+use Rattle.std.specs.Prelude.{◌≡◌, ℕ, ◌-◌, ◌<◌, ◌^◌, List, length, take, nat_lt, ◌==◌, if◌then◌else◌, Bool, true, false, ◌⊎◌, Result, Ok, Err, IsOk}
 use Rattle.der_tlv.specs.declared.error.ErrorKind.{ErrorKind}
 use Rattle.der_tlv.specs.declared.error.ErrorKind.TheVariants.{Memory, Overflow, TrailingData}
 use Rattle.der_tlv.specs.declared.error.Error.{Error}
 use Rattle.der_tlv.specs.declared.header.Header.{Header}
+use Rattle.der_tlv.specs.declared.tag.Tag.{Tag}
 use Rattle.der_tlv.specs.declared.encoding_rules.EncodingRules.TheVariants.{Der}
+use Rattle.der_tlv.specs.HeaderReading.{read_header}
 use Rattle.der_tlv.specs.ReaderState.{ReaderState, after_read, rest, unless_failed}
 use Rattle.der_tlv.specs.Reading.{Refused}
 use Rattle.der_elem.specs.Parsing.{Parse}
-use Rattle.der_elem.specs.ValueForm.{ValueForm}
+use Rattle.der_elem.specs.ContentsFormat.{ContentsFormat}
 use Rattle.der_elem.specs.declared.form.Form as form
 
--- why there is no value: memory ran out where that can be, or this is the first fault
-abbrev pub Faults : {A : Type 0} → Bool → Result A ErrorKind → ErrorKind → Type 0
-Faults memory parsed kind = ((kind ≡ Memory) × (memory ≡ true)) ⊎ (parsed ≡ Err kind)
+-- memory ran out (1), of a type that takes memory: of octets without a fault, where the type finds every fault first
+pub record RanOut {A : Type 0} (memory first : Bool) (parsed : Result A ErrorKind) (kind : ErrorKind) : Type 0 where
+  pub kind_is : kind ≡ Memory
+  pub takes : memory ≡ true
+  pub faultless : first ≡ true → IsOk parsed
 
--- a value was decoded: how many octets it took, what they are parsed as, and the reader behind them
+-- why there is no value: memory ran out, or this is the first fault
+abbrev pub Faults : {A : Type 0} → Bool → Bool → Result A ErrorKind → ErrorKind → Type 0
+Faults memory first parsed kind = RanOut memory first parsed kind ⊎ (parsed ≡ Err kind)
+
+-- a header stands next, with a tag that is none of these
+pub record OtherHeader (tags : Tag → Bool) (s : ReaderState) : Type 0 where
+  pub count : ℕ
+  pub header : Header
+  pub is_next : read_header s.position (rest s) ≡ Ok (count, header)
+  pub is_other : tags header.tag ≡ false
+
+-- a value was decoded: how many octets it took, what they are parsed as, and the reader after them
 pub record Decoded {T : Type 0} (F : form.Ghosts T) (old new : ReaderState) (v : T) : Type 0 where
   pub taken : ℕ
   pub ready : old.failed ≡ false
@@ -23,10 +38,11 @@ pub record Decoded {T : Type 0} (F : form.Ghosts T) (old new : ReaderState) (v :
   pub accepted : F.accepts old.rules v (take taken (rest old))
   pub after : new ≡ after_read old taken
 
--- no value was decoded: why, and what that leaves
+-- no value was decoded: why, and what that leaves; another tag than the type has leaves the end, too
 pub record NotDecoded {T : Type 0} (F : form.Ghosts T) (old new : ReaderState) (kind : ErrorKind) : Type 0 where
-  pub reason : Faults F.TAKES_MEMORY (unless_failed (F.parse old.rules) old) kind
+  pub reason : Faults F.TAKES_MEMORY F.FAULTS_FIRST (unless_failed (F.parse old.rules) old) kind
   pub reader : Refused old new kind
+  pub other_tag : OtherHeader F.tags old → new.end ≡ old.end
 
 -- what decoding a value answers
 abbrev pub Decodes : {T : Type 0} → form.Ghosts T → ReaderState → ReaderState → Result T Error → Type 0
@@ -34,7 +50,7 @@ Decodes F old new (Ok v) = Decoded F old new v
 Decodes F old new (Err e) = NotDecoded F old new e.kind
 
 -- a value was decoded from contents octets
-pub record ValueDecoded {T : Type 0} (F : ValueForm T) (header : Header) (old new : ReaderState) (v : T) : Type 0 where
+pub record ValueDecoded {T : Type 0} (F : ContentsFormat T) (header : Header) (old new : ReaderState) (v : T) : Type 0 where
   pub ready : old.failed ≡ false
   pub parsed : F.parse old.rules old.position (rest old) ≡ Ok (F.contents v)
   pub accepted : F.accepts old.rules v (rest old)
@@ -42,11 +58,11 @@ pub record ValueDecoded {T : Type 0} (F : ValueForm T) (header : Header) (old ne
   pub after : new ≡ after_read old (length (rest old))
 
 -- no value was decoded from contents octets, for this reason
-pub record ValueNotDecoded {T : Type 0} (F : ValueForm T) (old : ReaderState) (kind : ErrorKind) : Type 0 where
-  pub reason : Faults F.TAKES_MEMORY (unless_failed (F.parse old.rules) old) kind
+pub record ValueNotDecoded {T : Type 0} (F : ContentsFormat T) (old : ReaderState) (kind : ErrorKind) : Type 0 where
+  pub reason : Faults F.TAKES_MEMORY F.FAULTS_FIRST (unless_failed (F.parse old.rules) old) kind
 
 -- what decoding contents octets answers, of a reader that shows as many octets as the header says
-abbrev pub DecodesValue : {T : Type 0} → ValueForm T → Header → ReaderState → ReaderState → Result T Error → Type 0
+abbrev pub DecodesValue : {T : Type 0} → ContentsFormat T → Header → ReaderState → ReaderState → Result T Error → Type 0
 DecodesValue F header old new (Ok v) = ValueDecoded F header old new v
 DecodesValue F header old new (Err e) = ValueNotDecoded F old e.kind
 
@@ -74,7 +90,7 @@ pub record NotAllRead {T : Type 0} (F : form.Ghosts T) (octets : List ℕ) (kind
 -- what reading all of the octets answers
 abbrev pub ReadsAll : {T : Type 0} → form.Ghosts T → List ℕ → Result T Error → Type 0
 ReadsAll F octets (Ok v) = AllRead F octets v
-ReadsAll F octets (Err e) = ((e.kind ≡ Memory) × (F.TAKES_MEMORY ≡ true)) ⊎ NotAllRead F octets e.kind
+ReadsAll F octets (Err e) = RanOut F.TAKES_MEMORY F.FAULTS_FIRST (F.parse Der 0 octets) e.kind ⊎ NotAllRead F octets e.kind
 
 -- the fault of octets that are left behind a value
 abbrev pub left_over : ReaderState → ErrorKind

@@ -8,6 +8,8 @@ use Rattle.der_tlv.specs.declared.encoding_rules.EncodingRules.TheVariants.{Der}
 use Rattle.der_tlv.specs.Octets.{lex}
 use Rattle.der_tlv.specs.HeaderOctets.{tlv}
 use Rattle.der_elem.specs.declared.form.Form as form
+use Rattle.der_tlv.specs.OctetFaults.{IsOfOctets}
+use Rattle.der_elem.specs.Parsing.{Parse}
 use Rattle.der_elem.specs.Decoding.{parse_all}
 use Rattle.der_elem.specs.Integer.{AreOctets, integer_contents, twos_complement}
 use Rattle.der_elem.specs.PaddedOrder.{padded_cmp}
@@ -28,6 +30,14 @@ PaddingIsLexicographic = (t u : Tag) (c d : List ℕ) → padded_cmp (tlv t c) (
 -- the order of two lists of joined encodings is decided by the first pair that differs, else by the number of items
 abbrev pub FirstPairDecides : {T : Type 0} → (T → List ℕ) → Type 0
 FirstPairDecides {T} encoding = (vs ws : List T) → lex (flat_map encoding vs) (flat_map encoding ws) ≡ slice_cmp (on encoding lex) vs ws
+
+-- what octets come to is a value, or a fault of theirs: no want of memory (1), and no earlier refusal (17)
+abbrev pub FaultsAreOfOctets : Parse → Type 0
+FaultsAreOfOctets parse = (rules : EncodingRules) (p : ℕ) (octets : List ℕ) → IsOfOctets (parse rules p octets)
+
+-- a copy is equal to its source
+abbrev pub CopiesAreEqual : {T : Type 0} → (T → T → Type 0) → (T → T → Bool) → Type 0
+CopiesAreEqual {T} is_copy eq = (v w : T) → is_copy v w → IsTrue (eq v w)
 
 -- values that are read from the same octets have one encoding
 abbrev pub OneValueIsRead : {T : Type 0} → form.Ghosts T → Type 0

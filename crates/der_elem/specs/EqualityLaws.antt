@@ -6,7 +6,7 @@ use Rattle.std.proofs.lemmas.List.{length-append}
 use Rattle.der_tlv.specs.declared.tag.Tag.{Tag}
 use Rattle.der_tlv.specs.HeaderOctets.{tlv}
 use Rattle.der_tlv.specs.HeaderLaws.{tlv-unique}
-use Rattle.der_elem.specs.Items.{OneForms}
+use Rattle.der_elem.specs.Items.{AllComparable}
 use Rattle.der_elem.specs.OrderLaws.{encoding-some}
 
 module _ {T : Type 0} (tag_of : T → Tag) (contents encoding : T → List ℕ) (encoding_is : (v : T) → encoding v ≡ tlv (tag_of v) (contents v)) where
@@ -18,7 +18,7 @@ module _ {T : Type 0} (tag_of : T → Tag) (contents encoding : T → List ℕ) 
       (encoding_is v ∙ ap (λ t. tlv t (contents v)) same.0 ∙ ap (tlv (tag_of w)) same.1 ∙ sym (encoding_is w), same.2)
 
   module _ (comparable : T → T → Type 0) (eq : T → T → Bool) (encoding_eq : (v w : T) → comparable v w → IsTrue (eq v w) ↔ (encoding v ≡ encoding w)) where
-    pub items_eq : (vs ws : List T) → OneForms comparable vs ws → IsTrue (pointwise eq vs ws) ↔ (flat_map encoding vs ≡ flat_map encoding ws)
+    pub items_eq : (vs ws : List T) → AllComparable comparable vs ws → IsTrue (pointwise eq vs ws) ↔ (flat_map encoding vs ≡ flat_map encoding ws)
     items_eq [] [] o = (λ _. refl, λ _. refl)
     items_eq [] (w ∷ ws) o = (λ h. absurd (cc), λ h. let some = encoding-some tag_of contents encoding encoding_is w in absurd (omega (arith, ap length h, length-append (encoding w) (flat_map encoding ws))))
     items_eq (v ∷ vs) [] o = (λ h. absurd (cc), λ h. let some = encoding-some tag_of contents encoding encoding_is v in absurd (omega (arith, ap length h, length-append (encoding v) (flat_map encoding vs))))

@@ -15,14 +15,14 @@ pub record OtherTag (tags : Tag → Bool) (p : ℕ) (octets : List ℕ) : Type 0
   pub is_other : tags tag ≡ false
 
 -- an absent field stands at the end, or before a tag that is none of these
-abbrev pub ToldApart : (Tag → Bool) → Option Tag → ℕ → List ℕ → Type 0
-ToldApart tags (Some t) p octets = Unit {0}
-ToldApart tags None p octets = (octets ≡ []) ⊎ OtherTag tags p octets
+abbrev pub DistinguishedFromNext : (Tag → Bool) → Option Tag → ℕ → List ℕ → Type 0
+DistinguishedFromNext tags (Some t) p octets = Unit {0}
+DistinguishedFromNext tags None p octets = (octets ≡ []) ⊎ OtherTag tags p octets
 
 -- a field was decoded, and is told from what follows it
 pub record FieldDecoded {T : Type 0} (F : form.Ghosts T) (old new : ReaderState) (v : T) : Type 0 where
   pub decoded : Decoded F old new v
-  pub told : ToldApart F.tags (F.lead v) old.position (rest old)
+  pub distinguished : DistinguishedFromNext F.tags (F.first_tag_of v) old.position (rest old)
 
 -- what decoding a field answers
 abbrev pub DecodesField : {T : Type 0} → form.Ghosts T → ReaderState → ReaderState → Result T Error → Type 0

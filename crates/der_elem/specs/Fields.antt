@@ -20,8 +20,8 @@ FirstFieldDecides {T} {U} first second =
     (v w : T) (o q : Option U) → lex (encoding_fields first second v o) (encoding_fields first second w q) ≡ ordering_then (lex (first v) (first w)) (option_cmp (on second lex) o q)
 
 -- the encodings of both fields are found again in the two joined
-abbrev pub FieldsAreToldApart : {T U : Type 0} → (T → List ℕ) → (U → List ℕ) → Type 0
-FieldsAreToldApart {T} {U} first second =
+abbrev pub FieldsAreDistinguished : {T U : Type 0} → (T → List ℕ) → (U → List ℕ) → Type 0
+FieldsAreDistinguished {T} {U} first second =
     (v w : T) (o q : Option U) → encoding_fields first second v o ≡ encoding_fields first second w q → (first v ≡ first w) × (encoding_option second o ≡ encoding_option second q)
 
 module _ {T : Type 0} (tag_of : T → Tag) (contents encoding : T → List ℕ) (encoding_is : (v : T) → encoding v ≡ tlv (tag_of v) (contents v)) where
@@ -36,5 +36,5 @@ module _ {T : Type 0} (tag_of : T → Tag) (contents encoding : T → List ℕ) 
   pub lex-first : (v w : T) (x y : List ℕ) → lex (encoding v ++ x) (encoding w ++ y) ≡ ordering_then (lex (encoding v) (encoding w)) (lex x y)
   lex-first v w x y = lex-append (encoding v) (encoding w) x y (encoding-beginning tag_of contents encoding encoding_is v w)
 
-  pub told_apart : {U : Type 0} (second : U → List ℕ) → FieldsAreToldApart encoding second
-  told_apart second v w o q e = encoding-unique tag_of contents encoding encoding_is v w (encoding_option second o) (encoding_option second q) e
+  pub distinguished : {U : Type 0} (second : U → List ℕ) → FieldsAreDistinguished encoding second
+  distinguished second v w o q e = encoding-unique tag_of contents encoding encoding_is v w (encoding_option second o) (encoding_option second q) e

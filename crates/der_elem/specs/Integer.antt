@@ -11,7 +11,7 @@ AreOctets octets = AllBelowBase 256 octets
 abbrev pub big_endian_number : List ℕ → ℕ
 big_endian_number octets = number_from_digits 256 octets
 
--- the number of octets that have zeros behind them, up to k octets
+-- the number of octets that have zeros after them, up to k octets
 abbrev pub left_aligned : ℕ → List ℕ → ℕ
 left_aligned k octets = big_endian_number octets * 256 ^ (k - length octets)
 

@@ -59,7 +59,7 @@ number_after-ge : (n : ℕ) (octets : List ℕ) → n * 256 ^ length octets ≤ 
 number_after-ge n [] = omega (arith, pow-zero 256)
 number_after-ge n (octet ∷ octets) = omega (arith, number_after-ge (n * 256 + octet) octets, ap (λ p. n * p) (pow-suc 256 (length octets)), mul-le-mul_right {m = n * 256} {n = n * 256 + octet} (256 ^ length octets) (omega arith))
 
--- the same number, with as many octets behind, has the same octets
+-- the same number, with as many octets after, has the same octets
 number_after-same : (m n : ℕ) (xs ys : List ℕ) → AreOctets xs → AreOctets ys → length xs ≡ length ys → number_from_digits_after 256 m xs ≡ number_from_digits_after 256 n ys → (m ≡ n) × (xs ≡ ys)
 number_after-same m n [] [] all_x all_y lengths numbers = (numbers, refl)
 number_after-same m n [] (y ∷ ys) all_x all_y lengths numbers = absurd (omega arith)

@@ -3,6 +3,7 @@ use Rattle.std.proofs.Common.{◌≡◌, refl, ◌∙◌, arith, ◌≤◌, slic
 use Rattle.std.proofs.lemmas.Bool.{or_parts}
 use Rattle.std.proofs.lemmas.Bool.Decides.{nat_tests}
 use Rattle.der_tlv.specs.declared.encoding_rules.EncodingRules.{EncodingRules}
+use Rattle.der_tlv.specs.OctetFaults.{IsOfOctets, of_octets_either}
 use Rattle.der_tlv.specs.declared.error.ErrorKind.TheVariants as kinds
 use Rattle.der_tlv.specs.declared.tag.Tag.TheVariants.{Integer}
 use Rattle.der_elem.specs.Integer.{natural_contents, integer_contents, is_redundant, FitsSignedWidth, FitsUnsignedWidth, FitsUnsignedOctets, fits_unsigned}
@@ -49,3 +50,14 @@ parse_signed-own width some rules z p fits = signed_or_fault-ok width (integer_c
 -- the same of a number that is not negative
 pub parse_unsigned-own : (width : ℕ) (rules : EncodingRules) (n p : ℕ) → FitsUnsignedWidth width n → parse_unsigned width rules p (natural_contents n) ≡ Ok (natural_contents n)
 parse_unsigned-own width rules n p fits = unsigned_or_fault-ok width (natural_contents n) (natural_contents-some n) (natural_contents-first n) (natural_contents-fits_octets n width fits) (natural_contents-needed n)
+
+-- the faults are of the octets
+pub signed_of_octets : (width : ℕ) (rules : EncodingRules) (p : ℕ) (octets : List ℕ) → IsOfOctets (parse_signed width rules p octets)
+signed_of_octets width rules p [] = refl
+signed_of_octets width rules p (first ∷ others) =
+    of_octets_either (nat_lt width (length (first ∷ others)) || is_redundant (first ∷ others)) (Err (kinds.Noncanonical Integer)) (Ok (first ∷ others)) refl tt
+
+pub unsigned_of_octets : (width : ℕ) (rules : EncodingRules) (p : ℕ) (octets : List ℕ) → IsOfOctets (parse_unsigned width rules p octets)
+unsigned_of_octets width rules p [] = refl
+unsigned_of_octets width rules p (first ∷ others) =
+    of_octets_either (nat_lt (width + 1) (length (first ∷ others)) || has_needless_zero (first ∷ others)) _ _ refl (of_octets_either (nat_le 128 first) _ _ refl (of_octets_either (fits_unsigned width (first ∷ others)) (Ok (first ∷ others)) (Err (kinds.Length Integer)) tt refl))

@@ -4,10 +4,11 @@ use Rattle.std.proofs.lemmas.List.{nil_from_length, length-append, length-drop}
 use Rattle.std.proofs.Math.Seq.{drop-append_seam}
 use Rattle.der_tlv.specs.declared.error.ErrorKind.{ErrorKind}
 use Rattle.der_tlv.specs.declared.encoding_rules.EncodingRules.{EncodingRules}
+use Rattle.der_tlv.specs.OctetFaults.{IsOfOctets}
 use Rattle.der_elem.specs.declared.form.Form as form
 use Rattle.der_elem.specs.Parsing.{Parse}
 use Rattle.der_elem.specs.Accepting.{Fits}
-use Rattle.der_elem.specs.Items.{AcceptsItems, EachItem, join_items, then_items, parse_items_up_to, parse_items, OneForms}
+use Rattle.der_elem.specs.Items.{AcceptsItems, EachItem, join_items, then_items, parse_items_up_to, parse_items, AllComparable}
 
 then_items-same : (r : Result (ℕ × List ℕ) ErrorKind) (f g : ℕ → Result (List ℕ) ErrorKind) → ((n : ℕ) → f (suc n) ≡ g (suc n)) → then_items r f ≡ then_items r g
 then_items-same (Err k) f g h = refl
@@ -41,6 +42,26 @@ parse_items-more parse rules p zero c s h o e = absurd (omega arith)
 parse_items-more parse rules p (suc n) c s h o e =
     parse_items-step parse rules p c h ∙ ap (λ r. then_items r (λ n. parse_items parse rules (p + n) (drop n c))) e
 
+-- the faults of a list are of its octets, where those of its items are
+pub join_of_octets : (octets : List ℕ) (r : Result (List ℕ) ErrorKind) → IsOfOctets r → IsOfOctets (join_items octets r)
+join_of_octets octets (Ok others) h = tt
+join_of_octets octets (Err k) h = h
+
+then_of_octets : (r : Result (ℕ × List ℕ) ErrorKind) (others : ℕ → Result (List ℕ) ErrorKind) → IsOfOctets r → ((n : ℕ) → IsOfOctets (others n)) → IsOfOctets (then_items r others)
+then_of_octets (Err k) others h hs = h
+then_of_octets (Ok (zero, octets)) others h hs = tt
+then_of_octets (Ok (suc n, octets)) others h hs = join_of_octets octets (others (suc n)) (hs (suc n))
+
+up_to_of_octets : (parse : ℕ → List ℕ → Result (ℕ × List ℕ) ErrorKind) → ((p : ℕ) (c : List ℕ) → IsOfOctets (parse p c)) → (count p : ℕ) (c : List ℕ) → IsOfOctets (parse_items_up_to count parse p c)
+up_to_of_octets parse h zero p c = tt
+up_to_of_octets parse h (suc count) p [] = tt
+up_to_of_octets parse h (suc count) p (x ∷ xs) =
+    then_of_octets (parse p (x ∷ xs)) _ (h p (x ∷ xs)) (λ n. up_to_of_octets parse h count (p + n) (drop n (x ∷ xs)))
+
+pub items_of_octets : (parse : Parse) → ((rules : EncodingRules) (p : ℕ) (c : List ℕ) → IsOfOctets (parse rules p c)) → (rules : EncodingRules) (p : ℕ) (c : List ℕ) → IsOfOctets (parse_items parse rules p c)
+unfolding parse_items
+items_of_octets parse h rules p c = up_to_of_octets (parse rules) (h rules) (length c) p c
+
 -- two parts of octets that fit
 pub first_fits : (c b d : List ℕ) → c ≡ b ++ d → Fits c → Fits b
 first_fits c b d e fits = omega (arith, ap length e, length-append b d)
@@ -72,7 +93,7 @@ module _ {T : Type 0} (F : form.Ghosts T) (rules : EncodingRules) where
   readable_items [] c e = tt
   readable_items (v ∷ vs) c (b, d, e, a, others) = (F.only_readable rules v b a, readable_items vs d others)
 
-  pub comparable_items : (vs ws : List T) (c d : List ℕ) → AcceptsItems (F.accepts rules) vs c → AcceptsItems (F.accepts rules) ws d → OneForms F.comparable vs ws
+  pub comparable_items : (vs ws : List T) (c d : List ℕ) → AcceptsItems (F.accepts rules) vs c → AcceptsItems (F.accepts rules) ws d → AllComparable F.comparable vs ws
   comparable_items [] ws c d a b = tt
   comparable_items (v ∷ vs) [] c d a b = tt
   comparable_items (v ∷ vs) (w ∷ ws) c d (b, c', e, a, more) (b', d', e', a', bs) = (F.accepts_comparable rules v w b b' a a', comparable_items vs ws c' d' more bs)

@@ -13,7 +13,7 @@ abbrev pub EachItem : {T : Type 0} → (T → Type 0) → List T → Type 0
 EachItem p [] = Unit {0}
 EachItem p (v ∷ vs) = p v × EachItem p vs
 
--- what the others come to, behind these octets
+-- what the others come to, after these octets
 abbrev pub join_items : List ℕ → Result (List ℕ) ErrorKind → Result (List ℕ) ErrorKind
 join_items octets (Ok others) = Ok (octets ++ others)
 join_items octets (Err k) = Err k
@@ -35,10 +35,10 @@ unfoldable pub parse_items : Parse → ContentsParse
 parse_items parse rules p octets = parse_items_up_to (length octets) (parse rules) p octets
 
 -- whether each pair of two lists is comparable
-abbrev pub OneForms : {T : Type 0} → (T → T → Type 0) → List T → List T → Type 0
-OneForms comparable [] ws = Unit {0}
-OneForms comparable (v ∷ vs) [] = Unit {0}
-OneForms comparable (v ∷ vs) (w ∷ ws) = comparable v w × OneForms comparable vs ws
+abbrev pub AllComparable : {T : Type 0} → (T → T → Type 0) → List T → List T → Type 0
+AllComparable comparable [] ws = Unit {0}
+AllComparable comparable (v ∷ vs) [] = Unit {0}
+AllComparable comparable (v ∷ vs) (w ∷ ws) = comparable v w × AllComparable comparable vs ws
 
 -- each item of a list is a copy of the item at its place in the other
 abbrev pub AreCopies : {T : Type 0} → (T → T → Type 0) → List T → List T → Type 0

@@ -3,6 +3,8 @@ use Rattle.std.proofs.Common.{◌≡◌, ℕ, List, [], ◌∷◌, true, Result,
 use Rattle.der_tlv.specs.declared.error.ErrorKind.{ErrorKind}
 use Rattle.der_tlv.specs.declared.error.ErrorKind.TheVariants as kinds
 use Rattle.der_tlv.specs.declared.tag.Tag.TheVariants.{Null}
+use Rattle.der_tlv.specs.declared.encoding_rules.EncodingRules.{EncodingRules}
+use Rattle.der_tlv.specs.OctetFaults.{IsOfOctets}
 use Rattle.der_elem.specs.Parsing.{ContentsParse}
 
 -- the one value has no contents octets
@@ -22,6 +24,11 @@ parse_null rules p octets = null_or_fault octets
 abbrev pub ReadsNull : List ℕ → Result (Unit {0}) ErrorKind → Type 0
 ReadsNull octets (Ok _) = octets ≡ []
 ReadsNull octets (Err kind) = null_or_fault octets ≡ Err kind
+
+-- the faults are of the octets
+pub null_of_octets : (rules : EncodingRules) (p : ℕ) (octets : List ℕ) → IsOfOctets (parse_null rules p octets)
+null_of_octets rules p [] = tt
+null_of_octets rules p (octet ∷ others) = refl
 
 -- there is one value
 pub unit_eq_decides : (v w : Unit {0}) → Decides true (v ≡ w)

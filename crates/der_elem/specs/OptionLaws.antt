@@ -1,8 +1,10 @@
 -- The laws of values that may be absent, from those of the values.
-use Rattle.std.proofs.Common.{◌≡◌, ℕ, List, [], ◌∷◌, ◌++◌, length, Bool, true, false, Option, Some, None, Ok, refl, sym, ap, ◌∙◌, append_assoc, IsTrue, ◌↔◌, arith}
+use Rattle.std.proofs.Common.{◌≡◌, ℕ, List, [], ◌∷◌, ◌++◌, length, Bool, true, false, Option, Some, None, Result, Ok, Err, refl, sym, ap, ◌∙◌, append_assoc, IsTrue, ◌↔◌, arith}
 use Rattle.std.specs.Option.{option_eq}
 use Rattle.std.proofs.lemmas.List.{nil_from_length}
+use Rattle.der_tlv.specs.declared.error.ErrorKind.{ErrorKind}
 use Rattle.der_tlv.specs.declared.encoding_rules.EncodingRules.{EncodingRules}
+use Rattle.der_tlv.specs.OctetFaults.{IsOfOctets, of_octets_either, tag_of_octets_read}
 use Rattle.der_tlv.specs.declared.tag.Tag.{Tag}
 use Rattle.der_tlv.specs.HeaderOctets.{tlv}
 use Rattle.der_tlv.specs.Identifier.{identifier}
@@ -10,15 +12,26 @@ use Rattle.der_tlv.specs.HeaderReading.{read_tag}
 use Rattle.der_tlv.specs.TagReadingLaws.{read_tag-identifier}
 use Rattle.der_elem.specs.declared.form.Form as form
 use Rattle.der_elem.specs.Accepting.{Fits, BeginsWith, MayFollow}
-use Rattle.der_elem.specs.Leading.{Leads}
+use Rattle.der_elem.specs.Parsing.{Parse}
+use Rattle.der_elem.specs.FirstTags.{BeginsWithFirst}
 use Rattle.der_elem.specs.OrderLaws.{encoding-some}
-use Rattle.der_elem.specs.Options.{lead_option, encoding_option, comparable_option, test_option, accepts_option, readable_option, is_copy_option, parse_option}
+use Rattle.der_elem.specs.Options.{first_tag_option, encoding_option, comparable_option, test_option, accepts_option, readable_option, is_copy_option, parse_at_tag, parse_option}
 
 module _ (tags : Tag → Bool) where
   -- the tag that octets begin with is the next tag
   next_tag : (one : Bool) (p : ℕ) (octets x : List ℕ) (h : BeginsWith tags one octets) → read_tag p (octets ++ x) ≡ Ok (length (identifier h.tag), h.tag)
   next_tag one p octets x h =
       ap (read_tag p) (ap (λ o. o ++ x) h.octets_are ∙ append_assoc (identifier h.tag) h.others x) ∙ read_tag-identifier h.tag p (h.others ++ x) h.is_tag
+
+-- the faults are of the octets, where those of the value are
+at_tag_of_octets : (tags : Tag → Bool) (parsed : Result (ℕ × List ℕ) ErrorKind) (next : Result (ℕ × Tag) ErrorKind) → IsOfOctets parsed → IsOfOctets next → IsOfOctets (parse_at_tag tags parsed next)
+at_tag_of_octets tags parsed (Err k) h next = next
+at_tag_of_octets tags parsed (Ok (count, tag)) h next = of_octets_either (tags tag) parsed (Ok (0, [])) h tt
+
+pub option_of_octets : (tags : Tag → Bool) (parse : Parse) → ((rules : EncodingRules) (p : ℕ) (c : List ℕ) → IsOfOctets (parse rules p c)) → (rules : EncodingRules) (p : ℕ) (c : List ℕ) → IsOfOctets (parse_option tags parse rules p c)
+option_of_octets tags parse h rules p [] = tt
+option_of_octets tags parse h rules p (z ∷ octets) =
+    at_tag_of_octets tags (parse rules p (z ∷ octets)) (read_tag p (z ∷ octets)) (h rules p (z ∷ octets)) (tag_of_octets_read p (z ∷ octets))
 
 module _ {T : Type 0} (F : form.Ghosts T) (rules : EncodingRules) where
   absent : (p z : ℕ) (x : List ℕ) → BeginsWith F.tags false (z ∷ x) → parse_option F.tags F.parse rules p (z ∷ x) ≡ Ok (0, [])
@@ -41,9 +54,9 @@ module _ {T : Type 0} (F : form.Ghosts T) (rules : EncodingRules) where
   begins_option None z b a = absurd (cc)
   begins_option (Some v) z b a = F.begins rules v z b a
 
-  pub led_option : (o : Option T) (b : List ℕ) → accepts_option (F.accepts rules) o b → Leads (lead_option F.lead o) b
-  led_option None b a = a
-  led_option (Some v) b a = F.led rules v b a
+  pub begins_first_option : (o : Option T) (b : List ℕ) → accepts_option (F.accepts rules) o b → BeginsWithFirst (first_tag_option F.first_tag_of o) b
+  begins_first_option None b a = a
+  begins_first_option (Some v) b a = F.begins_first rules v b a
 
   pub same_length_option : (o : Option T) (b : List ℕ) → accepts_option (F.accepts rules) o b → length (encoding_option F.encoding o) ≡ length b
   same_length_option None b a = ap length (sym a)
@@ -62,6 +75,13 @@ module _ {T : Type 0} (F : form.Ghosts T) (rules : EncodingRules) where
   comparable_of_option (Some v) None b c a e = tt
   comparable_of_option (Some v) (Some w) b c a e = F.accepts_comparable rules v w b c a e
 
+-- a copy is equal to its source, if copies of values are
+pub copy_is_equal_option : {T : Type 0} (is_copy : T → T → Type 0) (eq : T → T → Bool) (same : (v w : T) → is_copy v w → IsTrue (eq v w)) (o q : Option T) → is_copy_option is_copy o q → IsTrue (option_eq eq o q)
+copy_is_equal_option is_copy eq same None None c = refl
+copy_is_equal_option is_copy eq same None (Some w) c = absurd c
+copy_is_equal_option is_copy eq same (Some v) None c = absurd c
+copy_is_equal_option is_copy eq same (Some v) (Some w) c = same v w c
+
 module _ {T : Type 0} (F : form.Ghosts T) where
   pub re_reads_option : (o : Option T) → test_option F.re_reads o ≡ true → F.TAKES_MEMORY ≡ true
   re_reads_option None h = absurd (cc)
@@ -73,12 +93,12 @@ module _ {T : Type 0} (F : form.Ghosts T) where
   copy_encoding_option is_copy same (Some v) None c = absurd c
   copy_encoding_option is_copy same (Some v) (Some w) c = same v w c
 
-  pub copy_form_option : (is_copy : T → T → Type 0) (copy_form : (v w x : T) → is_copy v w → F.comparable v x → F.comparable w x) (o q r : Option T) → is_copy_option is_copy o q → comparable_option F.comparable o r → comparable_option F.comparable q r
-  copy_form_option is_copy same None None r c h = tt
-  copy_form_option is_copy same None (Some w) r c h = absurd c
-  copy_form_option is_copy same (Some v) None r c h = absurd c
-  copy_form_option is_copy same (Some v) (Some w) None c h = tt
-  copy_form_option is_copy same (Some v) (Some w) (Some x) c h = same v w x c h
+  pub copy_comparable_option : (is_copy : T → T → Type 0) (copy_comparable : (v w x : T) → is_copy v w → F.comparable v x → F.comparable w x) (o q r : Option T) → is_copy_option is_copy o q → comparable_option F.comparable o r → comparable_option F.comparable q r
+  copy_comparable_option is_copy same None None r c h = tt
+  copy_comparable_option is_copy same None (Some w) r c h = absurd c
+  copy_comparable_option is_copy same (Some v) None r c h = absurd c
+  copy_comparable_option is_copy same (Some v) (Some w) None c h = tt
+  copy_comparable_option is_copy same (Some v) (Some w) (Some x) c h = same v w x c h
 
   pub copy_re_reads_option : (is_copy : T → T → Type 0) (copy_re_reads : (v w : T) → is_copy v w → F.re_reads w ≡ F.re_reads v) (o q : Option T) → is_copy_option is_copy o q → test_option F.re_reads q ≡ test_option F.re_reads o
   copy_re_reads_option is_copy same None None c = refl

@@ -11,9 +11,9 @@ encoding_option encoding None = []
 encoding_option encoding (Some v) = encoding v
 
 -- an absent value has no tag
-abbrev pub lead_option : {T : Type 0} → (T → Option Tag) → Option T → Option Tag
-lead_option lead None = None
-lead_option lead (Some v) = lead v
+abbrev pub first_tag_option : {T : Type 0} → (T → Option Tag) → Option T → Option Tag
+first_tag_option first_tag None = None
+first_tag_option first_tag (Some v) = first_tag v
 
 -- an absent value is of each form
 abbrev pub comparable_option : {T : Type 0} → (T → T → Type 0) → Option T → Option T → Type 0

@@ -25,15 +25,15 @@ tlv-beginning t u c d = record {
   same = λ x y e. let same = tlv-unique t u c d x y e in ap (λ t. tlv t c) same.0 ∙ ap (tlv u) same.1;
 }
 
--- what stands behind octets that are an encoding, and is with them an encoding too, is nothing
-pub nothing_behind : (octets more : List ℕ) → IsTlv octets → IsTlv (octets ++ more) → more ≡ []
-nothing_behind octets more a b =
+-- what stands after octets that are an encoding, and is with them an encoding too, is nothing
+pub nothing_after : (octets more : List ℕ) → IsTlv octets → IsTlv (octets ++ more) → more ≡ []
+nothing_after octets more a b =
     let e : tlv a.tag a.contents ++ more ≡ tlv b.tag b.contents ++ [] = ap (λ o. o ++ more) (sym a.octets_are) ∙ b.octets_are ∙ sym (append-nil (tlv b.tag b.contents)) in
     (tlv-unique a.tag b.tag a.contents b.contents more [] e).2
 
 -- the order of octets that begin with two encodings is theirs, and where they are the same that of what follows
-pub lex-tlv : (t u : Tag) (c d x y : List ℕ) → lex (tlv t c ++ x) (tlv u d ++ y) ≡ ordering_then (lex (tlv t c) (tlv u d)) (lex x y)
-lex-tlv t u c d x y = lex-append (tlv t c) (tlv u d) x y (tlv-beginning t u c d)
+pub lex-tlv_front : (t u : Tag) (c d x y : List ℕ) → lex (tlv t c ++ x) (tlv u d ++ y) ≡ ordering_then (lex (tlv t c) (tlv u d)) (lex x y)
+lex-tlv_front t u c d x y = lex-append (tlv t c) (tlv u d) x y (tlv-beginning t u c d)
 
 pub lex-none-some : (s x : List ℕ) → 0 < length s → lex [] (s ++ x) ≡ Less
 lex-none-some [] x h = absurd (omega arith)

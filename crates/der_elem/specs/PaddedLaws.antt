@@ -7,7 +7,7 @@ use Rattle.der_tlv.specs.declared.tag.Tag.{Tag}
 use Rattle.der_tlv.specs.Octets.{lex}
 use Rattle.der_tlv.specs.OctetLaws.{lex-equal, lex-same}
 use Rattle.der_tlv.specs.HeaderOctets.{tlv}
-use Rattle.der_elem.specs.OrderLaws.{lex-tlv}
+use Rattle.der_elem.specs.OrderLaws.{lex-tlv_front}
 use Rattle.der_elem.specs.PaddedOrder.{padded_cmp}
 
 then_settled : (o p : Ordering) → (o ≡ Equal → p ≡ Equal) → ordering_then o p ≡ o
@@ -22,4 +22,4 @@ padded-tlv t u c d =
     let x : List ℕ = replicate (length b - length a) 0 in
     let y : List ℕ = replicate (length a - length b) 0 in
     let same_padding : a ≡ b → lex x y ≡ Equal = λ e. ap (λ s. lex (replicate (length b - length s) 0) (replicate (length s - length b) 0)) e ∙ lex-same (replicate (length b - length b) 0) in
-    lex-tlv t u c d x y ∙ then_settled (lex a b) (lex x y) (λ e. same_padding (lex-equal a b e))
+    lex-tlv_front t u c d x y ∙ then_settled (lex a b) (lex x y) (λ e. same_padding (lex-equal a b e))

@@ -17,7 +17,7 @@ pub record ItemDecoded {T : Type 0} (F : form.Ghosts T) (old new : ReaderState) 
 
 -- no item was read: there is none (7), or its fault
 pub record NoItem {T : Type 0} (F : form.Ghosts T) (old new : ReaderState) (kind : ErrorKind) : Type 0 where
-  pub reason : ((rest old ≡ []) × (kind ≡ Length Sequence)) ⊎ ((0 < length (rest old)) × Faults F.TAKES_MEMORY (unless_failed (F.parse old.rules) old) kind)
+  pub reason : ((rest old ≡ []) × (kind ≡ Length Sequence)) ⊎ ((0 < length (rest old)) × Faults F.TAKES_MEMORY F.FAULTS_FIRST (unless_failed (F.parse old.rules) old) kind)
   pub reader : old.failed ≡ false → Refused old new kind
 
 abbrev pub DecodesItem : {T : Type 0} → form.Ghosts T → ReaderState → ReaderState → Result T Error → Type 0
@@ -27,7 +27,7 @@ DecodesItem F old new (Err e) = NoItem F old new e.kind
 -- an item too many
 pub record ItemTooMany {T : Type 0} (F : form.Ghosts T) (old new : ReaderState) (kind : ErrorKind) : Type 0 where
   pub some : 0 < length (rest old)
-  pub reason : Faults F.TAKES_MEMORY (too_many (unless_failed (F.parse old.rules) old)) kind
+  pub reason : Faults F.TAKES_MEMORY false (too_many (unless_failed (F.parse old.rules) old)) kind
   pub reader : Refused old new kind
 
 abbrev pub RefusesItem : {T : Type 0} → form.Ghosts T → ReaderState → ReaderState → Result (Unit {0}) Error → Type 0

@@ -1,16 +1,20 @@
 -- The laws of encodings with one tag, from those of their contents octets.
-use Rattle.std.proofs.Common.{◌≡◌, ℕ, ◌+◌, List, ◌∷◌, ◌++◌, length, true, Ok, refl, sym, ap, ◌∙◌, arith, subst, append_assoc, ◌↔◌, Bool, IsTrue}
+use Rattle.std.proofs.Common.{◌≡◌, ℕ, ◌+◌, List, ◌∷◌, ◌++◌, length, take, drop, nat_lt, true, Result, Ok, Err, refl, sym, ap, ◌∙◌, arith, subst, append_assoc, ◌↔◌, Bool, IsTrue}
 use Rattle.std.proofs.lemmas.List.{length-append}
 use Rattle.std.proofs.Math.Seq.{take-append_seam, drop-append_seam}
 use Rattle.der_tlv.specs.declared.encoding_rules.EncodingRules.{EncodingRules}
+use Rattle.der_tlv.specs.declared.error.ErrorKind.{ErrorKind}
+use Rattle.der_tlv.specs.declared.header.Header.{Header}
 use Rattle.der_tlv.specs.declared.tag.Tag.{Tag}
 use Rattle.der_tlv.specs.TagParts.{IsTag}
 use Rattle.der_tlv.specs.Identifier.{identifier, same_identifier}
 use Rattle.der_tlv.specs.LengthOctets.{length_octets}
 use Rattle.der_tlv.specs.LengthLaws.{not_short}
 use Rattle.der_tlv.specs.HeaderOctets.{header_octets, tlv}
+use Rattle.der_tlv.specs.HeaderReading.{read_header}
+use Rattle.der_tlv.specs.OctetFaults.{IsOfOctets, of_octets_either, of_octets_missing, header_of_octets_read}
 use Rattle.der_tlv.specs.HeaderLaws.{read_header-octets, same_identifier-same, tlv-injective}
-use Rattle.der_elem.specs.Parsing.{ContentsParse, parse_tagged, parse_with_tag}
+use Rattle.der_elem.specs.Parsing.{ContentsParse, parse_tagged, parse_with_tag, parse_contents, tagged_contents}
 use Rattle.der_elem.specs.Accepting.{Fits, BeginsWith, IsTlv, MayFollow, accepts_tagged}
 
 -- contents are no longer than their encoding
@@ -31,6 +35,25 @@ module _ {T : Type 0} (t : Tag) (is_tag : IsTag t) (accepts : EncodingRules → 
   parse_of_tagged rules v p b x (c, e, a) fits follows =
       let fits' : Fits (tlv t c) = subst Fits e fits in
       subst (λ b. parse_tagged t parse rules p (b ++ x) ≡ Ok (length b, tlv t (contents v))) (sym e) (parse_tagged-tlv t parse rules p c (contents v) x is_tag fits' (λ p. parse_of_accepted rules v p c a (contents_fit t c fits')))
+
+-- the faults of an encoding are of its octets, where those of its contents octets are
+module _ (t : Tag) (parse : ContentsParse) (of_octets : (rules : EncodingRules) (p : ℕ) (c : List ℕ) → IsOfOctets (parse rules p c)) where
+  value_of_octets : (n : ℕ) (r : Result (List ℕ) ErrorKind) → IsOfOctets r → IsOfOctets (tagged_contents t n r)
+  value_of_octets n (Ok contents) h = tt
+  value_of_octets n (Err k) h = h
+
+  pub contents_of_octets : (rules : EncodingRules) (count p n : ℕ) (octets : List ℕ) → IsOfOctets (parse_contents t parse rules count p n octets)
+  contents_of_octets rules count p n octets =
+      of_octets_either (nat_lt (length octets) n) _ _ (of_octets_missing p n (length octets)) (value_of_octets (count + n) _ (of_octets rules p (take n octets)))
+
+  with_tag_of_octets : (rules : EncodingRules) (p : ℕ) (octets : List ℕ) (r : Result (ℕ × Header) ErrorKind) → IsOfOctets r → IsOfOctets (parse_with_tag t parse rules p octets r)
+  with_tag_of_octets rules p octets (Err k) h = h
+  with_tag_of_octets rules p octets (Ok (count, header)) h =
+      of_octets_either (same_identifier header.tag t) _ _ (contents_of_octets rules count (p + count) header.length (drop count octets)) refl
+
+  pub tagged_of_octets : (rules : EncodingRules) (p : ℕ) (octets : List ℕ) → IsOfOctets (parse_tagged t parse rules p octets)
+  unfolding parse_tagged
+  tagged_of_octets rules p octets = with_tag_of_octets rules p octets (read_header p octets) (header_of_octets_read p octets)
 
 pub begins_tagged : {T : Type 0} (t : Tag) (is_tag : IsTag t) (accepts : EncodingRules → T → List ℕ → Type 0) (rules : EncodingRules) (v : T) (z : ℕ) (b : List ℕ) → accepts_tagged t accepts rules v (z ∷ b) → BeginsWith (λ u. same_identifier u t) true (z ∷ b)
 begins_tagged t is_tag accepts rules v z b (c, e, a) =

@@ -6,6 +6,7 @@ use Rattle.std.specs.declared.string.String.{String}
 use Rattle.std.proofs.lemmas.Str.{is_utf8-from_IsUtf8, IsUtf8-string_bytes}
 use Rattle.der_tlv.specs.declared.error.ErrorKind.TheVariants.{Utf8}
 use Rattle.der_tlv.specs.declared.encoding_rules.EncodingRules.{EncodingRules}
+use Rattle.der_tlv.specs.OctetFaults.{IsOfOctets, of_octets_either}
 use Rattle.der_elem.specs.Parsing.{ContentsParse}
 
 -- octets that are UTF-8 are read as they are, and else refused (12)
@@ -19,3 +20,7 @@ parse_of_utf8 rules p text c utf8 e = ap (parse_utf8 rules p) e ∙ rw utf8 refl
 -- and a string is UTF-8
 pub parse_utf8-own : {Z : Type 0} (rules : EncodingRules) (s : String Z) (p : ℕ) → parse_utf8 rules p (string_bytes s) ≡ Ok (string_bytes s)
 parse_utf8-own rules s p = parse_of_utf8 rules p (string_bytes s) (string_bytes s) (is_utf8-from_IsUtf8 (string_bytes s) (IsUtf8-string_bytes s)) refl
+
+-- the faults are of the octets
+pub utf8_of_octets : (rules : EncodingRules) (p : ℕ) (octets : List ℕ) → IsOfOctets (parse_utf8 rules p octets)
+utf8_of_octets rules p octets = of_octets_either (is_utf8 octets) (Ok octets) (Err Utf8) tt refl

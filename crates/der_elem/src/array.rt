@@ -4,15 +4,15 @@
 //! `[true]` is encoded as 30 03 01 01 FF.
 //!
 //! Reading refuses with the first fault of an item, from the left, where there are fewer items (7),
-//! and behind an item too many (`ErrorKind::Overlength`, 10), which is read first. It takes memory
+//! and after an item too many (`ErrorKind::Overlength`, 10), which is read first. It takes memory
 //! only where an item does.
 
-ghost use Rattle.std.specs.Prelude.{flat_map, refl};
+ghost use Rattle.std.specs.Prelude.{flat_map, false, refl};
 ghost use Rattle.std.specs.List.{list_any};
 ghost use Rattle.der_tlv.specs.declared.tag.Tag.TheVariants as tags;
-ghost use Rattle.der_elem.specs.Items.{OneForms};
+ghost use Rattle.der_elem.specs.Items.{AllComparable};
 ghost use Rattle.der_elem.specs.Arrays.{AcceptsArray, ReadableArray, parse_array};
-ghost use Rattle.der_elem.specs.ArrayLaws.{parse_of_array, same_length_array, accepts_array_contents, readable_array, comparable_array, re_reads_items};
+ghost use Rattle.der_elem.specs.ArrayLaws.{array_of_octets, parse_of_array, same_length_array, accepts_array_contents, readable_array, comparable_array, re_reads_items};
 ghost use Rattle.der_elem.specs.ReadingArrays.{DecodesItem, RefusesItem};
 ghost use Rattle.der_elem.specs.EqualityLaws.{items_eq};
 
@@ -43,14 +43,16 @@ impl<'a, T, const N: usize> Sequence<'a> for [T; N] {
 impl<T: Form, const N: usize> FormValue for [T; N] {
     ghost value = { record {
       contents = flat_map T.encoding;
-      comparable = OneForms T.comparable;
+      comparable = AllComparable T.comparable;
       re_reads = list_any T.re_reads;
       accepts = λ rules. AcceptsArray (T.accepts rules) N;
       parse = parse_array N T.parse;
       readable = ReadableArray T.readable T.encoding N;
       has_tag = λ v t. Unit {0};
-      TAKES_MEMORY = T.TAKES_MEMORY;
+      TAKES_MEMORY = T.Form.TAKES_MEMORY;
+      FAULTS_FIRST = false;
       parse_of_accepted = λ rules. parse_of_array T.Form rules N;
+      faults_of_octets = array_of_octets N T.parse T.faults_of_octets;
       same_length = λ rules. same_length_array T.Form rules N;
       accepts_contents = λ rules. accepts_array_contents T.Form rules N;
       only_readable = λ rules. readable_array T.Form rules N;
@@ -82,9 +84,9 @@ impl<T: EncodingEq + Tagged, const N: usize> ContentsEq for [T; N] {
 
 impl<'a, R: Source<'a>, T: Decode<'a, R> + Choice + Copy, const N: usize> DecodeValue<'a, R>
     for [T; N] {
-    ghost VALUE_NEEDS_MEMORY = { T.NEEDS_MEMORY };
+    ghost TAKES_MEMORY = { T.Decode.TAKES_MEMORY };
 
-    const VALUE_NEEDS_MEMORY: bool = T::NEEDS_MEMORY;
+    const TAKES_MEMORY: bool = <T as Decode<'a, R>>::TAKES_MEMORY;
 
     fn decode_value(alloc: Global, reader: &mut R, _header: Header) -> Result<[T; N], Error> {
         check_ready(reader)?;
@@ -101,7 +103,7 @@ impl<'a, R: Source<'a>, T: Decode<'a, R> + Choice + Copy, const N: usize> Decode
         Ok(items)
     }
 
-    ghost memory_of_value = { T.memory_of_form };
+    ghost takes_memory_is = { T.Decode.takes_memory_is };
 }
 
 impl<T: Form + Copy, const N: usize> CopyIsDuplicate for [T; N] {}

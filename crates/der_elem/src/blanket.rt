@@ -10,9 +10,9 @@ use std::alloc::Global;
 use std::cmp::Ordering;
 
 impl<'a, R: Source<'a>, T: DecodeValue<'a, R> + OneTag> Decode<'a, R> for T {
-    ghost NEEDS_MEMORY = { T.VALUE_NEEDS_MEMORY };
+    ghost TAKES_MEMORY = { T.DecodeValue.TAKES_MEMORY };
 
-    const NEEDS_MEMORY: bool = T::VALUE_NEEDS_MEMORY;
+    const TAKES_MEMORY: bool = <T as DecodeValue<'a, R>>::TAKES_MEMORY;
 
     fn decode(alloc: Global, reader: &mut R) -> Result<T, Error> {
         let header = Header::decode(reader)?;
@@ -26,7 +26,7 @@ impl<'a, R: Source<'a>, T: DecodeValue<'a, R> + OneTag> Decode<'a, R> for T {
         Ok(value)
     }
 
-    ghost memory_of_form = { T.memory_of_value };
+    ghost takes_memory_is = { T.DecodeValue.takes_memory_is };
 }
 
 impl<'a, T: Decode<'a, SliceReader<'a>>> FromDer<'a> for T {

@@ -10,8 +10,8 @@ ghost use Rattle.std.specs.Bool.{beq};
 ghost use Rattle.std.specs.Cmp.{booleans_Decides};
 ghost use Rattle.der_tlv.specs.declared.tag.Tag.TheVariants.{Boolean};
 ghost use Rattle.der_elem.specs.OwnContentsLaws.{contents_eq_own};
-ghost use Rattle.der_elem.specs.Boolean.{boolean_contents, parse_boolean, ReadsBoolean, parse_boolean-own, boolean_contents-injective, bool_cmp-lex};
-ghost use Rattle.der_elem.specs.ValueForms.{own_form};
+ghost use Rattle.der_elem.specs.Boolean.{boolean_contents, parse_boolean, ReadsBoolean, parse_boolean-own, boolean_of_octets, boolean_contents-injective, bool_cmp-lex};
+ghost use Rattle.der_elem.specs.FormatMakers.{format_of_contents};
 
 use crate::contents::read_contents;
 use crate::decode::DecodeValue;
@@ -42,7 +42,7 @@ pub fn boolean_of(octets: &[u8]) -> Result<bool, ErrorKind>
 }
 
 impl FormValue for bool {
-    ghost value = { own_form boolean_contents parse_boolean parse_boolean-own };
+    ghost value = { format_of_contents boolean_contents parse_boolean parse_boolean-own boolean_of_octets };
 }
 
 impl OneTag for bool {
@@ -50,9 +50,9 @@ impl OneTag for bool {
 }
 
 impl<'a, R: Source<'a>> DecodeValue<'a, R> for bool {
-    ghost VALUE_NEEDS_MEMORY = { false };
+    ghost TAKES_MEMORY = { false };
 
-    const VALUE_NEEDS_MEMORY: bool = false;
+    const TAKES_MEMORY: bool = false;
 
     fn decode_value(_alloc: Global, reader: &mut R, header: Header) -> Result<bool, Error> {
         match boolean_of(read_contents(reader, header)?) {
@@ -61,7 +61,7 @@ impl<'a, R: Source<'a>> DecodeValue<'a, R> for bool {
         }
     }
 
-    ghost memory_of_value = { refl };
+    ghost takes_memory_is = { refl };
 }
 
 impl EncodeValue for bool {

@@ -3,10 +3,10 @@
 //! Reading refuses with the value's faults, and then where memory runs out (1).
 
 ghost use Rattle.std.specs.Prelude.{true, refl};
-ghost use Rattle.der_elem.specs.ValueForms.{owning, held_form};
+ghost use Rattle.der_elem.specs.FormatMakers.{allocating, mapped_format};
 
 use crate::decode::DecodeValue;
-use crate::duplicate::DuplicateValue;
+use crate::duplicate::{DuplicateValue, DuplicateValueIsEqual};
 use crate::encode::EncodeValue;
 use crate::equality::ContentsEq;
 use crate::fixed_tag::OneTag;
@@ -24,13 +24,13 @@ impl<'a, T: Sequence<'a> + OneTag> Sequence<'a> for Box<T> {
 }
 
 impl<T: FormValue> FormValue for Box<T> {
-    ghost value = { owning (record (held_form (λ v. v.value) T.value) { has_tag = λ v. T.value.has_tag v.value }) };
+    ghost value = { allocating (record (mapped_format (λ v. v.value) T.value) { has_tag = λ v. T.value.has_tag v.value }) };
 }
 
 impl<'a, R: Source<'a>, T: DecodeValue<'a, R>> DecodeValue<'a, R> for Box<T> {
-    ghost VALUE_NEEDS_MEMORY = { true };
+    ghost TAKES_MEMORY = { true };
 
-    const VALUE_NEEDS_MEMORY: bool = true;
+    const TAKES_MEMORY: bool = true;
 
     fn decode_value(alloc: Global, reader: &mut R, header: Header) -> Result<Box<T>, Error> {
         let value = T::decode_value(alloc, reader, header)?;
@@ -40,7 +40,7 @@ impl<'a, R: Source<'a>, T: DecodeValue<'a, R>> DecodeValue<'a, R> for Box<T> {
         }
     }
 
-    ghost memory_of_value = { refl };
+    ghost takes_memory_is = { refl };
 }
 
 impl<T: EncodeValue> EncodeValue for Box<T> {
@@ -72,7 +72,11 @@ impl<T: DuplicateValue> DuplicateValue for Box<T> {
 
     ghost copy_contents = { λ v w. T.copy_contents v.value w.value };
 
-    ghost copy_form_value = { λ v w x. T.copy_form_value v.value w.value x.value };
+    ghost copy_comparable_value = { λ v w x. T.copy_comparable_value v.value w.value x.value };
 
     ghost copy_re_reads_value = { λ v w. T.copy_re_reads_value v.value w.value };
+}
+
+impl<T: DuplicateValueIsEqual> DuplicateValueIsEqual for Box<T> {
+    ghost copy_value_is_equal = { λ v w. T.copy_value_is_equal v.value w.value };
 }

@@ -11,43 +11,44 @@ use std::alloc::Global;
 
 /// Reading a value from its contents octets.
 pub trait DecodeValue<'a, R: Source<'a>>: FormValue {
-    ghost VALUE_NEEDS_MEMORY: { Bool };
+    ghost TAKES_MEMORY: { Bool };
 
     /// Whether reading the contents octets takes memory.
-    const VALUE_NEEDS_MEMORY: bool;
+    const TAKES_MEMORY: bool;
 
     /// Reads the value from all of the octets that the reader shows, of which the header says how
     /// many there are.
     ///
     /// # Errors
     /// `ErrorKind::Failed` (17) on a failed reader; the first fault of the contents octets, in the
-    /// type's order; `ErrorKind::Memory` (1) where the type takes memory. Where the header says
-    /// another length than the reader shows, the value may be any, and a refusal leaves the reader
-    /// as every other does.
+    /// type's order; `ErrorKind::Memory` (1) where the type takes memory, of a type that finds every
+    /// fault first only for octets without one. Where the header says another length than the reader
+    /// shows, the value may be any, and a refusal leaves the reader as every other does.
     fn decode_value(alloc: Global, reader: &mut R, header: Header) -> Result<Self, Error>
         ensures exact { length (rest (R.state reader.old)) ≡ header.length
             → DecodesValue Self.value header (R.state reader.old) (R.state reader.new) result }
         ensures reader { Stands (R.state reader.old) (R.state reader.new) result };
 
-    ghost memory_of_value: { Self.VALUE_NEEDS_MEMORY ≡ Self.value.TAKES_MEMORY };
+    ghost takes_memory_is: { Self.DecodeValue.TAKES_MEMORY ≡ Self.value.TAKES_MEMORY };
 }
 
 /// Reading a value from its encoding.
 pub trait Decode<'a, R: Source<'a>>: Form {
-    ghost NEEDS_MEMORY: { Bool };
+    ghost TAKES_MEMORY: { Bool };
 
     /// Whether reading the encoding takes memory.
-    const NEEDS_MEMORY: bool;
+    const TAKES_MEMORY: bool;
 
     /// Reads the value whose encoding stands at the reader's position.
     ///
     /// # Errors
     /// `ErrorKind::Failed` (17) on a failed reader; the first fault of the octets, in reading
-    /// order; `ErrorKind::Memory` (1) where the type takes memory.
+    /// order; `ErrorKind::Memory` (1) where the type takes memory, of a type that finds every fault
+    /// first only for octets without one.
     fn decode(alloc: Global, reader: &mut R) -> Result<Self, Error>
         ensures { Decodes Self.Form (R.state reader.old) (R.state reader.new) result };
 
-    ghost memory_of_form: { Self.NEEDS_MEMORY ≡ Self.TAKES_MEMORY };
+    ghost takes_memory_is: { Self.Decode.TAKES_MEMORY ≡ Self.Form.TAKES_MEMORY };
 }
 
 /// Reading a value from octets that are its encoding and nothing else, under DER.
@@ -57,7 +58,8 @@ pub trait FromDer<'a>: Form {
     /// # Errors
     /// `ErrorKind::Overflow` (9) for more than 4294967295 octets; the first fault of the octets, in
     /// reading order; `ErrorKind::TrailingData` (3) where octets are left over;
-    /// `ErrorKind::Memory` (1) where the type takes memory.
+    /// `ErrorKind::Memory` (1) where the type takes memory, of a type that finds every fault first
+    /// only for octets that have no fault of the value.
     fn from_der(alloc: Global, bytes: &'a [u8]) -> Result<Self, Error>
         ensures { ReadsAll Self.Form bytes.now result };
 }

@@ -1,6 +1,6 @@
 //! Copies of values.
 
-ghost use Rattle.std.specs.Prelude.{◌≡◌, Bool, true, false, IfOk, IfErr};
+ghost use Rattle.std.specs.Prelude.{◌≡◌, Bool, true, false, IfOk, IfErr, IsTrue};
 ghost use Rattle.std.proofs.Common.{ap, subst, sym};
 ghost use Rattle.der_tlv.specs.HeaderOctets.{tlv};
 ghost use Rattle.der_tlv.specs.declared.error.ErrorKind.TheVariants.{Memory};
@@ -28,7 +28,7 @@ pub trait Duplicate: Form {
 
     ghost copy_encoding: { (v w : Self) → is_copy v w → Self.encoding w ≡ Self.encoding v };
 
-    ghost copy_form: { (v w x : Self) → is_copy v w → Self.comparable v x → Self.comparable w x };
+    ghost copy_comparable: { (v w x : Self) → is_copy v w → Self.comparable v x → Self.comparable w x };
 
     ghost copy_re_reads: { (v w : Self) → is_copy v w → Self.re_reads w ≡ Self.re_reads v };
 }
@@ -52,7 +52,7 @@ pub trait DuplicateValue: FormValue {
 
     ghost copy_contents: { (v w : Self) → is_copy_value v w → Self.value.contents w ≡ Self.value.contents v };
 
-    ghost copy_form_value: { (v w x : Self) → is_copy_value v w → Self.value.comparable v x
+    ghost copy_comparable_value: { (v w x : Self) → is_copy_value v w → Self.value.comparable v x
         → Self.value.comparable w x };
 
     ghost copy_re_reads_value: { (v w : Self) → is_copy_value v w
@@ -70,7 +70,7 @@ impl<T: DuplicateValue + OneTag> Duplicate for T {
 
     ghost copy_encoding = { λ v w c. ap (tlv T.Marker.TAG) (T.copy_contents v w c) };
 
-    ghost copy_form = { T.copy_form_value };
+    ghost copy_comparable = { T.copy_comparable_value };
 
     ghost copy_re_reads = { T.copy_re_reads_value };
 }
@@ -89,7 +89,25 @@ impl<T: CopyIsDuplicate> DuplicateValue for T {
 
     ghost copy_contents = { λ v w e. ap T.value.contents e };
 
-    ghost copy_form_value = { λ v w x e f. subst (λ u. T.value.comparable u x) (sym e) f };
+    ghost copy_comparable_value = { λ v w x e f. subst (λ u. T.value.comparable u x) (sym e) f };
 
     ghost copy_re_reads_value = { λ v w e. ap T.value.re_reads e };
+}
+
+/// A type of which each copy is equal to its source.
+pub trait DuplicateIsEqual: Duplicate + PartialEq {
+    ghost copy_is_equal: { (v w : Self) → Self.is_copy v w → IsTrue (Self.eq v w) };
+}
+
+/// The same of a type whose values are copied with their contents octets.
+pub trait DuplicateValueIsEqual: DuplicateValue + PartialEq {
+    ghost copy_value_is_equal: { (v w : Self) → Self.is_copy_value v w → IsTrue (Self.eq v w) };
+}
+
+impl<T: DuplicateValueIsEqual + OneTag> DuplicateIsEqual for T {
+    ghost copy_is_equal = { T.copy_value_is_equal };
+}
+
+impl<T: CopyIsDuplicate + Eq> DuplicateValueIsEqual for T {
+    ghost copy_value_is_equal = { λ v w e. subst (λ u. IsTrue (T.eq v u)) (sym e) (T.Eq.laws.refl v) };
 }

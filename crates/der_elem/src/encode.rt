@@ -4,7 +4,7 @@ ghost use Rattle.std.specs.Prelude.{◌≡◌, ◌^◌, ◌<◌, ◌⊎◌, leng
 ghost use Rattle.der_elem.specs.Encoding.{Encodes, IsTooShort, Measures, NoVector, Stops};
 
 use crate::form::{Form, FormValue};
-use der_tlv::{Error, Length, SliceWriter, VecWriter, Writer};
+use der_tlv::{Error, ErrorKind, Length, SliceWriter, VecWriter, Writer};
 use std::alloc::Global;
 
 /// Writing the contents octets of a value.
@@ -47,8 +47,9 @@ pub trait Encode: Form {
             (W.state writer.new) result };
 
     /// Writes the encoding to the front of the buffer, and answers that front: the octets that begin
-    /// where the buffer does. What stands behind them in the buffer is not written to, and where this
-    /// is refused a beginning of the encoding may stand in it.
+    /// where the buffer does. What stands after them is not written to: the writer is lent the octets
+    /// of the encoding alone. A buffer that is too short is left as it was; where memory runs out
+    /// later, a beginning of the encoding may stand in it.
     ///
     /// # Errors
     /// `ErrorKind::Overlength` (10) where the buffer is too short; `ErrorKind::Overflow` (9) where
@@ -60,7 +61,11 @@ pub trait Encode: Form {
             IsTooShort (length buffer.entry.now) (Self.encoding self.now) e.kind
             ⊎ Stops (Self.encoding self.now) (Self.re_reads self.now) e.kind) }
     {
-        let mut writer = SliceWriter::new(buffer);
+        let len = usize::from(self.encoded_len()?);
+        if len > buffer.len() {
+            return Err(Error::from_kind(ErrorKind::Overlength));
+        }
+        let mut writer = SliceWriter::new(&mut buffer[..len]);
         self.encode(&mut writer)?;
         Ok(writer.finish())
     }

@@ -8,8 +8,8 @@ ghost use Rattle.std.specs.Prelude.{◌≡◌, Option, Some, true, Bool};
 ghost use Rattle.der_tlv.specs.declared.tag.Tag.{Tag};
 ghost use Rattle.der_elem.specs.FieldDecoding.{DecodesField};
 ghost use Rattle.der_tlv.specs.OctetLaws.{SameBeginning};
-ghost use Rattle.der_elem.specs.Leading.{SameLeads, Starts};
-ghost use Rattle.der_elem.specs.LeadingLaws.{beginning_tagged, beginning_option, starts_tagged, starts_option, own_lead_tagged, own_lead_option};
+ghost use Rattle.der_elem.specs.FirstTags.{SamePresence, Starts};
+ghost use Rattle.der_elem.specs.FirstTagLaws.{beginning_tagged, beginning_option, starts_tagged, starts_option, own_first_tag_tagged, own_first_tag_option};
 
 use crate::decode::{Decode, DecodeValue};
 use crate::fixed_tag::OneTag;
@@ -22,10 +22,10 @@ use std::alloc::Global;
 /// Reading a field, which is told from what follows it: an absent one stands only at the end, or
 /// before a tag that is none of its.
 pub trait DecodeField<'a, R: Source<'a>>: Form {
-    ghost FIELD_NEEDS_MEMORY: { Bool };
+    ghost TAKES_MEMORY: { Bool };
 
     /// Whether reading the field takes memory.
-    const FIELD_NEEDS_MEMORY: bool;
+    const TAKES_MEMORY: bool;
 
     /// Reads the field at the reader's position.
     ///
@@ -35,25 +35,25 @@ pub trait DecodeField<'a, R: Source<'a>>: Form {
     fn decode_field(alloc: Global, reader: &mut R) -> Result<Self, Error>
         ensures { DecodesField Self.Form (R.state reader.old) (R.state reader.new) result };
 
-    ghost memory_of_field: { Self.FIELD_NEEDS_MEMORY ≡ Self.TAKES_MEMORY };
+    ghost takes_memory_is: { Self.DecodeField.TAKES_MEMORY ≡ Self.Form.TAKES_MEMORY };
 }
 
 impl<'a, R: Source<'a>, T: DecodeValue<'a, R> + OneTag> DecodeField<'a, R> for T {
-    ghost FIELD_NEEDS_MEMORY = { T.VALUE_NEEDS_MEMORY };
+    ghost TAKES_MEMORY = { T.DecodeValue.TAKES_MEMORY };
 
-    const FIELD_NEEDS_MEMORY: bool = T::VALUE_NEEDS_MEMORY;
+    const TAKES_MEMORY: bool = <T as DecodeValue<'a, R>>::TAKES_MEMORY;
 
     fn decode_field(alloc: Global, reader: &mut R) -> Result<T, Error> {
         T::decode(alloc, reader)
     }
 
-    ghost memory_of_field = { T.memory_of_value };
+    ghost takes_memory_is = { T.DecodeValue.takes_memory_is };
 }
 
 impl<'a, R: Source<'a>, T: Decode<'a, R> + Choice> DecodeField<'a, R> for Option<T> {
-    ghost FIELD_NEEDS_MEMORY = { T.NEEDS_MEMORY };
+    ghost TAKES_MEMORY = { T.Decode.TAKES_MEMORY };
 
-    const FIELD_NEEDS_MEMORY: bool = T::NEEDS_MEMORY;
+    const TAKES_MEMORY: bool = <T as Decode<'a, R>>::TAKES_MEMORY;
 
     fn decode_field(alloc: Global, reader: &mut R) -> Result<Option<T>, Error> {
         if reader.is_finished() {
@@ -67,20 +67,20 @@ impl<'a, R: Source<'a>, T: Decode<'a, R> + Choice> DecodeField<'a, R> for Option
         Ok(Some(T::decode(alloc, reader)?))
     }
 
-    ghost memory_of_field = { T.memory_of_form };
+    ghost takes_memory_is = { T.Decode.takes_memory_is };
 }
 
 /// The tag that a field's encoding begins with, by which it is told from other fields.
 pub trait FirstTag: Form {
     /// The tag that the encoding begins with; none where the field is absent and has no octets.
     fn first_tag(&self) -> Option<Tag>
-        ensures { result ≡ Self.lead self.now };
+        ensures { result ≡ Self.first_tag_of self.now };
 
-    ghost starts: { (v : Self) → Starts (Self.lead v) (Self.encoding v) };
+    ghost starts: { (v : Self) → Starts (Self.first_tag_of v) (Self.encoding v) };
 
-    ghost own_lead: { (v : Self) (t : Tag) → Self.lead v ≡ Some t → Self.tags t ≡ true };
+    ghost own_first_tag: { (v : Self) (t : Tag) → Self.first_tag_of v ≡ Some t → Self.tags t ≡ true };
 
-    ghost same_beginning: { (v w : Self) → SameLeads (Self.lead v) (Self.lead w)
+    ghost same_beginning: { (v w : Self) → SamePresence (Self.first_tag_of v) (Self.first_tag_of w)
         → SameBeginning (Self.encoding v) (Self.encoding w) };
 }
 
@@ -89,11 +89,11 @@ impl<T: Tagged> FirstTag for T {
         Some(self.tag())
     }
 
-    ghost starts = { λ v. starts_tagged T.tag_of T.value.contents T.encoding T.encoding_is v (T.lead v)
-        (T.lead_is v) };
+    ghost starts = { λ v. starts_tagged T.tag_of T.value.contents T.encoding T.encoding_is v (T.first_tag_of v)
+        (T.first_tag_is v) };
 
-    ghost own_lead = { λ v. own_lead_tagged T.tags (T.tag_of v) (T.own_tag v) (T.lead v)
-        (T.lead_is v) };
+    ghost own_first_tag = { λ v. own_first_tag_tagged T.tags (T.tag_of v) (T.own_tag v) (T.first_tag_of v)
+        (T.first_tag_is v) };
 
     ghost same_beginning = { λ v w h.
         beginning_tagged T.tag_of T.value.contents T.encoding T.encoding_is v w };
@@ -107,10 +107,10 @@ impl<T: Tagged> FirstTag for Option<T> {
         }
     }
 
-    ghost starts = { starts_option T.tag_of T.value.contents T.encoding T.encoding_is T.lead T.lead_is };
+    ghost starts = { starts_option T.tag_of T.value.contents T.encoding T.encoding_is T.first_tag_of T.first_tag_is };
 
-    ghost own_lead = { own_lead_option T.tags T.tag_of T.own_tag T.lead T.lead_is };
+    ghost own_first_tag = { own_first_tag_option T.tags T.tag_of T.own_tag T.first_tag_of T.first_tag_is };
 
-    ghost same_beginning = { beginning_option T.tag_of T.value.contents T.encoding T.encoding_is T.lead
-        T.lead_is };
+    ghost same_beginning = { beginning_option T.tag_of T.value.contents T.encoding T.encoding_is T.first_tag_of
+        T.first_tag_is };
 }

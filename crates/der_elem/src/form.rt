@@ -7,19 +7,20 @@ ghost use Rattle.std.specs.Prelude.{◌≡◌, ℕ, ◌+◌, List, ◌∷◌, �
 ghost use Rattle.der_tlv.specs.declared.encoding_rules.EncodingRules.{EncodingRules};
 ghost use Rattle.der_tlv.specs.declared.tag.Tag.{Tag};
 ghost use Rattle.der_tlv.specs.Identifier.{same_identifier};
+ghost use Rattle.der_tlv.specs.OctetFaults.{IsOfOctets};
 ghost use Rattle.der_tlv.specs.HeaderOctets.{tlv};
 ghost use Rattle.der_elem.specs.Parsing.{Parse, parse_tagged};
 ghost use Rattle.der_elem.specs.Accepting.{Fits, BeginsWith, MayFollow, accepts_tagged};
-ghost use Rattle.der_elem.specs.Leading.{Leads, led_tagged};
-ghost use Rattle.der_elem.specs.ValueForm.{ValueForm};
-ghost use Rattle.der_elem.specs.TaggedLaws.{parse_of_tagged, begins_tagged, same_length_tagged, accepts_tagged_encoding, readable_tagged, comparable_tagged};
+ghost use Rattle.der_elem.specs.FirstTags.{BeginsWithFirst, begins_first_tagged};
+ghost use Rattle.der_elem.specs.ContentsFormat.{ContentsFormat};
+ghost use Rattle.der_elem.specs.TaggedLaws.{parse_of_tagged, tagged_of_octets, begins_tagged, same_length_tagged, accepts_tagged_encoding, readable_tagged, comparable_tagged};
 
 use crate::fixed_tag::OneTag;
 
 /// The contents octets that stand for a value, and which contents octets are read as it.
 pub trait FormValue: Sized + Drop {
     // what the contents octets mean
-    ghost value: { ValueForm Self };
+    ghost value: { ContentsFormat Self };
 }
 
 /// The whole encoding of a value, which has no octets for an absent option, and which octets are
@@ -44,7 +45,7 @@ pub trait Form: Sized + Drop {
     ghost tags: { Tag → Bool };
 
     // the tag that the encoding begins with, if it has octets
-    ghost lead: { Self → Option Tag };
+    ghost first_tag_of: { Self → Option Tag };
 
     // whether reading can give the value
     ghost readable: { Self → Type 0 };
@@ -52,15 +53,21 @@ pub trait Form: Sized + Drop {
     // whether reading takes memory
     ghost TAKES_MEMORY: { Bool };
 
+    // whether reading finds every fault of the octets before it takes memory
+    ghost FAULTS_FIRST: { Bool };
+
     ghost parse_of_accepted: { (rules : EncodingRules) (v : Self) (p : ℕ) (b x : List ℕ)
         → accepts rules v b → Fits b → MayFollow tags b x
         → parse rules p (b ++ x) ≡ Ok (length b, encoding v) };
 
+    ghost faults_of_octets: { (rules : EncodingRules) (p : ℕ) (b : List ℕ)
+        → IsOfOctets (parse rules p b) };
+
     ghost begins: { (rules : EncodingRules) (v : Self) (z : ℕ) (b : List ℕ)
         → accepts rules v (z ∷ b) → BeginsWith tags true (z ∷ b) };
 
-    ghost led: { (rules : EncodingRules) (v : Self) (b : List ℕ) → accepts rules v b
-        → Leads (lead v) b };
+    ghost begins_first: { (rules : EncodingRules) (v : Self) (b : List ℕ) → accepts rules v b
+        → BeginsWithFirst (first_tag_of v) b };
 
     ghost same_length: { (rules : EncodingRules) (v : Self) (b : List ℕ) → accepts rules v b
         → length (encoding v) ≡ length b };
@@ -90,18 +97,22 @@ impl<T: FormValue + OneTag> Form for T {
 
     ghost tags = { λ t. same_identifier t T.Marker.TAG };
 
-    ghost lead = { λ v. Some T.Marker.TAG };
+    ghost first_tag_of = { λ v. Some T.Marker.TAG };
 
     ghost readable = { T.value.readable };
 
     ghost TAKES_MEMORY = { T.value.TAKES_MEMORY };
 
+    ghost FAULTS_FIRST = { T.value.FAULTS_FIRST };
+
     ghost parse_of_accepted = { parse_of_tagged T.Marker.TAG T.Marker.tag_in_range T.value.accepts T.value.contents
         T.value.parse T.value.parse_of_accepted };
 
+    ghost faults_of_octets = { tagged_of_octets T.Marker.TAG T.value.parse T.value.faults_of_octets };
+
     ghost begins = { begins_tagged T.Marker.TAG T.Marker.tag_in_range T.value.accepts };
 
-    ghost led = { led_tagged T.Marker.TAG T.Marker.tag_in_range T.value.accepts };
+    ghost begins_first = { begins_first_tagged T.Marker.TAG T.Marker.tag_in_range T.value.accepts };
 
     ghost same_length = { same_length_tagged T.Marker.TAG T.value.accepts T.value.contents T.value.same_length };
 

@@ -2,7 +2,7 @@
 
 ghost use Rattle.std.specs.Prelude.{◌≡◌, List, ◌∷◌, [], Bool, true, false, Option, Some, refl};
 ghost use Rattle.der_tlv.specs.declared.tag.Tag.{Tag};
-ghost use Rattle.der_elem.specs.Leading.{IsLed};
+ghost use Rattle.der_elem.specs.FirstTags.{HasFirstTag};
 ghost use Rattle.der_elem.specs.KnownTags.{may_be};
 ghost use Rattle.der_elem.specs.KnownTagLaws.{own_is_known};
 
@@ -20,7 +20,7 @@ pub trait KnownTags: Form {
 
     ghost are_known: { (t : Tag) → Self.tags t ≡ true → may_be known_tags t ≡ true };
 
-    ghost is_there: { MAY_BE_ABSENT ≡ false → (v : Self) → IsLed (Self.lead v) };
+    ghost is_there: { MAY_BE_ABSENT ≡ false → (v : Self) → HasFirstTag (Self.first_tag_of v) };
 }
 
 impl<T: FormValue + OneTag> KnownTags for T {

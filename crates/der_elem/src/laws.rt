@@ -2,9 +2,10 @@
 
 ghost use Rattle.std.specs.Prelude.{◌≡◌, ◌<◌, ◌^◌, ◌↔◌, IsTrue, length, ◌∷◌, []};
 ghost use Rattle.der_tlv.specs.declared.tag.Tag.TheVariants as tags;
-ghost use Rattle.der_elem.specs.EncodingLaws.{NoneBeginsAnother, NoneReadBeginsAnother, PaddingIsLexicographic, FirstPairDecides, OneValueIsRead, EncodingsReadBack, OwnEncodingIsRead, IntegersAreFewest};
-ghost use Rattle.der_elem.specs.Fields.{FirstFieldDecides, FieldsAreToldApart};
+ghost use Rattle.der_elem.specs.EncodingLaws.{FaultsAreOfOctets, CopiesAreEqual, NoneBeginsAnother, NoneReadBeginsAnother, PaddingIsLexicographic, FirstPairDecides, OneValueIsRead, EncodingsReadBack, OwnEncodingIsRead, IntegersAreFewest};
+ghost use Rattle.der_elem.specs.Fields.{FirstFieldDecides, FieldsAreDistinguished};
 
+use crate::duplicate::DuplicateIsEqual;
 use crate::equality::EncodingEq;
 use crate::fixed_tag::FixedTag;
 use crate::form::Form;
@@ -18,7 +19,7 @@ pub fn no_encoding_begins_another()
 
 /// No octets that are read as a tagged value, under any rules, are a proper beginning of octets that
 /// are read as one of the same or another type: so octets that are cut short, or that have more
-/// behind them, are read as no such value.
+/// after them, are read as no such value.
 pub fn no_octets_read_begin_others<T: Tagged, U: Tagged>()
     ensures { NoneReadBeginsAnother T.Form U.Form }
 {}
@@ -43,8 +44,19 @@ pub fn first_field_decides<T: Tagged, U: Tagged>()
 {}
 
 /// Two such pairs have the same octets only where both fields have.
-pub fn fields_are_told_apart<T: Tagged, U: Tagged>()
-    ensures { FieldsAreToldApart T.encoding U.encoding }
+pub fn fields_are_distinguished<T: Tagged, U: Tagged>()
+    ensures { FieldsAreDistinguished T.encoding U.encoding }
+{}
+
+/// What octets come to is a value or a fault of theirs, and never want of memory (1) or a reader that
+/// had failed (17): so reading a type that takes no memory never refuses with (1).
+pub fn faults_are_of_octets<T: Form>()
+    ensures { FaultsAreOfOctets T.parse }
+{}
+
+/// A copy of a value is equal to it.
+pub fn copies_are_equal<T: DuplicateIsEqual>()
+    ensures { CopiesAreEqual T.is_copy T.eq }
 {}
 
 /// Values that are read from the same octets have one encoding.

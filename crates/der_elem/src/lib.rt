@@ -39,7 +39,9 @@ mod vec;
 pub use boolean::boolean_of;
 pub use contents::read_contents;
 pub use decode::{Decode, DecodeValue, FromDer};
-pub use duplicate::{CopyIsDuplicate, Duplicate, DuplicateValue};
+pub use duplicate::{
+    CopyIsDuplicate, Duplicate, DuplicateIsEqual, DuplicateValue, DuplicateValueIsEqual,
+};
 pub use encode::{Encode, EncodeValue};
 pub use equality::{ContentsEq, EncodingEq};
 pub use field::{DecodeField, FirstTag};

@@ -20,5 +20,5 @@ pub trait TakesMemory<'a> {
 impl<'a, T: Decode<'a, SliceReader<'a>>> TakesMemory<'a> for T {
     ghost TAKES_MEMORY = { T.Form.TAKES_MEMORY };
 
-    const TAKES_MEMORY: bool = <T as Decode<'a, SliceReader<'a>>>::NEEDS_MEMORY;
+    const TAKES_MEMORY: bool = <T as Decode<'a, SliceReader<'a>>>::TAKES_MEMORY;
 }

@@ -7,11 +7,11 @@
 //! no octet is left, there is no value; else reading refuses with the value's faults. An absent value
 //! is less than any other.
 
-ghost use Rattle.der_elem.specs.Options.{lead_option, encoding_option, comparable_option, test_option, accepts_option, readable_option, is_copy_option, parse_option};
-ghost use Rattle.der_elem.specs.OptionLaws.{led_option, parse_of_option, begins_option, same_length_option, accepts_option_encoding, readable_of_option, comparable_of_option, re_reads_option, copy_encoding_option, copy_form_option, copy_re_reads_option, encoding_eq_option};
+ghost use Rattle.der_elem.specs.Options.{first_tag_option, encoding_option, comparable_option, test_option, accepts_option, readable_option, is_copy_option, parse_option};
+ghost use Rattle.der_elem.specs.OptionLaws.{begins_first_option, option_of_octets, parse_of_option, begins_option, same_length_option, accepts_option_encoding, readable_of_option, comparable_of_option, re_reads_option, copy_is_equal_option, copy_encoding_option, copy_comparable_option, copy_re_reads_option, encoding_eq_option};
 
 use crate::decode::Decode;
-use crate::duplicate::Duplicate;
+use crate::duplicate::{Duplicate, DuplicateIsEqual};
 use crate::encode::Encode;
 use crate::equality::EncodingEq;
 use crate::form::Form;
@@ -35,17 +35,21 @@ impl<T: Form> Form for Option<T> {
 
     ghost tags = { T.tags };
 
-    ghost lead = { lead_option T.lead };
+    ghost first_tag_of = { first_tag_option T.first_tag_of };
 
     ghost readable = { readable_option T.readable };
 
-    ghost TAKES_MEMORY = { T.TAKES_MEMORY };
+    ghost TAKES_MEMORY = { T.Form.TAKES_MEMORY };
+
+    ghost FAULTS_FIRST = { T.FAULTS_FIRST };
 
     ghost parse_of_accepted = { parse_of_option T.Form };
 
+    ghost faults_of_octets = { option_of_octets T.tags T.parse T.faults_of_octets };
+
     ghost begins = { λ rules v z b. begins_option T.Form rules v z b };
 
-    ghost led = { led_option T.Form };
+    ghost begins_first = { begins_first_option T.Form };
 
     ghost same_length = { same_length_option T.Form };
 
@@ -59,9 +63,9 @@ impl<T: Form> Form for Option<T> {
 }
 
 impl<'a, R: Source<'a>, T: Decode<'a, R> + Choice> Decode<'a, R> for Option<T> {
-    ghost NEEDS_MEMORY = { T.NEEDS_MEMORY };
+    ghost TAKES_MEMORY = { T.Decode.TAKES_MEMORY };
 
-    const NEEDS_MEMORY: bool = T::NEEDS_MEMORY;
+    const TAKES_MEMORY: bool = <T as Decode<'a, R>>::TAKES_MEMORY;
 
     fn decode(alloc: Global, reader: &mut R) -> Result<Option<T>, Error> {
         if reader.is_finished() {
@@ -75,7 +79,7 @@ impl<'a, R: Source<'a>, T: Decode<'a, R> + Choice> Decode<'a, R> for Option<T> {
         Ok(Some(T::decode(alloc, reader)?))
     }
 
-    ghost memory_of_form = { T.memory_of_form };
+    ghost takes_memory_is = { T.Decode.takes_memory_is };
 }
 
 impl<T: Encode + Tagged> Encode for Option<T> {
@@ -107,17 +111,21 @@ impl<'b, T: Form> Form for &'b Option<T> {
 
     ghost tags = { T.tags };
 
-    ghost lead = { λ v. lead_option T.lead v.now };
+    ghost first_tag_of = { λ v. first_tag_option T.first_tag_of v.now };
 
     ghost readable = { λ v. readable_option T.readable v.now };
 
-    ghost TAKES_MEMORY = { T.TAKES_MEMORY };
+    ghost TAKES_MEMORY = { T.Form.TAKES_MEMORY };
+
+    ghost FAULTS_FIRST = { T.FAULTS_FIRST };
 
     ghost parse_of_accepted = { λ rules v. parse_of_option T.Form rules v.now };
 
+    ghost faults_of_octets = { option_of_octets T.tags T.parse T.faults_of_octets };
+
     ghost begins = { λ rules v z b. begins_option T.Form rules v.now z b };
 
-    ghost led = { λ rules v. led_option T.Form rules v.now };
+    ghost begins_first = { λ rules v. begins_first_option T.Form rules v.now };
 
     ghost same_length = { λ rules v. same_length_option T.Form rules v.now };
 
@@ -172,7 +180,11 @@ impl<T: Duplicate + Tagged> Duplicate for Option<T> {
 
     ghost copy_encoding = { copy_encoding_option T.Form T.is_copy T.copy_encoding };
 
-    ghost copy_form = { copy_form_option T.Form T.is_copy T.copy_form };
+    ghost copy_comparable = { copy_comparable_option T.Form T.is_copy T.copy_comparable };
 
     ghost copy_re_reads = { copy_re_reads_option T.Form T.is_copy T.copy_re_reads };
+}
+
+impl<T: DuplicateIsEqual + Tagged> DuplicateIsEqual for Option<T> {
+    ghost copy_is_equal = { copy_is_equal_option T.is_copy T.eq T.copy_is_equal };
 }

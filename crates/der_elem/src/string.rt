@@ -4,19 +4,16 @@
 //!
 //! Reading refuses octets that are not UTF-8 (12), and then where memory runs out (1).
 
-ghost use Rattle.std.specs.Prelude.{◌≡◌, length, true, refl};
+ghost use Rattle.std.specs.Prelude.{◌≡◌, true, refl};
+ghost use Rattle.std.proofs.Common.{sym};
 ghost use Rattle.std.specs.Cmp.Lexicographic.{bytes_decides};
 ghost use Rattle.std.specs.String.{string_bytes};
-ghost use Rattle.der_tlv.specs.ReaderState.{rest};
-ghost use Rattle.der_tlv.specs.Reading.{Stands};
-ghost use Rattle.der_elem.specs.Decoding.{DecodesValue};
-ghost use Rattle.der_elem.specs.RunningOut.{FaultsFirst};
-ghost use Rattle.der_elem.specs.Utf8String.{parse_utf8, parse_utf8-own};
-ghost use Rattle.der_elem.specs.ValueForms.{own_form, owning};
+ghost use Rattle.der_elem.specs.Utf8String.{parse_utf8, parse_utf8-own, utf8_of_octets};
+ghost use Rattle.der_elem.specs.FormatMakers.{format_of_contents, allocating};
 
 use crate::contents::read_contents;
 use crate::decode::DecodeValue;
-use crate::duplicate::DuplicateValue;
+use crate::duplicate::{DuplicateValue, DuplicateValueIsEqual};
 use crate::encode::EncodeValue;
 use crate::equality::ContentsEq;
 use crate::fixed_tag::OneTag;
@@ -28,7 +25,7 @@ use der_tlv::{Error, ErrorKind, Header, Length, Reader, Source, Writer};
 use std::alloc::Global;
 
 impl FormValue for String {
-    ghost value = { owning (own_form string_bytes parse_utf8 parse_utf8-own) };
+    ghost value = { allocating (format_of_contents string_bytes parse_utf8 parse_utf8-own utf8_of_octets) };
 }
 
 impl OneTag for String {
@@ -36,19 +33,13 @@ impl OneTag for String {
 }
 
 impl<'a, R: Source<'a>> DecodeValue<'a, R> for String {
-    ghost VALUE_NEEDS_MEMORY = { true };
+    ghost TAKES_MEMORY = { true };
 
-    const VALUE_NEEDS_MEMORY: bool = true;
-
-    ghost use Rattle.der_elem.specs.contracts.string.StringFormValue.TheImpl.{ghosts as string};
+    const TAKES_MEMORY: bool = true;
 
     /// # Errors
     /// (17) on a failed reader; octets that are not UTF-8 (12); else (1) where memory runs out.
-    fn decode_value(alloc: Global, reader: &mut R, header: Header) -> Result<String, Error>
-        ensures exact { length (rest (R.state reader.old)) ≡ header.length → DecodesValue string.value header (R.state reader.old) (R.state reader.new) result }
-        ensures reader { Stands (R.state reader.old) (R.state reader.new) result }
-        ensures faults_first { length (rest (R.state reader.old)) ≡ header.length → FaultsFirst parse_utf8 (R.state reader.old) result }
-    {
+    fn decode_value(alloc: Global, reader: &mut R, header: Header) -> Result<String, Error> {
         let octets = read_contents(reader, header)?;
         match text_of(octets) {
             Ok(text) => match String::from_str(alloc, text) {
@@ -59,7 +50,7 @@ impl<'a, R: Source<'a>> DecodeValue<'a, R> for String {
         }
     }
 
-    ghost memory_of_value = { refl };
+    ghost takes_memory_is = { refl };
 }
 
 impl EncodeValue for String {
@@ -91,7 +82,11 @@ impl DuplicateValue for String {
 
     ghost copy_contents = { λ v w e. e };
 
-    ghost copy_form_value = { λ v w x e f. tt };
+    ghost copy_comparable_value = { λ v w x e f. tt };
 
     ghost copy_re_reads_value = { λ v w e. refl };
+}
+
+impl DuplicateValueIsEqual for String {
+    ghost copy_value_is_equal = { λ v w e. (bytes_decides (string_bytes v) (string_bytes w)).1 (sym e) };
 }

@@ -7,7 +7,7 @@ ghost use Rattle.der_tlv.specs.TagParts.{IsTag, is_constructed};
 ghost use Rattle.der_tlv.specs.HeaderLaws.{same_identifier-same};
 ghost use Rattle.der_tlv.specs.HeaderOctets.{tlv};
 ghost use Rattle.der_elem.specs.Accepting.{IsTlv};
-ghost use Rattle.der_elem.specs.Leading.{IsLed};
+ghost use Rattle.der_elem.specs.FirstTags.{HasFirstTag};
 ghost use Rattle.der_elem.specs.TaggedLaws.{tlv_tagged};
 
 use crate::fixed_tag::{OneTag, TagMarker};
@@ -30,7 +30,7 @@ pub trait Tagged: FormValue + Form {
 
     ghost own_tag: { (v : Self) → Self.tags (tag_of v) ≡ true };
 
-    ghost lead_is: { (v : Self) → Self.lead v ≡ Some (tag_of v) };
+    ghost first_tag_is: { (v : Self) → Self.first_tag_of v ≡ Some (tag_of v) };
 
     ghost re_reads_alike: { (v : Self) → Self.value.re_reads v ≡ true → Self.re_reads v ≡ true };
 
@@ -50,7 +50,7 @@ impl<T: FormValue + OneTag> Tagged for T {
 
     ghost own_tag = { λ v. same_identifier-same T.Marker.TAG };
 
-    ghost lead_is = { λ v. refl };
+    ghost first_tag_is = { λ v. refl };
 
     ghost re_reads_alike = { λ v h. h };
 
@@ -63,7 +63,7 @@ pub trait Choice: Form {
     fn can_decode(tag: Tag) -> bool
         ensures { result ≡ Self.tags tag };
 
-    ghost is_led: { (v : Self) → IsLed (Self.lead v) };
+    ghost has_first_tag: { (v : Self) → HasFirstTag (Self.first_tag_of v) };
 }
 
 impl<T: FormValue + OneTag> Choice for T {
@@ -71,7 +71,7 @@ impl<T: FormValue + OneTag> Choice for T {
         tag.equals(<T::Marker as TagMarker>::TAG)
     }
 
-    ghost is_led = { λ v. record { tag = T.Marker.TAG; is_tag = refl } };
+    ghost has_first_tag = { λ v. record { tag = T.Marker.TAG; is_tag = refl } };
 }
 
 /// A type whose encodings are all constructed, or all primitive.

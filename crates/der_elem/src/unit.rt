@@ -7,8 +7,8 @@
 ghost use Rattle.std.specs.Prelude.{true, refl, false};
 ghost use Rattle.der_tlv.specs.declared.tag.Tag.TheVariants.{Null};
 ghost use Rattle.der_elem.specs.OwnContentsLaws.{contents_eq_own};
-ghost use Rattle.der_elem.specs.Null.{null_contents, parse_null, ReadsNull, unit_eq_decides};
-ghost use Rattle.der_elem.specs.ValueForms.{own_form};
+ghost use Rattle.der_elem.specs.Null.{null_contents, parse_null, ReadsNull, null_of_octets, unit_eq_decides};
+ghost use Rattle.der_elem.specs.FormatMakers.{format_of_contents};
 
 use crate::contents::read_contents;
 use crate::decode::DecodeValue;
@@ -35,7 +35,7 @@ pub fn null_of(octets: &[u8]) -> Result<(), ErrorKind>
 }
 
 impl FormValue for () {
-    ghost value = { own_form null_contents parse_null (λ rules v p. refl) };
+    ghost value = { format_of_contents null_contents parse_null (λ rules v p. refl) null_of_octets };
 }
 
 impl OneTag for () {
@@ -43,9 +43,9 @@ impl OneTag for () {
 }
 
 impl<'a, R: Source<'a>> DecodeValue<'a, R> for () {
-    ghost VALUE_NEEDS_MEMORY = { false };
+    ghost TAKES_MEMORY = { false };
 
-    const VALUE_NEEDS_MEMORY: bool = false;
+    const TAKES_MEMORY: bool = false;
 
     fn decode_value(_alloc: Global, reader: &mut R, header: Header) -> Result<(), Error> {
         match null_of(read_contents(reader, header)?) {
@@ -54,7 +54,7 @@ impl<'a, R: Source<'a>> DecodeValue<'a, R> for () {
         }
     }
 
-    ghost memory_of_value = { refl };
+    ghost takes_memory_is = { refl };
 }
 
 impl EncodeValue for () {

@@ -6,16 +6,16 @@
 //! Reading refuses with the first fault of an item, from the left, and where memory runs out (1).
 //! The first pair of items that differs decides the order of two lists, else the number of items.
 
-ghost use Rattle.std.specs.Prelude.{flat_map, true, refl};
+ghost use Rattle.std.specs.Prelude.{flat_map, true, false, refl};
 ghost use Rattle.std.specs.List.{list_any};
 ghost use Rattle.der_tlv.specs.declared.tag.Tag.TheVariants as tags;
-ghost use Rattle.der_elem.specs.Items.{AcceptsItems, EachItem, parse_items, OneForms, AreCopies};
+ghost use Rattle.der_elem.specs.Items.{AcceptsItems, EachItem, parse_items, AllComparable, AreCopies};
 ghost use Rattle.der_elem.specs.EqualityLaws.{items_eq};
-ghost use Rattle.der_elem.specs.CopyLaws.{copies_encoding, copies_form, copies_re_read};
-ghost use Rattle.der_elem.specs.ItemLaws.{parse_of_items, same_length_items, accepts_items_contents, readable_items, comparable_items};
+ghost use Rattle.der_elem.specs.CopyLaws.{copies_are_equal, copies_encoding, copies_comparable, copies_re_read};
+ghost use Rattle.der_elem.specs.ItemLaws.{items_of_octets, parse_of_items, same_length_items, accepts_items_contents, readable_items, comparable_items};
 
 use crate::decode::{Decode, DecodeValue};
-use crate::duplicate::{Duplicate, DuplicateValue};
+use crate::duplicate::{Duplicate, DuplicateIsEqual, DuplicateValue, DuplicateValueIsEqual};
 use crate::encode::{Encode, EncodeValue};
 use crate::equality::{ContentsEq, EncodingEq};
 use crate::fixed_tag::OneTag;
@@ -41,14 +41,16 @@ impl<'a, T> Sequence<'a> for Vec<T> {
 impl<T: Form> FormValue for Vec<T> {
     ghost value = { record {
       contents = λ v. flat_map T.encoding v.items;
-      comparable = λ v w. OneForms T.comparable v.items w.items;
+      comparable = λ v w. AllComparable T.comparable v.items w.items;
       re_reads = λ v. list_any T.re_reads v.items;
       accepts = λ rules v. AcceptsItems (T.accepts rules) v.items;
       parse = parse_items T.parse;
       readable = λ v. EachItem T.readable v.items;
       has_tag = λ v t. Unit {0};
       TAKES_MEMORY = true;
+      FAULTS_FIRST = false;
       parse_of_accepted = λ rules v. parse_of_items T.Form rules v.items;
+      faults_of_octets = items_of_octets T.parse T.faults_of_octets;
       same_length = λ rules v. same_length_items T.Form rules v.items;
       accepts_contents = λ rules v. accepts_items_contents T.Form rules v.items;
       only_readable = λ rules v. readable_items T.Form rules v.items;
@@ -58,9 +60,9 @@ impl<T: Form> FormValue for Vec<T> {
 }
 
 impl<'a, R: Source<'a>, T: Decode<'a, R> + Choice> DecodeValue<'a, R> for Vec<T> {
-    ghost VALUE_NEEDS_MEMORY = { true };
+    ghost TAKES_MEMORY = { true };
 
-    const VALUE_NEEDS_MEMORY: bool = true;
+    const TAKES_MEMORY: bool = true;
 
     fn decode_value(alloc: Global, reader: &mut R, _header: Header) -> Result<Vec<T>, Error> {
         check_ready(reader)?;
@@ -74,7 +76,7 @@ impl<'a, R: Source<'a>, T: Decode<'a, R> + Choice> DecodeValue<'a, R> for Vec<T>
         Ok(items)
     }
 
-    ghost memory_of_value = { refl };
+    ghost takes_memory_is = { refl };
 }
 
 impl<T: Encode + Tagged> EncodeValue for Vec<T> {
@@ -110,9 +112,14 @@ impl<T: Duplicate> DuplicateValue for Vec<T> {
     ghost copy_contents = { λ v w. copies_encoding T.Form T.is_copy T.copy_encoding
         v.items w.items };
 
-    ghost copy_form_value = { λ v w x.
-        copies_form T.Form T.is_copy T.copy_form v.items w.items x.items };
+    ghost copy_comparable_value = { λ v w x.
+        copies_comparable T.Form T.is_copy T.copy_comparable v.items w.items x.items };
 
     ghost copy_re_reads_value = { λ v w. copies_re_read T.Form T.is_copy T.copy_re_reads
         v.items w.items };
+}
+
+impl<T: DuplicateIsEqual> DuplicateValueIsEqual for Vec<T> {
+    ghost copy_value_is_equal = { λ v w.
+        copies_are_equal T.is_copy T.eq T.copy_is_equal v.items w.items };
 }

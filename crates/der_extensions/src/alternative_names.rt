@@ -1,12 +1,11 @@
 //! The value of the extension subjectAltName (RFC 5280 section 4.2.1.6).
 
-ghost use Rattle.der_elem.specs.Decoding.{ReadsAll};
-ghost use Rattle.der_fields.specs.SequenceWriting.{WritesAll};
+ghost use Rattle.der_asn1_types.specs.Decoding.{ReadsAll};
+ghost use Rattle.der_asn1_types.specs.SequenceWriting.{WritesAll};
 ghost use Rattle.der_extensions.specs.Grammars.{subject_alt_name};
 
 use crate::general_names::GeneralNames;
-use der_elem::{Encode, FromDer};
-use der_tlv::Error;
+use der_asn1_types::{Encode, Error, FromDer};
 use std::alloc::Global;
 
 /// ```text

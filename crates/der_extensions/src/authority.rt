@@ -1,14 +1,12 @@
 //! The value of the extension authorityKeyIdentifier (RFC 5280 section 4.2.1.1).
 
-ghost use Rattle.der_elem.specs.Decoding.{ReadsAll};
-ghost use Rattle.der_fields.specs.SequenceWriting.{WritesAll};
+ghost use Rattle.der_asn1_types.specs.Decoding.{ReadsAll};
+ghost use Rattle.der_asn1_types.specs.SequenceWriting.{WritesAll};
 ghost use Rattle.der_extensions.specs.Grammars.{authority_key_identifier};
 
 use crate::general_names::GeneralNames;
-use der_fields::{End, Field, FieldSequence, Implicit, read_sequence, write_sequence};
-use der_numbers::IntRef;
-use der_opaque::OctetStringRef;
-use der_tlv::Error;
+use der_asn1_types::asn1::{IntRef, OctetStringRef};
+use der_asn1_types::{End, Error, Field, FieldSequence, Implicit, read_sequence, write_sequence};
 use std::alloc::Global;
 
 /// What names the key of the issuer of a certificate: the key's identifier, or the names of the

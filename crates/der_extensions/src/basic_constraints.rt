@@ -1,12 +1,12 @@
 //! The value of the extension basicConstraints (RFC 5280 section 4.2.1.9).
 
 ghost use Rattle.std.specs.Prelude.{◌≡◌};
-ghost use Rattle.der_fields.specs.Listing.{field, end, with_default};
+ghost use Rattle.der_asn1_types.specs.Listing.{field, end, with_default};
 
-use der_fields::{
+use der_asn1_types::asn1::UintRef;
+use der_asn1_types::{
     DefaultFalse, End, Field, NamedFields, NamedSequence, WithDefault, from_list, to_list,
 };
-use der_numbers::UintRef;
 
 /// The fields of `BasicConstraints`.
 #[derive(Clone, Copy, Debug)]

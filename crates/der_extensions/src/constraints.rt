@@ -1,12 +1,11 @@
 //! Reading and writing the value of the extension basicConstraints (RFC 5280 section 4.2.1.9).
 
-ghost use Rattle.der_elem.specs.Decoding.{ReadsAll};
-ghost use Rattle.der_fields.specs.SequenceWriting.{WritesAll};
+ghost use Rattle.der_asn1_types.specs.Decoding.{ReadsAll};
+ghost use Rattle.der_asn1_types.specs.SequenceWriting.{WritesAll};
 ghost use Rattle.der_extensions.specs.Grammars.{basic_constraints};
 
 use crate::basic_constraints::BasicConstraints;
-use der_fields::{read_named_sequence, write_named_sequence};
-use der_tlv::Error;
+use der_asn1_types::{Error, read_named_sequence, write_named_sequence};
 use std::alloc::Global;
 
 /// Reads constraints: all of the octets, under DER.

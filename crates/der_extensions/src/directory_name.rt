@@ -4,24 +4,21 @@ ghost use Rattle.std.specs.Prelude.{◌≡◌, ◌++◌, [], ◌||◌, flat_map,
 ghost use Rattle.std.specs.List.{list_any};
 ghost use Rattle.std.proofs.Common.{ap, sym, subst};
 ghost use Rattle.std.proofs.lemmas.Bool.{and_parts, and_from};
-ghost use Rattle.der_tlv.specs.declared.tag.Tag.TheVariants.{Sequence};
-ghost use Rattle.der_tlv.specs.HeaderOctets.{tlv};
-ghost use Rattle.der_elem.specs.Items.{OneForms};
-ghost use Rattle.der_elem.specs.TaggedLaws.{encoding_eq_tagged};
-ghost use Rattle.der_elem.specs.ValueForms.{held_form};
-ghost use Rattle.der_fields.specs.TellingLaws.{eq_both, tlv_apart};
+ghost use Rattle.der_asn1_types.specs.Tag.TheVariants.{Sequence};
+ghost use Rattle.der_asn1_types.specs.HeaderOctets.{tlv};
+ghost use Rattle.der_asn1_types.specs.Items.{AllComparable};
+ghost use Rattle.der_asn1_types.specs.TaggedLaws.{encoding_eq_tagged};
+ghost use Rattle.der_asn1_types.specs.FormatMakers.{mapped_format};
+ghost use Rattle.der_asn1_types.specs.DistinguishingLaws.{eq_both, tlv_distinguished};
 ghost use Rattle.der_pkix.specs.contracts.attribute.AttributeTypeAndValueContentsEq.TheImpl.Laws as attribute;
 ghost use Rattle.der_extensions.specs.NameLaws.{names_eq, names_copied};
 
-use der_elem::{
-    ContentsEq, DecodeValue, DuplicateValue, EncodeValue, Form, FormValue, OneTag, SequenceTag,
-    ValueOrd,
-};
-use der_fields::{
-    DecodeFields, DuplicateFields, EncodeFields, End, ExplicitTag, Field, FieldList, FieldsOrd,
+use der_asn1_types::fields::{DecodeFields, DuplicateFields, EncodeFields, ExplicitTag, FieldsOrd};
+use der_asn1_types::{
+    ContentsEq, DecodeValue, DuplicateValue, EncodeValue, End, Error, Field, FieldList, Form,
+    FormValue, Header, Length, OneTag, SequenceTag, Source, ValueOrd, Writer,
 };
 use der_pkix::{AttributeTypeAndValue, Name, RelativeDistinguishedName};
-use der_tlv::{Error, Header, Length, Source, Writer};
 use std::alloc::Global;
 use std::cmp::Ordering;
 use std::marker::PhantomData;
@@ -31,7 +28,7 @@ pub type NameList<'a> = Field<Name<'a>, End>;
 
 /// `[4] Name`, which is explicit, since a Name is a CHOICE (X.680 31.2.7).
 ///
-/// A struct, and no alias, so that what stands behind the tag costs a CHOICE of names nothing.
+/// A struct, and no alias, so that what stands after the tag costs a CHOICE of names nothing.
 #[derive(Debug, PartialEq, Eq, Drop)]
 pub struct DirectoryName<'a> {
     /// The name.
@@ -41,7 +38,7 @@ pub struct DirectoryName<'a> {
 }
 
 impl<'a> DirectoryName<'a> {
-    /// This name, behind the tag.
+    /// This name, after the tag.
     pub fn new(name: Name<'a>) -> DirectoryName<'a>
         ensures { result.fields.first ≡ name.entry }
     {
@@ -57,13 +54,13 @@ impl<'a> OneTag for DirectoryName<'a> {
 }
 
 impl<'a> FormValue for DirectoryName<'a> {
-    ghost value = { held_form (λ v. v.fields) ⟦<NameList<'a> as FieldList>⟧.list.octets };
+    ghost value = { mapped_format (λ v. v.fields) ⟦<NameList<'a> as FieldList>⟧.list.octets };
 }
 
 impl<'a, R: Source<'a>> DecodeValue<'a, R> for DirectoryName<'a> {
-    ghost VALUE_NEEDS_MEMORY = { true };
+    ghost TAKES_MEMORY = { true };
 
-    const VALUE_NEEDS_MEMORY: bool = true;
+    const TAKES_MEMORY: bool = true;
 
     fn decode_value(
         alloc: Global,
@@ -79,7 +76,7 @@ impl<'a, R: Source<'a>> DecodeValue<'a, R> for DirectoryName<'a> {
         }
     }
 
-    ghost memory_of_value = { refl };
+    ghost takes_memory_is = { refl };
 }
 
 impl<'a> EncodeValue for DirectoryName<'a> {
@@ -103,7 +100,7 @@ impl<'a> ContentsEq for DirectoryName<'a> {
         let A = ⟦<AttributeTypeAndValue<'a> as FormValue>⟧.value in
         let N = ⟦<Name<'a> as FormValue>⟧.value in
         let first = encoding_eq_tagged Sequence N.contents N.comparable ⟦<Name<'a> as PartialEq>⟧.eq (λ v w. names_eq A.contents A.comparable ⟦<AttributeTypeAndValue<'a> as PartialEq>⟧.eq attribute.contents_eq-law v.items w.items) v.fields.first w.fields.first one.0 in
-        let fields = eq_both _ true _ _ [] [] first (λ _. refl, λ _. refl) (tlv_apart _ _ _ _ _ _) in
+        let fields = eq_both _ true _ _ [] [] first (λ _. refl, λ _. refl) (tlv_distinguished _ _ _ _ _ _) in
         (λ h. fields.0 (and_parts _ _ h).0, λ e. and_from _ _ (fields.1 e) refl) };
 }
 
@@ -126,8 +123,8 @@ impl<'a> DuplicateValue for DirectoryName<'a> {
         (λ name. tlv Sequence (flat_map ⟦<RelativeDistinguishedName<'a> as Form>⟧.encoding name) ++ [])
         (names_copied v.fields.first.items w.fields.first.items c.0) };
 
-    ghost copy_form_value = { λ v w x c f. (
-      subst (λ name. OneForms ⟦<RelativeDistinguishedName<'a> as Form>⟧.comparable name x.fields.first.items)
+    ghost copy_comparable_value = { λ v w x c f. (
+      subst (λ name. AllComparable ⟦<RelativeDistinguishedName<'a> as Form>⟧.comparable name x.fields.first.items)
           (sym (names_copied v.fields.first.items w.fields.first.items c.0)) f.0,
       f.1,
       f.2,

@@ -1,17 +1,13 @@
 //! A name of any kind (RFC 5280 section 4.2.1.6).
 
-ghost use Rattle.der_elem.specs.Decoding.{ReadsAll};
-ghost use Rattle.der_fields.specs.SequenceWriting.{WritesAll};
+ghost use Rattle.der_asn1_types.specs.Decoding.{ReadsAll};
+ghost use Rattle.der_asn1_types.specs.SequenceWriting.{WritesAll};
 ghost use Rattle.der_extensions.specs.Grammars.{general_name};
 
 use crate::directory_name::DirectoryName;
 use crate::other_name::OtherName;
-use der_ascii::Ia5StringRef;
-use der_elem::{Encode, FromDer};
-use der_fields::{Implicit, OneOf};
-use der_nest::SequenceRef;
-use der_opaque::{ObjectIdentifier, OctetStringRef};
-use der_tlv::Error;
+use der_asn1_types::asn1::{Ia5StringRef, ObjectIdentifier, OctetStringRef, SequenceRef};
+use der_asn1_types::{Encode, Error, FromDer, Implicit, OneOf};
 use std::alloc::Global;
 
 /// A name of any kind. Of an x400Address and an ediPartyName the contents octets are kept.

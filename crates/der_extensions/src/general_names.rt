@@ -1,11 +1,12 @@
 //! Names of any kind (RFC 5280 section 4.2.1.6).
 
 ghost use Rattle.std.specs.Prelude.{◌≡◌, refl, true};
-ghost use Rattle.der_elem.specs.ValueForms.{held_form};
+ghost use Rattle.der_asn1_types.specs.FormatMakers.{mapped_format};
 
 use crate::general_name::GeneralName;
-use der_elem::{DecodeValue, EncodeValue, FormValue, OneTag, SequenceTag};
-use der_tlv::{Error, Header, Length, Source, Writer};
+use der_asn1_types::{
+    DecodeValue, EncodeValue, Error, FormValue, Header, Length, OneTag, SequenceTag, Source, Writer,
+};
 use std::alloc::Global;
 
 /// Names of any kind, in order. That there is one, as RFC 5280 asks, is not checked.
@@ -43,13 +44,13 @@ impl<'a> OneTag for GeneralNames<'a> {
 }
 
 impl<'a> FormValue for GeneralNames<'a> {
-    ghost value = { held_form (λ v. v.names) ⟦<Vec<GeneralName<'a>> as FormValue>⟧.value };
+    ghost value = { mapped_format (λ v. v.names) ⟦<Vec<GeneralName<'a>> as FormValue>⟧.value };
 }
 
 impl<'a, R: Source<'a>> DecodeValue<'a, R> for GeneralNames<'a> {
-    ghost VALUE_NEEDS_MEMORY = { true };
+    ghost TAKES_MEMORY = { true };
 
-    const VALUE_NEEDS_MEMORY: bool = true;
+    const TAKES_MEMORY: bool = true;
 
     fn decode_value(
         alloc: Global,
@@ -62,7 +63,7 @@ impl<'a, R: Source<'a>> DecodeValue<'a, R> for GeneralNames<'a> {
         }
     }
 
-    ghost memory_of_value = { refl };
+    ghost takes_memory_is = { refl };
 }
 
 impl<'a> EncodeValue for GeneralNames<'a> {

@@ -1,6 +1,6 @@
 //! The grammars of the messages, by the names that clauses cite (`specs/Grammars.antt`).
 
-ghost use Rattle.der_elem.specs.declared.form.Form as form;
+ghost use Rattle.der_asn1_types.specs.Form as form;
 
 use crate::alternative_names::SubjectAltName;
 use crate::authority::AuthorityKeyIdentifier;
@@ -9,7 +9,7 @@ use crate::general_name::GeneralName;
 use crate::key_identifier::SubjectKeyIdentifier;
 use crate::key_usage::KeyUsage;
 use crate::purposes::ExtKeyUsage;
-use der_elem::Form;
+use der_asn1_types::Form;
 
 /// A message: a type whose grammar has a name.
 pub trait Message: Sized {

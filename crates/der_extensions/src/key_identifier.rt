@@ -1,12 +1,11 @@
 //! The value of the extension subjectKeyIdentifier (RFC 5280 section 4.2.1.2).
 
-ghost use Rattle.der_elem.specs.Decoding.{ReadsAll};
-ghost use Rattle.der_fields.specs.SequenceWriting.{WritesAll};
+ghost use Rattle.der_asn1_types.specs.Decoding.{ReadsAll};
+ghost use Rattle.der_asn1_types.specs.SequenceWriting.{WritesAll};
 ghost use Rattle.der_extensions.specs.Grammars.{subject_key_identifier};
 
-use der_elem::{Encode, FromDer};
-use der_opaque::OctetStringRef;
-use der_tlv::Error;
+use der_asn1_types::asn1::OctetStringRef;
+use der_asn1_types::{Encode, Error, FromDer};
 use std::alloc::Global;
 
 /// The octets 01 02 are encoded as 04 02 01 02.

@@ -1,12 +1,11 @@
 //! The value of the extension keyUsage (RFC 5280 section 4.2.1.3).
 
-ghost use Rattle.der_elem.specs.Decoding.{ReadsAll};
-ghost use Rattle.der_fields.specs.SequenceWriting.{WritesAll};
+ghost use Rattle.der_asn1_types.specs.Decoding.{ReadsAll};
+ghost use Rattle.der_asn1_types.specs.SequenceWriting.{WritesAll};
 ghost use Rattle.der_extensions.specs.Grammars.{key_usage};
 
-use der_bits::BitStringRef;
-use der_elem::{Encode, FromDer};
-use der_tlv::Error;
+use der_asn1_types::asn1::BitStringRef;
+use der_asn1_types::{Encode, Error, FromDer};
 use std::alloc::Global;
 
 /// What a key may be used for. The signing of certificates and of lists of revoked ones is encoded as

@@ -3,21 +3,18 @@
 
 ghost use Rattle.std.specs.Prelude.{◌≡◌, [], refl, false};
 ghost use Rattle.std.proofs.Common.{lit<};
-ghost use Rattle.der_elem.specs.TaggedLaws.{encoding_eq_tagged};
-ghost use Rattle.der_elem.specs.ValueForms.{held_form};
-ghost use Rattle.der_fields.specs.TellingLaws.{eq_both, tlv_apart};
-ghost use Rattle.der_opaque.specs.contracts.any_ref.AnyRefEncodingEq.TheImpl.Laws as any;
-ghost use Rattle.der_opaque.specs.contracts.object_identifier.ObjectIdentifierContentsEq.TheImpl.Laws as identifier;
+ghost use Rattle.der_asn1_types.specs.TaggedLaws.{encoding_eq_tagged};
+ghost use Rattle.der_asn1_types.specs.FormatMakers.{mapped_format};
+ghost use Rattle.der_asn1_types.specs.DistinguishingLaws.{eq_both, tlv_distinguished};
+ghost use Rattle.der_asn1_types.specs.AnyRefEncodingEqLaws as any;
+ghost use Rattle.der_asn1_types.specs.ObjectIdentifierContentsEqLaws as identifier;
 
-use der_elem::{
-    ContentsEq, CopyIsDuplicate, DecodeValue, EncodeValue, FormValue, OneTag, SequenceTag,
-    TagMarker, ValueOrd,
+use der_asn1_types::asn1::{AnyRef, ObjectIdentifier};
+use der_asn1_types::fields::{DecodeFields, EncodeFields, ExplicitTag, FieldsOrd};
+use der_asn1_types::{
+    ContentsEq, CopyIsDuplicate, DecodeValue, EncodeValue, End, Error, Explicit, Field, FieldList,
+    FormValue, Header, Length, OneTag, SequenceTag, Source, TagMarker, ValueOrd, Writer,
 };
-use der_fields::{
-    DecodeFields, EncodeFields, End, Explicit, ExplicitTag, Field, FieldList, FieldsOrd,
-};
-use der_opaque::{AnyRef, ObjectIdentifier};
-use der_tlv::{Error, Header, Length, Source, Writer};
 use std::alloc::Global;
 use std::cmp::Ordering;
 
@@ -58,13 +55,13 @@ impl<'a> OneTag for OtherName<'a> {
 }
 
 impl<'a> FormValue for OtherName<'a> {
-    ghost value = { held_form (λ v. v.fields) ⟦<OtherNameList<'a> as FieldList>⟧.list.octets };
+    ghost value = { mapped_format (λ v. v.fields) ⟦<OtherNameList<'a> as FieldList>⟧.list.octets };
 }
 
 impl<'a, R: Source<'a>> DecodeValue<'a, R> for OtherName<'a> {
-    ghost VALUE_NEEDS_MEMORY = { false };
+    ghost TAKES_MEMORY = { false };
 
-    const VALUE_NEEDS_MEMORY: bool = false;
+    const TAKES_MEMORY: bool = false;
 
     fn decode_value(
         alloc: Global,
@@ -77,7 +74,7 @@ impl<'a, R: Source<'a>> DecodeValue<'a, R> for OtherName<'a> {
         }
     }
 
-    ghost memory_of_value = { refl };
+    ghost takes_memory_is = { refl };
 }
 
 impl<'a> EncodeValue for OtherName<'a> {
@@ -100,9 +97,9 @@ impl<'a> ContentsEq for OtherName<'a> {
     ghost contents_eq = { λ v w one.
         let first = encoding_eq_tagged _ _ _ _ (identifier.contents_eq-law 39 (record { fits = lit< tt })) v.fields.first w.fields.first one.0 in
         let E = ⟦<Explicit<AnyRef<'a>, 0> as FormValue>⟧.value in
-        let value = encoding_eq_tagged ⟦<ExplicitTag<2, 0> as TagMarker>⟧.TAG E.contents E.comparable ⟦<Explicit<AnyRef<'a>, 0> as PartialEq>⟧.eq (λ v w one. eq_both _ _ _ _ [] [] (any.encoding_eq-law v.fields.first w.fields.first one.0) (λ _. refl, λ _. refl) (tlv_apart _ _ _ _ _ _)) v.fields.rest.first w.fields.rest.first one.1.0 in
-        let rest = eq_both _ _ _ _ [] [] value (λ _. refl, λ _. refl) (tlv_apart _ _ _ _ _ _) in
-        eq_both _ _ _ _ _ _ first rest (tlv_apart _ _ _ _ _ _) };
+        let value = encoding_eq_tagged ⟦<ExplicitTag<2, 0> as TagMarker>⟧.TAG E.contents E.comparable ⟦<Explicit<AnyRef<'a>, 0> as PartialEq>⟧.eq (λ v w one. eq_both _ _ _ _ [] [] (any.encoding_eq-law v.fields.first w.fields.first one.0) (λ _. refl, λ _. refl) (tlv_distinguished _ _ _ _ _ _)) v.fields.rest.first w.fields.rest.first one.1.0 in
+        let rest = eq_both _ _ _ _ [] [] value (λ _. refl, λ _. refl) (tlv_distinguished _ _ _ _ _ _) in
+        eq_both _ _ _ _ _ _ first rest (tlv_distinguished _ _ _ _ _ _) };
 }
 
 impl<'a> CopyIsDuplicate for OtherName<'a> {}

@@ -1,12 +1,11 @@
 //! The value of the extension extKeyUsage (RFC 5280 section 4.2.1.12).
 
-ghost use Rattle.der_elem.specs.Decoding.{ReadsAll};
-ghost use Rattle.der_fields.specs.SequenceWriting.{WritesAll};
+ghost use Rattle.der_asn1_types.specs.Decoding.{ReadsAll};
+ghost use Rattle.der_asn1_types.specs.SequenceWriting.{WritesAll};
 ghost use Rattle.der_extensions.specs.Grammars.{ext_key_usage};
 
-use der_elem::{Encode, FromDer};
-use der_opaque::ObjectIdentifier;
-use der_tlv::Error;
+use der_asn1_types::asn1::ObjectIdentifier;
+use der_asn1_types::{Encode, Error, FromDer};
 use std::alloc::Global;
 
 /// The purpose 1.3.6.1.5.5.7.3.1, a server's authentication, is encoded as

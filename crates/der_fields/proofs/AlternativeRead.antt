@@ -9,20 +9,20 @@ use Rattle.der_tlv.specs.ReaderState.{ReaderState, after_read, rest}
 use Rattle.der_tlv.specs.Reading.{HeadSeen}
 use Rattle.der_elem.specs.declared.form.Form as form
 use Rattle.der_elem.specs.Decoding.{Decoded}
-use Rattle.der_elem.specs.Leading.{LeadsTag, Leads}
+use Rattle.der_elem.specs.FirstTags.{BeginsWithTag, BeginsWithFirst}
 use Rattle.der_fields.specs.Alternatives.{TagIs, parse_one}
 
 -- the next tag is the one that the front begins with
-pub same_tag : (octets : List ℕ) (t u : Tag) (n : ℕ) → take (length (identifier t)) octets ≡ identifier t → LeadsTag u (take n octets) → t ≡ u
+pub same_tag : (octets : List ℕ) (t u : Tag) (n : ℕ) → take (length (identifier t)) octets ≡ identifier t → BeginsWithTag u (take n octets) → t ≡ u
 same_tag octets t u n e l =
     let f : identifier t ++ drop (length (identifier t)) octets ≡ octets = ap (λ o. o ++ drop (length (identifier t)) octets) (sym e) ∙ take-append-drop (length (identifier t)) octets in
     let h : octets ≡ identifier u ++ (l.others ++ drop n octets) = sym (take-append-drop n octets) ∙ ap (λ o. o ++ drop n octets) l.octets_are ∙ append_assoc (identifier u) l.others (drop n octets) in
     (identifier-unique t u _ _ (f ∙ h)).0
 
 -- what the tests say of the next tag, they say of the tag that was read
-tag_is_next : (tags : Tag → Bool) (one : Bool) (octets : List ℕ) (t u : Tag) (n : ℕ) (lead : Option Tag) → take (length (identifier t)) octets ≡ identifier t → tags t ≡ one → lead ≡ Some u → Leads lead (take n octets) → TagIs tags one lead
-tag_is_next tags one octets t u n lead e h is l =
-    let same = same_tag octets t u n e (subst (λ lead. Leads lead (take n octets)) is l) in
+tag_is_next : (tags : Tag → Bool) (one : Bool) (octets : List ℕ) (t u : Tag) (n : ℕ) (first_tag : Option Tag) → take (length (identifier t)) octets ≡ identifier t → tags t ≡ one → first_tag ≡ Some u → BeginsWithFirst first_tag (take n octets) → TagIs tags one first_tag
+tag_is_next tags one octets t u n first_tag e h is l =
+    let same = same_tag octets t u n e (subst (λ first_tag. BeginsWithFirst first_tag (take n octets)) is l) in
     subst (TagIs tags one) (sym is) (ap tags (sym same) ∙ h)
 
 -- what reading the first alternative shows of the CHOICE
@@ -30,17 +30,17 @@ pub record FirstRead {A B : Type 0} (F : form.Ghosts A) (G : form.Ghosts B) (old
   pub taken : ℕ
   pub ready : old.failed ≡ false
   pub parsed : parse_one F.tags G.tags F.parse G.parse old.rules old.position (rest old) ≡ Ok (taken, F.encoding v)
-  pub accepted : F.accepts old.rules v (take taken (rest old)) × TagIs F.tags true (F.lead v)
+  pub accepted : F.accepts old.rules v (take taken (rest old)) × TagIs F.tags true (F.first_tag_of v)
   pub after : new ≡ after_read old taken
 
-pub first_read : {A B : Type 0} (F : form.Ghosts A) (G : form.Ghosts B) (old seen_at new : ReaderState) (v : A) (t u : Tag) → HeadSeen read_tag (identifier t) old seen_at t → F.tags t ≡ true → F.lead v ≡ Some u → Decoded F seen_at new v → FirstRead F G old new v
+pub first_read : {A B : Type 0} (F : form.Ghosts A) (G : form.Ghosts B) (old seen_at new : ReaderState) (v : A) (t u : Tag) → HeadSeen read_tag (identifier t) old seen_at t → F.tags t ≡ true → F.first_tag_of v ≡ Some u → Decoded F seen_at new v → FirstRead F G old new v
 first_read F G old seen_at new v t u seen own is read' =
     let read : Decoded F old new v = subst (λ s. Decoded F s new v) seen.after read' in
     record {
       taken = read.taken;
       ready = read.ready;
       parsed = rw (seen.parsed, own) read.parsed;
-      accepted = (read.accepted, tag_is_next F.tags true (rest old) t u read.taken (F.lead v) seen.taken own is (F.led old.rules v (take read.taken (rest old)) read.accepted));
+      accepted = (read.accepted, tag_is_next F.tags true (rest old) t u read.taken (F.first_tag_of v) seen.taken own is (F.begins_first old.rules v (take read.taken (rest old)) read.accepted));
       after = read.after;
     }
 
@@ -49,16 +49,16 @@ pub record OtherRead {A B : Type 0} (F : form.Ghosts A) (G : form.Ghosts B) (old
   pub taken : ℕ
   pub ready : old.failed ≡ false
   pub parsed : parse_one F.tags G.tags F.parse G.parse old.rules old.position (rest old) ≡ Ok (taken, G.encoding w)
-  pub accepted : G.accepts old.rules w (take taken (rest old)) × TagIs F.tags false (G.lead w)
+  pub accepted : G.accepts old.rules w (take taken (rest old)) × TagIs F.tags false (G.first_tag_of w)
   pub after : new ≡ after_read old taken
 
-pub other_read : {A B : Type 0} (F : form.Ghosts A) (G : form.Ghosts B) (old seen_at new : ReaderState) (w : B) (t u : Tag) → HeadSeen read_tag (identifier t) old seen_at t → F.tags t ≡ false → G.tags t ≡ true → G.lead w ≡ Some u → Decoded G seen_at new w → OtherRead F G old new w
+pub other_read : {A B : Type 0} (F : form.Ghosts A) (G : form.Ghosts B) (old seen_at new : ReaderState) (w : B) (t u : Tag) → HeadSeen read_tag (identifier t) old seen_at t → F.tags t ≡ false → G.tags t ≡ true → G.first_tag_of w ≡ Some u → Decoded G seen_at new w → OtherRead F G old new w
 other_read F G old seen_at new w t u seen none own is read' =
     let read : Decoded G old new w = subst (λ s. Decoded G s new w) seen.after read' in
     record {
       taken = read.taken;
       ready = read.ready;
       parsed = rw (seen.parsed, none, own) read.parsed;
-      accepted = (read.accepted, tag_is_next F.tags false (rest old) t u read.taken (G.lead w) seen.taken none is (G.led old.rules w (take read.taken (rest old)) read.accepted));
+      accepted = (read.accepted, tag_is_next F.tags false (rest old) t u read.taken (G.first_tag_of w) seen.taken none is (G.begins_first old.rules w (take read.taken (rest old)) read.accepted));
       after = read.after;
     }

@@ -1,4 +1,4 @@
--- A field that is read, and then those behind it.
+-- A field that is read, and then those after it.
 use Rattle.std.proofs.Common.{◌≡◌, ℕ, ◌+◌, ◌<◌, List, [], ◌∷◌, ◌++◌, length, take, drop, Bool, false, Option, Some, None, Result, Ok, Err, refl, inl, inr, ◌⊎◌, ◌-◌, sym, ap, ◌∙◌, subst, arith, add_assoc}
 use Rattle.std.proofs.lemmas.List.{take-append-drop, length-take, length-drop}
 use Rattle.std.proofs.Math.Seq.{drop-length}
@@ -11,13 +11,13 @@ use Rattle.der_tlv.specs.TagReadingLaws.{read_tag-identifier}
 use Rattle.der_tlv.specs.ReaderState.{ReaderState, IsReaderState, rest, after_read, unless_failed}
 use Rattle.der_tlv.proofs.ReaderStates.{rest-after_read}
 use Rattle.der_elem.specs.declared.form.Form as form
-use Rattle.der_elem.specs.Leading.{LeadsTag, Leads}
+use Rattle.der_elem.specs.FirstTags.{BeginsWithTag, BeginsWithFirst}
 use Rattle.der_elem.specs.Items.{join_items}
-use Rattle.der_elem.specs.FieldDecoding.{OtherTag, ToldApart, FieldDecoded}
+use Rattle.der_elem.specs.FieldDecoding.{OtherTag, DistinguishedFromNext, FieldDecoded}
 use Rattle.der_elem.proofs.ItemReading.{all_taken}
-use Rattle.der_fields.specs.FieldsForm.{FieldsForm}
-use Rattle.der_fields.specs.FieldLists.{Apart, AcceptsField, behind_field, parse_field, parse_end}
-use Rattle.der_elem.specs.LeadingLaws.{led_some}
+use Rattle.der_fields.specs.FieldsFormat.{FieldsFormat}
+use Rattle.der_fields.specs.FieldLists.{Distinguished, AcceptsField, after_field, parse_field, parse_end}
+use Rattle.der_elem.specs.FirstTagLaws.{begins_with_tag_some}
 use Rattle.der_fields.specs.FieldsDecoding.{FieldsDecoded}
 
 pub end_fault : (rules : EncodingRules) (p : ℕ) (c : List ℕ) → 0 < length c → parse_end rules p c ≡ Err (TrailingData p (length c))
@@ -40,20 +40,20 @@ same_tag {m} {n} {t} {u} e = ap (tag_in t) e
     tag_in other (Err k) = other
 
 -- what follows begins with another tag
-other_tag : (tags : Tag → Bool) (p : ℕ) (octets : List ℕ) {t : Tag} → LeadsTag t octets → (octets ≡ []) ⊎ OtherTag tags p octets → tags t ≡ false
+other_tag : (tags : Tag → Bool) (p : ℕ) (octets : List ℕ) {t : Tag} → BeginsWithTag t octets → (octets ≡ []) ⊎ OtherTag tags p octets → tags t ≡ false
 other_tag tags p octets {t} l h = elim h [
-  | inl none ↦ absurd (let some = led_some l in omega (arith, ap length none))
+  | inl none ↦ absurd (let some = begins_with_tag_some l in omega (arith, ap length none))
   | inr o ↦ ap tags (same_tag (sym (ap (read_tag p) l.octets_are ∙ read_tag-identifier t p l.others l.is_tag) ∙ o.is_next)) ∙ o.is_other
 ]
 
-apart : (tags : Tag → Bool) (lead next : Option Tag) (p : ℕ) (front others octets : List ℕ) → octets ≡ front ++ others → Leads lead front → Leads next others → ToldApart tags lead p octets → Apart tags lead next
+apart : (tags : Tag → Bool) (first_tag next : Option Tag) (p : ℕ) (front others octets : List ℕ) → octets ≡ front ++ others → BeginsWithFirst first_tag front → BeginsWithFirst next others → DistinguishedFromNext tags first_tag p octets → Distinguished tags first_tag next
 apart tags (Some t) next p front others octets e k l h = tt
 apart tags None None p front others octets e k l h = tt
 apart tags None (Some t) p front others octets e k l h =
     let same : others ≡ octets = sym (e ∙ ap (λ f. f ++ others) k) in
-    other_tag tags p octets (subst (LeadsTag t) same l) h
+    other_tag tags p octets (subst (BeginsWithTag t) same l) h
 
-module _ {T U : Type 0} {F : form.Ghosts T} {G : FieldsForm U} {old mid now : ReaderState} {v : T} {w : U} (first : FieldDecoded F old mid v) (second : FieldsDecoded G mid now w) where
+module _ {T U : Type 0} {F : form.Ghosts T} {G : FieldsFormat U} {old mid now : ReaderState} {v : T} {w : U} (first : FieldDecoded F old mid v) (second : FieldsDecoded G mid now w) where
   same_rules : mid.rules ≡ old.rules
   same_rules = ap (λ s. s.rules) first.decoded.after
 
@@ -68,9 +68,9 @@ module _ {T U : Type 0} {F : form.Ghosts T} {G : FieldsForm U} {old mid now : Re
   rest_accepted = subst (λ r. G.octets.accepts r w (drop first.decoded.taken (rest old))) same_rules (subst (G.octets.accepts mid.rules w) rest_mid second.accepted)
 
   pub both_parsed : parse_field F.parse G.octets.parse old.rules old.position (rest old) ≡ Ok (F.encoding v ++ G.octets.contents w)
-  both_parsed = ap (behind_field (G.octets.parse old.rules) old.position (rest old)) first.decoded.parsed ∙ ap (join_items (F.encoding v)) rest_parsed
+  both_parsed = ap (after_field (G.octets.parse old.rules) old.position (rest old)) first.decoded.parsed ∙ ap (join_items (F.encoding v)) rest_parsed
 
-  pub both_accepted : AcceptsField F.tags (F.lead v) (G.first_tag w) (F.accepts old.rules) (G.octets.accepts old.rules) v w (rest old)
+  pub both_accepted : AcceptsField F.tags (F.first_tag_of v) (G.first_tag w) (F.accepts old.rules) (G.octets.accepts old.rules) v w (rest old)
   both_accepted =
       let whole : rest old ≡ take first.decoded.taken (rest old) ++ drop first.decoded.taken (rest old) = sym (take-append-drop first.decoded.taken (rest old)) in
       record {
@@ -79,7 +79,7 @@ module _ {T U : Type 0} {F : form.Ghosts T} {G : FieldsForm U} {old mid now : Re
         octets_are = whole;
         first = first.decoded.accepted;
         rest = rest_accepted;
-        apart = apart F.tags (F.lead v) (G.first_tag w) old.position (take first.decoded.taken (rest old)) (drop first.decoded.taken (rest old)) (rest old) whole (F.led old.rules v (take first.decoded.taken (rest old)) first.decoded.accepted) (G.led old.rules w (drop first.decoded.taken (rest old)) rest_accepted) first.told;
+        apart = apart F.tags (F.first_tag_of v) (G.first_tag w) old.position (take first.decoded.taken (rest old)) (drop first.decoded.taken (rest old)) (rest old) whole (F.begins_first old.rules v (take first.decoded.taken (rest old)) first.decoded.accepted) (G.begins_first old.rules w (drop first.decoded.taken (rest old)) rest_accepted) first.distinguished;
       }
 
   both_after : now ≡ after_read old (first.decoded.taken + length (rest mid))

@@ -25,19 +25,19 @@ of_one first other (Other w) = other w
 
 -- the value is read from these octets, and its tag tells which alternative it is of
 abbrev pub AcceptsOne : {A B : Type 0} → (Tag → Bool) → (A → Option Tag) → (B → Option Tag) → (A → List ℕ → Type 0) → (B → List ℕ → Type 0) → OneOf A B → List ℕ → Type 0
-AcceptsOne tags lead lead' accepts accepts' (First v) octets = accepts v octets × TagIs tags true (lead v)
-AcceptsOne tags lead lead' accepts accepts' (Other w) octets = accepts' w octets × TagIs tags false (lead' w)
+AcceptsOne tags first_tag first_tag' accepts accepts' (First v) octets = accepts v octets × TagIs tags true (first_tag v)
+AcceptsOne tags first_tag first_tag' accepts accepts' (Other w) octets = accepts' w octets × TagIs tags false (first_tag' w)
 
 abbrev pub ReadableOne : {A B : Type 0} → (Tag → Bool) → (A → Option Tag) → (B → Option Tag) → (A → Type 0) → (B → Type 0) → OneOf A B → Type 0
-ReadableOne tags lead lead' readable readable' (First v) = readable v × TagIs tags true (lead v)
-ReadableOne tags lead lead' readable readable' (Other w) = readable' w × TagIs tags false (lead' w)
+ReadableOne tags first_tag first_tag' readable readable' (First v) = readable v × TagIs tags true (first_tag v)
+ReadableOne tags first_tag first_tag' readable readable' (Other w) = readable' w × TagIs tags false (first_tag' w)
 
--- some form has both: one of the alternative, or one that the tags tell apart
-abbrev pub OneFormOne : {A B : Type 0} → (Tag → Bool) → (A → Option Tag) → (B → Option Tag) → (A → A → Type 0) → (B → B → Type 0) → OneOf A B → OneOf A B → Type 0
-OneFormOne tags lead lead' comparable comparable' (First v) (First x) = comparable v x
-OneFormOne tags lead lead' comparable comparable' (Other w) (Other y) = comparable' w y
-OneFormOne tags lead lead' comparable comparable' (First v) (Other w) = TagIs tags true (lead v) × TagIs tags false (lead' w)
-OneFormOne tags lead lead' comparable comparable' (Other w) (First v) = TagIs tags true (lead v) × TagIs tags false (lead' w)
+-- two values are comparable: they are of one alternative and comparable there, or the tags distinguish them
+abbrev pub ComparableOne : {A B : Type 0} → (Tag → Bool) → (A → Option Tag) → (B → Option Tag) → (A → A → Type 0) → (B → B → Type 0) → OneOf A B → OneOf A B → Type 0
+ComparableOne tags first_tag first_tag' comparable comparable' (First v) (First x) = comparable v x
+ComparableOne tags first_tag first_tag' comparable comparable' (Other w) (Other y) = comparable' w y
+ComparableOne tags first_tag first_tag' comparable comparable' (First v) (Other w) = TagIs tags true (first_tag v) × TagIs tags false (first_tag' w)
+ComparableOne tags first_tag first_tag' comparable comparable' (Other w) (First v) = TagIs tags true (first_tag v) × TagIs tags false (first_tag' w)
 
 -- what the alternative asks of its value
 abbrev pub AskedOfOne : {A B : Type 0} → (A → Type 0) → (B → Type 0) → OneOf A B → Type 0
@@ -69,17 +69,17 @@ abbrev pub parse_one : (Tag → Bool) → (Tag → Bool) → Parse → Parse →
 parse_one tags tags' first other rules p octets = parse_by_tag tags tags' (first rules p octets) (other rules p octets) (read_tag p octets)
 
 -- contents octets with no tag, which tell nothing
-abbrev pub parse_untold : ContentsParse
-parse_untold rules p octets = Ok octets
+abbrev pub parse_without_tag : ContentsParse
+parse_without_tag rules p octets = Ok octets
 
 -- why two values of two types have no comparison: no length says how many octets one has, their headers are equal, or memory ran out where items are read again
-abbrev pub NotTold : {A B : Type 0} → form.Ghosts A → form.Ghosts B → A → B → Tag → Tag → ErrorKind → Type 0
-NotTold F G x y t u Overflow = (2 ^ 32 ≤ length (F.encoding x)) ⊎ (2 ^ 32 ≤ length (G.encoding y))
-NotTold F G x y t u (Value tag) = (t ≡ u) × SameHeader (F.encoding x) (G.encoding y)
-NotTold F G x y t u Memory = (F.re_reads x ≡ true) ⊎ (G.re_reads y ≡ true)
-NotTold F G x y t u _ = ⊥
+abbrev pub NotDecidedByHeaders : {A B : Type 0} → form.Ghosts A → form.Ghosts B → A → B → Tag → Tag → ErrorKind → Type 0
+NotDecidedByHeaders F G x y t u Overflow = (2 ^ 32 ≤ length (F.encoding x)) ⊎ (2 ^ 32 ≤ length (G.encoding y))
+NotDecidedByHeaders F G x y t u (Value tag) = (t ≡ u) × SameHeader (F.encoding x) (G.encoding y)
+NotDecidedByHeaders F G x y t u Memory = (F.re_reads x ≡ true) ⊎ (G.re_reads y ≡ true)
+NotDecidedByHeaders F G x y t u _ = ⊥
 
 -- what comparing the headers of values of two types, with these tags, answers: the order of their encodings, or why there is none
-abbrev pub TellsHeaders : {A B : Type 0} → form.Ghosts A → form.Ghosts B → A → B → Tag → Tag → Result Ordering Error → Type 0
-TellsHeaders F G x y t u (Ok order) = order ≡ lex (F.encoding x) (G.encoding y)
-TellsHeaders F G x y t u (Err e) = NotTold F G x y t u e.kind
+abbrev pub ComparesHeaders : {A B : Type 0} → form.Ghosts A → form.Ghosts B → A → B → Tag → Tag → Result Ordering Error → Type 0
+ComparesHeaders F G x y t u (Ok order) = order ≡ lex (F.encoding x) (G.encoding y)
+ComparesHeaders F G x y t u (Err e) = NotDecidedByHeaders F G x y t u e.kind

@@ -1,11 +1,13 @@
 -- The laws of fields with a DEFAULT, from those of the values.
-use Rattle.std.proofs.Common.{◌≡◌, ℕ, List, [], ◌∷◌, ◌++◌, length, Bool, true, false, nat_eq, Option, Some, None, Ok, refl, sym, ap, ◌∙◌, arith, append_assoc, subst, not, eq-eqb, IsTrue, ◌↔◌}
+use Rattle.std.proofs.Common.{◌≡◌, ℕ, List, [], ◌∷◌, ◌++◌, length, Bool, true, false, nat_eq, Option, Some, None, Result, Ok, Err, refl, sym, ap, ◌∙◌, arith, append_assoc, subst, not, eq-eqb, IsTrue, ◌↔◌}
 use borrow.Author.Tests.{eqb-true}
 use Rattle.std.proofs.lemmas.Bool.{false_from_ne_true}
 use Rattle.std.proofs.lemmas.List.{append-nil, nil_from_length}
 use Rattle.std.specs.declared.cmp.Ordering.TheVariants.{Less, Greater}
 use Rattle.std.specs.Cmp.Lexicographic.{pointwise, bytes_decides}
 use Rattle.der_tlv.specs.declared.encoding_rules.EncodingRules.{EncodingRules}
+use Rattle.der_tlv.specs.declared.error.ErrorKind.{ErrorKind}
+use Rattle.der_tlv.specs.declared.error.ErrorKind.TheVariants.{Noncanonical}
 use Rattle.der_tlv.specs.declared.tag.Tag.{Tag}
 use Rattle.der_tlv.specs.declared.tag.Tag.TheVariants.{Boolean, Integer}
 use Rattle.der_tlv.specs.Octets.{lex}
@@ -13,17 +15,34 @@ use Rattle.der_tlv.specs.Identifier.{identifier}
 use Rattle.der_tlv.specs.HeaderReading.{read_tag}
 use Rattle.der_tlv.specs.HeaderOctets.{tlv}
 use Rattle.der_tlv.specs.HeaderLaws.{tlv-injective}
+use Rattle.der_tlv.specs.OctetFaults.{IsOfOctets, of_octets_either, tag_of_octets_read}
 use Rattle.der_tlv.specs.OctetLaws.{SameBeginning}
+use Rattle.der_elem.specs.Parsing.{Parse}
 use Rattle.der_tlv.specs.TagReadingLaws.{read_tag-identifier}
 use Rattle.der_elem.specs.Boolean.{boolean_contents, boolean_contents-injective}
 use Rattle.der_elem.specs.Integer.{natural_contents}
 use Rattle.der_elem.specs.IntegerLaws.{natural_contents-injective}
 use Rattle.der_elem.specs.declared.form.Form as form
 use Rattle.der_elem.specs.Accepting.{Fits, BeginsWith, MayFollow}
-use Rattle.der_elem.specs.Leading.{Leads, Starts, SameLeads}
-use Rattle.der_elem.specs.LeadingLaws.{starts_tagged, own_lead_tagged, beginning_tagged}
+use Rattle.der_elem.specs.FirstTags.{BeginsWithFirst, Starts, SamePresence}
+use Rattle.der_elem.specs.FirstTagLaws.{starts_tagged, own_first_tag_tagged, beginning_tagged}
 use Rattle.der_elem.specs.OrderLaws.{encoding-some, lex-absent-present, lex-present-absent}
-use Rattle.der_fields.specs.Defaults.{is_default, octets_unless, lead_unless, test_unless, accepts_unless, refuse_default, parse_default}
+use Rattle.der_fields.specs.Defaults.{is_default, octets_unless, first_tag_unless, test_unless, accepts_unless, refuse_default, default_at_tag, parse_default}
+
+-- the faults are of the octets, where those of the value are
+refused_of_octets : (default : List ℕ) (tag : Tag) (r : Result (ℕ × List ℕ) ErrorKind) → IsOfOctets r → IsOfOctets (refuse_default default tag r)
+refused_of_octets default tag (Err k) h = h
+refused_of_octets default tag (Ok (n, octets)) h = of_octets_either (pointwise nat_eq octets default) (Err (Noncanonical tag)) (Ok (n, octets)) refl tt
+
+default_at_tag_of_octets : (tags : Tag → Bool) (default : List ℕ) (parsed : Result (ℕ × List ℕ) ErrorKind) → IsOfOctets parsed → (next : Result (ℕ × Tag) ErrorKind) → IsOfOctets next → IsOfOctets (default_at_tag tags default parsed next)
+default_at_tag_of_octets tags default parsed h (Err k) next = next
+default_at_tag_of_octets tags default parsed h (Ok (count, tag)) next =
+    of_octets_either (tags tag) (refuse_default default tag parsed) (Ok (0, [])) (refused_of_octets default tag parsed h) tt
+
+pub default_of_octets : (tags : Tag → Bool) (default : List ℕ) (parse : Parse) → ((rules : EncodingRules) (p : ℕ) (c : List ℕ) → IsOfOctets (parse rules p c)) → (rules : EncodingRules) (p : ℕ) (octets : List ℕ) → IsOfOctets (parse_default tags default parse rules p octets)
+default_of_octets tags default parse h rules p [] = tt
+default_of_octets tags default parse h rules p (z ∷ octets) =
+    default_at_tag_of_octets tags default (parse rules p (z ∷ octets)) (h rules p (z ∷ octets)) (read_tag p (z ∷ octets)) (tag_of_octets_read p (z ∷ octets))
 
 -- the default's encoding is told from every other
 default_refused : (default octets : List ℕ) → octets ≡ default → pointwise nat_eq octets default ≡ true
@@ -84,9 +103,9 @@ module _ {T : Type 0} (F : form.Ghosts T) (rules : EncodingRules) where
   begins_default true v z b a = let none = a.0 in absurd (cc)
   begins_default false v z b a = F.begins rules v z b a
 
-  pub led_default : (k : Bool) (v : T) (b : List ℕ) → accepts_unless k (F.readable v) (F.accepts rules v) b → Leads (lead_unless k (F.lead v)) b
-  led_default true v b a = a.0
-  led_default false v b a = F.led rules v b a
+  pub begins_first_default : (k : Bool) (v : T) (b : List ℕ) → accepts_unless k (F.readable v) (F.accepts rules v) b → BeginsWithFirst (first_tag_unless k (F.first_tag_of v)) b
+  begins_first_default true v b a = a.0
+  begins_first_default false v b a = F.begins_first rules v b a
 
   pub same_length_default : (k : Bool) (v : T) (b : List ℕ) → accepts_unless k (F.readable v) (F.accepts rules v) b → length (octets_unless k (F.encoding v)) ≡ length b
   same_length_default true v b a = ap length (sym a.0)
@@ -110,20 +129,20 @@ module _ {T : Type 0} (F : form.Ghosts T) where
   re_reads_default false v h = F.re_reads_memory v h
 
 -- the first tag of a field that is there is one of its own
-pub own_lead_default : (tags : Tag → Bool) (own : Tag) → tags own ≡ true → (lead : Option Tag) → lead ≡ Some own → (k : Bool) (t : Tag) → lead_unless k lead ≡ Some t → tags t ≡ true
-own_lead_default tags own is lead e true t f = absurd (cc)
-own_lead_default tags own is lead e false t f = own_lead_tagged tags own is lead e t f
+pub own_first_tag_default : (tags : Tag → Bool) (own : Tag) → tags own ≡ true → (first_tag : Option Tag) → first_tag ≡ Some own → (k : Bool) (t : Tag) → first_tag_unless k first_tag ≡ Some t → tags t ≡ true
+own_first_tag_default tags own is first_tag e true t f = absurd (cc)
+own_first_tag_default tags own is first_tag e false t f = own_first_tag_tagged tags own is first_tag e t f
 
 module _ {T : Type 0} (tag_of : T → Tag) (contents encoding : T → List ℕ) (encoding_is : (v : T) → encoding v ≡ tlv (tag_of v) (contents v)) where
-  pub starts_default : (v : T) (lead : Option Tag) → lead ≡ Some (tag_of v) → (k : Bool) → Starts (lead_unless k lead) (octets_unless k (encoding v))
-  starts_default v lead e true = refl
-  starts_default v lead e false = starts_tagged tag_of contents encoding encoding_is v lead e
+  pub starts_default : (v : T) (first_tag : Option Tag) → first_tag ≡ Some (tag_of v) → (k : Bool) → Starts (first_tag_unless k first_tag) (octets_unless k (encoding v))
+  starts_default v first_tag e true = refl
+  starts_default v first_tag e false = starts_tagged tag_of contents encoding encoding_is v first_tag e
 
-  pub beginning_default : (lead : T → Option Tag) (lead_is : (v : T) → lead v ≡ Some (tag_of v)) (k l : Bool) (v w : T) → SameLeads (lead_unless k (lead v)) (lead_unless l (lead w)) → SameBeginning (octets_unless k (encoding v)) (octets_unless l (encoding w))
-  beginning_default lead lead_is true true v w h = record { same = λ x y e. refl }
-  beginning_default lead lead_is false false v w h = beginning_tagged tag_of contents encoding encoding_is v w
-  beginning_default lead lead_is true false v w h = absurd (subst (SameLeads None) (lead_is w) h)
-  beginning_default lead lead_is false true v w h = absurd (subst (λ l. SameLeads l None) (lead_is v) h)
+  pub beginning_default : (first_tag : T → Option Tag) (first_tag_is : (v : T) → first_tag v ≡ Some (tag_of v)) (k l : Bool) (v w : T) → SamePresence (first_tag_unless k (first_tag v)) (first_tag_unless l (first_tag w)) → SameBeginning (octets_unless k (encoding v)) (octets_unless l (encoding w))
+  beginning_default first_tag first_tag_is true true v w h = record { same = λ x y e. refl }
+  beginning_default first_tag first_tag_is false false v w h = beginning_tagged tag_of contents encoding encoding_is v w
+  beginning_default first_tag first_tag_is true false v w h = absurd (subst (SamePresence None) (first_tag_is w) h)
+  beginning_default first_tag first_tag_is false true v w h = absurd (subst (λ l. SamePresence l None) (first_tag_is v) h)
 
   -- no octets are before some
   pub absent_first : (v w : T) (k l : Bool) → k ≡ true → l ≡ false → Less ≡ lex (octets_unless k (encoding v)) (octets_unless l (encoding w))

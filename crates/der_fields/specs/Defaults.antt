@@ -17,9 +17,9 @@ octets_unless true octets = []
 octets_unless false octets = octets
 
 -- its first tag
-abbrev pub lead_unless : Bool → Option Tag → Option Tag
-lead_unless true lead = None
-lead_unless false lead = lead
+abbrev pub first_tag_unless : Bool → Option Tag → Option Tag
+first_tag_unless true first_tag = None
+first_tag_unless false first_tag = first_tag
 
 -- whether the value is not the default, and this holds of it
 abbrev pub test_unless : Bool → Bool → Bool

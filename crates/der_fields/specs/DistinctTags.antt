@@ -1,4 +1,4 @@
--- Tags by which the fields of a SEQUENCE are told apart: a field that may be absent has none of the tags of those that may follow it (X.680 25.6).
+-- Tags by which the fields of a SEQUENCE are distinguished: a field that may be absent has none of the tags of those that may follow it (X.680 25.6).
 use Rattle.std.specs.Prelude.{List, [], ◌∷◌, Bool, true, false, ◌&&◌, ◌||◌, not, if◌then◌else◌, Option, Some, None}
 use Rattle.der_tlv.specs.declared.tag.Tag.{Tag}
 use Rattle.der_elem.specs.KnownTags.{may_be, known_of_both}
@@ -13,10 +13,10 @@ abbrev pub are_distinct : Option (List Tag) → Option (List Tag) → Bool
 are_distinct known None = false
 are_distinct known (Some following) = none_may_be known following
 
--- the tags that a field and those behind it may begin with
+-- the tags that a field and those after it may begin with
 abbrev pub first_known : Bool → Option (List Tag) → Option (List Tag) → Option (List Tag)
 first_known may_be_absent known following = if may_be_absent then known_of_both known following else known
 
--- whether a field is told from those behind it by its tags, or is always there
-abbrev pub is_told : Bool → Option (List Tag) → Option (List Tag) → Bool
-is_told may_be_absent known following = not may_be_absent || are_distinct known following
+-- whether a field is told from those after it by its tags, or is always there
+abbrev pub is_distinguished : Bool → Option (List Tag) → Option (List Tag) → Bool
+is_distinguished may_be_absent known following = not may_be_absent || are_distinct known following

@@ -1,5 +1,5 @@
-pub mod FieldsForm
-pub mod FieldForms
+pub mod FieldsFormat
+pub mod ListMakers
 pub mod FieldLists
 pub mod DistinctTags
 pub mod DistinctTagLaws
@@ -8,9 +8,10 @@ pub mod AlternativeLaws
 pub mod FieldLaws
 pub mod FieldsDecoding
 pub mod ComparingFields
-pub mod TellingLaws
+pub mod DistinguishingLaws
 pub mod CopyingLaws
-pub mod ClassTags
+pub mod FieldSteps
+pub mod MarkerTags
 pub mod Defaults
 pub mod DefaultLaws
 pub mod Listing

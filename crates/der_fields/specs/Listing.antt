@@ -3,7 +3,7 @@ use Rattle.der_fields.specs.declared.field.Field.{Field}
 use Rattle.der_fields.specs.declared.end.End.{End}
 use Rattle.der_fields.specs.declared.with_default.WithDefault.{WithDefault}
 
--- a field, and the list of those behind it
+-- a field, and the list of those after it
 abbrev pub field : {T Rest : Type 0} → T → Rest → Field T Rest
 field first rest = record { first = first; rest = rest }
 

@@ -10,10 +10,10 @@ use std::alloc::Global;
 
 /// Reading fields from all of the octets that a reader shows.
 pub trait DecodeFields<'a, R: Source<'a>>: FieldList {
-    ghost FIELDS_NEED_MEMORY: { Bool };
+    ghost TAKES_MEMORY: { Bool };
 
     /// Whether reading the fields takes memory.
-    const FIELDS_NEED_MEMORY: bool;
+    const TAKES_MEMORY: bool;
 
     /// Reads the fields from all of the octets that the reader shows.
     ///
@@ -24,7 +24,7 @@ pub trait DecodeFields<'a, R: Source<'a>>: FieldList {
     fn decode_fields(alloc: Global, reader: &mut R) -> Result<Self, Error>
         ensures { DecodesFields Self.list (R.state reader.old) (R.state reader.new) result };
 
-    ghost memory_of_fields: { Self.FIELDS_NEED_MEMORY ≡ Self.list.octets.TAKES_MEMORY };
+    ghost takes_memory_is: { Self.DecodeFields.TAKES_MEMORY ≡ Self.list.octets.TAKES_MEMORY };
 }
 
 /// Writing fields.

@@ -1,7 +1,7 @@
 //! DEFAULT: the value that a field has where it is absent (X.680 25.9, X.690 11.5).
 //!
 //! A default is named by a type: `DefaultFalse` is that of `BOOLEAN DEFAULT FALSE`, `DefaultNumber<0>`
-//! that of `INTEGER DEFAULT 0`, also behind an explicit tag, as of a version `[0] EXPLICIT INTEGER
+//! that of `INTEGER DEFAULT 0`, also after an explicit tag, as of a version `[0] EXPLICIT INTEGER
 //! DEFAULT v1`.
 
 ghost use Rattle.std.specs.Prelude.{◌≡◌, List, ℕ, true, false};
@@ -9,7 +9,7 @@ ghost use Rattle.der_tlv.specs.HeaderOctets.{tlv};
 ghost use Rattle.der_tlv.specs.declared.tag.Tag.TheVariants as tags;
 ghost use Rattle.der_elem.specs.Boolean.{boolean_contents};
 ghost use Rattle.der_elem.specs.Integer.{natural_contents};
-ghost use Rattle.der_fields.specs.ClassTags.{class_tag};
+ghost use Rattle.der_fields.specs.MarkerTags.{marker_tag};
 ghost use Rattle.der_fields.specs.Defaults.{is_default};
 
 use crate::end::End;
@@ -65,7 +65,7 @@ impl<const NUMBER: u8> DefaultOf<u8> for DefaultNumber<NUMBER> {
 impl<T: Form, D: DefaultOf<T>, const CLASS: u8, const NUMBER: u32> DefaultOf<
     ExplicitIn<Field<T, End>, CLASS, NUMBER>,
 > for D {
-    ghost octets = { tlv (class_tag CLASS true NUMBER) D.octets };
+    ghost octets = { tlv (marker_tag CLASS true NUMBER) D.octets };
 
     fn default_value() -> ExplicitIn<Field<T, End>, CLASS, NUMBER> {
         let first = D::default_value();

@@ -4,8 +4,8 @@ ghost use Rattle.std.specs.Prelude.{◌≡◌, List, [], Bool, true, ◌&&◌, O
 ghost use Rattle.std.proofs.lemmas.Bool.{and_parts};
 ghost use Rattle.der_tlv.specs.declared.tag.Tag.{Tag};
 ghost use Rattle.der_elem.specs.KnownTags.{may_be};
-ghost use Rattle.der_fields.specs.DistinctTags.{first_known, is_told};
-ghost use Rattle.der_fields.specs.DistinctTagLaws.{told, first_is_known};
+ghost use Rattle.der_fields.specs.DistinctTags.{first_known, is_distinguished};
+ghost use Rattle.der_fields.specs.DistinctTagLaws.{field_distinguished, first_is_known};
 
 use crate::end::End;
 use crate::field::Field;
@@ -56,7 +56,7 @@ impl DistinctTags for End {
 impl<T: KnownTags + FirstTag, Rest: DistinctTags> DistinctTags for Field<T, Rest> {
     ghost first_tags = { first_known T.MAY_BE_ABSENT T.known_tags Rest.first_tags };
 
-    ghost TAGS_ARE_DISTINCT = { is_told T.MAY_BE_ABSENT T.known_tags Rest.first_tags
+    ghost TAGS_ARE_DISTINCT = { is_distinguished T.MAY_BE_ABSENT T.known_tags Rest.first_tags
         && Rest.TAGS_ARE_DISTINCT };
 
     ghost each_readable = { λ v. T.readable v.first × Rest.each_readable v.rest };
@@ -64,24 +64,24 @@ impl<T: KnownTags + FirstTag, Rest: DistinctTags> DistinctTags for Field<T, Rest
     ghost each_comparable = { λ v w. T.comparable v.first w.first × Rest.each_comparable v.rest w.rest };
 
     ghost first_is_known = { λ v. first_is_known T.tags T.known_tags Rest.first_tags T.are_known
-        T.MAY_BE_ABSENT (T.lead v.first) (Rest.list.first_tag v.rest) (T.own_lead v.first)
+        T.MAY_BE_ABSENT (T.first_tag_of v.first) (Rest.list.first_tag v.rest) (T.own_first_tag v.first)
         (λ e. T.is_there e v.first) (Rest.first_is_known v.rest) };
 
     ghost readable_if_distinct = { λ e v r.
-        let parts = and_parts (is_told T.MAY_BE_ABSENT T.known_tags Rest.first_tags) Rest.TAGS_ARE_DISTINCT e in (
+        let parts = and_parts (is_distinguished T.MAY_BE_ABSENT T.known_tags Rest.first_tags) Rest.TAGS_ARE_DISTINCT e in (
           r.0,
           Rest.readable_if_distinct parts.1 v.rest r.1,
-          told T.tags T.known_tags Rest.first_tags T.are_known T.MAY_BE_ABSENT (T.lead v.first)
+          field_distinguished T.tags T.known_tags Rest.first_tags T.are_known T.MAY_BE_ABSENT (T.first_tag_of v.first)
               (Rest.list.first_tag v.rest) (λ e. T.is_there e v.first) (Rest.first_is_known v.rest) parts.0,
         ) };
 
     ghost comparable_if_distinct = { λ e v w c.
-        let parts = and_parts (is_told T.MAY_BE_ABSENT T.known_tags Rest.first_tags) Rest.TAGS_ARE_DISTINCT e in (
+        let parts = and_parts (is_distinguished T.MAY_BE_ABSENT T.known_tags Rest.first_tags) Rest.TAGS_ARE_DISTINCT e in (
           c.0,
           Rest.comparable_if_distinct parts.1 v.rest w.rest c.1,
-          told T.tags T.known_tags Rest.first_tags T.are_known T.MAY_BE_ABSENT (T.lead v.first)
+          field_distinguished T.tags T.known_tags Rest.first_tags T.are_known T.MAY_BE_ABSENT (T.first_tag_of v.first)
               (Rest.list.first_tag v.rest) (λ e. T.is_there e v.first) (Rest.first_is_known v.rest) parts.0,
-          told T.tags T.known_tags Rest.first_tags T.are_known T.MAY_BE_ABSENT (T.lead w.first)
+          field_distinguished T.tags T.known_tags Rest.first_tags T.are_known T.MAY_BE_ABSENT (T.first_tag_of w.first)
               (Rest.list.first_tag w.rest) (λ e. T.is_there e w.first) (Rest.first_is_known w.rest) parts.0,
         ) };
 }

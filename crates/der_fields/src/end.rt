@@ -3,13 +3,13 @@
 //! Reading refuses octets that are left over (3).
 
 ghost use Rattle.std.specs.Prelude.{◌≡◌, false, None, refl};
-ghost use Rattle.der_fields.specs.FieldForms.{end_list};
+ghost use Rattle.der_fields.specs.ListMakers.{end_list};
 
 use crate::coded::{DecodeFields, EncodeFields};
-use crate::copied::DuplicateFields;
+use crate::copied::{DuplicateFields, DuplicateFieldsAreEqual};
 use crate::equal::FieldsEq;
 use crate::field_list::FieldList;
-use crate::ordered::{FieldsLead, FieldsOrd};
+use crate::ordered::{FieldsFirstTag, FieldsOrd};
 use crate::soundness::is_sound;
 use der_elem::check_ready;
 use der_tlv::{Error, ErrorKind, Length, Reader, Source, Tag, Writer};
@@ -25,9 +25,9 @@ impl FieldList for End {
 }
 
 impl<'a, R: Source<'a>> DecodeFields<'a, R> for End {
-    ghost FIELDS_NEED_MEMORY = { false };
+    ghost TAKES_MEMORY = { false };
 
-    const FIELDS_NEED_MEMORY: bool = false;
+    const TAKES_MEMORY: bool = false;
 
     fn decode_fields(_alloc: Global, reader: &mut R) -> Result<End, Error> {
         check_ready(reader)?;
@@ -40,7 +40,7 @@ impl<'a, R: Source<'a>> DecodeFields<'a, R> for End {
         Err(reader.error(ErrorKind::TrailingData { decoded, remaining }))
     }
 
-    ghost memory_of_fields = { refl };
+    ghost takes_memory_is = { refl };
 }
 
 impl EncodeFields for End {
@@ -53,8 +53,8 @@ impl EncodeFields for End {
     }
 }
 
-impl FieldsLead for End {
-    fn first_of_fields(&self) -> Option<Tag> {
+impl FieldsFirstTag for End {
+    fn fields_first_tag(&self) -> Option<Tag> {
         None
     }
 
@@ -85,4 +85,8 @@ impl DuplicateFields for End {
     ghost copy_all_comparable = { λ v w x c f. tt };
 
     ghost copy_re_read = { λ v w c. refl };
+}
+
+impl DuplicateFieldsAreEqual for End {
+    ghost copies_are_equal = { λ v w c. refl };
 }

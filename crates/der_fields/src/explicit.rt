@@ -3,24 +3,27 @@
 //! The tag is constructed, and the contents octets are the whole encoding of the value: [1] of the
 //! INTEGER 5 is encoded as A1 03 02 01 05. A list of fields may stand in place of the value.
 //!
-//! Reading refuses another tag (4), the value's faults, and octets left over behind it (3).
+//! Reading refuses another tag (4), the value's faults, and octets left over after it (3).
 
-ghost use Rattle.der_elem.specs.ValueForms.{held_form};
+ghost use Rattle.der_elem.specs.FormatMakers.{mapped_format};
 
-use crate::class_tag::ExplicitTag;
 use crate::coded::{DecodeFields, EncodeFields};
-use crate::copied::DuplicateFields;
+use crate::copied::{DuplicateFields, DuplicateFieldsAreEqual};
 use crate::end::End;
 use crate::equal::FieldsEq;
 use crate::field::Field;
 use crate::field_list::FieldList;
+use crate::marker_tag::ExplicitTag;
 use crate::ordered::FieldsOrd;
-use der_elem::{ContentsEq, DecodeValue, DuplicateValue, EncodeValue, FormValue, OneTag, ValueOrd};
+use der_elem::{
+    ContentsEq, DecodeValue, DuplicateValue, DuplicateValueIsEqual, EncodeValue, FormValue, OneTag,
+    ValueOrd,
+};
 use der_tlv::{Error, Header, Length, Source, Writer};
 use std::alloc::Global;
 use std::cmp::Ordering;
 
-/// Fields behind a constructed tag of this class with this number. The class is bits 8 and 7 of the
+/// Fields after a constructed tag of this class with this number. The class is bits 8 and 7 of the
 /// identifier: 1 is application, 2 context-specific, and every other number private.
 #[derive(Clone, Copy, Debug, PartialEq, Eq, Drop)]
 pub struct ExplicitIn<F, const CLASS: u8, const NUMBER: u32> {
@@ -28,13 +31,13 @@ pub struct ExplicitIn<F, const CLASS: u8, const NUMBER: u32> {
     pub fields: F,
 }
 
-/// A value behind a context-specific tag with this number: `[NUMBER] EXPLICIT T`.
+/// A value after a context-specific tag with this number: `[NUMBER] EXPLICIT T`.
 pub type Explicit<T, const NUMBER: u32> = ExplicitIn<Field<T, End>, 2, NUMBER>;
 
-/// A value behind an application tag with this number: `[APPLICATION NUMBER] EXPLICIT T`.
+/// A value after an application tag with this number: `[APPLICATION NUMBER] EXPLICIT T`.
 pub type ExplicitApplication<T, const NUMBER: u32> = ExplicitIn<Field<T, End>, 1, NUMBER>;
 
-/// A value behind a private tag with this number: `[PRIVATE NUMBER] EXPLICIT T`.
+/// A value after a private tag with this number: `[PRIVATE NUMBER] EXPLICIT T`.
 pub type ExplicitPrivate<T, const NUMBER: u32> = ExplicitIn<Field<T, End>, 3, NUMBER>;
 
 impl<F, const CLASS: u8, const NUMBER: u32> OneTag for ExplicitIn<F, CLASS, NUMBER> {
@@ -42,16 +45,16 @@ impl<F, const CLASS: u8, const NUMBER: u32> OneTag for ExplicitIn<F, CLASS, NUMB
 }
 
 impl<F: FieldList, const CLASS: u8, const NUMBER: u32> FormValue for ExplicitIn<F, CLASS, NUMBER> {
-    ghost value = { held_form (λ v. v.fields) F.list.octets };
+    ghost value = { mapped_format (λ v. v.fields) F.list.octets };
 }
 
 impl<'a, R: Source<'a>, F: DecodeFields<'a, R>, const CLASS: u8, const NUMBER: u32> DecodeValue<
     'a,
     R,
 > for ExplicitIn<F, CLASS, NUMBER> {
-    ghost VALUE_NEEDS_MEMORY = { F.FIELDS_NEED_MEMORY };
+    ghost TAKES_MEMORY = { F.DecodeFields.TAKES_MEMORY };
 
-    const VALUE_NEEDS_MEMORY: bool = F::FIELDS_NEED_MEMORY;
+    const TAKES_MEMORY: bool = <F as DecodeFields<'a, R>>::TAKES_MEMORY;
 
     fn decode_value(
         alloc: Global,
@@ -62,7 +65,7 @@ impl<'a, R: Source<'a>, F: DecodeFields<'a, R>, const CLASS: u8, const NUMBER: u
         Ok(ExplicitIn { fields })
     }
 
-    ghost memory_of_value = { F.memory_of_fields };
+    ghost takes_memory_is = { F.DecodeFields.takes_memory_is };
 }
 
 impl<F: EncodeFields, const CLASS: u8, const NUMBER: u32> EncodeValue
@@ -99,7 +102,12 @@ impl<F: DuplicateFields, const CLASS: u8, const NUMBER: u32> DuplicateValue
 
     ghost copy_contents = { λ v w c. F.copy_joined v.fields w.fields c };
 
-    ghost copy_form_value = { λ v w x c f. F.copy_all_comparable v.fields w.fields x.fields c f };
+    ghost copy_comparable_value = { λ v w x c f. F.copy_all_comparable v.fields w.fields x.fields c f };
 
     ghost copy_re_reads_value = { λ v w c. F.copy_re_read v.fields w.fields c };
+}
+
+impl<F: DuplicateFieldsAreEqual, const CLASS: u8, const NUMBER: u32> DuplicateValueIsEqual
+    for ExplicitIn<F, CLASS, NUMBER> {
+    ghost copy_value_is_equal = { λ v w. F.copies_are_equal v.fields w.fields };
 }

@@ -8,17 +8,17 @@
 
 ghost use Rattle.std.specs.Prelude.{refl};
 ghost use Rattle.der_elem.specs.Decoding.{ReadsAll};
-ghost use Rattle.der_elem.specs.ValueForms.{held_form};
+ghost use Rattle.der_elem.specs.FormatMakers.{mapped_format};
 ghost use Rattle.der_fields.specs.SequenceWriting.{WritesAll};
 
 use crate::coded::{DecodeFields, EncodeFields};
-use crate::copied::DuplicateFields;
+use crate::copied::{DuplicateFields, DuplicateFieldsAreEqual};
 use crate::equal::FieldsEq;
 use crate::field_list::FieldList;
 use crate::ordered::FieldsOrd;
 use der_elem::{
-    ContentsEq, DecodeValue, DuplicateValue, Encode, EncodeValue, Form, FormValue, FromDer, OneTag,
-    Sequence, SequenceTag, ValueOrd,
+    ContentsEq, DecodeValue, DuplicateValue, DuplicateValueIsEqual, Encode, EncodeValue, Form,
+    FormValue, FromDer, OneTag, Sequence, SequenceTag, ValueOrd,
 };
 use der_tlv::{Error, Header, Length, SliceReader, Source, Writer};
 use std::alloc::Global;
@@ -32,7 +32,7 @@ pub struct FieldSequence<F> {
 }
 
 impl<F: FieldList> FormValue for FieldSequence<F> {
-    ghost value = { held_form (λ v. v.fields) F.list.octets };
+    ghost value = { mapped_format (λ v. v.fields) F.list.octets };
 }
 
 impl<F> OneTag for FieldSequence<F> {
@@ -44,9 +44,9 @@ impl<'a, F> Sequence<'a> for FieldSequence<F> {
 }
 
 impl<'a, R: Source<'a>, F: DecodeFields<'a, R>> DecodeValue<'a, R> for FieldSequence<F> {
-    ghost VALUE_NEEDS_MEMORY = { F.FIELDS_NEED_MEMORY };
+    ghost TAKES_MEMORY = { F.DecodeFields.TAKES_MEMORY };
 
-    const VALUE_NEEDS_MEMORY: bool = F::FIELDS_NEED_MEMORY;
+    const TAKES_MEMORY: bool = <F as DecodeFields<'a, R>>::TAKES_MEMORY;
 
     fn decode_value(
         alloc: Global,
@@ -57,7 +57,7 @@ impl<'a, R: Source<'a>, F: DecodeFields<'a, R>> DecodeValue<'a, R> for FieldSequ
         Ok(FieldSequence { fields })
     }
 
-    ghost memory_of_value = { F.memory_of_fields };
+    ghost takes_memory_is = { F.DecodeFields.takes_memory_is };
 }
 
 impl<F: EncodeFields> EncodeValue for FieldSequence<F> {
@@ -92,9 +92,13 @@ impl<F: DuplicateFields> DuplicateValue for FieldSequence<F> {
 
     ghost copy_contents = { λ v w c. F.copy_joined v.fields w.fields c };
 
-    ghost copy_form_value = { λ v w x c f. F.copy_all_comparable v.fields w.fields x.fields c f };
+    ghost copy_comparable_value = { λ v w x c f. F.copy_all_comparable v.fields w.fields x.fields c f };
 
     ghost copy_re_reads_value = { λ v w c. F.copy_re_read v.fields w.fields c };
+}
+
+impl<F: DuplicateFieldsAreEqual> DuplicateValueIsEqual for FieldSequence<F> {
+    ghost copy_value_is_equal = { λ v w. F.copies_are_equal v.fields w.fields };
 }
 
 /// Reads a SEQUENCE of these fields: all of the octets, under DER.

@@ -5,15 +5,18 @@
 //!
 //! Reading refuses another tag, also that of the other form, (4), and the contents' faults.
 
-ghost use Rattle.der_elem.specs.ValueForms.{held_form};
+ghost use Rattle.der_elem.specs.FormatMakers.{mapped_format};
 
-use crate::class_tag::ImplicitTag;
-use der_elem::{ContentsEq, DecodeValue, DuplicateValue, EncodeValue, FormValue, OneTag, ValueOrd};
+use crate::marker_tag::ImplicitTag;
+use der_elem::{
+    ContentsEq, DecodeValue, DuplicateValue, DuplicateValueIsEqual, EncodeValue, FormValue, OneTag,
+    ValueOrd,
+};
 use der_tlv::{Error, Header, Length, Source, Writer};
 use std::alloc::Global;
 use std::cmp::Ordering;
 
-/// A value behind a tag of this class with this number in place of its own. The class is bits 8 and 7
+/// A value after a tag of this class with this number in place of its own. The class is bits 8 and 7
 /// of the identifier: 1 is application, 2 context-specific, and every other number private.
 #[derive(Clone, Copy, Debug, PartialEq, Eq, Drop)]
 pub struct ImplicitIn<T, const CLASS: u8, const NUMBER: u32> {
@@ -21,13 +24,13 @@ pub struct ImplicitIn<T, const CLASS: u8, const NUMBER: u32> {
     pub value: T,
 }
 
-/// A value behind a context-specific tag with this number: `[NUMBER] IMPLICIT T`.
+/// A value after a context-specific tag with this number: `[NUMBER] IMPLICIT T`.
 pub type Implicit<T, const NUMBER: u32> = ImplicitIn<T, 2, NUMBER>;
 
-/// A value behind an application tag with this number: `[APPLICATION NUMBER] IMPLICIT T`.
+/// A value after an application tag with this number: `[APPLICATION NUMBER] IMPLICIT T`.
 pub type ImplicitApplication<T, const NUMBER: u32> = ImplicitIn<T, 1, NUMBER>;
 
-/// A value behind a private tag with this number: `[PRIVATE NUMBER] IMPLICIT T`.
+/// A value after a private tag with this number: `[PRIVATE NUMBER] IMPLICIT T`.
 pub type ImplicitPrivate<T, const NUMBER: u32> = ImplicitIn<T, 3, NUMBER>;
 
 impl<T: OneTag, const CLASS: u8, const NUMBER: u32> OneTag for ImplicitIn<T, CLASS, NUMBER> {
@@ -35,16 +38,16 @@ impl<T: OneTag, const CLASS: u8, const NUMBER: u32> OneTag for ImplicitIn<T, CLA
 }
 
 impl<T: FormValue, const CLASS: u8, const NUMBER: u32> FormValue for ImplicitIn<T, CLASS, NUMBER> {
-    ghost value = { held_form (λ v. v.value) T.value };
+    ghost value = { mapped_format (λ v. v.value) T.value };
 }
 
 impl<'a, R: Source<'a>, T: DecodeValue<'a, R>, const CLASS: u8, const NUMBER: u32> DecodeValue<
     'a,
     R,
 > for ImplicitIn<T, CLASS, NUMBER> {
-    ghost VALUE_NEEDS_MEMORY = { T.VALUE_NEEDS_MEMORY };
+    ghost TAKES_MEMORY = { T.DecodeValue.TAKES_MEMORY };
 
-    const VALUE_NEEDS_MEMORY: bool = T::VALUE_NEEDS_MEMORY;
+    const TAKES_MEMORY: bool = <T as DecodeValue<'a, R>>::TAKES_MEMORY;
 
     fn decode_value(
         alloc: Global,
@@ -55,7 +58,7 @@ impl<'a, R: Source<'a>, T: DecodeValue<'a, R>, const CLASS: u8, const NUMBER: u3
         Ok(ImplicitIn { value })
     }
 
-    ghost memory_of_value = { T.memory_of_value };
+    ghost takes_memory_is = { T.DecodeValue.takes_memory_is };
 }
 
 impl<T: EncodeValue, const CLASS: u8, const NUMBER: u32> EncodeValue
@@ -93,7 +96,12 @@ impl<T: DuplicateValue, const CLASS: u8, const NUMBER: u32> DuplicateValue
 
     ghost copy_contents = { λ v w. T.copy_contents v.value w.value };
 
-    ghost copy_form_value = { λ v w x. T.copy_form_value v.value w.value x.value };
+    ghost copy_comparable_value = { λ v w x. T.copy_comparable_value v.value w.value x.value };
 
     ghost copy_re_reads_value = { λ v w. T.copy_re_reads_value v.value w.value };
+}
+
+impl<T: DuplicateValueIsEqual, const CLASS: u8, const NUMBER: u32> DuplicateValueIsEqual
+    for ImplicitIn<T, CLASS, NUMBER> {
+    ghost copy_value_is_equal = { λ v w. T.copy_value_is_equal v.value w.value };
 }

@@ -15,7 +15,7 @@ use der_elem::{Form, KnownTags, Tagged};
 
 /// Reading can give a list whose tags are distinct where it can give each of its fields, and two such
 /// lists are compared where their fields are.
-pub fn distinct_tags_tell_fields<F: DistinctTags>()
+pub fn distinct_tags_distinguish_fields<F: DistinctTags>()
     requires { F.TAGS_ARE_DISTINCT ≡ true }
     ensures readable { (v : F) → F.each_readable v → F.list.octets.readable v }
     ensures comparable { (v w : F) → F.each_comparable v w → F.list.octets.comparable v w }
@@ -32,14 +32,14 @@ pub fn sequence_is_read_back<F: DistinctTags + FieldsEq>()
         → (IsTrue (⟦<FieldSequence<F> as PartialEq>⟧.eq v w)
         ↔ (⟦<FieldSequence<F> as Form>⟧.encoding v ≡ ⟦<FieldSequence<F> as Form>⟧.encoding w)) }
 {
-    distinct_tags_tell_fields::<F>();
+    distinct_tags_distinguish_fields::<F>();
     own_encoding_is_read::<FieldSequence<F>>();
     equal_encodings::<FieldSequence<F>>();
 }
 
 /// Reading can give a CHOICE of alternatives with distinct tags (X.680 29.3) where it can give the
 /// alternative, and any two values are compared unless the one alternative of both forbids it.
-pub fn distinct_tags_tell_alternatives<A: Tagged + KnownTags, B: Tagged + KnownTags>()
+pub fn distinct_tags_distinguish_alternatives<A: Tagged + KnownTags, B: Tagged + KnownTags>()
     requires { are_distinct A.known_tags B.known_tags ≡ true }
     ensures readable { (v : OneOf A B) → AskedOfOne A.readable B.readable v
         → ⟦<OneOf<A, B> as Form>⟧.readable v }
@@ -59,7 +59,7 @@ where
         → (IsTrue (⟦<NamedSequence<S> as PartialEq>⟧.eq v w)
         ↔ (⟦<NamedSequence<S> as Form>⟧.encoding v ≡ ⟦<NamedSequence<S> as Form>⟧.encoding w)) }
 {
-    distinct_tags_tell_fields::<S::List>();
+    distinct_tags_distinguish_fields::<S::List>();
     own_encoding_is_read::<NamedSequence<S>>();
     equal_encodings::<NamedSequence<S>>();
 }

@@ -21,7 +21,6 @@
 //! ```
 #![tactic(auto)]
 
-mod class_tag;
 mod coded;
 mod copied;
 mod default;
@@ -32,17 +31,18 @@ mod explicit;
 mod field;
 mod field_list;
 mod field_sequence;
+mod fields;
 mod implicit;
 pub mod laws;
+mod marker_tag;
 mod named;
 mod one_of;
 mod ordered;
 mod soundness;
 mod with_default;
 
-pub use class_tag::{ExplicitTag, ImplicitTag};
 pub use coded::{DecodeFields, EncodeFields};
-pub use copied::DuplicateFields;
+pub use copied::{DuplicateFields, DuplicateFieldsAreEqual};
 pub use default::{DefaultFalse, DefaultNumber, DefaultOf};
 pub use distinct::DistinctTags;
 pub use end::End;
@@ -51,8 +51,10 @@ pub use explicit::{Explicit, ExplicitApplication, ExplicitIn, ExplicitPrivate};
 pub use field::Field;
 pub use field_list::FieldList;
 pub use field_sequence::{FieldSequence, read_sequence, write_sequence};
+pub use fields::{Fields1, Fields2, Fields3, Fields4, Fields5, Fields6, Fields7, Fields8};
 pub use implicit::{Implicit, ImplicitApplication, ImplicitIn, ImplicitPrivate};
+pub use marker_tag::{ExplicitTag, ImplicitTag};
 pub use named::{NamedFields, NamedSequence, read_named_sequence, write_named_sequence};
-pub use one_of::OneOf;
-pub use ordered::{FieldsLead, FieldsOrd};
+pub use one_of::{OneOf, cmp_headers};
+pub use ordered::{FieldsFirstTag, FieldsOrd};
 pub use with_default::WithDefault;

@@ -9,17 +9,17 @@
 ghost use Rattle.std.specs.Prelude.{◌≡◌, refl};
 ghost use Rattle.std.specs.Cmp.{on_per, on_equiv};
 ghost use Rattle.der_elem.specs.Decoding.{ReadsAll};
-ghost use Rattle.der_elem.specs.ValueForms.{held_form};
+ghost use Rattle.der_elem.specs.FormatMakers.{mapped_format};
 ghost use Rattle.der_fields.specs.SequenceWriting.{WritesAll};
 
 use crate::coded::{DecodeFields, EncodeFields};
-use crate::copied::DuplicateFields;
+use crate::copied::{DuplicateFields, DuplicateFieldsAreEqual};
 use crate::equal::FieldsEq;
 use crate::field_list::FieldList;
 use crate::ordered::FieldsOrd;
 use der_elem::{
-    ContentsEq, DecodeValue, DuplicateValue, Encode, EncodeValue, Form, FormValue, FromDer, OneTag,
-    Sequence, SequenceTag, ValueOrd,
+    ContentsEq, DecodeValue, DuplicateValue, DuplicateValueIsEqual, Encode, EncodeValue, Form,
+    FormValue, FromDer, OneTag, Sequence, SequenceTag, ValueOrd,
 };
 use der_tlv::{Error, Header, Length, SliceReader, Source, Writer};
 use std::alloc::Global;
@@ -89,7 +89,7 @@ pub struct NamedSequence<S> {
 }
 
 impl<S: NamedFields> FormValue for NamedSequence<S> {
-    ghost value = { held_form (λ v. S.list_of v.fields) S.List.list.octets };
+    ghost value = { mapped_format (λ v. S.list_of v.fields) S.List.list.octets };
 }
 
 impl<S> OneTag for NamedSequence<S> {
@@ -104,9 +104,9 @@ impl<'a, R: Source<'a>, S: NamedFields> DecodeValue<'a, R> for NamedSequence<S>
 where
     S::List: DecodeFields<'a, R>,
 {
-    ghost VALUE_NEEDS_MEMORY = { S.List.FIELDS_NEED_MEMORY };
+    ghost TAKES_MEMORY = { S.List.DecodeFields.TAKES_MEMORY };
 
-    const VALUE_NEEDS_MEMORY: bool = <S::List as DecodeFields<'a, R>>::FIELDS_NEED_MEMORY;
+    const TAKES_MEMORY: bool = <S::List as DecodeFields<'a, R>>::TAKES_MEMORY;
 
     fn decode_value(
         alloc: Global,
@@ -118,7 +118,7 @@ where
         Ok(NamedSequence { fields })
     }
 
-    ghost memory_of_value = { S.List.memory_of_fields };
+    ghost takes_memory_is = { S.List.DecodeFields.takes_memory_is };
 }
 
 impl<S: NamedFields> EncodeValue for NamedSequence<S>
@@ -186,11 +186,19 @@ where
 
     ghost copy_contents = { λ v w c. S.List.copy_joined (S.list_of v.fields) (S.list_of w.fields) c };
 
-    ghost copy_form_value = { λ v w x c f. S.List.copy_all_comparable (S.list_of v.fields)
+    ghost copy_comparable_value = { λ v w x c f. S.List.copy_all_comparable (S.list_of v.fields)
         (S.list_of w.fields) (S.list_of x.fields) c f };
 
     ghost copy_re_reads_value = { λ v w c. S.List.copy_re_read (S.list_of v.fields)
         (S.list_of w.fields) c };
+}
+
+impl<S: NamedFields> DuplicateValueIsEqual for NamedSequence<S>
+where
+    S::List: DuplicateFieldsAreEqual,
+{
+    ghost copy_value_is_equal = { λ v w. S.List.copies_are_equal (S.list_of v.fields)
+        (S.list_of w.fields) };
 }
 
 /// Reads a SEQUENCE with these fields: all of the octets, under DER.

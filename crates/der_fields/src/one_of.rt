@@ -8,18 +8,18 @@
 //! and the faults of the alternative that has the tag. A value of the other alternative whose tag is
 //! one of the first's is read from no octets.
 
-ghost use Rattle.std.specs.Prelude.{◌||◌, false};
+ghost use Rattle.std.specs.Prelude.{◌||◌, ◌&&◌, false};
 ghost use Rattle.std.proofs.Common.{Ok, refl};
 ghost use Rattle.der_elem.specs.KnownTags.{known_of_both};
 ghost use Rattle.der_elem.specs.KnownTagLaws.{known_either};
-ghost use Rattle.der_elem.specs.ValueForms.{kept_form};
-ghost use Rattle.der_fields.specs.Alternatives.{of_one, AcceptsOne, ReadableOne, OneFormOne, IsCopyOne, TellsHeaders, parse_one, parse_untold};
+ghost use Rattle.der_elem.specs.FormatMakers.{format_with_tags};
+ghost use Rattle.der_fields.specs.Alternatives.{of_one, AcceptsOne, ReadableOne, ComparableOne, IsCopyOne, ComparesHeaders, parse_one, parse_without_tag};
 ghost use Rattle.der_fields.specs.FieldLaws.{either_memory};
-ghost use Rattle.der_fields.specs.AlternativeLaws.{parse_of_one, begins_one, led_one, same_length_one, accepts_one_encoding, readable_of_one, comparable_of_one, test_of_one, test_alike, encoding_is_one, lead_is_one, own_tag_one, is_led_one, is_tlv_one, encoding_eq_one, copy_encoding_one, copy_form_one, copy_re_reads_one};
+ghost use Rattle.der_fields.specs.AlternativeLaws.{one_of_octets, copy_is_equal_one, parse_of_one, begins_one, begins_first_one, same_length_one, accepts_one_encoding, readable_of_one, comparable_of_one, test_of_one, test_alike, encoding_is_one, first_tag_is_one, own_tag_one, has_first_tag_one, is_tlv_one, encoding_eq_one, copy_encoding_one, copy_comparable_one, copy_re_reads_one};
 
 use der_elem::{
-    Choice, Decode, DecodeField, DerOrd, Duplicate, EncodeValue, EncodingEq, FirstTag, Form,
-    FormValue, KnownTags, Tagged,
+    Choice, Decode, DecodeField, DerOrd, Duplicate, DuplicateIsEqual, EncodeValue, EncodingEq,
+    FirstTag, Form, FormValue, KnownTags, Tagged,
 };
 use der_tlv::{Error, Length, Reader, Source, Tag, Writer};
 use std::alloc::Global;
@@ -37,28 +37,32 @@ pub enum OneOf<A, B> {
 impl<A: Form, B: Form> Form for OneOf<A, B> {
     ghost encoding = { of_one A.encoding B.encoding };
 
-    ghost comparable = { OneFormOne A.tags A.lead B.lead A.comparable B.comparable };
+    ghost comparable = { ComparableOne A.tags A.first_tag_of B.first_tag_of A.comparable B.comparable };
 
     ghost re_reads = { of_one A.re_reads B.re_reads };
 
-    ghost accepts = { λ rules. AcceptsOne A.tags A.lead B.lead (A.accepts rules)
+    ghost accepts = { λ rules. AcceptsOne A.tags A.first_tag_of B.first_tag_of (A.accepts rules)
         (B.accepts rules) };
 
     ghost parse = { parse_one A.tags B.tags A.parse B.parse };
 
     ghost tags = { λ t. A.tags t || B.tags t };
 
-    ghost lead = { of_one A.lead B.lead };
+    ghost first_tag_of = { of_one A.first_tag_of B.first_tag_of };
 
-    ghost readable = { ReadableOne A.tags A.lead B.lead A.readable B.readable };
+    ghost readable = { ReadableOne A.tags A.first_tag_of B.first_tag_of A.readable B.readable };
 
-    ghost TAKES_MEMORY = { A.TAKES_MEMORY || B.TAKES_MEMORY };
+    ghost TAKES_MEMORY = { A.Form.TAKES_MEMORY || B.Form.TAKES_MEMORY };
+
+    ghost FAULTS_FIRST = { A.FAULTS_FIRST && B.FAULTS_FIRST };
 
     ghost parse_of_accepted = { parse_of_one A.Form B.Form };
 
+    ghost faults_of_octets = { one_of_octets A.Form B.Form };
+
     ghost begins = { begins_one A.Form B.Form };
 
-    ghost led = { led_one A.Form B.Form };
+    ghost begins_first = { begins_first_one A.Form B.Form };
 
     ghost same_length = { same_length_one A.Form B.Form };
 
@@ -68,14 +72,14 @@ impl<A: Form, B: Form> Form for OneOf<A, B> {
 
     ghost accepts_comparable = { comparable_of_one A.Form B.Form };
 
-    ghost re_reads_memory = { test_of_one A.re_reads B.re_reads A.TAKES_MEMORY B.TAKES_MEMORY
+    ghost re_reads_memory = { test_of_one A.re_reads B.re_reads A.Form.TAKES_MEMORY B.Form.TAKES_MEMORY
         A.re_reads_memory B.re_reads_memory };
 }
 
 /// The contents octets are those of the alternative. With no tag they do not tell which it is, so a
 /// CHOICE is read from whole encodings alone.
 impl<A: FormValue, B: FormValue> FormValue for OneOf<A, B> {
-    ghost value = { record (kept_form (of_one A.value.contents B.value.contents) (λ v t. Unit {0}) parse_untold (λ rules v p. refl)) {
+    ghost value = { record (format_with_tags (of_one A.value.contents B.value.contents) (λ v t. Unit {0}) parse_without_tag (λ rules v p. refl) (λ rules p c. tt)) {
       re_reads = of_one A.value.re_reads B.value.re_reads;
       TAKES_MEMORY = A.value.TAKES_MEMORY || B.value.TAKES_MEMORY;
       re_reads_memory = test_of_one A.value.re_reads B.value.re_reads A.value.TAKES_MEMORY B.value.TAKES_MEMORY A.value.re_reads_memory B.value.re_reads_memory;
@@ -99,7 +103,7 @@ impl<A: Tagged, B: Tagged> Tagged for OneOf<A, B> {
 
     ghost own_tag = { own_tag_one A.tags B.tags A.tag_of B.tag_of A.own_tag B.own_tag };
 
-    ghost lead_is = { lead_is_one A.tag_of B.tag_of A.lead B.lead A.lead_is B.lead_is };
+    ghost first_tag_is = { first_tag_is_one A.tag_of B.tag_of A.first_tag_of B.first_tag_of A.first_tag_is B.first_tag_is };
 
     ghost re_reads_alike = { test_alike A.value.re_reads A.re_reads B.value.re_reads B.re_reads
         A.re_reads_alike B.re_reads_alike };
@@ -112,7 +116,7 @@ impl<A: Choice, B: Choice> Choice for OneOf<A, B> {
         A::can_decode(tag) || B::can_decode(tag)
     }
 
-    ghost is_led = { is_led_one A.lead B.lead A.is_led B.is_led };
+    ghost has_first_tag = { has_first_tag_one A.first_tag_of B.first_tag_of A.has_first_tag B.has_first_tag };
 }
 
 impl<A: Choice + KnownTags, B: Choice + KnownTags> KnownTags for OneOf<A, B> {
@@ -122,14 +126,15 @@ impl<A: Choice + KnownTags, B: Choice + KnownTags> KnownTags for OneOf<A, B> {
 
     ghost are_known = { known_either A.known_tags B.known_tags A.tags B.tags A.are_known B.are_known };
 
-    ghost is_there = { λ e. is_led_one A.lead B.lead A.is_led B.is_led };
+    ghost is_there = { λ e. has_first_tag_one A.first_tag_of B.first_tag_of A.has_first_tag B.has_first_tag };
 }
 
 impl<'a, R: Source<'a>, A: Decode<'a, R> + Choice, B: Decode<'a, R> + Choice> Decode<'a, R>
     for OneOf<A, B> {
-    ghost NEEDS_MEMORY = { A.NEEDS_MEMORY || B.NEEDS_MEMORY };
+    ghost TAKES_MEMORY = { A.Decode.TAKES_MEMORY || B.Decode.TAKES_MEMORY };
 
-    const NEEDS_MEMORY: bool = A::NEEDS_MEMORY || B::NEEDS_MEMORY;
+    const TAKES_MEMORY: bool = <A as Decode<'a, R>>::TAKES_MEMORY
+        || <B as Decode<'a, R>>::TAKES_MEMORY;
 
     fn decode(alloc: Global, reader: &mut R) -> Result<OneOf<A, B>, Error> {
         let tag = Tag::peek(reader)?;
@@ -142,20 +147,21 @@ impl<'a, R: Source<'a>, A: Decode<'a, R> + Choice, B: Decode<'a, R> + Choice> De
         Err(reader.error(tag.unexpected_error(None)))
     }
 
-    ghost memory_of_form = { either_memory A.memory_of_form B.memory_of_form };
+    ghost takes_memory_is = { either_memory A.Decode.takes_memory_is B.Decode.takes_memory_is };
 }
 
 impl<'a, R: Source<'a>, A: Decode<'a, R> + Choice, B: Decode<'a, R> + Choice> DecodeField<'a, R>
     for OneOf<A, B> {
-    ghost FIELD_NEEDS_MEMORY = { A.NEEDS_MEMORY || B.NEEDS_MEMORY };
+    ghost TAKES_MEMORY = { A.Decode.TAKES_MEMORY || B.Decode.TAKES_MEMORY };
 
-    const FIELD_NEEDS_MEMORY: bool = A::NEEDS_MEMORY || B::NEEDS_MEMORY;
+    const TAKES_MEMORY: bool = <A as Decode<'a, R>>::TAKES_MEMORY
+        || <B as Decode<'a, R>>::TAKES_MEMORY;
 
     fn decode_field(alloc: Global, reader: &mut R) -> Result<OneOf<A, B>, Error> {
         OneOf::<A, B>::decode(alloc, reader)
     }
 
-    ghost memory_of_field = { either_memory A.memory_of_form B.memory_of_form };
+    ghost takes_memory_is = { either_memory A.Decode.takes_memory_is B.Decode.takes_memory_is };
 }
 
 impl<A: EncodeValue, B: EncodeValue> EncodeValue for OneOf<A, B> {
@@ -194,11 +200,16 @@ impl<A: Duplicate + FirstTag, B: Duplicate + FirstTag> Duplicate for OneOf<A, B>
     ghost copy_encoding = { copy_encoding_one A.Form B.Form A.is_copy B.is_copy A.copy_encoding
         B.copy_encoding };
 
-    ghost copy_form = { copy_form_one A.Form B.Form A.is_copy B.is_copy A.copy_encoding
-        B.copy_encoding A.starts B.starts A.copy_form B.copy_form };
+    ghost copy_comparable = { copy_comparable_one A.Form B.Form A.is_copy B.is_copy A.copy_encoding
+        B.copy_encoding A.starts B.starts A.copy_comparable B.copy_comparable };
 
     ghost copy_re_reads = { copy_re_reads_one A.Form B.Form A.is_copy B.is_copy A.copy_encoding
         B.copy_encoding A.copy_re_reads B.copy_re_reads };
+}
+
+impl<A: DuplicateIsEqual + FirstTag, B: DuplicateIsEqual + FirstTag> DuplicateIsEqual
+    for OneOf<A, B> {
+    ghost copy_is_equal = { copy_is_equal_one A.is_copy B.is_copy _ A.copy_is_equal B.copy_is_equal };
 }
 
 impl<A: DerOrd + Tagged + EncodeValue, B: DerOrd + Tagged + EncodeValue> DerOrd for OneOf<A, B> {
@@ -217,11 +228,11 @@ impl<A: DerOrd + Tagged + EncodeValue, B: DerOrd + Tagged + EncodeValue> DerOrd 
 /// # Errors
 /// `ErrorKind::Value` (13) where both are equal; `ErrorKind::Overflow` (9) where a value has more
 /// than 4294967295 contents octets; `ErrorKind::Memory` (1) where items are read again.
-fn cmp_headers<A: Tagged + EncodeValue, B: Tagged + EncodeValue>(
+pub fn cmp_headers<A: Tagged + EncodeValue, B: Tagged + EncodeValue>(
     value: &A,
     other: &B,
 ) -> Result<Ordering, Error>
-    ensures { TellsHeaders A.Form B.Form value.now other.now (A.tag_of value.now)
+    ensures { ComparesHeaders A.Form B.Form value.now other.now (A.tag_of value.now)
         (B.tag_of other.now) result }
 {
     let tag = value.tag();

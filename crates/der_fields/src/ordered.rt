@@ -1,17 +1,17 @@
 //! The order of the fields of a SEQUENCE, which is that of their joined encodings.
 
 ghost use Rattle.std.specs.Prelude.{◌≡◌};
-ghost use Rattle.der_elem.specs.Leading.{Starts};
-ghost use Rattle.der_fields.specs.ComparingFields.{ComparesFields, TellsLeads, lex_leads};
+ghost use Rattle.der_elem.specs.FirstTags.{Starts};
+ghost use Rattle.der_fields.specs.ComparingFields.{ComparesFields, DecidesPresence, lex_first_tags};
 
 use crate::field_list::FieldList;
 use der_tlv::{Error, Tag};
 use std::cmp::Ordering;
 
 /// The tag that the fields' joined encodings begin with.
-pub trait FieldsLead: FieldList {
+pub trait FieldsFirstTag: FieldList {
     /// The tag that the first encoding begins with, if any field has octets.
-    fn first_of_fields(&self) -> Option<Tag>
+    fn fields_first_tag(&self) -> Option<Tag>
         ensures { result ≡ Self.list.first_tag self.now };
 
     ghost starts_fields: { (v : Self) → Starts (Self.list.first_tag v) (Self.list.octets.contents v) };
@@ -30,7 +30,7 @@ pub trait FieldsOrd: FieldList {
 
 /// Whether both fields are there, or both absent.
 pub(crate) fn both_or_none(first: Option<Tag>, second: Option<Tag>) -> bool
-    ensures { TellsLeads first second result }
+    ensures { DecidesPresence first second result }
 {
     match (first, second) {
         (Some(_), Some(_)) => true,
@@ -41,8 +41,8 @@ pub(crate) fn both_or_none(first: Option<Tag>, second: Option<Tag>) -> bool
 }
 
 /// The order of identifier octets, of which absent ones are less than any other.
-pub(crate) fn cmp_leads(first: Option<Tag>, second: Option<Tag>) -> Ordering
-    ensures { result ≡ lex_leads first second }
+pub(crate) fn cmp_first_tags(first: Option<Tag>, second: Option<Tag>) -> Ordering
+    ensures { result ≡ lex_first_tags first second }
 {
     match (first, second) {
         (Some(tag), Some(other)) => tag.cmp(&other),

@@ -7,19 +7,20 @@
 //! and the default's own encoding (`ErrorKind::Noncanonical`, 8).
 
 ghost use Rattle.std.specs.Prelude.{◌≡◌, true};
-ghost use Rattle.std.specs.Cmp.{on_per};
-ghost use Rattle.std.proofs.Common.{ap, ◌∙◌};
-ghost use Rattle.der_fields.specs.Defaults.{is_default, octets_unless, lead_unless, test_unless, accepts_unless, parse_default};
-ghost use Rattle.der_fields.specs.DefaultLaws.{parse_of_default, begins_default, led_default, same_length_default, accepts_default, readable_default, comparable_default, re_reads_default, own_lead_default, starts_default, beginning_default, encoding_eq_default};
+ghost use Rattle.std.specs.Cmp.{on_per, on_equiv};
+ghost use Rattle.std.proofs.Common.{ap, ◌∙◌, false};
+ghost use Rattle.der_fields.specs.Defaults.{is_default, octets_unless, first_tag_unless, test_unless, accepts_unless, parse_default};
+ghost use Rattle.der_fields.specs.DefaultLaws.{default_of_octets, parse_of_default, begins_default, begins_first_default, same_length_default, accepts_default, readable_default, comparable_default, re_reads_default, own_first_tag_default, starts_default, beginning_default, encoding_eq_default};
 
 use crate::default::DefaultOf;
 use der_elem::{
-    Choice, Decode, DecodeField, DerOrd, Duplicate, Encode, EncodingEq, FirstTag, Form, KnownTags,
-    Tagged, check_ready,
+    Choice, Decode, DecodeField, DerOrd, Duplicate, DuplicateIsEqual, Encode, EncodingEq, FirstTag,
+    Form, KnownTags, Tagged, check_ready,
 };
 use der_tlv::{Error, Length, Reader, Source, Tag, Writer};
-use std::alloc::Global;
+use std::alloc::{AllocError, Global};
 use std::cmp::Ordering;
+use std::fmt;
 use std::marker::PhantomData;
 
 /// A value that has no octets where it is the default.
@@ -43,6 +44,26 @@ impl<T, D> WithDefault<T, D> {
     }
 }
 
+impl<T: Clone, D> Clone for WithDefault<T, D> {
+    ghost is_clone = { λ v w. T.is_clone v.value w.value };
+
+    ghost is_infallible = { λ v. T.is_infallible v.value };
+
+    fn clone(&self) -> Result<WithDefault<T, D>, AllocError> {
+        let value = self.value.clone()?;
+        Ok(WithDefault::new(value))
+    }
+}
+
+impl<T: Copy, D> Copy for WithDefault<T, D> {}
+
+impl<T: fmt::Debug, D> fmt::Debug for WithDefault<T, D> {
+    /// The value, as it is shown by itself.
+    fn fmt<W: fmt::Write>(&self, f: &mut fmt::Formatter<W>) -> fmt::Result {
+        fmt::Debug::fmt(&self.value, f)
+    }
+}
+
 impl<T: Form, D: DefaultOf<T>> Form for WithDefault<T, D> {
     ghost encoding = { λ v. octets_unless (is_default D.octets (T.encoding v.value))
         (T.encoding v.value) };
@@ -59,19 +80,24 @@ impl<T: Form, D: DefaultOf<T>> Form for WithDefault<T, D> {
 
     ghost tags = { T.tags };
 
-    ghost lead = { λ v. lead_unless (is_default D.octets (T.encoding v.value)) (T.lead v.value) };
+    ghost first_tag_of = { λ v. first_tag_unless (is_default D.octets (T.encoding v.value)) (T.first_tag_of v.value) };
 
     ghost readable = { λ v. T.readable v.value };
 
-    ghost TAKES_MEMORY = { T.TAKES_MEMORY };
+    ghost TAKES_MEMORY = { T.Form.TAKES_MEMORY };
+
+    // the value is read before it is told from the default
+    ghost FAULTS_FIRST = { false };
 
     ghost parse_of_accepted = { λ rules v. parse_of_default T.Form D.octets rules v.value };
+
+    ghost faults_of_octets = { default_of_octets T.tags D.octets T.parse T.faults_of_octets };
 
     ghost begins = { λ rules v.
         begins_default T.Form rules (is_default D.octets (T.encoding v.value)) v.value };
 
-    ghost led = { λ rules v.
-        led_default T.Form rules (is_default D.octets (T.encoding v.value)) v.value };
+    ghost begins_first = { λ rules v.
+        begins_first_default T.Form rules (is_default D.octets (T.encoding v.value)) v.value };
 
     ghost same_length = { λ rules v.
         same_length_default T.Form rules (is_default D.octets (T.encoding v.value)) v.value };
@@ -108,9 +134,9 @@ impl<T: Encode, D: DefaultOf<T>> Encode for WithDefault<T, D> {
 
 impl<'a, R: Source<'a>, T: Decode<'a, R> + Choice, D: DefaultOf<T>> DecodeField<'a, R>
     for WithDefault<T, D> {
-    ghost FIELD_NEEDS_MEMORY = { T.NEEDS_MEMORY };
+    ghost TAKES_MEMORY = { T.Decode.TAKES_MEMORY };
 
-    const FIELD_NEEDS_MEMORY: bool = T::NEEDS_MEMORY;
+    const TAKES_MEMORY: bool = <T as Decode<'a, R>>::TAKES_MEMORY;
 
     fn decode_field(alloc: Global, reader: &mut R) -> Result<WithDefault<T, D>, Error> {
         if reader.is_finished() {
@@ -130,7 +156,7 @@ impl<'a, R: Source<'a>, T: Decode<'a, R> + Choice, D: DefaultOf<T>> DecodeField<
         Ok(WithDefault::new(value))
     }
 
-    ghost memory_of_field = { T.memory_of_form };
+    ghost takes_memory_is = { T.Decode.takes_memory_is };
 }
 
 impl<T: PartialEq, D> PartialEq for WithDefault<T, D> {
@@ -143,6 +169,10 @@ impl<T: PartialEq, D> PartialEq for WithDefault<T, D> {
     }
 }
 
+impl<T: Eq, D> Eq for WithDefault<T, D> {
+    ghost laws = { on_equiv (λ v. v.value) T.Eq.laws };
+}
+
 impl<T: Tagged, D: DefaultOf<T>> FirstTag for WithDefault<T, D> {
     fn first_tag(&self) -> Option<Tag> {
         if D::is_default(&self.value) {
@@ -152,13 +182,13 @@ impl<T: Tagged, D: DefaultOf<T>> FirstTag for WithDefault<T, D> {
     }
 
     ghost starts = { λ v. starts_default T.tag_of T.value.contents T.encoding T.encoding_is v.value
-        (T.lead v.value) (T.lead_is v.value) (is_default D.octets (T.encoding v.value)) };
+        (T.first_tag_of v.value) (T.first_tag_is v.value) (is_default D.octets (T.encoding v.value)) };
 
-    ghost own_lead = { λ v. own_lead_default T.tags (T.tag_of v.value) (T.own_tag v.value)
-        (T.lead v.value) (T.lead_is v.value) (is_default D.octets (T.encoding v.value)) };
+    ghost own_first_tag = { λ v. own_first_tag_default T.tags (T.tag_of v.value) (T.own_tag v.value)
+        (T.first_tag_of v.value) (T.first_tag_is v.value) (is_default D.octets (T.encoding v.value)) };
 
     ghost same_beginning = { λ v w. beginning_default T.tag_of T.value.contents T.encoding T.encoding_is
-        T.lead T.lead_is (is_default D.octets (T.encoding v.value))
+        T.first_tag_of T.first_tag_is (is_default D.octets (T.encoding v.value))
         (is_default D.octets (T.encoding w.value)) v.value w.value };
 }
 
@@ -203,10 +233,14 @@ impl<T: Duplicate, D: DefaultOf<T>> Duplicate for WithDefault<T, D> {
     ghost copy_encoding = { λ v w c.
         ap (λ o. octets_unless (is_default D.octets o) o) (T.copy_encoding v.value w.value c) };
 
-    ghost copy_form = { λ v w x. T.copy_form v.value w.value x.value };
+    ghost copy_comparable = { λ v w x. T.copy_comparable v.value w.value x.value };
 
     ghost copy_re_reads = { λ v w c.
         ap (λ o. test_unless (is_default D.octets o) (T.re_reads w.value)) (T.copy_encoding v.value
         w.value c) ∙ ap (test_unless (is_default D.octets (T.encoding v.value)))
         (T.copy_re_reads v.value w.value c) };
+}
+
+impl<T: DuplicateIsEqual, D: DefaultOf<T>> DuplicateIsEqual for WithDefault<T, D> {
+    ghost copy_is_equal = { λ v w. T.copy_is_equal v.value w.value };
 }

@@ -1,12 +1,13 @@
 -- Where a text is cut between two lines, and what was answered there.
 use Rattle.std.proofs.Common.{◌≡◌, ◌≢◌, ◌⊎◌, inl, inr, ℕ, ◌+◌, ◌<◌, List, [], ◌∷◌, ◌++◌, Option, None, Some, IfSome, Result, Ok, Err, OnErr, cond, length, refl, sym, ap, subst, Bool, true, false, eqb, ◌∙◌, arith, append_assoc, append-nil, length-append, ne_eqb}
-use Rattle.std.proofs.lemmas.List.Elements.{All-nil, All-head, All-tail}
+use Rattle.std.proofs.lemmas.List.Elements.{All-nil, All-cons, All-append, All-head, All-tail}
 use Rattle.std.proofs.lemmas.Grind.{flat_map-append}
 use Rattle.std.proofs.KnownBytes.{Appends-nil, Appends-trans}
 use Rattle.std.proofs.Transfers.{StopsAt-of_All, StopsAt-append}
-use Rattle.std.specs.List.{flat_map}
+use Rattle.std.specs.List.{All, flat_map}
 use Rattle.std.specs.Io.{StopsAt}
 use Rattle.std.specs.Io.KnownBytes.{Consumes, IsAtEnd, Appends}
+use Rattle.der_lines.specs.Answer.{NotRefusedForMemory}
 use Rattle.der_lines.specs.Lines.{lines_of, onto_first, reply_to, replies_to}
 use Rattle.der_lines.specs.Run.{IsCut, AnswersWholeLines, AnswersAllButOne, WritesBeginning, HasTooManyLines}
 use Rattle.der_lines.specs.declared.fault.Fault.{Fault}
@@ -52,7 +53,7 @@ consumed None after rest part e taken = cc
 consumed (Some known) None rest part e taken = absurd taken
 consumed (Some known) (Some left) rest part e taken = let same : rest ≡ known = cc in (left, refl, same ∙ taken)
 
--- whatever is behind it, a line ends where the front ends
+-- whatever is after it, a line ends where the front ends
 abbrev pub IsClosed : List ℕ → Type 0
 IsClosed front = (behind : List ℕ) → lines_of (front ++ behind) ≡ lines_of front ++ lines_of behind
 
@@ -75,6 +76,7 @@ pub record Answered (table : Table) (allowed left : ℕ) (text : List ℕ) (afte
   pub closed : IsClosed front ⊎ (rest ≡ [])
   pub count : allowed ≡ length (lines_of front) + left
   pub written : Appends old new (replies_to table front)
+  pub memory : All (NotRefusedForMemory table) (lines_of front)
 
 -- a line that was taken, as the front of the rest
 pub record Taken (rest line : List ℕ) (after : Option (List ℕ)) : Type 0 where
@@ -148,6 +150,7 @@ module _ (table : Table) (allowed left : ℕ) (text : List ℕ) (after old new :
         cut = cut_at text so_far.front (part.0 ++ c.0) (so_far.joined ∙ ap (λ l. so_far.front ++ l) c.2)
             (subst (λ l. IsClosed so_far.front ⊎ (l ≡ [])) c.2 so_far.closed);
         no_end = part.1;
+        memory = so_far.memory;
         written = so_far.written;
       }
 
@@ -165,14 +168,15 @@ module _ (table : Table) (allowed left : ℕ) (text : List ℕ) (after old new :
         cut = cut_at text so_far.front (t.part ++ t.left) (so_far.joined ∙ ap (λ l. so_far.front ++ l) t.joined)
             (subst (λ l. IsClosed so_far.front ⊎ (l ≡ [])) t.joined so_far.closed);
         one_line = t.one_line;
+        memory = so_far.memory;
         begins = ap (flat_map (reply_to table)) (ap lines_of (sym t.joined) ∙ t.then_rest) ∙ ap (λ l. l ++ replies_to table t.left) begun.2 ∙ append_assoc begun.0 begun.1 (replies_to table t.left);
         written = Appends-trans old new newer (replies_to table so_far.front) begun.0 so_far.written begun.3;
       }
 
   -- a line was read and answered
-  pub one_more : (later : Option (List ℕ)) (line : List ℕ) (newer : Option (List ℕ)) (fewer : ℕ) → TakesLine after line later → left ≡ fewer + 1 → Appends new newer (reply_to table line)
+  pub one_more : (later : Option (List ℕ)) (line : List ℕ) (newer : Option (List ℕ)) (fewer : ℕ) → TakesLine after line later → left ≡ fewer + 1 → Appends new newer (reply_to table line) → NotRefusedForMemory table line
       → Answered table allowed fewer text later old newer
-  one_more later line newer fewer takes less wrote =
+  one_more later line newer fewer takes less wrote not_memory =
       let t = taken after later so_far.rest line so_far.known takes in
       let front = so_far.front ++ t.part in
       let closed = closed_front so_far.front so_far.rest so_far.closed (rw t.joined (simp length-append (let some = t.some in omega arith))) in
@@ -186,6 +190,7 @@ module _ (table : Table) (allowed left : ℕ) (text : List ℕ) (after old new :
         count = let count = so_far.count in rw lines (simp length-append (omega arith));
         written = subst (Appends old newer) (sym (ap (flat_map (reply_to table)) lines ∙ flat_map-append (reply_to table) (lines_of so_far.front) (line ∷ []) ∙ ap (λ l. replies_to table so_far.front ++ l) (append-nil (reply_to table line))))
             (Appends-trans old new newer (replies_to table so_far.front) (reply_to table line) so_far.written wrote);
+        memory = subst (All (NotRefusedForMemory table)) (sym lines) (All-append (NotRefusedForMemory table) (lines_of so_far.front) (line ∷ []) so_far.memory (All-cons (NotRefusedForMemory table) line [] not_memory (All-nil (NotRefusedForMemory table))));
       }
 
   -- no more lines may be read, and there are more
@@ -208,6 +213,7 @@ all_but_one_of_whole table text after old new whole = record {
   left = whole.left;
   cut = whole.cut;
   one_line = StopsAt-of_All whole.part 10 whole.no_end;
+  memory = whole.memory;
   begins = refl;
   written = subst (Appends old new) (sym (append-nil (replies_to table whole.front))) whole.written;
 }
@@ -232,10 +238,10 @@ on_err (Err e) h = h
 
 module _ (table : Table) (before : Option (List ℕ)) (allowed left : ℕ) (after old new : Option (List ℕ))
     (so_far : IfSome before (λ text. Answered table allowed left text after old new)) where
-  pub line_answered : (later : Option (List ℕ)) (line : List ℕ) (newer : Option (List ℕ)) (fewer : ℕ) → TakesLine after line later → left ≡ fewer + 1 → Appends new newer (reply_to table line)
+  pub line_answered : (later : Option (List ℕ)) (line : List ℕ) (newer : Option (List ℕ)) (fewer : ℕ) → TakesLine after line later → left ≡ fewer + 1 → Appends new newer (reply_to table line) → NotRefusedForMemory table line
       → IfSome before (λ text. Answered table allowed fewer text later old newer)
-  line_answered later line newer fewer takes less wrote = if_some before (λ text. Answered table allowed left text after old new) (λ text. Answered table allowed fewer text later old newer)
-      (λ text h. one_more table allowed left text after old new h later line newer fewer takes less wrote) so_far
+  line_answered later line newer fewer takes less wrote not_memory = if_some before (λ text. Answered table allowed left text after old new) (λ text. Answered table allowed fewer text later old newer)
+      (λ text h. one_more table allowed left text after old new h later line newer fewer takes less wrote not_memory) so_far
 
   pub refused : (failure : Option ErrorKind) (kept : ℕ) → IsRefused failure left after → kept ≡ left → HasFailed failure ⊎ HasTooManyLines before allowed kept
   refused failure kept why same = elim why [

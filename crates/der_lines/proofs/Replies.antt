@@ -11,7 +11,7 @@ pub on_ok : {A E P : Type 0} (r : Result A E) → is_err r ≡ false → OnOk r 
 on_ok (Ok a) e o = o
 on_ok (Err x) e o = absurd (true≢false e)
 
--- the last octet behind a head and digits
+-- the last octet after a head and digits
 pub last_octet : (head digits post : List ℕ) (last octet : ℕ) → length post ≡ 1 → last ≡ length head + length digits → slice_set (head ++ (digits ++ post)) last octet ≡ head ++ (digits ++ octet ∷ [])
 last_octet head digits [] last octet one e = absurd (omega (arith, one))
 last_octet head digits (p ∷ q ∷ post) last octet one e = absurd (omega (arith, one))

@@ -1,14 +1,15 @@
 -- The answer to a line, as a function of a table of types and the line's octets.
-use Rattle.std.specs.Prelude.{ℕ, ◌+◌, ◌==◌, List, [], ◌++◌, length, take, drop, position, Option, None, Some, option_map, Result, Ok, Err, if◌then◌else◌, codes}
+use Rattle.std.specs.Prelude.{◌≢◌, ℕ, ◌+◌, ◌==◌, List, [], ◌++◌, length, take, drop, position, Option, None, Some, option_map, Result, Ok, Err, if◌then◌else◌, codes}
 use Rattle.std.specs.Fmt.{decimal}
 use Rattle.std.specs.Str.{bytes_eq}
 use Rattle.std.specs.Result.{result_ok}
 use Rattle.hex.specs.Hex.{decode_of, encode_lower}
 use Rattle.der_tlv.specs.ErrorNumber.{error_number}
 use Rattle.der_tlv.specs.declared.error.ErrorKind.{ErrorKind}
+use Rattle.der_tlv.specs.declared.error.ErrorKind.TheVariants.{Memory}
 use Rattle.der_lines.specs.Tables.{CanonicalFunction, Table}
 
--- what stands before the first space, and what stands behind it
+-- what stands before the first space, and what stands after it
 abbrev pub parts_of : List ℕ → Option (List ℕ × List ℕ)
 parts_of line = option_map (λ end. (take end line, drop (end + 1) line)) (position (λ octet. octet == 32) line)
 
@@ -46,3 +47,20 @@ answer_to_parts table (Some parts) = answer_to_text table parts.0 (octets_of par
 -- the answer to a line, by the types of a table
 unfoldable pub answer_of : Table → List ℕ → List ℕ
 answer_of table line = answer_to_parts table (parts_of line)
+
+-- what octets come to is not want of memory
+abbrev pub IsNotMemory : Option CanonicalFunction → List ℕ → Type 0
+IsNotMemory None octets = Unit {0}
+IsNotMemory (Some function) octets = function octets ≢ Err Memory
+
+abbrev pub text_is_not_memory : Table → List ℕ → Option (List ℕ) → Type 0
+text_is_not_memory table name None = Unit {0}
+text_is_not_memory table name (Some octets) = IsNotMemory (table name) octets
+
+abbrev pub parts_are_not_memory : Table → Option (List ℕ × List ℕ) → Type 0
+parts_are_not_memory table None = Unit {0}
+parts_are_not_memory table (Some parts) = text_is_not_memory table parts.0 (octets_of parts.1)
+
+-- a line is no line that would be refused for want of memory: its answer is not `refused 1`
+abbrev pub NotRefusedForMemory : Table → List ℕ → Type 0
+NotRefusedForMemory table line = parts_are_not_memory table (parts_of line)

@@ -10,9 +10,9 @@ abbrev pub IsFaultOf : Fault → ErrorKind → Fault → Type 0
 IsFaultOf failed kind fault = (kind ≡ OutOfMemory → fault ≡ Memory) × (kind ≢ OutOfMemory → fault ≡ failed)
 
 -- no call failed, or the fault is that of the last error
-abbrev pub TellsFailure : {T : Type 0} → Fault → Option ErrorKind → Option ErrorKind → Result T Fault → Type 0
-TellsFailure failed old new (Ok x) = new ≡ old
-TellsFailure failed old new (Err fault) = (new ≡ old) ⊎ ((kind : ErrorKind) × (new ≡ Some kind) × IsFaultOf failed kind fault)
+abbrev pub ReportsFailure : {T : Type 0} → Fault → Option ErrorKind → Option ErrorKind → Result T Fault → Type 0
+ReportsFailure failed old new (Ok x) = new ≡ old
+ReportsFailure failed old new (Err fault) = (new ≡ old) ⊎ ((kind : ErrorKind) × (new ≡ Some kind) × IsFaultOf failed kind fault)
 
 -- a call failed, and not for want of memory
 abbrev pub HasFailed : Option ErrorKind → Type 0

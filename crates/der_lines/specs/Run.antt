@@ -1,17 +1,19 @@
 -- What a run has read and written when it stops.
 use Rattle.std.specs.Prelude.{◌≡◌, ℕ, ◌<◌, List, ◌++◌, length, Option, Some, IfSome}
+use Rattle.std.specs.List.{All}
 use Rattle.std.specs.Io.{StopsAt}
 use Rattle.std.specs.Io.KnownBytes.{Appends}
+use Rattle.der_lines.specs.Answer.{NotRefusedForMemory}
 use Rattle.der_lines.specs.Lines.{lines_of, replies_to}
 use Rattle.der_lines.specs.Source.{HasNoEnd}
 use Rattle.der_lines.specs.Tables.{Table}
 
--- the text is a front of whole lines, and then what is behind it
+-- the text is a front of whole lines, and then what is after it
 pub record IsCut (text front behind : List ℕ) : Type 0 where
   pub joined : text ≡ front ++ behind
   pub between_lines : lines_of text ≡ lines_of front ++ lines_of behind
 
--- exactly the lines that were read whole were answered, and what was read behind them ends no line
+-- exactly the lines that were read whole were answered, none with want of memory, and what was read after them ends no line
 pub record AnswersWholeLines (table : Table) (text : List ℕ) (after old new : Option (List ℕ)) : Type 0 where
   pub front : List ℕ
   pub part : List ℕ
@@ -19,6 +21,7 @@ pub record AnswersWholeLines (table : Table) (text : List ℕ) (after old new : 
   pub left : after ≡ Some rest
   pub cut : IsCut text front (part ++ rest)
   pub no_end : HasNoEnd part
+  pub memory : All (NotRefusedForMemory table) (lines_of front)
   pub written : Appends old new (replies_to table front)
 
 -- all lines that were read were answered but for the last, of whose reply a beginning was written
@@ -31,6 +34,7 @@ pub record AnswersAllButOne (table : Table) (text : List ℕ) (after old new : O
   pub left : after ≡ Some rest
   pub cut : IsCut text front (part ++ rest)
   pub one_line : StopsAt part 10
+  pub memory : All (NotRefusedForMemory table) (lines_of front)
   pub begins : replies_to table (part ++ rest) ≡ begun ++ unwritten
   pub written : Appends old new (replies_to table front ++ begun)
 

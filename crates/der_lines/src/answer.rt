@@ -2,7 +2,7 @@
 ghost use Rattle.std.specs.Prelude.{◌≡◌, ◌≢◌, [], ◌==◌, ◌<◌, ◌+◌, ◌*◌, ◌++◌, None, Some, length, position, OnOk, IfOk, IfSome, option_map, codes, if◌then◌else◌};
 ghost use Rattle.hex.specs.Hex.{encode_lower};
 ghost use Rattle.der_tlv.specs.declared.error.ErrorKind.TheVariants.{Memory};
-ghost use Rattle.der_lines.specs.Answer.{answer_of, accepted_of, refused_of, octets_of, parts_of};
+ghost use Rattle.der_lines.specs.Answer.{answer_of, NotRefusedForMemory, accepted_of, refused_of, octets_of, parts_of};
 ghost use Rattle.der_lines.specs.Lines.{reply_to, with_line_feed};
 
 use crate::kept_writer::KeptWriter;
@@ -34,7 +34,8 @@ impl Room {
     /// Puts the answer to a line, and an LF, in the place of the reply.
     #[tactic(auto, unfolding(crate::specs::Answer::answer_of))]
     pub fn reply_to<N: Names>(&mut self, alloc: Global, line: &[u8]) -> Result<(), AllocError>
-        ensures { OnOk result (self.new.reply.items ≡ reply_to N.canonical_function_of line.now) }
+        ensures reply { OnOk result (self.new.reply.items ≡ reply_to N.canonical_function_of line.now) }
+        ensures memory { OnOk result (NotRefusedForMemory N.canonical_function_of line.now) }
     {
         let Some((name, text)) = parts(line) else {
             return put_bad_line(&mut self.reply);
@@ -50,7 +51,7 @@ impl Room {
     }
 }
 
-/// What stands before the first space, and what stands behind it.
+/// What stands before the first space, and what stands after it.
 fn parts(line: &[u8]) -> Option<(&[u8], &[u8])>
     ensures { option_map (λ p. (p.0.now, p.1.now)) result ≡ parts_of line.now }
 {

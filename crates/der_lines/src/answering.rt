@@ -1,8 +1,10 @@
 //! Lines to answers.
 ghost use Rattle.std.specs.Prelude.{◌≡◌, ◌⊎◌, [], Some, IfSome, OnOk, OnErr, IsErrOf};
 ghost use Rattle.std.specs.Io.KnownBytes.{Appends};
-ghost use Rattle.der_lines.specs.Failure.{TellsFailure, HasFailed};
-ghost use Rattle.der_lines.specs.Lines.{replies_to};
+ghost use Rattle.der_lines.specs.Failure.{ReportsFailure, HasFailed};
+ghost use Rattle.std.specs.List.{All};
+ghost use Rattle.der_lines.specs.Answer.{NotRefusedForMemory};
+ghost use Rattle.der_lines.specs.Lines.{lines_of, replies_to};
 ghost use Rattle.der_lines.specs.Run.{AnswersWholeLines, AnswersAllButOne, WritesBeginning, HasTooManyLines};
 
 use crate::answer::Room;
@@ -23,6 +25,9 @@ pub fn run<N: Names, R: BufRead, W: Write>(
     ensures ok { OnOk result (IfSome (R.remaining input.old.reader) (λ text.
         Appends (W.contents output.old.writer) (W.contents output.new.writer)
         (replies_to N.canonical_function_of text))) }
+    // No line is answered with want of memory (1): that ends the run.
+    ensures memory { OnOk result (IfSome (R.remaining input.old.reader) (λ text.
+        All (NotRefusedForMemory N.canonical_function_of) (lines_of text))) }
     ensures ended { OnOk result (IfSome (R.remaining input.old.reader) (λ _.
         R.remaining input.new.reader ≡ Some [])) }
 
@@ -40,9 +45,9 @@ pub fn run<N: Names, R: BufRead, W: Write>(
     // Each fault has its cause, and each error with which a read or a write failed is told as it is.
     ensures input { IsErrOf result Fault.Input → HasFailed input.new.failure
         ⊎ HasTooManyLines (R.remaining input.old.reader) input.old.lines_left input.new.lines_left }
-    ensures told_read { TellsFailure Fault.Input input.old.failure input.new.failure result }
+    ensures reported_read { ReportsFailure Fault.Input input.old.failure input.new.failure result }
     ensures output { IsErrOf result Fault.Output → HasFailed output.new.failure }
-    ensures told_write { TellsFailure Fault.Output output.old.failure output.new.failure result }
+    ensures reported_write { ReportsFailure Fault.Output output.old.failure output.new.failure result }
 {
     let mut line = Vec::new(alloc);
     let mut room = Room::new(alloc);

@@ -2,7 +2,7 @@
 ghost use Rattle.std.specs.Prelude.{◌≡◌, ◌≢◌, None, Some, IfOk, OnOk, OnErr, IsErrOf};
 ghost use Rattle.std.specs.IoError.{error_kind};
 ghost use Rattle.std.specs.Io.KnownBytes.{Appends, Keeps};
-ghost use Rattle.der_lines.specs.Failure.{IsFaultOf, TellsFailure, HasFailed};
+ghost use Rattle.der_lines.specs.Failure.{IsFaultOf, ReportsFailure, HasFailed};
 ghost use Rattle.der_lines.specs.Sink.{AppendsFront, AppendsUpTo};
 
 use crate::fault::Fault;
@@ -35,7 +35,7 @@ impl<W: Write> OctetWriter<W> {
             (Appends (W.contents self.old.writer) (W.contents self.new.writer) octets.now) }
         ensures err { OnErr result
             (AppendsFront (W.contents self.old.writer) (W.contents self.new.writer) octets.now) }
-        ensures told { TellsFailure Fault.Output self.old.failure self.new.failure result }
+        ensures reported { ReportsFailure Fault.Output self.old.failure self.new.failure result }
         ensures output { IsErrOf result Fault.Output → HasFailed self.new.failure }
         ensures not_input { result ≢ Err Fault.Input }
     {

@@ -2,7 +2,7 @@
 ghost use Rattle.std.specs.Prelude.{◌≡◌, ◌≢◌, ◌+◌, true, false, None, Some, IfOk, OnOk, OnErr, IsErrOf};
 ghost use Rattle.std.specs.IoError.{error_kind};
 ghost use Rattle.std.specs.Io.KnownBytes.{IsAtEnd, Keeps};
-ghost use Rattle.der_lines.specs.Failure.{IsFaultOf, TellsFailure};
+ghost use Rattle.der_lines.specs.Failure.{IsFaultOf, ReportsFailure};
 ghost use Rattle.der_lines.specs.Source.{TakesLine, TakesPart, IsRefused};
 
 use crate::fault::Fault;
@@ -44,7 +44,7 @@ impl<R: BufRead> LineReader<R> {
         ensures end { result ≡ Ok false → IsAtEnd (R.remaining self.old.reader) }
         ensures ended { result ≡ Ok false →
             Keeps (R.remaining self.old.reader) (R.remaining self.new.reader) }
-        ensures told { TellsFailure Fault.Input self.old.failure self.new.failure result }
+        ensures reported { ReportsFailure Fault.Input self.old.failure self.new.failure result }
 
         // A line that is cut short is no line.
         ensures err { OnErr result
@@ -86,7 +86,7 @@ impl<R: BufRead> LineReader<R> {
         ensures none { IfOk result (λ is_line. is_line ≡ false) }
         ensures end { OnOk result (IsAtEnd (R.remaining self.old.reader)) }
         ensures kept { Keeps (R.remaining self.old.reader) (R.remaining self.new.reader) }
-        ensures told { TellsFailure Fault.Input self.old.failure self.new.failure result }
+        ensures reported { ReportsFailure Fault.Input self.old.failure self.new.failure result }
         ensures no_fewer { self.new.lines_left ≡ self.old.lines_left }
         ensures input { IsErrOf result Fault.Input →
             IsRefused self.new.failure 0 (R.remaining self.old.reader) }

@@ -1,28 +1,28 @@
 -- The messages that lines name, by the grammars of their fields.
 use Rattle.std.specs.Prelude.{ℕ, List, Bool, true, false, None, Some, ◌||◌, if◌then◌else◌, codes}
 use Rattle.std.specs.Str.{bytes_eq}
-use Rattle.der_tlv.specs.Identifier.{same_identifier}
-use Rattle.der_tlv.specs.HeaderOctets.{tlv}
-use Rattle.der_tlv.specs.declared.tag.Tag.{Tag}
-use Rattle.der_tlv.specs.declared.tag.Tag.TheVariants.{Boolean, Integer, OctetString, ObjectIdentifier, Sequence, Set, BitString, UtcTime, GeneralizedTime}
-use Rattle.der_elem.specs.Boolean.{boolean_contents, parse_boolean}
-use Rattle.der_elem.specs.Integer.{natural_contents}
-use Rattle.der_elem.specs.IntegerReading.{parse_unsigned}
-use Rattle.der_elem.specs.Items.{parse_items}
-use Rattle.der_elem.specs.Options.{parse_option}
-use Rattle.der_elem.specs.Parsing.{Parse, ContentsParse, parse_tagged}
-use Rattle.der_opaque.specs.AnyForm.{parse_any}
-use Rattle.der_opaque.specs.ObjectIdentifierOctets.{parse_identifier}
-use Rattle.der_opaque.specs.Opaque.{parse_octets}
-use Rattle.der_numbers.specs.AnyLength.{parse_integer, parse_natural}
-use Rattle.der_bits.specs.BitString.{parse_bit_string}
-use Rattle.der_ascii.specs.Characters.{parse_string}
-use Rattle.der_time.specs.Reading.{parse_generalized, parse_utc}
-use Rattle.der_nest.specs.Sets.{parse_set}
-use Rattle.der_fields.specs.Alternatives.{parse_one}
-use Rattle.der_fields.specs.ClassTags.{class_tag}
-use Rattle.der_fields.specs.Defaults.{parse_default}
-use Rattle.der_fields.specs.FieldLists.{parse_field, parse_end}
+use Rattle.der_asn1_types.specs.Identifier.{same_identifier}
+use Rattle.der_asn1_types.specs.HeaderOctets.{tlv}
+use Rattle.der_asn1_types.specs.Tag.{Tag}
+use Rattle.der_asn1_types.specs.Tag.TheVariants.{Boolean, Integer, OctetString, ObjectIdentifier, Sequence, Set, BitString, UtcTime, GeneralizedTime}
+use Rattle.der_asn1_types.specs.Boolean.{boolean_contents, parse_boolean}
+use Rattle.der_asn1_types.specs.Integer.{natural_contents}
+use Rattle.der_asn1_types.specs.IntegerReading.{parse_unsigned}
+use Rattle.der_asn1_types.specs.Items.{parse_items}
+use Rattle.der_asn1_types.specs.Options.{parse_option}
+use Rattle.der_asn1_types.specs.Parsing.{Parse, ContentsParse, parse_tagged}
+use Rattle.der_asn1_types.specs.AnyForm.{parse_any}
+use Rattle.der_asn1_types.specs.ObjectIdentifierOctets.{parse_identifier}
+use Rattle.der_asn1_types.specs.Opaque.{parse_octets}
+use Rattle.der_asn1_types.specs.AnyLength.{parse_integer, parse_natural}
+use Rattle.der_asn1_types.specs.BitString.{parse_bit_string}
+use Rattle.der_asn1_types.specs.Characters.{parse_string}
+use Rattle.der_asn1_types.specs.TimeReading.{parse_generalized, parse_utc}
+use Rattle.der_asn1_types.specs.Sets.{parse_set}
+use Rattle.der_asn1_types.specs.Alternatives.{parse_one}
+use Rattle.der_asn1_types.specs.FieldTags.{marker_tag}
+use Rattle.der_asn1_types.specs.Defaults.{parse_default}
+use Rattle.der_asn1_types.specs.FieldLists.{parse_field, parse_end}
 use Rattle.der_lines.specs.Tables.{CanonicalFunction, canonical_tagged, Table, or_else}
 
 -- ---- what fields are made of
@@ -37,13 +37,13 @@ optional tag parse = parse_option (is_tag tag) (parse_tagged tag parse)
 
 -- the context-specific tag with this number, of an explicit tag or of an implicit one of a constructed type (X.690 8.14)
 abbrev pub constructed : ℕ → Tag
-constructed number = class_tag 2 true number
+constructed number = marker_tag 2 true number
 
 -- that of an implicit tag of a primitive type
 abbrev pub primitive : ℕ → Tag
-primitive number = class_tag 2 false number
+primitive number = marker_tag 2 false number
 
--- the contents octets behind an explicit tag: one encoding
+-- the contents octets after an explicit tag: one encoding
 abbrev pub alone : Parse → ContentsParse
 alone parse = parse_field parse parse_end
 
@@ -59,14 +59,14 @@ natural = parse_tagged Integer parse_natural
 abbrev pub integer : Parse
 integer = parse_tagged Integer parse_integer
 
-abbrev pub identifier : Parse
-identifier = parse_tagged ObjectIdentifier (parse_identifier 39)
+abbrev pub object_identifier : Parse
+object_identifier = parse_tagged ObjectIdentifier (parse_identifier 39)
 
 abbrev pub octets : Parse
 octets = parse_tagged OctetString parse_octets
 
-abbrev pub bits : Parse
-bits = parse_tagged BitString parse_bit_string
+abbrev pub bit_string : Parse
+bit_string = parse_tagged BitString parse_bit_string
 
 -- BOOLEAN DEFAULT FALSE
 abbrev pub flag : Parse
@@ -76,15 +76,15 @@ flag = parse_default (is_tag Boolean) (tlv Boolean (boolean_contents false)) (pa
 
 -- AlgorithmIdentifier (section 4.1.1.2)
 abbrev pub algorithm_fields : ContentsParse
-algorithm_fields = parse_field identifier (parse_field (parse_option (λ tag. true) parse_any) parse_end)
+algorithm_fields = parse_field object_identifier (parse_field (parse_option (λ tag. true) parse_any) parse_end)
 
 -- SubjectPublicKeyInfo (section 4.1.2.7)
 abbrev pub public_key_fields : ContentsParse
-public_key_fields = parse_field (sequence algorithm_fields) (parse_field bits parse_end)
+public_key_fields = parse_field (sequence algorithm_fields) (parse_field bit_string parse_end)
 
 -- what is signed, kept as it is encoded, the algorithm and the signature (sections 4.1.1 and 5.1.1)
 abbrev pub signed_fields : ContentsParse
-signed_fields = parse_field parse_any (parse_field (sequence algorithm_fields) (parse_field bits parse_end))
+signed_fields = parse_field parse_any (parse_field (sequence algorithm_fields) (parse_field bit_string parse_end))
 
 -- Time (section 4.1.2.5)
 abbrev pub time : Parse
@@ -96,7 +96,7 @@ validity_fields = parse_field time (parse_field time parse_end)
 
 -- AttributeTypeAndValue (section 4.1.2.4)
 abbrev pub attribute_fields : ContentsParse
-attribute_fields = parse_field identifier (parse_field parse_any parse_end)
+attribute_fields = parse_field object_identifier (parse_field parse_any parse_end)
 
 -- Name: a SEQUENCE OF SET OF AttributeTypeAndValue
 abbrev pub name_items : ContentsParse
@@ -104,7 +104,7 @@ name_items = parse_items (parse_tagged Set (parse_set (sequence attribute_fields
 
 -- Extension (section 4.2)
 abbrev pub extension_fields : ContentsParse
-extension_fields = parse_field identifier (parse_field flag (parse_field octets parse_end))
+extension_fields = parse_field object_identifier (parse_field flag (parse_field octets parse_end))
 
 -- Extensions: a SEQUENCE OF Extension
 abbrev pub extension_items : ContentsParse
@@ -153,8 +153,8 @@ rsa_private_fields =
 abbrev pub curve_private_fields : ContentsParse
 curve_private_fields =
     parse_field octet (parse_field octets
-    (parse_field (optional (constructed 0) (alone identifier))
-    (parse_field (optional (constructed 1) (alone bits)) parse_end)))
+    (parse_field (optional (constructed 0) (alone object_identifier))
+    (parse_field (optional (constructed 1) (alone bit_string)) parse_end)))
 
 -- ---- values of extensions
 
@@ -168,7 +168,7 @@ text_name number = parse_tagged (primitive number) (parse_string 22)
 
 -- OtherName
 abbrev pub other_name_fields : ContentsParse
-other_name_fields = parse_field identifier (parse_field (parse_tagged (constructed 0) (alone parse_any)) parse_end)
+other_name_fields = parse_field object_identifier (parse_field (parse_tagged (constructed 0) (alone parse_any)) parse_end)
 
 -- an alternative that is a SEQUENCE, of which the contents octets are kept
 abbrev pub kept_name : ℕ → Parse
@@ -242,7 +242,7 @@ item_messages name =
 unfoldable pub plain_values : Table
 plain_values name =
     if bytes_eq name (codes "keyusage") then Some (canonical_tagged BitString parse_bit_string)
-    else if bytes_eq name (codes "extkeyusage") then Some (canonical_tagged Sequence (parse_items identifier))
+    else if bytes_eq name (codes "extkeyusage") then Some (canonical_tagged Sequence (parse_items object_identifier))
     else if bytes_eq name (codes "subjectkeyid") then Some (canonical_tagged OctetString parse_octets)
     else if bytes_eq name (codes "basicconstraints") then Some (canonical_tagged Sequence constraints_fields)
     else None

@@ -3,6 +3,7 @@ ghost use Rattle.std.specs.Prelude.{◌≡◌};
 ghost use Rattle.der_lines.specs.Tables.{AnswersAs};
 ghost use Rattle.der_message_lines.specs.Messages.{message_of, certificate_messages, tbs_message, key_messages, item_messages, plain_values, field_values, name_values};
 
+use der_asn1_types::Error;
 use der_certificate::{Certificate, TbsCertificate};
 use der_extensions::{
     AuthorityKeyIdentifier, BasicConstraints, ExtKeyUsage, KeyUsage, SubjectAltName,
@@ -14,7 +15,6 @@ use der_pkix::{
     RsaPublicKey, SubjectPublicKeyInfo,
 };
 use der_revocation::CertificateList;
-use der_tlv::Error;
 use std::alloc::Global;
 
 /// The names of messages, and of the values of extensions.

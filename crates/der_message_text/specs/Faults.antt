@@ -1,8 +1,8 @@
 -- The first fault of octets as a whole.
 use Rattle.std.specs.Prelude.{List, ℕ, Option, None, Some, Result, Ok, Err}
-use Rattle.der_tlv.specs.declared.error.ErrorKind.{ErrorKind}
-use Rattle.der_elem.specs.Decoding.{parse_all}
-use Rattle.der_elem.specs.Parsing.{Parse}
+use Rattle.der_asn1_types.specs.ErrorKind.{ErrorKind}
+use Rattle.der_asn1_types.specs.Decoding.{parse_all}
+use Rattle.der_asn1_types.specs.Parsing.{Parse}
 
 -- what is wrong, if anything is
 abbrev pub fault_of : Result (List ℕ) ErrorKind → Option ErrorKind

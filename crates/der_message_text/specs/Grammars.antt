@@ -1,6 +1,6 @@
 -- The grammar of each kind of message.
 use Rattle.std.specs.Prelude.{Bool, true, false}
-use Rattle.der_elem.specs.Parsing.{Parse}
+use Rattle.der_asn1_types.specs.Parsing.{Parse}
 use Rattle.der_pkix.specs.contracts.grammars.EcPrivateKeyMessage.TheImpl.{ghosts as ec_private_key}
 use Rattle.der_pkix.specs.contracts.grammars.PrivateKeyInfoMessage.TheImpl.{ghosts as private_key_info}
 use Rattle.der_pkix.specs.contracts.grammars.RsaPrivateKeyMessage.TheImpl.{ghosts as rsa_private_key}

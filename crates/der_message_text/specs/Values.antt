@@ -1,8 +1,8 @@
--- Values that stand one behind another in octets, by their headers.
+-- Values that stand one after another in octets, by their headers.
 use Rattle.std.specs.Prelude.{ℕ, ◌+◌, ◌^◌, List, length, take, drop, nat_lt, if◌then◌else◌, Result, Ok, Err}
-use Rattle.der_tlv.specs.declared.error.ErrorKind.{ErrorKind}
-use Rattle.der_tlv.specs.declared.header.Header.{Header}
-use Rattle.der_tlv.specs.HeaderReading.{read_header}
+use Rattle.der_asn1_types.specs.ErrorKind.{ErrorKind}
+use Rattle.der_asn1_types.specs.Header.{Header}
+use Rattle.der_asn1_types.specs.HeaderReading.{read_header}
 
 -- a number of octets, as far as there are so many
 abbrev pub at_most : ℕ → ℕ → ℕ
@@ -18,13 +18,13 @@ sizes_by most (Err kind) = (0, 0)
 abbrev pub sizes : List ℕ → ℕ × ℕ
 sizes octets = if nat_lt (length octets) (2 ^ 32) then sizes_by (length octets) (read_header 0 octets) else (0, 0)
 
--- the octets behind the first header: the first value's contents, and what follows
-abbrev pub within : List ℕ → List ℕ
-within octets = drop (sizes octets).0 octets
+-- the octets after the first header: the first value's contents, and what follows
+abbrev pub after_header : List ℕ → List ℕ
+after_header octets = drop (sizes octets).0 octets
 
--- the octets behind the first value
-abbrev pub behind : List ℕ → List ℕ
-behind octets = drop (sizes octets).1 octets
+-- the octets after the first value
+abbrev pub after_value : List ℕ → List ℕ
+after_value octets = drop (sizes octets).1 octets
 
 -- the octets of the first value
 abbrev pub first_value : List ℕ → List ℕ

@@ -4,9 +4,9 @@ use crate::identifiers::push_identifier;
 use crate::labels::push_label;
 use crate::names::push_malformed;
 use crate::site::Site;
-use der_opaque::AnyRef;
+use der_asn1_types::Tag;
+use der_asn1_types::asn1::AnyRef;
 use der_pkix::{AlgorithmIdentifier, SubjectPublicKeyInfo, read_rsa_public_key};
-use der_tlv::Tag;
 use std::alloc::{AllocError, Global};
 use std::fmt::Write;
 

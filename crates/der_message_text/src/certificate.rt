@@ -15,9 +15,9 @@ use crate::labels::{push_label, push_number, push_title};
 use crate::names::push_name;
 use crate::site::Site;
 use crate::times::push_validity;
+use der_asn1_types::Error;
+use der_asn1_types::asn1::IntRef;
 use der_certificate::{Certificate, TbsCertificate, read_certificate, read_tbs_certificate, tbs};
-use der_numbers::IntRef;
-use der_tlv::Error;
 use std::alloc::{AllocError, Global};
 use std::fmt::Write;
 

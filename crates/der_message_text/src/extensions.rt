@@ -11,7 +11,7 @@ use der_pkix::Extension;
 use std::alloc::{AllocError, Global};
 use std::fmt::Write;
 
-/// Adds a line for each extension. They stand behind an explicit tag, in a list.
+/// Adds a line for each extension. They stand after an explicit tag, in a list.
 pub fn push_extensions(
     alloc: Global,
     text: &mut String,

@@ -74,7 +74,7 @@ pub fn name_in(table: &[(&'static str, &'static str)], dotted: &str) -> Option<&
     None
 }
 
-/// The arcs with dots between them; the octets as digits behind a `#` where an arc passes 64 bits,
+/// The arcs with dots between them; the octets as digits after a `#` where an arc passes 64 bits,
 /// or where the last arc is cut short.
 pub fn dotted(alloc: Global, octets: &[u8]) -> Result<String, AllocError> {
     let mut text = String::new(alloc);

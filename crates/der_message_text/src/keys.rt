@@ -13,12 +13,12 @@ use crate::identifiers::push_identifier;
 use crate::kind::Kind;
 use crate::labels::{push_label, push_number, push_title};
 use crate::site::Site;
-use der_numbers::UintRef;
+use der_asn1_types::Error;
+use der_asn1_types::asn1::UintRef;
 use der_pkix::{
     EcPrivateKey, PrivateKeyInfo, RsaPublicKey, SubjectPublicKeyInfo, read_ec_private_key,
     read_private_key_info, read_rsa_public_key, read_subject_public_key_info,
 };
-use der_tlv::Error;
 use std::alloc::{AllocError, Global};
 use std::fmt::Write;
 

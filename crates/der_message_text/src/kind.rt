@@ -1,9 +1,9 @@
 //! What kind of message octets are.
 
 ghost use Rattle.std.specs.Prelude.{◌≡◌};
-ghost use Rattle.der_message_text.specs.Kinds.{has_tag, is_time, signed_kind, key_kind, kind_of, signed_part};
+ghost use Rattle.der_message_text.specs.Kinds.{has_tag, has_time_tag, signed_kind, key_kind, kind_of, signed_part};
 
-use crate::values::{behind, first_value, within};
+use crate::values::{after_header, after_value, first_value};
 
 /// The messages that are shown.
 #[derive(Clone, Copy, Debug, PartialEq, Eq)]
@@ -44,21 +44,21 @@ impl Kind {
 pub fn kind_of(octets: &[u8]) -> Kind
     ensures { result ≡ kind_of octets.now }
 {
-    let fields = within(octets);
+    let fields = after_header(octets);
     if has_tag(fields, 0x02) {
-        return key_kind(behind(fields));
+        return key_kind(after_value(fields));
     }
-    if has_tag(behind(fields), 0x03) {
+    if has_tag(after_value(fields), 0x03) {
         return Kind::PublicKey;
     }
-    signed_kind(within(fields))
+    signed_kind(after_header(fields))
 }
 
 /// What is signed of a message: its first field.
 pub fn signed_part(octets: &[u8]) -> &[u8]
     ensures { result.now ≡ signed_part octets.now }
 {
-    first_value(within(octets))
+    first_value(after_header(octets))
 }
 
 /// Of what follows a first INTEGER.
@@ -69,7 +69,7 @@ fn key_kind(others: &[u8]) -> Kind
         Kind::PrivateKey
     } else if has_tag(others, 0x04) {
         Kind::EcPrivateKey
-    } else if has_tag(behind(others), 0x02) {
+    } else if has_tag(after_value(others), 0x02) {
         Kind::RsaPrivateKey
     } else {
         Kind::RsaPublicKey
@@ -80,8 +80,8 @@ fn key_kind(others: &[u8]) -> Kind
 fn signed_kind(fields: &[u8]) -> Kind
     ensures { result ≡ signed_kind fields.now }
 {
-    let third = behind(behind(fields));
-    if is_time(third) || is_time(behind(third)) {
+    let third = after_value(after_value(fields));
+    if has_time_tag(third) || has_time_tag(after_value(third)) {
         Kind::RevocationList
     } else {
         Kind::Certificate
@@ -89,8 +89,8 @@ fn signed_kind(fields: &[u8]) -> Kind
 }
 
 /// Whether the first value is a UTCTime or a GeneralizedTime.
-fn is_time(octets: &[u8]) -> bool
-    ensures { result ≡ is_time octets.now }
+fn has_time_tag(octets: &[u8]) -> bool
+    ensures { result ≡ has_time_tag octets.now }
 {
     has_tag(octets, 0x17) || has_tag(octets, 0x18)
 }

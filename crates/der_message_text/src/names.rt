@@ -4,10 +4,9 @@ use crate::hexadecimal::{push_digits, push_octet};
 use crate::identifiers::{dotted, name_in};
 use crate::labels::push_label;
 use crate::site::Site;
-use der_elem::{Encode, FromDer};
-use der_opaque::AnyRef;
+use der_asn1_types::asn1::AnyRef;
+use der_asn1_types::{Encode, Error, ErrorKind, FromDer, Tag};
 use der_pkix::{AttributeTypeAndValue, Name, RelativeDistinguishedName};
-use der_tlv::{Error, ErrorKind, Tag};
 use std::alloc::{AllocError, Global};
 use std::fmt::Write;
 

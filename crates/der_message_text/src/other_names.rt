@@ -3,8 +3,8 @@
 use crate::hexadecimal::{push_digits, push_octet};
 use crate::identifiers::push_identifier;
 use crate::names::{push_encoding, push_escaped, push_malformed, push_places};
+use der_asn1_types::OneOf;
 use der_extensions::{GeneralName, read_subject_alt_name, write_general_name};
-use der_fields::OneOf;
 use std::alloc::{AllocError, Global};
 use std::fmt::Write;
 
@@ -19,7 +19,7 @@ pub fn push_other_names(alloc: Global, text: &mut String, octets: &[u8]) -> Resu
     }
 }
 
-/// Adds each of the names, behind a comma and what they are names of.
+/// Adds each of the names, after a comma and what they are names of.
 pub fn push_names(
     alloc: Global,
     text: &mut String,

@@ -31,7 +31,7 @@ pub enum Part {
     RsaPublicKey,
     /// An ECPrivateKey.
     EcPrivateKey,
-    /// Extensions behind an explicit tag.
+    /// Extensions after an explicit tag.
     TaggedExtensions,
     /// A list of extensions.
     Extensions,

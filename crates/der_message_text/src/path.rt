@@ -3,11 +3,11 @@
 use crate::kind::Kind;
 use crate::part::Part;
 use crate::site::Site;
-use der_tlv::{Error, ErrorKind};
+use der_asn1_types::{Error, ErrorKind};
 use std::fmt;
 
 /// A field of a message: its place among the fields of the message, the place among the fields of that
-/// of one within it, and so on; behind them the greatest number. There are none for a fault of the
+/// of one within it, and so on; after them the greatest number. There are none for a fault of the
 /// message as a whole.
 #[derive(Clone, Copy, Debug, PartialEq, Eq)]
 pub struct Path {
@@ -60,7 +60,7 @@ pub fn path_to(octets: &[u8], kind: Kind, octet: usize) -> Path {
 }
 
 impl Path {
-    /// The names of the fields, from the outermost on, and behind them no names.
+    /// The names of the fields, from the outermost on, and after them no names.
     fn names(&self) -> [&'static str; 5] {
         let mut names = [""; 5];
         let mut count = 0;

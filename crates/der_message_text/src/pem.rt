@@ -36,8 +36,8 @@ pub struct Message {
 /// kind that its fields' tags tell.
 ///
 /// # Errors
-/// `Pem` for text with another label, with anything before or behind the one message but white space
-/// behind it, or where the digits are no Base64 (RFC 4648 section 4); `Memory`.
+/// `Pem` for text with another label, with anything before or after the one message but white space
+/// after it, or where the digits are no Base64 (RFC 4648 section 4); `Memory`.
 pub fn message_of(alloc: Global, input: Vec<u8>) -> Result<Message, Fault>
     ensures octets { IfOk result (λ m. is_pem input.items ≡ false → m.octets.items ≡ input.items) }
     ensures kind { IfOk result (λ m. is_pem input.items ≡ false → m.kind ≡ kind_of input.items) }

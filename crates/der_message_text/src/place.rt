@@ -26,7 +26,7 @@ impl Place {
     }
 }
 
-/// The place of the value that begins behind so many octets, and ends before so many: none where
+/// The place of the value that begins after so many octets, and ends before so many: none where
 /// there is no octet between. Where no header can be read, all of them are its header.
 pub fn place_at(octets: &[u8], begin: usize, end: usize) -> Option<Place> {
     let left = octets.get(begin..end)?;

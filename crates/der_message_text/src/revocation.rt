@@ -16,11 +16,11 @@ use crate::labels::{push_label, push_title};
 use crate::names::{push_encoding, push_name};
 use crate::site::{Site, Sites};
 use crate::times::{push_moment, push_time};
+use der_asn1_types::Error;
 use der_revocation::{
     CertificateList, RevokedCertificate, TbsCertList, read_certificate_list, read_tbs_cert_list,
     tbs,
 };
-use der_tlv::Error;
 use std::alloc::{AllocError, Global};
 
 /// The fields of the list of revoked certificates that these octets are, a line each.

@@ -8,8 +8,8 @@ use crate::keys::{push_exponent, push_modulus, push_secret, push_version};
 use crate::kind::Kind;
 use crate::labels::push_title;
 use crate::site::Site;
+use der_asn1_types::Error;
 use der_pkix::{RsaPrivateKey, read_rsa_private_key};
-use der_tlv::Error;
 use std::alloc::{AllocError, Global};
 
 /// The fields that are secret, of which only the length is shown.

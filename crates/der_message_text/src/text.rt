@@ -10,7 +10,7 @@ use crate::keys::{ec_private_key_text, private_key_text, public_key_text, rsa_pu
 use crate::kind::Kind;
 use crate::revocation::list_text;
 use crate::rsa::rsa_private_key_text;
-use der_tlv::Error;
+use der_asn1_types::Error;
 use std::alloc::Global;
 
 /// The fields of the message of this kind that these octets are, a line each.

@@ -2,9 +2,8 @@
 
 use crate::labels::push_label;
 use crate::site::Site;
-use der_fields::OneOf;
+use der_asn1_types::{DateTime, OneOf};
 use der_pkix::{Time, Validity};
-use der_time::DateTime;
 use std::alloc::AllocError;
 use std::fmt::Write;
 

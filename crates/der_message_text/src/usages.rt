@@ -3,9 +3,8 @@
 
 use crate::identifiers::push_identifier;
 use crate::names::push_malformed;
-use der_bits::BitStringRef;
+use der_asn1_types::asn1::{BitStringRef, ObjectIdentifier};
 use der_extensions::{read_ext_key_usage, read_key_usage};
-use der_opaque::ObjectIdentifier;
 use std::alloc::{AllocError, Global};
 
 /// The names of the bits, from bit 0 on.

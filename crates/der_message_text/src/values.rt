@@ -1,9 +1,9 @@
-//! Values that stand one behind another in octets.
+//! Values that stand one after another in octets.
 
 ghost use Rattle.std.specs.Prelude.{◌≡◌, ◌≤◌, length};
-ghost use Rattle.der_message_text.specs.Values.{at_most, sizes, within, behind, first_value};
+ghost use Rattle.der_message_text.specs.Values.{at_most, sizes, after_header, after_value, first_value};
 
-use der_tlv::{Header, Reader, SliceReader};
+use der_asn1_types::{Header, Reader, SliceReader};
 
 /// A number of octets, as far as there are so many.
 fn at_most(most: usize, count: u64) -> usize
@@ -35,17 +35,17 @@ pub fn sizes(octets: &[u8]) -> (usize, usize)
     (at_most(octets.len(), count), at_most(octets.len(), whole))
 }
 
-/// The octets behind the first header: the first value's contents, and what follows.
-pub fn within(octets: &[u8]) -> &[u8]
-    ensures { result.now ≡ within octets.now }
+/// The octets after the first header: the first value's contents, and what follows.
+pub fn after_header(octets: &[u8]) -> &[u8]
+    ensures { result.now ≡ after_header octets.now }
 {
     let (count, _) = sizes(octets);
     &octets[count..]
 }
 
-/// The octets behind the first value.
-pub fn behind(octets: &[u8]) -> &[u8]
-    ensures { result.now ≡ behind octets.now }
+/// The octets after the first value.
+pub fn after_value(octets: &[u8]) -> &[u8]
+    ensures { result.now ≡ after_value octets.now }
 {
     let (_, count) = sizes(octets);
     &octets[count..]

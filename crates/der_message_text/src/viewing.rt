@@ -12,7 +12,7 @@ use crate::kind::Kind;
 use crate::path::path_of;
 use crate::pem::message_of;
 use crate::text::shown;
-use der_tlv::{Error, ErrorKind};
+use der_asn1_types::{Error, ErrorKind};
 use std::alloc::Global;
 use std::io::{self, Read, Write};
 

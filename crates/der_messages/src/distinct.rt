@@ -4,20 +4,22 @@
 
 ghost use Rattle.std.specs.Prelude.{◌≡◌, true};
 
+use der_asn1_types::asn1::{GeneralizedTime, UtcTime};
+use der_asn1_types::laws::{
+    distinct_tags_distinguish_alternatives, distinct_tags_distinguish_fields,
+};
+use der_asn1_types::{DistinctTags, FieldSequence};
 use der_certificate::TbsCertificate;
 use der_extensions::AuthorityKeyIdentifier;
-use der_fields::laws::{distinct_tags_tell_alternatives, distinct_tags_tell_fields};
-use der_fields::{DistinctTags, FieldSequence};
 use der_pkix::EcPrivateKey;
 use der_revocation::{RevokedCertificate, TbsCertList};
-use der_time::{GeneralizedTime, UtcTime};
 use std::marker::PhantomData;
 
 /// A SEQUENCE whose fields have distinct tags.
 fn has_distinct_tags<F: DistinctTags>(_sequence: PhantomData<FieldSequence<F>>)
     requires { F.TAGS_ARE_DISTINCT ≡ true }
 {
-    distinct_tags_tell_fields::<F>();
+    distinct_tags_distinguish_fields::<F>();
 }
 
 /// A TBSCertificate.
@@ -47,5 +49,5 @@ pub fn authority_key_identifier_has_distinct_tags<'a>() {
 
 /// The CHOICE Time.
 pub fn time_has_distinct_tags() {
-    distinct_tags_tell_alternatives::<UtcTime, GeneralizedTime>();
+    distinct_tags_distinguish_alternatives::<UtcTime, GeneralizedTime>();
 }

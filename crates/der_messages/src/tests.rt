@@ -9,8 +9,7 @@ mod names;
 mod revocation;
 mod time_stamps;
 
-use der_elem::{DerOrd, Duplicate};
-use der_tlv::Error;
+use der_asn1_types::{DerOrd, Duplicate, Error};
 use std::cmp::Ordering;
 use std::fmt::Debug;
 use std::process::Abort;

@@ -17,7 +17,7 @@ use Rattle.der_elem.specs.OrderLaws.{lex-none-some, lex-some-none, encoding-some
 use Rattle.der_nest.specs.Found.{found_item}
 use Rattle.der_nest.specs.declared.set_of_ref.found.Found.{Found}
 use Rattle.der_nest.specs.declared.set_of_ref.found.Found.TheVariants.{Read, Lent}
-use Rattle.der_nest.specs.BorrowedSets.{Borrowed, OfItems, OfOctets, encodings_of, borrowed_contents, re_reads_borrowed, StandsAt, OneFormBorrowed}
+use Rattle.der_nest.specs.BorrowedSets.{Borrowed, OfItems, OfOctets, encodings_of, borrowed_contents, re_reads_borrowed, StandsAt, ComparableBorrowed}
 use Rattle.der_nest.specs.BorrowedItems.{giving_takes_memory}
 use Rattle.der_nest.specs.FindingNext.{Finds}
 use Rattle.der_nest.specs.ComparingBorrowed.{IncomparableBorrowed}
@@ -100,7 +100,7 @@ module _ {T : Type 0} (F : form.Ghosts T) where
     | inl h ↦ inl (let l = length_item a in omega arith)
     | inr h ↦ inr (let l = length_item b in omega arith)
   ]
-  incomparable_items {v} {w} {i} {x} {y} a b (Value tag) why = λ (one : OneFormBorrowed F v w). why.0 (one i x y a.stands b.stands)
+  incomparable_items {v} {w} {i} {x} {y} a b (Value tag) why = λ (one : ComparableBorrowed F v w). why.0 (one i x y a.stands b.stands)
   incomparable_items a b Memory why = elim why [
     | inl h ↦ inl (a.memory h)
     | inr h ↦ inr (b.memory h)

@@ -9,7 +9,7 @@ use Rattle.der_elem.specs.declared.form.Form as form
 use Rattle.der_elem.specs.Items.{AreCopies}
 use Rattle.der_nest.specs.Places.{IsInOrder}
 use Rattle.der_nest.specs.BorrowedSets.{Borrowed, OfItems, OfOctets, encodings_of}
-use Rattle.der_nest.specs.BorrowedItems.{Gives, AreItemsOf}
+use Rattle.der_nest.specs.BorrowedItems.{GivesItem, AreItemsOf}
 use Rattle.der_nest.proofs.Copying.{copies_in_order}
 
 -- these are the items of the set, and then those that are left
@@ -37,12 +37,12 @@ module _ {T : Type 0} (F : form.Ghosts T) (is_copy : T → T → Type 0) where
       items_or_none (OfOctets es) = []
 
   -- with one more item
-  pub one_more_owned : (v : Borrowed T) (items : List T) (left : Borrowed T) (x : T) (new : Borrowed T) → OwnedSoFar F is_copy v items left → Gives F is_copy left x new → OwnedSoFar F is_copy v (items ++ x ∷ []) new
+  pub one_more_owned : (v : Borrowed T) (items : List T) (left : Borrowed T) (x : T) (new : Borrowed T) → OwnedSoFar F is_copy v items left → GivesItem F is_copy left x new → OwnedSoFar F is_copy v (items ++ x ∷ []) new
   one_more_owned (OfItems vs) items left x new (before, others, is, copies, left_is) gives =
-      let told : Gives F is_copy (OfItems others) x new = subst (λ l. Gives F is_copy l x new) left_is gives in
+      let told : GivesItem F is_copy (OfItems others) x new = subst (λ l. GivesItem F is_copy l x new) left_is gives in
       (before ++ told.0 ∷ [], told.1, is ∙ ap (λ s. before ++ s) told.2 ∙ sym (append_assoc before (told.0 ∷ []) told.1), push_copies is_copy before items told.0 x copies told.3, told.4)
   one_more_owned (OfOctets es) items left x new (others, is, readable, left_is) gives =
-      let told : Gives F is_copy (OfOctets others) x new = subst (λ l. Gives F is_copy l x new) left_is gives in
+      let told : GivesItem F is_copy (OfOctets others) x new = subst (λ l. GivesItem F is_copy l x new) left_is gives in
       (told.0, is ∙ ap (λ s. map F.encoding items ++ s) told.2 ∙ sym (append_assoc (map F.encoding items) (F.encoding x ∷ []) told.0) ∙ ap (λ s. s ++ told.0) (sym (map_push F.encoding items x)), All-push F.readable items x readable told.1, told.3)
 
   no_items : (vs : List T) → map F.encoding vs ≡ [] → vs ≡ []

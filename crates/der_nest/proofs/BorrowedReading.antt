@@ -4,12 +4,12 @@ use Rattle.std.specs.Ordering.{is_le}
 use Rattle.std.proofs.Math.Seq.{take-length}
 use Rattle.std.proofs.lemmas.List.{length-append, length-take, length-drop, take-append-drop, get_or_push, map_push}
 use Rattle.der_tlv.specs.declared.error.ErrorKind.{ErrorKind}
-use Rattle.der_tlv.specs.declared.error.ErrorKind.TheVariants.{SetOrdering}
+use Rattle.der_tlv.specs.declared.error.ErrorKind.TheVariants.{Memory, SetOrdering}
 use Rattle.der_tlv.specs.declared.encoding_rules.EncodingRules.TheVariants.{Der}
 use Rattle.der_tlv.specs.Octets.{lex}
 use Rattle.der_tlv.specs.ReaderState.{ReaderState, IsReaderState, rest, unless_failed, new_reader}
 use Rattle.der_elem.specs.declared.form.Form as form
-use Rattle.der_elem.specs.Decoding.{Faults, Decoded}
+use Rattle.der_elem.specs.Decoding.{RanOut, Faults, Decoded}
 use Rattle.der_nest.specs.Places.{IsInOrder, not_above}
 use Rattle.der_nest.specs.PlacingLaws.{in_order_push, in_order_none}
 use Rattle.der_nest.specs.Lists.{AcceptsEach}
@@ -92,11 +92,11 @@ module _ {T : Type 0} {F : form.Ghosts T} {octets : List ℕ} {now : ReaderState
       all_items ∙ ap (before_all (map F.encoding s.items)) (ap (λ n. parse_in_order n F.parse (last_of [] (map F.encoding s.items)) now.position (rest now)) (one_left some) ∙ parse_in_order-step (s.so_far.more - 1) F.parse (last_of [] (map F.encoding s.items)) now.position (rest now) some)
 
   -- a fault of the next item is one of the set
-  pub borrowed_item_fault : (kind : ErrorKind) → 0 < length (rest now) → Faults F.TAKES_MEMORY (unless_failed (F.parse now.rules) now) kind → Faults F.TAKES_MEMORY (parse_borrowed_items F.parse octets) kind
+  pub borrowed_item_fault : (kind : ErrorKind) → 0 < length (rest now) → Faults F.TAKES_MEMORY F.FAULTS_FIRST (unless_failed (F.parse now.rules) now) kind → Faults F.TAKES_MEMORY false (parse_borrowed_items F.parse octets) kind
   borrowed_item_fault kind some faults =
       let there : unless_failed (F.parse now.rules) now ≡ F.parse Der now.position (rest now) = rw (still_ready s.so_far refl, same_rules s.so_far) refl in
       elim faults [
-        | inl m ↦ inl m
+        | inl m ↦ inl (record { kind_is = m.kind_is; takes = m.takes; faultless = λ h. absurd (cc) })
         | inr e ↦ inr (next_is some ∙ ap (λ r. before_all (map F.encoding s.items) (then_in_order (last_of [] (map F.encoding s.items)) r (λ n e. parse_in_order (s.so_far.more - 1) F.parse e (now.position + n) (drop n (rest now))))) (sym there ∙ e))
       ]
 
@@ -111,15 +111,19 @@ module _ {T : Type 0} {F : form.Ghosts T} {octets : List ℕ} {now : ReaderState
       let parsed : F.parse Der now.position (rest now) ≡ Ok (told.taken, F.encoding v) = ap (λ r. F.parse r now.position (rest now)) (sym (same_rules s.so_far)) ∙ told.parsed in
       next_is some ∙ ap (λ r. before_all (map F.encoding s.items) (then_in_order (last_of [] (map F.encoding s.items)) r (λ n e. parse_in_order (s.so_far.more - 1) F.parse e (now.position + n) (drop n (rest now))))) parsed ∙ rw less refl
 
+  -- memory ran out
+  ran_out : {kind : ErrorKind} → (kind ≡ Memory) × (F.TAKES_MEMORY ≡ true) → RanOut F.TAKES_MEMORY false (parse_borrowed_items F.parse octets) kind
+  ran_out m = record { kind_is = m.0; takes = m.1; faultless = λ h. absurd (cc) }
+
   -- an item that cannot follow is a fault of the set
-  pub order_fault : {new : ReaderState} {v : T} (kind : ErrorKind) → 0 < length (rest now) → Decoded F now new v → CannotFollow F last v kind → Faults F.TAKES_MEMORY (parse_borrowed_items F.parse octets) kind
+  pub order_fault : {new : ReaderState} {v : T} (kind : ErrorKind) → 0 < length (rest now) → Decoded F now new v → CannotFollow F last v kind → Faults F.TAKES_MEMORY false (parse_borrowed_items F.parse octets) kind
   order_fault {new} {v} kind some told cannot = go last s.ends cannot
     where
-      go : (last : Option T) → EndsIn F s.items last → CannotFollow F last v kind → Faults F.TAKES_MEMORY (parse_borrowed_items F.parse octets) kind
+      go : (last : Option T) → EndsIn F s.items last → CannotFollow F last v kind → Faults F.TAKES_MEMORY false (parse_borrowed_items F.parse octets) kind
       go None ends cannot = absurd cannot
       go (Some w) ends cannot =
           elim cannot [
-            | inl why ↦ inl (incomparable_accepted F Der w v ends.1 (take told.taken (rest now)) ends.3 (item_accepted told) ends.4 (item_fits told.taken) kind why)
+            | inl why ↦ inl (ran_out (incomparable_accepted F Der w v ends.1 (take told.taken (rest now)) ends.3 (item_accepted told) ends.4 (item_fits told.taken) kind why))
             | inr less ↦
                 let last_is : last_of [] (map F.encoding s.items) ≡ F.encoding w = ap (λ xs. last_of [] (map F.encoding xs)) ends.2 ∙ ap (last_of []) (map_push F.encoding ends.0 w) ∙ last_of-push [] (map F.encoding ends.0) (F.encoding w) in
                 inr (smaller_item some told (ap (λ e. is_le (lex e (F.encoding v))) last_is ∙ less.1) ∙ ap Err (sym less.0))

@@ -58,9 +58,9 @@ module _ {T : Type 0} {F : form.Ghosts T} {capacity : ℕ} {old now : ReaderStat
       parse_each-step more F.parse old.rules now.position (rest now) some ∙ ap (λ r. then_others r (λ n. parse_each more F.parse old.rules (now.position + n) (drop n (rest now)))) e
 
   -- a fault of the next item is one of the list
-  pub item_fault : (memory : Bool) (kind : ErrorKind) → old.failed ≡ false → 0 < length (rest now) → Faults memory (unless_failed (F.parse now.rules) now) kind → Faults memory (parse_each capacity F.parse old.rules old.position (rest old)) kind
-  item_fault memory kind ready some faults = elim faults [
-    | inl m ↦ inl m
+  pub item_fault : (memory first : Bool) (kind : ErrorKind) → old.failed ≡ false → 0 < length (rest now) → Faults memory first (unless_failed (F.parse now.rules) now) kind → Faults memory false (parse_each capacity F.parse old.rules old.position (rest old)) kind
+  item_fault memory first kind ready some faults = elim faults [
+    | inl m ↦ inl (record { kind_is = m.kind_is; takes = m.takes; faultless = λ h. absurd (cc) })
     | inr e ↦ inr (fault kind (next_fault so_far.more kind some (sym (seen_item ready) ∙ e)))
   ]
 

@@ -70,6 +70,6 @@ module _ {T : Type 0} (F : form.Ghosts T) (left k : ℕ) (old new : ReaderState)
   pub no_item : (kind : ErrorKind) → old.failed ≡ false → NotDecoded F old new kind → (kind ≡ Memory) × (F.TAKES_MEMORY ≡ true)
   no_item kind ready told =
       elim told.reason [
-        | inl m ↦ m
+        | inl m ↦ (m.kind_is, m.takes)
         | inr e ↦ let n = next in let fault : F.parse old.rules old.position (rest old) ≡ Err kind = rw ready at e in absurd (let same = sym n.parsed ∙ fault in cc)
       ]

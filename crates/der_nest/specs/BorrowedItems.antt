@@ -13,16 +13,16 @@ giving_takes_memory F copying (OfItems vs) = copying
 giving_takes_memory F copying (OfOctets es) = F.TAKES_MEMORY
 
 -- the first item is a copy of that of the slice, or a value that can be read and has the first encoding, and these are left
-abbrev pub Gives : {T : Type 0} → form.Ghosts T → (T → T → Type 0) → Borrowed T → T → Borrowed T → Type 0
-Gives {T} F is_copy (OfItems vs) v left =
+abbrev pub GivesItem : {T : Type 0} → form.Ghosts T → (T → T → Type 0) → Borrowed T → T → Borrowed T → Type 0
+GivesItem {T} F is_copy (OfItems vs) v left =
     (x : T) × (others : List T) × (vs ≡ x ∷ others) × is_copy x v × (left ≡ OfItems others)
-Gives F is_copy (OfOctets es) v left =
+GivesItem F is_copy (OfOctets es) v left =
     (others : List (List ℕ)) × F.readable v × (es ≡ F.encoding v ∷ others) × (left ≡ OfOctets others)
 
 -- The next item: none is left, or this one, or memory ran out and none follows.
 abbrev pub GivesNext : {T : Type 0} → form.Ghosts T → (T → T → Type 0) → Bool → Borrowed T → Option (Result T Error) → Borrowed T → Type 0
 GivesNext F is_copy copying old None new = (encodings_of F.encoding old ≡ []) × (encodings_of F.encoding new ≡ [])
-GivesNext F is_copy copying old (Some (Ok v)) new = Gives F is_copy old v new
+GivesNext F is_copy copying old (Some (Ok v)) new = GivesItem F is_copy old v new
 GivesNext F is_copy copying old (Some (Err e)) new =
     (e.kind ≡ Memory) × (giving_takes_memory F copying old ≡ true) × (0 < length (encodings_of F.encoding old)) × (encodings_of F.encoding new ≡ [])
 

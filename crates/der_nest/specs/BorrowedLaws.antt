@@ -16,7 +16,7 @@ use Rattle.der_elem.specs.ArrayLaws.{re_reads_items}
 use Rattle.der_nest.specs.LexLaws.{le_from_not_lt}
 use Rattle.der_nest.specs.Lists.{AcceptsEach, before_others, join_encodings}
 use Rattle.der_nest.specs.ListLaws.{concat-map, length-each, same_length_each, accepts_each, readable_each}
-use Rattle.der_nest.specs.BorrowedSets.{Borrowed, OfItems, OfOctets, borrowed_contents, re_reads_borrowed, OneFormBorrowed, AcceptsBorrowed, ReadableBorrowed, then_in_order, parse_in_order, parse_borrowed_items, parse_borrowed}
+use Rattle.der_nest.specs.BorrowedSets.{Borrowed, OfItems, OfOctets, borrowed_contents, re_reads_borrowed, ComparableBorrowed, AcceptsBorrowed, ReadableBorrowed, then_in_order, parse_in_order, parse_borrowed_items, parse_borrowed}
 
 -- each of the encodings is not smaller than the one before it, the first than these octets
 abbrev pub Follow : List ℕ → List (List ℕ) → Type 0
@@ -131,13 +131,13 @@ module _ {T : Type 0} (F : form.Ghosts T) where
     set_is = a.set_is;
   }
 
-  comparable_octets : (es fs : List (List ℕ)) → OneFormBorrowed F (OfOctets es) (OfOctets fs)
+  comparable_octets : (es fs : List (List ℕ)) → ComparableBorrowed F (OfOctets es) (OfOctets fs)
   comparable_octets es fs i x y a b =
       F.accepts_comparable Der x y (F.encoding x) (F.encoding y) (F.accepts_encoding Der x a.0) (F.accepts_encoding Der y b.0)
 
-  pub comparable_borrowed : (rules : EncodingRules) (v w : Borrowed T) (c d : List ℕ) → AcceptsBorrowed F v c → AcceptsBorrowed F w d → OneFormBorrowed F v w
+  pub comparable_borrowed : (rules : EncodingRules) (v w : Borrowed T) (c d : List ℕ) → AcceptsBorrowed F v c → AcceptsBorrowed F w d → ComparableBorrowed F v w
   comparable_borrowed rules v w c d a b =
-      subst (λ v. OneFormBorrowed F v w) (sym a.set_is) (subst (OneFormBorrowed F (OfOctets (map F.encoding a.items))) (sym b.set_is) (comparable_octets (map F.encoding a.items) (map F.encoding b.items)))
+      subst (λ v. ComparableBorrowed F v w) (sym a.set_is) (subst (ComparableBorrowed F (OfOctets (map F.encoding a.items))) (sym b.set_is) (comparable_octets (map F.encoding a.items) (map F.encoding b.items)))
 
   pub re_reads_borrowed_memory : (v : Borrowed T) → re_reads_borrowed F v ≡ true → F.TAKES_MEMORY ≡ true
   re_reads_borrowed_memory (OfItems vs) h = re_reads_items F vs h

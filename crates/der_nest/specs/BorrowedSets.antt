@@ -37,8 +37,8 @@ StandsAt F (OfItems vs) i x = slice_get vs i ≡ Some x
 StandsAt F (OfOctets es) i x = F.readable x × (slice_get es i ≡ Some (F.encoding x))
 
 -- whether each pair of items at one place is comparable
-abbrev pub OneFormBorrowed : {T : Type 0} → form.Ghosts T → Borrowed T → Borrowed T → Type 0
-OneFormBorrowed {T} F v w = (i : ℕ) (x y : T) → StandsAt F v i x → StandsAt F w i y → F.comparable x y
+abbrev pub ComparableBorrowed : {T : Type 0} → form.Ghosts T → Borrowed T → Borrowed T → Type 0
+ComparableBorrowed {T} F v w = (i : ℕ) (x y : T) → StandsAt F v i x → StandsAt F w i y → F.comparable x y
 
 -- The octets are read as items one after another, whose encodings do not decrease.
 -- The items are read under DER, whatever the rules of the octets around them.
@@ -67,7 +67,7 @@ parse_in_order_up_to (suc more) parse last p [] = Ok []
 parse_in_order_up_to (suc more) parse last p (x ∷ xs) =
     then_in_order last (parse p (x ∷ xs)) (λ n encoding. parse_in_order_up_to more parse encoding (p + n) (drop n (x ∷ xs)))
 
--- Item after item behind this last one until nothing is left: their encodings, or the first fault from the left.
+-- Item after item after this last one until nothing is left: their encodings, or the first fault from the left.
 unfoldable pub parse_in_order : ℕ → Parse → List ℕ → ℕ → List ℕ → Result (List (List ℕ)) ErrorKind
 parse_in_order more parse last p octets = parse_in_order_up_to more (parse Der) last p octets
 

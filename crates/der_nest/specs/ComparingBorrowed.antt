@@ -5,12 +5,12 @@ use Rattle.der_tlv.specs.declared.error.ErrorKind.{ErrorKind}
 use Rattle.der_tlv.specs.declared.error.Error.{Error}
 use Rattle.der_elem.specs.declared.form.Form as form
 use Rattle.der_elem.specs.Comparing.{IncomparableOctets, ComparesOctets}
-use Rattle.der_nest.specs.BorrowedSets.{Borrowed, borrowed_contents, re_reads_borrowed, OneFormBorrowed}
+use Rattle.der_nest.specs.BorrowedSets.{Borrowed, borrowed_contents, re_reads_borrowed, ComparableBorrowed}
 
 -- why the contents octets of two sets are not compared
 abbrev pub IncomparableBorrowed : {T : Type 0} → form.Ghosts T → Borrowed T → Borrowed T → ErrorKind → Type 0
-IncomparableBorrowed F v w = IncomparableOctets (borrowed_contents F.encoding v) (borrowed_contents F.encoding w) (OneFormBorrowed F v w → ⊥) (re_reads_borrowed F v) (re_reads_borrowed F w)
+IncomparableBorrowed F v w = IncomparableOctets (borrowed_contents F.encoding v) (borrowed_contents F.encoding w) (ComparableBorrowed F v w → ⊥) (re_reads_borrowed F v) (re_reads_borrowed F w)
 
 -- what comparing the contents octets of two sets answers
 abbrev pub ComparesBorrowed : {T : Type 0} → form.Ghosts T → Borrowed T → Borrowed T → Result Ordering Error → Type 0
-ComparesBorrowed F v w = ComparesOctets (borrowed_contents F.encoding v) (borrowed_contents F.encoding w) (OneFormBorrowed F v w → ⊥) (re_reads_borrowed F v) (re_reads_borrowed F w)
+ComparesBorrowed F v w = ComparesOctets (borrowed_contents F.encoding v) (borrowed_contents F.encoding w) (ComparableBorrowed F v w → ⊥) (re_reads_borrowed F v) (re_reads_borrowed F w)

@@ -8,6 +8,7 @@ pub mod PlacingLaws
 pub mod UniqueLaws
 pub mod ListLaws
 pub mod SetLaws
+pub mod OctetFaultLaws
 pub mod SequencesOf
 pub mod SequenceLaws
 pub mod Lends

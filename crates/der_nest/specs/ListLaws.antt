@@ -8,7 +8,7 @@ use Rattle.der_tlv.specs.declared.encoding_rules.EncodingRules.{EncodingRules}
 use Rattle.der_elem.specs.declared.form.Form as form
 use Rattle.der_elem.specs.Parsing.{Parse}
 use Rattle.der_elem.specs.Accepting.{Fits}
-use Rattle.der_elem.specs.Items.{OneForms}
+use Rattle.der_elem.specs.Items.{AllComparable}
 use Rattle.der_elem.specs.ItemLaws.{first_fits, others_fit}
 use Rattle.der_elem.specs.ArrayLaws.{same_length_array}
 use Rattle.der_nest.specs.Lists.{AcceptsEach, before_others, then_others, one_too_many, parse_each}
@@ -75,7 +75,7 @@ module _ {T : Type 0} (F : form.Ghosts T) (rules : EncodingRules) where
       All-cons (λ v. (b : List ℕ) × F.accepts rules v b × (length b ≤ most)) v vs (b, a.0, omega arith) (parts_within vs d others most (omega arith))
 
   -- accepted items are comparable
-  pub all_comparable : (m n : ℕ) (vs ws : List T) → All (λ v. (b : List ℕ) × F.accepts rules v b × (length b ≤ m)) vs → All (λ v. (b : List ℕ) × F.accepts rules v b × (length b ≤ n)) ws → OneForms F.comparable vs ws
+  pub all_comparable : (m n : ℕ) (vs ws : List T) → All (λ v. (b : List ℕ) × F.accepts rules v b × (length b ≤ m)) vs → All (λ v. (b : List ℕ) × F.accepts rules v b × (length b ≤ n)) ws → AllComparable F.comparable vs ws
   all_comparable m n [] ws a b = tt
   all_comparable m n (v ∷ vs) [] a b = tt
   all_comparable m n (v ∷ vs) (w ∷ ws) a b =

@@ -3,13 +3,13 @@ use Rattle.std.proofs.Common.{◌≡◌, ℕ, List, length, Ok, ap, ◌∙◌, a
 use Rattle.der_tlv.specs.declared.encoding_rules.EncodingRules.{EncodingRules}
 use Rattle.der_elem.specs.declared.form.Form as form
 use Rattle.der_elem.specs.Accepting.{Fits}
-use Rattle.der_elem.specs.Items.{OneForms}
+use Rattle.der_elem.specs.Items.{AllComparable}
 use Rattle.der_nest.specs.Lists.{join_encodings}
 use Rattle.der_nest.specs.ListLaws.{concat-map, parse_of_each, same_length_each, accepts_each, readable_each, parts_within, all_comparable}
-use Rattle.der_nest.specs.SequencesOf.{AcceptsUpTo, ReadableUpTo, parse_items_up_to}
+use Rattle.der_nest.specs.SequencesOf.{AcceptsUpTo, ReadableUpTo, parse_sequence_of}
 
 module _ {T : Type 0} (F : form.Ghosts T) (rules : EncodingRules) (capacity : ℕ) where
-  pub parse_of_sequence : (vs : List T) (p : ℕ) (c : List ℕ) → AcceptsUpTo capacity (F.accepts rules) vs c → Fits c → parse_items_up_to capacity F.parse rules p c ≡ Ok (flat_map F.encoding vs)
+  pub parse_of_sequence : (vs : List T) (p : ℕ) (c : List ℕ) → AcceptsUpTo capacity (F.accepts rules) vs c → Fits c → parse_sequence_of capacity F.parse rules p c ≡ Ok (flat_map F.encoding vs)
   parse_of_sequence vs p c a fits = ap join_encodings (parse_of_each F rules vs capacity p c a.0 a.1 fits) ∙ ap Ok (concat-map F.encoding vs)
 
   pub same_length_sequence : (vs : List T) (c : List ℕ) → AcceptsUpTo capacity (F.accepts rules) vs c → length (flat_map F.encoding vs) ≡ length c
@@ -21,6 +21,6 @@ module _ {T : Type 0} (F : form.Ghosts T) (rules : EncodingRules) (capacity : �
   pub readable_sequence : (vs : List T) (c : List ℕ) → AcceptsUpTo capacity (F.accepts rules) vs c → ReadableUpTo capacity F.readable F.encoding vs
   readable_sequence vs c a = (a.0, readable_each F rules vs c a.1)
 
-  pub comparable_sequence : (vs ws : List T) (c d : List ℕ) → AcceptsUpTo capacity (F.accepts rules) vs c → AcceptsUpTo capacity (F.accepts rules) ws d → OneForms F.comparable vs ws
+  pub comparable_sequence : (vs ws : List T) (c d : List ℕ) → AcceptsUpTo capacity (F.accepts rules) vs c → AcceptsUpTo capacity (F.accepts rules) ws d → AllComparable F.comparable vs ws
   comparable_sequence vs ws c d a b =
       all_comparable F rules (length c) (length d) vs ws (parts_within F rules vs c a.1 (length c) (omega arith)) (parts_within F rules ws d b.1 (length d) (omega arith))

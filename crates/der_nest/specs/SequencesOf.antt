@@ -13,5 +13,5 @@ abbrev pub ReadableUpTo : {T : Type 0} → ℕ → (T → Type 0) → (T → Lis
 ReadableUpTo capacity readable encoding vs = (length vs ≤ capacity) × All (λ v. readable v × (0 < length (encoding v))) vs
 
 -- item after item until nothing is left, at most so many; the first fault from the left
-abbrev pub parse_items_up_to : ℕ → Parse → ContentsParse
-parse_items_up_to capacity parse rules p octets = join_encodings (parse_each capacity parse rules p octets)
+abbrev pub parse_sequence_of : ℕ → Parse → ContentsParse
+parse_sequence_of capacity parse rules p octets = join_encodings (parse_each capacity parse rules p octets)

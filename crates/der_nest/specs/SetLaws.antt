@@ -8,7 +8,7 @@ use Rattle.std.proofs.lemmas.List.Sorted.{All-permutation, sum_by-IsPermutation,
 use Rattle.der_tlv.specs.declared.encoding_rules.EncodingRules.{EncodingRules}
 use Rattle.der_elem.specs.declared.form.Form as form
 use Rattle.der_elem.specs.Accepting.{Fits}
-use Rattle.der_elem.specs.Items.{OneForms}
+use Rattle.der_elem.specs.Items.{AllComparable}
 use Rattle.der_nest.specs.Places.{IsInOrder, sort_encodings}
 use Rattle.der_nest.specs.ListLaws.{concat-map, parse_of_each, same_length_each, accepts_each, readable_each, parts_within, all_comparable}
 use Rattle.der_nest.specs.UniqueLaws.{unique_in_order, sorted_sorted, IsPermutation-sort_encodings}
@@ -45,7 +45,7 @@ module _ {T : Type 0} (F : form.Ghosts T) (rules : EncodingRules) where
   parts_of_set : (vs : List T) (c : List ℕ) → AcceptsSet F.encoding (F.accepts rules) vs c → All (λ v. (b : List ℕ) × F.accepts rules v b × (length b ≤ length c)) vs
   parts_of_set vs c a = All-permutation (λ v. (b : List ℕ) × F.accepts rules v b × (length b ≤ length c)) a.items vs a.same_items (parts_within F rules a.items c a.accepted (length c) (omega arith))
 
-  pub comparable_set : (vs ws : List T) (c d : List ℕ) → AcceptsSet F.encoding (F.accepts rules) vs c → AcceptsSet F.encoding (F.accepts rules) ws d → OneForms F.comparable vs ws
+  pub comparable_set : (vs ws : List T) (c d : List ℕ) → AcceptsSet F.encoding (F.accepts rules) vs c → AcceptsSet F.encoding (F.accepts rules) ws d → AllComparable F.comparable vs ws
   comparable_set vs ws c d a b = all_comparable F rules (length c) (length d) vs ws (parts_of_set vs c a) (parts_of_set ws d b)
 
 -- the same of sets of at most so many items
@@ -62,5 +62,5 @@ module _ {T : Type 0} (F : form.Ghosts T) (rules : EncodingRules) (capacity : �
   pub readable_set_up_to : (vs : List T) (c : List ℕ) → AcceptsSetUpTo capacity F.encoding (F.accepts rules) vs c → ReadableSetUpTo capacity F.readable F.encoding vs
   readable_set_up_to vs c a = (a.0, readable_set F rules vs c a.1)
 
-  pub comparable_set_up_to : (vs ws : List T) (c d : List ℕ) → AcceptsSetUpTo capacity F.encoding (F.accepts rules) vs c → AcceptsSetUpTo capacity F.encoding (F.accepts rules) ws d → OneForms F.comparable vs ws
+  pub comparable_set_up_to : (vs ws : List T) (c d : List ℕ) → AcceptsSetUpTo capacity F.encoding (F.accepts rules) vs c → AcceptsSetUpTo capacity F.encoding (F.accepts rules) ws d → AllComparable F.comparable vs ws
   comparable_set_up_to vs ws c d a b = comparable_set F rules vs ws c d a.1 b.1

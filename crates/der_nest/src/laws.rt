@@ -1,14 +1,20 @@
-//! Laws of sets and of sequences that are not looked at: functions that do little, and promise what holds of all.
+//! Laws of sets and of sequences: functions that do little, and promise what holds of all.
 
 ghost use Rattle.std.specs.Prelude.{◌≡◌, ℕ, List, [], ◌∷◌, ◌++◌, map, flat_map};
 ghost use Rattle.std.specs.List.Sorted.{IsPermutation, IsSorted};
 ghost use Rattle.der_tlv.specs.Octets.{lex};
+ghost use Rattle.der_tlv.specs.declared.tag.Tag.TheVariants as tags;
 ghost use Rattle.der_nest.specs.Places.{IsInOrder, insert_in_order, insert_each, sort_encodings};
 ghost use Rattle.der_nest.specs.Stable.{IsSetOf};
 ghost use Rattle.der_nest.specs.SequenceRef.{octets_of};
 
+use crate::sequence_of::SequenceOf;
 use crate::sequence_ref::SequenceRef;
-use der_elem::{Form, FormValue};
+use crate::set_of::SetOf;
+use crate::set_of_ref::SetOfRef;
+use crate::set_of_vec::SetOfVec;
+use der_elem::{FixedTag, Form, FormValue};
+use der_tlv::Tag;
 use std::cmp::Ordering;
 
 /// Encodings that are inserted one after another come to one list, whatever their order: the same
@@ -61,4 +67,18 @@ pub fn sequences_by_contents<'a>(one: SequenceRef<'a>, other: SequenceRef<'a>) -
     ensures { result ≡ lex (octets_of one.entry) (octets_of other.entry) }
 {
     one.cmp(&other)
+}
+
+/// The tags of the types (X.680 8.6): of `SetOfVec`, `SetOf`, `SetOfRef`, `SequenceOf` and
+/// `SequenceRef`.
+pub fn universal_tags() -> [Tag; 5]
+    ensures { result ≡ tags.Set ∷ tags.Set ∷ tags.Set ∷ tags.Sequence ∷ tags.Sequence ∷ [] }
+{
+    [
+        SetOfVec::<bool>::TAG,
+        SetOf::<bool, 1>::TAG,
+        SetOfRef::<bool>::TAG,
+        SequenceOf::<bool, 1>::TAG,
+        SequenceRef::TAG,
+    ]
 }

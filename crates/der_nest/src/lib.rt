@@ -22,9 +22,9 @@ mod set_of_vec;
 
 pub use merging::Runs;
 pub use probe::{Asks, ItemProbe, Probe, insertion_place};
-pub use sequence_of::SequenceOf;
+pub use sequence_of::{SequenceOf, SequenceOfIter};
 pub use sequence_ref::SequenceRef;
-pub use set_of::SetOf;
+pub use set_of::{SetOf, SetOfIter};
 pub use set_of_ref::SetOfRef;
 pub use set_of_ref_iter::SetOfRefIter;
 pub use set_of_vec::SetOfVec;

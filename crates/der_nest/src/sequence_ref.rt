@@ -6,7 +6,7 @@ ghost use Rattle.std.specs.Prelude.{◌≡◌, ◌^◌, ◌<◌, length, refl, f
 ghost use Rattle.std.proofs.Common.{Ok};
 ghost use Rattle.std.specs.Cmp.Lexicographic.{bytes_decides};
 ghost use Rattle.der_tlv.specs.declared.tag.Tag.TheVariants as tags;
-ghost use Rattle.der_elem.specs.ValueForms.{own_form};
+ghost use Rattle.der_elem.specs.FormatMakers.{format_of_contents};
 ghost use Rattle.der_opaque.specs.Opaque.{parse_octets, KeepsOctets};
 
 use der_elem::{
@@ -51,7 +51,7 @@ impl<'a> SequenceRef<'a> {
 impl<'a> FormValue for SequenceRef<'a> {
     ghost use Rattle.der_nest.specs.SequenceRef.{octets_of};
 
-    ghost value = { own_form octets_of parse_octets (λ rules v p. refl) };
+    ghost value = { format_of_contents octets_of parse_octets (λ rules v p. refl) (λ rules p c. tt) };
 }
 
 impl<'a> OneTag for SequenceRef<'a> {
@@ -63,9 +63,9 @@ impl<'a> Sequence<'a> for SequenceRef<'a> {
 }
 
 impl<'a, R: Source<'a>> DecodeValue<'a, R> for SequenceRef<'a> {
-    ghost VALUE_NEEDS_MEMORY = { false };
+    ghost TAKES_MEMORY = { false };
 
-    const VALUE_NEEDS_MEMORY: bool = false;
+    const TAKES_MEMORY: bool = false;
 
     fn decode_value(
         _alloc: Global,
@@ -76,7 +76,7 @@ impl<'a, R: Source<'a>> DecodeValue<'a, R> for SequenceRef<'a> {
         Ok(SequenceRef { octets })
     }
 
-    ghost memory_of_value = { refl };
+    ghost takes_memory_is = { refl };
 }
 
 impl<'a> EncodeValue for SequenceRef<'a> {

@@ -15,9 +15,10 @@ ghost use Rattle.std.specs.List.Sorted.{IsSorted};
 ghost use Rattle.der_tlv.specs.Octets.{lex};
 ghost use Rattle.der_tlv.specs.declared.error.ErrorKind.TheVariants.{Memory};
 ghost use Rattle.der_nest.specs.Places.{IsInOrder};
-ghost use Rattle.der_nest.specs.BorrowedSets.{Borrowed, OfItems, OfOctets, encodings_of, borrowed_contents, re_reads_borrowed, OneFormBorrowed, Borrows, AcceptsBorrowed, ReadableBorrowed, parse_borrowed};
+ghost use Rattle.der_nest.specs.BorrowedSets.{Borrowed, OfItems, OfOctets, encodings_of, borrowed_contents, re_reads_borrowed, ComparableBorrowed, Borrows, AcceptsBorrowed, ReadableBorrowed, parse_borrowed};
 ghost use Rattle.der_nest.specs.BorrowedItems.{GivesAt, AreItemsOf};
 ghost use Rattle.der_nest.specs.BorrowedLaws.{parse_of_borrowed, same_length_borrowed, accepts_borrowed_contents, readable_borrowed, comparable_borrowed, re_reads_borrowed_memory};
+ghost use Rattle.der_nest.specs.OctetFaultLaws.{borrowed_of_octets};
 
 mod checked_octets;
 mod comparing;
@@ -25,7 +26,7 @@ pub(crate) mod found;
 pub(crate) mod item_reader;
 mod writing;
 
-use crate::finding::follows;
+use crate::finding::check_after_last;
 use crate::set_of_ref_iter::{Rest, SetOfRefIter};
 use crate::set_of_vec::SetOfVec;
 use checked_octets::CheckedOctets;
@@ -195,7 +196,7 @@ impl<'a, T: DerOrd> TryFrom<&'a [T]> for SetOfRef<'a, T> {
     /// no comparison.
     fn try_from(items: &'a [T]) -> Result<SetOfRef<'a, T>, Error> {
         'items: for i in 0..items.len() {
-            match follows(&items[..i], &items[i]) {
+            match check_after_last(&items[..i], &items[i]) {
                 Ok(()) => {}
                 Err(_) => return Err(Error::from_kind(ErrorKind::SetOrdering)),
             }
@@ -211,14 +212,16 @@ impl<'a, T: Form> OneTag for SetOfRef<'a, T> {
 impl<'a, T: Form> FormValue for SetOfRef<'a, T> {
     ghost value = { record {
       contents = borrowed_contents T.encoding;
-      comparable = OneFormBorrowed T.Form;
+      comparable = ComparableBorrowed T.Form;
       re_reads = re_reads_borrowed T.Form;
       accepts = λ rules. AcceptsBorrowed T.Form;
       parse = parse_borrowed T.parse;
       readable = ReadableBorrowed T.Form;
       has_tag = λ v t. Unit {0};
-      TAKES_MEMORY = T.TAKES_MEMORY;
+      TAKES_MEMORY = T.Form.TAKES_MEMORY;
+      FAULTS_FIRST = false;
       parse_of_accepted = parse_of_borrowed T.Form;
+      faults_of_octets = borrowed_of_octets T.parse T.faults_of_octets;
       same_length = same_length_borrowed T.Form;
       accepts_contents = accepts_borrowed_contents T.Form;
       only_readable = readable_borrowed T.Form;
@@ -229,9 +232,9 @@ impl<'a, T: Form> FormValue for SetOfRef<'a, T> {
 
 impl<'a, R: Source<'a>, T: Decode<'a, SliceReader<'a>> + DerOrd + Tagged> DecodeValue<'a, R>
     for SetOfRef<'a, T> {
-    ghost VALUE_NEEDS_MEMORY = { T.NEEDS_MEMORY };
+    ghost TAKES_MEMORY = { T.Decode.TAKES_MEMORY };
 
-    const VALUE_NEEDS_MEMORY: bool = T::NEEDS_MEMORY;
+    const TAKES_MEMORY: bool = <T as Decode<'a, SliceReader<'a>>>::TAKES_MEMORY;
 
     fn decode_value(
         alloc: Global,
@@ -251,7 +254,7 @@ impl<'a, R: Source<'a>, T: Decode<'a, SliceReader<'a>> + DerOrd + Tagged> Decode
         }
     }
 
-    ghost memory_of_value = { T.memory_of_form };
+    ghost takes_memory_is = { T.Decode.takes_memory_is };
 }
 
 impl<'a, T: Decode<'a, SliceReader<'a>> + Encode + Tagged> EncodeValue for SetOfRef<'a, T> {
@@ -287,7 +290,7 @@ impl<'a, T: Form> DuplicateValue for SetOfRef<'a, T> {
 
     ghost copy_contents = { λ v w e. ap (borrowed_contents T.encoding) e };
 
-    ghost copy_form_value = { λ v w x e one. subst (λ s. OneFormBorrowed T.Form s x) (sym e) one };
+    ghost copy_comparable_value = { λ v w x e one. subst (λ s. ComparableBorrowed T.Form s x) (sym e) one };
 
     ghost copy_re_reads_value = { λ v w e. ap (re_reads_borrowed T.Form) e };
 }

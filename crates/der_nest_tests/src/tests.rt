@@ -13,6 +13,7 @@ use std::test::Fail;
 mod borrowed;
 mod copies;
 mod counting;
+mod counting_fixed;
 mod history;
 mod many;
 mod probes;

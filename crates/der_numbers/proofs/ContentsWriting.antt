@@ -16,5 +16,5 @@ pub first_refused : (octets all : List ℕ) (old new : WriterState) (kind : Erro
 first_refused octets all old new kind e refused = refused_within (wrote_nothing old) all (0 ∷ []) octets e refused
 
 -- the 00 was written, and then the octets, or not all of them
-pub write_behind : {A : Type 0} (octets all : List ℕ) (old mid new : WriterState) (r : Result A Error) → all ≡ 0 ∷ octets → Wrote (0 ∷ []) old mid → Writes octets mid new r → Encodes all false old new r
-write_behind octets all old mid new r e written w = last_part written all octets e false false (λ h. h) new r (write_all octets octets mid new r refl w)
+pub write_after : {A : Type 0} (octets all : List ℕ) (old mid new : WriterState) (r : Result A Error) → all ≡ 0 ∷ octets → Wrote (0 ∷ []) old mid → Writes octets mid new r → Encodes all false old new r
+write_after octets all old mid new r e written w = last_part written all octets e false false (λ h. h) new r (write_all octets octets mid new r refl w)

@@ -1,11 +1,16 @@
 -- Laws of INTEGER at any number of contents octets (X.690 8.3).
-use Rattle.std.proofs.Common.{◌≡◌, ℕ, ◌<◌, true, false, List, [], ◌∷◌, length, drop, ℤ, pos, negsuc, Ok, Err, refl, sym, ap, ◌∙◌, arith, inl, inr}
+use Rattle.std.proofs.Common.{◌≡◌, ℕ, ◌<◌, true, false, List, [], ◌∷◌, length, drop, ℤ, pos, negsuc, Ok, Err, refl, sym, ap, ◌∙◌, arith, inl, inr, nat_le}
 use Rattle.std.proofs.lemmas.Bool.{cases_lt}
 use Rattle.std.proofs.lemmas.Bool.Decides.{nat_tests}
 use Rattle.der_tlv.specs.declared.error.ErrorKind.{ErrorKind}
+use Rattle.der_tlv.specs.declared.encoding_rules.EncodingRules.{EncodingRules}
+use Rattle.der_tlv.specs.declared.error.ErrorKind.TheVariants as kinds
+use Rattle.der_tlv.specs.declared.tag.Tag.TheVariants.{Integer}
+use Rattle.der_tlv.specs.OctetFaults.{IsOfOctets, of_octets_either}
+use Rattle.der_elem.specs.IntegerReading.{has_needless_zero}
 use Rattle.der_elem.specs.Integer.{AreOctets, big_endian_number, integer_contents, twos_complement, is_redundant, complement_octets, natural_contents}
 use Rattle.der_elem.specs.IntegerLaws.{integer_contents_twos_complement, twos_complement_integer_contents, integer_contents-some, integer_contents-pos, integer_contents-needed, twos_complement-pos, twos_complement-negsuc}
-use Rattle.der_numbers.specs.AnyLength.{integer_or_fault}
+use Rattle.der_numbers.specs.AnyLength.{integer_or_fault, parse_integer, parse_natural}
 
 -- ---- reading
 
@@ -57,3 +62,13 @@ twos_complement-redundant (first ∷ second ∷ others) all redundant = (
         ∙ sym (twos_complement-negsuc (second ∷ others) all.1 large)
   ],
 )
+
+-- the faults are of the octets
+pub integer_of_octets : (rules : EncodingRules) (p : ℕ) (octets : List ℕ) → IsOfOctets (parse_integer rules p octets)
+integer_of_octets rules p [] = refl
+integer_of_octets rules p (first ∷ others) = of_octets_either (is_redundant (first ∷ others)) (Err (kinds.Noncanonical Integer)) (Ok (first ∷ others)) refl tt
+
+pub natural_of_octets : (rules : EncodingRules) (p : ℕ) (octets : List ℕ) → IsOfOctets (parse_natural rules p octets)
+natural_of_octets rules p [] = refl
+natural_of_octets rules p (first ∷ others) =
+    of_octets_either (has_needless_zero (first ∷ others)) _ _ refl (of_octets_either (nat_le 128 first) (Err (kinds.Value Integer)) (Ok (first ∷ others)) refl tt)

@@ -11,6 +11,6 @@ use Rattle.der_numbers.specs.AnyLength.{parse_integer}
 abbrev pub contents_of : IntRef → List ℕ
 contents_of number = number.octets.now
 
--- what decoding contents octets behind a tag as an INTEGER answers
+-- what decoding contents octets after a tag as an INTEGER answers
 abbrev pub DecodesInteger : Tag → List ℕ → Result IntRef Error → Type 0
 DecodesInteger = DecodesOwnAs tags.Integer contents_of (λ number. Unit {0}) parse_integer

@@ -8,10 +8,10 @@ use Rattle.der_numbers.specs.declared.uint_ref.UintRef.{UintRef}
 use Rattle.der_opaque.specs.DecodingAs.{DecodesOwnAs}
 use Rattle.der_numbers.specs.AnyLength.{parse_natural}
 
--- its contents octets: the number in the fewest octets, behind 00 where the first is 80 or more
+-- its contents octets: the number in the fewest octets, after 00 where the first is 80 or more
 abbrev pub contents_of : UintRef → List ℕ
 contents_of number = with_sign_octet number.octets.now
 
--- what decoding contents octets behind a tag as an INTEGER that is not negative answers
+-- what decoding contents octets after a tag as an INTEGER that is not negative answers
 abbrev pub DecodesNatural : Tag → List ℕ → Result UintRef Error → Type 0
 DecodesNatural = DecodesOwnAs tags.Integer contents_of (λ number. Unit {0}) parse_natural

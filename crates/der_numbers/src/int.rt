@@ -4,17 +4,13 @@
 //! the highest first, of which bit 8 of the first is the sign: 127 is 7F, 128 is 00 80, -128 is 80.
 
 ghost use Rattle.std.specs.Prelude.{◌≡◌, ◌^◌, ◌<◌, length, true, false, refl};
-ghost use Rattle.std.proofs.Common.{Ok};
+ghost use Rattle.std.proofs.Common.{Ok, sym};
 ghost use Rattle.std.specs.Cmp.Lexicographic.{bytes_decides};
 ghost use Rattle.der_tlv.specs.declared.tag.Tag.TheVariants as tags;
 ghost use Rattle.der_elem.specs.Integer.{integer_contents, twos_complement};
-ghost use Rattle.der_tlv.specs.ReaderState.{rest};
-ghost use Rattle.der_tlv.specs.Reading.{Stands};
-ghost use Rattle.der_elem.specs.Decoding.{DecodesValue};
-ghost use Rattle.der_elem.specs.RunningOut.{FaultsFirst};
-ghost use Rattle.der_elem.specs.ValueForms.{owned_form};
+ghost use Rattle.der_elem.specs.FormatMakers.{allocating_format};
 ghost use Rattle.der_numbers.specs.AnyLength.{parse_integer, KeepsCopy, CopiesWithinLength};
-ghost use Rattle.der_numbers.specs.AnyLengthLaws.{parse_of_integer};
+ghost use Rattle.der_numbers.specs.AnyLengthLaws.{parse_of_integer, integer_of_octets};
 ghost use Rattle.der_numbers.specs.IntRef as borrowed;
 ghost use Rattle.der_numbers.specs.Uint as unsigned;
 
@@ -22,8 +18,8 @@ use crate::int_ref::{AsIntRef, IntRef};
 use crate::octets::{contents_len, is_high};
 use crate::uint::Uint;
 use der_elem::{
-    ContentsEq, DecodeValue, DuplicateValue, EncodeValue, FormValue, IntegerTag, OneTag,
-    OrdIsValueOrd,
+    ContentsEq, DecodeValue, DuplicateValue, DuplicateValueIsEqual, EncodeValue, FormValue,
+    IntegerTag, OneTag, OrdIsValueOrd,
 };
 use der_tlv::{Error, Header, Length, Reader, Source, Tag, VecWriter, Writer};
 use std::alloc::{AllocError, Global};
@@ -138,7 +134,7 @@ impl Clone for Int {
 impl FormValue for Int {
     ghost use Rattle.der_numbers.specs.Int.{contents_of};
 
-    ghost value = { owned_form contents_of parse_integer (λ rules v p. parse_of_integer v.octets.items v.octets.items v.fewest refl) };
+    ghost value = { allocating_format contents_of parse_integer (λ rules v p. parse_of_integer v.octets.items v.octets.items v.fewest refl) integer_of_octets };
 }
 
 impl OneTag for Int {
@@ -146,20 +142,14 @@ impl OneTag for Int {
 }
 
 impl<'a, R: Source<'a>> DecodeValue<'a, R> for Int {
-    ghost VALUE_NEEDS_MEMORY = { true };
+    ghost TAKES_MEMORY = { true };
 
-    const VALUE_NEEDS_MEMORY: bool = true;
-
-    ghost use Rattle.der_numbers.specs.contracts.int.IntFormValue.TheImpl.{ghosts as int};
+    const TAKES_MEMORY: bool = true;
 
     /// # Errors
     /// (17) on a failed reader; the first fault of the contents octets; else (1) where memory runs
     /// out.
-    fn decode_value(alloc: Global, reader: &mut R, header: Header) -> Result<Int, Error>
-        ensures exact { length (rest (R.state reader.old)) ≡ header.length → DecodesValue int.value header (R.state reader.old) (R.state reader.new) result }
-        ensures reader { Stands (R.state reader.old) (R.state reader.new) result }
-        ensures faults_first { length (rest (R.state reader.old)) ≡ header.length → FaultsFirst parse_integer (R.state reader.old) result }
-    {
+    fn decode_value(alloc: Global, reader: &mut R, header: Header) -> Result<Int, Error> {
         match IntRef::decode_value(alloc, reader, header) {
             Ok(integer) => match integer.ref_to_owned(alloc) {
                 Ok(integer) => Ok(integer),
@@ -169,7 +159,7 @@ impl<'a, R: Source<'a>> DecodeValue<'a, R> for Int {
         }
     }
 
-    ghost memory_of_value = { refl };
+    ghost takes_memory_is = { refl };
 }
 
 impl EncodeValue for Int {
@@ -201,7 +191,11 @@ impl DuplicateValue for Int {
 
     ghost copy_contents = { λ v w e. e };
 
-    ghost copy_form_value = { λ v w x e f. tt };
+    ghost copy_comparable_value = { λ v w x e f. tt };
 
     ghost copy_re_reads_value = { λ v w e. refl };
+}
+
+impl DuplicateValueIsEqual for Int {
+    ghost copy_value_is_equal = { λ v w e. (bytes_decides v.octets.items w.octets.items).1 (sym e) };
 }

@@ -8,9 +8,9 @@ ghost use Rattle.std.proofs.Common.{Ok};
 ghost use Rattle.std.specs.Cmp.Lexicographic.{bytes_decides};
 ghost use Rattle.der_tlv.specs.declared.tag.Tag.TheVariants as tags;
 ghost use Rattle.der_elem.specs.Integer.{integer_contents, twos_complement};
-ghost use Rattle.der_elem.specs.ValueForms.{own_form};
+ghost use Rattle.der_elem.specs.FormatMakers.{format_of_contents};
 ghost use Rattle.der_numbers.specs.AnyLength.{integer_or_fault, parse_integer, TakesContents, KeepsNumber, CopiesContents};
-ghost use Rattle.der_numbers.specs.AnyLengthLaws.{parse_of_integer};
+ghost use Rattle.der_numbers.specs.AnyLengthLaws.{parse_of_integer, integer_of_octets};
 ghost use Rattle.der_opaque.specs.Any as owned_any;
 ghost use Rattle.der_opaque.specs.AnyRef as borrowed_any;
 
@@ -112,7 +112,7 @@ impl<'a> IntRef<'a> {
 impl<'a> FormValue for IntRef<'a> {
     ghost use Rattle.der_numbers.specs.IntRef.{contents_of};
 
-    ghost value = { own_form contents_of parse_integer (λ rules v p. parse_of_integer v.octets.now v.octets.now v.fewest refl) };
+    ghost value = { format_of_contents contents_of parse_integer (λ rules v p. parse_of_integer v.octets.now v.octets.now v.fewest refl) integer_of_octets };
 }
 
 impl<'a> OneTag for IntRef<'a> {
@@ -120,9 +120,9 @@ impl<'a> OneTag for IntRef<'a> {
 }
 
 impl<'a, R: Source<'a>> DecodeValue<'a, R> for IntRef<'a> {
-    ghost VALUE_NEEDS_MEMORY = { false };
+    ghost TAKES_MEMORY = { false };
 
-    const VALUE_NEEDS_MEMORY: bool = false;
+    const TAKES_MEMORY: bool = false;
 
     fn decode_value(_alloc: Global, reader: &mut R, header: Header) -> Result<IntRef<'a>, Error> {
         let octets = reader.read_slice(header.length)?;
@@ -132,7 +132,7 @@ impl<'a, R: Source<'a>> DecodeValue<'a, R> for IntRef<'a> {
         }
     }
 
-    ghost memory_of_value = { refl };
+    ghost takes_memory_is = { refl };
 }
 
 impl<'a> EncodeValue for IntRef<'a> {

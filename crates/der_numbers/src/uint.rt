@@ -7,26 +7,23 @@
 //! before 1, and 255 before 127.
 
 ghost use Rattle.std.specs.Prelude.{◌≡◌, ◌^◌, ◌<◌, nat_eq, length, true, false, refl, Some};
-ghost use Rattle.std.proofs.Common.{Ok, ap};
+ghost use Rattle.std.proofs.Common.{Ok, ap, sym};
 ghost use Rattle.std.specs.Cmp.{on_per, on_equiv, on_po, on_total, partial_equiv_from_equiv};
 ghost use Rattle.std.specs.Cmp.Lexicographic.{pointwise, bytes_decides, nat_list_eq_equiv, nat_list_cmp_total, texts_po, texts_ties};
 ghost use Rattle.der_tlv.specs.declared.tag.Tag.TheVariants as tags;
 ghost use Rattle.der_tlv.specs.Octets.{lex};
 ghost use Rattle.der_elem.specs.Integer.{big_endian_number, with_sign_octet, natural_contents};
-ghost use Rattle.der_tlv.specs.ReaderState.{rest};
-ghost use Rattle.der_tlv.specs.Reading.{Stands};
-ghost use Rattle.der_elem.specs.Decoding.{DecodesValue};
-ghost use Rattle.der_elem.specs.RunningOut.{FaultsFirst};
-ghost use Rattle.der_elem.specs.ValueForms.{owned_form};
+ghost use Rattle.der_elem.specs.FormatMakers.{allocating_format};
 ghost use Rattle.der_numbers.specs.AnyLength.{parse_natural, has_leading_zero, without_sign_octet, KeepsNaturalCopy};
 ghost use Rattle.der_numbers.specs.UnsignedLaws.{parse_of_natural};
 ghost use Rattle.der_numbers.specs.UintRef as borrowed;
+ghost use Rattle.der_numbers.specs.AnyLengthLaws.{natural_of_octets};
 
 use crate::octets::{compare_contents, contents_len, write_contents};
 use crate::uint_ref::{AsUintRef, UintRef};
 use der_elem::{
-    ContentsEq, DecodeValue, DuplicateValue, EncodeValue, FormValue, IntegerTag, OneTag,
-    OrdIsValueOrd,
+    ContentsEq, DecodeValue, DuplicateValue, DuplicateValueIsEqual, EncodeValue, FormValue,
+    IntegerTag, OneTag, OrdIsValueOrd,
 };
 use der_tlv::{Error, Header, Length, Reader, Source, Writer};
 use std::alloc::{AllocError, Global};
@@ -122,7 +119,7 @@ impl Clone for Uint {
 impl FormValue for Uint {
     ghost use Rattle.der_numbers.specs.Uint.{contents_of};
 
-    ghost value = { owned_form contents_of parse_natural (λ rules v p. parse_of_natural v.octets.items (with_sign_octet v.octets.items) v.fewest refl) };
+    ghost value = { allocating_format contents_of parse_natural (λ rules v p. parse_of_natural v.octets.items (with_sign_octet v.octets.items) v.fewest refl) natural_of_octets };
 }
 
 impl OneTag for Uint {
@@ -130,20 +127,14 @@ impl OneTag for Uint {
 }
 
 impl<'a, R: Source<'a>> DecodeValue<'a, R> for Uint {
-    ghost VALUE_NEEDS_MEMORY = { true };
+    ghost TAKES_MEMORY = { true };
 
-    const VALUE_NEEDS_MEMORY: bool = true;
-
-    ghost use Rattle.der_numbers.specs.contracts.uint.UintFormValue.TheImpl.{ghosts as uint};
+    const TAKES_MEMORY: bool = true;
 
     /// # Errors
     /// (17) on a failed reader; the first fault of the contents octets; else (1) where memory runs
     /// out.
-    fn decode_value(alloc: Global, reader: &mut R, header: Header) -> Result<Uint, Error>
-        ensures exact { length (rest (R.state reader.old)) ≡ header.length → DecodesValue uint.value header (R.state reader.old) (R.state reader.new) result }
-        ensures reader { Stands (R.state reader.old) (R.state reader.new) result }
-        ensures faults_first { length (rest (R.state reader.old)) ≡ header.length → FaultsFirst parse_natural (R.state reader.old) result }
-    {
+    fn decode_value(alloc: Global, reader: &mut R, header: Header) -> Result<Uint, Error> {
         match UintRef::decode_value(alloc, reader, header) {
             Ok(number) => match number.ref_to_owned(alloc) {
                 Ok(number) => Ok(number),
@@ -153,7 +144,7 @@ impl<'a, R: Source<'a>> DecodeValue<'a, R> for Uint {
         }
     }
 
-    ghost memory_of_value = { refl };
+    ghost takes_memory_is = { refl };
 }
 
 impl EncodeValue for Uint {
@@ -237,7 +228,12 @@ impl DuplicateValue for Uint {
 
     ghost copy_contents = { λ v w e. ap with_sign_octet e };
 
-    ghost copy_form_value = { λ v w x e f. tt };
+    ghost copy_comparable_value = { λ v w x e f. tt };
 
     ghost copy_re_reads_value = { λ v w e. refl };
+}
+
+impl DuplicateValueIsEqual for Uint {
+    ghost copy_value_is_equal = { λ v w e. (bytes_decides (with_sign_octet v.octets.items) (with_sign_octet w.octets.items)).1
+        (ap with_sign_octet (sym e)) };
 }

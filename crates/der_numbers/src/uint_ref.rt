@@ -13,11 +13,12 @@ ghost use Rattle.std.specs.Cmp.Lexicographic.{pointwise, bytes_decides, nat_list
 ghost use Rattle.der_tlv.specs.declared.tag.Tag.TheVariants as tags;
 ghost use Rattle.der_tlv.specs.Octets.{lex};
 ghost use Rattle.der_elem.specs.Integer.{big_endian_number, with_sign_octet, natural_contents};
-ghost use Rattle.der_elem.specs.ValueForms.{own_form};
+ghost use Rattle.der_elem.specs.FormatMakers.{format_of_contents};
 ghost use Rattle.der_numbers.specs.AnyLength.{natural_or_fault, parse_natural, has_leading_zero, without_sign_octet, TakesContents, KeepsNatural, CopiesContents};
 ghost use Rattle.der_numbers.specs.UnsignedLaws.{parse_of_natural};
 ghost use Rattle.der_opaque.specs.Any as owned_any;
 ghost use Rattle.der_opaque.specs.AnyRef as borrowed_any;
+ghost use Rattle.der_numbers.specs.AnyLengthLaws.{natural_of_octets};
 
 use crate::octets::{check_natural, compare_contents, contents_len, strip_zeros, write_contents};
 use crate::uint::Uint;
@@ -130,7 +131,7 @@ impl<'a> UintRef<'a> {
 impl<'a> FormValue for UintRef<'a> {
     ghost use Rattle.der_numbers.specs.UintRef.{contents_of};
 
-    ghost value = { own_form contents_of parse_natural (λ rules v p. parse_of_natural v.octets.now (with_sign_octet v.octets.now) v.fewest refl) };
+    ghost value = { format_of_contents contents_of parse_natural (λ rules v p. parse_of_natural v.octets.now (with_sign_octet v.octets.now) v.fewest refl) natural_of_octets };
 }
 
 impl<'a> OneTag for UintRef<'a> {
@@ -138,9 +139,9 @@ impl<'a> OneTag for UintRef<'a> {
 }
 
 impl<'a, R: Source<'a>> DecodeValue<'a, R> for UintRef<'a> {
-    ghost VALUE_NEEDS_MEMORY = { false };
+    ghost TAKES_MEMORY = { false };
 
-    const VALUE_NEEDS_MEMORY: bool = false;
+    const TAKES_MEMORY: bool = false;
 
     fn decode_value(_alloc: Global, reader: &mut R, header: Header) -> Result<UintRef<'a>, Error> {
         let octets = reader.read_slice(header.length)?;
@@ -150,7 +151,7 @@ impl<'a, R: Source<'a>> DecodeValue<'a, R> for UintRef<'a> {
         }
     }
 
-    ghost memory_of_value = { refl };
+    ghost takes_memory_is = { refl };
 }
 
 impl<'a> EncodeValue for UintRef<'a> {

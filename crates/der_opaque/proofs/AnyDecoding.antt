@@ -9,9 +9,9 @@ use Rattle.der_tlv.specs.HeaderReading.{read_header, octets_of}
 use Rattle.der_tlv.specs.Reading.{HeadFault, OctetsRead, OctetsRefused}
 use Rattle.der_tlv.specs.ReaderState.{ReaderState, rest, after_read, after_nest, unless_failed}
 use Rattle.der_tlv.proofs.ReaderStates.{rest-after_nest, room_from_can_read}
-use Rattle.der_elem.proofs.AtContents.{AtHeader, AtContents, parse_behind, parse_too_long, parse_shown, shown_length, taken, after_contents}
+use Rattle.der_elem.proofs.AtContents.{AtHeader, AtContents, parse_after, parse_too_long, parse_shown, shown_length, taken, after_contents}
 use Rattle.der_opaque.specs.Opaque.{parse_octets}
-use Rattle.der_opaque.specs.AnyForm.{parse_any, parse_behind_header}
+use Rattle.der_opaque.specs.AnyForm.{parse_any, parse_after_header}
 
 -- the header's fault is that of the whole encoding
 pub header_fault_any : {old new : ReaderState} {kind : ErrorKind} → HeadFault read_header old new kind → (rules : EncodingRules) → unless_failed (parse_any rules) old ≡ Err kind
@@ -22,12 +22,12 @@ header_fault_any {old} {new} {kind} fault rules = at old.failed refl
     at true e = let there = rw e at fault.fault_is in let k : Failed ≡ kind = cc in rw e (ap Err k)
     at false e =
         let there : read_header old.position (rest old) ≡ Err kind = rw e at fault.fault_is in
-        rw e (ap (parse_behind_header rules old.position (rest old)) there)
+        rw e (ap (parse_after_header rules old.position (rest old)) there)
 
 module _ {header : Header} {old mid : ReaderState} (at : AtHeader header old mid) (rules : EncodingRules) where
-  parse_is : parse_any rules old.position (rest old) ≡ parse_behind parse_octets rules old header
+  parse_is : parse_any rules old.position (rest old) ≡ parse_after parse_octets rules old header
   unfolding parse_any
-  parse_is = ap (parse_behind_header rules old.position (rest old)) at.head.parsed
+  parse_is = ap (parse_after_header rules old.position (rest old)) at.head.parsed
 
   -- contents octets longer than what is left
   pub too_long_any : {new : ReaderState} {kind : ErrorKind} → OctetsRefused mid new header.length kind → unless_failed (parse_any rules) old ≡ Err kind

@@ -1,12 +1,13 @@
 -- Carried contents octets that are read by a reader of their own.
 use Rattle.std.proofs.Common.{◌≡◌, ℕ, List, true, inl, inr, Result, Ok, Err, sym, ap, ◌∙◌, subst}
+use Rattle.std.specs.Prelude.{IsOk}
 use Rattle.std.proofs.Math.Seq.{take-length}
 use Rattle.der_tlv.specs.declared.error.ErrorKind.{ErrorKind}
 use Rattle.der_tlv.specs.declared.error.Error.{Error}
 use Rattle.der_tlv.specs.declared.encoding_rules.EncodingRules.{EncodingRules}
 use Rattle.der_tlv.specs.declared.header.Header.{Header}
 use Rattle.der_tlv.specs.ReaderState.{ReaderState, rest, new_reader}
-use Rattle.der_elem.specs.ValueForm.{ValueForm}
+use Rattle.der_elem.specs.ContentsFormat.{ContentsFormat}
 use Rattle.der_elem.specs.declared.form.Form as form
 use Rattle.der_elem.specs.Accepting.{Fits}
 use Rattle.der_elem.specs.Decoding.{DecodesValue}
@@ -16,7 +17,7 @@ use Rattle.der_opaque.specs.DecodingAs.{DecodesAs, NotDecodedAs}
 pub rest_opened : (octets : List ℕ) (rules : EncodingRules) {s : ReaderState} → s ≡ new_reader octets rules → rest s ≡ octets
 rest_opened octets rules opens = ap rest opens ∙ take-length octets
 
-module _ {T : Type 0} (C : form.Ghosts T) (F : ValueForm T) (rules : EncodingRules) (header : Header) (octets : List ℕ) (fits : Fits octets) (allowed : C.tags header.tag ≡ true) where
+module _ {T : Type 0} (C : form.Ghosts T) (F : ContentsFormat T) (rules : EncodingRules) (header : Header) (octets : List ℕ) (fits : Fits octets) (allowed : C.tags header.tag ≡ true) where
   not_decoded : (kind : ErrorKind) → F.parse rules 0 octets ≡ Err kind → NotDecodedAs C F rules header.tag octets kind
   not_decoded kind e =
       record {
@@ -34,7 +35,7 @@ module _ {T : Type 0} (C : form.Ghosts T) (F : ValueForm T) (rules : EncodingRul
       }
   at_opened new (Err e) told =
       elim told.reason [
-        | inl m ↦ inl (m.0, m.1, allowed)
+        | inl m ↦ inl (allowed, record { kind_is = m.kind_is; takes = m.takes; faultless = λ first. subst (λ octets. IsOk (F.parse rules 0 octets)) (take-length octets) (m.faultless first) })
         | inr f ↦ inr (not_decoded e.kind (ap (F.parse rules 0) (sym (take-length octets)) ∙ f))
       ]
 

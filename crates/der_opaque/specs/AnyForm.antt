@@ -1,9 +1,6 @@
 -- Encodings with any tag, and what octets are read as them.
-use Rattle.std.specs.Prelude.{◌≡◌, ℕ, ◌+◌, ◌⊎◌, List, drop, Result, Ok, Err, IsOk}
+use Rattle.std.specs.Prelude.{◌≡◌, ℕ, ◌+◌, List, drop, Result, Ok, Err}
 use Rattle.der_tlv.specs.declared.error.ErrorKind.{ErrorKind}
-use Rattle.der_tlv.specs.declared.error.ErrorKind.TheVariants.{Memory}
-use Rattle.der_tlv.specs.declared.error.Error.{Error}
-use Rattle.der_tlv.specs.ReaderState.{ReaderState, unless_failed}
 use Rattle.der_tlv.specs.declared.encoding_rules.EncodingRules.{EncodingRules}
 use Rattle.der_tlv.specs.declared.header.Header.{Header}
 use Rattle.der_tlv.specs.declared.tag.Tag.{Tag}
@@ -18,16 +15,10 @@ abbrev pub accepts_any : {T : Type 0} → (T → Tag) → (T → List ℕ) → E
 accepts_any tag_of contents rules v octets = IsTag (tag_of v) × (octets ≡ tlv (tag_of v) (contents v))
 
 -- an encoding, once its header is parsed
-abbrev pub parse_behind_header : EncodingRules → ℕ → List ℕ → Result (ℕ × Header) ErrorKind → Result (ℕ × List ℕ) ErrorKind
-parse_behind_header rules p octets (Err k) = Err k
-parse_behind_header rules p octets (Ok (count, h)) = parse_contents h.tag parse_octets rules count (p + count) h.length (drop count octets)
+abbrev pub parse_after_header : EncodingRules → ℕ → List ℕ → Result (ℕ × Header) ErrorKind → Result (ℕ × List ℕ) ErrorKind
+parse_after_header rules p octets (Err k) = Err k
+parse_after_header rules p octets (Ok (count, h)) = parse_contents h.tag parse_octets rules count (p + count) h.length (drop count octets)
 
 -- An encoding with any tag: the header's faults, then contents longer than what is left (2, 9).
 unfoldable pub parse_any : Parse
-parse_any rules p octets = parse_behind_header rules p octets (read_header p octets)
-
--- why a type that finds every fault before it takes memory reads none: the first fault, or memory ran out for octets that have none
-abbrev pub AnyFaultsFirst : {T : Type 0} → ReaderState → Result T Error → Type 0
-AnyFaultsFirst old (Ok v) = Unit {0}
-AnyFaultsFirst old (Err e) =
-    (unless_failed (parse_any old.rules) old ≡ Err e.kind) ⊎ ((e.kind ≡ Memory) × IsOk (unless_failed (parse_any old.rules) old))
+parse_any rules p octets = parse_after_header rules p octets (read_header p octets)

@@ -1,4 +1,4 @@
--- What contents octets behind a tag are read as the built-in types.
+-- What contents octets after a tag are read as the built-in types.
 use Rattle.std.specs.Prelude.{ℕ, ℤ, Bool, List, [], Result}
 use Rattle.der_tlv.specs.declared.error.Error.{Error}
 use Rattle.der_tlv.specs.declared.tag.Tag.{Tag}

@@ -1,37 +1,38 @@
 -- What decoding carried contents octets as a type answers.
 use Rattle.std.specs.Prelude.{◌≡◌, ℕ, List, Bool, true, if◌then◌else◌, None, ◌⊎◌, Result, Ok, Err}
 use Rattle.der_tlv.specs.declared.error.ErrorKind.{ErrorKind}
-use Rattle.der_tlv.specs.declared.error.ErrorKind.TheVariants.{Memory, TagUnexpected}
+use Rattle.der_tlv.specs.declared.error.ErrorKind.TheVariants.{TagUnexpected}
 use Rattle.der_tlv.specs.declared.error.Error.{Error}
 use Rattle.der_tlv.specs.declared.encoding_rules.EncodingRules.{EncodingRules}
 use Rattle.der_tlv.specs.declared.encoding_rules.EncodingRules.TheVariants.{Der}
 use Rattle.der_tlv.specs.declared.tag.Tag.{Tag}
 use Rattle.der_tlv.specs.Identifier.{same_identifier}
-use Rattle.der_elem.specs.ValueForm.{ValueForm}
+use Rattle.der_elem.specs.ContentsFormat.{ContentsFormat}
 use Rattle.der_elem.specs.declared.form.Form as form
 use Rattle.der_elem.specs.Parsing.{ContentsParse}
+use Rattle.der_elem.specs.Decoding.{RanOut}
 use Rattle.der_elem.specs.OwnContents.{accepts_within}
 
--- What octets behind a tag come to: (4) with no expected tag for a tag that is none of these, else what the contents octets are parsed as.
+-- What octets after a tag come to: (4) with no expected tag for a tag that is none of these, else what the contents octets are parsed as.
 abbrev pub parse_as : (Tag → Bool) → ContentsParse → EncodingRules → Tag → List ℕ → Result (List ℕ) ErrorKind
 parse_as tags parse rules t octets = if tags t then parse rules 0 octets else Err (TagUnexpected None t)
 
 -- all of the octets were read as the contents octets of a value that may have the tag
-pub record DecodedAs {T : Type 0} (C : form.Ghosts T) (F : ValueForm T) (rules : EncodingRules) (t : Tag) (octets : List ℕ) (v : T) : Type 0 where
+pub record DecodedAs {T : Type 0} (C : form.Ghosts T) (F : ContentsFormat T) (rules : EncodingRules) (t : Tag) (octets : List ℕ) (v : T) : Type 0 where
   pub allowed : C.tags t ≡ true
   pub parsed : F.parse rules 0 octets ≡ Ok (F.contents v)
   pub accepted : F.accepts rules v octets
   pub tag : F.has_tag v t
 
 -- the first fault, and no value of the type has the tag and these contents octets
-pub record NotDecodedAs {T : Type 0} (C : form.Ghosts T) (F : ValueForm T) (rules : EncodingRules) (t : Tag) (octets : List ℕ) (kind : ErrorKind) : Type 0 where
+pub record NotDecodedAs {T : Type 0} (C : form.Ghosts T) (F : ContentsFormat T) (rules : EncodingRules) (t : Tag) (octets : List ℕ) (kind : ErrorKind) : Type 0 where
   pub fault : parse_as C.tags F.parse rules t octets ≡ Err kind
   pub nothing : C.tags t ≡ true → (w : T) → F.accepts rules w octets → ⊥
 
--- what decoding contents octets behind a tag answers: the value, or (1) where the type may have the tag and takes memory, or the first fault
-abbrev pub DecodesAs : {T : Type 0} → form.Ghosts T → ValueForm T → EncodingRules → Tag → List ℕ → Result T Error → Type 0
+-- what decoding contents octets after a tag answers: the value, or (1) where the type may have the tag and memory ran out, or the first fault
+abbrev pub DecodesAs : {T : Type 0} → form.Ghosts T → ContentsFormat T → EncodingRules → Tag → List ℕ → Result T Error → Type 0
 DecodesAs C F rules t octets (Ok v) = DecodedAs C F rules t octets v
-DecodesAs C F rules t octets (Err e) = ((e.kind ≡ Memory) × (F.TAKES_MEMORY ≡ true) × (C.tags t ≡ true)) ⊎ NotDecodedAs C F rules t octets e.kind
+DecodesAs C F rules t octets (Err e) = ((C.tags t ≡ true) × RanOut F.TAKES_MEMORY F.FAULTS_FIRST (F.parse rules 0 octets) e.kind) ⊎ NotDecodedAs C F rules t octets e.kind
 
 -- the same under DER, of a type with one tag of which each value within a range is read from its own contents octets alone
 pub record OwnDecodedAs {T : Type 0} (own : Tag) (contents : T → List ℕ) (Within : T → Type 0) (parse : ContentsParse) (t : Tag) (octets : List ℕ) (v : T) : Type 0 where

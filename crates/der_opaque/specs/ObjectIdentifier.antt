@@ -9,6 +9,6 @@ use Rattle.der_opaque.specs.ObjectIdentifierOctets.{FromAny}
 abbrev pub octets_of : {max : ℕ} → ObjectIdentifier max → List ℕ
 octets_of identifier = take identifier.count identifier.octets
 
--- what decoding contents octets behind a tag as an OBJECT IDENTIFIER of at most so many octets answers
+-- what decoding contents octets after a tag as an OBJECT IDENTIFIER of at most so many octets answers
 abbrev pub DecodesIdentifier : (max : ℕ) → Tag → List ℕ → Result (ObjectIdentifier max) Error → Type 0
 DecodesIdentifier max = FromAny max octets_of

@@ -8,6 +8,7 @@ use Rattle.der_tlv.specs.declared.error.Error.{Error}
 use Rattle.der_tlv.specs.declared.tag.Tag.{Tag}
 use Rattle.der_tlv.specs.declared.tag.Tag.TheVariants.{ObjectIdentifier}
 use Rattle.der_tlv.specs.declared.encoding_rules.EncodingRules.{EncodingRules}
+use Rattle.der_tlv.specs.OctetFaults.{IsOfOctets, of_octets_either}
 use Rattle.der_elem.specs.Parsing.{ContentsParse}
 
 -- the octets, where there are some (X.690 8.19.2), else (15)
@@ -18,6 +19,14 @@ some_octets (octet ∷ others) = Ok (octet ∷ others)
 -- at most so many octets (7), and some (15)
 abbrev pub parse_identifier : ℕ → ContentsParse
 parse_identifier max rules p c = if nat_lt max (length c) then Err (kinds.Length ObjectIdentifier) else some_octets c
+
+-- the faults are of the octets
+some_of_octets : (c : List ℕ) → IsOfOctets (some_octets c)
+some_of_octets [] = refl
+some_of_octets (octet ∷ others) = tt
+
+pub identifier_of_octets : (max : ℕ) (rules : EncodingRules) (p : ℕ) (c : List ℕ) → IsOfOctets (parse_identifier max rules p c)
+identifier_of_octets max rules p c = of_octets_either (nat_lt max (length c)) _ _ refl (some_of_octets c)
 
 pub kept_length : (max count : ℕ) (octets : List ℕ) → count ≤ max → length octets ≡ max → length (take count octets) ≡ count
 kept_length max count octets fits full = omega (arith, length-take count octets)

@@ -11,6 +11,6 @@ use Rattle.der_opaque.specs.Opaque.{parse_octets}
 abbrev pub octets_of : OctetStringRef → List ℕ
 octets_of string = string.octets.now
 
--- what decoding contents octets behind a tag as an OCTET STRING answers
+-- what decoding contents octets after a tag as an OCTET STRING answers
 abbrev pub DecodesOctetString : Tag → List ℕ → Result OctetStringRef Error → Type 0
 DecodesOctetString = DecodesOwnAs tags.OctetString octets_of (λ string. Unit {0}) parse_octets

@@ -1,32 +1,28 @@
 //! Values with any tag.
 
-ghost use Rattle.std.specs.Prelude.{◌≡◌, ◌≢◌, None, Some, ◌↔◌, ◌⊎◌, ◌^◌, ◌<◌, [], length, true, false, refl, IsTrue, IfOk, IfErr};
-ghost use Rattle.std.proofs.Common.{Ok};
+ghost use Rattle.std.specs.Prelude.{◌≡◌, ◌≢◌, None, Some, ◌↔◌, ◌^◌, ◌<◌, [], length, true, false, refl, IsTrue, IfOk, IfErr};
+ghost use Rattle.std.proofs.Common.{Ok, sym, ap, ◌∙◌};
 ghost use Rattle.std.specs.Cmp.Lexicographic.{bytes_decides};
 ghost use Rattle.der_tlv.specs.declared.error.ErrorKind.TheVariants as kinds;
 ghost use Rattle.der_tlv.specs.declared.tag.Tag.TheVariants as tags;
 ghost use Rattle.der_tlv.specs.TagParts.{IsTag};
 ghost use Rattle.der_tlv.specs.TagEquality.{tag_eq-decides};
 ghost use Rattle.der_tlv.specs.HeaderOctets.{tlv};
-ghost use Rattle.der_tlv.specs.ReaderState.{rest};
-ghost use Rattle.der_tlv.specs.Reading.{Stands};
-ghost use Rattle.der_elem.specs.Decoding.{Decodes, DecodesValue};
-ghost use Rattle.der_elem.specs.RunningOut.{FaultsFirst};
 ghost use Rattle.der_elem.specs.Encoding.{NoVector};
 ghost use Rattle.der_opaque.specs.Opaque.{parse_octets, KeepsTagged};
 ghost use Rattle.der_tlv.specs.declared.encoding_rules.EncodingRules.TheVariants.{Der};
 ghost use Rattle.der_opaque.specs.DecodingAs.{DecodesAs};
 ghost use Rattle.der_opaque.specs.InSequence.{RefusesWith, CalledOn};
-ghost use Rattle.der_opaque.specs.AnyForm.{accepts_any, parse_any, AnyFaultsFirst};
-ghost use Rattle.der_opaque.specs.AnyLaws.{led_any, parse_of_any, begins_any, same_length_any, encoding_eq_any};
+ghost use Rattle.der_opaque.specs.AnyForm.{accepts_any, parse_any};
+ghost use Rattle.der_opaque.specs.AnyLaws.{any_of_octets, begins_first_any, parse_of_any, begins_any, same_length_any, encoding_eq_any};
 ghost use Rattle.der_opaque.specs.AnyRef as borrowed;
 ghost use Rattle.der_tlv.specs.Views.{slice_reader_state};
-ghost use Rattle.der_elem.specs.ValueForms.{kept_form, owning};
+ghost use Rattle.der_elem.specs.FormatMakers.{format_with_tags, allocating};
 
 use crate::any_ref::AnyRef;
 use der_elem::{
-    Choice, Decode, DecodeField, DecodeValue, Duplicate, EncodeValue, EncodingEq, Form, FormValue,
-    KnownTags, Tagged, ValueOrd,
+    Choice, Decode, DecodeField, DecodeValue, Duplicate, DuplicateIsEqual, EncodeValue, EncodingEq,
+    Form, FormValue, KnownTags, Tagged, ValueOrd,
 };
 use der_tlv::{
     EncodingRules, Error, ErrorKind, Header, Length, Reader, SliceReader, Source, Tag, VecWriter,
@@ -219,7 +215,7 @@ impl Clone for Any {
 impl FormValue for Any {
     ghost use Rattle.der_opaque.specs.Any.{tag_of, contents_of};
 
-    ghost value = { owning (kept_form contents_of (λ v t. v.tag ≡ t) parse_octets (λ rules v p. refl)) };
+    ghost value = { allocating (format_with_tags contents_of (λ v t. v.tag ≡ t) parse_octets (λ rules v p. refl) (λ rules p c. tt)) };
 }
 
 impl Form for Any {
@@ -237,17 +233,21 @@ impl Form for Any {
 
     ghost tags = { λ t. true };
 
-    ghost lead = { λ v. Some v.tag };
+    ghost first_tag_of = { λ v. Some v.tag };
 
     ghost readable = { λ v. IsTag v.tag };
 
     ghost TAKES_MEMORY = { true };
 
+    ghost FAULTS_FIRST = { true };
+
     ghost parse_of_accepted = { parse_of_any tag_of contents_of };
+
+    ghost faults_of_octets = { any_of_octets };
 
     ghost begins = { begins_any tag_of contents_of };
 
-    ghost led = { led_any tag_of contents_of };
+    ghost begins_first = { begins_first_any tag_of contents_of };
 
     ghost same_length = { same_length_any tag_of contents_of };
 
@@ -276,7 +276,7 @@ impl Tagged for Any {
 
     ghost own_tag = { λ v. refl };
 
-    ghost lead_is = { λ v. refl };
+    ghost first_tag_is = { λ v. refl };
 
     ghost re_reads_alike = { λ v h. h };
 
@@ -290,7 +290,7 @@ impl Choice for Any {
         true
     }
 
-    ghost is_led = { λ v. record { tag = tag_of v; is_tag = refl } };
+    ghost has_first_tag = { λ v. record { tag = tag_of v; is_tag = refl } };
 }
 
 impl KnownTags for Any {
@@ -304,19 +304,13 @@ impl KnownTags for Any {
 }
 
 impl<'a, R: Source<'a>> DecodeValue<'a, R> for Any {
-    ghost VALUE_NEEDS_MEMORY = { true };
+    ghost TAKES_MEMORY = { true };
 
-    const VALUE_NEEDS_MEMORY: bool = true;
-
-    ghost use Rattle.der_opaque.specs.contracts.any.AnyFormValue.TheImpl.{ghosts as any};
+    const TAKES_MEMORY: bool = true;
 
     /// # Errors
     /// (17) on a failed reader; else (1) where memory runs out.
-    fn decode_value(alloc: Global, reader: &mut R, header: Header) -> Result<Any, Error>
-        ensures exact { length (rest (R.state reader.old)) ≡ header.length → DecodesValue any.value header (R.state reader.old) (R.state reader.new) result }
-        ensures reader { Stands (R.state reader.old) (R.state reader.new) result }
-        ensures faults_first { length (rest (R.state reader.old)) ≡ header.length → FaultsFirst parse_octets (R.state reader.old) result }
-    {
+    fn decode_value(alloc: Global, reader: &mut R, header: Header) -> Result<Any, Error> {
         match AnyRef::decode_value(alloc, reader, header) {
             Ok(any) => match Any::from_ref(alloc, any) {
                 Ok(any) => Ok(any),
@@ -326,23 +320,18 @@ impl<'a, R: Source<'a>> DecodeValue<'a, R> for Any {
         }
     }
 
-    ghost memory_of_value = { refl };
+    ghost takes_memory_is = { refl };
 }
 
 impl<'a, R: Source<'a>> Decode<'a, R> for Any {
-    ghost NEEDS_MEMORY = { true };
+    ghost TAKES_MEMORY = { true };
 
-    const NEEDS_MEMORY: bool = true;
-
-    ghost use Rattle.der_opaque.specs.contracts.any.AnyForm.TheImpl.{ghosts as any_form};
+    const TAKES_MEMORY: bool = true;
 
     /// # Errors
     /// (17) on a failed reader; the header's faults; contents longer than what is left (2), (9); else
     /// `ErrorKind::Memory` (1) where memory runs out.
-    fn decode(alloc: Global, reader: &mut R) -> Result<Any, Error>
-        ensures decoded { Decodes any_form (R.state reader.old) (R.state reader.new) result }
-        ensures faults_first { AnyFaultsFirst (R.state reader.old) result }
-    {
+    fn decode(alloc: Global, reader: &mut R) -> Result<Any, Error> {
         match AnyRef::decode(alloc, reader) {
             Ok(any) => match Any::from_ref(alloc, any) {
                 Ok(any) => Ok(any),
@@ -352,19 +341,19 @@ impl<'a, R: Source<'a>> Decode<'a, R> for Any {
         }
     }
 
-    ghost memory_of_form = { refl };
+    ghost takes_memory_is = { refl };
 }
 
 impl<'a, R: Source<'a>> DecodeField<'a, R> for Any {
-    ghost FIELD_NEEDS_MEMORY = { true };
+    ghost TAKES_MEMORY = { true };
 
-    const FIELD_NEEDS_MEMORY: bool = true;
+    const TAKES_MEMORY: bool = true;
 
     fn decode_field(alloc: Global, reader: &mut R) -> Result<Any, Error> {
         Any::decode(alloc, reader)
     }
 
-    ghost memory_of_field = { refl };
+    ghost takes_memory_is = { refl };
 }
 
 impl EncodeValue for Any {
@@ -399,9 +388,15 @@ impl Duplicate for Any {
 
     ghost copy_encoding = { λ v w e. Prim.cc };
 
-    ghost copy_form = { λ v w x e f. tt };
+    ghost copy_comparable = { λ v w x e f. tt };
 
     ghost copy_re_reads = { λ v w e. refl };
+}
+
+impl DuplicateIsEqual for Any {
+    ghost copy_is_equal = { λ v w e. (encoding_eq_any _ _ v.tag w.tag v.value.items w.value.items
+        (tag_eq-decides v.tag w.tag) (bytes_decides v.value.items w.value.items)).1
+        (ap (λ t. tlv t v.value.items) (sym e.0) ∙ ap (tlv w.tag) (sym e.1)) };
 }
 
 impl<'a> From<&'a Any> for AnyRef<'a> {

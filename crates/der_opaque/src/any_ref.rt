@@ -1,7 +1,7 @@
 //! Values with any tag, borrowed.
 
 ghost use Rattle.std.specs.Prelude.{◌≡◌, ◌≢◌, None, Some, ◌↔◌, ◌^◌, ◌<◌, [], length, true, false, refl, IsTrue, IfOk, IfErr};
-ghost use Rattle.std.proofs.Common.{Ok};
+ghost use Rattle.std.proofs.Common.{Ok, sym, ap, ◌∙◌};
 ghost use Rattle.std.specs.Cmp.Lexicographic.{bytes_decides};
 ghost use Rattle.der_tlv.specs.declared.error.ErrorKind.TheVariants as kinds;
 ghost use Rattle.der_tlv.specs.declared.tag.Tag.TheVariants as tags;
@@ -14,14 +14,14 @@ ghost use Rattle.der_elem.specs.Decoding.{Decodes, ReadsAll};
 ghost use Rattle.der_opaque.specs.DecodingAs.{DecodesAs};
 ghost use Rattle.der_opaque.specs.InSequence.{RefusesWith, CalledOn};
 ghost use Rattle.der_opaque.specs.AnyForm.{accepts_any, parse_any};
-ghost use Rattle.der_opaque.specs.AnyLaws.{led_any, parse_of_any, begins_any, same_length_any, encoding_eq_any};
+ghost use Rattle.der_opaque.specs.AnyLaws.{any_of_octets, begins_first_any, parse_of_any, begins_any, same_length_any, encoding_eq_any};
 ghost use Rattle.der_tlv.specs.Views.{slice_reader_state};
-ghost use Rattle.der_elem.specs.ValueForms.{kept_form};
+ghost use Rattle.der_elem.specs.FormatMakers.{format_with_tags};
 
 use crate::any::Any;
 use der_elem::{
-    Choice, Decode, DecodeField, DecodeValue, Duplicate, EncodeValue, EncodingEq, Form, FormValue,
-    KnownTags, Tagged, ValueOrd,
+    Choice, Decode, DecodeField, DecodeValue, Duplicate, DuplicateIsEqual, EncodeValue, EncodingEq,
+    Form, FormValue, KnownTags, Tagged, ValueOrd,
 };
 use der_tlv::{
     BytesRef, EncodingRules, Error, Header, Length, Reader, SliceReader, Source, Tag, Writer,
@@ -187,7 +187,7 @@ impl<'a> AnyRef<'a> {
 impl<'a> FormValue for AnyRef<'a> {
     ghost use Rattle.der_opaque.specs.AnyRef.{tag_of, contents_of};
 
-    ghost value = { kept_form contents_of (λ v t. v.tag ≡ t) parse_octets (λ rules v p. refl) };
+    ghost value = { format_with_tags contents_of (λ v t. v.tag ≡ t) parse_octets (λ rules v p. refl) (λ rules p c. tt) };
 }
 
 impl<'a> Form for AnyRef<'a> {
@@ -205,17 +205,21 @@ impl<'a> Form for AnyRef<'a> {
 
     ghost tags = { λ t. true };
 
-    ghost lead = { λ v. Some v.tag };
+    ghost first_tag_of = { λ v. Some v.tag };
 
     ghost readable = { λ v. IsTag v.tag };
 
     ghost TAKES_MEMORY = { false };
 
+    ghost FAULTS_FIRST = { true };
+
     ghost parse_of_accepted = { parse_of_any tag_of contents_of };
+
+    ghost faults_of_octets = { any_of_octets };
 
     ghost begins = { begins_any tag_of contents_of };
 
-    ghost led = { led_any tag_of contents_of };
+    ghost begins_first = { begins_first_any tag_of contents_of };
 
     ghost same_length = { same_length_any tag_of contents_of };
 
@@ -244,7 +248,7 @@ impl<'a> Tagged for AnyRef<'a> {
 
     ghost own_tag = { λ v. refl };
 
-    ghost lead_is = { λ v. refl };
+    ghost first_tag_is = { λ v. refl };
 
     ghost re_reads_alike = { λ v h. h };
 
@@ -261,7 +265,7 @@ impl<'a> Choice for AnyRef<'a> {
         true
     }
 
-    ghost is_led = { λ v. record { tag = tag_of v; is_tag = refl } };
+    ghost has_first_tag = { λ v. record { tag = tag_of v; is_tag = refl } };
 }
 
 impl<'a> KnownTags for AnyRef<'a> {
@@ -275,9 +279,9 @@ impl<'a> KnownTags for AnyRef<'a> {
 }
 
 impl<'a, R: Source<'a>> DecodeValue<'a, R> for AnyRef<'a> {
-    ghost VALUE_NEEDS_MEMORY = { false };
+    ghost TAKES_MEMORY = { false };
 
-    const VALUE_NEEDS_MEMORY: bool = false;
+    const TAKES_MEMORY: bool = false;
 
     fn decode_value(_alloc: Global, reader: &mut R, header: Header) -> Result<AnyRef<'a>, Error> {
         let _number = header.tag.number();
@@ -288,32 +292,32 @@ impl<'a, R: Source<'a>> DecodeValue<'a, R> for AnyRef<'a> {
         })
     }
 
-    ghost memory_of_value = { refl };
+    ghost takes_memory_is = { refl };
 }
 
 impl<'a, R: Source<'a>> Decode<'a, R> for AnyRef<'a> {
-    ghost NEEDS_MEMORY = { false };
+    ghost TAKES_MEMORY = { false };
 
-    const NEEDS_MEMORY: bool = false;
+    const TAKES_MEMORY: bool = false;
 
     #[inline(always)]
     fn decode(_alloc: Global, reader: &mut R) -> Result<AnyRef<'a>, Error> {
         AnyRef::read(reader)
     }
 
-    ghost memory_of_form = { refl };
+    ghost takes_memory_is = { refl };
 }
 
 impl<'a, R: Source<'a>> DecodeField<'a, R> for AnyRef<'a> {
-    ghost FIELD_NEEDS_MEMORY = { false };
+    ghost TAKES_MEMORY = { false };
 
-    const FIELD_NEEDS_MEMORY: bool = false;
+    const TAKES_MEMORY: bool = false;
 
     fn decode_field(_alloc: Global, reader: &mut R) -> Result<AnyRef<'a>, Error> {
         AnyRef::read(reader)
     }
 
-    ghost memory_of_field = { refl };
+    ghost takes_memory_is = { refl };
 }
 
 impl<'a> EncodeValue for AnyRef<'a> {
@@ -348,9 +352,15 @@ impl<'a> Duplicate for AnyRef<'a> {
 
     ghost copy_encoding = { λ v w e. Prim.cc };
 
-    ghost copy_form = { λ v w x e f. tt };
+    ghost copy_comparable = { λ v w x e f. tt };
 
     ghost copy_re_reads = { λ v w e. refl };
+}
+
+impl<'a> DuplicateIsEqual for AnyRef<'a> {
+    ghost copy_is_equal = { λ v w e. (encoding_eq_any _ _ v.tag w.tag v.value.now w.value.now
+        (tag_eq-decides v.tag w.tag) (bytes_decides v.value.now w.value.now)).1
+        (ap (λ t. tlv t v.value.now) (sym e.0) ∙ ap (tlv w.tag) (sym e.1)) };
 }
 
 impl<'a> From<AnyRef<'a>> for BytesRef<'a> {

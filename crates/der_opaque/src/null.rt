@@ -4,8 +4,8 @@
 
 ghost use Rattle.std.specs.Prelude.{◌≡◌, [], length, refl, false};
 ghost use Rattle.der_tlv.specs.declared.tag.Tag.TheVariants as tags;
-ghost use Rattle.der_elem.specs.Null.{parse_null};
-ghost use Rattle.der_elem.specs.ValueForms.{own_form};
+ghost use Rattle.der_elem.specs.Null.{parse_null, null_of_octets};
+ghost use Rattle.der_elem.specs.FormatMakers.{format_of_contents};
 ghost use Rattle.der_opaque.specs.Any as owned;
 ghost use Rattle.der_opaque.specs.AnyRef.{tag_of, contents_of};
 ghost use Rattle.der_opaque.specs.BuiltinTypes.{DecodesNull};
@@ -27,7 +27,7 @@ use std::alloc::Global;
 pub struct Null;
 
 impl FormValue for Null {
-    ghost value = { own_form (λ v. []) parse_null (λ rules v p. refl) };
+    ghost value = { format_of_contents (λ v. []) parse_null (λ rules v p. refl) null_of_octets };
 }
 
 impl OneTag for Null {
@@ -35,9 +35,9 @@ impl OneTag for Null {
 }
 
 impl<'a, R: Source<'a>> DecodeValue<'a, R> for Null {
-    ghost VALUE_NEEDS_MEMORY = { false };
+    ghost TAKES_MEMORY = { false };
 
-    const VALUE_NEEDS_MEMORY: bool = false;
+    const TAKES_MEMORY: bool = false;
 
     fn decode_value(_alloc: Global, reader: &mut R, header: Header) -> Result<Null, Error> {
         match reader.read_slice(header.length)? {
@@ -46,7 +46,7 @@ impl<'a, R: Source<'a>> DecodeValue<'a, R> for Null {
         }
     }
 
-    ghost memory_of_value = { refl };
+    ghost takes_memory_is = { refl };
 }
 
 impl EncodeValue for Null {

@@ -10,8 +10,8 @@ ghost use Rattle.std.specs.Hash as fed;
 ghost use Rattle.der_tlv.specs.declared.error.ErrorKind.TheVariants as kinds;
 ghost use Rattle.der_tlv.specs.declared.tag.Tag.TheVariants as tags;
 ghost use Rattle.der_tlv.specs.Octets.{lex};
-ghost use Rattle.der_elem.specs.ValueForms.{own_form};
-ghost use Rattle.der_opaque.specs.ObjectIdentifierOctets.{parse_identifier, parse_identifier-kept};
+ghost use Rattle.der_elem.specs.FormatMakers.{format_of_contents};
+ghost use Rattle.der_opaque.specs.ObjectIdentifierOctets.{parse_identifier, parse_identifier-kept, identifier_of_octets};
 ghost use Rattle.der_opaque.specs.AnyRef.{tag_of, contents_of};
 
 use crate::any_ref::AnyRef;
@@ -80,7 +80,7 @@ impl<const MAX_SIZE: usize> ObjectIdentifier<MAX_SIZE> {
 impl<const MAX_SIZE: usize> FormValue for ObjectIdentifier<MAX_SIZE> {
     ghost use Rattle.der_opaque.specs.ObjectIdentifier.{octets_of};
 
-    ghost value = { own_form octets_of (parse_identifier MAX_SIZE) (λ rules v p. parse_identifier-kept MAX_SIZE v.count v.octets (take v.count v.octets) rules p v.some v.fits v.full refl) };
+    ghost value = { format_of_contents octets_of (parse_identifier MAX_SIZE) (λ rules v p. parse_identifier-kept MAX_SIZE v.count v.octets (take v.count v.octets) rules p v.some v.fits v.full refl) (identifier_of_octets MAX_SIZE) };
 }
 
 impl<const MAX_SIZE: usize> OneTag for ObjectIdentifier<MAX_SIZE> {
@@ -88,9 +88,9 @@ impl<const MAX_SIZE: usize> OneTag for ObjectIdentifier<MAX_SIZE> {
 }
 
 impl<'a, R: Source<'a>, const MAX_SIZE: usize> DecodeValue<'a, R> for ObjectIdentifier<MAX_SIZE> {
-    ghost VALUE_NEEDS_MEMORY = { false };
+    ghost TAKES_MEMORY = { false };
 
-    const VALUE_NEEDS_MEMORY: bool = false;
+    const TAKES_MEMORY: bool = false;
 
     fn decode_value(
         _alloc: Global,
@@ -104,7 +104,7 @@ impl<'a, R: Source<'a>, const MAX_SIZE: usize> DecodeValue<'a, R> for ObjectIden
         }
     }
 
-    ghost memory_of_value = { refl };
+    ghost takes_memory_is = { refl };
 }
 
 impl<const MAX_SIZE: usize> EncodeValue for ObjectIdentifier<MAX_SIZE> {

@@ -3,22 +3,18 @@
 //! The tag is 04, and the contents octets are the octets of the string.
 
 ghost use Rattle.std.specs.Prelude.{◌≡◌, ◌↔◌, ◌^◌, ◌<◌, [], length, true, refl, IsTrue};
-ghost use Rattle.std.proofs.Common.{Ok};
+ghost use Rattle.std.proofs.Common.{Ok, sym};
 ghost use Rattle.std.specs.Cmp.Lexicographic.{bytes_decides};
 ghost use Rattle.der_tlv.specs.declared.error.ErrorKind.TheVariants as kinds;
 ghost use Rattle.der_tlv.specs.declared.tag.Tag.TheVariants as tags;
-ghost use Rattle.der_tlv.specs.ReaderState.{rest};
-ghost use Rattle.der_tlv.specs.Reading.{Stands};
-ghost use Rattle.der_elem.specs.Decoding.{DecodesValue};
-ghost use Rattle.der_elem.specs.RunningOut.{FaultsFirst};
-ghost use Rattle.der_elem.specs.ValueForms.{owned_form};
+ghost use Rattle.der_elem.specs.FormatMakers.{allocating_format};
 ghost use Rattle.der_opaque.specs.Opaque.{parse_octets, KeepsOctets};
 ghost use Rattle.der_opaque.specs.OctetStringRef as borrowed;
 
 use crate::octet_string_ref::OctetStringRef;
 use der_elem::{
-    ContentsEq, DecodeValue, DuplicateValue, EncodeValue, FormValue, OctetStringTag, OneTag,
-    OrdIsValueOrd,
+    ContentsEq, DecodeValue, DuplicateValue, DuplicateValueIsEqual, EncodeValue, FormValue,
+    OctetStringTag, OneTag, OrdIsValueOrd,
 };
 use der_tlv::{Error, Header, Length, Reader, Source, Tag, Writer};
 use std::alloc::{AllocError, Global};
@@ -100,7 +96,7 @@ impl Clone for OctetString {
 impl FormValue for OctetString {
     ghost use Rattle.der_opaque.specs.OctetString.{octets_of};
 
-    ghost value = { owned_form octets_of parse_octets (λ rules v p. refl) };
+    ghost value = { allocating_format octets_of parse_octets (λ rules v p. refl) (λ rules p c. tt) };
 }
 
 impl OneTag for OctetString {
@@ -108,19 +104,13 @@ impl OneTag for OctetString {
 }
 
 impl<'a, R: Source<'a>> DecodeValue<'a, R> for OctetString {
-    ghost VALUE_NEEDS_MEMORY = { true };
+    ghost TAKES_MEMORY = { true };
 
-    const VALUE_NEEDS_MEMORY: bool = true;
-
-    ghost use Rattle.der_opaque.specs.contracts.octet_string.OctetStringFormValue.TheImpl.{ghosts as octet_string};
+    const TAKES_MEMORY: bool = true;
 
     /// # Errors
     /// (17) on a failed reader; else (1) where memory runs out.
-    fn decode_value(alloc: Global, reader: &mut R, header: Header) -> Result<OctetString, Error>
-        ensures exact { length (rest (R.state reader.old)) ≡ header.length → DecodesValue octet_string.value header (R.state reader.old) (R.state reader.new) result }
-        ensures reader { Stands (R.state reader.old) (R.state reader.new) result }
-        ensures faults_first { length (rest (R.state reader.old)) ≡ header.length → FaultsFirst parse_octets (R.state reader.old) result }
-    {
+    fn decode_value(alloc: Global, reader: &mut R, header: Header) -> Result<OctetString, Error> {
         match OctetStringRef::decode_value(alloc, reader, header) {
             Ok(string) => match string.ref_to_owned(alloc) {
                 Ok(string) => Ok(string),
@@ -130,7 +120,7 @@ impl<'a, R: Source<'a>> DecodeValue<'a, R> for OctetString {
         }
     }
 
-    ghost memory_of_value = { refl };
+    ghost takes_memory_is = { refl };
 }
 
 impl EncodeValue for OctetString {
@@ -162,9 +152,13 @@ impl DuplicateValue for OctetString {
 
     ghost copy_contents = { λ v w e. e };
 
-    ghost copy_form_value = { λ v w x e f. tt };
+    ghost copy_comparable_value = { λ v w x e f. tt };
 
     ghost copy_re_reads_value = { λ v w e. refl };
+}
+
+impl DuplicateValueIsEqual for OctetString {
+    ghost copy_value_is_equal = { λ v w e. (bytes_decides v.octets.items w.octets.items).1 (sym e) };
 }
 
 impl<'a> From<&'a OctetString> for OctetStringRef<'a> {

@@ -8,7 +8,7 @@ ghost use Rattle.der_tlv.specs.declared.error.ErrorKind.TheVariants as kinds;
 ghost use Rattle.der_tlv.specs.declared.tag.Tag.TheVariants as tags;
 ghost use Rattle.std.specs.Cmp.Lexicographic.{bytes_decides};
 ghost use Rattle.der_elem.specs.Decoding.{ReadsAll};
-ghost use Rattle.der_elem.specs.ValueForms.{own_form};
+ghost use Rattle.der_elem.specs.FormatMakers.{format_of_contents};
 ghost use Rattle.der_opaque.specs.Opaque.{parse_octets, KeepsOctets};
 ghost use Rattle.der_opaque.specs.Any as owned_any;
 ghost use Rattle.der_opaque.specs.AnyRef.{tag_of, contents_of};
@@ -108,7 +108,7 @@ impl<'a> OctetStringRef<'a> {
 impl<'a> FormValue for OctetStringRef<'a> {
     ghost use Rattle.der_opaque.specs.OctetStringRef.{octets_of};
 
-    ghost value = { own_form octets_of parse_octets (λ rules v p. refl) };
+    ghost value = { format_of_contents octets_of parse_octets (λ rules v p. refl) (λ rules p c. tt) };
 }
 
 impl<'a> OneTag for OctetStringRef<'a> {
@@ -116,9 +116,9 @@ impl<'a> OneTag for OctetStringRef<'a> {
 }
 
 impl<'a, R: Source<'a>> DecodeValue<'a, R> for OctetStringRef<'a> {
-    ghost VALUE_NEEDS_MEMORY = { false };
+    ghost TAKES_MEMORY = { false };
 
-    const VALUE_NEEDS_MEMORY: bool = false;
+    const TAKES_MEMORY: bool = false;
 
     fn decode_value(
         _alloc: Global,
@@ -129,7 +129,7 @@ impl<'a, R: Source<'a>> DecodeValue<'a, R> for OctetStringRef<'a> {
         Ok(OctetStringRef { octets })
     }
 
-    ghost memory_of_value = { refl };
+    ghost takes_memory_is = { refl };
 }
 
 impl<'a> EncodeValue for OctetStringRef<'a> {

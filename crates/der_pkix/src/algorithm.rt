@@ -1,14 +1,14 @@
 //! Algorithms, and public keys with theirs (RFC 5280 sections 4.1.1.2 and 4.1.2.7).
 
-ghost use Rattle.der_elem.specs.Decoding.{ReadsAll};
-ghost use Rattle.der_fields.specs.SequenceWriting.{WritesAll};
+ghost use Rattle.der_asn1_types.specs.Decoding.{ReadsAll};
+ghost use Rattle.der_asn1_types.specs.SequenceWriting.{WritesAll};
 ghost use Rattle.der_pkix.specs.Grammars.{algorithm_identifier, subject_public_key_info};
 
 use crate::algorithm_identifier::AlgorithmIdentifier;
-use der_bits::BitStringRef;
-use der_elem::{Encode, FromDer};
-use der_fields::{End, Field, FieldSequence, read_sequence, write_sequence};
-use der_tlv::Error;
+use der_asn1_types::asn1::BitStringRef;
+use der_asn1_types::{
+    Encode, End, Error, Field, FieldSequence, FromDer, read_sequence, write_sequence,
+};
 use std::alloc::Global;
 
 /// ```text

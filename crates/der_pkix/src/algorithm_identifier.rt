@@ -5,21 +5,20 @@
 //! (`ErrorKind::TrailingData`, 3).
 
 ghost use Rattle.std.proofs.Common.{◌≡◌, refl, lit<, false};
-ghost use Rattle.der_elem.specs.OptionLaws.{encoding_eq_option};
-ghost use Rattle.der_elem.specs.TaggedLaws.{encoding_eq_tagged};
-ghost use Rattle.der_elem.specs.ValueForms.{held_form};
-ghost use Rattle.der_fields.specs.Listing.{field, end};
-ghost use Rattle.der_fields.specs.TellingLaws.{eq_both, eq_last, tlv_apart};
-ghost use Rattle.der_opaque.specs.contracts.any_ref.AnyRefEncodingEq.TheImpl.Laws as any;
-ghost use Rattle.der_opaque.specs.contracts.object_identifier.ObjectIdentifierContentsEq.TheImpl.Laws as identifier;
+ghost use Rattle.der_asn1_types.specs.OptionLaws.{encoding_eq_option};
+ghost use Rattle.der_asn1_types.specs.TaggedLaws.{encoding_eq_tagged};
+ghost use Rattle.der_asn1_types.specs.FormatMakers.{mapped_format};
+ghost use Rattle.der_asn1_types.specs.Listing.{field, end};
+ghost use Rattle.der_asn1_types.specs.DistinguishingLaws.{eq_both, eq_last, tlv_distinguished};
+ghost use Rattle.der_asn1_types.specs.AnyRefEncodingEqLaws as any;
+ghost use Rattle.der_asn1_types.specs.ObjectIdentifierContentsEqLaws as identifier;
 
-use der_elem::{
-    ContentsEq, CopyIsDuplicate, DecodeValue, EncodeValue, FormValue, OneTag, Sequence,
-    SequenceTag, ValueOrd,
+use der_asn1_types::asn1::{AnyRef, ObjectIdentifier};
+use der_asn1_types::{
+    ContentsEq, CopyIsDuplicate, DecodeValue, EncodeValue, End, Error, Field, FieldList,
+    FieldSequence, FormValue, Header, Length, OneTag, Sequence, SequenceTag, Source, ValueOrd,
+    Writer,
 };
-use der_fields::{End, Field, FieldList, FieldSequence};
-use der_opaque::{AnyRef, ObjectIdentifier};
-use der_tlv::{Error, Header, Length, Source, Writer};
 use std::alloc::Global;
 use std::cmp::Ordering;
 
@@ -48,7 +47,7 @@ impl<'a> AlgorithmIdentifier<'a> {
 }
 
 impl<'a> FormValue for AlgorithmIdentifier<'a> {
-    ghost value = { held_form (λ v. field v.oid (field v.parameters end)) ⟦<FieldsOf<'a> as FieldList>⟧.list.octets };
+    ghost value = { mapped_format (λ v. field v.oid (field v.parameters end)) ⟦<FieldsOf<'a> as FieldList>⟧.list.octets };
 }
 
 impl<'a> OneTag for AlgorithmIdentifier<'a> {
@@ -60,9 +59,9 @@ impl<'a> Sequence<'a> for AlgorithmIdentifier<'a> {
 }
 
 impl<'a, R: Source<'a>> DecodeValue<'a, R> for AlgorithmIdentifier<'a> {
-    ghost VALUE_NEEDS_MEMORY = { false };
+    ghost TAKES_MEMORY = { false };
 
-    const VALUE_NEEDS_MEMORY: bool = false;
+    const TAKES_MEMORY: bool = false;
 
     fn decode_value(alloc: Global, reader: &mut R, header: Header) -> Result<Self, Error> {
         let fields = match Fields::<'a>::decode_value(alloc, reader, header) {
@@ -73,7 +72,7 @@ impl<'a, R: Source<'a>> DecodeValue<'a, R> for AlgorithmIdentifier<'a> {
         Ok(AlgorithmIdentifier { oid, parameters })
     }
 
-    ghost memory_of_value = { refl };
+    ghost takes_memory_is = { refl };
 }
 
 impl<'a> EncodeValue for AlgorithmIdentifier<'a> {
@@ -96,7 +95,7 @@ impl<'a> ContentsEq for AlgorithmIdentifier<'a> {
     ghost contents_eq = { λ v w one.
         let oid = encoding_eq_tagged _ _ _ _ (identifier.contents_eq-law 39 (record { fits = lit< tt })) v.oid w.oid one.0 in
         let parameters = encoding_eq_option _ _ _ (λ _. refl) _ _ any.encoding_eq-law v.parameters w.parameters one.1.0 in
-        eq_both _ _ _ _ _ _ oid (eq_last _ _ _ parameters) (tlv_apart _ _ _ _ _ _) };
+        eq_both _ _ _ _ _ _ oid (eq_last _ _ _ parameters) (tlv_distinguished _ _ _ _ _ _) };
 }
 
 impl<'a> CopyIsDuplicate for AlgorithmIdentifier<'a> {}

@@ -1,11 +1,11 @@
 //! The primes of a private key of RSA, and what is computed of them.
 
 ghost use Rattle.std.specs.Prelude.{refl, false};
-ghost use Rattle.der_fields.specs.FieldForms.{part_of};
+ghost use Rattle.der_asn1_types.specs.ListMakers.{part_of};
 
-use der_fields::{DecodeFields, EncodeFields, End, Field, FieldList};
-use der_numbers::UintRef;
-use der_tlv::{Error, Length, Source, Writer};
+use der_asn1_types::asn1::UintRef;
+use der_asn1_types::fields::{DecodeFields, EncodeFields};
+use der_asn1_types::{End, Error, Field, FieldList, Length, Source, Writer};
 use std::alloc::Global;
 
 /// The list of the two primes, the two exponents and the coefficient.
@@ -26,9 +26,9 @@ impl<'a> FieldList for Crt<'a> {
 }
 
 impl<'a, R: Source<'a>> DecodeFields<'a, R> for Crt<'a> {
-    ghost FIELDS_NEED_MEMORY = { false };
+    ghost TAKES_MEMORY = { false };
 
-    const FIELDS_NEED_MEMORY: bool = false;
+    const TAKES_MEMORY: bool = false;
 
     fn decode_fields(alloc: Global, reader: &mut R) -> Result<Crt<'a>, Error> {
         match CrtFields::<'a>::decode_fields(alloc, reader) {
@@ -37,7 +37,7 @@ impl<'a, R: Source<'a>> DecodeFields<'a, R> for Crt<'a> {
         }
     }
 
-    ghost memory_of_fields = { refl };
+    ghost takes_memory_is = { refl };
 }
 
 impl<'a> EncodeFields for Crt<'a> {

@@ -4,24 +4,23 @@
 ghost use Rattle.std.proofs.Common.{◌≡◌, refl, lit<, false};
 ghost use Rattle.std.specs.Bool.{beq};
 ghost use Rattle.std.specs.Cmp.{booleans_Decides};
-ghost use Rattle.der_tlv.specs.declared.tag.Tag.TheVariants as tags;
-ghost use Rattle.der_elem.specs.Boolean.{boolean_contents, boolean_contents-injective};
-ghost use Rattle.der_elem.specs.OwnContentsLaws.{contents_eq_own};
-ghost use Rattle.der_elem.specs.TaggedLaws.{encoding_eq_tagged};
-ghost use Rattle.der_elem.specs.ValueForms.{held_form};
-ghost use Rattle.der_fields.specs.DefaultLaws.{encoding_eq_default};
-ghost use Rattle.der_fields.specs.Listing.{field, end, with_default};
-ghost use Rattle.der_fields.specs.TellingLaws.{eq_both, eq_last, tlv_apart, unless_apart};
-ghost use Rattle.der_opaque.specs.contracts.object_identifier.ObjectIdentifierContentsEq.TheImpl.Laws as identifier;
-ghost use Rattle.der_opaque.specs.contracts.octet_string_ref.OctetStringRefContentsEq.TheImpl.Laws as octets;
+ghost use Rattle.der_asn1_types.specs.Tag.TheVariants as tags;
+ghost use Rattle.der_asn1_types.specs.Boolean.{boolean_contents, boolean_contents-injective};
+ghost use Rattle.der_asn1_types.specs.OwnContentsLaws.{contents_eq_own};
+ghost use Rattle.der_asn1_types.specs.TaggedLaws.{encoding_eq_tagged};
+ghost use Rattle.der_asn1_types.specs.FormatMakers.{mapped_format};
+ghost use Rattle.der_asn1_types.specs.DefaultLaws.{encoding_eq_default};
+ghost use Rattle.der_asn1_types.specs.Listing.{field, end, with_default};
+ghost use Rattle.der_asn1_types.specs.DistinguishingLaws.{eq_both, eq_last, tlv_distinguished, unless_distinguished};
+ghost use Rattle.der_asn1_types.specs.ObjectIdentifierContentsEqLaws as identifier;
+ghost use Rattle.der_asn1_types.specs.OctetStringRefContentsEqLaws as octets;
 
-use der_elem::{
-    ContentsEq, CopyIsDuplicate, DecodeValue, EncodeValue, FormValue, OneTag, Sequence,
-    SequenceTag, ValueOrd,
+use der_asn1_types::asn1::{ObjectIdentifier, OctetStringRef};
+use der_asn1_types::{
+    ContentsEq, CopyIsDuplicate, DecodeValue, DefaultFalse, EncodeValue, End, Error, Field,
+    FieldList, FieldSequence, FormValue, Header, Length, OneTag, Sequence, SequenceTag, Source,
+    ValueOrd, WithDefault, Writer,
 };
-use der_fields::{DefaultFalse, End, Field, FieldList, FieldSequence, WithDefault};
-use der_opaque::{ObjectIdentifier, OctetStringRef};
-use der_tlv::{Error, Header, Length, Source, Writer};
 use std::alloc::Global;
 use std::cmp::Ordering;
 
@@ -61,7 +60,7 @@ impl<'a> Extension<'a> {
 }
 
 impl<'a> FormValue for Extension<'a> {
-    ghost value = { held_form (λ v. field v.extn_id (field (with_default v.critical) (field v.extn_value end)))
+    ghost value = { mapped_format (λ v. field v.extn_id (field (with_default v.critical) (field v.extn_value end)))
         ⟦<FieldsOf<'a> as FieldList>⟧.list.octets };
 }
 
@@ -74,9 +73,9 @@ impl<'a> Sequence<'a> for Extension<'a> {
 }
 
 impl<'a, R: Source<'a>> DecodeValue<'a, R> for Extension<'a> {
-    ghost VALUE_NEEDS_MEMORY = { false };
+    ghost TAKES_MEMORY = { false };
 
-    const VALUE_NEEDS_MEMORY: bool = false;
+    const TAKES_MEMORY: bool = false;
 
     fn decode_value(alloc: Global, reader: &mut R, header: Header) -> Result<Self, Error> {
         let fields = match Fields::<'a>::decode_value(alloc, reader, header) {
@@ -92,7 +91,7 @@ impl<'a, R: Source<'a>> DecodeValue<'a, R> for Extension<'a> {
         })
     }
 
-    ghost memory_of_value = { refl };
+    ghost takes_memory_is = { refl };
 }
 
 impl<'a> EncodeValue for Extension<'a> {
@@ -117,8 +116,8 @@ impl<'a> ContentsEq for Extension<'a> {
         let boolean = contents_eq_own boolean_contents beq booleans_Decides boolean_contents-injective in
         let critical = encoding_eq_default _ _ _ (λ _. refl) _ _ (encoding_eq_tagged _ _ _ _ boolean) _ v.critical w.critical one.1.0 in
         let value = encoding_eq_tagged _ _ _ _ octets.contents_eq-law v.extn_value w.extn_value one.1.1.0 in
-        let rest = eq_both _ _ _ _ _ _ critical (eq_last _ _ _ value) (unless_apart _ _ tags.Boolean tags.OctetString _ _ _ _ _ _ (λ e. cc)) in
-        eq_both _ _ _ _ _ _ id rest (tlv_apart _ _ _ _ _ _) };
+        let rest = eq_both _ _ _ _ _ _ critical (eq_last _ _ _ value) (unless_distinguished _ _ tags.Boolean tags.OctetString _ _ _ _ _ _ (λ e. cc)) in
+        eq_both _ _ _ _ _ _ id rest (tlv_distinguished _ _ _ _ _ _) };
 }
 
 impl<'a> CopyIsDuplicate for Extension<'a> {}

@@ -1,12 +1,11 @@
 //! Extensions of certificates (RFC 5280 section 4.2).
 
-ghost use Rattle.der_elem.specs.Decoding.{ReadsAll};
-ghost use Rattle.der_fields.specs.SequenceWriting.{WritesAll};
+ghost use Rattle.der_asn1_types.specs.Decoding.{ReadsAll};
+ghost use Rattle.der_asn1_types.specs.SequenceWriting.{WritesAll};
 ghost use Rattle.der_pkix.specs.Grammars.{extension, extensions};
 
 use crate::extension::Extension;
-use der_elem::{Encode, FromDer};
-use der_tlv::Error;
+use der_asn1_types::{Encode, Error, FromDer};
 use std::alloc::Global;
 
 /// ```text

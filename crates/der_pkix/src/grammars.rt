@@ -1,6 +1,6 @@
 //! The grammars of the messages, by the names that clauses cite (`specs/Grammars.antt`).
 
-ghost use Rattle.der_elem.specs.declared.form.Form as form;
+ghost use Rattle.der_asn1_types.specs.Form as form;
 
 use crate::algorithm::SubjectPublicKeyInfo;
 use crate::algorithm_identifier::AlgorithmIdentifier;
@@ -12,7 +12,7 @@ use crate::name::{Name, RelativeDistinguishedName};
 use crate::rsa::RsaPrivateKey;
 use crate::time::Time;
 use crate::validity::Validity;
-use der_elem::Form;
+use der_asn1_types::Form;
 
 /// A message: a type whose grammar has a name.
 pub trait Message: Sized {

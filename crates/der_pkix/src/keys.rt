@@ -1,15 +1,12 @@
 //! Private keys (RFC 5208, RFC 5915) and the public keys of RSA (RFC 8017).
 
-ghost use Rattle.der_elem.specs.Decoding.{ReadsAll};
-ghost use Rattle.der_fields.specs.SequenceWriting.{WritesAll};
+ghost use Rattle.der_asn1_types.specs.Decoding.{ReadsAll};
+ghost use Rattle.der_asn1_types.specs.SequenceWriting.{WritesAll};
 ghost use Rattle.der_pkix.specs.Grammars.{private_key_info, rsa_public_key, ec_private_key};
 
 use crate::algorithm_identifier::AlgorithmIdentifier;
-use der_bits::BitStringRef;
-use der_fields::{End, Explicit, Field, FieldSequence, read_sequence, write_sequence};
-use der_numbers::UintRef;
-use der_opaque::{ObjectIdentifier, OctetStringRef};
-use der_tlv::Error;
+use der_asn1_types::asn1::{BitStringRef, ObjectIdentifier, OctetStringRef, UintRef};
+use der_asn1_types::{End, Error, Explicit, Field, FieldSequence, read_sequence, write_sequence};
 use std::alloc::Global;
 
 /// With no attributes:

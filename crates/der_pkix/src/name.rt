@@ -1,13 +1,12 @@
 //! Names (RFC 5280 section 4.1.2.4).
 
-ghost use Rattle.der_elem.specs.Decoding.{ReadsAll};
-ghost use Rattle.der_fields.specs.SequenceWriting.{WritesAll};
+ghost use Rattle.der_asn1_types.specs.Decoding.{ReadsAll};
+ghost use Rattle.der_asn1_types.specs.SequenceWriting.{WritesAll};
 ghost use Rattle.der_pkix.specs.Grammars.{attribute_type_and_value, relative_distinguished_name, name};
 
 use crate::attribute::AttributeTypeAndValue;
-use der_elem::{Encode, FromDer};
-use der_nest::SetOfVec;
-use der_tlv::Error;
+use der_asn1_types::asn1::SetOfVec;
+use der_asn1_types::{Encode, Error, FromDer};
 use std::alloc::Global;
 
 /// ```text

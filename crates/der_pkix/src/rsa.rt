@@ -1,13 +1,12 @@
 //! The private keys of RSA (RFC 8017 appendix A.1.2).
 
-ghost use Rattle.der_elem.specs.Decoding.{ReadsAll};
-ghost use Rattle.der_fields.specs.SequenceWriting.{WritesAll};
+ghost use Rattle.der_asn1_types.specs.Decoding.{ReadsAll};
+ghost use Rattle.der_asn1_types.specs.SequenceWriting.{WritesAll};
 ghost use Rattle.der_pkix.specs.Grammars.{rsa_private_key};
 
 use crate::crt::Crt;
-use der_fields::{Field, FieldSequence, read_sequence, write_sequence};
-use der_numbers::UintRef;
-use der_tlv::Error;
+use der_asn1_types::asn1::UintRef;
+use der_asn1_types::{Error, Field, FieldSequence, read_sequence, write_sequence};
 use std::alloc::Global;
 
 /// Of two primes, and so with no others; the numbers for the Chinese remainder theorem, from the

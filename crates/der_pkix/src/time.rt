@@ -1,15 +1,13 @@
 //! Times, and reading and writing of the time in which a certificate is valid (RFC 5280 section
 //! 4.1.2.5).
 
-ghost use Rattle.der_elem.specs.Decoding.{ReadsAll};
-ghost use Rattle.der_fields.specs.SequenceWriting.{WritesAll};
+ghost use Rattle.der_asn1_types.specs.Decoding.{ReadsAll};
+ghost use Rattle.der_asn1_types.specs.SequenceWriting.{WritesAll};
 ghost use Rattle.der_pkix.specs.Grammars.{time, validity};
 
 use crate::validity::Validity;
-use der_elem::{Encode, FromDer};
-use der_fields::{OneOf, read_named_sequence, write_named_sequence};
-use der_time::{GeneralizedTime, UtcTime};
-use der_tlv::Error;
+use der_asn1_types::asn1::{GeneralizedTime, UtcTime};
+use der_asn1_types::{Encode, Error, FromDer, OneOf, read_named_sequence, write_named_sequence};
 use std::alloc::Global;
 
 /// ```text

@@ -1,10 +1,10 @@
 //! The time in which a certificate is valid (RFC 5280 section 4.1.2.5).
 
 ghost use Rattle.std.specs.Prelude.{◌≡◌};
-ghost use Rattle.der_fields.specs.Listing.{field, end};
+ghost use Rattle.der_asn1_types.specs.Listing.{field, end};
 
 use crate::time::Time;
-use der_fields::{End, Field, NamedFields, NamedSequence, from_list, to_list};
+use der_asn1_types::{End, Field, NamedFields, NamedSequence, from_list, to_list};
 
 /// The fields of a `Validity`.
 #[derive(Clone, Copy, Debug)]

@@ -1,15 +1,13 @@
 //! Lists of revoked certificates (RFC 5280 section 5.1).
 
-ghost use Rattle.der_elem.specs.Decoding.{ReadsAll};
-ghost use Rattle.der_fields.specs.SequenceWriting.{WritesAll};
+ghost use Rattle.der_asn1_types.specs.Decoding.{ReadsAll};
+ghost use Rattle.der_asn1_types.specs.SequenceWriting.{WritesAll};
 ghost use Rattle.der_revocation.specs.Grammars.{tbs_cert_list, certificate_list};
 
 use crate::revoked_certificate::RevokedCertificate;
-use der_bits::BitStringRef;
-use der_fields::{End, Explicit, Field, FieldSequence, read_sequence, write_sequence};
-use der_opaque::AnyRef;
+use der_asn1_types::asn1::{AnyRef, BitStringRef};
+use der_asn1_types::{End, Error, Explicit, Field, FieldSequence, read_sequence, write_sequence};
 use der_pkix::{AlgorithmIdentifier, Extensions, Time};
-use der_tlv::Error;
 use std::alloc::Global;
 
 /// What is signed of a list of revoked certificates. The issuer's name is kept as it is encoded.

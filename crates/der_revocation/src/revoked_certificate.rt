@@ -1,14 +1,12 @@
 //! An entry of a list of revoked certificates (RFC 5280 section 5.1.2.6).
 
-ghost use Rattle.der_elem.specs.Decoding.{ReadsAll};
-ghost use Rattle.der_fields.specs.SequenceWriting.{WritesAll};
+ghost use Rattle.der_asn1_types.specs.Decoding.{ReadsAll};
+ghost use Rattle.der_asn1_types.specs.SequenceWriting.{WritesAll};
 ghost use Rattle.der_revocation.specs.Grammars.{revoked_certificate};
 
-use der_fields::{End, Field, FieldSequence, read_sequence, write_sequence};
-use der_numbers::IntRef;
-use der_opaque::AnyRef;
+use der_asn1_types::asn1::{AnyRef, IntRef};
+use der_asn1_types::{End, Error, Field, FieldSequence, read_sequence, write_sequence};
 use der_pkix::Time;
-use der_tlv::Error;
 use std::alloc::Global;
 
 /// A certificate that is revoked, by its serial number, since when, and what more is told of that,

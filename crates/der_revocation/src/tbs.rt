@@ -4,8 +4,8 @@ ghost use Rattle.std.specs.Prelude.{◌≡◌};
 
 use crate::certificate_list::TbsCertList;
 use crate::revoked_certificate::RevokedCertificate;
-use der_fields::Explicit;
-use der_opaque::AnyRef;
+use der_asn1_types::Explicit;
+use der_asn1_types::asn1::AnyRef;
 use der_pkix::{AlgorithmIdentifier, Extensions, Time};
 
 /// `version`: 1 for v2; v1 has none.

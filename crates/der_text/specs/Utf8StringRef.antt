@@ -11,6 +11,6 @@ use Rattle.der_text.specs.declared.utf8_string.Utf8StringRef.{Utf8StringRef}
 abbrev pub octets_of : Utf8StringRef → List ℕ
 octets_of string = string.text.now
 
--- what decoding contents octets behind a tag as a UTF8String answers
+-- what decoding contents octets after a tag as a UTF8String answers
 abbrev pub DecodesText : Tag → List ℕ → Result Utf8StringRef Error → Type 0
 DecodesText = DecodesOwnAs tags.Utf8String octets_of (λ string. Unit {0}) parse_utf8

@@ -6,21 +6,19 @@
 //! DFFF (`ErrorKind::Value`, 13), and then where memory runs out (`ErrorKind::Memory`, 1).
 
 ghost use Rattle.std.specs.Prelude.{◌≡◌, ◌%◌, ◌^◌, ◌<◌, Some, chars, encode_utf8_all, length, true, refl, IfOk, IfErr};
+ghost use Rattle.std.proofs.Common.{sym};
 ghost use Rattle.std.specs.Cmp.Lexicographic.{bytes_decides};
 ghost use Rattle.der_tlv.specs.declared.error.ErrorKind.TheVariants as kinds;
 ghost use Rattle.der_tlv.specs.declared.tag.Tag.TheVariants as tags;
 ghost use Rattle.der_tlv.specs.ReaderState.{rest};
-ghost use Rattle.der_tlv.specs.Reading.{Stands};
-ghost use Rattle.der_elem.specs.Decoding.{DecodesValue};
-ghost use Rattle.der_elem.specs.RunningOut.{FaultsFirst};
-ghost use Rattle.der_elem.specs.ValueForms.{owned_form};
-ghost use Rattle.der_text.specs.BmpUnits.{units, are_characters, parse_bmp, parse_of_units, KeepsUnits, KeepsCharacters};
+ghost use Rattle.der_elem.specs.FormatMakers.{allocating_format};
+ghost use Rattle.der_text.specs.BmpUnits.{units, are_bmp_characters, parse_bmp, parse_of_units, KeepsUnits, KeepsCharacters, units_of_octets};
 
 use crate::bmp_iter::{BmpChars, BmpCodepoints};
 use crate::bmp_units::{check_units, octets_of};
 use der_elem::{
-    BmpStringTag, ContentsEq, DecodeValue, DuplicateValue, EncodeValue, FormValue, OneTag,
-    OrdIsValueOrd,
+    BmpStringTag, ContentsEq, DecodeValue, DuplicateValue, DuplicateValueIsEqual, EncodeValue,
+    FormValue, OneTag, OrdIsValueOrd,
 };
 use der_tlv::{Error, ErrorKind, Header, Length, Reader, Source, Writer};
 use std::alloc::{AllocError, Global};
@@ -33,7 +31,7 @@ pub struct BmpString {
     octets: Vec<u8>,
     ghost short: { length octets.items < 2 ^ 32 },
     ghost even: { length octets.items % 2 ≡ 0 },
-    ghost characters: { are_characters octets.items ≡ true },
+    ghost characters: { are_bmp_characters octets.items ≡ true },
 }
 
 impl BmpString {
@@ -143,7 +141,7 @@ impl Clone for BmpString {
 impl FormValue for BmpString {
     ghost use Rattle.der_text.specs.BmpString.{octets_of};
 
-    ghost value = { owned_form octets_of parse_bmp (λ rules v p. parse_of_units rules p v.octets.items v.octets.items v.even v.characters refl) };
+    ghost value = { allocating_format octets_of parse_bmp (λ rules v p. parse_of_units rules p v.octets.items v.octets.items v.even v.characters refl) units_of_octets };
 }
 
 impl OneTag for BmpString {
@@ -151,20 +149,14 @@ impl OneTag for BmpString {
 }
 
 impl<'a, R: Source<'a>> DecodeValue<'a, R> for BmpString {
-    ghost VALUE_NEEDS_MEMORY = { true };
+    ghost TAKES_MEMORY = { true };
 
-    const VALUE_NEEDS_MEMORY: bool = true;
-
-    ghost use Rattle.der_text.specs.contracts.bmp_string.BmpStringFormValue.TheImpl.{ghosts as bmp_string};
+    const TAKES_MEMORY: bool = true;
 
     /// # Errors
     /// (17) on a failed reader; an odd number of octets (7); a unit from D800 to DFFF (13); else (1)
     /// where memory runs out.
-    fn decode_value(alloc: Global, reader: &mut R, header: Header) -> Result<BmpString, Error>
-        ensures exact { length (rest (R.state reader.old)) ≡ header.length → DecodesValue bmp_string.value header (R.state reader.old) (R.state reader.new) result }
-        ensures reader { Stands (R.state reader.old) (R.state reader.new) result }
-        ensures faults_first { length (rest (R.state reader.old)) ≡ header.length → FaultsFirst parse_bmp (R.state reader.old) result }
-    {
+    fn decode_value(alloc: Global, reader: &mut R, header: Header) -> Result<BmpString, Error> {
         let octets = reader.read_slice(header.length)?;
         match check_units(octets) {
             Ok(()) => match octets.to_vec(alloc) {
@@ -175,7 +167,7 @@ impl<'a, R: Source<'a>> DecodeValue<'a, R> for BmpString {
         }
     }
 
-    ghost memory_of_value = { refl };
+    ghost takes_memory_is = { refl };
 }
 
 impl EncodeValue for BmpString {
@@ -207,7 +199,11 @@ impl DuplicateValue for BmpString {
 
     ghost copy_contents = { λ v w e. e };
 
-    ghost copy_form_value = { λ v w x e f. tt };
+    ghost copy_comparable_value = { λ v w x e f. tt };
 
     ghost copy_re_reads_value = { λ v w e. refl };
+}
+
+impl DuplicateValueIsEqual for BmpString {
+    ghost copy_value_is_equal = { λ v w e. (bytes_decides v.octets.items w.octets.items).1 (sym e) };
 }

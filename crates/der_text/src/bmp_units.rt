@@ -3,15 +3,15 @@
 ghost use Rattle.std.specs.Prelude.{◌≡◌, ◌⊎◌, ◌+◌, ◌/◌, ◌%◌, ◌*◌, ◌^◌, ◌<◌, ◌≤◌, ◌++◌, [], ◌∷◌, chars, length, true, false, IfOk, IfErr};
 ghost use Rattle.der_tlv.specs.declared.error.ErrorKind.TheVariants as kinds;
 ghost use Rattle.der_tlv.specs.declared.tag.Tag.TheVariants as tags;
-ghost use Rattle.der_text.specs.BmpUnits.{units, are_characters, is_basic, HasUnits, NoUnits};
+ghost use Rattle.der_text.specs.BmpUnits.{units, are_bmp_characters, is_basic, HasUnits, NoUnits};
 
 use crate::bmp_iter::BmpCodepoints;
 use der_tlv::{Error, ErrorKind, Length, Tag};
 use std::alloc::Global;
 
 /// Whether each unit is a character, that is, outside D800 to DFFF.
-pub fn are_characters(octets: &[u8]) -> bool
-    ensures { result ≡ are_characters octets.now }
+pub fn are_bmp_characters(octets: &[u8]) -> bool
+    ensures { result ≡ are_bmp_characters octets.now }
 {
     let mut rest = BmpCodepoints::new(octets);
     'units: while let Some(unit) = rest.next() {
@@ -29,16 +29,16 @@ pub fn are_characters(octets: &[u8]) -> bool
 /// D800 to DFFF.
 pub fn check_units(octets: &[u8]) -> Result<(), ErrorKind>
     ensures good { IfOk result (λ _.
-        (length octets.now % 2 ≡ 0) × (are_characters octets.now ≡ true)) }
+        (length octets.now % 2 ≡ 0) × (are_bmp_characters octets.now ≡ true)) }
     ensures refused { IfErr result (λ kind.
         ((kind ≡ kinds.Length tags.BmpString) × (length octets.now % 2 ≡ 1))
         ⊎ ((kind ≡ kinds.Value tags.BmpString) × (length octets.now % 2 ≡ 0)
-        × (are_characters octets.now ≡ false))) }
+        × (are_bmp_characters octets.now ≡ false))) }
 {
     if octets.len() % 2 != 0 {
         return Err(Tag::BmpString.length_error());
     }
-    if !are_characters(octets) {
+    if !are_bmp_characters(octets) {
         return Err(Tag::BmpString.value_error());
     }
     Ok(())
@@ -98,7 +98,7 @@ pub fn octets_of(alloc: Global, text: &str) -> Result<Vec<u8>, Error>
     ensures even { IfOk result (λ octets. length octets.items % 2 ≡ 0) }
     ensures units { IfOk result (λ octets. units octets.items ≡ chars text.now) }
     ensures basic { IfOk result (λ octets. is_basic text.now ≡ true) }
-    ensures characters { IfOk result (λ octets. are_characters octets.items ≡ true) }
+    ensures characters { IfOk result (λ octets. are_bmp_characters octets.items ≡ true) }
     ensures len { IfOk result (λ octets. (length octets.items ≡ 2 * length (chars text.now))
         × (length octets.items < 2 ^ 32)) }
     ensures refused { IfErr result (λ e. ((e.kind ≡ kinds.Memory) × HasUnits text.now)

@@ -6,7 +6,7 @@
 ghost use Rattle.std.specs.Prelude.{◌≡◌, ◌^◌, ◌<◌, length, refl, false};
 ghost use Rattle.std.proofs.Common.{Ok};
 ghost use Rattle.std.specs.Cmp.Lexicographic.{bytes_decides};
-ghost use Rattle.der_elem.specs.ValueForms.{own_form};
+ghost use Rattle.der_elem.specs.FormatMakers.{format_of_contents};
 ghost use Rattle.der_opaque.specs.Opaque.{parse_octets};
 
 use der_elem::{
@@ -38,7 +38,7 @@ impl<'a> GeneralStringRef<'a> {
 impl<'a> FormValue for GeneralStringRef<'a> {
     ghost use Rattle.der_text.specs.GeneralStringRef.{octets_of};
 
-    ghost value = { own_form octets_of parse_octets (λ rules v p. refl) };
+    ghost value = { format_of_contents octets_of parse_octets (λ rules v p. refl) (λ rules p c. tt) };
 }
 
 impl<'a> OneTag for GeneralStringRef<'a> {
@@ -46,9 +46,9 @@ impl<'a> OneTag for GeneralStringRef<'a> {
 }
 
 impl<'a, R: Source<'a>> DecodeValue<'a, R> for GeneralStringRef<'a> {
-    ghost VALUE_NEEDS_MEMORY = { false };
+    ghost TAKES_MEMORY = { false };
 
-    const VALUE_NEEDS_MEMORY: bool = false;
+    const TAKES_MEMORY: bool = false;
 
     fn decode_value(
         _alloc: Global,
@@ -59,7 +59,7 @@ impl<'a, R: Source<'a>> DecodeValue<'a, R> for GeneralStringRef<'a> {
         Ok(GeneralStringRef { octets })
     }
 
-    ghost memory_of_value = { refl };
+    ghost takes_memory_is = { refl };
 }
 
 impl<'a> EncodeValue for GeneralStringRef<'a> {

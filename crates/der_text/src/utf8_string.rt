@@ -9,8 +9,8 @@ ghost use Rattle.std.specs.Str.{is_utf8};
 ghost use Rattle.std.specs.String.{string_bytes};
 ghost use Rattle.der_tlv.specs.declared.error.ErrorKind.TheVariants as kinds;
 ghost use Rattle.der_tlv.specs.declared.tag.Tag.TheVariants as tags;
-ghost use Rattle.der_elem.specs.Utf8String.{parse_utf8, parse_of_utf8};
-ghost use Rattle.der_elem.specs.ValueForms.{own_form};
+ghost use Rattle.der_elem.specs.Utf8String.{parse_utf8, parse_of_utf8, utf8_of_octets};
+ghost use Rattle.der_elem.specs.FormatMakers.{format_of_contents};
 ghost use Rattle.der_text.specs.Utf8Octets.{KeepsUtf8, KeepsText};
 ghost use Rattle.der_opaque.specs.Any as owned_any;
 ghost use Rattle.der_opaque.specs.AnyRef as borrowed_any;
@@ -111,7 +111,7 @@ impl<'a> fmt::Debug for Utf8StringRef<'a> {
 impl<'a> FormValue for Utf8StringRef<'a> {
     ghost use Rattle.der_text.specs.Utf8StringRef.{octets_of};
 
-    ghost value = { own_form octets_of parse_utf8 (λ rules v p. parse_of_utf8 rules p v.text.now v.text.now v.utf8 refl) };
+    ghost value = { format_of_contents octets_of parse_utf8 (λ rules v p. parse_of_utf8 rules p v.text.now v.text.now v.utf8 refl) utf8_of_octets };
 }
 
 impl<'a> OneTag for Utf8StringRef<'a> {
@@ -119,9 +119,9 @@ impl<'a> OneTag for Utf8StringRef<'a> {
 }
 
 impl<'a, R: Source<'a>> DecodeValue<'a, R> for Utf8StringRef<'a> {
-    ghost VALUE_NEEDS_MEMORY = { false };
+    ghost TAKES_MEMORY = { false };
 
-    const VALUE_NEEDS_MEMORY: bool = false;
+    const TAKES_MEMORY: bool = false;
 
     fn decode_value(
         _alloc: Global,
@@ -135,7 +135,7 @@ impl<'a, R: Source<'a>> DecodeValue<'a, R> for Utf8StringRef<'a> {
         }
     }
 
-    ghost memory_of_value = { refl };
+    ghost takes_memory_is = { refl };
 }
 
 impl<'a> EncodeValue for Utf8StringRef<'a> {

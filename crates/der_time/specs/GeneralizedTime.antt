@@ -6,12 +6,12 @@ use Rattle.der_tlv.specs.declared.tag.Tag.TheVariants as tags
 use Rattle.der_opaque.specs.DecodingAs.{DecodesOwnAs}
 use Rattle.der_time.specs.declared.generalized_time.GeneralizedTime.{GeneralizedTime}
 use Rattle.der_time.specs.DateTime.{time_contents}
-use Rattle.der_time.specs.Reading.{parse_generalized}
+use Rattle.der_time.specs.TimeReading.{parse_generalized}
 
 -- its contents octets
 abbrev pub generalized_time_contents : GeneralizedTime → List ℕ
 generalized_time_contents t = time_contents t.date_time
 
--- what decoding contents octets behind a tag as a GeneralizedTime answers
+-- what decoding contents octets after a tag as a GeneralizedTime answers
 abbrev pub DecodesGeneralizedTime : Tag → List ℕ → Result GeneralizedTime Error → Type 0
 DecodesGeneralizedTime = DecodesOwnAs tags.GeneralizedTime generalized_time_contents (λ time. Unit {0}) parse_generalized

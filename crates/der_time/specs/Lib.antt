@@ -1,6 +1,6 @@
 pub mod Digits
 pub mod Times
-pub mod Reading
+pub mod TimeReading
 pub mod DateTime
 pub mod TimeLaws
 pub mod TimeOrder

@@ -1,5 +1,5 @@
 -- The laws of contents octets of times.
-use Rattle.std.proofs.Common.{◌≡◌, ℕ, ◌+◌, ◌-◌, ◌*◌, ◌/◌, ◌%◌, ◌<◌, ◌≤◌, ◌&&◌, true, List, [], ◌∷◌, ◌++◌, length, Some, None, Ok, Err, refl, sym, ap, ◌∙◌, arith, pos, option_and_then, eq-eqb, zero, suc, lit<}
+use Rattle.std.proofs.Common.{◌≡◌, ℕ, ◌+◌, ◌-◌, ◌*◌, ◌/◌, ◌%◌, ◌<◌, ◌≤◌, ◌&&◌, true, List, [], ◌∷◌, ◌++◌, length, Some, None, Ok, Err, refl, sym, ap, ◌∙◌, arith, pos, option_and_then, eq-eqb, zero, suc, lit<, false, Option, IsTrue, if◌then◌else◌}
 use Rattle.std.specs.Int.{is_in_range}
 use Rattle.std.specs.Str.{IsUtf8, IsAscii}
 use Rattle.std.proofs.lemmas.Str.{IsUtf8-from_ascii}
@@ -7,11 +7,15 @@ use Rattle.std.proofs.lemmas.Bool.Decides.{nat_tests}
 use Rattle.std.proofs.lemmas.Option.{none-some, same_Some}
 use Rattle.jiff_core.proofs.CalendarLemmas.{days_in_month_bounds}
 use Rattle.der_tlv.specs.declared.error.ErrorKind.{ErrorKind}
+use Rattle.der_tlv.specs.declared.error.ErrorKind.TheVariants as kinds
+use Rattle.der_tlv.specs.declared.tag.Tag.TheVariants as tags
+use Rattle.der_tlv.specs.declared.encoding_rules.EncodingRules.{EncodingRules}
+use Rattle.der_tlv.specs.OctetFaults.{is_of_octets, IsOfOctets}
 use Rattle.der_time.specs.declared.fields.Fields.{Fields}
 use Rattle.der_time.specs.declared.date_time.DateTime.{DateTime}
 use Rattle.der_time.specs.Digits.{two_digits, read_two_digits}
 use Rattle.der_time.specs.Times.{is_time, clock_contents, after_year, generalized_contents, utc_contents, clock_text, time_text}
-use Rattle.der_time.specs.Reading.{read_clock, read_after_year, read_generalized, read_utc, century_of, generalized_or_fault, utc_or_fault, if_time, read_octet, read_clock_text, read_text}
+use Rattle.der_time.specs.TimeReading.{read_clock, read_after_year, read_generalized, read_utc, century_of, generalized_or_fault, utc_or_fault, if_time, read_octet, read_clock_text, read_text, octets_or, lacks_year, generalized_fault, parse_generalized, parse_utc}
 use Rattle.der_time.specs.DateTime.{fields_of}
 
 -- two digits are read as their number
@@ -174,3 +178,17 @@ length_generalized f = refl
 pub length_utc : (f : Fields) → length (utc_contents f) ≡ 13
 unfolding utc_contents after_year clock_contents two_digits
 length_utc f = refl
+
+-- the faults are of the octets
+time_of_octets : (kind : ErrorKind) (octets : List ℕ) (read : Option Fields) → IsTrue (is_of_octets kind) → IsOfOctets (octets_or kind octets read)
+time_of_octets kind octets None h = h
+time_of_octets kind octets (Some f) h = tt
+
+pub generalized_of_octets : (rules : EncodingRules) (p : ℕ) (octets : List ℕ) → IsOfOctets (parse_generalized rules p octets)
+unfolding generalized_or_fault
+generalized_of_octets rules p octets =
+    time_of_octets (generalized_fault octets) octets _ (elim (lacks_year octets) as (λ b. IsTrue (is_of_octets (if b then kinds.DateTime else kinds.Value tags.GeneralizedTime))) [ true ↦ refl | false ↦ refl ])
+
+pub utc_of_octets : (rules : EncodingRules) (p : ℕ) (octets : List ℕ) → IsOfOctets (parse_utc rules p octets)
+unfolding utc_or_fault
+utc_of_octets rules p octets = time_of_octets (kinds.Value tags.UtcTime) octets _ refl

@@ -9,7 +9,7 @@ use Rattle.der_time.specs.declared.date_time.DateTime.{DateTime}
 use Rattle.der_time.specs.declared.utc_time.UtcTime.{UtcTime}
 use Rattle.der_time.specs.Times.{utc_contents}
 use Rattle.der_time.specs.DateTime.{fields_of}
-use Rattle.der_time.specs.Reading.{parse_utc}
+use Rattle.der_time.specs.TimeReading.{parse_utc}
 
 -- its contents octets
 abbrev pub utc_time_contents : UtcTime → List ℕ
@@ -20,6 +20,6 @@ abbrev pub TakesTime : DateTime → Result UtcTime Error → Type 0
 TakesTime time (Ok t) = t.date_time ≡ time
 TakesTime time (Err e) = (e.kind ≡ kinds.Value tags.UtcTime) × (2049 < time.year)
 
--- what decoding contents octets behind a tag as a UTCTime answers
+-- what decoding contents octets after a tag as a UTCTime answers
 abbrev pub DecodesUtcTime : Tag → List ℕ → Result UtcTime Error → Type 0
 DecodesUtcTime = DecodesOwnAs tags.UtcTime utc_time_contents (λ time. Unit {0}) parse_utc

@@ -6,7 +6,7 @@ use Rattle.der_tlv.specs.Octets.{lex}
 use Rattle.der_tlv.specs.OrderingLaws.{then_assoc}
 use Rattle.der_time.specs.declared.utc_time.UtcTime.{UtcTime}
 use Rattle.der_time.specs.Times.{utc_contents, after_year}
-use Rattle.der_time.specs.Reading.{utc_or_fault}
+use Rattle.der_time.specs.TimeReading.{utc_or_fault}
 use Rattle.der_time.specs.DateTime.{fields_of}
 use Rattle.der_time.specs.UtcTime.{utc_time_contents}
 use Rattle.der_time.specs.TimeLaws.{utc_of, utc_injective}

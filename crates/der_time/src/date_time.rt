@@ -5,7 +5,7 @@ ghost use Rattle.std.specs.Int.{IsInRange};
 ghost use Rattle.jiff_core.specs.Calendar.{days_in_month};
 ghost use Rattle.jiff_core.specs.Date.{epoch_day};
 ghost use Rattle.der_tlv.specs.declared.error.ErrorKind.TheVariants as kinds;
-ghost use Rattle.der_elem.specs.ValueForms.{own_form};
+ghost use Rattle.der_elem.specs.FormatMakers.{format_of_contents};
 
 use crate::digits::two_digits;
 use crate::fields::Fields;
@@ -57,7 +57,7 @@ pub struct DateTime {
 }
 
 impl DateTime {
-    ghost use Rattle.der_time.specs.Reading.{ReadAs, generalized_or_fault};
+    ghost use Rattle.der_time.specs.TimeReading.{ReadAs, generalized_or_fault};
     ghost use Rattle.der_time.specs.DateTime.{time_contents, date_time_text, TakesFields};
     ghost use Rattle.der_time.specs.UnixTime.{unix_seconds, second_of_day, last_second, LastsSeconds, IsTimeAfter, IsOnDate};
 
@@ -228,7 +228,7 @@ impl DateTime {
     }
 
     /// The time with these contents octets of a GeneralizedTime, or their fault.
-    #[tactic(auto, unfolding(crate::specs::Reading::generalized_or_fault))]
+    #[tactic(auto, unfolding(crate::specs::TimeReading::generalized_or_fault))]
     pub(crate) fn of_contents(octets: &[u8]) -> Result<DateTime, ErrorKind>
         ensures { ReadAs time_contents generalized_or_fault octets.now result }
     {
@@ -310,11 +310,11 @@ impl fmt::Display for DateTime {
 }
 
 impl FormValue for DateTime {
-    ghost use Rattle.der_time.specs.Reading.{parse_generalized};
+    ghost use Rattle.der_time.specs.TimeReading.{parse_generalized};
     ghost use Rattle.der_time.specs.DateTime.{time_contents};
-    ghost use Rattle.der_time.specs.TimeLaws.{generalized_of};
+    ghost use Rattle.der_time.specs.TimeLaws.{generalized_of_octets, generalized_of};
 
-    ghost value = { own_form time_contents parse_generalized (λ rules v p. generalized_of v) };
+    ghost value = { format_of_contents time_contents parse_generalized (λ rules v p. generalized_of v) generalized_of_octets };
 }
 
 impl OneTag for DateTime {
@@ -322,9 +322,9 @@ impl OneTag for DateTime {
 }
 
 impl<'a, R: Source<'a>> DecodeValue<'a, R> for DateTime {
-    ghost VALUE_NEEDS_MEMORY = { false };
+    ghost TAKES_MEMORY = { false };
 
-    const VALUE_NEEDS_MEMORY: bool = false;
+    const TAKES_MEMORY: bool = false;
 
     fn decode_value(_alloc: Global, reader: &mut R, header: Header) -> Result<DateTime, Error> {
         let octets = reader.read_slice(header.length)?;
@@ -334,7 +334,7 @@ impl<'a, R: Source<'a>> DecodeValue<'a, R> for DateTime {
         }
     }
 
-    ghost memory_of_value = { refl };
+    ghost takes_memory_is = { refl };
 }
 
 impl EncodeValue for DateTime {

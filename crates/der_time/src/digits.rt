@@ -2,7 +2,7 @@
 
 ghost use Rattle.std.specs.Prelude.{◌≡◌, ◌<◌, ◌∷◌, ◌++◌, MatchOption, IfSome, Some, None};
 ghost use Rattle.der_time.specs.Digits.{two_digits, read_two_digits};
-ghost use Rattle.der_time.specs.Reading.{read_octet};
+ghost use Rattle.der_time.specs.TimeReading.{read_octet};
 
 /// The number of two digits at the front, and the octets after them.
 #[tactic(auto, unfolding(crate::specs::Digits::read_two_digits, crate::specs::Digits::two_digits))]
@@ -30,7 +30,7 @@ pub fn two_digits(number: u8) -> [u8; 2]
 }
 
 /// What follows this octet at the front.
-#[tactic(auto, unfolding(crate::specs::Reading::read_octet))]
+#[tactic(auto, unfolding(crate::specs::TimeReading::read_octet))]
 pub fn read_octet<'a>(octet: u8, octets: &'a [u8]) -> Option<&'a [u8]>
     ensures value { MatchOption result (read_octet octet octets.now ≡ None) (λ others.
         read_octet octet octets.now ≡ Some others.now) }

@@ -6,11 +6,11 @@
 ghost use Rattle.std.specs.Prelude.{◌≡◌, refl, false};
 ghost use Rattle.der_tlv.specs.declared.error.ErrorKind.TheVariants as kinds;
 ghost use Rattle.der_tlv.specs.declared.tag.Tag.TheVariants as tags;
-ghost use Rattle.der_elem.specs.ValueForms.{own_form};
-ghost use Rattle.der_time.specs.Reading.{parse_generalized};
+ghost use Rattle.der_elem.specs.FormatMakers.{format_of_contents};
+ghost use Rattle.der_time.specs.TimeReading.{parse_generalized};
 ghost use Rattle.der_time.specs.GeneralizedTime.{generalized_time_contents, DecodesGeneralizedTime};
 ghost use Rattle.der_time.specs.UnixTime.{unix_seconds, LastsSeconds, IsTimeAfter};
-ghost use Rattle.der_time.specs.TimeLaws.{generalized_of};
+ghost use Rattle.der_time.specs.TimeLaws.{generalized_of, generalized_of_octets};
 ghost use Rattle.der_time.specs.TimeOrder.{ord_is_contents_ord, eq_is_contents_eq};
 ghost use Rattle.der_opaque.specs.Any as owned_any;
 ghost use Rattle.der_opaque.specs.AnyRef as borrowed_any;
@@ -78,7 +78,7 @@ impl GeneralizedTime {
 }
 
 impl FormValue for GeneralizedTime {
-    ghost value = { own_form generalized_time_contents parse_generalized (λ rules v p. generalized_of v.date_time) };
+    ghost value = { format_of_contents generalized_time_contents parse_generalized (λ rules v p. generalized_of v.date_time) generalized_of_octets };
 }
 
 impl OneTag for GeneralizedTime {
@@ -86,9 +86,9 @@ impl OneTag for GeneralizedTime {
 }
 
 impl<'a, R: Source<'a>> DecodeValue<'a, R> for GeneralizedTime {
-    ghost VALUE_NEEDS_MEMORY = { false };
+    ghost TAKES_MEMORY = { false };
 
-    const VALUE_NEEDS_MEMORY: bool = false;
+    const TAKES_MEMORY: bool = false;
 
     fn decode_value(
         _alloc: Global,
@@ -102,7 +102,7 @@ impl<'a, R: Source<'a>> DecodeValue<'a, R> for GeneralizedTime {
         }
     }
 
-    ghost memory_of_value = { refl };
+    ghost takes_memory_is = { refl };
 }
 
 impl EncodeValue for GeneralizedTime {

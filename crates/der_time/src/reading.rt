@@ -2,14 +2,14 @@
 
 ghost use Rattle.std.specs.Prelude.{◌≡◌, ◌<◌, ◌/◌, ◌%◌, ◌*◌, ◌+◌, ◌++◌, IfSome, ◌^◌};
 ghost use Rattle.der_time.specs.Times.{after_year, clock_contents, generalized_contents, utc_contents};
-ghost use Rattle.der_time.specs.Reading as spec;
+ghost use Rattle.der_time.specs.TimeReading as spec;
 
 use crate::digits::read_two_digits;
 use crate::fields::Fields;
 use der_tlv::{ErrorKind, Tag};
 
 /// Hour, minutes and seconds in two digits each, and Z at the end.
-#[tactic(auto, unfolding(crate::specs::Reading::read_clock, crate::specs::Times::clock_contents))]
+#[tactic(auto, unfolding(crate::specs::TimeReading::read_clock, crate::specs::Times::clock_contents))]
 fn read_clock(year: u16, month: u8, day: u8, octets: &[u8]) -> Option<Fields>
     ensures value { result ≡ spec.read_clock year month day octets.now }
     ensures digits { IfSome result (λ f. octets.now ≡ clock_contents f) }
@@ -32,7 +32,7 @@ fn read_clock(year: u16, month: u8, day: u8, octets: &[u8]) -> Option<Fields>
 }
 
 /// Month and day before them.
-#[tactic(auto, unfolding(crate::specs::Reading::read_after_year, crate::specs::Times::after_year))]
+#[tactic(auto, unfolding(crate::specs::TimeReading::read_after_year, crate::specs::Times::after_year))]
 fn read_after_year(year: u16, octets: &[u8]) -> Option<Fields>
     ensures value { result ≡ spec.read_after_year year octets.now }
     ensures digits { IfSome result (λ f. octets.now ≡ after_year f) }
@@ -44,7 +44,7 @@ fn read_after_year(year: u16, octets: &[u8]) -> Option<Fields>
 }
 
 /// The numbers of a GeneralizedTime: a year of four digits before them.
-#[tactic(auto, unfolding(crate::specs::Reading::read_generalized, crate::specs::Times::generalized_contents))]
+#[tactic(auto, unfolding(crate::specs::TimeReading::read_generalized, crate::specs::Times::generalized_contents))]
 pub fn read_generalized(octets: &[u8]) -> Option<Fields>
     ensures value { result ≡ spec.read_generalized octets.now }
     ensures digits { IfSome result (λ f. octets.now ≡ generalized_contents f) }
@@ -56,7 +56,7 @@ pub fn read_generalized(octets: &[u8]) -> Option<Fields>
 
 /// The numbers of a UTCTime: a year of two digits before them, of which 50 and more is 19YY and
 /// less is 20YY.
-#[tactic(auto, unfolding(crate::specs::Reading::read_utc, crate::specs::Times::utc_contents))]
+#[tactic(auto, unfolding(crate::specs::TimeReading::read_utc, crate::specs::Times::utc_contents))]
 pub fn read_utc(octets: &[u8]) -> Option<Fields>
     ensures value { result ≡ spec.read_utc octets.now }
     ensures digits { IfSome result (λ f. octets.now ≡ utc_contents f) }
@@ -69,7 +69,7 @@ pub fn read_utc(octets: &[u8]) -> Option<Fields>
 
 /// Whether these are 15 octets, Z at their end and digits at their beginning, of which the third
 /// and fourth are not both digits.
-#[tactic(auto, unfolding(crate::specs::Reading::lacks_year))]
+#[tactic(auto, unfolding(crate::specs::TimeReading::lacks_year))]
 fn lacks_year(octets: &[u8]) -> bool
     ensures { result ≡ spec.lacks_year octets.now }
 {

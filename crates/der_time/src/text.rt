@@ -2,13 +2,13 @@
 
 ghost use Rattle.std.specs.Prelude.{◌≡◌, IfSome};
 ghost use Rattle.der_time.specs.Times.{clock_text, time_text};
-ghost use Rattle.der_time.specs.Reading as spec;
+ghost use Rattle.der_time.specs.TimeReading as spec;
 
 use crate::digits::{read_octet, read_two_digits};
 use crate::fields::Fields;
 
 /// Hour, minutes and seconds with colons between them, and Z at the end.
-#[tactic(auto, unfolding(crate::specs::Reading::read_clock_text, crate::specs::Times::clock_text))]
+#[tactic(auto, unfolding(crate::specs::TimeReading::read_clock_text, crate::specs::Times::clock_text))]
 fn read_clock_text(year: u16, month: u8, day: u8, text: &[u8]) -> Option<Fields>
     ensures value { result ≡ spec.read_clock_text year month day text.now }
     ensures digits { IfSome result (λ f. text.now ≡ clock_text f) }
@@ -30,8 +30,8 @@ fn read_clock_text(year: u16, month: u8, day: u8, text: &[u8]) -> Option<Fields>
     })
 }
 
-/// Year, month and day with hyphens between them, and T and the clock behind them.
-#[tactic(auto, unfolding(crate::specs::Reading::read_text, crate::specs::Times::time_text))]
+/// Year, month and day with hyphens between them, and T and the clock after them.
+#[tactic(auto, unfolding(crate::specs::TimeReading::read_text, crate::specs::Times::time_text))]
 pub fn read_text(text: &[u8]) -> Option<Fields>
     ensures value { result ≡ spec.read_text text.now }
     ensures digits { IfSome result (λ f. text.now ≡ time_text f) }

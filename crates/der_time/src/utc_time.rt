@@ -5,7 +5,7 @@
 //! stand for 19YY, less for 20YY.
 
 ghost use Rattle.std.specs.Prelude.{◌≡◌, ◌≤◌, ◌<◌, refl, false};
-ghost use Rattle.der_elem.specs.ValueForms.{own_form};
+ghost use Rattle.der_elem.specs.FormatMakers.{format_of_contents};
 ghost use Rattle.der_opaque.specs.Any as owned_any;
 ghost use Rattle.der_opaque.specs.AnyRef as borrowed_any;
 
@@ -38,7 +38,7 @@ pub struct UtcTime {
 }
 
 impl UtcTime {
-    ghost use Rattle.der_time.specs.Reading.{ReadAs, utc_or_fault};
+    ghost use Rattle.der_time.specs.TimeReading.{ReadAs, utc_or_fault};
     ghost use Rattle.der_time.specs.UtcTime.{utc_time_contents, TakesTime};
     ghost use Rattle.der_time.specs.UnixTime.{unix_seconds, LastsSeconds, IsUtcTimeAfter};
 
@@ -94,7 +94,7 @@ impl UtcTime {
     }
 
     /// The time with these contents octets, or their fault.
-    #[tactic(auto, unfolding(crate::specs::Reading::utc_or_fault))]
+    #[tactic(auto, unfolding(crate::specs::TimeReading::utc_or_fault))]
     fn of_contents(octets: &[u8]) -> Result<UtcTime, ErrorKind>
         ensures { ReadAs utc_time_contents utc_or_fault octets.now result }
     {
@@ -124,11 +124,12 @@ impl UtcTime {
 }
 
 impl FormValue for UtcTime {
-    ghost use Rattle.der_time.specs.Reading.{parse_utc};
+    ghost use Rattle.der_time.specs.TimeReading.{parse_utc};
     ghost use Rattle.der_time.specs.UtcTime.{utc_time_contents};
     ghost use Rattle.der_time.specs.UtcTimeLaws.{utc_time_of};
+    ghost use Rattle.der_time.specs.TimeLaws.{utc_of_octets};
 
-    ghost value = { own_form utc_time_contents parse_utc (λ rules v p. utc_time_of v) };
+    ghost value = { format_of_contents utc_time_contents parse_utc (λ rules v p. utc_time_of v) utc_of_octets };
 }
 
 impl OneTag for UtcTime {
@@ -136,9 +137,9 @@ impl OneTag for UtcTime {
 }
 
 impl<'a, R: Source<'a>> DecodeValue<'a, R> for UtcTime {
-    ghost VALUE_NEEDS_MEMORY = { false };
+    ghost TAKES_MEMORY = { false };
 
-    const VALUE_NEEDS_MEMORY: bool = false;
+    const TAKES_MEMORY: bool = false;
 
     fn decode_value(_alloc: Global, reader: &mut R, header: Header) -> Result<UtcTime, Error> {
         let octets = reader.read_slice(header.length)?;
@@ -148,7 +149,7 @@ impl<'a, R: Source<'a>> DecodeValue<'a, R> for UtcTime {
         }
     }
 
-    ghost memory_of_value = { refl };
+    ghost takes_memory_is = { refl };
 }
 
 impl EncodeValue for UtcTime {

@@ -1,4 +1,4 @@
--- How many octets a length takes behind the one that counts them.
+-- How many octets a length takes after the one that counts them.
 use Rattle.std.proofs.Common.{◌≡◌, ℕ, ◌+◌, ◌*◌, ◌/◌, ◌%◌, ◌∷◌, ◌++◌, append_assoc, nat_lt, true, false, ◌<◌, ◌≤◌, ◌^◌, List, [], length, sym, ap, ◌∙◌, arith, lit≤}
 use Rattle.std.specs.Int.Digits.{digits_of}
 use Rattle.std.proofs.Math.Nat.{div-eq_of_lt}
@@ -24,7 +24,7 @@ three_octets n some small = more_octets n 2 (omega arith) (two_octets (n / 256) 
 pub four_octets : (n : ℕ) → 256 * 256 * 256 ≤ n → n < 2 ^ 32 → length (digits_of 256 n) ≡ 4
 four_octets n some small = more_octets n 3 (omega arith) (three_octets (n / 256) (omega arith) (omega arith))
 
--- the last octet behind those before it
+-- the last octet after those before it
 pub digits_pushed : (old mid new : List ℕ) (n : ℕ) → 0 < n → mid ≡ old ++ digits_of 256 (n / 256) → new ≡ mid ++ ((n % 256) ∷ []) → new ≡ old ++ digits_of 256 n
 digits_pushed old mid new n some e f =
     f ∙ ap (λ c. c ++ ((n % 256) ∷ [])) e ∙ append_assoc old (digits_of 256 (n / 256)) ((n % 256) ∷ []) ∙ ap (λ c. old ++ c) (sym (digits_of_step 256 n (lit≤ tt) some))

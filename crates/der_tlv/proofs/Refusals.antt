@@ -82,7 +82,7 @@ passed_read n ready e =
       onward = omega arith;
     }
 
--- a fault that is found behind what was read
+-- a fault that is found after what was read
 pub refused_past : {old mid new : ReaderState} {kind : ErrorKind} → Passed old mid → new ≡ after_fault mid → Refused old new kind
 refused_past passed e = refused_since passed.ready (went_past passed) (refused_here e (λ h. ready_not_failed passed.still h))
 

@@ -6,7 +6,7 @@ use Rattle.der_tlv.specs.declared.error.ErrorKind.{ErrorKind}
 use Rattle.der_tlv.specs.declared.error.ErrorKind.TheVariants.{Overlength, IndefiniteLength}
 use Rattle.der_tlv.specs.LengthOctets.{length_octets}
 use Rattle.der_tlv.specs.ReaderState.{ReaderState, rest, after_read, after_fault, read_fault, read_fault_at}
-use Rattle.der_tlv.specs.HeaderReading.{read_length, read_long_length, behind_one}
+use Rattle.der_tlv.specs.HeaderReading.{read_length, read_long_length, after_one}
 use Rattle.std.specs.Prelude.{IfOk}
 use Rattle.der_tlv.specs.declared.error.Error.{Error}
 use Rattle.der_tlv.specs.Reading.{OctetRead, Refuses, HeadFault, HeadRead, ReadsHead}
@@ -49,7 +49,7 @@ too_many x h p xs =
     let c : nat_lt 132 x ≡ true = grind (arith, nat_tests) in
     rw (a, b, c) refl
 
-long-read : (x : ℕ) → 128 < x → x ≤ 132 → (p : ℕ) (xs : List ℕ) → read_length p (x ∷ xs) ≡ behind_one (read_long_length (x - 128) (p + 1) xs)
+long-read : (x : ℕ) → 128 < x → x ≤ 132 → (p : ℕ) (xs : List ℕ) → read_length p (x ∷ xs) ≡ after_one (read_long_length (x - 128) (p + 1) xs)
 unfolding read_length
 long-read x h k p xs =
     let a : nat_lt x 128 ≡ false = grind (arith, nat_tests) in
@@ -65,7 +65,7 @@ long_length {old} {mid} {new} {x} {n} read h k head whole =
     let parsed_there : read_long_length (x - 128) (old.position + 1) (rest mid) ≡ Ok (length (digits_of 256 n), n) = ap (λ p. read_long_length (x - 128) p (rest mid)) (sym mid_position) ∙ head.parsed in
     record {
       ready = read.ready;
-      parsed = ap (read_length old.position) read.first ∙ long-read x h k old.position (rest mid) ∙ ap behind_one parsed_there ∙ ap (λ c. Ok (length c, n)) (sym octets);
+      parsed = ap (read_length old.position) read.first ∙ long-read x h k old.position (rest mid) ∙ ap after_one parsed_there ∙ ap (λ c. Ok (length c, n)) (sym octets);
       taken = rw octets (ap (take (suc (length (digits_of 256 n)))) read.first ∙ ap (λ c. x ∷ c) head.taken);
       after = rw octets (head.after ∙ ap (λ s. after_read s (length (digits_of 256 n))) read.after ∙ after_more old 1 (length (digits_of 256 n)) ∙ ap (after_read old) (let s : 1 + length (digits_of 256 n) ≡ suc (length (digits_of 256 n)) = omega arith in s));
     }
@@ -76,7 +76,7 @@ long_fault {old} {mid} {new} {x} {kind} read h k fault =
     let there = rw ready at fault.fault_is in
     let mid_position : mid.position ≡ old.position + 1 = ap (λ s. s.position) read.after in
     let parsed_there : read_long_length (x - 128) (old.position + 1) (rest mid) ≡ Err kind = ap (λ p. read_long_length (x - 128) p (rest mid)) (sym mid_position) ∙ there in
-    record { fault_is = rw read.ready (ap (read_length old.position) read.first ∙ long-read x h k old.position (rest mid) ∙ ap behind_one parsed_there); reader = refused_since read.ready (went_on _ read.after) fault.reader }
+    record { fault_is = rw read.ready (ap (read_length old.position) read.first ∙ long-read x h k old.position (rest mid) ∙ ap after_one parsed_there); reader = refused_since read.ready (went_on _ read.after) fault.reader }
 
 pub long_reads : {old mid : ReaderState} {x : ℕ} (new : ReaderState) → OctetRead old mid x → 128 < x → x ≤ 132 → (r : Result ℕ Error) → ReadsHead (read_long_length (x - 128)) (digits_of 256) mid new r → IfOk r (λ n. length_octets n ≡ (128 + (x - 128)) ∷ digits_of 256 n) → ReadsHead read_length length_octets old new r
 long_reads new read h k (Ok n) head whole = long_length read h k head whole

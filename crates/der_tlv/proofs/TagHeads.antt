@@ -20,9 +20,9 @@ pub data NumberRead (old now : ReaderState) (first n : ℕ) : Type 0 where
 pub number_in_first : {old mid now : ReaderState} {first n : ℕ} → OctetRead old mid first → first < 256 → first % 32 < 31 → n ≡ first % 32 → now ≡ mid → NumberRead old now first n
 number_in_first {old = old} {first = first} {n = n} read small low is same = subst (λ s. NumberRead old s first n) (sym same) (in_first read small low is)
 
--- the number stands behind the first octet
-pub number_behind : {old mid last now : ReaderState} {first m n : ℕ} → OctetRead old mid first → first < 256 → 31 ≤ first % 32 → HeadRead read_number (number_octets m) mid last m → 31 ≤ m → n ≡ m → now ≡ last → NumberRead old now first n
-number_behind {old = old} {mid = mid} {last = last} {now = now} {first = first} {m = m} {n = n} read small low number great is same =
+-- the number stands after the first octet
+pub number_following : {old mid last now : ReaderState} {first m n : ℕ} → OctetRead old mid first → first < 256 → 31 ≤ first % 32 → HeadRead read_number (number_octets m) mid last m → 31 ≤ m → n ≡ m → now ≡ last → NumberRead old now first n
+number_following {old = old} {mid = mid} {last = last} {now = now} {first = first} {m = m} {n = n} read small low number great is same =
     subst (λ s. NumberRead old s first n) (sym same) (subst (λ k. NumberRead old last first k) (sym is) (behind mid read small (omega arith) number great))
 
 -- no first octet

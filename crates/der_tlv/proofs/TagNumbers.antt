@@ -22,11 +22,11 @@ pub record NumberSoFar (old now : ReaderState) (n : ℕ) : Type 0 where
 pub no_digits : (s : ReaderState) → NumberSoFar s s 0
 no_digits s = record { fits = omega arith; taken = refl; after = sym (ap (λ k. record s { position = k }) (add-zero s.position)); begun = λ some. absurd (omega arith) }
 
--- an octet behind what was read
+-- an octet after what was read
 pub taken_with : {old now next : ReaderState} {n octet : ℕ} → NumberSoFar old now n → OctetRead now next octet → rest old ≡ (leading_octets n ++ (octet ∷ [])) ++ rest next
 taken_with {next = next} {n = n} {octet = octet} so_far read = so_far.taken ∙ ap (λ z. leading_octets n ++ z) read.first ∙ sym (append_assoc (leading_octets n) (octet ∷ []) (rest next))
 
--- where the reader stands behind one more octet
+-- where the reader stands after one more octet
 after_with : {old now next : ReaderState} {n octet : ℕ} → NumberSoFar old now n → OctetRead now next octet → next ≡ after_read old (length (leading_octets n ++ (octet ∷ [])))
 after_with {old = old} {n = n} {octet = octet} so_far read =
     let count = length-append (leading_octets n) (octet ∷ []) in

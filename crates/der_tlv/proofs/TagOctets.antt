@@ -18,7 +18,7 @@ leading_octets-step n h = ap mark_digits (digits_of_step 128 n (omega arith) h) 
 pub length-leading_octets-step : (n : ℕ) → 0 < n → length (leading_octets n) ≡ length (leading_octets (n / 128)) + 1
 length-leading_octets-step n h = ap length (leading_octets-step n h) ∙ length-append (leading_octets (n / 128)) ((128 + n % 128) ∷ [])
 
--- one more octet behind the leading octets of a number without its last digit
+-- one more octet after the leading octets of a number without its last digit
 pub leading_pushed : (old before new : List ℕ) (n : ℕ) → 0 < n → before ≡ old ++ leading_octets (n / 128) → new ≡ before ++ ((128 + n % 128) ∷ []) → new ≡ old ++ leading_octets n
 leading_pushed old before new n h e f =
     f ∙ ap (λ z. z ++ ((128 + n % 128) ∷ [])) e ∙ append_assoc old (leading_octets (n / 128)) ((128 + n % 128) ∷ []) ∙ ap (λ z. old ++ z) (sym (leading_octets-step n h))

@@ -13,7 +13,7 @@ use Rattle.der_tlv.specs.LengthOctets.{length_octets}
 use Rattle.der_tlv.specs.HeaderOctets.{header_octets}
 use Rattle.der_tlv.specs.ReaderState.{read_fault_at}
 
--- the fault of a read of one octet behind all that are left at position p
+-- the fault of a read of one octet after all that are left at position p
 abbrev pub octet_missing : ℕ → List ℕ → ErrorKind
 octet_missing p left = read_fault_at (p + length left) 1 0
 
@@ -68,15 +68,15 @@ abbrev pub fewest_octets : ℕ → List ℕ → ℕ → Result (ℕ × ℕ) Erro
 fewest_octets count octets n =
     if pointwise nat_eq (length_octets n) ((128 + count) ∷ octets) then Ok (count, n) else Err Overlength
 
--- The octets of a length of 128 and more behind the octet that counts them, at position p.
+-- The octets of a length of 128 and more after the octet that counts them, at position p.
 unfoldable pub read_long_length : ℕ → ℕ → List ℕ → Result (ℕ × ℕ) ErrorKind
 read_long_length count p octets =
     if nat_lt (length octets) count then Err (octet_missing p octets)
     else fewest_octets count (take count octets) (number_from_digits 256 (take count octets))
 
-abbrev pub behind_one : Result (ℕ × ℕ) ErrorKind → Result (ℕ × ℕ) ErrorKind
-behind_one (Ok (count, n)) = Ok (suc count, n)
-behind_one (Err k) = Err k
+abbrev pub after_one : Result (ℕ × ℕ) ErrorKind → Result (ℕ × ℕ) ErrorKind
+after_one (Ok (count, n)) = Ok (suc count, n)
+after_one (Err k) = Err k
 
 -- Length octets at position p: how many there are and the length, or the first fault.
 unfoldable pub read_length : ℕ → List ℕ → Result (ℕ × ℕ) ErrorKind
@@ -84,7 +84,7 @@ read_length p [] = Err (octet_missing p [])
 read_length p (x ∷ xs) =
     if nat_lt x 128 then Ok (1, x)
     else (if x == 128 then Err IndefiniteLength
-    else (if nat_lt 132 x then Err Overlength else behind_one (read_long_length (x - 128) (p + 1) xs)))
+    else (if nat_lt 132 x then Err Overlength else after_one (read_long_length (x - 128) (p + 1) xs)))
 
 -- the octets of a header
 abbrev pub octets_of : Header → List ℕ

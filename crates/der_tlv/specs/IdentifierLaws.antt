@@ -116,11 +116,11 @@ rebuilt-is (Private constructed number) = refl
 pub tag-unique : (t u : Tag) → class_of t ≡ class_of u → is_constructed t ≡ is_constructed u → number_of t ≡ number_of u → t ≡ u
 tag-unique t u c f n = let a = rebuilt-is t in let b = rebuilt-is u in let k : Some t ≡ Some u = sym a ∙ ap (λ x. rebuilt x (is_constructed t) (number_of t)) c ∙ ap (λ x. rebuilt (class_of u) x (number_of t)) f ∙ ap (λ x. rebuilt (class_of u) (is_constructed u) x) n ∙ b in cc
 
--- the number of bits 5 to 1, and the octets behind the first
+-- the number of bits 5 to 1, and the octets after the first
 abbrev pub low_bits : ℕ → ℕ
 low_bits n = if nat_lt n 31 then n else 31
 
--- the identifier octets behind the first
+-- the identifier octets after the first
 abbrev pub later_octets : ℕ → List ℕ
 later_octets n = if nat_lt n 31 then [] else number_octets n
 
@@ -142,7 +142,7 @@ sized n = split (nat_lt n 31) refl
     split true e = short (ltb-true n 31 (sym e)) (ap (λ x. if x then n else 31) (sym e)) (ap (λ x. if x then [] else number_octets n) (sym e))
     split false e = long (ltb-false n 31 (sym e)) (ap (λ x. if x then n else 31) (sym e)) (ap (λ x. if x then [] else number_octets n) (sym e))
 
--- the octets behind the first end where they say, and are of one number
+-- the octets after the first end where they say, and are of one number
 later-unique : (m n : ℕ) (x y : List ℕ) → low_bits m ≡ low_bits n → later_octets m ++ x ≡ later_octets n ++ y → (m ≡ n) × (x ≡ y)
 later-unique m n x y low e = elim (sized m) [
   | short l a b ↦ elim (sized n) [ short k c d ↦ (omega arith, sym (ap (λ z. z ++ x) b) ∙ e ∙ ap (λ z. z ++ y) d) | long k c d ↦ absurd (omega arith) ]

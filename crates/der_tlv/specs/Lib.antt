@@ -5,6 +5,7 @@ pub mod LengthOctets
 pub mod HeaderOctets
 pub mod ReaderState
 pub mod HeaderReading
+pub mod OctetFaults
 pub mod Reading
 pub mod ShortTags
 pub mod Writing

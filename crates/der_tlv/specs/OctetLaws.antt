@@ -11,7 +11,7 @@ use Rattle.der_tlv.specs.OrderingLaws.{then_within, then_assoc, both_equal, nat_
 pub record SameBeginning (a b : List ℕ) : Type 0 where
   pub same : (x y : List ℕ) → a ++ x ≡ b ++ y → a ≡ b
 
--- behind a first octet that is the same
+-- after a first octet that is the same
 rest_beginning : (r s : ℕ) (a b : List ℕ) → SameBeginning (r ∷ a) (s ∷ b) → r ≡ s → SameBeginning a b
 rest_beginning r s a b h e = record {
   same = λ x y k. let whole : (r ∷ a) ++ x ≡ (s ∷ b) ++ y = cc in let all : r ∷ a ≡ s ∷ b = h.same x y whole in cc;

@@ -12,7 +12,7 @@ pub record Refuses (old new : ReaderState) (kind fault : ErrorKind) : Type 0 whe
   pub after : new ≡ after_fault old
 
 -- What every call leaves that is handed a reader and refuses, whatever it had read before: the reader is failed; its input and its
--- rules are those from before; its position is not before the old one, and its end not behind the old one (every reader stands at its
+-- rules are those from before; its position is not before the old one, and its end not after the old one (every reader stands at its
 -- end or before it). On a reader that had failed nothing changes, and the answer is (17).
 pub record Refused (old new : ReaderState) (kind : ErrorKind) : Type 0 where
   pub failed : new.failed ≡ true

@@ -12,8 +12,8 @@ abbrev pub IdentifiersAreUnique : Type 0
 IdentifiersAreUnique = (t u : Tag) (x y : List ℕ) → identifier t ++ x ≡ identifier u ++ y → (t ≡ u) × (x ≡ y)
 
 -- tags with the same identifier octets are the same
-abbrev pub IdentifiersTellTags : Type 0
-IdentifiersTellTags = (t u : Tag) → identifier t ≡ identifier u → t ≡ u
+abbrev pub IdentifiersDistinguishTags : Type 0
+IdentifiersDistinguishTags = (t u : Tag) → identifier t ≡ identifier u → t ≡ u
 
 -- reading the identifier octets of a tag gives that tag, whatever follows
 abbrev pub IdentifiersReadBack : Type 0

@@ -25,7 +25,7 @@ abbrev pub lender_of : SliceWriter → GName
 lender_of w = w.bytes.ghost_name
 
 -- What a write leaves of that memory: it is the same memory; where the write is refused all of it is as it was, and else what stands
--- behind the octets taken.
+-- after the octets taken.
 pub record LeavesBuffer {A : Type 0} (old new : SliceWriter) (result : Result A Error) : Type 0 where
   pub lender : lender_of new ≡ lender_of old
   pub refused : OnErr result (buffer_of new ≡ buffer_of old)

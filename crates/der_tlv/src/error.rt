@@ -23,7 +23,7 @@ pub enum ErrorKind {
         /// How many there are, as far as they may be read now.
         actual_len: Length,
     },
-    /// 3: octets are left over behind a value.
+    /// 3: octets are left over after a value.
     TrailingData {
         /// How many octets were read.
         decoded: Length,

@@ -35,6 +35,7 @@ pub use length::{
 pub use reader::{Cursor, Reader, SliceReader, Source};
 pub use tag::{
     Class, Tag, TagMode, TagNumber, default_mode, explicit_before_implicit, identifiers_are_short,
-    identifiers_are_unique, identifiers_decide_order, identifiers_read_back, identifiers_tell_tags,
+    identifiers_are_unique, identifiers_decide_order, identifiers_distinguish_tags,
+    identifiers_read_back,
 };
 pub use writer::{SliceWriter, VecWriter, Writer};

@@ -78,7 +78,7 @@ pub trait Reader<'a>: Source<'a> {
     /// # Errors
     /// `ErrorKind::Failed` (17) on a failed reader; `ErrorKind::TrailingData` (3) where octets are
     /// left before the current end; `ErrorKind::Overflow` (9) where the end to be put back is below
-    /// it, or behind the input.
+    /// it, or after the input.
     fn unnest(&mut self, end: Length) -> Result<(), Error>
         ensures { Unnests (Self.state self.old) (Self.state self.new) end result };
 

@@ -18,7 +18,7 @@ use crate::error::{Error, ErrorKind};
 pub use class::Class;
 pub use laws::{
     default_mode, explicit_before_implicit, identifiers_are_short, identifiers_are_unique,
-    identifiers_decide_order, identifiers_read_back, identifiers_tell_tags,
+    identifiers_decide_order, identifiers_distinguish_tags, identifiers_read_back,
 };
 pub use mode::TagMode;
 pub use number::TagNumber;

@@ -17,7 +17,7 @@ pub use vec::VecWriter;
 pub trait Writer {
     ghost state: { Self → WriterState };
 
-    /// Takes these octets, behind those that it holds.
+    /// Takes these octets, after those that it holds.
     ///
     /// # Errors
     /// The writer's own, where there is not enough room.

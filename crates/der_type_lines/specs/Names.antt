@@ -19,7 +19,7 @@ use Rattle.der_asn1_types.specs.AnyLength.{parse_integer, parse_natural}
 use Rattle.der_asn1_types.specs.Characters.{string_tag, parse_string}
 use Rattle.der_asn1_types.specs.BitString.{parse_bit_string}
 use Rattle.der_asn1_types.specs.BmpUnits.{parse_bmp}
-use Rattle.der_asn1_types.specs.SequencesOf.{parse_items_up_to}
+use Rattle.der_asn1_types.specs.SequencesOf.{parse_sequence_of}
 use Rattle.der_asn1_types.specs.Sets.{parse_set, parse_set_up_to}
 use Rattle.der_asn1_types.specs.BorrowedSets.{parse_borrowed}
 use Rattle.der_asn1_types.specs.TimeReading.{parse_generalized, parse_utc}
@@ -131,7 +131,7 @@ parse_algorithm_identifier = parse_field (parse_tagged ObjectIdentifier (parse_i
 unfoldable pub nested_types : Table
 nested_types name =
     if bytes_eq name (codes "sequenceref") then Some (canonical_tagged Sequence parse_octets)
-    else if bytes_eq name (codes "seqof5-u16") then Some (canonical_tagged Sequence (parse_items_up_to 5 parse_u16))
+    else if bytes_eq name (codes "seqof5-u16") then Some (canonical_tagged Sequence (parse_sequence_of 5 parse_u16))
     else if bytes_eq name (codes "algid") then Some (canonical_tagged Sequence parse_algorithm_identifier)
     else None
 

@@ -5,14 +5,15 @@ ghost use Rattle.der_asn1_types.specs.Decoding.{ReadsAll};
 
 use der_asn1_types::asn1::{ObjectIdentifier, OctetStringRef};
 use der_asn1_types::laws::sequence_is_read_back;
-use der_asn1_types::{Encode, End, Error, Field, FieldSequence, Form, FromDer, Implicit};
+use der_asn1_types::{Encode, Error, FieldSequence, Fields3, Form, FromDer, Implicit};
 use std::alloc::Global;
 
 /// An identifier, a qualifier that may be absent, and a version, `[0] IMPLICIT INTEGER`, that may be
 /// absent.
-pub type PolicyList<'a> = Field<
+pub type PolicyList<'a> = Fields3<
     ObjectIdentifier<39>,
-    Field<Option<OctetStringRef<'a>>, Field<Option<Implicit<u8, 0>>, End>>,
+    Option<OctetStringRef<'a>>,
+    Option<Implicit<u8, 0>>,
 >;
 
 /// A policy.

@@ -1,5 +1,5 @@
 //! Callers of the layer, each a task of a user, with a contract of its own that the prover has
-//! accepted. They stand on `der_asn1_types`, and on `der_fields` for its macros.
+//! accepted. They stand on `der_asn1_types` alone.
 #![tactic(auto)]
 
 mod anys;

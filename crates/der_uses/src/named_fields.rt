@@ -7,9 +7,9 @@ ghost use Rattle.der_asn1_types.specs.Listing.{field, end};
 use der_asn1_types::asn1::{ObjectIdentifier, OctetStringRef};
 use der_asn1_types::laws::named_sequence_is_read_back;
 use der_asn1_types::{
-    Encode, End, Error, Field, Form, FromDer, Implicit, NamedFields, NamedSequence,
+    Encode, End, Error, Field, Form, FromDer, Implicit, NamedFields, NamedSequence, from_list,
+    to_list,
 };
-use der_fields::{from_list, to_list};
 use std::alloc::Global;
 
 /// The fields of a policy, by their names.

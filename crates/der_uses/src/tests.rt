@@ -112,7 +112,7 @@ fn a_policy_is_read(rt: HostRuntime) -> Result<(), Fail> {
     }
     match read_policy(rt.alloc(), &octets) {
         Ok(policy) => {
-            holds(&rt, policy.fields.rest.first.is_some());
+            holds(&rt, policy.fields.second().is_some());
             let written = numbered(write_policy(rt.alloc(), &policy))?;
             same(&rt, written.as_slice(), octets.as_slice());
             holds(&rt, is_same_policy(&policy, &policy));

@@ -16,9 +16,10 @@ use Rattle.der_tlv.specs.ReaderState.{ReaderState, IsReaderState, rest, unless_f
 use Rattle.der_tlv.proofs.ReaderStates.{rest-after_read, length-rest}
 use Rattle.der_elem.specs.declared.form.Form as form
 use Rattle.der_elem.specs.Parsing.{Parse, tagged_contents}
-use Rattle.der_elem.specs.Decoding.{Faults, Decoded, NotDecoded}
-use Rattle.der_elem.proofs.AtContents.{AtHeader, AtContents, parse_behind, parse_too_long, shown_ready, shown_rules, parse_shown, taken, after_contents, unnest_possible}
-use Rattle.der_wrap.specs.ClassTags.{class_tag}
+use Rattle.der_elem.specs.Decoding.{Faults, OtherHeader, Decoded, NotDecoded}
+use Rattle.der_elem.proofs.OtherTags.{next_is_other}
+use Rattle.der_elem.proofs.AtContents.{AtHeader, AtContents, parse_after, parse_too_long, shown_ready, shown_rules, parse_shown, taken, after_contents, unnest_possible}
+use Rattle.der_wrap.specs.ClassTags.{class_tag, in_class}
 use Rattle.der_wrap.specs.TaggedValues.{all_of, one_encoding, in_explicit, explicit_with_header, parse_explicit, AcceptsExplicit}
 use Rattle.der_wrap.specs.TaggedValueLaws.{class_tag-constructed, class_tag-class}
 
@@ -34,7 +35,7 @@ header_fault_explicit {old} {new} {kind} fault bits parse rules = at old.failed 
         rw e (ap (explicit_with_header bits parse rules old.position (rest old)) there)
 
 module _ {header : Header} {old mid : ReaderState} (at : AtHeader header old mid) (bits : ℕ) (parse : Parse) (rules : EncodingRules) where
-  parse_is : parse_explicit bits parse rules old.position (rest old) ≡ in_explicit bits header.tag (parse_behind (one_encoding parse) rules old header)
+  parse_is : parse_explicit bits parse rules old.position (rest old) ≡ in_explicit bits header.tag (parse_after (one_encoding parse) rules old header)
   unfolding parse_explicit
   parse_is = ap (explicit_with_header bits parse rules old.position (rest old)) at.head.parsed
 
@@ -44,13 +45,18 @@ module _ {header : Header} {old mid : ReaderState} (at : AtHeader header old mid
 
   -- a tag that is taken
   module _ (n : ℕ) (tag_is : header.tag ≡ class_tag bits true n) where
-    behind : parse_explicit bits parse rules old.position (rest old) ≡ parse_behind (one_encoding parse) rules old header
+    behind : parse_explicit bits parse rules old.position (rest old) ≡ parse_after (one_encoding parse) rules old header
     behind =
-        parse_is ∙ ap (λ t. in_explicit bits t (parse_behind (one_encoding parse) rules old header)) tag_is ∙ rw (class_tag-constructed true n bits, class_tag-class true n bits) refl
+        parse_is ∙ ap (λ t. in_explicit bits t (parse_after (one_encoding parse) rules old header)) tag_is ∙ rw (class_tag-constructed true n bits, class_tag-class true n bits) refl
 
     -- contents octets longer than what is left
     pub too_long_explicit : {new : ReaderState} {kind : ErrorKind} → OctetsRefused mid new header.length kind → unless_failed (parse_explicit bits parse rules) old ≡ Err kind
     too_long_explicit refused = rw at.head.ready (behind ∙ parse_too_long at refused (one_encoding parse) rules)
+
+-- a header with a tag that is taken has none of another class
+pub no_other_class : {header : Header} {old mid : ReaderState} {A : Type 0} → AtHeader header old mid → (bits n : ℕ) → header.tag ≡ class_tag bits true n → OtherHeader (in_class bits) old → A
+no_other_class at bits n tag_is other =
+    let e = sym (ap (in_class bits) tag_is ∙ class_tag-class true n bits) ∙ next_is_other at other in absurd (cc)
 
 module _ {T : Type 0} (F : form.Ghosts T) {header : Header} {old mid shown : ReaderState} {end : ℕ} (c : AtContents header old mid shown end) (bits n : ℕ) (tag_is : header.tag ≡ class_tag bits true n) where
   parse_inner : parse_explicit bits F.parse old.rules old.position (rest old) ≡ tagged_contents header.tag (length (octets_of header) + header.length) (all_of shown.position (length (rest shown)) (F.parse shown.rules shown.position (rest shown)))
@@ -62,10 +68,10 @@ module _ {T : Type 0} (F : form.Ghosts T) {header : Header} {old mid shown : Rea
       rw c.at.head.ready (parse_inner ∙ ap (tagged_contents header.tag (length (octets_of header) + header.length)) e)
 
   -- the fault of the value
-  pub value_fault_explicit : {new : ReaderState} {kind : ErrorKind} → NotDecoded F shown new kind → Faults F.TAKES_MEMORY (unless_failed (parse_explicit bits F.parse old.rules) old) kind
+  pub value_fault_explicit : {new : ReaderState} {kind : ErrorKind} → NotDecoded F shown new kind → Faults F.TAKES_MEMORY false (unless_failed (parse_explicit bits F.parse old.rules) old) kind
   value_fault_explicit {new} {kind} told =
       elim told.reason [
-        | inl m ↦ inl m
+        | inl m ↦ inl (record { kind_is = m.kind_is; takes = m.takes; faultless = λ h. absurd (cc) })
         | inr e ↦
             let there : F.parse shown.rules shown.position (rest shown) ≡ Err kind = rw (shown_ready c) at e in
             inr (as_fault (ap (all_of shown.position (length (rest shown))) there))
@@ -91,8 +97,8 @@ module _ {T : Type 0} (F : form.Ghosts T) {header : Header} {old mid shown : Rea
     all_taken : told.taken ≡ length (rest shown) → after ≡ after_read shown (length (rest shown))
     all_taken e = told.after ∙ ap (after_read shown) e
 
-    fault_behind : {kind : ErrorKind} → (told.taken == length (rest shown)) ≡ false → kind ≡ unnest_fault after → unless_failed (parse_explicit bits F.parse old.rules) old ≡ Err kind
-    fault_behind {kind} other fault =
+    fault_after : {kind : ErrorKind} → (told.taken == length (rest shown)) ≡ false → kind ≡ unnest_fault after → unless_failed (parse_explicit bits F.parse old.rules) old ≡ Err kind
+    fault_after {kind} other fault =
         let l = length-rest shown sound in
         let p = position_after in
         let e = end_after in
@@ -101,7 +107,7 @@ module _ {T : Type 0} (F : form.Ghosts T) {header : Header} {old mid shown : Rea
         let there : TrailingData (shown.position + told.taken) (length (rest shown) - told.taken) ≡ kind = ap (λ p. TrailingData p (length (rest shown) - told.taken)) (sym position_after) ∙ ap (TrailingData after.position) (sym left) ∙ sym k in
         as_fault (parsed_taken ∙ rw other (ap Err there))
 
-    -- octets are left over behind the value
+    -- octets are left over after the value
     pub left_over_explicit : {new : ReaderState} {kind : ErrorKind} → UnnestRefused after new end kind → unless_failed (parse_explicit bits F.parse old.rules) old ≡ Err kind
     left_over_explicit {new} {kind} refused = by_count (told.taken == length (rest shown)) refl
       where
@@ -111,7 +117,7 @@ module _ {T : Type 0} (F : form.Ghosts T) {header : Header} {old mid shown : Rea
             let possible = unnest_possible c all in
             let impossible = refused.impossible in
             absurd (cc)
-        by_count false e = fault_behind e refused.fault_is
+        by_count false e = fault_after e refused.fault_is
 
     both : (a b d e : Bool) → (a && b && d && e) ≡ true → b ≡ true
     both true true d e h = refl

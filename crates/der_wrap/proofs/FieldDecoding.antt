@@ -1,5 +1,6 @@
--- Decoding a field that may be absent, behind a tag of its class and number.
+-- Decoding a field that may be absent, after a tag of its class and number.
 use Rattle.std.proofs.Common.{◌≡◌, ℕ, ◌+◌, ◌<◌, ◌^◌, List, [], ◌∷◌, ◌++◌, length, take, drop, Bool, true, false, Result, Ok, Err, refl, sym, ap, ◌∙◌, subst, append_assoc, ◌==◌}
+use Rattle.std.specs.Prelude.{IsOk}
 use borrow.Author.Tests.{eqb-true}
 use Rattle.std.proofs.lemmas.Bool.{and_parts}
 use Rattle.std.proofs.lemmas.List.{take-append-drop}
@@ -18,7 +19,7 @@ use Rattle.der_tlv.specs.declared.encoding_rules.EncodingRules.{EncodingRules}
 use Rattle.der_tlv.specs.ReaderState.{ReaderState, rest, unless_failed}
 use Rattle.der_elem.specs.Parsing.{Parse}
 use Rattle.der_elem.specs.declared.form.Form as form
-use Rattle.der_wrap.specs.TaggedValues.{parse_field, parse_explicit, tag_of_mode, contents_of_mode, AcceptsExplicit}
+use Rattle.der_wrap.specs.TaggedValues.{parse_optional_field, parse_explicit, tag_of_mode, contents_of_mode, AcceptsExplicit}
 use Rattle.der_wrap.specs.ClassTags.{class_of_bits, class_tag}
 use Rattle.der_wrap.specs.TaggedValueLaws.{class_tag-number, class_tag-with}
 
@@ -54,14 +55,19 @@ module _ (bits n p : ℕ) where
   header_matched (x ∷ xs) all h m e = class_tag-match_read bits n h.tag (matched_header (x ∷ xs) all h (read_tag p (x ∷ xs)) m e)
 
   -- where a field is found, parsing comes to what its own parse comes to
-  pub found_field : (parse : Parse) (rules : EncodingRules) (octets : List ℕ) → match_tag (class_of_bits bits) n p octets ≡ Ok true → parse_field bits n parse rules p octets ≡ parse rules p octets
+  pub found_field : (parse : Parse) (rules : EncodingRules) (octets : List ℕ) → match_tag (class_of_bits bits) n p octets ≡ Ok true → parse_optional_field bits n parse rules p octets ≡ parse rules p octets
   found_field parse rules octets m = rw m refl
 
 -- a reader that has seen a field that was found
-pub found_fault : (bits n : ℕ) (s : ReaderState) → s.failed ≡ false → match_tag (class_of_bits bits) n s.position (rest s) ≡ Ok true → (parse : Parse) (rules : EncodingRules) {kind : ErrorKind} → unless_failed (parse rules) s ≡ Err kind → unless_failed (parse_field bits n parse rules) s ≡ Err kind
+pub found_fault : (bits n : ℕ) (s : ReaderState) → s.failed ≡ false → match_tag (class_of_bits bits) n s.position (rest s) ≡ Ok true → (parse : Parse) (rules : EncodingRules) {kind : ErrorKind} → unless_failed (parse rules) s ≡ Err kind → unless_failed (parse_optional_field bits n parse rules) s ≡ Err kind
 found_fault bits n s ready m parse rules {kind} e =
     let there : parse rules s.position (rest s) ≡ Err kind = rw ready at e in
     rw ready (found_field bits n s.position parse rules (rest s) m ∙ there)
+
+pub found_faultless : (bits n : ℕ) (s : ReaderState) → s.failed ≡ false → match_tag (class_of_bits bits) n s.position (rest s) ≡ Ok true → (parse : Parse) (rules : EncodingRules) → IsOk (unless_failed (parse rules) s) → IsOk (unless_failed (parse_optional_field bits n parse rules) s)
+found_faultless bits n s ready m parse rules ok =
+    let there : IsOk (parse rules s.position (rest s)) = rw ready at ok in
+    rw (ready, found_field bits n s.position parse rules (rest s) m) there
 
 -- the number of an encoding that octets begin with, and that is matched
 pub number_matched : (bits n m p : ℕ) (constructed : Bool) (octets inner : List ℕ) (taken : ℕ) → m < 2 ^ 32 → take taken octets ≡ tlv (class_tag bits constructed m) inner → match_tag (class_of_bits bits) n p octets ≡ Ok true → m ≡ n
@@ -91,7 +97,7 @@ module _ {T : Type 0} (F : form.Ghosts T) (bits n m p : ℕ) (mode : TagMode) (v
   pub accepted_field : AcceptsExplicit F.accepts bits n mode v rules (take taken octets)
   accepted_field = subst (λ k. AcceptsExplicit F.accepts bits k mode v rules (take taken octets)) explicit_number a
 
-  pub parsed_field : parse_explicit bits F.parse rules p octets ≡ Ok (taken, tlv (tag_of_mode bits mode m own) (contents_of_mode mode (F.encoding v) contents)) → parse_field bits n (parse_explicit bits F.parse) rules p octets ≡ Ok (taken, tlv (class_tag bits true n) (F.encoding v))
+  pub parsed_field : parse_explicit bits F.parse rules p octets ≡ Ok (taken, tlv (tag_of_mode bits mode m own) (contents_of_mode mode (F.encoding v) contents)) → parse_optional_field bits n (parse_explicit bits F.parse) rules p octets ≡ Ok (taken, tlv (class_tag bits true n) (F.encoding v))
   parsed_field parsed =
       let e = a.mode_is in
       let encoded : tlv (tag_of_mode bits mode m own) (contents_of_mode mode (F.encoding v) contents) ≡ tlv (class_tag bits true m) (F.encoding v) = rw e refl in

@@ -1,5 +1,6 @@
 -- Decoding implicit tagging: its faults, and its value.
 use Rattle.std.proofs.Common.{◌≡◌, ℕ, ◌+◌, List, length, take, Bool, true, false, Result, Ok, Err, refl, sym, ap, ◌∙◌, subst, inl, inr}
+use Rattle.std.specs.Prelude.{IsOk}
 use Rattle.der_tlv.specs.declared.error.ErrorKind.{ErrorKind}
 use Rattle.der_tlv.specs.declared.error.ErrorKind.TheVariants.{Failed}
 use Rattle.der_tlv.specs.declared.encoding_rules.EncodingRules.{EncodingRules}
@@ -10,10 +11,10 @@ use Rattle.der_tlv.specs.HeaderOctets.{tlv}
 use Rattle.der_tlv.specs.HeaderReading.{read_header, octets_of}
 use Rattle.der_tlv.specs.Reading.{HeadFault, OctetsRefused}
 use Rattle.der_tlv.specs.ReaderState.{ReaderState, rest, unless_failed}
-use Rattle.der_elem.specs.ValueForm.{ValueForm}
+use Rattle.der_elem.specs.ContentsFormat.{ContentsFormat}
 use Rattle.der_elem.specs.Parsing.{ContentsParse, tagged_contents}
 use Rattle.der_elem.specs.Decoding.{Faults, ValueDecoded, ValueNotDecoded}
-use Rattle.der_elem.proofs.AtContents.{AtHeader, AtContents, parse_behind_as, parse_too_long_as, shown_ready, shown_rules, parse_shown_as, taken}
+use Rattle.der_elem.proofs.AtContents.{AtHeader, AtContents, parse_after_as, parse_too_long_as, shown_ready, shown_rules, parse_shown_as, taken}
 use Rattle.der_wrap.specs.ClassTags.{class_tag}
 use Rattle.der_wrap.specs.TaggedValues.{form_allowed, in_implicit, implicit_with_header, parse_implicit, AcceptsImplicit}
 
@@ -29,7 +30,7 @@ header_fault_implicit {old} {new} {kind} fault t own parse rules = at old.failed
         rw e (ap (implicit_with_header t own parse rules old.position (rest old)) there)
 
 module _ {header : Header} {old mid : ReaderState} (at : AtHeader header old mid) (t : Tag) (own : Bool) (parse : ContentsParse) (rules : EncodingRules) where
-  parse_is : parse_implicit t own parse rules old.position (rest old) ≡ in_implicit rules own header.tag (parse_behind_as t parse rules old header)
+  parse_is : parse_implicit t own parse rules old.position (rest old) ≡ in_implicit rules own header.tag (parse_after_as t parse rules old header)
   unfolding parse_implicit
   parse_is = ap (implicit_with_header t own parse rules old.position (rest old)) at.head.parsed
 
@@ -39,23 +40,33 @@ module _ {header : Header} {old mid : ReaderState} (at : AtHeader header old mid
 
   -- a form that is taken
   module _ (allowed : form_allowed rules (is_constructed header.tag) own ≡ true) where
-    behind : parse_implicit t own parse rules old.position (rest old) ≡ parse_behind_as t parse rules old header
+    behind : parse_implicit t own parse rules old.position (rest old) ≡ parse_after_as t parse rules old header
     behind = parse_is ∙ rw allowed refl
 
     -- contents octets longer than what is left
     pub too_long_implicit : {new : ReaderState} {kind : ErrorKind} → OctetsRefused mid new header.length kind → unless_failed (parse_implicit t own parse rules) old ≡ Err kind
     too_long_implicit refused = rw at.head.ready (behind ∙ parse_too_long_as at refused t parse rules)
 
-module _ {T : Type 0} (F : ValueForm T) {header : Header} {old mid shown : ReaderState} {end : ℕ} (c : AtContents header old mid shown end) (t : Tag) (own : Bool) (allowed : form_allowed old.rules (is_constructed header.tag) own ≡ true) where
+module _ {T : Type 0} (F : ContentsFormat T) {header : Header} {old mid shown : ReaderState} {end : ℕ} (c : AtContents header old mid shown end) (t : Tag) (own : Bool) (allowed : form_allowed old.rules (is_constructed header.tag) own ≡ true) where
   parse_inner : parse_implicit t own F.parse old.rules old.position (rest old) ≡ tagged_contents t (length (octets_of header) + header.length) (F.parse shown.rules shown.position (rest shown))
   parse_inner =
       behind c.at t own F.parse old.rules allowed ∙ parse_shown_as c t F.parse old.rules ∙ ap (λ rules. tagged_contents t (length (octets_of header) + header.length) (F.parse rules shown.position (rest shown))) (sym (shown_rules c))
 
+  -- contents octets without a fault are those of an encoding without one
+  faultless : IsOk (unless_failed (F.parse shown.rules) shown) → IsOk (unless_failed (parse_implicit t own F.parse old.rules) old)
+  faultless ok =
+      let there : IsOk (F.parse shown.rules shown.position (rest shown)) = rw (shown_ready c) at ok in
+      rw (c.at.head.ready, parse_inner) (still (F.parse shown.rules shown.position (rest shown)) there)
+    where
+      still : (r : Result (List ℕ) ErrorKind) → IsOk r → IsOk (tagged_contents t (length (octets_of header) + header.length) r)
+      still (Ok contents) h = h
+      still (Err k) h = absurd (cc)
+
   -- the fault of the contents octets
-  pub contents_fault_implicit : {kind : ErrorKind} → ValueNotDecoded F shown kind → Faults F.TAKES_MEMORY (unless_failed (parse_implicit t own F.parse old.rules) old) kind
+  pub contents_fault_implicit : {kind : ErrorKind} → ValueNotDecoded F shown kind → Faults F.TAKES_MEMORY F.FAULTS_FIRST (unless_failed (parse_implicit t own F.parse old.rules) old) kind
   contents_fault_implicit {kind} told =
       elim told.reason [
-        | inl m ↦ inl m
+        | inl m ↦ inl (record { kind_is = m.kind_is; takes = m.takes; faultless = λ first. faultless (m.faultless first) })
         | inr e ↦
             let there : F.parse shown.rules shown.position (rest shown) ≡ Err kind = rw (shown_ready c) at e in
             inr (rw c.at.head.ready (parse_inner ∙ ap (tagged_contents t (length (octets_of header) + header.length)) there))

@@ -1,3 +1,4 @@
 pub mod ExplicitDecoding
 pub mod FieldDecoding
 pub mod ImplicitDecoding
+pub mod OwnTags

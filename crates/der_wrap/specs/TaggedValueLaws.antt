@@ -1,9 +1,12 @@
 -- The laws of explicit tagging, from those of the values.
-use Rattle.std.proofs.Common.{◌≡◌, ℕ, ◌+◌, ◌*◌, lit<, ◌<◌, ◌^◌, List, [], ◌∷◌, ◌++◌, length, Bool, true, false, Ok, refl, sym, ap, ◌∙◌, subst, ◌==◌, if◌then◌else◌, append_assoc, eq-eqb}
+use Rattle.std.proofs.Common.{◌≡◌, ℕ, ◌+◌, ◌-◌, ◌*◌, lit<, ◌<◌, ◌^◌, List, [], ◌∷◌, ◌++◌, length, drop, Bool, true, false, Result, Ok, Err, refl, sym, ap, ◌∙◌, subst, ◌==◌, if◌then◌else◌, append_assoc, eq-eqb}
 use borrow.Author.Tests.{eqb-true}
 use Rattle.std.proofs.lemmas.List.{length-append, append-nil}
 use Rattle.std.proofs.Math.Seq.{take-append_seam, drop-append_seam}
 use Rattle.der_tlv.specs.declared.encoding_rules.EncodingRules.{EncodingRules}
+use Rattle.der_tlv.specs.declared.error.ErrorKind.{ErrorKind}
+use Rattle.der_tlv.specs.declared.error.ErrorKind.TheVariants.{TrailingData}
+use Rattle.der_tlv.specs.declared.header.Header.{Header}
 use Rattle.der_tlv.specs.declared.tag.Tag.{Tag}
 use Rattle.der_tlv.specs.declared.tag.class.Class.{Class}
 use Rattle.der_tlv.specs.declared.tag.class.Class.TheVariants as classes
@@ -17,12 +20,15 @@ use Rattle.der_tlv.specs.LengthOctets.{length_octets}
 use Rattle.der_tlv.specs.LengthLaws.{not_short}
 use Rattle.der_tlv.specs.HeaderOctets.{header_octets, tlv}
 use Rattle.der_tlv.specs.HeaderLaws.{read_header-octets}
+use Rattle.der_tlv.specs.HeaderReading.{read_header}
+use Rattle.der_tlv.specs.OctetFaults.{IsOfOctets, of_octets_either, header_of_octets_read}
+use Rattle.der_elem.specs.Parsing.{Parse}
 use Rattle.der_elem.specs.declared.form.Form as form
 use Rattle.der_elem.specs.Accepting.{Fits, BeginsWith, MayFollow}
-use Rattle.der_elem.specs.Leading.{LeadsTag}
-use Rattle.der_elem.specs.TaggedLaws.{contents_fit, length-tlv}
-use Rattle.der_wrap.specs.ClassTags.{class_tag, in_class}
-use Rattle.der_wrap.specs.TaggedValues.{tag_of_mode, contents_of_mode, OneTaggedForm, one_encoding, accepts_one_encoding, explicit_with_header, parse_explicit, AcceptsExplicit, ReadableExplicit}
+use Rattle.der_elem.specs.FirstTags.{BeginsWithTag}
+use Rattle.der_elem.specs.TaggedLaws.{contents_fit, contents_of_octets, length-tlv}
+use Rattle.der_wrap.specs.ClassTags.{class_of_bits, class_tag, in_class}
+use Rattle.der_wrap.specs.TaggedValues.{tag_of_mode, contents_of_mode, ComparableTagged, all_of, one_encoding, accepts_one_encoding, explicit_with_header, parse_explicit, AcceptsExplicit, ReadableExplicit}
 
 module _ (constructed : Bool) (n : ℕ) where
   abbrev choice : Bool → Bool → Tag
@@ -54,15 +60,20 @@ module _ (constructed : Bool) (n : ℕ) where
   abbrev class_choice : Bool → Bool → Class
   class_choice one two = if one then classes.Application else (if two then classes.ContextSpecific else classes.Private)
 
-  class_of_choice : (one two : Bool) → (class_index (class_of (choice one two)) == class_index (class_choice one two)) ≡ true
+  class_of_choice : (one two : Bool) → class_of (choice one two) ≡ class_choice one two
   class_of_choice true two = refl
   class_of_choice false true = refl
   class_of_choice false false = refl
 
   -- its class
-  pub class_tag-class : (bits : ℕ) → in_class bits (class_tag bits constructed n) ≡ true
+  pub class_tag-class_of : (bits : ℕ) → class_of (class_tag bits constructed n) ≡ class_of_bits bits
   unfolding class_tag
-  class_tag-class bits = class_of_choice (bits == 1) (bits == 2)
+  class_tag-class_of bits = class_of_choice (bits == 1) (bits == 2)
+
+  pub class_tag-class : (bits : ℕ) → in_class bits (class_tag bits constructed n) ≡ true
+  class_tag-class bits =
+      let index = class_index (class_of_bits bits) in
+      ap (λ c. class_index c == index) (class_tag-class_of bits) ∙ eq-eqb index index refl
 
 -- the tag of a tagged value is of the class
 pub tag_of_mode-class : (bits : ℕ) (mode : TagMode) (n : ℕ) (inner : Tag) → in_class bits (tag_of_mode bits mode n inner) ≡ true
@@ -128,9 +139,9 @@ module _ {T : Type 0} (F : form.Ghosts T) where
             is_one = class_tag-class true n bits;
           }
 
-      pub led_explicit : (rules : EncodingRules) (b : List ℕ) → AcceptsExplicit F.accepts bits n mode v rules b → LeadsTag (tag_of_mode bits mode n own) b
-      led_explicit rules b a =
-          subst (λ t. LeadsTag t b) (sym (ap (λ m. tag_of_mode bits m n own) a.mode_is)) (record {
+      pub begins_first_explicit : (rules : EncodingRules) (b : List ℕ) → AcceptsExplicit F.accepts bits n mode v rules b → BeginsWithTag (tag_of_mode bits mode n own) b
+      begins_first_explicit rules b a =
+          subst (λ t. BeginsWithTag t b) (sym (ap (λ m. tag_of_mode bits m n own) a.mode_is)) (record {
             others = length_octets (length a.inner) ++ a.inner;
             octets_are = a.octets_are ∙ append_assoc (identifier (class_tag bits true n)) (length_octets (length a.inner)) a.inner;
             is_tag = numbered_tag a.numbered;
@@ -164,6 +175,24 @@ module _ {T : Type 0} (F : form.Ghosts T) where
         (r.0, subst (F.accepts rules v) (sym (explicit_contents r.0)) (F.accepts_encoding rules v r.1))
 
   -- two values with explicit tagging are comparable where the values in them are
-  pub one_explicit_form : (tag_of : T → Tag) (mode other : TagMode) (v w : T) → mode ≡ Explicit → other ≡ Explicit → F.comparable v w → OneTaggedForm F.comparable tag_of mode other v w
-  one_explicit_form tag_of mode other v w e f one =
+  pub comparable_explicit_tagged : (tag_of : T → Tag) (mode other : TagMode) (v w : T) → mode ≡ Explicit → other ≡ Explicit → F.comparable v w → ComparableTagged F.comparable tag_of mode other v w
+  comparable_explicit_tagged tag_of mode other v w e f one =
       record { same_mode = e ∙ sym f; comparable = one; same_tag = λ i. let k = sym e ∙ i in absurd (cc) }
+
+-- the faults are of the octets, where those of the value are
+all_of_octets : (p len : ℕ) (r : Result (ℕ × List ℕ) ErrorKind) → IsOfOctets r → IsOfOctets (all_of p len r)
+all_of_octets p len (Ok (n, encoding)) h = of_octets_either (n == len) (Ok encoding) (Err (TrailingData (p + n) (len - n))) tt refl
+all_of_octets p len (Err k) h = h
+
+module _ (parse : Parse) (of_octets : (rules : EncodingRules) (p : ℕ) (c : List ℕ) → IsOfOctets (parse rules p c)) where
+  pub one_encoding_of_octets : (rules : EncodingRules) (p : ℕ) (octets : List ℕ) → IsOfOctets (one_encoding parse rules p octets)
+  one_encoding_of_octets rules p octets = all_of_octets p (length octets) (parse rules p octets) (of_octets rules p octets)
+
+  with_header_of_octets : (bits : ℕ) (rules : EncodingRules) (p : ℕ) (octets : List ℕ) (r : Result (ℕ × Header) ErrorKind) → IsOfOctets r → IsOfOctets (explicit_with_header bits parse rules p octets r)
+  with_header_of_octets bits rules p octets (Err k) h = h
+  with_header_of_octets bits rules p octets (Ok (count, header)) h =
+      of_octets_either (is_constructed header.tag) _ _ (of_octets_either (in_class bits header.tag) _ _ (contents_of_octets header.tag (one_encoding parse) one_encoding_of_octets rules count (p + count) header.length (drop count octets)) refl) refl
+
+  pub explicit_of_octets : (bits : ℕ) (rules : EncodingRules) (p : ℕ) (octets : List ℕ) → IsOfOctets (parse_explicit bits parse rules p octets)
+  unfolding parse_explicit
+  explicit_of_octets bits rules p octets = with_header_of_octets bits rules p octets (read_header p octets) (header_of_octets_read p octets)

@@ -37,7 +37,7 @@ mode_cmp Implicit Explicit = Greater
 mode_cmp Implicit Implicit = Equal
 
 -- Two tagged values are comparable: of one mode, and their values are comparable; under implicit tagging with one tag of their own, which is not encoded.
-pub record OneTaggedForm {T : Type 0} (alike : T → T → Type 0) (tag_of : T → Tag) (mode other : TagMode) (v w : T) : Type 0 where
+pub record ComparableTagged {T : Type 0} (alike : T → T → Type 0) (tag_of : T → Tag) (mode other : TagMode) (v w : T) : Type 0 where
   pub same_mode : mode ≡ other
   pub comparable : alike v w
   pub same_tag : mode ≡ Implicit → tag_of v ≡ tag_of w
@@ -79,7 +79,7 @@ implicit_with_header t own parse rules p octets (Err k) = Err k
 implicit_with_header t own parse rules p octets (Ok (count, h)) =
     in_implicit rules own h.tag (parse_contents t parse rules count (p + count) h.length (drop count octets))
 
--- Implicit tagging, which is encoded with this tag in this form, behind a tag of its class and number: the header's faults, the form's (8), contents longer than what is left (2, 9), the contents'.
+-- Implicit tagging, which is encoded with this tag in this form, after a tag of its class and number: the header's faults, the form's (8), contents longer than what is left (2, 9), the contents'.
 unfoldable pub parse_implicit : Tag → Bool → ContentsParse → Parse
 parse_implicit t own parse rules p octets = implicit_with_header t own parse rules p octets (read_header p octets)
 
@@ -89,8 +89,8 @@ at_match parsed (Ok false) = Ok (0, [])
 at_match parsed (Err k) = Err k
 
 -- A field with this number: none at the end and before another class or number; the next tag's faults come first.
-abbrev pub parse_field : ℕ → ℕ → Parse → Parse
-parse_field bits n parse rules p octets = at_match (parse rules p octets) (match_tag (class_of_bits bits) n p octets)
+abbrev pub parse_optional_field : ℕ → ℕ → Parse → Parse
+parse_optional_field bits n parse rules p octets = at_match (parse rules p octets) (match_tag (class_of_bits bits) n p octets)
 
 -- the grammar of explicit tagging: a constructed tag of the class, and then an encoding that the value is read from
 pub record AcceptsExplicit {T : Type 0} (accepts : EncodingRules → T → List ℕ → Type 0) (bits n : ℕ) (mode : TagMode) (v : T) (rules : EncodingRules) (octets : List ℕ) : Type 0 where

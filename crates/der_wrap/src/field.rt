@@ -1,7 +1,7 @@
 //! Fields that may be absent, told by the class and the number of their tag.
 
 ghost use Rattle.std.specs.Prelude.{◌≡◌, length};
-ghost use Rattle.der_wrap.specs.Fields.{DecodesExplicit, DecodesImplicit, ReadsAny};
+ghost use Rattle.der_wrap.specs.TaggedFields.{DecodesExplicit, DecodesImplicit, ReadsAny};
 ghost use Rattle.der_opaque.specs.AnyRef.{tag_of, contents_of};
 
 use crate::class_tag::{check_form, class_of_bits, in_class};
@@ -18,7 +18,7 @@ impl<T: Tagged, const CLASS: u8> TaggedValue<T, CLASS> {
     /// # Errors
     /// `ErrorKind::Failed` (17) on a failed reader; the faults of the next tag;
     /// `ErrorKind::Noncanonical` (8) for a primitive tag; the value's faults;
-    /// `ErrorKind::TrailingData` (3) where octets are left over behind the value.
+    /// `ErrorKind::TrailingData` (3) where octets are left over after the value.
     pub fn decode_explicit<'a, R: Source<'a>>(
         alloc: Global,
         reader: &mut R,

@@ -1,4 +1,4 @@
-//! Tagged values: a value behind a tag of another class than its own (X.690 8.14).
+//! Tagged values: a value after a tag of another class than its own (X.690 8.14).
 //!
 //! Explicit tagging stands around the whole encoding, and is constructed: [1] of the INTEGER 5 is
 //! encoded as A1 03 02 01 05. Implicit tagging stands in place of the value's tag, and is constructed
@@ -6,21 +6,21 @@
 //!
 //! Reading with explicit tagging refuses a primitive tag (8), then another class (4, none expected),
 //! contents longer than what is left (`ErrorKind::Incomplete`, 2), the value's faults, and octets
-//! left over behind the value (`ErrorKind::TrailingData`, 3). Reading with implicit tagging needs
+//! left over after the value (`ErrorKind::TrailingData`, 3). Reading with implicit tagging needs
 //! the number, so it is a call of its own, `decode_implicit`.
 
 ghost use Rattle.std.specs.Prelude.{◌≡◌, true, false, None, Some, refl};
 ghost use Rattle.der_tlv.specs.declared.tag.mode.TagMode.TheVariants.{Explicit};
 ghost use Rattle.der_tlv.specs.HeaderOctets.{tlv};
 ghost use Rattle.der_wrap.specs.ClassTags.{class_tag, in_class};
-ghost use Rattle.der_wrap.specs.TaggedValues.{tag_of_mode, contents_of_mode, OneTaggedForm, one_encoding, accepts_one_encoding, parse_explicit, AcceptsExplicit, ReadableExplicit};
-ghost use Rattle.der_wrap.specs.TaggedValueLaws.{parse_of_one_encoding, same_length_one_encoding, accepts_own_encoding, parse_of_explicit, begins_explicit, led_explicit, tag_of_mode-class, same_length_explicit, accepts_explicit_encoding, readable_explicit, one_explicit_form};
-ghost use Rattle.der_wrap.specs.TaggedValueEquality.{encoding_eq_tagged_value, copy_encoding_tagged_value, copy_form_tagged_value};
+ghost use Rattle.der_wrap.specs.TaggedValues.{tag_of_mode, contents_of_mode, ComparableTagged, one_encoding, accepts_one_encoding, parse_explicit, AcceptsExplicit, ReadableExplicit};
+ghost use Rattle.der_wrap.specs.TaggedValueLaws.{one_encoding_of_octets, explicit_of_octets, parse_of_one_encoding, same_length_one_encoding, accepts_own_encoding, parse_of_explicit, begins_explicit, begins_first_explicit, tag_of_mode-class, same_length_explicit, accepts_explicit_encoding, readable_explicit, comparable_explicit_tagged};
+ghost use Rattle.der_wrap.specs.TaggedValueEquality.{copy_is_equal_tagged_value, encoding_eq_tagged_value, copy_encoding_tagged_value, copy_comparable_tagged_value};
 
 use crate::class_tag::{class_tag, explicit_number, in_class};
 use der_elem::{
-    Choice, Decode, DecodeField, DerOrd, Duplicate, Encode, EncodeValue, EncodingEq, Form,
-    FormValue, KnownTags, Tagged, ValueOrd,
+    Choice, Decode, DecodeField, DerOrd, Duplicate, DuplicateIsEqual, Encode, EncodeValue,
+    EncodingEq, Form, FormValue, KnownTags, Tagged, ValueOrd,
 };
 use der_tlv::{Error, Header, Length, Reader, Source, Tag, TagMode, TagNumber, Writer};
 use std::alloc::Global;
@@ -43,18 +43,20 @@ pub struct TaggedValue<T, const CLASS: u8> {
 impl<T: Tagged, const CLASS: u8> FormValue for TaggedValue<T, CLASS> {
     ghost value = { record {
       contents = λ v. contents_of_mode v.tag_mode (T.encoding v.value) (T.value.contents v.value);
-      comparable = λ v w. OneTaggedForm T.comparable T.tag_of v.tag_mode w.tag_mode v.value w.value;
+      comparable = λ v w. ComparableTagged T.comparable T.tag_of v.tag_mode w.tag_mode v.value w.value;
       re_reads = λ v. T.re_reads v.value;
       accepts = λ rules v. accepts_one_encoding T.accepts v.tag_mode rules v.value;
       parse = one_encoding T.parse;
       readable = λ v. (v.tag_mode ≡ Explicit) × T.readable v.value;
       has_tag = λ v t. Unit {0};
-      TAKES_MEMORY = T.TAKES_MEMORY;
+      TAKES_MEMORY = T.Form.TAKES_MEMORY;
+      FAULTS_FIRST = false;
       parse_of_accepted = λ rules v. parse_of_one_encoding T.Form v.tag_mode v.value (T.value.contents v.value) rules;
+      faults_of_octets = one_encoding_of_octets T.parse T.faults_of_octets;
       same_length = λ rules v. same_length_one_encoding T.Form v.tag_mode v.value (T.value.contents v.value) rules;
       accepts_contents = λ rules v. accepts_own_encoding T.Form v.tag_mode v.value (T.value.contents v.value) rules;
       only_readable = λ rules v c a. (a.0, T.only_readable rules v.value c a.1);
-      accepts_comparable = λ rules v w c d a b. one_explicit_form T.Form T.tag_of v.tag_mode w.tag_mode v.value w.value a.0 b.0 (T.accepts_comparable rules v.value w.value c d a.1 b.1);
+      accepts_comparable = λ rules v w c d a b. comparable_explicit_tagged T.Form T.tag_of v.tag_mode w.tag_mode v.value w.value a.0 b.0 (T.accepts_comparable rules v.value w.value c d a.1 b.1);
       re_reads_memory = λ v. T.re_reads_memory v.value;
     } };
 }
@@ -63,7 +65,7 @@ impl<T: Tagged, const CLASS: u8> Form for TaggedValue<T, CLASS> {
     ghost encoding = { λ v. tlv (tag_of_mode CLASS v.tag_mode v.tag_number.0 (T.tag_of v.value))
         (contents_of_mode v.tag_mode (T.encoding v.value) (T.value.contents v.value)) };
 
-    ghost comparable = { λ v w. OneTaggedForm T.comparable T.tag_of v.tag_mode w.tag_mode
+    ghost comparable = { λ v w. ComparableTagged T.comparable T.tag_of v.tag_mode w.tag_mode
         v.value w.value };
 
     ghost re_reads = { λ v. T.re_reads v.value };
@@ -75,19 +77,24 @@ impl<T: Tagged, const CLASS: u8> Form for TaggedValue<T, CLASS> {
 
     ghost tags = { in_class CLASS };
 
-    ghost lead = { λ v. Some (tag_of_mode CLASS v.tag_mode v.tag_number.0 (T.tag_of v.value)) };
+    ghost first_tag_of = { λ v. Some (tag_of_mode CLASS v.tag_mode v.tag_number.0 (T.tag_of v.value)) };
 
     ghost readable = { λ v. ReadableExplicit T.readable v.tag_number.0 v.tag_mode v.value };
 
-    ghost TAKES_MEMORY = { T.TAKES_MEMORY };
+    ghost TAKES_MEMORY = { T.Form.TAKES_MEMORY };
+
+    // octets that are left over after the value are found after it is read
+    ghost FAULTS_FIRST = { false };
 
     ghost parse_of_accepted = { λ rules v. parse_of_explicit T.Form CLASS v.tag_number.0 v.tag_mode
         v.value (T.tag_of v.value) (T.value.contents v.value) rules };
 
+    ghost faults_of_octets = { explicit_of_octets T.parse T.faults_of_octets CLASS };
+
     ghost begins = { λ rules v. begins_explicit T.Form CLASS v.tag_number.0 v.tag_mode v.value
         (T.tag_of v.value) (T.value.contents v.value) rules };
 
-    ghost led = { λ rules v. led_explicit T.Form CLASS v.tag_number.0 v.tag_mode v.value
+    ghost begins_first = { λ rules v. begins_first_explicit T.Form CLASS v.tag_number.0 v.tag_mode v.value
         (T.tag_of v.value) (T.value.contents v.value) rules };
 
     ghost same_length = { λ rules v. same_length_explicit T.Form CLASS v.tag_number.0 v.tag_mode
@@ -100,7 +107,7 @@ impl<T: Tagged, const CLASS: u8> Form for TaggedValue<T, CLASS> {
         v.value (T.tag_of v.value) (T.value.contents v.value) rules };
 
     ghost accepts_comparable = { λ rules v w b c a d.
-        one_explicit_form T.Form T.tag_of v.tag_mode w.tag_mode v.value w.value a.mode_is d.mode_is
+        comparable_explicit_tagged T.Form T.tag_of v.tag_mode w.tag_mode v.value w.value a.mode_is d.mode_is
         (T.accepts_comparable rules v.value w.value a.inner d.inner a.accepted d.accepted) };
 
     ghost re_reads_memory = { λ v. T.re_reads_memory v.value };
@@ -129,7 +136,7 @@ impl<T: Tagged, const CLASS: u8> Tagged for TaggedValue<T, CLASS> {
 
     ghost own_tag = { λ v. tag_of_mode-class CLASS v.tag_mode v.tag_number.0 (T.tag_of v.value) };
 
-    ghost lead_is = { λ v. refl };
+    ghost first_tag_is = { λ v. refl };
 
     ghost re_reads_alike = { λ v h. h };
 
@@ -142,7 +149,7 @@ impl<T: Tagged, const CLASS: u8> Choice for TaggedValue<T, CLASS> {
         in_class(CLASS, tag)
     }
 
-    ghost is_led = { λ v. record {
+    ghost has_first_tag = { λ v. record {
       tag = tag_of_mode CLASS v.tag_mode v.tag_number.0 (T.tag_of v.value);
       is_tag = refl;
     } };
@@ -214,18 +221,23 @@ impl<T: Tagged + Duplicate, const CLASS: u8> Duplicate for TaggedValue<T, CLASS>
         T.encoding_is CLASS v.tag_number.0 w.tag_number.0 v.tag_mode w.tag_mode v.value w.value c.0
         c.1 (T.copy_encoding v.value w.value c.2) };
 
-    ghost copy_form = { λ v w x c. copy_form_tagged_value T.tag_of T.value.contents T.encoding
+    ghost copy_comparable = { λ v w x c. copy_comparable_tagged_value T.tag_of T.value.contents T.encoding
         T.encoding_is T.comparable v.tag_mode w.tag_mode x.tag_mode v.value w.value x.value c.1
-        (T.copy_encoding v.value w.value c.2) (T.copy_form v.value w.value x.value c.2) };
+        (T.copy_encoding v.value w.value c.2) (T.copy_comparable v.value w.value x.value c.2) };
 
     ghost copy_re_reads = { λ v w c. T.copy_re_reads v.value w.value c.2 };
 }
 
+impl<T: Tagged + DuplicateIsEqual, const CLASS: u8> DuplicateIsEqual for TaggedValue<T, CLASS> {
+    ghost copy_is_equal = { λ v w c. copy_is_equal_tagged_value T.eq v.tag_number.0
+        w.tag_number.0 v.tag_mode w.tag_mode v.value w.value c.0 c.1 (T.copy_is_equal v.value w.value c.2) };
+}
+
 impl<'a, R: Source<'a>, T: Tagged + Decode<'a, R>, const CLASS: u8> Decode<'a, R>
     for TaggedValue<T, CLASS> {
-    ghost NEEDS_MEMORY = { T.NEEDS_MEMORY };
+    ghost TAKES_MEMORY = { T.Decode.TAKES_MEMORY };
 
-    const NEEDS_MEMORY: bool = T::NEEDS_MEMORY;
+    const TAKES_MEMORY: bool = <T as Decode<'a, R>>::TAKES_MEMORY;
 
     /// Reads a value with explicit tagging.
     fn decode(alloc: Global, reader: &mut R) -> Result<TaggedValue<T, CLASS>, Error> {
@@ -244,19 +256,19 @@ impl<'a, R: Source<'a>, T: Tagged + Decode<'a, R>, const CLASS: u8> Decode<'a, R
         })
     }
 
-    ghost memory_of_form = { T.memory_of_form };
+    ghost takes_memory_is = { T.Decode.takes_memory_is };
 }
 
 impl<'a, R: Source<'a>, T: Tagged + Decode<'a, R>, const CLASS: u8> DecodeField<'a, R>
     for TaggedValue<T, CLASS> {
-    ghost FIELD_NEEDS_MEMORY = { T.NEEDS_MEMORY };
+    ghost TAKES_MEMORY = { T.Decode.TAKES_MEMORY };
 
-    const FIELD_NEEDS_MEMORY: bool = T::NEEDS_MEMORY;
+    const TAKES_MEMORY: bool = <T as Decode<'a, R>>::TAKES_MEMORY;
 
     /// Reads a value with explicit tagging.
     fn decode_field(alloc: Global, reader: &mut R) -> Result<TaggedValue<T, CLASS>, Error> {
         TaggedValue::<T, CLASS>::decode(alloc, reader)
     }
 
-    ghost memory_of_field = { T.memory_of_form };
+    ghost takes_memory_is = { T.Decode.takes_memory_is };
 }

@@ -2,12 +2,12 @@
 //!
 //! Their encodings are those of the owned form.
 
-ghost use Rattle.std.specs.Prelude.{◌≡◌, true, Some, refl};
+ghost use Rattle.std.specs.Prelude.{◌≡◌, true, false, Some, refl};
 ghost use Rattle.der_tlv.specs.declared.tag.mode.TagMode.TheVariants.{Explicit};
 ghost use Rattle.der_tlv.specs.HeaderOctets.{tlv};
 ghost use Rattle.der_wrap.specs.ClassTags.{class_tag, in_class};
-ghost use Rattle.der_wrap.specs.TaggedValues.{tag_of_mode, contents_of_mode, OneTaggedForm, one_encoding, accepts_one_encoding, parse_explicit, AcceptsExplicit, ReadableExplicit};
-ghost use Rattle.der_wrap.specs.TaggedValueLaws.{parse_of_one_encoding, same_length_one_encoding, accepts_own_encoding, parse_of_explicit, begins_explicit, led_explicit, tag_of_mode-class, same_length_explicit, accepts_explicit_encoding, readable_explicit, one_explicit_form};
+ghost use Rattle.der_wrap.specs.TaggedValues.{tag_of_mode, contents_of_mode, ComparableTagged, one_encoding, accepts_one_encoding, parse_explicit, AcceptsExplicit, ReadableExplicit};
+ghost use Rattle.der_wrap.specs.TaggedValueLaws.{one_encoding_of_octets, explicit_of_octets, parse_of_one_encoding, same_length_one_encoding, accepts_own_encoding, parse_of_explicit, begins_explicit, begins_first_explicit, tag_of_mode-class, same_length_explicit, accepts_explicit_encoding, readable_explicit, comparable_explicit_tagged};
 
 use crate::class_tag::class_tag;
 use der_elem::{Encode, EncodeValue, Form, FormValue, Tagged};
@@ -27,18 +27,20 @@ pub struct TaggedValueRef<'a, T, const CLASS: u8> {
 impl<'a, T: Tagged, const CLASS: u8> FormValue for TaggedValueRef<'a, T, CLASS> {
     ghost value = { record {
       contents = λ v. contents_of_mode v.tag_mode (T.encoding v.value.now) (T.value.contents v.value.now);
-      comparable = λ v w. OneTaggedForm T.comparable T.tag_of v.tag_mode w.tag_mode v.value.now w.value.now;
+      comparable = λ v w. ComparableTagged T.comparable T.tag_of v.tag_mode w.tag_mode v.value.now w.value.now;
       re_reads = λ v. T.re_reads v.value.now;
       accepts = λ rules v. accepts_one_encoding T.accepts v.tag_mode rules v.value.now;
       parse = one_encoding T.parse;
       readable = λ v. (v.tag_mode ≡ Explicit) × T.readable v.value.now;
       has_tag = λ v t. Unit {0};
-      TAKES_MEMORY = T.TAKES_MEMORY;
+      TAKES_MEMORY = T.Form.TAKES_MEMORY;
+      FAULTS_FIRST = false;
       parse_of_accepted = λ rules v. parse_of_one_encoding T.Form v.tag_mode v.value.now (T.value.contents v.value.now) rules;
+      faults_of_octets = one_encoding_of_octets T.parse T.faults_of_octets;
       same_length = λ rules v. same_length_one_encoding T.Form v.tag_mode v.value.now (T.value.contents v.value.now) rules;
       accepts_contents = λ rules v. accepts_own_encoding T.Form v.tag_mode v.value.now (T.value.contents v.value.now) rules;
       only_readable = λ rules v c a. (a.0, T.only_readable rules v.value.now c a.1);
-      accepts_comparable = λ rules v w c d a b. one_explicit_form T.Form T.tag_of v.tag_mode w.tag_mode v.value.now w.value.now a.0 b.0 (T.accepts_comparable rules v.value.now w.value.now c d a.1 b.1);
+      accepts_comparable = λ rules v w c d a b. comparable_explicit_tagged T.Form T.tag_of v.tag_mode w.tag_mode v.value.now w.value.now a.0 b.0 (T.accepts_comparable rules v.value.now w.value.now c d a.1 b.1);
       re_reads_memory = λ v. T.re_reads_memory v.value.now;
     } };
 }
@@ -47,7 +49,7 @@ impl<'a, T: Tagged, const CLASS: u8> Form for TaggedValueRef<'a, T, CLASS> {
     ghost encoding = { λ v. tlv (tag_of_mode CLASS v.tag_mode v.tag_number.0 (T.tag_of v.value.now))
         (contents_of_mode v.tag_mode (T.encoding v.value.now) (T.value.contents v.value.now)) };
 
-    ghost comparable = { λ v w. OneTaggedForm T.comparable T.tag_of v.tag_mode w.tag_mode
+    ghost comparable = { λ v w. ComparableTagged T.comparable T.tag_of v.tag_mode w.tag_mode
         v.value.now w.value.now };
 
     ghost re_reads = { λ v. T.re_reads v.value.now };
@@ -59,19 +61,24 @@ impl<'a, T: Tagged, const CLASS: u8> Form for TaggedValueRef<'a, T, CLASS> {
 
     ghost tags = { in_class CLASS };
 
-    ghost lead = { λ v. Some (tag_of_mode CLASS v.tag_mode v.tag_number.0 (T.tag_of v.value.now)) };
+    ghost first_tag_of = { λ v. Some (tag_of_mode CLASS v.tag_mode v.tag_number.0 (T.tag_of v.value.now)) };
 
     ghost readable = { λ v. ReadableExplicit T.readable v.tag_number.0 v.tag_mode v.value.now };
 
-    ghost TAKES_MEMORY = { T.TAKES_MEMORY };
+    ghost TAKES_MEMORY = { T.Form.TAKES_MEMORY };
+
+    // octets that are left over after the value are found after it is read
+    ghost FAULTS_FIRST = { false };
 
     ghost parse_of_accepted = { λ rules v. parse_of_explicit T.Form CLASS v.tag_number.0 v.tag_mode
         v.value.now (T.tag_of v.value.now) (T.value.contents v.value.now) rules };
 
+    ghost faults_of_octets = { explicit_of_octets T.parse T.faults_of_octets CLASS };
+
     ghost begins = { λ rules v. begins_explicit T.Form CLASS v.tag_number.0 v.tag_mode v.value.now
         (T.tag_of v.value.now) (T.value.contents v.value.now) rules };
 
-    ghost led = { λ rules v. led_explicit T.Form CLASS v.tag_number.0 v.tag_mode v.value.now
+    ghost begins_first = { λ rules v. begins_first_explicit T.Form CLASS v.tag_number.0 v.tag_mode v.value.now
         (T.tag_of v.value.now) (T.value.contents v.value.now) rules };
 
     ghost same_length = { λ rules v. same_length_explicit T.Form CLASS v.tag_number.0 v.tag_mode
@@ -83,7 +90,7 @@ impl<'a, T: Tagged, const CLASS: u8> Form for TaggedValueRef<'a, T, CLASS> {
     ghost only_readable = { λ rules v. readable_explicit T.Form CLASS v.tag_number.0 v.tag_mode
         v.value.now (T.tag_of v.value.now) (T.value.contents v.value.now) rules };
 
-    ghost accepts_comparable = { λ rules v w b c a d. one_explicit_form T.Form T.tag_of v.tag_mode
+    ghost accepts_comparable = { λ rules v w b c a d. comparable_explicit_tagged T.Form T.tag_of v.tag_mode
         w.tag_mode v.value.now w.value.now a.mode_is d.mode_is (T.accepts_comparable rules
         v.value.now w.value.now a.inner d.inner a.accepted d.accepted) };
 
@@ -114,7 +121,7 @@ impl<'a, T: Tagged, const CLASS: u8> Tagged for TaggedValueRef<'a, T, CLASS> {
     ghost own_tag = { λ v. tag_of_mode-class CLASS v.tag_mode v.tag_number.0
         (T.tag_of v.value.now) };
 
-    ghost lead_is = { λ v. refl };
+    ghost first_tag_is = { λ v. refl };
 
     ghost re_reads_alike = { λ v h. h };
 

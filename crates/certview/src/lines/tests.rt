@@ -158,7 +158,7 @@ fn other_names_are_bad_lines(rt: HostRuntime) -> Result<(), Fail> {
 fn octets_are_refused_or_put_in_order(rt: HostRuntime) -> Result<(), Fail> {
     let alloc = rt.alloc();
     let rows = [
-        // no octets, octets behind a message, and a message of another name
+        // no octets, octets after a message, and a message of another name
         ("spki -", "refused 2\n"),
         ("algid 300506032b657000", "refused 3\n"),
         ("spki 300506032b6570", "refused 4\n"),

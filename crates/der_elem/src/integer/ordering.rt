@@ -7,7 +7,7 @@ ghost use Rattle.der_elem.specs.Integer.{left_aligned, natural_contents, integer
 use super::writing::signed_len;
 use std::cmp::Ordering;
 
-/// The number of the contents octets with zeros behind them, up to 16 octets.
+/// The number of the contents octets with zeros after them, up to 16 octets.
 fn aligned_contents(number: i128) -> u128
     ensures { result ≡ left_aligned 16 (integer_contents number) }
 {
@@ -15,7 +15,7 @@ fn aligned_contents(number: i128) -> u128
 }
 
 /// The lexicographic order of the contents octets of two integers: that of the octets with zeros
-/// behind them, and then of how many there are.
+/// after them, and then of how many there are.
 pub fn compare_signed(a: i128, b: i128) -> Ordering
     ensures { result ≡ lex (integer_contents a) (integer_contents b) }
 {

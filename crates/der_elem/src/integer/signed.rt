@@ -10,9 +10,9 @@ ghost use Rattle.der_elem.specs.OwnContentsLaws.{contents_eq_own};
 ghost use Rattle.der_elem.specs.Integer.{integer_contents, FitsSignedWidth};
 ghost use Rattle.der_elem.specs.IntegerLaws.{integer_contents-injective};
 ghost use Rattle.der_elem.specs.IntegerReading.{parse_signed};
-ghost use Rattle.der_elem.specs.IntegerReadingLaws.{parse_signed-own};
+ghost use Rattle.der_elem.specs.IntegerReadingLaws.{parse_signed-own, signed_of_octets};
 ghost use Rattle.std.specs.Prelude.{refl};
-ghost use Rattle.der_elem.specs.ValueForms.{own_form_within};
+ghost use Rattle.der_elem.specs.FormatMakers.{format_of_contents_within};
 
 use super::ordering::compare_signed;
 use super::reading::read_signed;
@@ -30,7 +30,7 @@ use std::alloc::Global;
 use std::cmp::Ordering;
 
 impl FormValue for i8 {
-    ghost value = { own_form_within integer_contents (FitsSignedWidth 1) (parse_signed 1) (parse_signed-own 1 (lit< tt)) };
+    ghost value = { format_of_contents_within integer_contents (FitsSignedWidth 1) (parse_signed 1) (parse_signed-own 1 (lit< tt)) (signed_of_octets 1) };
 }
 
 impl OneTag for i8 {
@@ -38,16 +38,16 @@ impl OneTag for i8 {
 }
 
 impl<'a, R: Source<'a>> DecodeValue<'a, R> for i8 {
-    ghost VALUE_NEEDS_MEMORY = { false };
+    ghost TAKES_MEMORY = { false };
 
-    const VALUE_NEEDS_MEMORY: bool = false;
+    const TAKES_MEMORY: bool = false;
 
     fn decode_value(_alloc: Global, reader: &mut R, header: Header) -> Result<i8, Error> {
         let integer = read_signed(reader, header, 1)?;
         Ok(integer as i8)
     }
 
-    ghost memory_of_value = { refl };
+    ghost takes_memory_is = { refl };
 }
 
 impl EncodeValue for i8 {
@@ -74,7 +74,7 @@ impl ContentsEq for i8 {
 impl CopyIsDuplicate for i8 {}
 
 impl FormValue for i16 {
-    ghost value = { own_form_within integer_contents (FitsSignedWidth 2) (parse_signed 2) (parse_signed-own 2 (lit< tt)) };
+    ghost value = { format_of_contents_within integer_contents (FitsSignedWidth 2) (parse_signed 2) (parse_signed-own 2 (lit< tt)) (signed_of_octets 2) };
 }
 
 impl OneTag for i16 {
@@ -82,16 +82,16 @@ impl OneTag for i16 {
 }
 
 impl<'a, R: Source<'a>> DecodeValue<'a, R> for i16 {
-    ghost VALUE_NEEDS_MEMORY = { false };
+    ghost TAKES_MEMORY = { false };
 
-    const VALUE_NEEDS_MEMORY: bool = false;
+    const TAKES_MEMORY: bool = false;
 
     fn decode_value(_alloc: Global, reader: &mut R, header: Header) -> Result<i16, Error> {
         let integer = read_signed(reader, header, 2)?;
         Ok(integer as i16)
     }
 
-    ghost memory_of_value = { refl };
+    ghost takes_memory_is = { refl };
 }
 
 impl EncodeValue for i16 {
@@ -118,7 +118,7 @@ impl ContentsEq for i16 {
 impl CopyIsDuplicate for i16 {}
 
 impl FormValue for i32 {
-    ghost value = { own_form_within integer_contents (FitsSignedWidth 4) (parse_signed 4) (parse_signed-own 4 (lit< tt)) };
+    ghost value = { format_of_contents_within integer_contents (FitsSignedWidth 4) (parse_signed 4) (parse_signed-own 4 (lit< tt)) (signed_of_octets 4) };
 }
 
 impl OneTag for i32 {
@@ -126,16 +126,16 @@ impl OneTag for i32 {
 }
 
 impl<'a, R: Source<'a>> DecodeValue<'a, R> for i32 {
-    ghost VALUE_NEEDS_MEMORY = { false };
+    ghost TAKES_MEMORY = { false };
 
-    const VALUE_NEEDS_MEMORY: bool = false;
+    const TAKES_MEMORY: bool = false;
 
     fn decode_value(_alloc: Global, reader: &mut R, header: Header) -> Result<i32, Error> {
         let integer = read_signed(reader, header, 4)?;
         Ok(integer as i32)
     }
 
-    ghost memory_of_value = { refl };
+    ghost takes_memory_is = { refl };
 }
 
 impl EncodeValue for i32 {
@@ -162,7 +162,7 @@ impl ContentsEq for i32 {
 impl CopyIsDuplicate for i32 {}
 
 impl FormValue for i64 {
-    ghost value = { own_form_within integer_contents (FitsSignedWidth 8) (parse_signed 8) (parse_signed-own 8 (lit< tt)) };
+    ghost value = { format_of_contents_within integer_contents (FitsSignedWidth 8) (parse_signed 8) (parse_signed-own 8 (lit< tt)) (signed_of_octets 8) };
 }
 
 impl OneTag for i64 {
@@ -170,16 +170,16 @@ impl OneTag for i64 {
 }
 
 impl<'a, R: Source<'a>> DecodeValue<'a, R> for i64 {
-    ghost VALUE_NEEDS_MEMORY = { false };
+    ghost TAKES_MEMORY = { false };
 
-    const VALUE_NEEDS_MEMORY: bool = false;
+    const TAKES_MEMORY: bool = false;
 
     fn decode_value(_alloc: Global, reader: &mut R, header: Header) -> Result<i64, Error> {
         let integer = read_signed(reader, header, 8)?;
         Ok(integer as i64)
     }
 
-    ghost memory_of_value = { refl };
+    ghost takes_memory_is = { refl };
 }
 
 impl EncodeValue for i64 {
@@ -206,7 +206,7 @@ impl ContentsEq for i64 {
 impl CopyIsDuplicate for i64 {}
 
 impl FormValue for i128 {
-    ghost value = { own_form_within integer_contents (FitsSignedWidth 16) (parse_signed 16) (parse_signed-own 16 (lit< tt)) };
+    ghost value = { format_of_contents_within integer_contents (FitsSignedWidth 16) (parse_signed 16) (parse_signed-own 16 (lit< tt)) (signed_of_octets 16) };
 }
 
 impl OneTag for i128 {
@@ -214,15 +214,15 @@ impl OneTag for i128 {
 }
 
 impl<'a, R: Source<'a>> DecodeValue<'a, R> for i128 {
-    ghost VALUE_NEEDS_MEMORY = { false };
+    ghost TAKES_MEMORY = { false };
 
-    const VALUE_NEEDS_MEMORY: bool = false;
+    const TAKES_MEMORY: bool = false;
 
     fn decode_value(_alloc: Global, reader: &mut R, header: Header) -> Result<i128, Error> {
         read_signed(reader, header, 16)
     }
 
-    ghost memory_of_value = { refl };
+    ghost takes_memory_is = { refl };
 }
 
 impl EncodeValue for i128 {

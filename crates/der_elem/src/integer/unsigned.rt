@@ -11,8 +11,8 @@ ghost use Rattle.der_elem.specs.OwnContentsLaws.{contents_eq_own};
 ghost use Rattle.der_elem.specs.Integer.{natural_contents, FitsUnsignedWidth};
 ghost use Rattle.der_elem.specs.IntegerLaws.{natural_contents-injective};
 ghost use Rattle.der_elem.specs.IntegerReading.{parse_unsigned};
-ghost use Rattle.der_elem.specs.IntegerReadingLaws.{parse_unsigned-own};
-ghost use Rattle.der_elem.specs.ValueForms.{own_form_within};
+ghost use Rattle.der_elem.specs.IntegerReadingLaws.{parse_unsigned-own, unsigned_of_octets};
+ghost use Rattle.der_elem.specs.FormatMakers.{format_of_contents_within};
 
 use super::ordering::compare_unsigned;
 use super::reading::read_unsigned;
@@ -30,7 +30,7 @@ use std::alloc::Global;
 use std::cmp::Ordering;
 
 impl FormValue for u8 {
-    ghost value = { own_form_within natural_contents (FitsUnsignedWidth 1) (parse_unsigned 1) (parse_unsigned-own 1) };
+    ghost value = { format_of_contents_within natural_contents (FitsUnsignedWidth 1) (parse_unsigned 1) (parse_unsigned-own 1) (unsigned_of_octets 1) };
 }
 
 impl OneTag for u8 {
@@ -38,16 +38,16 @@ impl OneTag for u8 {
 }
 
 impl<'a, R: Source<'a>> DecodeValue<'a, R> for u8 {
-    ghost VALUE_NEEDS_MEMORY = { false };
+    ghost TAKES_MEMORY = { false };
 
-    const VALUE_NEEDS_MEMORY: bool = false;
+    const TAKES_MEMORY: bool = false;
 
     fn decode_value(_alloc: Global, reader: &mut R, header: Header) -> Result<u8, Error> {
         let number = read_unsigned(reader, header, 1)?;
         Ok(number as u8)
     }
 
-    ghost memory_of_value = { refl };
+    ghost takes_memory_is = { refl };
 }
 
 impl EncodeValue for u8 {
@@ -74,7 +74,7 @@ impl ContentsEq for u8 {
 impl CopyIsDuplicate for u8 {}
 
 impl FormValue for u16 {
-    ghost value = { own_form_within natural_contents (FitsUnsignedWidth 2) (parse_unsigned 2) (parse_unsigned-own 2) };
+    ghost value = { format_of_contents_within natural_contents (FitsUnsignedWidth 2) (parse_unsigned 2) (parse_unsigned-own 2) (unsigned_of_octets 2) };
 }
 
 impl OneTag for u16 {
@@ -82,16 +82,16 @@ impl OneTag for u16 {
 }
 
 impl<'a, R: Source<'a>> DecodeValue<'a, R> for u16 {
-    ghost VALUE_NEEDS_MEMORY = { false };
+    ghost TAKES_MEMORY = { false };
 
-    const VALUE_NEEDS_MEMORY: bool = false;
+    const TAKES_MEMORY: bool = false;
 
     fn decode_value(_alloc: Global, reader: &mut R, header: Header) -> Result<u16, Error> {
         let number = read_unsigned(reader, header, 2)?;
         Ok(number as u16)
     }
 
-    ghost memory_of_value = { refl };
+    ghost takes_memory_is = { refl };
 }
 
 impl EncodeValue for u16 {
@@ -118,7 +118,7 @@ impl ContentsEq for u16 {
 impl CopyIsDuplicate for u16 {}
 
 impl FormValue for u32 {
-    ghost value = { own_form_within natural_contents (FitsUnsignedWidth 4) (parse_unsigned 4) (parse_unsigned-own 4) };
+    ghost value = { format_of_contents_within natural_contents (FitsUnsignedWidth 4) (parse_unsigned 4) (parse_unsigned-own 4) (unsigned_of_octets 4) };
 }
 
 impl OneTag for u32 {
@@ -126,16 +126,16 @@ impl OneTag for u32 {
 }
 
 impl<'a, R: Source<'a>> DecodeValue<'a, R> for u32 {
-    ghost VALUE_NEEDS_MEMORY = { false };
+    ghost TAKES_MEMORY = { false };
 
-    const VALUE_NEEDS_MEMORY: bool = false;
+    const TAKES_MEMORY: bool = false;
 
     fn decode_value(_alloc: Global, reader: &mut R, header: Header) -> Result<u32, Error> {
         let number = read_unsigned(reader, header, 4)?;
         Ok(number as u32)
     }
 
-    ghost memory_of_value = { refl };
+    ghost takes_memory_is = { refl };
 }
 
 impl EncodeValue for u32 {
@@ -162,7 +162,7 @@ impl ContentsEq for u32 {
 impl CopyIsDuplicate for u32 {}
 
 impl FormValue for u64 {
-    ghost value = { own_form_within natural_contents (FitsUnsignedWidth 8) (parse_unsigned 8) (parse_unsigned-own 8) };
+    ghost value = { format_of_contents_within natural_contents (FitsUnsignedWidth 8) (parse_unsigned 8) (parse_unsigned-own 8) (unsigned_of_octets 8) };
 }
 
 impl OneTag for u64 {
@@ -170,16 +170,16 @@ impl OneTag for u64 {
 }
 
 impl<'a, R: Source<'a>> DecodeValue<'a, R> for u64 {
-    ghost VALUE_NEEDS_MEMORY = { false };
+    ghost TAKES_MEMORY = { false };
 
-    const VALUE_NEEDS_MEMORY: bool = false;
+    const TAKES_MEMORY: bool = false;
 
     fn decode_value(_alloc: Global, reader: &mut R, header: Header) -> Result<u64, Error> {
         let number = read_unsigned(reader, header, 8)?;
         Ok(number as u64)
     }
 
-    ghost memory_of_value = { refl };
+    ghost takes_memory_is = { refl };
 }
 
 impl EncodeValue for u64 {
@@ -206,7 +206,7 @@ impl ContentsEq for u64 {
 impl CopyIsDuplicate for u64 {}
 
 impl FormValue for u128 {
-    ghost value = { own_form_within natural_contents (FitsUnsignedWidth 16) (parse_unsigned 16) (parse_unsigned-own 16) };
+    ghost value = { format_of_contents_within natural_contents (FitsUnsignedWidth 16) (parse_unsigned 16) (parse_unsigned-own 16) (unsigned_of_octets 16) };
 }
 
 impl OneTag for u128 {
@@ -214,15 +214,15 @@ impl OneTag for u128 {
 }
 
 impl<'a, R: Source<'a>> DecodeValue<'a, R> for u128 {
-    ghost VALUE_NEEDS_MEMORY = { false };
+    ghost TAKES_MEMORY = { false };
 
-    const VALUE_NEEDS_MEMORY: bool = false;
+    const TAKES_MEMORY: bool = false;
 
     fn decode_value(_alloc: Global, reader: &mut R, header: Header) -> Result<u128, Error> {
         read_unsigned(reader, header, 16)
     }
 
-    ghost memory_of_value = { refl };
+    ghost takes_memory_is = { refl };
 }
 
 impl EncodeValue for u128 {

@@ -108,7 +108,7 @@ fn stays_refused<'a, T: DecodeValue<'a, SliceReader<'a>> + OneTag>(
 
 // Whether reading takes memory, through the bound.
 fn takes_memory<'a, T: Decode<'a, SliceReader<'a>>>() -> bool {
-    T::TAKES_MEMORY
+    <T as TakesMemory>::TAKES_MEMORY
 }
 
 // The same of a type, of lists of it, and of its optional values.
@@ -133,7 +133,7 @@ fn is_read<'a, T: DecodeValue<'a, SliceReader<'a>> + OneTag>(
 }
 
 // The tag of a type, what of it takes memory, the values that are coded, the contents octets that
-// are refused, and some that are read behind a refusal.
+// are refused, and some that are read after a refusal.
 fn codes<
     'a,
     T: DecodeValue<'a, SliceReader<'a>> + OneTag + EncodeValue + DuplicateValue + PartialEq + Debug,

@@ -1,14 +1,12 @@
 //! A CHOICE as a field that may be absent, its order, its equality and its copies; one of eight
 //! alternatives.
 
-ghost use Rattle.der_elem.specs.Decoding.{ReadsAll};
+ghost use Rattle.der_asn1_types.specs.Decoding.{ReadsAll};
 
 use super::{compared, holds, is_copied, numbered, same, same_in};
-use der_elem::{Encode, Form, FromDer};
-use der_fields::{End, Field, FieldSequence, Implicit, OneOf};
-use der_opaque::OctetStringRef;
+use der_asn1_types::asn1::OctetStringRef;
+use der_asn1_types::{Encode, End, Error, Field, FieldSequence, Form, FromDer, Implicit, OneOf};
 use der_pkix::{Time, read_time};
-use der_tlv::Error;
 use std::alloc::Global;
 use std::cmp::Ordering;
 use std::process::Abort;
@@ -65,7 +63,7 @@ fn times_are_ordered_as_their_encodings(rt: HostRuntime) -> Result<(), Fail> {
     Ok(())
 }
 
-/// Eight alternatives, none behind more than two others.
+/// Eight alternatives, none after more than two others.
 type Setting<'a> = OneOf<
     OneOf<OneOf<bool, u16>, OneOf<OctetStringRef<'a>, ()>>,
     OneOf<OneOf<Implicit<u16, 0>, Implicit<u16, 1>>, OneOf<Implicit<bool, 2>, Implicit<bool, 31>>>,
@@ -86,7 +84,7 @@ fn setting_again(alloc: Global, octets: &[u8]) -> Result<Vec<u8>, u8> {
 }
 
 #[test]
-fn eight_alternatives_are_told_apart(rt: HostRuntime) -> Result<(), Fail> {
+fn eight_alternatives_are_distinguished(rt: HostRuntime) -> Result<(), Fail> {
     let alloc = rt.alloc();
     let rows = [
         "0101ff", "02020100", "0402abcd", "0500", "80020100", "810105", "820100", "9f1f01ff",

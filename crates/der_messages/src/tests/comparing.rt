@@ -2,7 +2,7 @@
 //! of names, and the order of those of which the kind has one.
 
 use super::{compared, is_copied, same, same_in};
-use der_elem::{EncodingEq, FromDer};
+use der_asn1_types::{EncodingEq, FromDer};
 use der_extensions::{
     DirectoryName, OtherName, read_authority_key_identifier, read_general_name,
     read_subject_alt_name,

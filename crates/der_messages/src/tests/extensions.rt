@@ -1,7 +1,7 @@
 //! Values of extensions that OpenSSL wrote, read and written back, and octets that are refused.
 
 use super::{numbered, same};
-use der_elem::Encode;
+use der_asn1_types::{Encode, OneOf};
 use der_extensions::{
     DirectoryName, GeneralName, read_authority_key_identifier, read_basic_constraints,
     read_ext_key_usage, read_general_name, read_key_usage, read_subject_alt_name,
@@ -9,7 +9,6 @@ use der_extensions::{
     write_ext_key_usage, write_general_name, write_key_usage, write_subject_alt_name,
     write_subject_key_identifier,
 };
-use der_fields::OneOf;
 use der_pkix::read_name;
 use std::alloc::Global;
 use std::process::Abort;
@@ -116,7 +115,7 @@ fn names_of_each_kind_are_written_back(rt: HostRuntime) -> Result<(), Fail> {
 fn other_names_have_their_fields_in_order(rt: HostRuntime) -> Result<(), Fail> {
     let alloc = rt.alloc();
     let rows = [
-        // no field, the identifier alone, the value behind no tag, and the tag with no value
+        // no field, the identifier alone, the value after no tag, and the tag with no value
         ("a000", 2),
         ("a00506032a0304", 2),
         ("a00906032a03040c026d61", 4),
@@ -272,7 +271,7 @@ fn authorities_are_written_back(rt: HostRuntime) -> Result<(), Fail> {
 fn authorities_have_their_fields_in_order(rt: HostRuntime) -> Result<(), Fail> {
     let alloc = rt.alloc();
     let rows = [
-        // the fields exchanged, one twice, and an identifier behind a constructed tag
+        // the fields exchanged, one twice, and an identifier after a constructed tag
         ("300782010580020102", 3),
         ("30088002010280020102", 3),
         ("3004a0020102", 3),

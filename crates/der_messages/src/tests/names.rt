@@ -1,7 +1,7 @@
 //! Names, times and extensions that OpenSSL wrote, read and written back, and octets that are refused.
 
 use super::{holds, numbered, same};
-use der_elem::{DerOrd, Duplicate};
+use der_asn1_types::{DerOrd, Duplicate};
 use der_pkix::{
     Validity, read_extension, read_extensions, read_name, read_time, read_validity,
     write_extension, write_extensions, write_name, write_time, write_validity,
@@ -88,7 +88,7 @@ fn validities_are_written_back(rt: HostRuntime) -> Result<(), Fail> {
 }
 
 #[test]
-fn times_are_told_by_their_tags(rt: HostRuntime) -> Result<(), Fail> {
+fn times_are_distinguished_by_their_tags(rt: HostRuntime) -> Result<(), Fail> {
     let alloc = rt.alloc();
     let rows = [
         // no tag
@@ -151,7 +151,7 @@ fn extensions_have_their_fields_in_order_and_no_default(rt: HostRuntime) -> Resu
         ("300c0101ff0603551d0e04020400", 4),
         // a field twice
         ("300f0603551d0e0101ff0101ff04020400", 4),
-        // an octet behind the message
+        // an octet after the message
         ("300c0603551d0e0101ff0402040000", 3),
     ];
     for (digits, number) in rows {

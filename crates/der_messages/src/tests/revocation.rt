@@ -99,7 +99,7 @@ fn entries_have_their_fields_in_order(rt: HostRuntime) -> Result<(), Fail> {
     let rows = [
         // the number and the date exchanged
         ("3012170d3236313132333038313030375a020105", 4),
-        // a value behind the extensions
+        // a value after the extensions
         ("3016020105170d3236313132333038313030375a30000500", 3),
         // half of a date
         ("300c020105170d32363131323330", 2),

@@ -1,15 +1,11 @@
 //! The first six fields of the TSTInfo of RFC 3161, which OpenSSL wrote: a message as a user of lists
 //! of fields writes it. The imprint and the accuracy are kept as they are encoded.
 
-ghost use Rattle.der_elem.specs.Decoding.{ReadsAll};
+ghost use Rattle.der_asn1_types.specs.Decoding.{ReadsAll};
 
 use super::{numbered, same};
-use der_elem::{Encode, Form, FromDer};
-use der_fields::{End, Field, FieldSequence};
-use der_numbers::IntRef;
-use der_opaque::{AnyRef, ObjectIdentifier};
-use der_time::GeneralizedTime;
-use der_tlv::Error;
+use der_asn1_types::asn1::{AnyRef, GeneralizedTime, IntRef, ObjectIdentifier};
+use der_asn1_types::{Encode, End, Error, Field, FieldSequence, Form, FromDer};
 use std::alloc::Global;
 use std::process::Abort;
 use std::test::Fail;

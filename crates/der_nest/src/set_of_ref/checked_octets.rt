@@ -1,6 +1,6 @@
 //! Contents octets that read as items in order.
 
-ghost use Rattle.std.specs.Prelude.{◌≡◌, ◌<◌, ◌≤◌, ◌^◌, ◌⊎◌, length, IfOk, IfErr, OnOk};
+ghost use Rattle.std.specs.Prelude.{◌≡◌, ◌<◌, ◌≤◌, ◌^◌, ◌⊎◌, length, IfOk, IfErr, OnOk, false};
 ghost use Rattle.std.specs.List.Sorted.{IsSorted};
 ghost use Rattle.der_tlv.specs.Octets.{lex};
 ghost use Rattle.der_tlv.specs.declared.encoding_rules.EncodingRules.TheVariants.{Der};
@@ -82,7 +82,7 @@ impl<'a, T: Decode<'a, SliceReader<'a>>> CheckedOctets<'a, T> {
 ///
 /// # Errors
 /// The comparison's; `ErrorKind::SetOrdering` (11) for a smaller item.
-fn may_follow<T: DerOrd>(last: &Option<T>, item: &T) -> Result<(), Error>
+fn check_next<T: DerOrd>(last: &Option<T>, item: &T) -> Result<(), Error>
     ensures ok { OnOk result (CanFollow T.encoding last.now item.now) }
     ensures refused { IfErr result (λ e. CannotFollow T.Form last.now item.now e.kind) }
 {
@@ -102,7 +102,7 @@ impl<'a, T: Decode<'a, SliceReader<'a>> + DerOrd + Tagged> CheckedOctets<'a, T> 
     pub(crate) fn read(alloc: Global, octets: &'a [u8]) -> Result<CheckedOctets<'a, T>, Error>
         ensures ok { IfOk result (λ read. AcceptsBorrowed T.Form
             (OfOctets (encodings_read read.count T.parse Der 0 read.octets.now)) octets.now) }
-        ensures refused { IfErr result (λ e. Faults T.TAKES_MEMORY
+        ensures refused { IfErr result (λ e. Faults T.Form.TAKES_MEMORY false
             (parse_borrowed_items T.parse octets.now) e.kind ⊎ (2 ^ 32 ≤ length octets.now)) }
     {
         let mut reader = match SliceReader::new(octets) {
@@ -113,7 +113,7 @@ impl<'a, T: Decode<'a, SliceReader<'a>> + DerOrd + Tagged> CheckedOctets<'a, T> 
         let mut last: Option<T> = None;
         'items: while !reader.is_finished() {
             let item = T::decode(alloc, &mut reader)?;
-            may_follow(&last, &item)?;
+            check_next(&last, &item)?;
             last = Some(item);
             count += 1;
         }

@@ -17,7 +17,7 @@ impl<'a, T: Decode<'a, SliceReader<'a>> + Encode> CheckedOctets<'a, T> {
     /// where an item takes memory.
     pub(crate) fn items_len(&self) -> Result<Length, Error>
         ensures { Measures (concat (encodings_read self.now.count T.parse Der 0
-            self.now.octets.now)) T.TAKES_MEMORY result }
+            self.now.octets.now)) T.Form.TAKES_MEMORY result }
     {
         let mut items = self.items();
         let mut len = Length::ZERO;
@@ -33,7 +33,7 @@ impl<'a, T: Decode<'a, SliceReader<'a>> + Encode> CheckedOctets<'a, T> {
     /// The writer's; `ErrorKind::Memory` (1) where an item takes memory.
     pub(crate) fn encode_items<W: Writer>(&self, writer: &mut W) -> Result<(), Error>
         ensures { Encodes (concat (encodings_read self.now.count T.parse Der 0 self.now.octets.now))
-            T.TAKES_MEMORY (W.state writer.old) (W.state writer.new) result }
+            T.Form.TAKES_MEMORY (W.state writer.old) (W.state writer.new) result }
     {
         let mut items = self.items();
         'items: while let Some(item) = items.next() {

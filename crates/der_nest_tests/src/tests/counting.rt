@@ -30,17 +30,17 @@ impl<'a, T: Form + Copy> Form for Counted<'a, T> {
 
     ghost tags = { T.tags };
 
-    ghost lead = { λ v. T.lead v.value };
+    ghost first_tag_of = { λ v. T.first_tag_of v.value };
 
     ghost readable = { λ v. T.readable v.value };
 
-    ghost TAKES_MEMORY = { T.TAKES_MEMORY };
+    ghost TAKES_MEMORY = { T.Form.TAKES_MEMORY };
 
     ghost parse_of_accepted = { λ rules v. T.parse_of_accepted rules v.value };
 
     ghost begins = { λ rules v. T.begins rules v.value };
 
-    ghost led = { λ rules v. T.led rules v.value };
+    ghost begins_first = { λ rules v. T.begins_first rules v.value };
 
     ghost same_length = { λ rules v. T.same_length rules v.value };
 
@@ -51,6 +51,10 @@ impl<'a, T: Form + Copy> Form for Counted<'a, T> {
     ghost accepts_comparable = { λ rules v w. T.accepts_comparable rules v.value w.value };
 
     ghost re_reads_memory = { λ v. T.re_reads_memory v.value };
+
+    ghost FAULTS_FIRST = { T.FAULTS_FIRST };
+
+    ghost faults_of_octets = { T.faults_of_octets };
 }
 
 impl<'a, T: DerOrd + Copy> DerOrd for Counted<'a, T> {
@@ -64,7 +68,13 @@ pub fn with_count<T>(value: T, comparisons: &Cell<u32>) -> Counted<'_, T> {
     Counted { value, comparisons }
 }
 
-// Inserts the items, each of which is compared at most as often as their number so far has digits.
+// Asserts that an item is compared at most as often as the number of items has binary digits.
+pub fn few(rt: &impl Abort, items: usize, comparisons: &Cell<u32>) {
+    let digits = usize::BITS - items.leading_zeros();
+    holds(rt, comparisons.get() <= digits);
+}
+
+// Inserts the items, and counts the comparisons of each.
 fn inserts<T: DerOrd>(
     rt: &impl Abort,
     alloc: Global,
@@ -73,10 +83,27 @@ fn inserts<T: DerOrd>(
 ) -> Result<(), u8> {
     let mut set = SetOfVec::new(alloc);
     for item in items {
+        let before = set.len();
         comparisons.set(0);
-        let digits = usize::BITS - set.len().leading_zeros();
         numbered(set.insert(item))?;
-        holds(rt, comparisons.get() <= digits);
+        few(rt, before, comparisons);
+    }
+    Ok(())
+}
+
+// Puts the items at the end, each of which is compared with the last one alone.
+fn appends<T: DerOrd>(
+    rt: &impl Abort,
+    alloc: Global,
+    items: Vec<T>,
+    comparisons: &Cell<u32>,
+) -> Result<(), u8> {
+    let mut set = SetOfVec::new(alloc);
+    for item in items {
+        let wanted = if set.is_empty() { 0 } else { 1 };
+        comparisons.set(0);
+        numbered(set.insert_ordered(item))?;
+        same(rt, comparisons.get(), wanted);
     }
     Ok(())
 }
@@ -116,6 +143,14 @@ fn collected<T: DerOrd>(alloc: Global, items: Vec<T>, comparisons: &Cell<u32>) -
     Ok(comparisons.get())
 }
 
+// How many comparisons it takes to extend a set by items.
+fn extended<T: DerOrd>(alloc: Global, items: Vec<T>, comparisons: &Cell<u32>) -> Result<u32, u8> {
+    comparisons.set(0);
+    let mut set = SetOfVec::new(alloc);
+    numbered(set.extend(items))?;
+    Ok(comparisons.get())
+}
+
 // How many comparisons make a set of a vector.
 fn sorted<T: DerOrd>(items: Vec<T>, comparisons: &Cell<u32>) -> Result<u32, u8> {
     comparisons.set(0);
@@ -136,38 +171,72 @@ fn an_insertion_compares_as_often_as_the_number_of_items_has_digits(
     Ok(())
 }
 
-// What three ways to put 4000 numbers into a set compare.
-fn three_ways(alloc: Global, factor: u32, step: u32) -> Result<[u32; 3], Fail> {
+#[test]
+fn an_item_at_the_end_is_compared_once(rt: HostRuntime) -> Result<(), Fail> {
+    let comparisons = Cell::new(0);
+    let items = series(rt.alloc(), &comparisons, 1, 1)?;
+    appends(&rt, rt.alloc(), items, &comparisons)?;
+    Ok(())
+}
+
+// How often items are compared that are put into a set, in four ways.
+#[derive(Drop)]
+struct Counts {
+    read: u32,
+    collected: u32,
+    extended: u32,
+    sorted: u32,
+}
+
+// What four ways to put 4000 numbers into a set compare.
+fn four_ways(alloc: Global, factor: u32, step: u32) -> Result<Counts, Fail> {
     let comparisons = Cell::new(0);
     let items = series(alloc, &comparisons, factor, step)?;
-    let first = read(alloc, items, &comparisons)?;
+    let read = read(alloc, items, &comparisons)?;
     let items = series(alloc, &comparisons, factor, step)?;
-    let second = collected(alloc, items, &comparisons)?;
+    let collected = collected(alloc, items, &comparisons)?;
     let items = series(alloc, &comparisons, factor, step)?;
-    let third = sorted(items, &comparisons)?;
-    Ok([first, second, third])
+    let extended = extended(alloc, items, &comparisons)?;
+    let items = series(alloc, &comparisons, factor, step)?;
+    let sorted = sorted(items, &comparisons)?;
+    Ok(Counts {
+        read,
+        collected,
+        extended,
+        sorted,
+    })
 }
 
 // The second item of a run that is read is asked of twice, since the run might fall.
 #[test]
 fn rising_items_are_compared_once_each(rt: HostRuntime) -> Result<(), Fail> {
-    let counts = three_ways(rt.alloc(), 1, 1)?;
-    same(&rt, counts, [4000, 3999, 3999]);
+    let counts = four_ways(rt.alloc(), 1, 1)?;
+    same(&rt, counts.read, 4000);
+    same(&rt, counts.collected, 3999);
+    same(&rt, counts.extended, 3999);
+    same(&rt, counts.sorted, 3999);
     Ok(())
 }
 
+// 43905 is the sum of the numbers of digits of 0 to 3999.
 #[test]
-fn falling_items_that_are_read_are_compared_once_each(rt: HostRuntime) -> Result<(), Fail> {
-    let counts = three_ways(rt.alloc(), 1, 4000)?;
-    same(&rt, counts, [3999, 47904, 47904]);
-    Ok(())
-}
-
-#[test]
-fn other_items_are_compared_as_often_as_their_numbers_have_digits(
+fn falling_items_are_compared_as_often_as_their_numbers_have_digits(
     rt: HostRuntime,
 ) -> Result<(), Fail> {
-    let scattered = three_ways(rt.alloc(), 3, 0)?;
-    same(&rt, scattered, [49553, 46289, 46289]);
+    let counts = four_ways(rt.alloc(), 1, 4000)?;
+    same(&rt, counts.read, 3999);
+    holds(&rt, counts.collected <= 43905);
+    holds(&rt, counts.extended <= 43905);
+    holds(&rt, counts.sorted <= 43905);
+    Ok(())
+}
+
+#[test]
+fn other_items_are_compared_about_as_often(rt: HostRuntime) -> Result<(), Fail> {
+    let counts = four_ways(rt.alloc(), 3, 0)?;
+    same(&rt, counts.read, 49553);
+    same(&rt, counts.collected, 42322);
+    same(&rt, counts.extended, 42322);
+    same(&rt, counts.sorted, 42322);
     Ok(())
 }

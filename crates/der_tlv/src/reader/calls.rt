@@ -73,7 +73,7 @@ fn fill<'a, S: Source<'a>>(source: &mut S, buffer: &mut [u8]) -> Result<(), Erro
     Ok(())
 }
 
-/// A block whose first octets, so many, are those that stand behind `start`.
+/// A block whose first octets, so many, are those that stand after `start`.
 #[inline(always)]
 fn block_at(bytes: &[u8], start: usize, len: usize) -> [u8; 8]
     requires few { len ≤ 8 }
@@ -115,7 +115,7 @@ impl<'a, S: Source<'a>> Reader<'a> for S {
         Ok(&octets[cursor.position as usize..position as usize])
     }
 
-    // Moves eight octets where the input has them, also behind those that are read.
+    // Moves eight octets where the input has them, also after those that are read.
     #[inline(always)]
     fn read_front(&mut self, len: Length) -> Result<[u8; 8], Error> {
         let len = len.value();

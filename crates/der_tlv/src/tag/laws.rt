@@ -3,7 +3,7 @@
 ghost use Rattle.std.specs.Prelude.{◌≡◌};
 ghost use Rattle.std.specs.declared.cmp.Ordering.TheVariants.{Less};
 ghost use Rattle.der_tlv.specs.declared.tag.mode.TagMode.TheVariants.{Explicit};
-ghost use Rattle.der_tlv.specs.TagLaws.{IdentifiersAreUnique, IdentifiersTellTags, IdentifiersReadBack, IdentifiersDecideOrder, IdentifiersAreShort};
+ghost use Rattle.der_tlv.specs.TagLaws.{IdentifiersAreUnique, IdentifiersDistinguishTags, IdentifiersReadBack, IdentifiersDecideOrder, IdentifiersAreShort};
 
 use crate::tag::mode::TagMode;
 use std::cmp::Ordering;
@@ -14,8 +14,8 @@ pub fn identifiers_are_unique()
 {}
 
 /// Tags with the same identifier octets are the same.
-pub fn identifiers_tell_tags()
-    ensures { IdentifiersTellTags }
+pub fn identifiers_distinguish_tags()
+    ensures { IdentifiersDistinguishTags }
 {}
 
 /// Reading the identifier octets of a tag gives that tag, whatever follows them.

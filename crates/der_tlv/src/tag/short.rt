@@ -6,7 +6,7 @@ ghost use Rattle.der_tlv.specs.ShortTags.{short_tag};
 use crate::tag::{Tag, TagNumber};
 
 /// The table of the tags of first identifier octets, from its entries for the universal class, and
-/// for each other class and form the numbers that stand in one octet; behind these stands none,
+/// for each other class and form the numbers that stand in one octet; after these stands none,
 /// since the bits 11111 say that the number follows.
 macro_rules! table {
     ($($universal:expr),*; $($class:ident $constructed:literal $($number:literal)*;)*) => {

@@ -250,7 +250,7 @@ fn seconds_are_those_of_the_calendar(rt: HostRuntime) -> Result<(), Fail> {
 }
 
 #[test]
-fn the_second_behind_the_last_is_refused(rt: HostRuntime) {
+fn the_second_after_the_last_is_refused(rt: HostRuntime) {
     match GeneralizedTime::from_unix_duration(Duration::from_secs(LAST + 1)) {
         Ok(_) => panic!(rt; "taken"),
         Err(e) => same(&rt, e.kind.number(), 13),

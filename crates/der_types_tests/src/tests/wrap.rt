@@ -355,8 +355,8 @@ fn knows_tags(rt: HostRuntime) {
     holds(&rt, !Application::<u8>::can_decode(context));
     holds(&rt, Private::<u8>::can_decode(private));
     holds(&rt, !Private::<u8>::can_decode(Tag::Integer));
-    holds(&rt, !ContextSpecific::<u8>::TAKES_MEMORY);
-    holds(&rt, Application::<Vec<u8>>::TAKES_MEMORY);
+    holds(&rt, !<ContextSpecific<u8> as TakesMemory>::TAKES_MEMORY);
+    holds(&rt, <Application<Vec<u8>> as TakesMemory>::TAKES_MEMORY);
 }
 
 #[test]

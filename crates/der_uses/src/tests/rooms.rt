@@ -55,9 +55,12 @@ fn stops_after<T: Encode>(rt: &impl Abort, alloc: Global, value: &T, left: usize
     same_in(rt, &left, encoding.starts_with(&writer.octets), true);
 }
 
-// A buffer that is too short is refused, and a writer into it from then on.
+// A buffer that is too short is refused and left as it was, and a writer into it is refused from then
+// on.
 fn finds_no_room<T: Encode>(rt: &impl Abort, value: &T, buffer: &mut [u8]) {
+    buffer.fill(0x5a);
     same(rt, numbered(value.encode_to_slice(buffer)).err(), Some(10));
+    same(rt, buffer.iter().all(|octet| *octet == 0x5a), true);
     let mut writer = SliceWriter::new(buffer);
     same(rt, numbered(value.encode(&mut writer)).err(), Some(10));
     same(rt, numbered(writer.write_byte(0)).err(), Some(17));

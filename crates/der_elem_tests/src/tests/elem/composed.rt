@@ -23,7 +23,8 @@ fn order<T: DerOrd>(a: &T, b: &T) -> Result<Ordering, u8> {
     numbered(a.der_cmp(b))
 }
 
-// The value is written as these octets into a buffer of as many, and into no shorter one.
+// The value is written as these octets into a buffer of as many, and into no shorter one. In a longer
+// one, what stands after them is left as it was.
 fn needs_room<T: Encode>(
     rt: &impl Abort,
     alloc: Global,
@@ -43,6 +44,29 @@ fn needs_room<T: Encode>(
         }
     }
     same(rt, numbered(value.encode_to_slice(&mut buffer)), Ok(octets));
+    leaves_what_stands_after(rt, alloc, value, octets)
+}
+
+fn leaves_what_stands_after<T: Encode>(
+    rt: &impl Abort,
+    alloc: Global,
+    value: &T,
+    octets: &[u8],
+) -> Result<(), u8> {
+    let mut buffer = Vec::new(alloc);
+    for _ in 0..octets.len() + 3 {
+        if buffer.push(0x5a).is_err() {
+            return Err(1);
+        }
+    }
+    same(rt, numbered(value.encode_to_slice(&mut buffer)), Ok(octets));
+    let mut expected = Vec::new(alloc);
+    for octet in octets.iter().chain(&[0x5a; 3]) {
+        if expected.push(*octet).is_err() {
+            return Err(1);
+        }
+    }
+    same(rt, buffer.as_slice(), expected.as_slice());
     Ok(())
 }
 
@@ -427,6 +451,6 @@ fn lists_equal_by_encodings(rt: HostRuntime) {
 
 #[test]
 fn says_that_booleans_and_nulls_take_no_memory(rt: HostRuntime) {
-    same(&rt, <()>::TAKES_MEMORY, false);
-    same(&rt, bool::TAKES_MEMORY, false);
+    same(&rt, <() as TakesMemory>::TAKES_MEMORY, false);
+    same(&rt, <bool as TakesMemory>::TAKES_MEMORY, false);
 }

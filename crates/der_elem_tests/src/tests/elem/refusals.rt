@@ -55,7 +55,7 @@ fn places<'a, T: DecodeValue<'a, SliceReader<'a>> + OneTag>(
 #[test]
 fn a_fault_has_its_position(rt: HostRuntime) {
     let alloc = rt.alloc();
-    // Another tag, behind its header; contents octets, behind them; octets left over, before them.
+    // Another tag, after its header; contents octets, after them; octets left over, before them.
     let booleans: [(&[u8], u32); 2] = [(&[0x05, 0x00], 2), (&[0x01, 0x01, 0xff, 0x00], 3)];
     places::<bool>(&rt, alloc, &booleans);
     places::<u8>(&rt, alloc, &[(&[0x02, 0x00], 2)]);

@@ -7,7 +7,7 @@ use der_tlv::{Error, ErrorKind, SliceReader, Tag};
 use std::alloc::Global;
 use std::test::Fail;
 
-/// What the contents octets are read as behind a tag, or the number of the refusal.
+/// What the contents octets are read as after a tag, or the number of the refusal.
 fn read<'a, T: TryFrom<AnyRef<'a>, Error = Error> + Drop>(
     tag: Tag,
     octets: &'a [u8],

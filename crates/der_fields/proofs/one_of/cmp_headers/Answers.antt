@@ -2,8 +2,8 @@ use Rattle.std.proofs.Common.{◌≡◌, ◌∙◌, sym, ap, subst, length}
 use Rattle.std.specs.Ordering.{nat_cmp}
 use Rattle.der_tlv.specs.Octets.{lex}
 use Rattle.der_tlv.specs.Identifier.{identifier}
-use Rattle.der_fields.specs.Alternatives.{NotTold}
-use Rattle.der_elem.proofs.HeadersTold.{tags_decide, lengths_decide, headers_equal}
+use Rattle.der_fields.specs.Alternatives.{NotDecidedByHeaders}
+use Rattle.der_elem.proofs.HeadersDecide.{tags_decide, lengths_decide, headers_equal}
 use Rattle.der_fields.proofs.one_of.cmp_headers.Goals as goal
 use Rattle.der_fields.proofs.one_of.cmp_headers.Goals.{After-cmp, After-cmp-2}
 
@@ -31,7 +31,7 @@ returns-in-Equal-cmp g c =
     let t = g.A.Tagged.tag_of v in
     let u = g.B.Tagged.tag_of w in
     let same = headers_equal (g.A.Form.encoding v) (g.B.Form.encoding w) t u (g.A.FormValue.value.contents v) (g.B.FormValue.value.contents w) (g.met.A.Tagged.encoding_is v) (g.met.B.Tagged.encoding_is w) (sym (tags_are g at) ∙ c.in-Equal.is) (sym (lengths_are g at2) ∙ c.in-Equal-cmp.is) in
-    subst (NotTold g.A.Form g.B.Form v w t u) (sym (c.from_kind.ensures.kind ∙ c.value_error.ensures)) same
+    subst (NotDecidedByHeaders g.A.Form g.B.Form v w t u) (sym (c.from_kind.ensures.kind ∙ c.value_error.ensures)) same
 
 pub returns-in_default-cmp : goal.returns-in_default-cmp
 returns-in_default-cmp g c =

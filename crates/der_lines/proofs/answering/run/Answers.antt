@@ -1,5 +1,6 @@
 use Rattle.std.proofs.Common.{◌≡◌, ap, subst, ◌∙◌, Result, Bool, Ok, Err, rules}
 use Rattle.std.specs.Io.KnownBytes.{Appends}
+use Rattle.der_lines.specs.Answer.{NotRefusedForMemory}
 use Rattle.der_lines.specs.Lines.{reply_to}
 use Rattle.der_lines.specs.Sink.{AppendsFront}
 use Rattle.der_lines.specs.declared.fault.Fault.{Fault}
@@ -29,19 +30,20 @@ returns-in_err-reply_to-clause-prompt g c =
 
 pub returns-in_err-put-clause-prompt : goal.returns-in_err-put-clause-prompt
 returns-in_err-put-clause-prompt g c =
-    let text = c.deref-in-lines.ensures.value ∙ c.in_ok-reply_to.ensures ∙ ap (reply_to g.N.Names.canonical_function_of) c.deref.ensures.value in
+    let text = c.deref-in-lines.ensures.value ∙ c.in_ok-reply_to.ensures.reply ∙ ap (reply_to g.N.Names.canonical_function_of) c.deref.ensures.value in
     write_failed _ g.N.Names.canonical_function_of (g.R.Read.remaining c.args.input.now.reader) _ _ _ _ _ c.lines.invariant.answered _ _ _
     (c.in_ok-next_line.ensures.line (ap Ok c.if-branch.true))
     (subst (AppendsFront _ _) text c.in_err-put.ensures.err)
 
 pub lines-preserved : goal.lines-preserved
 lines-preserved g c =
-    let text = c.deref-in-lines.ensures.value ∙ c.in_ok-reply_to.ensures ∙ ap (reply_to g.N.Names.canonical_function_of) c.deref.ensures.value in
+    let text = c.deref-in-lines.ensures.value ∙ c.in_ok-reply_to.ensures.reply ∙ ap (reply_to g.N.Names.canonical_function_of) c.deref.ensures.value in
     record {
       answered = line_answered g.N.Names.canonical_function_of (g.R.Read.remaining c.args.input.now.reader) _ _ _ _ _ c.lines.invariant.answered _ _ _ _
           (c.in_ok-next_line.ensures.line (ap Ok c.if-branch.true))
           (c.in_ok-next_line.ensures.fewer (ap Ok c.if-branch.true))
-          (subst (Appends _ _) text c.in_ok-put.ensures.ok);
+          (subst (Appends _ _) text c.in_ok-put.ensures.ok)
+          (subst (NotRefusedForMemory g.N.Names.canonical_function_of) c.deref.ensures.value c.in_ok-reply_to.ensures.memory);
       read = search rules;
       wrote = search rules;
     }
@@ -54,7 +56,7 @@ returns-in_err-reply_to-clause-beginning g c =
 
 pub returns-in_err-put-clause-beginning : goal.returns-in_err-put-clause-beginning
 returns-in_err-put-clause-beginning g c =
-    let text = c.deref-in-lines.ensures.value ∙ c.in_ok-reply_to.ensures ∙ ap (reply_to g.N.Names.canonical_function_of) c.deref.ensures.value in
+    let text = c.deref-in-lines.ensures.value ∙ c.in_ok-reply_to.ensures.reply ∙ ap (reply_to g.N.Names.canonical_function_of) c.deref.ensures.value in
     begins _ g.N.Names.canonical_function_of (g.R.Read.remaining c.args.input.now.reader) _ _ _
     (write_failed _ g.N.Names.canonical_function_of (g.R.Read.remaining c.args.input.now.reader) _ _ _ _ _ c.lines.invariant.answered _ _ _
     (c.in_ok-next_line.ensures.line (ap Ok c.if-branch.true))

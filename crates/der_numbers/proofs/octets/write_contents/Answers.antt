@@ -2,7 +2,7 @@ use Rattle.std.proofs.Common.{◌≤◌, slice_index, rules, arith}
 use Rattle.std.proofs.lemmas.Bool.Decides.{nat_tests}
 use Rattle.der_elem.specs.Integer.{with_sign_octet}
 use Rattle.der_numbers.specs.UnsignedLaws.{with_sign_octet-needed}
-use Rattle.der_numbers.proofs.ContentsWriting.{first_refused, write_behind}
+use Rattle.der_numbers.proofs.ContentsWriting.{first_refused, write_after}
 use Rattle.der_numbers.proofs.octets.write_contents.Goals as goal
 
 pub returns-in_err-write_byte : goal.returns-in_err-write_byte
@@ -18,4 +18,4 @@ returns g c =
     let octets = c.args.octets.now in
     let high : 128 ≤ slice_index octets 0 = grind (arith, nat_tests) in
     let all = with_sign_octet-needed octets c.requires high in
-    write_behind octets (with_sign_octet octets) _ _ _ c.write-2.result all c.in_ok-write_byte.ensures c.write-2.ensures
+    write_after octets (with_sign_octet octets) _ _ _ c.write-2.result all c.in_ok-write_byte.ensures c.write-2.ensures

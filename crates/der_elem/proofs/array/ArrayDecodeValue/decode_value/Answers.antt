@@ -3,7 +3,7 @@ use Rattle.std.proofs.Math.Seq.{take-length}
 use Rattle.std.proofs.Math.ListN.{length-set}
 use Rattle.std.proofs.lemmas.List.{length-take, length-replicate}
 use Rattle.der_tlv.specs.ReaderState.{IsReaderState, rest, after_read}
-use Rattle.der_elem.specs.LeadingLaws.{led-some}
+use Rattle.der_elem.specs.FirstTagLaws.{has_first_tag_some}
 use Rattle.der_elem.specs.Items.{AcceptsItems}
 use Rattle.der_elem.proofs.ItemReading.{all_taken}
 use Rattle.der_elem.proofs.ArrayReading.{ArraySoFar, no_items, item_fault, too_many_fault, array_more, array_end, array_accepted, take_one, take_written}
@@ -46,7 +46,7 @@ items-init g c =
     let old = g.R.Source.state c.args.reader.now in
     let none = no_items g.T.Form g.row.N old (g.R.Source.state c.check_ready.new.reader) ready.1 in
     let some : 0 < g.row.N = let h = c.in_default.ensures.1 in omega arith in
-    let nonempty = led-some g.T.Form g.met.T.Choice.is_led old.rules in
+    let nonempty = has_first_tag_some g.T.Form g.met.T.Choice.has_first_tag old.rules in
     record {
       whole = length-replicate g.row.N c.in_ok-items.field-0;
       so_far = subst (ArraySoFar g.T.Form g.row.N old (g.R.Source.state c.decode_item.new.reader)) (sym (take_one g.row.N c.in_ok-items.field-0 some)) (array_more none nonempty some c.in_ok-items.ensures);
@@ -65,7 +65,7 @@ items-preserved g c =
     let i = c.items.i in
     let inside : i < length xs = let h = c.items-test.true in let w = c.items.invariant.whole in omega arith in
     let some : length (take i xs) < g.row.N = let h = c.items-test.true in omega (arith, length-take i xs) in
-    let nonempty = led-some g.T.Form g.met.T.Choice.is_led old.rules in
+    let nonempty = has_first_tag_some g.T.Form g.met.T.Choice.has_first_tag old.rules in
     record {
       whole = length-set xs i c.in_ok-items-2.field-0 ∙ c.items.invariant.whole;
       so_far = subst (ArraySoFar g.T.Form g.row.N old (g.R.Source.state c.decode_item-in-items.new.reader)) (sym (take_written xs i c.in_ok-items-2.field-0 inside)) (array_more c.items.invariant.so_far nonempty some c.in_ok-items-2.ensures);

@@ -4,7 +4,9 @@ use Rattle.der_tlv.specs.Identifier.{same_identifier}
 use Rattle.der_tlv.specs.HeaderReading.{octets_of}
 use Rattle.der_tlv.specs.HeaderLaws.{same_identifier-true}
 use Rattle.der_tlv.proofs.Refusals.{refused_octets}
-use Rattle.der_elem.proofs.AtContents.{refused_at_header, refused_behind_header, refused_inside, AtHeader, AtContents, shown_length, after_contents}
+use Rattle.der_elem.proofs.AtContents.{refused_at_header, refused_after_header, refused_inside, AtHeader, AtContents, shown_length, after_contents}
+use Rattle.der_elem.specs.Decoding.{OtherHeader}
+use Rattle.der_elem.proofs.OtherTags.{end_without_header, end_at_header, no_other_tag}
 use Rattle.der_elem.proofs.TaggedDecoding.{header_fault, other_tag_fault, too_long_fault, contents_fault, parsed_value, accepted_value}
 use Rattle.der_elem.proofs.blanket.AnyDecode.decode.Goals as goal
 use Rattle.der_elem.proofs.blanket.AnyDecode.decode.Goals.{In_ok-header, In_ok-end}
@@ -15,6 +17,7 @@ header_at g c = record { head = c.in_ok-header.ensures.head; sound = search rule
 pub returns-in_err-header : goal.returns-in_err-header
 returns-in_err-header g c =
     let fault = header_fault c.in_err-header.ensures.head g.T.Marker.TagMarker.TAG g.T.FormValue.value.parse (g.R.Source.state c.args.reader.now).rules in
+    let other : OtherHeader (λ u. same_identifier u g.T.Marker.TagMarker.TAG) (g.R.Source.state c.args.reader.now) → (g.R.Source.state c.decode.new.reader).end ≡ (g.R.Source.state c.args.reader.now).end = λ o. end_without_header c.in_err-header.ensures.head o in
     search rules
 
 pub returns-then-not-equals : goal.returns-then-not-equals
@@ -22,14 +25,15 @@ returns-then-not-equals g c =
     let at = header_at g (goal.at.returns-then-not-equals g c).In_ok-header in
     let other : same_identifier c.in_ok-header.header.tag g.T.Marker.TagMarker.TAG ≡ false = ap (same_identifier c.in_ok-header.header.tag) (sym c.TAG-tag.ensures) ∙ sym c.if-not-equals.ensures in
     let kind : c.error.result.kind ≡ TagUnexpected (Some g.T.Marker.TagMarker.TAG) c.in_ok-header.header.tag = c.error.ensures.kind ∙ c.unexpected_error.ensures ∙ ap (λ t. TagUnexpected (Some t) c.in_ok-header.header.tag) c.TAG-tag.ensures in
-    record { reason = inr (other_tag_fault at g.T.Marker.TagMarker.TAG other g.T.FormValue.value.parse (g.R.Source.state c.args.reader.now).rules ∙ ap Err (sym kind)); reader = refused_at_header at c.error.ensures.failed }
+    record { reason = inr (other_tag_fault at g.T.Marker.TagMarker.TAG other g.T.FormValue.value.parse (g.R.Source.state c.args.reader.now).rules ∙ ap Err (sym kind)); reader = refused_at_header at c.error.ensures.failed; other_tag = λ o. end_at_header at c.error.ensures.failed }
 
 pub returns-in_err-end : goal.returns-in_err-end
 returns-in_err-end g c =
     let at = header_at g (goal.at.returns-in_err-end g c).In_ok-header in
     let same : c.in_ok-header.header.tag ≡ g.T.Marker.TagMarker.TAG = same_identifier-true c.in_ok-header.header.tag c.TAG-tag.result (sym c.if-not-equals.ensures) ∙ c.TAG-tag.ensures in
     let fault = too_long_fault at c.in_err-end.ensures g.T.Marker.TagMarker.TAG same g.T.FormValue.value.parse (g.R.Source.state c.args.reader.now).rules in
-    let reader = refused_behind_header at (refused_octets c.in_err-end.ensures) in
+    let reader = refused_after_header at (refused_octets c.in_err-end.ensures) in
+    let other : OtherHeader (λ u. same_identifier u g.T.Marker.TagMarker.TAG) (g.R.Source.state c.args.reader.now) → (g.R.Source.state c.nest.new.self).end ≡ (g.R.Source.state c.args.reader.now).end = λ o. no_other_tag at g.T.Marker.TagMarker.TAG same o in
     search rules
 
 contents_at : (g : _) (c : In_ok-end g) → AtContents c.in_ok-header.header (g.R.Source.state c.args.reader.now) (g.R.Source.state c.decode.new.reader) (g.R.Source.state c.nest.new.self) c.in_ok-end.end
@@ -43,6 +47,7 @@ returns-in_err-value g c =
     let told = c.in_err-value.ensures.exact (shown_length at) in
     let fault = contents_fault g.T.FormValue.value g.T.Marker.TagMarker.TAG at same told in
     let reader = refused_inside at c.in_err-value.ensures.reader in
+    let other : OtherHeader (λ u. same_identifier u g.T.Marker.TagMarker.TAG) (g.R.Source.state c.args.reader.now) → (g.R.Source.state c.decode_value.new.reader).end ≡ (g.R.Source.state c.args.reader.now).end = λ o. no_other_tag at.at g.T.Marker.TagMarker.TAG same o in
     search rules
 
 pub returns : goal.returns

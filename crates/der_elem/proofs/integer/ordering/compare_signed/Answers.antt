@@ -1,6 +1,6 @@
 use Rattle.std.proofs.Common.{length, nat_cmp, ap, ap₂, sym, ◌∙◌, to_z-of_z}
 use Rattle.der_elem.specs.Integer.{left_aligned, integer_contents}
-use Rattle.der_elem.proofs.IntegerOrder.{integers_tied, integers_told}
+use Rattle.der_elem.proofs.IntegerOrder.{integers_tied, integers_decided}
 use Rattle.der_elem.proofs.integer.ordering.compare_signed.Goals as goal
 
 pub returns-in-Equal : goal.returns-in-Equal
@@ -17,4 +17,4 @@ returns-in_default c =
     let a = to_z-of_z c.ranges.a in
     let b = to_z-of_z c.ranges.b in
     let numbers = c.cmp.ensures ∙ ap₂ nat_cmp (c.aligned_contents.ensures ∙ ap (λ y. left_aligned 16 (integer_contents y)) a) (c.aligned_contents-2.ensures ∙ ap (λ y. left_aligned 16 (integer_contents y)) b) in
-    numbers ∙ integers_told c.args.a c.args.b c.ranges.a c.ranges.b (λ e. c.in_default.not-Equal (numbers ∙ e))
+    numbers ∙ integers_decided c.args.a c.args.b c.ranges.a c.ranges.b (λ e. c.in_default.not-Equal (numbers ∙ e))

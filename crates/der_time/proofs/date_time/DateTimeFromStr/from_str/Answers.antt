@@ -1,6 +1,6 @@
 use Rattle.std.proofs.Common.{◌≡◌, None, option_and_then, refl, sym, ap, ◌∙◌, rules}
 use Rattle.der_time.specs.Times.{time_text}
-use Rattle.der_time.specs.Reading.{read_text, if_time}
+use Rattle.der_time.specs.TimeReading.{read_text, if_time}
 use Rattle.der_time.specs.DateTime.{date_time_text}
 use Rattle.der_time.specs.declared.date_time.DateTime.{DateTime}
 use Rattle.der_time.specs.TimeLaws.{text_refused, text_injective}

@@ -1,6 +1,6 @@
 use Rattle.std.proofs.Common.{rules, ◌<◌, ◌∙◌, sym, ap, arith}
 use Rattle.der_tlv.proofs.ShortReads.{short_tag_read}
-use Rattle.der_tlv.proofs.TagHeads.{NumberRead, number_in_first, number_behind, first_missing, number_refused, tag_read, tag_refused}
+use Rattle.der_tlv.proofs.TagHeads.{NumberRead, number_in_first, number_following, first_missing, number_refused, tag_read, tag_refused}
 use Rattle.der_tlv.proofs.tag.Tag.decode.Goals as goal
 use Rattle.der_tlv.proofs.tag.Tag.decode.Goals.{then-low-lt31, else-low-lt31+in_ok-number}
 
@@ -20,7 +20,7 @@ returns-in-Ok-clause-head g c =
     let read : NumberRead (g.R.Source.state c.args.reader.now) (g.R.Source.state c.if-low-lt31.reader) c.in_ok-first.first c.if-low-lt31.number =
     elim c.if-low-lt31.branch [
       | then-low-lt31 w ↦ number_in_first c.in_ok-first.ensures small w.if-low-lt31.true (omega arith) (ap g.R.Source.state w.reader-is)
-      | else-low-lt31+in_ok-number w ↦ number_behind c.in_ok-first.ensures small w.if-low-lt31.false w.in_ok-number.ensures.head w.in_ok-number.ensures.long w.number-is (ap g.R.Source.state w.reader-is)
+      | else-low-lt31+in_ok-number w ↦ number_following c.in_ok-first.ensures small w.if-low-lt31.false w.in_ok-number.ensures.head w.in_ok-number.ensures.long w.number-is (ap g.R.Source.state w.reader-is)
     ] in
     tag_read read (sym c.in-Ok.ensures)
 
@@ -30,7 +30,7 @@ returns-in-Err-clause-head g c =
     let read : NumberRead (g.R.Source.state c.args.reader.now) (g.R.Source.state c.if-low-lt31.reader) c.in_ok-first.first c.if-low-lt31.number =
     elim c.if-low-lt31.branch [
       | then-low-lt31 w ↦ number_in_first c.in_ok-first.ensures small w.if-low-lt31.true (omega arith) (ap g.R.Source.state w.reader-is)
-      | else-low-lt31+in_ok-number w ↦ number_behind c.in_ok-first.ensures small w.if-low-lt31.false w.in_ok-number.ensures.head w.in_ok-number.ensures.long w.number-is (ap g.R.Source.state w.reader-is)
+      | else-low-lt31+in_ok-number w ↦ number_following c.in_ok-first.ensures small w.if-low-lt31.false w.in_ok-number.ensures.head w.in_ok-number.ensures.long w.number-is (ap g.R.Source.state w.reader-is)
     ] in
     let fault = tag_refused read (sym c.in-Err.ensures) c.error.ensures.failed in
     search rules

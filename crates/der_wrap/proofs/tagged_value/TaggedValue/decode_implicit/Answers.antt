@@ -8,10 +8,10 @@ use Rattle.der_tlv.specs.TagMatching.{match_tag}
 use Rattle.der_tlv.specs.TagParts.{is_constructed}
 use Rattle.der_elem.specs.Decoding.{Faults}
 use Rattle.der_tlv.proofs.Refusals.{refused_octets}
-use Rattle.der_elem.proofs.AtContents.{AtHeader, AtContents, refused_at_header, refused_behind_header, refused_inside, shown_length, after_contents}
+use Rattle.der_elem.proofs.AtContents.{AtHeader, AtContents, refused_at_header, refused_after_header, refused_inside, shown_length, after_contents}
 use Rattle.der_wrap.specs.ClassTags.{class_of_bits, class_tag}
-use Rattle.der_wrap.specs.TaggedValues.{form_allowed, parse_field, parse_implicit, in_implicit}
-use Rattle.der_wrap.proofs.FieldDecoding.{found_fault, found_field, header_matched}
+use Rattle.der_wrap.specs.TaggedValues.{form_allowed, parse_optional_field, parse_implicit, in_implicit}
+use Rattle.der_wrap.proofs.FieldDecoding.{found_fault, found_faultless, found_field, header_matched}
 use Rattle.der_wrap.proofs.ImplicitDecoding.{header_fault_implicit, form_fault_implicit, too_long_implicit, contents_fault_implicit, parsed_implicit, accepted_implicit}
 use Rattle.der_wrap.proofs.tagged_value.TaggedValue.decode_implicit.Goals as goal
 use Rattle.der_wrap.proofs.tagged_value.TaggedValue.decode_implicit.Goals.{In_ok-header, In-Ok, In_ok-end}
@@ -80,7 +80,7 @@ returns-in_err-end g c =
     let allowed = allowed_at g (goal.at.returns-in_err-end g c).In-Ok in
     let refused = c.in_err-end.ensures in
     let fault = found_fault bits n old ready found (parse_implicit t own g.T.FormValue.value.parse) old.rules (too_long_implicit at t own g.T.FormValue.value.parse old.rules allowed refused) in
-    let reader = refused_behind_header at (refused_octets refused) in
+    let reader = refused_after_header at (refused_octets refused) in
     search rules
 
 pub returns-in_err-value : goal.returns-in_err-value
@@ -96,8 +96,8 @@ returns-in_err-value g c =
     let allowed = allowed_at g (goal.at.returns-in_err-value g c).In-Ok in
     let told = c.in_err-value.ensures.exact (shown_length at) in
     let parse = parse_implicit t own g.T.FormValue.value.parse in
-    let faults : Faults g.T.FormValue.value.TAKES_MEMORY (unless_failed (parse_field bits n parse old.rules) old) c.in_err-value.field-0.0.kind = elim (contents_fault_implicit g.T.FormValue.value at t own allowed told) [
-      | inl m ↦ inl m
+    let faults : Faults g.T.FormValue.value.TAKES_MEMORY g.T.FormValue.value.FAULTS_FIRST (unless_failed (parse_optional_field bits n parse old.rules) old) c.in_err-value.field-0.0.kind = elim (contents_fault_implicit g.T.FormValue.value at t own allowed told) [
+      | inl m ↦ inl (record { kind_is = m.kind_is; takes = m.takes; faultless = λ first. found_faultless bits n old ready found parse old.rules (m.faultless first) })
       | inr e ↦ inr (found_fault bits n old ready found parse old.rules e)
     ] in
     let reader = refused_inside at c.in_err-value.ensures.reader in

@@ -18,11 +18,11 @@ returns-in_err-item-clause-refused g c =
     let fault = borrowed_item_fault c.items.invariant sound c.in_err-item.field-0.0.kind some c.in_err-item.ensures.reason in
     search rules
 
-pub returns-in_err-may_follow-clause-refused : goal.returns-in_err-may_follow-clause-refused
-returns-in_err-may_follow-clause-refused g c =
+pub returns-in_err-check_next-clause-refused : goal.returns-in_err-check_next-clause-refused
+returns-in_err-check_next-clause-refused g c =
     let sound : IsReaderState (slice_reader_state c.items.reader) = record { ordered = c.items.reader.ordered; inside = c.items.reader.inside; short = c.items.reader.short } in
     let some = more_left _ _ c.is_finished.ensures c.items-test.true in
-    let fault = order_fault c.items.invariant sound c.in_err-may_follow.field-0.0.kind some c.in_ok-item.ensures c.in_err-may_follow.ensures.refused in
+    let fault = order_fault c.items.invariant sound c.in_err-check_next.field-0.0.kind some c.in_ok-item.ensures c.in_err-check_next.ensures.refused in
     search rules
 
 pub items-init : goal.items-init
@@ -39,7 +39,7 @@ items-preserved g c =
     let sound : IsReaderState (slice_reader_state c.items.reader) = record { ordered = c.items.reader.ordered; inside = c.items.reader.inside; short = c.items.reader.short } in
     let some = more_left _ _ c.is_finished.ensures c.items-test.true in
     let nonempty = accepted-some g.T.Tagged.tag_of g.T.FormValue.value.contents g.T.Form.encoding g.met.T.Tagged.encoding_is g.T.Form (λ v. refl) Der in
-    one_more_borrowed c.items.invariant sound nonempty some c.in_ok-item.ensures c.in_ok-may_follow.ensures.ok
+    one_more_borrowed c.items.invariant sound nonempty some c.in_ok-item.ensures c.in_ok-check_next.ensures.ok
 
 pub invariant_of-result : goal.invariant_of-result
 invariant_of-result g c =

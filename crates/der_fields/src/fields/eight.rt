@@ -1,0 +1,403 @@
+//! Eight fields of a SEQUENCE, and those after, told in one step.
+
+ghost use Rattle.std.specs.Prelude.{◌≡◌, ◌||◌};
+ghost use Rattle.der_fields.specs.ListMakers.{part_of, field_list};
+ghost use Rattle.der_fields.specs.FieldLaws.{either_memory};
+ghost use Rattle.der_fields.specs.FieldSteps.{each, both, list_tags, tags_after, rest_starts, rest_equality, rest_copies, rest_distinct, starts_step, equality_step, copies_step, distinct_step};
+ghost use Rattle.der_fields.specs.Listing.{field, end};
+
+use crate::coded::{DecodeFields, EncodeFields};
+use crate::copied::DuplicateFields;
+use crate::distinct::DistinctTags;
+use crate::end::End;
+use crate::equal::FieldsEq;
+use crate::field::Field;
+use crate::field_list::FieldList;
+use crate::ordered::{FieldsFirstTag, FieldsOrd};
+use der_elem::{DecodeField, DerOrd, Duplicate, Encode, EncodingEq, FirstTag, Form, KnownTags};
+use der_tlv::{Error, Length, Source, Tag, Writer};
+use std::alloc::Global;
+use std::cmp::Ordering;
+
+/// Eight fields, and those after.
+#[derive(Clone, Copy, Debug, PartialEq, Eq, Drop)]
+pub struct Fields8<A, B, C, D, E, F, G, H, Rest = End> {
+    /// The list.
+    pub list: Field<A, Field<B, Field<C, Field<D, Field<E, Field<F, Field<G, Field<H, Rest>>>>>>>>,
+}
+
+impl<A, B, C, D, E, F, G, H> Fields8<A, B, C, D, E, F, G, H> {
+    /// A list of these fields.
+    pub fn new(
+        first: A,
+        second: B,
+        third: C,
+        fourth: D,
+        fifth: E,
+        sixth: F,
+        seventh: G,
+        eighth: H,
+    ) -> Fields8<A, B, C, D, E, F, G, H>
+        ensures { result.list ≡ field first (field second (field third (field fourth (field fifth (field sixth (field seventh (field eighth end))))))) }
+    {
+        Fields8::with_rest(
+            first, second, third, fourth, fifth, sixth, seventh, eighth, End,
+        )
+    }
+
+    /// The fields, in their order.
+    pub fn into_parts(self) -> (A, B, C, D, E, F, G, H)
+        ensures { self.list ≡ field result.0 (field result.1 (field result.2 (field result.3 (field result.4 (field result.5 (field result.6 (field result.7 end))))))) }
+    {
+        let list = self.list;
+        (
+            list.first,
+            list.rest.first,
+            list.rest.rest.first,
+            list.rest.rest.rest.first,
+            list.rest.rest.rest.rest.first,
+            list.rest.rest.rest.rest.rest.first,
+            list.rest.rest.rest.rest.rest.rest.first,
+            list.rest.rest.rest.rest.rest.rest.rest.first,
+        )
+    }
+}
+
+impl<A, B, C, D, E, F, G, H, Rest> Fields8<A, B, C, D, E, F, G, H, Rest> {
+    /// A list of these fields, and of those after.
+    pub fn with_rest(
+        first: A,
+        second: B,
+        third: C,
+        fourth: D,
+        fifth: E,
+        sixth: F,
+        seventh: G,
+        eighth: H,
+        rest: Rest,
+    ) -> Fields8<A, B, C, D, E, F, G, H, Rest>
+        ensures { result.list ≡ field first (field second (field third (field fourth (field fifth (field sixth (field seventh (field eighth rest))))))) }
+    {
+        let rest = Field {
+            first: eighth,
+            rest,
+        };
+        let rest = Field {
+            first: seventh,
+            rest,
+        };
+        let rest = Field { first: sixth, rest };
+        let rest = Field { first: fifth, rest };
+        let rest = Field {
+            first: fourth,
+            rest,
+        };
+        let rest = Field { first: third, rest };
+        let rest = Field {
+            first: second,
+            rest,
+        };
+        let list = Field { first, rest };
+        Fields8 { list }
+    }
+
+    /// The first field.
+    pub fn first(&self) -> &A
+        ensures { result.now ≡ self.now.list.first }
+    {
+        &self.list.first
+    }
+
+    /// The second field.
+    pub fn second(&self) -> &B
+        ensures { result.now ≡ self.now.list.rest.first }
+    {
+        &self.list.rest.first
+    }
+
+    /// The third field.
+    pub fn third(&self) -> &C
+        ensures { result.now ≡ self.now.list.rest.rest.first }
+    {
+        &self.list.rest.rest.first
+    }
+
+    /// The fourth field.
+    pub fn fourth(&self) -> &D
+        ensures { result.now ≡ self.now.list.rest.rest.rest.first }
+    {
+        &self.list.rest.rest.rest.first
+    }
+
+    /// The fifth field.
+    pub fn fifth(&self) -> &E
+        ensures { result.now ≡ self.now.list.rest.rest.rest.rest.first }
+    {
+        &self.list.rest.rest.rest.rest.first
+    }
+
+    /// The sixth field.
+    pub fn sixth(&self) -> &F
+        ensures { result.now ≡ self.now.list.rest.rest.rest.rest.rest.first }
+    {
+        &self.list.rest.rest.rest.rest.rest.first
+    }
+
+    /// The seventh field.
+    pub fn seventh(&self) -> &G
+        ensures { result.now ≡ self.now.list.rest.rest.rest.rest.rest.rest.first }
+    {
+        &self.list.rest.rest.rest.rest.rest.rest.first
+    }
+
+    /// The eighth field.
+    pub fn eighth(&self) -> &H
+        ensures { result.now ≡ self.now.list.rest.rest.rest.rest.rest.rest.rest.first }
+    {
+        &self.list.rest.rest.rest.rest.rest.rest.rest.first
+    }
+
+    /// The fields after.
+    pub fn rest(&self) -> &Rest
+        ensures { result.now ≡ self.now.list.rest.rest.rest.rest.rest.rest.rest.rest }
+    {
+        &self.list.rest.rest.rest.rest.rest.rest.rest.rest
+    }
+}
+
+impl<
+    A: Form,
+    B: Form,
+    C: Form,
+    D: Form,
+    E: Form,
+    F: Form,
+    G: Form,
+    H: Form,
+    Rest: FieldList,
+> FieldList for Fields8<A, B, C, D, E, F, G, H, Rest> {
+    ghost list = { part_of (λ v. v.list) (field_list A.Form (field_list B.Form (field_list C.Form (field_list D.Form (field_list E.Form (field_list F.Form (field_list G.Form (field_list H.Form Rest.list)))))))) };
+}
+
+impl<
+    'a,
+    R: Source<'a>,
+    A: DecodeField<'a, R>,
+    B: DecodeField<'a, R>,
+    C: DecodeField<'a, R>,
+    D: DecodeField<'a, R>,
+    E: DecodeField<'a, R>,
+    F: DecodeField<'a, R>,
+    G: DecodeField<'a, R>,
+    H: DecodeField<'a, R>,
+    Rest: DecodeFields<'a, R>,
+> DecodeFields<'a, R> for Fields8<A, B, C, D, E, F, G, H, Rest> {
+    ghost TAKES_MEMORY = { A.DecodeField.TAKES_MEMORY || (B.DecodeField.TAKES_MEMORY || (C.DecodeField.TAKES_MEMORY || (D.DecodeField.TAKES_MEMORY || (E.DecodeField.TAKES_MEMORY || (F.DecodeField.TAKES_MEMORY || (G.DecodeField.TAKES_MEMORY || (H.DecodeField.TAKES_MEMORY || Rest.DecodeFields.TAKES_MEMORY))))))) };
+
+    const TAKES_MEMORY: bool = <A as DecodeField<'a, R>>::TAKES_MEMORY
+        || (<B as DecodeField<'a, R>>::TAKES_MEMORY
+            || (<C as DecodeField<'a, R>>::TAKES_MEMORY
+                || (<D as DecodeField<'a, R>>::TAKES_MEMORY
+                    || (<E as DecodeField<'a, R>>::TAKES_MEMORY
+                        || (<F as DecodeField<'a, R>>::TAKES_MEMORY
+                            || (<G as DecodeField<'a, R>>::TAKES_MEMORY
+                                || (<H as DecodeField<'a, R>>::TAKES_MEMORY
+                                    || <Rest as DecodeFields<'a, R>>::TAKES_MEMORY)))))));
+
+    fn decode_fields(
+        alloc: Global,
+        reader: &mut R,
+    ) -> Result<Fields8<A, B, C, D, E, F, G, H, Rest>, Error> {
+        let list = Field::<
+            A,
+            Field<B, Field<C, Field<D, Field<E, Field<F, Field<G, Field<H, Rest>>>>>>>,
+        >::decode_fields(alloc, reader)?;
+        Ok(Fields8 { list })
+    }
+
+    ghost takes_memory_is = { either_memory A.DecodeField.takes_memory_is (either_memory B.DecodeField.takes_memory_is (either_memory C.DecodeField.takes_memory_is (either_memory D.DecodeField.takes_memory_is (either_memory E.DecodeField.takes_memory_is (either_memory F.DecodeField.takes_memory_is (either_memory G.DecodeField.takes_memory_is (either_memory H.DecodeField.takes_memory_is Rest.DecodeFields.takes_memory_is))))))) };
+}
+
+impl<
+    A: Encode,
+    B: Encode,
+    C: Encode,
+    D: Encode,
+    E: Encode,
+    F: Encode,
+    G: Encode,
+    H: Encode,
+    Rest: EncodeFields,
+> EncodeFields for Fields8<A, B, C, D, E, F, G, H, Rest> {
+    fn fields_len(&self) -> Result<Length, Error> {
+        self.list.fields_len()
+    }
+
+    fn encode_fields<W: Writer>(&self, writer: &mut W) -> Result<(), Error> {
+        self.list.encode_fields(writer)
+    }
+}
+
+impl<
+    A: FirstTag,
+    B: FirstTag,
+    C: FirstTag,
+    D: FirstTag,
+    E: FirstTag,
+    F: FirstTag,
+    G: FirstTag,
+    H: FirstTag,
+    Rest: FieldsFirstTag,
+> FieldsFirstTag for Fields8<A, B, C, D, E, F, G, H, Rest> {
+    fn fields_first_tag(&self) -> Option<Tag> {
+        self.list.fields_first_tag()
+    }
+
+    ghost starts_fields = { λ v. (starts_step A.Form A.starts (starts_step B.Form B.starts (starts_step C.Form C.starts (starts_step D.Form D.starts (starts_step E.Form E.starts (starts_step F.Form F.starts (starts_step G.Form G.starts (starts_step H.Form H.starts (rest_starts Rest.list Rest.starts_fields))))))))).starts v.list };
+}
+
+impl<
+    A: DerOrd + FirstTag,
+    B: DerOrd + FirstTag,
+    C: DerOrd + FirstTag,
+    D: DerOrd + FirstTag,
+    E: DerOrd + FirstTag,
+    F: DerOrd + FirstTag,
+    G: DerOrd + FirstTag,
+    H: DerOrd + FirstTag,
+    Rest: FieldsOrd + FieldsFirstTag,
+> FieldsOrd for Fields8<A, B, C, D, E, F, G, H, Rest> {
+    fn cmp_fields(&self, other: &Fields8<A, B, C, D, E, F, G, H, Rest>) -> Result<Ordering, Error> {
+        self.list.cmp_fields(&other.list)
+    }
+}
+
+impl<
+    A: EncodingEq + FirstTag,
+    B: EncodingEq + FirstTag,
+    C: EncodingEq + FirstTag,
+    D: EncodingEq + FirstTag,
+    E: EncodingEq + FirstTag,
+    F: EncodingEq + FirstTag,
+    G: EncodingEq + FirstTag,
+    H: EncodingEq + FirstTag,
+    Rest: FieldsEq + FieldsFirstTag,
+> FieldsEq for Fields8<A, B, C, D, E, F, G, H, Rest> {
+    ghost fields_eq = { λ v w.
+        (equality_step A.Form A.eq A.encoding_eq A.starts A.own_first_tag A.same_beginning
+        (equality_step B.Form B.eq B.encoding_eq B.starts B.own_first_tag B.same_beginning
+        (equality_step C.Form C.eq C.encoding_eq C.starts C.own_first_tag C.same_beginning
+        (equality_step D.Form D.eq D.encoding_eq D.starts D.own_first_tag D.same_beginning
+        (equality_step E.Form E.eq E.encoding_eq E.starts E.own_first_tag E.same_beginning
+        (equality_step F.Form F.eq F.encoding_eq F.starts F.own_first_tag F.same_beginning
+        (equality_step G.Form G.eq G.encoding_eq G.starts G.own_first_tag G.same_beginning
+        (equality_step H.Form H.eq H.encoding_eq H.starts H.own_first_tag H.same_beginning
+        (rest_equality Rest.list Rest.starts_fields Rest.eq Rest.fields_eq))))))))).equal v.list w.list };
+}
+
+impl<
+    A: Duplicate + FirstTag,
+    B: Duplicate + FirstTag,
+    C: Duplicate + FirstTag,
+    D: Duplicate + FirstTag,
+    E: Duplicate + FirstTag,
+    F: Duplicate + FirstTag,
+    G: Duplicate + FirstTag,
+    H: Duplicate + FirstTag,
+    Rest: DuplicateFields + FieldsFirstTag,
+> DuplicateFields for Fields8<A, B, C, D, E, F, G, H, Rest> {
+    ghost are_copies = { λ v w. (both A.is_copy (both B.is_copy (both C.is_copy (both D.is_copy (both E.is_copy (both F.is_copy (both G.is_copy (both H.is_copy Rest.are_copies)))))))) v.list w.list };
+
+    ghost take_memory_to_copy = { A.takes_memory_to_copy || (B.takes_memory_to_copy || (C.takes_memory_to_copy || (D.takes_memory_to_copy || (E.takes_memory_to_copy || (F.takes_memory_to_copy || (G.takes_memory_to_copy || (H.takes_memory_to_copy || Rest.take_memory_to_copy))))))) };
+
+    fn duplicate_fields(&self) -> Result<Fields8<A, B, C, D, E, F, G, H, Rest>, Error> {
+        let list = self.list.duplicate_fields()?;
+        Ok(Fields8 { list })
+    }
+
+    ghost copy_joined = { λ v w.
+        (copies_step A.Form A.is_copy A.starts A.copy_encoding A.copy_comparable A.copy_re_reads
+        (copies_step B.Form B.is_copy B.starts B.copy_encoding B.copy_comparable B.copy_re_reads
+        (copies_step C.Form C.is_copy C.starts C.copy_encoding C.copy_comparable C.copy_re_reads
+        (copies_step D.Form D.is_copy D.starts D.copy_encoding D.copy_comparable D.copy_re_reads
+        (copies_step E.Form E.is_copy E.starts E.copy_encoding E.copy_comparable E.copy_re_reads
+        (copies_step F.Form F.is_copy F.starts F.copy_encoding F.copy_comparable F.copy_re_reads
+        (copies_step G.Form G.is_copy G.starts G.copy_encoding G.copy_comparable G.copy_re_reads
+        (copies_step H.Form H.is_copy H.starts H.copy_encoding H.copy_comparable H.copy_re_reads
+        (rest_copies Rest.list Rest.starts_fields Rest.are_copies Rest.copy_joined Rest.copy_all_comparable Rest.copy_re_read))))))))).joined v.list w.list };
+
+    ghost copy_all_comparable = { λ v w x.
+        (copies_step A.Form A.is_copy A.starts A.copy_encoding A.copy_comparable A.copy_re_reads
+        (copies_step B.Form B.is_copy B.starts B.copy_encoding B.copy_comparable B.copy_re_reads
+        (copies_step C.Form C.is_copy C.starts C.copy_encoding C.copy_comparable C.copy_re_reads
+        (copies_step D.Form D.is_copy D.starts D.copy_encoding D.copy_comparable D.copy_re_reads
+        (copies_step E.Form E.is_copy E.starts E.copy_encoding E.copy_comparable E.copy_re_reads
+        (copies_step F.Form F.is_copy F.starts F.copy_encoding F.copy_comparable F.copy_re_reads
+        (copies_step G.Form G.is_copy G.starts G.copy_encoding G.copy_comparable G.copy_re_reads
+        (copies_step H.Form H.is_copy H.starts H.copy_encoding H.copy_comparable H.copy_re_reads
+        (rest_copies Rest.list Rest.starts_fields Rest.are_copies Rest.copy_joined Rest.copy_all_comparable Rest.copy_re_read))))))))).comparable v.list w.list x.list };
+
+    ghost copy_re_read = { λ v w.
+        (copies_step A.Form A.is_copy A.starts A.copy_encoding A.copy_comparable A.copy_re_reads
+        (copies_step B.Form B.is_copy B.starts B.copy_encoding B.copy_comparable B.copy_re_reads
+        (copies_step C.Form C.is_copy C.starts C.copy_encoding C.copy_comparable C.copy_re_reads
+        (copies_step D.Form D.is_copy D.starts D.copy_encoding D.copy_comparable D.copy_re_reads
+        (copies_step E.Form E.is_copy E.starts E.copy_encoding E.copy_comparable E.copy_re_reads
+        (copies_step F.Form F.is_copy F.starts F.copy_encoding F.copy_comparable F.copy_re_reads
+        (copies_step G.Form G.is_copy G.starts G.copy_encoding G.copy_comparable G.copy_re_reads
+        (copies_step H.Form H.is_copy H.starts H.copy_encoding H.copy_comparable H.copy_re_reads
+        (rest_copies Rest.list Rest.starts_fields Rest.are_copies Rest.copy_joined Rest.copy_all_comparable Rest.copy_re_read))))))))).re_read v.list w.list };
+}
+
+impl<
+    A: KnownTags + FirstTag,
+    B: KnownTags + FirstTag,
+    C: KnownTags + FirstTag,
+    D: KnownTags + FirstTag,
+    E: KnownTags + FirstTag,
+    F: KnownTags + FirstTag,
+    G: KnownTags + FirstTag,
+    H: KnownTags + FirstTag,
+    Rest: DistinctTags,
+> DistinctTags for Fields8<A, B, C, D, E, F, G, H, Rest> {
+    ghost first_tags = { (tags_after A.MAY_BE_ABSENT A.known_tags (tags_after B.MAY_BE_ABSENT B.known_tags (tags_after C.MAY_BE_ABSENT C.known_tags (tags_after D.MAY_BE_ABSENT D.known_tags (tags_after E.MAY_BE_ABSENT E.known_tags (tags_after F.MAY_BE_ABSENT F.known_tags (tags_after G.MAY_BE_ABSENT G.known_tags (tags_after H.MAY_BE_ABSENT H.known_tags (list_tags Rest.first_tags Rest.TAGS_ARE_DISTINCT))))))))).first };
+
+    ghost TAGS_ARE_DISTINCT = { (tags_after A.MAY_BE_ABSENT A.known_tags (tags_after B.MAY_BE_ABSENT B.known_tags (tags_after C.MAY_BE_ABSENT C.known_tags (tags_after D.MAY_BE_ABSENT D.known_tags (tags_after E.MAY_BE_ABSENT E.known_tags (tags_after F.MAY_BE_ABSENT F.known_tags (tags_after G.MAY_BE_ABSENT G.known_tags (tags_after H.MAY_BE_ABSENT H.known_tags (list_tags Rest.first_tags Rest.TAGS_ARE_DISTINCT))))))))).are_distinct };
+
+    ghost each_readable = { λ v. (each A.readable (each B.readable (each C.readable (each D.readable (each E.readable (each F.readable (each G.readable (each H.readable Rest.each_readable)))))))) v.list };
+
+    ghost each_comparable = { λ v w. (both A.comparable (both B.comparable (both C.comparable (both D.comparable (both E.comparable (both F.comparable (both G.comparable (both H.comparable Rest.each_comparable)))))))) v.list w.list };
+
+    ghost first_is_known = { λ v.
+        (distinct_step A.Form A.known_tags A.MAY_BE_ABSENT A.own_first_tag A.are_known A.is_there
+        (distinct_step B.Form B.known_tags B.MAY_BE_ABSENT B.own_first_tag B.are_known B.is_there
+        (distinct_step C.Form C.known_tags C.MAY_BE_ABSENT C.own_first_tag C.are_known C.is_there
+        (distinct_step D.Form D.known_tags D.MAY_BE_ABSENT D.own_first_tag D.are_known D.is_there
+        (distinct_step E.Form E.known_tags E.MAY_BE_ABSENT E.own_first_tag E.are_known E.is_there
+        (distinct_step F.Form F.known_tags F.MAY_BE_ABSENT F.own_first_tag F.are_known F.is_there
+        (distinct_step G.Form G.known_tags G.MAY_BE_ABSENT G.own_first_tag G.are_known G.is_there
+        (distinct_step H.Form H.known_tags H.MAY_BE_ABSENT H.own_first_tag H.are_known H.is_there
+        (rest_distinct Rest.list Rest.first_tags Rest.TAGS_ARE_DISTINCT Rest.each_readable Rest.each_comparable Rest.first_is_known Rest.readable_if_distinct Rest.comparable_if_distinct))))))))).known v.list };
+
+    ghost readable_if_distinct = { λ e v.
+        (distinct_step A.Form A.known_tags A.MAY_BE_ABSENT A.own_first_tag A.are_known A.is_there
+        (distinct_step B.Form B.known_tags B.MAY_BE_ABSENT B.own_first_tag B.are_known B.is_there
+        (distinct_step C.Form C.known_tags C.MAY_BE_ABSENT C.own_first_tag C.are_known C.is_there
+        (distinct_step D.Form D.known_tags D.MAY_BE_ABSENT D.own_first_tag D.are_known D.is_there
+        (distinct_step E.Form E.known_tags E.MAY_BE_ABSENT E.own_first_tag E.are_known E.is_there
+        (distinct_step F.Form F.known_tags F.MAY_BE_ABSENT F.own_first_tag F.are_known F.is_there
+        (distinct_step G.Form G.known_tags G.MAY_BE_ABSENT G.own_first_tag G.are_known G.is_there
+        (distinct_step H.Form H.known_tags H.MAY_BE_ABSENT H.own_first_tag H.are_known H.is_there
+        (rest_distinct Rest.list Rest.first_tags Rest.TAGS_ARE_DISTINCT Rest.each_readable Rest.each_comparable Rest.first_is_known Rest.readable_if_distinct Rest.comparable_if_distinct))))))))).readable e v.list };
+
+    ghost comparable_if_distinct = { λ e v w.
+        (distinct_step A.Form A.known_tags A.MAY_BE_ABSENT A.own_first_tag A.are_known A.is_there
+        (distinct_step B.Form B.known_tags B.MAY_BE_ABSENT B.own_first_tag B.are_known B.is_there
+        (distinct_step C.Form C.known_tags C.MAY_BE_ABSENT C.own_first_tag C.are_known C.is_there
+        (distinct_step D.Form D.known_tags D.MAY_BE_ABSENT D.own_first_tag D.are_known D.is_there
+        (distinct_step E.Form E.known_tags E.MAY_BE_ABSENT E.own_first_tag E.are_known E.is_there
+        (distinct_step F.Form F.known_tags F.MAY_BE_ABSENT F.own_first_tag F.are_known F.is_there
+        (distinct_step G.Form G.known_tags G.MAY_BE_ABSENT G.own_first_tag G.are_known G.is_there
+        (distinct_step H.Form H.known_tags H.MAY_BE_ABSENT H.own_first_tag H.are_known H.is_there
+        (rest_distinct Rest.list Rest.first_tags Rest.TAGS_ARE_DISTINCT Rest.each_readable Rest.each_comparable Rest.first_is_known Rest.readable_if_distinct Rest.comparable_if_distinct))))))))).comparable e v.list w.list };
+}

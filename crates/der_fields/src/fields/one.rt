@@ -1,0 +1,163 @@
+//! One field of a SEQUENCE, and those after, told in one step.
+
+ghost use Rattle.std.specs.Prelude.{◌≡◌, ◌||◌};
+ghost use Rattle.der_fields.specs.ListMakers.{part_of, field_list};
+ghost use Rattle.der_fields.specs.FieldLaws.{either_memory};
+ghost use Rattle.der_fields.specs.FieldSteps.{each, both, list_tags, tags_after, rest_starts, rest_equality, rest_copies, rest_distinct, starts_step, equality_step, copies_step, distinct_step};
+ghost use Rattle.der_fields.specs.Listing.{field, end};
+
+use crate::coded::{DecodeFields, EncodeFields};
+use crate::copied::DuplicateFields;
+use crate::distinct::DistinctTags;
+use crate::end::End;
+use crate::equal::FieldsEq;
+use crate::field::Field;
+use crate::field_list::FieldList;
+use crate::ordered::{FieldsFirstTag, FieldsOrd};
+use der_elem::{DecodeField, DerOrd, Duplicate, Encode, EncodingEq, FirstTag, Form, KnownTags};
+use der_tlv::{Error, Length, Source, Tag, Writer};
+use std::alloc::Global;
+use std::cmp::Ordering;
+
+/// One field, and those after.
+#[derive(Clone, Copy, Debug, PartialEq, Eq, Drop)]
+pub struct Fields1<A, Rest = End> {
+    /// The list.
+    pub list: Field<A, Rest>,
+}
+
+impl<A> Fields1<A> {
+    /// A list of this field.
+    pub fn new(first: A) -> Fields1<A>
+        ensures { result.list ≡ field first end }
+    {
+        Fields1::with_rest(first, End)
+    }
+
+    /// The field.
+    pub fn into_parts(self) -> (A,)
+        ensures { self.list ≡ field result.0 end }
+    {
+        let list = self.list;
+        (list.first,)
+    }
+}
+
+impl<A, Rest> Fields1<A, Rest> {
+    /// A list of this field, and of those after.
+    pub fn with_rest(first: A, rest: Rest) -> Fields1<A, Rest>
+        ensures { result.list ≡ field first rest }
+    {
+        let list = Field { first, rest };
+        Fields1 { list }
+    }
+
+    /// The first field.
+    pub fn first(&self) -> &A
+        ensures { result.now ≡ self.now.list.first }
+    {
+        &self.list.first
+    }
+
+    /// The fields after.
+    pub fn rest(&self) -> &Rest
+        ensures { result.now ≡ self.now.list.rest }
+    {
+        &self.list.rest
+    }
+}
+
+impl<A: Form, Rest: FieldList> FieldList for Fields1<A, Rest> {
+    ghost list = { part_of (λ v. v.list) (field_list A.Form Rest.list) };
+}
+
+impl<'a, R: Source<'a>, A: DecodeField<'a, R>, Rest: DecodeFields<'a, R>> DecodeFields<'a, R>
+    for Fields1<A, Rest> {
+    ghost TAKES_MEMORY = { A.DecodeField.TAKES_MEMORY || Rest.DecodeFields.TAKES_MEMORY };
+
+    const TAKES_MEMORY: bool = <A as DecodeField<'a, R>>::TAKES_MEMORY
+        || <Rest as DecodeFields<'a, R>>::TAKES_MEMORY;
+
+    fn decode_fields(alloc: Global, reader: &mut R) -> Result<Fields1<A, Rest>, Error> {
+        let list = Field::<A, Rest>::decode_fields(alloc, reader)?;
+        Ok(Fields1 { list })
+    }
+
+    ghost takes_memory_is = { either_memory A.DecodeField.takes_memory_is Rest.DecodeFields.takes_memory_is };
+}
+
+impl<A: Encode, Rest: EncodeFields> EncodeFields for Fields1<A, Rest> {
+    fn fields_len(&self) -> Result<Length, Error> {
+        self.list.fields_len()
+    }
+
+    fn encode_fields<W: Writer>(&self, writer: &mut W) -> Result<(), Error> {
+        self.list.encode_fields(writer)
+    }
+}
+
+impl<A: FirstTag, Rest: FieldsFirstTag> FieldsFirstTag for Fields1<A, Rest> {
+    fn fields_first_tag(&self) -> Option<Tag> {
+        self.list.fields_first_tag()
+    }
+
+    ghost starts_fields = { λ v. (starts_step A.Form A.starts (rest_starts Rest.list Rest.starts_fields)).starts v.list };
+}
+
+impl<A: DerOrd + FirstTag, Rest: FieldsOrd + FieldsFirstTag> FieldsOrd for Fields1<A, Rest> {
+    fn cmp_fields(&self, other: &Fields1<A, Rest>) -> Result<Ordering, Error> {
+        self.list.cmp_fields(&other.list)
+    }
+}
+
+impl<A: EncodingEq + FirstTag, Rest: FieldsEq + FieldsFirstTag> FieldsEq for Fields1<A, Rest> {
+    ghost fields_eq = { λ v w.
+        (equality_step A.Form A.eq A.encoding_eq A.starts A.own_first_tag A.same_beginning
+        (rest_equality Rest.list Rest.starts_fields Rest.eq Rest.fields_eq)).equal v.list w.list };
+}
+
+impl<A: Duplicate + FirstTag, Rest: DuplicateFields + FieldsFirstTag> DuplicateFields
+    for Fields1<A, Rest> {
+    ghost are_copies = { λ v w. (both A.is_copy Rest.are_copies) v.list w.list };
+
+    ghost take_memory_to_copy = { A.takes_memory_to_copy || Rest.take_memory_to_copy };
+
+    fn duplicate_fields(&self) -> Result<Fields1<A, Rest>, Error> {
+        let list = self.list.duplicate_fields()?;
+        Ok(Fields1 { list })
+    }
+
+    ghost copy_joined = { λ v w.
+        (copies_step A.Form A.is_copy A.starts A.copy_encoding A.copy_comparable A.copy_re_reads
+        (rest_copies Rest.list Rest.starts_fields Rest.are_copies Rest.copy_joined Rest.copy_all_comparable Rest.copy_re_read)).joined v.list w.list };
+
+    ghost copy_all_comparable = { λ v w x.
+        (copies_step A.Form A.is_copy A.starts A.copy_encoding A.copy_comparable A.copy_re_reads
+        (rest_copies Rest.list Rest.starts_fields Rest.are_copies Rest.copy_joined Rest.copy_all_comparable Rest.copy_re_read)).comparable v.list w.list x.list };
+
+    ghost copy_re_read = { λ v w.
+        (copies_step A.Form A.is_copy A.starts A.copy_encoding A.copy_comparable A.copy_re_reads
+        (rest_copies Rest.list Rest.starts_fields Rest.are_copies Rest.copy_joined Rest.copy_all_comparable Rest.copy_re_read)).re_read v.list w.list };
+}
+
+impl<A: KnownTags + FirstTag, Rest: DistinctTags> DistinctTags for Fields1<A, Rest> {
+    ghost first_tags = { (tags_after A.MAY_BE_ABSENT A.known_tags (list_tags Rest.first_tags Rest.TAGS_ARE_DISTINCT)).first };
+
+    ghost TAGS_ARE_DISTINCT = { (tags_after A.MAY_BE_ABSENT A.known_tags (list_tags Rest.first_tags Rest.TAGS_ARE_DISTINCT)).are_distinct };
+
+    ghost each_readable = { λ v. (each A.readable Rest.each_readable) v.list };
+
+    ghost each_comparable = { λ v w. (both A.comparable Rest.each_comparable) v.list w.list };
+
+    ghost first_is_known = { λ v.
+        (distinct_step A.Form A.known_tags A.MAY_BE_ABSENT A.own_first_tag A.are_known A.is_there
+        (rest_distinct Rest.list Rest.first_tags Rest.TAGS_ARE_DISTINCT Rest.each_readable Rest.each_comparable Rest.first_is_known Rest.readable_if_distinct Rest.comparable_if_distinct)).known v.list };
+
+    ghost readable_if_distinct = { λ e v.
+        (distinct_step A.Form A.known_tags A.MAY_BE_ABSENT A.own_first_tag A.are_known A.is_there
+        (rest_distinct Rest.list Rest.first_tags Rest.TAGS_ARE_DISTINCT Rest.each_readable Rest.each_comparable Rest.first_is_known Rest.readable_if_distinct Rest.comparable_if_distinct)).readable e v.list };
+
+    ghost comparable_if_distinct = { λ e v w.
+        (distinct_step A.Form A.known_tags A.MAY_BE_ABSENT A.own_first_tag A.are_known A.is_there
+        (rest_distinct Rest.list Rest.first_tags Rest.TAGS_ARE_DISTINCT Rest.each_readable Rest.each_comparable Rest.first_is_known Rest.readable_if_distinct Rest.comparable_if_distinct)).comparable e v.list w.list };
+}

@@ -1,0 +1,214 @@
+"""What the resolver says of the types of a module, as the writer needs it: no name is looked up any more."""
+
+from __future__ import annotations
+
+from dataclasses import dataclass, field
+from enum import Enum
+from typing import Union
+
+from .errors import Place
+from .scope import Env, Library
+from .syntax import Component, Type
+
+
+@dataclass(frozen=True, order=True)
+class Tag:
+    """A class and a number (X.680 8.1)."""
+
+    tag_class: int
+    number: int
+
+    def __str__(self) -> str:
+        word = {0: "UNIVERSAL ", 1: "APPLICATION ", 2: "", 3: "PRIVATE "}[self.tag_class]
+        return f"[{word}{self.number}]"
+
+
+# ---- types within others
+
+
+class Whole(Enum):
+    """The types whose values have no parts that the compiler knows; the value is for messages."""
+
+    BOOLEAN = "BOOLEAN"
+    NULL = "NULL"
+    MACHINE_INTEGER = "INTEGER of a machine's width"
+    INTEGER = "INTEGER of any length"
+    NATURAL = "INTEGER (0..MAX)"
+    BIT_STRING = "BIT STRING"
+    OCTET_STRING = "OCTET STRING"
+    OBJECT_IDENTIFIER = "OBJECT IDENTIFIER"
+    UTC_TIME = "UTCTime"
+    GENERALIZED_TIME = "GeneralizedTime"
+    UTF8_STRING = "UTF8String"
+    PRINTABLE_STRING = "PrintableString"
+    TELETEX_STRING = "TeletexString"
+    VIDEOTEX_STRING = "VideotexString"
+    IA5_STRING = "IA5String"
+    GENERAL_STRING = "GeneralString"
+    BMP_STRING = "BMPString"
+    ANY = "ANY"
+    UNREAD_SEQUENCE = "a SEQUENCE that is not read"
+
+
+@dataclass(frozen=True)
+class Leaf:
+    """A value of one of the library's types."""
+
+    whole: Whole
+    is_owned: bool = False
+    width: str | None = None  # of a machine integer: "u8"
+    octets: int | None = None  # of an object identifier: how many contents octets it may have
+
+
+@dataclass(frozen=True)
+class Use:
+    """A type that has a definition."""
+
+    definition: "Definition"
+
+    def __hash__(self) -> int:
+        return id(self.definition)
+
+
+@dataclass(frozen=True)
+class Listed:
+    """SEQUENCE OF or SET OF."""
+
+    item: "Resolved"
+    is_set: bool
+    is_never_empty: bool
+
+
+@dataclass(frozen=True)
+class Tagged:
+    """A tag before a type."""
+
+    tag: Tag
+    is_explicit: bool
+    of: "Resolved"
+
+
+@dataclass(frozen=True)
+class Kept:
+    """A type that is read, and whose octets are kept as they came."""
+
+    of: "Resolved"
+
+
+Resolved = Union[Leaf, Use, Listed, Tagged, Kept]
+
+
+# ---- definitions
+
+
+class Presence(Enum):
+    """Whether a field is always there."""
+
+    ALWAYS = "always"
+    OPTIONAL = "OPTIONAL"
+    DEFAULT = "DEFAULT"
+
+
+@dataclass(frozen=True)
+class Field:
+    """A field of a SEQUENCE or an alternative of a CHOICE."""
+
+    place: Place
+    name: str  # in ASN.1
+    rust: str
+    type: Resolved
+    presence: Presence
+    default: Union[int, bool, None]
+    text: str  # its type, in ASN.1
+    component: Component  # as it is written, with no automatic tag
+    env: Env
+
+
+@dataclass(frozen=True)
+class Named:
+    """A named number, a named bit or an enumeration."""
+
+    name: str
+    number: int
+
+
+@dataclass
+class Definition:
+    """A type that gets a name in Rattle."""
+
+    place: Place
+    module: str
+    name: str  # in ASN.1, or what an inner type gets
+    rust: str
+    text: str  # as the module has it; empty for an inner type
+    remarks: list[str] = field(default_factory=list)
+    origin: tuple[Env, Type] | None = None  # what it is made from
+
+    def __hash__(self) -> int:
+        return id(self)
+
+
+@dataclass(eq=False)
+class Struct(Definition):
+    """A SEQUENCE, or a SET, whose fields then stand in the order of their tags (X.690 10.3)."""
+
+    is_set: bool = False
+    fields: tuple[Field, ...] = ()
+    declared: tuple[Field, ...] = ()  # in the order in which they are written
+    tag: Tag | None = None  # in place of that of SEQUENCE or SET
+
+
+@dataclass(eq=False)
+class Choice(Definition):
+    """A CHOICE of two alternatives or more."""
+
+    alternatives: tuple[Field, ...] = ()
+
+
+@dataclass(eq=False)
+class List(Definition):
+    """A SEQUENCE OF or a SET OF with a name of its own."""
+
+    item: Resolved | None = None
+    is_set: bool = False
+    is_never_empty: bool = False
+    tag: Tag | None = None
+
+
+@dataclass(eq=False)
+class Enumeration(Definition):
+    """An ENUMERATED."""
+
+    values: tuple[Named, ...] = ()
+    is_extensible: bool = False
+    tag: Tag | None = None
+
+
+@dataclass(eq=False)
+class Alias(Definition):
+    """A second name of a type, perhaps with names for its numbers or its bits."""
+
+    type: Resolved | None = None
+    numbers: tuple[Named, ...] = ()
+    bits: tuple[Named, ...] = ()
+
+
+@dataclass(frozen=True)
+class Constant:
+    """An object identifier value."""
+
+    name: str
+    rust: str
+    arcs: tuple[int, ...]
+    text: str
+
+
+@dataclass
+class ResolvedModule:
+    """A module's definitions in an order in which each stands after those that it has, and its constants."""
+
+    name: str
+    file: str
+    definitions: list[Definition]
+    constants: list[Constant]
+    library: Library

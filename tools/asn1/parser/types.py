@@ -1,0 +1,275 @@
+"""Types (X.680 17 to 47), ANY of X.208 27, and types from classes (X.681 14)."""
+
+from __future__ import annotations
+
+from collections.abc import Callable
+
+from ..errors import Place
+from ..lexer import Kind
+from ..syntax import (
+    Actual,
+    AnyType,
+    BitStringType,
+    ChoiceType,
+    ConstrainedType,
+    Constraint,
+    EnumeratedType,
+    FieldOfClass,
+    IntegerType,
+    ListType,
+    NamedNumber,
+    ReferenceType,
+    ReferenceValue,
+    Simple,
+    SimpleType,
+    TagClass,
+    TaggedType,
+    TagMode,
+    Type,
+)
+from . import components, constraints
+from .cursor import Cursor
+from .values import parse_value, sees_value
+
+CLASSES = {"UNIVERSAL": TagClass.UNIVERSAL, "APPLICATION": TagClass.APPLICATION, "PRIVATE": TagClass.PRIVATE}
+
+# The notations of one word.
+SIMPLE = {simple.value: simple for simple in Simple if " " not in simple.value}
+SIMPLE |= {"T61String": Simple.TELETEX_STRING, "ISO646String": Simple.VISIBLE_STRING}
+
+# Types that are not taken, and what to write instead.
+REFUSED = {
+    "REAL": "there is no type for REAL: write ANY, and read its contents yourself",
+    "EXTERNAL": "write the SEQUENCE of X.690 8.18 out",
+    "EMBEDDED": "write the SEQUENCE of X.680 36.5 out",
+    "CHARACTER": "write the SEQUENCE of X.680 44.5 out",
+    "INSTANCE": "write 'SEQUENCE { type-id OBJECT IDENTIFIER, value [0] EXPLICIT ANY }' with the tag [UNIVERSAL 8]",
+    "RELATIVE-OID": "there is no type for RELATIVE-OID: write ANY",
+    "ObjectDescriptor": "there is no type for ObjectDescriptor: write ANY",
+    "MACRO": "write the types of the macro's values out (X.208 annex A is withdrawn)",
+}
+
+
+def parse_type(cursor: Cursor) -> Type:
+    """A type with its tags before and its constraints after it."""
+    if cursor.sees("["):
+        return parse_tagged(cursor)
+    place = cursor.place
+    base = parse_base(cursor)
+    found = constraints.parse_constraints(cursor)
+    return ConstrainedType(place, base, found) if found else base
+
+
+def parse_tagged(cursor: Cursor) -> TaggedType:
+    """`[class number] IMPLICIT Type` (31.1)."""
+    place = cursor.place
+    cursor.next()
+    tag_class = TagClass.CONTEXT
+    if cursor.peek().text in CLASSES:
+        tag_class = CLASSES[cursor.next().text]
+    number = parse_tag_number(cursor)
+    cursor.expect("]", "write a tag as '[number]' or '[APPLICATION number]'")
+    mode = None
+    if cursor.peek().text in ("IMPLICIT", "EXPLICIT"):
+        mode = TagMode(cursor.next().text)
+    return TaggedType(place, tag_class, number, mode, parse_type(cursor))
+
+
+def parse_tag_number(cursor: Cursor) -> int | ReferenceValue:
+    """The number of a tag, or the name of one (31.2)."""
+    if cursor.sees_kind(Kind.NUMBER):
+        return int(cursor.next().text)
+    token = cursor.expect_kind(Kind.LOWER, "the number of a tag", "write a tag as '[number]' or '[APPLICATION number]'")
+    return ReferenceValue(token.place, None, token.text)
+
+
+def parse_base(cursor: Cursor) -> Type:
+    """A type with no tag before it."""
+    token = cursor.peek()
+    if token.text in REFUSED and token.kind is Kind.WORD:
+        cursor.fail(f"{token.text} is not taken", REFUSED[token.text])
+    if token.kind is Kind.UPPER or token.text == "TYPE-IDENTIFIER":
+        return parse_named_type(cursor)
+    if token.kind is Kind.LOWER and cursor.peek(1).text == "<":
+        cursor.fail("a selection type is not taken", "write the type of the alternative itself")
+    if token.text in SIMPLE:
+        cursor.next()
+        return SimpleType(token.place, SIMPLE[token.text])
+    parse = BASES.get(token.text)
+    if parse is None or token.kind is not Kind.WORD:
+        cursor.fail(f"{token} stands where a type is expected", "write the name of a type, or one of X.680 17.2")
+    cursor.next()
+    return parse(cursor, token.place)
+
+
+def parse_named_type(cursor: Cursor) -> Type:
+    """`Name`, `Module.Name`, `Name{..}`, or `CLASS.&field`."""
+    place, name = cursor.place, cursor.next().text
+    if cursor.sees(".") and cursor.peek(1).kind is Kind.FIELD:
+        return parse_field_of_class(cursor, place, name)
+    module = None
+    if cursor.sees(".") and cursor.peek(1).kind is Kind.UPPER:
+        cursor.next()
+        module, name = name, cursor.next().text
+    return ReferenceType(place, module, name, parse_actuals(cursor))
+
+
+def parse_field_of_class(cursor: Cursor, place: Place, name: str) -> FieldOfClass:
+    """`CLASS.&Field`, or `CLASS.&object.&Field` (X.681 14.1)."""
+    fields = []
+    while cursor.take("."):
+        token = cursor.expect_kind(Kind.FIELD, "the name of a field", "write 'CLASS.&Field'")
+        fields.append(token.text)
+    return FieldOfClass(place, name, tuple(fields))
+
+
+def parse_actuals(cursor: Cursor) -> tuple[Actual, ...]:
+    """The actual parameters after a name (X.683 9.5)."""
+    if not cursor.take("{"):
+        return ()
+    actuals = [parse_actual(cursor)]
+    while cursor.take(","):
+        actuals.append(parse_actual(cursor))
+    cursor.expect("}", "write the parameters with commas between them, and '}' after the last")
+    return tuple(actuals)
+
+
+def parse_actual(cursor: Cursor) -> Actual:
+    """A type, a value, or a set in braces."""
+    first = cursor.peek()
+    if cursor.sees("{"):
+        return Actual(first.place, None, None, cursor.balanced())
+    if sees_value(cursor):
+        value = parse_value(cursor)
+        return Actual(first.place, None, value, cursor.text_from(first))
+    inner = parse_type(cursor)
+    return Actual(first.place, inner, None, cursor.text_from(first))
+
+
+# ---- the types of reserved words, whose first word is taken
+
+
+def parse_any(cursor: Cursor, place: Place) -> AnyType:
+    """`ANY`, `ANY DEFINED BY name` (X.208 27)."""
+    if not cursor.take("DEFINED", "BY"):
+        return AnyType(place, None)
+    token = cursor.expect_kind(Kind.LOWER, "the name of a component", "write 'ANY DEFINED BY name'")
+    return AnyType(place, token.text)
+
+
+def parse_integer(cursor: Cursor, place: Place) -> IntegerType:
+    return IntegerType(place, parse_named_numbers(cursor, "INTEGER"))
+
+
+def parse_bit(cursor: Cursor, place: Place) -> BitStringType:
+    cursor.expect("STRING", "write 'BIT STRING'")
+    return BitStringType(place, parse_named_numbers(cursor, "BIT STRING"))
+
+
+def parse_octet(cursor: Cursor, place: Place) -> SimpleType:
+    cursor.expect("STRING", "write 'OCTET STRING'")
+    return SimpleType(place, Simple.OCTET_STRING)
+
+
+def parse_object(cursor: Cursor, place: Place) -> SimpleType:
+    cursor.expect("IDENTIFIER", "write 'OBJECT IDENTIFIER'")
+    return SimpleType(place, Simple.OBJECT_IDENTIFIER)
+
+
+def parse_named_numbers(cursor: Cursor, what: str) -> tuple[NamedNumber, ...]:
+    """`{ name(number), .. }` (19.1, 22.1), of which there may be none."""
+    if not cursor.take("{"):
+        return ()
+    named = [parse_named_number(cursor, what)]
+    while cursor.take(","):
+        named.append(parse_named_number(cursor, what))
+    cursor.expect("}", f"write the names of an {what} as '{{ first(0), second(1) }}'")
+    return tuple(named)
+
+
+def parse_named_number(cursor: Cursor, what: str) -> NamedNumber:
+    """`name(number)`, where the number may be the name of a value."""
+    instead = f"write the names of an {what} as '{{ first(0), second(1) }}'"
+    token = cursor.expect_kind(Kind.LOWER, "a name", instead)
+    cursor.expect("(", instead)
+    number = parse_number(cursor, instead)
+    cursor.expect(")", instead)
+    return NamedNumber(token.place, token.text, number)
+
+
+def parse_number(cursor: Cursor, instead: str) -> int | ReferenceValue:
+    """A number, perhaps negative, or the name of one."""
+    negative = cursor.take("-")
+    if cursor.sees_kind(Kind.NUMBER):
+        number = int(cursor.next().text)
+        return -number if negative else number
+    token = cursor.expect_kind(Kind.LOWER, "a number", instead)
+    return ReferenceValue(token.place, None, token.text)
+
+
+def parse_enumerated(cursor: Cursor, place: Place) -> EnumeratedType:
+    """`ENUMERATED { first, second(2), ..., third }` (20.1)."""
+    instead = "write 'ENUMERATED { first(0), second(1) }'"
+    cursor.expect("{", instead)
+    named: list[NamedNumber] = []
+    extensible = False
+    while not named or cursor.take(","):
+        if cursor.take("..."):
+            extensible = True
+            continue
+        token = cursor.expect_kind(Kind.LOWER, "a name", instead)
+        number = None
+        if cursor.take("("):
+            number = parse_number(cursor, instead)
+            cursor.expect(")", instead)
+        named.append(NamedNumber(token.place, token.text, number))
+    cursor.expect("}", instead)
+    return EnumeratedType(place, tuple(named), extensible)
+
+
+def parse_choice(cursor: Cursor, place: Place) -> ChoiceType:
+    alternatives, extensible = components.parse_alternatives(cursor)
+    return ChoiceType(place, alternatives, extensible)
+
+
+def parse_sequence(cursor: Cursor, place: Place) -> Type:
+    return parse_fields_or_list(cursor, place, False)
+
+
+def parse_set(cursor: Cursor, place: Place) -> Type:
+    return parse_fields_or_list(cursor, place, True)
+
+
+def parse_fields_or_list(cursor: Cursor, place: Place, is_set: bool) -> Type:
+    """`{ .. }`, `OF Type`, or a constraint between (25, 26, 51.1)."""
+    if cursor.sees("{"):
+        return components.parse_fields(cursor, place, is_set)
+    found: tuple[Constraint, ...] = ()
+    if cursor.sees("SIZE"):
+        found = (constraints.parse_part(cursor),)
+    elif cursor.sees("("):
+        found = (constraints.parse_constraint(cursor),)
+    word = "SET" if is_set else "SEQUENCE"
+    cursor.expect("OF", f"write '{word} {{ .. }}' or '{word} OF Type'")
+    listed = ListType(place, is_set, parse_item(cursor))
+    return ConstrainedType(place, listed, found) if found else listed
+
+
+def parse_item(cursor: Cursor) -> Type:
+    """The type after OF, of which a name may say what it is (26.1: NamedType)."""
+    if cursor.sees_kind(Kind.LOWER) and cursor.peek(1).text != "<":
+        cursor.next()
+    return parse_type(cursor)
+
+
+BASES: dict[str, Callable[[Cursor, Place], Type]] = {
+    "ANY": parse_any,
+    "BIT": parse_bit,
+    "CHOICE": parse_choice,
+    "ENUMERATED": parse_enumerated,
+    "INTEGER": parse_integer,
+    "OBJECT": parse_object,
+    "OCTET": parse_octet,
+    "SEQUENCE": parse_sequence,
+    "SET": parse_set,
+}

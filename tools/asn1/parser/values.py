@@ -1,0 +1,105 @@
+"""Values (X.680 17), and object identifier values (32)."""
+
+from __future__ import annotations
+
+from ..lexer import Kind, Token
+from ..syntax import (
+    Arc,
+    BitsValue,
+    BooleanValue,
+    BracedValue,
+    NullValue,
+    NumberValue,
+    OtherValue,
+    ReferenceValue,
+    TextValue,
+    Value,
+)
+from .cursor import Cursor
+
+BITS_OF = {Kind.BITS: 1, Kind.HEX: 4}
+
+
+def sees_value(cursor: Cursor) -> bool:
+    """Whether a value is next: a type's name begins with a capital, or is a word."""
+    token = cursor.peek()
+    if token.kind is Kind.UPPER:
+        return cursor.peek(1).text == "." and cursor.peek(2).kind is Kind.LOWER
+    if token.kind is Kind.WORD:
+        return token.text in ("TRUE", "FALSE", "NULL", "PLUS-INFINITY", "MINUS-INFINITY")
+    return token.kind in (Kind.NUMBER, Kind.TEXT, Kind.BITS, Kind.HEX, Kind.LOWER) or token.text in ("-", "{")
+
+
+def parse_value(cursor: Cursor) -> Value:
+    """A value, as far as its notation says what it is."""
+    place, token = cursor.place, cursor.peek()
+    if cursor.sees("{"):
+        return parse_braced(cursor)
+    if not sees_value(cursor):
+        cursor.fail(f"{token} is no value", "write a number, TRUE, FALSE, a name, or a value in braces")
+    if token.kind is Kind.UPPER:
+        return parse_external(cursor)
+    cursor.next()
+    if token.kind is Kind.NUMBER:
+        return NumberValue(place, int(token.text))
+    if token.text == "-" and cursor.sees_kind(Kind.NUMBER):
+        return NumberValue(place, -int(cursor.next().text))
+    if token.kind is Kind.TEXT:
+        return TextValue(place, token.text)
+    if token.kind in BITS_OF:
+        width = BITS_OF[token.kind]
+        return BitsValue(place, "".join(f"{int(digit, 16):0{width}b}" for digit in token.text))
+    if token.text in ("TRUE", "FALSE"):
+        return BooleanValue(place, token.text == "TRUE")
+    if token.text == "NULL":
+        return NullValue(place)
+    if token.kind is Kind.LOWER and cursor.sees(":"):
+        cursor.next()
+        parse_value(cursor)
+        return OtherValue(place, f"{token.text} : ..")
+    if token.kind is Kind.LOWER:
+        return ReferenceValue(place, None, token.text)
+    return OtherValue(place, token.text)
+
+
+def parse_external(cursor: Cursor) -> ReferenceValue:
+    """`Module.name` (14.6)."""
+    place, module = cursor.place, cursor.next().text
+    cursor.next()
+    return ReferenceValue(place, module, cursor.next().text)
+
+
+def parse_braced(cursor: Cursor) -> BracedValue:
+    """A value in braces; read as arcs too, where it can be an object identifier."""
+    place, start = cursor.place, cursor.at
+    cursor.balanced()
+    inner = tuple(cursor.tokens[start + 1 : cursor.at - 1])
+    return BracedValue(place, inner, arcs_of(inner))
+
+
+def arcs_of(tokens: tuple[Token, ...]) -> tuple[Arc, ...] | None:
+    """The arcs of an object identifier value (32.3), or None where the items are none."""
+    arcs: list[Arc] = []
+    at = 0
+    while at < len(tokens):
+        kinds = [token.kind for token in tokens[at : at + 4]]
+        texts = [token.text for token in tokens[at : at + 4]]
+        place = tokens[at].place
+        if kinds[:1] == [Kind.NUMBER]:
+            arcs.append(Arc(place, None, int(texts[0])))
+            at += 1
+        elif kinds[:1] == [Kind.LOWER] and texts[1:2] == ["("] and texts[3:4] == [")"]:
+            if kinds[2] not in (Kind.NUMBER, Kind.LOWER):
+                return None
+            number = int(texts[2]) if kinds[2] is Kind.NUMBER else ReferenceValue(tokens[at + 2].place, None, texts[2])
+            arcs.append(Arc(place, texts[0], number))
+            at += 4
+        elif kinds[:3] == [Kind.UPPER, Kind.SYMBOL, Kind.LOWER] and texts[1] == ".":
+            arcs.append(Arc(place, None, ReferenceValue(place, texts[0], texts[2])))
+            at += 3
+        elif kinds[:1] == [Kind.LOWER]:
+            arcs.append(Arc(place, texts[0], None))
+            at += 1
+        else:
+            return None
+    return tuple(arcs)

@@ -1,0 +1,151 @@
+"""What follows from a type: the tags that its encodings begin with, and what is known of its values."""
+
+from __future__ import annotations
+
+from dataclasses import dataclass
+
+from .model import (
+    Alias,
+    Choice,
+    Definition,
+    Enumeration,
+    Kept,
+    Leaf,
+    List,
+    Listed,
+    Resolved,
+    Struct,
+    Tag,
+    Tagged,
+    Whole,
+)
+from .syntax import Simple, TagClass
+
+# ---- tags
+
+
+UNIVERSAL_TAGS = {
+    Whole.BOOLEAN: 1,
+    Whole.MACHINE_INTEGER: 2,
+    Whole.INTEGER: 2,
+    Whole.NATURAL: 2,
+    Whole.BIT_STRING: 3,
+    Whole.OCTET_STRING: 4,
+    Whole.NULL: 5,
+    Whole.OBJECT_IDENTIFIER: 6,
+    Whole.UTF8_STRING: 12,
+    Whole.UNREAD_SEQUENCE: 16,
+    Whole.PRINTABLE_STRING: 19,
+    Whole.TELETEX_STRING: 20,
+    Whole.VIDEOTEX_STRING: 21,
+    Whole.IA5_STRING: 22,
+    Whole.UTC_TIME: 23,
+    Whole.GENERALIZED_TIME: 24,
+    Whole.GENERAL_STRING: 27,
+    Whole.BMP_STRING: 30,
+}
+SEQUENCE = Tag(TagClass.UNIVERSAL.value, 16)
+SET = Tag(TagClass.UNIVERSAL.value, 17)
+ENUMERATED = Tag(TagClass.UNIVERSAL.value, 10)
+
+# The types of X.680 that a Leaf can be.
+WHOLES = {simple: Whole[simple.name] for simple in Simple if simple.name in Whole.__members__}
+
+
+def tags_of(type_: Resolved) -> frozenset[Tag] | None:
+    """The tags that the encodings of a type begin with; None where that is any tag."""
+    if isinstance(type_, Leaf):
+        return None if type_.whole is Whole.ANY else frozenset([Tag(0, UNIVERSAL_TAGS[type_.whole])])
+    if isinstance(type_, Tagged):
+        return frozenset([type_.tag])
+    if isinstance(type_, Listed):
+        return frozenset([SET if type_.is_set else SEQUENCE])
+    if isinstance(type_, Kept):
+        return tags_of(type_.of)
+    return tags_of_definition(type_.definition)
+
+
+def tags_of_definition(definition: Definition) -> frozenset[Tag] | None:
+    """The same of a definition."""
+    if isinstance(definition, Alias):
+        assert definition.type is not None
+        return tags_of(definition.type)
+    if isinstance(definition, Choice):
+        found: set[Tag] = set()
+        for alternative in definition.alternatives:
+            tags = tags_of(alternative.type)
+            if tags is None:
+                return None
+            found |= tags
+        return frozenset(found)
+    if isinstance(definition, (Struct, List)):
+        return frozenset([definition.tag or (SET if definition.is_set else SEQUENCE)])
+    assert isinstance(definition, Enumeration)
+    return frozenset([definition.tag or ENUMERATED])
+
+
+# ---- properties
+
+
+# The types whose values never borrow.
+OWNED = frozenset(
+    [
+        Whole.BOOLEAN,
+        Whole.NULL,
+        Whole.MACHINE_INTEGER,
+        Whole.OBJECT_IDENTIFIER,
+        Whole.UTC_TIME,
+        Whole.GENERALIZED_TIME,
+        Whole.BMP_STRING,
+    ]
+)
+
+
+@dataclass(frozen=True)
+class Properties:
+    """What is known of a type's values."""
+
+    borrows: bool  # it has a lifetime
+    takes_memory: bool  # reading takes memory
+    is_copy: bool
+
+    def __add__(self, other: "Properties") -> "Properties":
+        return Properties(
+            self.borrows or other.borrows, self.takes_memory or other.takes_memory, self.is_copy and other.is_copy
+        )
+
+
+NOTHING = Properties(borrows=False, takes_memory=False, is_copy=True)
+
+
+def properties_of(type_: Resolved) -> Properties:
+    """What is known of the values of a type."""
+    if isinstance(type_, Leaf):
+        takes = type_.is_owned or type_.whole is Whole.BMP_STRING
+        borrows = not type_.is_owned and type_.whole not in OWNED
+        return Properties(borrows, takes, not takes)
+    if isinstance(type_, Listed):
+        return Properties(properties_of(type_.item).borrows, True, False)
+    if isinstance(type_, Tagged):
+        return properties_of(type_.of)
+    if isinstance(type_, Kept):
+        return NOTHING + Properties(True, properties_of(type_.of).takes_memory, True)
+    return properties_of_definition(type_.definition)
+
+
+def properties_of_definition(definition: Definition) -> Properties:
+    """The same of a definition."""
+    if isinstance(definition, Alias):
+        assert definition.type is not None
+        return properties_of(definition.type)
+    if isinstance(definition, List):
+        assert definition.item is not None
+        return Properties(properties_of(definition.item).borrows, True, False)
+    found = NOTHING
+    if isinstance(definition, Struct):
+        for part in definition.fields:
+            found += properties_of(part.type)
+    if isinstance(definition, Choice):
+        for part in definition.alternatives:
+            found += properties_of(part.type)
+    return found

@@ -1,0 +1,156 @@
+"""The fields of a SEQUENCE or a SET, and the alternatives of a CHOICE."""
+
+from __future__ import annotations
+
+from dataclasses import replace
+
+from ..errors import AsnError, Place
+from ..model import Alias, Field, Leaf, Presence, Resolved, Tagged, Use, Whole
+from ..notes import Notes
+from ..scope import Env, check_names
+from ..spelling import camel, snake
+from ..syntax import (
+    BooleanValue,
+    ChoiceType,
+    Component,
+    ComponentsOf,
+    FieldsType,
+    NumberValue,
+    ReferenceValue,
+    TagDefault,
+    Value,
+)
+from ..tagging import are_tagged, automatic, check_all, check_sequence, in_order_of_tags
+from ..values import number_of
+from . import types
+from .classes import base_of
+from .context import Context
+
+Placed = tuple[Component, Env]
+
+
+def fields_of(context: Context, type_: FieldsType) -> tuple[tuple[Field, ...], tuple[Field, ...]]:
+    """The fields, distinguished by their tags: in the order of their encodings, and as they are written."""
+    placed = components_of(context, type_)
+    if not placed:
+        raise AsnError(type_.place, "this type has no component", "write NULL, or a component that is OPTIONAL")
+    check_names([(part.place, part.name) for part, _ in placed], "name")
+    fields = tuple(one_field(context.within(env), part, snake(part.name)) for part, env in placed)
+    check_spelling(fields)
+    if not type_.is_set:
+        check_sequence(fields)
+        return fields, fields
+    check_all(fields, "X.680 27.3")
+    return in_order_of_tags(fields), fields
+
+
+def alternatives_of(context: Context, type_: ChoiceType) -> tuple[Field, ...]:
+    """The alternatives, distinguished by their tags."""
+    parts = list(type_.alternatives)
+    if context.env.scope.module.tag_default is TagDefault.AUTOMATIC and not are_tagged(parts):
+        parts = automatic(parts)
+    check_names([(part.place, part.name) for part in parts], "name")
+    fields = tuple(one_field(context, part, camel(part.name)) for part in parts)
+    check_spelling(fields)
+    check_all(fields, "X.680 29.3")
+    return fields
+
+
+def components_of(context: Context, type_: FieldsType) -> list[Placed]:
+    """The components with those of COMPONENTS OF in their place, and automatic tags (25.5, 25.7)."""
+    own = [part for part in type_.components if isinstance(part, Component)]
+    is_automatic = context.env.scope.module.tag_default is TagDefault.AUTOMATIC and not are_tagged(own)
+    placed: list[Placed] = []
+    for part in type_.components:
+        if isinstance(part, Component):
+            placed.append((part, context.env))
+        else:
+            placed += included(context, part, type_)
+    if is_automatic:
+        tagged = automatic([part for part, _ in placed])
+        placed = [(part, env) for part, (_, env) in zip(tagged, placed)]
+    return placed
+
+
+def included(context: Context, part: ComponentsOf, type_: FieldsType) -> list[Placed]:
+    """The components of a type whose components are taken (25.5), but for its additions."""
+    env, base = base_of(context.state.library, context.env, part.type)
+    if not isinstance(base, FieldsType) or base.is_set != type_.is_set or base is type_:
+        word = "SET" if type_.is_set else "SEQUENCE"
+        raise AsnError(part.place, f"COMPONENTS OF stands before what is no other {word}", "write the components out")
+    return [one for one in components_of(context.within(env), base) if not one[0].is_addition]
+
+
+def one_field(context: Context, part: Component, rust: str) -> Field:
+    """One field or alternative."""
+    notes = Notes(part.annotations)
+    rust = notes.argument("name") or rust
+    inner = replace(context, inner=context.inner + camel(part.name), notes=notes)
+    found = types.resolve_type(inner, part.type)
+    presence, default = Presence.ALWAYS, None
+    if part.optional:
+        presence = Presence.OPTIONAL
+    if part.default is not None:
+        presence, default = Presence.DEFAULT, default_of(inner, part.default, found)
+    notes.check_used(f"'{part.name}'")
+    return Field(part.place, part.name, rust, found, presence, default, part.text, part, context.env)
+
+
+def check_spelling(fields: tuple[Field, ...]) -> None:
+    """Names that differ in ASN.1 have to differ in Rattle too."""
+    seen: dict[str, Field] = {}
+    for part in fields:
+        if part.rust in seen:
+            raise AsnError(
+                part.place,
+                f"'{part.name}' and '{seen[part.rust].name}' are both '{part.rust}' in Rattle",
+                "write '-- @name(..)' after one of them",
+            )
+        seen[part.rust] = part
+
+
+# ---- DEFAULT
+
+
+def default_of(context: Context, value: Value, type_: Resolved) -> int | bool:
+    """A default that the library has: FALSE, or a number up to 255 of a u8."""
+    leaf, named = leaf_of(type_)
+    if leaf.whole is Whole.BOOLEAN and isinstance(value, BooleanValue):
+        if value.truth:
+            refuse(value.place, "DEFAULT TRUE")
+        return False
+    if leaf.whole in (Whole.INTEGER, Whole.NATURAL):
+        raise AsnError(
+            value.place,
+            "an INTEGER of any length has no DEFAULT here",
+            "write '-- @u8' after the component, or after the type's assignment",
+        )
+    if leaf.whole is Whole.MACHINE_INTEGER and isinstance(value, (NumberValue, ReferenceValue)):
+        number = number_of(context.state.library, context.env, value, named)
+        if leaf.width != "u8" or not 0 <= number <= 255:
+            refuse(value.place, f"DEFAULT {number} of an INTEGER as {leaf.width}")
+        return number
+    refuse(value.place, "this DEFAULT")
+    return False
+
+
+def refuse(place: Place, what: str) -> None:
+    raise AsnError(
+        place,
+        f"{what} is not taken: FALSE is, and numbers from 0 to 255 of an INTEGER as u8",
+        "write OPTIONAL, and let an absent value stand for the default; an encoded default is then not refused",
+    )
+
+
+def leaf_of(type_: Resolved) -> tuple[Leaf, dict[str, int]]:
+    """The type of the library after tags and names, and the names of its numbers."""
+    named: dict[str, int] = {}
+    while not isinstance(type_, Leaf):
+        if isinstance(type_, Tagged):
+            type_ = type_.of
+        elif isinstance(type_, Use) and isinstance(type_.definition, Alias) and type_.definition.type is not None:
+            named |= {one.name: one.number for one in type_.definition.numbers}
+            type_ = type_.definition.type
+        else:
+            return Leaf(Whole.ANY), named
+    return type_, named

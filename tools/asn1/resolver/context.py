@@ -1,0 +1,62 @@
+"""What is known while types are resolved."""
+
+from __future__ import annotations
+
+from dataclasses import dataclass, field, replace
+
+from ..errors import AsnError, Place, Remark
+from ..model import Definition
+from ..notes import Notes
+from ..scope import Env, Library
+
+Key = tuple[str, str]
+
+
+@dataclass
+class State:
+    """The definitions so far, those that are being made, and what was said."""
+
+    library: Library
+    definitions: dict[Key, Definition] = field(default_factory=dict)
+    opening: list[Key] = field(default_factory=list)
+    spelled: dict[Key, Place] = field(default_factory=dict)
+    remarks: list[Remark] = field(default_factory=list)
+
+    def scratch(self) -> "State":
+        """A copy, to try what a second instance of a type comes to."""
+        return State(self.library, dict(self.definitions), list(self.opening), dict(self.spelled), [])
+
+    def add(self, definition: Definition) -> None:
+        """Keeps a definition, whose name in Rattle no other of its module has."""
+        spelled = (definition.module, definition.rust)
+        if spelled in self.spelled:
+            raise AsnError(
+                definition.place,
+                f"the type '{definition.name}' is named '{definition.rust}', as the one at {self.spelled[spelled]}",
+                "write '-- @name(..)' after an assignment, or '-- @type(..)' after a type that is written out",
+            )
+        self.spelled[spelled] = definition.place
+        self.definitions[(definition.module, definition.name)] = definition
+
+
+@dataclass(frozen=True)
+class Context:
+    """Where a type stands: the names that it may use, and the name that it gets if it is written out."""
+
+    state: State
+    env: Env
+    home: str  # the module whose types are being made
+    inner: str  # the name in Rattle of a type that is written out here
+    notes: Notes
+    remarks: list[str]  # what is not checked of the definition
+
+    def within(self, env: Env) -> "Context":
+        return replace(self, env=env)
+
+    def item(self) -> "Context":
+        return replace(self, inner=self.inner + "Item")
+
+    def remark(self, place: Place, text: str) -> None:
+        """Says what is not checked here, in the documentation too."""
+        self.remarks.append(text)
+        self.state.remarks.append(Remark(place, text))

@@ -1,0 +1,210 @@
+"""Types with a name of their own."""
+
+from __future__ import annotations
+
+from dataclasses import replace
+
+from ..errors import AsnError, Place
+from ..model import (
+    Alias,
+    Choice,
+    Definition,
+    Enumeration,
+    List,
+    Named,
+    Resolved,
+    Struct,
+    Tag,
+    Tagged,
+    Use,
+)
+from ..notes import Notes
+from ..scope import Env
+from ..spelling import camel
+from ..syntax import (
+    BitStringType,
+    ChoiceType,
+    ConstrainedType,
+    Constraint,
+    EnumeratedType,
+    FieldsType,
+    IntegerType,
+    ListType,
+    ReferenceType,
+    TaggedType,
+    Type,
+    TypeAssignment,
+)
+from ..values import enumeration_of
+from . import types
+from .classes import bind, has_type_parameter
+from .components import alternatives_of, fields_of
+from .context import Context, State
+from .signatures import signature
+
+Constraints = tuple[Constraint, ...]
+
+
+def definition_of(state: State, env: Env, assignment: TypeAssignment, place: Place) -> Definition:
+    """The definition of an assignment, which is made where it is asked for first."""
+    key = (env.scope.module.name, assignment.name)
+    if Notes(assignment.annotations).has("omit"):
+        raise AsnError(
+            place,
+            f"'{assignment.name}' is not written ('@omit' at {assignment.place})",
+            "write '-- @unread' here, or leave the '@omit' out",
+        )
+    if key in state.opening:
+        way = [name for _, name in state.opening[state.opening.index(key) :]] + [assignment.name]
+        raise AsnError(
+            place,
+            f"the type '{assignment.name}' reaches itself: {', '.join(way)}",
+            "write '-- @unread' after a component on the way: its octets are kept, and read when they are asked for",
+        )
+    if key in state.definitions:
+        check_instance(state, env, assignment, place)
+        return state.definitions[key]
+    state.opening.append(key)
+    found = assigned(state, env, assignment)
+    state.opening.pop()
+    state.add(found)
+    return found
+
+
+def assigned(state: State, env: Env, assignment: TypeAssignment) -> Definition:
+    """What an assignment defines."""
+    notes = Notes(assignment.annotations)
+    rust = notes.argument("name") or camel(assignment.name)
+    context = Context(state, env, env.scope.module.name, rust, notes, [])
+    found = define(context, assignment.name, assignment.text, assignment.type)
+    notes.check_used(f"'{assignment.name}'")
+    found.place = assignment.place
+    return found
+
+
+def check_instance(state: State, env: Env, assignment: TypeAssignment, place: Place) -> None:
+    """A type whose parameters are classes and sets alone is one type; its instances have to be alike."""
+    if not env.bindings:
+        return
+    known = state.definitions[(env.scope.module.name, assignment.name)]
+    scratch = state.scratch()
+    scratch.spelled = {}
+    if signature(assigned(scratch, env, assignment)) != signature(known):
+        raise AsnError(
+            place,
+            f"this instance of '{assignment.name}' has other types than one before it",
+            "write its type out here",
+        )
+
+
+# ---- by what stands after '::='
+
+
+def peel(context: Context, type_: Type) -> tuple[list[TaggedType], list[Env], Type, Constraints, Env]:
+    """The tags before a type, each with the names that it is understood by, and what stands after them."""
+    tags: list[TaggedType] = []
+    envs: list[Env] = []
+    constraints: Constraints = ()
+    env = context.env
+    while True:
+        if isinstance(type_, TaggedType):
+            tags.append(type_)
+            envs.append(env)
+            type_ = type_.type
+        elif isinstance(type_, ConstrainedType):
+            constraints = (*type_.constraints, *constraints)
+            type_ = type_.type
+        elif isinstance(type_, ReferenceType) and type_.actuals:
+            scope, assignment = context.state.library.find_type(env, type_.name, type_.place, type_.module)
+            inner = bind(env, scope, assignment, type_)
+            if not has_type_parameter(context.state.library, env, assignment, type_):
+                return tags, envs, type_, constraints, env
+            env, type_ = inner, assignment.type
+        else:
+            return tags, envs, type_, constraints, env
+
+
+def define(context: Context, name: str, text: str, type_: Type, outer: Constraints = ()) -> Definition:
+    """The definition of a type with this name, which remembers what it is made from."""
+    found = defined(context, name, text, type_, outer)
+    found.origin = (context.env, type_)
+    return found
+
+
+def defined(context: Context, name: str, text: str, type_: Type, outer: Constraints) -> Definition:
+    tags, envs, base, constraints, env = peel(context, type_)
+    inner = context.within(env)
+    found_tags = [types.tag_of(context.within(env), tag) for tag, env in zip(tags, envs)]
+    if not isinstance(base, (FieldsType, ChoiceType, ListType, EnumeratedType)):
+        return alias(context, name, text, type_, outer)
+    if isinstance(base, ChoiceType) and len(base.alternatives) == 1 and not tags:
+        return choice_of_one(inner, name, text, base)
+    if any(is_explicit for _, is_explicit in found_tags):
+        return behind_tags(inner, name, text, found_tags, base, constraints)
+    tag = found_tags[0][0] if found_tags else None
+    return plain(inner, name, text, base, tag, (*constraints, *outer))
+
+
+def plain(context: Context, name: str, text: str, base: Type, tag: Tag | None, constraints: Constraints) -> Definition:
+    """A SEQUENCE, a SET, a CHOICE, a list or an ENUMERATED, with a tag in place of its own if it has one."""
+    about = (base.place, context.home, name, context.inner, text, context.remarks)
+    if isinstance(base, FieldsType):
+        if base.extensible:
+            context.remark(base.place, "'...': fields that this module does not have are refused")
+        fields, declared = fields_of(context, base)
+        return Struct(*about, is_set=base.is_set, fields=fields, declared=declared, tag=tag)
+    if isinstance(base, ChoiceType):
+        if base.extensible:
+            context.remark(base.place, "'...': alternatives that this module does not have are refused")
+        return Choice(*about, alternatives=alternatives_of(context, base))
+    if isinstance(base, ListType):
+        never_empty = types.is_never_empty(context, constraints)
+        item = types.resolve_type(context.item(), base.item)
+        return List(*about, item=item, is_set=base.is_set, is_never_empty=never_empty, tag=tag)
+    assert isinstance(base, EnumeratedType)
+    values = enumeration_of(context.state.library, context.env, base.named)
+    if not all(0 <= number <= 255 for number in values.values()):
+        raise AsnError(base.place, "an ENUMERATED with numbers beyond 255 is not taken", "write INTEGER in its place")
+    named = tuple(Named(*one) for one in values.items())
+    return Enumeration(*about, values=named, is_extensible=base.extensible, tag=tag)
+
+
+def behind_tags(
+    context: Context, name: str, text: str, tags: list[tuple[Tag, bool]], base: Type, constraints: Constraints
+) -> Alias:
+    """A type that is written out after an explicit tag: it gets the name with `Value` after it."""
+    rust = context.notes.argument("type") or f"{context.inner}Value"
+    inner = replace(context, inner=rust, remarks=[])
+    value = define(inner, rust, "", base, constraints)
+    context.state.add(value)
+    found: Resolved = Use(value)
+    for tag, is_explicit in reversed(tags):
+        found = Tagged(tag, is_explicit, found)
+    return Alias(base.place, context.home, name, context.inner, text, context.remarks, type=found)
+
+
+def choice_of_one(context: Context, name: str, text: str, base: ChoiceType) -> Alias:
+    """A CHOICE of one alternative has its octets and no others (X.690 8.13): a second name of it."""
+    only = base.alternatives[0]
+    notes = Notes(only.annotations)
+    inner = replace(context, inner=context.inner + camel(only.name), notes=notes)
+    found = types.resolve_type(inner, only.type)
+    notes.check_used(f"'{only.name}'")
+    return Alias(base.place, context.home, name, context.inner, text, context.remarks, type=found)
+
+
+def alias(context: Context, name: str, text: str, type_: Type, constraints: Constraints) -> Alias:
+    """A second name of a type, with the names of its numbers or bits if it is written with some."""
+    base = type_
+    outer = constraints
+    while isinstance(base, ConstrainedType):
+        outer = (*base.constraints, *outer)
+        base = base.type
+    found = Alias(type_.place, context.home, name, context.inner, text, context.remarks)
+    if isinstance(base, (IntegerType, BitStringType)):
+        found.type, names = types.numbers(context, base, outer)
+        found.numbers, found.bits = names.numbers, names.bits
+    else:
+        inner = replace(context, inner=f"{context.inner}Value")
+        found.type = types.resolve_type(inner, base, outer)
+    return found

@@ -1,0 +1,163 @@
+"""The types of the library: which one a type of ASN.1 is, by its constraints and annotations."""
+
+from __future__ import annotations
+
+from ..bounds import FREE, MACHINE, Bounds, both, bounds_of, holds, narrowest, size_of
+from ..errors import AsnError
+from ..model import Leaf, Named, Whole
+from ..properties import WHOLES
+from ..syntax import (
+    Alphabet,
+    AnyType,
+    BitStringType,
+    Combined,
+    Constraint,
+    Containing,
+    IntegerType,
+    Simple,
+    SimpleType,
+    Size,
+    Table,
+    Unchecked,
+)
+from ..values import numbers_of
+from .context import Context
+
+# An object identifier has 39 contents octets, as those of the crate `der`, where no annotation says another number.
+OCTETS_OF_AN_IDENTIFIER = 39
+
+# Types that the library lacks.
+LACKING = {
+    Simple.NUMERIC_STRING: "NumericString",
+    Simple.GRAPHIC_STRING: "GraphicString",
+    Simple.VISIBLE_STRING: "VisibleString",
+    Simple.UNIVERSAL_STRING: "UniversalString",
+}
+ALWAYS_OWNED = frozenset([Simple.BMP_STRING])
+NEVER_OWNED = frozenset(
+    [Simple.BOOLEAN, Simple.NULL, Simple.OBJECT_IDENTIFIER, Simple.UTC_TIME, Simple.GENERALIZED_TIME]
+)
+
+
+def simple(context: Context, type_: SimpleType, constraints: tuple[Constraint, ...]) -> Leaf:
+    """A type with no parts of its own."""
+    if type_.simple in LACKING:
+        raise AsnError(
+            type_.place,
+            f"there is no type for {LACKING[type_.simple]}",
+            "write ANY where it may stand, or '-- @unread' or '-- @omit' where that serves",
+        )
+    for constraint in constraints:
+        remark_on(context, constraint)
+    octets = None
+    if type_.simple is Simple.OBJECT_IDENTIFIER:
+        octets = int(context.notes.argument("max") or OCTETS_OF_AN_IDENTIFIER)
+    is_owned = type_.simple in ALWAYS_OWNED
+    if type_.simple not in NEVER_OWNED | ALWAYS_OWNED:
+        is_owned = context.notes.has("owned")
+    return Leaf(WHOLES[type_.simple], is_owned, None, octets)
+
+
+def any_value(context: Context, type_: AnyType, constraints: tuple[Constraint, ...]) -> Leaf:
+    """ANY, or an open type."""
+    for constraint in constraints:
+        if not isinstance(constraint, Table):
+            remark_on(context, constraint)
+    return Leaf(Whole.ANY, context.notes.has("owned"))
+
+
+def bit_string(
+    context: Context, type_: BitStringType, constraints: tuple[Constraint, ...]
+) -> tuple[Leaf, tuple[Named, ...]]:
+    """BIT STRING, with the names of its bits."""
+    for constraint in constraints:
+        remark_on(context, constraint)
+    bits = numbers_of(context.state.library, context.env, type_.named)
+    negative = [name for name, number in bits.items() if number < 0]
+    if negative:
+        raise AsnError(type_.place, f"the bit '{negative[0]}' has a negative number", "number bits from 0")
+    return Leaf(Whole.BIT_STRING, context.notes.has("owned")), tuple(Named(*one) for one in bits.items())
+
+
+def integer(
+    context: Context, type_: IntegerType, constraints: tuple[Constraint, ...]
+) -> tuple[Leaf, tuple[Named, ...]]:
+    """INTEGER: the machine integer that its bounds or its annotation say, or one of any length."""
+    numbers = numbers_of(context.state.library, context.env, type_.named)
+    bounds = FREE
+    for constraint in constraints:
+        bounds = both(bounds, bounds_of(context.state.library, context.env, constraint, numbers))
+    names = tuple(Named(*one) for one in numbers.items())
+    asked = context.notes.one_of([*MACHINE, "signed", "unsigned"])
+    if asked in MACHINE:
+        assert asked is not None
+        return asked_width(context, type_, asked, bounds, numbers), names
+    width = None if asked else width_of(bounds, numbers)
+    if width is not None:
+        remark_on_bounds(context, type_, width, bounds)
+        return Leaf(Whole.MACHINE_INTEGER, width=width), names
+    is_natural = asked == "unsigned" or (asked is None and bounds.low is not None and bounds.low >= 0)
+    if not bounds.exact or bounds not in (FREE, Bounds(0, None)):
+        context.remark(type_.place, f"INTEGER of any length: {bounds_text(bounds)} is not checked")
+    whole = Whole.NATURAL if is_natural else Whole.INTEGER
+    return Leaf(whole, context.notes.has("owned")), names
+
+
+def width_of(bounds: Bounds, numbers: dict[str, int]) -> str | None:
+    """The machine integer that the bounds say, or else the names of numbers."""
+    if bounds.is_free and numbers:
+        return narrowest(Bounds(min(numbers.values()), max(numbers.values())))
+    return narrowest(bounds)
+
+
+def asked_width(
+    context: Context, type_: IntegerType, width: str, bounds: Bounds, numbers: dict[str, int]
+) -> Leaf:
+    """The machine integer that an annotation says, which has to have the names' numbers."""
+    for name, number in numbers.items():
+        if not holds(width, Bounds(number, number)):
+            raise AsnError(type_.place, f"'@{width}' has no {number}, which is '{name}'", "write a wider one")
+    if bounds.low is not None and bounds.high is not None and not holds(width, bounds):
+        raise AsnError(
+            type_.place, f"'@{width}' has not all of {bounds_text(bounds)}", f"write '@{narrowest(bounds)}', or nothing"
+        )
+    if bounds.low is None or bounds.high is None:
+        context.remark(type_.place, f"INTEGER as {width}: other numbers are refused")
+    else:
+        remark_on_bounds(context, type_, width, bounds)
+    return Leaf(Whole.MACHINE_INTEGER, width=width)
+
+
+def remark_on_bounds(context: Context, type_: IntegerType, width: str, bounds: Bounds) -> None:
+    """A machine integer may have more numbers than the bounds."""
+    machine = MACHINE[width]
+    if bounds.is_free:
+        return
+    if (bounds.low, bounds.high) != (machine.low, machine.high) or not bounds.exact:
+        context.remark(type_.place, f"INTEGER as {width}: {bounds_text(bounds)} is not checked")
+
+
+def bounds_text(bounds: Bounds) -> str:
+    low = "MIN" if bounds.low is None else bounds.low
+    high = "MAX" if bounds.high is None else bounds.high
+    return f"({low}..{high})"
+
+
+def remark_on(context: Context, constraint: Constraint) -> None:
+    """Says that a constraint is not checked."""
+    if isinstance(constraint, Containing):
+        context.remark(constraint.place, "the octets that CONTAINING speaks of are not read")
+    elif isinstance(constraint, Alphabet):
+        context.remark(constraint.place, "FROM is not checked")
+    elif isinstance(constraint, Table):
+        context.remark(constraint.place, f"{constraint.text} is not checked")
+    elif isinstance(constraint, Unchecked):
+        context.remark(constraint.place, f"{constraint.text} is not checked")
+    elif isinstance(constraint, Size):
+        size = size_of(context.state.library, context.env, constraint)
+        assert size is not None
+        context.remark(constraint.place, f"SIZE {bounds_text(size)} is not checked")
+    elif isinstance(constraint, Combined) and not constraint.parts:
+        return
+    else:
+        context.remark(constraint.place, "which values are allowed is not checked")

@@ -1,0 +1,79 @@
+"""Whole modules: every assignment, in its module's order."""
+
+from __future__ import annotations
+
+from ..errors import AsnError, Remark
+from ..model import Constant, Definition, ResolvedModule
+from ..notes import Notes
+from ..scope import Env, Library, Scope
+from ..spelling import screaming
+from ..syntax import Module, ReferenceType, Simple, SimpleType, TypeAssignment, ValueAssignment
+from ..values import arcs_of
+from .classes import base_of, find_class
+from .context import State
+from .definitions import definition_of
+
+
+def resolve(modules: list[Module]) -> tuple[list[ResolvedModule], list[Remark]]:
+    """What all modules come to, and what was said of them."""
+    state = State(Library(modules))
+    for module in modules:
+        scope = state.library.scopes[module.name]
+        for assignment in module.assignments:
+            if isinstance(assignment, TypeAssignment) and is_written(state, scope, assignment):
+                definition_of(state, Env(scope), assignment, assignment.place)
+    found = [resolved(state, module) for module in modules]
+    return found, state.remarks
+
+
+def is_written(state: State, scope: Scope, assignment: TypeAssignment) -> bool:
+    """Whether an assignment is a type of its own: no class, no type with parameters, and not omitted."""
+    if assignment.parameters:
+        return False
+    if isinstance(assignment.type, ReferenceType) and not assignment.type.actuals:
+        named = assignment.type
+        if named.module is None and find_class(state.library, Env(scope), named.name, named.place):
+            return False
+    notes = Notes(assignment.annotations)
+    if not notes.has("omit"):
+        return True
+    notes.check_used(f"'{assignment.name}', which is omitted")
+    return False
+
+
+def resolved(state: State, module: Module) -> ResolvedModule:
+    """The definitions and the constants of a module."""
+    mine = [found for (name, _), found in state.definitions.items() if name == module.name]
+    definitions: list[Definition] = sorted(mine, key=lambda found: found.place)
+    scope = state.library.scopes[module.name]
+    constants = [
+        constant(state, scope, assignment)
+        for assignment in module.assignments
+        if isinstance(assignment, ValueAssignment) and is_identifier(state, scope, assignment)
+    ]
+    check_constants(module, constants)
+    return ResolvedModule(module.name, module.file, definitions, constants, state.library)
+
+
+def is_identifier(state: State, scope: Scope, assignment: ValueAssignment) -> bool:
+    """Whether a value is an object identifier: an object of a class is none."""
+    named = assignment.type
+    if isinstance(named, ReferenceType) and find_class(state.library, Env(scope), named.name, named.place):
+        return False
+    base = base_of(state.library, Env(scope), named)[1]
+    return isinstance(base, SimpleType) and base.simple is Simple.OBJECT_IDENTIFIER
+
+
+def constant(state: State, scope: Scope, assignment: ValueAssignment) -> Constant:
+    arcs = arcs_of(state.library, Env(scope), assignment.value)
+    return Constant(assignment.name, screaming(assignment.name), arcs, assignment.text)
+
+
+def check_constants(module: Module, constants: list[Constant]) -> None:
+    """Values whose names differ in ASN.1 have to differ in Rattle too."""
+    seen: dict[str, str] = {}
+    for one in constants:
+        if one.rust in seen:
+            place = next(part.place for part in module.assignments if part.name == one.name)
+            raise AsnError(place, f"'{one.name}' and '{seen[one.rust]}' are both '{one.rust}'", "rename one of them")
+        seen[one.rust] = one.name

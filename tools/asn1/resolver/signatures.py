@@ -1,0 +1,38 @@
+"""What two instances of a type are compared by: all that its octets depend on."""
+
+from __future__ import annotations
+
+from ..model import Alias, Choice, Definition, Enumeration, Field, Kept, Leaf, List, Listed, Resolved, Struct, Tagged
+
+
+def signature(definition: Definition) -> str:
+    """A definition in one line, with no names of types but those of other definitions."""
+    if isinstance(definition, Struct):
+        fields = ", ".join(field_signature(part) for part in definition.fields)
+        return f"{'SET' if definition.is_set else 'SEQUENCE'} {definition.tag} {{{fields}}}"
+    if isinstance(definition, Choice):
+        return f"CHOICE {{{', '.join(field_signature(part) for part in definition.alternatives)}}}"
+    if isinstance(definition, List):
+        assert definition.item is not None
+        return f"{definition.is_set} {definition.tag} {definition.is_never_empty} OF {type_signature(definition.item)}"
+    if isinstance(definition, Enumeration):
+        return f"ENUMERATED {definition.tag} {definition.values}"
+    assert isinstance(definition, Alias) and definition.type is not None
+    return f"{type_signature(definition.type)} {definition.numbers} {definition.bits}"
+
+
+def field_signature(part: Field) -> str:
+    return f"{part.name} {type_signature(part.type)} {part.presence.value} {part.default}"
+
+
+def type_signature(type_: Resolved) -> str:
+    """A type within another."""
+    if isinstance(type_, Leaf):
+        return f"{type_.whole.name} {type_.is_owned} {type_.width} {type_.octets}"
+    if isinstance(type_, Listed):
+        return f"{type_.is_set} {type_.is_never_empty} OF {type_signature(type_.item)}"
+    if isinstance(type_, Tagged):
+        return f"{type_.tag} {type_.is_explicit} {type_signature(type_.of)}"
+    if isinstance(type_, Kept):
+        return f"kept {type_signature(type_.of)}"
+    return f"{type_.definition.module}.{type_.definition.rust}"

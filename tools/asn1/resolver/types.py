@@ -1,0 +1,159 @@
+"""Types within others: fields, alternatives, items, and what stands after a tag."""
+
+from __future__ import annotations
+
+from dataclasses import replace
+
+from ..bounds import Bounds, size_of
+from ..errors import AsnError
+from ..model import Alias, Definition, Kept, Leaf, Listed, Resolved, Tag, Tagged, Use, Whole
+from ..syntax import (
+    AnyType,
+    BitStringType,
+    ConstrainedType,
+    Constraint,
+    FieldOfClass,
+    FieldsType,
+    IntegerType,
+    ListType,
+    ReferenceType,
+    SimpleType,
+    TagClass,
+    TagDefault,
+    TaggedType,
+    TagMode,
+    Type,
+)
+from ..values import number_of
+from . import definitions, leaves
+from .classes import base_of, bind, has_type_parameter, is_untagged_choice, type_of_field
+from .context import Context
+
+Constraints = tuple[Constraint, ...]
+
+
+def resolve_type(context: Context, type_: Type, constraints: Constraints = ()) -> Resolved:
+    """What a type comes to where it stands."""
+    if isinstance(type_, ConstrainedType):
+        return resolve_type(context, type_.type, (*type_.constraints, *constraints))
+    if isinstance(type_, TaggedType):
+        return tagged(context, type_, constraints)
+    if isinstance(type_, ReferenceType):
+        return reference(context, type_, constraints)
+    if isinstance(type_, FieldOfClass):
+        env, inner = type_of_field(context.state.library, context.env, type_)
+        return resolve_type(context.within(env), inner, constraints)
+    if isinstance(type_, ListType):
+        return listed(context, type_, constraints)
+    if isinstance(type_, SimpleType):
+        return leaves.simple(context, type_, constraints)
+    if isinstance(type_, AnyType):
+        return leaves.any_value(context, type_, constraints)
+    if isinstance(type_, (IntegerType, BitStringType)) and not type_.named:
+        return numbers(context, type_, constraints)[0]
+    return Use(written_out(context, type_, constraints))
+
+
+def numbers(
+    context: Context, type_: IntegerType | BitStringType, constraints: Constraints
+) -> tuple[Leaf, Alias]:
+    """INTEGER or BIT STRING, and the names as an alias has them."""
+    names = Alias(type_.place, context.home, context.inner, context.inner, "")
+    if isinstance(type_, IntegerType):
+        leaf, names.numbers = leaves.integer(context, type_, constraints)
+    else:
+        leaf, names.bits = leaves.bit_string(context, type_, constraints)
+    return leaf, names
+
+
+def written_out(context: Context, type_: Type, constraints: Constraints) -> Definition:
+    """A type that is written out where it stands, which gets a name of its own."""
+    name = context.notes.argument("type") or context.inner
+    remarks: list[str] = []
+    inner = replace(context, inner=name, remarks=remarks)
+    found = definitions.define(inner, name, "", type_, constraints)
+    context.state.add(found)
+    return found
+
+
+def tagged(context: Context, type_: TaggedType, constraints: Constraints) -> Tagged:
+    """A tag before a type."""
+    tag, is_explicit = tag_of(context, type_)
+    inner = resolve_type(context, type_.type, constraints)
+    if not is_explicit and isinstance(inner, Leaf) and inner.whole is Whole.ANY:
+        raise AsnError(
+            type_.place,
+            "'@unread' after an implicit tag is for a SEQUENCE alone",
+            "leave it out, or write OCTET STRING, whose contents octets are any",
+        )
+    return Tagged(tag, is_explicit, inner)
+
+
+def tag_of(context: Context, type_: TaggedType) -> tuple[Tag, bool]:
+    """The tag, and whether it is explicit (31.2.7)."""
+    library, env = context.state.library, context.env
+    if type_.tag_class is TagClass.UNIVERSAL:
+        raise AsnError(type_.place, "a tag of the class UNIVERSAL is X.680's own (31.2.4)", "write another class")
+    number = type_.number if isinstance(type_.number, int) else number_of(library, env, type_.number)
+    if not 0 <= number < 2**32:
+        raise AsnError(type_.place, f"the number {number} of a tag is not taken", "write one from 0 to 4294967295")
+    is_choice = is_untagged_choice(library, env, type_.type)
+    if type_.mode is TagMode.IMPLICIT and is_choice:
+        raise AsnError(
+            type_.place,
+            "IMPLICIT stands before a CHOICE or an open type with no tag",
+            "write EXPLICIT, or leave the word out: such a tag is explicit (X.680 31.2.7, 31.2.9)",
+        )
+    is_implicit = env.scope.module.tag_default is not TagDefault.EXPLICIT and not is_choice
+    if type_.mode is not None:
+        is_implicit = type_.mode is TagMode.IMPLICIT
+    return Tag(type_.tag_class.value, number), not is_implicit
+
+
+def listed(context: Context, type_: ListType, constraints: Constraints) -> Listed:
+    """SEQUENCE OF or SET OF."""
+    item = resolve_type(context.item(), type_.item)
+    return Listed(item, type_.is_set, is_never_empty(context, constraints))
+
+
+def is_never_empty(context: Context, constraints: Constraints) -> bool:
+    """Whether SIZE (1..MAX) stands before OF; other sizes are not checked."""
+    never_empty = False
+    for constraint in constraints:
+        size = size_of(context.state.library, context.env, constraint)
+        if size is None:
+            leaves.remark_on(context, constraint)
+            continue
+        is_one = size.low is not None and size.low >= 1
+        never_empty |= is_one
+        if size not in (Bounds(1, None), Bounds(0, None)):
+            checked = "checked as (1..MAX)" if is_one else "not checked"
+            context.remark(constraint.place, f"SIZE {leaves.bounds_text(size)} is {checked}")
+    return never_empty
+
+
+def reference(context: Context, type_: ReferenceType, constraints: Constraints) -> Resolved:
+    """The name of a type: of a parameter, of one with parameters, or of an assignment."""
+    library, env = context.state.library, context.env
+    if type_.module is None and type_.name in env.bindings:
+        binding = env.bindings[type_.name]
+        if binding.actual.type is None:
+            raise AsnError(type_.place, f"'{type_.name}' stands for no type here", "give a type as the parameter")
+        return resolve_type(context.within(binding.env), binding.actual.type, constraints)
+    if context.notes.has("unread"):
+        return unread(context, type_)
+    scope, assignment = library.find_type(env, type_.name, type_.place, type_.module)
+    inner = bind(env, scope, assignment, type_)
+    for constraint in constraints:
+        leaves.remark_on(context, constraint)
+    if has_type_parameter(library, env, assignment, type_):
+        return Use(written_out(context, type_, ()))
+    found = Use(definitions.definition_of(context.state, inner, assignment, type_.place))
+    return Kept(found) if context.notes.has("kept") else found
+
+
+def unread(context: Context, type_: ReferenceType) -> Leaf:
+    """A type that is not read: a SEQUENCE's contents octets are kept, or else any value."""
+    base = base_of(context.state.library, context.env, type_)[1]
+    is_sequence = isinstance(base, (FieldsType, ListType)) and not base.is_set
+    return Leaf(Whole.UNREAD_SEQUENCE if is_sequence else Whole.ANY, context.notes.has("owned"))

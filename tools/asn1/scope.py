@@ -1,0 +1,184 @@
+"""The names of modules (X.680 13.12 to 13.17, 14), and those of parameters (X.683 8)."""
+
+from __future__ import annotations
+
+import difflib
+from dataclasses import dataclass, field
+
+from .errors import AsnError, Place
+from .syntax import (
+    Actual,
+    Assignment,
+    ClassAssignment,
+    FieldsType,
+    Import,
+    Module,
+    SetAssignment,
+    TypeAssignment,
+    ValueAssignment,
+)
+
+WHAT = {
+    TypeAssignment: "type",
+    ValueAssignment: "value",
+    ClassAssignment: "class",
+    SetAssignment: "set",
+}
+
+
+@dataclass(eq=False)
+class Scope:
+    """The names that a module assigns and imports."""
+
+    module: Module
+    assigned: dict[str, Assignment]
+    imported: dict[str, Import]
+
+
+@dataclass(frozen=True)
+class Binding:
+    """What a parameter stands for, and where that is to be understood."""
+
+    actual: Actual
+    env: "Env"
+
+
+@dataclass(frozen=True, eq=False)
+class Env:
+    """A module's names, and the parameters of the type that is looked into."""
+
+    scope: Scope
+    bindings: dict[str, Binding] = field(default_factory=dict)
+
+
+class Library:
+    """All modules that were given."""
+
+    def __init__(self, modules: list[Module]) -> None:
+        self.scopes: dict[str, Scope] = {}
+        for module in modules:
+            if module.name in self.scopes:
+                raise AsnError(
+                    module.place,
+                    f"the module '{module.name}' is given twice",
+                    f"leave one out; the other is {self.scopes[module.name].module.place}",
+                )
+            self.scopes[module.name] = scope_of(module)
+        for scope in self.scopes.values():
+            self.check_imports(scope)
+            self.check_exports(scope)
+
+    def check_imports(self, scope: Scope) -> None:
+        """Each name that is imported from a module which is given has to be assigned there."""
+        for imported in scope.module.imports:
+            source = self.scopes.get(imported.module)
+            for symbol in imported.symbols if source else ():
+                assert source is not None
+                if symbol.text not in source.assigned:
+                    raise AsnError(
+                        symbol.place,
+                        f"the module '{imported.module}' assigns no '{symbol.text}'",
+                        nearest(symbol.text, list(source.assigned)),
+                    )
+                exports = source.module.exports
+                if exports is not None and symbol.text not in [token.text for token in exports]:
+                    raise AsnError(
+                        symbol.place,
+                        f"the module '{imported.module}' does not export '{symbol.text}'",
+                        "write the name under its EXPORTS",
+                    )
+
+    def check_exports(self, scope: Scope) -> None:
+        """Each name that is exported is assigned or imported (13.13)."""
+        for symbol in scope.module.exports or ():
+            if symbol.text not in scope.assigned and symbol.text not in scope.imported:
+                raise AsnError(
+                    symbol.place,
+                    f"'{symbol.text}' is exported, and neither assigned nor imported",
+                    nearest(symbol.text, list(scope.assigned)),
+                )
+
+    def find(self, env: Env, name: str, place: Place, module: str | None = None) -> tuple[Scope, Assignment]:
+        """The assignment of a name, and the module that has it."""
+        scope = env.scope
+        if module is not None and module != scope.module.name:
+            return self.find_in(module, name, place)
+        if name in scope.assigned:
+            return scope, scope.assigned[name]
+        if name in scope.imported:
+            return self.find_in(scope.imported[name].module, name, place)
+        raise AsnError(
+            place,
+            f"'{name}' is neither assigned in '{scope.module.name}' nor imported",
+            nearest(name, [*scope.assigned, *scope.imported]),
+        )
+
+    def find_in(self, module: str, name: str, place: Place) -> tuple[Scope, Assignment]:
+        """The assignment of a name in another module."""
+        source = self.scopes.get(module)
+        if source is None:
+            raise AsnError(
+                place,
+                f"'{name}' is of the module '{module}', which is not given",
+                "give its file too",
+            )
+        if name not in source.assigned:
+            raise AsnError(place, f"the module '{module}' assigns no '{name}'", nearest(name, list(source.assigned)))
+        return source, source.assigned[name]
+
+    def find_type(self, env: Env, name: str, place: Place, module: str | None = None) -> tuple[Scope, TypeAssignment]:
+        """The assignment of a name that has to be a type's."""
+        scope, found = self.find(env, name, place, module)
+        if isinstance(found, TypeAssignment):
+            return scope, found
+        raise AsnError(
+            place,
+            f"'{name}' is a {WHAT[type(found)]}, and stands where a type is expected",
+            "write the name of a type",
+        )
+
+
+def nearest(name: str, known: list[str]) -> str:
+    """What to write in place of a name that is not known."""
+    close = difflib.get_close_matches(name, known, 1)
+    return f"did you mean '{close[0]}'?" if close else f"assign it ('{name} ::= ..') or import it"
+
+
+def scope_of(module: Module) -> Scope:
+    """The names of a module, each of which stands for one thing (13.12)."""
+    assigned: dict[str, Assignment] = {}
+    for assignment in module.assignments:
+        other = assigned.get(assignment.name)
+        if other is not None:
+            raise AsnError(
+                assignment.place,
+                f"'{assignment.name}' is assigned twice",
+                f"give one of them another name; the other is at {other.place}",
+            )
+        assigned[assignment.name] = assignment
+    imported: dict[str, Import] = {}
+    for import_ in module.imports:
+        for symbol in import_.symbols:
+            if symbol.text in assigned or symbol.text in imported:
+                raise AsnError(
+                    symbol.place,
+                    f"'{symbol.text}' is imported, and assigned or imported elsewhere too",
+                    "leave one out, and write 'Module.Name' where the other is meant",
+                )
+            imported[symbol.text] = import_
+    return Scope(module, assigned, imported)
+
+
+def check_names(names: list[tuple[Place, str]], what: str) -> None:
+    """Names of components, alternatives or numbers differ (25.12, 29.2, 19.4, 20.4, 22.4)."""
+    seen: dict[str, Place] = {}
+    for place, name in names:
+        if name in seen:
+            instead = f"give one another name; the other is at {seen[name]}"
+            raise AsnError(place, f"the {what} '{name}' stands twice", instead)
+        seen[name] = place
+
+
+def component_names(type_: FieldsType) -> list[tuple[Place, str]]:
+    """The names of the components of a SEQUENCE or a SET, but for those of COMPONENTS OF."""
+    return [(part.place, part.name) for part in type_.components if hasattr(part, "name")]

@@ -1,0 +1,144 @@
+"""What is written: its pieces, and that all of it is laid out by the kit's formatter."""
+
+from __future__ import annotations
+
+import io
+import re
+import tempfile
+import unittest
+from contextlib import redirect_stderr, redirect_stdout
+from pathlib import Path
+
+from ..command import main
+from ..errors import AsnError
+from ..layout import LayoutError, formatter
+from ..model import ResolvedModule
+from ..writer.aliases import contents
+from ..writer.alternatives import at, depth
+from ..writer.crate import files_of_crate
+from ..writer.fields import places
+from ..writer.grammar import GrammarPage
+from ..writer.plan import Plan, Target
+from .helpers import module_of, resolved, standard
+
+
+def written(*texts: str) -> dict[str, str]:
+    """The files of modules, before they are laid out."""
+    found, _ = resolved(*texts)
+    plan = Plan({module.name: Target("der_test", f"module{i}" if i else "test") for i, module in enumerate(found)})
+    return files_of_crate(plan, found)
+
+
+def grammar(body: str, tags: str = "") -> dict[str, str]:
+    """The grammars of a module's page, by the names of types, each in one line."""
+    found: list[ResolvedModule] = resolved(module_of(body, tags))[0]
+    text = GrammarPage(Plan({found[0].name: Target("der_test", "test")}), found[0]).text()
+    terms = re.findall(r"^(\w+) =\s+((?:.|\n )+)", text, re.M)
+    return {name: " ".join(term.split()) for name, term in terms}
+
+
+class Pieces(unittest.TestCase):
+    def test_places_of_fields(self) -> None:
+        self.assertEqual(places(2), [".list.first", ".list.rest.first"])
+        self.assertEqual(places(9)[8], ".list" + ".rest" * 8 + ".list.first")
+        self.assertEqual(len(set(places(20))), 20)
+
+    def test_places_of_alternatives(self) -> None:
+        def wrap(side: str, inner: str) -> str:
+            return f"{side}({inner})"
+
+        found = [at(i, 3, wrap, "v") for i in range(3)]
+        self.assertEqual(found, ["First(First(v))", "First(Other(v))", "Other(v)"])
+        self.assertEqual([depth(i, 3) for i in range(3)], [2, 2, 1])
+
+    def test_contents_octets_of_identifiers(self) -> None:
+        self.assertEqual(contents((1, 2, 840, 113549, 1, 9, 16)), [0x2A, 0x86, 0x48, 0x86, 0xF7, 0x0D, 0x01, 0x09, 0x10])
+        self.assertEqual(contents((2, 5, 4, 3)), [0x55, 0x04, 0x03])
+        self.assertEqual(contents((2, 999, 3)), [0x88, 0x37, 0x03])
+
+
+class Grammars(unittest.TestCase):
+    def test_a_sequence(self) -> None:
+        found = grammar("A ::= SEQUENCE { a NULL, b [0] BOOLEAN DEFAULT FALSE, c [1] A-B OPTIONAL }\nA-B ::= SET OF ANY")
+        self.assertEqual(found["ab"], "SET_OF ANY")
+        self.assertEqual(
+            found["a"],
+            "SEQUENCE (field NULL "
+            "(DEFAULT (tlv (marker_tag context true 0) (tlv tags.Boolean (boolean_contents false))) (EXPLICIT context 0 BOOLEAN) "
+            "(OPTIONAL (EXPLICIT context 1 ab) end)))",
+        )
+
+    def test_tags_are_those_of_the_text(self) -> None:
+        body = "A ::= SEQUENCE { a [0] B, b [APPLICATION 1] NULL, c [2] EXPLICIT NULL }\nB ::= CHOICE { x NULL, y BOOLEAN }"
+        self.assertEqual(
+            grammar(body, "IMPLICIT TAGS")["a"],
+            "SEQUENCE (field (IMPLICIT context 0 b) (field (IMPLICIT application 1 NULL) (field (EXPLICIT context 2 NULL) end)))",
+        )
+
+    def test_automatic_tags(self) -> None:
+        found = grammar("A ::= SEQUENCE { a NULL, ..., b NULL OPTIONAL, ..., c NULL }", "AUTOMATIC TAGS")
+        self.assertEqual(
+            found["a"],
+            "SEQUENCE (field (IMPLICIT context 0 NULL) "
+            "(OPTIONAL (IMPLICIT context 2 NULL) (field (IMPLICIT context 1 NULL) end)))",
+        )
+
+    def test_a_choice_is_a_tree(self) -> None:
+        found = grammar("A ::= CHOICE { a NULL, b BOOLEAN, c UTF8String }")
+        self.assertEqual(found["a"], "CHOICE (CHOICE NULL BOOLEAN) UTF8_STRING")
+
+    def test_a_set_stands_in_the_order_of_tags(self) -> None:
+        found = grammar("A ::= SET { a [1] NULL, b BOOLEAN }")
+        self.assertEqual(found["a"], "SET (field BOOLEAN (field (EXPLICIT context 1 NULL) end))")
+
+    def test_types_of_the_library(self) -> None:
+        found = grammar("A ::= INTEGER (0..65535)\nB ::= OBJECT IDENTIFIER -- @max(63)\nC ::= IA5String\nD ::= INTEGER (-1..0)")
+        self.assertEqual(found["INTEGER_u16"], "one tags.Integer (parse_unsigned 2)")
+        self.assertEqual(found["INTEGER_i8"], "one tags.Integer (parse_signed 1)")
+        self.assertEqual(found["OBJECT_IDENTIFIER_63"], "one tags.ObjectIdentifier (parse_identifier 63)")
+        self.assertEqual(found["IA5_STRING"], "one tags.Ia5String (parse_string 22)")
+
+
+class Files(unittest.TestCase):
+    def test_a_name_that_the_files_use_is_refused(self) -> None:
+        with self.assertRaises(AsnError) as caught:
+            written(module_of("Tag ::= SEQUENCE { a NULL }"))
+        self.assertIn("'Tag' is the name of something that the written file uses", caught.exception.problem)
+        self.assertIn("src/test/my_tag.rt", written(module_of("Tag ::= SEQUENCE { a NULL } -- @name(MyTag)")))
+
+    def test_each_file_says_who_made_it(self) -> None:
+        for path, text in written(module_of("A ::= SEQUENCE { a NULL }\nB ::= NULL")).items():
+            self.assertIn("Made by tools/asn1", "\n".join(text.split("\n")[:3]), path)
+
+    def test_the_command(self) -> None:
+        """It writes, compares, and removes what it would write no more."""
+        try:
+            formatter()
+        except LayoutError as error:
+            self.skipTest(str(error))
+        with tempfile.TemporaryDirectory() as folder, redirect_stdout(io.StringIO()), redirect_stderr(io.StringIO()):
+            top = Path(folder)
+            (top / "asn1").mkdir()
+            (top / "asn1" / "snmp.asn1").write_text(standard("SNMPv2-PDU"), encoding="utf-8")
+            listed = str(top / "asn1" / "crates.txt")
+            Path(listed).write_text("# what is written\nder_test: snmp=snmp.asn1\n", encoding="utf-8")
+            self.assertEqual([main([listed]), main([listed, "--check"])], [0, 0])
+            source = top / "crates" / "der_test" / "src"
+            changed = source / "snmp" / "pdu.rt"
+            changed.write_text(changed.read_text(encoding="utf-8").replace("request_id", "reply_id"), encoding="utf-8")
+            self.assertEqual(main([listed, "--check"]), 1)
+            (source / "snmp" / "old.rt").write_text("//! Old.\n//!\n//! Made by tools/asn1.\n", encoding="utf-8")
+            (source / "lib.rt").write_text("//! By hand.\n", encoding="utf-8")
+            self.assertEqual([main([listed]), main([listed, "--check"])], [0, 0])
+            self.assertFalse((source / "snmp" / "old.rt").exists())
+            self.assertEqual((source / "lib.rt").read_text(encoding="utf-8"), "//! By hand.\n")
+
+    def test_a_list_that_is_not_understood(self) -> None:
+        with tempfile.TemporaryDirectory() as folder, redirect_stderr(io.StringIO()) as said:
+            listed = Path(folder) / "crates.txt"
+            listed.write_text("der_test = snmp.asn1\n", encoding="utf-8")
+            self.assertEqual(main([str(listed)]), 1)
+            self.assertIn("crates.txt:1:1: error: this line names no crate and its modules", said.getvalue())
+            listed.write_text("der_test: snmp=snmp.asn1\n", encoding="utf-8")
+            self.assertEqual(main([str(listed)]), 1)
+            self.assertIn("snmp.asn1: No such file or directory", said.getvalue())

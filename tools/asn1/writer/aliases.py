@@ -1,0 +1,72 @@
+"""Second names of types, the names of numbers and bits, and the values of object identifiers."""
+
+from __future__ import annotations
+
+from ..model import Alias, Constant, Named
+from ..properties import properties_of_definition
+from ..spelling import screaming
+from . import docs
+from .plan import Plan, Target
+from .source import Source
+from .types import lifetime_of, rust_type
+
+
+def write_aliases(plan: Plan, target: Target, aliases: list[Alias], name: str) -> str:
+    """The source file of all second names of a module."""
+    source = Source(plan, target)
+    for alias in aliases:
+        assert alias.type is not None
+        lifetime = lifetime_of(properties_of_definition(alias).borrows)
+        type_ = rust_type(source, alias.type)
+        source.add(f"{docs.of_definition(alias)}\npub type {alias.rust}{lifetime} = {type_};")
+        for one in alias.numbers:
+            source.add(number(alias, one, rust_type(source, alias.type)))
+        for one in alias.bits:
+            source.add(bit(alias, one))
+    return source.text([f"//! Second names of types in {name}."])
+
+
+def number(alias: Alias, one: Named, type_: str) -> str:
+    """A named number, where the type is a machine integer."""
+    if not type_[0] in "iu" or not type_[1:].isdigit():
+        return docs_only(alias, one)
+    return f"/// `{one.name}` of `{alias.name}`.\npub const {constant_name(alias, one)}: {type_} = {one.number};"
+
+
+def docs_only(alias: Alias, one: Named) -> str:
+    """A named number of an INTEGER of any length, as its only contents octets could be written."""
+    return f"/// `{one.name}` of `{alias.name}`.\npub const {constant_name(alias, one)}: i64 = {one.number};"
+
+
+def bit(alias: Alias, one: Named) -> str:
+    """The place of a named bit."""
+    head = f"/// The place of the bit `{one.name}` of `{alias.name}`."
+    return f"{head}\npub const {constant_name(alias, one)}: usize = {one.number};"
+
+
+def constant_name(alias: Alias, one: Named) -> str:
+    return f"{screaming(alias.rust)}_{screaming(one.name)}"
+
+
+def write_constants(plan: Plan, target: Target, constants: list[Constant], name: str) -> str:
+    """The source file of the object identifiers of a module, as their contents octets."""
+    source = Source(plan, target)
+    for one in constants:
+        octets = contents(one.arcs)
+        listed = ", ".join(f"0x{octet:02x}" for octet in octets)
+        dotted = ".".join(str(arc) for arc in one.arcs)
+        head = f"{docs.asn1(one.text)}\n///\n/// It is {dotted}, as contents octets."
+        source.add(f"{head}\npub const {one.rust}: [u8; {len(octets)}] = [{listed}];")
+    return source.text([f"//! Object identifiers in {name}."])
+
+
+def contents(arcs: tuple[int, ...]) -> list[int]:
+    """The contents octets of an object identifier (X.690 8.19)."""
+    found: list[int] = []
+    for number in (arcs[0] * 40 + arcs[1], *arcs[2:]):
+        octets = [number & 0x7F]
+        while number > 0x7F:
+            number >>= 7
+            octets.append(number & 0x7F | 0x80)
+        found += reversed(octets)
+    return found

@@ -1,0 +1,299 @@
+"""A CHOICE as an enum, whose meaning is that of a tree of its alternatives."""
+
+from __future__ import annotations
+
+from ..model import Choice
+from ..properties import properties_of_definition
+from ..spelling import snake
+from . import choice_laws, docs
+from .alternatives import Alternatives, at, by_variants, depth, first_tags, ghosts, halves, law, quote, tree
+from .plan import Plan
+from .source import Page, Source
+from .types import has_order, lifetime_of, logic_type, rust_type
+from .values import derives
+
+
+def write_choice(plan: Plan, choice: Choice) -> str:
+    """The source file of a CHOICE."""
+    source = Source(plan, plan.of(choice))
+    lifetime = lifetime_of(properties_of_definition(choice).borrows)
+    types = [rust_type(source, part.type) for part in choice.alternatives]
+    all_of = Alternatives(choice, lifetime, types)
+    source.add(f"/// The alternatives, as a tree.\ntype Tree{lifetime} = {tree(source, types)};")
+    source.add(declaration(all_of))
+    source.add(form(source, all_of))
+    source.add(form_value(source, all_of))
+    source.add(tagged(source, all_of))
+    source.add(choice_trait(source, all_of))
+    source.add(choice_laws.known_tags(source, all_of))
+    for trait in ("Decode", "DecodeField"):
+        source.add(decode(source, all_of, trait))
+    source.add(encode(source, all_of))
+    if all(has_order(part.type) for part in choice.alternatives):
+        source.add(order(source, all_of))
+    source.add(choice_laws.encoding_eq(source, all_of))
+    source.add(choice_laws.duplicate(source, all_of))
+    source.add(choice_laws.duplicate_is_equal(source, all_of))
+    return source.text([f"//! {choice.name}, a CHOICE of {len(types)} alternatives."])
+
+
+# ---- the enum
+
+
+def declaration(all_of: Alternatives) -> str:
+    rows = "\n".join(
+        f"    /// `{part.name}`, `{part.text}`.\n    {part.rust}({type_}),"
+        for part, type_ in zip(all_of.choice.alternatives, all_of.types)
+    )
+    refused = "Reading refuses a tag that no alternative has (`ErrorKind::TagUnexpected`, 4), and the alternative's faults."
+    return (
+        f"{docs.of_definition(all_of.choice, refused)}\n{derives(all_of.choice)}\n"
+        f"pub enum {all_of.whole} {{\n{rows}\n}}"
+    )
+
+
+def page_words(source: Source, all_of: Alternatives) -> None:
+    """What ghost members need of the pages."""
+    target = source.target
+    source.page_word(f"{target.crate}.specs.{target.page}.{all_of.choice.rust}", all_of.view)
+
+
+FORM = (
+    ("encoding", 1),
+    ("comparable", 2),
+    ("re_reads", 1),
+    ("accepts", -1),
+    ("parse", 0),
+    ("tags", 0),
+    ("first_tag_of", 1),
+    ("readable", 1),
+    ("TAKES_MEMORY", 0),
+    ("FAULTS_FIRST", 0),
+    ("parse_of_accepted", -1),
+    ("faults_of_octets", 0),
+    ("begins", -1),
+    ("begins_first", -1),
+    ("same_length", -1),
+    ("accepts_encoding", -1),
+    ("only_readable", -1),
+    ("accepts_comparable", -2),
+    ("re_reads_memory", 1),
+)
+
+
+def form(source: Source, all_of: Alternatives) -> str:
+    """What the whole encodings mean: member by member what those of the tree mean."""
+    page_words(source, all_of)
+    members = []
+    for key, values in FORM:
+        name = source.member(key)
+        names = ["v", "w"][: abs(values)]
+        seen = "".join(f" ({all_of.view} {value})" for value in names)
+        rules = ["rules"] if values < 0 else []
+        term = f"{quote(all_of, 'Form')}.{name}{''.join(f' {rule}' for rule in rules)}{seen}"
+        members.append((name, f"λ {' '.join(rules + names)}. {term}" if names else term))
+    return f"impl{all_of.lifetime} {source.use('Form')} for {all_of.whole} {{\n{ghosts(members)}\n}}"
+
+
+def form_value(source: Source, all_of: Alternatives) -> str:
+    return (
+        f"impl{all_of.lifetime} {source.use('FormValue')} for {all_of.whole} {{\n"
+        f"    ghost {source.member('value')} = {{ {source.word('mapped_format')} {all_of.view} "
+        f"{quote(all_of, 'FormValue')}.{source.member('value')} }};\n}}"
+    )
+
+
+# ---- the tag
+
+
+def tagged(source: Source, all_of: Alternatives) -> str:
+    """The tag of a value, and that its encoding begins with it."""
+    source.page_word(variants_module(source, all_of), "")
+    form_q, value_q, tagged_q = (quote(all_of, trait) for trait in ("Form", "FormValue", "Tagged"))
+    m, view, k = source.member, all_of.view, f"({all_of.view} k)"
+    tag_of = f"{tagged_q}.{m('tag_of')}"
+    contents = f"{value_q}.{m('value')}.{m('contents')}"
+    encoding_is = by_variants(
+        all_of,
+        f"{form_q}.{m('encoding')} {k} {source.word('≡')} {source.word('tlv')} ({tag_of} {k}) ({contents} {k})",
+        lambda i: encoding_law(source, all_of, i),
+    )
+    is_tlv = by_variants(
+        all_of, f"{form_q}.{m('accepts')} rules {k} b → {source.word('IsTlv')} b", lambda i: tlv_law(source, all_of, i)
+    )
+    first_tag_is = by_variants(
+        all_of,
+        f"{form_q}.{m('first_tag_of')} {k} ≡ {source.word('Some')} ({tag_of} {k})",
+        lambda i: first_tag_is_law(source, all_of, i),
+    )
+    re_reads = by_variants(
+        all_of,
+        f"{value_q}.{m('value')}.{m('re_reads')} {k} ≡ {source.word('true')} → {form_q}.{m('re_reads')} {k} ≡ true",
+        lambda i: re_reads_law(source, all_of, i),
+    )
+    members = [
+        (m("encoding_is"), f"λ v. {encoding_is}"),
+        (m("accepted_is_tlv"), f"λ rules v b. {is_tlv}"),
+        (m("own_tag"), f"λ v. {own_tag(source, all_of, list(range(len(all_of.types))))} ({view} v)"),
+        (m("first_tag_is"), f"λ v. {first_tag_is}"),
+        (m("re_reads_alike"), f"λ v. {re_reads}"),
+        (m("comparable_alike"), "λ v w h. tt"),
+    ]
+    return (
+        f"impl{all_of.lifetime} {source.use('Tagged')} for {all_of.whole} {{\n"
+        f"    ghost {m('tag_of')} = {{ λ v. {tag_of} ({view} v) }};\n\n"
+        f"    fn tag(&self) -> {source.use('Tag')} {{\n        match self {{\n"
+        f"{arms(all_of, 'tag()')}\n        }}\n    }}\n\n"
+        f"{ghosts(members)}\n}}"
+    )
+
+
+def variants_module(source: Source, all_of: Alternatives) -> str:
+    target = source.target
+    path = f"{target.crate}.specs.declared.{target.module}.{snake(all_of.choice.rust)}.{all_of.choice.rust}"
+    return f"{path}.TheVariants as {all_of.variants}"
+
+
+def encoding_law(source: Source, all_of: Alternatives, index: int) -> str:
+    if all_of.choice_of(all_of.choice.alternatives[index].type):
+        return f"{law(source, all_of, index, source.member('encoding_is'))} x"
+    return source.word("refl")
+
+
+def first_tag_is_law(source: Source, all_of: Alternatives, index: int) -> str:
+    if all_of.choice_of(all_of.choice.alternatives[index].type):
+        return f"{law(source, all_of, index, source.member('first_tag_is'))} x"
+    return source.word("refl")
+
+
+def re_reads_law(source: Source, all_of: Alternatives, index: int) -> str:
+    if all_of.choice_of(all_of.choice.alternatives[index].type):
+        return f"{law(source, all_of, index, source.member('re_reads_alike'))} x"
+    return "λ h. h"
+
+
+def tlv_law(source: Source, all_of: Alternatives, index: int) -> str:
+    count = len(all_of.types)
+    part = f"a{'.0' * depth(index, count)}"
+    if all_of.choice_of(all_of.choice.alternatives[index].type):
+        return f"λ a. {law(source, all_of, index, source.member('accepted_is_tlv'))} rules x b {part}"
+    accepts = f"⟦<{all_of.types[index]} as FormValue>⟧.{source.member('value')}.{source.member('accepts')}"
+    return f"λ a. {source.word('tlv_tagged')} _ {accepts} rules x b {part}"
+
+
+def own_tag(source: Source, all_of: Alternatives, indices: list[int]) -> str:
+    """That a value's tag is one of its type's, by that law of the tree."""
+    m = source.member
+    if len(indices) == 1:
+        only = indices[0]
+        if all_of.choice_of(all_of.choice.alternatives[only].type):
+            return law(source, all_of, only, m("own_tag"))
+        return f"(λ x. {source.word('same_identifier-same')} (⟦<{all_of.types[only]} as Tagged>⟧.{m('tag_of')} x))"
+    middle = halves(len(indices))
+    first, other = indices[:middle], indices[middle:]
+
+    def member(part: list[int], trait: str, name: str) -> str:
+        return f"⟦<{tree(source, [all_of.types[i] for i in part])} as {trait}>⟧.{m(name)}"
+
+    return (
+        f"({source.word('own_tag_one')} {member(first, 'Form', 'tags')} {member(other, 'Form', 'tags')} "
+        f"{member(first, 'Tagged', 'tag_of')} {member(other, 'Tagged', 'tag_of')} "
+        f"{own_tag(source, all_of, first)} {own_tag(source, all_of, other)})"
+    )
+
+
+def choice_trait(source: Source, all_of: Alternatives) -> str:
+    """Which tags it is read after. A method with no lifetime of its own, in an impl with one, writes its clause."""
+    form_q, m = quote(all_of, "Form"), source.member
+    clause = f"\n        ensures {{ result ≡ {form_q}.{m('tags')} tag }}\n   " if all_of.lifetime else ""
+    turbofish = f"Tree::{all_of.lifetime}" if all_of.lifetime else "Tree"
+    return (
+        f"impl{all_of.lifetime} {source.use('Choice')} for {all_of.whole} {{\n"
+        f"    fn can_decode(tag: {source.use('Tag')}) -> bool{clause} {{\n        {turbofish}::can_decode(tag)\n    }}\n\n"
+        f"    ghost {m('has_first_tag')} = {{ λ v. {first_tags(source, all_of)} }};\n}}"
+    )
+
+
+# ---- reading and writing
+
+
+def arms(all_of: Alternatives, call: str) -> str:
+    return "\n".join(f"            {all_of.choice.rust}::{name}(value) => value.{call}," for name in all_of.names)
+
+
+def decode(source: Source, all_of: Alternatives, trait: str) -> str:
+    """Reading by the tree."""
+    need, law_name, call = {
+        "Decode": ("TAKES_MEMORY", "takes_memory_is", "decode"),
+        "DecodeField": ("TAKES_MEMORY", "takes_memory_is", "decode_field"),
+    }[trait]
+    takes = "true" if properties_of_definition(all_of.choice).takes_memory else "false"
+    source.word(takes)
+    count = len(all_of.types)
+    seen = [at(i, count, lambda side, inner: f"OneOf::{side}({inner})", "value") for i in range(count)]
+    rows = "\n".join(
+        f"            Ok({place}) => Ok({all_of.choice.rust}::{name}(value))," for place, name in zip(seen, all_of.names)
+    )
+    turbofish = f"Tree::{all_of.lifetime}" if all_of.lifetime else "Tree"
+    need, law_name = source.member(need), source.member(law_name)
+    return (
+        f"impl<'a, R: {source.use('Source')}<'a>> {source.use(trait)}<'a, R> for {all_of.whole} {{\n"
+        f"    ghost {need} = {{ {takes} }};\n\n    const {need}: bool = {takes};\n\n"
+        f"    fn {call}(alloc: {source.use('Global')}, reader: &mut R) -> Result<{all_of.whole}, {source.use('Error')}> {{\n"
+        f"        match {turbofish}::{call}(alloc, reader) {{\n{rows}\n            Err(e) => Err(e),\n        }}\n    }}\n\n"
+        f"    ghost {law_name} = {{ refl }};\n}}"
+    )
+
+
+def encode(source: Source, all_of: Alternatives) -> str:
+    error, length = source.use("Error"), source.use("Length")
+    return (
+        f"impl{all_of.lifetime} {source.use('EncodeValue')} for {all_of.whole} {{\n"
+        f"    fn value_len(&self) -> Result<{length}, {error}> {{\n        match self {{\n{arms(all_of, 'value_len()')}\n"
+        f"        }}\n    }}\n\n"
+        f"    fn encode_value<W: {source.use('Writer')}>(&self, writer: &mut W) -> Result<(), {error}> {{\n"
+        f"        match self {{\n{arms(all_of, 'encode_value(writer)')}\n        }}\n    }}\n}}"
+    )
+
+
+def order(source: Source, all_of: Alternatives) -> str:
+    """The order of encodings: of two alternatives their headers decide."""
+    name = all_of.choice.rust
+    rows = "\n".join(
+        f"            ({name}::{first}(value), {name}::{second}(other)) => "
+        + ("value.der_cmp(other)," if first == second else f"{source.use('cmp_headers')}(value, other),")
+        for first in all_of.names
+        for second in all_of.names
+    )
+    return (
+        f"impl{all_of.lifetime} {source.use('DerOrd')} for {all_of.whole} {{\n"
+        f"    fn der_cmp(&self, other: &{all_of.whole}) -> Result<{source.use('Ordering')}, {source.use('Error')}> {{\n"
+        f"        match (self, other) {{\n{rows}\n        }}\n    }}\n}}"
+    )
+
+
+# ---- the page
+
+
+def write_choice_page(plan: Plan, choice: Choice) -> str:
+    """The tree of a value, by its alternatives."""
+    page = Page(plan, plan.of(choice), f"-- The alternatives of {choice.name}, as a tree.")
+    count = len(choice.alternatives)
+    name = page.logic_type(choice)
+    target = plan.of(choice)
+    path = f"{target.crate}.specs.declared.{target.module}.{snake(choice.rust)}.{choice.rust}"
+    page.from_module(f"{path}.TheVariants as of", "")
+    types = [logic_type(page, part.type) for part in choice.alternatives]
+
+    def listed(parts: list[str]) -> str:
+        if len(parts) == 1:
+            return f"({parts[0]})" if " " in parts[0] else parts[0]
+        middle = halves(len(parts))
+        return f"({page.logic('OneOf')} {listed(parts[:middle])} {listed(parts[middle:])})"
+
+    def wrap(side: str, inner: str) -> str:
+        return f"{page.logic(side)} {f'({inner})' if ' ' in inner else inner}"
+
+    rows = [f"tree_of (of.{part.rust} v) = {at(i, count, wrap, 'v')}" for i, part in enumerate(choice.alternatives)]
+    page.add(f"abbrev pub tree_of : {name} → {listed(types)}\n" + "\n".join(rows))
+    return page.text()

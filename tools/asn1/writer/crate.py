@@ -1,0 +1,121 @@
+"""All files of the modules of a crate."""
+
+from __future__ import annotations
+
+from ..errors import AsnError
+from ..model import Alias, Choice, Definition, Enumeration, List, ResolvedModule, Struct
+from ..spelling import snake
+from .aliases import constant_name, write_aliases, write_constants
+from .choices import write_choice, write_choice_page
+from .enumerations import write_enumeration
+from .grammar import GrammarPage
+from .lists import write_list
+from .markers import check_sets
+from .module_laws import write_laws
+from .names import RUST
+from .pages import write_list_page, write_struct_page
+from .plan import Plan
+from .source import PRELUDE
+from .structs import write_struct
+
+TAKEN = PRELUDE | {name for _, name in RUST.values()} | {"Fields", "Tree"}
+MARK = "Made by tools/asn1"
+
+
+def files_of_crate(plan: Plan, modules: list[ResolvedModule]) -> dict[str, str]:
+    """All files of a crate, by their paths in its folder."""
+    files: dict[str, str] = {}
+    for module in modules:
+        for path, text in write_module(plan, module).items():
+            files[path] = marked(path, text, module.file)
+    targets = [plan.targets[module.name] for module in modules]
+    standards = ", ".join(module.name for module in modules)
+    sources = "\n".join(f"pub mod {target.module};" for target in targets)
+    pages = "".join(f"pub mod {target.page}\n" for target in targets)
+    files["src/lib.rt"] = f"//! The types of {standards}.\n//!\n//! {MARK}.\n#![tactic(auto)]\n\n{sources}\n"
+    files["specs/Lib.antt"] = f"-- {MARK}.\n{pages}"
+    return files
+
+
+def marked(path: str, text: str, file: str) -> str:
+    """A file says in its second line who made it, and from what."""
+    first, rest = text.split("\n", 1)
+    name = file.split("/")[-1]
+    if path.endswith(".antt"):
+        return f"{first}\n-- {MARK} from {name}.\n{rest}"
+    return f"{first}\n//!\n//! {MARK} from {name}.\n{rest}"
+
+
+def write_module(plan: Plan, module: ResolvedModule) -> dict[str, str]:
+    """The files of one module of ASN.1."""
+    target = plan.targets[module.name]
+    files: dict[str, str] = {}
+    for definition in module.definitions:
+        check_name(definition)
+        check_sets(definition)
+        if isinstance(definition, Alias):
+            continue
+        files[f"src/{target.module}/{snake(definition.rust)}.rt"] = write_definition(plan, definition)
+        page = write_page(plan, definition)
+        if page:
+            files[f"specs/{target.page}/{definition.rust}.antt"] = page
+    aliases = [found for found in module.definitions if isinstance(found, Alias)]
+    if aliases:
+        files[f"src/{target.module}/aliases.rt"] = write_aliases(plan, target, aliases, module.name)
+    if module.constants:
+        files[f"src/{target.module}/constants.rt"] = write_constants(plan, target, module.constants, module.name)
+    files[f"src/{target.module}/laws.rt"] = write_laws(plan, module)
+    files[f"specs/{target.page}/Grammar.antt"] = GrammarPage(plan, module).text()
+    files[f"src/{target.module}.rt"] = root(plan, module)
+    pages = sorted(path.split("/")[-1][: -len(".antt")] for path in files if path.startswith("specs/"))
+    files[f"specs/{target.page}.antt"] = f"-- The types of {module.name}.\n" + "".join(f"pub mod {name}\n" for name in pages)
+    return files
+
+
+def check_name(definition: Definition) -> None:
+    """A type may not have the name of one that its file uses."""
+    if definition.rust in TAKEN:
+        raise AsnError(
+            definition.place,
+            f"'{definition.rust}' is the name of something that the written file uses",
+            f"write '-- @name(..)' after the assignment, as '@name({definition.rust}Value)'",
+        )
+
+
+def write_definition(plan: Plan, definition: Definition) -> str:
+    if isinstance(definition, Struct):
+        return write_struct(plan, definition)
+    if isinstance(definition, Choice):
+        return write_choice(plan, definition)
+    if isinstance(definition, List):
+        return write_list(plan, definition)
+    assert isinstance(definition, Enumeration)
+    return write_enumeration(plan, definition)
+
+
+def write_page(plan: Plan, definition: Definition) -> str | None:
+    if isinstance(definition, Struct):
+        return write_struct_page(plan, definition)
+    if isinstance(definition, Choice):
+        return write_choice_page(plan, definition)
+    if isinstance(definition, List):
+        return write_list_page(plan, definition)
+    return None
+
+
+def root(plan: Plan, module: ResolvedModule) -> str:
+    """The module's own file: what it has, and where that stands."""
+    by_file: dict[str, list[str]] = {}
+    for definition in module.definitions:
+        names = by_file.setdefault(plan.file(definition), [])
+        names.append(definition.rust)
+        if isinstance(definition, Alias):
+            names += [constant_name(definition, one) for one in (*definition.numbers, *definition.bits)]
+    lines = [f"//! {module.name}.", ""]
+    lines += [f"mod {name};" for name in sorted(by_file)]
+    lines += ["pub mod constants;"] if module.constants else []
+    lines += ["pub mod laws;", ""]
+    for name, names in sorted(by_file.items()):
+        listed = names[0] if len(names) == 1 else "{" + ", ".join(sorted(names)) + "}"
+        lines.append(f"pub use {name}::{listed};")
+    return "\n".join(lines) + "\n"

@@ -1,0 +1,41 @@
+"""Documentation: the text of ASN.1, and what is not checked of it."""
+
+from __future__ import annotations
+
+import textwrap
+
+from ..model import Definition
+from ..properties import properties_of_definition
+
+WIDTH = 100
+
+
+def doc(*paragraphs: str, indent: str = "") -> str:
+    """A `///` comment of these paragraphs, filled."""
+    lines: list[str] = []
+    for paragraph in paragraphs:
+        lines += [""] if lines else []
+        lines += textwrap.wrap(paragraph, WIDTH - len(indent) - 4, break_on_hyphens=False, break_long_words=False)
+    return "\n".join(f"{indent}///{' ' if line else ''}{line}" for line in lines)
+
+
+def asn1(text: str) -> str:
+    """A `///` comment that quotes a text of ASN.1."""
+    lines = ["```text", *text.split("\n"), "```"]
+    return "\n".join(f"///{' ' if line else ''}{line}" for line in lines)
+
+
+def of_definition(definition: Definition, *more: str) -> str:
+    """The documentation of a type: its text, what else is to be said, and what is not checked."""
+    inner = doc(f"A type that is written out within another, as `{definition.name}`.")
+    parts = [asn1(definition.text) if definition.text else inner]
+    parts += [doc(text) for text in more]
+    parts += [doc(f"Not checked: {remark}.") for remark in definition.remarks]
+    return "\n///\n".join(parts)
+
+
+def errors(definition: Definition) -> str:
+    """What reading and writing refuse."""
+    takes = properties_of_definition(definition).takes_memory
+    memory = "; `ErrorKind::Memory` (1) where memory runs out" if takes else ""
+    return f"Reading refuses the first fault of the octets, in their order{memory}."

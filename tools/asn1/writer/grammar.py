@@ -1,0 +1,325 @@
+"""The page of a module's grammar, written from the tree of the module: its tags are those of the text, and no resolver's.
+
+The clause of `laws` says that what is read is what the page says; so an error of the resolver in a tag, an order or an
+OPTIONAL is one that the prover refuses.
+"""
+
+from __future__ import annotations
+
+from dataclasses import replace
+
+from ..model import (
+    Alias,
+    Choice,
+    Definition,
+    Enumeration,
+    Field,
+    Leaf,
+    List,
+    Listed,
+    Resolved,
+    ResolvedModule,
+    Struct,
+    Tagged,
+    Use,
+    Whole,
+)
+from ..resolver.classes import follow, type_of_field
+from ..scope import Env, Library
+from ..spelling import snake
+from ..syntax import (
+    BooleanValue,
+    Component,
+    ConstrainedType,
+    FieldOfClass,
+    FieldsType,
+    ListType,
+    ReferenceType,
+    TagClass,
+    TagDefault,
+    TaggedType,
+    TagMode,
+    Type,
+)
+from ..tagging import are_tagged
+from ..values import number_of
+from .alternatives import halves
+from .names import ASN1, PARSES
+from .plan import Plan
+from .source import Page
+from .types import CHARACTERS, closed
+
+CLASSES = {TagClass.APPLICATION: "application", TagClass.CONTEXT: "context", TagClass.PRIVATE: "private"}
+
+
+def word_of(definition: Definition) -> str:
+    """The name of a type's grammar."""
+    return snake(definition.rust)
+
+
+class GrammarPage:
+    """The page of one module."""
+
+    def __init__(self, plan: Plan, module: ResolvedModule) -> None:
+        self.plan = plan
+        self.module = module
+        self.library: Library = module.library
+        self.page = Page(plan, plan.targets[module.name], f"-- The grammar of {module.name}, in the words of ASN.1.")
+        self.leaves: dict[str, str] = {}
+
+    def text(self) -> str:
+        """The whole page: the library's types that it names, and each type, after those that it has."""
+        definitions = [self.definition(found) for found in self.in_order()]
+        for name in sorted(self.leaves):
+            self.page.add(self.leaves[name])
+        for text in definitions:
+            self.page.add(text)
+        return self.page.text()
+
+    def in_order(self) -> list[Definition]:
+        """Each definition stands after those that it names."""
+        found: list[Definition] = []
+
+        def visit(definition: Definition) -> None:
+            if definition in found or definition.module != self.module.name:
+                return
+            for inner in named_in(definition):
+                visit(inner)
+            found.append(definition)
+
+        for definition in self.module.definitions:
+            visit(definition)
+        return found
+
+    def asn1(self, word: str) -> str:
+        return self.page.from_module(ASN1, word)
+
+    # ---- definitions
+
+    def definition(self, definition: Definition) -> str:
+        assert definition.origin is not None
+        env, type_ = definition.origin
+        term = self.whole(env, type_, definition)
+        text = definition.text or f"a type within another: {definition.name}"
+        comment = "\n".join(f"-- {line}".rstrip() for line in text.split("\n"))
+        name = word_of(definition)
+        return f"{comment}\nabbrev pub {name} : {self.asn1('Grammar')}\n{name} =\n    {term}"
+
+    def whole(self, env: Env, type_: Type, definition: Definition) -> str:
+        """The grammar of a definition, from its text."""
+        if isinstance(definition, Alias):
+            assert definition.type is not None
+            return self.alias(env, type_, definition)
+        if isinstance(type_, ConstrainedType):
+            return self.whole(env, type_.type, definition)
+        if isinstance(type_, TaggedType):
+            return self.tagged(env, type_, self.whole(env, type_.type, definition))
+        if isinstance(type_, ReferenceType):
+            env, type_ = follow(self.library, env, type_)
+            return self.whole(env, type_, definition)
+        if isinstance(definition, Struct):
+            assert isinstance(type_, FieldsType)
+            word = self.asn1("SET" if definition.is_set else "SEQUENCE")
+            return f"{word} {self.fields(definition, type_)}"
+        if isinstance(definition, Choice):
+            parts = definition.alternatives
+            return self.choice([self.component(part, automatic_number(parts, part)) for part in parts])
+        if isinstance(definition, List):
+            assert isinstance(type_, ListType) and definition.item is not None
+            word = self.asn1("SET_OF" if definition.is_set else "SEQUENCE_OF")
+            return f"{word} {closed(self.term(env, type_.item, definition.item))}"
+        assert isinstance(definition, Enumeration)
+        return self.leaf_word("ENUMERATED", *PARSES["ENUMERATED"])
+
+    def alias(self, env: Env, type_: Type, definition: Alias) -> str:
+        """A second name; a CHOICE of one alternative stays a CHOICE, before which a tag is explicit."""
+        assert definition.type is not None
+        only = getattr(type_, "alternatives", ())
+        if len(only) == 1:
+            return f"{self.asn1('CHOICE_OF_ONE')} {closed(self.term(env, only[0].type, definition.type))}"
+        return self.term(env, type_, definition.type)
+
+    def tagged(self, env: Env, type_: TaggedType, inner: str) -> str:
+        """A tag before a type, as the text and the module's default have it."""
+        mode = type_.mode
+        if mode is None:
+            is_explicit = env.scope.module.tag_default is TagDefault.EXPLICIT
+            mode = TagMode.EXPLICIT if is_explicit else TagMode.IMPLICIT
+        number = type_.number if isinstance(type_.number, int) else number_of(self.library, env, type_.number)
+        return f"{self.asn1(mode.value)} {self.asn1(CLASSES[type_.tag_class])} {number} {closed(inner)}"
+
+    # ---- fields and alternatives
+
+    def fields(self, definition: Struct, type_: FieldsType) -> str:
+        """The fields, one after another."""
+        lines = []
+        for part in definition.fields:
+            number = automatic_number(definition.declared, part)
+            inner = self.component(part, number)
+            if part.component.optional:
+                lines.append(f"{self.asn1('OPTIONAL')} {closed(inner)}")
+            elif part.component.default is not None:
+                lines.append(f"{self.asn1('DEFAULT')} ({self.default(part, number)}) {closed(inner)}")
+            else:
+                lines.append(f"{self.asn1('field')} {closed(inner)}")
+        return "".join(f"\n    ({line}" for line in lines) + f"\n    {self.asn1('end')}" + ")" * len(lines)
+
+    def component(self, part: Field, number: int | None) -> str:
+        """The type of a component, with its automatic tag if the module gives it one (25.7, 29.2)."""
+        if number is None:
+            return self.term(part.env, part.component.type, part.type)
+        assert isinstance(part.component.type, TaggedType) and isinstance(part.type, Tagged)
+        inner = self.term(part.env, part.component.type.type, part.type.of)
+        return f"{self.asn1('IMPLICIT')} {self.asn1('context')} {number} {closed(inner)}"
+
+    def choice(self, alternatives: list[str]) -> str:
+        """The alternatives, as a balanced tree."""
+        if len(alternatives) == 1:
+            return alternatives[0]
+        middle = halves(len(alternatives))
+        first, other = self.choice(alternatives[:middle]), self.choice(alternatives[middle:])
+        return f"{self.asn1('CHOICE')}\n    {closed(first)}\n    {closed(other)}"
+
+    # ---- types within others
+
+    def term(self, env: Env, type_: Type, resolved: Resolved) -> str:
+        """The grammar of a type where it stands."""
+        if isinstance(type_, ConstrainedType):
+            return self.term(env, type_.type, resolved)
+        if isinstance(type_, TaggedType):
+            assert isinstance(resolved, Tagged)
+            return self.tagged(env, type_, self.term(env, type_.type, resolved.of))
+        if isinstance(type_, FieldOfClass):
+            env, type_ = type_of_field(self.library, env, type_)
+            return self.term(env, type_, resolved)
+        if isinstance(resolved, Use):
+            return self.use(resolved.definition)
+        if isinstance(resolved, Leaf):
+            return self.leaf(resolved)
+        if isinstance(type_, ReferenceType):
+            env, type_ = follow(self.library, env, type_)
+            return self.term(env, type_, resolved)
+        assert isinstance(type_, ListType) and isinstance(resolved, Listed)
+        word = self.asn1("SET_OF" if type_.is_set else "SEQUENCE_OF")
+        return f"{word} {closed(self.term(env, type_.item, resolved.item))}"
+
+    def use(self, definition: Definition) -> str:
+        """The grammar of a type that has a name, perhaps of another page."""
+        name = word_of(definition)
+        if definition.module != self.module.name:
+            target = self.plan.of(definition)
+            self.page.from_module(f"{target.crate}.specs.{target.page}.Grammar", name)
+        return name
+
+    def leaf(self, leaf: Leaf) -> str:
+        """A type of the library."""
+        if leaf.whole is Whole.MACHINE_INTEGER:
+            width = leaf.width or "u8"
+            parse = "signed" if width[0] == "i" else "unsigned"
+            tag, module, name = PARSES[parse]
+            return self.leaf_word(f"INTEGER_{width}", tag, module, f"{name} {int(width[1:]) // 8}")
+        name = leaf.whole.name
+        tag, module, parse = PARSES[name]
+        if leaf.whole is Whole.OBJECT_IDENTIFIER:
+            return self.leaf_word(f"{name}_{leaf.octets}", tag, module, f"{parse} {leaf.octets}")
+        if leaf.whole in CHARACTERS:
+            parse = f"{parse} {CHARACTERS[leaf.whole]}"
+        return self.leaf_word(name, tag, module, parse)
+
+    def leaf_word(self, name: str, tag: str, module: str, parse: str) -> str:
+        """A word of the page for a type of the library."""
+        self.page.from_module(module, parse.split()[0])
+        argument = f"({parse})" if " " in parse else parse
+        if tag:
+            self.page.word("tags")
+            term = f"{self.asn1('one')} tags.{tag} {argument}"
+        else:
+            self.page.word("true")
+            term = f"{self.asn1('any_of')} (λ t. true) {argument}"
+        self.leaves[name] = f"abbrev pub {name} : {self.asn1('Grammar')}\n{name} = {term}"
+        return name
+
+    # ---- defaults
+
+    def default(self, part: Field, number: int | None) -> str:
+        """The encoding of a default value."""
+        type_ = part.component.type
+        if number is not None:
+            assert isinstance(type_, TaggedType)
+            type_ = type_.type
+        tag, contents = self.default_of(part.env, type_, part)
+        if number is not None:
+            tag = self.tag("context", f"({self.page.word('is_constructed')} {tag})", number)
+        return f"{self.page.word('tlv')} {tag} {contents}"
+
+    def default_of(self, env: Env, type_: Type, part: Field) -> tuple[str, str]:
+        """The tag and the contents octets of a default value."""
+        self.page.word("tags")
+        if isinstance(type_, ConstrainedType):
+            return self.default_of(env, type_.type, part)
+        if isinstance(type_, ReferenceType):
+            env, type_ = follow(self.library, env, type_)
+            return self.default_of(env, type_, part)
+        if isinstance(type_, TaggedType):
+            return self.default_of_tagged(env, type_, part)
+        if isinstance(part.component.default, BooleanValue):
+            return "tags.Boolean", f"({self.page.word('boolean_contents')} {self.page.word('false')})"
+        return "tags.Integer", f"({self.page.word('natural_contents')} {int(part.default or 0)})"
+
+    def default_of_tagged(self, env: Env, type_: TaggedType, part: Field) -> tuple[str, str]:
+        """The same after a tag."""
+        tag, contents = self.default_of(env, type_.type, part)
+        number = type_.number if isinstance(type_.number, int) else number_of(self.library, env, type_.number)
+        word = self.asn1(CLASSES[type_.tag_class])
+        is_explicit = type_.mode is TagMode.EXPLICIT or (
+            type_.mode is None and env.scope.module.tag_default is TagDefault.EXPLICIT
+        )
+        if is_explicit:
+            return self.tag(word, self.page.word("true"), number), f"({self.page.word('tlv')} {tag} {contents})"
+        return self.tag(word, f"({self.page.word('is_constructed')} {tag})", number), contents
+
+    def tag(self, tag_class: str, constructed: str, number: int) -> str:
+        return f"({self.page.word('marker_tag')} {tag_class} {constructed} {number})"
+
+
+def automatic_number(parts: tuple[Field, ...], part: Field) -> int | None:
+    """The number of a component's automatic tag (25.7, 25.8): those of the root first, and then the additions."""
+    if part.env.scope.module.tag_default is not TagDefault.AUTOMATIC:
+        return None
+    written = [one.component for one in parts]
+    if not all(is_wrapped(one) for one in written) or are_tagged([unwrapped(one) for one in written]):
+        return None
+    root = [one for one in parts if not one.component.is_addition]
+    additions = [one for one in parts if one.component.is_addition]
+    return (root + additions).index(part)
+
+
+def is_wrapped(component: Component) -> bool:
+    """Whether the resolver put a tag before a component: it has the component's place."""
+    return isinstance(component.type, TaggedType) and component.type.place == component.place
+
+
+def unwrapped(component: Component) -> Component:
+    assert isinstance(component.type, TaggedType)
+    return replace(component, type=component.type.type)
+
+
+def named_in(definition: Definition) -> list[Definition]:
+    """The definitions that a definition names."""
+    found: list[Definition] = []
+
+    def look(type_: Resolved | None) -> None:
+        if isinstance(type_, Use):
+            found.append(type_.definition)
+        elif isinstance(type_, Listed):
+            look(type_.item)
+        elif isinstance(type_, Tagged):
+            look(type_.of)
+
+    if isinstance(definition, Alias):
+        look(definition.type)
+    if isinstance(definition, List):
+        look(definition.item)
+    for part in (*getattr(definition, "fields", ()), *getattr(definition, "alternatives", ())):
+        look(part.type)
+    return found

@@ -1,0 +1,110 @@
+"""The markers of tags: the type that stands for the one tag of a type."""
+
+from __future__ import annotations
+
+from ..errors import AsnError, Place
+from ..model import (
+    Alias,
+    Choice,
+    Definition,
+    Enumeration,
+    Kept,
+    Leaf,
+    List,
+    Listed,
+    Resolved,
+    Struct,
+    Tag,
+    Tagged,
+    Use,
+    Whole,
+)
+from .source import Source
+from .types import CHARACTERS
+
+MARKERS = {
+    Whole.BOOLEAN: "BooleanTag",
+    Whole.NULL: "NullTag",
+    Whole.MACHINE_INTEGER: "IntegerTag",
+    Whole.INTEGER: "IntegerTag",
+    Whole.NATURAL: "IntegerTag",
+    Whole.BIT_STRING: "BitStringTag",
+    Whole.OCTET_STRING: "OctetStringTag",
+    Whole.OBJECT_IDENTIFIER: "ObjectIdentifierTag",
+    Whole.UTC_TIME: "UtcTimeTag",
+    Whole.GENERALIZED_TIME: "GeneralizedTimeTag",
+    Whole.UTF8_STRING: "Utf8StringTag",
+    Whole.GENERAL_STRING: "GeneralStringTag",
+    Whole.BMP_STRING: "BmpStringTag",
+    Whole.UNREAD_SEQUENCE: "SequenceTag",
+}
+
+
+def of_definition(source: Source, definition: Struct | List | Enumeration) -> str:
+    """The marker of a type that is written: its own tag's, or an implicit one in its place."""
+    if isinstance(definition, Enumeration):
+        own = f"{definition.rust}Tag"
+    else:
+        own = source.use("SetTag" if definition.is_set else "SequenceTag")
+    return own if definition.tag is None else implicit(source, own, definition.tag)
+
+
+def implicit(source: Source, own: str, tag: Tag) -> str:
+    return f"{source.use('ImplicitTag')}<{own}, {tag.tag_class}, {tag.number}>"
+
+
+def of_type(source: Source, type_: Resolved) -> str:
+    """The marker of a type with one tag."""
+    if isinstance(type_, Leaf):
+        if type_.whole in CHARACTERS:
+            return f"{source.use('CharacterStringTag')}<{CHARACTERS[type_.whole]}>"
+        return source.use(MARKERS[type_.whole])
+    if isinstance(type_, Listed):
+        return source.use("SetTag" if type_.is_set else "SequenceTag")
+    if isinstance(type_, Tagged):
+        if type_.is_explicit:
+            return f"{source.use('ExplicitTag')}<{type_.tag.tag_class}, {type_.tag.number}>"
+        return implicit(source, of_type(source, type_.of), type_.tag)
+    if isinstance(type_, Kept):
+        return of_type(source, type_.of)
+    definition = type_.definition
+    if isinstance(definition, Alias):
+        assert definition.type is not None
+        return of_type(source, definition.type)
+    assert isinstance(definition, (Struct, List, Enumeration))
+    if isinstance(definition, Enumeration) and definition.tag is None:
+        return source.use_beside(definition, f"{definition.rust}Tag")
+    return of_definition(source, definition)
+
+
+def check_sets(definition: Definition) -> None:
+    """The items of a set have one tag, as long as the library names no order of others."""
+    if isinstance(definition, List) and definition.is_set:
+        assert definition.item is not None
+        check_item(definition.place, definition.item)
+    if isinstance(definition, Alias) and definition.type is not None:
+        check_within(definition.place, definition.type)
+    for part in (*getattr(definition, "fields", ()), *getattr(definition, "alternatives", ())):
+        check_within(part.place, part.type)
+
+
+def check_within(place: Place, type_: Resolved) -> None:
+    if isinstance(type_, Listed):
+        if type_.is_set:
+            check_item(place, type_.item)
+        check_within(place, type_.item)
+    if isinstance(type_, Tagged):
+        check_within(place, type_.of)
+
+
+def check_item(place: Place, item: Resolved) -> None:
+    while isinstance(item, Use) and isinstance(item.definition, Alias):
+        assert item.definition.type is not None
+        item = item.definition.type
+    is_any = isinstance(item, Leaf) and item.whole is Whole.ANY
+    if is_any or (isinstance(item, Use) and isinstance(item.definition, Choice)):
+        raise AsnError(
+            place,
+            "a SET OF any value, or of a CHOICE, is not written yet",
+            "write '-- @omit' after the assignment, and '-- @unread' where it is named",
+        )

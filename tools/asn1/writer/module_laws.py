@@ -1,0 +1,129 @@
+"""The laws of a module: what is read as a type is what its page says, and its octets are those of its fields by name."""
+
+from __future__ import annotations
+
+from ..model import Definition, Enumeration, Leaf, Presence, Resolved, ResolvedModule, Struct, Tagged, Use, Whole
+from ..properties import properties_of_definition
+from ..spelling import snake
+from . import docs
+from .fields import Member, members_of
+from .grammar import CLASSES, word_of
+from .laws import named
+from .names import ASN1
+from .plan import Plan
+from .source import Source
+from .types import lifetime_of, rust_type
+
+CLASS_WORDS = {one.value: word for one, word in CLASSES.items()}
+
+
+def write_laws(plan: Plan, module: ResolvedModule) -> str:
+    """The source file of a module's laws."""
+    source = Source(plan, plan.targets[module.name])
+    source.word("≡")
+    source.page_word(ASN1, "parse_of")
+    for definition in module.definitions:
+        source.add(grammar_law(source, definition))
+        if isinstance(definition, Struct):
+            source.add(octets_law(source, definition))
+    return source.text([f"//! The laws of {module.name}: functions that do nothing, and promise what holds of its types."])
+
+
+def whole(source: Source, definition: Definition) -> tuple[str, str]:
+    """A type, and its lifetime."""
+    lifetime = lifetime_of(properties_of_definition(definition).borrows)
+    return source.use_type(definition) + lifetime, lifetime
+
+
+def grammar_law(source: Source, definition: Definition) -> str:
+    """That what octets are parsed as is what the page says."""
+    type_, lifetime = whole(source, definition)
+    target = source.target
+    word = source.page_word(f"{target.crate}.specs.{target.page}.Grammar", word_of(definition))
+    form = f"⟦<{type_} as {source.use('Form')}>⟧"
+    head = docs.doc(f"What is read as `{definition.name}` is what the page of the grammar says.")
+    return (
+        f"{head}\npub fn grammar_of_{word}{lifetime}()\n"
+        f"    ensures {{ {form}.{source.member('parse')} ≡ parse_of {word} }}\n{{}}"
+    )
+
+
+# ---- the octets by the names of the fields
+
+
+def octets_law(source: Source, struct: Struct) -> str:
+    """That the contents octets are the encodings of the fields, one after another."""
+    type_, lifetime = whole(source, struct)
+    target = source.target
+    name = snake(struct.rust)
+    words = f"{name}_fields"
+    source.page_word(f"{target.crate}.specs.{target.page}.{struct.rust} as {words}", "")
+    source.page_word(ASN1, "joined")
+    source.word("[]")
+    source.word("∷")
+    octets = [member_octets(source, member, f"({words}.{member.name} v)") for member in members_of(struct)]
+    listed = "\n        ∷ ".join([*octets, "[]"])
+    contents = f"⟦<{type_} as {source.use('FormValue')}>⟧.{source.member('value')}.{source.member('contents')} v"
+    head = docs.doc(f"The contents octets of `{struct.name}` are the encodings of its fields, one after another.")
+    logic = source.logic_name(struct)
+    path = "::".join("crate" if part == target.crate else part for part in ASN1.split("."))
+    has_held = any(member.is_optional and member.way for member in members_of(struct))
+    lemma = f"#[tactic(auto, using({path}::optional_of))]\n" if has_held else ""
+    return (
+        f"{head}\n{lemma}"
+        f"pub fn octets_of_{name}{lifetime}()\n"
+        f"    ensures {{ (v : {logic}) → {contents} ≡ joined (\n        {listed}) }}\n{{}}"
+    )
+
+
+def member_octets(source: Source, member: Member, value: str) -> str:
+    """The octets of a field, from its value."""
+    type_ = member.field.type
+    if member.field.presence is Presence.OPTIONAL:
+        return f"{source.page_word(ASN1, 'optional')} (λ x. {encoding(source, type_, 'x')}) {value}"
+    if member.field.presence is Presence.DEFAULT:
+        word = source.page_word(ASN1, "unless_default")
+        return f"{word} {default_octets(source, member)} {encoding(source, type_, value)}"
+    return encoding(source, type_, value)
+
+
+def default_octets(source: Source, member: Member) -> str:
+    """The encoding of the default."""
+    part = member.field
+    inner = "DefaultFalse" if part.default is False else f"DefaultNumber<{part.default}>"
+    source.use("DefaultFalse" if part.default is False else "DefaultNumber")
+    return f"⟦<{inner} as {source.use('DefaultOf')}<{rust_type(source, part.type)}>>⟧.{source.member('octets')}"
+
+
+def encoding(source: Source, type_: Resolved, value: str) -> str:
+    """The encoding of a value after the tags of a type."""
+    if not isinstance(type_, Tagged):
+        return f"(⟦<{rust_type(source, type_)} as Form>⟧.{source.member('encoding')} {value})"
+    place = f"{source.page_word(ASN1, CLASS_WORDS[type_.tag.tag_class])}"
+    if type_.is_explicit:
+        word = source.page_word(ASN1, "explicit_encoding")
+        return f"({word} {place} {type_.tag.number} {encoding(source, type_.of, value)})"
+    word = source.page_word(ASN1, "implicit_encoding")
+    form = source.word("true" if is_constructed(type_.of) else "false")
+    return f"({word} {place} {form} {type_.tag.number} {contents_of(source, type_.of, value)})"
+
+
+def contents_of(source: Source, type_: Resolved, value: str) -> str:
+    """The contents octets of a value after the tags of a type."""
+    if not isinstance(type_, Tagged):
+        form = f"⟦<{rust_type(source, type_)} as FormValue>⟧.{source.member('value')}"
+        return f"({form}.{source.member('contents')} {value})"
+    if type_.is_explicit:
+        return f"({encoding(source, type_.of, value)} {source.word('++')} {source.word('[]')})"
+    return contents_of(source, type_.of, value)
+
+
+def is_constructed(type_: Resolved) -> bool:
+    """Whether a type with one tag is encoded from the encodings of others (X.690 8.1.2.5)."""
+    type_ = named(type_)
+    if isinstance(type_, Tagged):
+        return type_.is_explicit or is_constructed(type_.of)
+    if isinstance(type_, Leaf):
+        return type_.whole is Whole.UNREAD_SEQUENCE
+    return not (isinstance(type_, Use) and isinstance(type_.definition, Enumeration))
+

@@ -1,0 +1,43 @@
+"""The pages of specs/ that name the fields of a struct, and the items of a list."""
+
+from __future__ import annotations
+
+from ..model import List, Struct
+from .fields import Member, members_of
+from .plan import Plan
+from .source import Page
+from .types import closed, logic_type, plain
+
+
+def write_struct_page(plan: Plan, struct: Struct) -> str:
+    """The fields of a struct, by their names."""
+    page = Page(plan, plan.of(struct), f"-- The fields of {struct.name}, by their names.")
+    whole = page.logic_type(struct)
+    for member in members_of(struct):
+        page.add(projection(page, whole, member))
+    return page.text()
+
+
+def projection(page: Page, whole: str, member: Member) -> str:
+    """A field of a value: after its tags, and with no default."""
+    type_ = logic_type(page, plain(member.field.type))
+    place = f"v.fields{member.place}"
+    comment = f"-- {member.field.name} {member.field.text}"
+    if not member.is_optional:
+        return f"{comment}\nabbrev pub {member.name} : {whole} → {type_}\n{member.name} v = {place}{member.way}"
+    if member.way:
+        place = f"{page.word('option_map')} (λ x. x{member.way}) {place}"
+    option = f"{page.logic('Option')} {closed(type_)}"
+    return f"{comment}\nabbrev pub {member.name} : {whole} → {option}\n{member.name} v = {place}"
+
+
+def write_list_page(plan: Plan, definition: List) -> str:
+    """The items of a list."""
+    assert definition.item is not None
+    page = Page(plan, plan.of(definition), f"-- The items of {definition.name}.")
+    whole = page.logic_type(definition)
+    item = closed(logic_type(page, definition.item))
+    listed = page.word("List")
+    items = "v.items" if definition.is_set else "v.items.items"
+    page.add(f"abbrev pub items_of : {whole} → {listed} {item}\nitems_of v = {items}")
+    return page.text()

@@ -1,0 +1,146 @@
+"""A source file of Rattle while it is written: its text, and what it imports."""
+
+from __future__ import annotations
+
+from ..model import Definition
+from .names import LOGIC, MEMBERS, RUST, WORDS
+from .plan import Plan, Target
+
+# Names that a file uses and that no type of ASN.1 may have beside them.
+PRELUDE = frozenset(["Err", "None", "Ok", "Option", "Result", "Self", "Some", "Vec", "Box", "String"])
+
+
+class Source:
+    """One file of src/."""
+
+    def __init__(self, plan: Plan, target: Target) -> None:
+        self.plan = plan
+        self.target = target
+        self.parts: list[str] = []
+        self.imports: dict[str, set[str]] = {}
+        self.words: dict[str, set[str]] = {}
+
+    # ---- names
+
+    def use(self, key: str) -> str:
+        """An item of the library, which is imported."""
+        crate, name = RUST[key]
+        self.imports.setdefault(crate, set()).add(name)
+        return name
+
+    def use_type(self, definition: Definition) -> str:
+        """A type that is written too, which is imported from where it stands."""
+        target = self.plan.of(definition)
+        if target.crate != self.target.crate:
+            path = f"{target.crate}::{target.module}"
+        else:
+            path = f"crate::{target.module}::{self.plan.file(definition)}"
+        self.imports.setdefault(path, set()).add(definition.rust)
+        return definition.rust
+
+    def use_beside(self, definition: Definition, name: str) -> str:
+        """An item that stands in the file of a type that is written too."""
+        self.use_type(definition)
+        path = next(path for path, names in self.imports.items() if definition.rust in names)
+        self.imports[path].discard(definition.rust)
+        self.imports[path].add(name)
+        return name
+
+    def logic_name(self, definition: Definition) -> str:
+        """A type that is written too, as the logic has it."""
+        target = self.plan.of(definition)
+        module = f"{target.crate}.specs.declared.{target.module}.{self.plan.file(definition)}.{definition.rust}"
+        return self.page_word(module, definition.rust)
+
+    def word(self, key: str) -> str:
+        """A word of the logic, which is imported; operators are written as they are."""
+        module, name = WORDS[key]
+        self.words.setdefault(module, set()).add(name)
+        return key if name.startswith("◌") else name
+
+    def page_word(self, module: str, name: str) -> str:
+        """A word of a page that is written too."""
+        self.words.setdefault(module, set()).add(name)
+        return name
+
+    @staticmethod
+    def member(key: str) -> str:
+        """A member of a trait, a record or a struct of the library."""
+        return MEMBERS[key]
+
+    # ---- text
+
+    def add(self, text: str) -> None:
+        """An item, with an empty line before it."""
+        self.parts.append(text.strip("\n"))
+
+    def text(self, first: list[str]) -> str:
+        """The file: its first lines, its imports, and its items."""
+        lines = [*first, ""]
+        for module in sorted(self.words, key=order_of):
+            lines.append(f"ghost use Rattle.{imported(module, self.words[module])};")
+        lines.append("")
+        for path in sorted(path for path in self.imports):
+            names = sorted(self.imports[path])
+            listed = names[0] if len(names) == 1 else f"{{{', '.join(names)}}}"
+            lines.append(f"use {path}::{listed};")
+        lines += ["", "\n\n".join(self.parts), ""]
+        return "\n".join(lines)
+
+
+def order_of(module: str) -> tuple[int, str]:
+    """The standard library's words stand first."""
+    return (0 if module.startswith("std.") else 1, module)
+
+
+def imported(module: str, names: set[str]) -> str:
+    """Words of a module, or the module itself by another name."""
+    return module if " as " in module else f"{module}.{{{', '.join(sorted_words(names))}}}"
+
+
+def sorted_words(names: set[str]) -> list[str]:
+    """Operators first."""
+    return sorted(names, key=lambda name: (not name.startswith("◌"), name))
+
+
+class Page:
+    """One file of specs/: what it imports, and its definitions."""
+
+    def __init__(self, plan: Plan, target: Target, first: str) -> None:
+        self.plan = plan
+        self.target = target
+        self.first = first
+        self.words: dict[str, set[str]] = {}
+        self.parts: list[str] = []
+
+    def word(self, key: str) -> str:
+        module, name = WORDS[key]
+        self.words.setdefault(module, set()).add(name)
+        return key if name.startswith("◌") else name
+
+    def from_module(self, module: str, name: str) -> str:
+        self.words.setdefault(module, set()).add(name)
+        return name
+
+    def logic(self, key: str) -> str:
+        """A type of the library, as the logic has it."""
+        module, name = LOGIC[key]
+        if module is not None:
+            self.words.setdefault(module, set()).add(name)
+        return name
+
+    def logic_type(self, definition: Definition) -> str:
+        """A type that is written too, as the logic has it."""
+        target = self.plan.of(definition)
+        module = f"{target.crate}.specs.declared.{target.module}.{self.plan.file(definition)}.{definition.rust}"
+        self.words.setdefault(module, set()).add(definition.rust)
+        return definition.rust
+
+    def add(self, text: str) -> None:
+        self.parts.append(text)
+
+    def text(self) -> str:
+        lines = [self.first]
+        for module in sorted(self.words, key=order_of):
+            lines.append(f"use Rattle.{imported(module, self.words[module])}")
+        return "\n".join(lines) + "\n\n" + "\n\n".join(self.parts) + "\n"

@@ -1,0 +1,216 @@
+"""A SEQUENCE, or a SET whose fields stand in the order of their tags, as a struct over the list of its fields."""
+
+from __future__ import annotations
+
+from ..model import Presence, Struct
+from ..properties import properties_of_definition
+from ..spelling import snake
+from . import docs, markers
+from .fields import AT_ONCE, TAIL, Member, list_type, members_of, place_within
+from .plan import Plan
+from .source import Source
+from .types import has_order, inner_name, lifetime_of, wrapped
+from .laws import Laws
+from .values import (
+    code_traits,
+    contents_equality,
+    copy_is_duplicate,
+    derives,
+    duplicate_value,
+    one_tag,
+    value_order,
+)
+
+
+def write_struct(plan: Plan, struct: Struct) -> str:
+    """The source file of a SEQUENCE."""
+    source = Source(plan, plan.of(struct))
+    members = members_of(struct)
+    lifetime = lifetime_of(properties_of_definition(struct).borrows)
+    types = [member.list_type(source) for member in members]
+    source.add(f"/// The list of the fields.\ntype Fields{lifetime} = {list_type(source, types)};")
+    source.add(declaration(struct, lifetime))
+    source.add(own_calls(source, struct, members, lifetime))
+    one_tag(source, struct, struct.rust + lifetime, lifetime, markers.of_definition(source, struct))
+    whole = f"Fields{lifetime}"
+    turbofish = f"Fields::{lifetime}" if lifetime else "Fields"
+    source.add(
+        f"impl{lifetime} {source.use('FormValue')} for {struct.rust}{lifetime} {{\n"
+        f"    ghost {source.member('value')} = {{ {source.word('mapped_format')} (λ v. v.fields) "
+        f"⟦<{whole} as {source.use('FieldList')}>⟧.{source.member('list')}.{source.member('octets')} }};\n}}"
+    )
+    code_traits(source, struct, lifetime, "fields", turbofish, is_list_of_fields=True)
+    if all(has_order(part.type) for part in struct.fields):
+        value_order(source, struct.rust + lifetime, lifetime, "self.fields.cmp_fields(&other.fields)", "FieldsOrd")
+    equality_and_copies(source, struct, lifetime)
+    return source.text(first_lines(struct))
+
+
+def equality_and_copies(source: Source, struct: Struct, lifetime: str) -> None:
+    """Both by those of the fields."""
+    laws, whole = Laws(source), struct.rust + lifetime
+    fields = struct.fields
+    contents_equality(source, whole, lifetime, f"{laws.list_equality(fields)}.equal v.fields.list w.fields.list")
+    if properties_of_definition(struct).is_copy:
+        copy_is_duplicate(source, whole, lifetime)
+        return
+    copies = laws.list_copies(fields)
+    terms = (
+        f"λ v w. {copies}.list.joined v.fields.list w.fields.list",
+        f"λ v w x. {copies}.list.comparable v.fields.list w.fields.list x.fields.list",
+        f"λ v w. {copies}.list.re_read v.fields.list w.fields.list",
+        f"λ v w. {copies}.equal v.fields.list w.fields.list",
+    )
+    duplicate_value(source, struct, lifetime, ("fields", f"Fields{lifetime}", "DuplicateFields"), terms, "")
+
+
+def first_lines(struct: Struct) -> list[str]:
+    kind = "SET" if struct.is_set else "SEQUENCE"
+    return [f"//! {struct.name}, a {kind} of {len(struct.fields)} field{'s' if len(struct.fields) != 1 else ''}."]
+
+
+def declaration(struct: Struct, lifetime: str) -> str:
+    more = ["The fields are encoded in the order of their tags (X.690 10.3)."] if struct.is_set else []
+    return (
+        f"{docs.of_definition(struct, *more, docs.errors(struct))}\n{derives(struct)}\n"
+        f"pub struct {struct.rust}{lifetime} {{\n    fields: Fields{lifetime},\n}}"
+    )
+
+
+# ---- the calls of a user
+
+
+def own_calls(source: Source, struct: Struct, members: list[Member], lifetime: str) -> str:
+    """`new`, `into_parts`, and an accessor a field, each with its clauses."""
+    words = page_of(source, struct)
+    parts = [
+        f"    ghost use Rattle.{source.target.crate}.specs.{source.target.page}.{struct.rust} as {words};",
+        new_call(source, struct, members, lifetime, words),
+    ]
+    if not properties_of_definition(struct).is_copy:
+        parts.append(into_parts_call(source, members, words))
+    if any(member.is_optional and not member.is_small for member in members):
+        parts.insert(1, "    ghost use Rattle.std.specs.Prelude.{option_copied};")
+        parts[0:2] = ["\n".join(parts[0:2])]
+    parts += [accessor(source, member, words) for member in members]
+    source.word("≡")
+    return f"impl{lifetime} {struct.rust}{lifetime} {{\n" + "\n\n".join(parts) + "\n}"
+
+
+def page_of(source: Source, struct: Struct) -> str:
+    """The name by which clauses call the page of a struct's fields."""
+    return snake(struct.rust)
+
+
+def new_call(source: Source, struct: Struct, members: list[Member], lifetime: str, words: str) -> str:
+    """`new`, from the values of all fields."""
+    parameters = ", ".join(f"{member.local}: {member.parameter_type(source)}" for member in members)
+    clauses = "".join(
+        f"\n        ensures {member.name} {{ {words}.{member.name} result ≡ {entry(member)} }}" for member in members
+    )
+    return (
+        f"{docs.doc('A value of these fields.', indent='    ')}\n"
+        f"    pub fn new({parameters}) -> {struct.rust}{lifetime}{clauses}\n    {{\n"
+        f"{list_lets(source, members)}        {struct.rust} {{ fields }}\n    }}"
+    )
+
+
+def entry(member: Member) -> str:
+    """A value that came as a parameter, as clauses call it."""
+    if member.is_lent:
+        return f"option_copied {member.local}.entry" if member.is_optional else f"{member.local}.now"
+    return f"{member.local}.entry" if member.borrows else member.local
+
+
+def list_lets(source: Source, members: list[Member]) -> str:
+    """The list of the values, from the last on: calls take no struct of fields that borrow."""
+    field, lines = source.use("Field"), []
+    for member in reversed(members):
+        is_last, is_head = member is members[-1], member.index % AT_ONCE == 0
+        rest = f"rest: {source.use('End')}" if is_last else "rest"
+        lines.append(f"let first = {in_list(source, member)};")
+        lines.append(f"let {'list' if is_head else 'rest'} = {field} {{ first, {rest} }};")
+        if is_head:
+            whole = source.use(f"Fields{min(AT_ONCE, len(members) - member.index)}")
+            lines.append(f"let {'rest' if member.index else 'fields'} = {whole} {{ list }};")
+    return "".join(f"        {line}\n" for line in lines)
+
+
+def in_list(source: Source, member: Member) -> str:
+    """The value of a field, after its tags and with its default, if it has any."""
+    if not member.way and not member.is_lent:
+        return member.local
+    name = inner_name(member.field.type) if member.is_optional else member.local
+    value = f"{source.use('copy_of')}({name})" if member.is_lent else name
+    inner = wrapped(source, member.field.type, value)
+    if member.is_optional:
+        return f"match {member.local} {{ Some({name}) => Some({inner}), None => None, }}"
+    if member.field.presence is Presence.DEFAULT:
+        return f"{source.use('WithDefault')}::new({inner})"
+    return inner
+
+
+def into_parts_call(source: Source, members: list[Member], words: str) -> str:
+    """`into_parts`, the values of all fields."""
+    types = [member.value_type(source) for member in members]
+    result = types[0] if len(types) == 1 else f"({', '.join(types)})"
+    whole = "self.entry" if any(member.borrows for member in members) else "self"
+    clauses = "".join(
+        f"\n        ensures {member.name} {{ {words}.{member.name} {whole} ≡ result{'' if len(types) == 1 else f'.{i}'} }}"
+        for i, member in enumerate(members)
+    )
+    lets = "".join(f"        {line}\n" for line in parts_lets(members))
+    last = members[0].local if len(types) == 1 else f"({', '.join(member.local for member in members)})"
+    return (
+        f"{docs.doc('The values of the fields, in their order.', indent='    ')}\n"
+        f"    pub fn into_parts(self) -> {result}{clauses}\n    {{\n{lets}        {last}\n    }}"
+    )
+
+
+def parts_lets(members: list[Member]) -> list[str]:
+    """Each value by its field's name."""
+    lines = ["let fields = self.fields;"]
+    for member in members:
+        if member.index and member.index % AT_ONCE == 0:
+            lines.append(f"let tail = {'tail' if member.index > AT_ONCE else 'fields'}{TAIL};")
+        place = f"{'tail' if member.index >= AT_ONCE else 'fields'}{place_within(member.index)}"
+        if member.is_optional and member.way:
+            value = f"match {place} {{ Some(tagged) => Some(tagged{member.way}), None => None, }}"
+        else:
+            value = place + ("" if member.is_optional else member.way)
+        lines.append(f"let {member.local} = {value};")
+    return lines
+
+
+def accessor(source: Source, member: Member, words: str) -> str:
+    """The call that gives a field by its name: a small value itself, another by reference."""
+    head = docs.doc(f"`{member.field.name}`, `{member.field.text}`.", indent="    ")
+    lets, place = accessor_place(member)
+    of = f"{words}.{member.name} self.now"
+    value_type = member.value_type(source)
+    if member.is_optional and member.is_small:
+        body = place if not member.way else option_match(place, f"tagged{member.way}")
+        return call(head, member.name, value_type, f"result ≡ {of}", lets + body)
+    if member.is_optional:
+        inner = value_type[len("Option<") : -1]
+        body = option_match(f"&{place}", f"&value{member.way}" if member.way else "value")
+        body = body.replace("Some(tagged)", "Some(value)")
+        return call(head, member.name, f"Option<&{inner}>", f"option_copied result ≡ {of}", lets + body)
+    if member.is_small:
+        return call(head, member.name, value_type, f"result ≡ {of}", lets + place + member.way)
+    return call(head, member.name, f"&{value_type}", f"result.now ≡ {of}", f"{lets}&{place}{member.way}")
+
+
+def accessor_place(member: Member) -> tuple[str, str]:
+    """Where a field stands: in the part of the list that has it, which is named first where it is a tail."""
+    if member.index < AT_ONCE:
+        return "", f"self.fields{member.place}"
+    return f"let tail = &self.fields{TAIL * (member.index // AT_ONCE)};\n        ", f"tail{place_within(member.index)}"
+
+
+def option_match(place: str, inner: str) -> str:
+    return f"match {place} {{ Some(tagged) => Some({inner}), None => None, }}"
+
+
+def call(head: str, name: str, result: str, clause: str, body: str) -> str:
+    return f"{head}\n    pub fn {name}(&self) -> {result}\n        ensures {{ {clause} }}\n    {{\n        {body}\n    }}"

@@ -1,0 +1,127 @@
+"""The traits of a type with one tag, which hand on to the one member that it holds."""
+
+from __future__ import annotations
+
+from ..model import Definition, Struct
+from ..properties import properties_of_definition
+from .names import RUST
+from .source import Source
+
+
+def derives(definition: Definition) -> str:
+    """What the compiler derives: small values are copied."""
+    if properties_of_definition(definition).is_copy:
+        return "#[derive(Clone, Copy, Debug, PartialEq, Eq)]"
+    return "#[derive(Debug, PartialEq, Eq, Drop)]"
+
+
+def one_tag(source: Source, definition: Definition, whole: str, lifetime: str, marker: str) -> None:
+    """The tag, and that it is that of a SEQUENCE where it is."""
+    source.add(f"impl{lifetime} {source.use('OneTag')} for {whole} {{\n    type Marker = {marker};\n}}")
+    if marker == RUST["SequenceTag"][1]:
+        source.add(
+            f"impl<'a> {source.use('Sequence')}<'a> for {whole} {{\n"
+            f"    ghost {source.member('is_sequence')} = {{ {source.word('refl')} }};\n}}"
+        )
+
+
+def code_traits(
+    source: Source, definition: Definition, lifetime: str, member: str, held: str, is_list_of_fields: bool
+) -> None:
+    """Reading and writing of contents octets, by the member."""
+    decode_value(source, definition, lifetime, member, held, is_list_of_fields)
+    trait = "EncodeFields" if is_list_of_fields else "EncodeValue"
+    source.use(trait)
+    length = "fields_len" if is_list_of_fields else "value_len"
+    encode = "encode_fields" if is_list_of_fields else "encode_value"
+    error, len_type = source.use("Error"), source.use("Length")
+    source.add(
+        f"impl{lifetime} {source.use('EncodeValue')} for {definition.rust}{lifetime} {{\n"
+        f"    fn value_len(&self) -> Result<{len_type}, {error}> {{\n        self.{member}.{length}()\n    }}\n\n"
+        f"    fn encode_value<W: {source.use('Writer')}>(&self, writer: &mut W) -> Result<(), {error}> {{\n"
+        f"        self.{member}.{encode}(writer)\n    }}\n}}"
+    )
+
+
+def decode_value(
+    source: Source, definition: Definition, lifetime: str, member: str, held: str, is_list_of_fields: bool
+) -> None:
+    takes = "true" if properties_of_definition(definition).takes_memory else "false"
+    need, law = source.member("TAKES_MEMORY"), source.member("takes_memory_is")
+    source.word(takes)
+    source.word("refl")
+    if is_list_of_fields:
+        source.use("DecodeFields")
+    call = "decode_fields(alloc, reader)" if is_list_of_fields else "decode_value(alloc, reader, header)"
+    header = "_header" if is_list_of_fields else "header"
+    whole = f"{definition.rust}{lifetime}"
+    more = ", item: PhantomData" if isinstance_set(definition) else ""
+    source.add(
+        f"impl<'a, R: {source.use('Source')}<'a>> {source.use('DecodeValue')}<'a, R> for {whole} {{\n"
+        f"    ghost {need} = {{ {takes} }};\n\n    const {need}: bool = {takes};\n\n"
+        f"    fn decode_value(alloc: {source.use('Global')}, reader: &mut R, {header}: {source.use('Header')}) "
+        f"-> Result<{whole}, {source.use('Error')}> {{\n"
+        f"        match {held}::{call} {{\n            Ok({member}) => Ok({definition.rust} {{ {member}{more} }}),\n"
+        f"            Err(e) => Err(e),\n        }}\n    }}\n\n    ghost {law} = {{ refl }};\n}}"
+    )
+
+
+def isinstance_set(definition: Definition) -> bool:
+    """Whether a list is a SET OF, which names the tag of its items."""
+    return not isinstance(definition, Struct) and getattr(definition, "is_set", False)
+
+
+def value_order(source: Source, whole: str, lifetime: str, body: str, trait: str) -> None:
+    """The order of contents octets."""
+    source.use(trait)
+    source.add(
+        f"impl{lifetime} {source.use('ValueOrd')} for {whole} {{\n"
+        f"    fn value_cmp(&self, other: &{whole}) -> Result<{source.use('Ordering')}, {source.use('Error')}> {{\n"
+        f"        {body}\n    }}\n}}"
+    )
+
+
+def contents_equality(source: Source, whole: str, lifetime: str, term: str) -> None:
+    """That values are equal exactly where their contents octets are."""
+    source.add(
+        f"impl{lifetime} {source.use('ContentsEq')} for {whole} {{\n"
+        f"    ghost {source.member('contents_eq')} = {{ λ v w. {term} }};\n}}"
+    )
+
+
+def copy_is_duplicate(source: Source, whole: str, lifetime: str) -> None:
+    """A small value's copies are the value."""
+    source.add(f"impl{lifetime} {source.use('CopyIsDuplicate')} for {whole} {{}}")
+
+
+def duplicate_value(
+    source: Source,
+    definition: Definition,
+    lifetime: str,
+    held: tuple[str, str, str],
+    laws: tuple[str, str, str, str],
+    more: str,
+) -> None:
+    """Copies of a value, by those of its member: the member, its type, and the trait that copies it."""
+    member, type_, trait = held
+    source.use(trait)
+    is_list = trait == "DuplicateFields"
+    quote = f"⟦<{type_} as {trait}>⟧"
+    copied = source.member("are_copies" if is_list else "is_copy_value")
+    takes = source.member("take_memory_to_copy" if is_list else "takes_memory_to_copy_value")
+    call = "duplicate_fields" if is_list else "duplicate_value"
+    whole = definition.rust + lifetime
+    names = ("copy_contents", "copy_comparable_value", "copy_re_reads_value")
+    terms = "\n\n".join(f"    ghost {source.member(name)} = {{ {term} }};" for name, term in zip(names, laws))
+    source.add(
+        f"impl{lifetime} {source.use('DuplicateValue')} for {whole} {{\n"
+        f"    ghost {source.member('is_copy_value')} = {{ λ v w. {quote}.{copied} v.{member} w.{member} }};\n\n"
+        f"    ghost {source.member('takes_memory_to_copy_value')} = {{ {quote}.{takes} }};\n\n"
+        f"    fn duplicate_value(&self) -> Result<{whole}, {source.use('Error')}> {{\n"
+        f"        match self.{member}.{call}() {{\n            Ok({member}) => Ok({definition.rust} {{ {member}{more} }}),\n"
+        f"            Err(e) => Err(e),\n        }}\n    }}\n\n{terms}\n}}"
+    )
+    source.add(
+        f"impl{lifetime} {source.use('DuplicateValueIsEqual')} for {whole} {{\n"
+        f"    ghost {source.member('copy_value_is_equal')} = {{ {laws[3]} }};\n}}"
+    )

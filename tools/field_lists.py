@@ -1,0 +1,303 @@
+#!/usr/bin/env python3
+"""Writes the lists of one to eight fields, src/fields.rt of der_fields and src/fields/*.rt, which differ in nothing but their number of fields.
+
+usage: tools/field_lists.py [--check]
+
+A list hands on to the `Field` list that is its one member, and its laws are folds of what one field has. Run `rt fmt` in crates/der_fields
+afterwards. --check tells whether the files are what this writes, but for their layout."""
+import re
+import sys
+from pathlib import Path
+
+SOURCES = Path(__file__).resolve().parent.parent / "crates/der_fields/src"
+SIZES = ["one", "two", "three", "four", "five", "six", "seven", "eight"]
+PLACES = ["first", "second", "third", "fourth", "fifth", "sixth", "seventh", "eighth"]
+TYPES = "ABCDEFGH"
+
+ROOT_DOC = """\
+//! Lists of one to eight fields, told in one step (X.680 25).
+//!
+//! `Fields3<A, B, C>` is the list of three fields, and stands wherever a list does; so a SEQUENCE of
+//! them is `FieldSequence<Fields3<A, B, C>>`. Its octets are those of `Field<A, Field<B, Field<C,
+//! End>>>`, and what it asks of its fields is asked in one step, where that asks it a field at a time:
+//! a long list is checked soon. A ninth field stands after the eighth: `Fields8<.., Fields2<I, J>>`.
+//!
+//! The files of the lists are written by `tools/field_lists.py`.
+"""
+
+HEAD = """\
+//! %(title)s of a SEQUENCE, and those after, told in one step.
+
+ghost use Rattle.std.specs.Prelude.{◌≡◌, ◌||◌};
+ghost use Rattle.der_fields.specs.ListMakers.{part_of, field_list};
+ghost use Rattle.der_fields.specs.FieldLaws.{either_memory};
+ghost use Rattle.der_fields.specs.FieldSteps.{each, both, list_tags, tags_after, rest_starts, rest_equality, rest_copies, rest_distinct, starts_step, equality_step, copies_step, distinct_step};
+ghost use Rattle.der_fields.specs.Listing.{field, end};
+
+use crate::coded::{DecodeFields, EncodeFields};
+use crate::copied::DuplicateFields;
+use crate::distinct::DistinctTags;
+use crate::end::End;
+use crate::equal::FieldsEq;
+use crate::field::Field;
+use crate::field_list::FieldList;
+use crate::ordered::{FieldsFirstTag, FieldsOrd};
+use der_elem::{DecodeField, DerOrd, Duplicate, Encode, EncodingEq, FirstTag, Form, KnownTags};
+use der_tlv::{Error, Length, Source, Tag, Writer};
+use std::alloc::Global;
+use std::cmp::Ordering;
+"""
+
+STRUCT = """
+/// %(title)s, and those after.
+#[derive(Clone, Copy, Debug, PartialEq, Eq, Drop)]
+pub struct %(name)s<%(params)s, Rest = End> {
+    /// The list.
+    pub list: %(list)s,
+}
+
+impl<%(params)s> %(name)s<%(params)s> {
+    /// A list of %(these)s.
+    pub fn new(%(arguments)s) -> %(name)s<%(params)s>
+        ensures { result.list ≡ %(ended)s }
+    {
+        %(name)s::with_rest(%(places)s, End)
+    }
+
+    /// The %(counted)s.
+    pub fn into_parts(self) -> (%(params)s,)
+        ensures { self.list ≡ %(parts)s }
+    {
+        let list = self.list;
+        (%(taken)s,)
+    }
+}
+
+impl<%(params)s, Rest> %(name)s<%(params)s, Rest> {
+    /// A list of %(these)s, and of those after.
+    pub fn with_rest(%(arguments)s, rest: Rest) -> %(self)s
+        ensures { result.list ≡ %(whole)s }
+    {
+        %(built)s
+        %(name)s { list }
+    }
+%(accessors)s
+    /// The fields after.
+    pub fn rest(&self) -> &Rest
+        ensures { result.now ≡ self.now.%(behind)s }
+    {
+        &self.%(behind)s
+    }
+}
+"""
+
+ACCESSOR = """
+    /// The %(place)s field.
+    pub fn %(place)s(&self) -> &%(type)s
+        ensures { result.now ≡ self.now.%(at)s }
+    {
+        &self.%(at)s
+    }
+"""
+
+MEANING = """
+impl<%(form)s, Rest: FieldList> FieldList for %(self)s {
+    ghost list = { part_of (λ v. v.list) %(list_form)s };
+}
+"""
+
+CODE = """
+impl<'a, R: Source<'a>, %(decode_field)s, Rest: DecodeFields<'a, R>> DecodeFields<'a, R> for %(self)s {
+    ghost TAKES_MEMORY = { %(needs)s };
+
+    const TAKES_MEMORY: bool = %(needs_code)s;
+
+    fn decode_fields(alloc: Global, reader: &mut R) -> Result<%(self)s, Error> {
+        let list = %(list_path)s::decode_fields(alloc, reader)?;
+        Ok(%(name)s { list })
+    }
+
+    ghost takes_memory_is = { %(memory)s };
+}
+
+impl<%(encode)s, Rest: EncodeFields> EncodeFields for %(self)s {
+    fn fields_len(&self) -> Result<Length, Error> {
+        self.list.fields_len()
+    }
+
+    fn encode_fields<W: Writer>(&self, writer: &mut W) -> Result<(), Error> {
+        self.list.encode_fields(writer)
+    }
+}
+
+impl<%(first_tag)s, Rest: FieldsFirstTag> FieldsFirstTag for %(self)s {
+    fn fields_first_tag(&self) -> Option<Tag> {
+        self.list.fields_first_tag()
+    }
+
+    ghost starts_fields = { λ v. %(starts)s.starts v.list };
+}
+
+impl<%(ordered)s, Rest: FieldsOrd + FieldsFirstTag> FieldsOrd for %(self)s {
+    fn cmp_fields(&self, other: &%(self)s) -> Result<Ordering, Error> {
+        self.list.cmp_fields(&other.list)
+    }
+}
+"""
+
+LAWS = """
+impl<%(equal)s, Rest: FieldsEq + FieldsFirstTag> FieldsEq for %(self)s {
+    ghost fields_eq = { λ v w.
+        %(equality)s.equal v.list w.list };
+}
+
+impl<%(copied)s, Rest: DuplicateFields + FieldsFirstTag> DuplicateFields for %(self)s {
+    ghost are_copies = { λ v w. %(are_copies)s v.list w.list };
+
+    ghost take_memory_to_copy = { %(copy_memory)s };
+
+    fn duplicate_fields(&self) -> Result<%(self)s, Error> {
+        let list = self.list.duplicate_fields()?;
+        Ok(%(name)s { list })
+    }
+
+    ghost copy_joined = { λ v w.
+        %(copies)s.joined v.list w.list };
+
+    ghost copy_all_comparable = { λ v w x.
+        %(copies)s.comparable v.list w.list x.list };
+
+    ghost copy_re_read = { λ v w.
+        %(copies)s.re_read v.list w.list };
+}
+
+impl<%(known)s, Rest: DistinctTags> DistinctTags for %(self)s {
+    ghost first_tags = { %(tags)s.first };
+
+    ghost TAGS_ARE_DISTINCT = { %(tags)s.are_distinct };
+
+    ghost each_readable = { λ v. %(readable)s v.list };
+
+    ghost each_comparable = { λ v w. %(comparable)s v.list w.list };
+
+    ghost first_is_known = { λ v.
+        %(distinct)s.known v.list };
+
+    ghost readable_if_distinct = { λ e v.
+        %(distinct)s.readable e v.list };
+
+    ghost comparable_if_distinct = { λ e v w.
+        %(distinct)s.comparable e v.list w.list };
+}
+"""
+
+
+def at(place):
+    """The path of the field at this place, from the list's struct."""
+    return "list" + ".rest" * place + ".first"
+
+
+def source(size):
+    """The file of the list of this many fields."""
+    types, places = TYPES[:size], PLACES[:size]
+    name, params = f"Fields{size}", ", ".join(types)
+
+    def bounds(trait):
+        return ", ".join(f"{t}: {trait}" for t in types)
+
+    def nested(step, end):
+        """What a step makes of each field and of what it made of those behind, from the last field on."""
+        for place in reversed(range(size)):
+            end = step(place, types[place], end)
+        return end
+
+    def chain(step, end):
+        """The same, each step's words before those of the next, in parentheses from the second on."""
+        return nested(lambda place, t, rest: f"{step(place, t)} {rest}" if place == 0 else f"({step(place, t)} {rest})", end)
+
+    def fold(words, end, between=" "):
+        """A word of the list's laws, with what it takes of each field."""
+        step, *members = words.split()
+        return nested(lambda _, t, rest: f"({step} " + " ".join(f"{t}.{m}" for m in members) + f"{between}{rest})", end)
+
+    def rest(words):
+        """A word with what it takes of the fields behind."""
+        step, *members = words.split()
+        return f"({step} " + " ".join(f"Rest.{m}" for m in members) + ")"
+
+    def listed(end, places=places):
+        return chain(lambda place, _: f"field {places[place]}", end)
+
+    list_type = nested(lambda _, t, rest: f"Field<{t}, {rest}>", "Rest")
+    needs = chain(lambda _, t: f"{t}.DecodeField.TAKES_MEMORY ||", "Rest.DecodeFields.TAKES_MEMORY")
+    rest_tags = rest("list_tags first_tags TAGS_ARE_DISTINCT")
+    rest_copies = rest("rest_copies list starts_fields are_copies copy_joined copy_all_comparable copy_re_read")
+    rest_distinct = rest("rest_distinct list first_tags TAGS_ARE_DISTINCT each_readable each_comparable first_is_known readable_if_distinct comparable_if_distinct")
+    lines = "\n        "
+    words = {
+        "title": f"{SIZES[size - 1].capitalize()} field" + "s" * (size > 1),
+        "these": "this field" if size == 1 else "these fields",
+        "counted": "field" if size == 1 else "fields, in their order",
+        "name": name,
+        "params": params,
+        "self": f"{name}<{params}, Rest>",
+        "list": list_type,
+        "list_path": list_type.replace("<", "::<", 1),
+        "places": ", ".join(places),
+        "arguments": ", ".join(f"{p}: {t}" for p, t in zip(places, types)),
+        "ended": listed("end"),
+        "whole": listed("rest"),
+        "parts": listed("end", [f"result.{place}" for place in range(size)]),
+        "taken": ", ".join(at(place) for place in range(size)),
+        "built": lines.join(f"let rest = Field {{ first: {place}, rest }};" for place in reversed(places[1:])) + lines * (size > 1) + "let list = Field { first, rest };",
+        "accessors": "".join(ACCESSOR % {"place": p, "type": t, "at": at(place)} for place, (p, t) in enumerate(zip(places, types))),
+        "behind": "list" + ".rest" * size,
+        "form": bounds("Form"),
+        "list_form": fold("field_list Form", "Rest.list"),
+        "decode_field": bounds("DecodeField<'a, R>"),
+        "needs": needs,
+        "needs_code": chain(lambda _, t: f"<{t} as DecodeField<'a, R>>::TAKES_MEMORY ||", "<Rest as DecodeFields<'a, R>>::TAKES_MEMORY"),
+        "memory": chain(lambda _, t: f"either_memory {t}.DecodeField.takes_memory_is", "Rest.DecodeFields.takes_memory_is"),
+        "encode": bounds("Encode"),
+        "first_tag": bounds("FirstTag"),
+        "starts": fold("starts_step Form starts", rest("rest_starts list starts_fields")),
+        "ordered": bounds("DerOrd + FirstTag"),
+        "equal": bounds("EncodingEq + FirstTag"),
+        "equality": fold("equality_step Form eq encoding_eq starts own_first_tag same_beginning", rest("rest_equality list starts_fields eq fields_eq"), lines),
+        "copied": bounds("Duplicate + FirstTag"),
+        "are_copies": fold("both is_copy", "Rest.are_copies"),
+        "copy_memory": chain(lambda _, t: f"{t}.takes_memory_to_copy ||", "Rest.take_memory_to_copy"),
+        "copies": fold("copies_step Form is_copy starts copy_encoding copy_comparable copy_re_reads", rest_copies, lines),
+        "known": bounds("KnownTags + FirstTag"),
+        "tags": fold("tags_after MAY_BE_ABSENT known_tags", rest_tags),
+        "readable": fold("each readable", "Rest.each_readable"),
+        "comparable": fold("both comparable", "Rest.each_comparable"),
+        "distinct": fold("distinct_step Form known_tags MAY_BE_ABSENT own_first_tag are_known is_there", rest_distinct, lines),
+    }
+    return (HEAD + STRUCT + MEANING + CODE + LAWS) % words
+
+
+def root():
+    """The file that names the others."""
+    modules = "".join(f"mod {size};\n" for size in sorted(SIZES))
+    names = "".join(f"pub use {size}::Fields{SIZES.index(size) + 1};\n" for size in sorted(SIZES))
+    return f"{ROOT_DOC}\n{modules}\n{names}"
+
+
+def plain(text):
+    """The text without its layout."""
+    return re.sub(r"\s+", "", re.sub(r",(\s*[)>\]}])", r"\1", text))
+
+
+def main():
+    files = {SOURCES / "fields.rt": root()} | {SOURCES / "fields" / f"{word}.rt": source(size + 1) for size, word in enumerate(SIZES)}
+    if sys.argv[1:] == ["--check"]:
+        other = [path for path, text in files.items() if plain(path.read_text()) != plain(text)]
+        for path in other:
+            print(f"{path.relative_to(SOURCES.parent)} is not what tools/field_lists.py writes")
+        sys.exit(bool(other))
+    for path, text in files.items():
+        path.write_text(text)
+
+
+main()
