@@ -217,7 +217,10 @@ def main(words):
         Work(trials, builds, int(os.environ.get("JOBS") or len(os.sched_getaffinity(0)))).run()
     dearest = sorted((it for it in trials if it.took), key=lambda it: -it.took)[:10]
     say("dearest crates, in seconds: " + (", ".join(f"{it.crate.name} {it.took:.0f}" for it in dearest) or "none"))
-    failed = sum(len(it.faults) for it in trials)
+    faults = [(edit, why) for it in trials for edit, why in it.faults]
+    for edit, why in faults:
+        say(f"FAILED: {edit.label}: {why}")
+    failed = len(faults)
     print(f"{number - failed} passed, {failed} failed")
     return 1 if failed else 0
 

@@ -3,10 +3,10 @@
 
     python3 tests/refused.py [--built TREE]
 
-A file of tests/refused must not compile; its first line has what the check must say. A folder of tests/not-proved compiles,
-and the prover must refuse it: the file 'expects' has the crates that it stands on, and what the check must say; the sources
-end in .txt, since 'rt ci' takes no others outside of crates/. TREE is a copy of the repository in which 'rt ci' has built
-the crates; without it, what 'rt check' has built is taken."""
+A file of tests/refused must not compile; its first two lines have the crates that it stands on, and what the check must
+say. A folder of tests/not-proved compiles, and the prover must refuse it: the file 'expects' has the crates that it stands
+on, and what the check must say; the sources end in .txt, since 'rt ci' takes no others outside of crates/. TREE is a copy
+of the repository in which 'rt ci' has built the crates; without it, what 'rt check' has built is taken."""
 import glob
 import os
 import shutil
@@ -21,13 +21,13 @@ ROOT = os.path.dirname(os.path.dirname(os.path.abspath(__file__)))
 def copy_file(source, room):
     """Makes a crate of a file that must not compile; gives the crates that it stands on, and what the check must say."""
     with open(source, encoding="utf-8") as file:
-        first, _, rest = file.read().partition("\n")
+        first, second, rest = file.read().split("\n", 2)
     os.makedirs(f"{room}/src")
     os.makedirs(f"{room}/specs")
     for path, text in (("src/lib.rt", rest), ("specs/Lib.antt", "")):
         with open(f"{room}/{path}", "w", encoding="utf-8") as file:
             file.write(text)
-    return ["der_elem", "der_tlv"], first.removeprefix("expects: ")
+    return first.removeprefix("uses: ").split(), second.removeprefix("expects: ")
 
 
 def copy_folder(source, room):

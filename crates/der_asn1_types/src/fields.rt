@@ -5,8 +5,9 @@
 //! stand here once more.
 
 pub use der_fields::{
-    DecodeFields, DuplicateFields, DuplicateFieldsAreEqual, EncodeFields, ExplicitTag, FieldsEq,
-    FieldsFirstTag, FieldsOrd, ImplicitTag, cmp_headers,
+    DecodeFields, DuplicateFields, DuplicateFieldsAreEqual, EncodeFields, ExplicitApplicationTag,
+    ExplicitPrivateTag, ExplicitTag, FieldsEq, FieldsFirstTag, FieldsOrd, ImplicitApplicationTag,
+    ImplicitPrivateTag, ImplicitTag, cmp_headers,
 };
 
 /// The struct of a list's fields, as the body of `of_list`: `from_list!(list => Name { a, default b })`

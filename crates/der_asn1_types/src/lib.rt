@@ -29,9 +29,8 @@ pub use der_elem::{
 };
 pub use der_fields::{
     DefaultFalse, DefaultNumber, DefaultOf, DistinctTags, End, Explicit, ExplicitApplication,
-    ExplicitIn, ExplicitPrivate, Field, FieldList, FieldSequence, Fields1, Fields2, Fields3,
-    Fields4, Fields5, Fields6, Fields7, Fields8, Implicit, ImplicitApplication, ImplicitIn,
-    ImplicitPrivate, NamedFields, NamedSequence, OneOf, WithDefault, read_named_sequence,
+    ExplicitPrivate, Field, FieldList, FieldSequence, Fields1, Fields2, Fields3, Fields4, Fields5,
+    Fields6, Fields7, Fields8, Implicit, ImplicitApplication, ImplicitPrivate, NamedFields, NamedSequence, OneOf, WithDefault, read_named_sequence,
     read_sequence, write_named_sequence, write_sequence,
 };
 pub use der_nest::Asks;
@@ -40,4 +39,3 @@ pub use der_tlv::{
     BytesOwned, BytesRef, Class, Cursor, EncodingRules, Error, ErrorKind, Header, Length, Reader,
     SliceReader, SliceWriter, Source, Tag, TagMode, TagNumber, VecWriter, Writer,
 };
-pub use der_wrap::{TaggedValue, TaggedValueRef};

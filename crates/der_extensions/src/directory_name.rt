@@ -50,7 +50,7 @@ impl<'a> DirectoryName<'a> {
 }
 
 impl<'a> OneTag for DirectoryName<'a> {
-    type Marker = ExplicitTag<2, 4>;
+    type Marker = ExplicitTag<4>;
 }
 
 impl<'a> FormValue for DirectoryName<'a> {

@@ -97,7 +97,7 @@ impl<'a> ContentsEq for OtherName<'a> {
     ghost contents_eq = { λ v w one.
         let first = encoding_eq_tagged _ _ _ _ (identifier.contents_eq-law 39 (record { fits = lit< tt })) v.fields.first w.fields.first one.0 in
         let E = ⟦<Explicit<AnyRef<'a>, 0> as FormValue>⟧.value in
-        let value = encoding_eq_tagged ⟦<ExplicitTag<2, 0> as TagMarker>⟧.TAG E.contents E.comparable ⟦<Explicit<AnyRef<'a>, 0> as PartialEq>⟧.eq (λ v w one. eq_both _ _ _ _ [] [] (any.encoding_eq-law v.fields.first w.fields.first one.0) (λ _. refl, λ _. refl) (tlv_distinguished _ _ _ _ _ _)) v.fields.rest.first w.fields.rest.first one.1.0 in
+        let value = encoding_eq_tagged ⟦<ExplicitTag<0> as TagMarker>⟧.TAG E.contents E.comparable ⟦<Explicit<AnyRef<'a>, 0> as PartialEq>⟧.eq (λ v w one. eq_both _ _ _ _ [] [] (any.encoding_eq-law v.fields.first w.fields.first one.0) (λ _. refl, λ _. refl) (tlv_distinguished _ _ _ _ _ _)) v.fields.rest.first w.fields.rest.first one.1.0 in
         let rest = eq_both _ _ _ _ [] [] value (λ _. refl, λ _. refl) (tlv_distinguished _ _ _ _ _ _) in
         eq_both _ _ _ _ _ _ first rest (tlv_distinguished _ _ _ _ _ _) };
 }

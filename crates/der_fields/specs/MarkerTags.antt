@@ -9,7 +9,7 @@ use Rattle.der_tlv.specs.TagParts.{IsTag}
 abbrev pub tag_number : ℕ → ℕ
 tag_number n = if nat_lt n (2 ^ 32) then n else 0
 
--- the tag of a class with this form and number: class 1 is application, 2 context-specific, every other number private
+-- the tag of a class with this form and number: class 1 is application, 2 context-specific, 3 private (no type has another)
 abbrev pub marker_tag : ℕ → Bool → ℕ → Tag
 marker_tag bits constructed n =
     if bits == 1 then Application constructed (record { 0 = tag_number n })

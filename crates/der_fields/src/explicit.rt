@@ -13,7 +13,7 @@ use crate::end::End;
 use crate::equal::FieldsEq;
 use crate::field::Field;
 use crate::field_list::FieldList;
-use crate::marker_tag::ExplicitTag;
+use crate::marker_tag::ExplicitTagIn;
 use crate::ordered::FieldsOrd;
 use der_elem::{
     ContentsEq, DecodeValue, DuplicateValue, DuplicateValueIsEqual, EncodeValue, FormValue, OneTag,
@@ -24,7 +24,8 @@ use std::alloc::Global;
 use std::cmp::Ordering;
 
 /// Fields after a constructed tag of this class with this number. The class is bits 8 and 7 of the
-/// identifier: 1 is application, 2 context-specific, and every other number private.
+/// identifier. Only the names below give it outside this crate, so it is application (1),
+/// context-specific (2) or private (3).
 #[derive(Clone, Copy, Debug, PartialEq, Eq, Drop)]
 pub struct ExplicitIn<F, const CLASS: u8, const NUMBER: u32> {
     /// The fields.
@@ -41,7 +42,7 @@ pub type ExplicitApplication<T, const NUMBER: u32> = ExplicitIn<Field<T, End>, 1
 pub type ExplicitPrivate<T, const NUMBER: u32> = ExplicitIn<Field<T, End>, 3, NUMBER>;
 
 impl<F, const CLASS: u8, const NUMBER: u32> OneTag for ExplicitIn<F, CLASS, NUMBER> {
-    type Marker = ExplicitTag<CLASS, NUMBER>;
+    type Marker = ExplicitTagIn<CLASS, NUMBER>;
 }
 
 impl<F: FieldList, const CLASS: u8, const NUMBER: u32> FormValue for ExplicitIn<F, CLASS, NUMBER> {

@@ -7,7 +7,7 @@
 
 ghost use Rattle.der_elem.specs.FormatMakers.{mapped_format};
 
-use crate::marker_tag::ImplicitTag;
+use crate::marker_tag::ImplicitTagIn;
 use der_elem::{
     ContentsEq, DecodeValue, DuplicateValue, DuplicateValueIsEqual, EncodeValue, FormValue, OneTag,
     ValueOrd,
@@ -17,7 +17,8 @@ use std::alloc::Global;
 use std::cmp::Ordering;
 
 /// A value after a tag of this class with this number in place of its own. The class is bits 8 and 7
-/// of the identifier: 1 is application, 2 context-specific, and every other number private.
+/// of the identifier. Only the names below give it outside this crate, so it is application (1),
+/// context-specific (2) or private (3).
 #[derive(Clone, Copy, Debug, PartialEq, Eq, Drop)]
 pub struct ImplicitIn<T, const CLASS: u8, const NUMBER: u32> {
     /// The value.
@@ -34,7 +35,7 @@ pub type ImplicitApplication<T, const NUMBER: u32> = ImplicitIn<T, 1, NUMBER>;
 pub type ImplicitPrivate<T, const NUMBER: u32> = ImplicitIn<T, 3, NUMBER>;
 
 impl<T: OneTag, const CLASS: u8, const NUMBER: u32> OneTag for ImplicitIn<T, CLASS, NUMBER> {
-    type Marker = ImplicitTag<<T as OneTag>::Marker, CLASS, NUMBER>;
+    type Marker = ImplicitTagIn<<T as OneTag>::Marker, CLASS, NUMBER>;
 }
 
 impl<T: FormValue, const CLASS: u8, const NUMBER: u32> FormValue for ImplicitIn<T, CLASS, NUMBER> {

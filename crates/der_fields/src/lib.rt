@@ -47,13 +47,16 @@ pub use default::{DefaultFalse, DefaultNumber, DefaultOf};
 pub use distinct::DistinctTags;
 pub use end::End;
 pub use equal::FieldsEq;
-pub use explicit::{Explicit, ExplicitApplication, ExplicitIn, ExplicitPrivate};
+pub use explicit::{Explicit, ExplicitApplication, ExplicitPrivate};
 pub use field::Field;
 pub use field_list::FieldList;
 pub use field_sequence::{FieldSequence, read_sequence, write_sequence};
 pub use fields::{Fields1, Fields2, Fields3, Fields4, Fields5, Fields6, Fields7, Fields8};
-pub use implicit::{Implicit, ImplicitApplication, ImplicitIn, ImplicitPrivate};
-pub use marker_tag::{ExplicitTag, ImplicitTag};
+pub use implicit::{Implicit, ImplicitApplication, ImplicitPrivate};
+pub use marker_tag::{
+    ExplicitApplicationTag, ExplicitPrivateTag, ExplicitTag, ImplicitApplicationTag,
+    ImplicitPrivateTag, ImplicitTag,
+};
 pub use named::{NamedFields, NamedSequence, read_named_sequence, write_named_sequence};
 pub use one_of::{OneOf, cmp_headers};
 pub use ordered::{FieldsFirstTag, FieldsOrd};

@@ -9,11 +9,21 @@ use der_elem::TagMarker;
 use der_tlv::{Tag, TagNumber};
 use std::marker::PhantomData;
 
-/// The constructed tag of this class with this number. The class is bits 8 and 7 of the identifier: 1
-/// is application, 2 context-specific, and every other number private.
-pub struct ExplicitTag<const CLASS: u8, const NUMBER: u32>;
+/// The constructed tag of this class with this number. The class is bits 8 and 7 of the identifier. Only
+/// the names below give it outside this crate, so it is application (1), context-specific (2) or
+/// private (3).
+pub struct ExplicitTagIn<const CLASS: u8, const NUMBER: u32>;
 
-impl<const CLASS: u8, const NUMBER: u32> TagMarker for ExplicitTag<CLASS, NUMBER> {
+/// The tag of `[NUMBER] EXPLICIT`.
+pub type ExplicitTag<const NUMBER: u32> = ExplicitTagIn<2, NUMBER>;
+
+/// The tag of `[APPLICATION NUMBER] EXPLICIT`.
+pub type ExplicitApplicationTag<const NUMBER: u32> = ExplicitTagIn<1, NUMBER>;
+
+/// The tag of `[PRIVATE NUMBER] EXPLICIT`.
+pub type ExplicitPrivateTag<const NUMBER: u32> = ExplicitTagIn<3, NUMBER>;
+
+impl<const CLASS: u8, const NUMBER: u32> TagMarker for ExplicitTagIn<CLASS, NUMBER> {
     ghost TAG = { marker_tag CLASS true NUMBER };
 
     const TAG: Tag = if CLASS == 1 {
@@ -37,12 +47,21 @@ impl<const CLASS: u8, const NUMBER: u32> TagMarker for ExplicitTag<CLASS, NUMBER
 }
 
 /// The tag of this class with this number, which is constructed where the marked tag is. The class is
-/// numbered as that of `ExplicitTag`.
-pub struct ImplicitTag<M, const CLASS: u8, const NUMBER: u32> {
+/// numbered as that of `ExplicitTagIn`.
+pub struct ImplicitTagIn<M, const CLASS: u8, const NUMBER: u32> {
     of: PhantomData<M>,
 }
 
-impl<M: TagMarker, const CLASS: u8, const NUMBER: u32> TagMarker for ImplicitTag<M, CLASS, NUMBER> {
+/// The tag of `[NUMBER] IMPLICIT`.
+pub type ImplicitTag<M, const NUMBER: u32> = ImplicitTagIn<M, 2, NUMBER>;
+
+/// The tag of `[APPLICATION NUMBER] IMPLICIT`.
+pub type ImplicitApplicationTag<M, const NUMBER: u32> = ImplicitTagIn<M, 1, NUMBER>;
+
+/// The tag of `[PRIVATE NUMBER] IMPLICIT`.
+pub type ImplicitPrivateTag<M, const NUMBER: u32> = ImplicitTagIn<M, 3, NUMBER>;
+
+impl<M: TagMarker, const CLASS: u8, const NUMBER: u32> TagMarker for ImplicitTagIn<M, CLASS, NUMBER> {
     ghost TAG = { marker_tag CLASS (is_constructed M.TAG) NUMBER };
 
     const TAG: Tag = {

@@ -7,8 +7,8 @@ ghost use Rattle.der_wrap.specs.TaggedValues.{TagsExplicitly, TagsImplicitly};
 
 use der_tlv::{Class, EncodingRules, ErrorKind, Tag, TagNumber};
 
-/// The class of bits 8 and 7 of an identifier: 1 is application, 2 context-specific, and every
-/// other number private.
+/// The class of bits 8 and 7 of an identifier: 1 is application, 2 context-specific, and 3 private.
+/// No type has another number.
 pub fn class_of_bits(bits: u8) -> Class
     ensures { result ≡ class_of_bits bits }
 {

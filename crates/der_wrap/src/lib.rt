@@ -17,8 +17,8 @@ pub mod laws;
 mod tagged_value;
 mod tagged_value_ref;
 
-pub use tagged_value::TaggedValue;
-pub use tagged_value_ref::TaggedValueRef;
+use tagged_value::TaggedValue;
+use tagged_value_ref::TaggedValueRef;
 
 /// A value with a context-specific tag.
 pub type ContextSpecific<T> = TaggedValue<T, 2>;

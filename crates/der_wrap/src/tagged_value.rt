@@ -26,8 +26,9 @@ use der_tlv::{Error, Header, Length, Reader, Source, Tag, TagMode, TagNumber, Wr
 use std::alloc::Global;
 use std::cmp::Ordering;
 
-/// A value with a tag of its own class and number. The class is bits 8 and 7 of the identifier: 1 is
-/// application, 2 context-specific, and every other number private.
+/// A value with a tag of its own class and number. The class is bits 8 and 7 of the identifier. Only
+/// `Application` (1), `ContextSpecific` (2) and `Private` (3) name it outside this crate, so it is
+/// always one of these.
 ///
 /// The order is that of number, mode (explicit first) and value.
 #[derive(Clone, Copy, Debug, PartialEq, Eq, PartialOrd, Ord)]

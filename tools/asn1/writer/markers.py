@@ -20,7 +20,7 @@ from ..model import (
     Whole,
 )
 from .source import Source
-from .types import CHARACTERS
+from .types import CHARACTERS, tagging
 
 MARKERS = {
     Whole.BOOLEAN: "BooleanTag",
@@ -50,7 +50,7 @@ def of_definition(source: Source, definition: Struct | List | Enumeration) -> st
 
 
 def implicit(source: Source, own: str, tag: Tag) -> str:
-    return f"{source.use('ImplicitTag')}<{own}, {tag.tag_class}, {tag.number}>"
+    return f"{source.use(tagging(tag, False) + 'Tag')}<{own}, {tag.number}>"
 
 
 def of_type(source: Source, type_: Resolved) -> str:
@@ -63,7 +63,7 @@ def of_type(source: Source, type_: Resolved) -> str:
         return source.use("SetTag" if type_.is_set else "SequenceTag")
     if isinstance(type_, Tagged):
         if type_.is_explicit:
-            return f"{source.use('ExplicitTag')}<{type_.tag.tag_class}, {type_.tag.number}>"
+            return f"{source.use(tagging(type_.tag, True) + 'Tag')}<{type_.tag.number}>"
         return implicit(source, of_type(source, type_.of), type_.tag)
     if isinstance(type_, Kept):
         return of_type(source, type_.of)

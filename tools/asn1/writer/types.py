@@ -39,6 +39,11 @@ CLASSES = {TagClass.CONTEXT.value: "", TagClass.APPLICATION.value: "Application"
 # ---- in code
 
 
+def tagging(tag: Tag, is_explicit: bool) -> str:
+    """The library's name of explicit or implicit tagging with a tag's class."""
+    return ("Explicit" if is_explicit else "Implicit") + CLASSES[tag.tag_class]
+
+
 def rust_type(source: Source, type_: Resolved) -> str:
     """A type, with its lifetime if it has one."""
     if isinstance(type_, Leaf):
@@ -50,8 +55,7 @@ def rust_type(source: Source, type_: Resolved) -> str:
         item = rust_type(source, type_.item)
         return f"{source.use('SetOfVec')}<{item}>" if type_.is_set else f"Vec<{item}>"
     if isinstance(type_, Tagged):
-        kind = ("Explicit" if type_.is_explicit else "Implicit") + CLASSES[type_.tag.tag_class]
-        return f"{source.use(kind)}<{rust_type(source, type_.of)}, {type_.tag.number}>"
+        return f"{source.use(tagging(type_.tag, type_.is_explicit))}<{rust_type(source, type_.of)}, {type_.tag.number}>"
     raise NotImplementedError("a kept type")
 
 
@@ -114,8 +118,8 @@ def wrapped(source: Source, type_: Resolved, value: str) -> str:
     member = name if inner == name else f"{name}: {inner}"
     if type_.is_explicit:
         alone = f"{source.use('Field')} {{ {member}, rest: {source.use('End')} }}"
-        return f"{source.use('ExplicitIn')} {{ fields: {alone} }}"
-    return f"{source.use('ImplicitIn')} {{ {member} }}"
+        return f"{source.use(tagging(type_.tag, True))} {{ fields: {alone} }}"
+    return f"{source.use(tagging(type_.tag, False))} {{ {member} }}"
 
 
 def is_copy(type_: Resolved) -> bool:

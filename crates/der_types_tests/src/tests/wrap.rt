@@ -5,15 +5,14 @@ use der_elem::{Choice, Decode, DerOrd, Encode, FromDer, Tagged, TakesMemory, Val
 use der_opaque::{AnyRef, OctetStringRef};
 use der_tlv::{EncodingRules, Reader, SliceReader, Tag, TagMode, TagNumber};
 use der_wrap::{
-    Application, ApplicationRef, ContextSpecific, ContextSpecificRef, Private, PrivateRef,
-    TaggedValue, laws,
+    Application, ApplicationRef, ContextSpecific, ContextSpecificRef, Private, PrivateRef, laws,
 };
 use std::alloc::Global;
 use std::cmp::Ordering;
 use std::test::Fail;
 
-fn tagged<T, const CLASS: u8>(number: u32, tag_mode: TagMode, value: T) -> TaggedValue<T, CLASS> {
-    TaggedValue {
+fn tagged<T>(number: u32, tag_mode: TagMode, value: T) -> ContextSpecific<T> {
+    ContextSpecific {
         tag_number: TagNumber(number),
         tag_mode,
         value,
@@ -75,7 +74,7 @@ fn explicit(alloc: Global, number: u32, octets: &[u8]) -> Result<(Option<u8>, u3
         Err(e) => return Err(e.kind().number()),
     };
     let number = TagNumber(number);
-    let field: Option<ContextSpecific<u8>> = numbered(TaggedValue::decode_explicit(
+    let field: Option<ContextSpecific<u8>> = numbered(ContextSpecific::decode_explicit(
         alloc,
         &mut reader,
         number,
@@ -113,7 +112,7 @@ fn implicit<'a>(
         Err(e) => return Err(e.kind().number()),
     };
     let number = TagNumber(number);
-    let field: Option<ContextSpecific<OctetStringRef<'a>>> = match TaggedValue::decode_implicit(
+    let field: Option<ContextSpecific<OctetStringRef<'a>>> = match ContextSpecific::decode_implicit(
         alloc,
         &mut reader,
         number,
@@ -188,14 +187,14 @@ fn reads_implicit_integers(rt: HostRuntime) -> Result<(), Fail> {
     let Ok(mut octets) = SliceReader::new(&[0x80, 0x01, 0x05, 0xa0, 0x03, 0x02, 0x01, 0x00]) else {
         return Err(Fail::from("refused"));
     };
-    let field: Option<ContextSpecific<u8>> = numbered(TaggedValue::decode_implicit(
+    let field: Option<ContextSpecific<u8>> = numbered(ContextSpecific::decode_implicit(
         alloc,
         &mut octets,
         TagNumber(0),
     ))?;
     same(&rt, field, Some(tagged(0, TagMode::Implicit, 5)));
     let constructed: Result<Option<ContextSpecific<u8>>, u8> = numbered(
-        TaggedValue::decode_implicit(alloc, &mut octets, TagNumber(0)),
+        ContextSpecific::decode_implicit(alloc, &mut octets, TagNumber(0)),
     );
     same(&rt, constructed.err(), Some(8));
     same(&rt, numbered(octets.read_byte()).err(), Some(17));
