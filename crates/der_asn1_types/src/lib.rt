@@ -30,8 +30,9 @@ pub use der_elem::{
 pub use der_fields::{
     DefaultFalse, DefaultNumber, DefaultOf, DistinctTags, End, Explicit, ExplicitApplication,
     ExplicitPrivate, Field, FieldList, FieldSequence, Fields1, Fields2, Fields3, Fields4, Fields5,
-    Fields6, Fields7, Fields8, Implicit, ImplicitApplication, ImplicitPrivate, NamedFields, NamedSequence, OneOf, WithDefault, read_named_sequence,
-    read_sequence, write_named_sequence, write_sequence,
+    Fields6, Fields7, Fields8, Implicit, ImplicitApplication, ImplicitPrivate, NamedFields,
+    NamedSequence, OneOf, WithDefault, read_named_sequence, read_sequence, write_named_sequence,
+    write_sequence,
 };
 pub use der_nest::Asks;
 pub use der_time::{DateTime, const_contains_u8};

@@ -61,7 +61,8 @@ pub type ImplicitApplicationTag<M, const NUMBER: u32> = ImplicitTagIn<M, 1, NUMB
 /// The tag of `[PRIVATE NUMBER] IMPLICIT`.
 pub type ImplicitPrivateTag<M, const NUMBER: u32> = ImplicitTagIn<M, 3, NUMBER>;
 
-impl<M: TagMarker, const CLASS: u8, const NUMBER: u32> TagMarker for ImplicitTagIn<M, CLASS, NUMBER> {
+impl<M: TagMarker, const CLASS: u8, const NUMBER: u32> TagMarker
+    for ImplicitTagIn<M, CLASS, NUMBER> {
     ghost TAG = { marker_tag CLASS (is_constructed M.TAG) NUMBER };
 
     const TAG: Tag = {
