@@ -6,7 +6,7 @@ ghost use Rattle.der_certificate.specs.Grammars.{tbs_certificate};
 
 use der_asn1_types::asn1::{AnyRef, BitStringRef, IntRef};
 use der_asn1_types::{
-    DefaultNumber, End, Error, Explicit, Field, FieldSequence, Implicit, WithDefault,
+    DefaultNumber, Error, Explicit, FieldSequence, Fields2, Fields8, Implicit, WithDefault,
     read_sequence, write_sequence,
 };
 use der_pkix::{AlgorithmIdentifier, Extension, SubjectPublicKeyInfo, Validity};
@@ -28,24 +28,16 @@ use std::alloc::Global;
 ///     extensions            [3] SEQUENCE OF Extension OPTIONAL }
 /// ```
 pub type TbsCertificate<'a> = FieldSequence<
-    Field<
+    Fields8<
         WithDefault<Explicit<u8, 0>, DefaultNumber<0>>,
-        Field<IntRef<'a>, Field<AlgorithmIdentifier<'a>, Field<AnyRef<'a>, SubjectFields<'a>>>>,
-    >,
->;
-
-/// The fields from the validity on.
-type SubjectFields<'a> = Field<
-    Validity,
-    Field<AnyRef<'a>, Field<SubjectPublicKeyInfo<'a>, LastFields<'a>>>,
->;
-
-/// The unique identifiers and the extensions.
-type LastFields<'a> = Field<
-    Option<Implicit<BitStringRef<'a>, 1>>,
-    Field<
-        Option<Implicit<BitStringRef<'a>, 2>>,
-        Field<Option<Explicit<Vec<Extension<'a>>, 3>>, End>,
+        IntRef<'a>,
+        AlgorithmIdentifier<'a>,
+        AnyRef<'a>,
+        Validity,
+        AnyRef<'a>,
+        SubjectPublicKeyInfo<'a>,
+        Option<Implicit<BitStringRef<'a>, 1>>,
+        Fields2<Option<Implicit<BitStringRef<'a>, 2>>, Option<Explicit<Vec<Extension<'a>>, 3>>>,
     >,
 >;
 

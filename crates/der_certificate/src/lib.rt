@@ -8,7 +8,7 @@
 //! let octets = hex::decode(rt.alloc(), CERTIFICATE)?;
 //! match read_certificate(rt.alloc(), octets.as_slice()) {
 //!     Ok(certificate) => {
-//!         let signature = certificate.fields.rest.rest.first;
+//!         let signature = *certificate.fields.third();
 //!         assert_eq!(rt; signature.bit_len(), 512);
 //!     }
 //!     Err(_) => return Err("refused".into()),

@@ -5,7 +5,7 @@ ghost use Rattle.der_asn1_types.specs.SequenceWriting.{WritesAll};
 ghost use Rattle.der_certificate.specs.Grammars.{certificate};
 
 use der_asn1_types::asn1::{AnyRef, BitStringRef};
-use der_asn1_types::{End, Error, Field, FieldSequence, read_sequence, write_sequence};
+use der_asn1_types::{Error, FieldSequence, Fields3, read_sequence, write_sequence};
 use der_pkix::AlgorithmIdentifier;
 use std::alloc::Global;
 
@@ -19,7 +19,7 @@ use std::alloc::Global;
 ///     signature           BIT STRING }
 /// ```
 pub type Certificate<'a> = FieldSequence<
-    Field<AnyRef<'a>, Field<AlgorithmIdentifier<'a>, Field<BitStringRef<'a>, End>>>,
+    Fields3<AnyRef<'a>, AlgorithmIdentifier<'a>, BitStringRef<'a>>,
 >;
 
 /// Reads a certificate: all of the octets, under DER.

@@ -6,7 +6,7 @@ ghost use Rattle.der_extensions.specs.Grammars.{authority_key_identifier};
 
 use crate::general_names::GeneralNames;
 use der_asn1_types::asn1::{IntRef, OctetStringRef};
-use der_asn1_types::{End, Error, Field, FieldSequence, Implicit, read_sequence, write_sequence};
+use der_asn1_types::{Error, FieldSequence, Fields3, Implicit, read_sequence, write_sequence};
 use std::alloc::Global;
 
 /// What names the key of the issuer of a certificate: the key's identifier, or the names of the
@@ -20,9 +20,10 @@ use std::alloc::Global;
 ///     authorityCertSerialNumber  [2] IMPLICIT INTEGER OPTIONAL }
 /// ```
 pub type AuthorityKeyIdentifier<'a> = FieldSequence<
-    Field<
+    Fields3<
         Option<Implicit<OctetStringRef<'a>, 0>>,
-        Field<Option<Implicit<GeneralNames<'a>, 1>>, Field<Option<Implicit<IntRef<'a>, 2>>, End>>,
+        Option<Implicit<GeneralNames<'a>, 1>>,
+        Option<Implicit<IntRef<'a>, 2>>,
     >,
 >;
 

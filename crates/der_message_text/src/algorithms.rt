@@ -59,12 +59,12 @@ pub fn push_key(
     key: &SubjectPublicKeyInfo<'_>,
 ) -> Result<(), AllocError> {
     let algorithm = site.field(octets, "algorithm");
-    push_algorithm(alloc, text, &algorithm, "key algorithm", &key.fields.first)?;
+    push_algorithm(alloc, text, &algorithm, "key algorithm", key.fields.first())?;
     push_label(text, &site.field(octets, "subjectPublicKey").place, "key")?;
-    let bits = key.fields.rest.first.bit_len();
+    let bits = key.fields.second().bit_len();
     write!(text, "{bits} bits")?;
-    if key.fields.first.oid.as_bytes() == RSA_ENCRYPTION.as_slice() {
-        if let Some(octets) = key.fields.rest.first.as_bytes() {
+    if key.fields.first().oid.as_bytes() == RSA_ENCRYPTION.as_slice() {
+        if let Some(octets) = key.fields.second().as_bytes() {
             push_rsa_key(alloc, text, octets)?;
         }
     }
@@ -75,7 +75,7 @@ fn push_rsa_key(alloc: Global, text: &mut String, octets: &[u8]) -> Result<(), A
     text.push_str(", ")?;
     match read_rsa_public_key(alloc, octets) {
         Ok(key) => {
-            let bits = bits_of(key.fields.first.as_bytes());
+            let bits = bits_of(key.fields.first().as_bytes());
             write!(text, "modulus of {bits} bits")
         }
         Err(error) => push_malformed(text, error),

@@ -161,20 +161,19 @@ pub fn push_signature(
     site: &Site,
     signed: &Certificate<'_>,
 ) -> Result<(), AllocError> {
-    let signature = &signed.fields.rest;
     push_algorithm(
         alloc,
         text,
         &site.field(octets, "signatureAlgorithm"),
         "signature algorithm",
-        &signature.first,
+        signed.fields.second(),
     )?;
     let place = site.field(octets, "signatureValue").place;
     push_number(
         text,
         &place,
         "signature",
-        signature.rest.first.bit_len(),
+        signed.fields.third().bit_len(),
         "bits",
     )
 }

@@ -39,14 +39,14 @@ fn push_authority(
     text: &mut String,
     authority: &AuthorityKeyIdentifier<'_>,
 ) -> Result<(), AllocError> {
-    if let Some(identifier) = authority.fields.first {
+    if let Some(identifier) = *authority.fields.first() {
         text.push_str(", ")?;
         push_with_colons(text, identifier.value.as_bytes())?;
     }
-    if let Some(names) = &authority.fields.rest.first {
+    if let Some(names) = authority.fields.second() {
         push_names(alloc, text, "issuer ", names.value.as_slice())?;
     }
-    match authority.fields.rest.rest.first {
+    match *authority.fields.third() {
         Some(number) => {
             text.push_str(", serial number ")?;
             push_with_colons(text, number.value.as_bytes())

@@ -70,16 +70,16 @@ fn private_key(
     let mut text = String::new(alloc);
     let whole = Site::whole(octets, Kind::PrivateKey);
     push_title(&mut text, &whole.place, Kind::PrivateKey)?;
-    push_version(&mut text, octets, &whole, key.fields.first)?;
+    push_version(&mut text, octets, &whole, *key.fields.first())?;
     let algorithm = whole.field(octets, "privateKeyAlgorithm");
     push_algorithm(
         alloc,
         &mut text,
         &algorithm,
         "key algorithm",
-        &key.fields.rest.first,
+        key.fields.second(),
     )?;
-    let count = key.fields.rest.rest.first.as_bytes().len();
+    let count = key.fields.third().as_bytes().len();
     push_secret(&mut text, octets, &whole, "privateKey", count)?;
     Ok(text)
 }
@@ -105,8 +105,8 @@ fn rsa_public_key(
     let mut text = String::new(alloc);
     let whole = Site::whole(octets, Kind::RsaPublicKey);
     push_title(&mut text, &whole.place, Kind::RsaPublicKey)?;
-    push_modulus(&mut text, octets, &whole, &key.fields.first)?;
-    push_exponent(&mut text, octets, &whole, &key.fields.rest.first)?;
+    push_modulus(&mut text, octets, &whole, key.fields.first())?;
+    push_exponent(&mut text, octets, &whole, key.fields.second())?;
     Ok(text)
 }
 
@@ -131,8 +131,8 @@ fn ec_private_key(
     let mut text = String::new(alloc);
     let whole = Site::whole(octets, Kind::EcPrivateKey);
     push_title(&mut text, &whole.place, Kind::EcPrivateKey)?;
-    push_version(&mut text, octets, &whole, key.fields.first)?;
-    let count = key.fields.rest.first.as_bytes().len();
+    push_version(&mut text, octets, &whole, *key.fields.first())?;
+    let count = key.fields.second().as_bytes().len();
     push_secret(&mut text, octets, &whole, "privateKey", count)?;
     push_curve(alloc, &mut text, octets, &whole, key)?;
     Ok(text)
@@ -146,12 +146,12 @@ fn push_curve(
     whole: &Site,
     key: &EcPrivateKey<'_>,
 ) -> Result<(), AllocError> {
-    if let Some(curve) = &key.fields.rest.rest.first {
+    if let Some(curve) = key.fields.third() {
         push_label(text, &whole.field(octets, "parameters").place, "curve")?;
         push_identifier(alloc, text, curve.fields.first.as_bytes())?;
         text.push('\n')?;
     }
-    match &key.fields.rest.rest.rest.first {
+    match key.fields.fourth() {
         Some(bits) => {
             let place = whole.field(octets, "publicKey").place;
             push_number(

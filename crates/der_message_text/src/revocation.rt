@@ -142,10 +142,10 @@ fn push_entry(
     text: &mut String,
     entry: &RevokedCertificate<'_>,
 ) -> Result<(), AllocError> {
-    push_with_colons(text, entry.fields.first.as_bytes())?;
+    push_with_colons(text, entry.fields.first().as_bytes())?;
     text.push_str(", ")?;
-    push_time(text, &entry.fields.rest.first)?;
-    if let Some(extensions) = entry.fields.rest.rest.first {
+    push_time(text, entry.fields.second())?;
+    if let Some(extensions) = *entry.fields.third() {
         text.push_str(", extensions ")?;
         push_encoding(alloc, text, extensions)?;
     }

@@ -41,9 +41,9 @@ fn text_of(alloc: Global, octets: &[u8], key: &RsaPrivateKey<'_>) -> Result<Stri
     let mut text = String::new(alloc);
     let whole = Site::whole(octets, Kind::RsaPrivateKey);
     push_title(&mut text, &whole.place, Kind::RsaPrivateKey)?;
-    push_version(&mut text, octets, &whole, key.fields.first)?;
-    push_modulus(&mut text, octets, &whole, &key.fields.rest.first)?;
-    push_exponent(&mut text, octets, &whole, &key.fields.rest.rest.first)?;
+    push_version(&mut text, octets, &whole, *key.fields.first())?;
+    push_modulus(&mut text, octets, &whole, key.fields.second())?;
+    push_exponent(&mut text, octets, &whole, key.fields.third())?;
     for name in &SECRETS {
         let place = whole.field(octets, name).place;
         let count = place.end.saturating_sub(place.contents);

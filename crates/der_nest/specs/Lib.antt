@@ -22,6 +22,8 @@ pub mod ComparingBorrowed
 pub mod Stable
 pub mod StableLaws
 pub mod SequenceRef
+pub mod KeptFormat
+pub mod Kept
 pub use Rattle.der_elem.specs.Decoding
 pub use Rattle.der_elem.specs.Encoding
 pub use Rattle.der_elem.specs.Items

@@ -10,6 +10,7 @@ mod comparing;
 mod falling;
 mod finding;
 mod items;
+mod kept;
 pub mod laws;
 mod merging;
 mod probe;
@@ -20,6 +21,7 @@ mod set_of_ref;
 mod set_of_ref_iter;
 mod set_of_vec;
 
+pub use kept::Kept;
 pub use merging::Runs;
 pub use probe::{Asks, ItemProbe, Probe, insertion_place};
 pub use sequence_of::{SequenceOf, SequenceOfIter};

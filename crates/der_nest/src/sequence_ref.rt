@@ -10,7 +10,8 @@ ghost use Rattle.der_elem.specs.FormatMakers.{format_of_contents};
 ghost use Rattle.der_opaque.specs.Opaque.{parse_octets, KeepsOctets};
 
 use der_elem::{
-    ContentsEq, CopyIsDuplicate, DecodeValue, EncodeValue, FormValue, OneTag, Sequence, SequenceTag,
+    ContentsEq, CopyIsDuplicate, DecodeValue, EncodeValue, FormValue, OneTag, OrdIsValueOrd,
+    Sequence, SequenceTag,
 };
 use der_tlv::{Error, Header, Length, Reader, Source, Tag, Writer};
 use std::alloc::Global;
@@ -87,6 +88,10 @@ impl<'a> EncodeValue for SequenceRef<'a> {
     fn encode_value<W: Writer>(&self, writer: &mut W) -> Result<(), Error> {
         writer.write(self.octets)
     }
+}
+
+impl<'a> OrdIsValueOrd for SequenceRef<'a> {
+    ghost ord_is_value_ord = { λ v w. refl };
 }
 
 impl<'a> ContentsEq for SequenceRef<'a> {

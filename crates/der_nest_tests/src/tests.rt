@@ -15,6 +15,7 @@ mod copies;
 mod counting;
 mod counting_fixed;
 mod history;
+mod kept;
 mod many;
 mod probes;
 

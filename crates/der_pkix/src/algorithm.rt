@@ -7,7 +7,7 @@ ghost use Rattle.der_pkix.specs.Grammars.{algorithm_identifier, subject_public_k
 use crate::algorithm_identifier::AlgorithmIdentifier;
 use der_asn1_types::asn1::BitStringRef;
 use der_asn1_types::{
-    Encode, End, Error, Field, FieldSequence, FromDer, read_sequence, write_sequence,
+    Encode, Error, FieldSequence, Fields2, FromDer, read_sequence, write_sequence,
 };
 use std::alloc::Global;
 
@@ -17,7 +17,7 @@ use std::alloc::Global;
 ///     subjectPublicKey  BIT STRING }
 /// ```
 pub type SubjectPublicKeyInfo<'a> = FieldSequence<
-    Field<AlgorithmIdentifier<'a>, Field<BitStringRef<'a>, End>>,
+    Fields2<AlgorithmIdentifier<'a>, BitStringRef<'a>>,
 >;
 
 /// Reads an algorithm: all of the octets, under DER.

@@ -6,7 +6,9 @@ ghost use Rattle.der_pkix.specs.Grammars.{private_key_info, rsa_public_key, ec_p
 
 use crate::algorithm_identifier::AlgorithmIdentifier;
 use der_asn1_types::asn1::{BitStringRef, ObjectIdentifier, OctetStringRef, UintRef};
-use der_asn1_types::{End, Error, Explicit, Field, FieldSequence, read_sequence, write_sequence};
+use der_asn1_types::{
+    Error, Explicit, FieldSequence, Fields2, Fields3, Fields4, read_sequence, write_sequence,
+};
 use std::alloc::Global;
 
 /// With no attributes:
@@ -18,7 +20,7 @@ use std::alloc::Global;
 ///     privateKey           OCTET STRING }
 /// ```
 pub type PrivateKeyInfo<'a> = FieldSequence<
-    Field<u8, Field<AlgorithmIdentifier<'a>, Field<OctetStringRef<'a>, End>>>,
+    Fields3<u8, AlgorithmIdentifier<'a>, OctetStringRef<'a>>,
 >;
 
 /// ```text
@@ -26,7 +28,7 @@ pub type PrivateKeyInfo<'a> = FieldSequence<
 ///     modulus         INTEGER,
 ///     publicExponent  INTEGER }
 /// ```
-pub type RsaPublicKey<'a> = FieldSequence<Field<UintRef<'a>, Field<UintRef<'a>, End>>>;
+pub type RsaPublicKey<'a> = FieldSequence<Fields2<UintRef<'a>, UintRef<'a>>>;
 
 /// ```text
 /// ECPrivateKey ::= SEQUENCE {
@@ -36,15 +38,11 @@ pub type RsaPublicKey<'a> = FieldSequence<Field<UintRef<'a>, Field<UintRef<'a>, 
 ///     publicKey   [1] BIT STRING OPTIONAL }
 /// ```
 pub type EcPrivateKey<'a> = FieldSequence<
-    Field<
+    Fields4<
         u8,
-        Field<
-            OctetStringRef<'a>,
-            Field<
-                Option<Explicit<ObjectIdentifier<39>, 0>>,
-                Field<Option<Explicit<BitStringRef<'a>, 1>>, End>,
-            >,
-        >,
+        OctetStringRef<'a>,
+        Option<Explicit<ObjectIdentifier<39>, 0>>,
+        Option<Explicit<BitStringRef<'a>, 1>>,
     >,
 >;
 

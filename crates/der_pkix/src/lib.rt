@@ -21,7 +21,6 @@
 mod algorithm;
 mod algorithm_identifier;
 mod attribute;
-mod crt;
 mod extension;
 mod extensions;
 mod grammars;
@@ -37,7 +36,6 @@ pub use algorithm::{
 };
 pub use algorithm_identifier::AlgorithmIdentifier;
 pub use attribute::{AttributeFields, AttributeTypeAndValue};
-pub use crt::{Crt, CrtFields};
 pub use extension::Extension;
 pub use extensions::{
     Extensions, read_extension, read_extensions, write_extension, write_extensions,

@@ -4,13 +4,11 @@ ghost use Rattle.der_asn1_types.specs.Decoding.{ReadsAll};
 ghost use Rattle.der_asn1_types.specs.SequenceWriting.{WritesAll};
 ghost use Rattle.der_pkix.specs.Grammars.{rsa_private_key};
 
-use crate::crt::Crt;
 use der_asn1_types::asn1::UintRef;
-use der_asn1_types::{Error, Field, FieldSequence, read_sequence, write_sequence};
+use der_asn1_types::{Error, FieldSequence, Fields1, Fields8, read_sequence, write_sequence};
 use std::alloc::Global;
 
-/// Of two primes, and so with no others; the numbers for the Chinese remainder theorem, from the
-/// first prime on, are in `Crt`:
+/// Of two primes, and so with no others:
 ///
 /// ```text
 /// RSAPrivateKey ::= SEQUENCE {
@@ -25,7 +23,17 @@ use std::alloc::Global;
 ///     coefficient      INTEGER }
 /// ```
 pub type RsaPrivateKey<'a> = FieldSequence<
-    Field<u8, Field<UintRef<'a>, Field<UintRef<'a>, Field<UintRef<'a>, Crt<'a>>>>>,
+    Fields8<
+        u8,
+        UintRef<'a>,
+        UintRef<'a>,
+        UintRef<'a>,
+        UintRef<'a>,
+        UintRef<'a>,
+        UintRef<'a>,
+        UintRef<'a>,
+        Fields1<UintRef<'a>>,
+    >,
 >;
 
 /// Reads a private key of RSA: all of the octets, under DER.

@@ -6,7 +6,9 @@ ghost use Rattle.der_revocation.specs.Grammars.{tbs_cert_list, certificate_list}
 
 use crate::revoked_certificate::RevokedCertificate;
 use der_asn1_types::asn1::{AnyRef, BitStringRef};
-use der_asn1_types::{End, Error, Explicit, Field, FieldSequence, read_sequence, write_sequence};
+use der_asn1_types::{
+    Error, Explicit, FieldSequence, Fields3, Fields7, read_sequence, write_sequence,
+};
 use der_pkix::{AlgorithmIdentifier, Extensions, Time};
 use std::alloc::Global;
 
@@ -23,15 +25,14 @@ use std::alloc::Global;
 ///     crlExtensions        [0] SEQUENCE OF Extension OPTIONAL }
 /// ```
 pub type TbsCertList<'a> = FieldSequence<
-    Field<Option<u8>, Field<AlgorithmIdentifier<'a>, Field<AnyRef<'a>, UpdatesFields<'a>>>>,
->;
-
-/// The fields from thisUpdate on.
-type UpdatesFields<'a> = Field<
-    Time,
-    Field<
+    Fields7<
+        Option<u8>,
+        AlgorithmIdentifier<'a>,
+        AnyRef<'a>,
+        Time,
         Option<Time>,
-        Field<Option<Vec<RevokedCertificate<'a>>>, Field<Option<Explicit<Extensions<'a>, 0>>, End>>,
+        Option<Vec<RevokedCertificate<'a>>>,
+        Option<Explicit<Extensions<'a>, 0>>,
     >,
 >;
 
@@ -45,7 +46,7 @@ type UpdatesFields<'a> = Field<
 ///     signatureValue      BIT STRING }
 /// ```
 pub type CertificateList<'a> = FieldSequence<
-    Field<AnyRef<'a>, Field<AlgorithmIdentifier<'a>, Field<BitStringRef<'a>, End>>>,
+    Fields3<AnyRef<'a>, AlgorithmIdentifier<'a>, BitStringRef<'a>>,
 >;
 
 /// Reads what is signed of a list of revoked certificates: all of the octets, under DER.

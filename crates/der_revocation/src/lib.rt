@@ -8,7 +8,7 @@
 //! let octets = hex::decode(rt.alloc(), LIST)?;
 //! match read_certificate_list(rt.alloc(), octets.as_slice()) {
 //!     Ok(list) => {
-//!         let signature = list.fields.rest.rest.first;
+//!         let signature = *list.fields.third();
 //!         assert_eq!(rt; signature.bit_len(), 512);
 //!     }
 //!     Err(_) => return Err("refused".into()),

@@ -5,7 +5,7 @@ ghost use Rattle.der_asn1_types.specs.SequenceWriting.{WritesAll};
 ghost use Rattle.der_revocation.specs.Grammars.{revoked_certificate};
 
 use der_asn1_types::asn1::{AnyRef, IntRef};
-use der_asn1_types::{End, Error, Field, FieldSequence, read_sequence, write_sequence};
+use der_asn1_types::{Error, FieldSequence, Fields3, read_sequence, write_sequence};
 use der_pkix::Time;
 use std::alloc::Global;
 
@@ -19,9 +19,7 @@ use std::alloc::Global;
 ///     revocationDate      Time,
 ///     crlEntryExtensions  SEQUENCE OF Extension OPTIONAL }
 /// ```
-pub type RevokedCertificate<'a> = FieldSequence<
-    Field<IntRef<'a>, Field<Time, Field<Option<AnyRef<'a>>, End>>>,
->;
+pub type RevokedCertificate<'a> = FieldSequence<Fields3<IntRef<'a>, Time, Option<AnyRef<'a>>>>;
 
 /// Reads an entry: all of the octets, under DER.
 ///

@@ -10,51 +10,51 @@ use der_pkix::{AlgorithmIdentifier, Extensions, Time};
 
 /// `version`: 1 for v2; v1 has none.
 pub fn version(tbs: &TbsCertList<'_>) -> Option<u8>
-    ensures { result ≡ tbs.now.fields.first }
+    ensures { result ≡ tbs.now.fields.list.first }
 {
-    tbs.fields.first
+    *tbs.fields.first()
 }
 
 /// `signature`: the algorithm that the list says of its signature.
 pub fn signature<'a, 'b>(tbs: &'b TbsCertList<'a>) -> &'b AlgorithmIdentifier<'a>
-    ensures { result.now ≡ tbs.now.fields.rest.first }
+    ensures { result.now ≡ tbs.now.fields.list.rest.first }
 {
-    &tbs.fields.rest.first
+    tbs.fields.second()
 }
 
 /// `issuer`: a Name, as it is encoded.
 pub fn issuer<'a>(tbs: &TbsCertList<'a>) -> AnyRef<'a>
-    ensures { result ≡ tbs.now.fields.rest.rest.first }
+    ensures { result ≡ tbs.now.fields.list.rest.rest.first }
 {
-    tbs.fields.rest.rest.first
+    *tbs.fields.third()
 }
 
 /// `thisUpdate`.
 pub fn this_update<'b>(tbs: &'b TbsCertList<'_>) -> &'b Time
-    ensures { result.now ≡ tbs.now.fields.rest.rest.rest.first }
+    ensures { result.now ≡ tbs.now.fields.list.rest.rest.rest.first }
 {
-    &tbs.fields.rest.rest.rest.first
+    tbs.fields.fourth()
 }
 
 /// `nextUpdate`, if there is one.
 pub fn next_update<'b>(tbs: &'b TbsCertList<'_>) -> &'b Option<Time>
-    ensures { result.now ≡ tbs.now.fields.rest.rest.rest.rest.first }
+    ensures { result.now ≡ tbs.now.fields.list.rest.rest.rest.rest.first }
 {
-    &tbs.fields.rest.rest.rest.rest.first
+    tbs.fields.fifth()
 }
 
 /// `revokedCertificates`, if there are any.
 pub fn revoked_certificates<'a, 'b>(
     tbs: &'b TbsCertList<'a>,
 ) -> &'b Option<Vec<RevokedCertificate<'a>>>
-    ensures { result.now ≡ tbs.now.fields.rest.rest.rest.rest.rest.first }
+    ensures { result.now ≡ tbs.now.fields.list.rest.rest.rest.rest.rest.first }
 {
-    &tbs.fields.rest.rest.rest.rest.rest.first
+    tbs.fields.sixth()
 }
 
 /// `crlExtensions`, if there are any.
 pub fn crl_extensions<'a, 'b>(tbs: &'b TbsCertList<'a>) -> &'b Option<Explicit<Extensions<'a>, 0>>
-    ensures { result.now ≡ tbs.now.fields.rest.rest.rest.rest.rest.rest.first }
+    ensures { result.now ≡ tbs.now.fields.list.rest.rest.rest.rest.rest.rest.first }
 {
-    &tbs.fields.rest.rest.rest.rest.rest.rest.first
+    tbs.fields.seventh()
 }

@@ -48,7 +48,7 @@ fn der_certificate(rt: HostRuntime) -> Result<(), Fail> {
     let octets = hex::decode(rt.alloc(), CERTIFICATE)?;
     match read_certificate(rt.alloc(), octets.as_slice()) {
         Ok(certificate) => {
-            let signature = certificate.fields.rest.rest.first;
+            let signature = *certificate.fields.third();
             assert_eq!(rt; signature.bit_len(), 512);
         }
         Err(_) => return Err("refused".into()),
@@ -61,7 +61,7 @@ fn der_revocation(rt: HostRuntime) -> Result<(), Fail> {
     let octets = hex::decode(rt.alloc(), LIST)?;
     match read_certificate_list(rt.alloc(), octets.as_slice()) {
         Ok(list) => {
-            let signature = list.fields.rest.rest.first;
+            let signature = *list.fields.third();
             assert_eq!(rt; signature.bit_len(), 512);
         }
         Err(_) => return Err("refused".into()),

@@ -5,22 +5,13 @@ ghost use Rattle.der_asn1_types.specs.Decoding.{ReadsAll};
 
 use super::{numbered, same};
 use der_asn1_types::asn1::{AnyRef, GeneralizedTime, IntRef, ObjectIdentifier};
-use der_asn1_types::{Encode, End, Error, Field, FieldSequence, Form, FromDer};
+use der_asn1_types::{Encode, Error, FieldSequence, Fields6, Form, FromDer};
 use std::alloc::Global;
 use std::process::Abort;
 use std::test::Fail;
 
 type TstInfo<'a> = FieldSequence<
-    Field<
-        u8,
-        Field<
-            ObjectIdentifier<39>,
-            Field<
-                AnyRef<'a>,
-                Field<IntRef<'a>, Field<GeneralizedTime, Field<Option<AnyRef<'a>>, End>>>,
-            >,
-        >,
-    >,
+    Fields6<u8, ObjectIdentifier<39>, AnyRef<'a>, IntRef<'a>, GeneralizedTime, Option<AnyRef<'a>>>,
 >;
 
 fn read_tst_info<'a>(alloc: Global, octets: &'a [u8]) -> Result<TstInfo<'a>, Error>

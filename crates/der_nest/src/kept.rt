@@ -1,0 +1,176 @@
+//! The contents octets of a value, kept as they came once they were read as such (X.690 8.1.4).
+//!
+//! The tag and the octets are those of the type: a `Kept` of a list of INTEGERs keeps 02 01 05 of
+//! 30 03 02 01 05. What is kept is written as it came, and is known to be a value of the type; who
+//! wants the value has it read again.
+//!
+//! Reading refuses with the first fault that the type finds in the contents octets, which are read by
+//! a reader of their own, from position 0 on, under DER, and with `ErrorKind::Memory` (1) where the
+//! type takes memory.
+
+ghost use Rattle.std.specs.Prelude.{◌≡◌, ◌<◌, ◌^◌, ⊤, length};
+ghost use Rattle.std.specs.Cmp.{on_per, on_equiv};
+ghost use Rattle.std.specs.Cmp.Lexicographic.{bytes_decides};
+ghost use Rattle.der_tlv.specs.declared.encoding_rules.EncodingRules.TheVariants.{Der};
+ghost use Rattle.der_opaque.specs.DecodingAs.{DecodesAs};
+ghost use Rattle.der_nest.specs.Kept.{KeepsContents};
+ghost use Rattle.der_nest.specs.KeptFormat.{kept_format};
+
+use der_elem::{
+    Choice, ContentsEq, CopyIsDuplicate, DecodeValue, EncodeValue, FormValue, OneTag, TagMarker,
+    ValueOrd, read_contents,
+};
+use der_opaque::{AnyRef, OctetStringRef};
+use der_tlv::{Error, Header, Length, Reader, SliceReader, Source, Tag, Writer};
+use std::alloc::{AllocError, Global};
+use std::cmp::Ordering;
+use std::fmt;
+use std::marker::PhantomData;
+
+/// The contents octets of a value of the type `T`, borrowed: at most 4294967295 of them.
+#[derive(Drop)]
+pub struct Kept<'a, T> {
+    octets: OctetStringRef<'a>,
+    of: PhantomData<T>,
+}
+
+impl<'a, T> Kept<'a, T> {
+    ghost use Rattle.der_nest.specs.Kept.{octets_of};
+
+    /// The contents octets.
+    pub fn as_bytes(self) -> &'a [u8]
+        ensures { result.now ≡ octets_of self.entry }
+    {
+        self.octets.as_bytes()
+    }
+}
+
+impl<'a, T: OneTag + Choice + DecodeValue<'a, SliceReader<'a>>> Kept<'a, T> {
+    ghost use Rattle.der_nest.specs.Kept.{octets_of};
+
+    /// The value that the contents octets are of.
+    ///
+    /// # Errors
+    /// `ErrorKind::Memory` (1) where the type takes memory; the first fault of the octets, of which
+    /// what was read has none.
+    pub fn value(self, alloc: Global) -> Result<T, Error>
+        ensures { DecodesAs T.Form T.value Der T.Marker.TAG (octets_of self.entry) result }
+    {
+        let any = match AnyRef::new(<<T as OneTag>::Marker as TagMarker>::TAG, self.as_bytes()) {
+            Ok(any) => any,
+            Err(e) => return Err(e),
+        };
+        any.decode_as(alloc)
+    }
+}
+
+impl<'a, T> Clone for Kept<'a, T> {
+    ghost is_clone = { λ v w. w ≡ v };
+
+    ghost is_infallible = { λ _. ⊤ };
+
+    fn clone(&self) -> Result<Kept<'a, T>, AllocError> {
+        Ok(*self)
+    }
+}
+
+impl<'a, T> Copy for Kept<'a, T> {}
+
+impl<'a, T> fmt::Debug for Kept<'a, T> {
+    /// The octets, as those of an OCTET STRING are shown.
+    fn fmt<W: fmt::Write>(&self, f: &mut fmt::Formatter<W>) -> fmt::Result {
+        fmt::Debug::fmt(&self.octets, f)
+    }
+}
+
+impl<'a, T> PartialEq for Kept<'a, T> {
+    ghost eq = { λ v w. ⟦<OctetStringRef<'a> as PartialEq>⟧.eq v.octets w.octets };
+
+    ghost laws = { on_per (λ v. v.octets) ⟦<OctetStringRef<'a> as PartialEq>⟧.laws };
+
+    fn eq(&self, other: &Kept<'a, T>) -> bool {
+        self.octets == other.octets
+    }
+}
+
+impl<'a, T> Eq for Kept<'a, T> {
+    ghost laws = { on_equiv (λ v. v.octets) ⟦<OctetStringRef<'a> as Eq>⟧.laws };
+}
+
+impl<'a, T: OneTag> OneTag for Kept<'a, T> {
+    type Marker = <T as OneTag>::Marker;
+}
+
+impl<'a, T: FormValue> FormValue for Kept<'a, T> {
+    ghost use Rattle.der_nest.specs.Kept.{octets_of};
+
+    ghost value = { kept_format octets_of T.value };
+}
+
+/// Keeps contents octets after a tag if a value is read from them.
+fn keep<'a, T: DecodeValue<'a, SliceReader<'a>>>(
+    alloc: Global,
+    tag: Tag,
+    octets: &'a [u8],
+) -> Result<Kept<'a, T>, Error>
+    ensures { length octets.now < 2 ^ 32 → KeepsContents T.value octets.now result }
+{
+    let octets = match OctetStringRef::new(octets) {
+        Ok(octets) => octets,
+        Err(e) => return Err(e),
+    };
+    let mut reader = match SliceReader::new(octets.as_bytes()) {
+        Ok(reader) => reader,
+        Err(e) => return Err(e),
+    };
+    let length = octets.len();
+    match T::decode_value(alloc, &mut reader, Header { tag, length }) {
+        Ok(_) => {}
+        Err(e) => return Err(e),
+    }
+    let of = PhantomData;
+    Ok(Kept { octets, of })
+}
+
+impl<'a, R: Source<'a>, T: DecodeValue<'a, SliceReader<'a>>> DecodeValue<'a, R> for Kept<'a, T> {
+    ghost TAKES_MEMORY = { T.DecodeValue.TAKES_MEMORY };
+
+    const TAKES_MEMORY: bool = <T as DecodeValue<'a, SliceReader<'a>>>::TAKES_MEMORY;
+
+    fn decode_value(alloc: Global, reader: &mut R, header: Header) -> Result<Kept<'a, T>, Error> {
+        let tag = header.tag;
+        let octets = read_contents(reader, header)?;
+        match keep(alloc, tag, octets) {
+            Ok(kept) => Ok(kept),
+            Err(e) => {
+                // The reader fails; the position is that of the contents octets' own reader.
+                reader.error(e.kind);
+                Err(e)
+            }
+        }
+    }
+
+    ghost takes_memory_is = { T.DecodeValue.takes_memory_is };
+}
+
+impl<'a, T: FormValue> EncodeValue for Kept<'a, T> {
+    fn value_len(&self) -> Result<Length, Error> {
+        Ok(self.octets.len())
+    }
+
+    fn encode_value<W: Writer>(&self, writer: &mut W) -> Result<(), Error> {
+        writer.write(self.octets.as_bytes())
+    }
+}
+
+impl<'a, T: FormValue> ValueOrd for Kept<'a, T> {
+    fn value_cmp(&self, other: &Kept<'a, T>) -> Result<Ordering, Error> {
+        self.octets.value_cmp(&other.octets)
+    }
+}
+
+impl<'a, T: FormValue> ContentsEq for Kept<'a, T> {
+    ghost contents_eq = { λ v w one. bytes_decides v.octets.octets.now w.octets.octets.now };
+}
+
+impl<'a, T: FormValue> CopyIsDuplicate for Kept<'a, T> {}

@@ -1,0 +1,74 @@
+//! Contents octets that were read and are kept as they came.
+
+use crate::tests::{holds, numbered, reads_as, same};
+use der_elem::{DerOrd, Encode, FromDer, Tagged, TakesMemory};
+use der_nest::{Kept, SequenceRef, SetOfVec};
+use der_tlv::Tag;
+use std::cmp::Ordering;
+use std::test::Fail;
+
+type KeptNumbers<'a> = Kept<'a, Vec<u16>>;
+
+type KeptSet<'a> = Kept<'a, SetOfVec<u16>>;
+
+#[test]
+fn octets_are_kept_as_they_came(rt: HostRuntime) -> Result<(), Fail> {
+    let alloc = rt.alloc();
+    let octets = [0x30, 0x06, 0x02, 0x01, 0x08, 0x02, 0x01, 0x07];
+    reads_as::<KeptNumbers>(&rt, alloc, &octets, &octets)?;
+    // a set is written in order, and kept as it came
+    let set = [0x31, 0x06, 0x02, 0x01, 0x08, 0x02, 0x01, 0x07];
+    reads_as::<KeptSet>(&rt, alloc, &set, &set)?;
+    let kept = numbered(KeptSet::from_der(alloc, &set))?;
+    same(&rt, kept.as_bytes(), &set[2..]);
+    same(&rt, kept.tag(), Tag::Set);
+    let value = numbered(kept.value(alloc))?;
+    same(&rt, value.as_slice(), [7, 8].as_slice());
+    holds(&rt, KeptSet::TAKES_MEMORY);
+    holds(&rt, !Kept::<'_, u16>::TAKES_MEMORY);
+    let text = format!(in alloc; "{kept:?}")?;
+    holds(&rt, !text.as_str().is_empty());
+    let copy = kept.clone()?;
+    holds(&rt, copy == kept);
+    Ok(())
+}
+
+#[test]
+fn what_is_no_value_is_not_kept(rt: HostRuntime) {
+    let alloc = rt.alloc();
+    let refused = |octets: &[u8]| numbered(KeptNumbers::from_der(alloc, octets)).err();
+    // an INTEGER that is not written as it must be
+    same(&rt, refused(&[0x30, 0x04, 0x02, 0x02, 0x00, 0x07]), Some(8));
+    // an INTEGER past the end, and of more octets than a number of 16 bits has
+    same(&rt, refused(&[0x30, 0x03, 0x02, 0x02, 0x07]), Some(2));
+    same(
+        &rt,
+        refused(&[0x30, 0x05, 0x02, 0x03, 0x01, 0x00, 0x00]),
+        Some(7),
+    );
+    // another tag: of the whole, and of an item
+    same(&rt, refused(&[0x31, 0x03, 0x02, 0x01, 0x07]), Some(4));
+    same(&rt, refused(&[0x30, 0x03, 0x04, 0x01, 0x07]), Some(4));
+    same(&rt, refused(&[0x30, 0x03, 0x02, 0x01]), Some(2));
+}
+
+#[test]
+fn kept_octets_are_compared(rt: HostRuntime) -> Result<(), Fail> {
+    let alloc = rt.alloc();
+    let one = numbered(KeptNumbers::from_der(alloc, &[0x30, 0x03, 0x02, 0x01, 0x07]))?;
+    let other = numbered(KeptNumbers::from_der(alloc, &[0x30, 0x03, 0x02, 0x01, 0x08]))?;
+    holds(&rt, one != other);
+    same(&rt, numbered(one.der_cmp(&other)), Ok(Ordering::Less));
+    let sequences = (SequenceRef::new(&[0x05, 0x00]), SequenceRef::new(&[0x06]));
+    let (Ok(one), Ok(other)) = sequences else {
+        return Err("refused".into());
+    };
+    // by their encodings, of which the length comes before the contents
+    same(&rt, numbered(one.der_cmp(&other)), Ok(Ordering::Greater));
+    same(
+        &rt,
+        numbered(one.to_der(alloc))?.as_slice(),
+        [0x30, 0x02, 0x05, 0x00].as_slice(),
+    );
+    Ok(())
+}
