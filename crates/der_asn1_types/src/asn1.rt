@@ -6,7 +6,7 @@ pub use der_ascii::{
 };
 pub use der_bits::{AllowedLenBitString, AsBitStringRef, BitString, BitStringIter, BitStringRef};
 pub use der_nest::{
-    ItemProbe, Probe, SequenceOf, SequenceOfIter, SequenceRef, SetOf, SetOfIter, SetOfRef,
+    ItemProbe, Kept, Probe, SequenceOf, SequenceOfIter, SequenceRef, SetOf, SetOfIter, SetOfRef,
     SetOfRefIter, SetOfVec, insertion_place,
 };
 pub use der_numbers::{AsIntRef, AsUintRef, Int, IntRef, Uint, UintRef};

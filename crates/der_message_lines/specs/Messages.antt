@@ -19,6 +19,7 @@ use Rattle.der_asn1_types.specs.BitString.{parse_bit_string}
 use Rattle.der_asn1_types.specs.Characters.{parse_string}
 use Rattle.der_asn1_types.specs.TimeReading.{parse_generalized, parse_utc}
 use Rattle.der_asn1_types.specs.Sets.{parse_set}
+use Rattle.der_asn1_types.specs.KeptFormat.{parse_kept}
 use Rattle.der_asn1_types.specs.Alternatives.{parse_one}
 use Rattle.der_asn1_types.specs.FieldTags.{marker_tag}
 use Rattle.der_asn1_types.specs.Defaults.{parse_default}
@@ -121,15 +122,19 @@ last_fields =
     (parse_field (optional (primitive 2) parse_bit_string)
     (parse_field (optional (constructed 3) (alone (sequence extension_items))) parse_end))
 
--- TBSCertificate (section 4.1.2); the names are kept as they are encoded
+-- a Name that is read, and kept as it came
+abbrev pub kept_name : Parse
+kept_name = sequence (parse_kept name_items)
+
+-- TBSCertificate (section 4.1.2)
 abbrev pub tbs_fields : ContentsParse
 tbs_fields =
     parse_field version
     (parse_field integer
     (parse_field (sequence algorithm_fields)
-    (parse_field parse_any
+    (parse_field kept_name
     (parse_field (sequence validity_fields)
-    (parse_field parse_any
+    (parse_field kept_name
     (parse_field (sequence public_key_fields) last_fields))))))
 
 -- ---- keys
@@ -171,8 +176,8 @@ abbrev pub other_name_fields : ContentsParse
 other_name_fields = parse_field object_identifier (parse_field (parse_tagged (constructed 0) (alone parse_any)) parse_end)
 
 -- an alternative that is a SEQUENCE, of which the contents octets are kept
-abbrev pub kept_name : ℕ → Parse
-kept_name number = parse_tagged (constructed number) parse_octets
+abbrev pub unread_name : ℕ → Parse
+unread_name number = parse_tagged (constructed number) parse_octets
 
 -- the alternatives of two kinds, by their tags
 abbrev pub either : Tag → Tag → Tag → Bool
@@ -183,7 +188,7 @@ abbrev pub first_names : Parse
 first_names =
     parse_one (either (constructed 0) (primitive 1)) (either (primitive 2) (constructed 3))
     (parse_one (is_tag (constructed 0)) (is_tag (primitive 1)) (parse_tagged (constructed 0) other_name_fields) (text_name 1))
-    (parse_one (is_tag (primitive 2)) (is_tag (constructed 3)) (text_name 2) (kept_name 3))
+    (parse_one (is_tag (primitive 2)) (is_tag (constructed 3)) (text_name 2) (unread_name 3))
 
 abbrev pub is_last_name : Tag → Bool
 is_last_name tag = is_tag (primitive 6) tag || either (primitive 7) (primitive 8) tag
@@ -191,7 +196,7 @@ is_last_name tag = is_tag (primitive 6) tag || either (primitive 7) (primitive 8
 abbrev pub last_names : Parse
 last_names =
     parse_one (either (constructed 4) (constructed 5)) is_last_name
-    (parse_one (is_tag (constructed 4)) (is_tag (constructed 5)) (parse_tagged (constructed 4) (alone (sequence name_items))) (kept_name 5))
+    (parse_one (is_tag (constructed 4)) (is_tag (constructed 5)) (parse_tagged (constructed 4) (alone (sequence name_items))) (unread_name 5))
     (parse_one (is_tag (primitive 6)) (either (primitive 7) (primitive 8)) (text_name 6)
     (parse_one (is_tag (primitive 7)) (is_tag (primitive 8)) (parse_tagged (primitive 7) parse_octets) (parse_tagged (primitive 8) (parse_identifier 39))))
 

@@ -38,7 +38,7 @@ pub use algorithm_identifier::AlgorithmIdentifier;
 pub use attribute::{AttributeFields, AttributeTypeAndValue};
 pub use extension::Extension;
 pub use extensions::{
-    Extensions, read_extension, read_extensions, write_extension, write_extensions,
+    Extensions, KeptExtensions, read_extension, read_extensions, write_extension, write_extensions,
 };
 pub use grammars::Message;
 pub use keys::{
@@ -46,7 +46,7 @@ pub use keys::{
     read_rsa_public_key, write_ec_private_key, write_private_key_info, write_rsa_public_key,
 };
 pub use name::{
-    Name, RelativeDistinguishedName, read_attribute_type_and_value, read_name,
+    KeptName, Name, RelativeDistinguishedName, read_attribute_type_and_value, read_name,
     read_relative_distinguished_name, write_attribute_type_and_value, write_name,
     write_relative_distinguished_name,
 };

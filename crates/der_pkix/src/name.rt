@@ -5,7 +5,7 @@ ghost use Rattle.der_asn1_types.specs.SequenceWriting.{WritesAll};
 ghost use Rattle.der_pkix.specs.Grammars.{attribute_type_and_value, relative_distinguished_name, name};
 
 use crate::attribute::AttributeTypeAndValue;
-use der_asn1_types::asn1::SetOfVec;
+use der_asn1_types::asn1::{Kept, SetOfVec};
 use der_asn1_types::{Encode, Error, FromDer};
 use std::alloc::Global;
 
@@ -20,6 +20,9 @@ pub type RelativeDistinguishedName<'a> = SetOfVec<AttributeTypeAndValue<'a>>;
 /// Name ::= SEQUENCE OF RelativeDistinguishedName
 /// ```
 pub type Name<'a> = Vec<RelativeDistinguishedName<'a>>;
+
+/// A Name that was read as one, and is kept and written as it came.
+pub type KeptName<'a> = Kept<'a, Name<'a>>;
 
 /// Reads an attribute: all of the octets, under DER.
 ///

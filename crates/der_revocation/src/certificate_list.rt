@@ -9,10 +9,11 @@ use der_asn1_types::asn1::{AnyRef, BitStringRef};
 use der_asn1_types::{
     Error, Explicit, FieldSequence, Fields3, Fields7, read_sequence, write_sequence,
 };
-use der_pkix::{AlgorithmIdentifier, Extensions, Time};
+use der_pkix::{AlgorithmIdentifier, Extensions, KeptName, Time};
 use std::alloc::Global;
 
-/// What is signed of a list of revoked certificates. The issuer's name is kept as it is encoded.
+/// What is signed of a list of revoked certificates. The issuer's name is read, and kept as it
+/// came.
 ///
 /// ```text
 /// TBSCertList ::= SEQUENCE {
@@ -28,7 +29,7 @@ pub type TbsCertList<'a> = FieldSequence<
     Fields7<
         Option<u8>,
         AlgorithmIdentifier<'a>,
-        AnyRef<'a>,
+        KeptName<'a>,
         Time,
         Option<Time>,
         Option<Vec<RevokedCertificate<'a>>>,

@@ -151,3 +151,51 @@ fn each_cut_is_refused(rt: HostRuntime) -> Result<(), Fail> {
     }
     Ok(())
 }
+
+#[test]
+fn names_of_a_certificate_are_read_and_kept(rt: HostRuntime) -> Result<(), Fail> {
+    let alloc = rt.alloc();
+    let rows = [
+        "3047020101300506032b6570300d310b3009060355040613025345301e170d3236313132333038313234315a170d3236313132333038313234315a3000300a300506032b6570030100",
+        "3047020101300506032b65703000301e170d3236313132333038313234315a170d3236313132333038313234315a300d310b3009060355040613025345300a300506032b6570030100",
+    ];
+    for digits in rows {
+        let octets = hex::decode(alloc, digits)?;
+        let written = certificate_again(alloc, octets.as_slice())?;
+        same(&rt, written.as_slice(), octets.as_slice());
+    }
+    Ok(())
+}
+
+#[test]
+fn what_is_no_name_is_refused(rt: HostRuntime) -> Result<(), Fail> {
+    let alloc = rt.alloc();
+    let rows = [
+        // an INTEGER in place of the issuer
+        (
+            "303b020101300506032b6570020105301e170d3236313132333038313234315a170d3236313132333038313234315a3000300a300506032b6570030100",
+            4,
+        ),
+        // an issuer of which an item is no set
+        (
+            "3049020101300506032b657030020500301e170d3236313132333038313234315a170d3236313132333038313234315a300d310b3009060355040613025345300a300506032b6570030100",
+            4,
+        ),
+        // a subject of an attribute with no type
+        (
+            "304b020101300506032b6570300d310b3009060355040613025345301e170d3236313132333038313234315a170d3236313132333038313234315a300431023000300a300506032b6570030100",
+            2,
+        ),
+        // a set in place of the subject
+        (
+            "304b020101300506032b6570300d310b3009060355040613025345301e170d3236313132333038313234315a170d3236313132333038313234315a310431023000300a300506032b6570030100",
+            4,
+        ),
+    ];
+    for (digits, number) in rows {
+        let octets = hex::decode(alloc, digits)?;
+        let again = certificate_again(alloc, octets.as_slice());
+        same(&rt, again.err(), Some(number));
+    }
+    Ok(())
+}
