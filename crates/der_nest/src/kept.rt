@@ -13,6 +13,8 @@ ghost use Rattle.std.specs.Cmp.{on_per, on_equiv};
 ghost use Rattle.std.specs.Cmp.Lexicographic.{bytes_decides};
 ghost use Rattle.der_tlv.specs.declared.encoding_rules.EncodingRules.TheVariants.{Der};
 ghost use Rattle.der_opaque.specs.DecodingAs.{DecodesAs};
+ghost use Rattle.der_opaque.specs.contracts.octet_string_ref.OctetStringRefPartialEq.TheImpl.Laws as string_eq;
+ghost use Rattle.der_opaque.specs.contracts.octet_string_ref.OctetStringRefEq.TheImpl.Laws as string_equivalence;
 ghost use Rattle.der_nest.specs.Kept.{KeepsContents};
 ghost use Rattle.der_nest.specs.KeptFormat.{kept_format};
 
@@ -86,7 +88,7 @@ impl<'a, T> fmt::Debug for Kept<'a, T> {
 impl<'a, T> PartialEq for Kept<'a, T> {
     ghost eq = { λ v w. ⟦<OctetStringRef<'a> as PartialEq>⟧.eq v.octets w.octets };
 
-    ghost laws = { on_per (λ v. v.octets) ⟦<OctetStringRef<'a> as PartialEq>⟧.laws };
+    ghost laws = { on_per (λ v. v.octets) string_eq.laws-law };
 
     fn eq(&self, other: &Kept<'a, T>) -> bool {
         self.octets == other.octets
@@ -94,7 +96,7 @@ impl<'a, T> PartialEq for Kept<'a, T> {
 }
 
 impl<'a, T> Eq for Kept<'a, T> {
-    ghost laws = { on_equiv (λ v. v.octets) ⟦<OctetStringRef<'a> as Eq>⟧.laws };
+    ghost laws = { on_equiv (λ v. v.octets) string_equivalence.laws-law };
 }
 
 impl<'a, T: OneTag> OneTag for Kept<'a, T> {
