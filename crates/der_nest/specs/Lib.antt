@@ -22,6 +22,8 @@ pub mod ComparingBorrowed
 pub mod Stable
 pub mod StableLaws
 pub mod SequenceRef
+pub mod NonEmpty
+pub mod ItemCounts
 pub use Rattle.der_elem.specs.Decoding
 pub use Rattle.der_elem.specs.Encoding
 pub use Rattle.der_elem.specs.Items

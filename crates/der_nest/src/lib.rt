@@ -9,9 +9,13 @@
 mod comparing;
 mod falling;
 mod finding;
+mod item_count;
+mod item_order;
+mod item_set;
 mod items;
 pub mod laws;
 mod merging;
+mod non_empty;
 mod probe;
 mod sequence_of;
 mod sequence_ref;
@@ -20,7 +24,11 @@ mod set_of_ref;
 mod set_of_ref_iter;
 mod set_of_vec;
 
+pub use item_count::{DuplicateItems, ItemContents, ItemCount};
+pub use item_order::{ByEncoding, ItemOrder, OrdersByEncoding, Values};
+pub use item_set::ItemSet;
 pub use merging::Runs;
+pub use non_empty::NonEmpty;
 pub use probe::{Asks, ItemProbe, Probe, insertion_place};
 pub use sequence_of::{SequenceOf, SequenceOfIter};
 pub use sequence_ref::SequenceRef;
