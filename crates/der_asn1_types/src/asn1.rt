@@ -6,8 +6,8 @@ pub use der_ascii::{
 };
 pub use der_bits::{AllowedLenBitString, AsBitStringRef, BitString, BitStringIter, BitStringRef};
 pub use der_nest::{
-    ItemProbe, Kept, Probe, SequenceOf, SequenceOfIter, SequenceRef, SetOf, SetOfIter, SetOfRef,
-    SetOfRefIter, SetOfVec, insertion_place,
+    ByEncoding, ItemProbe, ItemSet, Kept, NonEmpty, Probe, SequenceOf, SequenceOfIter, SequenceRef,
+    SetOf, SetOfIter, SetOfRef, SetOfRefIter, SetOfVec, Values, insertion_place,
 };
 pub use der_numbers::{AsIntRef, AsUintRef, Int, IntRef, Uint, UintRef};
 pub use der_opaque::{Any, AnyRef, Null, ObjectIdentifier, OctetString, OctetStringRef};

@@ -34,7 +34,7 @@ pub use der_fields::{
     NamedSequence, OneOf, WithDefault, read_named_sequence, read_sequence, write_named_sequence,
     write_sequence,
 };
-pub use der_nest::Asks;
+pub use der_nest::{Asks, DuplicateItems, ItemContents, ItemCount, ItemOrder, OrdersByEncoding};
 pub use der_time::{DateTime, const_contains_u8};
 pub use der_tlv::{
     BytesOwned, BytesRef, Class, Cursor, EncodingRules, Error, ErrorKind, Header, Length, Reader,

@@ -24,6 +24,8 @@ pub mod StableLaws
 pub mod SequenceRef
 pub mod KeptFormat
 pub mod Kept
+pub mod NonEmpty
+pub mod ItemCounts
 pub use Rattle.der_elem.specs.Decoding
 pub use Rattle.der_elem.specs.Encoding
 pub use Rattle.der_elem.specs.Items

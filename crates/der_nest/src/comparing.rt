@@ -4,6 +4,8 @@ ghost use Rattle.std.specs.Cmp.Lexicographic.{slice_cmp, slice_partial_cmp, list
 ghost use Rattle.std.specs.Hash as hashed;
 ghost use Rattle.std.specs.Hash.{items_Alike};
 
+use crate::item_order::ItemOrder;
+use crate::item_set::ItemSet;
 use crate::sequence_of::SequenceOf;
 use crate::set_of::SetOf;
 use crate::set_of_ref::SetOfRef;
@@ -46,6 +48,46 @@ impl<T: Form + Ord> Ord for SetOfVec<T> {
 }
 
 impl<T: Form + Hash> Hash for SetOfVec<T> {
+    ghost hash_input = { hashed.slice T.hash_input };
+
+    ghost respects_eq = { (items_Alike (record { fed = T.respects_eq })).fed };
+
+    fn hash<H: Hasher>(&self, state: &mut H) {
+        self.as_slice().hash(state);
+    }
+}
+
+impl<T: Eq, M: ItemOrder<T>> Eq for ItemSet<T, M> {
+    ghost laws = { lists_equiv T.Eq.laws };
+}
+
+impl<T: PartialOrd, M: ItemOrder<T>> PartialOrd for ItemSet<T, M> {
+    ghost partial_cmp = { slice_partial_cmp T.partial_cmp };
+
+    ghost laws = { lists_po T.PartialOrd.laws };
+
+    fn partial_cmp(&self, other: &ItemSet<T, M>) -> Option<Ordering> {
+        self.as_slice().partial_cmp(&other.as_slice())
+    }
+}
+
+impl<T: Ord, M: ItemOrder<T>> Ord for ItemSet<T, M> {
+    ghost cmp = { slice_cmp T.cmp };
+
+    ghost total = { lists_total T.total };
+
+    ghost matches_partial_cmp = { lists_agrees T.matches_partial_cmp };
+
+    ghost matches_eq = { lists_ties T.cmp T.matches_eq };
+
+    /// The order of the items as values, and then of their number; `der_cmp` is that of the
+    /// encodings.
+    fn cmp(&self, other: &ItemSet<T, M>) -> Ordering {
+        self.as_slice().cmp(&other.as_slice())
+    }
+}
+
+impl<T: Hash, M: ItemOrder<T>> Hash for ItemSet<T, M> {
     ghost hash_input = { hashed.slice T.hash_input };
 
     ghost respects_eq = { (items_Alike (record { fed = T.respects_eq })).fed };
@@ -100,6 +142,12 @@ impl<T: Eq, const N: usize> Eq for SequenceOf<T, N> {
 }
 
 impl<T: Form + fmt::Debug> fmt::Debug for SetOfVec<T> {
+    fn fmt<W: fmt::Write>(&self, f: &mut fmt::Formatter<W>) -> fmt::Result {
+        fmt::Debug::fmt(&self.as_slice(), f)
+    }
+}
+
+impl<T: fmt::Debug, M: ItemOrder<T>> fmt::Debug for ItemSet<T, M> {
     fn fmt<W: fmt::Write>(&self, f: &mut fmt::Formatter<W>) -> fmt::Result {
         fmt::Debug::fmt(&self.as_slice(), f)
     }

@@ -9,10 +9,14 @@
 mod comparing;
 mod falling;
 mod finding;
+mod item_count;
+mod item_order;
+mod item_set;
 mod items;
 mod kept;
 pub mod laws;
 mod merging;
+mod non_empty;
 mod probe;
 mod sequence_of;
 mod sequence_ref;
@@ -21,8 +25,12 @@ mod set_of_ref;
 mod set_of_ref_iter;
 mod set_of_vec;
 
+pub use item_count::{DuplicateItems, ItemContents, ItemCount};
+pub use item_order::{ByEncoding, ItemOrder, OrdersByEncoding, Values};
+pub use item_set::ItemSet;
 pub use kept::Kept;
 pub use merging::Runs;
+pub use non_empty::NonEmpty;
 pub use probe::{Asks, ItemProbe, Probe, insertion_place};
 pub use sequence_of::{SequenceOf, SequenceOfIter};
 pub use sequence_ref::SequenceRef;
