@@ -2,6 +2,7 @@
 
 mod ascii;
 mod bits;
+mod enumerated;
 mod numbers;
 mod text;
 mod time;
