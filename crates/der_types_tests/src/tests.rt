@@ -3,6 +3,7 @@
 mod ascii;
 mod bits;
 mod enumerated;
+mod named_bits;
 mod numbers;
 mod text;
 mod time;
