@@ -6,10 +6,11 @@
 //! Reading refuses, in this order: what reading a BIT STRING refuses; a last bit that is 0
 //! (`ErrorKind::Noncanonical`, 8).
 
-ghost use Rattle.std.specs.Prelude.{◌≡◌, ◌≤◌, ◌<◌, ◌^◌, ℕ, length, true, false, refl, Ok};
+ghost use Rattle.std.specs.Prelude.{◌≡◌, ◌≤◌, ◌<◌, ◌^◌, ℕ, ◌∷◌, length, true, false, refl, Ok};
 ghost use Rattle.der_elem.specs.FormatMakers.{format_of_contents};
 ghost use Rattle.der_bits.specs.BitString.{bit, bit_count};
 ghost use Rattle.der_bits.specs.BitStringRef as borrowed;
+ghost use Rattle.der_bits.specs.EqualBitsLaws.{same_tests, contents_decided};
 ghost use Rattle.der_bits.specs.NamedBits.{ends_in_one, named_bits_or_fault, parse_named_bits};
 ghost use Rattle.der_bits.specs.NamedBitsLaws.{named_parsed, named_bits_of_octets};
 
@@ -129,7 +130,10 @@ impl<'a> ValueOrd for NamedBitsRef<'a> {
 }
 
 impl<'a> ContentsEq for NamedBitsRef<'a> {
-    ghost contents_eq = { λ v w. ⟦<BitStringRef<'a> as ContentsEq>⟧.contents_eq v.string w.string };
+    ghost contents_eq = { λ v w one.
+        contents_decided (v.string.unused ∷ v.string.octets.now) (w.string.unused ∷ w.string.octets.now)
+        (same_tests v.string.unused w.string.unused v.string.octets.now w.string.octets.now
+        v.string.possible v.string.zero w.string.possible w.string.zero v.string.octet w.string.octet) };
 }
 
 impl<'a> CopyIsDuplicate for NamedBitsRef<'a> {}
