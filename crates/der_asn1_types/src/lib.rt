@@ -35,6 +35,7 @@ pub use der_fields::{
     write_sequence,
 };
 pub use der_nest::Asks;
+pub use der_numbers::EnumeratedTag;
 pub use der_time::{DateTime, const_contains_u8};
 pub use der_tlv::{
     BytesOwned, BytesRef, Class, Cursor, EncodingRules, Error, ErrorKind, Header, Length, Reader,

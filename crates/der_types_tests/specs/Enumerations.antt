@@ -6,7 +6,7 @@ use Rattle.der_types_tests.specs.declared.tests.enumerated.CrlReason.TheVariants
 use Rattle.der_types_tests.specs.declared.tests.enumerated.Version.{Version}
 use Rattle.der_types_tests.specs.declared.tests.enumerated.Version.TheVariants.{V1, V2, V3}
 
-reason_number : CrlReason → ℤ
+abbrev pub reason_number : CrlReason → ℤ
 reason_number Unspecified = pos 0
 reason_number KeyCompromise = pos 1
 reason_number CaCompromise = pos 2
@@ -18,10 +18,10 @@ reason_number RemoveFromCrl = pos 8
 reason_number PrivilegeWithdrawn = pos 9
 reason_number AaCompromise = pos 10
 
-all_reasons : List CrlReason
+abbrev pub all_reasons : List CrlReason
 all_reasons = Unspecified ∷ KeyCompromise ∷ CaCompromise ∷ AffiliationChanged ∷ Superseded ∷ CessationOfOperation ∷ CertificateHold ∷ RemoveFromCrl ∷ PrivilegeWithdrawn ∷ AaCompromise ∷ []
 
-reason_found : (value : CrlReason) → named reason_number all_reasons (reason_number value) ≡ Some value
+pub reason_found : (value : CrlReason) → named reason_number all_reasons (reason_number value) ≡ Some value
 reason_found Unspecified = refl
 reason_found KeyCompromise = refl
 reason_found CaCompromise = refl
@@ -33,7 +33,7 @@ reason_found RemoveFromCrl = refl
 reason_found PrivilegeWithdrawn = refl
 reason_found AaCompromise = refl
 
-pub crl_reasons : Names CrlReason
+abbrev pub crl_reasons : Names CrlReason
 crl_reasons = record {
   number_of = reason_number;
   values = all_reasons;
@@ -42,17 +42,17 @@ crl_reasons = record {
 }
 
 -- the numbers of Version, an INTEGER
-version_number : Version → ℤ
+abbrev pub version_number : Version → ℤ
 version_number V1 = pos 0
 version_number V2 = pos 1
 version_number V3 = pos 2
 
-version_found : (value : Version) → named version_number (V1 ∷ V2 ∷ V3 ∷ []) (version_number value) ≡ Some value
+pub version_found : (value : Version) → named version_number (V1 ∷ V2 ∷ V3 ∷ []) (version_number value) ≡ Some value
 version_found V1 = refl
 version_found V2 = refl
 version_found V3 = refl
 
-pub versions : Names Version
+abbrev pub versions : Names Version
 versions = record {
   number_of = version_number;
   values = V1 ∷ V2 ∷ V3 ∷ [];
