@@ -4,12 +4,14 @@ pub use der_ascii::{
     Ia5String, Ia5StringRef, PrintableString, PrintableStringRef, TeletexString, TeletexStringRef,
     VideotexStringRef,
 };
-pub use der_bits::{AllowedLenBitString, AsBitStringRef, BitString, BitStringIter, BitStringRef};
+pub use der_bits::{
+    AllowedLenBitString, AsBitStringRef, BitString, BitStringIter, BitStringRef, NamedBitsRef,
+};
 pub use der_nest::{
     ByEncoding, ItemProbe, ItemSet, Kept, NonEmpty, Probe, SequenceOf, SequenceOfIter, SequenceRef,
     SetOf, SetOfIter, SetOfRef, SetOfRefIter, SetOfVec, Values, insertion_place,
 };
-pub use der_numbers::{AsIntRef, AsUintRef, Int, IntRef, Uint, UintRef};
+pub use der_numbers::{AsIntRef, AsUintRef, Enumerated, Enumeration, Int, IntRef, Uint, UintRef};
 pub use der_opaque::{Any, AnyRef, Null, ObjectIdentifier, OctetString, OctetStringRef};
 pub use der_text::{BmpChars, BmpCodepoints, BmpString, GeneralStringRef, Utf8StringRef};
 pub use der_time::{GeneralizedTime, UtcTime};

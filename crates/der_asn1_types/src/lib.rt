@@ -18,25 +18,103 @@ pub mod items;
 pub mod laws;
 
 pub use canonical_encoding::canonical;
-pub use der_ascii::{CharacterString, CharacterStringRef, CharacterStringTag};
-pub use der_elem::{
-    BitStringTag, BmpStringTag, BooleanTag, Choice, ContentsEq, CopyIsDuplicate, Decode,
-    DecodeField, DecodeValue, DerOrd, Duplicate, DuplicateValue, Encode, EncodeValue, EncodingEq,
-    FirstTag, FixedTag, Form, FormValue, FromDer, GeneralStringTag, GeneralizedTimeTag, IntegerTag,
-    IsConstructed, KnownTags, NullTag, ObjectIdentifierTag, OctetStringTag, OneTag, OrdIsValueOrd,
-    Sequence, SequenceTag, SetTag, TagMarker, Tagged, TakesMemory, UtcTimeTag, Utf8StringTag,
-    ValueOrd, read_contents,
-};
-pub use der_fields::{
-    DefaultFalse, DefaultNumber, DefaultOf, DistinctTags, End, Explicit, ExplicitApplication,
-    ExplicitPrivate, Field, FieldList, FieldSequence, Fields1, Fields2, Fields3, Fields4, Fields5,
-    Fields6, Fields7, Fields8, Implicit, ImplicitApplication, ImplicitPrivate, NamedFields,
-    NamedSequence, OneOf, WithDefault, read_named_sequence, read_sequence, write_named_sequence,
-    write_sequence,
-};
-pub use der_nest::{Asks, DuplicateItems, ItemContents, ItemCount, ItemOrder, OrdersByEncoding};
-pub use der_time::{DateTime, const_contains_u8};
-pub use der_tlv::{
-    BytesOwned, BytesRef, Class, Cursor, EncodingRules, Error, ErrorKind, Header, Length, Reader,
-    SliceReader, SliceWriter, Source, Tag, TagMode, TagNumber, VecWriter, Writer,
-};
+pub use der_ascii::CharacterString;
+pub use der_ascii::CharacterStringRef;
+pub use der_ascii::CharacterStringTag;
+pub use der_elem::BitStringTag;
+pub use der_elem::BmpStringTag;
+pub use der_elem::BooleanTag;
+pub use der_elem::Choice;
+pub use der_elem::ContentsEq;
+pub use der_elem::CopyIsDuplicate;
+pub use der_elem::Decode;
+pub use der_elem::DecodeField;
+pub use der_elem::DecodeValue;
+pub use der_elem::DerOrd;
+pub use der_elem::Duplicate;
+pub use der_elem::DuplicateValue;
+pub use der_elem::Encode;
+pub use der_elem::EncodeValue;
+pub use der_elem::EncodingEq;
+pub use der_elem::FirstTag;
+pub use der_elem::FixedTag;
+pub use der_elem::Form;
+pub use der_elem::FormValue;
+pub use der_elem::FromDer;
+pub use der_elem::GeneralStringTag;
+pub use der_elem::GeneralizedTimeTag;
+pub use der_elem::IntegerTag;
+pub use der_elem::IsConstructed;
+pub use der_elem::KnownTags;
+pub use der_elem::NullTag;
+pub use der_elem::ObjectIdentifierTag;
+pub use der_elem::OctetStringTag;
+pub use der_elem::OneTag;
+pub use der_elem::OrdIsValueOrd;
+pub use der_elem::Sequence;
+pub use der_elem::SequenceTag;
+pub use der_elem::SetTag;
+pub use der_elem::TagMarker;
+pub use der_elem::Tagged;
+pub use der_elem::TakesMemory;
+pub use der_elem::UtcTimeTag;
+pub use der_elem::Utf8StringTag;
+pub use der_elem::ValueOrd;
+pub use der_elem::read_contents;
+pub use der_fields::DefaultFalse;
+pub use der_fields::DefaultNumber;
+pub use der_fields::DefaultOf;
+pub use der_fields::DistinctTags;
+pub use der_fields::End;
+pub use der_fields::Explicit;
+pub use der_fields::ExplicitApplication;
+pub use der_fields::ExplicitPrivate;
+pub use der_fields::Field;
+pub use der_fields::FieldList;
+pub use der_fields::FieldSequence;
+pub use der_fields::Fields1;
+pub use der_fields::Fields2;
+pub use der_fields::Fields3;
+pub use der_fields::Fields4;
+pub use der_fields::Fields5;
+pub use der_fields::Fields6;
+pub use der_fields::Fields7;
+pub use der_fields::Fields8;
+pub use der_fields::Implicit;
+pub use der_fields::ImplicitApplication;
+pub use der_fields::ImplicitPrivate;
+pub use der_fields::NamedFields;
+pub use der_fields::NamedSequence;
+pub use der_fields::OneOf;
+pub use der_fields::WithDefault;
+pub use der_fields::read_named_sequence;
+pub use der_fields::read_sequence;
+pub use der_fields::write_named_sequence;
+pub use der_fields::write_sequence;
+pub use der_nest::Asks;
+pub use der_nest::DuplicateItems;
+pub use der_nest::ItemContents;
+pub use der_nest::ItemCount;
+pub use der_nest::ItemOrder;
+pub use der_nest::OrdersByEncoding;
+pub use der_numbers::EnumeratedTag;
+pub use der_time::DateTime;
+pub use der_time::const_contains_u8;
+pub use der_tlv::BytesOwned;
+pub use der_tlv::BytesRef;
+pub use der_tlv::Class;
+pub use der_tlv::Cursor;
+pub use der_tlv::EncodingRules;
+pub use der_tlv::Error;
+pub use der_tlv::ErrorKind;
+pub use der_tlv::Header;
+pub use der_tlv::Length;
+pub use der_tlv::Reader;
+pub use der_tlv::SliceReader;
+pub use der_tlv::SliceWriter;
+pub use der_tlv::Source;
+pub use der_tlv::Tag;
+pub use der_tlv::TagMode;
+pub use der_tlv::TagNumber;
+pub use der_tlv::VecWriter;
+pub use der_tlv::Writer;

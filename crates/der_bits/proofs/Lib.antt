@@ -1,2 +1,3 @@
 pub mod ClearedBits
 pub mod ContentsWriting
+pub mod EndingBits

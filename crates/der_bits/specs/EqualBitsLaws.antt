@@ -24,7 +24,7 @@ low_bit n c k e h =
     ap (λ m. bit_at m k) (sym (shr_split n c)) ∙ bit_at_cat_low (n / 2 ^ c) c (n % 2 ^ c) k h ∙ ap (λ m. bit_at m k) e ∙ bit_at-zero k
 
 -- each unused bit is zero
-unused_zero : (count : ℕ) (octets : List ℕ) → count ≤ 7 → are_zero count octets ≡ true → (i : ℕ) → 8 * length octets - count ≤ i → i < 8 * length octets → bit_at_place octets i ≡ false
+pub unused_zero : (count : ℕ) (octets : List ℕ) → count ≤ 7 → are_zero count octets ≡ true → (i : ℕ) → 8 * length octets - count ≤ i → i < 8 * length octets → bit_at_place octets i ≡ false
 unused_zero count octets bound z i from below =
     let last : i / 8 ≡ length octets - 1 = omega (arith, bound, from, below) in
     let k : 7 - i % 8 < count = omega (arith, bound, from, below) in

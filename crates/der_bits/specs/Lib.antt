@@ -4,6 +4,9 @@ pub mod BitPlaceLaws
 pub mod EqualBitsLaws
 pub mod BitStringRef
 pub mod OwnedBitString
+pub mod NamedBits
+pub mod NamedBitsLaws
+pub mod NamedBitsRef
 pub use Rattle.der_elem.specs.OwnContents
 pub use Rattle.der_opaque.specs.Any
 pub use Rattle.der_opaque.specs.AnyRef

@@ -196,7 +196,7 @@ impl<'a> BitStringRef<'a> {
     }
 
     /// The bit string with these contents octets, or the first fault.
-    fn of_contents(contents: &'a [u8]) -> Result<BitStringRef<'a>, ErrorKind>
+    pub(crate) fn of_contents(contents: &'a [u8]) -> Result<BitStringRef<'a>, ErrorKind>
         requires { length contents.now < 2 ^ 32 }
         ensures { ParsedAs contents_of contents.now result }
     {

@@ -16,9 +16,12 @@ mod bit_string;
 mod bit_string_iter;
 mod bit_string_ref;
 pub mod laws;
+mod named_bits;
+mod trimming;
 mod unused_bits;
 
 pub use allowed_len::AllowedLenBitString;
 pub use bit_string::BitString;
 pub use bit_string_iter::BitStringIter;
 pub use bit_string_ref::{AsBitStringRef, BitStringRef};
+pub use named_bits::NamedBitsRef;

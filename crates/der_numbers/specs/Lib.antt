@@ -2,6 +2,8 @@ pub mod AnyLength
 pub mod AnyLengthLaws
 pub mod UnsignedLaws
 pub mod ReadingLaws
+pub mod Enumerated
+pub mod EnumeratedLaws
 pub mod Int
 pub mod IntRef
 pub mod Uint

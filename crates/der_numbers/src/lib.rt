@@ -14,6 +14,7 @@
 //! ```
 #![tactic(auto)]
 
+mod enumerated;
 mod int;
 mod int_ref;
 pub mod laws;
@@ -22,6 +23,7 @@ mod octets;
 mod uint;
 mod uint_ref;
 
+pub use enumerated::{Enumerated, EnumeratedTag, Enumeration};
 pub use int::Int;
 pub use int_ref::{AsIntRef, IntRef};
 pub use uint::Uint;

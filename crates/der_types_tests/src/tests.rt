@@ -2,6 +2,8 @@
 
 mod ascii;
 mod bits;
+mod enumerated;
+mod named_bits;
 mod numbers;
 mod text;
 mod time;

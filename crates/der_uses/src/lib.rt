@@ -9,6 +9,7 @@ mod field_list;
 mod fields;
 mod headers;
 mod named_fields;
+mod named_numbers;
 mod reading;
 mod sets;
 mod sources;
@@ -18,7 +19,7 @@ mod times;
 mod writing;
 
 pub use anys::named_curve;
-pub use bits::may_sign_certificates;
+pub use bits::{is_usage, may_sign_certificates};
 pub use comparing::is_before;
 pub use field_list::{Policy, PolicyList, is_same_policy, read_policy, write_policy};
 pub use fields::{PolicyFields, read_policy_fields};
@@ -26,6 +27,7 @@ pub use headers::first_header;
 pub use named_fields::{
     NamedPolicy, PolicyMembers, is_same_named_policy, read_named_policy, write_named_policy,
 };
+pub use named_numbers::{ResponseStatus, read_status, write_status};
 pub use reading::{contents_of_string, read_numbers, serial_number};
 pub use sets::{attribute_set, with_attribute};
 pub use sources::{Watched, read_watched};

@@ -6,13 +6,13 @@ mod rooms;
 mod rows;
 
 use crate::{
-    Watched, attribute_set, common_name, contents_of_string, country, explicit_version,
-    first_header, is_before, is_same_named_policy, is_same_policy, is_within,
-    may_sign_certificates, named_curve, number_in, read_named_policy, read_numbers, read_policy,
-    read_policy_fields, read_watched, serial_number, with_attribute, write_named_policy,
-    write_numbers, write_policy,
+    ResponseStatus, Watched, attribute_set, common_name, contents_of_string, country,
+    explicit_version, first_header, is_before, is_same_named_policy, is_same_policy, is_usage,
+    is_within, may_sign_certificates, named_curve, number_in, read_named_policy, read_numbers,
+    read_policy, read_policy_fields, read_status, read_watched, serial_number, with_attribute,
+    write_named_policy, write_numbers, write_policy, write_status,
 };
-use der_asn1_types::asn1::{AnyRef, BitStringRef};
+use der_asn1_types::asn1::{AnyRef, BitStringRef, Enumerated, NamedBitsRef};
 use der_asn1_types::{DateTime, DerOrd, Duplicate, Error, FromDer, Length, Reader, Tag};
 use std::cmp::Ordering;
 use std::fmt::Debug;
@@ -197,6 +197,35 @@ fn a_key_may_sign_certificates(rt: HostRuntime) -> Result<(), Fail> {
         Ok(usage) => holds(&rt, !may_sign_certificates(usage)),
         Err(_) => return Err("refused".into()),
     }
+    Ok(())
+}
+
+#[test]
+fn uses_of_a_key_are_asked_by_name(rt: HostRuntime) -> Result<(), Fail> {
+    match NamedBitsRef::from_der(rt.alloc(), &[0x03, 0x03, 0x07, 0x06, 0x80]) {
+        Ok(usage) => {
+            holds(&rt, is_usage(usage, 5));
+            holds(&rt, is_usage(usage, 8));
+            holds(&rt, !is_usage(usage, 7));
+            holds(&rt, !is_usage(usage, 9));
+        }
+        Err(_) => return Err("refused".into()),
+    }
+    Ok(())
+}
+
+#[test]
+fn a_status_has_a_name(rt: HostRuntime) -> Result<(), Fail> {
+    let status = numbered(read_status(rt.alloc(), &[0x0a, 0x01, 0x05]))?;
+    same(&rt, status.value, ResponseStatus::SigRequired);
+    let written = numbered(write_status(rt.alloc(), &status))?;
+    same(&rt, written.as_slice(), [0x0a, 0x01, 0x05].as_slice());
+    let unnamed = numbered(read_status(rt.alloc(), &[0x0a, 0x01, 0x04]));
+    same(&rt, unnamed.err(), Some(13));
+    let later = Enumerated {
+        value: ResponseStatus::TryLater,
+    };
+    same(&rt, status == later, false);
     Ok(())
 }
 

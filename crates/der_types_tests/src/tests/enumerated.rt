@@ -1,0 +1,168 @@
+//! Tests of numbers that have names: CRLReason and Version of RFC 5280 (5.3.1, 4.1.2.1).
+
+ghost use Rattle.der_types_tests.specs.Enumerations.{crl_reasons, versions};
+
+use crate::tests::{refusal, same, same_in, stays};
+use der_elem::{DerOrd, Duplicate, Encode, FixedTag, FromDer, IntegerTag, ValueOrd};
+use der_numbers::{Enumerated, EnumeratedTag, Enumeration};
+use der_tlv::Tag;
+use std::cmp::Ordering;
+
+/// `CRLReason ::= ENUMERATED`, in which 7 is not used.
+#[derive(Clone, Copy, Debug, PartialEq, Eq)]
+enum CrlReason {
+    Unspecified,
+    KeyCompromise,
+    CaCompromise,
+    AffiliationChanged,
+    Superseded,
+    CessationOfOperation,
+    CertificateHold,
+    RemoveFromCrl,
+    PrivilegeWithdrawn,
+    AaCompromise,
+}
+
+impl Enumeration for CrlReason {
+    type Marker = EnumeratedTag;
+
+    ghost names = { crl_reasons };
+
+    fn number(self) -> i64 {
+        match self {
+            CrlReason::Unspecified => 0,
+            CrlReason::KeyCompromise => 1,
+            CrlReason::CaCompromise => 2,
+            CrlReason::AffiliationChanged => 3,
+            CrlReason::Superseded => 4,
+            CrlReason::CessationOfOperation => 5,
+            CrlReason::CertificateHold => 6,
+            CrlReason::RemoveFromCrl => 8,
+            CrlReason::PrivilegeWithdrawn => 9,
+            CrlReason::AaCompromise => 10,
+        }
+    }
+
+    fn of_number(number: i64) -> Option<CrlReason> {
+        match number {
+            0 => Some(CrlReason::Unspecified),
+            1 => Some(CrlReason::KeyCompromise),
+            2 => Some(CrlReason::CaCompromise),
+            3 => Some(CrlReason::AffiliationChanged),
+            4 => Some(CrlReason::Superseded),
+            5 => Some(CrlReason::CessationOfOperation),
+            6 => Some(CrlReason::CertificateHold),
+            8 => Some(CrlReason::RemoveFromCrl),
+            9 => Some(CrlReason::PrivilegeWithdrawn),
+            10 => Some(CrlReason::AaCompromise),
+            _ => None,
+        }
+    }
+}
+
+/// `Version ::= INTEGER { v1(0), v2(1), v3(2) }`.
+#[derive(Clone, Copy, Debug, PartialEq, Eq)]
+enum Version {
+    V1,
+    V2,
+    V3,
+}
+
+impl Enumeration for Version {
+    type Marker = IntegerTag;
+
+    ghost names = { versions };
+
+    fn number(self) -> i64 {
+        match self {
+            Version::V1 => 0,
+            Version::V2 => 1,
+            Version::V3 => 2,
+        }
+    }
+
+    fn of_number(number: i64) -> Option<Version> {
+        match number {
+            0 => Some(Version::V1),
+            1 => Some(Version::V2),
+            2 => Some(Version::V3),
+            _ => None,
+        }
+    }
+}
+
+type Reason = Enumerated<CrlReason>;
+
+type NamedVersion = Enumerated<Version>;
+
+#[test]
+fn named_numbers_are_read_and_written(rt: HostRuntime) {
+    let alloc = rt.alloc();
+    for number in [0, 1, 2, 3, 4, 5, 6, 8, 9, 10] {
+        same_in(
+            &rt,
+            &number,
+            stays::<Reason>(alloc, &[0x0a, 0x01, number]),
+            true,
+        );
+    }
+    for number in [0, 1, 2] {
+        same_in(
+            &rt,
+            &number,
+            stays::<NamedVersion>(alloc, &[0x02, 0x01, number]),
+            true,
+        );
+    }
+}
+
+#[test]
+fn numbers_without_a_name_are_refused(rt: HostRuntime) {
+    let alloc = rt.alloc();
+    for number in [7, 11, 0x7f, 0x80, 0xff] {
+        same_in(
+            &rt,
+            &number,
+            refusal::<Reason>(alloc, &[0x0a, 0x01, number]),
+            13,
+        );
+    }
+    same(&rt, refusal::<Reason>(alloc, &[0x0a, 0x02, 0x01, 0x00]), 13);
+    same(&rt, refusal::<NamedVersion>(alloc, &[0x02, 0x01, 0x03]), 13);
+}
+
+#[test]
+fn named_numbers_are_refused_as_integers_are(rt: HostRuntime) {
+    let alloc = rt.alloc();
+    same(&rt, refusal::<Reason>(alloc, &[0x0a, 0x00]), 7);
+    same(&rt, refusal::<Reason>(alloc, &[0x0a, 0x02, 0x00, 0x01]), 8);
+    same(&rt, refusal::<Reason>(alloc, &[0x0a, 0x02, 0xff, 0xff]), 8);
+    same(
+        &rt,
+        refusal::<Reason>(alloc, &[0x0a, 0x09, 1, 0, 0, 0, 0, 0, 0, 0, 0]),
+        8,
+    );
+    same(&rt, refusal::<Reason>(alloc, &[0x02, 0x01, 0x01]), 4);
+    same(&rt, refusal::<NamedVersion>(alloc, &[0x0a, 0x01, 0x01]), 4);
+    same(&rt, refusal::<Reason>(alloc, &[0x0a, 0x01]), 2);
+    same(&rt, refusal::<Reason>(alloc, &[0x0a, 0x01, 0x01, 0x00]), 3);
+}
+
+#[test]
+fn named_numbers_are_compared_and_copied(rt: HostRuntime) {
+    let hold = Enumerated {
+        value: CrlReason::CertificateHold,
+    };
+    let removed = Enumerated {
+        value: CrlReason::RemoveFromCrl,
+    };
+    same(&rt, hold == removed, false);
+    same(&rt, hold == hold, true);
+    same(&rt, hold.der_cmp(&removed).ok(), Some(Ordering::Less));
+    same(&rt, removed.value_cmp(&hold).ok(), Some(Ordering::Greater));
+    same(&rt, removed.duplicate().ok(), Some(removed));
+    same(&rt, <Reason as FixedTag>::TAG, Tag::Enumerated);
+    same(&rt, <NamedVersion as FixedTag>::TAG, Tag::Integer);
+    let read = NamedVersion::from_der(rt.alloc(), &[0x02, 0x01, 0x02]);
+    same(&rt, read.ok(), Some(Enumerated { value: Version::V3 }));
+}

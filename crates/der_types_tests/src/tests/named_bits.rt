@@ -1,0 +1,108 @@
+//! Tests of named bits: KeyUsage and ReasonFlags of RFC 5280 (4.2.1.3, 4.2.1.13).
+
+use crate::tests::{reads_back, refusal, same, same_in};
+use der_bits::{AsBitStringRef, BitStringRef, NamedBitsRef};
+use der_elem::{DerOrd, Duplicate, Encode, FixedTag, FromDer, ValueOrd};
+use der_tlv::Tag;
+use std::cmp::Ordering;
+
+/// Encodings: digitalSignature and keyEncipherment; keyCertSign and cRLSign; cRLSign and
+/// decipherOnly; no bits.
+const USAGES: [&[u8]; 4] = [
+    &[0x03, 0x02, 0x05, 0xa0],
+    &[0x03, 0x02, 0x01, 0x06],
+    &[0x03, 0x03, 0x07, 0x02, 0x80],
+    &[0x03, 0x01, 0x00],
+];
+
+/// What has a bit 0 at its end.
+const LONGER: [&[u8]; 5] = [
+    &[0x03, 0x02, 0x00, 0xa0],
+    &[0x03, 0x02, 0x04, 0xa0],
+    &[0x03, 0x02, 0x07, 0x00],
+    &[0x03, 0x02, 0x00, 0x00],
+    &[0x03, 0x03, 0x00, 0xa0, 0x00],
+];
+
+#[test]
+fn named_bits_are_read_and_written(rt: HostRuntime) {
+    for octets in USAGES {
+        let answer = reads_back::<NamedBitsRef<'_>>(&rt, rt.alloc(), octets);
+        same_in(&rt, &octets, answer, Ok(()));
+    }
+}
+
+#[test]
+fn named_bits_are_refused(rt: HostRuntime) {
+    let alloc = rt.alloc();
+    for octets in LONGER {
+        same_in(&rt, &octets, refusal::<NamedBitsRef<'_>>(alloc, octets), 8);
+    }
+    same(
+        &rt,
+        refusal::<NamedBitsRef<'_>>(alloc, &[0x03, 0x02, 0x05, 0xb0]),
+        8,
+    );
+    same(&rt, refusal::<NamedBitsRef<'_>>(alloc, &[0x03, 0x00]), 9);
+    same(
+        &rt,
+        refusal::<NamedBitsRef<'_>>(alloc, &[0x03, 0x02, 0x08, 0x80]),
+        13,
+    );
+    same(
+        &rt,
+        refusal::<NamedBitsRef<'_>>(alloc, &[0x03, 0x01, 0x01]),
+        13,
+    );
+    same(
+        &rt,
+        refusal::<NamedBitsRef<'_>>(alloc, &[0x04, 0x02, 0x05, 0xa0]),
+        4,
+    );
+}
+
+#[test]
+fn bits_are_asked_by_name(rt: HostRuntime) {
+    let Ok(usage) = NamedBitsRef::from_der(rt.alloc(), &[0x03, 0x02, 0x01, 0x06]) else {
+        return same(&rt, true, false);
+    };
+    same(&rt, usage.has(4), false);
+    same(&rt, usage.has(5), true);
+    same(&rt, usage.has(6), true);
+    same(&rt, usage.has(7), false);
+    same(&rt, usage.has(8), false);
+    same(&rt, usage.has(1_000_000), false);
+    same(&rt, usage.as_bit_string().bit_len(), 7);
+    same(&rt, usage.as_bit_string_ref().unused_bits(), 1);
+}
+
+#[test]
+fn zeros_at_the_end_are_left_away(rt: HostRuntime) {
+    let alloc = rt.alloc();
+    let Ok(long) = BitStringRef::from_bytes(&[0xa0, 0x00, 0x00]) else {
+        return same(&rt, true, false);
+    };
+    let Ok(none) = BitStringRef::from_bytes(&[0x00, 0x00]) else {
+        return same(&rt, true, false);
+    };
+    let named = NamedBitsRef::new(long);
+    let written = named.to_der(alloc).map_err(|e| e.kind.number());
+    same(
+        &rt,
+        written.as_deref().ok(),
+        Some([0x03, 0x02, 0x05, 0xa0].as_slice()),
+    );
+    let empty = NamedBitsRef::new(none);
+    let written = empty.to_der(alloc).map_err(|e| e.kind.number());
+    same(
+        &rt,
+        written.as_deref().ok(),
+        Some([0x03, 0x01, 0x00].as_slice()),
+    );
+    same(&rt, empty == named, false);
+    same(&rt, empty.der_cmp(&named).ok(), Some(Ordering::Less));
+    same(&rt, named.value_cmp(&empty).ok(), Some(Ordering::Greater));
+    same(&rt, named.cmp(&empty), Ordering::Greater);
+    same(&rt, named.duplicate().ok(), Some(named));
+    same(&rt, <NamedBitsRef<'_> as FixedTag>::TAG, Tag::BitString);
+}
