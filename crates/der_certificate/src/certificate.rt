@@ -9,7 +9,7 @@ use der_asn1_types::{
     DefaultNumber, Error, Explicit, FieldSequence, Fields2, Fields8, Implicit, WithDefault,
     read_sequence, write_sequence,
 };
-use der_pkix::{AlgorithmIdentifier, Extension, KeptName, SubjectPublicKeyInfo, Validity};
+use der_pkix::{AlgorithmIdentifier, Extensions, KeptName, SubjectPublicKeyInfo, Validity};
 use std::alloc::Global;
 
 /// What is signed of a certificate. Names are read, and kept as they came.
@@ -25,7 +25,7 @@ use std::alloc::Global;
 ///     subjectPublicKeyInfo  SubjectPublicKeyInfo,
 ///     issuerUniqueID        [1] IMPLICIT BIT STRING OPTIONAL,
 ///     subjectUniqueID       [2] IMPLICIT BIT STRING OPTIONAL,
-///     extensions            [3] SEQUENCE OF Extension OPTIONAL }
+///     extensions            [3] Extensions OPTIONAL }
 /// ```
 pub type TbsCertificate<'a> = FieldSequence<
     Fields8<
@@ -37,7 +37,7 @@ pub type TbsCertificate<'a> = FieldSequence<
         KeptName<'a>,
         SubjectPublicKeyInfo<'a>,
         Option<Implicit<BitStringRef<'a>, 1>>,
-        Fields2<Option<Implicit<BitStringRef<'a>, 2>>, Option<Explicit<Vec<Extension<'a>>, 3>>>,
+        Fields2<Option<Implicit<BitStringRef<'a>, 2>>, Option<Explicit<Extensions<'a>, 3>>>,
     >,
 >;
 

@@ -5,7 +5,7 @@ ghost use Rattle.std.specs.Prelude.{◌≡◌};
 use crate::certificate::TbsCertificate;
 use der_asn1_types::asn1::{BitStringRef, IntRef};
 use der_asn1_types::{Explicit, Implicit};
-use der_pkix::{AlgorithmIdentifier, Extension, KeptName, SubjectPublicKeyInfo, Validity};
+use der_pkix::{AlgorithmIdentifier, Extensions, KeptName, SubjectPublicKeyInfo, Validity};
 
 /// `version`: 0 for v1, which is the default, 1 for v2, 2 for v3.
 pub fn version(tbs: &TbsCertificate<'_>) -> u8
@@ -75,9 +75,7 @@ pub fn subject_unique_id<'a, 'b>(
 }
 
 /// `extensions`, if there are any.
-pub fn extensions<'a, 'b>(
-    tbs: &'b TbsCertificate<'a>,
-) -> &'b Option<Explicit<Vec<Extension<'a>>, 3>>
+pub fn extensions<'a, 'b>(tbs: &'b TbsCertificate<'a>) -> &'b Option<Explicit<Extensions<'a>, 3>>
     ensures { result.now ≡ tbs.now.fields.list.rest.rest.rest.rest.rest.rest.rest.rest.list.rest.first }
 {
     tbs.fields.rest().second()

@@ -4,7 +4,7 @@ ghost use Rattle.der_asn1_types.specs.Decoding.{ReadsAll};
 ghost use Rattle.der_asn1_types.specs.SequenceWriting.{WritesAll};
 ghost use Rattle.der_extensions.specs.Grammars.{ext_key_usage};
 
-use der_asn1_types::asn1::ObjectIdentifier;
+use der_asn1_types::asn1::{NonEmpty, ObjectIdentifier};
 use der_asn1_types::{Encode, Error, FromDer};
 use std::alloc::Global;
 
@@ -12,16 +12,14 @@ use std::alloc::Global;
 /// 30 0A 06 08 2B 06 01 05 05 07 03 01.
 ///
 /// ```text
-/// ExtKeyUsageSyntax ::= SEQUENCE OF OBJECT IDENTIFIER
+/// ExtKeyUsageSyntax ::= SEQUENCE SIZE (1..MAX) OF OBJECT IDENTIFIER
 /// ```
-///
-/// No purpose, which RFC 5280 has not, is read too.
-pub type ExtKeyUsage = Vec<ObjectIdentifier<39>>;
+pub type ExtKeyUsage = NonEmpty<Vec<ObjectIdentifier<39>>>;
 
 /// Reads a key's purposes: all of the octets, under DER.
 ///
 /// # Errors
-/// The first fault of the octets, in the order of the purposes; (3) where octets are left over; (9)
+/// No purpose (13); the first fault of the octets, in the order of the purposes; (3) where octets are left over; (9)
 /// where there are more than 4294967295; (1) where memory runs out.
 pub fn read_ext_key_usage(alloc: Global, bytes: &[u8]) -> Result<ExtKeyUsage, Error>
     ensures { ReadsAll ext_key_usage.grammar bytes.now result }

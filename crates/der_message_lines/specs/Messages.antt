@@ -16,10 +16,12 @@ use Rattle.der_asn1_types.specs.ObjectIdentifierOctets.{parse_identifier}
 use Rattle.der_asn1_types.specs.Opaque.{parse_octets}
 use Rattle.der_asn1_types.specs.AnyLength.{parse_integer, parse_natural}
 use Rattle.der_asn1_types.specs.BitString.{parse_bit_string}
+use Rattle.der_asn1_types.specs.NamedBits.{parse_named_bits}
 use Rattle.der_asn1_types.specs.Characters.{parse_string}
 use Rattle.der_asn1_types.specs.TimeReading.{parse_generalized, parse_utc}
 use Rattle.der_asn1_types.specs.Sets.{parse_set}
 use Rattle.der_asn1_types.specs.KeptFormat.{parse_kept}
+use Rattle.der_asn1_types.specs.NonEmpty.{parse_some}
 use Rattle.der_asn1_types.specs.Alternatives.{parse_one}
 use Rattle.der_asn1_types.specs.FieldTags.{marker_tag}
 use Rattle.der_asn1_types.specs.Defaults.{parse_default}
@@ -107,9 +109,9 @@ name_items = parse_items (parse_tagged Set (parse_set (sequence attribute_fields
 abbrev pub extension_fields : ContentsParse
 extension_fields = parse_field object_identifier (parse_field flag (parse_field octets parse_end))
 
--- Extensions: a SEQUENCE OF Extension
+-- Extensions: a SEQUENCE SIZE (1..MAX) OF Extension
 abbrev pub extension_items : ContentsParse
-extension_items = parse_items (sequence extension_fields)
+extension_items = parse_some Sequence (parse_items (sequence extension_fields))
 
 -- the version, [0] EXPLICIT INTEGER DEFAULT v1
 abbrev pub version : Parse
@@ -246,8 +248,8 @@ item_messages name =
 
 unfoldable pub plain_values : Table
 plain_values name =
-    if bytes_eq name (codes "keyusage") then Some (canonical_tagged BitString parse_bit_string)
-    else if bytes_eq name (codes "extkeyusage") then Some (canonical_tagged Sequence (parse_items object_identifier))
+    if bytes_eq name (codes "keyusage") then Some (canonical_tagged BitString parse_named_bits)
+    else if bytes_eq name (codes "extkeyusage") then Some (canonical_tagged Sequence (parse_some Sequence (parse_items object_identifier)))
     else if bytes_eq name (codes "subjectkeyid") then Some (canonical_tagged OctetString parse_octets)
     else if bytes_eq name (codes "basicconstraints") then Some (canonical_tagged Sequence constraints_fields)
     else None

@@ -130,7 +130,7 @@ fn push_rest(
             text,
             octets,
             &site.field(octets, "extensions"),
-            &extensions.fields.first,
+            extensions.fields.first.list(),
         ),
         None => Ok(()),
     }

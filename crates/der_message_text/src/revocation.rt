@@ -114,7 +114,7 @@ fn push_revoked(
             text,
             octets,
             &site.field(octets, "crlExtensions"),
-            &extensions.fields.first,
+            extensions.fields.first.list(),
         ),
         None => Ok(()),
     }

@@ -3,8 +3,8 @@
 
 use crate::identifiers::push_identifier;
 use crate::names::push_malformed;
-use der_asn1_types::asn1::{BitStringRef, ObjectIdentifier};
-use der_extensions::{read_ext_key_usage, read_key_usage};
+use der_asn1_types::asn1::ObjectIdentifier;
+use der_extensions::{KeyUsage, read_ext_key_usage, read_key_usage};
 use std::alloc::{AllocError, Global};
 
 /// The names of the bits, from bit 0 on.
@@ -23,7 +23,7 @@ const USAGES: [&str; 9] = [
 /// Adds the names of the bits that are set.
 pub fn push_usage(alloc: Global, text: &mut String, octets: &[u8]) -> Result<(), AllocError> {
     match read_key_usage(alloc, octets) {
-        Ok(usage) => push_bits(text, &usage),
+        Ok(usage) => push_bits(text, usage),
         Err(error) => {
             text.push_str(", ")?;
             push_malformed(text, error)
@@ -31,9 +31,9 @@ pub fn push_usage(alloc: Global, text: &mut String, octets: &[u8]) -> Result<(),
     }
 }
 
-fn push_bits(text: &mut String, usage: &BitStringRef<'_>) -> Result<(), AllocError> {
+fn push_bits(text: &mut String, usage: KeyUsage<'_>) -> Result<(), AllocError> {
     for (index, name) in USAGES.iter().enumerate() {
-        if usage.get(index).unwrap_or(false) {
+        if usage.has(index) {
             text.push_str(", ")?;
             text.push_str(name)?;
         }
@@ -44,7 +44,7 @@ fn push_bits(text: &mut String, usage: &BitStringRef<'_>) -> Result<(), AllocErr
 /// Adds the purposes.
 pub fn push_purposes(alloc: Global, text: &mut String, octets: &[u8]) -> Result<(), AllocError> {
     match read_ext_key_usage(alloc, octets) {
-        Ok(purposes) => push_each(alloc, text, purposes.as_slice()),
+        Ok(purposes) => push_each(alloc, text, purposes.list().as_slice()),
         Err(error) => {
             text.push_str(", ")?;
             push_malformed(text, error)

@@ -5,16 +5,16 @@ ghost use Rattle.der_asn1_types.specs.SequenceWriting.{WritesAll};
 ghost use Rattle.der_pkix.specs.Grammars.{extension, extensions};
 
 use crate::extension::Extension;
-use der_asn1_types::asn1::Kept;
+use der_asn1_types::asn1::{Kept, NonEmpty};
 use der_asn1_types::{Encode, Error, FromDer};
 use std::alloc::Global;
 
 /// ```text
-/// Extensions ::= SEQUENCE OF Extension
+/// Extensions ::= SEQUENCE SIZE (1..MAX) OF Extension
 /// ```
 ///
-/// No extension and one given twice, which RFC 5280 has not, are read too.
-pub type Extensions<'a> = Vec<Extension<'a>>;
+/// One given twice, which RFC 5280 has not, is read too.
+pub type Extensions<'a> = NonEmpty<Vec<Extension<'a>>>;
 
 /// Extensions that were read as such, and are kept and written as they came.
 pub type KeptExtensions<'a> = Kept<'a, Extensions<'a>>;
@@ -43,7 +43,7 @@ pub fn write_extension<'a>(alloc: Global, value: &Extension<'a>) -> Result<Vec<u
 /// Reads a list of extensions: all of the octets, under DER.
 ///
 /// # Errors
-/// The first fault of the octets, in the order of the extensions; (3) where octets are left over;
+/// No extension (13); the first fault of the octets, in the order of the extensions; (3) where octets are left over;
 /// (9) where there are more than 4294967295; (1) where memory runs out.
 pub fn read_extensions<'a>(alloc: Global, bytes: &'a [u8]) -> Result<Extensions<'a>, Error>
     ensures { ReadsAll extensions.grammar bytes.now result }

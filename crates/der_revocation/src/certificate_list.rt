@@ -23,7 +23,7 @@ use std::alloc::Global;
 ///     thisUpdate           Time,
 ///     nextUpdate           Time OPTIONAL,
 ///     revokedCertificates  SEQUENCE OF RevokedCertificate OPTIONAL,
-///     crlExtensions        [0] SEQUENCE OF Extension OPTIONAL }
+///     crlExtensions        [0] Extensions OPTIONAL }
 /// ```
 pub type TbsCertList<'a> = FieldSequence<
     Fields7<

@@ -16,7 +16,7 @@ use std::alloc::Global;
 /// SEQUENCE {
 ///     userCertificate     INTEGER,
 ///     revocationDate      Time,
-///     crlEntryExtensions  SEQUENCE OF Extension OPTIONAL }
+///     crlEntryExtensions  Extensions OPTIONAL }
 /// ```
 pub type RevokedCertificate<'a> = FieldSequence<
     Fields3<IntRef<'a>, Time, Option<KeptExtensions<'a>>>,

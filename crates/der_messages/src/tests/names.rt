@@ -128,8 +128,9 @@ fn extensions_are_written_back(rt: HostRuntime) -> Result<(), Fail> {
 #[test]
 fn lists_of_extensions_are_written_back(rt: HostRuntime) -> Result<(), Fail> {
     let alloc = rt.alloc();
+    same(&rt, extensions_again(alloc, &[0x30, 0x00]).err(), Some(13));
     let rows = [
-        "3000",
+        "300a300806032a030404010a",
         "3030301d0603551d0e04160414ca0eb00e1530addc9f93a6d91a6ea8abf7e39fbd300f0603551d130101ff040530030101ff",
     ];
     for digits in rows {

@@ -100,11 +100,15 @@ fn entries_have_their_fields_in_order(rt: HostRuntime) -> Result<(), Fail> {
         // the number and the date exchanged
         ("3012170d3236313132333038313030375a020105", 4),
         // a value after the extensions
-        ("3016020105170d3236313132333038313030375a30000500", 3),
+        (
+            "3020020105170d3236313132333038313030375a300a300806032a030404010a0500",
+            3,
+        ),
         // half of a date
         ("300c020105170d32363131323330", 2),
-        // extensions of which one is no SEQUENCE
+        // extensions of which one is no SEQUENCE, and none
         ("3016020105170d3236313132333038313030375a30020500", 4),
+        ("3014020105170d3236313132333038313030375a3000", 13),
     ];
     for (digits, number) in rows {
         let octets = hex::decode(alloc, digits)?;
