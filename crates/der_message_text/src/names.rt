@@ -36,7 +36,7 @@ pub fn push_name(
 ) -> Result<(), AllocError> {
     push_label(text, &site.place, label)?;
     match name.value(alloc) {
-        Ok(name) => push_places(alloc, text, name.as_slice())?,
+        Ok(sequence) => push_places(alloc, text, sequence.name.as_slice())?,
         Err(_) => return Err(AllocError),
     }
     text.push('\n')

@@ -11,8 +11,9 @@ ghost use Rattle.der_asn1_types.specs.ObjectIdentifierContentsEqLaws as identifi
 use der_asn1_types::asn1::{AnyRef, ObjectIdentifier};
 use der_asn1_types::fields::{DecodeFields, EncodeFields, FieldsOrd};
 use der_asn1_types::{
-    ContentsEq, CopyIsDuplicate, DecodeValue, EncodeValue, End, Error, Field, FieldList, FormValue,
-    Header, Length, OneTag, Sequence, SequenceTag, Source, ValueOrd, Writer,
+    ContentsEq, CopyIsDuplicate, DecodeValue, EncodeValue, End, Error, Field, FieldList, Form,
+    FormValue, Header, ItemOrder, Length, OneTag, OrdersByEncoding, Sequence, SequenceTag, Source,
+    ValueOrd, Writer,
 };
 use std::alloc::Global;
 use std::cmp::Ordering;
@@ -26,11 +27,22 @@ pub type AttributeFields<'a> = Field<ObjectIdentifier<39>, Field<AnyRef<'a>, End
 ///     value  ANY DEFINED BY type }
 /// ```
 ///
-/// A struct, and no alias, so that a set of attributes can be named.
+/// A struct, and no alias, so that it has laws of its own.
 #[derive(Clone, Copy, Debug, PartialEq, Eq)]
 pub struct AttributeTypeAndValue<'a> {
     /// The fields.
     pub fields: AttributeFields<'a>,
+}
+
+/// The order of the attributes at one place of a name: that of their encodings.
+pub struct AttributeOrder;
+
+impl<'a> ItemOrder<AttributeTypeAndValue<'a>> for AttributeOrder {
+    ghost item_encoding = { ⟦<AttributeTypeAndValue<'a> as Form>⟧.encoding };
+}
+
+impl<'a> OrdersByEncoding<AttributeTypeAndValue<'a>> for AttributeOrder {
+    ghost is_encoding = { refl };
 }
 
 impl<'a> OneTag for AttributeTypeAndValue<'a> {

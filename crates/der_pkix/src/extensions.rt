@@ -5,7 +5,7 @@ ghost use Rattle.der_asn1_types.specs.SequenceWriting.{WritesAll};
 ghost use Rattle.der_pkix.specs.Grammars.{extension, extensions};
 
 use crate::extension::Extension;
-use der_asn1_types::asn1::{Kept, NonEmpty};
+use der_asn1_types::asn1::NonEmpty;
 use der_asn1_types::{Encode, Error, FromDer};
 use std::alloc::Global;
 
@@ -15,9 +15,6 @@ use std::alloc::Global;
 ///
 /// One given twice, which RFC 5280 has not, is read too.
 pub type Extensions<'a> = NonEmpty<Vec<Extension<'a>>>;
-
-/// Extensions that were read as such, and are kept and written as they came.
-pub type KeptExtensions<'a> = Kept<'a, Extensions<'a>>;
 
 /// Reads an extension: all of the octets, under DER.
 ///

@@ -22,10 +22,12 @@ mod algorithm;
 mod algorithm_identifier;
 mod attribute;
 mod extension;
+mod extension_sequence;
 mod extensions;
 mod grammars;
 mod keys;
 mod name;
+mod rdn_sequence;
 mod rsa;
 mod time;
 mod validity;
@@ -35,10 +37,11 @@ pub use algorithm::{
     write_algorithm_identifier, write_subject_public_key_info,
 };
 pub use algorithm_identifier::AlgorithmIdentifier;
-pub use attribute::{AttributeFields, AttributeTypeAndValue};
+pub use attribute::{AttributeFields, AttributeOrder, AttributeTypeAndValue};
 pub use extension::Extension;
+pub use extension_sequence::{ExtensionSequence, KeptExtensions};
 pub use extensions::{
-    Extensions, KeptExtensions, read_extension, read_extensions, write_extension, write_extensions,
+    Extensions, read_extension, read_extensions, write_extension, write_extensions,
 };
 pub use grammars::Message;
 pub use keys::{
@@ -46,10 +49,11 @@ pub use keys::{
     read_rsa_public_key, write_ec_private_key, write_private_key_info, write_rsa_public_key,
 };
 pub use name::{
-    KeptName, Name, RelativeDistinguishedName, read_attribute_type_and_value, read_name,
+    Name, RelativeDistinguishedName, read_attribute_type_and_value, read_name,
     read_relative_distinguished_name, write_attribute_type_and_value, write_name,
     write_relative_distinguished_name,
 };
+pub use rdn_sequence::{KeptName, RdnSequence};
 pub use rsa::{RsaPrivateKey, read_rsa_private_key, write_rsa_private_key};
 pub use time::{Time, read_time, read_validity, write_time, write_validity};
 pub use validity::{Validity, ValidityFields};

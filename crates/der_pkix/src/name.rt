@@ -4,8 +4,8 @@ ghost use Rattle.der_asn1_types.specs.Decoding.{ReadsAll};
 ghost use Rattle.der_asn1_types.specs.SequenceWriting.{WritesAll};
 ghost use Rattle.der_pkix.specs.Grammars.{attribute_type_and_value, relative_distinguished_name, name};
 
-use crate::attribute::AttributeTypeAndValue;
-use der_asn1_types::asn1::{Kept, SetOfVec};
+use crate::attribute::{AttributeOrder, AttributeTypeAndValue};
+use der_asn1_types::asn1::ItemSet;
 use der_asn1_types::{Encode, Error, FromDer};
 use std::alloc::Global;
 
@@ -14,15 +14,12 @@ use std::alloc::Global;
 /// ```
 ///
 /// Attributes that do not stand in the order of their encodings are read, and written in it.
-pub type RelativeDistinguishedName<'a> = SetOfVec<AttributeTypeAndValue<'a>>;
+pub type RelativeDistinguishedName<'a> = ItemSet<AttributeTypeAndValue<'a>, AttributeOrder>;
 
 /// ```text
 /// Name ::= SEQUENCE OF RelativeDistinguishedName
 /// ```
 pub type Name<'a> = Vec<RelativeDistinguishedName<'a>>;
-
-/// A Name that was read as one, and is kept and written as it came.
-pub type KeptName<'a> = Kept<'a, Name<'a>>;
 
 /// Reads an attribute: all of the octets, under DER.
 ///
