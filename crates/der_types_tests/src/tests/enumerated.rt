@@ -2,7 +2,7 @@
 
 ghost use Rattle.der_types_tests.specs.Enumerations.{crl_reasons, versions};
 
-use crate::tests::{refusal, same, same_in, stays};
+use crate::tests::{numbered, refusal, same, same_in, stays};
 use der_elem::{DerOrd, Duplicate, Encode, FixedTag, FromDer, IntegerTag, ValueOrd};
 use der_numbers::{Enumerated, EnumeratedTag, Enumeration};
 use der_tlv::Tag;
@@ -158,11 +158,15 @@ fn named_numbers_are_compared_and_copied(rt: HostRuntime) {
     };
     same(&rt, hold == removed, false);
     same(&rt, hold == hold, true);
-    same(&rt, hold.der_cmp(&removed).ok(), Some(Ordering::Less));
-    same(&rt, removed.value_cmp(&hold).ok(), Some(Ordering::Greater));
-    same(&rt, removed.duplicate().ok(), Some(removed));
+    same(&rt, numbered(hold.der_cmp(&removed)), Ok(Ordering::Less));
+    same(
+        &rt,
+        numbered(removed.value_cmp(&hold)),
+        Ok(Ordering::Greater),
+    );
+    same(&rt, numbered(removed.duplicate()), Ok(removed));
     same(&rt, <Reason as FixedTag>::TAG, Tag::Enumerated);
     same(&rt, <NamedVersion as FixedTag>::TAG, Tag::Integer);
-    let read = NamedVersion::from_der(rt.alloc(), &[0x02, 0x01, 0x02]);
-    same(&rt, read.ok(), Some(Enumerated { value: Version::V3 }));
+    let read = numbered(NamedVersion::from_der(rt.alloc(), &[0x02, 0x01, 0x02]));
+    same(&rt, read, Ok(Enumerated { value: Version::V3 }));
 }

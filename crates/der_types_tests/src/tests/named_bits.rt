@@ -1,9 +1,10 @@
 //! Tests of named bits: KeyUsage and ReasonFlags of RFC 5280 (4.2.1.3, 4.2.1.13).
 
-use crate::tests::{reads_back, refusal, same, same_in};
+use crate::tests::{holds, numbered, reads_back_in_order, refusal, same, same_in};
 use der_bits::{AsBitStringRef, BitStringRef, NamedBitsRef};
-use der_elem::{DerOrd, Duplicate, Encode, FixedTag, FromDer, ValueOrd};
+use der_elem::{DerOrd, Encode, FixedTag, FromDer, ValueOrd};
 use der_tlv::Tag;
+use std::alloc::Global;
 use std::cmp::Ordering;
 
 /// Encodings: digitalSignature and keyEncipherment; keyCertSign and cRLSign; cRLSign and
@@ -27,7 +28,7 @@ const LONGER: [&[u8]; 5] = [
 #[test]
 fn named_bits_are_read_and_written(rt: HostRuntime) {
     for octets in USAGES {
-        let answer = reads_back::<NamedBitsRef<'_>>(&rt, rt.alloc(), octets);
+        let answer = reads_back_in_order::<NamedBitsRef<'_>>(&rt, rt.alloc(), octets);
         same_in(&rt, &octets, answer, Ok(()));
     }
 }
@@ -76,33 +77,43 @@ fn bits_are_asked_by_name(rt: HostRuntime) {
     same(&rt, usage.as_bit_string_ref().unused_bits(), 1);
 }
 
+/// The encoding of these octets' bits without those at the end that are 0.
+fn trimmed(alloc: Global, octets: &[u8]) -> Result<Vec<u8>, u8> {
+    match BitStringRef::from_bytes(octets) {
+        Ok(string) => numbered(NamedBitsRef::new(string).to_der(alloc)),
+        Err(e) => Err(e.kind.number()),
+    }
+}
+
 #[test]
-fn zeros_at_the_end_are_left_away(rt: HostRuntime) {
+fn zeros_at_the_end_are_left_away(rt: HostRuntime) -> Result<(), u8> {
     let alloc = rt.alloc();
-    let Ok(long) = BitStringRef::from_bytes(&[0xa0, 0x00, 0x00]) else {
-        return same(&rt, true, false);
-    };
-    let Ok(none) = BitStringRef::from_bytes(&[0x00, 0x00]) else {
-        return same(&rt, true, false);
-    };
-    let named = NamedBitsRef::new(long);
-    let written = named.to_der(alloc).map_err(|e| e.kind.number());
+    let written = trimmed(alloc, &[0xa0, 0x00, 0x00])?;
+    same(&rt, written.as_slice(), [0x03, 0x02, 0x05, 0xa0].as_slice());
+    let written = trimmed(alloc, &[0x00, 0x01])?;
     same(
         &rt,
-        written.as_deref().ok(),
-        Some([0x03, 0x02, 0x05, 0xa0].as_slice()),
+        written.as_slice(),
+        [0x03, 0x03, 0x00, 0x00, 0x01].as_slice(),
     );
-    let empty = NamedBitsRef::new(none);
-    let written = empty.to_der(alloc).map_err(|e| e.kind.number());
-    same(
-        &rt,
-        written.as_deref().ok(),
-        Some([0x03, 0x01, 0x00].as_slice()),
-    );
-    same(&rt, empty == named, false);
-    same(&rt, empty.der_cmp(&named).ok(), Some(Ordering::Less));
-    same(&rt, named.value_cmp(&empty).ok(), Some(Ordering::Greater));
-    same(&rt, named.cmp(&empty), Ordering::Greater);
-    same(&rt, named.duplicate().ok(), Some(named));
-    same(&rt, <NamedBitsRef<'_> as FixedTag>::TAG, Tag::BitString);
+    let written = trimmed(alloc, &[0x00, 0x00])?;
+    same(&rt, written.as_slice(), [0x03, 0x01, 0x00].as_slice());
+    let written = trimmed(alloc, &[])?;
+    same(&rt, written.as_slice(), [0x03, 0x01, 0x00].as_slice());
+    Ok(())
+}
+
+#[test]
+fn named_bits_are_compared(rt: HostRuntime) {
+    let Ok(none) = NamedBitsRef::from_der(rt.alloc(), &[0x03, 0x01, 0x00]) else {
+        return holds(&rt, false);
+    };
+    let Ok(signs) = NamedBitsRef::from_der(rt.alloc(), &[0x03, 0x02, 0x01, 0x06]) else {
+        return holds(&rt, false);
+    };
+    same(&rt, none == signs, false);
+    same(&rt, numbered(none.der_cmp(&signs)), Ok(Ordering::Less));
+    same(&rt, numbered(signs.value_cmp(&none)), Ok(Ordering::Greater));
+    same(&rt, signs.cmp(&none), Ordering::Greater);
+    holds(&rt, NamedBitsRef::TAG == Tag::BitString);
 }
