@@ -16,6 +16,8 @@ mod counting;
 mod counting_fixed;
 mod history;
 mod many;
+mod named_order;
+mod non_empty;
 mod probes;
 
 /// Asserts that what was found is what is wanted.
