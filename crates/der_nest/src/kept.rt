@@ -33,7 +33,7 @@ use std::marker::PhantomData;
 #[derive(Drop)]
 pub struct Kept<'a, T> {
     octets: OctetStringRef<'a>,
-    of: PhantomData<T>,
+    of: PhantomData<&'a T>,
 }
 
 impl<'a, T> Kept<'a, T> {
@@ -72,7 +72,9 @@ impl<'a, T> Clone for Kept<'a, T> {
     ghost is_infallible = { λ _. ⊤ };
 
     fn clone(&self) -> Result<Kept<'a, T>, AllocError> {
-        Ok(*self)
+        let octets = self.octets;
+        let of = PhantomData;
+        Ok(Kept { octets, of })
     }
 }
 

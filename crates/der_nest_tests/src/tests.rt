@@ -17,6 +17,8 @@ mod counting_fixed;
 mod history;
 mod kept;
 mod many;
+mod named_order;
+mod non_empty;
 mod probes;
 
 /// Asserts that what was found is what is wanted.

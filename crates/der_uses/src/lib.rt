@@ -4,12 +4,14 @@
 
 mod anys;
 mod bits;
+mod choice_sets;
 mod comparing;
 mod field_list;
 mod fields;
 mod headers;
 mod named_fields;
 mod named_numbers;
+mod non_empty;
 mod reading;
 mod sets;
 mod sources;
@@ -20,6 +22,10 @@ mod writing;
 
 pub use anys::named_curve;
 pub use bits::{is_usage, may_sign_certificates};
+pub use choice_sets::{
+    AttributeValues, ByKeyName, KeyName, KeyNames, read_key_names, read_values, with_value,
+    write_key_names,
+};
 pub use comparing::is_before;
 pub use field_list::{Policy, PolicyList, is_same_policy, read_policy, write_policy};
 pub use fields::{PolicyFields, read_policy_fields};
@@ -28,6 +34,7 @@ pub use named_fields::{
     NamedPolicy, PolicyMembers, is_same_named_policy, read_named_policy, write_named_policy,
 };
 pub use named_numbers::{ResponseStatus, read_status, write_status};
+pub use non_empty::{SomeNumbers, count_of_numbers, read_some_numbers};
 pub use reading::{contents_of_string, read_numbers, serial_number};
 pub use sets::{attribute_set, with_attribute};
 pub use sources::{Watched, read_watched};

@@ -4,6 +4,7 @@ mod canonical;
 mod examples;
 mod rooms;
 mod rows;
+mod sets;
 
 use crate::{
     ResponseStatus, Watched, attribute_set, common_name, contents_of_string, country,

@@ -1,0 +1,26 @@
+//! Lists that have an item.
+
+ghost use Rattle.std.specs.Prelude.{◌≡◌, ◌<◌, length};
+ghost use Rattle.der_asn1_types.specs.Decoding.{ReadsAll};
+
+use der_asn1_types::asn1::NonEmpty;
+use der_asn1_types::{Error, Form, FromDer};
+use std::alloc::Global;
+
+/// `SEQUENCE SIZE (1..MAX) OF INTEGER`, of numbers from 0 to 4294967295.
+pub type SomeNumbers = NonEmpty<Vec<u32>>;
+
+/// Reads one number or more.
+pub fn read_some_numbers(alloc: Global, octets: &[u8]) -> Result<SomeNumbers, Error>
+    ensures { ReadsAll ⟦<SomeNumbers as Form>⟧ octets.now result }
+{
+    SomeNumbers::from_der(alloc, octets)
+}
+
+/// How many numbers there are: one at least.
+pub fn count_of_numbers(numbers: &SomeNumbers) -> usize
+    ensures count { result ≡ length numbers.now.items }
+    ensures some { 0 < result }
+{
+    numbers.list().len()
+}
