@@ -4,15 +4,15 @@ ghost use Rattle.der_asn1_types.specs.Decoding.{ReadsAll};
 ghost use Rattle.der_asn1_types.specs.SequenceWriting.{WritesAll};
 ghost use Rattle.der_certificate.specs.Grammars.{tbs_certificate};
 
-use der_asn1_types::asn1::{BitStringRef, IntRef};
+use der_asn1_types::asn1::{AnyRef, BitStringRef, IntRef};
 use der_asn1_types::{
     DefaultNumber, Error, Explicit, FieldSequence, Fields2, Fields8, Implicit, WithDefault,
     read_sequence, write_sequence,
 };
-use der_pkix::{AlgorithmIdentifier, Extensions, KeptName, SubjectPublicKeyInfo, Validity};
+use der_pkix::{AlgorithmIdentifier, Extensions, SubjectPublicKeyInfo, Validity};
 use std::alloc::Global;
 
-/// What is signed of a certificate. Names are read, and kept as they came.
+/// What is signed of a certificate. Names are kept as they are encoded.
 ///
 /// ```text
 /// TBSCertificate ::= SEQUENCE {
@@ -32,9 +32,9 @@ pub type TbsCertificate<'a> = FieldSequence<
         WithDefault<Explicit<u8, 0>, DefaultNumber<0>>,
         IntRef<'a>,
         AlgorithmIdentifier<'a>,
-        KeptName<'a>,
+        AnyRef<'a>,
         Validity,
-        KeptName<'a>,
+        AnyRef<'a>,
         SubjectPublicKeyInfo<'a>,
         Option<Implicit<BitStringRef<'a>, 1>>,
         Fields2<Option<Implicit<BitStringRef<'a>, 2>>, Option<Explicit<Extensions<'a>, 3>>>,

@@ -3,9 +3,9 @@
 ghost use Rattle.std.specs.Prelude.{◌≡◌};
 
 use crate::certificate::TbsCertificate;
-use der_asn1_types::asn1::{BitStringRef, IntRef};
+use der_asn1_types::asn1::{AnyRef, BitStringRef, IntRef};
 use der_asn1_types::{Explicit, Implicit};
-use der_pkix::{AlgorithmIdentifier, Extensions, KeptName, SubjectPublicKeyInfo, Validity};
+use der_pkix::{AlgorithmIdentifier, Extensions, SubjectPublicKeyInfo, Validity};
 
 /// `version`: 0 for v1, which is the default, 1 for v2, 2 for v3.
 pub fn version(tbs: &TbsCertificate<'_>) -> u8
@@ -28,8 +28,8 @@ pub fn signature<'a, 'b>(tbs: &'b TbsCertificate<'a>) -> &'b AlgorithmIdentifier
     tbs.fields.third()
 }
 
-/// `issuer`: a Name, as it came.
-pub fn issuer<'a>(tbs: &TbsCertificate<'a>) -> KeptName<'a>
+/// `issuer`: a Name, as it is encoded.
+pub fn issuer<'a>(tbs: &TbsCertificate<'a>) -> AnyRef<'a>
     ensures { result ≡ tbs.now.fields.list.rest.rest.rest.first }
 {
     *tbs.fields.fourth()
@@ -42,8 +42,8 @@ pub fn validity<'b>(tbs: &'b TbsCertificate<'_>) -> &'b Validity
     tbs.fields.fifth()
 }
 
-/// `subject`: a Name, as it came.
-pub fn subject<'a>(tbs: &TbsCertificate<'a>) -> KeptName<'a>
+/// `subject`: a Name, as it is encoded.
+pub fn subject<'a>(tbs: &TbsCertificate<'a>) -> AnyRef<'a>
     ensures { result ≡ tbs.now.fields.list.rest.rest.rest.rest.rest.first }
 {
     *tbs.fields.sixth()

@@ -20,7 +20,6 @@ use Rattle.der_asn1_types.specs.NamedBits.{parse_named_bits}
 use Rattle.der_asn1_types.specs.Characters.{parse_string}
 use Rattle.der_asn1_types.specs.TimeReading.{parse_generalized, parse_utc}
 use Rattle.der_asn1_types.specs.Sets.{parse_set}
-use Rattle.der_asn1_types.specs.KeptFormat.{parse_kept}
 use Rattle.der_asn1_types.specs.NonEmpty.{parse_some}
 use Rattle.der_asn1_types.specs.Alternatives.{parse_one}
 use Rattle.der_asn1_types.specs.FieldTags.{marker_tag}
@@ -124,19 +123,15 @@ last_fields =
     (parse_field (optional (primitive 2) parse_bit_string)
     (parse_field (optional (constructed 3) (alone (sequence extension_items))) parse_end))
 
--- a Name that is read, and kept as it came
-abbrev pub kept_name : Parse
-kept_name = sequence (parse_kept name_items)
-
--- TBSCertificate (section 4.1.2)
+-- TBSCertificate (section 4.1.2); the names are kept as they are encoded
 abbrev pub tbs_fields : ContentsParse
 tbs_fields =
     parse_field version
     (parse_field integer
     (parse_field (sequence algorithm_fields)
-    (parse_field kept_name
+    (parse_field parse_any
     (parse_field (sequence validity_fields)
-    (parse_field kept_name
+    (parse_field parse_any
     (parse_field (sequence public_key_fields) last_fields))))))
 
 -- ---- keys

@@ -6,7 +6,7 @@ use crate::labels::push_label;
 use crate::site::Site;
 use der_asn1_types::asn1::AnyRef;
 use der_asn1_types::{Encode, Error, ErrorKind, FromDer, Tag};
-use der_pkix::{AttributeTypeAndValue, KeptName, RelativeDistinguishedName};
+use der_pkix::{AttributeTypeAndValue, Name, RelativeDistinguishedName};
 use std::alloc::{AllocError, Global};
 use std::fmt::Write;
 
@@ -26,20 +26,25 @@ const ATTRIBUTES: [(&str, &str); 12] = [
     ("1.2.840.113549.1.9.1", "emailAddress"),
 ];
 
-/// Adds a line with a name.
+/// Adds a line with a name; `malformed` and the fault where the octets are no name.
 pub fn push_name(
     alloc: Global,
     text: &mut String,
     site: &Site,
     label: &str,
-    name: KeptName<'_>,
+    name: AnyRef<'_>,
 ) -> Result<(), AllocError> {
     push_label(text, &site.place, label)?;
-    match name.value(alloc) {
-        Ok(sequence) => push_places(alloc, text, sequence.name.as_slice())?,
-        Err(_) => return Err(AllocError),
-    }
+    push_directory(alloc, text, name)?;
     text.push('\n')
+}
+
+/// Adds a name by its places; `malformed` and the fault where the value is no name.
+fn push_directory(alloc: Global, text: &mut String, name: AnyRef<'_>) -> Result<(), AllocError> {
+    match name.decode_as::<Name>(alloc) {
+        Ok(name) => push_places(alloc, text, name.as_slice()),
+        Err(error) => push_malformed(text, error),
+    }
 }
 
 /// Adds what is wrong with octets, unless memory ran out.
@@ -105,14 +110,14 @@ fn push_value(alloc: Global, text: &mut String, value: AnyRef<'_>) -> Result<(),
             return push_escaped(text, characters);
         }
     }
-    push_encoding(alloc, text, &value)
+    push_encoding(alloc, text, value)
 }
 
 /// Adds `#` and the digits of an encoding.
-pub fn push_encoding<T: Encode>(
+pub fn push_encoding(
     alloc: Global,
     text: &mut String,
-    value: &T,
+    value: AnyRef<'_>,
 ) -> Result<(), AllocError> {
     text.push('#')?;
     match value.to_der(alloc) {

@@ -44,7 +44,7 @@ fn push_other_name(
             text.push_str("other ")?;
             push_identifier(alloc, text, other.value.type_id().as_bytes())?;
             text.push(' ')?;
-            push_encoding(alloc, text, &other.value.value())
+            push_encoding(alloc, text, other.value.value())
         }
         OneOf::First(OneOf::First(OneOf::Other(mail))) => {
             push_text(text, "mail ", mail.value.as_str())

@@ -145,7 +145,7 @@ fn push_entry(
     push_with_colons(text, entry.fields.first().as_bytes())?;
     text.push_str(", ")?;
     push_time(text, entry.fields.second())?;
-    if let Some(extensions) = entry.fields.third() {
+    if let Some(extensions) = *entry.fields.third() {
         text.push_str(", extensions ")?;
         push_encoding(alloc, text, extensions)?;
     }

@@ -22,12 +22,10 @@ mod algorithm;
 mod algorithm_identifier;
 mod attribute;
 mod extension;
-mod extension_sequence;
 mod extensions;
 mod grammars;
 mod keys;
 mod name;
-mod rdn_sequence;
 mod rsa;
 mod time;
 mod validity;
@@ -39,7 +37,6 @@ pub use algorithm::{
 pub use algorithm_identifier::AlgorithmIdentifier;
 pub use attribute::{AttributeFields, AttributeOrder, AttributeTypeAndValue};
 pub use extension::Extension;
-pub use extension_sequence::{ExtensionSequence, KeptExtensions};
 pub use extensions::{
     Extensions, read_extension, read_extensions, write_extension, write_extensions,
 };
@@ -53,7 +50,6 @@ pub use name::{
     read_relative_distinguished_name, write_attribute_type_and_value, write_name,
     write_relative_distinguished_name,
 };
-pub use rdn_sequence::{KeptName, RdnSequence};
 pub use rsa::{RsaPrivateKey, read_rsa_private_key, write_rsa_private_key};
 pub use time::{Time, read_time, read_validity, write_time, write_validity};
 pub use validity::{Validity, ValidityFields};

@@ -9,11 +9,10 @@ use der_asn1_types::asn1::{AnyRef, BitStringRef};
 use der_asn1_types::{
     Error, Explicit, FieldSequence, Fields3, Fields7, read_sequence, write_sequence,
 };
-use der_pkix::{AlgorithmIdentifier, Extensions, KeptName, Time};
+use der_pkix::{AlgorithmIdentifier, Extensions, Time};
 use std::alloc::Global;
 
-/// What is signed of a list of revoked certificates. The issuer's name is read, and kept as it
-/// came.
+/// What is signed of a list of revoked certificates. The issuer's name is kept as it is encoded.
 ///
 /// ```text
 /// TBSCertList ::= SEQUENCE {
@@ -29,7 +28,7 @@ pub type TbsCertList<'a> = FieldSequence<
     Fields7<
         Option<u8>,
         AlgorithmIdentifier<'a>,
-        KeptName<'a>,
+        AnyRef<'a>,
         Time,
         Option<Time>,
         Option<Vec<RevokedCertificate<'a>>>,

@@ -5,7 +5,8 @@ ghost use Rattle.std.specs.Prelude.{◌≡◌};
 use crate::certificate_list::TbsCertList;
 use crate::revoked_certificate::RevokedCertificate;
 use der_asn1_types::Explicit;
-use der_pkix::{AlgorithmIdentifier, Extensions, KeptName, Time};
+use der_asn1_types::asn1::AnyRef;
+use der_pkix::{AlgorithmIdentifier, Extensions, Time};
 
 /// `version`: 1 for v2; v1 has none.
 pub fn version(tbs: &TbsCertList<'_>) -> Option<u8>
@@ -21,8 +22,8 @@ pub fn signature<'a, 'b>(tbs: &'b TbsCertList<'a>) -> &'b AlgorithmIdentifier<'a
     tbs.fields.second()
 }
 
-/// `issuer`: a Name, as it came.
-pub fn issuer<'a>(tbs: &TbsCertList<'a>) -> KeptName<'a>
+/// `issuer`: a Name, as it is encoded.
+pub fn issuer<'a>(tbs: &TbsCertList<'a>) -> AnyRef<'a>
     ensures { result ≡ tbs.now.fields.list.rest.rest.first }
 {
     *tbs.fields.third()

@@ -163,11 +163,10 @@ fn octets_are_refused_or_put_in_order(rt: HostRuntime) -> Result<(), Fail> {
         ("algid 300506032b657000", "refused 3\n"),
         ("spki 300506032b6570", "refused 4\n"),
         ("keyusage 3000", "refused 4\n"),
-        // a last bit that is 0, no extension, no purpose, and an issuer that is no name
+        // a last bit that is 0, no extension, and no purpose
         ("keyusage 030200a0", "refused 8\n"),
         ("exts 3000", "refused 13\n"),
         ("extkeyusage 3000", "refused 13\n"),
-        ("tbs 300d020101300506032b6570020105", "refused 4\n"),
         // an encoded DEFAULT, a name that is kept, and one of no kind
         ("basicconstraints 3003010100", "refused 8\n"),
         ("subjectaltname 300588032a0304", "ok 300588032a0304\n"),

@@ -106,33 +106,10 @@ fn entries_have_their_fields_in_order(rt: HostRuntime) -> Result<(), Fail> {
         ),
         // half of a date
         ("300c020105170d32363131323330", 2),
-        // extensions of which one is no SEQUENCE, and none
-        ("3016020105170d3236313132333038313030375a30020500", 4),
-        ("3014020105170d3236313132333038313030375a3000", 13),
     ];
     for (digits, number) in rows {
         let octets = hex::decode(alloc, digits)?;
         let again = entry_again(alloc, octets.as_slice());
-        same(&rt, again.err(), Some(number));
-    }
-    Ok(())
-}
-
-#[test]
-fn what_is_no_name_of_an_issuer_is_refused(rt: HostRuntime) -> Result<(), Fail> {
-    let alloc = rt.alloc();
-    let rows = [
-        // an INTEGER in its place
-        ("3019300506032b6570020105170d3236313132333038313234315a", 4),
-        // an item that is no set
-        (
-            "301a300506032b657030020500170d3236313132333038313234315a",
-            4,
-        ),
-    ];
-    for (digits, number) in rows {
-        let octets = hex::decode(alloc, digits)?;
-        let again = signed_again(alloc, octets.as_slice());
         same(&rt, again.err(), Some(number));
     }
     Ok(())
