@@ -16,12 +16,11 @@ ghost use Rattle.der_extensions.specs.NameLaws.{names_eq, names_copied};
 use der_asn1_types::fields::{DecodeFields, DuplicateFields, EncodeFields, ExplicitTag, FieldsOrd};
 use der_asn1_types::{
     ContentsEq, DecodeValue, DuplicateValue, EncodeValue, End, Error, Field, FieldList, Form,
-    FormValue, Header, Length, OneTag, SequenceTag, Source, ValueOrd, Writer,
+    FormValue, Header, Length, OneTag, Source, ValueOrd, Writer,
 };
 use der_pkix::{AttributeTypeAndValue, Name, RelativeDistinguishedName};
 use std::alloc::Global;
 use std::cmp::Ordering;
-use std::marker::PhantomData;
 
 /// The list of a name alone.
 pub type NameList<'a> = Field<Name<'a>, End>;
@@ -33,8 +32,6 @@ pub type NameList<'a> = Field<Name<'a>, End>;
 pub struct DirectoryName<'a> {
     /// The name.
     pub fields: NameList<'a>,
-    /// The tag of an attribute, which stands here so that a function with names of all kinds knows it.
-    pub attribute: PhantomData<SequenceTag>,
 }
 
 impl<'a> DirectoryName<'a> {
@@ -44,7 +41,6 @@ impl<'a> DirectoryName<'a> {
     {
         DirectoryName {
             fields: Field::new(name, End),
-            attribute: PhantomData,
         }
     }
 }
@@ -68,10 +64,7 @@ impl<'a, R: Source<'a>> DecodeValue<'a, R> for DirectoryName<'a> {
         _header: Header,
     ) -> Result<DirectoryName<'a>, Error> {
         match NameList::<'a>::decode_fields(alloc, reader) {
-            Ok(fields) => Ok(DirectoryName {
-                fields,
-                attribute: PhantomData,
-            }),
+            Ok(fields) => Ok(DirectoryName { fields }),
             Err(e) => Err(e),
         }
     }
@@ -111,10 +104,7 @@ impl<'a> DuplicateValue for DirectoryName<'a> {
 
     fn duplicate_value(&self) -> Result<DirectoryName<'a>, Error> {
         match self.fields.duplicate_fields() {
-            Ok(fields) => Ok(DirectoryName {
-                fields,
-                attribute: PhantomData,
-            }),
+            Ok(fields) => Ok(DirectoryName { fields }),
             Err(e) => Err(e),
         }
     }

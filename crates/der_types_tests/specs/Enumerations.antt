@@ -1,10 +1,10 @@
 -- The numbers of CRLReason (RFC 5280, 5.3.1), which has no 7, and of Version (4.1.2.1).
 use Rattle.std.specs.Prelude.{◌≡◌, refl, List, [], ◌∷◌, ℤ, pos, Some}
 use Rattle.der_numbers.specs.Enumerated.{Names, named}
-use Rattle.der_types_tests.specs.declared.tests.enumerated.CrlReason.{CrlReason}
-use Rattle.der_types_tests.specs.declared.tests.enumerated.CrlReason.TheVariants.{Unspecified, KeyCompromise, CaCompromise, AffiliationChanged, Superseded, CessationOfOperation, CertificateHold, RemoveFromCrl, PrivilegeWithdrawn, AaCompromise}
-use Rattle.der_types_tests.specs.declared.tests.enumerated.Version.{Version}
-use Rattle.der_types_tests.specs.declared.tests.enumerated.Version.TheVariants.{V1, V2, V3}
+use Rattle.der_types_tests.specs.declared.enumerations.CrlReason.{CrlReason}
+use Rattle.der_types_tests.specs.declared.enumerations.CrlReason.TheVariants.{Unspecified, KeyCompromise, CaCompromise, AffiliationChanged, Superseded, CessationOfOperation, CertificateHold, RemoveFromCrl, PrivilegeWithdrawn, AaCompromise}
+use Rattle.der_types_tests.specs.declared.enumerations.Version.{Version}
+use Rattle.der_types_tests.specs.declared.enumerations.Version.TheVariants.{V1, V2, V3}
 
 abbrev pub reason_number : CrlReason → ℤ
 reason_number Unspecified = pos 0

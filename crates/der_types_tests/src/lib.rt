@@ -5,5 +5,9 @@
 //! them.
 #![tactic(auto)]
 
+mod enumerations;
+
+pub use enumerations::{CrlReason, Version};
+
 #[cfg(test)]
 mod tests;
