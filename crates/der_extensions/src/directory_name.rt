@@ -3,7 +3,6 @@
 ghost use Rattle.std.specs.Prelude.{◌≡◌, ◌++◌, [], ◌||◌, flat_map, refl, true, false};
 ghost use Rattle.std.specs.List.{list_any};
 ghost use Rattle.std.proofs.Common.{ap, sym, subst};
-ghost use Rattle.std.proofs.lemmas.Bool.{and_parts, and_from};
 ghost use Rattle.der_asn1_types.specs.Tag.TheVariants.{Sequence};
 ghost use Rattle.der_asn1_types.specs.HeaderOctets.{tlv};
 ghost use Rattle.der_asn1_types.specs.Items.{AllComparable};
@@ -93,8 +92,7 @@ impl<'a> ContentsEq for DirectoryName<'a> {
         let A = ⟦<AttributeTypeAndValue<'a> as FormValue>⟧.value in
         let N = ⟦<Name<'a> as FormValue>⟧.value in
         let first = encoding_eq_tagged Sequence N.contents N.comparable ⟦<Name<'a> as PartialEq>⟧.eq (λ v w. names_eq A.contents A.comparable ⟦<AttributeTypeAndValue<'a> as PartialEq>⟧.eq attribute.contents_eq-law v.items w.items) v.fields.first w.fields.first one.0 in
-        let fields = eq_both _ true _ _ [] [] first (λ _. refl, λ _. refl) (tlv_distinguished _ _ _ _ _ _) in
-        (λ h. fields.0 (and_parts _ _ h).0, λ e. and_from _ _ (fields.1 e) refl) };
+        eq_both _ true _ _ [] [] first (λ _. refl, λ _. refl) (tlv_distinguished _ _ _ _ _ _) };
 }
 
 impl<'a> DuplicateValue for DirectoryName<'a> {
