@@ -1,15 +1,29 @@
 //! Contents octets that were read and are kept as they came.
 
 use crate::tests::{holds, numbered, reads_as, same};
-use der_elem::{DerOrd, Encode, FromDer, Tagged, TakesMemory};
+use der_elem::{Choice, DecodeValue, DerOrd, Encode, FromDer, OneTag, Tagged, TakesMemory};
 use der_nest::{Kept, SequenceRef, SetOfVec};
-use der_tlv::Tag;
+use der_tlv::{SliceReader, Tag};
+use std::alloc::Global;
 use std::cmp::Ordering;
 use std::test::Fail;
 
 type KeptNumbers<'a> = Kept<'a, Vec<u16>>;
 
 type KeptSet<'a> = Kept<'a, SetOfVec<u16>>;
+
+/// What is shown of octets that are kept.
+fn shown<'a, T>(kept: Kept<'a, T>) -> &'a [u8] {
+    kept.as_bytes()
+}
+
+/// The value that is kept.
+fn value_of<'a, T: OneTag + Choice + DecodeValue<'a, SliceReader<'a>>>(
+    alloc: Global,
+    kept: Kept<'a, T>,
+) -> Result<T, u8> {
+    numbered(kept.value(alloc))
+}
 
 #[test]
 fn octets_are_kept_as_they_came(rt: HostRuntime) -> Result<(), Fail> {
@@ -19,15 +33,49 @@ fn octets_are_kept_as_they_came(rt: HostRuntime) -> Result<(), Fail> {
     // a set is written in order, and kept as it came
     let set = [0x31, 0x06, 0x02, 0x01, 0x08, 0x02, 0x01, 0x07];
     reads_as::<KeptSet>(&rt, alloc, &set, &set)?;
-    let kept = numbered(KeptSet::from_der(alloc, &set))?;
-    same(&rt, kept.as_bytes(), &set[2..]);
+    holds(&rt, <KeptSet as TakesMemory>::TAKES_MEMORY);
+    holds(&rt, !<Kept<'_, u16> as TakesMemory>::TAKES_MEMORY);
+    Ok(())
+}
+
+#[test]
+fn kept_octets_are_shown(rt: HostRuntime) -> Result<(), Fail> {
+    let set = [0x31, 0x06, 0x02, 0x01, 0x08, 0x02, 0x01, 0x07];
+    let kept = numbered(KeptSet::from_der(rt.alloc(), &set))?;
+    same(&rt, shown(kept), &set[2..]);
+    Ok(())
+}
+
+#[test]
+fn kept_octets_have_a_tag(rt: HostRuntime) -> Result<(), Fail> {
+    let set = [0x31, 0x06, 0x02, 0x01, 0x08, 0x02, 0x01, 0x07];
+    let kept = numbered(KeptSet::from_der(rt.alloc(), &set))?;
     same(&rt, kept.tag(), Tag::Set);
-    let value = numbered(kept.value(alloc))?;
+    Ok(())
+}
+
+#[test]
+fn kept_octets_are_read_again(rt: HostRuntime) -> Result<(), Fail> {
+    let set = [0x31, 0x06, 0x02, 0x01, 0x08, 0x02, 0x01, 0x07];
+    let kept = numbered(KeptSet::from_der(rt.alloc(), &set))?;
+    let value = value_of(rt.alloc(), kept)?;
     same(&rt, value.as_slice(), [7, 8].as_slice());
-    holds(&rt, KeptSet::TAKES_MEMORY);
-    holds(&rt, !Kept::<'_, u16>::TAKES_MEMORY);
-    let text = format!(in alloc; "{kept:?}")?;
+    Ok(())
+}
+
+#[test]
+fn kept_octets_are_printed(rt: HostRuntime) -> Result<(), Fail> {
+    let set = [0x31, 0x06, 0x02, 0x01, 0x08, 0x02, 0x01, 0x07];
+    let kept = numbered(KeptSet::from_der(rt.alloc(), &set))?;
+    let text = format!(in rt.alloc(); "{kept:?}")?;
     holds(&rt, !text.as_str().is_empty());
+    Ok(())
+}
+
+#[test]
+fn kept_octets_are_copied(rt: HostRuntime) -> Result<(), Fail> {
+    let set = [0x31, 0x06, 0x02, 0x01, 0x08, 0x02, 0x01, 0x07];
+    let kept = numbered(KeptSet::from_der(rt.alloc(), &set))?;
     let copy = kept.clone()?;
     holds(&rt, copy == kept);
     Ok(())
