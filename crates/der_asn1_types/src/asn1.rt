@@ -8,8 +8,9 @@ pub use der_bits::{
     AllowedLenBitString, AsBitStringRef, BitString, BitStringIter, BitStringRef, NamedBitsRef,
 };
 pub use der_nest::{
-    ByEncoding, ItemProbe, ItemSet, Kept, NonEmpty, Probe, SequenceOf, SequenceOfIter, SequenceRef,
-    SetOf, SetOfIter, SetOfRef, SetOfRefIter, SetOfVec, Values, insertion_place,
+    ByEncoding, ItemProbe, ItemSet, Kept, NonEmpty, Probe, SequenceOf, SequenceOfIter,
+    SequenceOfRef, SequenceOfRefIter, SequenceRef, SetOf, SetOfIter, SetOfRef, SetOfRefIter,
+    SetOfVec, Values, insertion_place,
 };
 pub use der_numbers::{AsIntRef, AsUintRef, Enumerated, Enumeration, Int, IntRef, Uint, UintRef};
 pub use der_opaque::{Any, AnyRef, Null, ObjectIdentifier, OctetString, OctetStringRef};

@@ -6,6 +6,7 @@ pub mod SetReading
 pub mod Copying
 pub mod SequenceReading
 pub mod ReReadItems
+pub mod CountedReading
 pub mod BorrowedReading
 pub mod BorrowedWriting
 pub mod BorrowedOrder

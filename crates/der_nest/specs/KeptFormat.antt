@@ -2,11 +2,12 @@
 use Rattle.std.specs.Prelude.{◌≡◌, ℕ, List, length, Bool, true, false, Result, Ok, Err, refl}
 use Rattle.std.proofs.Common.{◌∙◌, ap, subst, sym}
 use Rattle.der_tlv.specs.declared.error.ErrorKind.{ErrorKind}
-use Rattle.der_tlv.specs.declared.encoding_rules.EncodingRules.{EncodingRules}
+use Rattle.der_tlv.specs.declared.error.Error.{Error}
 use Rattle.der_tlv.specs.declared.encoding_rules.EncodingRules.TheVariants.{Der}
 use Rattle.der_tlv.specs.OctetFaults.{IsOfOctets}
 use Rattle.der_elem.specs.Accepting.{Fits}
 use Rattle.der_elem.specs.ContentsFormat.{ContentsFormat}
+use Rattle.der_elem.specs.Decoding.{Faults}
 use Rattle.der_elem.specs.Parsing.{ContentsParse}
 
 -- under DER these are the contents octets of a value of the type
@@ -35,6 +36,11 @@ module _ {V T : Type 0} (octets_of : V → List ℕ) (F : ContentsFormat T) wher
   pub record Keeps (v : V) (octets : List ℕ) : Type 0 where
     pub own : octets_of v ≡ octets
     pub read : AreContentsOf F octets
+
+  -- the octets were read as those of a value and are kept, or there is none: memory ran out, or this is their first fault
+  abbrev pub KeepsContents : List ℕ → Result V Error → Type 0
+  KeepsContents octets (Ok kept) = Keeps kept octets
+  KeepsContents octets (Err e) = Faults F.TAKES_MEMORY F.FAULTS_FIRST (F.parse Der 0 octets) e.kind
 
   pub parse_of_kept : (v : V) (octets : List ℕ) → Keeps v octets → Fits octets → as_they_came octets (F.parse Der 0 octets) ≡ Ok (octets_of v)
   parse_of_kept v octets k fits = ap (as_they_came octets) (F.parse_of_accepted Der k.read.value 0 octets k.read.accepted fits) ∙ ap Ok (sym k.own)

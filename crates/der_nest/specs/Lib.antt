@@ -24,6 +24,7 @@ pub mod StableLaws
 pub mod SequenceRef
 pub mod KeptFormat
 pub mod Kept
+pub mod BorrowedSequences
 pub mod NonEmpty
 pub mod ItemCounts
 pub use Rattle.der_elem.specs.Decoding

@@ -4,9 +4,14 @@ use Rattle.der_tlv.specs.declared.encoding_rules.EncodingRules.{EncodingRules}
 use Rattle.der_elem.specs.declared.form.Form as form
 use Rattle.der_elem.specs.Accepting.{Fits}
 use Rattle.der_elem.specs.Items.{AllComparable}
-use Rattle.der_nest.specs.Lists.{join_encodings}
+use Rattle.der_nest.specs.Lists.{AcceptsEach, join_encodings}
 use Rattle.der_nest.specs.ListLaws.{concat-map, parse_of_each, same_length_each, accepts_each, readable_each, parts_within, all_comparable}
 use Rattle.der_nest.specs.SequencesOf.{AcceptsUpTo, ReadableUpTo, parse_sequence_of}
+
+-- items that are accepted from octets are comparable
+pub comparable_each : {T : Type 0} (F : form.Ghosts T) (rules : EncodingRules) (vs ws : List T) (c d : List ℕ) → AcceptsEach (F.accepts rules) vs c → AcceptsEach (F.accepts rules) ws d → AllComparable F.comparable vs ws
+comparable_each F rules vs ws c d a b =
+    all_comparable F rules (length c) (length d) vs ws (parts_within F rules vs c a (length c) (omega arith)) (parts_within F rules ws d b (length d) (omega arith))
 
 module _ {T : Type 0} (F : form.Ghosts T) (rules : EncodingRules) (capacity : ℕ) where
   pub parse_of_sequence : (vs : List T) (p : ℕ) (c : List ℕ) → AcceptsUpTo capacity (F.accepts rules) vs c → Fits c → parse_sequence_of capacity F.parse rules p c ≡ Ok (flat_map F.encoding vs)
@@ -22,5 +27,4 @@ module _ {T : Type 0} (F : form.Ghosts T) (rules : EncodingRules) (capacity : �
   readable_sequence vs c a = (a.0, readable_each F rules vs c a.1)
 
   pub comparable_sequence : (vs ws : List T) (c d : List ℕ) → AcceptsUpTo capacity (F.accepts rules) vs c → AcceptsUpTo capacity (F.accepts rules) ws d → AllComparable F.comparable vs ws
-  comparable_sequence vs ws c d a b =
-      all_comparable F rules (length c) (length d) vs ws (parts_within F rules vs c a.1 (length c) (omega arith)) (parts_within F rules ws d b.1 (length d) (omega arith))
+  comparable_sequence vs ws c d a b = comparable_each F rules vs ws c d a.1 b.1

@@ -15,8 +15,8 @@ ghost use Rattle.der_tlv.specs.declared.encoding_rules.EncodingRules.TheVariants
 ghost use Rattle.der_opaque.specs.DecodingAs.{DecodesAs};
 ghost use Rattle.der_opaque.specs.contracts.octet_string_ref.OctetStringRefPartialEq.TheImpl.Laws as string_eq;
 ghost use Rattle.der_opaque.specs.contracts.octet_string_ref.OctetStringRefEq.TheImpl.Laws as string_equivalence;
-ghost use Rattle.der_nest.specs.Kept.{KeepsContents};
-ghost use Rattle.der_nest.specs.KeptFormat.{kept_format};
+ghost use Rattle.der_nest.specs.Kept.{octets_of};
+ghost use Rattle.der_nest.specs.KeptFormat.{kept_format, KeepsContents};
 
 use der_elem::{
     Choice, ContentsEq, CopyIsDuplicate, DecodeValue, EncodeValue, FormValue, OneTag, TagMarker,
@@ -117,7 +117,7 @@ fn keep<'a, T: DecodeValue<'a, SliceReader<'a>>>(
     tag: Tag,
     octets: &'a [u8],
 ) -> Result<Kept<'a, T>, Error>
-    ensures { length octets.now < 2 ^ 32 → KeepsContents T.value octets.now result }
+    ensures { length octets.now < 2 ^ 32 → KeepsContents octets_of T.value octets.now result }
 {
     let octets = match OctetStringRef::new(octets) {
         Ok(octets) => octets,

@@ -3,12 +3,17 @@
 ghost use Rattle.std.specs.Prelude.{◌≡◌, ℕ, List, [], ◌∷◌, ◌++◌, map, flat_map};
 ghost use Rattle.std.specs.List.Sorted.{IsPermutation, IsSorted};
 ghost use Rattle.der_tlv.specs.Octets.{lex};
+ghost use Rattle.der_tlv.specs.declared.encoding_rules.EncodingRules.TheVariants.{Der};
 ghost use Rattle.der_tlv.specs.declared.tag.Tag.TheVariants as tags;
+ghost use Rattle.der_elem.specs.Accepting.{Fits};
+ghost use Rattle.der_nest.specs.Lists.{AcceptsEach};
+ghost use Rattle.der_nest.specs.BorrowedSequences.{item_encodings};
 ghost use Rattle.der_nest.specs.Places.{IsInOrder, insert_in_order, insert_each, sort_encodings};
 ghost use Rattle.der_nest.specs.Stable.{IsSetOf};
 ghost use Rattle.der_nest.specs.SequenceRef.{octets_of};
 
 use crate::sequence_of::SequenceOf;
+use crate::sequence_of_ref::SequenceOfRef;
 use crate::sequence_ref::SequenceRef;
 use crate::set_of::SetOf;
 use crate::set_of_ref::SetOfRef;
@@ -62,6 +67,14 @@ pub fn set_of_what_came<T: Form>()
         → IsSetOf T.encoding ys b → flat_map T.encoding a ≡ flat_map T.encoding b }
 {}
 
+/// The items that a borrowed sequence gives are those that its octets are read as: the encodings are
+/// theirs.
+#[tactic(auto, using(crate::specs::BorrowedSequences::encodings_of_items))]
+pub fn sequence_gives_its_items<T: Form>()
+    ensures { (octets : List ℕ) (vs : List T) → AcceptsEach (T.accepts Der) vs octets
+        → Fits octets → item_encodings T.parse octets ≡ map T.encoding vs }
+{}
+
 /// Two SEQUENCEs that are not looked at are ordered by their contents octets.
 pub fn sequences_by_contents<'a>(one: SequenceRef<'a>, other: SequenceRef<'a>) -> Ordering
     ensures { result ≡ lex (octets_of one.entry) (octets_of other.entry) }
@@ -69,16 +82,18 @@ pub fn sequences_by_contents<'a>(one: SequenceRef<'a>, other: SequenceRef<'a>) -
     one.cmp(&other)
 }
 
-/// The tags of the types (X.680 8.6): of `SetOfVec`, `SetOf`, `SetOfRef`, `SequenceOf` and
-/// `SequenceRef`.
-pub fn universal_tags() -> [Tag; 5]
-    ensures { result ≡ tags.Set ∷ tags.Set ∷ tags.Set ∷ tags.Sequence ∷ tags.Sequence ∷ [] }
+/// The tags of the types (X.680 8.6): of `SetOfVec`, `SetOf`, `SetOfRef`, `SequenceOf`,
+/// `SequenceOfRef` and `SequenceRef`.
+pub fn universal_tags() -> [Tag; 6]
+    ensures { result ≡ tags.Set ∷ tags.Set ∷ tags.Set ∷ tags.Sequence ∷ tags.Sequence
+        ∷ tags.Sequence ∷ [] }
 {
     [
         SetOfVec::<bool>::TAG,
         SetOf::<bool, 1>::TAG,
         SetOfRef::<bool>::TAG,
         SequenceOf::<bool, 1>::TAG,
+        SequenceOfRef::<bool>::TAG,
         SequenceRef::TAG,
     ]
 }

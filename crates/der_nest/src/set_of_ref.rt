@@ -23,7 +23,6 @@ ghost use Rattle.der_nest.specs.OctetFaultLaws.{borrowed_of_octets};
 mod checked_octets;
 mod comparing;
 pub(crate) mod found;
-pub(crate) mod item_reader;
 mod writing;
 
 use crate::finding::check_after_last;

@@ -6,8 +6,8 @@ ghost use Rattle.der_nest.specs.BorrowedSets.{encodings_of};
 ghost use Rattle.der_nest.specs.BorrowedItems.{GivesNext};
 ghost use Rattle.der_nest.specs.FindingNext.{FindsNext};
 
+use crate::item_reader::ItemReader;
 use crate::set_of_ref::found::Found;
-use crate::set_of_ref::item_reader::ItemReader;
 use der_elem::{Decode, Duplicate, Form};
 use der_tlv::{Error, SliceReader};
 use std::alloc::AllocError;

@@ -11,6 +11,7 @@ use std::process::Abort;
 use std::test::Fail;
 
 mod borrowed;
+mod borrowed_sequences;
 mod copies;
 mod counting;
 mod counting_fixed;

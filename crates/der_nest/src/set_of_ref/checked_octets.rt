@@ -10,7 +10,7 @@ ghost use Rattle.der_nest.specs.BorrowedSets.{OfOctets, AcceptsBorrowed, parse_b
 ghost use Rattle.der_nest.specs.ReReading.{CanFollow, CannotFollow, ReReadsAt, encodings_read, encodings_left};
 
 use crate::finding::check_order;
-use crate::set_of_ref::item_reader::ItemReader;
+use crate::item_reader::ItemReader;
 use der_elem::{Decode, DerOrd, Form, Tagged};
 use der_tlv::{Error, Reader, SliceReader};
 use std::alloc::Global;
@@ -34,10 +34,7 @@ impl<'a, T: Form> CheckedOctets<'a, T> {
         ensures { encodings_left result.left T.parse (slice_reader_state result.reader)
             ≡ encodings_read self.now.count T.parse Der 0 self.now.octets.now }
     {
-        match SliceReader::new(self.octets) {
-            Ok(reader) => ItemReader::new(self.alloc, reader, self.count),
-            Err(_) => unreachable!(),
-        }
+        ItemReader::new(self.alloc, self.octets, self.count)
     }
 
     /// The same octets.
@@ -63,18 +60,7 @@ impl<'a, T: Decode<'a, SliceReader<'a>>> CheckedOctets<'a, T> {
         ensures { ReReadsAt T.Form (encodings_read self.now.count T.parse Der 0 self.now.octets.now)
             index result }
     {
-        if index >= self.count {
-            return None;
-        }
-        let mut items = self.items();
-        'skipped: for _i in 0..index {
-            match items.next() {
-                None => return None,
-                Some(Err(error)) => return Some(Err(error)),
-                Some(Ok(_item)) => {}
-            }
-        }
-        items.next()
+        self.items().at(index)
     }
 }
 

@@ -8,7 +8,8 @@ use Rattle.der_tlv.specs.ReaderState.{IsReaderState, rest}
 use Rattle.der_elem.specs.OrderLaws.{accepted-some}
 use Rattle.der_elem.proofs.ItemReading.{more_left}
 use Rattle.der_nest.proofs.EachReading.{smaller}
-use Rattle.der_nest.proofs.BorrowedReading.{none_borrowed, octets_fit, borrowed_item_fault, order_fault, one_more_borrowed, encodings_are, borrowed_accepted}
+use Rattle.der_nest.proofs.CountedReading.{octets_fit, encodings_are}
+use Rattle.der_nest.proofs.BorrowedReading.{none_borrowed, borrowed_item_fault, order_fault, one_more_borrowed, borrowed_accepted}
 use Rattle.der_nest.proofs.set_of_ref.checked_octets.CheckedOctets.read.Goals as goal
 
 pub returns-in_err-item-clause-refused : goal.returns-in_err-item-clause-refused
@@ -32,7 +33,7 @@ pub items-smaller : goal.items-smaller
 items-smaller g c =
     let some = more_left _ _ c.is_finished.ensures c.items-test.true in
     let nonempty = accepted-some g.T.Tagged.tag_of g.T.FormValue.value.contents g.T.Form.encoding g.met.T.Tagged.encoding_is g.T.Form (λ v. refl) Der in
-    smaller c.items.invariant.so_far nonempty some c.in_ok-item.ensures
+    smaller c.items.invariant.read.so_far nonempty some c.in_ok-item.ensures
 
 pub items-preserved : goal.items-preserved
 items-preserved g c =
@@ -46,10 +47,10 @@ invariant_of-result g c =
     let sound : IsReaderState (slice_reader_state c.items.reader) = record { ordered = c.items.reader.ordered; inside = c.items.reader.inside; short = c.items.reader.short } in
     let none : rest (slice_reader_state c.items.reader) ≡ [] = search rules in
     let so_far = c.items.invariant in
-    let are = encodings_are so_far sound none in
+    let are = encodings_are so_far.read sound none in
     record {
-      short = octets_fit so_far sound;
-      counted = ap length are ∙ length-map so_far.items g.T.Form.encoding ∙ so_far.counted;
+      short = octets_fit so_far.read sound;
+      counted = ap length are ∙ length-map so_far.read.items g.T.Form.encoding ∙ so_far.read.counted;
       in_order = subst (IsSorted lex) (sym are) so_far.in_order;
     }
 

@@ -1,8 +1,9 @@
 //! Items that are read again from octets that were read before.
 
-ghost use Rattle.std.specs.Prelude.{◌≡◌, ◌<◌, false, length};
+ghost use Rattle.std.specs.Prelude.{◌≡◌, ◌<◌, ◌^◌, false, length};
+ghost use Rattle.der_tlv.specs.declared.encoding_rules.EncodingRules.TheVariants.{Der};
 ghost use Rattle.der_tlv.specs.Views.{slice_reader_state};
-ghost use Rattle.der_nest.specs.ReReading.{ReReads, encodings_left};
+ghost use Rattle.der_nest.specs.ReReading.{ReReads, ReReadsAt, encodings_read, encodings_left};
 
 use der_elem::{Decode, Form};
 use der_tlv::{Error, SliceReader};
@@ -37,17 +38,21 @@ impl<'a, T: Form> ItemReader<'a, T> {
         }
     }
 
-    pub(crate) fn new(alloc: Global, reader: SliceReader<'a>, left: usize) -> ItemReader<'a, T>
-        requires ready { (slice_reader_state reader).failed ≡ false }
-        requires counted { length (encodings_left left T.parse (slice_reader_state reader)) ≡ left }
-        ensures left { result.left ≡ left }
-        ensures reader { result.reader ≡ reader.entry }
+    /// A reader of the items that octets are read as, from their own beginning and under DER.
+    pub(crate) fn new(alloc: Global, octets: &'a [u8], count: usize) -> ItemReader<'a, T>
+        requires short { length octets.now < 2 ^ 32 }
+        requires counted { length (encodings_read count T.parse Der 0 octets.now) ≡ count }
+        ensures { encodings_left result.left T.parse (slice_reader_state result.reader)
+            ≡ encodings_read count T.parse Der 0 octets.now }
     {
-        ItemReader {
-            reader,
-            left,
-            alloc,
-            of: PhantomData,
+        match SliceReader::new(octets) {
+            Ok(reader) => ItemReader {
+                reader,
+                left: count,
+                alloc,
+                of: PhantomData,
+            },
+            Err(_) => unreachable!(),
         }
     }
 }
@@ -72,5 +77,27 @@ impl<'a, T: Decode<'a, SliceReader<'a>>> ItemReader<'a, T> {
                 Some(Err(error))
             }
         }
+    }
+    /// The item at a place among those that are left, if there is one, read again after those before
+    /// it.
+    ///
+    /// # Errors
+    /// `ErrorKind::Memory` (1) where an item takes memory.
+    pub(crate) fn at(mut self, index: usize) -> Option<Result<T, Error>>
+        ensures { ReReadsAt T.Form
+            (encodings_left self.entry.left T.parse (slice_reader_state self.entry.reader)) index
+            result }
+    {
+        if index >= self.left {
+            return None;
+        }
+        'skipped: for _i in 0..index {
+            match self.next() {
+                None => return None,
+                Some(Err(error)) => return Some(Err(error)),
+                Some(Ok(_item)) => {}
+            }
+        }
+        self.next()
     }
 }

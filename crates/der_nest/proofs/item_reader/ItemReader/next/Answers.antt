@@ -1,7 +1,7 @@
 use Rattle.std.proofs.Common.{◌≡◌, suc, ◌-◌, ap, arith, ◌∙◌, length}
 use Rattle.der_tlv.specs.Views.{slice_reader_state}
 use Rattle.der_nest.proofs.ReReadItems.{none_read, next_item, no_item}
-use Rattle.der_nest.proofs.set_of_ref.item_reader.ItemReader.next.Goals as goal
+use Rattle.der_nest.proofs.item_reader.ItemReader.next.Goals as goal
 
 pub invariant_of-self : goal.invariant_of-self
 invariant_of-self g c =
