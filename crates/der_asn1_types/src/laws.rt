@@ -14,8 +14,8 @@ pub use der_fields::laws::{
     named_sequence_is_read_back, sequence_is_read_back,
 };
 pub use der_nest::laws::{
-    sequences_by_contents, set_is_sorted, set_of_what_came, sorted_is_one_list,
-    universal_tags as list_tags,
+    sequence_gives_its_items, sequences_by_contents, set_is_sorted, set_of_what_came,
+    sorted_is_one_list, universal_tags as list_tags,
 };
 pub use der_numbers::laws::{integers_are_read, naturals_are_read, universal_tags as integer_tags};
 pub use der_opaque::laws::{

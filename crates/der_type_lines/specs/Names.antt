@@ -20,6 +20,8 @@ use Rattle.der_asn1_types.specs.Characters.{string_tag, parse_string}
 use Rattle.der_asn1_types.specs.BitString.{parse_bit_string}
 use Rattle.der_asn1_types.specs.BmpUnits.{parse_bmp}
 use Rattle.der_asn1_types.specs.SequencesOf.{parse_sequence_of}
+use Rattle.der_asn1_types.specs.KeptFormat.{parse_kept}
+use Rattle.der_asn1_types.specs.BorrowedSequences.{parse_all_items}
 use Rattle.der_asn1_types.specs.Sets.{parse_set, parse_set_up_to}
 use Rattle.der_asn1_types.specs.BorrowedSets.{parse_borrowed}
 use Rattle.der_asn1_types.specs.TimeReading.{parse_generalized, parse_utc}
@@ -127,11 +129,12 @@ parse_u16 = parse_tagged Integer (parse_unsigned 2)
 abbrev pub parse_algorithm_identifier : ContentsParse
 parse_algorithm_identifier = parse_field (parse_tagged ObjectIdentifier (parse_identifier 39)) (parse_field (parse_option (λ tag. true) parse_any) parse_end)
 
--- a SEQUENCE whose contents octets are kept, one of at most five items, and an AlgorithmIdentifier
+-- a SEQUENCE whose contents octets are kept, one of at most five items, one that keeps the octets of its items, and an AlgorithmIdentifier
 unfoldable pub nested_types : Table
 nested_types name =
     if bytes_eq name (codes "sequenceref") then Some (canonical_tagged Sequence parse_octets)
     else if bytes_eq name (codes "seqof5-u16") then Some (canonical_tagged Sequence (parse_sequence_of 5 parse_u16))
+    else if bytes_eq name (codes "seqref-u16") then Some (canonical_tagged Sequence (parse_kept (parse_all_items parse_u16)))
     else if bytes_eq name (codes "algid") then Some (canonical_tagged Sequence parse_algorithm_identifier)
     else None
 

@@ -12,8 +12,8 @@ use der_asn1_types::asn1::{
     Any, AnyRef, Application, BitString, BitStringRef, BmpString, ContextSpecific,
     GeneralStringRef, GeneralizedTime, Ia5String, Ia5StringRef, Int, IntRef, Null,
     ObjectIdentifier, OctetString, OctetStringRef, PrintableString, PrintableStringRef, Private,
-    SequenceOf, SequenceRef, SetOf, SetOfRef, SetOfVec, TeletexString, TeletexStringRef, Uint,
-    UintRef, UtcTime, Utf8StringRef, VideotexStringRef,
+    SequenceOf, SequenceOfRef, SequenceRef, SetOf, SetOfRef, SetOfVec, TeletexString,
+    TeletexStringRef, Uint, UintRef, UtcTime, Utf8StringRef, VideotexStringRef,
 };
 use der_asn1_types::{DateTime, Decode, DerOrd, Encode, Error, SliceReader, Tagged};
 use der_lines::{KeptWriter, Names, choose, is_name, put_canonical, put_canonical_set};
@@ -256,6 +256,7 @@ fn put_nested(
         alloc, name, octets, encoding;
         "sequenceref" => SequenceRef,
         "seqof5-u16" => SequenceOf<u16, 5>,
+        "seqref-u16" => SequenceOfRef<u16>,
         "algid" => AlgorithmIdentifier,
     }
 }
