@@ -12,6 +12,7 @@ from .layout import LayoutError, laid_out
 from .parser import parse_module
 from .resolver import resolve
 from .writer.crate import MARK, files_of_crate
+from .writer.orders import items_of_sets
 from .writer.plan import Plan, Target
 
 LIST = "asn1/crates.txt"
@@ -48,7 +49,8 @@ def write_all(path: Path, with_remarks: bool) -> dict[str, str]:
     resolved, remarks = resolve(modules)
     for remark in remarks if with_remarks else ():
         print(remark, file=sys.stderr)
-    plan = Plan({module.name: Target(entry.crate, entry.module) for module, entry in zip(resolved, entries)})
+    targets = {module.name: Target(entry.crate, entry.module) for module, entry in zip(resolved, entries)}
+    plan = Plan(targets, items_of_sets(resolved))
     found: dict[str, str] = {}
     for crate in dict.fromkeys(entry.crate for entry in entries):
         mine = [module for module, entry in zip(resolved, entries) if entry.crate == crate]

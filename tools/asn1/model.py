@@ -35,6 +35,7 @@ class Whole(Enum):
     INTEGER = "INTEGER of any length"
     NATURAL = "INTEGER (0..MAX)"
     BIT_STRING = "BIT STRING"
+    NAMED_BITS = "BIT STRING with named bits"
     OCTET_STRING = "OCTET STRING"
     OBJECT_IDENTIFIER = "OBJECT IDENTIFIER"
     UTC_TIME = "UTCTime"
@@ -95,7 +96,17 @@ class Kept:
     of: "Resolved"
 
 
-Resolved = Union[Leaf, Use, Listed, Tagged, Kept]
+@dataclass(frozen=True)
+class NameOf:
+    """A value of an ENUMERATED itself, which `Enumerated` holds."""
+
+    definition: "Enumeration"
+
+    def __hash__(self) -> int:
+        return id(self.definition)
+
+
+Resolved = Union[Leaf, Use, Listed, Tagged, Kept, NameOf]
 
 
 # ---- definitions

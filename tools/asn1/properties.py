@@ -13,10 +13,12 @@ from .model import (
     Leaf,
     List,
     Listed,
+    NameOf,
     Resolved,
     Struct,
     Tag,
     Tagged,
+    Use,
     Whole,
 )
 from .syntax import Simple, TagClass
@@ -30,6 +32,7 @@ UNIVERSAL_TAGS = {
     Whole.INTEGER: 2,
     Whole.NATURAL: 2,
     Whole.BIT_STRING: 3,
+    Whole.NAMED_BITS: 3,
     Whole.OCTET_STRING: 4,
     Whole.NULL: 5,
     Whole.OBJECT_IDENTIFIER: 6,
@@ -62,6 +65,7 @@ def tags_of(type_: Resolved) -> frozenset[Tag] | None:
         return frozenset([SET if type_.is_set else SEQUENCE])
     if isinstance(type_, Kept):
         return tags_of(type_.of)
+    assert isinstance(type_, Use)
     return tags_of_definition(type_.definition)
 
 
@@ -130,6 +134,8 @@ def properties_of(type_: Resolved) -> Properties:
         return properties_of(type_.of)
     if isinstance(type_, Kept):
         return NOTHING + Properties(True, properties_of(type_.of).takes_memory, True)
+    if isinstance(type_, NameOf):
+        return NOTHING
     return properties_of_definition(type_.definition)
 
 

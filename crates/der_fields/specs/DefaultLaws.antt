@@ -66,15 +66,15 @@ pub explicit_default : (t : Tag) (default octets : List ℕ) → is_default defa
 explicit_default t default octets =
     told_default (tlv t default) (tlv t (octets ++ [])) (is_default default octets) (λ h. ap (tlv t) (append-nil octets ∙ is_the_default default octets h)) (λ e. default_refused default octets (sym (append-nil octets) ∙ (tlv-injective t t (octets ++ []) default e).1))
 
--- no other BOOLEAN is encoded as false is
-pub false_default : (v : Bool) → not v ≡ is_default (tlv Boolean (boolean_contents false)) (tlv Boolean (boolean_contents v))
-false_default false = told_default (tlv Boolean (boolean_contents false)) (tlv Boolean (boolean_contents false)) true (λ h. refl) (λ e. refl)
-false_default true = told_default (tlv Boolean (boolean_contents false)) (tlv Boolean (boolean_contents true)) false (λ h. absurd (cc)) (λ e. let same = boolean_contents-injective true false (tlv-injective Boolean Boolean (boolean_contents true) (boolean_contents false) e).1 in sym same)
+-- after a tag no other BOOLEAN is encoded as false is
+pub false_default : (t : Tag) (v : Bool) → not v ≡ is_default (tlv t (boolean_contents false)) (tlv t (boolean_contents v))
+false_default t false = told_default (tlv t (boolean_contents false)) (tlv t (boolean_contents false)) true (λ h. refl) (λ e. refl)
+false_default t true = told_default (tlv t (boolean_contents false)) (tlv t (boolean_contents true)) false (λ h. absurd (cc)) (λ e. let same = boolean_contents-injective true false (tlv-injective t t (boolean_contents true) (boolean_contents false) e).1 in sym same)
 
--- no other number is encoded as the default is
-pub number_default : (n v : ℕ) → nat_eq v n ≡ is_default (tlv Integer (natural_contents n)) (tlv Integer (natural_contents v))
-number_default n v =
-    told_default (tlv Integer (natural_contents n)) (tlv Integer (natural_contents v)) (nat_eq v n) (λ h. ap (λ v. tlv Integer (natural_contents v)) (eqb-true v n h)) (λ e. eq-eqb v n (natural_contents-injective v n (tlv-injective Integer Integer (natural_contents v) (natural_contents n) e).1))
+-- after a tag no other number is encoded as the default is
+pub number_default : (t : Tag) (n v : ℕ) → nat_eq v n ≡ is_default (tlv t (natural_contents n)) (tlv t (natural_contents v))
+number_default t n v =
+    told_default (tlv t (natural_contents n)) (tlv t (natural_contents v)) (nat_eq v n) (λ h. ap (λ v. tlv t (natural_contents v)) (eqb-true v n h)) (λ e. eq-eqb v n (natural_contents-injective v n (tlv-injective t t (natural_contents v) (natural_contents n) e).1))
 
 module _ {T : Type 0} (F : form.Ghosts T) (default : List ℕ) (rules : EncodingRules) where
   absent : (p z : ℕ) (x : List ℕ) → BeginsWith F.tags false (z ∷ x) → parse_default F.tags default F.parse rules p (z ∷ x) ≡ Ok (0, [])

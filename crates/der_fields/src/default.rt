@@ -1,8 +1,7 @@
 //! DEFAULT: the value that a field has where it is absent (X.680 25.9, X.690 11.5).
 //!
 //! A default is named by a type: `DefaultFalse` is that of `BOOLEAN DEFAULT FALSE`, `DefaultNumber<0>`
-//! that of `INTEGER DEFAULT 0`, also after an explicit tag, as of a version `[0] EXPLICIT INTEGER
-//! DEFAULT v1`.
+//! that of `INTEGER DEFAULT 0`, also after a tag, as of a version `[0] EXPLICIT INTEGER DEFAULT v1`.
 
 ghost use Rattle.std.specs.Prelude.{◌≡◌, List, ℕ, true, false};
 ghost use Rattle.der_tlv.specs.HeaderOctets.{tlv};
@@ -15,6 +14,7 @@ ghost use Rattle.der_fields.specs.Defaults.{is_default};
 use crate::end::End;
 use crate::explicit::ExplicitIn;
 use crate::field::Field;
+use crate::implicit::ImplicitIn;
 use der_elem::Form;
 
 /// The default value of a field, named by a type.
@@ -47,6 +47,19 @@ impl DefaultOf<bool> for DefaultFalse {
     }
 }
 
+impl<const CLASS: u8, const NUMBER: u32> DefaultOf<ImplicitIn<bool, CLASS, NUMBER>>
+    for DefaultFalse {
+    ghost octets = { tlv (marker_tag CLASS false NUMBER) (boolean_contents false) };
+
+    fn default_value() -> ImplicitIn<bool, CLASS, NUMBER> {
+        ImplicitIn { value: false }
+    }
+
+    fn is_default(value: &ImplicitIn<bool, CLASS, NUMBER>) -> bool {
+        !value.value
+    }
+}
+
 /// The default of `INTEGER DEFAULT NUMBER`, of numbers up to 255.
 pub struct DefaultNumber<const NUMBER: u8>;
 
@@ -59,6 +72,19 @@ impl<const NUMBER: u8> DefaultOf<u8> for DefaultNumber<NUMBER> {
 
     fn is_default(value: &u8) -> bool {
         *value == NUMBER
+    }
+}
+
+impl<const DEFAULT: u8, const CLASS: u8, const NUMBER: u32> DefaultOf<ImplicitIn<u8, CLASS, NUMBER>>
+    for DefaultNumber<DEFAULT> {
+    ghost octets = { tlv (marker_tag CLASS false NUMBER) (natural_contents DEFAULT) };
+
+    fn default_value() -> ImplicitIn<u8, CLASS, NUMBER> {
+        ImplicitIn { value: DEFAULT }
+    }
+
+    fn is_default(value: &ImplicitIn<u8, CLASS, NUMBER>) -> bool {
+        value.value == DEFAULT
     }
 }
 

@@ -163,8 +163,8 @@ def plain(context: Context, name: str, text: str, base: Type, tag: Tag | None, c
         return List(*about, item=item, is_set=base.is_set, is_never_empty=never_empty, tag=tag)
     assert isinstance(base, EnumeratedType)
     values = enumeration_of(context.state.library, context.env, base.named)
-    if not all(0 <= number <= 255 for number in values.values()):
-        raise AsnError(base.place, "an ENUMERATED with numbers beyond 255 is not taken", "write INTEGER in its place")
+    if not all(abs(number) < 2**63 for number in values.values()):
+        raise AsnError(base.place, "an ENUMERATED with numbers of 64 bits is not taken", "write INTEGER in its place")
     named = tuple(Named(*one) for one in values.items())
     return Enumeration(*about, values=named, is_extensible=base.extensible, tag=tag)
 

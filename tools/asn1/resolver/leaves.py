@@ -76,7 +76,8 @@ def bit_string(
     negative = [name for name, number in bits.items() if number < 0]
     if negative:
         raise AsnError(type_.place, f"the bit '{negative[0]}' has a negative number", "number bits from 0")
-    return Leaf(Whole.BIT_STRING, context.notes.has("owned")), tuple(Named(*one) for one in bits.items())
+    whole = Whole.NAMED_BITS if bits else Whole.BIT_STRING
+    return Leaf(whole, not bits and context.notes.has("owned")), tuple(Named(*one) for one in bits.items())
 
 
 def integer(

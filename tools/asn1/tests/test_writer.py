@@ -18,6 +18,7 @@ from ..writer.alternatives import at, depth
 from ..writer.crate import files_of_crate
 from ..writer.fields import places
 from ..writer.grammar import GrammarPage
+from ..writer.orders import items_of_sets
 from ..writer.plan import Plan, Target
 from .helpers import module_of, resolved, standard
 
@@ -25,7 +26,8 @@ from .helpers import module_of, resolved, standard
 def written(*texts: str) -> dict[str, str]:
     """The files of modules, before they are laid out."""
     found, _ = resolved(*texts)
-    plan = Plan({module.name: Target("der_test", f"module{i}" if i else "test") for i, module in enumerate(found)})
+    targets = {module.name: Target("der_test", f"module{i}" if i else "test") for i, module in enumerate(found)}
+    plan = Plan(targets, items_of_sets(found))
     return files_of_crate(plan, found)
 
 

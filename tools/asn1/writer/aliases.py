@@ -6,6 +6,7 @@ from ..model import Alias, Constant, Named
 from ..properties import properties_of_definition
 from ..spelling import screaming
 from . import docs
+from .orders import write_order
 from .plan import Plan, Target
 from .source import Source
 from .types import lifetime_of, rust_type
@@ -13,12 +14,13 @@ from .types import lifetime_of, rust_type
 
 def write_aliases(plan: Plan, target: Target, aliases: list[Alias], name: str) -> str:
     """The source file of all second names of a module."""
-    source = Source(plan, target)
+    source = Source(plan, target, "aliases")
     for alias in aliases:
         assert alias.type is not None
         lifetime = lifetime_of(properties_of_definition(alias).borrows)
         type_ = rust_type(source, alias.type)
         source.add(f"{docs.of_definition(alias)}\npub type {alias.rust}{lifetime} = {type_};")
+        write_order(source, alias)
         for one in alias.numbers:
             source.add(number(alias, one, rust_type(source, alias.type)))
         for one in alias.bits:

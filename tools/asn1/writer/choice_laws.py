@@ -106,7 +106,7 @@ def encoding_eq(source: Source, all_of: Alternatives) -> str:
     """That values are equal exactly where their encodings are: as of the tree, whose equality is the enum's."""
     equality = TreeLaws(source, all_of).equality(everything(all_of))
     term = (
-        f"{source.word('seen_equality')} {all_of.view} {quote(all_of, 'Form')} {own_eq(all_of)} {tree_eq(all_of)} "
+        f"{source.word('seen_equality')} {all_of.view} {own_eq(all_of)} {tree_eq(all_of)} "
         f"{same_equality(source, all_of)} {equality}"
     )
     return (

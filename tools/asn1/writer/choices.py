@@ -7,15 +7,16 @@ from ..properties import properties_of_definition
 from ..spelling import snake
 from . import choice_laws, docs
 from .alternatives import Alternatives, at, by_variants, depth, first_tags, ghosts, halves, law, quote, tree
+from .orders import write_order
 from .plan import Plan
 from .source import Page, Source
-from .types import has_order, lifetime_of, logic_type, rust_type
+from .types import lifetime_of, logic_type, rust_type
 from .values import derives
 
 
 def write_choice(plan: Plan, choice: Choice) -> str:
     """The source file of a CHOICE."""
-    source = Source(plan, plan.of(choice))
+    source = Source(plan, plan.of(choice), plan.file(choice))
     lifetime = lifetime_of(properties_of_definition(choice).borrows)
     types = [rust_type(source, part.type) for part in choice.alternatives]
     all_of = Alternatives(choice, lifetime, types)
@@ -29,11 +30,11 @@ def write_choice(plan: Plan, choice: Choice) -> str:
     for trait in ("Decode", "DecodeField"):
         source.add(decode(source, all_of, trait))
     source.add(encode(source, all_of))
-    if all(has_order(part.type) for part in choice.alternatives):
-        source.add(order(source, all_of))
+    source.add(order(source, all_of))
     source.add(choice_laws.encoding_eq(source, all_of))
     source.add(choice_laws.duplicate(source, all_of))
     source.add(choice_laws.duplicate_is_equal(source, all_of))
+    write_order(source, choice)
     return source.text([f"//! {choice.name}, a CHOICE of {len(types)} alternatives."])
 
 
@@ -112,19 +113,9 @@ def tagged(source: Source, all_of: Alternatives) -> str:
     form_q, value_q, tagged_q = (quote(all_of, trait) for trait in ("Form", "FormValue", "Tagged"))
     m, view, k = source.member, all_of.view, f"({all_of.view} k)"
     tag_of = f"{tagged_q}.{m('tag_of')}"
-    contents = f"{value_q}.{m('value')}.{m('contents')}"
-    encoding_is = by_variants(
-        all_of,
-        f"{form_q}.{m('encoding')} {k} {source.word('≡')} {source.word('tlv')} ({tag_of} {k}) ({contents} {k})",
-        lambda i: encoding_law(source, all_of, i),
-    )
+    has_tags = choice_laws.TreeLaws(source, all_of).has_tags(choice_laws.everything(all_of))
     is_tlv = by_variants(
         all_of, f"{form_q}.{m('accepts')} rules {k} b → {source.word('IsTlv')} b", lambda i: tlv_law(source, all_of, i)
-    )
-    first_tag_is = by_variants(
-        all_of,
-        f"{form_q}.{m('first_tag_of')} {k} ≡ {source.word('Some')} ({tag_of} {k})",
-        lambda i: first_tag_is_law(source, all_of, i),
     )
     re_reads = by_variants(
         all_of,
@@ -132,10 +123,10 @@ def tagged(source: Source, all_of: Alternatives) -> str:
         lambda i: re_reads_law(source, all_of, i),
     )
     members = [
-        (m("encoding_is"), f"λ v. {encoding_is}"),
+        (m("encoding_is"), f"λ v. {has_tags}.encoding_is ({view} v)"),
         (m("accepted_is_tlv"), f"λ rules v b. {is_tlv}"),
-        (m("own_tag"), f"λ v. {own_tag(source, all_of, list(range(len(all_of.types))))} ({view} v)"),
-        (m("first_tag_is"), f"λ v. {first_tag_is}"),
+        (m("own_tag"), f"λ v. {has_tags}.own_tag ({view} v)"),
+        (m("first_tag_is"), f"λ v. {has_tags}.first_tag_is ({view} v)"),
         (m("re_reads_alike"), f"λ v. {re_reads}"),
         (m("comparable_alike"), "λ v w h. tt"),
     ]
@@ -154,18 +145,6 @@ def variants_module(source: Source, all_of: Alternatives) -> str:
     return f"{path}.TheVariants as {all_of.variants}"
 
 
-def encoding_law(source: Source, all_of: Alternatives, index: int) -> str:
-    if all_of.choice_of(all_of.choice.alternatives[index].type):
-        return f"{law(source, all_of, index, source.member('encoding_is'))} x"
-    return source.word("refl")
-
-
-def first_tag_is_law(source: Source, all_of: Alternatives, index: int) -> str:
-    if all_of.choice_of(all_of.choice.alternatives[index].type):
-        return f"{law(source, all_of, index, source.member('first_tag_is'))} x"
-    return source.word("refl")
-
-
 def re_reads_law(source: Source, all_of: Alternatives, index: int) -> str:
     if all_of.choice_of(all_of.choice.alternatives[index].type):
         return f"{law(source, all_of, index, source.member('re_reads_alike'))} x"
@@ -179,27 +158,6 @@ def tlv_law(source: Source, all_of: Alternatives, index: int) -> str:
         return f"λ a. {law(source, all_of, index, source.member('accepted_is_tlv'))} rules x b {part}"
     accepts = f"⟦<{all_of.types[index]} as FormValue>⟧.{source.member('value')}.{source.member('accepts')}"
     return f"λ a. {source.word('tlv_tagged')} _ {accepts} rules x b {part}"
-
-
-def own_tag(source: Source, all_of: Alternatives, indices: list[int]) -> str:
-    """That a value's tag is one of its type's, by that law of the tree."""
-    m = source.member
-    if len(indices) == 1:
-        only = indices[0]
-        if all_of.choice_of(all_of.choice.alternatives[only].type):
-            return law(source, all_of, only, m("own_tag"))
-        return f"(λ x. {source.word('same_identifier-same')} (⟦<{all_of.types[only]} as Tagged>⟧.{m('tag_of')} x))"
-    middle = halves(len(indices))
-    first, other = indices[:middle], indices[middle:]
-
-    def member(part: list[int], trait: str, name: str) -> str:
-        return f"⟦<{tree(source, [all_of.types[i] for i in part])} as {trait}>⟧.{m(name)}"
-
-    return (
-        f"({source.word('own_tag_one')} {member(first, 'Form', 'tags')} {member(other, 'Form', 'tags')} "
-        f"{member(first, 'Tagged', 'tag_of')} {member(other, 'Tagged', 'tag_of')} "
-        f"{own_tag(source, all_of, first)} {own_tag(source, all_of, other)})"
-    )
 
 
 def choice_trait(source: Source, all_of: Alternatives) -> str:

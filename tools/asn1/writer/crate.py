@@ -7,12 +7,12 @@ from ..model import Alias, Choice, Definition, Enumeration, List, ResolvedModule
 from ..spelling import snake
 from .aliases import constant_name, write_aliases, write_constants
 from .choices import write_choice, write_choice_page
-from .enumerations import write_enumeration
+from .enumerations import write_enumeration, write_enumeration_page
 from .grammar import GrammarPage
 from .lists import write_list
-from .markers import check_sets
 from .module_laws import write_laws
 from .names import RUST
+from .orders import order_name, write_orders
 from .pages import write_list_page, write_struct_page
 from .plan import Plan
 from .source import PRELUDE
@@ -52,7 +52,6 @@ def write_module(plan: Plan, module: ResolvedModule) -> dict[str, str]:
     files: dict[str, str] = {}
     for definition in module.definitions:
         check_name(definition)
-        check_sets(definition)
         if isinstance(definition, Alias):
             continue
         files[f"src/{target.module}/{snake(definition.rust)}.rt"] = write_definition(plan, definition)
@@ -65,6 +64,8 @@ def write_module(plan: Plan, module: ResolvedModule) -> dict[str, str]:
     if module.constants:
         files[f"src/{target.module}/constants.rt"] = write_constants(plan, target, module.constants, module.name)
     files[f"src/{target.module}/laws.rt"] = write_laws(plan, module)
+    if target in plan.leaves:
+        files[f"src/{target.module}/orders.rt"] = write_orders(plan, target)
     files[f"specs/{target.page}/Grammar.antt"] = GrammarPage(plan, module).text()
     files[f"src/{target.module}.rt"] = root(plan, module)
     pages = sorted(path.split("/")[-1][: -len(".antt")] for path in files if path.startswith("specs/"))
@@ -100,6 +101,8 @@ def write_page(plan: Plan, definition: Definition) -> str | None:
         return write_choice_page(plan, definition)
     if isinstance(definition, List):
         return write_list_page(plan, definition)
+    if isinstance(definition, Enumeration):
+        return write_enumeration_page(plan, definition)
     return None
 
 
@@ -109,10 +112,13 @@ def root(plan: Plan, module: ResolvedModule) -> str:
     for definition in module.definitions:
         names = by_file.setdefault(plan.file(definition), [])
         names.append(definition.rust)
+        if definition in plan.ordered:
+            names.append(order_name(definition))
         if isinstance(definition, Alias):
             names += [constant_name(definition, one) for one in (*definition.numbers, *definition.bits)]
     lines = [f"//! {module.name}.", ""]
     lines += [f"mod {name};" for name in sorted(by_file)]
+    lines += ["mod orders;"] if plan.leaves.get(plan.targets[module.name]) else []
     lines += ["pub mod constants;"] if module.constants else []
     lines += ["pub mod laws;", ""]
     for name, names in sorted(by_file.items()):

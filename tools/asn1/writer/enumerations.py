@@ -1,60 +1,80 @@
-"""An ENUMERATED: a number up to 255, with the names of those that the module has."""
+"""An ENUMERATED as an enum of its names, which the library's `Enumerated` holds (X.690 8.4)."""
 
 from __future__ import annotations
 
-from ..model import Enumeration, Leaf, Whole
-from ..spelling import screaming
+from ..model import Enumeration, Named
+from ..spelling import camel, snake
 from . import docs, markers
-from .laws import Laws
+from .orders import write_order
 from .plan import Plan
-from .source import Source
-from .values import code_traits, contents_equality, copy_is_duplicate, one_tag, value_order
-
-NUMBER = Leaf(Whole.MACHINE_INTEGER, width="u8")
+from .source import Page, Source
 
 
 def write_enumeration(plan: Plan, definition: Enumeration) -> str:
     """The source file of an ENUMERATED."""
-    source = Source(plan, plan.of(definition))
-    rust = definition.rust
+    source = Source(plan, plan.of(definition), plan.file(definition))
     source.add(declaration(definition))
-    source.add(names(definition))
-    source.add(tag(source, definition))
-    one_tag(source, definition, rust, "", markers.of_definition(source, definition))
-    value = source.member("value")
-    source.add(
-        f"impl {source.use('FormValue')} for {rust} {{\n"
-        f"    ghost {value} = {{ {source.word('mapped_format')} (λ v. v.number) ⟦<u8 as FormValue>⟧.{value} }};\n}}"
-    )
-    code_traits(source, definition, "", "number", "u8", is_list_of_fields=False)
-    value_order(source, rust, "", "self.number.value_cmp(&other.number)", "ValueOrd")
-    contents_equality(source, rust, "", f"{Laws(source).contents_eq(NUMBER)} v.number w.number")
-    copy_is_duplicate(source, rust, "")
-    return source.text([f"//! {definition.name}, an ENUMERATED (X.690 8.4)."])
+    source.add(enumeration(source, definition))
+    write_order(source, definition)
+    return source.text([f"//! {definition.name}, an ENUMERATED of {len(definition.values)} names."])
+
+
+def variant(one: Named) -> str:
+    return camel(one.name)
 
 
 def declaration(definition: Enumeration) -> str:
-    more = "Any number up to 255 is read, also one that has no name."
+    rust = definition.rust
+    more = f"In a message it stands as `Enumerated<{rust}>`. A number without a name is refused (`ErrorKind::Value`, 13)."
+    rows = "\n".join(f"    /// `{one.name}` ({one.number}).\n    {variant(one)}," for one in definition.values)
+    head = docs.of_definition(definition, more)
+    return f"{head}\n#[derive(Clone, Copy, Debug, PartialEq, Eq)]\npub enum {rust} {{\n{rows}\n}}"
+
+
+def enumeration(source: Source, definition: Enumeration) -> str:
+    """The numbers of the names, and the names of the numbers."""
+    rust, target = definition.rust, source.target
+    names = source.page_word(f"{target.crate}.specs.{target.page}.{rust}", f"names_of_{snake(rust)}")
+    to = "\n".join(f"            {rust}::{variant(one)} => {one.number}," for one in definition.values)
+    back = "\n".join(f"            {one.number} => Some({rust}::{variant(one)})," for one in definition.values)
     return (
-        f"{docs.of_definition(definition, more)}\n#[derive(Clone, Copy, Debug, PartialEq, Eq)]\n"
-        f"pub struct {definition.rust} {{\n    /// The number.\n    pub number: u8,\n}}"
+        f"impl {source.use('Enumeration')} for {rust} {{\n"
+        f"    type Marker = {markers.of_definition(source, definition)};\n\n"
+        f"    ghost {source.member('names')} = {{ {names} }};\n\n"
+        f"    fn number(self) -> i64 {{\n        match self {{\n{to}\n        }}\n    }}\n\n"
+        f"    fn of_number(number: i64) -> Option<{rust}> {{\n        match number {{\n{back}\n"
+        f"            _ => None,\n        }}\n    }}\n}}"
     )
 
 
-def names(definition: Enumeration) -> str:
-    rows = [
-        f"    /// `{one.name}`.\n    pub const {screaming(one.name)}: u8 = {one.number};" for one in definition.values
-    ]
-    return f"impl {definition.rust} {{\n" + "\n\n".join(rows) + "\n}"
+# ---- the page
 
 
-def tag(source: Source, definition: Enumeration) -> str:
-    """The tag of ENUMERATED, which the library has no marker for."""
-    source.word("lit<")
-    source.word("tags")
-    name = f"{definition.rust}Tag"
-    return (
-        f"/// The tag of `{definition.rust}`, that of ENUMERATED.\npub struct {name};\n\n"
-        f"impl {source.use('TagMarker')} for {name} {{\n    ghost TAG = {{ tags.Enumerated }};\n\n"
-        f"    const TAG: {source.use('Tag')} = Tag::Enumerated;\n\n    ghost tag_in_range = {{ lit< tt }};\n}}"
+def write_enumeration_page(plan: Plan, definition: Enumeration) -> str:
+    """The number of each name, and all of the names."""
+    page = Page(plan, plan.of(definition), f"-- The numbers of {definition.name}.")
+    rust, name = page.logic_type(definition), snake(definition.rust)
+    target = plan.of(definition)
+    module = f"{target.crate}.specs.declared.{target.module}.{snake(definition.rust)}.{definition.rust}.TheVariants"
+    variants = [page.from_module(module, variant(one)) for one in definition.values]
+    for key in ("≡", "refl", "[]", "∷", "Some"):
+        page.word(key)
+    numbers = "\n".join(
+        f"number_of_{name} {one} = {integer(page, value.number)}" for one, value in zip(variants, definition.values)
     )
+    page.add(f"abbrev pub number_of_{name} : {rust} → {page.word('ℤ')}\n{numbers}")
+    listed = " ∷ ".join([*variants, "[]"])
+    page.add(f"abbrev pub all_of_{name} : {page.word('List')} {rust}\nall_of_{name} = {listed}")
+    found = "\n".join(f"{name}_is_found {one} = refl" for one in variants)
+    claim = f"{page.word('named')} number_of_{name} all_of_{name} (number_of_{name} value) ≡ Some value"
+    page.add(f"pub {name}_is_found : (value : {rust}) → {claim}\n{found}")
+    page.add(
+        f"abbrev pub names_of_{name} : {page.word('Names')} {rust}\nnames_of_{name} = record {{\n"
+        f"  number_of = number_of_{name};\n  values = all_of_{name};\n  is_found = {name}_is_found;\n  fit = refl;\n}}"
+    )
+    return page.text()
+
+
+def integer(page: Page, number: int) -> str:
+    """A number as the logic has it: the negative ones are counted from -1 on."""
+    return f"{page.word('pos')} {number}" if number >= 0 else f"{page.word('negsuc')} {-number - 1}"

@@ -14,6 +14,7 @@ from ..model import (
     Definition,
     Enumeration,
     Field,
+    Kept,
     Leaf,
     List,
     Listed,
@@ -44,6 +45,7 @@ from ..syntax import (
 from ..tagging import are_tagged
 from ..values import number_of
 from .alternatives import halves
+from .enumerations import integer
 from .names import ASN1, PARSES
 from .plan import Plan
 from .source import Page
@@ -127,9 +129,14 @@ class GrammarPage:
         if isinstance(definition, List):
             assert isinstance(type_, ListType) and definition.item is not None
             word = self.asn1("SET_OF" if definition.is_set else "SEQUENCE_OF")
-            return f"{word} {closed(self.term(env, type_.item, definition.item))}"
+            found = f"{word} {closed(self.term(env, type_.item, definition.item))}"
+            return f"{self.asn1('NOT_EMPTY')} ({found})" if definition.is_never_empty else found
         assert isinstance(definition, Enumeration)
-        return self.leaf_word("ENUMERATED", *PARSES["ENUMERATED"])
+        self.page.word("tags")
+        for key in ("[]", "∷"):
+            self.page.word(key)
+        numbers = " ∷ ".join([*(integer(self.page, one.number) for one in definition.values), "[]"])
+        return f"{self.asn1('NAMED')} ({numbers}) tags.Enumerated"
 
     def alias(self, env: Env, type_: Type, definition: Alias) -> str:
         """A second name; a CHOICE of one alternative stays a CHOICE, before which a tag is explicit."""
@@ -192,6 +199,8 @@ class GrammarPage:
         if isinstance(type_, FieldOfClass):
             env, type_ = type_of_field(self.library, env, type_)
             return self.term(env, type_, resolved)
+        if isinstance(resolved, Kept):
+            return f"{self.asn1('KEPT')} {closed(self.term(env, type_, resolved.of))}"
         if isinstance(resolved, Use):
             return self.use(resolved.definition)
         if isinstance(resolved, Leaf):
@@ -201,7 +210,8 @@ class GrammarPage:
             return self.term(env, type_, resolved)
         assert isinstance(type_, ListType) and isinstance(resolved, Listed)
         word = self.asn1("SET_OF" if type_.is_set else "SEQUENCE_OF")
-        return f"{word} {closed(self.term(env, type_.item, resolved.item))}"
+        found = f"{word} {closed(self.term(env, type_.item, resolved.item))}"
+        return f"{self.asn1('NOT_EMPTY')} ({found})" if resolved.is_never_empty else found
 
     def use(self, definition: Definition) -> str:
         """The grammar of a type that has a name, perhaps of another page."""
@@ -313,7 +323,7 @@ def named_in(definition: Definition) -> list[Definition]:
             found.append(type_.definition)
         elif isinstance(type_, Listed):
             look(type_.item)
-        elif isinstance(type_, Tagged):
+        elif isinstance(type_, (Tagged, Kept)):
             look(type_.of)
 
     if isinstance(definition, Alias):

@@ -6,13 +6,14 @@ impl that proves it, and joined with those of the others by the words of `Member
 
 from __future__ import annotations
 
-from ..model import Alias, Choice, Definition, Field, Leaf, Listed, Presence, Resolved, Tagged, Use, Whole
+from ..model import Alias, Choice, Definition, Enumeration, Field, Kept, Leaf, Listed, Presence, Resolved, Tagged, Use, Whole
 from ..properties import properties_of, properties_of_definition
 from ..spelling import snake
+from . import markers
 from .fields import AT_ONCE
 from .names import LAWS
 from .source import Source
-from .types import CHARACTERS, WHOLES, field_type, rust_type
+from .types import CHARACTERS, WHOLES, default_type, field_type, rust_type
 
 
 class Laws:
@@ -25,7 +26,7 @@ class Laws:
 
     def quote(self, type_: str, trait: str) -> str:
         if trait != "PartialEq":
-            self.source.use(trait)
+            self.source.use(trait.split("<")[0])
         return f"⟦<{type_} as {trait}>⟧"
 
     def word(self, key: str) -> str:
@@ -55,19 +56,36 @@ class Laws:
         """That encodings are a tag and contents octets."""
         type_ = named(type_)
         if isinstance(type_, Leaf) and type_.whole is Whole.ANY:
-            return self.tags_of(self.of_library(leaf_key(type_), "Tagged"))
+            return self.tags_of(type_, self.of_library(leaf_key(type_), "Tagged"))
         if isinstance(type_, Use) and isinstance(type_.definition, Choice):
-            return self.tags_of(self.of_definition(type_.definition, "Tagged"))
-        value = self.quote(rust_type(self.source, type_), "FormValue")
-        contents = f"{value}.{self.source.member('value')}.{self.source.member('contents')}"
-        return f"({self.word('one_tag')} _ {contents})"
+            return self.tags_of(type_, self.of_definition(type_.definition, "Tagged"))
+        return f"({self.word('one_tag')} {self.tag(type_)} {self.value(type_, 'contents')})"
+
+    def tag(self, type_: Resolved) -> str:
+        """The tag of a type with one."""
+        return f"{self.quote(markers.of_type(self.source, type_), 'TagMarker')}.{self.source.member('TAG')}"
+
+    def value(self, type_: Resolved, member: str) -> str:
+        """A member of what contents octets mean."""
+        form = self.quote(rust_type(self.source, type_), "FormValue")
+        return f"{form}.{self.source.member('value')}.{self.source.member(member)}"
+
+    def whole(self, type_: Resolved, member: str) -> str:
+        """A member of what whole encodings mean."""
+        return f"{self.form(type_)}.{self.source.member(member)}"
+
+    def eq(self, type_: Resolved) -> str:
+        return f"{self.quote(rust_type(self.source, type_), 'PartialEq')}.eq"
 
     def form(self, type_: Resolved) -> str:
         return self.quote(rust_type(self.source, type_), "Form")
 
-    def tags_of(self, alias: str) -> str:
-        parts = [f"{name} = {self.law(alias, name)}" for name in ("encoding_is", "own_tag", "first_tag_is")]
-        return f"(record {{ {'; '.join(parts)} }})"
+    def tags_of(self, type_: Resolved, alias: str) -> str:
+        tag_of = f"{self.quote(rust_type(self.source, type_), 'Tagged')}.{self.source.member('tag_of')}"
+        parts = [self.whole(type_, name) for name in ("tags", "first_tag_of", "encoding")]
+        parts += [tag_of, self.value(type_, "contents")]
+        parts += [self.law(alias, name) for name in ("encoding_is", "own_tag", "first_tag_is")]
+        return f"({self.word('own_tags')} {' '.join(parts)})"
 
     # ---- equality
 
@@ -78,7 +96,9 @@ class Laws:
             return self.law(self.of_library(leaf_key(type_), "EncodingEq"), "encoding_eq")
         if isinstance(type_, Use) and isinstance(type_.definition, Choice):
             return self.law(self.of_definition(type_.definition, "EncodingEq"), "encoding_eq")
-        return f"({self.word('one_tag_equality')} _ _ _ _ {self.contents_eq(type_)})"
+        contents, comparable = self.value(type_, "contents"), self.value(type_, "comparable")
+        law = self.contents_eq(type_)
+        return f"({self.word('one_tag_equality')} {self.tag(type_)} {contents} {comparable} {self.eq(type_)} {law})"
 
     def contents_eq(self, type_: Resolved) -> str:
         """The same of contents octets, of a type with one tag."""
@@ -86,20 +106,33 @@ class Laws:
         if isinstance(type_, Leaf):
             return self.leaf_contents_eq(type_)
         if isinstance(type_, Use):
+            if isinstance(type_.definition, Enumeration):
+                return self.numbers_eq(type_.definition)
             return self.law(self.of_definition(type_.definition, "ContentsEq"), "contents_eq")
+        if isinstance(type_, Kept):
+            return f"({self.law(self.of_library('Kept', 'ContentsEq'), 'contents_eq')} _ _ _)"
         if isinstance(type_, Listed):
             items = self.items_eq(type_)
             return items if type_.is_set else f"(λ v w. {items} v.items w.items)"
         assert isinstance(type_, Tagged)
         if type_.is_explicit:
-            alone = self.member_equality(rust_type(self.source, type_.of), self.always(type_.of), self.word("no_equality"))
+            inner = rust_type(self.source, type_.of)
+            starts, law = self.tagged_starts(type_.of), self.encoding_eq(type_.of)
+            alone = self.member_equality(inner, starts, law, self.word("no_equality"))
             return f"(λ v w. {alone}.equal v.fields w.fields)"
         return f"(λ v w. {self.contents_eq(type_.of)} v.value w.value)"
 
     def items_eq(self, type_: Listed) -> str:
         """The same of the items of a list, one after another."""
         item = type_.item
-        return f"({self.word('items_equality')} {self.form(item)} {self.has_tags(item)} _ {self.encoding_eq(item)})"
+        law = self.encoding_eq(item)
+        return f"({self.word('items_equality')} {self.form(item)} {self.has_tags(item)} {self.eq(item)} {law})"
+
+    def numbers_eq(self, definition: Enumeration) -> str:
+        """Of an ENUMERATED: two numbers are equal exactly where their octets are."""
+        quoted = self.quote(self.source.use_type(definition), "Enumeration")
+        number_of = f"{quoted}.{self.source.member('names')}.{self.source.member('number_of')}"
+        return f"(λ v w one. {self.word('numbers_decide')} ({number_of} v.value) ({number_of} w.value))"
 
     def leaf_contents_eq(self, leaf: Leaf) -> str:
         law = self.law(self.of_library(leaf_key(leaf), "ContentsEq"), "contents_eq")
@@ -109,21 +142,33 @@ class Laws:
         self.source.word("lit<")
         return f"({law} {constant} (record {{ fits = lit< tt }}))"
 
-    def always(self, type_: Resolved) -> str:
-        return f"({self.word('tagged_equality')} {self.form(type_)} {self.has_tags(type_)} _ {self.encoding_eq(type_)})"
-
     def member(self, part: Field) -> str:
         """The equality of a field, by its presence."""
+        law = self.encoding_eq(part.type)
         if part.presence is Presence.ALWAYS:
-            return self.always(part.type)
-        rest = f"{self.form(part.type)} {self.has_tags(part.type)} _ {self.encoding_eq(part.type)}"
+            return law
+        head = f"{self.form(part.type)} {self.has_tags(part.type)}"
         if part.presence is Presence.OPTIONAL:
-            return f"({self.word('optional_equality')} {rest})"
-        return f"({self.word('default_equality')} {rest} (λ x. x.value) _)"
+            return f"({self.word('optional_equality')} {head} {self.eq(part.type)} {law})"
+        return f"({self.word('default_equality')} {head} (λ x. x.value) {self.default(part)} {self.eq(part.type)} {law})"
 
-    def member_equality(self, type_: str, member: str, rest: str) -> str:
+    def starts(self, part: Field) -> str:
+        """That the octets of a field start with its first tag, by its presence."""
+        if part.presence is Presence.ALWAYS:
+            return self.tagged_starts(part.type)
+        head = f"{self.form(part.type)} {self.has_tags(part.type)}"
+        if part.presence is Presence.OPTIONAL:
+            return f"({self.word('optional_starts')} {head})"
+        return f"({self.word('default_starts')} {head} (λ x. x.value) {self.default(part)})"
+
+    def default(self, part: Field) -> str:
+        """The encoding of a field's default."""
+        quoted = self.quote(default_type(self.source, part), f"DefaultOf<{rust_type(self.source, part.type)}>")
+        return f"{quoted}.{self.source.member('octets')}"
+
+    def member_equality(self, type_: str, starts: str, member: str, rest: str) -> str:
         form, eq = self.quote(type_, "Form"), f"{self.quote(type_, 'PartialEq')}.eq"
-        return f"({self.word('member_equality')} {form} {eq} {member} {rest})"
+        return f"({self.word('member_equality')} {form} {starts} {eq} {member} {rest})"
 
     def list_equality(self, fields: tuple[Field, ...]) -> str:
         """The equality of a list of fields."""
@@ -131,7 +176,7 @@ class Laws:
         if len(fields) > AT_ONCE:
             found = f"({self.word('part_equality')} (λ x. x.list) {self.list_equality(fields[AT_ONCE:])})"
         for part in reversed(fields[:AT_ONCE]):
-            found = self.member_equality(field_type(self.source, part), self.member(part), found)
+            found = self.member_equality(field_type(self.source, part), self.starts(part), self.member(part), found)
         return found
 
     # ---- copies
@@ -142,17 +187,19 @@ class Laws:
         if isinstance(type_, Leaf) and type_.whole is Whole.ANY:
             if type_.is_owned:
                 return self.copies_of(self.of_library("Any", "Duplicate"), self.of_library("Any", "DuplicateIsEqual"), True)
-            return self.same(f"(λ v. ({self.encoding_eq(type_)} v v tt).1 {self.word('refl')})")
+            return self.same(type_, f"(λ v. ({self.encoding_eq(type_)} v v tt).1 {self.word('refl')})", True)
         if isinstance(type_, Use) and isinstance(type_.definition, Choice):
             if properties_of_definition(type_.definition).is_copy:
-                return self.same(self.equal_to_itself(type_.definition))
+                return self.same(type_, self.equal_to_itself(type_.definition), True)
             traits = [self.of_definition(type_.definition, trait) for trait in ("Duplicate", "DuplicateIsEqual")]
             return self.copies_of(traits[0], traits[1], True)
-        return f"({self.word('one_tag_copies')} _ {self.contents_copies(type_)})"
+        return f"({self.word('one_tag_copies')} {self.tag(type_)} {self.contents_copies(type_)})"
 
-    def same(self, equal: str) -> str:
+    def same(self, type_: Resolved, equal: str, whole: bool) -> str:
         """Of a value whose copy is the value: it is equal to itself."""
-        return f"({self.word('same_copies')} _ _ _ _ {equal})"
+        names = ("encoding" if whole else "contents", "comparable", "re_reads")
+        parts = " ".join((self.whole if whole else self.value)(type_, name) for name in names)
+        return f"({self.word('same_copies')} {parts} {self.eq(type_)} {equal})"
 
     def equal_to_itself(self, definition: Definition) -> str:
         """That the values of a derived `Eq` are equal to themselves."""
@@ -172,12 +219,14 @@ class Laws:
         type_ = named(type_)
         if isinstance(type_, Leaf):
             if properties_of(type_).is_copy:
-                return self.same(f"(λ v. ({self.leaf_contents_eq(type_)} v v tt).1 {self.word('refl')})")
+                return self.same(type_, f"(λ v. ({self.leaf_contents_eq(type_)} v v tt).1 {self.word('refl')})", False)
             traits = [self.of_library(leaf_key(type_), trait) for trait in ("DuplicateValue", "DuplicateValueIsEqual")]
             return self.copies_of(traits[0], traits[1], False)
+        if isinstance(type_, Kept) or (isinstance(type_, Use) and isinstance(type_.definition, Enumeration)):
+            return self.same(type_, f"(λ v. ({self.contents_eq(type_)} v v tt).1 {self.word('refl')})", False)
         if isinstance(type_, Use):
             if properties_of_definition(type_.definition).is_copy:
-                return self.same(self.equal_to_itself(type_.definition))
+                return self.same(type_, self.equal_to_itself(type_.definition), False)
             traits = [self.of_definition(type_.definition, trait) for trait in ("DuplicateValue", "DuplicateValueIsEqual")]
             return self.copies_of(traits[0], traits[1], False)
         if isinstance(type_, Listed):
@@ -201,16 +250,12 @@ class Laws:
 
     def member_of_copies(self, part: Field, rest: str) -> str:
         """The copies of a field, by its presence, and those of the others."""
-        type_, has = field_type(self.source, part), self.has_tags(part.type)
-        copies = self.encoding_copies(part.type)
-        form = self.form(part.type)
-        if part.presence is Presence.ALWAYS:
-            return self.member_copies(type_, self.tagged_starts(part.type), copies, rest)
+        type_, form, copies = field_type(self.source, part), self.form(part.type), self.encoding_copies(part.type)
         if part.presence is Presence.OPTIONAL:
-            starts = f"({self.word('optional_starts')} {form} {has})"
-            return self.member_copies(type_, starts, f"({self.word('optional_copies')} {form} {copies})", rest)
-        starts = f"({self.word('default_starts')} {form} {has} (λ x. x.value) _)"
-        return self.member_copies(type_, starts, f"({self.word('default_copies')} {form} {copies} (λ x. x.value) _)", rest)
+            copies = f"({self.word('optional_copies')} {form} {copies})"
+        if part.presence is Presence.DEFAULT:
+            copies = f"({self.word('default_copies')} {form} {copies} (λ x. x.value) {self.default(part)})"
+        return self.member_copies(type_, self.starts(part), copies, rest)
 
     def list_copies(self, fields: tuple[Field, ...]) -> str:
         """The copies of a list of fields."""

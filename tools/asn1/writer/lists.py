@@ -6,9 +6,10 @@ from ..model import List, Listed
 from ..properties import properties_of_definition
 from ..spelling import snake
 from . import docs, markers
+from .orders import write_order
 from .plan import Plan
 from .source import Source
-from .types import has_order, lifetime_of, rust_type
+from .types import lifetime_of, rust_type
 from .laws import Laws
 from .values import code_traits, contents_equality, derives, duplicate_value, one_tag, value_order
 
@@ -16,7 +17,7 @@ from .values import code_traits, contents_equality, derives, duplicate_value, on
 def write_list(plan: Plan, definition: List) -> str:
     """The source file of a list."""
     assert definition.item is not None
-    source = Source(plan, plan.of(definition))
+    source = Source(plan, plan.of(definition), plan.file(definition))
     lifetime = lifetime_of(properties_of_definition(definition).borrows)
     held = rust_type(source, Listed(definition.item, definition.is_set, definition.is_never_empty))
     whole = definition.rust + lifetime
@@ -29,8 +30,7 @@ def write_list(plan: Plan, definition: List) -> str:
         f"⟦<{held} as FormValue>⟧.{source.member('value')} }};\n}}"
     )
     code_traits(source, definition, lifetime, "items", held.replace("<", "::<", 1), is_list_of_fields=False)
-    if has_order(definition.item):
-        value_order(source, whole, lifetime, "self.items.value_cmp(&other.items)", "ValueOrd")
+    value_order(source, whole, lifetime, "self.items.value_cmp(&other.items)", "ValueOrd")
     laws = Laws(source)
     listed = Listed(definition.item, definition.is_set, definition.is_never_empty)
     items = ".items" if definition.is_set else ".items.items"
@@ -42,21 +42,17 @@ def write_list(plan: Plan, definition: List) -> str:
         f"λ v w. {copies}.re_reads_are v{items} w{items}",
         f"λ v w. {copies}.equal_are v{items} w{items}",
     )
-    more = ", item: PhantomData" if definition.is_set else ""
-    duplicate_value(source, definition, lifetime, ("items", held, "DuplicateValue"), terms, more)
+    duplicate_value(source, definition, lifetime, ("items", held, "DuplicateValue"), terms)
+    write_order(source, definition)
     kind = "SET OF" if definition.is_set else "SEQUENCE OF"
     return source.text([f"//! {definition.name}, a {kind}."])
 
 
 def declaration(source: Source, definition: List, whole: str, held: str) -> str:
-    """The struct. One that holds a set names the tag of its items, or no function around it is covered."""
-    more = ""
-    if definition.is_set:
-        assert definition.item is not None
-        more = f"    item: {source.use('PhantomData')}<{markers.of_type(source, definition.item)}>,\n"
+    """The struct."""
     return (
         f"{docs.of_definition(definition, docs.errors(definition))}\n{derives(definition)}\n"
-        f"pub struct {whole} {{\n    items: {held},\n{more}}}"
+        f"pub struct {whole} {{\n    items: {held},\n}}"
     )
 
 
@@ -68,7 +64,7 @@ def own_calls(source: Source, definition: List, lifetime: str, held: str, item: 
     borrows = properties_of_definition(definition).borrows
     entry, whole = ("items.entry", "self.entry") if borrows else ("items", "self")
     shown = "" if definition.is_set else ".items"
-    more = ", item: PhantomData" if definition.is_set else ""
+    inner = "items.list()" if definition.is_never_empty else "items"
     return f"""impl{lifetime} {definition.rust}{lifetime} {{
     ghost use Rattle.{source.target.crate}.specs.{source.target.page}.{definition.rust} as {words};
 
@@ -76,14 +72,14 @@ def own_calls(source: Source, definition: List, lifetime: str, held: str, item: 
     pub fn new(items: {held}) -> {definition.rust}{lifetime}
         ensures {{ {of} result ≡ {entry}{shown} }}
     {{
-        {definition.rust} {{ items{more} }}
+        {definition.rust} {{ items }}
     }}
 
     /// The items, in their order.
     pub fn as_slice(&self) -> &[{item}]
         ensures {{ result.now ≡ {of} self.now }}
     {{
-        self.items.as_slice()
+        self.{inner}.as_slice()
     }}
 
     /// The items, in the room that holds them.

@@ -2,11 +2,8 @@
 
 from __future__ import annotations
 
-from ..errors import AsnError, Place
 from ..model import (
     Alias,
-    Choice,
-    Definition,
     Enumeration,
     Kept,
     Leaf,
@@ -29,6 +26,7 @@ MARKERS = {
     Whole.INTEGER: "IntegerTag",
     Whole.NATURAL: "IntegerTag",
     Whole.BIT_STRING: "BitStringTag",
+    Whole.NAMED_BITS: "BitStringTag",
     Whole.OCTET_STRING: "OctetStringTag",
     Whole.OBJECT_IDENTIFIER: "ObjectIdentifierTag",
     Whole.UTC_TIME: "UtcTimeTag",
@@ -43,7 +41,7 @@ MARKERS = {
 def of_definition(source: Source, definition: Struct | List | Enumeration) -> str:
     """The marker of a type that is written: its own tag's, or an implicit one in its place."""
     if isinstance(definition, Enumeration):
-        own = f"{definition.rust}Tag"
+        own = source.use("EnumeratedTag")
     else:
         own = source.use("SetTag" if definition.is_set else "SequenceTag")
     return own if definition.tag is None else implicit(source, own, definition.tag)
@@ -67,44 +65,10 @@ def of_type(source: Source, type_: Resolved) -> str:
         return implicit(source, of_type(source, type_.of), type_.tag)
     if isinstance(type_, Kept):
         return of_type(source, type_.of)
+    assert isinstance(type_, Use)
     definition = type_.definition
     if isinstance(definition, Alias):
         assert definition.type is not None
         return of_type(source, definition.type)
     assert isinstance(definition, (Struct, List, Enumeration))
-    if isinstance(definition, Enumeration) and definition.tag is None:
-        return source.use_beside(definition, f"{definition.rust}Tag")
     return of_definition(source, definition)
-
-
-def check_sets(definition: Definition) -> None:
-    """The items of a set have one tag, as long as the library names no order of others."""
-    if isinstance(definition, List) and definition.is_set:
-        assert definition.item is not None
-        check_item(definition.place, definition.item)
-    if isinstance(definition, Alias) and definition.type is not None:
-        check_within(definition.place, definition.type)
-    for part in (*getattr(definition, "fields", ()), *getattr(definition, "alternatives", ())):
-        check_within(part.place, part.type)
-
-
-def check_within(place: Place, type_: Resolved) -> None:
-    if isinstance(type_, Listed):
-        if type_.is_set:
-            check_item(place, type_.item)
-        check_within(place, type_.item)
-    if isinstance(type_, Tagged):
-        check_within(place, type_.of)
-
-
-def check_item(place: Place, item: Resolved) -> None:
-    while isinstance(item, Use) and isinstance(item.definition, Alias):
-        assert item.definition.type is not None
-        item = item.definition.type
-    is_any = isinstance(item, Leaf) and item.whole is Whole.ANY
-    if is_any or (isinstance(item, Use) and isinstance(item.definition, Choice)):
-        raise AsnError(
-            place,
-            "a SET OF any value, or of a CHOICE, is not written yet",
-            "write '-- @omit' after the assignment, and '-- @unread' where it is named",
-        )

@@ -31,8 +31,7 @@ def write_laws(plan: Plan, module: ResolvedModule) -> str:
 
 def whole(source: Source, definition: Definition) -> tuple[str, str]:
     """A type, and its lifetime."""
-    lifetime = lifetime_of(properties_of_definition(definition).borrows)
-    return source.use_type(definition) + lifetime, lifetime
+    return rust_type(source, Use(definition)), lifetime_of(properties_of_definition(definition).borrows)
 
 
 def grammar_law(source: Source, definition: Definition) -> str:

@@ -70,18 +70,22 @@ RUST: dict[str, tuple[str, str]] = {
     "OneOf": ("der_fields", "OneOf"),
     "WithDefault": ("der_fields", "WithDefault"),
     "cmp_headers": ("der_fields", "cmp_headers"),
-    "copy_of": ("der_fields", "copy_of"),
+    "copy_of": ("der_modules", "copy_of"),
     **{f"Fields{n}": ("der_fields", f"Fields{n}") for n in range(1, 9)},
     # values
     "Any": ("der_opaque", "Any"),
     "AnyRef": ("der_opaque", "AnyRef"),
     "BitString": ("der_bits", "BitString"),
     "BitStringRef": ("der_bits", "BitStringRef"),
+    "NamedBitsRef": ("der_bits", "NamedBitsRef"),
     "BmpString": ("der_text", "BmpString"),
     "GeneralStringRef": ("der_text", "GeneralStringRef"),
     "GeneralizedTime": ("der_time", "GeneralizedTime"),
     "Ia5String": ("der_ascii", "Ia5String"),
     "Ia5StringRef": ("der_ascii", "Ia5StringRef"),
+    "Enumerated": ("der_numbers", "Enumerated"),
+    "EnumeratedTag": ("der_numbers", "EnumeratedTag"),
+    "Enumeration": ("der_numbers", "Enumeration"),
     "Int": ("der_numbers", "Int"),
     "IntRef": ("der_numbers", "IntRef"),
     "Null": ("der_opaque", "Null"),
@@ -91,7 +95,12 @@ RUST: dict[str, tuple[str, str]] = {
     "PrintableString": ("der_ascii", "PrintableString"),
     "PrintableStringRef": ("der_ascii", "PrintableStringRef"),
     "SequenceRef": ("der_nest", "SequenceRef"),
-    "SetOfVec": ("der_nest", "SetOfVec"),
+    "ItemOrder": ("der_nest", "ItemOrder"),
+    "ItemSet": ("der_nest", "ItemSet"),
+    "Kept": ("der_nest", "Kept"),
+    "NonEmpty": ("der_nest", "NonEmpty"),
+    "OrdersByEncoding": ("der_nest", "OrdersByEncoding"),
+    "Values": ("der_nest", "Values"),
     "TeletexString": ("der_ascii", "TeletexString"),
     "TeletexStringRef": ("der_ascii", "TeletexStringRef"),
     "Uint": ("der_numbers", "Uint"),
@@ -134,17 +143,23 @@ WORDS: dict[str, tuple[str, str]] = {
     "known_either": ("der_elem.specs.KnownTagLaws", "known_either"),
     "own_is_known": ("der_elem.specs.KnownTagLaws", "own_is_known"),
     **{
-        name: ("der_fields.specs.MemberLaws", name)
+        name: ("der_modules.specs.MemberLaws", name)
         for name in (
             "default_copies default_equality default_starts either_copies either_equality either_tag held_copies "
             "items_copies items_equality listed_copies member_copies member_equality no_copies no_equality one_tag "
-            "one_tag_copies one_tag_equality optional_copies optional_equality optional_starts part_copies "
-            "part_equality same_copies seen_copies seen_equality tagged_equality tagged_starts"
+            "one_tag_copies one_tag_equality own_tags optional_copies optional_equality optional_starts part_copies "
+            "part_equality same_copies seen_copies seen_equality tagged_starts"
         ).split()
     },
     "tlv_tagged": ("der_elem.specs.TaggedLaws", "tlv_tagged"),
     "∷": ("std.specs.Prelude", "◌∷◌"),
     "List": ("std.specs.Prelude", "List"),
+    "numbers_decide": ("der_numbers.specs.EnumeratedLaws", "numbers_decide"),
+    "pos": ("std.specs.Prelude", "pos"),
+    "negsuc": ("std.specs.Prelude", "negsuc"),
+    "ℤ": ("std.specs.Prelude", "ℤ"),
+    "Names": ("der_numbers.specs.Enumerated", "Names"),
+    "named": ("der_numbers.specs.Enumerated", "named"),
     "lit<": ("std.proofs.Common", "lit<"),
     "option_map": ("std.specs.Prelude", "option_map"),
     "boolean_contents": ("der_elem.specs.Boolean", "boolean_contents"),
@@ -179,6 +194,11 @@ MEMBERS: dict[str, str] = {
     "readable": "readable",
     "same_length": "same_length",
     "tags": "tags",
+    "item_encoding": "item_encoding",
+    "is_encoding": "is_encoding",
+    "names": "names",
+    "number_of": "number_of",
+    "TAG": "TAG",
     # FormValue and its record
     "contents": "contents",
     "value": "value",
@@ -227,14 +247,14 @@ MEMBERS: dict[str, str] = {
 
 # ---- grammars: the module of the words of ASN.1, and of each type its tag and the parse of its contents octets
 
-ASN1 = "der_fields.specs.Asn1"
+ASN1 = "der_modules.specs.Asn1"
 
 PARSES: dict[str, tuple[str, str, str]] = {
     "ANY": ("", "der_opaque.specs.AnyForm", "parse_any"),
     "BIT_STRING": ("BitString", "der_bits.specs.BitString", "parse_bit_string"),
     "BMP_STRING": ("BmpString", "der_text.specs.BmpString", "parse_bmp"),
     "BOOLEAN": ("Boolean", "der_elem.specs.Boolean", "parse_boolean"),
-    "ENUMERATED": ("Enumerated", "der_elem.specs.IntegerReading", "parse_unsigned 1"),
+    "NAMED_BITS": ("BitString", "der_bits.specs.NamedBits", "parse_named_bits"),
     "GENERALIZED_TIME": ("GeneralizedTime", "der_time.specs.TimeReading", "parse_generalized"),
     "GENERAL_STRING": ("GeneralString", "der_opaque.specs.Opaque", "parse_octets"),
     "IA5_STRING": ("Ia5String", "der_ascii.specs.Characters", "parse_string"),
@@ -260,6 +280,8 @@ LAWS: dict[str, tuple[str, str]] = {
     "AnyRef": ("der_opaque.specs.contracts.any_ref", "AnyRef"),
     "BitString": ("der_bits.specs.contracts.bit_string", "BitString"),
     "BitStringRef": ("der_bits.specs.contracts.bit_string_ref", "BitStringRef"),
+    "NamedBitsRef": ("der_bits.specs.contracts.named_bits", "NamedBitsRef"),
+    "Kept": ("der_nest.specs.contracts.kept", "Kept"),
     "BmpString": ("der_text.specs.contracts.bmp_string", "BmpString"),
     "CharacterString": ("der_ascii.specs.contracts.string", "CharacterString"),
     "CharacterStringRef": ("der_ascii.specs.contracts.string_ref", "CharacterStringRef"),
@@ -293,6 +315,10 @@ LOGIC: dict[str, tuple[str | None, str]] = {
     "AnyRef": ("der_opaque.specs.declared.any_ref.AnyRef", "AnyRef"),
     "BitString": ("der_bits.specs.declared.bit_string.BitString", "BitString"),
     "BitStringRef": ("der_bits.specs.declared.bit_string_ref.BitStringRef", "BitStringRef"),
+    "NamedBitsRef": ("der_bits.specs.declared.named_bits.NamedBitsRef", "NamedBitsRef"),
+    "Kept": ("der_nest.specs.declared.kept.Kept", "Kept"),
+    "Enumerated": ("der_numbers.specs.declared.enumerated.Enumerated", "Enumerated"),
+    "List": ("std.specs.Prelude", "List"),
     "BmpString": ("der_text.specs.declared.bmp_string.BmpString", "BmpString"),
     "CharacterString": ("der_ascii.specs.declared.string.CharacterString", "CharacterString"),
     "CharacterStringRef": ("der_ascii.specs.declared.string_ref.CharacterStringRef", "CharacterStringRef"),
@@ -301,6 +327,8 @@ LOGIC: dict[str, tuple[str | None, str]] = {
     "End": ("der_fields.specs.declared.end.End", "End"),
     "ExplicitIn": ("der_fields.specs.declared.explicit.ExplicitIn", "ExplicitIn"),
     "Field": ("der_fields.specs.declared.field.Field", "Field"),
+    "Global": ("std.specs.declared.alloc.Global", "Global"),
+    "String": ("std.specs.declared.string.String", "String"),
     "GeneralStringRef": ("der_text.specs.declared.general_string.GeneralStringRef", "GeneralStringRef"),
     "GeneralizedTime": ("der_time.specs.declared.generalized_time.GeneralizedTime", "GeneralizedTime"),
     "ImplicitIn": ("der_fields.specs.declared.implicit.ImplicitIn", "ImplicitIn"),

@@ -2,9 +2,9 @@
 
 from __future__ import annotations
 
-from dataclasses import dataclass
+from dataclasses import dataclass, field
 
-from ..model import Alias, Definition
+from ..model import Alias, Definition, Leaf
 from ..spelling import snake
 
 
@@ -26,6 +26,8 @@ class Plan:
     """The targets of all modules that are known."""
 
     targets: dict[str, Target]
+    ordered: frozenset[Definition] = frozenset()  # the items of sets, whose orders have names
+    leaves: dict[Target, dict[str, Leaf]] = field(default_factory=dict)  # items that are the library's own, by their orders
 
     def of(self, definition: Definition) -> Target:
         return self.targets[definition.module]

@@ -13,9 +13,10 @@ PRELUDE = frozenset(["Err", "None", "Ok", "Option", "Result", "Self", "Some", "V
 class Source:
     """One file of src/."""
 
-    def __init__(self, plan: Plan, target: Target) -> None:
+    def __init__(self, plan: Plan, target: Target, file: str = "") -> None:
         self.plan = plan
         self.target = target
+        self.file = file  # the module's file that this is, without its ending
         self.parts: list[str] = []
         self.imports: dict[str, set[str]] = {}
         self.words: dict[str, set[str]] = {}
@@ -30,20 +31,20 @@ class Source:
 
     def use_type(self, definition: Definition) -> str:
         """A type that is written too, which is imported from where it stands."""
-        target = self.plan.of(definition)
-        if target.crate != self.target.crate:
-            path = f"{target.crate}::{target.module}"
-        else:
-            path = f"crate::{target.module}::{self.plan.file(definition)}"
-        self.imports.setdefault(path, set()).add(definition.rust)
-        return definition.rust
+        return self.use_beside(definition, definition.rust)
 
     def use_beside(self, definition: Definition, name: str) -> str:
         """An item that stands in the file of a type that is written too."""
-        self.use_type(definition)
-        path = next(path for path, names in self.imports.items() if definition.rust in names)
-        self.imports[path].discard(definition.rust)
-        self.imports[path].add(name)
+        target, file = self.plan.of(definition), self.plan.file(definition)
+        if target.crate != self.target.crate:
+            path = f"{target.crate}::{target.module}"
+        elif target.module != self.target.module:
+            path = f"crate::{target.module}"
+        elif file == self.file:
+            return name
+        else:
+            path = f"crate::{target.module}::{file}"
+        self.imports.setdefault(path, set()).add(name)
         return name
 
     def logic_name(self, definition: Definition) -> str:

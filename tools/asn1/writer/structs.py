@@ -7,9 +7,10 @@ from ..properties import properties_of_definition
 from ..spelling import snake
 from . import docs, markers
 from .fields import AT_ONCE, TAIL, Member, list_type, members_of, place_within
+from .orders import write_order
 from .plan import Plan
 from .source import Source
-from .types import has_order, inner_name, lifetime_of, wrapped
+from .types import inner_name, lifetime_of, wrapped
 from .laws import Laws
 from .values import (
     code_traits,
@@ -24,7 +25,7 @@ from .values import (
 
 def write_struct(plan: Plan, struct: Struct) -> str:
     """The source file of a SEQUENCE."""
-    source = Source(plan, plan.of(struct))
+    source = Source(plan, plan.of(struct), plan.file(struct))
     members = members_of(struct)
     lifetime = lifetime_of(properties_of_definition(struct).borrows)
     types = [member.list_type(source) for member in members]
@@ -40,9 +41,9 @@ def write_struct(plan: Plan, struct: Struct) -> str:
         f"⟦<{whole} as {source.use('FieldList')}>⟧.{source.member('list')}.{source.member('octets')} }};\n}}"
     )
     code_traits(source, struct, lifetime, "fields", turbofish, is_list_of_fields=True)
-    if all(has_order(part.type) for part in struct.fields):
-        value_order(source, struct.rust + lifetime, lifetime, "self.fields.cmp_fields(&other.fields)", "FieldsOrd")
+    value_order(source, struct.rust + lifetime, lifetime, "self.fields.cmp_fields(&other.fields)", "FieldsOrd")
     equality_and_copies(source, struct, lifetime)
+    write_order(source, struct)
     return source.text(first_lines(struct))
 
 
@@ -61,7 +62,7 @@ def equality_and_copies(source: Source, struct: Struct, lifetime: str) -> None:
         f"λ v w. {copies}.list.re_read v.fields.list w.fields.list",
         f"λ v w. {copies}.equal v.fields.list w.fields.list",
     )
-    duplicate_value(source, struct, lifetime, ("fields", f"Fields{lifetime}", "DuplicateFields"), terms, "")
+    duplicate_value(source, struct, lifetime, ("fields", f"Fields{lifetime}", "DuplicateFields"), terms)
 
 
 def first_lines(struct: Struct) -> list[str]:
@@ -99,7 +100,7 @@ def own_calls(source: Source, struct: Struct, members: list[Member], lifetime: s
 
 def page_of(source: Source, struct: Struct) -> str:
     """The name by which clauses call the page of a struct's fields."""
-    return snake(struct.rust)
+    return f"{snake(struct.rust)}_fields"
 
 
 def new_call(source: Source, struct: Struct, members: list[Member], lifetime: str, words: str) -> str:
@@ -159,7 +160,7 @@ def into_parts_call(source: Source, members: list[Member], words: str) -> str:
         f"\n        ensures {member.name} {{ {words}.{member.name} {whole} ≡ result{'' if len(types) == 1 else f'.{i}'} }}"
         for i, member in enumerate(members)
     )
-    lets = "".join(f"        {line}\n" for line in parts_lets(members))
+    lets = "".join(f"        {line}\n" for line in parts_lets(source, members))
     last = members[0].local if len(types) == 1 else f"({', '.join(member.local for member in members)})"
     return (
         f"{docs.doc('The values of the fields, in their order.', indent='    ')}\n"
@@ -167,18 +168,24 @@ def into_parts_call(source: Source, members: list[Member], words: str) -> str:
     )
 
 
-def parts_lets(members: list[Member]) -> list[str]:
-    """Each value by its field's name."""
-    lines = ["let fields = self.fields;"]
+def parts_lets(source: Source, members: list[Member]) -> list[str]:
+    """Each value by its field's name: the list is taken apart from its first on."""
+    lines, place = [], "self.fields"
     for member in members:
-        if member.index and member.index % AT_ONCE == 0:
-            lines.append(f"let tail = {'tail' if member.index > AT_ONCE else 'fields'}{TAIL};")
-        place = f"{'tail' if member.index >= AT_ONCE else 'fields'}{place_within(member.index)}"
+        if member.index % AT_ONCE == 0:
+            whole = source.use(f"Fields{min(AT_ONCE, len(members) - member.index)}")
+            lines.append(f"let {whole} {{ list }} = {place};")
+            place = "list"
+        rest = ".." if member is members[-1] else "rest"
+        first = "first" if member.local == "first" else f"first: {member.local}"
+        lines.append(f"let {source.use('Field')} {{ {first}, {rest} }} = {place};")
+        place = "rest"
+    for member in members:
         if member.is_optional and member.way:
-            value = f"match {place} {{ Some(tagged) => Some(tagged{member.way}), None => None, }}"
-        else:
-            value = place + ("" if member.is_optional else member.way)
-        lines.append(f"let {member.local} = {value};")
+            value = f"match {member.local} {{ Some(tagged) => Some(tagged{member.way}), None => None, }}"
+            lines.append(f"let {member.local} = {value};")
+        elif member.way:
+            lines.append(f"let {member.local} = {member.local}{member.way};")
     return lines
 
 

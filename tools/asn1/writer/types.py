@@ -2,37 +2,13 @@
 
 from __future__ import annotations
 
-from ..model import Alias, Field, Kept, Leaf, Listed, Presence, Resolved, Tag, Tagged, Use, Whole
+from ..model import Alias, Enumeration, Field, Kept, Leaf, Listed, NameOf, Presence, Resolved, Tag, Tagged, Use, Whole
 from ..properties import properties_of, properties_of_definition
 from ..syntax import TagClass
+from .leaves import CHARACTERS, WHOLES, lifetime_of, rust_leaf
+from .orders import order_of
 from .source import Page, Source
 
-# The library's type of each type of ASN.1: borrowed, and owned.
-WHOLES: dict[Whole, tuple[str, str]] = {
-    Whole.NULL: ("Null", "Null"),
-    Whole.INTEGER: ("IntRef", "Int"),
-    Whole.NATURAL: ("UintRef", "Uint"),
-    Whole.BIT_STRING: ("BitStringRef", "BitString"),
-    Whole.OCTET_STRING: ("OctetStringRef", "OctetString"),
-    Whole.UTC_TIME: ("UtcTime", "UtcTime"),
-    Whole.GENERALIZED_TIME: ("GeneralizedTime", "GeneralizedTime"),
-    Whole.UTF8_STRING: ("Utf8StringRef", "String"),
-    Whole.PRINTABLE_STRING: ("PrintableStringRef", "PrintableString"),
-    Whole.TELETEX_STRING: ("TeletexStringRef", "TeletexString"),
-    Whole.VIDEOTEX_STRING: ("VideotexStringRef", "VideotexString"),
-    Whole.IA5_STRING: ("Ia5StringRef", "Ia5String"),
-    Whole.GENERAL_STRING: ("GeneralStringRef", "GeneralStringRef"),
-    Whole.BMP_STRING: ("BmpString", "BmpString"),
-    Whole.ANY: ("AnyRef", "Any"),
-    Whole.UNREAD_SEQUENCE: ("SequenceRef", "SequenceRef"),
-}
-# Strings that are one type of the library, by the universal number.
-CHARACTERS = {
-    Whole.PRINTABLE_STRING: 19,
-    Whole.TELETEX_STRING: 20,
-    Whole.VIDEOTEX_STRING: 21,
-    Whole.IA5_STRING: 22,
-}
 CLASSES = {TagClass.CONTEXT.value: "", TagClass.APPLICATION.value: "Application", TagClass.PRIVATE.value: "Private"}
 
 
@@ -48,31 +24,28 @@ def rust_type(source: Source, type_: Resolved) -> str:
     """A type, with its lifetime if it has one."""
     if isinstance(type_, Leaf):
         return rust_leaf(source, type_)
+    if isinstance(type_, NameOf):
+        return source.use_type(type_.definition)
     if isinstance(type_, Use):
         name = source.use_type(type_.definition)
+        if isinstance(type_.definition, Enumeration):
+            return f"{source.use('Enumerated')}<{name}>"
         return name + lifetime_of(properties_of_definition(type_.definition).borrows)
     if isinstance(type_, Listed):
         item = rust_type(source, type_.item)
-        return f"{source.use('SetOfVec')}<{item}>" if type_.is_set else f"Vec<{item}>"
+        found = f"{source.use('ItemSet')}<{item}, {order_of(source, type_.item)}>" if type_.is_set else f"Vec<{item}>"
+        return f"{source.use('NonEmpty')}<{found}>" if type_.is_never_empty else found
     if isinstance(type_, Tagged):
         return f"{source.use(tagging(type_.tag, type_.is_explicit))}<{rust_type(source, type_.of)}, {type_.tag.number}>"
-    raise NotImplementedError("a kept type")
+    return f"{source.use('Kept')}<'a, {rust_type(source, type_.of)}>"
 
 
-def rust_leaf(source: Source, leaf: Leaf) -> str:
-    if leaf.whole is Whole.BOOLEAN:
-        return "bool"
-    if leaf.whole is Whole.MACHINE_INTEGER:
-        return leaf.width or "u8"
-    if leaf.whole is Whole.OBJECT_IDENTIFIER:
-        return f"{source.use('ObjectIdentifier')}<{leaf.octets}>"
-    key = WHOLES[leaf.whole][1 if leaf.is_owned else 0]
-    name = key if key == "String" else source.use(key)
-    return name + lifetime_of(properties_of(leaf).borrows)
-
-
-def lifetime_of(borrows: bool) -> str:
-    return "<'a>" if borrows else ""
+def enumeration_of(type_: Resolved) -> Enumeration | None:
+    """The ENUMERATED that a type is, after second names."""
+    while isinstance(type_, Use) and isinstance(type_.definition, Alias):
+        assert type_.definition.type is not None
+        type_ = type_.definition.type
+    return type_.definition if isinstance(type_, Use) and isinstance(type_.definition, Enumeration) else None
 
 
 def field_type(source: Source, part: Field) -> str:
@@ -81,19 +54,24 @@ def field_type(source: Source, part: Field) -> str:
     if part.presence is Presence.OPTIONAL:
         return f"Option<{inner}>"
     if part.presence is Presence.DEFAULT:
-        default = source.use("DefaultFalse") if part.default is False else f"{source.use('DefaultNumber')}<{part.default}>"
-        return f"{source.use('WithDefault')}<{inner}, {default}>"
+        return f"{source.use('WithDefault')}<{inner}, {default_type(source, part)}>"
     return inner
+
+
+def default_type(source: Source, part: Field) -> str:
+    """The type that stands for a default."""
+    return source.use("DefaultFalse") if part.default is False else f"{source.use('DefaultNumber')}<{part.default}>"
 
 
 # ---- what a user sees: with no tags, and with no DEFAULT
 
 
 def plain(type_: Resolved) -> Resolved:
-    """A type after its tags."""
+    """A type after its tags; of an ENUMERATED its names."""
     while isinstance(type_, Tagged):
         type_ = type_.of
-    return type_
+    found = enumeration_of(type_)
+    return type_ if found is None else NameOf(found)
 
 
 def way(type_: Resolved) -> str:
@@ -102,7 +80,7 @@ def way(type_: Resolved) -> str:
     while isinstance(type_, Tagged):
         path += ".fields.first" if type_.is_explicit else ".value"
         type_ = type_.of
-    return path
+    return path if enumeration_of(type_) is None else path + ".value"
 
 
 def inner_name(type_: Resolved) -> str:
@@ -113,7 +91,9 @@ def inner_name(type_: Resolved) -> str:
 def wrapped(source: Source, type_: Resolved, value: str) -> str:
     """A value after the tags of a type."""
     if not isinstance(type_, Tagged):
-        return value
+        if enumeration_of(type_) is None:
+            return value
+        return f"{source.use('Enumerated')} {{ {'value' if value == 'value' else f'value: {value}'} }}"
     inner, name = wrapped(source, type_.of, value), inner_name(type_)
     member = name if inner == name else f"{name}: {inner}"
     if type_.is_explicit:
@@ -124,30 +104,6 @@ def wrapped(source: Source, type_: Resolved, value: str) -> str:
 
 def is_copy(type_: Resolved) -> bool:
     return properties_of(type_).is_copy
-
-
-def has_order(type_: Resolved) -> bool:
-    """Whether the values of a type have an order in the library: a SEQUENCE that is not read has none."""
-    from ..model import Choice, List, Struct
-
-    if isinstance(type_, Leaf):
-        return type_.whole is not Whole.UNREAD_SEQUENCE
-    if isinstance(type_, Listed):
-        return has_order(type_.item)
-    if isinstance(type_, (Tagged, Kept)):
-        return has_order(type_.of)
-    definition = type_.definition
-    if isinstance(definition, Alias):
-        assert definition.type is not None
-        return has_order(definition.type)
-    if isinstance(definition, List):
-        assert definition.item is not None
-        return has_order(definition.item)
-    if isinstance(definition, Struct):
-        return all(has_order(part.type) for part in definition.fields)
-    if isinstance(definition, Choice):
-        return all(has_order(part.type) for part in definition.alternatives)
-    return True
 
 
 # ---- in the logic
@@ -161,12 +117,17 @@ def logic_type(page: Page, type_: Resolved) -> str:
         if isinstance(type_.definition, Alias):
             assert type_.definition.type is not None
             return logic_type(page, type_.definition.type)
+        found = page.logic_type(type_.definition)
+        is_named = isinstance(type_.definition, Enumeration)
+        return f"{page.logic('Enumerated')} {found}" if is_named else found
+    if isinstance(type_, NameOf):
         return page.logic_type(type_.definition)
     if isinstance(type_, Listed):
-        return f"{page.logic('Vec')} {closed(logic_type(page, type_.item))}"
+        item = closed(logic_type(page, type_.item))
+        return f"{page.logic('List')} {item}" if type_.is_set else f"{page.logic('Vec')} {item} {page.logic('Global')}"
     if isinstance(type_, Tagged):
         return logic_tagged(page, type_.tag, type_.is_explicit, closed(logic_type(page, type_.of)))
-    raise NotImplementedError("a kept type")
+    return f"{page.logic('Kept')} {closed(logic_type(page, type_.of))}"
 
 
 def logic_tagged(page: Page, tag: Tag, is_explicit: bool, inner: str) -> str:

@@ -2,7 +2,7 @@
 
 from __future__ import annotations
 
-from ..model import Definition, Struct
+from ..model import Definition
 from ..properties import properties_of_definition
 from .names import RUST
 from .source import Source
@@ -55,20 +55,14 @@ def decode_value(
     call = "decode_fields(alloc, reader)" if is_list_of_fields else "decode_value(alloc, reader, header)"
     header = "_header" if is_list_of_fields else "header"
     whole = f"{definition.rust}{lifetime}"
-    more = ", item: PhantomData" if isinstance_set(definition) else ""
     source.add(
         f"impl<'a, R: {source.use('Source')}<'a>> {source.use('DecodeValue')}<'a, R> for {whole} {{\n"
         f"    ghost {need} = {{ {takes} }};\n\n    const {need}: bool = {takes};\n\n"
         f"    fn decode_value(alloc: {source.use('Global')}, reader: &mut R, {header}: {source.use('Header')}) "
         f"-> Result<{whole}, {source.use('Error')}> {{\n"
-        f"        match {held}::{call} {{\n            Ok({member}) => Ok({definition.rust} {{ {member}{more} }}),\n"
+        f"        match {held}::{call} {{\n            Ok({member}) => Ok({definition.rust} {{ {member} }}),\n"
         f"            Err(e) => Err(e),\n        }}\n    }}\n\n    ghost {law} = {{ refl }};\n}}"
     )
-
-
-def isinstance_set(definition: Definition) -> bool:
-    """Whether a list is a SET OF, which names the tag of its items."""
-    return not isinstance(definition, Struct) and getattr(definition, "is_set", False)
 
 
 def value_order(source: Source, whole: str, lifetime: str, body: str, trait: str) -> None:
@@ -100,7 +94,6 @@ def duplicate_value(
     lifetime: str,
     held: tuple[str, str, str],
     laws: tuple[str, str, str, str],
-    more: str,
 ) -> None:
     """Copies of a value, by those of its member: the member, its type, and the trait that copies it."""
     member, type_, trait = held
@@ -118,7 +111,7 @@ def duplicate_value(
         f"    ghost {source.member('is_copy_value')} = {{ λ v w. {quote}.{copied} v.{member} w.{member} }};\n\n"
         f"    ghost {source.member('takes_memory_to_copy_value')} = {{ {quote}.{takes} }};\n\n"
         f"    fn duplicate_value(&self) -> Result<{whole}, {source.use('Error')}> {{\n"
-        f"        match self.{member}.{call}() {{\n            Ok({member}) => Ok({definition.rust} {{ {member}{more} }}),\n"
+        f"        match self.{member}.{call}() {{\n            Ok({member}) => Ok({definition.rust} {{ {member} }}),\n"
         f"            Err(e) => Err(e),\n        }}\n    }}\n\n{terms}\n}}"
     )
     source.add(

@@ -1,0 +1,2 @@
+pub mod Asn1
+pub mod MemberLaws

@@ -1,0 +1,13 @@
+//! What the types of a module of ASN.1 stand on that `tools/asn1` writes: the words of ASN.1, in
+//! which its grammar is written (`specs/Asn1.antt`), and the laws of a type of one's own, from those
+//! of what it holds (`specs/MemberLaws.antt`).
+#![tactic(auto)]
+
+ghost use Rattle.std.specs.Prelude.{◌≡◌};
+
+/// A copy of a value that is copied, and takes no memory.
+pub fn copy_of<T: Copy>(value: &T) -> T
+    ensures { result ≡ value.now }
+{
+    *value
+}

@@ -1,0 +1,51 @@
+"""The library's types of the types of ASN.1 that have no parts."""
+
+from __future__ import annotations
+
+from ..model import Leaf, Whole
+from ..properties import properties_of
+from .source import Source
+
+# The library's type of each type of ASN.1: borrowed, and owned.
+WHOLES: dict[Whole, tuple[str, str]] = {
+    Whole.NULL: ("Null", "Null"),
+    Whole.INTEGER: ("IntRef", "Int"),
+    Whole.NATURAL: ("UintRef", "Uint"),
+    Whole.BIT_STRING: ("BitStringRef", "BitString"),
+    Whole.NAMED_BITS: ("NamedBitsRef", "NamedBitsRef"),
+    Whole.OCTET_STRING: ("OctetStringRef", "OctetString"),
+    Whole.UTC_TIME: ("UtcTime", "UtcTime"),
+    Whole.GENERALIZED_TIME: ("GeneralizedTime", "GeneralizedTime"),
+    Whole.UTF8_STRING: ("Utf8StringRef", "String"),
+    Whole.PRINTABLE_STRING: ("PrintableStringRef", "PrintableString"),
+    Whole.TELETEX_STRING: ("TeletexStringRef", "TeletexString"),
+    Whole.VIDEOTEX_STRING: ("VideotexStringRef", "VideotexString"),
+    Whole.IA5_STRING: ("Ia5StringRef", "Ia5String"),
+    Whole.GENERAL_STRING: ("GeneralStringRef", "GeneralStringRef"),
+    Whole.BMP_STRING: ("BmpString", "BmpString"),
+    Whole.ANY: ("AnyRef", "Any"),
+    Whole.UNREAD_SEQUENCE: ("SequenceRef", "SequenceRef"),
+}
+# Strings that are one type of the library, by the universal number.
+CHARACTERS = {
+    Whole.PRINTABLE_STRING: 19,
+    Whole.TELETEX_STRING: 20,
+    Whole.VIDEOTEX_STRING: 21,
+    Whole.IA5_STRING: 22,
+}
+
+
+def rust_leaf(source: Source, leaf: Leaf) -> str:
+    if leaf.whole is Whole.BOOLEAN:
+        return "bool"
+    if leaf.whole is Whole.MACHINE_INTEGER:
+        return leaf.width or "u8"
+    if leaf.whole is Whole.OBJECT_IDENTIFIER:
+        return f"{source.use('ObjectIdentifier')}<{leaf.octets}>"
+    key = WHOLES[leaf.whole][1 if leaf.is_owned else 0]
+    name = key if key == "String" else source.use(key)
+    return name + lifetime_of(properties_of(leaf).borrows)
+
+
+def lifetime_of(borrows: bool) -> str:
+    return "<'a>" if borrows else ""
