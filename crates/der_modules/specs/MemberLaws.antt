@@ -41,6 +41,18 @@ pub record Copies {T : Type 0} (is_copy : T → T → Type 0) (eq : T → T → 
   pub re_reads_are : (v w : T) → is_copy v w → re_reads w ≡ re_reads v
   pub equal_are : (v w : T) → is_copy v w → IsTrue (eq v w)
 
+-- the same as one member of a trait, which says what it speaks of
+pub record CopiesOf (T : Type 0) : Type 1 where
+  pub is_copy : T → T → Type 0
+  pub eq : T → T → Bool
+  pub octets : T → List ℕ
+  pub comparable : T → T → Type 0
+  pub re_reads : T → Bool
+  pub laws : Copies is_copy eq octets comparable re_reads
+
+abbrev pub copies_of : {T : Type 0} {is_copy : T → T → Type 0} {eq : T → T → Bool} {octets : T → List ℕ} {comparable : T → T → Type 0} {re_reads : T → Bool} → Copies is_copy eq octets comparable re_reads → CopiesOf T
+copies_of {T} {is_copy} {eq} {octets} {comparable} {re_reads} laws = record { is_copy = is_copy; eq = eq; octets = octets; comparable = comparable; re_reads = re_reads; laws = laws }
+
 -- each encoding is a tag and contents octets
 pub record HasTag {T : Type 0} (tags : Tag → Bool) (first_tag_of : T → Option Tag) (encoding : T → List ℕ) (tag_of : T → Tag) (contents : T → List ℕ) : Type 0 where
   pub encoding_is : (v : T) → encoding v ≡ tlv (tag_of v) (contents v)

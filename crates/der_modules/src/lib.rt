@@ -4,6 +4,13 @@
 #![tactic(auto)]
 
 ghost use Rattle.std.specs.Prelude.{◌≡◌};
+ghost use Rattle.der_modules.specs.MemberLaws.{CopiesOf};
+
+/// The laws of a type's copies as one member, which its impls of `DuplicateValue` or of `Duplicate`
+/// cite.
+pub trait CopyLaws: Sized {
+    ghost copies: { CopiesOf Self };
+}
 
 /// A copy of a value that is copied, and takes no memory.
 pub fn copy_of<T: Copy>(value: &T) -> T

@@ -6,6 +6,7 @@ from ..model import Alias, Constant, Named
 from ..properties import properties_of_definition
 from ..spelling import screaming
 from . import docs
+from .module_laws import add_laws
 from .orders import write_order
 from .plan import Plan, Target
 from .source import Source
@@ -21,6 +22,7 @@ def write_aliases(plan: Plan, target: Target, aliases: list[Alias], name: str) -
         type_ = rust_type(source, alias.type)
         source.add(f"{docs.of_definition(alias)}\npub type {alias.rust}{lifetime} = {type_};")
         write_order(source, alias)
+        add_laws(source, alias)
         for one in alias.numbers:
             source.add(number(alias, one, rust_type(source, alias.type)))
         for one in alias.bits:

@@ -5,8 +5,9 @@ from __future__ import annotations
 from ..model import Resolved
 from ..properties import properties_of_definition
 from .alternatives import Alternatives, by_variants, first_tags, ghosts, halves, quote, tree
-from .laws import Laws
+from .laws import BREAK, Laws
 from .source import Source
+from .values import COPIES, copy_laws, law_of_copies
 
 
 class TreeLaws:
@@ -33,7 +34,8 @@ class TreeLaws:
             return self.laws.has_tags(self.types()[indices[0]])
         first, other = self.sides(indices)
         forms = " ".join(self.laws.quote(self.node(part), "Form") for part in (first, other))
-        return f"({self.source.word('either_tag')} {forms} {self.has_tags(first)} {self.has_tags(other)})"
+        parts = [forms, self.has_tags(first), self.has_tags(other)]
+        return f"({self.source.word('either_tag')} {BREAK.join(parts)})"
 
     def equality(self, indices: list[int]) -> str:
         """That two values of a node are equal exactly where their encodings are."""
@@ -44,8 +46,9 @@ class TreeLaws:
         forms = [self.laws.quote(self.node(part), "Form") for part in (first, other)]
         same = "(λ v x. refl) (λ w y. refl) (λ v w. refl) (λ w v. refl)"
         return (
-            f"({self.source.word('either_equality')} {forms[0]} {forms[1]} {self.has_tags(first)} {self.has_tags(other)} "
-            f"{eqs[0]} {eqs[1]} {self.equality(first)} {self.equality(other)} {eqs[2]} {same})"
+            f"({self.source.word('either_equality')} {forms[0]} {forms[1]}{BREAK}{self.has_tags(first)}{BREAK}"
+            f"{self.has_tags(other)}{BREAK}{eqs[0]} {eqs[1]}{BREAK}{self.equality(first)}{BREAK}{self.equality(other)}"
+            f"{BREAK}{eqs[2]} {same})"
         )
 
     def copies(self, indices: list[int]) -> str:
@@ -56,8 +59,8 @@ class TreeLaws:
         forms = " ".join(self.laws.quote(self.node(part), "Form") for part in (first, other))
         eq = self.laws.quote(self.node(indices), "PartialEq") + ".eq"
         return (
-            f"({self.source.word('either_copies')} {forms} {self.has_tags(first)} {self.has_tags(other)} "
-            f"{self.copies(first)} {self.copies(other)} {eq} (λ v x. refl) (λ w y. refl))"
+            f"({self.source.word('either_copies')} {forms}{BREAK}{self.has_tags(first)}{BREAK}{self.has_tags(other)}"
+            f"{BREAK}{self.copies(first)}{BREAK}{self.copies(other)}{BREAK}{eq} (λ v x. refl) (λ w y. refl))"
         )
 
     def known(self, indices: list[int]) -> str:
@@ -131,9 +134,9 @@ def copies(source: Source, all_of: Alternatives) -> str:
 def duplicate(source: Source, all_of: Alternatives) -> str:
     """Copies of a value."""
     m, view = source.member, all_of.view
-    term = copies(source, all_of)
+    copy_laws(source, all_of.whole, all_of.lifetime, copies(source, all_of))
     names = (m("copy_encoding"), m("copy_comparable"), m("copy_re_reads"))
-    terms = [f"{term}.{key}" for key in ("octets_are", "comparable_are", "re_reads_are")]
+    terms = [law_of_copies(source, all_of.whole, key) for key in COPIES]
     if properties_of_definition(all_of.choice).is_copy:
         is_copy, takes = f"λ v w. w {source.word('≡')} v", source.word("false")
         body = f"        Ok({source.use('copy_of')}(self))"
@@ -153,7 +156,7 @@ def duplicate_is_equal(source: Source, all_of: Alternatives) -> str:
     """That a copy is equal."""
     return (
         f"impl{all_of.lifetime} {source.use('DuplicateIsEqual')} for {all_of.whole} {{\n"
-        f"    ghost {source.member('copy_is_equal')} = {{ {copies(source, all_of)}.equal_are }};\n}}"
+        f"    ghost {source.member('copy_is_equal')} = {{ {law_of_copies(source, all_of.whole, 'equal_are')} }};\n}}"
     )
 
 

@@ -7,6 +7,7 @@ from ..properties import properties_of_definition
 from ..spelling import snake
 from . import choice_laws, docs
 from .alternatives import Alternatives, at, by_variants, depth, first_tags, ghosts, halves, law, quote, tree
+from .module_laws import add_laws
 from .orders import write_order
 from .plan import Plan
 from .source import Page, Source
@@ -35,6 +36,7 @@ def write_choice(plan: Plan, choice: Choice) -> str:
     source.add(choice_laws.duplicate(source, all_of))
     source.add(choice_laws.duplicate_is_equal(source, all_of))
     write_order(source, choice)
+    add_laws(source, choice)
     return source.text([f"//! {choice.name}, a CHOICE of {len(types)} alternatives."])
 
 

@@ -5,6 +5,7 @@ from __future__ import annotations
 from ..model import Enumeration, Named
 from ..spelling import camel, snake
 from . import docs, markers
+from .module_laws import add_laws
 from .orders import write_order
 from .plan import Plan
 from .source import Page, Source
@@ -16,6 +17,7 @@ def write_enumeration(plan: Plan, definition: Enumeration) -> str:
     source.add(declaration(definition))
     source.add(enumeration(source, definition))
     write_order(source, definition)
+    add_laws(source, definition)
     return source.text([f"//! {definition.name}, an ENUMERATED of {len(definition.values)} names."])
 
 
@@ -60,7 +62,7 @@ def write_enumeration_page(plan: Plan, definition: Enumeration) -> str:
     for key in ("≡", "refl", "[]", "∷", "Some"):
         page.word(key)
     numbers = "\n".join(
-        f"number_of_{name} {one} = {integer(page, value.number)}" for one, value in zip(variants, definition.values)
+        f"number_of_{name} {one} = {page.integer(value.number)}" for one, value in zip(variants, definition.values)
     )
     page.add(f"abbrev pub number_of_{name} : {rust} → {page.word('ℤ')}\n{numbers}")
     listed = " ∷ ".join([*variants, "[]"])
@@ -73,8 +75,3 @@ def write_enumeration_page(plan: Plan, definition: Enumeration) -> str:
         f"  number_of = number_of_{name};\n  values = all_of_{name};\n  is_found = {name}_is_found;\n  fit = refl;\n}}"
     )
     return page.text()
-
-
-def integer(page: Page, number: int) -> str:
-    """A number as the logic has it: the negative ones are counted from -1 on."""
-    return f"{page.word('pos')} {number}" if number >= 0 else f"{page.word('negsuc')} {-number - 1}"

@@ -45,7 +45,6 @@ from ..syntax import (
 from ..tagging import are_tagged
 from ..values import number_of
 from .alternatives import halves
-from .enumerations import integer
 from .names import ASN1, PARSES
 from .plan import Plan
 from .source import Page
@@ -135,7 +134,7 @@ class GrammarPage:
         self.page.word("tags")
         for key in ("[]", "∷"):
             self.page.word(key)
-        numbers = " ∷ ".join([*(integer(self.page, one.number) for one in definition.values), "[]"])
+        numbers = " ∷ ".join([*(self.page.integer(one.number) for one in definition.values), "[]"])
         return f"{self.asn1('NAMED')} ({numbers}) tags.Enumerated"
 
     def alias(self, env: Env, type_: Type, definition: Alias) -> str:

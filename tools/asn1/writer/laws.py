@@ -16,6 +16,9 @@ from .source import Source
 from .types import CHARACTERS, WHOLES, default_type, field_type, rust_type
 
 
+BREAK = "\n        "  # a long term goes on in the next line
+
+
 class Laws:
     """The laws that a file cites."""
 
@@ -168,7 +171,7 @@ class Laws:
 
     def member_equality(self, type_: str, starts: str, member: str, rest: str) -> str:
         form, eq = self.quote(type_, "Form"), f"{self.quote(type_, 'PartialEq')}.eq"
-        return f"({self.word('member_equality')} {form} {starts} {eq} {member} {rest})"
+        return f"({self.word('member_equality')} {form}{BREAK}{starts}{BREAK}{eq}{BREAK}{member}{BREAK}{rest})"
 
     def list_equality(self, fields: tuple[Field, ...]) -> str:
         """The equality of a list of fields."""
@@ -185,9 +188,8 @@ class Laws:
         """That a copy has the same encoding, and all else that a copy has."""
         type_ = named(type_)
         if isinstance(type_, Leaf) and type_.whole is Whole.ANY:
-            if type_.is_owned:
-                return self.copies_of(self.of_library("Any", "Duplicate"), self.of_library("Any", "DuplicateIsEqual"), True)
-            return self.same(type_, f"(λ v. ({self.encoding_eq(type_)} v v tt).1 {self.word('refl')})", True)
+            traits = [self.of_library(leaf_key(type_), trait) for trait in ("Duplicate", "DuplicateIsEqual")]
+            return self.copies_of(traits[0], traits[1], True)
         if isinstance(type_, Use) and isinstance(type_.definition, Choice):
             if properties_of_definition(type_.definition).is_copy:
                 return self.same(type_, self.equal_to_itself(type_.definition), True)
@@ -246,7 +248,7 @@ class Laws:
         return f"({self.word('tagged_starts')} {self.form(type_)} {self.has_tags(type_)})"
 
     def member_copies(self, type_: str, starts: str, copies: str, rest: str) -> str:
-        return f"({self.word('member_copies')} {self.quote(type_, 'Form')} {starts} {copies} {rest})"
+        return f"({self.word('member_copies')} {self.quote(type_, 'Form')}{BREAK}{starts}{BREAK}{copies}{BREAK}{rest})"
 
     def member_of_copies(self, part: Field, rest: str) -> str:
         """The copies of a field, by its presence, and those of the others."""

@@ -6,12 +6,13 @@ from ..model import List, Listed
 from ..properties import properties_of_definition
 from ..spelling import snake
 from . import docs, markers
+from .module_laws import add_laws
 from .orders import write_order
 from .plan import Plan
 from .source import Source
 from .types import lifetime_of, rust_type
-from .laws import Laws
-from .values import code_traits, contents_equality, derives, duplicate_value, one_tag, value_order
+from .laws import BREAK, Laws
+from .values import code_traits, contents_equality, copy_laws, derives, duplicate_value, one_tag, value_order
 
 
 def write_list(plan: Plan, definition: List) -> str:
@@ -35,15 +36,10 @@ def write_list(plan: Plan, definition: List) -> str:
     listed = Listed(definition.item, definition.is_set, definition.is_never_empty)
     items = ".items" if definition.is_set else ".items.items"
     contents_equality(source, whole, lifetime, f"{laws.items_eq(listed)} v{items} w{items}")
-    copies = laws.items_copies(listed)
-    terms = (
-        f"λ v w. {copies}.octets_are v{items} w{items}",
-        f"λ v w x. {copies}.comparable_are v{items} w{items} x{items}",
-        f"λ v w. {copies}.re_reads_are v{items} w{items}",
-        f"λ v w. {copies}.equal_are v{items} w{items}",
-    )
-    duplicate_value(source, definition, lifetime, ("items", held, "DuplicateValue"), terms)
+    copy_laws(source, whole, lifetime, f"{source.word('held_copies')} (λ v. v{items}){BREAK}{laws.items_copies(listed)}")
+    duplicate_value(source, definition, lifetime, ("items", held, "DuplicateValue"))
     write_order(source, definition)
+    add_laws(source, definition)
     kind = "SET OF" if definition.is_set else "SEQUENCE OF"
     return source.text([f"//! {definition.name}, a {kind}."])
 

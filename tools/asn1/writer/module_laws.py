@@ -18,15 +18,30 @@ CLASS_WORDS = {one.value: word for one, word in CLASSES.items()}
 
 
 def write_laws(plan: Plan, module: ResolvedModule) -> str:
-    """The source file of a module's laws."""
-    source = Source(plan, plan.targets[module.name])
+    """The source file of a module's laws, each of which stands with its type."""
+    target, by_file = plan.targets[module.name], dict[str, list[str]]()
+    for definition in module.definitions:
+        by_file.setdefault(plan.file(definition), []).extend(names_of_laws(definition))
+    lines = [f"//! The laws of {module.name}: functions that do nothing, and promise what holds of its types.", ""]
+    for file, names in sorted(by_file.items()):
+        listed = names[0] if len(names) == 1 else "{" + ", ".join(sorted(names)) + "}"
+        lines.append(f"pub use crate::{target.module}::{file}::{listed};")
+    return "\n".join(lines) + "\n"
+
+
+def names_of_laws(definition: Definition) -> list[str]:
+    """The names of a type's laws."""
+    octets = [f"octets_of_{snake(definition.rust)}"] if isinstance(definition, Struct) else []
+    return [f"grammar_of_{word_of(definition)}", *octets]
+
+
+def add_laws(source: Source, definition: Definition) -> None:
+    """The laws of a type, in its file."""
     source.word("≡")
     source.page_word(ASN1, "parse_of")
-    for definition in module.definitions:
-        source.add(grammar_law(source, definition))
-        if isinstance(definition, Struct):
-            source.add(octets_law(source, definition))
-    return source.text([f"//! The laws of {module.name}: functions that do nothing, and promise what holds of its types."])
+    source.add(grammar_law(source, definition))
+    if isinstance(definition, Struct):
+        source.add(octets_law(source, definition))
 
 
 def whole(source: Source, definition: Definition) -> tuple[str, str]:

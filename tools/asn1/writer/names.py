@@ -70,6 +70,7 @@ RUST: dict[str, tuple[str, str]] = {
     "OneOf": ("der_fields", "OneOf"),
     "WithDefault": ("der_fields", "WithDefault"),
     "cmp_headers": ("der_fields", "cmp_headers"),
+    "CopyLaws": ("der_modules", "CopyLaws"),
     "copy_of": ("der_modules", "copy_of"),
     **{f"Fields{n}": ("der_fields", f"Fields{n}") for n in range(1, 9)},
     # values
@@ -145,7 +146,7 @@ WORDS: dict[str, tuple[str, str]] = {
     **{
         name: ("der_modules.specs.MemberLaws", name)
         for name in (
-            "default_copies default_equality default_starts either_copies either_equality either_tag held_copies "
+            "copies_of default_copies default_equality default_starts either_copies either_equality either_tag held_copies "
             "items_copies items_equality listed_copies member_copies member_equality no_copies no_equality one_tag "
             "one_tag_copies one_tag_equality own_tags optional_copies optional_equality optional_starts part_copies "
             "part_equality same_copies seen_copies seen_equality tagged_starts"
@@ -227,6 +228,7 @@ MEMBERS: dict[str, str] = {
     "are_copies": "are_copies",
     "copy_all_comparable": "copy_all_comparable",
     "copy_contents": "copy_contents",
+    "copies": "copies",
     "copy_encoding": "copy_encoding",
     "copy_comparable": "copy_comparable",
     "copy_comparable_value": "copy_comparable_value",

@@ -137,6 +137,10 @@ class Page:
         self.words.setdefault(module, set()).add(definition.rust)
         return definition.rust
 
+    def integer(self, number: int) -> str:
+        """A number as the logic has it: the negative ones are counted from -1 on."""
+        return f"{self.word('pos')} {number}" if number >= 0 else f"{self.word('negsuc')} {-number - 1}"
+
     def add(self, text: str) -> None:
         self.parts.append(text)
 

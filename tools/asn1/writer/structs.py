@@ -7,15 +7,17 @@ from ..properties import properties_of_definition
 from ..spelling import snake
 from . import docs, markers
 from .fields import AT_ONCE, TAIL, Member, list_type, members_of, place_within
+from .module_laws import add_laws
 from .orders import write_order
 from .plan import Plan
 from .source import Source
 from .types import inner_name, lifetime_of, wrapped
-from .laws import Laws
+from .laws import BREAK, Laws
 from .values import (
     code_traits,
     contents_equality,
     copy_is_duplicate,
+    copy_laws,
     derives,
     duplicate_value,
     one_tag,
@@ -44,6 +46,7 @@ def write_struct(plan: Plan, struct: Struct) -> str:
     value_order(source, struct.rust + lifetime, lifetime, "self.fields.cmp_fields(&other.fields)", "FieldsOrd")
     equality_and_copies(source, struct, lifetime)
     write_order(source, struct)
+    add_laws(source, struct)
     return source.text(first_lines(struct))
 
 
@@ -55,14 +58,9 @@ def equality_and_copies(source: Source, struct: Struct, lifetime: str) -> None:
     if properties_of_definition(struct).is_copy:
         copy_is_duplicate(source, whole, lifetime)
         return
-    copies = laws.list_copies(fields)
-    terms = (
-        f"λ v w. {copies}.list.joined v.fields.list w.fields.list",
-        f"λ v w x. {copies}.list.comparable v.fields.list w.fields.list x.fields.list",
-        f"λ v w. {copies}.list.re_read v.fields.list w.fields.list",
-        f"λ v w. {copies}.equal v.fields.list w.fields.list",
-    )
-    duplicate_value(source, struct, lifetime, ("fields", f"Fields{lifetime}", "DuplicateFields"), terms)
+    listed = f"({source.word('listed_copies')} {laws.list_copies(fields)})"
+    copy_laws(source, whole, lifetime, f"{source.word('held_copies')} (λ v. v.fields.list){BREAK}{listed}")
+    duplicate_value(source, struct, lifetime, ("fields", f"Fields{lifetime}", "DuplicateFields"))
 
 
 def first_lines(struct: Struct) -> list[str]:

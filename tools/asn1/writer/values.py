@@ -88,12 +88,27 @@ def copy_is_duplicate(source: Source, whole: str, lifetime: str) -> None:
     source.add(f"impl{lifetime} {source.use('CopyIsDuplicate')} for {whole} {{}}")
 
 
+COPIES = ("octets_are", "comparable_are", "re_reads_are", "equal_are")
+
+
+def copy_laws(source: Source, whole: str, lifetime: str, term: str) -> None:
+    """The laws of a type's copies, as one member."""
+    source.add(
+        f"impl{lifetime} {source.use('CopyLaws')} for {whole} {{\n"
+        f"    ghost {source.member('copies')} = {{ {source.word('copies_of')} ({term}) }};\n}}"
+    )
+
+
+def law_of_copies(source: Source, whole: str, key: str) -> str:
+    """One of them."""
+    return f"⟦<{whole} as CopyLaws>⟧.{source.member('copies')}.laws.{key}"
+
+
 def duplicate_value(
     source: Source,
     definition: Definition,
     lifetime: str,
     held: tuple[str, str, str],
-    laws: tuple[str, str, str, str],
 ) -> None:
     """Copies of a value, by those of its member: the member, its type, and the trait that copies it."""
     member, type_, trait = held
@@ -105,6 +120,7 @@ def duplicate_value(
     call = "duplicate_fields" if is_list else "duplicate_value"
     whole = definition.rust + lifetime
     names = ("copy_contents", "copy_comparable_value", "copy_re_reads_value")
+    laws = [law_of_copies(source, whole, key) for key in COPIES]
     terms = "\n\n".join(f"    ghost {source.member(name)} = {{ {term} }};" for name, term in zip(names, laws))
     source.add(
         f"impl{lifetime} {source.use('DuplicateValue')} for {whole} {{\n"
@@ -116,5 +132,5 @@ def duplicate_value(
     )
     source.add(
         f"impl{lifetime} {source.use('DuplicateValueIsEqual')} for {whole} {{\n"
-        f"    ghost {source.member('copy_value_is_equal')} = {{ {laws[3]} }};\n}}"
+        f"    ghost {source.member('copy_value_is_equal')} = {{ {law_of_copies(source, whole, 'equal_are')} }};\n}}"
     )

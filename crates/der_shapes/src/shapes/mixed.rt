@@ -1,0 +1,156 @@
+//! Mixed, a SET of 3 fields.
+//!
+//! Made by tools/asn1 from shapes.asn1.
+
+ghost use Rattle.std.specs.Prelude.{◌∷◌, ◌≡◌, [], false, refl};
+ghost use Rattle.der_elem.specs.FormatMakers.{mapped_format};
+ghost use Rattle.der_elem.specs.contracts.boolean.BoolContentsEq.TheImpl.Laws as bool_contents_eq;
+ghost use Rattle.der_elem.specs.contracts.integer.signed.I8ContentsEq.TheImpl.Laws as i8_contents_eq;
+ghost use Rattle.der_modules.specs.Asn1.{context, implicit_encoding, joined, parse_of};
+ghost use Rattle.der_modules.specs.MemberLaws.{member_equality, no_equality, one_tag, one_tag_equality, tagged_starts};
+ghost use Rattle.der_numbers.specs.contracts.int_ref.IntRefContentsEq.TheImpl.Laws as intref_contents_eq;
+ghost use Rattle.der_shapes.specs.Shapes.Grammar.{mixed};
+ghost use Rattle.der_shapes.specs.Shapes.Mixed as mixed_fields;
+ghost use Rattle.der_shapes.specs.declared.shapes.mixed.Mixed.{Mixed};
+
+use der_elem::{
+    BooleanTag, ContentsEq, CopyIsDuplicate, DecodeValue, EncodeValue, Form, FormValue, IntegerTag,
+    OneTag, SetTag, TagMarker, ValueOrd,
+};
+use der_fields::{
+    DecodeFields, EncodeFields, End, Field, FieldList, Fields3, FieldsOrd, Implicit, ImplicitTag,
+};
+use der_numbers::IntRef;
+use der_tlv::{Error, Header, Length, Source, Writer};
+use std::alloc::Global;
+use std::cmp::Ordering;
+
+/// The list of the fields.
+type Fields<'a> = Fields3<bool, i8, Implicit<IntRef<'a>, 1>>;
+
+/// ```text
+/// Mixed ::= SET {
+///     third   [1] INTEGER,
+///     first   BOOLEAN,
+///     second  INTEGER (-128..127) }
+/// ```
+///
+/// The fields are encoded in the order of their tags (X.690 10.3).
+///
+/// Reading refuses the first fault of the octets, in their order.
+#[derive(Clone, Copy, Debug, PartialEq, Eq)]
+pub struct Mixed<'a> {
+    fields: Fields<'a>,
+}
+
+impl<'a> Mixed<'a> {
+    ghost use Rattle.der_shapes.specs.Shapes.Mixed as mixed_fields;
+
+    /// A value of these fields.
+    pub fn new(first_: bool, second: i8, third: IntRef<'a>) -> Mixed<'a>
+        ensures first { mixed_fields.first result ≡ first_ }
+        ensures second { mixed_fields.second result ≡ second }
+        ensures third { mixed_fields.third result ≡ third.entry }
+    {
+        let first = Implicit { value: third };
+        let rest = Field { first, rest: End };
+        let first = second;
+        let rest = Field { first, rest };
+        let first = first_;
+        let list = Field { first, rest };
+        let fields = Fields3 { list };
+        Mixed { fields }
+    }
+
+    /// `first`, `BOOLEAN`.
+    pub fn first(&self) -> bool
+        ensures { result ≡ mixed_fields.first self.now }
+    {
+        self.fields.list.first
+    }
+
+    /// `second`, `INTEGER (- 128..127)`.
+    pub fn second(&self) -> i8
+        ensures { result ≡ mixed_fields.second self.now }
+    {
+        self.fields.list.rest.first
+    }
+
+    /// `third`, `[1] INTEGER`.
+    pub fn third(&self) -> &IntRef<'a>
+        ensures { result.now ≡ mixed_fields.third self.now }
+    {
+        &self.fields.list.rest.rest.first.value
+    }
+}
+
+impl<'a> OneTag for Mixed<'a> {
+    type Marker = SetTag;
+}
+
+impl<'a> FormValue for Mixed<'a> {
+    ghost value = { mapped_format (λ v. v.fields) ⟦<Fields<'a> as FieldList>⟧.list.octets };
+}
+
+impl<'a, R: Source<'a>> DecodeValue<'a, R> for Mixed<'a> {
+    ghost TAKES_MEMORY = { false };
+
+    const TAKES_MEMORY: bool = false;
+
+    fn decode_value(alloc: Global, reader: &mut R, _header: Header) -> Result<Mixed<'a>, Error> {
+        match Fields::<'a>::decode_fields(alloc, reader) {
+            Ok(fields) => Ok(Mixed { fields }),
+            Err(e) => Err(e),
+        }
+    }
+
+    ghost takes_memory_is = { refl };
+}
+
+impl<'a> EncodeValue for Mixed<'a> {
+    fn value_len(&self) -> Result<Length, Error> {
+        self.fields.fields_len()
+    }
+
+    fn encode_value<W: Writer>(&self, writer: &mut W) -> Result<(), Error> {
+        self.fields.encode_fields(writer)
+    }
+}
+
+impl<'a> ValueOrd for Mixed<'a> {
+    fn value_cmp(&self, other: &Mixed<'a>) -> Result<Ordering, Error> {
+        self.fields.cmp_fields(&other.fields)
+    }
+}
+
+impl<'a> ContentsEq for Mixed<'a> {
+    ghost contents_eq = { λ v w. (member_equality ⟦<bool as Form>⟧
+        (tagged_starts ⟦<bool as Form>⟧ (one_tag ⟦<BooleanTag as TagMarker>⟧.TAG ⟦<bool as FormValue>⟧.value.contents))
+        ⟦<bool as PartialEq>⟧.eq
+        (one_tag_equality ⟦<BooleanTag as TagMarker>⟧.TAG ⟦<bool as FormValue>⟧.value.contents ⟦<bool as FormValue>⟧.value.comparable ⟦<bool as PartialEq>⟧.eq bool_contents_eq.contents_eq-law)
+        (member_equality ⟦<i8 as Form>⟧
+        (tagged_starts ⟦<i8 as Form>⟧ (one_tag ⟦<IntegerTag as TagMarker>⟧.TAG ⟦<i8 as FormValue>⟧.value.contents))
+        ⟦<i8 as PartialEq>⟧.eq
+        (one_tag_equality ⟦<IntegerTag as TagMarker>⟧.TAG ⟦<i8 as FormValue>⟧.value.contents ⟦<i8 as FormValue>⟧.value.comparable ⟦<i8 as PartialEq>⟧.eq i8_contents_eq.contents_eq-law)
+        (member_equality ⟦<Implicit<IntRef<'a>, 1> as Form>⟧
+        (tagged_starts ⟦<Implicit<IntRef<'a>, 1> as Form>⟧ (one_tag ⟦<ImplicitTag<IntegerTag, 1> as TagMarker>⟧.TAG ⟦<Implicit<IntRef<'a>, 1> as FormValue>⟧.value.contents))
+        ⟦<Implicit<IntRef<'a>, 1> as PartialEq>⟧.eq
+        (one_tag_equality ⟦<ImplicitTag<IntegerTag, 1> as TagMarker>⟧.TAG ⟦<Implicit<IntRef<'a>, 1> as FormValue>⟧.value.contents ⟦<Implicit<IntRef<'a>, 1> as FormValue>⟧.value.comparable ⟦<Implicit<IntRef<'a>, 1> as PartialEq>⟧.eq (λ v w. intref_contents_eq.contents_eq-law v.value w.value))
+        no_equality))).equal v.fields.list w.fields.list };
+}
+
+impl<'a> CopyIsDuplicate for Mixed<'a> {}
+
+/// What is read as `Mixed` is what the page of the grammar says.
+pub fn grammar_of_mixed<'a>()
+    ensures { ⟦<Mixed<'a> as Form>⟧.parse ≡ parse_of mixed }
+{}
+
+/// The contents octets of `Mixed` are the encodings of its fields, one after another.
+pub fn octets_of_mixed<'a>()
+    ensures { (v : Mixed) → ⟦<Mixed<'a> as FormValue>⟧.value.contents v ≡ joined (
+        (⟦<bool as Form>⟧.encoding (mixed_fields.first v))
+        ∷ (⟦<i8 as Form>⟧.encoding (mixed_fields.second v))
+        ∷ (implicit_encoding context false 1 (⟦<IntRef<'a> as FormValue>⟧.value.contents (mixed_fields.third v)))
+        ∷ []) }
+{}

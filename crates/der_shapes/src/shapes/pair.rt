@@ -1,0 +1,153 @@
+//! Pair, a SEQUENCE of 2 fields.
+//!
+//! Made by tools/asn1 from shapes.asn1.
+
+ghost use Rattle.std.proofs.Common.{lit<};
+ghost use Rattle.std.specs.Prelude.{◌∷◌, ◌≡◌, [], false, refl};
+ghost use Rattle.der_elem.specs.FormatMakers.{mapped_format};
+ghost use Rattle.der_modules.specs.Asn1.{joined, parse_of};
+ghost use Rattle.der_modules.specs.MemberLaws.{member_equality, no_equality, one_tag, one_tag_equality, own_tags, tagged_starts};
+ghost use Rattle.der_opaque.specs.contracts.any_ref.AnyRefEncodingEq.TheImpl.Laws as anyref_encoding_eq;
+ghost use Rattle.der_opaque.specs.contracts.any_ref.AnyRefTagged.TheImpl.Laws as anyref_tagged;
+ghost use Rattle.der_opaque.specs.contracts.object_identifier.ObjectIdentifierContentsEq.TheImpl.Laws as objectidentifier_contents_eq;
+ghost use Rattle.der_shapes.specs.Shapes.Grammar.{pair};
+ghost use Rattle.der_shapes.specs.Shapes.Pair as pair_fields;
+ghost use Rattle.der_shapes.specs.declared.shapes.pair.Pair.{Pair};
+
+use der_elem::{
+    ContentsEq, CopyIsDuplicate, DecodeValue, EncodeValue, Form, FormValue, ObjectIdentifierTag,
+    OneTag, Sequence, SequenceTag, TagMarker, Tagged, ValueOrd,
+};
+use der_fields::{DecodeFields, EncodeFields, End, Field, FieldList, Fields2, FieldsOrd};
+use der_nest::{ItemOrder, OrdersByEncoding};
+use der_opaque::{AnyRef, ObjectIdentifier};
+use der_tlv::{Error, Header, Length, Source, Writer};
+use std::alloc::Global;
+use std::cmp::Ordering;
+
+/// The list of the fields.
+type Fields<'a> = Fields2<ObjectIdentifier<39>, AnyRef<'a>>;
+
+/// ```text
+/// Pair ::= SEQUENCE {
+///     type   OBJECT IDENTIFIER,
+///     value  ANY }
+/// ```
+///
+/// Reading refuses the first fault of the octets, in their order.
+#[derive(Clone, Copy, Debug, PartialEq, Eq)]
+pub struct Pair<'a> {
+    fields: Fields<'a>,
+}
+
+impl<'a> Pair<'a> {
+    ghost use Rattle.der_shapes.specs.Shapes.Pair as pair_fields;
+
+    /// A value of these fields.
+    pub fn new(type_: ObjectIdentifier<39>, value: AnyRef<'a>) -> Pair<'a>
+        ensures type_ { pair_fields.type_ result ≡ type_ }
+        ensures value { pair_fields.value result ≡ value.entry }
+    {
+        let first = value;
+        let rest = Field { first, rest: End };
+        let first = type_;
+        let list = Field { first, rest };
+        let fields = Fields2 { list };
+        Pair { fields }
+    }
+
+    /// `type`, `OBJECT IDENTIFIER`.
+    pub fn type_(&self) -> ObjectIdentifier<39>
+        ensures { result ≡ pair_fields.type_ self.now }
+    {
+        self.fields.list.first
+    }
+
+    /// `value`, `ANY`.
+    pub fn value(&self) -> &AnyRef<'a>
+        ensures { result.now ≡ pair_fields.value self.now }
+    {
+        &self.fields.list.rest.first
+    }
+}
+
+impl<'a> OneTag for Pair<'a> {
+    type Marker = SequenceTag;
+}
+
+impl<'a> Sequence<'a> for Pair<'a> {
+    ghost is_sequence = { refl };
+}
+
+impl<'a> FormValue for Pair<'a> {
+    ghost value = { mapped_format (λ v. v.fields) ⟦<Fields<'a> as FieldList>⟧.list.octets };
+}
+
+impl<'a, R: Source<'a>> DecodeValue<'a, R> for Pair<'a> {
+    ghost TAKES_MEMORY = { false };
+
+    const TAKES_MEMORY: bool = false;
+
+    fn decode_value(alloc: Global, reader: &mut R, _header: Header) -> Result<Pair<'a>, Error> {
+        match Fields::<'a>::decode_fields(alloc, reader) {
+            Ok(fields) => Ok(Pair { fields }),
+            Err(e) => Err(e),
+        }
+    }
+
+    ghost takes_memory_is = { refl };
+}
+
+impl<'a> EncodeValue for Pair<'a> {
+    fn value_len(&self) -> Result<Length, Error> {
+        self.fields.fields_len()
+    }
+
+    fn encode_value<W: Writer>(&self, writer: &mut W) -> Result<(), Error> {
+        self.fields.encode_fields(writer)
+    }
+}
+
+impl<'a> ValueOrd for Pair<'a> {
+    fn value_cmp(&self, other: &Pair<'a>) -> Result<Ordering, Error> {
+        self.fields.cmp_fields(&other.fields)
+    }
+}
+
+impl<'a> ContentsEq for Pair<'a> {
+    ghost contents_eq = { λ v w. (member_equality ⟦<ObjectIdentifier<39> as Form>⟧
+        (tagged_starts ⟦<ObjectIdentifier<39> as Form>⟧ (one_tag ⟦<ObjectIdentifierTag as TagMarker>⟧.TAG ⟦<ObjectIdentifier<39> as FormValue>⟧.value.contents))
+        ⟦<ObjectIdentifier<39> as PartialEq>⟧.eq
+        (one_tag_equality ⟦<ObjectIdentifierTag as TagMarker>⟧.TAG ⟦<ObjectIdentifier<39> as FormValue>⟧.value.contents ⟦<ObjectIdentifier<39> as FormValue>⟧.value.comparable ⟦<ObjectIdentifier<39> as PartialEq>⟧.eq (objectidentifier_contents_eq.contents_eq-law 39 (record { fits = lit< tt })))
+        (member_equality ⟦<AnyRef<'a> as Form>⟧
+        (tagged_starts ⟦<AnyRef<'a> as Form>⟧ (own_tags ⟦<AnyRef<'a> as Form>⟧.tags ⟦<AnyRef<'a> as Form>⟧.first_tag_of ⟦<AnyRef<'a> as Form>⟧.encoding ⟦<AnyRef<'a> as Tagged>⟧.tag_of ⟦<AnyRef<'a> as FormValue>⟧.value.contents anyref_tagged.encoding_is-law anyref_tagged.own_tag-law anyref_tagged.first_tag_is-law))
+        ⟦<AnyRef<'a> as PartialEq>⟧.eq
+        anyref_encoding_eq.encoding_eq-law
+        no_equality)).equal v.fields.list w.fields.list };
+}
+
+impl<'a> CopyIsDuplicate for Pair<'a> {}
+
+/// The order of a SET OF `Pair<'a>`: that of the encodings (X.690 11.6).
+pub struct PairOrder;
+
+impl<'a> ItemOrder<Pair<'a>> for PairOrder {
+    ghost item_encoding = { ⟦<Pair<'a> as Form>⟧.encoding };
+}
+
+impl<'a> OrdersByEncoding<Pair<'a>> for PairOrder {
+    ghost is_encoding = { refl };
+}
+
+/// What is read as `Pair` is what the page of the grammar says.
+pub fn grammar_of_pair<'a>()
+    ensures { ⟦<Pair<'a> as Form>⟧.parse ≡ parse_of pair }
+{}
+
+/// The contents octets of `Pair` are the encodings of its fields, one after another.
+pub fn octets_of_pair<'a>()
+    ensures { (v : Pair) → ⟦<Pair<'a> as FormValue>⟧.value.contents v ≡ joined (
+        (⟦<ObjectIdentifier<39> as Form>⟧.encoding (pair_fields.type_ v))
+        ∷ (⟦<AnyRef<'a> as Form>⟧.encoding (pair_fields.value v))
+        ∷ []) }
+{}

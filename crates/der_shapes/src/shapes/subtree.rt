@@ -1,0 +1,275 @@
+//! Subtree, a SEQUENCE of 4 fields.
+//!
+//! Made by tools/asn1 from shapes.asn1.
+
+ghost use Rattle.std.specs.Prelude.{◌∷◌, ◌≡◌, [], false, refl, true};
+ghost use Rattle.der_elem.specs.FormatMakers.{mapped_format};
+ghost use Rattle.der_elem.specs.contracts.boolean.BoolContentsEq.TheImpl.Laws as bool_contents_eq;
+ghost use Rattle.der_elem.specs.contracts.integer.unsigned.U8ContentsEq.TheImpl.Laws as u8_contents_eq;
+ghost use Rattle.der_modules.specs.Asn1.{context, explicit_encoding, implicit_encoding, joined, optional, parse_of, private, unless_default};
+ghost use Rattle.der_modules.specs.MemberLaws.{copies_of, default_copies, default_equality, default_starts, held_copies, listed_copies, member_copies, member_equality, no_copies, no_equality, one_tag, one_tag_copies, one_tag_equality, optional_copies, optional_equality, optional_starts, own_tags, same_copies, tagged_starts};
+ghost use Rattle.der_numbers.specs.contracts.uint_ref.UintRefContentsEq.TheImpl.Laws as uintref_contents_eq;
+ghost use Rattle.der_shapes.specs.Shapes.Grammar.{subtree};
+ghost use Rattle.der_shapes.specs.Shapes.Subtree as subtree_fields;
+ghost use Rattle.der_shapes.specs.contracts.shapes.general.GeneralDuplicate.TheImpl.Laws as general_duplicate;
+ghost use Rattle.der_shapes.specs.contracts.shapes.general.GeneralDuplicateIsEqual.TheImpl.Laws as general_duplicate_is_equal;
+ghost use Rattle.der_shapes.specs.contracts.shapes.general.GeneralEncodingEq.TheImpl.Laws as general_encoding_eq;
+ghost use Rattle.der_shapes.specs.contracts.shapes.general.GeneralTagged.TheImpl.Laws as general_tagged;
+ghost use Rattle.der_shapes.specs.declared.shapes.subtree.Subtree.{Subtree};
+
+use crate::shapes::general::General;
+use der_elem::{
+    BooleanTag, ContentsEq, DecodeValue, DuplicateValue, DuplicateValueIsEqual, EncodeValue, Form,
+    FormValue, IntegerTag, OneTag, SequenceTag, TagMarker, Tagged, ValueOrd,
+};
+use der_fields::{
+    DecodeFields, DefaultFalse, DefaultNumber, DefaultOf, DuplicateFields, EncodeFields, End,
+    Explicit, ExplicitTag, Field, FieldList, Fields4, FieldsOrd, Implicit, ImplicitApplicationTag,
+    ImplicitPrivate, ImplicitPrivateTag, ImplicitTag, WithDefault,
+};
+use der_modules::CopyLaws;
+use der_numbers::UintRef;
+use der_tlv::{Error, Header, Length, Source, Writer};
+use std::alloc::Global;
+use std::cmp::Ordering;
+
+/// The list of the fields.
+type Fields<'a> = Fields4<
+    Explicit<General<'a>, 5>,
+    WithDefault<Implicit<u8, 0>, DefaultNumber<0>>,
+    Option<Implicit<UintRef<'a>, 1>>,
+    WithDefault<ImplicitPrivate<bool, 2>, DefaultFalse>,
+>;
+
+/// ```text
+/// Subtree ::= [APPLICATION 3] SEQUENCE {
+///     base     [5] EXPLICIT General,
+///     minimum  [0] INTEGER (0..255) DEFAULT 0,
+///     maximum  [1] INTEGER (0..MAX) OPTIONAL,
+///     only     [PRIVATE 2] BOOLEAN DEFAULT FALSE }
+/// ```
+///
+/// Reading refuses the first fault of the octets, in their order; `ErrorKind::Memory` (1) where
+/// memory runs out.
+#[derive(Debug, PartialEq, Eq, Drop)]
+pub struct Subtree<'a> {
+    fields: Fields<'a>,
+}
+
+impl<'a> Subtree<'a> {
+    ghost use Rattle.der_shapes.specs.Shapes.Subtree as subtree_fields;
+    ghost use Rattle.std.specs.Prelude.{option_copied};
+
+    /// A value of these fields.
+    pub fn new(
+        base: General<'a>,
+        minimum: u8,
+        maximum: Option<UintRef<'a>>,
+        only: bool,
+    ) -> Subtree<'a>
+        ensures base { subtree_fields.base result ≡ base.entry }
+        ensures minimum { subtree_fields.minimum result ≡ minimum }
+        ensures maximum { subtree_fields.maximum result ≡ maximum.entry }
+        ensures only { subtree_fields.only result ≡ only }
+    {
+        let first = WithDefault::new(ImplicitPrivate { value: only });
+        let rest = Field { first, rest: End };
+        let first = match maximum {
+            Some(value) => Some(Implicit { value }),
+            None => None,
+        };
+        let rest = Field { first, rest };
+        let first = WithDefault::new(Implicit { value: minimum });
+        let rest = Field { first, rest };
+        let first = Explicit {
+            fields: Field {
+                first: base,
+                rest: End,
+            },
+        };
+        let list = Field { first, rest };
+        let fields = Fields4 { list };
+        Subtree { fields }
+    }
+
+    /// The values of the fields, in their order.
+    pub fn into_parts(self) -> (General<'a>, u8, Option<UintRef<'a>>, bool)
+        ensures base { subtree_fields.base self.entry ≡ result.0 }
+        ensures minimum { subtree_fields.minimum self.entry ≡ result.1 }
+        ensures maximum { subtree_fields.maximum self.entry ≡ result.2 }
+        ensures only { subtree_fields.only self.entry ≡ result.3 }
+    {
+        let Fields4 { list } = self.fields;
+        let Field { first: base, rest } = list;
+        let Field {
+            first: minimum,
+            rest,
+        } = rest;
+        let Field {
+            first: maximum,
+            rest,
+        } = rest;
+        let Field { first: only, .. } = rest;
+        let base = base.fields.first;
+        let minimum = minimum.value.value;
+        let maximum = match maximum {
+            Some(tagged) => Some(tagged.value),
+            None => None,
+        };
+        let only = only.value.value;
+        (base, minimum, maximum, only)
+    }
+
+    /// `base`, `[5] EXPLICIT General`.
+    pub fn base(&self) -> &General<'a>
+        ensures { result.now ≡ subtree_fields.base self.now }
+    {
+        &self.fields.list.first.fields.first
+    }
+
+    /// `minimum`, `[0] INTEGER (0..255) DEFAULT 0`.
+    pub fn minimum(&self) -> u8
+        ensures { result ≡ subtree_fields.minimum self.now }
+    {
+        self.fields.list.rest.first.value.value
+    }
+
+    /// `maximum`, `[1] INTEGER (0..MAX) OPTIONAL`.
+    pub fn maximum(&self) -> Option<&UintRef<'a>>
+        ensures { option_copied result ≡ subtree_fields.maximum self.now }
+    {
+        match &self.fields.list.rest.rest.first {
+            Some(value) => Some(&value.value),
+            None => None,
+        }
+    }
+
+    /// `only`, `[PRIVATE 2] BOOLEAN DEFAULT FALSE`.
+    pub fn only(&self) -> bool
+        ensures { result ≡ subtree_fields.only self.now }
+    {
+        self.fields.list.rest.rest.rest.first.value.value
+    }
+}
+
+impl<'a> OneTag for Subtree<'a> {
+    type Marker = ImplicitApplicationTag<SequenceTag, 3>;
+}
+
+impl<'a> FormValue for Subtree<'a> {
+    ghost value = { mapped_format (λ v. v.fields) ⟦<Fields<'a> as FieldList>⟧.list.octets };
+}
+
+impl<'a, R: Source<'a>> DecodeValue<'a, R> for Subtree<'a> {
+    ghost TAKES_MEMORY = { true };
+
+    const TAKES_MEMORY: bool = true;
+
+    fn decode_value(alloc: Global, reader: &mut R, _header: Header) -> Result<Subtree<'a>, Error> {
+        match Fields::<'a>::decode_fields(alloc, reader) {
+            Ok(fields) => Ok(Subtree { fields }),
+            Err(e) => Err(e),
+        }
+    }
+
+    ghost takes_memory_is = { refl };
+}
+
+impl<'a> EncodeValue for Subtree<'a> {
+    fn value_len(&self) -> Result<Length, Error> {
+        self.fields.fields_len()
+    }
+
+    fn encode_value<W: Writer>(&self, writer: &mut W) -> Result<(), Error> {
+        self.fields.encode_fields(writer)
+    }
+}
+
+impl<'a> ValueOrd for Subtree<'a> {
+    fn value_cmp(&self, other: &Subtree<'a>) -> Result<Ordering, Error> {
+        self.fields.cmp_fields(&other.fields)
+    }
+}
+
+impl<'a> ContentsEq for Subtree<'a> {
+    ghost contents_eq = { λ v w. (member_equality ⟦<Explicit<General<'a>, 5> as Form>⟧
+        (tagged_starts ⟦<Explicit<General<'a>, 5> as Form>⟧ (one_tag ⟦<ExplicitTag<5> as TagMarker>⟧.TAG ⟦<Explicit<General<'a>, 5> as FormValue>⟧.value.contents))
+        ⟦<Explicit<General<'a>, 5> as PartialEq>⟧.eq
+        (one_tag_equality ⟦<ExplicitTag<5> as TagMarker>⟧.TAG ⟦<Explicit<General<'a>, 5> as FormValue>⟧.value.contents ⟦<Explicit<General<'a>, 5> as FormValue>⟧.value.comparable ⟦<Explicit<General<'a>, 5> as PartialEq>⟧.eq (λ v w. (member_equality ⟦<General<'a> as Form>⟧
+        (tagged_starts ⟦<General<'a> as Form>⟧ (own_tags ⟦<General<'a> as Form>⟧.tags ⟦<General<'a> as Form>⟧.first_tag_of ⟦<General<'a> as Form>⟧.encoding ⟦<General<'a> as Tagged>⟧.tag_of ⟦<General<'a> as FormValue>⟧.value.contents general_tagged.encoding_is-law general_tagged.own_tag-law general_tagged.first_tag_is-law))
+        ⟦<General<'a> as PartialEq>⟧.eq
+        general_encoding_eq.encoding_eq-law
+        no_equality).equal v.fields w.fields))
+        (member_equality ⟦<WithDefault<Implicit<u8, 0>, DefaultNumber<0>> as Form>⟧
+        (default_starts ⟦<Implicit<u8, 0> as Form>⟧ (one_tag ⟦<ImplicitTag<IntegerTag, 0> as TagMarker>⟧.TAG ⟦<Implicit<u8, 0> as FormValue>⟧.value.contents) (λ x. x.value) ⟦<DefaultNumber<0> as DefaultOf<Implicit<u8, 0>>>⟧.octets)
+        ⟦<WithDefault<Implicit<u8, 0>, DefaultNumber<0>> as PartialEq>⟧.eq
+        (default_equality ⟦<Implicit<u8, 0> as Form>⟧ (one_tag ⟦<ImplicitTag<IntegerTag, 0> as TagMarker>⟧.TAG ⟦<Implicit<u8, 0> as FormValue>⟧.value.contents) (λ x. x.value) ⟦<DefaultNumber<0> as DefaultOf<Implicit<u8, 0>>>⟧.octets ⟦<Implicit<u8, 0> as PartialEq>⟧.eq (one_tag_equality ⟦<ImplicitTag<IntegerTag, 0> as TagMarker>⟧.TAG ⟦<Implicit<u8, 0> as FormValue>⟧.value.contents ⟦<Implicit<u8, 0> as FormValue>⟧.value.comparable ⟦<Implicit<u8, 0> as PartialEq>⟧.eq (λ v w. u8_contents_eq.contents_eq-law v.value w.value)))
+        (member_equality ⟦<Option<Implicit<UintRef<'a>, 1>> as Form>⟧
+        (optional_starts ⟦<Implicit<UintRef<'a>, 1> as Form>⟧ (one_tag ⟦<ImplicitTag<IntegerTag, 1> as TagMarker>⟧.TAG ⟦<Implicit<UintRef<'a>, 1> as FormValue>⟧.value.contents))
+        ⟦<Option<Implicit<UintRef<'a>, 1>> as PartialEq>⟧.eq
+        (optional_equality ⟦<Implicit<UintRef<'a>, 1> as Form>⟧ (one_tag ⟦<ImplicitTag<IntegerTag, 1> as TagMarker>⟧.TAG ⟦<Implicit<UintRef<'a>, 1> as FormValue>⟧.value.contents) ⟦<Implicit<UintRef<'a>, 1> as PartialEq>⟧.eq (one_tag_equality ⟦<ImplicitTag<IntegerTag, 1> as TagMarker>⟧.TAG ⟦<Implicit<UintRef<'a>, 1> as FormValue>⟧.value.contents ⟦<Implicit<UintRef<'a>, 1> as FormValue>⟧.value.comparable ⟦<Implicit<UintRef<'a>, 1> as PartialEq>⟧.eq (λ v w. uintref_contents_eq.contents_eq-law v.value w.value)))
+        (member_equality ⟦<WithDefault<ImplicitPrivate<bool, 2>, DefaultFalse> as Form>⟧
+        (default_starts ⟦<ImplicitPrivate<bool, 2> as Form>⟧ (one_tag ⟦<ImplicitPrivateTag<BooleanTag, 2> as TagMarker>⟧.TAG ⟦<ImplicitPrivate<bool, 2> as FormValue>⟧.value.contents) (λ x. x.value) ⟦<DefaultFalse as DefaultOf<ImplicitPrivate<bool, 2>>>⟧.octets)
+        ⟦<WithDefault<ImplicitPrivate<bool, 2>, DefaultFalse> as PartialEq>⟧.eq
+        (default_equality ⟦<ImplicitPrivate<bool, 2> as Form>⟧ (one_tag ⟦<ImplicitPrivateTag<BooleanTag, 2> as TagMarker>⟧.TAG ⟦<ImplicitPrivate<bool, 2> as FormValue>⟧.value.contents) (λ x. x.value) ⟦<DefaultFalse as DefaultOf<ImplicitPrivate<bool, 2>>>⟧.octets ⟦<ImplicitPrivate<bool, 2> as PartialEq>⟧.eq (one_tag_equality ⟦<ImplicitPrivateTag<BooleanTag, 2> as TagMarker>⟧.TAG ⟦<ImplicitPrivate<bool, 2> as FormValue>⟧.value.contents ⟦<ImplicitPrivate<bool, 2> as FormValue>⟧.value.comparable ⟦<ImplicitPrivate<bool, 2> as PartialEq>⟧.eq (λ v w. bool_contents_eq.contents_eq-law v.value w.value)))
+        no_equality)))).equal v.fields.list w.fields.list };
+}
+
+impl<'a> CopyLaws for Subtree<'a> {
+    ghost copies = { copies_of (held_copies (λ v. v.fields.list)
+        (listed_copies (member_copies ⟦<Explicit<General<'a>, 5> as Form>⟧
+        (tagged_starts ⟦<Explicit<General<'a>, 5> as Form>⟧ (one_tag ⟦<ExplicitTag<5> as TagMarker>⟧.TAG ⟦<Explicit<General<'a>, 5> as FormValue>⟧.value.contents))
+        (one_tag_copies ⟦<ExplicitTag<5> as TagMarker>⟧.TAG (held_copies (λ x. x.fields) (listed_copies (member_copies ⟦<General<'a> as Form>⟧
+        (tagged_starts ⟦<General<'a> as Form>⟧ (own_tags ⟦<General<'a> as Form>⟧.tags ⟦<General<'a> as Form>⟧.first_tag_of ⟦<General<'a> as Form>⟧.encoding ⟦<General<'a> as Tagged>⟧.tag_of ⟦<General<'a> as FormValue>⟧.value.contents general_tagged.encoding_is-law general_tagged.own_tag-law general_tagged.first_tag_is-law))
+        (record { octets_are = general_duplicate.copy_encoding-law; comparable_are = general_duplicate.copy_comparable-law; re_reads_are = general_duplicate.copy_re_reads-law; equal_are = general_duplicate_is_equal.copy_is_equal-law })
+        no_copies))))
+        (member_copies ⟦<WithDefault<Implicit<u8, 0>, DefaultNumber<0>> as Form>⟧
+        (default_starts ⟦<Implicit<u8, 0> as Form>⟧ (one_tag ⟦<ImplicitTag<IntegerTag, 0> as TagMarker>⟧.TAG ⟦<Implicit<u8, 0> as FormValue>⟧.value.contents) (λ x. x.value) ⟦<DefaultNumber<0> as DefaultOf<Implicit<u8, 0>>>⟧.octets)
+        (default_copies ⟦<Implicit<u8, 0> as Form>⟧ (one_tag_copies ⟦<ImplicitTag<IntegerTag, 0> as TagMarker>⟧.TAG (held_copies (λ x. x.value) (same_copies ⟦<u8 as FormValue>⟧.value.contents ⟦<u8 as FormValue>⟧.value.comparable ⟦<u8 as FormValue>⟧.value.re_reads ⟦<u8 as PartialEq>⟧.eq (λ v. (u8_contents_eq.contents_eq-law v v tt).1 refl)))) (λ x. x.value) ⟦<DefaultNumber<0> as DefaultOf<Implicit<u8, 0>>>⟧.octets)
+        (member_copies ⟦<Option<Implicit<UintRef<'a>, 1>> as Form>⟧
+        (optional_starts ⟦<Implicit<UintRef<'a>, 1> as Form>⟧ (one_tag ⟦<ImplicitTag<IntegerTag, 1> as TagMarker>⟧.TAG ⟦<Implicit<UintRef<'a>, 1> as FormValue>⟧.value.contents))
+        (optional_copies ⟦<Implicit<UintRef<'a>, 1> as Form>⟧ (one_tag_copies ⟦<ImplicitTag<IntegerTag, 1> as TagMarker>⟧.TAG (held_copies (λ x. x.value) (same_copies ⟦<UintRef<'a> as FormValue>⟧.value.contents ⟦<UintRef<'a> as FormValue>⟧.value.comparable ⟦<UintRef<'a> as FormValue>⟧.value.re_reads ⟦<UintRef<'a> as PartialEq>⟧.eq (λ v. (uintref_contents_eq.contents_eq-law v v tt).1 refl)))))
+        (member_copies ⟦<WithDefault<ImplicitPrivate<bool, 2>, DefaultFalse> as Form>⟧
+        (default_starts ⟦<ImplicitPrivate<bool, 2> as Form>⟧ (one_tag ⟦<ImplicitPrivateTag<BooleanTag, 2> as TagMarker>⟧.TAG ⟦<ImplicitPrivate<bool, 2> as FormValue>⟧.value.contents) (λ x. x.value) ⟦<DefaultFalse as DefaultOf<ImplicitPrivate<bool, 2>>>⟧.octets)
+        (default_copies ⟦<ImplicitPrivate<bool, 2> as Form>⟧ (one_tag_copies ⟦<ImplicitPrivateTag<BooleanTag, 2> as TagMarker>⟧.TAG (held_copies (λ x. x.value) (same_copies ⟦<bool as FormValue>⟧.value.contents ⟦<bool as FormValue>⟧.value.comparable ⟦<bool as FormValue>⟧.value.re_reads ⟦<bool as PartialEq>⟧.eq (λ v. (bool_contents_eq.contents_eq-law v v tt).1 refl)))) (λ x. x.value) ⟦<DefaultFalse as DefaultOf<ImplicitPrivate<bool, 2>>>⟧.octets)
+        no_copies)))))) };
+}
+
+impl<'a> DuplicateValue for Subtree<'a> {
+    ghost is_copy_value = { λ v w. ⟦<Fields<'a> as DuplicateFields>⟧.are_copies v.fields w.fields };
+
+    ghost takes_memory_to_copy_value = { ⟦<Fields<'a> as DuplicateFields>⟧.take_memory_to_copy };
+
+    fn duplicate_value(&self) -> Result<Subtree<'a>, Error> {
+        match self.fields.duplicate_fields() {
+            Ok(fields) => Ok(Subtree { fields }),
+            Err(e) => Err(e),
+        }
+    }
+
+    ghost copy_contents = { ⟦<Subtree<'a> as CopyLaws>⟧.copies.laws.octets_are };
+
+    ghost copy_comparable_value = { ⟦<Subtree<'a> as CopyLaws>⟧.copies.laws.comparable_are };
+
+    ghost copy_re_reads_value = { ⟦<Subtree<'a> as CopyLaws>⟧.copies.laws.re_reads_are };
+}
+
+impl<'a> DuplicateValueIsEqual for Subtree<'a> {
+    ghost copy_value_is_equal = { ⟦<Subtree<'a> as CopyLaws>⟧.copies.laws.equal_are };
+}
+
+/// What is read as `Subtree` is what the page of the grammar says.
+pub fn grammar_of_subtree<'a>()
+    ensures { ⟦<Subtree<'a> as Form>⟧.parse ≡ parse_of subtree }
+{}
+
+/// The contents octets of `Subtree` are the encodings of its fields, one after another.
+#[tactic(auto, using(der_modules::specs::Asn1::optional_of))]
+pub fn octets_of_subtree<'a>()
+    ensures { (v : Subtree) → ⟦<Subtree<'a> as FormValue>⟧.value.contents v ≡ joined (
+        (explicit_encoding context 5 (⟦<General<'a> as Form>⟧.encoding (subtree_fields.base v)))
+        ∷ unless_default ⟦<DefaultNumber<0> as DefaultOf<Implicit<u8, 0>>>⟧.octets (implicit_encoding context false 0 (⟦<u8 as FormValue>⟧.value.contents (subtree_fields.minimum v)))
+        ∷ optional (λ x. (implicit_encoding context false 1 (⟦<UintRef<'a> as FormValue>⟧.value.contents x))) (subtree_fields.maximum v)
+        ∷ unless_default ⟦<DefaultFalse as DefaultOf<ImplicitPrivate<bool, 2>>>⟧.octets (implicit_encoding private false 2 (⟦<bool as FormValue>⟧.value.contents (subtree_fields.only v)))
+        ∷ []) }
+{}

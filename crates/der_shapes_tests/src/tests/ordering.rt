@@ -1,0 +1,51 @@
+//! The order, equality and copies of values, and sets that are put in order.
+
+use super::{compared, holds, is_copied, same};
+use der_elem::FromDer;
+use der_nest::ItemSet;
+use der_shapes::shapes::{General, GeneralOrder, Generals, Status};
+use std::alloc::Global;
+use std::cmp::Ordering;
+use std::process::Abort;
+use std::test::Fail;
+
+fn status_of(alloc: Global, octets: &[u8]) -> Result<Status, u8> {
+    match Status::from_der(alloc, octets) {
+        Ok(status) => Ok(status),
+        Err(e) => Err(e.kind().number()),
+    }
+}
+
+fn general_of<'a>(alloc: Global, octets: &'a [u8]) -> Result<General<'a>, u8> {
+    match General::from_der(alloc, octets) {
+        Ok(general) => Ok(general),
+        Err(e) => Err(e.kind().number()),
+    }
+}
+
+#[test]
+fn alternatives_are_ordered_as_their_encodings(rt: HostRuntime) -> Result<(), Fail> {
+    let alloc = rt.alloc();
+    let good = hex::decode(alloc, "8000")?;
+    let unknown = hex::decode(alloc, "8200")?;
+    let good = status_of(alloc, good.as_slice())?;
+    let unknown = status_of(alloc, unknown.as_slice())?;
+    same(&rt, compared(&good, &good), Ok((Ordering::Equal, true)));
+    same(&rt, compared(&good, &unknown), Ok((Ordering::Less, false)));
+    holds(&rt, is_copied(&unknown));
+    Ok(())
+}
+
+#[test]
+fn a_set_of_a_choice_is_put_in_order(rt: HostRuntime) -> Result<(), Fail> {
+    let alloc = rt.alloc();
+    let number = hex::decode(alloc, "91020102")?;
+    let good = hex::decode(alloc, "8000")?;
+    let mut set: ItemSet<General, GeneralOrder> = ItemSet::new(alloc);
+    holds(&rt, set.insert(general_of(alloc, number.as_slice())?).is_ok());
+    holds(&rt, set.insert(general_of(alloc, good.as_slice())?).is_ok());
+    let generals = Generals::new(set);
+    same(&rt, generals.as_slice().len(), 2);
+    holds(&rt, is_copied(&generals));
+    Ok(())
+}
