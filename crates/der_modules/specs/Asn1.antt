@@ -87,9 +87,9 @@ abbrev pub NOT_EMPTY : Grammar → Grammar
 NOT_EMPTY (one t contents) = one t (parse_some t contents)
 NOT_EMPTY (any_of tags parse) = any_of tags parse
 
--- an INTEGER or an ENUMERATED of which only these numbers are values (X.680 19.5, 20)
-abbrev pub NAMED : List ℤ → Tag → Grammar
-NAMED numbers t = one t (parse_named t (λ n. n) numbers)
+-- an ENUMERATED, of which only the numbers of these names are values (X.680 20, X.690 8.4)
+abbrev pub NAMED : {E : Type 0} → (E → ℤ) → List E → Tag → Grammar
+NAMED number_of names t = one t (parse_named t number_of names)
 
 -- a type that is read, and whose contents octets are kept as they came
 abbrev pub KEPT : Grammar → Grammar

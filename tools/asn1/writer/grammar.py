@@ -132,10 +132,10 @@ class GrammarPage:
             return f"{self.asn1('NOT_EMPTY')} ({found})" if definition.is_never_empty else found
         assert isinstance(definition, Enumeration)
         self.page.word("tags")
-        for key in ("[]", "∷"):
-            self.page.word(key)
-        numbers = " ∷ ".join([*(self.page.integer(one.number) for one in definition.values), "[]"])
-        return f"{self.asn1('NAMED')} ({numbers}) tags.Enumerated"
+        target, name = self.plan.of(definition), snake(definition.rust)
+        page = f"{target.crate}.specs.{target.page}.{definition.rust}"
+        words = [self.page.from_module(page, word) for word in (f"number_of_{name}", f"all_of_{name}")]
+        return f"{self.asn1('NAMED')} {' '.join(words)} tags.Enumerated"
 
     def alias(self, env: Env, type_: Type, definition: Alias) -> str:
         """A second name; a CHOICE of one alternative stays a CHOICE, before which a tag is explicit."""

@@ -108,34 +108,41 @@ class Laws:
         type_ = named(type_)
         if isinstance(type_, Leaf):
             return self.leaf_contents_eq(type_)
-        if isinstance(type_, Use):
-            if isinstance(type_.definition, Enumeration):
-                return self.numbers_eq(type_.definition)
+        if isinstance(type_, Use) and not isinstance(type_.definition, Enumeration):
             return self.law(self.of_definition(type_.definition, "ContentsEq"), "contents_eq")
-        if isinstance(type_, Kept):
-            return f"({self.law(self.of_library('Kept', 'ContentsEq'), 'contents_eq')} _ _ _)"
+        return f"(λ v w. {self.contents_eq_at(type_, 'v', 'w')})"
+
+    def contents_eq_at(self, type_: Resolved, v: str, w: str) -> str:
+        """The same at two values."""
+        type_ = named(type_)
+        if isinstance(type_, Kept) or (isinstance(type_, Use) and isinstance(type_.definition, Enumeration)):
+            return f"(λ one. {self.decided(type_, v, w)})"
         if isinstance(type_, Listed):
-            items = self.items_eq(type_)
-            return items if type_.is_set else f"(λ v w. {items} v.items w.items)"
-        assert isinstance(type_, Tagged)
-        if type_.is_explicit:
-            inner = rust_type(self.source, type_.of)
-            starts, law = self.tagged_starts(type_.of), self.encoding_eq(type_.of)
-            alone = self.member_equality(inner, starts, law, self.word("no_equality"))
-            return f"(λ v w. {alone}.equal v.fields w.fields)"
-        return f"(λ v w. {self.contents_eq(type_.of)} v.value w.value)"
+            items = "" if type_.is_set else ".items"
+            return f"({self.items_eq(type_)} {v}{items} {w}{items})"
+        if not isinstance(type_, Tagged):
+            return f"({self.contents_eq(type_)} {v} {w})"
+        if not type_.is_explicit:
+            return self.contents_eq_at(type_.of, f"{v}.value", f"{w}.value")
+        inner = rust_type(self.source, type_.of)
+        starts, law = self.tagged_starts(type_.of), self.encoding_eq(type_.of)
+        alone = self.member_equality(inner, starts, law, self.word("no_equality"))
+        return f"({alone}.equal {v}.fields {w}.fields)"
+
+    def decided(self, type_: Resolved, v: str, w: str) -> str:
+        """That octets that are kept, or the numbers of names, are equal exactly where contents octets are."""
+        if isinstance(type_, Kept):
+            return f"{self.word('bytes_decides')} {v}.octets.octets.now {w}.octets.octets.now"
+        assert isinstance(type_, Use)
+        quoted = self.quote(self.source.use_type(type_.definition), "Enumeration")
+        number_of = f"{quoted}.{self.source.member('names')}.{self.source.member('number_of')}"
+        return f"{self.word('numbers_decide')} ({number_of} {v}.value) ({number_of} {w}.value)"
 
     def items_eq(self, type_: Listed) -> str:
         """The same of the items of a list, one after another."""
         item = type_.item
         law = self.encoding_eq(item)
         return f"({self.word('items_equality')} {self.form(item)} {self.has_tags(item)} {self.eq(item)} {law})"
-
-    def numbers_eq(self, definition: Enumeration) -> str:
-        """Of an ENUMERATED: two numbers are equal exactly where their octets are."""
-        quoted = self.quote(self.source.use_type(definition), "Enumeration")
-        number_of = f"{quoted}.{self.source.member('names')}.{self.source.member('number_of')}"
-        return f"(λ v w one. {self.word('numbers_decide')} ({number_of} v.value) ({number_of} w.value))"
 
     def leaf_contents_eq(self, leaf: Leaf) -> str:
         law = self.law(self.of_library(leaf_key(leaf), "ContentsEq"), "contents_eq")
@@ -225,7 +232,7 @@ class Laws:
             traits = [self.of_library(leaf_key(type_), trait) for trait in ("DuplicateValue", "DuplicateValueIsEqual")]
             return self.copies_of(traits[0], traits[1], False)
         if isinstance(type_, Kept) or (isinstance(type_, Use) and isinstance(type_.definition, Enumeration)):
-            return self.same(type_, f"(λ v. ({self.contents_eq(type_)} v v tt).1 {self.word('refl')})", False)
+            return self.same(type_, f"(λ v. ({self.decided(type_, 'v', 'v')}).1 {self.word('refl')})", False)
         if isinstance(type_, Use):
             if properties_of_definition(type_.definition).is_copy:
                 return self.same(type_, self.equal_to_itself(type_.definition), False)

@@ -12,7 +12,7 @@ from .laws import named
 from .names import ASN1
 from .plan import Plan
 from .source import Source
-from .types import lifetime_of, rust_type
+from .types import enumeration_of, lifetime_of, rust_type
 
 CLASS_WORDS = {one.value: word for one, word in CLASSES.items()}
 
@@ -112,7 +112,7 @@ def default_octets(source: Source, member: Member) -> str:
 def encoding(source: Source, type_: Resolved, value: str) -> str:
     """The encoding of a value after the tags of a type."""
     if not isinstance(type_, Tagged):
-        return f"(⟦<{rust_type(source, type_)} as Form>⟧.{source.member('encoding')} {value})"
+        return f"(⟦<{rust_type(source, type_)} as Form>⟧.{source.member('encoding')} {in_message(type_, value)})"
     place = f"{source.page_word(ASN1, CLASS_WORDS[type_.tag.tag_class])}"
     if type_.is_explicit:
         word = source.page_word(ASN1, "explicit_encoding")
@@ -122,11 +122,16 @@ def encoding(source: Source, type_: Resolved, value: str) -> str:
     return f"({word} {place} {form} {type_.tag.number} {contents_of(source, type_.of, value)})"
 
 
+def in_message(type_: Resolved, value: str) -> str:
+    """A value as it stands in a message: a name of a number is held by `Enumerated`."""
+    return value if enumeration_of(type_) is None else f"(record {{ value = {value} }})"
+
+
 def contents_of(source: Source, type_: Resolved, value: str) -> str:
     """The contents octets of a value after the tags of a type."""
     if not isinstance(type_, Tagged):
         form = f"⟦<{rust_type(source, type_)} as FormValue>⟧.{source.member('value')}"
-        return f"({form}.{source.member('contents')} {value})"
+        return f"({form}.{source.member('contents')} {in_message(type_, value)})"
     if type_.is_explicit:
         return f"({encoding(source, type_.of, value)} {source.word('++')} {source.word('[]')})"
     return contents_of(source, type_.of, value)

@@ -1,6 +1,6 @@
 -- The grammar of Shapes, in the words of ASN.1.
 -- Made by tools/asn1 from shapes.asn1.
-use Rattle.std.specs.Prelude.{◌∷◌, [], false, pos, true}
+use Rattle.std.specs.Prelude.{false, true}
 use Rattle.der_ascii.specs.Characters.{parse_string}
 use Rattle.der_bits.specs.BitString.{parse_bit_string}
 use Rattle.der_bits.specs.NamedBits.{parse_named_bits}
@@ -14,6 +14,7 @@ use Rattle.der_numbers.specs.AnyLength.{parse_integer, parse_natural}
 use Rattle.der_opaque.specs.AnyForm.{parse_any}
 use Rattle.der_opaque.specs.ObjectIdentifierOctets.{parse_identifier}
 use Rattle.der_opaque.specs.Opaque.{parse_octets}
+use Rattle.der_shapes.specs.Shapes.Reason.{all_of_reason, number_of_reason}
 use Rattle.der_time.specs.TimeReading.{parse_generalized, parse_utc}
 use Rattle.der_tlv.specs.HeaderOctets.{tlv}
 use Rattle.der_tlv.specs.TagParts.{is_constructed}
@@ -124,7 +125,7 @@ distinguished =
 --     superseded     (4) }
 abbrev pub reason : Grammar
 reason =
-    NAMED (pos 0 ∷ pos 1 ∷ pos 4 ∷ []) tags.Enumerated
+    NAMED number_of_reason all_of_reason tags.Enumerated
 
 -- Usage ::= BIT STRING {
 --     sign     (0),

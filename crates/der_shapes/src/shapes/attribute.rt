@@ -143,7 +143,7 @@ impl<'a> ContentsEq for Attribute<'a> {
         (member_equality ⟦<ItemSet<AnyRef<'a>, Values> as Form>⟧
         (tagged_starts ⟦<ItemSet<AnyRef<'a>, Values> as Form>⟧ (one_tag ⟦<SetTag as TagMarker>⟧.TAG ⟦<ItemSet<AnyRef<'a>, Values> as FormValue>⟧.value.contents))
         ⟦<ItemSet<AnyRef<'a>, Values> as PartialEq>⟧.eq
-        (one_tag_equality ⟦<SetTag as TagMarker>⟧.TAG ⟦<ItemSet<AnyRef<'a>, Values> as FormValue>⟧.value.contents ⟦<ItemSet<AnyRef<'a>, Values> as FormValue>⟧.value.comparable ⟦<ItemSet<AnyRef<'a>, Values> as PartialEq>⟧.eq (items_equality ⟦<AnyRef<'a> as Form>⟧ (own_tags ⟦<AnyRef<'a> as Form>⟧.tags ⟦<AnyRef<'a> as Form>⟧.first_tag_of ⟦<AnyRef<'a> as Form>⟧.encoding ⟦<AnyRef<'a> as Tagged>⟧.tag_of ⟦<AnyRef<'a> as FormValue>⟧.value.contents anyref_tagged.encoding_is-law anyref_tagged.own_tag-law anyref_tagged.first_tag_is-law) ⟦<AnyRef<'a> as PartialEq>⟧.eq anyref_encoding_eq.encoding_eq-law))
+        (one_tag_equality ⟦<SetTag as TagMarker>⟧.TAG ⟦<ItemSet<AnyRef<'a>, Values> as FormValue>⟧.value.contents ⟦<ItemSet<AnyRef<'a>, Values> as FormValue>⟧.value.comparable ⟦<ItemSet<AnyRef<'a>, Values> as PartialEq>⟧.eq (λ v w. ((items_equality ⟦<AnyRef<'a> as Form>⟧ (own_tags ⟦<AnyRef<'a> as Form>⟧.tags ⟦<AnyRef<'a> as Form>⟧.first_tag_of ⟦<AnyRef<'a> as Form>⟧.encoding ⟦<AnyRef<'a> as Tagged>⟧.tag_of ⟦<AnyRef<'a> as FormValue>⟧.value.contents anyref_tagged.encoding_is-law anyref_tagged.own_tag-law anyref_tagged.first_tag_is-law) ⟦<AnyRef<'a> as PartialEq>⟧.eq anyref_encoding_eq.encoding_eq-law) v w)))
         no_equality)).equal v.fields.list w.fields.list };
 }
 

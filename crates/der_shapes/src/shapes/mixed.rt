@@ -135,7 +135,7 @@ impl<'a> ContentsEq for Mixed<'a> {
         (member_equality ⟦<Implicit<IntRef<'a>, 1> as Form>⟧
         (tagged_starts ⟦<Implicit<IntRef<'a>, 1> as Form>⟧ (one_tag ⟦<ImplicitTag<IntegerTag, 1> as TagMarker>⟧.TAG ⟦<Implicit<IntRef<'a>, 1> as FormValue>⟧.value.contents))
         ⟦<Implicit<IntRef<'a>, 1> as PartialEq>⟧.eq
-        (one_tag_equality ⟦<ImplicitTag<IntegerTag, 1> as TagMarker>⟧.TAG ⟦<Implicit<IntRef<'a>, 1> as FormValue>⟧.value.contents ⟦<Implicit<IntRef<'a>, 1> as FormValue>⟧.value.comparable ⟦<Implicit<IntRef<'a>, 1> as PartialEq>⟧.eq (λ v w. intref_contents_eq.contents_eq-law v.value w.value))
+        (one_tag_equality ⟦<ImplicitTag<IntegerTag, 1> as TagMarker>⟧.TAG ⟦<Implicit<IntRef<'a>, 1> as FormValue>⟧.value.contents ⟦<Implicit<IntRef<'a>, 1> as FormValue>⟧.value.comparable ⟦<Implicit<IntRef<'a>, 1> as PartialEq>⟧.eq (λ v w. (intref_contents_eq.contents_eq-law v.value w.value)))
         no_equality))).equal v.fields.list w.fields.list };
 }
 

@@ -134,11 +134,11 @@ impl ContentsEq for Revoked {
         (member_equality ⟦<Option<Explicit<Enumerated<Reason>, 0>> as Form>⟧
         (optional_starts ⟦<Explicit<Enumerated<Reason>, 0> as Form>⟧ (one_tag ⟦<ExplicitTag<0> as TagMarker>⟧.TAG ⟦<Explicit<Enumerated<Reason>, 0> as FormValue>⟧.value.contents))
         ⟦<Option<Explicit<Enumerated<Reason>, 0>> as PartialEq>⟧.eq
-        (optional_equality ⟦<Explicit<Enumerated<Reason>, 0> as Form>⟧ (one_tag ⟦<ExplicitTag<0> as TagMarker>⟧.TAG ⟦<Explicit<Enumerated<Reason>, 0> as FormValue>⟧.value.contents) ⟦<Explicit<Enumerated<Reason>, 0> as PartialEq>⟧.eq (one_tag_equality ⟦<ExplicitTag<0> as TagMarker>⟧.TAG ⟦<Explicit<Enumerated<Reason>, 0> as FormValue>⟧.value.contents ⟦<Explicit<Enumerated<Reason>, 0> as FormValue>⟧.value.comparable ⟦<Explicit<Enumerated<Reason>, 0> as PartialEq>⟧.eq (λ v w. (member_equality ⟦<Enumerated<Reason> as Form>⟧
+        (optional_equality ⟦<Explicit<Enumerated<Reason>, 0> as Form>⟧ (one_tag ⟦<ExplicitTag<0> as TagMarker>⟧.TAG ⟦<Explicit<Enumerated<Reason>, 0> as FormValue>⟧.value.contents) ⟦<Explicit<Enumerated<Reason>, 0> as PartialEq>⟧.eq (one_tag_equality ⟦<ExplicitTag<0> as TagMarker>⟧.TAG ⟦<Explicit<Enumerated<Reason>, 0> as FormValue>⟧.value.contents ⟦<Explicit<Enumerated<Reason>, 0> as FormValue>⟧.value.comparable ⟦<Explicit<Enumerated<Reason>, 0> as PartialEq>⟧.eq (λ v w. ((member_equality ⟦<Enumerated<Reason> as Form>⟧
         (tagged_starts ⟦<Enumerated<Reason> as Form>⟧ (one_tag ⟦<EnumeratedTag as TagMarker>⟧.TAG ⟦<Enumerated<Reason> as FormValue>⟧.value.contents))
         ⟦<Enumerated<Reason> as PartialEq>⟧.eq
-        (one_tag_equality ⟦<EnumeratedTag as TagMarker>⟧.TAG ⟦<Enumerated<Reason> as FormValue>⟧.value.contents ⟦<Enumerated<Reason> as FormValue>⟧.value.comparable ⟦<Enumerated<Reason> as PartialEq>⟧.eq (λ v w one. numbers_decide (⟦<Reason as Enumeration>⟧.names.number_of v.value) (⟦<Reason as Enumeration>⟧.names.number_of w.value)))
-        no_equality).equal v.fields w.fields)))
+        (one_tag_equality ⟦<EnumeratedTag as TagMarker>⟧.TAG ⟦<Enumerated<Reason> as FormValue>⟧.value.contents ⟦<Enumerated<Reason> as FormValue>⟧.value.comparable ⟦<Enumerated<Reason> as PartialEq>⟧.eq (λ v w. (λ one. numbers_decide (⟦<Reason as Enumeration>⟧.names.number_of v.value) (⟦<Reason as Enumeration>⟧.names.number_of w.value))))
+        no_equality).equal v.fields w.fields))))
         no_equality)).equal v.fields.list w.fields.list };
 }
 
@@ -154,6 +154,6 @@ pub fn grammar_of_revoked()
 pub fn octets_of_revoked()
     ensures { (v : Revoked) → ⟦<Revoked as FormValue>⟧.value.contents v ≡ joined (
         (⟦<GeneralizedTime as Form>⟧.encoding (revoked_fields.time v))
-        ∷ optional (λ x. (explicit_encoding context 0 (⟦<Enumerated<Reason> as Form>⟧.encoding x))) (revoked_fields.reason v)
+        ∷ optional (λ x. (explicit_encoding context 0 (⟦<Enumerated<Reason> as Form>⟧.encoding (record { value = x })))) (revoked_fields.reason v)
         ∷ []) }
 {}

@@ -2,6 +2,7 @@
 //!
 //! Made by tools/asn1 from shapes.asn1.
 
+ghost use Rattle.std.specs.Cmp.Lexicographic.{bytes_decides};
 ghost use Rattle.std.specs.Prelude.{◌∷◌, ◌≡◌, [], false, refl, true};
 ghost use Rattle.der_bits.specs.contracts.bit_string_ref.BitStringRefContentsEq.TheImpl.Laws as bitstringref_contents_eq;
 ghost use Rattle.der_bits.specs.contracts.named_bits.NamedBitsRefContentsEq.TheImpl.Laws as namedbitsref_contents_eq;
@@ -9,7 +10,6 @@ ghost use Rattle.der_elem.specs.FormatMakers.{mapped_format};
 ghost use Rattle.der_elem.specs.contracts.integer.unsigned.U8ContentsEq.TheImpl.Laws as u8_contents_eq;
 ghost use Rattle.der_modules.specs.Asn1.{context, explicit_encoding, implicit_encoding, joined, optional, parse_of, unless_default};
 ghost use Rattle.der_modules.specs.MemberLaws.{copies_of, default_copies, default_equality, default_starts, held_copies, items_copies, items_equality, listed_copies, member_copies, member_equality, no_copies, no_equality, one_tag, one_tag_copies, one_tag_equality, optional_copies, optional_equality, optional_starts, own_tags, part_copies, part_equality, same_copies, tagged_starts};
-ghost use Rattle.der_nest.specs.contracts.kept.KeptContentsEq.TheImpl.Laws as kept_contents_eq;
 ghost use Rattle.der_numbers.specs.contracts.int_ref.IntRefContentsEq.TheImpl.Laws as intref_contents_eq;
 ghost use Rattle.der_shapes.specs.Shapes.Grammar.{signed};
 ghost use Rattle.der_shapes.specs.Shapes.Signed as signed_fields;
@@ -379,11 +379,11 @@ impl<'a> ContentsEq for Signed<'a> {
     ghost contents_eq = { λ v w. (member_equality ⟦<WithDefault<Explicit<SignedVersion, 0>, DefaultNumber<0>> as Form>⟧
         (default_starts ⟦<Explicit<SignedVersion, 0> as Form>⟧ (one_tag ⟦<ExplicitTag<0> as TagMarker>⟧.TAG ⟦<Explicit<SignedVersion, 0> as FormValue>⟧.value.contents) (λ x. x.value) ⟦<DefaultNumber<0> as DefaultOf<Explicit<SignedVersion, 0>>>⟧.octets)
         ⟦<WithDefault<Explicit<SignedVersion, 0>, DefaultNumber<0>> as PartialEq>⟧.eq
-        (default_equality ⟦<Explicit<SignedVersion, 0> as Form>⟧ (one_tag ⟦<ExplicitTag<0> as TagMarker>⟧.TAG ⟦<Explicit<SignedVersion, 0> as FormValue>⟧.value.contents) (λ x. x.value) ⟦<DefaultNumber<0> as DefaultOf<Explicit<SignedVersion, 0>>>⟧.octets ⟦<Explicit<SignedVersion, 0> as PartialEq>⟧.eq (one_tag_equality ⟦<ExplicitTag<0> as TagMarker>⟧.TAG ⟦<Explicit<SignedVersion, 0> as FormValue>⟧.value.contents ⟦<Explicit<SignedVersion, 0> as FormValue>⟧.value.comparable ⟦<Explicit<SignedVersion, 0> as PartialEq>⟧.eq (λ v w. (member_equality ⟦<SignedVersion as Form>⟧
+        (default_equality ⟦<Explicit<SignedVersion, 0> as Form>⟧ (one_tag ⟦<ExplicitTag<0> as TagMarker>⟧.TAG ⟦<Explicit<SignedVersion, 0> as FormValue>⟧.value.contents) (λ x. x.value) ⟦<DefaultNumber<0> as DefaultOf<Explicit<SignedVersion, 0>>>⟧.octets ⟦<Explicit<SignedVersion, 0> as PartialEq>⟧.eq (one_tag_equality ⟦<ExplicitTag<0> as TagMarker>⟧.TAG ⟦<Explicit<SignedVersion, 0> as FormValue>⟧.value.contents ⟦<Explicit<SignedVersion, 0> as FormValue>⟧.value.comparable ⟦<Explicit<SignedVersion, 0> as PartialEq>⟧.eq (λ v w. ((member_equality ⟦<SignedVersion as Form>⟧
         (tagged_starts ⟦<SignedVersion as Form>⟧ (one_tag ⟦<IntegerTag as TagMarker>⟧.TAG ⟦<u8 as FormValue>⟧.value.contents))
         ⟦<SignedVersion as PartialEq>⟧.eq
         (one_tag_equality ⟦<IntegerTag as TagMarker>⟧.TAG ⟦<u8 as FormValue>⟧.value.contents ⟦<u8 as FormValue>⟧.value.comparable ⟦<u8 as PartialEq>⟧.eq u8_contents_eq.contents_eq-law)
-        no_equality).equal v.fields w.fields)))
+        no_equality).equal v.fields w.fields))))
         (member_equality ⟦<IntRef<'a> as Form>⟧
         (tagged_starts ⟦<IntRef<'a> as Form>⟧ (one_tag ⟦<IntegerTag as TagMarker>⟧.TAG ⟦<IntRef<'a> as FormValue>⟧.value.contents))
         ⟦<IntRef<'a> as PartialEq>⟧.eq
@@ -395,7 +395,7 @@ impl<'a> ContentsEq for Signed<'a> {
         (member_equality ⟦<Kept<'a, Distinguished<'a>> as Form>⟧
         (tagged_starts ⟦<Kept<'a, Distinguished<'a>> as Form>⟧ (one_tag ⟦<SequenceTag as TagMarker>⟧.TAG ⟦<Kept<'a, Distinguished<'a>> as FormValue>⟧.value.contents))
         ⟦<Kept<'a, Distinguished<'a>> as PartialEq>⟧.eq
-        (one_tag_equality ⟦<SequenceTag as TagMarker>⟧.TAG ⟦<Kept<'a, Distinguished<'a>> as FormValue>⟧.value.contents ⟦<Kept<'a, Distinguished<'a>> as FormValue>⟧.value.comparable ⟦<Kept<'a, Distinguished<'a>> as PartialEq>⟧.eq (kept_contents_eq.contents_eq-law _ _ _))
+        (one_tag_equality ⟦<SequenceTag as TagMarker>⟧.TAG ⟦<Kept<'a, Distinguished<'a>> as FormValue>⟧.value.contents ⟦<Kept<'a, Distinguished<'a>> as FormValue>⟧.value.comparable ⟦<Kept<'a, Distinguished<'a>> as PartialEq>⟧.eq (λ v w. (λ one. bytes_decides v.octets.octets.now w.octets.octets.now)))
         (member_equality ⟦<UtcTime as Form>⟧
         (tagged_starts ⟦<UtcTime as Form>⟧ (one_tag ⟦<UtcTimeTag as TagMarker>⟧.TAG ⟦<UtcTime as FormValue>⟧.value.contents))
         ⟦<UtcTime as PartialEq>⟧.eq
@@ -415,19 +415,19 @@ impl<'a> ContentsEq for Signed<'a> {
         (part_equality (λ x. x.list) (member_equality ⟦<Option<Implicit<Usage<'a>, 1>> as Form>⟧
         (optional_starts ⟦<Implicit<Usage<'a>, 1> as Form>⟧ (one_tag ⟦<ImplicitTag<BitStringTag, 1> as TagMarker>⟧.TAG ⟦<Implicit<Usage<'a>, 1> as FormValue>⟧.value.contents))
         ⟦<Option<Implicit<Usage<'a>, 1>> as PartialEq>⟧.eq
-        (optional_equality ⟦<Implicit<Usage<'a>, 1> as Form>⟧ (one_tag ⟦<ImplicitTag<BitStringTag, 1> as TagMarker>⟧.TAG ⟦<Implicit<Usage<'a>, 1> as FormValue>⟧.value.contents) ⟦<Implicit<Usage<'a>, 1> as PartialEq>⟧.eq (one_tag_equality ⟦<ImplicitTag<BitStringTag, 1> as TagMarker>⟧.TAG ⟦<Implicit<Usage<'a>, 1> as FormValue>⟧.value.contents ⟦<Implicit<Usage<'a>, 1> as FormValue>⟧.value.comparable ⟦<Implicit<Usage<'a>, 1> as PartialEq>⟧.eq (λ v w. namedbitsref_contents_eq.contents_eq-law v.value w.value)))
+        (optional_equality ⟦<Implicit<Usage<'a>, 1> as Form>⟧ (one_tag ⟦<ImplicitTag<BitStringTag, 1> as TagMarker>⟧.TAG ⟦<Implicit<Usage<'a>, 1> as FormValue>⟧.value.contents) ⟦<Implicit<Usage<'a>, 1> as PartialEq>⟧.eq (one_tag_equality ⟦<ImplicitTag<BitStringTag, 1> as TagMarker>⟧.TAG ⟦<Implicit<Usage<'a>, 1> as FormValue>⟧.value.contents ⟦<Implicit<Usage<'a>, 1> as FormValue>⟧.value.comparable ⟦<Implicit<Usage<'a>, 1> as PartialEq>⟧.eq (λ v w. (namedbitsref_contents_eq.contents_eq-law v.value w.value))))
         (member_equality ⟦<Option<Implicit<Vec<Status>, 2>> as Form>⟧
         (optional_starts ⟦<Implicit<Vec<Status>, 2> as Form>⟧ (one_tag ⟦<ImplicitTag<SequenceTag, 2> as TagMarker>⟧.TAG ⟦<Implicit<Vec<Status>, 2> as FormValue>⟧.value.contents))
         ⟦<Option<Implicit<Vec<Status>, 2>> as PartialEq>⟧.eq
-        (optional_equality ⟦<Implicit<Vec<Status>, 2> as Form>⟧ (one_tag ⟦<ImplicitTag<SequenceTag, 2> as TagMarker>⟧.TAG ⟦<Implicit<Vec<Status>, 2> as FormValue>⟧.value.contents) ⟦<Implicit<Vec<Status>, 2> as PartialEq>⟧.eq (one_tag_equality ⟦<ImplicitTag<SequenceTag, 2> as TagMarker>⟧.TAG ⟦<Implicit<Vec<Status>, 2> as FormValue>⟧.value.contents ⟦<Implicit<Vec<Status>, 2> as FormValue>⟧.value.comparable ⟦<Implicit<Vec<Status>, 2> as PartialEq>⟧.eq (λ v w. (λ v w. (items_equality ⟦<Status as Form>⟧ (own_tags ⟦<Status as Form>⟧.tags ⟦<Status as Form>⟧.first_tag_of ⟦<Status as Form>⟧.encoding ⟦<Status as Tagged>⟧.tag_of ⟦<Status as FormValue>⟧.value.contents status_tagged.encoding_is-law status_tagged.own_tag-law status_tagged.first_tag_is-law) ⟦<Status as PartialEq>⟧.eq status_encoding_eq.encoding_eq-law) v.items w.items) v.value w.value)))
+        (optional_equality ⟦<Implicit<Vec<Status>, 2> as Form>⟧ (one_tag ⟦<ImplicitTag<SequenceTag, 2> as TagMarker>⟧.TAG ⟦<Implicit<Vec<Status>, 2> as FormValue>⟧.value.contents) ⟦<Implicit<Vec<Status>, 2> as PartialEq>⟧.eq (one_tag_equality ⟦<ImplicitTag<SequenceTag, 2> as TagMarker>⟧.TAG ⟦<Implicit<Vec<Status>, 2> as FormValue>⟧.value.contents ⟦<Implicit<Vec<Status>, 2> as FormValue>⟧.value.comparable ⟦<Implicit<Vec<Status>, 2> as PartialEq>⟧.eq (λ v w. ((items_equality ⟦<Status as Form>⟧ (own_tags ⟦<Status as Form>⟧.tags ⟦<Status as Form>⟧.first_tag_of ⟦<Status as Form>⟧.encoding ⟦<Status as Tagged>⟧.tag_of ⟦<Status as FormValue>⟧.value.contents status_tagged.encoding_is-law status_tagged.own_tag-law status_tagged.first_tag_is-law) ⟦<Status as PartialEq>⟧.eq status_encoding_eq.encoding_eq-law) v.value.items w.value.items))))
         (member_equality ⟦<Option<Explicit<Extensions<'a>, 3>> as Form>⟧
         (optional_starts ⟦<Explicit<Extensions<'a>, 3> as Form>⟧ (one_tag ⟦<ExplicitTag<3> as TagMarker>⟧.TAG ⟦<Explicit<Extensions<'a>, 3> as FormValue>⟧.value.contents))
         ⟦<Option<Explicit<Extensions<'a>, 3>> as PartialEq>⟧.eq
-        (optional_equality ⟦<Explicit<Extensions<'a>, 3> as Form>⟧ (one_tag ⟦<ExplicitTag<3> as TagMarker>⟧.TAG ⟦<Explicit<Extensions<'a>, 3> as FormValue>⟧.value.contents) ⟦<Explicit<Extensions<'a>, 3> as PartialEq>⟧.eq (one_tag_equality ⟦<ExplicitTag<3> as TagMarker>⟧.TAG ⟦<Explicit<Extensions<'a>, 3> as FormValue>⟧.value.contents ⟦<Explicit<Extensions<'a>, 3> as FormValue>⟧.value.comparable ⟦<Explicit<Extensions<'a>, 3> as PartialEq>⟧.eq (λ v w. (member_equality ⟦<Extensions<'a> as Form>⟧
+        (optional_equality ⟦<Explicit<Extensions<'a>, 3> as Form>⟧ (one_tag ⟦<ExplicitTag<3> as TagMarker>⟧.TAG ⟦<Explicit<Extensions<'a>, 3> as FormValue>⟧.value.contents) ⟦<Explicit<Extensions<'a>, 3> as PartialEq>⟧.eq (one_tag_equality ⟦<ExplicitTag<3> as TagMarker>⟧.TAG ⟦<Explicit<Extensions<'a>, 3> as FormValue>⟧.value.contents ⟦<Explicit<Extensions<'a>, 3> as FormValue>⟧.value.comparable ⟦<Explicit<Extensions<'a>, 3> as PartialEq>⟧.eq (λ v w. ((member_equality ⟦<Extensions<'a> as Form>⟧
         (tagged_starts ⟦<Extensions<'a> as Form>⟧ (one_tag ⟦<SequenceTag as TagMarker>⟧.TAG ⟦<Extensions<'a> as FormValue>⟧.value.contents))
         ⟦<Extensions<'a> as PartialEq>⟧.eq
         (one_tag_equality ⟦<SequenceTag as TagMarker>⟧.TAG ⟦<Extensions<'a> as FormValue>⟧.value.contents ⟦<Extensions<'a> as FormValue>⟧.value.comparable ⟦<Extensions<'a> as PartialEq>⟧.eq extensions_contents_eq.contents_eq-law)
-        no_equality).equal v.fields w.fields)))
+        no_equality).equal v.fields w.fields))))
         no_equality)))))))))))).equal v.fields.list w.fields.list };
 }
 
@@ -447,7 +447,7 @@ impl<'a> CopyLaws for Signed<'a> {
         (one_tag_copies ⟦<SequenceTag as TagMarker>⟧.TAG (same_copies ⟦<Algorithm<'a> as FormValue>⟧.value.contents ⟦<Algorithm<'a> as FormValue>⟧.value.comparable ⟦<Algorithm<'a> as FormValue>⟧.value.re_reads ⟦<Algorithm<'a> as PartialEq>⟧.eq algorithm_eq.laws-law.refl))
         (member_copies ⟦<Kept<'a, Distinguished<'a>> as Form>⟧
         (tagged_starts ⟦<Kept<'a, Distinguished<'a>> as Form>⟧ (one_tag ⟦<SequenceTag as TagMarker>⟧.TAG ⟦<Kept<'a, Distinguished<'a>> as FormValue>⟧.value.contents))
-        (one_tag_copies ⟦<SequenceTag as TagMarker>⟧.TAG (same_copies ⟦<Kept<'a, Distinguished<'a>> as FormValue>⟧.value.contents ⟦<Kept<'a, Distinguished<'a>> as FormValue>⟧.value.comparable ⟦<Kept<'a, Distinguished<'a>> as FormValue>⟧.value.re_reads ⟦<Kept<'a, Distinguished<'a>> as PartialEq>⟧.eq (λ v. ((kept_contents_eq.contents_eq-law _ _ _) v v tt).1 refl)))
+        (one_tag_copies ⟦<SequenceTag as TagMarker>⟧.TAG (same_copies ⟦<Kept<'a, Distinguished<'a>> as FormValue>⟧.value.contents ⟦<Kept<'a, Distinguished<'a>> as FormValue>⟧.value.comparable ⟦<Kept<'a, Distinguished<'a>> as FormValue>⟧.value.re_reads ⟦<Kept<'a, Distinguished<'a>> as PartialEq>⟧.eq (λ v. (bytes_decides v.octets.octets.now v.octets.octets.now).1 refl)))
         (member_copies ⟦<UtcTime as Form>⟧
         (tagged_starts ⟦<UtcTime as Form>⟧ (one_tag ⟦<UtcTimeTag as TagMarker>⟧.TAG ⟦<UtcTime as FormValue>⟧.value.contents))
         (one_tag_copies ⟦<UtcTimeTag as TagMarker>⟧.TAG (same_copies ⟦<UtcTime as FormValue>⟧.value.contents ⟦<UtcTime as FormValue>⟧.value.comparable ⟦<UtcTime as FormValue>⟧.value.re_reads ⟦<UtcTime as PartialEq>⟧.eq (λ v. (utctime_contents_eq.contents_eq-law v v tt).1 refl)))

@@ -228,10 +228,10 @@ impl EncodingEq for Status {
         (one_tag ⟦<ImplicitTag<NullTag, 0> as TagMarker>⟧.TAG ⟦<Implicit<Null, 0> as FormValue>⟧.value.contents)
         (one_tag ⟦<ImplicitTag<SequenceTag, 1> as TagMarker>⟧.TAG ⟦<Implicit<Revoked, 1> as FormValue>⟧.value.contents)
         ⟦<Implicit<Null, 0> as PartialEq>⟧.eq ⟦<Implicit<Revoked, 1> as PartialEq>⟧.eq
-        (one_tag_equality ⟦<ImplicitTag<NullTag, 0> as TagMarker>⟧.TAG ⟦<Implicit<Null, 0> as FormValue>⟧.value.contents ⟦<Implicit<Null, 0> as FormValue>⟧.value.comparable ⟦<Implicit<Null, 0> as PartialEq>⟧.eq (λ v w. null_contents_eq.contents_eq-law v.value w.value))
-        (one_tag_equality ⟦<ImplicitTag<SequenceTag, 1> as TagMarker>⟧.TAG ⟦<Implicit<Revoked, 1> as FormValue>⟧.value.contents ⟦<Implicit<Revoked, 1> as FormValue>⟧.value.comparable ⟦<Implicit<Revoked, 1> as PartialEq>⟧.eq (λ v w. revoked_contents_eq.contents_eq-law v.value w.value))
+        (one_tag_equality ⟦<ImplicitTag<NullTag, 0> as TagMarker>⟧.TAG ⟦<Implicit<Null, 0> as FormValue>⟧.value.contents ⟦<Implicit<Null, 0> as FormValue>⟧.value.comparable ⟦<Implicit<Null, 0> as PartialEq>⟧.eq (λ v w. (null_contents_eq.contents_eq-law v.value w.value)))
+        (one_tag_equality ⟦<ImplicitTag<SequenceTag, 1> as TagMarker>⟧.TAG ⟦<Implicit<Revoked, 1> as FormValue>⟧.value.contents ⟦<Implicit<Revoked, 1> as FormValue>⟧.value.comparable ⟦<Implicit<Revoked, 1> as PartialEq>⟧.eq (λ v w. (revoked_contents_eq.contents_eq-law v.value w.value)))
         ⟦<OneOf<Implicit<Null, 0>, Implicit<Revoked, 1>> as PartialEq>⟧.eq (λ v x. refl) (λ w y. refl) (λ v w. refl) (λ w v. refl))
-        (one_tag_equality ⟦<ImplicitTag<NullTag, 2> as TagMarker>⟧.TAG ⟦<Implicit<Null, 2> as FormValue>⟧.value.contents ⟦<Implicit<Null, 2> as FormValue>⟧.value.comparable ⟦<Implicit<Null, 2> as PartialEq>⟧.eq (λ v w. null_contents_eq.contents_eq-law v.value w.value))
+        (one_tag_equality ⟦<ImplicitTag<NullTag, 2> as TagMarker>⟧.TAG ⟦<Implicit<Null, 2> as FormValue>⟧.value.contents ⟦<Implicit<Null, 2> as FormValue>⟧.value.comparable ⟦<Implicit<Null, 2> as PartialEq>⟧.eq (λ v w. (null_contents_eq.contents_eq-law v.value w.value)))
         ⟦<OneOf<OneOf<Implicit<Null, 0>, Implicit<Revoked, 1>>, Implicit<Null, 2>> as PartialEq>⟧.eq (λ v x. refl) (λ w y. refl) (λ v w. refl) (λ w v. refl)) };
 }
 
