@@ -54,12 +54,7 @@ fn told(alloc: Global, octets: &[u8]) -> Result<(i64, bool, usize, usize), u8> {
                 Some(extensions) => extensions.as_slice().len(),
                 None => 0,
             };
-            Ok((
-                signed.version() as i64,
-                encrypts,
-                statuses,
-                extensions,
-            ))
+            Ok((signed.version() as i64, encrypts, statuses, extensions))
         }
         Err(e) => Err(e.kind().number()),
     }

@@ -1,6 +1,6 @@
 //! The order, equality and copies of values, and sets that are put in order.
 
-use super::{compared, holds, is_copied, same};
+use super::{again, compared, holds, is_copied, same};
 use der_elem::FromDer;
 use der_nest::ItemSet;
 use der_shapes::shapes::{General, GeneralOrder, Generals, Status};
@@ -42,10 +42,23 @@ fn a_set_of_a_choice_is_put_in_order(rt: HostRuntime) -> Result<(), Fail> {
     let number = hex::decode(alloc, "91020102")?;
     let good = hex::decode(alloc, "8000")?;
     let mut set: ItemSet<General, GeneralOrder> = ItemSet::new(alloc);
-    holds(&rt, set.insert(general_of(alloc, number.as_slice())?).is_ok());
+    holds(
+        &rt,
+        set.insert(general_of(alloc, number.as_slice())?).is_ok(),
+    );
     holds(&rt, set.insert(general_of(alloc, good.as_slice())?).is_ok());
     let generals = Generals::new(set);
     same(&rt, generals.as_slice().len(), 2);
     holds(&rt, is_copied(&generals));
+    Ok(())
+}
+
+#[test]
+fn items_that_come_out_of_order_are_put_in_order(rt: HostRuntime) -> Result<(), Fail> {
+    let alloc = rt.alloc();
+    let octets = hex::decode(alloc, "310482008000")?;
+    let in_order = hex::decode(alloc, "310480008200")?;
+    let written = again::<Generals>(alloc, octets.as_slice())?;
+    same(&rt, written.as_slice(), in_order.as_slice());
     Ok(())
 }

@@ -64,10 +64,7 @@ fn signed_again(alloc: Global, octets: &[u8]) -> Result<Vec<u8>, u8> {
 #[test]
 fn algorithm_is_read_and_written_back(rt: HostRuntime) -> Result<(), Fail> {
     let alloc = rt.alloc();
-    let rows = [
-        "300506032b6570",
-        "300d06092a864886f70d01010b0500",
-    ];
+    let rows = ["300506032b6570", "300d06092a864886f70d01010b0500"];
     for digits in rows {
         let octets = hex::decode(alloc, digits)?;
         let written = algorithm_again(alloc, octets.as_slice())?;
@@ -94,9 +91,7 @@ fn extension_is_read_and_written_back(rt: HostRuntime) -> Result<(), Fail> {
 #[test]
 fn extensions_is_read_and_written_back(rt: HostRuntime) -> Result<(), Fail> {
     let alloc = rt.alloc();
-    let rows = [
-        "301c300e0603551d0f0101ff040403020106300a0603551d0e0403040107",
-    ];
+    let rows = ["301c300e0603551d0f0101ff040403020106300a0603551d0e0403040107"];
     for digits in rows {
         let octets = hex::decode(alloc, digits)?;
         let written = extensions_again(alloc, octets.as_slice())?;
@@ -108,10 +103,7 @@ fn extensions_is_read_and_written_back(rt: HostRuntime) -> Result<(), Fail> {
 #[test]
 fn attribute_is_read_and_written_back(rt: HostRuntime) -> Result<(), Fail> {
     let alloc = rt.alloc();
-    let rows = [
-        "300f06032a8648310802010504000c0161",
-        "300706032a86483100",
-    ];
+    let rows = ["300f06032a8648310802010504000c0161", "300706032a86483100"];
     for digits in rows {
         let octets = hex::decode(alloc, digits)?;
         let written = attribute_again(alloc, octets.as_slice())?;
@@ -123,9 +115,7 @@ fn attribute_is_read_and_written_back(rt: HostRuntime) -> Result<(), Fail> {
 #[test]
 fn relative_is_read_and_written_back(rt: HostRuntime) -> Result<(), Fail> {
     let alloc = rt.alloc();
-    let rows = [
-        "3115300806035504030c01613009060355040613024151",
-    ];
+    let rows = ["3115300806035504030c01613009060355040613024151"];
     for digits in rows {
         let octets = hex::decode(alloc, digits)?;
         let written = relative_again(alloc, octets.as_slice())?;
@@ -230,9 +220,7 @@ fn subtree_is_read_and_written_back(rt: HostRuntime) -> Result<(), Fail> {
 #[test]
 fn mixed_is_read_and_written_back(rt: HostRuntime) -> Result<(), Fail> {
     let alloc = rt.alloc();
-    let rows = [
-        "310a0101ff02018081020100",
-    ];
+    let rows = ["310a0101ff02018081020100"];
     for digits in rows {
         let octets = hex::decode(alloc, digits)?;
         let written = mixed_again(alloc, octets.as_slice())?;
