@@ -1,5 +1,5 @@
 -- The words of ASN.1 (X.680), each as what the octets of its type are read as (X.690): the grammar of a module is written in them.
-use Rattle.std.specs.Prelude.{◌≡◌, ℕ, List, [], ◌∷◌, ◌++◌, Bool, true, false, ◌||◌, Option, Some, None, ℤ, refl}
+use Rattle.std.specs.Prelude.{◌≡◌, ℕ, List, [], ◌∷◌, ◌++◌, Bool, true, ◌||◌, Option, Some, None, ℤ, refl}
 use Rattle.std.specs.Option.{option_map}
 use Rattle.der_tlv.specs.declared.tag.Tag.{Tag}
 use Rattle.der_tlv.specs.declared.tag.Tag.TheVariants as tags

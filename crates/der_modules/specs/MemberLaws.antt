@@ -2,7 +2,7 @@
 use Rattle.std.specs.List.{list_any}
 use Rattle.std.specs.Option.{option_eq}
 use Rattle.std.specs.Cmp.Lexicographic.{pointwise}
-use Rattle.std.proofs.Common.{◌≡◌, ℕ, List, ◌++◌, flat_map, Bool, true, false, ◌&&◌, ◌||◌, Option, Some, refl, sym, ap, ◌∙◌, subst, IsTrue, ◌↔◌}
+use Rattle.std.proofs.Common.{◌≡◌, ℕ, List, flat_map, Bool, true, false, ◌||◌, Option, Some, refl, sym, ap, ◌∙◌, subst, IsTrue, ◌↔◌}
 use Rattle.std.proofs.lemmas.Bool.{and_from}
 use Rattle.der_tlv.specs.declared.tag.Tag.{Tag}
 use Rattle.der_tlv.specs.OctetLaws.{SameBeginning}
@@ -18,8 +18,6 @@ use Rattle.der_elem.specs.EqualityLaws.{items_eq}
 use Rattle.der_elem.specs.Options.{first_tag_option, encoding_option, comparable_option, test_option, is_copy_option}
 use Rattle.der_elem.specs.OptionLaws.{encoding_eq_option, copy_encoding_option, copy_comparable_option, copy_re_reads_option, copy_is_equal_option}
 use Rattle.der_elem.specs.TaggedLaws.{encoding_eq_tagged}
-use Rattle.der_fields.specs.declared.end.End.{End}
-use Rattle.der_fields.specs.declared.field.Field.{Field}
 use Rattle.der_fields.specs.declared.one_of.OneOf.{OneOf}
 use Rattle.der_fields.specs.declared.one_of.OneOf.TheVariants.{First, Other}
 use Rattle.der_fields.specs.Alternatives.{of_one, ComparableOne, IsCopyOne}
@@ -27,7 +25,7 @@ use Rattle.der_fields.specs.AlternativeLaws.{encoding_is_one, own_tag_one, first
 use Rattle.der_fields.specs.Defaults.{is_default, octets_unless, first_tag_unless, test_unless}
 use Rattle.der_fields.specs.DefaultLaws.{own_first_tag_default, starts_default, beginning_default, encoding_eq_default}
 use Rattle.der_fields.specs.FieldsFormat.{FieldsFormat}
-use Rattle.der_fields.specs.FieldSteps.{both, equal_fields, ListEquality, ListCopies, ListStarts, equality_step, copies_step, rest_copies, rest_equality}
+use Rattle.der_fields.specs.FieldSteps.{both, equal_fields, ListEquality, ListCopies, equality_step, copies_step, rest_copies, rest_equality}
 use Rattle.der_fields.specs.ListMakers.{end_list, field_list, part_of}
 
 -- comparable values are equal exactly where their octets are
