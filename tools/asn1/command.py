@@ -15,7 +15,7 @@ from .writer.crate import MARK, files_of_crate
 from .writer.orders import items_of_sets
 from .writer.plan import Plan, Target
 
-LIST = "asn1/crates.txt"
+LIST = "asn1/modules.txt"
 ROOTS = ("src/lib.rt", "specs/Lib.antt")
 
 

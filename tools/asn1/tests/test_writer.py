@@ -122,7 +122,7 @@ class Files(unittest.TestCase):
             top = Path(folder)
             (top / "asn1").mkdir()
             (top / "asn1" / "snmp.asn1").write_text(standard("SNMPv2-PDU"), encoding="utf-8")
-            listed = str(top / "asn1" / "crates.txt")
+            listed = str(top / "asn1" / "modules.txt")
             Path(listed).write_text("# what is written\nder_test: snmp=snmp.asn1\n", encoding="utf-8")
             self.assertEqual([main([listed]), main([listed, "--check"])], [0, 0])
             source = top / "crates" / "der_test" / "src"
@@ -137,10 +137,10 @@ class Files(unittest.TestCase):
 
     def test_a_list_that_is_not_understood(self) -> None:
         with tempfile.TemporaryDirectory() as folder, redirect_stderr(io.StringIO()) as said:
-            listed = Path(folder) / "crates.txt"
+            listed = Path(folder) / "modules.txt"
             listed.write_text("der_test = snmp.asn1\n", encoding="utf-8")
             self.assertEqual(main([str(listed)]), 1)
-            self.assertIn("crates.txt:1:1: error: this line names no crate and its modules", said.getvalue())
+            self.assertIn("modules.txt:1:1: error: this line names no crate and its modules", said.getvalue())
             listed.write_text("der_test: snmp=snmp.asn1\n", encoding="utf-8")
             self.assertEqual(main([str(listed)]), 1)
             self.assertIn("snmp.asn1: No such file or directory", said.getvalue())
