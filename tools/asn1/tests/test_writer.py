@@ -101,6 +101,63 @@ class Grammars(unittest.TestCase):
         self.assertEqual(found["IA5_STRING"], "one tags.Ia5String (parse_string 22)")
 
 
+class Shapes(unittest.TestCase):
+    """What stands in a field for each shape of type."""
+
+    def field_of(self, body: str, tags: str = "IMPLICIT TAGS") -> str:
+        """The first field of the type A, in its list."""
+        text = written(module_of(body, tags))["src/test/a.rt"]
+        found = re.search(r"^type Fields(?:<'a>)? = Fields1<(.*)>;$", text, re.M)
+        assert found is not None
+        return found[1]
+
+    def test_sets(self) -> None:
+        of_any = self.field_of("A ::= SEQUENCE { a SET OF ANY }")
+        self.assertEqual(of_any, "ItemSet<AnyRef<'a>, Values>")
+        of_choice = "A ::= SEQUENCE { a SET OF B }\nB ::= CHOICE { x NULL, y BOOLEAN }"
+        self.assertEqual(self.field_of(of_choice), "ItemSet<B, BOrder>")
+        self.assertIn("impl ItemOrder<B> for BOrder {", written(module_of(of_choice))["src/test/b.rt"])
+        of_octets = "A ::= SEQUENCE { a SET OF OCTET STRING }"
+        self.assertEqual(self.field_of(of_octets), "ItemSet<OctetStringRef<'a>, OctetStringRefOrder>")
+        orders = written(module_of(of_octets))["src/test/orders.rt"]
+        self.assertIn("impl<'a> ItemOrder<OctetStringRef<'a>> for OctetStringRefOrder {", orders)
+
+    def test_lists_of_one_item_or_more(self) -> None:
+        self.assertEqual(self.field_of("A ::= SEQUENCE { a SEQUENCE SIZE (1..MAX) OF NULL }"), "NonEmpty<Vec<Null>>")
+        self.assertEqual(grammar("A ::= SEQUENCE SIZE (1..MAX) OF NULL")["a"], "NOT_EMPTY (SEQUENCE_OF NULL)")
+
+    def test_names_of_numbers(self) -> None:
+        body = "A ::= SEQUENCE { a B }\nB ::= ENUMERATED { x(0), y(-3) }"
+        self.assertEqual(self.field_of(body), "Enumerated<B>")
+        found = written(module_of(body))
+        self.assertIn("    pub fn a(&self) -> B\n", found["src/test/a.rt"])
+        self.assertIn("            -3 => Some(B::Y),\n", found["src/test/b.rt"])
+        self.assertIn("number_of_b Y = negsuc 2", found["specs/Test/B.antt"])
+        self.assertEqual(grammar(body)["b"], "NAMED number_of_b all_of_b tags.Enumerated")
+
+    def test_names_of_bits(self) -> None:
+        body = "A ::= SEQUENCE { a B }\nB ::= BIT STRING { x(0), y(2) }"
+        aliases = written(module_of(body))["src/test/aliases.rt"]
+        self.assertIn("pub type B<'a> = NamedBitsRef<'a>;", aliases)
+        self.assertIn("pub const B_Y: usize = 2;", aliases)
+
+    def test_what_is_kept(self) -> None:
+        body = "A ::= SEQUENCE { a B -- @kept\n}\nB ::= SEQUENCE { x NULL }"
+        self.assertEqual(self.field_of(body), "Kept<'a, B>")
+        self.assertIn("    pub fn a(&self) -> &Kept<'a, B>\n", written(module_of(body))["src/test/a.rt"])
+
+    def test_defaults_after_tags(self) -> None:
+        body = "A ::= SEQUENCE { a [0] BOOLEAN DEFAULT FALSE }"
+        self.assertEqual(self.field_of(body), "WithDefault<Implicit<bool, 0>, DefaultFalse>")
+        self.assertEqual(self.field_of(body, ""), "WithDefault<Explicit<bool, 0>, DefaultFalse>")
+
+    def test_a_type_stands_with_its_laws(self) -> None:
+        found = written(module_of("A ::= SEQUENCE { a NULL }\nB ::= CHOICE { x NULL, y BOOLEAN }"))
+        self.assertIn("pub fn grammar_of_a()", found["src/test/a.rt"])
+        self.assertIn("pub fn octets_of_a()", found["src/test/a.rt"])
+        self.assertIn("pub use crate::test::b::grammar_of_b;", found["src/test/laws.rt"])
+
+
 class Files(unittest.TestCase):
     def test_a_name_that_the_files_use_is_refused(self) -> None:
         with self.assertRaises(AsnError) as caught:
