@@ -154,6 +154,7 @@ class Definition:
     text: str  # as the module has it; empty for an inner type
     remarks: list[str] = field(default_factory=list)
     origin: tuple[Env, Type] | None = None  # what it is made from
+    by_hand: tuple[str, ...] = ()  # the crate, the files and the name of a type that is not written
 
     def __hash__(self) -> int:
         return id(self)

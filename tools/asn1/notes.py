@@ -21,6 +21,7 @@ KNOWN: dict[str, tuple[str | None, str]] = {
     "name": (r"[A-Za-z][A-Za-z0-9_]*", "its name in Rattle"),
     "type": (r"[A-Z][A-Za-z0-9]*", "the name in Rattle of the type that is written out here"),
     "omit": (None, "it is not written"),
+    "rust": (r"[a-z][a-z0-9_]*(::[a-z][a-z0-9_]*)*::[A-Z][A-Za-z0-9]*", "the type that a crate has for it, by its file"),
 }
 
 

@@ -77,6 +77,9 @@ def assigned(state: State, env: Env, assignment: TypeAssignment) -> Definition:
     rust = notes.argument("name") or camel(assignment.name)
     context = Context(state, env, env.scope.module.name, rust, notes, [])
     found = define(context, assignment.name, assignment.text, assignment.type)
+    if not isinstance(found, Alias):
+        found.by_hand = tuple((notes.argument("rust") or "").split("::")) if notes.has("rust") else ()
+        found.rust = found.by_hand[-1] if found.by_hand else found.rust
     notes.check_used(f"'{assignment.name}'")
     found.place = assignment.place
     return found

@@ -146,6 +146,17 @@ class Shapes(unittest.TestCase):
         self.assertEqual(self.field_of(body), "Kept<'a, B>")
         self.assertIn("    pub fn a(&self) -> &Kept<'a, B>\n", written(module_of(body))["src/test/a.rt"])
 
+    def test_a_type_that_a_crate_has(self) -> None:
+        body = "A ::= SEQUENCE { a B }\nB ::= SEQUENCE { x NULL } -- @rust(der_b::files::own::Bee)"
+        found = written(module_of(body))
+        self.assertNotIn("src/test/b.rt", found)
+        self.assertIn("use der_b::Bee;", found["src/test/a.rt"])
+        self.assertIn("Rattle.der_b.specs.contracts.files.own.BeeContentsEq.TheImpl.Laws", found["src/test/a.rt"])
+        self.assertIn("use Rattle.der_b.specs.declared.files.own.Bee.{Bee}", found["specs/Test/A.antt"])
+        self.assertIn("pub use der_b::Bee;", found["src/test/aliases.rt"])
+        self.assertIn("pub fn grammar_of_bee()", found["src/test/aliases.rt"])
+        self.assertEqual(grammar(body)["bee"], "SEQUENCE (field NULL end)")
+
     def test_defaults_after_tags(self) -> None:
         body = "A ::= SEQUENCE { a [0] BOOLEAN DEFAULT FALSE }"
         self.assertEqual(self.field_of(body), "WithDefault<Implicit<bool, 0>, DefaultFalse>")

@@ -2,7 +2,7 @@
 
 from __future__ import annotations
 
-from ..model import Alias, Constant, Named
+from ..model import Alias, Constant, Definition, Named
 from ..properties import properties_of_definition
 from ..spelling import screaming
 from . import docs
@@ -13,10 +13,15 @@ from .source import Source
 from .types import lifetime_of, rust_type
 
 
-def write_aliases(plan: Plan, target: Target, aliases: list[Alias], name: str) -> str:
-    """The source file of all second names of a module."""
+def write_aliases(plan: Plan, target: Target, aliases: list[Definition], name: str) -> str:
+    """The source file of all second names of a module, and of the types that a crate has already."""
     source = Source(plan, target, "aliases")
     for alias in aliases:
+        if not isinstance(alias, Alias):
+            source.add(f"pub use {alias.by_hand[0]}::{alias.rust};")
+            write_order(source, alias)
+            add_laws(source, alias)
+            continue
         assert alias.type is not None
         lifetime = lifetime_of(properties_of_definition(alias).borrows)
         type_ = rust_type(source, alias.type)

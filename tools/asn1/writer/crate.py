@@ -14,7 +14,7 @@ from .module_laws import write_laws
 from .names import RUST
 from .orders import order_name, write_orders
 from .pages import write_list_page, write_struct_page
-from .plan import Plan
+from .plan import Plan, is_apart
 from .source import PRELUDE
 from .structs import write_struct
 
@@ -52,13 +52,13 @@ def write_module(plan: Plan, module: ResolvedModule) -> dict[str, str]:
     files: dict[str, str] = {}
     for definition in module.definitions:
         check_name(definition)
-        if isinstance(definition, Alias):
+        if is_apart(definition):
             continue
         files[f"src/{target.module}/{snake(definition.rust)}.rt"] = write_definition(plan, definition)
         page = write_page(plan, definition)
         if page:
             files[f"specs/{target.page}/{definition.rust}.antt"] = page
-    aliases = [found for found in module.definitions if isinstance(found, Alias)]
+    aliases = [found for found in module.definitions if is_apart(found)]
     if aliases:
         files[f"src/{target.module}/aliases.rt"] = write_aliases(plan, target, aliases, module.name)
     if module.constants:

@@ -44,8 +44,7 @@ class Laws:
 
     def of_definition(self, definition: Definition, trait: str) -> str:
         """The laws of a trait of a type that is written too."""
-        target = self.source.plan.of(definition)
-        module = f"{target.crate}.specs.contracts.{target.module}.{self.source.plan.file(definition)}"
+        module = self.source.plan.module(definition, "contracts")
         alias = f"{snake(definition.rust)}_{snake(trait)}"
         self.source.page_word(f"{module}.{definition.rust}{trait}.TheImpl.Laws as {alias}", "")
         return alias

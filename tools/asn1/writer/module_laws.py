@@ -31,7 +31,8 @@ def write_laws(plan: Plan, module: ResolvedModule) -> str:
 
 def names_of_laws(definition: Definition) -> list[str]:
     """The names of a type's laws."""
-    octets = [f"octets_of_{snake(definition.rust)}"] if isinstance(definition, Struct) else []
+    has_fields = isinstance(definition, Struct) and not definition.by_hand
+    octets = [f"octets_of_{snake(definition.rust)}"] if has_fields else []
     return [f"grammar_of_{word_of(definition)}", *octets]
 
 
@@ -40,7 +41,7 @@ def add_laws(source: Source, definition: Definition) -> None:
     source.word("≡")
     source.page_word(ASN1, "parse_of")
     source.add(grammar_law(source, definition))
-    if isinstance(definition, Struct):
+    if isinstance(definition, Struct) and not definition.by_hand:
         source.add(octets_law(source, definition))
 
 

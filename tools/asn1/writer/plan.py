@@ -21,6 +21,11 @@ class Target:
         return "".join(word.capitalize() for word in self.module.split("_"))
 
 
+def is_apart(definition: Definition) -> bool:
+    """Whether a definition has no file of its own: a second name, and a type that a crate has already."""
+    return isinstance(definition, Alias) or bool(definition.by_hand)
+
+
 @dataclass(frozen=True)
 class Plan:
     """The targets of all modules that are known."""
@@ -34,4 +39,12 @@ class Plan:
 
     def file(self, definition: Definition) -> str:
         """The source file that has a definition, without its ending: second names share one."""
-        return "aliases" if isinstance(definition, Alias) else snake(definition.rust)
+        return "aliases" if is_apart(definition) else snake(definition.rust)
+
+    def module(self, definition: Definition, kind: str) -> str:
+        """The module of the logic that has a definition: what is declared of it, or its contracts."""
+        if definition.by_hand:
+            crate, *files = definition.by_hand[:-1]
+            return ".".join([crate, "specs", kind, *files])
+        target = self.of(definition)
+        return f"{target.crate}.specs.{kind}.{target.module}.{self.file(definition)}"

@@ -36,7 +36,11 @@ class Source:
     def use_beside(self, definition: Definition, name: str) -> str:
         """An item that stands in the file of a type that is written too."""
         target, file = self.plan.of(definition), self.plan.file(definition)
-        if target.crate != self.target.crate:
+        if definition.by_hand and name == definition.rust:
+            if file == self.file and target == self.target:
+                return name
+            path = definition.by_hand[0]
+        elif target.crate != self.target.crate:
             path = f"{target.crate}::{target.module}"
         elif target.module != self.target.module:
             path = f"crate::{target.module}"
@@ -49,9 +53,7 @@ class Source:
 
     def logic_name(self, definition: Definition) -> str:
         """A type that is written too, as the logic has it."""
-        target = self.plan.of(definition)
-        module = f"{target.crate}.specs.declared.{target.module}.{self.plan.file(definition)}.{definition.rust}"
-        return self.page_word(module, definition.rust)
+        return self.page_word(f"{self.plan.module(definition, 'declared')}.{definition.rust}", definition.rust)
 
     def word(self, key: str) -> str:
         """A word of the logic, which is imported; operators are written as they are."""
@@ -132,8 +134,7 @@ class Page:
 
     def logic_type(self, definition: Definition) -> str:
         """A type that is written too, as the logic has it."""
-        target = self.plan.of(definition)
-        module = f"{target.crate}.specs.declared.{target.module}.{self.plan.file(definition)}.{definition.rust}"
+        module = f"{self.plan.module(definition, 'declared')}.{definition.rust}"
         self.words.setdefault(module, set()).add(definition.rust)
         return definition.rust
 
