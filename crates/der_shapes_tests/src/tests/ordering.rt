@@ -1,7 +1,7 @@
 //! The order, equality and copies of values, and sets that are put in order.
 
-use super::{again, compared, holds, is_copied, same};
-use der_elem::FromDer;
+use super::{again, compared, holds, is_copied, numbered, same};
+use der_elem::{Encode, FromDer};
 use der_nest::ItemSet;
 use der_shapes::shapes::{General, GeneralOrder, Generals, Status};
 use std::alloc::Global;
@@ -36,20 +36,38 @@ fn alternatives_are_ordered_as_their_encodings(rt: HostRuntime) -> Result<(), Fa
     Ok(())
 }
 
+// Adds the item that the octets are.
+fn add<'a>(
+    set: &mut ItemSet<General<'a>, GeneralOrder>,
+    alloc: Global,
+    octets: &'a [u8],
+) -> Result<(), u8> {
+    match set.insert(general_of(alloc, octets)?) {
+        Ok(()) => Ok(()),
+        Err(e) => Err(e.kind().number()),
+    }
+}
+
+// The encoding of a set of the two items.
+fn set_of(alloc: Global, first: &[u8], second: &[u8]) -> Result<Vec<u8>, u8> {
+    let mut set = ItemSet::<General<'_>, GeneralOrder>::new(alloc);
+    add(&mut set, alloc, first)?;
+    add(&mut set, alloc, second)?;
+    let generals = Generals::new(set);
+    if !is_copied(&generals) {
+        return Err(0);
+    }
+    numbered(generals.to_der(alloc))
+}
+
 #[test]
 fn a_set_of_a_choice_is_put_in_order(rt: HostRuntime) -> Result<(), Fail> {
     let alloc = rt.alloc();
     let number = hex::decode(alloc, "91020102")?;
     let good = hex::decode(alloc, "8000")?;
-    let mut set: ItemSet<General, GeneralOrder> = ItemSet::new(alloc);
-    holds(
-        &rt,
-        set.insert(general_of(alloc, number.as_slice())?).is_ok(),
-    );
-    holds(&rt, set.insert(general_of(alloc, good.as_slice())?).is_ok());
-    let generals = Generals::new(set);
-    same(&rt, generals.as_slice().len(), 2);
-    holds(&rt, is_copied(&generals));
+    let octets = hex::decode(alloc, "3106800091020102")?;
+    let written = set_of(alloc, number.as_slice(), good.as_slice())?;
+    same(&rt, written.as_slice(), octets.as_slice());
     Ok(())
 }
 
