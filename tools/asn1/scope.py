@@ -10,7 +10,6 @@ from .syntax import (
     Actual,
     Assignment,
     ClassAssignment,
-    FieldsType,
     Import,
     Module,
     SetAssignment,
@@ -177,8 +176,3 @@ def check_names(names: list[tuple[Place, str]], what: str) -> None:
             instead = f"give one another name; the other is at {seen[name]}"
             raise AsnError(place, f"the {what} '{name}' stands twice", instead)
         seen[name] = place
-
-
-def component_names(type_: FieldsType) -> list[tuple[Place, str]]:
-    """The names of the components of a SEQUENCE or a SET, but for those of COMPONENTS OF."""
-    return [(part.place, part.name) for part in type_.components if hasattr(part, "name")]

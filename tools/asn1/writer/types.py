@@ -2,7 +2,7 @@
 
 from __future__ import annotations
 
-from ..model import Alias, Enumeration, Field, Kept, Leaf, Listed, NameOf, Presence, Resolved, Tag, Tagged, Use, Whole
+from ..model import Alias, Enumeration, Field, Leaf, Listed, NameOf, Presence, Resolved, Tag, Tagged, Use, Whole
 from ..properties import properties_of, properties_of_definition
 from ..syntax import TagClass
 from .leaves import CHARACTERS, WHOLES, lifetime_of, rust_leaf
