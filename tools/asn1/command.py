@@ -6,11 +6,12 @@ import argparse
 import sys
 from pathlib import Path
 
-from .crates import entries_of
+from .crates import Entry, entries_of
 from .errors import AsnError
 from .layout import LayoutError, laid_out
 from .parser import parse_module
 from .resolver import resolve
+from .syntax import Module
 from .writer.crate import MARK, files_of_crate
 from .writer.orders import items_of_sets
 from .writer.plan import Plan, Target
@@ -49,14 +50,26 @@ def write_all(path: Path, with_remarks: bool) -> dict[str, str]:
     resolved, remarks = resolve(modules)
     for remark in remarks if with_remarks else ():
         print(remark, file=sys.stderr)
+    for module, entry in zip(modules, entries):
+        check_entry(module, entry)
     targets = {module.name: Target(entry.crate, entry.module) for module, entry in zip(resolved, entries)}
     plan = Plan(targets, items_of_sets(resolved))
     found: dict[str, str] = {}
     for crate in dict.fromkeys(entry.crate for entry in entries):
-        mine = [module for module, entry in zip(resolved, entries) if entry.crate == crate]
+        mine = [module for module, entry in zip(resolved, entries) if entry.crate == crate and entry.module]
         for name, text in files_of_crate(plan, mine).items():
             found[f"{crate}/{name}"] = text
     return laid_out(found)
+
+
+def check_entry(module: Module, entry: Entry) -> None:
+    """A module that assigns something is written to a module of the crate, and so has a name there."""
+    if module.assignments and not entry.module:
+        raise AsnError(
+            module.place,
+            f"the module '{module.name}' has no name in the crate '{entry.crate}'",
+            f"write 'name={entry.file.name}' in the list",
+        )
 
 
 def is_ours(path: Path) -> bool:
@@ -71,7 +84,7 @@ def text_of(path: Path) -> str | None:
 def stale(root: Path, written: dict[str, str]) -> list[Path]:
     """Files that this program wrote, and would write no more."""
     crates = sorted({name.split("/")[0] for name in written})
-    found = [path for crate in crates for kind in ("src/**/*.rt", "specs/**/*.antt") for path in (root / crate).glob(kind)]
+    found = [path for crate in crates for kind in ("src/**/*.rt", "specs/**/*.antt", "proofs/**/*.antt") for path in (root / crate).glob(kind)]
     return sorted(path for path in found if str(path.relative_to(root)) not in written and is_ours(path))
 
 

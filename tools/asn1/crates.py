@@ -8,12 +8,15 @@ from pathlib import Path
 
 from .errors import AsnError, Place
 
-LINE = re.compile(r"([a-z][a-z0-9_]*):((?:\s+[a-z][a-z0-9_]*=\S+)+)\s*")
+LINE = re.compile(r"([a-z][a-z0-9_]*):((?:\s+(?:[a-z][a-z0-9_]*=)?[^\s=]+)+)\s*")
 
 
 @dataclass(frozen=True)
 class Entry:
-    """A module of a crate, and the file of the module of ASN.1 that it is made from."""
+    """A module of a crate, and the file of the module of ASN.1 that it is made from.
+
+    A module of ASN.1 that assigns nothing, and hands on what it imports, has no module in the crate: its name is empty.
+    """
 
     crate: str
     module: str
@@ -33,6 +36,6 @@ def entries_of(path: Path) -> list[Entry]:
                 Place(str(path), number, 1), "this line names no crate and its modules", "write 'crate: module=file.asn1 ..'"
             )
         for pair in parsed.group(2).split():
-            module, file = pair.split("=")
+            module, _, file = pair.rpartition("=")
             found.append(Entry(parsed.group(1), module, path.parent / file))
     return found

@@ -88,6 +88,29 @@ def tags_of_definition(definition: Definition) -> frozenset[Tag] | None:
     return frozenset([definition.tag or ENUMERATED])
 
 
+def is_constructed(type_: Resolved) -> bool:
+    """Whether the encodings of a type have the bit of a constructed one (X.690 8.1.2.5)."""
+    if isinstance(type_, Leaf):
+        return type_.whole is Whole.UNREAD_SEQUENCE
+    if isinstance(type_, Tagged):
+        return type_.is_explicit or is_constructed(type_.of)
+    if isinstance(type_, Kept):
+        return is_constructed(type_.of)
+    if isinstance(type_, Use) and isinstance(type_.definition, Alias):
+        assert type_.definition.type is not None
+        return is_constructed(type_.definition.type)
+    return isinstance(type_, Listed) or (isinstance(type_, Use) and isinstance(type_.definition, (Struct, List)))
+
+
+def identifier_octet(type_: Resolved) -> int | None:
+    """The first octet of the encodings of a type (X.690 8.1.2); None where there is more than one such."""
+    tags = tags_of(type_)
+    if tags is None or len(tags) != 1:
+        return None
+    (tag,) = tags
+    return tag.tag_class << 6 | is_constructed(type_) << 5 | min(tag.number, 31)
+
+
 # ---- properties
 
 

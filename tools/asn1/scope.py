@@ -33,6 +33,10 @@ class Scope:
     assigned: dict[str, Assignment]
     imported: dict[str, Import]
 
+    def hands_on(self, name: str) -> bool:
+        """Whether a name is imported, and exported again (13.13 ii)."""
+        return name in self.imported and name in [token.text for token in self.module.exports or ()]
+
 
 @dataclass(frozen=True)
 class Binding:
@@ -68,12 +72,12 @@ class Library:
             self.check_exports(scope)
 
     def check_imports(self, scope: Scope) -> None:
-        """Each name that is imported from a module which is given has to be assigned there."""
+        """Each name that is imported from a module which is given has to be assigned there, or handed on."""
         for imported in scope.module.imports:
             source = self.scopes.get(imported.module)
             for symbol in imported.symbols if source else ():
                 assert source is not None
-                if symbol.text not in source.assigned:
+                if symbol.text not in source.assigned and not source.hands_on(symbol.text):
                     raise AsnError(
                         symbol.place,
                         f"the module '{imported.module}' assigns no '{symbol.text}'",
@@ -112,8 +116,8 @@ class Library:
             nearest(name, [*scope.assigned, *scope.imported]),
         )
 
-    def find_in(self, module: str, name: str, place: Place) -> tuple[Scope, Assignment]:
-        """The assignment of a name in another module."""
+    def find_in(self, module: str, name: str, place: Place, by: tuple[str, ...] = ()) -> tuple[Scope, Assignment]:
+        """The assignment of a name in another module, by the modules that hand it on."""
         source = self.scopes.get(module)
         if source is None:
             raise AsnError(
@@ -121,9 +125,11 @@ class Library:
                 f"'{name}' is of the module '{module}', which is not given",
                 "give its file too",
             )
-        if name not in source.assigned:
-            raise AsnError(place, f"the module '{module}' assigns no '{name}'", nearest(name, list(source.assigned)))
-        return source, source.assigned[name]
+        if name in source.assigned:
+            return source, source.assigned[name]
+        if source.hands_on(name) and module not in by:
+            return self.find_in(source.imported[name].module, name, place, (*by, module))
+        raise AsnError(place, f"the module '{module}' assigns no '{name}'", nearest(name, list(source.assigned)))
 
     def find_type(self, env: Env, name: str, place: Place, module: str | None = None) -> tuple[Scope, TypeAssignment]:
         """The assignment of a name that has to be a type's."""

@@ -18,19 +18,22 @@ use Rattle.der_nest.specs.NonEmpty.{parse_some}
 use Rattle.der_nest.specs.Sets.{parse_set}
 use Rattle.der_numbers.specs.Enumerated.{parse_named}
 
--- a type: one tag, and what contents octets after it come to; or any of some tags, and what whole encodings come to
+-- a type: one tag, and what contents octets after it come to; the same as the only alternative of a CHOICE; or any of some tags, and what whole encodings come to
 pub data Grammar : Type 0 where
   one : Tag → ContentsParse → Grammar
+  only : Tag → ContentsParse → Grammar
   any_of : (Tag → Bool) → Parse → Grammar
 
 -- what octets from the front come to
 abbrev pub parse_of : Grammar → Parse
 parse_of (one t contents) = parse_tagged t contents
+parse_of (only t contents) = parse_tagged t contents
 parse_of (any_of tags parse) = parse
 
 -- the tags that encodings begin with
 abbrev pub tags_of : Grammar → Tag → Bool
 tags_of (one t contents) u = same_identifier u t
+tags_of (only t contents) u = same_identifier u t
 tags_of (any_of tags parse) u = tags u
 
 -- the classes of tags that a type may name (X.690 8.1.2.2)
@@ -50,6 +53,7 @@ EXPLICIT tag_class n g = one (marker_tag tag_class true n) (parse_field (parse_o
 -- `[n] IMPLICIT A`: the tag stands in place of A's own (8.14.3); before a CHOICE and an open type it is explicit (X.680 31.2.7)
 abbrev pub IMPLICIT : ℕ → ℕ → Grammar → Grammar
 IMPLICIT tag_class n (one t contents) = one (marker_tag tag_class (is_constructed t) n) contents
+IMPLICIT tag_class n (only t contents) = EXPLICIT tag_class n (only t contents)
 IMPLICIT tag_class n (any_of tags parse) = EXPLICIT tag_class n (any_of tags parse)
 
 -- `SEQUENCE { .. }` (X.690 8.9), and `SET { .. }` with its fields in the order of their tags (8.11, 10.3)
@@ -85,6 +89,7 @@ SET_OF g = one tags.Set (parse_set (parse_of g))
 -- `SIZE (1..MAX)` of either (X.680 51.5): no items are refused
 abbrev pub NOT_EMPTY : Grammar → Grammar
 NOT_EMPTY (one t contents) = one t (parse_some t contents)
+NOT_EMPTY (only t contents) = only t (parse_some t contents)
 NOT_EMPTY (any_of tags parse) = any_of tags parse
 
 -- an ENUMERATED, of which only the numbers of these names are values (X.680 20, X.690 8.4)
@@ -94,6 +99,7 @@ NAMED number_of names t = one t (parse_named t number_of names)
 -- a type that is read, and whose contents octets are kept as they came
 abbrev pub KEPT : Grammar → Grammar
 KEPT (one t contents) = one t (parse_kept contents)
+KEPT (only t contents) = only t (parse_kept contents)
 KEPT (any_of tags parse) = any_of tags parse
 
 -- `CHOICE { a A, b B }` (X.690 8.13): of more alternatives a tree; and a CHOICE of one alternative
@@ -101,7 +107,9 @@ abbrev pub CHOICE : Grammar → Grammar → Grammar
 CHOICE g h = any_of (λ u. tags_of g u || tags_of h u) (parse_one (tags_of g) (tags_of h) (parse_of g) (parse_of h))
 
 abbrev pub CHOICE_OF_ONE : Grammar → Grammar
-CHOICE_OF_ONE g = any_of (tags_of g) (parse_of g)
+CHOICE_OF_ONE (one t contents) = only t contents
+CHOICE_OF_ONE (only t contents) = only t contents
+CHOICE_OF_ONE (any_of tags parse) = any_of tags parse
 
 -- ---- octets by the names of fields
 

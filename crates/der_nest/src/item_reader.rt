@@ -78,6 +78,7 @@ impl<'a, T: Decode<'a, SliceReader<'a>>> ItemReader<'a, T> {
             }
         }
     }
+
     /// The item at a place among those that are left, if there is one, read again after those before
     /// it.
     ///

@@ -5,8 +5,9 @@
 //! wants the value has it read again.
 //!
 //! Reading refuses with the first fault that the type finds in the contents octets, which are read by
-//! a reader of their own, from position 0 on, under DER, and with `ErrorKind::Memory` (1) where the
-//! type takes memory.
+//! a reader of their own, under DER, and with `ErrorKind::Memory` (1) where the type takes memory. The
+//! lengths within a fault count from the first of the contents octets; its position counts, as
+//! everywhere, from the first octet of all.
 
 ghost use Rattle.std.specs.Prelude.{◌≡◌, ◌<◌, ◌^◌, ⊤, length};
 ghost use Rattle.std.specs.Cmp.{on_per, on_equiv};
@@ -136,20 +137,31 @@ fn keep<'a, T: DecodeValue<'a, SliceReader<'a>>>(
     Ok(Kept { octets, of })
 }
 
+/// A fault of contents octets, of which so many octets stand before.
+fn behind(begin: Length, error: Error) -> Error
+    ensures { result.kind ≡ error.kind }
+{
+    let kind = error.kind;
+    let position = match error.position {
+        Some(position) => Some(Length::new(begin.value().saturating_add(position.value()))),
+        None => None,
+    };
+    Error { kind, position }
+}
+
 impl<'a, R: Source<'a>, T: DecodeValue<'a, SliceReader<'a>>> DecodeValue<'a, R> for Kept<'a, T> {
     ghost TAKES_MEMORY = { T.DecodeValue.TAKES_MEMORY };
 
     const TAKES_MEMORY: bool = <T as DecodeValue<'a, SliceReader<'a>>>::TAKES_MEMORY;
 
     fn decode_value(alloc: Global, reader: &mut R, header: Header) -> Result<Kept<'a, T>, Error> {
-        let tag = header.tag;
+        let (tag, begin) = (header.tag, reader.position());
         let octets = read_contents(reader, header)?;
         match keep(alloc, tag, octets) {
             Ok(kept) => Ok(kept),
             Err(e) => {
-                // The reader fails; the position is that of the contents octets' own reader.
                 reader.error(e.kind);
-                Err(e)
+                Err(behind(begin, e))
             }
         }
     }

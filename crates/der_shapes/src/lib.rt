@@ -3,4 +3,5 @@
 //! Made by tools/asn1.
 #![tactic(auto)]
 
+pub mod parts;
 pub mod shapes;

@@ -2,6 +2,7 @@
 
 mod fields;
 mod ordering;
+mod parts;
 mod reading;
 mod refusing;
 

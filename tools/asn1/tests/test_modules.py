@@ -6,7 +6,7 @@ import unittest
 
 from ..model import Alias, Choice, Constant, Definition, Leaf, List, ResolvedModule, Struct, Tagged, Use, Whole
 from ..properties import properties_of_definition, tags_of
-from .helpers import resolved, standard
+from .helpers import MODULES, resolved, standard
 
 PKIX = ("PKIX1Explicit88", "PKIX1Implicit88")
 CMS = ("CryptographicMessageSyntax2004", "PKIXAttributeCertificate", "AttributeCertificateVersion1")
@@ -116,3 +116,18 @@ class Others(unittest.TestCase):
         pdus = definition(found, "Pdus")
         assert isinstance(pdus, Choice)
         self.assertEqual([min(tags_of(part.type) or []).number for part in pdus.alternatives], [0, 1, 5, 2, 3, 6, 7, 8])
+
+
+class HandedOn(unittest.TestCase):
+    """The modules of RFC 5280 by their own names, which hand on what stands in others by topic."""
+
+    def test_what_imports_from_them_is_taken_as_it_stands(self) -> None:
+        folder = MODULES.parents[3] / "asn1"
+        lines = (folder / "modules.txt").read_text(encoding="utf-8").split("\n")
+        names = [name for line in lines if line.startswith(("der_pkix:", "der_extensions:")) for name in line.split()[1:]]
+        texts = [(folder / name.split("=")[-1]).read_text(encoding="utf-8") for name in names]
+        found, _ = resolved(*texts, standard("OCSP"))
+        ocsp = next(module for module in found if module.name == "OCSP-2013-88")
+        kinds = [part.type for part in struct(ocsp, "CertId").fields]
+        assert isinstance(kinds[0], Use)
+        self.assertEqual((kinds[0].definition.module, kinds[0].definition.rust), ("PkixCertificates", "AlgorithmIdentifier"))

@@ -177,6 +177,12 @@ class Refusals(unittest.TestCase):
         self.assertIn("is given twice", refusal(other, other).problem)
         self.assertIn("assigns no 'C'", refusal(module_of("IMPORTS C FROM Other;"), other).problem)
         self.assertIn("assigns no 'C'", refusal(module_of("A ::= Other.C"), other).problem)
+        imports = module_of("IMPORTS C FROM Third;", name="Other")
+        third = module_of("C ::= NULL", name="Third")
+        self.assertIn("assigns no 'C'", refusal(module_of("IMPORTS C FROM Other;"), imports, third).problem)
+        circle = module_of("EXPORTS C; IMPORTS C FROM Test;", name="Other")
+        error = refusal(module_of("EXPORTS C; IMPORTS C FROM Other; A ::= C"), circle)
+        self.assertIn("assigns no 'C'", error.problem)
         hidden = module_of("EXPORTS ; B ::= NULL", name="Other")
         self.assertIn("does not export 'B'", refusal(module_of("IMPORTS B FROM Other;"), hidden).problem)
 

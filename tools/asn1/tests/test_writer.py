@@ -169,6 +169,26 @@ class Shapes(unittest.TestCase):
         self.assertIn("pub use crate::test::b::grammar_of_b;", found["src/test/laws.rt"])
 
 
+    def test_a_struct_is_shown_by_its_names(self) -> None:
+        found = written(module_of("A ::= SEQUENCE { a NULL, b INTEGER OPTIONAL, c OCTET STRING }"))["src/test/a.rt"]
+        self.assertNotIn("Debug,", found)
+        self.assertIn('.field("a", &self.a())\n            .field("b", &self.b())\n            .field("c", self.c())', found)
+
+    def test_the_order_of_a_set(self) -> None:
+        body = "A ::= SET OF B\nB ::= SEQUENCE { x NULL }\nC ::= SET OF D\nD ::= SEQUENCE { x SEQUENCE OF NULL }"
+        found = written(module_of(body))
+        self.assertIn("pub struct BOrder;", found["src/test/b.rt"])
+        self.assertIn("pub type DOrder = DOrderOf<0>;", found["src/test/d.rt"])
+
+    def test_the_proof_of_an_order(self) -> None:
+        found = written(module_of("A ::= CHOICE { x B, y NULL, z [0] B }\nB ::= SEQUENCE { x NULL }\nC ::= CHOICE { x NULL, y BOOLEAN }"))
+        proofs = [path for path in found if path.startswith("proofs/")]
+        self.assertEqual(proofs, ["proofs/test/a/ADerOrd/der_cmp/Answers.antt"])
+        self.assertIn("pub returns-in-X-X : goal.returns-in-X-X", found[proofs[0]])
+        self.assertNotIn("in-Z-Z", found[proofs[0]])
+        self.assertIn("_ => cmp_headers(self, other),", found["src/test/a.rt"])
+
+
 class Files(unittest.TestCase):
     def test_a_name_that_the_files_use_is_refused(self) -> None:
         with self.assertRaises(AsnError) as caught:
@@ -209,6 +229,10 @@ class Files(unittest.TestCase):
             listed.write_text("der_test = snmp.asn1\n", encoding="utf-8")
             self.assertEqual(main([str(listed)]), 1)
             self.assertIn("modules.txt:1:1: error: this line names no crate and its modules", said.getvalue())
+            (Path(folder) / "test.asn1").write_text(module_of("A ::= NULL"), encoding="utf-8")
+            listed.write_text("der_test: test.asn1\n", encoding="utf-8")
+            self.assertEqual(main([str(listed)]), 1)
+            self.assertIn("the module 'Test' has no name in the crate 'der_test'", said.getvalue())
             listed.write_text("der_test: snmp=snmp.asn1\n", encoding="utf-8")
             self.assertEqual(main([str(listed)]), 1)
             self.assertIn("snmp.asn1: No such file or directory", said.getvalue())

@@ -18,7 +18,7 @@ def write_aliases(plan: Plan, target: Target, aliases: list[Definition], name: s
     source = Source(plan, target, "aliases")
     for alias in aliases:
         if not isinstance(alias, Alias):
-            source.add(f"pub use {alias.by_hand[0]}::{alias.rust};")
+            source.add(f"pub use {source.root_of(alias.by_hand[0])}::{alias.rust};")
             write_order(source, alias)
             add_laws(source, alias)
             continue

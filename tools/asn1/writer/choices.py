@@ -2,7 +2,7 @@
 
 from __future__ import annotations
 
-from ..model import Choice
+from ..model import Alias, Choice, List, Resolved, Struct, Use
 from ..properties import properties_of_definition
 from ..spelling import snake
 from . import choice_laws, docs
@@ -219,17 +219,42 @@ def encode(source: Source, all_of: Alternatives) -> str:
 def order(source: Source, all_of: Alternatives) -> str:
     """The order of encodings: of two alternatives their headers decide."""
     name = all_of.choice.rust
-    rows = "\n".join(
-        f"            ({name}::{first}(value), {name}::{second}(other)) => "
-        + ("value.der_cmp(other)," if first == second else f"{source.use('cmp_headers')}(value, other),")
-        for first in all_of.names
-        for second in all_of.names
-    )
+    rows = "\n".join(f"            ({name}::{one}(value), {name}::{one}(other)) => value.der_cmp(other)," for one in all_of.names)
     return (
         f"impl{all_of.lifetime} {source.use('DerOrd')} for {all_of.whole} {{\n"
         f"    fn der_cmp(&self, other: &{all_of.whole}) -> Result<{source.use('Ordering')}, {source.use('Error')}> {{\n"
-        f"        match (self, other) {{\n{rows}\n        }}\n    }}\n}}"
+        f"        match (self, other) {{\n{rows}\n            _ => {source.use('cmp_headers')}(self, other),\n        }}\n    }}\n}}"
     )
+
+
+# ---- the proof
+
+
+def write_order_proof(plan: Plan, choice: Choice) -> dict[str, str]:
+    """The proof of the order, where an alternative is a struct with no tag before it: what its comparison says is said of
+    the CHOICE, which the prover's search meets a limit at."""
+    own = [part.rust for part in choice.alternatives if is_struct(part.type)]
+    if not own:
+        return {}
+    target = plan.of(choice)
+    place = f"{target.module}.{snake(choice.rust)}.{choice.rust}DerOrd.der_cmp"
+    text = f"-- The order of {choice.name}, of two values of one alternative.\n"
+    text += f"use Rattle.{target.crate}.proofs.{place}.Goals as goal\n"
+    for name in own:
+        goal, arm = f"returns-in-{name}-{name}", f"in-{name}-{name}"
+        text += (
+            f"\npub {goal} : goal.{goal}\n"
+            f"{goal} c = rw c.{arm}.is-0 (rw c.{arm}.is-1 c.der_cmp-{arm}.ensures)\n"
+        )
+    return {f"proofs/{place.replace('.', '/')}/Answers.antt": text}
+
+
+def is_struct(type_: Resolved) -> bool:
+    """Whether a type is a struct that is written too, by whatever name."""
+    while isinstance(type_, Use) and isinstance(type_.definition, Alias):
+        assert type_.definition.type is not None
+        type_ = type_.definition.type
+    return isinstance(type_, Use) and isinstance(type_.definition, (Struct, List))
 
 
 # ---- the page

@@ -2,11 +2,11 @@
 
 from __future__ import annotations
 
-from ..errors import AsnError
+from ..errors import AsnError, Place
 from ..model import Alias, Choice, Definition, Enumeration, List, ResolvedModule, Struct
 from ..spelling import snake
 from .aliases import constant_name, write_aliases, write_constants
-from .choices import write_choice, write_choice_page
+from .choices import write_choice, write_choice_page, write_order_proof
 from .enumerations import write_enumeration, write_enumeration_page
 from .grammar import GrammarPage
 from .lists import write_list
@@ -14,7 +14,8 @@ from .module_laws import write_laws
 from .names import RUST
 from .orders import order_name, write_orders
 from .pages import write_list_page, write_struct_page
-from .plan import Plan, is_apart
+from .parts import write_parts
+from .plan import Plan, Target, is_apart
 from .source import PRELUDE
 from .structs import write_struct
 
@@ -24,17 +25,28 @@ MARK = "Made by tools/asn1"
 
 def files_of_crate(plan: Plan, modules: list[ResolvedModule]) -> dict[str, str]:
     """All files of a crate, by their paths in its folder."""
+    targets = [plan.targets[module.name] for module in modules]
+    check_modules(modules, targets)
     files: dict[str, str] = {}
     for module in modules:
         for path, text in write_module(plan, module).items():
             files[path] = marked(path, text, module.file)
-    targets = [plan.targets[module.name] for module in modules]
     standards = ", ".join(module.name for module in modules)
-    sources = "\n".join(f"pub mod {target.module};" for target in targets)
+    files["src/parts.rt"] = write_parts(plan, modules)
+    sources = "\n".join(f"pub mod {name};" for name in sorted([*(target.module for target in targets), "parts"]))
     pages = "".join(f"pub mod {target.page}\n" for target in targets)
     files["src/lib.rt"] = f"//! The types of {standards}.\n//!\n//! {MARK}.\n#![tactic(auto)]\n\n{sources}\n"
     files["specs/Lib.antt"] = f"-- {MARK}.\n{pages}"
     return files
+
+
+def check_modules(modules: list[ResolvedModule], targets: list[Target]) -> None:
+    """No module may have the name of the crate's own file of parts."""
+    for module, target in zip(modules, targets):
+        if target.module == "parts":
+            raise AsnError(
+                Place(module.file, 1, 1), "'parts' is the name of a module that each crate has", "write another in the list"
+            )
 
 
 def marked(path: str, text: str, file: str) -> str:
@@ -58,6 +70,8 @@ def write_module(plan: Plan, module: ResolvedModule) -> dict[str, str]:
         page = write_page(plan, definition)
         if page:
             files[f"specs/{target.page}/{definition.rust}.antt"] = page
+        if isinstance(definition, Choice):
+            files.update(write_order_proof(plan, definition))
     aliases = [found for found in module.definitions if is_apart(found)]
     if aliases:
         files[f"src/{target.module}/aliases.rt"] = write_aliases(plan, target, aliases, module.name)

@@ -121,6 +121,7 @@ RUST: dict[str, tuple[str, str]] = {
     "Global": ("std::alloc", "Global"),
     "Ordering": ("std::cmp", "Ordering"),
     "PhantomData": ("std::marker", "PhantomData"),
+    "fmt": ("std", "fmt"),
 }
 
 # ---- words of the logic: the module that has them, and their names

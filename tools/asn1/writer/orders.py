@@ -5,7 +5,7 @@ from __future__ import annotations
 from collections.abc import Iterable
 
 from ..errors import AsnError, Place
-from ..model import Alias, Definition, Enumeration, Kept, Leaf, List, Listed, Resolved, ResolvedModule, Tagged, Use, Whole
+from ..model import Alias, Definition, Enumeration, Kept, Leaf, List, Listed, Resolved, ResolvedModule, Struct, Tagged, Use, Whole
 from ..properties import properties_of, properties_of_definition
 from .leaves import rust_leaf
 from .plan import Plan, Target
@@ -70,22 +70,43 @@ def write_order(source: Source, definition: Definition) -> None:
         return
     borrows = properties_of_definition(definition).borrows
     name = f"{source.use('Enumerated')}<{definition.rust}>" if isinstance(definition, Enumeration) else definition.rust
-    add_order(source, order_name(definition), name + ("<'a>" if borrows else ""), borrows)
+    whole, order = name + ("<'a>" if borrows else ""), order_name(definition)
+    if isinstance(definition, Struct) and not properties_of_definition(definition).is_copy:
+        add_order_of(source, order, whole)
+    else:
+        declare_order(source, order, whole)
+    add_order(source, order, whole, borrows)
 
 
 def write_orders(plan: Plan, target: Target) -> str:
     """The file of the orders of a module's sets whose items are the library's own types."""
     source = Source(plan, target)
     for name, leaf in sorted(plan.leaves[target].items()):
+        declare_order(source, name, rust_leaf(source, leaf))
         add_order(source, name, rust_leaf(source, leaf), properties_of(leaf).borrows)
     return source.text(["//! The orders of sets, of types of the library."])
+
+
+def declare_order(source: Source, name: str, whole: str) -> None:
+    """The type that is called for an order."""
+    source.add(f"{said_of_order(whole)}\npub struct {name};")
+
+
+def add_order_of(source: Source, name: str, whole: str) -> None:
+    """The same for a struct that owns memory: the toolchain proves its order only of a type with a number in it."""
+    more = "///\n/// The number says nothing: a limit of the toolchain asks for one."
+    source.add(f"{said_of_order(whole)}\n{more}\npub struct {name}Of<const N: usize>;")
+    source.add(f"{said_of_order(whole)}\npub type {name} = {name}Of<0>;")
+
+
+def said_of_order(whole: str) -> str:
+    return f"/// The order of a SET OF `{whole}`: that of the encodings (X.690 11.6)."
 
 
 def add_order(source: Source, name: str, whole: str, borrows: bool) -> None:
     """The order of the encodings of a type."""
     lifetime, refl = "<'a>" if borrows else "", source.word("refl")
     source.use("Form")
-    source.add(f"/// The order of a SET OF `{whole}`: that of the encodings (X.690 11.6).\npub struct {name};")
     source.add(
         f"impl{lifetime} {source.use('ItemOrder')}<{whole}> for {name} {{\n"
         f"    ghost {source.member('item_encoding')} = {{ ⟦<{whole} as Form>⟧.{source.member('encoding')} }};\n}}"

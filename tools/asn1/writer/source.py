@@ -39,7 +39,7 @@ class Source:
         if definition.by_hand and name == definition.rust:
             if file == self.file and target == self.target:
                 return name
-            path = definition.by_hand[0]
+            path = self.root_of(definition.by_hand[0])
         elif target.crate != self.target.crate:
             path = f"{target.crate}::{target.module}"
         elif target.module != self.target.module:
@@ -50,6 +50,10 @@ class Source:
             path = f"crate::{target.module}::{file}"
         self.imports.setdefault(path, set()).add(name)
         return name
+
+    def root_of(self, crate: str) -> str:
+        """The root of a crate, as this file names it."""
+        return "crate" if crate == self.target.crate else crate
 
     def logic_name(self, definition: Definition) -> str:
         """A type that is written too, as the logic has it."""

@@ -34,6 +34,7 @@ def write_struct(plan: Plan, struct: Struct) -> str:
     source.add(f"/// The list of the fields.\ntype Fields{lifetime} = {list_type(source, types)};")
     source.add(declaration(struct, lifetime))
     source.add(own_calls(source, struct, members, lifetime))
+    source.add(shown(source, struct, members, lifetime))
     one_tag(source, struct, struct.rust + lifetime, lifetime, markers.of_definition(source, struct))
     whole = f"Fields{lifetime}"
     turbofish = f"Fields::{lifetime}" if lifetime else "Fields"
@@ -71,7 +72,7 @@ def first_lines(struct: Struct) -> list[str]:
 def declaration(struct: Struct, lifetime: str) -> str:
     more = ["The fields are encoded in the order of their tags (X.690 10.3)."] if struct.is_set else []
     return (
-        f"{docs.of_definition(struct, *more, docs.errors(struct))}\n{derives(struct)}\n"
+        f"{docs.of_definition(struct, *more, docs.errors(struct))}\n{derives(struct, is_shown=False)}\n"
         f"pub struct {struct.rust}{lifetime} {{\n    fields: Fields{lifetime},\n}}"
     )
 
@@ -94,6 +95,20 @@ def own_calls(source: Source, struct: Struct, members: list[Member], lifetime: s
     parts += [accessor(source, member, words) for member in members]
     source.word("≡")
     return f"impl{lifetime} {struct.rust}{lifetime} {{\n" + "\n\n".join(parts) + "\n}"
+
+
+def shown(source: Source, struct: Struct, members: list[Member], lifetime: str) -> str:
+    """`Debug`: the fields by their names."""
+    fmt = source.use("fmt")
+    rows = "\n".join(
+        f"            .field(\"{member.name}\", {'&' if member.is_small or member.is_optional else ''}self.{member.name}())"
+        for member in members
+    )
+    return (
+        f"impl{lifetime} {fmt}::Debug for {struct.rust}{lifetime} {{\n"
+        f"    fn fmt<W: {fmt}::Write>(&self, f: &mut {fmt}::Formatter<W>) -> {fmt}::Result {{\n"
+        f"        f.debug_struct(\"{struct.rust}\")\n{rows}\n            .finish()\n    }}\n}}"
+    )
 
 
 def page_of(source: Source, struct: Struct) -> str:

@@ -8,11 +8,12 @@ from .names import RUST
 from .source import Source
 
 
-def derives(definition: Definition) -> str:
-    """What the compiler derives: small values are copied."""
+def derives(definition: Definition, is_shown: bool = True) -> str:
+    """What the compiler derives: small values are copied, and a value is shown but where that is written out."""
+    debug = "Debug, " if is_shown else ""
     if properties_of_definition(definition).is_copy:
-        return "#[derive(Clone, Copy, Debug, PartialEq, Eq)]"
-    return "#[derive(Debug, PartialEq, Eq, Drop)]"
+        return f"#[derive(Clone, Copy, {debug}PartialEq, Eq)]"
+    return f"#[derive({debug}PartialEq, Eq, Drop)]"
 
 
 def one_tag(source: Source, definition: Definition, whole: str, lifetime: str, marker: str) -> None:

@@ -3,7 +3,7 @@
 use crate::tests::{holds, numbered, reads_as, same};
 use der_elem::{Choice, DecodeValue, DerOrd, Encode, FromDer, OneTag, Tagged, TakesMemory};
 use der_nest::{Kept, SequenceRef, SetOfVec};
-use der_tlv::{SliceReader, Tag};
+use der_tlv::{Length, SliceReader, Tag};
 use std::alloc::Global;
 use std::cmp::Ordering;
 use std::test::Fail;
@@ -98,6 +98,22 @@ fn what_is_no_value_is_not_kept(rt: HostRuntime) {
     same(&rt, refused(&[0x31, 0x03, 0x02, 0x01, 0x07]), Some(4));
     same(&rt, refused(&[0x30, 0x03, 0x04, 0x01, 0x07]), Some(4));
     same(&rt, refused(&[0x30, 0x03, 0x02, 0x01]), Some(2));
+}
+
+/// Where reading octets as kept numbers met a fault.
+fn position_of_kept(alloc: Global, octets: &[u8]) -> Option<Length> {
+    match KeptNumbers::from_der(alloc, octets) {
+        Ok(_) => None,
+        Err(e) => e.position(),
+    }
+}
+
+#[test]
+fn a_fault_of_kept_octets_has_its_position(rt: HostRuntime) {
+    let alloc = rt.alloc();
+    let octets = [0x30, 0x07, 0x02, 0x01, 0x07, 0x02, 0x02, 0x00, 0x07];
+    // behind the INTEGER that is not in the fewest octets, as without the keeping
+    same(&rt, position_of_kept(alloc, &octets), Some(Length::new(9)));
 }
 
 #[test]

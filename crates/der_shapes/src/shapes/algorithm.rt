@@ -23,6 +23,7 @@ use der_opaque::{AnyRef, ObjectIdentifier};
 use der_tlv::{Error, Header, Length, Source, Writer};
 use std::alloc::Global;
 use std::cmp::Ordering;
+use std::fmt;
 
 /// The list of the fields.
 type Fields<'a> = Fields2<ObjectIdentifier<39>, Option<AnyRef<'a>>>;
@@ -34,7 +35,7 @@ type Fields<'a> = Fields2<ObjectIdentifier<39>, Option<AnyRef<'a>>>;
 /// ```
 ///
 /// Reading refuses the first fault of the octets, in their order.
-#[derive(Clone, Copy, Debug, PartialEq, Eq)]
+#[derive(Clone, Copy, PartialEq, Eq)]
 pub struct Algorithm<'a> {
     fields: Fields<'a>,
 }
@@ -71,6 +72,15 @@ impl<'a> Algorithm<'a> {
             Some(value) => Some(value),
             None => None,
         }
+    }
+}
+
+impl<'a> fmt::Debug for Algorithm<'a> {
+    fn fmt<W: fmt::Write>(&self, f: &mut fmt::Formatter<W>) -> fmt::Result {
+        f.debug_struct("Algorithm")
+            .field("algorithm", &self.algorithm())
+            .field("parameters", &self.parameters())
+            .finish()
     }
 }
 

@@ -29,6 +29,7 @@ use der_opaque::{AnyRef, ObjectIdentifier};
 use der_tlv::{Error, Header, Length, Source, Writer};
 use std::alloc::Global;
 use std::cmp::Ordering;
+use std::fmt;
 
 /// The list of the fields.
 type Fields<'a> = Fields2<ObjectIdentifier<39>, ItemSet<AnyRef<'a>, Values>>;
@@ -41,7 +42,7 @@ type Fields<'a> = Fields2<ObjectIdentifier<39>, ItemSet<AnyRef<'a>, Values>>;
 ///
 /// Reading refuses the first fault of the octets, in their order; `ErrorKind::Memory` (1) where
 /// memory runs out.
-#[derive(Debug, PartialEq, Eq, Drop)]
+#[derive(PartialEq, Eq, Drop)]
 pub struct Attribute<'a> {
     fields: Fields<'a>,
 }
@@ -85,6 +86,15 @@ impl<'a> Attribute<'a> {
         ensures { result.now ≡ attribute_fields.values self.now }
     {
         &self.fields.list.rest.first
+    }
+}
+
+impl<'a> fmt::Debug for Attribute<'a> {
+    fn fmt<W: fmt::Write>(&self, f: &mut fmt::Formatter<W>) -> fmt::Result {
+        f.debug_struct("Attribute")
+            .field("type_", &self.type_())
+            .field("values", self.values())
+            .finish()
     }
 }
 

@@ -26,6 +26,7 @@ use der_opaque::{ObjectIdentifier, OctetStringRef};
 use der_tlv::{Error, Header, Length, Source, Writer};
 use std::alloc::Global;
 use std::cmp::Ordering;
+use std::fmt;
 
 /// The list of the fields.
 type Fields<'a> = Fields3<
@@ -42,7 +43,7 @@ type Fields<'a> = Fields3<
 /// ```
 ///
 /// Reading refuses the first fault of the octets, in their order.
-#[derive(Clone, Copy, Debug, PartialEq, Eq)]
+#[derive(Clone, Copy, PartialEq, Eq)]
 pub struct Extension<'a> {
     fields: Fields<'a>,
 }
@@ -89,6 +90,16 @@ impl<'a> Extension<'a> {
         ensures { result.now ≡ extension_fields.extn_value self.now }
     {
         &self.fields.list.rest.rest.first
+    }
+}
+
+impl<'a> fmt::Debug for Extension<'a> {
+    fn fmt<W: fmt::Write>(&self, f: &mut fmt::Formatter<W>) -> fmt::Result {
+        f.debug_struct("Extension")
+            .field("extn_id", &self.extn_id())
+            .field("critical", &self.critical())
+            .field("extn_value", self.extn_value())
+            .finish()
     }
 }
 

@@ -235,21 +235,10 @@ impl<'a> DerOrd for General<'a> {
     fn der_cmp(&self, other: &General<'a>) -> Result<Ordering, Error> {
         match (self, other) {
             (General::Address(value), General::Address(other)) => value.der_cmp(other),
-            (General::Address(value), General::Directory(other)) => cmp_headers(value, other),
-            (General::Address(value), General::Number(other)) => cmp_headers(value, other),
-            (General::Address(value), General::Status(other)) => cmp_headers(value, other),
-            (General::Directory(value), General::Address(other)) => cmp_headers(value, other),
             (General::Directory(value), General::Directory(other)) => value.der_cmp(other),
-            (General::Directory(value), General::Number(other)) => cmp_headers(value, other),
-            (General::Directory(value), General::Status(other)) => cmp_headers(value, other),
-            (General::Number(value), General::Address(other)) => cmp_headers(value, other),
-            (General::Number(value), General::Directory(other)) => cmp_headers(value, other),
             (General::Number(value), General::Number(other)) => value.der_cmp(other),
-            (General::Number(value), General::Status(other)) => cmp_headers(value, other),
-            (General::Status(value), General::Address(other)) => cmp_headers(value, other),
-            (General::Status(value), General::Directory(other)) => cmp_headers(value, other),
-            (General::Status(value), General::Number(other)) => cmp_headers(value, other),
             (General::Status(value), General::Status(other)) => value.der_cmp(other),
+            _ => cmp_headers(self, other),
         }
     }
 }

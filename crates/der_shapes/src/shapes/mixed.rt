@@ -24,6 +24,7 @@ use der_numbers::IntRef;
 use der_tlv::{Error, Header, Length, Source, Writer};
 use std::alloc::Global;
 use std::cmp::Ordering;
+use std::fmt;
 
 /// The list of the fields.
 type Fields<'a> = Fields3<bool, i8, Implicit<IntRef<'a>, 1>>;
@@ -38,7 +39,7 @@ type Fields<'a> = Fields3<bool, i8, Implicit<IntRef<'a>, 1>>;
 /// The fields are encoded in the order of their tags (X.690 10.3).
 ///
 /// Reading refuses the first fault of the octets, in their order.
-#[derive(Clone, Copy, Debug, PartialEq, Eq)]
+#[derive(Clone, Copy, PartialEq, Eq)]
 pub struct Mixed<'a> {
     fields: Fields<'a>,
 }
@@ -81,6 +82,16 @@ impl<'a> Mixed<'a> {
         ensures { result.now ≡ mixed_fields.third self.now }
     {
         &self.fields.list.rest.rest.first.value
+    }
+}
+
+impl<'a> fmt::Debug for Mixed<'a> {
+    fn fmt<W: fmt::Write>(&self, f: &mut fmt::Formatter<W>) -> fmt::Result {
+        f.debug_struct("Mixed")
+            .field("first", &self.first())
+            .field("second", &self.second())
+            .field("third", self.third())
+            .finish()
     }
 }
 

@@ -24,6 +24,7 @@ use der_opaque::{AnyRef, ObjectIdentifier};
 use der_tlv::{Error, Header, Length, Source, Writer};
 use std::alloc::Global;
 use std::cmp::Ordering;
+use std::fmt;
 
 /// The list of the fields.
 type Fields<'a> = Fields2<ObjectIdentifier<39>, AnyRef<'a>>;
@@ -35,7 +36,7 @@ type Fields<'a> = Fields2<ObjectIdentifier<39>, AnyRef<'a>>;
 /// ```
 ///
 /// Reading refuses the first fault of the octets, in their order.
-#[derive(Clone, Copy, Debug, PartialEq, Eq)]
+#[derive(Clone, Copy, PartialEq, Eq)]
 pub struct Pair<'a> {
     fields: Fields<'a>,
 }
@@ -68,6 +69,15 @@ impl<'a> Pair<'a> {
         ensures { result.now ≡ pair_fields.value self.now }
     {
         &self.fields.list.rest.first
+    }
+}
+
+impl<'a> fmt::Debug for Pair<'a> {
+    fn fmt<W: fmt::Write>(&self, f: &mut fmt::Formatter<W>) -> fmt::Result {
+        f.debug_struct("Pair")
+            .field("type_", &self.type_())
+            .field("value", self.value())
+            .finish()
     }
 }
 

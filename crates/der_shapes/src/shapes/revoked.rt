@@ -25,6 +25,7 @@ use der_time::GeneralizedTime;
 use der_tlv::{Error, Header, Length, Source, Writer};
 use std::alloc::Global;
 use std::cmp::Ordering;
+use std::fmt;
 
 /// The list of the fields.
 type Fields = Fields2<GeneralizedTime, Option<Explicit<Enumerated<Reason>, 0>>>;
@@ -36,7 +37,7 @@ type Fields = Fields2<GeneralizedTime, Option<Explicit<Enumerated<Reason>, 0>>>;
 /// ```
 ///
 /// Reading refuses the first fault of the octets, in their order.
-#[derive(Clone, Copy, Debug, PartialEq, Eq)]
+#[derive(Clone, Copy, PartialEq, Eq)]
 pub struct Revoked {
     fields: Fields,
 }
@@ -80,6 +81,15 @@ impl Revoked {
             Some(tagged) => Some(tagged.fields.first.value),
             None => None,
         }
+    }
+}
+
+impl fmt::Debug for Revoked {
+    fn fmt<W: fmt::Write>(&self, f: &mut fmt::Formatter<W>) -> fmt::Result {
+        f.debug_struct("Revoked")
+            .field("time", &self.time())
+            .field("reason", &self.reason())
+            .finish()
     }
 }
 

@@ -49,6 +49,7 @@ use der_time::UtcTime;
 use der_tlv::{Error, Header, Length, Source, Writer};
 use std::alloc::Global;
 use std::cmp::Ordering;
+use std::fmt;
 
 /// The list of the fields.
 type Fields<'a> = Fields8<
@@ -84,7 +85,7 @@ type Fields<'a> = Fields8<
 ///
 /// Reading refuses the first fault of the octets, in their order; `ErrorKind::Memory` (1) where
 /// memory runs out.
-#[derive(Debug, PartialEq, Eq, Drop)]
+#[derive(PartialEq, Eq, Drop)]
 pub struct Signed<'a> {
     fields: Fields<'a>,
 }
@@ -329,6 +330,24 @@ impl<'a> Signed<'a> {
             Some(value) => Some(&value.fields.first),
             None => None,
         }
+    }
+}
+
+impl<'a> fmt::Debug for Signed<'a> {
+    fn fmt<W: fmt::Write>(&self, f: &mut fmt::Formatter<W>) -> fmt::Result {
+        f.debug_struct("Signed")
+            .field("version", &self.version())
+            .field("serial", self.serial())
+            .field("algorithm", self.algorithm())
+            .field("issuer", self.issuer())
+            .field("from", &self.from())
+            .field("to", &self.to())
+            .field("subject", self.subject())
+            .field("key", self.key())
+            .field("usage", &self.usage())
+            .field("statuses", &self.statuses())
+            .field("extensions", &self.extensions())
+            .finish()
     }
 }
 

@@ -205,14 +205,9 @@ impl DerOrd for Status {
     fn der_cmp(&self, other: &Status) -> Result<Ordering, Error> {
         match (self, other) {
             (Status::Good(value), Status::Good(other)) => value.der_cmp(other),
-            (Status::Good(value), Status::Revoked(other)) => cmp_headers(value, other),
-            (Status::Good(value), Status::Unknown(other)) => cmp_headers(value, other),
-            (Status::Revoked(value), Status::Good(other)) => cmp_headers(value, other),
             (Status::Revoked(value), Status::Revoked(other)) => value.der_cmp(other),
-            (Status::Revoked(value), Status::Unknown(other)) => cmp_headers(value, other),
-            (Status::Unknown(value), Status::Good(other)) => cmp_headers(value, other),
-            (Status::Unknown(value), Status::Revoked(other)) => cmp_headers(value, other),
             (Status::Unknown(value), Status::Unknown(other)) => value.der_cmp(other),
+            _ => cmp_headers(self, other),
         }
     }
 }

@@ -32,6 +32,7 @@ use der_numbers::UintRef;
 use der_tlv::{Error, Header, Length, Source, Writer};
 use std::alloc::Global;
 use std::cmp::Ordering;
+use std::fmt;
 
 /// The list of the fields.
 type Fields<'a> = Fields4<
@@ -51,7 +52,7 @@ type Fields<'a> = Fields4<
 ///
 /// Reading refuses the first fault of the octets, in their order; `ErrorKind::Memory` (1) where
 /// memory runs out.
-#[derive(Debug, PartialEq, Eq, Drop)]
+#[derive(PartialEq, Eq, Drop)]
 pub struct Subtree<'a> {
     fields: Fields<'a>,
 }
@@ -149,6 +150,17 @@ impl<'a> Subtree<'a> {
         ensures { result ≡ subtree_fields.only self.now }
     {
         self.fields.list.rest.rest.rest.first.value.value
+    }
+}
+
+impl<'a> fmt::Debug for Subtree<'a> {
+    fn fmt<W: fmt::Write>(&self, f: &mut fmt::Formatter<W>) -> fmt::Result {
+        f.debug_struct("Subtree")
+            .field("base", self.base())
+            .field("minimum", &self.minimum())
+            .field("maximum", &self.maximum())
+            .field("only", &self.only())
+            .finish()
     }
 }
 

@@ -1,0 +1,238 @@
+"""What octets are made of: the file that has the components of each type by their names."""
+
+from __future__ import annotations
+
+from collections import Counter
+from dataclasses import dataclass
+from typing import Union
+
+from ..errors import AsnError
+from ..model import Alias, Choice, Definition, Kept, List, Listed, Presence, ResolvedModule, Resolved, Struct, Tagged, Use
+from ..properties import identifier_octet
+from ..spelling import camel, screaming
+from .plan import Plan
+
+TAKEN = ("PART", "COMPONENT", "VALUE")  # as `screaming` spells the names that the file itself has
+WORDS = {"Explicit": "{} after an explicit tag", "SequenceOf": "SEQUENCE OF {}", "SetOf": "SET OF {}"}
+
+
+# ---- parts
+
+
+@dataclass(frozen=True)
+class Around:
+    """A part with no name of its own: what stands after an explicit tag, or a list."""
+
+    word: str  # of WORDS
+    of: Union[Struct, List, Choice, "Around"]
+
+
+Part = Union[Struct, List, Around]
+
+
+@dataclass(frozen=True)
+class Component:
+    """A component; its part is None where that has no components."""
+
+    name: str
+    octet: int | None
+    part: Part | None
+
+
+def plain(type_: Resolved) -> Resolved:
+    """A type without what changes nothing within: second names, implicit tags, and that its octets are kept."""
+    while True:
+        if isinstance(type_, Kept) or (isinstance(type_, Tagged) and not type_.is_explicit):
+            type_ = type_.of
+        elif isinstance(type_, Use) and isinstance(type_.definition, Alias):
+            assert type_.definition.type is not None
+            type_ = type_.definition.type
+        else:
+            return type_
+
+
+def held(type_: Resolved) -> Part | Choice | None:
+    """The part that a type is; a CHOICE, which has no octets of its own; None where it has no components."""
+    found = plain(type_)
+    if isinstance(found, Tagged):
+        return around("Explicit", found.of)
+    if isinstance(found, Listed):
+        return around("SetOf" if found.is_set else "SequenceOf", found.item)
+    if isinstance(found, Use) and isinstance(found.definition, (Struct, List, Choice)):
+        return found.definition
+    return None
+
+
+def around(word: str, inner: Resolved) -> Around | None:
+    """The part around a type; None where that has no components."""
+    of = held(inner)
+    if of is None or (isinstance(of, Choice) and all(one.part is None for one in alternatives("", of))):
+        return None
+    return Around(word, of)
+
+
+def alternatives(name: str, choice: Choice) -> list[Component]:
+    """A component once for each alternative, those of a CHOICE within it among them."""
+    return [one for field in choice.alternatives for one in standing(name, field.type, is_told=True)]
+
+
+def standing(name: str, type_: Resolved, is_told: bool) -> list[Component]:
+    """A component of a type: one, with its octet where that tells it, or one for each alternative."""
+    part = held(type_)
+    if isinstance(part, Choice):
+        return alternatives(name, part)
+    return [Component(name, identifier_octet(type_) if is_told else None, part)]
+
+
+def components(part: Part) -> list[Component]:
+    """The components of a part, in the order of its octets."""
+    if isinstance(part, Around):
+        return alternatives("", part.of) if isinstance(part.of, Choice) else [Component("", None, part.of)]
+    if isinstance(part, List):
+        assert part.item is not None
+        return standing("", part.item, is_told=False)
+    return [
+        one
+        for field in part.fields
+        for one in standing(field.name, field.type, part.is_set or field.presence is not Presence.ALWAYS)
+    ]
+
+
+# ---- all parts of a crate
+
+
+def parts_of(modules: list[ResolvedModule]) -> list[Part]:
+    """The parts of all types of these modules, and those that are reached from them."""
+    found: dict[Part, None] = {}
+    for module in modules:
+        for definition in module.definitions:
+            reach(found, standing("", Use(definition), is_told=False))
+    return list(found)
+
+
+def reach(found: dict[Part, None], listed: list[Component]) -> None:
+    """Adds the parts of components, and what they are made of."""
+    for one in listed:
+        if one.part is not None and one.part not in found:
+            found[one.part] = None
+            reach(found, components(one.part))
+
+
+def innermost(part: Part | Choice) -> Definition:
+    """The type with a name that a part is, or stands around."""
+    while isinstance(part, Around):
+        part = part.of
+    return part
+
+
+def variants(plan: Plan, parts: list[Part]) -> dict[Part, str]:
+    """The name of each part: that of its type, with its module's before it where another has the same."""
+    definitions = list(dict.fromkeys(innermost(part) for part in parts))
+    spelled = Counter([*TAKEN, *(screaming(definition.rust) for definition in definitions)])
+    names = {
+        definition: definition.rust if spelled[screaming(definition.rust)] == 1 else in_module(plan, definition)
+        for definition in definitions
+    }
+    found = {part: variant(names, part) for part in parts}
+    check_distinct(found)
+    return found
+
+
+def in_module(plan: Plan, definition: Definition) -> str:
+    return camel(plan.of(definition).module) + definition.rust
+
+
+def variant(names: dict[Definition, str], part: Part | Choice) -> str:
+    return part.word + variant(names, part.of) if isinstance(part, Around) else names[part]
+
+
+def check_distinct(found: dict[Part, str]) -> None:
+    """No two parts may have one name."""
+    seen = set(TAKEN)
+    for part, name in found.items():
+        if screaming(name) in seen:
+            raise AsnError(
+                innermost(part).place,
+                f"'{name}' is the name of two parts",
+                "write '-- @name(..)' after the assignment of one of the types",
+            )
+        seen.add(screaming(name))
+
+
+# ---- the file
+
+
+def write_parts(plan: Plan, modules: list[ResolvedModule]) -> str:
+    """The source file of the parts of a crate."""
+    names = variants(plan, parts_of(modules))
+    return "\n\n".join([HEAD, declaration(names), COMPONENT, *(table(names, part) for part in names), calls(names)]) + "\n"
+
+
+HEAD = """//! What the octets of each type are made of: the components by their names.
+//!
+//! Made by tools/asn1."""
+
+COMPONENT = """/// A component.
+#[derive(Clone, Copy, Debug, PartialEq, Eq)]
+pub struct Component {
+    /// Its name in the module; none of an item of a list, or of what stands after an explicit tag.
+    pub name: &'static str,
+    /// The identifier octet that tells it, where it may be absent or is one of several.
+    pub octet: Option<u8>,
+    /// What it is made of.
+    pub part: Part,
+}"""
+
+
+def declaration(names: dict[Part, str]) -> str:
+    """The enum of all parts."""
+    listed = "".join(f"    /// {described(part)}.\n    {name},\n" for part, name in names.items())
+    return (
+        "/// What stands in octets: a type with components, a list, or a value with no such parts.\n"
+        "#[derive(Clone, Copy, Debug, PartialEq, Eq)]\n"
+        f"pub enum Part {{\n{listed}    /// A value with no components that have names.\n    Value,\n}}"
+    )
+
+
+def described(part: Part | Choice) -> str:
+    """A part in ASN.1's words."""
+    return WORDS[part.word].format(described(part.of)) if isinstance(part, Around) else f"`{part.name}`"
+
+
+def table(names: dict[Part, str], part: Part) -> str:
+    """The components of a part."""
+    listed = components(part)
+    lines = "".join(f"    {literal(names, one)},\n" for one in listed)
+    return f"static {screaming(names[part])}: [Component; {len(listed)}] = [\n{lines}];"
+
+
+def literal(names: dict[Part, str], one: Component) -> str:
+    octet = "None" if one.octet is None else f"Some({one.octet:#04x})"
+    part = "Value" if one.part is None else names[one.part]
+    return f'Component {{ name: "{one.name}", octet: {octet}, part: Part::{part} }}'
+
+
+def is_list(part: Part) -> bool:
+    return isinstance(part, List) or (isinstance(part, Around) and part.word != "Explicit")
+
+
+def calls(names: dict[Part, str]) -> str:
+    """What is asked of a part."""
+    arms = "".join(f"            Part::{name} => &{screaming(name)},\n" for name in names.values())
+    lists = " | ".join(f"Part::{name}" for part, name in names.items() if is_list(part))
+    return f"""impl Part {{
+    /// The components, in their order; of a list the one that each item is.
+    ///
+    /// A CHOICE has no octets of its own: it stands here once for each alternative, each time with the
+    /// name of the component, and one of them is there.
+    pub fn components(self) -> &'static [Component] {{
+        match self {{
+{arms}            Part::Value => &[],
+        }}
+    }}
+
+    /// Whether it is a list, of which each item is alike.
+    pub fn is_list(self) -> bool {{
+        {f"matches!(self, {lists})" if lists else "false"}
+    }}
+}}"""
