@@ -1,2 +1,2 @@
-pub mod Grammars
-pub mod NameLaws
+-- Made by tools/asn1.
+pub mod Extension

@@ -2,7 +2,7 @@
 use Rattle.std.specs.Prelude.{ℕ, List, [], ◌∷◌, Bool, false, ◌==◌, ◌||◌, if◌then◌else◌}
 use Rattle.der_message_text.specs.declared.kind.Kind.{Kind}
 use Rattle.der_message_text.specs.declared.kind.Kind.TheVariants.{Certificate, RevocationList, PublicKey, PrivateKey, RsaPrivateKey, RsaPublicKey, EcPrivateKey}
-use Rattle.der_message_text.specs.Values.{after_header, after_value, first_value}
+use Rattle.der_message_text.specs.Values.{after_header, after_value}
 
 -- whether the first value has this identifier octet
 abbrev pub has_tag : ℕ → List ℕ → Bool
@@ -37,7 +37,3 @@ kind_of_fields fields =
 -- what kind of message octets are
 abbrev pub kind_of : List ℕ → Kind
 kind_of octets = kind_of_fields (after_header octets)
-
--- what is signed: the first field
-abbrev pub signed_part : List ℕ → List ℕ
-signed_part octets = first_value (after_header octets)

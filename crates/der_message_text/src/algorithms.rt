@@ -4,9 +4,11 @@ use crate::identifiers::push_identifier;
 use crate::labels::push_label;
 use crate::names::push_malformed;
 use crate::site::Site;
-use der_asn1_types::Tag;
 use der_asn1_types::asn1::AnyRef;
-use der_pkix::{AlgorithmIdentifier, SubjectPublicKeyInfo, read_rsa_public_key};
+use der_asn1_types::{FromDer, Tag};
+use der_pkix::AlgorithmIdentifier;
+use der_pkix::certificate::SubjectPublicKeyInfo;
+use der_pkix::key::RsaPublicKey;
 use std::alloc::{AllocError, Global};
 use std::fmt::Write;
 
@@ -59,12 +61,12 @@ pub fn push_key(
     key: &SubjectPublicKeyInfo<'_>,
 ) -> Result<(), AllocError> {
     let algorithm = site.field(octets, "algorithm");
-    push_algorithm(alloc, text, &algorithm, "key algorithm", key.fields.first())?;
+    push_algorithm(alloc, text, &algorithm, "key algorithm", key.algorithm())?;
     push_label(text, &site.field(octets, "subjectPublicKey").place, "key")?;
-    let bits = key.fields.second().bit_len();
+    let bits = key.subject_public_key().bit_len();
     write!(text, "{bits} bits")?;
-    if key.fields.first().oid.as_bytes() == RSA_ENCRYPTION.as_slice() {
-        if let Some(octets) = key.fields.second().as_bytes() {
+    if key.algorithm().oid.as_bytes() == RSA_ENCRYPTION.as_slice() {
+        if let Some(octets) = key.subject_public_key().as_bytes() {
             push_rsa_key(alloc, text, octets)?;
         }
     }
@@ -73,9 +75,9 @@ pub fn push_key(
 
 fn push_rsa_key(alloc: Global, text: &mut String, octets: &[u8]) -> Result<(), AllocError> {
     text.push_str(", ")?;
-    match read_rsa_public_key(alloc, octets) {
+    match RsaPublicKey::from_der(alloc, octets) {
         Ok(key) => {
-            let bits = bits_of(key.fields.first().as_bytes());
+            let bits = bits_of(key.modulus().as_bytes());
             write!(text, "modulus of {bits} bits")
         }
         Err(error) => push_malformed(text, error),

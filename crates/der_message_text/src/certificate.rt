@@ -1,48 +1,39 @@
 //! A certificate as text.
 
 ghost use Rattle.std.specs.Prelude.{◌≡◌, None, OnOk};
-ghost use Rattle.der_certificate.specs.contracts.grammars.CertificateMessage.TheImpl.{ghosts as certificate};
-ghost use Rattle.der_certificate.specs.contracts.grammars.TbsCertificateMessage.TheImpl.{ghosts as tbs_certificate};
+ghost use Rattle.der_modules.specs.Asn1.{parse_of};
+ghost use Rattle.der_pkix.specs.Certificate.Grammar.{certificate};
 ghost use Rattle.der_message_text.specs.Faults.{first_fault};
-ghost use Rattle.der_message_text.specs.Kinds.{signed_part};
 
 use crate::algorithms::{push_algorithm, push_key};
 use crate::extensions::push_extensions;
-use crate::fault::within_signed;
 use crate::hexadecimal::push_with_colons;
-use crate::kind::{Kind, signed_part};
+use crate::kind::Kind;
 use crate::labels::{push_label, push_number, push_title};
 use crate::names::push_name;
 use crate::site::Site;
 use crate::times::push_validity;
-use der_asn1_types::Error;
-use der_asn1_types::asn1::IntRef;
-use der_certificate::{Certificate, TbsCertificate, read_certificate, read_tbs_certificate, tbs};
+use der_asn1_types::asn1::{BitStringRef, IntRef};
+use der_asn1_types::{Error, FromDer};
+use der_pkix::AlgorithmIdentifier;
+use der_pkix::certificate::laws::grammar_of_certificate;
+use der_pkix::certificate::{Certificate, TbsCertificate};
 use std::alloc::{AllocError, Global};
 use std::fmt::Write;
 
 /// The fields of the certificate that these octets are, a line each.
 ///
 /// # Errors
-/// The first fault of the octets, in the order of the three parts, and then the first of what is
-/// signed; `ErrorKind::TrailingData` (3) where octets are left over; `ErrorKind::Overflow` (9)
-/// where there are more than 4294967295; `ErrorKind::Memory` (1) where memory runs out.
+/// The first fault of the octets, in the order of the fields; `ErrorKind::TrailingData` (3) where
+/// octets are left over; `ErrorKind::Overflow` (9) where there are more than 4294967295;
+/// `ErrorKind::Memory` (1) where memory runs out.
 pub fn certificate_text(alloc: Global, octets: &[u8]) -> Result<String, Error>
-    ensures whole { OnOk result (first_fault certificate.grammar.parse octets.now ≡ None) }
-    ensures signed { OnOk result (first_fault tbs_certificate.grammar.parse (signed_part octets.now) ≡ None) }
+    ensures { OnOk result (first_fault (parse_of certificate) octets.now ≡ None) }
 {
-    match read_certificate(alloc, octets) {
-        Ok(certificate) => with_signed(alloc, octets, &certificate),
+    grammar_of_certificate();
+    match Certificate::from_der(alloc, octets) {
+        Ok(certificate) => Ok(text_of(alloc, octets, &certificate)?),
         Err(error) => Err(error),
-    }
-}
-
-fn with_signed(alloc: Global, octets: &[u8], certificate: &Certificate<'_>) -> Result<String, Error>
-    ensures { OnOk result (first_fault tbs_certificate.grammar.parse (signed_part octets.now) ≡ None) }
-{
-    match read_tbs_certificate(alloc, signed_part(octets)) {
-        Ok(signed) => Ok(text_of(alloc, octets, certificate, &signed)?),
-        Err(error) => Err(within_signed(octets, error)),
     }
 }
 
@@ -50,19 +41,26 @@ fn text_of(
     alloc: Global,
     octets: &[u8],
     certificate: &Certificate<'_>,
-    signed: &TbsCertificate<'_>,
 ) -> Result<String, AllocError> {
     let mut text = String::new(alloc);
     let whole = Site::whole(octets, Kind::Certificate);
     push_title(&mut text, &whole.place, Kind::Certificate)?;
+    let site = whole.field(octets, "tbsCertificate");
     push_signed(
         alloc,
         &mut text,
         octets,
-        &whole.field(octets, "tbsCertificate"),
-        signed,
+        &site,
+        certificate.tbs_certificate(),
     )?;
-    push_signature(alloc, &mut text, octets, &whole, certificate)?;
+    push_signature(
+        alloc,
+        &mut text,
+        octets,
+        &whole,
+        certificate.signature_algorithm(),
+        certificate.signature_value(),
+    )?;
     Ok(text)
 }
 
@@ -73,38 +71,38 @@ fn push_signed(
     site: &Site,
     signed: &TbsCertificate<'_>,
 ) -> Result<(), AllocError> {
-    push_version(text, &site.field(octets, "version"), tbs::version(signed))?;
+    push_version(text, &site.field(octets, "version"), signed.version())?;
     push_serial_number(
         text,
         &site.field(octets, "serialNumber"),
-        tbs::serial_number(signed),
+        signed.serial_number(),
     )?;
     push_algorithm(
         alloc,
         text,
         &site.field(octets, "signature"),
         "signature algorithm",
-        tbs::signature(signed),
+        signed.signature(),
     )?;
     push_name(
         alloc,
         text,
         &site.field(octets, "issuer"),
         "issuer",
-        tbs::issuer(signed),
+        signed.issuer(),
     )?;
     push_validity(
         text,
         octets,
         &site.field(octets, "validity"),
-        tbs::validity(signed),
+        &signed.validity(),
     )?;
     push_name(
         alloc,
         text,
         &site.field(octets, "subject"),
         "subject",
-        tbs::subject(signed),
+        signed.subject(),
     )?;
     push_rest(alloc, text, octets, site, signed)
 }
@@ -116,7 +114,7 @@ fn push_rest(
     site: &Site,
     signed: &TbsCertificate<'_>,
 ) -> Result<(), AllocError> {
-    let key = tbs::subject_public_key_info(signed);
+    let key = signed.subject_public_key_info();
     push_key(
         alloc,
         text,
@@ -124,13 +122,13 @@ fn push_rest(
         &site.field(octets, "subjectPublicKeyInfo"),
         key,
     )?;
-    match tbs::extensions(signed) {
+    match signed.extensions() {
         Some(extensions) => push_extensions(
             alloc,
             text,
             octets,
             &site.field(octets, "extensions"),
-            extensions.fields.first.list(),
+            extensions.as_slice(),
         ),
         None => Ok(()),
     }
@@ -146,7 +144,7 @@ pub fn push_version(text: &mut String, site: &Site, number: u8) -> Result<(), Al
 fn push_serial_number(
     text: &mut String,
     site: &Site,
-    number: IntRef<'_>,
+    number: &IntRef<'_>,
 ) -> Result<(), AllocError> {
     push_label(text, &site.place, "serial number")?;
     push_with_colons(text, number.as_bytes())?;
@@ -159,21 +157,16 @@ pub fn push_signature(
     text: &mut String,
     octets: &[u8],
     site: &Site,
-    signed: &Certificate<'_>,
+    algorithm: &AlgorithmIdentifier<'_>,
+    signature: &BitStringRef<'_>,
 ) -> Result<(), AllocError> {
     push_algorithm(
         alloc,
         text,
         &site.field(octets, "signatureAlgorithm"),
         "signature algorithm",
-        signed.fields.second(),
+        algorithm,
     )?;
     let place = site.field(octets, "signatureValue").place;
-    push_number(
-        text,
-        &place,
-        "signature",
-        signed.fields.third().bit_len(),
-        "bits",
-    )
+    push_number(text, &place, "signature", signature.bit_len(), "bits")
 }

@@ -2,26 +2,27 @@
 
 use crate::hexadecimal::push_digits;
 use crate::names::push_malformed;
-use der_extensions::{BasicConstraints, read_basic_constraints};
+use der_asn1_types::FromDer;
+use der_extensions::extension::BasicConstraints;
 use std::alloc::{AllocError, Global};
 use std::fmt::Write;
 
 /// Adds whether the key may sign certificates, and how many may follow.
 pub fn push_constraints(alloc: Global, text: &mut String, octets: &[u8]) -> Result<(), AllocError> {
     text.push_str(", ")?;
-    match read_basic_constraints(alloc, octets) {
+    match BasicConstraints::from_der(alloc, octets) {
         Ok(constraints) => push_authority(text, &constraints),
         Err(error) => push_malformed(text, error),
     }
 }
 
 fn push_authority(text: &mut String, constraints: &BasicConstraints<'_>) -> Result<(), AllocError> {
-    if constraints.fields.ca {
+    if constraints.ca() {
         text.push_str("CA")?;
     } else {
         text.push_str("no CA")?;
     }
-    match constraints.fields.path_len_constraint {
+    match constraints.path_len_constraint() {
         Some(length) => push_path_length(text, length.as_bytes()),
         None => Ok(()),
     }

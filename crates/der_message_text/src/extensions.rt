@@ -7,7 +7,7 @@ use crate::labels::push_label;
 use crate::other_names::push_other_names;
 use crate::site::{Site, Sites};
 use crate::usages::{push_purposes, push_usage};
-use der_pkix::Extension;
+use der_pkix::certificate::Extension;
 use std::alloc::{AllocError, Global};
 use std::fmt::Write;
 
@@ -25,26 +25,26 @@ pub fn push_extensions(
         let place = sites.next_site().unwrap_or(list.nothing()).place;
         push_label(text, &place, "extension")?;
         push_extension(alloc, text, extension)?;
+        text.push('\n')?;
     }
     Ok(())
 }
 
-/// Adds an extension, and ends the line.
+/// Adds an extension: what it is, whether it is critical, and its value.
 pub fn push_extension(
     alloc: Global,
     text: &mut String,
     extension: &Extension<'_>,
 ) -> Result<(), AllocError> {
-    let identifier = extension.extn_id.as_bytes();
-    push_identifier(alloc, text, identifier)?;
-    if extension.critical {
+    let identifier = extension.extn_id();
+    push_identifier(alloc, text, identifier.as_bytes())?;
+    if extension.critical() {
         text.push_str(", critical")?;
     }
-    let octets = extension.extn_value.as_bytes();
+    let octets = extension.extn_value().as_bytes();
     let count = octets.len();
     write!(text, ", {count} octets")?;
-    push_value(alloc, text, identifier, octets)?;
-    text.push('\n')
+    push_value(alloc, text, identifier.as_bytes(), octets)
 }
 
 /// Adds what the octets of an extension's value say, if it is one of those that are read.

@@ -4,15 +4,14 @@
 use crate::hexadecimal::push_with_colons;
 use crate::names::push_malformed;
 use crate::other_names::push_names;
-use der_extensions::{
-    AuthorityKeyIdentifier, read_authority_key_identifier, read_subject_key_identifier,
-};
+use der_asn1_types::FromDer;
+use der_extensions::extension::{AuthorityKeyIdentifier, SubjectKeyIdentifier};
 use std::alloc::{AllocError, Global};
 
 /// Adds the identifier of a key.
 pub fn push_subject_key(alloc: Global, text: &mut String, octets: &[u8]) -> Result<(), AllocError> {
     text.push_str(", ")?;
-    match read_subject_key_identifier(alloc, octets) {
+    match SubjectKeyIdentifier::from_der(alloc, octets) {
         Ok(identifier) => push_with_colons(text, identifier.as_bytes()),
         Err(error) => push_malformed(text, error),
     }
@@ -25,7 +24,7 @@ pub fn push_authority_key(
     text: &mut String,
     octets: &[u8],
 ) -> Result<(), AllocError> {
-    match read_authority_key_identifier(alloc, octets) {
+    match AuthorityKeyIdentifier::from_der(alloc, octets) {
         Ok(authority) => push_authority(alloc, text, &authority),
         Err(error) => {
             text.push_str(", ")?;
@@ -39,17 +38,17 @@ fn push_authority(
     text: &mut String,
     authority: &AuthorityKeyIdentifier<'_>,
 ) -> Result<(), AllocError> {
-    if let Some(identifier) = *authority.fields.first() {
+    if let Some(identifier) = authority.key_identifier() {
         text.push_str(", ")?;
-        push_with_colons(text, identifier.value.as_bytes())?;
+        push_with_colons(text, identifier.as_bytes())?;
     }
-    if let Some(names) = authority.fields.second() {
-        push_names(alloc, text, "issuer ", names.value.as_slice())?;
+    if let Some(names) = authority.authority_cert_issuer() {
+        push_names(alloc, text, "issuer ", names.as_slice())?;
     }
-    match *authority.fields.third() {
+    match authority.authority_cert_serial_number() {
         Some(number) => {
             text.push_str(", serial number ")?;
-            push_with_colons(text, number.value.as_bytes())
+            push_with_colons(text, number.as_bytes())
         }
         None => Ok(()),
     }

@@ -1,24 +1,25 @@
 //! Keys as text. Of what is secret only the length is shown.
 
 ghost use Rattle.std.specs.Prelude.{◌≡◌, None, OnOk};
-ghost use Rattle.der_pkix.specs.contracts.grammars.SubjectPublicKeyInfoMessage.TheImpl.{ghosts as subject_public_key_info};
-ghost use Rattle.der_pkix.specs.contracts.grammars.PrivateKeyInfoMessage.TheImpl.{ghosts as private_key_info};
-ghost use Rattle.der_pkix.specs.contracts.grammars.RsaPublicKeyMessage.TheImpl.{ghosts as rsa_public_key};
-ghost use Rattle.der_pkix.specs.contracts.grammars.EcPrivateKeyMessage.TheImpl.{ghosts as ec_private_key};
+ghost use Rattle.der_modules.specs.Asn1.{parse_of};
+ghost use Rattle.der_pkix.specs.Certificate.Grammar.{subject_public_key_info};
+ghost use Rattle.der_pkix.specs.Key.Grammar.{private_key_info, rsa_public_key, ec_private_key};
 ghost use Rattle.der_message_text.specs.Faults.{first_fault};
 
 use crate::algorithms::{bits_of, push_algorithm, push_key};
 use crate::hexadecimal::push_with_colons;
 use crate::identifiers::push_identifier;
 use crate::kind::Kind;
-use crate::labels::{push_label, push_number, push_title};
+use crate::labels::{push_count, push_label, push_number, push_title};
 use crate::site::Site;
-use der_asn1_types::Error;
-use der_asn1_types::asn1::UintRef;
-use der_pkix::{
-    EcPrivateKey, PrivateKeyInfo, RsaPublicKey, SubjectPublicKeyInfo, read_ec_private_key,
-    read_private_key_info, read_rsa_public_key, read_subject_public_key_info,
+use der_asn1_types::asn1::{BitStringRef, UintRef};
+use der_asn1_types::{Error, FromDer};
+use der_pkix::certificate::SubjectPublicKeyInfo;
+use der_pkix::certificate::laws::grammar_of_subject_public_key_info;
+use der_pkix::key::laws::{
+    grammar_of_ec_private_key, grammar_of_private_key_info, grammar_of_rsa_public_key,
 };
+use der_pkix::key::{EcParameters, EcPrivateKey, PrivateKeyInfo, RsaPublicKey};
 use std::alloc::{AllocError, Global};
 use std::fmt::Write;
 
@@ -29,9 +30,10 @@ use std::fmt::Write;
 /// octets are left over; `ErrorKind::Overflow` (9) where there are more than 4294967295;
 /// `ErrorKind::Memory` (1) where memory runs out.
 pub fn public_key_text(alloc: Global, octets: &[u8]) -> Result<String, Error>
-    ensures { OnOk result (first_fault subject_public_key_info.grammar.parse octets.now ≡ None) }
+    ensures { OnOk result (first_fault (parse_of subject_public_key_info) octets.now ≡ None) }
 {
-    match read_subject_public_key_info(alloc, octets) {
+    grammar_of_subject_public_key_info();
+    match SubjectPublicKeyInfo::from_der(alloc, octets) {
         Ok(key) => Ok(public_key(alloc, octets, &key)?),
         Err(error) => Err(error),
     }
@@ -54,9 +56,10 @@ fn public_key(
 /// # Errors
 /// As `public_key_text`.
 pub fn private_key_text(alloc: Global, octets: &[u8]) -> Result<String, Error>
-    ensures { OnOk result (first_fault private_key_info.grammar.parse octets.now ≡ None) }
+    ensures { OnOk result (first_fault (parse_of private_key_info) octets.now ≡ None) }
 {
-    match read_private_key_info(alloc, octets) {
+    grammar_of_private_key_info();
+    match PrivateKeyInfo::from_der(alloc, octets) {
         Ok(key) => Ok(private_key(alloc, octets, &key)?),
         Err(error) => Err(error),
     }
@@ -70,18 +73,52 @@ fn private_key(
     let mut text = String::new(alloc);
     let whole = Site::whole(octets, Kind::PrivateKey);
     push_title(&mut text, &whole.place, Kind::PrivateKey)?;
-    push_version(&mut text, octets, &whole, *key.fields.first())?;
+    push_version(&mut text, octets, &whole, key.version())?;
     let algorithm = whole.field(octets, "privateKeyAlgorithm");
     push_algorithm(
         alloc,
         &mut text,
         &algorithm,
         "key algorithm",
-        key.fields.second(),
+        key.private_key_algorithm(),
     )?;
-    let count = key.fields.third().as_bytes().len();
+    let count = key.private_key().as_bytes().len();
     push_secret(&mut text, octets, &whole, "privateKey", count)?;
+    push_attributes(&mut text, octets, &whole, key)?;
+    push_public_bits(&mut text, octets, &whole, key.public_key())?;
     Ok(text)
+}
+
+/// Adds how many attributes there are, where they are there.
+fn push_attributes(
+    text: &mut String,
+    octets: &[u8],
+    whole: &Site,
+    key: &PrivateKeyInfo<'_>,
+) -> Result<(), AllocError> {
+    match key.attributes() {
+        Some(attributes) => {
+            let place = whole.field(octets, "attributes").place;
+            push_count(text, &place, "attributes", attributes.as_slice().len())
+        }
+        None => Ok(()),
+    }
+}
+
+/// Adds how many bits the public key has that stands beside a private one, where it is there.
+fn push_public_bits(
+    text: &mut String,
+    octets: &[u8],
+    whole: &Site,
+    key: Option<&BitStringRef<'_>>,
+) -> Result<(), AllocError> {
+    match key {
+        Some(bits) => {
+            let place = whole.field(octets, "publicKey").place;
+            push_number(text, &place, "public key", bits.bit_len(), "bits")
+        }
+        None => Ok(()),
+    }
 }
 
 /// The fields of the RSAPublicKey that these octets are, a line each.
@@ -89,9 +126,10 @@ fn private_key(
 /// # Errors
 /// As `public_key_text`.
 pub fn rsa_public_key_text(alloc: Global, octets: &[u8]) -> Result<String, Error>
-    ensures { OnOk result (first_fault rsa_public_key.grammar.parse octets.now ≡ None) }
+    ensures { OnOk result (first_fault (parse_of rsa_public_key) octets.now ≡ None) }
 {
-    match read_rsa_public_key(alloc, octets) {
+    grammar_of_rsa_public_key();
+    match RsaPublicKey::from_der(alloc, octets) {
         Ok(key) => Ok(rsa_public_key(alloc, octets, &key)?),
         Err(error) => Err(error),
     }
@@ -105,8 +143,8 @@ fn rsa_public_key(
     let mut text = String::new(alloc);
     let whole = Site::whole(octets, Kind::RsaPublicKey);
     push_title(&mut text, &whole.place, Kind::RsaPublicKey)?;
-    push_modulus(&mut text, octets, &whole, key.fields.first())?;
-    push_exponent(&mut text, octets, &whole, key.fields.second())?;
+    push_modulus(&mut text, octets, &whole, key.modulus())?;
+    push_exponent(&mut text, octets, &whole, key.public_exponent())?;
     Ok(text)
 }
 
@@ -115,9 +153,10 @@ fn rsa_public_key(
 /// # Errors
 /// As `public_key_text`.
 pub fn ec_private_key_text(alloc: Global, octets: &[u8]) -> Result<String, Error>
-    ensures { OnOk result (first_fault ec_private_key.grammar.parse octets.now ≡ None) }
+    ensures { OnOk result (first_fault (parse_of ec_private_key) octets.now ≡ None) }
 {
-    match read_ec_private_key(alloc, octets) {
+    grammar_of_ec_private_key();
+    match EcPrivateKey::from_der(alloc, octets) {
         Ok(key) => Ok(ec_private_key(alloc, octets, &key)?),
         Err(error) => Err(error),
     }
@@ -131,14 +170,15 @@ fn ec_private_key(
     let mut text = String::new(alloc);
     let whole = Site::whole(octets, Kind::EcPrivateKey);
     push_title(&mut text, &whole.place, Kind::EcPrivateKey)?;
-    push_version(&mut text, octets, &whole, *key.fields.first())?;
-    let count = key.fields.second().as_bytes().len();
+    push_version(&mut text, octets, &whole, key.version())?;
+    let count = key.private_key().as_bytes().len();
     push_secret(&mut text, octets, &whole, "privateKey", count)?;
     push_curve(alloc, &mut text, octets, &whole, key)?;
+    push_public_bits(&mut text, octets, &whole, key.public_key())?;
     Ok(text)
 }
 
-/// Adds the curve and the public key, where they are there.
+/// Adds a line with the curve, where its parameters are there.
 fn push_curve(
     alloc: Global,
     text: &mut String,
@@ -146,23 +186,26 @@ fn push_curve(
     whole: &Site,
     key: &EcPrivateKey<'_>,
 ) -> Result<(), AllocError> {
-    if let Some(curve) = key.fields.third() {
-        push_label(text, &whole.field(octets, "parameters").place, "curve")?;
-        push_identifier(alloc, text, curve.fields.first.as_bytes())?;
-        text.push('\n')?;
-    }
-    match key.fields.fourth() {
-        Some(bits) => {
-            let place = whole.field(octets, "publicKey").place;
-            push_number(
-                text,
-                &place,
-                "public key",
-                bits.fields.first.bit_len(),
-                "bits",
-            )
+    match key.parameters() {
+        Some(parameters) => {
+            push_label(text, &whole.field(octets, "parameters").place, "curve")?;
+            push_curve_of(alloc, text, parameters)?;
+            text.push('\n')
         }
         None => Ok(()),
+    }
+}
+
+/// Adds the name of a curve; of one that has none, how it is known.
+fn push_curve_of(
+    alloc: Global,
+    text: &mut String,
+    parameters: &EcParameters<'_>,
+) -> Result<(), AllocError> {
+    match parameters {
+        EcParameters::NamedCurve(name) => push_identifier(alloc, text, name.as_bytes()),
+        EcParameters::ImplicitCurve(_) => text.push_str("implicit"),
+        EcParameters::SpecifiedCurve(_) => text.push_str("parameters of its own"),
     }
 }
 

@@ -1,9 +1,9 @@
 //! What kind of message octets are.
 
 ghost use Rattle.std.specs.Prelude.{◌≡◌};
-ghost use Rattle.der_message_text.specs.Kinds.{has_tag, has_time_tag, signed_kind, key_kind, kind_of, signed_part};
+ghost use Rattle.der_message_text.specs.Kinds.{has_tag, has_time_tag, signed_kind, key_kind, kind_of};
 
-use crate::values::{after_header, after_value, first_value};
+use crate::values::{after_header, after_value};
 
 /// The messages that are shown.
 #[derive(Clone, Copy, Debug, PartialEq, Eq)]
@@ -14,7 +14,7 @@ pub enum Kind {
     RevocationList,
     /// A SubjectPublicKeyInfo (RFC 5280 section 4.1.2.7).
     PublicKey,
-    /// A PrivateKeyInfo (RFC 5208 section 5).
+    /// A PrivateKeyInfo (RFC 5958 section 2, where it is a OneAsymmetricKey).
     PrivateKey,
     /// An RSAPrivateKey (RFC 8017 appendix A.1.2).
     RsaPrivateKey,
@@ -52,13 +52,6 @@ pub fn kind_of(octets: &[u8]) -> Kind
         return Kind::PublicKey;
     }
     signed_kind(after_header(fields))
-}
-
-/// What is signed of a message: its first field.
-pub fn signed_part(octets: &[u8]) -> &[u8]
-    ensures { result.now ≡ signed_part octets.now }
-{
-    first_value(after_header(octets))
 }
 
 /// Of what follows a first INTEGER.

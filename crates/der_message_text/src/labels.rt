@@ -34,6 +34,17 @@ pub fn push_number(
     writeln!(text, "{number} {unit}")
 }
 
+/// Adds a line with how many there are of what a field lists.
+pub fn push_count(
+    text: &mut String,
+    place: &Place,
+    label: &str,
+    count: usize,
+) -> Result<(), AllocError> {
+    push_label(text, place, label)?;
+    writeln!(text, "{count}")
+}
+
 /// Adds the line of the whole message: what a person calls it.
 pub fn push_title(text: &mut String, place: &Place, kind: Kind) -> Result<(), AllocError> {
     push_place(text, place)?;

@@ -24,7 +24,6 @@ mod kind;
 mod labels;
 mod names;
 mod other_names;
-mod part;
 mod path;
 mod pem;
 mod place;

@@ -4,9 +4,10 @@ use crate::hexadecimal::{push_digits, push_octet};
 use crate::identifiers::{dotted, name_in};
 use crate::labels::push_label;
 use crate::site::Site;
-use der_asn1_types::asn1::AnyRef;
-use der_asn1_types::{Encode, Error, ErrorKind, FromDer, Tag};
-use der_pkix::{AttributeTypeAndValue, Name, RelativeDistinguishedName};
+use der_asn1_types::asn1::{AnyRef, Kept};
+use der_asn1_types::{Encode, Error, ErrorKind, Tag};
+use der_modules::copy_of;
+use der_pkix::name::{AttributeTypeAndValue, Name, RelativeDistinguishedName};
 use std::alloc::{AllocError, Global};
 use std::fmt::Write;
 
@@ -26,22 +27,25 @@ const ATTRIBUTES: [(&str, &str); 12] = [
     ("1.2.840.113549.1.9.1", "emailAddress"),
 ];
 
-/// Adds a line with a name; `malformed` and the fault where the octets are no name.
-pub fn push_name(
+/// Adds a line with a name.
+pub fn push_name<'a>(
     alloc: Global,
     text: &mut String,
     site: &Site,
     label: &str,
-    name: AnyRef<'_>,
+    name: &Kept<'a, Name<'a>>,
 ) -> Result<(), AllocError> {
     push_label(text, &site.place, label)?;
-    push_directory(alloc, text, name)?;
+    push_kept(alloc, text, copy_of(name))?;
     text.push('\n')
 }
 
-/// Adds a name by its places; `malformed` and the fault where the value is no name.
-fn push_directory(alloc: Global, text: &mut String, name: AnyRef<'_>) -> Result<(), AllocError> {
-    match name.decode_as::<Name>(alloc) {
+fn push_kept<'a>(
+    alloc: Global,
+    text: &mut String,
+    name: Kept<'a, Name<'a>>,
+) -> Result<(), AllocError> {
+    match name.value(alloc) {
         Ok(name) => push_places(alloc, text, name.as_slice()),
         Err(error) => push_malformed(text, error),
     }
@@ -94,17 +98,18 @@ fn push_attribute(
     text: &mut String,
     attribute: &AttributeTypeAndValue<'_>,
 ) -> Result<(), AllocError> {
-    let dotted = dotted(alloc, attribute.fields.first.as_bytes())?;
+    let identifier = attribute.type_();
+    let dotted = dotted(alloc, identifier.as_bytes())?;
     match name_in(&ATTRIBUTES, dotted.as_str()) {
         Some(name) => text.push_str(name)?,
         None => text.push_str(dotted.as_str())?,
     }
     text.push('=')?;
-    push_value(alloc, text, attribute.fields.rest.first)
+    push_value(alloc, text, attribute.value())
 }
 
 /// Adds a value: the characters of a string type, or else `#` and its encoding.
-fn push_value(alloc: Global, text: &mut String, value: AnyRef<'_>) -> Result<(), AllocError> {
+fn push_value(alloc: Global, text: &mut String, value: &AnyRef<'_>) -> Result<(), AllocError> {
     if is_text(value.header().tag) {
         if let Ok(characters) = str::from_utf8(value.value()) {
             return push_escaped(text, characters);
@@ -117,7 +122,7 @@ fn push_value(alloc: Global, text: &mut String, value: AnyRef<'_>) -> Result<(),
 pub fn push_encoding(
     alloc: Global,
     text: &mut String,
-    value: AnyRef<'_>,
+    value: &AnyRef<'_>,
 ) -> Result<(), AllocError> {
     text.push('#')?;
     match value.to_der(alloc) {

@@ -3,14 +3,14 @@
 use crate::hexadecimal::{push_digits, push_octet};
 use crate::identifiers::push_identifier;
 use crate::names::{push_encoding, push_escaped, push_malformed, push_places};
-use der_asn1_types::OneOf;
-use der_extensions::{GeneralName, read_subject_alt_name, write_general_name};
+use der_asn1_types::{Encode, FromDer};
+use der_extensions::extension::{GeneralName, SubjectAltName};
 use std::alloc::{AllocError, Global};
 use std::fmt::Write;
 
 /// Adds the names; `malformed` and the fault where the octets are no names.
 pub fn push_other_names(alloc: Global, text: &mut String, octets: &[u8]) -> Result<(), AllocError> {
-    match read_subject_alt_name(alloc, octets) {
+    match SubjectAltName::from_der(alloc, octets) {
         Ok(names) => push_names(alloc, text, "", names.as_slice()),
         Err(error) => {
             text.push_str(", ")?;
@@ -40,40 +40,35 @@ fn push_other_name(
     name: &GeneralName<'_>,
 ) -> Result<(), AllocError> {
     match name {
-        OneOf::First(OneOf::First(OneOf::First(other))) => {
+        GeneralName::OtherName(other) => {
             text.push_str("other ")?;
-            push_identifier(alloc, text, other.value.type_id().as_bytes())?;
+            let identifier = other.value.type_id();
+            push_identifier(alloc, text, identifier.as_bytes())?;
             text.push(' ')?;
             push_encoding(alloc, text, other.value.value())
         }
-        OneOf::First(OneOf::First(OneOf::Other(mail))) => {
-            push_text(text, "mail ", mail.value.as_str())
-        }
-        OneOf::First(OneOf::Other(OneOf::First(host))) => {
-            push_text(text, "host ", host.value.as_str())
-        }
-        OneOf::Other(OneOf::First(OneOf::First(directory))) => {
+        GeneralName::Rfc822Name(mail) => { push_text(text, "mail ", mail.value.as_str()) }
+        GeneralName::DnsName(host) => { push_text(text, "host ", host.value.as_str()) }
+        GeneralName::DirectoryName(directory) => {
             text.push_str("directory ")?;
             push_places(alloc, text, directory.fields.first.as_slice())
         }
-        OneOf::Other(OneOf::Other(OneOf::First(resource))) => {
+        GeneralName::UniformResourceIdentifier(resource) => {
             push_text(text, "resource ", resource.value.as_str())
         }
-        OneOf::Other(OneOf::Other(OneOf::Other(OneOf::First(address)))) => {
-            push_address(text, address.value.as_bytes())
-        }
-        OneOf::Other(OneOf::Other(OneOf::Other(OneOf::Other(identifier)))) => {
+        GeneralName::IpAddress(address) => { push_address(text, address.value.as_bytes()) }
+        GeneralName::RegisteredId(identifier) => {
             text.push_str("identifier ")?;
             push_identifier(alloc, text, identifier.value.as_bytes())
         }
-        _ => push_whole(alloc, text, name),
+        GeneralName::X400Address(_) | GeneralName::EdiPartyName(_) => push_whole(alloc, text, name),
     }
 }
 
 /// Adds a name of a kind that is kept as it is encoded: `#` and its encoding.
 fn push_whole(alloc: Global, text: &mut String, name: &GeneralName<'_>) -> Result<(), AllocError> {
     text.push_str("other #")?;
-    match write_general_name(alloc, name) {
+    match name.to_der(alloc) {
         Ok(octets) => push_digits(text, octets.as_slice()),
         Err(_) => Err(AllocError),
     }

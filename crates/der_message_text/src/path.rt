@@ -1,8 +1,7 @@
 //! The field in which a fault was met.
 
 use crate::kind::Kind;
-use crate::part::Part;
-use crate::site::Site;
+use crate::site::{Site, of_kind};
 use der_asn1_types::{Error, ErrorKind};
 use std::fmt;
 
@@ -64,14 +63,14 @@ impl Path {
     fn names(&self) -> [&'static str; 5] {
         let mut names = [""; 5];
         let mut count = 0;
-        let mut part = Part::of(self.kind);
+        let mut part = of_kind(self.kind);
         for step in &self.steps {
-            let Some((name, _, inner)) = part.fields().get(*step) else {
+            let Some(component) = part.components().get(*step) else {
                 break;
             };
-            part = *inner;
-            if !name.is_empty() && count < names.len() {
-                names[count] = *name;
+            part = component.part;
+            if !component.name.is_empty() && count < names.len() {
+                names[count] = component.name;
                 count += 1;
             }
         }

@@ -1,8 +1,8 @@
 //! The fields of a message, where they stand in its octets.
 
 use crate::kind::Kind;
-use crate::part::{NamedField, Part};
 use crate::place::{Place, place_at, place_of_all};
+use der_pkix::parts::{Component, Part};
 
 /// A part of a message, and where it stands.
 #[derive(Clone, Copy, Debug, PartialEq, Eq)]
@@ -30,7 +30,7 @@ impl Site {
     pub fn whole(octets: &[u8], kind: Kind) -> Site {
         Site {
             step: 0,
-            part: Part::of(kind),
+            part: of_kind(kind),
             place: place_of_all(octets),
         }
     }
@@ -40,7 +40,7 @@ impl Site {
         let mut sites = Sites::within(octets, self);
         for _ in self.place.contents..self.place.end {
             match sites.next_site() {
-                Some(site) if self.part.name_of(site.step) == name => return site,
+                Some(site) if name_of(self.part, site.step) == name => return site,
                 Some(_) => {}
                 None => return self.nothing(),
             }
@@ -92,30 +92,85 @@ impl<'a> Sites<'a> {
         let place = place_at(self.octets, self.begin, self.end)?;
         let tag = *self.octets.get(place.begin)?;
         let step = self.step_with(tag)?;
-        let part = self.part.fields().get(step)?.2;
+        let part = self.part.components().get(step)?.part;
         self.begin = place.end;
         Some(Site { step, part, place })
     }
 
-    /// The next field that may begin with this octet: those that are absent are passed over.
-    fn step_with(&mut self, tag: u8) -> Option<usize> {
-        let fields = self.part.fields();
-        for step in self.next..fields.len() {
-            if may_begin(&fields[step], tag) {
-                if !self.part.is_list() {
-                    self.next = step.saturating_add(1);
-                }
-                return Some(step);
-            }
+    /// The next field that may begin with this octet: those that are absent are passed over. Where
+    /// there is none, the next CHOICE, which has no alternative with this octet.
+    fn step_with(&mut self, octet: u8) -> Option<usize> {
+        let components = self.part.components();
+        let step = match step_beginning(components, self.next, octet) {
+            Some(step) => step,
+            None => step_of_choice(components, self.next)?,
+        };
+        if !self.part.is_list() {
+            self.next = step_after(components, step);
         }
-        None
+        Some(step)
     }
 }
 
-/// Whether a field may begin with this octet: one that is never absent is told by its place alone.
-fn may_begin(field: &NamedField, tag: u8) -> bool {
-    match field.1 {
-        Some(octet) => octet == tag,
+/// What a message of a kind is made of.
+pub fn of_kind(kind: Kind) -> Part {
+    match kind {
+        Kind::Certificate => Part::Certificate,
+        Kind::RevocationList => Part::CertificateList,
+        Kind::PublicKey => Part::SubjectPublicKeyInfo,
+        Kind::PrivateKey => Part::OneAsymmetricKey,
+        Kind::RsaPrivateKey => Part::RsaPrivateKey,
+        Kind::RsaPublicKey => Part::RsaPublicKey,
+        Kind::EcPrivateKey => Part::EcPrivateKey,
+    }
+}
+
+/// The name of a part's field at this place; none where there is no such field, or it is an item.
+fn name_of(part: Part, step: usize) -> &'static str {
+    match part.components().get(step) {
+        Some(component) => component.name,
+        None => "",
+    }
+}
+
+/// The first component from a place on that may begin with this octet.
+fn step_beginning(components: &[Component], next: usize, octet: u8) -> Option<usize> {
+    for step in next..components.len() {
+        if may_begin(&components[step], octet) {
+            return Some(step);
+        }
+    }
+    None
+}
+
+/// Whether a component may begin with this octet: one that is never absent is told by its place
+/// alone.
+fn may_begin(component: &Component, octet: u8) -> bool {
+    match component.octet {
+        Some(first) => first == octet,
         None => true,
     }
+}
+
+/// The first component from a place on that is one of several alternatives, which have one name.
+fn step_of_choice(components: &[Component], next: usize) -> Option<usize> {
+    for step in next..components.len() {
+        if step_after(components, step) > step.saturating_add(1) {
+            return Some(step);
+        }
+    }
+    None
+}
+
+/// The place after a component, and after the other alternatives where it is one of several.
+fn step_after(components: &[Component], step: usize) -> usize {
+    let Some(component) = components.get(step) else {
+        return components.len();
+    };
+    for after in step..components.len() {
+        if components[after].name != component.name {
+            return after;
+        }
+    }
+    components.len()
 }

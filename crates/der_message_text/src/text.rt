@@ -1,9 +1,8 @@
 //! A message as text.
 
-ghost use Rattle.std.specs.Prelude.{◌≡◌, true, None, OnOk};
+ghost use Rattle.std.specs.Prelude.{◌≡◌, None, OnOk};
 ghost use Rattle.der_message_text.specs.Faults.{first_fault};
-ghost use Rattle.der_message_text.specs.Grammars.{grammar_of, is_signed, signed_grammar_of};
-ghost use Rattle.der_message_text.specs.Kinds.{signed_part};
+ghost use Rattle.der_message_text.specs.Grammars.{grammar_of};
 
 use crate::certificate::certificate_text;
 use crate::keys::{ec_private_key_text, private_key_text, public_key_text, rsa_public_key_text};
@@ -16,13 +15,11 @@ use std::alloc::Global;
 /// The fields of the message of this kind that these octets are, a line each.
 ///
 /// # Errors
-/// The first fault of the octets, in the order of the fields, and then the first of what is signed;
-/// `ErrorKind::TrailingData` (3) where octets are left over; `ErrorKind::Overflow` (9) where there
-/// are more than 4294967295; `ErrorKind::Memory` (1) where memory runs out.
+/// The first fault of the octets, in the order of the fields; `ErrorKind::TrailingData` (3) where
+/// octets are left over; `ErrorKind::Overflow` (9) where there are more than 4294967295;
+/// `ErrorKind::Memory` (1) where memory runs out.
 pub fn shown(alloc: Global, kind: Kind, octets: &[u8]) -> Result<String, Error>
-    ensures read { OnOk result (first_fault (grammar_of kind) octets.now ≡ None) }
-    ensures signed { OnOk result (is_signed kind ≡ true →
-        first_fault (signed_grammar_of kind) (signed_part octets.now) ≡ None) }
+    ensures { OnOk result (first_fault (grammar_of kind) octets.now ≡ None) }
 {
     match kind {
         Kind::Certificate => certificate_text(alloc, octets),

@@ -2,8 +2,8 @@
 
 use crate::labels::push_label;
 use crate::site::Site;
-use der_asn1_types::{DateTime, OneOf};
-use der_pkix::{Time, Validity};
+use der_asn1_types::DateTime;
+use der_pkix::certificate::{Time, Validity};
 use std::alloc::AllocError;
 use std::fmt::Write;
 
@@ -14,9 +14,9 @@ pub fn push_validity(
     site: &Site,
     validity: &Validity,
 ) -> Result<(), AllocError> {
-    let (begin, end) = (&validity.fields.not_before, &validity.fields.not_after);
-    push_moment(text, &site.field(octets, "notBefore"), "not before", begin)?;
-    push_moment(text, &site.field(octets, "notAfter"), "not after", end)
+    let (begin, end) = (validity.not_before(), validity.not_after());
+    push_moment(text, &site.field(octets, "notBefore"), "not before", &begin)?;
+    push_moment(text, &site.field(octets, "notAfter"), "not after", &end)
 }
 
 /// Adds a line with a time.
@@ -45,7 +45,7 @@ pub fn push_time(text: &mut String, time: &Time) -> Result<(), AllocError> {
 /// The date and time, in either of its two forms.
 fn date_time_of(time: &Time) -> DateTime {
     match time {
-        OneOf::First(time) => time.to_date_time(),
-        OneOf::Other(time) => time.to_date_time(),
+        Time::UtcTime(time) => time.to_date_time(),
+        Time::GeneralTime(time) => time.to_date_time(),
     }
 }

@@ -3,8 +3,8 @@
 
 use crate::identifiers::push_identifier;
 use crate::names::push_malformed;
-use der_asn1_types::asn1::ObjectIdentifier;
-use der_extensions::{KeyUsage, read_ext_key_usage, read_key_usage};
+use der_asn1_types::FromDer;
+use der_extensions::extension::{ExtKeyUsageSyntax, KeyPurposeId, KeyUsage};
 use std::alloc::{AllocError, Global};
 
 /// The names of the bits, from bit 0 on.
@@ -22,7 +22,7 @@ const USAGES: [&str; 9] = [
 
 /// Adds the names of the bits that are set.
 pub fn push_usage(alloc: Global, text: &mut String, octets: &[u8]) -> Result<(), AllocError> {
-    match read_key_usage(alloc, octets) {
+    match KeyUsage::from_der(alloc, octets) {
         Ok(usage) => push_bits(text, usage),
         Err(error) => {
             text.push_str(", ")?;
@@ -43,8 +43,8 @@ fn push_bits(text: &mut String, usage: KeyUsage<'_>) -> Result<(), AllocError> {
 
 /// Adds the purposes.
 pub fn push_purposes(alloc: Global, text: &mut String, octets: &[u8]) -> Result<(), AllocError> {
-    match read_ext_key_usage(alloc, octets) {
-        Ok(purposes) => push_each(alloc, text, purposes.list().as_slice()),
+    match ExtKeyUsageSyntax::from_der(alloc, octets) {
+        Ok(purposes) => push_each(alloc, text, purposes.as_slice()),
         Err(error) => {
             text.push_str(", ")?;
             push_malformed(text, error)
@@ -55,7 +55,7 @@ pub fn push_purposes(alloc: Global, text: &mut String, octets: &[u8]) -> Result<
 fn push_each(
     alloc: Global,
     text: &mut String,
-    purposes: &[ObjectIdentifier<39>],
+    purposes: &[KeyPurposeId],
 ) -> Result<(), AllocError> {
     for purpose in purposes {
         text.push_str(", ")?;

@@ -1,7 +1,7 @@
 //! Values that stand one after another in octets.
 
 ghost use Rattle.std.specs.Prelude.{◌≡◌, ◌≤◌, length};
-ghost use Rattle.der_message_text.specs.Values.{at_most, sizes, after_header, after_value, first_value};
+ghost use Rattle.der_message_text.specs.Values.{at_most, sizes, after_header, after_value};
 
 use der_asn1_types::{Header, Reader, SliceReader};
 
@@ -49,12 +49,4 @@ pub fn after_value(octets: &[u8]) -> &[u8]
 {
     let (_, count) = sizes(octets);
     &octets[count..]
-}
-
-/// The octets of the first value.
-pub fn first_value(octets: &[u8]) -> &[u8]
-    ensures { result.now ≡ first_value octets.now }
-{
-    let (_, count) = sizes(octets);
-    &octets[..count]
 }

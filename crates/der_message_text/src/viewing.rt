@@ -1,10 +1,10 @@
 //! From what is read to what is written.
 
-ghost use Rattle.std.specs.Prelude.{◌≡◌, ◌≢◌, None, true, false, OnOk, IfErr, IfSome};
+ghost use Rattle.std.specs.Prelude.{◌≡◌, ◌≢◌, None, false, OnOk, IfErr, IfSome};
 ghost use Rattle.std.specs.Io.KnownBytes.{Keeps};
 ghost use Rattle.der_message_text.specs.Faults.{first_fault};
-ghost use Rattle.der_message_text.specs.Grammars.{grammar_of, is_signed, signed_grammar_of};
-ghost use Rattle.der_message_text.specs.Kinds.{kind_of, signed_part};
+ghost use Rattle.der_message_text.specs.Grammars.{grammar_of};
+ghost use Rattle.der_message_text.specs.Kinds.{kind_of};
 ghost use Rattle.der_message_text.specs.Pem.{is_pem};
 
 use crate::fault::Fault;
@@ -21,11 +21,6 @@ pub fn run<R: Read, W: Write>(alloc: Global, input: &mut R, output: &mut W) -> R
     // What was read is shown only where the grammar of its kind reads exactly these octets.
     ensures read { OnOk result (IfSome (R.remaining input.old) (λ octets. is_pem octets ≡ false →
         first_fault (grammar_of (kind_of octets)) octets ≡ None)) }
-    // And where the grammar of what is signed reads exactly the octets of that.
-    ensures signed { OnOk result (IfSome (R.remaining input.old) (λ octets. is_pem octets ≡ false →
-        is_signed (kind_of octets) ≡ true →
-        first_fault (signed_grammar_of (kind_of octets)) (signed_part octets)
-        ≡ None)) }
     // Unless a write fails, nothing was written where there is a fault.
     ensures kept { IfErr result (λ fault. fault ≢ Fault.Output → Keeps (W.contents output.old) (W.contents output.new)) }
 {
@@ -50,11 +45,8 @@ fn read_fault(error: &io::Error) -> Fault {
 
 /// What is written for an input.
 fn answer(alloc: Global, input: Vec<u8>) -> Result<String, Fault>
-    ensures read { OnOk result (is_pem input.items ≡ false →
+    ensures { OnOk result (is_pem input.items ≡ false →
         first_fault (grammar_of (kind_of input.items)) input.items ≡ None) }
-    ensures signed { OnOk result (is_pem input.items ≡ false → is_signed (kind_of input.items) ≡ true →
-        first_fault (signed_grammar_of (kind_of input.items))
-        (signed_part input.items) ≡ None) }
 {
     let message = message_of(alloc, input)?;
     match shown(alloc, message.kind, message.octets.as_slice()) {

@@ -1,15 +1,29 @@
 //! Messages that OpenSSL wrote, read and written back, and octets that are refused.
 
+mod access;
+mod attributes;
+mod certificates;
 mod choices;
 mod comparing;
+mod constraints;
+mod curves;
+mod entry_values;
 mod examples;
 mod extensions;
-mod keys;
+mod general_names;
+mod key_values;
+mod list_values;
 mod names;
+mod points;
+mod policies;
+mod private_keys;
+mod public_keys;
 mod revocation;
 mod time_stamps;
+mod times;
 
-use der_asn1_types::{DerOrd, Duplicate, Error};
+use der_asn1_types::{DerOrd, Duplicate, Encode, Error, FromDer};
+use std::alloc::Global;
 use std::cmp::Ordering;
 use std::fmt::Debug;
 use std::process::Abort;
@@ -40,11 +54,40 @@ pub(crate) fn numbered(written: Result<Vec<u8>, Error>) -> Result<Vec<u8>, u8> {
     }
 }
 
+// The encoding of what the octets are read as, or the number of the refusal.
+fn again<'a, T: FromDer<'a> + Encode>(alloc: Global, octets: &'a [u8]) -> Result<Vec<u8>, u8> {
+    match T::from_der(alloc, octets) {
+        Ok(value) => numbered(value.to_der(alloc)),
+        Err(e) => Err(e.kind().number()),
+    }
+}
+
+// The octets in room of their own, or the number of no memory.
+fn copied(alloc: Global, octets: &[u8]) -> Result<Vec<u8>, u8> {
+    match Vec::from_slice(alloc, octets) {
+        Ok(octets) => Ok(octets),
+        Err(_) => Err(1),
+    }
+}
+
 // The order of two values, and whether they are equal.
 fn compared<T: DerOrd + PartialEq>(first: &T, second: &T) -> Result<(Ordering, bool), u8> {
     match first.der_cmp(second) {
         Ok(order) => Ok((order, first == second)),
         Err(e) => Err(e.kind().number()),
+    }
+}
+
+// The order of the values that two encodings have, and whether they are equal.
+fn read_and_compared<'a, T: FromDer<'a> + DerOrd + PartialEq>(
+    alloc: Global,
+    first: &'a [u8],
+    second: &'a [u8],
+) -> Result<(Ordering, bool), u8> {
+    match (T::from_der(alloc, first), T::from_der(alloc, second)) {
+        (Ok(first), Ok(second)) => compared(&first, &second),
+        (Err(e), _) => Err(e.kind().number()),
+        (Ok(_), Err(e)) => Err(e.kind().number()),
     }
 }
 

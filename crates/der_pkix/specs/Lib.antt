@@ -1,1 +1,5 @@
-pub mod Grammars
+-- Made by tools/asn1.
+pub mod Name
+pub mod Certificate
+pub mod Crl
+pub mod Key

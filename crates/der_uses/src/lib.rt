@@ -1,9 +1,10 @@
 //! Callers of the layer, each a task of a user, with a contract of its own that the prover has
-//! accepted. They stand on `der_asn1_types` alone.
+//! accepted. They stand on `der_asn1_types`, and on `der_pkix` where messages are read.
 #![tactic(auto)]
 
 mod anys;
 mod bits;
+mod certificates;
 mod choice_sets;
 mod comparing;
 mod field_list;
@@ -22,6 +23,7 @@ mod writing;
 
 pub use anys::named_curve;
 pub use bits::{is_usage, may_sign_certificates};
+pub use certificates::{read_certificate, serial_and_self_issued};
 pub use choice_sets::{
     AttributeValues, ByKeyName, KeyName, KeyNames, read_key_names, read_values, with_value,
     write_key_names,

@@ -7,7 +7,7 @@ use std::test::Fail;
 
 #[test]
 fn names_the_field_of_a_fault(rt: HostRuntime) -> Result<(), Fail> {
-    let rows: [(&str, usize, u8, &str); 12] = [
+    let rows: [(&str, usize, u8, &str); 18] = [
         (ED25519, 0, 0x31, "at position 4"),
         (ED25519, 3, 0xff, "at position 4"),
         (
@@ -60,6 +60,22 @@ fn names_the_field_of_a_fault(rt: HostRuntime) -> Result<(), Fail> {
         ),
         (LIST, 48, 0x18, "in tbsCertList.nextUpdate"),
         (CURVE_PRIVATE, 41, 0x05, "in parameters"),
+        (ED25519, 41, 0x31, "in tbsCertificate.issuer"),
+        (ED25519, 43, 0x30, "in tbsCertificate.issuer"),
+        (ED25519, 47, 0x04, "in tbsCertificate.issuer.type"),
+        (ED25519, 98, 0x04, "in tbsCertificate.subject.type"),
+        (
+            LIST,
+            70,
+            0x04,
+            "in tbsCertList.revokedCertificates.revocationDate",
+        ),
+        (
+            LIST,
+            89,
+            0x04,
+            "in tbsCertList.revokedCertificates.crlEntryExtensions.extnID",
+        ),
     ];
     for (message, place, octet, words) in rows {
         let mut octets = hex::decode(rt.alloc(), message)?;

@@ -1,8 +1,9 @@
 //! A message of each kind: what is shown, and that each of its cuts is refused.
 
 use crate::tests::messages::{
-    AUTHORITY, CURVE_PRIVATE, CURVE_PUBLIC, CURVE_WRAPPED, ED25519, ED25519_PUBLIC,
-    ED25519_WRAPPED, EXTENSIONS, LIST, NAMES, RSA_MODULUS, RSA_PRIVATE, RSA_PUBLIC, RSA_WRAPPED,
+    AUTHORITY, CURVE_IMPLICIT, CURVE_PRIVATE, CURVE_PUBLIC, CURVE_WRAPPED, CURVE_WRITTEN_OUT,
+    ED25519, ED25519_PAIR, ED25519_PUBLIC, ED25519_WRAPPED, EXTENSIONS, LIST, NAMES, RSA_MODULUS,
+    RSA_PRIVATE, RSA_PUBLIC, RSA_THREE_PRIMES, RSA_WRAPPED,
 };
 use crate::tests::{assert_contains, number_of};
 use der_message_text::{Kind, kind_of, shown};
@@ -13,7 +14,7 @@ fn shows_each_kind(rt: HostRuntime) -> Result<(), Fail> {
     let rows = [
         (
             LIST,
-            "   65    34  revoked: 01, 2026-11-23 13:43:58 UTC, extensions #300c300a0603551d1504030a0101\n",
+            "   65    34  revoked: 01, 2026-11-23 13:43:58 UTC, extension 2.5.29.21 (cRLReasons), 3 octets\n",
         ),
         (LIST, "   99    20  revoked: 02, 2026-11-23 13:43:58 UTC\n"),
         (LIST, "   48    15  next update: 2026-12-23 13:43:58 UTC\n"),
@@ -53,6 +54,29 @@ fn shows_each_kind(rt: HostRuntime) -> Result<(), Fail> {
         ),
         (CURVE_PRIVATE, "curve: 1.2.840.10045.3.1.7 (secp256r1)\n"),
         (CURVE_PRIVATE, "public key: 520 bits\n"),
+    ];
+    for (message, line) in rows {
+        let octets = hex::decode(rt.alloc(), message)?;
+        let text = shown(rt.alloc(), kind_of(octets.as_slice()), octets.as_slice())?;
+        assert_contains(&rt, text.as_str(), line);
+    }
+    Ok(())
+}
+
+#[test]
+fn shows_what_a_private_key_may_have(rt: HostRuntime) -> Result<(), Fail> {
+    let rows = [
+        (ED25519_PAIR, "   48    33  attributes: 1\n"),
+        (ED25519_PAIR, "   81    35  public key: 256 bits\n"),
+        (
+            RSA_THREE_PRIMES,
+            "  455    45  coefficient: 43 octets, not shown\n  500   140  other primes: 1\n",
+        ),
+        (
+            CURVE_WRITTEN_OUT,
+            "   41   253  curve: parameters of its own\n  294    70  public key: 520 bits\n",
+        ),
+        (CURVE_IMPLICIT, "   39     4  curve: implicit\n"),
     ];
     for (message, line) in rows {
         let octets = hex::decode(rt.alloc(), message)?;

@@ -3,10 +3,10 @@
 
 ghost use Rattle.der_asn1_types.specs.Decoding.{ReadsAll};
 
-use super::{compared, holds, is_copied, numbered, same, same_in};
+use super::{again, compared, holds, is_copied, numbered, same, same_in};
 use der_asn1_types::asn1::OctetStringRef;
 use der_asn1_types::{Encode, End, Error, Field, FieldSequence, Form, FromDer, Implicit, OneOf};
-use der_pkix::{Time, read_time};
+use der_pkix::certificate::Time;
 use std::alloc::Global;
 use std::cmp::Ordering;
 use std::process::Abort;
@@ -15,14 +15,11 @@ use std::test::Fail;
 type Expiring = FieldSequence<Field<Option<Time>, Field<u8, End>>>;
 
 fn expiring_again(alloc: Global, octets: &[u8]) -> Result<Vec<u8>, u8> {
-    match Expiring::from_der(alloc, octets) {
-        Ok(value) => numbered(value.to_der(alloc)),
-        Err(e) => Err(e.kind().number()),
-    }
+    again::<Expiring>(alloc, octets)
 }
 
 fn time_of(alloc: Global, octets: &[u8]) -> Result<Time, u8> {
-    match read_time(alloc, octets) {
+    match Time::from_der(alloc, octets) {
         Ok(time) => Ok(time),
         Err(e) => Err(e.kind().number()),
     }

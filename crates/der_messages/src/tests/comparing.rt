@@ -1,12 +1,9 @@
 //! Equality of names of any kind, of lists of them, and of what names the key of an authority; copies
-//! of names, and the order of those of which the kind has one.
+//! of names, and their order.
 
-use super::{compared, is_copied, same, same_in};
+use super::{is_copied, read_and_compared, same, same_in};
 use der_asn1_types::{EncodingEq, FromDer};
-use der_extensions::{
-    DirectoryName, OtherName, read_authority_key_identifier, read_general_name,
-    read_subject_alt_name,
-};
+use der_extensions::extension::{AnotherName, AuthorityKeyIdentifier, GeneralName, SubjectAltName};
 use std::alloc::Global;
 use std::cmp::Ordering;
 use std::process::Abort;
@@ -20,8 +17,8 @@ fn are_equal<T: EncodingEq>(first: &T, second: &T) -> bool {
 // Whether two names of any kind are equal, and whether a copy of the first is equal to it.
 fn names_compared(alloc: Global, first: &[u8], second: &[u8]) -> Result<(bool, bool), u8> {
     match (
-        read_general_name(alloc, first),
-        read_general_name(alloc, second),
+        GeneralName::from_der(alloc, first),
+        GeneralName::from_der(alloc, second),
     ) {
         (Ok(first), Ok(second)) => Ok((are_equal(&first, &second), is_copied(&first))),
         (Err(e), _) => Err(e.kind().number()),
@@ -29,39 +26,21 @@ fn names_compared(alloc: Global, first: &[u8], second: &[u8]) -> Result<(bool, b
     }
 }
 
-// The order of two directory's names, and whether they are equal.
-fn directories_compared(
-    alloc: Global,
-    first: &[u8],
-    second: &[u8],
-) -> Result<(Ordering, bool), u8> {
-    match (
-        DirectoryName::from_der(alloc, first),
-        DirectoryName::from_der(alloc, second),
-    ) {
-        (Ok(first), Ok(second)) => compared(&first, &second),
-        (Err(e), _) => Err(e.kind().number()),
-        (Ok(_), Err(e)) => Err(e.kind().number()),
-    }
+// The order of two names of any kind, and whether they are equal.
+fn names_ordered(alloc: Global, first: &[u8], second: &[u8]) -> Result<(Ordering, bool), u8> {
+    read_and_compared::<GeneralName>(alloc, first, second)
 }
 
 // The same of two names of other forms.
 fn others_compared(alloc: Global, first: &[u8], second: &[u8]) -> Result<(Ordering, bool), u8> {
-    match (
-        OtherName::from_der(alloc, first),
-        OtherName::from_der(alloc, second),
-    ) {
-        (Ok(first), Ok(second)) => compared(&first, &second),
-        (Err(e), _) => Err(e.kind().number()),
-        (Ok(_), Err(e)) => Err(e.kind().number()),
-    }
+    read_and_compared::<AnotherName>(alloc, first, second)
 }
 
 // Whether two lists of such names are equal.
 fn lists_compared(alloc: Global, first: &[u8], second: &[u8]) -> Result<bool, u8> {
     match (
-        read_subject_alt_name(alloc, first),
-        read_subject_alt_name(alloc, second),
+        SubjectAltName::from_der(alloc, first),
+        SubjectAltName::from_der(alloc, second),
     ) {
         (Ok(first), Ok(second)) => Ok(first == second),
         (Err(e), _) => Err(e.kind().number()),
@@ -72,8 +51,8 @@ fn lists_compared(alloc: Global, first: &[u8], second: &[u8]) -> Result<bool, u8
 // Whether two values that name an authority's key are equal.
 fn authorities_compared(alloc: Global, first: &[u8], second: &[u8]) -> Result<bool, u8> {
     match (
-        read_authority_key_identifier(alloc, first),
-        read_authority_key_identifier(alloc, second),
+        AuthorityKeyIdentifier::from_der(alloc, first),
+        AuthorityKeyIdentifier::from_der(alloc, second),
     ) {
         (Ok(first), Ok(second)) => Ok(first == second),
         (Err(e), _) => Err(e.kind().number()),
@@ -143,10 +122,14 @@ fn directories_have_an_order(rt: HostRuntime) -> Result<(), Fail> {
     // C=SE and C=DE
     let one = hex::decode(alloc, "a40f300d310b3009060355040613025345")?;
     let other = hex::decode(alloc, "a40f300d310b3009060355040613024445")?;
-    let found = directories_compared(alloc, one.as_slice(), other.as_slice());
+    let found = names_ordered(alloc, one.as_slice(), other.as_slice());
     same(&rt, found, Ok((Ordering::Greater, false)));
-    let found = directories_compared(alloc, one.as_slice(), one.as_slice());
+    let found = names_ordered(alloc, one.as_slice(), one.as_slice());
     same(&rt, found, Ok((Ordering::Equal, true)));
+    // of a host, which has a lesser tag
+    let host = hex::decode(alloc, "820161")?;
+    let found = names_ordered(alloc, host.as_slice(), one.as_slice());
+    same(&rt, found, Ok((Ordering::Less, false)));
     Ok(())
 }
 

@@ -1,47 +1,37 @@
-//! Names, times and extensions that OpenSSL wrote, read and written back, and octets that are refused.
+//! Names, and their parts.
 
-use super::{holds, numbered, same};
-use der_asn1_types::{DerOrd, Duplicate};
-use der_pkix::{
-    Validity, read_extension, read_extensions, read_name, read_time, read_validity,
-    write_extension, write_extensions, write_name, write_time, write_validity,
-};
+use super::{again, copied, same, same_in};
+use der_asn1_types::FromDer;
+use der_pkix::name::{Name, RelativeDistinguishedName};
 use std::alloc::Global;
-use std::cmp::Ordering;
 use std::process::Abort;
 use std::test::Fail;
 
 fn name_again(alloc: Global, octets: &[u8]) -> Result<Vec<u8>, u8> {
-    match read_name(alloc, octets) {
-        Ok(value) => numbered(write_name(alloc, &value)),
-        Err(e) => Err(e.kind().number()),
-    }
+    again::<Name>(alloc, octets)
 }
 
-fn time_again(alloc: Global, octets: &[u8]) -> Result<Vec<u8>, u8> {
-    match read_time(alloc, octets) {
-        Ok(value) => numbered(write_time(alloc, &value)),
-        Err(e) => Err(e.kind().number()),
-    }
+fn relative_again(alloc: Global, octets: &[u8]) -> Result<Vec<u8>, u8> {
+    again::<RelativeDistinguishedName>(alloc, octets)
 }
 
-fn validity_again(alloc: Global, octets: &[u8]) -> Result<Vec<u8>, u8> {
-    match read_validity(alloc, octets) {
-        Ok(value) => numbered(write_validity(alloc, &value)),
-        Err(e) => Err(e.kind().number()),
-    }
-}
-
-fn extension_again(alloc: Global, octets: &[u8]) -> Result<Vec<u8>, u8> {
-    match read_extension(alloc, octets) {
-        Ok(value) => numbered(write_extension(alloc, &value)),
-        Err(e) => Err(e.kind().number()),
-    }
-}
-
-fn extensions_again(alloc: Global, octets: &[u8]) -> Result<Vec<u8>, u8> {
-    match read_extensions(alloc, octets) {
-        Ok(value) => numbered(write_extensions(alloc, &value)),
+// How many parts a name has, how many attributes stand in the second, and the contents octets of the
+// first attribute's type and value.
+fn name_told(alloc: Global, octets: &[u8]) -> Result<(usize, usize, Vec<u8>, Vec<u8>), u8> {
+    match Name::from_der(alloc, octets) {
+        Ok(name) => {
+            let Some(second) = name.as_slice().get(1) else {
+                return Err(0);
+            };
+            let Some(attribute) = second.as_slice().first() else {
+                return Err(0);
+            };
+            let kind = attribute.type_();
+            let value = *attribute.value();
+            let kind = copied(alloc, kind.as_bytes())?;
+            let value = copied(alloc, value.value())?;
+            Ok((name.as_slice().len(), second.as_slice().len(), kind, value))
+        }
         Err(e) => Err(e.kind().number()),
     }
 }
@@ -49,12 +39,15 @@ fn extensions_again(alloc: Global, octets: &[u8]) -> Result<Vec<u8>, u8> {
 #[test]
 fn names_are_written_back(rt: HostRuntime) -> Result<(), Fail> {
     let alloc = rt.alloc();
-    let octets = hex::decode(
-        alloc,
+    let rows = [
+        "3000",
         "303d310b3009060355040613025345311e300d060355040a0c0650756c6c6579300d060355040b0c064261726c6579310e300c06035504030c05677261696e",
-    )?;
-    let written = name_again(alloc, octets.as_slice())?;
-    same(&rt, written.as_slice(), octets.as_slice());
+    ];
+    for digits in rows {
+        let octets = hex::decode(alloc, digits)?;
+        let written = name_again(alloc, octets.as_slice())?;
+        same(&rt, written.as_slice(), octets.as_slice());
+    }
     Ok(())
 }
 
@@ -76,133 +69,57 @@ fn attributes_are_put_in_order(rt: HostRuntime) -> Result<(), Fail> {
 }
 
 #[test]
-fn validities_are_written_back(rt: HostRuntime) -> Result<(), Fail> {
+fn names_have_parts(rt: HostRuntime) -> Result<(), Fail> {
     let alloc = rt.alloc();
     let octets = hex::decode(
         alloc,
-        "3020170d3236313132333034313033355a180f32303539313030313034313033355a",
+        "303d310b3009060355040613025345311e300d060355040a0c0650756c6c6579300d060355040b0c064261726c6579310e300c06035504030c05677261696e",
     )?;
-    let written = validity_again(alloc, octets.as_slice())?;
+    let found = name_told(alloc, octets.as_slice());
+    let kind = hex::decode(alloc, "55040a")?;
+    let value = hex::decode(alloc, "50756c6c6579")?;
+    same(&rt, found, Ok((3, 2, kind, value)));
+    Ok(())
+}
+
+#[test]
+fn parts_of_names_have_attributes(rt: HostRuntime) -> Result<(), Fail> {
+    let alloc = rt.alloc();
+    let rows = [
+        // a part with no attribute, after one that has one too
+        ("30023100", 13),
+        ("300f310b30090603550406130253453100", 13),
+        // an attribute with no value, and one with a field too many
+        ("3009310730050603550406", 2),
+        ("300d310b3009060355040605000500", 3),
+        // a part that is no SET
+        ("300430023000", 4),
+    ];
+    for (digits, number) in rows {
+        let octets = hex::decode(alloc, digits)?;
+        let answer = name_again(alloc, octets.as_slice());
+        same_in(&rt, &digits, answer.err(), Some(number));
+    }
+    Ok(())
+}
+
+#[test]
+fn parts_of_names_are_written_back(rt: HostRuntime) -> Result<(), Fail> {
+    let alloc = rt.alloc();
+    let octets = hex::decode(alloc, "310b3009060355040613025345")?;
+    let written = relative_again(alloc, octets.as_slice())?;
     same(&rt, written.as_slice(), octets.as_slice());
     Ok(())
 }
 
 #[test]
-fn times_are_distinguished_by_their_tags(rt: HostRuntime) -> Result<(), Fail> {
+fn a_part_of_a_name_has_an_attribute(rt: HostRuntime) -> Result<(), Fail> {
     let alloc = rt.alloc();
-    let rows = [
-        // no tag
-        ("", 2),
-        // a tag of neither
-        ("020105", 4),
-        // a GeneralizedTime in the form of a UTCTime, and the other way round
-        ("180d3236313132333034313033355a", 13),
-        ("170f32303539313030313034313033355a", 13),
-    ];
+    let rows = [("3100", 13), ("3000", 4)];
     for (digits, number) in rows {
         let octets = hex::decode(alloc, digits)?;
-        same(
-            &rt,
-            time_again(alloc, octets.as_slice()).err(),
-            Some(number),
-        );
+        let answer = relative_again(alloc, octets.as_slice());
+        same_in(&rt, &digits, answer.err(), Some(number));
     }
-    Ok(())
-}
-
-#[test]
-fn extensions_are_written_back(rt: HostRuntime) -> Result<(), Fail> {
-    let alloc = rt.alloc();
-    let rows = [
-        "301d0603551d0e04160414ca0eb00e1530addc9f93a6d91a6ea8abf7e39fbd",
-        "300f0603551d130101ff040530030101ff",
-    ];
-    for digits in rows {
-        let octets = hex::decode(alloc, digits)?;
-        let written = extension_again(alloc, octets.as_slice())?;
-        same(&rt, written.as_slice(), octets.as_slice());
-    }
-    Ok(())
-}
-
-#[test]
-fn lists_of_extensions_are_written_back(rt: HostRuntime) -> Result<(), Fail> {
-    let alloc = rt.alloc();
-    same(&rt, extensions_again(alloc, &[0x30, 0x00]).err(), Some(13));
-    let rows = [
-        "300a300806032a030404010a",
-        "3030301d0603551d0e04160414ca0eb00e1530addc9f93a6d91a6ea8abf7e39fbd300f0603551d130101ff040530030101ff",
-    ];
-    for digits in rows {
-        let octets = hex::decode(alloc, digits)?;
-        let written = extensions_again(alloc, octets.as_slice())?;
-        same(&rt, written.as_slice(), octets.as_slice());
-    }
-    Ok(())
-}
-
-#[test]
-fn extensions_have_their_fields_in_order_and_no_default(rt: HostRuntime) -> Result<(), Fail> {
-    let alloc = rt.alloc();
-    let rows = [
-        // an encoded DEFAULT
-        ("300c0603551d0e01010004020400", 8),
-        // the fields exchanged
-        ("300c0603551d0e040204000101ff", 3),
-        ("300c0101ff0603551d0e04020400", 4),
-        // a field twice
-        ("300f0603551d0e0101ff0101ff04020400", 4),
-        // an octet after the message
-        ("300c0603551d0e0101ff0402040000", 3),
-    ];
-    for (digits, number) in rows {
-        let octets = hex::decode(alloc, digits)?;
-        same(
-            &rt,
-            extension_again(alloc, octets.as_slice()).err(),
-            Some(number),
-        );
-    }
-    Ok(())
-}
-
-fn validity_of(alloc: Global, digits: &str) -> Result<Validity, u8> {
-    let Ok(octets) = hex::decode(alloc, digits) else {
-        return Err(0);
-    };
-    match read_validity(alloc, octets.as_slice()) {
-        Ok(value) => Ok(value),
-        Err(e) => Err(e.kind().number()),
-    }
-}
-
-fn order_of(first: &Validity, second: &Validity) -> Result<Ordering, u8> {
-    match first.der_cmp(second) {
-        Ok(order) => Ok(order),
-        Err(e) => Err(e.kind().number()),
-    }
-}
-
-#[test]
-fn validities_are_compared(rt: HostRuntime) -> Result<(), Fail> {
-    let alloc = rt.alloc();
-    let first = validity_of(
-        alloc,
-        "3020170d3236313132333034313033355a180f32303539313030313034313033355a",
-    )?;
-    // one second longer
-    let longer = validity_of(
-        alloc,
-        "3020170d3236313132333034313033355a180f32303539313030313034313033365a",
-    )?;
-    let copy = match first.duplicate() {
-        Ok(copy) => copy == first,
-        Err(_) => false,
-    };
-    holds(&rt, copy);
-    holds(&rt, longer != first);
-    same(&rt, order_of(&first, &longer)?, Ordering::Less);
-    same(&rt, order_of(&longer, &first)?, Ordering::Greater);
-    same(&rt, order_of(&first, &first)?, Ordering::Equal);
     Ok(())
 }

@@ -1,11 +1,9 @@
 //! Lists of revoked certificates that OpenSSL wrote, read and written back, and octets that are
 //! refused.
 
-use super::{numbered, same, same_in};
-use der_revocation::{
-    read_certificate_list, read_revoked_certificate, read_tbs_cert_list, write_certificate_list,
-    write_revoked_certificate, write_tbs_cert_list,
-};
+use super::{again, copied, same, same_in};
+use der_asn1_types::FromDer;
+use der_pkix::crl::{CertificateList, RevokedCertificate, TbsCertList};
 use std::alloc::Global;
 use std::process::Abort;
 use std::test::Fail;
@@ -15,24 +13,15 @@ const TWO: &str =
     "308201153081c8020101300506032b6570302d310b3009060355040613025345310f300d060355040a0c064261726c6579310d300b06035504030c046d696c6c170d3236313132333038313030375a170d3236313232333038313030375a303e302402050123430235170d3236313132333038313030375a300c300a0603551d1504030a0101301602050123430324170d3236313132333038313030375aa02f302d301f0603551d230418301680140894da7aed9f78720d852c7a00aae7c41f546dd2300a0603551d140403020102300506032b657003410092d523e2ddae2f4192c776218fb80de317024bec09ce02fdb441bb106fd0f75dcd21d113fa1ef9cecf252961eb55d525ac5f1f5cbf4dc57367db61ede1331802";
 
 fn list_again(alloc: Global, octets: &[u8]) -> Result<Vec<u8>, u8> {
-    match read_certificate_list(alloc, octets) {
-        Ok(value) => numbered(write_certificate_list(alloc, &value)),
-        Err(e) => Err(e.kind().number()),
-    }
+    again::<CertificateList>(alloc, octets)
 }
 
 fn signed_again(alloc: Global, octets: &[u8]) -> Result<Vec<u8>, u8> {
-    match read_tbs_cert_list(alloc, octets) {
-        Ok(value) => numbered(write_tbs_cert_list(alloc, &value)),
-        Err(e) => Err(e.kind().number()),
-    }
+    again::<TbsCertList>(alloc, octets)
 }
 
 fn entry_again(alloc: Global, octets: &[u8]) -> Result<Vec<u8>, u8> {
-    match read_revoked_certificate(alloc, octets) {
-        Ok(value) => numbered(write_revoked_certificate(alloc, &value)),
-        Err(e) => Err(e.kind().number()),
-    }
+    again::<RevokedCertificate>(alloc, octets)
 }
 
 /// What is signed of the list.
@@ -112,5 +101,142 @@ fn entries_have_their_fields_in_order(rt: HostRuntime) -> Result<(), Fail> {
         let again = entry_again(alloc, octets.as_slice());
         same(&rt, again.err(), Some(number));
     }
+    Ok(())
+}
+
+/// Three entries with each extension of an entry but the issuer, and each extension of a list but the
+/// freshest.
+const ALL_EXTENSIONS: &str =
+    "308201b630820168020101300506032b6570302d310b3009060355040613025345310f300d060355040a0c064261726c6579310d300b06035504030c046d696c6c170d3236313132373132353733385a170d3236313232373132353733385a3081923032020105170d3236313132333038313030375a301e300a0603551d1504030a010630100603551d17040906072a8648ce380202303a020106170d3236313132333038313030375a3026300a0603551d1504030a010130180603551d180411180f32303236313132323038303030305a3020020107170d3236313132333038313030375a300c300a0603551d1504030a0104a07a3078301f0603551d230418301680141a927ec59003518bfefddcfc6012429841c4074c300d0603551d1b0101ff0403020105303a0603551d1c0101ff0430302ea022a020861e687474703a2f2f6261726c65792e6578616d706c652f6d696c6c2e63726c8101ff830205608401ff300a0603551d14040302011f300506032b6570034100bce75a41c4015a86174d8f2add8b400f62eb5b9bf4abac8de073ea7a3bf7c3981039d7b45f8d40bc505ac73acf34310db3b485d8267b2cd6e249f0cc25fe8a0c";
+
+// The version, how many entries and extensions there are, whether there is a next update, and the bits
+// of the signature.
+fn list_told(
+    alloc: Global,
+    octets: &[u8],
+) -> Result<(Option<u8>, Option<usize>, usize, bool, usize), u8> {
+    match CertificateList::from_der(alloc, octets) {
+        Ok(list) => {
+            let signed = list.tbs_cert_list();
+            let entries = match signed.revoked_certificates() {
+                Some(entries) => Some(entries.len()),
+                None => None,
+            };
+            let extensions = match signed.crl_extensions() {
+                Some(extensions) => extensions.as_slice().len(),
+                None => 0,
+            };
+            Ok((
+                signed.version(),
+                entries,
+                extensions,
+                signed.next_update().is_some(),
+                list.signature_value().bit_len(),
+            ))
+        }
+        Err(e) => Err(e.kind().number()),
+    }
+}
+
+// The octets of the number, and how many extensions there are.
+fn entry_told(alloc: Global, octets: &[u8]) -> Result<(Vec<u8>, usize), u8> {
+    match RevokedCertificate::from_der(alloc, octets) {
+        Ok(entry) => {
+            let extensions = match entry.crl_entry_extensions() {
+                Some(extensions) => extensions.as_slice().len(),
+                None => 0,
+            };
+            let number = copied(alloc, entry.user_certificate().as_bytes())?;
+            Ok((number, extensions))
+        }
+        Err(e) => Err(e.kind().number()),
+    }
+}
+
+#[test]
+fn lists_with_extensions_are_written_back(rt: HostRuntime) -> Result<(), Fail> {
+    let alloc = rt.alloc();
+    let octets = hex::decode(alloc, ALL_EXTENSIONS)?;
+    let written = list_again(alloc, octets.as_slice())?;
+    same(&rt, written.as_slice(), octets.as_slice());
+    Ok(())
+}
+
+#[test]
+fn lists_have_fields(rt: HostRuntime) -> Result<(), Fail> {
+    let alloc = rt.alloc();
+    let octets = hex::decode(alloc, TWO)?;
+    let found = list_told(alloc, octets.as_slice());
+    same(&rt, found, Ok((Some(1), Some(2), 2, true, 512)));
+    let octets = hex::decode(alloc, ALL_EXTENSIONS)?;
+    let found = list_told(alloc, octets.as_slice());
+    same(&rt, found, Ok((Some(1), Some(3), 4, true, 512)));
+    Ok(())
+}
+
+#[test]
+fn entries_have_fields(rt: HostRuntime) -> Result<(), Fail> {
+    let alloc = rt.alloc();
+    let octets = hex::decode(
+        alloc,
+        "302402050123430235170d3236313132333038313030375a300c300a0603551d1504030a0101",
+    )?;
+    let found = entry_told(alloc, octets.as_slice());
+    let number = hex::decode(alloc, "0123430235")?;
+    same(&rt, found, Ok((number, 1)));
+    Ok(())
+}
+
+#[test]
+fn what_is_signed_of_a_list_may_be_as_short_as_it_gets(rt: HostRuntime) -> Result<(), Fail> {
+    let alloc = rt.alloc();
+    let octets = hex::decode(
+        alloc,
+        "30243018300506032b65703000170d3236313132333034313033355a300506032b6570030100",
+    )?;
+    let written = list_again(alloc, octets.as_slice())?;
+    same(&rt, written.as_slice(), octets.as_slice());
+    Ok(())
+}
+
+#[test]
+fn what_is_signed_of_a_list_is_read_within_it(rt: HostRuntime) -> Result<(), Fail> {
+    let alloc = rt.alloc();
+    let rows = [
+        // no field, no SEQUENCE, a part of a name with no attribute, and no extension
+        ("300c3000300506032b6570030100", 2),
+        ("300c0500300506032b6570030100", 4),
+        (
+            "3026301a300506032b657030023100170d3236313132333034313033355a300506032b6570030100",
+            13,
+        ),
+        (
+            "3028301c300506032b65703000170d3236313132333034313033355aa0023000300506032b6570030100",
+            13,
+        ),
+        // an entry whose list of extensions is empty
+        (
+            "303c3030300506032b65703000170d3236313132333034313033355a30163014020105170d3236313132333034313033355a3000300506032b6570030100",
+            13,
+        ),
+    ];
+    for (digits, number) in rows {
+        let octets = hex::decode(alloc, digits)?;
+        let answer = list_again(alloc, octets.as_slice());
+        same_in(&rt, &digits, answer.err(), Some(number));
+    }
+    Ok(())
+}
+
+#[test]
+fn attributes_out_of_order_are_written_as_they_came(rt: HostRuntime) -> Result<(), Fail> {
+    let alloc = rt.alloc();
+    // two attributes of one part of the issuer's name, exchanged
+    let exchanged = hex::decode(
+        alloc,
+        "303c3030300506032b65703018311630090603550406130253453009060355040613024445170d3236313132333034313033355a300506032b6570030100",
+    )?;
+    let written = list_again(alloc, exchanged.as_slice())?;
+    same(&rt, written.as_slice(), exchanged.as_slice());
     Ok(())
 }

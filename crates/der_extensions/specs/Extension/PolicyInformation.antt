@@ -1,0 +1,15 @@
+-- The fields of PolicyInformation, by their names.
+-- Made by tools/asn1 from extension.asn1.
+use Rattle.std.specs.Prelude.{Option, Vec}
+use Rattle.std.specs.declared.alloc.Global.{Global}
+use Rattle.der_extensions.specs.declared.extension.policy_information.PolicyInformation.{PolicyInformation}
+use Rattle.der_extensions.specs.declared.extension.policy_qualifier_info.PolicyQualifierInfo.{PolicyQualifierInfo}
+use Rattle.der_opaque.specs.declared.object_identifier.ObjectIdentifier.{ObjectIdentifier}
+
+-- policyIdentifier CertPolicyId
+abbrev pub policy_identifier : PolicyInformation → ObjectIdentifier 39
+policy_identifier v = v.fields.list.first
+
+-- policyQualifiers SEQUENCE SIZE (1..MAX) OF PolicyQualifierInfo OPTIONAL
+abbrev pub policy_qualifiers : PolicyInformation → Option (Vec PolicyQualifierInfo Global)
+policy_qualifiers v = v.fields.list.rest.first

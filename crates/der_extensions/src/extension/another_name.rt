@@ -1,0 +1,166 @@
+//! AnotherName, a SEQUENCE of 2 fields.
+//!
+//! Made by tools/asn1 from extension.asn1.
+
+ghost use Rattle.std.proofs.Common.{lit<};
+ghost use Rattle.std.specs.Prelude.{◌∷◌, ◌≡◌, [], false, refl};
+ghost use Rattle.der_elem.specs.FormatMakers.{mapped_format};
+ghost use Rattle.der_extensions.specs.Extension.AnotherName as another_name_fields;
+ghost use Rattle.der_extensions.specs.Extension.Grammar.{another_name};
+ghost use Rattle.der_extensions.specs.declared.extension.another_name.AnotherName.{AnotherName};
+ghost use Rattle.der_modules.specs.Asn1.{context, explicit_encoding, joined, parse_of};
+ghost use Rattle.der_modules.specs.MemberLaws.{member_equality, no_equality, one_tag, one_tag_equality, own_tags, tagged_starts};
+ghost use Rattle.der_opaque.specs.contracts.any_ref.AnyRefEncodingEq.TheImpl.Laws as anyref_encoding_eq;
+ghost use Rattle.der_opaque.specs.contracts.any_ref.AnyRefTagged.TheImpl.Laws as anyref_tagged;
+ghost use Rattle.der_opaque.specs.contracts.object_identifier.ObjectIdentifierContentsEq.TheImpl.Laws as objectidentifier_contents_eq;
+
+use der_elem::{
+    ContentsEq, CopyIsDuplicate, DecodeValue, EncodeValue, Form, FormValue, ObjectIdentifierTag,
+    OneTag, Sequence, SequenceTag, TagMarker, Tagged, ValueOrd,
+};
+use der_fields::{
+    DecodeFields, EncodeFields, End, Explicit, ExplicitTag, Field, FieldList, Fields2, FieldsOrd,
+};
+use der_opaque::{AnyRef, ObjectIdentifier};
+use der_tlv::{Error, Header, Length, Source, Writer};
+use std::alloc::Global;
+use std::cmp::Ordering;
+use std::fmt;
+
+/// The list of the fields.
+type Fields<'a> = Fields2<ObjectIdentifier<39>, Explicit<AnyRef<'a>, 0>>;
+
+/// ```text
+/// AnotherName ::= SEQUENCE {
+///      type-id    OBJECT IDENTIFIER,
+///      value      [0] EXPLICIT ANY DEFINED BY type-id }
+/// ```
+///
+/// Reading refuses the first fault of the octets, in their order.
+#[derive(Clone, Copy, PartialEq, Eq)]
+pub struct AnotherName<'a> {
+    fields: Fields<'a>,
+}
+
+impl<'a> AnotherName<'a> {
+    ghost use Rattle.der_extensions.specs.Extension.AnotherName as another_name_fields;
+
+    /// A value of these fields.
+    pub fn new(type_id: ObjectIdentifier<39>, value: AnyRef<'a>) -> AnotherName<'a>
+        ensures type_id { another_name_fields.type_id result ≡ type_id }
+        ensures value { another_name_fields.value result ≡ value.entry }
+    {
+        let first = Explicit {
+            fields: Field {
+                first: value,
+                rest: End,
+            },
+        };
+        let rest = Field { first, rest: End };
+        let first = type_id;
+        let list = Field { first, rest };
+        let fields = Fields2 { list };
+        AnotherName { fields }
+    }
+
+    /// `type-id`, `OBJECT IDENTIFIER`.
+    pub fn type_id(&self) -> ObjectIdentifier<39>
+        ensures { result ≡ another_name_fields.type_id self.now }
+    {
+        self.fields.list.first
+    }
+
+    /// `value`, `[0] EXPLICIT ANY DEFINED BY type-id`.
+    pub fn value(&self) -> &AnyRef<'a>
+        ensures { result.now ≡ another_name_fields.value self.now }
+    {
+        &self.fields.list.rest.first.fields.first
+    }
+}
+
+impl<'a> fmt::Debug for AnotherName<'a> {
+    fn fmt<W: fmt::Write>(&self, f: &mut fmt::Formatter<W>) -> fmt::Result {
+        f.debug_struct("AnotherName")
+            .field("type_id", &self.type_id())
+            .field("value", self.value())
+            .finish()
+    }
+}
+
+impl<'a> OneTag for AnotherName<'a> {
+    type Marker = SequenceTag;
+}
+
+impl<'a> Sequence<'a> for AnotherName<'a> {
+    ghost is_sequence = { refl };
+}
+
+impl<'a> FormValue for AnotherName<'a> {
+    ghost value = { mapped_format (λ v. v.fields) ⟦<Fields<'a> as FieldList>⟧.list.octets };
+}
+
+impl<'a, R: Source<'a>> DecodeValue<'a, R> for AnotherName<'a> {
+    ghost TAKES_MEMORY = { false };
+
+    const TAKES_MEMORY: bool = false;
+
+    fn decode_value(
+        alloc: Global,
+        reader: &mut R,
+        _header: Header,
+    ) -> Result<AnotherName<'a>, Error> {
+        match Fields::<'a>::decode_fields(alloc, reader) {
+            Ok(fields) => Ok(AnotherName { fields }),
+            Err(e) => Err(e),
+        }
+    }
+
+    ghost takes_memory_is = { refl };
+}
+
+impl<'a> EncodeValue for AnotherName<'a> {
+    fn value_len(&self) -> Result<Length, Error> {
+        self.fields.fields_len()
+    }
+
+    fn encode_value<W: Writer>(&self, writer: &mut W) -> Result<(), Error> {
+        self.fields.encode_fields(writer)
+    }
+}
+
+impl<'a> ValueOrd for AnotherName<'a> {
+    fn value_cmp(&self, other: &AnotherName<'a>) -> Result<Ordering, Error> {
+        self.fields.cmp_fields(&other.fields)
+    }
+}
+
+impl<'a> ContentsEq for AnotherName<'a> {
+    ghost contents_eq = { λ v w. (member_equality ⟦<ObjectIdentifier<39> as Form>⟧
+        (tagged_starts ⟦<ObjectIdentifier<39> as Form>⟧ (one_tag ⟦<ObjectIdentifierTag as TagMarker>⟧.TAG ⟦<ObjectIdentifier<39> as FormValue>⟧.value.contents))
+        ⟦<ObjectIdentifier<39> as PartialEq>⟧.eq
+        (one_tag_equality ⟦<ObjectIdentifierTag as TagMarker>⟧.TAG ⟦<ObjectIdentifier<39> as FormValue>⟧.value.contents ⟦<ObjectIdentifier<39> as FormValue>⟧.value.comparable ⟦<ObjectIdentifier<39> as PartialEq>⟧.eq (objectidentifier_contents_eq.contents_eq-law 39 (record { fits = lit< tt })))
+        (member_equality ⟦<Explicit<AnyRef<'a>, 0> as Form>⟧
+        (tagged_starts ⟦<Explicit<AnyRef<'a>, 0> as Form>⟧ (one_tag ⟦<ExplicitTag<0> as TagMarker>⟧.TAG ⟦<Explicit<AnyRef<'a>, 0> as FormValue>⟧.value.contents))
+        ⟦<Explicit<AnyRef<'a>, 0> as PartialEq>⟧.eq
+        (one_tag_equality ⟦<ExplicitTag<0> as TagMarker>⟧.TAG ⟦<Explicit<AnyRef<'a>, 0> as FormValue>⟧.value.contents ⟦<Explicit<AnyRef<'a>, 0> as FormValue>⟧.value.comparable ⟦<Explicit<AnyRef<'a>, 0> as PartialEq>⟧.eq (λ v w. ((member_equality ⟦<AnyRef<'a> as Form>⟧
+        (tagged_starts ⟦<AnyRef<'a> as Form>⟧ (own_tags ⟦<AnyRef<'a> as Form>⟧.tags ⟦<AnyRef<'a> as Form>⟧.first_tag_of ⟦<AnyRef<'a> as Form>⟧.encoding ⟦<AnyRef<'a> as Tagged>⟧.tag_of ⟦<AnyRef<'a> as FormValue>⟧.value.contents anyref_tagged.encoding_is-law anyref_tagged.own_tag-law anyref_tagged.first_tag_is-law))
+        ⟦<AnyRef<'a> as PartialEq>⟧.eq
+        anyref_encoding_eq.encoding_eq-law
+        no_equality).equal v.fields w.fields)))
+        no_equality)).equal v.fields.list w.fields.list };
+}
+
+impl<'a> CopyIsDuplicate for AnotherName<'a> {}
+
+/// What is read as `AnotherName` is what the page of the grammar says.
+pub fn grammar_of_another_name<'a>()
+    ensures { ⟦<AnotherName<'a> as Form>⟧.parse ≡ parse_of another_name }
+{}
+
+/// The contents octets of `AnotherName` are the encodings of its fields, one after another.
+pub fn octets_of_another_name<'a>()
+    ensures { (v : AnotherName) → ⟦<AnotherName<'a> as FormValue>⟧.value.contents v ≡ joined (
+        (⟦<ObjectIdentifier<39> as Form>⟧.encoding (another_name_fields.type_id v))
+        ∷ (explicit_encoding context 0 (⟦<AnyRef<'a> as Form>⟧.encoding (another_name_fields.value v)))
+        ∷ []) }
+{}

@@ -1,0 +1,590 @@
+//! GeneralName, a CHOICE of 9 alternatives.
+//!
+//! Made by tools/asn1 from extension.asn1.
+
+ghost use Rattle.std.proofs.Common.{lit<};
+ghost use Rattle.std.specs.Prelude.{◌≡◌, false, refl, true};
+ghost use Rattle.der_ascii.specs.contracts.string_ref.CharacterStringRefContentsEq.TheImpl.Laws as characterstringref_contents_eq;
+ghost use Rattle.der_elem.specs.Accepting.{IsTlv};
+ghost use Rattle.der_elem.specs.FirstTags.{HasFirstTag};
+ghost use Rattle.der_elem.specs.FormatMakers.{mapped_format};
+ghost use Rattle.der_elem.specs.KnownTagLaws.{known_either, own_is_known};
+ghost use Rattle.der_elem.specs.TaggedLaws.{tlv_tagged};
+ghost use Rattle.der_extensions.specs.Extension.GeneralName.{tree_of};
+ghost use Rattle.der_extensions.specs.Extension.Grammar.{general_name};
+ghost use Rattle.der_extensions.specs.contracts.extension.another_name.AnotherNameContentsEq.TheImpl.Laws as another_name_contents_eq;
+ghost use Rattle.der_extensions.specs.contracts.extension.another_name.AnotherNameEq.TheImpl.Laws as another_name_eq;
+ghost use Rattle.der_extensions.specs.declared.extension.general_name.GeneralName.TheVariants as of;
+ghost use Rattle.der_modules.specs.Asn1.{parse_of};
+ghost use Rattle.der_modules.specs.MemberLaws.{copies_of, either_copies, either_equality, either_tag, held_copies, listed_copies, member_copies, member_equality, no_copies, no_equality, one_tag, one_tag_copies, one_tag_equality, same_copies, seen_copies, seen_equality, tagged_starts};
+ghost use Rattle.der_nest.specs.contracts.sequence_ref.SequenceRefContentsEq.TheImpl.Laws as sequenceref_contents_eq;
+ghost use Rattle.der_opaque.specs.contracts.object_identifier.ObjectIdentifierContentsEq.TheImpl.Laws as objectidentifier_contents_eq;
+ghost use Rattle.der_opaque.specs.contracts.octet_string_ref.OctetStringRefContentsEq.TheImpl.Laws as octetstringref_contents_eq;
+ghost use Rattle.der_pkix.specs.contracts.name.rdn_sequence.RdnSequenceContentsEq.TheImpl.Laws as rdn_sequence_contents_eq;
+ghost use Rattle.der_pkix.specs.contracts.name.rdn_sequence.RdnSequenceDuplicateValue.TheImpl.Laws as rdn_sequence_duplicate_value;
+ghost use Rattle.der_pkix.specs.contracts.name.rdn_sequence.RdnSequenceDuplicateValueIsEqual.TheImpl.Laws as rdn_sequence_duplicate_value_is_equal;
+
+use crate::extension::another_name::AnotherName;
+use der_ascii::{CharacterStringTag, Ia5StringRef};
+use der_elem::{
+    Choice, Decode, DecodeField, DerOrd, Duplicate, DuplicateIsEqual, EncodeValue, EncodingEq,
+    Form, FormValue, KnownTags, ObjectIdentifierTag, OctetStringTag, SequenceTag, TagMarker,
+    Tagged,
+};
+use der_fields::{Explicit, ExplicitTag, Implicit, ImplicitTag, OneOf, cmp_headers};
+use der_modules::CopyLaws;
+use der_nest::SequenceRef;
+use der_opaque::{ObjectIdentifier, OctetStringRef};
+use der_pkix::name::{Name, RdnSequence};
+use der_tlv::{Error, Length, Source, Tag, Writer};
+use std::alloc::Global;
+use std::cmp::Ordering;
+
+/// The alternatives, as a tree.
+type Tree<'a> = OneOf<
+    OneOf<
+        OneOf<
+            OneOf<Implicit<AnotherName<'a>, 0>, Implicit<Ia5StringRef<'a>, 1>>,
+            Implicit<Ia5StringRef<'a>, 2>,
+        >,
+        OneOf<Implicit<SequenceRef<'a>, 3>, Explicit<Name<'a>, 4>>,
+    >,
+    OneOf<
+        OneOf<Implicit<SequenceRef<'a>, 5>, Implicit<Ia5StringRef<'a>, 6>>,
+        OneOf<Implicit<OctetStringRef<'a>, 7>, Implicit<ObjectIdentifier<39>, 8>>,
+    >,
+>;
+
+/// ```text
+/// GeneralName ::= CHOICE {
+///      otherName                 [0]  AnotherName,
+///      rfc822Name                [1]  IA5String,
+///      dNSName                   [2]  IA5String,
+///      x400Address               [3]  ORAddress,
+///      directoryName             [4]  Name,
+///      ediPartyName              [5]  EDIPartyName,
+///      uniformResourceIdentifier [6]  IA5String,
+///      iPAddress                 [7]  OCTET STRING,
+///      registeredID              [8]  OBJECT IDENTIFIER }
+/// ```
+///
+/// Reading refuses a tag that no alternative has (`ErrorKind::TagUnexpected`, 4), and the
+/// alternative's faults.
+#[derive(Debug, PartialEq, Eq, Drop)]
+pub enum GeneralName<'a> {
+    /// `otherName`, `[0] AnotherName`.
+    OtherName(Implicit<AnotherName<'a>, 0>),
+    /// `rfc822Name`, `[1] IA5String`.
+    Rfc822Name(Implicit<Ia5StringRef<'a>, 1>),
+    /// `dNSName`, `[2] IA5String`.
+    DnsName(Implicit<Ia5StringRef<'a>, 2>),
+    /// `x400Address`, `[3] ORAddress`.
+    X400Address(Implicit<SequenceRef<'a>, 3>),
+    /// `directoryName`, `[4] Name`.
+    DirectoryName(Explicit<Name<'a>, 4>),
+    /// `ediPartyName`, `[5] EDIPartyName`.
+    EdiPartyName(Implicit<SequenceRef<'a>, 5>),
+    /// `uniformResourceIdentifier`, `[6] IA5String`.
+    UniformResourceIdentifier(Implicit<Ia5StringRef<'a>, 6>),
+    /// `iPAddress`, `[7] OCTET STRING`.
+    IpAddress(Implicit<OctetStringRef<'a>, 7>),
+    /// `registeredID`, `[8] OBJECT IDENTIFIER`.
+    RegisteredId(Implicit<ObjectIdentifier<39>, 8>),
+}
+
+impl<'a> Form for GeneralName<'a> {
+    ghost encoding = { λ v. ⟦<Tree<'a> as Form>⟧.encoding (tree_of v) };
+
+    ghost comparable = { λ v w. ⟦<Tree<'a> as Form>⟧.comparable (tree_of v) (tree_of w) };
+
+    ghost re_reads = { λ v. ⟦<Tree<'a> as Form>⟧.re_reads (tree_of v) };
+
+    ghost accepts = { λ rules v. ⟦<Tree<'a> as Form>⟧.accepts rules (tree_of v) };
+
+    ghost parse = { ⟦<Tree<'a> as Form>⟧.parse };
+
+    ghost tags = { ⟦<Tree<'a> as Form>⟧.tags };
+
+    ghost first_tag_of = { λ v. ⟦<Tree<'a> as Form>⟧.first_tag_of (tree_of v) };
+
+    ghost readable = { λ v. ⟦<Tree<'a> as Form>⟧.readable (tree_of v) };
+
+    ghost TAKES_MEMORY = { ⟦<Tree<'a> as Form>⟧.TAKES_MEMORY };
+
+    ghost FAULTS_FIRST = { ⟦<Tree<'a> as Form>⟧.FAULTS_FIRST };
+
+    ghost parse_of_accepted = { λ rules v. ⟦<Tree<'a> as Form>⟧.parse_of_accepted rules (tree_of v) };
+
+    ghost faults_of_octets = { ⟦<Tree<'a> as Form>⟧.faults_of_octets };
+
+    ghost begins = { λ rules v. ⟦<Tree<'a> as Form>⟧.begins rules (tree_of v) };
+
+    ghost begins_first = { λ rules v. ⟦<Tree<'a> as Form>⟧.begins_first rules (tree_of v) };
+
+    ghost same_length = { λ rules v. ⟦<Tree<'a> as Form>⟧.same_length rules (tree_of v) };
+
+    ghost accepts_encoding = { λ rules v. ⟦<Tree<'a> as Form>⟧.accepts_encoding rules (tree_of v) };
+
+    ghost only_readable = { λ rules v. ⟦<Tree<'a> as Form>⟧.only_readable rules (tree_of v) };
+
+    ghost accepts_comparable = { λ rules v w. ⟦<Tree<'a> as Form>⟧.accepts_comparable rules (tree_of v) (tree_of w) };
+
+    ghost re_reads_memory = { λ v. ⟦<Tree<'a> as Form>⟧.re_reads_memory (tree_of v) };
+}
+
+impl<'a> FormValue for GeneralName<'a> {
+    ghost value = { mapped_format tree_of ⟦<Tree<'a> as FormValue>⟧.value };
+}
+
+impl<'a> Tagged for GeneralName<'a> {
+    ghost tag_of = { λ v. ⟦<Tree<'a> as Tagged>⟧.tag_of (tree_of v) };
+
+    fn tag(&self) -> Tag {
+        match self {
+            GeneralName::OtherName(value) => value.tag(),
+            GeneralName::Rfc822Name(value) => value.tag(),
+            GeneralName::DnsName(value) => value.tag(),
+            GeneralName::X400Address(value) => value.tag(),
+            GeneralName::DirectoryName(value) => value.tag(),
+            GeneralName::EdiPartyName(value) => value.tag(),
+            GeneralName::UniformResourceIdentifier(value) => value.tag(),
+            GeneralName::IpAddress(value) => value.tag(),
+            GeneralName::RegisteredId(value) => value.tag(),
+        }
+    }
+
+    ghost encoding_is = { λ v. (either_tag ⟦<OneOf<OneOf<OneOf<Implicit<AnotherName<'a>, 0>, Implicit<Ia5StringRef<'a>, 1>>, Implicit<Ia5StringRef<'a>, 2>>, OneOf<Implicit<SequenceRef<'a>, 3>, Explicit<Name<'a>, 4>>> as Form>⟧ ⟦<OneOf<OneOf<Implicit<SequenceRef<'a>, 5>, Implicit<Ia5StringRef<'a>, 6>>, OneOf<Implicit<OctetStringRef<'a>, 7>, Implicit<ObjectIdentifier<39>, 8>>> as Form>⟧
+        (either_tag ⟦<OneOf<OneOf<Implicit<AnotherName<'a>, 0>, Implicit<Ia5StringRef<'a>, 1>>, Implicit<Ia5StringRef<'a>, 2>> as Form>⟧ ⟦<OneOf<Implicit<SequenceRef<'a>, 3>, Explicit<Name<'a>, 4>> as Form>⟧
+        (either_tag ⟦<OneOf<Implicit<AnotherName<'a>, 0>, Implicit<Ia5StringRef<'a>, 1>> as Form>⟧ ⟦<Implicit<Ia5StringRef<'a>, 2> as Form>⟧
+        (either_tag ⟦<Implicit<AnotherName<'a>, 0> as Form>⟧ ⟦<Implicit<Ia5StringRef<'a>, 1> as Form>⟧
+        (one_tag ⟦<ImplicitTag<SequenceTag, 0> as TagMarker>⟧.TAG ⟦<Implicit<AnotherName<'a>, 0> as FormValue>⟧.value.contents)
+        (one_tag ⟦<ImplicitTag<CharacterStringTag<22>, 1> as TagMarker>⟧.TAG ⟦<Implicit<Ia5StringRef<'a>, 1> as FormValue>⟧.value.contents))
+        (one_tag ⟦<ImplicitTag<CharacterStringTag<22>, 2> as TagMarker>⟧.TAG ⟦<Implicit<Ia5StringRef<'a>, 2> as FormValue>⟧.value.contents))
+        (either_tag ⟦<Implicit<SequenceRef<'a>, 3> as Form>⟧ ⟦<Explicit<Name<'a>, 4> as Form>⟧
+        (one_tag ⟦<ImplicitTag<SequenceTag, 3> as TagMarker>⟧.TAG ⟦<Implicit<SequenceRef<'a>, 3> as FormValue>⟧.value.contents)
+        (one_tag ⟦<ExplicitTag<4> as TagMarker>⟧.TAG ⟦<Explicit<Name<'a>, 4> as FormValue>⟧.value.contents)))
+        (either_tag ⟦<OneOf<Implicit<SequenceRef<'a>, 5>, Implicit<Ia5StringRef<'a>, 6>> as Form>⟧ ⟦<OneOf<Implicit<OctetStringRef<'a>, 7>, Implicit<ObjectIdentifier<39>, 8>> as Form>⟧
+        (either_tag ⟦<Implicit<SequenceRef<'a>, 5> as Form>⟧ ⟦<Implicit<Ia5StringRef<'a>, 6> as Form>⟧
+        (one_tag ⟦<ImplicitTag<SequenceTag, 5> as TagMarker>⟧.TAG ⟦<Implicit<SequenceRef<'a>, 5> as FormValue>⟧.value.contents)
+        (one_tag ⟦<ImplicitTag<CharacterStringTag<22>, 6> as TagMarker>⟧.TAG ⟦<Implicit<Ia5StringRef<'a>, 6> as FormValue>⟧.value.contents))
+        (either_tag ⟦<Implicit<OctetStringRef<'a>, 7> as Form>⟧ ⟦<Implicit<ObjectIdentifier<39>, 8> as Form>⟧
+        (one_tag ⟦<ImplicitTag<OctetStringTag, 7> as TagMarker>⟧.TAG ⟦<Implicit<OctetStringRef<'a>, 7> as FormValue>⟧.value.contents)
+        (one_tag ⟦<ImplicitTag<ObjectIdentifierTag, 8> as TagMarker>⟧.TAG ⟦<Implicit<ObjectIdentifier<39>, 8> as FormValue>⟧.value.contents)))).encoding_is (tree_of v) };
+
+    ghost accepted_is_tlv = { λ rules v b. elim v as (λ k. ⟦<Tree<'a> as Form>⟧.accepts rules (tree_of k) b → IsTlv b) [ of.OtherName x ↦ λ a. tlv_tagged _ ⟦<Implicit<AnotherName<'a>, 0> as FormValue>⟧.value.accepts rules x b a.0.0.0.0 | of.Rfc822Name x ↦ λ a. tlv_tagged _ ⟦<Implicit<Ia5StringRef<'a>, 1> as FormValue>⟧.value.accepts rules x b a.0.0.0.0 | of.DnsName x ↦ λ a. tlv_tagged _ ⟦<Implicit<Ia5StringRef<'a>, 2> as FormValue>⟧.value.accepts rules x b a.0.0.0 | of.X400Address x ↦ λ a. tlv_tagged _ ⟦<Implicit<SequenceRef<'a>, 3> as FormValue>⟧.value.accepts rules x b a.0.0.0 | of.DirectoryName x ↦ λ a. tlv_tagged _ ⟦<Explicit<Name<'a>, 4> as FormValue>⟧.value.accepts rules x b a.0.0.0 | of.EdiPartyName x ↦ λ a. tlv_tagged _ ⟦<Implicit<SequenceRef<'a>, 5> as FormValue>⟧.value.accepts rules x b a.0.0.0 | of.UniformResourceIdentifier x ↦ λ a. tlv_tagged _ ⟦<Implicit<Ia5StringRef<'a>, 6> as FormValue>⟧.value.accepts rules x b a.0.0.0 | of.IpAddress x ↦ λ a. tlv_tagged _ ⟦<Implicit<OctetStringRef<'a>, 7> as FormValue>⟧.value.accepts rules x b a.0.0.0 | of.RegisteredId x ↦ λ a. tlv_tagged _ ⟦<Implicit<ObjectIdentifier<39>, 8> as FormValue>⟧.value.accepts rules x b a.0.0.0 ] };
+
+    ghost own_tag = { λ v. (either_tag ⟦<OneOf<OneOf<OneOf<Implicit<AnotherName<'a>, 0>, Implicit<Ia5StringRef<'a>, 1>>, Implicit<Ia5StringRef<'a>, 2>>, OneOf<Implicit<SequenceRef<'a>, 3>, Explicit<Name<'a>, 4>>> as Form>⟧ ⟦<OneOf<OneOf<Implicit<SequenceRef<'a>, 5>, Implicit<Ia5StringRef<'a>, 6>>, OneOf<Implicit<OctetStringRef<'a>, 7>, Implicit<ObjectIdentifier<39>, 8>>> as Form>⟧
+        (either_tag ⟦<OneOf<OneOf<Implicit<AnotherName<'a>, 0>, Implicit<Ia5StringRef<'a>, 1>>, Implicit<Ia5StringRef<'a>, 2>> as Form>⟧ ⟦<OneOf<Implicit<SequenceRef<'a>, 3>, Explicit<Name<'a>, 4>> as Form>⟧
+        (either_tag ⟦<OneOf<Implicit<AnotherName<'a>, 0>, Implicit<Ia5StringRef<'a>, 1>> as Form>⟧ ⟦<Implicit<Ia5StringRef<'a>, 2> as Form>⟧
+        (either_tag ⟦<Implicit<AnotherName<'a>, 0> as Form>⟧ ⟦<Implicit<Ia5StringRef<'a>, 1> as Form>⟧
+        (one_tag ⟦<ImplicitTag<SequenceTag, 0> as TagMarker>⟧.TAG ⟦<Implicit<AnotherName<'a>, 0> as FormValue>⟧.value.contents)
+        (one_tag ⟦<ImplicitTag<CharacterStringTag<22>, 1> as TagMarker>⟧.TAG ⟦<Implicit<Ia5StringRef<'a>, 1> as FormValue>⟧.value.contents))
+        (one_tag ⟦<ImplicitTag<CharacterStringTag<22>, 2> as TagMarker>⟧.TAG ⟦<Implicit<Ia5StringRef<'a>, 2> as FormValue>⟧.value.contents))
+        (either_tag ⟦<Implicit<SequenceRef<'a>, 3> as Form>⟧ ⟦<Explicit<Name<'a>, 4> as Form>⟧
+        (one_tag ⟦<ImplicitTag<SequenceTag, 3> as TagMarker>⟧.TAG ⟦<Implicit<SequenceRef<'a>, 3> as FormValue>⟧.value.contents)
+        (one_tag ⟦<ExplicitTag<4> as TagMarker>⟧.TAG ⟦<Explicit<Name<'a>, 4> as FormValue>⟧.value.contents)))
+        (either_tag ⟦<OneOf<Implicit<SequenceRef<'a>, 5>, Implicit<Ia5StringRef<'a>, 6>> as Form>⟧ ⟦<OneOf<Implicit<OctetStringRef<'a>, 7>, Implicit<ObjectIdentifier<39>, 8>> as Form>⟧
+        (either_tag ⟦<Implicit<SequenceRef<'a>, 5> as Form>⟧ ⟦<Implicit<Ia5StringRef<'a>, 6> as Form>⟧
+        (one_tag ⟦<ImplicitTag<SequenceTag, 5> as TagMarker>⟧.TAG ⟦<Implicit<SequenceRef<'a>, 5> as FormValue>⟧.value.contents)
+        (one_tag ⟦<ImplicitTag<CharacterStringTag<22>, 6> as TagMarker>⟧.TAG ⟦<Implicit<Ia5StringRef<'a>, 6> as FormValue>⟧.value.contents))
+        (either_tag ⟦<Implicit<OctetStringRef<'a>, 7> as Form>⟧ ⟦<Implicit<ObjectIdentifier<39>, 8> as Form>⟧
+        (one_tag ⟦<ImplicitTag<OctetStringTag, 7> as TagMarker>⟧.TAG ⟦<Implicit<OctetStringRef<'a>, 7> as FormValue>⟧.value.contents)
+        (one_tag ⟦<ImplicitTag<ObjectIdentifierTag, 8> as TagMarker>⟧.TAG ⟦<Implicit<ObjectIdentifier<39>, 8> as FormValue>⟧.value.contents)))).own_tag (tree_of v) };
+
+    ghost first_tag_is = { λ v. (either_tag ⟦<OneOf<OneOf<OneOf<Implicit<AnotherName<'a>, 0>, Implicit<Ia5StringRef<'a>, 1>>, Implicit<Ia5StringRef<'a>, 2>>, OneOf<Implicit<SequenceRef<'a>, 3>, Explicit<Name<'a>, 4>>> as Form>⟧ ⟦<OneOf<OneOf<Implicit<SequenceRef<'a>, 5>, Implicit<Ia5StringRef<'a>, 6>>, OneOf<Implicit<OctetStringRef<'a>, 7>, Implicit<ObjectIdentifier<39>, 8>>> as Form>⟧
+        (either_tag ⟦<OneOf<OneOf<Implicit<AnotherName<'a>, 0>, Implicit<Ia5StringRef<'a>, 1>>, Implicit<Ia5StringRef<'a>, 2>> as Form>⟧ ⟦<OneOf<Implicit<SequenceRef<'a>, 3>, Explicit<Name<'a>, 4>> as Form>⟧
+        (either_tag ⟦<OneOf<Implicit<AnotherName<'a>, 0>, Implicit<Ia5StringRef<'a>, 1>> as Form>⟧ ⟦<Implicit<Ia5StringRef<'a>, 2> as Form>⟧
+        (either_tag ⟦<Implicit<AnotherName<'a>, 0> as Form>⟧ ⟦<Implicit<Ia5StringRef<'a>, 1> as Form>⟧
+        (one_tag ⟦<ImplicitTag<SequenceTag, 0> as TagMarker>⟧.TAG ⟦<Implicit<AnotherName<'a>, 0> as FormValue>⟧.value.contents)
+        (one_tag ⟦<ImplicitTag<CharacterStringTag<22>, 1> as TagMarker>⟧.TAG ⟦<Implicit<Ia5StringRef<'a>, 1> as FormValue>⟧.value.contents))
+        (one_tag ⟦<ImplicitTag<CharacterStringTag<22>, 2> as TagMarker>⟧.TAG ⟦<Implicit<Ia5StringRef<'a>, 2> as FormValue>⟧.value.contents))
+        (either_tag ⟦<Implicit<SequenceRef<'a>, 3> as Form>⟧ ⟦<Explicit<Name<'a>, 4> as Form>⟧
+        (one_tag ⟦<ImplicitTag<SequenceTag, 3> as TagMarker>⟧.TAG ⟦<Implicit<SequenceRef<'a>, 3> as FormValue>⟧.value.contents)
+        (one_tag ⟦<ExplicitTag<4> as TagMarker>⟧.TAG ⟦<Explicit<Name<'a>, 4> as FormValue>⟧.value.contents)))
+        (either_tag ⟦<OneOf<Implicit<SequenceRef<'a>, 5>, Implicit<Ia5StringRef<'a>, 6>> as Form>⟧ ⟦<OneOf<Implicit<OctetStringRef<'a>, 7>, Implicit<ObjectIdentifier<39>, 8>> as Form>⟧
+        (either_tag ⟦<Implicit<SequenceRef<'a>, 5> as Form>⟧ ⟦<Implicit<Ia5StringRef<'a>, 6> as Form>⟧
+        (one_tag ⟦<ImplicitTag<SequenceTag, 5> as TagMarker>⟧.TAG ⟦<Implicit<SequenceRef<'a>, 5> as FormValue>⟧.value.contents)
+        (one_tag ⟦<ImplicitTag<CharacterStringTag<22>, 6> as TagMarker>⟧.TAG ⟦<Implicit<Ia5StringRef<'a>, 6> as FormValue>⟧.value.contents))
+        (either_tag ⟦<Implicit<OctetStringRef<'a>, 7> as Form>⟧ ⟦<Implicit<ObjectIdentifier<39>, 8> as Form>⟧
+        (one_tag ⟦<ImplicitTag<OctetStringTag, 7> as TagMarker>⟧.TAG ⟦<Implicit<OctetStringRef<'a>, 7> as FormValue>⟧.value.contents)
+        (one_tag ⟦<ImplicitTag<ObjectIdentifierTag, 8> as TagMarker>⟧.TAG ⟦<Implicit<ObjectIdentifier<39>, 8> as FormValue>⟧.value.contents)))).first_tag_is (tree_of v) };
+
+    ghost re_reads_alike = { λ v. elim v as (λ k. ⟦<Tree<'a> as FormValue>⟧.value.re_reads (tree_of k) ≡ true → ⟦<Tree<'a> as Form>⟧.re_reads (tree_of k) ≡ true) [ of.OtherName x ↦ λ h. h | of.Rfc822Name x ↦ λ h. h | of.DnsName x ↦ λ h. h | of.X400Address x ↦ λ h. h | of.DirectoryName x ↦ λ h. h | of.EdiPartyName x ↦ λ h. h | of.UniformResourceIdentifier x ↦ λ h. h | of.IpAddress x ↦ λ h. h | of.RegisteredId x ↦ λ h. h ] };
+
+    ghost comparable_alike = { λ v w h. tt };
+}
+
+impl<'a> Choice for GeneralName<'a> {
+    fn can_decode(tag: Tag) -> bool
+        ensures { result ≡ ⟦<Tree<'a> as Form>⟧.tags tag }
+    {
+        Tree::<'a>::can_decode(tag)
+    }
+
+    ghost has_first_tag = { λ v. elim v as (λ k. HasFirstTag (⟦<Tree<'a> as Form>⟧.first_tag_of (tree_of k))) [ of.OtherName x ↦ record { tag = _; is_tag = refl } | of.Rfc822Name x ↦ record { tag = _; is_tag = refl } | of.DnsName x ↦ record { tag = _; is_tag = refl } | of.X400Address x ↦ record { tag = _; is_tag = refl } | of.DirectoryName x ↦ record { tag = _; is_tag = refl } | of.EdiPartyName x ↦ record { tag = _; is_tag = refl } | of.UniformResourceIdentifier x ↦ record { tag = _; is_tag = refl } | of.IpAddress x ↦ record { tag = _; is_tag = refl } | of.RegisteredId x ↦ record { tag = _; is_tag = refl } ] };
+}
+
+impl<'a> KnownTags for GeneralName<'a> {
+    ghost known_tags = { ⟦<Tree<'a> as KnownTags>⟧.known_tags };
+
+    ghost MAY_BE_ABSENT = { false };
+
+    ghost are_known = { (known_either ⟦<OneOf<OneOf<OneOf<Implicit<AnotherName<'a>, 0>, Implicit<Ia5StringRef<'a>, 1>>, Implicit<Ia5StringRef<'a>, 2>>, OneOf<Implicit<SequenceRef<'a>, 3>, Explicit<Name<'a>, 4>>> as KnownTags>⟧.known_tags ⟦<OneOf<OneOf<Implicit<SequenceRef<'a>, 5>, Implicit<Ia5StringRef<'a>, 6>>, OneOf<Implicit<OctetStringRef<'a>, 7>, Implicit<ObjectIdentifier<39>, 8>>> as KnownTags>⟧.known_tags ⟦<OneOf<OneOf<OneOf<Implicit<AnotherName<'a>, 0>, Implicit<Ia5StringRef<'a>, 1>>, Implicit<Ia5StringRef<'a>, 2>>, OneOf<Implicit<SequenceRef<'a>, 3>, Explicit<Name<'a>, 4>>> as Form>⟧.tags ⟦<OneOf<OneOf<Implicit<SequenceRef<'a>, 5>, Implicit<Ia5StringRef<'a>, 6>>, OneOf<Implicit<OctetStringRef<'a>, 7>, Implicit<ObjectIdentifier<39>, 8>>> as Form>⟧.tags (known_either ⟦<OneOf<OneOf<Implicit<AnotherName<'a>, 0>, Implicit<Ia5StringRef<'a>, 1>>, Implicit<Ia5StringRef<'a>, 2>> as KnownTags>⟧.known_tags ⟦<OneOf<Implicit<SequenceRef<'a>, 3>, Explicit<Name<'a>, 4>> as KnownTags>⟧.known_tags ⟦<OneOf<OneOf<Implicit<AnotherName<'a>, 0>, Implicit<Ia5StringRef<'a>, 1>>, Implicit<Ia5StringRef<'a>, 2>> as Form>⟧.tags ⟦<OneOf<Implicit<SequenceRef<'a>, 3>, Explicit<Name<'a>, 4>> as Form>⟧.tags (known_either ⟦<OneOf<Implicit<AnotherName<'a>, 0>, Implicit<Ia5StringRef<'a>, 1>> as KnownTags>⟧.known_tags ⟦<Implicit<Ia5StringRef<'a>, 2> as KnownTags>⟧.known_tags ⟦<OneOf<Implicit<AnotherName<'a>, 0>, Implicit<Ia5StringRef<'a>, 1>> as Form>⟧.tags ⟦<Implicit<Ia5StringRef<'a>, 2> as Form>⟧.tags (known_either ⟦<Implicit<AnotherName<'a>, 0> as KnownTags>⟧.known_tags ⟦<Implicit<Ia5StringRef<'a>, 1> as KnownTags>⟧.known_tags ⟦<Implicit<AnotherName<'a>, 0> as Form>⟧.tags ⟦<Implicit<Ia5StringRef<'a>, 1> as Form>⟧.tags (own_is_known _) (own_is_known _)) (own_is_known _)) (known_either ⟦<Implicit<SequenceRef<'a>, 3> as KnownTags>⟧.known_tags ⟦<Explicit<Name<'a>, 4> as KnownTags>⟧.known_tags ⟦<Implicit<SequenceRef<'a>, 3> as Form>⟧.tags ⟦<Explicit<Name<'a>, 4> as Form>⟧.tags (own_is_known _) (own_is_known _))) (known_either ⟦<OneOf<Implicit<SequenceRef<'a>, 5>, Implicit<Ia5StringRef<'a>, 6>> as KnownTags>⟧.known_tags ⟦<OneOf<Implicit<OctetStringRef<'a>, 7>, Implicit<ObjectIdentifier<39>, 8>> as KnownTags>⟧.known_tags ⟦<OneOf<Implicit<SequenceRef<'a>, 5>, Implicit<Ia5StringRef<'a>, 6>> as Form>⟧.tags ⟦<OneOf<Implicit<OctetStringRef<'a>, 7>, Implicit<ObjectIdentifier<39>, 8>> as Form>⟧.tags (known_either ⟦<Implicit<SequenceRef<'a>, 5> as KnownTags>⟧.known_tags ⟦<Implicit<Ia5StringRef<'a>, 6> as KnownTags>⟧.known_tags ⟦<Implicit<SequenceRef<'a>, 5> as Form>⟧.tags ⟦<Implicit<Ia5StringRef<'a>, 6> as Form>⟧.tags (own_is_known _) (own_is_known _)) (known_either ⟦<Implicit<OctetStringRef<'a>, 7> as KnownTags>⟧.known_tags ⟦<Implicit<ObjectIdentifier<39>, 8> as KnownTags>⟧.known_tags ⟦<Implicit<OctetStringRef<'a>, 7> as Form>⟧.tags ⟦<Implicit<ObjectIdentifier<39>, 8> as Form>⟧.tags (own_is_known _) (own_is_known _)))) };
+
+    ghost is_there = { λ e v. elim v as (λ k. HasFirstTag (⟦<Tree<'a> as Form>⟧.first_tag_of (tree_of k))) [ of.OtherName x ↦ record { tag = _; is_tag = refl } | of.Rfc822Name x ↦ record { tag = _; is_tag = refl } | of.DnsName x ↦ record { tag = _; is_tag = refl } | of.X400Address x ↦ record { tag = _; is_tag = refl } | of.DirectoryName x ↦ record { tag = _; is_tag = refl } | of.EdiPartyName x ↦ record { tag = _; is_tag = refl } | of.UniformResourceIdentifier x ↦ record { tag = _; is_tag = refl } | of.IpAddress x ↦ record { tag = _; is_tag = refl } | of.RegisteredId x ↦ record { tag = _; is_tag = refl } ] };
+}
+
+impl<'a, R: Source<'a>> Decode<'a, R> for GeneralName<'a> {
+    ghost TAKES_MEMORY = { true };
+
+    const TAKES_MEMORY: bool = true;
+
+    fn decode(alloc: Global, reader: &mut R) -> Result<GeneralName<'a>, Error> {
+        match Tree::<'a>::decode(alloc, reader) {
+            Ok(OneOf::First(OneOf::First(OneOf::First(OneOf::First(value))))) => Ok(
+                GeneralName::OtherName(value),
+            ),
+            Ok(OneOf::First(OneOf::First(OneOf::First(OneOf::Other(value))))) => Ok(
+                GeneralName::Rfc822Name(value),
+            ),
+            Ok(OneOf::First(OneOf::First(OneOf::Other(value)))) => Ok(GeneralName::DnsName(value)),
+            Ok(OneOf::First(OneOf::Other(OneOf::First(value)))) => Ok(GeneralName::X400Address(
+                value,
+            )),
+            Ok(OneOf::First(OneOf::Other(OneOf::Other(value)))) => Ok(GeneralName::DirectoryName(
+                value,
+            )),
+            Ok(OneOf::Other(OneOf::First(OneOf::First(value)))) => Ok(GeneralName::EdiPartyName(
+                value,
+            )),
+            Ok(OneOf::Other(OneOf::First(OneOf::Other(value)))) => Ok(
+                GeneralName::UniformResourceIdentifier(value),
+            ),
+            Ok(OneOf::Other(OneOf::Other(OneOf::First(value)))) => Ok(GeneralName::IpAddress(
+                value,
+            )),
+            Ok(OneOf::Other(OneOf::Other(OneOf::Other(value)))) => Ok(GeneralName::RegisteredId(
+                value,
+            )),
+            Err(e) => Err(e),
+        }
+    }
+
+    ghost takes_memory_is = { refl };
+}
+
+impl<'a, R: Source<'a>> DecodeField<'a, R> for GeneralName<'a> {
+    ghost TAKES_MEMORY = { true };
+
+    const TAKES_MEMORY: bool = true;
+
+    fn decode_field(alloc: Global, reader: &mut R) -> Result<GeneralName<'a>, Error> {
+        match Tree::<'a>::decode_field(alloc, reader) {
+            Ok(OneOf::First(OneOf::First(OneOf::First(OneOf::First(value))))) => Ok(
+                GeneralName::OtherName(value),
+            ),
+            Ok(OneOf::First(OneOf::First(OneOf::First(OneOf::Other(value))))) => Ok(
+                GeneralName::Rfc822Name(value),
+            ),
+            Ok(OneOf::First(OneOf::First(OneOf::Other(value)))) => Ok(GeneralName::DnsName(value)),
+            Ok(OneOf::First(OneOf::Other(OneOf::First(value)))) => Ok(GeneralName::X400Address(
+                value,
+            )),
+            Ok(OneOf::First(OneOf::Other(OneOf::Other(value)))) => Ok(GeneralName::DirectoryName(
+                value,
+            )),
+            Ok(OneOf::Other(OneOf::First(OneOf::First(value)))) => Ok(GeneralName::EdiPartyName(
+                value,
+            )),
+            Ok(OneOf::Other(OneOf::First(OneOf::Other(value)))) => Ok(
+                GeneralName::UniformResourceIdentifier(value),
+            ),
+            Ok(OneOf::Other(OneOf::Other(OneOf::First(value)))) => Ok(GeneralName::IpAddress(
+                value,
+            )),
+            Ok(OneOf::Other(OneOf::Other(OneOf::Other(value)))) => Ok(GeneralName::RegisteredId(
+                value,
+            )),
+            Err(e) => Err(e),
+        }
+    }
+
+    ghost takes_memory_is = { refl };
+}
+
+impl<'a> EncodeValue for GeneralName<'a> {
+    fn value_len(&self) -> Result<Length, Error> {
+        match self {
+            GeneralName::OtherName(value) => value.value_len(),
+            GeneralName::Rfc822Name(value) => value.value_len(),
+            GeneralName::DnsName(value) => value.value_len(),
+            GeneralName::X400Address(value) => value.value_len(),
+            GeneralName::DirectoryName(value) => value.value_len(),
+            GeneralName::EdiPartyName(value) => value.value_len(),
+            GeneralName::UniformResourceIdentifier(value) => value.value_len(),
+            GeneralName::IpAddress(value) => value.value_len(),
+            GeneralName::RegisteredId(value) => value.value_len(),
+        }
+    }
+
+    fn encode_value<W: Writer>(&self, writer: &mut W) -> Result<(), Error> {
+        match self {
+            GeneralName::OtherName(value) => value.encode_value(writer),
+            GeneralName::Rfc822Name(value) => value.encode_value(writer),
+            GeneralName::DnsName(value) => value.encode_value(writer),
+            GeneralName::X400Address(value) => value.encode_value(writer),
+            GeneralName::DirectoryName(value) => value.encode_value(writer),
+            GeneralName::EdiPartyName(value) => value.encode_value(writer),
+            GeneralName::UniformResourceIdentifier(value) => value.encode_value(writer),
+            GeneralName::IpAddress(value) => value.encode_value(writer),
+            GeneralName::RegisteredId(value) => value.encode_value(writer),
+        }
+    }
+}
+
+impl<'a> DerOrd for GeneralName<'a> {
+    fn der_cmp(&self, other: &GeneralName<'a>) -> Result<Ordering, Error> {
+        match (self, other) {
+            (GeneralName::OtherName(value), GeneralName::OtherName(other)) => value.der_cmp(other),
+            (GeneralName::Rfc822Name(value), GeneralName::Rfc822Name(other)) => value.der_cmp(
+                other,
+            ),
+            (GeneralName::DnsName(value), GeneralName::DnsName(other)) => value.der_cmp(other),
+            (GeneralName::X400Address(value), GeneralName::X400Address(other)) => value.der_cmp(
+                other,
+            ),
+            (GeneralName::DirectoryName(value), GeneralName::DirectoryName(other)) => value.der_cmp(
+                other,
+            ),
+            (GeneralName::EdiPartyName(value), GeneralName::EdiPartyName(other)) => value.der_cmp(
+                other,
+            ),
+            (
+                GeneralName::UniformResourceIdentifier(value),
+                GeneralName::UniformResourceIdentifier(other),
+            ) => value.der_cmp(other),
+            (GeneralName::IpAddress(value), GeneralName::IpAddress(other)) => value.der_cmp(other),
+            (GeneralName::RegisteredId(value), GeneralName::RegisteredId(other)) => value.der_cmp(
+                other,
+            ),
+            _ => cmp_headers(self, other),
+        }
+    }
+}
+
+impl<'a> EncodingEq for GeneralName<'a> {
+    ghost encoding_eq = { seen_equality tree_of ⟦<GeneralName<'a> as PartialEq>⟧.eq ⟦<Tree<'a> as PartialEq>⟧.eq (λ v w. elim v as (λ k. ⟦<GeneralName<'a> as PartialEq>⟧.eq k w ≡ ⟦<Tree<'a> as PartialEq>⟧.eq (tree_of k) (tree_of w)) [ of.OtherName x ↦ elim w as (λ k. ⟦<GeneralName<'a> as PartialEq>⟧.eq (of.OtherName x) k ≡ ⟦<Tree<'a> as PartialEq>⟧.eq (tree_of (of.OtherName x)) (tree_of k)) [ of.OtherName y ↦ refl | of.Rfc822Name y ↦ refl | of.DnsName y ↦ refl | of.X400Address y ↦ refl | of.DirectoryName y ↦ refl | of.EdiPartyName y ↦ refl | of.UniformResourceIdentifier y ↦ refl | of.IpAddress y ↦ refl | of.RegisteredId y ↦ refl ] | of.Rfc822Name x ↦ elim w as (λ k. ⟦<GeneralName<'a> as PartialEq>⟧.eq (of.Rfc822Name x) k ≡ ⟦<Tree<'a> as PartialEq>⟧.eq (tree_of (of.Rfc822Name x)) (tree_of k)) [ of.OtherName y ↦ refl | of.Rfc822Name y ↦ refl | of.DnsName y ↦ refl | of.X400Address y ↦ refl | of.DirectoryName y ↦ refl | of.EdiPartyName y ↦ refl | of.UniformResourceIdentifier y ↦ refl | of.IpAddress y ↦ refl | of.RegisteredId y ↦ refl ] | of.DnsName x ↦ elim w as (λ k. ⟦<GeneralName<'a> as PartialEq>⟧.eq (of.DnsName x) k ≡ ⟦<Tree<'a> as PartialEq>⟧.eq (tree_of (of.DnsName x)) (tree_of k)) [ of.OtherName y ↦ refl | of.Rfc822Name y ↦ refl | of.DnsName y ↦ refl | of.X400Address y ↦ refl | of.DirectoryName y ↦ refl | of.EdiPartyName y ↦ refl | of.UniformResourceIdentifier y ↦ refl | of.IpAddress y ↦ refl | of.RegisteredId y ↦ refl ] | of.X400Address x ↦ elim w as (λ k. ⟦<GeneralName<'a> as PartialEq>⟧.eq (of.X400Address x) k ≡ ⟦<Tree<'a> as PartialEq>⟧.eq (tree_of (of.X400Address x)) (tree_of k)) [ of.OtherName y ↦ refl | of.Rfc822Name y ↦ refl | of.DnsName y ↦ refl | of.X400Address y ↦ refl | of.DirectoryName y ↦ refl | of.EdiPartyName y ↦ refl | of.UniformResourceIdentifier y ↦ refl | of.IpAddress y ↦ refl | of.RegisteredId y ↦ refl ] | of.DirectoryName x ↦ elim w as (λ k. ⟦<GeneralName<'a> as PartialEq>⟧.eq (of.DirectoryName x) k ≡ ⟦<Tree<'a> as PartialEq>⟧.eq (tree_of (of.DirectoryName x)) (tree_of k)) [ of.OtherName y ↦ refl | of.Rfc822Name y ↦ refl | of.DnsName y ↦ refl | of.X400Address y ↦ refl | of.DirectoryName y ↦ refl | of.EdiPartyName y ↦ refl | of.UniformResourceIdentifier y ↦ refl | of.IpAddress y ↦ refl | of.RegisteredId y ↦ refl ] | of.EdiPartyName x ↦ elim w as (λ k. ⟦<GeneralName<'a> as PartialEq>⟧.eq (of.EdiPartyName x) k ≡ ⟦<Tree<'a> as PartialEq>⟧.eq (tree_of (of.EdiPartyName x)) (tree_of k)) [ of.OtherName y ↦ refl | of.Rfc822Name y ↦ refl | of.DnsName y ↦ refl | of.X400Address y ↦ refl | of.DirectoryName y ↦ refl | of.EdiPartyName y ↦ refl | of.UniformResourceIdentifier y ↦ refl | of.IpAddress y ↦ refl | of.RegisteredId y ↦ refl ] | of.UniformResourceIdentifier x ↦ elim w as (λ k. ⟦<GeneralName<'a> as PartialEq>⟧.eq (of.UniformResourceIdentifier x) k ≡ ⟦<Tree<'a> as PartialEq>⟧.eq (tree_of (of.UniformResourceIdentifier x)) (tree_of k)) [ of.OtherName y ↦ refl | of.Rfc822Name y ↦ refl | of.DnsName y ↦ refl | of.X400Address y ↦ refl | of.DirectoryName y ↦ refl | of.EdiPartyName y ↦ refl | of.UniformResourceIdentifier y ↦ refl | of.IpAddress y ↦ refl | of.RegisteredId y ↦ refl ] | of.IpAddress x ↦ elim w as (λ k. ⟦<GeneralName<'a> as PartialEq>⟧.eq (of.IpAddress x) k ≡ ⟦<Tree<'a> as PartialEq>⟧.eq (tree_of (of.IpAddress x)) (tree_of k)) [ of.OtherName y ↦ refl | of.Rfc822Name y ↦ refl | of.DnsName y ↦ refl | of.X400Address y ↦ refl | of.DirectoryName y ↦ refl | of.EdiPartyName y ↦ refl | of.UniformResourceIdentifier y ↦ refl | of.IpAddress y ↦ refl | of.RegisteredId y ↦ refl ] | of.RegisteredId x ↦ elim w as (λ k. ⟦<GeneralName<'a> as PartialEq>⟧.eq (of.RegisteredId x) k ≡ ⟦<Tree<'a> as PartialEq>⟧.eq (tree_of (of.RegisteredId x)) (tree_of k)) [ of.OtherName y ↦ refl | of.Rfc822Name y ↦ refl | of.DnsName y ↦ refl | of.X400Address y ↦ refl | of.DirectoryName y ↦ refl | of.EdiPartyName y ↦ refl | of.UniformResourceIdentifier y ↦ refl | of.IpAddress y ↦ refl | of.RegisteredId y ↦ refl ] ]) (either_equality ⟦<OneOf<OneOf<OneOf<Implicit<AnotherName<'a>, 0>, Implicit<Ia5StringRef<'a>, 1>>, Implicit<Ia5StringRef<'a>, 2>>, OneOf<Implicit<SequenceRef<'a>, 3>, Explicit<Name<'a>, 4>>> as Form>⟧ ⟦<OneOf<OneOf<Implicit<SequenceRef<'a>, 5>, Implicit<Ia5StringRef<'a>, 6>>, OneOf<Implicit<OctetStringRef<'a>, 7>, Implicit<ObjectIdentifier<39>, 8>>> as Form>⟧
+        (either_tag ⟦<OneOf<OneOf<Implicit<AnotherName<'a>, 0>, Implicit<Ia5StringRef<'a>, 1>>, Implicit<Ia5StringRef<'a>, 2>> as Form>⟧ ⟦<OneOf<Implicit<SequenceRef<'a>, 3>, Explicit<Name<'a>, 4>> as Form>⟧
+        (either_tag ⟦<OneOf<Implicit<AnotherName<'a>, 0>, Implicit<Ia5StringRef<'a>, 1>> as Form>⟧ ⟦<Implicit<Ia5StringRef<'a>, 2> as Form>⟧
+        (either_tag ⟦<Implicit<AnotherName<'a>, 0> as Form>⟧ ⟦<Implicit<Ia5StringRef<'a>, 1> as Form>⟧
+        (one_tag ⟦<ImplicitTag<SequenceTag, 0> as TagMarker>⟧.TAG ⟦<Implicit<AnotherName<'a>, 0> as FormValue>⟧.value.contents)
+        (one_tag ⟦<ImplicitTag<CharacterStringTag<22>, 1> as TagMarker>⟧.TAG ⟦<Implicit<Ia5StringRef<'a>, 1> as FormValue>⟧.value.contents))
+        (one_tag ⟦<ImplicitTag<CharacterStringTag<22>, 2> as TagMarker>⟧.TAG ⟦<Implicit<Ia5StringRef<'a>, 2> as FormValue>⟧.value.contents))
+        (either_tag ⟦<Implicit<SequenceRef<'a>, 3> as Form>⟧ ⟦<Explicit<Name<'a>, 4> as Form>⟧
+        (one_tag ⟦<ImplicitTag<SequenceTag, 3> as TagMarker>⟧.TAG ⟦<Implicit<SequenceRef<'a>, 3> as FormValue>⟧.value.contents)
+        (one_tag ⟦<ExplicitTag<4> as TagMarker>⟧.TAG ⟦<Explicit<Name<'a>, 4> as FormValue>⟧.value.contents)))
+        (either_tag ⟦<OneOf<Implicit<SequenceRef<'a>, 5>, Implicit<Ia5StringRef<'a>, 6>> as Form>⟧ ⟦<OneOf<Implicit<OctetStringRef<'a>, 7>, Implicit<ObjectIdentifier<39>, 8>> as Form>⟧
+        (either_tag ⟦<Implicit<SequenceRef<'a>, 5> as Form>⟧ ⟦<Implicit<Ia5StringRef<'a>, 6> as Form>⟧
+        (one_tag ⟦<ImplicitTag<SequenceTag, 5> as TagMarker>⟧.TAG ⟦<Implicit<SequenceRef<'a>, 5> as FormValue>⟧.value.contents)
+        (one_tag ⟦<ImplicitTag<CharacterStringTag<22>, 6> as TagMarker>⟧.TAG ⟦<Implicit<Ia5StringRef<'a>, 6> as FormValue>⟧.value.contents))
+        (either_tag ⟦<Implicit<OctetStringRef<'a>, 7> as Form>⟧ ⟦<Implicit<ObjectIdentifier<39>, 8> as Form>⟧
+        (one_tag ⟦<ImplicitTag<OctetStringTag, 7> as TagMarker>⟧.TAG ⟦<Implicit<OctetStringRef<'a>, 7> as FormValue>⟧.value.contents)
+        (one_tag ⟦<ImplicitTag<ObjectIdentifierTag, 8> as TagMarker>⟧.TAG ⟦<Implicit<ObjectIdentifier<39>, 8> as FormValue>⟧.value.contents)))
+        ⟦<OneOf<OneOf<OneOf<Implicit<AnotherName<'a>, 0>, Implicit<Ia5StringRef<'a>, 1>>, Implicit<Ia5StringRef<'a>, 2>>, OneOf<Implicit<SequenceRef<'a>, 3>, Explicit<Name<'a>, 4>>> as PartialEq>⟧.eq ⟦<OneOf<OneOf<Implicit<SequenceRef<'a>, 5>, Implicit<Ia5StringRef<'a>, 6>>, OneOf<Implicit<OctetStringRef<'a>, 7>, Implicit<ObjectIdentifier<39>, 8>>> as PartialEq>⟧.eq
+        (either_equality ⟦<OneOf<OneOf<Implicit<AnotherName<'a>, 0>, Implicit<Ia5StringRef<'a>, 1>>, Implicit<Ia5StringRef<'a>, 2>> as Form>⟧ ⟦<OneOf<Implicit<SequenceRef<'a>, 3>, Explicit<Name<'a>, 4>> as Form>⟧
+        (either_tag ⟦<OneOf<Implicit<AnotherName<'a>, 0>, Implicit<Ia5StringRef<'a>, 1>> as Form>⟧ ⟦<Implicit<Ia5StringRef<'a>, 2> as Form>⟧
+        (either_tag ⟦<Implicit<AnotherName<'a>, 0> as Form>⟧ ⟦<Implicit<Ia5StringRef<'a>, 1> as Form>⟧
+        (one_tag ⟦<ImplicitTag<SequenceTag, 0> as TagMarker>⟧.TAG ⟦<Implicit<AnotherName<'a>, 0> as FormValue>⟧.value.contents)
+        (one_tag ⟦<ImplicitTag<CharacterStringTag<22>, 1> as TagMarker>⟧.TAG ⟦<Implicit<Ia5StringRef<'a>, 1> as FormValue>⟧.value.contents))
+        (one_tag ⟦<ImplicitTag<CharacterStringTag<22>, 2> as TagMarker>⟧.TAG ⟦<Implicit<Ia5StringRef<'a>, 2> as FormValue>⟧.value.contents))
+        (either_tag ⟦<Implicit<SequenceRef<'a>, 3> as Form>⟧ ⟦<Explicit<Name<'a>, 4> as Form>⟧
+        (one_tag ⟦<ImplicitTag<SequenceTag, 3> as TagMarker>⟧.TAG ⟦<Implicit<SequenceRef<'a>, 3> as FormValue>⟧.value.contents)
+        (one_tag ⟦<ExplicitTag<4> as TagMarker>⟧.TAG ⟦<Explicit<Name<'a>, 4> as FormValue>⟧.value.contents))
+        ⟦<OneOf<OneOf<Implicit<AnotherName<'a>, 0>, Implicit<Ia5StringRef<'a>, 1>>, Implicit<Ia5StringRef<'a>, 2>> as PartialEq>⟧.eq ⟦<OneOf<Implicit<SequenceRef<'a>, 3>, Explicit<Name<'a>, 4>> as PartialEq>⟧.eq
+        (either_equality ⟦<OneOf<Implicit<AnotherName<'a>, 0>, Implicit<Ia5StringRef<'a>, 1>> as Form>⟧ ⟦<Implicit<Ia5StringRef<'a>, 2> as Form>⟧
+        (either_tag ⟦<Implicit<AnotherName<'a>, 0> as Form>⟧ ⟦<Implicit<Ia5StringRef<'a>, 1> as Form>⟧
+        (one_tag ⟦<ImplicitTag<SequenceTag, 0> as TagMarker>⟧.TAG ⟦<Implicit<AnotherName<'a>, 0> as FormValue>⟧.value.contents)
+        (one_tag ⟦<ImplicitTag<CharacterStringTag<22>, 1> as TagMarker>⟧.TAG ⟦<Implicit<Ia5StringRef<'a>, 1> as FormValue>⟧.value.contents))
+        (one_tag ⟦<ImplicitTag<CharacterStringTag<22>, 2> as TagMarker>⟧.TAG ⟦<Implicit<Ia5StringRef<'a>, 2> as FormValue>⟧.value.contents)
+        ⟦<OneOf<Implicit<AnotherName<'a>, 0>, Implicit<Ia5StringRef<'a>, 1>> as PartialEq>⟧.eq ⟦<Implicit<Ia5StringRef<'a>, 2> as PartialEq>⟧.eq
+        (either_equality ⟦<Implicit<AnotherName<'a>, 0> as Form>⟧ ⟦<Implicit<Ia5StringRef<'a>, 1> as Form>⟧
+        (one_tag ⟦<ImplicitTag<SequenceTag, 0> as TagMarker>⟧.TAG ⟦<Implicit<AnotherName<'a>, 0> as FormValue>⟧.value.contents)
+        (one_tag ⟦<ImplicitTag<CharacterStringTag<22>, 1> as TagMarker>⟧.TAG ⟦<Implicit<Ia5StringRef<'a>, 1> as FormValue>⟧.value.contents)
+        ⟦<Implicit<AnotherName<'a>, 0> as PartialEq>⟧.eq ⟦<Implicit<Ia5StringRef<'a>, 1> as PartialEq>⟧.eq
+        (one_tag_equality ⟦<ImplicitTag<SequenceTag, 0> as TagMarker>⟧.TAG ⟦<Implicit<AnotherName<'a>, 0> as FormValue>⟧.value.contents ⟦<Implicit<AnotherName<'a>, 0> as FormValue>⟧.value.comparable ⟦<Implicit<AnotherName<'a>, 0> as PartialEq>⟧.eq (λ v w. (another_name_contents_eq.contents_eq-law v.value w.value)))
+        (one_tag_equality ⟦<ImplicitTag<CharacterStringTag<22>, 1> as TagMarker>⟧.TAG ⟦<Implicit<Ia5StringRef<'a>, 1> as FormValue>⟧.value.contents ⟦<Implicit<Ia5StringRef<'a>, 1> as FormValue>⟧.value.comparable ⟦<Implicit<Ia5StringRef<'a>, 1> as PartialEq>⟧.eq (λ v w. ((characterstringref_contents_eq.contents_eq-law 22 (record { fits = lit< tt })) v.value w.value)))
+        ⟦<OneOf<Implicit<AnotherName<'a>, 0>, Implicit<Ia5StringRef<'a>, 1>> as PartialEq>⟧.eq (λ v x. refl) (λ w y. refl) (λ v w. refl) (λ w v. refl))
+        (one_tag_equality ⟦<ImplicitTag<CharacterStringTag<22>, 2> as TagMarker>⟧.TAG ⟦<Implicit<Ia5StringRef<'a>, 2> as FormValue>⟧.value.contents ⟦<Implicit<Ia5StringRef<'a>, 2> as FormValue>⟧.value.comparable ⟦<Implicit<Ia5StringRef<'a>, 2> as PartialEq>⟧.eq (λ v w. ((characterstringref_contents_eq.contents_eq-law 22 (record { fits = lit< tt })) v.value w.value)))
+        ⟦<OneOf<OneOf<Implicit<AnotherName<'a>, 0>, Implicit<Ia5StringRef<'a>, 1>>, Implicit<Ia5StringRef<'a>, 2>> as PartialEq>⟧.eq (λ v x. refl) (λ w y. refl) (λ v w. refl) (λ w v. refl))
+        (either_equality ⟦<Implicit<SequenceRef<'a>, 3> as Form>⟧ ⟦<Explicit<Name<'a>, 4> as Form>⟧
+        (one_tag ⟦<ImplicitTag<SequenceTag, 3> as TagMarker>⟧.TAG ⟦<Implicit<SequenceRef<'a>, 3> as FormValue>⟧.value.contents)
+        (one_tag ⟦<ExplicitTag<4> as TagMarker>⟧.TAG ⟦<Explicit<Name<'a>, 4> as FormValue>⟧.value.contents)
+        ⟦<Implicit<SequenceRef<'a>, 3> as PartialEq>⟧.eq ⟦<Explicit<Name<'a>, 4> as PartialEq>⟧.eq
+        (one_tag_equality ⟦<ImplicitTag<SequenceTag, 3> as TagMarker>⟧.TAG ⟦<Implicit<SequenceRef<'a>, 3> as FormValue>⟧.value.contents ⟦<Implicit<SequenceRef<'a>, 3> as FormValue>⟧.value.comparable ⟦<Implicit<SequenceRef<'a>, 3> as PartialEq>⟧.eq (λ v w. (sequenceref_contents_eq.contents_eq-law v.value w.value)))
+        (one_tag_equality ⟦<ExplicitTag<4> as TagMarker>⟧.TAG ⟦<Explicit<Name<'a>, 4> as FormValue>⟧.value.contents ⟦<Explicit<Name<'a>, 4> as FormValue>⟧.value.comparable ⟦<Explicit<Name<'a>, 4> as PartialEq>⟧.eq (λ v w. ((member_equality ⟦<Name<'a> as Form>⟧
+        (tagged_starts ⟦<Name<'a> as Form>⟧ (one_tag ⟦<SequenceTag as TagMarker>⟧.TAG ⟦<RdnSequence<'a> as FormValue>⟧.value.contents))
+        ⟦<Name<'a> as PartialEq>⟧.eq
+        (one_tag_equality ⟦<SequenceTag as TagMarker>⟧.TAG ⟦<RdnSequence<'a> as FormValue>⟧.value.contents ⟦<RdnSequence<'a> as FormValue>⟧.value.comparable ⟦<RdnSequence<'a> as PartialEq>⟧.eq rdn_sequence_contents_eq.contents_eq-law)
+        no_equality).equal v.fields w.fields)))
+        ⟦<OneOf<Implicit<SequenceRef<'a>, 3>, Explicit<Name<'a>, 4>> as PartialEq>⟧.eq (λ v x. refl) (λ w y. refl) (λ v w. refl) (λ w v. refl))
+        ⟦<OneOf<OneOf<OneOf<Implicit<AnotherName<'a>, 0>, Implicit<Ia5StringRef<'a>, 1>>, Implicit<Ia5StringRef<'a>, 2>>, OneOf<Implicit<SequenceRef<'a>, 3>, Explicit<Name<'a>, 4>>> as PartialEq>⟧.eq (λ v x. refl) (λ w y. refl) (λ v w. refl) (λ w v. refl))
+        (either_equality ⟦<OneOf<Implicit<SequenceRef<'a>, 5>, Implicit<Ia5StringRef<'a>, 6>> as Form>⟧ ⟦<OneOf<Implicit<OctetStringRef<'a>, 7>, Implicit<ObjectIdentifier<39>, 8>> as Form>⟧
+        (either_tag ⟦<Implicit<SequenceRef<'a>, 5> as Form>⟧ ⟦<Implicit<Ia5StringRef<'a>, 6> as Form>⟧
+        (one_tag ⟦<ImplicitTag<SequenceTag, 5> as TagMarker>⟧.TAG ⟦<Implicit<SequenceRef<'a>, 5> as FormValue>⟧.value.contents)
+        (one_tag ⟦<ImplicitTag<CharacterStringTag<22>, 6> as TagMarker>⟧.TAG ⟦<Implicit<Ia5StringRef<'a>, 6> as FormValue>⟧.value.contents))
+        (either_tag ⟦<Implicit<OctetStringRef<'a>, 7> as Form>⟧ ⟦<Implicit<ObjectIdentifier<39>, 8> as Form>⟧
+        (one_tag ⟦<ImplicitTag<OctetStringTag, 7> as TagMarker>⟧.TAG ⟦<Implicit<OctetStringRef<'a>, 7> as FormValue>⟧.value.contents)
+        (one_tag ⟦<ImplicitTag<ObjectIdentifierTag, 8> as TagMarker>⟧.TAG ⟦<Implicit<ObjectIdentifier<39>, 8> as FormValue>⟧.value.contents))
+        ⟦<OneOf<Implicit<SequenceRef<'a>, 5>, Implicit<Ia5StringRef<'a>, 6>> as PartialEq>⟧.eq ⟦<OneOf<Implicit<OctetStringRef<'a>, 7>, Implicit<ObjectIdentifier<39>, 8>> as PartialEq>⟧.eq
+        (either_equality ⟦<Implicit<SequenceRef<'a>, 5> as Form>⟧ ⟦<Implicit<Ia5StringRef<'a>, 6> as Form>⟧
+        (one_tag ⟦<ImplicitTag<SequenceTag, 5> as TagMarker>⟧.TAG ⟦<Implicit<SequenceRef<'a>, 5> as FormValue>⟧.value.contents)
+        (one_tag ⟦<ImplicitTag<CharacterStringTag<22>, 6> as TagMarker>⟧.TAG ⟦<Implicit<Ia5StringRef<'a>, 6> as FormValue>⟧.value.contents)
+        ⟦<Implicit<SequenceRef<'a>, 5> as PartialEq>⟧.eq ⟦<Implicit<Ia5StringRef<'a>, 6> as PartialEq>⟧.eq
+        (one_tag_equality ⟦<ImplicitTag<SequenceTag, 5> as TagMarker>⟧.TAG ⟦<Implicit<SequenceRef<'a>, 5> as FormValue>⟧.value.contents ⟦<Implicit<SequenceRef<'a>, 5> as FormValue>⟧.value.comparable ⟦<Implicit<SequenceRef<'a>, 5> as PartialEq>⟧.eq (λ v w. (sequenceref_contents_eq.contents_eq-law v.value w.value)))
+        (one_tag_equality ⟦<ImplicitTag<CharacterStringTag<22>, 6> as TagMarker>⟧.TAG ⟦<Implicit<Ia5StringRef<'a>, 6> as FormValue>⟧.value.contents ⟦<Implicit<Ia5StringRef<'a>, 6> as FormValue>⟧.value.comparable ⟦<Implicit<Ia5StringRef<'a>, 6> as PartialEq>⟧.eq (λ v w. ((characterstringref_contents_eq.contents_eq-law 22 (record { fits = lit< tt })) v.value w.value)))
+        ⟦<OneOf<Implicit<SequenceRef<'a>, 5>, Implicit<Ia5StringRef<'a>, 6>> as PartialEq>⟧.eq (λ v x. refl) (λ w y. refl) (λ v w. refl) (λ w v. refl))
+        (either_equality ⟦<Implicit<OctetStringRef<'a>, 7> as Form>⟧ ⟦<Implicit<ObjectIdentifier<39>, 8> as Form>⟧
+        (one_tag ⟦<ImplicitTag<OctetStringTag, 7> as TagMarker>⟧.TAG ⟦<Implicit<OctetStringRef<'a>, 7> as FormValue>⟧.value.contents)
+        (one_tag ⟦<ImplicitTag<ObjectIdentifierTag, 8> as TagMarker>⟧.TAG ⟦<Implicit<ObjectIdentifier<39>, 8> as FormValue>⟧.value.contents)
+        ⟦<Implicit<OctetStringRef<'a>, 7> as PartialEq>⟧.eq ⟦<Implicit<ObjectIdentifier<39>, 8> as PartialEq>⟧.eq
+        (one_tag_equality ⟦<ImplicitTag<OctetStringTag, 7> as TagMarker>⟧.TAG ⟦<Implicit<OctetStringRef<'a>, 7> as FormValue>⟧.value.contents ⟦<Implicit<OctetStringRef<'a>, 7> as FormValue>⟧.value.comparable ⟦<Implicit<OctetStringRef<'a>, 7> as PartialEq>⟧.eq (λ v w. (octetstringref_contents_eq.contents_eq-law v.value w.value)))
+        (one_tag_equality ⟦<ImplicitTag<ObjectIdentifierTag, 8> as TagMarker>⟧.TAG ⟦<Implicit<ObjectIdentifier<39>, 8> as FormValue>⟧.value.contents ⟦<Implicit<ObjectIdentifier<39>, 8> as FormValue>⟧.value.comparable ⟦<Implicit<ObjectIdentifier<39>, 8> as PartialEq>⟧.eq (λ v w. ((objectidentifier_contents_eq.contents_eq-law 39 (record { fits = lit< tt })) v.value w.value)))
+        ⟦<OneOf<Implicit<OctetStringRef<'a>, 7>, Implicit<ObjectIdentifier<39>, 8>> as PartialEq>⟧.eq (λ v x. refl) (λ w y. refl) (λ v w. refl) (λ w v. refl))
+        ⟦<OneOf<OneOf<Implicit<SequenceRef<'a>, 5>, Implicit<Ia5StringRef<'a>, 6>>, OneOf<Implicit<OctetStringRef<'a>, 7>, Implicit<ObjectIdentifier<39>, 8>>> as PartialEq>⟧.eq (λ v x. refl) (λ w y. refl) (λ v w. refl) (λ w v. refl))
+        ⟦<OneOf<OneOf<OneOf<OneOf<Implicit<AnotherName<'a>, 0>, Implicit<Ia5StringRef<'a>, 1>>, Implicit<Ia5StringRef<'a>, 2>>, OneOf<Implicit<SequenceRef<'a>, 3>, Explicit<Name<'a>, 4>>>, OneOf<OneOf<Implicit<SequenceRef<'a>, 5>, Implicit<Ia5StringRef<'a>, 6>>, OneOf<Implicit<OctetStringRef<'a>, 7>, Implicit<ObjectIdentifier<39>, 8>>>> as PartialEq>⟧.eq (λ v x. refl) (λ w y. refl) (λ v w. refl) (λ w v. refl)) };
+}
+
+impl<'a> CopyLaws for GeneralName<'a> {
+    ghost copies = { copies_of ((seen_copies tree_of ⟦<GeneralName<'a> as PartialEq>⟧.eq ⟦<Tree<'a> as PartialEq>⟧.eq (λ v w. elim v as (λ k. ⟦<GeneralName<'a> as PartialEq>⟧.eq k w ≡ ⟦<Tree<'a> as PartialEq>⟧.eq (tree_of k) (tree_of w)) [ of.OtherName x ↦ elim w as (λ k. ⟦<GeneralName<'a> as PartialEq>⟧.eq (of.OtherName x) k ≡ ⟦<Tree<'a> as PartialEq>⟧.eq (tree_of (of.OtherName x)) (tree_of k)) [ of.OtherName y ↦ refl | of.Rfc822Name y ↦ refl | of.DnsName y ↦ refl | of.X400Address y ↦ refl | of.DirectoryName y ↦ refl | of.EdiPartyName y ↦ refl | of.UniformResourceIdentifier y ↦ refl | of.IpAddress y ↦ refl | of.RegisteredId y ↦ refl ] | of.Rfc822Name x ↦ elim w as (λ k. ⟦<GeneralName<'a> as PartialEq>⟧.eq (of.Rfc822Name x) k ≡ ⟦<Tree<'a> as PartialEq>⟧.eq (tree_of (of.Rfc822Name x)) (tree_of k)) [ of.OtherName y ↦ refl | of.Rfc822Name y ↦ refl | of.DnsName y ↦ refl | of.X400Address y ↦ refl | of.DirectoryName y ↦ refl | of.EdiPartyName y ↦ refl | of.UniformResourceIdentifier y ↦ refl | of.IpAddress y ↦ refl | of.RegisteredId y ↦ refl ] | of.DnsName x ↦ elim w as (λ k. ⟦<GeneralName<'a> as PartialEq>⟧.eq (of.DnsName x) k ≡ ⟦<Tree<'a> as PartialEq>⟧.eq (tree_of (of.DnsName x)) (tree_of k)) [ of.OtherName y ↦ refl | of.Rfc822Name y ↦ refl | of.DnsName y ↦ refl | of.X400Address y ↦ refl | of.DirectoryName y ↦ refl | of.EdiPartyName y ↦ refl | of.UniformResourceIdentifier y ↦ refl | of.IpAddress y ↦ refl | of.RegisteredId y ↦ refl ] | of.X400Address x ↦ elim w as (λ k. ⟦<GeneralName<'a> as PartialEq>⟧.eq (of.X400Address x) k ≡ ⟦<Tree<'a> as PartialEq>⟧.eq (tree_of (of.X400Address x)) (tree_of k)) [ of.OtherName y ↦ refl | of.Rfc822Name y ↦ refl | of.DnsName y ↦ refl | of.X400Address y ↦ refl | of.DirectoryName y ↦ refl | of.EdiPartyName y ↦ refl | of.UniformResourceIdentifier y ↦ refl | of.IpAddress y ↦ refl | of.RegisteredId y ↦ refl ] | of.DirectoryName x ↦ elim w as (λ k. ⟦<GeneralName<'a> as PartialEq>⟧.eq (of.DirectoryName x) k ≡ ⟦<Tree<'a> as PartialEq>⟧.eq (tree_of (of.DirectoryName x)) (tree_of k)) [ of.OtherName y ↦ refl | of.Rfc822Name y ↦ refl | of.DnsName y ↦ refl | of.X400Address y ↦ refl | of.DirectoryName y ↦ refl | of.EdiPartyName y ↦ refl | of.UniformResourceIdentifier y ↦ refl | of.IpAddress y ↦ refl | of.RegisteredId y ↦ refl ] | of.EdiPartyName x ↦ elim w as (λ k. ⟦<GeneralName<'a> as PartialEq>⟧.eq (of.EdiPartyName x) k ≡ ⟦<Tree<'a> as PartialEq>⟧.eq (tree_of (of.EdiPartyName x)) (tree_of k)) [ of.OtherName y ↦ refl | of.Rfc822Name y ↦ refl | of.DnsName y ↦ refl | of.X400Address y ↦ refl | of.DirectoryName y ↦ refl | of.EdiPartyName y ↦ refl | of.UniformResourceIdentifier y ↦ refl | of.IpAddress y ↦ refl | of.RegisteredId y ↦ refl ] | of.UniformResourceIdentifier x ↦ elim w as (λ k. ⟦<GeneralName<'a> as PartialEq>⟧.eq (of.UniformResourceIdentifier x) k ≡ ⟦<Tree<'a> as PartialEq>⟧.eq (tree_of (of.UniformResourceIdentifier x)) (tree_of k)) [ of.OtherName y ↦ refl | of.Rfc822Name y ↦ refl | of.DnsName y ↦ refl | of.X400Address y ↦ refl | of.DirectoryName y ↦ refl | of.EdiPartyName y ↦ refl | of.UniformResourceIdentifier y ↦ refl | of.IpAddress y ↦ refl | of.RegisteredId y ↦ refl ] | of.IpAddress x ↦ elim w as (λ k. ⟦<GeneralName<'a> as PartialEq>⟧.eq (of.IpAddress x) k ≡ ⟦<Tree<'a> as PartialEq>⟧.eq (tree_of (of.IpAddress x)) (tree_of k)) [ of.OtherName y ↦ refl | of.Rfc822Name y ↦ refl | of.DnsName y ↦ refl | of.X400Address y ↦ refl | of.DirectoryName y ↦ refl | of.EdiPartyName y ↦ refl | of.UniformResourceIdentifier y ↦ refl | of.IpAddress y ↦ refl | of.RegisteredId y ↦ refl ] | of.RegisteredId x ↦ elim w as (λ k. ⟦<GeneralName<'a> as PartialEq>⟧.eq (of.RegisteredId x) k ≡ ⟦<Tree<'a> as PartialEq>⟧.eq (tree_of (of.RegisteredId x)) (tree_of k)) [ of.OtherName y ↦ refl | of.Rfc822Name y ↦ refl | of.DnsName y ↦ refl | of.X400Address y ↦ refl | of.DirectoryName y ↦ refl | of.EdiPartyName y ↦ refl | of.UniformResourceIdentifier y ↦ refl | of.IpAddress y ↦ refl | of.RegisteredId y ↦ refl ] ]) (either_copies ⟦<OneOf<OneOf<OneOf<Implicit<AnotherName<'a>, 0>, Implicit<Ia5StringRef<'a>, 1>>, Implicit<Ia5StringRef<'a>, 2>>, OneOf<Implicit<SequenceRef<'a>, 3>, Explicit<Name<'a>, 4>>> as Form>⟧ ⟦<OneOf<OneOf<Implicit<SequenceRef<'a>, 5>, Implicit<Ia5StringRef<'a>, 6>>, OneOf<Implicit<OctetStringRef<'a>, 7>, Implicit<ObjectIdentifier<39>, 8>>> as Form>⟧
+        (either_tag ⟦<OneOf<OneOf<Implicit<AnotherName<'a>, 0>, Implicit<Ia5StringRef<'a>, 1>>, Implicit<Ia5StringRef<'a>, 2>> as Form>⟧ ⟦<OneOf<Implicit<SequenceRef<'a>, 3>, Explicit<Name<'a>, 4>> as Form>⟧
+        (either_tag ⟦<OneOf<Implicit<AnotherName<'a>, 0>, Implicit<Ia5StringRef<'a>, 1>> as Form>⟧ ⟦<Implicit<Ia5StringRef<'a>, 2> as Form>⟧
+        (either_tag ⟦<Implicit<AnotherName<'a>, 0> as Form>⟧ ⟦<Implicit<Ia5StringRef<'a>, 1> as Form>⟧
+        (one_tag ⟦<ImplicitTag<SequenceTag, 0> as TagMarker>⟧.TAG ⟦<Implicit<AnotherName<'a>, 0> as FormValue>⟧.value.contents)
+        (one_tag ⟦<ImplicitTag<CharacterStringTag<22>, 1> as TagMarker>⟧.TAG ⟦<Implicit<Ia5StringRef<'a>, 1> as FormValue>⟧.value.contents))
+        (one_tag ⟦<ImplicitTag<CharacterStringTag<22>, 2> as TagMarker>⟧.TAG ⟦<Implicit<Ia5StringRef<'a>, 2> as FormValue>⟧.value.contents))
+        (either_tag ⟦<Implicit<SequenceRef<'a>, 3> as Form>⟧ ⟦<Explicit<Name<'a>, 4> as Form>⟧
+        (one_tag ⟦<ImplicitTag<SequenceTag, 3> as TagMarker>⟧.TAG ⟦<Implicit<SequenceRef<'a>, 3> as FormValue>⟧.value.contents)
+        (one_tag ⟦<ExplicitTag<4> as TagMarker>⟧.TAG ⟦<Explicit<Name<'a>, 4> as FormValue>⟧.value.contents)))
+        (either_tag ⟦<OneOf<Implicit<SequenceRef<'a>, 5>, Implicit<Ia5StringRef<'a>, 6>> as Form>⟧ ⟦<OneOf<Implicit<OctetStringRef<'a>, 7>, Implicit<ObjectIdentifier<39>, 8>> as Form>⟧
+        (either_tag ⟦<Implicit<SequenceRef<'a>, 5> as Form>⟧ ⟦<Implicit<Ia5StringRef<'a>, 6> as Form>⟧
+        (one_tag ⟦<ImplicitTag<SequenceTag, 5> as TagMarker>⟧.TAG ⟦<Implicit<SequenceRef<'a>, 5> as FormValue>⟧.value.contents)
+        (one_tag ⟦<ImplicitTag<CharacterStringTag<22>, 6> as TagMarker>⟧.TAG ⟦<Implicit<Ia5StringRef<'a>, 6> as FormValue>⟧.value.contents))
+        (either_tag ⟦<Implicit<OctetStringRef<'a>, 7> as Form>⟧ ⟦<Implicit<ObjectIdentifier<39>, 8> as Form>⟧
+        (one_tag ⟦<ImplicitTag<OctetStringTag, 7> as TagMarker>⟧.TAG ⟦<Implicit<OctetStringRef<'a>, 7> as FormValue>⟧.value.contents)
+        (one_tag ⟦<ImplicitTag<ObjectIdentifierTag, 8> as TagMarker>⟧.TAG ⟦<Implicit<ObjectIdentifier<39>, 8> as FormValue>⟧.value.contents)))
+        (either_copies ⟦<OneOf<OneOf<Implicit<AnotherName<'a>, 0>, Implicit<Ia5StringRef<'a>, 1>>, Implicit<Ia5StringRef<'a>, 2>> as Form>⟧ ⟦<OneOf<Implicit<SequenceRef<'a>, 3>, Explicit<Name<'a>, 4>> as Form>⟧
+        (either_tag ⟦<OneOf<Implicit<AnotherName<'a>, 0>, Implicit<Ia5StringRef<'a>, 1>> as Form>⟧ ⟦<Implicit<Ia5StringRef<'a>, 2> as Form>⟧
+        (either_tag ⟦<Implicit<AnotherName<'a>, 0> as Form>⟧ ⟦<Implicit<Ia5StringRef<'a>, 1> as Form>⟧
+        (one_tag ⟦<ImplicitTag<SequenceTag, 0> as TagMarker>⟧.TAG ⟦<Implicit<AnotherName<'a>, 0> as FormValue>⟧.value.contents)
+        (one_tag ⟦<ImplicitTag<CharacterStringTag<22>, 1> as TagMarker>⟧.TAG ⟦<Implicit<Ia5StringRef<'a>, 1> as FormValue>⟧.value.contents))
+        (one_tag ⟦<ImplicitTag<CharacterStringTag<22>, 2> as TagMarker>⟧.TAG ⟦<Implicit<Ia5StringRef<'a>, 2> as FormValue>⟧.value.contents))
+        (either_tag ⟦<Implicit<SequenceRef<'a>, 3> as Form>⟧ ⟦<Explicit<Name<'a>, 4> as Form>⟧
+        (one_tag ⟦<ImplicitTag<SequenceTag, 3> as TagMarker>⟧.TAG ⟦<Implicit<SequenceRef<'a>, 3> as FormValue>⟧.value.contents)
+        (one_tag ⟦<ExplicitTag<4> as TagMarker>⟧.TAG ⟦<Explicit<Name<'a>, 4> as FormValue>⟧.value.contents))
+        (either_copies ⟦<OneOf<Implicit<AnotherName<'a>, 0>, Implicit<Ia5StringRef<'a>, 1>> as Form>⟧ ⟦<Implicit<Ia5StringRef<'a>, 2> as Form>⟧
+        (either_tag ⟦<Implicit<AnotherName<'a>, 0> as Form>⟧ ⟦<Implicit<Ia5StringRef<'a>, 1> as Form>⟧
+        (one_tag ⟦<ImplicitTag<SequenceTag, 0> as TagMarker>⟧.TAG ⟦<Implicit<AnotherName<'a>, 0> as FormValue>⟧.value.contents)
+        (one_tag ⟦<ImplicitTag<CharacterStringTag<22>, 1> as TagMarker>⟧.TAG ⟦<Implicit<Ia5StringRef<'a>, 1> as FormValue>⟧.value.contents))
+        (one_tag ⟦<ImplicitTag<CharacterStringTag<22>, 2> as TagMarker>⟧.TAG ⟦<Implicit<Ia5StringRef<'a>, 2> as FormValue>⟧.value.contents)
+        (either_copies ⟦<Implicit<AnotherName<'a>, 0> as Form>⟧ ⟦<Implicit<Ia5StringRef<'a>, 1> as Form>⟧
+        (one_tag ⟦<ImplicitTag<SequenceTag, 0> as TagMarker>⟧.TAG ⟦<Implicit<AnotherName<'a>, 0> as FormValue>⟧.value.contents)
+        (one_tag ⟦<ImplicitTag<CharacterStringTag<22>, 1> as TagMarker>⟧.TAG ⟦<Implicit<Ia5StringRef<'a>, 1> as FormValue>⟧.value.contents)
+        (one_tag_copies ⟦<ImplicitTag<SequenceTag, 0> as TagMarker>⟧.TAG (held_copies (λ x. x.value) (same_copies ⟦<AnotherName<'a> as FormValue>⟧.value.contents ⟦<AnotherName<'a> as FormValue>⟧.value.comparable ⟦<AnotherName<'a> as FormValue>⟧.value.re_reads ⟦<AnotherName<'a> as PartialEq>⟧.eq another_name_eq.laws-law.refl)))
+        (one_tag_copies ⟦<ImplicitTag<CharacterStringTag<22>, 1> as TagMarker>⟧.TAG (held_copies (λ x. x.value) (same_copies ⟦<Ia5StringRef<'a> as FormValue>⟧.value.contents ⟦<Ia5StringRef<'a> as FormValue>⟧.value.comparable ⟦<Ia5StringRef<'a> as FormValue>⟧.value.re_reads ⟦<Ia5StringRef<'a> as PartialEq>⟧.eq (λ v. ((characterstringref_contents_eq.contents_eq-law 22 (record { fits = lit< tt })) v v tt).1 refl))))
+        ⟦<OneOf<Implicit<AnotherName<'a>, 0>, Implicit<Ia5StringRef<'a>, 1>> as PartialEq>⟧.eq (λ v x. refl) (λ w y. refl))
+        (one_tag_copies ⟦<ImplicitTag<CharacterStringTag<22>, 2> as TagMarker>⟧.TAG (held_copies (λ x. x.value) (same_copies ⟦<Ia5StringRef<'a> as FormValue>⟧.value.contents ⟦<Ia5StringRef<'a> as FormValue>⟧.value.comparable ⟦<Ia5StringRef<'a> as FormValue>⟧.value.re_reads ⟦<Ia5StringRef<'a> as PartialEq>⟧.eq (λ v. ((characterstringref_contents_eq.contents_eq-law 22 (record { fits = lit< tt })) v v tt).1 refl))))
+        ⟦<OneOf<OneOf<Implicit<AnotherName<'a>, 0>, Implicit<Ia5StringRef<'a>, 1>>, Implicit<Ia5StringRef<'a>, 2>> as PartialEq>⟧.eq (λ v x. refl) (λ w y. refl))
+        (either_copies ⟦<Implicit<SequenceRef<'a>, 3> as Form>⟧ ⟦<Explicit<Name<'a>, 4> as Form>⟧
+        (one_tag ⟦<ImplicitTag<SequenceTag, 3> as TagMarker>⟧.TAG ⟦<Implicit<SequenceRef<'a>, 3> as FormValue>⟧.value.contents)
+        (one_tag ⟦<ExplicitTag<4> as TagMarker>⟧.TAG ⟦<Explicit<Name<'a>, 4> as FormValue>⟧.value.contents)
+        (one_tag_copies ⟦<ImplicitTag<SequenceTag, 3> as TagMarker>⟧.TAG (held_copies (λ x. x.value) (same_copies ⟦<SequenceRef<'a> as FormValue>⟧.value.contents ⟦<SequenceRef<'a> as FormValue>⟧.value.comparable ⟦<SequenceRef<'a> as FormValue>⟧.value.re_reads ⟦<SequenceRef<'a> as PartialEq>⟧.eq (λ v. (sequenceref_contents_eq.contents_eq-law v v tt).1 refl))))
+        (one_tag_copies ⟦<ExplicitTag<4> as TagMarker>⟧.TAG (held_copies (λ x. x.fields) (listed_copies (member_copies ⟦<Name<'a> as Form>⟧
+        (tagged_starts ⟦<Name<'a> as Form>⟧ (one_tag ⟦<SequenceTag as TagMarker>⟧.TAG ⟦<RdnSequence<'a> as FormValue>⟧.value.contents))
+        (one_tag_copies ⟦<SequenceTag as TagMarker>⟧.TAG (record { octets_are = rdn_sequence_duplicate_value.copy_contents-law; comparable_are = rdn_sequence_duplicate_value.copy_comparable_value-law; re_reads_are = rdn_sequence_duplicate_value.copy_re_reads_value-law; equal_are = rdn_sequence_duplicate_value_is_equal.copy_value_is_equal-law }))
+        no_copies))))
+        ⟦<OneOf<Implicit<SequenceRef<'a>, 3>, Explicit<Name<'a>, 4>> as PartialEq>⟧.eq (λ v x. refl) (λ w y. refl))
+        ⟦<OneOf<OneOf<OneOf<Implicit<AnotherName<'a>, 0>, Implicit<Ia5StringRef<'a>, 1>>, Implicit<Ia5StringRef<'a>, 2>>, OneOf<Implicit<SequenceRef<'a>, 3>, Explicit<Name<'a>, 4>>> as PartialEq>⟧.eq (λ v x. refl) (λ w y. refl))
+        (either_copies ⟦<OneOf<Implicit<SequenceRef<'a>, 5>, Implicit<Ia5StringRef<'a>, 6>> as Form>⟧ ⟦<OneOf<Implicit<OctetStringRef<'a>, 7>, Implicit<ObjectIdentifier<39>, 8>> as Form>⟧
+        (either_tag ⟦<Implicit<SequenceRef<'a>, 5> as Form>⟧ ⟦<Implicit<Ia5StringRef<'a>, 6> as Form>⟧
+        (one_tag ⟦<ImplicitTag<SequenceTag, 5> as TagMarker>⟧.TAG ⟦<Implicit<SequenceRef<'a>, 5> as FormValue>⟧.value.contents)
+        (one_tag ⟦<ImplicitTag<CharacterStringTag<22>, 6> as TagMarker>⟧.TAG ⟦<Implicit<Ia5StringRef<'a>, 6> as FormValue>⟧.value.contents))
+        (either_tag ⟦<Implicit<OctetStringRef<'a>, 7> as Form>⟧ ⟦<Implicit<ObjectIdentifier<39>, 8> as Form>⟧
+        (one_tag ⟦<ImplicitTag<OctetStringTag, 7> as TagMarker>⟧.TAG ⟦<Implicit<OctetStringRef<'a>, 7> as FormValue>⟧.value.contents)
+        (one_tag ⟦<ImplicitTag<ObjectIdentifierTag, 8> as TagMarker>⟧.TAG ⟦<Implicit<ObjectIdentifier<39>, 8> as FormValue>⟧.value.contents))
+        (either_copies ⟦<Implicit<SequenceRef<'a>, 5> as Form>⟧ ⟦<Implicit<Ia5StringRef<'a>, 6> as Form>⟧
+        (one_tag ⟦<ImplicitTag<SequenceTag, 5> as TagMarker>⟧.TAG ⟦<Implicit<SequenceRef<'a>, 5> as FormValue>⟧.value.contents)
+        (one_tag ⟦<ImplicitTag<CharacterStringTag<22>, 6> as TagMarker>⟧.TAG ⟦<Implicit<Ia5StringRef<'a>, 6> as FormValue>⟧.value.contents)
+        (one_tag_copies ⟦<ImplicitTag<SequenceTag, 5> as TagMarker>⟧.TAG (held_copies (λ x. x.value) (same_copies ⟦<SequenceRef<'a> as FormValue>⟧.value.contents ⟦<SequenceRef<'a> as FormValue>⟧.value.comparable ⟦<SequenceRef<'a> as FormValue>⟧.value.re_reads ⟦<SequenceRef<'a> as PartialEq>⟧.eq (λ v. (sequenceref_contents_eq.contents_eq-law v v tt).1 refl))))
+        (one_tag_copies ⟦<ImplicitTag<CharacterStringTag<22>, 6> as TagMarker>⟧.TAG (held_copies (λ x. x.value) (same_copies ⟦<Ia5StringRef<'a> as FormValue>⟧.value.contents ⟦<Ia5StringRef<'a> as FormValue>⟧.value.comparable ⟦<Ia5StringRef<'a> as FormValue>⟧.value.re_reads ⟦<Ia5StringRef<'a> as PartialEq>⟧.eq (λ v. ((characterstringref_contents_eq.contents_eq-law 22 (record { fits = lit< tt })) v v tt).1 refl))))
+        ⟦<OneOf<Implicit<SequenceRef<'a>, 5>, Implicit<Ia5StringRef<'a>, 6>> as PartialEq>⟧.eq (λ v x. refl) (λ w y. refl))
+        (either_copies ⟦<Implicit<OctetStringRef<'a>, 7> as Form>⟧ ⟦<Implicit<ObjectIdentifier<39>, 8> as Form>⟧
+        (one_tag ⟦<ImplicitTag<OctetStringTag, 7> as TagMarker>⟧.TAG ⟦<Implicit<OctetStringRef<'a>, 7> as FormValue>⟧.value.contents)
+        (one_tag ⟦<ImplicitTag<ObjectIdentifierTag, 8> as TagMarker>⟧.TAG ⟦<Implicit<ObjectIdentifier<39>, 8> as FormValue>⟧.value.contents)
+        (one_tag_copies ⟦<ImplicitTag<OctetStringTag, 7> as TagMarker>⟧.TAG (held_copies (λ x. x.value) (same_copies ⟦<OctetStringRef<'a> as FormValue>⟧.value.contents ⟦<OctetStringRef<'a> as FormValue>⟧.value.comparable ⟦<OctetStringRef<'a> as FormValue>⟧.value.re_reads ⟦<OctetStringRef<'a> as PartialEq>⟧.eq (λ v. (octetstringref_contents_eq.contents_eq-law v v tt).1 refl))))
+        (one_tag_copies ⟦<ImplicitTag<ObjectIdentifierTag, 8> as TagMarker>⟧.TAG (held_copies (λ x. x.value) (same_copies ⟦<ObjectIdentifier<39> as FormValue>⟧.value.contents ⟦<ObjectIdentifier<39> as FormValue>⟧.value.comparable ⟦<ObjectIdentifier<39> as FormValue>⟧.value.re_reads ⟦<ObjectIdentifier<39> as PartialEq>⟧.eq (λ v. ((objectidentifier_contents_eq.contents_eq-law 39 (record { fits = lit< tt })) v v tt).1 refl))))
+        ⟦<OneOf<Implicit<OctetStringRef<'a>, 7>, Implicit<ObjectIdentifier<39>, 8>> as PartialEq>⟧.eq (λ v x. refl) (λ w y. refl))
+        ⟦<OneOf<OneOf<Implicit<SequenceRef<'a>, 5>, Implicit<Ia5StringRef<'a>, 6>>, OneOf<Implicit<OctetStringRef<'a>, 7>, Implicit<ObjectIdentifier<39>, 8>>> as PartialEq>⟧.eq (λ v x. refl) (λ w y. refl))
+        ⟦<OneOf<OneOf<OneOf<OneOf<Implicit<AnotherName<'a>, 0>, Implicit<Ia5StringRef<'a>, 1>>, Implicit<Ia5StringRef<'a>, 2>>, OneOf<Implicit<SequenceRef<'a>, 3>, Explicit<Name<'a>, 4>>>, OneOf<OneOf<Implicit<SequenceRef<'a>, 5>, Implicit<Ia5StringRef<'a>, 6>>, OneOf<Implicit<OctetStringRef<'a>, 7>, Implicit<ObjectIdentifier<39>, 8>>>> as PartialEq>⟧.eq (λ v x. refl) (λ w y. refl)))) };
+}
+
+impl<'a> Duplicate for GeneralName<'a> {
+    ghost is_copy = { λ v w. ⟦<Tree<'a> as Duplicate>⟧.is_copy (tree_of v) (tree_of w) };
+
+    ghost takes_memory_to_copy = { ⟦<Tree<'a> as Duplicate>⟧.takes_memory_to_copy };
+
+    fn duplicate(&self) -> Result<GeneralName<'a>, Error> {
+        match self {
+            GeneralName::OtherName(value) => match value.duplicate() {
+                Ok(value) => Ok(GeneralName::OtherName(value)),
+                Err(e) => Err(e),
+            },
+            GeneralName::Rfc822Name(value) => match value.duplicate() {
+                Ok(value) => Ok(GeneralName::Rfc822Name(value)),
+                Err(e) => Err(e),
+            },
+            GeneralName::DnsName(value) => match value.duplicate() {
+                Ok(value) => Ok(GeneralName::DnsName(value)),
+                Err(e) => Err(e),
+            },
+            GeneralName::X400Address(value) => match value.duplicate() {
+                Ok(value) => Ok(GeneralName::X400Address(value)),
+                Err(e) => Err(e),
+            },
+            GeneralName::DirectoryName(value) => match value.duplicate() {
+                Ok(value) => Ok(GeneralName::DirectoryName(value)),
+                Err(e) => Err(e),
+            },
+            GeneralName::EdiPartyName(value) => match value.duplicate() {
+                Ok(value) => Ok(GeneralName::EdiPartyName(value)),
+                Err(e) => Err(e),
+            },
+            GeneralName::UniformResourceIdentifier(value) => match value.duplicate() {
+                Ok(value) => Ok(GeneralName::UniformResourceIdentifier(value)),
+                Err(e) => Err(e),
+            },
+            GeneralName::IpAddress(value) => match value.duplicate() {
+                Ok(value) => Ok(GeneralName::IpAddress(value)),
+                Err(e) => Err(e),
+            },
+            GeneralName::RegisteredId(value) => match value.duplicate() {
+                Ok(value) => Ok(GeneralName::RegisteredId(value)),
+                Err(e) => Err(e),
+            },
+        }
+    }
+
+    ghost copy_encoding = { ⟦<GeneralName<'a> as CopyLaws>⟧.copies.laws.octets_are };
+
+    ghost copy_comparable = { ⟦<GeneralName<'a> as CopyLaws>⟧.copies.laws.comparable_are };
+
+    ghost copy_re_reads = { ⟦<GeneralName<'a> as CopyLaws>⟧.copies.laws.re_reads_are };
+}
+
+impl<'a> DuplicateIsEqual for GeneralName<'a> {
+    ghost copy_is_equal = { ⟦<GeneralName<'a> as CopyLaws>⟧.copies.laws.equal_are };
+}
+
+/// What is read as `GeneralName` is what the page of the grammar says.
+pub fn grammar_of_general_name<'a>()
+    ensures { ⟦<GeneralName<'a> as Form>⟧.parse ≡ parse_of general_name }
+{}

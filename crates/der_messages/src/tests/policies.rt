@@ -1,0 +1,246 @@
+//! Values of extensions that are about policies.
+
+use super::{again, copied, same, same_in};
+use der_asn1_types::FromDer;
+use der_extensions::extension::constants::ID_QT_CPS;
+use der_extensions::extension::{
+    CertificatePolicies, InhibitAnyPolicy, PolicyConstraints, PolicyMappings, PolicyQualifierInfo,
+    SkipCerts,
+};
+use std::alloc::Global;
+use std::process::Abort;
+use std::test::Fail;
+
+fn policies_again(alloc: Global, octets: &[u8]) -> Result<Vec<u8>, u8> {
+    again::<CertificatePolicies>(alloc, octets)
+}
+
+fn mappings_again(alloc: Global, octets: &[u8]) -> Result<Vec<u8>, u8> {
+    again::<PolicyMappings>(alloc, octets)
+}
+
+fn policy_constraints_again(alloc: Global, octets: &[u8]) -> Result<Vec<u8>, u8> {
+    again::<PolicyConstraints>(alloc, octets)
+}
+
+fn inhibited_again(alloc: Global, octets: &[u8]) -> Result<Vec<u8>, u8> {
+    again::<InhibitAnyPolicy>(alloc, octets)
+}
+
+// How many policies there are, the contents octets of the last one's identifier, how many qualifiers
+// it has, and whether the first of these is the place of a statement.
+fn policies_told(alloc: Global, octets: &[u8]) -> Result<(usize, Vec<u8>, usize, bool), u8> {
+    match CertificatePolicies::from_der(alloc, octets) {
+        Ok(policies) => {
+            let Some(last) = policies.as_slice().last() else {
+                return Err(0);
+            };
+            let kind = last.policy_identifier();
+            let identifier = copied(alloc, kind.as_bytes())?;
+            let (count, is_place) = match last.policy_qualifiers() {
+                Some(qualifiers) => qualifiers_told(qualifiers.list().as_slice()),
+                None => (0, false),
+            };
+            Ok((policies.as_slice().len(), identifier, count, is_place))
+        }
+        Err(e) => Err(e.kind().number()),
+    }
+}
+
+fn qualifiers_told(qualifiers: &[PolicyQualifierInfo]) -> (usize, bool) {
+    match qualifiers.first() {
+        Some(first) => {
+            let kind = first.policy_qualifier_id();
+            (qualifiers.len(), kind.as_bytes() == ID_QT_CPS.as_slice())
+        }
+        None => (0, false),
+    }
+}
+
+// How many mappings there are, and the contents octets of the last one's two identifiers.
+fn mappings_told(alloc: Global, octets: &[u8]) -> Result<(usize, Vec<u8>, Vec<u8>), u8> {
+    match PolicyMappings::from_der(alloc, octets) {
+        Ok(mappings) => {
+            let Some(last) = mappings.as_slice().last() else {
+                return Err(0);
+            };
+            let (of_issuer, of_subject) = (
+                last.issuer_domain_policy(),
+                last.subject_domain_policy(),
+            );
+            let issuer = copied(alloc, of_issuer.as_bytes())?;
+            let subject = copied(alloc, of_subject.as_bytes())?;
+            Ok((mappings.as_slice().len(), issuer, subject))
+        }
+        Err(e) => Err(e.kind().number()),
+    }
+}
+
+// The octets of the two numbers.
+fn policy_constraints_told(
+    alloc: Global,
+    octets: &[u8],
+) -> Result<(Option<Vec<u8>>, Option<Vec<u8>>), u8> {
+    match PolicyConstraints::from_der(alloc, octets) {
+        Ok(constraints) => {
+            let explicit = number_of(alloc, constraints.require_explicit_policy())?;
+            let inhibited = number_of(alloc, constraints.inhibit_policy_mapping())?;
+            Ok((explicit, inhibited))
+        }
+        Err(e) => Err(e.kind().number()),
+    }
+}
+
+fn number_of(alloc: Global, number: Option<&SkipCerts>) -> Result<Option<Vec<u8>>, u8> {
+    match number {
+        Some(number) => match copied(alloc, number.as_bytes()) {
+            Ok(octets) => Ok(Some(octets)),
+            Err(fault) => Err(fault),
+        },
+        None => Ok(None),
+    }
+}
+
+fn inhibited_told(alloc: Global, octets: &[u8]) -> Result<Vec<u8>, u8> {
+    match InhibitAnyPolicy::from_der(alloc, octets) {
+        Ok(number) => copied(alloc, number.as_bytes()),
+        Err(e) => Err(e.kind().number()),
+    }
+}
+
+#[test]
+fn policies_are_written_back(rt: HostRuntime) -> Result<(), Fail> {
+    let alloc = rt.alloc();
+    let octets = hex::decode(
+        alloc,
+        "3065300506032a0304305c06032a03053055302606082b06010505070201161a68747470733a2f2f6261726c65792e6578616d706c652f637073302b06082b06010505070202301f30101a064261726c657930060201010201021a0b4d696c6c65642068657265",
+    )?;
+    let written = policies_again(alloc, octets.as_slice())?;
+    same(&rt, written.as_slice(), octets.as_slice());
+    Ok(())
+}
+
+#[test]
+fn policies_have_qualifiers(rt: HostRuntime) -> Result<(), Fail> {
+    let alloc = rt.alloc();
+    let octets = hex::decode(
+        alloc,
+        "3065300506032a0304305c06032a03053055302606082b06010505070201161a68747470733a2f2f6261726c65792e6578616d706c652f637073302b06082b06010505070202301f30101a064261726c657930060201010201021a0b4d696c6c65642068657265",
+    )?;
+    let found = policies_told(alloc, octets.as_slice());
+    let identifier = hex::decode(alloc, "2a0305")?;
+    same(&rt, found, Ok((2, identifier, 2, true)));
+    let octets = hex::decode(alloc, "3007300506032a0304")?;
+    let found = policies_told(alloc, octets.as_slice());
+    let identifier = hex::decode(alloc, "2a0304")?;
+    same(&rt, found, Ok((1, identifier, 0, false)));
+    Ok(())
+}
+
+#[test]
+fn policies_are_some(rt: HostRuntime) -> Result<(), Fail> {
+    let alloc = rt.alloc();
+    let rows = [
+        // no policy, no qualifier, and a qualifier with no value
+        ("3000", 13),
+        ("3009300706032a03043000", 13),
+        ("3010300e06032a03043007300506032a0305", 2),
+        // a policy with no identifier
+        ("30023000", 2),
+    ];
+    for (digits, number) in rows {
+        let octets = hex::decode(alloc, digits)?;
+        let answer = policies_again(alloc, octets.as_slice());
+        same_in(&rt, &digits, answer.err(), Some(number));
+    }
+    Ok(())
+}
+
+#[test]
+fn mappings_are_written_back(rt: HostRuntime) -> Result<(), Fail> {
+    let alloc = rt.alloc();
+    let octets = hex::decode(
+        alloc,
+        "3018300a06032a030406032a0305300a06032a030606032a0307",
+    )?;
+    let written = mappings_again(alloc, octets.as_slice())?;
+    same(&rt, written.as_slice(), octets.as_slice());
+    Ok(())
+}
+
+#[test]
+fn mappings_have_two_policies(rt: HostRuntime) -> Result<(), Fail> {
+    let alloc = rt.alloc();
+    let octets = hex::decode(
+        alloc,
+        "3018300a06032a030406032a0305300a06032a030606032a0307",
+    )?;
+    let found = mappings_told(alloc, octets.as_slice());
+    let issuer = hex::decode(alloc, "2a0306")?;
+    let subject = hex::decode(alloc, "2a0307")?;
+    same(&rt, found, Ok((2, issuer, subject)));
+    Ok(())
+}
+
+#[test]
+fn mappings_are_some(rt: HostRuntime) -> Result<(), Fail> {
+    let alloc = rt.alloc();
+    let rows = [("3000", 13), ("3007300506032a0304", 2)];
+    for (digits, number) in rows {
+        let octets = hex::decode(alloc, digits)?;
+        let answer = mappings_again(alloc, octets.as_slice());
+        same_in(&rt, &digits, answer.err(), Some(number));
+    }
+    Ok(())
+}
+
+#[test]
+fn constraints_of_policies_are_written_back(rt: HostRuntime) -> Result<(), Fail> {
+    let alloc = rt.alloc();
+    let rows = ["3000", "3006800103810101", "3003810101"];
+    for digits in rows {
+        let octets = hex::decode(alloc, digits)?;
+        let written = policy_constraints_again(alloc, octets.as_slice())?;
+        same(&rt, written.as_slice(), octets.as_slice());
+    }
+    Ok(())
+}
+
+#[test]
+fn constraints_of_policies_have_numbers(rt: HostRuntime) -> Result<(), Fail> {
+    let alloc = rt.alloc();
+    let octets = hex::decode(alloc, "3006800103810101")?;
+    let found = policy_constraints_told(alloc, octets.as_slice());
+    let explicit = hex::decode(alloc, "03")?;
+    let inhibited = hex::decode(alloc, "01")?;
+    same(&rt, found, Ok((Some(explicit), Some(inhibited))));
+    Ok(())
+}
+
+#[test]
+fn constraints_of_policies_have_their_fields_in_order(rt: HostRuntime) -> Result<(), Fail> {
+    let alloc = rt.alloc();
+    let rows = [("3006810101800103", 3), ("30038001ff", 13)];
+    for (digits, number) in rows {
+        let octets = hex::decode(alloc, digits)?;
+        let answer = policy_constraints_again(alloc, octets.as_slice());
+        same_in(&rt, &digits, answer.err(), Some(number));
+    }
+    Ok(())
+}
+
+#[test]
+fn inhibitions_are_numbers(rt: HostRuntime) -> Result<(), Fail> {
+    let alloc = rt.alloc();
+    let octets = hex::decode(alloc, "020102")?;
+    let written = inhibited_again(alloc, octets.as_slice())?;
+    same(&rt, written.as_slice(), octets.as_slice());
+    let found = inhibited_told(alloc, octets.as_slice())?;
+    same(&rt, found.as_slice(), [2].as_slice());
+    for (digits, number) in [("0201ff", 13), ("02020002", 8), ("0400", 4)] {
+        let octets = hex::decode(alloc, digits)?;
+        let answer = inhibited_again(alloc, octets.as_slice());
+        same_in(&rt, &digits, answer.err(), Some(number));
+    }
+    Ok(())
+}

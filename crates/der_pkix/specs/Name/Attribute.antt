@@ -1,0 +1,14 @@
+-- The fields of Attribute, by their names.
+-- Made by tools/asn1 from name.asn1.
+use Rattle.std.specs.Prelude.{List}
+use Rattle.der_opaque.specs.declared.any_ref.AnyRef.{AnyRef}
+use Rattle.der_opaque.specs.declared.object_identifier.ObjectIdentifier.{ObjectIdentifier}
+use Rattle.der_pkix.specs.declared.name.attribute.Attribute.{Attribute}
+
+-- type AttributeType
+abbrev pub type_ : Attribute → ObjectIdentifier 39
+type_ v = v.fields.list.first
+
+-- values SET OF AttributeValue
+abbrev pub values : Attribute → List AnyRef
+values v = v.fields.list.rest.first

@@ -1,0 +1,149 @@
+//! Validity, a SEQUENCE of 2 fields.
+//!
+//! Made by tools/asn1 from certificate.asn1.
+
+ghost use Rattle.std.specs.Prelude.{◌∷◌, ◌≡◌, [], false, refl};
+ghost use Rattle.der_elem.specs.FormatMakers.{mapped_format};
+ghost use Rattle.der_modules.specs.Asn1.{joined, parse_of};
+ghost use Rattle.der_modules.specs.MemberLaws.{member_equality, no_equality, own_tags, tagged_starts};
+ghost use Rattle.der_pkix.specs.Certificate.Grammar.{validity};
+ghost use Rattle.der_pkix.specs.Certificate.Validity as validity_fields;
+ghost use Rattle.der_pkix.specs.contracts.certificate.time.TimeEncodingEq.TheImpl.Laws as time_encoding_eq;
+ghost use Rattle.der_pkix.specs.contracts.certificate.time.TimeTagged.TheImpl.Laws as time_tagged;
+ghost use Rattle.der_pkix.specs.declared.certificate.validity.Validity.{Validity};
+
+use crate::certificate::time::Time;
+use der_elem::{
+    ContentsEq, CopyIsDuplicate, DecodeValue, EncodeValue, Form, FormValue, OneTag, Sequence,
+    SequenceTag, Tagged, ValueOrd,
+};
+use der_fields::{DecodeFields, EncodeFields, End, Field, FieldList, Fields2, FieldsOrd};
+use der_tlv::{Error, Header, Length, Source, Writer};
+use std::alloc::Global;
+use std::cmp::Ordering;
+use std::fmt;
+
+/// The list of the fields.
+type Fields = Fields2<Time, Time>;
+
+/// ```text
+/// Validity ::= SEQUENCE {
+///      notBefore  Time,
+///      notAfter   Time }
+/// ```
+///
+/// Reading refuses the first fault of the octets, in their order.
+#[derive(Clone, Copy, PartialEq, Eq)]
+pub struct Validity {
+    fields: Fields,
+}
+
+impl Validity {
+    ghost use Rattle.der_pkix.specs.Certificate.Validity as validity_fields;
+
+    /// A value of these fields.
+    pub fn new(not_before: Time, not_after: Time) -> Validity
+        ensures not_before { validity_fields.not_before result ≡ not_before }
+        ensures not_after { validity_fields.not_after result ≡ not_after }
+    {
+        let first = not_after;
+        let rest = Field { first, rest: End };
+        let first = not_before;
+        let list = Field { first, rest };
+        let fields = Fields2 { list };
+        Validity { fields }
+    }
+
+    /// `notBefore`, `Time`.
+    pub fn not_before(&self) -> Time
+        ensures { result ≡ validity_fields.not_before self.now }
+    {
+        self.fields.list.first
+    }
+
+    /// `notAfter`, `Time`.
+    pub fn not_after(&self) -> Time
+        ensures { result ≡ validity_fields.not_after self.now }
+    {
+        self.fields.list.rest.first
+    }
+}
+
+impl fmt::Debug for Validity {
+    fn fmt<W: fmt::Write>(&self, f: &mut fmt::Formatter<W>) -> fmt::Result {
+        f.debug_struct("Validity")
+            .field("not_before", &self.not_before())
+            .field("not_after", &self.not_after())
+            .finish()
+    }
+}
+
+impl OneTag for Validity {
+    type Marker = SequenceTag;
+}
+
+impl<'a> Sequence<'a> for Validity {
+    ghost is_sequence = { refl };
+}
+
+impl FormValue for Validity {
+    ghost value = { mapped_format (λ v. v.fields) ⟦<Fields as FieldList>⟧.list.octets };
+}
+
+impl<'a, R: Source<'a>> DecodeValue<'a, R> for Validity {
+    ghost TAKES_MEMORY = { false };
+
+    const TAKES_MEMORY: bool = false;
+
+    fn decode_value(alloc: Global, reader: &mut R, _header: Header) -> Result<Validity, Error> {
+        match Fields::decode_fields(alloc, reader) {
+            Ok(fields) => Ok(Validity { fields }),
+            Err(e) => Err(e),
+        }
+    }
+
+    ghost takes_memory_is = { refl };
+}
+
+impl EncodeValue for Validity {
+    fn value_len(&self) -> Result<Length, Error> {
+        self.fields.fields_len()
+    }
+
+    fn encode_value<W: Writer>(&self, writer: &mut W) -> Result<(), Error> {
+        self.fields.encode_fields(writer)
+    }
+}
+
+impl ValueOrd for Validity {
+    fn value_cmp(&self, other: &Validity) -> Result<Ordering, Error> {
+        self.fields.cmp_fields(&other.fields)
+    }
+}
+
+impl ContentsEq for Validity {
+    ghost contents_eq = { λ v w. (member_equality ⟦<Time as Form>⟧
+        (tagged_starts ⟦<Time as Form>⟧ (own_tags ⟦<Time as Form>⟧.tags ⟦<Time as Form>⟧.first_tag_of ⟦<Time as Form>⟧.encoding ⟦<Time as Tagged>⟧.tag_of ⟦<Time as FormValue>⟧.value.contents time_tagged.encoding_is-law time_tagged.own_tag-law time_tagged.first_tag_is-law))
+        ⟦<Time as PartialEq>⟧.eq
+        time_encoding_eq.encoding_eq-law
+        (member_equality ⟦<Time as Form>⟧
+        (tagged_starts ⟦<Time as Form>⟧ (own_tags ⟦<Time as Form>⟧.tags ⟦<Time as Form>⟧.first_tag_of ⟦<Time as Form>⟧.encoding ⟦<Time as Tagged>⟧.tag_of ⟦<Time as FormValue>⟧.value.contents time_tagged.encoding_is-law time_tagged.own_tag-law time_tagged.first_tag_is-law))
+        ⟦<Time as PartialEq>⟧.eq
+        time_encoding_eq.encoding_eq-law
+        no_equality)).equal v.fields.list w.fields.list };
+}
+
+impl CopyIsDuplicate for Validity {}
+
+/// What is read as `Validity` is what the page of the grammar says.
+pub fn grammar_of_validity()
+    ensures { ⟦<Validity as Form>⟧.parse ≡ parse_of validity }
+{}
+
+/// The contents octets of `Validity` are the encodings of its fields, one after another.
+pub fn octets_of_validity()
+    ensures { (v : Validity) → ⟦<Validity as FormValue>⟧.value.contents v ≡ joined (
+        (⟦<Time as Form>⟧.encoding (validity_fields.not_before v))
+        ∷ (⟦<Time as Form>⟧.encoding (validity_fields.not_after v))
+        ∷ []) }
+{}

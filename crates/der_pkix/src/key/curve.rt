@@ -1,0 +1,175 @@
+//! Curve, a SEQUENCE of 3 fields.
+//!
+//! Made by tools/asn1 from key.asn1.
+
+ghost use Rattle.std.specs.Prelude.{◌∷◌, ◌≡◌, [], false, refl};
+ghost use Rattle.der_bits.specs.contracts.bit_string_ref.BitStringRefContentsEq.TheImpl.Laws as bitstringref_contents_eq;
+ghost use Rattle.der_elem.specs.FormatMakers.{mapped_format};
+ghost use Rattle.der_modules.specs.Asn1.{joined, optional, parse_of};
+ghost use Rattle.der_modules.specs.MemberLaws.{member_equality, no_equality, one_tag, one_tag_equality, optional_equality, optional_starts, tagged_starts};
+ghost use Rattle.der_opaque.specs.contracts.octet_string_ref.OctetStringRefContentsEq.TheImpl.Laws as octetstringref_contents_eq;
+ghost use Rattle.der_pkix.specs.Key.Curve as curve_fields;
+ghost use Rattle.der_pkix.specs.Key.Grammar.{curve};
+ghost use Rattle.der_pkix.specs.declared.key.curve.Curve.{Curve};
+
+use der_bits::BitStringRef;
+use der_elem::{
+    BitStringTag, ContentsEq, CopyIsDuplicate, DecodeValue, EncodeValue, Form, FormValue,
+    OctetStringTag, OneTag, Sequence, SequenceTag, TagMarker, ValueOrd,
+};
+use der_fields::{DecodeFields, EncodeFields, End, Field, FieldList, Fields3, FieldsOrd};
+use der_opaque::OctetStringRef;
+use der_tlv::{Error, Header, Length, Source, Writer};
+use std::alloc::Global;
+use std::cmp::Ordering;
+use std::fmt;
+
+/// The list of the fields.
+type Fields<'a> = Fields3<OctetStringRef<'a>, OctetStringRef<'a>, Option<BitStringRef<'a>>>;
+
+/// ```text
+/// Curve ::= SEQUENCE {
+///      a     OCTET STRING, -- an element of the field
+///      b     OCTET STRING,
+///      seed  BIT STRING OPTIONAL }
+/// ```
+///
+/// Reading refuses the first fault of the octets, in their order.
+#[derive(Clone, Copy, PartialEq, Eq)]
+pub struct Curve<'a> {
+    fields: Fields<'a>,
+}
+
+impl<'a> Curve<'a> {
+    ghost use Rattle.der_pkix.specs.Key.Curve as curve_fields;
+    ghost use Rattle.std.specs.Prelude.{option_copied};
+
+    /// A value of these fields.
+    pub fn new(
+        a: OctetStringRef<'a>,
+        b: OctetStringRef<'a>,
+        seed: Option<BitStringRef<'a>>,
+    ) -> Curve<'a>
+        ensures a { curve_fields.a result ≡ a.entry }
+        ensures b { curve_fields.b result ≡ b.entry }
+        ensures seed { curve_fields.seed result ≡ seed.entry }
+    {
+        let first = seed;
+        let rest = Field { first, rest: End };
+        let first = b;
+        let rest = Field { first, rest };
+        let first = a;
+        let list = Field { first, rest };
+        let fields = Fields3 { list };
+        Curve { fields }
+    }
+
+    /// `a`, `OCTET STRING`.
+    pub fn a(&self) -> &OctetStringRef<'a>
+        ensures { result.now ≡ curve_fields.a self.now }
+    {
+        &self.fields.list.first
+    }
+
+    /// `b`, `OCTET STRING`.
+    pub fn b(&self) -> &OctetStringRef<'a>
+        ensures { result.now ≡ curve_fields.b self.now }
+    {
+        &self.fields.list.rest.first
+    }
+
+    /// `seed`, `BIT STRING OPTIONAL`.
+    pub fn seed(&self) -> Option<&BitStringRef<'a>>
+        ensures { option_copied result ≡ curve_fields.seed self.now }
+    {
+        match &self.fields.list.rest.rest.first {
+            Some(value) => Some(value),
+            None => None,
+        }
+    }
+}
+
+impl<'a> fmt::Debug for Curve<'a> {
+    fn fmt<W: fmt::Write>(&self, f: &mut fmt::Formatter<W>) -> fmt::Result {
+        f.debug_struct("Curve")
+            .field("a", self.a())
+            .field("b", self.b())
+            .field("seed", &self.seed())
+            .finish()
+    }
+}
+
+impl<'a> OneTag for Curve<'a> {
+    type Marker = SequenceTag;
+}
+
+impl<'a> Sequence<'a> for Curve<'a> {
+    ghost is_sequence = { refl };
+}
+
+impl<'a> FormValue for Curve<'a> {
+    ghost value = { mapped_format (λ v. v.fields) ⟦<Fields<'a> as FieldList>⟧.list.octets };
+}
+
+impl<'a, R: Source<'a>> DecodeValue<'a, R> for Curve<'a> {
+    ghost TAKES_MEMORY = { false };
+
+    const TAKES_MEMORY: bool = false;
+
+    fn decode_value(alloc: Global, reader: &mut R, _header: Header) -> Result<Curve<'a>, Error> {
+        match Fields::<'a>::decode_fields(alloc, reader) {
+            Ok(fields) => Ok(Curve { fields }),
+            Err(e) => Err(e),
+        }
+    }
+
+    ghost takes_memory_is = { refl };
+}
+
+impl<'a> EncodeValue for Curve<'a> {
+    fn value_len(&self) -> Result<Length, Error> {
+        self.fields.fields_len()
+    }
+
+    fn encode_value<W: Writer>(&self, writer: &mut W) -> Result<(), Error> {
+        self.fields.encode_fields(writer)
+    }
+}
+
+impl<'a> ValueOrd for Curve<'a> {
+    fn value_cmp(&self, other: &Curve<'a>) -> Result<Ordering, Error> {
+        self.fields.cmp_fields(&other.fields)
+    }
+}
+
+impl<'a> ContentsEq for Curve<'a> {
+    ghost contents_eq = { λ v w. (member_equality ⟦<OctetStringRef<'a> as Form>⟧
+        (tagged_starts ⟦<OctetStringRef<'a> as Form>⟧ (one_tag ⟦<OctetStringTag as TagMarker>⟧.TAG ⟦<OctetStringRef<'a> as FormValue>⟧.value.contents))
+        ⟦<OctetStringRef<'a> as PartialEq>⟧.eq
+        (one_tag_equality ⟦<OctetStringTag as TagMarker>⟧.TAG ⟦<OctetStringRef<'a> as FormValue>⟧.value.contents ⟦<OctetStringRef<'a> as FormValue>⟧.value.comparable ⟦<OctetStringRef<'a> as PartialEq>⟧.eq octetstringref_contents_eq.contents_eq-law)
+        (member_equality ⟦<OctetStringRef<'a> as Form>⟧
+        (tagged_starts ⟦<OctetStringRef<'a> as Form>⟧ (one_tag ⟦<OctetStringTag as TagMarker>⟧.TAG ⟦<OctetStringRef<'a> as FormValue>⟧.value.contents))
+        ⟦<OctetStringRef<'a> as PartialEq>⟧.eq
+        (one_tag_equality ⟦<OctetStringTag as TagMarker>⟧.TAG ⟦<OctetStringRef<'a> as FormValue>⟧.value.contents ⟦<OctetStringRef<'a> as FormValue>⟧.value.comparable ⟦<OctetStringRef<'a> as PartialEq>⟧.eq octetstringref_contents_eq.contents_eq-law)
+        (member_equality ⟦<Option<BitStringRef<'a>> as Form>⟧
+        (optional_starts ⟦<BitStringRef<'a> as Form>⟧ (one_tag ⟦<BitStringTag as TagMarker>⟧.TAG ⟦<BitStringRef<'a> as FormValue>⟧.value.contents))
+        ⟦<Option<BitStringRef<'a>> as PartialEq>⟧.eq
+        (optional_equality ⟦<BitStringRef<'a> as Form>⟧ (one_tag ⟦<BitStringTag as TagMarker>⟧.TAG ⟦<BitStringRef<'a> as FormValue>⟧.value.contents) ⟦<BitStringRef<'a> as PartialEq>⟧.eq (one_tag_equality ⟦<BitStringTag as TagMarker>⟧.TAG ⟦<BitStringRef<'a> as FormValue>⟧.value.contents ⟦<BitStringRef<'a> as FormValue>⟧.value.comparable ⟦<BitStringRef<'a> as PartialEq>⟧.eq bitstringref_contents_eq.contents_eq-law))
+        no_equality))).equal v.fields.list w.fields.list };
+}
+
+impl<'a> CopyIsDuplicate for Curve<'a> {}
+
+/// What is read as `Curve` is what the page of the grammar says.
+pub fn grammar_of_curve<'a>()
+    ensures { ⟦<Curve<'a> as Form>⟧.parse ≡ parse_of curve }
+{}
+
+/// The contents octets of `Curve` are the encodings of its fields, one after another.
+pub fn octets_of_curve<'a>()
+    ensures { (v : Curve) → ⟦<Curve<'a> as FormValue>⟧.value.contents v ≡ joined (
+        (⟦<OctetStringRef<'a> as Form>⟧.encoding (curve_fields.a v))
+        ∷ (⟦<OctetStringRef<'a> as Form>⟧.encoding (curve_fields.b v))
+        ∷ optional (λ x. (⟦<BitStringRef<'a> as Form>⟧.encoding x)) (curve_fields.seed v)
+        ∷ []) }
+{}

@@ -1,0 +1,151 @@
+//! FieldID, a SEQUENCE of 2 fields.
+//!
+//! Made by tools/asn1 from key.asn1.
+
+ghost use Rattle.std.proofs.Common.{lit<};
+ghost use Rattle.std.specs.Prelude.{◌∷◌, ◌≡◌, [], false, refl};
+ghost use Rattle.der_elem.specs.FormatMakers.{mapped_format};
+ghost use Rattle.der_modules.specs.Asn1.{joined, parse_of};
+ghost use Rattle.der_modules.specs.MemberLaws.{member_equality, no_equality, one_tag, one_tag_equality, own_tags, tagged_starts};
+ghost use Rattle.der_opaque.specs.contracts.any_ref.AnyRefEncodingEq.TheImpl.Laws as anyref_encoding_eq;
+ghost use Rattle.der_opaque.specs.contracts.any_ref.AnyRefTagged.TheImpl.Laws as anyref_tagged;
+ghost use Rattle.der_opaque.specs.contracts.object_identifier.ObjectIdentifierContentsEq.TheImpl.Laws as objectidentifier_contents_eq;
+ghost use Rattle.der_pkix.specs.Key.FieldId as field_id_fields;
+ghost use Rattle.der_pkix.specs.Key.Grammar.{field_id};
+ghost use Rattle.der_pkix.specs.declared.key.field_id.FieldId.{FieldId};
+
+use der_elem::{
+    ContentsEq, CopyIsDuplicate, DecodeValue, EncodeValue, Form, FormValue, ObjectIdentifierTag,
+    OneTag, Sequence, SequenceTag, TagMarker, Tagged, ValueOrd,
+};
+use der_fields::{DecodeFields, EncodeFields, End, Field, FieldList, Fields2, FieldsOrd};
+use der_opaque::{AnyRef, ObjectIdentifier};
+use der_tlv::{Error, Header, Length, Source, Writer};
+use std::alloc::Global;
+use std::cmp::Ordering;
+use std::fmt;
+
+/// The list of the fields.
+type Fields<'a> = Fields2<ObjectIdentifier<39>, AnyRef<'a>>;
+
+/// ```text
+/// FieldID ::= SEQUENCE {
+///      fieldType   OBJECT IDENTIFIER,
+///      parameters  ANY DEFINED BY fieldType }
+/// ```
+///
+/// Reading refuses the first fault of the octets, in their order.
+#[derive(Clone, Copy, PartialEq, Eq)]
+pub struct FieldId<'a> {
+    fields: Fields<'a>,
+}
+
+impl<'a> FieldId<'a> {
+    ghost use Rattle.der_pkix.specs.Key.FieldId as field_id_fields;
+
+    /// A value of these fields.
+    pub fn new(field_type: ObjectIdentifier<39>, parameters: AnyRef<'a>) -> FieldId<'a>
+        ensures field_type { field_id_fields.field_type result ≡ field_type }
+        ensures parameters { field_id_fields.parameters result ≡ parameters.entry }
+    {
+        let first = parameters;
+        let rest = Field { first, rest: End };
+        let first = field_type;
+        let list = Field { first, rest };
+        let fields = Fields2 { list };
+        FieldId { fields }
+    }
+
+    /// `fieldType`, `OBJECT IDENTIFIER`.
+    pub fn field_type(&self) -> ObjectIdentifier<39>
+        ensures { result ≡ field_id_fields.field_type self.now }
+    {
+        self.fields.list.first
+    }
+
+    /// `parameters`, `ANY DEFINED BY fieldType`.
+    pub fn parameters(&self) -> &AnyRef<'a>
+        ensures { result.now ≡ field_id_fields.parameters self.now }
+    {
+        &self.fields.list.rest.first
+    }
+}
+
+impl<'a> fmt::Debug for FieldId<'a> {
+    fn fmt<W: fmt::Write>(&self, f: &mut fmt::Formatter<W>) -> fmt::Result {
+        f.debug_struct("FieldId")
+            .field("field_type", &self.field_type())
+            .field("parameters", self.parameters())
+            .finish()
+    }
+}
+
+impl<'a> OneTag for FieldId<'a> {
+    type Marker = SequenceTag;
+}
+
+impl<'a> Sequence<'a> for FieldId<'a> {
+    ghost is_sequence = { refl };
+}
+
+impl<'a> FormValue for FieldId<'a> {
+    ghost value = { mapped_format (λ v. v.fields) ⟦<Fields<'a> as FieldList>⟧.list.octets };
+}
+
+impl<'a, R: Source<'a>> DecodeValue<'a, R> for FieldId<'a> {
+    ghost TAKES_MEMORY = { false };
+
+    const TAKES_MEMORY: bool = false;
+
+    fn decode_value(alloc: Global, reader: &mut R, _header: Header) -> Result<FieldId<'a>, Error> {
+        match Fields::<'a>::decode_fields(alloc, reader) {
+            Ok(fields) => Ok(FieldId { fields }),
+            Err(e) => Err(e),
+        }
+    }
+
+    ghost takes_memory_is = { refl };
+}
+
+impl<'a> EncodeValue for FieldId<'a> {
+    fn value_len(&self) -> Result<Length, Error> {
+        self.fields.fields_len()
+    }
+
+    fn encode_value<W: Writer>(&self, writer: &mut W) -> Result<(), Error> {
+        self.fields.encode_fields(writer)
+    }
+}
+
+impl<'a> ValueOrd for FieldId<'a> {
+    fn value_cmp(&self, other: &FieldId<'a>) -> Result<Ordering, Error> {
+        self.fields.cmp_fields(&other.fields)
+    }
+}
+
+impl<'a> ContentsEq for FieldId<'a> {
+    ghost contents_eq = { λ v w. (member_equality ⟦<ObjectIdentifier<39> as Form>⟧
+        (tagged_starts ⟦<ObjectIdentifier<39> as Form>⟧ (one_tag ⟦<ObjectIdentifierTag as TagMarker>⟧.TAG ⟦<ObjectIdentifier<39> as FormValue>⟧.value.contents))
+        ⟦<ObjectIdentifier<39> as PartialEq>⟧.eq
+        (one_tag_equality ⟦<ObjectIdentifierTag as TagMarker>⟧.TAG ⟦<ObjectIdentifier<39> as FormValue>⟧.value.contents ⟦<ObjectIdentifier<39> as FormValue>⟧.value.comparable ⟦<ObjectIdentifier<39> as PartialEq>⟧.eq (objectidentifier_contents_eq.contents_eq-law 39 (record { fits = lit< tt })))
+        (member_equality ⟦<AnyRef<'a> as Form>⟧
+        (tagged_starts ⟦<AnyRef<'a> as Form>⟧ (own_tags ⟦<AnyRef<'a> as Form>⟧.tags ⟦<AnyRef<'a> as Form>⟧.first_tag_of ⟦<AnyRef<'a> as Form>⟧.encoding ⟦<AnyRef<'a> as Tagged>⟧.tag_of ⟦<AnyRef<'a> as FormValue>⟧.value.contents anyref_tagged.encoding_is-law anyref_tagged.own_tag-law anyref_tagged.first_tag_is-law))
+        ⟦<AnyRef<'a> as PartialEq>⟧.eq
+        anyref_encoding_eq.encoding_eq-law
+        no_equality)).equal v.fields.list w.fields.list };
+}
+
+impl<'a> CopyIsDuplicate for FieldId<'a> {}
+
+/// What is read as `FieldID` is what the page of the grammar says.
+pub fn grammar_of_field_id<'a>()
+    ensures { ⟦<FieldId<'a> as Form>⟧.parse ≡ parse_of field_id }
+{}
+
+/// The contents octets of `FieldID` are the encodings of its fields, one after another.
+pub fn octets_of_field_id<'a>()
+    ensures { (v : FieldId) → ⟦<FieldId<'a> as FormValue>⟧.value.contents v ≡ joined (
+        (⟦<ObjectIdentifier<39> as Form>⟧.encoding (field_id_fields.field_type v))
+        ∷ (⟦<AnyRef<'a> as Form>⟧.encoding (field_id_fields.parameters v))
+        ∷ []) }
+{}

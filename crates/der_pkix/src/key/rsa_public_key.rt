@@ -1,0 +1,152 @@
+//! RSAPublicKey, a SEQUENCE of 2 fields.
+//!
+//! Made by tools/asn1 from key.asn1.
+
+ghost use Rattle.std.specs.Prelude.{◌∷◌, ◌≡◌, [], false, refl};
+ghost use Rattle.der_elem.specs.FormatMakers.{mapped_format};
+ghost use Rattle.der_modules.specs.Asn1.{joined, parse_of};
+ghost use Rattle.der_modules.specs.MemberLaws.{member_equality, no_equality, one_tag, one_tag_equality, tagged_starts};
+ghost use Rattle.der_numbers.specs.contracts.uint_ref.UintRefContentsEq.TheImpl.Laws as uintref_contents_eq;
+ghost use Rattle.der_pkix.specs.Key.Grammar.{rsa_public_key};
+ghost use Rattle.der_pkix.specs.Key.RsaPublicKey as rsa_public_key_fields;
+ghost use Rattle.der_pkix.specs.declared.key.rsa_public_key.RsaPublicKey.{RsaPublicKey};
+
+use der_elem::{
+    ContentsEq, CopyIsDuplicate, DecodeValue, EncodeValue, Form, FormValue, IntegerTag, OneTag,
+    Sequence, SequenceTag, TagMarker, ValueOrd,
+};
+use der_fields::{DecodeFields, EncodeFields, End, Field, FieldList, Fields2, FieldsOrd};
+use der_numbers::UintRef;
+use der_tlv::{Error, Header, Length, Source, Writer};
+use std::alloc::Global;
+use std::cmp::Ordering;
+use std::fmt;
+
+/// The list of the fields.
+type Fields<'a> = Fields2<UintRef<'a>, UintRef<'a>>;
+
+/// ```text
+/// RSAPublicKey ::= SEQUENCE {
+///      modulus         INTEGER (0..MAX),  -- n
+///      publicExponent  INTEGER (0..MAX) }
+/// ```
+///
+/// Reading refuses the first fault of the octets, in their order.
+#[derive(Clone, Copy, PartialEq, Eq)]
+pub struct RsaPublicKey<'a> {
+    fields: Fields<'a>,
+}
+
+impl<'a> RsaPublicKey<'a> {
+    ghost use Rattle.der_pkix.specs.Key.RsaPublicKey as rsa_public_key_fields;
+
+    /// A value of these fields.
+    pub fn new(modulus: UintRef<'a>, public_exponent: UintRef<'a>) -> RsaPublicKey<'a>
+        ensures modulus { rsa_public_key_fields.modulus result ≡ modulus.entry }
+        ensures public_exponent { rsa_public_key_fields.public_exponent result ≡ public_exponent.entry }
+    {
+        let first = public_exponent;
+        let rest = Field { first, rest: End };
+        let first = modulus;
+        let list = Field { first, rest };
+        let fields = Fields2 { list };
+        RsaPublicKey { fields }
+    }
+
+    /// `modulus`, `INTEGER (0..MAX)`.
+    pub fn modulus(&self) -> &UintRef<'a>
+        ensures { result.now ≡ rsa_public_key_fields.modulus self.now }
+    {
+        &self.fields.list.first
+    }
+
+    /// `publicExponent`, `INTEGER (0..MAX)`.
+    pub fn public_exponent(&self) -> &UintRef<'a>
+        ensures { result.now ≡ rsa_public_key_fields.public_exponent self.now }
+    {
+        &self.fields.list.rest.first
+    }
+}
+
+impl<'a> fmt::Debug for RsaPublicKey<'a> {
+    fn fmt<W: fmt::Write>(&self, f: &mut fmt::Formatter<W>) -> fmt::Result {
+        f.debug_struct("RsaPublicKey")
+            .field("modulus", self.modulus())
+            .field("public_exponent", self.public_exponent())
+            .finish()
+    }
+}
+
+impl<'a> OneTag for RsaPublicKey<'a> {
+    type Marker = SequenceTag;
+}
+
+impl<'a> Sequence<'a> for RsaPublicKey<'a> {
+    ghost is_sequence = { refl };
+}
+
+impl<'a> FormValue for RsaPublicKey<'a> {
+    ghost value = { mapped_format (λ v. v.fields) ⟦<Fields<'a> as FieldList>⟧.list.octets };
+}
+
+impl<'a, R: Source<'a>> DecodeValue<'a, R> for RsaPublicKey<'a> {
+    ghost TAKES_MEMORY = { false };
+
+    const TAKES_MEMORY: bool = false;
+
+    fn decode_value(
+        alloc: Global,
+        reader: &mut R,
+        _header: Header,
+    ) -> Result<RsaPublicKey<'a>, Error> {
+        match Fields::<'a>::decode_fields(alloc, reader) {
+            Ok(fields) => Ok(RsaPublicKey { fields }),
+            Err(e) => Err(e),
+        }
+    }
+
+    ghost takes_memory_is = { refl };
+}
+
+impl<'a> EncodeValue for RsaPublicKey<'a> {
+    fn value_len(&self) -> Result<Length, Error> {
+        self.fields.fields_len()
+    }
+
+    fn encode_value<W: Writer>(&self, writer: &mut W) -> Result<(), Error> {
+        self.fields.encode_fields(writer)
+    }
+}
+
+impl<'a> ValueOrd for RsaPublicKey<'a> {
+    fn value_cmp(&self, other: &RsaPublicKey<'a>) -> Result<Ordering, Error> {
+        self.fields.cmp_fields(&other.fields)
+    }
+}
+
+impl<'a> ContentsEq for RsaPublicKey<'a> {
+    ghost contents_eq = { λ v w. (member_equality ⟦<UintRef<'a> as Form>⟧
+        (tagged_starts ⟦<UintRef<'a> as Form>⟧ (one_tag ⟦<IntegerTag as TagMarker>⟧.TAG ⟦<UintRef<'a> as FormValue>⟧.value.contents))
+        ⟦<UintRef<'a> as PartialEq>⟧.eq
+        (one_tag_equality ⟦<IntegerTag as TagMarker>⟧.TAG ⟦<UintRef<'a> as FormValue>⟧.value.contents ⟦<UintRef<'a> as FormValue>⟧.value.comparable ⟦<UintRef<'a> as PartialEq>⟧.eq uintref_contents_eq.contents_eq-law)
+        (member_equality ⟦<UintRef<'a> as Form>⟧
+        (tagged_starts ⟦<UintRef<'a> as Form>⟧ (one_tag ⟦<IntegerTag as TagMarker>⟧.TAG ⟦<UintRef<'a> as FormValue>⟧.value.contents))
+        ⟦<UintRef<'a> as PartialEq>⟧.eq
+        (one_tag_equality ⟦<IntegerTag as TagMarker>⟧.TAG ⟦<UintRef<'a> as FormValue>⟧.value.contents ⟦<UintRef<'a> as FormValue>⟧.value.comparable ⟦<UintRef<'a> as PartialEq>⟧.eq uintref_contents_eq.contents_eq-law)
+        no_equality)).equal v.fields.list w.fields.list };
+}
+
+impl<'a> CopyIsDuplicate for RsaPublicKey<'a> {}
+
+/// What is read as `RSAPublicKey` is what the page of the grammar says.
+pub fn grammar_of_rsa_public_key<'a>()
+    ensures { ⟦<RsaPublicKey<'a> as Form>⟧.parse ≡ parse_of rsa_public_key }
+{}
+
+/// The contents octets of `RSAPublicKey` are the encodings of its fields, one after another.
+pub fn octets_of_rsa_public_key<'a>()
+    ensures { (v : RsaPublicKey) → ⟦<RsaPublicKey<'a> as FormValue>⟧.value.contents v ≡ joined (
+        (⟦<UintRef<'a> as Form>⟧.encoding (rsa_public_key_fields.modulus v))
+        ∷ (⟦<UintRef<'a> as Form>⟧.encoding (rsa_public_key_fields.public_exponent v))
+        ∷ []) }
+{}
