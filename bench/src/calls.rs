@@ -29,11 +29,10 @@ of_octets! {
     read_bits_owned rewrite_bits_owned read_octets_owned rewrite_octets_owned
     read_string_owned rewrite_string_owned read_printable_owned rewrite_printable_owned
     read_int_owned rewrite_int_owned
+    read_certificate
 }
 
 unsafe extern "C" {
-    fn read_certificate_fields(octets: *const u8, len: usize, signed: *const u8, signed_len: usize) -> usize;
-    fn read_certificate_parts(octets: *const u8, len: usize, signed: *const u8, signed_len: usize) -> usize;
     fn write_i64(values: *const i64, len: usize) -> usize;
     fn less_i64(a: *const i64, a_len: usize, b: *const i64, b_len: usize) -> u32;
     fn less_octets(a: *const u8, a_len: usize, b: *const u8, b_len: usize, rounds: u32) -> u32;
@@ -47,21 +46,9 @@ unsafe extern "C" {
     fn openssl_rewrite_set(octets: *const u8, len: usize) -> i64;
 }
 
-/// Reads a certificate and what is signed of it into fields, the two names too: 1, or 0 where one is refused.
-pub fn library_read_certificate(octets: &[u8], signed: &[u8]) -> usize {
-    // SAFETY: the call reads the slices and keeps nothing of them.
-    unsafe { read_certificate_fields(octets.as_ptr(), octets.len(), signed.as_ptr(), signed.len()) }
-}
-
-/// The same with the names as they are encoded.
-pub fn library_read_parts(octets: &[u8], signed: &[u8]) -> usize {
-    // SAFETY: as above.
-    unsafe { read_certificate_parts(octets.as_ptr(), octets.len(), signed.as_ptr(), signed.len()) }
-}
-
-/// The same by OpenSSL, which keeps copies.
+/// Reads a certificate by OpenSSL, which keeps copies: 1, or 0 where it is refused.
 pub fn ossl_read_certificate(octets: &[u8]) -> usize {
-    // SAFETY: as above.
+    // SAFETY: the call reads the slice and keeps nothing of it.
     unsafe { openssl_read_certificate(octets.as_ptr(), octets.len()) as usize }
 }
 

@@ -232,24 +232,6 @@ pub fn each_certificate() -> Option<Vec<Vec<u8>>> {
     paths.into_iter().map(|path| Some(from_base64(&std::fs::read_to_string(path).ok()?))).collect()
 }
 
-/// The first value of a SEQUENCE, with its header.
-pub fn first_value(octets: &[u8]) -> &[u8] {
-    let (start, _) = contents(octets);
-    let (header, len) = contents(&octets[start..]);
-    &octets[start..start + header + len]
-}
-
-/// The lengths of a value's header and of its contents.
-fn contents(octets: &[u8]) -> (usize, usize) {
-    match octets[1] {
-        len @ 0..0x80 => (2, usize::from(len)),
-        len => {
-            let digits = usize::from(len & 0x7f);
-            (2 + digits, octets[2..2 + digits].iter().fold(0, |len, octet| len << 8 | usize::from(*octet)))
-        }
-    }
-}
-
 fn from_base64(text: &str) -> Vec<u8> {
     let (mut octets, mut bits, mut held) = (Vec::new(), 0, 0u32);
     for line in text.lines().filter(|line| !line.starts_with('-')) {

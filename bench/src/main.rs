@@ -155,14 +155,11 @@ fn certificates(plan: &Plan) {
     let Some(certificates) = inputs::each_certificate() else {
         return;
     };
-    let pairs: Vec<(&[u8], &[u8])> =
-        certificates.iter().map(|octets| (&octets[..], inputs::first_value(octets))).collect();
-    plan.row("read certificates", pairs.len(), 41, Some(("x509-cert", 1.0)), vec![
-        by("here", || pairs.iter().map(|(octets, signed)| calls::library_read_certificate(octets, signed)).sum()),
-        by("parts", || pairs.iter().map(|(octets, signed)| calls::library_read_parts(octets, signed)).sum()),
-        by("headers", || pairs.iter().filter(|(octets, _)| here::walk_headers(octets) > 0).count()),
-        by("x509-cert", || pairs.iter().filter(|(octets, _)| x509_cert_reads(octets)).count()),
-        by("openssl", || pairs.iter().map(|(octets, _)| calls::ossl_read_certificate(octets)).sum()),
+    plan.row("read certificates", certificates.len(), 41, Some(("x509-cert", 1.0)), vec![
+        by("here", || certificates.iter().map(|octets| here::read_certificate(octets)).sum()),
+        by("headers", || certificates.iter().filter(|octets| here::walk_headers(octets) > 0).count()),
+        by("x509-cert", || certificates.iter().filter(|octets| x509_cert_reads(octets)).count()),
+        by("openssl", || certificates.iter().map(|octets| calls::ossl_read_certificate(octets)).sum()),
     ]);
 }
 
