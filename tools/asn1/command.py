@@ -15,6 +15,7 @@ from .syntax import Module
 from .writer.crate import MARK, files_of_crate
 from .writer.orders import items_of_sets
 from .writer.plan import Plan, Target
+from .writer.splitting import split_choices
 
 LIST = "asn1/modules.txt"
 ROOTS = ("src/lib.rt", "specs/Lib.antt")
@@ -52,6 +53,7 @@ def write_all(path: Path, with_remarks: bool) -> dict[str, str]:
         print(remark, file=sys.stderr)
     for module, entry in zip(modules, entries):
         check_entry(module, entry)
+    split_choices(resolved)
     targets = {module.name: Target(entry.crate, entry.module) for module, entry in zip(resolved, entries)}
     plan = Plan(targets, items_of_sets(resolved))
     found: dict[str, str] = {}

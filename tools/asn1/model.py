@@ -175,6 +175,8 @@ class Choice(Definition):
     """A CHOICE of two alternatives or more."""
 
     alternatives: tuple[Field, ...] = ()
+    halves: tuple["Choice", ...] = ()  # the two that it is read as, where it has many alternatives
+    is_half: bool = False
 
 
 @dataclass(eq=False)

@@ -17,6 +17,7 @@ class Alternatives:
     choice: Choice
     lifetime: str
     types: list[str]  # of each alternative, in code
+    leaves: list[str]  # of each leaf of the tree: the same, or the two halves of a CHOICE that is split
 
     @property
     def names(self) -> list[str]:
@@ -25,6 +26,19 @@ class Alternatives:
     @property
     def whole(self) -> str:
         return self.choice.rust + self.lifetime
+
+    @property
+    def parts(self) -> list[Resolved]:
+        """The types of the leaves."""
+        return parts_of(self.choice)
+
+    def leaf(self, index: int) -> int:
+        """Which leaf an alternative is, or is in."""
+        return leaf_of(self.choice, index)[0]
+
+    def half(self, index: int) -> Choice | None:
+        """The half that an alternative is in, of a CHOICE that is split."""
+        return leaf_of(self.choice, index)[1]
 
     @staticmethod
     def choice_of(type_: Resolved) -> Choice | None:
@@ -43,6 +57,23 @@ class Alternatives:
     def variants(self) -> str:
         """The module of the variants, as ghost members call it."""
         return "of"
+
+
+def parts_of(choice: Choice) -> list[Resolved]:
+    """The types of the leaves of a tree."""
+    if choice.halves:
+        return [Use(half) for half in choice.halves]
+    return [part.type for part in choice.alternatives]
+
+
+def leaf_of(choice: Choice, index: int) -> tuple[int, Choice | None]:
+    """The leaf of the tree that an alternative stands in, and the half that this is."""
+    left = index
+    for number, half in enumerate(choice.halves):
+        if left < len(half.alternatives):
+            return number, half
+        left -= len(half.alternatives)
+    return index, None
 
 
 # ---- the tree
@@ -98,7 +129,7 @@ def by_variants(all_of: Alternatives, motive: str, term: Callable[[int], str]) -
 
 def law(source: Source, all_of: Alternatives, index: int, name: str, trait: str = "Tagged") -> str:
     """A law of a trait of an alternative that is a CHOICE itself."""
-    choice = all_of.choice_of(all_of.choice.alternatives[index].type)
+    choice = all_of.choice_of(all_of.parts[all_of.leaf(index)])
     assert choice is not None
     target = source.plan.of(choice)
     path = f"{target.crate}.specs.contracts.{target.module}.{snake(choice.rust)}"
@@ -107,9 +138,20 @@ def law(source: Source, all_of: Alternatives, index: int, name: str, trait: str 
     return f"{alias}.{name}-law"
 
 
+def value_in_leaf(source: Source, all_of: Alternatives, index: int) -> str:
+    """The value `x` of an alternative, as the leaf of the tree has it."""
+    half = all_of.half(index)
+    if half is None:
+        return "x"
+    alias = snake(half.rust)
+    source.page_word(f"{source.target.crate}.specs.declared.{source.target.module}.{alias}.{half.rust}.TheVariants as {alias}", "")
+    return f"({alias}.{all_of.names[index]} x)"
+
+
 def first_tag_law(source: Source, all_of: Alternatives, index: int) -> str:
-    if all_of.choice_of(all_of.choice.alternatives[index].type):
-        return f"{law(source, all_of, index, source.member('has_first_tag'), 'Choice')} x"
+    if all_of.choice_of(all_of.parts[all_of.leaf(index)]):
+        value = value_in_leaf(source, all_of, index)
+        return f"{law(source, all_of, index, source.member('has_first_tag'), 'Choice')} {value}"
     tag, is_tag = source.member("HasFirstTag.tag"), source.member("HasFirstTag.is_tag")
     return f"record {{ {tag} = _; {is_tag} = {source.word('refl')} }}"
 

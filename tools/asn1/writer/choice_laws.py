@@ -19,11 +19,11 @@ class TreeLaws:
         self.laws = Laws(source)
 
     def types(self) -> list[Resolved]:
-        return [part.type for part in self.all_of.choice.alternatives]
+        return self.all_of.parts
 
     def node(self, indices: list[int]) -> str:
         """The type of a node."""
-        return tree(self.source, [self.all_of.types[i] for i in indices])
+        return tree(self.source, [self.all_of.leaves[i] for i in indices])
 
     def sides(self, indices: list[int]) -> tuple[list[int], list[int]]:
         middle = halves(len(indices))
@@ -80,7 +80,7 @@ class TreeLaws:
 
 
 def everything(all_of: Alternatives) -> list[int]:
-    return list(range(len(all_of.types)))
+    return list(range(len(all_of.leaves)))
 
 
 def same_equality(source: Source, all_of: Alternatives) -> str:

@@ -6,7 +6,21 @@ from ..model import Alias, Choice, List, Resolved, Struct, Use
 from ..properties import properties_of_definition
 from ..spelling import snake
 from . import choice_laws, docs
-from .alternatives import Alternatives, at, by_variants, depth, first_tags, ghosts, halves, law, quote, tree
+from .alternatives import (
+    Alternatives,
+    at,
+    by_variants,
+    depth,
+    first_tags,
+    ghosts,
+    halves,
+    law,
+    leaf_of,
+    parts_of,
+    quote,
+    tree,
+    value_in_leaf,
+)
 from .module_laws import add_laws
 from .orders import write_order
 from .plan import Plan
@@ -20,24 +34,27 @@ def write_choice(plan: Plan, choice: Choice) -> str:
     source = Source(plan, plan.of(choice), plan.file(choice))
     lifetime = lifetime_of(properties_of_definition(choice).borrows)
     types = [rust_type(source, part.type) for part in choice.alternatives]
-    all_of = Alternatives(choice, lifetime, types)
-    source.add(f"/// The alternatives, as a tree.\ntype Tree{lifetime} = {tree(source, types)};")
+    leaves = [rust_type(source, part) for part in parts_of(choice)] if choice.halves else types
+    all_of = Alternatives(choice, lifetime, types, leaves)
+    source.add(f"/// The alternatives, as a tree.\ntype Tree{lifetime} = {tree(source, leaves)};")
     source.add(declaration(all_of))
     source.add(form(source, all_of))
     source.add(form_value(source, all_of))
     source.add(tagged(source, all_of))
     source.add(choice_trait(source, all_of))
     source.add(choice_laws.known_tags(source, all_of))
-    for trait in ("Decode", "DecodeField"):
-        source.add(decode(source, all_of, trait))
+    source.add(decode(source, all_of))
+    source.add(decode_field(source, all_of))
     source.add(encode(source, all_of))
     source.add(order(source, all_of))
     source.add(choice_laws.encoding_eq(source, all_of))
     source.add(choice_laws.duplicate(source, all_of))
     source.add(choice_laws.duplicate_is_equal(source, all_of))
     write_order(source, choice)
-    add_laws(source, choice)
-    return source.text([f"//! {choice.name}, a CHOICE of {len(types)} alternatives."])
+    if not choice.is_half:
+        add_laws(source, choice)
+    name = choice.name[0].upper() + choice.name[1:] if choice.is_half else choice.name
+    return source.text([f"//! {name}, a CHOICE of {len(types)} alternatives."])
 
 
 # ---- the enum
@@ -148,16 +165,17 @@ def variants_module(source: Source, all_of: Alternatives) -> str:
 
 
 def re_reads_law(source: Source, all_of: Alternatives, index: int) -> str:
-    if all_of.choice_of(all_of.choice.alternatives[index].type):
-        return f"{law(source, all_of, index, source.member('re_reads_alike'))} x"
+    if all_of.choice_of(all_of.parts[all_of.leaf(index)]):
+        return f"{law(source, all_of, index, source.member('re_reads_alike'))} {value_in_leaf(source, all_of, index)}"
     return "λ h. h"
 
 
 def tlv_law(source: Source, all_of: Alternatives, index: int) -> str:
-    count = len(all_of.types)
-    part = f"a{'.0' * depth(index, count)}"
-    if all_of.choice_of(all_of.choice.alternatives[index].type):
-        return f"λ a. {law(source, all_of, index, source.member('accepted_is_tlv'))} rules x b {part}"
+    leaf = all_of.leaf(index)
+    part = f"a{'.0' * depth(leaf, len(all_of.parts))}"
+    if all_of.choice_of(all_of.parts[leaf]):
+        value = value_in_leaf(source, all_of, index)
+        return f"λ a. {law(source, all_of, index, source.member('accepted_is_tlv'))} rules {value} b {part}"
     accepts = f"⟦<{all_of.types[index]} as FormValue>⟧.{source.member('value')}.{source.member('accepts')}"
     return f"λ a. {source.word('tlv_tagged')} _ {accepts} rules x b {part}"
 
@@ -181,28 +199,41 @@ def arms(all_of: Alternatives, call: str) -> str:
     return "\n".join(f"            {all_of.choice.rust}::{name}(value) => value.{call}," for name in all_of.names)
 
 
-def decode(source: Source, all_of: Alternatives, trait: str) -> str:
+def decode(source: Source, all_of: Alternatives) -> str:
     """Reading by the tree."""
-    need, law_name, call = {
-        "Decode": ("TAKES_MEMORY", "takes_memory_is", "decode"),
-        "DecodeField": ("TAKES_MEMORY", "takes_memory_is", "decode_field"),
-    }[trait]
-    takes = "true" if properties_of_definition(all_of.choice).takes_memory else "false"
-    source.word(takes)
-    count = len(all_of.types)
-    seen = [at(i, count, lambda side, inner: f"OneOf::{side}({inner})", "value") for i in range(count)]
+    seen = [place(source, all_of, i) for i in range(len(all_of.types))]
     rows = "\n".join(
         f"            Ok({place}) => Ok({all_of.choice.rust}::{name}(value))," for place, name in zip(seen, all_of.names)
     )
     turbofish = f"Tree::{all_of.lifetime}" if all_of.lifetime else "Tree"
-    need, law_name = source.member(need), source.member(law_name)
+    body = f"        match {turbofish}::decode(alloc, reader) {{\n{rows}\n            Err(e) => Err(e),\n        }}"
+    return reading(source, all_of, "Decode", "decode", body)
+
+
+def decode_field(source: Source, all_of: Alternatives) -> str:
+    """Reading as a field: the same, since a value of a CHOICE is always there."""
+    return reading(source, all_of, "DecodeField", "decode_field", f"        {all_of.choice.rust}::decode(alloc, reader)")
+
+
+def reading(source: Source, all_of: Alternatives, trait: str, call: str, body: str) -> str:
+    """One of the two traits of reading."""
+    takes = "true" if properties_of_definition(all_of.choice).takes_memory else "false"
+    source.word(takes)
+    need, law_name = source.member("TAKES_MEMORY"), source.member("takes_memory_is")
     return (
         f"impl<'a, R: {source.use('Source')}<'a>> {source.use(trait)}<'a, R> for {all_of.whole} {{\n"
         f"    ghost {need} = {{ {takes} }};\n\n    const {need}: bool = {takes};\n\n"
         f"    fn {call}(alloc: {source.use('Global')}, reader: &mut R) -> Result<{all_of.whole}, {source.use('Error')}> {{\n"
-        f"        match {turbofish}::{call}(alloc, reader) {{\n{rows}\n            Err(e) => Err(e),\n        }}\n    }}\n\n"
+        f"{body}\n    }}\n\n"
         f"    ghost {law_name} = {{ refl }};\n}}"
     )
+
+
+def place(source: Source, all_of: Alternatives, index: int) -> str:
+    """The value of an alternative, in the tree."""
+    half = all_of.half(index)
+    value = "value" if half is None else f"{source.use_beside(half, half.rust)}::{all_of.names[index]}(value)"
+    return at(all_of.leaf(index), len(all_of.parts), lambda side, inner: f"OneOf::{side}({inner})", value)
 
 
 def encode(source: Source, all_of: Alternatives) -> str:
@@ -231,30 +262,32 @@ def order(source: Source, all_of: Alternatives) -> str:
 
 
 def write_order_proof(plan: Plan, choice: Choice) -> dict[str, str]:
-    """The proof of the order, where an alternative is a struct with no tag before it: what its comparison says is said of
-    the CHOICE, which the prover's search meets a limit at."""
-    own = [part.rust for part in choice.alternatives if is_struct(part.type)]
+    """The proof of the order, where an alternative is a struct or a CHOICE with no tag before it: what its comparison says is
+    said of the CHOICE, which the prover's search meets a limit at."""
+    own = [part.rust for part in choice.alternatives if has_parts(part.type)]
     if not own:
         return {}
+    first = choice.alternatives[0].rust
     target = plan.of(choice)
     place = f"{target.module}.{snake(choice.rust)}.{choice.rust}DerOrd.der_cmp"
     text = f"-- The order of {choice.name}, of two values of one alternative.\n"
     text += f"use Rattle.{target.crate}.proofs.{place}.Goals as goal\n"
     for name in own:
         goal, arm = f"returns-in-{name}-{name}", f"in-{name}-{name}"
+        call = "der_cmp" if name == first else f"der_cmp-{arm}"
         text += (
             f"\npub {goal} : goal.{goal}\n"
-            f"{goal} c = rw c.{arm}.is-0 (rw c.{arm}.is-1 c.der_cmp-{arm}.ensures)\n"
+            f"{goal} c = rw c.{arm}.is-0 (rw c.{arm}.is-1 c.{call}.ensures)\n"
         )
     return {f"proofs/{place.replace('.', '/')}/Answers.antt": text}
 
 
-def is_struct(type_: Resolved) -> bool:
-    """Whether a type is a struct that is written too, by whatever name."""
+def has_parts(type_: Resolved) -> bool:
+    """Whether a type is a struct or a CHOICE that is written too, by whatever name."""
     while isinstance(type_, Use) and isinstance(type_.definition, Alias):
         assert type_.definition.type is not None
         type_ = type_.definition.type
-    return isinstance(type_, Use) and isinstance(type_.definition, (Struct, List))
+    return isinstance(type_, Use) and isinstance(type_.definition, (Choice, Struct, List))
 
 
 # ---- the page
@@ -263,12 +296,12 @@ def is_struct(type_: Resolved) -> bool:
 def write_choice_page(plan: Plan, choice: Choice) -> str:
     """The tree of a value, by its alternatives."""
     page = Page(plan, plan.of(choice), f"-- The alternatives of {choice.name}, as a tree.")
-    count = len(choice.alternatives)
+    parts = parts_of(choice)
     name = page.logic_type(choice)
     target = plan.of(choice)
     path = f"{target.crate}.specs.declared.{target.module}.{snake(choice.rust)}.{choice.rust}"
     page.from_module(f"{path}.TheVariants as of", "")
-    types = [logic_type(page, part.type) for part in choice.alternatives]
+    types = [logic_type(page, part) for part in parts]
 
     def listed(parts: list[str]) -> str:
         if len(parts) == 1:
@@ -279,6 +312,15 @@ def write_choice_page(plan: Plan, choice: Choice) -> str:
     def wrap(side: str, inner: str) -> str:
         return f"{page.logic(side)} {f'({inner})' if ' ' in inner else inner}"
 
-    rows = [f"tree_of (of.{part.rust} v) = {at(i, count, wrap, 'v')}" for i, part in enumerate(choice.alternatives)]
+    def row(index: int, name: str) -> str:
+        leaf, half = leaf_of(choice, index)
+        value = "v"
+        if half is not None:
+            alias = snake(half.rust)
+            page.from_module(f"{target.crate}.specs.declared.{target.module}.{alias}.{half.rust}.TheVariants as {alias}", "")
+            value = f"{alias}.{name} v"
+        return f"tree_of (of.{name} v) = {at(leaf, len(parts), wrap, value)}"
+
+    rows = [row(i, part.rust) for i, part in enumerate(choice.alternatives)]
     page.add(f"abbrev pub tree_of : {name} → {listed(types)}\n" + "\n".join(rows))
     return page.text()

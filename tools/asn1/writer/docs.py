@@ -4,7 +4,7 @@ from __future__ import annotations
 
 import textwrap
 
-from ..model import Definition
+from ..model import Choice, Definition
 from ..properties import properties_of_definition
 
 WIDTH = 100
@@ -27,11 +27,18 @@ def asn1(text: str) -> str:
 
 def of_definition(definition: Definition, *more: str) -> str:
     """The documentation of a type: its text, what else is to be said, and what is not checked."""
-    inner = doc(f"A type that is written out within another, as `{definition.name}`.")
+    inner = doc(inner_words(definition))
     parts = [asn1(definition.text) if definition.text else inner]
     parts += [doc(text) for text in more]
     parts += [doc(f"Not checked: {remark}.") for remark in definition.remarks]
     return "\n///\n".join(parts)
+
+
+def inner_words(definition: Definition) -> str:
+    """What a type is that no assignment has."""
+    if isinstance(definition, Choice) and definition.is_half:
+        return f"{definition.name[0].upper()}{definition.name[1:]}, as one of which a value is read."
+    return f"A type that is written out within another, as `{definition.name}`."
 
 
 def errors(definition: Definition) -> str:

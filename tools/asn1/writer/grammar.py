@@ -89,7 +89,8 @@ class GrammarPage:
             found.append(definition)
 
         for definition in self.module.definitions:
-            visit(definition)
+            if not (isinstance(definition, Choice) and definition.is_half):
+                visit(definition)
         return found
 
     def asn1(self, word: str) -> str:

@@ -2,7 +2,7 @@
 
 from __future__ import annotations
 
-from ..model import Definition, Enumeration, Leaf, Presence, Resolved, ResolvedModule, Struct, Tagged, Use, Whole
+from ..model import Choice, Definition, Enumeration, Leaf, Presence, Resolved, ResolvedModule, Struct, Tagged, Use, Whole
 from ..properties import properties_of_definition
 from ..spelling import snake
 from . import docs
@@ -21,7 +21,9 @@ def write_laws(plan: Plan, module: ResolvedModule) -> str:
     """The source file of a module's laws, each of which stands with its type."""
     target, by_file = plan.targets[module.name], dict[str, list[str]]()
     for definition in module.definitions:
-        by_file.setdefault(plan.file(definition), []).extend(names_of_laws(definition))
+        names = names_of_laws(definition)
+        if names:
+            by_file.setdefault(plan.file(definition), []).extend(names)
     lines = [f"//! The laws of {module.name}: functions that do nothing, and promise what holds of its types.", ""]
     for file, names in sorted(by_file.items()):
         listed = names[0] if len(names) == 1 else "{" + ", ".join(sorted(names)) + "}"
@@ -31,6 +33,8 @@ def write_laws(plan: Plan, module: ResolvedModule) -> str:
 
 def names_of_laws(definition: Definition) -> list[str]:
     """The names of a type's laws."""
+    if isinstance(definition, Choice) and definition.is_half:
+        return []
     has_fields = isinstance(definition, Struct) and not definition.by_hand
     octets = [f"octets_of_{snake(definition.rust)}"] if has_fields else []
     return [f"grammar_of_{word_of(definition)}", *octets]

@@ -106,6 +106,8 @@ def parts_of(modules: list[ResolvedModule]) -> list[Part]:
     found: dict[Part, None] = {}
     for module in modules:
         for definition in module.definitions:
+            if isinstance(definition, Choice) and definition.is_half:
+                continue
             reach(found, standing("", Use(definition), is_told=False))
     return list(found)
 

@@ -166,11 +166,7 @@ impl<'a, R: Source<'a>> DecodeField<'a, R> for DistributionPointName<'a> {
     const TAKES_MEMORY: bool = true;
 
     fn decode_field(alloc: Global, reader: &mut R) -> Result<DistributionPointName<'a>, Error> {
-        match Tree::<'a>::decode_field(alloc, reader) {
-            Ok(OneOf::First(value)) => Ok(DistributionPointName::FullName(value)),
-            Ok(OneOf::Other(value)) => Ok(DistributionPointName::NameRelativeToCrlIssuer(value)),
-            Err(e) => Err(e),
-        }
+        DistributionPointName::decode(alloc, reader)
     }
 
     ghost takes_memory_is = { refl };

@@ -279,34 +279,7 @@ impl<'a, R: Source<'a>> DecodeField<'a, R> for GeneralName<'a> {
     const TAKES_MEMORY: bool = true;
 
     fn decode_field(alloc: Global, reader: &mut R) -> Result<GeneralName<'a>, Error> {
-        match Tree::<'a>::decode_field(alloc, reader) {
-            Ok(OneOf::First(OneOf::First(OneOf::First(OneOf::First(value))))) => Ok(
-                GeneralName::OtherName(value),
-            ),
-            Ok(OneOf::First(OneOf::First(OneOf::First(OneOf::Other(value))))) => Ok(
-                GeneralName::Rfc822Name(value),
-            ),
-            Ok(OneOf::First(OneOf::First(OneOf::Other(value)))) => Ok(GeneralName::DnsName(value)),
-            Ok(OneOf::First(OneOf::Other(OneOf::First(value)))) => Ok(GeneralName::X400Address(
-                value,
-            )),
-            Ok(OneOf::First(OneOf::Other(OneOf::Other(value)))) => Ok(GeneralName::DirectoryName(
-                value,
-            )),
-            Ok(OneOf::Other(OneOf::First(OneOf::First(value)))) => Ok(GeneralName::EdiPartyName(
-                value,
-            )),
-            Ok(OneOf::Other(OneOf::First(OneOf::Other(value)))) => Ok(
-                GeneralName::UniformResourceIdentifier(value),
-            ),
-            Ok(OneOf::Other(OneOf::Other(OneOf::First(value)))) => Ok(GeneralName::IpAddress(
-                value,
-            )),
-            Ok(OneOf::Other(OneOf::Other(OneOf::Other(value)))) => Ok(GeneralName::RegisteredId(
-                value,
-            )),
-            Err(e) => Err(e),
-        }
+        GeneralName::decode(alloc, reader)
     }
 
     ghost takes_memory_is = { refl };

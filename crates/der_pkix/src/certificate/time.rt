@@ -160,11 +160,7 @@ impl<'a, R: Source<'a>> DecodeField<'a, R> for Time {
     const TAKES_MEMORY: bool = false;
 
     fn decode_field(alloc: Global, reader: &mut R) -> Result<Time, Error> {
-        match Tree::decode_field(alloc, reader) {
-            Ok(OneOf::First(value)) => Ok(Time::UtcTime(value)),
-            Ok(OneOf::Other(value)) => Ok(Time::GeneralTime(value)),
-            Err(e) => Err(e),
-        }
+        Time::decode(alloc, reader)
     }
 
     ghost takes_memory_is = { refl };

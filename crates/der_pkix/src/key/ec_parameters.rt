@@ -176,12 +176,7 @@ impl<'a, R: Source<'a>> DecodeField<'a, R> for EcParameters<'a> {
     const TAKES_MEMORY: bool = false;
 
     fn decode_field(alloc: Global, reader: &mut R) -> Result<EcParameters<'a>, Error> {
-        match Tree::<'a>::decode_field(alloc, reader) {
-            Ok(OneOf::First(OneOf::First(value))) => Ok(EcParameters::NamedCurve(value)),
-            Ok(OneOf::First(OneOf::Other(value))) => Ok(EcParameters::ImplicitCurve(value)),
-            Ok(OneOf::Other(value)) => Ok(EcParameters::SpecifiedCurve(value)),
-            Err(e) => Err(e),
-        }
+        EcParameters::decode(alloc, reader)
     }
 
     ghost takes_memory_is = { refl };

@@ -199,13 +199,7 @@ impl<'a, R: Source<'a>> DecodeField<'a, R> for General<'a> {
     const TAKES_MEMORY: bool = true;
 
     fn decode_field(alloc: Global, reader: &mut R) -> Result<General<'a>, Error> {
-        match Tree::<'a>::decode_field(alloc, reader) {
-            Ok(OneOf::First(OneOf::First(value))) => Ok(General::Address(value)),
-            Ok(OneOf::First(OneOf::Other(value))) => Ok(General::Directory(value)),
-            Ok(OneOf::Other(OneOf::First(value))) => Ok(General::Number(value)),
-            Ok(OneOf::Other(OneOf::Other(value))) => Ok(General::Status(value)),
-            Err(e) => Err(e),
-        }
+        General::decode(alloc, reader)
     }
 
     ghost takes_memory_is = { refl };

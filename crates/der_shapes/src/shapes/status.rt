@@ -172,12 +172,7 @@ impl<'a, R: Source<'a>> DecodeField<'a, R> for Status {
     const TAKES_MEMORY: bool = false;
 
     fn decode_field(alloc: Global, reader: &mut R) -> Result<Status, Error> {
-        match Tree::decode_field(alloc, reader) {
-            Ok(OneOf::First(OneOf::First(value))) => Ok(Status::Good(value)),
-            Ok(OneOf::First(OneOf::Other(value))) => Ok(Status::Revoked(value)),
-            Ok(OneOf::Other(value)) => Ok(Status::Unknown(value)),
-            Err(e) => Err(e),
-        }
+        Status::decode(alloc, reader)
     }
 
     ghost takes_memory_is = { refl };
