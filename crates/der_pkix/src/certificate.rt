@@ -13,8 +13,8 @@ mod time;
 mod validity;
 
 pub use aliases::{
-    AlgorithmIdentifier, CertificateSerialNumber, UniqueIdentifier, VERSION_V1, VERSION_V2,
-    VERSION_V3, Version,
+    AlgorithmIdentifier, AlgorithmIdentifierOrder, CertificateSerialNumber, UniqueIdentifier,
+    VERSION_V1, VERSION_V2, VERSION_V3, Version,
 };
 pub use certificate::Certificate;
 pub use extension::Extension;

@@ -1,0 +1,271 @@
+//! RevocationInfoChoice, a CHOICE of 2 alternatives.
+//!
+//! Made by tools/asn1 from cms.asn1.
+
+ghost use Rattle.std.specs.Prelude.{◌≡◌, false, refl, true};
+ghost use Rattle.der_cms.specs.Cms.Grammar.{revocation_info_choice};
+ghost use Rattle.der_cms.specs.Cms.RevocationInfoChoice.{tree_of};
+ghost use Rattle.der_cms.specs.declared.cms.revocation_info_choice.RevocationInfoChoice.TheVariants as of;
+ghost use Rattle.der_elem.specs.Accepting.{IsTlv};
+ghost use Rattle.der_elem.specs.FirstTags.{HasFirstTag};
+ghost use Rattle.der_elem.specs.FormatMakers.{mapped_format};
+ghost use Rattle.der_elem.specs.KnownTagLaws.{known_either, own_is_known};
+ghost use Rattle.der_elem.specs.TaggedLaws.{tlv_tagged};
+ghost use Rattle.der_modules.specs.Asn1.{parse_of};
+ghost use Rattle.der_modules.specs.MemberLaws.{copies_of, either_copies, either_equality, either_tag, held_copies, one_tag, one_tag_copies, one_tag_equality, same_copies, seen_copies, seen_equality};
+ghost use Rattle.der_pkix.specs.contracts.crl.certificate_list.CertificateListContentsEq.TheImpl.Laws as certificate_list_contents_eq;
+ghost use Rattle.der_pkix.specs.contracts.crl.certificate_list.CertificateListDuplicateValue.TheImpl.Laws as certificate_list_duplicate_value;
+ghost use Rattle.der_pkix.specs.contracts.crl.certificate_list.CertificateListDuplicateValueIsEqual.TheImpl.Laws as certificate_list_duplicate_value_is_equal;
+ghost use Rattle.der_pkix.specs.contracts.name.attribute_type_and_value.AttributeTypeAndValueContentsEq.TheImpl.Laws as attribute_type_and_value_contents_eq;
+ghost use Rattle.der_pkix.specs.contracts.name.attribute_type_and_value.AttributeTypeAndValueEq.TheImpl.Laws as attribute_type_and_value_eq;
+
+use crate::cms::aliases::OtherRevocationInfoFormat;
+use der_elem::{
+    Choice, Decode, DecodeField, DerOrd, Duplicate, DuplicateIsEqual, EncodeValue, EncodingEq,
+    Form, FormValue, KnownTags, SequenceTag, TagMarker, Tagged,
+};
+use der_fields::{Implicit, ImplicitTag, OneOf, cmp_headers};
+use der_modules::CopyLaws;
+use der_nest::{ItemOrder, OrdersByEncoding};
+use der_pkix::crl::CertificateList;
+use der_pkix::name::AttributeTypeAndValue;
+use der_tlv::{Error, Length, Source, Tag, Writer};
+use std::alloc::Global;
+use std::cmp::Ordering;
+
+/// The alternatives, as a tree.
+type Tree<'a> = OneOf<CertificateList<'a>, Implicit<OtherRevocationInfoFormat<'a>, 1>>;
+
+/// ```text
+/// RevocationInfoChoice ::= CHOICE {
+///      crl        CertificateList,
+///      other  [1] IMPLICIT OtherRevocationInfoFormat }
+/// ```
+///
+/// Reading refuses a tag that no alternative has (`ErrorKind::TagUnexpected`, 4), and the
+/// alternative's faults.
+#[derive(Debug, PartialEq, Eq, Drop)]
+pub enum RevocationInfoChoice<'a> {
+    /// `crl`, `CertificateList`.
+    Crl(CertificateList<'a>),
+    /// `other`, `[1] IMPLICIT OtherRevocationInfoFormat`.
+    Other(Implicit<OtherRevocationInfoFormat<'a>, 1>),
+}
+
+impl<'a> Form for RevocationInfoChoice<'a> {
+    ghost encoding = { λ v. ⟦<Tree<'a> as Form>⟧.encoding (tree_of v) };
+
+    ghost comparable = { λ v w. ⟦<Tree<'a> as Form>⟧.comparable (tree_of v) (tree_of w) };
+
+    ghost re_reads = { λ v. ⟦<Tree<'a> as Form>⟧.re_reads (tree_of v) };
+
+    ghost accepts = { λ rules v. ⟦<Tree<'a> as Form>⟧.accepts rules (tree_of v) };
+
+    ghost parse = { ⟦<Tree<'a> as Form>⟧.parse };
+
+    ghost tags = { ⟦<Tree<'a> as Form>⟧.tags };
+
+    ghost first_tag_of = { λ v. ⟦<Tree<'a> as Form>⟧.first_tag_of (tree_of v) };
+
+    ghost readable = { λ v. ⟦<Tree<'a> as Form>⟧.readable (tree_of v) };
+
+    ghost TAKES_MEMORY = { ⟦<Tree<'a> as Form>⟧.TAKES_MEMORY };
+
+    ghost FAULTS_FIRST = { ⟦<Tree<'a> as Form>⟧.FAULTS_FIRST };
+
+    ghost parse_of_accepted = { λ rules v. ⟦<Tree<'a> as Form>⟧.parse_of_accepted rules (tree_of v) };
+
+    ghost faults_of_octets = { ⟦<Tree<'a> as Form>⟧.faults_of_octets };
+
+    ghost begins = { λ rules v. ⟦<Tree<'a> as Form>⟧.begins rules (tree_of v) };
+
+    ghost begins_first = { λ rules v. ⟦<Tree<'a> as Form>⟧.begins_first rules (tree_of v) };
+
+    ghost same_length = { λ rules v. ⟦<Tree<'a> as Form>⟧.same_length rules (tree_of v) };
+
+    ghost accepts_encoding = { λ rules v. ⟦<Tree<'a> as Form>⟧.accepts_encoding rules (tree_of v) };
+
+    ghost only_readable = { λ rules v. ⟦<Tree<'a> as Form>⟧.only_readable rules (tree_of v) };
+
+    ghost accepts_comparable = { λ rules v w. ⟦<Tree<'a> as Form>⟧.accepts_comparable rules (tree_of v) (tree_of w) };
+
+    ghost re_reads_memory = { λ v. ⟦<Tree<'a> as Form>⟧.re_reads_memory (tree_of v) };
+}
+
+impl<'a> FormValue for RevocationInfoChoice<'a> {
+    ghost value = { mapped_format tree_of ⟦<Tree<'a> as FormValue>⟧.value };
+}
+
+impl<'a> Tagged for RevocationInfoChoice<'a> {
+    ghost tag_of = { λ v. ⟦<Tree<'a> as Tagged>⟧.tag_of (tree_of v) };
+
+    fn tag(&self) -> Tag {
+        match self {
+            RevocationInfoChoice::Crl(value) => value.tag(),
+            RevocationInfoChoice::Other(value) => value.tag(),
+        }
+    }
+
+    ghost encoding_is = { λ v. (either_tag ⟦<CertificateList<'a> as Form>⟧ ⟦<Implicit<OtherRevocationInfoFormat<'a>, 1> as Form>⟧
+        (one_tag ⟦<SequenceTag as TagMarker>⟧.TAG ⟦<CertificateList<'a> as FormValue>⟧.value.contents)
+        (one_tag ⟦<ImplicitTag<SequenceTag, 1> as TagMarker>⟧.TAG ⟦<Implicit<OtherRevocationInfoFormat<'a>, 1> as FormValue>⟧.value.contents)).encoding_is (tree_of v) };
+
+    ghost accepted_is_tlv = { λ rules v b. elim v as (λ k. ⟦<Tree<'a> as Form>⟧.accepts rules (tree_of k) b → IsTlv b) [ of.Crl x ↦ λ a. tlv_tagged _ ⟦<CertificateList<'a> as FormValue>⟧.value.accepts rules x b a.0 | of.Other x ↦ λ a. tlv_tagged _ ⟦<Implicit<OtherRevocationInfoFormat<'a>, 1> as FormValue>⟧.value.accepts rules x b a.0 ] };
+
+    ghost own_tag = { λ v. (either_tag ⟦<CertificateList<'a> as Form>⟧ ⟦<Implicit<OtherRevocationInfoFormat<'a>, 1> as Form>⟧
+        (one_tag ⟦<SequenceTag as TagMarker>⟧.TAG ⟦<CertificateList<'a> as FormValue>⟧.value.contents)
+        (one_tag ⟦<ImplicitTag<SequenceTag, 1> as TagMarker>⟧.TAG ⟦<Implicit<OtherRevocationInfoFormat<'a>, 1> as FormValue>⟧.value.contents)).own_tag (tree_of v) };
+
+    ghost first_tag_is = { λ v. (either_tag ⟦<CertificateList<'a> as Form>⟧ ⟦<Implicit<OtherRevocationInfoFormat<'a>, 1> as Form>⟧
+        (one_tag ⟦<SequenceTag as TagMarker>⟧.TAG ⟦<CertificateList<'a> as FormValue>⟧.value.contents)
+        (one_tag ⟦<ImplicitTag<SequenceTag, 1> as TagMarker>⟧.TAG ⟦<Implicit<OtherRevocationInfoFormat<'a>, 1> as FormValue>⟧.value.contents)).first_tag_is (tree_of v) };
+
+    ghost re_reads_alike = { λ v. elim v as (λ k. ⟦<Tree<'a> as FormValue>⟧.value.re_reads (tree_of k) ≡ true → ⟦<Tree<'a> as Form>⟧.re_reads (tree_of k) ≡ true) [ of.Crl x ↦ λ h. h | of.Other x ↦ λ h. h ] };
+
+    ghost comparable_alike = { λ v w h. tt };
+}
+
+impl<'a> Choice for RevocationInfoChoice<'a> {
+    fn can_decode(tag: Tag) -> bool
+        ensures { result ≡ ⟦<Tree<'a> as Form>⟧.tags tag }
+    {
+        Tree::<'a>::can_decode(tag)
+    }
+
+    ghost has_first_tag = { λ v. elim v as (λ k. HasFirstTag (⟦<Tree<'a> as Form>⟧.first_tag_of (tree_of k))) [ of.Crl x ↦ record { tag = _; is_tag = refl } | of.Other x ↦ record { tag = _; is_tag = refl } ] };
+}
+
+impl<'a> KnownTags for RevocationInfoChoice<'a> {
+    ghost known_tags = { ⟦<Tree<'a> as KnownTags>⟧.known_tags };
+
+    ghost MAY_BE_ABSENT = { false };
+
+    ghost are_known = { (known_either ⟦<CertificateList<'a> as KnownTags>⟧.known_tags ⟦<Implicit<OtherRevocationInfoFormat<'a>, 1> as KnownTags>⟧.known_tags ⟦<CertificateList<'a> as Form>⟧.tags ⟦<Implicit<OtherRevocationInfoFormat<'a>, 1> as Form>⟧.tags (own_is_known _) (own_is_known _)) };
+
+    ghost is_there = { λ e v. elim v as (λ k. HasFirstTag (⟦<Tree<'a> as Form>⟧.first_tag_of (tree_of k))) [ of.Crl x ↦ record { tag = _; is_tag = refl } | of.Other x ↦ record { tag = _; is_tag = refl } ] };
+}
+
+impl<'a, R: Source<'a>> Decode<'a, R> for RevocationInfoChoice<'a> {
+    ghost TAKES_MEMORY = { true };
+
+    const TAKES_MEMORY: bool = true;
+
+    fn decode(alloc: Global, reader: &mut R) -> Result<RevocationInfoChoice<'a>, Error> {
+        match Tree::<'a>::decode(alloc, reader) {
+            Ok(OneOf::First(value)) => Ok(RevocationInfoChoice::Crl(value)),
+            Ok(OneOf::Other(value)) => Ok(RevocationInfoChoice::Other(value)),
+            Err(e) => Err(e),
+        }
+    }
+
+    ghost takes_memory_is = { refl };
+}
+
+impl<'a, R: Source<'a>> DecodeField<'a, R> for RevocationInfoChoice<'a> {
+    ghost TAKES_MEMORY = { true };
+
+    const TAKES_MEMORY: bool = true;
+
+    fn decode_field(alloc: Global, reader: &mut R) -> Result<RevocationInfoChoice<'a>, Error> {
+        match Tree::<'a>::decode_field(alloc, reader) {
+            Ok(OneOf::First(value)) => Ok(RevocationInfoChoice::Crl(value)),
+            Ok(OneOf::Other(value)) => Ok(RevocationInfoChoice::Other(value)),
+            Err(e) => Err(e),
+        }
+    }
+
+    ghost takes_memory_is = { refl };
+}
+
+impl<'a> EncodeValue for RevocationInfoChoice<'a> {
+    fn value_len(&self) -> Result<Length, Error> {
+        match self {
+            RevocationInfoChoice::Crl(value) => value.value_len(),
+            RevocationInfoChoice::Other(value) => value.value_len(),
+        }
+    }
+
+    fn encode_value<W: Writer>(&self, writer: &mut W) -> Result<(), Error> {
+        match self {
+            RevocationInfoChoice::Crl(value) => value.encode_value(writer),
+            RevocationInfoChoice::Other(value) => value.encode_value(writer),
+        }
+    }
+}
+
+impl<'a> DerOrd for RevocationInfoChoice<'a> {
+    fn der_cmp(&self, other: &RevocationInfoChoice<'a>) -> Result<Ordering, Error> {
+        match (self, other) {
+            (RevocationInfoChoice::Crl(value), RevocationInfoChoice::Crl(other)) => value.der_cmp(
+                other,
+            ),
+            (RevocationInfoChoice::Other(value), RevocationInfoChoice::Other(other)) =>
+                value.der_cmp(other),
+            _ => cmp_headers(self, other),
+        }
+    }
+}
+
+impl<'a> EncodingEq for RevocationInfoChoice<'a> {
+    ghost encoding_eq = { seen_equality tree_of ⟦<RevocationInfoChoice<'a> as PartialEq>⟧.eq ⟦<Tree<'a> as PartialEq>⟧.eq (λ v w. elim v as (λ k. ⟦<RevocationInfoChoice<'a> as PartialEq>⟧.eq k w ≡ ⟦<Tree<'a> as PartialEq>⟧.eq (tree_of k) (tree_of w)) [ of.Crl x ↦ elim w as (λ k. ⟦<RevocationInfoChoice<'a> as PartialEq>⟧.eq (of.Crl x) k ≡ ⟦<Tree<'a> as PartialEq>⟧.eq (tree_of (of.Crl x)) (tree_of k)) [ of.Crl y ↦ refl | of.Other y ↦ refl ] | of.Other x ↦ elim w as (λ k. ⟦<RevocationInfoChoice<'a> as PartialEq>⟧.eq (of.Other x) k ≡ ⟦<Tree<'a> as PartialEq>⟧.eq (tree_of (of.Other x)) (tree_of k)) [ of.Crl y ↦ refl | of.Other y ↦ refl ] ]) (either_equality ⟦<CertificateList<'a> as Form>⟧ ⟦<Implicit<OtherRevocationInfoFormat<'a>, 1> as Form>⟧
+        (one_tag ⟦<SequenceTag as TagMarker>⟧.TAG ⟦<CertificateList<'a> as FormValue>⟧.value.contents)
+        (one_tag ⟦<ImplicitTag<SequenceTag, 1> as TagMarker>⟧.TAG ⟦<Implicit<OtherRevocationInfoFormat<'a>, 1> as FormValue>⟧.value.contents)
+        ⟦<CertificateList<'a> as PartialEq>⟧.eq ⟦<Implicit<OtherRevocationInfoFormat<'a>, 1> as PartialEq>⟧.eq
+        (one_tag_equality ⟦<SequenceTag as TagMarker>⟧.TAG ⟦<CertificateList<'a> as FormValue>⟧.value.contents ⟦<CertificateList<'a> as FormValue>⟧.value.comparable ⟦<CertificateList<'a> as PartialEq>⟧.eq certificate_list_contents_eq.contents_eq-law)
+        (one_tag_equality ⟦<ImplicitTag<SequenceTag, 1> as TagMarker>⟧.TAG ⟦<Implicit<OtherRevocationInfoFormat<'a>, 1> as FormValue>⟧.value.contents ⟦<Implicit<OtherRevocationInfoFormat<'a>, 1> as FormValue>⟧.value.comparable ⟦<Implicit<OtherRevocationInfoFormat<'a>, 1> as PartialEq>⟧.eq (λ v w. (attribute_type_and_value_contents_eq.contents_eq-law v.value w.value)))
+        ⟦<OneOf<CertificateList<'a>, Implicit<OtherRevocationInfoFormat<'a>, 1>> as PartialEq>⟧.eq (λ v x. refl) (λ w y. refl) (λ v w. refl) (λ w v. refl)) };
+}
+
+impl<'a> CopyLaws for RevocationInfoChoice<'a> {
+    ghost copies = { copies_of ((seen_copies tree_of ⟦<RevocationInfoChoice<'a> as PartialEq>⟧.eq ⟦<Tree<'a> as PartialEq>⟧.eq (λ v w. elim v as (λ k. ⟦<RevocationInfoChoice<'a> as PartialEq>⟧.eq k w ≡ ⟦<Tree<'a> as PartialEq>⟧.eq (tree_of k) (tree_of w)) [ of.Crl x ↦ elim w as (λ k. ⟦<RevocationInfoChoice<'a> as PartialEq>⟧.eq (of.Crl x) k ≡ ⟦<Tree<'a> as PartialEq>⟧.eq (tree_of (of.Crl x)) (tree_of k)) [ of.Crl y ↦ refl | of.Other y ↦ refl ] | of.Other x ↦ elim w as (λ k. ⟦<RevocationInfoChoice<'a> as PartialEq>⟧.eq (of.Other x) k ≡ ⟦<Tree<'a> as PartialEq>⟧.eq (tree_of (of.Other x)) (tree_of k)) [ of.Crl y ↦ refl | of.Other y ↦ refl ] ]) (either_copies ⟦<CertificateList<'a> as Form>⟧ ⟦<Implicit<OtherRevocationInfoFormat<'a>, 1> as Form>⟧
+        (one_tag ⟦<SequenceTag as TagMarker>⟧.TAG ⟦<CertificateList<'a> as FormValue>⟧.value.contents)
+        (one_tag ⟦<ImplicitTag<SequenceTag, 1> as TagMarker>⟧.TAG ⟦<Implicit<OtherRevocationInfoFormat<'a>, 1> as FormValue>⟧.value.contents)
+        (one_tag_copies ⟦<SequenceTag as TagMarker>⟧.TAG (record { octets_are = certificate_list_duplicate_value.copy_contents-law; comparable_are = certificate_list_duplicate_value.copy_comparable_value-law; re_reads_are = certificate_list_duplicate_value.copy_re_reads_value-law; equal_are = certificate_list_duplicate_value_is_equal.copy_value_is_equal-law }))
+        (one_tag_copies ⟦<ImplicitTag<SequenceTag, 1> as TagMarker>⟧.TAG (held_copies (λ x. x.value) (same_copies ⟦<AttributeTypeAndValue<'a> as FormValue>⟧.value.contents ⟦<AttributeTypeAndValue<'a> as FormValue>⟧.value.comparable ⟦<AttributeTypeAndValue<'a> as FormValue>⟧.value.re_reads ⟦<AttributeTypeAndValue<'a> as PartialEq>⟧.eq attribute_type_and_value_eq.laws-law.refl)))
+        ⟦<OneOf<CertificateList<'a>, Implicit<OtherRevocationInfoFormat<'a>, 1>> as PartialEq>⟧.eq (λ v x. refl) (λ w y. refl)))) };
+}
+
+impl<'a> Duplicate for RevocationInfoChoice<'a> {
+    ghost is_copy = { λ v w. ⟦<Tree<'a> as Duplicate>⟧.is_copy (tree_of v) (tree_of w) };
+
+    ghost takes_memory_to_copy = { ⟦<Tree<'a> as Duplicate>⟧.takes_memory_to_copy };
+
+    fn duplicate(&self) -> Result<RevocationInfoChoice<'a>, Error> {
+        match self {
+            RevocationInfoChoice::Crl(value) => match value.duplicate() {
+                Ok(value) => Ok(RevocationInfoChoice::Crl(value)),
+                Err(e) => Err(e),
+            },
+            RevocationInfoChoice::Other(value) => match value.duplicate() {
+                Ok(value) => Ok(RevocationInfoChoice::Other(value)),
+                Err(e) => Err(e),
+            },
+        }
+    }
+
+    ghost copy_encoding = { ⟦<RevocationInfoChoice<'a> as CopyLaws>⟧.copies.laws.octets_are };
+
+    ghost copy_comparable = { ⟦<RevocationInfoChoice<'a> as CopyLaws>⟧.copies.laws.comparable_are };
+
+    ghost copy_re_reads = { ⟦<RevocationInfoChoice<'a> as CopyLaws>⟧.copies.laws.re_reads_are };
+}
+
+impl<'a> DuplicateIsEqual for RevocationInfoChoice<'a> {
+    ghost copy_is_equal = { ⟦<RevocationInfoChoice<'a> as CopyLaws>⟧.copies.laws.equal_are };
+}
+
+/// The order of a SET OF `RevocationInfoChoice<'a>`: that of the encodings (X.690 11.6).
+pub struct RevocationInfoChoiceOrder;
+
+impl<'a> ItemOrder<RevocationInfoChoice<'a>> for RevocationInfoChoiceOrder {
+    ghost item_encoding = { ⟦<RevocationInfoChoice<'a> as Form>⟧.encoding };
+}
+
+impl<'a> OrdersByEncoding<RevocationInfoChoice<'a>> for RevocationInfoChoiceOrder {
+    ghost is_encoding = { refl };
+}
+
+/// What is read as `RevocationInfoChoice` is what the page of the grammar says.
+pub fn grammar_of_revocation_info_choice<'a>()
+    ensures { ⟦<RevocationInfoChoice<'a> as Form>⟧.parse ≡ parse_of revocation_info_choice }
+{}

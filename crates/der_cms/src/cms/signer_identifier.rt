@@ -1,0 +1,245 @@
+//! SignerIdentifier, a CHOICE of 2 alternatives.
+//!
+//! Made by tools/asn1 from cms.asn1.
+
+ghost use Rattle.std.specs.Prelude.{◌≡◌, false, refl, true};
+ghost use Rattle.der_cms.specs.Cms.Grammar.{signer_identifier};
+ghost use Rattle.der_cms.specs.Cms.SignerIdentifier.{tree_of};
+ghost use Rattle.der_cms.specs.contracts.cms.issuer_and_serial_number.IssuerAndSerialNumberContentsEq.TheImpl.Laws as issuer_and_serial_number_contents_eq;
+ghost use Rattle.der_cms.specs.contracts.cms.signer_identifier.SignerIdentifierEq.TheImpl.Laws as signer_identifier_eq;
+ghost use Rattle.der_cms.specs.declared.cms.signer_identifier.SignerIdentifier.TheVariants as of;
+ghost use Rattle.der_elem.specs.Accepting.{IsTlv};
+ghost use Rattle.der_elem.specs.FirstTags.{HasFirstTag};
+ghost use Rattle.der_elem.specs.FormatMakers.{mapped_format};
+ghost use Rattle.der_elem.specs.KnownTagLaws.{known_either, own_is_known};
+ghost use Rattle.der_elem.specs.TaggedLaws.{tlv_tagged};
+ghost use Rattle.der_modules.specs.Asn1.{parse_of};
+ghost use Rattle.der_modules.specs.MemberLaws.{copies_of, either_equality, either_tag, one_tag, one_tag_equality, same_copies, seen_equality};
+ghost use Rattle.der_opaque.specs.contracts.octet_string_ref.OctetStringRefContentsEq.TheImpl.Laws as octetstringref_contents_eq;
+
+use crate::cms::issuer_and_serial_number::IssuerAndSerialNumber;
+use der_elem::{
+    Choice, Decode, DecodeField, DerOrd, Duplicate, DuplicateIsEqual, EncodeValue, EncodingEq,
+    Form, FormValue, KnownTags, OctetStringTag, SequenceTag, TagMarker, Tagged,
+};
+use der_extensions::extension::SubjectKeyIdentifier;
+use der_fields::{Implicit, ImplicitTag, OneOf, cmp_headers};
+use der_modules::{CopyLaws, copy_of};
+use der_tlv::{Error, Length, Source, Tag, Writer};
+use std::alloc::Global;
+use std::cmp::Ordering;
+
+/// The alternatives, as a tree.
+type Tree<'a> = OneOf<IssuerAndSerialNumber<'a>, Implicit<SubjectKeyIdentifier<'a>, 0>>;
+
+/// ```text
+/// SignerIdentifier ::= CHOICE {
+///      issuerAndSerialNumber     IssuerAndSerialNumber,
+///      subjectKeyIdentifier  [0] SubjectKeyIdentifier }
+/// ```
+///
+/// Reading refuses a tag that no alternative has (`ErrorKind::TagUnexpected`, 4), and the
+/// alternative's faults.
+#[derive(Clone, Copy, Debug, PartialEq, Eq)]
+pub enum SignerIdentifier<'a> {
+    /// `issuerAndSerialNumber`, `IssuerAndSerialNumber`.
+    IssuerAndSerialNumber(IssuerAndSerialNumber<'a>),
+    /// `subjectKeyIdentifier`, `[0] SubjectKeyIdentifier`.
+    SubjectKeyIdentifier(Implicit<SubjectKeyIdentifier<'a>, 0>),
+}
+
+impl<'a> Form for SignerIdentifier<'a> {
+    ghost encoding = { λ v. ⟦<Tree<'a> as Form>⟧.encoding (tree_of v) };
+
+    ghost comparable = { λ v w. ⟦<Tree<'a> as Form>⟧.comparable (tree_of v) (tree_of w) };
+
+    ghost re_reads = { λ v. ⟦<Tree<'a> as Form>⟧.re_reads (tree_of v) };
+
+    ghost accepts = { λ rules v. ⟦<Tree<'a> as Form>⟧.accepts rules (tree_of v) };
+
+    ghost parse = { ⟦<Tree<'a> as Form>⟧.parse };
+
+    ghost tags = { ⟦<Tree<'a> as Form>⟧.tags };
+
+    ghost first_tag_of = { λ v. ⟦<Tree<'a> as Form>⟧.first_tag_of (tree_of v) };
+
+    ghost readable = { λ v. ⟦<Tree<'a> as Form>⟧.readable (tree_of v) };
+
+    ghost TAKES_MEMORY = { ⟦<Tree<'a> as Form>⟧.TAKES_MEMORY };
+
+    ghost FAULTS_FIRST = { ⟦<Tree<'a> as Form>⟧.FAULTS_FIRST };
+
+    ghost parse_of_accepted = { λ rules v. ⟦<Tree<'a> as Form>⟧.parse_of_accepted rules (tree_of v) };
+
+    ghost faults_of_octets = { ⟦<Tree<'a> as Form>⟧.faults_of_octets };
+
+    ghost begins = { λ rules v. ⟦<Tree<'a> as Form>⟧.begins rules (tree_of v) };
+
+    ghost begins_first = { λ rules v. ⟦<Tree<'a> as Form>⟧.begins_first rules (tree_of v) };
+
+    ghost same_length = { λ rules v. ⟦<Tree<'a> as Form>⟧.same_length rules (tree_of v) };
+
+    ghost accepts_encoding = { λ rules v. ⟦<Tree<'a> as Form>⟧.accepts_encoding rules (tree_of v) };
+
+    ghost only_readable = { λ rules v. ⟦<Tree<'a> as Form>⟧.only_readable rules (tree_of v) };
+
+    ghost accepts_comparable = { λ rules v w. ⟦<Tree<'a> as Form>⟧.accepts_comparable rules (tree_of v) (tree_of w) };
+
+    ghost re_reads_memory = { λ v. ⟦<Tree<'a> as Form>⟧.re_reads_memory (tree_of v) };
+}
+
+impl<'a> FormValue for SignerIdentifier<'a> {
+    ghost value = { mapped_format tree_of ⟦<Tree<'a> as FormValue>⟧.value };
+}
+
+impl<'a> Tagged for SignerIdentifier<'a> {
+    ghost tag_of = { λ v. ⟦<Tree<'a> as Tagged>⟧.tag_of (tree_of v) };
+
+    fn tag(&self) -> Tag {
+        match self {
+            SignerIdentifier::IssuerAndSerialNumber(value) => value.tag(),
+            SignerIdentifier::SubjectKeyIdentifier(value) => value.tag(),
+        }
+    }
+
+    ghost encoding_is = { λ v. (either_tag ⟦<IssuerAndSerialNumber<'a> as Form>⟧ ⟦<Implicit<SubjectKeyIdentifier<'a>, 0> as Form>⟧
+        (one_tag ⟦<SequenceTag as TagMarker>⟧.TAG ⟦<IssuerAndSerialNumber<'a> as FormValue>⟧.value.contents)
+        (one_tag ⟦<ImplicitTag<OctetStringTag, 0> as TagMarker>⟧.TAG ⟦<Implicit<SubjectKeyIdentifier<'a>, 0> as FormValue>⟧.value.contents)).encoding_is (tree_of v) };
+
+    ghost accepted_is_tlv = { λ rules v b. elim v as (λ k. ⟦<Tree<'a> as Form>⟧.accepts rules (tree_of k) b → IsTlv b) [ of.IssuerAndSerialNumber x ↦ λ a. tlv_tagged _ ⟦<IssuerAndSerialNumber<'a> as FormValue>⟧.value.accepts rules x b a.0 | of.SubjectKeyIdentifier x ↦ λ a. tlv_tagged _ ⟦<Implicit<SubjectKeyIdentifier<'a>, 0> as FormValue>⟧.value.accepts rules x b a.0 ] };
+
+    ghost own_tag = { λ v. (either_tag ⟦<IssuerAndSerialNumber<'a> as Form>⟧ ⟦<Implicit<SubjectKeyIdentifier<'a>, 0> as Form>⟧
+        (one_tag ⟦<SequenceTag as TagMarker>⟧.TAG ⟦<IssuerAndSerialNumber<'a> as FormValue>⟧.value.contents)
+        (one_tag ⟦<ImplicitTag<OctetStringTag, 0> as TagMarker>⟧.TAG ⟦<Implicit<SubjectKeyIdentifier<'a>, 0> as FormValue>⟧.value.contents)).own_tag (tree_of v) };
+
+    ghost first_tag_is = { λ v. (either_tag ⟦<IssuerAndSerialNumber<'a> as Form>⟧ ⟦<Implicit<SubjectKeyIdentifier<'a>, 0> as Form>⟧
+        (one_tag ⟦<SequenceTag as TagMarker>⟧.TAG ⟦<IssuerAndSerialNumber<'a> as FormValue>⟧.value.contents)
+        (one_tag ⟦<ImplicitTag<OctetStringTag, 0> as TagMarker>⟧.TAG ⟦<Implicit<SubjectKeyIdentifier<'a>, 0> as FormValue>⟧.value.contents)).first_tag_is (tree_of v) };
+
+    ghost re_reads_alike = { λ v. elim v as (λ k. ⟦<Tree<'a> as FormValue>⟧.value.re_reads (tree_of k) ≡ true → ⟦<Tree<'a> as Form>⟧.re_reads (tree_of k) ≡ true) [ of.IssuerAndSerialNumber x ↦ λ h. h | of.SubjectKeyIdentifier x ↦ λ h. h ] };
+
+    ghost comparable_alike = { λ v w h. tt };
+}
+
+impl<'a> Choice for SignerIdentifier<'a> {
+    fn can_decode(tag: Tag) -> bool
+        ensures { result ≡ ⟦<Tree<'a> as Form>⟧.tags tag }
+    {
+        Tree::<'a>::can_decode(tag)
+    }
+
+    ghost has_first_tag = { λ v. elim v as (λ k. HasFirstTag (⟦<Tree<'a> as Form>⟧.first_tag_of (tree_of k))) [ of.IssuerAndSerialNumber x ↦ record { tag = _; is_tag = refl } | of.SubjectKeyIdentifier x ↦ record { tag = _; is_tag = refl } ] };
+}
+
+impl<'a> KnownTags for SignerIdentifier<'a> {
+    ghost known_tags = { ⟦<Tree<'a> as KnownTags>⟧.known_tags };
+
+    ghost MAY_BE_ABSENT = { false };
+
+    ghost are_known = { (known_either ⟦<IssuerAndSerialNumber<'a> as KnownTags>⟧.known_tags ⟦<Implicit<SubjectKeyIdentifier<'a>, 0> as KnownTags>⟧.known_tags ⟦<IssuerAndSerialNumber<'a> as Form>⟧.tags ⟦<Implicit<SubjectKeyIdentifier<'a>, 0> as Form>⟧.tags (own_is_known _) (own_is_known _)) };
+
+    ghost is_there = { λ e v. elim v as (λ k. HasFirstTag (⟦<Tree<'a> as Form>⟧.first_tag_of (tree_of k))) [ of.IssuerAndSerialNumber x ↦ record { tag = _; is_tag = refl } | of.SubjectKeyIdentifier x ↦ record { tag = _; is_tag = refl } ] };
+}
+
+impl<'a, R: Source<'a>> Decode<'a, R> for SignerIdentifier<'a> {
+    ghost TAKES_MEMORY = { true };
+
+    const TAKES_MEMORY: bool = true;
+
+    fn decode(alloc: Global, reader: &mut R) -> Result<SignerIdentifier<'a>, Error> {
+        match Tree::<'a>::decode(alloc, reader) {
+            Ok(OneOf::First(value)) => Ok(SignerIdentifier::IssuerAndSerialNumber(value)),
+            Ok(OneOf::Other(value)) => Ok(SignerIdentifier::SubjectKeyIdentifier(value)),
+            Err(e) => Err(e),
+        }
+    }
+
+    ghost takes_memory_is = { refl };
+}
+
+impl<'a, R: Source<'a>> DecodeField<'a, R> for SignerIdentifier<'a> {
+    ghost TAKES_MEMORY = { true };
+
+    const TAKES_MEMORY: bool = true;
+
+    fn decode_field(alloc: Global, reader: &mut R) -> Result<SignerIdentifier<'a>, Error> {
+        match Tree::<'a>::decode_field(alloc, reader) {
+            Ok(OneOf::First(value)) => Ok(SignerIdentifier::IssuerAndSerialNumber(value)),
+            Ok(OneOf::Other(value)) => Ok(SignerIdentifier::SubjectKeyIdentifier(value)),
+            Err(e) => Err(e),
+        }
+    }
+
+    ghost takes_memory_is = { refl };
+}
+
+impl<'a> EncodeValue for SignerIdentifier<'a> {
+    fn value_len(&self) -> Result<Length, Error> {
+        match self {
+            SignerIdentifier::IssuerAndSerialNumber(value) => value.value_len(),
+            SignerIdentifier::SubjectKeyIdentifier(value) => value.value_len(),
+        }
+    }
+
+    fn encode_value<W: Writer>(&self, writer: &mut W) -> Result<(), Error> {
+        match self {
+            SignerIdentifier::IssuerAndSerialNumber(value) => value.encode_value(writer),
+            SignerIdentifier::SubjectKeyIdentifier(value) => value.encode_value(writer),
+        }
+    }
+}
+
+impl<'a> DerOrd for SignerIdentifier<'a> {
+    fn der_cmp(&self, other: &SignerIdentifier<'a>) -> Result<Ordering, Error> {
+        match (self, other) {
+            (
+                SignerIdentifier::IssuerAndSerialNumber(value),
+                SignerIdentifier::IssuerAndSerialNumber(other),
+            ) => value.der_cmp(other),
+            (
+                SignerIdentifier::SubjectKeyIdentifier(value),
+                SignerIdentifier::SubjectKeyIdentifier(other),
+            ) => value.der_cmp(other),
+            _ => cmp_headers(self, other),
+        }
+    }
+}
+
+impl<'a> EncodingEq for SignerIdentifier<'a> {
+    ghost encoding_eq = { seen_equality tree_of ⟦<SignerIdentifier<'a> as PartialEq>⟧.eq ⟦<Tree<'a> as PartialEq>⟧.eq (λ v w. elim v as (λ k. ⟦<SignerIdentifier<'a> as PartialEq>⟧.eq k w ≡ ⟦<Tree<'a> as PartialEq>⟧.eq (tree_of k) (tree_of w)) [ of.IssuerAndSerialNumber x ↦ elim w as (λ k. ⟦<SignerIdentifier<'a> as PartialEq>⟧.eq (of.IssuerAndSerialNumber x) k ≡ ⟦<Tree<'a> as PartialEq>⟧.eq (tree_of (of.IssuerAndSerialNumber x)) (tree_of k)) [ of.IssuerAndSerialNumber y ↦ refl | of.SubjectKeyIdentifier y ↦ refl ] | of.SubjectKeyIdentifier x ↦ elim w as (λ k. ⟦<SignerIdentifier<'a> as PartialEq>⟧.eq (of.SubjectKeyIdentifier x) k ≡ ⟦<Tree<'a> as PartialEq>⟧.eq (tree_of (of.SubjectKeyIdentifier x)) (tree_of k)) [ of.IssuerAndSerialNumber y ↦ refl | of.SubjectKeyIdentifier y ↦ refl ] ]) (either_equality ⟦<IssuerAndSerialNumber<'a> as Form>⟧ ⟦<Implicit<SubjectKeyIdentifier<'a>, 0> as Form>⟧
+        (one_tag ⟦<SequenceTag as TagMarker>⟧.TAG ⟦<IssuerAndSerialNumber<'a> as FormValue>⟧.value.contents)
+        (one_tag ⟦<ImplicitTag<OctetStringTag, 0> as TagMarker>⟧.TAG ⟦<Implicit<SubjectKeyIdentifier<'a>, 0> as FormValue>⟧.value.contents)
+        ⟦<IssuerAndSerialNumber<'a> as PartialEq>⟧.eq ⟦<Implicit<SubjectKeyIdentifier<'a>, 0> as PartialEq>⟧.eq
+        (one_tag_equality ⟦<SequenceTag as TagMarker>⟧.TAG ⟦<IssuerAndSerialNumber<'a> as FormValue>⟧.value.contents ⟦<IssuerAndSerialNumber<'a> as FormValue>⟧.value.comparable ⟦<IssuerAndSerialNumber<'a> as PartialEq>⟧.eq issuer_and_serial_number_contents_eq.contents_eq-law)
+        (one_tag_equality ⟦<ImplicitTag<OctetStringTag, 0> as TagMarker>⟧.TAG ⟦<Implicit<SubjectKeyIdentifier<'a>, 0> as FormValue>⟧.value.contents ⟦<Implicit<SubjectKeyIdentifier<'a>, 0> as FormValue>⟧.value.comparable ⟦<Implicit<SubjectKeyIdentifier<'a>, 0> as PartialEq>⟧.eq (λ v w. (octetstringref_contents_eq.contents_eq-law v.value w.value)))
+        ⟦<OneOf<IssuerAndSerialNumber<'a>, Implicit<SubjectKeyIdentifier<'a>, 0>> as PartialEq>⟧.eq (λ v x. refl) (λ w y. refl) (λ v w. refl) (λ w v. refl)) };
+}
+
+impl<'a> CopyLaws for SignerIdentifier<'a> {
+    ghost copies = { copies_of ((same_copies ⟦<SignerIdentifier<'a> as Form>⟧.encoding ⟦<SignerIdentifier<'a> as Form>⟧.comparable ⟦<SignerIdentifier<'a> as Form>⟧.re_reads ⟦<SignerIdentifier<'a> as PartialEq>⟧.eq signer_identifier_eq.laws-law.refl)) };
+}
+
+impl<'a> Duplicate for SignerIdentifier<'a> {
+    ghost is_copy = { λ v w. w ≡ v };
+
+    ghost takes_memory_to_copy = { false };
+
+    fn duplicate(&self) -> Result<SignerIdentifier<'a>, Error> {
+        Ok(copy_of(self))
+    }
+
+    ghost copy_encoding = { ⟦<SignerIdentifier<'a> as CopyLaws>⟧.copies.laws.octets_are };
+
+    ghost copy_comparable = { ⟦<SignerIdentifier<'a> as CopyLaws>⟧.copies.laws.comparable_are };
+
+    ghost copy_re_reads = { ⟦<SignerIdentifier<'a> as CopyLaws>⟧.copies.laws.re_reads_are };
+}
+
+impl<'a> DuplicateIsEqual for SignerIdentifier<'a> {
+    ghost copy_is_equal = { ⟦<SignerIdentifier<'a> as CopyLaws>⟧.copies.laws.equal_are };
+}
+
+/// What is read as `SignerIdentifier` is what the page of the grammar says.
+pub fn grammar_of_signer_identifier<'a>()
+    ensures { ⟦<SignerIdentifier<'a> as Form>⟧.parse ≡ parse_of signer_identifier }
+{}

@@ -1,0 +1,261 @@
+//! CertStatus, a CHOICE of 3 alternatives.
+//!
+//! Made by tools/asn1 from ocsp.asn1.
+
+ghost use Rattle.std.specs.Prelude.{◌≡◌, false, refl, true};
+ghost use Rattle.der_elem.specs.Accepting.{IsTlv};
+ghost use Rattle.der_elem.specs.FirstTags.{HasFirstTag};
+ghost use Rattle.der_elem.specs.FormatMakers.{mapped_format};
+ghost use Rattle.der_elem.specs.KnownTagLaws.{known_either, own_is_known};
+ghost use Rattle.der_elem.specs.TaggedLaws.{tlv_tagged};
+ghost use Rattle.der_modules.specs.Asn1.{parse_of};
+ghost use Rattle.der_modules.specs.MemberLaws.{copies_of, either_equality, either_tag, one_tag, one_tag_equality, same_copies, seen_equality};
+ghost use Rattle.der_ocsp.specs.Ocsp.CertStatus.{tree_of};
+ghost use Rattle.der_ocsp.specs.Ocsp.Grammar.{cert_status};
+ghost use Rattle.der_ocsp.specs.contracts.ocsp.cert_status.CertStatusEq.TheImpl.Laws as cert_status_eq;
+ghost use Rattle.der_ocsp.specs.contracts.ocsp.revoked_info.RevokedInfoContentsEq.TheImpl.Laws as revoked_info_contents_eq;
+ghost use Rattle.der_ocsp.specs.declared.ocsp.cert_status.CertStatus.TheVariants as of;
+ghost use Rattle.der_opaque.specs.contracts.null.NullContentsEq.TheImpl.Laws as null_contents_eq;
+
+use crate::ocsp::aliases::UnknownInfo;
+use crate::ocsp::revoked_info::RevokedInfo;
+use der_elem::{
+    Choice, Decode, DecodeField, DerOrd, Duplicate, DuplicateIsEqual, EncodeValue, EncodingEq,
+    Form, FormValue, KnownTags, NullTag, SequenceTag, TagMarker, Tagged,
+};
+use der_fields::{Implicit, ImplicitTag, OneOf, cmp_headers};
+use der_modules::{CopyLaws, copy_of};
+use der_opaque::Null;
+use der_tlv::{Error, Length, Source, Tag, Writer};
+use std::alloc::Global;
+use std::cmp::Ordering;
+
+/// The alternatives, as a tree.
+type Tree = OneOf<OneOf<Implicit<Null, 0>, Implicit<RevokedInfo, 1>>, Implicit<UnknownInfo, 2>>;
+
+/// ```text
+/// CertStatus ::= CHOICE {
+///      good     [0] IMPLICIT NULL,
+///      revoked  [1] IMPLICIT RevokedInfo,
+///      unknown  [2] IMPLICIT UnknownInfo }
+/// ```
+///
+/// Reading refuses a tag that no alternative has (`ErrorKind::TagUnexpected`, 4), and the
+/// alternative's faults.
+#[derive(Clone, Copy, Debug, PartialEq, Eq)]
+pub enum CertStatus {
+    /// `good`, `[0] IMPLICIT NULL`.
+    Good(Implicit<Null, 0>),
+    /// `revoked`, `[1] IMPLICIT RevokedInfo`.
+    Revoked(Implicit<RevokedInfo, 1>),
+    /// `unknown`, `[2] IMPLICIT UnknownInfo`.
+    Unknown(Implicit<UnknownInfo, 2>),
+}
+
+impl Form for CertStatus {
+    ghost encoding = { λ v. ⟦<Tree as Form>⟧.encoding (tree_of v) };
+
+    ghost comparable = { λ v w. ⟦<Tree as Form>⟧.comparable (tree_of v) (tree_of w) };
+
+    ghost re_reads = { λ v. ⟦<Tree as Form>⟧.re_reads (tree_of v) };
+
+    ghost accepts = { λ rules v. ⟦<Tree as Form>⟧.accepts rules (tree_of v) };
+
+    ghost parse = { ⟦<Tree as Form>⟧.parse };
+
+    ghost tags = { ⟦<Tree as Form>⟧.tags };
+
+    ghost first_tag_of = { λ v. ⟦<Tree as Form>⟧.first_tag_of (tree_of v) };
+
+    ghost readable = { λ v. ⟦<Tree as Form>⟧.readable (tree_of v) };
+
+    ghost TAKES_MEMORY = { ⟦<Tree as Form>⟧.TAKES_MEMORY };
+
+    ghost FAULTS_FIRST = { ⟦<Tree as Form>⟧.FAULTS_FIRST };
+
+    ghost parse_of_accepted = { λ rules v. ⟦<Tree as Form>⟧.parse_of_accepted rules (tree_of v) };
+
+    ghost faults_of_octets = { ⟦<Tree as Form>⟧.faults_of_octets };
+
+    ghost begins = { λ rules v. ⟦<Tree as Form>⟧.begins rules (tree_of v) };
+
+    ghost begins_first = { λ rules v. ⟦<Tree as Form>⟧.begins_first rules (tree_of v) };
+
+    ghost same_length = { λ rules v. ⟦<Tree as Form>⟧.same_length rules (tree_of v) };
+
+    ghost accepts_encoding = { λ rules v. ⟦<Tree as Form>⟧.accepts_encoding rules (tree_of v) };
+
+    ghost only_readable = { λ rules v. ⟦<Tree as Form>⟧.only_readable rules (tree_of v) };
+
+    ghost accepts_comparable = { λ rules v w. ⟦<Tree as Form>⟧.accepts_comparable rules (tree_of v) (tree_of w) };
+
+    ghost re_reads_memory = { λ v. ⟦<Tree as Form>⟧.re_reads_memory (tree_of v) };
+}
+
+impl FormValue for CertStatus {
+    ghost value = { mapped_format tree_of ⟦<Tree as FormValue>⟧.value };
+}
+
+impl Tagged for CertStatus {
+    ghost tag_of = { λ v. ⟦<Tree as Tagged>⟧.tag_of (tree_of v) };
+
+    fn tag(&self) -> Tag {
+        match self {
+            CertStatus::Good(value) => value.tag(),
+            CertStatus::Revoked(value) => value.tag(),
+            CertStatus::Unknown(value) => value.tag(),
+        }
+    }
+
+    ghost encoding_is = { λ v. (either_tag ⟦<OneOf<Implicit<Null, 0>, Implicit<RevokedInfo, 1>> as Form>⟧ ⟦<Implicit<UnknownInfo, 2> as Form>⟧
+        (either_tag ⟦<Implicit<Null, 0> as Form>⟧ ⟦<Implicit<RevokedInfo, 1> as Form>⟧
+        (one_tag ⟦<ImplicitTag<NullTag, 0> as TagMarker>⟧.TAG ⟦<Implicit<Null, 0> as FormValue>⟧.value.contents)
+        (one_tag ⟦<ImplicitTag<SequenceTag, 1> as TagMarker>⟧.TAG ⟦<Implicit<RevokedInfo, 1> as FormValue>⟧.value.contents))
+        (one_tag ⟦<ImplicitTag<NullTag, 2> as TagMarker>⟧.TAG ⟦<Implicit<UnknownInfo, 2> as FormValue>⟧.value.contents)).encoding_is (tree_of v) };
+
+    ghost accepted_is_tlv = { λ rules v b. elim v as (λ k. ⟦<Tree as Form>⟧.accepts rules (tree_of k) b → IsTlv b) [ of.Good x ↦ λ a. tlv_tagged _ ⟦<Implicit<Null, 0> as FormValue>⟧.value.accepts rules x b a.0.0 | of.Revoked x ↦ λ a. tlv_tagged _ ⟦<Implicit<RevokedInfo, 1> as FormValue>⟧.value.accepts rules x b a.0.0 | of.Unknown x ↦ λ a. tlv_tagged _ ⟦<Implicit<UnknownInfo, 2> as FormValue>⟧.value.accepts rules x b a.0 ] };
+
+    ghost own_tag = { λ v. (either_tag ⟦<OneOf<Implicit<Null, 0>, Implicit<RevokedInfo, 1>> as Form>⟧ ⟦<Implicit<UnknownInfo, 2> as Form>⟧
+        (either_tag ⟦<Implicit<Null, 0> as Form>⟧ ⟦<Implicit<RevokedInfo, 1> as Form>⟧
+        (one_tag ⟦<ImplicitTag<NullTag, 0> as TagMarker>⟧.TAG ⟦<Implicit<Null, 0> as FormValue>⟧.value.contents)
+        (one_tag ⟦<ImplicitTag<SequenceTag, 1> as TagMarker>⟧.TAG ⟦<Implicit<RevokedInfo, 1> as FormValue>⟧.value.contents))
+        (one_tag ⟦<ImplicitTag<NullTag, 2> as TagMarker>⟧.TAG ⟦<Implicit<UnknownInfo, 2> as FormValue>⟧.value.contents)).own_tag (tree_of v) };
+
+    ghost first_tag_is = { λ v. (either_tag ⟦<OneOf<Implicit<Null, 0>, Implicit<RevokedInfo, 1>> as Form>⟧ ⟦<Implicit<UnknownInfo, 2> as Form>⟧
+        (either_tag ⟦<Implicit<Null, 0> as Form>⟧ ⟦<Implicit<RevokedInfo, 1> as Form>⟧
+        (one_tag ⟦<ImplicitTag<NullTag, 0> as TagMarker>⟧.TAG ⟦<Implicit<Null, 0> as FormValue>⟧.value.contents)
+        (one_tag ⟦<ImplicitTag<SequenceTag, 1> as TagMarker>⟧.TAG ⟦<Implicit<RevokedInfo, 1> as FormValue>⟧.value.contents))
+        (one_tag ⟦<ImplicitTag<NullTag, 2> as TagMarker>⟧.TAG ⟦<Implicit<UnknownInfo, 2> as FormValue>⟧.value.contents)).first_tag_is (tree_of v) };
+
+    ghost re_reads_alike = { λ v. elim v as (λ k. ⟦<Tree as FormValue>⟧.value.re_reads (tree_of k) ≡ true → ⟦<Tree as Form>⟧.re_reads (tree_of k) ≡ true) [ of.Good x ↦ λ h. h | of.Revoked x ↦ λ h. h | of.Unknown x ↦ λ h. h ] };
+
+    ghost comparable_alike = { λ v w h. tt };
+}
+
+impl Choice for CertStatus {
+    fn can_decode(tag: Tag) -> bool {
+        Tree::can_decode(tag)
+    }
+
+    ghost has_first_tag = { λ v. elim v as (λ k. HasFirstTag (⟦<Tree as Form>⟧.first_tag_of (tree_of k))) [ of.Good x ↦ record { tag = _; is_tag = refl } | of.Revoked x ↦ record { tag = _; is_tag = refl } | of.Unknown x ↦ record { tag = _; is_tag = refl } ] };
+}
+
+impl KnownTags for CertStatus {
+    ghost known_tags = { ⟦<Tree as KnownTags>⟧.known_tags };
+
+    ghost MAY_BE_ABSENT = { false };
+
+    ghost are_known = { (known_either ⟦<OneOf<Implicit<Null, 0>, Implicit<RevokedInfo, 1>> as KnownTags>⟧.known_tags ⟦<Implicit<UnknownInfo, 2> as KnownTags>⟧.known_tags ⟦<OneOf<Implicit<Null, 0>, Implicit<RevokedInfo, 1>> as Form>⟧.tags ⟦<Implicit<UnknownInfo, 2> as Form>⟧.tags (known_either ⟦<Implicit<Null, 0> as KnownTags>⟧.known_tags ⟦<Implicit<RevokedInfo, 1> as KnownTags>⟧.known_tags ⟦<Implicit<Null, 0> as Form>⟧.tags ⟦<Implicit<RevokedInfo, 1> as Form>⟧.tags (own_is_known _) (own_is_known _)) (own_is_known _)) };
+
+    ghost is_there = { λ e v. elim v as (λ k. HasFirstTag (⟦<Tree as Form>⟧.first_tag_of (tree_of k))) [ of.Good x ↦ record { tag = _; is_tag = refl } | of.Revoked x ↦ record { tag = _; is_tag = refl } | of.Unknown x ↦ record { tag = _; is_tag = refl } ] };
+}
+
+impl<'a, R: Source<'a>> Decode<'a, R> for CertStatus {
+    ghost TAKES_MEMORY = { false };
+
+    const TAKES_MEMORY: bool = false;
+
+    fn decode(alloc: Global, reader: &mut R) -> Result<CertStatus, Error> {
+        match Tree::decode(alloc, reader) {
+            Ok(OneOf::First(OneOf::First(value))) => Ok(CertStatus::Good(value)),
+            Ok(OneOf::First(OneOf::Other(value))) => Ok(CertStatus::Revoked(value)),
+            Ok(OneOf::Other(value)) => Ok(CertStatus::Unknown(value)),
+            Err(e) => Err(e),
+        }
+    }
+
+    ghost takes_memory_is = { refl };
+}
+
+impl<'a, R: Source<'a>> DecodeField<'a, R> for CertStatus {
+    ghost TAKES_MEMORY = { false };
+
+    const TAKES_MEMORY: bool = false;
+
+    fn decode_field(alloc: Global, reader: &mut R) -> Result<CertStatus, Error> {
+        match Tree::decode_field(alloc, reader) {
+            Ok(OneOf::First(OneOf::First(value))) => Ok(CertStatus::Good(value)),
+            Ok(OneOf::First(OneOf::Other(value))) => Ok(CertStatus::Revoked(value)),
+            Ok(OneOf::Other(value)) => Ok(CertStatus::Unknown(value)),
+            Err(e) => Err(e),
+        }
+    }
+
+    ghost takes_memory_is = { refl };
+}
+
+impl EncodeValue for CertStatus {
+    fn value_len(&self) -> Result<Length, Error> {
+        match self {
+            CertStatus::Good(value) => value.value_len(),
+            CertStatus::Revoked(value) => value.value_len(),
+            CertStatus::Unknown(value) => value.value_len(),
+        }
+    }
+
+    fn encode_value<W: Writer>(&self, writer: &mut W) -> Result<(), Error> {
+        match self {
+            CertStatus::Good(value) => value.encode_value(writer),
+            CertStatus::Revoked(value) => value.encode_value(writer),
+            CertStatus::Unknown(value) => value.encode_value(writer),
+        }
+    }
+}
+
+impl DerOrd for CertStatus {
+    fn der_cmp(&self, other: &CertStatus) -> Result<Ordering, Error> {
+        match (self, other) {
+            (CertStatus::Good(value), CertStatus::Good(other)) => value.der_cmp(other),
+            (CertStatus::Revoked(value), CertStatus::Revoked(other)) => value.der_cmp(other),
+            (CertStatus::Unknown(value), CertStatus::Unknown(other)) => value.der_cmp(other),
+            _ => cmp_headers(self, other),
+        }
+    }
+}
+
+impl EncodingEq for CertStatus {
+    ghost encoding_eq = { seen_equality tree_of ⟦<CertStatus as PartialEq>⟧.eq ⟦<Tree as PartialEq>⟧.eq (λ v w. elim v as (λ k. ⟦<CertStatus as PartialEq>⟧.eq k w ≡ ⟦<Tree as PartialEq>⟧.eq (tree_of k) (tree_of w)) [ of.Good x ↦ elim w as (λ k. ⟦<CertStatus as PartialEq>⟧.eq (of.Good x) k ≡ ⟦<Tree as PartialEq>⟧.eq (tree_of (of.Good x)) (tree_of k)) [ of.Good y ↦ refl | of.Revoked y ↦ refl | of.Unknown y ↦ refl ] | of.Revoked x ↦ elim w as (λ k. ⟦<CertStatus as PartialEq>⟧.eq (of.Revoked x) k ≡ ⟦<Tree as PartialEq>⟧.eq (tree_of (of.Revoked x)) (tree_of k)) [ of.Good y ↦ refl | of.Revoked y ↦ refl | of.Unknown y ↦ refl ] | of.Unknown x ↦ elim w as (λ k. ⟦<CertStatus as PartialEq>⟧.eq (of.Unknown x) k ≡ ⟦<Tree as PartialEq>⟧.eq (tree_of (of.Unknown x)) (tree_of k)) [ of.Good y ↦ refl | of.Revoked y ↦ refl | of.Unknown y ↦ refl ] ]) (either_equality ⟦<OneOf<Implicit<Null, 0>, Implicit<RevokedInfo, 1>> as Form>⟧ ⟦<Implicit<UnknownInfo, 2> as Form>⟧
+        (either_tag ⟦<Implicit<Null, 0> as Form>⟧ ⟦<Implicit<RevokedInfo, 1> as Form>⟧
+        (one_tag ⟦<ImplicitTag<NullTag, 0> as TagMarker>⟧.TAG ⟦<Implicit<Null, 0> as FormValue>⟧.value.contents)
+        (one_tag ⟦<ImplicitTag<SequenceTag, 1> as TagMarker>⟧.TAG ⟦<Implicit<RevokedInfo, 1> as FormValue>⟧.value.contents))
+        (one_tag ⟦<ImplicitTag<NullTag, 2> as TagMarker>⟧.TAG ⟦<Implicit<UnknownInfo, 2> as FormValue>⟧.value.contents)
+        ⟦<OneOf<Implicit<Null, 0>, Implicit<RevokedInfo, 1>> as PartialEq>⟧.eq ⟦<Implicit<UnknownInfo, 2> as PartialEq>⟧.eq
+        (either_equality ⟦<Implicit<Null, 0> as Form>⟧ ⟦<Implicit<RevokedInfo, 1> as Form>⟧
+        (one_tag ⟦<ImplicitTag<NullTag, 0> as TagMarker>⟧.TAG ⟦<Implicit<Null, 0> as FormValue>⟧.value.contents)
+        (one_tag ⟦<ImplicitTag<SequenceTag, 1> as TagMarker>⟧.TAG ⟦<Implicit<RevokedInfo, 1> as FormValue>⟧.value.contents)
+        ⟦<Implicit<Null, 0> as PartialEq>⟧.eq ⟦<Implicit<RevokedInfo, 1> as PartialEq>⟧.eq
+        (one_tag_equality ⟦<ImplicitTag<NullTag, 0> as TagMarker>⟧.TAG ⟦<Implicit<Null, 0> as FormValue>⟧.value.contents ⟦<Implicit<Null, 0> as FormValue>⟧.value.comparable ⟦<Implicit<Null, 0> as PartialEq>⟧.eq (λ v w. (null_contents_eq.contents_eq-law v.value w.value)))
+        (one_tag_equality ⟦<ImplicitTag<SequenceTag, 1> as TagMarker>⟧.TAG ⟦<Implicit<RevokedInfo, 1> as FormValue>⟧.value.contents ⟦<Implicit<RevokedInfo, 1> as FormValue>⟧.value.comparable ⟦<Implicit<RevokedInfo, 1> as PartialEq>⟧.eq (λ v w. (revoked_info_contents_eq.contents_eq-law v.value w.value)))
+        ⟦<OneOf<Implicit<Null, 0>, Implicit<RevokedInfo, 1>> as PartialEq>⟧.eq (λ v x. refl) (λ w y. refl) (λ v w. refl) (λ w v. refl))
+        (one_tag_equality ⟦<ImplicitTag<NullTag, 2> as TagMarker>⟧.TAG ⟦<Implicit<UnknownInfo, 2> as FormValue>⟧.value.contents ⟦<Implicit<UnknownInfo, 2> as FormValue>⟧.value.comparable ⟦<Implicit<UnknownInfo, 2> as PartialEq>⟧.eq (λ v w. (null_contents_eq.contents_eq-law v.value w.value)))
+        ⟦<OneOf<OneOf<Implicit<Null, 0>, Implicit<RevokedInfo, 1>>, Implicit<UnknownInfo, 2>> as PartialEq>⟧.eq (λ v x. refl) (λ w y. refl) (λ v w. refl) (λ w v. refl)) };
+}
+
+impl CopyLaws for CertStatus {
+    ghost copies = { copies_of ((same_copies ⟦<CertStatus as Form>⟧.encoding ⟦<CertStatus as Form>⟧.comparable ⟦<CertStatus as Form>⟧.re_reads ⟦<CertStatus as PartialEq>⟧.eq cert_status_eq.laws-law.refl)) };
+}
+
+impl Duplicate for CertStatus {
+    ghost is_copy = { λ v w. w ≡ v };
+
+    ghost takes_memory_to_copy = { false };
+
+    fn duplicate(&self) -> Result<CertStatus, Error> {
+        Ok(copy_of(self))
+    }
+
+    ghost copy_encoding = { ⟦<CertStatus as CopyLaws>⟧.copies.laws.octets_are };
+
+    ghost copy_comparable = { ⟦<CertStatus as CopyLaws>⟧.copies.laws.comparable_are };
+
+    ghost copy_re_reads = { ⟦<CertStatus as CopyLaws>⟧.copies.laws.re_reads_are };
+}
+
+impl DuplicateIsEqual for CertStatus {
+    ghost copy_is_equal = { ⟦<CertStatus as CopyLaws>⟧.copies.laws.equal_are };
+}
+
+/// What is read as `CertStatus` is what the page of the grammar says.
+pub fn grammar_of_cert_status()
+    ensures { ⟦<CertStatus as Form>⟧.parse ≡ parse_of cert_status }
+{}

@@ -1,0 +1,339 @@
+//! TBSRequest, a SEQUENCE of 4 fields.
+//!
+//! Made by tools/asn1 from ocsp.asn1.
+
+ghost use Rattle.std.specs.Prelude.{◌∷◌, ◌≡◌, [], refl, true};
+ghost use Rattle.der_elem.specs.FormatMakers.{mapped_format};
+ghost use Rattle.der_elem.specs.contracts.integer.unsigned.U8ContentsEq.TheImpl.Laws as u8_contents_eq;
+ghost use Rattle.der_extensions.specs.contracts.extension.general_name.GeneralNameDuplicate.TheImpl.Laws as general_name_duplicate;
+ghost use Rattle.der_extensions.specs.contracts.extension.general_name.GeneralNameDuplicateIsEqual.TheImpl.Laws as general_name_duplicate_is_equal;
+ghost use Rattle.der_extensions.specs.contracts.extension.general_name.GeneralNameEncodingEq.TheImpl.Laws as general_name_encoding_eq;
+ghost use Rattle.der_extensions.specs.contracts.extension.general_name.GeneralNameTagged.TheImpl.Laws as general_name_tagged;
+ghost use Rattle.der_modules.specs.Asn1.{context, explicit_encoding, joined, optional, parse_of, unless_default};
+ghost use Rattle.der_modules.specs.MemberLaws.{copies_of, default_copies, default_equality, default_starts, held_copies, items_copies, items_equality, listed_copies, member_copies, member_equality, no_copies, no_equality, one_tag, one_tag_copies, one_tag_equality, optional_copies, optional_equality, optional_starts, own_tags, same_copies, tagged_starts};
+ghost use Rattle.der_ocsp.specs.Ocsp.Grammar.{tbs_request};
+ghost use Rattle.der_ocsp.specs.Ocsp.TbsRequest as tbs_request_fields;
+ghost use Rattle.der_ocsp.specs.contracts.ocsp.request.RequestContentsEq.TheImpl.Laws as request_contents_eq;
+ghost use Rattle.der_ocsp.specs.contracts.ocsp.request.RequestDuplicateValue.TheImpl.Laws as request_duplicate_value;
+ghost use Rattle.der_ocsp.specs.contracts.ocsp.request.RequestDuplicateValueIsEqual.TheImpl.Laws as request_duplicate_value_is_equal;
+ghost use Rattle.der_ocsp.specs.declared.ocsp.tbs_request.TbsRequest.{TbsRequest};
+ghost use Rattle.der_pkix.specs.contracts.certificate.extensions.ExtensionsContentsEq.TheImpl.Laws as extensions_contents_eq;
+ghost use Rattle.der_pkix.specs.contracts.certificate.extensions.ExtensionsDuplicateValue.TheImpl.Laws as extensions_duplicate_value;
+ghost use Rattle.der_pkix.specs.contracts.certificate.extensions.ExtensionsDuplicateValueIsEqual.TheImpl.Laws as extensions_duplicate_value_is_equal;
+
+use crate::ocsp::aliases::Version;
+use crate::ocsp::request::Request;
+use der_elem::{
+    ContentsEq, DecodeValue, DuplicateValue, DuplicateValueIsEqual, EncodeValue, Form, FormValue,
+    IntegerTag, OneTag, Sequence, SequenceTag, TagMarker, Tagged, ValueOrd,
+};
+use der_extensions::extension::GeneralName;
+use der_fields::{
+    DecodeFields, DefaultNumber, DefaultOf, DuplicateFields, EncodeFields, End, Explicit,
+    ExplicitTag, Field, FieldList, Fields4, FieldsOrd, WithDefault,
+};
+use der_modules::CopyLaws;
+use der_pkix::certificate::Extensions;
+use der_tlv::{Error, Header, Length, Source, Writer};
+use std::alloc::Global;
+use std::cmp::Ordering;
+use std::fmt;
+
+/// The list of the fields.
+type Fields<'a> = Fields4<
+    WithDefault<Explicit<Version, 0>, DefaultNumber<0>>,
+    Option<Explicit<GeneralName<'a>, 1>>,
+    Vec<Request<'a>>,
+    Option<Explicit<Extensions<'a>, 2>>,
+>;
+
+/// ```text
+/// TBSRequest ::= SEQUENCE {
+///      version            [0] EXPLICIT Version DEFAULT v1,
+///      requestorName      [1] EXPLICIT GeneralName OPTIONAL,
+///      requestList            SEQUENCE OF Request,
+///      requestExtensions  [2] EXPLICIT Extensions OPTIONAL }
+/// ```
+///
+/// Reading refuses the first fault of the octets, in their order; `ErrorKind::Memory` (1) where
+/// memory runs out.
+#[derive(PartialEq, Eq, Drop)]
+pub struct TbsRequest<'a> {
+    fields: Fields<'a>,
+}
+
+impl<'a> TbsRequest<'a> {
+    ghost use Rattle.der_ocsp.specs.Ocsp.TbsRequest as tbs_request_fields;
+    ghost use Rattle.std.specs.Prelude.{option_copied};
+
+    /// A value of these fields.
+    pub fn new(
+        version: Version,
+        requestor_name: Option<GeneralName<'a>>,
+        request_list: Vec<Request<'a>>,
+        request_extensions: Option<Extensions<'a>>,
+    ) -> TbsRequest<'a>
+        ensures version { tbs_request_fields.version result ≡ version }
+        ensures requestor_name { tbs_request_fields.requestor_name result ≡ requestor_name.entry }
+        ensures request_list { tbs_request_fields.request_list result ≡ request_list.entry }
+        ensures request_extensions { tbs_request_fields.request_extensions result ≡ request_extensions.entry }
+    {
+        let first = match request_extensions {
+            Some(first) => Some(Explicit {
+                fields: Field { first, rest: End },
+            }),
+            None => None,
+        };
+        let rest = Field { first, rest: End };
+        let first = request_list;
+        let rest = Field { first, rest };
+        let first = match requestor_name {
+            Some(first) => Some(Explicit {
+                fields: Field { first, rest: End },
+            }),
+            None => None,
+        };
+        let rest = Field { first, rest };
+        let first = WithDefault::new(Explicit {
+            fields: Field {
+                first: version,
+                rest: End,
+            },
+        });
+        let list = Field { first, rest };
+        let fields = Fields4 { list };
+        TbsRequest { fields }
+    }
+
+    /// The values of the fields, in their order.
+    pub fn into_parts(
+        self,
+    ) -> (
+        Version,
+        Option<GeneralName<'a>>,
+        Vec<Request<'a>>,
+        Option<Extensions<'a>>,
+    )
+        ensures version { tbs_request_fields.version self.entry ≡ result.0 }
+        ensures requestor_name { tbs_request_fields.requestor_name self.entry ≡ result.1 }
+        ensures request_list { tbs_request_fields.request_list self.entry ≡ result.2 }
+        ensures request_extensions { tbs_request_fields.request_extensions self.entry ≡ result.3 }
+    {
+        let Fields4 { list } = self.fields;
+        let Field {
+            first: version,
+            rest,
+        } = list;
+        let Field {
+            first: requestor_name,
+            rest,
+        } = rest;
+        let Field {
+            first: request_list,
+            rest,
+        } = rest;
+        let Field {
+            first: request_extensions,
+            ..
+        } = rest;
+        let version = version.value.fields.first;
+        let requestor_name = match requestor_name {
+            Some(tagged) => Some(tagged.fields.first),
+            None => None,
+        };
+        let request_extensions = match request_extensions {
+            Some(tagged) => Some(tagged.fields.first),
+            None => None,
+        };
+        (version, requestor_name, request_list, request_extensions)
+    }
+
+    /// `version`, `[0] EXPLICIT Version DEFAULT v1`.
+    pub fn version(&self) -> Version
+        ensures { result ≡ tbs_request_fields.version self.now }
+    {
+        self.fields.list.first.value.fields.first
+    }
+
+    /// `requestorName`, `[1] EXPLICIT GeneralName OPTIONAL`.
+    pub fn requestor_name(&self) -> Option<&GeneralName<'a>>
+        ensures { option_copied result ≡ tbs_request_fields.requestor_name self.now }
+    {
+        match &self.fields.list.rest.first {
+            Some(value) => Some(&value.fields.first),
+            None => None,
+        }
+    }
+
+    /// `requestList`, `SEQUENCE OF Request`.
+    pub fn request_list(&self) -> &Vec<Request<'a>>
+        ensures { result.now ≡ tbs_request_fields.request_list self.now }
+    {
+        &self.fields.list.rest.rest.first
+    }
+
+    /// `requestExtensions`, `[2] EXPLICIT Extensions OPTIONAL`.
+    pub fn request_extensions(&self) -> Option<&Extensions<'a>>
+        ensures { option_copied result ≡ tbs_request_fields.request_extensions self.now }
+    {
+        match &self.fields.list.rest.rest.rest.first {
+            Some(value) => Some(&value.fields.first),
+            None => None,
+        }
+    }
+}
+
+impl<'a> fmt::Debug for TbsRequest<'a> {
+    fn fmt<W: fmt::Write>(&self, f: &mut fmt::Formatter<W>) -> fmt::Result {
+        f.debug_struct("TbsRequest")
+            .field("version", &self.version())
+            .field("requestor_name", &self.requestor_name())
+            .field("request_list", self.request_list())
+            .field("request_extensions", &self.request_extensions())
+            .finish()
+    }
+}
+
+impl<'a> OneTag for TbsRequest<'a> {
+    type Marker = SequenceTag;
+}
+
+impl<'a> Sequence<'a> for TbsRequest<'a> {
+    ghost is_sequence = { refl };
+}
+
+impl<'a> FormValue for TbsRequest<'a> {
+    ghost value = { mapped_format (λ v. v.fields) ⟦<Fields<'a> as FieldList>⟧.list.octets };
+}
+
+impl<'a, R: Source<'a>> DecodeValue<'a, R> for TbsRequest<'a> {
+    ghost TAKES_MEMORY = { true };
+
+    const TAKES_MEMORY: bool = true;
+
+    fn decode_value(
+        alloc: Global,
+        reader: &mut R,
+        _header: Header,
+    ) -> Result<TbsRequest<'a>, Error> {
+        match Fields::<'a>::decode_fields(alloc, reader) {
+            Ok(fields) => Ok(TbsRequest { fields }),
+            Err(e) => Err(e),
+        }
+    }
+
+    ghost takes_memory_is = { refl };
+}
+
+impl<'a> EncodeValue for TbsRequest<'a> {
+    fn value_len(&self) -> Result<Length, Error> {
+        self.fields.fields_len()
+    }
+
+    fn encode_value<W: Writer>(&self, writer: &mut W) -> Result<(), Error> {
+        self.fields.encode_fields(writer)
+    }
+}
+
+impl<'a> ValueOrd for TbsRequest<'a> {
+    fn value_cmp(&self, other: &TbsRequest<'a>) -> Result<Ordering, Error> {
+        self.fields.cmp_fields(&other.fields)
+    }
+}
+
+impl<'a> ContentsEq for TbsRequest<'a> {
+    ghost contents_eq = { λ v w. (member_equality ⟦<WithDefault<Explicit<Version, 0>, DefaultNumber<0>> as Form>⟧
+        (default_starts ⟦<Explicit<Version, 0> as Form>⟧ (one_tag ⟦<ExplicitTag<0> as TagMarker>⟧.TAG ⟦<Explicit<Version, 0> as FormValue>⟧.value.contents) (λ x. x.value) ⟦<DefaultNumber<0> as DefaultOf<Explicit<Version, 0>>>⟧.octets)
+        ⟦<WithDefault<Explicit<Version, 0>, DefaultNumber<0>> as PartialEq>⟧.eq
+        (default_equality ⟦<Explicit<Version, 0> as Form>⟧ (one_tag ⟦<ExplicitTag<0> as TagMarker>⟧.TAG ⟦<Explicit<Version, 0> as FormValue>⟧.value.contents) (λ x. x.value) ⟦<DefaultNumber<0> as DefaultOf<Explicit<Version, 0>>>⟧.octets ⟦<Explicit<Version, 0> as PartialEq>⟧.eq (one_tag_equality ⟦<ExplicitTag<0> as TagMarker>⟧.TAG ⟦<Explicit<Version, 0> as FormValue>⟧.value.contents ⟦<Explicit<Version, 0> as FormValue>⟧.value.comparable ⟦<Explicit<Version, 0> as PartialEq>⟧.eq (λ v w. ((member_equality ⟦<Version as Form>⟧
+        (tagged_starts ⟦<Version as Form>⟧ (one_tag ⟦<IntegerTag as TagMarker>⟧.TAG ⟦<u8 as FormValue>⟧.value.contents))
+        ⟦<Version as PartialEq>⟧.eq
+        (one_tag_equality ⟦<IntegerTag as TagMarker>⟧.TAG ⟦<u8 as FormValue>⟧.value.contents ⟦<u8 as FormValue>⟧.value.comparable ⟦<u8 as PartialEq>⟧.eq u8_contents_eq.contents_eq-law)
+        no_equality).equal v.fields w.fields))))
+        (member_equality ⟦<Option<Explicit<GeneralName<'a>, 1>> as Form>⟧
+        (optional_starts ⟦<Explicit<GeneralName<'a>, 1> as Form>⟧ (one_tag ⟦<ExplicitTag<1> as TagMarker>⟧.TAG ⟦<Explicit<GeneralName<'a>, 1> as FormValue>⟧.value.contents))
+        ⟦<Option<Explicit<GeneralName<'a>, 1>> as PartialEq>⟧.eq
+        (optional_equality ⟦<Explicit<GeneralName<'a>, 1> as Form>⟧ (one_tag ⟦<ExplicitTag<1> as TagMarker>⟧.TAG ⟦<Explicit<GeneralName<'a>, 1> as FormValue>⟧.value.contents) ⟦<Explicit<GeneralName<'a>, 1> as PartialEq>⟧.eq (one_tag_equality ⟦<ExplicitTag<1> as TagMarker>⟧.TAG ⟦<Explicit<GeneralName<'a>, 1> as FormValue>⟧.value.contents ⟦<Explicit<GeneralName<'a>, 1> as FormValue>⟧.value.comparable ⟦<Explicit<GeneralName<'a>, 1> as PartialEq>⟧.eq (λ v w. ((member_equality ⟦<GeneralName<'a> as Form>⟧
+        (tagged_starts ⟦<GeneralName<'a> as Form>⟧ (own_tags ⟦<GeneralName<'a> as Form>⟧.tags ⟦<GeneralName<'a> as Form>⟧.first_tag_of ⟦<GeneralName<'a> as Form>⟧.encoding ⟦<GeneralName<'a> as Tagged>⟧.tag_of ⟦<GeneralName<'a> as FormValue>⟧.value.contents general_name_tagged.encoding_is-law general_name_tagged.own_tag-law general_name_tagged.first_tag_is-law))
+        ⟦<GeneralName<'a> as PartialEq>⟧.eq
+        general_name_encoding_eq.encoding_eq-law
+        no_equality).equal v.fields w.fields))))
+        (member_equality ⟦<Vec<Request<'a>> as Form>⟧
+        (tagged_starts ⟦<Vec<Request<'a>> as Form>⟧ (one_tag ⟦<SequenceTag as TagMarker>⟧.TAG ⟦<Vec<Request<'a>> as FormValue>⟧.value.contents))
+        ⟦<Vec<Request<'a>> as PartialEq>⟧.eq
+        (one_tag_equality ⟦<SequenceTag as TagMarker>⟧.TAG ⟦<Vec<Request<'a>> as FormValue>⟧.value.contents ⟦<Vec<Request<'a>> as FormValue>⟧.value.comparable ⟦<Vec<Request<'a>> as PartialEq>⟧.eq (λ v w. ((items_equality ⟦<Request<'a> as Form>⟧ (one_tag ⟦<SequenceTag as TagMarker>⟧.TAG ⟦<Request<'a> as FormValue>⟧.value.contents) ⟦<Request<'a> as PartialEq>⟧.eq (one_tag_equality ⟦<SequenceTag as TagMarker>⟧.TAG ⟦<Request<'a> as FormValue>⟧.value.contents ⟦<Request<'a> as FormValue>⟧.value.comparable ⟦<Request<'a> as PartialEq>⟧.eq request_contents_eq.contents_eq-law)) v.items w.items)))
+        (member_equality ⟦<Option<Explicit<Extensions<'a>, 2>> as Form>⟧
+        (optional_starts ⟦<Explicit<Extensions<'a>, 2> as Form>⟧ (one_tag ⟦<ExplicitTag<2> as TagMarker>⟧.TAG ⟦<Explicit<Extensions<'a>, 2> as FormValue>⟧.value.contents))
+        ⟦<Option<Explicit<Extensions<'a>, 2>> as PartialEq>⟧.eq
+        (optional_equality ⟦<Explicit<Extensions<'a>, 2> as Form>⟧ (one_tag ⟦<ExplicitTag<2> as TagMarker>⟧.TAG ⟦<Explicit<Extensions<'a>, 2> as FormValue>⟧.value.contents) ⟦<Explicit<Extensions<'a>, 2> as PartialEq>⟧.eq (one_tag_equality ⟦<ExplicitTag<2> as TagMarker>⟧.TAG ⟦<Explicit<Extensions<'a>, 2> as FormValue>⟧.value.contents ⟦<Explicit<Extensions<'a>, 2> as FormValue>⟧.value.comparable ⟦<Explicit<Extensions<'a>, 2> as PartialEq>⟧.eq (λ v w. ((member_equality ⟦<Extensions<'a> as Form>⟧
+        (tagged_starts ⟦<Extensions<'a> as Form>⟧ (one_tag ⟦<SequenceTag as TagMarker>⟧.TAG ⟦<Extensions<'a> as FormValue>⟧.value.contents))
+        ⟦<Extensions<'a> as PartialEq>⟧.eq
+        (one_tag_equality ⟦<SequenceTag as TagMarker>⟧.TAG ⟦<Extensions<'a> as FormValue>⟧.value.contents ⟦<Extensions<'a> as FormValue>⟧.value.comparable ⟦<Extensions<'a> as PartialEq>⟧.eq extensions_contents_eq.contents_eq-law)
+        no_equality).equal v.fields w.fields))))
+        no_equality)))).equal v.fields.list w.fields.list };
+}
+
+impl<'a> CopyLaws for TbsRequest<'a> {
+    ghost copies = { copies_of (held_copies (λ v. v.fields.list)
+        (listed_copies (member_copies ⟦<WithDefault<Explicit<Version, 0>, DefaultNumber<0>> as Form>⟧
+        (default_starts ⟦<Explicit<Version, 0> as Form>⟧ (one_tag ⟦<ExplicitTag<0> as TagMarker>⟧.TAG ⟦<Explicit<Version, 0> as FormValue>⟧.value.contents) (λ x. x.value) ⟦<DefaultNumber<0> as DefaultOf<Explicit<Version, 0>>>⟧.octets)
+        (default_copies ⟦<Explicit<Version, 0> as Form>⟧ (one_tag_copies ⟦<ExplicitTag<0> as TagMarker>⟧.TAG (held_copies (λ x. x.fields) (listed_copies (member_copies ⟦<Version as Form>⟧
+        (tagged_starts ⟦<Version as Form>⟧ (one_tag ⟦<IntegerTag as TagMarker>⟧.TAG ⟦<u8 as FormValue>⟧.value.contents))
+        (one_tag_copies ⟦<IntegerTag as TagMarker>⟧.TAG (same_copies ⟦<u8 as FormValue>⟧.value.contents ⟦<u8 as FormValue>⟧.value.comparable ⟦<u8 as FormValue>⟧.value.re_reads ⟦<u8 as PartialEq>⟧.eq (λ v. (u8_contents_eq.contents_eq-law v v tt).1 refl)))
+        no_copies)))) (λ x. x.value) ⟦<DefaultNumber<0> as DefaultOf<Explicit<Version, 0>>>⟧.octets)
+        (member_copies ⟦<Option<Explicit<GeneralName<'a>, 1>> as Form>⟧
+        (optional_starts ⟦<Explicit<GeneralName<'a>, 1> as Form>⟧ (one_tag ⟦<ExplicitTag<1> as TagMarker>⟧.TAG ⟦<Explicit<GeneralName<'a>, 1> as FormValue>⟧.value.contents))
+        (optional_copies ⟦<Explicit<GeneralName<'a>, 1> as Form>⟧ (one_tag_copies ⟦<ExplicitTag<1> as TagMarker>⟧.TAG (held_copies (λ x. x.fields) (listed_copies (member_copies ⟦<GeneralName<'a> as Form>⟧
+        (tagged_starts ⟦<GeneralName<'a> as Form>⟧ (own_tags ⟦<GeneralName<'a> as Form>⟧.tags ⟦<GeneralName<'a> as Form>⟧.first_tag_of ⟦<GeneralName<'a> as Form>⟧.encoding ⟦<GeneralName<'a> as Tagged>⟧.tag_of ⟦<GeneralName<'a> as FormValue>⟧.value.contents general_name_tagged.encoding_is-law general_name_tagged.own_tag-law general_name_tagged.first_tag_is-law))
+        (record { octets_are = general_name_duplicate.copy_encoding-law; comparable_are = general_name_duplicate.copy_comparable-law; re_reads_are = general_name_duplicate.copy_re_reads-law; equal_are = general_name_duplicate_is_equal.copy_is_equal-law })
+        no_copies)))))
+        (member_copies ⟦<Vec<Request<'a>> as Form>⟧
+        (tagged_starts ⟦<Vec<Request<'a>> as Form>⟧ (one_tag ⟦<SequenceTag as TagMarker>⟧.TAG ⟦<Vec<Request<'a>> as FormValue>⟧.value.contents))
+        (one_tag_copies ⟦<SequenceTag as TagMarker>⟧.TAG (held_copies (λ x. x.items) (items_copies ⟦<Request<'a> as Form>⟧ (one_tag_copies ⟦<SequenceTag as TagMarker>⟧.TAG (record { octets_are = request_duplicate_value.copy_contents-law; comparable_are = request_duplicate_value.copy_comparable_value-law; re_reads_are = request_duplicate_value.copy_re_reads_value-law; equal_are = request_duplicate_value_is_equal.copy_value_is_equal-law })))))
+        (member_copies ⟦<Option<Explicit<Extensions<'a>, 2>> as Form>⟧
+        (optional_starts ⟦<Explicit<Extensions<'a>, 2> as Form>⟧ (one_tag ⟦<ExplicitTag<2> as TagMarker>⟧.TAG ⟦<Explicit<Extensions<'a>, 2> as FormValue>⟧.value.contents))
+        (optional_copies ⟦<Explicit<Extensions<'a>, 2> as Form>⟧ (one_tag_copies ⟦<ExplicitTag<2> as TagMarker>⟧.TAG (held_copies (λ x. x.fields) (listed_copies (member_copies ⟦<Extensions<'a> as Form>⟧
+        (tagged_starts ⟦<Extensions<'a> as Form>⟧ (one_tag ⟦<SequenceTag as TagMarker>⟧.TAG ⟦<Extensions<'a> as FormValue>⟧.value.contents))
+        (one_tag_copies ⟦<SequenceTag as TagMarker>⟧.TAG (record { octets_are = extensions_duplicate_value.copy_contents-law; comparable_are = extensions_duplicate_value.copy_comparable_value-law; re_reads_are = extensions_duplicate_value.copy_re_reads_value-law; equal_are = extensions_duplicate_value_is_equal.copy_value_is_equal-law }))
+        no_copies)))))
+        no_copies)))))) };
+}
+
+impl<'a> DuplicateValue for TbsRequest<'a> {
+    ghost is_copy_value = { λ v w. ⟦<Fields<'a> as DuplicateFields>⟧.are_copies v.fields w.fields };
+
+    ghost takes_memory_to_copy_value = { ⟦<Fields<'a> as DuplicateFields>⟧.take_memory_to_copy };
+
+    fn duplicate_value(&self) -> Result<TbsRequest<'a>, Error> {
+        match self.fields.duplicate_fields() {
+            Ok(fields) => Ok(TbsRequest { fields }),
+            Err(e) => Err(e),
+        }
+    }
+
+    ghost copy_contents = { ⟦<TbsRequest<'a> as CopyLaws>⟧.copies.laws.octets_are };
+
+    ghost copy_comparable_value = { ⟦<TbsRequest<'a> as CopyLaws>⟧.copies.laws.comparable_are };
+
+    ghost copy_re_reads_value = { ⟦<TbsRequest<'a> as CopyLaws>⟧.copies.laws.re_reads_are };
+}
+
+impl<'a> DuplicateValueIsEqual for TbsRequest<'a> {
+    ghost copy_value_is_equal = { ⟦<TbsRequest<'a> as CopyLaws>⟧.copies.laws.equal_are };
+}
+
+/// What is read as `TBSRequest` is what the page of the grammar says.
+pub fn grammar_of_tbs_request<'a>()
+    ensures { ⟦<TbsRequest<'a> as Form>⟧.parse ≡ parse_of tbs_request }
+{}
+
+/// The contents octets of `TBSRequest` are the encodings of its fields, one after another.
+#[tactic(auto, using(der_modules::specs::Asn1::optional_of))]
+pub fn octets_of_tbs_request<'a>()
+    ensures { (v : TbsRequest) → ⟦<TbsRequest<'a> as FormValue>⟧.value.contents v ≡ joined (
+        unless_default ⟦<DefaultNumber<0> as DefaultOf<Explicit<Version, 0>>>⟧.octets (explicit_encoding context 0 (⟦<Version as Form>⟧.encoding (tbs_request_fields.version v)))
+        ∷ optional (λ x. (explicit_encoding context 1 (⟦<GeneralName<'a> as Form>⟧.encoding x))) (tbs_request_fields.requestor_name v)
+        ∷ (⟦<Vec<Request<'a>> as Form>⟧.encoding (tbs_request_fields.request_list v))
+        ∷ optional (λ x. (explicit_encoding context 2 (⟦<Extensions<'a> as Form>⟧.encoding x))) (tbs_request_fields.request_extensions v)
+        ∷ []) }
+{}

@@ -1,0 +1,5 @@
+-- Made by tools/asn1.
+pub mod Request
+pub mod Encryption
+pub mod Pkcs12
+pub mod Algorithm

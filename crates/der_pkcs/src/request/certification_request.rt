@@ -1,0 +1,251 @@
+//! CertificationRequest, a SEQUENCE of 3 fields.
+//!
+//! Made by tools/asn1 from request.asn1.
+
+ghost use Rattle.std.specs.Prelude.{◌∷◌, ◌≡◌, [], refl, true};
+ghost use Rattle.der_bits.specs.contracts.bit_string_ref.BitStringRefContentsEq.TheImpl.Laws as bitstringref_contents_eq;
+ghost use Rattle.der_elem.specs.FormatMakers.{mapped_format};
+ghost use Rattle.der_modules.specs.Asn1.{joined, parse_of};
+ghost use Rattle.der_modules.specs.MemberLaws.{copies_of, held_copies, listed_copies, member_copies, member_equality, no_copies, no_equality, one_tag, one_tag_copies, one_tag_equality, same_copies, tagged_starts};
+ghost use Rattle.der_pkcs.specs.Request.CertificationRequest as certification_request_fields;
+ghost use Rattle.der_pkcs.specs.Request.Grammar.{certification_request};
+ghost use Rattle.der_pkcs.specs.contracts.request.certification_request_info.CertificationRequestInfoContentsEq.TheImpl.Laws as certification_request_info_contents_eq;
+ghost use Rattle.der_pkcs.specs.contracts.request.certification_request_info.CertificationRequestInfoDuplicateValue.TheImpl.Laws as certification_request_info_duplicate_value;
+ghost use Rattle.der_pkcs.specs.contracts.request.certification_request_info.CertificationRequestInfoDuplicateValueIsEqual.TheImpl.Laws as certification_request_info_duplicate_value_is_equal;
+ghost use Rattle.der_pkcs.specs.declared.request.certification_request.CertificationRequest.{CertificationRequest};
+ghost use Rattle.der_pkix.specs.contracts.algorithm_identifier.AlgorithmIdentifierContentsEq.TheImpl.Laws as algorithm_identifier_contents_eq;
+ghost use Rattle.der_pkix.specs.contracts.algorithm_identifier.AlgorithmIdentifierEq.TheImpl.Laws as algorithm_identifier_eq;
+
+use crate::request::certification_request_info::CertificationRequestInfo;
+use der_bits::BitStringRef;
+use der_elem::{
+    BitStringTag, ContentsEq, DecodeValue, DuplicateValue, DuplicateValueIsEqual, EncodeValue,
+    Form, FormValue, OneTag, Sequence, SequenceTag, TagMarker, ValueOrd,
+};
+use der_fields::{
+    DecodeFields, DuplicateFields, EncodeFields, End, Field, FieldList, Fields3, FieldsOrd,
+};
+use der_modules::{CopyLaws, copy_of};
+use der_pkix::AlgorithmIdentifier;
+use der_tlv::{Error, Header, Length, Source, Writer};
+use std::alloc::Global;
+use std::cmp::Ordering;
+use std::fmt;
+
+/// The list of the fields.
+type Fields<'a> = Fields3<CertificationRequestInfo<'a>, AlgorithmIdentifier<'a>, BitStringRef<'a>>;
+
+/// ```text
+/// CertificationRequest ::= SEQUENCE {
+///      certificationRequestInfo  CertificationRequestInfo,
+///      signatureAlgorithm        AlgorithmIdentifier,
+///      signature                 BIT STRING }
+/// ```
+///
+/// Reading refuses the first fault of the octets, in their order; `ErrorKind::Memory` (1) where
+/// memory runs out.
+#[derive(PartialEq, Eq, Drop)]
+pub struct CertificationRequest<'a> {
+    fields: Fields<'a>,
+}
+
+impl<'a> CertificationRequest<'a> {
+    ghost use Rattle.der_pkcs.specs.Request.CertificationRequest as certification_request_fields;
+
+    /// A value of these fields.
+    pub fn new(
+        certification_request_info: CertificationRequestInfo<'a>,
+        signature_algorithm: &AlgorithmIdentifier<'a>,
+        signature: BitStringRef<'a>,
+    ) -> CertificationRequest<'a>
+        ensures certification_request_info { certification_request_fields.certification_request_info result ≡ certification_request_info.entry }
+        ensures signature_algorithm { certification_request_fields.signature_algorithm result ≡ signature_algorithm.now }
+        ensures signature { certification_request_fields.signature result ≡ signature.entry }
+    {
+        let first = signature;
+        let rest = Field { first, rest: End };
+        let first = copy_of(signature_algorithm);
+        let rest = Field { first, rest };
+        let first = certification_request_info;
+        let list = Field { first, rest };
+        let fields = Fields3 { list };
+        CertificationRequest { fields }
+    }
+
+    /// The values of the fields, in their order.
+    pub fn into_parts(
+        self,
+    ) -> (
+        CertificationRequestInfo<'a>,
+        AlgorithmIdentifier<'a>,
+        BitStringRef<'a>,
+    )
+        ensures certification_request_info { certification_request_fields.certification_request_info self.entry ≡ result.0 }
+        ensures signature_algorithm { certification_request_fields.signature_algorithm self.entry ≡ result.1 }
+        ensures signature { certification_request_fields.signature self.entry ≡ result.2 }
+    {
+        let Fields3 { list } = self.fields;
+        let Field {
+            first: certification_request_info,
+            rest,
+        } = list;
+        let Field {
+            first: signature_algorithm,
+            rest,
+        } = rest;
+        let Field {
+            first: signature,
+            ..
+        } = rest;
+        (certification_request_info, signature_algorithm, signature)
+    }
+
+    /// `certificationRequestInfo`, `CertificationRequestInfo`.
+    pub fn certification_request_info(&self) -> &CertificationRequestInfo<'a>
+        ensures { result.now ≡ certification_request_fields.certification_request_info self.now }
+    {
+        &self.fields.list.first
+    }
+
+    /// `signatureAlgorithm`, `AlgorithmIdentifier`.
+    pub fn signature_algorithm(&self) -> &AlgorithmIdentifier<'a>
+        ensures { result.now ≡ certification_request_fields.signature_algorithm self.now }
+    {
+        &self.fields.list.rest.first
+    }
+
+    /// `signature`, `BIT STRING`.
+    pub fn signature(&self) -> &BitStringRef<'a>
+        ensures { result.now ≡ certification_request_fields.signature self.now }
+    {
+        &self.fields.list.rest.rest.first
+    }
+}
+
+impl<'a> fmt::Debug for CertificationRequest<'a> {
+    fn fmt<W: fmt::Write>(&self, f: &mut fmt::Formatter<W>) -> fmt::Result {
+        f.debug_struct("CertificationRequest")
+            .field(
+                "certification_request_info",
+                self.certification_request_info(),
+            )
+            .field("signature_algorithm", self.signature_algorithm())
+            .field("signature", self.signature())
+            .finish()
+    }
+}
+
+impl<'a> OneTag for CertificationRequest<'a> {
+    type Marker = SequenceTag;
+}
+
+impl<'a> Sequence<'a> for CertificationRequest<'a> {
+    ghost is_sequence = { refl };
+}
+
+impl<'a> FormValue for CertificationRequest<'a> {
+    ghost value = { mapped_format (λ v. v.fields) ⟦<Fields<'a> as FieldList>⟧.list.octets };
+}
+
+impl<'a, R: Source<'a>> DecodeValue<'a, R> for CertificationRequest<'a> {
+    ghost TAKES_MEMORY = { true };
+
+    const TAKES_MEMORY: bool = true;
+
+    fn decode_value(
+        alloc: Global,
+        reader: &mut R,
+        _header: Header,
+    ) -> Result<CertificationRequest<'a>, Error> {
+        match Fields::<'a>::decode_fields(alloc, reader) {
+            Ok(fields) => Ok(CertificationRequest { fields }),
+            Err(e) => Err(e),
+        }
+    }
+
+    ghost takes_memory_is = { refl };
+}
+
+impl<'a> EncodeValue for CertificationRequest<'a> {
+    fn value_len(&self) -> Result<Length, Error> {
+        self.fields.fields_len()
+    }
+
+    fn encode_value<W: Writer>(&self, writer: &mut W) -> Result<(), Error> {
+        self.fields.encode_fields(writer)
+    }
+}
+
+impl<'a> ValueOrd for CertificationRequest<'a> {
+    fn value_cmp(&self, other: &CertificationRequest<'a>) -> Result<Ordering, Error> {
+        self.fields.cmp_fields(&other.fields)
+    }
+}
+
+impl<'a> ContentsEq for CertificationRequest<'a> {
+    ghost contents_eq = { λ v w. (member_equality ⟦<CertificationRequestInfo<'a> as Form>⟧
+        (tagged_starts ⟦<CertificationRequestInfo<'a> as Form>⟧ (one_tag ⟦<SequenceTag as TagMarker>⟧.TAG ⟦<CertificationRequestInfo<'a> as FormValue>⟧.value.contents))
+        ⟦<CertificationRequestInfo<'a> as PartialEq>⟧.eq
+        (one_tag_equality ⟦<SequenceTag as TagMarker>⟧.TAG ⟦<CertificationRequestInfo<'a> as FormValue>⟧.value.contents ⟦<CertificationRequestInfo<'a> as FormValue>⟧.value.comparable ⟦<CertificationRequestInfo<'a> as PartialEq>⟧.eq certification_request_info_contents_eq.contents_eq-law)
+        (member_equality ⟦<AlgorithmIdentifier<'a> as Form>⟧
+        (tagged_starts ⟦<AlgorithmIdentifier<'a> as Form>⟧ (one_tag ⟦<SequenceTag as TagMarker>⟧.TAG ⟦<AlgorithmIdentifier<'a> as FormValue>⟧.value.contents))
+        ⟦<AlgorithmIdentifier<'a> as PartialEq>⟧.eq
+        (one_tag_equality ⟦<SequenceTag as TagMarker>⟧.TAG ⟦<AlgorithmIdentifier<'a> as FormValue>⟧.value.contents ⟦<AlgorithmIdentifier<'a> as FormValue>⟧.value.comparable ⟦<AlgorithmIdentifier<'a> as PartialEq>⟧.eq algorithm_identifier_contents_eq.contents_eq-law)
+        (member_equality ⟦<BitStringRef<'a> as Form>⟧
+        (tagged_starts ⟦<BitStringRef<'a> as Form>⟧ (one_tag ⟦<BitStringTag as TagMarker>⟧.TAG ⟦<BitStringRef<'a> as FormValue>⟧.value.contents))
+        ⟦<BitStringRef<'a> as PartialEq>⟧.eq
+        (one_tag_equality ⟦<BitStringTag as TagMarker>⟧.TAG ⟦<BitStringRef<'a> as FormValue>⟧.value.contents ⟦<BitStringRef<'a> as FormValue>⟧.value.comparable ⟦<BitStringRef<'a> as PartialEq>⟧.eq bitstringref_contents_eq.contents_eq-law)
+        no_equality))).equal v.fields.list w.fields.list };
+}
+
+impl<'a> CopyLaws for CertificationRequest<'a> {
+    ghost copies = { copies_of (held_copies (λ v. v.fields.list)
+        (listed_copies (member_copies ⟦<CertificationRequestInfo<'a> as Form>⟧
+        (tagged_starts ⟦<CertificationRequestInfo<'a> as Form>⟧ (one_tag ⟦<SequenceTag as TagMarker>⟧.TAG ⟦<CertificationRequestInfo<'a> as FormValue>⟧.value.contents))
+        (one_tag_copies ⟦<SequenceTag as TagMarker>⟧.TAG (record { octets_are = certification_request_info_duplicate_value.copy_contents-law; comparable_are = certification_request_info_duplicate_value.copy_comparable_value-law; re_reads_are = certification_request_info_duplicate_value.copy_re_reads_value-law; equal_are = certification_request_info_duplicate_value_is_equal.copy_value_is_equal-law }))
+        (member_copies ⟦<AlgorithmIdentifier<'a> as Form>⟧
+        (tagged_starts ⟦<AlgorithmIdentifier<'a> as Form>⟧ (one_tag ⟦<SequenceTag as TagMarker>⟧.TAG ⟦<AlgorithmIdentifier<'a> as FormValue>⟧.value.contents))
+        (one_tag_copies ⟦<SequenceTag as TagMarker>⟧.TAG (same_copies ⟦<AlgorithmIdentifier<'a> as FormValue>⟧.value.contents ⟦<AlgorithmIdentifier<'a> as FormValue>⟧.value.comparable ⟦<AlgorithmIdentifier<'a> as FormValue>⟧.value.re_reads ⟦<AlgorithmIdentifier<'a> as PartialEq>⟧.eq algorithm_identifier_eq.laws-law.refl))
+        (member_copies ⟦<BitStringRef<'a> as Form>⟧
+        (tagged_starts ⟦<BitStringRef<'a> as Form>⟧ (one_tag ⟦<BitStringTag as TagMarker>⟧.TAG ⟦<BitStringRef<'a> as FormValue>⟧.value.contents))
+        (one_tag_copies ⟦<BitStringTag as TagMarker>⟧.TAG (same_copies ⟦<BitStringRef<'a> as FormValue>⟧.value.contents ⟦<BitStringRef<'a> as FormValue>⟧.value.comparable ⟦<BitStringRef<'a> as FormValue>⟧.value.re_reads ⟦<BitStringRef<'a> as PartialEq>⟧.eq (λ v. (bitstringref_contents_eq.contents_eq-law v v tt).1 refl)))
+        no_copies))))) };
+}
+
+impl<'a> DuplicateValue for CertificationRequest<'a> {
+    ghost is_copy_value = { λ v w. ⟦<Fields<'a> as DuplicateFields>⟧.are_copies v.fields w.fields };
+
+    ghost takes_memory_to_copy_value = { ⟦<Fields<'a> as DuplicateFields>⟧.take_memory_to_copy };
+
+    fn duplicate_value(&self) -> Result<CertificationRequest<'a>, Error> {
+        match self.fields.duplicate_fields() {
+            Ok(fields) => Ok(CertificationRequest { fields }),
+            Err(e) => Err(e),
+        }
+    }
+
+    ghost copy_contents = { ⟦<CertificationRequest<'a> as CopyLaws>⟧.copies.laws.octets_are };
+
+    ghost copy_comparable_value = { ⟦<CertificationRequest<'a> as CopyLaws>⟧.copies.laws.comparable_are };
+
+    ghost copy_re_reads_value = { ⟦<CertificationRequest<'a> as CopyLaws>⟧.copies.laws.re_reads_are };
+}
+
+impl<'a> DuplicateValueIsEqual for CertificationRequest<'a> {
+    ghost copy_value_is_equal = { ⟦<CertificationRequest<'a> as CopyLaws>⟧.copies.laws.equal_are };
+}
+
+/// What is read as `CertificationRequest` is what the page of the grammar says.
+pub fn grammar_of_certification_request<'a>()
+    ensures { ⟦<CertificationRequest<'a> as Form>⟧.parse ≡ parse_of certification_request }
+{}
+
+/// The contents octets of `CertificationRequest` are the encodings of its fields, one after
+/// another.
+pub fn octets_of_certification_request<'a>()
+    ensures { (v : CertificationRequest) → ⟦<CertificationRequest<'a> as FormValue>⟧.value.contents v ≡ joined (
+        (⟦<CertificationRequestInfo<'a> as Form>⟧.encoding (certification_request_fields.certification_request_info v))
+        ∷ (⟦<AlgorithmIdentifier<'a> as Form>⟧.encoding (certification_request_fields.signature_algorithm v))
+        ∷ (⟦<BitStringRef<'a> as Form>⟧.encoding (certification_request_fields.signature v))
+        ∷ []) }
+{}

@@ -1,0 +1,121 @@
+//! Messages that OpenSSL wrote, read and written back, and octets that are refused.
+//!
+//! The keys are of Ed25519 and on P-256, and one is of RSA; a comment at the octets says the command.
+
+mod algorithms;
+mod authenticated;
+mod digested;
+mod encrypted_keys;
+mod enveloped;
+mod key_files;
+mod requests;
+mod signed_messages;
+mod signers;
+mod spoilt_answers;
+mod stamp_requests;
+mod stamps;
+mod status_answers;
+mod status_extensions;
+mod status_requests;
+
+use der_asn1_types::{DerOrd, Duplicate, Encode, Error, FromDer};
+use der_cms::cms::ContentInfo;
+use std::alloc::Global;
+use std::cmp::Ordering;
+use std::fmt::Debug;
+use std::process::Abort;
+
+/// Asserts that what was found is what is wanted.
+///
+/// The proof of a test takes an assertion in its own body with all that stands before it; so
+/// assertions stand in functions of their own, and each is proved once.
+fn same<T: PartialEq + Debug + Drop>(rt: &impl Abort, found: T, wanted: T) {
+    assert_eq!(rt; found, wanted);
+}
+
+/// The same in one of several cases, which is told where it fails.
+fn same_in<C: Debug, T: PartialEq + Debug + Drop>(rt: &impl Abort, case: &C, found: T, wanted: T) {
+    assert_eq!(rt; found, wanted, "{case:?}");
+}
+
+/// Asserts that the condition holds.
+fn holds(rt: &impl Abort, condition: bool) {
+    assert!(rt; condition);
+}
+
+// The octets, or the number of why there are none.
+pub(crate) fn numbered(written: Result<Vec<u8>, Error>) -> Result<Vec<u8>, u8> {
+    match written {
+        Ok(octets) => Ok(octets),
+        Err(e) => Err(e.kind().number()),
+    }
+}
+
+// The encoding of what the octets are read as, or the number of the refusal.
+fn again<'a, T: FromDer<'a> + Encode>(alloc: Global, octets: &'a [u8]) -> Result<Vec<u8>, u8> {
+    match T::from_der(alloc, octets) {
+        Ok(value) => numbered(value.to_der(alloc)),
+        Err(e) => Err(e.kind().number()),
+    }
+}
+
+// The octets in room of their own, or the number of no memory.
+fn copied(alloc: Global, octets: &[u8]) -> Result<Vec<u8>, u8> {
+    match Vec::from_slice(alloc, octets) {
+        Ok(octets) => Ok(octets),
+        Err(_) => Err(1),
+    }
+}
+
+// The order of two values, and whether they are equal.
+fn compared<T: DerOrd + PartialEq>(first: &T, second: &T) -> Result<(Ordering, bool), u8> {
+    match first.der_cmp(second) {
+        Ok(order) => Ok((order, first == second)),
+        Err(e) => Err(e.kind().number()),
+    }
+}
+
+// The order of the values that two encodings have, and whether they are equal.
+fn read_and_compared<'a, T: FromDer<'a> + DerOrd + PartialEq>(
+    alloc: Global,
+    first: &'a [u8],
+    second: &'a [u8],
+) -> Result<(Ordering, bool), u8> {
+    match (T::from_der(alloc, first), T::from_der(alloc, second)) {
+        (Ok(first), Ok(second)) => compared(&first, &second),
+        (Err(e), _) => Err(e.kind().number()),
+        (Ok(_), Err(e)) => Err(e.kind().number()),
+    }
+}
+
+fn is_copied<T: Duplicate + PartialEq>(value: &T) -> bool {
+    match value.duplicate() {
+        Ok(copy) => copy == *value,
+        Err(_) => false,
+    }
+}
+
+// Whether a copy of what the octets are read as is equal to it.
+fn read_and_copied<'a, T: FromDer<'a> + Duplicate + PartialEq>(
+    alloc: Global,
+    octets: &'a [u8],
+) -> Result<bool, u8> {
+    match T::from_der(alloc, octets) {
+        Ok(value) => Ok(is_copied(&value)),
+        Err(e) => Err(e.kind().number()),
+    }
+}
+
+// The encoding of what stands in a message.
+fn content_of(alloc: Global, octets: &[u8]) -> Result<Vec<u8>, u8> {
+    match ContentInfo::from_der(alloc, octets) {
+        Ok(message) => numbered(message.content().to_der(alloc)),
+        Err(e) => Err(e.kind().number()),
+    }
+}
+
+/// Puts another octet in a place.
+fn put(rt: &impl Abort, octets: &mut Vec<u8>, place: usize, octet: u8) {
+    assert!(rt; place < octets.len());
+    octets[place] = octet;
+}
