@@ -12,5 +12,7 @@ pub mod OriginatorInfo
 pub mod PasswordRecipientInfo
 pub mod RecipientEncryptedKey
 pub mod RecipientInfo
+pub mod RecipientInfoFirst
+pub mod RecipientInfoOther
 pub mod RecipientInfos
 pub mod RecipientKeyIdentifier

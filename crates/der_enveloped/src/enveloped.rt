@@ -16,6 +16,8 @@ mod originator_info;
 mod password_recipient_info;
 mod recipient_encrypted_key;
 mod recipient_info;
+mod recipient_info_first;
+mod recipient_info_other;
 mod recipient_infos;
 mod recipient_key_identifier;
 
@@ -34,5 +36,7 @@ pub use originator_info::OriginatorInfo;
 pub use password_recipient_info::PasswordRecipientInfo;
 pub use recipient_encrypted_key::RecipientEncryptedKey;
 pub use recipient_info::{RecipientInfo, RecipientInfoOrder};
+pub use recipient_info_first::RecipientInfoFirst;
+pub use recipient_info_other::RecipientInfoOther;
 pub use recipient_infos::RecipientInfos;
 pub use recipient_key_identifier::RecipientKeyIdentifier;

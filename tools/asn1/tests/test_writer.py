@@ -20,12 +20,14 @@ from ..writer.fields import places
 from ..writer.grammar import GrammarPage
 from ..writer.orders import items_of_sets
 from ..writer.plan import Plan, Target
+from ..writer.splitting import split_choices
 from .helpers import module_of, resolved, standard
 
 
 def written(*texts: str) -> dict[str, str]:
     """The files of modules, before they are laid out."""
     found, _ = resolved(*texts)
+    split_choices(found)
     targets = {module.name: Target("der_test", f"module{i}" if i else "test") for i, module in enumerate(found)}
     plan = Plan(targets, items_of_sets(found))
     return files_of_crate(plan, found)
@@ -187,6 +189,23 @@ class Shapes(unittest.TestCase):
         self.assertIn("pub returns-in-X-X : goal.returns-in-X-X", found[proofs[0]])
         self.assertNotIn("in-Z-Z", found[proofs[0]])
         self.assertIn("_ => cmp_headers(self, other),", found["src/test/a.rt"])
+
+
+    def test_a_choice_of_many_structs_is_read_as_its_halves(self) -> None:
+        alternatives = ", ".join(f"a{i} [{i}] B" for i in range(5))
+        found = written(module_of(f"A ::= CHOICE {{ {alternatives} }}\nB ::= SEQUENCE {{ x NULL }}"))
+        whole, page = found["src/test/a.rt"], found["specs/Test/A.antt"]
+        self.assertIn("type Tree = OneOf<AFirst, AOther>;", whole)
+        self.assertIn("Ok(OneOf::First(AFirst::A2(value))) => Ok(A::A2(value)),", whole)
+        self.assertIn("Ok(OneOf::Other(AOther::A3(value))) => Ok(A::A3(value)),", whole)
+        self.assertIn("tree_of (of.A4 v) = Other (a_other.A4 v)", page)
+        self.assertIn("    A1(", found["src/test/a_first.rt"])
+        self.assertNotIn("grammar_of", found["src/test/a_first.rt"])
+        self.assertNotIn("a_first", found["specs/Test/Grammar.antt"])
+
+    def test_a_choice_of_many_others_is_read_at_once(self) -> None:
+        alternatives = ", ".join(f"a{i} [{i}] NULL" for i in range(9))
+        self.assertNotIn("src/test/a_first.rt", written(module_of(f"A ::= CHOICE {{ {alternatives} }}")))
 
 
 class Files(unittest.TestCase):

@@ -208,18 +208,7 @@ impl<'a, R: Source<'a>> DecodeField<'a, R> for CertificateChoices<'a> {
     const TAKES_MEMORY: bool = true;
 
     fn decode_field(alloc: Global, reader: &mut R) -> Result<CertificateChoices<'a>, Error> {
-        match Tree::<'a>::decode_field(alloc, reader) {
-            Ok(OneOf::First(OneOf::First(OneOf::First(value)))) => Ok(
-                CertificateChoices::Certificate(value),
-            ),
-            Ok(OneOf::First(OneOf::First(OneOf::Other(value)))) => Ok(
-                CertificateChoices::ExtendedCertificate(value),
-            ),
-            Ok(OneOf::First(OneOf::Other(value))) => Ok(CertificateChoices::V1AttrCert(value)),
-            Ok(OneOf::Other(OneOf::First(value))) => Ok(CertificateChoices::V2AttrCert(value)),
-            Ok(OneOf::Other(OneOf::Other(value))) => Ok(CertificateChoices::Other(value)),
-            Err(e) => Err(e),
-        }
+        CertificateChoices::decode(alloc, reader)
     }
 
     ghost takes_memory_is = { refl };

@@ -167,11 +167,7 @@ impl<'a, R: Source<'a>> DecodeField<'a, R> for RevocationInfoChoice<'a> {
     const TAKES_MEMORY: bool = true;
 
     fn decode_field(alloc: Global, reader: &mut R) -> Result<RevocationInfoChoice<'a>, Error> {
-        match Tree::<'a>::decode_field(alloc, reader) {
-            Ok(OneOf::First(value)) => Ok(RevocationInfoChoice::Crl(value)),
-            Ok(OneOf::Other(value)) => Ok(RevocationInfoChoice::Other(value)),
-            Err(e) => Err(e),
-        }
+        RevocationInfoChoice::decode(alloc, reader)
     }
 
     ghost takes_memory_is = { refl };

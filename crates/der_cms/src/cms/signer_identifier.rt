@@ -163,11 +163,7 @@ impl<'a, R: Source<'a>> DecodeField<'a, R> for SignerIdentifier<'a> {
     const TAKES_MEMORY: bool = true;
 
     fn decode_field(alloc: Global, reader: &mut R) -> Result<SignerIdentifier<'a>, Error> {
-        match Tree::<'a>::decode_field(alloc, reader) {
-            Ok(OneOf::First(value)) => Ok(SignerIdentifier::IssuerAndSerialNumber(value)),
-            Ok(OneOf::Other(value)) => Ok(SignerIdentifier::SubjectKeyIdentifier(value)),
-            Err(e) => Err(e),
-        }
+        SignerIdentifier::decode(alloc, reader)
     }
 
     ghost takes_memory_is = { refl };

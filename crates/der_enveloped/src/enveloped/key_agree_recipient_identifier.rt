@@ -168,13 +168,7 @@ impl<'a, R: Source<'a>> DecodeField<'a, R> for KeyAgreeRecipientIdentifier<'a> {
         alloc: Global,
         reader: &mut R,
     ) -> Result<KeyAgreeRecipientIdentifier<'a>, Error> {
-        match Tree::<'a>::decode_field(alloc, reader) {
-            Ok(OneOf::First(value)) => Ok(KeyAgreeRecipientIdentifier::IssuerAndSerialNumber(
-                value,
-            )),
-            Ok(OneOf::Other(value)) => Ok(KeyAgreeRecipientIdentifier::RKeyId(value)),
-            Err(e) => Err(e),
-        }
+        KeyAgreeRecipientIdentifier::decode(alloc, reader)
     }
 
     ghost takes_memory_is = { refl };

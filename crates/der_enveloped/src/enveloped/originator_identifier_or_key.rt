@@ -183,16 +183,7 @@ impl<'a, R: Source<'a>> DecodeField<'a, R> for OriginatorIdentifierOrKey<'a> {
     const TAKES_MEMORY: bool = true;
 
     fn decode_field(alloc: Global, reader: &mut R) -> Result<OriginatorIdentifierOrKey<'a>, Error> {
-        match Tree::<'a>::decode_field(alloc, reader) {
-            Ok(OneOf::First(OneOf::First(value))) => Ok(
-                OriginatorIdentifierOrKey::IssuerAndSerialNumber(value),
-            ),
-            Ok(OneOf::First(OneOf::Other(value))) => Ok(
-                OriginatorIdentifierOrKey::SubjectKeyIdentifier(value),
-            ),
-            Ok(OneOf::Other(value)) => Ok(OriginatorIdentifierOrKey::OriginatorKey(value)),
-            Err(e) => Err(e),
-        }
+        OriginatorIdentifierOrKey::decode(alloc, reader)
     }
 
     ghost takes_memory_is = { refl };

@@ -6,50 +6,46 @@ ghost use Rattle.std.specs.Prelude.{◌≡◌, false, refl, true};
 ghost use Rattle.der_elem.specs.Accepting.{IsTlv};
 ghost use Rattle.der_elem.specs.FirstTags.{HasFirstTag};
 ghost use Rattle.der_elem.specs.FormatMakers.{mapped_format};
-ghost use Rattle.der_elem.specs.KnownTagLaws.{known_either, own_is_known};
-ghost use Rattle.der_elem.specs.TaggedLaws.{tlv_tagged};
+ghost use Rattle.der_elem.specs.KnownTagLaws.{known_either};
 ghost use Rattle.der_enveloped.specs.Enveloped.Grammar.{recipient_info};
 ghost use Rattle.der_enveloped.specs.Enveloped.RecipientInfo.{tree_of};
-ghost use Rattle.der_enveloped.specs.contracts.enveloped.kek_recipient_info.KekRecipientInfoContentsEq.TheImpl.Laws as kek_recipient_info_contents_eq;
-ghost use Rattle.der_enveloped.specs.contracts.enveloped.kek_recipient_info.KekRecipientInfoEq.TheImpl.Laws as kek_recipient_info_eq;
-ghost use Rattle.der_enveloped.specs.contracts.enveloped.key_agree_recipient_info.KeyAgreeRecipientInfoContentsEq.TheImpl.Laws as key_agree_recipient_info_contents_eq;
-ghost use Rattle.der_enveloped.specs.contracts.enveloped.key_agree_recipient_info.KeyAgreeRecipientInfoDuplicateValue.TheImpl.Laws as key_agree_recipient_info_duplicate_value;
-ghost use Rattle.der_enveloped.specs.contracts.enveloped.key_agree_recipient_info.KeyAgreeRecipientInfoDuplicateValueIsEqual.TheImpl.Laws as key_agree_recipient_info_duplicate_value_is_equal;
-ghost use Rattle.der_enveloped.specs.contracts.enveloped.key_trans_recipient_info.KeyTransRecipientInfoContentsEq.TheImpl.Laws as key_trans_recipient_info_contents_eq;
-ghost use Rattle.der_enveloped.specs.contracts.enveloped.key_trans_recipient_info.KeyTransRecipientInfoEq.TheImpl.Laws as key_trans_recipient_info_eq;
-ghost use Rattle.der_enveloped.specs.contracts.enveloped.password_recipient_info.PasswordRecipientInfoContentsEq.TheImpl.Laws as password_recipient_info_contents_eq;
-ghost use Rattle.der_enveloped.specs.contracts.enveloped.password_recipient_info.PasswordRecipientInfoEq.TheImpl.Laws as password_recipient_info_eq;
+ghost use Rattle.der_enveloped.specs.contracts.enveloped.recipient_info_first.RecipientInfoFirstChoice.TheImpl.Laws as recipient_info_first_choice;
+ghost use Rattle.der_enveloped.specs.contracts.enveloped.recipient_info_first.RecipientInfoFirstDuplicate.TheImpl.Laws as recipient_info_first_duplicate;
+ghost use Rattle.der_enveloped.specs.contracts.enveloped.recipient_info_first.RecipientInfoFirstDuplicateIsEqual.TheImpl.Laws as recipient_info_first_duplicate_is_equal;
+ghost use Rattle.der_enveloped.specs.contracts.enveloped.recipient_info_first.RecipientInfoFirstEncodingEq.TheImpl.Laws as recipient_info_first_encoding_eq;
+ghost use Rattle.der_enveloped.specs.contracts.enveloped.recipient_info_first.RecipientInfoFirstKnownTags.TheImpl.Laws as recipient_info_first_known_tags;
+ghost use Rattle.der_enveloped.specs.contracts.enveloped.recipient_info_first.RecipientInfoFirstTagged.TheImpl.Laws as recipient_info_first_tagged;
+ghost use Rattle.der_enveloped.specs.contracts.enveloped.recipient_info_other.RecipientInfoOtherChoice.TheImpl.Laws as recipient_info_other_choice;
+ghost use Rattle.der_enveloped.specs.contracts.enveloped.recipient_info_other.RecipientInfoOtherEncodingEq.TheImpl.Laws as recipient_info_other_encoding_eq;
+ghost use Rattle.der_enveloped.specs.contracts.enveloped.recipient_info_other.RecipientInfoOtherEq.TheImpl.Laws as recipient_info_other_eq;
+ghost use Rattle.der_enveloped.specs.contracts.enveloped.recipient_info_other.RecipientInfoOtherKnownTags.TheImpl.Laws as recipient_info_other_known_tags;
+ghost use Rattle.der_enveloped.specs.contracts.enveloped.recipient_info_other.RecipientInfoOtherTagged.TheImpl.Laws as recipient_info_other_tagged;
 ghost use Rattle.der_enveloped.specs.declared.enveloped.recipient_info.RecipientInfo.TheVariants as of;
+ghost use Rattle.der_enveloped.specs.declared.enveloped.recipient_info_first.RecipientInfoFirst.TheVariants as recipient_info_first;
+ghost use Rattle.der_enveloped.specs.declared.enveloped.recipient_info_other.RecipientInfoOther.TheVariants as recipient_info_other;
 ghost use Rattle.der_modules.specs.Asn1.{parse_of};
-ghost use Rattle.der_modules.specs.MemberLaws.{copies_of, either_copies, either_equality, either_tag, held_copies, one_tag, one_tag_copies, one_tag_equality, same_copies, seen_copies, seen_equality};
-ghost use Rattle.der_pkix.specs.contracts.name.attribute_type_and_value.AttributeTypeAndValueContentsEq.TheImpl.Laws as attribute_type_and_value_contents_eq;
-ghost use Rattle.der_pkix.specs.contracts.name.attribute_type_and_value.AttributeTypeAndValueEq.TheImpl.Laws as attribute_type_and_value_eq;
+ghost use Rattle.der_modules.specs.MemberLaws.{copies_of, either_copies, either_equality, either_tag, own_tags, same_copies, seen_copies, seen_equality};
 
 use crate::enveloped::aliases::OtherRecipientInfo;
 use crate::enveloped::kek_recipient_info::KekRecipientInfo;
 use crate::enveloped::key_agree_recipient_info::KeyAgreeRecipientInfo;
 use crate::enveloped::key_trans_recipient_info::KeyTransRecipientInfo;
 use crate::enveloped::password_recipient_info::PasswordRecipientInfo;
+use crate::enveloped::recipient_info_first::RecipientInfoFirst;
+use crate::enveloped::recipient_info_other::RecipientInfoOther;
 use der_elem::{
     Choice, Decode, DecodeField, DerOrd, Duplicate, DuplicateIsEqual, EncodeValue, EncodingEq,
-    Form, FormValue, KnownTags, SequenceTag, TagMarker, Tagged,
+    Form, FormValue, KnownTags, Tagged,
 };
-use der_fields::{Implicit, ImplicitTag, OneOf, cmp_headers};
+use der_fields::{Implicit, OneOf, cmp_headers};
 use der_modules::CopyLaws;
 use der_nest::{ItemOrder, OrdersByEncoding};
-use der_pkix::name::AttributeTypeAndValue;
 use der_tlv::{Error, Length, Source, Tag, Writer};
 use std::alloc::Global;
 use std::cmp::Ordering;
 
 /// The alternatives, as a tree.
-type Tree<'a> = OneOf<
-    OneOf<
-        OneOf<KeyTransRecipientInfo<'a>, Implicit<KeyAgreeRecipientInfo<'a>, 1>>,
-        Implicit<KekRecipientInfo<'a>, 2>,
-    >,
-    OneOf<Implicit<PasswordRecipientInfo<'a>, 3>, Implicit<OtherRecipientInfo<'a>, 4>>,
->;
+type Tree<'a> = OneOf<RecipientInfoFirst<'a>, RecipientInfoOther<'a>>;
 
 /// ```text
 /// RecipientInfo ::= CHOICE {
@@ -133,39 +129,21 @@ impl<'a> Tagged for RecipientInfo<'a> {
         }
     }
 
-    ghost encoding_is = { λ v. (either_tag ⟦<OneOf<OneOf<KeyTransRecipientInfo<'a>, Implicit<KeyAgreeRecipientInfo<'a>, 1>>, Implicit<KekRecipientInfo<'a>, 2>> as Form>⟧ ⟦<OneOf<Implicit<PasswordRecipientInfo<'a>, 3>, Implicit<OtherRecipientInfo<'a>, 4>> as Form>⟧
-        (either_tag ⟦<OneOf<KeyTransRecipientInfo<'a>, Implicit<KeyAgreeRecipientInfo<'a>, 1>> as Form>⟧ ⟦<Implicit<KekRecipientInfo<'a>, 2> as Form>⟧
-        (either_tag ⟦<KeyTransRecipientInfo<'a> as Form>⟧ ⟦<Implicit<KeyAgreeRecipientInfo<'a>, 1> as Form>⟧
-        (one_tag ⟦<SequenceTag as TagMarker>⟧.TAG ⟦<KeyTransRecipientInfo<'a> as FormValue>⟧.value.contents)
-        (one_tag ⟦<ImplicitTag<SequenceTag, 1> as TagMarker>⟧.TAG ⟦<Implicit<KeyAgreeRecipientInfo<'a>, 1> as FormValue>⟧.value.contents))
-        (one_tag ⟦<ImplicitTag<SequenceTag, 2> as TagMarker>⟧.TAG ⟦<Implicit<KekRecipientInfo<'a>, 2> as FormValue>⟧.value.contents))
-        (either_tag ⟦<Implicit<PasswordRecipientInfo<'a>, 3> as Form>⟧ ⟦<Implicit<OtherRecipientInfo<'a>, 4> as Form>⟧
-        (one_tag ⟦<ImplicitTag<SequenceTag, 3> as TagMarker>⟧.TAG ⟦<Implicit<PasswordRecipientInfo<'a>, 3> as FormValue>⟧.value.contents)
-        (one_tag ⟦<ImplicitTag<SequenceTag, 4> as TagMarker>⟧.TAG ⟦<Implicit<OtherRecipientInfo<'a>, 4> as FormValue>⟧.value.contents))).encoding_is (tree_of v) };
+    ghost encoding_is = { λ v. (either_tag ⟦<RecipientInfoFirst<'a> as Form>⟧ ⟦<RecipientInfoOther<'a> as Form>⟧
+        (own_tags ⟦<RecipientInfoFirst<'a> as Form>⟧.tags ⟦<RecipientInfoFirst<'a> as Form>⟧.first_tag_of ⟦<RecipientInfoFirst<'a> as Form>⟧.encoding ⟦<RecipientInfoFirst<'a> as Tagged>⟧.tag_of ⟦<RecipientInfoFirst<'a> as FormValue>⟧.value.contents recipient_info_first_tagged.encoding_is-law recipient_info_first_tagged.own_tag-law recipient_info_first_tagged.first_tag_is-law)
+        (own_tags ⟦<RecipientInfoOther<'a> as Form>⟧.tags ⟦<RecipientInfoOther<'a> as Form>⟧.first_tag_of ⟦<RecipientInfoOther<'a> as Form>⟧.encoding ⟦<RecipientInfoOther<'a> as Tagged>⟧.tag_of ⟦<RecipientInfoOther<'a> as FormValue>⟧.value.contents recipient_info_other_tagged.encoding_is-law recipient_info_other_tagged.own_tag-law recipient_info_other_tagged.first_tag_is-law)).encoding_is (tree_of v) };
 
-    ghost accepted_is_tlv = { λ rules v b. elim v as (λ k. ⟦<Tree<'a> as Form>⟧.accepts rules (tree_of k) b → IsTlv b) [ of.Ktri x ↦ λ a. tlv_tagged _ ⟦<KeyTransRecipientInfo<'a> as FormValue>⟧.value.accepts rules x b a.0.0.0 | of.Kari x ↦ λ a. tlv_tagged _ ⟦<Implicit<KeyAgreeRecipientInfo<'a>, 1> as FormValue>⟧.value.accepts rules x b a.0.0.0 | of.Kekri x ↦ λ a. tlv_tagged _ ⟦<Implicit<KekRecipientInfo<'a>, 2> as FormValue>⟧.value.accepts rules x b a.0.0 | of.Pwri x ↦ λ a. tlv_tagged _ ⟦<Implicit<PasswordRecipientInfo<'a>, 3> as FormValue>⟧.value.accepts rules x b a.0.0 | of.Ori x ↦ λ a. tlv_tagged _ ⟦<Implicit<OtherRecipientInfo<'a>, 4> as FormValue>⟧.value.accepts rules x b a.0.0 ] };
+    ghost accepted_is_tlv = { λ rules v b. elim v as (λ k. ⟦<Tree<'a> as Form>⟧.accepts rules (tree_of k) b → IsTlv b) [ of.Ktri x ↦ λ a. recipient_info_first_tagged.accepted_is_tlv-law rules (recipient_info_first.Ktri x) b a.0 | of.Kari x ↦ λ a. recipient_info_first_tagged.accepted_is_tlv-law rules (recipient_info_first.Kari x) b a.0 | of.Kekri x ↦ λ a. recipient_info_first_tagged.accepted_is_tlv-law rules (recipient_info_first.Kekri x) b a.0 | of.Pwri x ↦ λ a. recipient_info_other_tagged.accepted_is_tlv-law rules (recipient_info_other.Pwri x) b a.0 | of.Ori x ↦ λ a. recipient_info_other_tagged.accepted_is_tlv-law rules (recipient_info_other.Ori x) b a.0 ] };
 
-    ghost own_tag = { λ v. (either_tag ⟦<OneOf<OneOf<KeyTransRecipientInfo<'a>, Implicit<KeyAgreeRecipientInfo<'a>, 1>>, Implicit<KekRecipientInfo<'a>, 2>> as Form>⟧ ⟦<OneOf<Implicit<PasswordRecipientInfo<'a>, 3>, Implicit<OtherRecipientInfo<'a>, 4>> as Form>⟧
-        (either_tag ⟦<OneOf<KeyTransRecipientInfo<'a>, Implicit<KeyAgreeRecipientInfo<'a>, 1>> as Form>⟧ ⟦<Implicit<KekRecipientInfo<'a>, 2> as Form>⟧
-        (either_tag ⟦<KeyTransRecipientInfo<'a> as Form>⟧ ⟦<Implicit<KeyAgreeRecipientInfo<'a>, 1> as Form>⟧
-        (one_tag ⟦<SequenceTag as TagMarker>⟧.TAG ⟦<KeyTransRecipientInfo<'a> as FormValue>⟧.value.contents)
-        (one_tag ⟦<ImplicitTag<SequenceTag, 1> as TagMarker>⟧.TAG ⟦<Implicit<KeyAgreeRecipientInfo<'a>, 1> as FormValue>⟧.value.contents))
-        (one_tag ⟦<ImplicitTag<SequenceTag, 2> as TagMarker>⟧.TAG ⟦<Implicit<KekRecipientInfo<'a>, 2> as FormValue>⟧.value.contents))
-        (either_tag ⟦<Implicit<PasswordRecipientInfo<'a>, 3> as Form>⟧ ⟦<Implicit<OtherRecipientInfo<'a>, 4> as Form>⟧
-        (one_tag ⟦<ImplicitTag<SequenceTag, 3> as TagMarker>⟧.TAG ⟦<Implicit<PasswordRecipientInfo<'a>, 3> as FormValue>⟧.value.contents)
-        (one_tag ⟦<ImplicitTag<SequenceTag, 4> as TagMarker>⟧.TAG ⟦<Implicit<OtherRecipientInfo<'a>, 4> as FormValue>⟧.value.contents))).own_tag (tree_of v) };
+    ghost own_tag = { λ v. (either_tag ⟦<RecipientInfoFirst<'a> as Form>⟧ ⟦<RecipientInfoOther<'a> as Form>⟧
+        (own_tags ⟦<RecipientInfoFirst<'a> as Form>⟧.tags ⟦<RecipientInfoFirst<'a> as Form>⟧.first_tag_of ⟦<RecipientInfoFirst<'a> as Form>⟧.encoding ⟦<RecipientInfoFirst<'a> as Tagged>⟧.tag_of ⟦<RecipientInfoFirst<'a> as FormValue>⟧.value.contents recipient_info_first_tagged.encoding_is-law recipient_info_first_tagged.own_tag-law recipient_info_first_tagged.first_tag_is-law)
+        (own_tags ⟦<RecipientInfoOther<'a> as Form>⟧.tags ⟦<RecipientInfoOther<'a> as Form>⟧.first_tag_of ⟦<RecipientInfoOther<'a> as Form>⟧.encoding ⟦<RecipientInfoOther<'a> as Tagged>⟧.tag_of ⟦<RecipientInfoOther<'a> as FormValue>⟧.value.contents recipient_info_other_tagged.encoding_is-law recipient_info_other_tagged.own_tag-law recipient_info_other_tagged.first_tag_is-law)).own_tag (tree_of v) };
 
-    ghost first_tag_is = { λ v. (either_tag ⟦<OneOf<OneOf<KeyTransRecipientInfo<'a>, Implicit<KeyAgreeRecipientInfo<'a>, 1>>, Implicit<KekRecipientInfo<'a>, 2>> as Form>⟧ ⟦<OneOf<Implicit<PasswordRecipientInfo<'a>, 3>, Implicit<OtherRecipientInfo<'a>, 4>> as Form>⟧
-        (either_tag ⟦<OneOf<KeyTransRecipientInfo<'a>, Implicit<KeyAgreeRecipientInfo<'a>, 1>> as Form>⟧ ⟦<Implicit<KekRecipientInfo<'a>, 2> as Form>⟧
-        (either_tag ⟦<KeyTransRecipientInfo<'a> as Form>⟧ ⟦<Implicit<KeyAgreeRecipientInfo<'a>, 1> as Form>⟧
-        (one_tag ⟦<SequenceTag as TagMarker>⟧.TAG ⟦<KeyTransRecipientInfo<'a> as FormValue>⟧.value.contents)
-        (one_tag ⟦<ImplicitTag<SequenceTag, 1> as TagMarker>⟧.TAG ⟦<Implicit<KeyAgreeRecipientInfo<'a>, 1> as FormValue>⟧.value.contents))
-        (one_tag ⟦<ImplicitTag<SequenceTag, 2> as TagMarker>⟧.TAG ⟦<Implicit<KekRecipientInfo<'a>, 2> as FormValue>⟧.value.contents))
-        (either_tag ⟦<Implicit<PasswordRecipientInfo<'a>, 3> as Form>⟧ ⟦<Implicit<OtherRecipientInfo<'a>, 4> as Form>⟧
-        (one_tag ⟦<ImplicitTag<SequenceTag, 3> as TagMarker>⟧.TAG ⟦<Implicit<PasswordRecipientInfo<'a>, 3> as FormValue>⟧.value.contents)
-        (one_tag ⟦<ImplicitTag<SequenceTag, 4> as TagMarker>⟧.TAG ⟦<Implicit<OtherRecipientInfo<'a>, 4> as FormValue>⟧.value.contents))).first_tag_is (tree_of v) };
+    ghost first_tag_is = { λ v. (either_tag ⟦<RecipientInfoFirst<'a> as Form>⟧ ⟦<RecipientInfoOther<'a> as Form>⟧
+        (own_tags ⟦<RecipientInfoFirst<'a> as Form>⟧.tags ⟦<RecipientInfoFirst<'a> as Form>⟧.first_tag_of ⟦<RecipientInfoFirst<'a> as Form>⟧.encoding ⟦<RecipientInfoFirst<'a> as Tagged>⟧.tag_of ⟦<RecipientInfoFirst<'a> as FormValue>⟧.value.contents recipient_info_first_tagged.encoding_is-law recipient_info_first_tagged.own_tag-law recipient_info_first_tagged.first_tag_is-law)
+        (own_tags ⟦<RecipientInfoOther<'a> as Form>⟧.tags ⟦<RecipientInfoOther<'a> as Form>⟧.first_tag_of ⟦<RecipientInfoOther<'a> as Form>⟧.encoding ⟦<RecipientInfoOther<'a> as Tagged>⟧.tag_of ⟦<RecipientInfoOther<'a> as FormValue>⟧.value.contents recipient_info_other_tagged.encoding_is-law recipient_info_other_tagged.own_tag-law recipient_info_other_tagged.first_tag_is-law)).first_tag_is (tree_of v) };
 
-    ghost re_reads_alike = { λ v. elim v as (λ k. ⟦<Tree<'a> as FormValue>⟧.value.re_reads (tree_of k) ≡ true → ⟦<Tree<'a> as Form>⟧.re_reads (tree_of k) ≡ true) [ of.Ktri x ↦ λ h. h | of.Kari x ↦ λ h. h | of.Kekri x ↦ λ h. h | of.Pwri x ↦ λ h. h | of.Ori x ↦ λ h. h ] };
+    ghost re_reads_alike = { λ v. elim v as (λ k. ⟦<Tree<'a> as FormValue>⟧.value.re_reads (tree_of k) ≡ true → ⟦<Tree<'a> as Form>⟧.re_reads (tree_of k) ≡ true) [ of.Ktri x ↦ recipient_info_first_tagged.re_reads_alike-law (recipient_info_first.Ktri x) | of.Kari x ↦ recipient_info_first_tagged.re_reads_alike-law (recipient_info_first.Kari x) | of.Kekri x ↦ recipient_info_first_tagged.re_reads_alike-law (recipient_info_first.Kekri x) | of.Pwri x ↦ recipient_info_other_tagged.re_reads_alike-law (recipient_info_other.Pwri x) | of.Ori x ↦ recipient_info_other_tagged.re_reads_alike-law (recipient_info_other.Ori x) ] };
 
     ghost comparable_alike = { λ v w h. tt };
 }
@@ -177,7 +155,7 @@ impl<'a> Choice for RecipientInfo<'a> {
         Tree::<'a>::can_decode(tag)
     }
 
-    ghost has_first_tag = { λ v. elim v as (λ k. HasFirstTag (⟦<Tree<'a> as Form>⟧.first_tag_of (tree_of k))) [ of.Ktri x ↦ record { tag = _; is_tag = refl } | of.Kari x ↦ record { tag = _; is_tag = refl } | of.Kekri x ↦ record { tag = _; is_tag = refl } | of.Pwri x ↦ record { tag = _; is_tag = refl } | of.Ori x ↦ record { tag = _; is_tag = refl } ] };
+    ghost has_first_tag = { λ v. elim v as (λ k. HasFirstTag (⟦<Tree<'a> as Form>⟧.first_tag_of (tree_of k))) [ of.Ktri x ↦ recipient_info_first_choice.has_first_tag-law (recipient_info_first.Ktri x) | of.Kari x ↦ recipient_info_first_choice.has_first_tag-law (recipient_info_first.Kari x) | of.Kekri x ↦ recipient_info_first_choice.has_first_tag-law (recipient_info_first.Kekri x) | of.Pwri x ↦ recipient_info_other_choice.has_first_tag-law (recipient_info_other.Pwri x) | of.Ori x ↦ recipient_info_other_choice.has_first_tag-law (recipient_info_other.Ori x) ] };
 }
 
 impl<'a> KnownTags for RecipientInfo<'a> {
@@ -185,9 +163,9 @@ impl<'a> KnownTags for RecipientInfo<'a> {
 
     ghost MAY_BE_ABSENT = { false };
 
-    ghost are_known = { (known_either ⟦<OneOf<OneOf<KeyTransRecipientInfo<'a>, Implicit<KeyAgreeRecipientInfo<'a>, 1>>, Implicit<KekRecipientInfo<'a>, 2>> as KnownTags>⟧.known_tags ⟦<OneOf<Implicit<PasswordRecipientInfo<'a>, 3>, Implicit<OtherRecipientInfo<'a>, 4>> as KnownTags>⟧.known_tags ⟦<OneOf<OneOf<KeyTransRecipientInfo<'a>, Implicit<KeyAgreeRecipientInfo<'a>, 1>>, Implicit<KekRecipientInfo<'a>, 2>> as Form>⟧.tags ⟦<OneOf<Implicit<PasswordRecipientInfo<'a>, 3>, Implicit<OtherRecipientInfo<'a>, 4>> as Form>⟧.tags (known_either ⟦<OneOf<KeyTransRecipientInfo<'a>, Implicit<KeyAgreeRecipientInfo<'a>, 1>> as KnownTags>⟧.known_tags ⟦<Implicit<KekRecipientInfo<'a>, 2> as KnownTags>⟧.known_tags ⟦<OneOf<KeyTransRecipientInfo<'a>, Implicit<KeyAgreeRecipientInfo<'a>, 1>> as Form>⟧.tags ⟦<Implicit<KekRecipientInfo<'a>, 2> as Form>⟧.tags (known_either ⟦<KeyTransRecipientInfo<'a> as KnownTags>⟧.known_tags ⟦<Implicit<KeyAgreeRecipientInfo<'a>, 1> as KnownTags>⟧.known_tags ⟦<KeyTransRecipientInfo<'a> as Form>⟧.tags ⟦<Implicit<KeyAgreeRecipientInfo<'a>, 1> as Form>⟧.tags (own_is_known _) (own_is_known _)) (own_is_known _)) (known_either ⟦<Implicit<PasswordRecipientInfo<'a>, 3> as KnownTags>⟧.known_tags ⟦<Implicit<OtherRecipientInfo<'a>, 4> as KnownTags>⟧.known_tags ⟦<Implicit<PasswordRecipientInfo<'a>, 3> as Form>⟧.tags ⟦<Implicit<OtherRecipientInfo<'a>, 4> as Form>⟧.tags (own_is_known _) (own_is_known _))) };
+    ghost are_known = { (known_either ⟦<RecipientInfoFirst<'a> as KnownTags>⟧.known_tags ⟦<RecipientInfoOther<'a> as KnownTags>⟧.known_tags ⟦<RecipientInfoFirst<'a> as Form>⟧.tags ⟦<RecipientInfoOther<'a> as Form>⟧.tags recipient_info_first_known_tags.are_known-law recipient_info_other_known_tags.are_known-law) };
 
-    ghost is_there = { λ e v. elim v as (λ k. HasFirstTag (⟦<Tree<'a> as Form>⟧.first_tag_of (tree_of k))) [ of.Ktri x ↦ record { tag = _; is_tag = refl } | of.Kari x ↦ record { tag = _; is_tag = refl } | of.Kekri x ↦ record { tag = _; is_tag = refl } | of.Pwri x ↦ record { tag = _; is_tag = refl } | of.Ori x ↦ record { tag = _; is_tag = refl } ] };
+    ghost is_there = { λ e v. elim v as (λ k. HasFirstTag (⟦<Tree<'a> as Form>⟧.first_tag_of (tree_of k))) [ of.Ktri x ↦ recipient_info_first_choice.has_first_tag-law (recipient_info_first.Ktri x) | of.Kari x ↦ recipient_info_first_choice.has_first_tag-law (recipient_info_first.Kari x) | of.Kekri x ↦ recipient_info_first_choice.has_first_tag-law (recipient_info_first.Kekri x) | of.Pwri x ↦ recipient_info_other_choice.has_first_tag-law (recipient_info_other.Pwri x) | of.Ori x ↦ recipient_info_other_choice.has_first_tag-law (recipient_info_other.Ori x) ] };
 }
 
 impl<'a, R: Source<'a>> Decode<'a, R> for RecipientInfo<'a> {
@@ -197,11 +175,11 @@ impl<'a, R: Source<'a>> Decode<'a, R> for RecipientInfo<'a> {
 
     fn decode(alloc: Global, reader: &mut R) -> Result<RecipientInfo<'a>, Error> {
         match Tree::<'a>::decode(alloc, reader) {
-            Ok(OneOf::First(OneOf::First(OneOf::First(value)))) => Ok(RecipientInfo::Ktri(value)),
-            Ok(OneOf::First(OneOf::First(OneOf::Other(value)))) => Ok(RecipientInfo::Kari(value)),
-            Ok(OneOf::First(OneOf::Other(value))) => Ok(RecipientInfo::Kekri(value)),
-            Ok(OneOf::Other(OneOf::First(value))) => Ok(RecipientInfo::Pwri(value)),
-            Ok(OneOf::Other(OneOf::Other(value))) => Ok(RecipientInfo::Ori(value)),
+            Ok(OneOf::First(RecipientInfoFirst::Ktri(value))) => Ok(RecipientInfo::Ktri(value)),
+            Ok(OneOf::First(RecipientInfoFirst::Kari(value))) => Ok(RecipientInfo::Kari(value)),
+            Ok(OneOf::First(RecipientInfoFirst::Kekri(value))) => Ok(RecipientInfo::Kekri(value)),
+            Ok(OneOf::Other(RecipientInfoOther::Pwri(value))) => Ok(RecipientInfo::Pwri(value)),
+            Ok(OneOf::Other(RecipientInfoOther::Ori(value))) => Ok(RecipientInfo::Ori(value)),
             Err(e) => Err(e),
         }
     }
@@ -215,14 +193,7 @@ impl<'a, R: Source<'a>> DecodeField<'a, R> for RecipientInfo<'a> {
     const TAKES_MEMORY: bool = true;
 
     fn decode_field(alloc: Global, reader: &mut R) -> Result<RecipientInfo<'a>, Error> {
-        match Tree::<'a>::decode_field(alloc, reader) {
-            Ok(OneOf::First(OneOf::First(OneOf::First(value)))) => Ok(RecipientInfo::Ktri(value)),
-            Ok(OneOf::First(OneOf::First(OneOf::Other(value)))) => Ok(RecipientInfo::Kari(value)),
-            Ok(OneOf::First(OneOf::Other(value))) => Ok(RecipientInfo::Kekri(value)),
-            Ok(OneOf::Other(OneOf::First(value))) => Ok(RecipientInfo::Pwri(value)),
-            Ok(OneOf::Other(OneOf::Other(value))) => Ok(RecipientInfo::Ori(value)),
-            Err(e) => Err(e),
-        }
+        RecipientInfo::decode(alloc, reader)
     }
 
     ghost takes_memory_is = { refl };
@@ -264,71 +235,22 @@ impl<'a> DerOrd for RecipientInfo<'a> {
 }
 
 impl<'a> EncodingEq for RecipientInfo<'a> {
-    ghost encoding_eq = { seen_equality tree_of ⟦<RecipientInfo<'a> as PartialEq>⟧.eq ⟦<Tree<'a> as PartialEq>⟧.eq (λ v w. elim v as (λ k. ⟦<RecipientInfo<'a> as PartialEq>⟧.eq k w ≡ ⟦<Tree<'a> as PartialEq>⟧.eq (tree_of k) (tree_of w)) [ of.Ktri x ↦ elim w as (λ k. ⟦<RecipientInfo<'a> as PartialEq>⟧.eq (of.Ktri x) k ≡ ⟦<Tree<'a> as PartialEq>⟧.eq (tree_of (of.Ktri x)) (tree_of k)) [ of.Ktri y ↦ refl | of.Kari y ↦ refl | of.Kekri y ↦ refl | of.Pwri y ↦ refl | of.Ori y ↦ refl ] | of.Kari x ↦ elim w as (λ k. ⟦<RecipientInfo<'a> as PartialEq>⟧.eq (of.Kari x) k ≡ ⟦<Tree<'a> as PartialEq>⟧.eq (tree_of (of.Kari x)) (tree_of k)) [ of.Ktri y ↦ refl | of.Kari y ↦ refl | of.Kekri y ↦ refl | of.Pwri y ↦ refl | of.Ori y ↦ refl ] | of.Kekri x ↦ elim w as (λ k. ⟦<RecipientInfo<'a> as PartialEq>⟧.eq (of.Kekri x) k ≡ ⟦<Tree<'a> as PartialEq>⟧.eq (tree_of (of.Kekri x)) (tree_of k)) [ of.Ktri y ↦ refl | of.Kari y ↦ refl | of.Kekri y ↦ refl | of.Pwri y ↦ refl | of.Ori y ↦ refl ] | of.Pwri x ↦ elim w as (λ k. ⟦<RecipientInfo<'a> as PartialEq>⟧.eq (of.Pwri x) k ≡ ⟦<Tree<'a> as PartialEq>⟧.eq (tree_of (of.Pwri x)) (tree_of k)) [ of.Ktri y ↦ refl | of.Kari y ↦ refl | of.Kekri y ↦ refl | of.Pwri y ↦ refl | of.Ori y ↦ refl ] | of.Ori x ↦ elim w as (λ k. ⟦<RecipientInfo<'a> as PartialEq>⟧.eq (of.Ori x) k ≡ ⟦<Tree<'a> as PartialEq>⟧.eq (tree_of (of.Ori x)) (tree_of k)) [ of.Ktri y ↦ refl | of.Kari y ↦ refl | of.Kekri y ↦ refl | of.Pwri y ↦ refl | of.Ori y ↦ refl ] ]) (either_equality ⟦<OneOf<OneOf<KeyTransRecipientInfo<'a>, Implicit<KeyAgreeRecipientInfo<'a>, 1>>, Implicit<KekRecipientInfo<'a>, 2>> as Form>⟧ ⟦<OneOf<Implicit<PasswordRecipientInfo<'a>, 3>, Implicit<OtherRecipientInfo<'a>, 4>> as Form>⟧
-        (either_tag ⟦<OneOf<KeyTransRecipientInfo<'a>, Implicit<KeyAgreeRecipientInfo<'a>, 1>> as Form>⟧ ⟦<Implicit<KekRecipientInfo<'a>, 2> as Form>⟧
-        (either_tag ⟦<KeyTransRecipientInfo<'a> as Form>⟧ ⟦<Implicit<KeyAgreeRecipientInfo<'a>, 1> as Form>⟧
-        (one_tag ⟦<SequenceTag as TagMarker>⟧.TAG ⟦<KeyTransRecipientInfo<'a> as FormValue>⟧.value.contents)
-        (one_tag ⟦<ImplicitTag<SequenceTag, 1> as TagMarker>⟧.TAG ⟦<Implicit<KeyAgreeRecipientInfo<'a>, 1> as FormValue>⟧.value.contents))
-        (one_tag ⟦<ImplicitTag<SequenceTag, 2> as TagMarker>⟧.TAG ⟦<Implicit<KekRecipientInfo<'a>, 2> as FormValue>⟧.value.contents))
-        (either_tag ⟦<Implicit<PasswordRecipientInfo<'a>, 3> as Form>⟧ ⟦<Implicit<OtherRecipientInfo<'a>, 4> as Form>⟧
-        (one_tag ⟦<ImplicitTag<SequenceTag, 3> as TagMarker>⟧.TAG ⟦<Implicit<PasswordRecipientInfo<'a>, 3> as FormValue>⟧.value.contents)
-        (one_tag ⟦<ImplicitTag<SequenceTag, 4> as TagMarker>⟧.TAG ⟦<Implicit<OtherRecipientInfo<'a>, 4> as FormValue>⟧.value.contents))
-        ⟦<OneOf<OneOf<KeyTransRecipientInfo<'a>, Implicit<KeyAgreeRecipientInfo<'a>, 1>>, Implicit<KekRecipientInfo<'a>, 2>> as PartialEq>⟧.eq ⟦<OneOf<Implicit<PasswordRecipientInfo<'a>, 3>, Implicit<OtherRecipientInfo<'a>, 4>> as PartialEq>⟧.eq
-        (either_equality ⟦<OneOf<KeyTransRecipientInfo<'a>, Implicit<KeyAgreeRecipientInfo<'a>, 1>> as Form>⟧ ⟦<Implicit<KekRecipientInfo<'a>, 2> as Form>⟧
-        (either_tag ⟦<KeyTransRecipientInfo<'a> as Form>⟧ ⟦<Implicit<KeyAgreeRecipientInfo<'a>, 1> as Form>⟧
-        (one_tag ⟦<SequenceTag as TagMarker>⟧.TAG ⟦<KeyTransRecipientInfo<'a> as FormValue>⟧.value.contents)
-        (one_tag ⟦<ImplicitTag<SequenceTag, 1> as TagMarker>⟧.TAG ⟦<Implicit<KeyAgreeRecipientInfo<'a>, 1> as FormValue>⟧.value.contents))
-        (one_tag ⟦<ImplicitTag<SequenceTag, 2> as TagMarker>⟧.TAG ⟦<Implicit<KekRecipientInfo<'a>, 2> as FormValue>⟧.value.contents)
-        ⟦<OneOf<KeyTransRecipientInfo<'a>, Implicit<KeyAgreeRecipientInfo<'a>, 1>> as PartialEq>⟧.eq ⟦<Implicit<KekRecipientInfo<'a>, 2> as PartialEq>⟧.eq
-        (either_equality ⟦<KeyTransRecipientInfo<'a> as Form>⟧ ⟦<Implicit<KeyAgreeRecipientInfo<'a>, 1> as Form>⟧
-        (one_tag ⟦<SequenceTag as TagMarker>⟧.TAG ⟦<KeyTransRecipientInfo<'a> as FormValue>⟧.value.contents)
-        (one_tag ⟦<ImplicitTag<SequenceTag, 1> as TagMarker>⟧.TAG ⟦<Implicit<KeyAgreeRecipientInfo<'a>, 1> as FormValue>⟧.value.contents)
-        ⟦<KeyTransRecipientInfo<'a> as PartialEq>⟧.eq ⟦<Implicit<KeyAgreeRecipientInfo<'a>, 1> as PartialEq>⟧.eq
-        (one_tag_equality ⟦<SequenceTag as TagMarker>⟧.TAG ⟦<KeyTransRecipientInfo<'a> as FormValue>⟧.value.contents ⟦<KeyTransRecipientInfo<'a> as FormValue>⟧.value.comparable ⟦<KeyTransRecipientInfo<'a> as PartialEq>⟧.eq key_trans_recipient_info_contents_eq.contents_eq-law)
-        (one_tag_equality ⟦<ImplicitTag<SequenceTag, 1> as TagMarker>⟧.TAG ⟦<Implicit<KeyAgreeRecipientInfo<'a>, 1> as FormValue>⟧.value.contents ⟦<Implicit<KeyAgreeRecipientInfo<'a>, 1> as FormValue>⟧.value.comparable ⟦<Implicit<KeyAgreeRecipientInfo<'a>, 1> as PartialEq>⟧.eq (λ v w. (key_agree_recipient_info_contents_eq.contents_eq-law v.value w.value)))
-        ⟦<OneOf<KeyTransRecipientInfo<'a>, Implicit<KeyAgreeRecipientInfo<'a>, 1>> as PartialEq>⟧.eq (λ v x. refl) (λ w y. refl) (λ v w. refl) (λ w v. refl))
-        (one_tag_equality ⟦<ImplicitTag<SequenceTag, 2> as TagMarker>⟧.TAG ⟦<Implicit<KekRecipientInfo<'a>, 2> as FormValue>⟧.value.contents ⟦<Implicit<KekRecipientInfo<'a>, 2> as FormValue>⟧.value.comparable ⟦<Implicit<KekRecipientInfo<'a>, 2> as PartialEq>⟧.eq (λ v w. (kek_recipient_info_contents_eq.contents_eq-law v.value w.value)))
-        ⟦<OneOf<OneOf<KeyTransRecipientInfo<'a>, Implicit<KeyAgreeRecipientInfo<'a>, 1>>, Implicit<KekRecipientInfo<'a>, 2>> as PartialEq>⟧.eq (λ v x. refl) (λ w y. refl) (λ v w. refl) (λ w v. refl))
-        (either_equality ⟦<Implicit<PasswordRecipientInfo<'a>, 3> as Form>⟧ ⟦<Implicit<OtherRecipientInfo<'a>, 4> as Form>⟧
-        (one_tag ⟦<ImplicitTag<SequenceTag, 3> as TagMarker>⟧.TAG ⟦<Implicit<PasswordRecipientInfo<'a>, 3> as FormValue>⟧.value.contents)
-        (one_tag ⟦<ImplicitTag<SequenceTag, 4> as TagMarker>⟧.TAG ⟦<Implicit<OtherRecipientInfo<'a>, 4> as FormValue>⟧.value.contents)
-        ⟦<Implicit<PasswordRecipientInfo<'a>, 3> as PartialEq>⟧.eq ⟦<Implicit<OtherRecipientInfo<'a>, 4> as PartialEq>⟧.eq
-        (one_tag_equality ⟦<ImplicitTag<SequenceTag, 3> as TagMarker>⟧.TAG ⟦<Implicit<PasswordRecipientInfo<'a>, 3> as FormValue>⟧.value.contents ⟦<Implicit<PasswordRecipientInfo<'a>, 3> as FormValue>⟧.value.comparable ⟦<Implicit<PasswordRecipientInfo<'a>, 3> as PartialEq>⟧.eq (λ v w. (password_recipient_info_contents_eq.contents_eq-law v.value w.value)))
-        (one_tag_equality ⟦<ImplicitTag<SequenceTag, 4> as TagMarker>⟧.TAG ⟦<Implicit<OtherRecipientInfo<'a>, 4> as FormValue>⟧.value.contents ⟦<Implicit<OtherRecipientInfo<'a>, 4> as FormValue>⟧.value.comparable ⟦<Implicit<OtherRecipientInfo<'a>, 4> as PartialEq>⟧.eq (λ v w. (attribute_type_and_value_contents_eq.contents_eq-law v.value w.value)))
-        ⟦<OneOf<Implicit<PasswordRecipientInfo<'a>, 3>, Implicit<OtherRecipientInfo<'a>, 4>> as PartialEq>⟧.eq (λ v x. refl) (λ w y. refl) (λ v w. refl) (λ w v. refl))
-        ⟦<OneOf<OneOf<OneOf<KeyTransRecipientInfo<'a>, Implicit<KeyAgreeRecipientInfo<'a>, 1>>, Implicit<KekRecipientInfo<'a>, 2>>, OneOf<Implicit<PasswordRecipientInfo<'a>, 3>, Implicit<OtherRecipientInfo<'a>, 4>>> as PartialEq>⟧.eq (λ v x. refl) (λ w y. refl) (λ v w. refl) (λ w v. refl)) };
+    ghost encoding_eq = { seen_equality tree_of ⟦<RecipientInfo<'a> as PartialEq>⟧.eq ⟦<Tree<'a> as PartialEq>⟧.eq (λ v w. elim v as (λ k. ⟦<RecipientInfo<'a> as PartialEq>⟧.eq k w ≡ ⟦<Tree<'a> as PartialEq>⟧.eq (tree_of k) (tree_of w)) [ of.Ktri x ↦ elim w as (λ k. ⟦<RecipientInfo<'a> as PartialEq>⟧.eq (of.Ktri x) k ≡ ⟦<Tree<'a> as PartialEq>⟧.eq (tree_of (of.Ktri x)) (tree_of k)) [ of.Ktri y ↦ refl | of.Kari y ↦ refl | of.Kekri y ↦ refl | of.Pwri y ↦ refl | of.Ori y ↦ refl ] | of.Kari x ↦ elim w as (λ k. ⟦<RecipientInfo<'a> as PartialEq>⟧.eq (of.Kari x) k ≡ ⟦<Tree<'a> as PartialEq>⟧.eq (tree_of (of.Kari x)) (tree_of k)) [ of.Ktri y ↦ refl | of.Kari y ↦ refl | of.Kekri y ↦ refl | of.Pwri y ↦ refl | of.Ori y ↦ refl ] | of.Kekri x ↦ elim w as (λ k. ⟦<RecipientInfo<'a> as PartialEq>⟧.eq (of.Kekri x) k ≡ ⟦<Tree<'a> as PartialEq>⟧.eq (tree_of (of.Kekri x)) (tree_of k)) [ of.Ktri y ↦ refl | of.Kari y ↦ refl | of.Kekri y ↦ refl | of.Pwri y ↦ refl | of.Ori y ↦ refl ] | of.Pwri x ↦ elim w as (λ k. ⟦<RecipientInfo<'a> as PartialEq>⟧.eq (of.Pwri x) k ≡ ⟦<Tree<'a> as PartialEq>⟧.eq (tree_of (of.Pwri x)) (tree_of k)) [ of.Ktri y ↦ refl | of.Kari y ↦ refl | of.Kekri y ↦ refl | of.Pwri y ↦ refl | of.Ori y ↦ refl ] | of.Ori x ↦ elim w as (λ k. ⟦<RecipientInfo<'a> as PartialEq>⟧.eq (of.Ori x) k ≡ ⟦<Tree<'a> as PartialEq>⟧.eq (tree_of (of.Ori x)) (tree_of k)) [ of.Ktri y ↦ refl | of.Kari y ↦ refl | of.Kekri y ↦ refl | of.Pwri y ↦ refl | of.Ori y ↦ refl ] ]) (either_equality ⟦<RecipientInfoFirst<'a> as Form>⟧ ⟦<RecipientInfoOther<'a> as Form>⟧
+        (own_tags ⟦<RecipientInfoFirst<'a> as Form>⟧.tags ⟦<RecipientInfoFirst<'a> as Form>⟧.first_tag_of ⟦<RecipientInfoFirst<'a> as Form>⟧.encoding ⟦<RecipientInfoFirst<'a> as Tagged>⟧.tag_of ⟦<RecipientInfoFirst<'a> as FormValue>⟧.value.contents recipient_info_first_tagged.encoding_is-law recipient_info_first_tagged.own_tag-law recipient_info_first_tagged.first_tag_is-law)
+        (own_tags ⟦<RecipientInfoOther<'a> as Form>⟧.tags ⟦<RecipientInfoOther<'a> as Form>⟧.first_tag_of ⟦<RecipientInfoOther<'a> as Form>⟧.encoding ⟦<RecipientInfoOther<'a> as Tagged>⟧.tag_of ⟦<RecipientInfoOther<'a> as FormValue>⟧.value.contents recipient_info_other_tagged.encoding_is-law recipient_info_other_tagged.own_tag-law recipient_info_other_tagged.first_tag_is-law)
+        ⟦<RecipientInfoFirst<'a> as PartialEq>⟧.eq ⟦<RecipientInfoOther<'a> as PartialEq>⟧.eq
+        recipient_info_first_encoding_eq.encoding_eq-law
+        recipient_info_other_encoding_eq.encoding_eq-law
+        ⟦<OneOf<RecipientInfoFirst<'a>, RecipientInfoOther<'a>> as PartialEq>⟧.eq (λ v x. refl) (λ w y. refl) (λ v w. refl) (λ w v. refl)) };
 }
 
 impl<'a> CopyLaws for RecipientInfo<'a> {
-    ghost copies = { copies_of ((seen_copies tree_of ⟦<RecipientInfo<'a> as PartialEq>⟧.eq ⟦<Tree<'a> as PartialEq>⟧.eq (λ v w. elim v as (λ k. ⟦<RecipientInfo<'a> as PartialEq>⟧.eq k w ≡ ⟦<Tree<'a> as PartialEq>⟧.eq (tree_of k) (tree_of w)) [ of.Ktri x ↦ elim w as (λ k. ⟦<RecipientInfo<'a> as PartialEq>⟧.eq (of.Ktri x) k ≡ ⟦<Tree<'a> as PartialEq>⟧.eq (tree_of (of.Ktri x)) (tree_of k)) [ of.Ktri y ↦ refl | of.Kari y ↦ refl | of.Kekri y ↦ refl | of.Pwri y ↦ refl | of.Ori y ↦ refl ] | of.Kari x ↦ elim w as (λ k. ⟦<RecipientInfo<'a> as PartialEq>⟧.eq (of.Kari x) k ≡ ⟦<Tree<'a> as PartialEq>⟧.eq (tree_of (of.Kari x)) (tree_of k)) [ of.Ktri y ↦ refl | of.Kari y ↦ refl | of.Kekri y ↦ refl | of.Pwri y ↦ refl | of.Ori y ↦ refl ] | of.Kekri x ↦ elim w as (λ k. ⟦<RecipientInfo<'a> as PartialEq>⟧.eq (of.Kekri x) k ≡ ⟦<Tree<'a> as PartialEq>⟧.eq (tree_of (of.Kekri x)) (tree_of k)) [ of.Ktri y ↦ refl | of.Kari y ↦ refl | of.Kekri y ↦ refl | of.Pwri y ↦ refl | of.Ori y ↦ refl ] | of.Pwri x ↦ elim w as (λ k. ⟦<RecipientInfo<'a> as PartialEq>⟧.eq (of.Pwri x) k ≡ ⟦<Tree<'a> as PartialEq>⟧.eq (tree_of (of.Pwri x)) (tree_of k)) [ of.Ktri y ↦ refl | of.Kari y ↦ refl | of.Kekri y ↦ refl | of.Pwri y ↦ refl | of.Ori y ↦ refl ] | of.Ori x ↦ elim w as (λ k. ⟦<RecipientInfo<'a> as PartialEq>⟧.eq (of.Ori x) k ≡ ⟦<Tree<'a> as PartialEq>⟧.eq (tree_of (of.Ori x)) (tree_of k)) [ of.Ktri y ↦ refl | of.Kari y ↦ refl | of.Kekri y ↦ refl | of.Pwri y ↦ refl | of.Ori y ↦ refl ] ]) (either_copies ⟦<OneOf<OneOf<KeyTransRecipientInfo<'a>, Implicit<KeyAgreeRecipientInfo<'a>, 1>>, Implicit<KekRecipientInfo<'a>, 2>> as Form>⟧ ⟦<OneOf<Implicit<PasswordRecipientInfo<'a>, 3>, Implicit<OtherRecipientInfo<'a>, 4>> as Form>⟧
-        (either_tag ⟦<OneOf<KeyTransRecipientInfo<'a>, Implicit<KeyAgreeRecipientInfo<'a>, 1>> as Form>⟧ ⟦<Implicit<KekRecipientInfo<'a>, 2> as Form>⟧
-        (either_tag ⟦<KeyTransRecipientInfo<'a> as Form>⟧ ⟦<Implicit<KeyAgreeRecipientInfo<'a>, 1> as Form>⟧
-        (one_tag ⟦<SequenceTag as TagMarker>⟧.TAG ⟦<KeyTransRecipientInfo<'a> as FormValue>⟧.value.contents)
-        (one_tag ⟦<ImplicitTag<SequenceTag, 1> as TagMarker>⟧.TAG ⟦<Implicit<KeyAgreeRecipientInfo<'a>, 1> as FormValue>⟧.value.contents))
-        (one_tag ⟦<ImplicitTag<SequenceTag, 2> as TagMarker>⟧.TAG ⟦<Implicit<KekRecipientInfo<'a>, 2> as FormValue>⟧.value.contents))
-        (either_tag ⟦<Implicit<PasswordRecipientInfo<'a>, 3> as Form>⟧ ⟦<Implicit<OtherRecipientInfo<'a>, 4> as Form>⟧
-        (one_tag ⟦<ImplicitTag<SequenceTag, 3> as TagMarker>⟧.TAG ⟦<Implicit<PasswordRecipientInfo<'a>, 3> as FormValue>⟧.value.contents)
-        (one_tag ⟦<ImplicitTag<SequenceTag, 4> as TagMarker>⟧.TAG ⟦<Implicit<OtherRecipientInfo<'a>, 4> as FormValue>⟧.value.contents))
-        (either_copies ⟦<OneOf<KeyTransRecipientInfo<'a>, Implicit<KeyAgreeRecipientInfo<'a>, 1>> as Form>⟧ ⟦<Implicit<KekRecipientInfo<'a>, 2> as Form>⟧
-        (either_tag ⟦<KeyTransRecipientInfo<'a> as Form>⟧ ⟦<Implicit<KeyAgreeRecipientInfo<'a>, 1> as Form>⟧
-        (one_tag ⟦<SequenceTag as TagMarker>⟧.TAG ⟦<KeyTransRecipientInfo<'a> as FormValue>⟧.value.contents)
-        (one_tag ⟦<ImplicitTag<SequenceTag, 1> as TagMarker>⟧.TAG ⟦<Implicit<KeyAgreeRecipientInfo<'a>, 1> as FormValue>⟧.value.contents))
-        (one_tag ⟦<ImplicitTag<SequenceTag, 2> as TagMarker>⟧.TAG ⟦<Implicit<KekRecipientInfo<'a>, 2> as FormValue>⟧.value.contents)
-        (either_copies ⟦<KeyTransRecipientInfo<'a> as Form>⟧ ⟦<Implicit<KeyAgreeRecipientInfo<'a>, 1> as Form>⟧
-        (one_tag ⟦<SequenceTag as TagMarker>⟧.TAG ⟦<KeyTransRecipientInfo<'a> as FormValue>⟧.value.contents)
-        (one_tag ⟦<ImplicitTag<SequenceTag, 1> as TagMarker>⟧.TAG ⟦<Implicit<KeyAgreeRecipientInfo<'a>, 1> as FormValue>⟧.value.contents)
-        (one_tag_copies ⟦<SequenceTag as TagMarker>⟧.TAG (same_copies ⟦<KeyTransRecipientInfo<'a> as FormValue>⟧.value.contents ⟦<KeyTransRecipientInfo<'a> as FormValue>⟧.value.comparable ⟦<KeyTransRecipientInfo<'a> as FormValue>⟧.value.re_reads ⟦<KeyTransRecipientInfo<'a> as PartialEq>⟧.eq key_trans_recipient_info_eq.laws-law.refl))
-        (one_tag_copies ⟦<ImplicitTag<SequenceTag, 1> as TagMarker>⟧.TAG (held_copies (λ x. x.value) (record { octets_are = key_agree_recipient_info_duplicate_value.copy_contents-law; comparable_are = key_agree_recipient_info_duplicate_value.copy_comparable_value-law; re_reads_are = key_agree_recipient_info_duplicate_value.copy_re_reads_value-law; equal_are = key_agree_recipient_info_duplicate_value_is_equal.copy_value_is_equal-law })))
-        ⟦<OneOf<KeyTransRecipientInfo<'a>, Implicit<KeyAgreeRecipientInfo<'a>, 1>> as PartialEq>⟧.eq (λ v x. refl) (λ w y. refl))
-        (one_tag_copies ⟦<ImplicitTag<SequenceTag, 2> as TagMarker>⟧.TAG (held_copies (λ x. x.value) (same_copies ⟦<KekRecipientInfo<'a> as FormValue>⟧.value.contents ⟦<KekRecipientInfo<'a> as FormValue>⟧.value.comparable ⟦<KekRecipientInfo<'a> as FormValue>⟧.value.re_reads ⟦<KekRecipientInfo<'a> as PartialEq>⟧.eq kek_recipient_info_eq.laws-law.refl)))
-        ⟦<OneOf<OneOf<KeyTransRecipientInfo<'a>, Implicit<KeyAgreeRecipientInfo<'a>, 1>>, Implicit<KekRecipientInfo<'a>, 2>> as PartialEq>⟧.eq (λ v x. refl) (λ w y. refl))
-        (either_copies ⟦<Implicit<PasswordRecipientInfo<'a>, 3> as Form>⟧ ⟦<Implicit<OtherRecipientInfo<'a>, 4> as Form>⟧
-        (one_tag ⟦<ImplicitTag<SequenceTag, 3> as TagMarker>⟧.TAG ⟦<Implicit<PasswordRecipientInfo<'a>, 3> as FormValue>⟧.value.contents)
-        (one_tag ⟦<ImplicitTag<SequenceTag, 4> as TagMarker>⟧.TAG ⟦<Implicit<OtherRecipientInfo<'a>, 4> as FormValue>⟧.value.contents)
-        (one_tag_copies ⟦<ImplicitTag<SequenceTag, 3> as TagMarker>⟧.TAG (held_copies (λ x. x.value) (same_copies ⟦<PasswordRecipientInfo<'a> as FormValue>⟧.value.contents ⟦<PasswordRecipientInfo<'a> as FormValue>⟧.value.comparable ⟦<PasswordRecipientInfo<'a> as FormValue>⟧.value.re_reads ⟦<PasswordRecipientInfo<'a> as PartialEq>⟧.eq password_recipient_info_eq.laws-law.refl)))
-        (one_tag_copies ⟦<ImplicitTag<SequenceTag, 4> as TagMarker>⟧.TAG (held_copies (λ x. x.value) (same_copies ⟦<AttributeTypeAndValue<'a> as FormValue>⟧.value.contents ⟦<AttributeTypeAndValue<'a> as FormValue>⟧.value.comparable ⟦<AttributeTypeAndValue<'a> as FormValue>⟧.value.re_reads ⟦<AttributeTypeAndValue<'a> as PartialEq>⟧.eq attribute_type_and_value_eq.laws-law.refl)))
-        ⟦<OneOf<Implicit<PasswordRecipientInfo<'a>, 3>, Implicit<OtherRecipientInfo<'a>, 4>> as PartialEq>⟧.eq (λ v x. refl) (λ w y. refl))
-        ⟦<OneOf<OneOf<OneOf<KeyTransRecipientInfo<'a>, Implicit<KeyAgreeRecipientInfo<'a>, 1>>, Implicit<KekRecipientInfo<'a>, 2>>, OneOf<Implicit<PasswordRecipientInfo<'a>, 3>, Implicit<OtherRecipientInfo<'a>, 4>>> as PartialEq>⟧.eq (λ v x. refl) (λ w y. refl)))) };
+    ghost copies = { copies_of ((seen_copies tree_of ⟦<RecipientInfo<'a> as PartialEq>⟧.eq ⟦<Tree<'a> as PartialEq>⟧.eq (λ v w. elim v as (λ k. ⟦<RecipientInfo<'a> as PartialEq>⟧.eq k w ≡ ⟦<Tree<'a> as PartialEq>⟧.eq (tree_of k) (tree_of w)) [ of.Ktri x ↦ elim w as (λ k. ⟦<RecipientInfo<'a> as PartialEq>⟧.eq (of.Ktri x) k ≡ ⟦<Tree<'a> as PartialEq>⟧.eq (tree_of (of.Ktri x)) (tree_of k)) [ of.Ktri y ↦ refl | of.Kari y ↦ refl | of.Kekri y ↦ refl | of.Pwri y ↦ refl | of.Ori y ↦ refl ] | of.Kari x ↦ elim w as (λ k. ⟦<RecipientInfo<'a> as PartialEq>⟧.eq (of.Kari x) k ≡ ⟦<Tree<'a> as PartialEq>⟧.eq (tree_of (of.Kari x)) (tree_of k)) [ of.Ktri y ↦ refl | of.Kari y ↦ refl | of.Kekri y ↦ refl | of.Pwri y ↦ refl | of.Ori y ↦ refl ] | of.Kekri x ↦ elim w as (λ k. ⟦<RecipientInfo<'a> as PartialEq>⟧.eq (of.Kekri x) k ≡ ⟦<Tree<'a> as PartialEq>⟧.eq (tree_of (of.Kekri x)) (tree_of k)) [ of.Ktri y ↦ refl | of.Kari y ↦ refl | of.Kekri y ↦ refl | of.Pwri y ↦ refl | of.Ori y ↦ refl ] | of.Pwri x ↦ elim w as (λ k. ⟦<RecipientInfo<'a> as PartialEq>⟧.eq (of.Pwri x) k ≡ ⟦<Tree<'a> as PartialEq>⟧.eq (tree_of (of.Pwri x)) (tree_of k)) [ of.Ktri y ↦ refl | of.Kari y ↦ refl | of.Kekri y ↦ refl | of.Pwri y ↦ refl | of.Ori y ↦ refl ] | of.Ori x ↦ elim w as (λ k. ⟦<RecipientInfo<'a> as PartialEq>⟧.eq (of.Ori x) k ≡ ⟦<Tree<'a> as PartialEq>⟧.eq (tree_of (of.Ori x)) (tree_of k)) [ of.Ktri y ↦ refl | of.Kari y ↦ refl | of.Kekri y ↦ refl | of.Pwri y ↦ refl | of.Ori y ↦ refl ] ]) (either_copies ⟦<RecipientInfoFirst<'a> as Form>⟧ ⟦<RecipientInfoOther<'a> as Form>⟧
+        (own_tags ⟦<RecipientInfoFirst<'a> as Form>⟧.tags ⟦<RecipientInfoFirst<'a> as Form>⟧.first_tag_of ⟦<RecipientInfoFirst<'a> as Form>⟧.encoding ⟦<RecipientInfoFirst<'a> as Tagged>⟧.tag_of ⟦<RecipientInfoFirst<'a> as FormValue>⟧.value.contents recipient_info_first_tagged.encoding_is-law recipient_info_first_tagged.own_tag-law recipient_info_first_tagged.first_tag_is-law)
+        (own_tags ⟦<RecipientInfoOther<'a> as Form>⟧.tags ⟦<RecipientInfoOther<'a> as Form>⟧.first_tag_of ⟦<RecipientInfoOther<'a> as Form>⟧.encoding ⟦<RecipientInfoOther<'a> as Tagged>⟧.tag_of ⟦<RecipientInfoOther<'a> as FormValue>⟧.value.contents recipient_info_other_tagged.encoding_is-law recipient_info_other_tagged.own_tag-law recipient_info_other_tagged.first_tag_is-law)
+        (record { octets_are = recipient_info_first_duplicate.copy_encoding-law; comparable_are = recipient_info_first_duplicate.copy_comparable-law; re_reads_are = recipient_info_first_duplicate.copy_re_reads-law; equal_are = recipient_info_first_duplicate_is_equal.copy_is_equal-law })
+        (same_copies ⟦<RecipientInfoOther<'a> as Form>⟧.encoding ⟦<RecipientInfoOther<'a> as Form>⟧.comparable ⟦<RecipientInfoOther<'a> as Form>⟧.re_reads ⟦<RecipientInfoOther<'a> as PartialEq>⟧.eq recipient_info_other_eq.laws-law.refl)
+        ⟦<OneOf<RecipientInfoFirst<'a>, RecipientInfoOther<'a>> as PartialEq>⟧.eq (λ v x. refl) (λ w y. refl)))) };
 }
 
 impl<'a> Duplicate for RecipientInfo<'a> {

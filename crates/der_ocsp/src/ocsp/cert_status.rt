@@ -173,12 +173,7 @@ impl<'a, R: Source<'a>> DecodeField<'a, R> for CertStatus {
     const TAKES_MEMORY: bool = false;
 
     fn decode_field(alloc: Global, reader: &mut R) -> Result<CertStatus, Error> {
-        match Tree::decode_field(alloc, reader) {
-            Ok(OneOf::First(OneOf::First(value))) => Ok(CertStatus::Good(value)),
-            Ok(OneOf::First(OneOf::Other(value))) => Ok(CertStatus::Revoked(value)),
-            Ok(OneOf::Other(value)) => Ok(CertStatus::Unknown(value)),
-            Err(e) => Err(e),
-        }
+        CertStatus::decode(alloc, reader)
     }
 
     ghost takes_memory_is = { refl };

@@ -165,11 +165,7 @@ impl<'a, R: Source<'a>> DecodeField<'a, R> for ResponderId<'a> {
     const TAKES_MEMORY: bool = true;
 
     fn decode_field(alloc: Global, reader: &mut R) -> Result<ResponderId<'a>, Error> {
-        match Tree::<'a>::decode_field(alloc, reader) {
-            Ok(OneOf::First(value)) => Ok(ResponderId::ByName(value)),
-            Ok(OneOf::Other(value)) => Ok(ResponderId::ByKey(value)),
-            Err(e) => Err(e),
-        }
+        ResponderId::decode(alloc, reader)
     }
 
     ghost takes_memory_is = { refl };

@@ -159,11 +159,7 @@ impl<'a, R: Source<'a>> DecodeField<'a, R> for Pbkdf2Salt<'a> {
     const TAKES_MEMORY: bool = false;
 
     fn decode_field(alloc: Global, reader: &mut R) -> Result<Pbkdf2Salt<'a>, Error> {
-        match Tree::<'a>::decode_field(alloc, reader) {
-            Ok(OneOf::First(value)) => Ok(Pbkdf2Salt::Specified(value)),
-            Ok(OneOf::Other(value)) => Ok(Pbkdf2Salt::OtherSource(value)),
-            Err(e) => Err(e),
-        }
+        Pbkdf2Salt::decode(alloc, reader)
     }
 
     ghost takes_memory_is = { refl };
