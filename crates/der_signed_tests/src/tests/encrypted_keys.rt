@@ -1,6 +1,6 @@
 //! Private keys that are encrypted (RFC 5958 section 3), and the parameters of that (RFC 8018).
 
-use super::{again, copied, numbered, put, read_and_compared, read_and_copied, same, same_in};
+use super::{again, numbered, put, read_and_compared, read_and_copied, same, same_in};
 use der_asn1_types::{Encode, FromDer};
 use der_pkcs::encryption::{
     EncryptedPrivateKeyInfo, PbeParameter, Pbes2Params, Pbkdf2Params, Pbkdf2Salt,

@@ -5,7 +5,9 @@ use super::{
     again, content_of, copied, numbered, put, read_and_compared, read_and_copied, same, same_in,
 };
 use der_asn1_types::{Encode, FromDer};
-use der_cms::cms::{SignedAttributes, SignedData, SignerIdentifier, SignerInfo, SigningTime};
+use der_cms::cms::{
+    Countersignature, SignedAttributes, SignedData, SignerIdentifier, SignerInfo, SigningTime,
+};
 use der_cms::ess::{SigningCertificate, SigningCertificateV2};
 use der_pkix::certificate::Time;
 use std::alloc::Global;
@@ -25,6 +27,10 @@ const BY_KEY: &str =
 
 fn signer_again(alloc: Global, octets: &[u8]) -> Result<Vec<u8>, u8> {
     again::<SignerInfo>(alloc, octets)
+}
+
+fn countersignature_again(alloc: Global, octets: &[u8]) -> Result<Vec<u8>, u8> {
+    again::<Countersignature>(alloc, octets)
 }
 
 fn attributes_again(alloc: Global, octets: &[u8]) -> Result<Vec<u8>, u8> {
@@ -70,6 +76,25 @@ fn attributes_of(alloc: Global, octets: &[u8]) -> Result<Vec<u8>, u8> {
             Some(attributes) => numbered(attributes.to_der(alloc)),
             None => Err(0),
         },
+        Err(e) => Err(e.kind().number()),
+    }
+}
+
+// The encoding of the first value of a signer's first attribute that is not signed.
+fn countersignature_of(alloc: Global, octets: &[u8]) -> Result<Vec<u8>, u8> {
+    match SignerInfo::from_der(alloc, octets) {
+        Ok(signer) => {
+            let Some(attributes) = signer.unsigned_attrs() else {
+                return Err(0);
+            };
+            let Some(attribute) = attributes.as_slice().first() else {
+                return Err(0);
+            };
+            match attribute.values().as_slice().first() {
+                Some(value) => numbered(value.to_der(alloc)),
+                None => Err(0),
+            }
+        }
         Err(e) => Err(e.kind().number()),
     }
 }
@@ -181,6 +206,25 @@ fn signers_have_fields(rt: HostRuntime) -> Result<(), Fail> {
     let key = hex::decode(alloc, "0813afd67116762e86f934861382ed3b8604de7b")?;
     let found = signer_told(alloc, signer.as_slice());
     same(&rt, found, Ok((3, key, None, false, 70)));
+    Ok(())
+}
+
+#[test]
+fn countersignatures_are_read(rt: HostRuntime) -> Result<(), Fail> {
+    let alloc = rt.alloc();
+    // the signer that its key names, with itself as the value of an attribute that is not signed
+    let octets = hex::decode(
+        alloc,
+        "3082010902010380140813afd67116762e86f934861382ed3b8604de7b300b0609608648016503040201300a06082a8648ce3d040302044630440220020e272837726c0768056ada49cd027732c72c57fb8807c29bbeb36dc7b5a35f0220757e2df5bf3105e62875acf13a9ceca531b9b670b117a61caf8c0b450ff1cc26a1818c30818906092a864886f70d010906317c307a02010380140813afd67116762e86f934861382ed3b8604de7b300b0609608648016503040201300a06082a8648ce3d040302044630440220020e272837726c0768056ada49cd027732c72c57fb8807c29bbeb36dc7b5a35f0220757e2df5bf3105e62875acf13a9ceca531b9b670b117a61caf8c0b450ff1cc26",
+    )?;
+    let written = signer_again(alloc, octets.as_slice())?;
+    same(&rt, written.as_slice(), octets.as_slice());
+    let key = hex::decode(alloc, "0813afd67116762e86f934861382ed3b8604de7b")?;
+    let found = signer_told(alloc, octets.as_slice());
+    same(&rt, found, Ok((3, key, None, true, 70)));
+    let value = countersignature_of(alloc, octets.as_slice())?;
+    let written = countersignature_again(alloc, value.as_slice())?;
+    same(&rt, written.as_slice(), value.as_slice());
     Ok(())
 }
 
