@@ -1,0 +1,5 @@
+pub mod Algorithms
+pub mod FindingOne
+pub mod FirstFields
+pub mod Fronts
+pub mod Steps

@@ -1,0 +1,4 @@
+pub mod Extensions
+pub mod Rfc5280
+pub mod Signed
+pub mod Time

@@ -1,0 +1,137 @@
+-- What RFC 5280 asks of a certificate beyond its grammar: a test a rule, which is true of a certificate that breaks it.
+use Rattle.std.specs.Prelude.{ℕ, ◌==◌, nat_eq, nat_lt, nat_le, List, [], ◌∷◌, length, take, drop, Bool, true, false, not, ◌&&◌, ◌||◌, Option, Some, None, is_some}
+use Rattle.std.specs.Borrow.{Bor}
+use Rattle.std.specs.Bool.{beq}
+use Rattle.std.specs.Cmp.Lexicographic.{pointwise}
+use Rattle.der_opaque.specs.ObjectIdentifier as identifier
+use Rattle.der_opaque.specs.OctetStringRef as string
+use Rattle.der_numbers.specs.IntRef.{contents_of}
+use Rattle.der_nest.specs.Kept as kept
+use Rattle.der_pkix.specs.declared.certificate.tbs_certificate.TbsCertificate.{TbsCertificate}
+use Rattle.der_pkix.specs.declared.certificate.extension.Extension.{Extension}
+use Rattle.der_pkix.specs.declared.certificate.extensions.Extensions.{Extensions}
+use Rattle.der_pkix.specs.declared.certificate.certificate.Certificate.{Certificate}
+use Rattle.der_pkix.specs.contracts.algorithm_identifier.AlgorithmIdentifierPartialEq.TheImpl as equality
+use Rattle.der_pkix.specs.Certificate.Certificate as certificate
+use Rattle.der_pkix.specs.Certificate.TbsCertificate as tbs
+use Rattle.der_pkix.specs.Certificate.Extension as extension
+use Rattle.der_pkix.specs.Certificate.Extensions as extensions
+use Rattle.der_verify.specs.Extensions.{has_identifier, some_of}
+use Rattle.der_verify.specs.declared.rfc5280.CertificateRule.{CertificateRule}
+use Rattle.der_verify.specs.declared.rfc5280.CertificateRule.TheVariants as rule
+
+-- the extensions; none where the field is absent
+abbrev pub listed : Option Extensions → List Extension
+listed None = []
+listed (Some x) = extensions.items_of x
+
+-- whether there is an extension with this identifier that is critical, or one that is not
+abbrev pub has_criticality : List ℕ → Bool → List Extension → Bool
+has_criticality octets critical = some_of (λ e. has_identifier octets e && beq (extension.critical e) critical)
+
+-- whether two extensions have one identifier
+abbrev pub has_repeated : List Extension → Bool
+has_repeated [] = false
+has_repeated (e ∷ others) = some_of (has_identifier (identifier.octets_of (extension.extn_id e))) others || has_repeated others
+
+-- whether contents octets are those of a positive INTEGER: the first bit says no sign, and they are not 00
+abbrev pub is_positive : List ℕ → Bool
+is_positive [] = false
+is_positive (x ∷ xs) = nat_lt x 128 && not (x == 0 && length xs == 0)
+
+-- the octets of BasicConstraints say that cA is TRUE: 30, a length, 01 01 FF
+abbrev pub says_true : List ℕ → Bool
+says_true octets = nat_le 5 (length octets) && pointwise nat_eq (take 3 (drop 2 octets)) (1 ∷ 1 ∷ 255 ∷ [])
+
+-- identifiers of section 4.2.1 (id-ce, 2.5.29) and 4.2.2 (id-pe, 1.3.6.1.5.5.7.1)
+abbrev pub id_ce : ℕ → List ℕ
+id_ce n = 85 ∷ 29 ∷ n ∷ []
+
+abbrev pub id_pe : ℕ → List ℕ
+id_pe n = 43 ∷ 6 ∷ 1 ∷ 5 ∷ 5 ∷ 7 ∷ 1 ∷ n ∷ []
+
+-- basicConstraints of a CA, not critical
+abbrev pub is_uncritical_ca : Extension → Bool
+is_uncritical_ca e = has_identifier (id_ce 19) e && (not (extension.critical e) && says_true (string.octets_of (extension.extn_value e)))
+
+-- the extensions whose criticality is fixed: the identifier, and what is not allowed
+abbrev pub forbidden : CertificateRule → Option (List ℕ × Bool)
+-- 4.2.1.1, 4.2.1.2, 4.2.1.8, 4.2.1.15, 4.2.2.1, 4.2.2.2: not critical
+forbidden rule.AuthorityKeyIdentifierIsNotCritical = Some (id_ce 35, true)
+forbidden rule.SubjectKeyIdentifierIsNotCritical = Some (id_ce 14, true)
+forbidden rule.SubjectDirectoryAttributesIsNotCritical = Some (id_ce 9, true)
+forbidden rule.FreshestCrlIsNotCritical = Some (id_ce 46, true)
+forbidden rule.AuthorityInfoAccessIsNotCritical = Some (id_pe 1, true)
+forbidden rule.SubjectInfoAccessIsNotCritical = Some (id_pe 11, true)
+-- 4.2.1.10, 4.2.1.11, 4.2.1.14: critical
+forbidden rule.NameConstraintsIsCritical = Some (id_ce 30, false)
+forbidden rule.PolicyConstraintsIsCritical = Some (id_ce 36, false)
+forbidden rule.InhibitAnyPolicyIsCritical = Some (id_ce 54, false)
+forbidden _ = None
+
+-- the same as code has it
+abbrev pub seen_forbidden : Option (Bor (List ℕ) × Bool) → Option (List ℕ × Bool)
+seen_forbidden None = None
+seen_forbidden (Some (octets, critical)) = Some (octets.now, critical)
+
+-- the other rules
+abbrev pub breaks_otherwise : CertificateRule → TbsCertificate → Bool
+-- 4.1.2.1: extensions stand in version 3 (2) alone
+breaks_otherwise rule.ExtensionsInVersion3 c = is_some (tbs.extensions c) && not (tbs.version c == 2)
+-- 4.1.2.2: the serial number is positive
+breaks_otherwise rule.SerialNumberIsPositive c = not (is_positive (contents_of (tbs.serial_number c)))
+-- 4.1.2.2: it has at most 20 octets
+breaks_otherwise rule.SerialNumberHas20Octets c = nat_lt 20 (length (contents_of (tbs.serial_number c)))
+-- 4.1.2.4: the issuer is not empty
+breaks_otherwise rule.IssuerIsNotEmpty c = length (kept.octets_of (tbs.issuer c)) == 0
+-- 4.1.2.6: beside an empty subject stands a subjectAltName that is critical
+breaks_otherwise rule.EmptySubjectHasCriticalAltName c =
+    length (kept.octets_of (tbs.subject c)) == 0 && not (has_criticality (id_ce 17) true (listed (tbs.extensions c)))
+-- 4.1.2.8: unique identifiers stand in version 2 (1) and 3 (2) alone
+breaks_otherwise rule.UniqueIdentifiersInVersion2 c = (is_some (tbs.issuer_unique_id c) || is_some (tbs.subject_unique_id c)) && tbs.version c == 0
+-- 4.2: each extension stands once
+breaks_otherwise rule.ExtensionsStandOnce c = has_repeated (listed (tbs.extensions c))
+-- 4.2.1.9: basicConstraints of a CA is critical
+breaks_otherwise rule.BasicConstraintsOfCaIsCritical c = some_of is_uncritical_ca (listed (tbs.extensions c))
+breaks_otherwise _ c = false
+
+-- an extension that is not allowed stands there
+abbrev pub breaks_criticality : Option (List ℕ × Bool) → List Extension → Bool
+breaks_criticality None extensions = false
+breaks_criticality (Some (octets, critical)) extensions = has_criticality octets critical extensions
+
+-- whether the part that is signed breaks a rule
+abbrev pub breaks_within : CertificateRule → TbsCertificate → Bool
+breaks_within r c = breaks_otherwise r c || breaks_criticality (forbidden r) (listed (tbs.extensions c))
+
+-- whether the algorithm within is equal to the one outside
+abbrev pub same_algorithms : Certificate → Bool
+same_algorithms c = equality.ghosts.eq (tbs.signature (certificate.tbs_certificate c)) (certificate.signature_algorithm c)
+
+-- whether a certificate breaks a rule
+abbrev pub breaks : CertificateRule → Certificate → Bool
+-- 4.1.1.2, 4.1.2.3: the two algorithms are one
+breaks rule.AlgorithmsAgree c = not (same_algorithms c)
+breaks r c = breaks_within r (certificate.tbs_certificate c)
+
+-- all rules, in the order in which they are told
+abbrev pub certificate_rules : List CertificateRule
+certificate_rules =
+    rule.AlgorithmsAgree
+    ∷ rule.ExtensionsInVersion3
+    ∷ rule.SerialNumberIsPositive
+    ∷ rule.SerialNumberHas20Octets
+    ∷ rule.IssuerIsNotEmpty
+    ∷ rule.EmptySubjectHasCriticalAltName
+    ∷ rule.UniqueIdentifiersInVersion2
+    ∷ rule.ExtensionsStandOnce
+    ∷ rule.AuthorityKeyIdentifierIsNotCritical
+    ∷ rule.SubjectKeyIdentifierIsNotCritical
+    ∷ rule.SubjectDirectoryAttributesIsNotCritical
+    ∷ rule.FreshestCrlIsNotCritical
+    ∷ rule.AuthorityInfoAccessIsNotCritical
+    ∷ rule.SubjectInfoAccessIsNotCritical
+    ∷ rule.BasicConstraintsOfCaIsCritical
+    ∷ rule.NameConstraintsIsCritical
+    ∷ rule.PolicyConstraintsIsCritical
+    ∷ rule.InhibitAnyPolicyIsCritical ∷ []

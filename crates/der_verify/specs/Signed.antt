@@ -1,0 +1,19 @@
+-- Where the octets stand that a signature covers: of a SEQUENCE of what is signed, an algorithm and a signature, they are the first
+-- field's encoding (RFC 5280 4.1.1.3 and 5.1.1.3, RFC 2986 4.2, RFC 6960 4.2.1).
+use Rattle.std.specs.Prelude.{ℕ, ◌≡◌, ◌<◌, ◌^◌, List, ◌++◌, length}
+use Rattle.der_tlv.specs.declared.tag.Tag.{Tag}
+use Rattle.der_tlv.specs.TagParts.{IsTag}
+use Rattle.der_tlv.specs.HeaderOctets.{tlv}
+
+-- octets that begin with a whole encoding, of no more octets than a length can say
+pub record BeginsWith (octets : List ℕ) (tag : Tag) (contents others : List ℕ) : Type 0 where
+  pub is_tag : IsTag tag
+  pub short : length octets < 2 ^ 32
+  pub octets_are : octets ≡ tlv tag contents ++ others
+
+-- a whole encoding whose contents octets begin with another
+pub record HasFirst (octets : List ℕ) (outer inner : Tag) (contents others : List ℕ) : Type 0 where
+  pub is_outer : IsTag outer
+  pub is_inner : IsTag inner
+  pub short : length octets < 2 ^ 32
+  pub octets_are : octets ≡ tlv outer (tlv inner contents ++ others)

@@ -1,0 +1,13 @@
+//! What who verifies a signature needs of a message, beside reading it: the octets that are signed,
+//! an extension by its identifier, and what RFC 5280 asks beyond the grammar.
+#![tactic(auto)]
+
+mod extensions;
+mod rfc5280;
+mod signed;
+mod time;
+
+pub use extensions::find_extension;
+pub use rfc5280::{CERTIFICATE_RULES, CertificateRule, algorithms_agree, check_certificate};
+pub use signed::{first_field, octets_of_tbs_cert_list, octets_of_tbs_certificate};
+pub use time::{date_time, holds_at, seconds, time_at};

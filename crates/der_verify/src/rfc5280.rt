@@ -1,0 +1,314 @@
+//! What RFC 5280 asks of a certificate beyond its grammar (sections 4.1 and 4.2). A certificate that is
+//! read may break it; who verifies one asks here.
+
+ghost use Rattle.std.specs.Prelude.{◌≡◌, ◌==◌, ◌||◌, ◌↔◌, filter, is_some, length, IfOk, IsTrue};
+ghost use Rattle.der_pkix.specs.Certificate.Certificate as certificate_fields;
+ghost use Rattle.der_nest.specs.Kept as kept;
+ghost use Rattle.der_pkix.specs.Certificate.TbsCertificate as tbs_fields;
+ghost use Rattle.der_verify.specs.Extensions.{has_identifier, some_of};
+ghost use Rattle.der_verify.specs.Rfc5280.{breaks, breaks_otherwise, breaks_within, certificate_rules, same_algorithms, forbidden, has_criticality, has_repeated, is_positive, is_uncritical_ca, listed, says_true, seen_forbidden};
+
+use crate::extensions::{has_extension, has_identifier};
+use der_elem::Form;
+use der_modules::copy_of;
+use der_nest::Kept;
+use der_pkix::AlgorithmIdentifier;
+use der_pkix::certificate::{Certificate, Extension, TbsCertificate};
+use der_pkix::name::Name;
+use std::alloc::{AllocError, Global};
+
+/// A rule of RFC 5280 for certificates.
+#[derive(Clone, Copy, Debug, PartialEq, Eq)]
+pub enum CertificateRule {
+    /// The algorithm within is the one outside (4.1.1.2, 4.1.2.3).
+    AlgorithmsAgree,
+    /// Extensions stand in version 3 alone (4.1.2.1).
+    ExtensionsInVersion3,
+    /// The serial number is positive (4.1.2.2).
+    SerialNumberIsPositive,
+    /// The serial number has at most 20 octets (4.1.2.2).
+    SerialNumberHas20Octets,
+    /// The issuer is not empty (4.1.2.4).
+    IssuerIsNotEmpty,
+    /// Beside an empty subject stands a subjectAltName that is critical (4.1.2.6).
+    EmptySubjectHasCriticalAltName,
+    /// Unique identifiers stand in version 2 and 3 alone (4.1.2.8).
+    UniqueIdentifiersInVersion2,
+    /// Each extension stands once (4.2).
+    ExtensionsStandOnce,
+    /// authorityKeyIdentifier is not critical (4.2.1.1).
+    AuthorityKeyIdentifierIsNotCritical,
+    /// subjectKeyIdentifier is not critical (4.2.1.2).
+    SubjectKeyIdentifierIsNotCritical,
+    /// subjectDirectoryAttributes is not critical (4.2.1.8).
+    SubjectDirectoryAttributesIsNotCritical,
+    /// freshestCRL is not critical (4.2.1.15).
+    FreshestCrlIsNotCritical,
+    /// authorityInfoAccess is not critical (4.2.2.1).
+    AuthorityInfoAccessIsNotCritical,
+    /// subjectInfoAccess is not critical (4.2.2.2).
+    SubjectInfoAccessIsNotCritical,
+    /// basicConstraints of a CA is critical (4.2.1.9).
+    BasicConstraintsOfCaIsCritical,
+    /// nameConstraints is critical (4.2.1.10).
+    NameConstraintsIsCritical,
+    /// policyConstraints is critical (4.2.1.11).
+    PolicyConstraintsIsCritical,
+    /// inhibitAnyPolicy is critical (4.2.1.14).
+    InhibitAnyPolicyIsCritical,
+}
+
+/// All rules, in the order in which `check_certificate` tells them.
+pub const CERTIFICATE_RULES: [CertificateRule; 18] = [
+    CertificateRule::AlgorithmsAgree,
+    CertificateRule::ExtensionsInVersion3,
+    CertificateRule::SerialNumberIsPositive,
+    CertificateRule::SerialNumberHas20Octets,
+    CertificateRule::IssuerIsNotEmpty,
+    CertificateRule::EmptySubjectHasCriticalAltName,
+    CertificateRule::UniqueIdentifiersInVersion2,
+    CertificateRule::ExtensionsStandOnce,
+    CertificateRule::AuthorityKeyIdentifierIsNotCritical,
+    CertificateRule::SubjectKeyIdentifierIsNotCritical,
+    CertificateRule::SubjectDirectoryAttributesIsNotCritical,
+    CertificateRule::FreshestCrlIsNotCritical,
+    CertificateRule::AuthorityInfoAccessIsNotCritical,
+    CertificateRule::SubjectInfoAccessIsNotCritical,
+    CertificateRule::BasicConstraintsOfCaIsCritical,
+    CertificateRule::NameConstraintsIsCritical,
+    CertificateRule::PolicyConstraintsIsCritical,
+    CertificateRule::InhibitAnyPolicyIsCritical,
+];
+
+/// The rules that a certificate breaks, in the order of `CERTIFICATE_RULES`.
+///
+/// # Errors
+/// Where memory runs out.
+pub fn check_certificate(
+    alloc: Global,
+    certificate: &Certificate<'_>,
+) -> Result<Vec<CertificateRule>, AllocError>
+    ensures { IfOk result (λ found.
+        found.items ≡ filter (λ r. breaks r certificate.now) certificate_rules) }
+{
+    let mut found = Vec::new(alloc);
+    let mut left = CERTIFICATE_RULES.as_slice();
+    'each: while let [rule, others @ ..] = left {
+        if rule.is_broken(certificate) {
+            found.push(*rule)?;
+        }
+        left = others;
+    }
+    Ok(found)
+}
+
+/// Whether the algorithm within a certificate is the one outside (4.1.1.2, 4.1.2.3): the encodings
+/// are equal.
+pub fn algorithms_agree<'a>(certificate: &Certificate<'a>) -> bool
+    ensures equal { result ≡ same_algorithms certificate.now }
+    ensures encodings { IsTrue result ↔ (⟦<AlgorithmIdentifier<'a> as Form>⟧.encoding (tbs_fields.signature (certificate_fields.tbs_certificate certificate.now)) ≡ ⟦<AlgorithmIdentifier<'a> as Form>⟧.encoding (certificate_fields.signature_algorithm certificate.now)) }
+{
+    certificate.tbs_certificate().signature() == certificate.signature_algorithm()
+}
+
+impl CertificateRule {
+    /// The section of RFC 5280 that has the rule.
+    pub fn section(self) -> &'static str {
+        match self {
+            CertificateRule::AlgorithmsAgree => "4.1.1.2",
+            CertificateRule::ExtensionsInVersion3 => "4.1.2.1",
+            CertificateRule::SerialNumberIsPositive => "4.1.2.2",
+            CertificateRule::SerialNumberHas20Octets => "4.1.2.2",
+            CertificateRule::IssuerIsNotEmpty => "4.1.2.4",
+            CertificateRule::EmptySubjectHasCriticalAltName => "4.1.2.6",
+            CertificateRule::UniqueIdentifiersInVersion2 => "4.1.2.8",
+            CertificateRule::ExtensionsStandOnce => "4.2",
+            CertificateRule::AuthorityKeyIdentifierIsNotCritical => "4.2.1.1",
+            CertificateRule::SubjectKeyIdentifierIsNotCritical => "4.2.1.2",
+            CertificateRule::SubjectDirectoryAttributesIsNotCritical => "4.2.1.8",
+            CertificateRule::FreshestCrlIsNotCritical => "4.2.1.15",
+            CertificateRule::AuthorityInfoAccessIsNotCritical => "4.2.2.1",
+            CertificateRule::SubjectInfoAccessIsNotCritical => "4.2.2.2",
+            CertificateRule::BasicConstraintsOfCaIsCritical => "4.2.1.9",
+            CertificateRule::NameConstraintsIsCritical => "4.2.1.10",
+            CertificateRule::PolicyConstraintsIsCritical => "4.2.1.11",
+            CertificateRule::InhibitAnyPolicyIsCritical => "4.2.1.14",
+        }
+    }
+
+    /// Whether a certificate breaks the rule.
+    pub fn is_broken(self, certificate: &Certificate<'_>) -> bool
+        ensures { result ≡ breaks self certificate.now }
+    {
+        match self {
+            CertificateRule::AlgorithmsAgree => !algorithms_agree(certificate),
+            _ => self.is_broken_within(certificate.tbs_certificate()),
+        }
+    }
+
+    /// Whether the part of a certificate that is signed breaks the rule.
+    fn is_broken_within(self, certificate: &TbsCertificate<'_>) -> bool
+        ensures { result ≡ breaks_within self certificate.now }
+    {
+        match self.forbidden() {
+            Some((identifier, critical)) => has_criticality_in(certificate, identifier, critical),
+            None => self.is_broken_otherwise(certificate),
+        }
+    }
+
+    /// The identifier of the extension that the rule is about, and the criticality that it may not
+    /// have.
+    fn forbidden(self) -> Option<(&'static [u8], bool)>
+        ensures { seen_forbidden result ≡ forbidden self }
+    {
+        match self {
+            CertificateRule::AuthorityKeyIdentifierIsNotCritical => Some((
+                &[0x55, 0x1d, 0x23],
+                true,
+            )),
+            CertificateRule::SubjectKeyIdentifierIsNotCritical => Some((&[0x55, 0x1d, 0x0e], true)),
+            CertificateRule::SubjectDirectoryAttributesIsNotCritical => {
+                Some((&[0x55, 0x1d, 0x09], true))
+            }
+            CertificateRule::FreshestCrlIsNotCritical => Some((&[0x55, 0x1d, 0x2e], true)),
+            CertificateRule::AuthorityInfoAccessIsNotCritical => {
+                Some((&[0x2b, 0x06, 0x01, 0x05, 0x05, 0x07, 0x01, 0x01], true))
+            }
+            CertificateRule::SubjectInfoAccessIsNotCritical => {
+                Some((&[0x2b, 0x06, 0x01, 0x05, 0x05, 0x07, 0x01, 0x0b], true))
+            }
+            CertificateRule::NameConstraintsIsCritical => Some((&[0x55, 0x1d, 0x1e], false)),
+            CertificateRule::PolicyConstraintsIsCritical => Some((&[0x55, 0x1d, 0x24], false)),
+            CertificateRule::InhibitAnyPolicyIsCritical => Some((&[0x55, 0x1d, 0x36], false)),
+            _ => None,
+        }
+    }
+
+    /// Whether a certificate breaks a rule that is about more than criticality.
+    fn is_broken_otherwise(self, certificate: &TbsCertificate<'_>) -> bool
+        ensures { result ≡ breaks_otherwise self certificate.now }
+    {
+        match self {
+            CertificateRule::ExtensionsInVersion3 => {
+                certificate.extensions().is_some() && certificate.version() != 2
+            }
+            CertificateRule::SerialNumberIsPositive => {
+                !is_positive_integer(certificate.serial_number().as_bytes())
+            }
+            CertificateRule::SerialNumberHas20Octets => {
+                certificate.serial_number().as_bytes().len() > 20
+            }
+            CertificateRule::IssuerIsNotEmpty => is_empty_name(certificate.issuer()),
+            CertificateRule::EmptySubjectHasCriticalAltName => {
+                is_empty_name(certificate.subject())
+                    && !has_criticality_in(certificate, &[0x55, 0x1d, 0x11], true)
+            }
+            CertificateRule::UniqueIdentifiersInVersion2 => {
+                has_unique_identifier(certificate) && certificate.version() == 0
+            }
+            CertificateRule::ExtensionsStandOnce => match certificate.extensions() {
+                Some(extensions) => has_repeated_one(extensions.as_slice()),
+                None => false,
+            },
+            CertificateRule::BasicConstraintsOfCaIsCritical => {
+                match certificate.extensions() {
+                    Some(extensions) => has_uncritical_ca(extensions.as_slice()),
+                    None => false,
+                }
+            }
+            _ => false,
+        }
+    }
+}
+
+/// Whether contents octets are those of a positive INTEGER.
+fn is_positive_integer(octets: &[u8]) -> bool
+    ensures { result ≡ is_positive octets.now }
+{
+    match octets {
+        [] => false,
+        [first, rest @ ..] => *first < 0x80 && !(*first == 0 && rest.is_empty()),
+    }
+}
+
+/// Whether a name has no attributes.
+fn is_empty_name(name: &Kept<'_, Name<'_>>) -> bool
+    ensures { result ≡ (length (kept.octets_of name.now) == 0) }
+{
+    copy_of(name).as_bytes().is_empty()
+}
+
+/// Whether a certificate has one of the two unique identifiers.
+fn has_unique_identifier(certificate: &TbsCertificate<'_>) -> bool
+    ensures { result ≡ (is_some (tbs_fields.issuer_unique_id certificate.now) || is_some (tbs_fields.subject_unique_id certificate.now)) }
+{
+    certificate.issuer_unique_id().is_some() || certificate.subject_unique_id().is_some()
+}
+
+/// Whether an extension of a certificate has this identifier and is critical, or is not.
+fn has_criticality_in(certificate: &TbsCertificate<'_>, identifier: &[u8], critical: bool) -> bool
+    ensures { result ≡ has_criticality identifier.now critical (listed (tbs_fields.extensions certificate.now)) }
+{
+    match certificate.extensions() {
+        Some(extensions) => has_criticality_of(extensions.as_slice(), identifier, critical),
+        None => false,
+    }
+}
+
+/// Whether an extension with this identifier is there that is critical, or that is not.
+fn has_criticality_of(extensions: &[Extension<'_>], identifier: &[u8], critical: bool) -> bool
+    ensures { result ≡ has_criticality identifier.now critical extensions.now }
+{
+    let mut left = extensions;
+    'each: while let [extension, others @ ..] = left {
+        if has_identifier(extension, identifier) && extension.critical() == critical {
+            return true;
+        }
+        left = others;
+    }
+    false
+}
+
+/// Whether two extensions have one identifier.
+fn has_repeated_one(extensions: &[Extension<'_>]) -> bool
+    ensures { result ≡ has_repeated extensions.now }
+{
+    let mut left = extensions;
+    'each: while let [extension, others @ ..] = left {
+        if has_extension(others, extension.extn_id().as_bytes()) {
+            return true;
+        }
+        left = others;
+    }
+    false
+}
+
+/// Whether basicConstraints of a CA is there that is not critical.
+fn has_uncritical_ca(extensions: &[Extension<'_>]) -> bool
+    ensures { result ≡ some_of is_uncritical_ca extensions.now }
+{
+    let mut left = extensions;
+    'each: while let [extension, others @ ..] = left {
+        if is_uncritical(extension) {
+            return true;
+        }
+        left = others;
+    }
+    false
+}
+
+/// Whether an extension is basicConstraints of a CA that is not critical.
+fn is_uncritical(extension: &Extension<'_>) -> bool
+    ensures { result ≡ is_uncritical_ca extension.now }
+{
+    extension.extn_id().as_bytes() == [0x55, 0x1d, 0x13].as_slice()
+        && !extension.critical()
+        && is_ca(extension.extn_value().as_bytes())
+}
+
+/// Whether the octets of BasicConstraints say that cA is TRUE: 30, a length, 01 01 FF.
+fn is_ca(octets: &[u8]) -> bool
+    ensures { result ≡ says_true octets.now }
+{
+    octets.len() >= 5 && octets[2..5] == [0x01, 0x01, 0xff]
+}

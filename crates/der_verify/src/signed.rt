@@ -1,0 +1,82 @@
+//! The octets that a signature covers (RFC 5280 4.1.1.3 and 5.1.1.3): the encoding of the first field of
+//! a message, as it came.
+//!
+//! Of a certificate 30 82 .. 30 82 .. they begin at the second 30, and end where the algorithm begins.
+
+ghost use Rattle.std.specs.Prelude.{◌≡◌, ◌<◌, ◌^◌, List, ℕ, length, IsOkAnd};
+ghost use Rattle.der_tlv.specs.declared.tag.Tag.{Tag};
+ghost use Rattle.der_tlv.specs.HeaderOctets.{tlv};
+ghost use Rattle.der_pkix.specs.declared.certificate.certificate.Certificate.{Certificate};
+ghost use Rattle.der_pkix.specs.declared.crl.certificate_list.CertificateList.{CertificateList};
+ghost use Rattle.der_pkix.specs.Certificate.Certificate as certificate_fields;
+ghost use Rattle.der_pkix.specs.Crl.CertificateList as certificate_list_fields;
+ghost use Rattle.der_verify.specs.Signed.{BeginsWith, HasFirst};
+
+use der_elem::Form;
+use der_pkix::certificate::{Certificate, TbsCertificate};
+use der_pkix::crl::{CertificateList, TbsCertList};
+use der_tlv::{Error, Header, Reader, SliceReader};
+
+/// The encoding that the octets begin with, and its contents octets.
+fn front<'a>(octets: &'a [u8]) -> Result<(&'a [u8], &'a [u8]), Error>
+    ensures { (t : Tag) → (c others : List ℕ) → BeginsWith octets.now t c others
+        → IsOkAnd result (λ found. (found.0.now ≡ tlv t c) × (found.1.now ≡ c)) }
+{
+    let mut reader = match SliceReader::new(octets) {
+        Ok(reader) => reader,
+        Err(e) => return Err(e),
+    };
+    let header = match Header::decode(&mut reader) {
+        Ok(header) => header,
+        Err(e) => return Err(e),
+    };
+    let contents = match reader.read_slice(header.length) {
+        Ok(contents) => contents,
+        Err(e) => return Err(e),
+    };
+    let end = reader.position().value() as usize;
+    match octets.get(..end) {
+        Some(whole) => Ok((whole, contents)),
+        None => Err(reader.error(header.tag.length_error())),
+    }
+}
+
+/// The encoding that stands first among the contents octets of an encoding: of a SEQUENCE the first
+/// field, as it came.
+pub fn first_field<'a>(octets: &'a [u8]) -> Result<&'a [u8], Error>
+    ensures { (t u : Tag) → (c others : List ℕ) → HasFirst octets.now t u c others
+        → IsOkAnd result (λ found. found.now ≡ tlv u c) }
+{
+    let contents = match front(octets) {
+        Ok((_, contents)) => contents,
+        Err(e) => return Err(e),
+    };
+    match front(contents) {
+        Ok((whole, _)) => Ok(whole),
+        Err(e) => Err(e),
+    }
+}
+
+/// The octets that the signature of a certificate covers, a part of its own octets: those of
+/// tbsCertificate (RFC 5280 4.1.1.3). Of octets that are no certificate the answer may be any;
+/// `from_der` says whether they are one.
+///
+/// # Errors
+/// The first fault of the two headers; `ErrorKind::Overflow` (9) for more than 4294967295 octets.
+pub fn octets_of_tbs_certificate<'a>(octets: &'a [u8]) -> Result<&'a [u8], Error>
+    ensures { (v : Certificate) → octets.now ≡ ⟦<Certificate<'a> as Form>⟧.encoding v → length octets.now < 2 ^ 32
+        → IsOkAnd result (λ signed. signed.now ≡ ⟦<TbsCertificate<'a> as Form>⟧.encoding (certificate_fields.tbs_certificate v)) }
+{
+    first_field(octets)
+}
+
+/// The same of a list of revoked certificates: those of tbsCertList (RFC 5280 5.1.1.3).
+///
+/// # Errors
+/// As `octets_of_tbs_certificate`.
+pub fn octets_of_tbs_cert_list<'a>(octets: &'a [u8]) -> Result<&'a [u8], Error>
+    ensures { (v : CertificateList) → octets.now ≡ ⟦<CertificateList<'a> as Form>⟧.encoding v → length octets.now < 2 ^ 32
+        → IsOkAnd result (λ signed. signed.now ≡ ⟦<TbsCertList<'a> as Form>⟧.encoding (certificate_list_fields.tbs_cert_list v)) }
+{
+    first_field(octets)
+}
