@@ -14,9 +14,9 @@ abbrev pub has_identifier : List ℕ → Extension → Bool
 has_identifier identifier e = pointwise nat_eq (octets_of (extension_fields.extn_id e)) identifier
 
 -- whether one of a list passes a test
-abbrev pub some_of : (Extension → Bool) → List Extension → Bool
+abbrev pub some_of : {X : Type 0} → (X → Bool) → List X → Bool
 some_of test [] = false
-some_of test (e ∷ others) = test e || some_of test others
+some_of test (x ∷ others) = test x || some_of test others
 
 -- the extensions that have it, in their order
 abbrev pub with_identifier : List ℕ → List Extension → List Extension

@@ -1,4 +1,5 @@
 pub mod Extensions
 pub mod Rfc5280
+pub mod Rfc5280Lists
 pub mod Signed
 pub mod Time

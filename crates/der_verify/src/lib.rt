@@ -8,6 +8,9 @@ mod signed;
 mod time;
 
 pub use extensions::find_extension;
-pub use rfc5280::{CERTIFICATE_RULES, CertificateRule, algorithms_agree, check_certificate};
+pub use rfc5280::{
+    CERTIFICATE_RULES, CertificateRule, LIST_RULES, ListRule, algorithms_agree, check_certificate,
+    check_list, list_algorithms_agree,
+};
 pub use signed::{first_field, octets_of_tbs_cert_list, octets_of_tbs_certificate};
 pub use time::{date_time, holds_at, seconds, time_at};

@@ -1,6 +1,8 @@
 //! What RFC 5280 asks of a certificate beyond its grammar (sections 4.1 and 4.2). A certificate that is
 //! read may break it; who verifies one asks here.
 
+mod lists;
+
 ghost use Rattle.std.specs.Prelude.{◌≡◌, ◌==◌, ◌||◌, ◌↔◌, filter, is_some, length, IfOk, IsTrue};
 ghost use Rattle.der_pkix.specs.Certificate.Certificate as certificate_fields;
 ghost use Rattle.der_nest.specs.Kept as kept;
@@ -15,6 +17,7 @@ use der_nest::Kept;
 use der_pkix::AlgorithmIdentifier;
 use der_pkix::certificate::{Certificate, Extension, TbsCertificate};
 use der_pkix::name::Name;
+pub use lists::{LIST_RULES, ListRule, check_list, list_algorithms_agree};
 use std::alloc::{AllocError, Global};
 
 /// A rule of RFC 5280 for certificates.

@@ -1,0 +1,105 @@
+-- What RFC 5280 asks of a list of revoked certificates beyond its grammar: a test a rule, which is true of a list that breaks it.
+use Rattle.std.specs.Prelude.{ℕ, ◌==◌, List, [], ◌∷◌, length, Bool, true, false, not, ◌&&◌, ◌||◌, Option, Some, None, is_some, is_none}
+use Rattle.std.specs.declared.alloc.Global.{Global}
+use Rattle.std.specs.Prelude.{Option, Vec, ℕ}
+use Rattle.der_nest.specs.Kept as kept
+use Rattle.der_pkix.specs.declared.crl.certificate_list.CertificateList.{CertificateList}
+use Rattle.der_pkix.specs.declared.crl.tbs_cert_list.TbsCertList.{TbsCertList}
+use Rattle.der_pkix.specs.declared.crl.revoked_certificate.RevokedCertificate.{RevokedCertificate}
+use Rattle.der_pkix.specs.contracts.algorithm_identifier.AlgorithmIdentifierPartialEq.TheImpl as equality
+use Rattle.der_pkix.specs.Crl.CertificateList as list
+use Rattle.der_pkix.specs.Crl.TbsCertList as tbs
+use Rattle.der_pkix.specs.Crl.RevokedCertificate as entry
+use Rattle.der_verify.specs.Extensions.{some_of}
+use Rattle.der_verify.specs.Rfc5280.{breaks_criticality, has_criticality, has_repeated, id_ce, id_pe, listed}
+use Rattle.der_verify.specs.declared.rfc5280.lists.ListRule.{ListRule}
+use Rattle.der_verify.specs.declared.rfc5280.lists.ListRule.TheVariants as rule
+
+-- the entries; none where the field is absent
+abbrev pub entries_of : Option (Vec RevokedCertificate Global) → List RevokedCertificate
+entries_of None = []
+entries_of (Some v) = v.items
+
+abbrev pub entries : TbsCertList → List RevokedCertificate
+entries c = entries_of (tbs.revoked_certificates c)
+
+-- whether an extension of an entry has this identifier and is critical, or is not
+abbrev pub entry_has_criticality : List ℕ → Bool → List RevokedCertificate → Bool
+entry_has_criticality octets critical = some_of (λ e. has_criticality octets critical (listed (entry.crl_entry_extensions e)))
+
+-- whether an entry has extensions
+abbrev pub entry_has_extensions : List RevokedCertificate → Bool
+entry_has_extensions = some_of (λ e. is_some (entry.crl_entry_extensions e))
+
+-- whether the version is 2 (1)
+abbrev pub is_version_2 : Option ℕ → Bool
+is_version_2 None = false
+is_version_2 (Some n) = n == 1
+
+-- the extensions of the list whose criticality is fixed: the identifier, and what is not allowed
+abbrev pub forbidden_of_list : ListRule → Option (List ℕ × Bool)
+forbidden_of_list rule.CrlNumberIsNotCritical = Some (id_ce 20, true)
+forbidden_of_list rule.DeltaCrlIndicatorIsCritical = Some (id_ce 27, false)
+forbidden_of_list rule.IssuingDistributionPointIsCritical = Some (id_ce 28, false)
+forbidden_of_list rule.FreshestCrlIsNotCritical = Some (id_ce 46, true)
+forbidden_of_list rule.AuthorityInfoAccessIsNotCritical = Some (id_pe 1, true)
+forbidden_of_list _ = None
+
+-- the same of those of entries
+abbrev pub forbidden_of_entry : ListRule → Option (List ℕ × Bool)
+forbidden_of_entry rule.ReasonCodeIsNotCritical = Some (id_ce 21, true)
+forbidden_of_entry rule.InvalidityDateIsNotCritical = Some (id_ce 24, true)
+forbidden_of_entry rule.CertificateIssuerIsCritical = Some (id_ce 29, false)
+forbidden_of_entry _ = None
+
+-- the other rules
+abbrev pub list_breaks_otherwise : ListRule → TbsCertList → Bool
+-- 5.1.2.1: extensions stand in version 2 alone
+list_breaks_otherwise rule.ExtensionsInVersion2 c = (is_some (tbs.crl_extensions c) || entry_has_extensions (entries c)) && not (is_version_2 (tbs.version c))
+-- 5.1.2.3: the issuer is not empty
+list_breaks_otherwise rule.IssuerIsNotEmpty c = length (kept.octets_of (tbs.issuer c)) == 0
+-- 5.1.2.5: nextUpdate is there
+list_breaks_otherwise rule.NextUpdateIsThere c = is_none (tbs.next_update c)
+-- 5.1.2.6: "When there are no revoked certificates, the revoked certificates list MUST be absent."
+list_breaks_otherwise rule.EmptyListIsAbsent c = is_some (tbs.revoked_certificates c) && (length (entries c) == 0)
+-- 5.2, 4.2: each extension stands once
+list_breaks_otherwise rule.ExtensionsStandOnce c = has_repeated (listed (tbs.crl_extensions c))
+list_breaks_otherwise _ c = false
+
+-- an extension of an entry that is not allowed stands there
+abbrev pub entry_breaks_criticality : Option (List ℕ × Bool) → List RevokedCertificate → Bool
+entry_breaks_criticality None entries = false
+entry_breaks_criticality (Some (octets, critical)) entries = entry_has_criticality octets critical entries
+
+-- whether the part that is signed breaks a rule
+abbrev pub list_breaks_within : ListRule → TbsCertList → Bool
+list_breaks_within r c =
+    list_breaks_otherwise r c || breaks_criticality (forbidden_of_list r) (listed (tbs.crl_extensions c)) || entry_breaks_criticality (forbidden_of_entry r) (entries c)
+
+-- whether the algorithm within is equal to the one outside
+abbrev pub list_same_algorithms : CertificateList → Bool
+list_same_algorithms c = equality.ghosts.eq (tbs.signature (list.tbs_cert_list c)) (list.signature_algorithm c)
+
+-- whether a list breaks a rule
+abbrev pub list_breaks : ListRule → CertificateList → Bool
+-- 5.1.1.2, 5.1.2.2: the two algorithms are one
+list_breaks rule.AlgorithmsAgree c = not (list_same_algorithms c)
+list_breaks r c = list_breaks_within r (list.tbs_cert_list c)
+
+-- all rules, in the order in which they are told
+abbrev pub list_rules : List ListRule
+list_rules =
+    rule.AlgorithmsAgree
+    ∷ rule.ExtensionsInVersion2
+    ∷ rule.IssuerIsNotEmpty
+    ∷ rule.NextUpdateIsThere
+    ∷ rule.EmptyListIsAbsent
+    ∷ rule.ExtensionsStandOnce
+    ∷ rule.CrlNumberIsNotCritical
+    ∷ rule.DeltaCrlIndicatorIsCritical
+    ∷ rule.IssuingDistributionPointIsCritical
+    ∷ rule.FreshestCrlIsNotCritical
+    ∷ rule.AuthorityInfoAccessIsNotCritical
+    ∷ rule.ReasonCodeIsNotCritical
+    ∷ rule.InvalidityDateIsNotCritical
+    ∷ rule.CertificateIssuerIsCritical ∷ []
