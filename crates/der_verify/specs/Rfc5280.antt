@@ -81,7 +81,7 @@ breaks_otherwise rule.ExtensionsInVersion3 c = is_some (tbs.extensions c) && not
 -- 4.1.2.2: the serial number is positive
 breaks_otherwise rule.SerialNumberIsPositive c = not (is_positive (contents_of (tbs.serial_number c)))
 -- 4.1.2.2: it has at most 20 octets
-breaks_otherwise rule.SerialNumberHas20Octets c = nat_lt 20 (length (contents_of (tbs.serial_number c)))
+breaks_otherwise rule.SerialNumberHasAtMost20Octets c = nat_lt 20 (length (contents_of (tbs.serial_number c)))
 -- 4.1.2.4: the issuer is not empty
 breaks_otherwise rule.IssuerIsNotEmpty c = length (kept.octets_of (tbs.issuer c)) == 0
 -- 4.1.2.6: beside an empty subject stands a subjectAltName that is critical
@@ -120,7 +120,7 @@ certificate_rules =
     rule.AlgorithmsAgree
     ∷ rule.ExtensionsInVersion3
     ∷ rule.SerialNumberIsPositive
-    ∷ rule.SerialNumberHas20Octets
+    ∷ rule.SerialNumberHasAtMost20Octets
     ∷ rule.IssuerIsNotEmpty
     ∷ rule.EmptySubjectHasCriticalAltName
     ∷ rule.UniqueIdentifiersInVersion2

@@ -30,7 +30,7 @@ pub enum CertificateRule {
     /// The serial number is positive (4.1.2.2).
     SerialNumberIsPositive,
     /// The serial number has at most 20 octets (4.1.2.2).
-    SerialNumberHas20Octets,
+    SerialNumberHasAtMost20Octets,
     /// The issuer is not empty (4.1.2.4).
     IssuerIsNotEmpty,
     /// Beside an empty subject stands a subjectAltName that is critical (4.1.2.6).
@@ -66,7 +66,7 @@ pub const CERTIFICATE_RULES: [CertificateRule; 18] = [
     CertificateRule::AlgorithmsAgree,
     CertificateRule::ExtensionsInVersion3,
     CertificateRule::SerialNumberIsPositive,
-    CertificateRule::SerialNumberHas20Octets,
+    CertificateRule::SerialNumberHasAtMost20Octets,
     CertificateRule::IssuerIsNotEmpty,
     CertificateRule::EmptySubjectHasCriticalAltName,
     CertificateRule::UniqueIdentifiersInVersion2,
@@ -121,7 +121,7 @@ impl CertificateRule {
             CertificateRule::AlgorithmsAgree => "4.1.1.2",
             CertificateRule::ExtensionsInVersion3 => "4.1.2.1",
             CertificateRule::SerialNumberIsPositive => "4.1.2.2",
-            CertificateRule::SerialNumberHas20Octets => "4.1.2.2",
+            CertificateRule::SerialNumberHasAtMost20Octets => "4.1.2.2",
             CertificateRule::IssuerIsNotEmpty => "4.1.2.4",
             CertificateRule::EmptySubjectHasCriticalAltName => "4.1.2.6",
             CertificateRule::UniqueIdentifiersInVersion2 => "4.1.2.8",
@@ -198,7 +198,7 @@ impl CertificateRule {
             CertificateRule::SerialNumberIsPositive => {
                 !is_positive_integer(certificate.serial_number().as_bytes())
             }
-            CertificateRule::SerialNumberHas20Octets => {
+            CertificateRule::SerialNumberHasAtMost20Octets => {
                 certificate.serial_number().as_bytes().len() > 20
             }
             CertificateRule::IssuerIsNotEmpty => is_empty_name(certificate.issuer()),

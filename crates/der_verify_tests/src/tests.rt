@@ -1,8 +1,10 @@
-//! Rules that certificates break, extensions that are found, octets that are signed, and dates.
+//! Rules that certificates and lists break, extensions that are found, octets that are signed, and dates.
 
 mod data;
 mod extensions;
+mod list_data;
 mod rules;
+mod rules_of_lists;
 mod signed;
 mod times;
 
