@@ -4,6 +4,7 @@ pub mod AcceptableResponses
 pub mod BasicOcspResponse
 pub mod CertId
 pub mod CertStatus
+pub mod Certificates
 pub mod CrlId
 pub mod Grammar
 pub mod OcspRequest
@@ -12,6 +13,7 @@ pub mod OcspResponseStatus
 pub mod PreferredSignatureAlgorithm
 pub mod PreferredSignatureAlgorithms
 pub mod Request
+pub mod Requests
 pub mod ResponderId
 pub mod ResponseBytes
 pub mod ResponseData
@@ -19,4 +21,5 @@ pub mod RevokedInfo
 pub mod ServiceLocator
 pub mod Signature
 pub mod SingleResponse
+pub mod SingleResponses
 pub mod TbsRequest

@@ -21,8 +21,8 @@ pub enum Part {
     RelativeDistinguishedName,
     /// `AttributeTypeAndValue`.
     AttributeTypeAndValue,
-    /// SEQUENCE OF `Request`.
-    SequenceOfRequest,
+    /// `Requests`.
+    Requests,
     /// `Request`.
     Request,
     /// `CertID`.
@@ -39,10 +39,10 @@ pub enum Part {
     ExplicitSignature,
     /// `Signature`.
     Signature,
-    /// SEQUENCE OF `Certificate` after an explicit tag.
-    ExplicitSequenceOfCertificate,
-    /// SEQUENCE OF `Certificate`.
-    SequenceOfCertificate,
+    /// `Certificates` after an explicit tag.
+    ExplicitCertificates,
+    /// `Certificates`.
+    Certificates,
     /// `Certificate`.
     Certificate,
     /// `TBSCertificate`.
@@ -61,8 +61,8 @@ pub enum Part {
     BasicOcspResponse,
     /// `ResponseData`.
     ResponseData,
-    /// SEQUENCE OF `SingleResponse`.
-    SequenceOfSingleResponse,
+    /// `SingleResponses`.
+    SingleResponses,
     /// `SingleResponse`.
     SingleResponse,
     /// `RevokedInfo`.
@@ -123,7 +123,7 @@ static TBS_REQUEST: [Component; 4] = [
     Component {
         name: "requestList",
         octet: None,
-        part: Part::SequenceOfRequest,
+        part: Part::Requests,
     },
     Component {
         name: "requestExtensions",
@@ -224,7 +224,7 @@ static ATTRIBUTE_TYPE_AND_VALUE: [Component; 2] = [
     },
 ];
 
-static SEQUENCE_OF_REQUEST: [Component; 1] = [Component {
+static REQUESTS: [Component; 1] = [Component {
     name: "",
     octet: None,
     part: Part::Request,
@@ -329,17 +329,17 @@ static SIGNATURE: [Component; 3] = [
     Component {
         name: "certs",
         octet: Some(0xa0),
-        part: Part::ExplicitSequenceOfCertificate,
+        part: Part::ExplicitCertificates,
     },
 ];
 
-static EXPLICIT_SEQUENCE_OF_CERTIFICATE: [Component; 1] = [Component {
+static EXPLICIT_CERTIFICATES: [Component; 1] = [Component {
     name: "",
     octet: None,
-    part: Part::SequenceOfCertificate,
+    part: Part::Certificates,
 }];
 
-static SEQUENCE_OF_CERTIFICATE: [Component; 1] = [Component {
+static CERTIFICATES: [Component; 1] = [Component {
     name: "",
     octet: None,
     part: Part::Certificate,
@@ -503,7 +503,7 @@ static BASIC_OCSP_RESPONSE: [Component; 4] = [
     Component {
         name: "certs",
         octet: Some(0xa0),
-        part: Part::ExplicitSequenceOfCertificate,
+        part: Part::ExplicitCertificates,
     },
 ];
 
@@ -531,7 +531,7 @@ static RESPONSE_DATA: [Component; 6] = [
     Component {
         name: "responses",
         octet: None,
-        part: Part::SequenceOfSingleResponse,
+        part: Part::SingleResponses,
     },
     Component {
         name: "responseExtensions",
@@ -540,7 +540,7 @@ static RESPONSE_DATA: [Component; 6] = [
     },
 ];
 
-static SEQUENCE_OF_SINGLE_RESPONSE: [Component; 1] = [Component {
+static SINGLE_RESPONSES: [Component; 1] = [Component {
     name: "",
     octet: None,
     part: Part::SingleResponse,
@@ -727,7 +727,7 @@ impl Part {
             Part::RdnSequence => &RDN_SEQUENCE,
             Part::RelativeDistinguishedName => &RELATIVE_DISTINGUISHED_NAME,
             Part::AttributeTypeAndValue => &ATTRIBUTE_TYPE_AND_VALUE,
-            Part::SequenceOfRequest => &SEQUENCE_OF_REQUEST,
+            Part::Requests => &REQUESTS,
             Part::Request => &REQUEST,
             Part::CertId => &CERT_ID,
             Part::AlgorithmIdentifier => &ALGORITHM_IDENTIFIER,
@@ -736,8 +736,8 @@ impl Part {
             Part::Extension => &EXTENSION,
             Part::ExplicitSignature => &EXPLICIT_SIGNATURE,
             Part::Signature => &SIGNATURE,
-            Part::ExplicitSequenceOfCertificate => &EXPLICIT_SEQUENCE_OF_CERTIFICATE,
-            Part::SequenceOfCertificate => &SEQUENCE_OF_CERTIFICATE,
+            Part::ExplicitCertificates => &EXPLICIT_CERTIFICATES,
+            Part::Certificates => &CERTIFICATES,
             Part::Certificate => &CERTIFICATE,
             Part::TbsCertificate => &TBS_CERTIFICATE,
             Part::Validity => &VALIDITY,
@@ -747,7 +747,7 @@ impl Part {
             Part::ResponseBytes => &RESPONSE_BYTES,
             Part::BasicOcspResponse => &BASIC_OCSP_RESPONSE,
             Part::ResponseData => &RESPONSE_DATA,
-            Part::SequenceOfSingleResponse => &SEQUENCE_OF_SINGLE_RESPONSE,
+            Part::SingleResponses => &SINGLE_RESPONSES,
             Part::SingleResponse => &SINGLE_RESPONSE,
             Part::RevokedInfo => &REVOKED_INFO,
             Part::CrlId => &CRL_ID,
@@ -767,10 +767,10 @@ impl Part {
             self,
             Part::RdnSequence
                 | Part::RelativeDistinguishedName
-                | Part::SequenceOfRequest
+                | Part::Requests
                 | Part::Extensions
-                | Part::SequenceOfCertificate
-                | Part::SequenceOfSingleResponse
+                | Part::Certificates
+                | Part::SingleResponses
                 | Part::AcceptableResponses
                 | Part::AuthorityInfoAccessSyntax
                 | Part::PreferredSignatureAlgorithms

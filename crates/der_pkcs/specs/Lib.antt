@@ -1,5 +1,2 @@
 -- Made by tools/asn1.
 pub mod Request
-pub mod Encryption
-pub mod Pkcs12
-pub mod Algorithm

@@ -1,10 +1,7 @@
-//! The types of PKCS-10, PkcsEncryption, PKCS-12, PkixAlgorithms.
+//! The types of PKCS-10.
 //!
 //! Made by tools/asn1.
 #![tactic(auto)]
 
-pub mod algorithm;
-pub mod encryption;
 pub mod parts;
-pub mod pkcs12;
 pub mod request;

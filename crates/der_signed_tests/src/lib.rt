@@ -1,5 +1,4 @@
-//! Tests of the messages of `der_ocsp`, `der_cms`, `der_enveloped`, `der_time_stamp` and `der_pkcs`:
-//! octets that OpenSSL wrote.
+//! Tests of the messages of `der_ocsp`, `der_cms` and `der_pkcs`: octets that OpenSSL wrote.
 //!
 //! They stand in a crate of their own, since a crate with tests is proved twice, with and without
 //! them.

@@ -2,18 +2,11 @@
 //!
 //! The keys are of Ed25519 and on P-256, and one is of RSA; a comment at the octets says the command.
 
-mod algorithms;
-mod authenticated;
 mod digested;
-mod encrypted_keys;
-mod enveloped;
-mod key_files;
 mod requests;
 mod signed_messages;
 mod signers;
 mod spoilt_answers;
-mod stamp_requests;
-mod stamps;
 mod status_answers;
 mod status_extensions;
 mod status_requests;

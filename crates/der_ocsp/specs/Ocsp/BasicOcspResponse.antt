@@ -1,12 +1,11 @@
 -- The fields of BasicOCSPResponse, by their names.
 -- Made by tools/asn1 from ocsp.asn1.
-use Rattle.std.specs.Prelude.{Option, Vec, option_map}
-use Rattle.std.specs.declared.alloc.Global.{Global}
+use Rattle.std.specs.Prelude.{Option, option_map}
 use Rattle.der_bits.specs.declared.bit_string_ref.BitStringRef.{BitStringRef}
 use Rattle.der_ocsp.specs.declared.ocsp.basic_ocsp_response.BasicOcspResponse.{BasicOcspResponse}
+use Rattle.der_ocsp.specs.declared.ocsp.certificates.Certificates.{Certificates}
 use Rattle.der_ocsp.specs.declared.ocsp.response_data.ResponseData.{ResponseData}
 use Rattle.der_pkix.specs.declared.algorithm_identifier.AlgorithmIdentifier.{AlgorithmIdentifier}
-use Rattle.der_pkix.specs.declared.certificate.certificate.Certificate.{Certificate}
 
 -- tbsResponseData ResponseData
 abbrev pub tbs_response_data : BasicOcspResponse → ResponseData
@@ -20,6 +19,6 @@ signature_algorithm v = v.fields.list.rest.first
 abbrev pub signature : BasicOcspResponse → BitStringRef
 signature v = v.fields.list.rest.rest.first
 
--- certs [0] EXPLICIT SEQUENCE OF Certificate OPTIONAL
-abbrev pub certs : BasicOcspResponse → Option (Vec Certificate Global)
+-- certs [0] EXPLICIT Certificates OPTIONAL
+abbrev pub certs : BasicOcspResponse → Option Certificates
 certs v = option_map (λ x. x.fields.first) v.fields.list.rest.rest.rest.first

@@ -72,30 +72,40 @@ request =
     (OPTIONAL (EXPLICIT context 0 extensions)
     end))
 
+-- Requests ::= SEQUENCE OF Request
+abbrev pub requests : Grammar
+requests =
+    SEQUENCE_OF request
+
 -- TBSRequest ::= SEQUENCE {
 --      version            [0] EXPLICIT Version DEFAULT v1,
 --      requestorName      [1] EXPLICIT GeneralName OPTIONAL,
---      requestList            SEQUENCE OF Request,
+--      requestList            Requests,
 --      requestExtensions  [2] EXPLICIT Extensions OPTIONAL }
 abbrev pub tbs_request : Grammar
 tbs_request =
     SEQUENCE
     (DEFAULT (tlv (marker_tag context true 0) (tlv tags.Integer (natural_contents 0))) (EXPLICIT context 0 version)
     (OPTIONAL (EXPLICIT context 1 general_name)
-    (field (SEQUENCE_OF request)
+    (field requests
     (OPTIONAL (EXPLICIT context 2 extensions)
     end))))
+
+-- Certificates ::= SEQUENCE OF Certificate
+abbrev pub certificates : Grammar
+certificates =
+    SEQUENCE_OF certificate
 
 -- Signature ::= SEQUENCE {
 --      signatureAlgorithm  AlgorithmIdentifier,
 --      signature           BIT STRING,
---      certs           [0] EXPLICIT SEQUENCE OF Certificate OPTIONAL }
+--      certs           [0] EXPLICIT Certificates OPTIONAL }
 abbrev pub signature : Grammar
 signature =
     SEQUENCE
     (field algorithm_identifier
     (field BIT_STRING
-    (OPTIONAL (EXPLICIT context 0 (SEQUENCE_OF certificate))
+    (OPTIONAL (EXPLICIT context 0 certificates)
     end)))
 
 -- OCSPRequest ::= SEQUENCE {
@@ -197,11 +207,16 @@ single_response =
     (OPTIONAL (EXPLICIT context 1 extensions)
     end)))))
 
+-- SingleResponses ::= SEQUENCE OF SingleResponse
+abbrev pub single_responses : Grammar
+single_responses =
+    SEQUENCE_OF single_response
+
 -- ResponseData ::= SEQUENCE {
 --      version             [0] EXPLICIT Version DEFAULT v1,
 --      responderID             ResponderID,
 --      producedAt              GeneralizedTime,
---      responses               SEQUENCE OF SingleResponse,
+--      responses               SingleResponses,
 --      responseExtensions  [1] EXPLICIT Extensions OPTIONAL }
 abbrev pub response_data : Grammar
 response_data =
@@ -209,7 +224,7 @@ response_data =
     (DEFAULT (tlv (marker_tag context true 0) (tlv tags.Integer (natural_contents 0))) (EXPLICIT context 0 version)
     (field responder_id
     (field GENERALIZED_TIME
-    (field (SEQUENCE_OF single_response)
+    (field single_responses
     (OPTIONAL (EXPLICIT context 1 extensions)
     end)))))
 
@@ -217,14 +232,14 @@ response_data =
 --      tbsResponseData     ResponseData,
 --      signatureAlgorithm  AlgorithmIdentifier,
 --      signature           BIT STRING,
---      certs           [0] EXPLICIT SEQUENCE OF Certificate OPTIONAL }
+--      certs           [0] EXPLICIT Certificates OPTIONAL }
 abbrev pub basic_ocsp_response : Grammar
 basic_ocsp_response =
     SEQUENCE
     (field response_data
     (field algorithm_identifier
     (field BIT_STRING
-    (OPTIONAL (EXPLICIT context 0 (SEQUENCE_OF certificate))
+    (OPTIONAL (EXPLICIT context 0 certificates)
     end))))
 
 -- Nonce ::= OCTET STRING (SIZE (1..32))

@@ -1,10 +1,9 @@
 -- The fields of ResponseData, by their names.
 -- Made by tools/asn1 from ocsp.asn1.
-use Rattle.std.specs.Prelude.{Option, Vec, option_map, ℕ}
-use Rattle.std.specs.declared.alloc.Global.{Global}
+use Rattle.std.specs.Prelude.{Option, option_map, ℕ}
 use Rattle.der_ocsp.specs.declared.ocsp.responder_id.ResponderId.{ResponderId}
 use Rattle.der_ocsp.specs.declared.ocsp.response_data.ResponseData.{ResponseData}
-use Rattle.der_ocsp.specs.declared.ocsp.single_response.SingleResponse.{SingleResponse}
+use Rattle.der_ocsp.specs.declared.ocsp.single_responses.SingleResponses.{SingleResponses}
 use Rattle.der_pkix.specs.declared.certificate.extensions.Extensions.{Extensions}
 use Rattle.der_time.specs.declared.generalized_time.GeneralizedTime.{GeneralizedTime}
 
@@ -20,8 +19,8 @@ responder_id v = v.fields.list.rest.first
 abbrev pub produced_at : ResponseData → GeneralizedTime
 produced_at v = v.fields.list.rest.rest.first
 
--- responses SEQUENCE OF SingleResponse
-abbrev pub responses : ResponseData → Vec SingleResponse Global
+-- responses SingleResponses
+abbrev pub responses : ResponseData → SingleResponses
 responses v = v.fields.list.rest.rest.rest.first
 
 -- responseExtensions [1] EXPLICIT Extensions OPTIONAL

@@ -1,9 +1,8 @@
 -- The fields of TBSRequest, by their names.
 -- Made by tools/asn1 from ocsp.asn1.
-use Rattle.std.specs.Prelude.{Option, Vec, option_map, ℕ}
-use Rattle.std.specs.declared.alloc.Global.{Global}
+use Rattle.std.specs.Prelude.{Option, option_map, ℕ}
 use Rattle.der_extensions.specs.declared.extension.general_name.GeneralName.{GeneralName}
-use Rattle.der_ocsp.specs.declared.ocsp.request.Request.{Request}
+use Rattle.der_ocsp.specs.declared.ocsp.requests.Requests.{Requests}
 use Rattle.der_ocsp.specs.declared.ocsp.tbs_request.TbsRequest.{TbsRequest}
 use Rattle.der_pkix.specs.declared.certificate.extensions.Extensions.{Extensions}
 
@@ -15,8 +14,8 @@ version v = v.fields.list.first.value.fields.first
 abbrev pub requestor_name : TbsRequest → Option GeneralName
 requestor_name v = option_map (λ x. x.fields.first) v.fields.list.rest.first
 
--- requestList SEQUENCE OF Request
-abbrev pub request_list : TbsRequest → Vec Request Global
+-- requestList Requests
+abbrev pub request_list : TbsRequest → Requests
 request_list v = v.fields.list.rest.rest.first
 
 -- requestExtensions [2] EXPLICIT Extensions OPTIONAL

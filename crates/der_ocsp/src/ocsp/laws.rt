@@ -12,6 +12,7 @@ pub use crate::ocsp::basic_ocsp_response::{
 };
 pub use crate::ocsp::cert_id::{grammar_of_cert_id, octets_of_cert_id};
 pub use crate::ocsp::cert_status::grammar_of_cert_status;
+pub use crate::ocsp::certificates::grammar_of_certificates;
 pub use crate::ocsp::crl_id::{grammar_of_crl_id, octets_of_crl_id};
 pub use crate::ocsp::ocsp_request::{grammar_of_ocsp_request, octets_of_ocsp_request};
 pub use crate::ocsp::ocsp_response::{grammar_of_ocsp_response, octets_of_ocsp_response};
@@ -21,6 +22,7 @@ pub use crate::ocsp::preferred_signature_algorithm::{
 };
 pub use crate::ocsp::preferred_signature_algorithms::grammar_of_preferred_signature_algorithms;
 pub use crate::ocsp::request::{grammar_of_request, octets_of_request};
+pub use crate::ocsp::requests::grammar_of_requests;
 pub use crate::ocsp::responder_id::grammar_of_responder_id;
 pub use crate::ocsp::response_bytes::{grammar_of_response_bytes, octets_of_response_bytes};
 pub use crate::ocsp::response_data::{grammar_of_response_data, octets_of_response_data};
@@ -28,4 +30,5 @@ pub use crate::ocsp::revoked_info::{grammar_of_revoked_info, octets_of_revoked_i
 pub use crate::ocsp::service_locator::{grammar_of_service_locator, octets_of_service_locator};
 pub use crate::ocsp::signature::{grammar_of_signature, octets_of_signature};
 pub use crate::ocsp::single_response::{grammar_of_single_response, octets_of_single_response};
+pub use crate::ocsp::single_responses::grammar_of_single_responses;
 pub use crate::ocsp::tbs_request::{grammar_of_tbs_request, octets_of_tbs_request};

@@ -6,15 +6,15 @@ ghost use Rattle.std.specs.Prelude.{◌∷◌, ◌≡◌, [], refl, true};
 ghost use Rattle.der_elem.specs.FormatMakers.{mapped_format};
 ghost use Rattle.der_elem.specs.contracts.integer.unsigned.U8ContentsEq.TheImpl.Laws as u8_contents_eq;
 ghost use Rattle.der_modules.specs.Asn1.{context, explicit_encoding, joined, optional, parse_of, unless_default};
-ghost use Rattle.der_modules.specs.MemberLaws.{copies_of, default_copies, default_equality, default_starts, held_copies, items_copies, items_equality, listed_copies, member_copies, member_equality, no_copies, no_equality, one_tag, one_tag_copies, one_tag_equality, optional_copies, optional_equality, optional_starts, own_tags, same_copies, tagged_starts};
+ghost use Rattle.der_modules.specs.MemberLaws.{copies_of, default_copies, default_equality, default_starts, held_copies, listed_copies, member_copies, member_equality, no_copies, no_equality, one_tag, one_tag_copies, one_tag_equality, optional_copies, optional_equality, optional_starts, own_tags, same_copies, tagged_starts};
 ghost use Rattle.der_ocsp.specs.Ocsp.Grammar.{response_data};
 ghost use Rattle.der_ocsp.specs.Ocsp.ResponseData as response_data_fields;
 ghost use Rattle.der_ocsp.specs.contracts.ocsp.responder_id.ResponderIdEncodingEq.TheImpl.Laws as responder_id_encoding_eq;
 ghost use Rattle.der_ocsp.specs.contracts.ocsp.responder_id.ResponderIdEq.TheImpl.Laws as responder_id_eq;
 ghost use Rattle.der_ocsp.specs.contracts.ocsp.responder_id.ResponderIdTagged.TheImpl.Laws as responder_id_tagged;
-ghost use Rattle.der_ocsp.specs.contracts.ocsp.single_response.SingleResponseContentsEq.TheImpl.Laws as single_response_contents_eq;
-ghost use Rattle.der_ocsp.specs.contracts.ocsp.single_response.SingleResponseDuplicateValue.TheImpl.Laws as single_response_duplicate_value;
-ghost use Rattle.der_ocsp.specs.contracts.ocsp.single_response.SingleResponseDuplicateValueIsEqual.TheImpl.Laws as single_response_duplicate_value_is_equal;
+ghost use Rattle.der_ocsp.specs.contracts.ocsp.single_responses.SingleResponsesContentsEq.TheImpl.Laws as single_responses_contents_eq;
+ghost use Rattle.der_ocsp.specs.contracts.ocsp.single_responses.SingleResponsesDuplicateValue.TheImpl.Laws as single_responses_duplicate_value;
+ghost use Rattle.der_ocsp.specs.contracts.ocsp.single_responses.SingleResponsesDuplicateValueIsEqual.TheImpl.Laws as single_responses_duplicate_value_is_equal;
 ghost use Rattle.der_ocsp.specs.declared.ocsp.response_data.ResponseData.{ResponseData};
 ghost use Rattle.der_pkix.specs.contracts.certificate.extensions.ExtensionsContentsEq.TheImpl.Laws as extensions_contents_eq;
 ghost use Rattle.der_pkix.specs.contracts.certificate.extensions.ExtensionsDuplicateValue.TheImpl.Laws as extensions_duplicate_value;
@@ -23,7 +23,7 @@ ghost use Rattle.der_time.specs.contracts.generalized_time.GeneralizedTimeConten
 
 use crate::ocsp::aliases::Version;
 use crate::ocsp::responder_id::ResponderId;
-use crate::ocsp::single_response::SingleResponse;
+use crate::ocsp::single_responses::SingleResponses;
 use der_elem::{
     ContentsEq, DecodeValue, DuplicateValue, DuplicateValueIsEqual, EncodeValue, Form, FormValue,
     GeneralizedTimeTag, IntegerTag, OneTag, Sequence, SequenceTag, TagMarker, Tagged, ValueOrd,
@@ -45,7 +45,7 @@ type Fields<'a> = Fields5<
     WithDefault<Explicit<Version, 0>, DefaultNumber<0>>,
     ResponderId<'a>,
     GeneralizedTime,
-    Vec<SingleResponse<'a>>,
+    SingleResponses<'a>,
     Option<Explicit<Extensions<'a>, 1>>,
 >;
 
@@ -54,7 +54,7 @@ type Fields<'a> = Fields5<
 ///      version             [0] EXPLICIT Version DEFAULT v1,
 ///      responderID             ResponderID,
 ///      producedAt              GeneralizedTime,
-///      responses               SEQUENCE OF SingleResponse,
+///      responses               SingleResponses,
 ///      responseExtensions  [1] EXPLICIT Extensions OPTIONAL }
 /// ```
 ///
@@ -74,7 +74,7 @@ impl<'a> ResponseData<'a> {
         version: Version,
         responder_id: &ResponderId<'a>,
         produced_at: GeneralizedTime,
-        responses: Vec<SingleResponse<'a>>,
+        responses: SingleResponses<'a>,
         response_extensions: Option<Extensions<'a>>,
     ) -> ResponseData<'a>
         ensures version { response_data_fields.version result ≡ version }
@@ -114,7 +114,7 @@ impl<'a> ResponseData<'a> {
         Version,
         ResponderId<'a>,
         GeneralizedTime,
-        Vec<SingleResponse<'a>>,
+        SingleResponses<'a>,
         Option<Extensions<'a>>,
     )
         ensures version { response_data_fields.version self.entry ≡ result.0 }
@@ -179,8 +179,8 @@ impl<'a> ResponseData<'a> {
         self.fields.list.rest.rest.first
     }
 
-    /// `responses`, `SEQUENCE OF SingleResponse`.
-    pub fn responses(&self) -> &Vec<SingleResponse<'a>>
+    /// `responses`, `SingleResponses`.
+    pub fn responses(&self) -> &SingleResponses<'a>
         ensures { result.now ≡ response_data_fields.responses self.now }
     {
         &self.fields.list.rest.rest.rest.first
@@ -273,10 +273,10 @@ impl<'a> ContentsEq for ResponseData<'a> {
         (tagged_starts ⟦<GeneralizedTime as Form>⟧ (one_tag ⟦<GeneralizedTimeTag as TagMarker>⟧.TAG ⟦<GeneralizedTime as FormValue>⟧.value.contents))
         ⟦<GeneralizedTime as PartialEq>⟧.eq
         (one_tag_equality ⟦<GeneralizedTimeTag as TagMarker>⟧.TAG ⟦<GeneralizedTime as FormValue>⟧.value.contents ⟦<GeneralizedTime as FormValue>⟧.value.comparable ⟦<GeneralizedTime as PartialEq>⟧.eq generalizedtime_contents_eq.contents_eq-law)
-        (member_equality ⟦<Vec<SingleResponse<'a>> as Form>⟧
-        (tagged_starts ⟦<Vec<SingleResponse<'a>> as Form>⟧ (one_tag ⟦<SequenceTag as TagMarker>⟧.TAG ⟦<Vec<SingleResponse<'a>> as FormValue>⟧.value.contents))
-        ⟦<Vec<SingleResponse<'a>> as PartialEq>⟧.eq
-        (one_tag_equality ⟦<SequenceTag as TagMarker>⟧.TAG ⟦<Vec<SingleResponse<'a>> as FormValue>⟧.value.contents ⟦<Vec<SingleResponse<'a>> as FormValue>⟧.value.comparable ⟦<Vec<SingleResponse<'a>> as PartialEq>⟧.eq (λ v w. ((items_equality ⟦<SingleResponse<'a> as Form>⟧ (one_tag ⟦<SequenceTag as TagMarker>⟧.TAG ⟦<SingleResponse<'a> as FormValue>⟧.value.contents) ⟦<SingleResponse<'a> as PartialEq>⟧.eq (one_tag_equality ⟦<SequenceTag as TagMarker>⟧.TAG ⟦<SingleResponse<'a> as FormValue>⟧.value.contents ⟦<SingleResponse<'a> as FormValue>⟧.value.comparable ⟦<SingleResponse<'a> as PartialEq>⟧.eq single_response_contents_eq.contents_eq-law)) v.items w.items)))
+        (member_equality ⟦<SingleResponses<'a> as Form>⟧
+        (tagged_starts ⟦<SingleResponses<'a> as Form>⟧ (one_tag ⟦<SequenceTag as TagMarker>⟧.TAG ⟦<SingleResponses<'a> as FormValue>⟧.value.contents))
+        ⟦<SingleResponses<'a> as PartialEq>⟧.eq
+        (one_tag_equality ⟦<SequenceTag as TagMarker>⟧.TAG ⟦<SingleResponses<'a> as FormValue>⟧.value.contents ⟦<SingleResponses<'a> as FormValue>⟧.value.comparable ⟦<SingleResponses<'a> as PartialEq>⟧.eq single_responses_contents_eq.contents_eq-law)
         (member_equality ⟦<Option<Explicit<Extensions<'a>, 1>> as Form>⟧
         (optional_starts ⟦<Explicit<Extensions<'a>, 1> as Form>⟧ (one_tag ⟦<ExplicitTag<1> as TagMarker>⟧.TAG ⟦<Explicit<Extensions<'a>, 1> as FormValue>⟧.value.contents))
         ⟦<Option<Explicit<Extensions<'a>, 1>> as PartialEq>⟧.eq
@@ -302,9 +302,9 @@ impl<'a> CopyLaws for ResponseData<'a> {
         (member_copies ⟦<GeneralizedTime as Form>⟧
         (tagged_starts ⟦<GeneralizedTime as Form>⟧ (one_tag ⟦<GeneralizedTimeTag as TagMarker>⟧.TAG ⟦<GeneralizedTime as FormValue>⟧.value.contents))
         (one_tag_copies ⟦<GeneralizedTimeTag as TagMarker>⟧.TAG (same_copies ⟦<GeneralizedTime as FormValue>⟧.value.contents ⟦<GeneralizedTime as FormValue>⟧.value.comparable ⟦<GeneralizedTime as FormValue>⟧.value.re_reads ⟦<GeneralizedTime as PartialEq>⟧.eq (λ v. (generalizedtime_contents_eq.contents_eq-law v v tt).1 refl)))
-        (member_copies ⟦<Vec<SingleResponse<'a>> as Form>⟧
-        (tagged_starts ⟦<Vec<SingleResponse<'a>> as Form>⟧ (one_tag ⟦<SequenceTag as TagMarker>⟧.TAG ⟦<Vec<SingleResponse<'a>> as FormValue>⟧.value.contents))
-        (one_tag_copies ⟦<SequenceTag as TagMarker>⟧.TAG (held_copies (λ x. x.items) (items_copies ⟦<SingleResponse<'a> as Form>⟧ (one_tag_copies ⟦<SequenceTag as TagMarker>⟧.TAG (record { octets_are = single_response_duplicate_value.copy_contents-law; comparable_are = single_response_duplicate_value.copy_comparable_value-law; re_reads_are = single_response_duplicate_value.copy_re_reads_value-law; equal_are = single_response_duplicate_value_is_equal.copy_value_is_equal-law })))))
+        (member_copies ⟦<SingleResponses<'a> as Form>⟧
+        (tagged_starts ⟦<SingleResponses<'a> as Form>⟧ (one_tag ⟦<SequenceTag as TagMarker>⟧.TAG ⟦<SingleResponses<'a> as FormValue>⟧.value.contents))
+        (one_tag_copies ⟦<SequenceTag as TagMarker>⟧.TAG (record { octets_are = single_responses_duplicate_value.copy_contents-law; comparable_are = single_responses_duplicate_value.copy_comparable_value-law; re_reads_are = single_responses_duplicate_value.copy_re_reads_value-law; equal_are = single_responses_duplicate_value_is_equal.copy_value_is_equal-law }))
         (member_copies ⟦<Option<Explicit<Extensions<'a>, 1>> as Form>⟧
         (optional_starts ⟦<Explicit<Extensions<'a>, 1> as Form>⟧ (one_tag ⟦<ExplicitTag<1> as TagMarker>⟧.TAG ⟦<Explicit<Extensions<'a>, 1> as FormValue>⟧.value.contents))
         (optional_copies ⟦<Explicit<Extensions<'a>, 1> as Form>⟧ (one_tag_copies ⟦<ExplicitTag<1> as TagMarker>⟧.TAG (held_copies (λ x. x.fields) (listed_copies (member_copies ⟦<Extensions<'a> as Form>⟧
@@ -349,7 +349,7 @@ pub fn octets_of_response_data<'a>()
         unless_default ⟦<DefaultNumber<0> as DefaultOf<Explicit<Version, 0>>>⟧.octets (explicit_encoding context 0 (⟦<Version as Form>⟧.encoding (response_data_fields.version v)))
         ∷ (⟦<ResponderId<'a> as Form>⟧.encoding (response_data_fields.responder_id v))
         ∷ (⟦<GeneralizedTime as Form>⟧.encoding (response_data_fields.produced_at v))
-        ∷ (⟦<Vec<SingleResponse<'a>> as Form>⟧.encoding (response_data_fields.responses v))
+        ∷ (⟦<SingleResponses<'a> as Form>⟧.encoding (response_data_fields.responses v))
         ∷ optional (λ x. (explicit_encoding context 1 (⟦<Extensions<'a> as Form>⟧.encoding x))) (response_data_fields.response_extensions v)
         ∷ []) }
 {}

@@ -6,16 +6,17 @@ ghost use Rattle.std.specs.Prelude.{◌∷◌, ◌≡◌, [], refl, true};
 ghost use Rattle.der_bits.specs.contracts.bit_string_ref.BitStringRefContentsEq.TheImpl.Laws as bitstringref_contents_eq;
 ghost use Rattle.der_elem.specs.FormatMakers.{mapped_format};
 ghost use Rattle.der_modules.specs.Asn1.{context, explicit_encoding, joined, optional, parse_of};
-ghost use Rattle.der_modules.specs.MemberLaws.{copies_of, held_copies, items_copies, items_equality, listed_copies, member_copies, member_equality, no_copies, no_equality, one_tag, one_tag_copies, one_tag_equality, optional_copies, optional_equality, optional_starts, same_copies, tagged_starts};
+ghost use Rattle.der_modules.specs.MemberLaws.{copies_of, held_copies, listed_copies, member_copies, member_equality, no_copies, no_equality, one_tag, one_tag_copies, one_tag_equality, optional_copies, optional_equality, optional_starts, same_copies, tagged_starts};
 ghost use Rattle.der_ocsp.specs.Ocsp.Grammar.{signature};
 ghost use Rattle.der_ocsp.specs.Ocsp.Signature as signature_fields;
+ghost use Rattle.der_ocsp.specs.contracts.ocsp.certificates.CertificatesContentsEq.TheImpl.Laws as certificates_contents_eq;
+ghost use Rattle.der_ocsp.specs.contracts.ocsp.certificates.CertificatesDuplicateValue.TheImpl.Laws as certificates_duplicate_value;
+ghost use Rattle.der_ocsp.specs.contracts.ocsp.certificates.CertificatesDuplicateValueIsEqual.TheImpl.Laws as certificates_duplicate_value_is_equal;
 ghost use Rattle.der_ocsp.specs.declared.ocsp.signature.Signature.{Signature};
 ghost use Rattle.der_pkix.specs.contracts.algorithm_identifier.AlgorithmIdentifierContentsEq.TheImpl.Laws as algorithm_identifier_contents_eq;
 ghost use Rattle.der_pkix.specs.contracts.algorithm_identifier.AlgorithmIdentifierEq.TheImpl.Laws as algorithm_identifier_eq;
-ghost use Rattle.der_pkix.specs.contracts.certificate.certificate.CertificateContentsEq.TheImpl.Laws as certificate_contents_eq;
-ghost use Rattle.der_pkix.specs.contracts.certificate.certificate.CertificateDuplicateValue.TheImpl.Laws as certificate_duplicate_value;
-ghost use Rattle.der_pkix.specs.contracts.certificate.certificate.CertificateDuplicateValueIsEqual.TheImpl.Laws as certificate_duplicate_value_is_equal;
 
+use crate::ocsp::certificates::Certificates;
 use der_bits::BitStringRef;
 use der_elem::{
     BitStringTag, ContentsEq, DecodeValue, DuplicateValue, DuplicateValueIsEqual, EncodeValue,
@@ -27,7 +28,6 @@ use der_fields::{
 };
 use der_modules::{CopyLaws, copy_of};
 use der_pkix::AlgorithmIdentifier;
-use der_pkix::certificate::Certificate;
 use der_tlv::{Error, Header, Length, Source, Writer};
 use std::alloc::Global;
 use std::cmp::Ordering;
@@ -37,14 +37,14 @@ use std::fmt;
 type Fields<'a> = Fields3<
     AlgorithmIdentifier<'a>,
     BitStringRef<'a>,
-    Option<Explicit<Vec<Certificate<'a>>, 0>>,
+    Option<Explicit<Certificates<'a>, 0>>,
 >;
 
 /// ```text
 /// Signature ::= SEQUENCE {
 ///      signatureAlgorithm  AlgorithmIdentifier,
 ///      signature           BIT STRING,
-///      certs           [0] EXPLICIT SEQUENCE OF Certificate OPTIONAL }
+///      certs           [0] EXPLICIT Certificates OPTIONAL }
 /// ```
 ///
 /// Reading refuses the first fault of the octets, in their order; `ErrorKind::Memory` (1) where
@@ -62,7 +62,7 @@ impl<'a> Signature<'a> {
     pub fn new(
         signature_algorithm: &AlgorithmIdentifier<'a>,
         signature: BitStringRef<'a>,
-        certs: Option<Vec<Certificate<'a>>>,
+        certs: Option<Certificates<'a>>,
     ) -> Signature<'a>
         ensures signature_algorithm { signature_fields.signature_algorithm result ≡ signature_algorithm.now }
         ensures signature { signature_fields.signature result ≡ signature.entry }
@@ -89,7 +89,7 @@ impl<'a> Signature<'a> {
     ) -> (
         AlgorithmIdentifier<'a>,
         BitStringRef<'a>,
-        Option<Vec<Certificate<'a>>>,
+        Option<Certificates<'a>>,
     )
         ensures signature_algorithm { signature_fields.signature_algorithm self.entry ≡ result.0 }
         ensures signature { signature_fields.signature self.entry ≡ result.1 }
@@ -126,8 +126,8 @@ impl<'a> Signature<'a> {
         &self.fields.list.rest.first
     }
 
-    /// `certs`, `[0] EXPLICIT SEQUENCE OF Certificate OPTIONAL`.
-    pub fn certs(&self) -> Option<&Vec<Certificate<'a>>>
+    /// `certs`, `[0] EXPLICIT Certificates OPTIONAL`.
+    pub fn certs(&self) -> Option<&Certificates<'a>>
         ensures { option_copied result ≡ signature_fields.certs self.now }
     {
         match &self.fields.list.rest.rest.first {
@@ -203,13 +203,13 @@ impl<'a> ContentsEq for Signature<'a> {
         (tagged_starts ⟦<BitStringRef<'a> as Form>⟧ (one_tag ⟦<BitStringTag as TagMarker>⟧.TAG ⟦<BitStringRef<'a> as FormValue>⟧.value.contents))
         ⟦<BitStringRef<'a> as PartialEq>⟧.eq
         (one_tag_equality ⟦<BitStringTag as TagMarker>⟧.TAG ⟦<BitStringRef<'a> as FormValue>⟧.value.contents ⟦<BitStringRef<'a> as FormValue>⟧.value.comparable ⟦<BitStringRef<'a> as PartialEq>⟧.eq bitstringref_contents_eq.contents_eq-law)
-        (member_equality ⟦<Option<Explicit<Vec<Certificate<'a>>, 0>> as Form>⟧
-        (optional_starts ⟦<Explicit<Vec<Certificate<'a>>, 0> as Form>⟧ (one_tag ⟦<ExplicitTag<0> as TagMarker>⟧.TAG ⟦<Explicit<Vec<Certificate<'a>>, 0> as FormValue>⟧.value.contents))
-        ⟦<Option<Explicit<Vec<Certificate<'a>>, 0>> as PartialEq>⟧.eq
-        (optional_equality ⟦<Explicit<Vec<Certificate<'a>>, 0> as Form>⟧ (one_tag ⟦<ExplicitTag<0> as TagMarker>⟧.TAG ⟦<Explicit<Vec<Certificate<'a>>, 0> as FormValue>⟧.value.contents) ⟦<Explicit<Vec<Certificate<'a>>, 0> as PartialEq>⟧.eq (one_tag_equality ⟦<ExplicitTag<0> as TagMarker>⟧.TAG ⟦<Explicit<Vec<Certificate<'a>>, 0> as FormValue>⟧.value.contents ⟦<Explicit<Vec<Certificate<'a>>, 0> as FormValue>⟧.value.comparable ⟦<Explicit<Vec<Certificate<'a>>, 0> as PartialEq>⟧.eq (λ v w. ((member_equality ⟦<Vec<Certificate<'a>> as Form>⟧
-        (tagged_starts ⟦<Vec<Certificate<'a>> as Form>⟧ (one_tag ⟦<SequenceTag as TagMarker>⟧.TAG ⟦<Vec<Certificate<'a>> as FormValue>⟧.value.contents))
-        ⟦<Vec<Certificate<'a>> as PartialEq>⟧.eq
-        (one_tag_equality ⟦<SequenceTag as TagMarker>⟧.TAG ⟦<Vec<Certificate<'a>> as FormValue>⟧.value.contents ⟦<Vec<Certificate<'a>> as FormValue>⟧.value.comparable ⟦<Vec<Certificate<'a>> as PartialEq>⟧.eq (λ v w. ((items_equality ⟦<Certificate<'a> as Form>⟧ (one_tag ⟦<SequenceTag as TagMarker>⟧.TAG ⟦<Certificate<'a> as FormValue>⟧.value.contents) ⟦<Certificate<'a> as PartialEq>⟧.eq (one_tag_equality ⟦<SequenceTag as TagMarker>⟧.TAG ⟦<Certificate<'a> as FormValue>⟧.value.contents ⟦<Certificate<'a> as FormValue>⟧.value.comparable ⟦<Certificate<'a> as PartialEq>⟧.eq certificate_contents_eq.contents_eq-law)) v.items w.items)))
+        (member_equality ⟦<Option<Explicit<Certificates<'a>, 0>> as Form>⟧
+        (optional_starts ⟦<Explicit<Certificates<'a>, 0> as Form>⟧ (one_tag ⟦<ExplicitTag<0> as TagMarker>⟧.TAG ⟦<Explicit<Certificates<'a>, 0> as FormValue>⟧.value.contents))
+        ⟦<Option<Explicit<Certificates<'a>, 0>> as PartialEq>⟧.eq
+        (optional_equality ⟦<Explicit<Certificates<'a>, 0> as Form>⟧ (one_tag ⟦<ExplicitTag<0> as TagMarker>⟧.TAG ⟦<Explicit<Certificates<'a>, 0> as FormValue>⟧.value.contents) ⟦<Explicit<Certificates<'a>, 0> as PartialEq>⟧.eq (one_tag_equality ⟦<ExplicitTag<0> as TagMarker>⟧.TAG ⟦<Explicit<Certificates<'a>, 0> as FormValue>⟧.value.contents ⟦<Explicit<Certificates<'a>, 0> as FormValue>⟧.value.comparable ⟦<Explicit<Certificates<'a>, 0> as PartialEq>⟧.eq (λ v w. ((member_equality ⟦<Certificates<'a> as Form>⟧
+        (tagged_starts ⟦<Certificates<'a> as Form>⟧ (one_tag ⟦<SequenceTag as TagMarker>⟧.TAG ⟦<Certificates<'a> as FormValue>⟧.value.contents))
+        ⟦<Certificates<'a> as PartialEq>⟧.eq
+        (one_tag_equality ⟦<SequenceTag as TagMarker>⟧.TAG ⟦<Certificates<'a> as FormValue>⟧.value.contents ⟦<Certificates<'a> as FormValue>⟧.value.comparable ⟦<Certificates<'a> as PartialEq>⟧.eq certificates_contents_eq.contents_eq-law)
         no_equality).equal v.fields w.fields))))
         no_equality))).equal v.fields.list w.fields.list };
 }
@@ -222,11 +222,11 @@ impl<'a> CopyLaws for Signature<'a> {
         (member_copies ⟦<BitStringRef<'a> as Form>⟧
         (tagged_starts ⟦<BitStringRef<'a> as Form>⟧ (one_tag ⟦<BitStringTag as TagMarker>⟧.TAG ⟦<BitStringRef<'a> as FormValue>⟧.value.contents))
         (one_tag_copies ⟦<BitStringTag as TagMarker>⟧.TAG (same_copies ⟦<BitStringRef<'a> as FormValue>⟧.value.contents ⟦<BitStringRef<'a> as FormValue>⟧.value.comparable ⟦<BitStringRef<'a> as FormValue>⟧.value.re_reads ⟦<BitStringRef<'a> as PartialEq>⟧.eq (λ v. (bitstringref_contents_eq.contents_eq-law v v tt).1 refl)))
-        (member_copies ⟦<Option<Explicit<Vec<Certificate<'a>>, 0>> as Form>⟧
-        (optional_starts ⟦<Explicit<Vec<Certificate<'a>>, 0> as Form>⟧ (one_tag ⟦<ExplicitTag<0> as TagMarker>⟧.TAG ⟦<Explicit<Vec<Certificate<'a>>, 0> as FormValue>⟧.value.contents))
-        (optional_copies ⟦<Explicit<Vec<Certificate<'a>>, 0> as Form>⟧ (one_tag_copies ⟦<ExplicitTag<0> as TagMarker>⟧.TAG (held_copies (λ x. x.fields) (listed_copies (member_copies ⟦<Vec<Certificate<'a>> as Form>⟧
-        (tagged_starts ⟦<Vec<Certificate<'a>> as Form>⟧ (one_tag ⟦<SequenceTag as TagMarker>⟧.TAG ⟦<Vec<Certificate<'a>> as FormValue>⟧.value.contents))
-        (one_tag_copies ⟦<SequenceTag as TagMarker>⟧.TAG (held_copies (λ x. x.items) (items_copies ⟦<Certificate<'a> as Form>⟧ (one_tag_copies ⟦<SequenceTag as TagMarker>⟧.TAG (record { octets_are = certificate_duplicate_value.copy_contents-law; comparable_are = certificate_duplicate_value.copy_comparable_value-law; re_reads_are = certificate_duplicate_value.copy_re_reads_value-law; equal_are = certificate_duplicate_value_is_equal.copy_value_is_equal-law })))))
+        (member_copies ⟦<Option<Explicit<Certificates<'a>, 0>> as Form>⟧
+        (optional_starts ⟦<Explicit<Certificates<'a>, 0> as Form>⟧ (one_tag ⟦<ExplicitTag<0> as TagMarker>⟧.TAG ⟦<Explicit<Certificates<'a>, 0> as FormValue>⟧.value.contents))
+        (optional_copies ⟦<Explicit<Certificates<'a>, 0> as Form>⟧ (one_tag_copies ⟦<ExplicitTag<0> as TagMarker>⟧.TAG (held_copies (λ x. x.fields) (listed_copies (member_copies ⟦<Certificates<'a> as Form>⟧
+        (tagged_starts ⟦<Certificates<'a> as Form>⟧ (one_tag ⟦<SequenceTag as TagMarker>⟧.TAG ⟦<Certificates<'a> as FormValue>⟧.value.contents))
+        (one_tag_copies ⟦<SequenceTag as TagMarker>⟧.TAG (record { octets_are = certificates_duplicate_value.copy_contents-law; comparable_are = certificates_duplicate_value.copy_comparable_value-law; re_reads_are = certificates_duplicate_value.copy_re_reads_value-law; equal_are = certificates_duplicate_value_is_equal.copy_value_is_equal-law }))
         no_copies)))))
         no_copies))))) };
 }
@@ -265,6 +265,6 @@ pub fn octets_of_signature<'a>()
     ensures { (v : Signature) → ⟦<Signature<'a> as FormValue>⟧.value.contents v ≡ joined (
         (⟦<AlgorithmIdentifier<'a> as Form>⟧.encoding (signature_fields.signature_algorithm v))
         ∷ (⟦<BitStringRef<'a> as Form>⟧.encoding (signature_fields.signature v))
-        ∷ optional (λ x. (explicit_encoding context 0 (⟦<Vec<Certificate<'a>> as Form>⟧.encoding x))) (signature_fields.certs v)
+        ∷ optional (λ x. (explicit_encoding context 0 (⟦<Certificates<'a> as Form>⟧.encoding x))) (signature_fields.certs v)
         ∷ []) }
 {}

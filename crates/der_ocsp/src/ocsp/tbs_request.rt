@@ -10,19 +10,19 @@ ghost use Rattle.der_extensions.specs.contracts.extension.general_name.GeneralNa
 ghost use Rattle.der_extensions.specs.contracts.extension.general_name.GeneralNameEncodingEq.TheImpl.Laws as general_name_encoding_eq;
 ghost use Rattle.der_extensions.specs.contracts.extension.general_name.GeneralNameTagged.TheImpl.Laws as general_name_tagged;
 ghost use Rattle.der_modules.specs.Asn1.{context, explicit_encoding, joined, optional, parse_of, unless_default};
-ghost use Rattle.der_modules.specs.MemberLaws.{copies_of, default_copies, default_equality, default_starts, held_copies, items_copies, items_equality, listed_copies, member_copies, member_equality, no_copies, no_equality, one_tag, one_tag_copies, one_tag_equality, optional_copies, optional_equality, optional_starts, own_tags, same_copies, tagged_starts};
+ghost use Rattle.der_modules.specs.MemberLaws.{copies_of, default_copies, default_equality, default_starts, held_copies, listed_copies, member_copies, member_equality, no_copies, no_equality, one_tag, one_tag_copies, one_tag_equality, optional_copies, optional_equality, optional_starts, own_tags, same_copies, tagged_starts};
 ghost use Rattle.der_ocsp.specs.Ocsp.Grammar.{tbs_request};
 ghost use Rattle.der_ocsp.specs.Ocsp.TbsRequest as tbs_request_fields;
-ghost use Rattle.der_ocsp.specs.contracts.ocsp.request.RequestContentsEq.TheImpl.Laws as request_contents_eq;
-ghost use Rattle.der_ocsp.specs.contracts.ocsp.request.RequestDuplicateValue.TheImpl.Laws as request_duplicate_value;
-ghost use Rattle.der_ocsp.specs.contracts.ocsp.request.RequestDuplicateValueIsEqual.TheImpl.Laws as request_duplicate_value_is_equal;
+ghost use Rattle.der_ocsp.specs.contracts.ocsp.requests.RequestsContentsEq.TheImpl.Laws as requests_contents_eq;
+ghost use Rattle.der_ocsp.specs.contracts.ocsp.requests.RequestsDuplicateValue.TheImpl.Laws as requests_duplicate_value;
+ghost use Rattle.der_ocsp.specs.contracts.ocsp.requests.RequestsDuplicateValueIsEqual.TheImpl.Laws as requests_duplicate_value_is_equal;
 ghost use Rattle.der_ocsp.specs.declared.ocsp.tbs_request.TbsRequest.{TbsRequest};
 ghost use Rattle.der_pkix.specs.contracts.certificate.extensions.ExtensionsContentsEq.TheImpl.Laws as extensions_contents_eq;
 ghost use Rattle.der_pkix.specs.contracts.certificate.extensions.ExtensionsDuplicateValue.TheImpl.Laws as extensions_duplicate_value;
 ghost use Rattle.der_pkix.specs.contracts.certificate.extensions.ExtensionsDuplicateValueIsEqual.TheImpl.Laws as extensions_duplicate_value_is_equal;
 
 use crate::ocsp::aliases::Version;
-use crate::ocsp::request::Request;
+use crate::ocsp::requests::Requests;
 use der_elem::{
     ContentsEq, DecodeValue, DuplicateValue, DuplicateValueIsEqual, EncodeValue, Form, FormValue,
     IntegerTag, OneTag, Sequence, SequenceTag, TagMarker, Tagged, ValueOrd,
@@ -43,7 +43,7 @@ use std::fmt;
 type Fields<'a> = Fields4<
     WithDefault<Explicit<Version, 0>, DefaultNumber<0>>,
     Option<Explicit<GeneralName<'a>, 1>>,
-    Vec<Request<'a>>,
+    Requests<'a>,
     Option<Explicit<Extensions<'a>, 2>>,
 >;
 
@@ -51,7 +51,7 @@ type Fields<'a> = Fields4<
 /// TBSRequest ::= SEQUENCE {
 ///      version            [0] EXPLICIT Version DEFAULT v1,
 ///      requestorName      [1] EXPLICIT GeneralName OPTIONAL,
-///      requestList            SEQUENCE OF Request,
+///      requestList            Requests,
 ///      requestExtensions  [2] EXPLICIT Extensions OPTIONAL }
 /// ```
 ///
@@ -70,7 +70,7 @@ impl<'a> TbsRequest<'a> {
     pub fn new(
         version: Version,
         requestor_name: Option<GeneralName<'a>>,
-        request_list: Vec<Request<'a>>,
+        request_list: Requests<'a>,
         request_extensions: Option<Extensions<'a>>,
     ) -> TbsRequest<'a>
         ensures version { tbs_request_fields.version result ≡ version }
@@ -111,7 +111,7 @@ impl<'a> TbsRequest<'a> {
     ) -> (
         Version,
         Option<GeneralName<'a>>,
-        Vec<Request<'a>>,
+        Requests<'a>,
         Option<Extensions<'a>>,
     )
         ensures version { tbs_request_fields.version self.entry ≡ result.0 }
@@ -165,8 +165,8 @@ impl<'a> TbsRequest<'a> {
         }
     }
 
-    /// `requestList`, `SEQUENCE OF Request`.
-    pub fn request_list(&self) -> &Vec<Request<'a>>
+    /// `requestList`, `Requests`.
+    pub fn request_list(&self) -> &Requests<'a>
         ensures { result.now ≡ tbs_request_fields.request_list self.now }
     {
         &self.fields.list.rest.rest.first
@@ -258,10 +258,10 @@ impl<'a> ContentsEq for TbsRequest<'a> {
         ⟦<GeneralName<'a> as PartialEq>⟧.eq
         general_name_encoding_eq.encoding_eq-law
         no_equality).equal v.fields w.fields))))
-        (member_equality ⟦<Vec<Request<'a>> as Form>⟧
-        (tagged_starts ⟦<Vec<Request<'a>> as Form>⟧ (one_tag ⟦<SequenceTag as TagMarker>⟧.TAG ⟦<Vec<Request<'a>> as FormValue>⟧.value.contents))
-        ⟦<Vec<Request<'a>> as PartialEq>⟧.eq
-        (one_tag_equality ⟦<SequenceTag as TagMarker>⟧.TAG ⟦<Vec<Request<'a>> as FormValue>⟧.value.contents ⟦<Vec<Request<'a>> as FormValue>⟧.value.comparable ⟦<Vec<Request<'a>> as PartialEq>⟧.eq (λ v w. ((items_equality ⟦<Request<'a> as Form>⟧ (one_tag ⟦<SequenceTag as TagMarker>⟧.TAG ⟦<Request<'a> as FormValue>⟧.value.contents) ⟦<Request<'a> as PartialEq>⟧.eq (one_tag_equality ⟦<SequenceTag as TagMarker>⟧.TAG ⟦<Request<'a> as FormValue>⟧.value.contents ⟦<Request<'a> as FormValue>⟧.value.comparable ⟦<Request<'a> as PartialEq>⟧.eq request_contents_eq.contents_eq-law)) v.items w.items)))
+        (member_equality ⟦<Requests<'a> as Form>⟧
+        (tagged_starts ⟦<Requests<'a> as Form>⟧ (one_tag ⟦<SequenceTag as TagMarker>⟧.TAG ⟦<Requests<'a> as FormValue>⟧.value.contents))
+        ⟦<Requests<'a> as PartialEq>⟧.eq
+        (one_tag_equality ⟦<SequenceTag as TagMarker>⟧.TAG ⟦<Requests<'a> as FormValue>⟧.value.contents ⟦<Requests<'a> as FormValue>⟧.value.comparable ⟦<Requests<'a> as PartialEq>⟧.eq requests_contents_eq.contents_eq-law)
         (member_equality ⟦<Option<Explicit<Extensions<'a>, 2>> as Form>⟧
         (optional_starts ⟦<Explicit<Extensions<'a>, 2> as Form>⟧ (one_tag ⟦<ExplicitTag<2> as TagMarker>⟧.TAG ⟦<Explicit<Extensions<'a>, 2> as FormValue>⟧.value.contents))
         ⟦<Option<Explicit<Extensions<'a>, 2>> as PartialEq>⟧.eq
@@ -287,9 +287,9 @@ impl<'a> CopyLaws for TbsRequest<'a> {
         (tagged_starts ⟦<GeneralName<'a> as Form>⟧ (own_tags ⟦<GeneralName<'a> as Form>⟧.tags ⟦<GeneralName<'a> as Form>⟧.first_tag_of ⟦<GeneralName<'a> as Form>⟧.encoding ⟦<GeneralName<'a> as Tagged>⟧.tag_of ⟦<GeneralName<'a> as FormValue>⟧.value.contents general_name_tagged.encoding_is-law general_name_tagged.own_tag-law general_name_tagged.first_tag_is-law))
         (record { octets_are = general_name_duplicate.copy_encoding-law; comparable_are = general_name_duplicate.copy_comparable-law; re_reads_are = general_name_duplicate.copy_re_reads-law; equal_are = general_name_duplicate_is_equal.copy_is_equal-law })
         no_copies)))))
-        (member_copies ⟦<Vec<Request<'a>> as Form>⟧
-        (tagged_starts ⟦<Vec<Request<'a>> as Form>⟧ (one_tag ⟦<SequenceTag as TagMarker>⟧.TAG ⟦<Vec<Request<'a>> as FormValue>⟧.value.contents))
-        (one_tag_copies ⟦<SequenceTag as TagMarker>⟧.TAG (held_copies (λ x. x.items) (items_copies ⟦<Request<'a> as Form>⟧ (one_tag_copies ⟦<SequenceTag as TagMarker>⟧.TAG (record { octets_are = request_duplicate_value.copy_contents-law; comparable_are = request_duplicate_value.copy_comparable_value-law; re_reads_are = request_duplicate_value.copy_re_reads_value-law; equal_are = request_duplicate_value_is_equal.copy_value_is_equal-law })))))
+        (member_copies ⟦<Requests<'a> as Form>⟧
+        (tagged_starts ⟦<Requests<'a> as Form>⟧ (one_tag ⟦<SequenceTag as TagMarker>⟧.TAG ⟦<Requests<'a> as FormValue>⟧.value.contents))
+        (one_tag_copies ⟦<SequenceTag as TagMarker>⟧.TAG (record { octets_are = requests_duplicate_value.copy_contents-law; comparable_are = requests_duplicate_value.copy_comparable_value-law; re_reads_are = requests_duplicate_value.copy_re_reads_value-law; equal_are = requests_duplicate_value_is_equal.copy_value_is_equal-law }))
         (member_copies ⟦<Option<Explicit<Extensions<'a>, 2>> as Form>⟧
         (optional_starts ⟦<Explicit<Extensions<'a>, 2> as Form>⟧ (one_tag ⟦<ExplicitTag<2> as TagMarker>⟧.TAG ⟦<Explicit<Extensions<'a>, 2> as FormValue>⟧.value.contents))
         (optional_copies ⟦<Explicit<Extensions<'a>, 2> as Form>⟧ (one_tag_copies ⟦<ExplicitTag<2> as TagMarker>⟧.TAG (held_copies (λ x. x.fields) (listed_copies (member_copies ⟦<Extensions<'a> as Form>⟧
@@ -333,7 +333,7 @@ pub fn octets_of_tbs_request<'a>()
     ensures { (v : TbsRequest) → ⟦<TbsRequest<'a> as FormValue>⟧.value.contents v ≡ joined (
         unless_default ⟦<DefaultNumber<0> as DefaultOf<Explicit<Version, 0>>>⟧.octets (explicit_encoding context 0 (⟦<Version as Form>⟧.encoding (tbs_request_fields.version v)))
         ∷ optional (λ x. (explicit_encoding context 1 (⟦<GeneralName<'a> as Form>⟧.encoding x))) (tbs_request_fields.requestor_name v)
-        ∷ (⟦<Vec<Request<'a>> as Form>⟧.encoding (tbs_request_fields.request_list v))
+        ∷ (⟦<Requests<'a> as Form>⟧.encoding (tbs_request_fields.request_list v))
         ∷ optional (λ x. (explicit_encoding context 2 (⟦<Extensions<'a> as Form>⟧.encoding x))) (tbs_request_fields.request_extensions v)
         ∷ []) }
 {}

@@ -94,7 +94,7 @@ fn basic_told(
                 None => 0,
             };
             let certificates = match basic.certs() {
-                Some(certificates) => Some(certificates.len()),
+                Some(certificates) => Some(certificates.as_slice().len()),
                 None => None,
             };
             let signature = *basic.signature();
@@ -102,7 +102,7 @@ fn basic_told(
                 signed.version(),
                 key,
                 signed.produced_at().to_date_time().year(),
-                signed.responses().len(),
+                signed.responses().as_slice().len(),
                 extensions,
                 certificates,
                 signature.bit_len(),

@@ -52,7 +52,7 @@ fn request_told(
             };
             let certificates = match request.optional_signature() {
                 Some(signature) => match signature.certs() {
-                    Some(certificates) => Some(certificates.len()),
+                    Some(certificates) => Some(certificates.as_slice().len()),
                     None => Some(0),
                 },
                 None => None,
@@ -60,7 +60,7 @@ fn request_told(
             let number = copied(alloc, last.req_cert().serial_number().as_bytes())?;
             Ok((
                 asked.version(),
-                asked.request_list().len(),
+                asked.request_list().as_slice().len(),
                 number,
                 extensions,
                 asked.requestor_name().is_some(),

@@ -1,2 +1,0 @@
--- Made by tools/asn1.
-pub mod Enveloped

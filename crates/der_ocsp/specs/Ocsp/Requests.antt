@@ -1,0 +1,8 @@
+-- The items of Requests.
+-- Made by tools/asn1 from ocsp.asn1.
+use Rattle.std.specs.Prelude.{List}
+use Rattle.der_ocsp.specs.declared.ocsp.request.Request.{Request}
+use Rattle.der_ocsp.specs.declared.ocsp.requests.Requests.{Requests}
+
+abbrev pub items_of : Requests → List Request
+items_of v = v.items.items
