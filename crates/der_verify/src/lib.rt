@@ -12,5 +12,8 @@ pub use rfc5280::{
     CERTIFICATE_RULES, CertificateRule, LIST_RULES, ListRule, algorithms_agree, check_certificate,
     check_list, list_algorithms_agree,
 };
-pub use signed::{first_field, octets_of_tbs_cert_list, octets_of_tbs_certificate};
+pub use signed::{
+    first_field, octets_of_certification_request_info, octets_of_tbs_cert_list,
+    octets_of_tbs_certificate, octets_of_tbs_response_data,
+};
 pub use time::{date_time, holds_at, seconds, time_at};

@@ -10,9 +10,15 @@ ghost use Rattle.der_pkix.specs.declared.certificate.certificate.Certificate.{Ce
 ghost use Rattle.der_pkix.specs.declared.crl.certificate_list.CertificateList.{CertificateList};
 ghost use Rattle.der_pkix.specs.Certificate.Certificate as certificate_fields;
 ghost use Rattle.der_pkix.specs.Crl.CertificateList as certificate_list_fields;
+ghost use Rattle.der_ocsp.specs.declared.ocsp.basic_ocsp_response.BasicOcspResponse.{BasicOcspResponse};
+ghost use Rattle.der_ocsp.specs.Ocsp.BasicOcspResponse as answer_fields;
+ghost use Rattle.der_pkcs.specs.declared.request.certification_request.CertificationRequest.{CertificationRequest};
+ghost use Rattle.der_pkcs.specs.Request.CertificationRequest as request_fields;
 ghost use Rattle.der_verify.specs.Signed.{BeginsWith, HasFirst};
 
 use der_elem::Form;
+use der_ocsp::ocsp::{BasicOcspResponse, ResponseData};
+use der_pkcs::request::{CertificationRequest, CertificationRequestInfo};
 use der_pkix::certificate::{Certificate, TbsCertificate};
 use der_pkix::crl::{CertificateList, TbsCertList};
 use der_tlv::{Error, Header, Reader, SliceReader};
@@ -77,6 +83,28 @@ pub fn octets_of_tbs_certificate<'a>(octets: &'a [u8]) -> Result<&'a [u8], Error
 pub fn octets_of_tbs_cert_list<'a>(octets: &'a [u8]) -> Result<&'a [u8], Error>
     ensures { (v : CertificateList) → octets.now ≡ ⟦<CertificateList<'a> as Form>⟧.encoding v → length octets.now < 2 ^ 32
         → IsOkAnd result (λ signed. signed.now ≡ ⟦<TbsCertList<'a> as Form>⟧.encoding (certificate_list_fields.tbs_cert_list v)) }
+{
+    first_field(octets)
+}
+
+/// The same of a request for a certificate: those of certificationRequestInfo (RFC 2986 4.2).
+///
+/// # Errors
+/// As `octets_of_tbs_certificate`.
+pub fn octets_of_certification_request_info<'a>(octets: &'a [u8]) -> Result<&'a [u8], Error>
+    ensures { (v : CertificationRequest) → octets.now ≡ ⟦<CertificationRequest<'a> as Form>⟧.encoding v → length octets.now < 2 ^ 32
+        → IsOkAnd result (λ signed. signed.now ≡ ⟦<CertificationRequestInfo<'a> as Form>⟧.encoding (request_fields.certification_request_info v)) }
+{
+    first_field(octets)
+}
+
+/// The same of an answer about the status of certificates: those of tbsResponseData (RFC 6960 4.2.1).
+///
+/// # Errors
+/// As `octets_of_tbs_certificate`.
+pub fn octets_of_tbs_response_data<'a>(octets: &'a [u8]) -> Result<&'a [u8], Error>
+    ensures { (v : BasicOcspResponse) → octets.now ≡ ⟦<BasicOcspResponse<'a> as Form>⟧.encoding v → length octets.now < 2 ^ 32
+        → IsOkAnd result (λ signed. signed.now ≡ ⟦<ResponseData<'a> as Form>⟧.encoding (answer_fields.tbs_response_data v)) }
 {
     first_field(octets)
 }

@@ -1,11 +1,18 @@
 //! The octets that are signed.
 
-use super::data::{CERTIFICATE, LIST, SIGNED, SIGNED_LIST};
+use super::data::{
+    ANSWER, CERTIFICATE, LIST, REQUEST, SIGNED, SIGNED_ANSWER, SIGNED_LIST, SIGNED_REQUEST,
+};
 use super::{copied, numbered, same, same_in};
 use der_asn1_types::{Encode, FromDer};
+use der_ocsp::ocsp::BasicOcspResponse;
+use der_pkcs::request::CertificationRequest;
 use der_pkix::certificate::Certificate;
 use der_pkix::crl::CertificateList;
-use der_verify::{first_field, octets_of_tbs_cert_list, octets_of_tbs_certificate};
+use der_verify::{
+    first_field, octets_of_certification_request_info, octets_of_tbs_cert_list,
+    octets_of_tbs_certificate, octets_of_tbs_response_data,
+};
 use std::alloc::Global;
 use std::process::Abort;
 use std::test::Fail;
@@ -22,6 +29,38 @@ fn signed_of_certificate(alloc: Global, octets: &[u8]) -> Result<Vec<u8>, u8> {
 fn signed_of_list(alloc: Global, octets: &[u8]) -> Result<Vec<u8>, u8> {
     match octets_of_tbs_cert_list(octets) {
         Ok(signed) => copied(alloc, signed),
+        Err(e) => Err(e.kind().number()),
+    }
+}
+
+// What is signed of a request.
+fn signed_of_request(alloc: Global, octets: &[u8]) -> Result<Vec<u8>, u8> {
+    match octets_of_certification_request_info(octets) {
+        Ok(signed) => copied(alloc, signed),
+        Err(e) => Err(e.kind().number()),
+    }
+}
+
+// What is signed of an answer.
+fn signed_of_answer(alloc: Global, octets: &[u8]) -> Result<Vec<u8>, u8> {
+    match octets_of_tbs_response_data(octets) {
+        Ok(signed) => copied(alloc, signed),
+        Err(e) => Err(e.kind().number()),
+    }
+}
+
+// The encoding of the first field that is read of a request.
+fn request_again(alloc: Global, octets: &[u8]) -> Result<Vec<u8>, u8> {
+    match CertificationRequest::from_der(alloc, octets) {
+        Ok(request) => numbered(request.certification_request_info().to_der(alloc)),
+        Err(e) => Err(e.kind().number()),
+    }
+}
+
+// The encoding of the first field that is read of an answer.
+fn answer_again(alloc: Global, octets: &[u8]) -> Result<Vec<u8>, u8> {
+    match BasicOcspResponse::from_der(alloc, octets) {
+        Ok(answer) => numbered(answer.tbs_response_data().to_der(alloc)),
         Err(e) => Err(e.kind().number()),
     }
 }
@@ -110,5 +149,23 @@ fn octets_with_no_first_field_are_refused(rt: HostRuntime) -> Result<(), Fail> {
         let found = first_told(alloc, octets.as_slice())?;
         same_in(&rt, &digits, found.as_slice(), wanted.as_slice());
     }
+    Ok(())
+}
+
+#[test]
+fn the_octets_that_are_signed_of_a_request_and_an_answer(rt: HostRuntime) -> Result<(), Fail> {
+    let alloc = rt.alloc();
+    let octets = hex::decode(alloc, REQUEST)?;
+    let wanted = hex::decode(alloc, SIGNED_REQUEST)?;
+    let found = signed_of_request(alloc, octets.as_slice())?;
+    same(&rt, found.as_slice(), wanted.as_slice());
+    let found = request_again(alloc, octets.as_slice())?;
+    same(&rt, found.as_slice(), wanted.as_slice());
+    let octets = hex::decode(alloc, ANSWER)?;
+    let wanted = hex::decode(alloc, SIGNED_ANSWER)?;
+    let found = signed_of_answer(alloc, octets.as_slice())?;
+    same(&rt, found.as_slice(), wanted.as_slice());
+    let found = answer_again(alloc, octets.as_slice())?;
+    same(&rt, found.as_slice(), wanted.as_slice());
     Ok(())
 }
