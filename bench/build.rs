@@ -3,8 +3,10 @@
 fn main() {
     let room = std::env::var("BENCH_ROOM").expect("run this by bench/run");
     println!("cargo:rustc-link-search=native={room}");
-    println!("cargo:rustc-link-lib=static=calls");
-    println!("cargo:rustc-link-lib=static=c_of_rattle");
+    if std::env::var("CARGO_FEATURE_HERE").is_ok() {
+        println!("cargo:rustc-link-lib=static=calls");
+        println!("cargo:rustc-link-lib=static=c_of_rattle");
+    }
     println!("cargo:rustc-link-lib=static=openssl_calls");
     println!("cargo:rustc-link-lib=crypto");
     println!("cargo:rerun-if-env-changed=BENCH_ROOM");

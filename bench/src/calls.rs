@@ -1,10 +1,21 @@
 //! The calls that are measured: of the library, and of OpenSSL.
 
+/// Whether the library's calls are there.
+pub const ARE_THERE: bool = cfg!(feature = "here");
+
 macro_rules! of_octets {
     ($($call:ident)*) => {
+        #[cfg(feature = "here")]
         unsafe extern "C" {
             $(fn $call(octets: *const u8, len: usize) -> usize;)*
         }
+
+        $(
+            #[cfg(not(feature = "here"))]
+            unsafe extern "C" fn $call(_octets: *const u8, _len: usize) -> usize {
+                0
+            }
+        )*
 
         /// The calls over octets, each of which answers a count or a length.
         pub mod octets {
@@ -29,27 +40,40 @@ of_octets! {
     read_bits_owned rewrite_bits_owned read_octets_owned rewrite_octets_owned
     read_string_owned rewrite_string_owned read_printable_owned rewrite_printable_owned
     read_int_owned rewrite_int_owned
-    read_certificate
+    read_certificate read_certificate_names rewrite_certificate read_revoked read_signed read_status
 }
 
-unsafe extern "C" {
+macro_rules! of_other_types {
+    ($(fn $call:ident($($argument:ident: $of:ty),*) -> $answer:ty;)*) => {
+        #[cfg(feature = "here")]
+        unsafe extern "C" {
+            $(fn $call($($argument: $of),*) -> $answer;)*
+        }
+
+        $(
+            #[cfg(not(feature = "here"))]
+            unsafe extern "C" fn $call($(_: $of),*) -> $answer {
+                0
+            }
+        )*
+    };
+}
+
+of_other_types! {
     fn write_i64(values: *const i64, len: usize) -> usize;
     fn less_i64(a: *const i64, a_len: usize, b: *const i64, b_len: usize) -> u32;
     fn less_octets(a: *const u8, a_len: usize, b: *const u8, b_len: usize, rounds: u32) -> u32;
     fn less_list(a: *const u8, a_len: usize, b: *const u8, b_len: usize, rounds: u32) -> u32;
+    fn write_behind_1(numbers: *const u32, len: usize, rounds: u32) -> usize;
+    fn write_behind_11(numbers: *const u32, len: usize, rounds: u32) -> usize;
+}
 
+unsafe extern "C" {
     fn openssl_walk(octets: *const u8, len: usize) -> i64;
     fn openssl_read_i64(octets: *const u8, len: usize) -> i64;
     fn openssl_prepare(octets: *const u8, len: usize);
     fn openssl_write_i64() -> i64;
-    fn openssl_read_certificate(octets: *const u8, len: usize) -> i64;
     fn openssl_rewrite_set(octets: *const u8, len: usize) -> i64;
-}
-
-/// Reads a certificate by OpenSSL, which keeps copies: 1, or 0 where it is refused.
-pub fn ossl_read_certificate(octets: &[u8]) -> usize {
-    // SAFETY: the call reads the slice and keeps nothing of it.
-    unsafe { openssl_read_certificate(octets.as_ptr(), octets.len()) as usize }
 }
 
 /// Writes a SEQUENCE of these, and answers its octets' number.
@@ -72,6 +96,16 @@ pub fn library_less_octets(a: &[u8], b: &[u8], rounds: u32) -> usize {
 /// The same of two SEQUENCEs of INTEGERs, as lists.
 pub fn library_less_list(a: &[u8], b: &[u8], rounds: u32) -> usize {
     unsafe { less_list(a.as_ptr(), a.len(), b.as_ptr(), b.len(), rounds) as usize }
+}
+
+/// Writes a SEQUENCE of these so many times, and answers its octets' number.
+pub fn library_write_behind_1(numbers: &[u32], rounds: u32) -> usize {
+    unsafe { write_behind_1(numbers.as_ptr(), numbers.len(), rounds) }
+}
+
+/// The same within ten lists.
+pub fn library_write_behind_11(numbers: &[u32], rounds: u32) -> usize {
+    unsafe { write_behind_11(numbers.as_ptr(), numbers.len(), rounds) }
 }
 
 /// OpenSSL's headers of a tree of values.

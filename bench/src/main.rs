@@ -1,8 +1,14 @@
-//! The library beside `der`, `asn1` and OpenSSL: the same octets, in one process, in turn.
+//! The library beside its peers: the same octets, in turn, on one processor. What is in Rust, and OpenSSL's calls of
+//! single types, are measured in this process; the other libraries in C and Go have programs of their own.
 
 mod calls;
 mod inputs;
+mod limit;
 mod measure;
+mod messages;
+mod of_asn1;
+mod of_der;
+mod peers;
 
 use calls::octets as here;
 use der::asn1::{
@@ -11,31 +17,41 @@ use der::asn1::{
 };
 use der::{Decode, DerOrd, Encode, Reader, SliceReader, Tagged};
 use inputs::{Numbers, Order, sequence};
-use measure::{Candidate, Plan};
+use measure::{Goal, Plan, by};
+use peers::Peer;
+use std::cell::RefCell;
 use std::hint::black_box;
+use std::path::PathBuf;
 
 const COUNT: usize = 100_000;
-
-fn by<'a>(name: &'static str, call: impl FnMut() -> usize + 'a) -> Candidate<'a> {
-    Candidate { name, call: Box::new(call) }
-}
 
 fn main() {
     let arguments: Vec<String> = std::env::args().skip(1).collect();
     let argument = |i: usize| arguments.get(i).filter(|word| *word != "-").cloned();
+    let room = PathBuf::from(std::env::var("BENCH_ROOM").expect("run this by bench/run"));
     let plan = Plan {
         rows: argument(0).unwrap_or_default(),
         once: argument(1),
         rounds: argument(2).and_then(|rounds| rounds.parse().ok()),
+        has_library: calls::ARE_THERE,
+        kept: std::env::var("BENCH_ROWS").ok().and_then(|path| std::fs::File::create(path).ok()).map(RefCell::new),
     };
+    if !plan.has_library {
+        println!("not there: the library's calls; only its peers are measured");
+    }
+    let peers = Peer::all(&room);
+    messages::rows(&plan, &room, &peers);
+    messages::lists(&plan);
     integers(&plan);
-    sets(&plan);
-    walks(&plan);
-    certificates(&plan);
-    types(&plan);
-    owned(&plan);
-    comparisons(&plan);
-    growth(&plan);
+    // What follows compares single types, and shows nothing without the library.
+    if plan.has_library {
+        sets(&plan);
+        walks(&plan);
+        types(&plan);
+        owned(&plan);
+        comparisons(&plan);
+        growth(&plan);
+    }
 }
 
 fn asn1_integers(octets: &[u8]) -> Vec<i64> {
@@ -48,22 +64,26 @@ fn integers(plan: &Plan) {
     let octets = inputs::tlv(0x30, &values.iter().flat_map(|value| inputs::integer(*value)).collect::<Vec<u8>>());
     let (octets, values) = (&octets[..], &values[..]);
     calls::ossl_prepare(octets);
-    plan.row("read Vec<i64>", COUNT, 31, Some(("asn1", 0.33)), vec![
+    plan.row("read Vec<i64>", COUNT, 31, &[("asn1", 0.15)], vec![
         by("here", || here::read_i64(octets)),
+        by("limit", || limit::read_i64(octets)),
         by("der", || Vec::<i64>::from_der(octets).unwrap().len()),
-        by("asn1", || asn1_integers(octets).len()),
+        by("asn1 0.24", || asn1_integers(octets).len()),
+        by("asn1 0.12", || asn1_before::parse_single::<asn1_before::SequenceOf<'_, i64>>(octets).unwrap().collect::<Vec<_>>().len()),
         by("openssl", || calls::ossl_read_i64(octets)),
     ]);
     let kept = values.to_vec();
-    plan.row("write Vec<i64>", COUNT, 31, Some(("asn1", 0.25)), vec![
+    plan.row("write Vec<i64>", COUNT, 31, &[("asn1", 0.25)], vec![
         by("here", || calls::library_write_i64(values)),
+        by("limit", || limit::write_i64(values).len()),
         by("der", || kept.to_der().unwrap().len()),
-        by("asn1", || asn1::write_single(&asn1::SequenceOfWriter::new(values)).unwrap().len()),
+        by("asn1 0.24", || asn1::write_single(&asn1::SequenceOfWriter::new(values)).unwrap().len()),
+        by("asn1 0.12", || asn1_before::write_single(&asn1_before::SequenceOfWriter::new(values)).unwrap().len()),
         by("openssl", calls::ossl_write_i64),
     ]);
     let magnitudes = sequence(COUNT, || ((numbers.integer() as u64) << 1 >> 1).to_der().unwrap());
     let magnitudes = &magnitudes[..];
-    plan.row("read Vec<u64>", COUNT, 31, Some(("asn1", 0.33)), vec![
+    plan.row("read Vec<u64>", COUNT, 31, &[("asn1", 0.33)], vec![
         by("here", || here::read_u64(magnitudes)),
         by("der", || Vec::<u64>::from_der(magnitudes).unwrap().len()),
         by("asn1", || asn1::parse_single::<asn1::SequenceOf<'_, u64>>(magnitudes).unwrap().collect::<Vec<_>>().len()),
@@ -88,13 +108,13 @@ fn sets(plan: &Plan) {
         ("read a SET, 4,000 rising u16", Order::Rising, 0.2),
     ] {
         let octets = inputs::integer_set(4000, order);
-        plan.row(row, 4000, 41, Some(("der", most)), vec![
+        plan.row(row, 4000, 41, &[("der", most)], vec![
             by("here", || here::read_set(&octets)),
             by("der", || SetOfVec::<u16>::from_der(&octets).unwrap().len()),
         ]);
     }
     let octets = inputs::integer_set(4000, Order::Falling);
-    plan.row("read and write a SET, falling", 4000, 41, Some(("asn1", 0.8)), vec![
+    plan.row("read and write a SET, falling", 4000, 41, &[("asn1", 0.8)], vec![
         by("here", || here::rewrite_set(&octets)),
         by("der", || SetOfVec::<u16>::from_der(&octets).unwrap().to_der().unwrap().len()),
         by("asn1", || asn1::write_single(&asn1::SetOfWriter::new(asn1_set(&octets))).unwrap().len()),
@@ -132,7 +152,7 @@ fn asn1_walk(octets: &[u8]) -> usize {
 
 fn walks(plan: &Plan) {
     let walk = |row: &str, most: f64, octets: &[u8]| {
-        plan.row(row, inputs::count(octets), 41, Some(("openssl", most)), vec![
+        plan.row(row, inputs::count(octets), 41, &[("openssl", most)], vec![
             by("here", || here::walk(octets)),
             by("headers", || here::walk_headers(octets)),
             by("der", || der_walk(octets)),
@@ -146,35 +166,19 @@ fn walks(plan: &Plan) {
     }
 }
 
-fn x509_cert_reads(octets: &[u8]) -> bool {
-    <x509_cert::Certificate as x509_cert::der::Decode>::from_der(octets).is_ok()
-}
-
-/// Certificates read into fields, beside the crate `x509-cert`, and a plain walk over their headers.
-fn certificates(plan: &Plan) {
-    let Some(certificates) = inputs::each_certificate() else {
-        return;
-    };
-    plan.row("read certificates", certificates.len(), 41, Some(("x509-cert", 1.0)), vec![
-        by("here", || certificates.iter().map(|octets| here::read_certificate(octets)).sum()),
-        by("headers", || certificates.iter().filter(|octets| here::walk_headers(octets) > 0).count()),
-        by("x509-cert", || certificates.iter().filter(|octets| x509_cert_reads(octets)).count()),
-        by("openssl", || certificates.iter().map(|octets| calls::ossl_read_certificate(octets)).sum()),
-    ]);
-}
-
 /// A row for reading a SEQUENCE OF a type, and one for reading and writing it.
 macro_rules! of_type {
     ($plan:expr, $name:literal, $octets:expr, $read:ident, $rewrite:ident, $der:ty, $goals:expr $(, $asn1:ty)?) => {{
         let octets: Vec<u8> = $octets;
         let octets = &octets[..];
         let (read_goal, rewrite_goal): (Option<f64>, Option<f64>) = $goals;
-        $plan.row(concat!("read ", $name), COUNT, 25, read_goal.map(|most| ("der", most)), vec![
+        let goals = |most: Option<f64>| -> Vec<Goal> { most.map(|most| ("der", most)).into_iter().collect() };
+        $plan.row(concat!("read ", $name), COUNT, 25, &goals(read_goal), vec![
             by("here", || here::$read(octets)),
             by("der", || Vec::<$der>::from_der(octets).unwrap().len()),
             $(by("asn1", || asn1::parse_single::<asn1::SequenceOf<'_, $asn1>>(octets).unwrap().collect::<Vec<_>>().len()),)?
         ]);
-        $plan.row(concat!("read and write ", $name), COUNT, 25, rewrite_goal.map(|most| ("der", most)), vec![
+        $plan.row(concat!("read and write ", $name), COUNT, 25, &goals(rewrite_goal), vec![
             by("here", || here::$rewrite(octets)),
             by("der", || Vec::<$der>::from_der(octets).unwrap().to_der().unwrap().len()),
             $(by("asn1", || {
@@ -237,7 +241,7 @@ fn comparisons(plan: &Plan) {
     let a: Vec<i64> = (0..COUNT).map(|_| numbers.integer()).collect();
     let mut b = a.clone();
     b.rotate_left(1);
-    plan.row("der_cmp of i64", COUNT, 31, Some(("der", 0.3)), vec![
+    plan.row("der_cmp of i64", COUNT, 31, &[("der", 0.3)], vec![
         by("here", || calls::library_less_i64(&a, &b)),
         by("der", || less(&a, &b)),
     ]);
@@ -256,7 +260,7 @@ fn comparisons(plan: &Plan) {
         };
         let (x, y) = (encoded(false), encoded(differ));
         let (a, b) = (Vec::<&OctetStringRef>::from_der(&x).unwrap(), Vec::<&OctetStringRef>::from_der(&y).unwrap());
-        plan.row(row, 2000 * 50, 25, Some(("der", most)), vec![
+        plan.row(row, 2000 * 50, 25, &[("der", most)], vec![
             by("here", || calls::library_less_octets(&x, &y, 50)),
             by("der", || (0..50).map(|_| less(&a, &b)).sum()),
         ]);
@@ -264,7 +268,7 @@ fn comparisons(plan: &Plan) {
     let (a, mut b) = (a[..1000].to_vec(), a[..1000].to_vec());
     b[999] ^= 1;
     let (x, y) = (a.to_der().unwrap(), b.to_der().unwrap());
-    plan.row("der_cmp of 1,000 i64, last differs", 1000 * 100, 25, Some(("der", 0.15)), vec![
+    plan.row("der_cmp of 1,000 i64, last differs", 1000 * 100, 25, &[("der", 0.15)], vec![
         by("here", || calls::library_less_list(&x, &y, 100)),
         by("der", || (0..100).map(|_| usize::from(black_box(&a).der_cmp(&b).unwrap().is_lt())).sum()),
     ]);
@@ -278,7 +282,7 @@ fn growth(plan: &Plan) {
                 continue;
             }
             let octets = inputs::octet_set(count, order);
-            plan.row(&row, count, 9, None, vec![
+            plan.row(&row, count, 9, &[], vec![
                 by("here", || here::read_octet_set(&octets)),
                 by("der", || SetOfVec::<&OctetStringRef>::from_der(&octets).unwrap().len()),
             ]);

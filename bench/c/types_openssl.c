@@ -1,8 +1,7 @@
-/* OpenSSL's calls that are measured. */
+/* OpenSSL's calls of single types, which are measured in one process with the library's. */
 #include <openssl/asn1.h>
 #include <openssl/asn1t.h>
 #include <openssl/crypto.h>
-#include <openssl/x509.h>
 #include <stdint.h>
 #include <stdlib.h>
 
@@ -64,11 +63,4 @@ int64_t openssl_rewrite_set(const unsigned char *octets, size_t len) {
     OPENSSL_free(written);
     ASN1_item_free(value, ASN1_ITEM_rptr(INTEGER_SET));
     return written_len;
-}
-
-int64_t openssl_read_certificate(const unsigned char *octets, size_t len) {
-    X509 *certificate = d2i_X509(NULL, &octets, len);
-    int64_t is_read = certificate != NULL;
-    X509_free(certificate);
-    return is_read;
 }
