@@ -10,7 +10,6 @@ pub mod IntegerReads
 pub mod IntegerBytes
 pub mod IntegerOrder
 pub mod ItemWriting
-pub mod BackWriting
 pub mod ItemReading
 pub mod Ordered
 pub mod Copied

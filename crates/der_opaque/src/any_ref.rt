@@ -24,8 +24,7 @@ use der_elem::{
     Form, FormValue, KnownTags, Tagged, ValueOrd,
 };
 use der_tlv::{
-    BackWriter, BytesRef, EncodingRules, Error, Header, Length, Reader, SliceReader, Source, Tag,
-    Writer,
+    BytesRef, EncodingRules, Error, Header, Length, Reader, SliceReader, Source, Tag, Writer,
 };
 use std::alloc::Global;
 use std::cmp::Ordering;
@@ -329,11 +328,6 @@ impl<'a> EncodeValue for AnyRef<'a> {
 
     fn encode_value<W: Writer>(&self, writer: &mut W) -> Result<(), Error> {
         writer.write(self.value)
-    }
-
-    fn encode_value_back<W: BackWriter>(&self, writer: &mut W) -> Result<(), Error> {
-        writer.put(self.value);
-        Ok(())
     }
 }
 

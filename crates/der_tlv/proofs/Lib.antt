@@ -14,4 +14,3 @@ pub mod ShortHeaders
 pub mod ShortReads
 pub mod Openings
 pub mod LongHeaders
-pub mod Places

@@ -1,6 +1,5 @@
 //! Writers of octets.
 
-mod back;
 mod slice;
 mod vec;
 
@@ -8,7 +7,6 @@ ghost use Rattle.std.specs.Prelude.{◌≤◌, [], ◌∷◌, take};
 ghost use Rattle.der_tlv.specs.Writing.{WriterState, Writes};
 
 use crate::error::Error;
-pub use back::{BackSlice, BackVec, BackWriter};
 pub use slice::SliceWriter;
 pub use vec::VecWriter;
 
