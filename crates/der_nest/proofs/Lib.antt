@@ -13,4 +13,3 @@ pub mod BorrowedOrder
 pub mod BorrowedOwning
 pub mod MergingRuns
 pub mod Blocks
-pub mod FallingRuns

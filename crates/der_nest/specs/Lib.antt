@@ -1,5 +1,4 @@
 pub mod Places
-pub mod Falling
 pub mod Insertions
 pub mod Lists
 pub mod Sets

@@ -12,5 +12,3 @@ pub mod TagOctets
 pub mod TagOrder
 pub mod ShortHeaders
 pub mod ShortReads
-pub mod Openings
-pub mod LongHeaders
