@@ -12,6 +12,7 @@ use Rattle.der_tlv.specs.Identifier.{same_identifier}
 use Rattle.der_tlv.specs.HeaderOctets.{header_octets, tlv}
 use Rattle.der_tlv.specs.HeaderReading.{read_header, octets_of}
 use Rattle.der_tlv.specs.HeaderLaws.{same_identifier-same}
+use Rattle.der_tlv.specs.Opening.{HeaderStands, Opened, after_header}
 use Rattle.der_tlv.specs.Reading.{HeadRead, Nested, OctetsRefused, Refused}
 use Rattle.der_tlv.specs.ReaderState.{ReaderState, IsReaderState, rest, after_read, after_fault, after_unnest, read_fault, read_fault_at, can_unnest}
 use Rattle.der_tlv.proofs.ReaderStates.{rest-after_read, length-rest, rest-after_nest, room_from_can_read}
@@ -37,6 +38,13 @@ not_short m n h = grind (arith, nat_tests)
 pub record AtHeader (header : Header) (old mid : ReaderState) : Type 0 where
   pub head : HeadRead read_header (octets_of header) old mid header
   pub sound : IsReaderState mid
+
+-- a sound reader before a header that stands there is one behind it, too
+pub at_header : {header : Header} {old : ReaderState} → IsReaderState old → HeaderStands old header → AtHeader header old (after_header old header)
+at_header {header} {old} sound head =
+    let all : length (take (length (octets_of header)) (rest old)) ≡ length (octets_of header) = ap length head.taken in
+    let l = length-rest old sound in
+    record { head = head; sound = record { ordered = omega (arith, length-take (length (octets_of header)) (rest old)); inside = sound.inside; short = sound.short } }
 
 -- what parsing comes to after the header, of an encoding that is written with this tag
 abbrev pub parse_after_as : Tag → ContentsParse → EncodingRules → ReaderState → Header → Result (ℕ × List ℕ) ErrorKind
@@ -96,6 +104,10 @@ module _ {header : Header} {old mid : ReaderState} (at : AtHeader header old mid
 pub record AtContents (header : Header) (old mid shown : ReaderState) (end : ℕ) : Type 0 where
   pub at : AtHeader header old mid
   pub nest : Nested mid shown header.length end
+
+-- a header whose tag is known has been read
+pub at_contents : {header : Header} {tag : Tag} {old shown : ReaderState} {end : ℕ} → IsReaderState old → Opened tag old shown header end → AtContents header old (after_header old header) shown end
+at_contents sound opened = record { at = at_header sound opened.head; nest = opened.nested }
 
 module _ {header : Header} {old mid shown : ReaderState} {end : ℕ} (c : AtContents header old mid shown end) where
   room : mid.position + header.length ≤ mid.end

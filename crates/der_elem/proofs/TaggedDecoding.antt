@@ -1,5 +1,5 @@
 -- Decoding an encoding with one tag: its faults, and its value.
-use Rattle.std.proofs.Common.{◌≡◌, ℕ, ◌+◌, List, length, take, Bool, true, false, Result, Ok, Err, Some, refl, sym, ap, ◌∙◌, subst, inl, inr}
+use Rattle.std.proofs.Common.{◌≡◌, ℕ, ◌+◌, List, length, take, Bool, true, false, Result, Ok, Err, Some, refl, sym, ap, ◌∙◌, subst, ◌⊎◌, inl, inr}
 use Rattle.std.specs.Prelude.{IsOk}
 use Rattle.der_tlv.specs.declared.error.ErrorKind.{ErrorKind}
 use Rattle.der_tlv.specs.declared.error.ErrorKind.TheVariants.{Failed, TagUnexpected}
@@ -9,13 +9,16 @@ use Rattle.der_tlv.specs.declared.tag.Tag.{Tag}
 use Rattle.der_tlv.specs.Identifier.{same_identifier}
 use Rattle.der_tlv.specs.HeaderOctets.{tlv}
 use Rattle.der_tlv.specs.HeaderReading.{read_header, octets_of}
-use Rattle.der_tlv.specs.Reading.{HeadFault, OctetsRefused}
-use Rattle.der_tlv.specs.ReaderState.{ReaderState, rest, unless_failed}
+use Rattle.der_tlv.specs.Reading.{HeadFault, OctetsRefused, Refused}
+use Rattle.der_tlv.specs.Opening.{OtherTag, TooLong}
+use Rattle.der_tlv.specs.ReaderState.{ReaderState, IsReaderState, rest, unless_failed}
+use Rattle.der_tlv.proofs.Refusals.{refused_octets}
 use Rattle.der_elem.specs.ContentsFormat.{ContentsFormat}
 use Rattle.der_elem.specs.Parsing.{ContentsParse, parse_tagged, parse_with_tag, tagged_contents}
 use Rattle.der_elem.specs.Accepting.{accepts_tagged}
-use Rattle.der_elem.specs.Decoding.{Faults, ValueDecoded, ValueNotDecoded}
-use Rattle.der_elem.proofs.AtContents.{AtHeader, AtContents, parse_own_tag, parse_other_tag, parse_too_long, shown_ready, shown_rules, parse_shown, taken}
+use Rattle.der_elem.specs.Decoding.{Faults, OtherHeader, ValueDecoded, ValueNotDecoded}
+use Rattle.der_elem.proofs.OtherTags.{end_without_header, end_at_header, no_other_tag}
+use Rattle.der_elem.proofs.AtContents.{AtHeader, AtContents, at_header, refused_at_header, refused_after_header, parse_own_tag, parse_other_tag, parse_too_long, shown_ready, shown_rules, parse_shown, taken}
 
 -- the header's fault is that of the whole encoding
 pub header_fault : {old new : ReaderState} {kind : ErrorKind} → HeadFault read_header old new kind → (t : Tag) (parse : ContentsParse) (rules : EncodingRules) → unless_failed (parse_tagged t parse rules) old ≡ Err kind
@@ -33,6 +36,21 @@ other_tag_fault at t e parse rules = rw at.head.ready (parse_other_tag at t e pa
 
 pub too_long_fault : {header : Header} {old mid new : ReaderState} {kind : ErrorKind} → AtHeader header old mid → OctetsRefused mid new header.length kind → (t : Tag) → header.tag ≡ t → (parse : ContentsParse) (rules : EncodingRules) → unless_failed (parse_tagged t parse rules) old ≡ Err kind
 too_long_fault at refused t e parse rules = rw at.head.ready (parse_own_tag at t e parse rules ∙ parse_too_long at refused parse rules)
+
+-- what reading the header of an encoding with this tag refuses is the fault of the encoding; another tag leaves the end
+pub record NotOpened (t : Tag) (parse : ContentsParse) (old new : ReaderState) (kind : ErrorKind) : Type 0 where
+  pub fault : unless_failed (parse_tagged t parse old.rules) old ≡ Err kind
+  pub reader : Refused old new kind
+  pub other_tag : OtherHeader (λ u. same_identifier u t) old → new.end ≡ old.end
+
+pub not_opened : {old new : ReaderState} {kind : ErrorKind} (t : Tag) (parse : ContentsParse) → IsReaderState old → HeadFault read_header old new kind ⊎ (OtherTag t old new kind ⊎ TooLong t old new kind) → NotOpened t parse old new kind
+not_opened {old} {new} {kind} t parse sound (inl fault) = record { fault = header_fault fault t parse old.rules; reader = fault.reader; other_tag = λ o. end_without_header fault o }
+not_opened {old} {new} {kind} t parse sound (inr (inl tag)) =
+    let at = at_header sound tag.head in
+    record { fault = other_tag_fault at t tag.other parse old.rules ∙ ap Err (sym tag.kind_is); reader = refused_at_header at tag.after; other_tag = λ o. end_at_header at tag.after }
+not_opened {old} {new} {kind} t parse sound (inr (inr long)) =
+    let at = at_header sound long.head in
+    record { fault = too_long_fault at long.refused t long.tag_is parse old.rules; reader = refused_after_header at (refused_octets long.refused); other_tag = λ o. no_other_tag at t long.tag_is o }
 
 module _ {T : Type 0} (F : ContentsFormat T) (t : Tag) {header : Header} {old mid shown : ReaderState} {end : ℕ} (c : AtContents header old mid shown end) (same : header.tag ≡ t) where
   parse_all : parse_tagged t F.parse old.rules old.position (rest old) ≡ tagged_contents header.tag (length (octets_of header) + header.length) (F.parse old.rules shown.position (rest shown))

@@ -15,12 +15,7 @@ impl<'a, R: Source<'a>, T: DecodeValue<'a, R> + OneTag> Decode<'a, R> for T {
     const TAKES_MEMORY: bool = <T as DecodeValue<'a, R>>::TAKES_MEMORY;
 
     fn decode(alloc: Global, reader: &mut R) -> Result<T, Error> {
-        let header = Header::decode(reader)?;
-        let tag = <T::Marker as TagMarker>::TAG;
-        if !header.tag.equals(tag) {
-            return Err(reader.error(header.tag.unexpected_error(Some(tag))));
-        }
-        let end = reader.nest(header.length)?;
+        let (header, end) = Header::open(reader, <T::Marker as TagMarker>::TAG)?;
         let value = T::decode_value(alloc, reader, header)?;
         reader.unnest(end)?;
         Ok(value)

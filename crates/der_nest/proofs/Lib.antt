@@ -13,3 +13,4 @@ pub mod BorrowedOrder
 pub mod BorrowedOwning
 pub mod MergingRuns
 pub mod Blocks
+pub mod FallingRuns

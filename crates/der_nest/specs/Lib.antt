@@ -1,4 +1,5 @@
 pub mod Places
+pub mod Falling
 pub mod Insertions
 pub mod Lists
 pub mod Sets

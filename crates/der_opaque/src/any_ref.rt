@@ -175,12 +175,13 @@ impl<'a> AnyRef<'a> {
     fn read<R: Source<'a>>(reader: &mut R) -> Result<AnyRef<'a>, Error>
         ensures { Decodes any_form (R.state reader.old) (R.state reader.new) result }
     {
-        let header = Header::decode(reader)?;
-        let value = reader.read_slice(header.length)?;
-        Ok(AnyRef {
-            tag: header.tag,
-            value,
-        })
+        match Header::decode_with_contents(reader) {
+            Ok((header, value)) => Ok(AnyRef {
+                tag: header.tag,
+                value,
+            }),
+            Err(e) => Err(e),
+        }
     }
 }
 

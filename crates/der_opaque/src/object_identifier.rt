@@ -2,7 +2,7 @@
 //!
 //! The tag is 06. The contents octets are kept as they stand: they are not split into arcs.
 
-ghost use Rattle.std.specs.Prelude.{◌≡◌, ◌↔◌, ◌^◌, ◌<◌, ◌≤◌, nat_eq, if◌then◌else◌, length, take, refl, IsOk, IfOk, IfErr, Some, false};
+ghost use Rattle.std.specs.Prelude.{◌≡◌, ◌↔◌, ◌^◌, ◌+◌, ◌<◌, ◌≤◌, ◌⊎◌, nat_eq, if◌then◌else◌, length, take, drop, refl, IsOk, IfOk, IfErr, IfSome, Some, false};
 ghost use Rattle.std.proofs.Common.{Ok, ap};
 ghost use Rattle.std.specs.Cmp.{on_per, on_equiv, on_po, on_total, partial_equiv_from_equiv};
 ghost use Rattle.std.specs.Cmp.Lexicographic.{pointwise, bytes_decides, nat_list_eq_equiv, nat_list_cmp_total, texts_po, texts_ties};
@@ -10,6 +10,8 @@ ghost use Rattle.std.specs.Hash as fed;
 ghost use Rattle.der_tlv.specs.declared.error.ErrorKind.TheVariants as kinds;
 ghost use Rattle.der_tlv.specs.declared.tag.Tag.TheVariants as tags;
 ghost use Rattle.der_tlv.specs.Octets.{lex};
+ghost use Rattle.der_tlv.specs.ReaderState.{rest, unless_failed};
+ghost use Rattle.der_tlv.specs.Reading.{OctetsRead, OctetsRefused, Refused};
 ghost use Rattle.der_elem.specs.FormatMakers.{format_of_contents};
 ghost use Rattle.der_opaque.specs.ObjectIdentifierOctets.{parse_identifier, parse_identifier-kept, identifier_of_octets};
 ghost use Rattle.der_opaque.specs.AnyRef.{tag_of, contents_of};
@@ -22,6 +24,7 @@ use der_elem::{
 use der_tlv::{Error, ErrorKind, Header, Length, Reader, Source, Tag, Writer};
 use std::alloc::Global;
 use std::cmp::Ordering;
+use std::fmt;
 use std::hash::{Hash, Hasher};
 
 /// The octets of an OBJECT IDENTIFIER: 1 to `MAX_SIZE` of them, and at most 4294967295.
@@ -31,8 +34,9 @@ use std::hash::{Hash, Hasher};
 /// # Errors
 /// Reading refuses more than `MAX_SIZE` octets (`ErrorKind::Length`, 7), then none
 /// (`ErrorKind::OidMalformed`, 15).
-#[derive(Clone, Copy, Debug)]
+#[derive(Clone, Copy)]
 pub struct ObjectIdentifier<const MAX_SIZE: usize> {
+    // The first `count` are the identifier's; the others may be any.
     octets: [u8; MAX_SIZE],
     count: Length,
     ghost some: { 0 < count },
@@ -60,12 +64,45 @@ impl<const MAX_SIZE: usize> ObjectIdentifier<MAX_SIZE> {
         }
         match Length::of(bytes.len()) {
             Ok(count) if bytes.len() <= MAX_SIZE => {
-                let mut octets = [0; MAX_SIZE];
-                octets[..bytes.len()].copy_from_slice(bytes);
+                let octets = front_of(bytes);
                 Ok(ObjectIdentifier { octets, count })
             }
             _ => Err(Error::from_kind(Tag::ObjectIdentifier.length_error())),
         }
+    }
+
+    /// An identifier of the octets, so many, that stand after `start`. It takes `MAX_SIZE` octets
+    /// from there where the input has them: those after the identifier's own say nothing.
+    #[inline(always)]
+    fn from_front(bytes: &[u8], start: usize, count: Length) -> ObjectIdentifier<MAX_SIZE>
+        requires some { 0 < count }
+        requires few { count ≤ MAX_SIZE }
+        requires within { start + count ≤ length bytes.now }
+        ensures { octets_of result ≡ take count (drop start bytes.now) }
+    {
+        let octets = match bytes[start..].first_chunk::<MAX_SIZE>() {
+            Some(block) => *block,
+            None => front_of(&bytes[start..start + count.value() as usize]),
+        };
+        ObjectIdentifier { octets, count }
+    }
+
+    /// Reads so many octets as an identifier.
+    #[inline(always)]
+    fn read_front<'a, R: Source<'a>>(
+        reader: &mut R,
+        count: Length,
+    ) -> Result<ObjectIdentifier<MAX_SIZE>, Error>
+        requires some { 0 < count }
+        requires few { count ≤ MAX_SIZE }
+        ensures ok { IfOk result (λ v.
+            OctetsRead (R.state reader.old) (R.state reader.new) count (octets_of v)) }
+        ensures err { IfErr result (λ e.
+            OctetsRefused (R.state reader.old) (R.state reader.new) count e.kind) }
+    {
+        let start = usize::from(reader.position());
+        reader.read_slice(count)?;
+        Ok(ObjectIdentifier::from_front(reader.octets(), start, count))
     }
 
     /// The contents octets.
@@ -74,6 +111,25 @@ impl<const MAX_SIZE: usize> ObjectIdentifier<MAX_SIZE> {
         ensures short { length result.now < 2 ^ 32 }
     {
         &self.octets[..self.count.value() as usize]
+    }
+
+    /// A block that begins with the contents octets, where there are at most eight of them, and
+    /// `MAX_SIZE` is eight or more.
+    #[inline(always)]
+    fn as_block(&self) -> Option<[u8; 8]>
+        ensures { IfSome result (λ block. (self.now.count ≤ 8)
+            × (take self.now.count block ≡ octets_of self.now)) }
+    {
+        match self.octets.first_chunk::<8>() {
+            Some(block) if self.count.value() <= 8 => Some(*block),
+            _ => None,
+        }
+    }
+}
+
+impl<const MAX_SIZE: usize> fmt::Debug for ObjectIdentifier<MAX_SIZE> {
+    fn fmt<W: fmt::Write>(&self, f: &mut fmt::Formatter<W>) -> fmt::Result {
+        write!(f, "ObjectIdentifier({:?})", self.as_bytes())
     }
 }
 
@@ -87,21 +143,50 @@ impl<const MAX_SIZE: usize> OneTag for ObjectIdentifier<MAX_SIZE> {
     type Marker = ObjectIdentifierTag;
 }
 
+/// An array that begins with these octets.
+#[inline(never)]
+fn front_of<const MAX_SIZE: usize>(bytes: &[u8]) -> [u8; MAX_SIZE]
+    requires { length bytes.now ≤ MAX_SIZE }
+    ensures { take (length bytes.now) result ≡ bytes.now }
+{
+    let mut octets = [0; MAX_SIZE];
+    octets[..bytes.len()].copy_from_slice(bytes);
+    octets
+}
+
+/// Refuses contents octets of which there are none, or too many.
+#[cold]
+#[inline(never)]
+fn refuse<'a, R: Source<'a>>(reader: &mut R, header: Header, max: usize) -> Error
+    requires { (header.length ≡ 0) ⊎ (max < header.length) }
+    ensures fault { length (rest (R.state reader.old)) ≡ header.length
+        → unless_failed (parse_identifier max (R.state reader.old).rules) (R.state reader.old)
+        ≡ Err result.kind }
+    ensures reader { Refused (R.state reader.old) (R.state reader.new) result.kind }
+{
+    match reader.read_slice(header.length) {
+        Ok([]) => reader.error(ErrorKind::OidMalformed),
+        Ok(_) => reader.error(Tag::ObjectIdentifier.length_error()),
+        Err(e) => e,
+    }
+}
+
 impl<'a, R: Source<'a>, const MAX_SIZE: usize> DecodeValue<'a, R> for ObjectIdentifier<MAX_SIZE> {
     ghost TAKES_MEMORY = { false };
 
     const TAKES_MEMORY: bool = false;
 
+    #[inline(always)]
     fn decode_value(
         _alloc: Global,
         reader: &mut R,
         header: Header,
     ) -> Result<ObjectIdentifier<MAX_SIZE>, Error> {
-        let octets = reader.read_slice(header.length)?;
-        match ObjectIdentifier::from_bytes(octets) {
-            Ok(identifier) => Ok(identifier),
-            Err(e) => Err(reader.error(e.kind)),
+        let count = header.length;
+        if count.is_zero() || count.value() as usize > MAX_SIZE {
+            return Err(refuse(reader, header, MAX_SIZE));
         }
+        ObjectIdentifier::read_front(reader, count)
     }
 
     ghost takes_memory_is = { refl };
@@ -112,7 +197,11 @@ impl<const MAX_SIZE: usize> EncodeValue for ObjectIdentifier<MAX_SIZE> {
         Ok(Length::new(self.as_bytes().len() as u32))
     }
 
+    // A block of eight octets is moved where it holds them all.
     fn encode_value<W: Writer>(&self, writer: &mut W) -> Result<(), Error> {
+        if let Some(block) = self.as_block() {
+            return writer.write_front(block, self.count.value() as usize);
+        }
         writer.write(self.as_bytes())
     }
 }

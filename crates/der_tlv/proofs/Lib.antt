@@ -12,3 +12,5 @@ pub mod TagOctets
 pub mod TagOrder
 pub mod ShortHeaders
 pub mod ShortReads
+pub mod Openings
+pub mod LongHeaders

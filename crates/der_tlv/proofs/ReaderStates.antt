@@ -1,6 +1,6 @@
 -- What is left in a reader, after each of its calls.
-use Rattle.std.proofs.Common.{◌≡◌, ℕ, ◌+◌, ◌≤◌, length, take, drop, true, sym, ap, ◌∙◌, arith, [], nat_eq, IsTrue, ◌↔◌, not, nat_le}
-use Rattle.std.proofs.lemmas.List.{nil_from_length, drop-drop, drop-take, take-take, length-take, length-drop}
+use Rattle.std.proofs.Common.{◌≡◌, ℕ, ◌+◌, ◌≤◌, ◌<◌, ◌∷◌, get_or, length, take, drop, true, sym, ap, ◌∙◌, arith, [], nat_eq, IsTrue, ◌↔◌, not, nat_le}
+use Rattle.std.proofs.lemmas.List.{nil_from_length, drop-drop, drop-take, take-take, length-take, length-drop, drop_more, get_or-take}
 use Rattle.std.proofs.lemmas.Bool.Decides.{nat_tests}
 use Rattle.std.proofs.lemmas.Bool.{and_parts, leb-true}
 use Rattle.der_tlv.specs.ReaderState.{ReaderState, IsReaderState, rest, after_read, after_nest, can_read}
@@ -26,3 +26,10 @@ finished s h position end p q =
 
 pub end_reached : (s : ReaderState) → IsReaderState s → rest s ≡ [] → s.position ≡ s.end
 end_reached s h e = let l = length-rest s h in let n = ap length e in omega arith
+
+-- the octet that comes next
+pub rest_first : (s : ReaderState) → IsReaderState s → s.position < s.end → rest s ≡ get_or s.input s.position 0 ∷ rest (after_read s 1)
+rest_first s h p =
+    let i = h.inside in
+    let n = length-take s.end s.input in
+    drop_more (take s.end s.input) s.position 0 (omega arith) ∙ ap (λ x. x ∷ rest (after_read s 1)) (get_or-take s.end s.input s.position 0 p)

@@ -7,6 +7,7 @@ pub mod ReaderState
 pub mod HeaderReading
 pub mod OctetFaults
 pub mod Reading
+pub mod Opening
 pub mod ShortTags
 pub mod Writing
 pub mod ErrorNumber

@@ -2,17 +2,19 @@
 
 mod laws;
 
-ghost use Rattle.std.specs.Prelude.{◌≡◌, ◌<◌, ◌≤◌, ◌↔◌, length, IfOk, IfSome, IsSome};
+ghost use Rattle.std.specs.Prelude.{◌≡◌, ◌<◌, ◌≤◌, ◌↔◌, [], ◌∷◌, length, take, IfOk, IfErr, IfSome, IsSome, IsNone};
 ghost use Rattle.der_tlv.specs.TagParts.{IsTag, number_of};
 ghost use Rattle.der_tlv.specs.HeaderOctets.{header_octets};
+ghost use Rattle.der_tlv.specs.LengthOctets.{length_octets};
 ghost use Rattle.der_tlv.specs.HeaderReading.{read_header, octets_of};
-ghost use Rattle.der_tlv.specs.Reading.{ReadsHead};
+ghost use Rattle.der_tlv.specs.Opening.{Opens, ContentsRead, ContentsRefused};
+ghost use Rattle.der_tlv.specs.Reading.{HeadRead, ReadsHead};
 ghost use Rattle.der_tlv.specs.Writing.{Writes};
 
 use crate::error::Error;
 use crate::header_octets::{HeaderOctets, first_octet};
 use crate::length::Length;
-use crate::reader::{Reader, Source};
+use crate::reader::{Cursor, Reader, Source};
 use crate::tag::Tag;
 use crate::tag::short::short_tag;
 use crate::writer::Writer;
@@ -102,19 +104,157 @@ impl Header {
             (R.state reader.new) result }
         ensures bounded { IfOk result (λ h. IsTag h.tag) }
     {
-        if reader.remaining_len().value() >= 2 {
-            let start = reader.position();
-            if let Ok(octets) = reader.read_slice(Length::new(2)) {
-                match short_tag(octets[0]) {
-                    Some(tag) if octets[1] < 0x80 => {
-                        let length = Length::new(u32::from(octets[1]));
-                        return Ok(Header { tag, length });
-                    }
-                    _ => reader.rewind(start),
+        let cursor = reader.cursor();
+        if !cursor.failed && cursor.end - cursor.position >= 2 {
+            let start = cursor.position as usize;
+            let (first, len) = (reader.octets()[start], reader.octets()[start + 1]);
+            match short_tag(first) {
+                Some(tag) if len < 0x80 => {
+                    let position = cursor.position + 2;
+                    reader.set_cursor(Cursor { position, ..cursor });
+                    let length = Length::new(u32::from(len));
+                    return Ok(Header { tag, length });
                 }
+                _ => {}
             }
         }
         Header::decode_octets(reader)
+    }
+
+    /// Reads a header and the contents octets behind it, as they stand in the input.
+    ///
+    /// # Errors
+    /// `ErrorKind::Failed` (17) on a failed reader; the first fault of the header; where fewer octets
+    /// are left than it says (`ErrorKind::Incomplete`, 2), or `ErrorKind::Overflow` (9) where the
+    /// position and their number pass the greatest length.
+    #[inline(always)]
+    pub fn decode_with_contents<'a, R: Source<'a>>(
+        reader: &mut R,
+    ) -> Result<(Header, &'a [u8]), Error>
+        ensures ok { IfOk result (λ r. ContentsRead (R.state reader.old) (R.state reader.new) r.0 r.1.now) }
+        ensures err { IfErr result (λ e. ContentsRefused (R.state reader.old) (R.state reader.new) e.kind) }
+        ensures bounded { IfOk result (λ r. IsTag r.0.tag) }
+    {
+        let cursor = reader.cursor();
+        if !cursor.failed && cursor.end - cursor.position >= 2 {
+            let start = cursor.position as usize;
+            let (first, len) = (reader.octets()[start], reader.octets()[start + 1]);
+            let (position, length) = (cursor.position + 2, u32::from(len));
+            match short_tag(first) {
+                Some(tag) if length < 0x80 && length <= cursor.end - position => {
+                    let end = position + length;
+                    reader.set_cursor(Cursor {
+                        position: end,
+                        ..cursor
+                    });
+                    let contents = &reader.octets()[position as usize..end as usize];
+                    let length = Length::new(length);
+                    return Ok((Header { tag, length }, contents));
+                }
+                _ => {}
+            }
+        }
+        Header::octets_with_contents(reader)
+    }
+
+    /// Reads a header of any form, and the contents octets behind it.
+    ///
+    /// # Errors
+    /// As `decode_with_contents`.
+    #[inline(never)]
+    fn octets_with_contents<'a, R: Source<'a>>(reader: &mut R) -> Result<(Header, &'a [u8]), Error>
+        ensures ok { IfOk result (λ r. ContentsRead (R.state reader.old) (R.state reader.new) r.0 r.1.now) }
+        ensures err { IfErr result (λ e. ContentsRefused (R.state reader.old) (R.state reader.new) e.kind) }
+        ensures bounded { IfOk result (λ r. IsTag r.0.tag) }
+    {
+        let header = Header::decode_octets(reader)?;
+        let contents = reader.read_slice(header.length)?;
+        Ok((header, contents))
+    }
+
+    /// Reads a header with this tag, and limits reading to the contents octets: answers the header,
+    /// and the former end, for `Reader::unnest`.
+    ///
+    /// # Errors
+    /// `ErrorKind::Failed` (17) on a failed reader; the first fault of the header;
+    /// `ErrorKind::TagUnexpected` (4) with the expected tag for another, with the reader behind the
+    /// header; where fewer octets are left than the header says (`ErrorKind::Incomplete`, 2), or
+    /// `ErrorKind::Overflow` (9) where the position and their number pass the greatest length.
+    #[inline(always)]
+    pub fn open<'a, R: Source<'a>>(reader: &mut R, tag: Tag) -> Result<(Header, Length), Error>
+        ensures { Opens tag (R.state reader.old) (R.state reader.new) result }
+    {
+        let cursor = reader.cursor();
+        if !cursor.failed && cursor.end - cursor.position >= 2 && tag.number().value() < 31 {
+            let start = cursor.position as usize;
+            let (first, len) = (reader.octets()[start], reader.octets()[start + 1]);
+            let (position, length) = (cursor.position + 2, u32::from(len));
+            if first == first_octet(tag) && length < 0x80 && length <= cursor.end - position {
+                let end = position + length;
+                reader.set_cursor(Cursor {
+                    position,
+                    end,
+                    ..cursor
+                });
+                let length = Length::new(length);
+                return Ok((Header { tag, length }, Length::new(cursor.end)));
+            }
+        }
+        Header::open_octets(reader, tag)
+    }
+
+    /// Reads a header of any form with this tag, and limits reading to the contents octets.
+    ///
+    /// # Errors
+    /// As `open`.
+    #[inline(never)]
+    fn open_octets<'a, R: Source<'a>>(reader: &mut R, tag: Tag) -> Result<(Header, Length), Error>
+        ensures { Opens tag (R.state reader.old) (R.state reader.new) result }
+    {
+        let header = Header::decode_octets(reader)?;
+        if !header.tag.equals(tag) {
+            return Err(reader.error(header.tag.unexpected_error(Some(tag))));
+        }
+        let end = reader.nest(header.length)?;
+        Ok((header, end))
+    }
+
+    /// Reads a header of any form.
+    ///
+    /// # Errors
+    /// As `decode`.
+    #[inline(never)]
+    fn decode_octets<'a, R: Source<'a>>(reader: &mut R) -> Result<Header, Error>
+        ensures head { ReadsHead read_header octets_of (R.state reader.old)
+            (R.state reader.new) result }
+        ensures bounded { IfOk result (λ h. IsTag h.tag) }
+    {
+        if let Some(header) = Header::decode_long(reader) {
+            return Ok(header);
+        }
+        Header::decode_each(reader)
+    }
+
+    /// Reads a header with one identifier octet and two or three length octets, as 30 81 80 and
+    /// 30 82 01 00, where such a one stands there.
+    #[inline(always)]
+    fn decode_long<'a, R: Source<'a>>(reader: &mut R) -> Option<Header>
+        ensures some { IfSome result (λ h.
+            HeadRead read_header (octets_of h) (R.state reader.old) (R.state reader.new) h) }
+        ensures bounded { IfSome result (λ h. IsTag h.tag) }
+        ensures none { IsNone result → (R.state reader.new ≡ R.state reader.old) }
+    {
+        let cursor = reader.cursor();
+        if cursor.failed || cursor.end - cursor.position < 4 {
+            return None;
+        }
+        let start = cursor.position as usize;
+        let tag = short_tag(reader.octets()[start])?;
+        let (count, first) = (reader.octets()[start + 1], reader.octets()[start + 2]);
+        let (taken, length) = long_length(count, first, reader.octets()[start + 3])?;
+        let position = cursor.position + 1 + taken;
+        reader.set_cursor(Cursor { position, ..cursor });
+        Some(Header::new(tag, Length::new(length)))
     }
 
     /// Reads a header octet by octet.
@@ -123,7 +263,7 @@ impl Header {
     /// As `decode`.
     #[cold]
     #[inline(never)]
-    fn decode_octets<'a, R: Source<'a>>(reader: &mut R) -> Result<Header, Error>
+    fn decode_each<'a, R: Source<'a>>(reader: &mut R) -> Result<Header, Error>
         ensures head { ReadsHead read_header octets_of (R.state reader.old)
             (R.state reader.new) result }
         ensures bounded { IfOk result (λ h. IsTag h.tag) }
@@ -166,5 +306,19 @@ impl Header {
         octets.push_identifier(self.tag);
         octets.push_length(self.length);
         octets
+    }
+}
+
+/// How many length octets there are, and the length that they say, where there are two or three of
+/// them: those at the front of these three.
+#[inline(always)]
+fn long_length(count: u8, first: u8, last: u8) -> Option<(u32, u32)>
+    ensures octets { IfSome result (λ r. take r.0 (count ∷ first ∷ last ∷ []) ≡ length_octets r.1) }
+    ensures few { IfSome result (λ r. r.0 ≤ 3) }
+{
+    match count {
+        0x81 if first >= 0x80 => Some((2, u32::from(first))),
+        0x82 if first != 0 => Some((3, u32::from(first) * 256 + u32::from(last))),
+        _ => None,
     }
 }

@@ -240,3 +240,26 @@ fn other_items_are_compared_about_as_often(rt: HostRuntime) -> Result<(), Fail> 
     same(&rt, counts.sorted, 42322);
     Ok(())
 }
+
+// 4000 numbers that fall, each as often as it says.
+fn falling_in_steps<'a>(
+    alloc: Global,
+    comparisons: &'a Cell<u32>,
+    times: u32,
+) -> Result<Vec<Counted<'a, u32>>, AllocError> {
+    let mut items = Vec::new(alloc);
+    for i in 0..4000u32 {
+        items.push(with_count(4000 - i / times.max(1), comparisons))?;
+    }
+    Ok(items)
+}
+
+#[test]
+fn falling_items_with_ties_are_compared_once_each(rt: HostRuntime) -> Result<(), Fail> {
+    let comparisons = Cell::new(0);
+    for times in [2, 3, 129] {
+        let items = falling_in_steps(rt.alloc(), &comparisons, times)?;
+        same(&rt, read(rt.alloc(), items, &comparisons)?, 3999);
+    }
+    Ok(())
+}

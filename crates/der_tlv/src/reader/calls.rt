@@ -2,7 +2,7 @@
 
 ghost use Rattle.std.specs.Prelude.{◌≡◌, ◌≤◌, ◌+◌, length, take, drop, IfErr, OnOk, OnErr, false};
 ghost use Rattle.der_tlv.specs.Reading.{OctetsRead, OctetsRefused};
-ghost use Rattle.der_tlv.specs.ReaderState.{can_read, read_fault, after_fault};
+ghost use Rattle.der_tlv.specs.ReaderState.{can_read, read_fault, unnest_fault, after_fault};
 
 use crate::encoding_rules::EncodingRules;
 use crate::error::{Error, ErrorKind};
@@ -50,6 +50,25 @@ fn refuse_octets<'a, S: Source<'a>>(source: &mut S, len: usize) -> Error
         }
     };
     refuse(source, kind)
+}
+
+/// Refuses to put back an end.
+#[cold]
+#[inline(never)]
+fn refuse_unnest<'a, S: Source<'a>>(source: &mut S) -> Error
+    ensures kind { result.kind ≡ unnest_fault (S.state source.old) }
+    ensures failed { S.state source.new ≡ after_fault (S.state source.old) }
+{
+    let cursor = source.cursor();
+    if cursor.failed {
+        return refuse(source, ErrorKind::Failed);
+    }
+    if cursor.position == cursor.end {
+        return refuse(source, ErrorKind::Overflow);
+    }
+    let decoded = Length::new(cursor.position);
+    let remaining = Length::new(cursor.end - cursor.position);
+    refuse(source, ErrorKind::TrailingData { decoded, remaining })
 }
 
 /// Reads as many octets as the buffer has, into the buffer, which a refusal leaves as it was.
@@ -151,20 +170,13 @@ impl<'a, S: Source<'a>> Reader<'a> for S {
         Ok(Length::new(cursor.end))
     }
 
-    #[inline]
+    #[inline(always)]
     fn unnest(&mut self, end: Length) -> Result<(), Error> {
         let end = end.value();
         let cursor = self.cursor();
-        if cursor.failed {
-            return Err(refuse(self, ErrorKind::Failed));
-        }
-        if cursor.position != cursor.end {
-            let decoded = Length::new(cursor.position);
-            let remaining = Length::new(cursor.end - cursor.position);
-            return Err(refuse(self, ErrorKind::TrailingData { decoded, remaining }));
-        }
-        if end < cursor.end || end as usize > self.octets().len() {
-            return Err(refuse(self, ErrorKind::Overflow));
+        let is_inside = cursor.end <= end && end as usize <= self.octets().len();
+        if cursor.failed || cursor.position != cursor.end || !is_inside {
+            return Err(refuse_unnest(self));
         }
         self.set_cursor(Cursor { end, ..cursor });
         Ok(())

@@ -50,7 +50,29 @@ impl Tag {
     ///
     /// # Errors
     /// As `decode`; the reader has failed then.
+    #[inline(always)]
     pub fn peek<'a, R: Source<'a>>(reader: &mut R) -> Result<Tag, Error>
+        ensures head { PeeksHead read_tag identifier (R.state reader.old)
+            (R.state reader.new) result }
+        ensures bounded { IfOk result (λ t. IsTag t) }
+    {
+        let cursor = reader.cursor();
+        if !cursor.failed && cursor.position < cursor.end {
+            let first = reader.octets()[cursor.position as usize];
+            if let Some(tag) = short_tag(first) {
+                return Ok(tag);
+            }
+        }
+        Tag::peek_octets(reader)
+    }
+
+    /// Reads identifier octets octet by octet, and goes back before them.
+    ///
+    /// # Errors
+    /// As `peek`.
+    #[cold]
+    #[inline(never)]
+    fn peek_octets<'a, R: Source<'a>>(reader: &mut R) -> Result<Tag, Error>
         ensures head { PeeksHead read_tag identifier (R.state reader.old)
             (R.state reader.new) result }
         ensures bounded { IfOk result (λ t. IsTag t) }
