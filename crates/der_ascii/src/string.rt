@@ -21,7 +21,7 @@ use der_elem::{
     OrdIsValueOrd, Tagged,
 };
 use der_opaque::AnyRef;
-use der_tlv::{Error, Header, Length, Reader, Source, Writer};
+use der_tlv::{BackWriter, Error, Header, Length, Reader, Source, Writer};
 use std::alloc::{AllocError, Global};
 use std::fmt;
 
@@ -155,6 +155,11 @@ impl<const NUMBER: u8> EncodeValue for CharacterString<NUMBER> {
 
     fn encode_value<W: Writer>(&self, writer: &mut W) -> Result<(), Error> {
         writer.write(self.as_bytes())
+    }
+
+    fn encode_value_back<W: BackWriter>(&self, writer: &mut W) -> Result<(), Error> {
+        writer.put(self.as_bytes());
+        Ok(())
     }
 }
 

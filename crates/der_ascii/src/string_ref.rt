@@ -20,7 +20,7 @@ use der_elem::{
     Tagged,
 };
 use der_opaque::{Any, AnyRef};
-use der_tlv::{Error, Header, Length, Reader, Source, Writer};
+use der_tlv::{BackWriter, Error, Header, Length, Reader, Source, Writer};
 use std::alloc::Global;
 use std::fmt;
 
@@ -145,6 +145,11 @@ impl<'a, const NUMBER: u8> EncodeValue for CharacterStringRef<'a, NUMBER> {
 
     fn encode_value<W: Writer>(&self, writer: &mut W) -> Result<(), Error> {
         writer.write(self.as_bytes())
+    }
+
+    fn encode_value_back<W: BackWriter>(&self, writer: &mut W) -> Result<(), Error> {
+        writer.put(self.as_bytes());
+        Ok(())
     }
 }
 

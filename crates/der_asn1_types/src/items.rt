@@ -2,6 +2,7 @@
 //! own.
 
 pub use der_elem::{
-    DuplicateIsEqual, DuplicateValueIsEqual, check_ready, cmp_items, encode_items, items_len,
+    DuplicateIsEqual, DuplicateValueIsEqual, check_ready, cmp_items, encode_items,
+    encode_items_back, items_len,
 };
 pub use der_nest::Runs;

@@ -22,7 +22,7 @@ use der_elem::{
     BitStringTag, ContentsEq, DecodeValue, DuplicateValue, DuplicateValueIsEqual, EncodeValue,
     FormValue, OneTag, ValueOrd,
 };
-use der_tlv::{Error, Header, Length, Reader, Source, Tag, Writer};
+use der_tlv::{BackWriter, Error, Header, Length, Reader, Source, Tag, Writer};
 use std::alloc::{AllocError, Global};
 use std::cmp::Ordering;
 
@@ -235,6 +235,10 @@ impl EncodeValue for BitString {
 
     fn encode_value<W: Writer>(&self, writer: &mut W) -> Result<(), Error> {
         self.owned_to_ref().encode_value(writer)
+    }
+
+    fn encode_value_back<W: BackWriter>(&self, writer: &mut W) -> Result<(), Error> {
+        self.owned_to_ref().encode_value_back(writer)
     }
 }
 

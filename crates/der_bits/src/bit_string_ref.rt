@@ -30,7 +30,7 @@ use der_elem::{
     Tagged, ValueOrd,
 };
 use der_opaque::{Any, AnyRef};
-use der_tlv::{Error, ErrorKind, Header, Length, Reader, Source, Tag, Writer};
+use der_tlv::{BackWriter, Error, ErrorKind, Header, Length, Reader, Source, Tag, Writer};
 use std::alloc::Global;
 use std::cmp::Ordering;
 
@@ -257,6 +257,12 @@ impl<'a> EncodeValue for BitStringRef<'a> {
             Ok(()) => writer.write(self.octets),
             Err(e) => Err(e),
         }
+    }
+
+    fn encode_value_back<W: BackWriter>(&self, writer: &mut W) -> Result<(), Error> {
+        writer.put(self.octets);
+        writer.put(&[self.unused]);
+        Ok(())
     }
 }
 

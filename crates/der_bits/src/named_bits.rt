@@ -20,7 +20,7 @@ use der_elem::{
     BitStringTag, ContentsEq, CopyIsDuplicate, DecodeValue, EncodeValue, FormValue, OneTag,
     ValueOrd,
 };
-use der_tlv::{Error, ErrorKind, Header, Length, Reader, Source, Tag, Writer};
+use der_tlv::{BackWriter, Error, ErrorKind, Header, Length, Reader, Source, Tag, Writer};
 use std::alloc::Global;
 use std::cmp::Ordering;
 
@@ -120,6 +120,10 @@ impl<'a> EncodeValue for NamedBitsRef<'a> {
 
     fn encode_value<W: Writer>(&self, writer: &mut W) -> Result<(), Error> {
         self.string.encode_value(writer)
+    }
+
+    fn encode_value_back<W: BackWriter>(&self, writer: &mut W) -> Result<(), Error> {
+        self.string.encode_value_back(writer)
     }
 }
 

@@ -126,6 +126,12 @@ pub short_length : (z : ℤ) → SFits w64 z → length (integer_contents z) ≤
 short_length (pos n) fits = integer_contents-length_le_width 8 (pos n) (omega arith) (omega (arith, fits.sfits))
 short_length (negsuc n) fits = integer_contents-length_le_width 8 (negsuc n) (omega arith) (omega (arith, fits.sfits))
 
+-- the last octets of what represents an integer of 64 bits are its contents octets
+pub short_last : (z : ℤ) (len number : ℕ) (block : List ℕ) → SFits w64 z → number ≡ cast_unsigned w64 z → block ≡ bytes_high_first 8 number → len ≡ length (integer_contents z) → drop (8 - len) block ≡ integer_contents z
+short_last z len number block fits cast octets count =
+    ap (λ b. drop (8 - len) b) octets ∙ ap (λ l. drop (8 - l) (bytes_high_first 8 number)) count
+    ∙ last_octets 8 number z (subst (λ n. Represents 8 n z) (sym cast) (represents_cast_8 z fits)) (short_length z fits)
+
 -- and one that is not negative, with an octet 00 in front
 pub unsigned_slice : (n len : ℕ) (octets : List ℕ) → octets ≡ bytes_high_first 17 n → len ≡ length (natural_contents n) → len ≤ 17 → take (17 - (17 - len)) (drop (17 - len) octets) ≡ natural_contents n
 unsigned_slice n len octets all count within =

@@ -10,6 +10,7 @@ pub mod IntegerReads
 pub mod IntegerBytes
 pub mod IntegerOrder
 pub mod ItemWriting
+pub mod BackWriting
 pub mod ItemReading
 pub mod Ordered
 pub mod Copied

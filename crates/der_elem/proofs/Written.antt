@@ -13,7 +13,7 @@ encoded_whole octets old new (Ok v) w = w
 encoded_whole octets old new (Err e) w = inl w
 
 pub wrote_nothing : (s : WriterState) → Wrote [] s s
-wrote_nothing s = record { taken = sym (append-nil s.taken); start = refl; failed = refl; room = omega arith; may_refuse = refl }
+wrote_nothing s = record { taken = sym (append-nil s.taken); start = refl; failed = refl; room = omega arith; may_refuse = refl; back = refl }
 
 -- one part, and then another
 pub wrote_both : {a b : List ℕ} {start mid new : WriterState} → Wrote a start mid → Wrote b mid new → Wrote (a ++ b) start new
@@ -23,6 +23,7 @@ wrote_both {a} {b} {start} w v = record {
   failed = v.failed ∙ w.failed;
   room = let r = w.room in let s = v.room in omega (arith, length-append a b);
   may_refuse = v.may_refuse ∙ w.may_refuse;
+  back = v.back ∙ w.back;
 }
 
 pub stops_in : (a b : List ℕ) (memory memory' : Bool) {kind : ErrorKind} → length a ≤ length b → (memory ≡ true → memory' ≡ true) → Stops a memory kind → Stops b memory' kind
@@ -49,6 +50,7 @@ module _ {done : List ℕ} {start mid : WriterState} (written : Wrote done start
     failed = r.failed;
     short = λ e. let s = r.short (written.failed ∙ e) in let w = written.room in omega (arith, lengths);
     permitted = subst (λ (may : ErrorKind → Bool). IsTrue (may kind)) written.may_refuse r.permitted;
+    back = r.back ∙ written.back;
   }
 
   -- a fault of a part is one of the whole
@@ -60,6 +62,7 @@ module _ {done : List ℕ} {start mid : WriterState} (written : Wrote done start
       beginning = beginning_within s.count new s.beginning;
       start = s.start ∙ written.start;
       failed = s.failed ∙ written.failed;
+      back = s.back ∙ written.back;
       reason = stops_in x all part_re_reads re_reads (omega (arith, lengths)) m s.reason;
     })
   ]

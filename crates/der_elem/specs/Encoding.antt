@@ -15,6 +15,7 @@ pub record Stopped (octets : List ℕ) (re_reads : Bool) (old new : WriterState)
   pub beginning : new.taken ≡ old.taken ++ take count octets
   pub start : new.start ≡ old.start
   pub failed : new.failed ≡ old.failed
+  pub back : new.back ≡ old.back
   pub reason : Stops octets re_reads kind
 
 -- a call that writes these octets: all of them, or a beginning and why

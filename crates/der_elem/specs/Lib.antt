@@ -3,6 +3,7 @@ pub mod Accepting
 pub mod TaggedLaws
 pub mod Decoding
 pub mod Encoding
+pub mod EncodingBack
 pub mod Comparing
 pub mod Integer
 pub mod IntegerLaws

@@ -5,7 +5,7 @@ use crate::encode::{Encode, EncodeValue};
 use crate::fixed_tag::{OneTag, TagMarker};
 use crate::ord::{DerOrd, ValueOrd};
 use crate::tag::Tagged;
-use der_tlv::{Error, Header, Length, Reader, SliceReader, Source, VecWriter, Writer};
+use der_tlv::{BackWriter, Error, Header, Length, Reader, SliceReader, Source, Writer};
 use std::alloc::Global;
 use std::cmp::Ordering;
 
@@ -49,15 +49,12 @@ impl<T: EncodeValue + Tagged> Encode for T {
         self.encode_value(writer)
     }
 
-    /// Measures the contents octets once, for the header and for the vector's room.
-    fn to_der(&self, alloc: Global) -> Result<Vec<u8>, Error> {
-        let len = self.value_len()?;
-        let tag = self.tag();
-        let room = Header::new(tag, len).encoded_len().add(len)?;
-        let mut writer = VecWriter::with_capacity(alloc, usize::from(room))?;
-        Header::new(tag, len).encode(&mut writer)?;
-        self.encode_value(&mut writer)?;
-        Ok(writer.finish())
+    fn encode_back<W: BackWriter>(&self, writer: &mut W) -> Result<(), Error> {
+        let before = writer.room().value();
+        self.encode_value_back(writer)?;
+        let len = Length::new(before - writer.room().value());
+        Header::new(self.tag(), len).encode_back(writer);
+        Ok(())
     }
 }
 

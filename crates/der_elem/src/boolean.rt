@@ -22,7 +22,7 @@ use crate::fixed_tag::OneTag;
 use crate::form::FormValue;
 use crate::ord::OrdIsValueOrd;
 use crate::universal_tags::BooleanTag;
-use der_tlv::{Error, ErrorKind, Header, Length, Reader, Source, Tag, Writer};
+use der_tlv::{BackWriter, Error, ErrorKind, Header, Length, Reader, Source, Tag, Writer};
 use std::alloc::Global;
 
 /// The truth value that contents octets represent, under DER: 00 is false, FF is true.
@@ -71,6 +71,11 @@ impl EncodeValue for bool {
 
     fn encode_value<W: Writer>(&self, writer: &mut W) -> Result<(), Error> {
         writer.write_byte(if *self { 0xff } else { 0x00 })
+    }
+
+    fn encode_value_back<W: BackWriter>(&self, writer: &mut W) -> Result<(), Error> {
+        writer.put(&[if *self { 0xff } else { 0x00 }]);
+        Ok(())
     }
 }
 

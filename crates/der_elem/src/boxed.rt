@@ -12,7 +12,7 @@ use crate::equality::ContentsEq;
 use crate::fixed_tag::OneTag;
 use crate::form::FormValue;
 use crate::sequence::Sequence;
-use der_tlv::{Error, ErrorKind, Header, Length, Reader, Source, Writer};
+use der_tlv::{BackWriter, Error, ErrorKind, Header, Length, Reader, Source, Writer};
 use std::alloc::Global;
 
 impl<T: OneTag> OneTag for Box<T> {
@@ -50,6 +50,10 @@ impl<T: EncodeValue> EncodeValue for Box<T> {
 
     fn encode_value<W: Writer>(&self, writer: &mut W) -> Result<(), Error> {
         self.as_ref().encode_value(writer)
+    }
+
+    fn encode_value_back<W: BackWriter>(&self, writer: &mut W) -> Result<(), Error> {
+        self.as_ref().encode_value_back(writer)
     }
 }
 

@@ -4,6 +4,7 @@ ghost use Rattle.std.specs.Prelude.{◌≡◌, flat_map, IfOk, IfErr};
 ghost use Rattle.std.specs.List.{list_any};
 ghost use Rattle.der_tlv.specs.declared.error.ErrorKind.TheVariants.{Memory};
 ghost use Rattle.der_elem.specs.Encoding.{Encodes, Measures};
+ghost use Rattle.der_elem.specs.EncodingBack.{HasRoom, PutsBack};
 ghost use Rattle.der_elem.specs.ComparingItems.{ComparesItems};
 ghost use Rattle.der_elem.specs.Items.{AreCopies};
 
@@ -11,7 +12,7 @@ use crate::duplicate::Duplicate;
 use crate::encode::Encode;
 use crate::ord::DerOrd;
 use crate::tag::Tagged;
-use der_tlv::{Error, ErrorKind, Length, Writer};
+use der_tlv::{BackWriter, Error, ErrorKind, Length, Writer};
 use std::alloc::Global;
 use std::cmp::Ordering;
 
@@ -41,6 +42,23 @@ pub fn encode_items<T: Encode, W: Writer>(items: &[T], writer: &mut W) -> Result
 {
     'items: for item in items {
         item.encode(writer)?;
+    }
+    Ok(())
+}
+
+/// Writes the encodings of the items before those that the writer holds, from the last.
+///
+/// # Errors
+/// `ErrorKind::Memory` (1) where an item reads its items again.
+pub fn encode_items_back<T: Encode, W: BackWriter>(items: &[T], writer: &mut W) -> Result<(), Error>
+    requires { HasRoom (flat_map T.encoding items.now) (W.state writer.old) }
+    ensures { PutsBack (flat_map T.encoding items.now) (list_any T.re_reads items.now)
+        (W.state writer.old) (W.state writer.new) result }
+{
+    let mut left = items.len();
+    'items: while left > 0 {
+        left -= 1;
+        items[left].encode_back(writer)?;
     }
     Ok(())
 }

@@ -48,7 +48,7 @@ pub use field::{DecodeField, FirstTag};
 pub use fixed_tag::{FixedTag, OneTag, TagMarker};
 pub use form::{Form, FormValue};
 pub use integer::{signed_of, unsigned_of};
-pub use items::{cmp_items, encode_items, items_len};
+pub use items::{cmp_items, encode_items, encode_items_back, items_len};
 pub use known_tags::KnownTags;
 pub use memory::TakesMemory;
 pub use ord::{DerOrd, OrdIsValueOrd, ValueOrd};

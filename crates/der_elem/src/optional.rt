@@ -18,7 +18,7 @@ use crate::form::Form;
 use crate::ord::DerOrd;
 use crate::readiness::check_ready;
 use crate::tag::{Choice, Tagged};
-use der_tlv::{Error, Length, Reader, Source, Tag, Writer};
+use der_tlv::{BackWriter, Error, Length, Reader, Source, Tag, Writer};
 use std::alloc::Global;
 use std::cmp::Ordering;
 
@@ -93,6 +93,13 @@ impl<T: Encode + Tagged> Encode for Option<T> {
     fn encode<W: Writer>(&self, writer: &mut W) -> Result<(), Error> {
         match self {
             Some(value) => value.encode(writer),
+            None => Ok(()),
+        }
+    }
+
+    fn encode_back<W: BackWriter>(&self, writer: &mut W) -> Result<(), Error> {
+        match self {
+            Some(value) => value.encode_back(writer),
             None => Ok(()),
         }
     }

@@ -21,7 +21,7 @@ use crate::form::FormValue;
 use crate::ord::OrdIsValueOrd;
 use crate::universal_tags::Utf8StringTag;
 use crate::utf8_text::text_of;
-use der_tlv::{Error, ErrorKind, Header, Length, Reader, Source, Writer};
+use der_tlv::{BackWriter, Error, ErrorKind, Header, Length, Reader, Source, Writer};
 use std::alloc::Global;
 
 impl FormValue for String {
@@ -60,6 +60,11 @@ impl EncodeValue for String {
 
     fn encode_value<W: Writer>(&self, writer: &mut W) -> Result<(), Error> {
         writer.write(self.as_bytes())
+    }
+
+    fn encode_value_back<W: BackWriter>(&self, writer: &mut W) -> Result<(), Error> {
+        writer.put(self.as_bytes());
+        Ok(())
     }
 }
 

@@ -18,7 +18,7 @@ use crate::equality::ContentsEq;
 use crate::fixed_tag::OneTag;
 use crate::form::FormValue;
 use crate::universal_tags::NullTag;
-use der_tlv::{Error, ErrorKind, Header, Length, Reader, Source, Tag, Writer};
+use der_tlv::{BackWriter, Error, ErrorKind, Header, Length, Reader, Source, Tag, Writer};
 use std::alloc::Global;
 
 /// Checks that there are no contents octets.
@@ -64,6 +64,11 @@ impl EncodeValue for () {
 
     fn encode_value<W: Writer>(&self, writer: &mut W) -> Result<(), Error> {
         writer.write(&[])
+    }
+
+    fn encode_value_back<W: BackWriter>(&self, writer: &mut W) -> Result<(), Error> {
+        writer.put(&[]);
+        Ok(())
     }
 }
 

@@ -20,13 +20,13 @@ use crate::encode::{Encode, EncodeValue};
 use crate::equality::{ContentsEq, EncodingEq};
 use crate::fixed_tag::OneTag;
 use crate::form::{Form, FormValue};
-use crate::items::{cmp_items, duplicate_items, encode_items, items_len};
+use crate::items::{cmp_items, duplicate_items, encode_items, encode_items_back, items_len};
 use crate::ord::{DerOrd, ValueOrd};
 use crate::readiness::check_ready;
 use crate::sequence::Sequence;
 use crate::tag::{Choice, Tagged};
 use crate::universal_tags::SequenceTag;
-use der_tlv::{Error, ErrorKind, Header, Length, Reader, Source, Writer};
+use der_tlv::{BackWriter, Error, ErrorKind, Header, Length, Reader, Source, Writer};
 use std::alloc::Global;
 use std::cmp::Ordering;
 
@@ -86,6 +86,10 @@ impl<T: Encode + Tagged> EncodeValue for Vec<T> {
 
     fn encode_value<W: Writer>(&self, writer: &mut W) -> Result<(), Error> {
         encode_items(self, writer)
+    }
+
+    fn encode_value_back<W: BackWriter>(&self, writer: &mut W) -> Result<(), Error> {
+        encode_items_back(self, writer)
     }
 }
 

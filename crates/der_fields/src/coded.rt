@@ -2,10 +2,11 @@
 
 ghost use Rattle.std.specs.Prelude.{◌≡◌, Bool};
 ghost use Rattle.der_elem.specs.Encoding.{Encodes, Measures};
+ghost use Rattle.der_elem.specs.EncodingBack.{HasRoom, PutsBack};
 ghost use Rattle.der_fields.specs.FieldsDecoding.{DecodesFields};
 
 use crate::field_list::FieldList;
-use der_tlv::{Error, Length, Source, Writer};
+use der_tlv::{BackWriter, Error, Length, Source, Writer};
 use std::alloc::Global;
 
 /// Reading fields from all of the octets that a reader shows.
@@ -45,4 +46,22 @@ pub trait EncodeFields: FieldList {
     fn encode_fields<W: Writer>(&self, writer: &mut W) -> Result<(), Error>
         ensures { Encodes (Self.list.octets.contents self.now) (Self.list.octets.re_reads self.now) (W.state writer.old)
             (W.state writer.new) result };
+
+    /// Writes the fields before what the writer holds, from the last.
+    ///
+    /// # Errors
+    /// `ErrorKind::Memory` (1) where items are read again.
+    fn encode_fields_back<W: BackWriter>(&self, writer: &mut W) -> Result<(), Error>
+        requires { HasRoom (Self.list.octets.contents self.now) (W.state writer.old) }
+        ensures { PutsBack (Self.list.octets.contents self.now) (Self.list.octets.re_reads self.now) (W.state writer.old)
+            (W.state writer.new) result }
+    {
+        // the room is a length, so a length says how many octets have it
+        let _room = writer.room().value();
+        let len = self.fields_len()?;
+        writer.open_gap(len);
+        self.encode_fields(writer)?;
+        writer.close_gap();
+        Ok(())
+    }
 }

@@ -12,7 +12,7 @@ use crate::field_list::FieldList;
 use crate::ordered::{FieldsFirstTag, FieldsOrd};
 use crate::soundness::is_sound;
 use der_elem::check_ready;
-use der_tlv::{Error, ErrorKind, Length, Reader, Source, Tag, Writer};
+use der_tlv::{BackWriter, Error, ErrorKind, Length, Reader, Source, Tag, Writer};
 use std::alloc::Global;
 use std::cmp::Ordering;
 
@@ -49,6 +49,10 @@ impl EncodeFields for End {
     }
 
     fn encode_fields<W: Writer>(&self, _writer: &mut W) -> Result<(), Error> {
+        Ok(())
+    }
+
+    fn encode_fields_back<W: BackWriter>(&self, _writer: &mut W) -> Result<(), Error> {
         Ok(())
     }
 }

@@ -21,7 +21,7 @@ use crate::soundness::is_sound;
 use der_elem::{
     DecodeField, DerOrd, Duplicate, DuplicateIsEqual, Encode, EncodingEq, FirstTag, Form,
 };
-use der_tlv::{Error, Length, Source, Tag, Writer};
+use der_tlv::{BackWriter, Error, Length, Source, Tag, Writer};
 use std::alloc::Global;
 use std::cmp::Ordering;
 
@@ -74,6 +74,11 @@ impl<T: Encode, Rest: EncodeFields> EncodeFields for Field<T, Rest> {
     fn encode_fields<W: Writer>(&self, writer: &mut W) -> Result<(), Error> {
         self.first.encode(writer)?;
         self.rest.encode_fields(writer)
+    }
+
+    fn encode_fields_back<W: BackWriter>(&self, writer: &mut W) -> Result<(), Error> {
+        self.rest.encode_fields_back(writer)?;
+        self.first.encode_back(writer)
     }
 }
 

@@ -20,7 +20,7 @@ use der_elem::{
     ContentsEq, DecodeValue, DuplicateValue, DuplicateValueIsEqual, Encode, EncodeValue, Form,
     FormValue, FromDer, OneTag, Sequence, SequenceTag, ValueOrd,
 };
-use der_tlv::{Error, Header, Length, SliceReader, Source, Writer};
+use der_tlv::{BackWriter, Error, Header, Length, SliceReader, Source, Writer};
 use std::alloc::Global;
 use std::cmp::Ordering;
 
@@ -67,6 +67,10 @@ impl<F: EncodeFields> EncodeValue for FieldSequence<F> {
 
     fn encode_value<W: Writer>(&self, writer: &mut W) -> Result<(), Error> {
         self.fields.encode_fields(writer)
+    }
+
+    fn encode_value_back<W: BackWriter>(&self, writer: &mut W) -> Result<(), Error> {
+        self.fields.encode_fields_back(writer)
     }
 }
 

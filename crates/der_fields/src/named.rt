@@ -21,7 +21,7 @@ use der_elem::{
     ContentsEq, DecodeValue, DuplicateValue, DuplicateValueIsEqual, Encode, EncodeValue, Form,
     FormValue, FromDer, OneTag, Sequence, SequenceTag, ValueOrd,
 };
-use der_tlv::{Error, Header, Length, SliceReader, Source, Writer};
+use der_tlv::{BackWriter, Error, Header, Length, SliceReader, Source, Writer};
 use std::alloc::Global;
 use std::cmp::Ordering;
 
@@ -131,6 +131,10 @@ where
 
     fn encode_value<W: Writer>(&self, writer: &mut W) -> Result<(), Error> {
         self.fields.to_list().encode_fields(writer)
+    }
+
+    fn encode_value_back<W: BackWriter>(&self, writer: &mut W) -> Result<(), Error> {
+        self.fields.to_list().encode_fields_back(writer)
     }
 }
 

@@ -21,7 +21,7 @@ use der_elem::{
     Choice, Decode, DecodeField, DerOrd, Duplicate, DuplicateIsEqual, EncodeValue, EncodingEq,
     FirstTag, Form, FormValue, KnownTags, Tagged,
 };
-use der_tlv::{Error, Length, Reader, Source, Tag, Writer};
+use der_tlv::{BackWriter, Error, Length, Reader, Source, Tag, Writer};
 use std::alloc::Global;
 use std::cmp::Ordering;
 
@@ -176,6 +176,13 @@ impl<A: EncodeValue, B: EncodeValue> EncodeValue for OneOf<A, B> {
         match self {
             OneOf::First(value) => value.encode_value(writer),
             OneOf::Other(value) => value.encode_value(writer),
+        }
+    }
+
+    fn encode_value_back<W: BackWriter>(&self, writer: &mut W) -> Result<(), Error> {
+        match self {
+            OneOf::First(value) => value.encode_value_back(writer),
+            OneOf::Other(value) => value.encode_value_back(writer),
         }
     }
 }

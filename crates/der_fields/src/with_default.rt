@@ -17,7 +17,7 @@ use der_elem::{
     Choice, Decode, DecodeField, DerOrd, Duplicate, DuplicateIsEqual, Encode, EncodingEq, FirstTag,
     Form, KnownTags, Tagged, check_ready,
 };
-use der_tlv::{Error, Length, Reader, Source, Tag, Writer};
+use der_tlv::{BackWriter, Error, Length, Reader, Source, Tag, Writer};
 use std::alloc::{AllocError, Global};
 use std::cmp::Ordering;
 use std::fmt;
@@ -129,6 +129,14 @@ impl<T: Encode, D: DefaultOf<T>> Encode for WithDefault<T, D> {
             return Ok(());
         }
         self.value.encode(writer)
+    }
+
+    fn encode_back<W: BackWriter>(&self, writer: &mut W) -> Result<(), Error> {
+        if D::is_default(&self.value) {
+            Ok(())
+        } else {
+            self.value.encode_back(writer)
+        }
     }
 }
 

@@ -39,6 +39,7 @@ module _ {T : Type 0} (F : form.Ghosts T) {all left : List (List ℕ)} {start no
     beginning = s.wrote.taken ∙ ap (λ c. start.taken ++ c) (sym (ap (take (length s.done)) s.parts ∙ take-append_seam s.done (concat left)));
     start = s.wrote.start;
     failed = s.wrote.failed;
+    back = s.wrote.back;
     reason = inr (kind, memory);
   })
 

@@ -24,7 +24,7 @@ use der_elem::{
     ValueOrd, read_contents,
 };
 use der_opaque::{AnyRef, OctetStringRef};
-use der_tlv::{Error, Header, Length, Reader, SliceReader, Source, Tag, Writer};
+use der_tlv::{BackWriter, Error, Header, Length, Reader, SliceReader, Source, Tag, Writer};
 use std::alloc::{AllocError, Global};
 use std::cmp::Ordering;
 use std::fmt;
@@ -176,6 +176,11 @@ impl<'a, T: FormValue> EncodeValue for Kept<'a, T> {
 
     fn encode_value<W: Writer>(&self, writer: &mut W) -> Result<(), Error> {
         writer.write(self.octets.as_bytes())
+    }
+
+    fn encode_value_back<W: BackWriter>(&self, writer: &mut W) -> Result<(), Error> {
+        writer.put(self.octets.as_bytes());
+        Ok(())
     }
 }
 

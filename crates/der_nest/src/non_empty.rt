@@ -14,7 +14,7 @@ use der_elem::{
     ContentsEq, DecodeValue, DuplicateValue, DuplicateValueIsEqual, EncodeValue, FixedTag,
     FormValue, OneTag, Sequence, ValueOrd, check_ready,
 };
-use der_tlv::{Error, Header, Length, Reader, Source, Writer};
+use der_tlv::{BackWriter, Error, Header, Length, Reader, Source, Writer};
 use std::alloc::Global;
 use std::cmp::Ordering;
 use std::fmt;
@@ -110,6 +110,10 @@ impl<L: ItemCount + EncodeValue + OneTag> EncodeValue for NonEmpty<L> {
 
     fn encode_value<W: Writer>(&self, writer: &mut W) -> Result<(), Error> {
         self.list.encode_value(writer)
+    }
+
+    fn encode_value_back<W: BackWriter>(&self, writer: &mut W) -> Result<(), Error> {
+        self.list.encode_value_back(writer)
     }
 }
 

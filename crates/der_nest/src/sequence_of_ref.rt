@@ -27,7 +27,7 @@ use der_elem::{
     Form, FormValue, OneTag, Sequence, SequenceTag, ValueOrd, read_contents,
 };
 use der_opaque::OctetStringRef;
-use der_tlv::{Error, ErrorKind, Header, Length, Reader, SliceReader, Source, Writer};
+use der_tlv::{BackWriter, Error, ErrorKind, Header, Length, Reader, SliceReader, Source, Writer};
 use std::alloc::{AllocError, Global};
 use std::cmp::Ordering;
 use std::fmt;
@@ -238,6 +238,11 @@ impl<'a, T: Form> EncodeValue for SequenceOfRef<'a, T> {
 
     fn encode_value<W: Writer>(&self, writer: &mut W) -> Result<(), Error> {
         writer.write(self.octets.as_bytes())
+    }
+
+    fn encode_value_back<W: BackWriter>(&self, writer: &mut W) -> Result<(), Error> {
+        writer.put(self.octets.as_bytes());
+        Ok(())
     }
 }
 

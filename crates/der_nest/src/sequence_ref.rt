@@ -13,7 +13,7 @@ use der_elem::{
     ContentsEq, CopyIsDuplicate, DecodeValue, EncodeValue, FormValue, OneTag, OrdIsValueOrd,
     Sequence, SequenceTag,
 };
-use der_tlv::{Error, Header, Length, Reader, Source, Tag, Writer};
+use der_tlv::{BackWriter, Error, Header, Length, Reader, Source, Tag, Writer};
 use std::alloc::Global;
 
 /// The contents octets of a SEQUENCE, borrowed: at most 4294967295 of them.
@@ -87,6 +87,11 @@ impl<'a> EncodeValue for SequenceRef<'a> {
 
     fn encode_value<W: Writer>(&self, writer: &mut W) -> Result<(), Error> {
         writer.write(self.octets)
+    }
+
+    fn encode_value_back<W: BackWriter>(&self, writer: &mut W) -> Result<(), Error> {
+        writer.put(self.octets);
+        Ok(())
     }
 }
 

@@ -21,7 +21,7 @@ use der_elem::{
     ContentsEq, DecodeValue, DuplicateValue, DuplicateValueIsEqual, EncodeValue, FormValue,
     IntegerTag, OneTag, OrdIsValueOrd,
 };
-use der_tlv::{Error, Header, Length, Reader, Source, Tag, VecWriter, Writer};
+use der_tlv::{BackWriter, Error, Header, Length, Reader, Source, Tag, VecWriter, Writer};
 use std::alloc::{AllocError, Global};
 
 /// An integer of any length: at most 4294967295 contents octets.
@@ -169,6 +169,11 @@ impl EncodeValue for Int {
 
     fn encode_value<W: Writer>(&self, writer: &mut W) -> Result<(), Error> {
         writer.write(self.as_bytes())
+    }
+
+    fn encode_value_back<W: BackWriter>(&self, writer: &mut W) -> Result<(), Error> {
+        writer.put(self.as_bytes());
+        Ok(())
     }
 }
 

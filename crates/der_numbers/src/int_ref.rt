@@ -21,7 +21,7 @@ use der_elem::{
     OrdIsValueOrd, Tagged,
 };
 use der_opaque::{Any, AnyRef};
-use der_tlv::{Error, ErrorKind, Header, Length, Reader, Source, Tag, Writer};
+use der_tlv::{BackWriter, Error, ErrorKind, Header, Length, Reader, Source, Tag, Writer};
 use std::alloc::Global;
 
 /// An integer of any length, borrowed: at most 4294967295 contents octets.
@@ -142,6 +142,11 @@ impl<'a> EncodeValue for IntRef<'a> {
 
     fn encode_value<W: Writer>(&self, writer: &mut W) -> Result<(), Error> {
         writer.write(self.octets)
+    }
+
+    fn encode_value_back<W: BackWriter>(&self, writer: &mut W) -> Result<(), Error> {
+        writer.put(self.octets);
+        Ok(())
     }
 }
 

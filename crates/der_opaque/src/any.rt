@@ -25,8 +25,8 @@ use der_elem::{
     Form, FormValue, KnownTags, Tagged, ValueOrd,
 };
 use der_tlv::{
-    EncodingRules, Error, ErrorKind, Header, Length, Reader, SliceReader, Source, Tag, VecWriter,
-    Writer,
+    BackWriter, EncodingRules, Error, ErrorKind, Header, Length, Reader, SliceReader, Source, Tag,
+    VecWriter, Writer,
 };
 use std::alloc::{AllocError, Global};
 use std::cmp::Ordering;
@@ -363,6 +363,11 @@ impl EncodeValue for Any {
 
     fn encode_value<W: Writer>(&self, writer: &mut W) -> Result<(), Error> {
         writer.write(self.value())
+    }
+
+    fn encode_value_back<W: BackWriter>(&self, writer: &mut W) -> Result<(), Error> {
+        writer.put(self.value());
+        Ok(())
     }
 }
 

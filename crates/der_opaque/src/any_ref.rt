@@ -24,7 +24,8 @@ use der_elem::{
     Form, FormValue, KnownTags, Tagged, ValueOrd,
 };
 use der_tlv::{
-    BytesRef, EncodingRules, Error, Header, Length, Reader, SliceReader, Source, Tag, Writer,
+    BackWriter, BytesRef, EncodingRules, Error, Header, Length, Reader, SliceReader, Source, Tag,
+    Writer,
 };
 use std::alloc::Global;
 use std::cmp::Ordering;
@@ -328,6 +329,11 @@ impl<'a> EncodeValue for AnyRef<'a> {
 
     fn encode_value<W: Writer>(&self, writer: &mut W) -> Result<(), Error> {
         writer.write(self.value)
+    }
+
+    fn encode_value_back<W: BackWriter>(&self, writer: &mut W) -> Result<(), Error> {
+        writer.put(self.value);
+        Ok(())
     }
 }
 

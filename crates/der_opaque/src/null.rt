@@ -16,7 +16,7 @@ use der_elem::{
     ContentsEq, CopyIsDuplicate, DecodeValue, EncodeValue, Form, FormValue, NullTag, OneTag,
     OrdIsValueOrd, Tagged,
 };
-use der_tlv::{Error, Header, Length, Reader, Source, Tag, Writer};
+use der_tlv::{BackWriter, Error, Header, Length, Reader, Source, Tag, Writer};
 use std::alloc::Global;
 
 /// The one value of NULL, which is encoded as 05 00.
@@ -56,6 +56,11 @@ impl EncodeValue for Null {
 
     fn encode_value<W: Writer>(&self, writer: &mut W) -> Result<(), Error> {
         writer.write(&[])
+    }
+
+    fn encode_value_back<W: BackWriter>(&self, writer: &mut W) -> Result<(), Error> {
+        writer.put(&[]);
+        Ok(())
     }
 }
 

@@ -16,7 +16,7 @@ use der_elem::{
     ContentsEq, DecodeValue, DuplicateValue, DuplicateValueIsEqual, EncodeValue, FormValue,
     OctetStringTag, OneTag, OrdIsValueOrd,
 };
-use der_tlv::{Error, Header, Length, Reader, Source, Tag, Writer};
+use der_tlv::{BackWriter, Error, Header, Length, Reader, Source, Tag, Writer};
 use std::alloc::{AllocError, Global};
 
 /// The octets of an OCTET STRING: at most 4294967295 of them.
@@ -130,6 +130,11 @@ impl EncodeValue for OctetString {
 
     fn encode_value<W: Writer>(&self, writer: &mut W) -> Result<(), Error> {
         writer.write(self.as_bytes())
+    }
+
+    fn encode_value_back<W: BackWriter>(&self, writer: &mut W) -> Result<(), Error> {
+        writer.put(self.as_bytes());
+        Ok(())
     }
 }
 

@@ -20,7 +20,7 @@ use der_elem::{
     ContentsEq, CopyIsDuplicate, DecodeValue, EncodeValue, Form, FormValue, FromDer,
     OctetStringTag, OneTag, OrdIsValueOrd, Tagged,
 };
-use der_tlv::{Error, Header, Length, Reader, Source, Tag, Writer};
+use der_tlv::{BackWriter, Error, Header, Length, Reader, Source, Tag, Writer};
 use std::alloc::Global;
 
 /// The octets of an OCTET STRING, borrowed: at most 4294967295 of them.
@@ -139,6 +139,11 @@ impl<'a> EncodeValue for OctetStringRef<'a> {
 
     fn encode_value<W: Writer>(&self, writer: &mut W) -> Result<(), Error> {
         writer.write(self.octets)
+    }
+
+    fn encode_value_back<W: BackWriter>(&self, writer: &mut W) -> Result<(), Error> {
+        writer.put(self.octets);
+        Ok(())
     }
 }
 

@@ -20,7 +20,7 @@ use der_elem::{
     BmpStringTag, ContentsEq, DecodeValue, DuplicateValue, DuplicateValueIsEqual, EncodeValue,
     FormValue, OneTag, OrdIsValueOrd,
 };
-use der_tlv::{Error, ErrorKind, Header, Length, Reader, Source, Writer};
+use der_tlv::{BackWriter, Error, ErrorKind, Header, Length, Reader, Source, Writer};
 use std::alloc::{AllocError, Global};
 use std::fmt;
 
@@ -177,6 +177,11 @@ impl EncodeValue for BmpString {
 
     fn encode_value<W: Writer>(&self, writer: &mut W) -> Result<(), Error> {
         writer.write(self.as_bytes())
+    }
+
+    fn encode_value_back<W: BackWriter>(&self, writer: &mut W) -> Result<(), Error> {
+        writer.put(self.as_bytes());
+        Ok(())
     }
 }
 

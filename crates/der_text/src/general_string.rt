@@ -12,7 +12,7 @@ ghost use Rattle.der_opaque.specs.Opaque.{parse_octets};
 use der_elem::{
     ContentsEq, CopyIsDuplicate, DecodeValue, EncodeValue, FormValue, GeneralStringTag, OneTag,
 };
-use der_tlv::{Error, Header, Length, Reader, Source, Writer};
+use der_tlv::{BackWriter, Error, Header, Length, Reader, Source, Writer};
 use std::alloc::Global;
 
 /// The octets of a GeneralString, borrowed: at most 4294967295 of them.
@@ -69,6 +69,11 @@ impl<'a> EncodeValue for GeneralStringRef<'a> {
 
     fn encode_value<W: Writer>(&self, writer: &mut W) -> Result<(), Error> {
         writer.write(self.octets)
+    }
+
+    fn encode_value_back<W: BackWriter>(&self, writer: &mut W) -> Result<(), Error> {
+        writer.put(self.octets);
+        Ok(())
     }
 }
 

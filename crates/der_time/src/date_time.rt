@@ -15,7 +15,7 @@ use der_elem::{
     ContentsEq, CopyIsDuplicate, DecodeValue, EncodeValue, FormValue, GeneralizedTimeTag, OneTag,
     OrdIsValueOrd,
 };
-use der_tlv::{Error, ErrorKind, Header, Length, Reader, Source, Writer};
+use der_tlv::{BackWriter, Error, ErrorKind, Header, Length, Reader, Source, Writer};
 use jiff_core::civil;
 use std::alloc::Global;
 use std::str::FromStr;
@@ -345,6 +345,11 @@ impl EncodeValue for DateTime {
 
     fn encode_value<W: Writer>(&self, writer: &mut W) -> Result<(), Error> {
         writer.write(&self.contents())
+    }
+
+    fn encode_value_back<W: BackWriter>(&self, writer: &mut W) -> Result<(), Error> {
+        writer.put(&self.contents());
+        Ok(())
     }
 }
 

@@ -21,7 +21,7 @@ use der_elem::{
     OneTag, OrdIsValueOrd, Tagged,
 };
 use der_opaque::{Any, AnyRef};
-use der_tlv::{Error, Header, Length, Reader, Source, Tag, Writer};
+use der_tlv::{BackWriter, Error, Header, Length, Reader, Source, Tag, Writer};
 use std::alloc::Global;
 use std::time::Duration;
 
@@ -113,6 +113,11 @@ impl EncodeValue for GeneralizedTime {
 
     fn encode_value<W: Writer>(&self, writer: &mut W) -> Result<(), Error> {
         writer.write(&self.date_time.contents())
+    }
+
+    fn encode_value_back<W: BackWriter>(&self, writer: &mut W) -> Result<(), Error> {
+        writer.put(&self.date_time.contents());
+        Ok(())
     }
 }
 

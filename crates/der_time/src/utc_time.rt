@@ -17,7 +17,7 @@ use der_elem::{
     UtcTimeTag, ValueOrd,
 };
 use der_opaque::{Any, AnyRef};
-use der_tlv::{Error, ErrorKind, Header, Length, Reader, Source, Tag, Writer};
+use der_tlv::{BackWriter, Error, ErrorKind, Header, Length, Reader, Source, Tag, Writer};
 use std::alloc::Global;
 use std::cmp::Ordering;
 use std::time::Duration;
@@ -160,6 +160,11 @@ impl EncodeValue for UtcTime {
 
     fn encode_value<W: Writer>(&self, writer: &mut W) -> Result<(), Error> {
         writer.write(&self.contents())
+    }
+
+    fn encode_value_back<W: BackWriter>(&self, writer: &mut W) -> Result<(), Error> {
+        writer.put(&self.contents());
+        Ok(())
     }
 }
 

@@ -14,3 +14,4 @@ pub mod ShortHeaders
 pub mod ShortReads
 pub mod Openings
 pub mod LongHeaders
+pub mod Places

@@ -9,7 +9,9 @@ pub mod OctetFaults
 pub mod Reading
 pub mod Opening
 pub mod ShortTags
+pub mod BackState
 pub mod Writing
+pub mod WritingBack
 pub mod ErrorNumber
 pub mod Texts
 pub mod Fitting

@@ -3,9 +3,14 @@ use Rattle.std.specs.Prelude.{◌≡◌, ℕ, ◌-◌, List, length, take, drop,
 use Rattle.std.specs.Borrow.{GName}
 use Rattle.der_tlv.specs.declared.error.Error.{Error}
 use Rattle.der_tlv.specs.ReaderState.{ReaderState}
+use Rattle.der_tlv.specs.BackState.{no_back}
+use Rattle.der_tlv.specs.WritingBack.{back_state}
 use Rattle.der_tlv.specs.Writing.{WriterState, is_memory, is_overlength, refuses_first_with, room_unless_failed}
 use Rattle.der_tlv.specs.declared.reader.slice.SliceReader.{SliceReader}
 use Rattle.der_tlv.specs.declared.writer.slice.SliceWriter.{SliceWriter}
+use Rattle.der_tlv.specs.declared.writer.back.place.Place.{Place}
+use Rattle.der_tlv.specs.declared.writer.back.slice.BackSlice.{BackSlice}
+use Rattle.der_tlv.specs.declared.writer.back.vec.BackVec.{BackVec}
 use Rattle.der_tlv.specs.declared.writer.vec.VecWriter.{VecWriter}
 
 abbrev pub slice_reader_state : SliceReader → ReaderState
@@ -14,7 +19,7 @@ slice_reader_state r =
 
 abbrev pub slice_writer_state : SliceWriter → WriterState
 slice_writer_state w =
-    record { taken = take w.position w.bytes.now; start = w.bytes.ref_ptr; failed = w.failed; room = room_unless_failed w.failed (length w.bytes.now - w.position); may_refuse = refuses_first_with is_overlength w.failed }
+    record { taken = take w.position w.bytes.now; start = w.bytes.ref_ptr; failed = w.failed; room = room_unless_failed w.failed (length w.bytes.now - w.position); may_refuse = refuses_first_with is_overlength w.failed; back = no_back }
 
 -- the memory that it writes to, as it stands
 abbrev pub buffer_of : SliceWriter → List ℕ
@@ -33,4 +38,14 @@ pub record LeavesBuffer {A : Type 0} (old new : SliceWriter) (result : Result A 
 
 abbrev pub vec_writer_state : VecWriter → WriterState
 vec_writer_state w =
-    record { taken = w.octets.items; start = (0, 0); failed = w.failed; room = room_unless_failed w.failed (vec_capacity w.octets - vec_len w.octets); may_refuse = refuses_first_with is_memory w.failed }
+    record { taken = w.octets.items; start = (0, 0); failed = w.failed; room = room_unless_failed w.failed (vec_capacity w.octets - vec_len w.octets); may_refuse = refuses_first_with is_memory w.failed; back = no_back }
+
+-- what a buffer shows at a place; its first octet stands at the origin in memory
+abbrev pub place_state : ℕ × ℕ → List ℕ → Place → WriterState
+place_state origin octets p = back_state octets origin p.start p.gap p.filled p.failed
+
+abbrev pub back_vec_state : BackVec → WriterState
+back_vec_state w = place_state (0, 0) w.octets.items w.place
+
+abbrev pub back_slice_state : BackSlice → WriterState
+back_slice_state w = place_state w.bytes.ref_ptr w.bytes.now w.place

@@ -3,15 +3,18 @@ use Rattle.std.specs.Prelude.{◌≡◌, ℕ, ◌+◌, ◌<◌, ◌≤◌, List,
 use Rattle.der_tlv.specs.declared.error.ErrorKind.{ErrorKind}
 use Rattle.der_tlv.specs.declared.error.ErrorKind.TheVariants.{Memory, Overlength, Failed}
 use Rattle.der_tlv.specs.declared.error.Error.{Error}
+use Rattle.der_tlv.specs.BackState.{BackState}
 
 -- the octets that it has taken, where in memory the first of them stands (which no call changes; a writer whose octets move says
--- nothing of it), whether it has refused, how many more it surely takes, and the kinds with which it may refuse now
+-- nothing of it), whether it has refused, how many more it surely takes, the kinds with which it may refuse now, and what it holds as
+-- a writer that is filled from its end, which no call that writes forward changes
 pub record WriterState : Type 0 where
   pub taken : List ℕ
   pub start : ℕ × ℕ
   pub failed : Bool
   pub room : ℕ
   pub may_refuse : ErrorKind → Bool
+  pub back : BackState
 
 -- all of the octets were taken
 pub record Wrote (octets : List ℕ) (old new : WriterState) : Type 0 where
@@ -20,6 +23,7 @@ pub record Wrote (octets : List ℕ) (old new : WriterState) : Type 0 where
   pub failed : new.failed ≡ old.failed
   pub room : old.room ≤ new.room + length octets
   pub may_refuse : new.may_refuse ≡ old.may_refuse
+  pub back : new.back ≡ old.back
 
 -- a beginning of the octets was taken, and then the writer refused: it had refused before, or wants room
 pub record WriterRefused (octets : List ℕ) (old new : WriterState) (kind : ErrorKind) : Type 0 where
@@ -29,6 +33,7 @@ pub record WriterRefused (octets : List ℕ) (old new : WriterState) (kind : Err
   pub failed : new.failed ≡ true
   pub short : old.failed ≡ false → old.room < length octets
   pub permitted : IsTrue (old.may_refuse kind)
+  pub back : new.back ≡ old.back
 
 -- a call of a writer with these octets
 abbrev pub Writes : {A : Type 0} → List ℕ → WriterState → WriterState → Result A Error → Type 0

@@ -10,6 +10,7 @@ ghost use Rattle.der_tlv.specs.HeaderReading.{read_header, octets_of};
 ghost use Rattle.der_tlv.specs.Opening.{Opens, ContentsRead, ContentsRefused};
 ghost use Rattle.der_tlv.specs.Reading.{HeadRead, ReadsHead};
 ghost use Rattle.der_tlv.specs.Writing.{Writes};
+ghost use Rattle.der_tlv.specs.WritingBack.{Put};
 
 use crate::error::Error;
 use crate::header_octets::{HeaderOctets, first_octet};
@@ -17,7 +18,7 @@ use crate::length::Length;
 use crate::reader::{Cursor, Reader, Source};
 use crate::tag::Tag;
 use crate::tag::short::short_tag;
-use crate::writer::Writer;
+use crate::writer::{BackWriter, Writer};
 pub use laws::{headers_are_unique, headers_read_back};
 
 /// The header of an encoding: its tag, and the length of its contents in octets.
@@ -91,6 +92,20 @@ impl Header {
             return writer.write(&octets);
         }
         self.encode_octets(writer)
+    }
+
+    /// Puts the identifier octets and the length octets before what the writer holds.
+    #[inline(always)]
+    pub fn encode_back<W: BackWriter>(self, writer: &mut W)
+        requires { length (header_octets self.tag self.length) ≤ (W.state writer.old).back.room }
+        ensures { Put (header_octets self.tag self.length) (W.state writer.old)
+            (W.state writer.new) }
+    {
+        if let Some(octets) = self.two_octets() {
+            writer.put(&octets);
+        } else {
+            self.put_octets(writer);
+        }
     }
 
     /// Reads a header.
@@ -296,6 +311,18 @@ impl Header {
     {
         let octets = self.octets();
         writer.write(octets.as_slice())
+    }
+
+    /// Puts the octets of the header, however many there are.
+    #[inline(never)]
+    fn put_octets<W: BackWriter>(&self, writer: &mut W)
+        requires { length (header_octets self.now.tag self.now.length)
+            ≤ (W.state writer.old).back.room }
+        ensures { Put (header_octets self.now.tag self.now.length) (W.state writer.old)
+            (W.state writer.new) }
+    {
+        let octets = self.octets();
+        writer.put(octets.as_slice());
     }
 
     /// The octets of the header.

@@ -38,4 +38,4 @@ pub use tag::{
     identifiers_are_unique, identifiers_decide_order, identifiers_distinguish_tags,
     identifiers_read_back,
 };
-pub use writer::{SliceWriter, VecWriter, Writer};
+pub use writer::{BackSlice, BackVec, BackWriter, SliceWriter, VecWriter, Writer};

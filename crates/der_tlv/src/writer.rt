@@ -1,5 +1,6 @@
 //! Writers of octets.
 
+mod back;
 mod slice;
 mod vec;
 
@@ -7,6 +8,7 @@ ghost use Rattle.std.specs.Prelude.{◌≤◌, [], ◌∷◌, take};
 ghost use Rattle.der_tlv.specs.Writing.{WriterState, Writes};
 
 use crate::error::Error;
+pub use back::{BackSlice, BackVec, BackWriter};
 pub use slice::SliceWriter;
 pub use vec::VecWriter;
 

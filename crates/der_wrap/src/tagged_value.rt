@@ -22,7 +22,7 @@ use der_elem::{
     Choice, Decode, DecodeField, DerOrd, Duplicate, DuplicateIsEqual, Encode, EncodeValue,
     EncodingEq, Form, FormValue, KnownTags, Tagged, ValueOrd,
 };
-use der_tlv::{Error, Header, Length, Reader, Source, Tag, TagMode, TagNumber, Writer};
+use der_tlv::{BackWriter, Error, Header, Length, Reader, Source, Tag, TagMode, TagNumber, Writer};
 use std::alloc::Global;
 use std::cmp::Ordering;
 
@@ -181,6 +181,13 @@ impl<T: Tagged + EncodeValue + Encode, const CLASS: u8> EncodeValue for TaggedVa
         match self.tag_mode {
             TagMode::Explicit => self.value.encode(writer),
             TagMode::Implicit => self.value.encode_value(writer),
+        }
+    }
+
+    fn encode_value_back<W: BackWriter>(&self, writer: &mut W) -> Result<(), Error> {
+        match self.tag_mode {
+            TagMode::Explicit => self.value.encode_back(writer),
+            TagMode::Implicit => self.value.encode_value_back(writer),
         }
     }
 }

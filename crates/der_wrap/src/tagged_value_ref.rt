@@ -11,7 +11,7 @@ ghost use Rattle.der_wrap.specs.TaggedValueLaws.{one_encoding_of_octets, explici
 
 use crate::class_tag::class_tag;
 use der_elem::{Encode, EncodeValue, Form, FormValue, Tagged};
-use der_tlv::{Error, Length, Tag, TagMode, TagNumber, Writer};
+use der_tlv::{BackWriter, Error, Length, Tag, TagMode, TagNumber, Writer};
 
 /// A borrowed value with a tag of its own class and number, to be written.
 #[derive(Clone, Copy, Debug, PartialEq, Eq, PartialOrd, Ord)]
@@ -141,6 +141,13 @@ impl<'a, T: Tagged + EncodeValue + Encode, const CLASS: u8> EncodeValue
         match self.tag_mode {
             TagMode::Explicit => self.value.encode(writer),
             TagMode::Implicit => self.value.encode_value(writer),
+        }
+    }
+
+    fn encode_value_back<W: BackWriter>(&self, writer: &mut W) -> Result<(), Error> {
+        match self.tag_mode {
+            TagMode::Explicit => self.value.encode_back(writer),
+            TagMode::Implicit => self.value.encode_value_back(writer),
         }
     }
 }

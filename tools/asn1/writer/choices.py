@@ -243,7 +243,9 @@ def encode(source: Source, all_of: Alternatives) -> str:
         f"    fn value_len(&self) -> Result<{length}, {error}> {{\n        match self {{\n{arms(all_of, 'value_len()')}\n"
         f"        }}\n    }}\n\n"
         f"    fn encode_value<W: {source.use('Writer')}>(&self, writer: &mut W) -> Result<(), {error}> {{\n"
-        f"        match self {{\n{arms(all_of, 'encode_value(writer)')}\n        }}\n    }}\n}}"
+        f"        match self {{\n{arms(all_of, 'encode_value(writer)')}\n        }}\n    }}\n\n"
+        f"    fn encode_value_back<W: {source.use('BackWriter')}>(&self, writer: &mut W) -> Result<(), {error}> {{\n"
+        f"        match self {{\n{arms(all_of, 'encode_value_back(writer)')}\n        }}\n    }}\n}}"
     )
 
 

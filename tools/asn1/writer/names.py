@@ -110,6 +110,7 @@ RUST: dict[str, tuple[str, str]] = {
     "Utf8StringRef": ("der_text", "Utf8StringRef"),
     "VideotexStringRef": ("der_ascii", "VideotexStringRef"),
     # readers and writers
+    "BackWriter": ("der_tlv", "BackWriter"),
     "Error": ("der_tlv", "Error"),
     "Header": ("der_tlv", "Header"),
     "Length": ("der_tlv", "Length"),

@@ -40,7 +40,9 @@ def code_traits(
         f"impl{lifetime} {source.use('EncodeValue')} for {definition.rust}{lifetime} {{\n"
         f"    fn value_len(&self) -> Result<{len_type}, {error}> {{\n        self.{member}.{length}()\n    }}\n\n"
         f"    fn encode_value<W: {source.use('Writer')}>(&self, writer: &mut W) -> Result<(), {error}> {{\n"
-        f"        self.{member}.{encode}(writer)\n    }}\n}}"
+        f"        self.{member}.{encode}(writer)\n    }}\n\n"
+        f"    fn encode_value_back<W: {source.use('BackWriter')}>(&self, writer: &mut W) -> Result<(), {error}> {{\n"
+        f"        self.{member}.{encode}_back(writer)\n    }}\n}}"
     )
 
 

@@ -30,7 +30,7 @@ use der_modules::CopyLaws;
 use der_nest::{ItemOrder, OrdersByEncoding, SequenceRef};
 use der_pkix::certificate::Certificate;
 use der_pkix::name::AttributeTypeAndValue;
-use der_tlv::{Error, Length, Source, Tag, Writer};
+use der_tlv::{BackWriter, Error, Length, Source, Tag, Writer};
 use std::alloc::Global;
 use std::cmp::Ordering;
 
@@ -232,6 +232,16 @@ impl<'a> EncodeValue for CertificateChoices<'a> {
             CertificateChoices::V1AttrCert(value) => value.encode_value(writer),
             CertificateChoices::V2AttrCert(value) => value.encode_value(writer),
             CertificateChoices::Other(value) => value.encode_value(writer),
+        }
+    }
+
+    fn encode_value_back<W: BackWriter>(&self, writer: &mut W) -> Result<(), Error> {
+        match self {
+            CertificateChoices::Certificate(value) => value.encode_value_back(writer),
+            CertificateChoices::ExtendedCertificate(value) => value.encode_value_back(writer),
+            CertificateChoices::V1AttrCert(value) => value.encode_value_back(writer),
+            CertificateChoices::V2AttrCert(value) => value.encode_value_back(writer),
+            CertificateChoices::Other(value) => value.encode_value_back(writer),
         }
     }
 }

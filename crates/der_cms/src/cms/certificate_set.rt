@@ -19,7 +19,7 @@ use der_elem::{
 };
 use der_modules::CopyLaws;
 use der_nest::ItemSet;
-use der_tlv::{Error, Header, Length, Source, Writer};
+use der_tlv::{BackWriter, Error, Header, Length, Source, Writer};
 use std::alloc::Global;
 use std::cmp::Ordering;
 
@@ -97,6 +97,10 @@ impl<'a> EncodeValue for CertificateSet<'a> {
 
     fn encode_value<W: Writer>(&self, writer: &mut W) -> Result<(), Error> {
         self.items.encode_value(writer)
+    }
+
+    fn encode_value_back<W: BackWriter>(&self, writer: &mut W) -> Result<(), Error> {
+        self.items.encode_value_back(writer)
     }
 }
 

@@ -25,7 +25,7 @@ use der_fields::{
 use der_modules::copy_of;
 use der_opaque::{ObjectIdentifier, OctetStringRef};
 use der_pkix::AlgorithmIdentifier;
-use der_tlv::{Error, Header, Length, Source, Writer};
+use der_tlv::{BackWriter, Error, Header, Length, Source, Writer};
 use std::alloc::Global;
 use std::cmp::Ordering;
 use std::fmt;
@@ -153,6 +153,10 @@ impl<'a> EncodeValue for EncryptedContentInfo<'a> {
 
     fn encode_value<W: Writer>(&self, writer: &mut W) -> Result<(), Error> {
         self.fields.encode_fields(writer)
+    }
+
+    fn encode_value_back<W: BackWriter>(&self, writer: &mut W) -> Result<(), Error> {
+        self.fields.encode_fields_back(writer)
     }
 }
 

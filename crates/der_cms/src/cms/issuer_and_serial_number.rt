@@ -22,7 +22,7 @@ use der_nest::Kept;
 use der_numbers::IntRef;
 use der_pkix::certificate::CertificateSerialNumber;
 use der_pkix::name::Name;
-use der_tlv::{Error, Header, Length, Source, Writer};
+use der_tlv::{BackWriter, Error, Header, Length, Source, Writer};
 use std::alloc::Global;
 use std::cmp::Ordering;
 use std::fmt;
@@ -124,6 +124,10 @@ impl<'a> EncodeValue for IssuerAndSerialNumber<'a> {
 
     fn encode_value<W: Writer>(&self, writer: &mut W) -> Result<(), Error> {
         self.fields.encode_fields(writer)
+    }
+
+    fn encode_value_back<W: BackWriter>(&self, writer: &mut W) -> Result<(), Error> {
+        self.fields.encode_fields_back(writer)
     }
 }
 

@@ -29,7 +29,7 @@ use der_modules::CopyLaws;
 use der_nest::{ItemOrder, OrdersByEncoding};
 use der_pkix::crl::CertificateList;
 use der_pkix::name::AttributeTypeAndValue;
-use der_tlv::{Error, Length, Source, Tag, Writer};
+use der_tlv::{BackWriter, Error, Length, Source, Tag, Writer};
 use std::alloc::Global;
 use std::cmp::Ordering;
 
@@ -185,6 +185,13 @@ impl<'a> EncodeValue for RevocationInfoChoice<'a> {
         match self {
             RevocationInfoChoice::Crl(value) => value.encode_value(writer),
             RevocationInfoChoice::Other(value) => value.encode_value(writer),
+        }
+    }
+
+    fn encode_value_back<W: BackWriter>(&self, writer: &mut W) -> Result<(), Error> {
+        match self {
+            RevocationInfoChoice::Crl(value) => value.encode_value_back(writer),
+            RevocationInfoChoice::Other(value) => value.encode_value_back(writer),
         }
     }
 }

@@ -25,7 +25,7 @@ use der_elem::{
 use der_extensions::extension::SubjectKeyIdentifier;
 use der_fields::{Implicit, ImplicitTag, OneOf, cmp_headers};
 use der_modules::{CopyLaws, copy_of};
-use der_tlv::{Error, Length, Source, Tag, Writer};
+use der_tlv::{BackWriter, Error, Length, Source, Tag, Writer};
 use std::alloc::Global;
 use std::cmp::Ordering;
 
@@ -181,6 +181,13 @@ impl<'a> EncodeValue for SignerIdentifier<'a> {
         match self {
             SignerIdentifier::IssuerAndSerialNumber(value) => value.encode_value(writer),
             SignerIdentifier::SubjectKeyIdentifier(value) => value.encode_value(writer),
+        }
+    }
+
+    fn encode_value_back<W: BackWriter>(&self, writer: &mut W) -> Result<(), Error> {
+        match self {
+            SignerIdentifier::IssuerAndSerialNumber(value) => value.encode_value_back(writer),
+            SignerIdentifier::SubjectKeyIdentifier(value) => value.encode_value_back(writer),
         }
     }
 }

@@ -35,7 +35,7 @@ use der_modules::{CopyLaws, copy_of};
 use der_nest::{ItemOrder, OrdersByEncoding};
 use der_opaque::OctetStringRef;
 use der_pkix::AlgorithmIdentifier;
-use der_tlv::{Error, Header, Length, Source, Writer};
+use der_tlv::{BackWriter, Error, Header, Length, Source, Writer};
 use std::alloc::Global;
 use std::cmp::Ordering;
 use std::fmt;
@@ -288,6 +288,10 @@ impl<'a> EncodeValue for SignerInfo<'a> {
 
     fn encode_value<W: Writer>(&self, writer: &mut W) -> Result<(), Error> {
         self.fields.encode_fields(writer)
+    }
+
+    fn encode_value_back<W: BackWriter>(&self, writer: &mut W) -> Result<(), Error> {
+        self.fields.encode_fields_back(writer)
     }
 }
 

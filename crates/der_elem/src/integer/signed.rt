@@ -16,7 +16,7 @@ ghost use Rattle.der_elem.specs.FormatMakers.{format_of_contents_within};
 
 use super::ordering::compare_signed;
 use super::reading::read_signed;
-use super::writing::{signed_len, write_signed};
+use super::writing::{put_signed, signed_len, write_signed};
 use crate::decode::DecodeValue;
 use crate::duplicate::CopyIsDuplicate;
 use crate::encode::EncodeValue;
@@ -25,7 +25,7 @@ use crate::fixed_tag::OneTag;
 use crate::form::FormValue;
 use crate::ord::ValueOrd;
 use crate::universal_tags::IntegerTag;
-use der_tlv::{Error, Header, Length, Source, Writer};
+use der_tlv::{BackWriter, Error, Header, Length, Source, Writer};
 use std::alloc::Global;
 use std::cmp::Ordering;
 
@@ -57,6 +57,11 @@ impl EncodeValue for i8 {
 
     fn encode_value<W: Writer>(&self, writer: &mut W) -> Result<(), Error> {
         write_signed(writer, i128::from(*self))
+    }
+
+    fn encode_value_back<W: BackWriter>(&self, writer: &mut W) -> Result<(), Error> {
+        put_signed(writer, i128::from(*self));
+        Ok(())
     }
 }
 
@@ -102,6 +107,11 @@ impl EncodeValue for i16 {
     fn encode_value<W: Writer>(&self, writer: &mut W) -> Result<(), Error> {
         write_signed(writer, i128::from(*self))
     }
+
+    fn encode_value_back<W: BackWriter>(&self, writer: &mut W) -> Result<(), Error> {
+        put_signed(writer, i128::from(*self));
+        Ok(())
+    }
 }
 
 impl ValueOrd for i16 {
@@ -145,6 +155,11 @@ impl EncodeValue for i32 {
 
     fn encode_value<W: Writer>(&self, writer: &mut W) -> Result<(), Error> {
         write_signed(writer, i128::from(*self))
+    }
+
+    fn encode_value_back<W: BackWriter>(&self, writer: &mut W) -> Result<(), Error> {
+        put_signed(writer, i128::from(*self));
+        Ok(())
     }
 }
 
@@ -190,6 +205,11 @@ impl EncodeValue for i64 {
     fn encode_value<W: Writer>(&self, writer: &mut W) -> Result<(), Error> {
         write_signed(writer, i128::from(*self))
     }
+
+    fn encode_value_back<W: BackWriter>(&self, writer: &mut W) -> Result<(), Error> {
+        put_signed(writer, i128::from(*self));
+        Ok(())
+    }
 }
 
 impl ValueOrd for i64 {
@@ -232,6 +252,11 @@ impl EncodeValue for i128 {
 
     fn encode_value<W: Writer>(&self, writer: &mut W) -> Result<(), Error> {
         write_signed(writer, *self)
+    }
+
+    fn encode_value_back<W: BackWriter>(&self, writer: &mut W) -> Result<(), Error> {
+        put_signed(writer, *self);
+        Ok(())
     }
 }
 

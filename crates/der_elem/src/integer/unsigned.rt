@@ -16,7 +16,7 @@ ghost use Rattle.der_elem.specs.FormatMakers.{format_of_contents_within};
 
 use super::ordering::compare_unsigned;
 use super::reading::read_unsigned;
-use super::writing::{unsigned_len, write_unsigned};
+use super::writing::{put_unsigned, unsigned_len, write_unsigned};
 use crate::decode::DecodeValue;
 use crate::duplicate::CopyIsDuplicate;
 use crate::encode::EncodeValue;
@@ -25,7 +25,7 @@ use crate::fixed_tag::OneTag;
 use crate::form::FormValue;
 use crate::ord::ValueOrd;
 use crate::universal_tags::IntegerTag;
-use der_tlv::{Error, Header, Length, Source, Writer};
+use der_tlv::{BackWriter, Error, Header, Length, Source, Writer};
 use std::alloc::Global;
 use std::cmp::Ordering;
 
@@ -57,6 +57,11 @@ impl EncodeValue for u8 {
 
     fn encode_value<W: Writer>(&self, writer: &mut W) -> Result<(), Error> {
         write_unsigned(writer, u128::from(*self))
+    }
+
+    fn encode_value_back<W: BackWriter>(&self, writer: &mut W) -> Result<(), Error> {
+        put_unsigned(writer, u128::from(*self));
+        Ok(())
     }
 }
 
@@ -102,6 +107,11 @@ impl EncodeValue for u16 {
     fn encode_value<W: Writer>(&self, writer: &mut W) -> Result<(), Error> {
         write_unsigned(writer, u128::from(*self))
     }
+
+    fn encode_value_back<W: BackWriter>(&self, writer: &mut W) -> Result<(), Error> {
+        put_unsigned(writer, u128::from(*self));
+        Ok(())
+    }
 }
 
 impl ValueOrd for u16 {
@@ -145,6 +155,11 @@ impl EncodeValue for u32 {
 
     fn encode_value<W: Writer>(&self, writer: &mut W) -> Result<(), Error> {
         write_unsigned(writer, u128::from(*self))
+    }
+
+    fn encode_value_back<W: BackWriter>(&self, writer: &mut W) -> Result<(), Error> {
+        put_unsigned(writer, u128::from(*self));
+        Ok(())
     }
 }
 
@@ -190,6 +205,11 @@ impl EncodeValue for u64 {
     fn encode_value<W: Writer>(&self, writer: &mut W) -> Result<(), Error> {
         write_unsigned(writer, u128::from(*self))
     }
+
+    fn encode_value_back<W: BackWriter>(&self, writer: &mut W) -> Result<(), Error> {
+        put_unsigned(writer, u128::from(*self));
+        Ok(())
+    }
 }
 
 impl ValueOrd for u64 {
@@ -232,6 +252,11 @@ impl EncodeValue for u128 {
 
     fn encode_value<W: Writer>(&self, writer: &mut W) -> Result<(), Error> {
         write_unsigned(writer, *self)
+    }
+
+    fn encode_value_back<W: BackWriter>(&self, writer: &mut W) -> Result<(), Error> {
+        put_unsigned(writer, *self);
+        Ok(())
     }
 }
 

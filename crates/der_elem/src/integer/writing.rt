@@ -3,11 +3,12 @@
 
 ghost use Rattle.std.specs.Prelude.{◌≡◌, ◌≤◌, ◌<◌, ◌^◌, false, length};
 ghost use Rattle.std.specs.Int.{bytes_high_first, complement_if};
+ghost use Rattle.der_tlv.specs.WritingBack.{Put};
 ghost use Rattle.der_elem.specs.Encoding.{Encodes};
 ghost use Rattle.der_elem.specs.Integer.{natural_contents, integer_contents};
 
 use super::ordering::LEAST_LONG;
-use der_tlv::{Error, Writer};
+use der_tlv::{BackWriter, Error, Writer};
 
 /// The sign and the magnitude of an integer: `(n, false)` for n, and `(n, true)` for -1 - n.
 fn signed_parts(number: i128) -> (u128, bool)
@@ -93,4 +94,40 @@ pub fn write_unsigned<W: Writer>(writer: &mut W, number: u128) -> Result<(), Err
     }
     let octets = unsigned_octets(number);
     writer.write(&octets[17 - unsigned_len(number) as usize..])
+}
+
+/// Puts the contents octets of an integer: by one block of eight octets where 64 bits do.
+#[inline(always)]
+pub fn put_signed<W: BackWriter>(writer: &mut W, number: i128)
+    requires { length (integer_contents number) ≤ (W.state writer.old).back.room }
+    ensures { Put (integer_contents number) (W.state writer.old) (W.state writer.new) }
+{
+    let Ok(short) = i64::try_from(number) else {
+        return put_wide(writer, number);
+    };
+    let len = signed_len(number) as usize;
+    writer.put_end(short.cast_unsigned().to_be_bytes(), len);
+}
+
+/// Puts the contents octets of an integer: the last of its 16 octets.
+#[inline(never)]
+fn put_wide<W: BackWriter>(writer: &mut W, number: i128)
+    requires { length (integer_contents number) ≤ (W.state writer.old).back.room }
+    ensures { Put (integer_contents number) (W.state writer.old) (W.state writer.new) }
+{
+    let len = signed_len(number) as usize;
+    let whole = number.cast_unsigned().to_be_bytes();
+    writer.put(&whole[16 - len..]);
+}
+
+/// Puts the contents octets of a number that is not negative.
+pub fn put_unsigned<W: BackWriter>(writer: &mut W, number: u128)
+    requires { length (natural_contents number) ≤ (W.state writer.old).back.room }
+    ensures { Put (natural_contents number) (W.state writer.old) (W.state writer.new) }
+{
+    if number < LEAST_LONG {
+        return put_signed(writer, number as i128);
+    }
+    let octets = unsigned_octets(number);
+    writer.put(&octets[17 - unsigned_len(number) as usize..]);
 }

@@ -29,7 +29,7 @@ use der_modules::CopyLaws;
 use der_numbers::IntRef;
 use der_opaque::OctetStringRef;
 use der_pkix::certificate::CertificateSerialNumber;
-use der_tlv::{Error, Header, Length, Source, Writer};
+use der_tlv::{BackWriter, Error, Header, Length, Source, Writer};
 use std::alloc::Global;
 use std::cmp::Ordering;
 use std::fmt;
@@ -214,6 +214,10 @@ impl<'a> EncodeValue for AuthorityKeyIdentifier<'a> {
 
     fn encode_value<W: Writer>(&self, writer: &mut W) -> Result<(), Error> {
         self.fields.encode_fields(writer)
+    }
+
+    fn encode_value_back<W: BackWriter>(&self, writer: &mut W) -> Result<(), Error> {
+        self.fields.encode_fields_back(writer)
     }
 }
 

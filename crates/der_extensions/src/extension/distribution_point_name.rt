@@ -28,7 +28,7 @@ use der_elem::{
 use der_fields::{Implicit, ImplicitTag, OneOf, cmp_headers};
 use der_modules::CopyLaws;
 use der_pkix::name::RelativeDistinguishedName;
-use der_tlv::{Error, Length, Source, Tag, Writer};
+use der_tlv::{BackWriter, Error, Length, Source, Tag, Writer};
 use std::alloc::Global;
 use std::cmp::Ordering;
 
@@ -184,6 +184,15 @@ impl<'a> EncodeValue for DistributionPointName<'a> {
         match self {
             DistributionPointName::FullName(value) => value.encode_value(writer),
             DistributionPointName::NameRelativeToCrlIssuer(value) => value.encode_value(writer),
+        }
+    }
+
+    fn encode_value_back<W: BackWriter>(&self, writer: &mut W) -> Result<(), Error> {
+        match self {
+            DistributionPointName::FullName(value) => value.encode_value_back(writer),
+            DistributionPointName::NameRelativeToCrlIssuer(value) => value.encode_value_back(
+                writer,
+            ),
         }
     }
 }

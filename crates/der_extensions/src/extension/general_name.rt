@@ -36,7 +36,7 @@ use der_modules::CopyLaws;
 use der_nest::SequenceRef;
 use der_opaque::{ObjectIdentifier, OctetStringRef};
 use der_pkix::name::{Name, RdnSequence};
-use der_tlv::{Error, Length, Source, Tag, Writer};
+use der_tlv::{BackWriter, Error, Length, Source, Tag, Writer};
 use std::alloc::Global;
 use std::cmp::Ordering;
 
@@ -311,6 +311,20 @@ impl<'a> EncodeValue for GeneralName<'a> {
             GeneralName::UniformResourceIdentifier(value) => value.encode_value(writer),
             GeneralName::IpAddress(value) => value.encode_value(writer),
             GeneralName::RegisteredId(value) => value.encode_value(writer),
+        }
+    }
+
+    fn encode_value_back<W: BackWriter>(&self, writer: &mut W) -> Result<(), Error> {
+        match self {
+            GeneralName::OtherName(value) => value.encode_value_back(writer),
+            GeneralName::Rfc822Name(value) => value.encode_value_back(writer),
+            GeneralName::DnsName(value) => value.encode_value_back(writer),
+            GeneralName::X400Address(value) => value.encode_value_back(writer),
+            GeneralName::DirectoryName(value) => value.encode_value_back(writer),
+            GeneralName::EdiPartyName(value) => value.encode_value_back(writer),
+            GeneralName::UniformResourceIdentifier(value) => value.encode_value_back(writer),
+            GeneralName::IpAddress(value) => value.encode_value_back(writer),
+            GeneralName::RegisteredId(value) => value.encode_value_back(writer),
         }
     }
 }

@@ -28,7 +28,7 @@ use der_fields::{
     ExplicitTag, Field, FieldList, Fields6, FieldsOrd, Implicit, ImplicitTag, WithDefault,
 };
 use der_modules::CopyLaws;
-use der_tlv::{Error, Header, Length, Source, Writer};
+use der_tlv::{BackWriter, Error, Header, Length, Source, Writer};
 use std::alloc::Global;
 use std::cmp::Ordering;
 use std::fmt;
@@ -280,6 +280,10 @@ impl<'a> EncodeValue for IssuingDistributionPoint<'a> {
 
     fn encode_value<W: Writer>(&self, writer: &mut W) -> Result<(), Error> {
         self.fields.encode_fields(writer)
+    }
+
+    fn encode_value_back<W: BackWriter>(&self, writer: &mut W) -> Result<(), Error> {
+        self.fields.encode_fields_back(writer)
     }
 }
 

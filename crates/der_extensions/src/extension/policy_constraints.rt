@@ -19,7 +19,7 @@ use der_elem::{
 use der_fields::{
     DecodeFields, EncodeFields, End, Field, FieldList, Fields2, FieldsOrd, Implicit, ImplicitTag,
 };
-use der_tlv::{Error, Header, Length, Source, Writer};
+use der_tlv::{BackWriter, Error, Header, Length, Source, Writer};
 use std::alloc::Global;
 use std::cmp::Ordering;
 use std::fmt;
@@ -133,6 +133,10 @@ impl<'a> EncodeValue for PolicyConstraints<'a> {
 
     fn encode_value<W: Writer>(&self, writer: &mut W) -> Result<(), Error> {
         self.fields.encode_fields(writer)
+    }
+
+    fn encode_value_back<W: BackWriter>(&self, writer: &mut W) -> Result<(), Error> {
+        self.fields.encode_fields_back(writer)
     }
 }
 

@@ -15,7 +15,7 @@ use crate::field::Field;
 use crate::field_list::FieldList;
 use crate::ordered::{FieldsFirstTag, FieldsOrd};
 use der_elem::{DecodeField, DerOrd, Duplicate, Encode, EncodingEq, FirstTag, Form, KnownTags};
-use der_tlv::{Error, Length, Source, Tag, Writer};
+use der_tlv::{BackWriter, Error, Length, Source, Tag, Writer};
 use std::alloc::Global;
 use std::cmp::Ordering;
 
@@ -235,6 +235,10 @@ impl<
 
     fn encode_fields<W: Writer>(&self, writer: &mut W) -> Result<(), Error> {
         self.list.encode_fields(writer)
+    }
+
+    fn encode_fields_back<W: BackWriter>(&self, writer: &mut W) -> Result<(), Error> {
+        self.list.encode_fields_back(writer)
     }
 }
 

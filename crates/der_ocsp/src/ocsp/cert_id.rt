@@ -23,7 +23,7 @@ use der_numbers::IntRef;
 use der_opaque::OctetStringRef;
 use der_pkix::AlgorithmIdentifier;
 use der_pkix::certificate::CertificateSerialNumber;
-use der_tlv::{Error, Header, Length, Source, Writer};
+use der_tlv::{BackWriter, Error, Header, Length, Source, Writer};
 use std::alloc::Global;
 use std::cmp::Ordering;
 use std::fmt;
@@ -151,6 +151,10 @@ impl<'a> EncodeValue for CertId<'a> {
 
     fn encode_value<W: Writer>(&self, writer: &mut W) -> Result<(), Error> {
         self.fields.encode_fields(writer)
+    }
+
+    fn encode_value_back<W: BackWriter>(&self, writer: &mut W) -> Result<(), Error> {
+        self.fields.encode_fields_back(writer)
     }
 }
 

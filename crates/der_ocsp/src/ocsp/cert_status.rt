@@ -26,7 +26,7 @@ use der_elem::{
 use der_fields::{Implicit, ImplicitTag, OneOf, cmp_headers};
 use der_modules::{CopyLaws, copy_of};
 use der_opaque::Null;
-use der_tlv::{Error, Length, Source, Tag, Writer};
+use der_tlv::{BackWriter, Error, Length, Source, Tag, Writer};
 use std::alloc::Global;
 use std::cmp::Ordering;
 
@@ -193,6 +193,14 @@ impl EncodeValue for CertStatus {
             CertStatus::Good(value) => value.encode_value(writer),
             CertStatus::Revoked(value) => value.encode_value(writer),
             CertStatus::Unknown(value) => value.encode_value(writer),
+        }
+    }
+
+    fn encode_value_back<W: BackWriter>(&self, writer: &mut W) -> Result<(), Error> {
+        match self {
+            CertStatus::Good(value) => value.encode_value_back(writer),
+            CertStatus::Revoked(value) => value.encode_value_back(writer),
+            CertStatus::Unknown(value) => value.encode_value_back(writer),
         }
     }
 }

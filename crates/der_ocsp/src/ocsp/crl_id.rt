@@ -24,7 +24,7 @@ use der_fields::{
 };
 use der_numbers::IntRef;
 use der_time::GeneralizedTime;
-use der_tlv::{Error, Header, Length, Source, Writer};
+use der_tlv::{BackWriter, Error, Header, Length, Source, Writer};
 use std::alloc::Global;
 use std::cmp::Ordering;
 use std::fmt;
@@ -163,6 +163,10 @@ impl<'a> EncodeValue for CrlId<'a> {
 
     fn encode_value<W: Writer>(&self, writer: &mut W) -> Result<(), Error> {
         self.fields.encode_fields(writer)
+    }
+
+    fn encode_value_back<W: BackWriter>(&self, writer: &mut W) -> Result<(), Error> {
+        self.fields.encode_fields_back(writer)
     }
 }
 

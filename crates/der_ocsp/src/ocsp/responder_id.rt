@@ -27,7 +27,7 @@ use der_modules::{CopyLaws, copy_of};
 use der_nest::Kept;
 use der_opaque::OctetStringRef;
 use der_pkix::name::Name;
-use der_tlv::{Error, Length, Source, Tag, Writer};
+use der_tlv::{BackWriter, Error, Length, Source, Tag, Writer};
 use std::alloc::Global;
 use std::cmp::Ordering;
 
@@ -183,6 +183,13 @@ impl<'a> EncodeValue for ResponderId<'a> {
         match self {
             ResponderId::ByName(value) => value.encode_value(writer),
             ResponderId::ByKey(value) => value.encode_value(writer),
+        }
+    }
+
+    fn encode_value_back<W: BackWriter>(&self, writer: &mut W) -> Result<(), Error> {
+        match self {
+            ResponderId::ByName(value) => value.encode_value_back(writer),
+            ResponderId::ByKey(value) => value.encode_value_back(writer),
         }
     }
 }

@@ -24,7 +24,7 @@ use der_elem::{
 use der_fields::{OneOf, cmp_headers};
 use der_modules::{CopyLaws, copy_of};
 use der_time::{GeneralizedTime, UtcTime};
-use der_tlv::{Error, Length, Source, Tag, Writer};
+use der_tlv::{BackWriter, Error, Length, Source, Tag, Writer};
 use std::alloc::Global;
 use std::cmp::Ordering;
 
@@ -178,6 +178,13 @@ impl EncodeValue for Time {
         match self {
             Time::UtcTime(value) => value.encode_value(writer),
             Time::GeneralTime(value) => value.encode_value(writer),
+        }
+    }
+
+    fn encode_value_back<W: BackWriter>(&self, writer: &mut W) -> Result<(), Error> {
+        match self {
+            Time::UtcTime(value) => value.encode_value_back(writer),
+            Time::GeneralTime(value) => value.encode_value_back(writer),
         }
     }
 }

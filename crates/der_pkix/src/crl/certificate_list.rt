@@ -27,7 +27,7 @@ use der_fields::{
     DecodeFields, DuplicateFields, EncodeFields, End, Field, FieldList, Fields3, FieldsOrd,
 };
 use der_modules::{CopyLaws, copy_of};
-use der_tlv::{Error, Header, Length, Source, Writer};
+use der_tlv::{BackWriter, Error, Header, Length, Source, Writer};
 use std::alloc::Global;
 use std::cmp::Ordering;
 use std::fmt;
@@ -164,6 +164,10 @@ impl<'a> EncodeValue for CertificateList<'a> {
 
     fn encode_value<W: Writer>(&self, writer: &mut W) -> Result<(), Error> {
         self.fields.encode_fields(writer)
+    }
+
+    fn encode_value_back<W: BackWriter>(&self, writer: &mut W) -> Result<(), Error> {
+        self.fields.encode_fields_back(writer)
     }
 }
 

@@ -27,7 +27,7 @@ use der_elem::{
 use der_fields::{OneOf, cmp_headers};
 use der_modules::{CopyLaws, copy_of};
 use der_opaque::{Null, ObjectIdentifier};
-use der_tlv::{Error, Length, Source, Tag, Writer};
+use der_tlv::{BackWriter, Error, Length, Source, Tag, Writer};
 use std::alloc::Global;
 use std::cmp::Ordering;
 
@@ -196,6 +196,14 @@ impl<'a> EncodeValue for EcParameters<'a> {
             EcParameters::NamedCurve(value) => value.encode_value(writer),
             EcParameters::ImplicitCurve(value) => value.encode_value(writer),
             EcParameters::SpecifiedCurve(value) => value.encode_value(writer),
+        }
+    }
+
+    fn encode_value_back<W: BackWriter>(&self, writer: &mut W) -> Result<(), Error> {
+        match self {
+            EcParameters::NamedCurve(value) => value.encode_value_back(writer),
+            EcParameters::ImplicitCurve(value) => value.encode_value_back(writer),
+            EcParameters::SpecifiedCurve(value) => value.encode_value_back(writer),
         }
     }
 }

@@ -28,7 +28,7 @@ use der_fields::{DecodeFields, EncodeFields, End, Field, FieldList, Fields7, Fie
 use der_modules::copy_of;
 use der_numbers::IntRef;
 use der_opaque::OctetStringRef;
-use der_tlv::{Error, Header, Length, Source, Writer};
+use der_tlv::{BackWriter, Error, Header, Length, Source, Writer};
 use std::alloc::Global;
 use std::cmp::Ordering;
 use std::fmt;
@@ -212,6 +212,10 @@ impl<'a> EncodeValue for SpecifiedEcDomain<'a> {
 
     fn encode_value<W: Writer>(&self, writer: &mut W) -> Result<(), Error> {
         self.fields.encode_fields(writer)
+    }
+
+    fn encode_value_back<W: BackWriter>(&self, writer: &mut W) -> Result<(), Error> {
+        self.fields.encode_fields_back(writer)
     }
 }
 

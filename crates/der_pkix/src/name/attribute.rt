@@ -27,7 +27,7 @@ use der_fields::{
 use der_modules::CopyLaws;
 use der_nest::{ItemOrder, ItemSet, OrdersByEncoding};
 use der_opaque::{AnyRef, ObjectIdentifier};
-use der_tlv::{Error, Header, Length, Source, Writer};
+use der_tlv::{BackWriter, Error, Header, Length, Source, Writer};
 use std::alloc::Global;
 use std::cmp::Ordering;
 use std::fmt;
@@ -145,6 +145,10 @@ impl<'a> EncodeValue for Attribute<'a> {
 
     fn encode_value<W: Writer>(&self, writer: &mut W) -> Result<(), Error> {
         self.fields.encode_fields(writer)
+    }
+
+    fn encode_value_back<W: BackWriter>(&self, writer: &mut W) -> Result<(), Error> {
+        self.fields.encode_fields_back(writer)
     }
 }
 

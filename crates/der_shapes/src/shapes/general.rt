@@ -36,7 +36,7 @@ use der_fields::{Implicit, ImplicitTag, OneOf, cmp_headers};
 use der_modules::CopyLaws;
 use der_nest::{ItemOrder, OrdersByEncoding};
 use der_opaque::OctetStringRef;
-use der_tlv::{Error, Length, Source, Tag, Writer};
+use der_tlv::{BackWriter, Error, Length, Source, Tag, Writer};
 use std::alloc::Global;
 use std::cmp::Ordering;
 
@@ -221,6 +221,15 @@ impl<'a> EncodeValue for General<'a> {
             General::Directory(value) => value.encode_value(writer),
             General::Number(value) => value.encode_value(writer),
             General::Status(value) => value.encode_value(writer),
+        }
+    }
+
+    fn encode_value_back<W: BackWriter>(&self, writer: &mut W) -> Result<(), Error> {
+        match self {
+            General::Address(value) => value.encode_value_back(writer),
+            General::Directory(value) => value.encode_value_back(writer),
+            General::Number(value) => value.encode_value_back(writer),
+            General::Status(value) => value.encode_value_back(writer),
         }
     }
 }

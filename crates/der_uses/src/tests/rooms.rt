@@ -1,6 +1,7 @@
 //! Writing where there is too little room.
 
 ghost use Rattle.std.specs.Prelude.{true};
+ghost use Rattle.der_asn1_types.specs.BackState.{no_back};
 ghost use Rattle.der_asn1_types.specs.Writing.{WriterState};
 
 use crate::tests::{numbered, same, same_in};
@@ -19,7 +20,7 @@ struct Bounded {
 }
 
 impl Writer for Bounded {
-    ghost state = { λ w. record { taken = w.octets.items; start = (0, 0); failed = w.failed; room = 0; may_refuse = λ kind. true } };
+    ghost state = { λ w. record { taken = w.octets.items; start = (0, 0); failed = w.failed; room = 0; may_refuse = λ kind. true; back = no_back } };
 
     fn write(&mut self, octets: &[u8]) -> Result<(), Error> {
         if self.failed {
