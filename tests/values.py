@@ -296,6 +296,6 @@ def one_of_each():
 
 def names_of_derview():
     """The type names that derview's source has."""
-    with open(f"{os.path.dirname(HERE)}/crates/der_type_lines/src/names.rt") as source:
+    with open(f"{os.path.dirname(HERE)}/crates/derview_names/src/names.rt") as source:
         source = source.read()
     return set(re.findall(r'"([a-z0-9-]+)" => ', source)) | set(re.findall(r'is_name\(name, "([a-z0-9-]+)"\)', source))

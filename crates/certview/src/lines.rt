@@ -2,8 +2,8 @@
 ghost use Rattle.std.specs.Prelude.{◌≡◌, codes};
 ghost use Rattle.std.specs.Str.{bytes_eq};
 
+use certview_text::Fault;
 use der_lines::Fault as LineFault;
-use der_message_text::Fault;
 
 #[cfg(test)]
 mod tests;

@@ -3,9 +3,9 @@
 //! space and hex digits.
 #![tactic(auto)]
 
+use certview_names::MessageNames;
+use certview_text::{Fault, run};
 use der_lines::{LineReader, OctetWriter};
-use der_message_lines::MessageNames;
-use der_message_text::{Fault, run};
 use lines::{asks_for_lines, fault_of_run};
 use std::env::{self, Env};
 use std::io::{self, BufReader};

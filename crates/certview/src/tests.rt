@@ -6,7 +6,7 @@ mod kinds;
 mod messages;
 
 use crate::tests::messages::{ED25519, RSA};
-use der_message_text::{Fault, kind_of, run, shown};
+use certview_text::{Fault, kind_of, run, shown};
 use std::alloc::Global;
 use std::process::Abort;
 use std::test::Fail;

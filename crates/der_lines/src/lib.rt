@@ -4,7 +4,7 @@
 //! `refused` and the number of their first fault, or `bad line`. A program says by `Names` which types
 //! its lines name; `run` answers each line of its input, before it reads the next.
 //!
-//! With `TypeNames` of `der_type_lines` as its table:
+//! With `TypeNames` of `derview_names` as its table:
 //!
 //! ```rust
 //! let mut written = Vec::new(rt.alloc());

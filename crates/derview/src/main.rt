@@ -3,7 +3,7 @@
 #![tactic(auto)]
 
 use der_lines::{Fault, LineReader, OctetWriter, run};
-use der_type_lines::TypeNames;
+use derview_names::TypeNames;
 use std::io::{self, BufReader};
 use std::process::ExitCode;
 

@@ -5,7 +5,7 @@ mod beginnings;
 mod examples;
 
 use der_lines::{Fault, LineReader, OctetWriter, run};
-use der_type_lines::TypeNames;
+use derview_names::TypeNames;
 use std::alloc::Global;
 use std::io::{self, BufReader, ErrorKind, Read, Write};
 use std::test::Fail;

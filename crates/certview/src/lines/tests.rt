@@ -2,9 +2,9 @@
 //! none is a bad line.
 
 use super::fault_of_run;
+use certview_names::MessageNames;
+use certview_text::Fault;
 use der_lines::{LineReader, OctetWriter, run};
-use der_message_lines::MessageNames;
-use der_message_text::Fault;
 use std::alloc::{AllocError, Global};
 use std::process::Abort;
 use std::test::Fail;

@@ -1,13 +1,13 @@
 //! The examples that open the sources of crates: `tests/contracts` compares them with these tests.
 
 use crate::tests::messages::ED25519_PUBLIC;
+use certview_names::MessageNames;
+use certview_text::{kind_of, shown};
 use der_lines::{LineReader, OctetWriter, run};
-use der_message_lines::MessageNames;
-use der_message_text::{kind_of, shown};
 use std::test::Fail;
 
 #[test]
-fn der_message_text(rt: HostRuntime) -> Result<(), Fail> {
+fn certview_text(rt: HostRuntime) -> Result<(), Fail> {
     let octets = hex::decode(rt.alloc(), ED25519_PUBLIC)?;
     let kind = kind_of(octets.as_slice());
     let text = shown(rt.alloc(), kind, octets.as_slice())?;
@@ -16,7 +16,7 @@ fn der_message_text(rt: HostRuntime) -> Result<(), Fail> {
 }
 
 #[test]
-fn der_message_lines(rt: HostRuntime) -> Result<(), Fail> {
+fn certview_names(rt: HostRuntime) -> Result<(), Fail> {
     let mut written = Vec::new(rt.alloc());
     let mut input = LineReader::new(b"keyusage 030205a0\n".as_slice(), u64::MAX);
     let mut output = OctetWriter::new(&mut written);

@@ -2,7 +2,7 @@
 
 use crate::tests::messages::{CURVE_PRIVATE, ED25519, LIST};
 use crate::tests::written;
-use der_message_text::Fault;
+use certview_text::Fault;
 use std::test::Fail;
 
 #[test]

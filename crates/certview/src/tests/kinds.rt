@@ -6,7 +6,7 @@ use crate::tests::messages::{
     RSA_PRIVATE, RSA_PUBLIC, RSA_THREE_PRIMES, RSA_WRAPPED,
 };
 use crate::tests::{assert_contains, number_of};
-use der_message_text::{Kind, kind_of, shown};
+use certview_text::{Kind, kind_of, shown};
 use std::test::Fail;
 
 #[test]

@@ -1,7 +1,7 @@
 //! AlgorithmIdentifier, by the calls of its traits.
 
 use der_asn1_types::{Duplicate, Encode, Error, FixedTag, FromDer, Tag, ValueOrd};
-use der_type_lines::AlgorithmIdentifier;
+use derview_names::AlgorithmIdentifier;
 use std::alloc::Global;
 use std::cmp::Ordering;
 

@@ -2,7 +2,7 @@
 
 use der_asn1_types::FromDer;
 use der_lines::{LineReader, OctetWriter, run};
-use der_type_lines::{AlgorithmIdentifier, TypeNames};
+use derview_names::{AlgorithmIdentifier, TypeNames};
 use std::test::Fail;
 
 #[test]
@@ -17,7 +17,7 @@ fn der_lines(rt: HostRuntime) -> Result<(), Fail> {
 }
 
 #[test]
-fn der_type_lines(rt: HostRuntime) -> Result<(), Fail> {
+fn derview_names(rt: HostRuntime) -> Result<(), Fail> {
     let octets = [0x30, 0x05, 0x06, 0x03, 0x2b, 0x65, 0x70];
     match AlgorithmIdentifier::from_der(rt.alloc(), &octets) {
         Ok(algorithm) => assert!(rt; algorithm.parameters.is_none()),
