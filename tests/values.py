@@ -188,6 +188,7 @@ VALUES = {
     "octets": any_octets,
     "octetsref": any_octets,
     "oid": object_identifier,
+    "oidref": object_identifier,
     "vec-i64": list_of(0x30, ints(-(1 << 63), (1 << 63) - 1), [0, 1, 2, 5, 40]),
     "vec-anyref": list_of(0x30, some_any, [0, 1, 2, 5]),
     "array2-u8": list_of(0x30, u8, [2]),
@@ -231,6 +232,7 @@ VALUES = {
 TWINS = [
     ("any", "anyref"),
     ("octets", "octetsref"),
+    ("oid", "oidref"),
     ("int", "intref"),
     ("uint", "uintref"),
     ("printable", "printableref"),

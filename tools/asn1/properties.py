@@ -120,7 +120,6 @@ OWNED = frozenset(
         Whole.BOOLEAN,
         Whole.NULL,
         Whole.MACHINE_INTEGER,
-        Whole.OBJECT_IDENTIFIER,
         Whole.UTC_TIME,
         Whole.GENERALIZED_TIME,
         Whole.BMP_STRING,
@@ -148,7 +147,7 @@ NOTHING = Properties(borrows=False, takes_memory=False, is_copy=True)
 def properties_of(type_: Resolved) -> Properties:
     """What is known of the values of a type."""
     if isinstance(type_, Leaf):
-        takes = type_.is_owned or type_.whole is Whole.BMP_STRING
+        takes = type_.whole is Whole.BMP_STRING or (type_.is_owned and type_.whole is not Whole.OBJECT_IDENTIFIER)
         borrows = not type_.is_owned and type_.whole not in OWNED
         return Properties(borrows, takes, not takes)
     if isinstance(type_, Listed):

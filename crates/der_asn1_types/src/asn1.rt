@@ -13,7 +13,9 @@ pub use der_nest::{
     SetOfVec, Values, insertion_place,
 };
 pub use der_numbers::{AsIntRef, AsUintRef, Enumerated, Enumeration, Int, IntRef, Uint, UintRef};
-pub use der_opaque::{Any, AnyRef, Null, ObjectIdentifier, OctetString, OctetStringRef};
+pub use der_opaque::{
+    Any, AnyRef, Null, ObjectIdentifier, ObjectIdentifierRef, OctetString, OctetStringRef,
+};
 pub use der_text::{BmpChars, BmpCodepoints, BmpString, GeneralStringRef, Utf8StringRef};
 pub use der_time::{GeneralizedTime, UtcTime};
 pub use der_wrap::{

@@ -8,6 +8,7 @@ pub mod Any
 pub mod AnyRef
 pub mod BuiltinTypes
 pub mod ObjectIdentifier
+pub mod ObjectIdentifierRef
 pub mod OctetString
 pub mod OctetStringRef
 pub use Rattle.der_elem.specs.Decoding

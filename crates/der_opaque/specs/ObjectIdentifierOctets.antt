@@ -35,12 +35,16 @@ some_are : (c : List ℕ) → 0 < length c → some_octets c ≡ Ok c
 some_are [] h = absurd (omega arith)
 some_are (octet ∷ others) h = refl
 
--- octets that are kept are parsed as they are
+-- octets of which there are some, and not too many, are parsed as they are
+pub parse_identifier-within : (max : ℕ) (c : List ℕ) (rules : EncodingRules) (p : ℕ) → 0 < length c → length c ≤ max → parse_identifier max rules p c ≡ Ok c
+parse_identifier-within max c rules p some fits =
+    let short : nat_lt max (length c) ≡ false = grind (arith, nat_tests) in rw short (some_are c some)
+
+-- those at the front of an array are parsed as they are
 pub parse_identifier-kept : (max count : ℕ) (octets c : List ℕ) (rules : EncodingRules) (p : ℕ) → 0 < count → count ≤ max → length octets ≡ max → c ≡ take count octets → parse_identifier max rules p c ≡ Ok (take count octets)
 parse_identifier-kept max count octets c rules p some fits full e =
     let l : length c ≡ count = ap length e ∙ kept_length max count octets fits full in
-    let short : nat_lt max (length c) ≡ false = grind (arith, nat_tests) in
-    rw short (some_are c (omega arith) ∙ ap Ok e)
+    parse_identifier-within max c rules p (omega arith) (omega arith) ∙ ap Ok e
 
 -- What a tag and octets are read as: an identifier with the octets, or (4) for another tag, (15) for no octets, (7) for more than max.
 abbrev pub FromAny : {T : Type 0} → ℕ → (T → List ℕ) → Tag → List ℕ → Result T Error → Type 0

@@ -12,6 +12,7 @@ use crate::any::Any;
 use crate::any_ref::AnyRef;
 use crate::null::Null;
 use crate::object_identifier::ObjectIdentifier;
+use crate::object_identifier_ref::ObjectIdentifierRef;
 use crate::octet_string::OctetString;
 use crate::octet_string_ref::OctetStringRef;
 use der_elem::{FixedTag, FormValue, Tagged};
@@ -36,17 +37,18 @@ pub fn borrowed_tag_then_contents<'a>(one: &AnyRef<'a>, other: &AnyRef<'a>) -> O
     one.cmp(other)
 }
 
-/// The tags of the types (X.680 8.6): of `Null`, `OctetString`, `OctetStringRef` and
-/// `ObjectIdentifier`.
-pub fn universal_tags() -> [Tag; 4]
+/// The tags of the types (X.680 8.6): of `Null`, `OctetString`, `OctetStringRef`,
+/// `ObjectIdentifier` and `ObjectIdentifierRef`.
+pub fn universal_tags() -> [Tag; 5]
     ensures { result ≡ tags.Null ∷ tags.OctetString ∷ tags.OctetString
-        ∷ tags.ObjectIdentifier ∷ [] }
+        ∷ tags.ObjectIdentifier ∷ tags.ObjectIdentifier ∷ [] }
 {
     [
         Null::TAG,
         OctetString::TAG,
         OctetStringRef::TAG,
         ObjectIdentifier::<39>::TAG,
+        ObjectIdentifierRef::<39>::TAG,
     ]
 }
 

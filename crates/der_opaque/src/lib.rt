@@ -15,6 +15,7 @@ mod builtin;
 pub mod laws;
 mod null;
 mod object_identifier;
+mod object_identifier_ref;
 mod octet_string;
 mod octet_string_ref;
 
@@ -22,5 +23,6 @@ pub use any::Any;
 pub use any_ref::AnyRef;
 pub use null::Null;
 pub use object_identifier::ObjectIdentifier;
+pub use object_identifier_ref::ObjectIdentifierRef;
 pub use octet_string::OctetString;
 pub use octet_string_ref::OctetStringRef;

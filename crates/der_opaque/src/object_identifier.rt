@@ -17,6 +17,7 @@ ghost use Rattle.der_opaque.specs.ObjectIdentifierOctets.{parse_identifier, pars
 ghost use Rattle.der_opaque.specs.AnyRef.{tag_of, contents_of};
 
 use crate::any_ref::AnyRef;
+use crate::object_identifier_ref::ObjectIdentifierRef;
 use der_elem::{
     ContentsEq, CopyIsDuplicate, DecodeValue, EncodeValue, FormValue, ObjectIdentifierTag, OneTag,
     OrdIsValueOrd, Tagged,
@@ -46,6 +47,7 @@ pub struct ObjectIdentifier<const MAX_SIZE: usize> {
 
 impl<const MAX_SIZE: usize> ObjectIdentifier<MAX_SIZE> {
     ghost use Rattle.der_opaque.specs.ObjectIdentifier.{octets_of};
+    ghost use Rattle.der_opaque.specs.ObjectIdentifierRef as borrowed;
 
     /// An identifier of these contents octets.
     ///
@@ -69,6 +71,18 @@ impl<const MAX_SIZE: usize> ObjectIdentifier<MAX_SIZE> {
             }
             _ => Err(Error::from_kind(Tag::ObjectIdentifier.length_error())),
         }
+    }
+
+    /// An identifier of these contents octets, of which there are some, and not too many.
+    pub(crate) fn from_some(bytes: &[u8]) -> ObjectIdentifier<MAX_SIZE>
+        requires some { 0 < length bytes.now }
+        requires few { length bytes.now ≤ MAX_SIZE }
+        requires short { length bytes.now < 2 ^ 32 }
+        ensures { octets_of result ≡ bytes.now }
+    {
+        let octets = front_of(bytes);
+        let count = Length::new(bytes.len() as u32);
+        ObjectIdentifier { octets, count }
     }
 
     /// An identifier of the octets, so many, that stand after `start`. It takes `MAX_SIZE` octets
@@ -111,6 +125,15 @@ impl<const MAX_SIZE: usize> ObjectIdentifier<MAX_SIZE> {
         ensures short { length result.now < 2 ^ 32 }
     {
         &self.octets[..self.count.value() as usize]
+    }
+
+    /// The identifier, borrowed.
+    pub fn owned_to_ref(&self) -> ObjectIdentifierRef<'_, MAX_SIZE>
+        ensures { borrowed.octets_of result ≡ octets_of self.now }
+    {
+        ObjectIdentifierRef {
+            octets: self.as_bytes(),
+        }
     }
 
     /// A block that begins with the contents octets, where there are at most eight of them, and
@@ -157,7 +180,7 @@ fn front_of<const MAX_SIZE: usize>(bytes: &[u8]) -> [u8; MAX_SIZE]
 /// Refuses contents octets of which there are none, or too many.
 #[cold]
 #[inline(never)]
-fn refuse<'a, R: Source<'a>>(reader: &mut R, header: Header, max: usize) -> Error
+pub(crate) fn refuse<'a, R: Source<'a>>(reader: &mut R, header: Header, max: usize) -> Error
     requires { (header.length ≡ 0) ⊎ (max < header.length) }
     ensures fault { length (rest (R.state reader.old)) ≡ header.length
         → unless_failed (parse_identifier max (R.state reader.old).rules) (R.state reader.old)

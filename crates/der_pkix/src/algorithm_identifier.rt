@@ -12,20 +12,20 @@ ghost use Rattle.der_elem.specs.TaggedLaws.{encoding_eq_tagged};
 ghost use Rattle.der_fields.specs.DistinguishingLaws.{eq_both, eq_last, tlv_distinguished};
 ghost use Rattle.der_fields.specs.Listing.{field, end};
 ghost use Rattle.der_opaque.specs.contracts.any_ref.AnyRefEncodingEq.TheImpl.Laws as anyref_encoding_eq;
-ghost use Rattle.der_opaque.specs.contracts.object_identifier.ObjectIdentifierContentsEq.TheImpl.Laws as objectidentifier_contents_eq;
+ghost use Rattle.der_opaque.specs.contracts.object_identifier_ref.ObjectIdentifierRefContentsEq.TheImpl.Laws as objectidentifierref_contents_eq;
 
 use der_elem::{
     ContentsEq, CopyIsDuplicate, DecodeValue, EncodeValue, FormValue, OneTag, Sequence,
     SequenceTag, ValueOrd,
 };
 use der_fields::{End, Field, FieldList, FieldSequence};
-use der_opaque::{AnyRef, ObjectIdentifier};
+use der_opaque::{AnyRef, ObjectIdentifierRef};
 use der_tlv::{BackWriter, Error, Header, Length, Source, Writer};
 use std::alloc::Global;
 use std::cmp::Ordering;
 
 /// The list of the fields.
-type List<'a> = Field<ObjectIdentifier<39>, Field<Option<AnyRef<'a>>, End>>;
+type List<'a> = Field<ObjectIdentifierRef<'a, 39>, Field<Option<AnyRef<'a>>, End>>;
 
 type Fields<'a> = FieldSequence<List<'a>>;
 
@@ -33,7 +33,7 @@ type Fields<'a> = FieldSequence<List<'a>>;
 #[derive(Clone, Copy, Debug, PartialEq, Eq)]
 pub struct AlgorithmIdentifier<'a> {
     /// The algorithm.
-    pub oid: ObjectIdentifier<39>,
+    pub oid: ObjectIdentifierRef<'a, 39>,
     /// What the algorithm takes.
     pub parameters: Option<AnyRef<'a>>,
 }
@@ -104,7 +104,7 @@ impl<'a> ValueOrd for AlgorithmIdentifier<'a> {
 
 impl<'a> ContentsEq for AlgorithmIdentifier<'a> {
     ghost contents_eq = { λ v w one.
-        let oid = encoding_eq_tagged _ _ _ _ (objectidentifier_contents_eq.contents_eq-law 39 (record { fits = lit< tt })) v.oid w.oid one.0 in
+        let oid = encoding_eq_tagged _ _ _ _ (objectidentifierref_contents_eq.contents_eq-law 39 (record { fits = lit< tt })) v.oid w.oid one.0 in
         let parameters = encoding_eq_option _ _ _ (λ _. refl) _ _ anyref_encoding_eq.encoding_eq-law v.parameters w.parameters one.1.0 in
         eq_both _ _ _ _ _ _ oid (eq_last _ _ _ parameters) (tlv_distinguished _ _ _ _ _ _) };
 }

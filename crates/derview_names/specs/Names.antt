@@ -65,6 +65,7 @@ opaque_types name =
     else if bytes_eq name (codes "octets") then Some (canonical_tagged OctetString parse_octets)
     else if bytes_eq name (codes "octetsref") then Some (canonical_tagged OctetString parse_octets)
     else if bytes_eq name (codes "oid") then Some (canonical_tagged ObjectIdentifier (parse_identifier 39))
+    else if bytes_eq name (codes "oidref") then Some (canonical_tagged ObjectIdentifier (parse_identifier 39))
     else None
 
 -- a list of 64-bit integers, a list of any values, a pair of octets, and an octet that may be absent

@@ -11,9 +11,9 @@ ghost use Rattle.derview_names.specs.Names.{canonical_function_of, plain_types, 
 use der_asn1_types::asn1::{
     Any, AnyRef, Application, BitString, BitStringRef, BmpString, ContextSpecific,
     GeneralStringRef, GeneralizedTime, Ia5String, Ia5StringRef, Int, IntRef, Null,
-    ObjectIdentifier, OctetString, OctetStringRef, PrintableString, PrintableStringRef, Private,
-    SequenceOf, SequenceOfRef, SequenceRef, SetOf, SetOfRef, SetOfVec, TeletexString,
-    TeletexStringRef, Uint, UintRef, UtcTime, Utf8StringRef, VideotexStringRef,
+    ObjectIdentifier, ObjectIdentifierRef, OctetString, OctetStringRef, PrintableString,
+    PrintableStringRef, Private, SequenceOf, SequenceOfRef, SequenceRef, SetOf, SetOfRef, SetOfVec,
+    TeletexString, TeletexStringRef, Uint, UintRef, UtcTime, Utf8StringRef, VideotexStringRef,
 };
 use der_asn1_types::{DateTime, Decode, DerOrd, Encode, Error, SliceReader, Tagged};
 use der_lines::{KeptWriter, Names, choose, is_name, put_canonical, put_canonical_set};
@@ -144,6 +144,7 @@ fn put_opaque(
         "octets" => OctetString,
         "octetsref" => OctetStringRef,
         "oid" => ObjectIdentifier<39>,
+        "oidref" => ObjectIdentifierRef<39>,
     }
 }
 

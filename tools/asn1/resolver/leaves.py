@@ -34,9 +34,7 @@ LACKING = {
     Simple.UNIVERSAL_STRING: "UniversalString",
 }
 ALWAYS_OWNED = frozenset([Simple.BMP_STRING])
-NEVER_OWNED = frozenset(
-    [Simple.BOOLEAN, Simple.NULL, Simple.OBJECT_IDENTIFIER, Simple.UTC_TIME, Simple.GENERALIZED_TIME]
-)
+NEVER_OWNED = frozenset([Simple.BOOLEAN, Simple.NULL, Simple.UTC_TIME, Simple.GENERALIZED_TIME])
 
 
 def simple(context: Context, type_: SimpleType, constraints: tuple[Constraint, ...]) -> Leaf:

@@ -77,6 +77,8 @@ class Integers(unittest.TestCase):
         self.assertIs(leaf("INTEGER (0..255) -- @unsigned").whole, Whole.NATURAL)
         self.assertIs(leaf("INTEGER { v1(0) } -- @signed").whole, Whole.INTEGER)
         self.assertTrue(leaf("INTEGER -- @owned").is_owned)
+        self.assertTrue(leaf("OBJECT IDENTIFIER -- @owned").is_owned)
+        self.assertFalse(leaf("OBJECT IDENTIFIER").is_owned)
 
     def test_remarks(self) -> None:
         for text, said in (
@@ -255,6 +257,8 @@ class Properties(unittest.TestCase):
             ("SEQUENCE { a INTEGER (0..255), b BOOLEAN }", (False, False, True)),
             ("SEQUENCE { a OCTET STRING }", (True, False, True)),
             ("SEQUENCE { a OCTET STRING -- @owned\n }", (False, True, False)),
+            ("SEQUENCE { a OBJECT IDENTIFIER }", (True, False, True)),
+            ("SEQUENCE { a OBJECT IDENTIFIER -- @owned\n }", (False, False, True)),
             ("SEQUENCE { a SEQUENCE OF BOOLEAN }", (False, True, False)),
             ("SEQUENCE { a SET OF ANY OPTIONAL }", (True, True, False)),
             ("CHOICE { a NULL, b [0] UTF8String }", (True, False, True)),

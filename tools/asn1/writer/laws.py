@@ -289,9 +289,7 @@ def leaf_key(leaf: Leaf) -> str:
         return "bool"
     if leaf.whole is Whole.MACHINE_INTEGER:
         return leaf.width or "u8"
-    if leaf.whole is Whole.OBJECT_IDENTIFIER:
-        return "ObjectIdentifier"
-    if constant_of(leaf) is not None:
+    if leaf.whole in CHARACTERS:
         return "CharacterString" if leaf.is_owned else "CharacterStringRef"
     return WHOLES[leaf.whole][1 if leaf.is_owned else 0]
 

@@ -14,6 +14,7 @@ WHOLES: dict[Whole, tuple[str, str]] = {
     Whole.BIT_STRING: ("BitStringRef", "BitString"),
     Whole.NAMED_BITS: ("NamedBitsRef", "NamedBitsRef"),
     Whole.OCTET_STRING: ("OctetStringRef", "OctetString"),
+    Whole.OBJECT_IDENTIFIER: ("ObjectIdentifierRef", "ObjectIdentifier"),
     Whole.UTC_TIME: ("UtcTime", "UtcTime"),
     Whole.GENERALIZED_TIME: ("GeneralizedTime", "GeneralizedTime"),
     Whole.UTF8_STRING: ("Utf8StringRef", "String"),
@@ -40,10 +41,10 @@ def rust_leaf(source: Source, leaf: Leaf) -> str:
         return "bool"
     if leaf.whole is Whole.MACHINE_INTEGER:
         return leaf.width or "u8"
-    if leaf.whole is Whole.OBJECT_IDENTIFIER:
-        return f"{source.use('ObjectIdentifier')}<{leaf.octets}>"
     key = WHOLES[leaf.whole][1 if leaf.is_owned else 0]
     name = key if key == "String" else source.use(key)
+    if leaf.whole is Whole.OBJECT_IDENTIFIER:
+        return f"{name}<{leaf.octets}>" if leaf.is_owned else f"{name}<'a, {leaf.octets}>"
     return name + lifetime_of(properties_of(leaf).borrows)
 
 

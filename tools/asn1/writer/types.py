@@ -142,12 +142,11 @@ def logic_leaf(page: Page, leaf: Leaf) -> str:
         return page.logic("bool")
     if leaf.whole is Whole.MACHINE_INTEGER:
         return page.logic("signed" if (leaf.width or "u8").startswith("i") else "unsigned")
-    if leaf.whole is Whole.OBJECT_IDENTIFIER:
-        return f"{page.logic('ObjectIdentifier')} {leaf.octets}"
     if leaf.whole in CHARACTERS:
         kind = page.logic("CharacterString" if leaf.is_owned else "CharacterStringRef")
         return f"{kind} {CHARACTERS[leaf.whole]}"
-    return page.logic(WHOLES[leaf.whole][1 if leaf.is_owned else 0])
+    name = page.logic(WHOLES[leaf.whole][1 if leaf.is_owned else 0])
+    return f"{name} {leaf.octets}" if leaf.whole is Whole.OBJECT_IDENTIFIER else name
 
 
 def closed(text: str) -> str:

@@ -2,11 +2,11 @@
 -- Made by tools/asn1 from cms.asn1.
 use Rattle.std.specs.Prelude.{Option, option_map}
 use Rattle.der_cms.specs.declared.cms.encapsulated_content_info.EncapsulatedContentInfo.{EncapsulatedContentInfo}
-use Rattle.der_opaque.specs.declared.object_identifier.ObjectIdentifier.{ObjectIdentifier}
+use Rattle.der_opaque.specs.declared.object_identifier_ref.ObjectIdentifierRef.{ObjectIdentifierRef}
 use Rattle.der_opaque.specs.declared.octet_string_ref.OctetStringRef.{OctetStringRef}
 
 -- eContentType ContentType
-abbrev pub e_content_type : EncapsulatedContentInfo → ObjectIdentifier 39
+abbrev pub e_content_type : EncapsulatedContentInfo → ObjectIdentifierRef 39
 e_content_type v = v.fields.list.first
 
 -- eContent [0] EXPLICIT OCTET STRING OPTIONAL

@@ -9,18 +9,18 @@ ghost use Rattle.der_modules.specs.Asn1.{parse_of};
 use crate::cms::signed_attributes::SignedAttributes;
 use crate::cms::signer_info::SignerInfo;
 use der_elem::Form;
-use der_opaque::{ObjectIdentifier, OctetStringRef};
+use der_opaque::{ObjectIdentifierRef, OctetStringRef};
 use der_pkix::certificate::Time;
 use der_pkix::name::AttributeTypeAndValue;
 
 /// ```text
 /// ContentType ::= OBJECT IDENTIFIER
 /// ```
-pub type ContentType = ObjectIdentifier<39>;
+pub type ContentType<'a> = ObjectIdentifierRef<'a, 39>;
 
 /// What is read as `ContentType` is what the page of the grammar says.
-pub fn grammar_of_content_type()
-    ensures { ⟦<ContentType as Form>⟧.parse ≡ parse_of content_type }
+pub fn grammar_of_content_type<'a>()
+    ensures { ⟦<ContentType<'a> as Form>⟧.parse ≡ parse_of content_type }
 {}
 
 /// ```text

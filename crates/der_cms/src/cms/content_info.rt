@@ -12,7 +12,7 @@ ghost use Rattle.der_modules.specs.Asn1.{context, explicit_encoding, joined, par
 ghost use Rattle.der_modules.specs.MemberLaws.{member_equality, no_equality, one_tag, one_tag_equality, own_tags, tagged_starts};
 ghost use Rattle.der_opaque.specs.contracts.any_ref.AnyRefEncodingEq.TheImpl.Laws as anyref_encoding_eq;
 ghost use Rattle.der_opaque.specs.contracts.any_ref.AnyRefTagged.TheImpl.Laws as anyref_tagged;
-ghost use Rattle.der_opaque.specs.contracts.object_identifier.ObjectIdentifierContentsEq.TheImpl.Laws as objectidentifier_contents_eq;
+ghost use Rattle.der_opaque.specs.contracts.object_identifier_ref.ObjectIdentifierRefContentsEq.TheImpl.Laws as objectidentifierref_contents_eq;
 
 use crate::cms::aliases::ContentType;
 use der_elem::{
@@ -22,14 +22,14 @@ use der_elem::{
 use der_fields::{
     DecodeFields, EncodeFields, End, Explicit, ExplicitTag, Field, FieldList, Fields2, FieldsOrd,
 };
-use der_opaque::{AnyRef, ObjectIdentifier};
+use der_opaque::{AnyRef, ObjectIdentifierRef};
 use der_tlv::{BackWriter, Error, Header, Length, Source, Writer};
 use std::alloc::Global;
 use std::cmp::Ordering;
 use std::fmt;
 
 /// The list of the fields.
-type Fields<'a> = Fields2<ContentType, Explicit<AnyRef<'a>, 0>>;
+type Fields<'a> = Fields2<ContentType<'a>, Explicit<AnyRef<'a>, 0>>;
 
 /// ```text
 /// ContentInfo ::= SEQUENCE {
@@ -47,8 +47,8 @@ impl<'a> ContentInfo<'a> {
     ghost use Rattle.der_cms.specs.Cms.ContentInfo as content_info_fields;
 
     /// A value of these fields.
-    pub fn new(content_type: ContentType, content: AnyRef<'a>) -> ContentInfo<'a>
-        ensures content_type { content_info_fields.content_type result ≡ content_type }
+    pub fn new(content_type: ContentType<'a>, content: AnyRef<'a>) -> ContentInfo<'a>
+        ensures content_type { content_info_fields.content_type result ≡ content_type.entry }
         ensures content { content_info_fields.content result ≡ content.entry }
     {
         let first = Explicit {
@@ -65,10 +65,10 @@ impl<'a> ContentInfo<'a> {
     }
 
     /// `contentType`, `ContentType`.
-    pub fn content_type(&self) -> ContentType
-        ensures { result ≡ content_info_fields.content_type self.now }
+    pub fn content_type(&self) -> &ContentType<'a>
+        ensures { result.now ≡ content_info_fields.content_type self.now }
     {
-        self.fields.list.first
+        &self.fields.list.first
     }
 
     /// `content`, `[0] EXPLICIT ANY DEFINED BY contentType`.
@@ -82,7 +82,7 @@ impl<'a> ContentInfo<'a> {
 impl<'a> fmt::Debug for ContentInfo<'a> {
     fn fmt<W: fmt::Write>(&self, f: &mut fmt::Formatter<W>) -> fmt::Result {
         f.debug_struct("ContentInfo")
-            .field("content_type", &self.content_type())
+            .field("content_type", self.content_type())
             .field("content", self.content())
             .finish()
     }
@@ -140,10 +140,10 @@ impl<'a> ValueOrd for ContentInfo<'a> {
 }
 
 impl<'a> ContentsEq for ContentInfo<'a> {
-    ghost contents_eq = { λ v w. (member_equality ⟦<ContentType as Form>⟧
-        (tagged_starts ⟦<ContentType as Form>⟧ (one_tag ⟦<ObjectIdentifierTag as TagMarker>⟧.TAG ⟦<ObjectIdentifier<39> as FormValue>⟧.value.contents))
-        ⟦<ContentType as PartialEq>⟧.eq
-        (one_tag_equality ⟦<ObjectIdentifierTag as TagMarker>⟧.TAG ⟦<ObjectIdentifier<39> as FormValue>⟧.value.contents ⟦<ObjectIdentifier<39> as FormValue>⟧.value.comparable ⟦<ObjectIdentifier<39> as PartialEq>⟧.eq (objectidentifier_contents_eq.contents_eq-law 39 (record { fits = lit< tt })))
+    ghost contents_eq = { λ v w. (member_equality ⟦<ContentType<'a> as Form>⟧
+        (tagged_starts ⟦<ContentType<'a> as Form>⟧ (one_tag ⟦<ObjectIdentifierTag as TagMarker>⟧.TAG ⟦<ObjectIdentifierRef<'a, 39> as FormValue>⟧.value.contents))
+        ⟦<ContentType<'a> as PartialEq>⟧.eq
+        (one_tag_equality ⟦<ObjectIdentifierTag as TagMarker>⟧.TAG ⟦<ObjectIdentifierRef<'a, 39> as FormValue>⟧.value.contents ⟦<ObjectIdentifierRef<'a, 39> as FormValue>⟧.value.comparable ⟦<ObjectIdentifierRef<'a, 39> as PartialEq>⟧.eq (objectidentifierref_contents_eq.contents_eq-law 39 (record { fits = lit< tt })))
         (member_equality ⟦<Explicit<AnyRef<'a>, 0> as Form>⟧
         (tagged_starts ⟦<Explicit<AnyRef<'a>, 0> as Form>⟧ (one_tag ⟦<ExplicitTag<0> as TagMarker>⟧.TAG ⟦<Explicit<AnyRef<'a>, 0> as FormValue>⟧.value.contents))
         ⟦<Explicit<AnyRef<'a>, 0> as PartialEq>⟧.eq
@@ -165,7 +165,7 @@ pub fn grammar_of_content_info<'a>()
 /// The contents octets of `ContentInfo` are the encodings of its fields, one after another.
 pub fn octets_of_content_info<'a>()
     ensures { (v : ContentInfo) → ⟦<ContentInfo<'a> as FormValue>⟧.value.contents v ≡ joined (
-        (⟦<ContentType as Form>⟧.encoding (content_info_fields.content_type v))
+        (⟦<ContentType<'a> as Form>⟧.encoding (content_info_fields.content_type v))
         ∷ (explicit_encoding context 0 (⟦<AnyRef<'a> as Form>⟧.encoding (content_info_fields.content v)))
         ∷ []) }
 {}

@@ -10,7 +10,7 @@ ghost use Rattle.der_cms.specs.declared.cms.encapsulated_content_info.Encapsulat
 ghost use Rattle.der_elem.specs.FormatMakers.{mapped_format};
 ghost use Rattle.der_modules.specs.Asn1.{context, explicit_encoding, joined, optional, parse_of};
 ghost use Rattle.der_modules.specs.MemberLaws.{member_equality, no_equality, one_tag, one_tag_equality, optional_equality, optional_starts, tagged_starts};
-ghost use Rattle.der_opaque.specs.contracts.object_identifier.ObjectIdentifierContentsEq.TheImpl.Laws as objectidentifier_contents_eq;
+ghost use Rattle.der_opaque.specs.contracts.object_identifier_ref.ObjectIdentifierRefContentsEq.TheImpl.Laws as objectidentifierref_contents_eq;
 ghost use Rattle.der_opaque.specs.contracts.octet_string_ref.OctetStringRefContentsEq.TheImpl.Laws as octetstringref_contents_eq;
 
 use crate::cms::aliases::ContentType;
@@ -21,14 +21,14 @@ use der_elem::{
 use der_fields::{
     DecodeFields, EncodeFields, End, Explicit, ExplicitTag, Field, FieldList, Fields2, FieldsOrd,
 };
-use der_opaque::{ObjectIdentifier, OctetStringRef};
+use der_opaque::{ObjectIdentifierRef, OctetStringRef};
 use der_tlv::{BackWriter, Error, Header, Length, Source, Writer};
 use std::alloc::Global;
 use std::cmp::Ordering;
 use std::fmt;
 
 /// The list of the fields.
-type Fields<'a> = Fields2<ContentType, Option<Explicit<OctetStringRef<'a>, 0>>>;
+type Fields<'a> = Fields2<ContentType<'a>, Option<Explicit<OctetStringRef<'a>, 0>>>;
 
 /// ```text
 /// EncapsulatedContentInfo ::= SEQUENCE {
@@ -48,10 +48,10 @@ impl<'a> EncapsulatedContentInfo<'a> {
 
     /// A value of these fields.
     pub fn new(
-        e_content_type: ContentType,
+        e_content_type: ContentType<'a>,
         e_content: Option<OctetStringRef<'a>>,
     ) -> EncapsulatedContentInfo<'a>
-        ensures e_content_type { encapsulated_content_info_fields.e_content_type result ≡ e_content_type }
+        ensures e_content_type { encapsulated_content_info_fields.e_content_type result ≡ e_content_type.entry }
         ensures e_content { encapsulated_content_info_fields.e_content result ≡ e_content.entry }
     {
         let first = match e_content {
@@ -68,10 +68,10 @@ impl<'a> EncapsulatedContentInfo<'a> {
     }
 
     /// `eContentType`, `ContentType`.
-    pub fn e_content_type(&self) -> ContentType
-        ensures { result ≡ encapsulated_content_info_fields.e_content_type self.now }
+    pub fn e_content_type(&self) -> &ContentType<'a>
+        ensures { result.now ≡ encapsulated_content_info_fields.e_content_type self.now }
     {
-        self.fields.list.first
+        &self.fields.list.first
     }
 
     /// `eContent`, `[0] EXPLICIT OCTET STRING OPTIONAL`.
@@ -88,7 +88,7 @@ impl<'a> EncapsulatedContentInfo<'a> {
 impl<'a> fmt::Debug for EncapsulatedContentInfo<'a> {
     fn fmt<W: fmt::Write>(&self, f: &mut fmt::Formatter<W>) -> fmt::Result {
         f.debug_struct("EncapsulatedContentInfo")
-            .field("e_content_type", &self.e_content_type())
+            .field("e_content_type", self.e_content_type())
             .field("e_content", &self.e_content())
             .finish()
     }
@@ -146,10 +146,10 @@ impl<'a> ValueOrd for EncapsulatedContentInfo<'a> {
 }
 
 impl<'a> ContentsEq for EncapsulatedContentInfo<'a> {
-    ghost contents_eq = { λ v w. (member_equality ⟦<ContentType as Form>⟧
-        (tagged_starts ⟦<ContentType as Form>⟧ (one_tag ⟦<ObjectIdentifierTag as TagMarker>⟧.TAG ⟦<ObjectIdentifier<39> as FormValue>⟧.value.contents))
-        ⟦<ContentType as PartialEq>⟧.eq
-        (one_tag_equality ⟦<ObjectIdentifierTag as TagMarker>⟧.TAG ⟦<ObjectIdentifier<39> as FormValue>⟧.value.contents ⟦<ObjectIdentifier<39> as FormValue>⟧.value.comparable ⟦<ObjectIdentifier<39> as PartialEq>⟧.eq (objectidentifier_contents_eq.contents_eq-law 39 (record { fits = lit< tt })))
+    ghost contents_eq = { λ v w. (member_equality ⟦<ContentType<'a> as Form>⟧
+        (tagged_starts ⟦<ContentType<'a> as Form>⟧ (one_tag ⟦<ObjectIdentifierTag as TagMarker>⟧.TAG ⟦<ObjectIdentifierRef<'a, 39> as FormValue>⟧.value.contents))
+        ⟦<ContentType<'a> as PartialEq>⟧.eq
+        (one_tag_equality ⟦<ObjectIdentifierTag as TagMarker>⟧.TAG ⟦<ObjectIdentifierRef<'a, 39> as FormValue>⟧.value.contents ⟦<ObjectIdentifierRef<'a, 39> as FormValue>⟧.value.comparable ⟦<ObjectIdentifierRef<'a, 39> as PartialEq>⟧.eq (objectidentifierref_contents_eq.contents_eq-law 39 (record { fits = lit< tt })))
         (member_equality ⟦<Option<Explicit<OctetStringRef<'a>, 0>> as Form>⟧
         (optional_starts ⟦<Explicit<OctetStringRef<'a>, 0> as Form>⟧ (one_tag ⟦<ExplicitTag<0> as TagMarker>⟧.TAG ⟦<Explicit<OctetStringRef<'a>, 0> as FormValue>⟧.value.contents))
         ⟦<Option<Explicit<OctetStringRef<'a>, 0>> as PartialEq>⟧.eq
@@ -173,7 +173,7 @@ pub fn grammar_of_encapsulated_content_info<'a>()
 #[tactic(auto, using(der_modules::specs::Asn1::optional_of))]
 pub fn octets_of_encapsulated_content_info<'a>()
     ensures { (v : EncapsulatedContentInfo) → ⟦<EncapsulatedContentInfo<'a> as FormValue>⟧.value.contents v ≡ joined (
-        (⟦<ContentType as Form>⟧.encoding (encapsulated_content_info_fields.e_content_type v))
+        (⟦<ContentType<'a> as Form>⟧.encoding (encapsulated_content_info_fields.e_content_type v))
         ∷ optional (λ x. (explicit_encoding context 0 (⟦<OctetStringRef<'a> as Form>⟧.encoding x))) (encapsulated_content_info_fields.e_content v)
         ∷ []) }
 {}

@@ -10,7 +10,7 @@ ghost use Rattle.der_cms.specs.declared.cms.encrypted_content_info.EncryptedCont
 ghost use Rattle.der_elem.specs.FormatMakers.{mapped_format};
 ghost use Rattle.der_modules.specs.Asn1.{context, implicit_encoding, joined, optional, parse_of};
 ghost use Rattle.der_modules.specs.MemberLaws.{member_equality, no_equality, one_tag, one_tag_equality, optional_equality, optional_starts, tagged_starts};
-ghost use Rattle.der_opaque.specs.contracts.object_identifier.ObjectIdentifierContentsEq.TheImpl.Laws as objectidentifier_contents_eq;
+ghost use Rattle.der_opaque.specs.contracts.object_identifier_ref.ObjectIdentifierRefContentsEq.TheImpl.Laws as objectidentifierref_contents_eq;
 ghost use Rattle.der_opaque.specs.contracts.octet_string_ref.OctetStringRefContentsEq.TheImpl.Laws as octetstringref_contents_eq;
 ghost use Rattle.der_pkix.specs.contracts.algorithm_identifier.AlgorithmIdentifierContentsEq.TheImpl.Laws as algorithm_identifier_contents_eq;
 
@@ -23,7 +23,7 @@ use der_fields::{
     DecodeFields, EncodeFields, End, Field, FieldList, Fields3, FieldsOrd, Implicit, ImplicitTag,
 };
 use der_modules::copy_of;
-use der_opaque::{ObjectIdentifier, OctetStringRef};
+use der_opaque::{ObjectIdentifierRef, OctetStringRef};
 use der_pkix::AlgorithmIdentifier;
 use der_tlv::{BackWriter, Error, Header, Length, Source, Writer};
 use std::alloc::Global;
@@ -32,7 +32,7 @@ use std::fmt;
 
 /// The list of the fields.
 type Fields<'a> = Fields3<
-    ContentType,
+    ContentType<'a>,
     AlgorithmIdentifier<'a>,
     Option<Implicit<OctetStringRef<'a>, 0>>,
 >;
@@ -56,11 +56,11 @@ impl<'a> EncryptedContentInfo<'a> {
 
     /// A value of these fields.
     pub fn new(
-        content_type: ContentType,
+        content_type: ContentType<'a>,
         content_encryption_algorithm: &AlgorithmIdentifier<'a>,
         encrypted_content: Option<OctetStringRef<'a>>,
     ) -> EncryptedContentInfo<'a>
-        ensures content_type { encrypted_content_info_fields.content_type result ≡ content_type }
+        ensures content_type { encrypted_content_info_fields.content_type result ≡ content_type.entry }
         ensures content_encryption_algorithm { encrypted_content_info_fields.content_encryption_algorithm result ≡ content_encryption_algorithm.now }
         ensures encrypted_content { encrypted_content_info_fields.encrypted_content result ≡ encrypted_content.entry }
     {
@@ -78,10 +78,10 @@ impl<'a> EncryptedContentInfo<'a> {
     }
 
     /// `contentType`, `ContentType`.
-    pub fn content_type(&self) -> ContentType
-        ensures { result ≡ encrypted_content_info_fields.content_type self.now }
+    pub fn content_type(&self) -> &ContentType<'a>
+        ensures { result.now ≡ encrypted_content_info_fields.content_type self.now }
     {
-        self.fields.list.first
+        &self.fields.list.first
     }
 
     /// `contentEncryptionAlgorithm`, `AlgorithmIdentifier`.
@@ -105,7 +105,7 @@ impl<'a> EncryptedContentInfo<'a> {
 impl<'a> fmt::Debug for EncryptedContentInfo<'a> {
     fn fmt<W: fmt::Write>(&self, f: &mut fmt::Formatter<W>) -> fmt::Result {
         f.debug_struct("EncryptedContentInfo")
-            .field("content_type", &self.content_type())
+            .field("content_type", self.content_type())
             .field(
                 "content_encryption_algorithm",
                 self.content_encryption_algorithm(),
@@ -167,10 +167,10 @@ impl<'a> ValueOrd for EncryptedContentInfo<'a> {
 }
 
 impl<'a> ContentsEq for EncryptedContentInfo<'a> {
-    ghost contents_eq = { λ v w. (member_equality ⟦<ContentType as Form>⟧
-        (tagged_starts ⟦<ContentType as Form>⟧ (one_tag ⟦<ObjectIdentifierTag as TagMarker>⟧.TAG ⟦<ObjectIdentifier<39> as FormValue>⟧.value.contents))
-        ⟦<ContentType as PartialEq>⟧.eq
-        (one_tag_equality ⟦<ObjectIdentifierTag as TagMarker>⟧.TAG ⟦<ObjectIdentifier<39> as FormValue>⟧.value.contents ⟦<ObjectIdentifier<39> as FormValue>⟧.value.comparable ⟦<ObjectIdentifier<39> as PartialEq>⟧.eq (objectidentifier_contents_eq.contents_eq-law 39 (record { fits = lit< tt })))
+    ghost contents_eq = { λ v w. (member_equality ⟦<ContentType<'a> as Form>⟧
+        (tagged_starts ⟦<ContentType<'a> as Form>⟧ (one_tag ⟦<ObjectIdentifierTag as TagMarker>⟧.TAG ⟦<ObjectIdentifierRef<'a, 39> as FormValue>⟧.value.contents))
+        ⟦<ContentType<'a> as PartialEq>⟧.eq
+        (one_tag_equality ⟦<ObjectIdentifierTag as TagMarker>⟧.TAG ⟦<ObjectIdentifierRef<'a, 39> as FormValue>⟧.value.contents ⟦<ObjectIdentifierRef<'a, 39> as FormValue>⟧.value.comparable ⟦<ObjectIdentifierRef<'a, 39> as PartialEq>⟧.eq (objectidentifierref_contents_eq.contents_eq-law 39 (record { fits = lit< tt })))
         (member_equality ⟦<AlgorithmIdentifier<'a> as Form>⟧
         (tagged_starts ⟦<AlgorithmIdentifier<'a> as Form>⟧ (one_tag ⟦<SequenceTag as TagMarker>⟧.TAG ⟦<AlgorithmIdentifier<'a> as FormValue>⟧.value.contents))
         ⟦<AlgorithmIdentifier<'a> as PartialEq>⟧.eq
@@ -194,7 +194,7 @@ pub fn grammar_of_encrypted_content_info<'a>()
 #[tactic(auto, using(der_modules::specs::Asn1::optional_of))]
 pub fn octets_of_encrypted_content_info<'a>()
     ensures { (v : EncryptedContentInfo) → ⟦<EncryptedContentInfo<'a> as FormValue>⟧.value.contents v ≡ joined (
-        (⟦<ContentType as Form>⟧.encoding (encrypted_content_info_fields.content_type v))
+        (⟦<ContentType<'a> as Form>⟧.encoding (encrypted_content_info_fields.content_type v))
         ∷ (⟦<AlgorithmIdentifier<'a> as Form>⟧.encoding (encrypted_content_info_fields.content_encryption_algorithm v))
         ∷ optional (λ x. (implicit_encoding context false 0 (⟦<OctetStringRef<'a> as FormValue>⟧.value.contents x))) (encrypted_content_info_fields.encrypted_content v)
         ∷ []) }

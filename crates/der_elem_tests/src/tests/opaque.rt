@@ -1,3 +1,4 @@
+mod borrowed_identifiers;
 mod builtin_types;
 mod conversions;
 mod real_values;
@@ -426,6 +427,7 @@ fn any_values_are_ordered_by_their_tags_first(rt: HostRuntime) -> Result<(), Fai
             Tag::Null,
             Tag::OctetString,
             Tag::OctetString,
+            Tag::ObjectIdentifier,
             Tag::ObjectIdentifier,
         ],
     );

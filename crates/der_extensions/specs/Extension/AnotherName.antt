@@ -2,10 +2,10 @@
 -- Made by tools/asn1 from extension.asn1.
 use Rattle.der_extensions.specs.declared.extension.another_name.AnotherName.{AnotherName}
 use Rattle.der_opaque.specs.declared.any_ref.AnyRef.{AnyRef}
-use Rattle.der_opaque.specs.declared.object_identifier.ObjectIdentifier.{ObjectIdentifier}
+use Rattle.der_opaque.specs.declared.object_identifier_ref.ObjectIdentifierRef.{ObjectIdentifierRef}
 
 -- type-id OBJECT IDENTIFIER
-abbrev pub type_id : AnotherName → ObjectIdentifier 39
+abbrev pub type_id : AnotherName → ObjectIdentifierRef 39
 type_id v = v.fields.list.first
 
 -- value [0] EXPLICIT ANY DEFINED BY type-id

@@ -2,7 +2,7 @@
 -- Made by tools/asn1 from extension.asn1.
 use Rattle.std.specs.Prelude.{List}
 use Rattle.der_extensions.specs.declared.extension.ext_key_usage_syntax.ExtKeyUsageSyntax.{ExtKeyUsageSyntax}
-use Rattle.der_opaque.specs.declared.object_identifier.ObjectIdentifier.{ObjectIdentifier}
+use Rattle.der_opaque.specs.declared.object_identifier_ref.ObjectIdentifierRef.{ObjectIdentifierRef}
 
-abbrev pub items_of : ExtKeyUsageSyntax → List (ObjectIdentifier 39)
+abbrev pub items_of : ExtKeyUsageSyntax → List (ObjectIdentifierRef 39)
 items_of v = v.items.items

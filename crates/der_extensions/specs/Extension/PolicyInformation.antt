@@ -4,10 +4,10 @@ use Rattle.std.specs.Prelude.{Option, Vec}
 use Rattle.std.specs.declared.alloc.Global.{Global}
 use Rattle.der_extensions.specs.declared.extension.policy_information.PolicyInformation.{PolicyInformation}
 use Rattle.der_extensions.specs.declared.extension.policy_qualifier_info.PolicyQualifierInfo.{PolicyQualifierInfo}
-use Rattle.der_opaque.specs.declared.object_identifier.ObjectIdentifier.{ObjectIdentifier}
+use Rattle.der_opaque.specs.declared.object_identifier_ref.ObjectIdentifierRef.{ObjectIdentifierRef}
 
 -- policyIdentifier CertPolicyId
-abbrev pub policy_identifier : PolicyInformation → ObjectIdentifier 39
+abbrev pub policy_identifier : PolicyInformation → ObjectIdentifierRef 39
 policy_identifier v = v.fields.list.first
 
 -- policyQualifiers SEQUENCE SIZE (1..MAX) OF PolicyQualifierInfo OPTIONAL

@@ -14,7 +14,7 @@ ghost use Rattle.der_extensions.specs.contracts.extension.general_name.GeneralNa
 ghost use Rattle.der_extensions.specs.declared.extension.access_description.AccessDescription.{AccessDescription};
 ghost use Rattle.der_modules.specs.Asn1.{joined, parse_of};
 ghost use Rattle.der_modules.specs.MemberLaws.{copies_of, held_copies, listed_copies, member_copies, member_equality, no_copies, no_equality, one_tag, one_tag_copies, one_tag_equality, own_tags, same_copies, tagged_starts};
-ghost use Rattle.der_opaque.specs.contracts.object_identifier.ObjectIdentifierContentsEq.TheImpl.Laws as objectidentifier_contents_eq;
+ghost use Rattle.der_opaque.specs.contracts.object_identifier_ref.ObjectIdentifierRefContentsEq.TheImpl.Laws as objectidentifierref_contents_eq;
 
 use crate::extension::general_name::GeneralName;
 use der_elem::{
@@ -25,14 +25,14 @@ use der_fields::{
     DecodeFields, DuplicateFields, EncodeFields, End, Field, FieldList, Fields2, FieldsOrd,
 };
 use der_modules::CopyLaws;
-use der_opaque::ObjectIdentifier;
+use der_opaque::ObjectIdentifierRef;
 use der_tlv::{BackWriter, Error, Header, Length, Source, Writer};
 use std::alloc::Global;
 use std::cmp::Ordering;
 use std::fmt;
 
 /// The list of the fields.
-type Fields<'a> = Fields2<ObjectIdentifier<39>, GeneralName<'a>>;
+type Fields<'a> = Fields2<ObjectIdentifierRef<'a, 39>, GeneralName<'a>>;
 
 /// ```text
 /// AccessDescription  ::=  SEQUENCE {
@@ -52,10 +52,10 @@ impl<'a> AccessDescription<'a> {
 
     /// A value of these fields.
     pub fn new(
-        access_method: ObjectIdentifier<39>,
+        access_method: ObjectIdentifierRef<'a, 39>,
         access_location: GeneralName<'a>,
     ) -> AccessDescription<'a>
-        ensures access_method { access_description_fields.access_method result ≡ access_method }
+        ensures access_method { access_description_fields.access_method result ≡ access_method.entry }
         ensures access_location { access_description_fields.access_location result ≡ access_location.entry }
     {
         let first = access_location;
@@ -67,7 +67,7 @@ impl<'a> AccessDescription<'a> {
     }
 
     /// The values of the fields, in their order.
-    pub fn into_parts(self) -> (ObjectIdentifier<39>, GeneralName<'a>)
+    pub fn into_parts(self) -> (ObjectIdentifierRef<'a, 39>, GeneralName<'a>)
         ensures access_method { access_description_fields.access_method self.entry ≡ result.0 }
         ensures access_location { access_description_fields.access_location self.entry ≡ result.1 }
     {
@@ -84,10 +84,10 @@ impl<'a> AccessDescription<'a> {
     }
 
     /// `accessMethod`, `OBJECT IDENTIFIER`.
-    pub fn access_method(&self) -> ObjectIdentifier<39>
-        ensures { result ≡ access_description_fields.access_method self.now }
+    pub fn access_method(&self) -> &ObjectIdentifierRef<'a, 39>
+        ensures { result.now ≡ access_description_fields.access_method self.now }
     {
-        self.fields.list.first
+        &self.fields.list.first
     }
 
     /// `accessLocation`, `GeneralName`.
@@ -101,7 +101,7 @@ impl<'a> AccessDescription<'a> {
 impl<'a> fmt::Debug for AccessDescription<'a> {
     fn fmt<W: fmt::Write>(&self, f: &mut fmt::Formatter<W>) -> fmt::Result {
         f.debug_struct("AccessDescription")
-            .field("access_method", &self.access_method())
+            .field("access_method", self.access_method())
             .field("access_location", self.access_location())
             .finish()
     }
@@ -159,10 +159,10 @@ impl<'a> ValueOrd for AccessDescription<'a> {
 }
 
 impl<'a> ContentsEq for AccessDescription<'a> {
-    ghost contents_eq = { λ v w. (member_equality ⟦<ObjectIdentifier<39> as Form>⟧
-        (tagged_starts ⟦<ObjectIdentifier<39> as Form>⟧ (one_tag ⟦<ObjectIdentifierTag as TagMarker>⟧.TAG ⟦<ObjectIdentifier<39> as FormValue>⟧.value.contents))
-        ⟦<ObjectIdentifier<39> as PartialEq>⟧.eq
-        (one_tag_equality ⟦<ObjectIdentifierTag as TagMarker>⟧.TAG ⟦<ObjectIdentifier<39> as FormValue>⟧.value.contents ⟦<ObjectIdentifier<39> as FormValue>⟧.value.comparable ⟦<ObjectIdentifier<39> as PartialEq>⟧.eq (objectidentifier_contents_eq.contents_eq-law 39 (record { fits = lit< tt })))
+    ghost contents_eq = { λ v w. (member_equality ⟦<ObjectIdentifierRef<'a, 39> as Form>⟧
+        (tagged_starts ⟦<ObjectIdentifierRef<'a, 39> as Form>⟧ (one_tag ⟦<ObjectIdentifierTag as TagMarker>⟧.TAG ⟦<ObjectIdentifierRef<'a, 39> as FormValue>⟧.value.contents))
+        ⟦<ObjectIdentifierRef<'a, 39> as PartialEq>⟧.eq
+        (one_tag_equality ⟦<ObjectIdentifierTag as TagMarker>⟧.TAG ⟦<ObjectIdentifierRef<'a, 39> as FormValue>⟧.value.contents ⟦<ObjectIdentifierRef<'a, 39> as FormValue>⟧.value.comparable ⟦<ObjectIdentifierRef<'a, 39> as PartialEq>⟧.eq (objectidentifierref_contents_eq.contents_eq-law 39 (record { fits = lit< tt })))
         (member_equality ⟦<GeneralName<'a> as Form>⟧
         (tagged_starts ⟦<GeneralName<'a> as Form>⟧ (own_tags ⟦<GeneralName<'a> as Form>⟧.tags ⟦<GeneralName<'a> as Form>⟧.first_tag_of ⟦<GeneralName<'a> as Form>⟧.encoding ⟦<GeneralName<'a> as Tagged>⟧.tag_of ⟦<GeneralName<'a> as FormValue>⟧.value.contents general_name_tagged.encoding_is-law general_name_tagged.own_tag-law general_name_tagged.first_tag_is-law))
         ⟦<GeneralName<'a> as PartialEq>⟧.eq
@@ -172,9 +172,9 @@ impl<'a> ContentsEq for AccessDescription<'a> {
 
 impl<'a> CopyLaws for AccessDescription<'a> {
     ghost copies = { copies_of (held_copies (λ v. v.fields.list)
-        (listed_copies (member_copies ⟦<ObjectIdentifier<39> as Form>⟧
-        (tagged_starts ⟦<ObjectIdentifier<39> as Form>⟧ (one_tag ⟦<ObjectIdentifierTag as TagMarker>⟧.TAG ⟦<ObjectIdentifier<39> as FormValue>⟧.value.contents))
-        (one_tag_copies ⟦<ObjectIdentifierTag as TagMarker>⟧.TAG (same_copies ⟦<ObjectIdentifier<39> as FormValue>⟧.value.contents ⟦<ObjectIdentifier<39> as FormValue>⟧.value.comparable ⟦<ObjectIdentifier<39> as FormValue>⟧.value.re_reads ⟦<ObjectIdentifier<39> as PartialEq>⟧.eq (λ v. ((objectidentifier_contents_eq.contents_eq-law 39 (record { fits = lit< tt })) v v tt).1 refl)))
+        (listed_copies (member_copies ⟦<ObjectIdentifierRef<'a, 39> as Form>⟧
+        (tagged_starts ⟦<ObjectIdentifierRef<'a, 39> as Form>⟧ (one_tag ⟦<ObjectIdentifierTag as TagMarker>⟧.TAG ⟦<ObjectIdentifierRef<'a, 39> as FormValue>⟧.value.contents))
+        (one_tag_copies ⟦<ObjectIdentifierTag as TagMarker>⟧.TAG (same_copies ⟦<ObjectIdentifierRef<'a, 39> as FormValue>⟧.value.contents ⟦<ObjectIdentifierRef<'a, 39> as FormValue>⟧.value.comparable ⟦<ObjectIdentifierRef<'a, 39> as FormValue>⟧.value.re_reads ⟦<ObjectIdentifierRef<'a, 39> as PartialEq>⟧.eq (λ v. ((objectidentifierref_contents_eq.contents_eq-law 39 (record { fits = lit< tt })) v v tt).1 refl)))
         (member_copies ⟦<GeneralName<'a> as Form>⟧
         (tagged_starts ⟦<GeneralName<'a> as Form>⟧ (own_tags ⟦<GeneralName<'a> as Form>⟧.tags ⟦<GeneralName<'a> as Form>⟧.first_tag_of ⟦<GeneralName<'a> as Form>⟧.encoding ⟦<GeneralName<'a> as Tagged>⟧.tag_of ⟦<GeneralName<'a> as FormValue>⟧.value.contents general_name_tagged.encoding_is-law general_name_tagged.own_tag-law general_name_tagged.first_tag_is-law))
         (record { octets_are = general_name_duplicate.copy_encoding-law; comparable_are = general_name_duplicate.copy_comparable-law; re_reads_are = general_name_duplicate.copy_re_reads-law; equal_are = general_name_duplicate_is_equal.copy_is_equal-law })
@@ -212,7 +212,7 @@ pub fn grammar_of_access_description<'a>()
 /// The contents octets of `AccessDescription` are the encodings of its fields, one after another.
 pub fn octets_of_access_description<'a>()
     ensures { (v : AccessDescription) → ⟦<AccessDescription<'a> as FormValue>⟧.value.contents v ≡ joined (
-        (⟦<ObjectIdentifier<39> as Form>⟧.encoding (access_description_fields.access_method v))
+        (⟦<ObjectIdentifierRef<'a, 39> as Form>⟧.encoding (access_description_fields.access_method v))
         ∷ (⟦<GeneralName<'a> as Form>⟧.encoding (access_description_fields.access_location v))
         ∷ []) }
 {}

@@ -12,7 +12,7 @@ use der_ascii::Ia5StringRef;
 use der_bits::NamedBitsRef;
 use der_elem::Form;
 use der_numbers::UintRef;
-use der_opaque::{ObjectIdentifier, OctetStringRef};
+use der_opaque::{ObjectIdentifierRef, OctetStringRef};
 use der_time::GeneralizedTime;
 
 /// ```text
@@ -85,11 +85,11 @@ pub const KEY_USAGE_DECIPHER_ONLY: usize = 8;
 /// ```text
 /// CertPolicyId ::= OBJECT IDENTIFIER
 /// ```
-pub type CertPolicyId = ObjectIdentifier<39>;
+pub type CertPolicyId<'a> = ObjectIdentifierRef<'a, 39>;
 
 /// What is read as `CertPolicyId` is what the page of the grammar says.
-pub fn grammar_of_cert_policy_id()
-    ensures { ⟦<CertPolicyId as Form>⟧.parse ≡ parse_of cert_policy_id }
+pub fn grammar_of_cert_policy_id<'a>()
+    ensures { ⟦<CertPolicyId<'a> as Form>⟧.parse ≡ parse_of cert_policy_id }
 {}
 
 /// ```text
@@ -97,11 +97,11 @@ pub fn grammar_of_cert_policy_id()
 /// ```
 ///
 /// Not checked: which values are allowed is not checked.
-pub type PolicyQualifierId = ObjectIdentifier<39>;
+pub type PolicyQualifierId<'a> = ObjectIdentifierRef<'a, 39>;
 
 /// What is read as `PolicyQualifierId` is what the page of the grammar says.
-pub fn grammar_of_policy_qualifier_id()
-    ensures { ⟦<PolicyQualifierId as Form>⟧.parse ≡ parse_of policy_qualifier_id }
+pub fn grammar_of_policy_qualifier_id<'a>()
+    ensures { ⟦<PolicyQualifierId<'a> as Form>⟧.parse ≡ parse_of policy_qualifier_id }
 {}
 
 /// ```text
@@ -205,11 +205,11 @@ pub const REASON_FLAGS_AA_COMPROMISE: usize = 8;
 /// ```text
 /// KeyPurposeId ::= OBJECT IDENTIFIER
 /// ```
-pub type KeyPurposeId = ObjectIdentifier<39>;
+pub type KeyPurposeId<'a> = ObjectIdentifierRef<'a, 39>;
 
 /// What is read as `KeyPurposeId` is what the page of the grammar says.
-pub fn grammar_of_key_purpose_id()
-    ensures { ⟦<KeyPurposeId as Form>⟧.parse ≡ parse_of key_purpose_id }
+pub fn grammar_of_key_purpose_id<'a>()
+    ensures { ⟦<KeyPurposeId<'a> as Form>⟧.parse ≡ parse_of key_purpose_id }
 {}
 
 /// ```text
@@ -265,11 +265,11 @@ pub fn grammar_of_certificate_issuer<'a>()
 /// ```text
 /// HoldInstructionCode ::= OBJECT IDENTIFIER
 /// ```
-pub type HoldInstructionCode = ObjectIdentifier<39>;
+pub type HoldInstructionCode<'a> = ObjectIdentifierRef<'a, 39>;
 
 /// What is read as `HoldInstructionCode` is what the page of the grammar says.
-pub fn grammar_of_hold_instruction_code()
-    ensures { ⟦<HoldInstructionCode as Form>⟧.parse ≡ parse_of hold_instruction_code }
+pub fn grammar_of_hold_instruction_code<'a>()
+    ensures { ⟦<HoldInstructionCode<'a> as Form>⟧.parse ≡ parse_of hold_instruction_code }
 {}
 
 /// ```text

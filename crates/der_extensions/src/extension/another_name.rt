@@ -12,7 +12,7 @@ ghost use Rattle.der_modules.specs.Asn1.{context, explicit_encoding, joined, par
 ghost use Rattle.der_modules.specs.MemberLaws.{member_equality, no_equality, one_tag, one_tag_equality, own_tags, tagged_starts};
 ghost use Rattle.der_opaque.specs.contracts.any_ref.AnyRefEncodingEq.TheImpl.Laws as anyref_encoding_eq;
 ghost use Rattle.der_opaque.specs.contracts.any_ref.AnyRefTagged.TheImpl.Laws as anyref_tagged;
-ghost use Rattle.der_opaque.specs.contracts.object_identifier.ObjectIdentifierContentsEq.TheImpl.Laws as objectidentifier_contents_eq;
+ghost use Rattle.der_opaque.specs.contracts.object_identifier_ref.ObjectIdentifierRefContentsEq.TheImpl.Laws as objectidentifierref_contents_eq;
 
 use der_elem::{
     ContentsEq, CopyIsDuplicate, DecodeValue, EncodeValue, Form, FormValue, ObjectIdentifierTag,
@@ -21,14 +21,14 @@ use der_elem::{
 use der_fields::{
     DecodeFields, EncodeFields, End, Explicit, ExplicitTag, Field, FieldList, Fields2, FieldsOrd,
 };
-use der_opaque::{AnyRef, ObjectIdentifier};
+use der_opaque::{AnyRef, ObjectIdentifierRef};
 use der_tlv::{BackWriter, Error, Header, Length, Source, Writer};
 use std::alloc::Global;
 use std::cmp::Ordering;
 use std::fmt;
 
 /// The list of the fields.
-type Fields<'a> = Fields2<ObjectIdentifier<39>, Explicit<AnyRef<'a>, 0>>;
+type Fields<'a> = Fields2<ObjectIdentifierRef<'a, 39>, Explicit<AnyRef<'a>, 0>>;
 
 /// ```text
 /// AnotherName ::= SEQUENCE {
@@ -46,8 +46,8 @@ impl<'a> AnotherName<'a> {
     ghost use Rattle.der_extensions.specs.Extension.AnotherName as another_name_fields;
 
     /// A value of these fields.
-    pub fn new(type_id: ObjectIdentifier<39>, value: AnyRef<'a>) -> AnotherName<'a>
-        ensures type_id { another_name_fields.type_id result ≡ type_id }
+    pub fn new(type_id: ObjectIdentifierRef<'a, 39>, value: AnyRef<'a>) -> AnotherName<'a>
+        ensures type_id { another_name_fields.type_id result ≡ type_id.entry }
         ensures value { another_name_fields.value result ≡ value.entry }
     {
         let first = Explicit {
@@ -64,10 +64,10 @@ impl<'a> AnotherName<'a> {
     }
 
     /// `type-id`, `OBJECT IDENTIFIER`.
-    pub fn type_id(&self) -> ObjectIdentifier<39>
-        ensures { result ≡ another_name_fields.type_id self.now }
+    pub fn type_id(&self) -> &ObjectIdentifierRef<'a, 39>
+        ensures { result.now ≡ another_name_fields.type_id self.now }
     {
-        self.fields.list.first
+        &self.fields.list.first
     }
 
     /// `value`, `[0] EXPLICIT ANY DEFINED BY type-id`.
@@ -81,7 +81,7 @@ impl<'a> AnotherName<'a> {
 impl<'a> fmt::Debug for AnotherName<'a> {
     fn fmt<W: fmt::Write>(&self, f: &mut fmt::Formatter<W>) -> fmt::Result {
         f.debug_struct("AnotherName")
-            .field("type_id", &self.type_id())
+            .field("type_id", self.type_id())
             .field("value", self.value())
             .finish()
     }
@@ -139,10 +139,10 @@ impl<'a> ValueOrd for AnotherName<'a> {
 }
 
 impl<'a> ContentsEq for AnotherName<'a> {
-    ghost contents_eq = { λ v w. (member_equality ⟦<ObjectIdentifier<39> as Form>⟧
-        (tagged_starts ⟦<ObjectIdentifier<39> as Form>⟧ (one_tag ⟦<ObjectIdentifierTag as TagMarker>⟧.TAG ⟦<ObjectIdentifier<39> as FormValue>⟧.value.contents))
-        ⟦<ObjectIdentifier<39> as PartialEq>⟧.eq
-        (one_tag_equality ⟦<ObjectIdentifierTag as TagMarker>⟧.TAG ⟦<ObjectIdentifier<39> as FormValue>⟧.value.contents ⟦<ObjectIdentifier<39> as FormValue>⟧.value.comparable ⟦<ObjectIdentifier<39> as PartialEq>⟧.eq (objectidentifier_contents_eq.contents_eq-law 39 (record { fits = lit< tt })))
+    ghost contents_eq = { λ v w. (member_equality ⟦<ObjectIdentifierRef<'a, 39> as Form>⟧
+        (tagged_starts ⟦<ObjectIdentifierRef<'a, 39> as Form>⟧ (one_tag ⟦<ObjectIdentifierTag as TagMarker>⟧.TAG ⟦<ObjectIdentifierRef<'a, 39> as FormValue>⟧.value.contents))
+        ⟦<ObjectIdentifierRef<'a, 39> as PartialEq>⟧.eq
+        (one_tag_equality ⟦<ObjectIdentifierTag as TagMarker>⟧.TAG ⟦<ObjectIdentifierRef<'a, 39> as FormValue>⟧.value.contents ⟦<ObjectIdentifierRef<'a, 39> as FormValue>⟧.value.comparable ⟦<ObjectIdentifierRef<'a, 39> as PartialEq>⟧.eq (objectidentifierref_contents_eq.contents_eq-law 39 (record { fits = lit< tt })))
         (member_equality ⟦<Explicit<AnyRef<'a>, 0> as Form>⟧
         (tagged_starts ⟦<Explicit<AnyRef<'a>, 0> as Form>⟧ (one_tag ⟦<ExplicitTag<0> as TagMarker>⟧.TAG ⟦<Explicit<AnyRef<'a>, 0> as FormValue>⟧.value.contents))
         ⟦<Explicit<AnyRef<'a>, 0> as PartialEq>⟧.eq
@@ -164,7 +164,7 @@ pub fn grammar_of_another_name<'a>()
 /// The contents octets of `AnotherName` are the encodings of its fields, one after another.
 pub fn octets_of_another_name<'a>()
     ensures { (v : AnotherName) → ⟦<AnotherName<'a> as FormValue>⟧.value.contents v ≡ joined (
-        (⟦<ObjectIdentifier<39> as Form>⟧.encoding (another_name_fields.type_id v))
+        (⟦<ObjectIdentifierRef<'a, 39> as Form>⟧.encoding (another_name_fields.type_id v))
         ∷ (explicit_encoding context 0 (⟦<AnyRef<'a> as Form>⟧.encoding (another_name_fields.value v)))
         ∷ []) }
 {}

@@ -12,7 +12,7 @@ ghost use Rattle.der_extensions.specs.contracts.extension.policy_qualifier_info.
 ghost use Rattle.der_extensions.specs.declared.extension.policy_information.PolicyInformation.{PolicyInformation};
 ghost use Rattle.der_modules.specs.Asn1.{joined, optional, parse_of};
 ghost use Rattle.der_modules.specs.MemberLaws.{copies_of, held_copies, items_copies, items_equality, listed_copies, member_copies, member_equality, no_copies, no_equality, one_tag, one_tag_copies, one_tag_equality, optional_copies, optional_equality, optional_starts, same_copies, tagged_starts};
-ghost use Rattle.der_opaque.specs.contracts.object_identifier.ObjectIdentifierContentsEq.TheImpl.Laws as objectidentifier_contents_eq;
+ghost use Rattle.der_opaque.specs.contracts.object_identifier_ref.ObjectIdentifierRefContentsEq.TheImpl.Laws as objectidentifierref_contents_eq;
 
 use crate::extension::aliases::CertPolicyId;
 use crate::extension::policy_qualifier_info::PolicyQualifierInfo;
@@ -25,14 +25,14 @@ use der_fields::{
 };
 use der_modules::CopyLaws;
 use der_nest::NonEmpty;
-use der_opaque::ObjectIdentifier;
+use der_opaque::ObjectIdentifierRef;
 use der_tlv::{BackWriter, Error, Header, Length, Source, Writer};
 use std::alloc::Global;
 use std::cmp::Ordering;
 use std::fmt;
 
 /// The list of the fields.
-type Fields<'a> = Fields2<CertPolicyId, Option<NonEmpty<Vec<PolicyQualifierInfo<'a>>>>>;
+type Fields<'a> = Fields2<CertPolicyId<'a>, Option<NonEmpty<Vec<PolicyQualifierInfo<'a>>>>>;
 
 /// ```text
 /// PolicyInformation ::= SEQUENCE {
@@ -54,10 +54,10 @@ impl<'a> PolicyInformation<'a> {
 
     /// A value of these fields.
     pub fn new(
-        policy_identifier: CertPolicyId,
+        policy_identifier: CertPolicyId<'a>,
         policy_qualifiers: Option<NonEmpty<Vec<PolicyQualifierInfo<'a>>>>,
     ) -> PolicyInformation<'a>
-        ensures policy_identifier { policy_information_fields.policy_identifier result ≡ policy_identifier }
+        ensures policy_identifier { policy_information_fields.policy_identifier result ≡ policy_identifier.entry }
         ensures policy_qualifiers { policy_information_fields.policy_qualifiers result ≡ policy_qualifiers.entry }
     {
         let first = policy_qualifiers;
@@ -69,7 +69,12 @@ impl<'a> PolicyInformation<'a> {
     }
 
     /// The values of the fields, in their order.
-    pub fn into_parts(self) -> (CertPolicyId, Option<NonEmpty<Vec<PolicyQualifierInfo<'a>>>>)
+    pub fn into_parts(
+        self,
+    ) -> (
+        CertPolicyId<'a>,
+        Option<NonEmpty<Vec<PolicyQualifierInfo<'a>>>>,
+    )
         ensures policy_identifier { policy_information_fields.policy_identifier self.entry ≡ result.0 }
         ensures policy_qualifiers { policy_information_fields.policy_qualifiers self.entry ≡ result.1 }
     {
@@ -86,10 +91,10 @@ impl<'a> PolicyInformation<'a> {
     }
 
     /// `policyIdentifier`, `CertPolicyId`.
-    pub fn policy_identifier(&self) -> CertPolicyId
-        ensures { result ≡ policy_information_fields.policy_identifier self.now }
+    pub fn policy_identifier(&self) -> &CertPolicyId<'a>
+        ensures { result.now ≡ policy_information_fields.policy_identifier self.now }
     {
-        self.fields.list.first
+        &self.fields.list.first
     }
 
     /// `policyQualifiers`, `SEQUENCE SIZE (1..MAX) OF PolicyQualifierInfo OPTIONAL`.
@@ -106,7 +111,7 @@ impl<'a> PolicyInformation<'a> {
 impl<'a> fmt::Debug for PolicyInformation<'a> {
     fn fmt<W: fmt::Write>(&self, f: &mut fmt::Formatter<W>) -> fmt::Result {
         f.debug_struct("PolicyInformation")
-            .field("policy_identifier", &self.policy_identifier())
+            .field("policy_identifier", self.policy_identifier())
             .field("policy_qualifiers", &self.policy_qualifiers())
             .finish()
     }
@@ -164,10 +169,10 @@ impl<'a> ValueOrd for PolicyInformation<'a> {
 }
 
 impl<'a> ContentsEq for PolicyInformation<'a> {
-    ghost contents_eq = { λ v w. (member_equality ⟦<CertPolicyId as Form>⟧
-        (tagged_starts ⟦<CertPolicyId as Form>⟧ (one_tag ⟦<ObjectIdentifierTag as TagMarker>⟧.TAG ⟦<ObjectIdentifier<39> as FormValue>⟧.value.contents))
-        ⟦<CertPolicyId as PartialEq>⟧.eq
-        (one_tag_equality ⟦<ObjectIdentifierTag as TagMarker>⟧.TAG ⟦<ObjectIdentifier<39> as FormValue>⟧.value.contents ⟦<ObjectIdentifier<39> as FormValue>⟧.value.comparable ⟦<ObjectIdentifier<39> as PartialEq>⟧.eq (objectidentifier_contents_eq.contents_eq-law 39 (record { fits = lit< tt })))
+    ghost contents_eq = { λ v w. (member_equality ⟦<CertPolicyId<'a> as Form>⟧
+        (tagged_starts ⟦<CertPolicyId<'a> as Form>⟧ (one_tag ⟦<ObjectIdentifierTag as TagMarker>⟧.TAG ⟦<ObjectIdentifierRef<'a, 39> as FormValue>⟧.value.contents))
+        ⟦<CertPolicyId<'a> as PartialEq>⟧.eq
+        (one_tag_equality ⟦<ObjectIdentifierTag as TagMarker>⟧.TAG ⟦<ObjectIdentifierRef<'a, 39> as FormValue>⟧.value.contents ⟦<ObjectIdentifierRef<'a, 39> as FormValue>⟧.value.comparable ⟦<ObjectIdentifierRef<'a, 39> as PartialEq>⟧.eq (objectidentifierref_contents_eq.contents_eq-law 39 (record { fits = lit< tt })))
         (member_equality ⟦<Option<NonEmpty<Vec<PolicyQualifierInfo<'a>>>> as Form>⟧
         (optional_starts ⟦<NonEmpty<Vec<PolicyQualifierInfo<'a>>> as Form>⟧ (one_tag ⟦<SequenceTag as TagMarker>⟧.TAG ⟦<NonEmpty<Vec<PolicyQualifierInfo<'a>>> as FormValue>⟧.value.contents))
         ⟦<Option<NonEmpty<Vec<PolicyQualifierInfo<'a>>>> as PartialEq>⟧.eq
@@ -177,9 +182,9 @@ impl<'a> ContentsEq for PolicyInformation<'a> {
 
 impl<'a> CopyLaws for PolicyInformation<'a> {
     ghost copies = { copies_of (held_copies (λ v. v.fields.list)
-        (listed_copies (member_copies ⟦<CertPolicyId as Form>⟧
-        (tagged_starts ⟦<CertPolicyId as Form>⟧ (one_tag ⟦<ObjectIdentifierTag as TagMarker>⟧.TAG ⟦<ObjectIdentifier<39> as FormValue>⟧.value.contents))
-        (one_tag_copies ⟦<ObjectIdentifierTag as TagMarker>⟧.TAG (same_copies ⟦<ObjectIdentifier<39> as FormValue>⟧.value.contents ⟦<ObjectIdentifier<39> as FormValue>⟧.value.comparable ⟦<ObjectIdentifier<39> as FormValue>⟧.value.re_reads ⟦<ObjectIdentifier<39> as PartialEq>⟧.eq (λ v. ((objectidentifier_contents_eq.contents_eq-law 39 (record { fits = lit< tt })) v v tt).1 refl)))
+        (listed_copies (member_copies ⟦<CertPolicyId<'a> as Form>⟧
+        (tagged_starts ⟦<CertPolicyId<'a> as Form>⟧ (one_tag ⟦<ObjectIdentifierTag as TagMarker>⟧.TAG ⟦<ObjectIdentifierRef<'a, 39> as FormValue>⟧.value.contents))
+        (one_tag_copies ⟦<ObjectIdentifierTag as TagMarker>⟧.TAG (same_copies ⟦<ObjectIdentifierRef<'a, 39> as FormValue>⟧.value.contents ⟦<ObjectIdentifierRef<'a, 39> as FormValue>⟧.value.comparable ⟦<ObjectIdentifierRef<'a, 39> as FormValue>⟧.value.re_reads ⟦<ObjectIdentifierRef<'a, 39> as PartialEq>⟧.eq (λ v. ((objectidentifierref_contents_eq.contents_eq-law 39 (record { fits = lit< tt })) v v tt).1 refl)))
         (member_copies ⟦<Option<NonEmpty<Vec<PolicyQualifierInfo<'a>>>> as Form>⟧
         (optional_starts ⟦<NonEmpty<Vec<PolicyQualifierInfo<'a>>> as Form>⟧ (one_tag ⟦<SequenceTag as TagMarker>⟧.TAG ⟦<NonEmpty<Vec<PolicyQualifierInfo<'a>>> as FormValue>⟧.value.contents))
         (optional_copies ⟦<NonEmpty<Vec<PolicyQualifierInfo<'a>>> as Form>⟧ (one_tag_copies ⟦<SequenceTag as TagMarker>⟧.TAG (held_copies (λ x. x.items) (items_copies ⟦<PolicyQualifierInfo<'a> as Form>⟧ (one_tag_copies ⟦<SequenceTag as TagMarker>⟧.TAG (same_copies ⟦<PolicyQualifierInfo<'a> as FormValue>⟧.value.contents ⟦<PolicyQualifierInfo<'a> as FormValue>⟧.value.comparable ⟦<PolicyQualifierInfo<'a> as FormValue>⟧.value.re_reads ⟦<PolicyQualifierInfo<'a> as PartialEq>⟧.eq policy_qualifier_info_eq.laws-law.refl))))))
@@ -217,7 +222,7 @@ pub fn grammar_of_policy_information<'a>()
 /// The contents octets of `PolicyInformation` are the encodings of its fields, one after another.
 pub fn octets_of_policy_information<'a>()
     ensures { (v : PolicyInformation) → ⟦<PolicyInformation<'a> as FormValue>⟧.value.contents v ≡ joined (
-        (⟦<CertPolicyId as Form>⟧.encoding (policy_information_fields.policy_identifier v))
+        (⟦<CertPolicyId<'a> as Form>⟧.encoding (policy_information_fields.policy_identifier v))
         ∷ optional (λ x. (⟦<NonEmpty<Vec<PolicyQualifierInfo<'a>>> as Form>⟧.encoding x)) (policy_information_fields.policy_qualifiers v)
         ∷ []) }
 {}

@@ -30,48 +30,48 @@ use std::cmp::Ordering;
 /// Reading refuses the first fault of the octets, in their order; `ErrorKind::Memory` (1) where
 /// memory runs out.
 #[derive(Debug, PartialEq, Eq, Drop)]
-pub struct PolicyMappings {
-    items: NonEmpty<Vec<PolicyMapping>>,
+pub struct PolicyMappings<'a> {
+    items: NonEmpty<Vec<PolicyMapping<'a>>>,
 }
 
-impl PolicyMappings {
+impl<'a> PolicyMappings<'a> {
     ghost use Rattle.der_extensions.specs.Extension.PolicyMappings as policy_mappings;
 
     /// These items.
-    pub fn new(items: NonEmpty<Vec<PolicyMapping>>) -> PolicyMappings
-        ensures { policy_mappings.items_of result ≡ items.items }
+    pub fn new(items: NonEmpty<Vec<PolicyMapping<'a>>>) -> PolicyMappings<'a>
+        ensures { policy_mappings.items_of result ≡ items.entry.items }
     {
         PolicyMappings { items }
     }
 
     /// The items, in their order.
-    pub fn as_slice(&self) -> &[PolicyMapping]
+    pub fn as_slice(&self) -> &[PolicyMapping<'a>]
         ensures { result.now ≡ policy_mappings.items_of self.now }
     {
         self.items.list().as_slice()
     }
 
     /// The items, in the room that holds them.
-    pub fn into_items(self) -> NonEmpty<Vec<PolicyMapping>>
-        ensures { policy_mappings.items_of self ≡ result.items }
+    pub fn into_items(self) -> NonEmpty<Vec<PolicyMapping<'a>>>
+        ensures { policy_mappings.items_of self.entry ≡ result.items }
     {
         self.items
     }
 }
 
-impl OneTag for PolicyMappings {
+impl<'a> OneTag for PolicyMappings<'a> {
     type Marker = SequenceTag;
 }
 
-impl<'a> Sequence<'a> for PolicyMappings {
+impl<'a> Sequence<'a> for PolicyMappings<'a> {
     ghost is_sequence = { refl };
 }
 
-impl FormValue for PolicyMappings {
-    ghost value = { mapped_format (λ v. v.items) ⟦<NonEmpty<Vec<PolicyMapping>> as FormValue>⟧.value };
+impl<'a> FormValue for PolicyMappings<'a> {
+    ghost value = { mapped_format (λ v. v.items) ⟦<NonEmpty<Vec<PolicyMapping<'a>>> as FormValue>⟧.value };
 }
 
-impl<'a, R: Source<'a>> DecodeValue<'a, R> for PolicyMappings {
+impl<'a, R: Source<'a>> DecodeValue<'a, R> for PolicyMappings<'a> {
     ghost TAKES_MEMORY = { true };
 
     const TAKES_MEMORY: bool = true;
@@ -80,8 +80,8 @@ impl<'a, R: Source<'a>> DecodeValue<'a, R> for PolicyMappings {
         alloc: Global,
         reader: &mut R,
         header: Header,
-    ) -> Result<PolicyMappings, Error> {
-        match NonEmpty::<Vec<PolicyMapping>>::decode_value(alloc, reader, header) {
+    ) -> Result<PolicyMappings<'a>, Error> {
+        match NonEmpty::<Vec<PolicyMapping<'a>>>::decode_value(alloc, reader, header) {
             Ok(items) => Ok(PolicyMappings { items }),
             Err(e) => Err(e),
         }
@@ -90,7 +90,7 @@ impl<'a, R: Source<'a>> DecodeValue<'a, R> for PolicyMappings {
     ghost takes_memory_is = { refl };
 }
 
-impl EncodeValue for PolicyMappings {
+impl<'a> EncodeValue for PolicyMappings<'a> {
     fn value_len(&self) -> Result<Length, Error> {
         self.items.value_len()
     }
@@ -104,45 +104,45 @@ impl EncodeValue for PolicyMappings {
     }
 }
 
-impl ValueOrd for PolicyMappings {
-    fn value_cmp(&self, other: &PolicyMappings) -> Result<Ordering, Error> {
+impl<'a> ValueOrd for PolicyMappings<'a> {
+    fn value_cmp(&self, other: &PolicyMappings<'a>) -> Result<Ordering, Error> {
         self.items.value_cmp(&other.items)
     }
 }
 
-impl ContentsEq for PolicyMappings {
-    ghost contents_eq = { λ v w. (items_equality ⟦<PolicyMapping as Form>⟧ (one_tag ⟦<SequenceTag as TagMarker>⟧.TAG ⟦<PolicyMapping as FormValue>⟧.value.contents) ⟦<PolicyMapping as PartialEq>⟧.eq (one_tag_equality ⟦<SequenceTag as TagMarker>⟧.TAG ⟦<PolicyMapping as FormValue>⟧.value.contents ⟦<PolicyMapping as FormValue>⟧.value.comparable ⟦<PolicyMapping as PartialEq>⟧.eq policy_mapping_contents_eq.contents_eq-law)) v.items.items w.items.items };
+impl<'a> ContentsEq for PolicyMappings<'a> {
+    ghost contents_eq = { λ v w. (items_equality ⟦<PolicyMapping<'a> as Form>⟧ (one_tag ⟦<SequenceTag as TagMarker>⟧.TAG ⟦<PolicyMapping<'a> as FormValue>⟧.value.contents) ⟦<PolicyMapping<'a> as PartialEq>⟧.eq (one_tag_equality ⟦<SequenceTag as TagMarker>⟧.TAG ⟦<PolicyMapping<'a> as FormValue>⟧.value.contents ⟦<PolicyMapping<'a> as FormValue>⟧.value.comparable ⟦<PolicyMapping<'a> as PartialEq>⟧.eq policy_mapping_contents_eq.contents_eq-law)) v.items.items w.items.items };
 }
 
-impl CopyLaws for PolicyMappings {
+impl<'a> CopyLaws for PolicyMappings<'a> {
     ghost copies = { copies_of (held_copies (λ v. v.items.items)
-        (items_copies ⟦<PolicyMapping as Form>⟧ (one_tag_copies ⟦<SequenceTag as TagMarker>⟧.TAG (same_copies ⟦<PolicyMapping as FormValue>⟧.value.contents ⟦<PolicyMapping as FormValue>⟧.value.comparable ⟦<PolicyMapping as FormValue>⟧.value.re_reads ⟦<PolicyMapping as PartialEq>⟧.eq policy_mapping_eq.laws-law.refl)))) };
+        (items_copies ⟦<PolicyMapping<'a> as Form>⟧ (one_tag_copies ⟦<SequenceTag as TagMarker>⟧.TAG (same_copies ⟦<PolicyMapping<'a> as FormValue>⟧.value.contents ⟦<PolicyMapping<'a> as FormValue>⟧.value.comparable ⟦<PolicyMapping<'a> as FormValue>⟧.value.re_reads ⟦<PolicyMapping<'a> as PartialEq>⟧.eq policy_mapping_eq.laws-law.refl)))) };
 }
 
-impl DuplicateValue for PolicyMappings {
-    ghost is_copy_value = { λ v w. ⟦<NonEmpty<Vec<PolicyMapping>> as DuplicateValue>⟧.is_copy_value v.items w.items };
+impl<'a> DuplicateValue for PolicyMappings<'a> {
+    ghost is_copy_value = { λ v w. ⟦<NonEmpty<Vec<PolicyMapping<'a>>> as DuplicateValue>⟧.is_copy_value v.items w.items };
 
-    ghost takes_memory_to_copy_value = { ⟦<NonEmpty<Vec<PolicyMapping>> as DuplicateValue>⟧.takes_memory_to_copy_value };
+    ghost takes_memory_to_copy_value = { ⟦<NonEmpty<Vec<PolicyMapping<'a>>> as DuplicateValue>⟧.takes_memory_to_copy_value };
 
-    fn duplicate_value(&self) -> Result<PolicyMappings, Error> {
+    fn duplicate_value(&self) -> Result<PolicyMappings<'a>, Error> {
         match self.items.duplicate_value() {
             Ok(items) => Ok(PolicyMappings { items }),
             Err(e) => Err(e),
         }
     }
 
-    ghost copy_contents = { ⟦<PolicyMappings as CopyLaws>⟧.copies.laws.octets_are };
+    ghost copy_contents = { ⟦<PolicyMappings<'a> as CopyLaws>⟧.copies.laws.octets_are };
 
-    ghost copy_comparable_value = { ⟦<PolicyMappings as CopyLaws>⟧.copies.laws.comparable_are };
+    ghost copy_comparable_value = { ⟦<PolicyMappings<'a> as CopyLaws>⟧.copies.laws.comparable_are };
 
-    ghost copy_re_reads_value = { ⟦<PolicyMappings as CopyLaws>⟧.copies.laws.re_reads_are };
+    ghost copy_re_reads_value = { ⟦<PolicyMappings<'a> as CopyLaws>⟧.copies.laws.re_reads_are };
 }
 
-impl DuplicateValueIsEqual for PolicyMappings {
-    ghost copy_value_is_equal = { ⟦<PolicyMappings as CopyLaws>⟧.copies.laws.equal_are };
+impl<'a> DuplicateValueIsEqual for PolicyMappings<'a> {
+    ghost copy_value_is_equal = { ⟦<PolicyMappings<'a> as CopyLaws>⟧.copies.laws.equal_are };
 }
 
 /// What is read as `PolicyMappings` is what the page of the grammar says.
-pub fn grammar_of_policy_mappings()
-    ensures { ⟦<PolicyMappings as Form>⟧.parse ≡ parse_of policy_mappings }
+pub fn grammar_of_policy_mappings<'a>()
+    ensures { ⟦<PolicyMappings<'a> as Form>⟧.parse ≡ parse_of policy_mappings }
 {}

@@ -12,7 +12,7 @@ ghost use Rattle.der_modules.specs.Asn1.{joined, parse_of};
 ghost use Rattle.der_modules.specs.MemberLaws.{member_equality, no_equality, one_tag, one_tag_equality, own_tags, tagged_starts};
 ghost use Rattle.der_opaque.specs.contracts.any_ref.AnyRefEncodingEq.TheImpl.Laws as anyref_encoding_eq;
 ghost use Rattle.der_opaque.specs.contracts.any_ref.AnyRefTagged.TheImpl.Laws as anyref_tagged;
-ghost use Rattle.der_opaque.specs.contracts.object_identifier.ObjectIdentifierContentsEq.TheImpl.Laws as objectidentifier_contents_eq;
+ghost use Rattle.der_opaque.specs.contracts.object_identifier_ref.ObjectIdentifierRefContentsEq.TheImpl.Laws as objectidentifierref_contents_eq;
 
 use crate::extension::aliases::PolicyQualifierId;
 use der_elem::{
@@ -20,14 +20,14 @@ use der_elem::{
     OneTag, Sequence, SequenceTag, TagMarker, Tagged, ValueOrd,
 };
 use der_fields::{DecodeFields, EncodeFields, End, Field, FieldList, Fields2, FieldsOrd};
-use der_opaque::{AnyRef, ObjectIdentifier};
+use der_opaque::{AnyRef, ObjectIdentifierRef};
 use der_tlv::{BackWriter, Error, Header, Length, Source, Writer};
 use std::alloc::Global;
 use std::cmp::Ordering;
 use std::fmt;
 
 /// The list of the fields.
-type Fields<'a> = Fields2<PolicyQualifierId, AnyRef<'a>>;
+type Fields<'a> = Fields2<PolicyQualifierId<'a>, AnyRef<'a>>;
 
 /// ```text
 /// PolicyQualifierInfo ::= SEQUENCE {
@@ -46,10 +46,10 @@ impl<'a> PolicyQualifierInfo<'a> {
 
     /// A value of these fields.
     pub fn new(
-        policy_qualifier_id: PolicyQualifierId,
+        policy_qualifier_id: PolicyQualifierId<'a>,
         qualifier: AnyRef<'a>,
     ) -> PolicyQualifierInfo<'a>
-        ensures policy_qualifier_id { policy_qualifier_info_fields.policy_qualifier_id result ≡ policy_qualifier_id }
+        ensures policy_qualifier_id { policy_qualifier_info_fields.policy_qualifier_id result ≡ policy_qualifier_id.entry }
         ensures qualifier { policy_qualifier_info_fields.qualifier result ≡ qualifier.entry }
     {
         let first = qualifier;
@@ -61,10 +61,10 @@ impl<'a> PolicyQualifierInfo<'a> {
     }
 
     /// `policyQualifierId`, `PolicyQualifierId`.
-    pub fn policy_qualifier_id(&self) -> PolicyQualifierId
-        ensures { result ≡ policy_qualifier_info_fields.policy_qualifier_id self.now }
+    pub fn policy_qualifier_id(&self) -> &PolicyQualifierId<'a>
+        ensures { result.now ≡ policy_qualifier_info_fields.policy_qualifier_id self.now }
     {
-        self.fields.list.first
+        &self.fields.list.first
     }
 
     /// `qualifier`, `ANY DEFINED BY policyQualifierId`.
@@ -78,7 +78,7 @@ impl<'a> PolicyQualifierInfo<'a> {
 impl<'a> fmt::Debug for PolicyQualifierInfo<'a> {
     fn fmt<W: fmt::Write>(&self, f: &mut fmt::Formatter<W>) -> fmt::Result {
         f.debug_struct("PolicyQualifierInfo")
-            .field("policy_qualifier_id", &self.policy_qualifier_id())
+            .field("policy_qualifier_id", self.policy_qualifier_id())
             .field("qualifier", self.qualifier())
             .finish()
     }
@@ -136,10 +136,10 @@ impl<'a> ValueOrd for PolicyQualifierInfo<'a> {
 }
 
 impl<'a> ContentsEq for PolicyQualifierInfo<'a> {
-    ghost contents_eq = { λ v w. (member_equality ⟦<PolicyQualifierId as Form>⟧
-        (tagged_starts ⟦<PolicyQualifierId as Form>⟧ (one_tag ⟦<ObjectIdentifierTag as TagMarker>⟧.TAG ⟦<ObjectIdentifier<39> as FormValue>⟧.value.contents))
-        ⟦<PolicyQualifierId as PartialEq>⟧.eq
-        (one_tag_equality ⟦<ObjectIdentifierTag as TagMarker>⟧.TAG ⟦<ObjectIdentifier<39> as FormValue>⟧.value.contents ⟦<ObjectIdentifier<39> as FormValue>⟧.value.comparable ⟦<ObjectIdentifier<39> as PartialEq>⟧.eq (objectidentifier_contents_eq.contents_eq-law 39 (record { fits = lit< tt })))
+    ghost contents_eq = { λ v w. (member_equality ⟦<PolicyQualifierId<'a> as Form>⟧
+        (tagged_starts ⟦<PolicyQualifierId<'a> as Form>⟧ (one_tag ⟦<ObjectIdentifierTag as TagMarker>⟧.TAG ⟦<ObjectIdentifierRef<'a, 39> as FormValue>⟧.value.contents))
+        ⟦<PolicyQualifierId<'a> as PartialEq>⟧.eq
+        (one_tag_equality ⟦<ObjectIdentifierTag as TagMarker>⟧.TAG ⟦<ObjectIdentifierRef<'a, 39> as FormValue>⟧.value.contents ⟦<ObjectIdentifierRef<'a, 39> as FormValue>⟧.value.comparable ⟦<ObjectIdentifierRef<'a, 39> as PartialEq>⟧.eq (objectidentifierref_contents_eq.contents_eq-law 39 (record { fits = lit< tt })))
         (member_equality ⟦<AnyRef<'a> as Form>⟧
         (tagged_starts ⟦<AnyRef<'a> as Form>⟧ (own_tags ⟦<AnyRef<'a> as Form>⟧.tags ⟦<AnyRef<'a> as Form>⟧.first_tag_of ⟦<AnyRef<'a> as Form>⟧.encoding ⟦<AnyRef<'a> as Tagged>⟧.tag_of ⟦<AnyRef<'a> as FormValue>⟧.value.contents anyref_tagged.encoding_is-law anyref_tagged.own_tag-law anyref_tagged.first_tag_is-law))
         ⟦<AnyRef<'a> as PartialEq>⟧.eq
@@ -157,7 +157,7 @@ pub fn grammar_of_policy_qualifier_info<'a>()
 /// The contents octets of `PolicyQualifierInfo` are the encodings of its fields, one after another.
 pub fn octets_of_policy_qualifier_info<'a>()
     ensures { (v : PolicyQualifierInfo) → ⟦<PolicyQualifierInfo<'a> as FormValue>⟧.value.contents v ≡ joined (
-        (⟦<PolicyQualifierId as Form>⟧.encoding (policy_qualifier_info_fields.policy_qualifier_id v))
+        (⟦<PolicyQualifierId<'a> as Form>⟧.encoding (policy_qualifier_info_fields.policy_qualifier_id v))
         ∷ (⟦<AnyRef<'a> as Form>⟧.encoding (policy_qualifier_info_fields.qualifier v))
         ∷ []) }
 {}

@@ -2,7 +2,7 @@
 -- Made by tools/asn1 from ocsp.asn1.
 use Rattle.std.specs.Prelude.{List}
 use Rattle.der_ocsp.specs.declared.ocsp.acceptable_responses.AcceptableResponses.{AcceptableResponses}
-use Rattle.der_opaque.specs.declared.object_identifier.ObjectIdentifier.{ObjectIdentifier}
+use Rattle.der_opaque.specs.declared.object_identifier_ref.ObjectIdentifierRef.{ObjectIdentifierRef}
 
-abbrev pub items_of : AcceptableResponses → List (ObjectIdentifier 39)
+abbrev pub items_of : AcceptableResponses → List (ObjectIdentifierRef 39)
 items_of v = v.items.items

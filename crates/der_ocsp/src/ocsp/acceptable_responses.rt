@@ -8,14 +8,14 @@ ghost use Rattle.der_elem.specs.FormatMakers.{mapped_format};
 ghost use Rattle.der_modules.specs.Asn1.{parse_of};
 ghost use Rattle.der_modules.specs.MemberLaws.{copies_of, held_copies, items_copies, items_equality, one_tag, one_tag_copies, one_tag_equality, same_copies};
 ghost use Rattle.der_ocsp.specs.Ocsp.Grammar.{acceptable_responses};
-ghost use Rattle.der_opaque.specs.contracts.object_identifier.ObjectIdentifierContentsEq.TheImpl.Laws as objectidentifier_contents_eq;
+ghost use Rattle.der_opaque.specs.contracts.object_identifier_ref.ObjectIdentifierRefContentsEq.TheImpl.Laws as objectidentifierref_contents_eq;
 
 use der_elem::{
     ContentsEq, DecodeValue, DuplicateValue, DuplicateValueIsEqual, EncodeValue, Form, FormValue,
     ObjectIdentifierTag, OneTag, Sequence, SequenceTag, TagMarker, ValueOrd,
 };
 use der_modules::CopyLaws;
-use der_opaque::ObjectIdentifier;
+use der_opaque::ObjectIdentifierRef;
 use der_tlv::{BackWriter, Error, Header, Length, Source, Writer};
 use std::alloc::Global;
 use std::cmp::Ordering;
@@ -27,48 +27,48 @@ use std::cmp::Ordering;
 /// Reading refuses the first fault of the octets, in their order; `ErrorKind::Memory` (1) where
 /// memory runs out.
 #[derive(Debug, PartialEq, Eq, Drop)]
-pub struct AcceptableResponses {
-    items: Vec<ObjectIdentifier<39>>,
+pub struct AcceptableResponses<'a> {
+    items: Vec<ObjectIdentifierRef<'a, 39>>,
 }
 
-impl AcceptableResponses {
+impl<'a> AcceptableResponses<'a> {
     ghost use Rattle.der_ocsp.specs.Ocsp.AcceptableResponses as acceptable_responses;
 
     /// These items.
-    pub fn new(items: Vec<ObjectIdentifier<39>>) -> AcceptableResponses
-        ensures { acceptable_responses.items_of result ≡ items.items }
+    pub fn new(items: Vec<ObjectIdentifierRef<'a, 39>>) -> AcceptableResponses<'a>
+        ensures { acceptable_responses.items_of result ≡ items.entry.items }
     {
         AcceptableResponses { items }
     }
 
     /// The items, in their order.
-    pub fn as_slice(&self) -> &[ObjectIdentifier<39>]
+    pub fn as_slice(&self) -> &[ObjectIdentifierRef<'a, 39>]
         ensures { result.now ≡ acceptable_responses.items_of self.now }
     {
         self.items.as_slice()
     }
 
     /// The items, in the room that holds them.
-    pub fn into_items(self) -> Vec<ObjectIdentifier<39>>
-        ensures { acceptable_responses.items_of self ≡ result.items }
+    pub fn into_items(self) -> Vec<ObjectIdentifierRef<'a, 39>>
+        ensures { acceptable_responses.items_of self.entry ≡ result.items }
     {
         self.items
     }
 }
 
-impl OneTag for AcceptableResponses {
+impl<'a> OneTag for AcceptableResponses<'a> {
     type Marker = SequenceTag;
 }
 
-impl<'a> Sequence<'a> for AcceptableResponses {
+impl<'a> Sequence<'a> for AcceptableResponses<'a> {
     ghost is_sequence = { refl };
 }
 
-impl FormValue for AcceptableResponses {
-    ghost value = { mapped_format (λ v. v.items) ⟦<Vec<ObjectIdentifier<39>> as FormValue>⟧.value };
+impl<'a> FormValue for AcceptableResponses<'a> {
+    ghost value = { mapped_format (λ v. v.items) ⟦<Vec<ObjectIdentifierRef<'a, 39>> as FormValue>⟧.value };
 }
 
-impl<'a, R: Source<'a>> DecodeValue<'a, R> for AcceptableResponses {
+impl<'a, R: Source<'a>> DecodeValue<'a, R> for AcceptableResponses<'a> {
     ghost TAKES_MEMORY = { true };
 
     const TAKES_MEMORY: bool = true;
@@ -77,8 +77,8 @@ impl<'a, R: Source<'a>> DecodeValue<'a, R> for AcceptableResponses {
         alloc: Global,
         reader: &mut R,
         header: Header,
-    ) -> Result<AcceptableResponses, Error> {
-        match Vec::<ObjectIdentifier<39>>::decode_value(alloc, reader, header) {
+    ) -> Result<AcceptableResponses<'a>, Error> {
+        match Vec::<ObjectIdentifierRef<'a, 39>>::decode_value(alloc, reader, header) {
             Ok(items) => Ok(AcceptableResponses { items }),
             Err(e) => Err(e),
         }
@@ -87,7 +87,7 @@ impl<'a, R: Source<'a>> DecodeValue<'a, R> for AcceptableResponses {
     ghost takes_memory_is = { refl };
 }
 
-impl EncodeValue for AcceptableResponses {
+impl<'a> EncodeValue for AcceptableResponses<'a> {
     fn value_len(&self) -> Result<Length, Error> {
         self.items.value_len()
     }
@@ -101,45 +101,45 @@ impl EncodeValue for AcceptableResponses {
     }
 }
 
-impl ValueOrd for AcceptableResponses {
-    fn value_cmp(&self, other: &AcceptableResponses) -> Result<Ordering, Error> {
+impl<'a> ValueOrd for AcceptableResponses<'a> {
+    fn value_cmp(&self, other: &AcceptableResponses<'a>) -> Result<Ordering, Error> {
         self.items.value_cmp(&other.items)
     }
 }
 
-impl ContentsEq for AcceptableResponses {
-    ghost contents_eq = { λ v w. (items_equality ⟦<ObjectIdentifier<39> as Form>⟧ (one_tag ⟦<ObjectIdentifierTag as TagMarker>⟧.TAG ⟦<ObjectIdentifier<39> as FormValue>⟧.value.contents) ⟦<ObjectIdentifier<39> as PartialEq>⟧.eq (one_tag_equality ⟦<ObjectIdentifierTag as TagMarker>⟧.TAG ⟦<ObjectIdentifier<39> as FormValue>⟧.value.contents ⟦<ObjectIdentifier<39> as FormValue>⟧.value.comparable ⟦<ObjectIdentifier<39> as PartialEq>⟧.eq (objectidentifier_contents_eq.contents_eq-law 39 (record { fits = lit< tt })))) v.items.items w.items.items };
+impl<'a> ContentsEq for AcceptableResponses<'a> {
+    ghost contents_eq = { λ v w. (items_equality ⟦<ObjectIdentifierRef<'a, 39> as Form>⟧ (one_tag ⟦<ObjectIdentifierTag as TagMarker>⟧.TAG ⟦<ObjectIdentifierRef<'a, 39> as FormValue>⟧.value.contents) ⟦<ObjectIdentifierRef<'a, 39> as PartialEq>⟧.eq (one_tag_equality ⟦<ObjectIdentifierTag as TagMarker>⟧.TAG ⟦<ObjectIdentifierRef<'a, 39> as FormValue>⟧.value.contents ⟦<ObjectIdentifierRef<'a, 39> as FormValue>⟧.value.comparable ⟦<ObjectIdentifierRef<'a, 39> as PartialEq>⟧.eq (objectidentifierref_contents_eq.contents_eq-law 39 (record { fits = lit< tt })))) v.items.items w.items.items };
 }
 
-impl CopyLaws for AcceptableResponses {
+impl<'a> CopyLaws for AcceptableResponses<'a> {
     ghost copies = { copies_of (held_copies (λ v. v.items.items)
-        (items_copies ⟦<ObjectIdentifier<39> as Form>⟧ (one_tag_copies ⟦<ObjectIdentifierTag as TagMarker>⟧.TAG (same_copies ⟦<ObjectIdentifier<39> as FormValue>⟧.value.contents ⟦<ObjectIdentifier<39> as FormValue>⟧.value.comparable ⟦<ObjectIdentifier<39> as FormValue>⟧.value.re_reads ⟦<ObjectIdentifier<39> as PartialEq>⟧.eq (λ v. ((objectidentifier_contents_eq.contents_eq-law 39 (record { fits = lit< tt })) v v tt).1 refl))))) };
+        (items_copies ⟦<ObjectIdentifierRef<'a, 39> as Form>⟧ (one_tag_copies ⟦<ObjectIdentifierTag as TagMarker>⟧.TAG (same_copies ⟦<ObjectIdentifierRef<'a, 39> as FormValue>⟧.value.contents ⟦<ObjectIdentifierRef<'a, 39> as FormValue>⟧.value.comparable ⟦<ObjectIdentifierRef<'a, 39> as FormValue>⟧.value.re_reads ⟦<ObjectIdentifierRef<'a, 39> as PartialEq>⟧.eq (λ v. ((objectidentifierref_contents_eq.contents_eq-law 39 (record { fits = lit< tt })) v v tt).1 refl))))) };
 }
 
-impl DuplicateValue for AcceptableResponses {
-    ghost is_copy_value = { λ v w. ⟦<Vec<ObjectIdentifier<39>> as DuplicateValue>⟧.is_copy_value v.items w.items };
+impl<'a> DuplicateValue for AcceptableResponses<'a> {
+    ghost is_copy_value = { λ v w. ⟦<Vec<ObjectIdentifierRef<'a, 39>> as DuplicateValue>⟧.is_copy_value v.items w.items };
 
-    ghost takes_memory_to_copy_value = { ⟦<Vec<ObjectIdentifier<39>> as DuplicateValue>⟧.takes_memory_to_copy_value };
+    ghost takes_memory_to_copy_value = { ⟦<Vec<ObjectIdentifierRef<'a, 39>> as DuplicateValue>⟧.takes_memory_to_copy_value };
 
-    fn duplicate_value(&self) -> Result<AcceptableResponses, Error> {
+    fn duplicate_value(&self) -> Result<AcceptableResponses<'a>, Error> {
         match self.items.duplicate_value() {
             Ok(items) => Ok(AcceptableResponses { items }),
             Err(e) => Err(e),
         }
     }
 
-    ghost copy_contents = { ⟦<AcceptableResponses as CopyLaws>⟧.copies.laws.octets_are };
+    ghost copy_contents = { ⟦<AcceptableResponses<'a> as CopyLaws>⟧.copies.laws.octets_are };
 
-    ghost copy_comparable_value = { ⟦<AcceptableResponses as CopyLaws>⟧.copies.laws.comparable_are };
+    ghost copy_comparable_value = { ⟦<AcceptableResponses<'a> as CopyLaws>⟧.copies.laws.comparable_are };
 
-    ghost copy_re_reads_value = { ⟦<AcceptableResponses as CopyLaws>⟧.copies.laws.re_reads_are };
+    ghost copy_re_reads_value = { ⟦<AcceptableResponses<'a> as CopyLaws>⟧.copies.laws.re_reads_are };
 }
 
-impl DuplicateValueIsEqual for AcceptableResponses {
-    ghost copy_value_is_equal = { ⟦<AcceptableResponses as CopyLaws>⟧.copies.laws.equal_are };
+impl<'a> DuplicateValueIsEqual for AcceptableResponses<'a> {
+    ghost copy_value_is_equal = { ⟦<AcceptableResponses<'a> as CopyLaws>⟧.copies.laws.equal_are };
 }
 
 /// What is read as `AcceptableResponses` is what the page of the grammar says.
-pub fn grammar_of_acceptable_responses()
-    ensures { ⟦<AcceptableResponses as Form>⟧.parse ≡ parse_of acceptable_responses }
+pub fn grammar_of_acceptable_responses<'a>()
+    ensures { ⟦<AcceptableResponses<'a> as Form>⟧.parse ≡ parse_of acceptable_responses }
 {}

@@ -10,7 +10,7 @@ ghost use Rattle.der_modules.specs.MemberLaws.{member_equality, no_equality, one
 ghost use Rattle.der_ocsp.specs.Ocsp.Grammar.{response_bytes};
 ghost use Rattle.der_ocsp.specs.Ocsp.ResponseBytes as response_bytes_fields;
 ghost use Rattle.der_ocsp.specs.declared.ocsp.response_bytes.ResponseBytes.{ResponseBytes};
-ghost use Rattle.der_opaque.specs.contracts.object_identifier.ObjectIdentifierContentsEq.TheImpl.Laws as objectidentifier_contents_eq;
+ghost use Rattle.der_opaque.specs.contracts.object_identifier_ref.ObjectIdentifierRefContentsEq.TheImpl.Laws as objectidentifierref_contents_eq;
 ghost use Rattle.der_opaque.specs.contracts.octet_string_ref.OctetStringRefContentsEq.TheImpl.Laws as octetstringref_contents_eq;
 
 use der_elem::{
@@ -18,14 +18,14 @@ use der_elem::{
     OctetStringTag, OneTag, Sequence, SequenceTag, TagMarker, ValueOrd,
 };
 use der_fields::{DecodeFields, EncodeFields, End, Field, FieldList, Fields2, FieldsOrd};
-use der_opaque::{ObjectIdentifier, OctetStringRef};
+use der_opaque::{ObjectIdentifierRef, OctetStringRef};
 use der_tlv::{BackWriter, Error, Header, Length, Source, Writer};
 use std::alloc::Global;
 use std::cmp::Ordering;
 use std::fmt;
 
 /// The list of the fields.
-type Fields<'a> = Fields2<ObjectIdentifier<39>, OctetStringRef<'a>>;
+type Fields<'a> = Fields2<ObjectIdentifierRef<'a, 39>, OctetStringRef<'a>>;
 
 /// ```text
 /// ResponseBytes ::= SEQUENCE {
@@ -44,10 +44,10 @@ impl<'a> ResponseBytes<'a> {
 
     /// A value of these fields.
     pub fn new(
-        response_type: ObjectIdentifier<39>,
+        response_type: ObjectIdentifierRef<'a, 39>,
         response: OctetStringRef<'a>,
     ) -> ResponseBytes<'a>
-        ensures response_type { response_bytes_fields.response_type result ≡ response_type }
+        ensures response_type { response_bytes_fields.response_type result ≡ response_type.entry }
         ensures response { response_bytes_fields.response result ≡ response.entry }
     {
         let first = response;
@@ -59,10 +59,10 @@ impl<'a> ResponseBytes<'a> {
     }
 
     /// `responseType`, `OBJECT IDENTIFIER`.
-    pub fn response_type(&self) -> ObjectIdentifier<39>
-        ensures { result ≡ response_bytes_fields.response_type self.now }
+    pub fn response_type(&self) -> &ObjectIdentifierRef<'a, 39>
+        ensures { result.now ≡ response_bytes_fields.response_type self.now }
     {
-        self.fields.list.first
+        &self.fields.list.first
     }
 
     /// `response`, `OCTET STRING`.
@@ -76,7 +76,7 @@ impl<'a> ResponseBytes<'a> {
 impl<'a> fmt::Debug for ResponseBytes<'a> {
     fn fmt<W: fmt::Write>(&self, f: &mut fmt::Formatter<W>) -> fmt::Result {
         f.debug_struct("ResponseBytes")
-            .field("response_type", &self.response_type())
+            .field("response_type", self.response_type())
             .field("response", self.response())
             .finish()
     }
@@ -134,10 +134,10 @@ impl<'a> ValueOrd for ResponseBytes<'a> {
 }
 
 impl<'a> ContentsEq for ResponseBytes<'a> {
-    ghost contents_eq = { λ v w. (member_equality ⟦<ObjectIdentifier<39> as Form>⟧
-        (tagged_starts ⟦<ObjectIdentifier<39> as Form>⟧ (one_tag ⟦<ObjectIdentifierTag as TagMarker>⟧.TAG ⟦<ObjectIdentifier<39> as FormValue>⟧.value.contents))
-        ⟦<ObjectIdentifier<39> as PartialEq>⟧.eq
-        (one_tag_equality ⟦<ObjectIdentifierTag as TagMarker>⟧.TAG ⟦<ObjectIdentifier<39> as FormValue>⟧.value.contents ⟦<ObjectIdentifier<39> as FormValue>⟧.value.comparable ⟦<ObjectIdentifier<39> as PartialEq>⟧.eq (objectidentifier_contents_eq.contents_eq-law 39 (record { fits = lit< tt })))
+    ghost contents_eq = { λ v w. (member_equality ⟦<ObjectIdentifierRef<'a, 39> as Form>⟧
+        (tagged_starts ⟦<ObjectIdentifierRef<'a, 39> as Form>⟧ (one_tag ⟦<ObjectIdentifierTag as TagMarker>⟧.TAG ⟦<ObjectIdentifierRef<'a, 39> as FormValue>⟧.value.contents))
+        ⟦<ObjectIdentifierRef<'a, 39> as PartialEq>⟧.eq
+        (one_tag_equality ⟦<ObjectIdentifierTag as TagMarker>⟧.TAG ⟦<ObjectIdentifierRef<'a, 39> as FormValue>⟧.value.contents ⟦<ObjectIdentifierRef<'a, 39> as FormValue>⟧.value.comparable ⟦<ObjectIdentifierRef<'a, 39> as PartialEq>⟧.eq (objectidentifierref_contents_eq.contents_eq-law 39 (record { fits = lit< tt })))
         (member_equality ⟦<OctetStringRef<'a> as Form>⟧
         (tagged_starts ⟦<OctetStringRef<'a> as Form>⟧ (one_tag ⟦<OctetStringTag as TagMarker>⟧.TAG ⟦<OctetStringRef<'a> as FormValue>⟧.value.contents))
         ⟦<OctetStringRef<'a> as PartialEq>⟧.eq
@@ -155,7 +155,7 @@ pub fn grammar_of_response_bytes<'a>()
 /// The contents octets of `ResponseBytes` are the encodings of its fields, one after another.
 pub fn octets_of_response_bytes<'a>()
     ensures { (v : ResponseBytes) → ⟦<ResponseBytes<'a> as FormValue>⟧.value.contents v ≡ joined (
-        (⟦<ObjectIdentifier<39> as Form>⟧.encoding (response_bytes_fields.response_type v))
+        (⟦<ObjectIdentifierRef<'a, 39> as Form>⟧.encoding (response_bytes_fields.response_type v))
         ∷ (⟦<OctetStringRef<'a> as Form>⟧.encoding (response_bytes_fields.response v))
         ∷ []) }
 {}

@@ -2,11 +2,11 @@
 -- Made by tools/asn1 from name.asn1.
 use Rattle.std.specs.Prelude.{List}
 use Rattle.der_opaque.specs.declared.any_ref.AnyRef.{AnyRef}
-use Rattle.der_opaque.specs.declared.object_identifier.ObjectIdentifier.{ObjectIdentifier}
+use Rattle.der_opaque.specs.declared.object_identifier_ref.ObjectIdentifierRef.{ObjectIdentifierRef}
 use Rattle.der_pkix.specs.declared.name.attribute.Attribute.{Attribute}
 
 -- type AttributeType
-abbrev pub type_ : Attribute → ObjectIdentifier 39
+abbrev pub type_ : Attribute → ObjectIdentifierRef 39
 type_ v = v.fields.list.first
 
 -- values SET OF AttributeValue

@@ -8,7 +8,7 @@ ghost use Rattle.der_elem.specs.FormatMakers.{mapped_format};
 ghost use Rattle.der_elem.specs.contracts.boolean.BoolContentsEq.TheImpl.Laws as bool_contents_eq;
 ghost use Rattle.der_modules.specs.Asn1.{joined, parse_of, unless_default};
 ghost use Rattle.der_modules.specs.MemberLaws.{default_equality, default_starts, member_equality, no_equality, one_tag, one_tag_equality, tagged_starts};
-ghost use Rattle.der_opaque.specs.contracts.object_identifier.ObjectIdentifierContentsEq.TheImpl.Laws as objectidentifier_contents_eq;
+ghost use Rattle.der_opaque.specs.contracts.object_identifier_ref.ObjectIdentifierRefContentsEq.TheImpl.Laws as objectidentifierref_contents_eq;
 ghost use Rattle.der_opaque.specs.contracts.octet_string_ref.OctetStringRefContentsEq.TheImpl.Laws as octetstringref_contents_eq;
 ghost use Rattle.der_pkix.specs.Certificate.Extension as extension_fields;
 ghost use Rattle.der_pkix.specs.Certificate.Grammar.{extension};
@@ -22,7 +22,7 @@ use der_fields::{
     DecodeFields, DefaultFalse, DefaultOf, EncodeFields, End, Field, FieldList, Fields3, FieldsOrd,
     WithDefault,
 };
-use der_opaque::{ObjectIdentifier, OctetStringRef};
+use der_opaque::{ObjectIdentifierRef, OctetStringRef};
 use der_tlv::{BackWriter, Error, Header, Length, Source, Writer};
 use std::alloc::Global;
 use std::cmp::Ordering;
@@ -30,7 +30,7 @@ use std::fmt;
 
 /// The list of the fields.
 type Fields<'a> = Fields3<
-    ObjectIdentifier<39>,
+    ObjectIdentifierRef<'a, 39>,
     WithDefault<bool, DefaultFalse>,
     OctetStringRef<'a>,
 >;
@@ -53,11 +53,11 @@ impl<'a> Extension<'a> {
 
     /// A value of these fields.
     pub fn new(
-        extn_id: ObjectIdentifier<39>,
+        extn_id: ObjectIdentifierRef<'a, 39>,
         critical: bool,
         extn_value: OctetStringRef<'a>,
     ) -> Extension<'a>
-        ensures extn_id { extension_fields.extn_id result ≡ extn_id }
+        ensures extn_id { extension_fields.extn_id result ≡ extn_id.entry }
         ensures critical { extension_fields.critical result ≡ critical }
         ensures extn_value { extension_fields.extn_value result ≡ extn_value.entry }
     {
@@ -72,10 +72,10 @@ impl<'a> Extension<'a> {
     }
 
     /// `extnID`, `OBJECT IDENTIFIER`.
-    pub fn extn_id(&self) -> ObjectIdentifier<39>
-        ensures { result ≡ extension_fields.extn_id self.now }
+    pub fn extn_id(&self) -> &ObjectIdentifierRef<'a, 39>
+        ensures { result.now ≡ extension_fields.extn_id self.now }
     {
-        self.fields.list.first
+        &self.fields.list.first
     }
 
     /// `critical`, `BOOLEAN DEFAULT FALSE`.
@@ -96,7 +96,7 @@ impl<'a> Extension<'a> {
 impl<'a> fmt::Debug for Extension<'a> {
     fn fmt<W: fmt::Write>(&self, f: &mut fmt::Formatter<W>) -> fmt::Result {
         f.debug_struct("Extension")
-            .field("extn_id", &self.extn_id())
+            .field("extn_id", self.extn_id())
             .field("critical", &self.critical())
             .field("extn_value", self.extn_value())
             .finish()
@@ -155,10 +155,10 @@ impl<'a> ValueOrd for Extension<'a> {
 }
 
 impl<'a> ContentsEq for Extension<'a> {
-    ghost contents_eq = { λ v w. (member_equality ⟦<ObjectIdentifier<39> as Form>⟧
-        (tagged_starts ⟦<ObjectIdentifier<39> as Form>⟧ (one_tag ⟦<ObjectIdentifierTag as TagMarker>⟧.TAG ⟦<ObjectIdentifier<39> as FormValue>⟧.value.contents))
-        ⟦<ObjectIdentifier<39> as PartialEq>⟧.eq
-        (one_tag_equality ⟦<ObjectIdentifierTag as TagMarker>⟧.TAG ⟦<ObjectIdentifier<39> as FormValue>⟧.value.contents ⟦<ObjectIdentifier<39> as FormValue>⟧.value.comparable ⟦<ObjectIdentifier<39> as PartialEq>⟧.eq (objectidentifier_contents_eq.contents_eq-law 39 (record { fits = lit< tt })))
+    ghost contents_eq = { λ v w. (member_equality ⟦<ObjectIdentifierRef<'a, 39> as Form>⟧
+        (tagged_starts ⟦<ObjectIdentifierRef<'a, 39> as Form>⟧ (one_tag ⟦<ObjectIdentifierTag as TagMarker>⟧.TAG ⟦<ObjectIdentifierRef<'a, 39> as FormValue>⟧.value.contents))
+        ⟦<ObjectIdentifierRef<'a, 39> as PartialEq>⟧.eq
+        (one_tag_equality ⟦<ObjectIdentifierTag as TagMarker>⟧.TAG ⟦<ObjectIdentifierRef<'a, 39> as FormValue>⟧.value.contents ⟦<ObjectIdentifierRef<'a, 39> as FormValue>⟧.value.comparable ⟦<ObjectIdentifierRef<'a, 39> as PartialEq>⟧.eq (objectidentifierref_contents_eq.contents_eq-law 39 (record { fits = lit< tt })))
         (member_equality ⟦<WithDefault<bool, DefaultFalse> as Form>⟧
         (default_starts ⟦<bool as Form>⟧ (one_tag ⟦<BooleanTag as TagMarker>⟧.TAG ⟦<bool as FormValue>⟧.value.contents) (λ x. x.value) ⟦<DefaultFalse as DefaultOf<bool>>⟧.octets)
         ⟦<WithDefault<bool, DefaultFalse> as PartialEq>⟧.eq
@@ -180,7 +180,7 @@ pub fn grammar_of_extension<'a>()
 /// The contents octets of `Extension` are the encodings of its fields, one after another.
 pub fn octets_of_extension<'a>()
     ensures { (v : Extension) → ⟦<Extension<'a> as FormValue>⟧.value.contents v ≡ joined (
-        (⟦<ObjectIdentifier<39> as Form>⟧.encoding (extension_fields.extn_id v))
+        (⟦<ObjectIdentifierRef<'a, 39> as Form>⟧.encoding (extension_fields.extn_id v))
         ∷ unless_default ⟦<DefaultFalse as DefaultOf<bool>>⟧.octets (⟦<bool as Form>⟧.encoding (extension_fields.critical v))
         ∷ (⟦<OctetStringRef<'a> as Form>⟧.encoding (extension_fields.extn_value v))
         ∷ []) }

@@ -12,7 +12,7 @@ ghost use Rattle.der_elem.specs.TaggedLaws.{tlv_tagged};
 ghost use Rattle.der_modules.specs.Asn1.{parse_of};
 ghost use Rattle.der_modules.specs.MemberLaws.{copies_of, either_equality, either_tag, one_tag, one_tag_equality, same_copies, seen_equality};
 ghost use Rattle.der_opaque.specs.contracts.null.NullContentsEq.TheImpl.Laws as null_contents_eq;
-ghost use Rattle.der_opaque.specs.contracts.object_identifier.ObjectIdentifierContentsEq.TheImpl.Laws as objectidentifier_contents_eq;
+ghost use Rattle.der_opaque.specs.contracts.object_identifier_ref.ObjectIdentifierRefContentsEq.TheImpl.Laws as objectidentifierref_contents_eq;
 ghost use Rattle.der_pkix.specs.Key.EcParameters.{tree_of};
 ghost use Rattle.der_pkix.specs.Key.Grammar.{ec_parameters};
 ghost use Rattle.der_pkix.specs.contracts.key.ec_parameters.EcParametersEq.TheImpl.Laws as ec_parameters_eq;
@@ -26,13 +26,13 @@ use der_elem::{
 };
 use der_fields::{OneOf, cmp_headers};
 use der_modules::{CopyLaws, copy_of};
-use der_opaque::{Null, ObjectIdentifier};
+use der_opaque::{Null, ObjectIdentifierRef};
 use der_tlv::{BackWriter, Error, Length, Source, Tag, Writer};
 use std::alloc::Global;
 use std::cmp::Ordering;
 
 /// The alternatives, as a tree.
-type Tree<'a> = OneOf<OneOf<ObjectIdentifier<39>, Null>, SpecifiedEcDomain<'a>>;
+type Tree<'a> = OneOf<OneOf<ObjectIdentifierRef<'a, 39>, Null>, SpecifiedEcDomain<'a>>;
 
 /// ```text
 /// ECParameters ::= CHOICE {
@@ -46,7 +46,7 @@ type Tree<'a> = OneOf<OneOf<ObjectIdentifier<39>, Null>, SpecifiedEcDomain<'a>>;
 #[derive(Clone, Copy, Debug, PartialEq, Eq)]
 pub enum EcParameters<'a> {
     /// `namedCurve`, `OBJECT IDENTIFIER`.
-    NamedCurve(ObjectIdentifier<39>),
+    NamedCurve(ObjectIdentifierRef<'a, 39>),
     /// `implicitCurve`, `NULL`.
     ImplicitCurve(Null),
     /// `specifiedCurve`, `SpecifiedECDomain`.
@@ -108,23 +108,23 @@ impl<'a> Tagged for EcParameters<'a> {
         }
     }
 
-    ghost encoding_is = { λ v. (either_tag ⟦<OneOf<ObjectIdentifier<39>, Null> as Form>⟧ ⟦<SpecifiedEcDomain<'a> as Form>⟧
-        (either_tag ⟦<ObjectIdentifier<39> as Form>⟧ ⟦<Null as Form>⟧
-        (one_tag ⟦<ObjectIdentifierTag as TagMarker>⟧.TAG ⟦<ObjectIdentifier<39> as FormValue>⟧.value.contents)
+    ghost encoding_is = { λ v. (either_tag ⟦<OneOf<ObjectIdentifierRef<'a, 39>, Null> as Form>⟧ ⟦<SpecifiedEcDomain<'a> as Form>⟧
+        (either_tag ⟦<ObjectIdentifierRef<'a, 39> as Form>⟧ ⟦<Null as Form>⟧
+        (one_tag ⟦<ObjectIdentifierTag as TagMarker>⟧.TAG ⟦<ObjectIdentifierRef<'a, 39> as FormValue>⟧.value.contents)
         (one_tag ⟦<NullTag as TagMarker>⟧.TAG ⟦<Null as FormValue>⟧.value.contents))
         (one_tag ⟦<SequenceTag as TagMarker>⟧.TAG ⟦<SpecifiedEcDomain<'a> as FormValue>⟧.value.contents)).encoding_is (tree_of v) };
 
-    ghost accepted_is_tlv = { λ rules v b. elim v as (λ k. ⟦<Tree<'a> as Form>⟧.accepts rules (tree_of k) b → IsTlv b) [ of.NamedCurve x ↦ λ a. tlv_tagged _ ⟦<ObjectIdentifier<39> as FormValue>⟧.value.accepts rules x b a.0.0 | of.ImplicitCurve x ↦ λ a. tlv_tagged _ ⟦<Null as FormValue>⟧.value.accepts rules x b a.0.0 | of.SpecifiedCurve x ↦ λ a. tlv_tagged _ ⟦<SpecifiedEcDomain<'a> as FormValue>⟧.value.accepts rules x b a.0 ] };
+    ghost accepted_is_tlv = { λ rules v b. elim v as (λ k. ⟦<Tree<'a> as Form>⟧.accepts rules (tree_of k) b → IsTlv b) [ of.NamedCurve x ↦ λ a. tlv_tagged _ ⟦<ObjectIdentifierRef<'a, 39> as FormValue>⟧.value.accepts rules x b a.0.0 | of.ImplicitCurve x ↦ λ a. tlv_tagged _ ⟦<Null as FormValue>⟧.value.accepts rules x b a.0.0 | of.SpecifiedCurve x ↦ λ a. tlv_tagged _ ⟦<SpecifiedEcDomain<'a> as FormValue>⟧.value.accepts rules x b a.0 ] };
 
-    ghost own_tag = { λ v. (either_tag ⟦<OneOf<ObjectIdentifier<39>, Null> as Form>⟧ ⟦<SpecifiedEcDomain<'a> as Form>⟧
-        (either_tag ⟦<ObjectIdentifier<39> as Form>⟧ ⟦<Null as Form>⟧
-        (one_tag ⟦<ObjectIdentifierTag as TagMarker>⟧.TAG ⟦<ObjectIdentifier<39> as FormValue>⟧.value.contents)
+    ghost own_tag = { λ v. (either_tag ⟦<OneOf<ObjectIdentifierRef<'a, 39>, Null> as Form>⟧ ⟦<SpecifiedEcDomain<'a> as Form>⟧
+        (either_tag ⟦<ObjectIdentifierRef<'a, 39> as Form>⟧ ⟦<Null as Form>⟧
+        (one_tag ⟦<ObjectIdentifierTag as TagMarker>⟧.TAG ⟦<ObjectIdentifierRef<'a, 39> as FormValue>⟧.value.contents)
         (one_tag ⟦<NullTag as TagMarker>⟧.TAG ⟦<Null as FormValue>⟧.value.contents))
         (one_tag ⟦<SequenceTag as TagMarker>⟧.TAG ⟦<SpecifiedEcDomain<'a> as FormValue>⟧.value.contents)).own_tag (tree_of v) };
 
-    ghost first_tag_is = { λ v. (either_tag ⟦<OneOf<ObjectIdentifier<39>, Null> as Form>⟧ ⟦<SpecifiedEcDomain<'a> as Form>⟧
-        (either_tag ⟦<ObjectIdentifier<39> as Form>⟧ ⟦<Null as Form>⟧
-        (one_tag ⟦<ObjectIdentifierTag as TagMarker>⟧.TAG ⟦<ObjectIdentifier<39> as FormValue>⟧.value.contents)
+    ghost first_tag_is = { λ v. (either_tag ⟦<OneOf<ObjectIdentifierRef<'a, 39>, Null> as Form>⟧ ⟦<SpecifiedEcDomain<'a> as Form>⟧
+        (either_tag ⟦<ObjectIdentifierRef<'a, 39> as Form>⟧ ⟦<Null as Form>⟧
+        (one_tag ⟦<ObjectIdentifierTag as TagMarker>⟧.TAG ⟦<ObjectIdentifierRef<'a, 39> as FormValue>⟧.value.contents)
         (one_tag ⟦<NullTag as TagMarker>⟧.TAG ⟦<Null as FormValue>⟧.value.contents))
         (one_tag ⟦<SequenceTag as TagMarker>⟧.TAG ⟦<SpecifiedEcDomain<'a> as FormValue>⟧.value.contents)).first_tag_is (tree_of v) };
 
@@ -148,7 +148,7 @@ impl<'a> KnownTags for EcParameters<'a> {
 
     ghost MAY_BE_ABSENT = { false };
 
-    ghost are_known = { (known_either ⟦<OneOf<ObjectIdentifier<39>, Null> as KnownTags>⟧.known_tags ⟦<SpecifiedEcDomain<'a> as KnownTags>⟧.known_tags ⟦<OneOf<ObjectIdentifier<39>, Null> as Form>⟧.tags ⟦<SpecifiedEcDomain<'a> as Form>⟧.tags (known_either ⟦<ObjectIdentifier<39> as KnownTags>⟧.known_tags ⟦<Null as KnownTags>⟧.known_tags ⟦<ObjectIdentifier<39> as Form>⟧.tags ⟦<Null as Form>⟧.tags (own_is_known _) (own_is_known _)) (own_is_known _)) };
+    ghost are_known = { (known_either ⟦<OneOf<ObjectIdentifierRef<'a, 39>, Null> as KnownTags>⟧.known_tags ⟦<SpecifiedEcDomain<'a> as KnownTags>⟧.known_tags ⟦<OneOf<ObjectIdentifierRef<'a, 39>, Null> as Form>⟧.tags ⟦<SpecifiedEcDomain<'a> as Form>⟧.tags (known_either ⟦<ObjectIdentifierRef<'a, 39> as KnownTags>⟧.known_tags ⟦<Null as KnownTags>⟧.known_tags ⟦<ObjectIdentifierRef<'a, 39> as Form>⟧.tags ⟦<Null as Form>⟧.tags (own_is_known _) (own_is_known _)) (own_is_known _)) };
 
     ghost is_there = { λ e v. elim v as (λ k. HasFirstTag (⟦<Tree<'a> as Form>⟧.first_tag_of (tree_of k))) [ of.NamedCurve x ↦ record { tag = _; is_tag = refl } | of.ImplicitCurve x ↦ record { tag = _; is_tag = refl } | of.SpecifiedCurve x ↦ record { tag = _; is_tag = refl } ] };
 }
@@ -224,21 +224,21 @@ impl<'a> DerOrd for EcParameters<'a> {
 }
 
 impl<'a> EncodingEq for EcParameters<'a> {
-    ghost encoding_eq = { seen_equality tree_of ⟦<EcParameters<'a> as PartialEq>⟧.eq ⟦<Tree<'a> as PartialEq>⟧.eq (λ v w. elim v as (λ k. ⟦<EcParameters<'a> as PartialEq>⟧.eq k w ≡ ⟦<Tree<'a> as PartialEq>⟧.eq (tree_of k) (tree_of w)) [ of.NamedCurve x ↦ elim w as (λ k. ⟦<EcParameters<'a> as PartialEq>⟧.eq (of.NamedCurve x) k ≡ ⟦<Tree<'a> as PartialEq>⟧.eq (tree_of (of.NamedCurve x)) (tree_of k)) [ of.NamedCurve y ↦ refl | of.ImplicitCurve y ↦ refl | of.SpecifiedCurve y ↦ refl ] | of.ImplicitCurve x ↦ elim w as (λ k. ⟦<EcParameters<'a> as PartialEq>⟧.eq (of.ImplicitCurve x) k ≡ ⟦<Tree<'a> as PartialEq>⟧.eq (tree_of (of.ImplicitCurve x)) (tree_of k)) [ of.NamedCurve y ↦ refl | of.ImplicitCurve y ↦ refl | of.SpecifiedCurve y ↦ refl ] | of.SpecifiedCurve x ↦ elim w as (λ k. ⟦<EcParameters<'a> as PartialEq>⟧.eq (of.SpecifiedCurve x) k ≡ ⟦<Tree<'a> as PartialEq>⟧.eq (tree_of (of.SpecifiedCurve x)) (tree_of k)) [ of.NamedCurve y ↦ refl | of.ImplicitCurve y ↦ refl | of.SpecifiedCurve y ↦ refl ] ]) (either_equality ⟦<OneOf<ObjectIdentifier<39>, Null> as Form>⟧ ⟦<SpecifiedEcDomain<'a> as Form>⟧
-        (either_tag ⟦<ObjectIdentifier<39> as Form>⟧ ⟦<Null as Form>⟧
-        (one_tag ⟦<ObjectIdentifierTag as TagMarker>⟧.TAG ⟦<ObjectIdentifier<39> as FormValue>⟧.value.contents)
+    ghost encoding_eq = { seen_equality tree_of ⟦<EcParameters<'a> as PartialEq>⟧.eq ⟦<Tree<'a> as PartialEq>⟧.eq (λ v w. elim v as (λ k. ⟦<EcParameters<'a> as PartialEq>⟧.eq k w ≡ ⟦<Tree<'a> as PartialEq>⟧.eq (tree_of k) (tree_of w)) [ of.NamedCurve x ↦ elim w as (λ k. ⟦<EcParameters<'a> as PartialEq>⟧.eq (of.NamedCurve x) k ≡ ⟦<Tree<'a> as PartialEq>⟧.eq (tree_of (of.NamedCurve x)) (tree_of k)) [ of.NamedCurve y ↦ refl | of.ImplicitCurve y ↦ refl | of.SpecifiedCurve y ↦ refl ] | of.ImplicitCurve x ↦ elim w as (λ k. ⟦<EcParameters<'a> as PartialEq>⟧.eq (of.ImplicitCurve x) k ≡ ⟦<Tree<'a> as PartialEq>⟧.eq (tree_of (of.ImplicitCurve x)) (tree_of k)) [ of.NamedCurve y ↦ refl | of.ImplicitCurve y ↦ refl | of.SpecifiedCurve y ↦ refl ] | of.SpecifiedCurve x ↦ elim w as (λ k. ⟦<EcParameters<'a> as PartialEq>⟧.eq (of.SpecifiedCurve x) k ≡ ⟦<Tree<'a> as PartialEq>⟧.eq (tree_of (of.SpecifiedCurve x)) (tree_of k)) [ of.NamedCurve y ↦ refl | of.ImplicitCurve y ↦ refl | of.SpecifiedCurve y ↦ refl ] ]) (either_equality ⟦<OneOf<ObjectIdentifierRef<'a, 39>, Null> as Form>⟧ ⟦<SpecifiedEcDomain<'a> as Form>⟧
+        (either_tag ⟦<ObjectIdentifierRef<'a, 39> as Form>⟧ ⟦<Null as Form>⟧
+        (one_tag ⟦<ObjectIdentifierTag as TagMarker>⟧.TAG ⟦<ObjectIdentifierRef<'a, 39> as FormValue>⟧.value.contents)
         (one_tag ⟦<NullTag as TagMarker>⟧.TAG ⟦<Null as FormValue>⟧.value.contents))
         (one_tag ⟦<SequenceTag as TagMarker>⟧.TAG ⟦<SpecifiedEcDomain<'a> as FormValue>⟧.value.contents)
-        ⟦<OneOf<ObjectIdentifier<39>, Null> as PartialEq>⟧.eq ⟦<SpecifiedEcDomain<'a> as PartialEq>⟧.eq
-        (either_equality ⟦<ObjectIdentifier<39> as Form>⟧ ⟦<Null as Form>⟧
-        (one_tag ⟦<ObjectIdentifierTag as TagMarker>⟧.TAG ⟦<ObjectIdentifier<39> as FormValue>⟧.value.contents)
+        ⟦<OneOf<ObjectIdentifierRef<'a, 39>, Null> as PartialEq>⟧.eq ⟦<SpecifiedEcDomain<'a> as PartialEq>⟧.eq
+        (either_equality ⟦<ObjectIdentifierRef<'a, 39> as Form>⟧ ⟦<Null as Form>⟧
+        (one_tag ⟦<ObjectIdentifierTag as TagMarker>⟧.TAG ⟦<ObjectIdentifierRef<'a, 39> as FormValue>⟧.value.contents)
         (one_tag ⟦<NullTag as TagMarker>⟧.TAG ⟦<Null as FormValue>⟧.value.contents)
-        ⟦<ObjectIdentifier<39> as PartialEq>⟧.eq ⟦<Null as PartialEq>⟧.eq
-        (one_tag_equality ⟦<ObjectIdentifierTag as TagMarker>⟧.TAG ⟦<ObjectIdentifier<39> as FormValue>⟧.value.contents ⟦<ObjectIdentifier<39> as FormValue>⟧.value.comparable ⟦<ObjectIdentifier<39> as PartialEq>⟧.eq (objectidentifier_contents_eq.contents_eq-law 39 (record { fits = lit< tt })))
+        ⟦<ObjectIdentifierRef<'a, 39> as PartialEq>⟧.eq ⟦<Null as PartialEq>⟧.eq
+        (one_tag_equality ⟦<ObjectIdentifierTag as TagMarker>⟧.TAG ⟦<ObjectIdentifierRef<'a, 39> as FormValue>⟧.value.contents ⟦<ObjectIdentifierRef<'a, 39> as FormValue>⟧.value.comparable ⟦<ObjectIdentifierRef<'a, 39> as PartialEq>⟧.eq (objectidentifierref_contents_eq.contents_eq-law 39 (record { fits = lit< tt })))
         (one_tag_equality ⟦<NullTag as TagMarker>⟧.TAG ⟦<Null as FormValue>⟧.value.contents ⟦<Null as FormValue>⟧.value.comparable ⟦<Null as PartialEq>⟧.eq null_contents_eq.contents_eq-law)
-        ⟦<OneOf<ObjectIdentifier<39>, Null> as PartialEq>⟧.eq (λ v x. refl) (λ w y. refl) (λ v w. refl) (λ w v. refl))
+        ⟦<OneOf<ObjectIdentifierRef<'a, 39>, Null> as PartialEq>⟧.eq (λ v x. refl) (λ w y. refl) (λ v w. refl) (λ w v. refl))
         (one_tag_equality ⟦<SequenceTag as TagMarker>⟧.TAG ⟦<SpecifiedEcDomain<'a> as FormValue>⟧.value.contents ⟦<SpecifiedEcDomain<'a> as FormValue>⟧.value.comparable ⟦<SpecifiedEcDomain<'a> as PartialEq>⟧.eq specified_ec_domain_contents_eq.contents_eq-law)
-        ⟦<OneOf<OneOf<ObjectIdentifier<39>, Null>, SpecifiedEcDomain<'a>> as PartialEq>⟧.eq (λ v x. refl) (λ w y. refl) (λ v w. refl) (λ w v. refl)) };
+        ⟦<OneOf<OneOf<ObjectIdentifierRef<'a, 39>, Null>, SpecifiedEcDomain<'a>> as PartialEq>⟧.eq (λ v x. refl) (λ w y. refl) (λ v w. refl) (λ w v. refl)) };
 }
 
 impl<'a> CopyLaws for EcParameters<'a> {

@@ -9,7 +9,7 @@ ghost use Rattle.der_modules.specs.Asn1.{joined, parse_of};
 ghost use Rattle.der_modules.specs.MemberLaws.{member_equality, no_equality, one_tag, one_tag_equality, own_tags, tagged_starts};
 ghost use Rattle.der_opaque.specs.contracts.any_ref.AnyRefEncodingEq.TheImpl.Laws as anyref_encoding_eq;
 ghost use Rattle.der_opaque.specs.contracts.any_ref.AnyRefTagged.TheImpl.Laws as anyref_tagged;
-ghost use Rattle.der_opaque.specs.contracts.object_identifier.ObjectIdentifierContentsEq.TheImpl.Laws as objectidentifier_contents_eq;
+ghost use Rattle.der_opaque.specs.contracts.object_identifier_ref.ObjectIdentifierRefContentsEq.TheImpl.Laws as objectidentifierref_contents_eq;
 ghost use Rattle.der_pkix.specs.Key.FieldId as field_id_fields;
 ghost use Rattle.der_pkix.specs.Key.Grammar.{field_id};
 ghost use Rattle.der_pkix.specs.declared.key.field_id.FieldId.{FieldId};
@@ -19,14 +19,14 @@ use der_elem::{
     OneTag, Sequence, SequenceTag, TagMarker, Tagged, ValueOrd,
 };
 use der_fields::{DecodeFields, EncodeFields, End, Field, FieldList, Fields2, FieldsOrd};
-use der_opaque::{AnyRef, ObjectIdentifier};
+use der_opaque::{AnyRef, ObjectIdentifierRef};
 use der_tlv::{BackWriter, Error, Header, Length, Source, Writer};
 use std::alloc::Global;
 use std::cmp::Ordering;
 use std::fmt;
 
 /// The list of the fields.
-type Fields<'a> = Fields2<ObjectIdentifier<39>, AnyRef<'a>>;
+type Fields<'a> = Fields2<ObjectIdentifierRef<'a, 39>, AnyRef<'a>>;
 
 /// ```text
 /// FieldID ::= SEQUENCE {
@@ -44,8 +44,8 @@ impl<'a> FieldId<'a> {
     ghost use Rattle.der_pkix.specs.Key.FieldId as field_id_fields;
 
     /// A value of these fields.
-    pub fn new(field_type: ObjectIdentifier<39>, parameters: AnyRef<'a>) -> FieldId<'a>
-        ensures field_type { field_id_fields.field_type result ≡ field_type }
+    pub fn new(field_type: ObjectIdentifierRef<'a, 39>, parameters: AnyRef<'a>) -> FieldId<'a>
+        ensures field_type { field_id_fields.field_type result ≡ field_type.entry }
         ensures parameters { field_id_fields.parameters result ≡ parameters.entry }
     {
         let first = parameters;
@@ -57,10 +57,10 @@ impl<'a> FieldId<'a> {
     }
 
     /// `fieldType`, `OBJECT IDENTIFIER`.
-    pub fn field_type(&self) -> ObjectIdentifier<39>
-        ensures { result ≡ field_id_fields.field_type self.now }
+    pub fn field_type(&self) -> &ObjectIdentifierRef<'a, 39>
+        ensures { result.now ≡ field_id_fields.field_type self.now }
     {
-        self.fields.list.first
+        &self.fields.list.first
     }
 
     /// `parameters`, `ANY DEFINED BY fieldType`.
@@ -74,7 +74,7 @@ impl<'a> FieldId<'a> {
 impl<'a> fmt::Debug for FieldId<'a> {
     fn fmt<W: fmt::Write>(&self, f: &mut fmt::Formatter<W>) -> fmt::Result {
         f.debug_struct("FieldId")
-            .field("field_type", &self.field_type())
+            .field("field_type", self.field_type())
             .field("parameters", self.parameters())
             .finish()
     }
@@ -128,10 +128,10 @@ impl<'a> ValueOrd for FieldId<'a> {
 }
 
 impl<'a> ContentsEq for FieldId<'a> {
-    ghost contents_eq = { λ v w. (member_equality ⟦<ObjectIdentifier<39> as Form>⟧
-        (tagged_starts ⟦<ObjectIdentifier<39> as Form>⟧ (one_tag ⟦<ObjectIdentifierTag as TagMarker>⟧.TAG ⟦<ObjectIdentifier<39> as FormValue>⟧.value.contents))
-        ⟦<ObjectIdentifier<39> as PartialEq>⟧.eq
-        (one_tag_equality ⟦<ObjectIdentifierTag as TagMarker>⟧.TAG ⟦<ObjectIdentifier<39> as FormValue>⟧.value.contents ⟦<ObjectIdentifier<39> as FormValue>⟧.value.comparable ⟦<ObjectIdentifier<39> as PartialEq>⟧.eq (objectidentifier_contents_eq.contents_eq-law 39 (record { fits = lit< tt })))
+    ghost contents_eq = { λ v w. (member_equality ⟦<ObjectIdentifierRef<'a, 39> as Form>⟧
+        (tagged_starts ⟦<ObjectIdentifierRef<'a, 39> as Form>⟧ (one_tag ⟦<ObjectIdentifierTag as TagMarker>⟧.TAG ⟦<ObjectIdentifierRef<'a, 39> as FormValue>⟧.value.contents))
+        ⟦<ObjectIdentifierRef<'a, 39> as PartialEq>⟧.eq
+        (one_tag_equality ⟦<ObjectIdentifierTag as TagMarker>⟧.TAG ⟦<ObjectIdentifierRef<'a, 39> as FormValue>⟧.value.contents ⟦<ObjectIdentifierRef<'a, 39> as FormValue>⟧.value.comparable ⟦<ObjectIdentifierRef<'a, 39> as PartialEq>⟧.eq (objectidentifierref_contents_eq.contents_eq-law 39 (record { fits = lit< tt })))
         (member_equality ⟦<AnyRef<'a> as Form>⟧
         (tagged_starts ⟦<AnyRef<'a> as Form>⟧ (own_tags ⟦<AnyRef<'a> as Form>⟧.tags ⟦<AnyRef<'a> as Form>⟧.first_tag_of ⟦<AnyRef<'a> as Form>⟧.encoding ⟦<AnyRef<'a> as Tagged>⟧.tag_of ⟦<AnyRef<'a> as FormValue>⟧.value.contents anyref_tagged.encoding_is-law anyref_tagged.own_tag-law anyref_tagged.first_tag_is-law))
         ⟦<AnyRef<'a> as PartialEq>⟧.eq
@@ -149,7 +149,7 @@ pub fn grammar_of_field_id<'a>()
 /// The contents octets of `FieldID` are the encodings of its fields, one after another.
 pub fn octets_of_field_id<'a>()
     ensures { (v : FieldId) → ⟦<FieldId<'a> as FormValue>⟧.value.contents v ≡ joined (
-        (⟦<ObjectIdentifier<39> as Form>⟧.encoding (field_id_fields.field_type v))
+        (⟦<ObjectIdentifierRef<'a, 39> as Form>⟧.encoding (field_id_fields.field_type v))
         ∷ (⟦<AnyRef<'a> as Form>⟧.encoding (field_id_fields.parameters v))
         ∷ []) }
 {}

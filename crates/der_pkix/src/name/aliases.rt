@@ -9,16 +9,16 @@ ghost use Rattle.der_pkix.specs.Name.Grammar.{attribute_type, attribute_value, d
 use crate::name::rdn_sequence::RdnSequence;
 use der_elem::Form;
 use der_nest::{ItemOrder, OrdersByEncoding};
-use der_opaque::{AnyRef, ObjectIdentifier};
+use der_opaque::{AnyRef, ObjectIdentifierRef};
 
 /// ```text
 /// AttributeType ::= OBJECT IDENTIFIER
 /// ```
-pub type AttributeType = ObjectIdentifier<39>;
+pub type AttributeType<'a> = ObjectIdentifierRef<'a, 39>;
 
 /// What is read as `AttributeType` is what the page of the grammar says.
-pub fn grammar_of_attribute_type()
-    ensures { ⟦<AttributeType as Form>⟧.parse ≡ parse_of attribute_type }
+pub fn grammar_of_attribute_type<'a>()
+    ensures { ⟦<AttributeType<'a> as Form>⟧.parse ≡ parse_of attribute_type }
 {}
 
 /// ```text

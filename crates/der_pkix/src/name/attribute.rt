@@ -11,7 +11,7 @@ ghost use Rattle.der_opaque.specs.contracts.any_ref.AnyRefDuplicate.TheImpl.Laws
 ghost use Rattle.der_opaque.specs.contracts.any_ref.AnyRefDuplicateIsEqual.TheImpl.Laws as anyref_duplicate_is_equal;
 ghost use Rattle.der_opaque.specs.contracts.any_ref.AnyRefEncodingEq.TheImpl.Laws as anyref_encoding_eq;
 ghost use Rattle.der_opaque.specs.contracts.any_ref.AnyRefTagged.TheImpl.Laws as anyref_tagged;
-ghost use Rattle.der_opaque.specs.contracts.object_identifier.ObjectIdentifierContentsEq.TheImpl.Laws as objectidentifier_contents_eq;
+ghost use Rattle.der_opaque.specs.contracts.object_identifier_ref.ObjectIdentifierRefContentsEq.TheImpl.Laws as objectidentifierref_contents_eq;
 ghost use Rattle.der_pkix.specs.Name.Attribute as attribute_fields;
 ghost use Rattle.der_pkix.specs.Name.Grammar.{attribute};
 ghost use Rattle.der_pkix.specs.declared.name.attribute.Attribute.{Attribute};
@@ -26,14 +26,14 @@ use der_fields::{
 };
 use der_modules::CopyLaws;
 use der_nest::{ItemOrder, ItemSet, OrdersByEncoding};
-use der_opaque::{AnyRef, ObjectIdentifier};
+use der_opaque::{AnyRef, ObjectIdentifierRef};
 use der_tlv::{BackWriter, Error, Header, Length, Source, Writer};
 use std::alloc::Global;
 use std::cmp::Ordering;
 use std::fmt;
 
 /// The list of the fields.
-type Fields<'a> = Fields2<AttributeType, ItemSet<AttributeValue<'a>, AttributeValueOrder>>;
+type Fields<'a> = Fields2<AttributeType<'a>, ItemSet<AttributeValue<'a>, AttributeValueOrder>>;
 
 /// ```text
 /// Attribute ::= SEQUENCE {
@@ -53,10 +53,10 @@ impl<'a> Attribute<'a> {
 
     /// A value of these fields.
     pub fn new(
-        type_: AttributeType,
+        type_: AttributeType<'a>,
         values: ItemSet<AttributeValue<'a>, AttributeValueOrder>,
     ) -> Attribute<'a>
-        ensures type_ { attribute_fields.type_ result ≡ type_ }
+        ensures type_ { attribute_fields.type_ result ≡ type_.entry }
         ensures values { attribute_fields.values result ≡ values.entry }
     {
         let first = values;
@@ -71,7 +71,7 @@ impl<'a> Attribute<'a> {
     pub fn into_parts(
         self,
     ) -> (
-        AttributeType,
+        AttributeType<'a>,
         ItemSet<AttributeValue<'a>, AttributeValueOrder>,
     )
         ensures type_ { attribute_fields.type_ self.entry ≡ result.0 }
@@ -84,10 +84,10 @@ impl<'a> Attribute<'a> {
     }
 
     /// `type`, `AttributeType`.
-    pub fn type_(&self) -> AttributeType
-        ensures { result ≡ attribute_fields.type_ self.now }
+    pub fn type_(&self) -> &AttributeType<'a>
+        ensures { result.now ≡ attribute_fields.type_ self.now }
     {
-        self.fields.list.first
+        &self.fields.list.first
     }
 
     /// `values`, `SET OF AttributeValue`.
@@ -101,7 +101,7 @@ impl<'a> Attribute<'a> {
 impl<'a> fmt::Debug for Attribute<'a> {
     fn fmt<W: fmt::Write>(&self, f: &mut fmt::Formatter<W>) -> fmt::Result {
         f.debug_struct("Attribute")
-            .field("type_", &self.type_())
+            .field("type_", self.type_())
             .field("values", self.values())
             .finish()
     }
@@ -159,10 +159,10 @@ impl<'a> ValueOrd for Attribute<'a> {
 }
 
 impl<'a> ContentsEq for Attribute<'a> {
-    ghost contents_eq = { λ v w. (member_equality ⟦<AttributeType as Form>⟧
-        (tagged_starts ⟦<AttributeType as Form>⟧ (one_tag ⟦<ObjectIdentifierTag as TagMarker>⟧.TAG ⟦<ObjectIdentifier<39> as FormValue>⟧.value.contents))
-        ⟦<AttributeType as PartialEq>⟧.eq
-        (one_tag_equality ⟦<ObjectIdentifierTag as TagMarker>⟧.TAG ⟦<ObjectIdentifier<39> as FormValue>⟧.value.contents ⟦<ObjectIdentifier<39> as FormValue>⟧.value.comparable ⟦<ObjectIdentifier<39> as PartialEq>⟧.eq (objectidentifier_contents_eq.contents_eq-law 39 (record { fits = lit< tt })))
+    ghost contents_eq = { λ v w. (member_equality ⟦<AttributeType<'a> as Form>⟧
+        (tagged_starts ⟦<AttributeType<'a> as Form>⟧ (one_tag ⟦<ObjectIdentifierTag as TagMarker>⟧.TAG ⟦<ObjectIdentifierRef<'a, 39> as FormValue>⟧.value.contents))
+        ⟦<AttributeType<'a> as PartialEq>⟧.eq
+        (one_tag_equality ⟦<ObjectIdentifierTag as TagMarker>⟧.TAG ⟦<ObjectIdentifierRef<'a, 39> as FormValue>⟧.value.contents ⟦<ObjectIdentifierRef<'a, 39> as FormValue>⟧.value.comparable ⟦<ObjectIdentifierRef<'a, 39> as PartialEq>⟧.eq (objectidentifierref_contents_eq.contents_eq-law 39 (record { fits = lit< tt })))
         (member_equality ⟦<ItemSet<AttributeValue<'a>, AttributeValueOrder> as Form>⟧
         (tagged_starts ⟦<ItemSet<AttributeValue<'a>, AttributeValueOrder> as Form>⟧ (one_tag ⟦<SetTag as TagMarker>⟧.TAG ⟦<ItemSet<AttributeValue<'a>, AttributeValueOrder> as FormValue>⟧.value.contents))
         ⟦<ItemSet<AttributeValue<'a>, AttributeValueOrder> as PartialEq>⟧.eq
@@ -172,9 +172,9 @@ impl<'a> ContentsEq for Attribute<'a> {
 
 impl<'a> CopyLaws for Attribute<'a> {
     ghost copies = { copies_of (held_copies (λ v. v.fields.list)
-        (listed_copies (member_copies ⟦<AttributeType as Form>⟧
-        (tagged_starts ⟦<AttributeType as Form>⟧ (one_tag ⟦<ObjectIdentifierTag as TagMarker>⟧.TAG ⟦<ObjectIdentifier<39> as FormValue>⟧.value.contents))
-        (one_tag_copies ⟦<ObjectIdentifierTag as TagMarker>⟧.TAG (same_copies ⟦<ObjectIdentifier<39> as FormValue>⟧.value.contents ⟦<ObjectIdentifier<39> as FormValue>⟧.value.comparable ⟦<ObjectIdentifier<39> as FormValue>⟧.value.re_reads ⟦<ObjectIdentifier<39> as PartialEq>⟧.eq (λ v. ((objectidentifier_contents_eq.contents_eq-law 39 (record { fits = lit< tt })) v v tt).1 refl)))
+        (listed_copies (member_copies ⟦<AttributeType<'a> as Form>⟧
+        (tagged_starts ⟦<AttributeType<'a> as Form>⟧ (one_tag ⟦<ObjectIdentifierTag as TagMarker>⟧.TAG ⟦<ObjectIdentifierRef<'a, 39> as FormValue>⟧.value.contents))
+        (one_tag_copies ⟦<ObjectIdentifierTag as TagMarker>⟧.TAG (same_copies ⟦<ObjectIdentifierRef<'a, 39> as FormValue>⟧.value.contents ⟦<ObjectIdentifierRef<'a, 39> as FormValue>⟧.value.comparable ⟦<ObjectIdentifierRef<'a, 39> as FormValue>⟧.value.re_reads ⟦<ObjectIdentifierRef<'a, 39> as PartialEq>⟧.eq (λ v. ((objectidentifierref_contents_eq.contents_eq-law 39 (record { fits = lit< tt })) v v tt).1 refl)))
         (member_copies ⟦<ItemSet<AttributeValue<'a>, AttributeValueOrder> as Form>⟧
         (tagged_starts ⟦<ItemSet<AttributeValue<'a>, AttributeValueOrder> as Form>⟧ (one_tag ⟦<SetTag as TagMarker>⟧.TAG ⟦<ItemSet<AttributeValue<'a>, AttributeValueOrder> as FormValue>⟧.value.contents))
         (one_tag_copies ⟦<SetTag as TagMarker>⟧.TAG (items_copies ⟦<AttributeValue<'a> as Form>⟧ (record { octets_are = anyref_duplicate.copy_encoding-law; comparable_are = anyref_duplicate.copy_comparable-law; re_reads_are = anyref_duplicate.copy_re_reads-law; equal_are = anyref_duplicate_is_equal.copy_is_equal-law })))
@@ -228,7 +228,7 @@ pub fn grammar_of_attribute<'a>()
 /// The contents octets of `Attribute` are the encodings of its fields, one after another.
 pub fn octets_of_attribute<'a>()
     ensures { (v : Attribute) → ⟦<Attribute<'a> as FormValue>⟧.value.contents v ≡ joined (
-        (⟦<AttributeType as Form>⟧.encoding (attribute_fields.type_ v))
+        (⟦<AttributeType<'a> as Form>⟧.encoding (attribute_fields.type_ v))
         ∷ (⟦<ItemSet<AttributeValue<'a>, AttributeValueOrder> as Form>⟧.encoding (attribute_fields.values v))
         ∷ []) }
 {}

@@ -9,7 +9,7 @@ ghost use Rattle.der_modules.specs.Asn1.{joined, parse_of};
 ghost use Rattle.der_modules.specs.MemberLaws.{member_equality, no_equality, one_tag, one_tag_equality, own_tags, tagged_starts};
 ghost use Rattle.der_opaque.specs.contracts.any_ref.AnyRefEncodingEq.TheImpl.Laws as anyref_encoding_eq;
 ghost use Rattle.der_opaque.specs.contracts.any_ref.AnyRefTagged.TheImpl.Laws as anyref_tagged;
-ghost use Rattle.der_opaque.specs.contracts.object_identifier.ObjectIdentifierContentsEq.TheImpl.Laws as objectidentifier_contents_eq;
+ghost use Rattle.der_opaque.specs.contracts.object_identifier_ref.ObjectIdentifierRefContentsEq.TheImpl.Laws as objectidentifierref_contents_eq;
 ghost use Rattle.der_pkix.specs.Name.AttributeTypeAndValue as attribute_type_and_value_fields;
 ghost use Rattle.der_pkix.specs.Name.Grammar.{attribute_type_and_value};
 ghost use Rattle.der_pkix.specs.declared.name.attribute_type_and_value.AttributeTypeAndValue.{AttributeTypeAndValue};
@@ -21,14 +21,14 @@ use der_elem::{
 };
 use der_fields::{DecodeFields, EncodeFields, End, Field, FieldList, Fields2, FieldsOrd};
 use der_nest::{ItemOrder, OrdersByEncoding};
-use der_opaque::{AnyRef, ObjectIdentifier};
+use der_opaque::{AnyRef, ObjectIdentifierRef};
 use der_tlv::{BackWriter, Error, Header, Length, Source, Writer};
 use std::alloc::Global;
 use std::cmp::Ordering;
 use std::fmt;
 
 /// The list of the fields.
-type Fields<'a> = Fields2<AttributeType, AttributeValue<'a>>;
+type Fields<'a> = Fields2<AttributeType<'a>, AttributeValue<'a>>;
 
 /// ```text
 /// AttributeTypeAndValue ::= SEQUENCE {
@@ -46,8 +46,8 @@ impl<'a> AttributeTypeAndValue<'a> {
     ghost use Rattle.der_pkix.specs.Name.AttributeTypeAndValue as attribute_type_and_value_fields;
 
     /// A value of these fields.
-    pub fn new(type_: AttributeType, value: AttributeValue<'a>) -> AttributeTypeAndValue<'a>
-        ensures type_ { attribute_type_and_value_fields.type_ result ≡ type_ }
+    pub fn new(type_: AttributeType<'a>, value: AttributeValue<'a>) -> AttributeTypeAndValue<'a>
+        ensures type_ { attribute_type_and_value_fields.type_ result ≡ type_.entry }
         ensures value { attribute_type_and_value_fields.value result ≡ value.entry }
     {
         let first = value;
@@ -59,10 +59,10 @@ impl<'a> AttributeTypeAndValue<'a> {
     }
 
     /// `type`, `AttributeType`.
-    pub fn type_(&self) -> AttributeType
-        ensures { result ≡ attribute_type_and_value_fields.type_ self.now }
+    pub fn type_(&self) -> &AttributeType<'a>
+        ensures { result.now ≡ attribute_type_and_value_fields.type_ self.now }
     {
-        self.fields.list.first
+        &self.fields.list.first
     }
 
     /// `value`, `AttributeValue`.
@@ -76,7 +76,7 @@ impl<'a> AttributeTypeAndValue<'a> {
 impl<'a> fmt::Debug for AttributeTypeAndValue<'a> {
     fn fmt<W: fmt::Write>(&self, f: &mut fmt::Formatter<W>) -> fmt::Result {
         f.debug_struct("AttributeTypeAndValue")
-            .field("type_", &self.type_())
+            .field("type_", self.type_())
             .field("value", self.value())
             .finish()
     }
@@ -134,10 +134,10 @@ impl<'a> ValueOrd for AttributeTypeAndValue<'a> {
 }
 
 impl<'a> ContentsEq for AttributeTypeAndValue<'a> {
-    ghost contents_eq = { λ v w. (member_equality ⟦<AttributeType as Form>⟧
-        (tagged_starts ⟦<AttributeType as Form>⟧ (one_tag ⟦<ObjectIdentifierTag as TagMarker>⟧.TAG ⟦<ObjectIdentifier<39> as FormValue>⟧.value.contents))
-        ⟦<AttributeType as PartialEq>⟧.eq
-        (one_tag_equality ⟦<ObjectIdentifierTag as TagMarker>⟧.TAG ⟦<ObjectIdentifier<39> as FormValue>⟧.value.contents ⟦<ObjectIdentifier<39> as FormValue>⟧.value.comparable ⟦<ObjectIdentifier<39> as PartialEq>⟧.eq (objectidentifier_contents_eq.contents_eq-law 39 (record { fits = lit< tt })))
+    ghost contents_eq = { λ v w. (member_equality ⟦<AttributeType<'a> as Form>⟧
+        (tagged_starts ⟦<AttributeType<'a> as Form>⟧ (one_tag ⟦<ObjectIdentifierTag as TagMarker>⟧.TAG ⟦<ObjectIdentifierRef<'a, 39> as FormValue>⟧.value.contents))
+        ⟦<AttributeType<'a> as PartialEq>⟧.eq
+        (one_tag_equality ⟦<ObjectIdentifierTag as TagMarker>⟧.TAG ⟦<ObjectIdentifierRef<'a, 39> as FormValue>⟧.value.contents ⟦<ObjectIdentifierRef<'a, 39> as FormValue>⟧.value.comparable ⟦<ObjectIdentifierRef<'a, 39> as PartialEq>⟧.eq (objectidentifierref_contents_eq.contents_eq-law 39 (record { fits = lit< tt })))
         (member_equality ⟦<AttributeValue<'a> as Form>⟧
         (tagged_starts ⟦<AttributeValue<'a> as Form>⟧ (own_tags ⟦<AnyRef<'a> as Form>⟧.tags ⟦<AnyRef<'a> as Form>⟧.first_tag_of ⟦<AnyRef<'a> as Form>⟧.encoding ⟦<AnyRef<'a> as Tagged>⟧.tag_of ⟦<AnyRef<'a> as FormValue>⟧.value.contents anyref_tagged.encoding_is-law anyref_tagged.own_tag-law anyref_tagged.first_tag_is-law))
         ⟦<AttributeValue<'a> as PartialEq>⟧.eq
@@ -167,7 +167,7 @@ pub fn grammar_of_attribute_type_and_value<'a>()
 /// another.
 pub fn octets_of_attribute_type_and_value<'a>()
     ensures { (v : AttributeTypeAndValue) → ⟦<AttributeTypeAndValue<'a> as FormValue>⟧.value.contents v ≡ joined (
-        (⟦<AttributeType as Form>⟧.encoding (attribute_type_and_value_fields.type_ v))
+        (⟦<AttributeType<'a> as Form>⟧.encoding (attribute_type_and_value_fields.type_ v))
         ∷ (⟦<AttributeValue<'a> as Form>⟧.encoding (attribute_type_and_value_fields.value v))
         ∷ []) }
 {}

@@ -9,7 +9,7 @@ ghost use Rattle.der_modules.specs.Asn1.{joined, optional, parse_of};
 ghost use Rattle.der_modules.specs.MemberLaws.{member_equality, no_equality, one_tag, one_tag_equality, optional_equality, optional_starts, own_tags, tagged_starts};
 ghost use Rattle.der_opaque.specs.contracts.any_ref.AnyRefEncodingEq.TheImpl.Laws as anyref_encoding_eq;
 ghost use Rattle.der_opaque.specs.contracts.any_ref.AnyRefTagged.TheImpl.Laws as anyref_tagged;
-ghost use Rattle.der_opaque.specs.contracts.object_identifier.ObjectIdentifierContentsEq.TheImpl.Laws as objectidentifier_contents_eq;
+ghost use Rattle.der_opaque.specs.contracts.object_identifier_ref.ObjectIdentifierRefContentsEq.TheImpl.Laws as objectidentifierref_contents_eq;
 ghost use Rattle.der_shapes.specs.Shapes.Algorithm as algorithm_fields;
 ghost use Rattle.der_shapes.specs.Shapes.Grammar.{algorithm};
 ghost use Rattle.der_shapes.specs.declared.shapes.algorithm.Algorithm.{Algorithm};
@@ -19,14 +19,14 @@ use der_elem::{
     OneTag, Sequence, SequenceTag, TagMarker, Tagged, ValueOrd,
 };
 use der_fields::{DecodeFields, EncodeFields, End, Field, FieldList, Fields2, FieldsOrd};
-use der_opaque::{AnyRef, ObjectIdentifier};
+use der_opaque::{AnyRef, ObjectIdentifierRef};
 use der_tlv::{BackWriter, Error, Header, Length, Source, Writer};
 use std::alloc::Global;
 use std::cmp::Ordering;
 use std::fmt;
 
 /// The list of the fields.
-type Fields<'a> = Fields2<ObjectIdentifier<39>, Option<AnyRef<'a>>>;
+type Fields<'a> = Fields2<ObjectIdentifierRef<'a, 39>, Option<AnyRef<'a>>>;
 
 /// ```text
 /// Algorithm ::= SEQUENCE {
@@ -45,8 +45,11 @@ impl<'a> Algorithm<'a> {
     ghost use Rattle.std.specs.Prelude.{option_copied};
 
     /// A value of these fields.
-    pub fn new(algorithm: ObjectIdentifier<39>, parameters: Option<AnyRef<'a>>) -> Algorithm<'a>
-        ensures algorithm { algorithm_fields.algorithm result ≡ algorithm }
+    pub fn new(
+        algorithm: ObjectIdentifierRef<'a, 39>,
+        parameters: Option<AnyRef<'a>>,
+    ) -> Algorithm<'a>
+        ensures algorithm { algorithm_fields.algorithm result ≡ algorithm.entry }
         ensures parameters { algorithm_fields.parameters result ≡ parameters.entry }
     {
         let first = parameters;
@@ -58,10 +61,10 @@ impl<'a> Algorithm<'a> {
     }
 
     /// `algorithm`, `OBJECT IDENTIFIER`.
-    pub fn algorithm(&self) -> ObjectIdentifier<39>
-        ensures { result ≡ algorithm_fields.algorithm self.now }
+    pub fn algorithm(&self) -> &ObjectIdentifierRef<'a, 39>
+        ensures { result.now ≡ algorithm_fields.algorithm self.now }
     {
-        self.fields.list.first
+        &self.fields.list.first
     }
 
     /// `parameters`, `ANY DEFINED BY algorithm OPTIONAL`.
@@ -78,7 +81,7 @@ impl<'a> Algorithm<'a> {
 impl<'a> fmt::Debug for Algorithm<'a> {
     fn fmt<W: fmt::Write>(&self, f: &mut fmt::Formatter<W>) -> fmt::Result {
         f.debug_struct("Algorithm")
-            .field("algorithm", &self.algorithm())
+            .field("algorithm", self.algorithm())
             .field("parameters", &self.parameters())
             .finish()
     }
@@ -136,10 +139,10 @@ impl<'a> ValueOrd for Algorithm<'a> {
 }
 
 impl<'a> ContentsEq for Algorithm<'a> {
-    ghost contents_eq = { λ v w. (member_equality ⟦<ObjectIdentifier<39> as Form>⟧
-        (tagged_starts ⟦<ObjectIdentifier<39> as Form>⟧ (one_tag ⟦<ObjectIdentifierTag as TagMarker>⟧.TAG ⟦<ObjectIdentifier<39> as FormValue>⟧.value.contents))
-        ⟦<ObjectIdentifier<39> as PartialEq>⟧.eq
-        (one_tag_equality ⟦<ObjectIdentifierTag as TagMarker>⟧.TAG ⟦<ObjectIdentifier<39> as FormValue>⟧.value.contents ⟦<ObjectIdentifier<39> as FormValue>⟧.value.comparable ⟦<ObjectIdentifier<39> as PartialEq>⟧.eq (objectidentifier_contents_eq.contents_eq-law 39 (record { fits = lit< tt })))
+    ghost contents_eq = { λ v w. (member_equality ⟦<ObjectIdentifierRef<'a, 39> as Form>⟧
+        (tagged_starts ⟦<ObjectIdentifierRef<'a, 39> as Form>⟧ (one_tag ⟦<ObjectIdentifierTag as TagMarker>⟧.TAG ⟦<ObjectIdentifierRef<'a, 39> as FormValue>⟧.value.contents))
+        ⟦<ObjectIdentifierRef<'a, 39> as PartialEq>⟧.eq
+        (one_tag_equality ⟦<ObjectIdentifierTag as TagMarker>⟧.TAG ⟦<ObjectIdentifierRef<'a, 39> as FormValue>⟧.value.contents ⟦<ObjectIdentifierRef<'a, 39> as FormValue>⟧.value.comparable ⟦<ObjectIdentifierRef<'a, 39> as PartialEq>⟧.eq (objectidentifierref_contents_eq.contents_eq-law 39 (record { fits = lit< tt })))
         (member_equality ⟦<Option<AnyRef<'a>> as Form>⟧
         (optional_starts ⟦<AnyRef<'a> as Form>⟧ (own_tags ⟦<AnyRef<'a> as Form>⟧.tags ⟦<AnyRef<'a> as Form>⟧.first_tag_of ⟦<AnyRef<'a> as Form>⟧.encoding ⟦<AnyRef<'a> as Tagged>⟧.tag_of ⟦<AnyRef<'a> as FormValue>⟧.value.contents anyref_tagged.encoding_is-law anyref_tagged.own_tag-law anyref_tagged.first_tag_is-law))
         ⟦<Option<AnyRef<'a>> as PartialEq>⟧.eq
@@ -157,7 +160,7 @@ pub fn grammar_of_algorithm<'a>()
 /// The contents octets of `Algorithm` are the encodings of its fields, one after another.
 pub fn octets_of_algorithm<'a>()
     ensures { (v : Algorithm) → ⟦<Algorithm<'a> as FormValue>⟧.value.contents v ≡ joined (
-        (⟦<ObjectIdentifier<39> as Form>⟧.encoding (algorithm_fields.algorithm v))
+        (⟦<ObjectIdentifierRef<'a, 39> as Form>⟧.encoding (algorithm_fields.algorithm v))
         ∷ optional (λ x. (⟦<AnyRef<'a> as Form>⟧.encoding x)) (algorithm_fields.parameters v)
         ∷ []) }
 {}
