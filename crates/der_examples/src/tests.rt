@@ -268,10 +268,10 @@ fn a_source_of_ones_own_is_read(rt: HostRuntime) -> Result<(), Fail> {
     let octets = [0x02, 0x01, 0x05, 0x01, 0x01, 0xff];
     match Watched::new(&octets) {
         Ok(mut source) => {
-            // a tag is looked at, and is another's
+            // a tag is looked at where it stands, and is another's
             let absent: Option<bool> = numbered(read_watched(alloc, &mut source))?;
             same(&rt, absent, None);
-            same(&rt, (source.position().value(), source.furthest()), (0, 1));
+            same(&rt, (source.position().value(), source.furthest()), (0, 0));
             same(&rt, numbered(read_watched::<u8>(alloc, &mut source))?, 5);
             holds(&rt, numbered(read_watched::<bool>(alloc, &mut source))?);
             same(&rt, (source.position().value(), source.furthest()), (6, 6));
