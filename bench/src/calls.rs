@@ -64,8 +64,8 @@ of_other_types! {
     fn less_i64(a: *const i64, a_len: usize, b: *const i64, b_len: usize) -> u32;
     fn less_octets(a: *const u8, a_len: usize, b: *const u8, b_len: usize, rounds: u32) -> u32;
     fn less_list(a: *const u8, a_len: usize, b: *const u8, b_len: usize, rounds: u32) -> u32;
-    fn write_behind_1(numbers: *const u32, len: usize, rounds: u32) -> usize;
-    fn write_behind_11(numbers: *const u32, len: usize, rounds: u32) -> usize;
+    fn write_behind_1(octets: *const u8, len: usize, rounds: u32) -> usize;
+    fn write_behind_11(octets: *const u8, len: usize, rounds: u32) -> usize;
 }
 
 unsafe extern "C" {
@@ -99,13 +99,13 @@ pub fn library_less_list(a: &[u8], b: &[u8], rounds: u32) -> usize {
 }
 
 /// Writes a SEQUENCE of these so many times, and answers its octets' number.
-pub fn library_write_behind_1(numbers: &[u32], rounds: u32) -> usize {
-    unsafe { write_behind_1(numbers.as_ptr(), numbers.len(), rounds) }
+pub fn library_write_behind_1(octets: &[u8], rounds: u32) -> usize {
+    unsafe { write_behind_1(octets.as_ptr(), octets.len(), rounds) }
 }
 
 /// The same within ten lists.
-pub fn library_write_behind_11(numbers: &[u32], rounds: u32) -> usize {
-    unsafe { write_behind_11(numbers.as_ptr(), numbers.len(), rounds) }
+pub fn library_write_behind_11(octets: &[u8], rounds: u32) -> usize {
+    unsafe { write_behind_11(octets.as_ptr(), octets.len(), rounds) }
 }
 
 /// OpenSSL's headers of a tree of values.

@@ -3,7 +3,7 @@
 use crate::calls::{self, octets as here};
 use crate::measure::{Candidate, Goal, Plan, Work, by};
 use crate::peers::Peer;
-use crate::{limit, of_asn1, of_der};
+use crate::{inputs, limit, of_asn1, of_der};
 use std::path::{Path, PathBuf};
 
 /// The messages of a file, each after its length in four octets.
@@ -186,13 +186,18 @@ pub fn lists(plan: &Plan) {
     if !plan.has("writing behind 11 lists") || !calls::ARE_THERE {
         return;
     }
-    let numbers: Vec<u32> = (0..LEAVES).collect();
-    let octets = [calls::library_write_behind_1(&numbers, 1), calls::library_write_behind_11(&numbers, 1)];
+    let mut number = 0;
+    let flat = inputs::sequence(LEAVES as usize, || {
+        number += 1;
+        inputs::integer(number)
+    });
+    let nested = (0..10).fold(flat.clone(), |inner, _| inputs::tlv(0x30, &inner));
+    let octets = [calls::library_write_behind_1(&flat, 1), calls::library_write_behind_11(&nested, 1)];
+    assert_eq!(octets, [flat.len(), nested.len()], "the octets that were read are written");
     // (ten headers of a SEQUENCE, each with a length of three octets)
-    assert_eq!(octets[1], octets[0] + 50, "the lists around the numbers");
-    let deep = |rounds| calls::library_write_behind_11(&numbers, rounds).saturating_sub(50);
+    let deep = |rounds| calls::library_write_behind_11(&nested, rounds).saturating_sub(50);
     plan.row("writing behind 11 lists", (LEAVES * WRITINGS) as usize, 25, &[("behind 1", 1.2)], vec![
         by("here", || deep(WRITINGS)),
-        by("behind 1", || calls::library_write_behind_1(&numbers, WRITINGS)),
+        by("behind 1", || calls::library_write_behind_1(&flat, WRITINGS)),
     ]);
 }
