@@ -1,35 +1,38 @@
-//! Reads a certificate, a list of revoked certificates or a key from standard input, in DER or as PEM
-//! text, and prints its fields. With the argument `lines` it answers lines, each a message's name, a
-//! space and hex digits.
+//! Reads X.509 certificates, lists of revoked certificates and keys, in DER or as PEM text, from files or
+//! from standard input, and prints their fields. With the argument `lines` it answers lines, each a
+//! message's name, a space and hex digits.
 #![tactic(auto)]
 
 use certview_names::MessageNames;
-use certview_text::{Fault, run};
-use der_lines::{LineReader, OctetWriter};
+use certview_text::{Fault, Outcome, View, plain, run};
+use der_lines::{Fault as LineFault, LineReader, OctetWriter};
 use lines::{asks_for_lines, fault_of_run};
-use std::env::{self, Env};
-use std::io::{self, BufReader};
+use options::{Request, request_of};
+use std::io::{self, BufReader, IsTerminal};
 use std::process::ExitCode;
+use std::{env, fs};
 
 mod lines;
+mod options;
 #[cfg(test)]
 mod tests;
 
-/// Whether the first argument asks for lines.
-fn wants_lines(rt: &(impl AllocGlobal + Env)) -> Result<bool, Fault> {
+/// The words of the command line.
+fn words_of(rt: &HostRuntime) -> Result<Vec<String>, Fault> {
     match env::args(rt) {
-        Ok(words) => Ok(
-            words
-                .skip(1)
-                .next()
-                .is_some_and(|word| asks_for_lines(word.as_str())),
-        ),
-        Err(error) if error.kind() == io::ErrorKind::OutOfMemory => Err(Fault::Memory),
-        Err(_) => Err(Fault::Input),
+        Ok(words) => Ok(words.collect(rt.alloc())?),
+        Err(error) => Err(input_fault(&error)),
     }
 }
 
-fn answer_lines(rt: &(impl Input + Print + AllocGlobal)) -> Result<(), Fault> {
+fn input_fault(error: &io::Error) -> Fault {
+    match error.kind() {
+        io::ErrorKind::OutOfMemory => Fault::Memory,
+        _ => Fault::Input,
+    }
+}
+
+fn answer_lines(rt: &HostRuntime) -> Result<(), Fault> {
     let Ok(reader) = BufReader::new(rt.alloc(), rt.reader()) else {
         return Err(Fault::Memory);
     };
@@ -37,20 +40,102 @@ fn answer_lines(rt: &(impl Input + Print + AllocGlobal)) -> Result<(), Fault> {
     let mut output = OctetWriter::new(io::writer(rt));
     match der_lines::run::<MessageNames, _, _>(rt.alloc(), &mut input, &mut output) {
         Ok(()) => Ok(()),
+        Err(LineFault::Output) if output.failure == Some(io::ErrorKind::BrokenPipe) => Ok(()),
         Err(fault) => Err(fault_of_run(fault)),
     }
 }
 
-fn view(rt: &(impl Input + Print + AllocGlobal + Env)) -> Result<(), Fault> {
-    if wants_lines(rt)? {
-        return answer_lines(rt);
+/// Shows each file, and answers the greatest status.
+fn show_files(rt: &HostRuntime, request: &Request<'_>) -> u8 {
+    let mut status = 0;
+    for file in request.files.as_slice() {
+        let name = if request.files.len() > 1 {
+            Some(*file)
+        } else {
+            None
+        };
+        let view = View {
+            name,
+            has_fingerprint: request.has_fingerprint,
+        };
+        let shown = if *file == "-" {
+            show_input(rt, &view)
+        } else {
+            show_file(rt, &view, file)
+        };
+        status = status.max(status_of(rt, file, shown));
+        if shown == Ok(Outcome::Closed) {
+            return status;
+        }
     }
-    run(rt.alloc(), &mut rt.reader(), &mut io::writer(rt))
+    status
+}
+
+fn show_input(rt: &HostRuntime, view: &View<'_>) -> Result<Outcome, Fault> {
+    if rt.stdin().is_terminal() {
+        let _ = eprintln!(rt;
+            "certview: waiting for a message on standard input (certview --help)"
+        );
+    }
+    run(rt.alloc(), view, &mut rt.reader(), &mut io::writer(rt))
+}
+
+fn show_file(rt: &HostRuntime, view: &View<'_>, file: &str) -> Result<Outcome, Fault> {
+    match fs::open(rt, file) {
+        Ok(mut opened) => run(rt.alloc(), view, &mut opened, &mut io::writer(rt)),
+        Err(error) => Err(input_fault(&error)),
+    }
+}
+
+/// The status of a file, of which a fault is told on standard error.
+fn status_of(rt: &HostRuntime, file: &str, shown: Result<Outcome, Fault>) -> u8 {
+    match shown {
+        Ok(Outcome::Partial) => 1,
+        Ok(_) => 0,
+        Err(fault) => {
+            tell(rt, file, fault);
+            fault.status()
+        }
+    }
+}
+
+fn tell(rt: &HostRuntime, file: &str, fault: Fault) {
+    let _ = match plain(rt.alloc(), file) {
+        Ok(name) if file != "-" => eprintln!(rt; "certview: {name}: {fault}"),
+        _ => eprintln!(rt; "certview: {fault}"),
+    };
+}
+
+/// Whether the one argument asks for lines.
+fn wants_lines(words: &[String]) -> bool {
+    match words {
+        [_, word] => asks_for_lines(word.as_str()),
+        _ => false,
+    }
+}
+
+/// Does what the words ask for, and answers the status.
+fn answer(rt: &HostRuntime, words: &[String]) -> Result<u8, Fault> {
+    if wants_lines(words) {
+        answer_lines(rt)?;
+        return Ok(0);
+    }
+    match request_of(rt.alloc(), words) {
+        Ok(request) => Ok(show_files(rt, &request)),
+        Err(error) => match error.print(rt) {
+            Ok(()) => Ok(error.exit_code() as u8),
+            Err(_) => Err(Fault::Output),
+        },
+    }
 }
 
 fn main(rt: HostRuntime) -> ExitCode {
-    match view(&rt) {
-        Ok(()) => ExitCode::SUCCESS,
+    let answered = match words_of(&rt) {
+        Ok(words) => answer(&rt, words.as_slice()),
+        Err(fault) => Err(fault),
+    };
+    match answered {
+        Ok(status) => ExitCode::from(status),
         Err(fault) => {
             let _ = eprintln!(rt; "certview: {fault}");
             ExitCode::from(fault.status())

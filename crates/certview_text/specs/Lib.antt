@@ -1,5 +1,6 @@
+pub mod Characters
 pub mod Faults
 pub mod Grammars
 pub mod Kinds
-pub mod Pem
+pub mod Shown
 pub mod Values

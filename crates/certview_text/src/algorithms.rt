@@ -1,10 +1,14 @@
 //! Algorithms and public keys as text.
 
-use crate::identifiers::push_identifier;
+use crate::hexadecimal::{push_digits, push_number_of};
+use crate::identifiers::{curve_bits, push_identifier};
 use crate::labels::push_label;
-use crate::names::push_malformed;
+use crate::names::push_encoding;
+use crate::page::{Page, push_malformed};
+use crate::place::Place;
 use crate::site::Site;
-use der_asn1_types::asn1::AnyRef;
+use crate::values::sizes;
+use der_asn1_types::asn1::{AnyRef, BitStringRef, UintRef};
 use der_asn1_types::{FromDer, Tag};
 use der_pkix::AlgorithmIdentifier;
 use der_pkix::certificate::SubjectPublicKeyInfo;
@@ -15,73 +19,140 @@ use std::fmt::Write;
 /// The contents octets of rsaEncryption, 1.2.840.113549.1.1.1.
 const RSA_ENCRYPTION: [u8; 9] = [0x2a, 0x86, 0x48, 0x86, 0xf7, 0x0d, 0x01, 0x01, 0x01];
 
+/// The contents octets of RSASSA-PSS, 1.2.840.113549.1.1.10.
+const RSASSA_PSS: [u8; 9] = [0x2a, 0x86, 0x48, 0x86, 0xf7, 0x0d, 0x01, 0x01, 0x0a];
+
+/// The contents octets of id-ecPublicKey, 1.2.840.10045.2.1.
+const EC_PUBLIC_KEY: [u8; 7] = [0x2a, 0x86, 0x48, 0xce, 0x3d, 0x02, 0x01];
+
+/// The contents octets of id-dsa, 1.2.840.10040.4.1.
+const DSA: [u8; 7] = [0x2a, 0x86, 0x48, 0xce, 0x38, 0x04, 0x01];
+
 /// Adds a line with an algorithm's identifier, and with its parameters where these are an identifier,
-/// as of a curve (RFC 5480 section 2.1.1); of others the number of their octets.
+/// as of a curve (RFC 5480 section 2.1.1); of others their encoding.
 pub fn push_algorithm(
     alloc: Global,
-    text: &mut String,
+    page: &mut Page,
     site: &Site,
     label: &str,
     algorithm: &AlgorithmIdentifier<'_>,
 ) -> Result<(), AllocError> {
-    push_label(text, &site.place, label)?;
-    push_identifier(alloc, text, algorithm.oid.as_bytes())?;
+    push_label(page, &site.place, label)?;
+    push_identifier(alloc, page, algorithm.oid.as_bytes())?;
     if let Some(parameters) = &algorithm.parameters {
-        push_parameters(alloc, text, parameters)?;
+        push_parameters(alloc, page, parameters)?;
     }
-    text.push('\n')
+    page.text.push('\n')
 }
 
 fn push_parameters(
     alloc: Global,
-    text: &mut String,
+    page: &mut Page,
     parameters: &AnyRef<'_>,
 ) -> Result<(), AllocError> {
-    let octets = parameters.value();
     match parameters.header().tag {
         Tag::Null => Ok(()),
         Tag::ObjectIdentifier => {
-            text.push_str(", ")?;
-            push_identifier(alloc, text, octets)
+            page.text.push_str(", ")?;
+            push_identifier(alloc, page, parameters.value())
         }
         _ => {
-            let count = octets.len();
-            write!(text, ", parameters of {count} octets")
+            page.text.push_str(", parameters ")?;
+            push_encoding(alloc, page, parameters)
         }
     }
 }
 
-/// Adds a line for the algorithm of a key, and one for the bits of its BIT STRING; of a key of RSA
-/// also how many bits the modulus in these has (RFC 3279 section 2.3.1).
+/// Adds a line for the algorithm of a key, and one for the key itself: how many bits it has as people
+/// count them, and its octets.
 pub fn push_key(
     alloc: Global,
-    text: &mut String,
+    page: &mut Page,
     octets: &[u8],
     site: &Site,
     key: &SubjectPublicKeyInfo<'_>,
 ) -> Result<(), AllocError> {
     let algorithm = site.field(octets, "algorithm");
-    push_algorithm(alloc, text, &algorithm, "key algorithm", key.algorithm())?;
-    push_label(text, &site.field(octets, "subjectPublicKey").place, "key")?;
-    let bits = key.subject_public_key().bit_len();
-    write!(text, "{bits} bits")?;
-    if key.algorithm().oid.as_bytes() == RSA_ENCRYPTION.as_slice() {
-        if let Some(octets) = key.subject_public_key().as_bytes() {
-            push_rsa_key(alloc, text, octets)?;
+    push_algorithm(alloc, page, &algorithm, "key algorithm", key.algorithm())?;
+    let place = site.field(octets, "subjectPublicKey").place;
+    push_label(page, &place, "key")?;
+    let bits = key.subject_public_key();
+    match key.algorithm().oid.as_bytes() {
+        oid if oid == RSA_ENCRYPTION.as_slice() || oid == RSASSA_PSS.as_slice() => {
+            push_rsa_key(alloc, page, &place, bits.raw_bytes())?
         }
+        oid if oid == EC_PUBLIC_KEY.as_slice() => {
+            push_point(alloc, page, key.algorithm(), bits)?
+        }
+        oid if oid == DSA.as_slice() => push_dsa_key(alloc, page, key.algorithm(), bits)?,
+        _ => push_bits_of(page, bits.bit_len(), bits)?,
     }
-    text.push('\n')
+    page.text.push('\n')
 }
 
-fn push_rsa_key(alloc: Global, text: &mut String, octets: &[u8]) -> Result<(), AllocError> {
-    text.push_str(", ")?;
+/// Adds how many bits a key has, and the octets of its BIT STRING.
+fn push_bits_of(page: &mut Page, bits: usize, key: &BitStringRef<'_>) -> Result<(), AllocError> {
+    write!(page.text, "{bits} bits, ")?;
+    push_digits(page, key.raw_bytes())
+}
+
+/// Adds the bits of the modulus, the exponent and the modulus of a key of RSA (RFC 3279 section 2.3.1),
+/// whose encoding the BIT STRING at this place holds, after the octet of its unused bits.
+fn push_rsa_key(
+    alloc: Global,
+    page: &mut Page,
+    place: &Place,
+    octets: &[u8],
+) -> Result<(), AllocError> {
     match RsaPublicKey::from_der(alloc, octets) {
         Ok(key) => {
             let bits = bits_of(key.modulus().as_bytes());
-            write!(text, "modulus of {bits} bits")
+            write!(page.text, "{bits} bits, exponent ")?;
+            push_number_of(page, key.public_exponent().as_bytes())?;
+            page.text.push_str(", modulus ")?;
+            push_digits(page, key.modulus().as_bytes())
         }
-        Err(error) => push_malformed(text, error),
+        Err(error) => push_malformed(page, place.contents.saturating_add(1), error),
     }
+}
+
+/// Adds the bits of an element of the curve's field, if the curve has a name that is known, and the point
+/// (RFC 5480 section 2.2).
+fn push_point(
+    alloc: Global,
+    page: &mut Page,
+    algorithm: &AlgorithmIdentifier<'_>,
+    point: &BitStringRef<'_>,
+) -> Result<(), AllocError> {
+    let bits = match &algorithm.parameters {
+        Some(curve) => curve_bits(alloc, curve.value())?,
+        None => None,
+    };
+    match bits {
+        Some(bits) => push_bits_of(page, bits, point),
+        None => {
+            page.text.push_str("point ")?;
+            push_digits(page, point.raw_bytes())
+        }
+    }
+}
+
+/// Adds the bits of the prime of a key of DSA, the first of its parameters (RFC 3279 section 2.3.2), and
+/// the key.
+fn push_dsa_key(
+    alloc: Global,
+    page: &mut Page,
+    algorithm: &AlgorithmIdentifier<'_>,
+    key: &BitStringRef<'_>,
+) -> Result<(), AllocError> {
+    if let Some(parameters) = &algorithm.parameters {
+        let (_, count) = sizes(parameters.value());
+        if let Ok(prime) = UintRef::from_der(alloc, &parameters.value()[..count]) {
+            return push_bits_of(page, bits_of(prime.as_bytes()), key);
+        }
+    }
+    page.text.push_str("key of DSA ")?;
+    push_digits(page, key.raw_bytes())
 }
 
 /// How many bits a number has, of which these are the octets.

@@ -7,10 +7,11 @@ ghost use Rattle.certview_text.specs.Faults.{first_fault};
 
 use crate::algorithms::{push_algorithm, push_key};
 use crate::extensions::push_extensions;
-use crate::hexadecimal::push_with_colons;
+use crate::hexadecimal::{push_digits, push_serial};
 use crate::kind::Kind;
-use crate::labels::{push_label, push_number, push_title};
+use crate::labels::{push_label, push_title};
 use crate::names::push_name;
+use crate::page::Page;
 use crate::site::Site;
 use crate::times::push_validity;
 use der_asn1_types::asn1::{BitStringRef, IntRef};
@@ -21,95 +22,88 @@ use der_pkix::certificate::{Certificate, TbsCertificate};
 use std::alloc::{AllocError, Global};
 use std::fmt::Write;
 
-/// The fields of the certificate that these octets are, a line each.
+/// Adds the fields of the certificate that these octets are, a line each.
 ///
 /// # Errors
 /// The first fault of the octets, in the order of the fields; `ErrorKind::TrailingData` (3) where
 /// octets are left over; `ErrorKind::Overflow` (9) where there are more than 4294967295;
 /// `ErrorKind::Memory` (1) where memory runs out.
-pub fn certificate_text(alloc: Global, octets: &[u8]) -> Result<String, Error>
+pub fn push_certificate(alloc: Global, page: &mut Page, octets: &[u8]) -> Result<(), Error>
     ensures { OnOk result (first_fault (parse_of certificate) octets.now ≡ None) }
 {
     grammar_of_certificate();
     match Certificate::from_der(alloc, octets) {
-        Ok(certificate) => Ok(text_of(alloc, octets, &certificate)?),
+        Ok(certificate) => Ok(push_fields(alloc, page, octets, &certificate)?),
         Err(error) => Err(error),
     }
 }
 
-fn text_of(
+fn push_fields(
     alloc: Global,
+    page: &mut Page,
     octets: &[u8],
     certificate: &Certificate<'_>,
-) -> Result<String, AllocError> {
-    let mut text = String::new(alloc);
+) -> Result<(), AllocError> {
     let whole = Site::whole(octets, Kind::Certificate);
-    push_title(&mut text, &whole.place, Kind::Certificate)?;
+    push_title(page, &whole.place, Kind::Certificate)?;
     let site = whole.field(octets, "tbsCertificate");
-    push_signed(
-        alloc,
-        &mut text,
-        octets,
-        &site,
-        certificate.tbs_certificate(),
-    )?;
+    push_signed(alloc, page, octets, &site, certificate.tbs_certificate())?;
     push_signature(
         alloc,
-        &mut text,
+        page,
         octets,
         &whole,
         certificate.signature_algorithm(),
         certificate.signature_value(),
-    )?;
-    Ok(text)
+    )
 }
 
 fn push_signed(
     alloc: Global,
-    text: &mut String,
+    page: &mut Page,
     octets: &[u8],
     site: &Site,
     signed: &TbsCertificate<'_>,
 ) -> Result<(), AllocError> {
-    push_version(text, &site.field(octets, "version"), signed.version())?;
+    push_version(page, &site.field(octets, "version"), signed.version())?;
     push_serial_number(
-        text,
+        page,
         &site.field(octets, "serialNumber"),
         signed.serial_number(),
     )?;
     push_algorithm(
         alloc,
-        text,
+        page,
         &site.field(octets, "signature"),
         "signature algorithm",
         signed.signature(),
     )?;
     push_name(
         alloc,
-        text,
+        page,
         &site.field(octets, "issuer"),
         "issuer",
         signed.issuer(),
     )?;
     push_validity(
-        text,
+        page,
         octets,
         &site.field(octets, "validity"),
         &signed.validity(),
     )?;
     push_name(
         alloc,
-        text,
+        page,
         &site.field(octets, "subject"),
         "subject",
         signed.subject(),
     )?;
-    push_rest(alloc, text, octets, site, signed)
+    push_rest(alloc, page, octets, site, signed)
 }
 
 fn push_rest(
     alloc: Global,
-    text: &mut String,
+    page: &mut Page,
     octets: &[u8],
     site: &Site,
     signed: &TbsCertificate<'_>,
@@ -117,15 +111,24 @@ fn push_rest(
     let key = signed.subject_public_key_info();
     push_key(
         alloc,
-        text,
+        page,
         octets,
         &site.field(octets, "subjectPublicKeyInfo"),
         key,
     )?;
+    let issuer = site.field(octets, "issuerUniqueID");
+    push_unique(page, &issuer, "issuer's number", signed.issuer_unique_id())?;
+    let subject = site.field(octets, "subjectUniqueID");
+    push_unique(
+        page,
+        &subject,
+        "subject's number",
+        signed.subject_unique_id(),
+    )?;
     match signed.extensions() {
         Some(extensions) => push_extensions(
             alloc,
-            text,
+            page,
             octets,
             &site.field(octets, "extensions"),
             extensions.as_slice(),
@@ -134,27 +137,40 @@ fn push_rest(
     }
 }
 
-/// Adds a line with the version: what is encoded is one less (RFC 5280 section 4.1.2.1).
-pub fn push_version(text: &mut String, site: &Site, number: u8) -> Result<(), AllocError> {
-    push_label(text, &site.place, "version")?;
-    let version = u16::from(number) + 1;
-    writeln!(text, "{version}")
+/// Adds a line with a number of an issuer or of a subject, where it is there.
+fn push_unique(
+    page: &mut Page,
+    site: &Site,
+    label: &str,
+    number: Option<&BitStringRef<'_>>,
+) -> Result<(), AllocError> {
+    match number {
+        Some(bits) => {
+            push_label(page, &site.place, label)?;
+            push_bits(page, bits)?;
+            page.text.push('\n')
+        }
+        None => Ok(()),
+    }
 }
 
-fn push_serial_number(
-    text: &mut String,
-    site: &Site,
-    number: &IntRef<'_>,
-) -> Result<(), AllocError> {
-    push_label(text, &site.place, "serial number")?;
-    push_with_colons(text, number.as_bytes())?;
-    text.push('\n')
+/// Adds a line with the version: what is encoded is one less (RFC 5280 section 4.1.2.1).
+pub fn push_version(page: &mut Page, site: &Site, number: u8) -> Result<(), AllocError> {
+    push_label(page, &site.place, "version")?;
+    let version = u16::from(number) + 1;
+    writeln!(page.text, "{version}")
+}
+
+fn push_serial_number(page: &mut Page, site: &Site, number: &IntRef<'_>) -> Result<(), AllocError> {
+    push_label(page, &site.place, "serial number")?;
+    push_serial(page, number.as_bytes())?;
+    page.text.push('\n')
 }
 
 /// Adds the lines of a signature: those of a certificate and of a list are alike.
 pub fn push_signature(
     alloc: Global,
-    text: &mut String,
+    page: &mut Page,
     octets: &[u8],
     site: &Site,
     algorithm: &AlgorithmIdentifier<'_>,
@@ -162,11 +178,30 @@ pub fn push_signature(
 ) -> Result<(), AllocError> {
     push_algorithm(
         alloc,
-        text,
+        page,
         &site.field(octets, "signatureAlgorithm"),
         "signature algorithm",
         algorithm,
     )?;
-    let place = site.field(octets, "signatureValue").place;
-    push_number(text, &place, "signature", signature.bit_len(), "bits")
+    push_label(
+        page,
+        &site.field(octets, "signatureValue").place,
+        "signature",
+    )?;
+    push_bits(page, signature)?;
+    page.text.push('\n')
+}
+
+/// Adds how many octets a BIT STRING of whole octets has, and these; of another how many bits, and its
+/// octets.
+pub fn push_bits(page: &mut Page, bits: &BitStringRef<'_>) -> Result<(), AllocError> {
+    let octets = bits.raw_bytes();
+    let count = octets.len();
+    if bits.unused_bits() == 0 {
+        write!(page.text, "{count} octets, ")?;
+    } else {
+        let count = bits.bit_len();
+        write!(page.text, "{count} bits, ")?;
+    }
+    push_digits(page, octets)
 }

@@ -1,38 +1,77 @@
-//! The value of the extension basicConstraints as text (RFC 5280 section 4.2.1.9).
+//! The values of extensions that are numbers or hold some, as text (RFC 5280 sections 4.2.1.9, 4.2.1.11,
+//! 4.2.1.14, 5.2.3 and 5.2.4).
 
-use crate::hexadecimal::push_digits;
-use crate::names::push_malformed;
+use crate::hexadecimal::push_number_of;
+use crate::page::{Inner, Page, push_malformed};
 use der_asn1_types::FromDer;
-use der_extensions::extension::BasicConstraints;
+use der_asn1_types::asn1::UintRef;
+use der_extensions::extension::{BasicConstraints, PolicyConstraints};
 use std::alloc::{AllocError, Global};
-use std::fmt::Write;
 
 /// Adds whether the key may sign certificates, and how many may follow.
-pub fn push_constraints(alloc: Global, text: &mut String, octets: &[u8]) -> Result<(), AllocError> {
-    text.push_str(", ")?;
-    match BasicConstraints::from_der(alloc, octets) {
-        Ok(constraints) => push_authority(text, &constraints),
-        Err(error) => push_malformed(text, error),
+pub fn push_constraints(
+    alloc: Global,
+    page: &mut Page,
+    inner: Inner<'_>,
+) -> Result<(), AllocError> {
+    page.text.push_str(", ")?;
+    match BasicConstraints::from_der(alloc, inner.octets) {
+        Ok(constraints) => push_authority(page, &constraints),
+        Err(error) => push_malformed(page, inner.begin, error),
     }
 }
 
-fn push_authority(text: &mut String, constraints: &BasicConstraints<'_>) -> Result<(), AllocError> {
+fn push_authority(page: &mut Page, constraints: &BasicConstraints<'_>) -> Result<(), AllocError> {
     if constraints.ca() {
-        text.push_str("CA")?;
+        page.text.push_str("CA")?;
     } else {
-        text.push_str("no CA")?;
+        page.text.push_str("no CA")?;
     }
-    match constraints.path_len_constraint() {
-        Some(length) => push_path_length(text, length.as_bytes()),
+    push_count(page, "path length", constraints.path_len_constraint())
+}
+
+/// Adds after how many certificates a policy has to be there, and none may stand for another.
+pub fn push_policy_constraints(
+    alloc: Global,
+    page: &mut Page,
+    inner: Inner<'_>,
+) -> Result<(), AllocError> {
+    match PolicyConstraints::from_der(alloc, inner.octets) {
+        Ok(constraints) => {
+            let explicit = constraints.require_explicit_policy();
+            push_count(page, "explicit policy after", explicit)?;
+            let mapping = constraints.inhibit_policy_mapping();
+            push_count(page, "no mapping after", mapping)
+        }
+        Err(error) => {
+            page.text.push_str(", ")?;
+            push_malformed(page, inner.begin, error)
+        }
+    }
+}
+
+fn push_count(
+    page: &mut Page,
+    label: &str,
+    number: Option<&UintRef<'_>>,
+) -> Result<(), AllocError> {
+    match number {
+        Some(number) => {
+            page.text.push_str(", ")?;
+            page.text.push_str(label)?;
+            page.text.push(' ')?;
+            push_number_of(page, number.as_bytes())
+        }
         None => Ok(()),
     }
 }
 
-fn push_path_length(text: &mut String, octets: &[u8]) -> Result<(), AllocError> {
-    text.push_str(", path length ")?;
-    if let [number] = octets {
-        return write!(text, "{number}");
+/// Adds a number: that of a list, or of a list to which one adds, or after how many certificates no
+/// policy stands for any.
+pub fn push_number(alloc: Global, page: &mut Page, inner: Inner<'_>) -> Result<(), AllocError> {
+    page.text.push_str(", ")?;
+    match UintRef::from_der(alloc, inner.octets) {
+        Ok(number) => push_number_of(page, number.as_bytes()),
+        Err(error) => push_malformed(page, inner.begin, error),
     }
-    text.push_str("0x")?;
-    push_digits(text, octets)
 }

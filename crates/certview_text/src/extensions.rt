@@ -1,10 +1,17 @@
 //! Extensions as text.
 
-use crate::constraints::push_constraints;
+use crate::access::push_access;
+use crate::constraints::{push_constraints, push_number, push_policy_constraints};
+use crate::entries::{push_instruction, push_invalidity, push_reason};
+use crate::hexadecimal::push_digits;
 use crate::identifiers::push_identifier;
 use crate::key_identifiers::{push_authority_key, push_subject_key};
 use crate::labels::push_label;
 use crate::other_names::push_other_names;
+use crate::page::{Inner, Page};
+use crate::place::Place;
+use crate::points::push_points;
+use crate::policies::push_policies;
 use crate::site::{Site, Sites};
 use crate::usages::{push_purposes, push_usage};
 use der_pkix::certificate::Extension;
@@ -14,7 +21,7 @@ use std::fmt::Write;
 /// Adds a line for each extension. They stand after an explicit tag, in a list.
 pub fn push_extensions(
     alloc: Global,
-    text: &mut String,
+    page: &mut Page,
     octets: &[u8],
     site: &Site,
     extensions: &[Extension<'_>],
@@ -23,9 +30,9 @@ pub fn push_extensions(
     let mut sites = Sites::within(octets, &list);
     for extension in extensions {
         let place = sites.next_site().unwrap_or(list.nothing()).place;
-        push_label(text, &place, "extension")?;
-        push_extension(alloc, text, extension)?;
-        text.push('\n')?;
+        push_label(page, &place, "extension")?;
+        push_extension(alloc, page, &place, extension)?;
+        page.text.push('\n')?;
     }
     Ok(())
 }
@@ -33,47 +40,62 @@ pub fn push_extensions(
 /// Adds an extension: what it is, whether it is critical, and its value.
 pub fn push_extension(
     alloc: Global,
-    text: &mut String,
+    page: &mut Page,
+    place: &Place,
     extension: &Extension<'_>,
 ) -> Result<(), AllocError> {
     let identifier = extension.extn_id();
-    push_identifier(alloc, text, identifier.as_bytes())?;
+    push_identifier(alloc, page, identifier.as_bytes())?;
     if extension.critical() {
-        text.push_str(", critical")?;
+        page.text.push_str(", critical")?;
     }
     let octets = extension.extn_value().as_bytes();
     let count = octets.len();
-    write!(text, ", {count} octets")?;
-    push_value(alloc, text, identifier.as_bytes(), octets)
+    write!(page.text, ", {count} octets")?;
+    let begin = place.end.saturating_sub(count);
+    push_value(alloc, page, identifier.as_bytes(), Inner { octets, begin })
 }
 
-/// Adds what the octets of an extension's value say, if it is one of those that are read.
+/// Adds what the octets of an extension's value say; of one that is not known, the octets.
 fn push_value(
     alloc: Global,
-    text: &mut String,
+    page: &mut Page,
     identifier: &[u8],
-    octets: &[u8],
+    inner: Inner<'_>,
 ) -> Result<(), AllocError> {
     match identifier {
-        [0x55, 0x1d, last] => push_value_of(alloc, text, *last, octets),
-        _ => Ok(()),
+        [0x55, 0x1d, last] => push_value_of(alloc, page, *last, inner),
+        [0x2b, 6, 1, 5, 5, 7, 1, 1 | 11] => push_access(alloc, page, inner),
+        _ => push_unknown(page, inner),
     }
 }
 
 /// The same for an extension of RFC 5280, by the last arc of its identifier 2.5.29.
 fn push_value_of(
     alloc: Global,
-    text: &mut String,
+    page: &mut Page,
     last: u8,
-    octets: &[u8],
+    inner: Inner<'_>,
 ) -> Result<(), AllocError> {
     match last {
-        14 => push_subject_key(alloc, text, octets),
-        15 => push_usage(alloc, text, octets),
-        17 => push_other_names(alloc, text, octets),
-        19 => push_constraints(alloc, text, octets),
-        35 => push_authority_key(alloc, text, octets),
-        37 => push_purposes(alloc, text, octets),
-        _ => Ok(()),
+        14 => push_subject_key(alloc, page, inner),
+        15 => push_usage(alloc, page, inner),
+        17 | 18 | 29 => push_other_names(alloc, page, inner),
+        19 => push_constraints(alloc, page, inner),
+        20 | 27 | 54 => push_number(alloc, page, inner),
+        21 => push_reason(alloc, page, inner),
+        23 => push_instruction(alloc, page, inner),
+        24 => push_invalidity(alloc, page, inner),
+        31 | 46 => push_points(alloc, page, inner),
+        32 => push_policies(alloc, page, inner),
+        35 => push_authority_key(alloc, page, inner),
+        36 => push_policy_constraints(alloc, page, inner),
+        37 => push_purposes(alloc, page, inner),
+        _ => push_unknown(page, inner),
     }
+}
+
+fn push_unknown(page: &mut Page, inner: Inner<'_>) -> Result<(), AllocError> {
+    page.text.push_str(", #")?;
+    push_digits(page, inner.octets)
 }

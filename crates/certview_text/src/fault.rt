@@ -4,6 +4,7 @@ ghost use Rattle.std.specs.Prelude.{◌≡◌};
 ghost use Rattle.certview_text.specs.declared.fault.Fault.TheVariants.{Memory};
 ghost use Rattle.der_asn1_types.specs.ErrorNumber.{error_number};
 
+use crate::label::Label;
 use crate::path::Path;
 use der_asn1_types::Error;
 use std::alloc::AllocError;
@@ -14,8 +15,16 @@ use std::fmt;
 pub enum Fault {
     /// The octets are no message of their kind: their first fault, and the field in which it was met.
     Refused(Error, Path),
-    /// The text is no PEM text of one message that is known.
-    Pem,
+    /// There are no octets.
+    Empty,
+    /// A block of PEM text has a label that is not known.
+    UnknownLabel(Label),
+    /// A block of PEM text is encrypted (RFC 1421 section 4.6.1.1).
+    Encrypted,
+    /// A block of PEM text is not ended by a line with its label.
+    NoEnd,
+    /// What stands in a block of PEM text is no Base64.
+    NoBase64,
     /// A read failed.
     Input,
     /// A write failed.
@@ -28,8 +37,8 @@ impl Fault {
     /// The exit status: 1 for octets that are refused, 2 where the machine failed.
     pub fn status(self) -> u8 {
         match self {
-            Fault::Refused(..) | Fault::Pem => 1,
             Fault::Input | Fault::Output | Fault::Memory => 2,
+            _ => 1,
         }
     }
 }
@@ -49,7 +58,11 @@ impl fmt::Display for Fault {
                 let number = error.kind().number();
                 write!(f, "refused ({number}): {error}{path}")
             }
-            Fault::Pem => write!(f, "refused: no PEM text of one message that is known"),
+            Fault::Empty => write!(f, "refused: the input is empty"),
+            Fault::UnknownLabel(label) => write!(f, "refused: {label} is not known"),
+            Fault::Encrypted => write!(f, "refused: it is encrypted"),
+            Fault::NoEnd => write!(f, "refused: no line ends the block of PEM text"),
+            Fault::NoBase64 => write!(f, "refused: what stands in the block is no Base64"),
             Fault::Input => write!(f, "input failed"),
             Fault::Output => write!(f, "output failed"),
             Fault::Memory => write!(f, "out of memory"),

@@ -7,10 +7,12 @@ ghost use Rattle.der_pkix.specs.Key.Grammar.{private_key_info, rsa_public_key, e
 ghost use Rattle.certview_text.specs.Faults.{first_fault};
 
 use crate::algorithms::{bits_of, push_algorithm, push_key};
-use crate::hexadecimal::push_with_colons;
+use crate::certificate::push_bits;
+use crate::hexadecimal::{push_digits, push_number_of};
 use crate::identifiers::push_identifier;
 use crate::kind::Kind;
-use crate::labels::{push_count, push_label, push_number, push_title};
+use crate::labels::{push_count, push_label, push_title};
+use crate::page::Page;
 use crate::site::Site;
 use der_asn1_types::asn1::{BitStringRef, UintRef};
 use der_asn1_types::{Error, FromDer};
@@ -23,75 +25,75 @@ use der_pkix::key::{EcParameters, EcPrivateKey, PrivateKeyInfo, RsaPublicKey};
 use std::alloc::{AllocError, Global};
 use std::fmt::Write;
 
-/// The fields of the SubjectPublicKeyInfo that these octets are, a line each.
+/// Adds the fields of the SubjectPublicKeyInfo that these octets are, a line each.
 ///
 /// # Errors
 /// The first fault of the octets, in the order of the fields; `ErrorKind::TrailingData` (3) where
 /// octets are left over; `ErrorKind::Overflow` (9) where there are more than 4294967295;
 /// `ErrorKind::Memory` (1) where memory runs out.
-pub fn public_key_text(alloc: Global, octets: &[u8]) -> Result<String, Error>
+pub fn push_public_key(alloc: Global, page: &mut Page, octets: &[u8]) -> Result<(), Error>
     ensures { OnOk result (first_fault (parse_of subject_public_key_info) octets.now ≡ None) }
 {
     grammar_of_subject_public_key_info();
     match SubjectPublicKeyInfo::from_der(alloc, octets) {
-        Ok(key) => Ok(public_key(alloc, octets, &key)?),
+        Ok(key) => Ok(public_key_fields(alloc, page, octets, &key)?),
         Err(error) => Err(error),
     }
 }
 
-fn public_key(
+fn public_key_fields(
     alloc: Global,
+    page: &mut Page,
     octets: &[u8],
     key: &SubjectPublicKeyInfo<'_>,
-) -> Result<String, AllocError> {
-    let mut text = String::new(alloc);
+) -> Result<(), AllocError> {
     let whole = Site::whole(octets, Kind::PublicKey);
-    push_title(&mut text, &whole.place, Kind::PublicKey)?;
-    push_key(alloc, &mut text, octets, &whole, key)?;
-    Ok(text)
+    push_title(page, &whole.place, Kind::PublicKey)?;
+    push_key(alloc, page, octets, &whole, key)?;
+    Ok(())
 }
 
-/// The fields of the PrivateKeyInfo that these octets are, a line each.
+/// Adds the fields of the PrivateKeyInfo that these octets are, a line each.
 ///
 /// # Errors
-/// As `public_key_text`.
-pub fn private_key_text(alloc: Global, octets: &[u8]) -> Result<String, Error>
+/// As `push_public_key`.
+pub fn push_private_key(alloc: Global, page: &mut Page, octets: &[u8]) -> Result<(), Error>
     ensures { OnOk result (first_fault (parse_of private_key_info) octets.now ≡ None) }
 {
     grammar_of_private_key_info();
     match PrivateKeyInfo::from_der(alloc, octets) {
-        Ok(key) => Ok(private_key(alloc, octets, &key)?),
+        Ok(key) => Ok(private_key_fields(alloc, page, octets, &key)?),
         Err(error) => Err(error),
     }
 }
 
-fn private_key(
+fn private_key_fields(
     alloc: Global,
+    page: &mut Page,
     octets: &[u8],
     key: &PrivateKeyInfo<'_>,
-) -> Result<String, AllocError> {
-    let mut text = String::new(alloc);
+) -> Result<(), AllocError> {
     let whole = Site::whole(octets, Kind::PrivateKey);
-    push_title(&mut text, &whole.place, Kind::PrivateKey)?;
-    push_version(&mut text, octets, &whole, key.version())?;
+    push_title(page, &whole.place, Kind::PrivateKey)?;
+    push_version(page, octets, &whole, key.version())?;
     let algorithm = whole.field(octets, "privateKeyAlgorithm");
     push_algorithm(
         alloc,
-        &mut text,
+        page,
         &algorithm,
         "key algorithm",
         key.private_key_algorithm(),
     )?;
     let count = key.private_key().as_bytes().len();
-    push_secret(&mut text, octets, &whole, "privateKey", count)?;
-    push_attributes(&mut text, octets, &whole, key)?;
-    push_public_bits(&mut text, octets, &whole, key.public_key())?;
-    Ok(text)
+    push_secret(page, octets, &whole, "privateKey", count)?;
+    push_attributes(page, octets, &whole, key)?;
+    push_public_bits(page, octets, &whole, key.public_key())?;
+    Ok(())
 }
 
 /// Adds how many attributes there are, where they are there.
 fn push_attributes(
-    text: &mut String,
+    page: &mut Page,
     octets: &[u8],
     whole: &Site,
     key: &PrivateKeyInfo<'_>,
@@ -99,98 +101,99 @@ fn push_attributes(
     match key.attributes() {
         Some(attributes) => {
             let place = whole.field(octets, "attributes").place;
-            push_count(text, &place, "attributes", attributes.as_slice().len())
+            push_count(page, &place, "attributes", attributes.as_slice().len())
         }
         None => Ok(()),
     }
 }
 
-/// Adds how many bits the public key has that stands beside a private one, where it is there.
+/// Adds the public key that stands beside a private one, where it is there.
 fn push_public_bits(
-    text: &mut String,
+    page: &mut Page,
     octets: &[u8],
     whole: &Site,
     key: Option<&BitStringRef<'_>>,
 ) -> Result<(), AllocError> {
     match key {
         Some(bits) => {
-            let place = whole.field(octets, "publicKey").place;
-            push_number(text, &place, "public key", bits.bit_len(), "bits")
+            push_label(page, &whole.field(octets, "publicKey").place, "public key")?;
+            push_bits(page, bits)?;
+            page.text.push('\n')
         }
         None => Ok(()),
     }
 }
 
-/// The fields of the RSAPublicKey that these octets are, a line each.
+/// Adds the fields of the RSAPublicKey that these octets are, a line each.
 ///
 /// # Errors
-/// As `public_key_text`.
-pub fn rsa_public_key_text(alloc: Global, octets: &[u8]) -> Result<String, Error>
+/// As `push_public_key`.
+pub fn push_rsa_public_key(alloc: Global, page: &mut Page, octets: &[u8]) -> Result<(), Error>
     ensures { OnOk result (first_fault (parse_of rsa_public_key) octets.now ≡ None) }
 {
     grammar_of_rsa_public_key();
     match RsaPublicKey::from_der(alloc, octets) {
-        Ok(key) => Ok(rsa_public_key(alloc, octets, &key)?),
+        Ok(key) => Ok(rsa_public_key_fields(alloc, page, octets, &key)?),
         Err(error) => Err(error),
     }
 }
 
-fn rsa_public_key(
+fn rsa_public_key_fields(
     alloc: Global,
+    page: &mut Page,
     octets: &[u8],
     key: &RsaPublicKey<'_>,
-) -> Result<String, AllocError> {
-    let mut text = String::new(alloc);
+) -> Result<(), AllocError> {
     let whole = Site::whole(octets, Kind::RsaPublicKey);
-    push_title(&mut text, &whole.place, Kind::RsaPublicKey)?;
-    push_modulus(&mut text, octets, &whole, key.modulus())?;
-    push_exponent(&mut text, octets, &whole, key.public_exponent())?;
-    Ok(text)
+    push_title(page, &whole.place, Kind::RsaPublicKey)?;
+    push_modulus(page, octets, &whole, key.modulus())?;
+    push_exponent(page, octets, &whole, key.public_exponent())?;
+    Ok(())
 }
 
-/// The fields of the ECPrivateKey that these octets are, a line each.
+/// Adds the fields of the ECPrivateKey that these octets are, a line each.
 ///
 /// # Errors
-/// As `public_key_text`.
-pub fn ec_private_key_text(alloc: Global, octets: &[u8]) -> Result<String, Error>
+/// As `push_public_key`.
+pub fn push_ec_private_key(alloc: Global, page: &mut Page, octets: &[u8]) -> Result<(), Error>
     ensures { OnOk result (first_fault (parse_of ec_private_key) octets.now ≡ None) }
 {
     grammar_of_ec_private_key();
     match EcPrivateKey::from_der(alloc, octets) {
-        Ok(key) => Ok(ec_private_key(alloc, octets, &key)?),
+        Ok(key) => Ok(ec_private_key_fields(alloc, page, octets, &key)?),
         Err(error) => Err(error),
     }
 }
 
-fn ec_private_key(
+fn ec_private_key_fields(
     alloc: Global,
+    page: &mut Page,
     octets: &[u8],
     key: &EcPrivateKey<'_>,
-) -> Result<String, AllocError> {
-    let mut text = String::new(alloc);
+) -> Result<(), AllocError> {
     let whole = Site::whole(octets, Kind::EcPrivateKey);
-    push_title(&mut text, &whole.place, Kind::EcPrivateKey)?;
-    push_version(&mut text, octets, &whole, key.version())?;
+    push_title(page, &whole.place, Kind::EcPrivateKey)?;
+    push_version(page, octets, &whole, key.version())?;
     let count = key.private_key().as_bytes().len();
-    push_secret(&mut text, octets, &whole, "privateKey", count)?;
-    push_curve(alloc, &mut text, octets, &whole, key)?;
-    push_public_bits(&mut text, octets, &whole, key.public_key())?;
-    Ok(text)
+    push_secret(page, octets, &whole, "privateKey", count)?;
+    push_curve(alloc, page, octets, &whole, key)?;
+    push_public_bits(page, octets, &whole, key.public_key())?;
+    Ok(())
 }
 
 /// Adds a line with the curve, where its parameters are there.
 fn push_curve(
     alloc: Global,
-    text: &mut String,
+    page: &mut Page,
     octets: &[u8],
     whole: &Site,
     key: &EcPrivateKey<'_>,
 ) -> Result<(), AllocError> {
     match key.parameters() {
         Some(parameters) => {
-            push_label(text, &whole.field(octets, "parameters").place, "curve")?;
-            push_curve_of(alloc, text, parameters)?;
-            text.push('\n')
+            push_label(page, &whole.field(octets, "parameters").place, "curve")?;
+            push_curve_of(alloc, page, parameters)?;
+            page.text.push('\n')
         }
         None => Ok(()),
     }
@@ -199,72 +202,63 @@ fn push_curve(
 /// Adds the name of a curve; of one that has none, how it is known.
 fn push_curve_of(
     alloc: Global,
-    text: &mut String,
+    page: &mut Page,
     parameters: &EcParameters<'_>,
 ) -> Result<(), AllocError> {
     match parameters {
-        EcParameters::NamedCurve(name) => push_identifier(alloc, text, name.as_bytes()),
-        EcParameters::ImplicitCurve(_) => text.push_str("implicit"),
-        EcParameters::SpecifiedCurve(_) => text.push_str("parameters of its own"),
+        EcParameters::NamedCurve(name) => push_identifier(alloc, page, name.as_bytes()),
+        EcParameters::ImplicitCurve(_) => page.text.push_str("implicit"),
+        EcParameters::SpecifiedCurve(_) => page.text.push_str("parameters of its own"),
     }
 }
 
 /// Adds the version as it is encoded.
 pub fn push_version(
-    text: &mut String,
+    page: &mut Page,
     octets: &[u8],
     whole: &Site,
     version: u8,
 ) -> Result<(), AllocError> {
-    push_label(text, &whole.field(octets, "version").place, "version")?;
-    writeln!(text, "{version}")
+    push_label(page, &whole.field(octets, "version").place, "version")?;
+    writeln!(page.text, "{version}")
 }
 
 /// Adds how many octets of a field there are that is secret.
 pub fn push_secret(
-    text: &mut String,
+    page: &mut Page,
     octets: &[u8],
     whole: &Site,
     name: &str,
     count: usize,
 ) -> Result<(), AllocError> {
     let place = whole.field(octets, name).place;
-    push_label(text, &place, name)?;
-    writeln!(text, "{count} octets, not shown")
+    push_label(page, &place, name)?;
+    writeln!(page.text, "{count} octets, not shown")
 }
 
-/// Adds how many bits the modulus of a key of RSA has.
+/// Adds how many bits the modulus of a key of RSA has, and its octets.
 pub fn push_modulus(
-    text: &mut String,
+    page: &mut Page,
     octets: &[u8],
     whole: &Site,
     modulus: &UintRef<'_>,
 ) -> Result<(), AllocError> {
-    let place = whole.field(octets, "modulus").place;
-    push_number(text, &place, "modulus", bits_of(modulus.as_bytes()), "bits")
+    push_label(page, &whole.field(octets, "modulus").place, "modulus")?;
+    let bits = bits_of(modulus.as_bytes());
+    write!(page.text, "{bits} bits, ")?;
+    push_digits(page, modulus.as_bytes())?;
+    page.text.push('\n')
 }
 
-/// Adds the public exponent of a key of RSA: a number where it has one octet or three, else the octets.
+/// Adds the public exponent of a key of RSA.
 pub fn push_exponent(
-    text: &mut String,
+    page: &mut Page,
     octets: &[u8],
     whole: &Site,
     exponent: &UintRef<'_>,
 ) -> Result<(), AllocError> {
-    push_label(
-        text,
-        &whole.field(octets, "publicExponent").place,
-        "public exponent",
-    )?;
-    match exponent.as_bytes() {
-        [a] => writeln!(text, "{a}"),
-        [a, b, c] => {
-            let number = u32::from_be_bytes([0, *a, *b, *c]);
-            writeln!(text, "{number}")
-        }
-        octets => {
-            push_with_colons(text, octets)?;
-            text.push('\n')
-        }
-    }
+    let place = whole.field(octets, "publicExponent").place;
+    push_label(page, &place, "public exponent")?;
+    push_number_of(page, exponent.as_bytes())?;
+    page.text.push('\n')
 }

@@ -37,6 +37,14 @@ impl Kind {
             Kind::EcPrivateKey => "private key of an elliptic curve",
         }
     }
+
+    /// Whether a message of this kind has what is secret.
+    pub fn is_secret(self) -> bool {
+        matches!(
+            self,
+            Kind::PrivateKey | Kind::RsaPrivateKey | Kind::EcPrivateKey
+        )
+    }
 }
 
 /// The kind of message that octets are, by the tags of their fields. Octets that are of none are

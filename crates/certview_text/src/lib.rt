@@ -11,22 +11,31 @@
 //! ```
 #![tactic(auto)]
 
+mod access;
 mod algorithms;
+mod blocks;
 mod certificate;
+mod characters;
 mod constraints;
+mod entries;
 mod extensions;
 mod fault;
 mod hexadecimal;
+mod identifier_names;
 mod identifiers;
 mod key_identifiers;
 mod keys;
 mod kind;
+mod label;
 mod labels;
 mod names;
 mod other_names;
+mod page;
 mod path;
 mod pem;
 mod place;
+mod points;
+mod policies;
 mod revocation;
 mod rsa;
 mod site;
@@ -36,8 +45,10 @@ mod usages;
 mod values;
 mod viewing;
 
+pub use characters::plain;
 pub use fault::Fault;
 pub use kind::{Kind, kind_of};
+pub use label::Label;
 pub use path::Path;
 pub use text::shown;
-pub use viewing::run;
+pub use viewing::{Outcome, View, run};

@@ -1,179 +1,140 @@
 //! Names as text (RFC 4514, in the order in which the attributes stand).
 
-use crate::hexadecimal::{push_digits, push_octet};
-use crate::identifiers::{dotted, name_in};
+use crate::characters::push_escaped;
+use crate::hexadecimal::push_digits;
+use crate::identifiers::push_attribute_type;
 use crate::labels::push_label;
+use crate::page::{Page, push_malformed};
 use crate::site::Site;
 use der_asn1_types::asn1::{AnyRef, Kept};
-use der_asn1_types::{Encode, Error, ErrorKind, Tag};
+use der_asn1_types::{Encode, Tag};
 use der_modules::copy_of;
 use der_pkix::name::{AttributeTypeAndValue, Name, RelativeDistinguishedName};
 use std::alloc::{AllocError, Global};
-use std::fmt::Write;
-
-/// Short names of attributes (RFC 4514 section 3), and of electronic mail's.
-const ATTRIBUTES: [(&str, &str); 12] = [
-    ("2.5.4.3", "CN"),
-    ("2.5.4.4", "SN"),
-    ("2.5.4.5", "serialNumber"),
-    ("2.5.4.6", "C"),
-    ("2.5.4.7", "L"),
-    ("2.5.4.8", "ST"),
-    ("2.5.4.9", "STREET"),
-    ("2.5.4.10", "O"),
-    ("2.5.4.11", "OU"),
-    ("0.9.2342.19200300.100.1.25", "DC"),
-    ("0.9.2342.19200300.100.1.1", "UID"),
-    ("1.2.840.113549.1.9.1", "emailAddress"),
-];
 
 /// Adds a line with a name.
 pub fn push_name<'a>(
     alloc: Global,
-    text: &mut String,
+    page: &mut Page,
     site: &Site,
     label: &str,
     name: &Kept<'a, Name<'a>>,
 ) -> Result<(), AllocError> {
-    push_label(text, &site.place, label)?;
-    push_kept(alloc, text, copy_of(name))?;
-    text.push('\n')
+    push_label(page, &site.place, label)?;
+    push_kept(alloc, page, site, copy_of(name))?;
+    page.text.push('\n')
 }
 
 fn push_kept<'a>(
     alloc: Global,
-    text: &mut String,
+    page: &mut Page,
+    site: &Site,
     name: Kept<'a, Name<'a>>,
 ) -> Result<(), AllocError> {
     match name.value(alloc) {
-        Ok(name) => push_places(alloc, text, name.as_slice()),
-        Err(error) => push_malformed(text, error),
+        Ok(name) => push_places(alloc, page, name.as_slice()),
+        Err(error) => push_malformed(page, site.place.contents, error),
     }
-}
-
-/// Adds what is wrong with octets, unless memory ran out.
-pub fn push_malformed(text: &mut String, error: Error) -> Result<(), AllocError> {
-    let kind = error.kind();
-    if kind == ErrorKind::Memory {
-        return Err(AllocError);
-    }
-    write!(text, "malformed ({kind})")
 }
 
 /// Adds the places of a name.
 pub fn push_places(
     alloc: Global,
-    text: &mut String,
+    page: &mut Page,
     places: &[RelativeDistinguishedName<'_>],
 ) -> Result<(), AllocError> {
     let mut is_first = true;
     for place in places {
         if !is_first {
-            text.push_str(", ")?;
+            page.text.push_str(", ")?;
         }
         is_first = false;
-        push_attributes(alloc, text, place.as_slice())?;
+        push_attributes(alloc, page, place.as_slice())?;
     }
     Ok(())
 }
 
-fn push_attributes(
+/// Adds the attributes of a place of a name.
+pub fn push_attributes(
     alloc: Global,
-    text: &mut String,
+    page: &mut Page,
     attributes: &[AttributeTypeAndValue<'_>],
 ) -> Result<(), AllocError> {
     let mut is_first = true;
     for attribute in attributes {
         if !is_first {
-            text.push('+')?;
+            page.text.push('+')?;
         }
         is_first = false;
-        push_attribute(alloc, text, attribute)?;
+        push_attribute(alloc, page, attribute)?;
     }
     Ok(())
 }
 
 fn push_attribute(
     alloc: Global,
-    text: &mut String,
+    page: &mut Page,
     attribute: &AttributeTypeAndValue<'_>,
 ) -> Result<(), AllocError> {
     let identifier = attribute.type_();
-    let dotted = dotted(alloc, identifier.as_bytes())?;
-    match name_in(&ATTRIBUTES, dotted.as_str()) {
-        Some(name) => text.push_str(name)?,
-        None => text.push_str(dotted.as_str())?,
-    }
-    text.push('=')?;
-    push_value(alloc, text, attribute.value())
+    push_attribute_type(alloc, page, identifier.as_bytes())?;
+    page.text.push('=')?;
+    push_value(alloc, page, attribute.value())
 }
 
 /// Adds a value: the characters of a string type, or else `#` and its encoding.
-fn push_value(alloc: Global, text: &mut String, value: &AnyRef<'_>) -> Result<(), AllocError> {
-    if is_text(value.header().tag) {
-        if let Ok(characters) = str::from_utf8(value.value()) {
-            return push_escaped(text, characters);
-        }
-    }
-    push_encoding(alloc, text, value)
-}
-
-/// Adds `#` and the digits of an encoding.
-pub fn push_encoding(
-    alloc: Global,
-    text: &mut String,
-    value: &AnyRef<'_>,
-) -> Result<(), AllocError> {
-    text.push('#')?;
-    match value.to_der(alloc) {
-        Ok(octets) => push_digits(text, octets.as_slice()),
-        Err(_) => Err(AllocError),
+pub fn push_value(alloc: Global, page: &mut Page, value: &AnyRef<'_>) -> Result<(), AllocError> {
+    let octets = value.value();
+    match value.header().tag {
+        Tag::BmpString => push_units(alloc, page, value),
+        tag if is_text(tag, octets) => match str::from_utf8(octets) {
+            Ok(characters) => push_escaped(page, characters),
+            Err(_) => push_encoding(alloc, page, value),
+        },
+        _ => push_encoding(alloc, page, value),
     }
 }
 
-/// Whether a type's contents octets are characters of UTF-8, or of a part of it.
-fn is_text(tag: Tag) -> bool {
-    matches!(
-        tag,
+/// Whether contents octets are characters of UTF-8, or of a part of it. Those of a TeletexString and of a
+/// GeneralString are, where they are of ASCII alone.
+fn is_text(tag: Tag, octets: &[u8]) -> bool {
+    match tag {
         Tag::Utf8String
-            | Tag::PrintableString
-            | Tag::Ia5String
-            | Tag::NumericString
-            | Tag::VisibleString
-    )
-}
-
-/// Adds characters, with a `\` before those that RFC 4514 section 2.4 escapes. Control characters
-/// are `\` and two digits an octet.
-pub fn push_escaped(text: &mut String, characters: &str) -> Result<(), AllocError> {
-    let mut is_first = true;
-    for character in characters.chars() {
-        if character.is_control() {
-            push_control(text, character)?;
-        } else {
-            if is_escaped(character, is_first) {
-                text.push('\\')?;
-            }
-            text.push(character)?;
-        }
-        is_first = false;
-    }
-    Ok(())
-}
-
-fn is_escaped(character: char, is_first: bool) -> bool {
-    match character {
-        '"' | '+' | ',' | ';' | '<' | '>' | '\\' => true,
-        '#' | ' ' => is_first,
+        | Tag::PrintableString
+        | Tag::Ia5String
+        | Tag::NumericString
+        | Tag::VisibleString => true,
+        Tag::TeletexString | Tag::GeneralString => octets.is_ascii(),
         _ => false,
     }
 }
 
-fn push_control(text: &mut String, character: char) -> Result<(), AllocError> {
-    let mut buffer = [0; 4];
-    for octet in character.encode_utf8(&mut buffer).as_bytes() {
-        text.push('\\')?;
-        push_octet(text, *octet)?;
+/// Adds the characters of a BMPString; its encoding where these are not all characters.
+fn push_units(alloc: Global, page: &mut Page, value: &AnyRef<'_>) -> Result<(), AllocError> {
+    let mut characters = String::new(alloc);
+    if push_characters(&mut characters, value.value())? {
+        return push_escaped(page, characters.as_str());
     }
-    Ok(())
+    push_encoding(alloc, page, value)
+}
+
+/// Adds the character of each two octets, and answers whether these are all.
+fn push_characters(characters: &mut String, octets: &[u8]) -> Result<bool, AllocError> {
+    for index in 0..octets.len() / 2 {
+        let unit = u16::from_be_bytes([octets[2 * index], octets[2 * index + 1]]);
+        let Some(character) = char::from_u32(u32::from(unit)) else {
+            return Ok(false);
+        };
+        characters.push(character)?;
+    }
+    Ok(octets.len() % 2 == 0)
+}
+
+/// Adds `#` and the digits of an encoding.
+pub fn push_encoding(alloc: Global, page: &mut Page, value: &AnyRef<'_>) -> Result<(), AllocError> {
+    page.text.push('#')?;
+    match value.to_der(alloc) {
+        Ok(octets) => push_digits(page, octets.as_slice()),
+        Err(_) => Err(AllocError),
+    }
 }

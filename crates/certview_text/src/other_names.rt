@@ -1,20 +1,27 @@
-//! The value of the extension subjectAltName as text (RFC 5280 section 4.2.1.6).
+//! Names of other kinds than those of directories, as text (RFC 5280 section 4.2.1.6).
 
-use crate::hexadecimal::{push_digits, push_octet};
+use crate::characters::push_escaped;
+use crate::hexadecimal::push_digits;
 use crate::identifiers::push_identifier;
-use crate::names::{push_encoding, push_escaped, push_malformed, push_places};
+use crate::names::{push_places, push_value};
+use crate::page::{Inner, Page, push_malformed};
 use der_asn1_types::{Encode, FromDer};
 use der_extensions::extension::{GeneralName, SubjectAltName};
 use std::alloc::{AllocError, Global};
 use std::fmt::Write;
+use std::net::Ipv6Addr;
 
 /// Adds the names; `malformed` and the fault where the octets are no names.
-pub fn push_other_names(alloc: Global, text: &mut String, octets: &[u8]) -> Result<(), AllocError> {
-    match SubjectAltName::from_der(alloc, octets) {
-        Ok(names) => push_names(alloc, text, "", names.as_slice()),
+pub fn push_other_names(
+    alloc: Global,
+    page: &mut Page,
+    inner: Inner<'_>,
+) -> Result<(), AllocError> {
+    match SubjectAltName::from_der(alloc, inner.octets) {
+        Ok(names) => push_names(alloc, page, "", names.as_slice()),
         Err(error) => {
-            text.push_str(", ")?;
-            push_malformed(text, error)
+            page.text.push_str(", ")?;
+            push_malformed(page, inner.begin, error)
         }
     }
 }
@@ -22,77 +29,96 @@ pub fn push_other_names(alloc: Global, text: &mut String, octets: &[u8]) -> Resu
 /// Adds each of the names, after a comma and what they are names of.
 pub fn push_names(
     alloc: Global,
-    text: &mut String,
+    page: &mut Page,
     of: &str,
     names: &[GeneralName<'_>],
 ) -> Result<(), AllocError> {
     for name in names {
-        text.push_str(", ")?;
-        text.push_str(of)?;
-        push_other_name(alloc, text, name)?;
+        page.text.push_str(", ")?;
+        page.text.push_str(of)?;
+        push_other_name(alloc, page, name)?;
     }
     Ok(())
 }
 
-fn push_other_name(
+/// Adds a name: what it is of, and its value.
+pub fn push_other_name(
     alloc: Global,
-    text: &mut String,
+    page: &mut Page,
     name: &GeneralName<'_>,
 ) -> Result<(), AllocError> {
     match name {
         GeneralName::OtherName(other) => {
-            text.push_str("other ")?;
+            page.text.push_str("other ")?;
             let identifier = other.value.type_id();
-            push_identifier(alloc, text, identifier.as_bytes())?;
-            text.push(' ')?;
-            push_encoding(alloc, text, other.value.value())
+            push_identifier(alloc, page, identifier.as_bytes())?;
+            page.text.push(' ')?;
+            push_value(alloc, page, other.value.value())
         }
-        GeneralName::Rfc822Name(mail) => { push_text(text, "mail ", mail.value.as_str()) }
-        GeneralName::DnsName(host) => { push_text(text, "host ", host.value.as_str()) }
+        GeneralName::Rfc822Name(mail) => push_text(page, "mail ", mail.value.as_str()),
+        GeneralName::DnsName(host) => push_text(page, "host ", host.value.as_str()),
         GeneralName::DirectoryName(directory) => {
-            text.push_str("directory ")?;
-            push_places(alloc, text, directory.fields.first.as_slice())
+            page.text.push_str("directory ")?;
+            push_places(alloc, page, directory.fields.first.as_slice())
         }
         GeneralName::UniformResourceIdentifier(resource) => {
-            push_text(text, "resource ", resource.value.as_str())
+            push_text(page, "resource ", resource.value.as_str())
         }
-        GeneralName::IpAddress(address) => { push_address(text, address.value.as_bytes()) }
+        GeneralName::IpAddress(address) => push_address(page, address.value.as_bytes()),
         GeneralName::RegisteredId(identifier) => {
-            text.push_str("identifier ")?;
-            push_identifier(alloc, text, identifier.value.as_bytes())
+            page.text.push_str("identifier ")?;
+            push_identifier(alloc, page, identifier.value.as_bytes())
         }
-        GeneralName::X400Address(_) | GeneralName::EdiPartyName(_) => push_whole(alloc, text, name),
+        GeneralName::X400Address(_) => push_whole(alloc, page, "address of X.400 #", name),
+        GeneralName::EdiPartyName(_) => push_whole(alloc, page, "party of EDI #", name),
     }
 }
 
-/// Adds a name of a kind that is kept as it is encoded: `#` and its encoding.
-fn push_whole(alloc: Global, text: &mut String, name: &GeneralName<'_>) -> Result<(), AllocError> {
-    text.push_str("other #")?;
+/// Adds a name of a kind that is kept as it is encoded: its encoding.
+fn push_whole(
+    alloc: Global,
+    page: &mut Page,
+    kind: &str,
+    name: &GeneralName<'_>,
+) -> Result<(), AllocError> {
+    page.text.push_str(kind)?;
     match name.to_der(alloc) {
-        Ok(octets) => push_digits(text, octets.as_slice()),
+        Ok(octets) => push_digits(page, octets.as_slice()),
         Err(_) => Err(AllocError),
     }
 }
 
-fn push_text(text: &mut String, kind: &str, name: &str) -> Result<(), AllocError> {
-    text.push_str(kind)?;
-    push_escaped(text, name)
+fn push_text(page: &mut Page, kind: &str, name: &str) -> Result<(), AllocError> {
+    page.text.push_str(kind)?;
+    push_escaped(page, name)
 }
 
-/// Adds an address: four numbers of four octets, else the octets two by two.
-fn push_address(text: &mut String, octets: &[u8]) -> Result<(), AllocError> {
-    text.push_str("address ")?;
-    if let [a, b, c, d] = octets {
-        return write!(text, "{a}.{b}.{c}.{d}");
-    }
-    if octets.len() != 16 {
-        return push_digits(text, octets);
-    }
-    for (index, octet) in octets.iter().enumerate() {
-        if index % 2 == 0 && index != 0 {
-            text.push(':')?;
+/// Adds an address: four numbers of four octets, of sixteen as RFC 5952 writes it, and of a range the
+/// first and the mask (RFC 5280 section 4.2.1.10); else `#` and the octets.
+fn push_address(page: &mut Page, octets: &[u8]) -> Result<(), AllocError> {
+    page.text.push_str("address ")?;
+    match octets.len() {
+        4 | 16 => push_one_address(page, octets),
+        8 | 32 => {
+            let (address, mask) = octets.split_at(octets.len() / 2);
+            push_one_address(page, address)?;
+            page.text.push('/')?;
+            push_one_address(page, mask)
         }
-        push_octet(text, *octet)?;
+        _ => push_one_address(page, octets),
     }
-    Ok(())
+}
+
+fn push_one_address(page: &mut Page, octets: &[u8]) -> Result<(), AllocError> {
+    if let [a, b, c, d] = octets {
+        return write!(page.text, "{a}.{b}.{c}.{d}");
+    }
+    let mut address = [0; 16];
+    if octets.len() != address.len() {
+        page.text.push('#')?;
+        return push_digits(page, octets);
+    }
+    address.copy_from_slice(octets);
+    let address = Ipv6Addr::from_octets(address);
+    write!(page.text, "{address}")
 }

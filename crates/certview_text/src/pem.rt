@@ -1,93 +1,152 @@
-//! A message's octets and its kind from PEM text (RFC 7468).
+//! The blocks of PEM text (RFC 7468).
 
-ghost use Rattle.std.specs.Prelude.{◌≡◌, false, true, IfOk, IfErr};
-ghost use Rattle.certview_text.specs.Kinds.{kind_of};
-ghost use Rattle.certview_text.specs.Pem.{is_pem};
+ghost use Rattle.std.specs.Prelude.{◌≡◌, ◌≤◌, true, IfSome, length};
+ghost use Rattle.certview_text.specs.Shown.{IsText};
 
 use crate::fault::Fault;
-use crate::kind::{Kind, kind_of};
 use base64::DecodeAllocError;
 use base64::engine::general_purpose::STANDARD;
+use memchr::memmem;
 use std::alloc::{AllocError, Global};
 
-/// The labels of the messages that are shown (RFC 7468 sections 5, 7, 10 and 13; those with the name
-/// of an algorithm are OpenSSL's).
-const LABELS: [(&str, Kind); 7] = [
-    ("CERTIFICATE", Kind::Certificate),
-    ("X509 CRL", Kind::RevocationList),
-    ("PUBLIC KEY", Kind::PublicKey),
-    ("PRIVATE KEY", Kind::PrivateKey),
-    ("RSA PRIVATE KEY", Kind::RsaPrivateKey),
-    ("RSA PUBLIC KEY", Kind::RsaPublicKey),
-    ("EC PRIVATE KEY", Kind::EcPrivateKey),
-];
+/// What the line begins with that begins a block.
+const BEGIN: &[u8] = b"-----BEGIN ";
 
-/// A message's octets, with its kind.
-#[derive(Drop)]
-pub struct Message {
-    /// What the octets are to be read as.
-    pub kind: Kind,
-    /// The octets.
-    pub octets: Vec<u8>,
+/// What ends both lines of a block, and begins the second.
+const DASHES: &[u8] = b"-----";
+
+/// A block of PEM text.
+#[derive(Clone, Copy, Debug, PartialEq, Eq)]
+pub struct Block<'a> {
+    /// The label in its first line.
+    pub label: &'a [u8],
+    /// What stands between its two lines.
+    pub body: &'a [u8],
+    /// Whether a line with the same label ends it.
+    pub is_closed: bool,
 }
 
-/// The message that the input carries: the one of PEM text, of the kind that its label names, where
-/// the input begins with a `-`, which no encoding of a message does; else the input as it is, of the
-/// kind that its fields' tags tell.
+/// Goes over the blocks of a text. What stands before, between and after them is passed over.
+#[derive(Drop)]
+pub struct Blocks<'a> {
+    rest: &'a [u8],
+}
+
+/// Whether an input is PEM text: it holds what begins a block, and does not begin with a SEQUENCE, as
+/// each message does.
+pub fn is_text(input: &[u8]) -> bool
+    ensures { result ≡ true → IsText input.now }
+{
+    match input {
+        [0x30, ..] => false,
+        _ => memmem::find(input, BEGIN).is_some(),
+    }
+}
+
+impl<'a> Blocks<'a> {
+    /// The blocks of a text.
+    pub fn of(text: &'a [u8]) -> Blocks<'a> {
+        Blocks { rest: text }
+    }
+
+    /// How many blocks a text has.
+    pub fn count(text: &[u8]) -> usize {
+        let mut blocks = Blocks::of(text);
+        let mut count: usize = 0;
+        for _ in 0..text.len() {
+            if blocks.next_block().is_none() {
+                return count;
+            }
+            count = count.saturating_add(1);
+        }
+        count
+    }
+
+    /// The next block.
+    pub fn next_block(&mut self) -> Option<Block<'a>> {
+        for _ in 0..self.rest.len() {
+            let (_, line) = split_once(self.rest, BEGIN)?;
+            let (label, after) = split_once(line, DASHES)?;
+            if !label.contains(&b'\n') {
+                return Some(self.block(label, after));
+            }
+            self.rest = line;
+        }
+        None
+    }
+
+    /// The block with this label, after whose first line these octets stand.
+    fn block(&mut self, label: &'a [u8], after: &'a [u8]) -> Block<'a> {
+        let (body, tail) = match split_once(after, DASHES) {
+            Some((body, tail)) => (body, after_end(tail, label)),
+            None => (after, None),
+        };
+        self.rest = match tail {
+            Some(rest) => rest,
+            None => &after[body.len()..],
+        };
+        Block {
+            label,
+            body,
+            is_closed: tail.is_some(),
+        }
+    }
+}
+
+/// What stands before the first of these marks, and what stands after it.
+fn split_once<'a>(text: &'a [u8], mark: &[u8]) -> Option<(&'a [u8], &'a [u8])>
+    ensures { IfSome result (λ parts. length parts.0.now ≤ length text.now) }
+{
+    let place = memmem::find(text, mark)?;
+    Some((&text[..place], &text[place + mark.len()..]))
+}
+
+/// What stands after the rest of a line that ends a block with this label.
+fn after_end<'a>(line: &'a [u8], label: &[u8]) -> Option<&'a [u8]> {
+    line.strip_prefix(b"END ")?
+        .strip_prefix(label)?
+        .strip_prefix(DASHES)
+}
+
+/// The octets for which the digits of a block stand.
 ///
 /// # Errors
-/// `Pem` for text with another label, with anything before or after the one message but white space
-/// after it, or where the digits are no Base64 (RFC 4648 section 4); `Memory`.
-pub fn message_of(alloc: Global, input: Vec<u8>) -> Result<Message, Fault>
-    ensures octets { IfOk result (λ m. is_pem input.items ≡ false → m.octets.items ≡ input.items) }
-    ensures kind { IfOk result (λ m. is_pem input.items ≡ false → m.kind ≡ kind_of input.items) }
-    ensures text { IfErr result (λ fault. is_pem input.items ≡ true) }
-{
-    match input.as_slice() {
-        [b'-', ..] => decoded(alloc, input.as_slice()),
-        octets => {
-            let kind = kind_of(octets);
-            Ok(Message {
-                kind,
-                octets: input,
-            })
-        }
+/// `NoEnd` for a block that is not ended; `Encrypted` where its headers say so; `NoBase64` where the
+/// digits are none (RFC 4648 section 4); `Memory`.
+pub fn octets_of(alloc: Global, block: &Block<'_>) -> Result<Vec<u8>, Fault> {
+    if !block.is_closed {
+        return Err(Fault::NoEnd);
     }
-}
-
-fn decoded(alloc: Global, input: &[u8]) -> Result<Message, Fault> {
-    let Some((kind, body)) = labelled(input) else {
-        return Err(Fault::Pem);
-    };
+    let (headers, body) = after_headers(block.body);
+    if memmem::find(headers, b"ENCRYPTED").is_some() {
+        return Err(Fault::Encrypted);
+    }
     let digits = without_white_space(alloc, body)?;
     match STANDARD.decode(alloc, digits.as_slice()) {
-        Ok(octets) => Ok(Message { kind, octets }),
+        Ok(octets) => Ok(octets),
         Err(DecodeAllocError::OutOfMemory) => Err(Fault::Memory),
-        Err(_) => Err(Fault::Pem),
+        Err(_) => Err(Fault::NoBase64),
     }
 }
 
-/// The kind that the label names, and what stands between the two lines.
-fn labelled(input: &[u8]) -> Option<(Kind, &str)> {
-    let text = str::from_utf8(input).ok()?;
-    let (label, rest) = text.strip_prefix("-----BEGIN ")?.split_once("-----")?;
-    let kind = kind_with(label)?;
-    let body = rest.trim_end().strip_suffix("-----")?.strip_suffix(label)?;
-    Some((kind, body.strip_suffix("-----END ")?))
-}
-
-fn kind_with(label: &str) -> Option<Kind> {
-    for (name, kind) in &LABELS {
-        if *name == label {
-            return Some(*kind);
-        }
+/// The headers of a block (RFC 1421 section 4.4), if it has any, and what stands after them. They have a
+/// colon, which digits have not, and an empty line ends them.
+fn after_headers(body: &[u8]) -> (&[u8], &[u8]) {
+    if !body.contains(&b':') {
+        return (b"", body);
     }
-    None
+    if let Some(parts) = split_once(body, b"\r\n\r\n") {
+        return parts;
+    }
+    match split_once(body, b"\n\n") {
+        Some(parts) => parts,
+        None => (body, body),
+    }
 }
 
-fn without_white_space(alloc: Global, body: &str) -> Result<Vec<u8>, AllocError> {
+fn without_white_space(alloc: Global, body: &[u8]) -> Result<Vec<u8>, AllocError> {
     let mut digits = Vec::new(alloc);
-    for octet in body.as_bytes() {
+    for octet in body {
         if !octet.is_ascii_whitespace() {
             digits.push(*octet)?;
         }

@@ -8,10 +8,11 @@ ghost use Rattle.certview_text.specs.Faults.{first_fault};
 use crate::algorithms::push_algorithm;
 use crate::certificate::{push_signature, push_version};
 use crate::extensions::{push_extension, push_extensions};
-use crate::hexadecimal::push_with_colons;
+use crate::hexadecimal::push_serial;
 use crate::kind::Kind;
 use crate::labels::{push_label, push_title};
 use crate::names::push_name;
+use crate::page::Page;
 use crate::site::{Site, Sites};
 use crate::times::{push_moment, push_time};
 use der_asn1_types::{Error, FromDer};
@@ -20,69 +21,72 @@ use der_pkix::crl::laws::grammar_of_certificate_list;
 use der_pkix::crl::{CertificateList, RevokedCertificate, TbsCertList};
 use std::alloc::{AllocError, Global};
 
-/// The fields of the list of revoked certificates that these octets are, a line each.
+/// Adds the fields of the list of revoked certificates that these octets are, a line each.
 ///
 /// # Errors
 /// The first fault of the octets, in the order of the fields; `ErrorKind::TrailingData` (3) where
 /// octets are left over; `ErrorKind::Overflow` (9) where there are more than 4294967295;
 /// `ErrorKind::Memory` (1) where memory runs out.
-pub fn list_text(alloc: Global, octets: &[u8]) -> Result<String, Error>
+pub fn push_list(alloc: Global, page: &mut Page, octets: &[u8]) -> Result<(), Error>
     ensures { OnOk result (first_fault (parse_of certificate_list) octets.now ≡ None) }
 {
     grammar_of_certificate_list();
     match CertificateList::from_der(alloc, octets) {
-        Ok(list) => Ok(text_of(alloc, octets, &list)?),
+        Ok(list) => Ok(push_fields(alloc, page, octets, &list)?),
         Err(error) => Err(error),
     }
 }
 
-fn text_of(alloc: Global, octets: &[u8], list: &CertificateList<'_>) -> Result<String, AllocError> {
-    let mut text = String::new(alloc);
+fn push_fields(
+    alloc: Global,
+    page: &mut Page,
+    octets: &[u8],
+    list: &CertificateList<'_>,
+) -> Result<(), AllocError> {
     let whole = Site::whole(octets, Kind::RevocationList);
     let site = whole.field(octets, "tbsCertList");
-    push_title(&mut text, &whole.place, Kind::RevocationList)?;
-    push_signed(alloc, &mut text, octets, &site, list.tbs_cert_list())?;
-    push_revoked(alloc, &mut text, octets, &site, list.tbs_cert_list())?;
+    push_title(page, &whole.place, Kind::RevocationList)?;
+    push_signed(alloc, page, octets, &site, list.tbs_cert_list())?;
+    push_revoked(alloc, page, octets, &site, list.tbs_cert_list())?;
     push_signature(
         alloc,
-        &mut text,
+        page,
         octets,
         &whole,
         list.signature_algorithm(),
         list.signature_value(),
-    )?;
-    Ok(text)
+    )
 }
 
 fn push_signed(
     alloc: Global,
-    text: &mut String,
+    page: &mut Page,
     octets: &[u8],
     site: &Site,
     signed: &TbsCertList<'_>,
 ) -> Result<(), AllocError> {
     let version = signed.version().unwrap_or(0);
-    push_version(text, &site.field(octets, "version"), version)?;
+    push_version(page, &site.field(octets, "version"), version)?;
     let algorithm = site.field(octets, "signature");
     push_algorithm(
         alloc,
-        text,
+        page,
         &algorithm,
         "signature algorithm",
         signed.signature(),
     )?;
     push_name(
         alloc,
-        text,
+        page,
         &site.field(octets, "issuer"),
         "issuer",
         signed.issuer(),
     )?;
     let now = site.field(octets, "thisUpdate");
-    push_moment(text, &now, "this update", &signed.this_update())?;
+    push_moment(page, &now, "this update", &signed.this_update())?;
     match signed.next_update() {
         Some(time) => push_moment(
-            text,
+            page,
             &site.field(octets, "nextUpdate"),
             "next update",
             &time,
@@ -94,19 +98,19 @@ fn push_signed(
 /// Adds the entries, and the extensions of the list.
 fn push_revoked(
     alloc: Global,
-    text: &mut String,
+    page: &mut Page,
     octets: &[u8],
     site: &Site,
     signed: &TbsCertList<'_>,
 ) -> Result<(), AllocError> {
     if let Some(entries) = signed.revoked_certificates() {
         let list = site.field(octets, "revokedCertificates");
-        push_entries(alloc, text, octets, &list, entries.as_slice())?;
+        push_entries(alloc, page, octets, &list, entries.as_slice())?;
     }
     match signed.crl_extensions() {
         Some(extensions) => push_extensions(
             alloc,
-            text,
+            page,
             octets,
             &site.field(octets, "crlExtensions"),
             extensions.as_slice(),
@@ -117,16 +121,16 @@ fn push_revoked(
 
 fn push_entries(
     alloc: Global,
-    text: &mut String,
+    page: &mut Page,
     octets: &[u8],
     list: &Site,
     entries: &[RevokedCertificate<'_>],
 ) -> Result<(), AllocError> {
     let mut sites = Sites::within(octets, list);
     for entry in entries {
-        let place = sites.next_site().unwrap_or(list.nothing()).place;
-        push_label(text, &place, "revoked")?;
-        push_entry(alloc, text, entry)?;
+        let site = sites.next_site().unwrap_or(list.nothing());
+        push_label(page, &site.place, "revoked")?;
+        push_entry(alloc, page, octets, &site, entry)?;
     }
     Ok(())
 }
@@ -134,27 +138,34 @@ fn push_entries(
 /// Adds the serial number, since when it is revoked, and its extensions; and ends the line.
 fn push_entry(
     alloc: Global,
-    text: &mut String,
+    page: &mut Page,
+    octets: &[u8],
+    site: &Site,
     entry: &RevokedCertificate<'_>,
 ) -> Result<(), AllocError> {
-    push_with_colons(text, entry.user_certificate().as_bytes())?;
-    text.push_str(", ")?;
-    push_time(text, &entry.revocation_date())?;
+    push_serial(page, entry.user_certificate().as_bytes())?;
+    page.text.push_str(", ")?;
+    push_time(page, &entry.revocation_date())?;
     if let Some(extensions) = entry.crl_entry_extensions() {
-        push_entry_extensions(alloc, text, extensions.as_slice())?;
+        let list = site.field(octets, "crlEntryExtensions");
+        push_entry_extensions(alloc, page, octets, &list, extensions.as_slice())?;
     }
-    text.push('\n')
+    page.text.push('\n')
 }
 
 /// Adds the extensions of an entry, each after a comma, as those of a certificate are shown.
 fn push_entry_extensions(
     alloc: Global,
-    text: &mut String,
+    page: &mut Page,
+    octets: &[u8],
+    list: &Site,
     extensions: &[Extension<'_>],
 ) -> Result<(), AllocError> {
+    let mut sites = Sites::within(octets, list);
     for extension in extensions {
-        text.push_str(", extension ")?;
-        push_extension(alloc, text, extension)?;
+        let place = sites.next_site().unwrap_or(list.nothing()).place;
+        page.text.push_str(", extension ")?;
+        push_extension(alloc, page, &place, extension)?;
     }
     Ok(())
 }

@@ -8,6 +8,7 @@ ghost use Rattle.certview_text.specs.Faults.{first_fault};
 use crate::keys::{push_exponent, push_modulus, push_secret, push_version};
 use crate::kind::Kind;
 use crate::labels::{push_count, push_title};
+use crate::page::Page;
 use crate::site::Site;
 use der_asn1_types::{Error, FromDer};
 use der_pkix::key::RsaPrivateKey;
@@ -24,41 +25,39 @@ const SECRETS: [&str; 6] = [
     "coefficient",
 ];
 
-/// The fields of the RSAPrivateKey that these octets are, a line each.
+/// Adds the fields of the RSAPrivateKey that these octets are, a line each.
 ///
 /// # Errors
 /// The first fault of the octets, in the order of the fields; `ErrorKind::TrailingData` (3) where
 /// octets are left over; `ErrorKind::Overflow` (9) where there are more than 4294967295;
 /// `ErrorKind::Memory` (1) where memory runs out.
-pub fn rsa_private_key_text(alloc: Global, octets: &[u8]) -> Result<String, Error>
+pub fn push_rsa_private_key(alloc: Global, page: &mut Page, octets: &[u8]) -> Result<(), Error>
     ensures { OnOk result (first_fault (parse_of rsa_private_key) octets.now ≡ None) }
 {
     grammar_of_rsa_private_key();
     match RsaPrivateKey::from_der(alloc, octets) {
-        Ok(key) => Ok(text_of(alloc, octets, &key)?),
+        Ok(key) => Ok(push_fields(page, octets, &key)?),
         Err(error) => Err(error),
     }
 }
 
-fn text_of(alloc: Global, octets: &[u8], key: &RsaPrivateKey<'_>) -> Result<String, AllocError> {
-    let mut text = String::new(alloc);
+fn push_fields(page: &mut Page, octets: &[u8], key: &RsaPrivateKey<'_>) -> Result<(), AllocError> {
     let whole = Site::whole(octets, Kind::RsaPrivateKey);
-    push_title(&mut text, &whole.place, Kind::RsaPrivateKey)?;
-    push_version(&mut text, octets, &whole, key.version())?;
-    push_modulus(&mut text, octets, &whole, key.modulus())?;
-    push_exponent(&mut text, octets, &whole, key.public_exponent())?;
+    push_title(page, &whole.place, Kind::RsaPrivateKey)?;
+    push_version(page, octets, &whole, key.version())?;
+    push_modulus(page, octets, &whole, key.modulus())?;
+    push_exponent(page, octets, &whole, key.public_exponent())?;
     for name in &SECRETS {
         let place = whole.field(octets, name).place;
         let count = place.end.saturating_sub(place.contents);
-        push_secret(&mut text, octets, &whole, name, count)?;
+        push_secret(page, octets, &whole, name, count)?;
     }
-    push_other_primes(&mut text, octets, &whole, key)?;
-    Ok(text)
+    push_other_primes(page, octets, &whole, key)
 }
 
 /// Adds how many primes there are besides the two, where there are more.
 fn push_other_primes(
-    text: &mut String,
+    page: &mut Page,
     octets: &[u8],
     whole: &Site,
     key: &RsaPrivateKey<'_>,
@@ -66,7 +65,7 @@ fn push_other_primes(
     match key.other_prime_infos() {
         Some(primes) => {
             let place = whole.field(octets, "otherPrimeInfos").place;
-            push_count(text, &place, "other primes", primes.as_slice().len())
+            push_count(page, &place, "other primes", primes.as_slice().len())
         }
         None => Ok(()),
     }

@@ -4,30 +4,46 @@ ghost use Rattle.std.specs.Prelude.{◌≡◌, None, OnOk};
 ghost use Rattle.certview_text.specs.Faults.{first_fault};
 ghost use Rattle.certview_text.specs.Grammars.{grammar_of};
 
-use crate::certificate::certificate_text;
-use crate::keys::{ec_private_key_text, private_key_text, public_key_text, rsa_public_key_text};
+use crate::certificate::push_certificate;
+use crate::keys::{push_ec_private_key, push_private_key, push_public_key, push_rsa_public_key};
 use crate::kind::Kind;
-use crate::revocation::list_text;
-use crate::rsa::rsa_private_key_text;
+use crate::page::Page;
+use crate::revocation::push_list;
+use crate::rsa::push_rsa_private_key;
 use der_asn1_types::Error;
 use std::alloc::Global;
 
-/// The fields of the message of this kind that these octets are, a line each.
+/// Adds the fields of the message of this kind that these octets are, a line each. Nothing is added where
+/// the octets are refused.
 ///
 /// # Errors
 /// The first fault of the octets, in the order of the fields; `ErrorKind::TrailingData` (3) where
 /// octets are left over; `ErrorKind::Overflow` (9) where there are more than 4294967295;
 /// `ErrorKind::Memory` (1) where memory runs out.
-pub fn shown(alloc: Global, kind: Kind, octets: &[u8]) -> Result<String, Error>
+pub fn push_message(alloc: Global, page: &mut Page, kind: Kind, octets: &[u8]) -> Result<(), Error>
     ensures { OnOk result (first_fault (grammar_of kind) octets.now ≡ None) }
 {
     match kind {
-        Kind::Certificate => certificate_text(alloc, octets),
-        Kind::RevocationList => list_text(alloc, octets),
-        Kind::PublicKey => public_key_text(alloc, octets),
-        Kind::PrivateKey => private_key_text(alloc, octets),
-        Kind::RsaPrivateKey => rsa_private_key_text(alloc, octets),
-        Kind::RsaPublicKey => rsa_public_key_text(alloc, octets),
-        Kind::EcPrivateKey => ec_private_key_text(alloc, octets),
+        Kind::Certificate => push_certificate(alloc, page, octets),
+        Kind::RevocationList => push_list(alloc, page, octets),
+        Kind::PublicKey => push_public_key(alloc, page, octets),
+        Kind::PrivateKey => push_private_key(alloc, page, octets),
+        Kind::RsaPrivateKey => push_rsa_private_key(alloc, page, octets),
+        Kind::RsaPublicKey => push_rsa_public_key(alloc, page, octets),
+        Kind::EcPrivateKey => push_ec_private_key(alloc, page, octets),
+    }
+}
+
+/// The fields of the message of this kind that these octets are, a line each.
+///
+/// # Errors
+/// As `push_message`.
+pub fn shown(alloc: Global, kind: Kind, octets: &[u8]) -> Result<String, Error>
+    ensures { OnOk result (first_fault (grammar_of kind) octets.now ≡ None) }
+{
+    let mut page = Page::new(alloc);
+    match push_message(alloc, &mut page, kind, octets) {
+        Ok(()) => Ok(page.text),
+        Err(error) => Err(error),
     }
 }

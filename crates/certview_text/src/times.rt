@@ -1,6 +1,7 @@
 //! Times as text.
 
 use crate::labels::push_label;
+use crate::page::Page;
 use crate::site::Site;
 use der_asn1_types::DateTime;
 use der_pkix::certificate::{Time, Validity};
@@ -9,35 +10,39 @@ use std::fmt::Write;
 
 /// Adds a line for the first second of the validity, and one for the last.
 pub fn push_validity(
-    text: &mut String,
+    page: &mut Page,
     octets: &[u8],
     site: &Site,
     validity: &Validity,
 ) -> Result<(), AllocError> {
     let (begin, end) = (validity.not_before(), validity.not_after());
-    push_moment(text, &site.field(octets, "notBefore"), "not before", &begin)?;
-    push_moment(text, &site.field(octets, "notAfter"), "not after", &end)
+    push_moment(page, &site.field(octets, "notBefore"), "not before", &begin)?;
+    push_moment(page, &site.field(octets, "notAfter"), "not after", &end)
 }
 
 /// Adds a line with a time.
 pub fn push_moment(
-    text: &mut String,
+    page: &mut Page,
     site: &Site,
     label: &str,
     time: &Time,
 ) -> Result<(), AllocError> {
-    push_label(text, &site.place, label)?;
-    push_time(text, time)?;
-    text.push('\n')
+    push_label(page, &site.place, label)?;
+    push_time(page, time)?;
+    page.text.push('\n')
 }
 
 /// Adds a time, as `2026-11-23 04:38:17 UTC`.
-pub fn push_time(text: &mut String, time: &Time) -> Result<(), AllocError> {
-    let time = date_time_of(time);
+pub fn push_time(page: &mut Page, time: &Time) -> Result<(), AllocError> {
+    push_date_time(page, &date_time_of(time))
+}
+
+/// Adds a date and time, as `push_time` does.
+pub fn push_date_time(page: &mut Page, time: &DateTime) -> Result<(), AllocError> {
     let (year, month, day) = (time.year(), time.month(), time.day());
     let (hour, minutes, seconds) = (time.hour(), time.minutes(), time.seconds());
     write!(
-        text,
+        page.text,
         "{year:04}-{month:02}-{day:02} {hour:02}:{minutes:02}:{seconds:02} UTC"
     )
 }

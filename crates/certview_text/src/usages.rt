@@ -1,13 +1,15 @@
 //! The values of the extensions keyUsage and extKeyUsage as text (RFC 5280 sections 4.2.1.3 and
-//! 4.2.1.12).
+//! 4.2.1.12), and other bits that have names.
 
 use crate::identifiers::push_identifier;
-use crate::names::push_malformed;
+use crate::page::{Inner, Page, push_malformed};
 use der_asn1_types::FromDer;
+use der_asn1_types::asn1::NamedBitsRef;
 use der_extensions::extension::{ExtKeyUsageSyntax, KeyPurposeId, KeyUsage};
 use std::alloc::{AllocError, Global};
+use std::fmt::Write;
 
-/// The names of the bits, from bit 0 on.
+/// The names of the bits of a KeyUsage, from bit 0 on.
 const USAGES: [&str; 9] = [
     "digitalSignature",
     "nonRepudiation",
@@ -21,45 +23,59 @@ const USAGES: [&str; 9] = [
 ];
 
 /// Adds the names of the bits that are set.
-pub fn push_usage(alloc: Global, text: &mut String, octets: &[u8]) -> Result<(), AllocError> {
-    match KeyUsage::from_der(alloc, octets) {
-        Ok(usage) => push_bits(text, usage),
+pub fn push_usage(alloc: Global, page: &mut Page, inner: Inner<'_>) -> Result<(), AllocError> {
+    match KeyUsage::from_der(alloc, inner.octets) {
+        Ok(usage) => push_bits(page, &USAGES, usage),
         Err(error) => {
-            text.push_str(", ")?;
-            push_malformed(text, error)
+            page.text.push_str(", ")?;
+            push_malformed(page, inner.begin, error)
         }
     }
 }
 
-fn push_bits(text: &mut String, usage: KeyUsage<'_>) -> Result<(), AllocError> {
-    for (index, name) in USAGES.iter().enumerate() {
-        if usage.has(index) {
-            text.push_str(", ")?;
-            text.push_str(name)?;
+/// Adds the names of the bits that are set, each after a comma; a bit that has none, by its number.
+pub fn push_bits(
+    page: &mut Page,
+    names: &[&'static str],
+    bits: NamedBitsRef<'_>,
+) -> Result<(), AllocError> {
+    for (index, name) in names.iter().enumerate() {
+        if bits.has(index) {
+            page.text.push_str(", ")?;
+            page.text.push_str(name)?;
+        }
+    }
+    push_other_bits(page, names.len(), bits)
+}
+
+fn push_other_bits(
+    page: &mut Page,
+    first: usize,
+    bits: NamedBitsRef<'_>,
+) -> Result<(), AllocError> {
+    for index in first..bits.as_bit_string().bit_len() {
+        if bits.has(index) {
+            write!(page.text, ", bit {index}")?;
         }
     }
     Ok(())
 }
 
 /// Adds the purposes.
-pub fn push_purposes(alloc: Global, text: &mut String, octets: &[u8]) -> Result<(), AllocError> {
-    match ExtKeyUsageSyntax::from_der(alloc, octets) {
-        Ok(purposes) => push_each(alloc, text, purposes.as_slice()),
+pub fn push_purposes(alloc: Global, page: &mut Page, inner: Inner<'_>) -> Result<(), AllocError> {
+    match ExtKeyUsageSyntax::from_der(alloc, inner.octets) {
+        Ok(purposes) => push_each(alloc, page, purposes.as_slice()),
         Err(error) => {
-            text.push_str(", ")?;
-            push_malformed(text, error)
+            page.text.push_str(", ")?;
+            push_malformed(page, inner.begin, error)
         }
     }
 }
 
-fn push_each(
-    alloc: Global,
-    text: &mut String,
-    purposes: &[KeyPurposeId],
-) -> Result<(), AllocError> {
+fn push_each(alloc: Global, page: &mut Page, purposes: &[KeyPurposeId]) -> Result<(), AllocError> {
     for purpose in purposes {
-        text.push_str(", ")?;
-        push_identifier(alloc, text, purpose.as_bytes())?;
+        page.text.push_str(", ")?;
+        push_identifier(alloc, page, purpose.as_bytes())?;
     }
     Ok(())
 }

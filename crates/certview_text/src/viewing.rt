@@ -1,26 +1,48 @@
 //! From what is read to what is written.
 
-ghost use Rattle.std.specs.Prelude.{◌≡◌, ◌≢◌, None, false, OnOk, IfErr, IfSome};
+ghost use Rattle.std.specs.Prelude.{◌≡◌, ◌≢◌, OnOk, IfErr, IfSome};
 ghost use Rattle.std.specs.Io.KnownBytes.{Keeps};
-ghost use Rattle.certview_text.specs.Faults.{first_fault};
-ghost use Rattle.certview_text.specs.Grammars.{grammar_of};
-ghost use Rattle.certview_text.specs.Kinds.{kind_of};
-ghost use Rattle.certview_text.specs.Pem.{is_pem};
+ghost use Rattle.certview_text.specs.Shown.{IsShown};
 
+use crate::blocks::{push_blocks, push_octets};
+use crate::characters::push_plain;
 use crate::fault::Fault;
-use crate::kind::Kind;
-use crate::path::path_of;
-use crate::pem::message_of;
-use crate::text::shown;
-use der_asn1_types::{Error, ErrorKind};
+use crate::kind::kind_of;
+use crate::page::Page;
+use crate::pem::is_text;
 use std::alloc::Global;
 use std::io::{self, Read, Write};
 
-/// Reads all of the input, and writes the fields of the message that it carries.
-pub fn run<R: Read, W: Write>(alloc: Global, input: &mut R, output: &mut W) -> Result<(), Fault>
-    // What was read is shown only where the grammar of its kind reads exactly these octets.
-    ensures read { OnOk result (IfSome (R.remaining input.old) (λ octets. is_pem octets ≡ false →
-        first_fault (grammar_of (kind_of octets)) octets ≡ None)) }
+/// How an input is shown.
+#[derive(Clone, Copy, Debug, PartialEq, Eq)]
+pub struct View<'a> {
+    /// What the input is called, in a line before its messages.
+    pub name: Option<&'a str>,
+    /// Whether the SHA-256 of each message is shown.
+    pub has_fingerprint: bool,
+}
+
+/// What became of an input of which a message was shown.
+#[derive(Clone, Copy, Debug, PartialEq, Eq)]
+pub enum Outcome {
+    /// All of it is shown.
+    Whole,
+    /// A part could not be read, of which a line says so.
+    Partial,
+    /// No one reads what is written.
+    Closed,
+}
+
+/// Reads all of the input, and writes the fields of the messages that it carries.
+pub fn run<R: Read, W: Write>(
+    alloc: Global,
+    view: &View<'_>,
+    input: &mut R,
+    output: &mut W,
+) -> Result<Outcome, Fault>
+    // What was read is shown only where the grammar of its kind reads exactly these octets, or where it
+    // is PEM text.
+    ensures read { OnOk result (IfSome (R.remaining input.old) IsShown) }
     // Unless a write fails, nothing was written where there is a fault.
     ensures kept { IfErr result (λ fault. fault ≢ Fault.Output → Keeps (W.contents output.old) (W.contents output.new)) }
 {
@@ -28,9 +50,21 @@ pub fn run<R: Read, W: Write>(alloc: Global, input: &mut R, output: &mut W) -> R
     if let Err(error) = input.read_to_end(&mut octets) {
         return Err(read_fault(&error));
     }
-    let text = answer(alloc, octets)?;
-    match output.write_all(text.as_bytes()) {
-        Ok(()) => Ok(()),
+    let page = answer(alloc, view, octets)?;
+    match write_page(output, &page) {
+        Ok(outcome) => Ok(outcome),
+        Err(fault) => Err(fault),
+    }
+}
+
+/// Writes what a page has. A pipe that is closed is no fault: no one reads on.
+fn write_page<W: Write>(output: &mut W, page: &Page) -> Result<Outcome, Fault>
+    ensures { IfErr result (λ fault. fault ≡ Fault.Output) }
+{
+    match output.write_all(page.text.as_bytes()) {
+        Ok(()) if page.is_partial => Ok(Outcome::Partial),
+        Ok(()) => Ok(Outcome::Whole),
+        Err(error) if error.kind() == io::ErrorKind::BrokenPipe => Ok(Outcome::Closed),
         Err(_) => Err(Fault::Output),
     }
 }
@@ -44,21 +78,23 @@ fn read_fault(error: &io::Error) -> Fault {
 }
 
 /// What is written for an input.
-fn answer(alloc: Global, input: Vec<u8>) -> Result<String, Fault>
-    ensures { OnOk result (is_pem input.items ≡ false →
-        first_fault (grammar_of (kind_of input.items)) input.items ≡ None) }
+fn answer(alloc: Global, view: &View<'_>, input: Vec<u8>) -> Result<Page, Fault>
+    ensures { OnOk result (IsShown input.items) }
 {
-    let message = message_of(alloc, input)?;
-    match shown(alloc, message.kind, message.octets.as_slice()) {
-        Ok(text) => Ok(text),
-        Err(error) => Err(refusal(message.kind, message.octets.as_slice(), error)),
+    let mut page = Page::new(alloc);
+    if let Some(name) = view.name {
+        push_plain(&mut page, name)?;
+        page.text.push_str(":\n")?;
     }
-}
-
-/// The fault of octets that are refused, or of memory that was.
-fn refusal(kind: Kind, octets: &[u8], error: Error) -> Fault {
-    match error.kind {
-        ErrorKind::Memory => Fault::Memory,
-        _ => Fault::Refused(error, path_of(octets, kind, &error)),
+    let octets = input.as_slice();
+    if octets.is_empty() {
+        return Err(Fault::Empty);
     }
+    if is_text(octets) {
+        push_blocks(alloc, &mut page, view.has_fingerprint, octets)?;
+        return Ok(page);
+    }
+    let kind = kind_of(octets);
+    push_octets(alloc, &mut page, view.has_fingerprint, kind, octets)?;
+    Ok(page)
 }

@@ -83,7 +83,7 @@ fn names_the_field_of_a_fault(rt: HostRuntime) -> Result<(), Fail> {
         octets[place] = octet;
         let (result, _written) = written(rt.alloc(), octets.as_slice());
         let text = match result {
-            Ok(()) => String::new(rt.alloc()),
+            Ok(_) => String::new(rt.alloc()),
             Err(fault) => format!(in rt.alloc(); "{fault}")?,
         };
         assert!(rt; text.ends_with(words), "{text}");

@@ -8,4 +8,4 @@ tied (Some xs) start got P e known holds = subst P (known ∙ ap (λ s. s ++ xs)
 
 pub returns-in-Ok-clause-read : goal.returns-in-Ok-clause-read
 returns-in-Ok-clause-read g c =
-    tied (g.R.Read.remaining c.args.input.now) c.new-octets.result.items c.read_to_end.new.buf.items _ c.new-octets.ensures.items c.in_default.ensures.bytes c.in_ok-text.ensures
+    tied (g.R.Read.remaining c.args.input.now) c.new-octets.result.items c.read_to_end.new.buf.items _ c.new-octets.ensures.items c.in_default.ensures.bytes c.in_ok-page.ensures

@@ -1,0 +1,69 @@
+//! The labels of PEM text.
+
+use crate::kind::Kind;
+use std::fmt;
+
+/// The labels of the messages that are shown (RFC 7468 sections 5, 6, 7, 10 and 13; those with the name
+/// of an algorithm are OpenSSL's). A label of more than 32 octets is none of them.
+const LABELS: [(&str, Kind); 10] = [
+    ("CERTIFICATE", Kind::Certificate),
+    ("X509 CERTIFICATE", Kind::Certificate),
+    ("X.509 CERTIFICATE", Kind::Certificate),
+    ("X509 CRL", Kind::RevocationList),
+    ("CRL", Kind::RevocationList),
+    ("PUBLIC KEY", Kind::PublicKey),
+    ("PRIVATE KEY", Kind::PrivateKey),
+    ("RSA PRIVATE KEY", Kind::RsaPrivateKey),
+    ("RSA PUBLIC KEY", Kind::RsaPublicKey),
+    ("EC PRIVATE KEY", Kind::EcPrivateKey),
+];
+
+/// The kind of message that a block with this label has.
+pub fn kind_with(label: &[u8]) -> Option<Kind> {
+    for (name, kind) in &LABELS {
+        if name.as_bytes() == label {
+            return Some(*kind);
+        }
+    }
+    None
+}
+
+/// A label as it is shown: its first 32 octets, with a `?` for each that is no character of ASCII.
+#[derive(Clone, Copy, Debug, PartialEq, Eq)]
+pub struct Label {
+    octets: [u8; 32],
+    count: usize,
+}
+
+impl Label {
+    /// A label of these octets.
+    pub fn of(octets: &[u8]) -> Label {
+        let mut shown = [b' '; 32];
+        let count = octets.len().min(32);
+        for index in 0..count {
+            shown[index] = match octets[index] {
+                octet @ 0x20..=0x7e => octet,
+                _ => b'?',
+            };
+        }
+        Label {
+            octets: shown,
+            count,
+        }
+    }
+
+    fn as_str(&self) -> &str {
+        let count = self.count.min(32);
+        match str::from_utf8(&self.octets[..count]) {
+            Ok(label) => label,
+            Err(_) => "",
+        }
+    }
+}
+
+impl fmt::Display for Label {
+    fn fmt<W: fmt::Write>(&self, f: &mut fmt::Formatter<W>) -> fmt::Result {
+        let label = self.as_str();
+        write!(f, "{label}")
+    }
+}
