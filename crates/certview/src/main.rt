@@ -63,9 +63,13 @@ fn show_files(rt: &HostRuntime, request: &Request<'_>) -> u8 {
         } else {
             show_file(rt, &view, file)
         };
-        status = status.max(status_of(rt, file, shown));
-        if shown == Ok(Outcome::Closed) {
-            return status;
+        match shown {
+            Ok(Outcome::Closed) => return status,
+            Ok(outcome) => status = status.max(outcome.status()),
+            Err(fault) => {
+                tell(rt, file, fault);
+                status = status.max(fault.status());
+            }
         }
     }
     status
@@ -87,18 +91,7 @@ fn show_file(rt: &HostRuntime, view: &View<'_>, file: &str) -> Result<Outcome, F
     }
 }
 
-/// The status of a file, of which a fault is told on standard error.
-fn status_of(rt: &HostRuntime, file: &str, shown: Result<Outcome, Fault>) -> u8 {
-    match shown {
-        Ok(Outcome::Partial) => 1,
-        Ok(_) => 0,
-        Err(fault) => {
-            tell(rt, file, fault);
-            fault.status()
-        }
-    }
-}
-
+/// Tells on standard error of a file that is not shown.
 fn tell(rt: &HostRuntime, file: &str, fault: Fault) {
     let _ = match plain(rt.alloc(), file) {
         Ok(name) if file != "-" => eprintln!(rt; "certview: {name}: {fault}"),

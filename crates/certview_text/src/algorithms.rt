@@ -125,8 +125,10 @@ fn push_point(
     point: &BitStringRef<'_>,
 ) -> Result<(), AllocError> {
     let bits = match &algorithm.parameters {
-        Some(curve) => curve_bits(alloc, curve.value())?,
-        None => None,
+        Some(curve) if curve.header().tag == Tag::ObjectIdentifier => {
+            curve_bits(alloc, curve.value())?
+        }
+        _ => None,
     };
     match bits {
         Some(bits) => push_bits_of(page, bits, point),
@@ -145,14 +147,27 @@ fn push_dsa_key(
     algorithm: &AlgorithmIdentifier<'_>,
     key: &BitStringRef<'_>,
 ) -> Result<(), AllocError> {
-    if let Some(parameters) = &algorithm.parameters {
-        let (_, count) = sizes(parameters.value());
-        if let Ok(prime) = UintRef::from_der(alloc, &parameters.value()[..count]) {
-            return push_bits_of(page, bits_of(prime.as_bytes()), key);
-        }
+    if let Some(bits) = bits_of_prime(alloc, algorithm) {
+        return push_bits_of(page, bits, key);
     }
     page.text.push_str("key of DSA ")?;
     push_digits(page, key.raw_bytes())
+}
+
+/// How many bits the first INTEGER has of parameters that are a SEQUENCE.
+fn bits_of_prime(alloc: Global, algorithm: &AlgorithmIdentifier<'_>) -> Option<usize> {
+    let Some(parameters) = &algorithm.parameters else {
+        return None;
+    };
+    if parameters.header().tag != Tag::Sequence {
+        return None;
+    }
+    let octets = parameters.value();
+    let (_, count) = sizes(octets);
+    match UintRef::from_der(alloc, &octets[..count]) {
+        Ok(prime) => Some(bits_of(prime.as_bytes())),
+        Err(_) => None,
+    }
 }
 
 /// How many bits a number has, of which these are the octets.

@@ -31,7 +31,7 @@ pub fn push_octets(
     ensures { OnOk result (first_fault (grammar_of kind) octets.now ≡ None) }
 {
     match push_message(alloc, page, kind, octets) {
-        Ok(()) if has_fingerprint && !kind.is_secret() => Ok(push_fingerprint(page, octets)?),
+        Ok(()) if has_fingerprint => Ok(push_fingerprint(page, kind, octets)?),
         Ok(()) => Ok(()),
         Err(error) => Err(refusal(kind, octets, error)),
     }
@@ -45,8 +45,11 @@ fn refusal(kind: Kind, octets: &[u8], error: Error) -> Fault {
     }
 }
 
-/// Adds a line with the SHA-256 of a message's octets.
-fn push_fingerprint(page: &mut Page, octets: &[u8]) -> Result<(), AllocError> {
+/// Adds a line with the SHA-256 of a message's octets, if nothing in it is secret.
+fn push_fingerprint(page: &mut Page, kind: Kind, octets: &[u8]) -> Result<(), AllocError> {
+    if kind.is_secret() {
+        return Ok(());
+    }
     page.text.push_str("             fingerprint: SHA-256 ")?;
     let digest = Sha256::digest(octets);
     push_with_colons(page, digest.as_slice())?;
@@ -80,7 +83,9 @@ pub fn push_blocks(
             Err(Fault::Memory) => return Err(Fault::Memory),
             Err(fault) => {
                 push_refused(page, fault)?;
-                first = first.or(Some(fault));
+                if first.is_none() {
+                    first = Some(fault);
+                }
             }
         }
     }

@@ -97,7 +97,7 @@ fn has_time_tag(octets: &[u8]) -> bool
 }
 
 /// Whether the first value has this identifier octet.
-fn has_tag(octets: &[u8], tag: u8) -> bool
+pub fn has_tag(octets: &[u8], tag: u8) -> bool
     ensures { result ≡ has_tag tag octets.now }
 {
     match octets {

@@ -4,6 +4,7 @@ ghost use Rattle.std.specs.Prelude.{◌≡◌, ◌≤◌, true, IfSome, length};
 ghost use Rattle.certview_text.specs.Shown.{IsText};
 
 use crate::fault::Fault;
+use crate::kind::has_tag;
 use base64::DecodeAllocError;
 use base64::engine::general_purpose::STANDARD;
 use memchr::memmem;
@@ -37,9 +38,12 @@ pub struct Blocks<'a> {
 pub fn is_text(input: &[u8]) -> bool
     ensures { result ≡ true → IsText input.now }
 {
-    match input {
-        [0x30, ..] => false,
-        _ => memmem::find(input, BEGIN).is_some(),
+    if has_tag(input, 0x30) {
+        return false;
+    }
+    match memmem::find(input, BEGIN) {
+        Some(_) => true,
+        None => false,
     }
 }
 

@@ -33,6 +33,16 @@ pub enum Outcome {
     Closed,
 }
 
+impl Outcome {
+    /// The exit status: 1 for what is shown in part.
+    pub fn status(self) -> u8 {
+        match self {
+            Outcome::Partial => 1,
+            Outcome::Whole | Outcome::Closed => 0,
+        }
+    }
+}
+
 /// Reads all of the input, and writes the fields of the messages that it carries.
 pub fn run<R: Read, W: Write>(
     alloc: Global,

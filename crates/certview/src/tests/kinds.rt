@@ -103,6 +103,17 @@ fn shows_what_a_private_key_may_have(rt: HostRuntime) -> Result<(), Fail> {
 }
 
 #[test]
+fn tells_a_curve_by_an_identifier_alone(rt: HostRuntime) -> Result<(), Fail> {
+    let mut octets = hex::decode(rt.alloc(), CURVE_PUBLIC)?;
+    assert!(rt; octets.len() > 13);
+    octets[13] = 0x04;
+    let text = shown(rt.alloc(), Kind::PublicKey, octets.as_slice())?;
+    assert_contains(&rt, text.as_str(), "parameters #04082a8648ce3d030107\n");
+    assert_contains(&rt, text.as_str(), "key: point 045223fdd1d382ff99");
+    Ok(())
+}
+
+#[test]
 fn tells_the_kinds(rt: HostRuntime) -> Result<(), Fail> {
     let rows = [
         (ED25519, Kind::Certificate),
