@@ -1,5 +1,5 @@
 -- Which inputs are shown.
-use Rattle.std.specs.Prelude.{ℕ, List, Bool, true, false, None, ◌≡◌, ◌×◌, ◌⊎◌, codes}
+use Rattle.std.specs.Prelude.{ℕ, List, Bool, true, false, None, ◌≡◌, ◌⊎◌, codes}
 use Rattle.memchr.specs.Find.{OccursAt}
 use Rattle.certview_text.specs.Faults.{first_fault}
 use Rattle.certview_text.specs.Grammars.{grammar_of}

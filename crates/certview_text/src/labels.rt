@@ -23,18 +23,6 @@ pub fn push_place(page: &mut Page, place: &Place) -> Result<(), AllocError> {
     write!(page.text, "{begin:>5} {count:>5}  ")
 }
 
-/// Adds a line with a number.
-pub fn push_number(
-    page: &mut Page,
-    place: &Place,
-    label: &str,
-    number: usize,
-    unit: &str,
-) -> Result<(), AllocError> {
-    push_label(page, place, label)?;
-    writeln!(page.text, "{number} {unit}")
-}
-
 /// Adds a line with how many there are of what a field lists.
 pub fn push_count(
     page: &mut Page,
