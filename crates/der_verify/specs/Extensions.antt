@@ -5,7 +5,7 @@ use Rattle.std.specs.Cmp.Lexicographic.{pointwise}
 use Rattle.der_tlv.specs.declared.error.ErrorKind.TheVariants.{Value}
 use Rattle.der_tlv.specs.declared.tag.Tag.TheVariants.{Sequence}
 use Rattle.der_tlv.specs.declared.error.Error.{Error}
-use Rattle.der_opaque.specs.ObjectIdentifier.{octets_of}
+use Rattle.der_opaque.specs.ObjectIdentifierRef.{octets_of}
 use Rattle.der_pkix.specs.declared.certificate.extension.Extension.{Extension}
 use Rattle.der_pkix.specs.Certificate.Extension as extension_fields
 

@@ -3,7 +3,7 @@ use Rattle.std.specs.Prelude.{ℕ, ◌==◌, nat_eq, nat_lt, nat_le, List, [], �
 use Rattle.std.specs.Borrow.{Bor}
 use Rattle.std.specs.Bool.{beq}
 use Rattle.std.specs.Cmp.Lexicographic.{pointwise}
-use Rattle.der_opaque.specs.ObjectIdentifier as identifier
+use Rattle.der_opaque.specs.ObjectIdentifierRef as identifier
 use Rattle.der_opaque.specs.OctetStringRef as string
 use Rattle.der_numbers.specs.IntRef.{contents_of}
 use Rattle.der_nest.specs.Kept as kept
