@@ -68,32 +68,67 @@ pub fn push_blocks(
     text: &[u8],
 ) -> Result<(), Fault> {
     let count = Blocks::count(text);
+    if count < 2 {
+        return push_first(alloc, page, has_fingerprint, text);
+    }
+    match push_each(alloc, page, has_fingerprint, text, count) {
+        Ok(0) => push_first(alloc, page, has_fingerprint, text),
+        Ok(_) => Ok(()),
+        Err(_) => Err(Fault::Memory),
+    }
+}
+
+/// Adds each of so many blocks, and answers of how many a message is shown.
+fn push_each(
+    alloc: Global,
+    page: &mut Page,
+    has_fingerprint: bool,
+    text: &[u8],
+    count: usize,
+) -> Result<usize, AllocError> {
     let mut blocks = Blocks::of(text);
-    let mut first = None;
     let mut shown: usize = 0;
     for number in 0..count {
         let Some(block) = blocks.next_block() else {
             break;
         };
-        if count > 1 {
-            push_heading(page, number, count, &block)?;
-        }
-        match push_block(alloc, page, has_fingerprint, &block) {
-            Ok(()) => shown = shown.saturating_add(1),
-            Err(Fault::Memory) => return Err(Fault::Memory),
-            Err(fault) => {
-                push_refused(page, fault)?;
-                if first.is_none() {
-                    first = Some(fault);
-                }
-            }
+        push_heading(page, number, count, &block)?;
+        if push_or_tell(alloc, page, has_fingerprint, &block)? {
+            shown = shown.saturating_add(1);
         }
     }
-    match first {
-        Some(fault) if shown == 0 => Err(fault),
-        Some(_) => Ok(()),
-        None if shown == 0 => Err(Fault::NoEnd),
-        None => Ok(()),
+    Ok(shown)
+}
+
+/// Adds the message of the first block.
+fn push_first(
+    alloc: Global,
+    page: &mut Page,
+    has_fingerprint: bool,
+    text: &[u8],
+) -> Result<(), Fault> {
+    let mut blocks = Blocks::of(text);
+    match blocks.next_block() {
+        Some(block) => push_block(alloc, page, has_fingerprint, &block),
+        None => Err(Fault::NoEnd),
+    }
+}
+
+/// Adds the message of one of several blocks, or the line of one that is refused; answers whether the
+/// message is shown.
+fn push_or_tell(
+    alloc: Global,
+    page: &mut Page,
+    has_fingerprint: bool,
+    block: &Block<'_>,
+) -> Result<bool, AllocError> {
+    match push_block(alloc, page, has_fingerprint, block) {
+        Ok(()) => Ok(true),
+        Err(Fault::Memory) => Err(AllocError),
+        Err(fault) => {
+            push_refused(page, fault)?;
+            Ok(false)
+        }
     }
 }
 

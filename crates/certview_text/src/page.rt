@@ -36,6 +36,7 @@ pub struct Inner<'a> {
 /// unless memory ran out: the number of the fault, its words, and how many octets of the message had been
 /// read.
 pub fn push_malformed(page: &mut Page, begin: usize, error: Error) -> Result<(), AllocError> {
+    let place = place_of(&error, begin);
     let kind = error.kind();
     if kind == ErrorKind::Memory {
         return Err(AllocError);
@@ -43,11 +44,14 @@ pub fn push_malformed(page: &mut Page, begin: usize, error: Error) -> Result<(),
     page.is_partial = true;
     let number = kind.number();
     write!(page.text, "malformed ({number}: {kind})")?;
-    match error.position {
-        Some(position) => {
-            let place = begin.saturating_add(position.value() as usize);
-            write!(page.text, " at position {place}")
-        }
+    match place {
+        Some(place) => write!(page.text, " at position {place}"),
         None => Ok(()),
     }
+}
+
+/// How many octets of the message had been read at a fault in octets before which so many stand.
+fn place_of(error: &Error, begin: usize) -> Option<usize> {
+    let read = error.position?.value() as usize;
+    Some(begin.saturating_add(read))
 }
