@@ -3,7 +3,7 @@
 use crate::tests::{holds, same};
 use der_elem::{DerOrd, Duplicate, Encode, FixedTag, FromDer, Tagged, TakesMemory, ValueOrd};
 use der_opaque::{AnyRef, ObjectIdentifier, ObjectIdentifierRef};
-use der_tlv::{Error, Length, Tag};
+use der_tlv::{Length, Tag};
 use std::alloc::Global;
 use std::cmp::Ordering;
 use std::hash::{DefaultHasher, Hash, Hasher};
@@ -92,14 +92,6 @@ fn borrowed_identifiers_are_refused_as_owned_ones(rt: HostRuntime) {
     same(&rt, refusal(&[1, 2, 3]), 0);
 }
 
-/// The orders of two identifiers: of the octets, of the values and of the encodings.
-fn orders(
-    one: &ObjectIdentifierRef<'_, 3>,
-    other: &ObjectIdentifierRef<'_, 3>,
-) -> Result<(Ordering, Ordering, Ordering), Error> {
-    Ok((one.cmp(other), one.value_cmp(other)?, one.der_cmp(other)?))
-}
-
 /// Whether a copy of the identifier equals it, and is hashed alike.
 fn is_copied(one: &ObjectIdentifierRef<'_, 3>) -> bool {
     match one.duplicate() {
@@ -110,16 +102,20 @@ fn is_copied(one: &ObjectIdentifierRef<'_, 3>) -> bool {
 
 #[test]
 fn borrowed_identifiers_are_ordered_by_octets(rt: HostRuntime) {
-    let Ok(short) = ObjectIdentifierRef::<3>::from_bytes(&[0x55]) else {
+    let octets = [0x30, 0x07, 0x06, 0x01, 0x55, 0x06, 0x02, 0x2a, 0x03];
+    let Ok(list) = Vec::<ObjectIdentifierRef<3>>::from_der(rt.alloc(), &octets) else {
         panic!(rt; "refused")
     };
-    let Ok(long) = ObjectIdentifierRef::<3>::from_bytes(&[0x2a, 0x03]) else {
-        panic!(rt; "refused")
-    };
-    holds(&rt, is_copied(&short));
-    holds(&rt, short != long);
-    let expected = (Ordering::Greater, Ordering::Greater, Ordering::Less);
-    same(&rt, orders(&short, &long), Ok(expected));
+    match list.as_slice() {
+        [short, long] => {
+            holds(&rt, is_copied(short));
+            holds(&rt, short != long);
+            same(&rt, short.cmp(long), Ordering::Greater);
+            same(&rt, short.value_cmp(long), Ok(Ordering::Greater));
+            same(&rt, short.der_cmp(long), Ok(Ordering::Less));
+        }
+        _ => holds(&rt, false),
+    }
 }
 
 #[test]
