@@ -62,7 +62,7 @@ fn walked(alloc: Global, octets: &[u8], depth: u32) -> u32 {
     count
 }
 
-fn name_is_read(alloc: Global, name: Kept<'_, Name<'_>>) -> usize {
+fn name_is_read<'a>(alloc: Global, name: Kept<'a, Name<'a>>) -> usize {
     match name.value(alloc) {
         Ok(_name) => 1,
         Err(_) => 0,
