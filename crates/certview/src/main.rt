@@ -45,34 +45,36 @@ fn answer_lines(rt: &HostRuntime) -> Result<(), Fault> {
     }
 }
 
-/// Shows each file, and answers the greatest status.
+/// Shows each file, and answers the greatest status. Where no one reads on, the others are not shown.
 fn show_files(rt: &HostRuntime, request: &Request<'_>) -> u8 {
+    let has_names = request.files.len() > 1;
     let mut status = 0;
     for file in request.files.as_slice() {
-        let name = if request.files.len() > 1 {
-            Some(*file)
-        } else {
-            None
-        };
-        let view = View {
-            name,
-            has_fingerprint: request.has_fingerprint,
-        };
-        let shown = if *file == "-" {
-            show_input(rt, &view)
-        } else {
-            show_file(rt, &view, file)
-        };
-        match shown {
-            Ok(Outcome::Closed) => return status,
-            Ok(outcome) => status = status.max(outcome.status()),
-            Err(fault) => {
-                tell(rt, file, fault);
-                status = status.max(fault.status());
-            }
+        match show(rt, file, has_names, request.has_fingerprint) {
+            Some(of_file) => status = of_file.max(status),
+            None => return status,
         }
     }
     status
+}
+
+/// Shows a file, after its name where there are several, and answers the status: none where no one reads
+/// what is written.
+fn show(rt: &HostRuntime, file: &str, has_name: bool, has_fingerprint: bool) -> Option<u8> {
+    let view = View {
+        name: if has_name { Some(file) } else { None },
+        has_fingerprint,
+    };
+    let shown = if file == "-" {
+        show_input(rt, &view)
+    } else {
+        show_file(rt, &view, file)
+    };
+    match shown {
+        Ok(Outcome::Closed) => None,
+        Ok(outcome) => Some(outcome.status()),
+        Err(fault) => Some(told(rt, file, fault)),
+    }
 }
 
 fn show_input(rt: &HostRuntime, view: &View<'_>) -> Result<Outcome, Fault> {
@@ -91,12 +93,13 @@ fn show_file(rt: &HostRuntime, view: &View<'_>, file: &str) -> Result<Outcome, F
     }
 }
 
-/// Tells on standard error of a file that is not shown.
-fn tell(rt: &HostRuntime, file: &str, fault: Fault) {
+/// Tells on standard error of a file that is not shown, and answers the status.
+fn told(rt: &HostRuntime, file: &str, fault: Fault) -> u8 {
     let _ = match plain(rt.alloc(), file) {
         Ok(name) if file != "-" => eprintln!(rt; "certview: {name}: {fault}"),
         _ => eprintln!(rt; "certview: {fault}"),
     };
+    fault.status()
 }
 
 /// Whether the one argument asks for lines.
