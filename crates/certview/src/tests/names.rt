@@ -10,8 +10,12 @@ use std::test::Fail;
 fn with(alloc: Global, changes: &[(usize, &[u8])]) -> Result<String, Fail> {
     let mut octets = hex::decode(alloc, AUTHORITY)?;
     for (place, others) in changes {
-        for (index, octet) in others.iter().enumerate() {
-            octets[*place + index] = *octet;
+        let mut index = *place;
+        for octet in *others {
+            if index < octets.len() {
+                octets[index] = *octet;
+            }
+            index = index.wrapping_add(1);
         }
     }
     Ok(shown(alloc, Kind::Certificate, octets.as_slice())?)
