@@ -1,0 +1,56 @@
+-- What a call answers: 0 and what was read, or the number of the first fault.
+use Rattle.std.specs.Prelude.{◌≡◌, ◌⊎◌, ℕ, List, take, Ok}
+use Rattle.der_tlv.specs.declared.encoding_rules.EncodingRules.TheVariants.{Der}
+use Rattle.der_tlv.specs.declared.error.ErrorKind.{ErrorKind}
+use Rattle.der_tlv.specs.declared.error.ErrorKind.TheVariants.{Overflow}
+use Rattle.der_tlv.specs.ErrorNumber.{error_number}
+use Rattle.der_elem.specs.Accepting.{Fits}
+use Rattle.der_elem.specs.Decoding.{AllRead, Faults, NotAllRead, RanOut}
+use Rattle.der_elem.specs.declared.form.Form as form
+
+-- 0: the octets are read as a value, all of them, and this is shown of it
+pub record Given {T S : Type 0} (F : form.Ghosts T) (octets : List ℕ) (shows : T → S → Type 0) (new : S) (answer : ℕ) : Type 0 where
+  pub number : answer ≡ 0
+  pub value : T
+  pub read : AllRead F octets value
+  pub shown : shows value new
+
+-- the number of the first fault, or 1 where memory ran out: nothing is written
+pub record NotGiven {T S : Type 0} (F : form.Ghosts T) (octets : List ℕ) (old new : S) (answer : ℕ) : Type 0 where
+  pub kind : ErrorKind
+  pub number : answer ≡ error_number kind
+  pub reason : RanOut F.TAKES_MEMORY F.FAULTS_FIRST (F.parse Der 0 octets) kind ⊎ NotAllRead F octets kind
+  pub unchanged : new ≡ old
+
+-- what a call answers that reads all octets
+abbrev pub Answers : {T S : Type 0} → form.Ghosts T → List ℕ → (T → S → Type 0) → S → S → ℕ → Type 0
+Answers F octets shows old new answer = Given F octets shows new answer ⊎ NotGiven F octets old new answer
+
+-- so many octets at the front are read as a value
+pub record FrontRead {T : Type 0} (F : form.Ghosts T) (octets : List ℕ) (value : T) (taken : ℕ) : Type 0 where
+  pub parsed : F.parse Der 0 octets ≡ Ok (taken, F.encoding value)
+  pub accepted : F.accepts Der value (take taken octets)
+  pub fits : Fits octets
+
+-- no value is read from the front, for this reason; or no length can count the octets (9)
+abbrev pub FrontRefused : {T : Type 0} → form.Ghosts T → List ℕ → ErrorKind → Type 0
+FrontRefused F octets kind = Faults F.TAKES_MEMORY F.FAULTS_FIRST (F.parse Der 0 octets) kind ⊎ (kind ≡ Overflow)
+
+-- 0: so many octets at the front are read as a value, and this is shown of both
+pub record FrontGiven {T S : Type 0} (F : form.Ghosts T) (octets : List ℕ) (shows : T → ℕ → S → Type 0) (new : S) (answer : ℕ) : Type 0 where
+  pub number : answer ≡ 0
+  pub value : T
+  pub taken : ℕ
+  pub read : FrontRead F octets value taken
+  pub shown : shows value taken new
+
+-- the number of the fault, and nothing is written
+pub record FrontNotGiven {T S : Type 0} (F : form.Ghosts T) (octets : List ℕ) (old new : S) (answer : ℕ) : Type 0 where
+  pub kind : ErrorKind
+  pub number : answer ≡ error_number kind
+  pub reason : FrontRefused F octets kind
+  pub unchanged : new ≡ old
+
+-- what a call answers that reads the octets at the front
+abbrev pub AnswersFront : {T S : Type 0} → form.Ghosts T → List ℕ → (T → ℕ → S → Type 0) → S → S → ℕ → Type 0
+AnswersFront F octets shows old new answer = FrontGiven F octets shows new answer ⊎ FrontNotGiven F octets old new answer

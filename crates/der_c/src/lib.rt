@@ -1,0 +1,21 @@
+//! The library for programs in C, and in what calls C: functions over octets that keep nothing.
+//!
+//! Each takes octets as an address and their number, answers 0 or the number of the first fault, and
+//! writes the places of the fields where the caller says. `c/include/der.h` is the header.
+#![tactic(auto)]
+
+mod certificate;
+mod contents;
+mod extension;
+mod fault;
+mod front;
+mod keys;
+mod times;
+mod version;
+
+pub use certificate::{CertificateAt, der_certificate};
+pub use contents::der_contents;
+pub use extension::{ExtensionAt, der_extension};
+pub use fault::Fault;
+pub use keys::der_subject_public_key_info;
+pub use version::der_abi_version;
