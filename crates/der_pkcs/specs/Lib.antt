@@ -1,2 +1,4 @@
 -- Made by tools/asn1.
 pub mod Request
+pub mod Encryption
+pub mod Algorithm

@@ -1,7 +1,9 @@
-//! The types of PKCS-10.
+//! The types of PKCS-10, PkcsEncryption, PkixAlgorithms.
 //!
 //! Made by tools/asn1.
 #![tactic(auto)]
 
+pub mod algorithm;
+pub mod encryption;
 pub mod parts;
 pub mod request;

@@ -27,6 +27,22 @@ pub enum Part {
     Extensions,
     /// `Extension`.
     Extension,
+    /// `EncryptedPrivateKeyInfo`.
+    EncryptedPrivateKeyInfo,
+    /// `PBKDF2-params`.
+    Pbkdf2Params,
+    /// `PBEParameter`.
+    PbeParameter,
+    /// `PBES2-params`.
+    Pbes2Params,
+    /// `RSASSA-PSS-params`.
+    RsassaPssParams,
+    /// `AlgorithmIdentifier` after an explicit tag.
+    ExplicitAlgorithmIdentifier,
+    /// `RSAES-OAEP-params`.
+    RsaesOaepParams,
+    /// `ECDSA-Sig-Value`.
+    EcdsaSigValue,
     /// A value with no components that have names.
     Value,
 }
@@ -177,6 +193,133 @@ static EXTENSION: [Component; 3] = [
     },
 ];
 
+static ENCRYPTED_PRIVATE_KEY_INFO: [Component; 2] = [
+    Component {
+        name: "encryptionAlgorithm",
+        octet: None,
+        part: Part::AlgorithmIdentifier,
+    },
+    Component {
+        name: "encryptedData",
+        octet: None,
+        part: Part::Value,
+    },
+];
+
+static PBKDF2_PARAMS: [Component; 5] = [
+    Component {
+        name: "salt",
+        octet: Some(0x04),
+        part: Part::Value,
+    },
+    Component {
+        name: "salt",
+        octet: Some(0x30),
+        part: Part::AlgorithmIdentifier,
+    },
+    Component {
+        name: "iterationCount",
+        octet: None,
+        part: Part::Value,
+    },
+    Component {
+        name: "keyLength",
+        octet: Some(0x02),
+        part: Part::Value,
+    },
+    Component {
+        name: "prf",
+        octet: Some(0x30),
+        part: Part::AlgorithmIdentifier,
+    },
+];
+
+static PBE_PARAMETER: [Component; 2] = [
+    Component {
+        name: "salt",
+        octet: None,
+        part: Part::Value,
+    },
+    Component {
+        name: "iterationCount",
+        octet: None,
+        part: Part::Value,
+    },
+];
+
+static PBES2_PARAMS: [Component; 2] = [
+    Component {
+        name: "keyDerivationFunc",
+        octet: None,
+        part: Part::AlgorithmIdentifier,
+    },
+    Component {
+        name: "encryptionScheme",
+        octet: None,
+        part: Part::AlgorithmIdentifier,
+    },
+];
+
+static RSASSA_PSS_PARAMS: [Component; 4] = [
+    Component {
+        name: "hashAlgorithm",
+        octet: Some(0xa0),
+        part: Part::ExplicitAlgorithmIdentifier,
+    },
+    Component {
+        name: "maskGenAlgorithm",
+        octet: Some(0xa1),
+        part: Part::ExplicitAlgorithmIdentifier,
+    },
+    Component {
+        name: "saltLength",
+        octet: Some(0xa2),
+        part: Part::Value,
+    },
+    Component {
+        name: "trailerField",
+        octet: Some(0xa3),
+        part: Part::Value,
+    },
+];
+
+static EXPLICIT_ALGORITHM_IDENTIFIER: [Component; 1] = [Component {
+    name: "",
+    octet: None,
+    part: Part::AlgorithmIdentifier,
+}];
+
+static RSAES_OAEP_PARAMS: [Component; 3] = [
+    Component {
+        name: "hashFunc",
+        octet: Some(0xa0),
+        part: Part::ExplicitAlgorithmIdentifier,
+    },
+    Component {
+        name: "maskGenFunc",
+        octet: Some(0xa1),
+        part: Part::ExplicitAlgorithmIdentifier,
+    },
+    Component {
+        name: "pSourceFunc",
+        octet: Some(0xa2),
+        part: Part::ExplicitAlgorithmIdentifier,
+    },
+];
+
+static ECDSA_SIG_VALUE: [Component; 2] = [
+    Component {
+        name: "r",
+        octet: None,
+        part: Part::Value,
+    },
+    Component {
+        name: "s",
+        octet: None,
+        part: Part::Value,
+    },
+];
+
 impl Part {
     /// The components, in their order; of a list the one that each item is.
     ///
@@ -195,6 +338,14 @@ impl Part {
             Part::Attribute => &ATTRIBUTE,
             Part::Extensions => &EXTENSIONS,
             Part::Extension => &EXTENSION,
+            Part::EncryptedPrivateKeyInfo => &ENCRYPTED_PRIVATE_KEY_INFO,
+            Part::Pbkdf2Params => &PBKDF2_PARAMS,
+            Part::PbeParameter => &PBE_PARAMETER,
+            Part::Pbes2Params => &PBES2_PARAMS,
+            Part::RsassaPssParams => &RSASSA_PSS_PARAMS,
+            Part::ExplicitAlgorithmIdentifier => &EXPLICIT_ALGORITHM_IDENTIFIER,
+            Part::RsaesOaepParams => &RSAES_OAEP_PARAMS,
+            Part::EcdsaSigValue => &ECDSA_SIG_VALUE,
             Part::Value => &[],
         }
     }

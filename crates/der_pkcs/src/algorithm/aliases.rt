@@ -1,0 +1,31 @@
+//! Second names of types in PkixAlgorithms.
+//!
+//! Made by tools/asn1 from algorithm.asn1.
+
+ghost use Rattle.std.specs.Prelude.{◌≡◌};
+ghost use Rattle.der_modules.specs.Asn1.{parse_of};
+ghost use Rattle.der_pkcs.specs.Algorithm.Grammar.{dss_sig_value, signed_certificate_timestamp_list};
+
+use crate::algorithm::ecdsa_sig_value::EcdsaSigValue;
+use der_elem::Form;
+use der_opaque::OctetStringRef;
+
+/// ```text
+/// Dss-Sig-Value ::= ECDSA-Sig-Value
+/// ```
+pub type DssSigValue<'a> = EcdsaSigValue<'a>;
+
+/// What is read as `Dss-Sig-Value` is what the page of the grammar says.
+pub fn grammar_of_dss_sig_value<'a>()
+    ensures { ⟦<DssSigValue<'a> as Form>⟧.parse ≡ parse_of dss_sig_value }
+{}
+
+/// ```text
+/// SignedCertificateTimestampList ::= OCTET STRING
+/// ```
+pub type SignedCertificateTimestampList<'a> = OctetStringRef<'a>;
+
+/// What is read as `SignedCertificateTimestampList` is what the page of the grammar says.
+pub fn grammar_of_signed_certificate_timestamp_list<'a>()
+    ensures { ⟦<SignedCertificateTimestampList<'a> as Form>⟧.parse ≡ parse_of signed_certificate_timestamp_list }
+{}

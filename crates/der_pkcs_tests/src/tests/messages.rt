@@ -1,0 +1,117 @@
+//! The types of messages that the tables of rows name, and what is tried of each.
+
+use der_asn1_types::{DerOrd, Duplicate, Encode, Error, FromDer};
+use der_pkcs::algorithm::{EcdsaSigValue, RsaesOaepParams, RsassaPssParams};
+use der_pkcs::encryption::{EncryptedPrivateKeyInfo, PbeParameter, Pbes2Params, Pbkdf2Params};
+use std::alloc::Global;
+use std::cmp::Ordering;
+
+/// A type of messages.
+#[derive(Clone, Copy, Debug, PartialEq, Eq)]
+pub(super) enum Message {
+    EncryptedPrivateKeyInfo,
+    Pbes2Params,
+    Pbkdf2Params,
+    PbeParameter,
+    RsassaPssParams,
+    RsaesOaepParams,
+    EcdsaSigValue,
+}
+
+/// What is found of two encodings: that of the first one's value, whether its copy is equal to it,
+/// the order of the two values, and whether they are equal.
+pub(super) type Tried = (Vec<u8>, bool, Ordering, bool);
+
+// The octets, or the number of why there are none.
+fn numbered(written: Result<Vec<u8>, Error>) -> Result<Vec<u8>, u8> {
+    match written {
+        Ok(octets) => Ok(octets),
+        Err(e) => Err(e.kind().number()),
+    }
+}
+
+// Whether a copy is equal to what it is of.
+fn is_copied<T: Duplicate + PartialEq>(value: &T) -> bool {
+    match value.duplicate() {
+        Ok(copy) => copy == *value,
+        Err(_) => false,
+    }
+}
+
+// The order of two values, or the number of why there is none.
+fn order_of<T: DerOrd>(first: &T, second: &T) -> Result<Ordering, u8> {
+    match first.der_cmp(second) {
+        Ok(order) => Ok(order),
+        Err(e) => Err(e.kind().number()),
+    }
+}
+
+// What is found of two values.
+fn tried_of<T: Encode + DerOrd + Duplicate + PartialEq>(
+    alloc: Global,
+    first: &T,
+    second: &T,
+) -> Result<Tried, u8> {
+    let written = numbered(first.to_der(alloc))?;
+    let order = order_of(first, second)?;
+    Ok((written, is_copied(first), order, first == second))
+}
+
+// What is found of two encodings, or the number of the first refusal.
+fn tried<'a, T: FromDer<'a> + Encode + DerOrd + Duplicate + PartialEq>(
+    alloc: Global,
+    first: &'a [u8],
+    second: &'a [u8],
+) -> Result<Tried, u8> {
+    match (T::from_der(alloc, first), T::from_der(alloc, second)) {
+        (Ok(first), Ok(second)) => tried_of(alloc, &first, &second),
+        (Err(e), _) => Err(e.kind().number()),
+        (Ok(_), Err(e)) => Err(e.kind().number()),
+    }
+}
+
+fn encrypted_private_key_info(alloc: Global, first: &[u8], second: &[u8]) -> Result<Tried, u8> {
+    tried::<EncryptedPrivateKeyInfo>(alloc, first, second)
+}
+
+fn pbes2_params(alloc: Global, first: &[u8], second: &[u8]) -> Result<Tried, u8> {
+    tried::<Pbes2Params>(alloc, first, second)
+}
+
+fn pbkdf2_params(alloc: Global, first: &[u8], second: &[u8]) -> Result<Tried, u8> {
+    tried::<Pbkdf2Params>(alloc, first, second)
+}
+
+fn pbe_parameter(alloc: Global, first: &[u8], second: &[u8]) -> Result<Tried, u8> {
+    tried::<PbeParameter>(alloc, first, second)
+}
+
+fn rsassa_pss_params(alloc: Global, first: &[u8], second: &[u8]) -> Result<Tried, u8> {
+    tried::<RsassaPssParams>(alloc, first, second)
+}
+
+fn rsaes_oaep_params(alloc: Global, first: &[u8], second: &[u8]) -> Result<Tried, u8> {
+    tried::<RsaesOaepParams>(alloc, first, second)
+}
+
+fn ecdsa_sig_value(alloc: Global, first: &[u8], second: &[u8]) -> Result<Tried, u8> {
+    tried::<EcdsaSigValue>(alloc, first, second)
+}
+
+// The same of octets of that type.
+pub(super) fn tried_as(
+    message: Message,
+    alloc: Global,
+    first: &[u8],
+    second: &[u8],
+) -> Result<Tried, u8> {
+    match message {
+        Message::EncryptedPrivateKeyInfo => encrypted_private_key_info(alloc, first, second),
+        Message::Pbes2Params => pbes2_params(alloc, first, second),
+        Message::Pbkdf2Params => pbkdf2_params(alloc, first, second),
+        Message::PbeParameter => pbe_parameter(alloc, first, second),
+        Message::RsassaPssParams => rsassa_pss_params(alloc, first, second),
+        Message::RsaesOaepParams => rsaes_oaep_params(alloc, first, second),
+        Message::EcdsaSigValue => ecdsa_sig_value(alloc, first, second),
+    }
+}
