@@ -146,6 +146,10 @@ impl<%(ordered)s, Rest: FieldsOrd + FieldsFirstTag> FieldsOrd for %(self)s {
     fn cmp_fields(&self, other: &%(self)s) -> Result<Ordering, Error> {
         self.list.cmp_fields(&other.list)
     }
+
+    fn fields_difference(&self, other: &%(self)s) -> Result<Option<Difference>, Error> {
+        self.list.fields_difference(&other.list)
+    }
 }
 """
 

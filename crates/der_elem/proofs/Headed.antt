@@ -13,7 +13,10 @@ use Rattle.der_tlv.specs.HeaderOctets.{header_octets, tlv}
 use Rattle.der_elem.specs.ContentsFormat.{ContentsFormat}
 use Rattle.der_elem.specs.declared.form.Form as form
 use Rattle.der_elem.specs.Comparing.{IncomparableValues, Incomparable, ComparesValues, Compares, SameHeader}
+use Rattle.der_tlv.specs.IdentifierLaws.{lex-identifier-equal}
+use Rattle.der_elem.specs.Encoding.{Stops}
 use Rattle.der_elem.proofs.HeadersDecide as headers
+use Rattle.der_elem.proofs.Written.{stops_in}
 
 -- two values with tags
 pub record Headed {T : Type 0} (V : ContentsFormat T) (F : form.Ghosts T) (tag_of : T → Tag) : Type 0 where
@@ -25,7 +28,16 @@ module _ {T : Type 0} {V : ContentsFormat T} {F : form.Ghosts T} {tag_of : T →
   pub tags_decide : (o : Ordering) → o ≡ lex (identifier (tag_of x)) (identifier (tag_of y)) → o ≢ Equal → o ≡ lex (F.encoding x) (F.encoding y)
   tags_decide = headers.tags_decide (F.encoding x) (F.encoding y) (tag_of x) (tag_of y) (V.contents x) (V.contents y) (h.encoding_is x) (h.encoding_is y)
 
+  -- what stops the contents octets stops the encoding
+  pub contents_stop : (v : T) {kind : ErrorKind} → Stops (V.contents v) (V.re_reads v) kind → Stops (F.encoding v) (F.re_reads v) kind
+  contents_stop v =
+      stops_in (V.contents v) (F.encoding v) (V.re_reads v) (F.re_reads v) (omega (arith, ap length (h.encoding_is v), length-append (header_octets (tag_of v) (length (V.contents v))) (V.contents v))) (h.re_reads_alike v)
+
   module _ (same_tag : lex (identifier (tag_of x)) (identifier (tag_of y)) ≡ Equal) where
+    pub same_encoding : V.contents x ≡ V.contents y → F.encoding x ≡ F.encoding y
+    same_encoding e =
+        h.encoding_is x ∙ ap (tlv (tag_of x)) e ∙ ap (λ t. tlv t (V.contents y)) (lex-identifier-equal (tag_of x) (tag_of y) same_tag) ∙ sym (h.encoding_is y)
+
     pub lengths_decide : (o : Ordering) → o ≡ nat_cmp (length (V.contents x)) (length (V.contents y)) → o ≢ Equal → o ≡ lex (F.encoding x) (F.encoding y)
     lengths_decide = headers.lengths_decide (F.encoding x) (F.encoding y) (tag_of x) (tag_of y) (V.contents x) (V.contents y) (h.encoding_is x) (h.encoding_is y) same_tag
 

@@ -2,6 +2,7 @@ pub mod AtContents
 pub mod OtherTags
 pub mod TaggedDecoding
 pub mod Alone
+pub mod Apart
 pub mod Written
 pub mod HeadersDecide
 pub mod Headed

@@ -5,6 +5,7 @@ pub mod Decoding
 pub mod Encoding
 pub mod EncodingBack
 pub mod Comparing
+pub mod Differing
 pub mod Integer
 pub mod IntegerLaws
 pub mod OwnContents

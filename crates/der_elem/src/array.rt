@@ -22,7 +22,8 @@ use crate::encode::{Encode, EncodeValue};
 use crate::equality::{ContentsEq, EncodingEq};
 use crate::fixed_tag::OneTag;
 use crate::form::{Form, FormValue};
-use crate::items::{cmp_items, encode_items, encode_items_back, items_len};
+use crate::difference::Difference;
+use crate::items::{cmp_items, encode_items, encode_items_back, items_difference, items_len};
 use crate::ord::{DerOrd, ValueOrd};
 use crate::readiness::check_ready;
 use crate::sequence::Sequence;
@@ -78,6 +79,10 @@ impl<T: Encode + Tagged, const N: usize> EncodeValue for [T; N] {
 impl<T: DerOrd + Tagged, const N: usize> ValueOrd for [T; N] {
     fn value_cmp(&self, other: &[T; N]) -> Result<Ordering, Error> {
         cmp_items(self, other)
+    }
+
+    fn value_difference(&self, other: &[T; N]) -> Result<Option<Difference>, Error> {
+        items_difference(self, other)
     }
 }
 

@@ -1,13 +1,17 @@
 //! The items of lists and arrays, whose encodings stand one after another (X.690 8.10).
 
-ghost use Rattle.std.specs.Prelude.{◌≡◌, flat_map, IfOk, IfErr};
+ghost use Rattle.std.specs.Prelude.{◌≡◌, ◌≢◌, ◌<◌, flat_map, length, take, IfOk, IfErr};
 ghost use Rattle.std.specs.List.{list_any};
 ghost use Rattle.der_tlv.specs.declared.error.ErrorKind.TheVariants.{Memory};
 ghost use Rattle.der_elem.specs.Encoding.{Encodes, Measures};
 ghost use Rattle.der_elem.specs.EncodingBack.{HasRoom, PutsBack};
+ghost use Rattle.std.specs.declared.cmp.Ordering.TheVariants.{Equal};
+ghost use Rattle.der_tlv.specs.Octets.{lex};
 ghost use Rattle.der_elem.specs.ComparingItems.{ComparesItems};
+ghost use Rattle.der_elem.specs.Differing.{ItemsDiffer, PairDiffers};
 ghost use Rattle.der_elem.specs.Items.{AreCopies};
 
+use crate::difference::Difference;
 use crate::duplicate::Duplicate;
 use crate::encode::Encode;
 use crate::ord::DerOrd;
@@ -79,6 +83,66 @@ pub fn cmp_items<T: DerOrd + Tagged>(items: &[T], others: &[T]) -> Result<Orderi
         }
     }
     Ok(items.len().cmp(&others.len()))
+}
+
+/// What tells the joined encodings apart: the first pair of items that differs, else the number of
+/// items.
+///
+/// # Errors
+/// As the comparison of the items; `ErrorKind::Overflow` (9) where one list has more than 4294967295
+/// octets.
+pub fn items_difference<T: DerOrd + Tagged>(
+    items: &[T],
+    others: &[T],
+) -> Result<Option<Difference>, Error>
+    ensures { ItemsDiffer T.Form items.now others.now result }
+{
+    let shorter = items.len().min(others.len());
+    'items: for i in 0..shorter {
+        match items[i].der_difference(&others[i])? {
+            Some(pair) => return among(items, others, i, pair),
+            None => {}
+        }
+    }
+    match items.len().cmp(&others.len()) {
+        Ordering::Equal => Ok(None),
+        order => by_count(items, others, order),
+    }
+}
+
+/// What tells the joined encodings apart where the pair of items at a place does, and none before it.
+fn among<T: DerOrd + Tagged>(
+    items: &[T],
+    others: &[T],
+    place: usize,
+    pair: Difference,
+) -> Result<Option<Difference>, Error>
+    requires here { place < length items.now }
+    requires there { place < length others.now }
+    requires before { flat_map T.encoding (take place items.now)
+        ≡ flat_map T.encoding (take place others.now) }
+    requires pair { PairDiffers T.Form items.now others.now place pair }
+    ensures { ItemsDiffer T.Form items.now others.now result }
+{
+    let before = items_len(&items[..place])?;
+    let after = items_len(&items[place + 1..])?;
+    let other_after = items_len(&others[place + 1..])?;
+    Ok(Some(pair.within(before, after, other_after)?))
+}
+
+/// What tells the joined encodings apart where the one are the beginning of the other.
+fn by_count<T: DerOrd + Tagged>(
+    items: &[T],
+    others: &[T],
+    order: Ordering,
+) -> Result<Option<Difference>, Error>
+    requires is { order ≡ lex (flat_map T.encoding items.now) (flat_map T.encoding others.now) }
+    requires unequal { order ≢ Equal }
+    ensures { ItemsDiffer T.Form items.now others.now result }
+{
+    let len = items_len(items)?;
+    let other_len = items_len(others)?;
+    Ok(Some(Difference { order: Ok(order), len, other_len }))
 }
 
 /// Copies of the items.

@@ -14,6 +14,7 @@ mod boolean;
 mod boxed;
 mod contents;
 mod decode;
+mod difference;
 mod duplicate;
 mod encode;
 mod equality;
@@ -39,6 +40,7 @@ mod vec;
 pub use boolean::boolean_of;
 pub use contents::read_contents;
 pub use decode::{Decode, DecodeValue, FromDer};
+pub use difference::{Difference, measured};
 pub use duplicate::{
     CopyIsDuplicate, Duplicate, DuplicateIsEqual, DuplicateValue, DuplicateValueIsEqual,
 };
@@ -48,7 +50,7 @@ pub use field::{DecodeField, FirstTag};
 pub use fixed_tag::{FixedTag, OneTag, TagMarker};
 pub use form::{Form, FormValue};
 pub use integer::{signed_of, unsigned_of};
-pub use items::{cmp_items, encode_items, encode_items_back, items_len};
+pub use items::{cmp_items, encode_items, encode_items_back, items_difference, items_len};
 pub use known_tags::KnownTags;
 pub use memory::TakesMemory;
 pub use ord::{DerOrd, OrdIsValueOrd, ValueOrd};

@@ -11,6 +11,7 @@ ghost use Rattle.der_elem.specs.Options.{first_tag_option, encoding_option, comp
 ghost use Rattle.der_elem.specs.OptionLaws.{begins_first_option, option_of_octets, parse_of_option, begins_option, same_length_option, accepts_option_encoding, readable_of_option, comparable_of_option, re_reads_option, copy_is_equal_option, copy_encoding_option, copy_comparable_option, copy_re_reads_option, encoding_eq_option};
 
 use crate::decode::Decode;
+use crate::difference::{Difference, measured};
 use crate::duplicate::{Duplicate, DuplicateIsEqual};
 use crate::encode::Encode;
 use crate::equality::EncodingEq;
@@ -164,6 +165,15 @@ impl<T: DerOrd + Tagged> DerOrd for Option<T> {
             (None, None) => Ok(Ordering::Equal),
             (None, Some(_)) => Ok(Ordering::Less),
             (Some(_), None) => Ok(Ordering::Greater),
+        }
+    }
+
+    fn der_difference(&self, other: &Option<T>) -> Result<Option<Difference>, Error> {
+        match (self, other) {
+            (Some(value), Some(other)) => value.der_difference(other),
+            (None, None) => Ok(None),
+            (None, Some(_)) => measured(self, other, Ordering::Less),
+            (Some(_), None) => measured(self, other, Ordering::Greater),
         }
     }
 }

@@ -20,7 +20,10 @@ use crate::encode::{Encode, EncodeValue};
 use crate::equality::{ContentsEq, EncodingEq};
 use crate::fixed_tag::OneTag;
 use crate::form::{Form, FormValue};
-use crate::items::{cmp_items, duplicate_items, encode_items, encode_items_back, items_len};
+use crate::difference::Difference;
+use crate::items::{
+    cmp_items, duplicate_items, encode_items, encode_items_back, items_difference, items_len,
+};
 use crate::ord::{DerOrd, ValueOrd};
 use crate::readiness::check_ready;
 use crate::sequence::Sequence;
@@ -96,6 +99,10 @@ impl<T: Encode + Tagged> EncodeValue for Vec<T> {
 impl<T: DerOrd + Tagged> ValueOrd for Vec<T> {
     fn value_cmp(&self, other: &Vec<T>) -> Result<Ordering, Error> {
         cmp_items(self, other)
+    }
+
+    fn value_difference(&self, other: &Vec<T>) -> Result<Option<Difference>, Error> {
+        items_difference(self, other)
     }
 }
 

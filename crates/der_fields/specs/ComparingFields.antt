@@ -7,12 +7,18 @@ use Rattle.der_tlv.specs.declared.tag.Tag.{Tag}
 use Rattle.der_tlv.specs.Identifier.{identifier}
 use Rattle.der_tlv.specs.Octets.{lex}
 use Rattle.der_elem.specs.Comparing.{ComparesOctets}
+use Rattle.der_elem.specs.declared.difference.Difference.{Difference}
+use Rattle.der_elem.specs.Differing.{OctetsDiffer}
 use Rattle.der_elem.specs.FirstTags.{SamePresence}
 use Rattle.der_fields.specs.FieldsFormat.{FieldsFormat}
 
 -- what comparing fields answers
 abbrev pub ComparesFields : {T : Type 0} → FieldsFormat T → T → T → Result Ordering Error → Type 0
 ComparesFields G x y = ComparesOctets (G.octets.contents x) (G.octets.contents y) (G.octets.comparable x y → ⊥) (G.octets.re_reads x) (G.octets.re_reads y)
+
+-- what tells fields apart
+abbrev pub FieldsDiffer : {T : Type 0} → FieldsFormat T → T → T → Result (Option Difference) Error → Type 0
+FieldsDiffer G x y = OctetsDiffer (G.octets.contents x) (G.octets.contents y) (G.octets.comparable x y → ⊥) (G.octets.re_reads x) (G.octets.re_reads y)
 
 -- whether both fields are there or both absent
 abbrev pub DecidesPresence : Option Tag → Option Tag → Bool → Type 0

@@ -88,6 +88,13 @@ impl<F: FieldsOrd, const CLASS: u8, const NUMBER: u32> ValueOrd for ExplicitIn<F
     fn value_cmp(&self, other: &ExplicitIn<F, CLASS, NUMBER>) -> Result<Ordering, Error> {
         self.fields.cmp_fields(&other.fields)
     }
+
+    fn value_difference(
+        &self,
+        other: &ExplicitIn<F, CLASS, NUMBER>,
+    ) -> Result<Option<Difference>, Error> {
+        self.fields.fields_difference(&other.fields)
+    }
 }
 
 impl<F: FieldsEq, const CLASS: u8, const NUMBER: u32> ContentsEq for ExplicitIn<F, CLASS, NUMBER> {

@@ -102,10 +102,68 @@ impl<T: DerOrd + FirstTag, Rest: FieldsOrd + FieldsFirstTag> FieldsOrd for Field
                 order => Ok(order),
             };
         }
-        match cmp_first_tags(self.fields_first_tag(), other.fields_first_tag()) {
-            Ordering::Equal => Err(Error::from_kind(Tag::Sequence.value_error())),
-            order => Ok(order),
+        by_presence(self, other)
+    }
+
+    fn fields_difference(&self, other: &Field<T, Rest>) -> Result<Option<Difference>, Error> {
+        if both_or_none(self.first.first_tag(), other.first.first_tag()) {
+            return match self.first.der_difference(&other.first)? {
+                Some(first) => by_first(self, other, first),
+                None => by_others(self, other),
+            };
         }
+        let order = by_presence(self, other);
+        let len = self.fields_len()?;
+        let other_len = other.fields_len()?;
+        Ok(Some(Difference { order, len, other_len }))
+    }
+}
+
+/// The order of fields of which the first is there in one and absent in the other: that of the tags with which
+/// their encodings begin.
+fn by_presence<T: FirstTag, Rest: FieldsFirstTag>(
+    fields: &Field<T, Rest>,
+    others: &Field<T, Rest>,
+) -> Result<Ordering, Error>
+    requires { SamePresence (T.first_tag_of fields.now.first) (T.first_tag_of others.now.first) → ⊥ }
+    ensures order { ComparesFields (field_list T.Form Rest.list) fields.now others.now result }
+    ensures decided { result ≢ Ok Equal }
+{
+    match cmp_first_tags(fields.fields_first_tag(), others.fields_first_tag()) {
+        Ordering::Equal => Err(Error::from_kind(Tag::Sequence.value_error())),
+        order => Ok(order),
+    }
+}
+
+/// What tells fields apart of which the first ones differ so.
+fn by_first<T: DerOrd + FirstTag, Rest: FieldsOrd + FieldsFirstTag>(
+    fields: &Field<T, Rest>,
+    others: &Field<T, Rest>,
+    first: Difference,
+) -> Result<Option<Difference>, Error>
+    requires same { SamePresence (T.first_tag_of fields.now.first) (T.first_tag_of others.now.first) }
+    requires first { OfEncodings T.Form fields.now.first others.now.first first }
+    ensures { FieldsDiffer (field_list T.Form Rest.list) fields.now others.now result }
+{
+    let after = fields.rest.fields_len()?;
+    let other_after = others.rest.fields_len()?;
+    Ok(Some(first.within(Length::ZERO, after, other_after)?))
+}
+
+/// What tells fields apart of which the first ones have the same encoding.
+fn by_others<T: DerOrd + FirstTag, Rest: FieldsOrd + FieldsFirstTag>(
+    fields: &Field<T, Rest>,
+    others: &Field<T, Rest>,
+) -> Result<Option<Difference>, Error>
+    requires same { T.encoding fields.now.first ≡ T.encoding others.now.first }
+    ensures { FieldsDiffer (field_list T.Form Rest.list) fields.now others.now result }
+{
+    match fields.rest.fields_difference(&others.rest)? {
+        Some(rest) => {
+            let before = fields.first.encoded_len()?;
+            Ok(Some(rest.within(before, Length::ZERO, Length::ZERO)?))
+        }
+        None => Ok(None),
     }
 }
 

@@ -78,6 +78,10 @@ impl<F: FieldsOrd> ValueOrd for FieldSequence<F> {
     fn value_cmp(&self, other: &FieldSequence<F>) -> Result<Ordering, Error> {
         self.fields.cmp_fields(&other.fields)
     }
+
+    fn value_difference(&self, other: &FieldSequence<F>) -> Result<Option<Difference>, Error> {
+        self.fields.fields_difference(&other.fields)
+    }
 }
 
 impl<F: FieldsEq> ContentsEq for FieldSequence<F> {

@@ -81,6 +81,13 @@ impl<T: ValueOrd, const CLASS: u8, const NUMBER: u32> ValueOrd for ImplicitIn<T,
     fn value_cmp(&self, other: &ImplicitIn<T, CLASS, NUMBER>) -> Result<Ordering, Error> {
         self.value.value_cmp(&other.value)
     }
+
+    fn value_difference(
+        &self,
+        other: &ImplicitIn<T, CLASS, NUMBER>,
+    ) -> Result<Option<Difference>, Error> {
+        self.value.value_difference(&other.value)
+    }
 }
 
 impl<T: ContentsEq, const CLASS: u8, const NUMBER: u32> ContentsEq

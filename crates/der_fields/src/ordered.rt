@@ -2,9 +2,11 @@
 
 ghost use Rattle.std.specs.Prelude.{◌≡◌};
 ghost use Rattle.der_elem.specs.FirstTags.{Starts};
-ghost use Rattle.der_fields.specs.ComparingFields.{ComparesFields, DecidesPresence, lex_first_tags};
+ghost use Rattle.der_fields.specs.ComparingFields.{ComparesFields, DecidesPresence, FieldsDiffer, lex_first_tags};
 
+use crate::coded::EncodeFields;
 use crate::field_list::FieldList;
+use der_elem::Difference;
 use der_tlv::{Error, Tag};
 use std::cmp::Ordering;
 
@@ -18,7 +20,7 @@ pub trait FieldsFirstTag: FieldList {
 }
 
 /// The order of fields.
-pub trait FieldsOrd: FieldList {
+pub trait FieldsOrd: EncodeFields {
     /// The lexicographic order of the joined encodings.
     ///
     /// # Errors
@@ -26,6 +28,23 @@ pub trait FieldsOrd: FieldList {
     /// where two are not comparable, `ErrorKind::Memory` (1) where one reads items again.
     fn cmp_fields(&self, other: &Self) -> Result<Ordering, Error>
         ensures { ComparesFields Self.list self.now other.now result };
+
+    /// What tells the joined encodings apart: none where they are the same.
+    ///
+    /// # Errors
+    /// `ErrorKind::Overflow` (9) where one has more than 4294967295 octets, `ErrorKind::Memory` (1)
+    /// where one reads items again.
+    fn fields_difference(&self, other: &Self) -> Result<Option<Difference>, Error>
+        ensures { FieldsDiffer Self.list self.now other.now result }
+    {
+        let order = self.cmp_fields(other);
+        if let Ok(Ordering::Equal) = order {
+            return Ok(None);
+        }
+        let len = self.fields_len()?;
+        let other_len = other.fields_len()?;
+        Ok(Some(Difference { order, len, other_len }))
+    }
 }
 
 /// Whether both fields are there, or both absent.
