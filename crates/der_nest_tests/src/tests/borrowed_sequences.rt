@@ -26,11 +26,18 @@ const SETS: [u8; 15] = [
     0x30, 0x0d, 0x31, 0x06, 0x02, 0x01, 0x08, 0x02, 0x01, 0x07, 0x31, 0x03, 0x02, 0x01, 0x09,
 ];
 
+fn numbers_of<'a>(alloc: Global, octets: &'a [u8]) -> Result<Numbers<'a>, u8> {
+    numbered(Numbers::from_der(alloc, octets))
+}
+
+fn sets_of<'a>(alloc: Global, octets: &'a [u8]) -> Result<Sets<'a>, u8> {
+    numbered(Sets::from_der(alloc, octets))
+}
+
 #[test]
 fn items_are_read_in_any_order(rt: HostRuntime) -> Result<(), Fail> {
     let alloc = rt.alloc();
     reads_as::<Numbers>(&rt, alloc, &NUMBERS, &NUMBERS)?;
-    reads_as::<Numbers>(&rt, alloc, &[0x30, 0x00], &[0x30, 0x00])?;
     let strings = [0x30, 0x04, 0x04, 0x00, 0x04, 0x00];
     reads_as::<Strings>(&rt, alloc, &strings, &strings)?;
     Ok(())
@@ -40,30 +47,6 @@ fn items_are_read_in_any_order(rt: HostRuntime) -> Result<(), Fail> {
 fn what_was_read_is_written_as_it_came(rt: HostRuntime) -> Result<(), Fail> {
     reads_as::<Sets>(&rt, rt.alloc(), &SETS, &SETS)?;
     Ok(())
-}
-
-#[test]
-fn sequences_refuse_by_number(rt: HostRuntime) {
-    let alloc = rt.alloc();
-    let refused = |octets: &[u8]| numbered(Numbers::from_der(alloc, octets)).err();
-    // another tag: of the whole, and of the second item
-    same(&rt, refused(&[0x31, 0x03, 0x02, 0x01, 0x07]), Some(4));
-    same(
-        &rt,
-        refused(&[0x30, 0x05, 0x02, 0x01, 0x07, 0x05, 0x00]),
-        Some(4),
-    );
-    // an INTEGER that is not written as it must be, and one that is too great
-    same(&rt, refused(&[0x30, 0x04, 0x02, 0x02, 0x00, 0x07]), Some(8));
-    same(
-        &rt,
-        refused(&[0x30, 0x05, 0x02, 0x03, 0x01, 0x00, 0x00]),
-        Some(7),
-    );
-    // the whole past the end, an item past the end of the whole, octets behind the whole
-    same(&rt, refused(&[0x30, 0x06, 0x02, 0x01]), Some(2));
-    same(&rt, refused(&[0x30, 0x03, 0x02, 0x02, 0x07]), Some(2));
-    same(&rt, refused(&[0x30, 0x03, 0x02, 0x01, 0x07, 0x00]), Some(3));
 }
 
 #[test]
@@ -87,39 +70,29 @@ fn the_first_fault_is_told_from_the_contents(rt: HostRuntime) {
     }
 }
 
-// The numbers of a sequence, in order.
-fn numbers(rt: &impl Abort, alloc: Global, sequence: &Numbers<'_>) -> Result<Vec<u16>, u8> {
-    let mut numbers = Vec::new(alloc);
+// Asserts that the items are these numbers, in order, and that a walk knows how many are left.
+fn gives(rt: &impl Abort, sequence: &Numbers<'_>, numbers: &[u16]) {
     let mut items = sequence.iter();
-    let mut left = sequence.len();
-    while let Some(item) = items.next() {
-        let number = numbered(item)?;
-        if left > 0 {
-            left -= 1;
-        }
+    let mut left = numbers.len();
+    for number in numbers {
         same(rt, items.len(), left);
         same(rt, items.size_hint(), (left, Some(left)));
-        if numbers.push(number).is_err() {
-            return Err(1);
-        }
+        left = left.saturating_sub(1);
+        let item = items.next();
+        holds(rt, matches!(item, Some(Ok(found)) if found == *number));
     }
-    same(rt, left, 0);
+    same(rt, items.len(), 0);
     holds(rt, items.next().is_none());
-    Ok(numbers)
 }
 
 #[test]
 fn items_are_read_again(rt: HostRuntime) -> Result<(), Fail> {
     let alloc = rt.alloc();
-    let sequence = numbered(Numbers::from_der(alloc, &NUMBERS))?;
+    let sequence = numbers_of(alloc, &NUMBERS)?;
     same(&rt, sequence.len(), 3);
     holds(&rt, !sequence.is_empty());
     same(&rt, sequence.as_bytes(), &NUMBERS[2..]);
-    same(
-        &rt,
-        numbers(&rt, alloc, &sequence)?.as_slice(),
-        [8, 7, 300].as_slice(),
-    );
+    gives(&rt, &sequence, &[8, 7, 300]);
     same(
         &rt,
         numbered(sequence.ref_to_owned(alloc))?.as_slice(),
@@ -130,27 +103,22 @@ fn items_are_read_again(rt: HostRuntime) -> Result<(), Fail> {
 
 #[test]
 fn an_item_is_read_at_its_place(rt: HostRuntime) -> Result<(), Fail> {
-    let sequence = numbered(Numbers::from_der(rt.alloc(), &NUMBERS))?;
-    same(&rt, numbered(sequence.get(0).ok_or("none")?)?, 8);
-    same(&rt, numbered(sequence.get(2).ok_or("none")?)?, 300);
+    let sequence = numbers_of(rt.alloc(), &NUMBERS)?;
+    holds(&rt, matches!(sequence.get(0), Some(Ok(8))));
+    holds(&rt, matches!(sequence.get(2), Some(Ok(300))));
     holds(&rt, sequence.get(3).is_none());
-    Ok(())
-}
-
-#[test]
-fn a_walk_is_copied_where_it_stands(rt: HostRuntime) -> Result<(), Fail> {
-    let sequence = numbered(Numbers::from_der(rt.alloc(), &NUMBERS))?;
     let mut items = sequence.iter();
     holds(&rt, items.next().is_some());
+    // a copy of a walk goes on where the walk stands
     let mut copy = items.clone()?;
-    same(&rt, numbered(copy.next().ok_or("none")?)?, 7);
-    same(&rt, numbered(items.next().ok_or("none")?)?, 7);
+    holds(&rt, matches!(copy.next(), Some(Ok(7))));
+    holds(&rt, matches!(items.next(), Some(Ok(7))));
     Ok(())
 }
 
 #[test]
 fn no_items_are_none(rt: HostRuntime) -> Result<(), Fail> {
-    let sequence = numbered(Numbers::from_der(rt.alloc(), &[0x30, 0x00]))?;
+    let sequence = numbers_of(rt.alloc(), &[0x30, 0x00])?;
     holds(&rt, sequence.is_empty());
     holds(&rt, sequence.iter().next().is_none());
     holds(&rt, sequence.get(0).is_none());
@@ -160,8 +128,8 @@ fn no_items_are_none(rt: HostRuntime) -> Result<(), Fail> {
 #[test]
 fn sequences_are_compared_by_their_octets(rt: HostRuntime) -> Result<(), Fail> {
     let alloc = rt.alloc();
-    let one = numbered(Numbers::from_der(alloc, &[0x30, 0x03, 0x02, 0x01, 0x07]))?;
-    let other = numbered(Numbers::from_der(alloc, &[0x30, 0x03, 0x02, 0x01, 0x08]))?;
+    let one = numbers_of(alloc, &[0x30, 0x03, 0x02, 0x01, 0x07])?;
+    let other = numbers_of(alloc, &[0x30, 0x03, 0x02, 0x01, 0x08])?;
     holds(&rt, one != other);
     same(&rt, numbered(one.der_cmp(&other)), Ok(Ordering::Less));
     let copy = one.clone()?;
@@ -174,7 +142,7 @@ fn sequences_are_compared_by_their_octets(rt: HostRuntime) -> Result<(), Fail> {
 #[test]
 fn sequences_are_printed(rt: HostRuntime) -> Result<(), Fail> {
     let octets = [0x30, 0x03, 0x02, 0x01, 0x07];
-    let sequence = numbered(Numbers::from_der(rt.alloc(), &octets))?;
+    let sequence = numbers_of(rt.alloc(), &octets)?;
     let text = format!(in rt.alloc(); "{sequence:?}")?;
     same(&rt, text.as_str(), "SequenceOfRef { octets: [2, 1, 7] }");
     let items = sequence.iter();
@@ -194,19 +162,14 @@ fn a_sequence_takes_memory_as_its_items_do(rt: HostRuntime) {
     holds(&rt, takes_memory::<SetOfVec<u16>>());
 }
 
-// Reads a sequence of sets and walks it: how many items came, or the refusal, which is then the
-// last.
-fn walked(rt: &impl Abort, alloc: Global, octets: &[u8]) -> Result<usize, u8> {
-    let sequence = numbered(Sets::from_der(alloc, octets))?;
+// Walks a sequence of sets: how many items came, or the refusal, which is then the last.
+fn walked(rt: &impl Abort, sequence: &Sets<'_>) -> Result<usize, u8> {
     let mut items = sequence.iter();
     while let Some(item) = items.next() {
-        match item {
-            Ok(_item) => {}
-            Err(e) => {
-                same(rt, items.len(), 0);
-                holds(rt, items.next().is_none());
-                return Err(e.kind().number());
-            }
+        if let Err(e) = item {
+            same(rt, items.len(), 0);
+            holds(rt, items.next().is_none());
+            return Err(e.kind().number());
         }
     }
     Ok(sequence.len())
@@ -215,8 +178,8 @@ fn walked(rt: &impl Abort, alloc: Global, octets: &[u8]) -> Result<usize, u8> {
 #[test]
 fn a_sequence_of_sets_is_walked(rt: HostRuntime) -> Result<(), Fail> {
     let alloc = rt.alloc();
-    same(&rt, walked(&rt, alloc, &SETS), Ok(2));
-    let sequence = numbered(Sets::from_der(alloc, &SETS))?;
+    let sequence = sets_of(alloc, &SETS)?;
+    same(&rt, walked(&rt, &sequence), Ok(2));
     // an item that is read again is written in order
     let first = numbered(sequence.get(0).ok_or("none")?)?;
     same(

@@ -32,19 +32,56 @@ fn counts_up(rt: &impl Abort, items: &[u16]) {
     }
 }
 
+// The octets of a set whose items are the numbers, as they stand.
+fn set_octets(alloc: Global, numbers: &Vec<u16>) -> Result<Vec<u8>, u8> {
+    let mut octets = numbered(numbers.to_der(alloc))?;
+    if octets.is_empty() {
+        return Err(0);
+    }
+    octets[0] = 0x31;
+    Ok(octets)
+}
+
+fn read_set(alloc: Global, octets: &[u8]) -> Result<SetOfVec<u16>, u8> {
+    numbered(SetOfVec::from_der(alloc, octets))
+}
+
+// The numbers are sorted to the set, and written in order.
+fn sorts_to(
+    rt: &impl Abort,
+    alloc: Global,
+    numbers: Vec<u16>,
+    set: &SetOfVec<u16>,
+) -> Result<(), u8> {
+    let sorted: SetOfVec<u16> = numbered(SetOfVec::try_from(numbers))?;
+    holds(rt, sorted == *set);
+    let written = numbered(sorted.to_der(alloc))?;
+    same(rt, refusal(alloc, written.as_slice()), None);
+    Ok(())
+}
+
 #[test]
 fn falling_numbers_are_put_in_order(rt: HostRuntime) -> Result<(), Fail> {
     let numbers = falling(rt.alloc())?;
-    let mut octets = numbered(numbers.to_der(rt.alloc()))?;
-    assert_eq!(rt; octets.len(), 15876);
-    octets[0] = 0x31;
-    let read: SetOfVec<u16> = numbered(SetOfVec::from_der(rt.alloc(), octets.as_slice()))?;
-    counts_up(&rt, read.as_slice());
-    let sorted: SetOfVec<u16> = numbered(SetOfVec::try_from(numbers))?;
-    holds(&rt, sorted == read);
-    let written = numbered(sorted.to_der(rt.alloc()))?;
-    same(&rt, refusal(rt.alloc(), written.as_slice()), None);
+    let octets = set_octets(rt.alloc(), &numbers)?;
+    same(&rt, octets.len(), 15876);
     same(&rt, refusal(rt.alloc(), octets.as_slice()), Some(11));
+    let read = read_set(rt.alloc(), octets.as_slice())?;
+    counts_up(&rt, read.as_slice());
+    sorts_to(&rt, rt.alloc(), numbers, &read)?;
+    Ok(())
+}
+
+// A set that is read of the numbers is what sorting makes of them.
+fn is_read_as_a_list(
+    rt: &impl Abort,
+    alloc: Global,
+    numbers: &Vec<u16>,
+    list: &[u16],
+) -> Result<(), u8> {
+    let octets = set_octets(alloc, numbers)?;
+    let read = read_set(alloc, octets.as_slice())?;
+    holds(rt, read.as_slice() == list);
     Ok(())
 }
 
@@ -52,13 +89,9 @@ fn falling_numbers_are_put_in_order(rt: HostRuntime) -> Result<(), Fail> {
 fn is_sorted_as_a_list(rt: &impl Abort, alloc: Global, numbers: Vec<u16>) -> Result<(), Fail> {
     let mut list = numbers.clone()?;
     list.sort()?;
-    let mut octets = numbered(numbers.to_der(alloc))?;
-    assert!(rt; !octets.is_empty());
-    octets[0] = 0x31;
+    is_read_as_a_list(rt, alloc, &numbers, list.as_slice())?;
     let set: SetOfVec<u16> = numbered(SetOfVec::try_from(numbers))?;
     holds(rt, set.as_slice() == list.as_slice());
-    let read: SetOfVec<u16> = numbered(SetOfVec::from_der(alloc, octets.as_slice()))?;
-    holds(rt, read.as_slice() == list.as_slice());
     Ok(())
 }
 

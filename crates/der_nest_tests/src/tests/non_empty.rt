@@ -1,11 +1,12 @@
 //! Lists that have an item.
 
-use crate::tests::{holds, numbered, reads_as, same};
-use der_elem::{Decode, FromDer, TakesMemory};
+use crate::tests::{holds, numbered, reads_as, same, same_in};
+use der_elem::{Decode, TakesMemory};
 use der_nest::{ItemSet, NonEmpty, SetOfVec, Values};
 use der_opaque::AnyRef;
 use der_tlv::SliceReader;
 use std::alloc::Global;
+use std::process::Abort;
 use std::test::Fail;
 
 /// `SEQUENCE SIZE (1..MAX) OF INTEGER`
@@ -17,17 +18,32 @@ type SomeOfSet = NonEmpty<SetOfVec<u16>>;
 /// `SET SIZE (1..MAX) OF ANY`
 type SomeValues<'a> = NonEmpty<ItemSet<AnyRef<'a>, Values>>;
 
+// The octets are read as a sequence of numbers that is written as they are; or the number of the
+// refusal.
+fn sequence_reads_back(rt: &impl Abort, alloc: Global, octets: &[u8]) -> Result<(), u8> {
+    reads_as::<SomeNumbers>(rt, alloc, octets, octets)
+}
+
+// The same of a set of numbers, which is written as the other octets.
+fn set_reads_as(rt: &impl Abort, alloc: Global, octets: &[u8], written: &[u8]) -> Result<(), u8> {
+    reads_as::<SomeOfSet>(rt, alloc, octets, written)
+}
+
+// The same of a set of values of any type.
+fn values_read_as(rt: &impl Abort, alloc: Global, octets: &[u8], written: &[u8]) -> Result<(), u8> {
+    reads_as::<SomeValues>(rt, alloc, octets, written)
+}
+
 #[test]
 fn lists_of_an_item_are_read(rt: HostRuntime) -> Result<(), Fail> {
     let alloc = rt.alloc();
-    let one = [0x30, 0x03, 0x02, 0x01, 0x05];
-    reads_as::<SomeNumbers>(&rt, alloc, &one, &one)?;
+    sequence_reads_back(&rt, alloc, &[0x30, 0x03, 0x02, 0x01, 0x05])?;
     let falling = [0x31, 0x06, 0x02, 0x01, 0x08, 0x02, 0x01, 0x07];
     let rising = [0x31, 0x06, 0x02, 0x01, 0x07, 0x02, 0x01, 0x08];
-    reads_as::<SomeOfSet>(&rt, alloc, &falling, &rising)?;
+    set_reads_as(&rt, alloc, &falling, &rising)?;
     let mixed = [0x31, 0x06, 0x02, 0x01, 0x08, 0x01, 0x01, 0xff];
     let ordered = [0x31, 0x06, 0x01, 0x01, 0xff, 0x02, 0x01, 0x08];
-    reads_as::<SomeValues>(&rt, alloc, &mixed, &ordered)?;
+    values_read_as(&rt, alloc, &mixed, &ordered)?;
     holds(&rt, <SomeNumbers as TakesMemory>::TAKES_MEMORY);
     Ok(())
 }
@@ -35,30 +51,19 @@ fn lists_of_an_item_are_read(rt: HostRuntime) -> Result<(), Fail> {
 #[test]
 fn lists_of_no_items_are_refused(rt: HostRuntime) {
     let alloc = rt.alloc();
-    same(&rt, sequence_refused(alloc, &[0x30, 0x00]), Some(13));
-    same(&rt, sequence_refused(alloc, &[0x30, 0x00, 0x00]), Some(13));
-    same(&rt, sequence_refused(alloc, &[0x31, 0x00]), Some(4));
-    same(&rt, sequence_refused(alloc, &[0x30, 0x01]), Some(2));
-    same(
-        &rt,
-        sequence_refused(alloc, &[0x30, 0x02, 0x01, 0x00]),
-        Some(4),
-    );
-    same(
-        &rt,
-        numbered(SomeOfSet::from_der(alloc, &[0x31, 0x00])).err(),
-        Some(13),
-    );
-    same(
-        &rt,
-        numbered(SomeValues::from_der(alloc, &[0x31, 0x00])).err(),
-        Some(13),
-    );
-}
-
-// The number with which octets are refused as a sequence.
-fn sequence_refused(alloc: Global, octets: &[u8]) -> Option<u8> {
-    numbered(SomeNumbers::from_der(alloc, octets)).err()
+    let rows: [(&[u8], u8); 5] = [
+        (&[0x30, 0x00], 13),
+        (&[0x30, 0x00, 0x00], 13),
+        (&[0x31, 0x00], 4),
+        (&[0x30, 0x01], 2),
+        (&[0x30, 0x02, 0x01, 0x00], 4),
+    ];
+    for (octets, number) in rows {
+        let answer = sequence_reads_back(&rt, alloc, octets);
+        same_in(&rt, &octets, answer, Err(number));
+    }
+    same(&rt, set_reads_as(&rt, alloc, &[0x31, 0x00], &[]), Err(13));
+    same(&rt, values_read_as(&rt, alloc, &[0x31, 0x00], &[]), Err(13));
 }
 
 #[test]
@@ -87,9 +92,10 @@ fn a_failed_reader_reads_no_list(rt: HostRuntime) -> Result<(), Fail> {
     let octets = [0x31, 0x00];
     match SliceReader::new(&octets) {
         Ok(mut reader) => {
-            let first = numbered(SomeNumbers::decode(rt.alloc(), &mut reader)).err();
-            let second = numbered(SomeNumbers::decode(rt.alloc(), &mut reader)).err();
-            same(&rt, (first, second), (Some(4), Some(17)));
+            for number in [4, 17] {
+                let answer = numbered(SomeNumbers::decode(rt.alloc(), &mut reader));
+                same(&rt, answer.err(), Some(number));
+            }
             Ok(())
         }
         Err(_) => Err("refused".into()),
