@@ -67,11 +67,6 @@ fn stays<'a, T: FromDer<'a> + Encode>(alloc: Global, octets: &'a [u8]) -> bool {
     }
 }
 
-/// The number of the error with which octets are refused, or 0.
-fn refusal<'a, T: FromDer<'a> + Encode>(alloc: Global, octets: &'a [u8]) -> u8 {
-    number_of(round_trip::<T>(alloc, octets))
-}
-
 /// The octets are read as a value that is written as them, measured as that many, and copied.
 fn reads_back<'a, T: FromDer<'a> + Encode + Duplicate + EncodingEq>(
     rt: &impl Abort,

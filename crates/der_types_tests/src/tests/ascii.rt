@@ -5,7 +5,7 @@ use der_ascii::{
     Ia5String, Ia5StringRef, PrintableString, PrintableStringRef, TeletexString, TeletexStringRef,
     VideotexStringRef,
 };
-use der_elem::{DerOrd, FromDer, TakesMemory, ValueOrd};
+use der_elem::{DerOrd, TakesMemory, ValueOrd};
 use der_opaque::{Any, AnyRef, OctetStringRef};
 use der_tlv::Tag;
 use std::cmp::Ordering;
@@ -31,24 +31,14 @@ fn reads_strings(rt: HostRuntime) -> Result<(), Fail> {
     reads_back_in_order::<TeletexStringRef>(&rt, alloc, &test_user(0x14))?;
     reads_back_in_order::<TeletexString>(&rt, alloc, &test_user(0x14))?;
     reads_back_in_order::<VideotexStringRef>(&rt, alloc, &test_user(0x15))?;
-    reads_back_in_order::<PrintableString>(&rt, alloc, &[0x13, 0x00])?;
     holds(&rt, !PrintableStringRef::TAKES_MEMORY);
     holds(&rt, PrintableString::TAKES_MEMORY);
     Ok(())
 }
 
 #[test]
-fn refuses_other_octets(rt: HostRuntime) {
+fn octets_that_are_no_characters_are_refused(rt: HostRuntime) {
     let alloc = rt.alloc();
-    let printable = |octets: &[u8]| numbered(PrintableString::from_der(alloc, octets)).err();
-    same(&rt, printable(&[0x13, 0x01, 0x27]), None);
-    same(&rt, printable(&[0x13, 0x01, 0x5c]), Some(13));
-    same(&rt, printable(&[0x13, 0x01, 0x2a]), Some(13));
-    same(&rt, printable(&[0x16, 0x01, 0x27]), Some(4));
-    same(&rt, printable(&[0x13, 0x02, 0x27]), Some(2));
-    let ia5 = |octets: &[u8]| numbered(Ia5String::from_der(alloc, octets)).err();
-    same(&rt, ia5(&[0x16, 0x01, 0x80]), Some(13));
-    same(&rt, ia5(&[0x16, 0x01, 0x7f]), None);
     holds(
         &rt,
         matches!(TeletexStringRef::new(&[0x80]), Err(e) if e.kind().number() == 13),

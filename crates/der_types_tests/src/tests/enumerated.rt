@@ -1,67 +1,69 @@
 //! Tests of numbers that have names: CRLReason and Version of RFC 5280 (5.3.1, 4.1.2.1).
 
 use crate::enumerations::{CrlReason, Version};
-use crate::tests::{numbered, refusal, same, same_in, stays};
-use der_elem::{DerOrd, Duplicate, Encode, FixedTag, FromDer, ValueOrd};
+use crate::tests::{numbered, round_trip, same, same_in};
+use der_elem::{DerOrd, Duplicate, FixedTag, FromDer, ValueOrd};
 use der_numbers::Enumerated;
 use der_tlv::Tag;
+use std::alloc::Global;
 use std::cmp::Ordering;
 
 type Reason = Enumerated<CrlReason>;
 
 type NamedVersion = Enumerated<Version>;
 
+/// What octets are written as again that are read as a reason, or the number of the refusal.
+fn reason_again(alloc: Global, octets: &[u8]) -> Result<Vec<u8>, u8> {
+    numbered(round_trip::<Reason>(alloc, octets))
+}
+
+/// The same of a version.
+fn version_again(alloc: Global, octets: &[u8]) -> Result<Vec<u8>, u8> {
+    numbered(round_trip::<NamedVersion>(alloc, octets))
+}
+
 #[test]
-fn named_numbers_are_read_and_written(rt: HostRuntime) {
-    let alloc = rt.alloc();
+fn named_numbers_are_read_and_written(rt: HostRuntime) -> Result<(), u8> {
     for number in [0, 1, 2, 3, 4, 5, 6, 8, 9, 10] {
-        same_in(
-            &rt,
-            &number,
-            stays::<Reason>(alloc, &[0x0a, 0x01, number]),
-            true,
-        );
+        let octets = [0x0a, 0x01, number];
+        let written = reason_again(rt.alloc(), &octets)?;
+        same_in(&rt, &number, written.as_slice(), octets.as_slice());
     }
     for number in [0, 1, 2] {
-        same_in(
-            &rt,
-            &number,
-            stays::<NamedVersion>(alloc, &[0x02, 0x01, number]),
-            true,
-        );
+        let octets = [0x02, 0x01, number];
+        let written = version_again(rt.alloc(), &octets)?;
+        same_in(&rt, &number, written.as_slice(), octets.as_slice());
     }
+    Ok(())
 }
 
 #[test]
-fn numbers_without_a_name_are_refused(rt: HostRuntime) {
-    let alloc = rt.alloc();
-    for number in [7, 11, 0x7f, 0x80, 0xff] {
-        same_in(
-            &rt,
-            &number,
-            refusal::<Reason>(alloc, &[0x0a, 0x01, number]),
-            13,
-        );
+fn other_octets_are_refused(rt: HostRuntime) {
+    let rows: [(&[u8], u8); 13] = [
+        // numbers without a name
+        (&[0x0a, 0x01, 0x07], 13),
+        (&[0x0a, 0x01, 0x0b], 13),
+        (&[0x0a, 0x01, 0x7f], 13),
+        (&[0x0a, 0x01, 0x80], 13),
+        (&[0x0a, 0x01, 0xff], 13),
+        (&[0x0a, 0x02, 0x01, 0x00], 13),
+        // what is refused of integers
+        (&[0x0a, 0x00], 7),
+        (&[0x0a, 0x02, 0x00, 0x01], 8),
+        (&[0x0a, 0x02, 0xff, 0xff], 8),
+        (&[0x0a, 0x09, 1, 0, 0, 0, 0, 0, 0, 0, 0], 8),
+        (&[0x02, 0x01, 0x01], 4),
+        (&[0x0a, 0x01], 2),
+        (&[0x0a, 0x01, 0x01, 0x00], 3),
+    ];
+    for (octets, number) in rows {
+        let refusal = reason_again(rt.alloc(), octets).err();
+        same_in(&rt, &octets, refusal, Some(number));
     }
-    same(&rt, refusal::<Reason>(alloc, &[0x0a, 0x02, 0x01, 0x00]), 13);
-    same(&rt, refusal::<NamedVersion>(alloc, &[0x02, 0x01, 0x03]), 13);
-}
-
-#[test]
-fn named_numbers_are_refused_as_integers_are(rt: HostRuntime) {
-    let alloc = rt.alloc();
-    same(&rt, refusal::<Reason>(alloc, &[0x0a, 0x00]), 7);
-    same(&rt, refusal::<Reason>(alloc, &[0x0a, 0x02, 0x00, 0x01]), 8);
-    same(&rt, refusal::<Reason>(alloc, &[0x0a, 0x02, 0xff, 0xff]), 8);
-    same(
-        &rt,
-        refusal::<Reason>(alloc, &[0x0a, 0x09, 1, 0, 0, 0, 0, 0, 0, 0, 0]),
-        8,
-    );
-    same(&rt, refusal::<Reason>(alloc, &[0x02, 0x01, 0x01]), 4);
-    same(&rt, refusal::<NamedVersion>(alloc, &[0x0a, 0x01, 0x01]), 4);
-    same(&rt, refusal::<Reason>(alloc, &[0x0a, 0x01]), 2);
-    same(&rt, refusal::<Reason>(alloc, &[0x0a, 0x01, 0x01, 0x00]), 3);
+    let unnamed = version_again(rt.alloc(), &[0x02, 0x01, 0x03]);
+    same(&rt, unnamed.err(), Some(13));
+    let enumerated = version_again(rt.alloc(), &[0x0a, 0x01, 0x01]);
+    same(&rt, enumerated.err(), Some(4));
 }
 
 #[test]

@@ -1,11 +1,12 @@
 //! Tests of named bits: KeyUsage and ReasonFlags of RFC 5280 (4.2.1.3, 4.2.1.13).
 
-use crate::tests::{holds, numbered, reads_back_in_order, refusal, same, same_in};
+use crate::tests::{holds, numbered, reads_back_in_order, same, same_in};
 use der_bits::{AsBitStringRef, BitStringRef, NamedBitsRef};
 use der_elem::{DerOrd, Encode, FixedTag, FromDer, ValueOrd};
 use der_tlv::Tag;
 use std::alloc::Global;
 use std::cmp::Ordering;
+use std::process::Abort;
 
 /// Encodings: digitalSignature and keyEncipherment; keyCertSign and cRLSign; cRLSign and
 /// decipherOnly; no bits.
@@ -16,50 +17,42 @@ const USAGES: [&[u8]; 4] = [
     &[0x03, 0x01, 0x00],
 ];
 
-/// What has a bit 0 at its end.
-const LONGER: [&[u8]; 5] = [
-    &[0x03, 0x02, 0x00, 0xa0],
-    &[0x03, 0x02, 0x04, 0xa0],
-    &[0x03, 0x02, 0x07, 0x00],
-    &[0x03, 0x02, 0x00, 0x00],
-    &[0x03, 0x03, 0x00, 0xa0, 0x00],
+/// What is refused, and by which number.
+const REFUSED: [(&[u8], u8); 10] = [
+    // a bit 0 at the end
+    (&[0x03, 0x02, 0x00, 0xa0], 8),
+    (&[0x03, 0x02, 0x04, 0xa0], 8),
+    (&[0x03, 0x02, 0x07, 0x00], 8),
+    (&[0x03, 0x02, 0x00, 0x00], 8),
+    (&[0x03, 0x03, 0x00, 0xa0, 0x00], 8),
+    // what is refused of each BIT STRING
+    (&[0x03, 0x02, 0x05, 0xb0], 8),
+    (&[0x03, 0x00], 9),
+    (&[0x03, 0x02, 0x08, 0x80], 13),
+    (&[0x03, 0x01, 0x01], 13),
+    (&[0x04, 0x02, 0x05, 0xa0], 4),
 ];
+
+/// The octets are read as named bits that are written as them, measured, copied and compared; or the
+/// number of the refusal.
+fn named_bits_read_back(rt: &impl Abort, alloc: Global, octets: &[u8]) -> Result<(), u8> {
+    reads_back_in_order::<NamedBitsRef<'_>>(rt, alloc, octets)
+}
 
 #[test]
 fn named_bits_are_read_and_written(rt: HostRuntime) {
     for octets in USAGES {
-        let answer = reads_back_in_order::<NamedBitsRef<'_>>(&rt, rt.alloc(), octets);
+        let answer = named_bits_read_back(&rt, rt.alloc(), octets);
         same_in(&rt, &octets, answer, Ok(()));
     }
 }
 
 #[test]
-fn named_bits_are_refused(rt: HostRuntime) {
-    let alloc = rt.alloc();
-    for octets in LONGER {
-        same_in(&rt, &octets, refusal::<NamedBitsRef<'_>>(alloc, octets), 8);
+fn other_bits_are_refused(rt: HostRuntime) {
+    for (octets, number) in REFUSED {
+        let answer = named_bits_read_back(&rt, rt.alloc(), octets);
+        same_in(&rt, &octets, answer, Err(number));
     }
-    same(
-        &rt,
-        refusal::<NamedBitsRef<'_>>(alloc, &[0x03, 0x02, 0x05, 0xb0]),
-        8,
-    );
-    same(&rt, refusal::<NamedBitsRef<'_>>(alloc, &[0x03, 0x00]), 9);
-    same(
-        &rt,
-        refusal::<NamedBitsRef<'_>>(alloc, &[0x03, 0x02, 0x08, 0x80]),
-        13,
-    );
-    same(
-        &rt,
-        refusal::<NamedBitsRef<'_>>(alloc, &[0x03, 0x01, 0x01]),
-        13,
-    );
-    same(
-        &rt,
-        refusal::<NamedBitsRef<'_>>(alloc, &[0x04, 0x02, 0x05, 0xa0]),
-        4,
-    );
 }
 
 #[test]
@@ -87,19 +80,16 @@ fn trimmed(alloc: Global, octets: &[u8]) -> Result<Vec<u8>, u8> {
 
 #[test]
 fn zeros_at_the_end_are_left_away(rt: HostRuntime) -> Result<(), u8> {
-    let alloc = rt.alloc();
-    let written = trimmed(alloc, &[0xa0, 0x00, 0x00])?;
-    same(&rt, written.as_slice(), [0x03, 0x02, 0x05, 0xa0].as_slice());
-    let written = trimmed(alloc, &[0x00, 0x01])?;
-    same(
-        &rt,
-        written.as_slice(),
-        [0x03, 0x03, 0x00, 0x00, 0x01].as_slice(),
-    );
-    let written = trimmed(alloc, &[0x00, 0x00])?;
-    same(&rt, written.as_slice(), [0x03, 0x01, 0x00].as_slice());
-    let written = trimmed(alloc, &[])?;
-    same(&rt, written.as_slice(), [0x03, 0x01, 0x00].as_slice());
+    let rows: [(&[u8], &[u8]); 4] = [
+        (&[0xa0, 0x00, 0x00], &[0x03, 0x02, 0x05, 0xa0]),
+        (&[0x00, 0x01], &[0x03, 0x03, 0x00, 0x00, 0x01]),
+        (&[0x00, 0x00], &[0x03, 0x01, 0x00]),
+        (&[], &[0x03, 0x01, 0x00]),
+    ];
+    for (octets, encoding) in rows {
+        let written = trimmed(rt.alloc(), octets)?;
+        same(&rt, written.as_slice(), encoding);
+    }
     Ok(())
 }
 

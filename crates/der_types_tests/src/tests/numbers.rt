@@ -1,35 +1,12 @@
-use crate::tests::{holds, refusal, same, same_in, stays};
+use crate::tests::{holds, same, stays};
 use der_elem::{DerOrd, Duplicate, Encode, FixedTag};
 use der_numbers::{AsIntRef, AsUintRef, Int, IntRef, Uint, UintRef};
 use der_opaque::{Any, AnyRef};
 use der_tlv::{Error, ErrorKind, Length, Tag};
+use std::alloc::Global;
 use std::cmp::Ordering;
+use std::process::Abort;
 use std::test::Fail;
-
-/// Encodings that each of the four types reads: 0, 127, 128, 255, 256, 32767.
-const BOTH: [&[u8]; 6] = [
-    &[0x02, 0x01, 0x00],
-    &[0x02, 0x01, 0x7f],
-    &[0x02, 0x02, 0x00, 0x80],
-    &[0x02, 0x02, 0x00, 0xff],
-    &[0x02, 0x02, 0x01, 0x00],
-    &[0x02, 0x02, 0x7f, 0xff],
-];
-
-/// Encodings of negative integers: -128, -129, -32768, -256.
-const NEGATIVE: [&[u8]; 4] = [
-    &[0x02, 0x01, 0x80],
-    &[0x02, 0x02, 0xff, 0x7f],
-    &[0x02, 0x02, 0x80, 0x00],
-    &[0x02, 0x02, 0xff, 0x00],
-];
-
-/// What is no encoding of an integer, whatever its sign.
-const NEITHER: [&[u8]; 3] = [
-    &[0x02, 0x00],
-    &[0x02, 0x02, 0x00, 0x00],
-    &[0x02, 0x02, 0x00, 0x7f],
-];
 
 /// The kind of an error, if this is one.
 fn kind_of<T: Drop>(answer: Result<T, Error>) -> Option<ErrorKind> {
@@ -40,39 +17,13 @@ fn kind_of<T: Drop>(answer: Result<T, Error>) -> Option<ErrorKind> {
 }
 
 #[test]
-fn integers_are_read_and_written(rt: HostRuntime) {
+fn integers_are_written_back(rt: HostRuntime) {
     let alloc = rt.alloc();
-    for octets in BOTH {
-        same_in(&rt, &octets, stays::<IntRef<'_>>(alloc, octets), true);
-        same_in(&rt, &octets, stays::<Int>(alloc, octets), true);
-        same_in(&rt, &octets, stays::<UintRef<'_>>(alloc, octets), true);
-        same_in(&rt, &octets, stays::<Uint>(alloc, octets), true);
-    }
-    for octets in NEGATIVE {
-        same_in(&rt, &octets, stays::<IntRef<'_>>(alloc, octets), true);
-        same_in(&rt, &octets, stays::<Int>(alloc, octets), true);
-    }
-}
-
-#[test]
-fn integers_are_refused(rt: HostRuntime) {
-    let alloc = rt.alloc();
-    for octets in NEITHER {
-        same_in(&rt, &octets, refusal::<IntRef<'_>>(alloc, octets), 8);
-        same_in(&rt, &octets, refusal::<Int>(alloc, octets), 8);
-        same_in(&rt, &octets, refusal::<UintRef<'_>>(alloc, octets), 8);
-        same_in(&rt, &octets, refusal::<Uint>(alloc, octets), 8);
-    }
-    same(
-        &rt,
-        refusal::<IntRef<'_>>(alloc, &[0x02, 0x02, 0xff, 0x80]),
-        8,
-    );
-    same(&rt, refusal::<Int>(alloc, &[0x02, 0x02, 0xff, 0x80]), 8);
-    same(&rt, refusal::<UintRef<'_>>(alloc, &[0x02, 0x01, 0x81]), 13);
-    same(&rt, refusal::<Uint>(alloc, &[0x02, 0x01, 0x81]), 13);
-    same(&rt, refusal::<IntRef<'_>>(alloc, &[0x04, 0x01, 0x01]), 4);
-    same(&rt, refusal::<UintRef<'_>>(alloc, &[0x02, 0x02, 0x01]), 2);
+    let octets = [0x02, 0x02, 0x00, 0x80];
+    holds(&rt, stays::<IntRef<'_>>(alloc, &octets));
+    holds(&rt, stays::<Int>(alloc, &octets));
+    holds(&rt, stays::<UintRef<'_>>(alloc, &octets));
+    holds(&rt, stays::<Uint>(alloc, &octets));
 }
 
 /// The octets of the integer that some octets say, or none where they are refused.
@@ -171,122 +122,92 @@ fn borrowed_and_owned_agree(rt: HostRuntime) -> Result<(), Fail> {
     Ok(())
 }
 
+/// Whether an integer was made that has these octets.
+fn is_integer(made: Result<Int, Error>, octets: &[u8]) -> bool {
+    match made {
+        Ok(integer) => integer.as_bytes() == octets,
+        Err(_) => false,
+    }
+}
+
 #[test]
-fn signed_machine_integers_are_taken(rt: HostRuntime) -> Result<(), Fail> {
+fn signed_machine_integers_are_taken(rt: HostRuntime) {
     let alloc = rt.alloc();
     let mut low = [0x00u8; 16];
     low[0] = 0x80;
     let mut high = [0xffu8; 16];
     high[0] = 0x7f;
-    same(&rt, Int::try_from_i8(alloc, i8::MIN)?.as_bytes(), &low[..1]);
-    same(
+    holds(&rt, is_integer(Int::try_from_i8(alloc, i8::MIN), &low[..1]));
+    holds(
         &rt,
-        Int::try_from_i16(alloc, i16::MIN)?.as_bytes(),
-        &low[..2],
+        is_integer(Int::try_from_i16(alloc, i16::MIN), &low[..2]),
     );
-    same(
+    holds(
         &rt,
-        Int::try_from_i32(alloc, i32::MIN)?.as_bytes(),
-        &low[..4],
+        is_integer(Int::try_from_i32(alloc, i32::MIN), &low[..4]),
     );
-    same(
+    holds(
         &rt,
-        Int::try_from_i64(alloc, i64::MIN)?.as_bytes(),
-        &low[..8],
+        is_integer(Int::try_from_i64(alloc, i64::MIN), &low[..8]),
     );
-    same(
+    holds(&rt, is_integer(Int::try_from_i128(alloc, i128::MIN), &low));
+    holds(
         &rt,
-        Int::try_from_i128(alloc, i128::MIN)?.as_bytes(),
-        low.as_slice(),
+        is_integer(Int::try_from_i8(alloc, i8::MAX), &high[..1]),
     );
-    same(
+    holds(
         &rt,
-        Int::try_from_i8(alloc, i8::MAX)?.as_bytes(),
-        &high[..1],
+        is_integer(Int::try_from_i16(alloc, i16::MAX), &high[..2]),
     );
-    same(
+    holds(
         &rt,
-        Int::try_from_i16(alloc, i16::MAX)?.as_bytes(),
-        &high[..2],
+        is_integer(Int::try_from_i32(alloc, i32::MAX), &high[..4]),
     );
-    same(
+    holds(
         &rt,
-        Int::try_from_i32(alloc, i32::MAX)?.as_bytes(),
-        &high[..4],
+        is_integer(Int::try_from_i64(alloc, i64::MAX), &high[..8]),
     );
-    same(
+    holds(&rt, is_integer(Int::try_from_i128(alloc, i128::MAX), &high));
+    holds(
         &rt,
-        Int::try_from_i64(alloc, i64::MAX)?.as_bytes(),
-        &high[..8],
+        is_integer(Int::try_from_i16(alloc, -129), &[0xff, 0x7f]),
     );
-    same(
-        &rt,
-        Int::try_from_i128(alloc, i128::MAX)?.as_bytes(),
-        high.as_slice(),
-    );
-    same(
-        &rt,
-        Int::try_from_i16(alloc, -129)?.as_bytes(),
-        [0xff, 0x7f].as_slice(),
-    );
-    Ok(())
+}
+
+/// Whether a number was made that has these octets.
+fn is_number(made: Result<Uint, Error>, octets: &[u8]) -> bool {
+    match made {
+        Ok(number) => number.as_bytes() == octets,
+        Err(_) => false,
+    }
 }
 
 #[test]
-fn unsigned_machine_integers_are_taken(rt: HostRuntime) -> Result<(), Fail> {
+fn unsigned_machine_integers_are_taken(rt: HostRuntime) {
     let alloc = rt.alloc();
     let high = [0xffu8; 16];
-    same(
+    holds(&rt, is_number(Uint::try_from_u8(alloc, 0), &[0x00]));
+    holds(&rt, is_number(Uint::try_from_u16(alloc, 0), &[0x00]));
+    holds(&rt, is_number(Uint::try_from_u32(alloc, 0), &[0x00]));
+    holds(&rt, is_number(Uint::try_from_u64(alloc, 0), &[0x00]));
+    holds(&rt, is_number(Uint::try_from_u128(alloc, 0), &[0x00]));
+    holds(
         &rt,
-        Uint::try_from_u8(alloc, 0)?.as_bytes(),
-        [0x00].as_slice(),
+        is_number(Uint::try_from_u8(alloc, u8::MAX), &high[..1]),
     );
-    same(
+    holds(
         &rt,
-        Uint::try_from_u16(alloc, 0)?.as_bytes(),
-        [0x00].as_slice(),
+        is_number(Uint::try_from_u16(alloc, u16::MAX), &high[..2]),
     );
-    same(
+    holds(
         &rt,
-        Uint::try_from_u32(alloc, 0)?.as_bytes(),
-        [0x00].as_slice(),
+        is_number(Uint::try_from_u32(alloc, u32::MAX), &high[..4]),
     );
-    same(
+    holds(
         &rt,
-        Uint::try_from_u64(alloc, 0)?.as_bytes(),
-        [0x00].as_slice(),
+        is_number(Uint::try_from_u64(alloc, u64::MAX), &high[..8]),
     );
-    same(
-        &rt,
-        Uint::try_from_u128(alloc, 0)?.as_bytes(),
-        [0x00].as_slice(),
-    );
-    same(
-        &rt,
-        Uint::try_from_u8(alloc, u8::MAX)?.as_bytes(),
-        &high[..1],
-    );
-    same(
-        &rt,
-        Uint::try_from_u16(alloc, u16::MAX)?.as_bytes(),
-        &high[..2],
-    );
-    same(
-        &rt,
-        Uint::try_from_u32(alloc, u32::MAX)?.as_bytes(),
-        &high[..4],
-    );
-    same(
-        &rt,
-        Uint::try_from_u64(alloc, u64::MAX)?.as_bytes(),
-        &high[..8],
-    );
-    same(
-        &rt,
-        Uint::try_from_u128(alloc, u128::MAX)?.as_bytes(),
-        high.as_slice(),
-    );
-    Ok(())
+    holds(&rt, is_number(Uint::try_from_u128(alloc, u128::MAX), &high));
 }
 
 #[test]
@@ -360,29 +281,47 @@ fn any_value_is_taken_as_an_integer(rt: HostRuntime) -> Result<(), Fail> {
     Ok(())
 }
 
+/// The order of two numbers is that of their encodings.
+fn numbers_are_ordered(rt: &impl Abort, a: &Uint, b: &Uint, alloc: Global) -> Result<(), Error> {
+    let expected = a.to_der(alloc)?.as_slice().cmp(b.to_der(alloc)?.as_slice());
+    same(rt, a.der_cmp(b)?, expected);
+    same(rt, a.owned_to_ref().der_cmp(&b.owned_to_ref())?, expected);
+    same(rt, a == b, expected == Ordering::Equal);
+    Ok(())
+}
+
 #[test]
-fn order_is_that_of_encodings(rt: HostRuntime) -> Result<(), Fail> {
+fn numbers_are_ordered_by_encodings(rt: HostRuntime) -> Result<(), Fail> {
     let alloc = rt.alloc();
     let numbers = [0u32, 127, 128, 255, 256, 32767, 32768, 65535];
     for a in numbers {
+        let a = Uint::try_from_u32(alloc, a)?;
         for b in numbers {
-            let (a, b) = (Uint::try_from_u32(alloc, a)?, Uint::try_from_u32(alloc, b)?);
-            let expected = a.to_der(alloc)?.as_slice().cmp(b.to_der(alloc)?.as_slice());
-            same(&rt, a.der_cmp(&b)?, expected);
-            same(&rt, a.owned_to_ref().der_cmp(&b.owned_to_ref())?, expected);
-            same(&rt, a == b, expected == Ordering::Equal);
+            numbers_are_ordered(&rt, &a, &Uint::try_from_u32(alloc, b)?, alloc)?;
         }
     }
+    Ok(())
+}
+
+/// The order of two integers is that of their encodings.
+fn integers_are_ordered(rt: &impl Abort, a: &Int, b: &Int, alloc: Global) -> Result<(), Error> {
+    let expected = a.to_der(alloc)?.as_slice().cmp(b.to_der(alloc)?.as_slice());
+    same(rt, a.der_cmp(b)?, expected);
+    same(rt, a.owned_to_ref().der_cmp(&b.owned_to_ref())?, expected);
+    same(rt, a == b, expected == Ordering::Equal);
+    Ok(())
+}
+
+#[test]
+fn integers_are_ordered_by_encodings(rt: HostRuntime) -> Result<(), Fail> {
+    let alloc = rt.alloc();
     let integers = [
         -32768i32, -32767, -129, -128, -1, 0, 127, 128, 32767, 1, 256,
     ];
     for a in integers {
+        let a = Int::try_from_i32(alloc, a)?;
         for b in integers {
-            let (a, b) = (Int::try_from_i32(alloc, a)?, Int::try_from_i32(alloc, b)?);
-            let expected = a.to_der(alloc)?.as_slice().cmp(b.to_der(alloc)?.as_slice());
-            same(&rt, a.der_cmp(&b)?, expected);
-            same(&rt, a.owned_to_ref().der_cmp(&b.owned_to_ref())?, expected);
-            same(&rt, a == b, expected == Ordering::Equal);
+            integers_are_ordered(&rt, &a, &Int::try_from_i32(alloc, b)?, alloc)?;
         }
     }
     Ok(())

@@ -1,4 +1,4 @@
-use crate::tests::{holds, refusal, same, stays};
+use crate::tests::{holds, same, stays};
 use der_elem::{DerOrd, Duplicate, FixedTag, FromDer, ValueOrd};
 use der_opaque::{Any, AnyRef};
 use der_time::laws::{chronological, days_since_1970, equal_times, utc_chronological};
@@ -51,78 +51,11 @@ fn seconds_of_text(text: &str) -> u64 {
 }
 
 #[test]
-fn encodings_stay(rt: HostRuntime) -> Result<(), Fail> {
+fn encodings_stay(rt: HostRuntime) {
     let alloc = rt.alloc();
-    let generalized: [&[u8]; 4] = [
-        GENERALIZED,
-        b"\x18\x0f99991231235959Z",
-        b"\x18\x0f19700101000000Z",
-        b"\x18\x0f20000229120000Z",
-    ];
-    for octets in &generalized {
-        holds(&rt, stays::<GeneralizedTime>(alloc, *octets));
-        holds(&rt, stays::<DateTime>(alloc, *octets));
-    }
-    let utc: [&[u8]; 4] = [
-        UTC,
-        b"\x17\x0d700101000000Z",
-        b"\x17\x0d491231235959Z",
-        b"\x17\x0d000229235959Z",
-    ];
-    for octets in &utc {
-        holds(&rt, stays::<UtcTime>(alloc, *octets));
-    }
-    Ok(())
-}
-
-#[test]
-fn octets_of_no_generalized_time_are_refused(rt: HostRuntime) -> Result<(), Fail> {
-    let alloc = rt.alloc();
-    let refused: [(&[u8], u8); 17] = [
-        (b"\x18\x0f99991331235959Z", 13),
-        (b"\x18\x0f99991232235959Z", 13),
-        (b"\x18\x0f99991231245959Z", 13),
-        (b"\x18\x0f99991231236059Z", 13),
-        (b"\x18\x0f99991231235960Z", 13),
-        (b"\x18\x0f9x991231235959Z", 13),
-        (b"\x18\x0f999@1231235959Z", 14),
-        (b"\x18\x0f99x91231235959Z", 14),
-        (b"\x18\x0f99xx1331235959Z", 14),
-        (b"\x18\x0f99xx1231235959z", 13),
-        (b"\x18\x0e99xx123123595Z", 13),
-        (b"\x18\x0f19690101000000Z", 13),
-        (b"\x18\x0f21000229000000Z", 13),
-        (b"\x18\x0d991231235959Z", 13),
-        (b"\x18\x00", 13),
-        (b"\x18\x1119910506234540.5Z", 13),
-        (b"\x17\x0f19910506234540Z", 4),
-    ];
-    for row in &refused {
-        same(&rt, refusal::<GeneralizedTime>(alloc, row.0), row.1);
-        same(&rt, refusal::<DateTime>(alloc, row.0), row.1);
-    }
-    Ok(())
-}
-
-#[test]
-fn octets_of_no_utc_time_are_refused(rt: HostRuntime) -> Result<(), Fail> {
-    let alloc = rt.alloc();
-    let refused: [(&[u8], u8); 10] = [
-        (b"\x17\x0d500101000000Z", 13),
-        (b"\x17\x0d691231235959Z", 13),
-        (b"\x17\x0d911306234540Z", 13),
-        (b"\x17\x0d910532234540Z", 13),
-        (b"\x17\x0d910506244540Z", 13),
-        (b"\x17\x0d9x0506234540Z", 13),
-        (b"\x17\x0d910506234540z", 13),
-        (b"\x17\x0b9105062345Z", 13),
-        (b"\x17\x0f19910506234540Z", 13),
-        (b"\x18\x0d910506234540Z", 4),
-    ];
-    for row in &refused {
-        same(&rt, refusal::<UtcTime>(alloc, row.0), row.1);
-    }
-    Ok(())
+    holds(&rt, stays::<GeneralizedTime>(alloc, GENERALIZED));
+    holds(&rt, stays::<DateTime>(alloc, GENERALIZED));
+    holds(&rt, stays::<UtcTime>(alloc, UTC));
 }
 
 #[test]

@@ -23,7 +23,6 @@ fn tagged<T>(number: u32, tag_mode: TagMode, value: T) -> ContextSpecific<T> {
 fn reads_explicit_tagging(rt: HostRuntime) -> Result<(), Fail> {
     let alloc = rt.alloc();
     reads_back_in_order::<ContextSpecific<u8>>(&rt, alloc, &[0xa1, 0x03, 0x02, 0x01, 0x05])?;
-    reads_back_in_order::<ContextSpecific<u8>>(&rt, alloc, &[0xbf, 0x1f, 0x03, 0x02, 0x01, 0x05])?;
     reads_back_in_order::<Application<u8>>(&rt, alloc, &[0x61, 0x03, 0x02, 0x01, 0x05])?;
     reads_back_in_order::<Private<u8>>(&rt, alloc, &[0xe1, 0x03, 0x02, 0x01, 0x05])?;
     reads_back_in_order::<Vec<ContextSpecific<u8>>>(
@@ -37,34 +36,6 @@ fn reads_explicit_tagging(rt: HostRuntime) -> Result<(), Fail> {
         &[0xa0, 0x05, 0x62, 0x03, 0x01, 0x01, 0xff],
     )?;
     Ok(())
-}
-
-#[test]
-fn refuses_other_explicit_tagging(rt: HostRuntime) {
-    let alloc = rt.alloc();
-    let read = |octets: &[u8]| numbered(ContextSpecific::<u8>::from_der(alloc, octets)).err();
-    same(&rt, read(&[0x02, 0x01, 0x05]), Some(8));
-    same(&rt, read(&[0x81, 0x03, 0x02, 0x01, 0x05]), Some(8));
-    same(&rt, read(&[0x30, 0x00]), Some(4));
-    same(&rt, read(&[0x61, 0x03, 0x02, 0x01, 0x05]), Some(4));
-    same(&rt, read(&[0xa1, 0x03, 0x02, 0x01]), Some(2));
-    same(&rt, read(&[0xa1, 0x03, 0x02, 0x02, 0x05]), Some(2));
-    same(
-        &rt,
-        read(&[0xa0, 0x06, 0x02, 0x01, 0x05, 0x02, 0x01, 0x06]),
-        Some(3),
-    );
-    same(&rt, read(&[0xa1, 0x03, 0x01, 0x01, 0xff]), Some(4));
-    same(
-        &rt,
-        numbered(Application::<u8>::from_der(alloc, &[0xa1, 0x03, 0x02, 0x01, 0x05])).err(),
-        Some(4),
-    );
-    same(
-        &rt,
-        numbered(Application::<u8>::from_der(alloc, &[0xe1, 0x03, 0x02, 0x01, 0x05])).err(),
-        Some(4),
-    );
 }
 
 // The value of a field, and where the reader stands.
