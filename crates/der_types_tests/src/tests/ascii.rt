@@ -96,8 +96,17 @@ fn converts(rt: HostRuntime) -> Result<(), Fail> {
         text.as_str(),
         "hi hi PrintableString(\"hi\") PrintableString(\"hi\")",
     );
+    holds(&rt, AnyRef::from(hi) == AnyRef::from(&owned));
+    Ok(())
+}
+
+#[test]
+fn converts_from_any_value(rt: HostRuntime) -> Result<(), Fail> {
+    let alloc = rt.alloc();
+    let Ok(hi) = PrintableStringRef::new(b"hi") else {
+        return Err(Fail::from("refused"));
+    };
     let any = AnyRef::from(hi);
-    holds(&rt, any == AnyRef::from(&owned));
     let Ok(again) = PrintableStringRef::try_from(any) else {
         return Err(Fail::from("refused"));
     };
@@ -115,6 +124,12 @@ fn converts(rt: HostRuntime) -> Result<(), Fail> {
         &rt,
         matches!(PrintableStringRef::try_from(star), Err(e) if e.kind().number() == 13),
     );
+    Ok(())
+}
+
+#[test]
+fn converts_from_text(rt: HostRuntime) -> Result<(), Fail> {
+    let alloc = rt.alloc();
     let from_text = PrintableString::try_from(String::from_str(alloc, "hi")?);
     holds(&rt, numbered(from_text).is_ok());
     let refused = PrintableString::try_from(String::from_str(alloc, "a*b")?);

@@ -117,6 +117,14 @@ fn owned_strings_answer_as_borrowed_ones(rt: HostRuntime) -> Result<(), Fail> {
         string.to_der(alloc)?.as_slice(),
         EIGHTEEN_BITS.as_slice(),
     );
+    Ok(())
+}
+
+#[test]
+fn owned_strings_are_copied(rt: HostRuntime) -> Result<(), Fail> {
+    let alloc = rt.alloc();
+    let octets = [0x6e, 0x5d, 0xc0].as_slice().to_vec(alloc)?;
+    let string = BitString::new(6, octets)?;
     let copy = string.duplicate()?;
     holds(&rt, copy == string);
     let clone = string.clone()?;
@@ -127,6 +135,12 @@ fn owned_strings_answer_as_borrowed_ones(rt: HostRuntime) -> Result<(), Fail> {
         &rt,
         string.as_bit_string_ref() == BitStringRef::from(&string),
     );
+    Ok(())
+}
+
+#[test]
+fn owned_strings_are_made_of_octets(rt: HostRuntime) -> Result<(), Fail> {
+    let alloc = rt.alloc();
     let whole = BitString::from_bytes(alloc, &[0x01, 0x02])?;
     holds(&rt, whole.as_bytes() == Some([0x01, 0x02].as_slice()));
     let bad = [0x81].as_slice().to_vec(alloc)?;
@@ -159,6 +173,12 @@ fn order_is_that_of_contents_octets(rt: HostRuntime) -> Result<(), Fail> {
     holds(&rt, one.value_cmp(&other)? == Ordering::Less);
     holds(&rt, one.der_cmp(&other)? == Ordering::Less);
     holds(&rt, one < other);
+    Ok(())
+}
+
+#[test]
+fn order_of_borrowed_strings_is_that_of_owned_ones(rt: HostRuntime) -> Result<(), Fail> {
+    let alloc = rt.alloc();
     let greater = BitString::from_bytes(alloc, &[0x01, 0x02, 0x04])?;
     let less = BitString::from_bytes(alloc, &[0x01, 0x02, 0x03])?;
     holds(&rt, greater.value_cmp(&less)? == Ordering::Greater);

@@ -93,7 +93,7 @@ fn no_octets_are_refused(rt: HostRuntime) {
 }
 
 #[test]
-fn borrowed_and_owned_agree(rt: HostRuntime) -> Result<(), Fail> {
+fn borrowed_and_owned_integers_agree(rt: HostRuntime) -> Result<(), Fail> {
     let alloc = rt.alloc();
     let int = Int::new(alloc, &[0x00, 0x80])?;
     let int_ref = int.owned_to_ref();
@@ -107,6 +107,12 @@ fn borrowed_and_owned_agree(rt: HostRuntime) -> Result<(), Fail> {
     holds(&rt, int_ref.ref_to_owned(alloc)? == int);
     holds(&rt, int.duplicate()? == int);
     holds(&rt, int.clone()? == int);
+    Ok(())
+}
+
+#[test]
+fn borrowed_and_owned_numbers_agree(rt: HostRuntime) -> Result<(), Fail> {
+    let alloc = rt.alloc();
     let uint = Uint::new(alloc, &[0x00, 0x80])?;
     let uint_ref = uint.owned_to_ref();
     same(&rt, uint.len(), Length::ONE);

@@ -144,6 +144,12 @@ fn makes_bmp_of_texts(rt: HostRuntime) -> Result<(), Fail> {
         text.as_str(),
         "CertificateTemplate BmpString(\"CertificateTemplate\")",
     );
+    Ok(())
+}
+
+#[test]
+fn makes_bmp_of_characters_of_two_octets(rt: HostRuntime) -> Result<(), Fail> {
+    let alloc = rt.alloc();
     let past = numbered(BmpString::from_utf8(alloc, "a\u{1f600}"));
     same(&rt, past.err(), Some(13));
     let mixed = numbered(BmpString::from_utf8(alloc, "é\u{ffff}"))?;
@@ -172,6 +178,13 @@ fn makes_bmp_of_octets(rt: HostRuntime) -> Result<(), Fail> {
         (chars.next(), chars.next(), chars.len()),
         (Some('i'), None, 0),
     );
+    Ok(())
+}
+
+#[test]
+fn bmp_is_copied(rt: HostRuntime) -> Result<(), Fail> {
+    let alloc = rt.alloc();
+    let hi = numbered(BmpString::from_utf8(alloc, "hi"))?;
     holds(&rt, hi.clone()? == hi);
     holds(&rt, numbered(hi.clone_from_ref(alloc))? == hi);
     same(
@@ -179,6 +192,12 @@ fn makes_bmp_of_octets(rt: HostRuntime) -> Result<(), Fail> {
         hi.into_bytes().as_slice(),
         [0x00, 0x68, 0x00, 0x69].as_slice(),
     );
+    Ok(())
+}
+
+#[test]
+fn units_of_no_character_are_refused(rt: HostRuntime) -> Result<(), Fail> {
+    let alloc = rt.alloc();
     let odd = numbered(BmpString::from_ucs2([0xd8, 0x00, 0x00].to_vec(alloc)?));
     same(&rt, odd.err(), Some(7));
     let surrogate = numbered(BmpString::from_ucs2([0x00, 0x41, 0xd8, 0x00].to_vec(alloc)?));
