@@ -13,6 +13,7 @@ from .parser import parse_module
 from .resolver import resolve
 from .syntax import Module
 from .writer.crate import MARK, files_of_crate
+from .writer.holders import hold_tagged
 from .writer.orders import items_of_sets
 from .writer.plan import Plan, Target
 from .writer.splitting import split_choices
@@ -54,6 +55,7 @@ def write_all(path: Path, with_remarks: bool) -> dict[str, str]:
     for module, entry in zip(modules, entries):
         check_entry(module, entry)
     split_choices(resolved)
+    hold_tagged(resolved)
     targets = {module.name: Target(entry.crate, entry.module) for module, entry in zip(resolved, entries)}
     plan = Plan(targets, items_of_sets(resolved))
     found: dict[str, str] = {}

@@ -87,6 +87,7 @@ class Tagged:
     tag: Tag
     is_explicit: bool
     of: "Resolved"
+    holder: "Struct | None" = None  # the struct that holds it with its tag, where it has one of its own
 
 
 @dataclass(frozen=True)
@@ -168,6 +169,7 @@ class Struct(Definition):
     fields: tuple[Field, ...] = ()
     declared: tuple[Field, ...] = ()  # in the order in which they are written
     tag: Tag | None = None  # in place of that of SEQUENCE or SET
+    is_holder: bool = False  # of a value and the explicit tag before it: no user meets it
 
 
 @dataclass(eq=False)
@@ -205,6 +207,12 @@ class Alias(Definition):
     type: Resolved | None = None
     numbers: tuple[Named, ...] = ()
     bits: tuple[Named, ...] = ()
+
+
+def is_within(definition: Definition) -> bool:
+    """Whether a definition is only a part of others', and has no name in the module: a half, or a holder."""
+    is_half = isinstance(definition, Choice) and definition.is_half
+    return is_half or (isinstance(definition, Struct) and definition.is_holder)
 
 
 @dataclass(frozen=True)

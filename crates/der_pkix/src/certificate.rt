@@ -4,6 +4,7 @@
 
 mod aliases;
 mod certificate;
+mod explicit3_extensions;
 mod extension;
 mod extensions;
 pub mod laws;

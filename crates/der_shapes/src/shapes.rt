@@ -6,6 +6,8 @@ mod algorithm;
 mod aliases;
 mod attribute;
 mod distinguished;
+mod explicit3_extensions;
+mod explicit5_general;
 mod extension;
 mod extensions;
 mod general;

@@ -18,6 +18,7 @@ from ..writer.alternatives import at, depth
 from ..writer.crate import files_of_crate
 from ..writer.fields import places
 from ..writer.grammar import GrammarPage
+from ..writer.holders import hold_tagged
 from ..writer.orders import items_of_sets
 from ..writer.plan import Plan, Target
 from ..writer.splitting import split_choices
@@ -28,6 +29,7 @@ def written(*texts: str) -> dict[str, str]:
     """The files of modules, before they are laid out."""
     found, _ = resolved(*texts)
     split_choices(found)
+    hold_tagged(found)
     targets = {module.name: Target("der_test", f"module{i}" if i else "test") for i, module in enumerate(found)}
     plan = Plan(targets, items_of_sets(found))
     return files_of_crate(plan, found)
@@ -39,6 +41,43 @@ def grammar(body: str, tags: str = "") -> dict[str, str]:
     text = GrammarPage(Plan({found[0].name: Target("der_test", "test")}), found[0]).text()
     terms = re.findall(r"^(\w+) =\s+((?:.|\n )+)", text, re.M)
     return {name: " ".join(term.split()) for name, term in terms}
+
+
+class Holders(unittest.TestCase):
+    """A value after an explicit tag that is not copied is held by a struct of its own, which no user meets."""
+
+    BODY = """I ::= SEQUENCE OF BOOLEAN
+        S ::= SEQUENCE { a [3] EXPLICIT I OPTIONAL, b [4] EXPLICIT BOOLEAN, c [5] EXPLICIT I }
+        T ::= SEQUENCE { a [3] EXPLICIT I }"""
+
+    def setUp(self) -> None:
+        self.files = written(module_of(self.BODY))
+
+    def test_there_is_one_for_a_tag_and_a_type(self) -> None:
+        self.assertIn("Fields3<Option<Explicit3I>, Explicit<bool, 4>, Explicit5I>", self.files["src/test/s.rt"])
+        self.assertIn("Fields1<Explicit3I>", self.files["src/test/t.rt"])
+        held = [name for name in self.files if "explicit" in name]
+        self.assertEqual(held, ["src/test/explicit3_i.rt", "src/test/explicit5_i.rt"])
+
+    def test_it_has_the_tag_and_the_field_alone(self) -> None:
+        text = self.files["src/test/explicit3_i.rt"]
+        self.assertIn("type Marker = ExplicitTag<3>;", text)
+        self.assertIn("type Fields = Fields1<I>;", text)
+        self.assertNotIn("pub fn", text)
+
+    def test_it_has_no_name_outside(self) -> None:
+        root = self.files["src/test.rt"]
+        self.assertIn("mod explicit3_i;", root)
+        for name in ("src/test/laws.rt", "specs/Test.antt", "specs/Test/Grammar.antt", "src/parts.rt"):
+            self.assertNotIn("Explicit3", self.files[name])
+        self.assertNotIn("Explicit3", root)
+
+    def test_what_users_see_stands_after_the_tag(self) -> None:
+        text = self.files["src/test/s.rt"]
+        self.assertIn("pub fn new(a: Option<I>, b: bool, c: I) -> S", text)
+        self.assertIn("pub fn a(&self) -> Option<&I>", text)
+        self.assertIn("pub fn c(&self) -> &I", text)
+        self.assertIn("v.fields.list.rest.rest.first.fields.list.first", self.files["specs/Test/S.antt"])
 
 
 class Pieces(unittest.TestCase):

@@ -110,7 +110,7 @@ def write_definition(plan: Plan, definition: Definition) -> str:
 
 def write_page(plan: Plan, definition: Definition) -> str | None:
     if isinstance(definition, Struct):
-        return write_struct_page(plan, definition)
+        return None if definition.is_holder else write_struct_page(plan, definition)
     if isinstance(definition, Choice):
         return write_choice_page(plan, definition)
     if isinstance(definition, List):
@@ -125,6 +125,8 @@ def root(plan: Plan, module: ResolvedModule) -> str:
     by_file: dict[str, list[str]] = {}
     for definition in module.definitions:
         names = by_file.setdefault(plan.file(definition), [])
+        if isinstance(definition, Struct) and definition.is_holder:
+            continue
         names.append(definition.rust)
         if definition in plan.ordered:
             names.append(order_name(definition))
@@ -136,6 +138,8 @@ def root(plan: Plan, module: ResolvedModule) -> str:
     lines += ["pub mod constants;"] if module.constants else []
     lines += ["pub mod laws;", ""]
     for name, names in sorted(by_file.items()):
+        if not names:
+            continue
         listed = names[0] if len(names) == 1 else "{" + ", ".join(sorted(names)) + "}"
         lines.append(f"pub use {name}::{listed};")
     return "\n".join(lines) + "\n"

@@ -4,7 +4,7 @@ from __future__ import annotations
 
 import textwrap
 
-from ..model import Choice, Definition
+from ..model import Choice, Definition, Struct
 from ..properties import properties_of_definition
 
 WIDTH = 100
@@ -38,6 +38,8 @@ def inner_words(definition: Definition) -> str:
     """What a type is that no assignment has."""
     if isinstance(definition, Choice) and definition.is_half:
         return f"{definition.name[0].upper()}{definition.name[1:]}, as one of which a value is read."
+    if isinstance(definition, Struct) and definition.is_holder:
+        return f"`{definition.name}`, as which a field is read and written."
     return f"A type that is written out within another, as `{definition.name}`."
 
 

@@ -24,6 +24,7 @@ from ..model import (
     Tagged,
     Use,
     Whole,
+    is_within,
 )
 from ..resolver.classes import follow, type_of_field
 from ..scope import Env, Library
@@ -89,7 +90,7 @@ class GrammarPage:
             found.append(definition)
 
         for definition in self.module.definitions:
-            if not (isinstance(definition, Choice) and definition.is_half):
+            if not is_within(definition):
                 visit(definition)
         return found
 

@@ -276,7 +276,9 @@ class Laws:
 
 
 def named(type_: Resolved) -> Resolved:
-    """A type after second names."""
+    """A type after second names; of a value that is held with its tag what holds it."""
+    if isinstance(type_, Tagged) and type_.holder is not None:
+        return Use(type_.holder)
     while isinstance(type_, Use) and isinstance(type_.definition, Alias):
         assert type_.definition.type is not None
         type_ = type_.definition.type

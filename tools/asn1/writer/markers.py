@@ -39,7 +39,10 @@ MARKERS = {
 
 
 def of_definition(source: Source, definition: Struct | List | Enumeration) -> str:
-    """The marker of a type that is written: its own tag's, or an implicit one in its place."""
+    """The marker of a type that is written: its own tag's, or another in its place."""
+    if isinstance(definition, Struct) and definition.is_holder:
+        assert definition.tag is not None
+        return explicit(source, definition.tag)
     if isinstance(definition, Enumeration):
         own = source.use("EnumeratedTag")
     else:
@@ -49,6 +52,10 @@ def of_definition(source: Source, definition: Struct | List | Enumeration) -> st
 
 def implicit(source: Source, own: str, tag: Tag) -> str:
     return f"{source.use(tagging(tag, False) + 'Tag')}<{own}, {tag.number}>"
+
+
+def explicit(source: Source, tag: Tag) -> str:
+    return f"{source.use(tagging(tag, True) + 'Tag')}<{tag.number}>"
 
 
 def of_type(source: Source, type_: Resolved) -> str:
@@ -61,7 +68,7 @@ def of_type(source: Source, type_: Resolved) -> str:
         return source.use("SetTag" if type_.is_set else "SequenceTag")
     if isinstance(type_, Tagged):
         if type_.is_explicit:
-            return f"{source.use(tagging(type_.tag, True) + 'Tag')}<{type_.tag.number}>"
+            return explicit(source, type_.tag)
         return implicit(source, of_type(source, type_.of), type_.tag)
     if isinstance(type_, Kept):
         return of_type(source, type_.of)

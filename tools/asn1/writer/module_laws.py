@@ -2,7 +2,7 @@
 
 from __future__ import annotations
 
-from ..model import Choice, Definition, Enumeration, Leaf, Presence, Resolved, ResolvedModule, Struct, Tagged, Use, Whole
+from ..model import Definition, Enumeration, Leaf, Presence, Resolved, ResolvedModule, Struct, Tagged, Use, Whole, is_within
 from ..properties import properties_of_definition
 from ..spelling import snake
 from . import docs
@@ -33,7 +33,7 @@ def write_laws(plan: Plan, module: ResolvedModule) -> str:
 
 def names_of_laws(definition: Definition) -> list[str]:
     """The names of a type's laws."""
-    if isinstance(definition, Choice) and definition.is_half:
+    if is_within(definition):
         return []
     has_fields = isinstance(definition, Struct) and not definition.by_hand
     octets = [f"octets_of_{snake(definition.rust)}"] if has_fields else []

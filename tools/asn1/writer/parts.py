@@ -7,7 +7,7 @@ from dataclasses import dataclass
 from typing import Union
 
 from ..errors import AsnError
-from ..model import Alias, Choice, Definition, Kept, List, Listed, Presence, ResolvedModule, Resolved, Struct, Tagged, Use
+from ..model import Alias, Choice, Definition, Kept, List, Listed, Presence, ResolvedModule, Resolved, Struct, Tagged, Use, is_within
 from ..properties import identifier_octet
 from ..spelling import camel, screaming
 from .plan import Plan
@@ -106,7 +106,7 @@ def parts_of(modules: list[ResolvedModule]) -> list[Part]:
     found: dict[Part, None] = {}
     for module in modules:
         for definition in module.definitions:
-            if isinstance(definition, Choice) and definition.is_half:
+            if is_within(definition):
                 continue
             reach(found, standing("", Use(definition), is_told=False))
     return list(found)

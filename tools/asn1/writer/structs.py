@@ -33,8 +33,9 @@ def write_struct(plan: Plan, struct: Struct) -> str:
     types = [member.list_type(source) for member in members]
     source.add(f"/// The list of the fields.\ntype Fields{lifetime} = {list_type(source, types)};")
     source.add(declaration(struct, lifetime))
-    source.add(own_calls(source, struct, members, lifetime))
-    source.add(shown(source, struct, members, lifetime))
+    if not struct.is_holder:
+        source.add(own_calls(source, struct, members, lifetime))
+        source.add(shown(source, struct, members, lifetime))
     one_tag(source, struct, struct.rust + lifetime, lifetime, markers.of_definition(source, struct))
     whole = f"Fields{lifetime}"
     turbofish = f"Fields::{lifetime}" if lifetime else "Fields"
@@ -47,7 +48,8 @@ def write_struct(plan: Plan, struct: Struct) -> str:
     value_order(source, struct.rust + lifetime, lifetime, "self.fields.cmp_fields(&other.fields)", "FieldsOrd")
     equality_and_copies(source, struct, lifetime)
     write_order(source, struct)
-    add_laws(source, struct)
+    if not struct.is_holder:
+        add_laws(source, struct)
     return source.text(first_lines(struct))
 
 
@@ -65,6 +67,8 @@ def equality_and_copies(source: Source, struct: Struct, lifetime: str) -> None:
 
 
 def first_lines(struct: Struct) -> list[str]:
+    if struct.is_holder:
+        return [f"//! {struct.name}, a value with its tag."]
     kind = "SET" if struct.is_set else "SEQUENCE"
     return [f"//! {struct.name}, a {kind} of {len(struct.fields)} field{'s' if len(struct.fields) != 1 else ''}."]
 
@@ -73,7 +77,7 @@ def declaration(struct: Struct, lifetime: str) -> str:
     more = ["The fields are encoded in the order of their tags (X.690 10.3)."] if struct.is_set else []
     return (
         f"{docs.of_definition(struct, *more, docs.errors(struct))}\n{derives(struct, is_shown=False)}\n"
-        f"pub struct {struct.rust}{lifetime} {{\n    fields: Fields{lifetime},\n}}"
+        f"pub struct {struct.rust}{lifetime} {{\n    {'pub(crate) ' if struct.is_holder else ''}fields: Fields{lifetime},\n}}"
     )
 
 

@@ -36,6 +36,8 @@ def rust_type(source: Source, type_: Resolved) -> str:
         found = f"{source.use('ItemSet')}<{item}, {order_of(source, type_.item)}>" if type_.is_set else f"Vec<{item}>"
         return f"{source.use('NonEmpty')}<{found}>" if type_.is_never_empty else found
     if isinstance(type_, Tagged):
+        if type_.holder is not None:
+            return rust_type(source, Use(type_.holder))
         return f"{source.use(tagging(type_.tag, type_.is_explicit))}<{rust_type(source, type_.of)}, {type_.tag.number}>"
     return f"{source.use('Kept')}<'a, {rust_type(source, type_.of)}>"
 
@@ -78,9 +80,16 @@ def way(type_: Resolved) -> str:
     """The way from a type to what stands after its tags, in code and in the logic."""
     path = ""
     while isinstance(type_, Tagged):
-        path += ".fields.first" if type_.is_explicit else ".value"
+        path += way_after(type_)
         type_ = type_.of
     return path if enumeration_of(type_) is None else path + ".value"
+
+
+def way_after(type_: Tagged) -> str:
+    """The way through one tag."""
+    if type_.holder is not None:
+        return ".fields.list.first"
+    return ".fields.first" if type_.is_explicit else ".value"
 
 
 def inner_name(type_: Resolved) -> str:
@@ -98,6 +107,9 @@ def wrapped(source: Source, type_: Resolved, value: str) -> str:
     member = name if inner == name else f"{name}: {inner}"
     if type_.is_explicit:
         alone = f"{source.use('Field')} {{ {member}, rest: {source.use('End')} }}"
+        if type_.holder is not None:
+            fields = f"{source.use('Fields1')} {{ list: {alone} }}"
+            return f"{source.use_type(type_.holder)} {{ fields: {fields} }}"
         return f"{source.use(tagging(type_.tag, True))} {{ fields: {alone} }}"
     return f"{source.use(tagging(type_.tag, False))} {{ {member} }}"
 
@@ -126,6 +138,8 @@ def logic_type(page: Page, type_: Resolved) -> str:
         item = closed(logic_type(page, type_.item))
         return f"{page.logic('List')} {item}" if type_.is_set else f"{page.logic('Vec')} {item} {page.logic('Global')}"
     if isinstance(type_, Tagged):
+        if type_.holder is not None:
+            return page.logic_type(type_.holder)
         return logic_tagged(page, type_.tag, type_.is_explicit, closed(logic_type(page, type_.of)))
     return f"{page.logic('Kept')} {closed(logic_type(page, type_.of))}"
 

@@ -7,27 +7,27 @@ ghost use Rattle.der_bits.specs.contracts.named_bits.NamedBitsRefContentsEq.TheI
 ghost use Rattle.der_elem.specs.FormatMakers.{mapped_format};
 ghost use Rattle.der_extensions.specs.Extension.DistributionPoint as distribution_point_fields;
 ghost use Rattle.der_extensions.specs.Extension.Grammar.{distribution_point};
-ghost use Rattle.der_extensions.specs.contracts.extension.distribution_point_name.DistributionPointNameDuplicate.TheImpl.Laws as distribution_point_name_duplicate;
-ghost use Rattle.der_extensions.specs.contracts.extension.distribution_point_name.DistributionPointNameDuplicateIsEqual.TheImpl.Laws as distribution_point_name_duplicate_is_equal;
-ghost use Rattle.der_extensions.specs.contracts.extension.distribution_point_name.DistributionPointNameEncodingEq.TheImpl.Laws as distribution_point_name_encoding_eq;
-ghost use Rattle.der_extensions.specs.contracts.extension.distribution_point_name.DistributionPointNameTagged.TheImpl.Laws as distribution_point_name_tagged;
+ghost use Rattle.der_extensions.specs.contracts.extension.explicit0_distribution_point_name.Explicit0DistributionPointNameContentsEq.TheImpl.Laws as explicit0_distribution_point_name_contents_eq;
+ghost use Rattle.der_extensions.specs.contracts.extension.explicit0_distribution_point_name.Explicit0DistributionPointNameDuplicateValue.TheImpl.Laws as explicit0_distribution_point_name_duplicate_value;
+ghost use Rattle.der_extensions.specs.contracts.extension.explicit0_distribution_point_name.Explicit0DistributionPointNameDuplicateValueIsEqual.TheImpl.Laws as explicit0_distribution_point_name_duplicate_value_is_equal;
 ghost use Rattle.der_extensions.specs.contracts.extension.general_names.GeneralNamesContentsEq.TheImpl.Laws as general_names_contents_eq;
 ghost use Rattle.der_extensions.specs.contracts.extension.general_names.GeneralNamesDuplicateValue.TheImpl.Laws as general_names_duplicate_value;
 ghost use Rattle.der_extensions.specs.contracts.extension.general_names.GeneralNamesDuplicateValueIsEqual.TheImpl.Laws as general_names_duplicate_value_is_equal;
 ghost use Rattle.der_extensions.specs.declared.extension.distribution_point.DistributionPoint.{DistributionPoint};
 ghost use Rattle.der_modules.specs.Asn1.{context, explicit_encoding, implicit_encoding, joined, optional, parse_of};
-ghost use Rattle.der_modules.specs.MemberLaws.{copies_of, held_copies, listed_copies, member_copies, member_equality, no_copies, no_equality, one_tag, one_tag_copies, one_tag_equality, optional_copies, optional_equality, optional_starts, own_tags, same_copies, tagged_starts};
+ghost use Rattle.der_modules.specs.MemberLaws.{copies_of, held_copies, listed_copies, member_copies, member_equality, no_copies, no_equality, one_tag, one_tag_copies, one_tag_equality, optional_copies, optional_equality, optional_starts, same_copies};
 
 use crate::extension::aliases::ReasonFlags;
 use crate::extension::distribution_point_name::DistributionPointName;
+use crate::extension::explicit0_distribution_point_name::Explicit0DistributionPointName;
 use crate::extension::general_names::GeneralNames;
 use der_bits::NamedBitsRef;
 use der_elem::{
     BitStringTag, ContentsEq, DecodeValue, DuplicateValue, DuplicateValueIsEqual, EncodeValue,
-    Form, FormValue, OneTag, Sequence, SequenceTag, TagMarker, Tagged, ValueOrd,
+    Form, FormValue, OneTag, Sequence, SequenceTag, TagMarker, ValueOrd,
 };
 use der_fields::{
-    DecodeFields, DuplicateFields, EncodeFields, End, Explicit, ExplicitTag, Field, FieldList,
+    DecodeFields, DuplicateFields, EncodeFields, End, ExplicitTag, Field, FieldList, Fields1,
     Fields3, FieldsOrd, Implicit, ImplicitTag,
 };
 use der_modules::CopyLaws;
@@ -38,7 +38,7 @@ use std::fmt;
 
 /// The list of the fields.
 type Fields<'a> = Fields3<
-    Option<Explicit<DistributionPointName<'a>, 0>>,
+    Option<Explicit0DistributionPointName<'a>>,
     Option<Implicit<ReasonFlags<'a>, 1>>,
     Option<Implicit<GeneralNames<'a>, 2>>,
 >;
@@ -82,8 +82,10 @@ impl<'a> DistributionPoint<'a> {
         };
         let rest = Field { first, rest };
         let first = match distribution_point {
-            Some(first) => Some(Explicit {
-                fields: Field { first, rest: End },
+            Some(first) => Some(Explicit0DistributionPointName {
+                fields: Fields1 {
+                    list: Field { first, rest: End },
+                },
             }),
             None => None,
         };
@@ -118,7 +120,7 @@ impl<'a> DistributionPoint<'a> {
             ..
         } = rest;
         let distribution_point = match distribution_point {
-            Some(tagged) => Some(tagged.fields.first),
+            Some(tagged) => Some(tagged.fields.list.first),
             None => None,
         };
         let reasons = match reasons {
@@ -137,7 +139,7 @@ impl<'a> DistributionPoint<'a> {
         ensures { option_copied result ≡ distribution_point_fields.distribution_point self.now }
     {
         match &self.fields.list.first {
-            Some(value) => Some(&value.fields.first),
+            Some(value) => Some(&value.fields.list.first),
             None => None,
         }
     }
@@ -225,14 +227,10 @@ impl<'a> ValueOrd for DistributionPoint<'a> {
 }
 
 impl<'a> ContentsEq for DistributionPoint<'a> {
-    ghost contents_eq = { λ v w. (member_equality ⟦<Option<Explicit<DistributionPointName<'a>, 0>> as Form>⟧
-        (optional_starts ⟦<Explicit<DistributionPointName<'a>, 0> as Form>⟧ (one_tag ⟦<ExplicitTag<0> as TagMarker>⟧.TAG ⟦<Explicit<DistributionPointName<'a>, 0> as FormValue>⟧.value.contents))
-        ⟦<Option<Explicit<DistributionPointName<'a>, 0>> as PartialEq>⟧.eq
-        (optional_equality ⟦<Explicit<DistributionPointName<'a>, 0> as Form>⟧ (one_tag ⟦<ExplicitTag<0> as TagMarker>⟧.TAG ⟦<Explicit<DistributionPointName<'a>, 0> as FormValue>⟧.value.contents) ⟦<Explicit<DistributionPointName<'a>, 0> as PartialEq>⟧.eq (one_tag_equality ⟦<ExplicitTag<0> as TagMarker>⟧.TAG ⟦<Explicit<DistributionPointName<'a>, 0> as FormValue>⟧.value.contents ⟦<Explicit<DistributionPointName<'a>, 0> as FormValue>⟧.value.comparable ⟦<Explicit<DistributionPointName<'a>, 0> as PartialEq>⟧.eq (λ v w. ((member_equality ⟦<DistributionPointName<'a> as Form>⟧
-        (tagged_starts ⟦<DistributionPointName<'a> as Form>⟧ (own_tags ⟦<DistributionPointName<'a> as Form>⟧.tags ⟦<DistributionPointName<'a> as Form>⟧.first_tag_of ⟦<DistributionPointName<'a> as Form>⟧.encoding ⟦<DistributionPointName<'a> as Tagged>⟧.tag_of ⟦<DistributionPointName<'a> as FormValue>⟧.value.contents distribution_point_name_tagged.encoding_is-law distribution_point_name_tagged.own_tag-law distribution_point_name_tagged.first_tag_is-law))
-        ⟦<DistributionPointName<'a> as PartialEq>⟧.eq
-        distribution_point_name_encoding_eq.encoding_eq-law
-        no_equality).equal v.fields w.fields))))
+    ghost contents_eq = { λ v w. (member_equality ⟦<Option<Explicit0DistributionPointName<'a>> as Form>⟧
+        (optional_starts ⟦<Explicit0DistributionPointName<'a> as Form>⟧ (one_tag ⟦<ExplicitTag<0> as TagMarker>⟧.TAG ⟦<Explicit0DistributionPointName<'a> as FormValue>⟧.value.contents))
+        ⟦<Option<Explicit0DistributionPointName<'a>> as PartialEq>⟧.eq
+        (optional_equality ⟦<Explicit0DistributionPointName<'a> as Form>⟧ (one_tag ⟦<ExplicitTag<0> as TagMarker>⟧.TAG ⟦<Explicit0DistributionPointName<'a> as FormValue>⟧.value.contents) ⟦<Explicit0DistributionPointName<'a> as PartialEq>⟧.eq (one_tag_equality ⟦<ExplicitTag<0> as TagMarker>⟧.TAG ⟦<Explicit0DistributionPointName<'a> as FormValue>⟧.value.contents ⟦<Explicit0DistributionPointName<'a> as FormValue>⟧.value.comparable ⟦<Explicit0DistributionPointName<'a> as PartialEq>⟧.eq explicit0_distribution_point_name_contents_eq.contents_eq-law))
         (member_equality ⟦<Option<Implicit<ReasonFlags<'a>, 1>> as Form>⟧
         (optional_starts ⟦<Implicit<ReasonFlags<'a>, 1> as Form>⟧ (one_tag ⟦<ImplicitTag<BitStringTag, 1> as TagMarker>⟧.TAG ⟦<Implicit<ReasonFlags<'a>, 1> as FormValue>⟧.value.contents))
         ⟦<Option<Implicit<ReasonFlags<'a>, 1>> as PartialEq>⟧.eq
@@ -246,12 +244,9 @@ impl<'a> ContentsEq for DistributionPoint<'a> {
 
 impl<'a> CopyLaws for DistributionPoint<'a> {
     ghost copies = { copies_of (held_copies (λ v. v.fields.list)
-        (listed_copies (member_copies ⟦<Option<Explicit<DistributionPointName<'a>, 0>> as Form>⟧
-        (optional_starts ⟦<Explicit<DistributionPointName<'a>, 0> as Form>⟧ (one_tag ⟦<ExplicitTag<0> as TagMarker>⟧.TAG ⟦<Explicit<DistributionPointName<'a>, 0> as FormValue>⟧.value.contents))
-        (optional_copies ⟦<Explicit<DistributionPointName<'a>, 0> as Form>⟧ (one_tag_copies ⟦<ExplicitTag<0> as TagMarker>⟧.TAG (held_copies (λ x. x.fields) (listed_copies (member_copies ⟦<DistributionPointName<'a> as Form>⟧
-        (tagged_starts ⟦<DistributionPointName<'a> as Form>⟧ (own_tags ⟦<DistributionPointName<'a> as Form>⟧.tags ⟦<DistributionPointName<'a> as Form>⟧.first_tag_of ⟦<DistributionPointName<'a> as Form>⟧.encoding ⟦<DistributionPointName<'a> as Tagged>⟧.tag_of ⟦<DistributionPointName<'a> as FormValue>⟧.value.contents distribution_point_name_tagged.encoding_is-law distribution_point_name_tagged.own_tag-law distribution_point_name_tagged.first_tag_is-law))
-        (record { octets_are = distribution_point_name_duplicate.copy_encoding-law; comparable_are = distribution_point_name_duplicate.copy_comparable-law; re_reads_are = distribution_point_name_duplicate.copy_re_reads-law; equal_are = distribution_point_name_duplicate_is_equal.copy_is_equal-law })
-        no_copies)))))
+        (listed_copies (member_copies ⟦<Option<Explicit0DistributionPointName<'a>> as Form>⟧
+        (optional_starts ⟦<Explicit0DistributionPointName<'a> as Form>⟧ (one_tag ⟦<ExplicitTag<0> as TagMarker>⟧.TAG ⟦<Explicit0DistributionPointName<'a> as FormValue>⟧.value.contents))
+        (optional_copies ⟦<Explicit0DistributionPointName<'a> as Form>⟧ (one_tag_copies ⟦<ExplicitTag<0> as TagMarker>⟧.TAG (record { octets_are = explicit0_distribution_point_name_duplicate_value.copy_contents-law; comparable_are = explicit0_distribution_point_name_duplicate_value.copy_comparable_value-law; re_reads_are = explicit0_distribution_point_name_duplicate_value.copy_re_reads_value-law; equal_are = explicit0_distribution_point_name_duplicate_value_is_equal.copy_value_is_equal-law })))
         (member_copies ⟦<Option<Implicit<ReasonFlags<'a>, 1>> as Form>⟧
         (optional_starts ⟦<Implicit<ReasonFlags<'a>, 1> as Form>⟧ (one_tag ⟦<ImplicitTag<BitStringTag, 1> as TagMarker>⟧.TAG ⟦<Implicit<ReasonFlags<'a>, 1> as FormValue>⟧.value.contents))
         (optional_copies ⟦<Implicit<ReasonFlags<'a>, 1> as Form>⟧ (one_tag_copies ⟦<ImplicitTag<BitStringTag, 1> as TagMarker>⟧.TAG (held_copies (λ x. x.value) (same_copies ⟦<NamedBitsRef<'a> as FormValue>⟧.value.contents ⟦<NamedBitsRef<'a> as FormValue>⟧.value.comparable ⟦<NamedBitsRef<'a> as FormValue>⟧.value.re_reads ⟦<NamedBitsRef<'a> as PartialEq>⟧.eq (λ v. (namedbitsref_contents_eq.contents_eq-law v v tt).1 refl)))))

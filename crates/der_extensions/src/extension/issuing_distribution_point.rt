@@ -8,24 +8,24 @@ ghost use Rattle.der_elem.specs.FormatMakers.{mapped_format};
 ghost use Rattle.der_elem.specs.contracts.boolean.BoolContentsEq.TheImpl.Laws as bool_contents_eq;
 ghost use Rattle.der_extensions.specs.Extension.Grammar.{issuing_distribution_point};
 ghost use Rattle.der_extensions.specs.Extension.IssuingDistributionPoint as issuing_distribution_point_fields;
-ghost use Rattle.der_extensions.specs.contracts.extension.distribution_point_name.DistributionPointNameDuplicate.TheImpl.Laws as distribution_point_name_duplicate;
-ghost use Rattle.der_extensions.specs.contracts.extension.distribution_point_name.DistributionPointNameDuplicateIsEqual.TheImpl.Laws as distribution_point_name_duplicate_is_equal;
-ghost use Rattle.der_extensions.specs.contracts.extension.distribution_point_name.DistributionPointNameEncodingEq.TheImpl.Laws as distribution_point_name_encoding_eq;
-ghost use Rattle.der_extensions.specs.contracts.extension.distribution_point_name.DistributionPointNameTagged.TheImpl.Laws as distribution_point_name_tagged;
+ghost use Rattle.der_extensions.specs.contracts.extension.explicit0_distribution_point_name.Explicit0DistributionPointNameContentsEq.TheImpl.Laws as explicit0_distribution_point_name_contents_eq;
+ghost use Rattle.der_extensions.specs.contracts.extension.explicit0_distribution_point_name.Explicit0DistributionPointNameDuplicateValue.TheImpl.Laws as explicit0_distribution_point_name_duplicate_value;
+ghost use Rattle.der_extensions.specs.contracts.extension.explicit0_distribution_point_name.Explicit0DistributionPointNameDuplicateValueIsEqual.TheImpl.Laws as explicit0_distribution_point_name_duplicate_value_is_equal;
 ghost use Rattle.der_extensions.specs.declared.extension.issuing_distribution_point.IssuingDistributionPoint.{IssuingDistributionPoint};
 ghost use Rattle.der_modules.specs.Asn1.{context, explicit_encoding, implicit_encoding, joined, optional, parse_of, unless_default};
-ghost use Rattle.der_modules.specs.MemberLaws.{copies_of, default_copies, default_equality, default_starts, held_copies, listed_copies, member_copies, member_equality, no_copies, no_equality, one_tag, one_tag_copies, one_tag_equality, optional_copies, optional_equality, optional_starts, own_tags, same_copies, tagged_starts};
+ghost use Rattle.der_modules.specs.MemberLaws.{copies_of, default_copies, default_equality, default_starts, held_copies, listed_copies, member_copies, member_equality, no_copies, no_equality, one_tag, one_tag_copies, one_tag_equality, optional_copies, optional_equality, optional_starts, same_copies};
 
 use crate::extension::aliases::ReasonFlags;
 use crate::extension::distribution_point_name::DistributionPointName;
+use crate::extension::explicit0_distribution_point_name::Explicit0DistributionPointName;
 use der_bits::NamedBitsRef;
 use der_elem::{
     BitStringTag, BooleanTag, ContentsEq, DecodeValue, DuplicateValue, DuplicateValueIsEqual,
-    EncodeValue, Form, FormValue, OneTag, Sequence, SequenceTag, TagMarker, Tagged, ValueOrd,
+    EncodeValue, Form, FormValue, OneTag, Sequence, SequenceTag, TagMarker, ValueOrd,
 };
 use der_fields::{
-    DecodeFields, DefaultFalse, DefaultOf, DuplicateFields, EncodeFields, End, Explicit,
-    ExplicitTag, Field, FieldList, Fields6, FieldsOrd, Implicit, ImplicitTag, WithDefault,
+    DecodeFields, DefaultFalse, DefaultOf, DuplicateFields, EncodeFields, End, ExplicitTag, Field,
+    FieldList, Fields1, Fields6, FieldsOrd, Implicit, ImplicitTag, WithDefault,
 };
 use der_modules::CopyLaws;
 use der_tlv::{BackWriter, Error, Header, Length, Source, Writer};
@@ -35,7 +35,7 @@ use std::fmt;
 
 /// The list of the fields.
 type Fields<'a> = Fields6<
-    Option<Explicit<DistributionPointName<'a>, 0>>,
+    Option<Explicit0DistributionPointName<'a>>,
     WithDefault<Implicit<bool, 1>, DefaultFalse>,
     WithDefault<Implicit<bool, 2>, DefaultFalse>,
     Option<Implicit<ReasonFlags<'a>, 3>>,
@@ -102,8 +102,10 @@ impl<'a> IssuingDistributionPoint<'a> {
         });
         let rest = Field { first, rest };
         let first = match distribution_point {
-            Some(first) => Some(Explicit {
-                fields: Field { first, rest: End },
+            Some(first) => Some(Explicit0DistributionPointName {
+                fields: Fields1 {
+                    list: Field { first, rest: End },
+                },
             }),
             None => None,
         };
@@ -156,7 +158,7 @@ impl<'a> IssuingDistributionPoint<'a> {
             ..
         } = rest;
         let distribution_point = match distribution_point {
-            Some(tagged) => Some(tagged.fields.first),
+            Some(tagged) => Some(tagged.fields.list.first),
             None => None,
         };
         let only_contains_user_certs = only_contains_user_certs.value.value;
@@ -182,7 +184,7 @@ impl<'a> IssuingDistributionPoint<'a> {
         ensures { option_copied result ≡ issuing_distribution_point_fields.distribution_point self.now }
     {
         match &self.fields.list.first {
-            Some(value) => Some(&value.fields.first),
+            Some(value) => Some(&value.fields.list.first),
             None => None,
         }
     }
@@ -294,14 +296,10 @@ impl<'a> ValueOrd for IssuingDistributionPoint<'a> {
 }
 
 impl<'a> ContentsEq for IssuingDistributionPoint<'a> {
-    ghost contents_eq = { λ v w. (member_equality ⟦<Option<Explicit<DistributionPointName<'a>, 0>> as Form>⟧
-        (optional_starts ⟦<Explicit<DistributionPointName<'a>, 0> as Form>⟧ (one_tag ⟦<ExplicitTag<0> as TagMarker>⟧.TAG ⟦<Explicit<DistributionPointName<'a>, 0> as FormValue>⟧.value.contents))
-        ⟦<Option<Explicit<DistributionPointName<'a>, 0>> as PartialEq>⟧.eq
-        (optional_equality ⟦<Explicit<DistributionPointName<'a>, 0> as Form>⟧ (one_tag ⟦<ExplicitTag<0> as TagMarker>⟧.TAG ⟦<Explicit<DistributionPointName<'a>, 0> as FormValue>⟧.value.contents) ⟦<Explicit<DistributionPointName<'a>, 0> as PartialEq>⟧.eq (one_tag_equality ⟦<ExplicitTag<0> as TagMarker>⟧.TAG ⟦<Explicit<DistributionPointName<'a>, 0> as FormValue>⟧.value.contents ⟦<Explicit<DistributionPointName<'a>, 0> as FormValue>⟧.value.comparable ⟦<Explicit<DistributionPointName<'a>, 0> as PartialEq>⟧.eq (λ v w. ((member_equality ⟦<DistributionPointName<'a> as Form>⟧
-        (tagged_starts ⟦<DistributionPointName<'a> as Form>⟧ (own_tags ⟦<DistributionPointName<'a> as Form>⟧.tags ⟦<DistributionPointName<'a> as Form>⟧.first_tag_of ⟦<DistributionPointName<'a> as Form>⟧.encoding ⟦<DistributionPointName<'a> as Tagged>⟧.tag_of ⟦<DistributionPointName<'a> as FormValue>⟧.value.contents distribution_point_name_tagged.encoding_is-law distribution_point_name_tagged.own_tag-law distribution_point_name_tagged.first_tag_is-law))
-        ⟦<DistributionPointName<'a> as PartialEq>⟧.eq
-        distribution_point_name_encoding_eq.encoding_eq-law
-        no_equality).equal v.fields w.fields))))
+    ghost contents_eq = { λ v w. (member_equality ⟦<Option<Explicit0DistributionPointName<'a>> as Form>⟧
+        (optional_starts ⟦<Explicit0DistributionPointName<'a> as Form>⟧ (one_tag ⟦<ExplicitTag<0> as TagMarker>⟧.TAG ⟦<Explicit0DistributionPointName<'a> as FormValue>⟧.value.contents))
+        ⟦<Option<Explicit0DistributionPointName<'a>> as PartialEq>⟧.eq
+        (optional_equality ⟦<Explicit0DistributionPointName<'a> as Form>⟧ (one_tag ⟦<ExplicitTag<0> as TagMarker>⟧.TAG ⟦<Explicit0DistributionPointName<'a> as FormValue>⟧.value.contents) ⟦<Explicit0DistributionPointName<'a> as PartialEq>⟧.eq (one_tag_equality ⟦<ExplicitTag<0> as TagMarker>⟧.TAG ⟦<Explicit0DistributionPointName<'a> as FormValue>⟧.value.contents ⟦<Explicit0DistributionPointName<'a> as FormValue>⟧.value.comparable ⟦<Explicit0DistributionPointName<'a> as PartialEq>⟧.eq explicit0_distribution_point_name_contents_eq.contents_eq-law))
         (member_equality ⟦<WithDefault<Implicit<bool, 1>, DefaultFalse> as Form>⟧
         (default_starts ⟦<Implicit<bool, 1> as Form>⟧ (one_tag ⟦<ImplicitTag<BooleanTag, 1> as TagMarker>⟧.TAG ⟦<Implicit<bool, 1> as FormValue>⟧.value.contents) (λ x. x.value) ⟦<DefaultFalse as DefaultOf<Implicit<bool, 1>>>⟧.octets)
         ⟦<WithDefault<Implicit<bool, 1>, DefaultFalse> as PartialEq>⟧.eq
@@ -327,12 +325,9 @@ impl<'a> ContentsEq for IssuingDistributionPoint<'a> {
 
 impl<'a> CopyLaws for IssuingDistributionPoint<'a> {
     ghost copies = { copies_of (held_copies (λ v. v.fields.list)
-        (listed_copies (member_copies ⟦<Option<Explicit<DistributionPointName<'a>, 0>> as Form>⟧
-        (optional_starts ⟦<Explicit<DistributionPointName<'a>, 0> as Form>⟧ (one_tag ⟦<ExplicitTag<0> as TagMarker>⟧.TAG ⟦<Explicit<DistributionPointName<'a>, 0> as FormValue>⟧.value.contents))
-        (optional_copies ⟦<Explicit<DistributionPointName<'a>, 0> as Form>⟧ (one_tag_copies ⟦<ExplicitTag<0> as TagMarker>⟧.TAG (held_copies (λ x. x.fields) (listed_copies (member_copies ⟦<DistributionPointName<'a> as Form>⟧
-        (tagged_starts ⟦<DistributionPointName<'a> as Form>⟧ (own_tags ⟦<DistributionPointName<'a> as Form>⟧.tags ⟦<DistributionPointName<'a> as Form>⟧.first_tag_of ⟦<DistributionPointName<'a> as Form>⟧.encoding ⟦<DistributionPointName<'a> as Tagged>⟧.tag_of ⟦<DistributionPointName<'a> as FormValue>⟧.value.contents distribution_point_name_tagged.encoding_is-law distribution_point_name_tagged.own_tag-law distribution_point_name_tagged.first_tag_is-law))
-        (record { octets_are = distribution_point_name_duplicate.copy_encoding-law; comparable_are = distribution_point_name_duplicate.copy_comparable-law; re_reads_are = distribution_point_name_duplicate.copy_re_reads-law; equal_are = distribution_point_name_duplicate_is_equal.copy_is_equal-law })
-        no_copies)))))
+        (listed_copies (member_copies ⟦<Option<Explicit0DistributionPointName<'a>> as Form>⟧
+        (optional_starts ⟦<Explicit0DistributionPointName<'a> as Form>⟧ (one_tag ⟦<ExplicitTag<0> as TagMarker>⟧.TAG ⟦<Explicit0DistributionPointName<'a> as FormValue>⟧.value.contents))
+        (optional_copies ⟦<Explicit0DistributionPointName<'a> as Form>⟧ (one_tag_copies ⟦<ExplicitTag<0> as TagMarker>⟧.TAG (record { octets_are = explicit0_distribution_point_name_duplicate_value.copy_contents-law; comparable_are = explicit0_distribution_point_name_duplicate_value.copy_comparable_value-law; re_reads_are = explicit0_distribution_point_name_duplicate_value.copy_re_reads_value-law; equal_are = explicit0_distribution_point_name_duplicate_value_is_equal.copy_value_is_equal-law })))
         (member_copies ⟦<WithDefault<Implicit<bool, 1>, DefaultFalse> as Form>⟧
         (default_starts ⟦<Implicit<bool, 1> as Form>⟧ (one_tag ⟦<ImplicitTag<BooleanTag, 1> as TagMarker>⟧.TAG ⟦<Implicit<bool, 1> as FormValue>⟧.value.contents) (λ x. x.value) ⟦<DefaultFalse as DefaultOf<Implicit<bool, 1>>>⟧.octets)
         (default_copies ⟦<Implicit<bool, 1> as Form>⟧ (one_tag_copies ⟦<ImplicitTag<BooleanTag, 1> as TagMarker>⟧.TAG (held_copies (λ x. x.value) (same_copies ⟦<bool as FormValue>⟧.value.contents ⟦<bool as FormValue>⟧.value.comparable ⟦<bool as FormValue>⟧.value.re_reads ⟦<bool as PartialEq>⟧.eq (λ v. (bool_contents_eq.contents_eq-law v v tt).1 refl)))) (λ x. x.value) ⟦<DefaultFalse as DefaultOf<Implicit<bool, 1>>>⟧.octets)

@@ -8,14 +8,15 @@ ghost use Rattle.der_modules.specs.Asn1.{context, explicit_encoding, joined, opt
 ghost use Rattle.der_modules.specs.MemberLaws.{copies_of, held_copies, listed_copies, member_copies, member_equality, no_copies, no_equality, one_tag, one_tag_copies, one_tag_equality, optional_copies, optional_equality, optional_starts, tagged_starts};
 ghost use Rattle.der_ocsp.specs.Ocsp.Grammar.{ocsp_request};
 ghost use Rattle.der_ocsp.specs.Ocsp.OcspRequest as ocsp_request_fields;
-ghost use Rattle.der_ocsp.specs.contracts.ocsp.signature.SignatureContentsEq.TheImpl.Laws as signature_contents_eq;
-ghost use Rattle.der_ocsp.specs.contracts.ocsp.signature.SignatureDuplicateValue.TheImpl.Laws as signature_duplicate_value;
-ghost use Rattle.der_ocsp.specs.contracts.ocsp.signature.SignatureDuplicateValueIsEqual.TheImpl.Laws as signature_duplicate_value_is_equal;
+ghost use Rattle.der_ocsp.specs.contracts.ocsp.explicit0_signature.Explicit0SignatureContentsEq.TheImpl.Laws as explicit0_signature_contents_eq;
+ghost use Rattle.der_ocsp.specs.contracts.ocsp.explicit0_signature.Explicit0SignatureDuplicateValue.TheImpl.Laws as explicit0_signature_duplicate_value;
+ghost use Rattle.der_ocsp.specs.contracts.ocsp.explicit0_signature.Explicit0SignatureDuplicateValueIsEqual.TheImpl.Laws as explicit0_signature_duplicate_value_is_equal;
 ghost use Rattle.der_ocsp.specs.contracts.ocsp.tbs_request.TbsRequestContentsEq.TheImpl.Laws as tbs_request_contents_eq;
 ghost use Rattle.der_ocsp.specs.contracts.ocsp.tbs_request.TbsRequestDuplicateValue.TheImpl.Laws as tbs_request_duplicate_value;
 ghost use Rattle.der_ocsp.specs.contracts.ocsp.tbs_request.TbsRequestDuplicateValueIsEqual.TheImpl.Laws as tbs_request_duplicate_value_is_equal;
 ghost use Rattle.der_ocsp.specs.declared.ocsp.ocsp_request.OcspRequest.{OcspRequest};
 
+use crate::ocsp::explicit0_signature::Explicit0Signature;
 use crate::ocsp::signature::Signature;
 use crate::ocsp::tbs_request::TbsRequest;
 use der_elem::{
@@ -23,7 +24,7 @@ use der_elem::{
     OneTag, Sequence, SequenceTag, TagMarker, ValueOrd,
 };
 use der_fields::{
-    DecodeFields, DuplicateFields, EncodeFields, End, Explicit, ExplicitTag, Field, FieldList,
+    DecodeFields, DuplicateFields, EncodeFields, End, ExplicitTag, Field, FieldList, Fields1,
     Fields2, FieldsOrd,
 };
 use der_modules::CopyLaws;
@@ -33,7 +34,7 @@ use std::cmp::Ordering;
 use std::fmt;
 
 /// The list of the fields.
-type Fields<'a> = Fields2<TbsRequest<'a>, Option<Explicit<Signature<'a>, 0>>>;
+type Fields<'a> = Fields2<TbsRequest<'a>, Option<Explicit0Signature<'a>>>;
 
 /// ```text
 /// OCSPRequest ::= SEQUENCE {
@@ -61,8 +62,10 @@ impl<'a> OcspRequest<'a> {
         ensures optional_signature { ocsp_request_fields.optional_signature result ≡ optional_signature.entry }
     {
         let first = match optional_signature {
-            Some(first) => Some(Explicit {
-                fields: Field { first, rest: End },
+            Some(first) => Some(Explicit0Signature {
+                fields: Fields1 {
+                    list: Field { first, rest: End },
+                },
             }),
             None => None,
         };
@@ -88,7 +91,7 @@ impl<'a> OcspRequest<'a> {
             ..
         } = rest;
         let optional_signature = match optional_signature {
-            Some(tagged) => Some(tagged.fields.first),
+            Some(tagged) => Some(tagged.fields.list.first),
             None => None,
         };
         (tbs_request, optional_signature)
@@ -106,7 +109,7 @@ impl<'a> OcspRequest<'a> {
         ensures { option_copied result ≡ ocsp_request_fields.optional_signature self.now }
     {
         match &self.fields.list.rest.first {
-            Some(value) => Some(&value.fields.first),
+            Some(value) => Some(&value.fields.list.first),
             None => None,
         }
     }
@@ -177,14 +180,10 @@ impl<'a> ContentsEq for OcspRequest<'a> {
         (tagged_starts ⟦<TbsRequest<'a> as Form>⟧ (one_tag ⟦<SequenceTag as TagMarker>⟧.TAG ⟦<TbsRequest<'a> as FormValue>⟧.value.contents))
         ⟦<TbsRequest<'a> as PartialEq>⟧.eq
         (one_tag_equality ⟦<SequenceTag as TagMarker>⟧.TAG ⟦<TbsRequest<'a> as FormValue>⟧.value.contents ⟦<TbsRequest<'a> as FormValue>⟧.value.comparable ⟦<TbsRequest<'a> as PartialEq>⟧.eq tbs_request_contents_eq.contents_eq-law)
-        (member_equality ⟦<Option<Explicit<Signature<'a>, 0>> as Form>⟧
-        (optional_starts ⟦<Explicit<Signature<'a>, 0> as Form>⟧ (one_tag ⟦<ExplicitTag<0> as TagMarker>⟧.TAG ⟦<Explicit<Signature<'a>, 0> as FormValue>⟧.value.contents))
-        ⟦<Option<Explicit<Signature<'a>, 0>> as PartialEq>⟧.eq
-        (optional_equality ⟦<Explicit<Signature<'a>, 0> as Form>⟧ (one_tag ⟦<ExplicitTag<0> as TagMarker>⟧.TAG ⟦<Explicit<Signature<'a>, 0> as FormValue>⟧.value.contents) ⟦<Explicit<Signature<'a>, 0> as PartialEq>⟧.eq (one_tag_equality ⟦<ExplicitTag<0> as TagMarker>⟧.TAG ⟦<Explicit<Signature<'a>, 0> as FormValue>⟧.value.contents ⟦<Explicit<Signature<'a>, 0> as FormValue>⟧.value.comparable ⟦<Explicit<Signature<'a>, 0> as PartialEq>⟧.eq (λ v w. ((member_equality ⟦<Signature<'a> as Form>⟧
-        (tagged_starts ⟦<Signature<'a> as Form>⟧ (one_tag ⟦<SequenceTag as TagMarker>⟧.TAG ⟦<Signature<'a> as FormValue>⟧.value.contents))
-        ⟦<Signature<'a> as PartialEq>⟧.eq
-        (one_tag_equality ⟦<SequenceTag as TagMarker>⟧.TAG ⟦<Signature<'a> as FormValue>⟧.value.contents ⟦<Signature<'a> as FormValue>⟧.value.comparable ⟦<Signature<'a> as PartialEq>⟧.eq signature_contents_eq.contents_eq-law)
-        no_equality).equal v.fields w.fields))))
+        (member_equality ⟦<Option<Explicit0Signature<'a>> as Form>⟧
+        (optional_starts ⟦<Explicit0Signature<'a> as Form>⟧ (one_tag ⟦<ExplicitTag<0> as TagMarker>⟧.TAG ⟦<Explicit0Signature<'a> as FormValue>⟧.value.contents))
+        ⟦<Option<Explicit0Signature<'a>> as PartialEq>⟧.eq
+        (optional_equality ⟦<Explicit0Signature<'a> as Form>⟧ (one_tag ⟦<ExplicitTag<0> as TagMarker>⟧.TAG ⟦<Explicit0Signature<'a> as FormValue>⟧.value.contents) ⟦<Explicit0Signature<'a> as PartialEq>⟧.eq (one_tag_equality ⟦<ExplicitTag<0> as TagMarker>⟧.TAG ⟦<Explicit0Signature<'a> as FormValue>⟧.value.contents ⟦<Explicit0Signature<'a> as FormValue>⟧.value.comparable ⟦<Explicit0Signature<'a> as PartialEq>⟧.eq explicit0_signature_contents_eq.contents_eq-law))
         no_equality)).equal v.fields.list w.fields.list };
 }
 
@@ -193,12 +192,9 @@ impl<'a> CopyLaws for OcspRequest<'a> {
         (listed_copies (member_copies ⟦<TbsRequest<'a> as Form>⟧
         (tagged_starts ⟦<TbsRequest<'a> as Form>⟧ (one_tag ⟦<SequenceTag as TagMarker>⟧.TAG ⟦<TbsRequest<'a> as FormValue>⟧.value.contents))
         (one_tag_copies ⟦<SequenceTag as TagMarker>⟧.TAG (record { octets_are = tbs_request_duplicate_value.copy_contents-law; comparable_are = tbs_request_duplicate_value.copy_comparable_value-law; re_reads_are = tbs_request_duplicate_value.copy_re_reads_value-law; equal_are = tbs_request_duplicate_value_is_equal.copy_value_is_equal-law }))
-        (member_copies ⟦<Option<Explicit<Signature<'a>, 0>> as Form>⟧
-        (optional_starts ⟦<Explicit<Signature<'a>, 0> as Form>⟧ (one_tag ⟦<ExplicitTag<0> as TagMarker>⟧.TAG ⟦<Explicit<Signature<'a>, 0> as FormValue>⟧.value.contents))
-        (optional_copies ⟦<Explicit<Signature<'a>, 0> as Form>⟧ (one_tag_copies ⟦<ExplicitTag<0> as TagMarker>⟧.TAG (held_copies (λ x. x.fields) (listed_copies (member_copies ⟦<Signature<'a> as Form>⟧
-        (tagged_starts ⟦<Signature<'a> as Form>⟧ (one_tag ⟦<SequenceTag as TagMarker>⟧.TAG ⟦<Signature<'a> as FormValue>⟧.value.contents))
-        (one_tag_copies ⟦<SequenceTag as TagMarker>⟧.TAG (record { octets_are = signature_duplicate_value.copy_contents-law; comparable_are = signature_duplicate_value.copy_comparable_value-law; re_reads_are = signature_duplicate_value.copy_re_reads_value-law; equal_are = signature_duplicate_value_is_equal.copy_value_is_equal-law }))
-        no_copies)))))
+        (member_copies ⟦<Option<Explicit0Signature<'a>> as Form>⟧
+        (optional_starts ⟦<Explicit0Signature<'a> as Form>⟧ (one_tag ⟦<ExplicitTag<0> as TagMarker>⟧.TAG ⟦<Explicit0Signature<'a> as FormValue>⟧.value.contents))
+        (optional_copies ⟦<Explicit0Signature<'a> as Form>⟧ (one_tag_copies ⟦<ExplicitTag<0> as TagMarker>⟧.TAG (record { octets_are = explicit0_signature_duplicate_value.copy_contents-law; comparable_are = explicit0_signature_duplicate_value.copy_comparable_value-law; re_reads_are = explicit0_signature_duplicate_value.copy_re_reads_value-law; equal_are = explicit0_signature_duplicate_value_is_equal.copy_value_is_equal-law })))
         no_copies)))) };
 }
 

@@ -10,18 +10,19 @@ ghost use Rattle.der_ocsp.specs.Ocsp.Grammar.{request};
 ghost use Rattle.der_ocsp.specs.Ocsp.Request as request_fields;
 ghost use Rattle.der_ocsp.specs.contracts.ocsp.cert_id.CertIdContentsEq.TheImpl.Laws as cert_id_contents_eq;
 ghost use Rattle.der_ocsp.specs.contracts.ocsp.cert_id.CertIdEq.TheImpl.Laws as cert_id_eq;
+ghost use Rattle.der_ocsp.specs.contracts.ocsp.explicit0_extensions.Explicit0ExtensionsContentsEq.TheImpl.Laws as explicit0_extensions_contents_eq;
+ghost use Rattle.der_ocsp.specs.contracts.ocsp.explicit0_extensions.Explicit0ExtensionsDuplicateValue.TheImpl.Laws as explicit0_extensions_duplicate_value;
+ghost use Rattle.der_ocsp.specs.contracts.ocsp.explicit0_extensions.Explicit0ExtensionsDuplicateValueIsEqual.TheImpl.Laws as explicit0_extensions_duplicate_value_is_equal;
 ghost use Rattle.der_ocsp.specs.declared.ocsp.request.Request.{Request};
-ghost use Rattle.der_pkix.specs.contracts.certificate.extensions.ExtensionsContentsEq.TheImpl.Laws as extensions_contents_eq;
-ghost use Rattle.der_pkix.specs.contracts.certificate.extensions.ExtensionsDuplicateValue.TheImpl.Laws as extensions_duplicate_value;
-ghost use Rattle.der_pkix.specs.contracts.certificate.extensions.ExtensionsDuplicateValueIsEqual.TheImpl.Laws as extensions_duplicate_value_is_equal;
 
 use crate::ocsp::cert_id::CertId;
+use crate::ocsp::explicit0_extensions::Explicit0Extensions;
 use der_elem::{
     ContentsEq, DecodeValue, DuplicateValue, DuplicateValueIsEqual, EncodeValue, Form, FormValue,
     OneTag, Sequence, SequenceTag, TagMarker, ValueOrd,
 };
 use der_fields::{
-    DecodeFields, DuplicateFields, EncodeFields, End, Explicit, ExplicitTag, Field, FieldList,
+    DecodeFields, DuplicateFields, EncodeFields, End, ExplicitTag, Field, FieldList, Fields1,
     Fields2, FieldsOrd,
 };
 use der_modules::{CopyLaws, copy_of};
@@ -32,7 +33,7 @@ use std::cmp::Ordering;
 use std::fmt;
 
 /// The list of the fields.
-type Fields<'a> = Fields2<CertId<'a>, Option<Explicit<Extensions<'a>, 0>>>;
+type Fields<'a> = Fields2<CertId<'a>, Option<Explicit0Extensions<'a>>>;
 
 /// ```text
 /// Request ::= SEQUENCE {
@@ -60,8 +61,10 @@ impl<'a> Request<'a> {
         ensures single_request_extensions { request_fields.single_request_extensions result ≡ single_request_extensions.entry }
     {
         let first = match single_request_extensions {
-            Some(first) => Some(Explicit {
-                fields: Field { first, rest: End },
+            Some(first) => Some(Explicit0Extensions {
+                fields: Fields1 {
+                    list: Field { first, rest: End },
+                },
             }),
             None => None,
         };
@@ -87,7 +90,7 @@ impl<'a> Request<'a> {
             ..
         } = rest;
         let single_request_extensions = match single_request_extensions {
-            Some(tagged) => Some(tagged.fields.first),
+            Some(tagged) => Some(tagged.fields.list.first),
             None => None,
         };
         (req_cert, single_request_extensions)
@@ -105,7 +108,7 @@ impl<'a> Request<'a> {
         ensures { option_copied result ≡ request_fields.single_request_extensions self.now }
     {
         match &self.fields.list.rest.first {
-            Some(value) => Some(&value.fields.first),
+            Some(value) => Some(&value.fields.list.first),
             None => None,
         }
     }
@@ -175,14 +178,10 @@ impl<'a> ContentsEq for Request<'a> {
         (tagged_starts ⟦<CertId<'a> as Form>⟧ (one_tag ⟦<SequenceTag as TagMarker>⟧.TAG ⟦<CertId<'a> as FormValue>⟧.value.contents))
         ⟦<CertId<'a> as PartialEq>⟧.eq
         (one_tag_equality ⟦<SequenceTag as TagMarker>⟧.TAG ⟦<CertId<'a> as FormValue>⟧.value.contents ⟦<CertId<'a> as FormValue>⟧.value.comparable ⟦<CertId<'a> as PartialEq>⟧.eq cert_id_contents_eq.contents_eq-law)
-        (member_equality ⟦<Option<Explicit<Extensions<'a>, 0>> as Form>⟧
-        (optional_starts ⟦<Explicit<Extensions<'a>, 0> as Form>⟧ (one_tag ⟦<ExplicitTag<0> as TagMarker>⟧.TAG ⟦<Explicit<Extensions<'a>, 0> as FormValue>⟧.value.contents))
-        ⟦<Option<Explicit<Extensions<'a>, 0>> as PartialEq>⟧.eq
-        (optional_equality ⟦<Explicit<Extensions<'a>, 0> as Form>⟧ (one_tag ⟦<ExplicitTag<0> as TagMarker>⟧.TAG ⟦<Explicit<Extensions<'a>, 0> as FormValue>⟧.value.contents) ⟦<Explicit<Extensions<'a>, 0> as PartialEq>⟧.eq (one_tag_equality ⟦<ExplicitTag<0> as TagMarker>⟧.TAG ⟦<Explicit<Extensions<'a>, 0> as FormValue>⟧.value.contents ⟦<Explicit<Extensions<'a>, 0> as FormValue>⟧.value.comparable ⟦<Explicit<Extensions<'a>, 0> as PartialEq>⟧.eq (λ v w. ((member_equality ⟦<Extensions<'a> as Form>⟧
-        (tagged_starts ⟦<Extensions<'a> as Form>⟧ (one_tag ⟦<SequenceTag as TagMarker>⟧.TAG ⟦<Extensions<'a> as FormValue>⟧.value.contents))
-        ⟦<Extensions<'a> as PartialEq>⟧.eq
-        (one_tag_equality ⟦<SequenceTag as TagMarker>⟧.TAG ⟦<Extensions<'a> as FormValue>⟧.value.contents ⟦<Extensions<'a> as FormValue>⟧.value.comparable ⟦<Extensions<'a> as PartialEq>⟧.eq extensions_contents_eq.contents_eq-law)
-        no_equality).equal v.fields w.fields))))
+        (member_equality ⟦<Option<Explicit0Extensions<'a>> as Form>⟧
+        (optional_starts ⟦<Explicit0Extensions<'a> as Form>⟧ (one_tag ⟦<ExplicitTag<0> as TagMarker>⟧.TAG ⟦<Explicit0Extensions<'a> as FormValue>⟧.value.contents))
+        ⟦<Option<Explicit0Extensions<'a>> as PartialEq>⟧.eq
+        (optional_equality ⟦<Explicit0Extensions<'a> as Form>⟧ (one_tag ⟦<ExplicitTag<0> as TagMarker>⟧.TAG ⟦<Explicit0Extensions<'a> as FormValue>⟧.value.contents) ⟦<Explicit0Extensions<'a> as PartialEq>⟧.eq (one_tag_equality ⟦<ExplicitTag<0> as TagMarker>⟧.TAG ⟦<Explicit0Extensions<'a> as FormValue>⟧.value.contents ⟦<Explicit0Extensions<'a> as FormValue>⟧.value.comparable ⟦<Explicit0Extensions<'a> as PartialEq>⟧.eq explicit0_extensions_contents_eq.contents_eq-law))
         no_equality)).equal v.fields.list w.fields.list };
 }
 
@@ -191,12 +190,9 @@ impl<'a> CopyLaws for Request<'a> {
         (listed_copies (member_copies ⟦<CertId<'a> as Form>⟧
         (tagged_starts ⟦<CertId<'a> as Form>⟧ (one_tag ⟦<SequenceTag as TagMarker>⟧.TAG ⟦<CertId<'a> as FormValue>⟧.value.contents))
         (one_tag_copies ⟦<SequenceTag as TagMarker>⟧.TAG (same_copies ⟦<CertId<'a> as FormValue>⟧.value.contents ⟦<CertId<'a> as FormValue>⟧.value.comparable ⟦<CertId<'a> as FormValue>⟧.value.re_reads ⟦<CertId<'a> as PartialEq>⟧.eq cert_id_eq.laws-law.refl))
-        (member_copies ⟦<Option<Explicit<Extensions<'a>, 0>> as Form>⟧
-        (optional_starts ⟦<Explicit<Extensions<'a>, 0> as Form>⟧ (one_tag ⟦<ExplicitTag<0> as TagMarker>⟧.TAG ⟦<Explicit<Extensions<'a>, 0> as FormValue>⟧.value.contents))
-        (optional_copies ⟦<Explicit<Extensions<'a>, 0> as Form>⟧ (one_tag_copies ⟦<ExplicitTag<0> as TagMarker>⟧.TAG (held_copies (λ x. x.fields) (listed_copies (member_copies ⟦<Extensions<'a> as Form>⟧
-        (tagged_starts ⟦<Extensions<'a> as Form>⟧ (one_tag ⟦<SequenceTag as TagMarker>⟧.TAG ⟦<Extensions<'a> as FormValue>⟧.value.contents))
-        (one_tag_copies ⟦<SequenceTag as TagMarker>⟧.TAG (record { octets_are = extensions_duplicate_value.copy_contents-law; comparable_are = extensions_duplicate_value.copy_comparable_value-law; re_reads_are = extensions_duplicate_value.copy_re_reads_value-law; equal_are = extensions_duplicate_value_is_equal.copy_value_is_equal-law }))
-        no_copies)))))
+        (member_copies ⟦<Option<Explicit0Extensions<'a>> as Form>⟧
+        (optional_starts ⟦<Explicit0Extensions<'a> as Form>⟧ (one_tag ⟦<ExplicitTag<0> as TagMarker>⟧.TAG ⟦<Explicit0Extensions<'a> as FormValue>⟧.value.contents))
+        (optional_copies ⟦<Explicit0Extensions<'a> as Form>⟧ (one_tag_copies ⟦<ExplicitTag<0> as TagMarker>⟧.TAG (record { octets_are = explicit0_extensions_duplicate_value.copy_contents-law; comparable_are = explicit0_extensions_duplicate_value.copy_comparable_value-law; re_reads_are = explicit0_extensions_duplicate_value.copy_re_reads_value-law; equal_are = explicit0_extensions_duplicate_value_is_equal.copy_value_is_equal-law })))
         no_copies)))) };
 }
 

@@ -9,6 +9,9 @@ ghost use Rattle.der_modules.specs.Asn1.{context, explicit_encoding, joined, opt
 ghost use Rattle.der_modules.specs.MemberLaws.{copies_of, default_copies, default_equality, default_starts, held_copies, listed_copies, member_copies, member_equality, no_copies, no_equality, one_tag, one_tag_copies, one_tag_equality, optional_copies, optional_equality, optional_starts, own_tags, same_copies, tagged_starts};
 ghost use Rattle.der_ocsp.specs.Ocsp.Grammar.{response_data};
 ghost use Rattle.der_ocsp.specs.Ocsp.ResponseData as response_data_fields;
+ghost use Rattle.der_ocsp.specs.contracts.ocsp.explicit1_extensions.Explicit1ExtensionsContentsEq.TheImpl.Laws as explicit1_extensions_contents_eq;
+ghost use Rattle.der_ocsp.specs.contracts.ocsp.explicit1_extensions.Explicit1ExtensionsDuplicateValue.TheImpl.Laws as explicit1_extensions_duplicate_value;
+ghost use Rattle.der_ocsp.specs.contracts.ocsp.explicit1_extensions.Explicit1ExtensionsDuplicateValueIsEqual.TheImpl.Laws as explicit1_extensions_duplicate_value_is_equal;
 ghost use Rattle.der_ocsp.specs.contracts.ocsp.responder_id.ResponderIdEncodingEq.TheImpl.Laws as responder_id_encoding_eq;
 ghost use Rattle.der_ocsp.specs.contracts.ocsp.responder_id.ResponderIdEq.TheImpl.Laws as responder_id_eq;
 ghost use Rattle.der_ocsp.specs.contracts.ocsp.responder_id.ResponderIdTagged.TheImpl.Laws as responder_id_tagged;
@@ -16,12 +19,10 @@ ghost use Rattle.der_ocsp.specs.contracts.ocsp.single_responses.SingleResponsesC
 ghost use Rattle.der_ocsp.specs.contracts.ocsp.single_responses.SingleResponsesDuplicateValue.TheImpl.Laws as single_responses_duplicate_value;
 ghost use Rattle.der_ocsp.specs.contracts.ocsp.single_responses.SingleResponsesDuplicateValueIsEqual.TheImpl.Laws as single_responses_duplicate_value_is_equal;
 ghost use Rattle.der_ocsp.specs.declared.ocsp.response_data.ResponseData.{ResponseData};
-ghost use Rattle.der_pkix.specs.contracts.certificate.extensions.ExtensionsContentsEq.TheImpl.Laws as extensions_contents_eq;
-ghost use Rattle.der_pkix.specs.contracts.certificate.extensions.ExtensionsDuplicateValue.TheImpl.Laws as extensions_duplicate_value;
-ghost use Rattle.der_pkix.specs.contracts.certificate.extensions.ExtensionsDuplicateValueIsEqual.TheImpl.Laws as extensions_duplicate_value_is_equal;
 ghost use Rattle.der_time.specs.contracts.generalized_time.GeneralizedTimeContentsEq.TheImpl.Laws as generalizedtime_contents_eq;
 
 use crate::ocsp::aliases::Version;
+use crate::ocsp::explicit1_extensions::Explicit1Extensions;
 use crate::ocsp::responder_id::ResponderId;
 use crate::ocsp::single_responses::SingleResponses;
 use der_elem::{
@@ -30,7 +31,7 @@ use der_elem::{
 };
 use der_fields::{
     DecodeFields, DefaultNumber, DefaultOf, DuplicateFields, EncodeFields, End, Explicit,
-    ExplicitTag, Field, FieldList, Fields5, FieldsOrd, WithDefault,
+    ExplicitTag, Field, FieldList, Fields1, Fields5, FieldsOrd, WithDefault,
 };
 use der_modules::{CopyLaws, copy_of};
 use der_pkix::certificate::Extensions;
@@ -46,7 +47,7 @@ type Fields<'a> = Fields5<
     ResponderId<'a>,
     GeneralizedTime,
     SingleResponses<'a>,
-    Option<Explicit<Extensions<'a>, 1>>,
+    Option<Explicit1Extensions<'a>>,
 >;
 
 /// ```text
@@ -84,8 +85,10 @@ impl<'a> ResponseData<'a> {
         ensures response_extensions { response_data_fields.response_extensions result ≡ response_extensions.entry }
     {
         let first = match response_extensions {
-            Some(first) => Some(Explicit {
-                fields: Field { first, rest: End },
+            Some(first) => Some(Explicit1Extensions {
+                fields: Fields1 {
+                    list: Field { first, rest: End },
+                },
             }),
             None => None,
         };
@@ -146,7 +149,7 @@ impl<'a> ResponseData<'a> {
         } = rest;
         let version = version.value.fields.first;
         let response_extensions = match response_extensions {
-            Some(tagged) => Some(tagged.fields.first),
+            Some(tagged) => Some(tagged.fields.list.first),
             None => None,
         };
         (
@@ -191,7 +194,7 @@ impl<'a> ResponseData<'a> {
         ensures { option_copied result ≡ response_data_fields.response_extensions self.now }
     {
         match &self.fields.list.rest.rest.rest.rest.first {
-            Some(value) => Some(&value.fields.first),
+            Some(value) => Some(&value.fields.list.first),
             None => None,
         }
     }
@@ -281,14 +284,10 @@ impl<'a> ContentsEq for ResponseData<'a> {
         (tagged_starts ⟦<SingleResponses<'a> as Form>⟧ (one_tag ⟦<SequenceTag as TagMarker>⟧.TAG ⟦<SingleResponses<'a> as FormValue>⟧.value.contents))
         ⟦<SingleResponses<'a> as PartialEq>⟧.eq
         (one_tag_equality ⟦<SequenceTag as TagMarker>⟧.TAG ⟦<SingleResponses<'a> as FormValue>⟧.value.contents ⟦<SingleResponses<'a> as FormValue>⟧.value.comparable ⟦<SingleResponses<'a> as PartialEq>⟧.eq single_responses_contents_eq.contents_eq-law)
-        (member_equality ⟦<Option<Explicit<Extensions<'a>, 1>> as Form>⟧
-        (optional_starts ⟦<Explicit<Extensions<'a>, 1> as Form>⟧ (one_tag ⟦<ExplicitTag<1> as TagMarker>⟧.TAG ⟦<Explicit<Extensions<'a>, 1> as FormValue>⟧.value.contents))
-        ⟦<Option<Explicit<Extensions<'a>, 1>> as PartialEq>⟧.eq
-        (optional_equality ⟦<Explicit<Extensions<'a>, 1> as Form>⟧ (one_tag ⟦<ExplicitTag<1> as TagMarker>⟧.TAG ⟦<Explicit<Extensions<'a>, 1> as FormValue>⟧.value.contents) ⟦<Explicit<Extensions<'a>, 1> as PartialEq>⟧.eq (one_tag_equality ⟦<ExplicitTag<1> as TagMarker>⟧.TAG ⟦<Explicit<Extensions<'a>, 1> as FormValue>⟧.value.contents ⟦<Explicit<Extensions<'a>, 1> as FormValue>⟧.value.comparable ⟦<Explicit<Extensions<'a>, 1> as PartialEq>⟧.eq (λ v w. ((member_equality ⟦<Extensions<'a> as Form>⟧
-        (tagged_starts ⟦<Extensions<'a> as Form>⟧ (one_tag ⟦<SequenceTag as TagMarker>⟧.TAG ⟦<Extensions<'a> as FormValue>⟧.value.contents))
-        ⟦<Extensions<'a> as PartialEq>⟧.eq
-        (one_tag_equality ⟦<SequenceTag as TagMarker>⟧.TAG ⟦<Extensions<'a> as FormValue>⟧.value.contents ⟦<Extensions<'a> as FormValue>⟧.value.comparable ⟦<Extensions<'a> as PartialEq>⟧.eq extensions_contents_eq.contents_eq-law)
-        no_equality).equal v.fields w.fields))))
+        (member_equality ⟦<Option<Explicit1Extensions<'a>> as Form>⟧
+        (optional_starts ⟦<Explicit1Extensions<'a> as Form>⟧ (one_tag ⟦<ExplicitTag<1> as TagMarker>⟧.TAG ⟦<Explicit1Extensions<'a> as FormValue>⟧.value.contents))
+        ⟦<Option<Explicit1Extensions<'a>> as PartialEq>⟧.eq
+        (optional_equality ⟦<Explicit1Extensions<'a> as Form>⟧ (one_tag ⟦<ExplicitTag<1> as TagMarker>⟧.TAG ⟦<Explicit1Extensions<'a> as FormValue>⟧.value.contents) ⟦<Explicit1Extensions<'a> as PartialEq>⟧.eq (one_tag_equality ⟦<ExplicitTag<1> as TagMarker>⟧.TAG ⟦<Explicit1Extensions<'a> as FormValue>⟧.value.contents ⟦<Explicit1Extensions<'a> as FormValue>⟧.value.comparable ⟦<Explicit1Extensions<'a> as PartialEq>⟧.eq explicit1_extensions_contents_eq.contents_eq-law))
         no_equality))))).equal v.fields.list w.fields.list };
 }
 
@@ -309,12 +308,9 @@ impl<'a> CopyLaws for ResponseData<'a> {
         (member_copies ⟦<SingleResponses<'a> as Form>⟧
         (tagged_starts ⟦<SingleResponses<'a> as Form>⟧ (one_tag ⟦<SequenceTag as TagMarker>⟧.TAG ⟦<SingleResponses<'a> as FormValue>⟧.value.contents))
         (one_tag_copies ⟦<SequenceTag as TagMarker>⟧.TAG (record { octets_are = single_responses_duplicate_value.copy_contents-law; comparable_are = single_responses_duplicate_value.copy_comparable_value-law; re_reads_are = single_responses_duplicate_value.copy_re_reads_value-law; equal_are = single_responses_duplicate_value_is_equal.copy_value_is_equal-law }))
-        (member_copies ⟦<Option<Explicit<Extensions<'a>, 1>> as Form>⟧
-        (optional_starts ⟦<Explicit<Extensions<'a>, 1> as Form>⟧ (one_tag ⟦<ExplicitTag<1> as TagMarker>⟧.TAG ⟦<Explicit<Extensions<'a>, 1> as FormValue>⟧.value.contents))
-        (optional_copies ⟦<Explicit<Extensions<'a>, 1> as Form>⟧ (one_tag_copies ⟦<ExplicitTag<1> as TagMarker>⟧.TAG (held_copies (λ x. x.fields) (listed_copies (member_copies ⟦<Extensions<'a> as Form>⟧
-        (tagged_starts ⟦<Extensions<'a> as Form>⟧ (one_tag ⟦<SequenceTag as TagMarker>⟧.TAG ⟦<Extensions<'a> as FormValue>⟧.value.contents))
-        (one_tag_copies ⟦<SequenceTag as TagMarker>⟧.TAG (record { octets_are = extensions_duplicate_value.copy_contents-law; comparable_are = extensions_duplicate_value.copy_comparable_value-law; re_reads_are = extensions_duplicate_value.copy_re_reads_value-law; equal_are = extensions_duplicate_value_is_equal.copy_value_is_equal-law }))
-        no_copies)))))
+        (member_copies ⟦<Option<Explicit1Extensions<'a>> as Form>⟧
+        (optional_starts ⟦<Explicit1Extensions<'a> as Form>⟧ (one_tag ⟦<ExplicitTag<1> as TagMarker>⟧.TAG ⟦<Explicit1Extensions<'a> as FormValue>⟧.value.contents))
+        (optional_copies ⟦<Explicit1Extensions<'a> as Form>⟧ (one_tag_copies ⟦<ExplicitTag<1> as TagMarker>⟧.TAG (record { octets_are = explicit1_extensions_duplicate_value.copy_contents-law; comparable_are = explicit1_extensions_duplicate_value.copy_comparable_value-law; re_reads_are = explicit1_extensions_duplicate_value.copy_re_reads_value-law; equal_are = explicit1_extensions_duplicate_value_is_equal.copy_value_is_equal-law })))
         no_copies))))))) };
 }
 

@@ -9,21 +9,22 @@ ghost use Rattle.der_modules.specs.Asn1.{context, explicit_encoding, joined, opt
 ghost use Rattle.der_modules.specs.MemberLaws.{copies_of, held_copies, listed_copies, member_copies, member_equality, no_copies, no_equality, one_tag, one_tag_copies, one_tag_equality, optional_copies, optional_equality, optional_starts, same_copies, tagged_starts};
 ghost use Rattle.der_ocsp.specs.Ocsp.Grammar.{signature};
 ghost use Rattle.der_ocsp.specs.Ocsp.Signature as signature_fields;
-ghost use Rattle.der_ocsp.specs.contracts.ocsp.certificates.CertificatesContentsEq.TheImpl.Laws as certificates_contents_eq;
-ghost use Rattle.der_ocsp.specs.contracts.ocsp.certificates.CertificatesDuplicateValue.TheImpl.Laws as certificates_duplicate_value;
-ghost use Rattle.der_ocsp.specs.contracts.ocsp.certificates.CertificatesDuplicateValueIsEqual.TheImpl.Laws as certificates_duplicate_value_is_equal;
+ghost use Rattle.der_ocsp.specs.contracts.ocsp.explicit0_certificates.Explicit0CertificatesContentsEq.TheImpl.Laws as explicit0_certificates_contents_eq;
+ghost use Rattle.der_ocsp.specs.contracts.ocsp.explicit0_certificates.Explicit0CertificatesDuplicateValue.TheImpl.Laws as explicit0_certificates_duplicate_value;
+ghost use Rattle.der_ocsp.specs.contracts.ocsp.explicit0_certificates.Explicit0CertificatesDuplicateValueIsEqual.TheImpl.Laws as explicit0_certificates_duplicate_value_is_equal;
 ghost use Rattle.der_ocsp.specs.declared.ocsp.signature.Signature.{Signature};
 ghost use Rattle.der_pkix.specs.contracts.algorithm_identifier.AlgorithmIdentifierContentsEq.TheImpl.Laws as algorithm_identifier_contents_eq;
 ghost use Rattle.der_pkix.specs.contracts.algorithm_identifier.AlgorithmIdentifierEq.TheImpl.Laws as algorithm_identifier_eq;
 
 use crate::ocsp::certificates::Certificates;
+use crate::ocsp::explicit0_certificates::Explicit0Certificates;
 use der_bits::BitStringRef;
 use der_elem::{
     BitStringTag, ContentsEq, DecodeValue, DuplicateValue, DuplicateValueIsEqual, EncodeValue,
     Form, FormValue, OneTag, Sequence, SequenceTag, TagMarker, ValueOrd,
 };
 use der_fields::{
-    DecodeFields, DuplicateFields, EncodeFields, End, Explicit, ExplicitTag, Field, FieldList,
+    DecodeFields, DuplicateFields, EncodeFields, End, ExplicitTag, Field, FieldList, Fields1,
     Fields3, FieldsOrd,
 };
 use der_modules::{CopyLaws, copy_of};
@@ -37,7 +38,7 @@ use std::fmt;
 type Fields<'a> = Fields3<
     AlgorithmIdentifier<'a>,
     BitStringRef<'a>,
-    Option<Explicit<Certificates<'a>, 0>>,
+    Option<Explicit0Certificates<'a>>,
 >;
 
 /// ```text
@@ -69,8 +70,10 @@ impl<'a> Signature<'a> {
         ensures certs { signature_fields.certs result ≡ certs.entry }
     {
         let first = match certs {
-            Some(first) => Some(Explicit {
-                fields: Field { first, rest: End },
+            Some(first) => Some(Explicit0Certificates {
+                fields: Fields1 {
+                    list: Field { first, rest: End },
+                },
             }),
             None => None,
         };
@@ -106,7 +109,7 @@ impl<'a> Signature<'a> {
         } = rest;
         let Field { first: certs, .. } = rest;
         let certs = match certs {
-            Some(tagged) => Some(tagged.fields.first),
+            Some(tagged) => Some(tagged.fields.list.first),
             None => None,
         };
         (signature_algorithm, signature, certs)
@@ -131,7 +134,7 @@ impl<'a> Signature<'a> {
         ensures { option_copied result ≡ signature_fields.certs self.now }
     {
         match &self.fields.list.rest.rest.first {
-            Some(value) => Some(&value.fields.first),
+            Some(value) => Some(&value.fields.list.first),
             None => None,
         }
     }
@@ -207,14 +210,10 @@ impl<'a> ContentsEq for Signature<'a> {
         (tagged_starts ⟦<BitStringRef<'a> as Form>⟧ (one_tag ⟦<BitStringTag as TagMarker>⟧.TAG ⟦<BitStringRef<'a> as FormValue>⟧.value.contents))
         ⟦<BitStringRef<'a> as PartialEq>⟧.eq
         (one_tag_equality ⟦<BitStringTag as TagMarker>⟧.TAG ⟦<BitStringRef<'a> as FormValue>⟧.value.contents ⟦<BitStringRef<'a> as FormValue>⟧.value.comparable ⟦<BitStringRef<'a> as PartialEq>⟧.eq bitstringref_contents_eq.contents_eq-law)
-        (member_equality ⟦<Option<Explicit<Certificates<'a>, 0>> as Form>⟧
-        (optional_starts ⟦<Explicit<Certificates<'a>, 0> as Form>⟧ (one_tag ⟦<ExplicitTag<0> as TagMarker>⟧.TAG ⟦<Explicit<Certificates<'a>, 0> as FormValue>⟧.value.contents))
-        ⟦<Option<Explicit<Certificates<'a>, 0>> as PartialEq>⟧.eq
-        (optional_equality ⟦<Explicit<Certificates<'a>, 0> as Form>⟧ (one_tag ⟦<ExplicitTag<0> as TagMarker>⟧.TAG ⟦<Explicit<Certificates<'a>, 0> as FormValue>⟧.value.contents) ⟦<Explicit<Certificates<'a>, 0> as PartialEq>⟧.eq (one_tag_equality ⟦<ExplicitTag<0> as TagMarker>⟧.TAG ⟦<Explicit<Certificates<'a>, 0> as FormValue>⟧.value.contents ⟦<Explicit<Certificates<'a>, 0> as FormValue>⟧.value.comparable ⟦<Explicit<Certificates<'a>, 0> as PartialEq>⟧.eq (λ v w. ((member_equality ⟦<Certificates<'a> as Form>⟧
-        (tagged_starts ⟦<Certificates<'a> as Form>⟧ (one_tag ⟦<SequenceTag as TagMarker>⟧.TAG ⟦<Certificates<'a> as FormValue>⟧.value.contents))
-        ⟦<Certificates<'a> as PartialEq>⟧.eq
-        (one_tag_equality ⟦<SequenceTag as TagMarker>⟧.TAG ⟦<Certificates<'a> as FormValue>⟧.value.contents ⟦<Certificates<'a> as FormValue>⟧.value.comparable ⟦<Certificates<'a> as PartialEq>⟧.eq certificates_contents_eq.contents_eq-law)
-        no_equality).equal v.fields w.fields))))
+        (member_equality ⟦<Option<Explicit0Certificates<'a>> as Form>⟧
+        (optional_starts ⟦<Explicit0Certificates<'a> as Form>⟧ (one_tag ⟦<ExplicitTag<0> as TagMarker>⟧.TAG ⟦<Explicit0Certificates<'a> as FormValue>⟧.value.contents))
+        ⟦<Option<Explicit0Certificates<'a>> as PartialEq>⟧.eq
+        (optional_equality ⟦<Explicit0Certificates<'a> as Form>⟧ (one_tag ⟦<ExplicitTag<0> as TagMarker>⟧.TAG ⟦<Explicit0Certificates<'a> as FormValue>⟧.value.contents) ⟦<Explicit0Certificates<'a> as PartialEq>⟧.eq (one_tag_equality ⟦<ExplicitTag<0> as TagMarker>⟧.TAG ⟦<Explicit0Certificates<'a> as FormValue>⟧.value.contents ⟦<Explicit0Certificates<'a> as FormValue>⟧.value.comparable ⟦<Explicit0Certificates<'a> as PartialEq>⟧.eq explicit0_certificates_contents_eq.contents_eq-law))
         no_equality))).equal v.fields.list w.fields.list };
 }
 
@@ -226,12 +225,9 @@ impl<'a> CopyLaws for Signature<'a> {
         (member_copies ⟦<BitStringRef<'a> as Form>⟧
         (tagged_starts ⟦<BitStringRef<'a> as Form>⟧ (one_tag ⟦<BitStringTag as TagMarker>⟧.TAG ⟦<BitStringRef<'a> as FormValue>⟧.value.contents))
         (one_tag_copies ⟦<BitStringTag as TagMarker>⟧.TAG (same_copies ⟦<BitStringRef<'a> as FormValue>⟧.value.contents ⟦<BitStringRef<'a> as FormValue>⟧.value.comparable ⟦<BitStringRef<'a> as FormValue>⟧.value.re_reads ⟦<BitStringRef<'a> as PartialEq>⟧.eq (λ v. (bitstringref_contents_eq.contents_eq-law v v tt).1 refl)))
-        (member_copies ⟦<Option<Explicit<Certificates<'a>, 0>> as Form>⟧
-        (optional_starts ⟦<Explicit<Certificates<'a>, 0> as Form>⟧ (one_tag ⟦<ExplicitTag<0> as TagMarker>⟧.TAG ⟦<Explicit<Certificates<'a>, 0> as FormValue>⟧.value.contents))
-        (optional_copies ⟦<Explicit<Certificates<'a>, 0> as Form>⟧ (one_tag_copies ⟦<ExplicitTag<0> as TagMarker>⟧.TAG (held_copies (λ x. x.fields) (listed_copies (member_copies ⟦<Certificates<'a> as Form>⟧
-        (tagged_starts ⟦<Certificates<'a> as Form>⟧ (one_tag ⟦<SequenceTag as TagMarker>⟧.TAG ⟦<Certificates<'a> as FormValue>⟧.value.contents))
-        (one_tag_copies ⟦<SequenceTag as TagMarker>⟧.TAG (record { octets_are = certificates_duplicate_value.copy_contents-law; comparable_are = certificates_duplicate_value.copy_comparable_value-law; re_reads_are = certificates_duplicate_value.copy_re_reads_value-law; equal_are = certificates_duplicate_value_is_equal.copy_value_is_equal-law }))
-        no_copies)))))
+        (member_copies ⟦<Option<Explicit0Certificates<'a>> as Form>⟧
+        (optional_starts ⟦<Explicit0Certificates<'a> as Form>⟧ (one_tag ⟦<ExplicitTag<0> as TagMarker>⟧.TAG ⟦<Explicit0Certificates<'a> as FormValue>⟧.value.contents))
+        (optional_copies ⟦<Explicit0Certificates<'a> as Form>⟧ (one_tag_copies ⟦<ExplicitTag<0> as TagMarker>⟧.TAG (record { octets_are = explicit0_certificates_duplicate_value.copy_contents-law; comparable_are = explicit0_certificates_duplicate_value.copy_comparable_value-law; re_reads_are = explicit0_certificates_duplicate_value.copy_re_reads_value-law; equal_are = explicit0_certificates_duplicate_value_is_equal.copy_value_is_equal-law })))
         no_copies))))) };
 }
 

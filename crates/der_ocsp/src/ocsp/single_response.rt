@@ -13,21 +13,22 @@ ghost use Rattle.der_ocsp.specs.contracts.ocsp.cert_id.CertIdEq.TheImpl.Laws as 
 ghost use Rattle.der_ocsp.specs.contracts.ocsp.cert_status.CertStatusEncodingEq.TheImpl.Laws as cert_status_encoding_eq;
 ghost use Rattle.der_ocsp.specs.contracts.ocsp.cert_status.CertStatusEq.TheImpl.Laws as cert_status_eq;
 ghost use Rattle.der_ocsp.specs.contracts.ocsp.cert_status.CertStatusTagged.TheImpl.Laws as cert_status_tagged;
+ghost use Rattle.der_ocsp.specs.contracts.ocsp.explicit1_extensions.Explicit1ExtensionsContentsEq.TheImpl.Laws as explicit1_extensions_contents_eq;
+ghost use Rattle.der_ocsp.specs.contracts.ocsp.explicit1_extensions.Explicit1ExtensionsDuplicateValue.TheImpl.Laws as explicit1_extensions_duplicate_value;
+ghost use Rattle.der_ocsp.specs.contracts.ocsp.explicit1_extensions.Explicit1ExtensionsDuplicateValueIsEqual.TheImpl.Laws as explicit1_extensions_duplicate_value_is_equal;
 ghost use Rattle.der_ocsp.specs.declared.ocsp.single_response.SingleResponse.{SingleResponse};
-ghost use Rattle.der_pkix.specs.contracts.certificate.extensions.ExtensionsContentsEq.TheImpl.Laws as extensions_contents_eq;
-ghost use Rattle.der_pkix.specs.contracts.certificate.extensions.ExtensionsDuplicateValue.TheImpl.Laws as extensions_duplicate_value;
-ghost use Rattle.der_pkix.specs.contracts.certificate.extensions.ExtensionsDuplicateValueIsEqual.TheImpl.Laws as extensions_duplicate_value_is_equal;
 ghost use Rattle.der_time.specs.contracts.generalized_time.GeneralizedTimeContentsEq.TheImpl.Laws as generalizedtime_contents_eq;
 
 use crate::ocsp::cert_id::CertId;
 use crate::ocsp::cert_status::CertStatus;
+use crate::ocsp::explicit1_extensions::Explicit1Extensions;
 use der_elem::{
     ContentsEq, DecodeValue, DuplicateValue, DuplicateValueIsEqual, EncodeValue, Form, FormValue,
     GeneralizedTimeTag, OneTag, Sequence, SequenceTag, TagMarker, Tagged, ValueOrd,
 };
 use der_fields::{
     DecodeFields, DuplicateFields, EncodeFields, End, Explicit, ExplicitTag, Field, FieldList,
-    Fields5, FieldsOrd,
+    Fields1, Fields5, FieldsOrd,
 };
 use der_modules::{CopyLaws, copy_of};
 use der_pkix::certificate::Extensions;
@@ -43,7 +44,7 @@ type Fields<'a> = Fields5<
     CertStatus,
     GeneralizedTime,
     Option<Explicit<GeneralizedTime, 0>>,
-    Option<Explicit<Extensions<'a>, 1>>,
+    Option<Explicit1Extensions<'a>>,
 >;
 
 /// ```text
@@ -81,8 +82,10 @@ impl<'a> SingleResponse<'a> {
         ensures single_extensions { single_response_fields.single_extensions result ≡ single_extensions.entry }
     {
         let first = match single_extensions {
-            Some(first) => Some(Explicit {
-                fields: Field { first, rest: End },
+            Some(first) => Some(Explicit1Extensions {
+                fields: Fields1 {
+                    list: Field { first, rest: End },
+                },
             }),
             None => None,
         };
@@ -146,7 +149,7 @@ impl<'a> SingleResponse<'a> {
             None => None,
         };
         let single_extensions = match single_extensions {
-            Some(tagged) => Some(tagged.fields.first),
+            Some(tagged) => Some(tagged.fields.list.first),
             None => None,
         };
         (
@@ -194,7 +197,7 @@ impl<'a> SingleResponse<'a> {
         ensures { option_copied result ≡ single_response_fields.single_extensions self.now }
     {
         match &self.fields.list.rest.rest.rest.rest.first {
-            Some(value) => Some(&value.fields.first),
+            Some(value) => Some(&value.fields.list.first),
             None => None,
         }
     }
@@ -284,14 +287,10 @@ impl<'a> ContentsEq for SingleResponse<'a> {
         ⟦<GeneralizedTime as PartialEq>⟧.eq
         (one_tag_equality ⟦<GeneralizedTimeTag as TagMarker>⟧.TAG ⟦<GeneralizedTime as FormValue>⟧.value.contents ⟦<GeneralizedTime as FormValue>⟧.value.comparable ⟦<GeneralizedTime as PartialEq>⟧.eq generalizedtime_contents_eq.contents_eq-law)
         no_equality).equal v.fields w.fields))))
-        (member_equality ⟦<Option<Explicit<Extensions<'a>, 1>> as Form>⟧
-        (optional_starts ⟦<Explicit<Extensions<'a>, 1> as Form>⟧ (one_tag ⟦<ExplicitTag<1> as TagMarker>⟧.TAG ⟦<Explicit<Extensions<'a>, 1> as FormValue>⟧.value.contents))
-        ⟦<Option<Explicit<Extensions<'a>, 1>> as PartialEq>⟧.eq
-        (optional_equality ⟦<Explicit<Extensions<'a>, 1> as Form>⟧ (one_tag ⟦<ExplicitTag<1> as TagMarker>⟧.TAG ⟦<Explicit<Extensions<'a>, 1> as FormValue>⟧.value.contents) ⟦<Explicit<Extensions<'a>, 1> as PartialEq>⟧.eq (one_tag_equality ⟦<ExplicitTag<1> as TagMarker>⟧.TAG ⟦<Explicit<Extensions<'a>, 1> as FormValue>⟧.value.contents ⟦<Explicit<Extensions<'a>, 1> as FormValue>⟧.value.comparable ⟦<Explicit<Extensions<'a>, 1> as PartialEq>⟧.eq (λ v w. ((member_equality ⟦<Extensions<'a> as Form>⟧
-        (tagged_starts ⟦<Extensions<'a> as Form>⟧ (one_tag ⟦<SequenceTag as TagMarker>⟧.TAG ⟦<Extensions<'a> as FormValue>⟧.value.contents))
-        ⟦<Extensions<'a> as PartialEq>⟧.eq
-        (one_tag_equality ⟦<SequenceTag as TagMarker>⟧.TAG ⟦<Extensions<'a> as FormValue>⟧.value.contents ⟦<Extensions<'a> as FormValue>⟧.value.comparable ⟦<Extensions<'a> as PartialEq>⟧.eq extensions_contents_eq.contents_eq-law)
-        no_equality).equal v.fields w.fields))))
+        (member_equality ⟦<Option<Explicit1Extensions<'a>> as Form>⟧
+        (optional_starts ⟦<Explicit1Extensions<'a> as Form>⟧ (one_tag ⟦<ExplicitTag<1> as TagMarker>⟧.TAG ⟦<Explicit1Extensions<'a> as FormValue>⟧.value.contents))
+        ⟦<Option<Explicit1Extensions<'a>> as PartialEq>⟧.eq
+        (optional_equality ⟦<Explicit1Extensions<'a> as Form>⟧ (one_tag ⟦<ExplicitTag<1> as TagMarker>⟧.TAG ⟦<Explicit1Extensions<'a> as FormValue>⟧.value.contents) ⟦<Explicit1Extensions<'a> as PartialEq>⟧.eq (one_tag_equality ⟦<ExplicitTag<1> as TagMarker>⟧.TAG ⟦<Explicit1Extensions<'a> as FormValue>⟧.value.contents ⟦<Explicit1Extensions<'a> as FormValue>⟧.value.comparable ⟦<Explicit1Extensions<'a> as PartialEq>⟧.eq explicit1_extensions_contents_eq.contents_eq-law))
         no_equality))))).equal v.fields.list w.fields.list };
 }
 
@@ -312,12 +311,9 @@ impl<'a> CopyLaws for SingleResponse<'a> {
         (tagged_starts ⟦<GeneralizedTime as Form>⟧ (one_tag ⟦<GeneralizedTimeTag as TagMarker>⟧.TAG ⟦<GeneralizedTime as FormValue>⟧.value.contents))
         (one_tag_copies ⟦<GeneralizedTimeTag as TagMarker>⟧.TAG (same_copies ⟦<GeneralizedTime as FormValue>⟧.value.contents ⟦<GeneralizedTime as FormValue>⟧.value.comparable ⟦<GeneralizedTime as FormValue>⟧.value.re_reads ⟦<GeneralizedTime as PartialEq>⟧.eq (λ v. (generalizedtime_contents_eq.contents_eq-law v v tt).1 refl)))
         no_copies)))))
-        (member_copies ⟦<Option<Explicit<Extensions<'a>, 1>> as Form>⟧
-        (optional_starts ⟦<Explicit<Extensions<'a>, 1> as Form>⟧ (one_tag ⟦<ExplicitTag<1> as TagMarker>⟧.TAG ⟦<Explicit<Extensions<'a>, 1> as FormValue>⟧.value.contents))
-        (optional_copies ⟦<Explicit<Extensions<'a>, 1> as Form>⟧ (one_tag_copies ⟦<ExplicitTag<1> as TagMarker>⟧.TAG (held_copies (λ x. x.fields) (listed_copies (member_copies ⟦<Extensions<'a> as Form>⟧
-        (tagged_starts ⟦<Extensions<'a> as Form>⟧ (one_tag ⟦<SequenceTag as TagMarker>⟧.TAG ⟦<Extensions<'a> as FormValue>⟧.value.contents))
-        (one_tag_copies ⟦<SequenceTag as TagMarker>⟧.TAG (record { octets_are = extensions_duplicate_value.copy_contents-law; comparable_are = extensions_duplicate_value.copy_comparable_value-law; re_reads_are = extensions_duplicate_value.copy_re_reads_value-law; equal_are = extensions_duplicate_value_is_equal.copy_value_is_equal-law }))
-        no_copies)))))
+        (member_copies ⟦<Option<Explicit1Extensions<'a>> as Form>⟧
+        (optional_starts ⟦<Explicit1Extensions<'a> as Form>⟧ (one_tag ⟦<ExplicitTag<1> as TagMarker>⟧.TAG ⟦<Explicit1Extensions<'a> as FormValue>⟧.value.contents))
+        (optional_copies ⟦<Explicit1Extensions<'a> as Form>⟧ (one_tag_copies ⟦<ExplicitTag<1> as TagMarker>⟧.TAG (record { octets_are = explicit1_extensions_duplicate_value.copy_contents-law; comparable_are = explicit1_extensions_duplicate_value.copy_comparable_value-law; re_reads_are = explicit1_extensions_duplicate_value.copy_re_reads_value-law; equal_are = explicit1_extensions_duplicate_value_is_equal.copy_value_is_equal-law })))
         no_copies))))))) };
 }
 

@@ -5,32 +5,33 @@
 ghost use Rattle.std.specs.Prelude.{◌∷◌, ◌≡◌, [], refl, true};
 ghost use Rattle.der_elem.specs.FormatMakers.{mapped_format};
 ghost use Rattle.der_elem.specs.contracts.integer.unsigned.U8ContentsEq.TheImpl.Laws as u8_contents_eq;
-ghost use Rattle.der_extensions.specs.contracts.extension.general_name.GeneralNameDuplicate.TheImpl.Laws as general_name_duplicate;
-ghost use Rattle.der_extensions.specs.contracts.extension.general_name.GeneralNameDuplicateIsEqual.TheImpl.Laws as general_name_duplicate_is_equal;
-ghost use Rattle.der_extensions.specs.contracts.extension.general_name.GeneralNameEncodingEq.TheImpl.Laws as general_name_encoding_eq;
-ghost use Rattle.der_extensions.specs.contracts.extension.general_name.GeneralNameTagged.TheImpl.Laws as general_name_tagged;
 ghost use Rattle.der_modules.specs.Asn1.{context, explicit_encoding, joined, optional, parse_of, unless_default};
-ghost use Rattle.der_modules.specs.MemberLaws.{copies_of, default_copies, default_equality, default_starts, held_copies, listed_copies, member_copies, member_equality, no_copies, no_equality, one_tag, one_tag_copies, one_tag_equality, optional_copies, optional_equality, optional_starts, own_tags, same_copies, tagged_starts};
+ghost use Rattle.der_modules.specs.MemberLaws.{copies_of, default_copies, default_equality, default_starts, held_copies, listed_copies, member_copies, member_equality, no_copies, no_equality, one_tag, one_tag_copies, one_tag_equality, optional_copies, optional_equality, optional_starts, same_copies, tagged_starts};
 ghost use Rattle.der_ocsp.specs.Ocsp.Grammar.{tbs_request};
 ghost use Rattle.der_ocsp.specs.Ocsp.TbsRequest as tbs_request_fields;
+ghost use Rattle.der_ocsp.specs.contracts.ocsp.explicit1_general_name.Explicit1GeneralNameContentsEq.TheImpl.Laws as explicit1_general_name_contents_eq;
+ghost use Rattle.der_ocsp.specs.contracts.ocsp.explicit1_general_name.Explicit1GeneralNameDuplicateValue.TheImpl.Laws as explicit1_general_name_duplicate_value;
+ghost use Rattle.der_ocsp.specs.contracts.ocsp.explicit1_general_name.Explicit1GeneralNameDuplicateValueIsEqual.TheImpl.Laws as explicit1_general_name_duplicate_value_is_equal;
+ghost use Rattle.der_ocsp.specs.contracts.ocsp.explicit2_extensions.Explicit2ExtensionsContentsEq.TheImpl.Laws as explicit2_extensions_contents_eq;
+ghost use Rattle.der_ocsp.specs.contracts.ocsp.explicit2_extensions.Explicit2ExtensionsDuplicateValue.TheImpl.Laws as explicit2_extensions_duplicate_value;
+ghost use Rattle.der_ocsp.specs.contracts.ocsp.explicit2_extensions.Explicit2ExtensionsDuplicateValueIsEqual.TheImpl.Laws as explicit2_extensions_duplicate_value_is_equal;
 ghost use Rattle.der_ocsp.specs.contracts.ocsp.requests.RequestsContentsEq.TheImpl.Laws as requests_contents_eq;
 ghost use Rattle.der_ocsp.specs.contracts.ocsp.requests.RequestsDuplicateValue.TheImpl.Laws as requests_duplicate_value;
 ghost use Rattle.der_ocsp.specs.contracts.ocsp.requests.RequestsDuplicateValueIsEqual.TheImpl.Laws as requests_duplicate_value_is_equal;
 ghost use Rattle.der_ocsp.specs.declared.ocsp.tbs_request.TbsRequest.{TbsRequest};
-ghost use Rattle.der_pkix.specs.contracts.certificate.extensions.ExtensionsContentsEq.TheImpl.Laws as extensions_contents_eq;
-ghost use Rattle.der_pkix.specs.contracts.certificate.extensions.ExtensionsDuplicateValue.TheImpl.Laws as extensions_duplicate_value;
-ghost use Rattle.der_pkix.specs.contracts.certificate.extensions.ExtensionsDuplicateValueIsEqual.TheImpl.Laws as extensions_duplicate_value_is_equal;
 
 use crate::ocsp::aliases::Version;
+use crate::ocsp::explicit1_general_name::Explicit1GeneralName;
+use crate::ocsp::explicit2_extensions::Explicit2Extensions;
 use crate::ocsp::requests::Requests;
 use der_elem::{
     ContentsEq, DecodeValue, DuplicateValue, DuplicateValueIsEqual, EncodeValue, Form, FormValue,
-    IntegerTag, OneTag, Sequence, SequenceTag, TagMarker, Tagged, ValueOrd,
+    IntegerTag, OneTag, Sequence, SequenceTag, TagMarker, ValueOrd,
 };
 use der_extensions::extension::GeneralName;
 use der_fields::{
     DecodeFields, DefaultNumber, DefaultOf, DuplicateFields, EncodeFields, End, Explicit,
-    ExplicitTag, Field, FieldList, Fields4, FieldsOrd, WithDefault,
+    ExplicitTag, Field, FieldList, Fields1, Fields4, FieldsOrd, WithDefault,
 };
 use der_modules::CopyLaws;
 use der_pkix::certificate::Extensions;
@@ -42,9 +43,9 @@ use std::fmt;
 /// The list of the fields.
 type Fields<'a> = Fields4<
     WithDefault<Explicit<Version, 0>, DefaultNumber<0>>,
-    Option<Explicit<GeneralName<'a>, 1>>,
+    Option<Explicit1GeneralName<'a>>,
     Requests<'a>,
-    Option<Explicit<Extensions<'a>, 2>>,
+    Option<Explicit2Extensions<'a>>,
 >;
 
 /// ```text
@@ -79,8 +80,10 @@ impl<'a> TbsRequest<'a> {
         ensures request_extensions { tbs_request_fields.request_extensions result ≡ request_extensions.entry }
     {
         let first = match request_extensions {
-            Some(first) => Some(Explicit {
-                fields: Field { first, rest: End },
+            Some(first) => Some(Explicit2Extensions {
+                fields: Fields1 {
+                    list: Field { first, rest: End },
+                },
             }),
             None => None,
         };
@@ -88,8 +91,10 @@ impl<'a> TbsRequest<'a> {
         let first = request_list;
         let rest = Field { first, rest };
         let first = match requestor_name {
-            Some(first) => Some(Explicit {
-                fields: Field { first, rest: End },
+            Some(first) => Some(Explicit1GeneralName {
+                fields: Fields1 {
+                    list: Field { first, rest: End },
+                },
             }),
             None => None,
         };
@@ -138,11 +143,11 @@ impl<'a> TbsRequest<'a> {
         } = rest;
         let version = version.value.fields.first;
         let requestor_name = match requestor_name {
-            Some(tagged) => Some(tagged.fields.first),
+            Some(tagged) => Some(tagged.fields.list.first),
             None => None,
         };
         let request_extensions = match request_extensions {
-            Some(tagged) => Some(tagged.fields.first),
+            Some(tagged) => Some(tagged.fields.list.first),
             None => None,
         };
         (version, requestor_name, request_list, request_extensions)
@@ -160,7 +165,7 @@ impl<'a> TbsRequest<'a> {
         ensures { option_copied result ≡ tbs_request_fields.requestor_name self.now }
     {
         match &self.fields.list.rest.first {
-            Some(value) => Some(&value.fields.first),
+            Some(value) => Some(&value.fields.list.first),
             None => None,
         }
     }
@@ -177,7 +182,7 @@ impl<'a> TbsRequest<'a> {
         ensures { option_copied result ≡ tbs_request_fields.request_extensions self.now }
     {
         match &self.fields.list.rest.rest.rest.first {
-            Some(value) => Some(&value.fields.first),
+            Some(value) => Some(&value.fields.list.first),
             None => None,
         }
     }
@@ -254,26 +259,18 @@ impl<'a> ContentsEq for TbsRequest<'a> {
         ⟦<Version as PartialEq>⟧.eq
         (one_tag_equality ⟦<IntegerTag as TagMarker>⟧.TAG ⟦<u8 as FormValue>⟧.value.contents ⟦<u8 as FormValue>⟧.value.comparable ⟦<u8 as PartialEq>⟧.eq u8_contents_eq.contents_eq-law)
         no_equality).equal v.fields w.fields))))
-        (member_equality ⟦<Option<Explicit<GeneralName<'a>, 1>> as Form>⟧
-        (optional_starts ⟦<Explicit<GeneralName<'a>, 1> as Form>⟧ (one_tag ⟦<ExplicitTag<1> as TagMarker>⟧.TAG ⟦<Explicit<GeneralName<'a>, 1> as FormValue>⟧.value.contents))
-        ⟦<Option<Explicit<GeneralName<'a>, 1>> as PartialEq>⟧.eq
-        (optional_equality ⟦<Explicit<GeneralName<'a>, 1> as Form>⟧ (one_tag ⟦<ExplicitTag<1> as TagMarker>⟧.TAG ⟦<Explicit<GeneralName<'a>, 1> as FormValue>⟧.value.contents) ⟦<Explicit<GeneralName<'a>, 1> as PartialEq>⟧.eq (one_tag_equality ⟦<ExplicitTag<1> as TagMarker>⟧.TAG ⟦<Explicit<GeneralName<'a>, 1> as FormValue>⟧.value.contents ⟦<Explicit<GeneralName<'a>, 1> as FormValue>⟧.value.comparable ⟦<Explicit<GeneralName<'a>, 1> as PartialEq>⟧.eq (λ v w. ((member_equality ⟦<GeneralName<'a> as Form>⟧
-        (tagged_starts ⟦<GeneralName<'a> as Form>⟧ (own_tags ⟦<GeneralName<'a> as Form>⟧.tags ⟦<GeneralName<'a> as Form>⟧.first_tag_of ⟦<GeneralName<'a> as Form>⟧.encoding ⟦<GeneralName<'a> as Tagged>⟧.tag_of ⟦<GeneralName<'a> as FormValue>⟧.value.contents general_name_tagged.encoding_is-law general_name_tagged.own_tag-law general_name_tagged.first_tag_is-law))
-        ⟦<GeneralName<'a> as PartialEq>⟧.eq
-        general_name_encoding_eq.encoding_eq-law
-        no_equality).equal v.fields w.fields))))
+        (member_equality ⟦<Option<Explicit1GeneralName<'a>> as Form>⟧
+        (optional_starts ⟦<Explicit1GeneralName<'a> as Form>⟧ (one_tag ⟦<ExplicitTag<1> as TagMarker>⟧.TAG ⟦<Explicit1GeneralName<'a> as FormValue>⟧.value.contents))
+        ⟦<Option<Explicit1GeneralName<'a>> as PartialEq>⟧.eq
+        (optional_equality ⟦<Explicit1GeneralName<'a> as Form>⟧ (one_tag ⟦<ExplicitTag<1> as TagMarker>⟧.TAG ⟦<Explicit1GeneralName<'a> as FormValue>⟧.value.contents) ⟦<Explicit1GeneralName<'a> as PartialEq>⟧.eq (one_tag_equality ⟦<ExplicitTag<1> as TagMarker>⟧.TAG ⟦<Explicit1GeneralName<'a> as FormValue>⟧.value.contents ⟦<Explicit1GeneralName<'a> as FormValue>⟧.value.comparable ⟦<Explicit1GeneralName<'a> as PartialEq>⟧.eq explicit1_general_name_contents_eq.contents_eq-law))
         (member_equality ⟦<Requests<'a> as Form>⟧
         (tagged_starts ⟦<Requests<'a> as Form>⟧ (one_tag ⟦<SequenceTag as TagMarker>⟧.TAG ⟦<Requests<'a> as FormValue>⟧.value.contents))
         ⟦<Requests<'a> as PartialEq>⟧.eq
         (one_tag_equality ⟦<SequenceTag as TagMarker>⟧.TAG ⟦<Requests<'a> as FormValue>⟧.value.contents ⟦<Requests<'a> as FormValue>⟧.value.comparable ⟦<Requests<'a> as PartialEq>⟧.eq requests_contents_eq.contents_eq-law)
-        (member_equality ⟦<Option<Explicit<Extensions<'a>, 2>> as Form>⟧
-        (optional_starts ⟦<Explicit<Extensions<'a>, 2> as Form>⟧ (one_tag ⟦<ExplicitTag<2> as TagMarker>⟧.TAG ⟦<Explicit<Extensions<'a>, 2> as FormValue>⟧.value.contents))
-        ⟦<Option<Explicit<Extensions<'a>, 2>> as PartialEq>⟧.eq
-        (optional_equality ⟦<Explicit<Extensions<'a>, 2> as Form>⟧ (one_tag ⟦<ExplicitTag<2> as TagMarker>⟧.TAG ⟦<Explicit<Extensions<'a>, 2> as FormValue>⟧.value.contents) ⟦<Explicit<Extensions<'a>, 2> as PartialEq>⟧.eq (one_tag_equality ⟦<ExplicitTag<2> as TagMarker>⟧.TAG ⟦<Explicit<Extensions<'a>, 2> as FormValue>⟧.value.contents ⟦<Explicit<Extensions<'a>, 2> as FormValue>⟧.value.comparable ⟦<Explicit<Extensions<'a>, 2> as PartialEq>⟧.eq (λ v w. ((member_equality ⟦<Extensions<'a> as Form>⟧
-        (tagged_starts ⟦<Extensions<'a> as Form>⟧ (one_tag ⟦<SequenceTag as TagMarker>⟧.TAG ⟦<Extensions<'a> as FormValue>⟧.value.contents))
-        ⟦<Extensions<'a> as PartialEq>⟧.eq
-        (one_tag_equality ⟦<SequenceTag as TagMarker>⟧.TAG ⟦<Extensions<'a> as FormValue>⟧.value.contents ⟦<Extensions<'a> as FormValue>⟧.value.comparable ⟦<Extensions<'a> as PartialEq>⟧.eq extensions_contents_eq.contents_eq-law)
-        no_equality).equal v.fields w.fields))))
+        (member_equality ⟦<Option<Explicit2Extensions<'a>> as Form>⟧
+        (optional_starts ⟦<Explicit2Extensions<'a> as Form>⟧ (one_tag ⟦<ExplicitTag<2> as TagMarker>⟧.TAG ⟦<Explicit2Extensions<'a> as FormValue>⟧.value.contents))
+        ⟦<Option<Explicit2Extensions<'a>> as PartialEq>⟧.eq
+        (optional_equality ⟦<Explicit2Extensions<'a> as Form>⟧ (one_tag ⟦<ExplicitTag<2> as TagMarker>⟧.TAG ⟦<Explicit2Extensions<'a> as FormValue>⟧.value.contents) ⟦<Explicit2Extensions<'a> as PartialEq>⟧.eq (one_tag_equality ⟦<ExplicitTag<2> as TagMarker>⟧.TAG ⟦<Explicit2Extensions<'a> as FormValue>⟧.value.contents ⟦<Explicit2Extensions<'a> as FormValue>⟧.value.comparable ⟦<Explicit2Extensions<'a> as PartialEq>⟧.eq explicit2_extensions_contents_eq.contents_eq-law))
         no_equality)))).equal v.fields.list w.fields.list };
 }
 
@@ -285,21 +282,15 @@ impl<'a> CopyLaws for TbsRequest<'a> {
         (tagged_starts ⟦<Version as Form>⟧ (one_tag ⟦<IntegerTag as TagMarker>⟧.TAG ⟦<u8 as FormValue>⟧.value.contents))
         (one_tag_copies ⟦<IntegerTag as TagMarker>⟧.TAG (same_copies ⟦<u8 as FormValue>⟧.value.contents ⟦<u8 as FormValue>⟧.value.comparable ⟦<u8 as FormValue>⟧.value.re_reads ⟦<u8 as PartialEq>⟧.eq (λ v. (u8_contents_eq.contents_eq-law v v tt).1 refl)))
         no_copies)))) (λ x. x.value) ⟦<DefaultNumber<0> as DefaultOf<Explicit<Version, 0>>>⟧.octets)
-        (member_copies ⟦<Option<Explicit<GeneralName<'a>, 1>> as Form>⟧
-        (optional_starts ⟦<Explicit<GeneralName<'a>, 1> as Form>⟧ (one_tag ⟦<ExplicitTag<1> as TagMarker>⟧.TAG ⟦<Explicit<GeneralName<'a>, 1> as FormValue>⟧.value.contents))
-        (optional_copies ⟦<Explicit<GeneralName<'a>, 1> as Form>⟧ (one_tag_copies ⟦<ExplicitTag<1> as TagMarker>⟧.TAG (held_copies (λ x. x.fields) (listed_copies (member_copies ⟦<GeneralName<'a> as Form>⟧
-        (tagged_starts ⟦<GeneralName<'a> as Form>⟧ (own_tags ⟦<GeneralName<'a> as Form>⟧.tags ⟦<GeneralName<'a> as Form>⟧.first_tag_of ⟦<GeneralName<'a> as Form>⟧.encoding ⟦<GeneralName<'a> as Tagged>⟧.tag_of ⟦<GeneralName<'a> as FormValue>⟧.value.contents general_name_tagged.encoding_is-law general_name_tagged.own_tag-law general_name_tagged.first_tag_is-law))
-        (record { octets_are = general_name_duplicate.copy_encoding-law; comparable_are = general_name_duplicate.copy_comparable-law; re_reads_are = general_name_duplicate.copy_re_reads-law; equal_are = general_name_duplicate_is_equal.copy_is_equal-law })
-        no_copies)))))
+        (member_copies ⟦<Option<Explicit1GeneralName<'a>> as Form>⟧
+        (optional_starts ⟦<Explicit1GeneralName<'a> as Form>⟧ (one_tag ⟦<ExplicitTag<1> as TagMarker>⟧.TAG ⟦<Explicit1GeneralName<'a> as FormValue>⟧.value.contents))
+        (optional_copies ⟦<Explicit1GeneralName<'a> as Form>⟧ (one_tag_copies ⟦<ExplicitTag<1> as TagMarker>⟧.TAG (record { octets_are = explicit1_general_name_duplicate_value.copy_contents-law; comparable_are = explicit1_general_name_duplicate_value.copy_comparable_value-law; re_reads_are = explicit1_general_name_duplicate_value.copy_re_reads_value-law; equal_are = explicit1_general_name_duplicate_value_is_equal.copy_value_is_equal-law })))
         (member_copies ⟦<Requests<'a> as Form>⟧
         (tagged_starts ⟦<Requests<'a> as Form>⟧ (one_tag ⟦<SequenceTag as TagMarker>⟧.TAG ⟦<Requests<'a> as FormValue>⟧.value.contents))
         (one_tag_copies ⟦<SequenceTag as TagMarker>⟧.TAG (record { octets_are = requests_duplicate_value.copy_contents-law; comparable_are = requests_duplicate_value.copy_comparable_value-law; re_reads_are = requests_duplicate_value.copy_re_reads_value-law; equal_are = requests_duplicate_value_is_equal.copy_value_is_equal-law }))
-        (member_copies ⟦<Option<Explicit<Extensions<'a>, 2>> as Form>⟧
-        (optional_starts ⟦<Explicit<Extensions<'a>, 2> as Form>⟧ (one_tag ⟦<ExplicitTag<2> as TagMarker>⟧.TAG ⟦<Explicit<Extensions<'a>, 2> as FormValue>⟧.value.contents))
-        (optional_copies ⟦<Explicit<Extensions<'a>, 2> as Form>⟧ (one_tag_copies ⟦<ExplicitTag<2> as TagMarker>⟧.TAG (held_copies (λ x. x.fields) (listed_copies (member_copies ⟦<Extensions<'a> as Form>⟧
-        (tagged_starts ⟦<Extensions<'a> as Form>⟧ (one_tag ⟦<SequenceTag as TagMarker>⟧.TAG ⟦<Extensions<'a> as FormValue>⟧.value.contents))
-        (one_tag_copies ⟦<SequenceTag as TagMarker>⟧.TAG (record { octets_are = extensions_duplicate_value.copy_contents-law; comparable_are = extensions_duplicate_value.copy_comparable_value-law; re_reads_are = extensions_duplicate_value.copy_re_reads_value-law; equal_are = extensions_duplicate_value_is_equal.copy_value_is_equal-law }))
-        no_copies)))))
+        (member_copies ⟦<Option<Explicit2Extensions<'a>> as Form>⟧
+        (optional_starts ⟦<Explicit2Extensions<'a> as Form>⟧ (one_tag ⟦<ExplicitTag<2> as TagMarker>⟧.TAG ⟦<Explicit2Extensions<'a> as FormValue>⟧.value.contents))
+        (optional_copies ⟦<Explicit2Extensions<'a> as Form>⟧ (one_tag_copies ⟦<ExplicitTag<2> as TagMarker>⟧.TAG (record { octets_are = explicit2_extensions_duplicate_value.copy_contents-law; comparable_are = explicit2_extensions_duplicate_value.copy_comparable_value-law; re_reads_are = explicit2_extensions_duplicate_value.copy_re_reads_value-law; equal_are = explicit2_extensions_duplicate_value_is_equal.copy_value_is_equal-law })))
         no_copies)))))) };
 }
 

@@ -49,4 +49,4 @@ subject_unique_id v = option_map (λ x. x.value) v.fields.list.rest.rest.rest.re
 
 -- extensions [3] Extensions OPTIONAL
 abbrev pub extensions : TbsCertificate → Option Extensions
-extensions v = option_map (λ x. x.fields.first) v.fields.list.rest.rest.rest.rest.rest.rest.rest.rest.list.rest.first
+extensions v = option_map (λ x. x.fields.list.first) v.fields.list.rest.rest.rest.rest.rest.rest.rest.rest.list.rest.first

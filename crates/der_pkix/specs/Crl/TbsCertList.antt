@@ -36,4 +36,4 @@ revoked_certificates v = v.fields.list.rest.rest.rest.rest.rest.first
 
 -- crlExtensions [0] Extensions OPTIONAL
 abbrev pub crl_extensions : TbsCertList → Option Extensions
-crl_extensions v = option_map (λ x. x.fields.first) v.fields.list.rest.rest.rest.rest.rest.rest.first
+crl_extensions v = option_map (λ x. x.fields.list.first) v.fields.list.rest.rest.rest.rest.rest.rest.first

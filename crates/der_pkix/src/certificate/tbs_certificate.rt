@@ -14,9 +14,9 @@ ghost use Rattle.der_pkix.specs.Certificate.Grammar.{tbs_certificate};
 ghost use Rattle.der_pkix.specs.Certificate.TbsCertificate as tbs_certificate_fields;
 ghost use Rattle.der_pkix.specs.contracts.algorithm_identifier.AlgorithmIdentifierContentsEq.TheImpl.Laws as algorithm_identifier_contents_eq;
 ghost use Rattle.der_pkix.specs.contracts.algorithm_identifier.AlgorithmIdentifierEq.TheImpl.Laws as algorithm_identifier_eq;
-ghost use Rattle.der_pkix.specs.contracts.certificate.extensions.ExtensionsContentsEq.TheImpl.Laws as extensions_contents_eq;
-ghost use Rattle.der_pkix.specs.contracts.certificate.extensions.ExtensionsDuplicateValue.TheImpl.Laws as extensions_duplicate_value;
-ghost use Rattle.der_pkix.specs.contracts.certificate.extensions.ExtensionsDuplicateValueIsEqual.TheImpl.Laws as extensions_duplicate_value_is_equal;
+ghost use Rattle.der_pkix.specs.contracts.certificate.explicit3_extensions.Explicit3ExtensionsContentsEq.TheImpl.Laws as explicit3_extensions_contents_eq;
+ghost use Rattle.der_pkix.specs.contracts.certificate.explicit3_extensions.Explicit3ExtensionsDuplicateValue.TheImpl.Laws as explicit3_extensions_duplicate_value;
+ghost use Rattle.der_pkix.specs.contracts.certificate.explicit3_extensions.Explicit3ExtensionsDuplicateValueIsEqual.TheImpl.Laws as explicit3_extensions_duplicate_value_is_equal;
 ghost use Rattle.der_pkix.specs.contracts.certificate.subject_public_key_info.SubjectPublicKeyInfoContentsEq.TheImpl.Laws as subject_public_key_info_contents_eq;
 ghost use Rattle.der_pkix.specs.contracts.certificate.subject_public_key_info.SubjectPublicKeyInfoEq.TheImpl.Laws as subject_public_key_info_eq;
 ghost use Rattle.der_pkix.specs.contracts.certificate.validity.ValidityContentsEq.TheImpl.Laws as validity_contents_eq;
@@ -25,6 +25,7 @@ ghost use Rattle.der_pkix.specs.declared.certificate.tbs_certificate.TbsCertific
 
 use crate::AlgorithmIdentifier;
 use crate::certificate::aliases::{CertificateSerialNumber, UniqueIdentifier, Version};
+use crate::certificate::explicit3_extensions::Explicit3Extensions;
 use crate::certificate::extensions::Extensions;
 use crate::certificate::subject_public_key_info::SubjectPublicKeyInfo;
 use crate::certificate::validity::Validity;
@@ -36,7 +37,8 @@ use der_elem::{
 };
 use der_fields::{
     DecodeFields, DefaultNumber, DefaultOf, DuplicateFields, EncodeFields, End, Explicit,
-    ExplicitTag, Field, FieldList, Fields2, Fields8, FieldsOrd, Implicit, ImplicitTag, WithDefault,
+    ExplicitTag, Field, FieldList, Fields1, Fields2, Fields8, FieldsOrd, Implicit, ImplicitTag,
+    WithDefault,
 };
 use der_modules::{CopyLaws, copy_of};
 use der_nest::Kept;
@@ -56,7 +58,7 @@ type Fields<'a> = Fields8<
     Kept<'a, Name<'a>>,
     SubjectPublicKeyInfo<'a>,
     Option<Implicit<UniqueIdentifier<'a>, 1>>,
-    Fields2<Option<Implicit<UniqueIdentifier<'a>, 2>>, Option<Explicit<Extensions<'a>, 3>>>,
+    Fields2<Option<Implicit<UniqueIdentifier<'a>, 2>>, Option<Explicit3Extensions<'a>>>,
 >;
 
 /// ```text
@@ -111,8 +113,10 @@ impl<'a> TbsCertificate<'a> {
         ensures extensions { tbs_certificate_fields.extensions result ≡ extensions.entry }
     {
         let first = match extensions {
-            Some(first) => Some(Explicit {
-                fields: Field { first, rest: End },
+            Some(first) => Some(Explicit3Extensions {
+                fields: Fields1 {
+                    list: Field { first, rest: End },
+                },
             }),
             None => None,
         };
@@ -229,7 +233,7 @@ impl<'a> TbsCertificate<'a> {
             None => None,
         };
         let extensions = match extensions {
-            Some(tagged) => Some(tagged.fields.first),
+            Some(tagged) => Some(tagged.fields.list.first),
             None => None,
         };
         (
@@ -322,7 +326,7 @@ impl<'a> TbsCertificate<'a> {
     {
         let tail = &self.fields.list.rest.rest.rest.rest.rest.rest.rest.rest;
         match &tail.list.rest.first {
-            Some(value) => Some(&value.fields.first),
+            Some(value) => Some(&value.fields.list.first),
             None => None,
         }
     }
@@ -437,14 +441,10 @@ impl<'a> ContentsEq for TbsCertificate<'a> {
         (optional_starts ⟦<Implicit<UniqueIdentifier<'a>, 2> as Form>⟧ (one_tag ⟦<ImplicitTag<BitStringTag, 2> as TagMarker>⟧.TAG ⟦<Implicit<UniqueIdentifier<'a>, 2> as FormValue>⟧.value.contents))
         ⟦<Option<Implicit<UniqueIdentifier<'a>, 2>> as PartialEq>⟧.eq
         (optional_equality ⟦<Implicit<UniqueIdentifier<'a>, 2> as Form>⟧ (one_tag ⟦<ImplicitTag<BitStringTag, 2> as TagMarker>⟧.TAG ⟦<Implicit<UniqueIdentifier<'a>, 2> as FormValue>⟧.value.contents) ⟦<Implicit<UniqueIdentifier<'a>, 2> as PartialEq>⟧.eq (one_tag_equality ⟦<ImplicitTag<BitStringTag, 2> as TagMarker>⟧.TAG ⟦<Implicit<UniqueIdentifier<'a>, 2> as FormValue>⟧.value.contents ⟦<Implicit<UniqueIdentifier<'a>, 2> as FormValue>⟧.value.comparable ⟦<Implicit<UniqueIdentifier<'a>, 2> as PartialEq>⟧.eq (λ v w. (bitstringref_contents_eq.contents_eq-law v.value w.value))))
-        (member_equality ⟦<Option<Explicit<Extensions<'a>, 3>> as Form>⟧
-        (optional_starts ⟦<Explicit<Extensions<'a>, 3> as Form>⟧ (one_tag ⟦<ExplicitTag<3> as TagMarker>⟧.TAG ⟦<Explicit<Extensions<'a>, 3> as FormValue>⟧.value.contents))
-        ⟦<Option<Explicit<Extensions<'a>, 3>> as PartialEq>⟧.eq
-        (optional_equality ⟦<Explicit<Extensions<'a>, 3> as Form>⟧ (one_tag ⟦<ExplicitTag<3> as TagMarker>⟧.TAG ⟦<Explicit<Extensions<'a>, 3> as FormValue>⟧.value.contents) ⟦<Explicit<Extensions<'a>, 3> as PartialEq>⟧.eq (one_tag_equality ⟦<ExplicitTag<3> as TagMarker>⟧.TAG ⟦<Explicit<Extensions<'a>, 3> as FormValue>⟧.value.contents ⟦<Explicit<Extensions<'a>, 3> as FormValue>⟧.value.comparable ⟦<Explicit<Extensions<'a>, 3> as PartialEq>⟧.eq (λ v w. ((member_equality ⟦<Extensions<'a> as Form>⟧
-        (tagged_starts ⟦<Extensions<'a> as Form>⟧ (one_tag ⟦<SequenceTag as TagMarker>⟧.TAG ⟦<Extensions<'a> as FormValue>⟧.value.contents))
-        ⟦<Extensions<'a> as PartialEq>⟧.eq
-        (one_tag_equality ⟦<SequenceTag as TagMarker>⟧.TAG ⟦<Extensions<'a> as FormValue>⟧.value.contents ⟦<Extensions<'a> as FormValue>⟧.value.comparable ⟦<Extensions<'a> as PartialEq>⟧.eq extensions_contents_eq.contents_eq-law)
-        no_equality).equal v.fields w.fields))))
+        (member_equality ⟦<Option<Explicit3Extensions<'a>> as Form>⟧
+        (optional_starts ⟦<Explicit3Extensions<'a> as Form>⟧ (one_tag ⟦<ExplicitTag<3> as TagMarker>⟧.TAG ⟦<Explicit3Extensions<'a> as FormValue>⟧.value.contents))
+        ⟦<Option<Explicit3Extensions<'a>> as PartialEq>⟧.eq
+        (optional_equality ⟦<Explicit3Extensions<'a> as Form>⟧ (one_tag ⟦<ExplicitTag<3> as TagMarker>⟧.TAG ⟦<Explicit3Extensions<'a> as FormValue>⟧.value.contents) ⟦<Explicit3Extensions<'a> as PartialEq>⟧.eq (one_tag_equality ⟦<ExplicitTag<3> as TagMarker>⟧.TAG ⟦<Explicit3Extensions<'a> as FormValue>⟧.value.contents ⟦<Explicit3Extensions<'a> as FormValue>⟧.value.comparable ⟦<Explicit3Extensions<'a> as PartialEq>⟧.eq explicit3_extensions_contents_eq.contents_eq-law))
         no_equality))))))))))).equal v.fields.list w.fields.list };
 }
 
@@ -480,12 +480,9 @@ impl<'a> CopyLaws for TbsCertificate<'a> {
         (part_copies (λ x. x.list) (member_copies ⟦<Option<Implicit<UniqueIdentifier<'a>, 2>> as Form>⟧
         (optional_starts ⟦<Implicit<UniqueIdentifier<'a>, 2> as Form>⟧ (one_tag ⟦<ImplicitTag<BitStringTag, 2> as TagMarker>⟧.TAG ⟦<Implicit<UniqueIdentifier<'a>, 2> as FormValue>⟧.value.contents))
         (optional_copies ⟦<Implicit<UniqueIdentifier<'a>, 2> as Form>⟧ (one_tag_copies ⟦<ImplicitTag<BitStringTag, 2> as TagMarker>⟧.TAG (held_copies (λ x. x.value) (same_copies ⟦<BitStringRef<'a> as FormValue>⟧.value.contents ⟦<BitStringRef<'a> as FormValue>⟧.value.comparable ⟦<BitStringRef<'a> as FormValue>⟧.value.re_reads ⟦<BitStringRef<'a> as PartialEq>⟧.eq (λ v. (bitstringref_contents_eq.contents_eq-law v v tt).1 refl)))))
-        (member_copies ⟦<Option<Explicit<Extensions<'a>, 3>> as Form>⟧
-        (optional_starts ⟦<Explicit<Extensions<'a>, 3> as Form>⟧ (one_tag ⟦<ExplicitTag<3> as TagMarker>⟧.TAG ⟦<Explicit<Extensions<'a>, 3> as FormValue>⟧.value.contents))
-        (optional_copies ⟦<Explicit<Extensions<'a>, 3> as Form>⟧ (one_tag_copies ⟦<ExplicitTag<3> as TagMarker>⟧.TAG (held_copies (λ x. x.fields) (listed_copies (member_copies ⟦<Extensions<'a> as Form>⟧
-        (tagged_starts ⟦<Extensions<'a> as Form>⟧ (one_tag ⟦<SequenceTag as TagMarker>⟧.TAG ⟦<Extensions<'a> as FormValue>⟧.value.contents))
-        (one_tag_copies ⟦<SequenceTag as TagMarker>⟧.TAG (record { octets_are = extensions_duplicate_value.copy_contents-law; comparable_are = extensions_duplicate_value.copy_comparable_value-law; re_reads_are = extensions_duplicate_value.copy_re_reads_value-law; equal_are = extensions_duplicate_value_is_equal.copy_value_is_equal-law }))
-        no_copies)))))
+        (member_copies ⟦<Option<Explicit3Extensions<'a>> as Form>⟧
+        (optional_starts ⟦<Explicit3Extensions<'a> as Form>⟧ (one_tag ⟦<ExplicitTag<3> as TagMarker>⟧.TAG ⟦<Explicit3Extensions<'a> as FormValue>⟧.value.contents))
+        (optional_copies ⟦<Explicit3Extensions<'a> as Form>⟧ (one_tag_copies ⟦<ExplicitTag<3> as TagMarker>⟧.TAG (record { octets_are = explicit3_extensions_duplicate_value.copy_contents-law; comparable_are = explicit3_extensions_duplicate_value.copy_comparable_value-law; re_reads_are = explicit3_extensions_duplicate_value.copy_re_reads_value-law; equal_are = explicit3_extensions_duplicate_value_is_equal.copy_value_is_equal-law })))
         no_copies))))))))))))) };
 }
 

@@ -12,12 +12,12 @@ ghost use Rattle.der_pkix.specs.Crl.Grammar.{tbs_cert_list};
 ghost use Rattle.der_pkix.specs.Crl.TbsCertList as tbs_cert_list_fields;
 ghost use Rattle.der_pkix.specs.contracts.algorithm_identifier.AlgorithmIdentifierContentsEq.TheImpl.Laws as algorithm_identifier_contents_eq;
 ghost use Rattle.der_pkix.specs.contracts.algorithm_identifier.AlgorithmIdentifierEq.TheImpl.Laws as algorithm_identifier_eq;
-ghost use Rattle.der_pkix.specs.contracts.certificate.extensions.ExtensionsContentsEq.TheImpl.Laws as extensions_contents_eq;
-ghost use Rattle.der_pkix.specs.contracts.certificate.extensions.ExtensionsDuplicateValue.TheImpl.Laws as extensions_duplicate_value;
-ghost use Rattle.der_pkix.specs.contracts.certificate.extensions.ExtensionsDuplicateValueIsEqual.TheImpl.Laws as extensions_duplicate_value_is_equal;
 ghost use Rattle.der_pkix.specs.contracts.certificate.time.TimeEncodingEq.TheImpl.Laws as time_encoding_eq;
 ghost use Rattle.der_pkix.specs.contracts.certificate.time.TimeEq.TheImpl.Laws as time_eq;
 ghost use Rattle.der_pkix.specs.contracts.certificate.time.TimeTagged.TheImpl.Laws as time_tagged;
+ghost use Rattle.der_pkix.specs.contracts.crl.explicit0_extensions.Explicit0ExtensionsContentsEq.TheImpl.Laws as explicit0_extensions_contents_eq;
+ghost use Rattle.der_pkix.specs.contracts.crl.explicit0_extensions.Explicit0ExtensionsDuplicateValue.TheImpl.Laws as explicit0_extensions_duplicate_value;
+ghost use Rattle.der_pkix.specs.contracts.crl.explicit0_extensions.Explicit0ExtensionsDuplicateValueIsEqual.TheImpl.Laws as explicit0_extensions_duplicate_value_is_equal;
 ghost use Rattle.der_pkix.specs.contracts.crl.revoked_certificate.RevokedCertificateContentsEq.TheImpl.Laws as revoked_certificate_contents_eq;
 ghost use Rattle.der_pkix.specs.contracts.crl.revoked_certificate.RevokedCertificateDuplicateValue.TheImpl.Laws as revoked_certificate_duplicate_value;
 ghost use Rattle.der_pkix.specs.contracts.crl.revoked_certificate.RevokedCertificateDuplicateValueIsEqual.TheImpl.Laws as revoked_certificate_duplicate_value_is_equal;
@@ -25,6 +25,7 @@ ghost use Rattle.der_pkix.specs.declared.crl.tbs_cert_list.TbsCertList.{TbsCertL
 
 use crate::AlgorithmIdentifier;
 use crate::certificate::{Extensions, Time, Version};
+use crate::crl::explicit0_extensions::Explicit0Extensions;
 use crate::crl::revoked_certificate::RevokedCertificate;
 use crate::name::Name;
 use der_elem::{
@@ -32,7 +33,7 @@ use der_elem::{
     IntegerTag, OneTag, Sequence, SequenceTag, TagMarker, Tagged, ValueOrd,
 };
 use der_fields::{
-    DecodeFields, DuplicateFields, EncodeFields, End, Explicit, ExplicitTag, Field, FieldList,
+    DecodeFields, DuplicateFields, EncodeFields, End, ExplicitTag, Field, FieldList, Fields1,
     Fields7, FieldsOrd,
 };
 use der_modules::{CopyLaws, copy_of};
@@ -50,7 +51,7 @@ type Fields<'a> = Fields7<
     Time,
     Option<Time>,
     Option<Vec<RevokedCertificate<'a>>>,
-    Option<Explicit<Extensions<'a>, 0>>,
+    Option<Explicit0Extensions<'a>>,
 >;
 
 /// ```text
@@ -100,8 +101,10 @@ impl<'a> TbsCertList<'a> {
         ensures crl_extensions { tbs_cert_list_fields.crl_extensions result ≡ crl_extensions.entry }
     {
         let first = match crl_extensions {
-            Some(first) => Some(Explicit {
-                fields: Field { first, rest: End },
+            Some(first) => Some(Explicit0Extensions {
+                fields: Fields1 {
+                    list: Field { first, rest: End },
+                },
             }),
             None => None,
         };
@@ -172,7 +175,7 @@ impl<'a> TbsCertList<'a> {
             ..
         } = rest;
         let crl_extensions = match crl_extensions {
-            Some(tagged) => Some(tagged.fields.first),
+            Some(tagged) => Some(tagged.fields.list.first),
             None => None,
         };
         (
@@ -237,7 +240,7 @@ impl<'a> TbsCertList<'a> {
         ensures { option_copied result ≡ tbs_cert_list_fields.crl_extensions self.now }
     {
         match &self.fields.list.rest.rest.rest.rest.rest.rest.first {
-            Some(value) => Some(&value.fields.first),
+            Some(value) => Some(&value.fields.list.first),
             None => None,
         }
     }
@@ -333,14 +336,10 @@ impl<'a> ContentsEq for TbsCertList<'a> {
         (optional_starts ⟦<Vec<RevokedCertificate<'a>> as Form>⟧ (one_tag ⟦<SequenceTag as TagMarker>⟧.TAG ⟦<Vec<RevokedCertificate<'a>> as FormValue>⟧.value.contents))
         ⟦<Option<Vec<RevokedCertificate<'a>>> as PartialEq>⟧.eq
         (optional_equality ⟦<Vec<RevokedCertificate<'a>> as Form>⟧ (one_tag ⟦<SequenceTag as TagMarker>⟧.TAG ⟦<Vec<RevokedCertificate<'a>> as FormValue>⟧.value.contents) ⟦<Vec<RevokedCertificate<'a>> as PartialEq>⟧.eq (one_tag_equality ⟦<SequenceTag as TagMarker>⟧.TAG ⟦<Vec<RevokedCertificate<'a>> as FormValue>⟧.value.contents ⟦<Vec<RevokedCertificate<'a>> as FormValue>⟧.value.comparable ⟦<Vec<RevokedCertificate<'a>> as PartialEq>⟧.eq (λ v w. ((items_equality ⟦<RevokedCertificate<'a> as Form>⟧ (one_tag ⟦<SequenceTag as TagMarker>⟧.TAG ⟦<RevokedCertificate<'a> as FormValue>⟧.value.contents) ⟦<RevokedCertificate<'a> as PartialEq>⟧.eq (one_tag_equality ⟦<SequenceTag as TagMarker>⟧.TAG ⟦<RevokedCertificate<'a> as FormValue>⟧.value.contents ⟦<RevokedCertificate<'a> as FormValue>⟧.value.comparable ⟦<RevokedCertificate<'a> as PartialEq>⟧.eq revoked_certificate_contents_eq.contents_eq-law)) v.items w.items))))
-        (member_equality ⟦<Option<Explicit<Extensions<'a>, 0>> as Form>⟧
-        (optional_starts ⟦<Explicit<Extensions<'a>, 0> as Form>⟧ (one_tag ⟦<ExplicitTag<0> as TagMarker>⟧.TAG ⟦<Explicit<Extensions<'a>, 0> as FormValue>⟧.value.contents))
-        ⟦<Option<Explicit<Extensions<'a>, 0>> as PartialEq>⟧.eq
-        (optional_equality ⟦<Explicit<Extensions<'a>, 0> as Form>⟧ (one_tag ⟦<ExplicitTag<0> as TagMarker>⟧.TAG ⟦<Explicit<Extensions<'a>, 0> as FormValue>⟧.value.contents) ⟦<Explicit<Extensions<'a>, 0> as PartialEq>⟧.eq (one_tag_equality ⟦<ExplicitTag<0> as TagMarker>⟧.TAG ⟦<Explicit<Extensions<'a>, 0> as FormValue>⟧.value.contents ⟦<Explicit<Extensions<'a>, 0> as FormValue>⟧.value.comparable ⟦<Explicit<Extensions<'a>, 0> as PartialEq>⟧.eq (λ v w. ((member_equality ⟦<Extensions<'a> as Form>⟧
-        (tagged_starts ⟦<Extensions<'a> as Form>⟧ (one_tag ⟦<SequenceTag as TagMarker>⟧.TAG ⟦<Extensions<'a> as FormValue>⟧.value.contents))
-        ⟦<Extensions<'a> as PartialEq>⟧.eq
-        (one_tag_equality ⟦<SequenceTag as TagMarker>⟧.TAG ⟦<Extensions<'a> as FormValue>⟧.value.contents ⟦<Extensions<'a> as FormValue>⟧.value.comparable ⟦<Extensions<'a> as PartialEq>⟧.eq extensions_contents_eq.contents_eq-law)
-        no_equality).equal v.fields w.fields))))
+        (member_equality ⟦<Option<Explicit0Extensions<'a>> as Form>⟧
+        (optional_starts ⟦<Explicit0Extensions<'a> as Form>⟧ (one_tag ⟦<ExplicitTag<0> as TagMarker>⟧.TAG ⟦<Explicit0Extensions<'a> as FormValue>⟧.value.contents))
+        ⟦<Option<Explicit0Extensions<'a>> as PartialEq>⟧.eq
+        (optional_equality ⟦<Explicit0Extensions<'a> as Form>⟧ (one_tag ⟦<ExplicitTag<0> as TagMarker>⟧.TAG ⟦<Explicit0Extensions<'a> as FormValue>⟧.value.contents) ⟦<Explicit0Extensions<'a> as PartialEq>⟧.eq (one_tag_equality ⟦<ExplicitTag<0> as TagMarker>⟧.TAG ⟦<Explicit0Extensions<'a> as FormValue>⟧.value.contents ⟦<Explicit0Extensions<'a> as FormValue>⟧.value.comparable ⟦<Explicit0Extensions<'a> as PartialEq>⟧.eq explicit0_extensions_contents_eq.contents_eq-law))
         no_equality))))))).equal v.fields.list w.fields.list };
 }
 
@@ -364,12 +363,9 @@ impl<'a> CopyLaws for TbsCertList<'a> {
         (member_copies ⟦<Option<Vec<RevokedCertificate<'a>>> as Form>⟧
         (optional_starts ⟦<Vec<RevokedCertificate<'a>> as Form>⟧ (one_tag ⟦<SequenceTag as TagMarker>⟧.TAG ⟦<Vec<RevokedCertificate<'a>> as FormValue>⟧.value.contents))
         (optional_copies ⟦<Vec<RevokedCertificate<'a>> as Form>⟧ (one_tag_copies ⟦<SequenceTag as TagMarker>⟧.TAG (held_copies (λ x. x.items) (items_copies ⟦<RevokedCertificate<'a> as Form>⟧ (one_tag_copies ⟦<SequenceTag as TagMarker>⟧.TAG (record { octets_are = revoked_certificate_duplicate_value.copy_contents-law; comparable_are = revoked_certificate_duplicate_value.copy_comparable_value-law; re_reads_are = revoked_certificate_duplicate_value.copy_re_reads_value-law; equal_are = revoked_certificate_duplicate_value_is_equal.copy_value_is_equal-law }))))))
-        (member_copies ⟦<Option<Explicit<Extensions<'a>, 0>> as Form>⟧
-        (optional_starts ⟦<Explicit<Extensions<'a>, 0> as Form>⟧ (one_tag ⟦<ExplicitTag<0> as TagMarker>⟧.TAG ⟦<Explicit<Extensions<'a>, 0> as FormValue>⟧.value.contents))
-        (optional_copies ⟦<Explicit<Extensions<'a>, 0> as Form>⟧ (one_tag_copies ⟦<ExplicitTag<0> as TagMarker>⟧.TAG (held_copies (λ x. x.fields) (listed_copies (member_copies ⟦<Extensions<'a> as Form>⟧
-        (tagged_starts ⟦<Extensions<'a> as Form>⟧ (one_tag ⟦<SequenceTag as TagMarker>⟧.TAG ⟦<Extensions<'a> as FormValue>⟧.value.contents))
-        (one_tag_copies ⟦<SequenceTag as TagMarker>⟧.TAG (record { octets_are = extensions_duplicate_value.copy_contents-law; comparable_are = extensions_duplicate_value.copy_comparable_value-law; re_reads_are = extensions_duplicate_value.copy_re_reads_value-law; equal_are = extensions_duplicate_value_is_equal.copy_value_is_equal-law }))
-        no_copies)))))
+        (member_copies ⟦<Option<Explicit0Extensions<'a>> as Form>⟧
+        (optional_starts ⟦<Explicit0Extensions<'a> as Form>⟧ (one_tag ⟦<ExplicitTag<0> as TagMarker>⟧.TAG ⟦<Explicit0Extensions<'a> as FormValue>⟧.value.contents))
+        (optional_copies ⟦<Explicit0Extensions<'a> as Form>⟧ (one_tag_copies ⟦<ExplicitTag<0> as TagMarker>⟧.TAG (record { octets_are = explicit0_extensions_duplicate_value.copy_contents-law; comparable_are = explicit0_extensions_duplicate_value.copy_comparable_value-law; re_reads_are = explicit0_extensions_duplicate_value.copy_re_reads_value-law; equal_are = explicit0_extensions_duplicate_value_is_equal.copy_value_is_equal-law })))
         no_copies))))))))) };
 }
 

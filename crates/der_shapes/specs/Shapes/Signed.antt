@@ -55,4 +55,4 @@ statuses v = option_map (λ x. x.value) v.fields.list.rest.rest.rest.rest.rest.r
 
 -- extensions [3] EXPLICIT Extensions OPTIONAL
 abbrev pub extensions : Signed → Option Extensions
-extensions v = option_map (λ x. x.fields.first) v.fields.list.rest.rest.rest.rest.rest.rest.rest.rest.list.rest.rest.first
+extensions v = option_map (λ x. x.fields.list.first) v.fields.list.rest.rest.rest.rest.rest.rest.rest.rest.list.rest.rest.first

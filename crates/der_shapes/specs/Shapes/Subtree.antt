@@ -7,7 +7,7 @@ use Rattle.der_shapes.specs.declared.shapes.subtree.Subtree.{Subtree}
 
 -- base [5] EXPLICIT General
 abbrev pub base : Subtree → General
-base v = v.fields.list.first.fields.first
+base v = v.fields.list.first.fields.list.first
 
 -- minimum [0] INTEGER (0..255) DEFAULT 0
 abbrev pub minimum : Subtree → ℕ

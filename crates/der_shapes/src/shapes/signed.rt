@@ -18,9 +18,9 @@ ghost use Rattle.der_shapes.specs.contracts.shapes.algorithm.AlgorithmEq.TheImpl
 ghost use Rattle.der_shapes.specs.contracts.shapes.distinguished.DistinguishedContentsEq.TheImpl.Laws as distinguished_contents_eq;
 ghost use Rattle.der_shapes.specs.contracts.shapes.distinguished.DistinguishedDuplicateValue.TheImpl.Laws as distinguished_duplicate_value;
 ghost use Rattle.der_shapes.specs.contracts.shapes.distinguished.DistinguishedDuplicateValueIsEqual.TheImpl.Laws as distinguished_duplicate_value_is_equal;
-ghost use Rattle.der_shapes.specs.contracts.shapes.extensions.ExtensionsContentsEq.TheImpl.Laws as extensions_contents_eq;
-ghost use Rattle.der_shapes.specs.contracts.shapes.extensions.ExtensionsDuplicateValue.TheImpl.Laws as extensions_duplicate_value;
-ghost use Rattle.der_shapes.specs.contracts.shapes.extensions.ExtensionsDuplicateValueIsEqual.TheImpl.Laws as extensions_duplicate_value_is_equal;
+ghost use Rattle.der_shapes.specs.contracts.shapes.explicit3_extensions.Explicit3ExtensionsContentsEq.TheImpl.Laws as explicit3_extensions_contents_eq;
+ghost use Rattle.der_shapes.specs.contracts.shapes.explicit3_extensions.Explicit3ExtensionsDuplicateValue.TheImpl.Laws as explicit3_extensions_duplicate_value;
+ghost use Rattle.der_shapes.specs.contracts.shapes.explicit3_extensions.Explicit3ExtensionsDuplicateValueIsEqual.TheImpl.Laws as explicit3_extensions_duplicate_value_is_equal;
 ghost use Rattle.der_shapes.specs.contracts.shapes.status.StatusEncodingEq.TheImpl.Laws as status_encoding_eq;
 ghost use Rattle.der_shapes.specs.contracts.shapes.status.StatusEq.TheImpl.Laws as status_eq;
 ghost use Rattle.der_shapes.specs.contracts.shapes.status.StatusTagged.TheImpl.Laws as status_tagged;
@@ -30,6 +30,7 @@ ghost use Rattle.der_time.specs.contracts.utc_time.UtcTimeContentsEq.TheImpl.Law
 use crate::shapes::algorithm::Algorithm;
 use crate::shapes::aliases::{SignedVersion, Usage};
 use crate::shapes::distinguished::Distinguished;
+use crate::shapes::explicit3_extensions::Explicit3Extensions;
 use crate::shapes::extensions::Extensions;
 use crate::shapes::status::Status;
 use der_bits::{BitStringRef, NamedBitsRef};
@@ -40,7 +41,8 @@ use der_elem::{
 };
 use der_fields::{
     DecodeFields, DefaultNumber, DefaultOf, DuplicateFields, EncodeFields, End, Explicit,
-    ExplicitTag, Field, FieldList, Fields3, Fields8, FieldsOrd, Implicit, ImplicitTag, WithDefault,
+    ExplicitTag, Field, FieldList, Fields1, Fields3, Fields8, FieldsOrd, Implicit, ImplicitTag,
+    WithDefault,
 };
 use der_modules::{CopyLaws, copy_of};
 use der_nest::Kept;
@@ -64,7 +66,7 @@ type Fields<'a> = Fields8<
     Fields3<
         Option<Implicit<Usage<'a>, 1>>,
         Option<Implicit<Vec<Status>, 2>>,
-        Option<Explicit<Extensions<'a>, 3>>,
+        Option<Explicit3Extensions<'a>>,
     >,
 >;
 
@@ -121,8 +123,10 @@ impl<'a> Signed<'a> {
         ensures extensions { signed_fields.extensions result ≡ extensions.entry }
     {
         let first = match extensions {
-            Some(first) => Some(Explicit {
-                fields: Field { first, rest: End },
+            Some(first) => Some(Explicit3Extensions {
+                fields: Fields1 {
+                    list: Field { first, rest: End },
+                },
             }),
             None => None,
         };
@@ -235,7 +239,7 @@ impl<'a> Signed<'a> {
             None => None,
         };
         let extensions = match extensions {
-            Some(tagged) => Some(tagged.fields.first),
+            Some(tagged) => Some(tagged.fields.list.first),
             None => None,
         };
         (
@@ -327,7 +331,7 @@ impl<'a> Signed<'a> {
     {
         let tail = &self.fields.list.rest.rest.rest.rest.rest.rest.rest.rest;
         match &tail.list.rest.rest.first {
-            Some(value) => Some(&value.fields.first),
+            Some(value) => Some(&value.fields.list.first),
             None => None,
         }
     }
@@ -443,14 +447,10 @@ impl<'a> ContentsEq for Signed<'a> {
         (optional_starts ⟦<Implicit<Vec<Status>, 2> as Form>⟧ (one_tag ⟦<ImplicitTag<SequenceTag, 2> as TagMarker>⟧.TAG ⟦<Implicit<Vec<Status>, 2> as FormValue>⟧.value.contents))
         ⟦<Option<Implicit<Vec<Status>, 2>> as PartialEq>⟧.eq
         (optional_equality ⟦<Implicit<Vec<Status>, 2> as Form>⟧ (one_tag ⟦<ImplicitTag<SequenceTag, 2> as TagMarker>⟧.TAG ⟦<Implicit<Vec<Status>, 2> as FormValue>⟧.value.contents) ⟦<Implicit<Vec<Status>, 2> as PartialEq>⟧.eq (one_tag_equality ⟦<ImplicitTag<SequenceTag, 2> as TagMarker>⟧.TAG ⟦<Implicit<Vec<Status>, 2> as FormValue>⟧.value.contents ⟦<Implicit<Vec<Status>, 2> as FormValue>⟧.value.comparable ⟦<Implicit<Vec<Status>, 2> as PartialEq>⟧.eq (λ v w. ((items_equality ⟦<Status as Form>⟧ (own_tags ⟦<Status as Form>⟧.tags ⟦<Status as Form>⟧.first_tag_of ⟦<Status as Form>⟧.encoding ⟦<Status as Tagged>⟧.tag_of ⟦<Status as FormValue>⟧.value.contents status_tagged.encoding_is-law status_tagged.own_tag-law status_tagged.first_tag_is-law) ⟦<Status as PartialEq>⟧.eq status_encoding_eq.encoding_eq-law) v.value.items w.value.items))))
-        (member_equality ⟦<Option<Explicit<Extensions<'a>, 3>> as Form>⟧
-        (optional_starts ⟦<Explicit<Extensions<'a>, 3> as Form>⟧ (one_tag ⟦<ExplicitTag<3> as TagMarker>⟧.TAG ⟦<Explicit<Extensions<'a>, 3> as FormValue>⟧.value.contents))
-        ⟦<Option<Explicit<Extensions<'a>, 3>> as PartialEq>⟧.eq
-        (optional_equality ⟦<Explicit<Extensions<'a>, 3> as Form>⟧ (one_tag ⟦<ExplicitTag<3> as TagMarker>⟧.TAG ⟦<Explicit<Extensions<'a>, 3> as FormValue>⟧.value.contents) ⟦<Explicit<Extensions<'a>, 3> as PartialEq>⟧.eq (one_tag_equality ⟦<ExplicitTag<3> as TagMarker>⟧.TAG ⟦<Explicit<Extensions<'a>, 3> as FormValue>⟧.value.contents ⟦<Explicit<Extensions<'a>, 3> as FormValue>⟧.value.comparable ⟦<Explicit<Extensions<'a>, 3> as PartialEq>⟧.eq (λ v w. ((member_equality ⟦<Extensions<'a> as Form>⟧
-        (tagged_starts ⟦<Extensions<'a> as Form>⟧ (one_tag ⟦<SequenceTag as TagMarker>⟧.TAG ⟦<Extensions<'a> as FormValue>⟧.value.contents))
-        ⟦<Extensions<'a> as PartialEq>⟧.eq
-        (one_tag_equality ⟦<SequenceTag as TagMarker>⟧.TAG ⟦<Extensions<'a> as FormValue>⟧.value.contents ⟦<Extensions<'a> as FormValue>⟧.value.comparable ⟦<Extensions<'a> as PartialEq>⟧.eq extensions_contents_eq.contents_eq-law)
-        no_equality).equal v.fields w.fields))))
+        (member_equality ⟦<Option<Explicit3Extensions<'a>> as Form>⟧
+        (optional_starts ⟦<Explicit3Extensions<'a> as Form>⟧ (one_tag ⟦<ExplicitTag<3> as TagMarker>⟧.TAG ⟦<Explicit3Extensions<'a> as FormValue>⟧.value.contents))
+        ⟦<Option<Explicit3Extensions<'a>> as PartialEq>⟧.eq
+        (optional_equality ⟦<Explicit3Extensions<'a> as Form>⟧ (one_tag ⟦<ExplicitTag<3> as TagMarker>⟧.TAG ⟦<Explicit3Extensions<'a> as FormValue>⟧.value.contents) ⟦<Explicit3Extensions<'a> as PartialEq>⟧.eq (one_tag_equality ⟦<ExplicitTag<3> as TagMarker>⟧.TAG ⟦<Explicit3Extensions<'a> as FormValue>⟧.value.contents ⟦<Explicit3Extensions<'a> as FormValue>⟧.value.comparable ⟦<Explicit3Extensions<'a> as PartialEq>⟧.eq explicit3_extensions_contents_eq.contents_eq-law))
         no_equality)))))))))))).equal v.fields.list w.fields.list };
 }
 
@@ -489,12 +489,9 @@ impl<'a> CopyLaws for Signed<'a> {
         (member_copies ⟦<Option<Implicit<Vec<Status>, 2>> as Form>⟧
         (optional_starts ⟦<Implicit<Vec<Status>, 2> as Form>⟧ (one_tag ⟦<ImplicitTag<SequenceTag, 2> as TagMarker>⟧.TAG ⟦<Implicit<Vec<Status>, 2> as FormValue>⟧.value.contents))
         (optional_copies ⟦<Implicit<Vec<Status>, 2> as Form>⟧ (one_tag_copies ⟦<ImplicitTag<SequenceTag, 2> as TagMarker>⟧.TAG (held_copies (λ x. x.value) (held_copies (λ x. x.items) (items_copies ⟦<Status as Form>⟧ (same_copies ⟦<Status as Form>⟧.encoding ⟦<Status as Form>⟧.comparable ⟦<Status as Form>⟧.re_reads ⟦<Status as PartialEq>⟧.eq status_eq.laws-law.refl))))))
-        (member_copies ⟦<Option<Explicit<Extensions<'a>, 3>> as Form>⟧
-        (optional_starts ⟦<Explicit<Extensions<'a>, 3> as Form>⟧ (one_tag ⟦<ExplicitTag<3> as TagMarker>⟧.TAG ⟦<Explicit<Extensions<'a>, 3> as FormValue>⟧.value.contents))
-        (optional_copies ⟦<Explicit<Extensions<'a>, 3> as Form>⟧ (one_tag_copies ⟦<ExplicitTag<3> as TagMarker>⟧.TAG (held_copies (λ x. x.fields) (listed_copies (member_copies ⟦<Extensions<'a> as Form>⟧
-        (tagged_starts ⟦<Extensions<'a> as Form>⟧ (one_tag ⟦<SequenceTag as TagMarker>⟧.TAG ⟦<Extensions<'a> as FormValue>⟧.value.contents))
-        (one_tag_copies ⟦<SequenceTag as TagMarker>⟧.TAG (record { octets_are = extensions_duplicate_value.copy_contents-law; comparable_are = extensions_duplicate_value.copy_comparable_value-law; re_reads_are = extensions_duplicate_value.copy_re_reads_value-law; equal_are = extensions_duplicate_value_is_equal.copy_value_is_equal-law }))
-        no_copies)))))
+        (member_copies ⟦<Option<Explicit3Extensions<'a>> as Form>⟧
+        (optional_starts ⟦<Explicit3Extensions<'a> as Form>⟧ (one_tag ⟦<ExplicitTag<3> as TagMarker>⟧.TAG ⟦<Explicit3Extensions<'a> as FormValue>⟧.value.contents))
+        (optional_copies ⟦<Explicit3Extensions<'a> as Form>⟧ (one_tag_copies ⟦<ExplicitTag<3> as TagMarker>⟧.TAG (record { octets_are = explicit3_extensions_duplicate_value.copy_contents-law; comparable_are = explicit3_extensions_duplicate_value.copy_comparable_value-law; re_reads_are = explicit3_extensions_duplicate_value.copy_re_reads_value-law; equal_are = explicit3_extensions_duplicate_value_is_equal.copy_value_is_equal-law })))
         no_copies)))))))))))))) };
 }
 

@@ -7,24 +7,24 @@ ghost use Rattle.der_elem.specs.FormatMakers.{mapped_format};
 ghost use Rattle.der_elem.specs.contracts.boolean.BoolContentsEq.TheImpl.Laws as bool_contents_eq;
 ghost use Rattle.der_elem.specs.contracts.integer.unsigned.U8ContentsEq.TheImpl.Laws as u8_contents_eq;
 ghost use Rattle.der_modules.specs.Asn1.{context, explicit_encoding, implicit_encoding, joined, optional, parse_of, private, unless_default};
-ghost use Rattle.der_modules.specs.MemberLaws.{copies_of, default_copies, default_equality, default_starts, held_copies, listed_copies, member_copies, member_equality, no_copies, no_equality, one_tag, one_tag_copies, one_tag_equality, optional_copies, optional_equality, optional_starts, own_tags, same_copies, tagged_starts};
+ghost use Rattle.der_modules.specs.MemberLaws.{copies_of, default_copies, default_equality, default_starts, held_copies, listed_copies, member_copies, member_equality, no_copies, no_equality, one_tag, one_tag_copies, one_tag_equality, optional_copies, optional_equality, optional_starts, same_copies, tagged_starts};
 ghost use Rattle.der_numbers.specs.contracts.uint_ref.UintRefContentsEq.TheImpl.Laws as uintref_contents_eq;
 ghost use Rattle.der_shapes.specs.Shapes.Grammar.{subtree};
 ghost use Rattle.der_shapes.specs.Shapes.Subtree as subtree_fields;
-ghost use Rattle.der_shapes.specs.contracts.shapes.general.GeneralDuplicate.TheImpl.Laws as general_duplicate;
-ghost use Rattle.der_shapes.specs.contracts.shapes.general.GeneralDuplicateIsEqual.TheImpl.Laws as general_duplicate_is_equal;
-ghost use Rattle.der_shapes.specs.contracts.shapes.general.GeneralEncodingEq.TheImpl.Laws as general_encoding_eq;
-ghost use Rattle.der_shapes.specs.contracts.shapes.general.GeneralTagged.TheImpl.Laws as general_tagged;
+ghost use Rattle.der_shapes.specs.contracts.shapes.explicit5_general.Explicit5GeneralContentsEq.TheImpl.Laws as explicit5_general_contents_eq;
+ghost use Rattle.der_shapes.specs.contracts.shapes.explicit5_general.Explicit5GeneralDuplicateValue.TheImpl.Laws as explicit5_general_duplicate_value;
+ghost use Rattle.der_shapes.specs.contracts.shapes.explicit5_general.Explicit5GeneralDuplicateValueIsEqual.TheImpl.Laws as explicit5_general_duplicate_value_is_equal;
 ghost use Rattle.der_shapes.specs.declared.shapes.subtree.Subtree.{Subtree};
 
+use crate::shapes::explicit5_general::Explicit5General;
 use crate::shapes::general::General;
 use der_elem::{
     BooleanTag, ContentsEq, DecodeValue, DuplicateValue, DuplicateValueIsEqual, EncodeValue, Form,
-    FormValue, IntegerTag, OneTag, SequenceTag, TagMarker, Tagged, ValueOrd,
+    FormValue, IntegerTag, OneTag, SequenceTag, TagMarker, ValueOrd,
 };
 use der_fields::{
     DecodeFields, DefaultFalse, DefaultNumber, DefaultOf, DuplicateFields, EncodeFields, End,
-    Explicit, ExplicitTag, Field, FieldList, Fields4, FieldsOrd, Implicit, ImplicitApplicationTag,
+    ExplicitTag, Field, FieldList, Fields1, Fields4, FieldsOrd, Implicit, ImplicitApplicationTag,
     ImplicitPrivate, ImplicitPrivateTag, ImplicitTag, WithDefault,
 };
 use der_modules::CopyLaws;
@@ -36,7 +36,7 @@ use std::fmt;
 
 /// The list of the fields.
 type Fields<'a> = Fields4<
-    Explicit<General<'a>, 5>,
+    Explicit5General<'a>,
     WithDefault<Implicit<u8, 0>, DefaultNumber<0>>,
     Option<Implicit<UintRef<'a>, 1>>,
     WithDefault<ImplicitPrivate<bool, 2>, DefaultFalse>,
@@ -82,10 +82,12 @@ impl<'a> Subtree<'a> {
         let rest = Field { first, rest };
         let first = WithDefault::new(Implicit { value: minimum });
         let rest = Field { first, rest };
-        let first = Explicit {
-            fields: Field {
-                first: base,
-                rest: End,
+        let first = Explicit5General {
+            fields: Fields1 {
+                list: Field {
+                    first: base,
+                    rest: End,
+                },
             },
         };
         let list = Field { first, rest };
@@ -111,7 +113,7 @@ impl<'a> Subtree<'a> {
             rest,
         } = rest;
         let Field { first: only, .. } = rest;
-        let base = base.fields.first;
+        let base = base.fields.list.first;
         let minimum = minimum.value.value;
         let maximum = match maximum {
             Some(tagged) => Some(tagged.value),
@@ -125,7 +127,7 @@ impl<'a> Subtree<'a> {
     pub fn base(&self) -> &General<'a>
         ensures { result.now ≡ subtree_fields.base self.now }
     {
-        &self.fields.list.first.fields.first
+        &self.fields.list.first.fields.list.first
     }
 
     /// `minimum`, `[0] INTEGER (0..255) DEFAULT 0`.
@@ -208,14 +210,10 @@ impl<'a> ValueOrd for Subtree<'a> {
 }
 
 impl<'a> ContentsEq for Subtree<'a> {
-    ghost contents_eq = { λ v w. (member_equality ⟦<Explicit<General<'a>, 5> as Form>⟧
-        (tagged_starts ⟦<Explicit<General<'a>, 5> as Form>⟧ (one_tag ⟦<ExplicitTag<5> as TagMarker>⟧.TAG ⟦<Explicit<General<'a>, 5> as FormValue>⟧.value.contents))
-        ⟦<Explicit<General<'a>, 5> as PartialEq>⟧.eq
-        (one_tag_equality ⟦<ExplicitTag<5> as TagMarker>⟧.TAG ⟦<Explicit<General<'a>, 5> as FormValue>⟧.value.contents ⟦<Explicit<General<'a>, 5> as FormValue>⟧.value.comparable ⟦<Explicit<General<'a>, 5> as PartialEq>⟧.eq (λ v w. ((member_equality ⟦<General<'a> as Form>⟧
-        (tagged_starts ⟦<General<'a> as Form>⟧ (own_tags ⟦<General<'a> as Form>⟧.tags ⟦<General<'a> as Form>⟧.first_tag_of ⟦<General<'a> as Form>⟧.encoding ⟦<General<'a> as Tagged>⟧.tag_of ⟦<General<'a> as FormValue>⟧.value.contents general_tagged.encoding_is-law general_tagged.own_tag-law general_tagged.first_tag_is-law))
-        ⟦<General<'a> as PartialEq>⟧.eq
-        general_encoding_eq.encoding_eq-law
-        no_equality).equal v.fields w.fields)))
+    ghost contents_eq = { λ v w. (member_equality ⟦<Explicit5General<'a> as Form>⟧
+        (tagged_starts ⟦<Explicit5General<'a> as Form>⟧ (one_tag ⟦<ExplicitTag<5> as TagMarker>⟧.TAG ⟦<Explicit5General<'a> as FormValue>⟧.value.contents))
+        ⟦<Explicit5General<'a> as PartialEq>⟧.eq
+        (one_tag_equality ⟦<ExplicitTag<5> as TagMarker>⟧.TAG ⟦<Explicit5General<'a> as FormValue>⟧.value.contents ⟦<Explicit5General<'a> as FormValue>⟧.value.comparable ⟦<Explicit5General<'a> as PartialEq>⟧.eq explicit5_general_contents_eq.contents_eq-law)
         (member_equality ⟦<WithDefault<Implicit<u8, 0>, DefaultNumber<0>> as Form>⟧
         (default_starts ⟦<Implicit<u8, 0> as Form>⟧ (one_tag ⟦<ImplicitTag<IntegerTag, 0> as TagMarker>⟧.TAG ⟦<Implicit<u8, 0> as FormValue>⟧.value.contents) (λ x. x.value) ⟦<DefaultNumber<0> as DefaultOf<Implicit<u8, 0>>>⟧.octets)
         ⟦<WithDefault<Implicit<u8, 0>, DefaultNumber<0>> as PartialEq>⟧.eq
@@ -233,12 +231,9 @@ impl<'a> ContentsEq for Subtree<'a> {
 
 impl<'a> CopyLaws for Subtree<'a> {
     ghost copies = { copies_of (held_copies (λ v. v.fields.list)
-        (listed_copies (member_copies ⟦<Explicit<General<'a>, 5> as Form>⟧
-        (tagged_starts ⟦<Explicit<General<'a>, 5> as Form>⟧ (one_tag ⟦<ExplicitTag<5> as TagMarker>⟧.TAG ⟦<Explicit<General<'a>, 5> as FormValue>⟧.value.contents))
-        (one_tag_copies ⟦<ExplicitTag<5> as TagMarker>⟧.TAG (held_copies (λ x. x.fields) (listed_copies (member_copies ⟦<General<'a> as Form>⟧
-        (tagged_starts ⟦<General<'a> as Form>⟧ (own_tags ⟦<General<'a> as Form>⟧.tags ⟦<General<'a> as Form>⟧.first_tag_of ⟦<General<'a> as Form>⟧.encoding ⟦<General<'a> as Tagged>⟧.tag_of ⟦<General<'a> as FormValue>⟧.value.contents general_tagged.encoding_is-law general_tagged.own_tag-law general_tagged.first_tag_is-law))
-        (record { octets_are = general_duplicate.copy_encoding-law; comparable_are = general_duplicate.copy_comparable-law; re_reads_are = general_duplicate.copy_re_reads-law; equal_are = general_duplicate_is_equal.copy_is_equal-law })
-        no_copies))))
+        (listed_copies (member_copies ⟦<Explicit5General<'a> as Form>⟧
+        (tagged_starts ⟦<Explicit5General<'a> as Form>⟧ (one_tag ⟦<ExplicitTag<5> as TagMarker>⟧.TAG ⟦<Explicit5General<'a> as FormValue>⟧.value.contents))
+        (one_tag_copies ⟦<ExplicitTag<5> as TagMarker>⟧.TAG (record { octets_are = explicit5_general_duplicate_value.copy_contents-law; comparable_are = explicit5_general_duplicate_value.copy_comparable_value-law; re_reads_are = explicit5_general_duplicate_value.copy_re_reads_value-law; equal_are = explicit5_general_duplicate_value_is_equal.copy_value_is_equal-law }))
         (member_copies ⟦<WithDefault<Implicit<u8, 0>, DefaultNumber<0>> as Form>⟧
         (default_starts ⟦<Implicit<u8, 0> as Form>⟧ (one_tag ⟦<ImplicitTag<IntegerTag, 0> as TagMarker>⟧.TAG ⟦<Implicit<u8, 0> as FormValue>⟧.value.contents) (λ x. x.value) ⟦<DefaultNumber<0> as DefaultOf<Implicit<u8, 0>>>⟧.octets)
         (default_copies ⟦<Implicit<u8, 0> as Form>⟧ (one_tag_copies ⟦<ImplicitTag<IntegerTag, 0> as TagMarker>⟧.TAG (held_copies (λ x. x.value) (same_copies ⟦<u8 as FormValue>⟧.value.contents ⟦<u8 as FormValue>⟧.value.comparable ⟦<u8 as FormValue>⟧.value.re_reads ⟦<u8 as PartialEq>⟧.eq (λ v. (u8_contents_eq.contents_eq-law v v tt).1 refl)))) (λ x. x.value) ⟦<DefaultNumber<0> as DefaultOf<Implicit<u8, 0>>>⟧.octets)
