@@ -1,5 +1,5 @@
 -- The order of values with tags, from their tags, their lengths and their contents octets.
-use Rattle.std.proofs.Common.{◌≡◌, ◌≢◌, ◌≤◌, ◌^◌, length, true, Result, Ok, Err, inl, inr, sym, ap, ◌∙◌, arith, Ordering}
+use Rattle.std.proofs.Common.{◌≡◌, ◌≢◌, ◌≤◌, ◌^◌, length, true, Result, Ok, Err, inl, inr, sym, ap, ◌∙◌, arith, subst, Ordering}
 use Rattle.std.proofs.lemmas.List.{length-append}
 use Rattle.std.specs.declared.cmp.Ordering.TheVariants.{Equal}
 use Rattle.std.specs.Ordering.{nat_cmp}
@@ -13,6 +13,8 @@ use Rattle.der_tlv.specs.HeaderOctets.{header_octets, tlv}
 use Rattle.der_elem.specs.ContentsFormat.{ContentsFormat}
 use Rattle.der_elem.specs.declared.form.Form as form
 use Rattle.der_elem.specs.Comparing.{IncomparableValues, Incomparable, ComparesValues, Compares, SameHeader}
+use Rattle.der_tlv.specs.IdentifierLaws.{lex-identifier-equal}
+use Rattle.der_tlv.specs.OctetLaws.{lex-equal, lex-same}
 use Rattle.der_elem.proofs.HeadersDecide as headers
 
 -- two values with tags
@@ -26,6 +28,19 @@ module _ {T : Type 0} {V : ContentsFormat T} {F : form.Ghosts T} {tag_of : T →
   tags_decide = headers.tags_decide (F.encoding x) (F.encoding y) (tag_of x) (tag_of y) (V.contents x) (V.contents y) (h.encoding_is x) (h.encoding_is y)
 
   module _ (same_tag : lex (identifier (tag_of x)) (identifier (tag_of y)) ≡ Equal) where
+    same_encoding : V.contents x ≡ V.contents y → F.encoding x ≡ F.encoding y
+    same_encoding e =
+        h.encoding_is x ∙ ap (tlv (tag_of x)) e ∙ ap (λ t. tlv t (V.contents y)) (lex-identifier-equal (tag_of x) (tag_of y) same_tag) ∙ sym (h.encoding_is y)
+
+    equal_contents : Equal ≡ lex (V.contents x) (V.contents y) → Equal ≡ lex (F.encoding x) (F.encoding y)
+    equal_contents e =
+        sym (ap (λ o. lex o (F.encoding y)) (same_encoding (lex-equal (V.contents x) (V.contents y) (sym e))) ∙ lex-same (F.encoding y))
+
+    -- equal contents octets need no lengths
+    pub equal_decides : (r : Result Ordering Error) → r ≡ Ok Equal → ComparesValues V x y r → Compares F x y r
+    equal_decides r e told =
+        subst (λ r. Compares F x y r) (sym e) (equal_contents (subst (λ r. ComparesValues V x y r) e told))
+
     pub lengths_decide : (o : Ordering) → o ≡ nat_cmp (length (V.contents x)) (length (V.contents y)) → o ≢ Equal → o ≡ lex (F.encoding x) (F.encoding y)
     lengths_decide = headers.lengths_decide (F.encoding x) (F.encoding y) (tag_of x) (tag_of y) (V.contents x) (V.contents y) (h.encoding_is x) (h.encoding_is y) same_tag
 

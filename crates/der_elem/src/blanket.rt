@@ -1,5 +1,11 @@
 //! Reading, writing and comparing values with tags, by their contents octets.
 
+ghost use Rattle.std.specs.Prelude.{◌≡◌};
+ghost use Rattle.std.specs.declared.cmp.Ordering.TheVariants.{Equal};
+ghost use Rattle.der_tlv.specs.Identifier.{identifier};
+ghost use Rattle.der_tlv.specs.Octets.{lex};
+ghost use Rattle.der_elem.specs.Comparing.{Compares};
+
 use crate::decode::{Decode, DecodeValue, FromDer};
 use crate::encode::{Encode, EncodeValue};
 use crate::fixed_tag::{OneTag, TagMarker};
@@ -59,15 +65,39 @@ impl<T: EncodeValue + Tagged> Encode for T {
 }
 
 impl<T: EncodeValue + Tagged + ValueOrd> DerOrd for T {
+    // A value that holds others is compared first and measured where it differs, so that none is measured
+    // before the one that differs; another has its length at once.
     fn der_cmp(&self, other: &T) -> Result<Ordering, Error> {
         match self.tag().cmp(&other.tag()) {
             Ordering::Equal => {}
             order => return Ok(order),
+        }
+        if self.tag().is_constructed() {
+            return cmp_contents_first(self, other);
         }
         match self.value_len()?.cmp(&other.value_len()?) {
             Ordering::Equal => {}
             order => return Ok(order),
         }
         self.value_cmp(other)
+    }
+}
+
+/// The order of the encodings of two values with one tag: none is measured where the contents octets are
+/// equal.
+fn cmp_contents_first<T: EncodeValue + Tagged + ValueOrd>(
+    value: &T,
+    other: &T,
+) -> Result<Ordering, Error>
+    requires { lex (identifier (T.tag_of value.now)) (identifier (T.tag_of other.now)) ≡ Equal }
+    ensures { Compares T.Form value.now other.now result }
+{
+    let contents = value.value_cmp(other);
+    if let Ok(Ordering::Equal) = contents {
+        return contents;
+    }
+    match value.value_len()?.cmp(&other.value_len()?) {
+        Ordering::Equal => contents,
+        order => Ok(order),
     }
 }

@@ -6,8 +6,8 @@ mod refusals;
 
 use crate::tests::{same, same_in};
 use der_elem::{
-    Decode, DecodeValue, Duplicate, DuplicateValue, EncodeValue, FixedTag, FormValue, OneTag,
-    TakesMemory, ValueOrd,
+    Decode, DecodeValue, DerOrd, Duplicate, DuplicateValue, EncodeValue, FixedTag, FormValue,
+    FromDer, OneTag, TakesMemory, ValueOrd,
 };
 use der_tlv::{Error, ErrorKind, Header, Reader, SliceReader, Tag, VecWriter};
 use std::alloc::Global;
@@ -359,6 +359,24 @@ fn orders_by_contents(rt: HostRuntime) -> Result<(), Fail> {
     same(&rt, order(&127u8, &128)?, Ordering::Greater);
     same(&rt, order(&u128::MAX, &(1 << 127))?, Ordering::Greater);
     same(&rt, order(&5i64, &5)?, Ordering::Equal);
+    Ok(())
+}
+
+#[test]
+fn lists_within_lists_are_ordered_by_length_first(rt: HostRuntime) -> Result<(), Fail> {
+    let alloc = rt.alloc();
+    let one = Vec::<Vec<u8>>::from_der(alloc, &[0x30, 5, 0x30, 3, 2, 1, 2])?;
+    let less = Vec::<Vec<u8>>::from_der(alloc, &[0x30, 5, 0x30, 3, 2, 1, 1])?;
+    let more = [0x30, 10, 0x30, 3, 2, 1, 1, 0x30, 3, 2, 1, 1];
+    let more = Vec::<Vec<u8>>::from_der(alloc, &more)?;
+    same(&rt, one.der_cmp(&one)?, Ordering::Equal);
+    same(&rt, one.der_cmp(&less)?, Ordering::Greater);
+    same(&rt, less.der_cmp(&one)?, Ordering::Less);
+    // the first items decide of the contents octets, and the lengths of the encodings
+    same(&rt, more.value_cmp(&one)?, Ordering::Less);
+    same(&rt, more.der_cmp(&one)?, Ordering::Greater);
+    same(&rt, one.der_cmp(&more)?, Ordering::Less);
+    same(&rt, less.der_cmp(&more)?, Ordering::Less);
     Ok(())
 }
 

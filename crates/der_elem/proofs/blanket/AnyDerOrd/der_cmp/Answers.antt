@@ -17,6 +17,10 @@ lengths_are : (g : _) (c : After-cmp-2 g) → c.cmp-2.result ≡ nat_cmp (length
 lengths_are g c =
     c.cmp-2.ensures ∙ ap (λ n. nat_cmp n c.in_ok-value_len-2.field-0) c.in_ok-value_len.ensures.0 ∙ ap (nat_cmp (length (g.T.FormValue.value.contents c.args.self.now))) c.in_ok-value_len-2.ensures.0
 
+pub cmp_contents_first-requires : goal.cmp_contents_first-requires
+cmp_contents_first-requires g c =
+    let at = (goal.at.cmp_contents_first-requires g c).After-cmp in sym (tags_are g at) ∙ c.in-Equal.is
+
 pub returns-in_default : goal.returns-in_default
 returns-in_default g c =
     let at = (goal.at.returns-in_default g c).After-cmp in
