@@ -65,16 +65,24 @@ def proved():
     return program
 
 
-def derview(folder):
-    """The program derview as `rt try` builds it: the one that DERVIEW names, or a new one in the folder."""
-    given = os.environ.get("DERVIEW")
+def built_by_try(name, folder):
+    """A program as `rt try` builds it: the one that the variable of its name has, as DERVIEW, or a new one in the folder."""
+    given = os.environ.get(name.upper())
     if given:
         return given
-    build("derview", f"{folder}/derview")
-    return f"{folder}/derview"
+    build(name, f"{folder}/{name}")
+    return f"{folder}/{name}"
+
+
+def derview(folder):
+    return built_by_try("derview", folder)
+
+
+def certview(folder):
+    return built_by_try("certview", folder)
 
 
 if __name__ == "__main__":
     if not has_compiler():
         sys.exit(f"there is no C compiler {COMPILER}: set CC")
-    build("derview", sys.argv[1])
+    build(sys.argv[1], sys.argv[2])

@@ -139,10 +139,7 @@ def main():
         library = f"{folder}/refuse.so"
         compiler = programs.COMPILER.split()
         subprocess.run([*compiler, "-shared", "-fPIC", "-O2", "-o", library, f"{programs.HERE}/refuse.c"], check=True)
-        program = os.environ.get("CERTVIEW")
-        if not program:
-            program = f"{folder}/certview"
-            programs.build("certview", program)
+        program = programs.certview(folder)
         show_files(program, folder)
         ask_for_help(program)
         show_text(program)

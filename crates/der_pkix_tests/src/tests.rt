@@ -1,4 +1,4 @@
-//! Messages that OpenSSL wrote, read and written back, and octets that are refused.
+//! Messages that OpenSSL wrote, and what their fields are read as.
 
 mod access;
 mod attributes;

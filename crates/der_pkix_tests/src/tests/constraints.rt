@@ -1,19 +1,11 @@
 //! Values of extensions that constrain a path, or names.
 
-use super::{again, copied, same, same_in};
+use super::{copied, same};
 use der_asn1_types::FromDer;
 use der_extensions::extension::{BasicConstraints, NameConstraints};
 use std::alloc::Global;
 use std::process::Abort;
 use std::test::Fail;
-
-fn constraints_again(alloc: Global, octets: &[u8]) -> Result<Vec<u8>, u8> {
-    again::<BasicConstraints>(alloc, octets)
-}
-
-fn name_constraints_again(alloc: Global, octets: &[u8]) -> Result<Vec<u8>, u8> {
-    again::<NameConstraints>(alloc, octets)
-}
 
 // Whether a subject is an authority, and the octets of how long a path may be.
 fn constraints_told(alloc: Global, octets: &[u8]) -> Result<(bool, Option<Vec<u8>>), u8> {
@@ -64,17 +56,6 @@ fn bounds_told(alloc: Global, octets: &[u8]) -> Result<(u8, Option<u8>), u8> {
 }
 
 #[test]
-fn constraints_are_written_back(rt: HostRuntime) -> Result<(), Fail> {
-    let alloc = rt.alloc();
-    for digits in ["3000", "30030101ff", "30060101ff020103"] {
-        let octets = hex::decode(alloc, digits)?;
-        let written = constraints_again(alloc, octets.as_slice())?;
-        same(&rt, written.as_slice(), octets.as_slice());
-    }
-    Ok(())
-}
-
-#[test]
 fn constraints_have_fields(rt: HostRuntime) -> Result<(), Fail> {
     let alloc = rt.alloc();
     let octets = hex::decode(alloc, "30060101ff020103")?;
@@ -84,38 +65,6 @@ fn constraints_have_fields(rt: HostRuntime) -> Result<(), Fail> {
     let octets = hex::decode(alloc, "3000")?;
     let found = constraints_told(alloc, octets.as_slice());
     same(&rt, found, Ok((false, None)));
-    Ok(())
-}
-
-#[test]
-fn constraints_have_no_default_and_no_negative_length(rt: HostRuntime) -> Result<(), Fail> {
-    let alloc = rt.alloc();
-    let rows = [
-        ("3003010100", 8),
-        ("30030201ff", 13),
-        ("30060201030101ff", 3),
-    ];
-    for (digits, number) in rows {
-        let octets = hex::decode(alloc, digits)?;
-        let answer = constraints_again(alloc, octets.as_slice());
-        same_in(&rt, &digits, answer.err(), Some(number));
-    }
-    Ok(())
-}
-
-#[test]
-fn constraints_of_names_are_written_back(rt: HostRuntime) -> Result<(), Fail> {
-    let alloc = rt.alloc();
-    let rows = [
-        "3000",
-        "3032a01e3010820e6261726c65792e6578616d706c65300a8708c0000200ffffff00a110300e810c6d696c6c2e6578616d706c65",
-        "300da00b3009820161800101810103",
-    ];
-    for digits in rows {
-        let octets = hex::decode(alloc, digits)?;
-        let written = name_constraints_again(alloc, octets.as_slice())?;
-        same(&rt, written.as_slice(), octets.as_slice());
-    }
     Ok(())
 }
 
@@ -146,26 +95,5 @@ fn subtrees_have_bounds(rt: HostRuntime) -> Result<(), Fail> {
     let octets = hex::decode(alloc, "300da00b3009820161800101810103")?;
     let found = bounds_told(alloc, octets.as_slice());
     same(&rt, found, Ok((1, Some(3))));
-    Ok(())
-}
-
-#[test]
-fn subtrees_are_some_and_have_no_default(rt: HostRuntime) -> Result<(), Fail> {
-    let alloc = rt.alloc();
-    let rows = [
-        // no subtree, and one with no name
-        ("3002a000", 13),
-        ("3004a0023000", 2),
-        // a minimum that is the default, and a maximum that is more than an octet has
-        ("300aa0083006820161800100", 8),
-        ("300ba009300782016181020100", 7),
-        // what is excluded before what is permitted
-        ("300ea1053003820161a0053003820161", 3),
-    ];
-    for (digits, number) in rows {
-        let octets = hex::decode(alloc, digits)?;
-        let answer = name_constraints_again(alloc, octets.as_slice());
-        same_in(&rt, &digits, answer.err(), Some(number));
-    }
     Ok(())
 }

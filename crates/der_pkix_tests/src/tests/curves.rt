@@ -1,19 +1,11 @@
 //! Keys of elliptic curves, and the curves.
 
-use super::{again, same, same_in};
+use super::same;
 use der_asn1_types::FromDer;
 use der_pkix::key::{EcParameters, EcPrivateKey};
 use std::alloc::Global;
 use std::process::Abort;
 use std::test::Fail;
-
-fn curve_key_again(alloc: Global, octets: &[u8]) -> Result<Vec<u8>, u8> {
-    again::<EcPrivateKey>(alloc, octets)
-}
-
-fn parameters_again(alloc: Global, octets: &[u8]) -> Result<Vec<u8>, u8> {
-    again::<EcParameters>(alloc, octets)
-}
 
 // Whether the curve has a name, and the bits of the public key.
 fn curve_key_told(alloc: Global, octets: &[u8]) -> Result<(Option<bool>, Option<usize>), u8> {
@@ -52,25 +44,6 @@ fn domain_told(alloc: Global, octets: &[u8]) -> Result<(u8, usize, usize, bool, 
 }
 
 #[test]
-fn keys_of_curves_are_written_back(rt: HostRuntime) -> Result<(), Fail> {
-    let alloc = rt.alloc();
-    let rows = [
-        // of a curve with a name
-        "30770201010420112329850d4acc40bb1c4ae2f88b00fee362b1d65232165eff393565372a6239a00a06082a8648ce3d030107a14403420004336050c5ed2d949ebae59f13e67c7bf83ae11c221ecd5bec9d26de457b701f331a22d0d7babbf7db085ac65d318c2ca99d6e5cd0ce25e11b3a04f76aae07687a",
-        // of one that is specified, of one with no curve and no public key, and of an implied one
-        "3081c6020101040e89a2a518777aee76ea8aff947caba0818e30818b020101301a06072a8648ce3d0101020f00db7c2abf62e35e668076bead208b3037040edb7c2abf62e35e668076bead2088040e659ef8ba043916eede8911702b2203150000f50b028e4d696e676875615175290472783fb1041d0409487239995a5ee76b55f9c2f098a89ce5af8724c0a23e0e0ff77500020f00db7c2abf62e35e7628dfac6561c5020101a120031e000436157379893016ad3c5a4dd9258f959a5e4fb0adde9e40bc8d673e83",
-        "30050201010400",
-        "30090201010400a0020500",
-    ];
-    for digits in rows {
-        let octets = hex::decode(alloc, digits)?;
-        let written = curve_key_again(alloc, octets.as_slice())?;
-        same(&rt, written.as_slice(), octets.as_slice());
-    }
-    Ok(())
-}
-
-#[test]
 fn keys_of_curves_have_parameters(rt: HostRuntime) -> Result<(), Fail> {
     let alloc = rt.alloc();
     let octets = hex::decode(
@@ -88,23 +61,6 @@ fn keys_of_curves_have_parameters(rt: HostRuntime) -> Result<(), Fail> {
     let octets = hex::decode(alloc, "30050201010400")?;
     let found = curve_key_told(alloc, octets.as_slice());
     same(&rt, found, Ok((None, None)));
-    Ok(())
-}
-
-#[test]
-fn parameters_are_written_back(rt: HostRuntime) -> Result<(), Fail> {
-    let alloc = rt.alloc();
-    let rows = [
-        "06082a8648ce3d030107",
-        "0500",
-        "3081f7020101302c06072a8648ce3d0101022100ffffffff00000001000000000000000000000000ffffffffffffffffffffffff305b0420ffffffff00000001000000000000000000000000fffffffffffffffffffffffc04205ac635d8aa3a93e7b3ebbd55769886bc651d06b0cc53b0f63bce3c3e27d2604b031500c49d360886e704936a6678e1139d26b7819f7e900441046b17d1f2e12c4247f8bce6e563a440f277037d812deb33a0f4a13945d898c2964fe342e2fe1a7f9b8ee7eb4a7c0f9e162bce33576b315ececbb6406837bf51f5022100ffffffff00000000ffffffffffffffffbce6faada7179e84f3b9cac2fc632551020101",
-        "308191020101301c06072a8648ce3d0102301102017106092a8648ce3d010203020201093039040f003088250ca6e7c7fe649ce85820f7040f00e8bee4d3e2260744188be0e9c72303150010e723ab14d696e6768756151756febf8fcb49a9041f04009d73616f35f4ab1407d73562c10f00a52830277958ee84d1315ed31886020f0100000000000000d9ccec8a39e56f020102",
-    ];
-    for digits in rows {
-        let octets = hex::decode(alloc, digits)?;
-        let written = parameters_again(alloc, octets.as_slice())?;
-        same(&rt, written.as_slice(), octets.as_slice());
-    }
     Ok(())
 }
 
@@ -130,41 +86,5 @@ fn specified_curves_have_fields(rt: HostRuntime) -> Result<(), Fail> {
     )?;
     let found = domain_told(alloc, octets.as_slice());
     same(&rt, found, Ok((1, 65, 33, true, false, false)));
-    Ok(())
-}
-
-#[test]
-fn parameters_of_no_kind_are_refused(rt: HostRuntime) -> Result<(), Fail> {
-    let alloc = rt.alloc();
-    let rows = [
-        // no tag, one of no alternative, and no field
-        ("0401", 4),
-        ("020101", 4),
-        ("3000", 2),
-        // a NULL with contents
-        ("050100", 7),
-    ];
-    for (digits, number) in rows {
-        let octets = hex::decode(alloc, digits)?;
-        let answer = parameters_again(alloc, octets.as_slice());
-        same_in(&rt, &digits, answer.err(), Some(number));
-    }
-    Ok(())
-}
-
-#[test]
-fn keys_of_curves_have_their_fields_in_order(rt: HostRuntime) -> Result<(), Fail> {
-    let alloc = rt.alloc();
-    let rows = [
-        // the public key before the curve, a curve after no explicit tag, and parameters of no kind
-        ("300e0201010400a103030100a0020500", 3),
-        ("300702010104000500", 3),
-        ("300a0201010400a003020101", 4),
-    ];
-    for (digits, number) in rows {
-        let octets = hex::decode(alloc, digits)?;
-        let answer = curve_key_again(alloc, octets.as_slice());
-        same_in(&rt, &digits, answer.err(), Some(number));
-    }
     Ok(())
 }

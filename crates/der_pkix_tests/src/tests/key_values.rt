@@ -1,6 +1,6 @@
 //! Values of extensions that are about a key.
 
-use super::{again, copied, same, same_in};
+use super::{copied, same};
 use der_asn1_types::FromDer;
 use der_asn1_types::asn1::GeneralizedTime;
 use der_extensions::extension::constants::ID_KP_CLIENT_AUTH;
@@ -11,26 +11,6 @@ use der_extensions::extension::{
 use std::alloc::Global;
 use std::process::Abort;
 use std::test::Fail;
-
-fn usage_again(alloc: Global, octets: &[u8]) -> Result<Vec<u8>, u8> {
-    again::<KeyUsage>(alloc, octets)
-}
-
-fn purposes_again(alloc: Global, octets: &[u8]) -> Result<Vec<u8>, u8> {
-    again::<ExtKeyUsageSyntax>(alloc, octets)
-}
-
-fn key_identifier_again(alloc: Global, octets: &[u8]) -> Result<Vec<u8>, u8> {
-    again::<SubjectKeyIdentifier>(alloc, octets)
-}
-
-fn authority_again(alloc: Global, octets: &[u8]) -> Result<Vec<u8>, u8> {
-    again::<AuthorityKeyIdentifier>(alloc, octets)
-}
-
-fn period_again(alloc: Global, octets: &[u8]) -> Result<Vec<u8>, u8> {
-    again::<PrivateKeyUsagePeriod>(alloc, octets)
-}
 
 // Whether a key may sign certificates, and lists, and data.
 fn usage_told(alloc: Global, octets: &[u8]) -> Result<(bool, bool, bool), u8> {
@@ -106,77 +86,6 @@ fn year_of(time: Option<GeneralizedTime>) -> Option<u16> {
 }
 
 #[test]
-fn usages_are_written_back(rt: HostRuntime) -> Result<(), Fail> {
-    let alloc = rt.alloc();
-    for digits in ["030205a0", "03020106", "0303070080"] {
-        let octets = hex::decode(alloc, digits)?;
-        let written = usage_again(alloc, octets.as_slice())?;
-        same(&rt, written.as_slice(), octets.as_slice());
-    }
-    Ok(())
-}
-
-#[test]
-fn purposes_are_written_back(rt: HostRuntime) -> Result<(), Fail> {
-    let alloc = rt.alloc();
-    let octets = hex::decode(alloc, "301406082b0601050507030106082b06010505070302")?;
-    let written = purposes_again(alloc, octets.as_slice())?;
-    same(&rt, written.as_slice(), octets.as_slice());
-    Ok(())
-}
-
-#[test]
-fn key_identifiers_are_written_back(rt: HostRuntime) -> Result<(), Fail> {
-    let alloc = rt.alloc();
-    let octets = hex::decode(alloc, "0414d861bbf0f0e49add54a4c9082f3a2f0afa983135")?;
-    let written = key_identifier_again(alloc, octets.as_slice())?;
-    same(&rt, written.as_slice(), octets.as_slice());
-    Ok(())
-}
-
-#[test]
-fn authorities_are_written_back(rt: HostRuntime) -> Result<(), Fail> {
-    let alloc = rt.alloc();
-    let rows = [
-        // no field, the identifier alone, and all three
-        "3000",
-        "301680140894da7aed9f78720d852c7a00aae7c41f546dd2",
-        "305f80140894da7aed9f78720d852c7a00aae7c41f546dd2a131a42f302d310b3009060355040613025345310f300d060355040a0c064261726c6579310d300b06035504030c046d696c6c82141a97d371a1ffc8752e885333be272ab7dbd323cb",
-    ];
-    for digits in rows {
-        let octets = hex::decode(alloc, digits)?;
-        let written = authority_again(alloc, octets.as_slice())?;
-        same(&rt, written.as_slice(), octets.as_slice());
-    }
-    Ok(())
-}
-
-#[test]
-fn authorities_have_their_fields_in_order(rt: HostRuntime) -> Result<(), Fail> {
-    let alloc = rt.alloc();
-    let rows = [
-        // the fields exchanged, one twice, and an identifier after a constructed tag
-        ("300782010580020102", 3),
-        ("30088002010280020102", 3),
-        ("3004a0020102", 3),
-        // a number in more octets than it needs
-        ("300482020005", 8),
-        // names of which one is of no kind, and a directory's name in no SEQUENCE
-        ("3005a103020105", 4),
-        ("3006a104a4020500", 4),
-        ("30048003010203", 2),
-        // no name
-        ("3002a100", 13),
-    ];
-    for (digits, number) in rows {
-        let octets = hex::decode(alloc, digits)?;
-        let again = authority_again(alloc, octets.as_slice());
-        same(&rt, again.err(), Some(number));
-    }
-    Ok(())
-}
-
-#[test]
 fn authorities_have_fields(rt: HostRuntime) -> Result<(), Fail> {
     let alloc = rt.alloc();
     let octets = hex::decode(alloc, "301680140894da7aed9f78720d852c7a00aae7c41f546dd2")?;
@@ -204,40 +113,11 @@ fn usages_have_bits(rt: HostRuntime) -> Result<(), Fail> {
 }
 
 #[test]
-fn usages_end_with_a_bit(rt: HostRuntime) -> Result<(), Fail> {
-    let alloc = rt.alloc();
-    let rows = [
-        // a last bit that is 0, none in an octet, and a number of unused bits that there is not
-        ("030200a0", 8),
-        ("03020700", 8),
-        ("030208a0", 13),
-    ];
-    for (digits, number) in rows {
-        let octets = hex::decode(alloc, digits)?;
-        let answer = usage_again(alloc, octets.as_slice());
-        same_in(&rt, &digits, answer.err(), Some(number));
-    }
-    Ok(())
-}
-
-#[test]
 fn purposes_have_identifiers(rt: HostRuntime) -> Result<(), Fail> {
     let alloc = rt.alloc();
     let octets = hex::decode(alloc, "301406082b0601050507030106082b06010505070302")?;
     let found = purposes_told(alloc, octets.as_slice());
     same(&rt, found, Ok((2, true)));
-    Ok(())
-}
-
-#[test]
-fn purposes_are_not_none(rt: HostRuntime) -> Result<(), Fail> {
-    let alloc = rt.alloc();
-    let rows = [("3000", 13), ("3003020105", 4)];
-    for (digits, number) in rows {
-        let octets = hex::decode(alloc, digits)?;
-        let answer = purposes_again(alloc, octets.as_slice());
-        same_in(&rt, &digits, answer.err(), Some(number));
-    }
     Ok(())
 }
 
@@ -248,28 +128,6 @@ fn key_identifiers_are_octets(rt: HostRuntime) -> Result<(), Fail> {
     let found = key_identifier_told(alloc, octets.as_slice())?;
     let wanted = hex::decode(alloc, "d861bbf0f0e49add54a4c9082f3a2f0afa983135")?;
     same(&rt, found.as_slice(), wanted.as_slice());
-    let octets = hex::decode(alloc, "030100")?;
-    same(
-        &rt,
-        key_identifier_again(alloc, octets.as_slice()).err(),
-        Some(4),
-    );
-    Ok(())
-}
-
-#[test]
-fn periods_are_written_back(rt: HostRuntime) -> Result<(), Fail> {
-    let alloc = rt.alloc();
-    let rows = [
-        "3000",
-        "3011810f32303237303932333034333831385a",
-        "3022800f32303236313132333034333831385a810f32303237303932333034333831385a",
-    ];
-    for digits in rows {
-        let octets = hex::decode(alloc, digits)?;
-        let written = period_again(alloc, octets.as_slice())?;
-        same(&rt, written.as_slice(), octets.as_slice());
-    }
     Ok(())
 }
 
@@ -285,24 +143,5 @@ fn periods_have_ends(rt: HostRuntime) -> Result<(), Fail> {
     let octets = hex::decode(alloc, "3011810f32303237303932333034333831385a")?;
     let found = period_told(alloc, octets.as_slice());
     same(&rt, found, Ok((None, Some(2027))));
-    Ok(())
-}
-
-#[test]
-fn periods_have_their_ends_in_order(rt: HostRuntime) -> Result<(), Fail> {
-    let alloc = rt.alloc();
-    let rows = [
-        // the ends exchanged, and one in the form of a UTCTime
-        (
-            "3022810f32303237303932333034333831385a800f32303236313132333034333831385a",
-            3,
-        ),
-        ("300f810d3237303932333034333831385a", 13),
-    ];
-    for (digits, number) in rows {
-        let octets = hex::decode(alloc, digits)?;
-        let answer = period_again(alloc, octets.as_slice());
-        same_in(&rt, &digits, answer.err(), Some(number));
-    }
     Ok(())
 }

@@ -1,6 +1,6 @@
 //! Values of extensions of lists of revoked certificates.
 
-use super::{again, copied, same, same_in};
+use super::{copied, same};
 use der_asn1_types::FromDer;
 use der_extensions::extension::{
     BaseCrlNumber, CrlNumber, DistributionPointName, IssuingDistributionPoint,
@@ -9,18 +9,6 @@ use der_extensions::extension::{
 use std::alloc::Global;
 use std::process::Abort;
 use std::test::Fail;
-
-fn number_again(alloc: Global, octets: &[u8]) -> Result<Vec<u8>, u8> {
-    again::<CrlNumber>(alloc, octets)
-}
-
-fn base_again(alloc: Global, octets: &[u8]) -> Result<Vec<u8>, u8> {
-    again::<BaseCrlNumber>(alloc, octets)
-}
-
-fn point_again(alloc: Global, octets: &[u8]) -> Result<Vec<u8>, u8> {
-    again::<IssuingDistributionPoint>(alloc, octets)
-}
 
 fn number_told(alloc: Global, octets: &[u8]) -> Result<Vec<u8>, u8> {
     match CrlNumber::from_der(alloc, octets) {
@@ -72,48 +60,14 @@ fn reasons_told(alloc: Global, octets: &[u8]) -> Result<(usize, bool, bool), u8>
 }
 
 #[test]
-fn numbers_of_lists_are_written_back(rt: HostRuntime) -> Result<(), Fail> {
+fn numbers_of_lists_are_octets(rt: HostRuntime) -> Result<(), Fail> {
     let alloc = rt.alloc();
     let octets = hex::decode(alloc, "02011f")?;
-    let written = number_again(alloc, octets.as_slice())?;
-    same(&rt, written.as_slice(), octets.as_slice());
     let found = number_told(alloc, octets.as_slice())?;
     same(&rt, found.as_slice(), [0x1f].as_slice());
     let octets = hex::decode(alloc, "020105")?;
-    let written = base_again(alloc, octets.as_slice())?;
-    same(&rt, written.as_slice(), octets.as_slice());
     let found = base_told(alloc, octets.as_slice())?;
     same(&rt, found.as_slice(), [5].as_slice());
-    Ok(())
-}
-
-#[test]
-fn numbers_of_lists_are_not_negative(rt: HostRuntime) -> Result<(), Fail> {
-    let alloc = rt.alloc();
-    // a negative number, one in more octets than it needs, and another type
-    for (digits, number) in [("0201ff", 13), ("02020005", 8), ("0a0105", 4)] {
-        let octets = hex::decode(alloc, digits)?;
-        let answer = number_again(alloc, octets.as_slice());
-        same_in(&rt, &digits, answer.err(), Some(number));
-        let answer = base_again(alloc, octets.as_slice());
-        same_in(&rt, &digits, answer.err(), Some(number));
-    }
-    Ok(())
-}
-
-#[test]
-fn issuing_points_are_written_back(rt: HostRuntime) -> Result<(), Fail> {
-    let alloc = rt.alloc();
-    let rows = [
-        "3000",
-        "302ea022a020861e687474703a2f2f6261726c65792e6578616d706c652f6d696c6c2e63726c8101ff830205608401ff",
-        "30068201ff8501ff",
-    ];
-    for digits in rows {
-        let octets = hex::decode(alloc, digits)?;
-        let written = point_again(alloc, octets.as_slice())?;
-        same(&rt, written.as_slice(), octets.as_slice());
-    }
     Ok(())
 }
 
@@ -144,27 +98,5 @@ fn issuing_points_have_reasons(rt: HostRuntime) -> Result<(), Fail> {
     )?;
     let found = reasons_told(alloc, octets.as_slice());
     same(&rt, found, Ok((1, true, false)));
-    Ok(())
-}
-
-#[test]
-fn issuing_points_have_no_default(rt: HostRuntime) -> Result<(), Fail> {
-    let alloc = rt.alloc();
-    let rows = [
-        // each answer FALSE
-        ("3003810100", 8),
-        ("3003820100", 8),
-        ("3003840100", 8),
-        ("3003850100", 8),
-        // an answer that is no BOOLEAN of DER, two exchanged, and no name
-        ("3003810101", 8),
-        ("30068201ff8101ff", 3),
-        ("3004a002a000", 13),
-    ];
-    for (digits, number) in rows {
-        let octets = hex::decode(alloc, digits)?;
-        let answer = point_again(alloc, octets.as_slice());
-        same_in(&rt, &digits, answer.err(), Some(number));
-    }
     Ok(())
 }

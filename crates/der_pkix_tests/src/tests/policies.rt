@@ -1,6 +1,6 @@
 //! Values of extensions that are about policies.
 
-use super::{again, copied, same, same_in};
+use super::{copied, same};
 use der_asn1_types::FromDer;
 use der_extensions::extension::constants::ID_QT_CPS;
 use der_extensions::extension::{
@@ -10,22 +10,6 @@ use der_extensions::extension::{
 use std::alloc::Global;
 use std::process::Abort;
 use std::test::Fail;
-
-fn policies_again(alloc: Global, octets: &[u8]) -> Result<Vec<u8>, u8> {
-    again::<CertificatePolicies>(alloc, octets)
-}
-
-fn mappings_again(alloc: Global, octets: &[u8]) -> Result<Vec<u8>, u8> {
-    again::<PolicyMappings>(alloc, octets)
-}
-
-fn policy_constraints_again(alloc: Global, octets: &[u8]) -> Result<Vec<u8>, u8> {
-    again::<PolicyConstraints>(alloc, octets)
-}
-
-fn inhibited_again(alloc: Global, octets: &[u8]) -> Result<Vec<u8>, u8> {
-    again::<InhibitAnyPolicy>(alloc, octets)
-}
 
 // How many policies there are, the contents octets of the last one's identifier, how many qualifiers
 // it has, and whether the first of these is the place of a statement.
@@ -109,18 +93,6 @@ fn inhibited_told(alloc: Global, octets: &[u8]) -> Result<Vec<u8>, u8> {
 }
 
 #[test]
-fn policies_are_written_back(rt: HostRuntime) -> Result<(), Fail> {
-    let alloc = rt.alloc();
-    let octets = hex::decode(
-        alloc,
-        "3065300506032a0304305c06032a03053055302606082b06010505070201161a68747470733a2f2f6261726c65792e6578616d706c652f637073302b06082b06010505070202301f30101a064261726c657930060201010201021a0b4d696c6c65642068657265",
-    )?;
-    let written = policies_again(alloc, octets.as_slice())?;
-    same(&rt, written.as_slice(), octets.as_slice());
-    Ok(())
-}
-
-#[test]
 fn policies_have_qualifiers(rt: HostRuntime) -> Result<(), Fail> {
     let alloc = rt.alloc();
     let octets = hex::decode(
@@ -134,37 +106,6 @@ fn policies_have_qualifiers(rt: HostRuntime) -> Result<(), Fail> {
     let found = policies_told(alloc, octets.as_slice());
     let identifier = hex::decode(alloc, "2a0304")?;
     same(&rt, found, Ok((1, identifier, 0, false)));
-    Ok(())
-}
-
-#[test]
-fn policies_are_some(rt: HostRuntime) -> Result<(), Fail> {
-    let alloc = rt.alloc();
-    let rows = [
-        // no policy, no qualifier, and a qualifier with no value
-        ("3000", 13),
-        ("3009300706032a03043000", 13),
-        ("3010300e06032a03043007300506032a0305", 2),
-        // a policy with no identifier
-        ("30023000", 2),
-    ];
-    for (digits, number) in rows {
-        let octets = hex::decode(alloc, digits)?;
-        let answer = policies_again(alloc, octets.as_slice());
-        same_in(&rt, &digits, answer.err(), Some(number));
-    }
-    Ok(())
-}
-
-#[test]
-fn mappings_are_written_back(rt: HostRuntime) -> Result<(), Fail> {
-    let alloc = rt.alloc();
-    let octets = hex::decode(
-        alloc,
-        "3018300a06032a030406032a0305300a06032a030606032a0307",
-    )?;
-    let written = mappings_again(alloc, octets.as_slice())?;
-    same(&rt, written.as_slice(), octets.as_slice());
     Ok(())
 }
 
@@ -183,30 +124,6 @@ fn mappings_have_two_policies(rt: HostRuntime) -> Result<(), Fail> {
 }
 
 #[test]
-fn mappings_are_some(rt: HostRuntime) -> Result<(), Fail> {
-    let alloc = rt.alloc();
-    let rows = [("3000", 13), ("3007300506032a0304", 2)];
-    for (digits, number) in rows {
-        let octets = hex::decode(alloc, digits)?;
-        let answer = mappings_again(alloc, octets.as_slice());
-        same_in(&rt, &digits, answer.err(), Some(number));
-    }
-    Ok(())
-}
-
-#[test]
-fn constraints_of_policies_are_written_back(rt: HostRuntime) -> Result<(), Fail> {
-    let alloc = rt.alloc();
-    let rows = ["3000", "3006800103810101", "3003810101"];
-    for digits in rows {
-        let octets = hex::decode(alloc, digits)?;
-        let written = policy_constraints_again(alloc, octets.as_slice())?;
-        same(&rt, written.as_slice(), octets.as_slice());
-    }
-    Ok(())
-}
-
-#[test]
 fn constraints_of_policies_have_numbers(rt: HostRuntime) -> Result<(), Fail> {
     let alloc = rt.alloc();
     let octets = hex::decode(alloc, "3006800103810101")?;
@@ -218,29 +135,10 @@ fn constraints_of_policies_have_numbers(rt: HostRuntime) -> Result<(), Fail> {
 }
 
 #[test]
-fn constraints_of_policies_have_their_fields_in_order(rt: HostRuntime) -> Result<(), Fail> {
-    let alloc = rt.alloc();
-    let rows = [("3006810101800103", 3), ("30038001ff", 13)];
-    for (digits, number) in rows {
-        let octets = hex::decode(alloc, digits)?;
-        let answer = policy_constraints_again(alloc, octets.as_slice());
-        same_in(&rt, &digits, answer.err(), Some(number));
-    }
-    Ok(())
-}
-
-#[test]
 fn inhibitions_are_numbers(rt: HostRuntime) -> Result<(), Fail> {
     let alloc = rt.alloc();
     let octets = hex::decode(alloc, "020102")?;
-    let written = inhibited_again(alloc, octets.as_slice())?;
-    same(&rt, written.as_slice(), octets.as_slice());
     let found = inhibited_told(alloc, octets.as_slice())?;
     same(&rt, found.as_slice(), [2].as_slice());
-    for (digits, number) in [("0201ff", 13), ("02020002", 8), ("0400", 4)] {
-        let octets = hex::decode(alloc, digits)?;
-        let answer = inhibited_again(alloc, octets.as_slice());
-        same_in(&rt, &digits, answer.err(), Some(number));
-    }
     Ok(())
 }
