@@ -117,6 +117,27 @@ def fail_reads_and_writes(program, library):
     ends("in pieces", run(program, [], CERTIFICATE, settings), (0, SHOWN, b""))
 
 
+def long_text(count):
+    """A bundle of so many certificates, and its text."""
+    texts = [f"block {number + 1} of {count}: CERTIFICATE\n".encode() + SHOWN for number in range(count)]
+    return CERTIFICATE * count, b"\n".join(texts)
+
+
+def show_long_text(program, library):
+    """A text that is not held whole is the same, and a write that fails in it leaves its beginning."""
+    bundle, shown = long_text(50)
+    ends("a long text", run(program, [], bundle), (0, shown, b""))
+    for number in (1, 2, 4):
+        settings = {"LD_PRELOAD": library, "WRITE_PIECE": "20000", "WRITE_FAILS": str(number)}
+        wanted = (2, shown[: 20000 * (number - 1)], b"certview: output failed\n")
+        ends(f"a long text, write {number}", run(program, [], bundle, settings), wanted)
+    settings = {"LD_PRELOAD": library, "READ_PIECE": "50000", "READ_FAILS": "2"}
+    ends("a long text, read 2", run(program, [], bundle, settings), (2, b"", b"certview: input failed\n"))
+    other = b"-----BEGIN DH PARAMETERS-----\nMAA=\n-----END DH PARAMETERS-----\n" * 2000
+    said = b"certview: refused: DH PARAMETERS is not known\n"
+    ends("a long text of no message", run(program, [], other), (1, b"", said))
+
+
 def close_the_pipe(program):
     reads, writes = os.pipe()
     os.close(reads)
@@ -126,9 +147,14 @@ def close_the_pipe(program):
 
 
 def refuse_memory(program):
-    """In the program of `rt try` a request of a known number is refused, which a bundle comes to."""
+    """In the program of `rt try` a request of a known number is refused. A bundle comes to it the first time that its
+    text is made, and a smaller one the second time."""
     bundle = CERTIFICATE * 200
     ends("a bundle without memory", run(program, [], bundle), (2, b"", b"certview: out of memory\n"))
+    bundle, shown = long_text(100)
+    status, text, said = run(program, [], bundle)
+    if status != 2 or not shown.startswith(text) or said != b"certview: output failed\n":
+        fail(f"a text that is made again without memory: {status}, {len(text)} octets, {said!r}")
 
 
 def main():
@@ -145,6 +171,7 @@ def main():
         show_text(program)
         show_what_is_malformed(program)
         fail_reads_and_writes(program, library)
+        show_long_text(program, library)
         close_the_pipe(program)
         refuse_memory(program)
     print(f"views: {'all as it should be' if not wrong else f'{len(wrong)} wrong'}")

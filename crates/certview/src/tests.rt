@@ -2,6 +2,7 @@
 
 mod blocks;
 mod examples;
+mod extensions;
 mod faults;
 mod kinds;
 mod messages;

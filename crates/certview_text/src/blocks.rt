@@ -8,11 +8,10 @@ use crate::fault::Fault;
 use crate::hexadecimal::push_with_colons;
 use crate::kind::Kind;
 use crate::label::{Label, kind_with};
+use crate::lines::{Lines, Stop};
 use crate::page::Page;
-use crate::path::path_of;
 use crate::pem::{Block, Blocks, octets_of};
 use crate::text::push_message;
-use der_asn1_types::{Error, ErrorKind};
 use sha2::{Digest, Sha256};
 use std::alloc::{AllocError, Global};
 use std::fmt::Write;
@@ -20,28 +19,22 @@ use std::fmt::Write;
 /// Adds the fields of a message, and its fingerprint where that is asked for.
 ///
 /// # Errors
-/// `Refused` for octets that are no message of the kind; `Memory`.
-pub fn push_octets(
+/// `Refused` for octets that are no message of the kind; `Output` where the lines are not taken;
+/// `Memory`.
+pub fn push_octets<L: Lines>(
     alloc: Global,
     page: &mut Page,
+    lines: &mut L,
     has_fingerprint: bool,
     kind: Kind,
     octets: &[u8],
 ) -> Result<(), Fault>
     ensures { OnOk result (first_fault (grammar_of kind) octets.now ≡ None) }
 {
-    match push_message(alloc, page, kind, octets) {
+    match push_message(alloc, page, lines, kind, octets) {
         Ok(()) if has_fingerprint => Ok(push_fingerprint(page, kind, octets)?),
         Ok(()) => Ok(()),
-        Err(error) => Err(refusal(kind, octets, error)),
-    }
-}
-
-/// The fault of octets that are refused, or of memory that was.
-fn refusal(kind: Kind, octets: &[u8], error: Error) -> Fault {
-    match error.kind {
-        ErrorKind::Memory => Fault::Memory,
-        _ => Fault::Refused(error, path_of(octets, kind, &error)),
+        Err(fault) => Err(fault),
     }
 }
 
@@ -60,32 +53,35 @@ fn push_fingerprint(page: &mut Page, kind: Kind, octets: &[u8]) -> Result<(), Al
 /// that is refused among others is a line with its fault.
 ///
 /// # Errors
-/// The fault of the first block, where no block is shown; `Memory`.
-pub fn push_blocks(
+/// The fault of the first block, where no block is shown; `Output` where the lines are not taken;
+/// `Memory`.
+pub fn push_blocks<L: Lines>(
     alloc: Global,
     page: &mut Page,
+    lines: &mut L,
     has_fingerprint: bool,
     text: &[u8],
 ) -> Result<(), Fault> {
     let count = Blocks::count(text);
     if count < 2 {
-        return push_first(alloc, page, has_fingerprint, text);
+        return push_first(alloc, page, lines, has_fingerprint, text);
     }
-    match push_each(alloc, page, has_fingerprint, text, count) {
-        Ok(0) => push_first(alloc, page, has_fingerprint, text),
+    match push_each(alloc, page, lines, has_fingerprint, text, count) {
+        Ok(0) => push_first(alloc, page, lines, has_fingerprint, text),
         Ok(_) => Ok(()),
-        Err(_) => Err(Fault::Memory),
+        Err(stop) => Err(Fault::from(stop)),
     }
 }
 
 /// Adds each of so many blocks, and answers of how many a message is shown.
-fn push_each(
+fn push_each<L: Lines>(
     alloc: Global,
     page: &mut Page,
+    lines: &mut L,
     has_fingerprint: bool,
     text: &[u8],
     count: usize,
-) -> Result<usize, AllocError> {
+) -> Result<usize, Stop> {
     let mut blocks = Blocks::of(text);
     let mut shown: usize = 0;
     for number in 0..count {
@@ -93,38 +89,42 @@ fn push_each(
             break;
         };
         push_heading(page, number, count, &block)?;
-        if push_or_tell(alloc, page, has_fingerprint, &block)? {
+        if push_or_tell(alloc, page, lines, has_fingerprint, &block)? {
             shown = shown.saturating_add(1);
         }
+        lines.take(page)?;
     }
     Ok(shown)
 }
 
 /// Adds the message of the first block.
-fn push_first(
+fn push_first<L: Lines>(
     alloc: Global,
     page: &mut Page,
+    lines: &mut L,
     has_fingerprint: bool,
     text: &[u8],
 ) -> Result<(), Fault> {
     let mut blocks = Blocks::of(text);
     match blocks.next_block() {
-        Some(block) => push_block(alloc, page, has_fingerprint, &block),
+        Some(block) => push_block(alloc, page, lines, has_fingerprint, &block),
         None => Err(Fault::NoEnd),
     }
 }
 
 /// Adds the message of one of several blocks, or the line of one that is refused; answers whether the
 /// message is shown.
-fn push_or_tell(
+fn push_or_tell<L: Lines>(
     alloc: Global,
     page: &mut Page,
+    lines: &mut L,
     has_fingerprint: bool,
     block: &Block<'_>,
-) -> Result<bool, AllocError> {
-    match push_block(alloc, page, has_fingerprint, block) {
+) -> Result<bool, Stop> {
+    match push_block(alloc, page, lines, has_fingerprint, block) {
         Ok(()) => Ok(true),
-        Err(Fault::Memory) => Err(AllocError),
+        Err(Fault::Memory) => Err(Stop::Memory),
+        Err(Fault::Output) => Err(Stop::Output),
         Err(fault) => {
             push_refused(page, fault)?;
             Ok(false)
@@ -153,9 +153,10 @@ fn push_refused(page: &mut Page, fault: Fault) -> Result<(), AllocError> {
     writeln!(page.text, "{fault}")
 }
 
-fn push_block(
+fn push_block<L: Lines>(
     alloc: Global,
     page: &mut Page,
+    lines: &mut L,
     has_fingerprint: bool,
     block: &Block<'_>,
 ) -> Result<(), Fault> {
@@ -163,5 +164,5 @@ fn push_block(
         return Err(Fault::UnknownLabel(Label::of(block.label)));
     };
     let octets = octets_of(alloc, block)?;
-    push_octets(alloc, page, has_fingerprint, kind, octets.as_slice())
+    push_octets(alloc, page, lines, has_fingerprint, kind, octets.as_slice())
 }

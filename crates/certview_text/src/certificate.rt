@@ -7,15 +7,17 @@ ghost use Rattle.certview_text.specs.Faults.{first_fault};
 
 use crate::algorithms::{push_algorithm, push_key};
 use crate::extensions::push_extensions;
+use crate::fault::{Fault, refusal};
 use crate::hexadecimal::{push_digits, push_serial};
 use crate::kind::Kind;
 use crate::labels::{push_label, push_title};
+use crate::lines::{Lines, Stop};
 use crate::names::push_name;
 use crate::page::Page;
 use crate::site::Site;
 use crate::times::push_validity;
+use der_asn1_types::FromDer;
 use der_asn1_types::asn1::{BitStringRef, IntRef};
-use der_asn1_types::{Error, FromDer};
 use der_pkix::AlgorithmIdentifier;
 use der_pkix::certificate::laws::grammar_of_certificate;
 use der_pkix::certificate::{Certificate, TbsCertificate};
@@ -25,29 +27,39 @@ use std::fmt::Write;
 /// Adds the fields of the certificate that these octets are, a line each.
 ///
 /// # Errors
-/// The first fault of the octets, in the order of the fields; `ErrorKind::TrailingData` (3) where
-/// octets are left over; `ErrorKind::Overflow` (9) where there are more than 4294967295;
-/// `ErrorKind::Memory` (1) where memory runs out.
-pub fn push_certificate(alloc: Global, page: &mut Page, octets: &[u8]) -> Result<(), Error>
+/// `Refused` with the first fault of the octets, in the order of the fields; with
+/// `ErrorKind::TrailingData` (3) where octets are left over; with `ErrorKind::Overflow` (9) where there
+/// are more than 4294967295. `Output` where the lines are not taken; `Memory`.
+pub fn push_certificate<L: Lines>(
+    alloc: Global,
+    page: &mut Page,
+    lines: &mut L,
+    octets: &[u8],
+) -> Result<(), Fault>
     ensures { OnOk result (first_fault (parse_of certificate) octets.now ≡ None) }
 {
     grammar_of_certificate();
     match Certificate::from_der(alloc, octets) {
-        Ok(certificate) => Ok(push_fields(alloc, page, octets, &certificate)?),
-        Err(error) => Err(error),
+        Ok(certificate) => Ok(push_fields(alloc, page, lines, octets, &certificate)?),
+        Err(error) => Err(refusal(Kind::Certificate, octets, error)),
     }
 }
 
-fn push_fields(
+fn push_fields<L: Lines>(
     alloc: Global,
     page: &mut Page,
+    lines: &mut L,
     octets: &[u8],
     certificate: &Certificate<'_>,
-) -> Result<(), AllocError> {
+) -> Result<(), Stop> {
     let whole = Site::whole(octets, Kind::Certificate);
     push_title(page, &whole.place, Kind::Certificate)?;
     let site = whole.field(octets, "tbsCertificate");
     push_signed(alloc, page, octets, &site, certificate.tbs_certificate())?;
+    if let Some(extensions) = certificate.tbs_certificate().extensions() {
+        let list = site.field(octets, "extensions");
+        push_extensions(alloc, page, lines, octets, &list, extensions.as_slice())?;
+    }
     push_signature(
         alloc,
         page,
@@ -55,9 +67,11 @@ fn push_fields(
         &whole,
         certificate.signature_algorithm(),
         certificate.signature_value(),
-    )
+    )?;
+    lines.take(page)
 }
 
+/// Adds what is signed before its extensions.
 fn push_signed(
     alloc: Global,
     page: &mut Page,
@@ -124,17 +138,7 @@ fn push_rest(
         &subject,
         "subject's number",
         signed.subject_unique_id(),
-    )?;
-    match signed.extensions() {
-        Some(extensions) => push_extensions(
-            alloc,
-            page,
-            octets,
-            &site.field(octets, "extensions"),
-            extensions.as_slice(),
-        ),
-        None => Ok(()),
-    }
+    )
 }
 
 /// Adds a line with a number of an issuer or of a subject, where it is there.

@@ -4,9 +4,11 @@ ghost use Rattle.std.specs.Prelude.{◌≡◌};
 ghost use Rattle.certview_text.specs.declared.fault.Fault.TheVariants.{Memory};
 ghost use Rattle.der_asn1_types.specs.ErrorNumber.{error_number};
 
+use crate::kind::Kind;
 use crate::label::Label;
-use crate::path::Path;
-use der_asn1_types::Error;
+use crate::lines::Stop;
+use crate::path::{Path, path_of};
+use der_asn1_types::{Error, ErrorKind};
 use std::alloc::AllocError;
 use std::fmt;
 
@@ -27,7 +29,7 @@ pub enum Fault {
     NoBase64,
     /// A read failed.
     Input,
-    /// A write failed.
+    /// A write failed; or memory was refused after some of a long text had been written.
     Output,
     /// Memory was refused.
     Memory,
@@ -43,11 +45,28 @@ impl Fault {
     }
 }
 
+/// The fault of octets that are refused, or of memory that was.
+pub fn refusal(kind: Kind, octets: &[u8], error: Error) -> Fault {
+    match error.kind {
+        ErrorKind::Memory => Fault::Memory,
+        _ => Fault::Refused(error, path_of(octets, kind, &error)),
+    }
+}
+
 impl From<AllocError> for Fault {
     ghost from_gives = { λ _ fault. fault ≡ Memory };
 
     fn from(_: AllocError) -> Fault {
         Fault::Memory
+    }
+}
+
+impl From<Stop> for Fault {
+    fn from(stop: Stop) -> Fault {
+        match stop {
+            Stop::Output => Fault::Output,
+            Stop::Memory => Fault::Memory,
+        }
     }
 }
 

@@ -8,14 +8,15 @@ ghost use Rattle.certview_text.specs.Faults.{first_fault};
 
 use crate::algorithms::{bits_of, push_algorithm, push_key};
 use crate::certificate::push_bits;
+use crate::fault::{Fault, refusal};
 use crate::hexadecimal::{push_digits, push_number_of};
 use crate::identifiers::push_identifier;
 use crate::kind::Kind;
 use crate::labels::{push_count, push_label, push_title};
 use crate::page::Page;
 use crate::site::Site;
+use der_asn1_types::FromDer;
 use der_asn1_types::asn1::{BitStringRef, UintRef};
-use der_asn1_types::{Error, FromDer};
 use der_pkix::certificate::SubjectPublicKeyInfo;
 use der_pkix::certificate::laws::grammar_of_subject_public_key_info;
 use der_pkix::key::laws::{
@@ -28,16 +29,16 @@ use std::fmt::Write;
 /// Adds the fields of the SubjectPublicKeyInfo that these octets are, a line each.
 ///
 /// # Errors
-/// The first fault of the octets, in the order of the fields; `ErrorKind::TrailingData` (3) where
-/// octets are left over; `ErrorKind::Overflow` (9) where there are more than 4294967295;
-/// `ErrorKind::Memory` (1) where memory runs out.
-pub fn push_public_key(alloc: Global, page: &mut Page, octets: &[u8]) -> Result<(), Error>
+/// `Refused` with the first fault of the octets, in the order of the fields; with
+/// `ErrorKind::TrailingData` (3) where octets are left over; with `ErrorKind::Overflow` (9) where there
+/// are more than 4294967295. `Memory`.
+pub fn push_public_key(alloc: Global, page: &mut Page, octets: &[u8]) -> Result<(), Fault>
     ensures { OnOk result (first_fault (parse_of subject_public_key_info) octets.now ≡ None) }
 {
     grammar_of_subject_public_key_info();
     match SubjectPublicKeyInfo::from_der(alloc, octets) {
         Ok(key) => Ok(public_key_fields(alloc, page, octets, &key)?),
-        Err(error) => Err(error),
+        Err(error) => Err(refusal(Kind::PublicKey, octets, error)),
     }
 }
 
@@ -57,13 +58,13 @@ fn public_key_fields(
 ///
 /// # Errors
 /// As `push_public_key`.
-pub fn push_private_key(alloc: Global, page: &mut Page, octets: &[u8]) -> Result<(), Error>
+pub fn push_private_key(alloc: Global, page: &mut Page, octets: &[u8]) -> Result<(), Fault>
     ensures { OnOk result (first_fault (parse_of private_key_info) octets.now ≡ None) }
 {
     grammar_of_private_key_info();
     match PrivateKeyInfo::from_der(alloc, octets) {
         Ok(key) => Ok(private_key_fields(alloc, page, octets, &key)?),
-        Err(error) => Err(error),
+        Err(error) => Err(refusal(Kind::PrivateKey, octets, error)),
     }
 }
 
@@ -128,13 +129,13 @@ fn push_public_bits(
 ///
 /// # Errors
 /// As `push_public_key`.
-pub fn push_rsa_public_key(alloc: Global, page: &mut Page, octets: &[u8]) -> Result<(), Error>
+pub fn push_rsa_public_key(alloc: Global, page: &mut Page, octets: &[u8]) -> Result<(), Fault>
     ensures { OnOk result (first_fault (parse_of rsa_public_key) octets.now ≡ None) }
 {
     grammar_of_rsa_public_key();
     match RsaPublicKey::from_der(alloc, octets) {
         Ok(key) => Ok(rsa_public_key_fields(alloc, page, octets, &key)?),
-        Err(error) => Err(error),
+        Err(error) => Err(refusal(Kind::RsaPublicKey, octets, error)),
     }
 }
 
@@ -155,13 +156,13 @@ fn rsa_public_key_fields(
 ///
 /// # Errors
 /// As `push_public_key`.
-pub fn push_ec_private_key(alloc: Global, page: &mut Page, octets: &[u8]) -> Result<(), Error>
+pub fn push_ec_private_key(alloc: Global, page: &mut Page, octets: &[u8]) -> Result<(), Fault>
     ensures { OnOk result (first_fault (parse_of ec_private_key) octets.now ≡ None) }
 {
     grammar_of_ec_private_key();
     match EcPrivateKey::from_der(alloc, octets) {
         Ok(key) => Ok(ec_private_key_fields(alloc, page, octets, &key)?),
-        Err(error) => Err(error),
+        Err(error) => Err(refusal(Kind::EcPrivateKey, octets, error)),
     }
 }
 

@@ -13,6 +13,7 @@
 
 mod access;
 mod algorithms;
+mod attributes;
 mod blocks;
 mod certificate;
 mod characters;
@@ -28,17 +29,20 @@ mod keys;
 mod kind;
 mod label;
 mod labels;
+mod lines;
 mod names;
 mod other_names;
 mod page;
 mod path;
 mod pem;
+mod periods;
 mod place;
 mod points;
 mod policies;
 mod revocation;
 mod rsa;
 mod site;
+mod subtrees;
 mod text;
 mod times;
 mod usages;

@@ -1,12 +1,15 @@
 //! The values of the extensions cRLDistributionPoints and freshestCRL as text (RFC 5280 sections 4.2.1.13
-//! and 4.2.1.15), which have one form.
+//! and 4.2.1.15), which have one form, and of issuingDistributionPoint (section 5.2.5).
 
 use crate::names::push_attributes;
 use crate::other_names::push_names;
 use crate::page::{Inner, Page, push_malformed};
 use crate::usages::push_bits;
 use der_asn1_types::FromDer;
-use der_extensions::extension::{CrlDistributionPoints, DistributionPoint, DistributionPointName};
+use der_extensions::extension::{
+    CrlDistributionPoints, DistributionPoint, DistributionPointName, IssuingDistributionPoint,
+    ReasonFlags,
+};
 use std::alloc::{AllocError, Global};
 
 /// The names of the bits of a ReasonFlags, from bit 0 on.
@@ -52,13 +55,65 @@ fn push_point(
     if let Some(name) = point.distribution_point() {
         push_point_name(alloc, page, name)?;
     }
-    if let Some(reasons) = point.reasons() {
-        page.text.push_str(", reasons")?;
-        push_bits(page, &REASONS, *reasons)?;
-    }
+    push_reasons(page, ", reasons", point.reasons())?;
     match point.crl_issuer() {
         Some(names) => push_names(alloc, page, "issuer ", names.as_slice()),
         None => Ok(()),
+    }
+}
+
+/// Adds the names of reasons after a label, where they are said.
+fn push_reasons(
+    page: &mut Page,
+    label: &str,
+    reasons: Option<&ReasonFlags<'_>>,
+) -> Result<(), AllocError> {
+    match reasons {
+        Some(reasons) => {
+            page.text.push_str(label)?;
+            push_bits(page, &REASONS, *reasons)
+        }
+        None => Ok(()),
+    }
+}
+
+/// Adds where a list is to be had that has this extension, and what it has entries of.
+pub fn push_issuing_point(
+    alloc: Global,
+    page: &mut Page,
+    inner: Inner<'_>,
+) -> Result<(), AllocError> {
+    match IssuingDistributionPoint::from_der(alloc, inner.octets) {
+        Ok(point) => {
+            if let Some(name) = point.distribution_point() {
+                push_point_name(alloc, page, name)?;
+            }
+            push_scope(page, &point)
+        }
+        Err(error) => {
+            page.text.push_str(", ")?;
+            push_malformed(page, inner.begin, error)
+        }
+    }
+}
+
+/// Adds what a list has entries of, where these are not all.
+fn push_scope(page: &mut Page, point: &IssuingDistributionPoint<'_>) -> Result<(), AllocError> {
+    let users = point.only_contains_user_certs();
+    push_if(page, users, ", only user certificates")?;
+    let authorities = point.only_contains_ca_certs();
+    push_if(page, authorities, ", only CA certificates")?;
+    push_reasons(page, ", only some reasons", point.only_some_reasons())?;
+    push_if(page, point.indirect_crl(), ", indirect")?;
+    let attributes = point.only_contains_attribute_certs();
+    push_if(page, attributes, ", only attribute certificates")
+}
+
+fn push_if(page: &mut Page, is_so: bool, words: &str) -> Result<(), AllocError> {
+    if is_so {
+        page.text.push_str(words)
+    } else {
+        Ok(())
     }
 }
 

@@ -8,14 +8,16 @@ ghost use Rattle.certview_text.specs.Faults.{first_fault};
 use crate::algorithms::push_algorithm;
 use crate::certificate::{push_signature, push_version};
 use crate::extensions::{push_extension, push_extensions};
+use crate::fault::{Fault, refusal};
 use crate::hexadecimal::push_serial;
 use crate::kind::Kind;
 use crate::labels::{push_label, push_title};
+use crate::lines::{Lines, Stop};
 use crate::names::push_name;
 use crate::page::Page;
 use crate::site::{Site, Sites};
 use crate::times::{push_moment, push_time};
-use der_asn1_types::{Error, FromDer};
+use der_asn1_types::FromDer;
 use der_pkix::certificate::Extension;
 use der_pkix::crl::laws::grammar_of_certificate_list;
 use der_pkix::crl::{CertificateList, RevokedCertificate, TbsCertList};
@@ -24,30 +26,34 @@ use std::alloc::{AllocError, Global};
 /// Adds the fields of the list of revoked certificates that these octets are, a line each.
 ///
 /// # Errors
-/// The first fault of the octets, in the order of the fields; `ErrorKind::TrailingData` (3) where
-/// octets are left over; `ErrorKind::Overflow` (9) where there are more than 4294967295;
-/// `ErrorKind::Memory` (1) where memory runs out.
-pub fn push_list(alloc: Global, page: &mut Page, octets: &[u8]) -> Result<(), Error>
+/// As `push_certificate`.
+pub fn push_list<L: Lines>(
+    alloc: Global,
+    page: &mut Page,
+    lines: &mut L,
+    octets: &[u8],
+) -> Result<(), Fault>
     ensures { OnOk result (first_fault (parse_of certificate_list) octets.now ≡ None) }
 {
     grammar_of_certificate_list();
     match CertificateList::from_der(alloc, octets) {
-        Ok(list) => Ok(push_fields(alloc, page, octets, &list)?),
-        Err(error) => Err(error),
+        Ok(list) => Ok(push_fields(alloc, page, lines, octets, &list)?),
+        Err(error) => Err(refusal(Kind::RevocationList, octets, error)),
     }
 }
 
-fn push_fields(
+fn push_fields<L: Lines>(
     alloc: Global,
     page: &mut Page,
+    lines: &mut L,
     octets: &[u8],
     list: &CertificateList<'_>,
-) -> Result<(), AllocError> {
+) -> Result<(), Stop> {
     let whole = Site::whole(octets, Kind::RevocationList);
     let site = whole.field(octets, "tbsCertList");
     push_title(page, &whole.place, Kind::RevocationList)?;
     push_signed(alloc, page, octets, &site, list.tbs_cert_list())?;
-    push_revoked(alloc, page, octets, &site, list.tbs_cert_list())?;
+    push_revoked(alloc, page, lines, octets, &site, list.tbs_cert_list())?;
     push_signature(
         alloc,
         page,
@@ -55,7 +61,8 @@ fn push_fields(
         &whole,
         list.signature_algorithm(),
         list.signature_value(),
-    )
+    )?;
+    lines.take(page)
 }
 
 fn push_signed(
@@ -96,21 +103,23 @@ fn push_signed(
 }
 
 /// Adds the entries, and the extensions of the list.
-fn push_revoked(
+fn push_revoked<L: Lines>(
     alloc: Global,
     page: &mut Page,
+    lines: &mut L,
     octets: &[u8],
     site: &Site,
     signed: &TbsCertList<'_>,
-) -> Result<(), AllocError> {
+) -> Result<(), Stop> {
     if let Some(entries) = signed.revoked_certificates() {
         let list = site.field(octets, "revokedCertificates");
-        push_entries(alloc, page, octets, &list, entries.as_slice())?;
+        push_entries(alloc, page, lines, octets, &list, entries.as_slice())?;
     }
     match signed.crl_extensions() {
         Some(extensions) => push_extensions(
             alloc,
             page,
+            lines,
             octets,
             &site.field(octets, "crlExtensions"),
             extensions.as_slice(),
@@ -119,18 +128,20 @@ fn push_revoked(
     }
 }
 
-fn push_entries(
+fn push_entries<L: Lines>(
     alloc: Global,
     page: &mut Page,
+    lines: &mut L,
     octets: &[u8],
     list: &Site,
     entries: &[RevokedCertificate<'_>],
-) -> Result<(), AllocError> {
+) -> Result<(), Stop> {
     let mut sites = Sites::within(octets, list);
     for entry in entries {
         let site = sites.next_site().unwrap_or(list.nothing());
         push_label(page, &site.place, "revoked")?;
         push_entry(alloc, page, octets, &site, entry)?;
+        lines.take(page)?;
     }
     Ok(())
 }

@@ -5,12 +5,13 @@ ghost use Rattle.der_modules.specs.Asn1.{parse_of};
 ghost use Rattle.der_pkix.specs.Key.Grammar.{rsa_private_key};
 ghost use Rattle.certview_text.specs.Faults.{first_fault};
 
+use crate::fault::{Fault, refusal};
 use crate::keys::{push_exponent, push_modulus, push_secret, push_version};
 use crate::kind::Kind;
 use crate::labels::{push_count, push_title};
 use crate::page::Page;
 use crate::site::Site;
-use der_asn1_types::{Error, FromDer};
+use der_asn1_types::FromDer;
 use der_pkix::key::RsaPrivateKey;
 use der_pkix::key::laws::grammar_of_rsa_private_key;
 use std::alloc::{AllocError, Global};
@@ -28,16 +29,16 @@ const SECRETS: [&str; 6] = [
 /// Adds the fields of the RSAPrivateKey that these octets are, a line each.
 ///
 /// # Errors
-/// The first fault of the octets, in the order of the fields; `ErrorKind::TrailingData` (3) where
-/// octets are left over; `ErrorKind::Overflow` (9) where there are more than 4294967295;
-/// `ErrorKind::Memory` (1) where memory runs out.
-pub fn push_rsa_private_key(alloc: Global, page: &mut Page, octets: &[u8]) -> Result<(), Error>
+/// `Refused` with the first fault of the octets, in the order of the fields; with
+/// `ErrorKind::TrailingData` (3) where octets are left over; with `ErrorKind::Overflow` (9) where there
+/// are more than 4294967295. `Memory`.
+pub fn push_rsa_private_key(alloc: Global, page: &mut Page, octets: &[u8]) -> Result<(), Fault>
     ensures { OnOk result (first_fault (parse_of rsa_private_key) octets.now ≡ None) }
 {
     grammar_of_rsa_private_key();
     match RsaPrivateKey::from_der(alloc, octets) {
         Ok(key) => Ok(push_fields(page, octets, &key)?),
-        Err(error) => Err(error),
+        Err(error) => Err(refusal(Kind::RsaPrivateKey, octets, error)),
     }
 }
 

@@ -5,27 +5,33 @@ ghost use Rattle.certview_text.specs.Faults.{first_fault};
 ghost use Rattle.certview_text.specs.Grammars.{grammar_of};
 
 use crate::certificate::push_certificate;
+use crate::fault::Fault;
 use crate::keys::{push_ec_private_key, push_private_key, push_public_key, push_rsa_public_key};
 use crate::kind::Kind;
+use crate::lines::{Held, Lines};
 use crate::page::Page;
 use crate::revocation::push_list;
 use crate::rsa::push_rsa_private_key;
-use der_asn1_types::Error;
+use der_asn1_types::{Error, ErrorKind};
 use std::alloc::Global;
 
 /// Adds the fields of the message of this kind that these octets are, a line each. Nothing is added where
 /// the octets are refused.
 ///
 /// # Errors
-/// The first fault of the octets, in the order of the fields; `ErrorKind::TrailingData` (3) where
-/// octets are left over; `ErrorKind::Overflow` (9) where there are more than 4294967295;
-/// `ErrorKind::Memory` (1) where memory runs out.
-pub fn push_message(alloc: Global, page: &mut Page, kind: Kind, octets: &[u8]) -> Result<(), Error>
+/// As `push_certificate`.
+pub fn push_message<L: Lines>(
+    alloc: Global,
+    page: &mut Page,
+    lines: &mut L,
+    kind: Kind,
+    octets: &[u8],
+) -> Result<(), Fault>
     ensures { OnOk result (first_fault (grammar_of kind) octets.now ≡ None) }
 {
     match kind {
-        Kind::Certificate => push_certificate(alloc, page, octets),
-        Kind::RevocationList => push_list(alloc, page, octets),
+        Kind::Certificate => push_certificate(alloc, page, lines, octets),
+        Kind::RevocationList => push_list(alloc, page, lines, octets),
         Kind::PublicKey => push_public_key(alloc, page, octets),
         Kind::PrivateKey => push_private_key(alloc, page, octets),
         Kind::RsaPrivateKey => push_rsa_private_key(alloc, page, octets),
@@ -37,13 +43,16 @@ pub fn push_message(alloc: Global, page: &mut Page, kind: Kind, octets: &[u8]) -
 /// The fields of the message of this kind that these octets are, a line each.
 ///
 /// # Errors
-/// As `push_message`.
+/// The first fault of the octets, in the order of the fields; `ErrorKind::TrailingData` (3) where
+/// octets are left over; `ErrorKind::Overflow` (9) where there are more than 4294967295;
+/// `ErrorKind::Memory` (1) where memory runs out.
 pub fn shown(alloc: Global, kind: Kind, octets: &[u8]) -> Result<String, Error>
     ensures { OnOk result (first_fault (grammar_of kind) octets.now ≡ None) }
 {
     let mut page = Page::new(alloc);
-    match push_message(alloc, &mut page, kind, octets) {
+    match push_message(alloc, &mut page, &mut Held, kind, octets) {
         Ok(()) => Ok(page.text),
-        Err(error) => Err(error),
+        Err(Fault::Refused(error, _)) => Err(error),
+        Err(_) => Err(Error::from_kind(ErrorKind::Memory)),
     }
 }

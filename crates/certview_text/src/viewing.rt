@@ -8,6 +8,7 @@ use crate::blocks::{push_blocks, push_octets};
 use crate::characters::push_plain;
 use crate::fault::Fault;
 use crate::kind::kind_of;
+use crate::lines::{Lines, Measured, Written};
 use crate::page::Page;
 use crate::pem::is_text;
 use std::alloc::Global;
@@ -43,7 +44,9 @@ impl Outcome {
     }
 }
 
-/// Reads all of the input, and writes the fields of the messages that it carries.
+/// Reads all of the input, and writes the fields of the messages that it carries. The text is made once
+/// before the first octet is written; of a long one this is to know that nothing of it is refused, and it
+/// is made again as it is written, a piece at a time.
 pub fn run<R: Read, W: Write>(
     alloc: Global,
     view: &View<'_>,
@@ -60,10 +63,43 @@ pub fn run<R: Read, W: Write>(
     if let Err(error) = input.read_to_end(&mut octets) {
         return Err(read_fault(&error));
     }
-    let page = answer(alloc, view, octets)?;
-    match write_page(output, &page) {
-        Ok(outcome) => Ok(outcome),
-        Err(fault) => Err(fault),
+    match measured(alloc, view, octets.as_slice())? {
+        Some(page) => write_page(output, &page),
+        None => write_long(alloc, view, octets.as_slice(), output),
+    }
+}
+
+/// The text of an input, if it is not long.
+fn measured(alloc: Global, view: &View<'_>, input: &[u8]) -> Result<Option<Page>, Fault>
+    ensures { OnOk result (IsShown input.now) }
+{
+    let mut page = Page::new(alloc);
+    let mut lines = Measured { is_long: false };
+    push_input(alloc, &mut page, &mut lines, view, input)?;
+    if lines.is_long {
+        Ok(None)
+    } else {
+        Ok(Some(page))
+    }
+}
+
+/// Writes the long text of an input, piece by piece.
+fn write_long<W: Write>(
+    alloc: Global,
+    view: &View<'_>,
+    input: &[u8],
+    output: &mut W,
+) -> Result<Outcome, Fault>
+    ensures { IfErr result (λ fault. fault ≡ Fault.Output) }
+{
+    let mut page = Page::new(alloc);
+    let mut lines = Written::new(output);
+    let result = push_input(alloc, &mut page, &mut lines, view, input);
+    let is_closed = lines.is_closed;
+    match result {
+        Ok(()) => write_page(output, &page),
+        Err(_) if is_closed => Ok(Outcome::Closed),
+        Err(_) => Err(Fault::Output),
     }
 }
 
@@ -87,24 +123,26 @@ fn read_fault(error: &io::Error) -> Fault {
     }
 }
 
-/// What is written for an input.
-fn answer(alloc: Global, view: &View<'_>, input: Vec<u8>) -> Result<Page, Fault>
-    ensures { OnOk result (IsShown input.items) }
+/// Adds what is written for an input.
+fn push_input<L: Lines>(
+    alloc: Global,
+    page: &mut Page,
+    lines: &mut L,
+    view: &View<'_>,
+    input: &[u8],
+) -> Result<(), Fault>
+    ensures { OnOk result (IsShown input.now) }
 {
-    let mut page = Page::new(alloc);
     if let Some(name) = view.name {
-        push_plain(&mut page, name)?;
+        push_plain(page, name)?;
         page.text.push_str(":\n")?;
     }
-    let octets = input.as_slice();
-    if octets.is_empty() {
+    if input.is_empty() {
         return Err(Fault::Empty);
     }
-    if is_text(octets) {
-        push_blocks(alloc, &mut page, view.has_fingerprint, octets)?;
-        return Ok(page);
+    if is_text(input) {
+        return push_blocks(alloc, page, lines, view.has_fingerprint, input);
     }
-    let kind = kind_of(octets);
-    push_octets(alloc, &mut page, view.has_fingerprint, kind, octets)?;
-    Ok(page)
+    let kind = kind_of(input);
+    push_octets(alloc, page, lines, view.has_fingerprint, kind, input)
 }

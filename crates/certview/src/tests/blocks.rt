@@ -3,7 +3,7 @@
 use crate::tests::messages::{CURVE_PRIVATE, ED25519, ED25519_PUBLIC};
 use crate::tests::{assert_contains, written, written_so};
 use base64::engine::general_purpose::STANDARD;
-use certview_text::{Outcome, View};
+use certview_text::{Fault, Label, Outcome, View};
 use std::alloc::Global;
 use std::test::Fail;
 
@@ -96,5 +96,41 @@ fn names_the_input_and_shows_a_fingerprint(rt: HostRuntime) -> Result<(), Fail> 
         shown,
         "\n             fingerprint: SHA-256 5e:b8:84:01:04:bf:ae:b4:0f:ad:67:6e:52:47:15:05:bd:39:44:0d:9e:f5:f7:2e:d0:f2:3b:92:3b:4f:7d:3e\n",
     );
+    Ok(())
+}
+
+#[test]
+fn shows_a_long_text_as_it_shows_its_parts(rt: HostRuntime) -> Result<(), Fail> {
+    let octets = hex::decode(rt.alloc(), ED25519)?;
+    let (_result, one) = written(rt.alloc(), octets.as_slice());
+    let certificate = block(rt.alloc(), "CERTIFICATE", ED25519)?;
+    let mut text = String::new(rt.alloc());
+    let mut wanted = String::new(rt.alloc());
+    for number in 1..121 {
+        text.push_str(certificate.as_str())?;
+        let blank = if number > 1 { "\n" } else { "" };
+        let heading = format!(in rt.alloc(); "{blank}block {number} of 120: CERTIFICATE\n")?;
+        wanted.push_str(heading.as_str())?;
+        wanted.push_str(str::from_utf8(one.as_slice())?)?;
+    }
+    let (result, all) = written(rt.alloc(), text.as_bytes());
+    assert_eq!(rt; result, Ok(Outcome::Whole));
+    assert!(rt; all.len() > 65536);
+    assert!(rt; all.as_slice() == wanted.as_bytes());
+    Ok(())
+}
+
+#[test]
+fn writes_nothing_of_a_long_text_without_a_message(rt: HostRuntime) -> Result<(), Fail> {
+    let mut text = String::new(rt.alloc());
+    for _ in 0..2000 {
+        text.push_str("-----BEGIN DH PARAMETERS-----\nMAA=\n-----END DH PARAMETERS-----\n")?;
+    }
+    let (result, all) = written(rt.alloc(), text.as_bytes());
+    assert_eq!(rt;
+        result,
+        Err(Fault::UnknownLabel(Label::of(b"DH PARAMETERS")))
+    );
+    assert!(rt; all.is_empty());
     Ok(())
 }

@@ -146,7 +146,7 @@ fn shows_each_extension(rt: HostRuntime) -> Result<(), Fail> {
         "  506    18  extension: 2.5.29.32 (certificatePolicies), 9 octets, 1.2.3.4\n",
         "(cRLDistributionPoints), 34 octets, resource http://mill.example/list\n",
         "(authorityInfoAccess), 40 octets, 1.3.6.1.5.5.7.48.1 (ocsp) resource http://mill.example/ocsp\n",
-        "(nameConstraints), 20 octets, #3012a010300e820c6d696c6c2e6578616d706c65\n",
+        "(nameConstraints), 20 octets, permitted host mill.example\n",
     ] {
         assert_contains(&rt, text.as_str(), line);
     }

@@ -1,0 +1,50 @@
+//! The value of the extension subjectDirectoryAttributes as text (RFC 5280 section 4.2.1.8).
+
+use crate::identifiers::push_attribute_type;
+use crate::names::push_value;
+use crate::page::{Inner, Page, push_malformed};
+use der_asn1_types::FromDer;
+use der_asn1_types::asn1::AnyRef;
+use der_extensions::extension::SubjectDirectoryAttributes;
+use der_pkix::name::Attribute;
+use std::alloc::{AllocError, Global};
+
+/// Adds each attribute, with its values as those in names.
+pub fn push_directory_attributes(
+    alloc: Global,
+    page: &mut Page,
+    inner: Inner<'_>,
+) -> Result<(), AllocError> {
+    match SubjectDirectoryAttributes::from_der(alloc, inner.octets) {
+        Ok(attributes) => push_each(alloc, page, attributes.as_slice()),
+        Err(error) => {
+            page.text.push_str(", ")?;
+            push_malformed(page, inner.begin, error)
+        }
+    }
+}
+
+fn push_each(
+    alloc: Global,
+    page: &mut Page,
+    attributes: &[Attribute<'_>],
+) -> Result<(), AllocError> {
+    for attribute in attributes {
+        page.text.push_str(", ")?;
+        let identifier = attribute.type_();
+        push_attribute_type(alloc, page, identifier.as_bytes())?;
+        push_values(alloc, page, attribute.values().as_slice())?;
+    }
+    Ok(())
+}
+
+/// Adds the values of an attribute, the first after a `=`, and each other after a `+`.
+fn push_values(alloc: Global, page: &mut Page, values: &[AnyRef<'_>]) -> Result<(), AllocError> {
+    let mut mark = '=';
+    for value in values {
+        page.text.push(mark)?;
+        push_value(alloc, page, value)?;
+        mark = '+';
+    }
+    Ok(())
+}
