@@ -14,6 +14,7 @@ import shutil
 import subprocess
 import sys
 import tempfile
+import warnings
 
 ROOT = os.path.dirname(os.path.dirname(os.path.abspath(__file__)))
 SYSTEM = "/etc/ssl/certs/ca-certificates.crt"
@@ -96,6 +97,9 @@ def try_symbols(trials, room):
     asked = [name.split("@")[0] for kind, name in rows if kind in "Uw"]
     wanted = sorted(f"der_{name}" for name in CALLS)
     trials.tell("the names of the shared object", given != wanted and f"{given}, not {wanted}")
+    rows = subprocess.run(["nm", "-g", "--defined-only", f"{room}/build/libder_c.a"], text=True, capture_output=True, check=True)
+    given = sorted(row.split()[2] for row in rows.stdout.splitlines() if len(row.split()) == 3)
+    trials.tell("the names of the archive", given != wanted and f"{given}, not {wanted}")
     other = [name for name in asked if not ASKED.match(name)]
     trials.tell("what the shared object asks for", other)
     sections = subprocess.run(["size", "-A", shared], text=True, capture_output=True, check=True).stdout
@@ -148,6 +152,7 @@ def told_by_cryptography(names):
         from cryptography.hazmat.primitives.serialization import Encoding, PublicFormat
     except ImportError:
         return None
+    warnings.simplefilter("ignore")
     lines = []
     for name in names:
         with open(name, "rb") as file:
@@ -196,7 +201,7 @@ def try_python(trials, room, files):
     words = [sys.executable, "-B", "setup.py", "-q", "build", "--build-base", f"{room}/python", "--build-lib", f"{room}/python/lib"]
     trials.run("the package for Python", words, **others)
     others["env"]["PYTHONPATH"] = f"{room}/python/lib"
-    trials.run("the tests in Python", [sys.executable, "-B", "-m", "unittest", "-q", "tests/test_derproved.py"], **others)
+    trials.run("the tests in Python", [sys.executable, "-B", "-W", "ignore", "-m", "unittest", "-q", "tests/test_derproved.py"], **others)
 
 
 def main(words):
