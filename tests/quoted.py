@@ -6,7 +6,7 @@ from collections import Counter
 from quoting import HEAD, HIDDEN, MEMBERS
 
 SECTION = re.compile(r"^### (\S+)\n\n```text\n(.*?)^```$", re.S | re.M)
-BEGINS = re.compile(r"^ *(?:pub )?(?:const )?(?:unsafe )?(?:fn (\w+)|ghost (\w+) = )")
+BEGINS = re.compile(r'^ *(?:pub )?(?:const )?(?:unsafe )?(?:extern "C" )?(?:fn (\w+)|ghost (\w+) = )')
 OPEN_CLAUSE = re.compile(r"(requires|ensures)\*?\w*$")
 PAIRS = {")": "(", "]": "[", "}": "{"}
 
@@ -44,7 +44,7 @@ def block_behind(text, start):
 def promised(text):
     """The names of the calls of a source that a page is to quote, and of the members, each as often as it stands there."""
     code = HIDDEN.sub(lambda it: "" if it[0].startswith("//") else " ", text)
-    names = Counter(re.findall(r"\bpub (?:const )?(?:unsafe )?fn (\w+)", code))
+    names = Counter(re.findall(r"\bpub (?:const )?(?:unsafe )?(?:extern\s+)?fn (\w+)", code))
     for trait in re.finditer(r"^pub (?:unsafe )?trait ", code, re.M):
         names.update(re.findall(r"\bfn (\w+)", block_behind(code, trait.start())))
     for of_trait in re.finditer(r"^(?:unsafe )?impl\b[^{;]* for [^{;]*(?=\{)", code, re.M):

@@ -8,7 +8,7 @@ MEMBERS = (
     "from_gives try_from_gives into_gives from_str_gives is_clone is_infallible output next_gives remaining into_iter_gives"
     " eq cmp hash_input"
 ).split()
-CALL = re.compile(r"^( *)(pub )?(?:const )?(?:unsafe )?fn (\w+)")
+CALL = re.compile(r'^( *)(pub )?(?:const )?(?:unsafe )?(?:extern "C" )?fn (\w+)')
 MEMBER = re.compile(rf"^    ghost ({'|'.join(MEMBERS)}) = ")
 HEAD = re.compile(r"^(pub (?:unsafe )?trait|(?:unsafe )?impl)\b")
 CLAUSE = re.compile(r"^\s*(requires|ensures)\b")

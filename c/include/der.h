@@ -1,0 +1,292 @@
+/* DER of certificates, lists of revoked ones and keys, proved: which octets are taken, and where each field stands.
+ *
+ * A call reads octets that the caller owns and keeps nothing of them. It has no state that is shared, takes no lock, and
+ * always returns. What it gives are numbers, so nothing has to be freed. Calls may run on several threads at once.
+ *
+ * The answer of a call that reads is 0, or the number of the first fault of the octets. `out` is written where the answer
+ * is 0, and else it is as it was; `fault` is written where the answer is not 0, and else it is as it was.
+ *
+ * What a caller owes, which no compiler checks:
+ *   - a pointer with a length points to so many octets, which nothing writes during the call (a null pointer with length
+ *     0 stands for no octets);
+ *   - `out`, `fault` and the octets do not overlap;
+ *   - no call from a signal handler, or in a process that was forked from one with threads: reading a certificate, a
+ *     list, an entry of one or a private key takes memory from malloc, and gives it back.
+ */
+#ifndef DER_H
+#define DER_H
+#include <assert.h>
+#include <stddef.h>
+#include <stdint.h>
+#ifdef __cplusplus
+extern "C" {
+#endif
+
+/* It changes where a struct, a number or a promise of this file does. What octets are taken is one of the promises. */
+#define DER_ABI_VERSION 1
+
+/* The numbers of faults. 1 to 17 are those of the octets, and 100 and more those of the calls of this file themselves. A
+ * number never changes its meaning. */
+enum der_number {
+    DER_OK = 0,
+    DER_MEMORY = 1,             /* memory ran out */
+    DER_INCOMPLETE = 2,         /* the octets end too soon */
+    DER_TRAILING_DATA = 3,      /* octets are left over after a value */
+    DER_TAG_UNEXPECTED = 4,     /* another tag stands there than may stand there */
+    DER_TAG_UNKNOWN = 5,        /* no tag that is known */
+    DER_TAG_NUMBER_INVALID = 6, /* a tag number that is out of range or not in its shortest form */
+    DER_LENGTH = 7,             /* contents of a length that the type does not have */
+    DER_NONCANONICAL = 8,       /* an encoding of the value that is not the one of DER */
+    DER_OVERFLOW = 9,           /* more octets than 4294967295 */
+    DER_OVERLENGTH = 10,        /* a length that is too great or not in its shortest form */
+    DER_SET_ORDERING = 11,      /* items of a set that are not in order */
+    DER_UTF8 = 12,              /* octets that are no UTF-8 */
+    DER_VALUE = 13,             /* contents that stand for no value of the type */
+    DER_DATE_TIME = 14,         /* no date or time */
+    DER_OID_MALFORMED = 15,     /* no object identifier */
+    DER_INDEFINITE_LENGTH = 16, /* an indefinite length */
+    DER_FAILED = 17,            /* refused before */
+    DER_BAD_PLACE = 100         /* a place that is not within the octets */
+};
+
+/* Where an encoding stands: its identifier octets, length octets and contents octets. A field that is absent has the place
+ * of no octets where it would stand. */
+typedef struct der_place {
+    uint32_t offset; /* how many octets are before it */
+    uint32_t length; /* how many it has */
+} der_place;
+
+/* Why octets are refused, and where. */
+typedef struct der_fault {
+    uint32_t number;    /* the answer of the call */
+    uint32_t is_placed; /* 1 where the position is known, else 0 */
+    uint32_t position;  /* how many octets had been read, of those that were passed */
+} der_fault;
+
+/* Certificate (RFC 5280 4.1) */
+typedef struct der_certificate_at {
+    der_place tbs_certificate;     /* what the signature covers */
+    der_place signature_algorithm; /* AlgorithmIdentifier */
+    der_place signature_value;     /* BIT STRING */
+
+    /* the fields of tbsCertificate */
+    der_place version;       /* after its tag [0]; absent where it is the default, v1 */
+    der_place serial_number; /* INTEGER */
+    der_place signature;     /* AlgorithmIdentifier */
+    der_place issuer;        /* Name */
+    der_place validity;
+    der_place subject; /* Name */
+    der_place subject_public_key_info;
+    der_place issuer_unique_id;  /* with its tag [1] */
+    der_place subject_unique_id; /* with its tag [2] */
+    der_place extensions;        /* after their tag [3] */
+
+    uint64_t not_before;     /* in seconds from 1970-01-01T00:00:00Z, with no leap seconds */
+    uint64_t not_after;      /* the same; the certificate is valid in this second too */
+    uint64_t version_number; /* 0 for v1, 1 for v2, 2 for v3 */
+} der_certificate_at;
+
+/* Extension (RFC 5280 4.2) */
+typedef struct der_extension_at {
+    der_place whole;      /* behind it the next one begins */
+    der_place extn_id;    /* OBJECT IDENTIFIER */
+    der_place critical;   /* BOOLEAN; absent where it is the default, FALSE */
+    der_place extn_value; /* OCTET STRING */
+    uint32_t is_critical; /* 1 or 0 */
+} der_extension_at;
+
+/* CertificateList (RFC 5280 5.1) */
+typedef struct der_certificate_list_at {
+    der_place tbs_cert_list;       /* what the signature covers */
+    der_place signature_algorithm; /* AlgorithmIdentifier */
+    der_place signature_value;     /* BIT STRING */
+
+    /* the fields of tbsCertList */
+    der_place version;     /* INTEGER */
+    der_place signature;   /* AlgorithmIdentifier */
+    der_place issuer;      /* Name */
+    der_place this_update; /* Time */
+    der_place next_update; /* Time */
+    der_place revoked_certificates;
+    der_place crl_extensions; /* after their tag [0] */
+
+    uint64_t this_update_seconds; /* from 1970-01-01T00:00:00Z */
+    uint64_t next_update_seconds; /* 0 where the field is absent */
+    uint64_t version_number;      /* 0 for v1, where the field is absent; 1 for v2 */
+} der_certificate_list_at;
+
+/* An entry of revokedCertificates (RFC 5280 5.1.2.6) */
+typedef struct der_revoked_certificate_at {
+    der_place whole;                   /* behind it the next one begins */
+    der_place user_certificate;        /* INTEGER */
+    der_place revocation_date;         /* Time */
+    der_place crl_entry_extensions;    /* SEQUENCE OF */
+    uint64_t revocation_date_seconds; /* from 1970-01-01T00:00:00Z */
+} der_revoked_certificate_at;
+
+/* SubjectPublicKeyInfo (RFC 5280 4.1.2.7) */
+typedef struct der_subject_public_key_info_at {
+    der_place algorithm;          /* AlgorithmIdentifier */
+    der_place subject_public_key; /* BIT STRING */
+} der_subject_public_key_info_at;
+
+/* PrivateKeyInfo, which is a OneAsymmetricKey (RFC 5958 section 2) */
+typedef struct der_private_key_info_at {
+    der_place version;               /* INTEGER */
+    der_place private_key_algorithm; /* AlgorithmIdentifier */
+    der_place private_key;           /* OCTET STRING */
+    der_place attributes;            /* with their tag [0] */
+    der_place public_key;            /* with its tag [1] */
+    uint64_t version_number;         /* 0 for v1, 1 for v2 */
+} der_private_key_info_at;
+
+static_assert(sizeof(der_place) == 8, "two numbers of 32 bits");
+static_assert(sizeof(der_fault) == 12, "three numbers of 32 bits");
+static_assert(sizeof(der_certificate_at) == 128, "thirteen places and three numbers of 64 bits");
+static_assert(offsetof(der_certificate_at, version) == 24, "behind three places");
+static_assert(offsetof(der_certificate_at, not_before) == 104, "behind thirteen places");
+static_assert(sizeof(der_extension_at) == 36, "four places and a number of 32 bits");
+static_assert(offsetof(der_extension_at, is_critical) == 32, "behind four places");
+static_assert(sizeof(der_certificate_list_at) == 104, "ten places and three numbers of 64 bits");
+static_assert(offsetof(der_certificate_list_at, version) == 24, "behind three places");
+static_assert(offsetof(der_certificate_list_at, this_update_seconds) == 80, "behind ten places");
+static_assert(sizeof(der_revoked_certificate_at) == 40, "four places and a number of 64 bits");
+static_assert(offsetof(der_revoked_certificate_at, revocation_date_seconds) == 32, "behind four places");
+static_assert(sizeof(der_subject_public_key_info_at) == 16, "two places");
+static_assert(sizeof(der_private_key_info_at) == 48, "five places and a number of 64 bits");
+static_assert(offsetof(der_private_key_info_at, version_number) == 40, "behind five places");
+
+/* DER_ABI_VERSION of the library that was linked. */
+uint32_t der_abi_version(void);
+
+/* What a number stands for, in English words, which live for ever; "no such number" of another. */
+const char *der_number_text(uint32_t number);
+
+/* Reads octets as a certificate, all of them. No signature is verified, and nothing that RFC 5280 asks beyond the
+ * grammar. */
+uint32_t der_certificate(const uint8_t *octets, size_t len, der_certificate_at *out, der_fault *fault);
+
+/* Reads octets as a list of revoked certificates, all of them. */
+uint32_t der_certificate_list(const uint8_t *octets, size_t len, der_certificate_list_at *out, der_fault *fault);
+
+/* Reads octets as a SubjectPublicKeyInfo, all of them. */
+uint32_t der_subject_public_key_info(const uint8_t *octets, size_t len, der_subject_public_key_info_at *out,
+                                     der_fault *fault);
+
+/* Reads octets as a PrivateKeyInfo, all of them. The key itself is not read. */
+uint32_t der_private_key_info(const uint8_t *octets, size_t len, der_private_key_info_at *out, der_fault *fault);
+
+/* Reads the extension at the front of the octets. Its places count from there. */
+uint32_t der_extension(const uint8_t *octets, size_t len, der_extension_at *out, der_fault *fault);
+
+/* Reads the entry of a list of revoked certificates at the front of the octets. Its places count from there. */
+uint32_t der_revoked_certificate(const uint8_t *octets, size_t len, der_revoked_certificate_at *out, der_fault *fault);
+
+/* The contents octets of the encoding at a place that one of these calls wrote for these octets. Of another place the
+ * answer is some place within the octets. */
+der_place der_contents(const uint8_t *octets, size_t len, const der_place *place);
+
+/* The octets that a signature covers: the first field of a certificate, of a list, of a request, of an answer about the
+ * status of certificates. Nothing but headers is read; of octets that are no such message the answer is some place within
+ * them. */
+der_place der_signed_octets(const uint8_t *octets, size_t len);
+
+/* ---- what stands one behind another, with places in the octets of the whole message:
+ *
+ *     der_place left = der_extensions(octets, len, &certificate.extensions);
+ *     while (left.length > 0) {
+ *         answer = der_next_extension(octets, len, &left, &extension, &fault);
+ *         if (answer != 0) ...
+ *     }
+ */
+
+/* The extensions of a certificate or of a list, one behind another; none where the field is absent. */
+static inline der_place der_extensions(const uint8_t *octets, size_t len, const der_place *field)
+{
+    der_place list;
+    if (field->length == 0)
+        return *field;
+    list = der_contents(octets, len, field);
+    return der_contents(octets, len, &list);
+}
+
+/* The entries of a list, or the extensions of an entry, one behind another; none where the field is absent. */
+static inline der_place der_items(const uint8_t *octets, size_t len, const der_place *field)
+{
+    return field->length == 0 ? *field : der_contents(octets, len, field);
+}
+
+/* A place, seen from so many octets before where it was counted from. */
+static inline der_place der_behind(uint32_t before, der_place place)
+{
+    place.offset += before;
+    return place;
+}
+
+/* Whether a place is within so many octets. */
+static inline int der_is_within(size_t len, der_place place)
+{
+    return place.offset <= len && place.length <= len - place.offset;
+}
+
+/* Writes that a place is not within the octets. */
+static inline uint32_t der_bad_place(der_fault *fault)
+{
+    fault->number = DER_BAD_PLACE;
+    fault->is_placed = 0;
+    fault->position = 0;
+    return DER_BAD_PLACE;
+}
+
+/* Takes what was read from the front of what is left. */
+static inline void der_take(der_place *left, uint32_t length)
+{
+    left->offset += length;
+    left->length -= length;
+}
+
+/* The next extension of those that are left; afterwards those behind it are left. 100 where they are not within the
+ * octets. */
+static inline uint32_t der_next_extension(const uint8_t *octets, size_t len, der_place *left, der_extension_at *out,
+                                          der_fault *fault)
+{
+    uint32_t answer, before = left->offset;
+    if (!der_is_within(len, *left))
+        return der_bad_place(fault);
+    answer = der_extension(octets + before, left->length, out, fault);
+    if (answer != 0) {
+        fault->position += fault->is_placed != 0 ? before : 0;
+        return answer;
+    }
+    der_take(left, out->whole.length);
+    out->whole = der_behind(before, out->whole);
+    out->extn_id = der_behind(before, out->extn_id);
+    out->critical = der_behind(before, out->critical);
+    out->extn_value = der_behind(before, out->extn_value);
+    return 0;
+}
+
+/* The same of the entries of a list of revoked certificates. */
+static inline uint32_t der_next_revoked_certificate(const uint8_t *octets, size_t len, der_place *left,
+                                                    der_revoked_certificate_at *out, der_fault *fault)
+{
+    uint32_t answer, before = left->offset;
+    if (!der_is_within(len, *left))
+        return der_bad_place(fault);
+    answer = der_revoked_certificate(octets + before, left->length, out, fault);
+    if (answer != 0) {
+        fault->position += fault->is_placed != 0 ? before : 0;
+        return answer;
+    }
+    der_take(left, out->whole.length);
+    out->whole = der_behind(before, out->whole);
+    out->user_certificate = der_behind(before, out->user_certificate);
+    out->revocation_date = der_behind(before, out->revocation_date);
+    out->crl_entry_extensions = der_behind(before, out->crl_entry_extensions);
+    return 0;
+}
+
+#ifdef __cplusplus
+}
+#endif
+#endif

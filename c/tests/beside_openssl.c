@@ -1,0 +1,244 @@
+/* The messages of PEM files, by this library and by OpenSSL: the fields that both name are the same octets and the same
+ * numbers. beside_openssl FILE.. */
+#include "der.h"
+
+#include <openssl/pem.h>
+#include <openssl/x509.h>
+#include <openssl/x509v3.h>
+#include <stdio.h>
+#include <string.h>
+
+static long messages, fields, differ;
+static const uint8_t *octets;
+static size_t len;
+
+static void same(const char *name, der_place place, const uint8_t *want, long wanted)
+{
+    fields++;
+    if (wanted != (long)place.length || place.offset > len || place.length > len - place.offset
+        || (wanted > 0 && memcmp(octets + place.offset, want, (size_t)wanted) != 0)) {
+        differ++;
+        fprintf(stderr, "message %ld: %s differs\n", messages, name);
+    }
+}
+
+static void same_number(const char *name, uint64_t is, uint64_t want)
+{
+    fields++;
+    if (is != want) {
+        differ++;
+        fprintf(stderr, "message %ld: %s is %llu, not %llu\n", messages, name, (unsigned long long)is,
+                (unsigned long long)want);
+    }
+}
+
+static void absent(const char *name, der_place place, int is_absent)
+{
+    same_number(name, place.length == 0, is_absent != 0);
+}
+
+/* what OpenSSL writes of a value, in memory of its own */
+#define SAME(name, place, i2d, value)                \
+    do {                                             \
+        unsigned char *written = NULL;               \
+        int length = i2d((value), &written);         \
+        same((name), (place), written, length);      \
+        OPENSSL_free(written);                       \
+    } while (0)
+
+static uint64_t seconds(const ASN1_TIME *time)
+{
+    int days = 0, rest = 0;
+    ASN1_TIME *start = ASN1_TIME_set(NULL, 0);
+    ASN1_TIME_diff(&days, &rest, start, time);
+    ASN1_TIME_free(start);
+    return (uint64_t)days * 86400 + (uint64_t)rest;
+}
+
+static void compare_extension(const der_extension_at *at, X509_EXTENSION *want)
+{
+    SAME("extension", at->whole, i2d_X509_EXTENSION, want);
+    SAME("extnID", at->extn_id, i2d_ASN1_OBJECT, X509_EXTENSION_get_object(want));
+    SAME("extnValue", at->extn_value, i2d_ASN1_OCTET_STRING, X509_EXTENSION_get_data(want));
+    same_number("isCritical", at->is_critical, X509_EXTENSION_get_critical(want) > 0);
+    absent("critical", at->critical, X509_EXTENSION_get_critical(want) <= 0);
+}
+
+static void compare_extensions(der_place left, const STACK_OF(X509_EXTENSION) * want)
+{
+    int count = want == NULL ? 0 : sk_X509_EXTENSION_num(want), i = 0;
+    for (; left.length > 0 && i < count; i++) {
+        der_extension_at extension;
+        der_fault fault;
+        if (der_next_extension(octets, len, &left, &extension, &fault) != 0)
+            break;
+        compare_extension(&extension, sk_X509_EXTENSION_value(want, i));
+    }
+    same_number("how many extensions", (uint64_t)i + left.length, (uint64_t)count);
+}
+
+static void compare_key(const uint8_t *whole, size_t length, X509_PUBKEY *want)
+{
+    der_subject_public_key_info_at at;
+    der_fault fault;
+    const uint8_t *all = octets;
+    size_t all_len = len;
+    ASN1_OBJECT *identifier;
+    const unsigned char *bits;
+    int count;
+    X509_ALGOR *algorithm;
+    octets = whole;
+    len = length;
+    same_number("answer for a key", der_subject_public_key_info(octets, len, &at, &fault), 0);
+    X509_PUBKEY_get0_param(&identifier, &bits, &count, &algorithm, want);
+    SAME("algorithm", at.algorithm, i2d_X509_ALGOR, algorithm);
+    der_place contents = der_contents(octets, len, &at.subject_public_key);
+    der_place behind = {contents.offset + 1, contents.length - 1};
+    same("subjectPublicKey", behind, bits, count);
+    octets = all;
+    len = all_len;
+}
+
+static void compare_unique(const der_certificate_at *at, const X509 *x)
+{
+    const ASN1_BIT_STRING *issuer, *subject;
+    X509_get0_uids(x, &issuer, &subject);
+    absent("issuerUniqueID", at->issuer_unique_id, issuer == NULL);
+    absent("subjectUniqueID", at->subject_unique_id, subject == NULL);
+}
+
+static void compare_certificate(X509 *x)
+{
+    der_certificate_at at;
+    der_fault fault;
+    const X509_ALGOR *algorithm;
+    const ASN1_BIT_STRING *signature;
+    same_number("answer", der_certificate(octets, len, &at, &fault), 0);
+    X509_get0_signature(&signature, &algorithm, x);
+    SAME("tbsCertificate", at.tbs_certificate, i2d_re_X509_tbs, x);
+    SAME("signed octets", der_signed_octets(octets, len), i2d_re_X509_tbs, x);
+    SAME("signatureAlgorithm", at.signature_algorithm, i2d_X509_ALGOR, algorithm);
+    SAME("signatureValue", at.signature_value, i2d_ASN1_BIT_STRING, signature);
+    SAME("serialNumber", at.serial_number, i2d_ASN1_INTEGER, X509_get0_serialNumber(x));
+    SAME("signature", at.signature, i2d_X509_ALGOR, X509_get0_tbs_sigalg(x));
+    SAME("issuer", at.issuer, i2d_X509_NAME, X509_get_issuer_name(x));
+    SAME("subject", at.subject, i2d_X509_NAME, X509_get_subject_name(x));
+    SAME("subjectPublicKeyInfo", at.subject_public_key_info, i2d_X509_PUBKEY, X509_get_X509_PUBKEY(x));
+    same_number("version", at.version_number, (uint64_t)X509_get_version(x));
+    absent("version", at.version, X509_get_version(x) == 0);
+    same_number("notBefore", at.not_before, seconds(X509_get0_notBefore(x)));
+    same_number("notAfter", at.not_after, seconds(X509_get0_notAfter(x)));
+    compare_unique(&at, x);
+    compare_key(octets + at.subject_public_key_info.offset, at.subject_public_key_info.length, X509_get_X509_PUBKEY(x));
+    compare_extensions(der_extensions(octets, len, &at.extensions), X509_get0_extensions(x));
+}
+
+static void compare_entries(der_place left, STACK_OF(X509_REVOKED) * want)
+{
+    int count = want == NULL ? 0 : sk_X509_REVOKED_num(want), i = 0;
+    for (; left.length > 0 && i < count; i++) {
+        der_revoked_certificate_at at;
+        der_fault fault;
+        X509_REVOKED *entry = sk_X509_REVOKED_value(want, i);
+        if (der_next_revoked_certificate(octets, len, &left, &at, &fault) != 0)
+            break;
+        SAME("entry", at.whole, i2d_X509_REVOKED, entry);
+        SAME("userCertificate", at.user_certificate, i2d_ASN1_INTEGER, X509_REVOKED_get0_serialNumber(entry));
+        SAME("revocationDate", at.revocation_date, i2d_ASN1_TIME, X509_REVOKED_get0_revocationDate(entry));
+        same_number("revocationDate", at.revocation_date_seconds, seconds(X509_REVOKED_get0_revocationDate(entry)));
+        compare_extensions(der_items(octets, len, &at.crl_entry_extensions), X509_REVOKED_get0_extensions(entry));
+    }
+    same_number("how many entries", (uint64_t)i + left.length, (uint64_t)count);
+}
+
+static void compare_list(X509_CRL *x)
+{
+    der_certificate_list_at at;
+    der_fault fault;
+    const X509_ALGOR *algorithm;
+    const ASN1_BIT_STRING *signature;
+    const ASN1_TIME *next = X509_CRL_get0_nextUpdate(x);
+    same_number("answer", der_certificate_list(octets, len, &at, &fault), 0);
+    X509_CRL_get0_signature(x, &signature, &algorithm);
+    SAME("tbsCertList", at.tbs_cert_list, i2d_re_X509_CRL_tbs, x);
+    SAME("signed octets", der_signed_octets(octets, len), i2d_re_X509_CRL_tbs, x);
+    SAME("signatureAlgorithm", at.signature_algorithm, i2d_X509_ALGOR, algorithm);
+    SAME("signatureValue", at.signature_value, i2d_ASN1_BIT_STRING, signature);
+    SAME("signature", at.signature, i2d_X509_ALGOR, algorithm);
+    SAME("issuer", at.issuer, i2d_X509_NAME, X509_CRL_get_issuer(x));
+    SAME("thisUpdate", at.this_update, i2d_ASN1_TIME, X509_CRL_get0_lastUpdate(x));
+    same_number("thisUpdate", at.this_update_seconds, seconds(X509_CRL_get0_lastUpdate(x)));
+    absent("nextUpdate", at.next_update, next == NULL);
+    if (next != NULL)
+        SAME("nextUpdate", at.next_update, i2d_ASN1_TIME, next);
+    same_number("nextUpdate", at.next_update_seconds, next == NULL ? 0 : seconds(next));
+    same_number("version", at.version_number, (uint64_t)X509_CRL_get_version(x));
+    compare_entries(der_items(octets, len, &at.revoked_certificates), X509_CRL_get_REVOKED(x));
+    compare_extensions(der_extensions(octets, len, &at.crl_extensions), X509_CRL_get0_extensions(x));
+}
+
+static void compare_private_key(PKCS8_PRIV_KEY_INFO *x)
+{
+    der_private_key_info_at at;
+    der_fault fault;
+    const ASN1_OBJECT *identifier;
+    const unsigned char *key;
+    int count;
+    const X509_ALGOR *algorithm;
+    same_number("answer", der_private_key_info(octets, len, &at, &fault), 0);
+    PKCS8_pkey_get0(&identifier, &key, &count, &algorithm, x);
+    SAME("privateKeyAlgorithm", at.private_key_algorithm, i2d_X509_ALGOR, algorithm);
+    same("privateKey", der_contents(octets, len, &at.private_key), key, count);
+    same_number("version", at.version_number, 0);
+}
+
+/* a message, by what stands between the hyphens of its first line */
+static void compare(const char *name)
+{
+    const unsigned char *p = octets;
+    messages++;
+    if (strcmp(name, "CERTIFICATE") == 0) {
+        X509 *x = d2i_X509(NULL, &p, (long)len);
+        if (x != NULL)
+            compare_certificate(x);
+        X509_free(x);
+    } else if (strcmp(name, "X509 CRL") == 0) {
+        X509_CRL *x = d2i_X509_CRL(NULL, &p, (long)len);
+        if (x != NULL)
+            compare_list(x);
+        X509_CRL_free(x);
+    } else if (strcmp(name, "PRIVATE KEY") == 0) {
+        PKCS8_PRIV_KEY_INFO *x = d2i_PKCS8_PRIV_KEY_INFO(NULL, &p, (long)len);
+        if (x != NULL)
+            compare_private_key(x);
+        PKCS8_PRIV_KEY_INFO_free(x);
+    } else if (strcmp(name, "PUBLIC KEY") == 0) {
+        X509_PUBKEY *x = d2i_X509_PUBKEY(NULL, &p, (long)len);
+        if (x != NULL)
+            compare_key(octets, len, x);
+        X509_PUBKEY_free(x);
+    } else {
+        messages--;
+    }
+}
+
+int main(int argc, char **argv)
+{
+    int i;
+    for (i = 1; i < argc; i++) {
+        char *name, *header;
+        unsigned char *read;
+        long count;
+        FILE *file = fopen(argv[i], "rb");
+        while (file != NULL && PEM_read(file, &name, &header, &read, &count)) {
+            octets = read;
+            len = (size_t)count;
+            compare(name);
+            OPENSSL_free(name), OPENSSL_free(header), OPENSSL_free(read);
+        }
+        if (file != NULL)
+            fclose(file);
+    }
+    printf("%ld messages, %ld fields, %ld differ\n", messages, fields, differ);
+    return messages == 0 || differ != 0;
+}

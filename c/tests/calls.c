@@ -1,0 +1,202 @@
+/* What a caller may hand over: wrong lengths, null pointers, places outside, cut and spoilt octets, and several threads at
+ * once. calls FILE, of one certificate in DER. The last line counts what was tried. */
+#include "der.h"
+
+#include <pthread.h>
+#include <stdio.h>
+#include <stdlib.h>
+#include <string.h>
+
+static long passed, failed;
+
+static void check(int holds, const char *what)
+{
+    if (holds) {
+        passed++;
+    } else {
+        failed++;
+        fprintf(stderr, "FAILED: %s\n", what);
+    }
+}
+
+/* 0x5a in each octet, so that a write is seen */
+#define FILL(value) memset(&(value), 0x5a, sizeof(value))
+#define IS_FILLED(value, type)                                                       \
+    do {                                                                             \
+        type filled;                                                                 \
+        FILL(filled);                                                                \
+        check(memcmp(&(value), &filled, sizeof filled) == 0, #type " is as it was"); \
+    } while (0)
+
+static void refused(const uint8_t *octets, size_t len, uint32_t number, const char *what)
+{
+    der_certificate_at out;
+    der_fault fault;
+    FILL(out);
+    FILL(fault);
+    check(der_certificate(octets, len, &out, &fault) == number && fault.number == number, what);
+    IS_FILLED(out, der_certificate_at);
+}
+
+/* every call refuses these octets, with this number, and writes no more than the fault */
+static void all_refuse(const uint8_t *octets, size_t len, uint32_t number)
+{
+    der_certificate_list_at list;
+    der_revoked_certificate_at entry;
+    der_extension_at extension;
+    der_subject_public_key_info_at key;
+    der_private_key_info_at private_key;
+    der_fault fault;
+    refused(octets, len, number, "a certificate");
+    FILL(list), FILL(entry), FILL(extension), FILL(key), FILL(private_key);
+    check(der_certificate_list(octets, len, &list, &fault) == number, "a list");
+    check(der_revoked_certificate(octets, len, &entry, &fault) == number, "an entry");
+    check(der_extension(octets, len, &extension, &fault) == number, "an extension");
+    check(der_subject_public_key_info(octets, len, &key, &fault) == number, "a key");
+    check(der_private_key_info(octets, len, &private_key, &fault) == number, "a private key");
+    check(fault.number == number, "the fault has the number");
+    IS_FILLED(list, der_certificate_list_at);
+    IS_FILLED(entry, der_revoked_certificate_at);
+    IS_FILLED(extension, der_extension_at);
+    IS_FILLED(key, der_subject_public_key_info_at);
+    IS_FILLED(private_key, der_private_key_info_at);
+}
+
+static void lengths(void)
+{
+    static const uint8_t few[4] = {0x30, 0x82, 0x01, 0x00};
+    all_refuse(NULL, 0, DER_INCOMPLETE);
+    all_refuse(few, 0, DER_INCOMPLETE);
+    all_refuse(few, 4, DER_INCOMPLETE);
+    /* nothing is read of these */
+    all_refuse(few, (size_t)1 << 32, DER_OVERFLOW);
+    all_refuse(few, SIZE_MAX >> 1, DER_OVERFLOW);
+    all_refuse(few, SIZE_MAX, DER_OVERFLOW);
+}
+
+static void places_outside(const uint8_t *octets, size_t len)
+{
+    static const der_place places[] = {{3, 1}, {0, 4294967295u}, {4294967295u, 4294967295u}, {4294967295u, 1}};
+    der_extension_at extension;
+    der_revoked_certificate_at entry;
+    der_fault fault;
+    size_t i;
+    for (i = 0; i < sizeof places / sizeof places[0]; i++) {
+        der_place left = places[i], inner = der_contents(octets, 2, &left);
+        check(der_is_within(2, inner), "contents within two octets");
+        check(der_is_within(len, der_contents(octets, len, &left)), "contents within the octets");
+        check(der_next_extension(octets, 2, &left, &extension, &fault) == DER_BAD_PLACE, "no extension outside");
+        check(der_next_revoked_certificate(octets, 2, &left, &entry, &fault) == DER_BAD_PLACE, "no entry outside");
+        check(left.offset == places[i].offset && left.length == places[i].length, "what is left is as it was");
+    }
+}
+
+/* each beginning of a certificate is refused, and so is it with an octet behind it */
+static void cut(const uint8_t *octets, size_t len)
+{
+    size_t n;
+    for (n = 0; n < len; n++) {
+        /* in room of their own, so that valgrind sees a read behind them */
+        uint8_t *copy = malloc(n);
+        if (n > 0)
+            memcpy(copy, octets, n);
+        refused(copy, n, DER_INCOMPLETE, "a beginning is refused");
+        check(der_is_within(n, der_signed_octets(copy, n)), "signed octets within a beginning");
+        free(copy);
+    }
+    refused(octets, len + 1, DER_TRAILING_DATA, "an octet is left over");
+}
+
+/* with any one octet changed the answer is a number, and all places are within the octets */
+static void spoilt(const uint8_t *octets, size_t len)
+{
+    uint8_t *copy = malloc(len);
+    size_t n;
+    memcpy(copy, octets, len);
+    for (n = 0; n < len; n++) {
+        der_certificate_at out;
+        der_fault fault;
+        uint32_t answer;
+        copy[n] ^= 0xff;
+        answer = der_certificate(copy, len, &out, &fault);
+        check(answer <= 17, "a number of FORMAT.md");
+        check(answer != 0 || (der_is_within(len, out.extensions) && der_is_within(len, out.signature_value)),
+              "places within the octets");
+        copy[n] ^= 0xff;
+    }
+    free(copy);
+}
+
+struct task {
+    const uint8_t *octets;
+    size_t len;
+    der_certificate_at out;
+    int agrees;
+};
+
+static void *read_often(void *argument)
+{
+    struct task *task = argument;
+    int i;
+    task->agrees = 1;
+    for (i = 0; i < 2000; i++) {
+        der_certificate_at out;
+        der_fault fault;
+        task->agrees &= der_certificate(task->octets, task->len, &out, &fault) == 0
+                        && memcmp(&out, &task->out, sizeof out) == 0;
+    }
+    return NULL;
+}
+
+static void threads(const uint8_t *octets, size_t len, const der_certificate_at *out)
+{
+    pthread_t thread[4];
+    struct task task[4];
+    int i;
+    for (i = 0; i < 4; i++) {
+        struct task one = {octets, len, *out, 0};
+        task[i] = one;
+        check(pthread_create(&thread[i], NULL, read_often, &task[i]) == 0, "a thread");
+    }
+    for (i = 0; i < 4; i++) {
+        pthread_join(thread[i], NULL);
+        check(task[i].agrees, "four threads read the same");
+    }
+}
+
+static void texts(void)
+{
+    uint32_t number;
+    for (number = 0; number <= 17; number++)
+        check(strcmp(der_number_text(number), "no such number") != 0, "each number has words");
+    check(strcmp(der_number_text(18), "no such number") == 0, "18 is no number");
+    check(strcmp(der_number_text(DER_BAD_PLACE), "no such number") != 0, "100 is one");
+    check(strcmp(der_number_text(4294967295u), "no such number") == 0, "nor is the greatest");
+}
+
+int main(int argc, char **argv)
+{
+    static uint8_t octets[1 << 16];
+    FILE *file = argc == 2 ? fopen(argv[1], "rb") : NULL;
+    der_certificate_at out;
+    der_fault fault;
+    size_t len;
+    if (file == NULL) {
+        fprintf(stderr, "calls FILE, of one certificate in DER\n");
+        return 2;
+    }
+    len = fread(octets, 1, sizeof octets - 1, file);
+    fclose(file);
+    FILL(fault);
+    check(der_abi_version() == DER_ABI_VERSION, "the version of the library is that of the header");
+    check(der_certificate(octets, len, &out, &fault) == 0, "the certificate is read");
+    IS_FILLED(fault, der_fault);
+    texts();
+    lengths();
+    places_outside(octets, len);
+    cut(octets, len);
+    spoilt(octets, len);
+    threads(octets, len, &out);
+    printf("%ld passed, %ld failed\n", passed, failed);
+    return failed != 0;
+}

@@ -1,0 +1,180 @@
+/* The calls under libFuzzer. The octets stand right before a page that cannot be read, so that a read behind them faults
+ * although the library has no instrumentation. What is passed to be filled stands between canaries. `walk` finds places
+ * anew by the headers alone: it is instrumented, and so guides the fuzzer. */
+#define _DEFAULT_SOURCE
+#include "der.h"
+
+#include <stdio.h>
+#include <stdlib.h>
+#include <string.h>
+#include <sys/mman.h>
+
+#define CHECK(e)                                                 \
+    do {                                                         \
+        if (!(e)) {                                              \
+            fprintf(stderr, "not so: %s, line %d\n", #e, __LINE__); \
+            abort();                                             \
+        }                                                        \
+    } while (0)
+
+enum { ROOM = 1 << 16, PAGE = 4096 };
+static const uint64_t CANARY = 0x5a5a5a5a5a5a5a5a;
+
+/* how many octets the encoding at an offset has, and its header; 0 where none with a short tag stands there */
+static uint32_t encoding_at(const uint8_t *o, uint32_t at, uint32_t end, uint32_t *header)
+{
+    uint32_t i, count, length, octets;
+    if (end - at < 2 || (o[at] & 31) == 31)
+        return 0;
+    length = o[at + 1];
+    count = length < 128 ? 0 : length & 127;
+    if ((length >= 128 && count == 0) || count > 4 || end - at < 2 + count)
+        return 0;
+    for (i = 0, octets = count == 0 ? length : 0; i < count; i++)
+        octets = octets << 8 | o[at + 2 + i];
+    *header = 2 + count;
+    return octets > end - at - *header ? 0 : *header + octets;
+}
+
+/* places of fields stand one behind another, fill an encoding from its header on, and each is an encoding or absent */
+static void walk(const uint8_t *o, der_place whole, const der_place *fields, int count)
+{
+    uint32_t header, at = whole.offset, end = at + whole.length;
+    int i;
+    CHECK(encoding_at(o, at, end, &header) == whole.length);
+    at += header;
+    for (i = 0; i < count; i++) {
+        CHECK(fields[i].offset == at && fields[i].length <= end - at);
+        if (fields[i].length > 0)
+            CHECK(encoding_at(o, at, end, &header) == fields[i].length);
+        at += fields[i].length;
+    }
+    CHECK(at == end);
+}
+
+/* A call between canaries: after a refusal `at` is as it was, and else `fault` is. */
+#define CALL(type, call, o, size)                                                                               \
+    struct {                                                                                                    \
+        uint64_t first;                                                                                         \
+        type at;                                                                                                \
+        uint64_t second;                                                                                        \
+        der_fault fault;                                                                                        \
+        uint64_t third;                                                                                         \
+    } s, filled;                                                                                                \
+    uint32_t answer;                                                                                            \
+    memset(&filled, 0x5a, sizeof filled);                                                                       \
+    memset(&s, 0x5a, sizeof s);                                                                                 \
+    answer = call((size) != 0 ? (o) : NULL, (size), &s.at, &s.fault);                                           \
+    CHECK(s.first == CANARY && s.second == CANARY && s.third == CANARY);                                        \
+    if (answer != 0) {                                                                                          \
+        CHECK(answer == s.fault.number && answer <= 17 && s.fault.is_placed <= 1 && s.fault.position <= (size)); \
+        CHECK(memcmp(&s.at, &filled.at, sizeof s.at) == 0);                                                     \
+        return;                                                                                                 \
+    }                                                                                                           \
+    CHECK(memcmp(&s.fault, &filled.fault, sizeof s.fault) == 0)
+
+static void extension(const uint8_t *o, uint32_t size)
+{
+    CALL(der_extension_at, der_extension, o, size);
+    CHECK(s.at.whole.offset == 0 && s.at.is_critical <= 1 && s.at.critical.length == 3 * s.at.is_critical);
+    walk(o, s.at.whole, &s.at.extn_id, 3);
+}
+
+static void entry(const uint8_t *o, uint32_t size)
+{
+    CALL(der_revoked_certificate_at, der_revoked_certificate, o, size);
+    walk(o, s.at.whole, &s.at.user_certificate, 3);
+}
+
+static void certificate(const uint8_t *o, uint32_t size)
+{
+    der_place all = {0, size}, left;
+    der_extension_at at;
+    der_fault fault;
+    CALL(der_certificate_at, der_certificate, o, size);
+    walk(o, all, &s.at.tbs_certificate, 3);
+    walk(o, s.at.tbs_certificate, &s.at.version, 10);
+    all = der_signed_octets(o, size);
+    CHECK(memcmp(&all, &s.at.tbs_certificate, sizeof all) == 0);
+    for (left = der_extensions(o, size, &s.at.extensions); left.length > 0;)
+        CHECK(der_next_extension(o, size, &left, &at, &fault) == 0);
+    CHECK(left.offset == s.at.extensions.offset + s.at.extensions.length);
+}
+
+static void list(const uint8_t *o, uint32_t size)
+{
+    der_place all = {0, size}, left;
+    der_revoked_certificate_at at;
+    der_fault fault;
+    CALL(der_certificate_list_at, der_certificate_list, o, size);
+    walk(o, all, &s.at.tbs_cert_list, 3);
+    walk(o, s.at.tbs_cert_list, &s.at.version, 7);
+    for (left = der_items(o, size, &s.at.revoked_certificates); left.length > 0;)
+        CHECK(der_next_revoked_certificate(o, size, &left, &at, &fault) == 0);
+    CHECK(left.offset == s.at.revoked_certificates.offset + s.at.revoked_certificates.length);
+}
+
+static void key(const uint8_t *o, uint32_t size)
+{
+    der_place all = {0, size};
+    CALL(der_subject_public_key_info_at, der_subject_public_key_info, o, size);
+    walk(o, all, &s.at.algorithm, 2);
+}
+
+static void private_key(const uint8_t *o, uint32_t size)
+{
+    der_place all = {0, size};
+    CALL(der_private_key_info_at, der_private_key_info, o, size);
+    walk(o, all, &s.at.version, 5);
+}
+
+/* each encoding within, as every message that it might be */
+static void guide(const uint8_t *o, uint32_t size)
+{
+    uint32_t header, at = 0, length;
+    int i;
+    for (i = 0; i < 200 && at < size; i++) {
+        length = encoding_at(o, at, size, &header);
+        if (length == 0)
+            break;
+        extension(o + at, size - at);
+        entry(o + at, size - at);
+        key(o + at, length);
+        at += (o[at] & 0x20) != 0 ? header : length;
+    }
+}
+
+static void any_place(const uint8_t *o, uint32_t size)
+{
+    der_place place, found;
+    if (size < 8)
+        return;
+    memcpy(&place, o, sizeof place);
+    found = der_contents(o, size, &place);
+    CHECK(der_is_within(size, found));
+    place.offset %= size;
+    found = der_contents(o, size, &place);
+    CHECK(der_is_within(size, found));
+}
+
+int LLVMFuzzerTestOneInput(const uint8_t *data, size_t size)
+{
+    static uint8_t *room;
+    uint8_t *o;
+    if (room == NULL) {
+        room = mmap(NULL, ROOM + PAGE, PROT_READ | PROT_WRITE, MAP_PRIVATE | MAP_ANONYMOUS, -1, 0);
+        CHECK(room != MAP_FAILED && mprotect(room + ROOM, PAGE, PROT_NONE) == 0);
+    }
+    if (size > ROOM)
+        return 0;
+    o = room + ROOM - size;
+    memcpy(o, data, size);
+    certificate(o, (uint32_t)size);
+    list(o, (uint32_t)size);
+    private_key(o, (uint32_t)size);
+    guide(o, (uint32_t)size);
+    any_place(o, (uint32_t)size);
+    CHECK(der_is_within(size, der_signed_octets(o, size)));
+    CHECK(memcmp(o, data, size) == 0);
+    return 0;
+}

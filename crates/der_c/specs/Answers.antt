@@ -1,0 +1,68 @@
+-- What a call answers: 0 and what was read, or the number of the first fault.
+use Rattle.std.specs.Prelude.{◌≡◌, ◌⊎◌, ℕ, List, take, Ok}
+use Rattle.der_tlv.specs.declared.encoding_rules.EncodingRules.TheVariants.{Der}
+use Rattle.der_tlv.specs.declared.error.ErrorKind.{ErrorKind}
+use Rattle.der_tlv.specs.declared.error.ErrorKind.TheVariants.{Overflow}
+use Rattle.der_tlv.specs.ErrorNumber.{error_number}
+use Rattle.der_elem.specs.Accepting.{Fits}
+use Rattle.der_elem.specs.Decoding.{AllRead, Faults, NotAllRead, RanOut}
+use Rattle.der_elem.specs.declared.form.Form as form
+use Rattle.der_c.specs.declared.fault.Fault.{Fault}
+
+-- 0: no fault is written
+pub record NoFault (old new : Fault) (answer : ℕ) : Type 0 where
+  pub number : answer ≡ 0
+  pub unchanged : new ≡ old
+
+-- the number of a fault, 1 to 17, which is written too, and what was lent for what is read is as it was
+pub record IsFault {S : Type 0} (kind : ErrorKind) (old new : S) (fault : Fault) (answer : ℕ) : Type 0 where
+  pub number : answer ≡ error_number kind
+  pub written : fault.number ≡ answer
+  pub unchanged : new ≡ old
+
+-- the octets are read as a value, all of them, and this is shown of it
+pub record Given {T S : Type 0} (F : form.Ghosts T) (octets : List ℕ) (shows : T → S → Type 0) (new : S) : Type 0 where
+  pub value : T
+  pub read : AllRead F octets value
+  pub shown : shows value new
+
+-- memory ran out, or this is the first fault of the octets
+abbrev pub Refuses : {T : Type 0} → form.Ghosts T → List ℕ → ErrorKind → Type 0
+Refuses F octets kind = RanOut F.TAKES_MEMORY F.FAULTS_FIRST (F.parse Der 0 octets) kind ⊎ NotAllRead F octets kind
+
+-- the octets are refused, and why
+pub record NotGiven {T S : Type 0} (F : form.Ghosts T) (octets : List ℕ) (old new : S) (fault : Fault) (answer : ℕ) : Type 0 where
+  pub kind : ErrorKind
+  pub reason : Refuses F octets kind
+  pub is_fault : IsFault kind old new fault answer
+
+-- what a call answers that reads all octets
+abbrev pub Answers : {T S : Type 0} → form.Ghosts T → List ℕ → (T → S → Type 0) → S → S → Fault → Fault → ℕ → Type 0
+Answers F octets shows old new old_fault fault answer = (NoFault old_fault fault answer × Given F octets shows new) ⊎ NotGiven F octets old new fault answer
+
+-- so many octets at the front are read as a value
+pub record FrontRead {T : Type 0} (F : form.Ghosts T) (octets : List ℕ) (value : T) (taken : ℕ) : Type 0 where
+  pub parsed : F.parse Der 0 octets ≡ Ok (taken, F.encoding value)
+  pub accepted : F.accepts Der value (take taken octets)
+  pub fits : Fits octets
+
+-- no value is read from the front, for this reason; or no length can count the octets (9)
+abbrev pub FrontRefused : {T : Type 0} → form.Ghosts T → List ℕ → ErrorKind → Type 0
+FrontRefused F octets kind = Faults F.TAKES_MEMORY F.FAULTS_FIRST (F.parse Der 0 octets) kind ⊎ (kind ≡ Overflow)
+
+-- so many octets at the front are read as a value, and this is shown of both
+pub record FrontGiven {T S : Type 0} (F : form.Ghosts T) (octets : List ℕ) (shows : T → ℕ → S → Type 0) (new : S) : Type 0 where
+  pub value : T
+  pub taken : ℕ
+  pub read : FrontRead F octets value taken
+  pub shown : shows value taken new
+
+-- the octets at the front are refused, and why
+pub record FrontNotGiven {T S : Type 0} (F : form.Ghosts T) (octets : List ℕ) (old new : S) (fault : Fault) (answer : ℕ) : Type 0 where
+  pub kind : ErrorKind
+  pub reason : FrontRefused F octets kind
+  pub is_fault : IsFault kind old new fault answer
+
+-- what a call answers that reads the octets at the front
+abbrev pub AnswersFront : {T S : Type 0} → form.Ghosts T → List ℕ → (T → ℕ → S → Type 0) → S → S → Fault → Fault → ℕ → Type 0
+AnswersFront F octets shows old new old_fault fault answer = (NoFault old_fault fault answer × FrontGiven F octets shows new) ⊎ FrontNotGiven F octets old new fault answer

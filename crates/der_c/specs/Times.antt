@@ -1,0 +1,20 @@
+-- Dates as seconds from 1970-01-01T00:00:00Z, with no leap seconds.
+use Rattle.std.specs.Prelude.{ℕ, Option, None, Some}
+use Rattle.der_pkix.specs.declared.certificate.time.Time.{Time}
+use Rattle.der_pkix.specs.declared.certificate.time.Time.TheVariants.{UtcTime, GeneralTime}
+use Rattle.der_time.specs.UnixTime.{unix_seconds}
+
+-- those of a date
+abbrev pub seconds_of : Time → ℕ
+seconds_of (UtcTime t) = unix_seconds t.date_time
+seconds_of (GeneralTime t) = unix_seconds t.date_time
+
+-- those of a date that may be absent, and then 0
+abbrev pub seconds_if_there : Option Time → ℕ
+seconds_if_there None = 0
+seconds_if_there (Some t) = seconds_of t
+
+-- the number of a version that may be absent, which is then v1, 0 (RFC 5280 5.1.2.1)
+abbrev pub version_if_there : Option ℕ → ℕ
+version_if_there None = 0
+version_if_there (Some n) = n

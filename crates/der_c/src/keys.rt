@@ -1,0 +1,97 @@
+//! Where the fields of keys stand.
+
+ghost use Rattle.std.specs.Prelude.{◌≡◌};
+ghost use Rattle.der_elem.specs.Decoding.{AllRead};
+ghost use Rattle.der_pkix.specs.Key.OneAsymmetricKey as key;
+ghost use Rattle.der_places.specs.Layout.{LaidOut};
+ghost use Rattle.der_c.specs.Answers.{Answers};
+
+use crate::fault::{Fault, refuse};
+use der_elem::{Form, FromDer};
+use der_pkix::certificate::SubjectPublicKeyInfo;
+use der_pkix::key::OneAsymmetricKey;
+use der_places::{OneAsymmetricKeyPlaces, Placed, SubjectPublicKeyInfoPlaces, places_of};
+use std::alloc::Global;
+
+/// Where the fields of a PrivateKeyInfo stand, and its version.
+#[repr(C)]
+#[derive(Clone, Copy, Debug, PartialEq, Eq)]
+pub struct PrivateKeyInfoAt {
+    /// Its fields.
+    pub fields: OneAsymmetricKeyPlaces,
+    /// 0 for v1, 1 for v2.
+    pub version: u64,
+}
+
+/// Reads octets as a SubjectPublicKeyInfo (RFC 5280 4.1.2.7), all of them, and says where its fields
+/// stand.
+///
+/// The answer is 0, and `out` has the places; or the number of the first fault, and `out` is as it
+/// was.
+#[unsafe(no_mangle)]
+pub extern "C" fn der_subject_public_key_info<'a>(
+    alloc: Global,
+    octets: &'a [u8],
+    out: &mut SubjectPublicKeyInfoPlaces,
+    fault: &mut Fault,
+) -> u32
+    ensures { Answers ⟦<SubjectPublicKeyInfo<'a> as Form>⟧ octets.now
+        (λ v at. LaidOut (⟦<SubjectPublicKeyInfo<'a> as Placed>⟧.layout v) 0 (⟦<SubjectPublicKeyInfo<'a> as Placed>⟧.listed at) octets.now)
+        out.old out.new fault.old fault.new result }
+{
+    match SubjectPublicKeyInfo::from_der(alloc, octets) {
+        Ok(value) => {
+            *out = subject_public_key_info_at(&value, octets);
+            0
+        }
+        Err(error) => refuse(error, fault),
+    }
+}
+
+/// Where the fields of a key stand that was read from these octets.
+fn subject_public_key_info_at<'a>(
+    value: &SubjectPublicKeyInfo<'a>,
+    octets: &[u8],
+) -> SubjectPublicKeyInfoPlaces
+    ensures { AllRead ⟦<SubjectPublicKeyInfo<'a> as Form>⟧ octets.now value.now
+        → LaidOut (⟦<SubjectPublicKeyInfo<'a> as Placed>⟧.layout value.now) 0 (⟦<SubjectPublicKeyInfo<'a> as Placed>⟧.listed result) octets.now }
+{
+    places_of(value, octets, 0)
+}
+
+/// Reads octets as a PrivateKeyInfo (RFC 5958 section 2), all of them, and says where its fields stand.
+///
+/// The answer is 0, and `out` has the places; or the number of the first fault, and `out` is as it
+/// was.
+#[unsafe(no_mangle)]
+pub extern "C" fn der_private_key_info<'a>(
+    alloc: Global,
+    octets: &'a [u8],
+    out: &mut PrivateKeyInfoAt,
+    fault: &mut Fault,
+) -> u32
+    ensures { Answers ⟦<OneAsymmetricKey<'a> as Form>⟧ octets.now (λ v at.
+        LaidOut (⟦<OneAsymmetricKey<'a> as Placed>⟧.layout v) 0 (⟦<OneAsymmetricKey<'a> as Placed>⟧.listed at.fields) octets.now
+        × (at.version ≡ key.version v))
+        out.old out.new fault.old fault.new result }
+{
+    match OneAsymmetricKey::from_der(alloc, octets) {
+        Ok(value) => {
+            *out = private_key_info_at(&value, octets);
+            0
+        }
+        Err(error) => refuse(error, fault),
+    }
+}
+
+/// Where the fields of a private key stand that was read from these octets.
+fn private_key_info_at<'a>(value: &OneAsymmetricKey<'a>, octets: &[u8]) -> PrivateKeyInfoAt
+    ensures fields { AllRead ⟦<OneAsymmetricKey<'a> as Form>⟧ octets.now value.now
+        → LaidOut (⟦<OneAsymmetricKey<'a> as Placed>⟧.layout value.now) 0 (⟦<OneAsymmetricKey<'a> as Placed>⟧.listed result.fields) octets.now }
+    ensures version { result.version ≡ key.version value.now }
+{
+    PrivateKeyInfoAt {
+        fields: places_of(value, octets, 0),
+        version: u64::from(value.version()),
+    }
+}

@@ -1,0 +1,74 @@
+//! Where the fields of an entry of a list of revoked certificates stand, of those that stand one behind
+//! another.
+
+ghost use Rattle.std.specs.Prelude.{◌≡◌, take};
+ghost use Rattle.der_pkix.specs.Crl.RevokedCertificate as revoked;
+ghost use Rattle.der_places.specs.Layout.{LaidOut};
+ghost use Rattle.der_c.specs.Answers.{AnswersFront, FrontRead};
+ghost use Rattle.der_c.specs.Times.{seconds_of};
+
+use crate::fault::{Fault, refuse};
+use crate::front::read_front;
+use crate::times::seconds;
+use der_elem::Form;
+use der_pkix::crl::RevokedCertificate;
+use der_places::{Place, Placed, RevokedCertificatePlaces, places_of};
+use std::alloc::Global;
+
+/// Where the fields of an entry stand, and when the certificate was revoked.
+#[repr(C)]
+#[derive(Clone, Copy, Debug, PartialEq, Eq)]
+pub struct RevokedCertificateAt {
+    /// The whole entry; behind it the next one begins.
+    pub whole: Place,
+    /// Its fields.
+    pub fields: RevokedCertificatePlaces,
+    /// `revocationDate`, in seconds from 1970-01-01T00:00:00Z.
+    pub revocation_date: u64,
+}
+
+/// Reads the entry that stands at the front of the octets (RFC 5280 5.1.2.6), and says where its
+/// fields stand. So who has the entries of a list reads one, and then what is behind it.
+///
+/// The answer is 0, and `out` has the places; or the number of the first fault, and `out` is as it
+/// was.
+#[unsafe(no_mangle)]
+pub extern "C" fn der_revoked_certificate<'a>(
+    alloc: Global,
+    octets: &'a [u8],
+    out: &mut RevokedCertificateAt,
+    fault: &mut Fault,
+) -> u32
+    ensures { AnswersFront ⟦<RevokedCertificate<'a> as Form>⟧ octets.now (λ v taken at.
+        (at.whole.offset ≡ 0) × (at.whole.length ≡ taken)
+        × LaidOut (⟦<RevokedCertificate<'a> as Placed>⟧.layout v) 0 (⟦<RevokedCertificate<'a> as Placed>⟧.listed at.fields) (take taken octets.now)
+        × (at.revocation_date ≡ seconds_of (revoked.revocation_date v)))
+        out.old out.new fault.old fault.new result }
+{
+    match read_front::<RevokedCertificate<'a>>(alloc, octets) {
+        Ok((value, length)) => {
+            *out = revoked_certificate_at(&value, octets, length);
+            0
+        }
+        Err(error) => refuse(error, fault),
+    }
+}
+
+/// Where the fields of an entry stand that was read from so many octets at the front.
+fn revoked_certificate_at<'a>(
+    value: &RevokedCertificate<'a>,
+    octets: &[u8],
+    length: u32,
+) -> RevokedCertificateAt
+    ensures fields { FrontRead ⟦<RevokedCertificate<'a> as Form>⟧ octets.now value.now length
+        → LaidOut (⟦<RevokedCertificate<'a> as Placed>⟧.layout value.now) 0 (⟦<RevokedCertificate<'a> as Placed>⟧.listed result.fields) (take length octets.now) }
+    ensures offset { result.whole.offset ≡ 0 }
+    ensures length { result.whole.length ≡ length }
+    ensures revocation_date { result.revocation_date ≡ seconds_of (revoked.revocation_date value.now) }
+{
+    RevokedCertificateAt {
+        whole: Place { offset: 0, length },
+        fields: places_of(value, octets, 0),
+        revocation_date: seconds(value.revocation_date()),
+    }
+}

@@ -1,0 +1,36 @@
+//! Dates as seconds, and versions as numbers.
+
+ghost use Rattle.std.specs.Prelude.{◌≡◌};
+ghost use Rattle.der_c.specs.Times.{seconds_if_there, seconds_of, version_if_there};
+
+use der_pkix::certificate::{Time, Version};
+
+/// The seconds from 1970-01-01T00:00:00Z, with no leap seconds, which no date is before.
+pub(crate) fn seconds(time: Time) -> u64
+    ensures { result ≡ seconds_of time }
+{
+    match time {
+        Time::UtcTime(time) => time.to_date_time().unix_duration().as_secs(),
+        Time::GeneralTime(time) => time.to_date_time().unix_duration().as_secs(),
+    }
+}
+
+/// Those of a date that may be absent, and then 0.
+pub(crate) fn seconds_or_none(time: Option<Time>) -> u64
+    ensures { result ≡ seconds_if_there time }
+{
+    match time {
+        Some(time) => seconds(time),
+        None => 0,
+    }
+}
+
+/// The number of a version that may be absent, and is then v1, 0.
+pub(crate) fn number_of(version: Option<Version>) -> u64
+    ensures { result ≡ version_if_there version }
+{
+    match version {
+        Some(version) => u64::from(version),
+        None => 0,
+    }
+}

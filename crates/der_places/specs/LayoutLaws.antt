@@ -1,0 +1,108 @@
+-- The fields of what is read stand where the walk over their headers says.
+use Rattle.std.proofs.Common.{◌≡◌, ℕ, ◌+◌, ◌++◌, List, [], ◌∷◌, Bool, true, false, not, length, take, drop, Option, Some, None, refl, sym, ap, ◌∙◌, arith, subst, append_assoc}
+use Rattle.std.specs.Prelude.{option_map}
+use Rattle.std.proofs.lemmas.List.{length-append, append-nil, take-append-drop}
+use Rattle.der_tlv.specs.declared.tag.Tag.{Tag}
+use Rattle.der_tlv.specs.HeaderOctets.{header_octets, tlv}
+use Rattle.der_tlv.specs.TagParts.{IsTag}
+use Rattle.der_elem.specs.Accepting.{Fits}
+use Rattle.der_elem.specs.Options.{accepts_option}
+use Rattle.der_fields.specs.Defaults.{accepts_unless}
+use Rattle.der_places.specs.declared.place.Place.{Place}
+use Rattle.der_places.specs.Walking.{StandAt, IsEncoding, IsField, EntersContents, Follows, Walked}
+use Rattle.der_places.specs.Layout.{Layout, no_more, part, is_there, reads_optional, reads_unless, presence, AreFields, Encodes, Laid, LaidOut, LaidAt}
+
+-- ---- where fields stand that are one after another
+
+-- the front of what stands there
+pub front_stands : (octets : List ℕ) (n : ℕ) (own front behind : List ℕ) → own ≡ front ++ behind → StandAt octets n own → StandAt octets n front
+front_stands octets n own front behind e s = record {
+  before = s.before;
+  after = behind ++ s.after;
+  octets_are = s.octets_are ∙ ap (λ o. s.before ++ (o ++ s.after)) e ∙ ap (λ o. s.before ++ o) (append_assoc front behind s.after);
+  offset_is = s.offset_is;
+  fits = s.fits;
+}
+
+-- what is behind the front
+pub rest_stands : (octets : List ℕ) (n m : ℕ) (own front behind : List ℕ) → own ≡ front ++ behind → n + length front ≡ m → StandAt octets n own → StandAt octets m behind
+rest_stands octets n m own front behind e count s = record {
+  before = s.before ++ front;
+  after = s.after;
+  octets_are = s.octets_are ∙ ap (λ o. s.before ++ (o ++ s.after)) e ∙ ap (λ o. s.before ++ o) (append_assoc front behind s.after) ∙ sym (append_assoc s.before front (behind ++ s.after));
+  offset_is = length-append s.before front ∙ ap (λ k. k + length front) s.offset_is ∙ count;
+  fits = s.fits;
+}
+
+-- the places that a walk finds are those of the fields
+pub laid_by_walk : (fields : Layout) (octets : List ℕ) (last : Place) (places : List Place) (own : List ℕ) → AreFields fields own → StandAt octets (last.offset + last.length) own → Walked octets last (presence fields) places → Laid fields (last.offset + last.length) places own
+laid_by_walk no_more octets last places own are s walked = (walked, are)
+laid_by_walk (part there reads others) octets last [] own are s walked = absurd walked
+laid_by_walk (part there reads others) octets last (place ∷ places) own are s (follows, walked) =
+    let n = last.offset + last.length in
+    let found = follows are.front are.is_field (front_stands octets n own are.front are.behind are.octets_are s) in
+    let count : n + length are.front ≡ place.offset + place.length = ap (λ k. k + length are.front) (sym found.0) ∙ ap (λ k. place.offset + k) (sym found.1) in
+    record {
+      front = are.front;
+      behind = are.behind;
+      octets_are = are.octets_are;
+      offset_is = found.0;
+      length_is = found.1;
+      read = are.read;
+      rest = laid_by_walk others octets place places are.behind are.rest (rest_stands octets n (place.offset + place.length) own are.front are.behind are.octets_are count s) walked;
+    }
+
+-- with their header before them
+pub laid_out : (fields : Layout) (octets : List ℕ) (offset : ℕ) (start : Place) (places : List Place) → EntersContents octets offset start → Walked octets start (presence fields) places → (own : List ℕ) → Encodes fields own → StandAt octets offset own → LaidOut fields offset places own
+laid_out fields octets offset start places enters walked own e s =
+    let head = header_octets e.tag (length e.contents) in
+    let found = enters own (record { tag = e.tag; contents = e.contents; octets_are = e.octets_are; is_tag = e.is_tag }) s in
+    let count : offset + length head ≡ start.offset + start.length = sym (ap (λ k. start.offset + k) found.1 ∙ omega arith ∙ found.0) in
+    record {
+      header = head;
+      contents = e.contents;
+      octets_are = e.octets_are;
+      laid = subst (λ k. Laid fields k places e.contents) (sym count) (laid_by_walk fields octets start places e.contents e.are_fields (rest_stands octets offset (start.offset + start.length) own head e.contents e.octets_are count s) walked);
+    }
+
+-- octets as a whole stand behind none
+pub whole_stands : (octets : List ℕ) → Fits octets → StandAt octets 0 octets
+whole_stands octets fits = record { before = []; after = []; octets_are = sym (append-nil octets); offset_is = refl; fits = fits }
+
+-- and so do those at their front
+pub front_of_all : (octets : List ℕ) (n : ℕ) → Fits octets → StandAt octets 0 (take n octets)
+front_of_all octets n fits = record { before = []; after = drop n octets; octets_are = sym (take-append-drop n octets); offset_is = refl; fits = fits }
+
+-- the fields of the first field, which stands where it was found
+pub first_laid : (there : Bool) (reads : List ℕ → Type 0) (others inner : Layout) (octets own : List ℕ) (offset : ℕ) (place : Place) (behind places : List Place) → LaidOut (part there reads others) offset (place ∷ behind) own → StandAt octets offset own → ((o : List ℕ) → reads o → StandAt octets place.offset o → LaidOut inner place.offset places o) → LaidAt inner octets place places
+first_laid there reads others inner octets own offset place behind places outer s laid =
+    let first = outer.laid in
+    let contents = rest_stands octets offset (offset + length outer.header) own outer.header outer.contents outer.octets_are refl s in
+    let front = front_stands octets (offset + length outer.header) outer.contents first.front first.behind first.octets_are contents in
+    let stands = subst (λ k. StandAt octets k first.front) (sym first.offset_is) front in
+    record { own = first.front; stands = stands; length_is = first.length_is; laid = laid first.front first.read stands }
+
+-- a field stands where it does whether the code or the value tells that it is there
+pub told : (octets : List ℕ) (last place : Place) (b d : Bool) → b ≡ d → Follows octets last b place → Follows octets last d place
+told octets last place b d e follows = subst (λ x. Follows octets last x place) e follows
+
+-- ---- what is accepted is one field after another
+
+-- an encoding with a tag and any contents octets
+pub is_encoding : (tag : Tag) → IsTag tag → (own contents : List ℕ) → own ≡ tlv tag contents → IsEncoding own
+is_encoding tag is_tag own contents e = record { tag = tag; contents = contents; octets_are = e; is_tag = is_tag }
+
+-- a field that may be absent, which is held in another value
+pub maybe : {S T : Type 0} (held : S → T) (accepts : S → List ℕ → Type 0) (reads : T → List ℕ → Type 0) → ((s : S) (o : List ℕ) → accepts s o → IsEncoding o × reads (held s) o) → (o : Option S) (octets : List ℕ) → accepts_option accepts o octets → IsField (is_there (option_map held o)) octets × reads_optional reads (option_map held o) octets
+maybe held accepts reads one None octets a = (a, a)
+maybe held accepts reads one (Some s) octets a = one s octets a
+
+-- one that is held in none
+pub perhaps : {T : Type 0} (reads : T → List ℕ → Type 0) → ((s : T) (o : List ℕ) → reads s o → IsEncoding o) → (o : Option T) (octets : List ℕ) → accepts_option reads o octets → IsField (is_there o) octets × reads_optional reads o octets
+perhaps reads one None octets a = (a, a)
+perhaps reads one (Some s) octets a = (one s octets a, a)
+
+-- one with a default
+pub besides : (is_default : Bool) (readable : Type 0) (reads : List ℕ → Type 0) → ((o : List ℕ) → reads o → IsEncoding o) → (o : List ℕ) → accepts_unless is_default readable reads o → IsField (not is_default) o × reads_unless is_default reads o
+besides true readable reads one o a = (a.0, a.0)
+besides false readable reads one o a = (one o a, a)

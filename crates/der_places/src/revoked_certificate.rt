@@ -1,0 +1,92 @@
+//! The fields of an entry of revokedCertificates.
+
+ghost use Rattle.std.specs.Prelude.{◌∷◌, []};
+ghost use Rattle.std.proofs.Common.{lit<};
+ghost use Rattle.der_tlv.specs.declared.encoding_rules.EncodingRules.TheVariants.{Der};
+ghost use Rattle.der_tlv.specs.declared.tag.Tag.TheVariants as tags;
+ghost use Rattle.der_places.specs.Layout.{field, no_more, optional};
+ghost use Rattle.der_places.specs.LayoutLaws.{is_encoding, perhaps};
+ghost use Rattle.std.specs.Prelude.{List, ℕ};
+ghost use Rattle.der_pkix.specs.declared.certificate.time.Time.{Time};
+ghost use Rattle.der_pkix.specs.declared.certificate.time.Time.TheVariants as of;
+ghost use Rattle.der_places.specs.Walking.{IsEncoding};
+ghost use Rattle.der_pkix.specs.Crl.RevokedCertificate as revoked;
+
+use crate::place::Place;
+use crate::placed::Placed;
+use crate::presence::is_there;
+use crate::walk::next_place;
+use der_elem::Form;
+use der_pkix::certificate::{CertificateSerialNumber, Extensions, Time};
+use der_pkix::crl::RevokedCertificate;
+
+/// Where the fields of an entry of a list of revoked certificates stand (RFC 5280 5.1.2.6).
+#[repr(C)]
+#[derive(Clone, Copy, Debug, PartialEq, Eq)]
+pub struct RevokedCertificatePlaces {
+    /// `userCertificate`: an INTEGER.
+    pub user_certificate: Place,
+    /// `revocationDate`: a Time.
+    pub revocation_date: Place,
+    /// `crlEntryExtensions`, if they are there: a SEQUENCE OF.
+    pub crl_entry_extensions: Place,
+}
+
+impl<'a> Placed for RevokedCertificate<'a> {
+    type Places = RevokedCertificatePlaces;
+
+    ghost listed = { λ p. p.user_certificate ∷ p.revocation_date ∷ p.crl_entry_extensions ∷ [] };
+
+    ghost layout = { λ v.
+        field (⟦<CertificateSerialNumber<'a> as Form>⟧.accepts Der (revoked.user_certificate v))
+        (field (⟦<Time as Form>⟧.accepts Der (revoked.revocation_date v))
+        (optional (⟦<Extensions<'a> as Form>⟧.accepts Der) (revoked.crl_entry_extensions v)
+        no_more)) };
+
+    fn walk(&self, octets: &[u8], start: Place) -> RevokedCertificatePlaces {
+        let user_certificate = next_place(octets, start, true);
+        let revocation_date = next_place(octets, user_certificate, true);
+        let crl_entry_extensions = next_place(
+            octets,
+            revocation_date,
+            is_there(self.crl_entry_extensions()),
+        );
+        RevokedCertificatePlaces {
+            user_certificate,
+            revocation_date,
+            crl_entry_extensions,
+        }
+    }
+
+    ghost are_fields = { λ v c a.
+        let is_time : (t : Time) (o : List ℕ) → ⟦<Time as Form>⟧.accepts Der t o → IsEncoding o = λ t. elim t as (λ k. (o : List ℕ) → ⟦<Time as Form>⟧.accepts Der k o → IsEncoding o) [ of.UtcTime x ↦ λ o b. is_encoding tags.UtcTime (lit< tt) o b.0.0 b.0.1 | of.GeneralTime x ↦ λ o b. is_encoding tags.GeneralizedTime (lit< tt) o b.0.0 b.0.1 ] in
+        let one = a in
+        let two = one.rest in
+        let three = two.rest in
+        let three_told = perhaps (⟦<Extensions<'a> as Form>⟧.accepts Der) (λ x o b. is_encoding tags.Sequence (lit< tt) o b.0 b.1) v.fields.list.rest.rest.first three.front three.first in
+        record {
+          front = one.front;
+          behind = one.others;
+          octets_are = one.octets_are;
+          is_field = is_encoding tags.Integer (lit< tt) one.front one.first.0 one.first.1;
+          read = one.first;
+          rest =
+              record {
+                front = two.front;
+                behind = two.others;
+                octets_are = two.octets_are;
+                is_field = is_time _ two.front two.first;
+                read = two.first;
+                rest =
+                    record {
+                      front = three.front;
+                      behind = three.others;
+                      octets_are = three.octets_are;
+                      is_field = three_told.0;
+                      read = three_told.1;
+                      rest =
+                          three.rest;
+                    };
+              };
+        } };
+}

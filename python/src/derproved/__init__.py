@@ -1,0 +1,280 @@
+"""DER of certificates, lists of revoked ones and keys, proved: which octets are taken, and where each field stands.
+
+A value keeps the octets that it was read from, and a field is a memoryview of them: its whole encoding. Nothing is
+copied, and no signature is verified. The code that reads is Barleypulley's der_c; this package, which calls it, is not
+proved.
+
+    >>> import derproved
+    >>> certificate = derproved.Certificate(octets)
+    >>> certificate.not_after
+    datetime.datetime(2036, 11, 20, 4, 38, 17, tzinfo=datetime.timezone.utc)
+    >>> [bytes(extension.identifier) for extension in certificate.extensions if extension.is_critical]
+    [b'U\\x1d\\x13']
+
+Octets that are refused raise Error, a ValueError whose arguments are the number of the first fault, its words, and how
+many octets had been read, or None.
+"""
+
+from __future__ import annotations
+
+from collections.abc import Iterator
+from datetime import datetime, timedelta, timezone
+
+from . import _der
+from ._der import Error
+
+__all__ = [
+    "Certificate",
+    "CertificateList",
+    "Error",
+    "Extension",
+    "PrivateKeyInfo",
+    "RevokedCertificate",
+    "SubjectPublicKeyInfo",
+    "contents",
+    "signed_octets",
+]
+
+Octets = bytes | bytearray | memoryview
+
+_EPOCH = datetime(1970, 1, 1, tzinfo=timezone.utc)
+
+
+def _at(seconds: int) -> datetime:
+    return _EPOCH + timedelta(seconds=seconds)
+
+
+def _view(octets: Octets) -> memoryview:
+    """The octets, one an item, whatever items they are seen as."""
+    view = memoryview(octets)
+    return view if view.format == "B" else view.cast("B")
+
+
+def contents(encoding: Octets) -> memoryview:
+    """The contents octets of an encoding that was read, as a field of a certificate: 05 of 02 01 05."""
+    offset, length = _der.contents(encoding)
+    return _view(encoding)[offset : offset + length]
+
+
+def signed_octets(message: Octets) -> memoryview:
+    """The octets that the signature of a certificate covers, of a list, of a request or of an answer about the status
+    of certificates: the first field."""
+    offset, length = _der.signed_octets(message)
+    return _view(message)[offset : offset + length]
+
+
+def _field(index: int, doc: str) -> property:
+    """A field that is always there, by its place in the order of the places."""
+
+    def get(self: _Message) -> memoryview:
+        offset = self._at[2 * index]
+        return self._octets[offset : offset + self._at[2 * index + 1]]
+
+    return property(get, doc=doc)
+
+
+def _optional(index: int, doc: str) -> property:
+    """A field that may be absent, and is then None."""
+
+    def get(self: _Message) -> memoryview | None:
+        offset, length = self._at[2 * index], self._at[2 * index + 1]
+        return self._octets[offset : offset + length] if length else None
+
+    return property(get, doc=doc)
+
+
+class _Message:
+    """Octets, and the places of fields in them."""
+
+    __slots__ = ("_octets", "_at")
+
+    _octets: memoryview
+    _at: tuple[int, ...]
+
+    def __bytes__(self) -> bytes:
+        return bytes(self._octets)
+
+
+class Extension(_Message):
+    """An extension (RFC 5280 4.2), which stands at the front of the octets."""
+
+    __slots__ = ()
+
+    def __init__(self, octets: Octets) -> None:
+        self._at = _der.extension(octets)
+        self._octets = _view(octets)[: self._at[1]]
+
+    extn_id = _field(1, "`extnID`, an OBJECT IDENTIFIER.")
+    extn_value = _field(3, "`extnValue`, an OCTET STRING.")
+
+    @property
+    def identifier(self) -> memoryview:
+        """The contents octets of `extnID`: 55 1D 0F of keyUsage."""
+        return contents(self.extn_id)
+
+    @property
+    def value(self) -> memoryview:
+        """The contents octets of `extnValue`: the encoding of what the extension says."""
+        return contents(self.extn_value)
+
+    @property
+    def is_critical(self) -> bool:
+        """`critical`."""
+        return self._at[8] == 1
+
+
+def _extensions(items: memoryview) -> Iterator[Extension]:
+    while items:
+        extension = Extension(items)
+        yield extension
+        items = items[extension._at[1] :]
+
+
+class Certificate(_Message):
+    """A certificate (RFC 5280 4.1), which all of the octets are."""
+
+    __slots__ = ()
+
+    def __init__(self, octets: Octets) -> None:
+        self._at = _der.certificate(octets)
+        self._octets = _view(octets)
+
+    tbs_certificate = _field(0, "`tbsCertificate`: what the signature covers.")
+    signature_algorithm = _field(1, "`signatureAlgorithm`, an AlgorithmIdentifier.")
+    signature_value = _field(2, "`signatureValue`, a BIT STRING.")
+    serial_number = _field(4, "`serialNumber`, an INTEGER.")
+    signature = _field(5, "`signature` of what is signed, an AlgorithmIdentifier.")
+    issuer = _field(6, "`issuer`, a Name.")
+    validity = _field(7, "`validity`.")
+    subject = _field(8, "`subject`, a Name.")
+    subject_public_key_info = _field(9, "`subjectPublicKeyInfo`, which SubjectPublicKeyInfo reads.")
+    issuer_unique_id = _optional(10, "`issuerUniqueID` with its tag [1].")
+    subject_unique_id = _optional(11, "`subjectUniqueID` with its tag [2].")
+
+    @property
+    def not_before(self) -> datetime:
+        """`notBefore`."""
+        return _at(self._at[26])
+
+    @property
+    def not_after(self) -> datetime:
+        """`notAfter`; the certificate is valid in this second too."""
+        return _at(self._at[27])
+
+    @property
+    def version(self) -> int:
+        """1, 2 or 3."""
+        return self._at[28] + 1
+
+    @property
+    def extensions(self) -> Iterator[Extension]:
+        """The extensions, in their order."""
+        offset, length = self._at[24], self._at[25]
+        if length:
+            yield from _extensions(contents(contents(self._octets[offset : offset + length])))
+
+
+class RevokedCertificate(_Message):
+    """An entry of a list of revoked certificates (RFC 5280 5.1.2.6), which stands at the front of the octets."""
+
+    __slots__ = ()
+
+    def __init__(self, octets: Octets) -> None:
+        self._at = _der.revoked_certificate(octets)
+        self._octets = _view(octets)[: self._at[1]]
+
+    user_certificate = _field(1, "`userCertificate`, an INTEGER.")
+    crl_entry_extensions = _optional(3, "`crlEntryExtensions`, a SEQUENCE OF.")
+
+    @property
+    def revocation_date(self) -> datetime:
+        """`revocationDate`."""
+        return _at(self._at[8])
+
+    @property
+    def extensions(self) -> Iterator[Extension]:
+        """The extensions, in their order."""
+        field = self.crl_entry_extensions
+        if field is not None:
+            yield from _extensions(contents(field))
+
+
+class CertificateList(_Message):
+    """A list of revoked certificates (RFC 5280 5.1), which all of the octets are."""
+
+    __slots__ = ()
+
+    def __init__(self, octets: Octets) -> None:
+        self._at = _der.certificate_list(octets)
+        self._octets = _view(octets)
+
+    tbs_cert_list = _field(0, "`tbsCertList`: what the signature covers.")
+    signature_algorithm = _field(1, "`signatureAlgorithm`, an AlgorithmIdentifier.")
+    signature_value = _field(2, "`signatureValue`, a BIT STRING.")
+    signature = _field(4, "`signature` of what is signed, an AlgorithmIdentifier.")
+    issuer = _field(5, "`issuer`, a Name.")
+
+    @property
+    def this_update(self) -> datetime:
+        """`thisUpdate`."""
+        return _at(self._at[20])
+
+    @property
+    def next_update(self) -> datetime | None:
+        """`nextUpdate`, if it is there."""
+        return _at(self._at[21]) if self._at[15] else None
+
+    @property
+    def version(self) -> int:
+        """1 or 2."""
+        return self._at[22] + 1
+
+    @property
+    def revoked_certificates(self) -> Iterator[RevokedCertificate]:
+        """The entries, in their order."""
+        offset, length = self._at[16], self._at[17]
+        items = contents(self._octets[offset : offset + length]) if length else self._octets[:0]
+        while items:
+            entry = RevokedCertificate(items)
+            yield entry
+            items = items[entry._at[1] :]
+
+    @property
+    def extensions(self) -> Iterator[Extension]:
+        """The extensions, in their order."""
+        offset, length = self._at[18], self._at[19]
+        if length:
+            yield from _extensions(contents(contents(self._octets[offset : offset + length])))
+
+
+class SubjectPublicKeyInfo(_Message):
+    """A SubjectPublicKeyInfo (RFC 5280 4.1.2.7), which all of the octets are."""
+
+    __slots__ = ()
+
+    def __init__(self, octets: Octets) -> None:
+        self._at = _der.subject_public_key_info(octets)
+        self._octets = _view(octets)
+
+    algorithm = _field(0, "`algorithm`, an AlgorithmIdentifier.")
+    subject_public_key = _field(1, "`subjectPublicKey`, a BIT STRING.")
+
+
+class PrivateKeyInfo(_Message):
+    """A PrivateKeyInfo, which is a OneAsymmetricKey (RFC 5958 section 2), which all of the octets are."""
+
+    __slots__ = ()
+
+    def __init__(self, octets: Octets) -> None:
+        self._at = _der.private_key_info(octets)
+        self._octets = _view(octets)
+
+    private_key_algorithm = _field(1, "`privateKeyAlgorithm`, an AlgorithmIdentifier.")
+    private_key = _field(2, "`privateKey`, an OCTET STRING.")
+    attributes = _optional(3, "`attributes` with their tag [0].")
+    public_key = _optional(4, "`publicKey` with its tag [1].")
+
+    @property
+    def version(self) -> int:
+        """1 or 2."""
+        return self._at[10] + 1

@@ -1,0 +1,146 @@
+/* The calls of libder_c for Python: octets in, a tuple of numbers out. derproved/__init__.py names them. */
+#define PY_SSIZE_T_CLEAN
+#include <Python.h>
+
+#include "der.h"
+
+static PyObject *Error;
+
+/* what is raised: the number, the words, and the position or None */
+static PyObject *refuse(const der_fault *fault)
+{
+    PyObject *position = fault->is_placed ? PyLong_FromUnsignedLong(fault->position) : Py_NewRef(Py_None);
+    PyObject *arguments;
+    if (position == NULL)
+        return NULL;
+    arguments = Py_BuildValue("(ksN)", (unsigned long)fault->number, der_number_text(fault->number), position);
+    if (arguments != NULL)
+        PyErr_SetObject(Error, arguments);
+    Py_XDECREF(arguments);
+    return NULL;
+}
+
+static int put(PyObject *tuple, Py_ssize_t index, PyObject *number)
+{
+    return number == NULL ? -1 : PyTuple_SetItem(tuple, index, number);
+}
+
+/* so many places as pairs of numbers, and behind them so many numbers */
+static PyObject *told(const der_place *places, Py_ssize_t count, const uint64_t *numbers, Py_ssize_t others)
+{
+    PyObject *tuple = PyTuple_New(2 * count + others);
+    Py_ssize_t i;
+    for (i = 0; tuple != NULL && i < count; i++) {
+        if (put(tuple, 2 * i, PyLong_FromUnsignedLong(places[i].offset)) != 0
+            || put(tuple, 2 * i + 1, PyLong_FromUnsignedLong(places[i].length)) != 0)
+            Py_CLEAR(tuple);
+    }
+    for (i = 0; tuple != NULL && i < others; i++) {
+        if (put(tuple, 2 * count + i, PyLong_FromUnsignedLongLong(numbers[i])) != 0)
+            Py_CLEAR(tuple);
+    }
+    return tuple;
+}
+
+/* A call that reads octets, with so many places at the front of the struct, and so many numbers of 64 bits behind them. */
+#define READS(name, places, numbers)                                                                        \
+    static PyObject *read_##name(PyObject *module, PyObject *argument)                                      \
+    {                                                                                                       \
+        Py_buffer view;                                                                                     \
+        der_##name##_at at;                                                                                 \
+        der_fault fault;                                                                                    \
+        uint32_t answer;                                                                                    \
+        (void)module;                                                                                       \
+        if (PyObject_GetBuffer(argument, &view, PyBUF_SIMPLE) != 0)                                         \
+            return NULL;                                                                                    \
+        answer = der_##name(view.buf, (size_t)view.len, &at, &fault);                                       \
+        PyBuffer_Release(&view);                                                                            \
+        if (answer != 0)                                                                                    \
+            return refuse(&fault);                                                                          \
+        return told((const der_place *)&at, (places), (const uint64_t *)((const der_place *)&at + (places)), \
+                    (numbers));                                                                             \
+    }
+
+static_assert(sizeof(der_certificate_at) == 13 * sizeof(der_place) + 3 * sizeof(uint64_t), "places, then numbers");
+static_assert(sizeof(der_certificate_list_at) == 10 * sizeof(der_place) + 3 * sizeof(uint64_t), "places, then numbers");
+static_assert(sizeof(der_subject_public_key_info_at) == 2 * sizeof(der_place), "places alone");
+static_assert(sizeof(der_private_key_info_at) == 5 * sizeof(der_place) + sizeof(uint64_t), "places, then a number");
+static_assert(sizeof(der_revoked_certificate_at) == 4 * sizeof(der_place) + sizeof(uint64_t), "places, then a number");
+
+READS(certificate, 13, 3)
+READS(certificate_list, 10, 3)
+READS(subject_public_key_info, 2, 0)
+READS(private_key_info, 5, 1)
+READS(revoked_certificate, 4, 1)
+
+static PyObject *read_extension(PyObject *module, PyObject *argument)
+{
+    Py_buffer view;
+    der_extension_at at;
+    der_fault fault;
+    uint32_t answer;
+    uint64_t is_critical;
+    (void)module;
+    if (PyObject_GetBuffer(argument, &view, PyBUF_SIMPLE) != 0)
+        return NULL;
+    answer = der_extension(view.buf, (size_t)view.len, &at, &fault);
+    PyBuffer_Release(&view);
+    if (answer != 0)
+        return refuse(&fault);
+    is_critical = at.is_critical;
+    return told(&at.whole, 4, &is_critical, 1);
+}
+
+static PyObject *contents(PyObject *module, PyObject *argument)
+{
+    Py_buffer view;
+    der_place all, found;
+    (void)module;
+    if (PyObject_GetBuffer(argument, &view, PyBUF_SIMPLE) != 0)
+        return NULL;
+    all.offset = 0;
+    all.length = (uint64_t)view.len < UINT32_MAX ? (uint32_t)view.len : UINT32_MAX;
+    found = der_contents(view.buf, (size_t)view.len, &all);
+    PyBuffer_Release(&view);
+    return told(&found, 1, NULL, 0);
+}
+
+static PyObject *signed_octets(PyObject *module, PyObject *argument)
+{
+    Py_buffer view;
+    der_place found;
+    (void)module;
+    if (PyObject_GetBuffer(argument, &view, PyBUF_SIMPLE) != 0)
+        return NULL;
+    found = der_signed_octets(view.buf, (size_t)view.len);
+    PyBuffer_Release(&view);
+    return told(&found, 1, NULL, 0);
+}
+
+static PyMethodDef methods[] = {
+    {"certificate", read_certificate, METH_O, "13 places, notBefore, notAfter and the version"},
+    {"certificate_list", read_certificate_list, METH_O, "10 places, thisUpdate, nextUpdate and the version"},
+    {"subject_public_key_info", read_subject_public_key_info, METH_O, "2 places"},
+    {"private_key_info", read_private_key_info, METH_O, "5 places and the version"},
+    {"revoked_certificate", read_revoked_certificate, METH_O, "4 places and revocationDate, of the entry at the front"},
+    {"extension", read_extension, METH_O, "4 places and critical, of the extension at the front"},
+    {"contents", contents, METH_O, "the place of the contents octets"},
+    {"signed_octets", signed_octets, METH_O, "the place of what a signature covers"},
+    {NULL, NULL, 0, NULL},
+};
+
+static struct PyModuleDef definition = {
+    PyModuleDef_HEAD_INIT, "_der", "The calls of libder_c.", -1, methods, NULL, NULL, NULL, NULL,
+};
+
+PyMODINIT_FUNC PyInit__der(void)
+{
+    PyObject *module = PyModule_Create(&definition);
+    if (module == NULL)
+        return NULL;
+    Error = PyErr_NewExceptionWithDoc("derproved.Error", "Why octets are refused: number, words, position.",
+                                      PyExc_ValueError, NULL);
+    if (PyModule_AddObjectRef(module, "Error", Error) != 0)
+        Py_CLEAR(module);
+    return module;
+}

@@ -1,0 +1,138 @@
+"""The fields of certificates, of a list of revoked ones and of keys, beside `cryptography`.
+
+The certificates are those of the system, and of the PEM files that DER_TEST_FILES names.
+"""
+
+import os
+import unittest
+from datetime import timezone
+from pathlib import Path
+
+import derproved
+
+try:
+    from cryptography import x509
+    from cryptography.hazmat.primitives import serialization
+except ImportError:
+    x509 = None
+
+SYSTEM = Path("/etc/ssl/certs/ca-certificates.crt")
+KEY = bytes.fromhex("302a300506032b657003210019bf44096984cdfe8541bac167dc3b96c85086aa30b6b6cb0c5c38ad703166e1")
+
+
+def pem_files() -> list[Path]:
+    named = [Path(name) for name in os.environ.get("DER_TEST_FILES", "").split(os.pathsep) if name]
+    return named + [path for path in [SYSTEM] if path.exists()]
+
+
+def identifier_of(contents: bytes) -> str:
+    """An OBJECT IDENTIFIER in dotted form, of its contents octets (X.690 8.19)."""
+    arcs, arc = [], 0
+    for octet in contents:
+        arc = arc << 7 | octet & 0x7F
+        if octet < 0x80:
+            arcs.append(arc)
+            arc = 0
+    first = min(arcs[0] // 40, 2)
+    return ".".join(str(arc) for arc in [first, arcs[0] - 40 * first, *arcs[1:]])
+
+
+def in_utc(moment):
+    return moment.replace(tzinfo=timezone.utc)
+
+
+@unittest.skipIf(x509 is None, "cryptography is not there")
+class BesideCryptography(unittest.TestCase):
+    def compare_extensions(self, own, others) -> int:
+        found = list(own)
+        self.assertEqual([identifier_of(bytes(e.identifier)) for e in found], [e.oid.dotted_string for e in others])
+        self.assertEqual([e.is_critical for e in found], [e.critical for e in others])
+        for one, other in zip(found, others):
+            if isinstance(other.value, x509.UnrecognizedExtension):
+                self.assertEqual(bytes(one.value), other.value.value)
+        return len(found)
+
+    def compare_certificate(self, octets: bytes, other) -> None:
+        own = derproved.Certificate(octets)
+        self.assertEqual(bytes(own), octets)
+        self.assertEqual(bytes(own.tbs_certificate), other.tbs_certificate_bytes)
+        self.assertEqual(bytes(derproved.signed_octets(octets)), other.tbs_certificate_bytes)
+        self.assertEqual(bytes(derproved.contents(own.signature_value))[1:], other.signature)
+        self.assertEqual(int.from_bytes(derproved.contents(own.serial_number), signed=True), other.serial_number)
+        self.assertEqual(bytes(own.issuer), other.issuer.public_bytes())
+        self.assertEqual(bytes(own.subject), other.subject.public_bytes())
+        self.assertEqual(own.version - 1, other.version.value)
+        self.assertEqual(own.not_before, in_utc(other.not_valid_before_utc))
+        self.assertEqual(own.not_after, in_utc(other.not_valid_after_utc))
+        key = other.public_key().public_bytes(
+            serialization.Encoding.DER, serialization.PublicFormat.SubjectPublicKeyInfo
+        )
+        self.assertEqual(bytes(own.subject_public_key_info), key)
+        self.assertEqual(bytes(derproved.SubjectPublicKeyInfo(own.subject_public_key_info)), key)
+        self.compare_extensions(own.extensions, list(other.extensions))
+
+    def test_certificates(self) -> None:
+        count = 0
+        for path in pem_files():
+            pem = path.read_bytes()
+            if b"BEGIN CERTIFICATE" not in pem:
+                continue
+            for other in x509.load_pem_x509_certificates(pem):
+                octets = other.public_bytes(serialization.Encoding.DER)
+                with self.subTest(subject=other.subject.rfc4514_string()):
+                    self.compare_certificate(octets, other)
+                count += 1
+        self.assertGreater(count, 0)
+
+    def test_lists(self) -> None:
+        for path in pem_files():
+            pem = path.read_bytes()
+            if b"BEGIN X509 CRL" not in pem:
+                continue
+            other = x509.load_pem_x509_crl(pem)
+            own = derproved.CertificateList(other.public_bytes(serialization.Encoding.DER))
+            self.assertEqual(bytes(own.tbs_cert_list), other.tbs_certlist_bytes)
+            self.assertEqual(bytes(own.issuer), other.issuer.public_bytes())
+            self.assertEqual(own.this_update, in_utc(other.last_update_utc))
+            self.assertEqual(own.next_update, in_utc(other.next_update_utc))
+            self.compare_extensions(own.extensions, list(other.extensions))
+            entries = list(own.revoked_certificates)
+            self.assertEqual(len(entries), len(list(other)))
+            for one, entry in zip(entries, other):
+                serial = int.from_bytes(derproved.contents(one.user_certificate), signed=True)
+                self.assertEqual(serial, entry.serial_number)
+                self.assertEqual(one.revocation_date, in_utc(entry.revocation_date_utc))
+                self.compare_extensions(one.extensions, list(entry.extensions))
+
+
+class Calls(unittest.TestCase):
+    def test_fields_are_views_of_the_octets(self) -> None:
+        octets = bytearray(KEY)
+        key = derproved.SubjectPublicKeyInfo(octets)
+        self.assertEqual(bytes(key.subject_public_key), KEY[9:])
+        octets[-1] ^= 1
+        self.assertEqual(bytes(key.subject_public_key), octets[9:])
+
+    def test_other_items_are_seen_as_octets(self) -> None:
+        key = derproved.SubjectPublicKeyInfo(memoryview(KEY).cast("I"))
+        self.assertEqual(bytes(key.algorithm), KEY[2:9])
+
+    def test_refused(self) -> None:
+        for count in range(len(KEY)):
+            with self.assertRaises(derproved.Error) as caught:
+                derproved.SubjectPublicKeyInfo(KEY[:count])
+            self.assertEqual(caught.exception.args[:2], (2, "the octets end too soon"))
+        for read in [derproved.Certificate, derproved.CertificateList, derproved.PrivateKeyInfo]:
+            with self.assertRaises(derproved.Error) as caught:
+                read(KEY)
+            self.assertEqual(caught.exception.args[0], 4)
+        self.assertRaises(TypeError, derproved.Certificate, "text")
+
+    def test_any_octets_have_some_contents(self) -> None:
+        for octets in [b"", b"0", b"\xff" * 9, bytes.fromhex("3084ffffffff")]:
+            self.assertLessEqual(len(derproved.contents(octets)), len(octets))
+            self.assertLessEqual(len(derproved.signed_octets(octets)), len(octets))
+
+
+if __name__ == "__main__":
+    unittest.main()

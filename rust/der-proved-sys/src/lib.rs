@@ -1,0 +1,136 @@
+//! The calls of `libder_c`, as `c/include/der.h` documents them. `der-proved` has safe ones.
+#![no_std]
+
+/// Where an encoding stands. A field that is absent has the place of no octets.
+#[repr(C)]
+#[derive(Clone, Copy, Debug, Default, PartialEq, Eq)]
+pub struct Place {
+    /// How many octets are before it.
+    pub offset: u32,
+    /// How many it has.
+    pub length: u32,
+}
+
+/// Why octets are refused, and where.
+#[repr(C)]
+#[derive(Clone, Copy, Debug, Default, PartialEq, Eq)]
+pub struct Fault {
+    /// The number of the kind.
+    pub number: u32,
+    /// 1 where the position is known, else 0.
+    pub is_placed: u32,
+    /// How many octets had been read.
+    pub position: u32,
+}
+
+/// `der_certificate_at`.
+#[repr(C)]
+#[derive(Clone, Copy, Debug, Default, PartialEq, Eq)]
+#[allow(missing_docs)]
+pub struct CertificateAt {
+    pub tbs_certificate: Place,
+    pub signature_algorithm: Place,
+    pub signature_value: Place,
+    pub version: Place,
+    pub serial_number: Place,
+    pub signature: Place,
+    pub issuer: Place,
+    pub validity: Place,
+    pub subject: Place,
+    pub subject_public_key_info: Place,
+    pub issuer_unique_id: Place,
+    pub subject_unique_id: Place,
+    pub extensions: Place,
+    pub not_before: u64,
+    pub not_after: u64,
+    pub version_number: u64,
+}
+
+/// `der_extension_at`.
+#[repr(C)]
+#[derive(Clone, Copy, Debug, Default, PartialEq, Eq)]
+#[allow(missing_docs)]
+pub struct ExtensionAt {
+    pub whole: Place,
+    pub extn_id: Place,
+    pub critical: Place,
+    pub extn_value: Place,
+    pub is_critical: u32,
+}
+
+/// `der_certificate_list_at`.
+#[repr(C)]
+#[derive(Clone, Copy, Debug, Default, PartialEq, Eq)]
+#[allow(missing_docs)]
+pub struct CertificateListAt {
+    pub tbs_cert_list: Place,
+    pub signature_algorithm: Place,
+    pub signature_value: Place,
+    pub version: Place,
+    pub signature: Place,
+    pub issuer: Place,
+    pub this_update: Place,
+    pub next_update: Place,
+    pub revoked_certificates: Place,
+    pub crl_extensions: Place,
+    pub this_update_seconds: u64,
+    pub next_update_seconds: u64,
+    pub version_number: u64,
+}
+
+/// `der_revoked_certificate_at`.
+#[repr(C)]
+#[derive(Clone, Copy, Debug, Default, PartialEq, Eq)]
+#[allow(missing_docs)]
+pub struct RevokedCertificateAt {
+    pub whole: Place,
+    pub user_certificate: Place,
+    pub revocation_date: Place,
+    pub crl_entry_extensions: Place,
+    pub revocation_date_seconds: u64,
+}
+
+/// `der_subject_public_key_info_at`.
+#[repr(C)]
+#[derive(Clone, Copy, Debug, Default, PartialEq, Eq)]
+#[allow(missing_docs)]
+pub struct SubjectPublicKeyInfoAt {
+    pub algorithm: Place,
+    pub subject_public_key: Place,
+}
+
+/// `der_private_key_info_at`.
+#[repr(C)]
+#[derive(Clone, Copy, Debug, Default, PartialEq, Eq)]
+#[allow(missing_docs)]
+pub struct PrivateKeyInfoAt {
+    pub version: Place,
+    pub private_key_algorithm: Place,
+    pub private_key: Place,
+    pub attributes: Place,
+    pub public_key: Place,
+    pub version_number: u64,
+}
+
+#[allow(missing_docs)]
+extern "C" {
+    pub fn der_abi_version() -> u32;
+    pub fn der_certificate(octets: *const u8, len: usize, out: *mut CertificateAt, fault: *mut Fault) -> u32;
+    pub fn der_certificate_list(octets: *const u8, len: usize, out: *mut CertificateListAt, fault: *mut Fault) -> u32;
+    pub fn der_subject_public_key_info(
+        octets: *const u8,
+        len: usize,
+        out: *mut SubjectPublicKeyInfoAt,
+        fault: *mut Fault,
+    ) -> u32;
+    pub fn der_private_key_info(octets: *const u8, len: usize, out: *mut PrivateKeyInfoAt, fault: *mut Fault) -> u32;
+    pub fn der_extension(octets: *const u8, len: usize, out: *mut ExtensionAt, fault: *mut Fault) -> u32;
+    pub fn der_revoked_certificate(
+        octets: *const u8,
+        len: usize,
+        out: *mut RevokedCertificateAt,
+        fault: *mut Fault,
+    ) -> u32;
+    pub fn der_contents(octets: *const u8, len: usize, place: *const Place) -> Place;
+    pub fn der_signed_octets(octets: *const u8, len: usize) -> Place;
+}

@@ -1,0 +1,147 @@
+//! Certificates and their extensions.
+
+use crate::place::{at, fields, if_there, optional_fields, read};
+use crate::{contents, Error};
+use der_proved_sys as sys;
+
+/// A certificate (RFC 5280 4.1).
+#[derive(Clone, Copy, Debug)]
+pub struct Certificate<'a> {
+    octets: &'a [u8],
+    at: sys::CertificateAt,
+}
+
+impl<'a> Certificate<'a> {
+    /// Reads octets as a certificate, all of them.
+    ///
+    /// # Errors
+    /// The first fault of the octets; 1 where memory runs out.
+    pub fn from_der(octets: &'a [u8]) -> Result<Certificate<'a>, Error> {
+        let at = read(sys::der_certificate, octets)?;
+        Ok(Certificate { octets, at })
+    }
+
+    fields! {
+        /// `tbsCertificate`: what the signature covers.
+        tbs_certificate
+        /// `signatureAlgorithm`, an AlgorithmIdentifier.
+        signature_algorithm
+        /// `signatureValue`, a BIT STRING.
+        signature_value
+        /// `serialNumber`, an INTEGER.
+        serial_number
+        /// `signature` of what is signed, an AlgorithmIdentifier.
+        signature
+        /// `issuer`, a Name.
+        issuer
+        /// `validity`.
+        validity
+        /// `subject`, a Name.
+        subject
+        /// `subjectPublicKeyInfo`, which `SubjectPublicKeyInfo::from_der` reads.
+        subject_public_key_info
+    }
+
+    optional_fields! {
+        /// `issuerUniqueID` with its tag [1].
+        issuer_unique_id
+        /// `subjectUniqueID` with its tag [2].
+        subject_unique_id
+    }
+
+    /// 1, 2 or 3; one more than the number that stands in `version`.
+    pub fn version(&self) -> u64 {
+        self.at.version_number + 1
+    }
+
+    /// `notBefore`, in seconds from 1970-01-01T00:00:00Z.
+    pub fn not_before(&self) -> u64 {
+        self.at.not_before
+    }
+
+    /// `notAfter`, in seconds from 1970-01-01T00:00:00Z; the certificate is valid in this second too.
+    pub fn not_after(&self) -> u64 {
+        self.at.not_after
+    }
+
+    /// The extensions, in their order.
+    pub fn extensions(&self) -> Extensions<'a> {
+        Extensions::after_tag(if_there(self.octets, self.at.extensions))
+    }
+}
+
+/// Goes over extensions.
+#[derive(Clone, Debug)]
+pub struct Extensions<'a> {
+    left: &'a [u8],
+}
+
+impl<'a> Extensions<'a> {
+    /// Those of a field with an explicit tag.
+    pub(crate) fn after_tag(field: Option<&'a [u8]>) -> Extensions<'a> {
+        Extensions::listed(field.map(contents))
+    }
+
+    /// Those of a field without one.
+    pub(crate) fn listed(list: Option<&'a [u8]>) -> Extensions<'a> {
+        Extensions { left: list.map_or(&[], contents) }
+    }
+}
+
+impl<'a> Iterator for Extensions<'a> {
+    type Item = Result<Extension<'a>, Error>;
+
+    /// The next one. After an error, which the extensions of what was read do not have, none follows.
+    fn next(&mut self) -> Option<Result<Extension<'a>, Error>> {
+        if self.left.is_empty() {
+            return None;
+        }
+        match read(sys::der_extension, self.left) {
+            Ok(place) => {
+                let (octets, left) = self.left.split_at(place.whole.length as usize);
+                self.left = left;
+                Some(Ok(Extension { octets, at: place }))
+            }
+            Err(error) => {
+                self.left = &[];
+                Some(Err(error))
+            }
+        }
+    }
+}
+
+/// An extension (RFC 5280 4.2).
+#[derive(Clone, Copy, Debug)]
+pub struct Extension<'a> {
+    octets: &'a [u8],
+    at: sys::ExtensionAt,
+}
+
+impl<'a> Extension<'a> {
+    fields! {
+        /// `extnID`, an OBJECT IDENTIFIER.
+        extn_id
+        /// `extnValue`, an OCTET STRING.
+        extn_value
+    }
+
+    /// The whole extension.
+    pub fn as_bytes(&self) -> &'a [u8] {
+        at(self.octets, self.at.whole)
+    }
+
+    /// The contents octets of `extnID`: 55 1D 0F of keyUsage.
+    pub fn identifier(&self) -> &'a [u8] {
+        contents(self.extn_id())
+    }
+
+    /// The contents octets of `extnValue`: the encoding of what the extension says.
+    pub fn value(&self) -> &'a [u8] {
+        contents(self.extn_value())
+    }
+
+    /// `critical`.
+    pub fn is_critical(&self) -> bool {
+        self.at.is_critical == 1
+    }
+}

@@ -1,0 +1,124 @@
+//! Lists of revoked certificates and their entries.
+
+use crate::place::{at, fields, if_there, optional_fields, read};
+use crate::{contents, Error, Extensions};
+use der_proved_sys as sys;
+
+/// A list of revoked certificates (RFC 5280 5.1).
+#[derive(Clone, Copy, Debug)]
+pub struct CertificateList<'a> {
+    octets: &'a [u8],
+    at: sys::CertificateListAt,
+}
+
+impl<'a> CertificateList<'a> {
+    /// Reads octets as a list of revoked certificates, all of them.
+    ///
+    /// # Errors
+    /// The first fault of the octets; 1 where memory runs out.
+    pub fn from_der(octets: &'a [u8]) -> Result<CertificateList<'a>, Error> {
+        let at = read(sys::der_certificate_list, octets)?;
+        Ok(CertificateList { octets, at })
+    }
+
+    fields! {
+        /// `tbsCertList`: what the signature covers.
+        tbs_cert_list
+        /// `signatureAlgorithm`, an AlgorithmIdentifier.
+        signature_algorithm
+        /// `signatureValue`, a BIT STRING.
+        signature_value
+        /// `signature` of what is signed, an AlgorithmIdentifier.
+        signature
+        /// `issuer`, a Name.
+        issuer
+    }
+
+    /// 1 or 2; one more than the number that stands in `version`.
+    pub fn version(&self) -> u64 {
+        self.at.version_number + 1
+    }
+
+    /// `thisUpdate`, in seconds from 1970-01-01T00:00:00Z.
+    pub fn this_update(&self) -> u64 {
+        self.at.this_update_seconds
+    }
+
+    /// `nextUpdate`, in seconds from 1970-01-01T00:00:00Z, if it is there.
+    pub fn next_update(&self) -> Option<u64> {
+        (self.at.next_update.length > 0).then_some(self.at.next_update_seconds)
+    }
+
+    /// The entries, in their order.
+    pub fn revoked_certificates(&self) -> RevokedCertificates<'a> {
+        let list = if_there(self.octets, self.at.revoked_certificates);
+        RevokedCertificates { left: list.map_or(&[], contents) }
+    }
+
+    /// The extensions, in their order.
+    pub fn extensions(&self) -> Extensions<'a> {
+        Extensions::after_tag(if_there(self.octets, self.at.crl_extensions))
+    }
+}
+
+/// Goes over the entries of a list.
+#[derive(Clone, Debug)]
+pub struct RevokedCertificates<'a> {
+    left: &'a [u8],
+}
+
+impl<'a> Iterator for RevokedCertificates<'a> {
+    type Item = Result<RevokedCertificate<'a>, Error>;
+
+    /// The next one. After an error, of a list that was read where memory ran out (1), none follows.
+    fn next(&mut self) -> Option<Result<RevokedCertificate<'a>, Error>> {
+        if self.left.is_empty() {
+            return None;
+        }
+        match read(sys::der_revoked_certificate, self.left) {
+            Ok(place) => {
+                let (octets, left) = self.left.split_at(place.whole.length as usize);
+                self.left = left;
+                Some(Ok(RevokedCertificate { octets, at: place }))
+            }
+            Err(error) => {
+                self.left = &[];
+                Some(Err(error))
+            }
+        }
+    }
+}
+
+/// An entry of a list (RFC 5280 5.1.2.6).
+#[derive(Clone, Copy, Debug)]
+pub struct RevokedCertificate<'a> {
+    octets: &'a [u8],
+    at: sys::RevokedCertificateAt,
+}
+
+impl<'a> RevokedCertificate<'a> {
+    fields! {
+        /// `userCertificate`, an INTEGER.
+        user_certificate
+    }
+
+    optional_fields! {
+        /// `crlEntryExtensions`, a SEQUENCE OF.
+        crl_entry_extensions
+    }
+
+    /// The whole entry.
+    pub fn as_bytes(&self) -> &'a [u8] {
+        at(self.octets, self.at.whole)
+    }
+
+    /// `revocationDate`, in seconds from 1970-01-01T00:00:00Z.
+    pub fn revocation_date(&self) -> u64 {
+        self.at.revocation_date_seconds
+    }
+
+    /// The extensions, in their order.
+    pub fn extensions(&self) -> Extensions<'a> {
+        Extensions::listed(self.crl_entry_extensions())
+    }
+}

@@ -1,0 +1,34 @@
+//! DER of certificates, lists of revoked ones and keys, proved: which octets are taken, and where each
+//! field stands.
+//!
+//! A value borrows the octets that it was read from, and a field is a slice of them: its whole
+//! encoding. Nothing is copied, and no signature is verified. The code that reads is Barleypulley's
+//! `der_c`, whose contracts `docs/C.md` quotes; this crate, which calls it, is not proved.
+//!
+//! ```
+//! # let octets: &[u8] = &[0x30, 0x03, 0x02, 0x01, 0x05];
+//! match der_proved::Certificate::from_der(octets) {
+//!     Ok(certificate) => {
+//!         let _signed: &[u8] = certificate.tbs_certificate();
+//!         for extension in certificate.extensions() {
+//!             let extension = extension.expect("the extensions of a certificate are read");
+//!             println!("{:02x?} {}", extension.identifier(), extension.is_critical());
+//!         }
+//!     }
+//!     Err(error) => assert_eq!(error.to_string(), "another tag is expected (4), behind 2 octets"),
+//! }
+//! ```
+#![no_std]
+#![warn(missing_docs)]
+
+mod certificate;
+mod certificate_list;
+mod error;
+mod key;
+mod place;
+
+pub use certificate::{Certificate, Extension, Extensions};
+pub use certificate_list::{CertificateList, RevokedCertificate, RevokedCertificates};
+pub use error::Error;
+pub use key::{PrivateKeyInfo, SubjectPublicKeyInfo};
+pub use place::{contents, signed_octets};

@@ -1,0 +1,232 @@
+#!/usr/bin/env python3
+"""Builds the library for C, links it and calls it: from C beside OpenSSL, from Rust, and from Python beside `cryptography`.
+
+    python3 tests/c.py [--built TREE]
+
+TREE is a copy of the repository in which 'rt ci' has proved the crates; without it, what 'rt check' has proved is taken.
+What a machine has no tool for is named and left out. The last line counts what was tried."""
+
+import base64
+import glob
+import os
+import re
+import shutil
+import subprocess
+import sys
+import tempfile
+import warnings
+
+ROOT = os.path.dirname(os.path.dirname(os.path.abspath(__file__)))
+SYSTEM = "/etc/ssl/certs/ca-certificates.crt"
+# what the shared object may ask of the C library, and of the linker
+ASKED = re.compile(r"^(malloc|realloc|free|mem(cpy|move|set|cmp)|bcmp|_ITM_.*|__gmon_start__|__cxa_finalize|__stack_chk_fail)$")
+CALLS = """abi_version certificate certificate_list contents extension number_text private_key_info revoked_certificate
+signed_octets subject_public_key_info""".split()
+
+
+class Trials:
+    """What was tried, counted and said."""
+
+    def __init__(self):
+        self.passed = self.failed = 0
+
+    def tell(self, name, why):
+        """Counts a trial, with what is wrong, or nothing."""
+        self.passed, self.failed = self.passed + (not why), self.failed + bool(why)
+        print(f"FAILED: c: {name}: {why}" if why else f"c: {name}: well", flush=True)
+
+    def run(self, name, words, **others):
+        """Runs a command that must end with the status 0; gives what it printed."""
+        ran = subprocess.run(words, text=True, stdout=subprocess.PIPE, stderr=subprocess.STDOUT, **others)
+        self.tell(name, ran.returncode and f"status {ran.returncode}: {ran.stdout[-2000:]}")
+        return ran.stdout
+
+    def left_out(self, name, tool):
+        print(f"c: {name}: left out, since {tool} is not there", flush=True)
+
+
+def pem_blocks(text, label):
+    """The octets of the blocks of a PEM text with this label."""
+    blocks = re.findall(f"-----BEGIN {label}-----\n(.*?)-----END {label}-----", text, re.S)
+    return [base64.b64decode(block) for block in blocks]
+
+
+def write_files(text, label, folder):
+    """Writes each block into a file of its own; gives their names."""
+    names = []
+    for number, octets in enumerate(pem_blocks(text, label)):
+        names.append(f"{folder}/{label.lower().replace(' ', '-')}-{number}.der")
+        with open(names[-1], "wb") as file:
+            file.write(octets)
+    return names
+
+
+def make_messages(room):
+    """A certificate, a list with two entries, and keys of three kinds, which the openssl command writes; their files."""
+    with open(f"{room}/ca.cnf", "w", encoding="utf-8") as file:
+        file.write(
+            "[req]\ndistinguished_name=name\n[name]\n[ca]\ndefault_ca=own\n[own]\ndatabase=index\ncrlnumber=number\n"
+            "default_md=sha256\ndefault_crl_days=30\ncrl_extensions=list\n[list]\nauthorityKeyIdentifier=keyid\n"
+            "[ext]\nbasicConstraints=critical,CA:true\nsubjectKeyIdentifier=hash\n"
+        )
+    with open(f"{room}/index", "w", encoding="utf-8") as file:
+        file.write("R\t360101000000Z\t260102030405Z,keyCompromise\t01\tunknown\t/CN=one\n")
+        file.write("R\t360101000000Z\t260102030406Z\t00FF\tunknown\t/CN=two\n")
+    with open(f"{room}/number", "w", encoding="utf-8") as file:
+        file.write("1000\n")
+    commands = (
+        "openssl genpkey -algorithm ED25519 -out ed.pem",
+        "openssl genpkey -algorithm EC -pkeyopt ec_paramgen_curve:P-256 -out ec.pem",
+        "openssl genpkey -algorithm RSA -pkeyopt rsa_keygen_bits:2048 -out rsa.pem",
+        "openssl pkey -in ec.pem -pubout -out ec-public.pem",
+        "openssl pkey -in rsa.pem -pubout -out rsa-public.pem",
+        "openssl req -x509 -new -key ec.pem -config ca.cnf -extensions ext -subj /CN=own -days 30 -out own.pem",
+        "openssl ca -gencrl -config ca.cnf -keyfile ec.pem -cert own.pem -out list.pem",
+    )
+    for command in commands:
+        subprocess.run(command.split(), cwd=room, check=True, capture_output=True)
+    return [f"{room}/{name}.pem" for name in ("ed", "ec", "rsa", "ec-public", "rsa-public", "own", "list")]
+
+
+def try_symbols(trials, room):
+    """The shared object has the calls and no other name, and asks for no more than memory."""
+    shared = f"{room}/build/libder_c.so.1"
+    found = subprocess.run(["nm", "-D", shared], text=True, capture_output=True, check=True).stdout.splitlines()
+    rows = [row.split()[-2:] for row in found]
+    given = sorted(name.split("@")[0] for kind, name in rows if kind in "TDBR")
+    asked = [name.split("@")[0] for kind, name in rows if kind in "Uw"]
+    wanted = sorted(f"der_{name}" for name in CALLS)
+    trials.tell("the names of the shared object", given != wanted and f"{given}, not {wanted}")
+    rows = subprocess.run(["nm", "-g", "--defined-only", f"{room}/build/libder_c.a"], text=True, capture_output=True, check=True)
+    given = sorted(row.split()[2] for row in rows.stdout.splitlines() if len(row.split()) == 3)
+    trials.tell("the names of the archive", given != wanted and f"{given}, not {wanted}")
+    other = [name for name in asked if not ASKED.match(name)]
+    trials.tell("what the shared object asks for", other)
+    sections = subprocess.run(["size", "-A", shared], text=True, capture_output=True, check=True).stdout
+    trials.tell("no storage of each thread", ".tdata" in sections or ".tbss" in sections)
+
+
+def try_c(trials, room, sample, files):
+    """The tests in C, beside OpenSSL where its headers are there, and under valgrind where that is there."""
+    make = ["make", "-s", "-C", f"{ROOT}/c", f"BUILD={room}/build", f"OBJECT={room}/proved.a"]
+    trials.run("make", make)
+    trials.run("make install", [*make, "install", f"DESTDIR={room}/installed"])
+    trials.run("make build/calls", [*make, f"{room}/build/calls"])
+    trials.run("calls from C", [f"{room}/build/calls", sample])
+    trials.run("the example in C", [f"{room}/build/certificate", sample])
+    if subprocess.run(["cc", "-E", "-x", "c", "-"], input="#include <openssl/x509.h>\n", text=True, capture_output=True).returncode:
+        trials.left_out("C beside OpenSSL", "openssl/x509.h")
+    else:
+        trials.run("make build/beside_openssl", [*make, f"{room}/build/beside_openssl"])
+        print(trials.run("C beside OpenSSL", [f"{room}/build/beside_openssl", *files]), end="")
+    if shutil.which("valgrind"):
+        words = ["valgrind", "-q", "--error-exitcode=9", "--leak-check=full", f"{room}/build/calls", sample]
+        trials.run("calls under valgrind", words)
+    else:
+        trials.left_out("calls under valgrind", "valgrind")
+    if shutil.which("c++"):
+        words = ["c++", "-std=c++11", "-Wall", "-Wextra", "-Werror", "-pedantic", "-fsyntax-only", "-x", "c++", f"{ROOT}/c/include/der.h"]
+        trials.run("the header in C++", words)
+    else:
+        trials.left_out("the header in C++", "c++")
+
+
+def try_fuzzer(trials, room, samples):
+    """libFuzzer, over octets that stand before a page which cannot be read."""
+    words = ["clang", "-g", "-O1", "-fsanitize=fuzzer", f"-I{ROOT}/c/include", f"{ROOT}/c/tests/fuzz.c", f"{room}/build/libder_c.a"]
+    if not shutil.which("clang") or subprocess.run([*words, "-o", f"{room}/fuzz"], capture_output=True).returncode:
+        trials.left_out("the fuzzer", "clang's runtime of it")
+        return
+    os.mkdir(f"{room}/seeds")
+    for sample in samples:
+        shutil.copy(sample, f"{room}/seeds")
+    words = [f"{room}/fuzz", "-max_total_time=30", "-max_len=4096", "-rss_limit_mb=1024", f"{room}/seeds"]
+    told = trials.run("the fuzzer", words, cwd=room)
+    print("c: the fuzzer:", *re.findall(r"Done \d+ runs.*", told))
+
+
+def told_by_cryptography(names):
+    """What the example in Rust must print of certificates, by `cryptography`; or none, where that is not there."""
+    try:
+        from cryptography import x509
+        from cryptography.hazmat.primitives.serialization import Encoding, PublicFormat
+    except ImportError:
+        return None
+    warnings.simplefilter("ignore")
+    lines = []
+    for name in names:
+        with open(name, "rb") as file:
+            one = x509.load_der_x509_certificate(file.read())
+        key = one.public_key().public_bytes(Encoding.DER, PublicFormat.SubjectPublicKeyInfo)
+        lines += [f"version {one.version.value + 1}", f"not before {int(one.not_valid_before_utc.timestamp())}"]
+        lines += [f"not after {int(one.not_valid_after_utc.timestamp())}", f"signed {one.tbs_certificate_bytes.hex()}"]
+        lines += [f"issuer {one.issuer.public_bytes().hex()}", f"subject {one.subject.public_bytes().hex()}"]
+        lines += [f"key {key.hex()}", f"signature 00{one.signature.hex()}"]
+        lines += ["critical" if extension.critical else "other" for extension in one.extensions]
+    return lines
+
+
+def seen_by_cryptography(line):
+    """A line of the example in Rust as `cryptography` tells it; none of what it does not tell."""
+    if line.startswith("extension "):
+        return line.split()[2]
+    return None if line.startswith(("serial number", "algorithm of the key")) else line
+
+
+def try_rust(trials, room, names):
+    """The crates in Rust: their tests, and the fields of certificates beside `cryptography`."""
+    if not shutil.which("cargo"):
+        trials.left_out("Rust", "cargo")
+        return
+    others = {"cwd": f"{ROOT}/rust", "env": {**os.environ, "DER_C_LIB": f"{room}/build", "CARGO_TARGET_DIR": f"{room}/target"}}
+    trials.run("the tests in Rust", ["cargo", "test", "-q", "--offline"], **others)
+    trials.run("the example in Rust", ["cargo", "build", "-q", "--offline", "--release", "--examples"], **others)
+    ran = subprocess.run([f"{room}/target/release/examples/fields", *names], text=True, capture_output=True)
+    wanted = told_by_cryptography(names)
+    if wanted is None:
+        trials.left_out("Rust beside cryptography", "cryptography")
+        return
+    found = [line for line in map(seen_by_cryptography, ran.stdout.splitlines()) if line]
+    differ = [f"{one[:80]}, not {other[:80]}" for one, other in zip(found, wanted) if one != other]
+    trials.tell(f"Rust beside cryptography, {len(wanted)} lines", ran.stderr or len(found) != len(wanted) or differ[:3])
+
+
+def try_python(trials, room, files):
+    """The package for Python, and its tests beside `cryptography`."""
+    others = {"cwd": f"{ROOT}/python", "env": {**os.environ, "DER_C_LIB": f"{room}/build", "DER_TEST_FILES": os.pathsep.join(files)}}
+    needs = "import setuptools, sysconfig, os, sys; sys.exit(not os.path.isfile(sysconfig.get_path('include') + '/Python.h'))"
+    if subprocess.run([sys.executable, "-c", needs], capture_output=True).returncode or sys.version_info < (3, 11):
+        trials.left_out("Python", "setuptools, Python.h or Python 3.11")
+        return
+    words = [sys.executable, "-B", "setup.py", "-q", "build", "--build-base", f"{room}/python", "--build-lib", f"{room}/python/lib"]
+    trials.run("the package for Python", words, **others)
+    others["env"]["PYTHONPATH"] = f"{room}/python/lib"
+    trials.run("the tests in Python", [sys.executable, "-B", "-W", "ignore", "-m", "unittest", "-q", "tests/test_derproved.py"], **others)
+
+
+def main(words):
+    tree = words[1] if words[:1] == ["--built"] else ROOT
+    trials = Trials()
+    if not shutil.which("cc") or not shutil.which("make"):
+        trials.left_out("the library for C", "a C compiler or make")
+        print("0 passed, 0 failed")
+        return 0
+    with tempfile.TemporaryDirectory(prefix="der-c-") as room:
+        trials.run("rt lib", ["rt", "lib"], cwd=f"{tree}/crates/der_c")
+        shutil.copy(f"{tree}/crates/der_c/out/libder_c.a", f"{room}/proved.a")
+        with open(f"{ROOT}/crates/certview/stdin", encoding="utf-8") as file:
+            samples = write_files(file.read(), "CERTIFICATE", room)
+        own = make_messages(room) if shutil.which("openssl") else []
+        files = own + glob.glob(SYSTEM)
+        system = [name for path in glob.glob(SYSTEM) for name in write_files(open(path, encoding="utf-8").read(), "CERTIFICATE", room)]
+        try_c(trials, room, samples[0], files)
+        try_symbols(trials, room)
+        try_fuzzer(trials, room, system or samples)
+        try_rust(trials, room, system or samples)
+        try_python(trials, room, own)
+    print(f"{trials.passed} passed, {trials.failed} failed")
+    return 1 if trials.failed else 0
+
+
+if __name__ == "__main__":
+    sys.exit(main(sys.argv[1:]))
