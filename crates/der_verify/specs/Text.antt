@@ -1,5 +1,5 @@
 -- Strings of ASCII as names are compared (RFC 5280 section 7.1, which has the string preparation of RFC 4518).
-use Rattle.std.specs.Prelude.{ℕ, ◌≡◌, ◌==◌, ◌+◌, ◌<◌, nat_le, List, [], ◌∷◌, length, Bool, true, false, ◌&&◌, if◌then◌else◌, Option, Some, None}
+use Rattle.std.specs.Prelude.{ℕ, ◌≡◌, ◌==◌, ◌+◌, ◌<◌, nat_le, List, [], ◌∷◌, length, Bool, ◌&&◌, if◌then◌else◌, Option, Some, None}
 use Rattle.std.specs.Borrow.{Bor}
 
 -- a letter in lower case (RFC 4518 section 2.2, of ASCII)
