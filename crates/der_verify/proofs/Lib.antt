@@ -3,3 +3,4 @@ pub mod FindingOne
 pub mod FirstFields
 pub mod Fronts
 pub mod Steps
+mod Spaces

@@ -1,5 +1,7 @@
 pub mod Extensions
+pub mod Names
 pub mod Rfc5280
 pub mod Rfc5280Lists
 pub mod Signed
+pub mod Text
 pub mod Time

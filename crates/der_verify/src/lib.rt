@@ -3,11 +3,13 @@
 #![tactic(auto)]
 
 mod extensions;
+mod names;
 mod rfc5280;
 mod signed;
 mod time;
 
 pub use extensions::find_extension;
+pub use names::{names_match, values_match};
 pub use rfc5280::{
     CERTIFICATE_RULES, CertificateRule, LIST_RULES, ListRule, algorithms_agree, check_certificate,
     check_list, list_algorithms_agree,

@@ -1,0 +1,4 @@
+pub mod Attributes
+pub mod Extensions
+pub mod Keys
+pub mod Names

@@ -1,0 +1,20 @@
+-- Names of one attribute in each part (RFC 5280 section 4.1.2.4).
+use Rattle.std.specs.Prelude.{ℕ, List, [], ◌∷◌, ◌⊎◌, flat_map}
+use Rattle.der_tlv.specs.declared.error.ErrorKind.{ErrorKind}
+use Rattle.der_tlv.specs.declared.tag.Tag.TheVariants as tags
+use Rattle.der_tlv.specs.HeaderOctets.{tlv}
+use Rattle.der_build.specs.declared.attributes.TextAttribute.{TextAttribute}
+use Rattle.der_build.specs.Attributes.{attribute_octets, RefusesText}
+
+-- RelativeDistinguishedName, a SET OF one attribute
+abbrev pub part_octets : TextAttribute → List ℕ
+part_octets a = tlv tags.Set (attribute_octets a.type_.now a.text.now)
+
+-- Name, a SEQUENCE OF parts
+abbrev pub name_octets : List TextAttribute → List ℕ
+name_octets attributes = tlv tags.Sequence (flat_map part_octets attributes)
+
+-- one of the attributes cannot be made, for this reason
+abbrev pub RefusesOne : ErrorKind → List TextAttribute → Type 0
+RefusesOne kind [] = ⊥
+RefusesOne kind (a ∷ others) = RefusesText a.type_.now a.text.now kind ⊎ RefusesOne kind others
