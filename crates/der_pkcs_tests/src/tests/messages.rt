@@ -3,6 +3,7 @@
 use der_asn1_types::{DerOrd, Duplicate, Encode, Error, FromDer};
 use der_pkcs::algorithm::{EcdsaSigValue, RsaesOaepParams, RsassaPssParams};
 use der_pkcs::encryption::{EncryptedPrivateKeyInfo, PbeParameter, Pbes2Params, Pbkdf2Params};
+use der_pkcs::pkcs12::{AuthenticatedSafe, CertBag, CrlBag, Pfx, SafeContents, SecretBag};
 use std::alloc::Global;
 use std::cmp::Ordering;
 
@@ -16,6 +17,12 @@ pub(super) enum Message {
     RsassaPssParams,
     RsaesOaepParams,
     EcdsaSigValue,
+    Pfx,
+    AuthenticatedSafe,
+    SafeContents,
+    CertBag,
+    CrlBag,
+    SecretBag,
 }
 
 /// What is found of two encodings: that of the first one's value, whether its copy is equal to it,
@@ -98,6 +105,30 @@ fn ecdsa_sig_value(alloc: Global, first: &[u8], second: &[u8]) -> Result<Tried, 
     tried::<EcdsaSigValue>(alloc, first, second)
 }
 
+fn pfx(alloc: Global, first: &[u8], second: &[u8]) -> Result<Tried, u8> {
+    tried::<Pfx>(alloc, first, second)
+}
+
+fn authenticated_safe(alloc: Global, first: &[u8], second: &[u8]) -> Result<Tried, u8> {
+    tried::<AuthenticatedSafe>(alloc, first, second)
+}
+
+fn safe_contents(alloc: Global, first: &[u8], second: &[u8]) -> Result<Tried, u8> {
+    tried::<SafeContents>(alloc, first, second)
+}
+
+fn cert_bag(alloc: Global, first: &[u8], second: &[u8]) -> Result<Tried, u8> {
+    tried::<CertBag>(alloc, first, second)
+}
+
+fn crl_bag(alloc: Global, first: &[u8], second: &[u8]) -> Result<Tried, u8> {
+    tried::<CrlBag>(alloc, first, second)
+}
+
+fn secret_bag(alloc: Global, first: &[u8], second: &[u8]) -> Result<Tried, u8> {
+    tried::<SecretBag>(alloc, first, second)
+}
+
 // The same of octets of that type.
 pub(super) fn tried_as(
     message: Message,
@@ -113,5 +144,11 @@ pub(super) fn tried_as(
         Message::RsassaPssParams => rsassa_pss_params(alloc, first, second),
         Message::RsaesOaepParams => rsaes_oaep_params(alloc, first, second),
         Message::EcdsaSigValue => ecdsa_sig_value(alloc, first, second),
+        Message::Pfx => pfx(alloc, first, second),
+        Message::AuthenticatedSafe => authenticated_safe(alloc, first, second),
+        Message::SafeContents => safe_contents(alloc, first, second),
+        Message::CertBag => cert_bag(alloc, first, second),
+        Message::CrlBag => crl_bag(alloc, first, second),
+        Message::SecretBag => secret_bag(alloc, first, second),
     }
 }
