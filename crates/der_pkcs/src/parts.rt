@@ -43,6 +43,14 @@ pub enum Part {
     RsaesOaepParams,
     /// `ECDSA-Sig-Value`.
     EcdsaSigValue,
+    /// `Dss-Parms`.
+    DssParms,
+    /// `DomainParameters`.
+    DomainParameters,
+    /// `ValidationParms`.
+    ValidationParms,
+    /// `DHParameter`.
+    DhParameter,
     /// `PFX`.
     Pfx,
     /// `ContentInfo`.
@@ -342,6 +350,83 @@ static ECDSA_SIG_VALUE: [Component; 2] = [
     },
 ];
 
+static DSS_PARMS: [Component; 3] = [
+    Component {
+        name: "p",
+        octet: None,
+        part: Part::Value,
+    },
+    Component {
+        name: "q",
+        octet: None,
+        part: Part::Value,
+    },
+    Component {
+        name: "g",
+        octet: None,
+        part: Part::Value,
+    },
+];
+
+static DOMAIN_PARAMETERS: [Component; 5] = [
+    Component {
+        name: "p",
+        octet: None,
+        part: Part::Value,
+    },
+    Component {
+        name: "g",
+        octet: None,
+        part: Part::Value,
+    },
+    Component {
+        name: "q",
+        octet: None,
+        part: Part::Value,
+    },
+    Component {
+        name: "j",
+        octet: Some(0x02),
+        part: Part::Value,
+    },
+    Component {
+        name: "validationParms",
+        octet: Some(0x30),
+        part: Part::ValidationParms,
+    },
+];
+
+static VALIDATION_PARMS: [Component; 2] = [
+    Component {
+        name: "seed",
+        octet: None,
+        part: Part::Value,
+    },
+    Component {
+        name: "pgenCounter",
+        octet: None,
+        part: Part::Value,
+    },
+];
+
+static DH_PARAMETER: [Component; 3] = [
+    Component {
+        name: "prime",
+        octet: None,
+        part: Part::Value,
+    },
+    Component {
+        name: "base",
+        octet: None,
+        part: Part::Value,
+    },
+    Component {
+        name: "privateValueLength",
+        octet: Some(0x02),
+        part: Part::Value,
+    },
+];
+
 static PFX: [Component; 3] = [
     Component {
         name: "version",
@@ -527,6 +612,10 @@ impl Part {
             Part::ExplicitAlgorithmIdentifier => &EXPLICIT_ALGORITHM_IDENTIFIER,
             Part::RsaesOaepParams => &RSAES_OAEP_PARAMS,
             Part::EcdsaSigValue => &ECDSA_SIG_VALUE,
+            Part::DssParms => &DSS_PARMS,
+            Part::DomainParameters => &DOMAIN_PARAMETERS,
+            Part::ValidationParms => &VALIDATION_PARMS,
+            Part::DhParameter => &DH_PARAMETER,
             Part::Pfx => &PFX,
             Part::ContentInfo => &CONTENT_INFO,
             Part::MacData => &MAC_DATA,
