@@ -2,3 +2,4 @@
 pub mod Request
 pub mod Encryption
 pub mod Algorithm
+pub mod Pkcs12

@@ -1,4 +1,4 @@
-//! The types of PKCS-10, PkcsEncryption, PkixAlgorithms.
+//! The types of PKCS-10, PkcsEncryption, PkixAlgorithms, PKCS-12.
 //!
 //! Made by tools/asn1.
 #![tactic(auto)]
@@ -6,4 +6,5 @@
 pub mod algorithm;
 pub mod encryption;
 pub mod parts;
+pub mod pkcs12;
 pub mod request;

@@ -43,6 +43,36 @@ pub enum Part {
     RsaesOaepParams,
     /// `ECDSA-Sig-Value`.
     EcdsaSigValue,
+    /// `Dss-Parms`.
+    DssParms,
+    /// `DomainParameters`.
+    DomainParameters,
+    /// `ValidationParms`.
+    ValidationParms,
+    /// `DHParameter`.
+    DhParameter,
+    /// `PFX`.
+    Pfx,
+    /// `ContentInfo`.
+    ContentInfo,
+    /// `MacData`.
+    MacData,
+    /// `DigestInfo`.
+    DigestInfo,
+    /// `AuthenticatedSafe`.
+    AuthenticatedSafe,
+    /// `SafeContents`.
+    SafeContents,
+    /// `SafeBag`.
+    SafeBag,
+    /// `OneAsymmetricKey`.
+    OneAsymmetricKey,
+    /// `CertBag`.
+    CertBag,
+    /// `CRLBag`.
+    CrlBag,
+    /// `SecretBag`.
+    SecretBag,
     /// A value with no components that have names.
     Value,
 }
@@ -320,6 +350,242 @@ static ECDSA_SIG_VALUE: [Component; 2] = [
     },
 ];
 
+static DSS_PARMS: [Component; 3] = [
+    Component {
+        name: "p",
+        octet: None,
+        part: Part::Value,
+    },
+    Component {
+        name: "q",
+        octet: None,
+        part: Part::Value,
+    },
+    Component {
+        name: "g",
+        octet: None,
+        part: Part::Value,
+    },
+];
+
+static DOMAIN_PARAMETERS: [Component; 5] = [
+    Component {
+        name: "p",
+        octet: None,
+        part: Part::Value,
+    },
+    Component {
+        name: "g",
+        octet: None,
+        part: Part::Value,
+    },
+    Component {
+        name: "q",
+        octet: None,
+        part: Part::Value,
+    },
+    Component {
+        name: "j",
+        octet: Some(0x02),
+        part: Part::Value,
+    },
+    Component {
+        name: "validationParms",
+        octet: Some(0x30),
+        part: Part::ValidationParms,
+    },
+];
+
+static VALIDATION_PARMS: [Component; 2] = [
+    Component {
+        name: "seed",
+        octet: None,
+        part: Part::Value,
+    },
+    Component {
+        name: "pgenCounter",
+        octet: None,
+        part: Part::Value,
+    },
+];
+
+static DH_PARAMETER: [Component; 3] = [
+    Component {
+        name: "prime",
+        octet: None,
+        part: Part::Value,
+    },
+    Component {
+        name: "base",
+        octet: None,
+        part: Part::Value,
+    },
+    Component {
+        name: "privateValueLength",
+        octet: Some(0x02),
+        part: Part::Value,
+    },
+];
+
+static PFX: [Component; 3] = [
+    Component {
+        name: "version",
+        octet: None,
+        part: Part::Value,
+    },
+    Component {
+        name: "authSafe",
+        octet: None,
+        part: Part::ContentInfo,
+    },
+    Component {
+        name: "macData",
+        octet: Some(0x30),
+        part: Part::MacData,
+    },
+];
+
+static CONTENT_INFO: [Component; 2] = [
+    Component {
+        name: "contentType",
+        octet: None,
+        part: Part::Value,
+    },
+    Component {
+        name: "content",
+        octet: Some(0xa0),
+        part: Part::Value,
+    },
+];
+
+static MAC_DATA: [Component; 3] = [
+    Component {
+        name: "mac",
+        octet: None,
+        part: Part::DigestInfo,
+    },
+    Component {
+        name: "macSalt",
+        octet: None,
+        part: Part::Value,
+    },
+    Component {
+        name: "iterations",
+        octet: Some(0x02),
+        part: Part::Value,
+    },
+];
+
+static DIGEST_INFO: [Component; 2] = [
+    Component {
+        name: "digestAlgorithm",
+        octet: None,
+        part: Part::AlgorithmIdentifier,
+    },
+    Component {
+        name: "digest",
+        octet: None,
+        part: Part::Value,
+    },
+];
+
+static AUTHENTICATED_SAFE: [Component; 1] = [Component {
+    name: "",
+    octet: None,
+    part: Part::ContentInfo,
+}];
+
+static SAFE_CONTENTS: [Component; 1] = [Component {
+    name: "",
+    octet: None,
+    part: Part::SafeBag,
+}];
+
+static SAFE_BAG: [Component; 3] = [
+    Component {
+        name: "bagId",
+        octet: None,
+        part: Part::Value,
+    },
+    Component {
+        name: "bagValue",
+        octet: None,
+        part: Part::Value,
+    },
+    Component {
+        name: "bagAttributes",
+        octet: Some(0x31),
+        part: Part::Attributes,
+    },
+];
+
+static ONE_ASYMMETRIC_KEY: [Component; 5] = [
+    Component {
+        name: "version",
+        octet: None,
+        part: Part::Value,
+    },
+    Component {
+        name: "privateKeyAlgorithm",
+        octet: None,
+        part: Part::AlgorithmIdentifier,
+    },
+    Component {
+        name: "privateKey",
+        octet: None,
+        part: Part::Value,
+    },
+    Component {
+        name: "attributes",
+        octet: Some(0xa0),
+        part: Part::Attributes,
+    },
+    Component {
+        name: "publicKey",
+        octet: Some(0x81),
+        part: Part::Value,
+    },
+];
+
+static CERT_BAG: [Component; 2] = [
+    Component {
+        name: "certId",
+        octet: None,
+        part: Part::Value,
+    },
+    Component {
+        name: "certValue",
+        octet: None,
+        part: Part::Value,
+    },
+];
+
+static CRL_BAG: [Component; 2] = [
+    Component {
+        name: "crlId",
+        octet: None,
+        part: Part::Value,
+    },
+    Component {
+        name: "crlValue",
+        octet: None,
+        part: Part::Value,
+    },
+];
+
+static SECRET_BAG: [Component; 2] = [
+    Component {
+        name: "secretTypeId",
+        octet: None,
+        part: Part::Value,
+    },
+    Component {
+        name: "secretValue",
+        octet: None,
+        part: Part::Value,
+    },
+];
+
 impl Part {
     /// The components, in their order; of a list the one that each item is.
     ///
@@ -346,6 +612,21 @@ impl Part {
             Part::ExplicitAlgorithmIdentifier => &EXPLICIT_ALGORITHM_IDENTIFIER,
             Part::RsaesOaepParams => &RSAES_OAEP_PARAMS,
             Part::EcdsaSigValue => &ECDSA_SIG_VALUE,
+            Part::DssParms => &DSS_PARMS,
+            Part::DomainParameters => &DOMAIN_PARAMETERS,
+            Part::ValidationParms => &VALIDATION_PARMS,
+            Part::DhParameter => &DH_PARAMETER,
+            Part::Pfx => &PFX,
+            Part::ContentInfo => &CONTENT_INFO,
+            Part::MacData => &MAC_DATA,
+            Part::DigestInfo => &DIGEST_INFO,
+            Part::AuthenticatedSafe => &AUTHENTICATED_SAFE,
+            Part::SafeContents => &SAFE_CONTENTS,
+            Part::SafeBag => &SAFE_BAG,
+            Part::OneAsymmetricKey => &ONE_ASYMMETRIC_KEY,
+            Part::CertBag => &CERT_BAG,
+            Part::CrlBag => &CRL_BAG,
+            Part::SecretBag => &SECRET_BAG,
             Part::Value => &[],
         }
     }
@@ -358,6 +639,8 @@ impl Part {
                 | Part::RelativeDistinguishedName
                 | Part::Attributes
                 | Part::Extensions
+                | Part::AuthenticatedSafe
+                | Part::SafeContents
         )
     }
 }

@@ -6,6 +6,7 @@
 mod algorithms;
 mod encrypted_keys;
 mod fields;
+mod files;
 mod messages;
 
 use messages::{Message, tried_as};
@@ -114,32 +115,37 @@ fn are_in_order(
 fn messages_are_written_back(rt: HostRuntime) -> Result<(), Fail> {
     let alloc = rt.alloc();
     are_written_back(&rt, alloc, &encrypted_keys::WRITTEN)?;
-    are_written_back(&rt, alloc, &algorithms::WRITTEN)
+    are_written_back(&rt, alloc, &algorithms::WRITTEN)?;
+    are_written_back(&rt, alloc, &files::WRITTEN)
 }
 
 #[test]
 fn each_cut_of_a_message_is_refused(rt: HostRuntime) -> Result<(), Fail> {
     let alloc = rt.alloc();
     all_cuts_are_refused(&rt, alloc, &encrypted_keys::WRITTEN)?;
-    all_cuts_are_refused(&rt, alloc, &algorithms::WRITTEN)
+    all_cuts_are_refused(&rt, alloc, &algorithms::WRITTEN)?;
+    all_cuts_are_refused(&rt, alloc, &files::WRITTEN)
 }
 
 #[test]
 fn other_octets_are_refused(rt: HostRuntime) -> Result<(), Fail> {
     let alloc = rt.alloc();
     are_refused(&rt, alloc, &encrypted_keys::REFUSED)?;
-    are_refused(&rt, alloc, &algorithms::REFUSED)
+    are_refused(&rt, alloc, &algorithms::REFUSED)?;
+    are_refused(&rt, alloc, &files::REFUSED)
 }
 
 #[test]
 fn a_changed_octet_of_a_message_is_refused(rt: HostRuntime) -> Result<(), Fail> {
     let alloc = rt.alloc();
-    changes_are_refused(&rt, alloc, &encrypted_keys::CHANGED)
+    changes_are_refused(&rt, alloc, &encrypted_keys::CHANGED)?;
+    changes_are_refused(&rt, alloc, &files::CHANGED)
 }
 
 #[test]
 fn messages_are_in_the_order_of_their_encodings(rt: HostRuntime) -> Result<(), Fail> {
     let alloc = rt.alloc();
     are_in_order(&rt, alloc, &encrypted_keys::ORDERED)?;
-    are_in_order(&rt, alloc, &algorithms::ORDERED)
+    are_in_order(&rt, alloc, &algorithms::ORDERED)?;
+    are_in_order(&rt, alloc, &files::ORDERED)
 }

@@ -1,6 +1,7 @@
 -- The grammar of PkixAlgorithms, in the words of ASN.1.
 -- Made by tools/asn1 from algorithm.asn1.
 use Rattle.std.specs.Prelude.{true}
+use Rattle.der_bits.specs.BitString.{parse_bit_string}
 use Rattle.der_elem.specs.Integer.{natural_contents}
 use Rattle.der_elem.specs.IntegerReading.{parse_unsigned}
 use Rattle.der_fields.specs.MarkerTags.{marker_tag}
@@ -10,6 +11,9 @@ use Rattle.der_opaque.specs.Opaque.{parse_octets}
 use Rattle.der_pkix.specs.Certificate.Grammar.{algorithm_identifier}
 use Rattle.der_tlv.specs.HeaderOctets.{tlv}
 use Rattle.der_tlv.specs.declared.tag.Tag.TheVariants as tags
+
+abbrev pub BIT_STRING : Grammar
+BIT_STRING = one tags.BitString parse_bit_string
 
 abbrev pub INTEGER_u32 : Grammar
 INTEGER_u32 = one tags.Integer (parse_unsigned 4)
@@ -69,6 +73,67 @@ ecdsa_sig_value =
 abbrev pub dss_sig_value : Grammar
 dss_sig_value =
     ecdsa_sig_value
+
+-- DSAPublicKey ::= INTEGER (0..MAX)
+abbrev pub dsa_public_key : Grammar
+dsa_public_key =
+    NATURAL
+
+-- Dss-Parms ::= SEQUENCE {
+--      p  INTEGER (0..MAX),
+--      q  INTEGER (0..MAX),
+--      g  INTEGER (0..MAX) }
+abbrev pub dss_parms : Grammar
+dss_parms =
+    SEQUENCE
+    (field NATURAL
+    (field NATURAL
+    (field NATURAL
+    end)))
+
+-- DHPublicKey ::= INTEGER (0..MAX)
+abbrev pub dh_public_key : Grammar
+dh_public_key =
+    NATURAL
+
+-- ValidationParms ::= SEQUENCE {
+--      seed         BIT STRING,
+--      pgenCounter  INTEGER (0..MAX) }
+abbrev pub validation_parms : Grammar
+validation_parms =
+    SEQUENCE
+    (field BIT_STRING
+    (field NATURAL
+    end))
+
+-- DomainParameters ::= SEQUENCE {
+--      p                INTEGER (0..MAX),          -- odd prime, p=jq +1
+--      g                INTEGER (0..MAX),          -- generator, g
+--      q                INTEGER (0..MAX),          -- factor of p-1
+--      j                INTEGER (0..MAX) OPTIONAL, -- subgroup factor
+--      validationParms  ValidationParms OPTIONAL }
+abbrev pub domain_parameters : Grammar
+domain_parameters =
+    SEQUENCE
+    (field NATURAL
+    (field NATURAL
+    (field NATURAL
+    (OPTIONAL NATURAL
+    (OPTIONAL validation_parms
+    end)))))
+
+-- DHParameter ::= SEQUENCE {
+--      prime               INTEGER (0..MAX), -- p
+--      base                INTEGER (0..MAX), -- g
+--      privateValueLength  INTEGER (0..MAX) OPTIONAL
+--      }
+abbrev pub dh_parameter : Grammar
+dh_parameter =
+    SEQUENCE
+    (field NATURAL
+    (field NATURAL
+    (OPTIONAL INTEGER_u32
+    end)))
 
 -- SignedCertificateTimestampList ::= OCTET STRING
 abbrev pub signed_certificate_timestamp_list : Grammar

@@ -4,10 +4,11 @@
 
 ghost use Rattle.std.specs.Prelude.{◌≡◌};
 ghost use Rattle.der_modules.specs.Asn1.{parse_of};
-ghost use Rattle.der_pkcs.specs.Algorithm.Grammar.{dss_sig_value, signed_certificate_timestamp_list};
+ghost use Rattle.der_pkcs.specs.Algorithm.Grammar.{dh_public_key, dsa_public_key, dss_sig_value, signed_certificate_timestamp_list};
 
 use crate::algorithm::ecdsa_sig_value::EcdsaSigValue;
 use der_elem::Form;
+use der_numbers::UintRef;
 use der_opaque::OctetStringRef;
 
 /// ```text
@@ -18,6 +19,26 @@ pub type DssSigValue<'a> = EcdsaSigValue<'a>;
 /// What is read as `Dss-Sig-Value` is what the page of the grammar says.
 pub fn grammar_of_dss_sig_value<'a>()
     ensures { ⟦<DssSigValue<'a> as Form>⟧.parse ≡ parse_of dss_sig_value }
+{}
+
+/// ```text
+/// DSAPublicKey ::= INTEGER (0..MAX)
+/// ```
+pub type DsaPublicKey<'a> = UintRef<'a>;
+
+/// What is read as `DSAPublicKey` is what the page of the grammar says.
+pub fn grammar_of_dsa_public_key<'a>()
+    ensures { ⟦<DsaPublicKey<'a> as Form>⟧.parse ≡ parse_of dsa_public_key }
+{}
+
+/// ```text
+/// DHPublicKey ::= INTEGER (0..MAX)
+/// ```
+pub type DhPublicKey<'a> = UintRef<'a>;
+
+/// What is read as `DHPublicKey` is what the page of the grammar says.
+pub fn grammar_of_dh_public_key<'a>()
+    ensures { ⟦<DhPublicKey<'a> as Form>⟧.parse ≡ parse_of dh_public_key }
 {}
 
 /// ```text

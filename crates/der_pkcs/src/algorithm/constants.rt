@@ -109,6 +109,27 @@ pub const ID_SHA384: [u8; 9] = [0x60, 0x86, 0x48, 0x01, 0x65, 0x03, 0x04, 0x02, 
 pub const ID_SHA512: [u8; 9] = [0x60, 0x86, 0x48, 0x01, 0x65, 0x03, 0x04, 0x02, 0x03];
 
 /// ```text
+/// id-dsa            OBJECT IDENTIFIER ::= { iso(1) member-body(2) us(840) x9-57(10040) x9cm(4) 1 }
+/// ```
+///
+/// It is 1.2.840.10040.4.1, as contents octets.
+pub const ID_DSA: [u8; 7] = [0x2a, 0x86, 0x48, 0xce, 0x38, 0x04, 0x01];
+
+/// ```text
+/// dhpublicnumber    OBJECT IDENTIFIER ::= { iso(1) member-body(2) us(840) ansi-x942(10046) number-type(2) 1 }
+/// ```
+///
+/// It is 1.2.840.10046.2.1, as contents octets.
+pub const DHPUBLICNUMBER: [u8; 7] = [0x2a, 0x86, 0x48, 0xce, 0x3e, 0x02, 0x01];
+
+/// ```text
+/// dhKeyAgreement    OBJECT IDENTIFIER ::= { rsadsi pkcs(1) 3 1 }
+/// ```
+///
+/// It is 1.2.840.113549.1.3.1, as contents octets.
+pub const DH_KEY_AGREEMENT: [u8; 9] = [0x2a, 0x86, 0x48, 0x86, 0xf7, 0x0d, 0x01, 0x03, 0x01];
+
+/// ```text
 /// ansi-X9-62  OBJECT IDENTIFIER ::= { iso(1) member-body(2) us(840) 10045 }
 /// ```
 ///

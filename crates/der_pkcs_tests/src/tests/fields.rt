@@ -1,9 +1,10 @@
 //! Fields by their names, of values that are read.
 
-use super::same_in;
+use super::{files, same_in};
 use der_asn1_types::FromDer;
 use der_pkcs::algorithm::RsassaPssParams;
 use der_pkcs::encryption::{Pbkdf2Params, Pbkdf2Salt};
+use der_pkcs::pkcs12::{Pfx, SafeBag, SafeContents};
 use std::alloc::Global;
 use std::process::Abort;
 use std::test::Fail;
@@ -75,6 +76,76 @@ fn parameters_of_rsa_have_defaults(rt: HostRuntime) -> Result<(), Fail> {
     for (digits, wanted) in rows {
         let octets = hex::decode(alloc, digits)?;
         let found = pss_told(alloc, octets.as_slice());
+        same_in(&rt, &digits, found, Ok(wanted));
+    }
+    Ok(())
+}
+
+// The version of a file, and of its digest the octets and the iterations.
+fn file_told(alloc: Global, octets: &[u8]) -> Result<(u8, Option<(usize, Option<u32>)>), u8> {
+    match Pfx::from_der(alloc, octets) {
+        Ok(file) => {
+            let digest = match file.mac_data() {
+                Some(data) => Some((data.mac().digest().as_bytes().len(), data.iterations())),
+                None => None,
+            };
+            Ok((file.version(), digest))
+        }
+        Err(e) => Err(e.kind().number()),
+    }
+}
+
+// How many bags stand in the value of a bag, if that is contents of bags itself.
+fn bags_within(alloc: Global, bag: &SafeBag) -> usize {
+    let value = *bag.bag_value();
+    match value.decode_as::<SafeContents>(alloc) {
+        Ok(contents) => contents.as_slice().len(),
+        Err(_) => 0,
+    }
+}
+
+// How many bags there are; of the first, whether it has attributes, and how many bags stand in it.
+fn bags_told(alloc: Global, octets: &[u8]) -> Result<(usize, bool, usize), u8> {
+    match SafeContents::from_der(alloc, octets) {
+        Ok(contents) => {
+            let bags = contents.as_slice();
+            let (has_attributes, within) = match bags.first() {
+                Some(bag) => (bag.bag_attributes().is_some(), bags_within(alloc, bag)),
+                None => (false, 0),
+            };
+            Ok((bags.len(), has_attributes, within))
+        }
+        Err(e) => Err(e.kind().number()),
+    }
+}
+
+#[test]
+fn files_have_digests(rt: HostRuntime) -> Result<(), Fail> {
+    let alloc = rt.alloc();
+    let rows = [
+        (files::ENCRYPTED, (3, Some((32, Some(2048))))),
+        (files::PLAIN, (3, None)),
+        (files::LEGACY, (3, Some((20, None)))),
+    ];
+    for (digits, wanted) in rows {
+        let octets = hex::decode(alloc, digits)?;
+        let found = file_told(alloc, octets.as_slice());
+        same_in(&rt, &digits, found, Ok(wanted));
+    }
+    Ok(())
+}
+
+#[test]
+fn contents_are_bags(rt: HostRuntime) -> Result<(), Fail> {
+    let alloc = rt.alloc();
+    let rows = [
+        ("3000", (0, false, 0)),
+        (files::SHROUDED, (1, true, 0)),
+        (files::NESTED, (1, false, 1)),
+    ];
+    for (digits, wanted) in rows {
+        let octets = hex::decode(alloc, digits)?;
+        let found = bags_told(alloc, octets.as_slice());
         same_in(&rt, &digits, found, Ok(wanted));
     }
     Ok(())

@@ -1,8 +1,11 @@
 //! The types of messages that the tables of rows name, and what is tried of each.
 
 use der_asn1_types::{DerOrd, Duplicate, Encode, Error, FromDer};
-use der_pkcs::algorithm::{EcdsaSigValue, RsaesOaepParams, RsassaPssParams};
+use der_pkcs::algorithm::{
+    DhParameter, DomainParameters, DssParms, EcdsaSigValue, RsaesOaepParams, RsassaPssParams,
+};
 use der_pkcs::encryption::{EncryptedPrivateKeyInfo, PbeParameter, Pbes2Params, Pbkdf2Params};
+use der_pkcs::pkcs12::{AuthenticatedSafe, CertBag, CrlBag, Pfx, SafeContents, SecretBag};
 use std::alloc::Global;
 use std::cmp::Ordering;
 
@@ -16,6 +19,15 @@ pub(super) enum Message {
     RsassaPssParams,
     RsaesOaepParams,
     EcdsaSigValue,
+    DssParms,
+    DomainParameters,
+    DhParameter,
+    Pfx,
+    AuthenticatedSafe,
+    SafeContents,
+    CertBag,
+    CrlBag,
+    SecretBag,
 }
 
 /// What is found of two encodings: that of the first one's value, whether its copy is equal to it,
@@ -98,6 +110,42 @@ fn ecdsa_sig_value(alloc: Global, first: &[u8], second: &[u8]) -> Result<Tried, 
     tried::<EcdsaSigValue>(alloc, first, second)
 }
 
+fn dss_parms(alloc: Global, first: &[u8], second: &[u8]) -> Result<Tried, u8> {
+    tried::<DssParms>(alloc, first, second)
+}
+
+fn domain_parameters(alloc: Global, first: &[u8], second: &[u8]) -> Result<Tried, u8> {
+    tried::<DomainParameters>(alloc, first, second)
+}
+
+fn dh_parameter(alloc: Global, first: &[u8], second: &[u8]) -> Result<Tried, u8> {
+    tried::<DhParameter>(alloc, first, second)
+}
+
+fn pfx(alloc: Global, first: &[u8], second: &[u8]) -> Result<Tried, u8> {
+    tried::<Pfx>(alloc, first, second)
+}
+
+fn authenticated_safe(alloc: Global, first: &[u8], second: &[u8]) -> Result<Tried, u8> {
+    tried::<AuthenticatedSafe>(alloc, first, second)
+}
+
+fn safe_contents(alloc: Global, first: &[u8], second: &[u8]) -> Result<Tried, u8> {
+    tried::<SafeContents>(alloc, first, second)
+}
+
+fn cert_bag(alloc: Global, first: &[u8], second: &[u8]) -> Result<Tried, u8> {
+    tried::<CertBag>(alloc, first, second)
+}
+
+fn crl_bag(alloc: Global, first: &[u8], second: &[u8]) -> Result<Tried, u8> {
+    tried::<CrlBag>(alloc, first, second)
+}
+
+fn secret_bag(alloc: Global, first: &[u8], second: &[u8]) -> Result<Tried, u8> {
+    tried::<SecretBag>(alloc, first, second)
+}
+
 // The same of octets of that type.
 pub(super) fn tried_as(
     message: Message,
@@ -113,5 +161,14 @@ pub(super) fn tried_as(
         Message::RsassaPssParams => rsassa_pss_params(alloc, first, second),
         Message::RsaesOaepParams => rsaes_oaep_params(alloc, first, second),
         Message::EcdsaSigValue => ecdsa_sig_value(alloc, first, second),
+        Message::DssParms => dss_parms(alloc, first, second),
+        Message::DomainParameters => domain_parameters(alloc, first, second),
+        Message::DhParameter => dh_parameter(alloc, first, second),
+        Message::Pfx => pfx(alloc, first, second),
+        Message::AuthenticatedSafe => authenticated_safe(alloc, first, second),
+        Message::SafeContents => safe_contents(alloc, first, second),
+        Message::CertBag => cert_bag(alloc, first, second),
+        Message::CrlBag => crl_bag(alloc, first, second),
+        Message::SecretBag => secret_bag(alloc, first, second),
     }
 }

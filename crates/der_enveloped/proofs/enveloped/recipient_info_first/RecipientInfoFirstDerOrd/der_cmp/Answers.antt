@@ -1,0 +1,6 @@
+-- The order of the first alternatives of RecipientInfo, of two values of one alternative.
+-- Made by tools/asn1 from enveloped.asn1.
+use Rattle.der_enveloped.proofs.enveloped.recipient_info_first.RecipientInfoFirstDerOrd.der_cmp.Goals as goal
+
+pub returns-in-Ktri-Ktri : goal.returns-in-Ktri-Ktri
+returns-in-Ktri-Ktri c = rw c.in-Ktri-Ktri.is-0 (rw c.in-Ktri-Ktri.is-1 c.der_cmp.ensures)

@@ -1,0 +1,3 @@
+-- Made by tools/asn1.
+pub mod Enveloped
+pub mod Authenticated

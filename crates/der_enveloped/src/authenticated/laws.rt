@@ -1,0 +1,8 @@
+//! The laws of CmsAuthenticated: functions that do nothing, and promise what holds of its types.
+//!
+//! Made by tools/asn1 from authenticated.asn1.
+
+pub use crate::authenticated::aliases::{grammar_of_auth_attributes, grammar_of_unauth_attributes};
+pub use crate::authenticated::authenticated_data::{
+    grammar_of_authenticated_data, octets_of_authenticated_data,
+};

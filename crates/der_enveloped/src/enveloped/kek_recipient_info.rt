@@ -1,0 +1,208 @@
+//! KEKRecipientInfo, a SEQUENCE of 4 fields.
+//!
+//! Made by tools/asn1 from enveloped.asn1.
+
+ghost use Rattle.std.specs.Prelude.{◌∷◌, ◌≡◌, [], false, refl};
+ghost use Rattle.der_elem.specs.FormatMakers.{mapped_format};
+ghost use Rattle.der_elem.specs.contracts.integer.unsigned.U8ContentsEq.TheImpl.Laws as u8_contents_eq;
+ghost use Rattle.der_enveloped.specs.Enveloped.Grammar.{kek_recipient_info};
+ghost use Rattle.der_enveloped.specs.Enveloped.KekRecipientInfo as kek_recipient_info_fields;
+ghost use Rattle.der_enveloped.specs.contracts.enveloped.recipient_key_identifier.RecipientKeyIdentifierContentsEq.TheImpl.Laws as recipient_key_identifier_contents_eq;
+ghost use Rattle.der_enveloped.specs.declared.enveloped.kek_recipient_info.KekRecipientInfo.{KekRecipientInfo};
+ghost use Rattle.der_modules.specs.Asn1.{joined, parse_of};
+ghost use Rattle.der_modules.specs.MemberLaws.{member_equality, no_equality, one_tag, one_tag_equality, tagged_starts};
+ghost use Rattle.der_opaque.specs.contracts.octet_string_ref.OctetStringRefContentsEq.TheImpl.Laws as octetstringref_contents_eq;
+ghost use Rattle.der_pkix.specs.contracts.algorithm_identifier.AlgorithmIdentifierContentsEq.TheImpl.Laws as algorithm_identifier_contents_eq;
+
+use crate::enveloped::aliases::KekIdentifier;
+use crate::enveloped::recipient_key_identifier::RecipientKeyIdentifier;
+use der_cms::cms::CmsVersion;
+use der_elem::{
+    ContentsEq, CopyIsDuplicate, DecodeValue, EncodeValue, Form, FormValue, IntegerTag,
+    OctetStringTag, OneTag, Sequence, SequenceTag, TagMarker, ValueOrd,
+};
+use der_fields::{DecodeFields, EncodeFields, End, Field, FieldList, Fields4, FieldsOrd};
+use der_modules::copy_of;
+use der_opaque::OctetStringRef;
+use der_pkix::AlgorithmIdentifier;
+use der_tlv::{BackWriter, Error, Header, Length, Source, Writer};
+use std::alloc::Global;
+use std::cmp::Ordering;
+use std::fmt;
+
+/// The list of the fields.
+type Fields<'a> = Fields4<
+    CmsVersion,
+    KekIdentifier<'a>,
+    AlgorithmIdentifier<'a>,
+    OctetStringRef<'a>,
+>;
+
+/// ```text
+/// KEKRecipientInfo ::= SEQUENCE {
+///      version                 CMSVersion, -- always set to 4
+///      kekid                   KEKIdentifier,
+///      keyEncryptionAlgorithm  AlgorithmIdentifier,
+///      encryptedKey            OCTET STRING }
+/// ```
+///
+/// Reading refuses the first fault of the octets, in their order.
+#[derive(Clone, Copy, PartialEq, Eq)]
+pub struct KekRecipientInfo<'a> {
+    fields: Fields<'a>,
+}
+
+impl<'a> KekRecipientInfo<'a> {
+    ghost use Rattle.der_enveloped.specs.Enveloped.KekRecipientInfo as kek_recipient_info_fields;
+
+    /// A value of these fields.
+    pub fn new(
+        version: CmsVersion,
+        kekid: &KekIdentifier<'a>,
+        key_encryption_algorithm: &AlgorithmIdentifier<'a>,
+        encrypted_key: OctetStringRef<'a>,
+    ) -> KekRecipientInfo<'a>
+        ensures version { kek_recipient_info_fields.version result ≡ version }
+        ensures kekid { kek_recipient_info_fields.kekid result ≡ kekid.now }
+        ensures key_encryption_algorithm { kek_recipient_info_fields.key_encryption_algorithm result ≡ key_encryption_algorithm.now }
+        ensures encrypted_key { kek_recipient_info_fields.encrypted_key result ≡ encrypted_key.entry }
+    {
+        let first = encrypted_key;
+        let rest = Field { first, rest: End };
+        let first = copy_of(key_encryption_algorithm);
+        let rest = Field { first, rest };
+        let first = copy_of(kekid);
+        let rest = Field { first, rest };
+        let first = version;
+        let list = Field { first, rest };
+        let fields = Fields4 { list };
+        KekRecipientInfo { fields }
+    }
+
+    /// `version`, `CMSVersion`.
+    pub fn version(&self) -> CmsVersion
+        ensures { result ≡ kek_recipient_info_fields.version self.now }
+    {
+        self.fields.list.first
+    }
+
+    /// `kekid`, `KEKIdentifier`.
+    pub fn kekid(&self) -> &KekIdentifier<'a>
+        ensures { result.now ≡ kek_recipient_info_fields.kekid self.now }
+    {
+        &self.fields.list.rest.first
+    }
+
+    /// `keyEncryptionAlgorithm`, `AlgorithmIdentifier`.
+    pub fn key_encryption_algorithm(&self) -> &AlgorithmIdentifier<'a>
+        ensures { result.now ≡ kek_recipient_info_fields.key_encryption_algorithm self.now }
+    {
+        &self.fields.list.rest.rest.first
+    }
+
+    /// `encryptedKey`, `OCTET STRING`.
+    pub fn encrypted_key(&self) -> &OctetStringRef<'a>
+        ensures { result.now ≡ kek_recipient_info_fields.encrypted_key self.now }
+    {
+        &self.fields.list.rest.rest.rest.first
+    }
+}
+
+impl<'a> fmt::Debug for KekRecipientInfo<'a> {
+    fn fmt<W: fmt::Write>(&self, f: &mut fmt::Formatter<W>) -> fmt::Result {
+        f.debug_struct("KekRecipientInfo")
+            .field("version", &self.version())
+            .field("kekid", self.kekid())
+            .field("key_encryption_algorithm", self.key_encryption_algorithm())
+            .field("encrypted_key", self.encrypted_key())
+            .finish()
+    }
+}
+
+impl<'a> OneTag for KekRecipientInfo<'a> {
+    type Marker = SequenceTag;
+}
+
+impl<'a> Sequence<'a> for KekRecipientInfo<'a> {
+    ghost is_sequence = { refl };
+}
+
+impl<'a> FormValue for KekRecipientInfo<'a> {
+    ghost value = { mapped_format (λ v. v.fields) ⟦<Fields<'a> as FieldList>⟧.list.octets };
+}
+
+impl<'a, R: Source<'a>> DecodeValue<'a, R> for KekRecipientInfo<'a> {
+    ghost TAKES_MEMORY = { false };
+
+    const TAKES_MEMORY: bool = false;
+
+    fn decode_value(
+        alloc: Global,
+        reader: &mut R,
+        _header: Header,
+    ) -> Result<KekRecipientInfo<'a>, Error> {
+        match Fields::<'a>::decode_fields(alloc, reader) {
+            Ok(fields) => Ok(KekRecipientInfo { fields }),
+            Err(e) => Err(e),
+        }
+    }
+
+    ghost takes_memory_is = { refl };
+}
+
+impl<'a> EncodeValue for KekRecipientInfo<'a> {
+    fn value_len(&self) -> Result<Length, Error> {
+        self.fields.fields_len()
+    }
+
+    fn encode_value<W: Writer>(&self, writer: &mut W) -> Result<(), Error> {
+        self.fields.encode_fields(writer)
+    }
+
+    fn encode_value_back<W: BackWriter>(&self, writer: &mut W) -> Result<(), Error> {
+        self.fields.encode_fields_back(writer)
+    }
+}
+
+impl<'a> ValueOrd for KekRecipientInfo<'a> {
+    fn value_cmp(&self, other: &KekRecipientInfo<'a>) -> Result<Ordering, Error> {
+        self.fields.cmp_fields(&other.fields)
+    }
+}
+
+impl<'a> ContentsEq for KekRecipientInfo<'a> {
+    ghost contents_eq = { λ v w. (member_equality ⟦<CmsVersion as Form>⟧
+        (tagged_starts ⟦<CmsVersion as Form>⟧ (one_tag ⟦<IntegerTag as TagMarker>⟧.TAG ⟦<u8 as FormValue>⟧.value.contents))
+        ⟦<CmsVersion as PartialEq>⟧.eq
+        (one_tag_equality ⟦<IntegerTag as TagMarker>⟧.TAG ⟦<u8 as FormValue>⟧.value.contents ⟦<u8 as FormValue>⟧.value.comparable ⟦<u8 as PartialEq>⟧.eq u8_contents_eq.contents_eq-law)
+        (member_equality ⟦<KekIdentifier<'a> as Form>⟧
+        (tagged_starts ⟦<KekIdentifier<'a> as Form>⟧ (one_tag ⟦<SequenceTag as TagMarker>⟧.TAG ⟦<RecipientKeyIdentifier<'a> as FormValue>⟧.value.contents))
+        ⟦<KekIdentifier<'a> as PartialEq>⟧.eq
+        (one_tag_equality ⟦<SequenceTag as TagMarker>⟧.TAG ⟦<RecipientKeyIdentifier<'a> as FormValue>⟧.value.contents ⟦<RecipientKeyIdentifier<'a> as FormValue>⟧.value.comparable ⟦<RecipientKeyIdentifier<'a> as PartialEq>⟧.eq recipient_key_identifier_contents_eq.contents_eq-law)
+        (member_equality ⟦<AlgorithmIdentifier<'a> as Form>⟧
+        (tagged_starts ⟦<AlgorithmIdentifier<'a> as Form>⟧ (one_tag ⟦<SequenceTag as TagMarker>⟧.TAG ⟦<AlgorithmIdentifier<'a> as FormValue>⟧.value.contents))
+        ⟦<AlgorithmIdentifier<'a> as PartialEq>⟧.eq
+        (one_tag_equality ⟦<SequenceTag as TagMarker>⟧.TAG ⟦<AlgorithmIdentifier<'a> as FormValue>⟧.value.contents ⟦<AlgorithmIdentifier<'a> as FormValue>⟧.value.comparable ⟦<AlgorithmIdentifier<'a> as PartialEq>⟧.eq algorithm_identifier_contents_eq.contents_eq-law)
+        (member_equality ⟦<OctetStringRef<'a> as Form>⟧
+        (tagged_starts ⟦<OctetStringRef<'a> as Form>⟧ (one_tag ⟦<OctetStringTag as TagMarker>⟧.TAG ⟦<OctetStringRef<'a> as FormValue>⟧.value.contents))
+        ⟦<OctetStringRef<'a> as PartialEq>⟧.eq
+        (one_tag_equality ⟦<OctetStringTag as TagMarker>⟧.TAG ⟦<OctetStringRef<'a> as FormValue>⟧.value.contents ⟦<OctetStringRef<'a> as FormValue>⟧.value.comparable ⟦<OctetStringRef<'a> as PartialEq>⟧.eq octetstringref_contents_eq.contents_eq-law)
+        no_equality)))).equal v.fields.list w.fields.list };
+}
+
+impl<'a> CopyIsDuplicate for KekRecipientInfo<'a> {}
+
+/// What is read as `KEKRecipientInfo` is what the page of the grammar says.
+pub fn grammar_of_kek_recipient_info<'a>()
+    ensures { ⟦<KekRecipientInfo<'a> as Form>⟧.parse ≡ parse_of kek_recipient_info }
+{}
+
+/// The contents octets of `KEKRecipientInfo` are the encodings of its fields, one after another.
+pub fn octets_of_kek_recipient_info<'a>()
+    ensures { (v : KekRecipientInfo) → ⟦<KekRecipientInfo<'a> as FormValue>⟧.value.contents v ≡ joined (
+        (⟦<CmsVersion as Form>⟧.encoding (kek_recipient_info_fields.version v))
+        ∷ (⟦<KekIdentifier<'a> as Form>⟧.encoding (kek_recipient_info_fields.kekid v))
+        ∷ (⟦<AlgorithmIdentifier<'a> as Form>⟧.encoding (kek_recipient_info_fields.key_encryption_algorithm v))
+        ∷ (⟦<OctetStringRef<'a> as Form>⟧.encoding (kek_recipient_info_fields.encrypted_key v))
+        ∷ []) }
+{}

@@ -1,0 +1,8 @@
+//! The types of CmsEnveloped, CmsAuthenticated.
+//!
+//! Made by tools/asn1.
+#![tactic(auto)]
+
+pub mod authenticated;
+pub mod enveloped;
+pub mod parts;

@@ -1,0 +1,2 @@
+-- Made by tools/asn1.
+pub mod TimeStamp

@@ -1,0 +1,369 @@
+//! TimeStampReq, a SEQUENCE of 6 fields.
+//!
+//! Made by tools/asn1 from time_stamp.asn1.
+
+ghost use Rattle.std.proofs.Common.{lit<};
+ghost use Rattle.std.specs.Prelude.{◌∷◌, ◌≡◌, [], refl, true};
+ghost use Rattle.der_elem.specs.FormatMakers.{mapped_format};
+ghost use Rattle.der_elem.specs.contracts.boolean.BoolContentsEq.TheImpl.Laws as bool_contents_eq;
+ghost use Rattle.der_elem.specs.contracts.integer.unsigned.U8ContentsEq.TheImpl.Laws as u8_contents_eq;
+ghost use Rattle.der_modules.specs.Asn1.{context, implicit_encoding, joined, optional, parse_of, unless_default};
+ghost use Rattle.der_modules.specs.MemberLaws.{copies_of, default_copies, default_equality, default_starts, held_copies, listed_copies, member_copies, member_equality, no_copies, no_equality, one_tag, one_tag_copies, one_tag_equality, optional_copies, optional_equality, optional_starts, same_copies, tagged_starts};
+ghost use Rattle.der_numbers.specs.contracts.int_ref.IntRefContentsEq.TheImpl.Laws as intref_contents_eq;
+ghost use Rattle.der_opaque.specs.contracts.object_identifier_ref.ObjectIdentifierRefContentsEq.TheImpl.Laws as objectidentifierref_contents_eq;
+ghost use Rattle.der_pkix.specs.contracts.certificate.extensions.ExtensionsContentsEq.TheImpl.Laws as extensions_contents_eq;
+ghost use Rattle.der_pkix.specs.contracts.certificate.extensions.ExtensionsDuplicateValue.TheImpl.Laws as extensions_duplicate_value;
+ghost use Rattle.der_pkix.specs.contracts.certificate.extensions.ExtensionsDuplicateValueIsEqual.TheImpl.Laws as extensions_duplicate_value_is_equal;
+ghost use Rattle.der_time_stamp.specs.TimeStamp.Grammar.{time_stamp_req};
+ghost use Rattle.der_time_stamp.specs.TimeStamp.TimeStampReq as time_stamp_req_fields;
+ghost use Rattle.der_time_stamp.specs.contracts.time_stamp.message_imprint.MessageImprintContentsEq.TheImpl.Laws as message_imprint_contents_eq;
+ghost use Rattle.der_time_stamp.specs.contracts.time_stamp.message_imprint.MessageImprintEq.TheImpl.Laws as message_imprint_eq;
+ghost use Rattle.der_time_stamp.specs.declared.time_stamp.time_stamp_req.TimeStampReq.{TimeStampReq};
+
+use crate::time_stamp::aliases::{TimeStampReqVersion, TsaPolicyId};
+use crate::time_stamp::message_imprint::MessageImprint;
+use der_elem::{
+    BooleanTag, ContentsEq, DecodeValue, DuplicateValue, DuplicateValueIsEqual, EncodeValue, Form,
+    FormValue, IntegerTag, ObjectIdentifierTag, OneTag, Sequence, SequenceTag, TagMarker, ValueOrd,
+};
+use der_fields::{
+    DecodeFields, DefaultFalse, DefaultOf, DuplicateFields, EncodeFields, End, Field, FieldList,
+    Fields6, FieldsOrd, Implicit, ImplicitTag, WithDefault,
+};
+use der_modules::{CopyLaws, copy_of};
+use der_numbers::IntRef;
+use der_opaque::ObjectIdentifierRef;
+use der_pkix::certificate::Extensions;
+use der_tlv::{BackWriter, Error, Header, Length, Source, Writer};
+use std::alloc::Global;
+use std::cmp::Ordering;
+use std::fmt;
+
+/// The list of the fields.
+type Fields<'a> = Fields6<
+    TimeStampReqVersion,
+    MessageImprint<'a>,
+    Option<TsaPolicyId<'a>>,
+    Option<IntRef<'a>>,
+    WithDefault<bool, DefaultFalse>,
+    Option<Implicit<Extensions<'a>, 0>>,
+>;
+
+/// ```text
+/// TimeStampReq ::= SEQUENCE {
+///      version         INTEGER { v1(1) },
+///      messageImprint  MessageImprint,
+///      reqPolicy       TSAPolicyId OPTIONAL,
+///      nonce           INTEGER OPTIONAL,
+///      certReq         BOOLEAN DEFAULT FALSE,
+///      extensions      [0] IMPLICIT Extensions OPTIONAL }
+/// ```
+///
+/// Reading refuses the first fault of the octets, in their order; `ErrorKind::Memory` (1) where
+/// memory runs out.
+#[derive(PartialEq, Eq, Drop)]
+pub struct TimeStampReq<'a> {
+    fields: Fields<'a>,
+}
+
+impl<'a> TimeStampReq<'a> {
+    ghost use Rattle.der_time_stamp.specs.TimeStamp.TimeStampReq as time_stamp_req_fields;
+    ghost use Rattle.std.specs.Prelude.{option_copied};
+
+    /// A value of these fields.
+    pub fn new(
+        version: TimeStampReqVersion,
+        message_imprint: &MessageImprint<'a>,
+        req_policy: Option<TsaPolicyId<'a>>,
+        nonce: Option<IntRef<'a>>,
+        cert_req: bool,
+        extensions: Option<Extensions<'a>>,
+    ) -> TimeStampReq<'a>
+        ensures version { time_stamp_req_fields.version result ≡ version }
+        ensures message_imprint { time_stamp_req_fields.message_imprint result ≡ message_imprint.now }
+        ensures req_policy { time_stamp_req_fields.req_policy result ≡ req_policy.entry }
+        ensures nonce { time_stamp_req_fields.nonce result ≡ nonce.entry }
+        ensures cert_req { time_stamp_req_fields.cert_req result ≡ cert_req }
+        ensures extensions { time_stamp_req_fields.extensions result ≡ extensions.entry }
+    {
+        let first = match extensions {
+            Some(value) => Some(Implicit { value }),
+            None => None,
+        };
+        let rest = Field { first, rest: End };
+        let first = WithDefault::new(cert_req);
+        let rest = Field { first, rest };
+        let first = nonce;
+        let rest = Field { first, rest };
+        let first = req_policy;
+        let rest = Field { first, rest };
+        let first = copy_of(message_imprint);
+        let rest = Field { first, rest };
+        let first = version;
+        let list = Field { first, rest };
+        let fields = Fields6 { list };
+        TimeStampReq { fields }
+    }
+
+    /// The values of the fields, in their order.
+    pub fn into_parts(
+        self,
+    ) -> (
+        TimeStampReqVersion,
+        MessageImprint<'a>,
+        Option<TsaPolicyId<'a>>,
+        Option<IntRef<'a>>,
+        bool,
+        Option<Extensions<'a>>,
+    )
+        ensures version { time_stamp_req_fields.version self.entry ≡ result.0 }
+        ensures message_imprint { time_stamp_req_fields.message_imprint self.entry ≡ result.1 }
+        ensures req_policy { time_stamp_req_fields.req_policy self.entry ≡ result.2 }
+        ensures nonce { time_stamp_req_fields.nonce self.entry ≡ result.3 }
+        ensures cert_req { time_stamp_req_fields.cert_req self.entry ≡ result.4 }
+        ensures extensions { time_stamp_req_fields.extensions self.entry ≡ result.5 }
+    {
+        let Fields6 { list } = self.fields;
+        let Field {
+            first: version,
+            rest,
+        } = list;
+        let Field {
+            first: message_imprint,
+            rest,
+        } = rest;
+        let Field {
+            first: req_policy,
+            rest,
+        } = rest;
+        let Field { first: nonce, rest } = rest;
+        let Field {
+            first: cert_req,
+            rest,
+        } = rest;
+        let Field {
+            first: extensions,
+            ..
+        } = rest;
+        let cert_req = cert_req.value;
+        let extensions = match extensions {
+            Some(tagged) => Some(tagged.value),
+            None => None,
+        };
+        (
+            version,
+            message_imprint,
+            req_policy,
+            nonce,
+            cert_req,
+            extensions,
+        )
+    }
+
+    /// `version`, `INTEGER { v1 (1) }`.
+    pub fn version(&self) -> TimeStampReqVersion
+        ensures { result ≡ time_stamp_req_fields.version self.now }
+    {
+        self.fields.list.first
+    }
+
+    /// `messageImprint`, `MessageImprint`.
+    pub fn message_imprint(&self) -> &MessageImprint<'a>
+        ensures { result.now ≡ time_stamp_req_fields.message_imprint self.now }
+    {
+        &self.fields.list.rest.first
+    }
+
+    /// `reqPolicy`, `TSAPolicyId OPTIONAL`.
+    pub fn req_policy(&self) -> Option<&TsaPolicyId<'a>>
+        ensures { option_copied result ≡ time_stamp_req_fields.req_policy self.now }
+    {
+        match &self.fields.list.rest.rest.first {
+            Some(value) => Some(value),
+            None => None,
+        }
+    }
+
+    /// `nonce`, `INTEGER OPTIONAL`.
+    pub fn nonce(&self) -> Option<&IntRef<'a>>
+        ensures { option_copied result ≡ time_stamp_req_fields.nonce self.now }
+    {
+        match &self.fields.list.rest.rest.rest.first {
+            Some(value) => Some(value),
+            None => None,
+        }
+    }
+
+    /// `certReq`, `BOOLEAN DEFAULT FALSE`.
+    pub fn cert_req(&self) -> bool
+        ensures { result ≡ time_stamp_req_fields.cert_req self.now }
+    {
+        self.fields.list.rest.rest.rest.rest.first.value
+    }
+
+    /// `extensions`, `[0] IMPLICIT Extensions OPTIONAL`.
+    pub fn extensions(&self) -> Option<&Extensions<'a>>
+        ensures { option_copied result ≡ time_stamp_req_fields.extensions self.now }
+    {
+        match &self.fields.list.rest.rest.rest.rest.rest.first {
+            Some(value) => Some(&value.value),
+            None => None,
+        }
+    }
+}
+
+impl<'a> fmt::Debug for TimeStampReq<'a> {
+    fn fmt<W: fmt::Write>(&self, f: &mut fmt::Formatter<W>) -> fmt::Result {
+        f.debug_struct("TimeStampReq")
+            .field("version", &self.version())
+            .field("message_imprint", self.message_imprint())
+            .field("req_policy", &self.req_policy())
+            .field("nonce", &self.nonce())
+            .field("cert_req", &self.cert_req())
+            .field("extensions", &self.extensions())
+            .finish()
+    }
+}
+
+impl<'a> OneTag for TimeStampReq<'a> {
+    type Marker = SequenceTag;
+}
+
+impl<'a> Sequence<'a> for TimeStampReq<'a> {
+    ghost is_sequence = { refl };
+}
+
+impl<'a> FormValue for TimeStampReq<'a> {
+    ghost value = { mapped_format (λ v. v.fields) ⟦<Fields<'a> as FieldList>⟧.list.octets };
+}
+
+impl<'a, R: Source<'a>> DecodeValue<'a, R> for TimeStampReq<'a> {
+    ghost TAKES_MEMORY = { true };
+
+    const TAKES_MEMORY: bool = true;
+
+    fn decode_value(
+        alloc: Global,
+        reader: &mut R,
+        _header: Header,
+    ) -> Result<TimeStampReq<'a>, Error> {
+        match Fields::<'a>::decode_fields(alloc, reader) {
+            Ok(fields) => Ok(TimeStampReq { fields }),
+            Err(e) => Err(e),
+        }
+    }
+
+    ghost takes_memory_is = { refl };
+}
+
+impl<'a> EncodeValue for TimeStampReq<'a> {
+    fn value_len(&self) -> Result<Length, Error> {
+        self.fields.fields_len()
+    }
+
+    fn encode_value<W: Writer>(&self, writer: &mut W) -> Result<(), Error> {
+        self.fields.encode_fields(writer)
+    }
+
+    fn encode_value_back<W: BackWriter>(&self, writer: &mut W) -> Result<(), Error> {
+        self.fields.encode_fields_back(writer)
+    }
+}
+
+impl<'a> ValueOrd for TimeStampReq<'a> {
+    fn value_cmp(&self, other: &TimeStampReq<'a>) -> Result<Ordering, Error> {
+        self.fields.cmp_fields(&other.fields)
+    }
+}
+
+impl<'a> ContentsEq for TimeStampReq<'a> {
+    ghost contents_eq = { λ v w. (member_equality ⟦<TimeStampReqVersion as Form>⟧
+        (tagged_starts ⟦<TimeStampReqVersion as Form>⟧ (one_tag ⟦<IntegerTag as TagMarker>⟧.TAG ⟦<u8 as FormValue>⟧.value.contents))
+        ⟦<TimeStampReqVersion as PartialEq>⟧.eq
+        (one_tag_equality ⟦<IntegerTag as TagMarker>⟧.TAG ⟦<u8 as FormValue>⟧.value.contents ⟦<u8 as FormValue>⟧.value.comparable ⟦<u8 as PartialEq>⟧.eq u8_contents_eq.contents_eq-law)
+        (member_equality ⟦<MessageImprint<'a> as Form>⟧
+        (tagged_starts ⟦<MessageImprint<'a> as Form>⟧ (one_tag ⟦<SequenceTag as TagMarker>⟧.TAG ⟦<MessageImprint<'a> as FormValue>⟧.value.contents))
+        ⟦<MessageImprint<'a> as PartialEq>⟧.eq
+        (one_tag_equality ⟦<SequenceTag as TagMarker>⟧.TAG ⟦<MessageImprint<'a> as FormValue>⟧.value.contents ⟦<MessageImprint<'a> as FormValue>⟧.value.comparable ⟦<MessageImprint<'a> as PartialEq>⟧.eq message_imprint_contents_eq.contents_eq-law)
+        (member_equality ⟦<Option<TsaPolicyId<'a>> as Form>⟧
+        (optional_starts ⟦<TsaPolicyId<'a> as Form>⟧ (one_tag ⟦<ObjectIdentifierTag as TagMarker>⟧.TAG ⟦<ObjectIdentifierRef<'a, 39> as FormValue>⟧.value.contents))
+        ⟦<Option<TsaPolicyId<'a>> as PartialEq>⟧.eq
+        (optional_equality ⟦<TsaPolicyId<'a> as Form>⟧ (one_tag ⟦<ObjectIdentifierTag as TagMarker>⟧.TAG ⟦<ObjectIdentifierRef<'a, 39> as FormValue>⟧.value.contents) ⟦<TsaPolicyId<'a> as PartialEq>⟧.eq (one_tag_equality ⟦<ObjectIdentifierTag as TagMarker>⟧.TAG ⟦<ObjectIdentifierRef<'a, 39> as FormValue>⟧.value.contents ⟦<ObjectIdentifierRef<'a, 39> as FormValue>⟧.value.comparable ⟦<ObjectIdentifierRef<'a, 39> as PartialEq>⟧.eq (objectidentifierref_contents_eq.contents_eq-law 39 (record { fits = lit< tt }))))
+        (member_equality ⟦<Option<IntRef<'a>> as Form>⟧
+        (optional_starts ⟦<IntRef<'a> as Form>⟧ (one_tag ⟦<IntegerTag as TagMarker>⟧.TAG ⟦<IntRef<'a> as FormValue>⟧.value.contents))
+        ⟦<Option<IntRef<'a>> as PartialEq>⟧.eq
+        (optional_equality ⟦<IntRef<'a> as Form>⟧ (one_tag ⟦<IntegerTag as TagMarker>⟧.TAG ⟦<IntRef<'a> as FormValue>⟧.value.contents) ⟦<IntRef<'a> as PartialEq>⟧.eq (one_tag_equality ⟦<IntegerTag as TagMarker>⟧.TAG ⟦<IntRef<'a> as FormValue>⟧.value.contents ⟦<IntRef<'a> as FormValue>⟧.value.comparable ⟦<IntRef<'a> as PartialEq>⟧.eq intref_contents_eq.contents_eq-law))
+        (member_equality ⟦<WithDefault<bool, DefaultFalse> as Form>⟧
+        (default_starts ⟦<bool as Form>⟧ (one_tag ⟦<BooleanTag as TagMarker>⟧.TAG ⟦<bool as FormValue>⟧.value.contents) (λ x. x.value) ⟦<DefaultFalse as DefaultOf<bool>>⟧.octets)
+        ⟦<WithDefault<bool, DefaultFalse> as PartialEq>⟧.eq
+        (default_equality ⟦<bool as Form>⟧ (one_tag ⟦<BooleanTag as TagMarker>⟧.TAG ⟦<bool as FormValue>⟧.value.contents) (λ x. x.value) ⟦<DefaultFalse as DefaultOf<bool>>⟧.octets ⟦<bool as PartialEq>⟧.eq (one_tag_equality ⟦<BooleanTag as TagMarker>⟧.TAG ⟦<bool as FormValue>⟧.value.contents ⟦<bool as FormValue>⟧.value.comparable ⟦<bool as PartialEq>⟧.eq bool_contents_eq.contents_eq-law))
+        (member_equality ⟦<Option<Implicit<Extensions<'a>, 0>> as Form>⟧
+        (optional_starts ⟦<Implicit<Extensions<'a>, 0> as Form>⟧ (one_tag ⟦<ImplicitTag<SequenceTag, 0> as TagMarker>⟧.TAG ⟦<Implicit<Extensions<'a>, 0> as FormValue>⟧.value.contents))
+        ⟦<Option<Implicit<Extensions<'a>, 0>> as PartialEq>⟧.eq
+        (optional_equality ⟦<Implicit<Extensions<'a>, 0> as Form>⟧ (one_tag ⟦<ImplicitTag<SequenceTag, 0> as TagMarker>⟧.TAG ⟦<Implicit<Extensions<'a>, 0> as FormValue>⟧.value.contents) ⟦<Implicit<Extensions<'a>, 0> as PartialEq>⟧.eq (one_tag_equality ⟦<ImplicitTag<SequenceTag, 0> as TagMarker>⟧.TAG ⟦<Implicit<Extensions<'a>, 0> as FormValue>⟧.value.contents ⟦<Implicit<Extensions<'a>, 0> as FormValue>⟧.value.comparable ⟦<Implicit<Extensions<'a>, 0> as PartialEq>⟧.eq (λ v w. (extensions_contents_eq.contents_eq-law v.value w.value))))
+        no_equality)))))).equal v.fields.list w.fields.list };
+}
+
+impl<'a> CopyLaws for TimeStampReq<'a> {
+    ghost copies = { copies_of (held_copies (λ v. v.fields.list)
+        (listed_copies (member_copies ⟦<TimeStampReqVersion as Form>⟧
+        (tagged_starts ⟦<TimeStampReqVersion as Form>⟧ (one_tag ⟦<IntegerTag as TagMarker>⟧.TAG ⟦<u8 as FormValue>⟧.value.contents))
+        (one_tag_copies ⟦<IntegerTag as TagMarker>⟧.TAG (same_copies ⟦<u8 as FormValue>⟧.value.contents ⟦<u8 as FormValue>⟧.value.comparable ⟦<u8 as FormValue>⟧.value.re_reads ⟦<u8 as PartialEq>⟧.eq (λ v. (u8_contents_eq.contents_eq-law v v tt).1 refl)))
+        (member_copies ⟦<MessageImprint<'a> as Form>⟧
+        (tagged_starts ⟦<MessageImprint<'a> as Form>⟧ (one_tag ⟦<SequenceTag as TagMarker>⟧.TAG ⟦<MessageImprint<'a> as FormValue>⟧.value.contents))
+        (one_tag_copies ⟦<SequenceTag as TagMarker>⟧.TAG (same_copies ⟦<MessageImprint<'a> as FormValue>⟧.value.contents ⟦<MessageImprint<'a> as FormValue>⟧.value.comparable ⟦<MessageImprint<'a> as FormValue>⟧.value.re_reads ⟦<MessageImprint<'a> as PartialEq>⟧.eq message_imprint_eq.laws-law.refl))
+        (member_copies ⟦<Option<TsaPolicyId<'a>> as Form>⟧
+        (optional_starts ⟦<TsaPolicyId<'a> as Form>⟧ (one_tag ⟦<ObjectIdentifierTag as TagMarker>⟧.TAG ⟦<ObjectIdentifierRef<'a, 39> as FormValue>⟧.value.contents))
+        (optional_copies ⟦<TsaPolicyId<'a> as Form>⟧ (one_tag_copies ⟦<ObjectIdentifierTag as TagMarker>⟧.TAG (same_copies ⟦<ObjectIdentifierRef<'a, 39> as FormValue>⟧.value.contents ⟦<ObjectIdentifierRef<'a, 39> as FormValue>⟧.value.comparable ⟦<ObjectIdentifierRef<'a, 39> as FormValue>⟧.value.re_reads ⟦<ObjectIdentifierRef<'a, 39> as PartialEq>⟧.eq (λ v. ((objectidentifierref_contents_eq.contents_eq-law 39 (record { fits = lit< tt })) v v tt).1 refl))))
+        (member_copies ⟦<Option<IntRef<'a>> as Form>⟧
+        (optional_starts ⟦<IntRef<'a> as Form>⟧ (one_tag ⟦<IntegerTag as TagMarker>⟧.TAG ⟦<IntRef<'a> as FormValue>⟧.value.contents))
+        (optional_copies ⟦<IntRef<'a> as Form>⟧ (one_tag_copies ⟦<IntegerTag as TagMarker>⟧.TAG (same_copies ⟦<IntRef<'a> as FormValue>⟧.value.contents ⟦<IntRef<'a> as FormValue>⟧.value.comparable ⟦<IntRef<'a> as FormValue>⟧.value.re_reads ⟦<IntRef<'a> as PartialEq>⟧.eq (λ v. (intref_contents_eq.contents_eq-law v v tt).1 refl))))
+        (member_copies ⟦<WithDefault<bool, DefaultFalse> as Form>⟧
+        (default_starts ⟦<bool as Form>⟧ (one_tag ⟦<BooleanTag as TagMarker>⟧.TAG ⟦<bool as FormValue>⟧.value.contents) (λ x. x.value) ⟦<DefaultFalse as DefaultOf<bool>>⟧.octets)
+        (default_copies ⟦<bool as Form>⟧ (one_tag_copies ⟦<BooleanTag as TagMarker>⟧.TAG (same_copies ⟦<bool as FormValue>⟧.value.contents ⟦<bool as FormValue>⟧.value.comparable ⟦<bool as FormValue>⟧.value.re_reads ⟦<bool as PartialEq>⟧.eq (λ v. (bool_contents_eq.contents_eq-law v v tt).1 refl))) (λ x. x.value) ⟦<DefaultFalse as DefaultOf<bool>>⟧.octets)
+        (member_copies ⟦<Option<Implicit<Extensions<'a>, 0>> as Form>⟧
+        (optional_starts ⟦<Implicit<Extensions<'a>, 0> as Form>⟧ (one_tag ⟦<ImplicitTag<SequenceTag, 0> as TagMarker>⟧.TAG ⟦<Implicit<Extensions<'a>, 0> as FormValue>⟧.value.contents))
+        (optional_copies ⟦<Implicit<Extensions<'a>, 0> as Form>⟧ (one_tag_copies ⟦<ImplicitTag<SequenceTag, 0> as TagMarker>⟧.TAG (held_copies (λ x. x.value) (record { octets_are = extensions_duplicate_value.copy_contents-law; comparable_are = extensions_duplicate_value.copy_comparable_value-law; re_reads_are = extensions_duplicate_value.copy_re_reads_value-law; equal_are = extensions_duplicate_value_is_equal.copy_value_is_equal-law }))))
+        no_copies)))))))) };
+}
+
+impl<'a> DuplicateValue for TimeStampReq<'a> {
+    ghost is_copy_value = { λ v w. ⟦<Fields<'a> as DuplicateFields>⟧.are_copies v.fields w.fields };
+
+    ghost takes_memory_to_copy_value = { ⟦<Fields<'a> as DuplicateFields>⟧.take_memory_to_copy };
+
+    fn duplicate_value(&self) -> Result<TimeStampReq<'a>, Error> {
+        match self.fields.duplicate_fields() {
+            Ok(fields) => Ok(TimeStampReq { fields }),
+            Err(e) => Err(e),
+        }
+    }
+
+    ghost copy_contents = { ⟦<TimeStampReq<'a> as CopyLaws>⟧.copies.laws.octets_are };
+
+    ghost copy_comparable_value = { ⟦<TimeStampReq<'a> as CopyLaws>⟧.copies.laws.comparable_are };
+
+    ghost copy_re_reads_value = { ⟦<TimeStampReq<'a> as CopyLaws>⟧.copies.laws.re_reads_are };
+}
+
+impl<'a> DuplicateValueIsEqual for TimeStampReq<'a> {
+    ghost copy_value_is_equal = { ⟦<TimeStampReq<'a> as CopyLaws>⟧.copies.laws.equal_are };
+}
+
+/// What is read as `TimeStampReq` is what the page of the grammar says.
+pub fn grammar_of_time_stamp_req<'a>()
+    ensures { ⟦<TimeStampReq<'a> as Form>⟧.parse ≡ parse_of time_stamp_req }
+{}
+
+/// The contents octets of `TimeStampReq` are the encodings of its fields, one after another.
+#[tactic(auto, using(der_modules::specs::Asn1::optional_of))]
+pub fn octets_of_time_stamp_req<'a>()
+    ensures { (v : TimeStampReq) → ⟦<TimeStampReq<'a> as FormValue>⟧.value.contents v ≡ joined (
+        (⟦<TimeStampReqVersion as Form>⟧.encoding (time_stamp_req_fields.version v))
+        ∷ (⟦<MessageImprint<'a> as Form>⟧.encoding (time_stamp_req_fields.message_imprint v))
+        ∷ optional (λ x. (⟦<TsaPolicyId<'a> as Form>⟧.encoding x)) (time_stamp_req_fields.req_policy v)
+        ∷ optional (λ x. (⟦<IntRef<'a> as Form>⟧.encoding x)) (time_stamp_req_fields.nonce v)
+        ∷ unless_default ⟦<DefaultFalse as DefaultOf<bool>>⟧.octets (⟦<bool as Form>⟧.encoding (time_stamp_req_fields.cert_req v))
+        ∷ optional (λ x. (implicit_encoding context true 0 (⟦<Extensions<'a> as FormValue>⟧.value.contents x))) (time_stamp_req_fields.extensions v)
+        ∷ []) }
+{}
