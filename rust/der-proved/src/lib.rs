@@ -15,7 +15,7 @@
 //!             println!("{:02x?} {}", extension.identifier(), extension.is_critical());
 //!         }
 //!     }
-//!     Err(error) => assert_eq!(error.to_string(), "another tag is expected (4), behind 2 octets"),
+//!     Err(error) => assert_eq!(error.number(), 4),
 //! }
 //! ```
 #![no_std]

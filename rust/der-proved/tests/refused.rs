@@ -45,6 +45,6 @@ fn octets_of_any_kind_give_some_of_them() {
 #[test]
 fn an_error_says_where() {
     let error = Certificate::from_der(&[0x02, 0x01, 0x05]).unwrap_err();
-    assert_eq!((error.number(), error.position()), (4, Some(0)));
-    assert_eq!(error.to_string(), "another tag is expected (4), behind 0 octets");
+    assert_eq!((error.number(), error.position()), (4, Some(2)));
+    assert_eq!(error.to_string(), "another tag is expected (4), behind 2 octets");
 }

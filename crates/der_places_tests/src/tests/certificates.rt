@@ -21,10 +21,7 @@ const WITH_UNIQUE: &str =
     "3081ca307e020101300506032b6570300f310d300b06035504030c046d696c6c3020170d3439313233313233353935395a180f32303530303130313030303030305a300f310d300b06035504030c046d696c6c302a300506032b6570032100e96776c112e1bb8939860bdd34e9fa94ed769b579919d3918b7dea083a1fb84781020055300506032b65700341009df33684beadeb10aeb0fdf18ebf7d65a0efa75b1fa556260fa413243a1f3a5b9642822699661e90dc7f5ab6290c95488d8d8bff26c7276f18a3b4dacbc8ac00";
 
 // The places of the fields of a certificate, and of what is signed of it; or the number of the fault.
-fn fields(
-    alloc: Global,
-    octets: &[u8],
-) -> Result<(CertificatePlaces, TbsCertificatePlaces), u8> {
+fn fields(alloc: Global, octets: &[u8]) -> Result<(CertificatePlaces, TbsCertificatePlaces), u8> {
     match Certificate::from_der(alloc, octets) {
         Ok(certificate) => {
             let parts = places_of(&certificate, octets, 0);
@@ -149,7 +146,8 @@ fn contents_stand_behind_their_header(rt: HostRuntime) -> Result<(), Fail> {
 #[test]
 fn the_fields_of_a_key_stand_where_openssl_says(rt: HostRuntime) -> Result<(), Fail> {
     let alloc = rt.alloc();
-    let digits = "302a300506032b6570032100e96776c112e1bb8939860bdd34e9fa94ed769b579919d3918b7dea083a1fb847";
+    let digits =
+        "302a300506032b6570032100e96776c112e1bb8939860bdd34e9fa94ed769b579919d3918b7dea083a1fb847";
     let octets = hex::decode(alloc, digits)?;
     let key = SubjectPublicKeyInfoPlaces {
         algorithm: at(2, 7),

@@ -18,7 +18,8 @@ fn fields(alloc: Global, octets: &[u8]) -> Result<OneAsymmetricKeyPlaces, u8> {
 #[test]
 fn the_fields_of_a_private_key_stand_where_openssl_says(rt: HostRuntime) -> Result<(), Fail> {
     let alloc = rt.alloc();
-    let digits = "302e020100300506032b65700422042051bdb3bec919a6cba8a3f45773e1a1210fbc44dfe6ee5526f6e44e908e8f9ab7";
+    let digits =
+        "302e020100300506032b65700422042051bdb3bec919a6cba8a3f45773e1a1210fbc44dfe6ee5526f6e44e908e8f9ab7";
     let octets = hex::decode(alloc, digits)?;
     let key = OneAsymmetricKeyPlaces {
         version: at(2, 3),
