@@ -41,12 +41,13 @@ refused_first kind (x ∷ xs) d a some at r = inl (subst (λ (y : TextAttribute)
 pub one_made : (all l others : List TextAttribute) (d a : TextAttribute) (parts next : List RelativeDistinguishedName) (part : RelativeDistinguishedName) → MadeSoFar all l parts → 1 ≤ length l → a ≡ get_or l 0 d → others ≡ take (length l - 1) (drop 1 l) → part_encoding part ≡ part_octets a → next ≡ parts ++ part ∷ [] → MadeSoFar all others next
 one_made all [] others d a parts next part made some at o same n = absurd (omega (arith, some))
 one_made all (x ∷ xs) others d a parts next part made some at o same n =
-    let left : others ≡ xs = o ∙ rest_is x xs in
-    (ap (λ l. flat_map part_encoding l ++ flat_map part_octets others) n
-        ∙ ap (λ l. flat_map part_encoding (parts ++ part ∷ []) ++ flat_map part_octets l) left
-        ∙ one_more part_encoding part_octets parts part x xs (same ∙ ap part_octets at)
-        ∙ made.0,
-    λ kind r. made.1 kind (inr (subst (RefusesOne kind) left r)))
+    let left : others ≡ xs = o ∙ rest_is x xs in (
+      ap (λ l. flat_map part_encoding l ++ flat_map part_octets others) n
+          ∙ ap (λ l. flat_map part_encoding (parts ++ part ∷ []) ++ flat_map part_octets l) left
+          ∙ one_more part_encoding part_octets parts part x xs (same ∙ ap part_octets at)
+          ∙ made.0,
+      λ kind r. made.1 kind (inr (subst (RefusesOne kind) left r)),
+    )
 
 pub all_made : (all l : List TextAttribute) (parts items : List RelativeDistinguishedName) → MadeSoFar all l parts → length l < 1 → items ≡ parts → tlv tags.Sequence (flat_map part_encoding items) ≡ name_octets all
 all_made all [] parts items made none same = ap (tlv tags.Sequence) (ap (flat_map part_encoding) same ∙ sym (append-nil (flat_map part_encoding parts)) ∙ made.0)

@@ -7,6 +7,6 @@ use Rattle.der_build.proofs.extensions.extension.Goals as goal
 pub returns-in-Ok-new-clause-octets : goal.returns-in-Ok-new-clause-octets
 returns-in-Ok-new-clause-octets c =
     same_extension
-        (ap identifiers.octets_of c.new-in-Ok-new.ensures.extn_id ∙ c.in-Ok.ensures.value)
-        c.new-in-Ok-new.ensures.critical
-        (ap strings.octets_of c.new-in-Ok-new.ensures.extn_value ∙ c.in-Ok-new.ensures.0)
+    (ap identifiers.octets_of c.new-in-Ok-new.ensures.extn_id ∙ c.in-Ok.ensures.value)
+    c.new-in-Ok-new.ensures.critical
+    (ap strings.octets_of c.new-in-Ok-new.ensures.extn_value ∙ c.in-Ok-new.ensures.0)
