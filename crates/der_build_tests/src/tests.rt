@@ -17,13 +17,18 @@ fn same_in<C: Debug, T: PartialEq + Debug + Drop>(rt: &impl Abort, case: &C, fou
     assert_eq!(rt; found, wanted, "{case:?}");
 }
 
+// The octets, or the number of why there are none.
+fn numbered(written: Result<Vec<u8>, Error>) -> Result<Vec<u8>, u8> {
+    match written {
+        Ok(octets) => Ok(octets),
+        Err(e) => Err(e.kind().number()),
+    }
+}
+
 // The octets of a value, or the number of why there are none.
 fn written<T: Encode>(alloc: Global, built: Result<T, Error>) -> Result<Vec<u8>, u8> {
     match built {
-        Ok(value) => match value.to_der(alloc) {
-            Ok(octets) => Ok(octets),
-            Err(e) => Err(e.kind().number()),
-        },
+        Ok(value) => numbered(value.to_der(alloc)),
         Err(e) => Err(e.kind().number()),
     }
 }

@@ -1,10 +1,27 @@
 //! Public keys.
 
-use super::{same_in, wanted, written};
+use super::{numbered, same_in, wanted};
+use der_asn1_types::Encode;
 use der_build::{ed25519_key, p256_key, rsa_key, rsa_public_key};
 use std::alloc::Global;
 use std::process::Abort;
 use std::test::Fail;
+
+// The key of Ed25519 with these octets.
+fn ed25519_of(alloc: Global, key: &[u8]) -> Result<Vec<u8>, u8> {
+    match ed25519_key(key) {
+        Ok(info) => numbered(info.to_der(alloc)),
+        Err(e) => Err(e.kind().number()),
+    }
+}
+
+// The key of P-256 with this point.
+fn p256_of(alloc: Global, point: &[u8]) -> Result<Vec<u8>, u8> {
+    match p256_key(point) {
+        Ok(info) => numbered(info.to_der(alloc)),
+        Err(e) => Err(e.kind().number()),
+    }
+}
 
 #[test]
 fn keys_of_ed25519_are_built(rt: HostRuntime) -> Result<(), Fail> {
@@ -15,22 +32,17 @@ fn keys_of_ed25519_are_built(rt: HostRuntime) -> Result<(), Fail> {
         alloc,
         "302a300506032b657003210019bf44096984cdfe8541bac167dc3b96c85086aa30b6b6cb0c5c38ad703166e1",
     );
-    same_in(
-        &rt,
-        &key,
-        written(alloc, ed25519_key(octets.as_slice())),
-        info,
-    );
+    same_in(&rt, &key, ed25519_of(alloc, octets.as_slice()), info);
     same_in(
         &rt,
         &"31 octets",
-        written(alloc, ed25519_key([1; 31].as_slice())),
+        ed25519_of(alloc, [1; 31].as_slice()),
         Err(7),
     );
     same_in(
         &rt,
         &"33 octets",
-        written(alloc, ed25519_key([1; 33].as_slice())),
+        ed25519_of(alloc, [1; 33].as_slice()),
         Err(7),
     );
     Ok(())
@@ -54,7 +66,7 @@ fn keys_of_p256_are_built(rt: HostRuntime) -> Result<(), Fail> {
         same_in(
             &rt,
             &point,
-            written(alloc, p256_key(octets.as_slice())),
+            p256_of(alloc, octets.as_slice()),
             wanted(alloc, info),
         );
     }
@@ -67,29 +79,32 @@ fn points_of_another_form_are_refused(rt: HostRuntime) -> Result<(), Fail> {
     same_in(
         &rt,
         &"05 first",
-        written(alloc, p256_key([5; 33].as_slice())),
+        p256_of(alloc, [5; 33].as_slice()),
         Err(13),
     );
     same_in(
         &rt,
         &"04 of 33 octets",
-        written(alloc, p256_key([4; 33].as_slice())),
+        p256_of(alloc, [4; 33].as_slice()),
         Err(13),
     );
     same_in(
         &rt,
         &"03 of 65 octets",
-        written(alloc, p256_key([3; 65].as_slice())),
+        p256_of(alloc, [3; 65].as_slice()),
         Err(13),
     );
-    same_in(&rt, &"no octets", written(alloc, p256_key(&[])), Err(13));
+    same_in(&rt, &"no octets", p256_of(alloc, &[]), Err(13));
     Ok(())
 }
 
 // The key of RSA with this modulus and exponent.
 fn rsa_of(alloc: Global, modulus: &[u8], exponent: &[u8]) -> Result<Vec<u8>, u8> {
     match rsa_public_key(alloc, modulus, exponent) {
-        Ok(octets) => written(alloc, rsa_key(octets.as_slice())),
+        Ok(octets) => match rsa_key(octets.as_slice()) {
+            Ok(info) => numbered(info.to_der(alloc)),
+            Err(e) => Err(e.kind().number()),
+        },
         Err(e) => Err(e.kind().number()),
     }
 }

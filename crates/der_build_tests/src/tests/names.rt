@@ -1,6 +1,7 @@
 //! Attributes with their texts, and names of them.
 
-use super::{same_in, wanted, written};
+use super::{numbered, same_in, wanted, written};
+use der_asn1_types::Encode;
 use der_build::{TextAttribute, attribute, kept_name, name};
 use std::alloc::Global;
 use std::process::Abort;
@@ -10,7 +11,10 @@ use std::test::Fail;
 fn attribute_of(alloc: Global, type_: &str, text: &str) -> Result<Vec<u8>, u8> {
     let identifier = wanted(alloc, type_)?;
     let type_ = identifier.as_slice();
-    written(alloc, attribute(TextAttribute { type_, text }))
+    match attribute(TextAttribute { type_, text }) {
+        Ok(attribute) => numbered(attribute.to_der(alloc)),
+        Err(e) => Err(e.kind().number()),
+    }
 }
 
 #[test]
