@@ -4,6 +4,7 @@
 
 mod anys;
 mod bits;
+mod building;
 mod certificates;
 mod choice_sets;
 mod comparing;
@@ -23,6 +24,7 @@ mod writing;
 
 pub use anys::named_curve;
 pub use bits::{is_usage, may_sign_certificates};
+pub use building::{SelfSigned, certificate_to_sign, request_to_sign};
 pub use certificates::{read_certificate, serial_and_self_issued};
 pub use choice_sets::{
     AttributeValues, ByKeyName, KeyName, KeyNames, read_key_names, read_values, with_value,
@@ -44,6 +46,3 @@ pub use tagged::explicit_version;
 pub use texts::{common_name, country};
 pub use times::is_within;
 pub use writing::{number_in, write_numbers};
-
-#[cfg(test)]
-mod tests;

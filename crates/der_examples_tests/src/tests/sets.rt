@@ -1,11 +1,11 @@
 //! Sets of a CHOICE and of values of any type, and lists that have an item.
 
 use crate::tests::{holds, numbered, same};
-use crate::{
-    count_of_numbers, read_key_names, read_some_numbers, read_values, with_value, write_key_names,
-};
 use der_asn1_types::asn1::AnyRef;
 use der_asn1_types::{DerOrd, Duplicate, Encode, EncodingEq, FromDer};
+use der_examples::{
+    count_of_numbers, read_key_names, read_some_numbers, read_values, with_value, write_key_names,
+};
 use std::alloc::Global;
 use std::cmp::Ordering;
 use std::process::Abort;

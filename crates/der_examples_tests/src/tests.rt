@@ -6,15 +6,15 @@ mod rooms;
 mod rows;
 mod sets;
 
-use crate::{
+use der_asn1_types::asn1::{AnyRef, BitStringRef, Enumerated, NamedBitsRef};
+use der_asn1_types::{DateTime, DerOrd, Duplicate, Error, FromDer, Length, Reader, Tag};
+use der_examples::{
     ResponseStatus, Watched, attribute_set, common_name, contents_of_string, country,
     explicit_version, first_header, is_before, is_same_named_policy, is_same_policy, is_usage,
     is_within, may_sign_certificates, named_curve, number_in, read_named_policy, read_numbers,
     read_policy, read_policy_fields, read_status, read_watched, serial_number, with_attribute,
     write_named_policy, write_numbers, write_policy, write_status,
 };
-use der_asn1_types::asn1::{AnyRef, BitStringRef, Enumerated, NamedBitsRef};
-use der_asn1_types::{DateTime, DerOrd, Duplicate, Error, FromDer, Length, Reader, Tag};
 use std::cmp::Ordering;
 use std::fmt::Debug;
 use std::process::Abort;
