@@ -1,10 +1,13 @@
 //! The callers, called; and values of several crates in one another.
 
 mod canonical;
+mod choices;
 mod examples;
+mod history;
 mod rooms;
 mod rows;
 mod sets;
+mod time_stamps;
 
 use der_asn1_types::asn1::{AnyRef, BitStringRef, Enumerated, NamedBitsRef};
 use der_asn1_types::{DateTime, DerOrd, Duplicate, Error, FromDer, Length, Reader, Tag};

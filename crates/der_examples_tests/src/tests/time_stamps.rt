@@ -1,24 +1,10 @@
-//! The first six fields of the TSTInfo of RFC 3161, which OpenSSL wrote: a message as a user of lists
-//! of fields writes it. The imprint and the accuracy are kept as they are encoded.
+//! The first six fields of a TSTInfo that OpenSSL wrote.
 
-ghost use Rattle.der_asn1_types.specs.Decoding.{ReadsAll};
-
-use super::{numbered, same};
-use der_asn1_types::asn1::{AnyRef, GeneralizedTime, IntRef, ObjectIdentifier};
-use der_asn1_types::{Encode, Error, FieldSequence, Fields6, Form, FromDer};
+use crate::tests::{numbered, same};
+use der_asn1_types::{Encode, Error};
+use der_examples::{TstInfo, read_tst_info};
 use std::alloc::Global;
-use std::process::Abort;
 use std::test::Fail;
-
-type TstInfo<'a> = FieldSequence<
-    Fields6<u8, ObjectIdentifier<39>, AnyRef<'a>, IntRef<'a>, GeneralizedTime, Option<AnyRef<'a>>>,
->;
-
-fn read_tst_info<'a>(alloc: Global, octets: &'a [u8]) -> Result<TstInfo<'a>, Error>
-    ensures { ReadsAll ⟦<TstInfo<'a> as Form>⟧ octets.now result }
-{
-    TstInfo::from_der(alloc, octets)
-}
 
 fn write_tst_info<'a>(alloc: Global, info: &TstInfo<'a>) -> Result<Vec<u8>, Error> {
     info.to_der(alloc)
