@@ -1,5 +1,6 @@
 #!/usr/bin/env python3
-"""Builds the library for C, links it and calls it: from C beside OpenSSL, from Rust, and from Python beside `cryptography`.
+"""Builds the library for C, links it and calls it: from C beside OpenSSL, from Rust, from Python beside `cryptography`, and
+from Go beside crypto/x509.
 
     python3 tests/c.py [--built TREE]
 
@@ -25,15 +26,16 @@ signed_octets subject_public_key_info""".split()
 
 
 class Trials:
-    """What was tried, counted and said."""
+    """What was tried, counted and said, of something with a name."""
 
-    def __init__(self):
+    def __init__(self, of):
+        self.of = of
         self.passed = self.failed = 0
 
     def tell(self, name, why):
         """Counts a trial, with what is wrong, or nothing."""
         self.passed, self.failed = self.passed + (not why), self.failed + bool(why)
-        print(f"FAILED: c: {name}: {why}" if why else f"c: {name}: well", flush=True)
+        print(f"FAILED: {self.of}: {name}: {why}" if why else f"{self.of}: {name}: well", flush=True)
 
     def run(self, name, words, **others):
         """Runs a command that must end with the status 0; gives what it printed."""
@@ -42,7 +44,7 @@ class Trials:
         return ran.stdout
 
     def left_out(self, name, tool):
-        print(f"c: {name}: left out, since {tool} is not there", flush=True)
+        print(f"{self.of}: {name}: left out, since {tool} is not there", flush=True)
 
 
 def pem_blocks(text, label):
@@ -204,9 +206,21 @@ def try_python(trials, room, files):
     trials.run("the tests in Python", [sys.executable, "-B", "-W", "ignore", "-m", "unittest", "-q", "tests/test_derproved.py"], **others)
 
 
+def try_go(trials, room, files):
+    """The package for Go, and its tests beside crypto/x509."""
+    if not shutil.which("go"):
+        trials.left_out("Go", "go, of Debian's package golang-go,")
+        return
+    settings = {**os.environ, "CGO_LDFLAGS": f"-L{room}/build", "GOCACHE": f"{room}/go", "DER_TEST_FILES": os.pathsep.join(files)}
+    others = {"cwd": f"{ROOT}/go", "env": settings}
+    trials.run("go vet", ["go", "vet", "./..."], **others)
+    told = trials.run("the tests in Go", ["go", "test", "-count=1", "-v", "./..."], **others)
+    print("c: Go beside crypto/x509:", *re.findall(r"\d+ certificates", told))
+
+
 def main(words):
     tree = words[1] if words[:1] == ["--built"] else ROOT
-    trials = Trials()
+    trials = Trials("c")
     if not shutil.which("cc") or not shutil.which("make"):
         trials.left_out("the library for C", "a C compiler or make")
         print("0 passed, 0 failed")
@@ -224,6 +238,7 @@ def main(words):
         try_fuzzer(trials, room, system or samples)
         try_rust(trials, room, system or samples)
         try_python(trials, room, own)
+        try_go(trials, room, own)
     print(f"{trials.passed} passed, {trials.failed} failed")
     return 1 if trials.failed else 0
 
