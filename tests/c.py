@@ -21,8 +21,8 @@ ROOT = os.path.dirname(os.path.dirname(os.path.abspath(__file__)))
 SYSTEM = "/etc/ssl/certs/ca-certificates.crt"
 # what the shared object may ask of the C library, and of the linker
 ASKED = re.compile(r"^(malloc|realloc|free|mem(cpy|move|set|cmp)|bcmp|_ITM_.*|__gmon_start__|__cxa_finalize|__stack_chk_fail)$")
-CALLS = """abi_version certificate certificate_list contents extension number_text private_key_info revoked_certificate
-signed_octets subject_public_key_info""".split()
+CALLS = """abi_version attribute attribute_type_and_value certificate certificate_list contents extension next_encoding
+number_text private_key_info revoked_certificate signed_octets subject_public_key_info""".split()
 
 
 class Trials:
@@ -87,7 +87,8 @@ def make_messages(room):
     )
     for command in commands:
         subprocess.run(command.split(), cwd=room, check=True, capture_output=True)
-    return [f"{room}/{name}.pem" for name in ("ed", "ec", "rsa", "ec-public", "rsa-public", "own", "list")]
+    names = "ed ec rsa ec-public rsa-public own list".split()
+    return [f"{room}/{name}.pem" for name in names]
 
 
 def try_symbols(trials, room):
@@ -119,8 +120,9 @@ def try_c(trials, room, sample, files):
     if subprocess.run(["cc", "-E", "-x", "c", "-"], input="#include <openssl/x509.h>\n", text=True, capture_output=True).returncode:
         trials.left_out("C beside OpenSSL", "openssl/x509.h")
     else:
-        trials.run("make build/beside_openssl", [*make, f"{room}/build/beside_openssl"])
-        print(trials.run("C beside OpenSSL", [f"{room}/build/beside_openssl", *files]), end="")
+        for name in ("beside_openssl", "signed_beside_openssl"):
+            trials.run(f"make build/{name}", [*make, f"{room}/build/{name}"])
+            print(trials.run(f"C: {name}", [f"{room}/build/{name}", *files]), end="")
     if shutil.which("valgrind"):
         words = ["valgrind", "-q", "--error-exitcode=9", "--leak-check=full", f"{room}/build/calls", sample]
         trials.run("calls under valgrind", words)
@@ -235,7 +237,9 @@ def main(words):
         system = [name for path in glob.glob(SYSTEM) for name in write_files(open(path, encoding="utf-8").read(), "CERTIFICATE", room)]
         try_c(trials, room, samples[0], files)
         try_symbols(trials, room)
-        try_fuzzer(trials, room, system or samples)
+        text = "".join(open(name, encoding="utf-8").read() for name in own)
+        seeds = [name for label in ("X509 CRL") for name in write_files(text, label, room)]
+        try_fuzzer(trials, room, (system or samples) + seeds)
         try_rust(trials, room, system or samples)
         try_python(trials, room, own)
         try_go(trials, room, own)
