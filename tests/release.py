@@ -48,7 +48,7 @@ def try_making(trials, tree, room):
         trials.run(f"tools/release, the {name} time", [sys.executable, *words])
     names = files_of(f"{room}/first")
     _, differ, missing = filecmp.cmpfiles(f"{room}/first", f"{room}/second", names, shallow=False)
-    why = differ or missing or (files_of(f"{room}/second") != names and "other files")
+    why = differ or missing or (files_of(f"{room}/second") != names and "other files") or (not names and "there are none")
     trials.tell(f"two runs write the same {len(names)} files", why)
     refused = subprocess.run([f"{ROOT}/tools/release", f"{room}/first", "--built", tree], capture_output=True, text=True)
     trials.tell("a folder that is not empty is refused", (refused.returncode, refused.stderr) if "is not empty" not in refused.stderr else None)
