@@ -147,7 +147,7 @@ fn push_entries<L: Lines>(
 }
 
 /// Adds the serial number, since when it is revoked, and its extensions; and ends the line.
-fn push_entry(
+pub fn push_entry(
     alloc: Global,
     page: &mut Page,
     octets: &[u8],
