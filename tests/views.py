@@ -19,6 +19,7 @@ import tempfile
 
 sys.dont_write_bytecode = True
 sys.path.insert(0, os.path.dirname(os.path.abspath(__file__)))
+import broken
 import documents
 import hand_made
 import programs
@@ -182,7 +183,7 @@ def show_some_fields(program, folder):
 
 def name_all_fields(program, names):
     """Each label that is printed is the name of a field, and each name is given where its lines are to be shown."""
-    texts = [run(program, ["--fingerprint"], octets)[1] for octets in all_messages()]
+    texts = [run(program, ["--check", "--at", "2026-12-01", "--fingerprint"], octets)[1] for octets in all_messages()]
     labels = {it["name"] for text in texts for of in documents.messages_of(text.decode())[0] for it in of["fields"]}
     if {label.replace(" ", "-") for label in labels} - set(names):
         fail(f"labels {labels} that are no names {names}")
@@ -195,7 +196,49 @@ def all_messages():
     """Messages of all kinds, with all of their fields."""
     found = re.findall(r'pub const \w+: &str =\s*"([0-9a-f]+)"', open(f"{CRATE}/src/tests/messages.rt").read())
     unique = hand_made.certificate(version=b"\xa0\x03\x02\x01\x01", unique=b"\x81\x02\x00a\x82\x02\x00b")[0]
-    return [*map(bytes.fromhex, found), unique]
+    return [*map(bytes.fromhex, found), hand_made.certificate(outer=hand_made.OUTER)[0], unique]
+
+
+def check_rules(program):
+    """Each rule of RFC 5280 that certview asks for is told alone, behind the fields, and none where none is broken."""
+    rows = broken.certificates() + broken.lists()
+    if len(rows) != len({(row[0], row[1]) for row in rows}) or len(rows) != 18 + 14:
+        fail(f"there are {len(rows)} rows of rules")
+    for row in rows:
+        shown = run(program, [], row[2])
+        ends(f"--check, {row[1]}", run(program, ["--check"], row[2]), (1, shown[1] + broken.line(*row), b""))
+        only = run(program, ["--check", "--fields", "breaks"], row[2])
+        ends(f"--check alone, {row[1]}", only, (1, broken.line(*row), b""))
+    names = hand_made.certificate(subject=hand_made.name(), more=[hand_made.NAMES])[0]
+    for octets in (hand_made.certificate()[0], names, hand_made.revocation()[0], message("ED25519"), message("LIST"), message("RSA_PUBLIC")):
+        ends("--check of what breaks no rule", run(program, ["--check"], octets), run(program, [], octets))
+    bundle = run(program, ["--check", "--fields", "breaks", f"{programs.HERE}/views/certificate.pem"])
+    ends("--check of a file", bundle, (0, b"", b""))
+
+
+def show_moments(program):
+    """The seconds before the first, the first, the last and the one after it."""
+    certificate, revocation = message("ED25519"), message("LIST")
+    rows = (
+        (certificate, "   58    34  at: ", "valid", ("2026-11-23", "04:38:17", "04:38:18"), ("2081-08-26", "04:38:18", "04:38:19")),
+        (revocation, "   33    15  at: ", "current", ("2026-11-23", "13:43:57", "13:43:58"), ("2026-12-23", "13:43:58", "13:43:59")),
+    )
+    for octets, front, word, (first, early, begin), (last, end, late) in rows:
+        said = ((first, early, f"not {word} yet"), (first, begin, word), (last, end, word), (last, late, f"no longer {word}"))
+        for day, clock, words in said:
+            shown = f"{front}{day} {clock} UTC, {words}\n".encode()
+            ran = run(program, ["--fields", "at", "--at", f"{day}T{clock}Z"], octets)
+            ends(f"--at {day} {clock}", ran, (0 if words == word else 1, shown, b""))
+    day = run(program, ["--at", "2026-11-23"], certificate)
+    shown = run(program, [], certificate)[1] + b"   58    34  at: 2026-11-23 00:00:00 UTC, not valid yet\n"
+    ends("--at a day", day, (1, shown, b""))
+    endless = run(program, ["--fields", "at", "--at", "9999-12-31"], hand_made.revocation(then=b"")[0])
+    ends("--at, of a list with no next one", endless, (0, b"   37    15  at: 9999-12-31 00:00:00 UTC, current\n", b""))
+    ends("--at, of a key", run(program, ["--at", "2026-11-23"], message("RSA_PUBLIC")), run(program, [], message("RSA_PUBLIC")))
+    for word in ("now", "2026-02-29", "1969-12-31", "2026-11-23T04:38:18", "2026-11-23T04:38:18+00:00", "2026-11-23T24:00:00Z", ""):
+        status, text, said = run(program, [f"--at={word}"], certificate)
+        if status != 2 or text or (word and f"'{word}' is no time" not in said.decode()):
+            fail(f"--at {word}: {status}, {text!r}, {said!r}")
 
 
 def made_by_openssl(folder):
@@ -262,7 +305,7 @@ def write_documents(program, folder):
 
 
 def write_document(program, is_valid, files):
-    words = ["--fingerprint"]
+    words = ["--check", "--at", "2026-12-01", "--fingerprint"]
     alone = [run(program, [*words, file]) for file in files]
     wanted = [documents.input_of(file, text.decode(), said.decode()) for file, (_, text, said) in zip(files, alone)]
     status, text, said = run(program, ["--json", *words, *files])
@@ -394,6 +437,8 @@ def main():
         show_nothing_of_others(program)
         show_whole_texts(program)
         name_all_fields(program, show_some_fields(program, folder))
+        check_rules(program)
+        show_moments(program)
         write_documents(program, folder)
         install(program, folder)
         fail_reads_and_writes(program, library)

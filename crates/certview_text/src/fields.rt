@@ -1,8 +1,10 @@
 //! The names of all fields.
 
 /// The name of each field that a message may have: its label, with a `-` for each space.
-pub const FIELDS: [&str; 30] = [
+pub const FIELDS: [&str; 32] = [
+    "at",
     "attributes",
+    "breaks",
     "coefficient",
     "curve",
     "exponent1",

@@ -13,6 +13,7 @@
 
 mod access;
 mod algorithms;
+mod asked;
 mod attributes;
 mod blocks;
 mod certificate;
@@ -22,6 +23,7 @@ mod entries;
 mod extensions;
 mod fault;
 mod fields;
+mod findings;
 mod form;
 mod hexadecimal;
 mod identifier_names;
@@ -33,6 +35,7 @@ mod kind;
 mod label;
 mod labels;
 mod lines;
+mod moments;
 mod names;
 mod other_names;
 mod page;
@@ -54,6 +57,7 @@ mod usages;
 mod values;
 mod viewing;
 
+pub use asked::Asked;
 pub use characters::plain;
 pub use fault::Fault;
 pub use fields::FIELDS;

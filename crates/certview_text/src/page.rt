@@ -1,5 +1,6 @@
 //! The fields of messages as they are found, before they are written.
 
+use crate::asked::Asked;
 use crate::place::Place;
 use der_asn1_types::{Error, ErrorKind};
 use std::alloc::{AllocError, Global};
@@ -15,8 +16,12 @@ pub struct Page {
     pub items: Vec<Item>,
     /// What is wrong, in the order of the items that it is said of.
     pub faults: Vec<Said>,
+    /// What is asked of a message besides its fields.
+    pub asked: Asked,
     /// Whether a part could not be read, of which the line says so.
     pub is_partial: bool,
+    /// Whether a message breaks a rule, or is not valid at the moment that is asked for.
+    pub has_findings: bool,
 }
 
 /// An item of a page.
@@ -70,13 +75,20 @@ pub struct Span {
 }
 
 impl Page {
-    /// No fields.
+    /// No fields, of a message of which nothing else is asked.
     pub fn new(alloc: Global) -> Page {
+        Page::asking(alloc, Asked::nothing())
+    }
+
+    /// No fields.
+    pub fn asking(alloc: Global, asked: Asked) -> Page {
         Page {
             text: String::new(alloc),
             items: Vec::new(alloc),
             faults: Vec::new(alloc),
+            asked,
             is_partial: false,
+            has_findings: false,
         }
     }
 

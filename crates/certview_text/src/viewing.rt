@@ -4,6 +4,7 @@ ghost use Rattle.std.specs.Prelude.{◌≡◌, ◌≢◌, OnOk, IfOk, IfErr, IfS
 ghost use Rattle.std.specs.Io.KnownBytes.{Keeps};
 ghost use Rattle.certview_text.specs.Shown.{IsShown};
 
+use crate::asked::Asked;
 use crate::blocks::{push_blocks, push_first_parts, push_octets, push_refused};
 use crate::characters::push_plain;
 use crate::fault::Fault;
@@ -27,6 +28,8 @@ pub struct View<'a> {
     pub fields: Option<&'a [&'a str]>,
     /// Whether the SHA-256 of each message is shown.
     pub has_fingerprint: bool,
+    /// What is asked of each message besides.
+    pub asked: Asked,
 }
 
 /// What became of an input of which a message was shown.
@@ -36,6 +39,8 @@ pub enum Outcome {
     Whole,
     /// A part could not be read, of which a line says so.
     Partial,
+    /// All of it is shown, and what was asked of it does not hold, of which a line says so.
+    Found,
     /// No one reads what is written.
     Closed,
 }
@@ -48,15 +53,16 @@ impl<'a> View<'a> {
             form: Form::Text,
             fields: None,
             has_fingerprint: false,
+            asked: Asked::nothing(),
         }
     }
 }
 
 impl Outcome {
-    /// The exit status: 1 for what is shown in part.
+    /// The exit status: 1 for what is shown in part, and for what does not hold.
     pub fn status(self) -> u8 {
         match self {
-            Outcome::Partial => 1,
+            Outcome::Partial | Outcome::Found => 1,
             Outcome::Whole | Outcome::Closed => 0,
         }
     }
@@ -65,6 +71,8 @@ impl Outcome {
     fn of(page: &Page) -> Outcome {
         if page.is_partial {
             Outcome::Partial
+        } else if page.has_findings {
+            Outcome::Found
         } else {
             Outcome::Whole
         }
@@ -156,7 +164,7 @@ pub fn show_refused<W: Write>(
 fn measured(alloc: Global, view: &View<'_>, input: &[u8]) -> Result<Option<Page>, Fault>
     ensures { OnOk result (IsShown input.now) }
 {
-    let mut page = Page::new(alloc);
+    let mut page = Page::asking(alloc, view.asked);
     let mut lines = Measured { is_long: false };
     push_input(alloc, &mut page, &mut lines, view, input)?;
     if lines.is_long {
@@ -175,7 +183,7 @@ fn write_long<W: Write>(
 ) -> Result<Outcome, Fault>
     ensures { IfErr result (λ fault. fault ≡ Fault.Output) }
 {
-    let mut page = Page::new(alloc);
+    let mut page = Page::asking(alloc, view.asked);
     let mut lines = Written::new(alloc, output, Writer::new(view.form, view.fields));
     let pushed = push_input(alloc, &mut page, &mut lines, view, input);
     end_long(pushed.is_ok(), &page, &mut lines)

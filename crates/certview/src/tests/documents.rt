@@ -2,7 +2,8 @@
 
 use crate::tests::messages::{ED25519, ED25519_PUBLIC};
 use crate::tests::{assert_contains, written_so};
-use certview_text::{Fault, Form, Outcome, View, show, show_refused};
+use certview_text::{Asked, Fault, Form, Outcome, View, show, show_refused};
+use der_asn1_types::DateTime;
 use std::test::Fail;
 
 /// The public key of `ED25519_PUBLIC` in a document.
@@ -30,16 +31,20 @@ fn writes_a_document(rt: HostRuntime) -> Result<(), Fail> {
 }
 
 #[test]
-fn shows_some_fields(rt: HostRuntime) -> Result<(), Fail> {
+fn shows_some_fields_and_a_moment(rt: HostRuntime) -> Result<(), Fail> {
     let octets = hex::decode(rt.alloc(), ED25519)?;
-    let names = ["not-after", "version"];
+    let names = ["not-after", "at"];
     let view = View {
         fields: Some(names.as_slice()),
+        asked: Asked {
+            has_rules: true,
+            moment: Some("2081-08-26T04:38:19Z".parse::<DateTime>()?),
+        },
         ..View::plain()
     };
     let (result, written) = written_so(rt.alloc(), &view, octets.as_slice());
-    assert_eq!(rt; result, Ok(Outcome::Whole));
-    let shown = "    7     5  version: 3\n   75    17  not after: 2081-08-26 04:38:18 UTC\n";
+    assert_eq!(rt; result, Ok(Outcome::Found));
+    let shown = "   75    17  not after: 2081-08-26 04:38:18 UTC\n   58    34  at: 2081-08-26 04:38:19 UTC, no longer valid\n";
     assert_eq!(rt; str::from_utf8(written.as_slice())?, shown);
     Ok(())
 }
