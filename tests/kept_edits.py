@@ -114,21 +114,26 @@ def octets_of(path):
         return file.read()
 
 
+def rtlib_of(kit):
+    """The module of the kit that knows crates, with each crate's stamp read once."""
+    loader = importlib.machinery.SourceFileLoader("rtlib", f"{kit}/bin/rtlib.py")
+    sys.modules["rtlib"] = rtlib = importlib.util.module_from_spec(importlib.util.spec_from_loader("rtlib", loader))
+    loader.exec_module(rtlib)
+    made, seen = rtlib.Crate.stamp, {}
+
+    def stamp(crate):
+        if crate.folder not in seen:
+            seen[crate.folder] = made(crate)
+        return seen[crate.folder]
+
+    rtlib.Crate.stamp = stamp
+    return rtlib
+
+
 def built_of_sources(kit, tree):
     """The names of the crates in a tree whose libraries 'rt check' has built of the sources that stand there now."""
     try:
-        loader = importlib.machinery.SourceFileLoader("rtlib", f"{kit}/bin/rtlib.py")
-        sys.modules["rtlib"] = rtlib = importlib.util.module_from_spec(importlib.util.spec_from_loader("rtlib", loader))
-        loader.exec_module(rtlib)
-        made, seen = rtlib.Crate.stamp, {}
-
-        def stamp(crate):
-            if crate.folder not in seen:
-                seen[crate.folder] = made(crate)
-            return seen[crate.folder]
-
-        rtlib.Crate.stamp = stamp
-        return {it.name for it in rtlib.crates_below(tree) if not it.is_program and it.is_built()}
+        return {it.name for it in rtlib_of(kit).crates_below(tree) if not it.is_program and it.is_built()}
     except (Exception, SystemExit):
         # (a kit with other insides: then nothing is kept)
         return set()

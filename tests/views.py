@@ -2,17 +2,26 @@
 """Runs certview as people do: files, bundles, options, statuses, closed pipes, and reads and writes that fail.
 
 certview is the program that `rt try` builds (or the one that CERTVIEW names, built by programs.py). Expected texts are
-those of crates/certview/stdout, and of messages that openssl wrote, which stand in the tests of the crate.
+those of crates/certview/stdout, and of messages that openssl wrote, which stand in the tests of the crate. Each file of views/
+is shown with its whole text, octet by octet; in each, every two fields differ. Documents of JSON are compared with the text of
+the same files, and with their schema where python3 has the module jsonschema; files that openssl writes meanwhile are among
+them where there is that command.
 """
 
+import glob
+import json
 import os
 import re
+import shutil
 import subprocess
 import sys
 import tempfile
 
 sys.dont_write_bytecode = True
 sys.path.insert(0, os.path.dirname(os.path.abspath(__file__)))
+import broken
+import documents
+import hand_made
 import programs
 
 CRATE = f"{programs.ROOT}/crates/certview"
@@ -28,7 +37,7 @@ def fail(text):
 
 def message(name):
     """The octets of a message of the crate's tests."""
-    text = open(f"{CRATE}/src/tests/messages.rt").read()
+    text = open(f"{CRATE}_tests/src/tests/messages.rt").read()
     return bytes.fromhex(re.search(rf'{name}: &str =\s*"([0-9a-f]+)"', text)[1])
 
 
@@ -104,6 +113,253 @@ def show_what_is_malformed(program):
         fail(f"a value that is malformed: {status}, {text!r}, {said!r}")
 
 
+def with_octets(octets, place, others):
+    return octets[:place] + others + octets[place + len(others) :]
+
+
+def show_what_can_be_read(program):
+    """Of a certificate or a list that is refused for one field the others are shown, behind why it is."""
+    certificate, authority, revocation = message("ED25519"), message("AUTHORITY"), message("LIST")
+    long = hand_made.extension(b"\x55" + b"\x81" * 38 + b"\x01", b"\x05\x00")
+    short = hand_made.extension(b"\x55" + b"\x81" * 37 + b"\x01", b"\x05\x00\x00")
+    of_long, of_short = (hand_made.certificate(more=[it, hand_made.OTHER])[0] for it in (long, short))
+    rows = (
+        (certificate, with_octets(certificate, 64, b"9"), "not before: ", "", "validity.notBefore"),
+        (certificate, with_octets(certificate, 62, b"500101000000Z"), "not before: ", "", "validity.notBefore"),
+        (certificate, with_octets(certificate, 77, b"00010101000000Z"), "not after: ", "", "validity.notAfter"),
+        (certificate, with_octets(certificate, 52, b"\x1c"), "issuer: ", "CN=", "issuer.value"),
+        (authority, with_octets(authority, 65, b"\x1c"), "issuer: ", "C=SE, O=Barley, CN=", "issuer.value"),
+        (revocation, with_octets(revocation, 74, b"9"), "revoked: ", "", "revokedCertificates.revocationDate"),
+        (of_short, of_long, "extension: ", "", "extensions.extnID"),
+    )
+    for octets, changed, label, before, field in rows:
+        shown = run(program, [], octets)[1].decode()
+        status, text, said = run(program, [], changed)
+        fault = re.fullmatch(r"certview: (refused \((.*?)\): (.*), at position (\d+), in \w+\." + re.escape(field) + r")\n", said.decode())
+        if not fault:
+            fail(f"{label}of other octets: {said!r}")
+            continue
+        says = f"{label}{before}malformed ({fault[2]}: {fault[3]}) at position {fault[4]}"
+        wanted = re.sub(re.escape(label) + ".*", says, shown, count=1)
+        ends(f"{label}of other octets", (status, text.decode()), (1, f"{fault[1]}\n{wanted}"))
+
+
+def show_nothing_of_others(program):
+    """Octets that do not look like a certificate or a list, and those of other messages, have no fields."""
+    request = hand_made.tlv(0x30, b"\x02\x01\x00", hand_made.SUBJECT, hand_made.KEY, b"\xa0\x00")
+    others = (b"\x30\x00", b"\x00" * 9, b"\x30\x80" * 9, message("RSA_PRIVATE")[:-1], hand_made.tlv(0x30, request, hand_made.INNER, hand_made.BITS))
+    for octets in others:
+        status, text, said = run(program, [], octets)
+        if status != 1 or text or not said.startswith(b"certview: refused ("):
+            fail(f"other octets: {status}, {text!r}, {said!r}")
+    ends("nothing of others in a text", run(program, ["-", "-"], b"\x30\x00")[1], b"")
+
+
+def show_whole_texts(program):
+    """Each file of views/ has the text beside it."""
+    for file in sorted(glob.glob(f"{programs.HERE}/views/*.pem")):
+        with open(f"{file[:-4]}.txt", "rb") as text:
+            ends(os.path.basename(file), run(program, [file]), (0, text.read(), b""))
+
+
+def show_some_fields(program, folder):
+    """The lines with a label that is asked for, and those of files and blocks. Answers the names of all fields."""
+    lines = [it for it in SHOWN.splitlines(True) if it[13:].startswith((b"subject: ", b"not after: "))]
+    both = (0, b"".join(lines), b"")
+    ends("--fields", run(program, ["--fields", "subject,not-after"], CERTIFICATE), both)
+    ends("--fields twice", run(program, ["--fields=not-after", "--fields=subject"], CERTIFICATE), both)
+    ends("--fields of another kind", run(program, ["--fields", "curve"], CERTIFICATE), (0, b"", b""))
+    blocks = b"block 1 of 2: CERTIFICATE\n" + lines[1] + b"\nblock 2 of 2: CERTIFICATE\n" + lines[1]
+    ends("--fields of a bundle", run(program, ["--fields", "subject"], CERTIFICATE * 2), (0, blocks, b""))
+    first, second = f"{folder}/first.pem", f"{folder}/second.der"
+    named = f"{first}:\n".encode() + lines[1] + f"{second}:\n".encode()
+    ends("--fields of files", run(program, ["--fields", "subject", first, second]), (0, named, b""))
+    status, text, said = run(program, ["--fields", "subject,nobody"], CERTIFICATE)
+    names = re.search(r"possible values: (.*)\]", said.decode())
+    if status != 2 or text or b"'nobody'" not in said or not names:
+        fail(f"a field that there is not: {status}, {text!r}, {said!r}")
+    return names[1].split(", ") if names else []
+
+
+def name_all_fields(program, names):
+    """Each label that is printed is the name of a field, and each name is given where its lines are to be shown."""
+    texts = [run(program, ["--check", "--at", "2026-12-01", "--fingerprint"], octets)[1] for octets in all_messages()]
+    labels = {it["name"] for text in texts for of in documents.messages_of(text.decode())[0] for it in of["fields"]}
+    if {label.replace(" ", "-") for label in labels} - set(names):
+        fail(f"labels {labels} that are no names {names}")
+    left = set(names) - {label.replace(" ", "-") for label in labels}
+    if left:
+        fail(f"names of no field that was shown: {left}")
+
+
+def all_messages():
+    """Messages of all kinds, with all of their fields."""
+    found = re.findall(r'pub const \w+: &str =\s*"([0-9a-f]+)"', open(f"{CRATE}_tests/src/tests/messages.rt").read())
+    unique = hand_made.certificate(version=b"\xa0\x03\x02\x01\x01", unique=b"\x81\x02\x00a\x82\x02\x00b")[0]
+    return [*map(bytes.fromhex, found), hand_made.certificate(outer=hand_made.OUTER)[0], unique]
+
+
+def check_rules(program):
+    """Each rule of RFC 5280 that certview asks for is told alone, behind the fields, and none where none is broken."""
+    rows = broken.certificates() + broken.lists()
+    if len(rows) != len({(row[0], row[1]) for row in rows}) or len(rows) != 18 + 14:
+        fail(f"there are {len(rows)} rows of rules")
+    for row in rows:
+        shown = run(program, [], row[2])
+        ends(f"--check, {row[1]}", run(program, ["--check"], row[2]), (1, shown[1] + broken.line(*row), b""))
+        only = run(program, ["--check", "--fields", "breaks"], row[2])
+        ends(f"--check alone, {row[1]}", only, (1, broken.line(*row), b""))
+    names = hand_made.certificate(subject=hand_made.name(), more=[hand_made.NAMES])[0]
+    for octets in (hand_made.certificate()[0], names, hand_made.revocation()[0], message("ED25519"), message("LIST"), message("RSA_PUBLIC")):
+        ends("--check of what breaks no rule", run(program, ["--check"], octets), run(program, [], octets))
+    bundle = run(program, ["--check", "--fields", "breaks", f"{programs.HERE}/views/certificate.pem"])
+    ends("--check of a file", bundle, (0, b"", b""))
+
+
+def show_moments(program):
+    """The seconds before the first, the first, the last and the one after it."""
+    certificate, revocation = message("ED25519"), message("LIST")
+    rows = (
+        (certificate, "   58    34  at: ", "valid", ("2026-11-23", "04:38:17", "04:38:18"), ("2081-08-26", "04:38:18", "04:38:19")),
+        (revocation, "   33    15  at: ", "current", ("2026-11-23", "13:43:57", "13:43:58"), ("2026-12-23", "13:43:58", "13:43:59")),
+    )
+    for octets, front, word, (first, early, begin), (last, end, late) in rows:
+        said = ((first, early, f"not {word} yet"), (first, begin, word), (last, end, word), (last, late, f"no longer {word}"))
+        for day, clock, words in said:
+            shown = f"{front}{day} {clock} UTC, {words}\n".encode()
+            ran = run(program, ["--fields", "at", "--at", f"{day}T{clock}Z"], octets)
+            ends(f"--at {day} {clock}", ran, (0 if words == word else 1, shown, b""))
+    day = run(program, ["--at", "2026-11-23"], certificate)
+    shown = run(program, [], certificate)[1] + b"   58    34  at: 2026-11-23 00:00:00 UTC, not valid yet\n"
+    ends("--at a day", day, (1, shown, b""))
+    endless = run(program, ["--fields", "at", "--at", "9999-12-31"], hand_made.revocation(then=b"")[0])
+    ends("--at, of a list with no next one", endless, (0, b"   37    15  at: 9999-12-31 00:00:00 UTC, current\n", b""))
+    ends("--at, of a key", run(program, ["--at", "2026-11-23"], message("RSA_PUBLIC")), run(program, [], message("RSA_PUBLIC")))
+    for word in ("now", "2026-02-29", "1969-12-31", "2026-11-23T04:38:18", "2026-11-23T04:38:18+00:00", "2026-11-23T24:00:00Z", ""):
+        status, text, said = run(program, [f"--at={word}"], certificate)
+        if status != 2 or text or (word and f"'{word}' is no time" not in said.decode()):
+            fail(f"--at {word}: {status}, {text!r}, {said!r}")
+
+
+def made_by_openssl(folder):
+    """Files that openssl writes: certificates, a list and keys."""
+    if not shutil.which("openssl"):
+        print("views: left out, documents of files that openssl writes: there is no openssl")
+        return []
+    with open(f"{folder}/made.cnf", "w", encoding="utf-8") as file:
+        file.write(
+            "[req]\ndistinguished_name=name\n[name]\n[ca]\ndefault_ca=own\n[own]\ndatabase=index\ncrlnumber=number\n"
+            "default_md=sha256\ndefault_crl_days=30\ncrl_extensions=list\n[list]\nauthorityKeyIdentifier=keyid\n"
+            "[ext]\nbasicConstraints=critical,CA:true,pathlen:1\nkeyUsage=keyCertSign,cRLSign\nextendedKeyUsage=serverAuth\n"
+            'subjectAltName=DNS:a"b.example,IP:2001:db8::1,URI:http://a.example/\\\\"\nnsComment=a comment\n'
+        )
+    with open(f"{folder}/index", "w", encoding="utf-8") as file:
+        file.write("R\t360101000000Z\t260102030405Z,keyCompromise\t01\tunknown\t/CN=one\n")
+        file.write("".join(f"R\t360101000000Z\t260102030406Z\t{it:04X}\tunknown\t/CN=two\n" for it in range(256, 290)))
+    with open(f"{folder}/number", "w", encoding="utf-8") as file:
+        file.write("1000\n")
+    own = ["req", "-x509", "-config", "made.cnf", "-extensions", "ext", "-days", "30", "-utf8", "-subj", "/O=a \"b\\\\\t\u202e/CN=Å\U0001f33e"]
+    commands = (
+        ["genpkey", "-algorithm", "EC", "-pkeyopt", "ec_paramgen_curve:P-256", "-out", "made-1.pem"],
+        ["genpkey", "-algorithm", "RSA", "-pkeyopt", "rsa_keygen_bits:1024", "-out", "made-2.pem"],
+        ["pkey", "-in", "made-1.pem", "-pubout", "-outform", "DER", "-out", "made-3.der"],
+        ["rsa", "-in", "made-2.pem", "-traditional", "-out", "made-4.pem"],
+        [*own, "-key", "made-1.pem", "-out", "made-5.pem"],
+        [*own, "-key", "made-2.pem", "-outform", "DER", "-out", "made-6.der"],
+        ["ca", "-gencrl", "-config", "made.cnf", "-keyfile", "made-1.pem", "-cert", "made-5.pem", "-out", "made-7.pem"],
+    )
+    for command in commands:
+        subprocess.run(["openssl", *command], cwd=folder, check=True, capture_output=True)
+    return sorted(glob.glob(f"{folder}/made-*.*"))
+
+
+def refused_files(folder):
+    """Files that are refused, in whole or in part."""
+    cut, wrong_date = message("ED25519")[:-1], bytearray(message("ED25519"))
+    wrong_date[64] = 0x39
+    malformed = bytearray(message("ED25519"))
+    malformed[malformed.rindex(bytes.fromhex("30060101ff020103"))] = 0x31
+    malformed[malformed.index(bytes.fromhex("30168014"))] = 0x31
+    with open(f"{programs.HERE}/views/keys.pem", "rb") as file:
+        keys = file.read()
+    other = b"-----BEGIN PKCS7-----\nMAA=\n-----END PKCS7-----\n"
+    bundle = other + CERTIFICATE.replace(b"MII", b"MIM") + keys + CERTIFICATE.replace(b"\n", b"", 1)
+    files = {"cut": cut, "date": wrong_date, "malformed": malformed, "empty": b"", "other": other, "bundle": bundle}
+    for name, octets in files.items():
+        with open(f"{folder}/refused-{name}", "wb") as file:
+            file.write(octets)
+    return [*(f"{folder}/refused-{name}" for name in files), f"{folder}/none", folder]
+
+
+def write_documents(program, folder):
+    """A document has of each file what its text has, and is of the schema; its status is the greatest of the files'."""
+    is_valid = documents.validator()
+    files = sorted(glob.glob(f"{programs.HERE}/views/*.pem")) + made_by_openssl(folder) + refused_files(folder)
+    for number, octets in enumerate(all_messages()):
+        with open(f"{folder}/message-{number}", "wb") as file:
+            file.write(octets)
+        files.append(f"{folder}/message-{number}")
+    for number in range(0, len(files), 6):
+        write_document(program, is_valid, files[number : number + 6])
+    write_one_document(program, is_valid, folder)
+
+
+def write_document(program, is_valid, files):
+    words = ["--check", "--at", "2026-12-01", "--fingerprint"]
+    alone = [run(program, [*words, file]) for file in files]
+    wanted = [documents.input_of(file, text.decode(), said.decode()) for file, (_, text, said) in zip(files, alone)]
+    status, text, said = run(program, ["--json", *words, *files])
+    ends("--json, the rest", (status, said), (max(ran[0] for ran in alone), b"".join(ran[2] for ran in alone)))
+    document = json.loads(text)
+    if document.keys() != {"inputs"} or len(document["inputs"]) != len(files):
+        fail(f"--json: {len(document['inputs'])} inputs and not {len(files)}")
+    for one, other in zip(document["inputs"], wanted):
+        ends(f"--json {one['name']}", one, other)
+    if is_valid:
+        is_valid.validate(document)
+
+
+def write_one_document(program, is_valid, folder):
+    """Of standard input, of some fields, of a file that is refused, and of a name that is not safe to look at."""
+    wanted = documents.input_of("-", SHOWN.decode(), "")
+    some = [it for it in wanted["messages"][0]["fields"] if it["name"] in ("subject", "not after")]
+    hidden = f"{folder}/a\u202e\"\\\n"
+    with open(hidden, "wb") as file:
+        file.write(CERTIFICATE)
+    shown = hidden.replace("\u202e", "\\e2\\80\\ae").replace("\n", "\\0a")
+    empty = {"number": None, "words": "the input is empty", "position": None, "field": None}
+    of_some = {**wanted, "messages": [{**wanted["messages"][0], "fields": some}]}
+    rows = (
+        (["--json"], CERTIFICATE, wanted),
+        (["--json", "--fields", "not-after,subject"], CERTIFICATE, of_some),
+        (["--json"], b"", {"name": "-", "refused": empty, "messages": []}),
+        (["--json", hidden], b"", {**wanted, "name": shown}),
+    )
+    for words, given, inputs in rows:
+        document = json.loads(run(program, words, given)[1])
+        ends(" ".join(words), document, {"inputs": [inputs]})
+        if is_valid:
+            is_valid.validate(document)
+
+
+def install(program, folder):
+    """What `make install` puts there runs, and its manual page has each option."""
+    if not shutil.which("make"):
+        print("views: left out, make install: there is no make")
+        return
+    words = ["make", "-s", "-C", programs.ROOT, "install", f"PROGRAM={program}", f"DESTDIR={folder}/root", "PREFIX=/usr"]
+    subprocess.run(words, check=True)
+    ends("the installed program", run(f"{folder}/root/usr/bin/certview", [], CERTIFICATE), (0, SHOWN, b""))
+    with open(f"{folder}/root/usr/share/man/man1/certview.1", encoding="utf-8") as file:
+        page = file.read().replace("\\-", "-")
+    options = re.findall(r"--[a-z]+", run(program, ["--help"])[1].decode())
+    for option in options:
+        if option not in page:
+            fail(f"the manual page has no {option}")
+    with open(f"{folder}/root/usr/share/certview/certview.schema.json", encoding="utf-8") as file:
+        json.load(file)
+
+
 def fail_reads_and_writes(program, library):
     for number in range(1, len(CERTIFICATE) // 50 + 2):
         settings = {"LD_PRELOAD": library, "READ_PIECE": "50", "READ_FAILS": str(number)}
@@ -127,6 +383,12 @@ def show_long_text(program, library):
     """A text that is not held whole is the same, and a write that fails in it leaves its beginning."""
     bundle, shown = long_text(50)
     ends("a long text", run(program, [], bundle), (0, shown, b""))
+    document = run(program, ["--json"], bundle)[1]
+    ends("a long document", json.loads(document), {"inputs": [documents.input_of("-", shown.decode(), "")]})
+    for number in (1, 2, 4):
+        settings = {"LD_PRELOAD": library, "WRITE_PIECE": "20000", "WRITE_FAILS": str(number)}
+        wanted = (2, document[: 20000 * (number - 1)], b"certview: output failed\n")
+        ends(f"a long document, write {number}", run(program, ["--json"], bundle, settings), wanted)
     for number in (1, 2, 4):
         settings = {"LD_PRELOAD": library, "WRITE_PIECE": "20000", "WRITE_FAILS": str(number)}
         wanted = (2, shown[: 20000 * (number - 1)], b"certview: output failed\n")
@@ -141,9 +403,10 @@ def show_long_text(program, library):
 def close_the_pipe(program):
     reads, writes = os.pipe()
     os.close(reads)
-    status, _, said = run(program, [], CERTIFICATE, stdout=writes)
+    for words in ([], ["--json"]):
+        status, _, said = run(program, words, CERTIFICATE, stdout=writes)
+        ends("a closed pipe", (status, said), (0, b""))
     os.close(writes)
-    ends("a closed pipe", (status, said), (0, b""))
 
 
 def refuse_memory(program):
@@ -170,6 +433,14 @@ def main():
         ask_for_help(program)
         show_text(program)
         show_what_is_malformed(program)
+        show_what_can_be_read(program)
+        show_nothing_of_others(program)
+        show_whole_texts(program)
+        name_all_fields(program, show_some_fields(program, folder))
+        check_rules(program)
+        show_moments(program)
+        write_documents(program, folder)
+        install(program, folder)
         fail_reads_and_writes(program, library)
         show_long_text(program, library)
         close_the_pipe(program)

@@ -4,7 +4,7 @@
 #![tactic(auto)]
 
 use certview_names::MessageNames;
-use certview_text::{Fault, Outcome, View, plain, run};
+use certview_text::{Fault, Outcome, View, plain, read_input, show, show_refused};
 use der_lines::{Fault as LineFault, LineReader, OctetWriter};
 use lines::{asks_for_lines, fault_of_run};
 use options::{Request, request_of};
@@ -14,8 +14,6 @@ use std::{env, fs};
 
 mod lines;
 mod options;
-#[cfg(test)]
-mod tests;
 
 /// The words of the command line.
 fn words_of(rt: &HostRuntime) -> Result<Vec<String>, Fault> {
@@ -45,52 +43,77 @@ fn answer_lines(rt: &HostRuntime) -> Result<(), Fault> {
     }
 }
 
-/// Shows each file, and answers the greatest status. Where no one reads on, the others are not shown.
+/// What comes after a file.
+#[derive(Clone, Copy, Debug, PartialEq, Eq)]
+enum Next {
+    /// The next one, and this status of the one before.
+    Goes(u8),
+    /// None, and this status: no one reads what is written, or a write failed.
+    Ends(u8),
+}
+
+/// Shows each file, and answers the greatest status. Where no one reads on, or a write failed, the others
+/// are not shown.
 fn show_files(rt: &HostRuntime, request: &Request<'_>) -> u8 {
-    let has_names = request.files.len() > 1;
     let mut status = 0;
-    for file in request.files.as_slice() {
-        match show(rt, file, has_names, request.has_fingerprint) {
-            Some(of_file) => status = of_file.max(status),
-            None => return status,
+    for (number, file) in request.files.as_slice().iter().enumerate() {
+        match show_one(rt, file, &request.view_of(number)) {
+            Next::Goes(of_file) => status = of_file.max(status),
+            Next::Ends(of_file) => return of_file.max(status),
         }
+    }
+    if request.is_json {
+        return end_document(rt).max(status);
     }
     status
 }
 
-/// Shows a file, after its name where there are several, and answers the status: none where no one reads
-/// what is written.
-fn show(rt: &HostRuntime, file: &str, has_name: bool, has_fingerprint: bool) -> Option<u8> {
-    let view = View {
-        name: if has_name { Some(file) } else { None },
-        has_fingerprint,
-    };
-    let shown = if file == "-" {
-        show_input(rt, &view)
-    } else {
-        show_file(rt, &view, file)
-    };
-    match shown {
-        Ok(Outcome::Closed) => None,
-        Ok(outcome) => Some(outcome.status()),
-        Err(fault) => Some(told(rt, file, fault)),
+/// Ends the document of JSON, and answers the status.
+fn end_document(rt: &HostRuntime) -> u8 {
+    match print!(rt; "\n]}}\n") {
+        Ok(()) => 0,
+        Err(error) if error.kind() == io::ErrorKind::BrokenPipe => 0,
+        Err(_) => told(rt, "-", Fault::Output),
     }
 }
 
-fn show_input(rt: &HostRuntime, view: &View<'_>) -> Result<Outcome, Fault> {
+/// Shows a file.
+fn show_one(rt: &HostRuntime, file: &str, view: &View<'_>) -> Next {
+    match octets_of(rt, file) {
+        Ok(octets) => match show(rt.alloc(), view, octets.as_slice(), &mut io::writer(rt)) {
+            Ok(Outcome::Closed) => Next::Ends(0),
+            Ok(outcome) => Next::Goes(outcome.status()),
+            Err(Fault::Output) => Next::Ends(told(rt, file, Fault::Output)),
+            Err(fault) => refuse(rt, file, view, fault, octets.as_slice()),
+        },
+        Err(fault) => refuse(rt, file, view, fault, &[]),
+    }
+}
+
+/// Tells of a file that is refused, and shows what can be read of it.
+fn refuse(rt: &HostRuntime, file: &str, view: &View<'_>, fault: Fault, octets: &[u8]) -> Next {
+    let status = told(rt, file, fault);
+    match show_refused(rt.alloc(), view, &fault, octets, &mut io::writer(rt)) {
+        Ok(Outcome::Closed) => Next::Ends(status),
+        Ok(_) => Next::Goes(status),
+        Err(fault) => Next::Ends(told(rt, file, fault).max(status)),
+    }
+}
+
+/// The octets of a file, or of standard input.
+fn octets_of(rt: &HostRuntime, file: &str) -> Result<Vec<u8>, Fault> {
+    if file != "-" {
+        return match fs::open(rt, file) {
+            Ok(mut opened) => read_input(rt.alloc(), &mut opened),
+            Err(error) => Err(input_fault(&error)),
+        };
+    }
     if rt.stdin().is_terminal() {
         let _ = eprintln!(rt;
             "certview: waiting for a message on standard input (certview --help)"
         );
     }
-    run(rt.alloc(), view, &mut rt.reader(), &mut io::writer(rt))
-}
-
-fn show_file(rt: &HostRuntime, view: &View<'_>, file: &str) -> Result<Outcome, Fault> {
-    match fs::open(rt, file) {
-        Ok(mut opened) => run(rt.alloc(), view, &mut opened, &mut io::writer(rt)),
-        Err(error) => Err(input_fault(&error)),
-    }
+    read_input(rt.alloc(), &mut rt.reader())
 }
 
 /// Tells on standard error of a file that is not shown, and answers the status.

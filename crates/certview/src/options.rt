@@ -1,7 +1,10 @@
 //! The words of the command line.
 
+use certview_text::{Asked, FIELDS, Form, View};
+use clap::error::ErrorKind;
 use clap::{Arg, ArgAction, Command, Error};
-use std::alloc::Global;
+use der_asn1_types::DateTime;
+use std::alloc::{AllocError, Global};
 
 /// What stands behind the options in the help.
 const AFTER: &str = "\
@@ -11,16 +14,52 @@ certificates, lists of revoked certificates, and keys.
 With the word 'lines' alone, it answers lines of standard input, each a message's name,
 a space and hex digits.
 
-The status is 0, 1 for what is refused or could be read in part, and 2 where a file,
-the machine or the command line failed.";
+The status is 0, 1 for what is refused, could be read in part, breaks a rule or is not
+valid, and 2 where a file, the machine or the command line failed.";
 
 /// What is asked for.
 #[derive(Drop)]
 pub struct Request<'a> {
     /// The files, in their order; `-` for standard input, alone where no file is named.
     pub files: Vec<&'a str>,
+    /// The names of the fields that are shown; all, where there are none.
+    pub fields: Option<Vec<&'a str>>,
+    /// Whether the document is JSON.
+    pub is_json: bool,
     /// Whether the SHA-256 of each message is shown.
     pub has_fingerprint: bool,
+    /// What is asked of each message besides its fields.
+    pub asked: Asked,
+}
+
+impl<'a> Request<'a> {
+    /// How the input of this number, from 0 on, is shown.
+    pub fn view_of<'b>(&'b self, number: usize) -> View<'b> {
+        let has_name = self.is_json || self.files.len() > 1;
+        let name = match self.files.get(number) {
+            Some(file) if has_name => Some(*file),
+            _ => None,
+        };
+        let form = if self.is_json {
+            Form::Json(number == 0)
+        } else {
+            Form::Text
+        };
+        View {
+            name,
+            form,
+            fields: self.chosen(),
+            has_fingerprint: self.has_fingerprint,
+            asked: self.asked,
+        }
+    }
+
+    fn chosen<'b>(&'b self) -> Option<&'b [&'b str]> {
+        match &self.fields {
+            Some(fields) => Some(fields.as_slice()),
+            None => None,
+        }
+    }
 }
 
 /// What the words ask for, of which the first is what the program was called by.
@@ -34,10 +73,57 @@ pub fn request_of<'a>(alloc: Global, words: &'a [String]) -> Result<Request<'a>,
         Some(given) => files.extend_from_slice(given)?,
         None => files.push("-")?,
     }
+    let fields = match matches.get_strs("fields") {
+        Some(given) => Some(list_of(alloc, given)?),
+        None => None,
+    };
+    let moment = match matches.get_str("at") {
+        Some(word) => Some(moment_of(alloc, word)?),
+        None => None,
+    };
     Ok(Request {
         files,
+        fields,
+        is_json: matches.get_flag("json"),
         has_fingerprint: matches.get_flag("fingerprint"),
+        asked: Asked {
+            has_rules: matches.get_flag("check"),
+            moment,
+        },
     })
+}
+
+fn list_of<'a>(alloc: Global, words: &[&'a str]) -> Result<Vec<&'a str>, AllocError> {
+    let mut list = Vec::new(alloc);
+    list.extend_from_slice(words)?;
+    Ok(list)
+}
+
+/// The moment that a word says: a day, which is its first second, or a time of RFC 3339 with the letter Z.
+fn moment_of(alloc: Global, word: &str) -> Result<DateTime, Error> {
+    let mut text = String::from_str(alloc, word)?;
+    if word.len() == DAY.len() {
+        text.push_str("T00:00:00Z")?;
+    }
+    match text.as_str().parse::<DateTime>() {
+        Ok(moment) => Ok(moment),
+        Err(_) => {
+            let message = format!(in alloc;
+                "'{word}' is no time: --at takes YYYY-MM-DD or YYYY-MM-DDTHH:MM:SSZ, from 1970 on"
+            )?;
+            Err(command(alloc)?.error(ErrorKind::ValueValidation, message.as_str())?)
+        }
+    }
+}
+
+/// A day as it is written.
+const DAY: &str = "YYYY-MM-DD";
+
+fn flag<'a>(alloc: Global, name: &'a str, help: &'a str) -> Arg<'a> {
+    Arg::new(alloc, name)
+        .long(name)
+        .help(help)
+        .action(ArgAction::SetTrue)
 }
 
 fn command<'a>(alloc: Global) -> Result<Command<'a>, Error> {
@@ -45,15 +131,28 @@ fn command<'a>(alloc: Global) -> Result<Command<'a>, Error> {
         .help("What to read")
         .action(ArgAction::Append)
         .num_args(0..);
-    let fingerprint = Arg::new(alloc, "fingerprint")
-        .long("fingerprint")
-        .help("Shows the SHA-256 of each message but private keys")
-        .action(ArgAction::SetTrue);
+    let fields = Arg::new(alloc, "fields")
+        .long("fields")
+        .value_name("NAME,..")
+        .help("Shows only the fields with these names")
+        .action(ArgAction::Append)
+        .value_delimiter(',')
+        .value_parser(FIELDS.as_slice());
+    let moment = Arg::new(alloc, "at").long("at").value_name("TIME").help(
+        "Says whether each certificate is valid, and each list current, at that day or moment",
+    );
+    let json = "Writes one document of JSON, by docs/certview.schema.json";
+    let check = "Says what each certificate or list breaks of RFC 5280 beyond the grammar";
+    let fingerprint = "Shows the SHA-256 of each message but private keys";
     let command = Command::new(alloc, "certview")
         .version("0.1.0")
         .about("Shows certificates, lists of revoked certificates and keys")
         .after_help(AFTER)
-        .arg(fingerprint)?
+        .arg(flag(alloc, "json", json))?
+        .arg(fields)?
+        .arg(flag(alloc, "check", check))?
+        .arg(moment)?
+        .arg(flag(alloc, "fingerprint", fingerprint))?
         .arg(files)?;
     Ok(command)
 }

@@ -8,10 +8,15 @@ use crate::fault::Fault;
 use crate::hexadecimal::push_with_colons;
 use crate::kind::Kind;
 use crate::label::{Label, kind_with};
+use crate::labels::push_label;
 use crate::lines::{Lines, Stop};
-use crate::page::Page;
+use crate::page::{ItemKind, Page, Span, push_words};
+use crate::path::{IN_FIELD, Path};
 use crate::pem::{Block, Blocks, octets_of};
+use crate::place::Place;
+use crate::readable::push_parts;
 use crate::text::push_message;
+use der_asn1_types::Error;
 use sha2::{Digest, Sha256};
 use std::alloc::{AllocError, Global};
 use std::fmt::Write;
@@ -43,7 +48,8 @@ fn push_fingerprint(page: &mut Page, kind: Kind, octets: &[u8]) -> Result<(), Al
     if kind.is_secret() {
         return Ok(());
     }
-    page.text.push_str("             fingerprint: SHA-256 ")?;
+    push_label(page, &Place::nothing(), "fingerprint")?;
+    page.text.push_str("SHA-256 ")?;
     let digest = Sha256::digest(octets);
     push_with_colons(page, digest.as_slice())?;
     page.text.push('\n')
@@ -127,8 +133,40 @@ fn push_or_tell<L: Lines>(
         Err(Fault::Output) => Err(Stop::Output),
         Err(fault) => {
             push_refused(page, fault)?;
+            push_block_parts(alloc, page, lines, block)?;
             Ok(false)
         }
+    }
+}
+
+/// Adds what can be read of the message of the first block.
+pub fn push_first_parts<L: Lines>(
+    alloc: Global,
+    page: &mut Page,
+    lines: &mut L,
+    text: &[u8],
+) -> Result<(), Stop> {
+    let mut blocks = Blocks::of(text);
+    match blocks.next_block() {
+        Some(block) => push_block_parts(alloc, page, lines, &block),
+        None => Ok(()),
+    }
+}
+
+/// Adds what can be read of the message of a block that is refused.
+fn push_block_parts<L: Lines>(
+    alloc: Global,
+    page: &mut Page,
+    lines: &mut L,
+    block: &Block<'_>,
+) -> Result<(), Stop> {
+    let Some(kind) = kind_with(block.label) else {
+        return Ok(());
+    };
+    match octets_of(alloc, block) {
+        Ok(octets) => push_parts(alloc, page, lines, kind, octets.as_slice()),
+        Err(Fault::Memory) => Err(Stop::Memory),
+        Err(_) => Ok(()),
     }
 }
 
@@ -139,18 +177,54 @@ fn push_heading(
     count: usize,
     block: &Block<'_>,
 ) -> Result<(), AllocError> {
-    if number > 0 {
-        page.text.push('\n')?;
-    }
-    let number = number.saturating_add(1);
+    page.begin(ItemKind::Block(number, count), "")?;
     let label = Label::of(block.label);
-    writeln!(page.text, "block {number} of {count}: {label}")
+    writeln!(page.text, "{label}")
 }
 
-/// Adds the line of a block that is refused.
-fn push_refused(page: &mut Page, fault: Fault) -> Result<(), AllocError> {
+/// Adds that a block, or an input, is refused, and why.
+pub fn push_refused(page: &mut Page, fault: Fault) -> Result<(), AllocError> {
     page.is_partial = true;
-    writeln!(page.text, "{fault}")
+    page.begin(ItemKind::Refused, "")?;
+    match fault {
+        Fault::Refused(error, path) => push_refusal(page, &error, path)?,
+        _ => {
+            let begin = page.text.len();
+            write!(page.text, "{fault}")?;
+            let end = page.text.len();
+            let words = Span {
+                begin: begin.saturating_add(fault.prefix().len()),
+                end,
+            };
+            page.say(None, words, None, Span::nothing())?;
+        }
+    }
+    page.text.push('\n')
+}
+
+/// Adds the number, the words and the place of a fault of octets, and the field in which it was met.
+fn push_refusal(page: &mut Page, error: &Error, path: Path) -> Result<(), AllocError> {
+    let number = error.kind().number();
+    write!(page.text, "refused ({number}): ")?;
+    let words = push_words(page, error)?;
+    let position = match error.position {
+        Some(position) => {
+            write!(page.text, ", at position {position}")?;
+            Some(position.value() as usize)
+        }
+        None => None,
+    };
+    let begin = page.text.len();
+    write!(page.text, "{path}")?;
+    let end = page.text.len();
+    let field = match end.saturating_sub(begin) {
+        0 => Span::nothing(),
+        _ => Span {
+            begin: begin.saturating_add(IN_FIELD.len()),
+            end,
+        },
+    };
+    page.say(Some(number), words, position, field)
 }
 
 fn push_block<L: Lines>(

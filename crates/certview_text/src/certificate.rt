@@ -8,10 +8,12 @@ ghost use Rattle.certview_text.specs.Faults.{first_fault};
 use crate::algorithms::{push_algorithm, push_key};
 use crate::extensions::push_extensions;
 use crate::fault::{Fault, refusal};
+use crate::findings::push_certificate_findings;
 use crate::hexadecimal::{push_digits, push_serial};
 use crate::kind::Kind;
 use crate::labels::{push_label, push_title};
 use crate::lines::{Lines, Stop};
+use crate::moments::push_validity_at;
 use crate::names::push_name;
 use crate::page::Page;
 use crate::site::Site;
@@ -68,7 +70,22 @@ fn push_fields<L: Lines>(
         certificate.signature_algorithm(),
         certificate.signature_value(),
     )?;
+    push_asked(alloc, page, octets, &whole, certificate)?;
     lines.take(page)
+}
+
+/// Adds what is asked of a certificate besides its fields.
+fn push_asked(
+    alloc: Global,
+    page: &mut Page,
+    octets: &[u8],
+    whole: &Site,
+    certificate: &Certificate<'_>,
+) -> Result<(), AllocError> {
+    push_certificate_findings(alloc, page, octets, certificate, whole)?;
+    let signed = whole.field(octets, "tbsCertificate");
+    let place = signed.field(octets, "validity").place;
+    push_validity_at(page, &place, certificate.tbs_certificate().validity())
 }
 
 /// Adds what is signed before its extensions.

@@ -12,6 +12,9 @@ use der_asn1_types::{Error, ErrorKind};
 use std::alloc::AllocError;
 use std::fmt;
 
+/// What stands before the words of what is refused.
+const REFUSED: &str = "refused: ";
+
 /// Why a message is not printed, or not to its end.
 #[derive(Clone, Copy, Debug, PartialEq, Eq)]
 pub enum Fault {
@@ -41,6 +44,14 @@ impl Fault {
         match self {
             Fault::Input | Fault::Output | Fault::Memory => 2,
             _ => 1,
+        }
+    }
+
+    /// What stands before the words of a fault that has no number.
+    pub fn prefix(self) -> &'static str {
+        match self {
+            Fault::Input | Fault::Output | Fault::Memory => "",
+            _ => REFUSED,
         }
     }
 }
@@ -77,11 +88,11 @@ impl fmt::Display for Fault {
                 let number = error.kind().number();
                 write!(f, "refused ({number}): {error}{path}")
             }
-            Fault::Empty => write!(f, "refused: the input is empty"),
-            Fault::UnknownLabel(label) => write!(f, "refused: {label} is not known"),
-            Fault::Encrypted => write!(f, "refused: it is encrypted"),
-            Fault::NoEnd => write!(f, "refused: no line ends the block of PEM text"),
-            Fault::NoBase64 => write!(f, "refused: what stands in the block is no Base64"),
+            Fault::Empty => write!(f, "{REFUSED}the input is empty"),
+            Fault::UnknownLabel(label) => write!(f, "{REFUSED}{label} is not known"),
+            Fault::Encrypted => write!(f, "{REFUSED}it is encrypted"),
+            Fault::NoEnd => write!(f, "{REFUSED}no line ends the block of PEM text"),
+            Fault::NoBase64 => write!(f, "{REFUSED}what stands in the block is no Base64"),
             Fault::Input => write!(f, "input failed"),
             Fault::Output => write!(f, "output failed"),
             Fault::Memory => write!(f, "out of memory"),

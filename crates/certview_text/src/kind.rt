@@ -90,7 +90,7 @@ fn signed_kind(fields: &[u8]) -> Kind
 }
 
 /// Whether the first value is a UTCTime or a GeneralizedTime.
-fn has_time_tag(octets: &[u8]) -> bool
+pub fn has_time_tag(octets: &[u8]) -> bool
     ensures { result ≡ has_time_tag octets.now }
 {
     has_tag(octets, 0x17) || has_tag(octets, 0x18)

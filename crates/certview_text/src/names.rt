@@ -71,7 +71,8 @@ pub fn push_attributes(
     Ok(())
 }
 
-fn push_attribute(
+/// Adds an attribute.
+pub fn push_attribute(
     alloc: Global,
     page: &mut Page,
     attribute: &AttributeTypeAndValue<'_>,

@@ -1,25 +1,179 @@
-//! Text for people as it grows.
+//! The fields of messages as they are found, before they are written.
 
+use crate::asked::Asked;
+use crate::place::Place;
 use der_asn1_types::{Error, ErrorKind};
 use std::alloc::{AllocError, Global};
 use std::fmt::Write;
 
-/// Lines of text, and whether all of what was to be shown could be read.
+/// The fields of messages, in the order in which they stand, and what stands around them: each is an
+/// item. The texts of all stand in one `String`, one after another.
 #[derive(Drop)]
 pub struct Page {
-    /// The lines.
+    /// What the items are called, and what they say, each with a line feed behind it.
     pub text: String,
+    /// The items.
+    pub items: Vec<Item>,
+    /// What is wrong, in the order of the items that it is said of.
+    pub faults: Vec<Said>,
+    /// What is asked of a message besides its fields.
+    pub asked: Asked,
     /// Whether a part could not be read, of which the line says so.
     pub is_partial: bool,
+    /// Whether a message breaks a rule, or is not valid at the moment that is asked for.
+    pub has_findings: bool,
+}
+
+/// An item of a page.
+#[derive(Clone, Copy, Debug, PartialEq, Eq)]
+pub struct Item {
+    /// What it is.
+    pub kind: ItemKind,
+    /// How many octets of the text stand before it: what it is called.
+    pub begin: usize,
+    /// How many octets of the text stand before what it says.
+    pub value: usize,
+}
+
+/// What an item is.
+#[derive(Clone, Copy, Debug, PartialEq, Eq)]
+pub enum ItemKind {
+    /// An input: its name.
+    Input,
+    /// One of several blocks of PEM text, by its number from 0 on, of so many: its label.
+    Block(usize, usize),
+    /// A message: what a person calls it, and where it stands.
+    Message(Place),
+    /// A field of a message: its label, and what it says, and where it stands.
+    Field(Place),
+    /// That a message, or an input, is refused, and why.
+    Refused,
+}
+
+/// What is wrong with an item, as its text says it.
+#[derive(Clone, Copy, Debug, PartialEq, Eq)]
+pub struct Said {
+    /// How many items stand before the one that it is said of.
+    pub item: usize,
+    /// The number of the fault of octets.
+    pub number: Option<u8>,
+    /// Where the words stand.
+    pub words: Span,
+    /// How many octets of the message had been read.
+    pub position: Option<usize>,
+    /// Where the name of the field stands, if the fault has one.
+    pub field: Span,
+}
+
+/// A part of the text of a page.
+#[derive(Clone, Copy, Debug, PartialEq, Eq)]
+pub struct Span {
+    /// How many octets stand before it.
+    pub begin: usize,
+    /// How many octets stand before what follows it.
+    pub end: usize,
 }
 
 impl Page {
-    /// No lines.
+    /// No fields, of a message of which nothing else is asked.
     pub fn new(alloc: Global) -> Page {
+        Page::asking(alloc, Asked::nothing())
+    }
+
+    /// No fields.
+    pub fn asking(alloc: Global, asked: Asked) -> Page {
         Page {
             text: String::new(alloc),
+            items: Vec::new(alloc),
+            faults: Vec::new(alloc),
+            asked,
             is_partial: false,
+            has_findings: false,
         }
+    }
+
+    /// Whether a message is begun.
+    pub fn has_message(&self) -> bool {
+        for item in &self.items {
+            if let ItemKind::Message(_) = item.kind {
+                return true;
+            }
+        }
+        false
+    }
+
+    /// Drops all items.
+    pub fn clear(&mut self) {
+        self.text.clear();
+        self.items.clear();
+        self.faults.clear();
+    }
+
+    /// Begins an item that is called so. What it says is added to the text, and a line feed.
+    pub fn begin(&mut self, kind: ItemKind, name: &str) -> Result<(), AllocError> {
+        let begin = self.text.len();
+        self.text.push_str(name)?;
+        let value = self.text.len();
+        self.items.push(Item { kind, begin, value })?;
+        Ok(())
+    }
+
+    /// Notes what is wrong with the last item.
+    pub fn say(
+        &mut self,
+        number: Option<u8>,
+        words: Span,
+        position: Option<usize>,
+        field: Span,
+    ) -> Result<(), AllocError> {
+        let item = self.items.len().saturating_sub(1);
+        self.faults.push(Said {
+            item,
+            number,
+            words,
+            position,
+            field,
+        })?;
+        Ok(())
+    }
+
+    /// The part of the text that stands there.
+    pub fn part(&self, span: Span) -> &str {
+        let Some((front, _)) = self.text.as_str().split_at_checked(span.end) else {
+            return "";
+        };
+        match front.split_at_checked(span.begin) {
+            Some((_, part)) => part,
+            None => "",
+        }
+    }
+
+    /// What the item of this number says, without the line feed.
+    pub fn value_of(&self, index: usize, item: &Item) -> &str {
+        let end = match self.items.get(index.saturating_add(1)) {
+            Some(next) => next.begin,
+            None => self.text.len(),
+        };
+        let value = self.part(Span {
+            begin: item.value,
+            end,
+        });
+        value.strip_suffix("\n").unwrap_or(value)
+    }
+
+    /// What an item is called.
+    pub fn name_of(&self, item: &Item) -> &str {
+        self.part(Span {
+            begin: item.begin,
+            end: item.value,
+        })
+    }
+}
+
+impl Span {
+    /// No octets.
+    pub fn nothing() -> Span {
+        Span { begin: 0, end: 0 }
     }
 }
 
@@ -43,11 +197,25 @@ pub fn push_malformed(page: &mut Page, begin: usize, error: Error) -> Result<(),
     }
     page.is_partial = true;
     let number = kind.number();
-    write!(page.text, "malformed ({number}: {kind})")?;
+    write!(page.text, "malformed ({number}: ")?;
+    let words = push_words(page, &error)?;
+    page.text.push(')')?;
+    page.say(Some(number), words, place, Span::nothing())?;
     match place {
         Some(place) => write!(page.text, " at position {place}"),
         None => Ok(()),
     }
+}
+
+/// Adds the words of a fault, and answers where they stand.
+pub fn push_words(page: &mut Page, error: &Error) -> Result<Span, AllocError> {
+    let begin = page.text.len();
+    let kind = error.kind();
+    write!(page.text, "{kind}")?;
+    Ok(Span {
+        begin,
+        end: page.text.len(),
+    })
 }
 
 /// How many octets of the message had been read at a fault in octets before which so many stand.

@@ -5,6 +5,9 @@ use crate::site::{Site, of_kind};
 use der_asn1_types::{Error, ErrorKind};
 use std::fmt;
 
+/// What stands before the name of the field.
+pub const IN_FIELD: &str = ", in ";
+
 /// A field of a message: its place among the fields of the message, the place among the fields of that
 /// of one within it, and so on; after them the greatest number. There are none for a fault of the
 /// message as a whole.
@@ -89,7 +92,7 @@ impl fmt::Display for Path {
         write!(
             f,
             "{}{first}{}{second}",
-            before(first, ", in "),
+            before(first, IN_FIELD),
             before(second, ".")
         )?;
         write!(

@@ -15,6 +15,15 @@ pub struct Place {
 }
 
 impl Place {
+    /// No octets, of what has no place.
+    pub fn nothing() -> Place {
+        Place {
+            begin: 0,
+            contents: 0,
+            end: 0,
+        }
+    }
+
     /// How many octets the encoding has.
     pub fn len(self) -> usize {
         self.end.saturating_sub(self.begin)

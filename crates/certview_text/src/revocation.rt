@@ -9,10 +9,12 @@ use crate::algorithms::push_algorithm;
 use crate::certificate::{push_signature, push_version};
 use crate::extensions::{push_extension, push_extensions};
 use crate::fault::{Fault, refusal};
+use crate::findings::push_list_findings;
 use crate::hexadecimal::push_serial;
 use crate::kind::Kind;
 use crate::labels::{push_label, push_title};
 use crate::lines::{Lines, Stop};
+use crate::moments::push_currency_at;
 use crate::names::push_name;
 use crate::page::Page;
 use crate::site::{Site, Sites};
@@ -62,7 +64,23 @@ fn push_fields<L: Lines>(
         list.signature_algorithm(),
         list.signature_value(),
     )?;
+    push_asked(alloc, page, octets, &whole, list)?;
     lines.take(page)
+}
+
+/// Adds what is asked of a list besides its fields.
+fn push_asked(
+    alloc: Global,
+    page: &mut Page,
+    octets: &[u8],
+    whole: &Site,
+    list: &CertificateList<'_>,
+) -> Result<(), AllocError> {
+    push_list_findings(alloc, page, octets, list, whole)?;
+    let signed = list.tbs_cert_list();
+    let site = whole.field(octets, "tbsCertList");
+    let place = site.field(octets, "thisUpdate").place;
+    push_currency_at(page, &place, signed.this_update(), signed.next_update())
 }
 
 fn push_signed(
@@ -147,7 +165,7 @@ fn push_entries<L: Lines>(
 }
 
 /// Adds the serial number, since when it is revoked, and its extensions; and ends the line.
-fn push_entry(
+pub fn push_entry(
     alloc: Global,
     page: &mut Page,
     octets: &[u8],

@@ -6,12 +6,14 @@ ghost use Rattle.certview_text.specs.Grammars.{grammar_of};
 
 use crate::certificate::push_certificate;
 use crate::fault::Fault;
+use crate::form::{Form, Writer};
 use crate::keys::{push_ec_private_key, push_private_key, push_public_key, push_rsa_public_key};
 use crate::kind::Kind;
 use crate::lines::{Held, Lines};
 use crate::page::Page;
 use crate::revocation::push_list;
 use crate::rsa::push_rsa_private_key;
+use crate::viewing::text_of;
 use der_asn1_types::{Error, ErrorKind};
 use std::alloc::Global;
 
@@ -51,7 +53,10 @@ pub fn shown(alloc: Global, kind: Kind, octets: &[u8]) -> Result<String, Error>
 {
     let mut page = Page::new(alloc);
     match push_message(alloc, &mut page, &mut Held, kind, octets) {
-        Ok(()) => Ok(page.text),
+        Ok(()) => match text_of(alloc, Writer::new(Form::Text, None), &page) {
+            Ok(text) => Ok(text),
+            Err(_) => Err(Error::from_kind(ErrorKind::Memory)),
+        },
         Err(Fault::Refused(error, _)) => Err(error),
         Err(_) => Err(Error::from_kind(ErrorKind::Memory)),
     }

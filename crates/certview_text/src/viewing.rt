@@ -1,26 +1,35 @@
 //! From what is read to what is written.
 
-ghost use Rattle.std.specs.Prelude.{◌≡◌, ◌≢◌, OnOk, IfErr, IfSome};
+ghost use Rattle.std.specs.Prelude.{◌≡◌, ◌≢◌, OnOk, IfOk, IfErr, IfSome};
 ghost use Rattle.std.specs.Io.KnownBytes.{Keeps};
 ghost use Rattle.certview_text.specs.Shown.{IsShown};
 
-use crate::blocks::{push_blocks, push_octets};
+use crate::asked::Asked;
+use crate::blocks::{push_blocks, push_first_parts, push_octets, push_refused};
 use crate::characters::push_plain;
 use crate::fault::Fault;
+use crate::form::{Form, Writer};
 use crate::kind::kind_of;
-use crate::lines::{Lines, Measured, Written};
-use crate::page::Page;
+use crate::lines::{Lines, Measured, Stop, Written};
+use crate::page::{ItemKind, Page};
 use crate::pem::is_text;
-use std::alloc::Global;
+use crate::readable::push_parts;
+use std::alloc::{AllocError, Global};
 use std::io::{self, Read, Write};
 
 /// How an input is shown.
 #[derive(Clone, Copy, Debug, PartialEq, Eq)]
 pub struct View<'a> {
-    /// What the input is called, in a line before its messages.
+    /// What the input is called, before its messages.
     pub name: Option<&'a str>,
+    /// In which form.
+    pub form: Form,
+    /// The names of the fields that are shown; all, where there are none.
+    pub fields: Option<&'a [&'a str]>,
     /// Whether the SHA-256 of each message is shown.
     pub has_fingerprint: bool,
+    /// What is asked of each message besides.
+    pub asked: Asked,
 }
 
 /// What became of an input of which a message was shown.
@@ -30,23 +39,50 @@ pub enum Outcome {
     Whole,
     /// A part could not be read, of which a line says so.
     Partial,
+    /// All of it is shown, and what was asked of it does not hold, of which a line says so.
+    Found,
     /// No one reads what is written.
     Closed,
 }
 
-impl Outcome {
-    /// The exit status: 1 for what is shown in part.
-    pub fn status(self) -> u8 {
-        match self {
-            Outcome::Partial => 1,
-            Outcome::Whole | Outcome::Closed => 0,
+impl<'a> View<'a> {
+    /// All fields of messages with no name, for people.
+    pub fn plain() -> View<'a> {
+        View {
+            name: None,
+            form: Form::Text,
+            fields: None,
+            has_fingerprint: false,
+            asked: Asked::nothing(),
         }
     }
 }
 
-/// Reads all of the input, and writes the fields of the messages that it carries. The text is made once
-/// before the first octet is written; of a long one this is to know that nothing of it is refused, and it
-/// is made again as it is written, a piece at a time.
+impl Outcome {
+    /// The exit status: 1 for what is shown in part, and for what does not hold.
+    pub fn status(self) -> u8 {
+        match self {
+            Outcome::Partial | Outcome::Found => 1,
+            Outcome::Whole | Outcome::Closed => 0,
+        }
+    }
+
+    /// What became of an input that is on this page.
+    fn of(page: &Page) -> Outcome {
+        if page.is_partial {
+            Outcome::Partial
+        } else if page.has_findings {
+            Outcome::Found
+        } else {
+            Outcome::Whole
+        }
+    }
+}
+
+/// Reads all of the input, and writes the fields of the messages that it carries, as `show` does.
+///
+/// # Errors
+/// `Input` where a read fails; `Memory`; and as `show`.
 pub fn run<R: Read, W: Write>(
     alloc: Global,
     view: &View<'_>,
@@ -59,21 +95,76 @@ pub fn run<R: Read, W: Write>(
     // Unless a write fails, nothing was written where there is a fault.
     ensures kept { IfErr result (λ fault. fault ≢ Fault.Output → Keeps (W.contents output.old) (W.contents output.new)) }
 {
+    let octets = read_input(alloc, input)?;
+    show(alloc, view, octets.as_slice(), output)
+}
+
+/// Reads all of an input.
+///
+/// # Errors
+/// `Input` where a read fails; `Memory`.
+pub fn read_input<R: Read>(alloc: Global, input: &mut R) -> Result<Vec<u8>, Fault>
+    ensures { IfOk result (λ octets. IfSome (R.remaining input.old) (λ all. octets.items ≡ all)) }
+{
     let mut octets = Vec::new(alloc);
-    if let Err(error) = input.read_to_end(&mut octets) {
-        return Err(read_fault(&error));
-    }
-    match measured(alloc, view, octets.as_slice())? {
-        Some(page) => write_page(output, &page),
-        None => write_long(alloc, view, octets.as_slice(), output),
+    match input.read_to_end(&mut octets) {
+        Ok(_) => Ok(octets),
+        Err(error) => Err(read_fault(&error)),
     }
 }
 
-/// The text of an input, if it is not long.
+/// Writes the fields of the messages that an input carries. The items are found once before the first octet
+/// is written; of a long input this is to know that nothing of it is refused, and they are found again as
+/// they are written, a piece at a time.
+///
+/// # Errors
+/// The fault of the input; `Output` where a write fails; `Memory`.
+pub fn show<W: Write>(
+    alloc: Global,
+    view: &View<'_>,
+    input: &[u8],
+    output: &mut W,
+) -> Result<Outcome, Fault>
+    ensures read { OnOk result (IsShown input.now) }
+    ensures kept { IfErr result (λ fault. fault ≢ Fault.Output → Keeps (W.contents output.old) (W.contents output.new)) }
+{
+    match measured(alloc, view, input)? {
+        Some(page) => write_page(alloc, view, &page, output),
+        None => write_long(alloc, view, input, output),
+    }
+}
+
+/// Writes of an input that is refused why, and below that what can be read of it, a field on its own: for
+/// people nothing, where there is no such field; in JSON that it is refused.
+///
+/// # Errors
+/// `Output` where a write fails; `Memory`.
+pub fn show_refused<W: Write>(
+    alloc: Global,
+    view: &View<'_>,
+    fault: &Fault,
+    input: &[u8],
+    output: &mut W,
+) -> Result<Outcome, Fault>
+    ensures { IfErr result (λ fault. fault ≢ Fault.Output → Keeps (W.contents output.old) (W.contents output.new)) }
+{
+    let mut page = Page::new(alloc);
+    let mut lines = Measured { is_long: false };
+    push_remains(alloc, &mut page, &mut lines, view, fault, input)?;
+    if lines.is_long {
+        return write_long_remains(alloc, view, fault, input, output);
+    }
+    if view.form == Form::Text && !page.has_message() {
+        return Ok(Outcome::Partial);
+    }
+    write_page(alloc, view, &page, output)
+}
+
+/// The items of an input, if they are not long.
 fn measured(alloc: Global, view: &View<'_>, input: &[u8]) -> Result<Option<Page>, Fault>
     ensures { OnOk result (IsShown input.now) }
 {
-    let mut page = Page::new(alloc);
+    let mut page = Page::asking(alloc, view.asked);
     let mut lines = Measured { is_long: false };
     push_input(alloc, &mut page, &mut lines, view, input)?;
     if lines.is_long {
@@ -92,24 +183,73 @@ fn write_long<W: Write>(
 ) -> Result<Outcome, Fault>
     ensures { IfErr result (λ fault. fault ≡ Fault.Output) }
 {
+    let mut page = Page::asking(alloc, view.asked);
+    let mut lines = Written::new(alloc, output, Writer::new(view.form, view.fields));
+    let pushed = push_input(alloc, &mut page, &mut lines, view, input);
+    end_long(pushed.is_ok(), &page, &mut lines)
+}
+
+/// The same of one that is refused.
+fn write_long_remains<W: Write>(
+    alloc: Global,
+    view: &View<'_>,
+    fault: &Fault,
+    input: &[u8],
+    output: &mut W,
+) -> Result<Outcome, Fault>
+    ensures { IfErr result (λ fault. fault ≡ Fault.Output) }
+{
     let mut page = Page::new(alloc);
-    let mut lines = Written::new(output);
-    let result = push_input(alloc, &mut page, &mut lines, view, input);
-    let is_closed = lines.is_closed;
-    match result {
-        Ok(()) => write_page(output, &page),
-        Err(_) if is_closed => Ok(Outcome::Closed),
-        Err(_) => Err(Fault::Output),
+    let mut lines = Written::new(alloc, output, Writer::new(view.form, view.fields));
+    let pushed = push_remains(alloc, &mut page, &mut lines, view, fault, input);
+    end_long(pushed.is_ok(), &page, &mut lines)
+}
+
+/// Writes what is left of a long text, of which all items were found.
+fn end_long<W: Write>(
+    is_whole: bool,
+    page: &Page,
+    lines: &mut Written<'_, '_, W>,
+) -> Result<Outcome, Fault>
+    ensures { IfErr result (λ fault. fault ≡ Fault.Output) }
+{
+    if is_whole && lines.end(page).is_ok() {
+        Ok(Outcome::of(page))
+    } else if lines.is_closed {
+        Ok(Outcome::Closed)
+    } else {
+        Err(Fault::Output)
     }
 }
 
-/// Writes what a page has. A pipe that is closed is no fault: no one reads on.
-fn write_page<W: Write>(output: &mut W, page: &Page) -> Result<Outcome, Fault>
+/// Writes what a page has.
+fn write_page<W: Write>(
+    alloc: Global,
+    view: &View<'_>,
+    page: &Page,
+    output: &mut W,
+) -> Result<Outcome, Fault>
+    ensures { IfErr result (λ fault. fault ≢ Fault.Output → Keeps (W.contents output.old) (W.contents output.new)) }
+{
+    let text = text_of(alloc, Writer::new(view.form, view.fields), page)?;
+    write_text(output, text.as_str(), Outcome::of(page))
+}
+
+/// The text of a page as a whole.
+pub fn text_of(alloc: Global, writer: Writer<'_>, page: &Page) -> Result<String, AllocError> {
+    let mut writer = writer;
+    let mut text = String::new(alloc);
+    writer.add(alloc, &mut text, page)?;
+    writer.end(&mut text)?;
+    Ok(text)
+}
+
+/// Writes a text. A pipe that is closed is no fault: no one reads on.
+fn write_text<W: Write>(output: &mut W, text: &str, outcome: Outcome) -> Result<Outcome, Fault>
     ensures { IfErr result (λ fault. fault ≡ Fault.Output) }
 {
-    match output.write_all(page.text.as_bytes()) {
-        Ok(()) if page.is_partial => Ok(Outcome::Partial),
-        Ok(()) => Ok(Outcome::Whole),
+    match output.write_all(text.as_bytes()) {
+        Ok(()) => Ok(outcome),
         Err(error) if error.kind() == io::ErrorKind::BrokenPipe => Ok(Outcome::Closed),
         Err(_) => Err(Fault::Output),
     }
@@ -133,10 +273,7 @@ fn push_input<L: Lines>(
 ) -> Result<(), Fault>
     ensures { OnOk result (IsShown input.now) }
 {
-    if let Some(name) = view.name {
-        push_plain(page, name)?;
-        page.text.push_str(":\n")?;
-    }
+    push_input_name(page, view)?;
     if input.is_empty() {
         return Err(Fault::Empty);
     }
@@ -145,4 +282,47 @@ fn push_input<L: Lines>(
     }
     let kind = kind_of(input);
     push_octets(alloc, page, lines, view.has_fingerprint, kind, input)
+}
+
+/// Adds why an input is refused, and what can be read of it.
+fn push_remains<L: Lines>(
+    alloc: Global,
+    page: &mut Page,
+    lines: &mut L,
+    view: &View<'_>,
+    fault: &Fault,
+    input: &[u8],
+) -> Result<(), Fault> {
+    push_input_name(page, view)?;
+    push_refused(page, *fault)?;
+    match *fault {
+        Fault::Refused(_, _) => Ok(push_parts_of(alloc, page, lines, input)?),
+        _ => Ok(()),
+    }
+}
+
+/// Adds what can be read of an input that is refused.
+fn push_parts_of<L: Lines>(
+    alloc: Global,
+    page: &mut Page,
+    lines: &mut L,
+    input: &[u8],
+) -> Result<(), Stop> {
+    if is_text(input) {
+        push_first_parts(alloc, page, lines, input)
+    } else {
+        push_parts(alloc, page, lines, kind_of(input), input)
+    }
+}
+
+/// Begins an input with its name, if it is to have one: in JSON each has.
+fn push_input_name(page: &mut Page, view: &View<'_>) -> Result<(), AllocError> {
+    match (view.name, view.form) {
+        (None, Form::Text) => Ok(()),
+        (name, _) => {
+            page.begin(ItemKind::Input, "")?;
+            push_plain(page, name.unwrap_or("-"))?;
+            page.text.push('\n')
+        }
+    }
 }

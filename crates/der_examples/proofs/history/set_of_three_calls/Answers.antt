@@ -1,7 +1,7 @@
 use Rattle.std.proofs.Common.{[], ◌∷◌, ◌++◌, sym, subst}
-use Rattle.der_nest.specs.Places.{IsInOrder}
-use Rattle.der_nest.specs.Stable.{IsSetOf}
-use Rattle.der_nest_tests.proofs.tests.history.three_calls.Goals as goal
+use Rattle.der_asn1_types.specs.Places.{IsInOrder}
+use Rattle.der_asn1_types.specs.Stable.{IsSetOf}
+use Rattle.der_examples.proofs.history.set_of_three_calls.Goals as goal
 
 pub returns : goal.returns
 returns g c =

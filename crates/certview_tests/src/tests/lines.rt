@@ -1,10 +1,8 @@
 //! Lines of messages: each message comes to itself, each beginning of one is refused, and a name of
 //! none is a bad line.
 
-use super::fault_of_run;
 use certview_names::MessageNames;
-use certview_text::Fault;
-use der_lines::{LineReader, OctetWriter, run};
+use der_lines::{Fault, LineReader, OctetWriter, run};
 use std::alloc::{AllocError, Global};
 use std::process::Abort;
 use std::test::Fail;
@@ -167,7 +165,7 @@ fn answers(alloc: Global, text: &[u8]) -> (Result<(), Fault>, Vec<u8>) {
     let mut written = Vec::new(alloc);
     let mut input = LineReader::new(text, u64::MAX);
     let mut output = OctetWriter::new(&mut written);
-    let result = run::<MessageNames, _, _>(alloc, &mut input, &mut output).map_err(fault_of_run);
+    let result = run::<MessageNames, _, _>(alloc, &mut input, &mut output);
     (result, written)
 }
 

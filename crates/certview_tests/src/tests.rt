@@ -1,10 +1,12 @@
 //! Messages that OpenSSL wrote, whole, cut short and with octets after them.
 
 mod blocks;
+mod documents;
 mod examples;
 mod extensions;
 mod faults;
 mod kinds;
+mod lines;
 mod messages;
 mod names;
 
@@ -16,11 +18,7 @@ use std::test::Fail;
 
 /// What a run answers and writes.
 fn written(alloc: Global, input: &[u8]) -> (Result<Outcome, Fault>, Vec<u8>) {
-    let view = View {
-        name: None,
-        has_fingerprint: false,
-    };
-    written_so(alloc, &view, input)
+    written_so(alloc, &View::plain(), input)
 }
 
 /// What a run answers and writes that shows an input so.

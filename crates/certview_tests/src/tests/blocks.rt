@@ -86,6 +86,7 @@ fn names_the_input_and_shows_a_fingerprint(rt: HostRuntime) -> Result<(), Fail> 
     let view = View {
         name: Some("a\u{202e}b"),
         has_fingerprint: true,
+        ..View::plain()
     };
     let (result, written) = written_so(rt.alloc(), &view, octets.as_slice());
     assert_eq!(rt; result, Ok(Outcome::Whole));

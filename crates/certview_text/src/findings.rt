@@ -1,0 +1,242 @@
+//! What a certificate or a list of revoked certificates breaks of RFC 5280 beyond its grammar, as text.
+
+use crate::labels::push_label;
+use crate::page::Page;
+use crate::place::Place;
+use crate::site::{Site, Sites};
+use der_pkix::certificate::{Certificate, Extension, Extensions};
+use der_pkix::crl::CertificateList;
+use der_verify::{CertificateRule, ListRule, check_certificate, check_list};
+use std::alloc::{AllocError, Global};
+use std::fmt::Write;
+
+/// A field that breaks a rule: its name; the contents octets of its identifier, if it is an extension; and
+/// what is wrong with it.
+#[derive(Clone, Copy, Debug, PartialEq, Eq)]
+struct Finding {
+    field: &'static str,
+    extension: &'static [u8],
+    words: &'static str,
+}
+
+/// Adds a field for each rule that a certificate breaks, where that is asked for.
+pub fn push_certificate_findings(
+    alloc: Global,
+    page: &mut Page,
+    octets: &[u8],
+    certificate: &Certificate<'_>,
+    whole: &Site,
+) -> Result<(), AllocError> {
+    if !page.asked.has_rules {
+        return Ok(());
+    }
+    let signed = whole.field(octets, "tbsCertificate");
+    let list = signed.field(octets, "extensions");
+    let extensions = certificate.tbs_certificate().extensions();
+    let rules = check_certificate(alloc, certificate)?;
+    for rule in rules.as_slice() {
+        let finding = certificate_finding(*rule);
+        let place = place_of(octets, whole, &signed, &list, extensions, &finding);
+        push_finding(page, &place, rule.section(), &finding)?;
+    }
+    Ok(())
+}
+
+/// Adds a field for each rule that a list breaks, where that is asked for.
+pub fn push_list_findings(
+    alloc: Global,
+    page: &mut Page,
+    octets: &[u8],
+    list: &CertificateList<'_>,
+    whole: &Site,
+) -> Result<(), AllocError> {
+    if !page.asked.has_rules {
+        return Ok(());
+    }
+    let signed = whole.field(octets, "tbsCertList");
+    let site = signed.field(octets, "crlExtensions");
+    let extensions = list.tbs_cert_list().crl_extensions();
+    let rules = check_list(alloc, list)?;
+    for rule in rules.as_slice() {
+        let finding = list_finding(*rule);
+        let place = place_of(octets, whole, &signed, &site, extensions, &finding);
+        push_finding(page, &place, rule.section(), &finding)?;
+    }
+    Ok(())
+}
+
+fn push_finding(
+    page: &mut Page,
+    place: &Place,
+    section: &str,
+    finding: &Finding,
+) -> Result<(), AllocError> {
+    page.has_findings = true;
+    push_label(page, place, "breaks")?;
+    let (field, words) = (finding.field, finding.words);
+    writeln!(page.text, "RFC 5280 section {section}, {field} {words}")
+}
+
+/// Where the field stands that breaks a rule: an extension in the list of them, or a field of what is
+/// signed, or the algorithm outside of it.
+fn place_of(
+    octets: &[u8],
+    whole: &Site,
+    signed: &Site,
+    list: &Site,
+    extensions: Option<&Extensions<'_>>,
+    finding: &Finding,
+) -> Place {
+    if !finding.extension.is_empty() {
+        return match extensions {
+            Some(some) => place_of_extension(octets, list, some.as_slice(), finding.extension),
+            None => place_of_extension(octets, list, &[], finding.extension),
+        };
+    }
+    if finding.field == "signatureAlgorithm" {
+        return whole.field(octets, finding.field).place;
+    }
+    signed.field(octets, finding.field).place
+}
+
+/// Where the first extension with this identifier stands.
+fn place_of_extension(
+    octets: &[u8],
+    list: &Site,
+    extensions: &[Extension<'_>],
+    identifier: &[u8],
+) -> Place {
+    let inner = list.field(octets, "");
+    let mut sites = Sites::within(octets, &inner);
+    for extension in extensions {
+        let place = sites.next_site().unwrap_or(inner.nothing()).place;
+        if extension.extn_id().as_bytes() == identifier {
+            return place;
+        }
+    }
+    list.place
+}
+
+/// A field that breaks a rule.
+fn of_field(field: &'static str, words: &'static str) -> Finding {
+    Finding {
+        field,
+        extension: &[],
+        words,
+    }
+}
+
+fn is_critical(field: &'static str, extension: &'static [u8]) -> Finding {
+    Finding {
+        field,
+        extension,
+        words: "is critical",
+    }
+}
+
+fn is_not_critical(field: &'static str, extension: &'static [u8]) -> Finding {
+    Finding {
+        field,
+        extension,
+        words: "is not critical",
+    }
+}
+
+/// What a certificate has that breaks a rule.
+fn certificate_finding(rule: CertificateRule) -> Finding {
+    match rule {
+        CertificateRule::AlgorithmsAgree => {
+            of_field("signatureAlgorithm", "is not the algorithm of signature")
+        }
+        CertificateRule::ExtensionsInVersion3 => {
+            of_field("extensions", "stand in a version other than 3")
+        }
+        CertificateRule::SerialNumberIsPositive => of_field("serialNumber", "is not positive"),
+        CertificateRule::SerialNumberHasAtMost20Octets => {
+            of_field("serialNumber", "has more than 20 octets")
+        }
+        CertificateRule::IssuerIsNotEmpty => of_field("issuer", "is empty"),
+        CertificateRule::EmptySubjectHasCriticalAltName => {
+            of_field("subject", "is empty, and no subjectAltName is critical")
+        }
+        CertificateRule::UniqueIdentifiersInVersion2 => {
+            of_field("version", "is 1, and a unique identifier is there")
+        }
+        CertificateRule::ExtensionsStandOnce => of_field("extensions", "have one twice"),
+        CertificateRule::BasicConstraintsOfCaIsCritical => {
+            is_not_critical("basicConstraints", &[0x55, 0x1d, 19])
+        }
+        _ => certificate_criticality(rule),
+    }
+}
+
+fn certificate_criticality(rule: CertificateRule) -> Finding {
+    match rule {
+        CertificateRule::AuthorityKeyIdentifierIsNotCritical => {
+            is_critical("authorityKeyIdentifier", &[0x55, 0x1d, 35])
+        }
+        CertificateRule::SubjectKeyIdentifierIsNotCritical => {
+            is_critical("subjectKeyIdentifier", &[0x55, 0x1d, 14])
+        }
+        CertificateRule::SubjectDirectoryAttributesIsNotCritical => {
+            is_critical("subjectDirectoryAttributes", &[0x55, 0x1d, 9])
+        }
+        CertificateRule::FreshestCrlIsNotCritical => {
+            is_critical("freshestCRL", &[0x55, 0x1d, 46])
+        }
+        CertificateRule::AuthorityInfoAccessIsNotCritical => {
+            is_critical("authorityInfoAccess", &[0x2b, 6, 1, 5, 5, 7, 1, 1])
+        }
+        CertificateRule::SubjectInfoAccessIsNotCritical => {
+            is_critical("subjectInfoAccess", &[0x2b, 6, 1, 5, 5, 7, 1, 11])
+        }
+        CertificateRule::NameConstraintsIsCritical => {
+            is_not_critical("nameConstraints", &[0x55, 0x1d, 30])
+        }
+        CertificateRule::PolicyConstraintsIsCritical => {
+            is_not_critical("policyConstraints", &[0x55, 0x1d, 36])
+        }
+        _ => is_not_critical("inhibitAnyPolicy", &[0x55, 0x1d, 54]),
+    }
+}
+
+/// What a list has that breaks a rule.
+fn list_finding(rule: ListRule) -> Finding {
+    match rule {
+        ListRule::AlgorithmsAgree => {
+            of_field("signatureAlgorithm", "is not the algorithm of signature")
+        }
+        ListRule::ExtensionsInVersion2 => {
+            of_field("version", "is not 2, and there are extensions")
+        }
+        ListRule::IssuerIsNotEmpty => of_field("issuer", "is empty"),
+        ListRule::NextUpdateIsThere => of_field("nextUpdate", "is absent"),
+        ListRule::EmptyListIsAbsent => of_field("revokedCertificates", "has no entry"),
+        ListRule::ExtensionsStandOnce => of_field("crlExtensions", "have one twice"),
+        ListRule::ReasonCodeIsNotCritical => {
+            of_field("revokedCertificates", "has a critical reasonCode")
+        }
+        ListRule::InvalidityDateIsNotCritical => {
+            of_field("revokedCertificates", "has a critical invalidityDate")
+        }
+        ListRule::CertificateIssuerIsCritical => of_field(
+            "revokedCertificates",
+            "has a certificateIssuer that is not critical",
+        ),
+        _ => list_criticality(rule),
+    }
+}
+
+fn list_criticality(rule: ListRule) -> Finding {
+    match rule {
+        ListRule::CrlNumberIsNotCritical => is_critical("cRLNumber", &[0x55, 0x1d, 20]),
+        ListRule::DeltaCrlIndicatorIsCritical => {
+            is_not_critical("deltaCRLIndicator", &[0x55, 0x1d, 27])
+        }
+        ListRule::IssuingDistributionPointIsCritical => {
+            is_not_critical("issuingDistributionPoint", &[0x55, 0x1d, 28])
+        }
+        ListRule::FreshestCrlIsNotCritical => is_critical("freshestCRL", &[0x55, 0x1d, 46]),
+        _ => is_critical("authorityInfoAccess", &[0x2b, 6, 1, 5, 5, 7, 1, 1]),
+    }
+}

@@ -1,0 +1,140 @@
+//! The two forms in which the items of a page are written.
+
+use crate::json::Json;
+use crate::page::{Item, ItemKind, Page};
+use crate::place::Place;
+use std::alloc::{AllocError, Global};
+use std::fmt::Write;
+
+/// In which form fields are written.
+#[derive(Clone, Copy, Debug, PartialEq, Eq)]
+pub enum Form {
+    /// For people, a line each.
+    Text,
+    /// In one document of JSON, in which the input is the first or another one.
+    Json(bool),
+}
+
+/// Writes the items of pages, which follow one another.
+#[derive(Clone, Copy, Debug)]
+pub struct Writer<'a> {
+    fields: Option<&'a [&'a str]>,
+    json: Option<Json>,
+}
+
+impl<'a> Writer<'a> {
+    /// Writes in this form the fields with these names, or all.
+    pub fn new(form: Form, fields: Option<&'a [&'a str]>) -> Writer<'a> {
+        Writer {
+            fields,
+            json: match form {
+                Form::Text => None,
+                Form::Json(is_first) => Some(Json::new(is_first)),
+            },
+        }
+    }
+
+    /// Adds the items of a page.
+    pub fn add(&mut self, alloc: Global, out: &mut String, page: &Page) -> Result<(), AllocError> {
+        let mut said: usize = 0;
+        for (index, item) in page.items.as_slice().iter().enumerate() {
+            if self.is_left_out(page, item) {
+                continue;
+            }
+            match &mut self.json {
+                Some(json) => said = json.add(alloc, out, page, index, item, said)?,
+                None => push_item(out, page, index, item, self.fields.is_none())?,
+            }
+        }
+        Ok(())
+    }
+
+    /// Adds what stands behind the last item.
+    pub fn end(&mut self, out: &mut String) -> Result<(), AllocError> {
+        match &mut self.json {
+            Some(json) => json.end(out),
+            None => Ok(()),
+        }
+    }
+
+    /// Whether an item is a field that is not asked for.
+    fn is_left_out(&self, page: &Page, item: &Item) -> bool {
+        match (self.fields, item.kind) {
+            (Some(fields), ItemKind::Field(_)) => !is_one_of(fields, page.name_of(item)),
+            _ => false,
+        }
+    }
+}
+
+/// Whether a label is one of these names.
+fn is_one_of(names: &[&str], label: &str) -> bool {
+    for name in names {
+        if is_name_of(name.as_bytes(), label.as_bytes()) {
+            return true;
+        }
+    }
+    false
+}
+
+/// Whether this is the name of a label: the label with a `-` for each space.
+fn is_name_of(name: &[u8], label: &[u8]) -> bool {
+    if name.len() != label.len() {
+        return false;
+    }
+    for (one, other) in name.iter().zip(label.iter()) {
+        let wanted = if *other == b' ' { b'-' } else { *other };
+        if *one != wanted {
+            return false;
+        }
+    }
+    true
+}
+
+/// Adds the line of an item. Where only some fields are asked for, the line of a message is left out.
+fn push_item(
+    out: &mut String,
+    page: &Page,
+    index: usize,
+    item: &Item,
+    has_titles: bool,
+) -> Result<(), AllocError> {
+    let name = page.name_of(item);
+    let value = page.value_of(index, item);
+    match item.kind {
+        ItemKind::Input => writeln!(out, "{value}:"),
+        ItemKind::Block(number, count) => push_heading(out, number, count, value),
+        ItemKind::Message(place) if has_titles => {
+            push_place(out, &place)?;
+            writeln!(out, "{name}")
+        }
+        ItemKind::Message(_) => Ok(()),
+        ItemKind::Field(place) => {
+            push_place(out, &place)?;
+            writeln!(out, "{name}: {value}")
+        }
+        ItemKind::Refused => writeln!(out, "{value}"),
+    }
+}
+
+/// Adds the line that names one of several blocks.
+fn push_heading(
+    out: &mut String,
+    number: usize,
+    count: usize,
+    label: &str,
+) -> Result<(), AllocError> {
+    if number > 0 {
+        out.push('\n')?;
+    }
+    let number = number.saturating_add(1);
+    writeln!(out, "block {number} of {count}: {label}")
+}
+
+/// Adds how many octets stand before a field, and how many it has; no numbers of a field that is absent.
+fn push_place(out: &mut String, place: &Place) -> Result<(), AllocError> {
+    let (begin, count) = (place.begin, place.len());
+    if count == 0 {
+        return out.push_str("             ");
+    }
+    write!(out, "{begin:>5} {count:>5}  ")
+}

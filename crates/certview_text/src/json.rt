@@ -1,0 +1,285 @@
+//! The items of a page as a part of a document of JSON, of which `docs/certview.schema.json` is the
+//! schema.
+
+use crate::page::{Item, ItemKind, Page, Said, Span};
+use crate::place::Place;
+use crate::quoted::quoted;
+use std::alloc::{AllocError, Global};
+use std::fmt::Write;
+
+/// How far an input is written.
+#[derive(Clone, Copy, Debug, PartialEq, Eq)]
+enum State {
+    /// Not at all.
+    Begin,
+    /// To its name.
+    Named,
+    /// To the label of a block.
+    Headed,
+    /// To why a block is refused.
+    Refused,
+    /// To the end of a message.
+    Between,
+    /// To where the first field of a message stands.
+    Titled,
+    /// To the end of a field.
+    Within,
+    /// To its end.
+    End,
+}
+
+/// Writes items in JSON, which follow one another.
+#[derive(Clone, Copy, Debug)]
+pub struct Json {
+    is_first: bool,
+    state: State,
+}
+
+impl Json {
+    /// The part of an input, the first of a document or another one.
+    pub fn new(is_first: bool) -> Json {
+        Json {
+            is_first,
+            state: State::Begin,
+        }
+    }
+
+    /// Adds an item, of which the faults stand behind so many others, and answers how many stand before
+    /// those of the next one.
+    pub fn add(
+        &mut self,
+        alloc: Global,
+        out: &mut String,
+        page: &Page,
+        index: usize,
+        item: &Item,
+        said: usize,
+    ) -> Result<usize, AllocError> {
+        let said = first_of(page, index, said);
+        match item.kind {
+            ItemKind::Input => self.push_input(alloc, out, page.value_of(index, item))?,
+            ItemKind::Block(number, count) => {
+                let label = quoted(alloc, page.value_of(index, item))?;
+                self.push_block(out, number, count, label.as_str())?
+            }
+            ItemKind::Message(place) => {
+                let kind = quoted(alloc, page.name_of(item))?;
+                self.push_message(out, &place, kind.as_str())?
+            }
+            ItemKind::Field(place) => {
+                let name = quoted(alloc, page.name_of(item))?;
+                let value = quoted(alloc, page.value_of(index, item))?;
+                self.push_field(out, &place, name.as_str(), value.as_str())?;
+                let after = push_malformed(alloc, out, page, index, said)?;
+                out.push('}')?;
+                return Ok(after);
+            }
+            ItemKind::Refused => return self.push_refused(alloc, out, page, index, said),
+        }
+        Ok(said)
+    }
+
+    /// Adds what stands behind the last item.
+    pub fn end(&mut self, out: &mut String) -> Result<(), AllocError> {
+        self.end_message(out)?;
+        match self.state {
+            State::Between => out.push_str("\n]}")?,
+            State::Named => out.push_str(", \"messages\": []}")?,
+            _ => {}
+        }
+        self.state = State::End;
+        Ok(())
+    }
+
+    fn push_input(
+        &mut self,
+        alloc: Global,
+        out: &mut String,
+        name: &str,
+    ) -> Result<(), AllocError> {
+        let before = if self.is_first {
+            "{\"inputs\": [\n"
+        } else {
+            ",\n"
+        };
+        let name = quoted(alloc, name)?;
+        write!(out, "{before}{{\"name\": {name}")?;
+        self.state = State::Named;
+        Ok(())
+    }
+
+    /// Ends the object of a message, if one is begun.
+    fn end_message(&mut self, out: &mut String) -> Result<(), AllocError> {
+        let end = match self.state {
+            State::Titled | State::Within => "\n]}",
+            State::Headed | State::Refused => "}",
+            _ => return Ok(()),
+        };
+        self.state = State::Between;
+        out.push_str(end)
+    }
+
+    /// Begins the object of a message.
+    fn begin_message(&mut self, out: &mut String) -> Result<(), AllocError> {
+        self.end_message(out)?;
+        out.push_str(match self.state {
+            State::Named => ", \"messages\": [\n{",
+            _ => ",\n{",
+        })
+    }
+
+    fn push_block(
+        &mut self,
+        out: &mut String,
+        number: usize,
+        count: usize,
+        label: &str,
+    ) -> Result<(), AllocError> {
+        self.begin_message(out)?;
+        let number = number.saturating_add(1);
+        write!(
+            out,
+            "\"block\": {{\"number\": {number}, \"count\": {count}, \"label\": {label}}}"
+        )?;
+        self.state = State::Headed;
+        Ok(())
+    }
+
+    fn push_message(
+        &mut self,
+        out: &mut String,
+        place: &Place,
+        kind: &str,
+    ) -> Result<(), AllocError> {
+        match self.state {
+            State::Headed | State::Refused => out.push_str(", ")?,
+            _ => self.begin_message(out)?,
+        }
+        write!(out, "\"kind\": {kind}, ")?;
+        push_place(out, place)?;
+        out.push_str(", \"fields\": [")?;
+        self.state = State::Titled;
+        Ok(())
+    }
+
+    /// Adds a field without its end.
+    fn push_field(
+        &mut self,
+        out: &mut String,
+        place: &Place,
+        name: &str,
+        value: &str,
+    ) -> Result<(), AllocError> {
+        out.push_str(match self.state {
+            State::Titled => "\n{",
+            _ => ",\n{",
+        })?;
+        push_place(out, place)?;
+        write!(out, ", \"name\": {name}, \"value\": {value}")?;
+        self.state = State::Within;
+        Ok(())
+    }
+
+    /// Adds why a message of a block, or an input, is refused. The parts of it that can be read may follow.
+    fn push_refused(
+        &mut self,
+        alloc: Global,
+        out: &mut String,
+        page: &Page,
+        index: usize,
+        said: usize,
+    ) -> Result<usize, AllocError> {
+        let Some(fault) = fault_of(page, index, said) else {
+            return Ok(said);
+        };
+        out.push_str(", \"refused\": ")?;
+        push_fault(alloc, out, page, &fault)?;
+        if self.state == State::Headed {
+            self.state = State::Refused;
+        }
+        Ok(said.saturating_add(1))
+    }
+}
+
+/// How many faults stand before those of an item, from so many on.
+fn first_of(page: &Page, index: usize, said: usize) -> usize {
+    let mut first = said;
+    for number in said..page.faults.len() {
+        if page.faults[number].item >= index {
+            return first;
+        }
+        first = number.saturating_add(1);
+    }
+    first
+}
+
+/// The fault of an item, where it stands behind so many others.
+fn fault_of(page: &Page, index: usize, said: usize) -> Option<Said> {
+    match page.faults.as_slice().get(said) {
+        Some(fault) if fault.item == index => Some(*fault),
+        _ => None,
+    }
+}
+
+/// Adds the faults of a field, which stand behind so many others, and answers how many stand before those
+/// of the next item.
+fn push_malformed(
+    alloc: Global,
+    out: &mut String,
+    page: &Page,
+    index: usize,
+    said: usize,
+) -> Result<usize, AllocError> {
+    let mut after = said;
+    for number in said..page.faults.len() {
+        let Some(fault) = fault_of(page, index, number) else {
+            break;
+        };
+        out.push_str(if number == said {
+            ", \"malformed\": ["
+        } else {
+            ", "
+        })?;
+        push_fault(alloc, out, page, &fault)?;
+        after = number.saturating_add(1);
+    }
+    if after > said {
+        out.push(']')?;
+    }
+    Ok(after)
+}
+
+/// Adds a fault: its number, its words, its position and the field, each `null` where there is none.
+fn push_fault(
+    alloc: Global,
+    out: &mut String,
+    page: &Page,
+    fault: &Said,
+) -> Result<(), AllocError> {
+    out.push_str("{\"number\": ")?;
+    match fault.number {
+        Some(number) => write!(out, "{number}")?,
+        None => out.push_str("null")?,
+    }
+    let words = quoted(alloc, page.part(fault.words))?;
+    write!(out, ", \"words\": {words}, \"position\": ")?;
+    match fault.position {
+        Some(position) => write!(out, "{position}")?,
+        None => out.push_str("null")?,
+    }
+    out.push_str(", \"field\": ")?;
+    if fault.field == Span::nothing() {
+        return out.push_str("null}");
+    }
+    let field = quoted(alloc, page.part(fault.field))?;
+    write!(out, "{field}}}")
+}
+
+/// Adds how many octets stand before a field, and how many it has; `null` twice of a field that is absent.
+fn push_place(out: &mut String, place: &Place) -> Result<(), AllocError> {
+    let (begin, count) = (place.begin, place.len());
+    if count == 0 {
+        return out.push_str("\"offset\": null, \"length\": null");
+    }
+    write!(out, "\"offset\": {begin}, \"length\": {count}")
+}

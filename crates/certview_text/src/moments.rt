@@ -1,0 +1,109 @@
+//! Whether a certificate is valid, or a list of revoked certificates current, at a moment, as text.
+
+ghost use Rattle.std.specs.Prelude.{◌≡◌, ◌↔◌, IsTrue};
+ghost use Rattle.der_verify.specs.Time.{is_valid_at, seconds_of};
+ghost use Rattle.certview_text.specs.declared.moments.Standing.TheVariants.{Within};
+ghost use Rattle.certview_text.specs.Moments.{is_current_at};
+
+use crate::labels::push_label;
+use crate::page::Page;
+use crate::place::Place;
+use crate::times::push_date_time;
+use der_asn1_types::DateTime;
+use der_pkix::certificate::{Time, Validity};
+use der_verify::{holds_at, seconds};
+use std::alloc::AllocError;
+
+/// Where a moment stands.
+#[derive(Clone, Copy, Debug, PartialEq, Eq)]
+enum Standing {
+    /// Before the first second.
+    Before,
+    /// From the first second to the last.
+    Within,
+    /// After the last second.
+    After,
+}
+
+/// Adds a field that says whether a certificate is valid at the moment that is asked for.
+pub fn push_validity_at(
+    page: &mut Page,
+    place: &Place,
+    validity: Validity,
+) -> Result<(), AllocError> {
+    let Some(moment) = page.asked.moment else {
+        return Ok(());
+    };
+    let words = match certificate_standing(validity, seconds_at(&moment)) {
+        Standing::Before => "not valid yet",
+        Standing::Within => "valid",
+        Standing::After => "no longer valid",
+    };
+    push_at(page, place, &moment, words, words == "valid")
+}
+
+/// Adds a field that says whether a list is current at the moment that is asked for.
+pub fn push_currency_at(
+    page: &mut Page,
+    place: &Place,
+    first: Time,
+    last: Option<Time>,
+) -> Result<(), AllocError> {
+    let Some(moment) = page.asked.moment else {
+        return Ok(());
+    };
+    let words = match list_standing(first, last, seconds_at(&moment)) {
+        Standing::Before => "not current yet",
+        Standing::Within => "current",
+        Standing::After => "no longer current",
+    };
+    push_at(page, place, &moment, words, words == "current")
+}
+
+/// The seconds from 1970-01-01T00:00:00Z.
+fn seconds_at(moment: &DateTime) -> u64 {
+    moment.unix_duration().as_secs()
+}
+
+fn push_at(
+    page: &mut Page,
+    place: &Place,
+    moment: &DateTime,
+    words: &str,
+    holds: bool,
+) -> Result<(), AllocError> {
+    push_label(page, place, "at")?;
+    push_date_time(page, moment)?;
+    page.text.push_str(", ")?;
+    page.text.push_str(words)?;
+    if !holds {
+        page.has_findings = true;
+    }
+    page.text.push('\n')
+}
+
+/// Where a moment, in seconds from 1970-01-01T00:00:00Z, stands to a validity.
+fn certificate_standing(validity: Validity, moment: u64) -> Standing
+    ensures { (result ≡ Within) ↔ IsTrue (is_valid_at validity moment) }
+{
+    if holds_at(validity, moment) {
+        Standing::Within
+    } else if moment < seconds(validity.not_before()) {
+        Standing::Before
+    } else {
+        Standing::After
+    }
+}
+
+/// Where a moment stands to the times of a list: where no next one is told of, it stays current.
+fn list_standing(first: Time, last: Option<Time>, moment: u64) -> Standing
+    ensures { (result ≡ Within) ↔ IsTrue (is_current_at first last moment) }
+{
+    if moment < seconds(first) {
+        return Standing::Before;
+    }
+    match last {
+        Some(last) if seconds(last) < moment => Standing::After,
+        _ => Standing::Within,
+    }
+}
