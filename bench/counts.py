@@ -35,6 +35,7 @@ def rows():
         ("read and write a certificate", b"C", leaves, len(leaves)),
         ("read an entry of a list", b"l", entries, ENTRIES),
         ("read SignedData", b"s", signed, len(signed)),
+        ("walk SignedData", b"w", signed, len(signed)),
         ("read an OCSP answer", b"a", answers, len(answers)),
     ]
 

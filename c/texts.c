@@ -25,5 +25,7 @@ const char *der_number_text(uint32_t number)
     };
     if (number == DER_BAD_PLACE)
         return "a place that is not within the octets";
+    if (number == DER_NULL_POINTER)
+        return "a null pointer with a length";
     return number < sizeof texts / sizeof texts[0] ? texts[number] : "no such number";
 }

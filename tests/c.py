@@ -1,5 +1,6 @@
 #!/usr/bin/env python3
-"""Builds the library for C, links it and calls it: from C beside OpenSSL, from Rust, and from Python beside `cryptography`.
+"""Builds the library for C, links it and calls it: from C beside OpenSSL, from Rust, from Python beside `cryptography`, and
+from Go beside crypto/x509.
 
     python3 tests/c.py [--built TREE]
 
@@ -20,20 +21,21 @@ ROOT = os.path.dirname(os.path.dirname(os.path.abspath(__file__)))
 SYSTEM = "/etc/ssl/certs/ca-certificates.crt"
 # what the shared object may ask of the C library, and of the linker
 ASKED = re.compile(r"^(malloc|realloc|free|mem(cpy|move|set|cmp)|bcmp|_ITM_.*|__gmon_start__|__cxa_finalize|__stack_chk_fail)$")
-CALLS = """abi_version certificate certificate_list contents extension number_text private_key_info revoked_certificate
-signed_octets subject_public_key_info""".split()
+CALLS = """abi_version attribute attribute_type_and_value certificate certificate_list contents extension next_encoding
+number_text private_key_info revoked_certificate signed_octets subject_public_key_info""".split()
 
 
 class Trials:
-    """What was tried, counted and said."""
+    """What was tried, counted and said, of something with a name."""
 
-    def __init__(self):
+    def __init__(self, of):
+        self.of = of
         self.passed = self.failed = 0
 
     def tell(self, name, why):
         """Counts a trial, with what is wrong, or nothing."""
         self.passed, self.failed = self.passed + (not why), self.failed + bool(why)
-        print(f"FAILED: c: {name}: {why}" if why else f"c: {name}: well", flush=True)
+        print(f"FAILED: {self.of}: {name}: {why}" if why else f"{self.of}: {name}: well", flush=True)
 
     def run(self, name, words, **others):
         """Runs a command that must end with the status 0; gives what it printed."""
@@ -42,7 +44,7 @@ class Trials:
         return ran.stdout
 
     def left_out(self, name, tool):
-        print(f"c: {name}: left out, since {tool} is not there", flush=True)
+        print(f"{self.of}: {name}: left out, since {tool} is not there", flush=True)
 
 
 def pem_blocks(text, label):
@@ -85,7 +87,8 @@ def make_messages(room):
     )
     for command in commands:
         subprocess.run(command.split(), cwd=room, check=True, capture_output=True)
-    return [f"{room}/{name}.pem" for name in ("ed", "ec", "rsa", "ec-public", "rsa-public", "own", "list")]
+    names = "ed ec rsa ec-public rsa-public own list".split()
+    return [f"{room}/{name}.pem" for name in names]
 
 
 def try_symbols(trials, room):
@@ -117,8 +120,9 @@ def try_c(trials, room, sample, files):
     if subprocess.run(["cc", "-E", "-x", "c", "-"], input="#include <openssl/x509.h>\n", text=True, capture_output=True).returncode:
         trials.left_out("C beside OpenSSL", "openssl/x509.h")
     else:
-        trials.run("make build/beside_openssl", [*make, f"{room}/build/beside_openssl"])
-        print(trials.run("C beside OpenSSL", [f"{room}/build/beside_openssl", *files]), end="")
+        for name in ("beside_openssl", "signed_beside_openssl"):
+            trials.run(f"make build/{name}", [*make, f"{room}/build/{name}"])
+            print(trials.run(f"C: {name}", [f"{room}/build/{name}", *files]), end="")
     if shutil.which("valgrind"):
         words = ["valgrind", "-q", "--error-exitcode=9", "--leak-check=full", f"{room}/build/calls", sample]
         trials.run("calls under valgrind", words)
@@ -204,9 +208,21 @@ def try_python(trials, room, files):
     trials.run("the tests in Python", [sys.executable, "-B", "-W", "ignore", "-m", "unittest", "-q", "tests/test_derproved.py"], **others)
 
 
+def try_go(trials, room, files):
+    """The package for Go, and its tests beside crypto/x509."""
+    if not shutil.which("go"):
+        trials.left_out("Go", "go, of Debian's package golang-go,")
+        return
+    settings = {**os.environ, "CGO_LDFLAGS": f"-L{room}/build", "GOCACHE": f"{room}/go", "DER_TEST_FILES": os.pathsep.join(files)}
+    others = {"cwd": f"{ROOT}/go", "env": settings}
+    trials.run("go vet", ["go", "vet", "./..."], **others)
+    told = trials.run("the tests in Go", ["go", "test", "-count=1", "-v", "./..."], **others)
+    print("c: Go beside crypto/x509:", *re.findall(r"\d+ certificates", told))
+
+
 def main(words):
     tree = words[1] if words[:1] == ["--built"] else ROOT
-    trials = Trials()
+    trials = Trials("c")
     if not shutil.which("cc") or not shutil.which("make"):
         trials.left_out("the library for C", "a C compiler or make")
         print("0 passed, 0 failed")
@@ -221,9 +237,12 @@ def main(words):
         system = [name for path in glob.glob(SYSTEM) for name in write_files(open(path, encoding="utf-8").read(), "CERTIFICATE", room)]
         try_c(trials, room, samples[0], files)
         try_symbols(trials, room)
-        try_fuzzer(trials, room, system or samples)
+        text = "".join(open(name, encoding="utf-8").read() for name in own)
+        seeds = [name for label in ("X509 CRL") for name in write_files(text, label, room)]
+        try_fuzzer(trials, room, (system or samples) + seeds)
         try_rust(trials, room, system or samples)
         try_python(trials, room, own)
+        try_go(trials, room, own)
     print(f"{trials.passed} passed, {trials.failed} failed")
     return 1 if trials.failed else 0
 

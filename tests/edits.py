@@ -1,7 +1,7 @@
 #!/usr/bin/env python3
 """Tries the edits of crates/NAME/must-fail: each turns the meaning of a function, and the prover must refuse it.
 
-    python3 tests/edits.py [--built TREE [--log FILE]] [--anew] [NAME..]
+    python3 tests/edits.py [--built TREE [--log FILE]] [--anew] [--write] [NAME..]
 
 Edits of different functions are tried in one check: a function is proved from the contracts of those that it calls, and
 not from their bodies. An edit is refused where the check says of the function that it changes that its own proof fails.
@@ -15,8 +15,10 @@ what that 'rt ci' prints, where it is still at work: the edits of a crate are tr
 low priority, so that they fill what the proofs leave free; once it has ended they have the priority of this run. JOBS says
 how many crates are tried at a time, of which half wait for the end of 'rt ci'. The dearest are tried first.
 
-What is refused is kept on the machine (kept_edits.py), and not tried again until something changes that it stands on; with
---anew each edit is tried. The last line counts."""
+What is refused is kept on the machine (kept_edits.py), and not tried again until something changes that it stands on. What
+the record tests/refused-edits has of the same sources and the same kit is not tried either, but of some crates that are drawn
+by lot: the lot falls anew with each change of a source. With --anew each edit is tried; with --write the record is written of
+what is refused. The last line counts."""
 import glob
 import os
 import shutil
@@ -28,12 +30,14 @@ from concurrent.futures import ThreadPoolExecutor
 
 from edit_checks import Builds, crates_of, kit_of_rt
 from edit_texts import Edit, group_of
-from kept_edits import PARTS, RULES, Kept, sum_of, sum_of_kit
+from kept_edits import PARTS, RULES, Kept, Record, sum_of, sum_of_kit
 
 ROOT = os.path.dirname(os.path.dirname(os.path.abspath(__file__)))
 WEAK = " (only because a proof file names what the edit took away)"
 # How many seconds the edits of a crate take for each of its bytes and of the crates that it stands on, where no run has told.
 SECONDS = 1 / 2500
+# Of the edits that are on record at least this share is tried, those of whole crates.
+BY_LOT = 1 / 12
 printing = threading.Lock()
 
 
@@ -43,15 +47,19 @@ def say(text):
 
 
 class Trial:
-    """The edits of a crate: those that an earlier run has refused, and those that are to be tried."""
+    """The edits of a crate: those that are known to be refused, and those that are to be tried."""
 
     def __init__(self, crate, edits, kit_sum, kept):
         self.crate, self.edits, self.kit_sum, self.kept = crate, edits, kit_sum, kept
         self.faults, self.sums, self.mark, self.took = [], self.sums_now(), None, 0
-        known = {it: said for it in edits if (said := kept.refusal(self.sums[it]))}
-        for said in known.values():
-            say(said)
-        self.left = [it for it in edits if it not in known]
+        self.refused = {it: said for it in edits if (said := kept.refusal(self.sums[it]))}
+        self.left = [it for it in edits if it not in self.refused]
+
+    def take_record(self, record):
+        """Takes what the record has of the edits that are left for known."""
+        of_record = [it for it in self.left if record.has(it.label, self.sums[it])]
+        self.refused.update((it, f"{it.label}: refused, by the record") for it in of_record)
+        self.left = [it for it in self.left if it not in of_record]
 
     def sums_now(self):
         """A sum, for each edit, of all that its refusal stands on."""
@@ -84,7 +92,7 @@ class Trial:
     def refuse(self, edit, why):
         """Notes that an edit is refused, and keeps it if the libraries are still those that were there at the beginning."""
         self.left.remove(edit)
-        said = f"{edit.label}: refused{why}"
+        said = self.refused[edit] = f"{edit.label}: refused{why}"
         say(said)
         if self.mark is not None and self.mark == self.crate.mark():
             self.kept.keep(self.sums[edit], said)
@@ -191,35 +199,66 @@ def copy_sources(room):
                 shutil.copytree(f"{path}/{part}", f"{room}/{os.path.basename(path)}/{part}")
 
 
+def drawn(trials):
+    """The crates whose edits are tried though the record has them: by lot, which the sums of all edits decide."""
+    whole = sum_of([sorted(it.sums.values()) for it in trials])
+    number, found = sum(len(it.edits) for it in trials), []
+    for trial in sorted(trials, key=lambda it: sum_of(whole, it.crate.name)):
+        if sum(len(it.edits) for it in found) < BY_LOT * number:
+            found.append(trial)
+    return found
+
+
 def edits_of(crate):
     return [Edit(crate, it) for it in sorted(glob.glob(f"{ROOT}/crates/{crate.name}/must-fail/*.edit"))]
 
 
-def main(words):
-    tree, log, anew = ROOT, None, False
+def tried_by_record(trials, record):
+    """Takes what the record has for known, but of the crates that are drawn."""
+    lot = drawn(trials)
+    for trial in trials:
+        if trial not in lot:
+            trial.take_record(record)
+    say("drawn by lot: " + ", ".join(it.crate.name for it in lot))
+
+
+def words_of(words):
+    """What the words ask for: the tree in which the crates are built, its log, whether all are tried, whether the record is
+    written, and the names of crates."""
+    tree, log = ROOT, None
     if words[:1] == ["--built"]:
         tree, words = words[1], words[2:]
     if words[:1] == ["--log"]:
         log, words = words[1], words[2:]
-    if words[:1] == ["--anew"]:
-        anew, words = True, words[1:]
+    anew, writes = "--anew" in words, "--write" in words
+    return tree, log, anew, writes, [it for it in words if it not in ("--anew", "--write")]
+
+
+def main(words):
+    tree, log, anew, writes, names = words_of(words)
     kit = kit_of_rt()
-    kept, builds = Kept(kit, anew), Builds(kit, tree, log)
+    kept, builds, record = Kept(kit, anew), Builds(kit, tree, log), Record(f"{ROOT}/tests/refused-edits")
     if not kept.is_usable:
         say(f"{kept.at} cannot be written to, so nothing is kept for the next run")
     with tempfile.TemporaryDirectory(prefix="sources-") as room:
         copy_sources(room)
         crates, kit_sum = crates_of(ROOT, room, builds), sum_of_kit(kit)
-        edits = {it: edits_of(crates[it]) for it in (words or crates)}
+        edits = {it: edits_of(crates[it]) for it in (names or crates)}
         trials = [Trial(crates[it], found, kit_sum, kept) for it, found in edits.items() if found]
+        if not anew and not names:
+            tried_by_record(trials, record)
         number, tried = sum(len(it.edits) for it in trials), sum(len(it.left) for it in trials)
-        say(f"{number - tried} of {number} edits were refused by earlier runs, and nothing has changed that they stand on")
+        say(f"{number - tried} of {number} edits are known to be refused, and nothing has changed that they stand on")
         Work(trials, builds, int(os.environ.get("JOBS") or len(os.sched_getaffinity(0)))).run()
     dearest = sorted((it for it in trials if it.took), key=lambda it: -it.took)[:10]
     say("dearest crates, in seconds: " + (", ".join(f"{it.crate.name} {it.took:.0f}" for it in dearest) or "none"))
     faults = [(edit, why) for it in trials for edit, why in it.faults]
     for edit, why in faults:
         say(f"FAILED: {edit.label}: {why}")
+    if writes:
+        there = {it.label for name in crates for it in edits_of(crates[name])}
+        sums = {**record.sums, **{edit.label: it.sums[edit] for it in trials for edit in it.refused}}
+        record.write({label: sum for label, sum in sums.items() if label in there})
     failed = len(faults)
     print(f"{number - failed} passed, {failed} failed")
     return 1 if failed else 0

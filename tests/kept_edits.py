@@ -4,7 +4,10 @@ tried.
 
 A refusal is a file of its own, named by the sum of all that, in a folder where 'rt' keeps its proofs, outside each checkout.
 It is written apart and then renamed, so that two runs at once do no harm. What was not refused is not kept. Beside the
-refusals stands how long the edits of each crate took."""
+refusals stands how long the edits of each crate took.
+
+The record, tests/refused-edits, has these sums for other machines: a line for each edit that was refused where the record was
+written. It is a part of the repository, so who changes a source writes it anew."""
 import hashlib
 import importlib.machinery
 import importlib.util
@@ -19,8 +22,28 @@ RULES = 1
 PARTS = ("src", "specs", "proofs")
 
 
+class Record:
+    """The sums of the edits that were refused where the record was written, by their labels."""
+
+    def __init__(self, file):
+        self.file, self.sums = file, {}
+        if os.path.isfile(file):
+            with open(file, encoding="utf-8") as lines:
+                for line in lines:
+                    sum, label = line.split()
+                    self.sums[label] = sum
+
+    def has(self, label, sum):
+        return self.sums.get(label) == sum
+
+    def write(self, sums):
+        """Writes a record of these sums by the labels of edits, and of no others."""
+        with open(self.file, "w", encoding="utf-8") as file:
+            file.writelines(f"{sum} {label}\n" for label, sum in sorted(sums.items()))
+
+
 class Kept:
-    """The refusals of earlier runs, and how long the edits of each crate took."""
+    """The refusals of earlier runs on this machine, and how long the edits of each crate took."""
 
     def __init__(self, kit, anew=False):
         self.anew, self.at = anew, f"{os.path.dirname(kit)}/rattle-kept/der-edits"
@@ -91,21 +114,26 @@ def octets_of(path):
         return file.read()
 
 
+def rtlib_of(kit):
+    """The module of the kit that knows crates, with each crate's stamp read once."""
+    loader = importlib.machinery.SourceFileLoader("rtlib", f"{kit}/bin/rtlib.py")
+    sys.modules["rtlib"] = rtlib = importlib.util.module_from_spec(importlib.util.spec_from_loader("rtlib", loader))
+    loader.exec_module(rtlib)
+    made, seen = rtlib.Crate.stamp, {}
+
+    def stamp(crate):
+        if crate.folder not in seen:
+            seen[crate.folder] = made(crate)
+        return seen[crate.folder]
+
+    rtlib.Crate.stamp = stamp
+    return rtlib
+
+
 def built_of_sources(kit, tree):
     """The names of the crates in a tree whose libraries 'rt check' has built of the sources that stand there now."""
     try:
-        loader = importlib.machinery.SourceFileLoader("rtlib", f"{kit}/bin/rtlib.py")
-        sys.modules["rtlib"] = rtlib = importlib.util.module_from_spec(importlib.util.spec_from_loader("rtlib", loader))
-        loader.exec_module(rtlib)
-        made, seen = rtlib.Crate.stamp, {}
-
-        def stamp(crate):
-            if crate.folder not in seen:
-                seen[crate.folder] = made(crate)
-            return seen[crate.folder]
-
-        rtlib.Crate.stamp = stamp
-        return {it.name for it in rtlib.crates_below(tree) if not it.is_program and it.is_built()}
+        return {it.name for it in rtlib_of(kit).crates_below(tree) if not it.is_program and it.is_built()}
     except (Exception, SystemExit):
         # (a kit with other insides: then nothing is kept)
         return set()

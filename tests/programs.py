@@ -21,8 +21,8 @@ def has_compiler():
     return shutil.which(COMPILER.split()[0]) is not None
 
 
-def build(name, to, extra=None):
-    """Builds the program of the crate, or of the sources of the folder `extra` as a crate above der_asn1_types."""
+def build(name, to, extra=None, uses="der_asn1_types"):
+    """Builds the program of the crate, or of the sources of the folder `extra` as a crate that uses these crates."""
     with tempfile.TemporaryDirectory(prefix="der-tests-") as work:
         leave_out = shutil.ignore_patterns("out", "must-fail")
         shutil.copytree(f"{ROOT}/crates", f"{work}/crates", ignore=leave_out)
@@ -37,7 +37,7 @@ def build(name, to, extra=None):
                 if file.endswith(".txt"):
                     shutil.copy(f"{extra}/{file}", f"{crate}/src/{file[:-4]}.rt")
             with open(f"{work}/crates.txt", "a") as list_of_crates:
-                list_of_crates.write(f"{name}: der_asn1_types\n")
+                list_of_crates.write(f"{name}: {uses}\n")
         os.makedirs(f"{crate}/c")
         shutil.copy(f"{HERE}/keep.c", f"{crate}/c/keep.c")
         kept = f"{work}/kept"

@@ -1,4 +1,5 @@
-/* DER of certificates, lists of revoked ones and keys, proved: which octets are taken, and where each field stands.
+/* DER of certificates, lists of revoked ones, keys,
+ * proved: which octets are taken, and where each field stands.
  *
  * A call reads octets that the caller owns and keeps nothing of them. It has no state that is shared, takes no lock, and
  * always returns. What it gives are numbers, so nothing has to be freed. Calls may run on several threads at once.
@@ -8,10 +9,10 @@
  *
  * What a caller owes, which no compiler checks:
  *   - a pointer with a length points to so many octets, which nothing writes during the call (a null pointer with length
- *     0 stands for no octets);
+ *     0 stands for no octets, and with another it is refused, 101);
  *   - `out`, `fault` and the octets do not overlap;
- *   - no call from a signal handler, or in a process that was forked from one with threads: reading a certificate, a
- *     list, an entry of one or a private key takes memory from malloc, and gives it back.
+ *   - no call from a signal handler, or in a process that was forked from one with threads: the calls that read lists (of
+ *     extensions, entries, attributes, answers, signers) take memory from malloc, and give it back.
  */
 #ifndef DER_H
 #define DER_H
@@ -46,7 +47,8 @@ enum der_number {
     DER_OID_MALFORMED = 15,     /* no object identifier */
     DER_INDEFINITE_LENGTH = 16, /* an indefinite length */
     DER_FAILED = 17,            /* refused before */
-    DER_BAD_PLACE = 100         /* a place that is not within the octets */
+    DER_BAD_PLACE = 100,        /* a place that is not within the octets */
+    DER_NULL_POINTER = 101      /* a null pointer with a length that is not 0 */
 };
 
 /* Where an encoding stands: its identifier octets, length octets and contents octets. A field that is absent has the place
@@ -140,6 +142,20 @@ typedef struct der_private_key_info_at {
     uint64_t version_number;         /* 0 for v1, 1 for v2 */
 } der_private_key_info_at;
 
+/* AttributeTypeAndValue, of a name (RFC 5280 4.1.2.4) */
+typedef struct der_attribute_type_and_value_at {
+    der_place whole; /* behind it the next one of the same part begins */
+    der_place type;  /* OBJECT IDENTIFIER */
+    der_place value; /* of any type */
+} der_attribute_type_and_value_at;
+
+/* Attribute, of a signer, a request or a private key (RFC 5652 5.3, RFC 2986 4.1, RFC 5958 section 2) */
+typedef struct der_attribute_at {
+    der_place whole;  /* behind it the next one begins */
+    der_place type;   /* OBJECT IDENTIFIER */
+    der_place values; /* SET OF */
+} der_attribute_at;
+
 static_assert(sizeof(der_place) == 8, "two numbers of 32 bits");
 static_assert(sizeof(der_fault) == 12, "three numbers of 32 bits");
 static_assert(sizeof(der_certificate_at) == 128, "thirteen places and three numbers of 64 bits");
@@ -155,6 +171,8 @@ static_assert(offsetof(der_revoked_certificate_at, revocation_date_seconds) == 3
 static_assert(sizeof(der_subject_public_key_info_at) == 16, "two places");
 static_assert(sizeof(der_private_key_info_at) == 48, "five places and a number of 64 bits");
 static_assert(offsetof(der_private_key_info_at, version_number) == 40, "behind five places");
+static_assert(sizeof(der_attribute_type_and_value_at) == 24, "three places");
+static_assert(sizeof(der_attribute_at) == 24, "three places");
 
 /* DER_ABI_VERSION of the library that was linked. */
 uint32_t der_abi_version(void);
@@ -182,6 +200,17 @@ uint32_t der_extension(const uint8_t *octets, size_t len, der_extension_at *out,
 /* Reads the entry of a list of revoked certificates at the front of the octets. Its places count from there. */
 uint32_t der_revoked_certificate(const uint8_t *octets, size_t len, der_revoked_certificate_at *out, der_fault *fault);
 
+/* Reads the attribute of a name at the front of the octets. Its places count from there. */
+uint32_t der_attribute_type_and_value(const uint8_t *octets, size_t len, der_attribute_type_and_value_at *out,
+                                      der_fault *fault);
+
+/* Reads the attribute with a set of values at the front of the octets. Its places count from there. */
+uint32_t der_attribute(const uint8_t *octets, size_t len, der_attribute_at *out, der_fault *fault);
+
+/* The encoding that begins where a place ends: of a place of no octets, the encoding there. Of octets that hold none the
+ * answer is some place within the octets. */
+der_place der_next_encoding(const uint8_t *octets, size_t len, const der_place *last);
+
 /* The contents octets of the encoding at a place that one of these calls wrote for these octets. Of another place the
  * answer is some place within the octets. */
 der_place der_contents(const uint8_t *octets, size_t len, const der_place *place);
@@ -190,6 +219,69 @@ der_place der_contents(const uint8_t *octets, size_t len, const der_place *place
  * status of certificates. Nothing but headers is read; of octets that are no such message the answer is some place within
  * them. */
 der_place der_signed_octets(const uint8_t *octets, size_t len);
+
+/* ---- a null pointer with a length is refused before the call: these stand in the place of the calls, but where DER_UNCHECKED
+ * is defined before this file is included */
+
+/* Writes a refusal of the call itself, and answers its number. */
+static inline uint32_t der_refuse(uint32_t number, der_fault *fault)
+{
+    fault->number = number;
+    fault->is_placed = 0;
+    fault->position = 0;
+    return number;
+}
+
+/* Whether a pointer is null though there are octets. */
+static inline int der_is_null(const uint8_t *octets, size_t len)
+{
+    return octets == NULL && len != 0;
+}
+
+#ifndef DER_UNCHECKED
+#define DER_CHECKED(name)                                                                                              \
+    static inline uint32_t der_checked_##name(const uint8_t *octets, size_t len, der_##name##_at *out, der_fault *fault) \
+    {                                                                                                                  \
+        return der_is_null(octets, len) ? der_refuse(DER_NULL_POINTER, fault) : der_##name(octets, len, out, fault);   \
+    }
+DER_CHECKED(certificate)
+DER_CHECKED(certificate_list)
+DER_CHECKED(revoked_certificate)
+DER_CHECKED(extension)
+DER_CHECKED(subject_public_key_info)
+DER_CHECKED(private_key_info)
+DER_CHECKED(attribute_type_and_value)
+DER_CHECKED(attribute)
+#undef DER_CHECKED
+#define der_certificate der_checked_certificate
+#define der_certificate_list der_checked_certificate_list
+#define der_revoked_certificate der_checked_revoked_certificate
+#define der_extension der_checked_extension
+#define der_subject_public_key_info der_checked_subject_public_key_info
+#define der_private_key_info der_checked_private_key_info
+#define der_attribute_type_and_value der_checked_attribute_type_and_value
+#define der_attribute der_checked_attribute
+
+/* The calls that answer a place answer that of no octets. */
+static inline der_place der_checked_contents(const uint8_t *octets, size_t len, const der_place *place)
+{
+    return der_contents(octets, der_is_null(octets, len) ? 0 : len, place);
+}
+
+static inline der_place der_checked_next_encoding(const uint8_t *octets, size_t len, const der_place *last)
+{
+    return der_next_encoding(octets, der_is_null(octets, len) ? 0 : len, last);
+}
+
+static inline der_place der_checked_signed_octets(const uint8_t *octets, size_t len)
+{
+    return der_signed_octets(octets, der_is_null(octets, len) ? 0 : len);
+}
+
+#define der_contents der_checked_contents
+#define der_next_encoding der_checked_next_encoding
+#define der_signed_octets der_checked_signed_octets
+#endif
 
 /* ---- what stands one behind another, with places in the octets of the whole message:
  *
@@ -229,13 +321,12 @@ static inline int der_is_within(size_t len, der_place place)
     return place.offset <= len && place.length <= len - place.offset;
 }
 
-/* Writes that a place is not within the octets. */
-static inline uint32_t der_bad_place(der_fault *fault)
+/* Refuses what is left where it is not within the octets (100), or where there are none though there should be (101). */
+static inline uint32_t der_check_left(const uint8_t *octets, size_t len, der_place left, der_fault *fault)
 {
-    fault->number = DER_BAD_PLACE;
-    fault->is_placed = 0;
-    fault->position = 0;
-    return DER_BAD_PLACE;
+    if (der_is_null(octets, len))
+        return der_refuse(DER_NULL_POINTER, fault);
+    return der_is_within(len, left) ? 0 : der_refuse(DER_BAD_PLACE, fault);
 }
 
 /* Takes what was read from the front of what is left. */
@@ -250,9 +341,9 @@ static inline void der_take(der_place *left, uint32_t length)
 static inline uint32_t der_next_extension(const uint8_t *octets, size_t len, der_place *left, der_extension_at *out,
                                           der_fault *fault)
 {
-    uint32_t answer, before = left->offset;
-    if (!der_is_within(len, *left))
-        return der_bad_place(fault);
+    uint32_t before = left->offset, answer = der_check_left(octets, len, *left, fault);
+    if (answer != 0)
+        return answer;
     answer = der_extension(octets + before, left->length, out, fault);
     if (answer != 0) {
         fault->position += fault->is_placed != 0 ? before : 0;
@@ -270,9 +361,9 @@ static inline uint32_t der_next_extension(const uint8_t *octets, size_t len, der
 static inline uint32_t der_next_revoked_certificate(const uint8_t *octets, size_t len, der_place *left,
                                                     der_revoked_certificate_at *out, der_fault *fault)
 {
-    uint32_t answer, before = left->offset;
-    if (!der_is_within(len, *left))
-        return der_bad_place(fault);
+    uint32_t before = left->offset, answer = der_check_left(octets, len, *left, fault);
+    if (answer != 0)
+        return answer;
     answer = der_revoked_certificate(octets + before, left->length, out, fault);
     if (answer != 0) {
         fault->position += fault->is_placed != 0 ? before : 0;
@@ -283,6 +374,86 @@ static inline uint32_t der_next_revoked_certificate(const uint8_t *octets, size_
     out->user_certificate = der_behind(before, out->user_certificate);
     out->revocation_date = der_behind(before, out->revocation_date);
     out->crl_entry_extensions = der_behind(before, out->crl_entry_extensions);
+    return 0;
+}
+
+/* The same of attributes with sets of values (der_items of `signed_attrs`, `unsigned_attrs`, or `attributes`). */
+static inline uint32_t der_next_attribute(const uint8_t *octets, size_t len, der_place *left, der_attribute_at *out,
+                                          der_fault *fault)
+{
+    uint32_t before = left->offset, answer = der_check_left(octets, len, *left, fault);
+    if (answer != 0)
+        return answer;
+    answer = der_attribute(octets + before, left->length, out, fault);
+    if (answer != 0) {
+        fault->position += fault->is_placed != 0 ? before : 0;
+        return answer;
+    }
+    der_take(left, out->whole.length);
+    out->whole = der_behind(before, out->whole);
+    out->type = der_behind(before, out->type);
+    out->values = der_behind(before, out->values);
+    return 0;
+}
+
+/* What is left of a name: parts that were not entered, and attributes of the part that was. */
+typedef struct der_name_left {
+    der_place parts;
+    der_place attributes;
+} der_name_left;
+
+/* All of a name:
+ *
+ *     der_name_left left = der_name(octets, len, &certificate.subject);
+ *     while (der_has_attribute(&left)) {
+ *         answer = der_next_name_attribute(octets, len, &left, &attribute, &fault);
+ *         if (answer != 0) ...
+ *     }
+ */
+static inline der_name_left der_name(const uint8_t *octets, size_t len, const der_place *name)
+{
+    der_name_left left;
+    left.parts = der_items(octets, len, name);
+    left.attributes.offset = left.parts.offset;
+    left.attributes.length = 0;
+    return left;
+}
+
+/* Whether something is left of a name. */
+static inline int der_has_attribute(const der_name_left *left)
+{
+    return left->parts.length != 0 || left->attributes.length != 0;
+}
+
+/* The next attribute of what is left of a name; afterwards those behind it are left. 100 where what is left is not within the
+ * octets, or is no name. */
+static inline uint32_t der_next_name_attribute(const uint8_t *octets, size_t len, der_name_left *left,
+                                               der_attribute_type_and_value_at *out, der_fault *fault)
+{
+    uint32_t before, answer = der_check_left(octets, len, left->parts, fault);
+    der_name_left next = *left;
+    if (answer == 0)
+        answer = der_check_left(octets, len, left->attributes, fault);
+    if (answer != 0)
+        return answer;
+    if (next.attributes.length == 0) {
+        der_place last = {next.parts.offset, 0}, part = der_next_encoding(octets, len, &last);
+        if (part.length == 0 || part.offset != next.parts.offset || part.length > next.parts.length)
+            return der_refuse(DER_BAD_PLACE, fault);
+        der_take(&next.parts, part.length);
+        next.attributes = der_contents(octets, len, &part);
+    }
+    before = next.attributes.offset;
+    answer = der_attribute_type_and_value(octets + before, next.attributes.length, out, fault);
+    if (answer != 0) {
+        fault->position += fault->is_placed != 0 ? before : 0;
+        return answer;
+    }
+    der_take(&next.attributes, out->whole.length);
+    out->whole = der_behind(before, out->whole);
+    out->type = der_behind(before, out->type);
+    out->value = der_behind(before, out->value);
+    *left = next;
     return 0;
 }
 

@@ -38,28 +38,28 @@ static void refused(const uint8_t *octets, size_t len, uint32_t number, const ch
     IS_FILLED(out, der_certificate_at);
 }
 
-/* every call refuses these octets, with this number, and writes no more than the fault */
+/* a call refuses octets with a number, and writes no more than the fault */
+#define REFUSES(type, call)                                                                    \
+    do {                                                                                       \
+        type at;                                                                               \
+        der_fault fault;                                                                       \
+        FILL(at);                                                                              \
+        FILL(fault);                                                                           \
+        check(call(octets, len, &at, &fault) == number && fault.number == number, #call);      \
+        check(fault.is_placed <= 1 && (fault.is_placed == 1 || fault.position == 0), "a fault"); \
+        IS_FILLED(at, type);                                                                   \
+    } while (0)
+
 static void all_refuse(const uint8_t *octets, size_t len, uint32_t number)
 {
-    der_certificate_list_at list;
-    der_revoked_certificate_at entry;
-    der_extension_at extension;
-    der_subject_public_key_info_at key;
-    der_private_key_info_at private_key;
-    der_fault fault;
-    refused(octets, len, number, "a certificate");
-    FILL(list), FILL(entry), FILL(extension), FILL(key), FILL(private_key);
-    check(der_certificate_list(octets, len, &list, &fault) == number, "a list");
-    check(der_revoked_certificate(octets, len, &entry, &fault) == number, "an entry");
-    check(der_extension(octets, len, &extension, &fault) == number, "an extension");
-    check(der_subject_public_key_info(octets, len, &key, &fault) == number, "a key");
-    check(der_private_key_info(octets, len, &private_key, &fault) == number, "a private key");
-    check(fault.number == number, "the fault has the number");
-    IS_FILLED(list, der_certificate_list_at);
-    IS_FILLED(entry, der_revoked_certificate_at);
-    IS_FILLED(extension, der_extension_at);
-    IS_FILLED(key, der_subject_public_key_info_at);
-    IS_FILLED(private_key, der_private_key_info_at);
+    REFUSES(der_certificate_at, der_certificate);
+    REFUSES(der_certificate_list_at, der_certificate_list);
+    REFUSES(der_revoked_certificate_at, der_revoked_certificate);
+    REFUSES(der_extension_at, der_extension);
+    REFUSES(der_subject_public_key_info_at, der_subject_public_key_info);
+    REFUSES(der_private_key_info_at, der_private_key_info);
+    REFUSES(der_attribute_type_and_value_at, der_attribute_type_and_value);
+    REFUSES(der_attribute_at, der_attribute);
 }
 
 static void lengths(void)
@@ -69,25 +69,88 @@ static void lengths(void)
     all_refuse(few, 0, DER_INCOMPLETE);
     all_refuse(few, 4, DER_INCOMPLETE);
     /* nothing is read of these */
+    all_refuse(NULL, 1, DER_NULL_POINTER);
+    all_refuse(NULL, SIZE_MAX, DER_NULL_POINTER);
     all_refuse(few, (size_t)1 << 32, DER_OVERFLOW);
     all_refuse(few, SIZE_MAX >> 1, DER_OVERFLOW);
     all_refuse(few, SIZE_MAX, DER_OVERFLOW);
 }
 
+/* a call that takes the next of what is left refuses a place outside, and leaves it */
+#define LEAVES(type, call)                                                                          \
+    do {                                                                                            \
+        type at;                                                                                    \
+        der_place rest = left;                                                                      \
+        FILL(at);                                                                                   \
+        check(call(octets, 2, &rest, &at, &fault) == DER_BAD_PLACE && fault.number == DER_BAD_PLACE, #call); \
+        check(rest.offset == left.offset && rest.length == left.length, "what is left is as it was"); \
+        IS_FILLED(at, type);                                                                        \
+    } while (0)
+
+static void place_outside(const uint8_t *octets, size_t len, der_place left)
+{
+    der_fault fault;
+    der_attribute_type_and_value_at attribute;
+    der_name_left name = {left, {0, 0}};
+    check(der_is_within(2, der_contents(octets, 2, &left)), "contents within two octets");
+    check(der_is_within(len, der_contents(octets, len, &left)), "contents within the octets");
+    check(der_is_within(2, der_next_encoding(octets, 2, &left)), "an encoding within two octets");
+    check(der_is_within(len, der_next_encoding(octets, len, &left)), "an encoding within the octets");
+    LEAVES(der_extension_at, der_next_extension);
+    LEAVES(der_revoked_certificate_at, der_next_revoked_certificate);
+    LEAVES(der_attribute_at, der_next_attribute);
+    check(der_next_name_attribute(octets, 2, &name, &attribute, &fault) == DER_BAD_PLACE, "no attribute outside");
+    check(memcmp(&name.parts, &left, sizeof left) == 0 && name.attributes.length == 0, "the name is as it was");
+}
+
 static void places_outside(const uint8_t *octets, size_t len)
 {
     static const der_place places[] = {{3, 1}, {0, 4294967295u}, {4294967295u, 4294967295u}, {4294967295u, 1}};
+    size_t i;
+    for (i = 0; i < sizeof places / sizeof places[0]; i++)
+        place_outside(octets, len, places[i]);
+}
+
+/* a null pointer with a length: a number, or the place of no octets */
+static void null_pointers(void)
+{
+    der_place place = {0, 2}, left = {1, 3};
+    der_place none = {0, 0};
+    der_place found[3];
     der_extension_at extension;
-    der_revoked_certificate_at entry;
+    der_attribute_type_and_value_at attribute;
+    der_name_left name = {{1, 3}, {0, 0}};
     der_fault fault;
     size_t i;
-    for (i = 0; i < sizeof places / sizeof places[0]; i++) {
-        der_place left = places[i], inner = der_contents(octets, 2, &left);
-        check(der_is_within(2, inner), "contents within two octets");
-        check(der_is_within(len, der_contents(octets, len, &left)), "contents within the octets");
-        check(der_next_extension(octets, 2, &left, &extension, &fault) == DER_BAD_PLACE, "no extension outside");
-        check(der_next_revoked_certificate(octets, 2, &left, &entry, &fault) == DER_BAD_PLACE, "no entry outside");
-        check(left.offset == places[i].offset && left.length == places[i].length, "what is left is as it was");
+    found[0] = der_contents(NULL, 4, &place);
+    found[1] = der_next_encoding(NULL, 4, &place);
+    found[2] = der_signed_octets(NULL, 4);
+    for (i = 0; i < 3; i++)
+        check(memcmp(&found[i], &none, sizeof none) == 0, "no octets at a null pointer");
+    check(der_next_extension(NULL, 4, &left, &extension, &fault) == DER_NULL_POINTER, "no extension at a null pointer");
+    check(der_next_name_attribute(NULL, 4, &name, &attribute, &fault) == DER_NULL_POINTER, "no attribute there");
+}
+
+/* what is no name is refused as one, and is left as it was */
+static void no_names(void)
+{
+    static const struct {
+        uint8_t octets[8];
+        uint32_t len, number;
+    } rows[] = {{{0x30, 2, 0x31, 0}, 4, DER_INCOMPLETE},          /* a part with no attribute */
+                {{0x30, 2, 0x31, 1, 0}, 4, DER_BAD_PLACE},        /* a part that is longer than the name */
+                {{0x30, 4, 0x31, 2, 0x30, 0}, 6, DER_INCOMPLETE}, /* an attribute with no type */
+                {{0x30, 4, 0x31, 2, 0x05, 0}, 6, DER_TAG_UNEXPECTED}};
+    size_t i;
+    for (i = 0; i < sizeof rows / sizeof rows[0]; i++) {
+        der_place all = {0, rows[i].len};
+        der_name_left left = der_name(rows[i].octets, rows[i].len, &all), before = left;
+        der_attribute_type_and_value_at attribute;
+        der_fault fault;
+        check(der_has_attribute(&left), "there is something in the name");
+        check(der_next_name_attribute(rows[i].octets, rows[i].len, &left, &attribute, &fault) == rows[i].number, "no name");
+        check(fault.number == rows[i].number, "the fault has the number");
+        check(memcmp(&left, &before, sizeof left) == 0, "the name is as it was");
     }
 }
 
@@ -171,6 +234,7 @@ static void texts(void)
         check(strcmp(der_number_text(number), "no such number") != 0, "each number has words");
     check(strcmp(der_number_text(18), "no such number") == 0, "18 is no number");
     check(strcmp(der_number_text(DER_BAD_PLACE), "no such number") != 0, "100 is one");
+    check(strcmp(der_number_text(DER_NULL_POINTER), "no such number") != 0, "101 is one");
     check(strcmp(der_number_text(4294967295u), "no such number") == 0, "nor is the greatest");
 }
 
@@ -194,6 +258,8 @@ int main(int argc, char **argv)
     texts();
     lengths();
     places_outside(octets, len);
+    null_pointers();
+    no_names();
     cut(octets, len);
     spoilt(octets, len);
     threads(octets, len, &out);

@@ -86,6 +86,19 @@ static void entry(const uint8_t *o, uint32_t size)
     walk(o, s.at.whole, &s.at.user_certificate, 3);
 }
 
+/* a name that was read has attributes, one behind another, and all of them are read */
+static void name(const uint8_t *o, uint32_t size, der_place place)
+{
+    der_name_left left = der_name(o, size, &place);
+    der_attribute_type_and_value_at at;
+    der_fault fault;
+    while (der_has_attribute(&left)) {
+        CHECK(der_next_name_attribute(o, size, &left, &at, &fault) == 0);
+        walk(o, at.whole, &at.type, 2);
+    }
+    CHECK(left.parts.offset == place.offset + place.length);
+}
+
 static void certificate(const uint8_t *o, uint32_t size)
 {
     der_place all = {0, size}, left;
@@ -99,6 +112,8 @@ static void certificate(const uint8_t *o, uint32_t size)
     for (left = der_extensions(o, size, &s.at.extensions); left.length > 0;)
         CHECK(der_next_extension(o, size, &left, &at, &fault) == 0);
     CHECK(left.offset == s.at.extensions.offset + s.at.extensions.length);
+    name(o, size, s.at.issuer);
+    name(o, size, s.at.subject);
 }
 
 static void list(const uint8_t *o, uint32_t size)
@@ -121,11 +136,24 @@ static void key(const uint8_t *o, uint32_t size)
     walk(o, all, &s.at.algorithm, 2);
 }
 
+static void attributes(const uint8_t *o, uint32_t size, der_place list)
+{
+    der_place left = der_items(o, size, &list);
+    der_attribute_at at;
+    der_fault fault;
+    while (left.length > 0) {
+        CHECK(der_next_attribute(o, size, &left, &at, &fault) == 0);
+        walk(o, at.whole, &at.type, 2);
+    }
+    CHECK(left.offset == list.offset + list.length);
+}
+
 static void private_key(const uint8_t *o, uint32_t size)
 {
     der_place all = {0, size};
     CALL(der_private_key_info_at, der_private_key_info, o, size);
     walk(o, all, &s.at.version, 5);
+    attributes(o, size, s.at.attributes);
 }
 
 /* each encoding within, as every message that it might be */
@@ -152,8 +180,13 @@ static void any_place(const uint8_t *o, uint32_t size)
     memcpy(&place, o, sizeof place);
     found = der_contents(o, size, &place);
     CHECK(der_is_within(size, found));
+    found = der_next_encoding(o, size, &place);
+    CHECK(der_is_within(size, found));
     place.offset %= size;
+    place.length %= size;
     found = der_contents(o, size, &place);
+    CHECK(der_is_within(size, found));
+    found = der_next_encoding(o, size, &place);
     CHECK(der_is_within(size, found));
 }
 

@@ -1,9 +1,11 @@
-"""The fields of certificates, of a list of revoked ones and of keys, beside `cryptography`.
+"""The fields of certificates, lists of revoked ones, keys, beside `cryptography`.
 
 The certificates are those of the system, and of the PEM files that DER_TEST_FILES names.
 """
 
+import base64
 import os
+import re
 import unittest
 from datetime import timezone
 from pathlib import Path
@@ -23,6 +25,13 @@ KEY = bytes.fromhex("302a300506032b657003210019bf44096984cdfe8541bac167dc3b96c85
 def pem_files() -> list[Path]:
     named = [Path(name) for name in os.environ.get("DER_TEST_FILES", "").split(os.pathsep) if name]
     return named + [path for path in [SYSTEM] if path.exists()]
+
+
+def blocks(label: str) -> list[bytes]:
+    """The octets of the blocks with this label in all PEM files."""
+    pattern = f"-----BEGIN {label}-----\n(.*?)-----END {label}-----"
+    found = [text for path in pem_files() for text in re.findall(pattern, path.read_text(), re.S)]
+    return [base64.b64decode(text) for text in found]
 
 
 def identifier_of(contents: bytes) -> str:
@@ -105,6 +114,21 @@ class BesideCryptography(unittest.TestCase):
                 self.compare_extensions(one.extensions, list(entry.extensions))
 
 
+@unittest.skipIf(x509 is None, "cryptography is not there")
+class MessagesBesideCryptography(unittest.TestCase):
+    def compare_name(self, own, other) -> None:
+        found = list(derproved.name_attributes(own))
+        self.assertEqual([identifier_of(bytes(a.identifier)) for a in found], [a.oid.dotted_string for a in other])
+        values = [bytes(derproved.contents(a.value)).decode("utf-8") for a in found]
+        self.assertEqual(values, [a.value for a in other])
+
+    def test_names(self) -> None:
+        for octets in blocks("CERTIFICATE"):
+            own, other = derproved.Certificate(octets), x509.load_der_x509_certificate(octets)
+            if all(a._type.name in ("UTF8String", "PrintableString", "IA5String") for a in [*other.issuer, *other.subject]):
+                self.compare_name(own.issuer, other.issuer)
+                self.compare_name(own.subject, other.subject)
+
 class Calls(unittest.TestCase):
     def test_fields_are_views_of_the_octets(self) -> None:
         octets = bytearray(KEY)
@@ -122,11 +146,22 @@ class Calls(unittest.TestCase):
             with self.assertRaises(derproved.Error) as caught:
                 derproved.SubjectPublicKeyInfo(KEY[:count])
             self.assertEqual(caught.exception.args[:2], (2, "the octets end too soon"))
-        for read in [derproved.Certificate, derproved.CertificateList, derproved.PrivateKeyInfo]:
+        others = [derproved.Certificate, derproved.CertificateList, derproved.PrivateKeyInfo]
+        others += [derproved.Attribute]
+        for read in others:
             with self.assertRaises(derproved.Error) as caught:
                 read(KEY)
             self.assertEqual(caught.exception.args[0], 4)
         self.assertRaises(TypeError, derproved.Certificate, "text")
+
+    def test_what_is_no_name_is_refused(self) -> None:
+        for octets, number in [("3000", None), ("30023100", 2), ("300431023000", 2), ("300431020500", 4), ("3001ff", 2)]:
+            if number is None:
+                self.assertEqual(list(derproved.name_attributes(bytes.fromhex(octets))), [])
+                continue
+            with self.assertRaises(derproved.Error) as caught:
+                list(derproved.name_attributes(bytes.fromhex(octets)))
+            self.assertEqual(caught.exception.args[0], number)
 
     def test_any_octets_have_some_contents(self) -> None:
         for octets in [b"", b"0", b"\xff" * 9, bytes.fromhex("3084ffffffff")]:

@@ -5,9 +5,6 @@ ghost use Rattle.std.specs.Str.{bytes_eq};
 use certview_text::Fault;
 use der_lines::Fault as LineFault;
 
-#[cfg(test)]
-mod tests;
-
 /// Whether an argument asks for lines.
 pub fn asks_for_lines(argument: &str) -> bool
     ensures { result ≡ bytes_eq argument.now (codes "lines") }

@@ -14,8 +14,6 @@ use std::{env, fs};
 
 mod lines;
 mod options;
-#[cfg(test)]
-mod tests;
 
 /// The words of the command line.
 fn words_of(rt: &HostRuntime) -> Result<Vec<String>, Fault> {
@@ -95,7 +93,7 @@ fn show_one(rt: &HostRuntime, file: &str, view: &View<'_>) -> Next {
 /// Tells of a file that is refused, and shows what can be read of it.
 fn refuse(rt: &HostRuntime, file: &str, view: &View<'_>, fault: Fault, octets: &[u8]) -> Next {
     let status = told(rt, file, fault);
-    match show_refused(rt.alloc(), view, &fault, octets, &mut io::writer(rt)) {
+    match show_refused(rt.alloc(), view, fault, octets, &mut io::writer(rt)) {
         Ok(Outcome::Closed) => Next::Ends(status),
         Ok(_) => Next::Goes(status),
         Err(fault) => Next::Ends(told(rt, file, fault).max(status)),

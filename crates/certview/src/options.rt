@@ -138,10 +138,9 @@ fn command<'a>(alloc: Global) -> Result<Command<'a>, Error> {
         .action(ArgAction::Append)
         .value_delimiter(',')
         .value_parser(FIELDS.as_slice());
-    let moment = Arg::new(alloc, "at")
-        .long("at")
-        .value_name("TIME")
-        .help("Says whether each certificate is valid, and each list current, at that day or moment");
+    let moment = Arg::new(alloc, "at").long("at").value_name("TIME").help(
+        "Says whether each certificate is valid, and each list current, at that day or moment",
+    );
     let json = "Writes one document of JSON, by docs/certview.schema.json";
     let check = "Says what each certificate or list breaks of RFC 5280 beyond the grammar";
     let fingerprint = "Shows the SHA-256 of each message but private keys";

@@ -1,5 +1,5 @@
-//! Messages as text for people: certificates, lists of revoked certificates and keys, a field a line,
-//! with where each stands in the octets.
+//! Messages as text for people: certificates, lists of revoked certificates, keys, requests, OCSP, CMS,
+//! time stamps, files of PKCS #12 and parameters, a field a line, with where each stands in the octets.
 //!
 //! `ED25519_PUBLIC` is a key as hex digits:
 //!
@@ -13,22 +13,40 @@
 
 mod access;
 mod algorithms;
+mod any_values;
 mod asked;
+mod attribute_rows;
 mod attributes;
+mod authenticated_data;
+mod bag_values;
+mod bags;
 mod blocks;
 mod certificate;
 mod characters;
+mod cms;
+mod cms_certificates;
 mod constraints;
+mod content_names;
+mod contents;
+mod curve_parameters;
+mod digested_data;
+mod encrypted_data;
+mod encrypted_key;
+mod encryption;
 mod entries;
+mod enveloped_data;
+mod extension_rows;
 mod extensions;
 mod fault;
 mod fields;
 mod findings;
 mod form;
+mod group_parameters;
 mod hexadecimal;
 mod identifier_names;
 mod identifiers;
 mod json;
+mod key_agreements;
 mod key_identifiers;
 mod keys;
 mod kind;
@@ -37,22 +55,39 @@ mod labels;
 mod lines;
 mod moments;
 mod names;
+mod ocsp_certificates;
+mod ocsp_request;
+mod ocsp_response;
+mod ocsp_statuses;
 mod other_names;
 mod page;
 mod parts;
 mod path;
 mod pem;
 mod periods;
+mod pkcs12;
 mod place;
 mod points;
 mod policies;
+mod private_extensions;
 mod quoted;
+mod readable;
+mod recipients;
+mod request;
 mod revocation;
+mod rows;
 mod rsa;
+mod signatures;
+mod signed_data;
+mod signers;
 mod site;
+mod stamped;
 mod subtrees;
 mod text;
+mod time_stamp_query;
+mod time_stamp_reply;
 mod times;
+mod transparency;
 mod usages;
 mod values;
 mod viewing;

@@ -12,8 +12,8 @@ use crate::form::{Form, Writer};
 use crate::kind::kind_of;
 use crate::lines::{Lines, Measured, Stop, Written};
 use crate::page::{ItemKind, Page};
-use crate::parts::push_parts;
 use crate::pem::is_text;
+use crate::readable::push_parts;
 use std::alloc::{AllocError, Global};
 use std::io::{self, Read, Write};
 
@@ -142,7 +142,7 @@ pub fn show<W: Write>(
 pub fn show_refused<W: Write>(
     alloc: Global,
     view: &View<'_>,
-    fault: &Fault,
+    fault: Fault,
     input: &[u8],
     output: &mut W,
 ) -> Result<Outcome, Fault>
@@ -193,7 +193,7 @@ fn write_long<W: Write>(
 fn write_long_remains<W: Write>(
     alloc: Global,
     view: &View<'_>,
-    fault: &Fault,
+    fault: Fault,
     input: &[u8],
     output: &mut W,
 ) -> Result<Outcome, Fault>
@@ -290,12 +290,12 @@ fn push_remains<L: Lines>(
     page: &mut Page,
     lines: &mut L,
     view: &View<'_>,
-    fault: &Fault,
+    fault: Fault,
     input: &[u8],
 ) -> Result<(), Fault> {
     push_input_name(page, view)?;
-    push_refused(page, *fault)?;
-    match *fault {
+    push_refused(page, fault)?;
+    match fault {
         Fault::Refused(_, _) => Ok(push_parts_of(alloc, page, lines, input)?),
         _ => Ok(()),
     }

@@ -21,3 +21,4 @@ pub use attributes::{TextAttribute, attribute};
 pub use extensions::extension;
 pub use keys::{ed25519_key, p256_key, rsa_key, rsa_public_key};
 pub use names::{kept_name, name};
+pub use text_rules::{character_count, may_have};

@@ -1,7 +1,7 @@
 //! What text an attribute of a name holds: its string, and how many characters (RFC 5280 section
 //! 4.1.2.4 and appendix A.1).
 
-ghost use Rattle.std.specs.Prelude.{◌≡◌, ◌<◌, ◌^◌, length};
+ghost use Rattle.std.specs.Prelude.{◌≡◌, ◌<◌, ◌^◌, length, nat_le, ◌&&◌};
 ghost use Rattle.der_build.specs.Attributes.{begins_character, can_hold, character_count, fewest, fits, is_id_at, most, string_tag};
 
 use der_ascii::{Ia5StringRef, PrintableStringRef};
@@ -31,6 +31,16 @@ pub(crate) fn fits(type_: &[u8], text: &[u8]) -> bool
 {
     let count = character_count(text);
     can_hold(string_tag(type_), text) && fewest(type_) <= count && count <= most(type_)
+}
+
+/// Whether the text of an attribute of this type may have so many characters, by the bounds of RFC 5280
+/// appendix A.1; of a type that has none there, from 1 to 4294967295.
+///
+/// commonName (55 04 03) has 1 to 64 characters, countryName (55 04 06) has 2.
+pub fn may_have(type_: &[u8], characters: usize) -> bool
+    ensures { result ≡ (nat_le (fewest type_.now) characters && nat_le characters (most type_.now)) }
+{
+    fewest(type_) <= characters && characters <= most(type_)
 }
 
 /// The fewest characters of the text of an attribute.
@@ -95,7 +105,7 @@ fn can_hold(tag: Tag, text: &[u8]) -> bool
 }
 
 /// How many characters a text in UTF-8 has.
-fn character_count(text: &[u8]) -> usize
+pub fn character_count(text: &[u8]) -> usize
     ensures { result ≡ character_count text.now }
 {
     let mut count = 0;

@@ -1,10 +1,10 @@
 -- What stands somewhere ends within the octets, and so do its contents octets and what stands first in it.
-use Rattle.std.proofs.Common.{◌≡◌, ℕ, ◌+◌, ◌≤◌, ◌++◌, List, true, length, refl, sym, ap, ◌∙◌, arith}
+use Rattle.std.proofs.Common.{◌≡◌, ℕ, ◌+◌, ◌≤◌, ◌++◌, List, true, length, refl, ap, ◌∙◌, arith}
 use Rattle.std.proofs.lemmas.List.{length-append}
 use Rattle.der_tlv.specs.HeaderOctets.{header_octets}
 use Rattle.der_places.specs.declared.place.Place.{Place}
 use Rattle.der_places.specs.LayoutLaws.{whole_stands, rest_stands, front_stands}
-use Rattle.der_places.specs.Walking.{StandAt, IsEncoding, EntersContents, Follows, HoldsContents}
+use Rattle.der_places.specs.Walking.{StandAt, EntersContents, Follows, HoldsContents}
 use Rattle.der_c.specs.Signed.{HoldsFirst}
 
 inside : (octets : List ℕ) (n : ℕ) (own : List ℕ) → StandAt octets n own → n + length own ≤ length octets
@@ -45,3 +45,14 @@ first_within octets start found given enters follows kept tag first others is_ta
     let same = kept ends in
     let offset : found.offset ≡ length head = omega arith in
     (ap (λ p. p.offset) same ∙ offset, ap (λ p. p.length) same ∙ lasts)
+
+-- and so is what stands behind a place
+pub next_within : (octets : List ℕ) (last found given : Place) → Follows octets last true found → (found.offset + found.length ≤ length octets → given ≡ found) → Follows octets last true given
+next_within octets last found given follows kept own e s =
+    let h = follows own e s in
+    let at = h.0 in
+    let lasts = h.1 in
+    let all = inside octets (last.offset + last.length) own s in
+    let ends : found.offset + found.length ≤ length octets = omega arith in
+    let same = kept ends in
+    (ap (λ p. p.offset) same ∙ at, ap (λ p. p.length) same ∙ lasts)

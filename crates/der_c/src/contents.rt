@@ -1,7 +1,7 @@
 //! Places within what stands at a place.
 
-ghost use Rattle.std.specs.Prelude.{◌≡◌, ◌+◌, ◌≤◌, length};
-ghost use Rattle.der_places.specs.Walking.{HoldsContents};
+ghost use Rattle.std.specs.Prelude.{◌≡◌, ◌+◌, ◌≤◌, length, true};
+ghost use Rattle.der_places.specs.Walking.{Follows, HoldsContents};
 ghost use Rattle.der_c.specs.Signed.{HoldsFirst};
 
 use der_places::{Place, contents_of, next_place, start_of_contents};
@@ -32,6 +32,18 @@ pub extern "C" fn der_signed_octets(octets: &[u8]) -> Place
 {
     let start = start_of_contents(octets, 0);
     within(octets, next_place(octets, start, true))
+}
+
+/// Where the encoding stands that begins where a place ends: so who has a place of no octets at the
+/// front of contents octets has the first value in them, and with a value's place the next one.
+///
+/// Of octets that hold no encoding there the answer is some place within the octets.
+#[unsafe(no_mangle)]
+pub extern "C" fn der_next_encoding(octets: &[u8], last: &Place) -> Place
+    ensures follows { Follows octets.now last.now true result }
+    ensures within { result.offset + result.length ≤ length octets.now }
+{
+    within(octets, next_place(octets, *last, true))
 }
 
 /// A place that ends within the octets; in the stead of another, that of no octets at the front.

@@ -4,6 +4,7 @@
 //! writes the places of the fields where the caller says. `c/include/der.h` is the header.
 #![tactic(auto)]
 
+mod attribute;
 mod certificate;
 mod certificate_list;
 mod contents;
@@ -15,9 +16,12 @@ mod revoked_certificate;
 mod times;
 mod version;
 
+pub use attribute::{
+    AttributeAt, AttributeTypeAndValueAt, der_attribute, der_attribute_type_and_value,
+};
 pub use certificate::{CertificateAt, der_certificate};
 pub use certificate_list::{CertificateListAt, der_certificate_list};
-pub use contents::{der_contents, der_signed_octets};
+pub use contents::{der_contents, der_next_encoding, der_signed_octets};
 pub use extension::{ExtensionAt, der_extension};
 pub use fault::Fault;
 pub use keys::{PrivateKeyInfoAt, der_private_key_info, der_subject_public_key_info};

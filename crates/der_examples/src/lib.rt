@@ -4,12 +4,15 @@
 
 mod anys;
 mod bits;
+mod building;
 mod certificates;
 mod choice_sets;
+mod choices;
 mod comparing;
 mod field_list;
 mod fields;
 mod headers;
+mod history;
 mod named_fields;
 mod named_numbers;
 mod non_empty;
@@ -18,20 +21,24 @@ mod sets;
 mod sources;
 mod tagged;
 mod texts;
+mod time_stamps;
 mod times;
 mod writing;
 
 pub use anys::named_curve;
 pub use bits::{is_usage, may_sign_certificates};
+pub use building::{SelfSigned, request_for, self_signed};
 pub use certificates::{read_certificate, serial_and_self_issued};
 pub use choice_sets::{
     AttributeValues, ByKeyName, KeyName, KeyNames, read_key_names, read_values, with_value,
     write_key_names,
 };
+pub use choices::{Setting, read_setting};
 pub use comparing::is_before;
 pub use field_list::{Policy, PolicyList, is_same_policy, read_policy, write_policy};
 pub use fields::{PolicyFields, read_policy_fields};
 pub use headers::first_header;
+pub use history::set_of_three_calls;
 pub use named_fields::{
     NamedPolicy, PolicyMembers, is_same_named_policy, read_named_policy, write_named_policy,
 };
@@ -42,8 +49,6 @@ pub use sets::{attribute_set, with_attribute};
 pub use sources::{Watched, read_watched};
 pub use tagged::explicit_version;
 pub use texts::{common_name, country};
+pub use time_stamps::{TstInfo, read_tst_info};
 pub use times::is_within;
 pub use writing::{number_in, write_numbers};
-
-#[cfg(test)]
-mod tests;

@@ -15,7 +15,6 @@ mod borrowed_sequences;
 mod copies;
 mod counting;
 mod counting_fixed;
-mod history;
 mod kept;
 mod many;
 mod named_order;

@@ -19,7 +19,6 @@ mod policies;
 mod private_keys;
 mod public_keys;
 mod revocation;
-mod time_stamps;
 mod times;
 
 use der_asn1_types::{DerOrd, Duplicate, Encode, Error, FromDer};

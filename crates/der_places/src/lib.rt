@@ -1,6 +1,8 @@
 //! Where the fields of a message stand in its octets, each as a whole encoding.
 #![tactic(auto)]
 
+mod attribute;
+mod attribute_type_and_value;
 mod certificate;
 mod certificate_list;
 mod extension;
@@ -14,6 +16,8 @@ mod tbs_cert_list;
 mod tbs_certificate;
 mod walk;
 
+pub use attribute::AttributePlaces;
+pub use attribute_type_and_value::AttributeTypeAndValuePlaces;
 pub use certificate::CertificatePlaces;
 pub use certificate_list::CertificateListPlaces;
 pub use extension::ExtensionPlaces;

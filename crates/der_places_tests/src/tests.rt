@@ -1,5 +1,6 @@
 //! Places, against those that `openssl asn1parse` prints.
 
+mod attributes;
 mod certificates;
 mod keys;
 mod lists;

@@ -6,6 +6,7 @@ mod extensions;
 mod names;
 mod rfc5280;
 mod signed;
+mod sizes;
 mod time;
 
 pub use extensions::find_extension;
@@ -18,4 +19,5 @@ pub use signed::{
     first_field, octets_of_certification_request_info, octets_of_tbs_cert_list,
     octets_of_tbs_certificate, octets_of_tbs_response_data,
 };
+pub use sizes::{size_holds, sizes_hold};
 pub use time::{date_time, holds_at, seconds, time_at};

@@ -7,6 +7,7 @@ mod names;
 mod rules;
 mod rules_of_lists;
 mod signed;
+mod sizes;
 mod times;
 
 use der_asn1_types::Error;

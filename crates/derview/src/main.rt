@@ -7,9 +7,6 @@ use derview_names::TypeNames;
 use std::io::{self, BufReader};
 use std::process::ExitCode;
 
-#[cfg(test)]
-mod tests;
-
 fn answer_all(rt: &(impl Input + Print + AllocGlobal)) -> Result<(), Fault> {
     let Ok(reader) = BufReader::new(rt.alloc(), rt.reader()) else {
         return Err(Fault::Memory);

@@ -1,4 +1,5 @@
-"""DER of certificates, lists of revoked ones and keys, proved: which octets are taken, and where each field stands.
+"""DER of certificates, lists of revoked ones, keys,
+proved: which octets are taken, and where each field stands.
 
 A value keeps the octets that it was read from, and a field is a memoryview of them: its whole encoding. Nothing is
 copied, and no signature is verified. The code that reads is Barleypulley's der_c; this package, which calls it, is not
@@ -24,6 +25,8 @@ from . import _der
 from ._der import Error
 
 __all__ = [
+    "Attribute",
+    "AttributeTypeAndValue",
     "Certificate",
     "CertificateList",
     "Error",
@@ -31,7 +34,9 @@ __all__ = [
     "PrivateKeyInfo",
     "RevokedCertificate",
     "SubjectPublicKeyInfo",
+    "attributes",
     "contents",
+    "name_attributes",
     "signed_octets",
 ]
 
@@ -278,3 +283,62 @@ class PrivateKeyInfo(_Message):
     def version(self) -> int:
         """1 or 2."""
         return self._at[10] + 1
+
+
+class AttributeTypeAndValue(_Message):
+    """An attribute of a name (RFC 5280 4.1.2.4), which stands at the front of the octets."""
+
+    __slots__ = ()
+
+    def __init__(self, octets: Octets) -> None:
+        self._at = _der.attribute_type_and_value(octets)
+        self._octets = _view(octets)[: self._at[1]]
+
+    type = _field(1, "`type`, an OBJECT IDENTIFIER.")
+    value = _field(2, "`value`, of any type.")
+
+    @property
+    def identifier(self) -> memoryview:
+        """The contents octets of `type`: 55 04 03 of commonName."""
+        return contents(self.type)
+
+
+def name_attributes(name: Octets) -> Iterator[AttributeTypeAndValue]:
+    """The attributes of a name that was read, as the issuer of a certificate, in their order."""
+    parts = contents(name)
+    while parts:
+        _, length = _der.first_encoding(parts)
+        items, parts = contents(parts[:length]), parts[length:]
+        while True:
+            attribute = AttributeTypeAndValue(items)
+            yield attribute
+            items = items[attribute._at[1] :]
+            if not items:
+                break
+
+
+class Attribute(_Message):
+    """An attribute with a set of values (RFC 5652 5.3, RFC 2986 4.1), which stands at the front of the octets."""
+
+    __slots__ = ()
+
+    def __init__(self, octets: Octets) -> None:
+        self._at = _der.attribute(octets)
+        self._octets = _view(octets)[: self._at[1]]
+
+    type = _field(1, "`type`, an OBJECT IDENTIFIER.")
+    values = _field(2, "`values`, a SET OF.")
+
+    @property
+    def identifier(self) -> memoryview:
+        """The contents octets of `type`: 2A 86 48 86 F7 0D 01 09 04 of messageDigest."""
+        return contents(self.type)
+
+
+def attributes(field: Octets | None) -> Iterator[Attribute]:
+    """The attributes of a field that was read, as `attributes` of a private key, in their order; none of None."""
+    items = contents(field) if field is not None else None
+    while items:
+        attribute = Attribute(items)
+        yield attribute
+        items = items[attribute._at[1] :]

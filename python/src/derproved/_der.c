@@ -66,12 +66,16 @@ static_assert(sizeof(der_certificate_list_at) == 10 * sizeof(der_place) + 3 * si
 static_assert(sizeof(der_subject_public_key_info_at) == 2 * sizeof(der_place), "places alone");
 static_assert(sizeof(der_private_key_info_at) == 5 * sizeof(der_place) + sizeof(uint64_t), "places, then a number");
 static_assert(sizeof(der_revoked_certificate_at) == 4 * sizeof(der_place) + sizeof(uint64_t), "places, then a number");
+static_assert(sizeof(der_attribute_type_and_value_at) == 3 * sizeof(der_place), "places alone");
+static_assert(sizeof(der_attribute_at) == 3 * sizeof(der_place), "places alone");
 
 READS(certificate, 13, 3)
 READS(certificate_list, 10, 3)
 READS(subject_public_key_info, 2, 0)
 READS(private_key_info, 5, 1)
 READS(revoked_certificate, 4, 1)
+READS(attribute_type_and_value, 3, 0)
+READS(attribute, 3, 0)
 
 static PyObject *read_extension(PyObject *module, PyObject *argument)
 {
@@ -117,13 +121,29 @@ static PyObject *signed_octets(PyObject *module, PyObject *argument)
     return told(&found, 1, NULL, 0);
 }
 
+/* the place of the encoding at the front */
+static PyObject *first_encoding(PyObject *module, PyObject *argument)
+{
+    Py_buffer view;
+    der_place start = {0, 0}, found;
+    (void)module;
+    if (PyObject_GetBuffer(argument, &view, PyBUF_SIMPLE) != 0)
+        return NULL;
+    found = der_next_encoding(view.buf, (size_t)view.len, &start);
+    PyBuffer_Release(&view);
+    return told(&found, 1, NULL, 0);
+}
+
 static PyMethodDef methods[] = {
     {"certificate", read_certificate, METH_O, "13 places, notBefore, notAfter and the version"},
     {"certificate_list", read_certificate_list, METH_O, "10 places, thisUpdate, nextUpdate and the version"},
     {"subject_public_key_info", read_subject_public_key_info, METH_O, "2 places"},
     {"private_key_info", read_private_key_info, METH_O, "5 places and the version"},
     {"revoked_certificate", read_revoked_certificate, METH_O, "4 places and revocationDate, of the entry at the front"},
+    {"attribute_type_and_value", read_attribute_type_and_value, METH_O, "3 places, of the attribute at the front"},
+    {"attribute", read_attribute, METH_O, "3 places, of the attribute at the front"},
     {"extension", read_extension, METH_O, "4 places and critical, of the extension at the front"},
+    {"first_encoding", first_encoding, METH_O, "the place of the encoding at the front"},
     {"contents", contents, METH_O, "the place of the contents octets"},
     {"signed_octets", signed_octets, METH_O, "the place of what a signature covers"},
     {NULL, NULL, 0, NULL},

@@ -112,6 +112,26 @@ pub struct PrivateKeyInfoAt {
     pub version_number: u64,
 }
 
+/// `der_attribute_type_and_value_at`.
+#[repr(C)]
+#[derive(Clone, Copy, Debug, Default, PartialEq, Eq)]
+#[allow(missing_docs)]
+pub struct AttributeTypeAndValueAt {
+    pub whole: Place,
+    pub type_: Place,
+    pub value: Place,
+}
+
+/// `der_attribute_at`.
+#[repr(C)]
+#[derive(Clone, Copy, Debug, Default, PartialEq, Eq)]
+#[allow(missing_docs)]
+pub struct AttributeAt {
+    pub whole: Place,
+    pub type_: Place,
+    pub values: Place,
+}
+
 #[allow(missing_docs)]
 extern "C" {
     pub fn der_abi_version() -> u32;
@@ -131,6 +151,14 @@ extern "C" {
         out: *mut RevokedCertificateAt,
         fault: *mut Fault,
     ) -> u32;
+    pub fn der_attribute_type_and_value(
+        octets: *const u8,
+        len: usize,
+        out: *mut AttributeTypeAndValueAt,
+        fault: *mut Fault,
+    ) -> u32;
+    pub fn der_attribute(octets: *const u8, len: usize, out: *mut AttributeAt, fault: *mut Fault) -> u32;
+    pub fn der_next_encoding(octets: *const u8, len: usize, last: *const Place) -> Place;
     pub fn der_contents(octets: *const u8, len: usize, place: *const Place) -> Place;
     pub fn der_signed_octets(octets: *const u8, len: usize) -> Place;
 }

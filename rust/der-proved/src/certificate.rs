@@ -1,7 +1,7 @@
 //! Certificates and their extensions.
 
 use crate::place::{at, fields, if_there, optional_fields, read};
-use crate::{contents, Error};
+use crate::{contents, Error, Name};
 use der_proved_sys as sys;
 
 /// A certificate (RFC 5280 4.1).
@@ -47,6 +47,16 @@ impl<'a> Certificate<'a> {
         issuer_unique_id
         /// `subjectUniqueID` with its tag [2].
         subject_unique_id
+    }
+
+    /// The attributes of `issuer`, in their order.
+    pub fn issuer_attributes(&self) -> Name<'a> {
+        Name::of(self.issuer())
+    }
+
+    /// The attributes of `subject`, in their order.
+    pub fn subject_attributes(&self) -> Name<'a> {
+        Name::of(self.subject())
     }
 
     /// 1, 2 or 3; one more than the number that stands in `version`.

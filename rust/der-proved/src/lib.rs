@@ -1,5 +1,4 @@
-//! DER of certificates, lists of revoked ones and keys, proved: which octets are taken, and where each
-//! field stands.
+//! DER of certificates, lists of revoked ones, keys, proved: which octets are taken, and where each field stands.
 //!
 //! A value borrows the octets that it was read from, and a field is a slice of them: its whole
 //! encoding. Nothing is copied, and no signature is verified. The code that reads is Barleypulley's
@@ -21,12 +20,14 @@
 #![no_std]
 #![warn(missing_docs)]
 
+mod attribute;
 mod certificate;
 mod certificate_list;
 mod error;
 mod key;
 mod place;
 
+pub use attribute::{Attribute, AttributeTypeAndValue, Attributes, Name};
 pub use certificate::{Certificate, Extension, Extensions};
 pub use certificate_list::{CertificateList, RevokedCertificate, RevokedCertificates};
 pub use error::Error;

@@ -59,4 +59,41 @@ macro_rules! optional_fields {
     };
 }
 
-pub(crate) use {fields, optional_fields};
+/// An iterator over what stands one behind another, each read by a call in C.
+macro_rules! items {
+    ($(#[$doc:meta])* $items:ident, $item:ident, $call:ident) => {
+        $(#[$doc])*
+        #[derive(Clone, Debug)]
+        pub struct $items<'a> {
+            left: &'a [u8],
+        }
+
+        impl<'a> $items<'a> {
+            /// Those of a list, if it is there.
+            pub(crate) fn listed(list: Option<&'a [u8]>) -> $items<'a> {
+                $items { left: list.map_or(&[], crate::contents) }
+            }
+        }
+
+        impl<'a> Iterator for $items<'a> {
+            type Item = Result<$item<'a>, crate::Error>;
+
+            /// The next one. After an error, of a message that was read where memory ran out (1), none follows.
+            fn next(&mut self) -> Option<Result<$item<'a>, crate::Error>> {
+                if self.left.is_empty() {
+                    return None;
+                }
+                let answer = crate::place::read(der_proved_sys::$call, self.left);
+                let Ok(place) = answer else {
+                    self.left = &[];
+                    return answer.err().map(Err);
+                };
+                let (octets, left) = self.left.split_at(place.whole.length as usize);
+                self.left = left;
+                Some(Ok($item { octets, at: place }))
+            }
+        }
+    };
+}
+
+pub(crate) use {fields, items, optional_fields};

@@ -1,0 +1,420 @@
+//! What can be read of a certificate or of a list of revoked certificates that is refused: each field on
+//! its own, where its header says that it stands.
+
+use crate::algorithms::{push_algorithm, push_key};
+use crate::certificate::{push_bits, push_version};
+use crate::extensions::push_extension;
+use crate::hexadecimal::push_serial;
+use crate::identifiers::push_attribute_type;
+use crate::kind::{Kind, has_tag, has_time_tag};
+use crate::labels::{push_label, push_title};
+use crate::lines::{Lines, Stop};
+use crate::names::push_attribute;
+use crate::page::{Page, push_malformed};
+use crate::place::Place;
+use crate::revocation::push_entry;
+use crate::site::{Site, Sites};
+use crate::times::push_time;
+use der_asn1_types::FromDer;
+use der_asn1_types::asn1::{BitStringRef, IntRef};
+use der_pkix::AlgorithmIdentifier;
+use der_pkix::certificate::{Extension, SubjectPublicKeyInfo, Time};
+use der_pkix::crl::RevokedCertificate;
+use der_pkix::name::{AttributeTypeAndValue, Name};
+use std::alloc::{AllocError, Global};
+
+/// Adds the fields of a message that is refused, of which one that cannot be read is malformed. Nothing is
+/// added of octets that do not look like a certificate or a list.
+///
+/// # Errors
+/// `Output` where the items are not taken; `Memory`.
+pub fn push_parts<L: Lines>(
+    alloc: Global,
+    page: &mut Page,
+    lines: &mut L,
+    kind: Kind,
+    octets: &[u8],
+) -> Result<(), Stop> {
+    let whole = Site::whole(octets, kind);
+    match kind {
+        Kind::Certificate => push_certificate_parts(alloc, page, lines, octets, &whole),
+        Kind::RevocationList => push_list_parts(alloc, page, lines, octets, &whole),
+        _ => Ok(()),
+    }
+}
+
+/// The octets of a field.
+fn octets_of<'a>(octets: &'a [u8], place: &Place) -> &'a [u8] {
+    octets.get(place.begin..place.end).unwrap_or(&[])
+}
+
+/// The contents octets of a field, and what follows it.
+fn octets_within<'a>(octets: &'a [u8], place: &Place) -> &'a [u8] {
+    octets.get(place.contents..).unwrap_or(&[])
+}
+
+/// The same with the times in it, where it looks like a certificate.
+fn push_certificate_parts<L: Lines>(
+    alloc: Global,
+    page: &mut Page,
+    lines: &mut L,
+    octets: &[u8],
+    whole: &Site,
+) -> Result<(), Stop> {
+    let site = whole.field(octets, "tbsCertificate");
+    let validity = site.field(octets, "validity");
+    if !has_time_tag(octets_within(octets, &validity.place)) {
+        return Ok(());
+    }
+    push_title(page, &whole.place, Kind::Certificate)?;
+    push_number_part(page, octets, &site)?;
+    push_serial_part(alloc, page, octets, &site.field(octets, "serialNumber"))?;
+    push_algorithm_part(alloc, page, octets, &site.field(octets, "signature"))?;
+    push_name_part(alloc, page, octets, &site.field(octets, "issuer"), "issuer")?;
+    push_time_part(
+        alloc,
+        page,
+        octets,
+        &validity.field(octets, "notBefore"),
+        "not before",
+    )?;
+    push_time_part(
+        alloc,
+        page,
+        octets,
+        &validity.field(octets, "notAfter"),
+        "not after",
+    )?;
+    push_name_part(
+        alloc,
+        page,
+        octets,
+        &site.field(octets, "subject"),
+        "subject",
+    )?;
+    push_key_part(
+        alloc,
+        page,
+        octets,
+        &site.field(octets, "subjectPublicKeyInfo"),
+    )?;
+    push_unique_part(
+        page,
+        octets,
+        &site.field(octets, "issuerUniqueID"),
+        "issuer's number",
+    )?;
+    push_unique_part(
+        page,
+        octets,
+        &site.field(octets, "subjectUniqueID"),
+        "subject's number",
+    )?;
+    push_extension_parts(
+        alloc,
+        page,
+        lines,
+        octets,
+        &site.field(octets, "extensions"),
+    )?;
+    push_signature_parts(alloc, page, octets, whole)?;
+    lines.take(page)
+}
+
+/// The same of a list.
+fn push_list_parts<L: Lines>(
+    alloc: Global,
+    page: &mut Page,
+    lines: &mut L,
+    octets: &[u8],
+    whole: &Site,
+) -> Result<(), Stop> {
+    let site = whole.field(octets, "tbsCertList");
+    let first = site.field(octets, "thisUpdate");
+    if !has_time_tag(octets_of(octets, &first.place)) {
+        return Ok(());
+    }
+    push_title(page, &whole.place, Kind::RevocationList)?;
+    push_number_part(page, octets, &site)?;
+    push_algorithm_part(alloc, page, octets, &site.field(octets, "signature"))?;
+    push_name_part(alloc, page, octets, &site.field(octets, "issuer"), "issuer")?;
+    push_time_part(alloc, page, octets, &first, "this update")?;
+    push_time_part(
+        alloc,
+        page,
+        octets,
+        &site.field(octets, "nextUpdate"),
+        "next update",
+    )?;
+    push_entry_parts(
+        alloc,
+        page,
+        lines,
+        octets,
+        &site.field(octets, "revokedCertificates"),
+    )?;
+    push_extension_parts(
+        alloc,
+        page,
+        lines,
+        octets,
+        &site.field(octets, "crlExtensions"),
+    )?;
+    push_signature_parts(alloc, page, octets, whole)?;
+    lines.take(page)
+}
+
+/// Adds the version, whose last octet is its number.
+fn push_number_part(page: &mut Page, octets: &[u8], site: &Site) -> Result<(), AllocError> {
+    let version = site.field(octets, "version");
+    match octets_of(octets, &version.place) {
+        [.., number] => push_version(page, &version, *number),
+        [] => push_version(page, &version, 0),
+    }
+}
+
+fn push_serial_part(
+    alloc: Global,
+    page: &mut Page,
+    octets: &[u8],
+    site: &Site,
+) -> Result<(), AllocError> {
+    push_label(page, &site.place, "serial number")?;
+    match IntRef::from_der(alloc, octets_of(octets, &site.place)) {
+        Ok(number) => push_serial(page, number.as_bytes())?,
+        Err(error) => push_malformed(page, site.place.begin, error)?,
+    }
+    page.text.push('\n')
+}
+
+fn push_algorithm_part(
+    alloc: Global,
+    page: &mut Page,
+    octets: &[u8],
+    site: &Site,
+) -> Result<(), AllocError> {
+    match AlgorithmIdentifier::from_der(alloc, octets_of(octets, &site.place)) {
+        Ok(algorithm) => push_algorithm(alloc, page, site, "signature algorithm", &algorithm),
+        Err(error) => {
+            push_label(page, &site.place, "signature algorithm")?;
+            push_malformed(page, site.place.begin, error)?;
+            page.text.push('\n')
+        }
+    }
+}
+
+fn push_time_part(
+    alloc: Global,
+    page: &mut Page,
+    octets: &[u8],
+    site: &Site,
+    label: &str,
+) -> Result<(), AllocError> {
+    if site.place.len() == 0 {
+        return Ok(());
+    }
+    push_label(page, &site.place, label)?;
+    match Time::from_der(alloc, octets_of(octets, &site.place)) {
+        Ok(time) => push_time(page, &time)?,
+        Err(error) => push_malformed(page, site.place.begin, error)?,
+    }
+    page.text.push('\n')
+}
+
+/// Adds a name: attribute by attribute, where it is none.
+fn push_name_part(
+    alloc: Global,
+    page: &mut Page,
+    octets: &[u8],
+    site: &Site,
+    label: &str,
+) -> Result<(), AllocError> {
+    push_label(page, &site.place, label)?;
+    let begin = page.text.len();
+    let mut sites = Sites::within(octets, site);
+    for _ in site.place.contents..site.place.end {
+        let Some(part) = sites.next_site() else {
+            break;
+        };
+        if page.text.len() > begin {
+            page.text.push_str(", ")?;
+        }
+        push_attribute_parts(alloc, page, octets, &part)?;
+    }
+    if let Err(error) = Name::from_der(alloc, octets_of(octets, &site.place)) {
+        if page.text.len() == begin {
+            push_malformed(page, site.place.begin, error)?;
+        }
+    }
+    page.text.push('\n')
+}
+
+/// Adds the attributes of a place of a name.
+fn push_attribute_parts(
+    alloc: Global,
+    page: &mut Page,
+    octets: &[u8],
+    site: &Site,
+) -> Result<(), AllocError> {
+    let mut is_first = true;
+    let mut sites = Sites::within(octets, site);
+    for _ in site.place.contents..site.place.end {
+        let Some(part) = sites.next_site() else {
+            break;
+        };
+        if !is_first {
+            page.text.push('+')?;
+        }
+        is_first = false;
+        match AttributeTypeAndValue::from_der(alloc, octets_of(octets, &part.place)) {
+            Ok(attribute) => push_attribute(alloc, page, &attribute)?,
+            Err(error) => {
+                push_type_part(alloc, page, octets, &part)?;
+                push_malformed(page, part.place.begin, error)?;
+            }
+        }
+    }
+    Ok(())
+}
+
+/// Adds the type of an attribute, if an identifier stands there.
+fn push_type_part(
+    alloc: Global,
+    page: &mut Page,
+    octets: &[u8],
+    site: &Site,
+) -> Result<(), AllocError> {
+    let place = site.field(octets, "type").place;
+    if !has_tag(octets_of(octets, &place), 0x06) {
+        return Ok(());
+    }
+    let identifier = octets.get(place.contents..place.end).unwrap_or(&[]);
+    push_attribute_type(alloc, page, identifier)?;
+    page.text.push('=')
+}
+
+fn push_key_part(
+    alloc: Global,
+    page: &mut Page,
+    octets: &[u8],
+    site: &Site,
+) -> Result<(), AllocError> {
+    match SubjectPublicKeyInfo::from_der(alloc, octets_of(octets, &site.place)) {
+        Ok(key) => push_key(alloc, page, octets, site, &key),
+        Err(error) => {
+            push_label(page, &site.place, "key")?;
+            push_malformed(page, site.place.begin, error)?;
+            page.text.push('\n')
+        }
+    }
+}
+
+/// Adds a number of an issuer or of a subject, where it is there: the octet of unused bits, and others.
+fn push_unique_part(
+    page: &mut Page,
+    octets: &[u8],
+    site: &Site,
+    label: &str,
+) -> Result<(), AllocError> {
+    let Some([unused, bits @ ..]) = octets.get(site.place.contents..site.place.end) else {
+        return Ok(());
+    };
+    push_label(page, &site.place, label)?;
+    match BitStringRef::new(*unused, bits) {
+        Ok(bits) => push_bits(page, &bits)?,
+        Err(error) => push_malformed(page, site.place.contents, error)?,
+    }
+    page.text.push('\n')
+}
+
+/// Adds each extension.
+fn push_extension_parts<L: Lines>(
+    alloc: Global,
+    page: &mut Page,
+    lines: &mut L,
+    octets: &[u8],
+    site: &Site,
+) -> Result<(), Stop> {
+    let list = site.field(octets, "");
+    let mut sites = Sites::within(octets, &list);
+    for _ in list.place.contents..list.place.end {
+        let Some(part) = sites.next_site() else {
+            break;
+        };
+        push_extension_part(alloc, page, octets, &part)?;
+        lines.take(page)?;
+    }
+    Ok(())
+}
+
+fn push_extension_part(
+    alloc: Global,
+    page: &mut Page,
+    octets: &[u8],
+    site: &Site,
+) -> Result<(), AllocError> {
+    push_label(page, &site.place, "extension")?;
+    match Extension::from_der(alloc, octets_of(octets, &site.place)) {
+        Ok(extension) => push_extension(alloc, page, &site.place, &extension)?,
+        Err(error) => push_malformed(page, site.place.begin, error)?,
+    }
+    page.text.push('\n')
+}
+
+/// Adds each revoked certificate.
+fn push_entry_parts<L: Lines>(
+    alloc: Global,
+    page: &mut Page,
+    lines: &mut L,
+    octets: &[u8],
+    list: &Site,
+) -> Result<(), Stop> {
+    let mut sites = Sites::within(octets, list);
+    for _ in list.place.contents..list.place.end {
+        let Some(part) = sites.next_site() else {
+            break;
+        };
+        push_entry_part(alloc, page, octets, &part)?;
+        lines.take(page)?;
+    }
+    Ok(())
+}
+
+fn push_entry_part(
+    alloc: Global,
+    page: &mut Page,
+    octets: &[u8],
+    site: &Site,
+) -> Result<(), AllocError> {
+    push_label(page, &site.place, "revoked")?;
+    match RevokedCertificate::from_der(alloc, octets_of(octets, &site.place)) {
+        Ok(entry) => push_entry(alloc, page, octets, site, &entry),
+        Err(error) => {
+            push_malformed(page, site.place.begin, error)?;
+            page.text.push('\n')
+        }
+    }
+}
+
+/// Adds the algorithm outside of what is signed, and the signature.
+fn push_signature_parts(
+    alloc: Global,
+    page: &mut Page,
+    octets: &[u8],
+    whole: &Site,
+) -> Result<(), AllocError> {
+    let algorithm = whole.field(octets, "signatureAlgorithm");
+    if algorithm.place.len() > 0 {
+        push_algorithm_part(alloc, page, octets, &algorithm)?;
+    }
+    let site = whole.field(octets, "signatureValue");
+    if site.place.len() == 0 {
+        return Ok(());
+    }
+    push_label(page, &site.place, "signature")?;
+    match BitStringRef::from_der(alloc, octets_of(octets, &site.place)) {
+        Ok(bits) => push_bits(page, &bits)?,
+        Err(error) => push_malformed(page, site.place.begin, error)?,
+    }
+    page.text.push('\n')
+}

@@ -1,0 +1,20 @@
+//! A CHOICE of eight alternatives.
+
+ghost use Rattle.der_asn1_types.specs.Decoding.{ReadsAll};
+
+use der_asn1_types::asn1::OctetStringRef;
+use der_asn1_types::{Error, Form, FromDer, Implicit, OneOf};
+use std::alloc::Global;
+
+/// Eight alternatives, none after more than two others.
+pub type Setting<'a> = OneOf<
+    OneOf<OneOf<bool, u16>, OneOf<OctetStringRef<'a>, ()>>,
+    OneOf<OneOf<Implicit<u16, 0>, Implicit<u16, 1>>, OneOf<Implicit<bool, 2>, Implicit<bool, 31>>>,
+>;
+
+/// The setting that the octets are read as: all of them, under DER.
+pub fn read_setting<'a>(alloc: Global, octets: &'a [u8]) -> Result<Setting<'a>, Error>
+    ensures { ReadsAll ⟦<Setting<'a> as Form>⟧ octets.now result }
+{
+    Setting::from_der(alloc, octets)
+}

@@ -1,0 +1,20 @@
+//! The first six fields of the TSTInfo of RFC 3161: a message as a user of lists of fields writes it.
+//! The imprint and the accuracy are kept as they are encoded.
+
+ghost use Rattle.der_asn1_types.specs.Decoding.{ReadsAll};
+
+use der_asn1_types::asn1::{AnyRef, GeneralizedTime, IntRef, ObjectIdentifier};
+use der_asn1_types::{Error, FieldSequence, Fields6, Form, FromDer};
+use std::alloc::Global;
+
+/// A SEQUENCE of the version, the policy, the imprint, the serial number, the time and the accuracy.
+pub type TstInfo<'a> = FieldSequence<
+    Fields6<u8, ObjectIdentifier<39>, AnyRef<'a>, IntRef<'a>, GeneralizedTime, Option<AnyRef<'a>>>,
+>;
+
+/// The fields that the octets are read as: all of them, under DER.
+pub fn read_tst_info<'a>(alloc: Global, octets: &'a [u8]) -> Result<TstInfo<'a>, Error>
+    ensures { ReadsAll ⟦<TstInfo<'a> as Form>⟧ octets.now result }
+{
+    TstInfo::from_der(alloc, octets)
+}

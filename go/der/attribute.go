@@ -1,0 +1,96 @@
+package der
+
+// #include "der.h"
+import "C"
+
+// AttributeTypeAndValue is an attribute of a name (RFC 5280 4.1.2.4).
+type AttributeTypeAndValue struct {
+	octets []byte
+	at     C.der_attribute_type_and_value_at
+}
+
+// Octets gives the whole attribute.
+func (a AttributeTypeAndValue) Octets() []byte { return a.octets }
+
+// Type gives type, an OBJECT IDENTIFIER.
+func (a AttributeTypeAndValue) Type() []byte { return at(a.octets, a.at._type) }
+
+// Identifier gives the contents octets of type: 55 04 03 of commonName.
+func (a AttributeTypeAndValue) Identifier() []byte { return Contents(a.Type()) }
+
+// Value gives value, of any type.
+func (a AttributeTypeAndValue) Value() []byte { return at(a.octets, a.at.value) }
+
+// NameAttributes gives the attributes of a name that was read, as the issuer of a certificate, in their order.
+func NameAttributes(name []byte) ([]AttributeTypeAndValue, error) {
+	var found []AttributeTypeAndValue
+	parts := Contents(name)
+	for len(parts) > 0 {
+		part := firstEncoding(parts)
+		parts = parts[len(part):]
+		items := &Items[AttributeTypeAndValue]{left: Contents(part), read: readAttributeTypeAndValue}
+		for items.Next() {
+			found = append(found, items.Item())
+		}
+		if items.Err() != nil {
+			return nil, items.Err()
+		}
+		if len(Contents(part)) == 0 {
+			_, _, err := readAttributeTypeAndValue(nil)
+			return nil, err
+		}
+	}
+	return found, nil
+}
+
+// firstEncoding gives the encoding at the front of octets; nothing where there is none.
+func firstEncoding(octets []byte) []byte {
+	var start C.der_place
+	address, count := first(octets)
+	return at(octets, C.der_next_encoding(address, count, &start))
+}
+
+// readAttributeTypeAndValue reads the attribute at the front of octets, and says how many it has.
+func readAttributeTypeAndValue(octets []byte) (AttributeTypeAndValue, int, error) {
+	var out C.der_attribute_type_and_value_at
+	var fault C.der_fault
+	address, count := first(octets)
+	if err := answered(C.der_attribute_type_and_value(address, count, &out, &fault), &fault); err != nil {
+		return AttributeTypeAndValue{}, 0, err
+	}
+	return AttributeTypeAndValue{at(octets, out.whole), out}, int(out.whole.length), nil
+}
+
+// Attribute is an attribute with a set of values (RFC 5652 5.3, RFC 2986 4.1).
+type Attribute struct {
+	octets []byte
+	at     C.der_attribute_at
+}
+
+// Octets gives the whole attribute.
+func (a Attribute) Octets() []byte { return a.octets }
+
+// Type gives type, an OBJECT IDENTIFIER.
+func (a Attribute) Type() []byte { return at(a.octets, a.at._type) }
+
+// Identifier gives the contents octets of type: 2A 86 48 86 F7 0D 01 09 04 of messageDigest.
+func (a Attribute) Identifier() []byte { return Contents(a.Type()) }
+
+// Values gives values, a SET OF.
+func (a Attribute) Values() []byte { return at(a.octets, a.at.values) }
+
+// readAttribute reads the attribute at the front of octets, and says how many it has.
+func readAttribute(octets []byte) (Attribute, int, error) {
+	var out C.der_attribute_at
+	var fault C.der_fault
+	address, count := first(octets)
+	if err := answered(C.der_attribute(address, count, &out, &fault), &fault); err != nil {
+		return Attribute{}, 0, err
+	}
+	return Attribute{at(octets, out.whole), out}, int(out.whole.length), nil
+}
+
+// Attributes goes over those of a field that was read, as attributes of a private key, in their order; over none of nil.
+func Attributes(field []byte) *Items[Attribute] {
+	return &Items[Attribute]{left: Contents(field), read: readAttribute}
+}

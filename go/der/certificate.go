@@ -1,0 +1,115 @@
+package der
+
+// #include "der.h"
+import "C"
+
+import "time"
+
+// Certificate is a certificate (RFC 5280 4.1).
+type Certificate struct {
+	octets []byte
+	at     C.der_certificate_at
+}
+
+// ReadCertificate reads octets as a certificate, all of them. They must not change as long as the answer is used.
+func ReadCertificate(octets []byte) (*Certificate, error) {
+	var out C.der_certificate_at
+	var fault C.der_fault
+	address, count := first(octets)
+	if err := answered(C.der_certificate(address, count, &out, &fault), &fault); err != nil {
+		return nil, err
+	}
+	return &Certificate{octets, out}, nil
+}
+
+// Octets gives the whole certificate.
+func (c *Certificate) Octets() []byte { return c.octets }
+
+// TBSCertificate gives tbsCertificate: what the signature covers.
+func (c *Certificate) TBSCertificate() []byte { return at(c.octets, c.at.tbs_certificate) }
+
+// SignatureAlgorithm gives signatureAlgorithm, an AlgorithmIdentifier.
+func (c *Certificate) SignatureAlgorithm() []byte { return at(c.octets, c.at.signature_algorithm) }
+
+// SignatureValue gives signatureValue, a BIT STRING.
+func (c *Certificate) SignatureValue() []byte { return at(c.octets, c.at.signature_value) }
+
+// SerialNumber gives serialNumber, an INTEGER.
+func (c *Certificate) SerialNumber() []byte { return at(c.octets, c.at.serial_number) }
+
+// Signature gives signature of what is signed, an AlgorithmIdentifier.
+func (c *Certificate) Signature() []byte { return at(c.octets, c.at.signature) }
+
+// Issuer gives issuer, a Name.
+func (c *Certificate) Issuer() []byte { return at(c.octets, c.at.issuer) }
+
+// Validity gives validity.
+func (c *Certificate) Validity() []byte { return at(c.octets, c.at.validity) }
+
+// Subject gives subject, a Name.
+func (c *Certificate) Subject() []byte { return at(c.octets, c.at.subject) }
+
+// SubjectPublicKeyInfo gives subjectPublicKeyInfo, which ReadSubjectPublicKeyInfo reads.
+func (c *Certificate) SubjectPublicKeyInfo() []byte {
+	return at(c.octets, c.at.subject_public_key_info)
+}
+
+// IssuerUniqueID gives issuerUniqueID with its tag [1]; nil where it is absent.
+func (c *Certificate) IssuerUniqueID() []byte { return at(c.octets, c.at.issuer_unique_id) }
+
+// SubjectUniqueID gives subjectUniqueID with its tag [2]; nil where it is absent.
+func (c *Certificate) SubjectUniqueID() []byte { return at(c.octets, c.at.subject_unique_id) }
+
+// Version is 1, 2 or 3: one more than the number that stands in version.
+func (c *Certificate) Version() int { return int(c.at.version_number) + 1 }
+
+// NotBefore gives notBefore.
+func (c *Certificate) NotBefore() time.Time { return seconds(c.at.not_before) }
+
+// NotAfter gives notAfter; the certificate is valid in this second too.
+func (c *Certificate) NotAfter() time.Time { return seconds(c.at.not_after) }
+
+// Extensions goes over the extensions, in their order.
+func (c *Certificate) Extensions() *Items[Extension] {
+	return extensions(Contents(at(c.octets, c.at.extensions)))
+}
+
+// Extension is an extension (RFC 5280 4.2).
+type Extension struct {
+	octets []byte
+	at     C.der_extension_at
+}
+
+// Octets gives the whole extension.
+func (e Extension) Octets() []byte { return e.octets }
+
+// ExtnID gives extnID, an OBJECT IDENTIFIER.
+func (e Extension) ExtnID() []byte { return at(e.octets, e.at.extn_id) }
+
+// ExtnValue gives extnValue, an OCTET STRING.
+func (e Extension) ExtnValue() []byte { return at(e.octets, e.at.extn_value) }
+
+// Identifier gives the contents octets of extnID: 55 1D 0F of keyUsage.
+func (e Extension) Identifier() []byte { return Contents(e.ExtnID()) }
+
+// Value gives the contents octets of extnValue: the encoding of what the extension says.
+func (e Extension) Value() []byte { return Contents(e.ExtnValue()) }
+
+// IsCritical gives critical.
+func (e Extension) IsCritical() bool { return e.at.is_critical == 1 }
+
+// readExtension reads the extension at the front of octets, and says how many it has.
+func readExtension(octets []byte) (Extension, int, error) {
+	var out C.der_extension_at
+	var fault C.der_fault
+	address, count := first(octets)
+	if err := answered(C.der_extension(address, count, &out, &fault), &fault); err != nil {
+		return Extension{}, 0, err
+	}
+	return Extension{at(octets, out.whole), out}, int(out.whole.length), nil
+}
+
+// extensions goes over those of a list.
+func extensions(list []byte) *Items[Extension] {
+	return &Items[Extension]{left: Contents(list), read: readExtension}
+}

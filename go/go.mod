@@ -1,0 +1,3 @@
+module barleypulley/go
+
+go 1.19
