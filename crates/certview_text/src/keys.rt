@@ -7,12 +7,13 @@ ghost use Rattle.der_pkix.specs.Key.Grammar.{private_key_info, rsa_public_key, e
 ghost use Rattle.certview_text.specs.Faults.{first_fault};
 
 use crate::algorithms::{bits_of, push_algorithm, push_key};
+use crate::attribute_rows::push_attribute_rows;
 use crate::certificate::push_bits;
 use crate::fault::{Fault, refusal};
 use crate::hexadecimal::{push_digits, push_number_of};
 use crate::identifiers::push_identifier;
 use crate::kind::Kind;
-use crate::labels::{push_count, push_label, push_title};
+use crate::labels::{push_label, push_title};
 use crate::page::Page;
 use crate::site::Site;
 use der_asn1_types::FromDer;
@@ -87,25 +88,15 @@ fn private_key_fields(
     )?;
     let count = key.private_key().as_bytes().len();
     push_secret(page, octets, &whole, "privateKey", count)?;
-    push_attributes(page, octets, &whole, key)?;
+    push_attribute_rows(
+        alloc,
+        page,
+        octets,
+        &whole.field(octets, "attributes"),
+        "attribute",
+    )?;
     push_public_bits(page, octets, &whole, key.public_key())?;
     Ok(())
-}
-
-/// Adds how many attributes there are, where they are there.
-fn push_attributes(
-    page: &mut Page,
-    octets: &[u8],
-    whole: &Site,
-    key: &PrivateKeyInfo<'_>,
-) -> Result<(), AllocError> {
-    match key.attributes() {
-        Some(attributes) => {
-            let place = whole.field(octets, "attributes").place;
-            push_count(page, &place, "attributes", attributes.as_slice().len())
-        }
-        None => Ok(()),
-    }
 }
 
 /// Adds the public key that stands beside a private one, where it is there.

@@ -1,7 +1,7 @@
 //! What kind of message octets are.
 
 ghost use Rattle.std.specs.Prelude.{◌≡◌};
-ghost use Rattle.certview_text.specs.Kinds.{has_tag, has_time_tag, signed_kind, key_kind, kind_of};
+ghost use Rattle.certview_text.specs.Kinds.{has_tag, has_time_tag, signed_kind, sequence_kind, structure_kind, numbers_kind, key_kind, kind_of_fields, kind_of};
 
 use crate::values::{after_header, after_value};
 
@@ -22,6 +22,18 @@ pub enum Kind {
     RsaPublicKey,
     /// An ECPrivateKey (RFC 5915 section 3).
     EcPrivateKey,
+    /// A CertificationRequest (RFC 2986 section 4.2).
+    CertificationRequest,
+    /// An EncryptedPrivateKeyInfo (RFC 5958 section 3).
+    EncryptedPrivateKey,
+    /// ECParameters (RFC 5480 section 2.1.1; SEC 1, version 2.0, section C.2).
+    EcParameters,
+    /// A Dss-Parms (RFC 3279 section 2.3.2).
+    DsaParameters,
+    /// A DHParameter (PKCS #3 section 9).
+    DhParameters,
+    /// A DomainParameters (RFC 3279 section 2.3.3).
+    X942Parameters,
 }
 
 impl Kind {
@@ -35,6 +47,12 @@ impl Kind {
             Kind::RsaPrivateKey => "private key of RSA",
             Kind::RsaPublicKey => "public key of RSA",
             Kind::EcPrivateKey => "private key of an elliptic curve",
+            Kind::CertificationRequest => "certification request",
+            Kind::EncryptedPrivateKey => "encrypted private key",
+            Kind::EcParameters => "parameters of an elliptic curve",
+            Kind::DsaParameters => "parameters of DSA",
+            Kind::DhParameters => "parameters of Diffie-Hellman",
+            Kind::X942Parameters => "parameters of Diffie-Hellman (X9.42)",
         }
     }
 
@@ -42,7 +60,7 @@ impl Kind {
     pub fn is_secret(self) -> bool {
         matches!(
             self,
-            Kind::PrivateKey | Kind::RsaPrivateKey | Kind::EcPrivateKey
+            Kind::PrivateKey | Kind::RsaPrivateKey | Kind::EcPrivateKey | Kind::EncryptedPrivateKey
         )
     }
 }
@@ -52,14 +70,21 @@ impl Kind {
 pub fn kind_of(octets: &[u8]) -> Kind
     ensures { result ≡ kind_of octets.now }
 {
-    let fields = after_header(octets);
+    if has_tag(octets, 0x06) || has_tag(octets, 0x05) {
+        return Kind::EcParameters;
+    }
+    kind_of_fields(after_header(octets))
+}
+
+/// Of the fields of a SEQUENCE.
+fn kind_of_fields(fields: &[u8]) -> Kind
+    ensures { result ≡ kind_of_fields fields.now }
+{
     if has_tag(fields, 0x02) {
-        return key_kind(after_value(fields));
+        key_kind(after_value(fields))
+    } else {
+        sequence_kind(after_header(fields), after_value(fields))
     }
-    if has_tag(after_value(fields), 0x03) {
-        return Kind::PublicKey;
-    }
-    signed_kind(after_header(fields))
 }
 
 /// Of what follows a first INTEGER.
@@ -67,13 +92,60 @@ fn key_kind(others: &[u8]) -> Kind
     ensures { result ≡ key_kind others.now }
 {
     if has_tag(others, 0x30) {
-        Kind::PrivateKey
-    } else if has_tag(others, 0x04) {
-        Kind::EcPrivateKey
-    } else if has_tag(after_value(others), 0x02) {
-        Kind::RsaPrivateKey
+        return structure_kind(others);
+    }
+    if has_tag(others, 0x04) {
+        return Kind::EcPrivateKey;
+    }
+    let third = after_value(others);
+    if has_tag(third, 0x02) {
+        numbers_kind(after_value(third))
     } else {
         Kind::RsaPublicKey
+    }
+}
+
+/// Of what follows a first INTEGER, and is a SEQUENCE first.
+fn structure_kind(others: &[u8]) -> Kind
+    ensures { result ≡ structure_kind others.now }
+{
+    let third = after_value(others);
+    if has_tag(third, 0x04) {
+        Kind::PrivateKey
+    } else if has_tag(third, 0x30) {
+        Kind::EcParameters
+    } else {
+        Kind::PrivateKey
+    }
+}
+
+/// Of what follows three INTEGERs.
+fn numbers_kind(others: &[u8]) -> Kind
+    ensures { result ≡ numbers_kind others.now }
+{
+    if has_tag(others, 0x02) {
+        if has_tag(after_value(others), 0x02) {
+            Kind::RsaPrivateKey
+        } else {
+            Kind::X942Parameters
+        }
+    } else if has_tag(others, 0x30) {
+        Kind::X942Parameters
+    } else {
+        Kind::DsaParameters
+    }
+}
+
+/// Of the fields of a first SEQUENCE, and of what follows it.
+fn sequence_kind(fields: &[u8], others: &[u8]) -> Kind
+    ensures { result ≡ sequence_kind fields.now others.now }
+{
+    if has_tag(others, 0x03) {
+        Kind::PublicKey
+    } else if has_tag(others, 0x04) {
+        Kind::EncryptedPrivateKey
+    } else {
+        signed_kind(fields)
     }
 }
 
@@ -82,8 +154,11 @@ fn signed_kind(fields: &[u8]) -> Kind
     ensures { result ≡ signed_kind fields.now }
 {
     let third = after_value(after_value(fields));
-    if has_time_tag(third) || has_time_tag(after_value(third)) {
+    let fourth = after_value(third);
+    if has_time_tag(third) || has_time_tag(fourth) {
         Kind::RevocationList
+    } else if has_tag(fourth, 0xa0) {
+        Kind::CertificationRequest
     } else {
         Kind::Certificate
     }

@@ -1,5 +1,5 @@
-//! Messages as text for people: certificates, lists of revoked certificates and keys, a field a line,
-//! with where each stands in the octets.
+//! Messages as text for people: certificates, lists of revoked certificates, keys, requests and
+//! parameters, a field a line, with where each stands in the octets.
 //!
 //! `ED25519_PUBLIC` is a key as hex digits:
 //!
@@ -13,14 +13,22 @@
 
 mod access;
 mod algorithms;
+mod any_values;
+mod attribute_rows;
 mod attributes;
 mod blocks;
 mod certificate;
 mod characters;
 mod constraints;
+mod content_names;
+mod curve_parameters;
+mod encrypted_key;
+mod encryption;
 mod entries;
+mod extension_rows;
 mod extensions;
 mod fault;
+mod group_parameters;
 mod hexadecimal;
 mod identifier_names;
 mod identifiers;
@@ -33,18 +41,24 @@ mod lines;
 mod names;
 mod other_names;
 mod page;
+mod parts;
 mod path;
 mod pem;
 mod periods;
 mod place;
 mod points;
 mod policies;
+mod private_extensions;
+mod request;
 mod revocation;
+mod rows;
 mod rsa;
+mod signatures;
 mod site;
 mod subtrees;
 mod text;
 mod times;
+mod transparency;
 mod usages;
 mod values;
 mod viewing;

@@ -65,7 +65,7 @@ impl Path {
         let mut count = 0;
         let mut part = of_kind(self.kind);
         for step in &self.steps {
-            let Some(component) = part.components().get(*step) else {
+            let Some(component) = part.component(*step) else {
                 break;
             };
             part = component.part;

@@ -5,11 +5,15 @@ ghost use Rattle.certview_text.specs.Faults.{first_fault};
 ghost use Rattle.certview_text.specs.Grammars.{grammar_of};
 
 use crate::certificate::push_certificate;
+use crate::curve_parameters::push_curve_parameters;
+use crate::encrypted_key::push_encrypted_key;
 use crate::fault::Fault;
+use crate::group_parameters::{push_dh_parameters, push_dsa_parameters, push_x942_parameters};
 use crate::keys::{push_ec_private_key, push_private_key, push_public_key, push_rsa_public_key};
 use crate::kind::Kind;
 use crate::lines::{Held, Lines};
 use crate::page::Page;
+use crate::request::push_request;
 use crate::revocation::push_list;
 use crate::rsa::push_rsa_private_key;
 use der_asn1_types::{Error, ErrorKind};
@@ -37,6 +41,12 @@ pub fn push_message<L: Lines>(
         Kind::RsaPrivateKey => push_rsa_private_key(alloc, page, octets),
         Kind::RsaPublicKey => push_rsa_public_key(alloc, page, octets),
         Kind::EcPrivateKey => push_ec_private_key(alloc, page, octets),
+        Kind::CertificationRequest => push_request(alloc, page, octets),
+        Kind::EncryptedPrivateKey => push_encrypted_key(alloc, page, octets),
+        Kind::EcParameters => push_curve_parameters(alloc, page, octets),
+        Kind::DsaParameters => push_dsa_parameters(alloc, page, octets),
+        Kind::DhParameters => push_dh_parameters(alloc, page, octets),
+        Kind::X942Parameters => push_x942_parameters(alloc, page, octets),
     }
 }
 
