@@ -347,16 +347,16 @@ def install(program, folder):
     if not shutil.which("make"):
         print("views: left out, make install: there is no make")
         return
-    words = ["make", "-s", "-C", programs.ROOT, "install", f"PROGRAM={program}", f"DESTDIR={folder}/root", "PREFIX=/usr"]
+    words = ["make", "-s", "-C", programs.ROOT, "install", f"PROGRAM={program}", f"DESTDIR={folder}/installed", "PREFIX=/prefix"]
     subprocess.run(words, check=True)
-    ends("the installed program", run(f"{folder}/root/usr/bin/certview", [], CERTIFICATE), (0, SHOWN, b""))
-    with open(f"{folder}/root/usr/share/man/man1/certview.1", encoding="utf-8") as file:
+    ends("the installed program", run(f"{folder}/installed/prefix/bin/certview", [], CERTIFICATE), (0, SHOWN, b""))
+    with open(f"{folder}/installed/prefix/share/man/man1/certview.1", encoding="utf-8") as file:
         page = file.read().replace("\\-", "-")
     options = re.findall(r"--[a-z]+", run(program, ["--help"])[1].decode())
     for option in options:
         if option not in page:
             fail(f"the manual page has no {option}")
-    with open(f"{folder}/root/usr/share/certview/certview.schema.json", encoding="utf-8") as file:
+    with open(f"{folder}/installed/prefix/share/certview/certview.schema.json", encoding="utf-8") as file:
         json.load(file)
 
 
