@@ -10,43 +10,40 @@ use crate::names::Names;
 use der_tlv::ErrorKind;
 use std::alloc::{AllocError, Global};
 
-/// The reply to a line, and room that is kept from one line to the next.
+/// Room for the octets of a line and for their encoding, which is kept from one line to the next.
 #[derive(Drop)]
 pub struct Room {
     octets: Vec<u8>,
     encoding: KeptWriter,
-    /// The reply.
-    pub reply: Vec<u8>,
 }
 
 impl Room {
     /// Room for nothing yet.
     pub fn new(alloc: Global) -> Room
-        ensures { result.reply.items ≡ [] }
+        ensures { result.octets.items ≡ [] }
     {
         Room {
             octets: Vec::new(alloc),
             encoding: KeptWriter::new(alloc),
-            reply: Vec::new(alloc),
         }
     }
 
-    /// Puts the answer to a line, and an LF, in the place of the reply.
+    /// Puts the answer to a line, and an LF, in the place of the line.
     #[tactic(auto, unfolding(crate::specs::Answer::answer_of))]
-    pub fn reply_to<N: Names>(&mut self, alloc: Global, line: &[u8]) -> Result<(), AllocError>
-        ensures reply { OnOk result (self.new.reply.items ≡ reply_to N.canonical_function_of line.now) }
-        ensures memory { OnOk result (NotRefusedForMemory N.canonical_function_of line.now) }
+    pub fn answer<N: Names>(&mut self, alloc: Global, line: &mut Vec<u8>) -> Result<(), AllocError>
+        ensures reply { OnOk result (line.new.items ≡ reply_to N.canonical_function_of line.old.items) }
+        ensures memory { OnOk result (NotRefusedForMemory N.canonical_function_of line.old.items) }
     {
         let Some((name, text)) = parts(line) else {
-            return put_bad_line(&mut self.reply);
+            return put_bad_line(line);
         };
         if !read_octets(text, &mut self.octets)? {
-            return put_bad_line(&mut self.reply);
+            return put_bad_line(line);
         }
         match N::put_canonical_of_name(alloc, name, &self.octets, &mut self.encoding) {
-            None => put_bad_line(&mut self.reply),
-            Some(Ok(())) => put_accepted(&self.encoding.octets, &mut self.reply),
-            Some(Err(error)) => put_refused(alloc, error.kind, &mut self.reply),
+            None => put_bad_line(line),
+            Some(Ok(())) => put_accepted(&self.encoding.octets, line),
+            Some(Err(error)) => put_refused(alloc, error.kind, line),
         }
     }
 }

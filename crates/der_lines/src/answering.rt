@@ -52,8 +52,8 @@ pub fn run<N: Names, R: BufRead, W: Write>(
     let mut line = Vec::new(alloc);
     let mut room = Room::new(alloc);
     'lines: while input.next_line(&mut line)? {
-        room.reply_to::<N>(alloc, &line)?;
-        output.put(&room.reply)?;
+        room.answer::<N>(alloc, &mut line)?;
+        output.put(&line)?;
     }
     Ok(())
 }
