@@ -9,7 +9,6 @@ mod messages;
 mod of_asn1;
 mod of_der;
 mod peers;
-mod places;
 
 use calls::octets as here;
 use der::asn1::{

@@ -3,7 +3,7 @@
 use crate::calls::{self, octets as here};
 use crate::measure::{Candidate, Goal, Plan, Work, by};
 use crate::peers::Peer;
-use crate::{inputs, limit, of_asn1, of_der, places};
+use crate::{inputs, limit, of_asn1, of_der};
 use std::path::{Path, PathBuf};
 
 /// The messages of a file, each after its length in four octets.
@@ -123,17 +123,6 @@ const NAMES_KEPT: [(&str, Call); 6] = [
     ("no names: der 0.8", of_der::certificate),
 ];
 
-/// A certificate of which each header is read.
-fn walked(octets: &[u8]) -> usize {
-    usize::from(here::walk_headers(octets) > 0)
-}
-
-const PLACES: [(&str, Call); 4] =
-    [("here", places::certificate), ("here, headers", walked), ("x509-cert", x509_cert), ("x509-parser", x509_parser)];
-
-const ITEMS: [(&str, Call); 4] =
-    [("here", places::certificate_with_items), ("here, headers", walked), ("x509-cert", x509_cert), ("x509-parser", x509_parser)];
-
 const REVOKED: [(&str, Call); 7] = [
     ("here", here::read_revoked),
     ("limit", limit::revoked),
@@ -170,13 +159,6 @@ pub fn rows(plan: &Plan, room: &Path, peers: &[Peer]) {
     // (what C and Go read is in the rows above: it is certificates with their names)
     for (name, file) in [("certificate, names kept, system", "system"), ("certificate, names kept, leaf", "leaves")] {
         row(name, file, 25, &[("asn1 0.24", 0.7)], &NAMES_KEPT, "none");
-    }
-    let goals = &[("here, headers", 1.5)];
-    for (name, file) in [("places from C, system", "system"), ("places from C, leaf", "leaves")] {
-        row(name, file, 25, goals, &PLACES, "certificate");
-    }
-    for (name, file) in [("places and items from C, system", "system"), ("places and items from C, leaf", "leaves")] {
-        row(name, file, 25, goals, &ITEMS, "certificate");
     }
     for (name, file, rounds) in [
         ("revoked entry, 1,000", "revoked-1000", 25),
