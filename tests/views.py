@@ -24,6 +24,7 @@ import documents
 import hand_made
 import labels
 import programs
+import rare
 
 CRATE = f"{programs.ROOT}/crates/certview"
 CERTIFICATE = open(f"{CRATE}/stdin", "rb").read()
@@ -183,22 +184,32 @@ def show_some_fields(program, folder):
     return names[1].split(", ") if names else []
 
 
+def show_what_is_rare(program):
+    """Of messages that are built by hand each line of what is rare, or cannot be read; where one is malformed the status is 1."""
+    for octets, lines in rare.rows():
+        status, text, said = run(program, [], octets)
+        shown = [line.split(" (4: ")[0] + " (4" if "malformed (4: " in line else line for line in text.decode().splitlines()]
+        if said or status != int("malformed" in str(lines)) or set(lines) - set(shown):
+            fail(f"rare: {status}, {text!r}, {said!r} and not {lines}")
+
+
 def name_all_fields(program, names):
-    """The names are the labels that the sources have, and each label that is printed is one of them."""
+    """The names are the labels that the sources have, and each is printed of a message."""
     wanted = {label.replace(" ", "-") for label in labels.labels()}
     if set(names) != wanted or len(names) != len(wanted):
         fail(f"names {sorted(set(names) - wanted)} of no label, and labels {sorted(wanted - set(names))} without a name")
     texts = [run(program, ["--check", "--at", "2026-12-01", "--fingerprint"], octets)[1] for octets in all_messages()]
     shown = {it["name"] for text in texts for of in documents.messages_of(text.decode())[0] for it in of["fields"]}
-    if {label.replace(" ", "-") for label in shown} - wanted:
-        fail(f"labels {shown} that the sources do not have")
+    if shown != labels.labels():
+        fail(f"labels {sorted(shown - labels.labels())} that the sources do not have, {sorted(labels.labels() - shown)} that are not shown")
 
 
 def all_messages():
     """Messages of all kinds."""
     found = [text for path in sorted(glob.glob(f"{CRATE}_tests/src/tests/*.rt")) for text in hexadecimal_of(path)]
     unique = hand_made.certificate(version=b"\xa0\x03\x02\x01\x01", unique=b"\x81\x02\x00a\x82\x02\x00b")[0]
-    return [*map(bytes.fromhex, found), hand_made.certificate(outer=hand_made.OUTER)[0], unique]
+    others = [octets for octets, _ in rare.rows()]
+    return [*map(bytes.fromhex, found), hand_made.certificate(outer=hand_made.OUTER)[0], unique, *others]
 
 
 def hexadecimal_of(path):
@@ -444,6 +455,7 @@ def main():
         show_what_can_be_read(program)
         show_nothing_of_others(program)
         show_whole_texts(program)
+        show_what_is_rare(program)
         name_all_fields(program, show_some_fields(program, folder))
         check_rules(program)
         show_moments(program)
