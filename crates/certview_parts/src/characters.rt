@@ -1,7 +1,7 @@
 //! Characters from a message, so that they are safe to look at.
 
 ghost use Rattle.std.specs.Prelude.{◌≡◌};
-ghost use Rattle.certview_text.specs.Characters.{is_hidden, is_plain};
+ghost use Rattle.certview_parts.specs.Characters.{is_hidden, is_plain};
 
 use crate::hexadecimal::push_octet;
 use crate::page::Page;

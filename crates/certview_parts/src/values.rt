@@ -1,7 +1,7 @@
 //! Values that stand one after another in octets.
 
 ghost use Rattle.std.specs.Prelude.{◌≡◌, ◌≤◌, length};
-ghost use Rattle.certview_text.specs.Values.{at_most, sizes, after_header, after_value};
+ghost use Rattle.certview_parts.specs.Values.{at_most, sizes, after_header, after_value, contents};
 
 use der_asn1_types::{Header, Reader, SliceReader};
 
@@ -49,4 +49,12 @@ pub fn after_value(octets: &[u8]) -> &[u8]
 {
     let (_, count) = sizes(octets);
     &octets[count..]
+}
+
+/// The contents octets of the first value.
+pub fn contents(octets: &[u8]) -> &[u8]
+    ensures { result.now ≡ contents octets.now }
+{
+    let (_, count) = sizes(octets);
+    after_header(&octets[..count])
 }

@@ -1,5 +1,6 @@
 //! Object identifiers as text.
 
+use crate::content_names::CONTENTS;
 use crate::hexadecimal::push_digits;
 use crate::identifier_names::{ALGORITHMS, ATTRIBUTES, CURVES, EXTENSIONS, Named, PURPOSES};
 use crate::page::Page;
@@ -42,6 +43,9 @@ fn name_of(dotted: &str) -> Option<&'static str> {
         return Some(name);
     }
     if let Some(name) = name_in(&PURPOSES, dotted) {
+        return Some(name);
+    }
+    if let Some(name) = name_in(&CONTENTS, dotted) {
         return Some(name);
     }
     match curve_of(dotted) {

@@ -17,7 +17,8 @@ pub fn push_reason(alloc: Global, page: &mut Page, inner: Inner<'_>) -> Result<(
     }
 }
 
-fn name_of(reason: CrlReason) -> &'static str {
+/// The name of a reason.
+pub fn name_of(reason: CrlReason) -> &'static str {
     match reason {
         CrlReason::Unspecified => "unspecified",
         CrlReason::KeyCompromise => "keyCompromise",

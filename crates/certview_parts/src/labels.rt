@@ -1,6 +1,5 @@
 //! What each field begins with.
 
-use crate::kind::Kind;
 use crate::page::{ItemKind, Page};
 use crate::place::Place;
 use std::alloc::AllocError;
@@ -21,10 +20,4 @@ pub fn push_count(
 ) -> Result<(), AllocError> {
     push_label(page, place, label)?;
     writeln!(page.text, "{count}")
-}
-
-/// Begins a message: where it stands, and what a person calls it.
-pub fn push_title(page: &mut Page, place: &Place, kind: Kind) -> Result<(), AllocError> {
-    page.begin(ItemKind::Message(*place), kind.name())?;
-    page.text.push('\n')
 }

@@ -1,8 +1,8 @@
 //! The fields of a message, where they stand in its octets.
 
-use crate::kind::Kind;
+use crate::page::Inner;
+use crate::parts::Part;
 use crate::place::{Place, place_at, place_of_all};
-use der_pkix::parts::{Component, Part};
 
 /// A part of a message, and where it stands.
 #[derive(Clone, Copy, Debug, PartialEq, Eq)]
@@ -26,11 +26,11 @@ pub struct Sites<'a> {
 }
 
 impl Site {
-    /// A message of a kind: all of the octets.
-    pub fn whole(octets: &[u8], kind: Kind) -> Site {
+    /// A message that this part is: all of the octets.
+    pub fn whole(octets: &[u8], part: Part) -> Site {
         Site {
             step: 0,
-            part: of_kind(kind),
+            part,
             place: place_of_all(octets),
         }
     }
@@ -65,12 +65,52 @@ impl Site {
         let end = self.place.end;
         Site {
             step: 0,
-            part: Part::Value,
+            part: Part::value(),
             place: Place {
                 begin: end,
                 contents: end,
                 end,
             },
+        }
+    }
+
+    /// What stands in its contents octets, as this part: what an explicit tag is before, or an OCTET STRING
+    /// holds.
+    pub fn holding(&self, octets: &[u8], part: Part) -> Site {
+        match place_at(octets, self.place.contents, self.place.end) {
+            Some(place) => Site {
+                step: 0,
+                part,
+                place,
+            },
+            None => self.nothing(),
+        }
+    }
+
+    /// The same octets, as this part.
+    pub fn as_part(&self, part: Part) -> Site {
+        Site {
+            step: self.step,
+            part,
+            place: self.place,
+        }
+    }
+
+    /// Its contents octets, which are read on their own.
+    pub fn contents<'a>(&self, octets: &'a [u8]) -> Inner<'a> {
+        let begin = self.place.contents;
+        match octets.get(begin..self.place.end) {
+            Some(octets) => Inner { octets, begin },
+            None => Inner { octets: &[], begin },
+        }
+    }
+
+    /// Its octets, which are read on their own.
+    pub fn inner<'a>(&self, octets: &'a [u8]) -> Inner<'a> {
+        let begin = self.place.begin;
+        match octets.get(begin..self.place.end) {
+            Some(octets) => Inner { octets, begin },
+            None => Inner { octets: &[], begin },
         }
     }
 }
@@ -92,7 +132,7 @@ impl<'a> Sites<'a> {
         let place = place_at(self.octets, self.begin, self.end)?;
         let tag = *self.octets.get(place.begin)?;
         let step = self.step_with(tag)?;
-        let part = self.part.components().get(step)?.part;
+        let part = self.part.component(step)?.part;
         self.begin = place.end;
         Some(Site { step, part, place })
     }
@@ -100,62 +140,51 @@ impl<'a> Sites<'a> {
     /// The next field that may begin with this octet: those that are absent are passed over. Where
     /// there is none, the next CHOICE, which has no alternative with this octet.
     fn step_with(&mut self, octet: u8) -> Option<usize> {
-        let components = self.part.components();
-        let step = match step_beginning(components, self.next, octet) {
+        let step = match step_beginning(self.part, self.next, octet) {
             Some(step) => step,
-            None => step_of_choice(components, self.next)?,
+            None => step_of_choice(self.part, self.next)?,
         };
         if !self.part.is_list() {
-            self.next = step_after(components, step);
+            self.next = step_after(self.part, step);
         }
         Some(step)
     }
 }
 
-/// What a message of a kind is made of.
-pub fn of_kind(kind: Kind) -> Part {
-    match kind {
-        Kind::Certificate => Part::Certificate,
-        Kind::RevocationList => Part::CertificateList,
-        Kind::PublicKey => Part::SubjectPublicKeyInfo,
-        Kind::PrivateKey => Part::OneAsymmetricKey,
-        Kind::RsaPrivateKey => Part::RsaPrivateKey,
-        Kind::RsaPublicKey => Part::RsaPublicKey,
-        Kind::EcPrivateKey => Part::EcPrivateKey,
-    }
-}
-
 /// The name of a part's field at this place; none where there is no such field, or it is an item.
 fn name_of(part: Part, step: usize) -> &'static str {
-    match part.components().get(step) {
+    match part.component(step) {
         Some(component) => component.name,
         None => "",
     }
 }
 
 /// The first component from a place on that may begin with this octet.
-fn step_beginning(components: &[Component], next: usize, octet: u8) -> Option<usize> {
-    for step in next..components.len() {
-        if may_begin(&components[step], octet) {
+fn step_beginning(part: Part, next: usize, octet: u8) -> Option<usize> {
+    for step in next..part.count() {
+        if may_begin(part, step, octet) {
             return Some(step);
         }
     }
     None
 }
 
-/// Whether a component may begin with this octet: one that is never absent is told by its place
-/// alone.
-fn may_begin(component: &Component, octet: u8) -> bool {
-    match component.octet {
-        Some(first) => first == octet,
-        None => true,
+/// Whether the component at a place may begin with this octet: one that is never absent is told by its
+/// place alone.
+fn may_begin(part: Part, step: usize, octet: u8) -> bool {
+    match part.component(step) {
+        Some(component) => match component.octet {
+            Some(first) => first == octet,
+            None => true,
+        },
+        None => false,
     }
 }
 
 /// The first component from a place on that is one of several alternatives, which have one name.
-fn step_of_choice(components: &[Component], next: usize) -> Option<usize> {
-    for step in next..components.len() {
-        if step_after(components, step) > step.saturating_add(1) {
+fn step_of_choice(part: Part, next: usize) -> Option<usize> {
+    for step in next..part.count() {
+        if step_after(part, step) > step.saturating_add(1) {
             return Some(step);
         }
     }
@@ -163,14 +192,14 @@ fn step_of_choice(components: &[Component], next: usize) -> Option<usize> {
 }
 
 /// The place after a component, and after the other alternatives where it is one of several.
-fn step_after(components: &[Component], step: usize) -> usize {
-    let Some(component) = components.get(step) else {
-        return components.len();
+fn step_after(part: Part, step: usize) -> usize {
+    let Some(component) = part.component(step) else {
+        return part.count();
     };
-    for after in step..components.len() {
-        if components[after].name != component.name {
+    for after in step..part.count() {
+        if name_of(part, after) != component.name {
             return after;
         }
     }
-    components.len()
+    part.count()
 }

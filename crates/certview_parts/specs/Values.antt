@@ -1,5 +1,5 @@
 -- Values that stand one after another in octets, by their headers.
-use Rattle.std.specs.Prelude.{ℕ, ◌+◌, ◌^◌, List, length, drop, nat_lt, if◌then◌else◌, Result, Ok, Err}
+use Rattle.std.specs.Prelude.{ℕ, ◌+◌, ◌^◌, List, length, take, drop, nat_lt, if◌then◌else◌, Result, Ok, Err}
 use Rattle.der_asn1_types.specs.ErrorKind.{ErrorKind}
 use Rattle.der_asn1_types.specs.Header.{Header}
 use Rattle.der_asn1_types.specs.HeaderReading.{read_header}
@@ -25,3 +25,7 @@ after_header octets = drop (sizes octets).0 octets
 -- the octets after the first value
 abbrev pub after_value : List ℕ → List ℕ
 after_value octets = drop (sizes octets).1 octets
+
+-- the contents octets of the first value
+abbrev pub contents : List ℕ → List ℕ
+contents octets = after_header (take (sizes octets).1 octets)

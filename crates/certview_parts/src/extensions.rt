@@ -15,6 +15,7 @@ use crate::periods::push_period;
 use crate::place::Place;
 use crate::points::{push_issuing_point, push_points};
 use crate::policies::{push_mappings, push_policies};
+use crate::private_extensions::push_private;
 use crate::site::{Site, Sites};
 use crate::subtrees::push_name_constraints;
 use crate::usages::{push_purposes, push_usage};
@@ -72,7 +73,7 @@ fn push_value(
     match identifier {
         [0x55, 0x1d, last] => push_value_of(alloc, page, *last, inner),
         [0x2b, 6, 1, 5, 5, 7, 1, 1 | 11] => push_access(alloc, page, inner),
-        _ => push_unknown(page, inner),
+        _ => push_private(alloc, page, identifier, inner),
     }
 }
 
@@ -106,7 +107,8 @@ fn push_value_of(
     }
 }
 
-fn push_unknown(page: &mut Page, inner: Inner<'_>) -> Result<(), AllocError> {
+/// Adds the octets of a value.
+pub fn push_unknown(page: &mut Page, inner: Inner<'_>) -> Result<(), AllocError> {
     page.text.push_str(", #")?;
     push_digits(page, inner.octets)
 }

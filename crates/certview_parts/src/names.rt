@@ -25,7 +25,8 @@ pub fn push_name<'a>(
     page.text.push('\n')
 }
 
-fn push_kept<'a>(
+/// Adds a name that was kept as it came.
+pub fn push_kept<'a>(
     alloc: Global,
     page: &mut Page,
     site: &Site,
