@@ -1,6 +1,6 @@
 """All files."""
 
-from . import certificates, keys, lists
+from . import certificates, cms, keys, lists, ocsp, pkcs12, signed, stamps
 
 
 def make(shop):
@@ -12,4 +12,10 @@ def make(shop):
     certificates.certificate_files(shop)
     certificates.request_files(shop)
     lists.list_files(shop)
+    signed.make_signers(shop)
+    shop.finish()
+    ocsp.ocsp_files(shop)
+    cms.cms_files(shop)
+    stamps.stamp_files(shop)
+    pkcs12.pkcs12_files(shop)
     shop.finish()

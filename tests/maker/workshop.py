@@ -19,6 +19,7 @@ class Made:
     about: str
     refused: str = ""
     malformed: str = ""
+    may_be_malformed: str = ""
     taken_for: str = ""
     large: bool = False
     # What else is to be compared: how its text is had from openssl, or what is known of the file.

@@ -299,4 +299,4 @@ def extension(encoding):
     try:
         return ", ".join([*front, *reader(read_inside(held.octets, held.contents_begin, held.end))])
     except Refused:
-        return ", ".join([*front, "malformed"])
+        return ", ".join([*front, "<malformed>"])

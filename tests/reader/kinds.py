@@ -1,6 +1,6 @@
 """The kinds of messages, as certview calls them, and who reads each."""
 
-from . import keys, messages
+from . import cms, keys, messages, ocsp, pkcs12, stamps
 from .octets import message_of
 
 READERS = {
@@ -17,6 +17,12 @@ READERS = {
     "parameters of DSA": keys.dsa_parameters,
     "parameters of Diffie-Hellman": keys.dh_parameters,
     "parameters of Diffie-Hellman (X9.42)": keys.x942_parameters,
+    "OCSP request": ocsp.request,
+    "OCSP response": ocsp.response,
+    "CMS message": cms.message,
+    "time stamp query": stamps.query,
+    "time stamp reply": stamps.reply,
+    "PKCS #12 file": pkcs12.file,
 }
 
 

@@ -4,7 +4,7 @@ from . import texts, values
 from .extensions import extension
 from .identifiers import arcs, named
 from .names import CURVES
-from .octets import Refused, message_of, read_inside, refuse_unless
+from .octets import Refused, read_inside, refuse_unless
 
 RSA = {"1.2.840.113549.1.1.1", "1.2.840.113549.1.1.10"}
 EC, DSA = "1.2.840.10045.2.1", "1.2.840.10040.4.1"
@@ -54,7 +54,7 @@ def rsa_key(encoding):
         modulus, exponent = (values.natural(fields.take(0x02)) for _ in range(2))
         fields.close()
     except Refused:
-        return "malformed"
+        return "<malformed>"
     return f"{texts.bits_of(modulus)} bits, exponent {texts.decimal(exponent)}, modulus {modulus.hex()}"
 
 
@@ -190,7 +190,7 @@ def add_attributes(rows, label, encoding):
         try:
             add_attribute(rows, label, item)
         except Refused:
-            rows.add(item, label, "malformed")
+            rows.add(item, label, "<malformed>")
 
 
 def add_attribute(rows, label, item):
@@ -208,7 +208,7 @@ def add_attribute(rows, label, item):
             add_extensions(requested, one.has(0x30))
             rows.found += requested.found
         except Refused:
-            rows.add(one, "extensions", "malformed")
+            rows.add(one, "extensions", "<malformed>")
 
 
 def request(message):
@@ -225,3 +225,17 @@ def request(message):
     add_signature(rows, outer)
     outer.close()
     return rows.found
+
+
+def certificate_row(rows, encoding):
+    """A certificate within another message: its serial number and its subject."""
+    found = certificate(encoding)
+    number, subject = (next(value for _, _, name, value in found if name == label) for label in ("serial number", "subject"))
+    rows.add(encoding, "certificate", f"{number}, {subject}")
+
+
+def list_row(rows, encoding):
+    """A list within another message: its date and its issuer."""
+    found = revocation_list(encoding)
+    now, issuer = (next(value for _, _, name, value in found if name == label) for label in ("this update", "issuer"))
+    rows.add(encoding, "list of revoked certificates", f"{now}, {issuer}")
