@@ -21,8 +21,9 @@ def has_compiler():
     return shutil.which(COMPILER.split()[0]) is not None
 
 
-def build(name, to, extra=None, uses="der_asn1_types"):
-    """Builds the program of the crate, or of the sources of the folder `extra` as a crate that uses these crates."""
+def build(name, to, extra=None, uses="der_asn1_types", refuses=True):
+    """Builds the program of the crate, or of the sources of the folder `extra` as a crate that uses these crates. One that
+    refuses no memory may be asked for any number of files."""
     with tempfile.TemporaryDirectory(prefix="der-tests-") as work:
         leave_out = shutil.ignore_patterns("out", "must-fail")
         shutil.copytree(f"{ROOT}/crates", f"{work}/crates", ignore=leave_out)
@@ -42,7 +43,7 @@ def build(name, to, extra=None, uses="der_asn1_types"):
         shutil.copy(f"{HERE}/keep.c", f"{crate}/c/keep.c")
         kept = f"{work}/kept"
         settings = {**os.environ, "RT_ALLOW_C": name, "CFLAGS": f'-DKEEP_AT=\\"{kept}\\"'}
-        words = ["rt", "try", "--fail-alloc", str(REFUSED)]
+        words = ["rt", "try", *(["--fail-alloc", str(REFUSED)] if refuses else [])]
         how = {"stdin": subprocess.DEVNULL, "stdout": subprocess.PIPE, "stderr": subprocess.STDOUT}
         ran = subprocess.run(words, cwd=crate, env=settings, **how)
         # certview answers the empty input with a status of its own.

@@ -1,6 +1,6 @@
-//! Reads X.509 certificates, lists of revoked certificates and keys, in DER or as PEM text, from files or
-//! from standard input, and prints their fields. With the argument `lines` it answers lines, each a
-//! message's name, a space and hex digits.
+//! Reads X.509 certificates, lists of revoked certificates, keys, requests, OCSP, CMS, time stamps, files of
+//! PKCS #12 and parameters, in DER or as PEM text, from files or from standard input, and prints their
+//! fields. With the argument `lines` it answers lines, each a message's name, a space and hex digits.
 #![tactic(auto)]
 
 use certview_names::MessageNames;

@@ -9,7 +9,9 @@ use std::alloc::{AllocError, Global};
 /// What stands behind the options in the help.
 const AFTER: &str = "\
 A FILE that is '-', or none, is standard input. It has messages in DER or as PEM text:
-certificates, lists of revoked certificates, and keys.
+certificates, lists of revoked certificates, keys, requests, encrypted keys, OCSP, CMS
+and PKCS #7, time stamps, PKCS #12, and parameters of curves, of DSA and of
+Diffie-Hellman.
 
 With the word 'lines' alone, it answers lines of standard input, each a message's name,
 a space and hex digits.
@@ -146,7 +148,7 @@ fn command<'a>(alloc: Global) -> Result<Command<'a>, Error> {
     let fingerprint = "Shows the SHA-256 of each message but private keys";
     let command = Command::new(alloc, "certview")
         .version("0.1.0")
-        .about("Shows certificates, lists of revoked certificates and keys")
+        .about("Shows certificates, lists of revoked certificates, keys and other messages")
         .after_help(AFTER)
         .arg(flag(alloc, "json", json))?
         .arg(fields)?

@@ -1,8 +1,8 @@
 -- What kind of message octets are, by the tags of their fields.
-use Rattle.std.specs.Prelude.{ℕ, List, [], ◌∷◌, Bool, false, ◌==◌, ◌||◌, if◌then◌else◌}
+use Rattle.std.specs.Prelude.{ℕ, List, [], ◌∷◌, Bool, false, not, ◌==◌, ◌||◌, ◌&&◌, if◌then◌else◌}
 use Rattle.certview_text.specs.declared.kind.Kind.{Kind}
-use Rattle.certview_text.specs.declared.kind.Kind.TheVariants.{Certificate, RevocationList, PublicKey, PrivateKey, RsaPrivateKey, RsaPublicKey, EcPrivateKey}
-use Rattle.certview_text.specs.Values.{after_header, after_value}
+use Rattle.certview_text.specs.declared.kind.Kind.TheVariants.{Certificate, RevocationList, PublicKey, PrivateKey, RsaPrivateKey, RsaPublicKey, EcPrivateKey, CertificationRequest, EncryptedPrivateKey, OcspRequest, OcspResponse, Cms, TimeStampQuery, TimeStampReply, Pkcs12, EcParameters, DsaParameters, X942Parameters}
+use Rattle.certview_parts.specs.Values.{after_header, after_value, contents}
 
 -- whether the first value has this identifier octet
 abbrev pub has_tag : ℕ → List ℕ → Bool
@@ -13,27 +13,73 @@ has_tag tag (octet ∷ others) = octet == tag
 abbrev pub has_time_tag : List ℕ → Bool
 has_time_tag octets = has_tag 23 octets || has_tag 24 octets
 
--- Of the fields of what is signed: the third (with no version) or the fourth of a list of revoked certificates is a time, and of
--- a certificate the fourth at most begins the times, in a SEQUENCE.
+-- Of the fields of what is signed: the third (with no version) or the fourth of a list of revoked certificates is a time; the
+-- fourth of a CertificationRequestInfo is its attributes, [0]; and of a certificate the fourth at most begins the times, in a
+-- SEQUENCE.
 abbrev pub signed_kind : List ℕ → Kind
 signed_kind fields =
-    if has_time_tag (after_value (after_value fields)) || has_time_tag (after_value (after_value (after_value fields))) then RevocationList else Certificate
+    if has_time_tag (after_value (after_value fields)) || has_time_tag (after_value (after_value (after_value fields))) then RevocationList
+    else (if has_tag 160 (after_value (after_value (after_value fields))) then CertificationRequest else Certificate)
 
--- Of what follows a first INTEGER: a SEQUENCE, the algorithm of a PrivateKeyInfo; an OCTET STRING, the key of an ECPrivateKey;
--- one INTEGER, the exponent of an RSAPublicKey; more, those of an RSAPrivateKey.
+-- what stands after the first value, if that has this tag
+abbrev pub without : ℕ → List ℕ → List ℕ
+without tag octets = if has_tag tag octets then after_value octets else octets
+
+-- The fields of a TBSRequest: a version [0] and a name [1] if they are there, and a SEQUENCE that is no AlgorithmIdentifier, as
+-- the first of a list of revoked certificates with no version is.
+abbrev pub has_requests : List ℕ → Bool
+has_requests fields =
+    let requests = without 161 (without 160 fields)
+    in has_tag 48 requests && not (has_tag 6 (contents requests))
+
+-- The fields of a PKIStatusInfo: an INTEGER first, and no SEQUENCE third, as each INTEGER among the first fields of what is signed
+-- is before two of them.
+abbrev pub has_status : List ℕ → Bool
+has_status fields = has_tag 2 fields && not (has_tag 48 (after_value (after_value fields)))
+
+-- Of what follows a first SEQUENCE, and of its fields: a BIT STRING, the two fields of a SubjectPublicKeyInfo; an OCTET STRING,
+-- those of an EncryptedPrivateKeyInfo; or else by the fields of the first.
+abbrev pub sequence_kind : List ℕ → List ℕ → Kind
+sequence_kind fields others =
+    if has_tag 3 others then PublicKey
+    else (if has_tag 4 others then EncryptedPrivateKey
+    else (if has_status fields then TimeStampReply
+    else (if has_requests fields then OcspRequest else signed_kind fields)))
+
+-- Of what follows a first INTEGER, and is a SEQUENCE first: an OCTET STRING after it, the key of a PrivateKeyInfo; a SEQUENCE first
+-- in it, the algorithm of a time stamp query's digest; [0] second in it, the content of a PFX; a SEQUENCE after it, the curve of
+-- ECParameters.
+abbrev pub structure_kind : List ℕ → Kind
+structure_kind others =
+    if has_tag 4 (after_value others) then PrivateKey
+    else (if has_tag 48 (contents others) then TimeStampQuery
+    else (if has_tag 160 (after_value (contents others)) then Pkcs12
+    else (if has_tag 48 (after_value others) then EcParameters else PrivateKey)))
+
+-- Of what follows three INTEGERs: two more, those of an RSAPrivateKey; one or a SEQUENCE, of the parameters of Diffie-Hellman as
+-- X9.42 has them; nothing, the three of the parameters of DSA.
+abbrev pub numbers_kind : List ℕ → Kind
+numbers_kind others =
+    if has_tag 2 others then (if has_tag 2 (after_value others) then RsaPrivateKey else X942Parameters)
+    else (if has_tag 48 others then X942Parameters else DsaParameters)
+
+-- Of what follows a first INTEGER: a SEQUENCE; an OCTET STRING, the key of an ECPrivateKey; one INTEGER, the exponent of an
+-- RSAPublicKey; more.
 abbrev pub key_kind : List ℕ → Kind
 key_kind others =
-    if has_tag 48 others then PrivateKey
+    if has_tag 48 others then structure_kind others
     else (if has_tag 4 others then EcPrivateKey
-    else (if has_tag 2 (after_value others) then RsaPrivateKey else RsaPublicKey))
+    else (if has_tag 2 (after_value others) then numbers_kind (after_value (after_value others)) else RsaPublicKey))
 
--- Of the fields of a SEQUENCE: an INTEGER first; or a SEQUENCE, and then a BIT STRING, the two fields of a SubjectPublicKeyInfo; or
--- else what is signed first.
+-- Of the fields of a SEQUENCE: an INTEGER first; an OBJECT IDENTIFIER, the type of a message of CMS; an ENUMERATED, the status of an
+-- OCSP response; or a SEQUENCE.
 abbrev pub kind_of_fields : List ℕ → Kind
 kind_of_fields fields =
     if has_tag 2 fields then key_kind (after_value fields)
-    else (if has_tag 3 (after_value fields) then PublicKey else signed_kind (after_header fields))
+    else (if has_tag 6 fields then Cms
+    else (if has_tag 10 fields then OcspResponse else sequence_kind (contents fields) (after_value fields)))
 
--- what kind of message octets are
+-- What kind of message octets are: ECParameters that are a name or NULL, or else by the fields of a SEQUENCE.
 abbrev pub kind_of : List ℕ → Kind
-kind_of octets = kind_of_fields (after_header octets)
+kind_of octets =
+    if has_tag 6 octets || has_tag 5 octets then EcParameters else kind_of_fields (after_header octets)

@@ -1,7 +1,5 @@
-pub mod Characters
 pub mod Faults
 pub mod Grammars
 pub mod Kinds
 pub mod Moments
 pub mod Shown
-pub mod Values

@@ -9,8 +9,8 @@ use Rattle.certview_text.specs.Kinds.{has_tag, kind_of}
 abbrev pub IsMessage : List ℕ → Type 0
 IsMessage octets = first_fault (grammar_of (kind_of octets)) octets ≡ None
 
--- The octets are PEM text: they do not begin with a SEQUENCE (30 hexadecimal), as each message does, and what begins a block
--- stands in them.
+-- The octets are PEM text: they do not begin with a SEQUENCE (30 hexadecimal), as each message does but ECParameters that are a
+-- name or NULL, and what begins a block stands in them.
 abbrev pub IsText : List ℕ → Type 0
 IsText octets = (has_tag 48 octets ≡ false) × ((place : ℕ) × OccursAt octets (codes "-----BEGIN ") place)
 

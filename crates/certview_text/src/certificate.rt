@@ -5,19 +5,21 @@ ghost use Rattle.der_modules.specs.Asn1.{parse_of};
 ghost use Rattle.der_pkix.specs.Certificate.Grammar.{certificate};
 ghost use Rattle.certview_text.specs.Faults.{first_fault};
 
-use crate::algorithms::{push_algorithm, push_key};
-use crate::extensions::push_extensions;
 use crate::fault::{Fault, refusal};
 use crate::findings::push_certificate_findings;
-use crate::hexadecimal::{push_digits, push_serial};
 use crate::kind::Kind;
-use crate::labels::{push_label, push_title};
-use crate::lines::{Lines, Stop};
 use crate::moments::push_validity_at;
-use crate::names::push_name;
-use crate::page::Page;
-use crate::site::Site;
-use crate::times::push_validity;
+use crate::whole::{push_title, whole_of};
+use certview_parts::algorithms::{push_algorithm, push_key};
+use certview_parts::bit_strings::push_bits;
+use certview_parts::extensions::push_extensions;
+use certview_parts::hexadecimal::push_serial;
+use certview_parts::labels::push_label;
+use certview_parts::lines::{Lines, Stop};
+use certview_parts::names::push_name;
+use certview_parts::page::Page;
+use certview_parts::site::Site;
+use certview_parts::times::push_validity;
 use der_asn1_types::FromDer;
 use der_asn1_types::asn1::{BitStringRef, IntRef};
 use der_pkix::AlgorithmIdentifier;
@@ -54,7 +56,7 @@ fn push_fields<L: Lines>(
     octets: &[u8],
     certificate: &Certificate<'_>,
 ) -> Result<(), Stop> {
-    let whole = Site::whole(octets, Kind::Certificate);
+    let whole = whole_of(octets, Kind::Certificate);
     push_title(page, &whole.place, Kind::Certificate)?;
     let site = whole.field(octets, "tbsCertificate");
     push_signed(alloc, page, octets, &site, certificate.tbs_certificate())?;
@@ -211,18 +213,4 @@ pub fn push_signature(
     )?;
     push_bits(page, signature)?;
     page.text.push('\n')
-}
-
-/// Adds how many octets a BIT STRING of whole octets has, and these; of another how many bits, and its
-/// octets.
-pub fn push_bits(page: &mut Page, bits: &BitStringRef<'_>) -> Result<(), AllocError> {
-    let octets = bits.raw_bytes();
-    let count = octets.len();
-    if bits.unused_bits() == 0 {
-        write!(page.text, "{count} octets, ")?;
-    } else {
-        let count = bits.bit_len();
-        write!(page.text, "{count} bits, ")?;
-    }
-    push_digits(page, octets)
 }

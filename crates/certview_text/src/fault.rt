@@ -6,8 +6,8 @@ ghost use Rattle.der_asn1_types.specs.ErrorNumber.{error_number};
 
 use crate::kind::Kind;
 use crate::label::Label;
-use crate::lines::Stop;
 use crate::path::{Path, path_of};
+use certview_parts::lines::Stop;
 use der_asn1_types::{Error, ErrorKind};
 use std::alloc::AllocError;
 use std::fmt;

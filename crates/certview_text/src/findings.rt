@@ -1,9 +1,9 @@
 //! What a certificate or a list of revoked certificates breaks of RFC 5280 beyond its grammar, as text.
 
-use crate::labels::push_label;
-use crate::page::Page;
-use crate::place::Place;
-use crate::site::{Site, Sites};
+use certview_parts::labels::push_label;
+use certview_parts::page::Page;
+use certview_parts::place::Place;
+use certview_parts::site::{Site, Sites};
 use der_pkix::certificate::{Certificate, Extension, Extensions};
 use der_pkix::crl::CertificateList;
 use der_verify::{CertificateRule, ListRule, check_certificate, check_list};

@@ -6,15 +6,17 @@ ghost use Rattle.der_pkix.specs.Certificate.Grammar.{subject_public_key_info};
 ghost use Rattle.der_pkix.specs.Key.Grammar.{private_key_info, rsa_public_key, ec_private_key};
 ghost use Rattle.certview_text.specs.Faults.{first_fault};
 
-use crate::algorithms::{bits_of, push_algorithm, push_key};
-use crate::certificate::push_bits;
 use crate::fault::{Fault, refusal};
-use crate::hexadecimal::{push_digits, push_number_of};
-use crate::identifiers::push_identifier;
 use crate::kind::Kind;
-use crate::labels::{push_count, push_label, push_title};
-use crate::page::Page;
-use crate::site::Site;
+use crate::whole::{push_title, whole_of};
+use certview_parts::algorithms::{bits_of, push_algorithm, push_key};
+use certview_parts::attribute_rows::push_attribute_rows;
+use certview_parts::bit_strings::push_bits;
+use certview_parts::hexadecimal::{push_digits, push_number_of};
+use certview_parts::identifiers::push_identifier;
+use certview_parts::labels::push_label;
+use certview_parts::page::Page;
+use certview_parts::site::Site;
 use der_asn1_types::FromDer;
 use der_asn1_types::asn1::{BitStringRef, UintRef};
 use der_pkix::certificate::SubjectPublicKeyInfo;
@@ -48,7 +50,7 @@ fn public_key_fields(
     octets: &[u8],
     key: &SubjectPublicKeyInfo<'_>,
 ) -> Result<(), AllocError> {
-    let whole = Site::whole(octets, Kind::PublicKey);
+    let whole = whole_of(octets, Kind::PublicKey);
     push_title(page, &whole.place, Kind::PublicKey)?;
     push_key(alloc, page, octets, &whole, key)?;
     Ok(())
@@ -74,7 +76,7 @@ fn private_key_fields(
     octets: &[u8],
     key: &PrivateKeyInfo<'_>,
 ) -> Result<(), AllocError> {
-    let whole = Site::whole(octets, Kind::PrivateKey);
+    let whole = whole_of(octets, Kind::PrivateKey);
     push_title(page, &whole.place, Kind::PrivateKey)?;
     push_version(page, octets, &whole, key.version())?;
     let algorithm = whole.field(octets, "privateKeyAlgorithm");
@@ -87,25 +89,15 @@ fn private_key_fields(
     )?;
     let count = key.private_key().as_bytes().len();
     push_secret(page, octets, &whole, "privateKey", count)?;
-    push_attributes(page, octets, &whole, key)?;
+    push_attribute_rows(
+        alloc,
+        page,
+        octets,
+        &whole.field(octets, "attributes"),
+        "attribute",
+    )?;
     push_public_bits(page, octets, &whole, key.public_key())?;
     Ok(())
-}
-
-/// Adds how many attributes there are, where they are there.
-fn push_attributes(
-    page: &mut Page,
-    octets: &[u8],
-    whole: &Site,
-    key: &PrivateKeyInfo<'_>,
-) -> Result<(), AllocError> {
-    match key.attributes() {
-        Some(attributes) => {
-            let place = whole.field(octets, "attributes").place;
-            push_count(page, &place, "attributes", attributes.as_slice().len())
-        }
-        None => Ok(()),
-    }
 }
 
 /// Adds the public key that stands beside a private one, where it is there.
@@ -145,7 +137,7 @@ fn rsa_public_key_fields(
     octets: &[u8],
     key: &RsaPublicKey<'_>,
 ) -> Result<(), AllocError> {
-    let whole = Site::whole(octets, Kind::RsaPublicKey);
+    let whole = whole_of(octets, Kind::RsaPublicKey);
     push_title(page, &whole.place, Kind::RsaPublicKey)?;
     push_modulus(page, octets, &whole, key.modulus())?;
     push_exponent(page, octets, &whole, key.public_exponent())?;
@@ -172,7 +164,7 @@ fn ec_private_key_fields(
     octets: &[u8],
     key: &EcPrivateKey<'_>,
 ) -> Result<(), AllocError> {
-    let whole = Site::whole(octets, Kind::EcPrivateKey);
+    let whole = whole_of(octets, Kind::EcPrivateKey);
     push_title(page, &whole.place, Kind::EcPrivateKey)?;
     push_version(page, octets, &whole, key.version())?;
     let count = key.private_key().as_bytes().len();

@@ -1,9 +1,9 @@
 //! What kind of message octets are.
 
 ghost use Rattle.std.specs.Prelude.{◌≡◌};
-ghost use Rattle.certview_text.specs.Kinds.{has_tag, has_time_tag, signed_kind, key_kind, kind_of};
+ghost use Rattle.certview_text.specs.Kinds.{has_tag, has_time_tag, signed_kind, without, has_requests, has_status, sequence_kind, structure_kind, numbers_kind, key_kind, kind_of_fields, kind_of};
 
-use crate::values::{after_header, after_value};
+use certview_parts::values::{after_header, after_value, contents};
 
 /// The messages that are shown.
 #[derive(Clone, Copy, Debug, PartialEq, Eq)]
@@ -22,6 +22,30 @@ pub enum Kind {
     RsaPublicKey,
     /// An ECPrivateKey (RFC 5915 section 3).
     EcPrivateKey,
+    /// A CertificationRequest (RFC 2986 section 4.2).
+    CertificationRequest,
+    /// An EncryptedPrivateKeyInfo (RFC 5958 section 3).
+    EncryptedPrivateKey,
+    /// An OCSPRequest (RFC 6960 section 4.1).
+    OcspRequest,
+    /// An OCSPResponse (RFC 6960 section 4.2).
+    OcspResponse,
+    /// A ContentInfo of CMS (RFC 5652 section 3).
+    Cms,
+    /// A TimeStampReq (RFC 3161 section 2.4.1).
+    TimeStampQuery,
+    /// A TimeStampResp (RFC 3161 section 2.4.2).
+    TimeStampReply,
+    /// A PFX of PKCS #12 (RFC 7292 section 4).
+    Pkcs12,
+    /// ECParameters (RFC 5480 section 2.1.1; SEC 1, version 2.0, section C.2).
+    EcParameters,
+    /// A Dss-Parms (RFC 3279 section 2.3.2).
+    DsaParameters,
+    /// A DHParameter (PKCS #3 section 9).
+    DhParameters,
+    /// A DomainParameters (RFC 3279 section 2.3.3).
+    X942Parameters,
 }
 
 impl Kind {
@@ -35,6 +59,18 @@ impl Kind {
             Kind::RsaPrivateKey => "private key of RSA",
             Kind::RsaPublicKey => "public key of RSA",
             Kind::EcPrivateKey => "private key of an elliptic curve",
+            Kind::CertificationRequest => "certification request",
+            Kind::EncryptedPrivateKey => "encrypted private key",
+            Kind::OcspRequest => "OCSP request",
+            Kind::OcspResponse => "OCSP response",
+            Kind::Cms => "CMS message",
+            Kind::TimeStampQuery => "time stamp query",
+            Kind::TimeStampReply => "time stamp reply",
+            Kind::Pkcs12 => "PKCS #12 file",
+            Kind::EcParameters => "parameters of an elliptic curve",
+            Kind::DsaParameters => "parameters of DSA",
+            Kind::DhParameters => "parameters of Diffie-Hellman",
+            Kind::X942Parameters => "parameters of Diffie-Hellman (X9.42)",
         }
     }
 
@@ -42,7 +78,11 @@ impl Kind {
     pub fn is_secret(self) -> bool {
         matches!(
             self,
-            Kind::PrivateKey | Kind::RsaPrivateKey | Kind::EcPrivateKey
+            Kind::PrivateKey
+                | Kind::RsaPrivateKey
+                | Kind::EcPrivateKey
+                | Kind::EncryptedPrivateKey
+                | Kind::Pkcs12
         )
     }
 }
@@ -52,14 +92,25 @@ impl Kind {
 pub fn kind_of(octets: &[u8]) -> Kind
     ensures { result ≡ kind_of octets.now }
 {
-    let fields = after_header(octets);
+    if has_tag(octets, 0x06) || has_tag(octets, 0x05) {
+        return Kind::EcParameters;
+    }
+    kind_of_fields(after_header(octets))
+}
+
+/// Of the fields of a SEQUENCE.
+fn kind_of_fields(fields: &[u8]) -> Kind
+    ensures { result ≡ kind_of_fields fields.now }
+{
     if has_tag(fields, 0x02) {
-        return key_kind(after_value(fields));
+        key_kind(after_value(fields))
+    } else if has_tag(fields, 0x06) {
+        Kind::Cms
+    } else if has_tag(fields, 0x0a) {
+        Kind::OcspResponse
+    } else {
+        sequence_kind(contents(fields), after_value(fields))
     }
-    if has_tag(after_value(fields), 0x03) {
-        return Kind::PublicKey;
-    }
-    signed_kind(after_header(fields))
 }
 
 /// Of what follows a first INTEGER.
@@ -67,13 +118,68 @@ fn key_kind(others: &[u8]) -> Kind
     ensures { result ≡ key_kind others.now }
 {
     if has_tag(others, 0x30) {
-        Kind::PrivateKey
-    } else if has_tag(others, 0x04) {
-        Kind::EcPrivateKey
-    } else if has_tag(after_value(others), 0x02) {
-        Kind::RsaPrivateKey
+        return structure_kind(others);
+    }
+    if has_tag(others, 0x04) {
+        return Kind::EcPrivateKey;
+    }
+    let third = after_value(others);
+    if has_tag(third, 0x02) {
+        numbers_kind(after_value(third))
     } else {
         Kind::RsaPublicKey
+    }
+}
+
+/// Of what follows a first INTEGER, and is a SEQUENCE first.
+fn structure_kind(others: &[u8]) -> Kind
+    ensures { result ≡ structure_kind others.now }
+{
+    let (third, fields) = (after_value(others), contents(others));
+    if has_tag(third, 0x04) {
+        Kind::PrivateKey
+    } else if has_tag(fields, 0x30) {
+        Kind::TimeStampQuery
+    } else if has_tag(after_value(fields), 0xa0) {
+        Kind::Pkcs12
+    } else if has_tag(third, 0x30) {
+        Kind::EcParameters
+    } else {
+        Kind::PrivateKey
+    }
+}
+
+/// Of what follows three INTEGERs.
+fn numbers_kind(others: &[u8]) -> Kind
+    ensures { result ≡ numbers_kind others.now }
+{
+    if has_tag(others, 0x02) {
+        if has_tag(after_value(others), 0x02) {
+            Kind::RsaPrivateKey
+        } else {
+            Kind::X942Parameters
+        }
+    } else if has_tag(others, 0x30) {
+        Kind::X942Parameters
+    } else {
+        Kind::DsaParameters
+    }
+}
+
+/// Of the fields of a first SEQUENCE, and of what follows it.
+fn sequence_kind(fields: &[u8], others: &[u8]) -> Kind
+    ensures { result ≡ sequence_kind fields.now others.now }
+{
+    if has_tag(others, 0x03) {
+        Kind::PublicKey
+    } else if has_tag(others, 0x04) {
+        Kind::EncryptedPrivateKey
+    } else if has_status(fields) {
+        Kind::TimeStampReply
+    } else if has_requests(fields) {
+        Kind::OcspRequest
+    } else {
+        signed_kind(fields)
     }
 }
 
@@ -82,10 +188,39 @@ fn signed_kind(fields: &[u8]) -> Kind
     ensures { result ≡ signed_kind fields.now }
 {
     let third = after_value(after_value(fields));
-    if has_time_tag(third) || has_time_tag(after_value(third)) {
+    let fourth = after_value(third);
+    if has_time_tag(third) || has_time_tag(fourth) {
         Kind::RevocationList
+    } else if has_tag(fourth, 0xa0) {
+        Kind::CertificationRequest
     } else {
         Kind::Certificate
+    }
+}
+
+/// Whether fields are those of a PKIStatusInfo.
+fn has_status(fields: &[u8]) -> bool
+    ensures { result ≡ has_status fields.now }
+{
+    has_tag(fields, 0x02) && !has_tag(after_value(after_value(fields)), 0x30)
+}
+
+/// Whether fields are those of a TBSRequest.
+fn has_requests(fields: &[u8]) -> bool
+    ensures { result ≡ has_requests fields.now }
+{
+    let requests = without(without(fields, 0xa0), 0xa1);
+    has_tag(requests, 0x30) && !has_tag(contents(requests), 0x06)
+}
+
+/// What stands after the first value, if that has this tag.
+fn without(octets: &[u8], tag: u8) -> &[u8]
+    ensures { result.now ≡ without tag octets.now }
+{
+    if has_tag(octets, tag) {
+        after_value(octets)
+    } else {
+        octets
     }
 }
 

@@ -3,9 +3,9 @@
 use crate::kind::Kind;
 use std::fmt;
 
-/// The labels of the messages that are shown (RFC 7468 sections 5, 6, 7, 10 and 13; those with the name
-/// of an algorithm are OpenSSL's). A label of more than 32 octets is none of them.
-const LABELS: [(&str, Kind); 10] = [
+/// The labels of the messages that are shown (RFC 7468 sections 5 to 11 and 13; PKCS12 is GnuTLS's, and
+/// those that the RFC has not are OpenSSL's). A label of more than 32 octets is none of them.
+const LABELS: [(&str, Kind); 23] = [
     ("CERTIFICATE", Kind::Certificate),
     ("X509 CERTIFICATE", Kind::Certificate),
     ("X.509 CERTIFICATE", Kind::Certificate),
@@ -16,6 +16,19 @@ const LABELS: [(&str, Kind); 10] = [
     ("RSA PRIVATE KEY", Kind::RsaPrivateKey),
     ("RSA PUBLIC KEY", Kind::RsaPublicKey),
     ("EC PRIVATE KEY", Kind::EcPrivateKey),
+    ("CERTIFICATE REQUEST", Kind::CertificationRequest),
+    ("NEW CERTIFICATE REQUEST", Kind::CertificationRequest),
+    ("ENCRYPTED PRIVATE KEY", Kind::EncryptedPrivateKey),
+    ("OCSP REQUEST", Kind::OcspRequest),
+    ("OCSP RESPONSE", Kind::OcspResponse),
+    ("CMS", Kind::Cms),
+    ("PKCS7", Kind::Cms),
+    ("PKCS #7 SIGNED DATA", Kind::Cms),
+    ("PKCS12", Kind::Pkcs12),
+    ("EC PARAMETERS", Kind::EcParameters),
+    ("DSA PARAMETERS", Kind::DsaParameters),
+    ("DH PARAMETERS", Kind::DhParameters),
+    ("X9.42 DH PARAMETERS", Kind::X942Parameters),
 ];
 
 /// The kind of message that a block with this label has.

@@ -1,5 +1,5 @@
-//! Messages as text for people: certificates, lists of revoked certificates and keys, a field a line,
-//! with where each stands in the octets.
+//! Messages as text for people: certificates, lists of revoked certificates, keys, requests, OCSP, CMS,
+//! time stamps, files of PKCS #12 and parameters, a field a line, with where each stands in the octets.
 //!
 //! `ED25519_PUBLIC` is a key as hex digits:
 //!
@@ -11,57 +11,53 @@
 //! ```
 #![tactic(auto)]
 
-mod access;
-mod algorithms;
-mod asked;
-mod attributes;
+mod authenticated_data;
+mod bag_values;
+mod bags;
 mod blocks;
 mod certificate;
-mod characters;
-mod constraints;
-mod entries;
-mod extensions;
+mod cms;
+mod cms_certificates;
+mod contents;
+mod curve_parameters;
+mod digested_data;
+mod encrypted_data;
+mod encrypted_key;
+mod enveloped_data;
 mod fault;
-mod fields;
 mod findings;
-mod form;
-mod hexadecimal;
-mod identifier_names;
-mod identifiers;
-mod json;
-mod key_identifiers;
+mod group_parameters;
+mod key_agreements;
 mod keys;
 mod kind;
 mod label;
-mod labels;
-mod lines;
 mod moments;
-mod names;
-mod other_names;
-mod page;
+mod ocsp_certificates;
+mod ocsp_request;
+mod ocsp_response;
+mod ocsp_statuses;
 mod path;
 mod pem;
-mod periods;
-mod place;
-mod points;
-mod policies;
-mod quoted;
+mod pkcs12;
 mod readable;
+mod recipients;
+mod request;
 mod revocation;
 mod rsa;
-mod site;
-mod subtrees;
+mod signed_data;
+mod signers;
+mod stamped;
 mod text;
-mod times;
-mod usages;
-mod values;
+mod time_stamp_query;
+mod time_stamp_reply;
 mod viewing;
+mod whole;
 
-pub use asked::Asked;
-pub use characters::plain;
+pub use certview_parts::asked::Asked;
+pub use certview_parts::characters::plain;
+pub use certview_parts::fields::FIELDS;
+pub use certview_parts::form::Form;
 pub use fault::Fault;
-pub use fields::FIELDS;
-pub use form::Form;
 pub use kind::{Kind, kind_of};
 pub use label::Label;
 pub use path::Path;

@@ -5,10 +5,10 @@ ghost use Rattle.der_verify.specs.Time.{is_valid_at, seconds_of};
 ghost use Rattle.certview_text.specs.declared.moments.Standing.TheVariants.{Within};
 ghost use Rattle.certview_text.specs.Moments.{is_current_at};
 
-use crate::labels::push_label;
-use crate::page::Page;
-use crate::place::Place;
-use crate::times::push_date_time;
+use certview_parts::labels::push_label;
+use certview_parts::page::Page;
+use certview_parts::place::Place;
+use certview_parts::times::push_date_time;
 use der_asn1_types::DateTime;
 use der_pkix::certificate::{Time, Validity};
 use der_verify::{holds_at, seconds};

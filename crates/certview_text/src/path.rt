@@ -1,7 +1,7 @@
 //! The field in which a fault was met.
 
 use crate::kind::Kind;
-use crate::site::{Site, of_kind};
+use crate::whole::{part_of, whole_of};
 use der_asn1_types::{Error, ErrorKind};
 use std::fmt;
 
@@ -48,7 +48,7 @@ fn octet_of(error: &Error) -> Option<usize> {
 /// The innermost field that has an octet.
 pub fn path_to(octets: &[u8], kind: Kind, octet: usize) -> Path {
     let mut path = Path::whole(kind);
-    let mut site = Site::whole(octets, kind);
+    let mut site = whole_of(octets, kind);
     for step in &mut path.steps {
         match site.field_with(octets, octet) {
             Some(inner) => {
@@ -66,9 +66,9 @@ impl Path {
     fn names(&self) -> [&'static str; 5] {
         let mut names = [""; 5];
         let mut count = 0;
-        let mut part = of_kind(self.kind);
+        let mut part = part_of(self.kind);
         for step in &self.steps {
-            let Some(component) = part.components().get(*step) else {
+            let Some(component) = part.component(*step) else {
                 break;
             };
             part = component.part;

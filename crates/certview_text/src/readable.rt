@@ -1,20 +1,22 @@
 //! What can be read of a certificate or of a list of revoked certificates that is refused: each field on
 //! its own, where its header says that it stands.
 
-use crate::algorithms::{push_algorithm, push_key};
-use crate::certificate::{push_bits, push_version};
-use crate::extensions::push_extension;
-use crate::hexadecimal::push_serial;
-use crate::identifiers::push_attribute_type;
+use crate::certificate::push_version;
 use crate::kind::{Kind, has_tag, has_time_tag};
-use crate::labels::{push_label, push_title};
-use crate::lines::{Lines, Stop};
-use crate::names::push_attribute;
-use crate::page::{Page, push_malformed};
-use crate::place::Place;
 use crate::revocation::push_entry;
-use crate::site::{Site, Sites};
-use crate::times::push_time;
+use crate::whole::{push_title, whole_of};
+use certview_parts::algorithms::{push_algorithm, push_key};
+use certview_parts::bit_strings::push_bits;
+use certview_parts::extensions::push_extension;
+use certview_parts::hexadecimal::push_serial;
+use certview_parts::identifiers::push_attribute_type;
+use certview_parts::labels::push_label;
+use certview_parts::lines::{Lines, Stop};
+use certview_parts::names::push_attribute;
+use certview_parts::page::{Page, push_malformed};
+use certview_parts::place::Place;
+use certview_parts::site::{Site, Sites};
+use certview_parts::times::push_time;
 use der_asn1_types::FromDer;
 use der_asn1_types::asn1::{BitStringRef, IntRef};
 use der_pkix::AlgorithmIdentifier;
@@ -35,7 +37,7 @@ pub fn push_parts<L: Lines>(
     kind: Kind,
     octets: &[u8],
 ) -> Result<(), Stop> {
-    let whole = Site::whole(octets, kind);
+    let whole = whole_of(octets, kind);
     match kind {
         Kind::Certificate => push_certificate_parts(alloc, page, lines, octets, &whole),
         Kind::RevocationList => push_list_parts(alloc, page, lines, octets, &whole),

@@ -5,20 +5,21 @@ ghost use Rattle.der_modules.specs.Asn1.{parse_of};
 ghost use Rattle.der_pkix.specs.Crl.Grammar.{certificate_list};
 ghost use Rattle.certview_text.specs.Faults.{first_fault};
 
-use crate::algorithms::push_algorithm;
 use crate::certificate::{push_signature, push_version};
-use crate::extensions::{push_extension, push_extensions};
 use crate::fault::{Fault, refusal};
 use crate::findings::push_list_findings;
-use crate::hexadecimal::push_serial;
 use crate::kind::Kind;
-use crate::labels::{push_label, push_title};
-use crate::lines::{Lines, Stop};
 use crate::moments::push_currency_at;
-use crate::names::push_name;
-use crate::page::Page;
-use crate::site::{Site, Sites};
-use crate::times::{push_moment, push_time};
+use crate::whole::{push_title, whole_of};
+use certview_parts::algorithms::push_algorithm;
+use certview_parts::extensions::{push_extension, push_extensions};
+use certview_parts::hexadecimal::push_serial;
+use certview_parts::labels::push_label;
+use certview_parts::lines::{Lines, Stop};
+use certview_parts::names::push_name;
+use certview_parts::page::Page;
+use certview_parts::site::{Site, Sites};
+use certview_parts::times::{push_moment, push_time};
 use der_asn1_types::FromDer;
 use der_pkix::certificate::Extension;
 use der_pkix::crl::laws::grammar_of_certificate_list;
@@ -51,7 +52,7 @@ fn push_fields<L: Lines>(
     octets: &[u8],
     list: &CertificateList<'_>,
 ) -> Result<(), Stop> {
-    let whole = Site::whole(octets, Kind::RevocationList);
+    let whole = whole_of(octets, Kind::RevocationList);
     let site = whole.field(octets, "tbsCertList");
     push_title(page, &whole.place, Kind::RevocationList)?;
     push_signed(alloc, page, octets, &site, list.tbs_cert_list())?;

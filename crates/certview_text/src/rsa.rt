@@ -8,9 +8,10 @@ ghost use Rattle.certview_text.specs.Faults.{first_fault};
 use crate::fault::{Fault, refusal};
 use crate::keys::{push_exponent, push_modulus, push_secret, push_version};
 use crate::kind::Kind;
-use crate::labels::{push_count, push_title};
-use crate::page::Page;
-use crate::site::Site;
+use crate::whole::{push_title, whole_of};
+use certview_parts::labels::push_count;
+use certview_parts::page::Page;
+use certview_parts::site::Site;
 use der_asn1_types::FromDer;
 use der_pkix::key::RsaPrivateKey;
 use der_pkix::key::laws::grammar_of_rsa_private_key;
@@ -43,7 +44,7 @@ pub fn push_rsa_private_key(alloc: Global, page: &mut Page, octets: &[u8]) -> Re
 }
 
 fn push_fields(page: &mut Page, octets: &[u8], key: &RsaPrivateKey<'_>) -> Result<(), AllocError> {
-    let whole = Site::whole(octets, Kind::RsaPrivateKey);
+    let whole = whole_of(octets, Kind::RsaPrivateKey);
     push_title(page, &whole.place, Kind::RsaPrivateKey)?;
     push_version(page, octets, &whole, key.version())?;
     push_modulus(page, octets, &whole, key.modulus())?;

@@ -5,15 +5,25 @@ ghost use Rattle.certview_text.specs.Faults.{first_fault};
 ghost use Rattle.certview_text.specs.Grammars.{grammar_of};
 
 use crate::certificate::push_certificate;
+use crate::cms::push_cms;
+use crate::curve_parameters::push_curve_parameters;
+use crate::encrypted_key::push_encrypted_key;
 use crate::fault::Fault;
-use crate::form::{Form, Writer};
+use crate::group_parameters::{push_dh_parameters, push_dsa_parameters, push_x942_parameters};
 use crate::keys::{push_ec_private_key, push_private_key, push_public_key, push_rsa_public_key};
 use crate::kind::Kind;
-use crate::lines::{Held, Lines};
-use crate::page::Page;
+use crate::ocsp_request::push_ocsp_request;
+use crate::ocsp_response::push_ocsp_response;
+use crate::pkcs12::push_pfx;
+use crate::request::push_request;
 use crate::revocation::push_list;
 use crate::rsa::push_rsa_private_key;
+use crate::time_stamp_query::push_query;
+use crate::time_stamp_reply::push_reply;
 use crate::viewing::text_of;
+use certview_parts::form::{Form, Writer};
+use certview_parts::lines::{Held, Lines};
+use certview_parts::page::Page;
 use der_asn1_types::{Error, ErrorKind};
 use std::alloc::Global;
 
@@ -39,6 +49,18 @@ pub fn push_message<L: Lines>(
         Kind::RsaPrivateKey => push_rsa_private_key(alloc, page, octets),
         Kind::RsaPublicKey => push_rsa_public_key(alloc, page, octets),
         Kind::EcPrivateKey => push_ec_private_key(alloc, page, octets),
+        Kind::CertificationRequest => push_request(alloc, page, octets),
+        Kind::EncryptedPrivateKey => push_encrypted_key(alloc, page, octets),
+        Kind::OcspRequest => push_ocsp_request(alloc, page, octets),
+        Kind::OcspResponse => push_ocsp_response(alloc, page, octets),
+        Kind::Cms => push_cms(alloc, page, octets),
+        Kind::TimeStampQuery => push_query(alloc, page, octets),
+        Kind::TimeStampReply => push_reply(alloc, page, octets),
+        Kind::Pkcs12 => push_pfx(alloc, page, octets),
+        Kind::EcParameters => push_curve_parameters(alloc, page, octets),
+        Kind::DsaParameters => push_dsa_parameters(alloc, page, octets),
+        Kind::DhParameters => push_dh_parameters(alloc, page, octets),
+        Kind::X942Parameters => push_x942_parameters(alloc, page, octets),
     }
 }
 

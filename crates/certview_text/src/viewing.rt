@@ -4,16 +4,16 @@ ghost use Rattle.std.specs.Prelude.{◌≡◌, ◌≢◌, OnOk, IfOk, IfErr, IfS
 ghost use Rattle.std.specs.Io.KnownBytes.{Keeps};
 ghost use Rattle.certview_text.specs.Shown.{IsShown};
 
-use crate::asked::Asked;
 use crate::blocks::{push_blocks, push_first_parts, push_octets, push_refused};
-use crate::characters::push_plain;
 use crate::fault::Fault;
-use crate::form::{Form, Writer};
 use crate::kind::kind_of;
-use crate::lines::{Lines, Measured, Stop, Written};
-use crate::page::{ItemKind, Page};
 use crate::pem::is_text;
 use crate::readable::push_parts;
+use certview_parts::asked::Asked;
+use certview_parts::characters::push_plain;
+use certview_parts::form::{Form, Writer};
+use certview_parts::lines::{Lines, Measured, Stop, Written};
+use certview_parts::page::{ItemKind, Page};
 use std::alloc::{AllocError, Global};
 use std::io::{self, Read, Write};
 

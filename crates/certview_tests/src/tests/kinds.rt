@@ -79,7 +79,10 @@ fn shows_each_kind(rt: HostRuntime) -> Result<(), Fail> {
 #[test]
 fn shows_what_a_private_key_may_have(rt: HostRuntime) -> Result<(), Fail> {
     let rows = [
-        (ED25519_PAIR, "   48    33  attributes: 1\n"),
+        (
+            ED25519_PAIR,
+            "   50    31  attribute: 1.2.840.113549.1.9.9.20, Curdle Chairs\n",
+        ),
         (
             ED25519_PAIR,
             "   81    35  public key: 32 octets, 19bf44096984cdfe8541bac167dc3b96",

@@ -1,0 +1,94 @@
+//! Attributes of requests, keys, signers and bags, a line each.
+
+use crate::any_values::push_any;
+use crate::extension_rows::push_read_extensions;
+use crate::identifiers::push_identifier;
+use crate::labels::push_label;
+use crate::page::Page;
+use crate::parts::Part;
+use crate::place::place_at;
+use crate::rows::push_malformed_row;
+use crate::site::{Site, Sites};
+use der_asn1_types::FromDer;
+use der_pkcs::request::constants::PKCS_9_AT_EXTENSION_REQUEST;
+use der_pkix::name::Attribute;
+use der_pkix::parts::Part as PkixPart;
+use std::alloc::{AllocError, Global};
+
+/// Adds a line for each attribute of a set, in the order in which they stand: what it is, and its values.
+pub fn push_attribute_rows(
+    alloc: Global,
+    page: &mut Page,
+    octets: &[u8],
+    set: &Site,
+    label: &str,
+) -> Result<(), AllocError> {
+    let mut sites = Sites::within(octets, set);
+    for _ in set.place.contents..set.place.end {
+        let Some(site) = sites.next_site() else {
+            break;
+        };
+        let inner = site.inner(octets);
+        match Attribute::from_der(alloc, inner.octets) {
+            Ok(attribute) => push_attribute(alloc, page, octets, &site, label, &attribute)?,
+            Err(error) => push_malformed_row(page, &site.place, label, inner.begin, error)?,
+        }
+    }
+    Ok(())
+}
+
+/// Adds the line of an attribute. Where it asks for extensions (RFC 2985 section 5.4.2), the lines of these
+/// stand after it.
+fn push_attribute(
+    alloc: Global,
+    page: &mut Page,
+    octets: &[u8],
+    site: &Site,
+    label: &str,
+    attribute: &Attribute<'_>,
+) -> Result<(), AllocError> {
+    let identifier = attribute.type_().as_bytes();
+    push_label(page, &site.place, label)?;
+    push_identifier(alloc, page, identifier)?;
+    if identifier == PKCS_9_AT_EXTENSION_REQUEST.as_slice() {
+        page.text.push('\n')?;
+        return push_requests(alloc, page, octets, &site.field(octets, "values"));
+    }
+    push_values(alloc, page, attribute)
+}
+
+/// Adds the values of an attribute, each after a comma, and ends the line.
+fn push_values(
+    alloc: Global,
+    page: &mut Page,
+    attribute: &Attribute<'_>,
+) -> Result<(), AllocError> {
+    for value in attribute.values().as_slice() {
+        page.text.push_str(", ")?;
+        push_any(alloc, page, value)?;
+    }
+    page.text.push('\n')
+}
+
+/// Adds the lines of the extensions that are asked for: of each value of the set.
+fn push_requests(
+    alloc: Global,
+    page: &mut Page,
+    octets: &[u8],
+    values: &Site,
+) -> Result<(), AllocError> {
+    let mut begin = values.place.contents;
+    for _ in values.place.contents..values.place.end {
+        let Some(place) = place_at(octets, begin, values.place.end) else {
+            break;
+        };
+        let list = Site {
+            step: 0,
+            part: Part::Pkix(PkixPart::Extensions),
+            place,
+        };
+        push_read_extensions(alloc, page, octets, &list)?;
+        begin = place.end;
+    }
+    Ok(())
+}

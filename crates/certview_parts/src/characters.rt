@@ -1,0 +1,94 @@
+//! Characters from a message, so that they are safe to look at.
+
+ghost use Rattle.std.specs.Prelude.{◌≡◌};
+ghost use Rattle.certview_parts.specs.Characters.{is_hidden, is_plain};
+
+use crate::hexadecimal::push_octet;
+use crate::page::Page;
+use std::alloc::{AllocError, Global};
+use unicode::properties::{GeneralCategory, is_default_ignorable_code_point};
+
+/// Adds characters as RFC 4514 section 2.4 writes them: with a `\` before those that it escapes, before a
+/// `#` or a space that begins the text, and before a space that ends it. Characters that a terminal does
+/// not show, or that act on it, are `\` and two digits for each octet of UTF-8.
+pub fn push_escaped(page: &mut Page, characters: &str) -> Result<(), AllocError> {
+    match characters.strip_suffix(" ") {
+        Some(front) => {
+            push_front(page, front)?;
+            page.text.push_str("\\ ")
+        }
+        None => push_front(page, characters),
+    }
+}
+
+fn push_front(page: &mut Page, characters: &str) -> Result<(), AllocError> {
+    let mut is_first = true;
+    for character in characters.chars() {
+        if is_escaped(character, is_first) {
+            page.text.push('\\')?;
+        }
+        push_character(page, character)?;
+        is_first = false;
+    }
+    Ok(())
+}
+
+fn is_escaped(character: char, is_first: bool) -> bool {
+    match character {
+        '"' | '+' | ',' | ';' | '<' | '>' | '\\' => true,
+        '#' | ' ' => is_first,
+        _ => false,
+    }
+}
+
+/// Adds characters that are no part of a name: those that are not safe to look at as in a name, and
+/// others as they are.
+pub fn push_plain(page: &mut Page, characters: &str) -> Result<(), AllocError> {
+    for character in characters.chars() {
+        push_character(page, character)?;
+    }
+    Ok(())
+}
+
+/// A text as it may be shown, as `push_plain` adds it.
+pub fn plain(alloc: Global, characters: &str) -> Result<String, AllocError> {
+    let mut page = Page::new(alloc);
+    push_plain(&mut page, characters)?;
+    Ok(page.text)
+}
+
+fn push_character(page: &mut Page, character: char) -> Result<(), AllocError> {
+    if is_plain(character) {
+        return page.text.push(character);
+    }
+    let mut buffer = [0; 4];
+    for octet in character.encode_utf8(&mut buffer).as_bytes() {
+        page.text.push('\\')?;
+        push_octet(page, *octet)?;
+    }
+    Ok(())
+}
+
+/// Whether a character is shown as it is: it is none of the categories Cc, Cf, Cs, Co, Cn, Zl and Zp of
+/// Unicode, of which those that change the direction of text are some, and none that a terminal shows as
+/// nothing.
+pub fn is_plain(character: char) -> bool
+    ensures { result ≡ is_plain character }
+{
+    !is_hidden(GeneralCategory::for_char(character)) && !is_default_ignorable_code_point(character)
+}
+
+fn is_hidden(category: GeneralCategory) -> bool
+    ensures { result ≡ is_hidden category }
+{
+    match category {
+        GeneralCategory::Control
+        | GeneralCategory::Format
+        | GeneralCategory::Surrogate
+        | GeneralCategory::PrivateUse
+        | GeneralCategory::Unassigned
+        | GeneralCategory::LineSeparator
+        | GeneralCategory::ParagraphSeparator => true,
+        _ => false,
+    }
+}

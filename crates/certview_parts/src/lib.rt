@@ -1,0 +1,46 @@
+//! The parts of messages as text for people: names, keys, algorithms, times, extensions, attributes and other
+//! values, each with where it stands in the octets; and the page that they are put on, which is written as
+//! text or as JSON.
+#![tactic(auto)]
+
+mod access;
+pub mod algorithms;
+pub mod any_values;
+pub mod asked;
+pub mod attribute_rows;
+mod attributes;
+pub mod bit_strings;
+pub mod characters;
+mod constraints;
+mod content_names;
+pub mod encryption;
+pub mod entries;
+pub mod extension_rows;
+pub mod extensions;
+pub mod fields;
+pub mod form;
+pub mod hexadecimal;
+mod identifier_names;
+pub mod identifiers;
+mod json;
+mod key_identifiers;
+pub mod labels;
+pub mod lines;
+pub mod names;
+pub mod other_names;
+pub mod page;
+pub mod parts;
+mod periods;
+pub mod place;
+mod points;
+mod policies;
+mod private_extensions;
+mod quoted;
+pub mod rows;
+pub mod signatures;
+pub mod site;
+mod subtrees;
+pub mod times;
+mod transparency;
+mod usages;
+pub mod values;

@@ -1,0 +1,142 @@
+//! Names as text (RFC 4514, in the order in which the attributes stand).
+
+use crate::characters::push_escaped;
+use crate::hexadecimal::push_digits;
+use crate::identifiers::push_attribute_type;
+use crate::labels::push_label;
+use crate::page::{Page, push_malformed};
+use crate::site::Site;
+use der_asn1_types::asn1::{AnyRef, Kept};
+use der_asn1_types::{Encode, Tag};
+use der_modules::copy_of;
+use der_pkix::name::{AttributeTypeAndValue, Name, RelativeDistinguishedName};
+use std::alloc::{AllocError, Global};
+
+/// Adds a line with a name.
+pub fn push_name<'a>(
+    alloc: Global,
+    page: &mut Page,
+    site: &Site,
+    label: &str,
+    name: &Kept<'a, Name<'a>>,
+) -> Result<(), AllocError> {
+    push_label(page, &site.place, label)?;
+    push_kept(alloc, page, site, copy_of(name))?;
+    page.text.push('\n')
+}
+
+/// Adds a name that was kept as it came.
+pub fn push_kept<'a>(
+    alloc: Global,
+    page: &mut Page,
+    site: &Site,
+    name: Kept<'a, Name<'a>>,
+) -> Result<(), AllocError> {
+    match name.value(alloc) {
+        Ok(name) => push_places(alloc, page, name.as_slice()),
+        Err(error) => push_malformed(page, site.place.contents, error),
+    }
+}
+
+/// Adds the places of a name.
+pub fn push_places(
+    alloc: Global,
+    page: &mut Page,
+    places: &[RelativeDistinguishedName<'_>],
+) -> Result<(), AllocError> {
+    let mut is_first = true;
+    for place in places {
+        if !is_first {
+            page.text.push_str(", ")?;
+        }
+        is_first = false;
+        push_attributes(alloc, page, place.as_slice())?;
+    }
+    Ok(())
+}
+
+/// Adds the attributes of a place of a name.
+pub fn push_attributes(
+    alloc: Global,
+    page: &mut Page,
+    attributes: &[AttributeTypeAndValue<'_>],
+) -> Result<(), AllocError> {
+    let mut is_first = true;
+    for attribute in attributes {
+        if !is_first {
+            page.text.push('+')?;
+        }
+        is_first = false;
+        push_attribute(alloc, page, attribute)?;
+    }
+    Ok(())
+}
+
+/// Adds an attribute.
+pub fn push_attribute(
+    alloc: Global,
+    page: &mut Page,
+    attribute: &AttributeTypeAndValue<'_>,
+) -> Result<(), AllocError> {
+    let identifier = attribute.type_();
+    push_attribute_type(alloc, page, identifier.as_bytes())?;
+    page.text.push('=')?;
+    push_value(alloc, page, attribute.value())
+}
+
+/// Adds a value: the characters of a string type, or else `#` and its encoding.
+pub fn push_value(alloc: Global, page: &mut Page, value: &AnyRef<'_>) -> Result<(), AllocError> {
+    let octets = value.value();
+    match value.header().tag {
+        Tag::BmpString => push_units(alloc, page, value),
+        tag if is_text(tag, octets) => match str::from_utf8(octets) {
+            Ok(characters) => push_escaped(page, characters),
+            Err(_) => push_encoding(alloc, page, value),
+        },
+        _ => push_encoding(alloc, page, value),
+    }
+}
+
+/// Whether contents octets are characters of UTF-8, or of a part of it. Those of a TeletexString and of a
+/// GeneralString are, where they are of ASCII alone.
+fn is_text(tag: Tag, octets: &[u8]) -> bool {
+    match tag {
+        Tag::Utf8String
+        | Tag::PrintableString
+        | Tag::Ia5String
+        | Tag::NumericString
+        | Tag::VisibleString => true,
+        Tag::TeletexString | Tag::GeneralString => octets.is_ascii(),
+        _ => false,
+    }
+}
+
+/// Adds the characters of a BMPString; its encoding where these are not all characters.
+fn push_units(alloc: Global, page: &mut Page, value: &AnyRef<'_>) -> Result<(), AllocError> {
+    let mut characters = String::new(alloc);
+    if push_characters(&mut characters, value.value())? {
+        return push_escaped(page, characters.as_str());
+    }
+    push_encoding(alloc, page, value)
+}
+
+/// Adds the character of each two octets, and answers whether these are all.
+fn push_characters(characters: &mut String, octets: &[u8]) -> Result<bool, AllocError> {
+    for index in 0..octets.len() / 2 {
+        let unit = u16::from_be_bytes([octets[2 * index], octets[2 * index + 1]]);
+        let Some(character) = char::from_u32(u32::from(unit)) else {
+            return Ok(false);
+        };
+        characters.push(character)?;
+    }
+    Ok(octets.len() % 2 == 0)
+}
+
+/// Adds `#` and the digits of an encoding.
+pub fn push_encoding(alloc: Global, page: &mut Page, value: &AnyRef<'_>) -> Result<(), AllocError> {
+    page.text.push('#')?;
+    match value.to_der(alloc) {
+        Ok(octets) => push_digits(page, octets.as_slice()),
+        Err(_) => Err(AllocError),
+    }
+}

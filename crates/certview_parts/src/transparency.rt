@@ -1,0 +1,159 @@
+//! Lists of signed certificate timestamps as text (RFC 6962 sections 3.2 and 3.3): octets of TLS's coding
+//! in an OCTET STRING.
+
+use crate::hexadecimal::{push_digits, push_with_colons};
+use crate::page::{Inner, Page, push_malformed};
+use der_asn1_types::asn1::OctetStringRef;
+use der_asn1_types::{DateTime, Error, ErrorKind, FromDer, Tag};
+use std::alloc::{AllocError, Global};
+use std::fmt::Write;
+use std::time::Duration;
+
+/// The names of the numbers of hash algorithms, from 0 on (RFC 5246 section 7.4.1.4.1).
+const HASHES: [&str; 7] = [
+    "none", "md5", "sha1", "sha224", "sha256", "sha384", "sha512",
+];
+
+/// The names of the numbers of signature algorithms, from 0 on (RFC 5246 section 7.4.1.4.1).
+const SIGNATURES: [&str; 4] = ["anonymous", "rsa", "dsa", "ecdsa"];
+
+/// What a signed certificate timestamp of version 1 says.
+#[derive(Clone, Copy, Debug, PartialEq, Eq)]
+struct Stamp<'a> {
+    log: &'a [u8],
+    milliseconds: u64,
+    extensions: &'a [u8],
+    hash: u8,
+    algorithm: u8,
+    signature: &'a [u8],
+}
+
+/// Adds each timestamp of a list.
+pub fn push_stamps(alloc: Global, page: &mut Page, inner: Inner<'_>) -> Result<(), AllocError> {
+    match OctetStringRef::from_der(alloc, inner.octets) {
+        Ok(string) => match counted(string.as_bytes()) {
+            Some((list, [])) => push_each(page, inner.begin, list),
+            _ => push_wrong(page, inner.begin),
+        },
+        Err(error) => {
+            page.text.push_str(", ")?;
+            push_malformed(page, inner.begin, error)
+        }
+    }
+}
+
+fn push_each(page: &mut Page, begin: usize, list: &[u8]) -> Result<(), AllocError> {
+    let mut rest = list;
+    for _ in 0..list.len() {
+        if rest.is_empty() {
+            break;
+        }
+        let Some((stamp, after)) = counted(rest) else {
+            return push_wrong(page, begin);
+        };
+        push_stamp(page, begin, stamp)?;
+        rest = after;
+    }
+    Ok(())
+}
+
+/// Adds a timestamp; of a version that is not known, its octets.
+fn push_stamp(page: &mut Page, begin: usize, octets: &[u8]) -> Result<(), AllocError> {
+    match octets {
+        [0, rest @ ..] => match stamp_of(rest) {
+            Some(stamp) => push_fields(page, &stamp),
+            None => push_wrong(page, begin),
+        },
+        [version, rest @ ..] => {
+            write!(page.text, ", version {version} #")?;
+            push_digits(page, rest)
+        }
+        [] => push_wrong(page, begin),
+    }
+}
+
+/// Adds the version, the log, the time, the algorithm and the extensions.
+fn push_fields(page: &mut Page, stamp: &Stamp<'_>) -> Result<(), AllocError> {
+    page.text.push_str(", v1 of log ")?;
+    push_with_colons(page, stamp.log)?;
+    page.text.push(' ')?;
+    push_moment(page, stamp.milliseconds)?;
+    page.text.push(' ')?;
+    push_named(page, &HASHES, stamp.hash)?;
+    page.text.push('-')?;
+    push_named(page, &SIGNATURES, stamp.algorithm)?;
+    let count = stamp.signature.len();
+    write!(page.text, " {count} octets")?;
+    if stamp.extensions.is_empty() {
+        return Ok(());
+    }
+    page.text.push_str(" extensions #")?;
+    push_digits(page, stamp.extensions)
+}
+
+/// Adds a time in milliseconds since 1970.
+fn push_moment(page: &mut Page, milliseconds: u64) -> Result<(), AllocError> {
+    let parts = milliseconds % 1000;
+    match DateTime::from_unix_duration(Duration::from_secs(milliseconds / 1000)) {
+        Ok(time) => {
+            let (year, month, day) = (time.year(), time.month(), time.day());
+            let (hour, minutes, seconds) = (time.hour(), time.minutes(), time.seconds());
+            write!(page.text, "{year:04}-{month:02}-{day:02} ")?;
+            write!(
+                page.text,
+                "{hour:02}:{minutes:02}:{seconds:02}.{parts:03} UTC"
+            )
+        }
+        Err(_) => write!(page.text, "{milliseconds} ms"),
+    }
+}
+
+fn push_named(page: &mut Page, names: &[&'static str], number: u8) -> Result<(), AllocError> {
+    match names.get(number as usize) {
+        Some(name) => page.text.push_str(name),
+        None => write!(page.text, "{number}"),
+    }
+}
+
+/// Adds that octets are no list of TLS's coding.
+fn push_wrong(page: &mut Page, begin: usize) -> Result<(), AllocError> {
+    page.text.push_str(", ")?;
+    let kind = ErrorKind::Length {
+        tag: Tag::OctetString,
+    };
+    push_malformed(page, begin, Error::from_kind(kind))
+}
+
+/// The octets of which the number stands before them in two octets, and what stands after them.
+fn counted(octets: &[u8]) -> Option<(&[u8], &[u8])> {
+    let [high, low, rest @ ..] = octets else {
+        return None;
+    };
+    let count = usize::from(u16::from_be_bytes([*high, *low]));
+    Some((rest.get(..count)?, rest.get(count..)?))
+}
+
+/// What stands after a version of 1: the log, the time, the extensions, and what is signed with what.
+fn stamp_of(octets: &[u8]) -> Option<Stamp<'_>> {
+    let log = octets.get(..32)?;
+    let [a, b, c, d, e, f, g, h, rest @ ..] = octets.get(32..)? else {
+        return None;
+    };
+    let milliseconds = u64::from_be_bytes([*a, *b, *c, *d, *e, *f, *g, *h]);
+    let (extensions, rest) = counted(rest)?;
+    let [hash, algorithm, rest @ ..] = rest else {
+        return None;
+    };
+    let (signature, rest) = counted(rest)?;
+    if !rest.is_empty() {
+        return None;
+    }
+    Some(Stamp {
+        log,
+        milliseconds,
+        extensions,
+        hash: *hash,
+        algorithm: *algorithm,
+        signature,
+    })
+}

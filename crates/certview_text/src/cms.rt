@@ -1,0 +1,51 @@
+//! A message of CMS as text.
+
+ghost use Rattle.std.specs.Prelude.{◌≡◌, None, OnOk};
+ghost use Rattle.der_modules.specs.Asn1.{parse_of};
+ghost use Rattle.der_cms.specs.Cms.Grammar.{content_info};
+ghost use Rattle.certview_text.specs.Faults.{first_fault};
+
+use crate::contents::push_content;
+use crate::fault::{Fault, refusal};
+use crate::kind::Kind;
+use crate::whole::{push_title, whole_of};
+use certview_parts::page::Page;
+use certview_parts::parts::Part;
+use certview_parts::rows::push_identifier_row;
+use der_asn1_types::FromDer;
+use der_cms::cms::ContentInfo;
+use der_cms::cms::laws::grammar_of_content_info;
+use std::alloc::{AllocError, Global};
+
+/// Adds the fields of the ContentInfo that these octets are, a line each; of its content, as its type says.
+///
+/// # Errors
+/// `Refused` with the first fault of the octets, in the order of the fields; with
+/// `ErrorKind::TrailingData` (3) where octets are left over; with `ErrorKind::Overflow` (9) where there
+/// are more than 4294967295. `Memory`.
+pub fn push_cms(alloc: Global, page: &mut Page, octets: &[u8]) -> Result<(), Fault>
+    ensures { OnOk result (first_fault (parse_of content_info) octets.now ≡ None) }
+{
+    grammar_of_content_info();
+    match ContentInfo::from_der(alloc, octets) {
+        Ok(message) => Ok(push_fields(alloc, page, octets, &message)?),
+        Err(error) => Err(refusal(Kind::Cms, octets, error)),
+    }
+}
+
+fn push_fields(
+    alloc: Global,
+    page: &mut Page,
+    octets: &[u8],
+    message: &ContentInfo<'_>,
+) -> Result<(), AllocError> {
+    let whole = whole_of(octets, Kind::Cms);
+    push_title(page, &whole.place, Kind::Cms)?;
+    let identifier = message.content_type().as_bytes();
+    let place = whole.field(octets, "contentType").place;
+    push_identifier_row(alloc, page, &place, "content type", identifier)?;
+    let content = whole
+        .field(octets, "content")
+        .holding(octets, Part::value());
+    push_content(alloc, page, octets, &content, identifier)
+}

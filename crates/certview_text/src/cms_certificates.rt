@@ -1,0 +1,130 @@
+//! Certificates and lists of revoked ones that messages of CMS carry, as text (RFC 5652 section 10.2).
+
+use certview_parts::labels::push_label;
+use certview_parts::names::push_kept;
+use certview_parts::page::Page;
+use certview_parts::rows::{push_identifier_row, push_length_row, push_malformed_row};
+use certview_parts::signatures::push_certificate_row;
+use certview_parts::site::{Site, Sites};
+use certview_parts::times::push_time;
+use der_asn1_types::FromDer;
+use der_cms::cms::{CertificateChoices, RevocationInfoChoice};
+use der_modules::copy_of;
+use der_pkix::crl::CertificateList;
+use std::alloc::{AllocError, Global};
+
+/// Adds a line for each certificate of a set, in the order in which they stand.
+pub fn push_certificate_choices(
+    alloc: Global,
+    page: &mut Page,
+    octets: &[u8],
+    set: &Site,
+) -> Result<(), AllocError> {
+    let label = "certificate";
+    let mut sites = Sites::within(octets, set);
+    for _ in set.place.contents..set.place.end {
+        let Some(site) = sites.next_site() else {
+            break;
+        };
+        let inner = site.inner(octets);
+        match CertificateChoices::from_der(alloc, inner.octets) {
+            Ok(certificate) => push_choice(alloc, page, octets, &site, &certificate)?,
+            Err(error) => push_malformed_row(page, &site.place, label, inner.begin, error)?,
+        }
+    }
+    Ok(())
+}
+
+fn push_choice(
+    alloc: Global,
+    page: &mut Page,
+    octets: &[u8],
+    site: &Site,
+    certificate: &CertificateChoices<'_>,
+) -> Result<(), AllocError> {
+    let kept = site.contents(octets).octets;
+    match certificate {
+        CertificateChoices::Certificate(certificate) => {
+            push_certificate_row(alloc, page, octets, site, certificate)
+        }
+        CertificateChoices::ExtendedCertificate(_) => {
+            push_length_row(page, &site.place, "extended certificate", kept)
+        }
+        CertificateChoices::V1AttrCert(_) => {
+            push_length_row(
+                page,
+                &site.place,
+                "attribute certificate of version 1",
+                kept,
+            )
+        }
+        CertificateChoices::V2AttrCert(_) => {
+            push_length_row(page, &site.place, "attribute certificate", kept)
+        }
+        CertificateChoices::Other(other) => {
+            let format = other.value.type_().as_bytes();
+            push_identifier_row(
+                alloc,
+                page,
+                &site.place,
+                "certificate of another format",
+                format,
+            )
+        }
+    }
+}
+
+/// Adds a line for each list of revoked certificates of a set, in the order in which they stand.
+pub fn push_revocations(
+    alloc: Global,
+    page: &mut Page,
+    octets: &[u8],
+    set: &Site,
+) -> Result<(), AllocError> {
+    let label = "list of revoked certificates";
+    let mut sites = Sites::within(octets, set);
+    for _ in set.place.contents..set.place.end {
+        let Some(site) = sites.next_site() else {
+            break;
+        };
+        let inner = site.inner(octets);
+        match RevocationInfoChoice::from_der(alloc, inner.octets) {
+            Ok(revoked) => push_revocation(alloc, page, octets, &site, &revoked)?,
+            Err(error) => push_malformed_row(page, &site.place, label, inner.begin, error)?,
+        }
+    }
+    Ok(())
+}
+
+fn push_revocation(
+    alloc: Global,
+    page: &mut Page,
+    octets: &[u8],
+    site: &Site,
+    revoked: &RevocationInfoChoice<'_>,
+) -> Result<(), AllocError> {
+    match revoked {
+        RevocationInfoChoice::Crl(list) => push_list_row(alloc, page, octets, site, list),
+        RevocationInfoChoice::Other(other) => {
+            let format = other.value.type_().as_bytes();
+            push_identifier_row(alloc, page, &site.place, "list of another format", format)
+        }
+    }
+}
+
+/// Adds a line with the time and the issuer of a list of revoked certificates.
+pub fn push_list_row(
+    alloc: Global,
+    page: &mut Page,
+    octets: &[u8],
+    site: &Site,
+    revoked: &CertificateList<'_>,
+) -> Result<(), AllocError> {
+    let signed = revoked.tbs_cert_list();
+    push_label(page, &site.place, "list of revoked certificates")?;
+    push_time(page, &signed.this_update())?;
+    page.text.push_str(", ")?;
+    let issuer = site.field(octets, "tbsCertList").field(octets, "issuer");
+    push_kept(alloc, page, &issuer, copy_of(signed.issuer()))?;
+    page.text.push('\n')
+}

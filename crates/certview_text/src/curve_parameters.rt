@@ -1,0 +1,141 @@
+//! Parameters of an elliptic curve as text.
+
+ghost use Rattle.std.specs.Prelude.{◌≡◌, None, OnOk};
+ghost use Rattle.der_modules.specs.Asn1.{parse_of};
+ghost use Rattle.der_pkix.specs.Key.Grammar.{ec_parameters};
+ghost use Rattle.certview_text.specs.Faults.{first_fault};
+
+use crate::fault::{Fault, refusal};
+use crate::keys::push_version;
+use crate::kind::Kind;
+use crate::whole::{push_title, whole_of};
+use certview_parts::algorithms::push_algorithm;
+use certview_parts::any_values::push_any;
+use certview_parts::bit_strings::push_bits;
+use certview_parts::labels::push_label;
+use certview_parts::page::Page;
+use certview_parts::parts::Part;
+use certview_parts::rows::{push_identifier_row, push_octets_row, push_signed_row};
+use certview_parts::site::Site;
+use der_asn1_types::FromDer;
+use der_pkix::key::laws::grammar_of_ec_parameters;
+use der_pkix::key::{Curve, EcParameters, FieldId, SpecifiedEcDomain};
+use der_pkix::parts::Part as PkixPart;
+use std::alloc::{AllocError, Global};
+
+/// Adds the fields of the ECParameters that these octets are, a line each: a name, `implicit` where the curve
+/// is known from elsewhere, or the fields of its domain.
+///
+/// # Errors
+/// `Refused` with the first fault of the octets, in the order of the fields; with
+/// `ErrorKind::TrailingData` (3) where octets are left over; with `ErrorKind::Overflow` (9) where there
+/// are more than 4294967295. `Memory`.
+pub fn push_curve_parameters(alloc: Global, page: &mut Page, octets: &[u8]) -> Result<(), Fault>
+    ensures { OnOk result (first_fault (parse_of ec_parameters) octets.now ≡ None) }
+{
+    grammar_of_ec_parameters();
+    match EcParameters::from_der(alloc, octets) {
+        Ok(parameters) => Ok(push_fields(alloc, page, octets, &parameters)?),
+        Err(error) => Err(refusal(Kind::EcParameters, octets, error)),
+    }
+}
+
+fn push_fields(
+    alloc: Global,
+    page: &mut Page,
+    octets: &[u8],
+    parameters: &EcParameters<'_>,
+) -> Result<(), AllocError> {
+    let whole = whole_of(octets, Kind::EcParameters);
+    push_title(page, &whole.place, Kind::EcParameters)?;
+    match parameters {
+        EcParameters::NamedCurve(name) => {
+            push_identifier_row(alloc, page, &whole.place, "curve", name.as_bytes())
+        }
+        EcParameters::ImplicitCurve(_) => {
+            push_label(page, &whole.place, "curve")?;
+            page.text.push_str("implicit\n")
+        }
+        EcParameters::SpecifiedCurve(domain) => {
+            let site = whole.as_part(Part::Pkix(PkixPart::SpecifiedEcDomain));
+            push_domain(alloc, page, octets, &site, domain)
+        }
+    }
+}
+
+fn push_domain(
+    alloc: Global,
+    page: &mut Page,
+    octets: &[u8],
+    site: &Site,
+    domain: &SpecifiedEcDomain<'_>,
+) -> Result<(), AllocError> {
+    push_version(page, octets, site, domain.version())?;
+    let field = site.field(octets, "fieldID");
+    push_field(alloc, page, octets, &field, domain.field_id())?;
+    push_curve(page, octets, &site.field(octets, "curve"), domain.curve())?;
+    let base = site.field(octets, "base").place;
+    push_octets_row(page, &base, "base", domain.base().as_bytes())?;
+    let order = site.field(octets, "order").place;
+    push_signed_row(page, &order, "order", domain.order().as_bytes())?;
+    if let Some(cofactor) = domain.cofactor() {
+        let place = site.field(octets, "cofactor").place;
+        push_signed_row(page, &place, "cofactor", cofactor.as_bytes())?;
+    }
+    match domain.hash() {
+        Some(hash) => {
+            push_algorithm(
+                alloc,
+                page,
+                &site.field(octets, "hash"),
+                "hash algorithm",
+                hash,
+            )
+        }
+        None => Ok(()),
+    }
+}
+
+/// Adds the kind of a field and its parameters: of one of a prime, that.
+fn push_field(
+    alloc: Global,
+    page: &mut Page,
+    octets: &[u8],
+    site: &Site,
+    field: &FieldId<'_>,
+) -> Result<(), AllocError> {
+    let kind = site.field(octets, "fieldType").place;
+    push_identifier_row(alloc, page, &kind, "field", field.field_type().as_bytes())?;
+    let place = site.field(octets, "parameters").place;
+    push_label(page, &place, "parameters of the field")?;
+    push_any(alloc, page, field.parameters())?;
+    page.text.push('\n')
+}
+
+fn push_curve(
+    page: &mut Page,
+    octets: &[u8],
+    site: &Site,
+    curve: &Curve<'_>,
+) -> Result<(), AllocError> {
+    push_octets_row(
+        page,
+        &site.field(octets, "a").place,
+        "a",
+        curve.a().as_bytes(),
+    )?;
+    push_octets_row(
+        page,
+        &site.field(octets, "b").place,
+        "b",
+        curve.b().as_bytes(),
+    )?;
+    match curve.seed() {
+        Some(seed) => {
+            push_label(page, &site.field(octets, "seed").place, "seed")?;
+            push_bits(page, seed)?;
+            page.text.push('\n')
+        }
+        None => Ok(()),
+    }
+}

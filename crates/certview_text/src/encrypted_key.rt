@@ -1,0 +1,64 @@
+//! An encrypted private key as text.
+
+ghost use Rattle.std.specs.Prelude.{◌≡◌, None, OnOk};
+ghost use Rattle.der_modules.specs.Asn1.{parse_of};
+ghost use Rattle.der_pkcs.specs.Encryption.Grammar.{encrypted_private_key_info};
+ghost use Rattle.certview_text.specs.Faults.{first_fault};
+
+use crate::fault::{Fault, refusal};
+use crate::kind::Kind;
+use crate::whole::{push_title, whole_of};
+use certview_parts::encryption::push_encryption;
+use certview_parts::page::Page;
+use certview_parts::rows::push_length_row;
+use certview_parts::site::Site;
+use der_asn1_types::FromDer;
+use der_pkcs::encryption::EncryptedPrivateKeyInfo;
+use der_pkcs::encryption::laws::grammar_of_encrypted_private_key_info;
+use std::alloc::{AllocError, Global};
+
+/// Adds the fields of the EncryptedPrivateKeyInfo that these octets are, a line each.
+///
+/// # Errors
+/// `Refused` with the first fault of the octets, in the order of the fields; with
+/// `ErrorKind::TrailingData` (3) where octets are left over; with `ErrorKind::Overflow` (9) where there
+/// are more than 4294967295. `Memory`.
+pub fn push_encrypted_key(alloc: Global, page: &mut Page, octets: &[u8]) -> Result<(), Fault>
+    ensures { OnOk result (first_fault (parse_of encrypted_private_key_info) octets.now ≡ None) }
+{
+    grammar_of_encrypted_private_key_info();
+    match EncryptedPrivateKeyInfo::from_der(alloc, octets) {
+        Ok(key) => Ok(push_fields(alloc, page, octets, &key)?),
+        Err(error) => Err(refusal(Kind::EncryptedPrivateKey, octets, error)),
+    }
+}
+
+fn push_fields(
+    alloc: Global,
+    page: &mut Page,
+    octets: &[u8],
+    key: &EncryptedPrivateKeyInfo<'_>,
+) -> Result<(), AllocError> {
+    let whole = whole_of(octets, Kind::EncryptedPrivateKey);
+    push_title(page, &whole.place, Kind::EncryptedPrivateKey)?;
+    push_encrypted_fields(alloc, page, octets, &whole, key)
+}
+
+/// Adds the fields of an encrypted key: how it is encrypted, and how many octets there are.
+pub fn push_encrypted_fields(
+    alloc: Global,
+    page: &mut Page,
+    octets: &[u8],
+    site: &Site,
+    key: &EncryptedPrivateKeyInfo<'_>,
+) -> Result<(), AllocError> {
+    let algorithm = site.field(octets, "encryptionAlgorithm");
+    push_encryption(alloc, page, octets, &algorithm, key.encryption_algorithm())?;
+    let place = site.field(octets, "encryptedData").place;
+    push_length_row(
+        page,
+        &place,
+        "encrypted key",
+        key.encrypted_data().as_bytes(),
+    )
+}

@@ -1,0 +1,177 @@
+//! An OCSP response as text.
+
+ghost use Rattle.std.specs.Prelude.{◌≡◌, None, OnOk};
+ghost use Rattle.der_modules.specs.Asn1.{parse_of};
+ghost use Rattle.der_ocsp.specs.Ocsp.Grammar.{ocsp_response};
+ghost use Rattle.certview_text.specs.Faults.{first_fault};
+
+use crate::certificate::push_version;
+use crate::fault::{Fault, refusal};
+use crate::kind::Kind;
+use crate::ocsp_statuses::push_single_responses;
+use crate::whole::{push_title, whole_of};
+use certview_parts::extension_rows::push_explicit_extensions;
+use certview_parts::labels::push_label;
+use certview_parts::names::push_name;
+use certview_parts::page::Page;
+use certview_parts::parts::Part;
+use certview_parts::rows::{
+    push_identifier_row, push_malformed_row, push_octets_row, push_time_row,
+};
+use certview_parts::signatures::{push_certificate_rows, push_signature_rows};
+use certview_parts::site::Site;
+use der_asn1_types::FromDer;
+use der_ocsp::ocsp::constants::ID_PKIX_OCSP_BASIC;
+use der_ocsp::ocsp::laws::grammar_of_ocsp_response;
+use der_ocsp::ocsp::{
+    BasicOcspResponse, OcspResponse, OcspResponseStatus, ResponderId, ResponseBytes, ResponseData,
+};
+use der_ocsp::parts::Part as OcspPart;
+use std::alloc::{AllocError, Global};
+
+/// Adds the fields of the OCSPResponse that these octets are, a line each.
+///
+/// # Errors
+/// `Refused` with the first fault of the octets, in the order of the fields; with
+/// `ErrorKind::TrailingData` (3) where octets are left over; with `ErrorKind::Overflow` (9) where there
+/// are more than 4294967295. `Memory`.
+pub fn push_ocsp_response(alloc: Global, page: &mut Page, octets: &[u8]) -> Result<(), Fault>
+    ensures { OnOk result (first_fault (parse_of ocsp_response) octets.now ≡ None) }
+{
+    grammar_of_ocsp_response();
+    match OcspResponse::from_der(alloc, octets) {
+        Ok(response) => Ok(push_fields(alloc, page, octets, &response)?),
+        Err(error) => Err(refusal(Kind::OcspResponse, octets, error)),
+    }
+}
+
+fn push_fields(
+    alloc: Global,
+    page: &mut Page,
+    octets: &[u8],
+    response: &OcspResponse<'_>,
+) -> Result<(), AllocError> {
+    let whole = whole_of(octets, Kind::OcspResponse);
+    push_title(page, &whole.place, Kind::OcspResponse)?;
+    let status = whole.field(octets, "responseStatus").place;
+    push_label(page, &status, "status")?;
+    page.text.push_str(name_of(response.response_status()))?;
+    page.text.push('\n')?;
+    match response.response_bytes() {
+        Some(bytes) => {
+            let site = whole.field(octets, "responseBytes").field(octets, "");
+            push_response(alloc, page, octets, &site, bytes)
+        }
+        None => Ok(()),
+    }
+}
+
+fn name_of(status: OcspResponseStatus) -> &'static str {
+    match status {
+        OcspResponseStatus::Successful => "successful",
+        OcspResponseStatus::MalformedRequest => "malformedRequest",
+        OcspResponseStatus::InternalError => "internalError",
+        OcspResponseStatus::TryLater => "tryLater",
+        OcspResponseStatus::SigRequired => "sigRequired",
+        OcspResponseStatus::Unauthorized => "unauthorized",
+    }
+}
+
+/// Adds the type of a response; the fields of a basic one, and of another its octets.
+fn push_response(
+    alloc: Global,
+    page: &mut Page,
+    octets: &[u8],
+    site: &Site,
+    bytes: &ResponseBytes<'_>,
+) -> Result<(), AllocError> {
+    let place = site.field(octets, "responseType").place;
+    let identifier = bytes.response_type().as_bytes();
+    push_identifier_row(alloc, page, &place, "response type", identifier)?;
+    let response = site.field(octets, "response");
+    if identifier != ID_PKIX_OCSP_BASIC.as_slice() {
+        return push_octets_row(
+            page,
+            &response.place,
+            "response",
+            bytes.response().as_bytes(),
+        );
+    }
+    let basic = response.holding(octets, Part::Ocsp(OcspPart::BasicOcspResponse));
+    let begin = response.place.contents;
+    match BasicOcspResponse::from_der(alloc, bytes.response().as_bytes()) {
+        Ok(response) => push_basic(alloc, page, octets, &basic, &response),
+        Err(error) => push_malformed_row(page, &response.place, "response", begin, error),
+    }
+}
+
+fn push_basic(
+    alloc: Global,
+    page: &mut Page,
+    octets: &[u8],
+    site: &Site,
+    response: &BasicOcspResponse<'_>,
+) -> Result<(), AllocError> {
+    let signed = site.field(octets, "tbsResponseData");
+    push_signed(alloc, page, octets, &signed, response.tbs_response_data())?;
+    push_signature_rows(
+        alloc,
+        page,
+        octets,
+        site,
+        response.signature_algorithm(),
+        response.signature(),
+    )?;
+    match response.certs() {
+        Some(certificates) => {
+            let list = site.field(octets, "certs").field(octets, "");
+            push_certificate_rows(alloc, page, octets, &list, certificates.as_slice())
+        }
+        None => Ok(()),
+    }
+}
+
+fn push_signed(
+    alloc: Global,
+    page: &mut Page,
+    octets: &[u8],
+    site: &Site,
+    signed: &ResponseData<'_>,
+) -> Result<(), AllocError> {
+    push_version(page, &site.field(octets, "version"), signed.version())?;
+    let responder = site.field(octets, "responderID");
+    push_responder(alloc, page, octets, &responder, signed.responder_id())?;
+    let produced = site.field(octets, "producedAt").place;
+    let time = signed.produced_at().to_date_time();
+    push_time_row(page, &produced, "produced at", &time)?;
+    let list = site.field(octets, "responses");
+    push_single_responses(alloc, page, octets, &list, signed.responses().as_slice())?;
+    push_explicit_extensions(
+        alloc,
+        page,
+        octets,
+        &site.field(octets, "responseExtensions"),
+        "extension",
+        signed.response_extensions(),
+    )
+}
+
+/// Adds who answers: a name, or the hash of a key.
+fn push_responder(
+    alloc: Global,
+    page: &mut Page,
+    octets: &[u8],
+    site: &Site,
+    responder: &ResponderId<'_>,
+) -> Result<(), AllocError> {
+    match responder {
+        ResponderId::ByName(name) => {
+            let named = site.field(octets, "");
+            push_name(alloc, page, &named, "responder", &name.fields.first)
+        }
+        ResponderId::ByKey(hash) => {
+            let label = "hash of responder's key";
+            push_octets_row(page, &site.place, label, hash.fields.first.as_bytes())
+        }
+    }
+}

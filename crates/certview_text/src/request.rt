@@ -1,0 +1,86 @@
+//! A certification request as text.
+
+ghost use Rattle.std.specs.Prelude.{◌≡◌, None, OnOk};
+ghost use Rattle.der_modules.specs.Asn1.{parse_of};
+ghost use Rattle.der_pkcs.specs.Request.Grammar.{certification_request};
+ghost use Rattle.certview_text.specs.Faults.{first_fault};
+
+use crate::certificate::push_version;
+use crate::fault::{Fault, refusal};
+use crate::kind::Kind;
+use crate::whole::{push_title, whole_of};
+use certview_parts::algorithms::push_key;
+use certview_parts::attribute_rows::push_attribute_rows;
+use certview_parts::names::push_name;
+use certview_parts::page::Page;
+use certview_parts::signatures::push_signature_rows;
+use certview_parts::site::Site;
+use der_asn1_types::FromDer;
+use der_pkcs::request::laws::grammar_of_certification_request;
+use der_pkcs::request::{CertificationRequest, CertificationRequestInfo};
+use std::alloc::{AllocError, Global};
+
+/// Adds the fields of the CertificationRequest that these octets are, a line each.
+///
+/// # Errors
+/// `Refused` with the first fault of the octets, in the order of the fields; with
+/// `ErrorKind::TrailingData` (3) where octets are left over; with `ErrorKind::Overflow` (9) where there
+/// are more than 4294967295. `Memory`.
+pub fn push_request(alloc: Global, page: &mut Page, octets: &[u8]) -> Result<(), Fault>
+    ensures { OnOk result (first_fault (parse_of certification_request) octets.now ≡ None) }
+{
+    grammar_of_certification_request();
+    match CertificationRequest::from_der(alloc, octets) {
+        Ok(request) => Ok(push_fields(alloc, page, octets, &request)?),
+        Err(error) => Err(refusal(Kind::CertificationRequest, octets, error)),
+    }
+}
+
+fn push_fields(
+    alloc: Global,
+    page: &mut Page,
+    octets: &[u8],
+    request: &CertificationRequest<'_>,
+) -> Result<(), AllocError> {
+    let whole = whole_of(octets, Kind::CertificationRequest);
+    push_title(page, &whole.place, Kind::CertificationRequest)?;
+    let site = whole.field(octets, "certificationRequestInfo");
+    push_signed(
+        alloc,
+        page,
+        octets,
+        &site,
+        request.certification_request_info(),
+    )?;
+    push_signature_rows(
+        alloc,
+        page,
+        octets,
+        &whole,
+        request.signature_algorithm(),
+        request.signature(),
+    )
+}
+
+/// Adds what is signed: the version, of which what is encoded is one less, the subject, the key and the
+/// attributes.
+fn push_signed(
+    alloc: Global,
+    page: &mut Page,
+    octets: &[u8],
+    site: &Site,
+    signed: &CertificationRequestInfo<'_>,
+) -> Result<(), AllocError> {
+    push_version(page, &site.field(octets, "version"), signed.version())?;
+    let subject = site.field(octets, "subject");
+    push_name(alloc, page, &subject, "subject", signed.subject())?;
+    let key = site.field(octets, "subjectPKInfo");
+    push_key(alloc, page, octets, &key, signed.subject_pk_info())?;
+    push_attribute_rows(
+        alloc,
+        page,
+        octets,
+        &site.field(octets, "attributes"),
+        "attribute",
+    )
+}

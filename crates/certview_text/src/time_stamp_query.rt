@@ -1,0 +1,61 @@
+//! A time stamp query as text.
+
+ghost use Rattle.std.specs.Prelude.{◌≡◌, None, OnOk};
+ghost use Rattle.der_modules.specs.Asn1.{parse_of};
+ghost use Rattle.der_time_stamp.specs.TimeStamp.Grammar.{time_stamp_req};
+ghost use Rattle.certview_text.specs.Faults.{first_fault};
+
+use crate::fault::{Fault, refusal};
+use crate::keys::push_version;
+use crate::kind::Kind;
+use crate::stamped::{push_extensions, push_flag, push_imprint, push_nonce};
+use crate::whole::{push_title, whole_of};
+use certview_parts::page::Page;
+use certview_parts::rows::push_identifier_row;
+use der_asn1_types::FromDer;
+use der_time_stamp::time_stamp::TimeStampReq;
+use der_time_stamp::time_stamp::laws::grammar_of_time_stamp_req;
+use std::alloc::{AllocError, Global};
+
+/// Adds the fields of the TimeStampReq that these octets are, a line each.
+///
+/// # Errors
+/// `Refused` with the first fault of the octets, in the order of the fields; with
+/// `ErrorKind::TrailingData` (3) where octets are left over; with `ErrorKind::Overflow` (9) where there
+/// are more than 4294967295. `Memory`.
+pub fn push_query(alloc: Global, page: &mut Page, octets: &[u8]) -> Result<(), Fault>
+    ensures { OnOk result (first_fault (parse_of time_stamp_req) octets.now ≡ None) }
+{
+    grammar_of_time_stamp_req();
+    match TimeStampReq::from_der(alloc, octets) {
+        Ok(query) => Ok(push_fields(alloc, page, octets, &query)?),
+        Err(error) => Err(refusal(Kind::TimeStampQuery, octets, error)),
+    }
+}
+
+fn push_fields(
+    alloc: Global,
+    page: &mut Page,
+    octets: &[u8],
+    query: &TimeStampReq<'_>,
+) -> Result<(), AllocError> {
+    let whole = whole_of(octets, Kind::TimeStampQuery);
+    push_title(page, &whole.place, Kind::TimeStampQuery)?;
+    push_version(page, octets, &whole, query.version())?;
+    let imprint = whole.field(octets, "messageImprint");
+    push_imprint(alloc, page, octets, &imprint, query.message_imprint())?;
+    if let Some(policy) = query.req_policy() {
+        let place = whole.field(octets, "reqPolicy").place;
+        push_identifier_row(alloc, page, &place, "policy", policy.as_bytes())?;
+    }
+    push_nonce(page, octets, &whole, query.nonce())?;
+    push_flag(
+        page,
+        octets,
+        &whole,
+        "certReq",
+        "with certificate",
+        query.cert_req(),
+    )?;
+    push_extensions(alloc, page, octets, &whole, query.extensions())
+}

@@ -1,0 +1,178 @@
+//! A time stamp reply as text.
+
+ghost use Rattle.std.specs.Prelude.{◌≡◌, None, OnOk};
+ghost use Rattle.der_modules.specs.Asn1.{parse_of};
+ghost use Rattle.der_time_stamp.specs.TimeStamp.Grammar.{time_stamp_resp};
+ghost use Rattle.certview_text.specs.Faults.{first_fault};
+
+use crate::contents::push_content;
+use crate::fault::{Fault, refusal};
+use crate::kind::Kind;
+use crate::whole::{push_title, whole_of};
+use certview_parts::labels::push_label;
+use certview_parts::page::Page;
+use certview_parts::parts::Part;
+use certview_parts::rows::{push_identifier_row, push_text_row};
+use certview_parts::site::{Site, Sites};
+use der_asn1_types::FromDer;
+use der_asn1_types::asn1::NamedBitsRef;
+use der_time_stamp::time_stamp::laws::grammar_of_time_stamp_resp;
+use der_time_stamp::time_stamp::{PkiFreeText, PkiStatusInfo, TimeStampResp, TimeStampToken};
+use std::alloc::{AllocError, Global};
+use std::fmt::Write;
+
+/// The names of the numbers of a PKIStatus, from 0 on.
+const STATUSES: [&str; 6] = [
+    "granted",
+    "grantedWithMods",
+    "rejection",
+    "waiting",
+    "revocationWarning",
+    "revocationNotification",
+];
+
+/// The names of the bits of a PKIFailureInfo (RFC 3161 section 2.4.2), from bit 0 on; the others are those
+/// of RFC 4210 section 5.2.3.
+const FAILURES: [&str; 26] = [
+    "badAlg",
+    "badMessageCheck",
+    "badRequest",
+    "badTime",
+    "badCertId",
+    "badDataFormat",
+    "wrongAuthority",
+    "incorrectData",
+    "missingTimeStamp",
+    "badPOP",
+    "certRevoked",
+    "certConfirmed",
+    "wrongIntegrity",
+    "badRecipientNonce",
+    "timeNotAvailable",
+    "unacceptedPolicy",
+    "unacceptedExtension",
+    "addInfoNotAvailable",
+    "badSenderNonce",
+    "badCertTemplate",
+    "signerNotTrusted",
+    "transactionIdInUse",
+    "unsupportedVersion",
+    "notAuthorized",
+    "systemUnavail",
+    "systemFailure",
+];
+
+/// Adds the fields of the TimeStampResp that these octets are, a line each.
+///
+/// # Errors
+/// `Refused` with the first fault of the octets, in the order of the fields; with
+/// `ErrorKind::TrailingData` (3) where octets are left over; with `ErrorKind::Overflow` (9) where there
+/// are more than 4294967295. `Memory`.
+pub fn push_reply(alloc: Global, page: &mut Page, octets: &[u8]) -> Result<(), Fault>
+    ensures { OnOk result (first_fault (parse_of time_stamp_resp) octets.now ≡ None) }
+{
+    grammar_of_time_stamp_resp();
+    match TimeStampResp::from_der(alloc, octets) {
+        Ok(reply) => Ok(push_fields(alloc, page, octets, &reply)?),
+        Err(error) => Err(refusal(Kind::TimeStampReply, octets, error)),
+    }
+}
+
+fn push_fields(
+    alloc: Global,
+    page: &mut Page,
+    octets: &[u8],
+    reply: &TimeStampResp<'_>,
+) -> Result<(), AllocError> {
+    let whole = whole_of(octets, Kind::TimeStampReply);
+    push_title(page, &whole.place, Kind::TimeStampReply)?;
+    let status = whole.field(octets, "status");
+    push_status(page, octets, &status, reply.status())?;
+    match reply.time_stamp_token() {
+        Some(token) => {
+            let site = whole.field(octets, "timeStampToken");
+            push_token(alloc, page, octets, &site, token)
+        }
+        None => Ok(()),
+    }
+}
+
+/// Adds the status, its texts, and what went wrong, where these are there.
+fn push_status(
+    page: &mut Page,
+    octets: &[u8],
+    site: &Site,
+    status: &PkiStatusInfo<'_>,
+) -> Result<(), AllocError> {
+    push_label(page, &site.field(octets, "status").place, "status")?;
+    push_status_name(page, status.status())?;
+    page.text.push('\n')?;
+    if let Some(texts) = status.status_string() {
+        push_texts(page, octets, &site.field(octets, "statusString"), texts)?;
+    }
+    match status.fail_info() {
+        Some(bits) => {
+            push_label(page, &site.field(octets, "failInfo").place, "failure")?;
+            push_failures(page, *bits)
+        }
+        None => Ok(()),
+    }
+}
+
+fn push_status_name(page: &mut Page, status: u8) -> Result<(), AllocError> {
+    match STATUSES.get(status as usize) {
+        Some(name) => page.text.push_str(name),
+        None => write!(page.text, "{status}"),
+    }
+}
+
+fn push_texts(
+    page: &mut Page,
+    octets: &[u8],
+    list: &Site,
+    texts: &PkiFreeText<'_>,
+) -> Result<(), AllocError> {
+    let mut sites = Sites::within(octets, list);
+    for text in texts.as_slice() {
+        let place = sites.next_site().unwrap_or(list.nothing()).place;
+        push_text_row(page, &place, "status text", text.as_str())?;
+    }
+    Ok(())
+}
+
+/// Adds the names of the bits that are set, and ends the line; a bit that has none, by its number.
+fn push_failures(page: &mut Page, bits: NamedBitsRef<'_>) -> Result<(), AllocError> {
+    let mut is_first = true;
+    for index in 0..bits.as_bit_string().bit_len() {
+        if bits.has(index) {
+            if !is_first {
+                page.text.push_str(", ")?;
+            }
+            is_first = false;
+            push_failure(page, index)?;
+        }
+    }
+    page.text.push('\n')
+}
+
+fn push_failure(page: &mut Page, index: usize) -> Result<(), AllocError> {
+    match FAILURES.get(index) {
+        Some(name) => page.text.push_str(name),
+        None => write!(page.text, "bit {index}"),
+    }
+}
+
+/// Adds the lines of a time stamp, a message of CMS.
+fn push_token(
+    alloc: Global,
+    page: &mut Page,
+    octets: &[u8],
+    site: &Site,
+    token: &TimeStampToken<'_>,
+) -> Result<(), AllocError> {
+    let identifier = token.content_type().as_bytes();
+    let place = site.field(octets, "contentType").place;
+    push_identifier_row(alloc, page, &place, "content type", identifier)?;
+    let content = site.field(octets, "content").holding(octets, Part::value());
+    push_content(alloc, page, octets, &content, identifier)
+}

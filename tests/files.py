@@ -1,0 +1,219 @@
+#!/usr/bin/env python3
+"""Reads two thousand files by certview, and compares each field with what an independent reader finds in the octets, and with
+what openssl says of the file.
+
+    python3 tests/files.py [--only STEM] [--keep FOLDER]
+
+openssl makes the files (`maker/`), of all kinds that certview shows; those of /etc/ssl/certs are among them. `reader/` takes
+nothing from the crates: it reads the octets by the text of the standards, and says the place, the name and the value of each
+field. A document of certview is to have exactly these, and to be of its schema where python3 has the module jsonschema; text and
+document of a file have the same fields. `openssl_says.py` compares with what openssl prints of the files. Files that are cut
+short, or of which one octet is changed, are read or refused as the reader says.
+
+certview is the program that `rt try` builds, or the one that CERTVIEW names. The last line counts files and fields. Where there is
+no openssl nothing is compared, and the script says so."""
+
+import argparse
+import collections
+import concurrent.futures
+import glob
+import json
+import os
+import shutil
+import subprocess
+import sys
+import tempfile
+
+sys.dont_write_bytecode = True
+sys.path.insert(0, os.path.dirname(os.path.abspath(__file__)))
+import documents
+import programs
+from maker import everything
+from maker.workshop import AT_ONCE, Made, Workshop
+from reader import kinds, pem
+from reader.octets import Refused
+
+# Few enough that the program which `rt try` builds asks for memory less often than the request that it is refused.
+FILES_AT_ONCE = 20
+TOLD = 30
+STORE = "/etc/ssl/certs"
+BLOCKS_AT_ONCE = 20
+LEAST = 2000
+wrong = []
+counts = collections.Counter()
+fields = collections.Counter()
+
+
+def fail(text):
+    wrong.append(text)
+    if len(wrong) <= TOLD:
+        print(f"files: {text[:1200]}", flush=True)
+
+
+def document_of(program, words, files):
+    ran = subprocess.run([program, "--json", *words, *files], capture_output=True, timeout=300)
+    if ran.returncode not in (0, 1) or not ran.stdout:
+        raise RuntimeError(f"certview ended with {ran.returncode}: {ran.stderr[-500:]!r}, of {files[:3]} and others")
+    return json.loads(ran.stdout)
+
+
+MALFORMED = documents.MALFORMED
+
+
+def shown(message):
+    """The fields of a message of a document, as the reader says them."""
+    return [(it["offset"], it["length"], it["name"], MALFORMED.sub("<malformed>", it["value"])) for it in message["fields"]]
+
+
+def compare_rows(what, rows, message):
+    """Each field of a message: its place, its name and its value."""
+    found = shown(message)
+    for at, (row, field) in enumerate(zip(rows, found)):
+        fields[message["kind"]] += 1
+        if row != field:
+            return fail(f"{what}, field {at}: certview has {field}, the reader {row}")
+        if ("<malformed>" in row[3]) != bool(message["fields"][at].get("malformed")):
+            return fail(f"{what}, field {at}: {message['fields'][at]}")
+    if len(rows) != len(found):
+        longer = rows if len(rows) > len(found) else found
+        fail(f"{what}: {len(found)} fields and not {len(rows)}, the first of the others is {longer[min(len(rows), len(found))]}")
+
+
+def compare_message(what, kind, octets, message, refused):
+    """A message of a document with what the reader finds; answers whether both read it."""
+    try:
+        rows = kinds.rows_of(kind, octets)
+    except Refused as error:
+        if not refused:
+            fail(f"{what}: certview reads it, and the reader refuses it: {error}")
+        return False
+    if refused:
+        fail(f"{what}: certview refuses it, and the reader does not: {refused}")
+        return False
+    if (message["kind"], message["offset"], message["length"]) != (kind, 0, len(octets)):
+        fail(f"{what}: certview has {message['kind']} of {message['length']} octets, and not {kind} of {len(octets)}")
+        return False
+    compare_rows(what, rows, message)
+    return True
+
+
+# A part that certview shows as malformed, and the standard's reason.
+MALFORMED_ALWAYS = (
+    ("(subjectAltName), 2 octets, <malformed>", "RFC 5280 section 4.2.1.6: one name or more; openssl writes none of email:copy"),
+    ("(subjectAltName), critical, 2 octets, <malformed>", "the same"),
+)
+
+
+def is_malformed(rows):
+    """Whether a part is malformed that openssl was not told to write so."""
+    return any("<malformed>" in row[3] and not any(row[3].endswith(it) for it, _ in MALFORMED_ALWAYS) for row in rows)
+
+
+def compare_made(made, document):
+    """A file with one message; one that is refused has its reason."""
+    what = f"{os.path.basename(made.path)} ({made.about})"
+    with open(made.path, "rb") as file:
+        held = pem.blocks(file.read())
+    if len(held) != 1:
+        return fail(f"{what}: the reader finds {len(held)} blocks")
+    messages, refused = document["messages"], document.get("refused")
+    if refused is None and len(messages) != 1:
+        return fail(f"{what}: certview finds {len(messages)} messages")
+    message = messages[0] if messages else None
+    both = compare_message(what, made.taken_for or made.kind, held[0][1], message, refused)
+    if both == bool(made.refused):
+        fail(f"{what}: it is {'read' if both else 'refused'}, and that is not expected: {made.refused or refused}")
+    if both and is_malformed(shown(message)) != bool(made.malformed) and not made.may_be_malformed:
+        fail(f"{what}: that a part is malformed, or that none is, is not expected: {made.malformed}")
+    counts[made.kind] += 1
+
+
+def each_document(program, files, words=(), at_once=FILES_AT_ONCE):
+    """The document of each file, in the order of the files."""
+    groups = [files[at : at + at_once] for at in range(0, len(files), at_once)]
+    with concurrent.futures.ThreadPoolExecutor(AT_ONCE) as pool:
+        for document in pool.map(lambda group: document_of(program, words, group), groups):
+            if validator:
+                validator.validate(document)
+            yield from document["inputs"]
+
+
+validator = None
+refuses_memory = False
+
+
+def left_in(program, made):
+    """The files that are compared: a program that refuses memory cannot show the large ones."""
+    global refuses_memory
+    large = [it.path for it in made if it.large]
+    ran = subprocess.run([program, "--json", *large], capture_output=True, timeout=300) if large else None
+    refuses_memory = ran is not None and ran.returncode == 2
+    if refuses_memory:
+        print(f"files: left out, {len(large)} large files: the program refuses memory ({ran.stderr.decode().strip()[:200]})")
+    return [it for it in made if not (it.large and refuses_memory)]
+
+
+def store_files(folder):
+    """The system's certificates, each alone and the bundle of all, which is taken in pieces where memory is refused."""
+    files = sorted({os.path.realpath(it) for it in glob.glob(f"{STORE}/*.pem") + glob.glob(f"{STORE}/*.crt")})
+    if not files:
+        print(f"files: left out, the system's certificates: there are none in {STORE}")
+    for file in files:
+        with open(file, "rb") as opened:
+            blocks = [f"{it}-----END CERTIFICATE-----\n".encode() for it in opened.read().decode().split("-----END CERTIFICATE-----")[:-1]]
+        if len(blocks) <= BLOCKS_AT_ONCE or not refuses_memory:
+            yield file
+            continue
+        for at in range(0, len(blocks), BLOCKS_AT_ONCE):
+            with open(f"{folder}/bundle-{at}.pem", "wb") as piece:
+                piece.write(b"".join(blocks[at : at + BLOCKS_AT_ONCE]))
+            yield f"{folder}/bundle-{at}.pem"
+
+
+def compare_store(program, folder):
+    """What is in these files, block by block."""
+    files = list(store_files(folder))
+    for file, document in zip(files, each_document(program, files, at_once=1)):
+        with open(file, "rb") as opened:
+            held = pem.blocks(opened.read())
+        messages = document["messages"]
+        if len(messages) != len(held) or document.get("refused"):
+            fail(f"{file}: certview finds {len(messages)} messages, the reader {len(held)}, {document.get('refused')}")
+            continue
+        for number, ((label, octets), message) in enumerate(zip(held, messages), 1):
+            what = f"{file}, block {number}"
+            if len(held) > 1 and message.get("block") != {"number": number, "count": len(held), "label": label}:
+                fail(f"{what}: certview has the block {message.get('block')}")
+            compare_message(what, "certificate", octets, message, message.get("refused"))
+            counts["certificate of the system"] += 1
+
+
+def main():
+    global validator
+    words = argparse.ArgumentParser()
+    words.add_argument("--only", help="the stem of the files that are compared", default="")
+    words.add_argument("--keep", help="a folder in which the files stay")
+    words = words.parse_args()
+    if not shutil.which("openssl"):
+        print("files: there is no openssl: nothing was compared")
+        return 0
+    with tempfile.TemporaryDirectory(prefix="der-files-") as folder:
+        program = programs.certview(folder)
+        validator = documents.validator()
+        shop = Workshop(words.keep or folder)
+        everything.make(shop)
+        made = [it for it in shop.made if os.path.basename(it.path).startswith(words.only)]
+        made = left_in(program, made)
+        for it, document in zip(made, each_document(program, [it.path for it in made])):
+            compare_made(it, document)
+        if not words.only:
+            compare_store(program, shop.folder)
+    told = ", ".join(f"{count} {kind}" for kind, count in sorted(counts.items()))
+    if not words.only and sum(counts.values()) < LEAST:
+        fail(f"there are {sum(counts.values())} files, and not {LEAST}")
+    print(f"files: {sum(counts.values())} files ({told}); {sum(fields.values())} fields compared; {len(wrong)} wrong")
+    return 1 if wrong else 0
+
+
+if __name__ == "__main__":
+    sys.exit(main())

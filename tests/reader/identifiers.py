@@ -1,0 +1,38 @@
+"""Object identifiers as text, with the names that the modules of the standards give them."""
+
+from .names import NAMES, SHORT
+
+
+def arcs(octets):
+    """The arcs in dotted form (X.690 8.19); none where the octets stand for none, or one takes more than 64 bits."""
+    found, arc, begins = [], 0, True
+    for octet in octets:
+        if begins and octet == 0x80:
+            return None
+        arc, begins = arc << 7 | octet & 0x7F, octet < 0x80
+        if arc >= 1 << 64:
+            return None
+        if begins:
+            found.append(arc)
+            arc = 0
+    if not begins or not found:
+        return None
+    root = min(found[0] // 40, 2)
+    return ".".join(map(str, [root, found[0] - 40 * root, *found[1:]]))
+
+
+def dotted(octets):
+    return arcs(octets) or f"#{octets.hex()}"
+
+
+def named(octets):
+    """The dotted form, and the name in brackets where there is one."""
+    text = dotted(octets)
+    name = NAMES.get(text) or SHORT.get(text)
+    return f"{text} ({name})" if name else text
+
+
+def short(octets):
+    """What an attribute of a name is called (RFC 4514 section 3)."""
+    text = dotted(octets)
+    return SHORT.get(text, text)
