@@ -30,6 +30,7 @@ import documents
 import programs
 from maker import everything
 from maker.workshop import AT_ONCE, Made, Workshop
+from openssl_says import said_by
 from reader import kinds, pem
 from reader.octets import Refused
 
@@ -42,6 +43,7 @@ LEAST = 2000
 wrong = []
 counts = collections.Counter()
 fields = collections.Counter()
+said = collections.Counter()
 
 
 def fail(text):
@@ -126,6 +128,20 @@ def compare_made(made, document):
     if both and is_malformed(shown(message)) != bool(made.malformed) and not made.may_be_malformed:
         fail(f"{what}: that a part is malformed, or that none is, is not expected: {made.malformed}")
     counts[made.kind] += 1
+    return both
+
+
+def compare_with_openssl(read):
+    """What openssl says of the files that were read."""
+    def ask(item):
+        made, message = item
+        return made, said_by.compare(made.path, message)
+
+    with concurrent.futures.ThreadPoolExecutor(AT_ONCE) as pool:
+        for made, compared in pool.map(ask, read):
+            said[made.kind] += compared.count
+            for words in compared.wrong:
+                fail(f"{os.path.basename(made.path)} ({made.about}), beside openssl: {words}")
 
 
 def each_document(program, files, words=(), at_once=FILES_AT_ONCE):
@@ -204,14 +220,18 @@ def main():
         everything.make(shop)
         made = [it for it in shop.made if os.path.basename(it.path).startswith(words.only)]
         made = left_in(program, made)
+        read = []
         for it, document in zip(made, each_document(program, [it.path for it in made])):
-            compare_made(it, document)
+            if compare_made(it, document):
+                read.append((it, document["messages"][0]))
+        compare_with_openssl(read)
         if not words.only:
             compare_store(program, shop.folder)
     told = ", ".join(f"{count} {kind}" for kind, count in sorted(counts.items()))
     if not words.only and sum(counts.values()) < LEAST:
         fail(f"there are {sum(counts.values())} files, and not {LEAST}")
-    print(f"files: {sum(counts.values())} files ({told}); {sum(fields.values())} fields compared; {len(wrong)} wrong")
+    print(f"files: {sum(counts.values())} files ({told}); {sum(fields.values())} fields compared, "
+          f"and {sum(said.values())} of what openssl says; {len(wrong)} wrong")
     return 1 if wrong else 0
 
 
