@@ -28,7 +28,7 @@ sys.dont_write_bytecode = True
 sys.path.insert(0, os.path.dirname(os.path.abspath(__file__)))
 import documents
 import programs
-from maker import everything
+from maker import everything, spoilt
 from maker.workshop import AT_ONCE, Made, Workshop
 from openssl_says import said_by
 from reader import kinds, pem
@@ -44,6 +44,7 @@ wrong = []
 counts = collections.Counter()
 fields = collections.Counter()
 said = collections.Counter()
+answers = collections.Counter()
 
 
 def fail(text):
@@ -135,7 +136,7 @@ def compare_with_openssl(read):
     """What openssl says of the files that were read."""
     def ask(item):
         made, message = item
-        return made, said_by.compare(made.path, message)
+        return made, said_by.compare(made.path, message, made.kind)
 
     with concurrent.futures.ThreadPoolExecutor(AT_ONCE) as pool:
         for made, compared in pool.map(ask, read):
@@ -167,6 +168,34 @@ def left_in(program, made):
     if refuses_memory:
         print(f"files: left out, {len(large)} large files: the program refuses memory ({ran.stderr.decode().strip()[:200]})")
     return [it for it in made if not (it.large and refuses_memory)]
+
+
+def answer_of(kind, octets):
+    """Whether the reader refuses octets (1), reads a part as malformed (1) or all (0); and the rows."""
+    try:
+        rows = kinds.rows_of(kind, octets)
+    except Refused:
+        return "refused", []
+    return "malformed" if any("<malformed>" in row[3] for row in rows) else "read", rows
+
+
+def compare_spoilt(program, shop):
+    """Spoilt files: certview refuses, or reads, what the reader does."""
+    found = list(spoilt.files(shop))
+    for (path, kind, octets, about), document in zip(found, each_document(program, [it[0] for it in found])):
+        counts["spoilt"] += 1
+        messages = document["messages"]
+        if document.get("refused"):
+            certview, kind_found = "refused", kind
+        else:
+            certview = "malformed" if any("malformed" in it for it in messages[0]["fields"]) else "read"
+            kind_found = messages[0]["kind"]
+        answer, rows = answer_of(kind_found, octets)
+        answers[answer] += 1
+        if certview != answer:
+            fail(f"{os.path.basename(path)}, {about}: certview: {certview} as {kind_found} ({document.get('refused')}), the reader: {answer}")
+        elif answer == "read":
+            compare_rows(f"{os.path.basename(path)}, {about}", rows, messages[0])
 
 
 def store_files(folder):
@@ -225,11 +254,14 @@ def main():
             if compare_made(it, document):
                 read.append((it, document["messages"][0]))
         compare_with_openssl(read)
+        compare_spoilt(program, shop)
         if not words.only:
             compare_store(program, shop.folder)
     told = ", ".join(f"{count} {kind}" for kind, count in sorted(counts.items()))
     if not words.only and sum(counts.values()) < LEAST:
         fail(f"there are {sum(counts.values())} files, and not {LEAST}")
+    spoilt_ones = ", ".join(f"{count} {answer}" for answer, count in sorted(answers.items()))
+    told += f"; of the spoilt ones {spoilt_ones}"
     print(f"files: {sum(counts.values())} files ({told}); {sum(fields.values())} fields compared, "
           f"and {sum(said.values())} of what openssl says; {len(wrong)} wrong")
     return 1 if wrong else 0

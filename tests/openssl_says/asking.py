@@ -25,12 +25,10 @@ class Compared:
             self.wrong.append(f"{what}: certview has {str(certview)[:300]!r}, openssl {str(openssl)[:300]!r}")
 
 
-def ask(*words, fails=False):
-    """What a command prints; of one that fails, nothing."""
-    ran = subprocess.run(["openssl", *words], capture_output=True, timeout=60)
-    if ran.returncode and not fails:
-        return ""
-    return (ran.stdout + (ran.stderr if fails else b"")).decode("utf-8", "replace")
+def ask(*words, given=b"", with_errors=False):
+    """What a command prints, on standard error too where that is asked for."""
+    ran = subprocess.run(["openssl", *words], input=given, capture_output=True, timeout=60)
+    return (ran.stdout + (ran.stderr if with_errors else b"")).decode("utf-8", "replace")
 
 
 def form_of(file):
@@ -87,6 +85,12 @@ def hexadecimal(lines):
 def after(label, text):
     """What stands after a label in its line, in each line that has it."""
     return [it.strip() for it in re.findall(rf"^\s*{re.escape(label)}[ \t]*(.*)$", text, re.MULTILINE)]
+
+
+def dumped(text):
+    """The octets of a dump: lines of a place, a dash and digits."""
+    lines = re.findall(r"^ *[0-9a-f]{4,} - ((?:[0-9a-f]{2}[ -]){1,16})", text, re.MULTILINE)
+    return "".join(lines).replace(" ", "").replace("-", "")
 
 
 def names_of(value):
