@@ -2,7 +2,7 @@
 """Reads two thousand files by certview, and compares each field with what an independent reader finds in the octets, and with
 what openssl says of the file.
 
-    python3 tests/files.py [--only STEM] [--keep FOLDER]
+    python3 tests/files.py [--built TREE] [--only STEM] [--keep FOLDER]
 
 openssl makes the files (`maker/`), of all kinds that certview shows; those of /etc/ssl/certs are among them. `reader/` takes
 nothing from the crates: it reads the octets by the text of the standards, and says the place, the name and the value of each
@@ -10,8 +10,9 @@ field. A document of certview is to have exactly these, and to be of its schema 
 document of a file have the same fields. `openssl_says.py` compares with what openssl prints of the files. Files that are cut
 short, or of which one octet is changed, are read or refused as the reader says.
 
-certview is the program that `rt try` builds, or the one that CERTVIEW names. The last line counts files and fields. Where there is
-no openssl nothing is compared, and the script says so."""
+TREE is a copy of the repository in which `rt ci` has built certview. Without it, or where the program is not there, certview is built
+by `rt try`, or is the program that CERTVIEW names. The last line counts files and fields. Where there is no openssl nothing is
+compared, and the script says so."""
 
 import argparse
 import collections
@@ -28,8 +29,9 @@ sys.dont_write_bytecode = True
 sys.path.insert(0, os.path.dirname(os.path.abspath(__file__)))
 import documents
 import programs
-from maker import everything
+from maker import everything, spoilt
 from maker.workshop import AT_ONCE, Made, Workshop
+from openssl_says import said_by
 from reader import kinds, pem
 from reader.octets import Refused
 
@@ -42,6 +44,8 @@ LEAST = 2000
 wrong = []
 counts = collections.Counter()
 fields = collections.Counter()
+said = collections.Counter()
+answers = collections.Counter()
 
 
 def fail(text):
@@ -50,11 +54,17 @@ def fail(text):
         print(f"files: {text[:1200]}", flush=True)
 
 
-def document_of(program, words, files):
-    ran = subprocess.run([program, "--json", *words, *files], capture_output=True, timeout=300)
+def document_of(program, files):
+    """The document of files: a status of 1 where one is refused or has a part that is malformed, and else 0."""
+    ran = subprocess.run([program, "--json", *files], capture_output=True, timeout=300)
     if ran.returncode not in (0, 1) or not ran.stdout:
         raise RuntimeError(f"certview ended with {ran.returncode}: {ran.stderr[-500:]!r}, of {files[:3]} and others")
-    return json.loads(ran.stdout)
+    document = json.loads(ran.stdout)
+    parts = [*document["inputs"], *(message for it in document["inputs"] for message in it["messages"])]
+    is_wrong = any("refused" in it or any("malformed" in field for field in it.get("fields", ())) for it in parts)
+    if ran.returncode != is_wrong:
+        fail(f"certview ended with {ran.returncode}, and not with {int(is_wrong)}, of {files[0]} and others")
+    return document
 
 
 MALFORMED = documents.MALFORMED
@@ -126,13 +136,27 @@ def compare_made(made, document):
     if both and is_malformed(shown(message)) != bool(made.malformed) and not made.may_be_malformed:
         fail(f"{what}: that a part is malformed, or that none is, is not expected: {made.malformed}")
     counts[made.kind] += 1
+    return both
 
 
-def each_document(program, files, words=(), at_once=FILES_AT_ONCE):
+def compare_with_openssl(read):
+    """What openssl says of the files that were read."""
+    def ask(item):
+        made, message = item
+        return made, said_by.compare(made.path, message, made.kind)
+
+    with concurrent.futures.ThreadPoolExecutor(AT_ONCE) as pool:
+        for made, compared in pool.map(ask, read):
+            said[made.kind] += compared.count
+            for words in compared.wrong:
+                fail(f"{os.path.basename(made.path)} ({made.about}), beside openssl: {words}")
+
+
+def each_document(program, files, at_once=FILES_AT_ONCE):
     """The document of each file, in the order of the files."""
     groups = [files[at : at + at_once] for at in range(0, len(files), at_once)]
     with concurrent.futures.ThreadPoolExecutor(AT_ONCE) as pool:
-        for document in pool.map(lambda group: document_of(program, words, group), groups):
+        for document in pool.map(lambda group: document_of(program, group), groups):
             if validator:
                 validator.validate(document)
             yield from document["inputs"]
@@ -151,6 +175,48 @@ def left_in(program, made):
     if refuses_memory:
         print(f"files: left out, {len(large)} large files: the program refuses memory ({ran.stderr.decode().strip()[:200]})")
     return [it for it in made if not (it.large and refuses_memory)]
+
+
+def compare_texts(program, read):
+    """The text of each tenth file has what its document has."""
+    def ask(item):
+        made, document = item
+        ran = subprocess.run([program, made.path], capture_output=True, timeout=120)
+        return made, document, documents.input_of(made.path, ran.stdout.decode(), ran.stderr.decode())
+
+    with concurrent.futures.ThreadPoolExecutor(AT_ONCE) as pool:
+        for made, document, wanted in pool.map(ask, read[::10]):
+            answers["text"] += 1
+            if document != wanted:
+                fail(f"{os.path.basename(made.path)}: the document and the text differ: {document} and {wanted}")
+
+
+def answer_of(kind, octets):
+    """Whether the reader refuses octets (1), reads a part as malformed (1) or all (0); and the rows."""
+    try:
+        rows = kinds.rows_of(kind, octets)
+    except Refused:
+        return "refused", []
+    return "malformed" if any("<malformed>" in row[3] for row in rows) else "read", rows
+
+
+def compare_spoilt(program, shop):
+    """Spoilt files: certview refuses, or reads, what the reader does."""
+    found = list(spoilt.files(shop))
+    for (path, kind, octets, about), document in zip(found, each_document(program, [it[0] for it in found])):
+        counts["spoilt"] += 1
+        messages = document["messages"]
+        if document.get("refused"):
+            certview, kind_found = "refused", kind
+        else:
+            certview = "malformed" if any("malformed" in it for it in messages[0]["fields"]) else "read"
+            kind_found = messages[0]["kind"]
+        answer, rows = answer_of(kind_found, octets)
+        answers[answer] += 1
+        if certview != answer:
+            fail(f"{os.path.basename(path)}, {about}: certview: {certview} as {kind_found} ({document.get('refused')}), the reader: {answer}")
+        elif answer == "read":
+            compare_rows(f"{os.path.basename(path)}, {about}", rows, messages[0])
 
 
 def store_files(folder):
@@ -191,6 +257,7 @@ def compare_store(program, folder):
 def main():
     global validator
     words = argparse.ArgumentParser()
+    words.add_argument("--built", help="a tree in which certview is built", default="")
     words.add_argument("--only", help="the stem of the files that are compared", default="")
     words.add_argument("--keep", help="a folder in which the files stay")
     words = words.parse_args()
@@ -198,20 +265,29 @@ def main():
         print("files: there is no openssl: nothing was compared")
         return 0
     with tempfile.TemporaryDirectory(prefix="der-files-") as folder:
-        program = programs.certview(folder)
+        built = f"{words.built}/crates/certview/out/certview"
+        program = built if os.path.isfile(built) else programs.built_by_try("certview", folder, refuses=False)
         validator = documents.validator()
         shop = Workshop(words.keep or folder)
         everything.make(shop)
         made = [it for it in shop.made if os.path.basename(it.path).startswith(words.only)]
         made = left_in(program, made)
+        read = []
         for it, document in zip(made, each_document(program, [it.path for it in made])):
-            compare_made(it, document)
+            if compare_made(it, document):
+                read.append((it, document))
+        compare_with_openssl([(it, document["messages"][0]) for it, document in read])
+        compare_texts(program, read)
+        compare_spoilt(program, shop)
         if not words.only:
             compare_store(program, shop.folder)
     told = ", ".join(f"{count} {kind}" for kind, count in sorted(counts.items()))
     if not words.only and sum(counts.values()) < LEAST:
         fail(f"there are {sum(counts.values())} files, and not {LEAST}")
-    print(f"files: {sum(counts.values())} files ({told}); {sum(fields.values())} fields compared; {len(wrong)} wrong")
+    texts = answers.pop("text", 0)
+    told += "; of the spoilt ones " + ", ".join(f"{count} {answer}" for answer, count in sorted(answers.items()))
+    print(f"files: {sum(counts.values())} files ({told}); {sum(fields.values())} fields compared, "
+          f"{sum(said.values())} beside what openssl says, {texts} texts beside their documents; {len(wrong)} wrong")
     return 1 if wrong else 0
 
 

@@ -66,12 +66,12 @@ def proved():
     return program
 
 
-def built_by_try(name, folder):
+def built_by_try(name, folder, refuses=True):
     """A program as `rt try` builds it: the one that the variable of its name has, as DERVIEW, or a new one in the folder."""
     given = os.environ.get(name.upper())
     if given:
         return given
-    build(name, f"{folder}/{name}")
+    build(name, f"{folder}/{name}", refuses=refuses)
     return f"{folder}/{name}"
 
 

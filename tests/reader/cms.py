@@ -14,7 +14,7 @@ OTHER_CERTIFICATES = {
 
 
 def add_version(rows, fields):
-    add_plain_version(rows, fields.take(0x02), 0, 5)
+    add_plain_version(rows, fields.take(0x02))
 
 
 def add_type(rows, encoding):
@@ -98,7 +98,7 @@ def add_signer(rows, item):
     fields = item.has(0x30).fields()
     version, who = fields.take(0x02), fields.next()
     rows.add(who, "signer", signer_text(who))
-    add_plain_version(rows, version, 0, 5)
+    add_plain_version(rows, version)
     add_algorithm(rows, "digest algorithm", fields.take(0x30))
     signed = fields.option(0xA0)
     if signed:
@@ -161,7 +161,7 @@ def by_transport(rows, item):
     fields = item.fields()
     version, who = fields.take(0x02), fields.next()
     rows.add(who, "recipient", signer_text(who))
-    add_plain_version(rows, version, 0, 5)
+    add_plain_version(rows, version)
     add_key_encryption(rows, fields)
 
 
@@ -202,7 +202,7 @@ def by_key(rows, item):
     date = known.option(0x18)
     if date:
         rows.add(date, "date of the key", values.generalized_time(date))
-    add_plain_version(rows, version, 0, 5)
+    add_plain_version(rows, version)
     add_key_encryption(rows, fields)
 
 

@@ -154,7 +154,6 @@ def qualifier(encoding):
     fields = encoding.has(0x30).fields()
     kind, held = named(values.identifier(fields.take(0x06))), fields.next()
     fields.close()
-    refuse_unless(kind.startswith("1.3.6.1.5.5.7.2."), "another qualifier")
     if held.tag != 0x30:
         return f"{kind} {texts.value(held)}"
     try:

@@ -3,7 +3,7 @@
 from . import texts, values
 from .identifiers import arcs, named
 from .messages import Rows, add_algorithm, add_attributes, add_key, algorithm_of, algorithm_text
-from .octets import refuse_unless
+from .octets import Refused, refuse_unless
 
 PBES2, PBKDF2 = "1.2.840.113549.1.5.13", "1.2.840.113549.1.5.12"
 MOST = 0xFFFFFFFF
@@ -20,8 +20,8 @@ def add_secret(rows, name, encoding):
     rows.add(encoding, name, f"{encoding.end - encoding.contents_begin} octets, not shown")
 
 
-def add_plain_version(rows, encoding, least, most):
-    rows.add(encoding, "version", str(values.number(encoding, least, most)))
+def add_plain_version(rows, encoding):
+    rows.add(encoding, "version", str(values.number(encoding, 0, values.MOST_OF_VERSION)))
 
 
 def add_public_bits(rows, fields, tag):
@@ -34,7 +34,7 @@ def add_public_bits(rows, fields, tag):
 def private_key(message):
     """PrivateKeyInfo and OneAsymmetricKey (RFC 5958 section 2)."""
     rows, fields = Rows(), message.fields()
-    add_plain_version(rows, fields.take(0x02), 0, 1)
+    add_plain_version(rows, fields.take(0x02))
     add_algorithm(rows, "key algorithm", fields.take(0x30))
     add_secret(rows, "privateKey", fields.take(0x04))
     attributes = fields.option(0xA0)
@@ -61,7 +61,7 @@ def rsa_public_key(message):
 
 def rsa_private_key(message):
     rows, fields = Rows(), message.fields()
-    add_plain_version(rows, fields.take(0x02), 0, 1)
+    add_plain_version(rows, fields.take(0x02))
     rsa_numbers(rows, fields)
     for name in "privateExponent prime1 prime2 exponent1 exponent2 coefficient".split():
         secret = fields.take(0x02)
@@ -79,13 +79,15 @@ def rsa_private_key(message):
 def ec_private_key(message):
     """RFC 5915 section 3."""
     rows, fields = Rows(), message.fields()
-    add_plain_version(rows, fields.take(0x02), 1, 1)
+    add_plain_version(rows, fields.take(0x02))
     add_secret(rows, "privateKey", fields.take(0x04))
     curve = fields.option(0xA0)
     if curve:
-        held = curve.only(*{curve.octets[curve.contents_begin]} & {0x05, 0x06, 0x30})
-        words = {0x05: "implicit", 0x30: "parameters of its own"}
-        rows.add(curve, "curve", words.get(held.tag) or named(values.identifier(held)))
+        inner = curve.fields()
+        held = inner.take(0x05, 0x06, 0x30)
+        inner.close()
+        found = ec_parameters(held)
+        rows.add(curve, "curve", "parameters of its own" if held.tag == 0x30 else found[0][3])
     add_public_bits(rows, fields, 0xA1)
     fields.close()
     return rows.found
@@ -111,22 +113,29 @@ def parameters_of(encoding):
 
 
 def add_encryption(rows, encoding):
-    """What encrypts, and its parameters where these are of a password."""
-    kind = arcs(algorithm_of(encoding)[0]) or ""
-    if kind == PBES2:
-        rows.add(encoding, "encryption algorithm", named(algorithm_of(encoding)[0]))
-        fields = parameters_of(encoding).has(0x30).fields()
-        derivation, scheme = fields.take(0x30), fields.take(0x30)
-        fields.close()
-        add_derivation(rows, derivation)
-        rows.add(scheme, "cipher", cipher(scheme))
-    elif has_salt_and_count(kind):
-        rows.add(encoding, "encryption algorithm", named(algorithm_of(encoding)[0]))
-        fields = parameters_of(encoding).has(0x30).fields()
-        add_salt_and_count(rows, fields)
-        fields.close()
-    else:
+    """What encrypts, and its parameters where these are of a password: fields that are ANY in the standard, so that what is none of
+    them is malformed."""
+    octets = algorithm_of(encoding)[0]
+    kind = arcs(octets) or ""
+    if kind != PBES2 and not has_salt_and_count(kind):
         rows.add(encoding, "encryption algorithm", cipher(encoding))
+        return
+    rows.add(encoding, "encryption algorithm", named(octets))
+    found = Rows()
+    try:
+        fields = parameters_of(encoding).has(0x30).fields()
+        (add_scheme if kind == PBES2 else add_salt_and_count)(found, fields)
+        fields.close()
+    except Refused:
+        found.found = []
+        found.add(encoding, "parameters", "<malformed>")
+    rows.found += found.found
+
+
+def add_scheme(rows, fields):
+    derivation, scheme = fields.take(0x30), fields.take(0x30)
+    add_derivation(rows, derivation)
+    rows.add(scheme, "cipher", cipher(scheme))
 
 
 def add_salt_and_count(rows, fields):
@@ -217,11 +226,15 @@ def signed_text(octets):
 def ec_parameters(message):
     """A name (RFC 5480 section 2.1.1), or a curve that is written out (SEC 1 section C.2)."""
     rows = Rows()
-    if message.tag != 0x30:
-        rows.add(message, "curve", named(values.identifier(message)) if message.tag == 0x06 else "implicit")
+    if message.tag == 0x05:
+        values.null(message)
+        rows.add(message, "curve", "implicit")
         return rows.found
-    fields = message.fields()
-    add_plain_version(rows, fields.take(0x02), 1, 3)
+    if message.tag == 0x06:
+        rows.add(message, "curve", named(values.identifier(message)))
+        return rows.found
+    fields = message.has(0x30).fields()
+    add_plain_version(rows, fields.take(0x02))
     field = fields.take(0x30).fields()
     kind, parameters = field.take(0x06), field.next()
     field.close()

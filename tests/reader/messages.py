@@ -100,7 +100,7 @@ def add_extensions(rows, encoding, label="extension"):
 
 def add_version(rows, encoding, held):
     """A version that is one more than its number; 1 where it is absent."""
-    rows.add(encoding, "version", str(values.number(held, 0, 2) + 1 if held else 1))
+    rows.add(encoding, "version", str(values.number(held, 0, values.MOST_OF_VERSION) + 1 if held else 1))
 
 
 def add_signature(rows, fields):
@@ -116,7 +116,7 @@ def certificate(message):
     fields = outer.take(0x30).fields()
     version = fields.option(0xA0)
     held = version.only(0x02) if version else None
-    refuse_unless(held is None or values.number(held, 0, 2), "a default that is encoded")
+    refuse_unless(held is None or values.number(held, 0, values.MOST_OF_VERSION), "a default that is encoded")
     add_version(rows, version, held)
     number = fields.take(0x02)
     rows.add(number, "serial number", texts.serial(values.integer(number)))
@@ -186,11 +186,8 @@ EXTENSION_REQUEST = "1.2.840.113549.1.9.14"
 
 def add_attributes(rows, label, encoding):
     """Attributes of a SET, or behind an implicit tag: each with its values, or the extensions that it asks for."""
-    for item in encoding.fields().rest():
-        try:
-            add_attribute(rows, label, item)
-        except Refused:
-            rows.add(item, label, "<malformed>")
+    for item in encoding.fields().rest(0x30):
+        add_attribute(rows, label, item)
 
 
 def add_attribute(rows, label, item):
@@ -216,7 +213,7 @@ def request(message):
     rows, outer = Rows(), message.fields()
     fields = outer.take(0x30).fields()
     version = fields.take(0x02)
-    rows.add(version, "version", str(values.number(version, 0, 0) + 1))
+    rows.add(version, "version", str(values.number(version, 0, values.MOST_OF_VERSION) + 1))
     add_name(rows, "subject", fields.take(0x30))
     add_key(rows, fields.take(0x30))
     attributes = fields.take(0xA0)

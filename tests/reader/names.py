@@ -1,5 +1,5 @@
-"""Names of object identifiers, by the modules of the standards: RFC 2985, 3161, 3279, 4055, 4519, 5280, 5480, 5639, 5652, 5753,
-5758, 6960, 6962, 7292, 8018, 8410, 8551, and else those of OpenSSL."""
+"""Names of object identifiers, by the modules of the standards: RFC 1274, 2985, 3161, 3279, 4055, 4491, 4519, 4524, 5280, 5480,
+5639, 5652, 5753, 5758, 6960, 6962, 7292, 8018, 8410, 8551, 8692, 9215, 9881, 9935, and else those of OpenSSL."""
 
 
 def below(root, names):
@@ -23,8 +23,12 @@ SHORT = {
             "name GN initials generationQualifier x500UniqueIdentifier dnQualifier enhancedSearchGuide protocolInformation "
             "distinguishedName uniqueMember houseIdentifier supportedAlgorithms deltaRevocationList dmdName"),
     **at("2.5.4", _65="pseudonym", _72="role", _97="organizationIdentifier", _98="c3", _99="n3", _100="dnsName"),
-    **at("0.9.2342.19200300.100.1", _1="UID", _3="mail", _25="DC", _37="associatedDomain", _5="favouriteDrink", _6="roomNumber",
-         _2="textEncodedORAddress", _4="info", _7="photo", _8="userClass", _9="host", _10="manager", _41="mobileTelephoneNumber"),
+    **below("0.9.2342.19200300.100.1", "UID textEncodedORAddress mail info favouriteDrink roomNumber photo userClass host manager "
+            "documentIdentifier documentTitle documentVersion documentAuthor documentLocation - - - - homeTelephoneNumber secretary "
+            "otherMailbox lastModifiedTime lastModifiedBy DC aRecord pilotAttributeType27 mXRecord nSRecord sOARecord cNAMERecord - - "
+            "- - - associatedDomain associatedName homePostalAddress personalTitle mobileTelephoneNumber pagerTelephoneNumber "
+            "friendlyCountryName uid organizationalStatus janetMailbox mailPreferenceOption buildingName dSAQuality "
+            "singleLevelQuality subtreeMinimumQuality subtreeMaximumQuality personalSignature dITRedirect audio documentPublisher"),
     **at(f"{PKCS}.9", _1="emailAddress", _2="unstructuredName", _7="challengePassword", _8="unstructuredAddress",
          _20="friendlyName", _21="localKeyID"),
     **below(f"{PKIX}.9", "dateOfBirth placeOfBirth gender countryOfCitizenship countryOfResidence"),
@@ -91,6 +95,13 @@ ALGORITHMS = {
     "1.2.156.10197.1.301": "sm2",
     "1.2.156.10197.1.401": "sm3",
     "1.2.156.10197.1.501": "sm2-with-SM3",
+    **at(f"{PKIX}.6", _30="RSASSA-PSS-SHAKE128", _31="RSASSA-PSS-SHAKE256", _32="ecdsa-with-SHAKE128", _33="ecdsa-with-SHAKE256"),
+    **at("2.16.840.1.101.3.4", _3_17="id-ml-dsa-44", _3_18="id-ml-dsa-65", _3_19="id-ml-dsa-87", _4_1="id-alg-ml-kem-512",
+         _4_2="id-alg-ml-kem-768", _4_3="id-alg-ml-kem-1024"),
+    **at("1.2.643", _2_2_19="gostR3410-2001", _2_2_3="gostR3411-94-with-gostR3410-2001", _7_1_1_1_1="gost3410-2012-256",
+         _7_1_1_1_2="gost3410-2012-512", _7_1_1_3_2="gost3410-2012-256-with-gost3411-2012",
+         _7_1_1_3_3="gost3410-2012-512-with-gost3411-2012"),
+    "1.3.6.1.5.5.8.1.2": "hMAC-SHA1",
     **below("1.2.840.113549.2", "- - - - - - hmacWithSHA1 hmacWithSHA224 hmacWithSHA256 hmacWithSHA384 hmacWithSHA512 "
             "hmacWithSHA512-224 hmacWithSHA512-256"),
     **at(f"{PKCS}.5", _1="pbeWithMD2AndDES-CBC", _3="pbeWithMD5AndDES-CBC", _4="pbeWithMD2AndRC2-CBC", _6="pbeWithMD5AndRC2-CBC",

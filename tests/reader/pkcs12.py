@@ -19,7 +19,7 @@ def in_string(string):
 
 def key_bag(rows, encoding):
     fields = encoding.has(0x30).fields()
-    values.number(fields.take(0x02), 0, 1)
+    values.number(fields.take(0x02), 0, values.MOST_OF_VERSION)
     add_algorithm(rows, "key algorithm", fields.take(0x30))
     add_secret(rows, "privateKey", fields.take(0x04))
 
@@ -108,7 +108,7 @@ def add_mac(rows, encoding):
 
 def file(message):
     rows, fields = Rows(), message.fields()
-    add_plain_version(rows, fields.take(0x02), 3, 3)
+    add_plain_version(rows, fields.take(0x02))
     kind, content = add_content_info(rows, fields.take(0x30), True)
     mac = fields.option(0x30)
     fields.close()

@@ -40,7 +40,7 @@ def add_nonce(rows, encoding):
 
 def query(message):
     rows, fields = Rows(), message.fields()
-    add_plain_version(rows, fields.take(0x02), 1, 1)
+    add_plain_version(rows, fields.take(0x02))
     add_imprint(rows, fields.take(0x30))
     policy = fields.option(0x06)
     if policy:
@@ -66,7 +66,7 @@ def accuracy_text(encoding):
 def stamp_rows(encoding):
     """TSTInfo (section 2.4.2)."""
     rows, fields = Rows(), encoding.has(0x30).fields()
-    add_plain_version(rows, fields.take(0x02), 1, 1)
+    add_plain_version(rows, fields.take(0x02))
     add_policy(rows, fields.take(0x06))
     add_imprint(rows, fields.take(0x30))
     number, moment = fields.take(0x02), fields.take(0x18)

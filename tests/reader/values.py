@@ -7,6 +7,8 @@ from .octets import refuse_unless
 
 # The most contents octets of an identifier that the messages take (docs/FORMAT.md).
 MOST_OF_IDENTIFIER = 39
+# Named numbers do not say which others there are (X.680 19.5): a version is any number that one octet has.
+MOST_OF_VERSION = 255
 
 
 def boolean(encoding):
