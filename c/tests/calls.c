@@ -58,6 +58,13 @@ static void all_refuse(const uint8_t *octets, size_t len, uint32_t number)
     REFUSES(der_extension_at, der_extension);
     REFUSES(der_subject_public_key_info_at, der_subject_public_key_info);
     REFUSES(der_private_key_info_at, der_private_key_info);
+    REFUSES(der_certification_request_at, der_certification_request);
+    REFUSES(der_ocsp_response_at, der_ocsp_response);
+    REFUSES(der_basic_ocsp_response_at, der_basic_ocsp_response);
+    REFUSES(der_single_response_at, der_single_response);
+    REFUSES(der_content_info_at, der_content_info);
+    REFUSES(der_signed_data_at, der_signed_data);
+    REFUSES(der_signer_info_at, der_signer_info);
     REFUSES(der_attribute_type_and_value_at, der_attribute_type_and_value);
     REFUSES(der_attribute_at, der_attribute);
 }
@@ -98,6 +105,8 @@ static void place_outside(const uint8_t *octets, size_t len, der_place left)
     check(der_is_within(len, der_next_encoding(octets, len, &left)), "an encoding within the octets");
     LEAVES(der_extension_at, der_next_extension);
     LEAVES(der_revoked_certificate_at, der_next_revoked_certificate);
+    LEAVES(der_single_response_at, der_next_single_response);
+    LEAVES(der_signer_info_at, der_next_signer_info);
     LEAVES(der_attribute_at, der_next_attribute);
     check(der_next_name_attribute(octets, 2, &name, &attribute, &fault) == DER_BAD_PLACE, "no attribute outside");
     check(memcmp(&name.parts, &left, sizeof left) == 0 && name.attributes.length == 0, "the name is as it was");

@@ -1,3 +1,4 @@
 pub mod Answers
 pub mod Signed
+pub mod Status
 pub mod Times

@@ -1,4 +1,4 @@
-"""DER of certificates, lists of revoked ones, keys,
+"""DER of certificates, lists of revoked ones, keys, requests, answers about the status of certificates and signed messages,
 proved: which octets are taken, and where each field stands.
 
 A value keeps the octets that it was read from, and a field is a memoryview of them: its whole encoding. Nothing is
@@ -20,6 +20,7 @@ from __future__ import annotations
 
 from collections.abc import Iterator
 from datetime import datetime, timedelta, timezone
+from enum import Enum
 
 from . import _der
 from ._der import Error
@@ -27,12 +28,20 @@ from ._der import Error
 __all__ = [
     "Attribute",
     "AttributeTypeAndValue",
+    "BasicOcspResponse",
+    "CertStatus",
     "Certificate",
     "CertificateList",
+    "CertificationRequest",
+    "ContentInfo",
     "Error",
     "Extension",
+    "OcspResponse",
     "PrivateKeyInfo",
     "RevokedCertificate",
+    "SignedData",
+    "SignerInfo",
+    "SingleResponse",
     "SubjectPublicKeyInfo",
     "attributes",
     "contents",
@@ -342,3 +351,204 @@ def attributes(field: Octets | None) -> Iterator[Attribute]:
         attribute = Attribute(items)
         yield attribute
         items = items[attribute._at[1] :]
+
+
+class CertificationRequest(_Message):
+    """A CertificationRequest (RFC 2986 4.2), which all of the octets are."""
+
+    __slots__ = ()
+
+    def __init__(self, octets: Octets) -> None:
+        self._at = _der.certification_request(octets)
+        self._octets = _view(octets)
+
+    certification_request_info = _field(0, "`certificationRequestInfo`: what the signature covers.")
+    signature_algorithm = _field(1, "`signatureAlgorithm`, an AlgorithmIdentifier.")
+    signature = _field(2, "`signature`, a BIT STRING.")
+    subject = _field(4, "`subject`, a Name.")
+    subject_pk_info = _field(5, "`subjectPKInfo`, which SubjectPublicKeyInfo reads.")
+
+    @property
+    def attributes(self) -> Iterator[Attribute]:
+        """The attributes, in their order."""
+        offset, length = self._at[12], self._at[13]
+        return attributes(self._octets[offset : offset + length])
+
+
+class OcspResponse(_Message):
+    """An OCSPResponse (RFC 6960 4.2.1), which all of the octets are."""
+
+    __slots__ = ()
+
+    def __init__(self, octets: Octets) -> None:
+        self._at = _der.ocsp_response(octets)
+        self._octets = _view(octets)
+
+    response_type = _optional(2, "`responseType` of `responseBytes`, an OBJECT IDENTIFIER.")
+    response = _optional(3, "`response` of `responseBytes`, an OCTET STRING, of which BasicOcspResponse reads the contents.")
+
+    @property
+    def response_status(self) -> int:
+        """`responseStatus`: 0 for successful, 1 to 3, 5 or 6."""
+        return self._at[8]
+
+
+class CertStatus(Enum):
+    """What is answered about a certificate."""
+
+    GOOD = 0
+    REVOKED = 1
+    UNKNOWN = 2
+
+
+class SingleResponse(_Message):
+    """The answer about one certificate (RFC 6960 4.2.1), which stands at the front of the octets."""
+
+    __slots__ = ()
+
+    def __init__(self, octets: Octets) -> None:
+        self._at = _der.single_response(octets)
+        self._octets = _view(octets)[: self._at[1]]
+
+    cert_id = _field(1, "`certID`.")
+
+    @property
+    def cert_status(self) -> CertStatus:
+        """`certStatus`."""
+        return CertStatus(self._at[15])
+
+    @property
+    def revocation_time(self) -> datetime | None:
+        """When the certificate was revoked, if it was."""
+        return _at(self._at[14]) if self._at[15] == 1 else None
+
+    @property
+    def this_update(self) -> datetime:
+        """`thisUpdate`."""
+        return _at(self._at[12])
+
+    @property
+    def next_update(self) -> datetime | None:
+        """`nextUpdate`, if it is there."""
+        return _at(self._at[13]) if self._at[9] else None
+
+    @property
+    def extensions(self) -> Iterator[Extension]:
+        """The extensions, in their order."""
+        offset, length = self._at[10], self._at[11]
+        if length:
+            yield from _extensions(contents(contents(self._octets[offset : offset + length])))
+
+
+class BasicOcspResponse(_Message):
+    """A BasicOCSPResponse (RFC 6960 4.2.1), which all of the octets are."""
+
+    __slots__ = ()
+
+    def __init__(self, octets: Octets) -> None:
+        self._at = _der.basic_ocsp_response(octets)
+        self._octets = _view(octets)
+
+    tbs_response_data = _field(0, "`tbsResponseData`: what the signature covers.")
+    signature_algorithm = _field(1, "`signatureAlgorithm`, an AlgorithmIdentifier.")
+    signature = _field(2, "`signature`, a BIT STRING.")
+    certs = _optional(3, "`certs` with their tag [0].")
+    responder_id = _field(5, "`responderID`, with its tag [1] or [2].")
+
+    @property
+    def produced_at(self) -> datetime:
+        """`producedAt`."""
+        return _at(self._at[18])
+
+    @property
+    def responses(self) -> Iterator[SingleResponse]:
+        """The answers about single certificates, in their order."""
+        offset, length = self._at[14], self._at[15]
+        items = contents(self._octets[offset : offset + length])
+        while items:
+            single = SingleResponse(items)
+            yield single
+            items = items[single._at[1] :]
+
+    @property
+    def extensions(self) -> Iterator[Extension]:
+        """The extensions, in their order."""
+        offset, length = self._at[16], self._at[17]
+        if length:
+            yield from _extensions(contents(contents(self._octets[offset : offset + length])))
+
+
+class ContentInfo(_Message):
+    """A ContentInfo (RFC 5652 section 3), which all of the octets are."""
+
+    __slots__ = ()
+
+    def __init__(self, octets: Octets) -> None:
+        self._at = _der.content_info(octets)
+        self._octets = _view(octets)
+
+    content_type = _field(0, "`contentType`, an OBJECT IDENTIFIER.")
+    content = _field(1, "`content` with its tag [0], of which SignedData reads the contents.")
+
+
+class SignerInfo(_Message):
+    """A SignerInfo (RFC 5652 5.3), which stands at the front of the octets."""
+
+    __slots__ = ()
+
+    def __init__(self, octets: Octets) -> None:
+        self._at = _der.signer_info(octets)
+        self._octets = _view(octets)[: self._at[1]]
+
+    sid = _field(2, "`sid`: a SEQUENCE of issuer and serial number, or with its tag [0] a key's identifier.")
+    digest_algorithm = _field(3, "`digestAlgorithm`, an AlgorithmIdentifier.")
+    signed_attrs = _optional(4, "`signedAttrs` with their tag [0].")
+    signature_algorithm = _field(5, "`signatureAlgorithm`, an AlgorithmIdentifier.")
+    signature = _field(6, "`signature`, an OCTET STRING.")
+    unsigned_attrs = _optional(7, "`unsignedAttrs` with their tag [1].")
+
+    @property
+    def version(self) -> int:
+        """`version`, 0 to 5."""
+        return self._at[16]
+
+    @property
+    def signedattributes(self) -> Iterator[Attribute]:
+        """The signed attributes, in their order."""
+        return attributes(self.signed_attrs)
+
+    @property
+    def unsignedattributes(self) -> Iterator[Attribute]:
+        """The unsigned attributes, in their order."""
+        return attributes(self.unsigned_attrs)
+
+
+class SignedData(_Message):
+    """A SignedData (RFC 5652 5.1), which all of the octets are."""
+
+    __slots__ = ()
+
+    def __init__(self, octets: Octets) -> None:
+        self._at = _der.signed_data(octets)
+        self._octets = _view(octets)
+
+    digest_algorithms = _field(1, "`digestAlgorithms`, a SET OF.")
+    certificates = _optional(3, "`certificates` with their tag [0].")
+    crls = _optional(4, "`crls` with their tag [1].")
+    e_content_type = _field(6, "`eContentType` of `encapContentInfo`, an OBJECT IDENTIFIER.")
+    e_content = _optional(7, "`eContent` of `encapContentInfo` with its tag [0]: an OCTET STRING.")
+
+    @property
+    def version(self) -> int:
+        """`version`, 0 to 5."""
+        return self._at[16]
+
+    @property
+    def signer_infos(self) -> Iterator[SignerInfo]:
+        """The signers, in their order."""
+        offset, length = self._at[10], self._at[11]
+        items = contents(self._octets[offset : offset + length])
+        while items:
+            signer = SignerInfo(items)
+            yield signer
+            items = items[signer._at[1] :]

@@ -66,6 +66,13 @@ static_assert(sizeof(der_certificate_list_at) == 10 * sizeof(der_place) + 3 * si
 static_assert(sizeof(der_subject_public_key_info_at) == 2 * sizeof(der_place), "places alone");
 static_assert(sizeof(der_private_key_info_at) == 5 * sizeof(der_place) + sizeof(uint64_t), "places, then a number");
 static_assert(sizeof(der_revoked_certificate_at) == 4 * sizeof(der_place) + sizeof(uint64_t), "places, then a number");
+static_assert(sizeof(der_certification_request_at) == 7 * sizeof(der_place), "places alone");
+static_assert(sizeof(der_ocsp_response_at) == 4 * sizeof(der_place) + sizeof(uint64_t), "places, then a number");
+static_assert(sizeof(der_basic_ocsp_response_at) == 9 * sizeof(der_place) + sizeof(uint64_t), "places, then a number");
+static_assert(sizeof(der_single_response_at) == 6 * sizeof(der_place) + 4 * sizeof(uint64_t), "places, then numbers");
+static_assert(sizeof(der_content_info_at) == 2 * sizeof(der_place), "places alone");
+static_assert(sizeof(der_signed_data_at) == 8 * sizeof(der_place) + sizeof(uint64_t), "places, then a number");
+static_assert(sizeof(der_signer_info_at) == 8 * sizeof(der_place) + sizeof(uint64_t), "places, then a number");
 static_assert(sizeof(der_attribute_type_and_value_at) == 3 * sizeof(der_place), "places alone");
 static_assert(sizeof(der_attribute_at) == 3 * sizeof(der_place), "places alone");
 
@@ -74,6 +81,13 @@ READS(certificate_list, 10, 3)
 READS(subject_public_key_info, 2, 0)
 READS(private_key_info, 5, 1)
 READS(revoked_certificate, 4, 1)
+READS(certification_request, 7, 0)
+READS(ocsp_response, 4, 1)
+READS(basic_ocsp_response, 9, 1)
+READS(single_response, 6, 4)
+READS(content_info, 2, 0)
+READS(signed_data, 8, 1)
+READS(signer_info, 8, 1)
 READS(attribute_type_and_value, 3, 0)
 READS(attribute, 3, 0)
 
@@ -140,6 +154,13 @@ static PyMethodDef methods[] = {
     {"subject_public_key_info", read_subject_public_key_info, METH_O, "2 places"},
     {"private_key_info", read_private_key_info, METH_O, "5 places and the version"},
     {"revoked_certificate", read_revoked_certificate, METH_O, "4 places and revocationDate, of the entry at the front"},
+    {"certification_request", read_certification_request, METH_O, "7 places"},
+    {"ocsp_response", read_ocsp_response, METH_O, "4 places and the status"},
+    {"basic_ocsp_response", read_basic_ocsp_response, METH_O, "9 places and producedAt"},
+    {"single_response", read_single_response, METH_O, "6 places, thisUpdate, nextUpdate, revocationTime and certStatus, of the answer at the front"},
+    {"content_info", read_content_info, METH_O, "2 places"},
+    {"signed_data", read_signed_data, METH_O, "8 places and the version"},
+    {"signer_info", read_signer_info, METH_O, "8 places and the version, of the signer at the front"},
     {"attribute_type_and_value", read_attribute_type_and_value, METH_O, "3 places, of the attribute at the front"},
     {"attribute", read_attribute, METH_O, "3 places, of the attribute at the front"},
     {"extension", read_extension, METH_O, "4 places and critical, of the extension at the front"},

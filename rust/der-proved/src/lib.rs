@@ -1,4 +1,5 @@
-//! DER of certificates, lists of revoked ones, keys, proved: which octets are taken, and where each field stands.
+//! DER of certificates, lists of revoked ones, keys, requests, answers about the status of certificates
+//! and signed messages, proved: which octets are taken, and where each field stands.
 //!
 //! A value borrows the octets that it was read from, and a field is a slice of them: its whole
 //! encoding. Nothing is copied, and no signature is verified. The code that reads is Barleypulley's
@@ -23,13 +24,19 @@
 mod attribute;
 mod certificate;
 mod certificate_list;
+mod cms;
 mod error;
 mod key;
+mod ocsp;
 mod place;
+mod request;
 
 pub use attribute::{Attribute, AttributeTypeAndValue, Attributes, Name};
 pub use certificate::{Certificate, Extension, Extensions};
 pub use certificate_list::{CertificateList, RevokedCertificate, RevokedCertificates};
+pub use cms::{ContentInfo, SignedData, SignerInfo, SignerInfos};
 pub use error::Error;
 pub use key::{PrivateKeyInfo, SubjectPublicKeyInfo};
+pub use ocsp::{BasicOcspResponse, CertStatus, OcspResponse, SingleResponse, SingleResponses};
 pub use place::{contents, signed_octets};
+pub use request::CertificationRequest;
