@@ -21,9 +21,10 @@ ROOT = os.path.dirname(os.path.dirname(os.path.abspath(__file__)))
 SYSTEM = "/etc/ssl/certs/ca-certificates.crt"
 # what the shared object may ask of the C library, and of the linker
 ASKED = re.compile(r"^(malloc|realloc|free|mem(cpy|move|set|cmp)|bcmp|_ITM_.*|__gmon_start__|__cxa_finalize|__stack_chk_fail)$")
-CALLS = """abi_version attribute attribute_type_and_value basic_ocsp_response certificate certificate_list
-certification_request content_info contents extension next_encoding number_text ocsp_response private_key_info
-revoked_certificate signed_data signed_octets signer_info single_response subject_public_key_info""".split()
+CALLS = """abi_version attribute attribute_type_and_value basic_ocsp_response canonical certificate certificate_list
+certification_request check_rfc5280 check_rfc5280_list content_info contents extension next_encoding number_text
+ocsp_response private_key_info revoked_certificate signed_data signed_octets signer_info single_response
+subject_public_key_info""".split()
 
 
 class Trials:
@@ -138,8 +139,10 @@ def try_c(trials, room, sample, files):
     make = ["make", "-s", "-C", f"{ROOT}/c", f"BUILD={room}/build", f"OBJECT={room}/proved.a"]
     trials.run("make", make)
     trials.run("make install", [*make, "install", f"DESTDIR={room}/installed"])
-    trials.run("make build/calls", [*make, f"{room}/build/calls"])
-    trials.run("calls from C", [f"{room}/build/calls", sample])
+    names = {"calls": "calls from C", "canonical": "canonical encodings from C", "rules": "rules of RFC 5280 from C"}
+    for name, what in names.items():
+        trials.run(f"make build/{name}", [*make, f"{room}/build/{name}"])
+        trials.run(what, [f"{room}/build/{name}", sample])
     trials.run("the example in C", [f"{room}/build/certificate", sample])
     if subprocess.run(["cc", "-E", "-x", "c", "-"], input="#include <openssl/x509.h>\n", text=True, capture_output=True).returncode:
         trials.left_out("C beside OpenSSL", "openssl/x509.h")
@@ -148,8 +151,9 @@ def try_c(trials, room, sample, files):
             trials.run(f"make build/{name}", [*make, f"{room}/build/{name}"])
             print(trials.run(f"C: {name}", [f"{room}/build/{name}", *files]), end="")
     if shutil.which("valgrind"):
-        words = ["valgrind", "-q", "--error-exitcode=9", "--leak-check=full", f"{room}/build/calls", sample]
-        trials.run("calls under valgrind", words)
+        for name, what in names.items():
+            words = ["valgrind", "-q", "--error-exitcode=9", "--leak-check=full", f"{room}/build/{name}", sample]
+            trials.run(f"{what}, under valgrind", words)
     else:
         trials.left_out("calls under valgrind", "valgrind")
     if shutil.which("c++"):

@@ -1,5 +1,6 @@
 /* DER of certificates, lists of revoked ones, keys, requests, answers about the status of certificates and signed messages,
- * proved: which octets are taken, and where each field stands.
+ * proved: which octets are taken, where each field stands, which rules of RFC 5280 are broken, and the canonical encoding by
+ * the name of a type.
  *
  * A call reads octets that the caller owns and keeps nothing of them. It has no state that is shared, takes no lock, and
  * always returns. What it gives are numbers, so nothing has to be freed. Calls may run on several threads at once.
@@ -10,9 +11,10 @@
  * What a caller owes, which no compiler checks:
  *   - a pointer with a length points to so many octets, which nothing writes during the call (a null pointer with length
  *     0 stands for no octets, and with another it is refused, 101);
- *   - `out`, `fault` and the octets do not overlap;
+ *   - `out`, `fault`, a room and the octets do not overlap;
  *   - no call from a signal handler, or in a process that was forked from one with threads: the calls that read lists (of
- *     extensions, entries, attributes, answers, signers) take memory from malloc, and give it back.
+ *     extensions, entries, attributes, answers, signers) take memory from malloc, and give it back; so do der_canonical and
+ *     the calls that check.
  */
 #ifndef DER_H
 #define DER_H
@@ -48,7 +50,51 @@ enum der_number {
     DER_INDEFINITE_LENGTH = 16, /* an indefinite length */
     DER_FAILED = 17,            /* refused before */
     DER_BAD_PLACE = 100,        /* a place that is not within the octets */
-    DER_NULL_POINTER = 101      /* a null pointer with a length that is not 0 */
+    DER_NULL_POINTER = 101,     /* a null pointer with a length that is not 0 */
+    DER_UNKNOWN_NAME = 102,     /* no type has the name */
+    DER_SHORT_ROOM = 103        /* a room that is too short for what is written */
+};
+
+/* The rules of RFC 5280 that stand beyond the grammar, as bits of what der_check_rfc5280 writes: a bit is 1 where the
+ * certificate breaks the rule. */
+enum der_certificate_rule {
+    DER_CERTIFICATE_ALGORITHMS_AGREE = 1 << 0,         /* 4.1.1.2, 4.1.2.3: the algorithm within is the one outside */
+    DER_CERTIFICATE_EXTENSIONS_IN_VERSION_3 = 1 << 1,  /* 4.1.2.1: extensions stand in version 3 alone */
+    DER_CERTIFICATE_SERIAL_NUMBER_POSITIVE = 1 << 2,   /* 4.1.2.2: the serial number is positive */
+    DER_CERTIFICATE_SERIAL_NUMBER_AT_MOST_20_OCTETS = 1 << 3, /* 4.1.2.2: and has at most 20 octets */
+    DER_CERTIFICATE_ISSUER_NOT_EMPTY = 1 << 4,         /* 4.1.2.4: the issuer is not empty */
+    DER_CERTIFICATE_EMPTY_SUBJECT_HAS_CRITICAL_ALT_NAME = 1 << 5, /* 4.1.2.6: beside an empty subject stands a
+                                                                     subjectAltName that is critical */
+    DER_CERTIFICATE_UNIQUE_IDENTIFIERS_IN_VERSION_2 = 1 << 6, /* 4.1.2.8: unique identifiers stand in version 2 and 3 alone */
+    DER_CERTIFICATE_EXTENSIONS_STAND_ONCE = 1 << 7,    /* 4.2: each extension stands once */
+    DER_CERTIFICATE_AUTHORITY_KEY_IDENTIFIER_NOT_CRITICAL = 1 << 8, /* 4.2.1.1: it is not critical */
+    DER_CERTIFICATE_SUBJECT_KEY_IDENTIFIER_NOT_CRITICAL = 1 << 9,   /* 4.2.1.2: it is not critical */
+    DER_CERTIFICATE_SUBJECT_DIRECTORY_ATTRIBUTES_NOT_CRITICAL = 1 << 10, /* 4.2.1.8: they are not critical */
+    DER_CERTIFICATE_FRESHEST_CRL_NOT_CRITICAL = 1 << 11,            /* 4.2.1.15: it is not critical */
+    DER_CERTIFICATE_AUTHORITY_INFO_ACCESS_NOT_CRITICAL = 1 << 12,   /* 4.2.2.1: it is not critical */
+    DER_CERTIFICATE_SUBJECT_INFO_ACCESS_NOT_CRITICAL = 1 << 13,     /* 4.2.2.2: it is not critical */
+    DER_CERTIFICATE_BASIC_CONSTRAINTS_OF_CA_CRITICAL = 1 << 14,     /* 4.2.1.9: those of a CA are critical */
+    DER_CERTIFICATE_NAME_CONSTRAINTS_CRITICAL = 1 << 15,            /* 4.2.1.10: they are critical */
+    DER_CERTIFICATE_POLICY_CONSTRAINTS_CRITICAL = 1 << 16,          /* 4.2.1.11: they are critical */
+    DER_CERTIFICATE_INHIBIT_ANY_POLICY_CRITICAL = 1 << 17           /* 4.2.1.14: it is critical */
+};
+
+/* The same of lists of revoked certificates, as bits of what der_check_rfc5280_list writes. */
+enum der_list_rule {
+    DER_LIST_ALGORITHMS_AGREE = 1 << 0,        /* 5.1.1.2, 5.1.2.2: the algorithm within is the one outside */
+    DER_LIST_EXTENSIONS_IN_VERSION_2 = 1 << 1, /* 5.1.2.1: extensions, of the list or of an entry, stand in version 2 alone */
+    DER_LIST_ISSUER_NOT_EMPTY = 1 << 2,        /* 5.1.2.3: the issuer is not empty */
+    DER_LIST_NEXT_UPDATE_THERE = 1 << 3,       /* 5.1.2.5: nextUpdate is there */
+    DER_LIST_EMPTY_LIST_ABSENT = 1 << 4,       /* 5.1.2.6: a list of no revoked certificates is absent */
+    DER_LIST_EXTENSIONS_STAND_ONCE = 1 << 5,   /* 5.2: each extension of the list stands once */
+    DER_LIST_CRL_NUMBER_NOT_CRITICAL = 1 << 6, /* 5.2.3: it is not critical */
+    DER_LIST_DELTA_CRL_INDICATOR_CRITICAL = 1 << 7,         /* 5.2.4: it is critical */
+    DER_LIST_ISSUING_DISTRIBUTION_POINT_CRITICAL = 1 << 8,  /* 5.2.5: it is critical */
+    DER_LIST_FRESHEST_CRL_NOT_CRITICAL = 1 << 9,            /* 5.2.6: it is not critical */
+    DER_LIST_AUTHORITY_INFO_ACCESS_NOT_CRITICAL = 1 << 10,  /* 5.2.7: it is not critical */
+    DER_LIST_REASON_CODE_NOT_CRITICAL = 1 << 11,            /* 5.3.1: that of an entry is not critical */
+    DER_LIST_INVALIDITY_DATE_NOT_CRITICAL = 1 << 12,        /* 5.3.2: that of an entry is not critical */
+    DER_LIST_CERTIFICATE_ISSUER_CRITICAL = 1 << 13          /* 5.3.3: that of an entry is critical */
 };
 
 /* Where an encoding stands: its identifier octets, length octets and contents octets. A field that is absent has the place
@@ -339,6 +385,24 @@ uint32_t der_attribute_type_and_value(const uint8_t *octets, size_t len, der_att
 /* Reads the attribute with a set of values at the front of the octets. Its places count from there. */
 uint32_t der_attribute(const uint8_t *octets, size_t len, der_attribute_at *out, der_fault *fault);
 
+/* Reads octets as a certificate, all of them, and writes which rules of RFC 5280 it breaks: 0, or the sum of bits of
+ * der_certificate_rule. No path is checked, no signature, and no other rule. */
+uint32_t der_check_rfc5280(const uint8_t *octets, size_t len, uint32_t *broken, der_fault *fault);
+
+/* The same of a list of revoked certificates, by der_list_rule. */
+uint32_t der_check_rfc5280_list(const uint8_t *octets, size_t len, uint32_t *broken, der_fault *fault);
+
+/* Reads octets as a value of the type with a name, all of them, and writes the value's one encoding to the front of a room,
+ * and to `written` how many octets it has. Where the room is too short (103) nothing is written to it, and `written` says how
+ * many octets it should have; so a first call may have no room. Where the octets are refused, or no type has the name (102),
+ * room and `written` are as they were.
+ *
+ * The names are those of certview lines ("cert", "crl", "spki", "pkcs8", "keyusage" ..) and of derview ("i64", "oid",
+ * "utctime" ..); docs/FORMAT.md has them. What is read is DER, so its encoding is the octets that were read, but of the types
+ * of sets that are read in another order than DER's, and written in order: as many octets in any case. */
+uint32_t der_canonical(const uint8_t *name, size_t name_len, const uint8_t *octets, size_t len, uint8_t *room,
+                       size_t room_len, size_t *written, der_fault *fault);
+
 /* The encoding that begins where a place ends: of a place of no octets, the encoding there. Of octets that hold none the
  * answer is some place within the octets. */
 der_place der_next_encoding(const uint8_t *octets, size_t len, const der_place *last);
@@ -408,6 +472,28 @@ DER_CHECKED(attribute)
 #define der_attribute_type_and_value der_checked_attribute_type_and_value
 #define der_attribute der_checked_attribute
 
+static inline uint32_t der_checked_check_rfc5280(const uint8_t *octets, size_t len, uint32_t *broken, der_fault *fault)
+{
+    return der_is_null(octets, len) ? der_refuse(DER_NULL_POINTER, fault) : der_check_rfc5280(octets, len, broken, fault);
+}
+
+static inline uint32_t der_checked_check_rfc5280_list(const uint8_t *octets, size_t len, uint32_t *broken, der_fault *fault)
+{
+    return der_is_null(octets, len) ? der_refuse(DER_NULL_POINTER, fault) : der_check_rfc5280_list(octets, len, broken, fault);
+}
+
+static inline uint32_t der_checked_canonical(const uint8_t *name, size_t name_len, const uint8_t *octets, size_t len,
+                                             uint8_t *room, size_t room_len, size_t *written, der_fault *fault)
+{
+    if (der_is_null(name, name_len) || der_is_null(octets, len) || der_is_null(room, room_len))
+        return der_refuse(DER_NULL_POINTER, fault);
+    return der_canonical(name, name_len, octets, len, room, room_len, written, fault);
+}
+
+#define der_check_rfc5280 der_checked_check_rfc5280
+#define der_check_rfc5280_list der_checked_check_rfc5280_list
+#define der_canonical der_checked_canonical
+
 /* The calls that answer a place answer that of no octets. */
 static inline der_place der_checked_contents(const uint8_t *octets, size_t len, const der_place *place)
 {
@@ -428,6 +514,18 @@ static inline der_place der_checked_signed_octets(const uint8_t *octets, size_t 
 #define der_next_encoding der_checked_next_encoding
 #define der_signed_octets der_checked_signed_octets
 #endif
+
+/* The same of a name that ends with an octet 0, as "cert". */
+static inline uint32_t der_canonical_named(const char *name, const uint8_t *octets, size_t len, uint8_t *room,
+                                           size_t room_len, size_t *written, der_fault *fault)
+{
+    size_t name_len = 0;
+    if (name == NULL)
+        return der_refuse(DER_NULL_POINTER, fault);
+    while (name[name_len] != 0)
+        name_len++;
+    return der_canonical((const uint8_t *)name, name_len, octets, len, room, room_len, written, fault);
+}
 
 /* ---- what stands one behind another, with places in the octets of the whole message:
  *

@@ -226,6 +226,42 @@ static void signer(const uint8_t *o, uint32_t size)
     attributes(o, size, s.at.unsigned_attrs);
 }
 
+/* the canonical encoding by a name, between canaries, into a room that may be too short: of what is read all octets are written,
+ * and else none */
+static void canonical(const char *name, const uint8_t *o, uint32_t size, uint32_t room_len)
+{
+    static uint8_t room[ROOM + 16];
+    size_t written = SIZE_MAX;
+    der_fault fault;
+    uint32_t answer, i;
+    memset(room, 0x5a, sizeof room);
+    answer = der_canonical_named(name, o, size, room + 8, room_len, &written, &fault);
+    if (answer == 0)
+        CHECK(written == size && written <= room_len);
+    else if (answer == DER_SHORT_ROOM)
+        CHECK(written == size && written > room_len && fault.number == answer);
+    else
+        CHECK(answer <= 17 && answer == fault.number && written == SIZE_MAX);
+    for (i = 0; i < 8; i++)
+        CHECK(room[i] == 0x5a && room[8 + (answer == 0 ? written : 0) + i] == 0x5a);
+}
+
+/* a certificate is checked where it is read, and is the encoding that is written where no set is out of order */
+static void checked(const uint8_t *o, uint32_t size)
+{
+    der_certificate_at at;
+    der_fault fault, other;
+    uint32_t broken = 0x5a5a5a5a, answer = der_certificate(o, size, &at, &fault);
+    CHECK(der_check_rfc5280(o, size, &broken, &other) == answer);
+    CHECK(answer == 0 ? broken < 1 << 18 : broken == 0x5a5a5a5a && other.number == answer);
+    broken = 0x5a5a5a5a;
+    answer = der_check_rfc5280_list(o, size, &broken, &other);
+    CHECK(answer == 0 ? broken < 1 << 14 : broken == 0x5a5a5a5a && other.number == answer);
+    canonical("cert", o, size, size);
+    canonical("pkcs8", o, size, size / 2);
+    canonical("name", o, size, ROOM);
+}
+
 /* each encoding within, as every message that it might be */
 static void guide(const uint8_t *o, uint32_t size)
 {
@@ -242,6 +278,8 @@ static void guide(const uint8_t *o, uint32_t size)
         signer(o + at, size - at);
         basic(o + at, length);
         signed_data(o + at, length);
+        canonical("ext", o + at, length, length);
+        canonical("intref", o + at, length, length);
         at += (o[at] & 0x20) != 0 ? header : length;
     }
 }
@@ -283,6 +321,7 @@ int LLVMFuzzerTestOneInput(const uint8_t *data, size_t size)
     status(o, (uint32_t)size);
     basic(o, (uint32_t)size);
     content_info(o, (uint32_t)size);
+    checked(o, (uint32_t)size);
     guide(o, (uint32_t)size);
     any_place(o, (uint32_t)size);
     CHECK(der_is_within(size, der_signed_octets(o, size)));

@@ -65,9 +65,22 @@ class BesideCryptography(unittest.TestCase):
                 self.assertEqual(bytes(one.value), other.value.value)
         return len(found)
 
+    def compare_rules(self, octets: bytes, other) -> None:
+        broken = derproved.check_rfc5280(octets)
+        rule = derproved.CertificateRule
+        self.assertEqual(rule.SERIAL_NUMBER_IS_POSITIVE in broken, other.serial_number <= 0)
+        self.assertEqual(rule.ISSUER_IS_NOT_EMPTY in broken, not list(other.issuer))
+        self.assertEqual(rule.EXTENSIONS_IN_VERSION_3 in broken, len(other.extensions) > 0 and other.version.value != 2)
+        uncritical = {e.oid.dotted_string for e in other.extensions if not e.critical}
+        self.assertEqual(rule.NAME_CONSTRAINTS_IS_CRITICAL in broken, "2.5.29.30" in uncritical)
+        critical = {e.oid.dotted_string for e in other.extensions if e.critical}
+        self.assertEqual(rule.AUTHORITY_KEY_IDENTIFIER_IS_NOT_CRITICAL in broken, "2.5.29.35" in critical)
+
     def compare_certificate(self, octets: bytes, other) -> None:
         own = derproved.Certificate(octets)
         self.assertEqual(bytes(own), octets)
+        self.assertEqual(derproved.canonical("cert", octets), octets)
+        self.compare_rules(octets, other)
         self.assertEqual(bytes(own.tbs_certificate), other.tbs_certificate_bytes)
         self.assertEqual(bytes(derproved.signed_octets(octets)), other.tbs_certificate_bytes)
         self.assertEqual(bytes(derproved.contents(own.signature_value))[1:], other.signature)
@@ -231,6 +244,30 @@ class Calls(unittest.TestCase):
             with self.assertRaises(derproved.Error) as caught:
                 list(derproved.name_attributes(bytes.fromhex(octets)))
             self.assertEqual(caught.exception.args[0], number)
+
+    def test_canonical(self) -> None:
+        self.assertEqual(derproved.canonical("spki", KEY), KEY)
+        self.assertEqual(derproved.canonical("u16", bytearray(b"\x02\x01\x05")), b"\x02\x01\x05")
+        self.assertEqual(derproved.canonical("opt-u8", b""), b"")
+        unordered, ordered = bytes.fromhex("3106020108020107"), bytes.fromhex("3106020107020108")
+        self.assertEqual(derproved.canonical("setvec-u16", unordered), ordered)
+        for name, octets, number in [("u17", KEY, 102), ("", b"", 102), ("cert", KEY, 4), ("u16", b"\x02\x00", 7), ("u16", b"", 2)]:
+            with self.assertRaises(derproved.Error) as caught:
+                derproved.canonical(name, octets)
+            self.assertEqual(caught.exception.args[0], number)
+        self.assertRaises(TypeError, derproved.canonical, "u16", "text")
+
+    def test_rules_of_lists(self) -> None:
+        list_text = "302c3022300306012a300c310a300806035504030c0161170d3236303130313030303030305a300306012a030100"
+        octets = bytearray.fromhex(list_text)
+        self.assertEqual(derproved.check_rfc5280_list(octets), derproved.ListRule.NEXT_UPDATE_IS_THERE)
+        octets[-4] += 1
+        broken = derproved.ListRule.NEXT_UPDATE_IS_THERE | derproved.ListRule.ALGORITHMS_AGREE
+        self.assertEqual(derproved.check_rfc5280_list(octets), broken)
+        with self.assertRaises(derproved.Error) as caught:
+            derproved.check_rfc5280(octets)
+        self.assertEqual(caught.exception.args[0], 4)
+        self.assertEqual((len(derproved.CertificateRule), len(derproved.ListRule)), (18, 14))
 
     def test_any_octets_have_some_contents(self) -> None:
         for octets in [b"", b"0", b"\xff" * 9, bytes.fromhex("3084ffffffff")]:

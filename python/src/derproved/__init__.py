@@ -1,8 +1,9 @@
 """DER of certificates, lists of revoked ones, keys, requests, answers about the status of certificates and signed messages,
-proved: which octets are taken, and where each field stands.
+proved: which octets are taken, where each field stands, which rules of RFC 5280 are broken, and the canonical encoding by
+the name of a type.
 
 A value keeps the octets that it was read from, and a field is a memoryview of them: its whole encoding. Nothing is
-copied, and no signature is verified. The code that reads is Barleypulley's der_c; this package, which calls it, is not
+copied but by canonical, and no signature is verified. The code that reads is Barleypulley's der_c; this package, which calls it, is not
 proved.
 
     >>> import derproved
@@ -20,7 +21,7 @@ from __future__ import annotations
 
 from collections.abc import Iterator
 from datetime import datetime, timedelta, timezone
-from enum import Enum
+from enum import Enum, IntFlag
 
 from . import _der
 from ._der import Error
@@ -32,10 +33,12 @@ __all__ = [
     "CertStatus",
     "Certificate",
     "CertificateList",
+    "CertificateRule",
     "CertificationRequest",
     "ContentInfo",
     "Error",
     "Extension",
+    "ListRule",
     "OcspResponse",
     "PrivateKeyInfo",
     "RevokedCertificate",
@@ -44,6 +47,9 @@ __all__ = [
     "SingleResponse",
     "SubjectPublicKeyInfo",
     "attributes",
+    "canonical",
+    "check_rfc5280",
+    "check_rfc5280_list",
     "contents",
     "name_attributes",
     "signed_octets",
@@ -552,3 +558,97 @@ class SignedData(_Message):
             signer = SignerInfo(items)
             yield signer
             items = items[signer._at[1] :]
+
+
+class CertificateRule(IntFlag):
+    """A rule of RFC 5280 for certificates that stands beyond the grammar."""
+
+    ALGORITHMS_AGREE = 1 << 0
+    """The algorithm within is the one outside (4.1.1.2)."""
+    EXTENSIONS_IN_VERSION_3 = 1 << 1
+    """Extensions stand in version 3 alone (4.1.2.1)."""
+    SERIAL_NUMBER_IS_POSITIVE = 1 << 2
+    """The serial number is positive (4.1.2.2)."""
+    SERIAL_NUMBER_HAS_AT_MOST_20_OCTETS = 1 << 3
+    """The serial number has at most 20 octets (4.1.2.2)."""
+    ISSUER_IS_NOT_EMPTY = 1 << 4
+    """The issuer is not empty (4.1.2.4)."""
+    EMPTY_SUBJECT_HAS_CRITICAL_ALT_NAME = 1 << 5
+    """Beside an empty subject stands a subjectAltName that is critical (4.1.2.6)."""
+    UNIQUE_IDENTIFIERS_IN_VERSION_2 = 1 << 6
+    """Unique identifiers stand in version 2 and 3 alone (4.1.2.8)."""
+    EXTENSIONS_STAND_ONCE = 1 << 7
+    """Each extension stands once (4.2)."""
+    AUTHORITY_KEY_IDENTIFIER_IS_NOT_CRITICAL = 1 << 8
+    """authorityKeyIdentifier is not critical (4.2.1.1)."""
+    SUBJECT_KEY_IDENTIFIER_IS_NOT_CRITICAL = 1 << 9
+    """subjectKeyIdentifier is not critical (4.2.1.2)."""
+    SUBJECT_DIRECTORY_ATTRIBUTES_IS_NOT_CRITICAL = 1 << 10
+    """subjectDirectoryAttributes is not critical (4.2.1.8)."""
+    FRESHEST_CRL_IS_NOT_CRITICAL = 1 << 11
+    """freshestCRL is not critical (4.2.1.15)."""
+    AUTHORITY_INFO_ACCESS_IS_NOT_CRITICAL = 1 << 12
+    """authorityInfoAccess is not critical (4.2.2.1)."""
+    SUBJECT_INFO_ACCESS_IS_NOT_CRITICAL = 1 << 13
+    """subjectInfoAccess is not critical (4.2.2.2)."""
+    BASIC_CONSTRAINTS_OF_CA_IS_CRITICAL = 1 << 14
+    """basicConstraints of a CA is critical (4.2.1.9)."""
+    NAME_CONSTRAINTS_IS_CRITICAL = 1 << 15
+    """nameConstraints is critical (4.2.1.10)."""
+    POLICY_CONSTRAINTS_IS_CRITICAL = 1 << 16
+    """policyConstraints is critical (4.2.1.11)."""
+    INHIBIT_ANY_POLICY_IS_CRITICAL = 1 << 17
+    """inhibitAnyPolicy is critical (4.2.1.14)."""
+
+
+class ListRule(IntFlag):
+    """A rule of RFC 5280 for lists of revoked certificates."""
+
+    ALGORITHMS_AGREE = 1 << 0
+    """The algorithm within is the one outside (5.1.1.2)."""
+    EXTENSIONS_IN_VERSION_2 = 1 << 1
+    """Extensions, of the list or of an entry, stand in version 2 alone (5.1.2.1)."""
+    ISSUER_IS_NOT_EMPTY = 1 << 2
+    """The issuer is not empty (5.1.2.3)."""
+    NEXT_UPDATE_IS_THERE = 1 << 3
+    """nextUpdate is there (5.1.2.5)."""
+    EMPTY_LIST_IS_ABSENT = 1 << 4
+    """A list of no revoked certificates is absent (5.1.2.6)."""
+    EXTENSIONS_STAND_ONCE = 1 << 5
+    """Each extension of the list stands once (5.2)."""
+    CRL_NUMBER_IS_NOT_CRITICAL = 1 << 6
+    """cRLNumber is not critical (5.2.3)."""
+    DELTA_CRL_INDICATOR_IS_CRITICAL = 1 << 7
+    """deltaCRLIndicator is critical (5.2.4)."""
+    ISSUING_DISTRIBUTION_POINT_IS_CRITICAL = 1 << 8
+    """issuingDistributionPoint is critical (5.2.5)."""
+    FRESHEST_CRL_IS_NOT_CRITICAL = 1 << 9
+    """freshestCRL is not critical (5.2.6)."""
+    AUTHORITY_INFO_ACCESS_IS_NOT_CRITICAL = 1 << 10
+    """authorityInfoAccess is not critical (5.2.7)."""
+    REASON_CODE_IS_NOT_CRITICAL = 1 << 11
+    """reasonCode of an entry is not critical (5.3.1)."""
+    INVALIDITY_DATE_IS_NOT_CRITICAL = 1 << 12
+    """invalidityDate of an entry is not critical (5.3.2)."""
+    CERTIFICATE_ISSUER_IS_CRITICAL = 1 << 13
+    """certificateIssuer of an entry is critical (5.3.3)."""
+
+
+def check_rfc5280(octets: Octets) -> CertificateRule:
+    """The rules that a certificate breaks, which all of the octets are; 0 for none."""
+    return CertificateRule(_der.check_rfc5280(octets))
+
+
+def check_rfc5280_list(octets: Octets) -> ListRule:
+    """The rules that a list of revoked certificates breaks, which all of the octets are; 0 for none."""
+    return ListRule(_der.check_rfc5280_list(octets))
+
+
+def canonical(name: str, octets: Octets) -> bytes:
+    """The one encoding of the value that all of the octets are, as the type with a name: those of `certview lines`, as cert,
+    and of `derview`, as i64. It is the octets that were read, but of the types of sets that are read in another order than
+    DER's, and written in order.
+
+    Error has the number 102 where no type has the name.
+    """
+    return _der.canonical(name, octets)

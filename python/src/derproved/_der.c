@@ -109,6 +109,53 @@ static PyObject *read_extension(PyObject *module, PyObject *argument)
     return told(&at.whole, 4, &is_critical, 1);
 }
 
+/* A call that checks what RFC 5280 asks: the rules that are broken, as bits. */
+#define CHECKS(name)                                                  \
+    static PyObject *name(PyObject *module, PyObject *argument)       \
+    {                                                                 \
+        Py_buffer view;                                               \
+        der_fault fault;                                              \
+        uint32_t broken, answer;                                      \
+        (void)module;                                                 \
+        if (PyObject_GetBuffer(argument, &view, PyBUF_SIMPLE) != 0)   \
+            return NULL;                                              \
+        answer = call_##name(view.buf, (size_t)view.len, &broken, &fault); \
+        PyBuffer_Release(&view);                                      \
+        return answer != 0 ? refuse(&fault) : PyLong_FromUnsignedLong(broken); \
+    }
+
+#define call_check_rfc5280 der_check_rfc5280
+#define call_check_rfc5280_list der_check_rfc5280_list
+CHECKS(check_rfc5280)
+CHECKS(check_rfc5280_list)
+
+/* the canonical encoding of what octets encode as the type with a name: a room of as many octets serves */
+static PyObject *canonical(PyObject *module, PyObject *arguments)
+{
+    const char *name;
+    Py_ssize_t name_len;
+    Py_buffer view;
+    PyObject *found;
+    der_fault fault;
+    size_t written = 0;
+    uint32_t answer;
+    char *room;
+    (void)module;
+    if (!PyArg_ParseTuple(arguments, "s#y*", &name, &name_len, &view))
+        return NULL;
+    room = PyMem_Malloc(view.len > 0 ? (size_t)view.len : 1);
+    if (room == NULL) {
+        PyBuffer_Release(&view);
+        return PyErr_NoMemory();
+    }
+    answer = der_canonical((const uint8_t *)name, (size_t)name_len, view.buf, (size_t)view.len, (uint8_t *)room,
+                           (size_t)view.len, &written, &fault);
+    found = answer != 0 ? refuse(&fault) : PyBytes_FromStringAndSize(room, (Py_ssize_t)written);
+    PyMem_Free(room);
+    PyBuffer_Release(&view);
+    return found;
+}
+
 static PyObject *contents(PyObject *module, PyObject *argument)
 {
     Py_buffer view;
@@ -164,6 +211,9 @@ static PyMethodDef methods[] = {
     {"attribute_type_and_value", read_attribute_type_and_value, METH_O, "3 places, of the attribute at the front"},
     {"attribute", read_attribute, METH_O, "3 places, of the attribute at the front"},
     {"extension", read_extension, METH_O, "4 places and critical, of the extension at the front"},
+    {"check_rfc5280", check_rfc5280, METH_O, "the rules that a certificate breaks, as bits"},
+    {"check_rfc5280_list", check_rfc5280_list, METH_O, "the rules that a list breaks, as bits"},
+    {"canonical", canonical, METH_VARARGS, "the canonical encoding by the name of a type"},
     {"first_encoding", first_encoding, METH_O, "the place of the encoding at the front"},
     {"contents", contents, METH_O, "the place of the contents octets"},
     {"signed_octets", signed_octets, METH_O, "the place of what a signature covers"},

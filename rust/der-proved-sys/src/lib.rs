@@ -276,6 +276,18 @@ extern "C" {
         fault: *mut Fault,
     ) -> u32;
     pub fn der_attribute(octets: *const u8, len: usize, out: *mut AttributeAt, fault: *mut Fault) -> u32;
+    pub fn der_check_rfc5280(octets: *const u8, len: usize, broken: *mut u32, fault: *mut Fault) -> u32;
+    pub fn der_check_rfc5280_list(octets: *const u8, len: usize, broken: *mut u32, fault: *mut Fault) -> u32;
+    pub fn der_canonical(
+        name: *const u8,
+        name_len: usize,
+        octets: *const u8,
+        len: usize,
+        room: *mut u8,
+        room_len: usize,
+        written: *mut usize,
+        fault: *mut Fault,
+    ) -> u32;
     pub fn der_next_encoding(octets: *const u8, len: usize, last: *const Place) -> Place;
     pub fn der_contents(octets: *const u8, len: usize, place: *const Place) -> Place;
     pub fn der_signed_octets(octets: *const u8, len: usize) -> Place;
