@@ -230,11 +230,11 @@ static void signer(const uint8_t *o, uint32_t size)
  * and else none */
 static void canonical(const char *name, const uint8_t *o, uint32_t size, uint32_t room_len)
 {
-    static uint8_t room[ROOM + 16];
+    static uint8_t room[ROOM + 32];
     size_t written = SIZE_MAX;
     der_fault fault;
     uint32_t answer, i;
-    memset(room, 0x5a, sizeof room);
+    memset(room, 0x5a, room_len + 16);
     answer = der_canonical_named(name, o, size, room + 8, room_len, &written, &fault);
     if (answer == 0)
         CHECK(written == size && written <= room_len);
@@ -259,7 +259,7 @@ static void checked(const uint8_t *o, uint32_t size)
     CHECK(answer == 0 ? broken < 1 << 14 : broken == 0x5a5a5a5a && other.number == answer);
     canonical("cert", o, size, size);
     canonical("pkcs8", o, size, size / 2);
-    canonical("name", o, size, ROOM);
+    canonical("name", o, size, size + 8);
 }
 
 /* each encoding within, as every message that it might be */
