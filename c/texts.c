@@ -27,5 +27,9 @@ const char *der_number_text(uint32_t number)
         return "a place that is not within the octets";
     if (number == DER_NULL_POINTER)
         return "a null pointer with a length";
+    if (number == DER_UNKNOWN_NAME)
+        return "no type has the name";
+    if (number == DER_SHORT_ROOM)
+        return "a room that is too short";
     return number < sizeof texts / sizeof texts[0] ? texts[number] : "no such number";
 }

@@ -21,8 +21,10 @@ ROOT = os.path.dirname(os.path.dirname(os.path.abspath(__file__)))
 SYSTEM = "/etc/ssl/certs/ca-certificates.crt"
 # what the shared object may ask of the C library, and of the linker
 ASKED = re.compile(r"^(malloc|realloc|free|mem(cpy|move|set|cmp)|bcmp|_ITM_.*|__gmon_start__|__cxa_finalize|__stack_chk_fail)$")
-CALLS = """abi_version attribute attribute_type_and_value certificate certificate_list contents extension next_encoding
-number_text private_key_info revoked_certificate signed_octets subject_public_key_info""".split()
+CALLS = """abi_version attribute attribute_type_and_value basic_ocsp_response canonical certificate certificate_list
+certification_request check_rfc5280 check_rfc5280_list content_info contents extension next_encoding number_text
+ocsp_response private_key_info revoked_certificate signed_data signed_octets signer_info single_response
+subject_public_key_info""".split()
 
 
 class Trials:
@@ -63,8 +65,26 @@ def write_files(text, label, folder):
     return names
 
 
+def make_answers(room):
+    """Answers about the status of three certificates, with and without the responder's, and one with no answer; their files."""
+    answers = {"answer": [], "short": ["-resp_no_certs", "-resp_key_id"]}
+    numbers = [word for number in ("0x01", "0xFF", "0x02", "0x03") for word in ("-serial", number)]
+    asked = ["openssl", "ocsp", "-issuer", "own.pem", *numbers, "-reqout", "asked", "-no_nonce"]
+    subprocess.run(asked, cwd=room, check=True, capture_output=True)
+    for name, words in answers.items():
+        told = ["openssl", "ocsp", "-index", "index", "-CA", "own.pem", "-rsigner", "own.pem", "-rkey", "ec.pem", "-ndays", "7"]
+        subprocess.run([*told, "-reqin", "asked", "-respout", name, *words], cwd=room, check=True, capture_output=True)
+    found = [open(f"{room}/{name}", "rb").read() for name in answers]
+    with open(f"{room}/answers.pem", "w", encoding="utf-8") as file:
+        for octets in [*found, bytes.fromhex("30030a0106")]:
+            text = base64.encodebytes(octets).decode()
+            file.write(f"-----BEGIN OCSP RESPONSE-----\n{text}-----END OCSP RESPONSE-----\n")
+    return [f"{room}/answers.pem"]
+
+
 def make_messages(room):
-    """A certificate, a list with two entries, and keys of three kinds, which the openssl command writes; their files."""
+    """A certificate, a list with two entries, keys of three kinds, requests, signed messages and answers about the status of
+    certificates, which the openssl command writes; their files."""
     with open(f"{room}/ca.cnf", "w", encoding="utf-8") as file:
         file.write(
             "[req]\ndistinguished_name=name\n[name]\n[ca]\ndefault_ca=own\n[own]\ndatabase=index\ncrlnumber=number\n"
@@ -74,6 +94,7 @@ def make_messages(room):
     with open(f"{room}/index", "w", encoding="utf-8") as file:
         file.write("R\t360101000000Z\t260102030405Z,keyCompromise\t01\tunknown\t/CN=one\n")
         file.write("R\t360101000000Z\t260102030406Z\t00FF\tunknown\t/CN=two\n")
+        file.write("V\t360101000000Z\t\t02\tunknown\t/CN=three\n")
     with open(f"{room}/number", "w", encoding="utf-8") as file:
         file.write("1000\n")
     commands = (
@@ -84,11 +105,15 @@ def make_messages(room):
         "openssl pkey -in rsa.pem -pubout -out rsa-public.pem",
         "openssl req -x509 -new -key ec.pem -config ca.cnf -extensions ext -subj /CN=own -days 30 -out own.pem",
         "openssl ca -gencrl -config ca.cnf -keyfile ec.pem -cert own.pem -out list.pem",
+        "openssl req -new -key ec.pem -config ca.cnf -subj /O=one+OU=two/CN=own -addext subjectAltName=DNS:own -out request.pem",
+        "openssl req -new -key ed.pem -config ca.cnf -subj /CN=bare -out bare.pem",
+        "openssl cms -sign -binary -in ca.cnf -signer own.pem -inkey ec.pem -outform PEM -nodetach -out signed.pem",
+        "openssl cms -sign -binary -in ca.cnf -signer own.pem -inkey ec.pem -outform PEM -nocerts -keyid -out detached.pem",
     )
     for command in commands:
         subprocess.run(command.split(), cwd=room, check=True, capture_output=True)
-    names = "ed ec rsa ec-public rsa-public own list".split()
-    return [f"{room}/{name}.pem" for name in names]
+    names = "ed ec rsa ec-public rsa-public own list request bare signed detached".split()
+    return [f"{room}/{name}.pem" for name in names] + make_answers(room)
 
 
 def try_symbols(trials, room):
@@ -114,8 +139,10 @@ def try_c(trials, room, sample, files):
     make = ["make", "-s", "-C", f"{ROOT}/c", f"BUILD={room}/build", f"OBJECT={room}/proved.a"]
     trials.run("make", make)
     trials.run("make install", [*make, "install", f"DESTDIR={room}/installed"])
-    trials.run("make build/calls", [*make, f"{room}/build/calls"])
-    trials.run("calls from C", [f"{room}/build/calls", sample])
+    names = {"calls": "calls from C", "canonical": "canonical encodings from C", "rules": "rules of RFC 5280 from C"}
+    for name, what in names.items():
+        trials.run(f"make build/{name}", [*make, f"{room}/build/{name}"])
+        trials.run(what, [f"{room}/build/{name}", sample])
     trials.run("the example in C", [f"{room}/build/certificate", sample])
     if subprocess.run(["cc", "-E", "-x", "c", "-"], input="#include <openssl/x509.h>\n", text=True, capture_output=True).returncode:
         trials.left_out("C beside OpenSSL", "openssl/x509.h")
@@ -124,8 +151,9 @@ def try_c(trials, room, sample, files):
             trials.run(f"make build/{name}", [*make, f"{room}/build/{name}"])
             print(trials.run(f"C: {name}", [f"{room}/build/{name}", *files]), end="")
     if shutil.which("valgrind"):
-        words = ["valgrind", "-q", "--error-exitcode=9", "--leak-check=full", f"{room}/build/calls", sample]
-        trials.run("calls under valgrind", words)
+        for name, what in names.items():
+            words = ["valgrind", "-q", "--error-exitcode=9", "--leak-check=full", f"{room}/build/{name}", sample]
+            trials.run(f"{what}, under valgrind", words)
     else:
         trials.left_out("calls under valgrind", "valgrind")
     if shutil.which("c++"):
@@ -238,7 +266,7 @@ def main(words):
         try_c(trials, room, samples[0], files)
         try_symbols(trials, room)
         text = "".join(open(name, encoding="utf-8").read() for name in own)
-        seeds = [name for label in ("X509 CRL") for name in write_files(text, label, room)]
+        seeds = [name for label in ("CERTIFICATE REQUEST", "OCSP RESPONSE", "CMS", "X509 CRL") for name in write_files(text, label, room)]
         try_fuzzer(trials, room, (system or samples) + seeds)
         try_rust(trials, room, system or samples)
         try_python(trials, room, own)

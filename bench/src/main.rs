@@ -9,6 +9,7 @@ mod messages;
 mod of_asn1;
 mod of_der;
 mod peers;
+mod places;
 
 use calls::octets as here;
 use der::asn1::{

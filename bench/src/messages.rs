@@ -3,7 +3,7 @@
 use crate::calls::{self, octets as here};
 use crate::measure::{Candidate, Goal, Plan, Work, by};
 use crate::peers::Peer;
-use crate::{inputs, limit, of_asn1, of_der};
+use crate::{inputs, limit, of_asn1, of_der, places};
 use std::path::{Path, PathBuf};
 
 /// The messages of a file, each after its length in four octets.
@@ -36,7 +36,7 @@ impl Messages {
     }
 }
 
-type Call = fn(&[u8]) -> usize;
+pub type Call = fn(&[u8]) -> usize;
 
 /// A row over the messages of a file. Its candidates are calls for a message, and the call that peers know by a name.
 struct Row<'a> {
@@ -48,7 +48,7 @@ struct Row<'a> {
     of_peers: &'static str,
 }
 
-fn x509_cert(octets: &[u8]) -> usize {
+pub fn x509_cert(octets: &[u8]) -> usize {
     usize::from(<x509_cert::Certificate as x509_cert::der::Decode>::from_der(octets).is_ok())
 }
 
@@ -62,7 +62,7 @@ fn x509_cert_revoked(octets: &[u8]) -> usize {
     list.map_or(0, |list| list.tbs_cert_list.revoked_certificates.map_or(0, |entries| entries.len()))
 }
 
-fn x509_parser(octets: &[u8]) -> usize {
+pub fn x509_parser(octets: &[u8]) -> usize {
     use x509_parser::nom::Parser;
     let mut parser = x509_parser::certificate::X509CertificateParser::new().with_deep_parse_extensions(false);
     usize::from(parser.parse(octets).is_ok())
@@ -159,6 +159,14 @@ pub fn rows(plan: &Plan, room: &Path, peers: &[Peer]) {
     // (what C and Go read is in the rows above: it is certificates with their names)
     for (name, file) in [("certificate, names kept, system", "system"), ("certificate, names kept, leaf", "leaves")] {
         row(name, file, 25, &[("asn1 0.24", 0.7)], &NAMES_KEPT, "none");
+    }
+    // (where the fields stand, as C has them: a walk over the headers is what it cannot do without)
+    let goals = &[("here, headers", 1.5), ("OpenSSL", 1.0), ("x509-cert", 1.0)];
+    for (name, file) in [("places of the fields, system", "system"), ("places of the fields, leaf", "leaves")] {
+        row(name, file, 25, goals, &places::FIELDS, "certificate");
+    }
+    for (name, file) in [("places of each part, system", "system"), ("places of each part, leaf", "leaves")] {
+        row(name, file, 25, goals, &places::EACH_PART, "certificate");
     }
     for (name, file, rounds) in [
         ("revoked entry, 1,000", "revoked-1000", 25),

@@ -1,5 +1,6 @@
-/* DER of certificates, lists of revoked ones, keys,
- * proved: which octets are taken, and where each field stands.
+/* DER of certificates, lists of revoked ones, keys, requests, answers about the status of certificates and signed messages,
+ * proved: which octets are taken, where each field stands, which rules of RFC 5280 are broken, and the canonical encoding by
+ * the name of a type.
  *
  * A call reads octets that the caller owns and keeps nothing of them. It has no state that is shared, takes no lock, and
  * always returns. What it gives are numbers, so nothing has to be freed. Calls may run on several threads at once.
@@ -10,9 +11,10 @@
  * What a caller owes, which no compiler checks:
  *   - a pointer with a length points to so many octets, which nothing writes during the call (a null pointer with length
  *     0 stands for no octets, and with another it is refused, 101);
- *   - `out`, `fault` and the octets do not overlap;
+ *   - `out`, `fault`, a room and the octets do not overlap;
  *   - no call from a signal handler, or in a process that was forked from one with threads: the calls that read lists (of
- *     extensions, entries, attributes, answers, signers) take memory from malloc, and give it back.
+ *     extensions, entries, attributes, answers, signers) take memory from malloc, and give it back; so do der_canonical and
+ *     the calls that check.
  */
 #ifndef DER_H
 #define DER_H
@@ -48,7 +50,51 @@ enum der_number {
     DER_INDEFINITE_LENGTH = 16, /* an indefinite length */
     DER_FAILED = 17,            /* refused before */
     DER_BAD_PLACE = 100,        /* a place that is not within the octets */
-    DER_NULL_POINTER = 101      /* a null pointer with a length that is not 0 */
+    DER_NULL_POINTER = 101,     /* a null pointer with a length that is not 0 */
+    DER_UNKNOWN_NAME = 102,     /* no type has the name */
+    DER_SHORT_ROOM = 103        /* a room that is too short for what is written */
+};
+
+/* The rules of RFC 5280 that stand beyond the grammar, as bits of what der_check_rfc5280 writes: a bit is 1 where the
+ * certificate breaks the rule. */
+enum der_certificate_rule {
+    DER_CERTIFICATE_ALGORITHMS_AGREE = 1 << 0,         /* 4.1.1.2, 4.1.2.3: the algorithm within is the one outside */
+    DER_CERTIFICATE_EXTENSIONS_IN_VERSION_3 = 1 << 1,  /* 4.1.2.1: extensions stand in version 3 alone */
+    DER_CERTIFICATE_SERIAL_NUMBER_POSITIVE = 1 << 2,   /* 4.1.2.2: the serial number is positive */
+    DER_CERTIFICATE_SERIAL_NUMBER_AT_MOST_20_OCTETS = 1 << 3, /* 4.1.2.2: and has at most 20 octets */
+    DER_CERTIFICATE_ISSUER_NOT_EMPTY = 1 << 4,         /* 4.1.2.4: the issuer is not empty */
+    DER_CERTIFICATE_EMPTY_SUBJECT_HAS_CRITICAL_ALT_NAME = 1 << 5, /* 4.1.2.6: beside an empty subject stands a
+                                                                     subjectAltName that is critical */
+    DER_CERTIFICATE_UNIQUE_IDENTIFIERS_IN_VERSION_2 = 1 << 6, /* 4.1.2.8: unique identifiers stand in version 2 and 3 alone */
+    DER_CERTIFICATE_EXTENSIONS_STAND_ONCE = 1 << 7,    /* 4.2: each extension stands once */
+    DER_CERTIFICATE_AUTHORITY_KEY_IDENTIFIER_NOT_CRITICAL = 1 << 8, /* 4.2.1.1: it is not critical */
+    DER_CERTIFICATE_SUBJECT_KEY_IDENTIFIER_NOT_CRITICAL = 1 << 9,   /* 4.2.1.2: it is not critical */
+    DER_CERTIFICATE_SUBJECT_DIRECTORY_ATTRIBUTES_NOT_CRITICAL = 1 << 10, /* 4.2.1.8: they are not critical */
+    DER_CERTIFICATE_FRESHEST_CRL_NOT_CRITICAL = 1 << 11,            /* 4.2.1.15: it is not critical */
+    DER_CERTIFICATE_AUTHORITY_INFO_ACCESS_NOT_CRITICAL = 1 << 12,   /* 4.2.2.1: it is not critical */
+    DER_CERTIFICATE_SUBJECT_INFO_ACCESS_NOT_CRITICAL = 1 << 13,     /* 4.2.2.2: it is not critical */
+    DER_CERTIFICATE_BASIC_CONSTRAINTS_OF_CA_CRITICAL = 1 << 14,     /* 4.2.1.9: those of a CA are critical */
+    DER_CERTIFICATE_NAME_CONSTRAINTS_CRITICAL = 1 << 15,            /* 4.2.1.10: they are critical */
+    DER_CERTIFICATE_POLICY_CONSTRAINTS_CRITICAL = 1 << 16,          /* 4.2.1.11: they are critical */
+    DER_CERTIFICATE_INHIBIT_ANY_POLICY_CRITICAL = 1 << 17           /* 4.2.1.14: it is critical */
+};
+
+/* The same of lists of revoked certificates, as bits of what der_check_rfc5280_list writes. */
+enum der_list_rule {
+    DER_LIST_ALGORITHMS_AGREE = 1 << 0,        /* 5.1.1.2, 5.1.2.2: the algorithm within is the one outside */
+    DER_LIST_EXTENSIONS_IN_VERSION_2 = 1 << 1, /* 5.1.2.1: extensions, of the list or of an entry, stand in version 2 alone */
+    DER_LIST_ISSUER_NOT_EMPTY = 1 << 2,        /* 5.1.2.3: the issuer is not empty */
+    DER_LIST_NEXT_UPDATE_THERE = 1 << 3,       /* 5.1.2.5: nextUpdate is there */
+    DER_LIST_EMPTY_LIST_ABSENT = 1 << 4,       /* 5.1.2.6: a list of no revoked certificates is absent */
+    DER_LIST_EXTENSIONS_STAND_ONCE = 1 << 5,   /* 5.2: each extension of the list stands once */
+    DER_LIST_CRL_NUMBER_NOT_CRITICAL = 1 << 6, /* 5.2.3: it is not critical */
+    DER_LIST_DELTA_CRL_INDICATOR_CRITICAL = 1 << 7,         /* 5.2.4: it is critical */
+    DER_LIST_ISSUING_DISTRIBUTION_POINT_CRITICAL = 1 << 8,  /* 5.2.5: it is critical */
+    DER_LIST_FRESHEST_CRL_NOT_CRITICAL = 1 << 9,            /* 5.2.6: it is not critical */
+    DER_LIST_AUTHORITY_INFO_ACCESS_NOT_CRITICAL = 1 << 10,  /* 5.2.7: it is not critical */
+    DER_LIST_REASON_CODE_NOT_CRITICAL = 1 << 11,            /* 5.3.1: that of an entry is not critical */
+    DER_LIST_INVALIDITY_DATE_NOT_CRITICAL = 1 << 12,        /* 5.3.2: that of an entry is not critical */
+    DER_LIST_CERTIFICATE_ISSUER_CRITICAL = 1 << 13          /* 5.3.3: that of an entry is critical */
 };
 
 /* Where an encoding stands: its identifier octets, length octets and contents octets. A field that is absent has the place
@@ -142,6 +188,99 @@ typedef struct der_private_key_info_at {
     uint64_t version_number;         /* 0 for v1, 1 for v2 */
 } der_private_key_info_at;
 
+/* CertificationRequest (RFC 2986 4.2) */
+typedef struct der_certification_request_at {
+    der_place certification_request_info; /* what the signature covers */
+    der_place signature_algorithm;        /* AlgorithmIdentifier */
+    der_place signature;                  /* BIT STRING */
+
+    /* the fields of certificationRequestInfo */
+    der_place version; /* INTEGER, which is 0 */
+    der_place subject; /* Name */
+    der_place subject_pk_info;
+    der_place attributes; /* with their tag [0] */
+} der_certification_request_at;
+
+/* OCSPResponse (RFC 6960 4.2.1) */
+typedef struct der_ocsp_response_at {
+    der_place response_status; /* ENUMERATED */
+    der_place response_bytes;  /* after their tag [0] */
+
+    /* the fields of responseBytes */
+    der_place response_type; /* OBJECT IDENTIFIER */
+    der_place response;      /* OCTET STRING; der_contents gives what der_basic_ocsp_response reads */
+
+    int64_t response_status_number; /* 0 for successful, 1 to 3, 5 or 6 */
+} der_ocsp_response_at;
+
+/* BasicOCSPResponse (RFC 6960 4.2.1) */
+typedef struct der_basic_ocsp_response_at {
+    der_place tbs_response_data;   /* what the signature covers */
+    der_place signature_algorithm; /* AlgorithmIdentifier */
+    der_place signature;           /* BIT STRING */
+    der_place certs;               /* after their tag [0] */
+
+    /* the fields of tbsResponseData */
+    der_place version;      /* after its tag [0]; absent where it is the default, v1 */
+    der_place responder_id; /* CHOICE: after [1] a Name, after [2] an OCTET STRING */
+    der_place produced_at;  /* GeneralizedTime */
+    der_place responses;
+    der_place response_extensions; /* after their tag [1] */
+
+    uint64_t produced_at_seconds; /* from 1970-01-01T00:00:00Z */
+} der_basic_ocsp_response_at;
+
+/* SingleResponse (RFC 6960 4.2.1) */
+typedef struct der_single_response_at {
+    der_place whole; /* behind it the next one begins */
+    der_place cert_id;
+    der_place cert_status;       /* CHOICE: with its tag [0], [1] or [2] */
+    der_place this_update;       /* GeneralizedTime */
+    der_place next_update;       /* after its tag [0] */
+    der_place single_extensions; /* after their tag [1] */
+
+    uint64_t this_update_seconds;     /* from 1970-01-01T00:00:00Z */
+    uint64_t next_update_seconds;     /* 0 where the field is absent */
+    uint64_t revocation_time_seconds; /* 0 of a certificate that is not revoked */
+    uint64_t cert_status_number;      /* 0 for good, 1 for revoked, 2 for unknown */
+} der_single_response_at;
+
+/* ContentInfo (RFC 5652 section 3) */
+typedef struct der_content_info_at {
+    der_place content_type; /* OBJECT IDENTIFIER */
+    der_place content;      /* after its tag [0]; of id-signedData der_contents gives what der_signed_data reads */
+} der_content_info_at;
+
+/* SignedData (RFC 5652 5.1) */
+typedef struct der_signed_data_at {
+    der_place version; /* INTEGER */
+    der_place digest_algorithms;
+    der_place encap_content_info;
+    der_place certificates; /* with their tag [0] */
+    der_place crls;         /* with their tag [1] */
+    der_place signer_infos;
+
+    /* the fields of encapContentInfo */
+    der_place e_content_type; /* OBJECT IDENTIFIER */
+    der_place e_content;      /* after its tag [0]: an OCTET STRING */
+
+    uint64_t version_number; /* 0 to 5 */
+} der_signed_data_at;
+
+/* SignerInfo (RFC 5652 5.3) */
+typedef struct der_signer_info_at {
+    der_place whole;               /* behind it the next one begins */
+    der_place version;             /* INTEGER */
+    der_place sid;                 /* CHOICE: a SEQUENCE of issuer and serial number, or with its tag [0] a key's identifier */
+    der_place digest_algorithm;    /* AlgorithmIdentifier */
+    der_place signed_attrs;        /* with their tag [0] */
+    der_place signature_algorithm; /* AlgorithmIdentifier */
+    der_place signature;           /* OCTET STRING */
+    der_place unsigned_attrs;      /* with their tag [1] */
+
+    uint64_t version_number; /* 0 to 5 */
+} der_signer_info_at;
+
 /* AttributeTypeAndValue, of a name (RFC 5280 4.1.2.4) */
 typedef struct der_attribute_type_and_value_at {
     der_place whole; /* behind it the next one of the same part begins */
@@ -171,6 +310,22 @@ static_assert(offsetof(der_revoked_certificate_at, revocation_date_seconds) == 3
 static_assert(sizeof(der_subject_public_key_info_at) == 16, "two places");
 static_assert(sizeof(der_private_key_info_at) == 48, "five places and a number of 64 bits");
 static_assert(offsetof(der_private_key_info_at, version_number) == 40, "behind five places");
+static_assert(sizeof(der_certification_request_at) == 56, "seven places");
+static_assert(offsetof(der_certification_request_at, version) == 24, "behind three places");
+static_assert(sizeof(der_ocsp_response_at) == 40, "four places and a number of 64 bits");
+static_assert(offsetof(der_ocsp_response_at, response_type) == 16, "behind two places");
+static_assert(offsetof(der_ocsp_response_at, response_status_number) == 32, "behind four places");
+static_assert(sizeof(der_basic_ocsp_response_at) == 80, "nine places and a number of 64 bits");
+static_assert(offsetof(der_basic_ocsp_response_at, version) == 32, "behind four places");
+static_assert(offsetof(der_basic_ocsp_response_at, produced_at_seconds) == 72, "behind nine places");
+static_assert(sizeof(der_single_response_at) == 80, "six places and four numbers of 64 bits");
+static_assert(offsetof(der_single_response_at, this_update_seconds) == 48, "behind six places");
+static_assert(sizeof(der_content_info_at) == 16, "two places");
+static_assert(sizeof(der_signed_data_at) == 72, "eight places and a number of 64 bits");
+static_assert(offsetof(der_signed_data_at, e_content_type) == 48, "behind six places");
+static_assert(offsetof(der_signed_data_at, version_number) == 64, "behind eight places");
+static_assert(sizeof(der_signer_info_at) == 72, "eight places and a number of 64 bits");
+static_assert(offsetof(der_signer_info_at, version_number) == 64, "behind eight places");
 static_assert(sizeof(der_attribute_type_and_value_at) == 24, "three places");
 static_assert(sizeof(der_attribute_at) == 24, "three places");
 
@@ -200,12 +355,53 @@ uint32_t der_extension(const uint8_t *octets, size_t len, der_extension_at *out,
 /* Reads the entry of a list of revoked certificates at the front of the octets. Its places count from there. */
 uint32_t der_revoked_certificate(const uint8_t *octets, size_t len, der_revoked_certificate_at *out, der_fault *fault);
 
+/* Reads octets as a CertificationRequest, all of them. */
+uint32_t der_certification_request(const uint8_t *octets, size_t len, der_certification_request_at *out, der_fault *fault);
+
+/* Reads octets as an OCSPResponse, all of them. What stands in response is not read further. */
+uint32_t der_ocsp_response(const uint8_t *octets, size_t len, der_ocsp_response_at *out, der_fault *fault);
+
+/* Reads octets as a BasicOCSPResponse, all of them: the contents octets of response, where responseType is
+ * id-pkix-ocsp-basic (1.3.6.1.5.5.7.48.1.1). */
+uint32_t der_basic_ocsp_response(const uint8_t *octets, size_t len, der_basic_ocsp_response_at *out, der_fault *fault);
+
+/* Reads octets as a ContentInfo, all of them. What stands in content is not read further. */
+uint32_t der_content_info(const uint8_t *octets, size_t len, der_content_info_at *out, der_fault *fault);
+
+/* Reads octets as a SignedData, all of them: the contents octets of content, where contentType is id-signedData
+ * (1.2.840.113549.1.7.2). */
+uint32_t der_signed_data(const uint8_t *octets, size_t len, der_signed_data_at *out, der_fault *fault);
+
+/* Reads the answer about one certificate at the front of the octets. Its places count from there. */
+uint32_t der_single_response(const uint8_t *octets, size_t len, der_single_response_at *out, der_fault *fault);
+
+/* Reads the SignerInfo at the front of the octets. Its places count from there. */
+uint32_t der_signer_info(const uint8_t *octets, size_t len, der_signer_info_at *out, der_fault *fault);
+
 /* Reads the attribute of a name at the front of the octets. Its places count from there. */
 uint32_t der_attribute_type_and_value(const uint8_t *octets, size_t len, der_attribute_type_and_value_at *out,
                                       der_fault *fault);
 
 /* Reads the attribute with a set of values at the front of the octets. Its places count from there. */
 uint32_t der_attribute(const uint8_t *octets, size_t len, der_attribute_at *out, der_fault *fault);
+
+/* Reads octets as a certificate, all of them, and writes which rules of RFC 5280 it breaks: 0, or the sum of bits of
+ * der_certificate_rule. No path is checked, no signature, and no other rule. */
+uint32_t der_check_rfc5280(const uint8_t *octets, size_t len, uint32_t *broken, der_fault *fault);
+
+/* The same of a list of revoked certificates, by der_list_rule. */
+uint32_t der_check_rfc5280_list(const uint8_t *octets, size_t len, uint32_t *broken, der_fault *fault);
+
+/* Reads octets as a value of the type with a name, all of them, and writes the value's one encoding to the front of a room,
+ * and to `written` how many octets it has. Where the room is too short (103) nothing is written to it, and `written` says how
+ * many octets it should have; so a first call may have no room. Where the octets are refused, or no type has the name (102),
+ * room and `written` are as they were.
+ *
+ * The names are those of certview lines ("cert", "crl", "spki", "pkcs8", "keyusage" ..) and of derview ("i64", "oid",
+ * "utctime" ..); docs/FORMAT.md has them. What is read is DER, so its encoding is the octets that were read, but of the types
+ * of sets that are read in another order than DER's, and written in order: as many octets in any case. */
+uint32_t der_canonical(const uint8_t *name, size_t name_len, const uint8_t *octets, size_t len, uint8_t *room,
+                       size_t room_len, size_t *written, der_fault *fault);
 
 /* The encoding that begins where a place ends: of a place of no octets, the encoding there. Of octets that hold none the
  * answer is some place within the octets. */
@@ -250,6 +446,13 @@ DER_CHECKED(revoked_certificate)
 DER_CHECKED(extension)
 DER_CHECKED(subject_public_key_info)
 DER_CHECKED(private_key_info)
+DER_CHECKED(certification_request)
+DER_CHECKED(ocsp_response)
+DER_CHECKED(basic_ocsp_response)
+DER_CHECKED(single_response)
+DER_CHECKED(content_info)
+DER_CHECKED(signed_data)
+DER_CHECKED(signer_info)
 DER_CHECKED(attribute_type_and_value)
 DER_CHECKED(attribute)
 #undef DER_CHECKED
@@ -259,8 +462,37 @@ DER_CHECKED(attribute)
 #define der_extension der_checked_extension
 #define der_subject_public_key_info der_checked_subject_public_key_info
 #define der_private_key_info der_checked_private_key_info
+#define der_certification_request der_checked_certification_request
+#define der_ocsp_response der_checked_ocsp_response
+#define der_basic_ocsp_response der_checked_basic_ocsp_response
+#define der_single_response der_checked_single_response
+#define der_content_info der_checked_content_info
+#define der_signed_data der_checked_signed_data
+#define der_signer_info der_checked_signer_info
 #define der_attribute_type_and_value der_checked_attribute_type_and_value
 #define der_attribute der_checked_attribute
+
+static inline uint32_t der_checked_check_rfc5280(const uint8_t *octets, size_t len, uint32_t *broken, der_fault *fault)
+{
+    return der_is_null(octets, len) ? der_refuse(DER_NULL_POINTER, fault) : der_check_rfc5280(octets, len, broken, fault);
+}
+
+static inline uint32_t der_checked_check_rfc5280_list(const uint8_t *octets, size_t len, uint32_t *broken, der_fault *fault)
+{
+    return der_is_null(octets, len) ? der_refuse(DER_NULL_POINTER, fault) : der_check_rfc5280_list(octets, len, broken, fault);
+}
+
+static inline uint32_t der_checked_canonical(const uint8_t *name, size_t name_len, const uint8_t *octets, size_t len,
+                                             uint8_t *room, size_t room_len, size_t *written, der_fault *fault)
+{
+    if (der_is_null(name, name_len) || der_is_null(octets, len) || der_is_null(room, room_len))
+        return der_refuse(DER_NULL_POINTER, fault);
+    return der_canonical(name, name_len, octets, len, room, room_len, written, fault);
+}
+
+#define der_check_rfc5280 der_checked_check_rfc5280
+#define der_check_rfc5280_list der_checked_check_rfc5280_list
+#define der_canonical der_checked_canonical
 
 /* The calls that answer a place answer that of no octets. */
 static inline der_place der_checked_contents(const uint8_t *octets, size_t len, const der_place *place)
@@ -282,6 +514,18 @@ static inline der_place der_checked_signed_octets(const uint8_t *octets, size_t 
 #define der_next_encoding der_checked_next_encoding
 #define der_signed_octets der_checked_signed_octets
 #endif
+
+/* The same of a name that ends with an octet 0, as "cert". */
+static inline uint32_t der_canonical_named(const char *name, const uint8_t *octets, size_t len, uint8_t *room,
+                                           size_t room_len, size_t *written, der_fault *fault)
+{
+    size_t name_len = 0;
+    if (name == NULL)
+        return der_refuse(DER_NULL_POINTER, fault);
+    while (name[name_len] != 0)
+        name_len++;
+    return der_canonical((const uint8_t *)name, name_len, octets, len, room, room_len, written, fault);
+}
 
 /* ---- what stands one behind another, with places in the octets of the whole message:
  *
@@ -374,6 +618,52 @@ static inline uint32_t der_next_revoked_certificate(const uint8_t *octets, size_
     out->user_certificate = der_behind(before, out->user_certificate);
     out->revocation_date = der_behind(before, out->revocation_date);
     out->crl_entry_extensions = der_behind(before, out->crl_entry_extensions);
+    return 0;
+}
+
+/* The same of the answers about single certificates (der_items of `responses`). */
+static inline uint32_t der_next_single_response(const uint8_t *octets, size_t len, der_place *left,
+                                                der_single_response_at *out, der_fault *fault)
+{
+    uint32_t before = left->offset, answer = der_check_left(octets, len, *left, fault);
+    if (answer != 0)
+        return answer;
+    answer = der_single_response(octets + before, left->length, out, fault);
+    if (answer != 0) {
+        fault->position += fault->is_placed != 0 ? before : 0;
+        return answer;
+    }
+    der_take(left, out->whole.length);
+    out->whole = der_behind(before, out->whole);
+    out->cert_id = der_behind(before, out->cert_id);
+    out->cert_status = der_behind(before, out->cert_status);
+    out->this_update = der_behind(before, out->this_update);
+    out->next_update = der_behind(before, out->next_update);
+    out->single_extensions = der_behind(before, out->single_extensions);
+    return 0;
+}
+
+/* The same of signers (der_items of `signer_infos`). */
+static inline uint32_t der_next_signer_info(const uint8_t *octets, size_t len, der_place *left, der_signer_info_at *out,
+                                            der_fault *fault)
+{
+    uint32_t before = left->offset, answer = der_check_left(octets, len, *left, fault);
+    if (answer != 0)
+        return answer;
+    answer = der_signer_info(octets + before, left->length, out, fault);
+    if (answer != 0) {
+        fault->position += fault->is_placed != 0 ? before : 0;
+        return answer;
+    }
+    der_take(left, out->whole.length);
+    out->whole = der_behind(before, out->whole);
+    out->version = der_behind(before, out->version);
+    out->sid = der_behind(before, out->sid);
+    out->digest_algorithm = der_behind(before, out->digest_algorithm);
+    out->signed_attrs = der_behind(before, out->signed_attrs);
+    out->signature_algorithm = der_behind(before, out->signature_algorithm);
+    out->signature = der_behind(before, out->signature);
+    out->unsigned_attrs = der_behind(before, out->unsigned_attrs);
     return 0;
 }
 

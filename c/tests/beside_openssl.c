@@ -2,6 +2,8 @@
  * and the same numbers. beside_openssl FILE.. */
 #include "beside.h"
 
+#include <stdlib.h>
+
 static void compare_extension(const der_extension_at *at, X509_EXTENSION *want)
 {
     SAME("extension", at->whole, i2d_X509_EXTENSION, want);
@@ -54,6 +56,79 @@ static void compare_unique(const der_certificate_at *at, const X509 *x)
     absent("subjectUniqueID", at->subject_unique_id, subject == NULL);
 }
 
+/* whether a certificate has an extension that is critical, or one that is not */
+static int has_extension(const X509 *x, int nid, int critical)
+{
+    int at = -1;
+    while ((at = X509_get_ext_by_NID(x, nid, at)) >= 0)
+        if ((X509_EXTENSION_get_critical(X509_get_ext(x, at)) > 0) == critical)
+            return 1;
+    return 0;
+}
+
+static int is_positive(const ASN1_INTEGER *number)
+{
+    BIGNUM *n = ASN1_INTEGER_to_BN(number, NULL);
+    int answer = !BN_is_zero(n) && !BN_is_negative(n);
+    BN_free(n);
+    return answer;
+}
+
+/* the rules that a certificate breaks, where OpenSSL can tell */
+static uint32_t broken_rules(const X509 *x)
+{
+    static const struct {
+        int nid, critical;
+        uint32_t rule;
+    } rows[] = {{NID_authority_key_identifier, 1, DER_CERTIFICATE_AUTHORITY_KEY_IDENTIFIER_NOT_CRITICAL},
+                {NID_subject_key_identifier, 1, DER_CERTIFICATE_SUBJECT_KEY_IDENTIFIER_NOT_CRITICAL},
+                {NID_freshest_crl, 1, DER_CERTIFICATE_FRESHEST_CRL_NOT_CRITICAL},
+                {NID_info_access, 1, DER_CERTIFICATE_AUTHORITY_INFO_ACCESS_NOT_CRITICAL},
+                {NID_sinfo_access, 1, DER_CERTIFICATE_SUBJECT_INFO_ACCESS_NOT_CRITICAL},
+                {NID_name_constraints, 0, DER_CERTIFICATE_NAME_CONSTRAINTS_CRITICAL},
+                {NID_policy_constraints, 0, DER_CERTIFICATE_POLICY_CONSTRAINTS_CRITICAL},
+                {NID_inhibit_any_policy, 0, DER_CERTIFICATE_INHIBIT_ANY_POLICY_CRITICAL}};
+    const X509_ALGOR *algorithm;
+    uint32_t broken = 0;
+    size_t i;
+    X509_get0_signature(NULL, &algorithm, x);
+    broken |= X509_ALGOR_cmp(algorithm, X509_get0_tbs_sigalg(x)) != 0 ? DER_CERTIFICATE_ALGORITHMS_AGREE : 0;
+    broken |= X509_get_ext_count(x) > 0 && X509_get_version(x) != 2 ? DER_CERTIFICATE_EXTENSIONS_IN_VERSION_3 : 0;
+    broken |= is_positive(X509_get0_serialNumber(x)) ? 0 : DER_CERTIFICATE_SERIAL_NUMBER_POSITIVE;
+    broken |= X509_NAME_entry_count(X509_get_issuer_name(x)) == 0 ? DER_CERTIFICATE_ISSUER_NOT_EMPTY : 0;
+    if (X509_NAME_entry_count(X509_get_subject_name(x)) == 0 && !has_extension(x, NID_subject_alt_name, 1))
+        broken |= DER_CERTIFICATE_EMPTY_SUBJECT_HAS_CRITICAL_ALT_NAME;
+    if (X509_check_ca((X509 *)x) == 1 && has_extension(x, NID_basic_constraints, 0))
+        broken |= DER_CERTIFICATE_BASIC_CONSTRAINTS_OF_CA_CRITICAL;
+    for (i = 0; i < sizeof rows / sizeof rows[0]; i++)
+        broken |= has_extension(x, rows[i].nid, rows[i].critical) ? rows[i].rule : 0;
+    return broken;
+}
+
+static void compare_rules(const X509 *x)
+{
+    static const uint32_t not_told = DER_CERTIFICATE_SERIAL_NUMBER_AT_MOST_20_OCTETS
+                                     | DER_CERTIFICATE_UNIQUE_IDENTIFIERS_IN_VERSION_2
+                                     | DER_CERTIFICATE_EXTENSIONS_STAND_ONCE
+                                     | DER_CERTIFICATE_SUBJECT_DIRECTORY_ATTRIBUTES_NOT_CRITICAL;
+    uint32_t broken;
+    der_fault fault;
+    same_number("answer", der_check_rfc5280(octets, len, &broken, &fault), 0);
+    same_number("broken rules", broken & ~not_told, broken_rules(x));
+}
+
+/* the octets are the one encoding of a value */
+static void compare_canonical(const char *name)
+{
+    uint8_t *room = malloc(len);
+    size_t written = 0;
+    der_fault fault;
+    der_place all = {0, (uint32_t)len};
+    same_number("answer by a name", der_canonical_named(name, octets, len, room, len, &written, &fault), 0);
+    same(name, all, room, (long)written);
+    free(room);
+}
+
 static void compare_certificate(X509 *x)
 {
     der_certificate_at at;
@@ -76,6 +151,7 @@ static void compare_certificate(X509 *x)
     same_number("notBefore", at.not_before, seconds(X509_get0_notBefore(x)));
     same_number("notAfter", at.not_after, seconds(X509_get0_notAfter(x)));
     compare_unique(&at, x);
+    compare_rules(x);
     compare_key(octets + at.subject_public_key_info.offset, at.subject_public_key_info.length, X509_get_X509_PUBKEY(x));
     compare_extensions(der_extensions(octets, len, &at.extensions), X509_get0_extensions(x));
 }
@@ -146,21 +222,25 @@ static void compare(const char *name)
     messages++;
     if (strcmp(name, "CERTIFICATE") == 0) {
         X509 *x = d2i_X509(NULL, &p, (long)len);
+        compare_canonical("cert");
         if (x != NULL)
             compare_certificate(x);
         X509_free(x);
     } else if (strcmp(name, "X509 CRL") == 0) {
         X509_CRL *x = d2i_X509_CRL(NULL, &p, (long)len);
+        compare_canonical("crl");
         if (x != NULL)
             compare_list(x);
         X509_CRL_free(x);
     } else if (strcmp(name, "PRIVATE KEY") == 0) {
         PKCS8_PRIV_KEY_INFO *x = d2i_PKCS8_PRIV_KEY_INFO(NULL, &p, (long)len);
+        compare_canonical("pkcs8");
         if (x != NULL)
             compare_private_key(x);
         PKCS8_PRIV_KEY_INFO_free(x);
     } else if (strcmp(name, "PUBLIC KEY") == 0) {
         X509_PUBKEY *x = d2i_X509_PUBKEY(NULL, &p, (long)len);
+        compare_canonical("spki");
         if (x != NULL)
             compare_key(octets, len, x);
         X509_PUBKEY_free(x);

@@ -1,32 +1,8 @@
 /* What a caller may hand over: wrong lengths, null pointers, places outside, cut and spoilt octets, and several threads at
  * once. calls FILE, of one certificate in DER. The last line counts what was tried. */
-#include "der.h"
+#include "check.h"
 
 #include <pthread.h>
-#include <stdio.h>
-#include <stdlib.h>
-#include <string.h>
-
-static long passed, failed;
-
-static void check(int holds, const char *what)
-{
-    if (holds) {
-        passed++;
-    } else {
-        failed++;
-        fprintf(stderr, "FAILED: %s\n", what);
-    }
-}
-
-/* 0x5a in each octet, so that a write is seen */
-#define FILL(value) memset(&(value), 0x5a, sizeof(value))
-#define IS_FILLED(value, type)                                                       \
-    do {                                                                             \
-        type filled;                                                                 \
-        FILL(filled);                                                                \
-        check(memcmp(&(value), &filled, sizeof filled) == 0, #type " is as it was"); \
-    } while (0)
 
 static void refused(const uint8_t *octets, size_t len, uint32_t number, const char *what)
 {
@@ -58,8 +34,17 @@ static void all_refuse(const uint8_t *octets, size_t len, uint32_t number)
     REFUSES(der_extension_at, der_extension);
     REFUSES(der_subject_public_key_info_at, der_subject_public_key_info);
     REFUSES(der_private_key_info_at, der_private_key_info);
+    REFUSES(der_certification_request_at, der_certification_request);
+    REFUSES(der_ocsp_response_at, der_ocsp_response);
+    REFUSES(der_basic_ocsp_response_at, der_basic_ocsp_response);
+    REFUSES(der_single_response_at, der_single_response);
+    REFUSES(der_content_info_at, der_content_info);
+    REFUSES(der_signed_data_at, der_signed_data);
+    REFUSES(der_signer_info_at, der_signer_info);
     REFUSES(der_attribute_type_and_value_at, der_attribute_type_and_value);
     REFUSES(der_attribute_at, der_attribute);
+    REFUSES(uint32_t, der_check_rfc5280);
+    REFUSES(uint32_t, der_check_rfc5280_list);
 }
 
 static void lengths(void)
@@ -98,6 +83,8 @@ static void place_outside(const uint8_t *octets, size_t len, der_place left)
     check(der_is_within(len, der_next_encoding(octets, len, &left)), "an encoding within the octets");
     LEAVES(der_extension_at, der_next_extension);
     LEAVES(der_revoked_certificate_at, der_next_revoked_certificate);
+    LEAVES(der_single_response_at, der_next_single_response);
+    LEAVES(der_signer_info_at, der_next_signer_info);
     LEAVES(der_attribute_at, der_next_attribute);
     check(der_next_name_attribute(octets, 2, &name, &attribute, &fault) == DER_BAD_PLACE, "no attribute outside");
     check(memcmp(&name.parts, &left, sizeof left) == 0 && name.attributes.length == 0, "the name is as it was");
@@ -235,22 +222,22 @@ static void texts(void)
     check(strcmp(der_number_text(18), "no such number") == 0, "18 is no number");
     check(strcmp(der_number_text(DER_BAD_PLACE), "no such number") != 0, "100 is one");
     check(strcmp(der_number_text(DER_NULL_POINTER), "no such number") != 0, "101 is one");
+    check(strcmp(der_number_text(DER_UNKNOWN_NAME), "no such number") != 0, "102 is one");
+    check(strcmp(der_number_text(DER_SHORT_ROOM), "no such number") != 0, "103 is one");
+    check(strcmp(der_number_text(104), "no such number") == 0, "104 is none");
     check(strcmp(der_number_text(4294967295u), "no such number") == 0, "nor is the greatest");
 }
 
 int main(int argc, char **argv)
 {
     static uint8_t octets[1 << 16];
-    FILE *file = argc == 2 ? fopen(argv[1], "rb") : NULL;
+    size_t len = read_file(argv[argc - 1], octets, argc == 2 ? sizeof octets - 1 : 0);
     der_certificate_at out;
     der_fault fault;
-    size_t len;
-    if (file == NULL) {
+    if (len == 0) {
         fprintf(stderr, "calls FILE, of one certificate in DER\n");
         return 2;
     }
-    len = fread(octets, 1, sizeof octets - 1, file);
-    fclose(file);
     FILL(fault);
     check(der_abi_version() == DER_ABI_VERSION, "the version of the library is that of the header");
     check(der_certificate(octets, len, &out, &fault) == 0, "the certificate is read");
@@ -263,6 +250,5 @@ int main(int argc, char **argv)
     cut(octets, len);
     spoilt(octets, len);
     threads(octets, len, &out);
-    printf("%ld passed, %ld failed\n", passed, failed);
-    return failed != 0;
+    return end_of_tests();
 }

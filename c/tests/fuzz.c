@@ -156,6 +156,112 @@ static void private_key(const uint8_t *o, uint32_t size)
     attributes(o, size, s.at.attributes);
 }
 
+static void request(const uint8_t *o, uint32_t size)
+{
+    der_place all = {0, size};
+    CALL(der_certification_request_at, der_certification_request, o, size);
+    walk(o, all, &s.at.certification_request_info, 3);
+    walk(o, s.at.certification_request_info, &s.at.version, 4);
+    name(o, size, s.at.subject);
+    attributes(o, size, s.at.attributes);
+}
+
+static void status(const uint8_t *o, uint32_t size)
+{
+    der_place all = {0, size};
+    CALL(der_ocsp_response_at, der_ocsp_response, o, size);
+    CHECK(s.at.response_status_number >= 0 && s.at.response_status_number <= 6);
+    walk(o, all, &s.at.response_status, 2);
+    if (s.at.response_bytes.length > 0)
+        walk(o, der_contents(o, size, &s.at.response_bytes), &s.at.response_type, 2);
+    else
+        CHECK(s.at.response_type.length == 0 && s.at.response.length == 0);
+}
+
+static void basic(const uint8_t *o, uint32_t size)
+{
+    der_place all = {0, size}, left;
+    der_single_response_at at;
+    der_fault fault;
+    CALL(der_basic_ocsp_response_at, der_basic_ocsp_response, o, size);
+    walk(o, all, &s.at.tbs_response_data, 4);
+    walk(o, s.at.tbs_response_data, &s.at.version, 5);
+    for (left = der_items(o, size, &s.at.responses); left.length > 0;)
+        CHECK(der_next_single_response(o, size, &left, &at, &fault) == 0);
+    CHECK(left.offset == s.at.responses.offset + s.at.responses.length);
+}
+
+static void single(const uint8_t *o, uint32_t size)
+{
+    CALL(der_single_response_at, der_single_response, o, size);
+    CHECK(s.at.cert_status_number <= 2);
+    walk(o, s.at.whole, &s.at.cert_id, 5);
+}
+
+static void content_info(const uint8_t *o, uint32_t size)
+{
+    der_place all = {0, size};
+    CALL(der_content_info_at, der_content_info, o, size);
+    walk(o, all, &s.at.content_type, 2);
+}
+
+static void signed_data(const uint8_t *o, uint32_t size)
+{
+    der_place all = {0, size}, left;
+    der_signer_info_at at;
+    der_fault fault;
+    CALL(der_signed_data_at, der_signed_data, o, size);
+    walk(o, all, &s.at.version, 6);
+    walk(o, s.at.encap_content_info, &s.at.e_content_type, 2);
+    for (left = der_items(o, size, &s.at.signer_infos); left.length > 0;)
+        CHECK(der_next_signer_info(o, size, &left, &at, &fault) == 0);
+    CHECK(left.offset == s.at.signer_infos.offset + s.at.signer_infos.length);
+}
+
+static void signer(const uint8_t *o, uint32_t size)
+{
+    CALL(der_signer_info_at, der_signer_info, o, size);
+    walk(o, s.at.whole, &s.at.version, 7);
+    attributes(o, size, s.at.signed_attrs);
+    attributes(o, size, s.at.unsigned_attrs);
+}
+
+/* the canonical encoding by a name, between canaries, into a room that may be too short: of what is read all octets are written,
+ * and else none */
+static void canonical(const char *name, const uint8_t *o, uint32_t size, uint32_t room_len)
+{
+    static uint8_t room[ROOM + 32];
+    size_t written = SIZE_MAX;
+    der_fault fault;
+    uint32_t answer, i;
+    memset(room, 0x5a, room_len + 16);
+    answer = der_canonical_named(name, o, size, room + 8, room_len, &written, &fault);
+    if (answer == 0)
+        CHECK(written == size && written <= room_len);
+    else if (answer == DER_SHORT_ROOM)
+        CHECK(written == size && written > room_len && fault.number == answer);
+    else
+        CHECK(answer <= 17 && answer == fault.number && written == SIZE_MAX);
+    for (i = 0; i < 8; i++)
+        CHECK(room[i] == 0x5a && room[8 + (answer == 0 ? written : 0) + i] == 0x5a);
+}
+
+/* a certificate is checked where it is read, and is the encoding that is written where no set is out of order */
+static void checked(const uint8_t *o, uint32_t size)
+{
+    der_certificate_at at;
+    der_fault fault, other;
+    uint32_t broken = 0x5a5a5a5a, answer = der_certificate(o, size, &at, &fault);
+    CHECK(der_check_rfc5280(o, size, &broken, &other) == answer);
+    CHECK(answer == 0 ? broken < 1 << 18 : broken == 0x5a5a5a5a && other.number == answer);
+    broken = 0x5a5a5a5a;
+    answer = der_check_rfc5280_list(o, size, &broken, &other);
+    CHECK(answer == 0 ? broken < 1 << 14 : broken == 0x5a5a5a5a && other.number == answer);
+    canonical("cert", o, size, size);
+    canonical("pkcs8", o, size, size / 2);
+    canonical("name", o, size, size + 8);
+}
+
 /* each encoding within, as every message that it might be */
 static void guide(const uint8_t *o, uint32_t size)
 {
@@ -168,6 +274,12 @@ static void guide(const uint8_t *o, uint32_t size)
         extension(o + at, size - at);
         entry(o + at, size - at);
         key(o + at, length);
+        single(o + at, size - at);
+        signer(o + at, size - at);
+        basic(o + at, length);
+        signed_data(o + at, length);
+        canonical("ext", o + at, length, length);
+        canonical("intref", o + at, length, length);
         at += (o[at] & 0x20) != 0 ? header : length;
     }
 }
@@ -205,6 +317,11 @@ int LLVMFuzzerTestOneInput(const uint8_t *data, size_t size)
     certificate(o, (uint32_t)size);
     list(o, (uint32_t)size);
     private_key(o, (uint32_t)size);
+    request(o, (uint32_t)size);
+    status(o, (uint32_t)size);
+    basic(o, (uint32_t)size);
+    content_info(o, (uint32_t)size);
+    checked(o, (uint32_t)size);
     guide(o, (uint32_t)size);
     any_place(o, (uint32_t)size);
     CHECK(der_is_within(size, der_signed_octets(o, size)));

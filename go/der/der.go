@@ -1,4 +1,5 @@
-// Package der reads DER of certificates, lists of revoked certificates, keys by proved code: which octets are taken, and where each field stands.
+// Package der reads DER of certificates, lists of revoked certificates, keys, requests, answers about the status of
+// certificates and signed messages by proved code: which octets are taken, and where each field stands.
 //
 // A value keeps the octets that it was read from, and a field is a slice of them: its whole encoding. Nothing is copied, and
 // no signature is verified. The code that reads is Barleypulley's der_c; this package, which calls it, is not proved.

@@ -1,9 +1,11 @@
-"""The fields of certificates, lists of revoked ones, keys, beside `cryptography`.
+"""The fields of certificates, lists of revoked ones, keys, requests, answers about the status of certificates and signed
+messages, beside `cryptography`.
 
 The certificates are those of the system, and of the PEM files that DER_TEST_FILES names.
 """
 
 import base64
+import hashlib
 import os
 import re
 import unittest
@@ -14,7 +16,9 @@ import derproved
 
 try:
     from cryptography import x509
-    from cryptography.hazmat.primitives import serialization
+    from cryptography.hazmat.primitives import hashes, serialization
+    from cryptography.hazmat.primitives.asymmetric import ec
+    from cryptography.x509 import ocsp
 except ImportError:
     x509 = None
 
@@ -61,9 +65,22 @@ class BesideCryptography(unittest.TestCase):
                 self.assertEqual(bytes(one.value), other.value.value)
         return len(found)
 
+    def compare_rules(self, octets: bytes, other) -> None:
+        broken = derproved.check_rfc5280(octets)
+        rule = derproved.CertificateRule
+        self.assertEqual(rule.SERIAL_NUMBER_IS_POSITIVE in broken, other.serial_number <= 0)
+        self.assertEqual(rule.ISSUER_IS_NOT_EMPTY in broken, not list(other.issuer))
+        self.assertEqual(rule.EXTENSIONS_IN_VERSION_3 in broken, len(other.extensions) > 0 and other.version.value != 2)
+        uncritical = {e.oid.dotted_string for e in other.extensions if not e.critical}
+        self.assertEqual(rule.NAME_CONSTRAINTS_IS_CRITICAL in broken, "2.5.29.30" in uncritical)
+        critical = {e.oid.dotted_string for e in other.extensions if e.critical}
+        self.assertEqual(rule.AUTHORITY_KEY_IDENTIFIER_IS_NOT_CRITICAL in broken, "2.5.29.35" in critical)
+
     def compare_certificate(self, octets: bytes, other) -> None:
         own = derproved.Certificate(octets)
         self.assertEqual(bytes(own), octets)
+        self.assertEqual(derproved.canonical("cert", octets), octets)
+        self.compare_rules(octets, other)
         self.assertEqual(bytes(own.tbs_certificate), other.tbs_certificate_bytes)
         self.assertEqual(bytes(derproved.signed_octets(octets)), other.tbs_certificate_bytes)
         self.assertEqual(bytes(derproved.contents(own.signature_value))[1:], other.signature)
@@ -129,6 +146,70 @@ class MessagesBesideCryptography(unittest.TestCase):
                 self.compare_name(own.issuer, other.issuer)
                 self.compare_name(own.subject, other.subject)
 
+    def test_requests(self) -> None:
+        for octets in blocks("CERTIFICATE REQUEST"):
+            own, other = derproved.CertificationRequest(octets), x509.load_der_x509_csr(octets)
+            self.assertEqual(bytes(own.certification_request_info), other.tbs_certrequest_bytes)
+            self.assertEqual(bytes(derproved.signed_octets(octets)), other.tbs_certrequest_bytes)
+            self.assertEqual(bytes(derproved.contents(own.signature))[1:], other.signature)
+            self.assertEqual(bytes(own.subject), other.subject.public_bytes())
+            self.compare_name(own.subject, other.subject)
+            identifiers = [identifier_of(bytes(attribute.identifier)) for attribute in own.attributes]
+            self.assertEqual(identifiers, [attribute.oid.dotted_string for attribute in other.attributes])
+
+    def test_status(self) -> None:
+        for octets in blocks("OCSP RESPONSE"):
+            own, other = derproved.OcspResponse(octets), ocsp.load_der_ocsp_response(octets)
+            self.assertEqual(own.response_status, other.response_status.value)
+            self.assertEqual(own.response is None, own.response_status != 0)
+            self.assertEqual(own.response_type is None, own.response_status != 0)
+            if own.response is not None:
+                self.assertEqual(identifier_of(bytes(derproved.contents(own.response_type))), "1.3.6.1.5.5.7.48.1.1")
+                self.compare_basic(derproved.BasicOcspResponse(derproved.contents(own.response)), other)
+
+    def compare_basic(self, own, other) -> None:
+        self.assertEqual(bytes(own.tbs_response_data), other.tbs_response_bytes)
+        self.assertEqual(bytes(derproved.contents(own.signature))[1:], other.signature)
+        self.assertEqual(own.produced_at, in_utc(other.produced_at_utc))
+        found = list(own.responses)
+        others = list(other.responses)
+        self.assertEqual(len(found), len(others))
+        for one, answer in zip(found, others):
+            self.assertEqual(one.cert_status.value, answer.certificate_status.value)
+            revoked = answer.revocation_time_utc
+            self.assertEqual(one.revocation_time, revoked and in_utc(revoked))
+            self.assertEqual(one.this_update, in_utc(answer.this_update_utc))
+            following = answer.next_update_utc
+            self.assertEqual(one.next_update, following and in_utc(following))
+
+    def test_signed_messages(self) -> None:
+        keys = [serialization.load_der_private_key(octets, None) for octets in blocks("PRIVATE KEY")]
+        keys = [key.public_key() for key in keys if isinstance(key, ec.EllipticCurvePrivateKey)]
+        for octets in blocks("CMS"):
+            message = derproved.ContentInfo(octets)
+            self.assertEqual(identifier_of(bytes(derproved.contents(message.content_type))), "1.2.840.113549.1.7.2")
+            data = derproved.SignedData(derproved.contents(message.content))
+            signers = list(data.signer_infos)
+            self.assertEqual(len(signers), 1)
+            self.compare_signer(signers[0], keys)
+            if data.e_content is not None:
+                content = derproved.contents(derproved.contents(data.e_content))
+                self.assertEqual(hashlib.sha256(content).digest(), self.digest_of(signers[0]))
+
+    def digest_of(self, signer) -> bytes:
+        """What the attribute messageDigest has."""
+        values = [a.values for a in signer.signed_attributes if identifier_of(bytes(a.identifier)) == "1.2.840.113549.1.9.4"]
+        self.assertEqual(len(values), 1)
+        return bytes(derproved.contents(derproved.contents(values[0])))
+
+    def compare_signer(self, signer, keys) -> None:
+        """The signature covers the signed attributes, as a SET (RFC 5652 5.4)."""
+        signed = b"\x31" + bytes(signer.signed_attrs)[1:]
+        signature = bytes(derproved.contents(signer.signature))
+        self.assertEqual(len(keys), 1)
+        keys[0].verify(signature, signed, ec.ECDSA(hashes.SHA256()))
+
+
 class Calls(unittest.TestCase):
     def test_fields_are_views_of_the_octets(self) -> None:
         octets = bytearray(KEY)
@@ -146,8 +227,9 @@ class Calls(unittest.TestCase):
             with self.assertRaises(derproved.Error) as caught:
                 derproved.SubjectPublicKeyInfo(KEY[:count])
             self.assertEqual(caught.exception.args[:2], (2, "the octets end too soon"))
-        others = [derproved.Certificate, derproved.CertificateList, derproved.PrivateKeyInfo]
-        others += [derproved.Attribute]
+        others = [derproved.Certificate, derproved.CertificateList, derproved.PrivateKeyInfo, derproved.CertificationRequest]
+        others += [derproved.OcspResponse, derproved.BasicOcspResponse, derproved.SingleResponse]
+        others += [derproved.ContentInfo, derproved.SignedData, derproved.SignerInfo, derproved.Attribute]
         for read in others:
             with self.assertRaises(derproved.Error) as caught:
                 read(KEY)
@@ -162,6 +244,30 @@ class Calls(unittest.TestCase):
             with self.assertRaises(derproved.Error) as caught:
                 list(derproved.name_attributes(bytes.fromhex(octets)))
             self.assertEqual(caught.exception.args[0], number)
+
+    def test_canonical(self) -> None:
+        self.assertEqual(derproved.canonical("spki", KEY), KEY)
+        self.assertEqual(derproved.canonical("u16", bytearray(b"\x02\x01\x05")), b"\x02\x01\x05")
+        self.assertEqual(derproved.canonical("opt-u8", b""), b"")
+        unordered, ordered = bytes.fromhex("3106020108020107"), bytes.fromhex("3106020107020108")
+        self.assertEqual(derproved.canonical("setvec-u16", unordered), ordered)
+        for name, octets, number in [("u17", KEY, 102), ("", b"", 102), ("cert", KEY, 4), ("u16", b"\x02\x00", 7), ("u16", b"", 2)]:
+            with self.assertRaises(derproved.Error) as caught:
+                derproved.canonical(name, octets)
+            self.assertEqual(caught.exception.args[0], number)
+        self.assertRaises(TypeError, derproved.canonical, "u16", "text")
+
+    def test_rules_of_lists(self) -> None:
+        list_text = "302c3022300306012a300c310a300806035504030c0161170d3236303130313030303030305a300306012a030100"
+        octets = bytearray.fromhex(list_text)
+        self.assertEqual(derproved.check_rfc5280_list(octets), derproved.ListRule.NEXT_UPDATE_IS_THERE)
+        octets[-4] += 1
+        broken = derproved.ListRule.NEXT_UPDATE_IS_THERE | derproved.ListRule.ALGORITHMS_AGREE
+        self.assertEqual(derproved.check_rfc5280_list(octets), broken)
+        with self.assertRaises(derproved.Error) as caught:
+            derproved.check_rfc5280(octets)
+        self.assertEqual(caught.exception.args[0], 4)
+        self.assertEqual((len(derproved.CertificateRule), len(derproved.ListRule)), (18, 14))
 
     def test_any_octets_have_some_contents(self) -> None:
         for octets in [b"", b"0", b"\xff" * 9, bytes.fromhex("3084ffffffff")]:

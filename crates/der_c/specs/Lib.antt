@@ -1,3 +1,7 @@
 pub mod Answers
+pub mod Bits
+pub mod Names
+pub mod Rooms
 pub mod Signed
+pub mod Status
 pub mod Times

@@ -3,6 +3,7 @@ use Rattle.std.specs.Prelude.{ℕ, Option, None, Some}
 use Rattle.der_pkix.specs.declared.certificate.time.Time.{Time}
 use Rattle.der_pkix.specs.declared.certificate.time.Time.TheVariants.{UtcTime, GeneralTime}
 use Rattle.der_time.specs.UnixTime.{unix_seconds}
+use Rattle.der_time.specs.declared.generalized_time.GeneralizedTime.{GeneralizedTime}
 
 -- those of a date
 abbrev pub seconds_of : Time → ℕ
@@ -18,3 +19,12 @@ seconds_if_there (Some t) = seconds_of t
 abbrev pub version_if_there : Option ℕ → ℕ
 version_if_there None = 0
 version_if_there (Some n) = n
+
+-- those of a date that is a GeneralizedTime
+abbrev pub seconds_of_general : GeneralizedTime → ℕ
+seconds_of_general t = unix_seconds t.date_time
+
+-- and of one that may be absent, and then 0
+abbrev pub seconds_if_given : Option GeneralizedTime → ℕ
+seconds_if_given None = 0
+seconds_if_given (Some t) = seconds_of_general t

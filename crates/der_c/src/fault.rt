@@ -9,7 +9,7 @@ use der_tlv::{Error, Length};
 #[repr(C)]
 #[derive(Clone, Copy, Debug, PartialEq, Eq)]
 pub struct Fault {
-    /// The number of the kind, 1 to 17.
+    /// The number of the kind, 1 to 17; or of a call's own refusal, 102 or 103.
     pub number: u32,
     /// Whether the position is known: 1 or 0.
     pub is_placed: u32,
@@ -30,6 +30,25 @@ pub(crate) fn refuse(error: Error, fault: &mut Fault) -> u32
         position,
     };
     number
+}
+
+/// No type has the name.
+pub(crate) const UNKNOWN_NAME: u32 = 102;
+
+/// The room is too short.
+pub(crate) const SHORT_ROOM: u32 = 103;
+
+/// Writes a refusal that is of the call itself, and answers its number.
+pub(crate) fn refuse_call(answer: u32, fault: &mut Fault) -> u32
+    ensures number { result ≡ answer }
+    ensures written { fault.new.number ≡ answer }
+{
+    *fault = Fault {
+        number: answer,
+        is_placed: 0,
+        position: 0,
+    };
+    answer
 }
 
 /// Whether a position is known, and it.

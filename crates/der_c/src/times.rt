@@ -1,9 +1,10 @@
 //! Dates as seconds, and versions as numbers.
 
 ghost use Rattle.std.specs.Prelude.{◌≡◌};
-ghost use Rattle.der_c.specs.Times.{seconds_if_there, seconds_of, version_if_there};
+ghost use Rattle.der_c.specs.Times.{seconds_if_given, seconds_if_there, seconds_of, seconds_of_general, version_if_there};
 
 use der_pkix::certificate::{Time, Version};
+use der_time::GeneralizedTime;
 
 /// The seconds from 1970-01-01T00:00:00Z, with no leap seconds, which no date is before.
 pub(crate) fn seconds(time: Time) -> u64
@@ -31,6 +32,23 @@ pub(crate) fn number_of(version: Option<Version>) -> u64
 {
     match version {
         Some(version) => u64::from(version),
+        None => 0,
+    }
+}
+
+/// The seconds of a date that is a GeneralizedTime.
+pub(crate) fn general_seconds(time: GeneralizedTime) -> u64
+    ensures { result ≡ seconds_of_general time }
+{
+    time.to_date_time().unix_duration().as_secs()
+}
+
+/// Those of one that may be absent, and then 0.
+pub(crate) fn general_seconds_or_none(time: Option<GeneralizedTime>) -> u64
+    ensures { result ≡ seconds_if_given time }
+{
+    match time {
+        Some(time) => general_seconds(time),
         None => 0,
     }
 }

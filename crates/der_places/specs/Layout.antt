@@ -8,7 +8,7 @@ use Rattle.der_fields.specs.declared.explicit.ExplicitIn.{ExplicitIn}
 use Rattle.der_fields.specs.declared.field.Field.{Field}
 use Rattle.der_fields.specs.declared.implicit.ImplicitIn.{ImplicitIn}
 use Rattle.der_places.specs.declared.place.Place.{Place}
-use Rattle.der_places.specs.Walking.{IsField, StandAt}
+use Rattle.der_places.specs.Walking.{IsField, StandAt, HoldsContents}
 
 -- the fields of a message in their order: whether each is there, and which octets are read as it
 pub data Layout : Type 1 where
@@ -100,3 +100,19 @@ pub record LaidAt (fields : Layout) (octets : List ℕ) (place : Place) (places 
   pub stands : StandAt octets place.offset own
   pub length_is : place.length ≡ length own
   pub laid : LaidOut fields place.offset places own
+
+-- the contents octets of the encoding at a place are an encoding, and its fields stand at these, as within an explicit tag
+pub record LaidInside (fields : Layout) (octets : List ℕ) (outer : Place) (places : List Place) : Type 0 where
+  pub inner : Place
+  pub within : HoldsContents octets outer inner
+  pub laid : LaidAt fields octets inner places
+
+-- no place has octets
+abbrev pub Nowhere : List Place → Type 0
+Nowhere [] = Unit {0}
+Nowhere (place ∷ places) = (place.length ≡ 0) × Nowhere places
+
+-- the same of a value that may be absent
+abbrev pub LaidInsideIfThere : {T : Type 0} → (T → Layout) → List ℕ → Place → List Place → Option T → Type 0
+LaidInsideIfThere fields octets outer places None = Nowhere places
+LaidInsideIfThere fields octets outer places (Some v) = LaidInside (fields v) octets outer places

@@ -9,8 +9,8 @@ use Rattle.der_elem.specs.Accepting.{Fits}
 use Rattle.der_elem.specs.Options.{accepts_option}
 use Rattle.der_fields.specs.Defaults.{accepts_unless}
 use Rattle.der_places.specs.declared.place.Place.{Place}
-use Rattle.der_places.specs.Walking.{StandAt, IsEncoding, IsField, EntersContents, Follows, Walked}
-use Rattle.der_places.specs.Layout.{Layout, no_more, part, is_there, reads_optional, reads_unless, presence, AreFields, Encodes, Laid, LaidOut, LaidAt}
+use Rattle.der_places.specs.Walking.{StandAt, IsEncoding, IsField, EntersContents, Follows, HoldsContents, Walked}
+use Rattle.der_places.specs.Layout.{Layout, no_more, part, is_there, reads_optional, reads_unless, presence, AreFields, Encodes, Stands, Laid, LaidOut, LaidAt, LaidInside}
 
 -- ---- where fields stand that are one after another
 
@@ -81,6 +81,52 @@ first_laid there reads others inner octets own offset place behind places outer 
     let front = front_stands octets (offset + length outer.header) outer.contents first.front first.behind first.octets_are contents in
     let stands = subst (λ k. StandAt octets k first.front) (sym first.offset_is) front in
     record { own = first.front; stands = stands; length_is = first.length_is; laid = laid first.front first.read stands }
+
+-- the octets behind a field that stands where it was found
+pub behind_stands : (octets : List ℕ) (before : ℕ) (reads : List ℕ → Type 0) (place : Place) (others : List ℕ → Type 0) (own : List ℕ) (field : Stands reads before place others own) → StandAt octets before own → StandAt octets (place.offset + place.length) field.behind
+behind_stands octets before reads place others own field s =
+    let at = field.offset_is in
+    let lasts = field.length_is in
+    rest_stands octets before (place.offset + place.length) own field.front field.behind field.octets_are (omega arith) s
+
+-- the fields of the third field, which stands where it was found
+pub third_laid : (one two three : Bool) (first second third : List ℕ → Type 0) (others inner : Layout) (octets own : List ℕ) (offset : ℕ) (before middle place : Place) (behind places : List Place) → LaidOut (part one first (part two second (part three third others))) offset (before ∷ middle ∷ place ∷ behind) own → StandAt octets offset own → ((o : List ℕ) → third o → StandAt octets place.offset o → LaidOut inner place.offset places o) → LaidAt inner octets place places
+third_laid one two three first second third others inner octets own offset before middle place behind places outer s laid =
+    let n = offset + length outer.header in
+    let contents = rest_stands octets offset n own outer.header outer.contents outer.octets_are refl s in
+    let field = outer.laid in
+    let next = field.rest in
+    let last = next.rest in
+    let after = behind_stands octets n first before (Laid (part two second (part three third others)) (before.offset + before.length) (middle ∷ place ∷ behind)) outer.contents field contents in
+    let there = behind_stands octets (before.offset + before.length) second middle (Laid (part three third others) (middle.offset + middle.length) (place ∷ behind)) field.behind next after in
+    let front = front_stands octets (middle.offset + middle.length) next.behind last.front last.behind last.octets_are there in
+    let stands = subst (λ k. StandAt octets k last.front) (sym last.offset_is) front in
+    record { own = last.front; stands = stands; length_is = last.length_is; laid = laid last.front last.read stands }
+
+-- what is shown of the second field, which stands where it was found
+pub second_given : {A : Type 0} (one two : Bool) (first second : List ℕ → Type 0) (others : Layout) (octets own : List ℕ) (offset : ℕ) (before place : Place) (behind : List Place) → LaidOut (part one first (part two second others)) offset (before ∷ place ∷ behind) own → StandAt octets offset own → ((o : List ℕ) → second o → StandAt octets place.offset o → place.length ≡ length o → A) → A
+second_given one two first second others octets own offset before place behind outer s given =
+    let n = offset + length outer.header in
+    let contents = rest_stands octets offset n own outer.header outer.contents outer.octets_are refl s in
+    let field = outer.laid in
+    let next = field.rest in
+    let after = behind_stands octets n first before (Laid (part two second others) (before.offset + before.length) (place ∷ behind)) outer.contents field contents in
+    let front = front_stands octets (before.offset + before.length) field.behind next.front next.behind next.octets_are after in
+    given next.front next.read (subst (λ k. StandAt octets k next.front) (sym next.offset_is) front) next.length_is
+
+-- the fields of what is the contents octets of an encoding
+pub laid_inside : (fields : Layout) (octets own contents front behind : List ℕ) (tag : Tag) (outer inner : Place) (places : List Place) → IsTag tag → own ≡ tlv tag contents → contents ≡ front ++ behind → behind ≡ [] → StandAt octets outer.offset own → outer.length ≡ length own → HoldsContents octets outer inner → (StandAt octets inner.offset front → LaidOut fields inner.offset places front) → LaidInside fields octets outer places
+laid_inside fields octets own contents front behind tag outer inner places is_tag octets_are parts none s count holds laid =
+    let head = header_octets tag (length contents) in
+    let held = holds own (record { tag = tag; contents = contents; octets_are = octets_are; is_tag = is_tag }) s count in
+    let whole : contents ≡ front = parts ∙ ap (λ o. front ++ o) none ∙ append-nil front in
+    let inside = rest_stands octets outer.offset inner.offset own head contents octets_are (sym held.0) s in
+    let stands = subst (λ o. StandAt octets inner.offset o) whole inside in
+    record {
+      inner = inner;
+      within = holds;
+      laid = record { own = front; stands = stands; length_is = held.1 ∙ ap length whole; laid = laid stands };
+    }
 
 -- a field stands where it does whether the code or the value tells that it is there
 pub told : (octets : List ℕ) (last place : Place) (b d : Bool) → b ≡ d → Follows octets last b place → Follows octets last d place

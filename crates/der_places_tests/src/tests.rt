@@ -4,6 +4,9 @@ mod attributes;
 mod certificates;
 mod keys;
 mod lists;
+mod requests;
+mod signed;
+mod status;
 
 use der_places::Place;
 use std::fmt::Debug;

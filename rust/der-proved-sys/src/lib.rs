@@ -112,6 +112,107 @@ pub struct PrivateKeyInfoAt {
     pub version_number: u64,
 }
 
+/// `der_certification_request_at`.
+#[repr(C)]
+#[derive(Clone, Copy, Debug, Default, PartialEq, Eq)]
+#[allow(missing_docs)]
+pub struct CertificationRequestAt {
+    pub certification_request_info: Place,
+    pub signature_algorithm: Place,
+    pub signature: Place,
+    pub version: Place,
+    pub subject: Place,
+    pub subject_pk_info: Place,
+    pub attributes: Place,
+}
+
+/// `der_ocsp_response_at`.
+#[repr(C)]
+#[derive(Clone, Copy, Debug, Default, PartialEq, Eq)]
+#[allow(missing_docs)]
+pub struct OcspResponseAt {
+    pub response_status: Place,
+    pub response_bytes: Place,
+    pub response_type: Place,
+    pub response: Place,
+    pub response_status_number: i64,
+}
+
+/// `der_basic_ocsp_response_at`.
+#[repr(C)]
+#[derive(Clone, Copy, Debug, Default, PartialEq, Eq)]
+#[allow(missing_docs)]
+pub struct BasicOcspResponseAt {
+    pub tbs_response_data: Place,
+    pub signature_algorithm: Place,
+    pub signature: Place,
+    pub certs: Place,
+    pub version: Place,
+    pub responder_id: Place,
+    pub produced_at: Place,
+    pub responses: Place,
+    pub response_extensions: Place,
+    pub produced_at_seconds: u64,
+}
+
+/// `der_single_response_at`.
+#[repr(C)]
+#[derive(Clone, Copy, Debug, Default, PartialEq, Eq)]
+#[allow(missing_docs)]
+pub struct SingleResponseAt {
+    pub whole: Place,
+    pub cert_id: Place,
+    pub cert_status: Place,
+    pub this_update: Place,
+    pub next_update: Place,
+    pub single_extensions: Place,
+    pub this_update_seconds: u64,
+    pub next_update_seconds: u64,
+    pub revocation_time_seconds: u64,
+    pub cert_status_number: u64,
+}
+
+/// `der_content_info_at`.
+#[repr(C)]
+#[derive(Clone, Copy, Debug, Default, PartialEq, Eq)]
+#[allow(missing_docs)]
+pub struct ContentInfoAt {
+    pub content_type: Place,
+    pub content: Place,
+}
+
+/// `der_signed_data_at`.
+#[repr(C)]
+#[derive(Clone, Copy, Debug, Default, PartialEq, Eq)]
+#[allow(missing_docs)]
+pub struct SignedDataAt {
+    pub version: Place,
+    pub digest_algorithms: Place,
+    pub encap_content_info: Place,
+    pub certificates: Place,
+    pub crls: Place,
+    pub signer_infos: Place,
+    pub e_content_type: Place,
+    pub e_content: Place,
+    pub version_number: u64,
+}
+
+/// `der_signer_info_at`.
+#[repr(C)]
+#[derive(Clone, Copy, Debug, Default, PartialEq, Eq)]
+#[allow(missing_docs)]
+pub struct SignerInfoAt {
+    pub whole: Place,
+    pub version: Place,
+    pub sid: Place,
+    pub digest_algorithm: Place,
+    pub signed_attrs: Place,
+    pub signature_algorithm: Place,
+    pub signature: Place,
+    pub unsigned_attrs: Place,
+    pub version_number: u64,
+}
+
 /// `der_attribute_type_and_value_at`.
 #[repr(C)]
 #[derive(Clone, Copy, Debug, Default, PartialEq, Eq)]
@@ -151,6 +252,23 @@ extern "C" {
         out: *mut RevokedCertificateAt,
         fault: *mut Fault,
     ) -> u32;
+    pub fn der_certification_request(
+        octets: *const u8,
+        len: usize,
+        out: *mut CertificationRequestAt,
+        fault: *mut Fault,
+    ) -> u32;
+    pub fn der_ocsp_response(octets: *const u8, len: usize, out: *mut OcspResponseAt, fault: *mut Fault) -> u32;
+    pub fn der_basic_ocsp_response(
+        octets: *const u8,
+        len: usize,
+        out: *mut BasicOcspResponseAt,
+        fault: *mut Fault,
+    ) -> u32;
+    pub fn der_single_response(octets: *const u8, len: usize, out: *mut SingleResponseAt, fault: *mut Fault) -> u32;
+    pub fn der_content_info(octets: *const u8, len: usize, out: *mut ContentInfoAt, fault: *mut Fault) -> u32;
+    pub fn der_signed_data(octets: *const u8, len: usize, out: *mut SignedDataAt, fault: *mut Fault) -> u32;
+    pub fn der_signer_info(octets: *const u8, len: usize, out: *mut SignerInfoAt, fault: *mut Fault) -> u32;
     pub fn der_attribute_type_and_value(
         octets: *const u8,
         len: usize,
@@ -158,6 +276,18 @@ extern "C" {
         fault: *mut Fault,
     ) -> u32;
     pub fn der_attribute(octets: *const u8, len: usize, out: *mut AttributeAt, fault: *mut Fault) -> u32;
+    pub fn der_check_rfc5280(octets: *const u8, len: usize, broken: *mut u32, fault: *mut Fault) -> u32;
+    pub fn der_check_rfc5280_list(octets: *const u8, len: usize, broken: *mut u32, fault: *mut Fault) -> u32;
+    pub fn der_canonical(
+        name: *const u8,
+        name_len: usize,
+        octets: *const u8,
+        len: usize,
+        room: *mut u8,
+        room_len: usize,
+        written: *mut usize,
+        fault: *mut Fault,
+    ) -> u32;
     pub fn der_next_encoding(octets: *const u8, len: usize, last: *const Place) -> Place;
     pub fn der_contents(octets: *const u8, len: usize, place: *const Place) -> Place;
     pub fn der_signed_octets(octets: *const u8, len: usize) -> Place;

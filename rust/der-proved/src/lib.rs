@@ -1,7 +1,9 @@
-//! DER of certificates, lists of revoked ones, keys, proved: which octets are taken, and where each field stands.
+//! DER of certificates, lists of revoked ones, keys, requests, answers about the status of certificates
+//! and signed messages, proved: which octets are taken, where each field stands, which rules of RFC 5280
+//! are broken, and the canonical encoding by the name of a type.
 //!
 //! A value borrows the octets that it was read from, and a field is a slice of them: its whole
-//! encoding. Nothing is copied, and no signature is verified. The code that reads is Barleypulley's
+//! encoding. Nothing is copied but by `canonical`, and no signature is verified. The code that reads is Barleypulley's
 //! `der_c`, whose contracts `docs/C.md` quotes; this crate, which calls it, is not proved.
 //!
 //! ```
@@ -21,15 +23,25 @@
 #![warn(missing_docs)]
 
 mod attribute;
+mod canonical;
 mod certificate;
 mod certificate_list;
+mod cms;
 mod error;
 mod key;
+mod ocsp;
 mod place;
+mod request;
+mod rules;
 
 pub use attribute::{Attribute, AttributeTypeAndValue, Attributes, Name};
+pub use canonical::{canonical, CanonicalError};
 pub use certificate::{Certificate, Extension, Extensions};
 pub use certificate_list::{CertificateList, RevokedCertificate, RevokedCertificates};
+pub use cms::{ContentInfo, SignedData, SignerInfo, SignerInfos};
 pub use error::Error;
 pub use key::{PrivateKeyInfo, SubjectPublicKeyInfo};
+pub use ocsp::{BasicOcspResponse, CertStatus, OcspResponse, SingleResponse, SingleResponses};
 pub use place::{contents, signed_octets};
+pub use request::CertificationRequest;
+pub use rules::{check_rfc5280, check_rfc5280_list, BrokenRules, CertificateRule, ListRule};

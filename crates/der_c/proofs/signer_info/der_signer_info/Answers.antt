@@ -1,0 +1,8 @@
+use Rattle.std.proofs.Common.{inl, refl}
+use Rattle.der_c.proofs.signer_info.der_signer_info.Goals as goal
+
+pub returns-in-Ok : goal.returns-in-Ok
+returns-in-Ok c =
+    let read = c.in-Ok.ensures.ok in
+    let at = c.signer_info_at.ensures in
+    inl (record { number = refl; unchanged = refl }, record { value = c.in-Ok.value; taken = c.in-Ok.length; read = read; shown = (at.offset, at.length, at.fields read, at.version) })

@@ -1,0 +1,25 @@
+//! Truth values as the bits of a number.
+
+ghost use Rattle.std.specs.Prelude.{◌≡◌, ◌+◌, ◌*◌, ◌<◌, ◌^◌, length};
+ghost use Rattle.der_c.specs.Bits.{bit, bits_before};
+
+/// The flags as the bits of a number. They are told from the last, which is the greatest, to the first,
+/// which is 1.
+pub(crate) fn number_of_flags(flags: &[bool]) -> u32
+    ensures { length flags.now < 32 → result ≡ bits_before 0 flags.now }
+{
+    let mut bits = 0;
+    let mut left = flags;
+    'each: while let [flag, others @ ..] = left {
+        bits = with_flag(bits, *flag);
+        left = others;
+    }
+    bits
+}
+
+/// A flag before those that a number has.
+fn with_flag(bits: u32, flag: bool) -> u32
+    ensures { bit flag + 2 * bits < 2 ^ 32 → result ≡ bit flag + 2 * bits }
+{
+    bits.saturating_mul(2).saturating_add(u32::from(flag))
+}

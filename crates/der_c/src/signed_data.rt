@@ -1,0 +1,104 @@
+//! Where the fields of a signed message stand.
+
+ghost use Rattle.std.specs.Prelude.{◌≡◌};
+ghost use Rattle.der_cms.specs.Cms.SignedData as signed;
+ghost use Rattle.der_elem.specs.Decoding.{AllRead};
+ghost use Rattle.der_places.specs.Layout.{LaidAt, LaidOut};
+ghost use Rattle.der_c.specs.Answers.{Answers};
+
+use crate::fault::{Fault, refuse};
+use der_cms::cms::{ContentInfo, EncapsulatedContentInfo, SignedData};
+use der_elem::{Form, FromDer};
+use der_places::{
+    ContentInfoPlaces, EncapsulatedContentInfoPlaces, Placed, SignedDataPlaces, places_of,
+};
+use std::alloc::Global;
+
+/// Reads octets as a ContentInfo (RFC 5652 section 3), all of them, and says where its fields stand.
+///
+/// The answer is 0, and `out` has the places; or the number of the first fault, and `out` is as it
+/// was.
+#[unsafe(no_mangle)]
+pub extern "C" fn der_content_info<'a>(
+    alloc: Global,
+    octets: &'a [u8],
+    out: &mut ContentInfoPlaces,
+    fault: &mut Fault,
+) -> u32
+    ensures { Answers ⟦<ContentInfo<'a> as Form>⟧ octets.now
+        (λ v at. LaidOut (⟦<ContentInfo<'a> as Placed>⟧.layout v) 0 (⟦<ContentInfo<'a> as Placed>⟧.listed at) octets.now)
+        out.old out.new fault.old fault.new result }
+{
+    match ContentInfo::from_der(alloc, octets) {
+        Ok(value) => {
+            *out = content_info_at(&value, octets);
+            0
+        }
+        Err(error) => refuse(error, fault),
+    }
+}
+
+/// Where the fields of a ContentInfo stand that was read from these octets.
+fn content_info_at<'a>(value: &ContentInfo<'a>, octets: &[u8]) -> ContentInfoPlaces
+    ensures { AllRead ⟦<ContentInfo<'a> as Form>⟧ octets.now value.now
+        → LaidOut (⟦<ContentInfo<'a> as Placed>⟧.layout value.now) 0 (⟦<ContentInfo<'a> as Placed>⟧.listed result) octets.now }
+{
+    places_of(value, octets, 0)
+}
+
+/// Where the fields of a SignedData stand, and its version.
+#[repr(C)]
+#[derive(Clone, Copy, Debug, PartialEq, Eq)]
+pub struct SignedDataAt {
+    /// Its six fields.
+    pub fields: SignedDataPlaces,
+    /// The two fields of `encapContentInfo`.
+    pub content: EncapsulatedContentInfoPlaces,
+    /// 0 to 5.
+    pub version: u64,
+}
+
+/// Reads octets as a SignedData (RFC 5652 5.1), all of them, and says where its fields stand: what
+/// stands within the tag of `content`, where `contentType` is id-signedData.
+///
+/// The answer is 0, and `out` has the places; or the number of the first fault, and `out` is as it
+/// was.
+#[unsafe(no_mangle)]
+pub extern "C" fn der_signed_data<'a>(
+    alloc: Global,
+    octets: &'a [u8],
+    out: &mut SignedDataAt,
+    fault: &mut Fault,
+) -> u32
+    ensures { Answers ⟦<SignedData<'a> as Form>⟧ octets.now (λ v at.
+        LaidOut (⟦<SignedData<'a> as Placed>⟧.layout v) 0 (⟦<SignedData<'a> as Placed>⟧.listed at.fields) octets.now
+        × LaidAt (⟦<EncapsulatedContentInfo<'a> as Placed>⟧.layout (signed.encap_content_info v)) octets.now at.fields.encap_content_info (⟦<EncapsulatedContentInfo<'a> as Placed>⟧.listed at.content)
+        × (at.version ≡ signed.version v))
+        out.old out.new fault.old fault.new result }
+{
+    match SignedData::from_der(alloc, octets) {
+        Ok(value) => {
+            *out = signed_data_at(&value, octets);
+            0
+        }
+        Err(error) => refuse(error, fault),
+    }
+}
+
+/// Where the fields of a SignedData stand that was read from these octets.
+fn signed_data_at<'a>(value: &SignedData<'a>, octets: &[u8]) -> SignedDataAt
+    ensures fields { AllRead ⟦<SignedData<'a> as Form>⟧ octets.now value.now
+        → LaidOut (⟦<SignedData<'a> as Placed>⟧.layout value.now) 0 (⟦<SignedData<'a> as Placed>⟧.listed result.fields) octets.now }
+    ensures content { AllRead ⟦<SignedData<'a> as Form>⟧ octets.now value.now
+        → LaidAt (⟦<EncapsulatedContentInfo<'a> as Placed>⟧.layout (signed.encap_content_info value.now)) octets.now result.fields.encap_content_info (⟦<EncapsulatedContentInfo<'a> as Placed>⟧.listed result.content) }
+    ensures version { result.version ≡ signed.version value.now }
+{
+    let fields = places_of(value, octets, 0);
+    let encapsulated = value.encap_content_info();
+    let content = places_of(encapsulated, octets, fields.encap_content_info.offset);
+    SignedDataAt {
+        fields,
+        content,
+        version: u64::from(value.version()),
+    }
+}

@@ -1,0 +1,67 @@
+//! Where the fields of a signer stand, of those that stand one behind another.
+
+ghost use Rattle.std.specs.Prelude.{◌≡◌, take};
+ghost use Rattle.der_cms.specs.Cms.SignerInfo as signer;
+ghost use Rattle.der_places.specs.Layout.{LaidOut};
+ghost use Rattle.der_c.specs.Answers.{AnswersFront, FrontRead};
+
+use crate::fault::{Fault, refuse};
+use crate::front::read_front;
+use der_cms::cms::SignerInfo;
+use der_elem::Form;
+use der_places::{Place, Placed, SignerInfoPlaces, places_of};
+use std::alloc::Global;
+
+/// Where the fields of a signer stand, and the version.
+#[repr(C)]
+#[derive(Clone, Copy, Debug, PartialEq, Eq)]
+pub struct SignerInfoAt {
+    /// The whole SignerInfo; behind it the next one begins.
+    pub whole: Place,
+    /// Its fields.
+    pub fields: SignerInfoPlaces,
+    /// 1 or 3 in a message that follows the RFC.
+    pub version: u64,
+}
+
+/// Reads the SignerInfo that stands at the front of the octets (RFC 5652 5.3), and says where its
+/// fields stand. So who has the signers of a message reads one, and then what is behind it.
+///
+/// The answer is 0, and `out` has the places; or the number of the first fault, and `out` is as it
+/// was.
+#[unsafe(no_mangle)]
+pub extern "C" fn der_signer_info<'a>(
+    alloc: Global,
+    octets: &'a [u8],
+    out: &mut SignerInfoAt,
+    fault: &mut Fault,
+) -> u32
+    ensures { AnswersFront ⟦<SignerInfo<'a> as Form>⟧ octets.now (λ v taken at.
+        (at.whole.offset ≡ 0) × (at.whole.length ≡ taken)
+        × LaidOut (⟦<SignerInfo<'a> as Placed>⟧.layout v) 0 (⟦<SignerInfo<'a> as Placed>⟧.listed at.fields) (take taken octets.now)
+        × (at.version ≡ signer.version v))
+        out.old out.new fault.old fault.new result }
+{
+    match read_front::<SignerInfo<'a>>(alloc, octets) {
+        Ok((value, length)) => {
+            *out = signer_info_at(&value, octets, length);
+            0
+        }
+        Err(error) => refuse(error, fault),
+    }
+}
+
+/// Where the fields of a signer stand that was read from so many octets at the front.
+fn signer_info_at<'a>(value: &SignerInfo<'a>, octets: &[u8], length: u32) -> SignerInfoAt
+    ensures fields { FrontRead ⟦<SignerInfo<'a> as Form>⟧ octets.now value.now length
+        → LaidOut (⟦<SignerInfo<'a> as Placed>⟧.layout value.now) 0 (⟦<SignerInfo<'a> as Placed>⟧.listed result.fields) (take length octets.now) }
+    ensures offset { result.whole.offset ≡ 0 }
+    ensures length { result.whole.length ≡ length }
+    ensures version { result.version ≡ signer.version value.now }
+{
+    SignerInfoAt {
+        whole: Place { offset: 0, length },
+        fields: places_of(value, octets, 0),
+        version: u64::from(value.version()),
+    }
+}

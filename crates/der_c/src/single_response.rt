@@ -1,0 +1,111 @@
+//! Where the fields of the answer about one certificate stand, of those that stand one behind another.
+
+ghost use Rattle.std.specs.Prelude.{◌≡◌, take};
+ghost use Rattle.der_ocsp.specs.Ocsp.SingleResponse as single;
+ghost use Rattle.der_places.specs.Layout.{LaidOut};
+ghost use Rattle.der_c.specs.Answers.{AnswersFront, FrontRead};
+ghost use Rattle.der_c.specs.Status.{number_of_status, revoked_at};
+ghost use Rattle.der_c.specs.Times.{seconds_if_given, seconds_of_general};
+
+use crate::fault::{Fault, refuse};
+use crate::front::read_front;
+use crate::times::{general_seconds, general_seconds_or_none};
+use der_elem::Form;
+use der_ocsp::ocsp::{CertStatus, SingleResponse};
+use der_places::{Place, Placed, SingleResponsePlaces, places_of};
+use std::alloc::Global;
+
+/// Where the fields of the answer about one certificate stand, and what some of them say.
+#[repr(C)]
+#[derive(Clone, Copy, Debug, PartialEq, Eq)]
+pub struct SingleResponseAt {
+    /// The whole answer; behind it the next one begins.
+    pub whole: Place,
+    /// Its fields.
+    pub fields: SingleResponsePlaces,
+    /// `thisUpdate`, in seconds from 1970-01-01T00:00:00Z.
+    pub this_update: u64,
+    /// `nextUpdate`; 0 where it is absent.
+    pub next_update: u64,
+    /// `revocationTime` of a certificate that is revoked, else 0.
+    pub revocation_time: u64,
+    /// `certStatus`: 0 for good, 1 for revoked, 2 for unknown.
+    pub status: u64,
+}
+
+/// Reads the answer about one certificate that stands at the front of the octets (RFC 6960 4.2.1), and
+/// says where its fields stand. So who has the answers reads one, and then what is behind it.
+///
+/// The answer is 0, and `out` has the places; or the number of the first fault, and `out` is as it
+/// was.
+#[unsafe(no_mangle)]
+pub extern "C" fn der_single_response<'a>(
+    alloc: Global,
+    octets: &'a [u8],
+    out: &mut SingleResponseAt,
+    fault: &mut Fault,
+) -> u32
+    ensures { AnswersFront ⟦<SingleResponse<'a> as Form>⟧ octets.now (λ v taken at.
+        (at.whole.offset ≡ 0) × (at.whole.length ≡ taken)
+        × LaidOut (⟦<SingleResponse<'a> as Placed>⟧.layout v) 0 (⟦<SingleResponse<'a> as Placed>⟧.listed at.fields) (take taken octets.now)
+        × (at.this_update ≡ seconds_of_general (single.this_update v))
+        × (at.next_update ≡ seconds_if_given (single.next_update v))
+        × (at.revocation_time ≡ revoked_at (single.cert_status v))
+        × (at.status ≡ number_of_status (single.cert_status v)))
+        out.old out.new fault.old fault.new result }
+{
+    match read_front::<SingleResponse<'a>>(alloc, octets) {
+        Ok((value, length)) => {
+            *out = single_response_at(&value, octets, length);
+            0
+        }
+        Err(error) => refuse(error, fault),
+    }
+}
+
+/// Where the fields of an answer stand that was read from so many octets at the front.
+fn single_response_at<'a>(
+    value: &SingleResponse<'a>,
+    octets: &[u8],
+    length: u32,
+) -> SingleResponseAt
+    ensures fields { FrontRead ⟦<SingleResponse<'a> as Form>⟧ octets.now value.now length
+        → LaidOut (⟦<SingleResponse<'a> as Placed>⟧.layout value.now) 0 (⟦<SingleResponse<'a> as Placed>⟧.listed result.fields) (take length octets.now) }
+    ensures offset { result.whole.offset ≡ 0 }
+    ensures length { result.whole.length ≡ length }
+    ensures this_update { result.this_update ≡ seconds_of_general (single.this_update value.now) }
+    ensures next_update { result.next_update ≡ seconds_if_given (single.next_update value.now) }
+    ensures revocation_time { result.revocation_time ≡ revoked_at (single.cert_status value.now) }
+    ensures status { result.status ≡ number_of_status (single.cert_status value.now) }
+{
+    SingleResponseAt {
+        whole: Place { offset: 0, length },
+        fields: places_of(value, octets, 0),
+        this_update: general_seconds(value.this_update()),
+        next_update: general_seconds_or_none(value.next_update()),
+        revocation_time: revocation_seconds(value.cert_status()),
+        status: status_number(value.cert_status()),
+    }
+}
+
+/// 0 for good, 1 for revoked, 2 for unknown.
+fn status_number(status: CertStatus) -> u64
+    ensures { result ≡ number_of_status status }
+{
+    match status {
+        CertStatus::Good(_) => 0,
+        CertStatus::Revoked(_) => 1,
+        CertStatus::Unknown(_) => 2,
+    }
+}
+
+/// When a certificate was revoked; 0 of one that is not.
+fn revocation_seconds(status: CertStatus) -> u64
+    ensures { result ≡ revoked_at status }
+{
+    match status {
+        CertStatus::Revoked(tagged) => general_seconds(tagged.value.revocation_time()),
+        CertStatus::Good(_) => 0,
+        CertStatus::Unknown(_) => 0,
+    }
+}

@@ -1,0 +1,69 @@
+//! The fields of a ContentInfo.
+
+ghost use Rattle.std.specs.Prelude.{[], ◌∷◌};
+ghost use Rattle.std.proofs.Common.{lit<, true};
+ghost use Rattle.der_tlv.specs.declared.encoding_rules.EncodingRules.TheVariants.{Der};
+ghost use Rattle.der_tlv.specs.declared.tag.Tag.TheVariants as tags;
+ghost use Rattle.der_places.specs.Layout.{explicit, field, no_more};
+ghost use Rattle.der_places.specs.LayoutLaws.{is_encoding};
+ghost use Rattle.der_fields.specs.MarkerTags.{marker_tag, marker_tag-in_range};
+ghost use Rattle.der_cms.specs.Cms.ContentInfo as fields_of;
+
+use crate::place::Place;
+use crate::placed::Placed;
+use crate::walk::next_place;
+use der_cms::cms::{ContentInfo, ContentType};
+use der_elem::Form;
+use der_fields::Explicit;
+use der_opaque::AnyRef;
+
+/// Where the fields of a ContentInfo stand (RFC 5652 section 3).
+#[repr(C)]
+#[derive(Clone, Copy, Debug, PartialEq, Eq)]
+pub struct ContentInfoPlaces {
+    /// `contentType`: an OBJECT IDENTIFIER.
+    pub content_type: Place,
+    /// `content` after its tag.
+    pub content: Place,
+}
+
+impl<'a> Placed for ContentInfo<'a> {
+    type Places = ContentInfoPlaces;
+
+    ghost listed = { λ p. p.content_type ∷ p.content ∷ [] };
+
+    ghost layout = { λ v.
+        field (⟦<ContentType<'a> as Form>⟧.accepts Der (fields_of.content_type v))
+        (field (⟦<Explicit<AnyRef<'a>, 0> as Form>⟧.accepts Der (explicit (fields_of.content v)))
+        no_more) };
+
+    fn walk(&self, octets: &[u8], start: Place) -> ContentInfoPlaces {
+        let content_type = next_place(octets, start, true);
+        let content = next_place(octets, content_type, true);
+        ContentInfoPlaces {
+            content_type,
+            content,
+        }
+    }
+
+    ghost are_fields = { λ v c a.
+        let one = a in
+        let two = one.rest in
+        record {
+          front = one.front;
+          behind = one.others;
+          octets_are = one.octets_are;
+          is_field = is_encoding tags.ObjectIdentifier (lit< tt) one.front one.first.0 one.first.1;
+          read = one.first;
+          rest =
+              record {
+                front = two.front;
+                behind = two.others;
+                octets_are = two.octets_are;
+                is_field = is_encoding (marker_tag 2 true 0) (marker_tag-in_range 2 true 0) two.front two.first.0 two.first.1;
+                read = two.first;
+                rest =
+                    two.rest;
+              };
+        } };
+}

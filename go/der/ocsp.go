@@ -1,0 +1,140 @@
+package der
+
+// #include "der.h"
+import "C"
+
+import "time"
+
+// OCSPResponse is an answer about the status of certificates (RFC 6960 4.2.1).
+type OCSPResponse struct {
+	octets []byte
+	at     C.der_ocsp_response_at
+}
+
+// ReadOCSPResponse reads octets as an OCSPResponse, all of them. They must not change as long as the answer is used.
+func ReadOCSPResponse(octets []byte) (*OCSPResponse, error) {
+	var out C.der_ocsp_response_at
+	var fault C.der_fault
+	address, count := first(octets)
+	if err := answered(C.der_ocsp_response(address, count, &out, &fault), &fault); err != nil {
+		return nil, err
+	}
+	return &OCSPResponse{octets, out}, nil
+}
+
+// ResponseStatus gives responseStatus: 0 for successful, 1 to 3, 5 or 6.
+func (r *OCSPResponse) ResponseStatus() int { return int(r.at.response_status_number) }
+
+// ResponseType gives responseType of responseBytes, an OBJECT IDENTIFIER; nil where these are absent.
+func (r *OCSPResponse) ResponseType() []byte { return at(r.octets, r.at.response_type) }
+
+// Response gives response of responseBytes, an OCTET STRING, of which ReadBasicOCSPResponse reads the contents; nil where
+// these are absent.
+func (r *OCSPResponse) Response() []byte { return at(r.octets, r.at.response) }
+
+// BasicOCSPResponse is a signed answer (RFC 6960 4.2.1).
+type BasicOCSPResponse struct {
+	octets []byte
+	at     C.der_basic_ocsp_response_at
+}
+
+// ReadBasicOCSPResponse reads octets as a BasicOCSPResponse, all of them. They must not change as long as the answer is used.
+func ReadBasicOCSPResponse(octets []byte) (*BasicOCSPResponse, error) {
+	var out C.der_basic_ocsp_response_at
+	var fault C.der_fault
+	address, count := first(octets)
+	if err := answered(C.der_basic_ocsp_response(address, count, &out, &fault), &fault); err != nil {
+		return nil, err
+	}
+	return &BasicOCSPResponse{octets, out}, nil
+}
+
+// TBSResponseData gives tbsResponseData: what the signature covers.
+func (b *BasicOCSPResponse) TBSResponseData() []byte { return at(b.octets, b.at.tbs_response_data) }
+
+// SignatureAlgorithm gives signatureAlgorithm, an AlgorithmIdentifier.
+func (b *BasicOCSPResponse) SignatureAlgorithm() []byte {
+	return at(b.octets, b.at.signature_algorithm)
+}
+
+// Signature gives signature, a BIT STRING.
+func (b *BasicOCSPResponse) Signature() []byte { return at(b.octets, b.at.signature) }
+
+// Certs gives certs with their tag [0]; nil where they are absent.
+func (b *BasicOCSPResponse) Certs() []byte { return at(b.octets, b.at.certs) }
+
+// ResponderID gives responderID, with its tag [1] or [2].
+func (b *BasicOCSPResponse) ResponderID() []byte { return at(b.octets, b.at.responder_id) }
+
+// ProducedAt gives producedAt.
+func (b *BasicOCSPResponse) ProducedAt() time.Time { return seconds(b.at.produced_at_seconds) }
+
+// Responses goes over the answers about single certificates, in their order.
+func (b *BasicOCSPResponse) Responses() *Items[SingleResponse] {
+	return &Items[SingleResponse]{left: Contents(at(b.octets, b.at.responses)), read: readSingleResponse}
+}
+
+// Extensions goes over the extensions, in their order.
+func (b *BasicOCSPResponse) Extensions() *Items[Extension] {
+	return extensions(Contents(at(b.octets, b.at.response_extensions)))
+}
+
+// CertStatus is what is answered about a certificate.
+type CertStatus int
+
+// What is answered about a certificate.
+const (
+	Good CertStatus = iota
+	Revoked
+	Unknown
+)
+
+// SingleResponse is the answer about one certificate (RFC 6960 4.2.1).
+type SingleResponse struct {
+	octets []byte
+	at     C.der_single_response_at
+}
+
+// readSingleResponse reads the answer at the front of octets, and says how many it has.
+func readSingleResponse(octets []byte) (SingleResponse, int, error) {
+	var out C.der_single_response_at
+	var fault C.der_fault
+	address, count := first(octets)
+	if err := answered(C.der_single_response(address, count, &out, &fault), &fault); err != nil {
+		return SingleResponse{}, 0, err
+	}
+	return SingleResponse{at(octets, out.whole), out}, int(out.whole.length), nil
+}
+
+// Octets gives the whole answer.
+func (s SingleResponse) Octets() []byte { return s.octets }
+
+// CertID gives certID.
+func (s SingleResponse) CertID() []byte { return at(s.octets, s.at.cert_id) }
+
+// CertStatus gives certStatus.
+func (s SingleResponse) CertStatus() CertStatus { return CertStatus(s.at.cert_status_number) }
+
+// RevocationTime gives when the certificate was revoked, and whether it was.
+func (s SingleResponse) RevocationTime() (time.Time, bool) {
+	if s.CertStatus() != Revoked {
+		return time.Time{}, false
+	}
+	return seconds(s.at.revocation_time_seconds), true
+}
+
+// ThisUpdate gives thisUpdate.
+func (s SingleResponse) ThisUpdate() time.Time { return seconds(s.at.this_update_seconds) }
+
+// NextUpdate gives nextUpdate, and whether it is there.
+func (s SingleResponse) NextUpdate() (time.Time, bool) {
+	if s.at.next_update.length == 0 {
+		return time.Time{}, false
+	}
+	return seconds(s.at.next_update_seconds), true
+}
+
+// Extensions goes over the extensions, in their order.
+func (s SingleResponse) Extensions() *Items[Extension] {
+	return extensions(Contents(at(s.octets, s.at.single_extensions)))
+}

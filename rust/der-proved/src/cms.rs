@@ -1,0 +1,126 @@
+//! Signed messages.
+
+use crate::place::{at, fields, if_there, items, optional_fields, read};
+use crate::{Attributes, Error};
+use der_proved_sys as sys;
+
+/// A ContentInfo (RFC 5652 section 3).
+#[derive(Clone, Copy, Debug)]
+pub struct ContentInfo<'a> {
+    octets: &'a [u8],
+    at: sys::ContentInfoAt,
+}
+
+impl<'a> ContentInfo<'a> {
+    /// Reads octets as a ContentInfo, all of them.
+    ///
+    /// # Errors
+    /// The first fault of the octets.
+    pub fn from_der(octets: &'a [u8]) -> Result<ContentInfo<'a>, Error> {
+        let at = read(sys::der_content_info, octets)?;
+        Ok(ContentInfo { octets, at })
+    }
+
+    fields! {
+        /// `contentType`, an OBJECT IDENTIFIER.
+        content_type
+        /// `content` with its tag [0], of which `SignedData::from_der` reads the contents.
+        content
+    }
+}
+
+/// A SignedData (RFC 5652 5.1).
+#[derive(Clone, Copy, Debug)]
+pub struct SignedData<'a> {
+    octets: &'a [u8],
+    at: sys::SignedDataAt,
+}
+
+impl<'a> SignedData<'a> {
+    /// Reads octets as a SignedData, all of them.
+    ///
+    /// # Errors
+    /// The first fault of the octets; 1 where memory runs out.
+    pub fn from_der(octets: &'a [u8]) -> Result<SignedData<'a>, Error> {
+        let at = read(sys::der_signed_data, octets)?;
+        Ok(SignedData { octets, at })
+    }
+
+    fields! {
+        /// `digestAlgorithms`, a SET OF.
+        digest_algorithms
+        /// `eContentType` of `encapContentInfo`, an OBJECT IDENTIFIER.
+        e_content_type
+    }
+
+    optional_fields! {
+        /// `certificates` with their tag [0].
+        certificates
+        /// `crls` with their tag [1].
+        crls
+        /// `eContent` of `encapContentInfo` with its tag [0]: an OCTET STRING.
+        e_content
+    }
+
+    /// `version`, 0 to 5.
+    pub fn version(&self) -> u64 {
+        self.at.version_number
+    }
+
+    /// The signers, in their order.
+    pub fn signer_infos(&self) -> SignerInfos<'a> {
+        SignerInfos::listed(if_there(self.octets, self.at.signer_infos))
+    }
+}
+
+/// A SignerInfo (RFC 5652 5.3).
+#[derive(Clone, Copy, Debug)]
+pub struct SignerInfo<'a> {
+    octets: &'a [u8],
+    at: sys::SignerInfoAt,
+}
+
+impl<'a> SignerInfo<'a> {
+    fields! {
+        /// `sid`: a SEQUENCE of issuer and serial number, or with its tag [0] a key's identifier.
+        sid
+        /// `digestAlgorithm`, an AlgorithmIdentifier.
+        digest_algorithm
+        /// `signatureAlgorithm`, an AlgorithmIdentifier.
+        signature_algorithm
+        /// `signature`, an OCTET STRING.
+        signature
+    }
+
+    optional_fields! {
+        /// `signedAttrs` with their tag [0].
+        signed_attrs
+        /// `unsignedAttrs` with their tag [1].
+        unsigned_attrs
+    }
+
+    /// The whole SignerInfo.
+    pub fn as_bytes(&self) -> &'a [u8] {
+        at(self.octets, self.at.whole)
+    }
+
+    /// `version`, 0 to 5.
+    pub fn version(&self) -> u64 {
+        self.at.version_number
+    }
+
+    /// The signed attributes, in their order.
+    pub fn signed_attributes(&self) -> Attributes<'a> {
+        Attributes::listed(self.signed_attrs())
+    }
+
+    /// The unsigned attributes, in their order.
+    pub fn unsigned_attributes(&self) -> Attributes<'a> {
+        Attributes::listed(self.unsigned_attrs())
+    }
+}
+
+items! {
+    /// Goes over the signers of a message.
+    SignerInfos, SignerInfo, der_signer_info
+}

@@ -1,0 +1,143 @@
+//! Answers about the status of certificates.
+
+use crate::place::{at, fields, if_there, items, optional_fields, read};
+use crate::{Error, Extensions};
+use der_proved_sys as sys;
+
+/// An OCSPResponse (RFC 6960 4.2.1).
+#[derive(Clone, Copy, Debug)]
+pub struct OcspResponse<'a> {
+    octets: &'a [u8],
+    at: sys::OcspResponseAt,
+}
+
+impl<'a> OcspResponse<'a> {
+    /// Reads octets as an OCSPResponse, all of them.
+    ///
+    /// # Errors
+    /// The first fault of the octets.
+    pub fn from_der(octets: &'a [u8]) -> Result<OcspResponse<'a>, Error> {
+        let at = read(sys::der_ocsp_response, octets)?;
+        Ok(OcspResponse { octets, at })
+    }
+
+    /// `responseStatus`: 0 for successful, 1 to 3, 5 or 6.
+    pub fn response_status(&self) -> i64 {
+        self.at.response_status_number
+    }
+
+    optional_fields! {
+        /// `responseType` of `responseBytes`, an OBJECT IDENTIFIER.
+        response_type
+        /// `response` of `responseBytes`, an OCTET STRING, of which `BasicOcspResponse::from_der` reads the contents.
+        response
+    }
+}
+
+/// A BasicOCSPResponse (RFC 6960 4.2.1).
+#[derive(Clone, Copy, Debug)]
+pub struct BasicOcspResponse<'a> {
+    octets: &'a [u8],
+    at: sys::BasicOcspResponseAt,
+}
+
+impl<'a> BasicOcspResponse<'a> {
+    /// Reads octets as a BasicOCSPResponse, all of them.
+    ///
+    /// # Errors
+    /// The first fault of the octets; 1 where memory runs out.
+    pub fn from_der(octets: &'a [u8]) -> Result<BasicOcspResponse<'a>, Error> {
+        let at = read(sys::der_basic_ocsp_response, octets)?;
+        Ok(BasicOcspResponse { octets, at })
+    }
+
+    fields! {
+        /// `tbsResponseData`: what the signature covers.
+        tbs_response_data
+        /// `signatureAlgorithm`, an AlgorithmIdentifier.
+        signature_algorithm
+        /// `signature`, a BIT STRING.
+        signature
+        /// `responderID`, with its tag [1] or [2].
+        responder_id
+    }
+
+    optional_fields! {
+        /// `certs` with their tag [0].
+        certs
+    }
+
+    /// `producedAt`, in seconds from 1970-01-01T00:00:00Z.
+    pub fn produced_at(&self) -> u64 {
+        self.at.produced_at_seconds
+    }
+
+    /// The answers about single certificates, in their order.
+    pub fn responses(&self) -> SingleResponses<'a> {
+        SingleResponses::listed(if_there(self.octets, self.at.responses))
+    }
+
+    /// The extensions, in their order.
+    pub fn extensions(&self) -> Extensions<'a> {
+        Extensions::after_tag(if_there(self.octets, self.at.response_extensions))
+    }
+}
+
+/// What is answered about a certificate.
+#[derive(Clone, Copy, Debug, PartialEq, Eq)]
+pub enum CertStatus {
+    /// It is not revoked.
+    Good,
+    /// It was revoked, at this second from 1970-01-01T00:00:00Z.
+    Revoked(u64),
+    /// It is not known.
+    Unknown,
+}
+
+/// The answer about one certificate (RFC 6960 4.2.1).
+#[derive(Clone, Copy, Debug)]
+pub struct SingleResponse<'a> {
+    octets: &'a [u8],
+    at: sys::SingleResponseAt,
+}
+
+impl<'a> SingleResponse<'a> {
+    fields! {
+        /// `certID`.
+        cert_id
+    }
+
+    /// The whole answer.
+    pub fn as_bytes(&self) -> &'a [u8] {
+        at(self.octets, self.at.whole)
+    }
+
+    /// `certStatus`.
+    pub fn cert_status(&self) -> CertStatus {
+        match self.at.cert_status_number {
+            0 => CertStatus::Good,
+            1 => CertStatus::Revoked(self.at.revocation_time_seconds),
+            _ => CertStatus::Unknown,
+        }
+    }
+
+    /// `thisUpdate`, in seconds from 1970-01-01T00:00:00Z.
+    pub fn this_update(&self) -> u64 {
+        self.at.this_update_seconds
+    }
+
+    /// `nextUpdate`, in seconds from 1970-01-01T00:00:00Z, if it is there.
+    pub fn next_update(&self) -> Option<u64> {
+        (self.at.next_update.length > 0).then_some(self.at.next_update_seconds)
+    }
+
+    /// The extensions, in their order.
+    pub fn extensions(&self) -> Extensions<'a> {
+        Extensions::after_tag(if_there(self.octets, self.at.single_extensions))
+    }
+}
+
+items! {
+    /// Goes over the answers about single certificates.
+    SingleResponses, SingleResponse, der_single_response
+}
