@@ -136,10 +136,11 @@ fn command<'a>(alloc: Global) -> Result<Command<'a>, Error> {
     let fields = Arg::new(alloc, "fields")
         .long("fields")
         .value_name("NAME,..")
-        .help("Shows only the fields with these names")
+        .help("Shows only the fields with these names, as subject,not-after; a name of no field is answered with all names")
         .action(ArgAction::Append)
         .value_delimiter(',')
-        .value_parser(FIELDS.as_slice());
+        .value_parser(FIELDS.as_slice())
+        .hide_possible_values(true);
     let moment = Arg::new(alloc, "at").long("at").value_name("TIME").help(
         "Says whether each certificate is valid, and each list current, at that day or moment",
     );
