@@ -268,6 +268,8 @@ def main():
         built = f"{words.built}/crates/certview/out/certview"
         program = built if os.path.isfile(built) else programs.built_by_try("certview", folder, refuses=False)
         validator = documents.validator()
+        if words.keep:
+            os.makedirs(words.keep, exist_ok=True)
         shop = Workshop(words.keep or folder)
         everything.make(shop)
         made = [it for it in shop.made if os.path.basename(it.path).startswith(words.only)]
@@ -278,8 +280,8 @@ def main():
                 read.append((it, document))
         compare_with_openssl([(it, document["messages"][0]) for it, document in read])
         compare_texts(program, read)
-        compare_spoilt(program, shop)
         if not words.only:
+            compare_spoilt(program, shop)
             compare_store(program, shop.folder)
     told = ", ".join(f"{count} {kind}" for kind, count in sorted(counts.items()))
     if not words.only and sum(counts.values()) < LEAST:

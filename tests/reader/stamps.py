@@ -103,7 +103,8 @@ def reply(message):
     fields = outer.take(0x30).fields()
     status, lines, failure = fields.take(0x02), fields.option(0x30), fields.option(0x03)
     fields.close()
-    rows.add(status, "status", STATUSES[values.number(status, 0, 5)])
+    number = values.number(status, 0, values.MOST_OF_VERSION)
+    rows.add(status, "status", STATUSES[number] if number < len(STATUSES) else str(number))
     for line in lines.fields().rest(0x0C) if lines else []:
         rows.add(line, "status text", texts.escaped(values.utf8(line)))
     if failure:
