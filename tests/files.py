@@ -30,7 +30,7 @@ sys.path.insert(0, os.path.dirname(os.path.abspath(__file__)))
 import documents
 import programs
 from maker import everything, spoilt
-from maker.workshop import AT_ONCE, Made, Workshop
+from maker.workshop import AT_ONCE, Workshop
 from openssl_says import said_by
 from reader import kinds, pem
 from reader.octets import Refused
@@ -40,6 +40,7 @@ FILES_AT_ONCE = 20
 TOLD = 30
 STORE = "/etc/ssl/certs"
 BLOCKS_AT_ONCE = 20
+END = "-----END CERTIFICATE-----"
 LEAST = 2000
 wrong = []
 counts = collections.Counter()
@@ -226,7 +227,7 @@ def store_files(folder):
         print(f"files: left out, the system's certificates: there are none in {STORE}")
     for file in files:
         with open(file, "rb") as opened:
-            blocks = [f"{it}-----END CERTIFICATE-----\n".encode() for it in opened.read().decode().split("-----END CERTIFICATE-----")[:-1]]
+            blocks = [f"{it}{END}\n".encode() for it in opened.read().decode().split(END)[:-1]]
         if len(blocks) <= BLOCKS_AT_ONCE or not refuses_memory:
             yield file
             continue

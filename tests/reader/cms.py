@@ -3,8 +3,9 @@
 from . import texts, values
 from .identifiers import arcs, named
 from .keys import add_derivation, add_encryption, add_plain_version
-from .messages import Rows, add_algorithm, add_attributes, add_key, certificate_row, list_row
+from .messages import Rows, add_algorithm, add_attributes, add_key, certificate_row, length_row, list_row, octets_row
 from .octets import Refused, refuse_unless
+from .stamped import add_stamped
 
 PKCS_7 = "1.2.840.113549.1.7"
 STAMP = "1.2.840.113549.1.9.16.1.4"
@@ -34,14 +35,6 @@ def each_or_malformed(rows, items, label, add):
         rows.found += found.found
 
 
-def octets_row(rows, encoding, label):
-    rows.add(encoding, label, texts.count_and_digits(encoding.contents))
-
-
-def length_row(rows, encoding, label, octets):
-    rows.add(encoding, label, f"{len(octets)} octets")
-
-
 def add_encapsulated(rows, encoding):
     fields = encoding.fields()
     kind, held = add_type(rows, fields.take(0x06)), fields.option(0xA0)
@@ -50,8 +43,6 @@ def add_encapsulated(rows, encoding):
         return
     string = held.only(0x04)
     if kind == STAMP:
-        from .stamps import add_stamped
-
         add_stamped(rows, string)
     else:
         length_row(rows, string, "content", string.contents)

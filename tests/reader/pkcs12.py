@@ -1,10 +1,10 @@
 """Rows of files of PKCS #12 (RFC 7292): what stands in them, as far as it is not encrypted."""
 
-from . import texts, values
-from .cms import PKCS_7, add_content, add_content_info, length_row, octets_row
+from . import values
+from .cms import PKCS_7, add_content, add_content_info
 from .identifiers import arcs, named
 from .keys import add_encrypted, add_plain_version, private_key
-from .messages import Rows, add_algorithm, add_attributes, certificate_row, list_row
+from .messages import Rows, add_algorithm, add_attributes, certificate_row, length_row, list_row, octets_row
 from .octets import Refused, read_inside
 
 BAGS = "1.2.840.113549.1.12.10.1"
