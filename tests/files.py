@@ -17,7 +17,9 @@ compared, and the script says so."""
 import argparse
 import collections
 import concurrent.futures
+import contextlib
 import glob
+import io
 import json
 import os
 import shutil
@@ -28,6 +30,7 @@ import tempfile
 sys.dont_write_bytecode = True
 sys.path.insert(0, os.path.dirname(os.path.abspath(__file__)))
 import documents
+import planted
 import programs
 from maker import everything, spoilt
 from maker.workshop import AT_ONCE, Workshop
@@ -120,7 +123,7 @@ def is_malformed(rows):
     return any("<malformed>" in row[3] and not any(row[3].endswith(it) for it, _ in MALFORMED_ALWAYS) for row in rows)
 
 
-def compare_made(made, document):
+def compare_made(made, document, counted=True):
     """A file with one message; one that is refused has its reason."""
     what = f"{os.path.basename(made.path)} ({made.about})"
     with open(made.path, "rb") as file:
@@ -136,7 +139,7 @@ def compare_made(made, document):
         fail(f"{what}: it is {'read' if both else 'refused'}, and that is not expected: {made.refused or refused}")
     if both and is_malformed(shown(message)) != bool(made.malformed) and not made.may_be_malformed:
         fail(f"{what}: that a part is malformed, or that none is, is not expected: {made.malformed}")
-    counts[made.kind] += 1
+    counts[made.kind] += counted
     return both
 
 
@@ -176,6 +179,36 @@ def left_in(program, made):
     if refuses_memory:
         print(f"files: left out, {len(large)} large files: the program refuses memory ({ran.stderr.decode().strip()[:200]})")
     return [it for it in made if not (it.large and refuses_memory)]
+
+
+def finds(compare):
+    """Whether a comparison says that something is wrong, which is not told and not counted."""
+    global wrong, fields
+    kept = wrong, fields
+    wrong, fields = [], collections.Counter()
+    with contextlib.redirect_stdout(io.StringIO()):
+        compare()
+    found = bool(wrong)
+    wrong, fields = kept
+    return found
+
+
+def try_wrong_documents(read):
+    """Wrong documents of the first file of each kind are found, by the reader and by openssl."""
+    firsts = {}
+    for made, document in read:
+        firsts.setdefault(made.kind, (made, document))
+    for made, document in firsts.values():
+        for what, other in planted.wrong_documents(document):
+            answers["planted"] += 1
+            if not finds(lambda: compare_made(made, other, counted=False)):
+                fail(f"{os.path.basename(made.path)}: nobody finds that {what}")
+    made, document = firsts["certificate"]
+    for one, two in (("issuer", "serial number"), ("not before", "not after"), ("subject", "signature"), ("key", "version")):
+        answers["planted"] += 1
+        other = planted.exchanged(document, one, two)
+        if not said_by.compare(made.path, other["messages"][0], made.kind).wrong:
+            fail(f"openssl does not find that {one} and {two} are exchanged")
 
 
 def compare_texts(program, read):
@@ -279,6 +312,7 @@ def main():
         for it, document in zip(made, each_document(program, [it.path for it in made])):
             if compare_made(it, document):
                 read.append((it, document))
+        try_wrong_documents(read)
         compare_with_openssl([(it, document["messages"][0]) for it, document in read])
         compare_texts(program, read)
         if not words.only:
@@ -287,10 +321,11 @@ def main():
     told = ", ".join(f"{count} {kind}" for kind, count in sorted(counts.items()))
     if not words.only and sum(counts.values()) < LEAST:
         fail(f"there are {sum(counts.values())} files, and not {LEAST}")
-    texts = answers.pop("text", 0)
+    texts, faults = answers.pop("text", 0), answers.pop("planted", 0)
     told += "; of the spoilt ones " + ", ".join(f"{count} {answer}" for answer, count in sorted(answers.items()))
     print(f"files: {sum(counts.values())} files ({told}); {sum(fields.values())} fields compared, "
-          f"{sum(said.values())} beside what openssl says, {texts} texts beside their documents; {len(wrong)} wrong")
+          f"{sum(said.values())} beside what openssl says, {texts} texts beside their documents; "
+          f"{faults} wrong documents found; {len(wrong)} wrong")
     return 1 if wrong else 0
 
 

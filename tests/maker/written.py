@@ -106,6 +106,25 @@ def answers():
         yield "time stamp reply", f"the status {status}", ("SEQUENCE", [("SEQUENCE", fields)]), ""
 
 
+def messages():
+    issued = ("SEQUENCE", [name("UTF8:issuer"), "INTEGER:77"])
+    wrap = ("SEQUENCE", ["OID:2.16.840.1.101.3.4.1.5"])
+    transport = ("SEQUENCE", ["INTEGER:0", issued, ("SEQUENCE", ["OID:1.2.840.113549.1.1.1", "NULL"]), "OCT:a key"])
+    known = ("SEQUENCE", ["OCT:which", "GENTIME:20260102030405Z"])
+    keyed = ("IMPLICIT:2,SEQUENCE", ["INTEGER:4", known, wrap, "OCT:another key"])
+    another = ("IMPLICIT:4,SEQUENCE", ["OID:1.2.3.4", "NULL"])
+    people = ("SET", [transport, keyed, another])
+    content = ("SEQUENCE", ["OID:1.2.840.113549.1.7.1", "EXPLICIT:0,OCT:content"])
+    attribute = ("SEQUENCE", ["OID:1.2.840.113549.1.9.4", ("SET", ["OCT:digest"])])
+    other = ("SEQUENCE", ["OID:1.2.3.5", ("SET", ["UTF8:a, b", "INTEGER:-300", "UTC:260102030405Z"])])
+    digest = ("IMPLICIT:1,SEQUENCE", SHA256[1])
+    data = ["INTEGER:0", people, ("SEQUENCE", ["OID:1.2.840.113549.2.9"]), digest, content, ("IMPLICIT:2,SET", [attribute]), "OCT:mac"]
+    data.append(("IMPLICIT:3,SET", [other]))
+    kind = "OID:1.2.840.113549.1.9.16.1.2"
+    yield "CMS message", "authenticated, for recipients of three kinds", ("SEQUENCE", [kind, ("EXPLICIT:0,SEQUENCE", data)]), ""
+    yield "CMS message", "another type of content", ("SEQUENCE", ["OID:1.2.3.4", "EXPLICIT:0,UTF8:x"]), ""
+
+
 def bags():
     secret = ("EXPLICIT:0,SEQUENCE", ["OID:1.2.3", "EXPLICIT:0,UTF8:secret"])
     one = next(lists())[2]
@@ -120,7 +139,7 @@ def bags():
 
 
 def written_files(shop):
-    for part in (certificates, lists, keys, answers, bags):
+    for part in (certificates, lists, keys, answers, messages, bags):
         for kind, about, tree, reason in part():
             name_of = shop.name("written", "der")
             config = shop.write(f"{name_of}.cnf", configuration(tree))

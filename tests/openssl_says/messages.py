@@ -70,7 +70,8 @@ def ocsp_response(file, fields):
 
 # The fields that have an identifier, in the order in which `cms -print` says them.
 IDENTIFIED = ("content type", "digest algorithm", "signature algorithm", "key encryption", "encryption algorithm", "key algorithm",
-              "key derivation", "signed attribute", "unsigned attribute", "unprotected attribute")
+              "key derivation", "signed attribute", "unsigned attribute", "unprotected attribute", "MAC algorithm",
+              "authenticated attribute", "unauthenticated attribute")
 WORDS = r"^ *(?:algorithm|contentType|eContentType|object): .*\(([\d.]+)\) *$"
 
 

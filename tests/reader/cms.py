@@ -1,4 +1,4 @@
-"""Rows of messages of CMS (RFC 5652): signed, for recipients, digested and encrypted."""
+"""Rows of messages of CMS (RFC 5652): signed, for recipients, digested, encrypted and authenticated."""
 
 from . import texts, values
 from .identifiers import arcs, named
@@ -219,21 +219,48 @@ def add_recipient(rows, item):
     RECIPIENTS[item.tag](rows, item)
 
 
-def enveloped_data(rows, fields):
-    add_version(rows, fields)
-    originator = fields.option(0xA0)
-    if originator:
-        inner = originator.fields()
+def add_originator(rows, encoding):
+    if encoding:
+        inner = encoding.fields()
         add_certificates(rows, inner.option(0xA0), inner.option(0xA1))
         inner.close()
-    recipients = fields.take(0x31).fields().rest()
+
+
+def add_recipients(rows, encoding):
+    recipients = encoding.fields().rest()
     refuse_unless(recipients, "no recipient")
     each_or_malformed(rows, recipients, "recipient", add_recipient)
+
+
+def enveloped_data(rows, fields):
+    add_version(rows, fields)
+    add_originator(rows, fields.option(0xA0))
+    add_recipients(rows, fields.take(0x31))
     add_encrypted_content(rows, fields.take(0x30))
     add_unprotected(rows, fields)
 
 
+def authenticated_data(rows, fields):
+    """RFC 5652 section 9.1."""
+    add_version(rows, fields)
+    add_originator(rows, fields.option(0xA0))
+    add_recipients(rows, fields.take(0x31))
+    add_algorithm(rows, "MAC algorithm", fields.take(0x30))
+    digest = fields.option(0xA1)
+    if digest:
+        add_algorithm(rows, "digest algorithm", digest)
+    add_encapsulated(rows, fields.take(0x30))
+    attributes = fields.option(0xA2)
+    if attributes:
+        add_attributes(rows, "authenticated attribute", attributes)
+    octets_row(rows, fields.take(0x04), "MAC")
+    attributes = fields.option(0xA3)
+    if attributes:
+        add_attributes(rows, "unauthenticated attribute", attributes)
+
+
 CONTENTS = {
+    "1.2.840.113549.1.9.16.1.2": ("authenticated data", authenticated_data),
     f"{PKCS_7}.2": ("signed data", signed_data), f"{PKCS_7}.3": ("enveloped data", enveloped_data),
     f"{PKCS_7}.5": ("digested data", digested_data), f"{PKCS_7}.6": ("encrypted data", encrypted_data),
 }
