@@ -7,7 +7,7 @@ what openssl says of the file.
 openssl makes the files (`maker/`), of all kinds that certview shows; those of /etc/ssl/certs are among them. `reader/` takes
 nothing from the crates: it reads the octets by the text of the standards, and says the place, the name and the value of each
 field. A document of certview is to have exactly these, and to be of its schema where python3 has the module jsonschema; text and
-document of a file have the same fields. `openssl_says.py` compares with what openssl prints of the files. Files that are cut
+document of a file have the same fields. `openssl_says/` compares with what openssl prints of the files. Files that are cut
 short, or of which one octet is changed, are read or refused as the reader says.
 
 TREE is a copy of the repository in which `rt ci` has built certview. Without it, or where the program is not there, certview is built

@@ -23,7 +23,7 @@ def wrong_documents(document):
             yield f"field {at} begins one octet later", with_field(document, at, "offset", field["offset"] + 1)
             yield f"field {at} has one octet fewer", with_field(document, at, "length", field["length"] - 1)
         yield f"field {at} has another name", with_field(document, at, "name", field["name"] + "s")
-        yield f"field {at} has another value", with_field(document, at, "value", field["value"][:-1])
+        yield f"field {at} has another value", with_field(document, at, "value", field["value"][:-1] or "x")
     for at, (one, other) in enumerate(zip(fields, fields[1:])):
         if one["value"] != other["value"]:
             swapped = with_field(document, at, "value", other["value"])
