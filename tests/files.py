@@ -194,9 +194,9 @@ def finds(compare):
 
 
 def try_wrong_documents(read):
-    """Wrong documents of the first file of each kind are found, by the reader and by openssl."""
+    """Wrong documents of a file of each kind, of ten fields or nearly so, are found, by the reader and by openssl."""
     firsts = {}
-    for made, document in read:
+    for made, document in sorted(read, key=lambda it: abs(len(it[1]["messages"][0]["fields"]) - 10)):
         firsts.setdefault(made.kind, (made, document))
     for made, document in firsts.values():
         for what, other in planted.wrong_documents(document):

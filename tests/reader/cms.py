@@ -3,7 +3,9 @@
 from . import texts, values
 from .identifiers import arcs, named
 from .keys import add_derivation, add_encryption, add_plain_version
-from .messages import Rows, add_algorithm, add_attributes, add_key, certificate_row, length_row, list_row, octets_row
+from .messages import (
+    Rows, add_algorithm, add_attributes, add_key, algorithm_of, certificate_row, length_row, list_row, octets_row,
+)
 from .octets import Refused, refuse_unless
 from .stamped import add_stamped
 
@@ -48,20 +50,29 @@ def add_encapsulated(rows, encoding):
         length_row(rows, string, "content", string.contents)
 
 
+def typed(encoding):
+    """The identifier of a type and a value of any type, as another format has them."""
+    fields = encoding.fields()
+    kind = values.identifier(fields.take(0x06))
+    fields.next()
+    fields.close()
+    return named(kind)
+
+
 def add_certificate_choice(rows, item):
     if item.tag == 0x30:
         certificate_row(rows, item)
     elif item.tag in OTHER_CERTIFICATES:
         length_row(rows, item, OTHER_CERTIFICATES[item.tag], item.contents)
     else:
-        rows.add(item.has(0xA3), "certificate of another format", named(values.identifier(item.fields().take(0x06))))
+        rows.add(item.has(0xA3), "certificate of another format", typed(item))
 
 
 def add_list_choice(rows, item):
     if item.tag == 0x30:
         list_row(rows, item)
     else:
-        rows.add(item.has(0xA1), "list of another format", named(values.identifier(item.fields().take(0x06))))
+        rows.add(item.has(0xA1), "list of another format", typed(item))
 
 
 def add_certificates(rows, certificates, lists):
@@ -159,7 +170,19 @@ def by_transport(rows, item):
 def recipient_text(encoding):
     if encoding.tag == 0x30:
         return issued_text(encoding)
-    return f"key {texts.colons(encoding.has(0xA0).fields().take(0x04).contents)}"
+    key, _ = known_key(encoding.has(0xA0).fields())
+    return f"key {texts.colons(key.contents)}"
+
+
+def known_key(fields):
+    """The identifier of a key and its date, of a RecipientKeyIdentifier or a KEKIdentifier."""
+    key, date, other = fields.take(0x04), fields.option(0x18), fields.option(0x30)
+    fields.close()
+    if date:
+        values.generalized_time(date)
+    if other:
+        algorithm_of(other)
+    return key, date
 
 
 def by_agreement(rows, item):
@@ -188,9 +211,8 @@ def by_agreement(rows, item):
 
 def by_key(rows, item):
     fields = item.fields()
-    version, known = fields.take(0x02), fields.take(0x30).fields()
-    octets_row(rows, known.take(0x04), "recipient with the key")
-    date = known.option(0x18)
+    version, (key, date) = fields.take(0x02), known_key(fields.take(0x30).fields())
+    octets_row(rows, key, "recipient with the key")
     if date:
         rows.add(date, "date of the key", values.generalized_time(date))
     add_plain_version(rows, version)
@@ -208,7 +230,7 @@ def by_password(rows, item):
 
 
 def by_another(rows, item):
-    rows.add(item, "recipient of another kind", named(values.identifier(item.fields().take(0x06))))
+    rows.add(item, "recipient of another kind", typed(item))
 
 
 RECIPIENTS = {0x30: by_transport, 0xA1: by_agreement, 0xA2: by_key, 0xA3: by_password, 0xA4: by_another}
