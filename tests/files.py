@@ -197,12 +197,15 @@ def try_wrong_documents(read):
     """Wrong documents of a file of each kind, of ten fields or nearly so, are found, by the reader and by openssl."""
     firsts = {}
     for made, document in sorted(read, key=lambda it: abs(len(it[1]["messages"][0]["fields"]) - 10)):
-        firsts.setdefault(made.kind, (made, document))
+        if not any("malformed" in it for it in document["messages"][0]["fields"]):
+            firsts.setdefault(made.kind, (made, document))
     for made, document in firsts.values():
         for what, other in planted.wrong_documents(document):
             answers["planted"] += 1
             if not finds(lambda: compare_made(made, other, counted=False)):
                 fail(f"{os.path.basename(made.path)}: nobody finds that {what}")
+    if "certificate" not in firsts:
+        return
     made, document = firsts["certificate"]
     for one, two in (("issuer", "serial number"), ("not before", "not after"), ("subject", "signature"), ("key", "version")):
         answers["planted"] += 1
