@@ -7,7 +7,7 @@ what openssl says of the file.
 openssl makes the files (`maker/`), of all kinds that certview shows; those of /etc/ssl/certs are among them. `reader/` takes
 nothing from the crates: it reads the octets by the text of the standards, and says the place, the name and the value of each
 field. A document of certview is to have exactly these, and to be of its schema where python3 has the module jsonschema; text and
-document of a file have the same fields. `openssl_says.py` compares with what openssl prints of the files. Files that are cut
+document of a file have the same fields. `openssl_says/` compares with what openssl prints of the files. Files that are cut
 short, or of which one octet is changed, are read or refused as the reader says.
 
 TREE is a copy of the repository in which `rt ci` has built certview. Without it, or where the program is not there, certview is built
@@ -17,7 +17,9 @@ compared, and the script says so."""
 import argparse
 import collections
 import concurrent.futures
+import contextlib
 import glob
+import io
 import json
 import os
 import shutil
@@ -28,9 +30,10 @@ import tempfile
 sys.dont_write_bytecode = True
 sys.path.insert(0, os.path.dirname(os.path.abspath(__file__)))
 import documents
+import planted
 import programs
 from maker import everything, spoilt
-from maker.workshop import AT_ONCE, Made, Workshop
+from maker.workshop import AT_ONCE, Workshop
 from openssl_says import said_by
 from reader import kinds, pem
 from reader.octets import Refused
@@ -40,6 +43,7 @@ FILES_AT_ONCE = 20
 TOLD = 30
 STORE = "/etc/ssl/certs"
 BLOCKS_AT_ONCE = 20
+END = "-----END CERTIFICATE-----"
 LEAST = 2000
 wrong = []
 counts = collections.Counter()
@@ -119,7 +123,7 @@ def is_malformed(rows):
     return any("<malformed>" in row[3] and not any(row[3].endswith(it) for it, _ in MALFORMED_ALWAYS) for row in rows)
 
 
-def compare_made(made, document):
+def compare_made(made, document, counted=True):
     """A file with one message; one that is refused has its reason."""
     what = f"{os.path.basename(made.path)} ({made.about})"
     with open(made.path, "rb") as file:
@@ -135,7 +139,7 @@ def compare_made(made, document):
         fail(f"{what}: it is {'read' if both else 'refused'}, and that is not expected: {made.refused or refused}")
     if both and is_malformed(shown(message)) != bool(made.malformed) and not made.may_be_malformed:
         fail(f"{what}: that a part is malformed, or that none is, is not expected: {made.malformed}")
-    counts[made.kind] += 1
+    counts[made.kind] += counted
     return both
 
 
@@ -175,6 +179,39 @@ def left_in(program, made):
     if refuses_memory:
         print(f"files: left out, {len(large)} large files: the program refuses memory ({ran.stderr.decode().strip()[:200]})")
     return [it for it in made if not (it.large and refuses_memory)]
+
+
+def finds(compare):
+    """Whether a comparison says that something is wrong, which is not told and not counted."""
+    global wrong, fields
+    kept = wrong, fields
+    wrong, fields = [], collections.Counter()
+    with contextlib.redirect_stdout(io.StringIO()):
+        compare()
+    found = bool(wrong)
+    wrong, fields = kept
+    return found
+
+
+def try_wrong_documents(read):
+    """Wrong documents of a file of each kind, of ten fields or nearly so, are found, by the reader and by openssl."""
+    firsts = {}
+    for made, document in sorted(read, key=lambda it: abs(len(it[1]["messages"][0]["fields"]) - 10)):
+        if not any("malformed" in it for it in document["messages"][0]["fields"]):
+            firsts.setdefault(made.kind, (made, document))
+    for made, document in firsts.values():
+        for what, other in planted.wrong_documents(document):
+            answers["planted"] += 1
+            if not finds(lambda: compare_made(made, other, counted=False)):
+                fail(f"{os.path.basename(made.path)}: nobody finds that {what}")
+    if "certificate" not in firsts:
+        return
+    made, document = firsts["certificate"]
+    for one, two in (("issuer", "serial number"), ("not before", "not after"), ("subject", "signature"), ("key", "version")):
+        answers["planted"] += 1
+        other = planted.exchanged(document, one, two)
+        if not said_by.compare(made.path, other["messages"][0], made.kind).wrong:
+            fail(f"openssl does not find that {one} and {two} are exchanged")
 
 
 def compare_texts(program, read):
@@ -226,7 +263,7 @@ def store_files(folder):
         print(f"files: left out, the system's certificates: there are none in {STORE}")
     for file in files:
         with open(file, "rb") as opened:
-            blocks = [f"{it}-----END CERTIFICATE-----\n".encode() for it in opened.read().decode().split("-----END CERTIFICATE-----")[:-1]]
+            blocks = [f"{it}{END}\n".encode() for it in opened.read().decode().split(END)[:-1]]
         if len(blocks) <= BLOCKS_AT_ONCE or not refuses_memory:
             yield file
             continue
@@ -268,6 +305,8 @@ def main():
         built = f"{words.built}/crates/certview/out/certview"
         program = built if os.path.isfile(built) else programs.built_by_try("certview", folder, refuses=False)
         validator = documents.validator()
+        if words.keep:
+            os.makedirs(words.keep, exist_ok=True)
         shop = Workshop(words.keep or folder)
         everything.make(shop)
         made = [it for it in shop.made if os.path.basename(it.path).startswith(words.only)]
@@ -276,18 +315,20 @@ def main():
         for it, document in zip(made, each_document(program, [it.path for it in made])):
             if compare_made(it, document):
                 read.append((it, document))
+        try_wrong_documents(read)
         compare_with_openssl([(it, document["messages"][0]) for it, document in read])
         compare_texts(program, read)
-        compare_spoilt(program, shop)
         if not words.only:
+            compare_spoilt(program, shop)
             compare_store(program, shop.folder)
     told = ", ".join(f"{count} {kind}" for kind, count in sorted(counts.items()))
     if not words.only and sum(counts.values()) < LEAST:
         fail(f"there are {sum(counts.values())} files, and not {LEAST}")
-    texts = answers.pop("text", 0)
+    texts, faults = answers.pop("text", 0), answers.pop("planted", 0)
     told += "; of the spoilt ones " + ", ".join(f"{count} {answer}" for answer, count in sorted(answers.items()))
     print(f"files: {sum(counts.values())} files ({told}); {sum(fields.values())} fields compared, "
-          f"{sum(said.values())} beside what openssl says, {texts} texts beside their documents; {len(wrong)} wrong")
+          f"{sum(said.values())} beside what openssl says, {texts} texts beside their documents; "
+          f"{faults} wrong documents found; {len(wrong)} wrong")
     return 1 if wrong else 0
 
 

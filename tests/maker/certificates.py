@@ -1,6 +1,7 @@
 """Certificates, of all keys, algorithms, names, dates and extensions; and requests."""
 
 from . import extensions, keys, names
+from .workshop import Made
 
 DIGESTS = ("sha256", "sha1", "sha224", "sha384", "sha512", "sha512-256", "sha512-224", "sha3-256", "sha3-512", "md5")
 OF_DSA = ("sha256", "sha1", "sha224", "sha384", "sha512", "sha3-256", "sha3-384")
@@ -60,9 +61,10 @@ DATES = ("19700101000000Z", "19991231235959Z", "20000229120000Z", "2026010203040
          "20680101000000Z", "21000228235959Z", "99991231235959Z", "20380119031407Z")
 
 
-def with_dates(shop, number):
+def with_dates(shop, number, first=None):
     """A certificate of the command ca, which takes dates."""
-    first, last = sorted(shop.random.sample(DATES, 2))
+    dates = sorted(shop.random.sample(DATES, 2))
+    first, last = first or dates[0], dates[1]
     folder = f"ca{number}"
     shop.write(f"{folder}.txt", "")
     shop.write(f"{folder}.srl", f"{shop.random.getrandbits(8 * shop.random.randint(1, 19)) | 1:040x}"[-2 * shop.random.randint(1, 20):] + "\n")
@@ -73,8 +75,18 @@ def with_dates(shop, number):
     name = shop.name("dated", "pem")
     words = ["ca", "-batch", "-config", config, "-notext", "-in", "plain.csr", "-cert", "root.pem", "-keyfile", "rsa2048.key",
              "-startdate", first, "-enddate", last, "-out", name, "-preserveDN", "-utf8"]
-    from .workshop import Made
-    shop.later([words], Made(shop.path(name), "certificate", f"from {first} to {last}"))
+    made = Made(shop.path(name), "certificate", f"from {first} to {last}")
+    shop.later([words], made)
+    return made
+
+
+EARLY = "a UTCTime of 1950 to 1969, which is no time of the layer (docs/FORMAT.md, Contents octets)"
+
+
+def of_early_dates(shop):
+    """Certificates that begin before 1970."""
+    for number, first in enumerate(("500101000000Z", "691231235959Z", "19600101000000Z"), 100):
+        with_dates(shop, number, first).refused = EARLY
 
 
 def make_authorities(shop):
@@ -97,6 +109,7 @@ def certificate_files(shop):
         of_authority(shop, number)
     for number in range(40):
         with_dates(shop, number)
+    of_early_dates(shop)
 
 
 ASKED = ("challengePassword", "unstructuredName", "1.2.840.113549.1.9.2", "own1")

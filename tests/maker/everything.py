@@ -1,6 +1,6 @@
 """All files."""
 
-from . import certificates, cms, keys, lists, ocsp, pkcs12, signed, stamps
+from . import certificates, cms, keys, lists, ocsp, pkcs12, signed, stamps, written
 
 
 def make(shop):
@@ -18,4 +18,5 @@ def make(shop):
     cms.cms_files(shop)
     stamps.stamp_files(shop)
     pkcs12.pkcs12_files(shop)
+    written.written_files(shop)
     shop.finish()

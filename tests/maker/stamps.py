@@ -3,7 +3,7 @@
 from .workshop import Made
 
 SIGNERS = ("rsa2048", "P-256", "P-384", "rsa1024")
-FRACTION = "a genTime with a fraction of a second, which GeneralizedTime of the layer has not (docs/FORMAT.md)"
+FRACTION = "a genTime with a fraction of a second (README of der_time_stamp, Refused); openssl writes none of zero"
 COUNT = 70
 
 

@@ -93,7 +93,21 @@ def dumped(text):
     return "".join(lines).replace(" ", "").replace("-", "")
 
 
+def dotted(octets):
+    """The dotted form of an identifier with arcs of any length, which certview shows as `#` and octets past 64 bits."""
+    found, arc = [], 0
+    for octet in octets:
+        arc = arc << 7 | octet & 0x7F
+        if octet < 0x80:
+            found, arc = [*found, arc], 0
+    root = min(found[0] // 40, 2)
+    return ".".join(map(str, [root, found[0] - 40 * root, *found[1:]]))
+
+
 def names_of(value):
     """The name in brackets of an identifier, or its dotted form."""
+    octets = re.match(r"#([0-9a-f]+)", value)
+    if octets:
+        return dotted(bytes.fromhex(octets[1]))
     found = re.match(r"([\d.]+)(?: \(([^)]*)\))?", value)
     return found[2] or found[1] if found else value

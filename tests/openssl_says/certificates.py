@@ -3,6 +3,7 @@
 import re
 
 from . import asking
+from . import extensions as extension_values
 from .asking import Compared, after, ask, date, hexadecimal, latin, name, names_of, serial, values
 from reader.names import NAMES
 
@@ -28,16 +29,6 @@ OTHERS = {
     "Netscape SSL Server Name": "netscapeSslServerName", "Netscape Cert Type": "netscapeCertType", "qcStatements": "qcStatements",
     "X509v3 No Revocation Available": "noRevAvail", "CT Precertificate SCTs": "signedCertificateTimestamps", "CT Precertificate Poison": "precertificatePoison",
     "sbgp-ipAddrBlock": "ipAddrBlocks", "sbgp-autonomousSysNum": "autonomousSysIds", "Proxy Certificate Information": "proxyCertInfo",
-}
-USAGES = {
-    "Digital Signature": "digitalSignature", "Non Repudiation": "nonRepudiation", "Key Encipherment": "keyEncipherment",
-    "Data Encipherment": "dataEncipherment", "Key Agreement": "keyAgreement", "Certificate Sign": "keyCertSign", "CRL Sign": "cRLSign",
-    "Encipher Only": "encipherOnly", "Decipher Only": "decipherOnly",
-}
-REASONS = {
-    "Unspecified": "unspecified", "Key Compromise": "keyCompromise", "CA Compromise": "cACompromise", "Affiliation Changed":
-    "affiliationChanged", "Superseded": "superseded", "Cessation Of Operation": "cessationOfOperation", "Certificate Hold":
-    "certificateHold", "Remove From CRL": "removeFromCRL", "Privilege Withdrawn": "privilegeWithdrawn", "AA Compromise": "aACompromise",
 }
 # openssl says the bits of the order of a curve, certview those of an element of its field (README of certview, "Numbers").
 BITS_OF_ORDER = {"283": "281"}
@@ -78,37 +69,12 @@ def compare_extensions(compared, shown, found):
     compared.same("the extensions", kinds, [dotted_or(extension_kind(it), kind) for (it, _, _), kind in zip(found, kinds)] + [it[0] for it in found[len(kinds) :]])
     for value, (label, is_critical, lines) in zip(shown, found):
         compared.same(f"critical of {label}", ", critical, " in value, is_critical)
-        compare_extension(compared, value, label, lines)
+        extension_values.compare(compared, value, label, lines)
 
 
 def dotted_or(theirs, ours):
     """openssl's name of an extension; it has none of some that certview knows, and says them by their arcs."""
     return ours if NAMES.get(theirs) == ours else theirs
-
-
-def compare_extension(compared, value, label, lines):
-    said = value.split(" octets, ", 1)[-1]
-    if label == "X509v3 Subject Key Identifier":
-        compared.same(label, said.upper(), lines[0])
-    elif label == "X509v3 Key Usage":
-        compared.same(label, said, ", ".join(USAGES[it] for it in lines[0].split(", ")))
-    elif label == "X509v3 Basic Constraints":
-        theirs = "CA" if lines[0].startswith("CA:TRUE") else "no CA"
-        path = re.search(r"pathlen:(\d+)", lines[0])
-        compared.same(label, said, theirs + (f", path length {path[1]}" if path else ""))
-    elif label in ("X509v3 CRL Number", "X509v3 Inhibit Any Policy"):
-        ours = int(said, 0)
-        compared.same(label, ours, int(lines[0], 0))
-    elif label == "X509v3 CRL Reason Code":
-        compared.same(label, said, REASONS[lines[0]])
-    elif label == "Invalidity Date":
-        compared.same(label, said, date(lines[0]))
-    elif label in ("X509v3 Subject Alternative Name", "X509v3 Issuer Alternative Name") and "@" not in said + lines[0]:
-        compared.same(label, hosts(said, r"host ((?:\\.|[^,])*)"), hosts(lines[0], r"DNS:([^,]*)"))
-
-
-def hosts(text, pattern):
-    return re.findall(rf"(?:^|, ){pattern}", text)
 
 
 def signature(text):
@@ -200,5 +166,5 @@ def revocation_list(file, fields):
         compared.same("a revoked one", (number, when), (serial(theirs.split("\n")[0]), date(after("Revocation Date:", theirs)[0])))
         reason = re.search(r"\(cRLReasons\)(?:, critical)?, \d+ octets, (\w+)", ours)
         said = after("X509v3 CRL Reason Code:", theirs)
-        compared.same("a reason", reason and reason[1], REASONS[theirs.split("Reason Code:")[1].split("\n")[1].strip()] if said else None)
+        compared.same("a reason", reason and reason[1], extension_values.REASONS[theirs.split("Reason Code:")[1].split("\n")[1].strip()] if said else None)
     return compared

@@ -23,7 +23,11 @@ def compare(file, message, kind):
     """The places of its fields, and what is printed of its kind."""
     compared = places.compare(file, message)
     if kind in OF_KINDS and message["kind"] == kind:
-        other = OF_KINDS[kind](file, message["fields"])
+        try:
+            other = OF_KINDS[kind](file, message["fields"])
+        except (AttributeError, IndexError, KeyError, TypeError, ValueError) as error:
+            compared.wrong.append(f"openssl does not say what is looked for: {error!r}")
+            return compared
         compared.count += other.count
         compared.wrong += other.wrong
     return compared

@@ -1,10 +1,13 @@
-"""Rows of messages of CMS (RFC 5652): signed, for recipients, digested and encrypted."""
+"""Rows of messages of CMS (RFC 5652): signed, for recipients, digested, encrypted and authenticated."""
 
 from . import texts, values
 from .identifiers import arcs, named
 from .keys import add_derivation, add_encryption, add_plain_version
-from .messages import Rows, add_algorithm, add_attributes, add_key, certificate_row, list_row
+from .messages import (
+    Rows, add_algorithm, add_attributes, add_key, algorithm_of, certificate_row, length_row, list_row, octets_row,
+)
 from .octets import Refused, refuse_unless
+from .stamped import add_stamped
 
 PKCS_7 = "1.2.840.113549.1.7"
 STAMP = "1.2.840.113549.1.9.16.1.4"
@@ -34,14 +37,6 @@ def each_or_malformed(rows, items, label, add):
         rows.found += found.found
 
 
-def octets_row(rows, encoding, label):
-    rows.add(encoding, label, texts.count_and_digits(encoding.contents))
-
-
-def length_row(rows, encoding, label, octets):
-    rows.add(encoding, label, f"{len(octets)} octets")
-
-
 def add_encapsulated(rows, encoding):
     fields = encoding.fields()
     kind, held = add_type(rows, fields.take(0x06)), fields.option(0xA0)
@@ -50,11 +45,18 @@ def add_encapsulated(rows, encoding):
         return
     string = held.only(0x04)
     if kind == STAMP:
-        from .stamps import add_stamped
-
         add_stamped(rows, string)
     else:
         length_row(rows, string, "content", string.contents)
+
+
+def typed(encoding):
+    """The identifier of a type and a value of any type, as another format has them."""
+    fields = encoding.fields()
+    kind = values.identifier(fields.take(0x06))
+    fields.next()
+    fields.close()
+    return named(kind)
 
 
 def add_certificate_choice(rows, item):
@@ -63,14 +65,14 @@ def add_certificate_choice(rows, item):
     elif item.tag in OTHER_CERTIFICATES:
         length_row(rows, item, OTHER_CERTIFICATES[item.tag], item.contents)
     else:
-        rows.add(item.has(0xA3), "certificate of another format", named(values.identifier(item.fields().take(0x06))))
+        rows.add(item.has(0xA3), "certificate of another format", typed(item))
 
 
 def add_list_choice(rows, item):
     if item.tag == 0x30:
         list_row(rows, item)
     else:
-        rows.add(item.has(0xA1), "list of another format", named(values.identifier(item.fields().take(0x06))))
+        rows.add(item.has(0xA1), "list of another format", typed(item))
 
 
 def add_certificates(rows, certificates, lists):
@@ -168,7 +170,19 @@ def by_transport(rows, item):
 def recipient_text(encoding):
     if encoding.tag == 0x30:
         return issued_text(encoding)
-    return f"key {texts.colons(encoding.has(0xA0).fields().take(0x04).contents)}"
+    key, _ = known_key(encoding.has(0xA0).fields())
+    return f"key {texts.colons(key.contents)}"
+
+
+def known_key(fields):
+    """The identifier of a key and its date, of a RecipientKeyIdentifier or a KEKIdentifier."""
+    key, date, other = fields.take(0x04), fields.option(0x18), fields.option(0x30)
+    fields.close()
+    if date:
+        values.generalized_time(date)
+    if other:
+        algorithm_of(other)
+    return key, date
 
 
 def by_agreement(rows, item):
@@ -197,9 +211,8 @@ def by_agreement(rows, item):
 
 def by_key(rows, item):
     fields = item.fields()
-    version, known = fields.take(0x02), fields.take(0x30).fields()
-    octets_row(rows, known.take(0x04), "recipient with the key")
-    date = known.option(0x18)
+    version, (key, date) = fields.take(0x02), known_key(fields.take(0x30).fields())
+    octets_row(rows, key, "recipient with the key")
     if date:
         rows.add(date, "date of the key", values.generalized_time(date))
     add_plain_version(rows, version)
@@ -217,7 +230,7 @@ def by_password(rows, item):
 
 
 def by_another(rows, item):
-    rows.add(item, "recipient of another kind", named(values.identifier(item.fields().take(0x06))))
+    rows.add(item, "recipient of another kind", typed(item))
 
 
 RECIPIENTS = {0x30: by_transport, 0xA1: by_agreement, 0xA2: by_key, 0xA3: by_password, 0xA4: by_another}
@@ -228,21 +241,48 @@ def add_recipient(rows, item):
     RECIPIENTS[item.tag](rows, item)
 
 
-def enveloped_data(rows, fields):
-    add_version(rows, fields)
-    originator = fields.option(0xA0)
-    if originator:
-        inner = originator.fields()
+def add_originator(rows, encoding):
+    if encoding:
+        inner = encoding.fields()
         add_certificates(rows, inner.option(0xA0), inner.option(0xA1))
         inner.close()
-    recipients = fields.take(0x31).fields().rest()
+
+
+def add_recipients(rows, encoding):
+    recipients = encoding.fields().rest()
     refuse_unless(recipients, "no recipient")
     each_or_malformed(rows, recipients, "recipient", add_recipient)
+
+
+def enveloped_data(rows, fields):
+    add_version(rows, fields)
+    add_originator(rows, fields.option(0xA0))
+    add_recipients(rows, fields.take(0x31))
     add_encrypted_content(rows, fields.take(0x30))
     add_unprotected(rows, fields)
 
 
+def authenticated_data(rows, fields):
+    """RFC 5652 section 9.1."""
+    add_version(rows, fields)
+    add_originator(rows, fields.option(0xA0))
+    add_recipients(rows, fields.take(0x31))
+    add_algorithm(rows, "MAC algorithm", fields.take(0x30))
+    digest = fields.option(0xA1)
+    if digest:
+        add_algorithm(rows, "digest algorithm", digest)
+    add_encapsulated(rows, fields.take(0x30))
+    attributes = fields.option(0xA2)
+    if attributes:
+        add_attributes(rows, "authenticated attribute", attributes)
+    octets_row(rows, fields.take(0x04), "MAC")
+    attributes = fields.option(0xA3)
+    if attributes:
+        add_attributes(rows, "unauthenticated attribute", attributes)
+
+
 CONTENTS = {
+    "1.2.840.113549.1.9.16.1.2": ("authenticated data", authenticated_data),
     f"{PKCS_7}.2": ("signed data", signed_data), f"{PKCS_7}.3": ("enveloped data", enveloped_data),
     f"{PKCS_7}.5": ("digested data", digested_data), f"{PKCS_7}.6": ("encrypted data", encrypted_data),
 }

@@ -5,7 +5,7 @@ Each function takes the encoding that the OCTET STRING holds, and answers what i
 import datetime
 
 from . import texts, values
-from .identifiers import arcs, dotted, named, short
+from .identifiers import arcs, named, short
 from .octets import Refused, read_inside, refuse_unless
 
 USAGES = ("digitalSignature nonRepudiation keyEncipherment dataEncipherment keyAgreement keyCertSign cRLSign encipherOnly "

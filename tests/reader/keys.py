@@ -71,6 +71,11 @@ def rsa_private_key(message):
     if primes:
         found = primes.fields().rest(0x30)
         refuse_unless(found, "a list with no prime")
+        for prime in found:
+            numbers = prime.fields()
+            for _ in range(3):
+                values.natural(numbers.take(0x02))
+            numbers.close()
         rows.add(primes, "other primes", str(len(found)))
     fields.close()
     return rows.found

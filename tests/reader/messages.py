@@ -86,6 +86,14 @@ def add_key(rows, encoding):
     rows.add(key, "key", key_text(algorithm, key))
 
 
+def octets_row(rows, encoding, label):
+    rows.add(encoding, label, texts.count_and_digits(encoding.contents))
+
+
+def length_row(rows, encoding, label, octets):
+    rows.add(encoding, label, f"{len(octets)} octets")
+
+
 def add_name(rows, label, encoding):
     rows.add(encoding, label, texts.name(encoding))
 

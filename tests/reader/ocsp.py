@@ -79,7 +79,7 @@ def add_time(rows, place, label, encoding):
 def add_single(rows, encoding):
     fields = encoding.fields()
     add_certificate_id(rows, fields.next())
-    status, now = fields.next(), None
+    status = fields.next()
     rows.add(status, "status", status_text(status))
     now = fields.next()
     add_time(rows, now, "this update", now)

@@ -1,10 +1,10 @@
 """Rows of files of PKCS #12 (RFC 7292): what stands in them, as far as it is not encrypted."""
 
-from . import texts, values
-from .cms import PKCS_7, add_content, add_content_info, length_row, octets_row
+from . import values
+from .cms import PKCS_7, add_content, add_content_info
 from .identifiers import arcs, named
-from .keys import add_encrypted, add_plain_version, add_secret
-from .messages import Rows, add_algorithm, add_attributes, certificate_row, list_row
+from .keys import add_encrypted, add_plain_version, private_key
+from .messages import Rows, add_algorithm, add_attributes, certificate_row, length_row, list_row, octets_row
 from .octets import Refused, read_inside
 
 BAGS = "1.2.840.113549.1.12.10.1"
@@ -18,10 +18,8 @@ def in_string(string):
 
 
 def key_bag(rows, encoding):
-    fields = encoding.has(0x30).fields()
-    values.number(fields.take(0x02), 0, values.MOST_OF_VERSION)
-    add_algorithm(rows, "key algorithm", fields.take(0x30))
-    add_secret(rows, "privateKey", fields.take(0x04))
+    """The algorithm of a key and how long it is; the whole is a PrivateKeyInfo."""
+    rows.found += [row for row in private_key(encoding.has(0x30)) if row[2] in ("key algorithm", "privateKey")]
 
 
 def shrouded_bag(rows, encoding):
