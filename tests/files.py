@@ -2,13 +2,13 @@
 """Reads two thousand files by certview, and compares each field with what an independent reader finds in the octets, and with
 what openssl says of the file.
 
-    python3 tests/files.py [--built TREE] [--only STEM] [--keep FOLDER]
+    python3 tests/files.py [--built TREE] [--only STEM] [--keep FOLDER] [--spoilt]
 
 openssl makes the files (`maker/`), of all kinds that certview shows; those of /etc/ssl/certs are among them. `reader/` takes
 nothing from the crates: it reads the octets by the text of the standards, and says the place, the name and the value of each
 field. A document of certview is to have exactly these, and to be of its schema where python3 has the module jsonschema; text and
-document of a file have the same fields. `openssl_says/` compares with what openssl prints of the files. Files that are cut
-short, or of which one octet is changed, are read or refused as the reader says.
+document of a file have the same fields. `openssl_says/` compares with what openssl prints of the files. With --spoilt,
+files that are cut short, or of which one octet is changed, are read or refused as the reader says.
 
 TREE is a copy of the repository in which `rt ci` has built certview. Without it, or where the program is not there, certview is built
 by `rt try`, or is the program that CERTVIEW names. The last line counts files and fields. Where there is no openssl nothing is
@@ -297,6 +297,7 @@ def main():
     words.add_argument("--built", help="a tree in which certview is built", default="")
     words.add_argument("--only", help="the stem of the files that are compared", default="")
     words.add_argument("--keep", help="a folder in which the files stay")
+    words.add_argument("--spoilt", action="store_true", help="spoilt files too, whose octets are others in each run, as the keys are")
     words = words.parse_args()
     if not shutil.which("openssl"):
         print("files: there is no openssl: nothing was compared")
@@ -318,14 +319,16 @@ def main():
         try_wrong_documents(read)
         compare_with_openssl([(it, document["messages"][0]) for it, document in read])
         compare_texts(program, read)
-        if not words.only:
+        if words.spoilt:
             compare_spoilt(program, shop)
+        if not words.only:
             compare_store(program, shop.folder)
     told = ", ".join(f"{count} {kind}" for kind, count in sorted(counts.items()))
     if not words.only and sum(counts.values()) < LEAST:
         fail(f"there are {sum(counts.values())} files, and not {LEAST}")
     texts, faults = answers.pop("text", 0), answers.pop("planted", 0)
-    told += "; of the spoilt ones " + ", ".join(f"{count} {answer}" for answer, count in sorted(answers.items()))
+    if words.spoilt:
+        told += "; of the spoilt ones " + ", ".join(f"{count} {answer}" for answer, count in sorted(answers.items()))
     print(f"files: {sum(counts.values())} files ({told}); {sum(fields.values())} fields compared, "
           f"{sum(said.values())} beside what openssl says, {texts} texts beside their documents; "
           f"{faults} wrong documents found; {len(wrong)} wrong")
