@@ -1,0 +1,6 @@
+use Rattle.std.proofs.Common.{inl, refl}
+use Rattle.der_c.proofs.rfc5280.der_check_rfc5280_list.Goals as goal
+
+pub returns-in-Ok : goal.returns-in-Ok
+returns-in-Ok c =
+    inl (record { number = refl; unchanged = refl }, record { value = c.in-Ok.value; read = c.in-Ok.ensures; shown = c.broken_by_list.ensures })
