@@ -90,6 +90,7 @@ def make_messages(room):
             "[req]\ndistinguished_name=name\n[name]\n[ca]\ndefault_ca=own\n[own]\ndatabase=index\ncrlnumber=number\n"
             "default_md=sha256\ndefault_crl_days=30\ncrl_extensions=list\n[list]\nauthorityKeyIdentifier=keyid\n"
             "[ext]\nbasicConstraints=critical,CA:true\nsubjectKeyIdentifier=hash\n"
+            "[plain]\nsubjectKeyIdentifier=hash\nextendedKeyUsage=serverAuth\n"
         )
     with open(f"{room}/index", "w", encoding="utf-8") as file:
         file.write("R\t360101000000Z\t260102030405Z,keyCompromise\t01\tunknown\t/CN=one\n")
@@ -104,6 +105,7 @@ def make_messages(room):
         "openssl pkey -in ec.pem -pubout -out ec-public.pem",
         "openssl pkey -in rsa.pem -pubout -out rsa-public.pem",
         "openssl req -x509 -new -key ec.pem -config ca.cnf -extensions ext -subj /CN=own -days 30 -out own.pem",
+        "openssl req -x509 -new -key ec.pem -config ca.cnf -extensions plain -subj /CN=plain -days 30 -outform DER -out plain.der",
         "openssl ca -gencrl -config ca.cnf -keyfile ec.pem -cert own.pem -out list.pem",
         "openssl req -new -key ec.pem -config ca.cnf -subj /O=one+OU=two/CN=own -addext subjectAltName=DNS:own -out request.pem",
         "openssl req -new -key ed.pem -config ca.cnf -subj /CN=bare -out bare.pem",
@@ -140,9 +142,12 @@ def try_c(trials, room, sample, files):
     trials.run("make", make)
     trials.run("make install", [*make, "install", f"DESTDIR={room}/installed"])
     names = {"calls": "calls from C", "canonical": "canonical encodings from C", "rules": "rules of RFC 5280 from C"}
+    # (the rules are broken by single octets of a certificate of openssl's, whose extensions are known)
+    given = {name: f"{room}/plain.der" if name == "rules" else sample for name in names}
+    names = {name: what for name, what in names.items() if os.path.isfile(given[name])}
     for name, what in names.items():
         trials.run(f"make build/{name}", [*make, f"{room}/build/{name}"])
-        trials.run(what, [f"{room}/build/{name}", sample])
+        trials.run(what, [f"{room}/build/{name}", given[name]])
     trials.run("the example in C", [f"{room}/build/certificate", sample])
     if subprocess.run(["cc", "-E", "-x", "c", "-"], input="#include <openssl/x509.h>\n", text=True, capture_output=True).returncode:
         trials.left_out("C beside OpenSSL", "openssl/x509.h")
@@ -152,7 +157,7 @@ def try_c(trials, room, sample, files):
             print(trials.run(f"C: {name}", [f"{room}/build/{name}", *files]), end="")
     if shutil.which("valgrind"):
         for name, what in names.items():
-            words = ["valgrind", "-q", "--error-exitcode=9", "--leak-check=full", f"{room}/build/{name}", sample]
+            words = ["valgrind", "-q", "--error-exitcode=9", "--leak-check=full", f"{room}/build/{name}", given[name]]
             trials.run(f"{what}, under valgrind", words)
     else:
         trials.left_out("calls under valgrind", "valgrind")

@@ -140,7 +140,7 @@ static void compare_signer(const der_signer_info_at *at, CMS_SignerInfo *want)
     if (key != NULL)
         same_string("subjectKeyIdentifier", contents(at->sid), key);
     else
-        SAME("issuer", der_signed_octets(octets + at->sid.offset, at->sid.length), i2d_X509_NAME, issuer);
+        SAME("issuer", der_behind(at->sid.offset, der_signed_octets(octets + at->sid.offset, at->sid.length)), i2d_X509_NAME, issuer);
     for (i = 0; i < CMS_signed_get_attr_count(want) && left.length > 0; i++)
         compare_attribute(&left, CMS_signed_get_attr(want, i));
     same_number("how many signed attributes", (uint64_t)i + left.length, (uint64_t)i);

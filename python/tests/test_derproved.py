@@ -101,7 +101,7 @@ class BesideCryptography(unittest.TestCase):
         count = 0
         for path in pem_files():
             pem = path.read_bytes()
-            if b"BEGIN CERTIFICATE" not in pem:
+            if b"BEGIN CERTIFICATE-----" not in pem:
                 continue
             for other in x509.load_pem_x509_certificates(pem):
                 octets = other.public_bytes(serialization.Encoding.DER)

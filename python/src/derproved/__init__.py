@@ -519,12 +519,12 @@ class SignerInfo(_Message):
         return self._at[16]
 
     @property
-    def signedattributes(self) -> Iterator[Attribute]:
+    def signed_attributes(self) -> Iterator[Attribute]:
         """The signed attributes, in their order."""
         return attributes(self.signed_attrs)
 
     @property
-    def unsignedattributes(self) -> Iterator[Attribute]:
+    def unsigned_attributes(self) -> Iterator[Attribute]:
         """The unsigned attributes, in their order."""
         return attributes(self.unsigned_attrs)
 
