@@ -69,10 +69,6 @@ impl<'a, R: Source<'a>, T: Decode<'a, R> + Choice> DecodeValue<'a, R> for Vec<T>
         let mut items = Vec::new(alloc);
         'items: while !reader.is_finished() {
             let item = T::decode(alloc, reader)?;
-            if items.is_empty() && reader.is_finished() {
-                // A list of one item has room for no more. Without memory for one, `push` refuses.
-                let _ = items.reserve_exact(1);
-            }
             if items.push(item).is_err() {
                 return Err(reader.error(ErrorKind::Memory));
             }
