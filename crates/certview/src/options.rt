@@ -136,7 +136,9 @@ fn command<'a>(alloc: Global) -> Result<Command<'a>, Error> {
     let fields = Arg::new(alloc, "fields")
         .long("fields")
         .value_name("NAME,..")
-        .help("Shows only the fields with these names, as subject,not-after; a name of no field is answered with all names")
+        .help(
+            "Shows only the fields with these names, as subject,not-after; a name of no field is answered with all names",
+        )
         .action(ArgAction::Append)
         .value_delimiter(',')
         .value_parser(FIELDS.as_slice())
