@@ -25,4 +25,5 @@ mod walk;
 pub use algorithm_identifier::AlgorithmIdentifierPlaces;
 pub use place::Place;
 pub use placed::{Placed, places_of};
+pub use presence::{is_some, is_there};
 pub use walk::{contents_of, next_place, start_of_contents};

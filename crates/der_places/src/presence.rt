@@ -4,7 +4,7 @@ ghost use Rattle.std.specs.Prelude.{◌≡◌, option_copied};
 ghost use Rattle.der_places.specs.Layout.{is_there};
 
 /// Whether a field is there, of which a value lends what it holds.
-pub(crate) fn is_there<T>(field: Option<&T>) -> bool
+pub fn is_there<T>(field: Option<&T>) -> bool
     ensures { result ≡ is_there (option_copied field.entry) }
 {
     match field {
@@ -14,7 +14,7 @@ pub(crate) fn is_there<T>(field: Option<&T>) -> bool
 }
 
 /// Whether a field is there, which is copied.
-pub(crate) fn is_some<T: Copy>(field: Option<T>) -> bool
+pub fn is_some<T: Copy>(field: Option<T>) -> bool
     ensures { result ≡ is_there field }
 {
     match field {

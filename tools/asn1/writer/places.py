@@ -1,4 +1,7 @@
-"""Where the fields of each SEQUENCE stand in its octets: a file a type, in a crate that has the places of others' types."""
+"""Where the fields of each SEQUENCE stand in its octets: a file a type, in a crate that has the places of others' types.
+
+`der_places` has the words and the calls, and the places of the library's own messages; another crate takes them from there.
+"""
 
 from __future__ import annotations
 
@@ -6,8 +9,8 @@ from dataclasses import dataclass, replace
 
 from ..errors import AsnError
 from ..model import Alias, Choice, Leaf, Presence, Resolved, ResolvedModule, Struct, Tag, Tagged, Use, Whole
-from ..properties import UNIVERSAL_TAGS, is_constructed, properties_of, properties_of_definition, tags_of
-from ..spelling import camel, snake
+from ..properties import is_constructed, properties_of_definition, tags_of
+from ..spelling import snake
 from . import docs
 from .alternatives import depth
 from .fields import Member, members_of
@@ -18,23 +21,48 @@ from .types import default_type, enumeration_of, inner_name, lifetime_of, rust_t
 # What the calls and the proofs name within them: a local of such a name has an underscore after it.
 LOCALS = frozenset(["octets", "start", "self", "first", "value", "fields", "rest"])
 NUMBERS = "one two three four five six seven eight nine ten eleven twelve thirteen fourteen fifteen sixteen".split()
-TAGS = {number: camel(whole.value) for whole, number in UNIVERSAL_TAGS.items()} | {
-    2: "Integer", 10: "Enumerated", 12: "Utf8String", 16: "Sequence", 17: "Set", 22: "Ia5String", 23: "UtcTime", 30: "BmpString",
+# The universal tags as the library names them.
+TAGS = {
+    1: "Boolean",
+    2: "Integer",
+    3: "BitString",
+    4: "OctetString",
+    5: "Null",
+    6: "ObjectIdentifier",
+    10: "Enumerated",
+    12: "Utf8String",
+    16: "Sequence",
+    17: "Set",
+    19: "PrintableString",
+    20: "TeletexString",
+    21: "VideotexString",
+    22: "Ia5String",
+    23: "UtcTime",
+    24: "GeneralizedTime",
+    27: "GeneralString",
+    30: "BmpString",
 }
-OWN = "der_places"
+LIBRARY = "der_places"  # the crate that has the words and the calls
+FILES = {"Place": "place", "Placed": "placed", "next_place": "walk", "is_there": "presence", "is_some": "presence"}
 
 
 def write_places(plan: Plan, crate: str, modules: list[ResolvedModule]) -> dict[str, str]:
-    """The files of the places of all structs of these modules, by their paths, and each with the name of what it is made from."""
+    """The files of the places of all structs of these modules, by their paths."""
     files: dict[str, str] = {}
     for module in modules:
         target = Target(crate, plan.targets[module.name].module)
-        structs = [found for found in module.definitions if isinstance(found, Struct) and not found.is_holder and not is_apart(found)]
+        structs = structs_of(module)
         for struct in structs:
             files[f"src/{target.module}/{snake(struct.rust)}.rt"] = Places(plan, target, struct).text()
         if structs:
             files[f"src/{target.module}.rt"] = root(module, structs)
     return files
+
+
+def structs_of(module: ResolvedModule) -> list[Struct]:
+    """The structs that a user meets, and that are written."""
+    structs = [found for found in module.definitions if isinstance(found, Struct)]
+    return [found for found in structs if not found.is_holder and not is_apart(found)]
 
 
 def root(module: ResolvedModule, structs: list[Struct]) -> str:
@@ -94,11 +122,11 @@ class Places:
         own = plan.of(struct)
         self.words("std.specs.Prelude", "[]", "◌∷◌")
         self.words("der_tlv.specs.declared.encoding_rules.EncodingRules.TheVariants", "Der")
-        self.words(f"{OWN}.specs.Layout", "no_more")
-        self.words(f"{OWN}.specs.LayoutLaws", "first_of")
+        self.words(f"{LIBRARY}.specs.Layout", "no_more")
+        self.words(f"{LIBRARY}.specs.LayoutLaws", "first_of")
         self.words(f"{own.crate}.specs.{own.page}.{struct.rust} as fields_of", "")
-        for module, name in (("place", "Place"), ("placed", "Placed"), ("walk", "next_place")):
-            self.source.imports.setdefault(f"crate::{module}", set()).add(name)
+        for name in ("Place", "Placed", "next_place"):
+            self.of_library(name)
         self.source.use("Form")
 
     # ---- what is imported
@@ -108,15 +136,17 @@ class Places:
             self.source.page_word(module, name)
 
     def layout_word(self, name: str) -> str:
-        self.words(f"{OWN}.specs.Layout", name)
+        self.words(f"{LIBRARY}.specs.Layout", name)
         return name
 
     def law(self, name: str) -> str:
-        self.words(f"{OWN}.specs.LayoutLaws", name)
+        self.words(f"{LIBRARY}.specs.LayoutLaws", name)
         return name
 
-    def presence_call(self, name: str) -> str:
-        self.source.imports.setdefault("crate::presence", set()).add(name)
+    def of_library(self, name: str) -> str:
+        """A type, a trait or a call of the library."""
+        path = f"crate::{FILES[name]}" if self.source.target.crate == LIBRARY else LIBRARY
+        self.source.imports.setdefault(path, set()).add(name)
         return name
 
     # ---- the file
@@ -130,7 +160,8 @@ class Places:
         rows = "\n".join(f"{docs.doc(words_of(one), indent='    ')}\n    pub {one.name}: Place," for one in self.fields)
         return (
             f"{docs.doc(f'Where the fields of {article(self.struct.name)} `{self.struct.name}` stand.')}\n"
-            f"#[repr(C)]\n#[derive(Clone, Copy, Debug, PartialEq, Eq)]\npub struct {places_name(self.struct)} {{\n{rows}\n}}"
+            "#[repr(C)]\n#[derive(Clone, Copy, Debug, PartialEq, Eq)]\n"
+            f"pub struct {places_name(self.struct)} {{\n{rows}\n}}"
         )
 
     def placed(self) -> str:
@@ -183,7 +214,8 @@ class Places:
 
     def layout(self) -> str:
         rows = [self.part(one) for one in self.fields]
-        return "".join(f"{'(' if i else ''}{row}\n        " for i, row in enumerate(rows)) + "no_more" + ")" * (len(rows) - 1)
+        listed = "".join(f"{'(' if i else ''}{row}\n        " for i, row in enumerate(rows))
+        return f"{listed}no_more{')' * (len(rows) - 1)}"
 
     def part(self, one: Placed) -> str:
         if one.presence is Presence.ALWAYS:
@@ -209,22 +241,23 @@ class Places:
         named = ", ".join(one.name if one.name == one.local else f"{one.name}: {one.local}" for one in self.fields)
         body = "".join(f"        {line}\n" for line in lines)
         name = places_name(self.struct)
-        return f"    fn walk(&self, octets: &[u8], start: Place) -> {name} {{\n{body}        {name} {{ {named} }}\n    }}"
+        head = f"    fn walk(&self, octets: &[u8], start: Place) -> {name} {{\n"
+        return f"{head}{body}        {name} {{ {named} }}\n    }}"
 
     def told(self, one: Placed) -> tuple[list[str], str]:
         """Whether a field is there, in code."""
         if one.presence is Presence.ALWAYS:
             return [], "true"
         if one.presence is Presence.OPTIONAL:
-            return [], f"{self.presence_call('is_some' if one.member.is_small else 'is_there')}(self.{one.name}())"
+            return [], f"{self.of_library('is_some' if one.member.is_small else 'is_there')}(self.{one.name}())"
         inner, rust = inner_name(one.type), self.rust(one.type)
         value = wrapped(self.source, bare(one.type), inner)
         lets = [f"let {inner} = self.{one.name}();"]
         if value != inner:
             lets.append(f"let tagged: {rust} = {value};")
             inner = "tagged"
-        called = f"<{default_type(self.source, one.member.field)} as {self.source.use('DefaultOf')}<{rust}>>::is_default(&{inner})"
-        return [*lets, f"let is_default = {called};"], "!is_default"
+        default = f"<{default_type(self.source, one.member.field)} as {self.source.use('DefaultOf')}<{rust}>>"
+        return [*lets, f"let is_default = {default}::is_default(&{inner});"], "!is_default"
 
     # ---- the proof
 
@@ -240,17 +273,20 @@ class Places:
     def shown(self, one: Placed) -> str:
         """That a field is one, and is read as its value."""
         word, path = one.word, f"v.fields{one.member.place}"
+        end = f"{word}.front {word}.first)"
         if one.presence is Presence.ALWAYS:
             return f"({self.encoding(one.type, f'{word}.front', f'{word}.first')}, {word}.first)"
         if one.presence is Presence.DEFAULT:
             readable = f"({self.form(one.type)}.readable {self.value(one)})"
             reads = f"({self.accepts(one.type)} {self.value(one)})"
             each = f"(λ o b. {self.encoding(one.type, 'o', 'b')})"
-            return f"({self.law('besides')} {self.default(one)} {readable} {reads} {each} {word}.front {word}.first)"
+            return f"({self.law('besides')} {self.default(one)} {readable} {reads} {each} {end}"
         if self.is_plain(one.type):
             each = f"(λ x o b. {self.encoding(one.type, 'o', 'b', 'x')})"
-            return f"({self.law('perhaps')} {self.reads(one)} {each} {path} {word}.front {word}.first)"
-        return f"({self.law('maybe')} (λ x. x{way(one.type)}) {self.held(one)} {self.reads(one)} (λ x o b. ({self.encoding(one.type, 'o', 'b')}, b)) {path} {word}.front {word}.first)"
+            return f"({self.law('perhaps')} {self.reads(one)} {each} {path} {end}"
+        each = f"(λ x o b. ({self.encoding(one.type, 'o', 'b')}, b))"
+        value = f"(λ x. x{way(one.type)})"
+        return f"({self.law('maybe')} {value} {self.held(one)} {self.reads(one)} {each} {path} {end}"
 
     def held(self, one: Placed) -> str:
         """Which octets are read as a field that may be absent, with its tags."""
@@ -290,7 +326,8 @@ class Places:
 
     def is_alternative(self, choice: Choice) -> str:
         if choice.halves:
-            raise AsnError(choice.place, f"the places of a field that is a '{choice.name}', a CHOICE of many structs, are not written")
+            words = f"the places of a field that is a '{choice.name}', a CHOICE of many structs, are not written"
+            raise AsnError(choice.place, words, "write a tag before the field's type")
         return self.choices.setdefault(choice, f"is_{snake(choice.rust)}")
 
     def alternatives(self, choice: Choice, name: str) -> str:
@@ -299,7 +336,7 @@ class Places:
         variants = f"{snake(choice.rust)}_of"
         self.words(f"{self.source.plan.module(choice, 'declared')}.{choice.rust}.TheVariants as {variants}", "")
         self.words("std.specs.Prelude", "List", "ℕ")
-        self.words(f"{OWN}.specs.Walking", "IsEncoding")
+        self.words(f"{LIBRARY}.specs.Walking", "IsEncoding")
         count = len(choice.alternatives)
         cases = " | ".join(
             f"{variants}.{part.rust} x ↦ λ o b. {self.encoding(part.type, 'o', 'b' + '.0' * depth(i, count), 'x')}"
@@ -326,5 +363,5 @@ def article(name: str) -> str:
 def words_of(one: Placed) -> str:
     """What a place is of."""
     field = one.member.field
-    absent = {Presence.ALWAYS: "", Presence.OPTIONAL: "; no octets where it is absent", Presence.DEFAULT: "; no octets where it is the default"}
-    return f"`{field.name}`, `{field.text}`{absent[field.presence]}."
+    absent = {Presence.OPTIONAL: "; no octets where it is absent", Presence.DEFAULT: "; no octets where it is the default"}
+    return f"`{field.name}`, `{field.text}`{absent.get(field.presence, '')}."

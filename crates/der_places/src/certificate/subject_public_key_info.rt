@@ -51,6 +51,6 @@ impl<'a> Placed for SubjectPublicKeyInfo<'a> {
         let one = a in
         let two = one.rest in
         (first_of one (is_encoding tags.Sequence (lit< tt) one.front one.first.0 one.first.1, one.first)
-        (first_of two (is_encoding tags.BitStringWithNamedBits (lit< tt) two.front two.first.0 two.first.1, two.first)
+        (first_of two (is_encoding tags.BitString (lit< tt) two.front two.first.0 two.first.1, two.first)
         two.rest)) };
 }

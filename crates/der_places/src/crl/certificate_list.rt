@@ -58,6 +58,6 @@ impl<'a> Placed for CertificateList<'a> {
         let three = two.rest in
         (first_of one (is_encoding tags.Sequence (lit< tt) one.front one.first.0 one.first.1, one.first)
         (first_of two (is_encoding tags.Sequence (lit< tt) two.front two.first.0 two.first.1, two.first)
-        (first_of three (is_encoding tags.BitStringWithNamedBits (lit< tt) three.front three.first.0 three.first.1, three.first)
+        (first_of three (is_encoding tags.BitString (lit< tt) three.front three.first.0 three.first.1, three.first)
         three.rest))) };
 }

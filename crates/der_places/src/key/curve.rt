@@ -55,6 +55,6 @@ impl<'a> Placed for Curve<'a> {
         let three = two.rest in
         (first_of one (is_encoding tags.OctetString (lit< tt) one.front one.first.0 one.first.1, one.first)
         (first_of two (is_encoding tags.OctetString (lit< tt) two.front two.first.0 two.first.1, two.first)
-        (first_of three (perhaps (⟦<BitStringRef<'a> as Form>⟧.accepts Der) (λ x o b. is_encoding tags.BitStringWithNamedBits (lit< tt) o b.0 b.1) v.fields.list.rest.rest.first three.front three.first)
+        (first_of three (perhaps (⟦<BitStringRef<'a> as Form>⟧.accepts Der) (λ x o b. is_encoding tags.BitString (lit< tt) o b.0 b.1) v.fields.list.rest.rest.first three.front three.first)
         three.rest))) };
 }

@@ -57,6 +57,6 @@ impl<'a> Placed for PkiStatusInfo<'a> {
         let three = two.rest in
         (first_of one (is_encoding tags.Integer (lit< tt) one.front one.first.0 one.first.1, one.first)
         (first_of two (perhaps (⟦<PkiFreeText<'a> as Form>⟧.accepts Der) (λ x o b. is_encoding tags.Sequence (lit< tt) o b.0 b.1) v.fields.list.rest.first two.front two.first)
-        (first_of three (perhaps (⟦<PkiFailureInfo<'a> as Form>⟧.accepts Der) (λ x o b. is_encoding tags.BitStringWithNamedBits (lit< tt) o b.0 b.1) v.fields.list.rest.rest.first three.front three.first)
+        (first_of three (perhaps (⟦<PkiFailureInfo<'a> as Form>⟧.accepts Der) (λ x o b. is_encoding tags.BitString (lit< tt) o b.0 b.1) v.fields.list.rest.rest.first three.front three.first)
         three.rest))) };
 }
