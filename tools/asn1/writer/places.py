@@ -20,7 +20,6 @@ from .types import default_type, enumeration_of, inner_name, lifetime_of, rust_t
 
 # What the calls and the proofs name within them: a local of such a name has an underscore after it.
 LOCALS = frozenset(["octets", "start", "self", "first", "value", "fields", "rest"])
-NUMBERS = "one two three four five six seven eight nine ten eleven twelve thirteen fourteen fifteen sixteen".split()
 # The universal tags as the library names them.
 TAGS = {
     1: "Boolean",
@@ -116,7 +115,7 @@ class Places:
     def __init__(self, plan: Plan, target: Target, struct: Struct) -> None:
         self.struct = struct
         self.source = Source(plan, target, snake(struct.rust))
-        self.fields = [Placed(member, NUMBERS[member.index]) for member in members_of(struct)]
+        self.fields = [Placed(member, f"field{member.index + 1}") for member in members_of(struct)]
         self.lifetime = lifetime_of(properties_of_definition(struct).borrows)
         self.choices: dict[Choice, str] = {}
         own = plan.of(struct)

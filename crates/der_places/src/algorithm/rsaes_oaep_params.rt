@@ -54,11 +54,11 @@ impl<'a> Placed for RsaesOaepParams<'a> {
     }
 
     ghost are_fields = { λ v c a.
-        let one = a in
-        let two = one.rest in
-        let three = two.rest in
-        (first_of one (maybe (λ x. x.fields.first) (⟦<Explicit<AlgorithmIdentifier<'a>, 0> as Form>⟧.accepts Der) (λ x. ⟦<Explicit<AlgorithmIdentifier<'a>, 0> as Form>⟧.accepts Der (explicit x)) (λ x o b. (is_encoding (marker_tag 2 true 0) (marker_tag-in_range 2 true 0) o b.0 b.1, b)) v.fields.list.first one.front one.first)
-        (first_of two (maybe (λ x. x.fields.first) (⟦<Explicit<AlgorithmIdentifier<'a>, 1> as Form>⟧.accepts Der) (λ x. ⟦<Explicit<AlgorithmIdentifier<'a>, 1> as Form>⟧.accepts Der (explicit x)) (λ x o b. (is_encoding (marker_tag 2 true 1) (marker_tag-in_range 2 true 1) o b.0 b.1, b)) v.fields.list.rest.first two.front two.first)
-        (first_of three (maybe (λ x. x.fields.first) (⟦<Explicit<AlgorithmIdentifier<'a>, 2> as Form>⟧.accepts Der) (λ x. ⟦<Explicit<AlgorithmIdentifier<'a>, 2> as Form>⟧.accepts Der (explicit x)) (λ x o b. (is_encoding (marker_tag 2 true 2) (marker_tag-in_range 2 true 2) o b.0 b.1, b)) v.fields.list.rest.rest.first three.front three.first)
-        three.rest))) };
+        let field1 = a in
+        let field2 = field1.rest in
+        let field3 = field2.rest in
+        (first_of field1 (maybe (λ x. x.fields.first) (⟦<Explicit<AlgorithmIdentifier<'a>, 0> as Form>⟧.accepts Der) (λ x. ⟦<Explicit<AlgorithmIdentifier<'a>, 0> as Form>⟧.accepts Der (explicit x)) (λ x o b. (is_encoding (marker_tag 2 true 0) (marker_tag-in_range 2 true 0) o b.0 b.1, b)) v.fields.list.first field1.front field1.first)
+        (first_of field2 (maybe (λ x. x.fields.first) (⟦<Explicit<AlgorithmIdentifier<'a>, 1> as Form>⟧.accepts Der) (λ x. ⟦<Explicit<AlgorithmIdentifier<'a>, 1> as Form>⟧.accepts Der (explicit x)) (λ x o b. (is_encoding (marker_tag 2 true 1) (marker_tag-in_range 2 true 1) o b.0 b.1, b)) v.fields.list.rest.first field2.front field2.first)
+        (first_of field3 (maybe (λ x. x.fields.first) (⟦<Explicit<AlgorithmIdentifier<'a>, 2> as Form>⟧.accepts Der) (λ x. ⟦<Explicit<AlgorithmIdentifier<'a>, 2> as Form>⟧.accepts Der (explicit x)) (λ x o b. (is_encoding (marker_tag 2 true 2) (marker_tag-in_range 2 true 2) o b.0 b.1, b)) v.fields.list.rest.rest.first field3.front field3.first)
+        field3.rest))) };
 }

@@ -69,13 +69,13 @@ impl<'a> Placed for RsassaPssParams<'a> {
     }
 
     ghost are_fields = { λ v c a.
-        let one = a in
-        let two = one.rest in
-        let three = two.rest in
-        let four = three.rest in
-        (first_of one (maybe (λ x. x.fields.first) (⟦<Explicit<AlgorithmIdentifier<'a>, 0> as Form>⟧.accepts Der) (λ x. ⟦<Explicit<AlgorithmIdentifier<'a>, 0> as Form>⟧.accepts Der (explicit x)) (λ x o b. (is_encoding (marker_tag 2 true 0) (marker_tag-in_range 2 true 0) o b.0 b.1, b)) v.fields.list.first one.front one.first)
-        (first_of two (maybe (λ x. x.fields.first) (⟦<Explicit<AlgorithmIdentifier<'a>, 1> as Form>⟧.accepts Der) (λ x. ⟦<Explicit<AlgorithmIdentifier<'a>, 1> as Form>⟧.accepts Der (explicit x)) (λ x o b. (is_encoding (marker_tag 2 true 1) (marker_tag-in_range 2 true 1) o b.0 b.1, b)) v.fields.list.rest.first two.front two.first)
-        (first_of three (maybe (λ x. x.fields.first) (⟦<Explicit<u32, 2> as Form>⟧.accepts Der) (λ x. ⟦<Explicit<u32, 2> as Form>⟧.accepts Der (explicit x)) (λ x o b. (is_encoding (marker_tag 2 true 2) (marker_tag-in_range 2 true 2) o b.0 b.1, b)) v.fields.list.rest.rest.first three.front three.first)
-        (first_of four (besides (is_default ⟦<DefaultNumber<1> as DefaultOf<Explicit<u8, 3>>>⟧.octets (⟦<Explicit<u8, 3> as Form>⟧.encoding (explicit (fields_of.trailer_field v)))) (⟦<Explicit<u8, 3> as Form>⟧.readable (explicit (fields_of.trailer_field v))) (⟦<Explicit<u8, 3> as Form>⟧.accepts Der (explicit (fields_of.trailer_field v))) (λ o b. is_encoding (marker_tag 2 true 3) (marker_tag-in_range 2 true 3) o b.0 b.1) four.front four.first)
-        four.rest)))) };
+        let field1 = a in
+        let field2 = field1.rest in
+        let field3 = field2.rest in
+        let field4 = field3.rest in
+        (first_of field1 (maybe (λ x. x.fields.first) (⟦<Explicit<AlgorithmIdentifier<'a>, 0> as Form>⟧.accepts Der) (λ x. ⟦<Explicit<AlgorithmIdentifier<'a>, 0> as Form>⟧.accepts Der (explicit x)) (λ x o b. (is_encoding (marker_tag 2 true 0) (marker_tag-in_range 2 true 0) o b.0 b.1, b)) v.fields.list.first field1.front field1.first)
+        (first_of field2 (maybe (λ x. x.fields.first) (⟦<Explicit<AlgorithmIdentifier<'a>, 1> as Form>⟧.accepts Der) (λ x. ⟦<Explicit<AlgorithmIdentifier<'a>, 1> as Form>⟧.accepts Der (explicit x)) (λ x o b. (is_encoding (marker_tag 2 true 1) (marker_tag-in_range 2 true 1) o b.0 b.1, b)) v.fields.list.rest.first field2.front field2.first)
+        (first_of field3 (maybe (λ x. x.fields.first) (⟦<Explicit<u32, 2> as Form>⟧.accepts Der) (λ x. ⟦<Explicit<u32, 2> as Form>⟧.accepts Der (explicit x)) (λ x o b. (is_encoding (marker_tag 2 true 2) (marker_tag-in_range 2 true 2) o b.0 b.1, b)) v.fields.list.rest.rest.first field3.front field3.first)
+        (first_of field4 (besides (is_default ⟦<DefaultNumber<1> as DefaultOf<Explicit<u8, 3>>>⟧.octets (⟦<Explicit<u8, 3> as Form>⟧.encoding (explicit (fields_of.trailer_field v)))) (⟦<Explicit<u8, 3> as Form>⟧.readable (explicit (fields_of.trailer_field v))) (⟦<Explicit<u8, 3> as Form>⟧.accepts Der (explicit (fields_of.trailer_field v))) (λ o b. is_encoding (marker_tag 2 true 3) (marker_tag-in_range 2 true 3) o b.0 b.1) field4.front field4.first)
+        field4.rest)))) };
 }

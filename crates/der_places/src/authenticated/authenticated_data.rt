@@ -88,23 +88,23 @@ impl<'a> Placed for AuthenticatedData<'a> {
     }
 
     ghost are_fields = { λ v c a.
-        let one = a in
-        let two = one.rest in
-        let three = two.rest in
-        let four = three.rest in
-        let five = four.rest in
-        let six = five.rest in
-        let seven = six.rest in
-        let eight = seven.rest in
-        let nine = eight.rest in
-        (first_of one (is_encoding tags.Integer (lit< tt) one.front one.first.0 one.first.1, one.first)
-        (first_of two (maybe (λ x. x.value) (⟦<Implicit<OriginatorInfo<'a>, 0> as Form>⟧.accepts Der) (λ x. ⟦<Implicit<OriginatorInfo<'a>, 0> as Form>⟧.accepts Der (implicit x)) (λ x o b. (is_encoding (marker_tag 2 true 0) (marker_tag-in_range 2 true 0) o b.0 b.1, b)) v.fields.list.rest.first two.front two.first)
-        (first_of three (is_encoding tags.Set (lit< tt) three.front three.first.0 three.first.1, three.first)
-        (first_of four (is_encoding tags.Sequence (lit< tt) four.front four.first.0 four.first.1, four.first)
-        (first_of five (maybe (λ x. x.value) (⟦<Implicit<AlgorithmIdentifier<'a>, 1> as Form>⟧.accepts Der) (λ x. ⟦<Implicit<AlgorithmIdentifier<'a>, 1> as Form>⟧.accepts Der (implicit x)) (λ x o b. (is_encoding (marker_tag 2 true 1) (marker_tag-in_range 2 true 1) o b.0 b.1, b)) v.fields.list.rest.rest.rest.rest.first five.front five.first)
-        (first_of six (is_encoding tags.Sequence (lit< tt) six.front six.first.0 six.first.1, six.first)
-        (first_of seven (maybe (λ x. x.value) (⟦<Implicit<AuthAttributes<'a>, 2> as Form>⟧.accepts Der) (λ x. ⟦<Implicit<AuthAttributes<'a>, 2> as Form>⟧.accepts Der (implicit x)) (λ x o b. (is_encoding (marker_tag 2 true 2) (marker_tag-in_range 2 true 2) o b.0 b.1, b)) v.fields.list.rest.rest.rest.rest.rest.rest.first seven.front seven.first)
-        (first_of eight (is_encoding tags.OctetString (lit< tt) eight.front eight.first.0 eight.first.1, eight.first)
-        (first_of nine (maybe (λ x. x.value) (⟦<Implicit<UnauthAttributes<'a>, 3> as Form>⟧.accepts Der) (λ x. ⟦<Implicit<UnauthAttributes<'a>, 3> as Form>⟧.accepts Der (implicit x)) (λ x o b. (is_encoding (marker_tag 2 true 3) (marker_tag-in_range 2 true 3) o b.0 b.1, b)) v.fields.list.rest.rest.rest.rest.rest.rest.rest.rest.list.first nine.front nine.first)
-        nine.rest))))))))) };
+        let field1 = a in
+        let field2 = field1.rest in
+        let field3 = field2.rest in
+        let field4 = field3.rest in
+        let field5 = field4.rest in
+        let field6 = field5.rest in
+        let field7 = field6.rest in
+        let field8 = field7.rest in
+        let field9 = field8.rest in
+        (first_of field1 (is_encoding tags.Integer (lit< tt) field1.front field1.first.0 field1.first.1, field1.first)
+        (first_of field2 (maybe (λ x. x.value) (⟦<Implicit<OriginatorInfo<'a>, 0> as Form>⟧.accepts Der) (λ x. ⟦<Implicit<OriginatorInfo<'a>, 0> as Form>⟧.accepts Der (implicit x)) (λ x o b. (is_encoding (marker_tag 2 true 0) (marker_tag-in_range 2 true 0) o b.0 b.1, b)) v.fields.list.rest.first field2.front field2.first)
+        (first_of field3 (is_encoding tags.Set (lit< tt) field3.front field3.first.0 field3.first.1, field3.first)
+        (first_of field4 (is_encoding tags.Sequence (lit< tt) field4.front field4.first.0 field4.first.1, field4.first)
+        (first_of field5 (maybe (λ x. x.value) (⟦<Implicit<AlgorithmIdentifier<'a>, 1> as Form>⟧.accepts Der) (λ x. ⟦<Implicit<AlgorithmIdentifier<'a>, 1> as Form>⟧.accepts Der (implicit x)) (λ x o b. (is_encoding (marker_tag 2 true 1) (marker_tag-in_range 2 true 1) o b.0 b.1, b)) v.fields.list.rest.rest.rest.rest.first field5.front field5.first)
+        (first_of field6 (is_encoding tags.Sequence (lit< tt) field6.front field6.first.0 field6.first.1, field6.first)
+        (first_of field7 (maybe (λ x. x.value) (⟦<Implicit<AuthAttributes<'a>, 2> as Form>⟧.accepts Der) (λ x. ⟦<Implicit<AuthAttributes<'a>, 2> as Form>⟧.accepts Der (implicit x)) (λ x o b. (is_encoding (marker_tag 2 true 2) (marker_tag-in_range 2 true 2) o b.0 b.1, b)) v.fields.list.rest.rest.rest.rest.rest.rest.first field7.front field7.first)
+        (first_of field8 (is_encoding tags.OctetString (lit< tt) field8.front field8.first.0 field8.first.1, field8.first)
+        (first_of field9 (maybe (λ x. x.value) (⟦<Implicit<UnauthAttributes<'a>, 3> as Form>⟧.accepts Der) (λ x. ⟦<Implicit<UnauthAttributes<'a>, 3> as Form>⟧.accepts Der (implicit x)) (λ x o b. (is_encoding (marker_tag 2 true 3) (marker_tag-in_range 2 true 3) o b.0 b.1, b)) v.fields.list.rest.rest.rest.rest.rest.rest.rest.rest.list.first field9.front field9.first)
+        field9.rest))))))))) };
 }

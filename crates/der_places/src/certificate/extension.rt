@@ -56,11 +56,11 @@ impl<'a> Placed for Extension<'a> {
     }
 
     ghost are_fields = { λ v c a.
-        let one = a in
-        let two = one.rest in
-        let three = two.rest in
-        (first_of one (is_encoding tags.ObjectIdentifier (lit< tt) one.front one.first.0 one.first.1, one.first)
-        (first_of two (besides (is_default ⟦<DefaultFalse as DefaultOf<bool>>⟧.octets (⟦<bool as Form>⟧.encoding (fields_of.critical v))) (⟦<bool as Form>⟧.readable (fields_of.critical v)) (⟦<bool as Form>⟧.accepts Der (fields_of.critical v)) (λ o b. is_encoding tags.Boolean (lit< tt) o b.0 b.1) two.front two.first)
-        (first_of three (is_encoding tags.OctetString (lit< tt) three.front three.first.0 three.first.1, three.first)
-        three.rest))) };
+        let field1 = a in
+        let field2 = field1.rest in
+        let field3 = field2.rest in
+        (first_of field1 (is_encoding tags.ObjectIdentifier (lit< tt) field1.front field1.first.0 field1.first.1, field1.first)
+        (first_of field2 (besides (is_default ⟦<DefaultFalse as DefaultOf<bool>>⟧.octets (⟦<bool as Form>⟧.encoding (fields_of.critical v))) (⟦<bool as Form>⟧.readable (fields_of.critical v)) (⟦<bool as Form>⟧.accepts Der (fields_of.critical v)) (λ o b. is_encoding tags.Boolean (lit< tt) o b.0 b.1) field2.front field2.first)
+        (first_of field3 (is_encoding tags.OctetString (lit< tt) field3.front field3.first.0 field3.first.1, field3.first)
+        field3.rest))) };
 }

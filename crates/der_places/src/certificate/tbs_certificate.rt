@@ -110,25 +110,25 @@ impl<'a> Placed for TbsCertificate<'a> {
     }
 
     ghost are_fields = { λ v c a.
-        let one = a in
-        let two = one.rest in
-        let three = two.rest in
-        let four = three.rest in
-        let five = four.rest in
-        let six = five.rest in
-        let seven = six.rest in
-        let eight = seven.rest in
-        let nine = eight.rest in
-        let ten = nine.rest in
-        (first_of one (besides (is_default ⟦<DefaultNumber<0> as DefaultOf<Explicit<Version, 0>>>⟧.octets (⟦<Explicit<Version, 0> as Form>⟧.encoding (explicit (fields_of.version v)))) (⟦<Explicit<Version, 0> as Form>⟧.readable (explicit (fields_of.version v))) (⟦<Explicit<Version, 0> as Form>⟧.accepts Der (explicit (fields_of.version v))) (λ o b. is_encoding (marker_tag 2 true 0) (marker_tag-in_range 2 true 0) o b.0 b.1) one.front one.first)
-        (first_of two (is_encoding tags.Integer (lit< tt) two.front two.first.0 two.first.1, two.first)
-        (first_of three (is_encoding tags.Sequence (lit< tt) three.front three.first.0 three.first.1, three.first)
-        (first_of four (is_encoding tags.Sequence (lit< tt) four.front four.first.0 four.first.1, four.first)
-        (first_of five (is_encoding tags.Sequence (lit< tt) five.front five.first.0 five.first.1, five.first)
-        (first_of six (is_encoding tags.Sequence (lit< tt) six.front six.first.0 six.first.1, six.first)
-        (first_of seven (is_encoding tags.Sequence (lit< tt) seven.front seven.first.0 seven.first.1, seven.first)
-        (first_of eight (maybe (λ x. x.value) (⟦<Implicit<UniqueIdentifier<'a>, 1> as Form>⟧.accepts Der) (λ x. ⟦<Implicit<UniqueIdentifier<'a>, 1> as Form>⟧.accepts Der (implicit x)) (λ x o b. (is_encoding (marker_tag 2 false 1) (marker_tag-in_range 2 false 1) o b.0 b.1, b)) v.fields.list.rest.rest.rest.rest.rest.rest.rest.first eight.front eight.first)
-        (first_of nine (maybe (λ x. x.value) (⟦<Implicit<UniqueIdentifier<'a>, 2> as Form>⟧.accepts Der) (λ x. ⟦<Implicit<UniqueIdentifier<'a>, 2> as Form>⟧.accepts Der (implicit x)) (λ x o b. (is_encoding (marker_tag 2 false 2) (marker_tag-in_range 2 false 2) o b.0 b.1, b)) v.fields.list.rest.rest.rest.rest.rest.rest.rest.rest.list.first nine.front nine.first)
-        (first_of ten (maybe (λ x. x.fields.list.first) (λ (x : Explicit3Extensions). ⟦<Explicit<Extensions<'a>, 3> as Form>⟧.accepts Der (explicit x.fields.list.first)) (λ x. ⟦<Explicit<Extensions<'a>, 3> as Form>⟧.accepts Der (explicit x)) (λ x o b. (is_encoding (marker_tag 2 true 3) (marker_tag-in_range 2 true 3) o b.0 b.1, b)) v.fields.list.rest.rest.rest.rest.rest.rest.rest.rest.list.rest.first ten.front ten.first)
-        ten.rest)))))))))) };
+        let field1 = a in
+        let field2 = field1.rest in
+        let field3 = field2.rest in
+        let field4 = field3.rest in
+        let field5 = field4.rest in
+        let field6 = field5.rest in
+        let field7 = field6.rest in
+        let field8 = field7.rest in
+        let field9 = field8.rest in
+        let field10 = field9.rest in
+        (first_of field1 (besides (is_default ⟦<DefaultNumber<0> as DefaultOf<Explicit<Version, 0>>>⟧.octets (⟦<Explicit<Version, 0> as Form>⟧.encoding (explicit (fields_of.version v)))) (⟦<Explicit<Version, 0> as Form>⟧.readable (explicit (fields_of.version v))) (⟦<Explicit<Version, 0> as Form>⟧.accepts Der (explicit (fields_of.version v))) (λ o b. is_encoding (marker_tag 2 true 0) (marker_tag-in_range 2 true 0) o b.0 b.1) field1.front field1.first)
+        (first_of field2 (is_encoding tags.Integer (lit< tt) field2.front field2.first.0 field2.first.1, field2.first)
+        (first_of field3 (is_encoding tags.Sequence (lit< tt) field3.front field3.first.0 field3.first.1, field3.first)
+        (first_of field4 (is_encoding tags.Sequence (lit< tt) field4.front field4.first.0 field4.first.1, field4.first)
+        (first_of field5 (is_encoding tags.Sequence (lit< tt) field5.front field5.first.0 field5.first.1, field5.first)
+        (first_of field6 (is_encoding tags.Sequence (lit< tt) field6.front field6.first.0 field6.first.1, field6.first)
+        (first_of field7 (is_encoding tags.Sequence (lit< tt) field7.front field7.first.0 field7.first.1, field7.first)
+        (first_of field8 (maybe (λ x. x.value) (⟦<Implicit<UniqueIdentifier<'a>, 1> as Form>⟧.accepts Der) (λ x. ⟦<Implicit<UniqueIdentifier<'a>, 1> as Form>⟧.accepts Der (implicit x)) (λ x o b. (is_encoding (marker_tag 2 false 1) (marker_tag-in_range 2 false 1) o b.0 b.1, b)) v.fields.list.rest.rest.rest.rest.rest.rest.rest.first field8.front field8.first)
+        (first_of field9 (maybe (λ x. x.value) (⟦<Implicit<UniqueIdentifier<'a>, 2> as Form>⟧.accepts Der) (λ x. ⟦<Implicit<UniqueIdentifier<'a>, 2> as Form>⟧.accepts Der (implicit x)) (λ x o b. (is_encoding (marker_tag 2 false 2) (marker_tag-in_range 2 false 2) o b.0 b.1, b)) v.fields.list.rest.rest.rest.rest.rest.rest.rest.rest.list.first field9.front field9.first)
+        (first_of field10 (maybe (λ x. x.fields.list.first) (λ (x : Explicit3Extensions). ⟦<Explicit<Extensions<'a>, 3> as Form>⟧.accepts Der (explicit x.fields.list.first)) (λ x. ⟦<Explicit<Extensions<'a>, 3> as Form>⟧.accepts Der (explicit x)) (λ x o b. (is_encoding (marker_tag 2 true 3) (marker_tag-in_range 2 true 3) o b.0 b.1, b)) v.fields.list.rest.rest.rest.rest.rest.rest.rest.rest.list.rest.first field10.front field10.first)
+        field10.rest)))))))))) };
 }

@@ -50,9 +50,9 @@ impl Placed for Validity {
 
     ghost are_fields = { λ v c a.
         let is_time : (t : Time) (o : List ℕ) → ⟦<Time as Form>⟧.accepts Der t o → IsEncoding o = λ t. elim t as (λ k. (o : List ℕ) → ⟦<Time as Form>⟧.accepts Der k o → IsEncoding o) [ time_of.UtcTime x ↦ λ o b. is_encoding tags.UtcTime (lit< tt) o b.0.0 b.0.1 | time_of.GeneralTime x ↦ λ o b. is_encoding tags.GeneralizedTime (lit< tt) o b.0.0 b.0.1 ] in
-        let one = a in
-        let two = one.rest in
-        (first_of one (is_time _ one.front one.first, one.first)
-        (first_of two (is_time _ two.front two.first, two.first)
-        two.rest)) };
+        let field1 = a in
+        let field2 = field1.rest in
+        (first_of field1 (is_time _ field1.front field1.first, field1.first)
+        (first_of field2 (is_time _ field2.front field2.first, field2.first)
+        field2.rest)) };
 }

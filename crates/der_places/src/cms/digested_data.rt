@@ -58,13 +58,13 @@ impl<'a> Placed for DigestedData<'a> {
     }
 
     ghost are_fields = { λ v c a.
-        let one = a in
-        let two = one.rest in
-        let three = two.rest in
-        let four = three.rest in
-        (first_of one (is_encoding tags.Integer (lit< tt) one.front one.first.0 one.first.1, one.first)
-        (first_of two (is_encoding tags.Sequence (lit< tt) two.front two.first.0 two.first.1, two.first)
-        (first_of three (is_encoding tags.Sequence (lit< tt) three.front three.first.0 three.first.1, three.first)
-        (first_of four (is_encoding tags.OctetString (lit< tt) four.front four.first.0 four.first.1, four.first)
-        four.rest)))) };
+        let field1 = a in
+        let field2 = field1.rest in
+        let field3 = field2.rest in
+        let field4 = field3.rest in
+        (first_of field1 (is_encoding tags.Integer (lit< tt) field1.front field1.first.0 field1.first.1, field1.first)
+        (first_of field2 (is_encoding tags.Sequence (lit< tt) field2.front field2.first.0 field2.first.1, field2.first)
+        (first_of field3 (is_encoding tags.Sequence (lit< tt) field3.front field3.first.0 field3.first.1, field3.first)
+        (first_of field4 (is_encoding tags.OctetString (lit< tt) field4.front field4.first.0 field4.first.1, field4.first)
+        field4.rest)))) };
 }

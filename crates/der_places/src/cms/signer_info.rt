@@ -82,19 +82,19 @@ impl<'a> Placed for SignerInfo<'a> {
 
     ghost are_fields = { λ v c a.
         let is_signer_identifier : (t : SignerIdentifier) (o : List ℕ) → ⟦<SignerIdentifier<'a> as Form>⟧.accepts Der t o → IsEncoding o = λ t. elim t as (λ k. (o : List ℕ) → ⟦<SignerIdentifier<'a> as Form>⟧.accepts Der k o → IsEncoding o) [ signer_identifier_of.IssuerAndSerialNumber x ↦ λ o b. is_encoding tags.Sequence (lit< tt) o b.0.0 b.0.1 | signer_identifier_of.SubjectKeyIdentifier x ↦ λ o b. is_encoding (marker_tag 2 false 0) (marker_tag-in_range 2 false 0) o b.0.0 b.0.1 ] in
-        let one = a in
-        let two = one.rest in
-        let three = two.rest in
-        let four = three.rest in
-        let five = four.rest in
-        let six = five.rest in
-        let seven = six.rest in
-        (first_of one (is_encoding tags.Integer (lit< tt) one.front one.first.0 one.first.1, one.first)
-        (first_of two (is_signer_identifier _ two.front two.first, two.first)
-        (first_of three (is_encoding tags.Sequence (lit< tt) three.front three.first.0 three.first.1, three.first)
-        (first_of four (maybe (λ x. x.value) (⟦<Implicit<SignedAttributes<'a>, 0> as Form>⟧.accepts Der) (λ x. ⟦<Implicit<SignedAttributes<'a>, 0> as Form>⟧.accepts Der (implicit x)) (λ x o b. (is_encoding (marker_tag 2 true 0) (marker_tag-in_range 2 true 0) o b.0 b.1, b)) v.fields.list.rest.rest.rest.first four.front four.first)
-        (first_of five (is_encoding tags.Sequence (lit< tt) five.front five.first.0 five.first.1, five.first)
-        (first_of six (is_encoding tags.OctetString (lit< tt) six.front six.first.0 six.first.1, six.first)
-        (first_of seven (maybe (λ x. x.value) (⟦<Implicit<UnsignedAttributes<'a>, 1> as Form>⟧.accepts Der) (λ x. ⟦<Implicit<UnsignedAttributes<'a>, 1> as Form>⟧.accepts Der (implicit x)) (λ x o b. (is_encoding (marker_tag 2 true 1) (marker_tag-in_range 2 true 1) o b.0 b.1, b)) v.fields.list.rest.rest.rest.rest.rest.rest.first seven.front seven.first)
-        seven.rest))))))) };
+        let field1 = a in
+        let field2 = field1.rest in
+        let field3 = field2.rest in
+        let field4 = field3.rest in
+        let field5 = field4.rest in
+        let field6 = field5.rest in
+        let field7 = field6.rest in
+        (first_of field1 (is_encoding tags.Integer (lit< tt) field1.front field1.first.0 field1.first.1, field1.first)
+        (first_of field2 (is_signer_identifier _ field2.front field2.first, field2.first)
+        (first_of field3 (is_encoding tags.Sequence (lit< tt) field3.front field3.first.0 field3.first.1, field3.first)
+        (first_of field4 (maybe (λ x. x.value) (⟦<Implicit<SignedAttributes<'a>, 0> as Form>⟧.accepts Der) (λ x. ⟦<Implicit<SignedAttributes<'a>, 0> as Form>⟧.accepts Der (implicit x)) (λ x o b. (is_encoding (marker_tag 2 true 0) (marker_tag-in_range 2 true 0) o b.0 b.1, b)) v.fields.list.rest.rest.rest.first field4.front field4.first)
+        (first_of field5 (is_encoding tags.Sequence (lit< tt) field5.front field5.first.0 field5.first.1, field5.first)
+        (first_of field6 (is_encoding tags.OctetString (lit< tt) field6.front field6.first.0 field6.first.1, field6.first)
+        (first_of field7 (maybe (λ x. x.value) (⟦<Implicit<UnsignedAttributes<'a>, 1> as Form>⟧.accepts Der) (λ x. ⟦<Implicit<UnsignedAttributes<'a>, 1> as Form>⟧.accepts Der (implicit x)) (λ x o b. (is_encoding (marker_tag 2 true 1) (marker_tag-in_range 2 true 1) o b.0 b.1, b)) v.fields.list.rest.rest.rest.rest.rest.rest.first field7.front field7.first)
+        field7.rest))))))) };
 }

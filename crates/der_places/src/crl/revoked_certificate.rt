@@ -61,11 +61,11 @@ impl<'a> Placed for RevokedCertificate<'a> {
 
     ghost are_fields = { λ v c a.
         let is_time : (t : Time) (o : List ℕ) → ⟦<Time as Form>⟧.accepts Der t o → IsEncoding o = λ t. elim t as (λ k. (o : List ℕ) → ⟦<Time as Form>⟧.accepts Der k o → IsEncoding o) [ time_of.UtcTime x ↦ λ o b. is_encoding tags.UtcTime (lit< tt) o b.0.0 b.0.1 | time_of.GeneralTime x ↦ λ o b. is_encoding tags.GeneralizedTime (lit< tt) o b.0.0 b.0.1 ] in
-        let one = a in
-        let two = one.rest in
-        let three = two.rest in
-        (first_of one (is_encoding tags.Integer (lit< tt) one.front one.first.0 one.first.1, one.first)
-        (first_of two (is_time _ two.front two.first, two.first)
-        (first_of three (perhaps (⟦<Extensions<'a> as Form>⟧.accepts Der) (λ x o b. is_encoding tags.Sequence (lit< tt) o b.0 b.1) v.fields.list.rest.rest.first three.front three.first)
-        three.rest))) };
+        let field1 = a in
+        let field2 = field1.rest in
+        let field3 = field2.rest in
+        (first_of field1 (is_encoding tags.Integer (lit< tt) field1.front field1.first.0 field1.first.1, field1.first)
+        (first_of field2 (is_time _ field2.front field2.first, field2.first)
+        (first_of field3 (perhaps (⟦<Extensions<'a> as Form>⟧.accepts Der) (λ x o b. is_encoding tags.Sequence (lit< tt) o b.0 b.1) v.fields.list.rest.rest.first field3.front field3.first)
+        field3.rest))) };
 }

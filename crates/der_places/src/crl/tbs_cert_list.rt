@@ -93,19 +93,19 @@ impl<'a> Placed for TbsCertList<'a> {
 
     ghost are_fields = { λ v c a.
         let is_time : (t : Time) (o : List ℕ) → ⟦<Time as Form>⟧.accepts Der t o → IsEncoding o = λ t. elim t as (λ k. (o : List ℕ) → ⟦<Time as Form>⟧.accepts Der k o → IsEncoding o) [ time_of.UtcTime x ↦ λ o b. is_encoding tags.UtcTime (lit< tt) o b.0.0 b.0.1 | time_of.GeneralTime x ↦ λ o b. is_encoding tags.GeneralizedTime (lit< tt) o b.0.0 b.0.1 ] in
-        let one = a in
-        let two = one.rest in
-        let three = two.rest in
-        let four = three.rest in
-        let five = four.rest in
-        let six = five.rest in
-        let seven = six.rest in
-        (first_of one (perhaps (⟦<Version as Form>⟧.accepts Der) (λ x o b. is_encoding tags.Integer (lit< tt) o b.0 b.1) v.fields.list.first one.front one.first)
-        (first_of two (is_encoding tags.Sequence (lit< tt) two.front two.first.0 two.first.1, two.first)
-        (first_of three (is_encoding tags.Sequence (lit< tt) three.front three.first.0 three.first.1, three.first)
-        (first_of four (is_time _ four.front four.first, four.first)
-        (first_of five (perhaps (⟦<Time as Form>⟧.accepts Der) (λ x o b. is_time x o b) v.fields.list.rest.rest.rest.rest.first five.front five.first)
-        (first_of six (perhaps (⟦<Vec<RevokedCertificate<'a>> as Form>⟧.accepts Der) (λ x o b. is_encoding tags.Sequence (lit< tt) o b.0 b.1) v.fields.list.rest.rest.rest.rest.rest.first six.front six.first)
-        (first_of seven (maybe (λ x. x.fields.list.first) (λ (x : Explicit0Extensions). ⟦<Explicit<Extensions<'a>, 0> as Form>⟧.accepts Der (explicit x.fields.list.first)) (λ x. ⟦<Explicit<Extensions<'a>, 0> as Form>⟧.accepts Der (explicit x)) (λ x o b. (is_encoding (marker_tag 2 true 0) (marker_tag-in_range 2 true 0) o b.0 b.1, b)) v.fields.list.rest.rest.rest.rest.rest.rest.first seven.front seven.first)
-        seven.rest))))))) };
+        let field1 = a in
+        let field2 = field1.rest in
+        let field3 = field2.rest in
+        let field4 = field3.rest in
+        let field5 = field4.rest in
+        let field6 = field5.rest in
+        let field7 = field6.rest in
+        (first_of field1 (perhaps (⟦<Version as Form>⟧.accepts Der) (λ x o b. is_encoding tags.Integer (lit< tt) o b.0 b.1) v.fields.list.first field1.front field1.first)
+        (first_of field2 (is_encoding tags.Sequence (lit< tt) field2.front field2.first.0 field2.first.1, field2.first)
+        (first_of field3 (is_encoding tags.Sequence (lit< tt) field3.front field3.first.0 field3.first.1, field3.first)
+        (first_of field4 (is_time _ field4.front field4.first, field4.first)
+        (first_of field5 (perhaps (⟦<Time as Form>⟧.accepts Der) (λ x o b. is_time x o b) v.fields.list.rest.rest.rest.rest.first field5.front field5.first)
+        (first_of field6 (perhaps (⟦<Vec<RevokedCertificate<'a>> as Form>⟧.accepts Der) (λ x o b. is_encoding tags.Sequence (lit< tt) o b.0 b.1) v.fields.list.rest.rest.rest.rest.rest.first field6.front field6.first)
+        (first_of field7 (maybe (λ x. x.fields.list.first) (λ (x : Explicit0Extensions). ⟦<Explicit<Extensions<'a>, 0> as Form>⟧.accepts Der (explicit x.fields.list.first)) (λ x. ⟦<Explicit<Extensions<'a>, 0> as Form>⟧.accepts Der (explicit x)) (λ x o b. (is_encoding (marker_tag 2 true 0) (marker_tag-in_range 2 true 0) o b.0 b.1, b)) v.fields.list.rest.rest.rest.rest.rest.rest.first field7.front field7.first)
+        field7.rest))))))) };
 }

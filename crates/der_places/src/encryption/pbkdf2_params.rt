@@ -62,13 +62,13 @@ impl<'a> Placed for Pbkdf2Params<'a> {
 
     ghost are_fields = { λ v c a.
         let is_pbkdf2_salt : (t : Pbkdf2Salt) (o : List ℕ) → ⟦<Pbkdf2Salt<'a> as Form>⟧.accepts Der t o → IsEncoding o = λ t. elim t as (λ k. (o : List ℕ) → ⟦<Pbkdf2Salt<'a> as Form>⟧.accepts Der k o → IsEncoding o) [ pbkdf2_salt_of.Specified x ↦ λ o b. is_encoding tags.OctetString (lit< tt) o b.0.0 b.0.1 | pbkdf2_salt_of.OtherSource x ↦ λ o b. is_encoding tags.Sequence (lit< tt) o b.0.0 b.0.1 ] in
-        let one = a in
-        let two = one.rest in
-        let three = two.rest in
-        let four = three.rest in
-        (first_of one (is_pbkdf2_salt _ one.front one.first, one.first)
-        (first_of two (is_encoding tags.Integer (lit< tt) two.front two.first.0 two.first.1, two.first)
-        (first_of three (perhaps (⟦<u32 as Form>⟧.accepts Der) (λ x o b. is_encoding tags.Integer (lit< tt) o b.0 b.1) v.fields.list.rest.rest.first three.front three.first)
-        (first_of four (perhaps (⟦<AlgorithmIdentifier<'a> as Form>⟧.accepts Der) (λ x o b. is_encoding tags.Sequence (lit< tt) o b.0 b.1) v.fields.list.rest.rest.rest.first four.front four.first)
-        four.rest)))) };
+        let field1 = a in
+        let field2 = field1.rest in
+        let field3 = field2.rest in
+        let field4 = field3.rest in
+        (first_of field1 (is_pbkdf2_salt _ field1.front field1.first, field1.first)
+        (first_of field2 (is_encoding tags.Integer (lit< tt) field2.front field2.first.0 field2.first.1, field2.first)
+        (first_of field3 (perhaps (⟦<u32 as Form>⟧.accepts Der) (λ x o b. is_encoding tags.Integer (lit< tt) o b.0 b.1) v.fields.list.rest.rest.first field3.front field3.first)
+        (first_of field4 (perhaps (⟦<AlgorithmIdentifier<'a> as Form>⟧.accepts Der) (λ x o b. is_encoding tags.Sequence (lit< tt) o b.0 b.1) v.fields.list.rest.rest.rest.first field4.front field4.first)
+        field4.rest)))) };
 }

@@ -68,15 +68,15 @@ impl<'a> Placed for KeyAgreeRecipientInfo<'a> {
     }
 
     ghost are_fields = { λ v c a.
-        let one = a in
-        let two = one.rest in
-        let three = two.rest in
-        let four = three.rest in
-        let five = four.rest in
-        (first_of one (is_encoding tags.Integer (lit< tt) one.front one.first.0 one.first.1, one.first)
-        (first_of two (is_encoding (marker_tag 2 true 0) (marker_tag-in_range 2 true 0) two.front two.first.0 two.first.1, two.first)
-        (first_of three (maybe (λ x. x.fields.first) (⟦<Explicit<UserKeyingMaterial<'a>, 1> as Form>⟧.accepts Der) (λ x. ⟦<Explicit<UserKeyingMaterial<'a>, 1> as Form>⟧.accepts Der (explicit x)) (λ x o b. (is_encoding (marker_tag 2 true 1) (marker_tag-in_range 2 true 1) o b.0 b.1, b)) v.fields.list.rest.rest.first three.front three.first)
-        (first_of four (is_encoding tags.Sequence (lit< tt) four.front four.first.0 four.first.1, four.first)
-        (first_of five (is_encoding tags.Sequence (lit< tt) five.front five.first.0 five.first.1, five.first)
-        five.rest))))) };
+        let field1 = a in
+        let field2 = field1.rest in
+        let field3 = field2.rest in
+        let field4 = field3.rest in
+        let field5 = field4.rest in
+        (first_of field1 (is_encoding tags.Integer (lit< tt) field1.front field1.first.0 field1.first.1, field1.first)
+        (first_of field2 (is_encoding (marker_tag 2 true 0) (marker_tag-in_range 2 true 0) field2.front field2.first.0 field2.first.1, field2.first)
+        (first_of field3 (maybe (λ x. x.fields.first) (⟦<Explicit<UserKeyingMaterial<'a>, 1> as Form>⟧.accepts Der) (λ x. ⟦<Explicit<UserKeyingMaterial<'a>, 1> as Form>⟧.accepts Der (explicit x)) (λ x o b. (is_encoding (marker_tag 2 true 1) (marker_tag-in_range 2 true 1) o b.0 b.1, b)) v.fields.list.rest.rest.first field3.front field3.first)
+        (first_of field4 (is_encoding tags.Sequence (lit< tt) field4.front field4.first.0 field4.first.1, field4.first)
+        (first_of field5 (is_encoding tags.Sequence (lit< tt) field5.front field5.first.0 field5.first.1, field5.first)
+        field5.rest))))) };
 }

@@ -64,13 +64,13 @@ impl<'a> Placed for KeyTransRecipientInfo<'a> {
 
     ghost are_fields = { λ v c a.
         let is_signer_identifier : (t : SignerIdentifier) (o : List ℕ) → ⟦<SignerIdentifier<'a> as Form>⟧.accepts Der t o → IsEncoding o = λ t. elim t as (λ k. (o : List ℕ) → ⟦<SignerIdentifier<'a> as Form>⟧.accepts Der k o → IsEncoding o) [ signer_identifier_of.IssuerAndSerialNumber x ↦ λ o b. is_encoding tags.Sequence (lit< tt) o b.0.0 b.0.1 | signer_identifier_of.SubjectKeyIdentifier x ↦ λ o b. is_encoding (marker_tag 2 false 0) (marker_tag-in_range 2 false 0) o b.0.0 b.0.1 ] in
-        let one = a in
-        let two = one.rest in
-        let three = two.rest in
-        let four = three.rest in
-        (first_of one (is_encoding tags.Integer (lit< tt) one.front one.first.0 one.first.1, one.first)
-        (first_of two (is_signer_identifier _ two.front two.first, two.first)
-        (first_of three (is_encoding tags.Sequence (lit< tt) three.front three.first.0 three.first.1, three.first)
-        (first_of four (is_encoding tags.OctetString (lit< tt) four.front four.first.0 four.first.1, four.first)
-        four.rest)))) };
+        let field1 = a in
+        let field2 = field1.rest in
+        let field3 = field2.rest in
+        let field4 = field3.rest in
+        (first_of field1 (is_encoding tags.Integer (lit< tt) field1.front field1.first.0 field1.first.1, field1.first)
+        (first_of field2 (is_signer_identifier _ field2.front field2.first, field2.first)
+        (first_of field3 (is_encoding tags.Sequence (lit< tt) field3.front field3.first.0 field3.first.1, field3.first)
+        (first_of field4 (is_encoding tags.OctetString (lit< tt) field4.front field4.first.0 field4.first.1, field4.first)
+        field4.rest)))) };
 }

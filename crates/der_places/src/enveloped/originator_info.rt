@@ -46,9 +46,9 @@ impl<'a> Placed for OriginatorInfo<'a> {
     }
 
     ghost are_fields = { λ v c a.
-        let one = a in
-        let two = one.rest in
-        (first_of one (maybe (λ x. x.value) (⟦<Implicit<CertificateSet<'a>, 0> as Form>⟧.accepts Der) (λ x. ⟦<Implicit<CertificateSet<'a>, 0> as Form>⟧.accepts Der (implicit x)) (λ x o b. (is_encoding (marker_tag 2 true 0) (marker_tag-in_range 2 true 0) o b.0 b.1, b)) v.fields.list.first one.front one.first)
-        (first_of two (maybe (λ x. x.value) (⟦<Implicit<RevocationInfoChoices<'a>, 1> as Form>⟧.accepts Der) (λ x. ⟦<Implicit<RevocationInfoChoices<'a>, 1> as Form>⟧.accepts Der (implicit x)) (λ x o b. (is_encoding (marker_tag 2 true 1) (marker_tag-in_range 2 true 1) o b.0 b.1, b)) v.fields.list.rest.first two.front two.first)
-        two.rest)) };
+        let field1 = a in
+        let field2 = field1.rest in
+        (first_of field1 (maybe (λ x. x.value) (⟦<Implicit<CertificateSet<'a>, 0> as Form>⟧.accepts Der) (λ x. ⟦<Implicit<CertificateSet<'a>, 0> as Form>⟧.accepts Der (implicit x)) (λ x o b. (is_encoding (marker_tag 2 true 0) (marker_tag-in_range 2 true 0) o b.0 b.1, b)) v.fields.list.first field1.front field1.first)
+        (first_of field2 (maybe (λ x. x.value) (⟦<Implicit<RevocationInfoChoices<'a>, 1> as Form>⟧.accepts Der) (λ x. ⟦<Implicit<RevocationInfoChoices<'a>, 1> as Form>⟧.accepts Der (implicit x)) (λ x o b. (is_encoding (marker_tag 2 true 1) (marker_tag-in_range 2 true 1) o b.0 b.1, b)) v.fields.list.rest.first field2.front field2.first)
+        field2.rest)) };
 }

@@ -49,9 +49,9 @@ impl<'a> Placed for RecipientEncryptedKey<'a> {
 
     ghost are_fields = { λ v c a.
         let is_key_agree_recipient_identifier : (t : KeyAgreeRecipientIdentifier) (o : List ℕ) → ⟦<KeyAgreeRecipientIdentifier<'a> as Form>⟧.accepts Der t o → IsEncoding o = λ t. elim t as (λ k. (o : List ℕ) → ⟦<KeyAgreeRecipientIdentifier<'a> as Form>⟧.accepts Der k o → IsEncoding o) [ key_agree_recipient_identifier_of.IssuerAndSerialNumber x ↦ λ o b. is_encoding tags.Sequence (lit< tt) o b.0.0 b.0.1 | key_agree_recipient_identifier_of.RKeyId x ↦ λ o b. is_encoding (marker_tag 2 true 0) (marker_tag-in_range 2 true 0) o b.0.0 b.0.1 ] in
-        let one = a in
-        let two = one.rest in
-        (first_of one (is_key_agree_recipient_identifier _ one.front one.first, one.first)
-        (first_of two (is_encoding tags.OctetString (lit< tt) two.front two.first.0 two.first.1, two.first)
-        two.rest)) };
+        let field1 = a in
+        let field2 = field1.rest in
+        (first_of field1 (is_key_agree_recipient_identifier _ field1.front field1.first, field1.first)
+        (first_of field2 (is_encoding tags.OctetString (lit< tt) field2.front field2.first.0 field2.first.1, field2.first)
+        field2.rest)) };
 }

@@ -52,9 +52,9 @@ impl<'a> Placed for AccessDescription<'a> {
 
     ghost are_fields = { λ v c a.
         let is_general_name : (t : GeneralName) (o : List ℕ) → ⟦<GeneralName<'a> as Form>⟧.accepts Der t o → IsEncoding o = λ t. elim t as (λ k. (o : List ℕ) → ⟦<GeneralName<'a> as Form>⟧.accepts Der k o → IsEncoding o) [ general_name_of.OtherName x ↦ λ o b. is_encoding (marker_tag 2 true 0) (marker_tag-in_range 2 true 0) o b.0.0.0.0.0 b.0.0.0.0.1 | general_name_of.Rfc822Name x ↦ λ o b. is_encoding (marker_tag 2 false 1) (marker_tag-in_range 2 false 1) o b.0.0.0.0.0 b.0.0.0.0.1 | general_name_of.DnsName x ↦ λ o b. is_encoding (marker_tag 2 false 2) (marker_tag-in_range 2 false 2) o b.0.0.0.0 b.0.0.0.1 | general_name_of.X400Address x ↦ λ o b. is_encoding (marker_tag 2 true 3) (marker_tag-in_range 2 true 3) o b.0.0.0.0 b.0.0.0.1 | general_name_of.DirectoryName x ↦ λ o b. is_encoding (marker_tag 2 true 4) (marker_tag-in_range 2 true 4) o b.0.0.0.0 b.0.0.0.1 | general_name_of.EdiPartyName x ↦ λ o b. is_encoding (marker_tag 2 true 5) (marker_tag-in_range 2 true 5) o b.0.0.0.0 b.0.0.0.1 | general_name_of.UniformResourceIdentifier x ↦ λ o b. is_encoding (marker_tag 2 false 6) (marker_tag-in_range 2 false 6) o b.0.0.0.0 b.0.0.0.1 | general_name_of.IpAddress x ↦ λ o b. is_encoding (marker_tag 2 false 7) (marker_tag-in_range 2 false 7) o b.0.0.0.0 b.0.0.0.1 | general_name_of.RegisteredId x ↦ λ o b. is_encoding (marker_tag 2 false 8) (marker_tag-in_range 2 false 8) o b.0.0.0.0 b.0.0.0.1 ] in
-        let one = a in
-        let two = one.rest in
-        (first_of one (is_encoding tags.ObjectIdentifier (lit< tt) one.front one.first.0 one.first.1, one.first)
-        (first_of two (is_general_name _ two.front two.first, two.first)
-        two.rest)) };
+        let field1 = a in
+        let field2 = field1.rest in
+        (first_of field1 (is_encoding tags.ObjectIdentifier (lit< tt) field1.front field1.first.0 field1.first.1, field1.first)
+        (first_of field2 (is_general_name _ field2.front field2.first, field2.first)
+        field2.rest)) };
 }

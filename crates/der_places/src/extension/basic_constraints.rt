@@ -52,9 +52,9 @@ impl<'a> Placed for BasicConstraints<'a> {
     }
 
     ghost are_fields = { λ v c a.
-        let one = a in
-        let two = one.rest in
-        (first_of one (besides (is_default ⟦<DefaultFalse as DefaultOf<bool>>⟧.octets (⟦<bool as Form>⟧.encoding (fields_of.ca v))) (⟦<bool as Form>⟧.readable (fields_of.ca v)) (⟦<bool as Form>⟧.accepts Der (fields_of.ca v)) (λ o b. is_encoding tags.Boolean (lit< tt) o b.0 b.1) one.front one.first)
-        (first_of two (perhaps (⟦<UintRef<'a> as Form>⟧.accepts Der) (λ x o b. is_encoding tags.Integer (lit< tt) o b.0 b.1) v.fields.list.rest.first two.front two.first)
-        two.rest)) };
+        let field1 = a in
+        let field2 = field1.rest in
+        (first_of field1 (besides (is_default ⟦<DefaultFalse as DefaultOf<bool>>⟧.octets (⟦<bool as Form>⟧.encoding (fields_of.ca v))) (⟦<bool as Form>⟧.readable (fields_of.ca v)) (⟦<bool as Form>⟧.accepts Der (fields_of.ca v)) (λ o b. is_encoding tags.Boolean (lit< tt) o b.0 b.1) field1.front field1.first)
+        (first_of field2 (perhaps (⟦<UintRef<'a> as Form>⟧.accepts Der) (λ x o b. is_encoding tags.Integer (lit< tt) o b.0 b.1) v.fields.list.rest.first field2.front field2.first)
+        field2.rest)) };
 }

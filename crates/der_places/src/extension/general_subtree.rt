@@ -63,11 +63,11 @@ impl<'a> Placed for GeneralSubtree<'a> {
 
     ghost are_fields = { λ v c a.
         let is_general_name : (t : GeneralName) (o : List ℕ) → ⟦<GeneralName<'a> as Form>⟧.accepts Der t o → IsEncoding o = λ t. elim t as (λ k. (o : List ℕ) → ⟦<GeneralName<'a> as Form>⟧.accepts Der k o → IsEncoding o) [ general_name_of.OtherName x ↦ λ o b. is_encoding (marker_tag 2 true 0) (marker_tag-in_range 2 true 0) o b.0.0.0.0.0 b.0.0.0.0.1 | general_name_of.Rfc822Name x ↦ λ o b. is_encoding (marker_tag 2 false 1) (marker_tag-in_range 2 false 1) o b.0.0.0.0.0 b.0.0.0.0.1 | general_name_of.DnsName x ↦ λ o b. is_encoding (marker_tag 2 false 2) (marker_tag-in_range 2 false 2) o b.0.0.0.0 b.0.0.0.1 | general_name_of.X400Address x ↦ λ o b. is_encoding (marker_tag 2 true 3) (marker_tag-in_range 2 true 3) o b.0.0.0.0 b.0.0.0.1 | general_name_of.DirectoryName x ↦ λ o b. is_encoding (marker_tag 2 true 4) (marker_tag-in_range 2 true 4) o b.0.0.0.0 b.0.0.0.1 | general_name_of.EdiPartyName x ↦ λ o b. is_encoding (marker_tag 2 true 5) (marker_tag-in_range 2 true 5) o b.0.0.0.0 b.0.0.0.1 | general_name_of.UniformResourceIdentifier x ↦ λ o b. is_encoding (marker_tag 2 false 6) (marker_tag-in_range 2 false 6) o b.0.0.0.0 b.0.0.0.1 | general_name_of.IpAddress x ↦ λ o b. is_encoding (marker_tag 2 false 7) (marker_tag-in_range 2 false 7) o b.0.0.0.0 b.0.0.0.1 | general_name_of.RegisteredId x ↦ λ o b. is_encoding (marker_tag 2 false 8) (marker_tag-in_range 2 false 8) o b.0.0.0.0 b.0.0.0.1 ] in
-        let one = a in
-        let two = one.rest in
-        let three = two.rest in
-        (first_of one (is_general_name _ one.front one.first, one.first)
-        (first_of two (besides (is_default ⟦<DefaultNumber<0> as DefaultOf<Implicit<BaseDistance, 0>>>⟧.octets (⟦<Implicit<BaseDistance, 0> as Form>⟧.encoding (implicit (fields_of.minimum v)))) (⟦<Implicit<BaseDistance, 0> as Form>⟧.readable (implicit (fields_of.minimum v))) (⟦<Implicit<BaseDistance, 0> as Form>⟧.accepts Der (implicit (fields_of.minimum v))) (λ o b. is_encoding (marker_tag 2 false 0) (marker_tag-in_range 2 false 0) o b.0 b.1) two.front two.first)
-        (first_of three (maybe (λ x. x.value) (⟦<Implicit<BaseDistance, 1> as Form>⟧.accepts Der) (λ x. ⟦<Implicit<BaseDistance, 1> as Form>⟧.accepts Der (implicit x)) (λ x o b. (is_encoding (marker_tag 2 false 1) (marker_tag-in_range 2 false 1) o b.0 b.1, b)) v.fields.list.rest.rest.first three.front three.first)
-        three.rest))) };
+        let field1 = a in
+        let field2 = field1.rest in
+        let field3 = field2.rest in
+        (first_of field1 (is_general_name _ field1.front field1.first, field1.first)
+        (first_of field2 (besides (is_default ⟦<DefaultNumber<0> as DefaultOf<Implicit<BaseDistance, 0>>>⟧.octets (⟦<Implicit<BaseDistance, 0> as Form>⟧.encoding (implicit (fields_of.minimum v)))) (⟦<Implicit<BaseDistance, 0> as Form>⟧.readable (implicit (fields_of.minimum v))) (⟦<Implicit<BaseDistance, 0> as Form>⟧.accepts Der (implicit (fields_of.minimum v))) (λ o b. is_encoding (marker_tag 2 false 0) (marker_tag-in_range 2 false 0) o b.0 b.1) field2.front field2.first)
+        (first_of field3 (maybe (λ x. x.value) (⟦<Implicit<BaseDistance, 1> as Form>⟧.accepts Der) (λ x. ⟦<Implicit<BaseDistance, 1> as Form>⟧.accepts Der (implicit x)) (λ x o b. (is_encoding (marker_tag 2 false 1) (marker_tag-in_range 2 false 1) o b.0 b.1, b)) v.fields.list.rest.rest.first field3.front field3.first)
+        field3.rest))) };
 }

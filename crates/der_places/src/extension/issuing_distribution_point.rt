@@ -87,17 +87,17 @@ impl<'a> Placed for IssuingDistributionPoint<'a> {
     }
 
     ghost are_fields = { λ v c a.
-        let one = a in
-        let two = one.rest in
-        let three = two.rest in
-        let four = three.rest in
-        let five = four.rest in
-        let six = five.rest in
-        (first_of one (maybe (λ x. x.fields.list.first) (λ (x : Explicit0DistributionPointName). ⟦<Explicit<DistributionPointName<'a>, 0> as Form>⟧.accepts Der (explicit x.fields.list.first)) (λ x. ⟦<Explicit<DistributionPointName<'a>, 0> as Form>⟧.accepts Der (explicit x)) (λ x o b. (is_encoding (marker_tag 2 true 0) (marker_tag-in_range 2 true 0) o b.0 b.1, b)) v.fields.list.first one.front one.first)
-        (first_of two (besides (is_default ⟦<DefaultFalse as DefaultOf<Implicit<bool, 1>>>⟧.octets (⟦<Implicit<bool, 1> as Form>⟧.encoding (implicit (fields_of.only_contains_user_certs v)))) (⟦<Implicit<bool, 1> as Form>⟧.readable (implicit (fields_of.only_contains_user_certs v))) (⟦<Implicit<bool, 1> as Form>⟧.accepts Der (implicit (fields_of.only_contains_user_certs v))) (λ o b. is_encoding (marker_tag 2 false 1) (marker_tag-in_range 2 false 1) o b.0 b.1) two.front two.first)
-        (first_of three (besides (is_default ⟦<DefaultFalse as DefaultOf<Implicit<bool, 2>>>⟧.octets (⟦<Implicit<bool, 2> as Form>⟧.encoding (implicit (fields_of.only_contains_ca_certs v)))) (⟦<Implicit<bool, 2> as Form>⟧.readable (implicit (fields_of.only_contains_ca_certs v))) (⟦<Implicit<bool, 2> as Form>⟧.accepts Der (implicit (fields_of.only_contains_ca_certs v))) (λ o b. is_encoding (marker_tag 2 false 2) (marker_tag-in_range 2 false 2) o b.0 b.1) three.front three.first)
-        (first_of four (maybe (λ x. x.value) (⟦<Implicit<ReasonFlags<'a>, 3> as Form>⟧.accepts Der) (λ x. ⟦<Implicit<ReasonFlags<'a>, 3> as Form>⟧.accepts Der (implicit x)) (λ x o b. (is_encoding (marker_tag 2 false 3) (marker_tag-in_range 2 false 3) o b.0 b.1, b)) v.fields.list.rest.rest.rest.first four.front four.first)
-        (first_of five (besides (is_default ⟦<DefaultFalse as DefaultOf<Implicit<bool, 4>>>⟧.octets (⟦<Implicit<bool, 4> as Form>⟧.encoding (implicit (fields_of.indirect_crl v)))) (⟦<Implicit<bool, 4> as Form>⟧.readable (implicit (fields_of.indirect_crl v))) (⟦<Implicit<bool, 4> as Form>⟧.accepts Der (implicit (fields_of.indirect_crl v))) (λ o b. is_encoding (marker_tag 2 false 4) (marker_tag-in_range 2 false 4) o b.0 b.1) five.front five.first)
-        (first_of six (besides (is_default ⟦<DefaultFalse as DefaultOf<Implicit<bool, 5>>>⟧.octets (⟦<Implicit<bool, 5> as Form>⟧.encoding (implicit (fields_of.only_contains_attribute_certs v)))) (⟦<Implicit<bool, 5> as Form>⟧.readable (implicit (fields_of.only_contains_attribute_certs v))) (⟦<Implicit<bool, 5> as Form>⟧.accepts Der (implicit (fields_of.only_contains_attribute_certs v))) (λ o b. is_encoding (marker_tag 2 false 5) (marker_tag-in_range 2 false 5) o b.0 b.1) six.front six.first)
-        six.rest)))))) };
+        let field1 = a in
+        let field2 = field1.rest in
+        let field3 = field2.rest in
+        let field4 = field3.rest in
+        let field5 = field4.rest in
+        let field6 = field5.rest in
+        (first_of field1 (maybe (λ x. x.fields.list.first) (λ (x : Explicit0DistributionPointName). ⟦<Explicit<DistributionPointName<'a>, 0> as Form>⟧.accepts Der (explicit x.fields.list.first)) (λ x. ⟦<Explicit<DistributionPointName<'a>, 0> as Form>⟧.accepts Der (explicit x)) (λ x o b. (is_encoding (marker_tag 2 true 0) (marker_tag-in_range 2 true 0) o b.0 b.1, b)) v.fields.list.first field1.front field1.first)
+        (first_of field2 (besides (is_default ⟦<DefaultFalse as DefaultOf<Implicit<bool, 1>>>⟧.octets (⟦<Implicit<bool, 1> as Form>⟧.encoding (implicit (fields_of.only_contains_user_certs v)))) (⟦<Implicit<bool, 1> as Form>⟧.readable (implicit (fields_of.only_contains_user_certs v))) (⟦<Implicit<bool, 1> as Form>⟧.accepts Der (implicit (fields_of.only_contains_user_certs v))) (λ o b. is_encoding (marker_tag 2 false 1) (marker_tag-in_range 2 false 1) o b.0 b.1) field2.front field2.first)
+        (first_of field3 (besides (is_default ⟦<DefaultFalse as DefaultOf<Implicit<bool, 2>>>⟧.octets (⟦<Implicit<bool, 2> as Form>⟧.encoding (implicit (fields_of.only_contains_ca_certs v)))) (⟦<Implicit<bool, 2> as Form>⟧.readable (implicit (fields_of.only_contains_ca_certs v))) (⟦<Implicit<bool, 2> as Form>⟧.accepts Der (implicit (fields_of.only_contains_ca_certs v))) (λ o b. is_encoding (marker_tag 2 false 2) (marker_tag-in_range 2 false 2) o b.0 b.1) field3.front field3.first)
+        (first_of field4 (maybe (λ x. x.value) (⟦<Implicit<ReasonFlags<'a>, 3> as Form>⟧.accepts Der) (λ x. ⟦<Implicit<ReasonFlags<'a>, 3> as Form>⟧.accepts Der (implicit x)) (λ x o b. (is_encoding (marker_tag 2 false 3) (marker_tag-in_range 2 false 3) o b.0 b.1, b)) v.fields.list.rest.rest.rest.first field4.front field4.first)
+        (first_of field5 (besides (is_default ⟦<DefaultFalse as DefaultOf<Implicit<bool, 4>>>⟧.octets (⟦<Implicit<bool, 4> as Form>⟧.encoding (implicit (fields_of.indirect_crl v)))) (⟦<Implicit<bool, 4> as Form>⟧.readable (implicit (fields_of.indirect_crl v))) (⟦<Implicit<bool, 4> as Form>⟧.accepts Der (implicit (fields_of.indirect_crl v))) (λ o b. is_encoding (marker_tag 2 false 4) (marker_tag-in_range 2 false 4) o b.0 b.1) field5.front field5.first)
+        (first_of field6 (besides (is_default ⟦<DefaultFalse as DefaultOf<Implicit<bool, 5>>>⟧.octets (⟦<Implicit<bool, 5> as Form>⟧.encoding (implicit (fields_of.only_contains_attribute_certs v)))) (⟦<Implicit<bool, 5> as Form>⟧.readable (implicit (fields_of.only_contains_attribute_certs v))) (⟦<Implicit<bool, 5> as Form>⟧.accepts Der (implicit (fields_of.only_contains_attribute_certs v))) (λ o b. is_encoding (marker_tag 2 false 5) (marker_tag-in_range 2 false 5) o b.0 b.1) field6.front field6.first)
+        field6.rest)))))) };
 }

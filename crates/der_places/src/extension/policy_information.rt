@@ -53,9 +53,9 @@ impl<'a> Placed for PolicyInformation<'a> {
     }
 
     ghost are_fields = { λ v c a.
-        let one = a in
-        let two = one.rest in
-        (first_of one (is_encoding tags.ObjectIdentifier (lit< tt) one.front one.first.0 one.first.1, one.first)
-        (first_of two (perhaps (⟦<NonEmpty<Vec<PolicyQualifierInfo<'a>>> as Form>⟧.accepts Der) (λ x o b. is_encoding tags.Sequence (lit< tt) o b.0 b.1) v.fields.list.rest.first two.front two.first)
-        two.rest)) };
+        let field1 = a in
+        let field2 = field1.rest in
+        (first_of field1 (is_encoding tags.ObjectIdentifier (lit< tt) field1.front field1.first.0 field1.first.1, field1.first)
+        (first_of field2 (perhaps (⟦<NonEmpty<Vec<PolicyQualifierInfo<'a>>> as Form>⟧.accepts Der) (λ x o b. is_encoding tags.Sequence (lit< tt) o b.0 b.1) v.fields.list.rest.first field2.front field2.first)
+        field2.rest)) };
 }

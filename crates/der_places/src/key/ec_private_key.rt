@@ -61,13 +61,13 @@ impl<'a> Placed for EcPrivateKey<'a> {
     }
 
     ghost are_fields = { λ v c a.
-        let one = a in
-        let two = one.rest in
-        let three = two.rest in
-        let four = three.rest in
-        (first_of one (is_encoding tags.Integer (lit< tt) one.front one.first.0 one.first.1, one.first)
-        (first_of two (is_encoding tags.OctetString (lit< tt) two.front two.first.0 two.first.1, two.first)
-        (first_of three (maybe (λ x. x.fields.first) (⟦<Explicit<EcParameters<'a>, 0> as Form>⟧.accepts Der) (λ x. ⟦<Explicit<EcParameters<'a>, 0> as Form>⟧.accepts Der (explicit x)) (λ x o b. (is_encoding (marker_tag 2 true 0) (marker_tag-in_range 2 true 0) o b.0 b.1, b)) v.fields.list.rest.rest.first three.front three.first)
-        (first_of four (maybe (λ x. x.fields.first) (⟦<Explicit<BitStringRef<'a>, 1> as Form>⟧.accepts Der) (λ x. ⟦<Explicit<BitStringRef<'a>, 1> as Form>⟧.accepts Der (explicit x)) (λ x o b. (is_encoding (marker_tag 2 true 1) (marker_tag-in_range 2 true 1) o b.0 b.1, b)) v.fields.list.rest.rest.rest.first four.front four.first)
-        four.rest)))) };
+        let field1 = a in
+        let field2 = field1.rest in
+        let field3 = field2.rest in
+        let field4 = field3.rest in
+        (first_of field1 (is_encoding tags.Integer (lit< tt) field1.front field1.first.0 field1.first.1, field1.first)
+        (first_of field2 (is_encoding tags.OctetString (lit< tt) field2.front field2.first.0 field2.first.1, field2.first)
+        (first_of field3 (maybe (λ x. x.fields.first) (⟦<Explicit<EcParameters<'a>, 0> as Form>⟧.accepts Der) (λ x. ⟦<Explicit<EcParameters<'a>, 0> as Form>⟧.accepts Der (explicit x)) (λ x o b. (is_encoding (marker_tag 2 true 0) (marker_tag-in_range 2 true 0) o b.0 b.1, b)) v.fields.list.rest.rest.first field3.front field3.first)
+        (first_of field4 (maybe (λ x. x.fields.first) (⟦<Explicit<BitStringRef<'a>, 1> as Form>⟧.accepts Der) (λ x. ⟦<Explicit<BitStringRef<'a>, 1> as Form>⟧.accepts Der (explicit x)) (λ x o b. (is_encoding (marker_tag 2 true 1) (marker_tag-in_range 2 true 1) o b.0 b.1, b)) v.fields.list.rest.rest.rest.first field4.front field4.first)
+        field4.rest)))) };
 }

@@ -67,15 +67,15 @@ impl<'a> Placed for OneAsymmetricKey<'a> {
     }
 
     ghost are_fields = { λ v c a.
-        let one = a in
-        let two = one.rest in
-        let three = two.rest in
-        let four = three.rest in
-        let five = four.rest in
-        (first_of one (is_encoding tags.Integer (lit< tt) one.front one.first.0 one.first.1, one.first)
-        (first_of two (is_encoding tags.Sequence (lit< tt) two.front two.first.0 two.first.1, two.first)
-        (first_of three (is_encoding tags.OctetString (lit< tt) three.front three.first.0 three.first.1, three.first)
-        (first_of four (maybe (λ x. x.value) (⟦<Implicit<Attributes<'a>, 0> as Form>⟧.accepts Der) (λ x. ⟦<Implicit<Attributes<'a>, 0> as Form>⟧.accepts Der (implicit x)) (λ x o b. (is_encoding (marker_tag 2 true 0) (marker_tag-in_range 2 true 0) o b.0 b.1, b)) v.fields.list.rest.rest.rest.first four.front four.first)
-        (first_of five (maybe (λ x. x.value) (⟦<Implicit<BitStringRef<'a>, 1> as Form>⟧.accepts Der) (λ x. ⟦<Implicit<BitStringRef<'a>, 1> as Form>⟧.accepts Der (implicit x)) (λ x o b. (is_encoding (marker_tag 2 false 1) (marker_tag-in_range 2 false 1) o b.0 b.1, b)) v.fields.list.rest.rest.rest.rest.first five.front five.first)
-        five.rest))))) };
+        let field1 = a in
+        let field2 = field1.rest in
+        let field3 = field2.rest in
+        let field4 = field3.rest in
+        let field5 = field4.rest in
+        (first_of field1 (is_encoding tags.Integer (lit< tt) field1.front field1.first.0 field1.first.1, field1.first)
+        (first_of field2 (is_encoding tags.Sequence (lit< tt) field2.front field2.first.0 field2.first.1, field2.first)
+        (first_of field3 (is_encoding tags.OctetString (lit< tt) field3.front field3.first.0 field3.first.1, field3.first)
+        (first_of field4 (maybe (λ x. x.value) (⟦<Implicit<Attributes<'a>, 0> as Form>⟧.accepts Der) (λ x. ⟦<Implicit<Attributes<'a>, 0> as Form>⟧.accepts Der (implicit x)) (λ x o b. (is_encoding (marker_tag 2 true 0) (marker_tag-in_range 2 true 0) o b.0 b.1, b)) v.fields.list.rest.rest.rest.first field4.front field4.first)
+        (first_of field5 (maybe (λ x. x.value) (⟦<Implicit<BitStringRef<'a>, 1> as Form>⟧.accepts Der) (λ x. ⟦<Implicit<BitStringRef<'a>, 1> as Form>⟧.accepts Der (implicit x)) (λ x o b. (is_encoding (marker_tag 2 false 1) (marker_tag-in_range 2 false 1) o b.0 b.1, b)) v.fields.list.rest.rest.rest.rest.first field5.front field5.first)
+        field5.rest))))) };
 }

@@ -47,9 +47,9 @@ impl<'a> Placed for ResponseBytes<'a> {
     }
 
     ghost are_fields = { λ v c a.
-        let one = a in
-        let two = one.rest in
-        (first_of one (is_encoding tags.ObjectIdentifier (lit< tt) one.front one.first.0 one.first.1, one.first)
-        (first_of two (is_encoding tags.OctetString (lit< tt) two.front two.first.0 two.first.1, two.first)
-        two.rest)) };
+        let field1 = a in
+        let field2 = field1.rest in
+        (first_of field1 (is_encoding tags.ObjectIdentifier (lit< tt) field1.front field1.first.0 field1.first.1, field1.first)
+        (first_of field2 (is_encoding tags.OctetString (lit< tt) field2.front field2.first.0 field2.first.1, field2.first)
+        field2.rest)) };
 }

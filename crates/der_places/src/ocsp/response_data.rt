@@ -81,15 +81,15 @@ impl<'a> Placed for ResponseData<'a> {
 
     ghost are_fields = { λ v c a.
         let is_responder_id : (t : ResponderId) (o : List ℕ) → ⟦<ResponderId<'a> as Form>⟧.accepts Der t o → IsEncoding o = λ t. elim t as (λ k. (o : List ℕ) → ⟦<ResponderId<'a> as Form>⟧.accepts Der k o → IsEncoding o) [ responder_id_of.ByName x ↦ λ o b. is_encoding (marker_tag 2 true 1) (marker_tag-in_range 2 true 1) o b.0.0 b.0.1 | responder_id_of.ByKey x ↦ λ o b. is_encoding (marker_tag 2 true 2) (marker_tag-in_range 2 true 2) o b.0.0 b.0.1 ] in
-        let one = a in
-        let two = one.rest in
-        let three = two.rest in
-        let four = three.rest in
-        let five = four.rest in
-        (first_of one (besides (is_default ⟦<DefaultNumber<0> as DefaultOf<Explicit<Version, 0>>>⟧.octets (⟦<Explicit<Version, 0> as Form>⟧.encoding (explicit (fields_of.version v)))) (⟦<Explicit<Version, 0> as Form>⟧.readable (explicit (fields_of.version v))) (⟦<Explicit<Version, 0> as Form>⟧.accepts Der (explicit (fields_of.version v))) (λ o b. is_encoding (marker_tag 2 true 0) (marker_tag-in_range 2 true 0) o b.0 b.1) one.front one.first)
-        (first_of two (is_responder_id _ two.front two.first, two.first)
-        (first_of three (is_encoding tags.GeneralizedTime (lit< tt) three.front three.first.0 three.first.1, three.first)
-        (first_of four (is_encoding tags.Sequence (lit< tt) four.front four.first.0 four.first.1, four.first)
-        (first_of five (maybe (λ x. x.fields.list.first) (λ (x : Explicit1Extensions). ⟦<Explicit<Extensions<'a>, 1> as Form>⟧.accepts Der (explicit x.fields.list.first)) (λ x. ⟦<Explicit<Extensions<'a>, 1> as Form>⟧.accepts Der (explicit x)) (λ x o b. (is_encoding (marker_tag 2 true 1) (marker_tag-in_range 2 true 1) o b.0 b.1, b)) v.fields.list.rest.rest.rest.rest.first five.front five.first)
-        five.rest))))) };
+        let field1 = a in
+        let field2 = field1.rest in
+        let field3 = field2.rest in
+        let field4 = field3.rest in
+        let field5 = field4.rest in
+        (first_of field1 (besides (is_default ⟦<DefaultNumber<0> as DefaultOf<Explicit<Version, 0>>>⟧.octets (⟦<Explicit<Version, 0> as Form>⟧.encoding (explicit (fields_of.version v)))) (⟦<Explicit<Version, 0> as Form>⟧.readable (explicit (fields_of.version v))) (⟦<Explicit<Version, 0> as Form>⟧.accepts Der (explicit (fields_of.version v))) (λ o b. is_encoding (marker_tag 2 true 0) (marker_tag-in_range 2 true 0) o b.0 b.1) field1.front field1.first)
+        (first_of field2 (is_responder_id _ field2.front field2.first, field2.first)
+        (first_of field3 (is_encoding tags.GeneralizedTime (lit< tt) field3.front field3.first.0 field3.first.1, field3.first)
+        (first_of field4 (is_encoding tags.Sequence (lit< tt) field4.front field4.first.0 field4.first.1, field4.first)
+        (first_of field5 (maybe (λ x. x.fields.list.first) (λ (x : Explicit1Extensions). ⟦<Explicit<Extensions<'a>, 1> as Form>⟧.accepts Der (explicit x.fields.list.first)) (λ x. ⟦<Explicit<Extensions<'a>, 1> as Form>⟧.accepts Der (explicit x)) (λ x o b. (is_encoding (marker_tag 2 true 1) (marker_tag-in_range 2 true 1) o b.0 b.1, b)) v.fields.list.rest.rest.rest.rest.first field5.front field5.first)
+        field5.rest))))) };
 }

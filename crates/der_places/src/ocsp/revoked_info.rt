@@ -56,9 +56,9 @@ impl Placed for RevokedInfo {
     }
 
     ghost are_fields = { λ v c a.
-        let one = a in
-        let two = one.rest in
-        (first_of one (is_encoding tags.GeneralizedTime (lit< tt) one.front one.first.0 one.first.1, one.first)
-        (first_of two (maybe (λ x. x.fields.first.value) (⟦<Explicit<Enumerated<CrlReason>, 0> as Form>⟧.accepts Der) (λ x. ⟦<Explicit<Enumerated<CrlReason>, 0> as Form>⟧.accepts Der (explicit (record { value = x }))) (λ x o b. (is_encoding (marker_tag 2 true 0) (marker_tag-in_range 2 true 0) o b.0 b.1, b)) v.fields.list.rest.first two.front two.first)
-        two.rest)) };
+        let field1 = a in
+        let field2 = field1.rest in
+        (first_of field1 (is_encoding tags.GeneralizedTime (lit< tt) field1.front field1.first.0 field1.first.1, field1.first)
+        (first_of field2 (maybe (λ x. x.fields.first.value) (⟦<Explicit<Enumerated<CrlReason>, 0> as Form>⟧.accepts Der) (λ x. ⟦<Explicit<Enumerated<CrlReason>, 0> as Form>⟧.accepts Der (explicit (record { value = x }))) (λ x o b. (is_encoding (marker_tag 2 true 0) (marker_tag-in_range 2 true 0) o b.0 b.1, b)) v.fields.list.rest.first field2.front field2.first)
+        field2.rest)) };
 }

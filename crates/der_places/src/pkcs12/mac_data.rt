@@ -53,11 +53,11 @@ impl<'a> Placed for MacData<'a> {
     }
 
     ghost are_fields = { λ v c a.
-        let one = a in
-        let two = one.rest in
-        let three = two.rest in
-        (first_of one (is_encoding tags.Sequence (lit< tt) one.front one.first.0 one.first.1, one.first)
-        (first_of two (is_encoding tags.OctetString (lit< tt) two.front two.first.0 two.first.1, two.first)
-        (first_of three (perhaps (⟦<u32 as Form>⟧.accepts Der) (λ x o b. is_encoding tags.Integer (lit< tt) o b.0 b.1) v.fields.list.rest.rest.first three.front three.first)
-        three.rest))) };
+        let field1 = a in
+        let field2 = field1.rest in
+        let field3 = field2.rest in
+        (first_of field1 (is_encoding tags.Sequence (lit< tt) field1.front field1.first.0 field1.first.1, field1.first)
+        (first_of field2 (is_encoding tags.OctetString (lit< tt) field2.front field2.first.0 field2.first.1, field2.first)
+        (first_of field3 (perhaps (⟦<u32 as Form>⟧.accepts Der) (λ x o b. is_encoding tags.Integer (lit< tt) o b.0 b.1) v.fields.list.rest.rest.first field3.front field3.first)
+        field3.rest))) };
 }

@@ -74,17 +74,17 @@ impl<'a> Placed for TimeStampReq<'a> {
     }
 
     ghost are_fields = { λ v c a.
-        let one = a in
-        let two = one.rest in
-        let three = two.rest in
-        let four = three.rest in
-        let five = four.rest in
-        let six = five.rest in
-        (first_of one (is_encoding tags.Integer (lit< tt) one.front one.first.0 one.first.1, one.first)
-        (first_of two (is_encoding tags.Sequence (lit< tt) two.front two.first.0 two.first.1, two.first)
-        (first_of three (perhaps (⟦<TsaPolicyId<'a> as Form>⟧.accepts Der) (λ x o b. is_encoding tags.ObjectIdentifier (lit< tt) o b.0 b.1) v.fields.list.rest.rest.first three.front three.first)
-        (first_of four (perhaps (⟦<IntRef<'a> as Form>⟧.accepts Der) (λ x o b. is_encoding tags.Integer (lit< tt) o b.0 b.1) v.fields.list.rest.rest.rest.first four.front four.first)
-        (first_of five (besides (is_default ⟦<DefaultFalse as DefaultOf<bool>>⟧.octets (⟦<bool as Form>⟧.encoding (fields_of.cert_req v))) (⟦<bool as Form>⟧.readable (fields_of.cert_req v)) (⟦<bool as Form>⟧.accepts Der (fields_of.cert_req v)) (λ o b. is_encoding tags.Boolean (lit< tt) o b.0 b.1) five.front five.first)
-        (first_of six (maybe (λ x. x.value) (⟦<Implicit<Extensions<'a>, 0> as Form>⟧.accepts Der) (λ x. ⟦<Implicit<Extensions<'a>, 0> as Form>⟧.accepts Der (implicit x)) (λ x o b. (is_encoding (marker_tag 2 true 0) (marker_tag-in_range 2 true 0) o b.0 b.1, b)) v.fields.list.rest.rest.rest.rest.rest.first six.front six.first)
-        six.rest)))))) };
+        let field1 = a in
+        let field2 = field1.rest in
+        let field3 = field2.rest in
+        let field4 = field3.rest in
+        let field5 = field4.rest in
+        let field6 = field5.rest in
+        (first_of field1 (is_encoding tags.Integer (lit< tt) field1.front field1.first.0 field1.first.1, field1.first)
+        (first_of field2 (is_encoding tags.Sequence (lit< tt) field2.front field2.first.0 field2.first.1, field2.first)
+        (first_of field3 (perhaps (⟦<TsaPolicyId<'a> as Form>⟧.accepts Der) (λ x o b. is_encoding tags.ObjectIdentifier (lit< tt) o b.0 b.1) v.fields.list.rest.rest.first field3.front field3.first)
+        (first_of field4 (perhaps (⟦<IntRef<'a> as Form>⟧.accepts Der) (λ x o b. is_encoding tags.Integer (lit< tt) o b.0 b.1) v.fields.list.rest.rest.rest.first field4.front field4.first)
+        (first_of field5 (besides (is_default ⟦<DefaultFalse as DefaultOf<bool>>⟧.octets (⟦<bool as Form>⟧.encoding (fields_of.cert_req v))) (⟦<bool as Form>⟧.readable (fields_of.cert_req v)) (⟦<bool as Form>⟧.accepts Der (fields_of.cert_req v)) (λ o b. is_encoding tags.Boolean (lit< tt) o b.0 b.1) field5.front field5.first)
+        (first_of field6 (maybe (λ x. x.value) (⟦<Implicit<Extensions<'a>, 0> as Form>⟧.accepts Der) (λ x. ⟦<Implicit<Extensions<'a>, 0> as Form>⟧.accepts Der (implicit x)) (λ x o b. (is_encoding (marker_tag 2 true 0) (marker_tag-in_range 2 true 0) o b.0 b.1, b)) v.fields.list.rest.rest.rest.rest.rest.first field6.front field6.first)
+        field6.rest)))))) };
 }

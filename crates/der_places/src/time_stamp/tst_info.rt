@@ -97,25 +97,25 @@ impl<'a> Placed for TstInfo<'a> {
     }
 
     ghost are_fields = { λ v c a.
-        let one = a in
-        let two = one.rest in
-        let three = two.rest in
-        let four = three.rest in
-        let five = four.rest in
-        let six = five.rest in
-        let seven = six.rest in
-        let eight = seven.rest in
-        let nine = eight.rest in
-        let ten = nine.rest in
-        (first_of one (is_encoding tags.Integer (lit< tt) one.front one.first.0 one.first.1, one.first)
-        (first_of two (is_encoding tags.ObjectIdentifier (lit< tt) two.front two.first.0 two.first.1, two.first)
-        (first_of three (is_encoding tags.Sequence (lit< tt) three.front three.first.0 three.first.1, three.first)
-        (first_of four (is_encoding tags.Integer (lit< tt) four.front four.first.0 four.first.1, four.first)
-        (first_of five (is_encoding tags.GeneralizedTime (lit< tt) five.front five.first.0 five.first.1, five.first)
-        (first_of six (perhaps (⟦<Accuracy as Form>⟧.accepts Der) (λ x o b. is_encoding tags.Sequence (lit< tt) o b.0 b.1) v.fields.list.rest.rest.rest.rest.rest.first six.front six.first)
-        (first_of seven (besides (is_default ⟦<DefaultFalse as DefaultOf<bool>>⟧.octets (⟦<bool as Form>⟧.encoding (fields_of.ordering v))) (⟦<bool as Form>⟧.readable (fields_of.ordering v)) (⟦<bool as Form>⟧.accepts Der (fields_of.ordering v)) (λ o b. is_encoding tags.Boolean (lit< tt) o b.0 b.1) seven.front seven.first)
-        (first_of eight (perhaps (⟦<IntRef<'a> as Form>⟧.accepts Der) (λ x o b. is_encoding tags.Integer (lit< tt) o b.0 b.1) v.fields.list.rest.rest.rest.rest.rest.rest.rest.first eight.front eight.first)
-        (first_of nine (maybe (λ x. x.fields.list.first) (λ (x : Explicit0GeneralName). ⟦<Explicit<GeneralName<'a>, 0> as Form>⟧.accepts Der (explicit x.fields.list.first)) (λ x. ⟦<Explicit<GeneralName<'a>, 0> as Form>⟧.accepts Der (explicit x)) (λ x o b. (is_encoding (marker_tag 2 true 0) (marker_tag-in_range 2 true 0) o b.0 b.1, b)) v.fields.list.rest.rest.rest.rest.rest.rest.rest.rest.list.first nine.front nine.first)
-        (first_of ten (maybe (λ x. x.value) (⟦<Implicit<Extensions<'a>, 1> as Form>⟧.accepts Der) (λ x. ⟦<Implicit<Extensions<'a>, 1> as Form>⟧.accepts Der (implicit x)) (λ x o b. (is_encoding (marker_tag 2 true 1) (marker_tag-in_range 2 true 1) o b.0 b.1, b)) v.fields.list.rest.rest.rest.rest.rest.rest.rest.rest.list.rest.first ten.front ten.first)
-        ten.rest)))))))))) };
+        let field1 = a in
+        let field2 = field1.rest in
+        let field3 = field2.rest in
+        let field4 = field3.rest in
+        let field5 = field4.rest in
+        let field6 = field5.rest in
+        let field7 = field6.rest in
+        let field8 = field7.rest in
+        let field9 = field8.rest in
+        let field10 = field9.rest in
+        (first_of field1 (is_encoding tags.Integer (lit< tt) field1.front field1.first.0 field1.first.1, field1.first)
+        (first_of field2 (is_encoding tags.ObjectIdentifier (lit< tt) field2.front field2.first.0 field2.first.1, field2.first)
+        (first_of field3 (is_encoding tags.Sequence (lit< tt) field3.front field3.first.0 field3.first.1, field3.first)
+        (first_of field4 (is_encoding tags.Integer (lit< tt) field4.front field4.first.0 field4.first.1, field4.first)
+        (first_of field5 (is_encoding tags.GeneralizedTime (lit< tt) field5.front field5.first.0 field5.first.1, field5.first)
+        (first_of field6 (perhaps (⟦<Accuracy as Form>⟧.accepts Der) (λ x o b. is_encoding tags.Sequence (lit< tt) o b.0 b.1) v.fields.list.rest.rest.rest.rest.rest.first field6.front field6.first)
+        (first_of field7 (besides (is_default ⟦<DefaultFalse as DefaultOf<bool>>⟧.octets (⟦<bool as Form>⟧.encoding (fields_of.ordering v))) (⟦<bool as Form>⟧.readable (fields_of.ordering v)) (⟦<bool as Form>⟧.accepts Der (fields_of.ordering v)) (λ o b. is_encoding tags.Boolean (lit< tt) o b.0 b.1) field7.front field7.first)
+        (first_of field8 (perhaps (⟦<IntRef<'a> as Form>⟧.accepts Der) (λ x o b. is_encoding tags.Integer (lit< tt) o b.0 b.1) v.fields.list.rest.rest.rest.rest.rest.rest.rest.first field8.front field8.first)
+        (first_of field9 (maybe (λ x. x.fields.list.first) (λ (x : Explicit0GeneralName). ⟦<Explicit<GeneralName<'a>, 0> as Form>⟧.accepts Der (explicit x.fields.list.first)) (λ x. ⟦<Explicit<GeneralName<'a>, 0> as Form>⟧.accepts Der (explicit x)) (λ x o b. (is_encoding (marker_tag 2 true 0) (marker_tag-in_range 2 true 0) o b.0 b.1, b)) v.fields.list.rest.rest.rest.rest.rest.rest.rest.rest.list.first field9.front field9.first)
+        (first_of field10 (maybe (λ x. x.value) (⟦<Implicit<Extensions<'a>, 1> as Form>⟧.accepts Der) (λ x. ⟦<Implicit<Extensions<'a>, 1> as Form>⟧.accepts Der (implicit x)) (λ x o b. (is_encoding (marker_tag 2 true 1) (marker_tag-in_range 2 true 1) o b.0 b.1, b)) v.fields.list.rest.rest.rest.rest.rest.rest.rest.rest.list.rest.first field10.front field10.first)
+        field10.rest)))))))))) };
 }
