@@ -5,36 +5,12 @@
 /// What stands in octets: a type with components, a list, or a value with no such parts.
 #[derive(Clone, Copy, Debug, PartialEq, Eq)]
 pub enum Part {
-    /// `Algorithm`.
-    Algorithm,
-    /// `Extension`.
-    Extension,
-    /// `Extensions`.
-    Extensions,
-    /// `Attribute`.
-    Attribute,
     /// `Pair`.
     Pair,
-    /// `Relative`.
-    Relative,
-    /// `Distinguished`.
-    Distinguished,
-    /// `Revoked`.
-    Revoked,
-    /// `Generals`.
-    Generals,
     /// `Subtree`.
     Subtree,
-    /// `General` after an explicit tag.
-    ExplicitGeneral,
     /// `Mixed`.
     Mixed,
-    /// `Signed`.
-    Signed,
-    /// SEQUENCE OF `Status`.
-    SequenceOfStatus,
-    /// `Extensions` after an explicit tag.
-    ExplicitExtensions,
     /// A value with no components that have names.
     Value,
 }
@@ -50,56 +26,6 @@ pub struct Component {
     pub part: Part,
 }
 
-static ALGORITHM: [Component; 2] = [
-    Component {
-        name: "algorithm",
-        octet: None,
-        part: Part::Value,
-    },
-    Component {
-        name: "parameters",
-        octet: None,
-        part: Part::Value,
-    },
-];
-
-static EXTENSION: [Component; 3] = [
-    Component {
-        name: "extnID",
-        octet: None,
-        part: Part::Value,
-    },
-    Component {
-        name: "critical",
-        octet: Some(0x01),
-        part: Part::Value,
-    },
-    Component {
-        name: "extnValue",
-        octet: None,
-        part: Part::Value,
-    },
-];
-
-static EXTENSIONS: [Component; 1] = [Component {
-    name: "",
-    octet: None,
-    part: Part::Extension,
-}];
-
-static ATTRIBUTE: [Component; 2] = [
-    Component {
-        name: "type",
-        octet: None,
-        part: Part::Value,
-    },
-    Component {
-        name: "values",
-        octet: None,
-        part: Part::Value,
-    },
-];
-
 static PAIR: [Component; 2] = [
     Component {
         name: "type",
@@ -113,69 +39,11 @@ static PAIR: [Component; 2] = [
     },
 ];
 
-static RELATIVE: [Component; 1] = [Component {
-    name: "",
-    octet: None,
-    part: Part::Pair,
-}];
-
-static DISTINGUISHED: [Component; 1] = [Component {
-    name: "",
-    octet: None,
-    part: Part::Relative,
-}];
-
-static REVOKED: [Component; 2] = [
-    Component {
-        name: "time",
-        octet: None,
-        part: Part::Value,
-    },
-    Component {
-        name: "reason",
-        octet: Some(0xa0),
-        part: Part::Value,
-    },
-];
-
-static GENERALS: [Component; 6] = [
-    Component {
-        name: "",
-        octet: Some(0x8b),
-        part: Part::Value,
-    },
-    Component {
-        name: "",
-        octet: Some(0xae),
-        part: Part::Distinguished,
-    },
-    Component {
-        name: "",
-        octet: Some(0x91),
-        part: Part::Value,
-    },
-    Component {
-        name: "",
-        octet: Some(0x80),
-        part: Part::Value,
-    },
-    Component {
-        name: "",
-        octet: Some(0xa1),
-        part: Part::Revoked,
-    },
-    Component {
-        name: "",
-        octet: Some(0x82),
-        part: Part::Value,
-    },
-];
-
-static SUBTREE: [Component; 4] = [
+static SUBTREE: [Component; 5] = [
     Component {
         name: "base",
         octet: None,
-        part: Part::ExplicitGeneral,
+        part: Part::Value,
     },
     Component {
         name: "minimum",
@@ -192,37 +60,9 @@ static SUBTREE: [Component; 4] = [
         octet: Some(0xc2),
         part: Part::Value,
     },
-];
-
-static EXPLICIT_GENERAL: [Component; 6] = [
     Component {
-        name: "",
-        octet: Some(0x8b),
-        part: Part::Value,
-    },
-    Component {
-        name: "",
-        octet: Some(0xae),
-        part: Part::Distinguished,
-    },
-    Component {
-        name: "",
-        octet: Some(0x91),
-        part: Part::Value,
-    },
-    Component {
-        name: "",
-        octet: Some(0x80),
-        part: Part::Value,
-    },
-    Component {
-        name: "",
-        octet: Some(0xa1),
-        part: Part::Revoked,
-    },
-    Component {
-        name: "",
-        octet: Some(0x82),
+        name: "statuses",
+        octet: Some(0xa3),
         part: Part::Value,
     },
 ];
@@ -245,88 +85,6 @@ static MIXED: [Component; 3] = [
     },
 ];
 
-static SIGNED: [Component; 11] = [
-    Component {
-        name: "version",
-        octet: Some(0xa0),
-        part: Part::Value,
-    },
-    Component {
-        name: "serial",
-        octet: None,
-        part: Part::Value,
-    },
-    Component {
-        name: "algorithm",
-        octet: None,
-        part: Part::Algorithm,
-    },
-    Component {
-        name: "issuer",
-        octet: None,
-        part: Part::Distinguished,
-    },
-    Component {
-        name: "from",
-        octet: None,
-        part: Part::Value,
-    },
-    Component {
-        name: "to",
-        octet: None,
-        part: Part::Value,
-    },
-    Component {
-        name: "subject",
-        octet: None,
-        part: Part::Distinguished,
-    },
-    Component {
-        name: "key",
-        octet: None,
-        part: Part::Value,
-    },
-    Component {
-        name: "usage",
-        octet: Some(0x81),
-        part: Part::Value,
-    },
-    Component {
-        name: "statuses",
-        octet: Some(0xa2),
-        part: Part::SequenceOfStatus,
-    },
-    Component {
-        name: "extensions",
-        octet: Some(0xa3),
-        part: Part::ExplicitExtensions,
-    },
-];
-
-static SEQUENCE_OF_STATUS: [Component; 3] = [
-    Component {
-        name: "",
-        octet: Some(0x80),
-        part: Part::Value,
-    },
-    Component {
-        name: "",
-        octet: Some(0xa1),
-        part: Part::Revoked,
-    },
-    Component {
-        name: "",
-        octet: Some(0x82),
-        part: Part::Value,
-    },
-];
-
-static EXPLICIT_EXTENSIONS: [Component; 1] = [Component {
-    name: "",
-    octet: None,
-    part: Part::Extensions,
-}];
-
 impl Part {
     /// The components, in their order; of a list the one that each item is.
     ///
@@ -334,34 +92,15 @@ impl Part {
     /// name of the component, and one of them is there.
     pub fn components(self) -> &'static [Component] {
         match self {
-            Part::Algorithm => &ALGORITHM,
-            Part::Extension => &EXTENSION,
-            Part::Extensions => &EXTENSIONS,
-            Part::Attribute => &ATTRIBUTE,
             Part::Pair => &PAIR,
-            Part::Relative => &RELATIVE,
-            Part::Distinguished => &DISTINGUISHED,
-            Part::Revoked => &REVOKED,
-            Part::Generals => &GENERALS,
             Part::Subtree => &SUBTREE,
-            Part::ExplicitGeneral => &EXPLICIT_GENERAL,
             Part::Mixed => &MIXED,
-            Part::Signed => &SIGNED,
-            Part::SequenceOfStatus => &SEQUENCE_OF_STATUS,
-            Part::ExplicitExtensions => &EXPLICIT_EXTENSIONS,
             Part::Value => &[],
         }
     }
 
     /// Whether it is a list, of which each item is alike.
     pub fn is_list(self) -> bool {
-        matches!(
-            self,
-            Part::Extensions
-                | Part::Relative
-                | Part::Distinguished
-                | Part::Generals
-                | Part::SequenceOfStatus
-        )
+        false
     }
 }

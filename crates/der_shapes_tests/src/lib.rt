@@ -1,4 +1,4 @@
-//! Tests of `der_shapes`: of each shape of type that `tools/asn1` writes.
+//! Tests of `der_shapes`: of the shapes of types that no message of the standards has.
 //!
 //! They stand in a crate of their own, since a crate with tests is proved twice, with and without
 //! them.

@@ -1,4 +1,4 @@
-//! General, a CHOICE of 4 alternatives.
+//! General, a CHOICE of 3 alternatives.
 //!
 //! Made by tools/asn1 from shapes.asn1.
 
@@ -11,30 +11,25 @@ ghost use Rattle.der_elem.specs.FormatMakers.{mapped_format};
 ghost use Rattle.der_elem.specs.KnownTagLaws.{known_either, own_is_known};
 ghost use Rattle.der_elem.specs.TaggedLaws.{tlv_tagged};
 ghost use Rattle.der_modules.specs.Asn1.{parse_of};
-ghost use Rattle.der_modules.specs.MemberLaws.{copies_of, either_copies, either_equality, either_tag, held_copies, one_tag, one_tag_copies, one_tag_equality, own_tags, same_copies, seen_copies, seen_equality};
+ghost use Rattle.der_modules.specs.MemberLaws.{copies_of, either_equality, either_tag, one_tag, one_tag_equality, own_tags, same_copies, seen_equality};
 ghost use Rattle.der_opaque.specs.contracts.octet_string_ref.OctetStringRefContentsEq.TheImpl.Laws as octetstringref_contents_eq;
 ghost use Rattle.der_shapes.specs.Shapes.General.{tree_of};
 ghost use Rattle.der_shapes.specs.Shapes.Grammar.{general};
-ghost use Rattle.der_shapes.specs.contracts.shapes.distinguished.DistinguishedContentsEq.TheImpl.Laws as distinguished_contents_eq;
-ghost use Rattle.der_shapes.specs.contracts.shapes.distinguished.DistinguishedDuplicateValue.TheImpl.Laws as distinguished_duplicate_value;
-ghost use Rattle.der_shapes.specs.contracts.shapes.distinguished.DistinguishedDuplicateValueIsEqual.TheImpl.Laws as distinguished_duplicate_value_is_equal;
+ghost use Rattle.der_shapes.specs.contracts.shapes.general.GeneralEq.TheImpl.Laws as general_eq;
 ghost use Rattle.der_shapes.specs.contracts.shapes.status.StatusChoice.TheImpl.Laws as status_choice;
 ghost use Rattle.der_shapes.specs.contracts.shapes.status.StatusEncodingEq.TheImpl.Laws as status_encoding_eq;
-ghost use Rattle.der_shapes.specs.contracts.shapes.status.StatusEq.TheImpl.Laws as status_eq;
 ghost use Rattle.der_shapes.specs.contracts.shapes.status.StatusKnownTags.TheImpl.Laws as status_known_tags;
 ghost use Rattle.der_shapes.specs.contracts.shapes.status.StatusTagged.TheImpl.Laws as status_tagged;
 ghost use Rattle.der_shapes.specs.declared.shapes.general.General.TheVariants as of;
 
-use crate::shapes::distinguished::Distinguished;
 use crate::shapes::status::Status;
 use der_ascii::{CharacterStringTag, Ia5StringRef};
 use der_elem::{
     Choice, Decode, DecodeField, DerOrd, Duplicate, DuplicateIsEqual, EncodeValue, EncodingEq,
-    Form, FormValue, KnownTags, OctetStringTag, SequenceTag, TagMarker, Tagged,
+    Form, FormValue, KnownTags, OctetStringTag, TagMarker, Tagged,
 };
 use der_fields::{Implicit, ImplicitTag, OneOf, cmp_headers};
-use der_modules::CopyLaws;
-use der_nest::{ItemOrder, OrdersByEncoding};
+use der_modules::{CopyLaws, copy_of};
 use der_opaque::OctetStringRef;
 use der_tlv::{BackWriter, Error, Length, Source, Tag, Writer};
 use std::alloc::Global;
@@ -42,26 +37,23 @@ use std::cmp::Ordering;
 
 /// The alternatives, as a tree.
 type Tree<'a> = OneOf<
-    OneOf<Implicit<Ia5StringRef<'a>, 11>, Implicit<Distinguished<'a>, 14>>,
-    OneOf<Implicit<OctetStringRef<'a>, 17>, Status>,
+    OneOf<Implicit<Ia5StringRef<'a>, 11>, Implicit<OctetStringRef<'a>, 17>>,
+    Status,
 >;
 
 /// ```text
 /// General ::= CHOICE {
-///     address    [11] IA5String,
-///     directory  [14] Distinguished,
-///     number     [17] OCTET STRING,
-///     status     Status }
+///     address  [11] IA5String,
+///     number   [17] OCTET STRING,
+///     status   Status }
 /// ```
 ///
 /// Reading refuses a tag that no alternative has (`ErrorKind::TagUnexpected`, 4), and the
 /// alternative's faults.
-#[derive(Debug, PartialEq, Eq, Drop)]
+#[derive(Clone, Copy, Debug, PartialEq, Eq)]
 pub enum General<'a> {
     /// `address`, `[11] IA5String`.
     Address(Implicit<Ia5StringRef<'a>, 11>),
-    /// `directory`, `[14] Distinguished`.
-    Directory(Implicit<Distinguished<'a>, 14>),
     /// `number`, `[17] OCTET STRING`.
     Number(Implicit<OctetStringRef<'a>, 17>),
     /// `status`, `Status`.
@@ -118,39 +110,32 @@ impl<'a> Tagged for General<'a> {
     fn tag(&self) -> Tag {
         match self {
             General::Address(value) => value.tag(),
-            General::Directory(value) => value.tag(),
             General::Number(value) => value.tag(),
             General::Status(value) => value.tag(),
         }
     }
 
-    ghost encoding_is = { λ v. (either_tag ⟦<OneOf<Implicit<Ia5StringRef<'a>, 11>, Implicit<Distinguished<'a>, 14>> as Form>⟧ ⟦<OneOf<Implicit<OctetStringRef<'a>, 17>, Status> as Form>⟧
-        (either_tag ⟦<Implicit<Ia5StringRef<'a>, 11> as Form>⟧ ⟦<Implicit<Distinguished<'a>, 14> as Form>⟧
+    ghost encoding_is = { λ v. (either_tag ⟦<OneOf<Implicit<Ia5StringRef<'a>, 11>, Implicit<OctetStringRef<'a>, 17>> as Form>⟧ ⟦<Status as Form>⟧
+        (either_tag ⟦<Implicit<Ia5StringRef<'a>, 11> as Form>⟧ ⟦<Implicit<OctetStringRef<'a>, 17> as Form>⟧
         (one_tag ⟦<ImplicitTag<CharacterStringTag<22>, 11> as TagMarker>⟧.TAG ⟦<Implicit<Ia5StringRef<'a>, 11> as FormValue>⟧.value.contents)
-        (one_tag ⟦<ImplicitTag<SequenceTag, 14> as TagMarker>⟧.TAG ⟦<Implicit<Distinguished<'a>, 14> as FormValue>⟧.value.contents))
-        (either_tag ⟦<Implicit<OctetStringRef<'a>, 17> as Form>⟧ ⟦<Status as Form>⟧
-        (one_tag ⟦<ImplicitTag<OctetStringTag, 17> as TagMarker>⟧.TAG ⟦<Implicit<OctetStringRef<'a>, 17> as FormValue>⟧.value.contents)
-        (own_tags ⟦<Status as Form>⟧.tags ⟦<Status as Form>⟧.first_tag_of ⟦<Status as Form>⟧.encoding ⟦<Status as Tagged>⟧.tag_of ⟦<Status as FormValue>⟧.value.contents status_tagged.encoding_is-law status_tagged.own_tag-law status_tagged.first_tag_is-law))).encoding_is (tree_of v) };
+        (one_tag ⟦<ImplicitTag<OctetStringTag, 17> as TagMarker>⟧.TAG ⟦<Implicit<OctetStringRef<'a>, 17> as FormValue>⟧.value.contents))
+        (own_tags ⟦<Status as Form>⟧.tags ⟦<Status as Form>⟧.first_tag_of ⟦<Status as Form>⟧.encoding ⟦<Status as Tagged>⟧.tag_of ⟦<Status as FormValue>⟧.value.contents status_tagged.encoding_is-law status_tagged.own_tag-law status_tagged.first_tag_is-law)).encoding_is (tree_of v) };
 
-    ghost accepted_is_tlv = { λ rules v b. elim v as (λ k. ⟦<Tree<'a> as Form>⟧.accepts rules (tree_of k) b → IsTlv b) [ of.Address x ↦ λ a. tlv_tagged _ ⟦<Implicit<Ia5StringRef<'a>, 11> as FormValue>⟧.value.accepts rules x b a.0.0 | of.Directory x ↦ λ a. tlv_tagged _ ⟦<Implicit<Distinguished<'a>, 14> as FormValue>⟧.value.accepts rules x b a.0.0 | of.Number x ↦ λ a. tlv_tagged _ ⟦<Implicit<OctetStringRef<'a>, 17> as FormValue>⟧.value.accepts rules x b a.0.0 | of.Status x ↦ λ a. status_tagged.accepted_is_tlv-law rules x b a.0.0 ] };
+    ghost accepted_is_tlv = { λ rules v b. elim v as (λ k. ⟦<Tree<'a> as Form>⟧.accepts rules (tree_of k) b → IsTlv b) [ of.Address x ↦ λ a. tlv_tagged _ ⟦<Implicit<Ia5StringRef<'a>, 11> as FormValue>⟧.value.accepts rules x b a.0.0 | of.Number x ↦ λ a. tlv_tagged _ ⟦<Implicit<OctetStringRef<'a>, 17> as FormValue>⟧.value.accepts rules x b a.0.0 | of.Status x ↦ λ a. status_tagged.accepted_is_tlv-law rules x b a.0 ] };
 
-    ghost own_tag = { λ v. (either_tag ⟦<OneOf<Implicit<Ia5StringRef<'a>, 11>, Implicit<Distinguished<'a>, 14>> as Form>⟧ ⟦<OneOf<Implicit<OctetStringRef<'a>, 17>, Status> as Form>⟧
-        (either_tag ⟦<Implicit<Ia5StringRef<'a>, 11> as Form>⟧ ⟦<Implicit<Distinguished<'a>, 14> as Form>⟧
+    ghost own_tag = { λ v. (either_tag ⟦<OneOf<Implicit<Ia5StringRef<'a>, 11>, Implicit<OctetStringRef<'a>, 17>> as Form>⟧ ⟦<Status as Form>⟧
+        (either_tag ⟦<Implicit<Ia5StringRef<'a>, 11> as Form>⟧ ⟦<Implicit<OctetStringRef<'a>, 17> as Form>⟧
         (one_tag ⟦<ImplicitTag<CharacterStringTag<22>, 11> as TagMarker>⟧.TAG ⟦<Implicit<Ia5StringRef<'a>, 11> as FormValue>⟧.value.contents)
-        (one_tag ⟦<ImplicitTag<SequenceTag, 14> as TagMarker>⟧.TAG ⟦<Implicit<Distinguished<'a>, 14> as FormValue>⟧.value.contents))
-        (either_tag ⟦<Implicit<OctetStringRef<'a>, 17> as Form>⟧ ⟦<Status as Form>⟧
-        (one_tag ⟦<ImplicitTag<OctetStringTag, 17> as TagMarker>⟧.TAG ⟦<Implicit<OctetStringRef<'a>, 17> as FormValue>⟧.value.contents)
-        (own_tags ⟦<Status as Form>⟧.tags ⟦<Status as Form>⟧.first_tag_of ⟦<Status as Form>⟧.encoding ⟦<Status as Tagged>⟧.tag_of ⟦<Status as FormValue>⟧.value.contents status_tagged.encoding_is-law status_tagged.own_tag-law status_tagged.first_tag_is-law))).own_tag (tree_of v) };
+        (one_tag ⟦<ImplicitTag<OctetStringTag, 17> as TagMarker>⟧.TAG ⟦<Implicit<OctetStringRef<'a>, 17> as FormValue>⟧.value.contents))
+        (own_tags ⟦<Status as Form>⟧.tags ⟦<Status as Form>⟧.first_tag_of ⟦<Status as Form>⟧.encoding ⟦<Status as Tagged>⟧.tag_of ⟦<Status as FormValue>⟧.value.contents status_tagged.encoding_is-law status_tagged.own_tag-law status_tagged.first_tag_is-law)).own_tag (tree_of v) };
 
-    ghost first_tag_is = { λ v. (either_tag ⟦<OneOf<Implicit<Ia5StringRef<'a>, 11>, Implicit<Distinguished<'a>, 14>> as Form>⟧ ⟦<OneOf<Implicit<OctetStringRef<'a>, 17>, Status> as Form>⟧
-        (either_tag ⟦<Implicit<Ia5StringRef<'a>, 11> as Form>⟧ ⟦<Implicit<Distinguished<'a>, 14> as Form>⟧
+    ghost first_tag_is = { λ v. (either_tag ⟦<OneOf<Implicit<Ia5StringRef<'a>, 11>, Implicit<OctetStringRef<'a>, 17>> as Form>⟧ ⟦<Status as Form>⟧
+        (either_tag ⟦<Implicit<Ia5StringRef<'a>, 11> as Form>⟧ ⟦<Implicit<OctetStringRef<'a>, 17> as Form>⟧
         (one_tag ⟦<ImplicitTag<CharacterStringTag<22>, 11> as TagMarker>⟧.TAG ⟦<Implicit<Ia5StringRef<'a>, 11> as FormValue>⟧.value.contents)
-        (one_tag ⟦<ImplicitTag<SequenceTag, 14> as TagMarker>⟧.TAG ⟦<Implicit<Distinguished<'a>, 14> as FormValue>⟧.value.contents))
-        (either_tag ⟦<Implicit<OctetStringRef<'a>, 17> as Form>⟧ ⟦<Status as Form>⟧
-        (one_tag ⟦<ImplicitTag<OctetStringTag, 17> as TagMarker>⟧.TAG ⟦<Implicit<OctetStringRef<'a>, 17> as FormValue>⟧.value.contents)
-        (own_tags ⟦<Status as Form>⟧.tags ⟦<Status as Form>⟧.first_tag_of ⟦<Status as Form>⟧.encoding ⟦<Status as Tagged>⟧.tag_of ⟦<Status as FormValue>⟧.value.contents status_tagged.encoding_is-law status_tagged.own_tag-law status_tagged.first_tag_is-law))).first_tag_is (tree_of v) };
+        (one_tag ⟦<ImplicitTag<OctetStringTag, 17> as TagMarker>⟧.TAG ⟦<Implicit<OctetStringRef<'a>, 17> as FormValue>⟧.value.contents))
+        (own_tags ⟦<Status as Form>⟧.tags ⟦<Status as Form>⟧.first_tag_of ⟦<Status as Form>⟧.encoding ⟦<Status as Tagged>⟧.tag_of ⟦<Status as FormValue>⟧.value.contents status_tagged.encoding_is-law status_tagged.own_tag-law status_tagged.first_tag_is-law)).first_tag_is (tree_of v) };
 
-    ghost re_reads_alike = { λ v. elim v as (λ k. ⟦<Tree<'a> as FormValue>⟧.value.re_reads (tree_of k) ≡ true → ⟦<Tree<'a> as Form>⟧.re_reads (tree_of k) ≡ true) [ of.Address x ↦ λ h. h | of.Directory x ↦ λ h. h | of.Number x ↦ λ h. h | of.Status x ↦ status_tagged.re_reads_alike-law x ] };
+    ghost re_reads_alike = { λ v. elim v as (λ k. ⟦<Tree<'a> as FormValue>⟧.value.re_reads (tree_of k) ≡ true → ⟦<Tree<'a> as Form>⟧.re_reads (tree_of k) ≡ true) [ of.Address x ↦ λ h. h | of.Number x ↦ λ h. h | of.Status x ↦ status_tagged.re_reads_alike-law x ] };
 
     ghost comparable_alike = { λ v w h. tt };
 }
@@ -162,7 +147,7 @@ impl<'a> Choice for General<'a> {
         Tree::<'a>::can_decode(tag)
     }
 
-    ghost has_first_tag = { λ v. elim v as (λ k. HasFirstTag (⟦<Tree<'a> as Form>⟧.first_tag_of (tree_of k))) [ of.Address x ↦ record { tag = _; is_tag = refl } | of.Directory x ↦ record { tag = _; is_tag = refl } | of.Number x ↦ record { tag = _; is_tag = refl } | of.Status x ↦ status_choice.has_first_tag-law x ] };
+    ghost has_first_tag = { λ v. elim v as (λ k. HasFirstTag (⟦<Tree<'a> as Form>⟧.first_tag_of (tree_of k))) [ of.Address x ↦ record { tag = _; is_tag = refl } | of.Number x ↦ record { tag = _; is_tag = refl } | of.Status x ↦ status_choice.has_first_tag-law x ] };
 }
 
 impl<'a> KnownTags for General<'a> {
@@ -170,22 +155,21 @@ impl<'a> KnownTags for General<'a> {
 
     ghost MAY_BE_ABSENT = { false };
 
-    ghost are_known = { (known_either ⟦<OneOf<Implicit<Ia5StringRef<'a>, 11>, Implicit<Distinguished<'a>, 14>> as KnownTags>⟧.known_tags ⟦<OneOf<Implicit<OctetStringRef<'a>, 17>, Status> as KnownTags>⟧.known_tags ⟦<OneOf<Implicit<Ia5StringRef<'a>, 11>, Implicit<Distinguished<'a>, 14>> as Form>⟧.tags ⟦<OneOf<Implicit<OctetStringRef<'a>, 17>, Status> as Form>⟧.tags (known_either ⟦<Implicit<Ia5StringRef<'a>, 11> as KnownTags>⟧.known_tags ⟦<Implicit<Distinguished<'a>, 14> as KnownTags>⟧.known_tags ⟦<Implicit<Ia5StringRef<'a>, 11> as Form>⟧.tags ⟦<Implicit<Distinguished<'a>, 14> as Form>⟧.tags (own_is_known _) (own_is_known _)) (known_either ⟦<Implicit<OctetStringRef<'a>, 17> as KnownTags>⟧.known_tags ⟦<Status as KnownTags>⟧.known_tags ⟦<Implicit<OctetStringRef<'a>, 17> as Form>⟧.tags ⟦<Status as Form>⟧.tags (own_is_known _) status_known_tags.are_known-law)) };
+    ghost are_known = { (known_either ⟦<OneOf<Implicit<Ia5StringRef<'a>, 11>, Implicit<OctetStringRef<'a>, 17>> as KnownTags>⟧.known_tags ⟦<Status as KnownTags>⟧.known_tags ⟦<OneOf<Implicit<Ia5StringRef<'a>, 11>, Implicit<OctetStringRef<'a>, 17>> as Form>⟧.tags ⟦<Status as Form>⟧.tags (known_either ⟦<Implicit<Ia5StringRef<'a>, 11> as KnownTags>⟧.known_tags ⟦<Implicit<OctetStringRef<'a>, 17> as KnownTags>⟧.known_tags ⟦<Implicit<Ia5StringRef<'a>, 11> as Form>⟧.tags ⟦<Implicit<OctetStringRef<'a>, 17> as Form>⟧.tags (own_is_known _) (own_is_known _)) status_known_tags.are_known-law) };
 
-    ghost is_there = { λ e v. elim v as (λ k. HasFirstTag (⟦<Tree<'a> as Form>⟧.first_tag_of (tree_of k))) [ of.Address x ↦ record { tag = _; is_tag = refl } | of.Directory x ↦ record { tag = _; is_tag = refl } | of.Number x ↦ record { tag = _; is_tag = refl } | of.Status x ↦ status_choice.has_first_tag-law x ] };
+    ghost is_there = { λ e v. elim v as (λ k. HasFirstTag (⟦<Tree<'a> as Form>⟧.first_tag_of (tree_of k))) [ of.Address x ↦ record { tag = _; is_tag = refl } | of.Number x ↦ record { tag = _; is_tag = refl } | of.Status x ↦ status_choice.has_first_tag-law x ] };
 }
 
 impl<'a, R: Source<'a>> Decode<'a, R> for General<'a> {
-    ghost TAKES_MEMORY = { true };
+    ghost TAKES_MEMORY = { false };
 
-    const TAKES_MEMORY: bool = true;
+    const TAKES_MEMORY: bool = false;
 
     fn decode(alloc: Global, reader: &mut R) -> Result<General<'a>, Error> {
         match Tree::<'a>::decode(alloc, reader) {
             Ok(OneOf::First(OneOf::First(value))) => Ok(General::Address(value)),
-            Ok(OneOf::First(OneOf::Other(value))) => Ok(General::Directory(value)),
-            Ok(OneOf::Other(OneOf::First(value))) => Ok(General::Number(value)),
-            Ok(OneOf::Other(OneOf::Other(value))) => Ok(General::Status(value)),
+            Ok(OneOf::First(OneOf::Other(value))) => Ok(General::Number(value)),
+            Ok(OneOf::Other(value)) => Ok(General::Status(value)),
             Err(e) => Err(e),
         }
     }
@@ -194,9 +178,9 @@ impl<'a, R: Source<'a>> Decode<'a, R> for General<'a> {
 }
 
 impl<'a, R: Source<'a>> DecodeField<'a, R> for General<'a> {
-    ghost TAKES_MEMORY = { true };
+    ghost TAKES_MEMORY = { false };
 
-    const TAKES_MEMORY: bool = true;
+    const TAKES_MEMORY: bool = false;
 
     fn decode_field(alloc: Global, reader: &mut R) -> Result<General<'a>, Error> {
         General::decode(alloc, reader)
@@ -209,7 +193,6 @@ impl<'a> EncodeValue for General<'a> {
     fn value_len(&self) -> Result<Length, Error> {
         match self {
             General::Address(value) => value.value_len(),
-            General::Directory(value) => value.value_len(),
             General::Number(value) => value.value_len(),
             General::Status(value) => value.value_len(),
         }
@@ -218,7 +201,6 @@ impl<'a> EncodeValue for General<'a> {
     fn encode_value<W: Writer>(&self, writer: &mut W) -> Result<(), Error> {
         match self {
             General::Address(value) => value.encode_value(writer),
-            General::Directory(value) => value.encode_value(writer),
             General::Number(value) => value.encode_value(writer),
             General::Status(value) => value.encode_value(writer),
         }
@@ -227,7 +209,6 @@ impl<'a> EncodeValue for General<'a> {
     fn encode_value_back<W: BackWriter>(&self, writer: &mut W) -> Result<(), Error> {
         match self {
             General::Address(value) => value.encode_value_back(writer),
-            General::Directory(value) => value.encode_value_back(writer),
             General::Number(value) => value.encode_value_back(writer),
             General::Status(value) => value.encode_value_back(writer),
         }
@@ -238,7 +219,6 @@ impl<'a> DerOrd for General<'a> {
     fn der_cmp(&self, other: &General<'a>) -> Result<Ordering, Error> {
         match (self, other) {
             (General::Address(value), General::Address(other)) => value.der_cmp(other),
-            (General::Directory(value), General::Directory(other)) => value.der_cmp(other),
             (General::Number(value), General::Number(other)) => value.der_cmp(other),
             (General::Status(value), General::Status(other)) => value.der_cmp(other),
             _ => cmp_headers(self, other),
@@ -247,78 +227,34 @@ impl<'a> DerOrd for General<'a> {
 }
 
 impl<'a> EncodingEq for General<'a> {
-    ghost encoding_eq = { seen_equality tree_of ⟦<General<'a> as PartialEq>⟧.eq ⟦<Tree<'a> as PartialEq>⟧.eq (λ v w. elim v as (λ k. ⟦<General<'a> as PartialEq>⟧.eq k w ≡ ⟦<Tree<'a> as PartialEq>⟧.eq (tree_of k) (tree_of w)) [ of.Address x ↦ elim w as (λ k. ⟦<General<'a> as PartialEq>⟧.eq (of.Address x) k ≡ ⟦<Tree<'a> as PartialEq>⟧.eq (tree_of (of.Address x)) (tree_of k)) [ of.Address y ↦ refl | of.Directory y ↦ refl | of.Number y ↦ refl | of.Status y ↦ refl ] | of.Directory x ↦ elim w as (λ k. ⟦<General<'a> as PartialEq>⟧.eq (of.Directory x) k ≡ ⟦<Tree<'a> as PartialEq>⟧.eq (tree_of (of.Directory x)) (tree_of k)) [ of.Address y ↦ refl | of.Directory y ↦ refl | of.Number y ↦ refl | of.Status y ↦ refl ] | of.Number x ↦ elim w as (λ k. ⟦<General<'a> as PartialEq>⟧.eq (of.Number x) k ≡ ⟦<Tree<'a> as PartialEq>⟧.eq (tree_of (of.Number x)) (tree_of k)) [ of.Address y ↦ refl | of.Directory y ↦ refl | of.Number y ↦ refl | of.Status y ↦ refl ] | of.Status x ↦ elim w as (λ k. ⟦<General<'a> as PartialEq>⟧.eq (of.Status x) k ≡ ⟦<Tree<'a> as PartialEq>⟧.eq (tree_of (of.Status x)) (tree_of k)) [ of.Address y ↦ refl | of.Directory y ↦ refl | of.Number y ↦ refl | of.Status y ↦ refl ] ]) (either_equality ⟦<OneOf<Implicit<Ia5StringRef<'a>, 11>, Implicit<Distinguished<'a>, 14>> as Form>⟧ ⟦<OneOf<Implicit<OctetStringRef<'a>, 17>, Status> as Form>⟧
-        (either_tag ⟦<Implicit<Ia5StringRef<'a>, 11> as Form>⟧ ⟦<Implicit<Distinguished<'a>, 14> as Form>⟧
+    ghost encoding_eq = { seen_equality tree_of ⟦<General<'a> as PartialEq>⟧.eq ⟦<Tree<'a> as PartialEq>⟧.eq (λ v w. elim v as (λ k. ⟦<General<'a> as PartialEq>⟧.eq k w ≡ ⟦<Tree<'a> as PartialEq>⟧.eq (tree_of k) (tree_of w)) [ of.Address x ↦ elim w as (λ k. ⟦<General<'a> as PartialEq>⟧.eq (of.Address x) k ≡ ⟦<Tree<'a> as PartialEq>⟧.eq (tree_of (of.Address x)) (tree_of k)) [ of.Address y ↦ refl | of.Number y ↦ refl | of.Status y ↦ refl ] | of.Number x ↦ elim w as (λ k. ⟦<General<'a> as PartialEq>⟧.eq (of.Number x) k ≡ ⟦<Tree<'a> as PartialEq>⟧.eq (tree_of (of.Number x)) (tree_of k)) [ of.Address y ↦ refl | of.Number y ↦ refl | of.Status y ↦ refl ] | of.Status x ↦ elim w as (λ k. ⟦<General<'a> as PartialEq>⟧.eq (of.Status x) k ≡ ⟦<Tree<'a> as PartialEq>⟧.eq (tree_of (of.Status x)) (tree_of k)) [ of.Address y ↦ refl | of.Number y ↦ refl | of.Status y ↦ refl ] ]) (either_equality ⟦<OneOf<Implicit<Ia5StringRef<'a>, 11>, Implicit<OctetStringRef<'a>, 17>> as Form>⟧ ⟦<Status as Form>⟧
+        (either_tag ⟦<Implicit<Ia5StringRef<'a>, 11> as Form>⟧ ⟦<Implicit<OctetStringRef<'a>, 17> as Form>⟧
         (one_tag ⟦<ImplicitTag<CharacterStringTag<22>, 11> as TagMarker>⟧.TAG ⟦<Implicit<Ia5StringRef<'a>, 11> as FormValue>⟧.value.contents)
-        (one_tag ⟦<ImplicitTag<SequenceTag, 14> as TagMarker>⟧.TAG ⟦<Implicit<Distinguished<'a>, 14> as FormValue>⟧.value.contents))
-        (either_tag ⟦<Implicit<OctetStringRef<'a>, 17> as Form>⟧ ⟦<Status as Form>⟧
-        (one_tag ⟦<ImplicitTag<OctetStringTag, 17> as TagMarker>⟧.TAG ⟦<Implicit<OctetStringRef<'a>, 17> as FormValue>⟧.value.contents)
-        (own_tags ⟦<Status as Form>⟧.tags ⟦<Status as Form>⟧.first_tag_of ⟦<Status as Form>⟧.encoding ⟦<Status as Tagged>⟧.tag_of ⟦<Status as FormValue>⟧.value.contents status_tagged.encoding_is-law status_tagged.own_tag-law status_tagged.first_tag_is-law))
-        ⟦<OneOf<Implicit<Ia5StringRef<'a>, 11>, Implicit<Distinguished<'a>, 14>> as PartialEq>⟧.eq ⟦<OneOf<Implicit<OctetStringRef<'a>, 17>, Status> as PartialEq>⟧.eq
-        (either_equality ⟦<Implicit<Ia5StringRef<'a>, 11> as Form>⟧ ⟦<Implicit<Distinguished<'a>, 14> as Form>⟧
-        (one_tag ⟦<ImplicitTag<CharacterStringTag<22>, 11> as TagMarker>⟧.TAG ⟦<Implicit<Ia5StringRef<'a>, 11> as FormValue>⟧.value.contents)
-        (one_tag ⟦<ImplicitTag<SequenceTag, 14> as TagMarker>⟧.TAG ⟦<Implicit<Distinguished<'a>, 14> as FormValue>⟧.value.contents)
-        ⟦<Implicit<Ia5StringRef<'a>, 11> as PartialEq>⟧.eq ⟦<Implicit<Distinguished<'a>, 14> as PartialEq>⟧.eq
-        (one_tag_equality ⟦<ImplicitTag<CharacterStringTag<22>, 11> as TagMarker>⟧.TAG ⟦<Implicit<Ia5StringRef<'a>, 11> as FormValue>⟧.value.contents ⟦<Implicit<Ia5StringRef<'a>, 11> as FormValue>⟧.value.comparable ⟦<Implicit<Ia5StringRef<'a>, 11> as PartialEq>⟧.eq (λ v w. ((characterstringref_contents_eq.contents_eq-law 22 (record { fits = lit< tt })) v.value w.value)))
-        (one_tag_equality ⟦<ImplicitTag<SequenceTag, 14> as TagMarker>⟧.TAG ⟦<Implicit<Distinguished<'a>, 14> as FormValue>⟧.value.contents ⟦<Implicit<Distinguished<'a>, 14> as FormValue>⟧.value.comparable ⟦<Implicit<Distinguished<'a>, 14> as PartialEq>⟧.eq (λ v w. (distinguished_contents_eq.contents_eq-law v.value w.value)))
-        ⟦<OneOf<Implicit<Ia5StringRef<'a>, 11>, Implicit<Distinguished<'a>, 14>> as PartialEq>⟧.eq (λ v x. refl) (λ w y. refl) (λ v w. refl) (λ w v. refl))
-        (either_equality ⟦<Implicit<OctetStringRef<'a>, 17> as Form>⟧ ⟦<Status as Form>⟧
-        (one_tag ⟦<ImplicitTag<OctetStringTag, 17> as TagMarker>⟧.TAG ⟦<Implicit<OctetStringRef<'a>, 17> as FormValue>⟧.value.contents)
+        (one_tag ⟦<ImplicitTag<OctetStringTag, 17> as TagMarker>⟧.TAG ⟦<Implicit<OctetStringRef<'a>, 17> as FormValue>⟧.value.contents))
         (own_tags ⟦<Status as Form>⟧.tags ⟦<Status as Form>⟧.first_tag_of ⟦<Status as Form>⟧.encoding ⟦<Status as Tagged>⟧.tag_of ⟦<Status as FormValue>⟧.value.contents status_tagged.encoding_is-law status_tagged.own_tag-law status_tagged.first_tag_is-law)
-        ⟦<Implicit<OctetStringRef<'a>, 17> as PartialEq>⟧.eq ⟦<Status as PartialEq>⟧.eq
+        ⟦<OneOf<Implicit<Ia5StringRef<'a>, 11>, Implicit<OctetStringRef<'a>, 17>> as PartialEq>⟧.eq ⟦<Status as PartialEq>⟧.eq
+        (either_equality ⟦<Implicit<Ia5StringRef<'a>, 11> as Form>⟧ ⟦<Implicit<OctetStringRef<'a>, 17> as Form>⟧
+        (one_tag ⟦<ImplicitTag<CharacterStringTag<22>, 11> as TagMarker>⟧.TAG ⟦<Implicit<Ia5StringRef<'a>, 11> as FormValue>⟧.value.contents)
+        (one_tag ⟦<ImplicitTag<OctetStringTag, 17> as TagMarker>⟧.TAG ⟦<Implicit<OctetStringRef<'a>, 17> as FormValue>⟧.value.contents)
+        ⟦<Implicit<Ia5StringRef<'a>, 11> as PartialEq>⟧.eq ⟦<Implicit<OctetStringRef<'a>, 17> as PartialEq>⟧.eq
+        (one_tag_equality ⟦<ImplicitTag<CharacterStringTag<22>, 11> as TagMarker>⟧.TAG ⟦<Implicit<Ia5StringRef<'a>, 11> as FormValue>⟧.value.contents ⟦<Implicit<Ia5StringRef<'a>, 11> as FormValue>⟧.value.comparable ⟦<Implicit<Ia5StringRef<'a>, 11> as PartialEq>⟧.eq (λ v w. ((characterstringref_contents_eq.contents_eq-law 22 (record { fits = lit< tt })) v.value w.value)))
         (one_tag_equality ⟦<ImplicitTag<OctetStringTag, 17> as TagMarker>⟧.TAG ⟦<Implicit<OctetStringRef<'a>, 17> as FormValue>⟧.value.contents ⟦<Implicit<OctetStringRef<'a>, 17> as FormValue>⟧.value.comparable ⟦<Implicit<OctetStringRef<'a>, 17> as PartialEq>⟧.eq (λ v w. (octetstringref_contents_eq.contents_eq-law v.value w.value)))
+        ⟦<OneOf<Implicit<Ia5StringRef<'a>, 11>, Implicit<OctetStringRef<'a>, 17>> as PartialEq>⟧.eq (λ v x. refl) (λ w y. refl) (λ v w. refl) (λ w v. refl))
         status_encoding_eq.encoding_eq-law
-        ⟦<OneOf<Implicit<OctetStringRef<'a>, 17>, Status> as PartialEq>⟧.eq (λ v x. refl) (λ w y. refl) (λ v w. refl) (λ w v. refl))
-        ⟦<OneOf<OneOf<Implicit<Ia5StringRef<'a>, 11>, Implicit<Distinguished<'a>, 14>>, OneOf<Implicit<OctetStringRef<'a>, 17>, Status>> as PartialEq>⟧.eq (λ v x. refl) (λ w y. refl) (λ v w. refl) (λ w v. refl)) };
+        ⟦<OneOf<OneOf<Implicit<Ia5StringRef<'a>, 11>, Implicit<OctetStringRef<'a>, 17>>, Status> as PartialEq>⟧.eq (λ v x. refl) (λ w y. refl) (λ v w. refl) (λ w v. refl)) };
 }
 
 impl<'a> CopyLaws for General<'a> {
-    ghost copies = { copies_of ((seen_copies tree_of ⟦<General<'a> as PartialEq>⟧.eq ⟦<Tree<'a> as PartialEq>⟧.eq (λ v w. elim v as (λ k. ⟦<General<'a> as PartialEq>⟧.eq k w ≡ ⟦<Tree<'a> as PartialEq>⟧.eq (tree_of k) (tree_of w)) [ of.Address x ↦ elim w as (λ k. ⟦<General<'a> as PartialEq>⟧.eq (of.Address x) k ≡ ⟦<Tree<'a> as PartialEq>⟧.eq (tree_of (of.Address x)) (tree_of k)) [ of.Address y ↦ refl | of.Directory y ↦ refl | of.Number y ↦ refl | of.Status y ↦ refl ] | of.Directory x ↦ elim w as (λ k. ⟦<General<'a> as PartialEq>⟧.eq (of.Directory x) k ≡ ⟦<Tree<'a> as PartialEq>⟧.eq (tree_of (of.Directory x)) (tree_of k)) [ of.Address y ↦ refl | of.Directory y ↦ refl | of.Number y ↦ refl | of.Status y ↦ refl ] | of.Number x ↦ elim w as (λ k. ⟦<General<'a> as PartialEq>⟧.eq (of.Number x) k ≡ ⟦<Tree<'a> as PartialEq>⟧.eq (tree_of (of.Number x)) (tree_of k)) [ of.Address y ↦ refl | of.Directory y ↦ refl | of.Number y ↦ refl | of.Status y ↦ refl ] | of.Status x ↦ elim w as (λ k. ⟦<General<'a> as PartialEq>⟧.eq (of.Status x) k ≡ ⟦<Tree<'a> as PartialEq>⟧.eq (tree_of (of.Status x)) (tree_of k)) [ of.Address y ↦ refl | of.Directory y ↦ refl | of.Number y ↦ refl | of.Status y ↦ refl ] ]) (either_copies ⟦<OneOf<Implicit<Ia5StringRef<'a>, 11>, Implicit<Distinguished<'a>, 14>> as Form>⟧ ⟦<OneOf<Implicit<OctetStringRef<'a>, 17>, Status> as Form>⟧
-        (either_tag ⟦<Implicit<Ia5StringRef<'a>, 11> as Form>⟧ ⟦<Implicit<Distinguished<'a>, 14> as Form>⟧
-        (one_tag ⟦<ImplicitTag<CharacterStringTag<22>, 11> as TagMarker>⟧.TAG ⟦<Implicit<Ia5StringRef<'a>, 11> as FormValue>⟧.value.contents)
-        (one_tag ⟦<ImplicitTag<SequenceTag, 14> as TagMarker>⟧.TAG ⟦<Implicit<Distinguished<'a>, 14> as FormValue>⟧.value.contents))
-        (either_tag ⟦<Implicit<OctetStringRef<'a>, 17> as Form>⟧ ⟦<Status as Form>⟧
-        (one_tag ⟦<ImplicitTag<OctetStringTag, 17> as TagMarker>⟧.TAG ⟦<Implicit<OctetStringRef<'a>, 17> as FormValue>⟧.value.contents)
-        (own_tags ⟦<Status as Form>⟧.tags ⟦<Status as Form>⟧.first_tag_of ⟦<Status as Form>⟧.encoding ⟦<Status as Tagged>⟧.tag_of ⟦<Status as FormValue>⟧.value.contents status_tagged.encoding_is-law status_tagged.own_tag-law status_tagged.first_tag_is-law))
-        (either_copies ⟦<Implicit<Ia5StringRef<'a>, 11> as Form>⟧ ⟦<Implicit<Distinguished<'a>, 14> as Form>⟧
-        (one_tag ⟦<ImplicitTag<CharacterStringTag<22>, 11> as TagMarker>⟧.TAG ⟦<Implicit<Ia5StringRef<'a>, 11> as FormValue>⟧.value.contents)
-        (one_tag ⟦<ImplicitTag<SequenceTag, 14> as TagMarker>⟧.TAG ⟦<Implicit<Distinguished<'a>, 14> as FormValue>⟧.value.contents)
-        (one_tag_copies ⟦<ImplicitTag<CharacterStringTag<22>, 11> as TagMarker>⟧.TAG (held_copies (λ x. x.value) (same_copies ⟦<Ia5StringRef<'a> as FormValue>⟧.value.contents ⟦<Ia5StringRef<'a> as FormValue>⟧.value.comparable ⟦<Ia5StringRef<'a> as FormValue>⟧.value.re_reads ⟦<Ia5StringRef<'a> as PartialEq>⟧.eq (λ v. ((characterstringref_contents_eq.contents_eq-law 22 (record { fits = lit< tt })) v v tt).1 refl))))
-        (one_tag_copies ⟦<ImplicitTag<SequenceTag, 14> as TagMarker>⟧.TAG (held_copies (λ x. x.value) (record { octets_are = distinguished_duplicate_value.copy_contents-law; comparable_are = distinguished_duplicate_value.copy_comparable_value-law; re_reads_are = distinguished_duplicate_value.copy_re_reads_value-law; equal_are = distinguished_duplicate_value_is_equal.copy_value_is_equal-law })))
-        ⟦<OneOf<Implicit<Ia5StringRef<'a>, 11>, Implicit<Distinguished<'a>, 14>> as PartialEq>⟧.eq (λ v x. refl) (λ w y. refl))
-        (either_copies ⟦<Implicit<OctetStringRef<'a>, 17> as Form>⟧ ⟦<Status as Form>⟧
-        (one_tag ⟦<ImplicitTag<OctetStringTag, 17> as TagMarker>⟧.TAG ⟦<Implicit<OctetStringRef<'a>, 17> as FormValue>⟧.value.contents)
-        (own_tags ⟦<Status as Form>⟧.tags ⟦<Status as Form>⟧.first_tag_of ⟦<Status as Form>⟧.encoding ⟦<Status as Tagged>⟧.tag_of ⟦<Status as FormValue>⟧.value.contents status_tagged.encoding_is-law status_tagged.own_tag-law status_tagged.first_tag_is-law)
-        (one_tag_copies ⟦<ImplicitTag<OctetStringTag, 17> as TagMarker>⟧.TAG (held_copies (λ x. x.value) (same_copies ⟦<OctetStringRef<'a> as FormValue>⟧.value.contents ⟦<OctetStringRef<'a> as FormValue>⟧.value.comparable ⟦<OctetStringRef<'a> as FormValue>⟧.value.re_reads ⟦<OctetStringRef<'a> as PartialEq>⟧.eq (λ v. (octetstringref_contents_eq.contents_eq-law v v tt).1 refl))))
-        (same_copies ⟦<Status as Form>⟧.encoding ⟦<Status as Form>⟧.comparable ⟦<Status as Form>⟧.re_reads ⟦<Status as PartialEq>⟧.eq status_eq.laws-law.refl)
-        ⟦<OneOf<Implicit<OctetStringRef<'a>, 17>, Status> as PartialEq>⟧.eq (λ v x. refl) (λ w y. refl))
-        ⟦<OneOf<OneOf<Implicit<Ia5StringRef<'a>, 11>, Implicit<Distinguished<'a>, 14>>, OneOf<Implicit<OctetStringRef<'a>, 17>, Status>> as PartialEq>⟧.eq (λ v x. refl) (λ w y. refl)))) };
+    ghost copies = { copies_of ((same_copies ⟦<General<'a> as Form>⟧.encoding ⟦<General<'a> as Form>⟧.comparable ⟦<General<'a> as Form>⟧.re_reads ⟦<General<'a> as PartialEq>⟧.eq general_eq.laws-law.refl)) };
 }
 
 impl<'a> Duplicate for General<'a> {
-    ghost is_copy = { λ v w. ⟦<Tree<'a> as Duplicate>⟧.is_copy (tree_of v) (tree_of w) };
+    ghost is_copy = { λ v w. w ≡ v };
 
-    ghost takes_memory_to_copy = { ⟦<Tree<'a> as Duplicate>⟧.takes_memory_to_copy };
+    ghost takes_memory_to_copy = { false };
 
     fn duplicate(&self) -> Result<General<'a>, Error> {
-        match self {
-            General::Address(value) => match value.duplicate() {
-                Ok(value) => Ok(General::Address(value)),
-                Err(e) => Err(e),
-            },
-            General::Directory(value) => match value.duplicate() {
-                Ok(value) => Ok(General::Directory(value)),
-                Err(e) => Err(e),
-            },
-            General::Number(value) => match value.duplicate() {
-                Ok(value) => Ok(General::Number(value)),
-                Err(e) => Err(e),
-            },
-            General::Status(value) => match value.duplicate() {
-                Ok(value) => Ok(General::Status(value)),
-                Err(e) => Err(e),
-            },
-        }
+        Ok(copy_of(self))
     }
 
     ghost copy_encoding = { ⟦<General<'a> as CopyLaws>⟧.copies.laws.octets_are };
@@ -330,17 +266,6 @@ impl<'a> Duplicate for General<'a> {
 
 impl<'a> DuplicateIsEqual for General<'a> {
     ghost copy_is_equal = { ⟦<General<'a> as CopyLaws>⟧.copies.laws.equal_are };
-}
-
-/// The order of a SET OF `General<'a>`: that of the encodings (X.690 11.6).
-pub struct GeneralOrder;
-
-impl<'a> ItemOrder<General<'a>> for GeneralOrder {
-    ghost item_encoding = { ⟦<General<'a> as Form>⟧.encoding };
-}
-
-impl<'a> OrdersByEncoding<General<'a>> for GeneralOrder {
-    ghost is_encoding = { refl };
 }
 
 /// What is read as `General` is what the page of the grammar says.

@@ -19,7 +19,6 @@ use der_elem::{
     OneTag, Sequence, SequenceTag, TagMarker, Tagged, ValueOrd,
 };
 use der_fields::{DecodeFields, EncodeFields, End, Field, FieldList, Fields2, FieldsOrd};
-use der_nest::{ItemOrder, OrdersByEncoding};
 use der_opaque::{AnyRef, ObjectIdentifier};
 use der_tlv::{BackWriter, Error, Header, Length, Source, Writer};
 use std::alloc::Global;
@@ -141,17 +140,6 @@ impl<'a> ContentsEq for Pair<'a> {
 }
 
 impl<'a> CopyIsDuplicate for Pair<'a> {}
-
-/// The order of a SET OF `Pair<'a>`: that of the encodings (X.690 11.6).
-pub struct PairOrder;
-
-impl<'a> ItemOrder<Pair<'a>> for PairOrder {
-    ghost item_encoding = { ⟦<Pair<'a> as Form>⟧.encoding };
-}
-
-impl<'a> OrdersByEncoding<Pair<'a>> for PairOrder {
-    ghost is_encoding = { refl };
-}
 
 /// What is read as `Pair` is what the page of the grammar says.
 pub fn grammar_of_pair<'a>()

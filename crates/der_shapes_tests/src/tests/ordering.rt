@@ -1,9 +1,8 @@
-//! The order, equality and copies of values, and sets that are put in order.
+//! The order, equality and copies of values.
 
-use super::{again, compared, holds, is_copied, numbered, same};
-use der_elem::{Encode, FromDer};
-use der_nest::ItemSet;
-use der_shapes::shapes::{General, GeneralOrder, Generals, Status};
+use super::{compared, holds, is_copied, same};
+use der_elem::FromDer;
+use der_shapes::shapes::{General, Status};
 use std::alloc::Global;
 use std::cmp::Ordering;
 use std::process::Abort;
@@ -36,47 +35,19 @@ fn alternatives_are_ordered_as_their_encodings(rt: HostRuntime) -> Result<(), Fa
     Ok(())
 }
 
-// Adds the item that the octets are.
-fn add<'a>(
-    set: &mut ItemSet<General<'a>, GeneralOrder>,
-    alloc: Global,
-    octets: &'a [u8],
-) -> Result<(), u8> {
-    match set.insert(general_of(alloc, octets)?) {
-        Ok(()) => Ok(()),
-        Err(e) => Err(e.kind().number()),
-    }
-}
-
-// The encoding of a set of the two items.
-fn set_of(alloc: Global, first: &[u8], second: &[u8]) -> Result<Vec<u8>, u8> {
-    let mut set = ItemSet::<General<'_>, GeneralOrder>::new(alloc);
-    add(&mut set, alloc, first)?;
-    add(&mut set, alloc, second)?;
-    let generals = Generals::new(set);
-    if !is_copied(&generals) {
-        return Err(0);
-    }
-    numbered(generals.to_der(alloc))
-}
-
 #[test]
-fn a_set_of_a_choice_is_put_in_order(rt: HostRuntime) -> Result<(), Fail> {
+fn those_of_a_choice_within_another_are_too(rt: HostRuntime) -> Result<(), Fail> {
     let alloc = rt.alloc();
-    let number = hex::decode(alloc, "91020102")?;
     let good = hex::decode(alloc, "8000")?;
-    let octets = hex::decode(alloc, "3106800091020102")?;
-    let written = set_of(alloc, number.as_slice(), good.as_slice())?;
-    same(&rt, written.as_slice(), octets.as_slice());
-    Ok(())
-}
-
-#[test]
-fn items_that_come_out_of_order_are_put_in_order(rt: HostRuntime) -> Result<(), Fail> {
-    let alloc = rt.alloc();
-    let octets = hex::decode(alloc, "310482008000")?;
-    let in_order = hex::decode(alloc, "310480008200")?;
-    let written = again::<Generals>(alloc, octets.as_slice())?;
-    same(&rt, written.as_slice(), in_order.as_slice());
+    let number = hex::decode(alloc, "91020102")?;
+    let good = general_of(alloc, good.as_slice())?;
+    let number = general_of(alloc, number.as_slice())?;
+    same(&rt, compared(&number, &number), Ok((Ordering::Equal, true)));
+    same(
+        &rt,
+        compared(&number, &good),
+        Ok((Ordering::Greater, false)),
+    );
+    holds(&rt, is_copied(&number));
     Ok(())
 }
