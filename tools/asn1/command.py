@@ -6,15 +6,16 @@ import argparse
 import sys
 from pathlib import Path
 
-from .crates import Entry, entries_of
+from .crates import Entry, entries_of, places_of
 from .errors import AsnError
 from .layout import LayoutError, laid_out
 from .parser import parse_module
 from .resolver import resolve
 from .syntax import Module
-from .writer.crate import MARK, files_of_crate
+from .writer.crate import MARK, files_of_crate, marked
 from .writer.holders import hold_tagged
 from .writer.orders import items_of_sets
+from .writer.places import write_places
 from .writer.plan import Plan, Target
 from .writer.splitting import split_choices
 
@@ -63,6 +64,11 @@ def write_all(path: Path, with_remarks: bool) -> dict[str, str]:
         mine = [module for module, entry in zip(resolved, entries) if entry.crate == crate and entry.module]
         for name, text in files_of_crate(plan, mine).items():
             found[f"{crate}/{name}"] = text
+    for crate, others in places_of(path).items():
+        for module, entry in zip(resolved, entries):
+            if entry.crate in others and entry.module:
+                for name, text in write_places(plan, crate, [module]).items():
+                    found[f"{crate}/{name}"] = marked(name, text, module.file)
     return laid_out(found)
 
 

@@ -1,4 +1,5 @@
-"""The list of what is written where: a line a crate, as `der_ocsp: ocsp=OCSP.asn1`."""
+"""The list of what is written where: a line a crate, as `der_ocsp: ocsp=OCSP.asn1`; and as `der_places places: der_ocsp` of one
+that has where the fields of others' types stand."""
 
 from __future__ import annotations
 
@@ -9,6 +10,7 @@ from pathlib import Path
 from .errors import AsnError, Place
 
 LINE = re.compile(r"([a-z][a-z0-9_]*):((?:\s+(?:[a-z][a-z0-9_]*=)?[^\s=]+)+)\s*")
+PLACES = re.compile(r"([a-z][a-z0-9_]*)\s+places:((?:\s+[a-z][a-z0-9_]*)+)")
 
 
 @dataclass(frozen=True)
@@ -23,12 +25,23 @@ class Entry:
     file: Path
 
 
+def lines_of(path: Path) -> list[tuple[int, str]]:
+    """The lines of a list that say something, with their numbers."""
+    lines = enumerate(path.read_text(encoding="utf-8").split("\n"), 1)
+    return [(number, text) for number, line in lines if (text := line.split("#")[0].rstrip())]
+
+
+def places_of(path: Path) -> dict[str, list[str]]:
+    """The crates that have places, and each crate of whose types."""
+    parsed = [PLACES.fullmatch(text) for _, text in lines_of(path)]
+    return {found.group(1): found.group(2).split() for found in parsed if found}
+
+
 def entries_of(path: Path) -> list[Entry]:
     """The entries of a list; files are named from the folder that it stands in."""
     found: list[Entry] = []
-    for number, line in enumerate(path.read_text(encoding="utf-8").split("\n"), 1):
-        text = line.split("#")[0].rstrip()
-        if not text:
+    for number, text in lines_of(path):
+        if PLACES.fullmatch(text):
             continue
         parsed = LINE.fullmatch(text)
         if parsed is None:

@@ -8,7 +8,8 @@ use crate::fault::{Fault, refuse};
 use crate::front::read_front;
 use der_elem::Form;
 use der_pkix::name::{Attribute, AttributeTypeAndValue};
-use der_places::{AttributePlaces, AttributeTypeAndValuePlaces, Place, Placed, places_of};
+use der_places::name::{AttributePlaces, AttributeTypeAndValuePlaces};
+use der_places::{Place, Placed, places_of};
 use std::alloc::Global;
 
 /// Where the fields of an attribute of a name stand.

@@ -12,7 +12,8 @@ use crate::fault::{Fault, refuse};
 use crate::times::general_seconds;
 use der_elem::{Form, FromDer};
 use der_ocsp::ocsp::{BasicOcspResponse, ResponseData};
-use der_places::{BasicOcspResponsePlaces, Placed, ResponseDataPlaces, places_of};
+use der_places::ocsp::{BasicOcspResponsePlaces, ResponseDataPlaces};
+use der_places::{Placed, places_of};
 use std::alloc::Global;
 
 /// Where the fields of a BasicOCSPResponse stand, and what some of them say.

@@ -13,7 +13,8 @@ use crate::fault::{Fault, refuse};
 use crate::times::seconds;
 use der_elem::{Form, FromDer};
 use der_pkix::certificate::{Certificate, TbsCertificate};
-use der_places::{CertificatePlaces, Placed, TbsCertificatePlaces, places_of};
+use der_places::certificate::{CertificatePlaces, TbsCertificatePlaces};
+use der_places::{Placed, places_of};
 use std::alloc::Global;
 
 /// Where the fields of a certificate stand, and what some of them say.

@@ -12,7 +12,8 @@ use crate::fault::{Fault, refuse};
 use crate::times::{number_of, seconds, seconds_or_none};
 use der_elem::{Form, FromDer};
 use der_pkix::crl::{CertificateList, TbsCertList};
-use der_places::{CertificateListPlaces, Placed, TbsCertListPlaces, places_of};
+use der_places::crl::{CertificateListPlaces, TbsCertListPlaces};
+use der_places::{Placed, places_of};
 use std::alloc::Global;
 
 /// Where the fields of a list of revoked certificates stand, and what some of them say.

@@ -9,7 +9,8 @@ ghost use Rattle.der_c.specs.Answers.{Answers};
 use crate::fault::{Fault, refuse};
 use der_elem::{Form, FromDer};
 use der_pkcs::request::{CertificationRequest, CertificationRequestInfo};
-use der_places::{CertificationRequestInfoPlaces, CertificationRequestPlaces, Placed, places_of};
+use der_places::request::{CertificationRequestInfoPlaces, CertificationRequestPlaces};
+use der_places::{Placed, places_of};
 use std::alloc::Global;
 
 /// Where the fields of a request for a certificate stand.

@@ -9,7 +9,8 @@ use crate::fault::{Fault, refuse};
 use crate::front::read_front;
 use der_elem::Form;
 use der_pkix::certificate::Extension;
-use der_places::{ExtensionPlaces, Place, Placed, places_of};
+use der_places::certificate::ExtensionPlaces;
+use der_places::{Place, Placed, places_of};
 use std::alloc::Global;
 
 /// Where the fields of an extension stand, and whether it is critical.

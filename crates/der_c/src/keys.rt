@@ -10,7 +10,9 @@ use crate::fault::{Fault, refuse};
 use der_elem::{Form, FromDer};
 use der_pkix::certificate::SubjectPublicKeyInfo;
 use der_pkix::key::OneAsymmetricKey;
-use der_places::{OneAsymmetricKeyPlaces, Placed, SubjectPublicKeyInfoPlaces, places_of};
+use der_places::certificate::SubjectPublicKeyInfoPlaces;
+use der_places::key::OneAsymmetricKeyPlaces;
+use der_places::{Placed, places_of};
 use std::alloc::Global;
 
 /// Where the fields of a PrivateKeyInfo stand, and its version.

@@ -14,7 +14,8 @@ use der_elem::{Form, FromDer};
 use der_fields::Explicit;
 use der_numbers::Enumeration;
 use der_ocsp::ocsp::{OcspResponse, ResponseBytes};
-use der_places::{OcspResponsePlaces, Place, Placed, ResponseBytesPlaces, contents_of, places_of};
+use der_places::ocsp::{OcspResponsePlaces, ResponseBytesPlaces};
+use der_places::{Place, Placed, contents_of, places_of};
 use std::alloc::Global;
 
 /// Where the fields of an OCSPResponse and of what it holds stand, and its status.

@@ -12,7 +12,8 @@ use crate::front::read_front;
 use crate::times::seconds;
 use der_elem::Form;
 use der_pkix::crl::RevokedCertificate;
-use der_places::{Place, Placed, RevokedCertificatePlaces, places_of};
+use der_places::crl::RevokedCertificatePlaces;
+use der_places::{Place, Placed, places_of};
 use std::alloc::Global;
 
 /// Where the fields of an entry stand, and when the certificate was revoked.

@@ -9,9 +9,8 @@ ghost use Rattle.der_c.specs.Answers.{Answers};
 use crate::fault::{Fault, refuse};
 use der_cms::cms::{ContentInfo, EncapsulatedContentInfo, SignedData};
 use der_elem::{Form, FromDer};
-use der_places::{
-    ContentInfoPlaces, EncapsulatedContentInfoPlaces, Placed, SignedDataPlaces, places_of,
-};
+use der_places::cms::{ContentInfoPlaces, EncapsulatedContentInfoPlaces, SignedDataPlaces};
+use der_places::{Placed, places_of};
 use std::alloc::Global;
 
 /// Reads octets as a ContentInfo (RFC 5652 section 3), all of them, and says where its fields stand.

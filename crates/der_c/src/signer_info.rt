@@ -9,7 +9,8 @@ use crate::fault::{Fault, refuse};
 use crate::front::read_front;
 use der_cms::cms::SignerInfo;
 use der_elem::Form;
-use der_places::{Place, Placed, SignerInfoPlaces, places_of};
+use der_places::cms::SignerInfoPlaces;
+use der_places::{Place, Placed, places_of};
 use std::alloc::Global;
 
 /// Where the fields of a signer stand, and the version.

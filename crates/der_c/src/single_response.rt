@@ -12,7 +12,8 @@ use crate::front::read_front;
 use crate::times::{general_seconds, general_seconds_or_none};
 use der_elem::Form;
 use der_ocsp::ocsp::{CertStatus, SingleResponse};
-use der_places::{Place, Placed, SingleResponsePlaces, places_of};
+use der_places::ocsp::SingleResponsePlaces;
+use der_places::{Place, Placed, places_of};
 use std::alloc::Global;
 
 /// Where the fields of the answer about one certificate stand, and what some of them say.

@@ -8,9 +8,10 @@ use Rattle.der_tlv.specs.TagParts.{IsTag}
 use Rattle.der_elem.specs.Accepting.{Fits}
 use Rattle.der_elem.specs.Options.{accepts_option}
 use Rattle.der_fields.specs.Defaults.{accepts_unless}
+use Rattle.der_fields.specs.FieldLists.{AcceptsField}
 use Rattle.der_places.specs.declared.place.Place.{Place}
 use Rattle.der_places.specs.Walking.{StandAt, IsEncoding, IsField, EntersContents, Follows, HoldsContents, Walked}
-use Rattle.der_places.specs.Layout.{Layout, no_more, part, is_there, reads_optional, reads_unless, presence, AreFields, Encodes, Stands, Laid, LaidOut, LaidAt, LaidInside}
+use Rattle.der_places.specs.Layout.{Layout, no_more, part, is_there, reads_optional, reads_unless, presence, AreFields, Encodes, Front, Stands, Laid, LaidOut, LaidAt, LaidInside}
 
 -- ---- where fields stand that are one after another
 
@@ -133,6 +134,10 @@ pub told : (octets : List ℕ) (last place : Place) (b d : Bool) → b ≡ d →
 told octets last place b d e follows = subst (λ x. Follows octets last x place) e follows
 
 -- ---- what is accepted is one field after another
+
+-- a field that is accepted stands at the front, and those after it behind
+pub first_of : {T U : Type 0} {tags : Tag → Bool} {first_tag next : Option Tag} {accepts : T → List ℕ → Type 0} {accepts_rest : U → List ℕ → Type 0} {v : T} {w : U} {octets : List ℕ} {there : Bool} {reads others : List ℕ → Type 0} (a : AcceptsField tags first_tag next accepts accepts_rest v w octets) → IsField there a.front × reads a.front → others a.others → Front there reads others octets
+first_of a one rest = record { front = a.front; behind = a.others; octets_are = a.octets_are; is_field = one.0; read = one.1; rest = rest }
 
 -- an encoding with a tag and any contents octets
 pub is_encoding : (tag : Tag) → IsTag tag → (own contents : List ℕ) → own ≡ tlv tag contents → IsEncoding own

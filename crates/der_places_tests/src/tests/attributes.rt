@@ -3,7 +3,8 @@
 use super::{at, same};
 use der_elem::FromDer;
 use der_pkix::name::{Attribute, AttributeTypeAndValue};
-use der_places::{AttributePlaces, AttributeTypeAndValuePlaces, next_place, places_of};
+use der_places::name::{AttributePlaces, AttributeTypeAndValuePlaces};
+use der_places::{next_place, places_of};
 use std::alloc::Global;
 use std::test::Fail;
 

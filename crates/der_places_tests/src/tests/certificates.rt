@@ -3,10 +3,10 @@
 use super::{at, same};
 use der_elem::FromDer;
 use der_pkix::certificate::{Certificate, SubjectPublicKeyInfo};
-use der_places::{
-    CertificatePlaces, ExtensionPlaces, Place, SubjectPublicKeyInfoPlaces, TbsCertificatePlaces,
-    contents_of, places_of,
+use der_places::certificate::{
+    CertificatePlaces, ExtensionPlaces, SubjectPublicKeyInfoPlaces, TbsCertificatePlaces,
 };
+use der_places::{Place, contents_of, places_of};
 use std::alloc::Global;
 use std::test::Fail;
 

@@ -3,7 +3,8 @@
 use super::{at, same};
 use der_elem::FromDer;
 use der_pkix::key::OneAsymmetricKey;
-use der_places::{OneAsymmetricKeyPlaces, places_of};
+use der_places::key::OneAsymmetricKeyPlaces;
+use der_places::places_of;
 use std::alloc::Global;
 use std::test::Fail;
 

@@ -3,9 +3,8 @@
 use super::{at, same};
 use der_elem::FromDer;
 use der_pkix::crl::CertificateList;
-use der_places::{
-    CertificateListPlaces, RevokedCertificatePlaces, TbsCertListPlaces, contents_of, places_of,
-};
+use der_places::crl::{CertificateListPlaces, RevokedCertificatePlaces, TbsCertListPlaces};
+use der_places::{contents_of, places_of};
 use std::alloc::Global;
 use std::test::Fail;
 

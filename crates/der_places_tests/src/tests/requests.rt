@@ -3,7 +3,8 @@
 use super::{at, same};
 use der_elem::FromDer;
 use der_pkcs::request::CertificationRequest;
-use der_places::{CertificationRequestInfoPlaces, CertificationRequestPlaces, places_of};
+use der_places::places_of;
+use der_places::request::{CertificationRequestInfoPlaces, CertificationRequestPlaces};
 use std::alloc::Global;
 use std::test::Fail;
 

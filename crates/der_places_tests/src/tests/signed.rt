@@ -3,9 +3,10 @@
 use super::{at, same};
 use der_cms::cms::{ContentInfo, SignedData};
 use der_elem::FromDer;
-use der_places::{
-    ContentInfoPlaces, EncapsulatedContentInfoPlaces, SignedDataPlaces, SignerInfoPlaces, places_of,
+use der_places::cms::{
+    ContentInfoPlaces, EncapsulatedContentInfoPlaces, SignedDataPlaces, SignerInfoPlaces,
 };
+use der_places::places_of;
 use std::alloc::Global;
 use std::test::Fail;
 

@@ -3,10 +3,11 @@
 use super::{at, same};
 use der_elem::FromDer;
 use der_ocsp::ocsp::{BasicOcspResponse, OcspResponse};
-use der_places::{
+use der_places::ocsp::{
     BasicOcspResponsePlaces, OcspResponsePlaces, ResponseBytesPlaces, ResponseDataPlaces,
-    SingleResponsePlaces, contents_of, places_of,
+    SingleResponsePlaces,
 };
+use der_places::{contents_of, places_of};
 use std::alloc::Global;
 use std::test::Fail;
 

@@ -7,7 +7,7 @@ use Rattle.der_ocsp.specs.declared.ocsp.response_data.ResponseData.{ResponseData
 use Rattle.der_places.specs.Layout.{LaidOut}
 use Rattle.der_places.specs.LayoutLaws.{first_laid, whole_stands}
 use Rattle.der_places.specs.Walking.{StandAt}
-use Rattle.der_places.specs.contracts.response_data.ResponseDataPlaced.TheImpl.{ghosts as placed}
+use Rattle.der_places.specs.contracts.ocsp.response_data.ResponseDataPlaced.TheImpl.{ghosts as placed}
 use Rattle.der_c.proofs.basic_ocsp_response.basic_ocsp_response_at.Goals as goal
 
 pub returns-clause-parts : goal.returns-clause-parts

@@ -7,7 +7,7 @@ use Rattle.der_pkix.specs.declared.certificate.tbs_certificate.TbsCertificate.{T
 use Rattle.der_places.specs.Layout.{LaidOut}
 use Rattle.der_places.specs.LayoutLaws.{first_laid, whole_stands}
 use Rattle.der_places.specs.Walking.{StandAt}
-use Rattle.der_places.specs.contracts.tbs_certificate.TbsCertificatePlaced.TheImpl.{ghosts as placed}
+use Rattle.der_places.specs.contracts.certificate.tbs_certificate.TbsCertificatePlaced.TheImpl.{ghosts as placed}
 use Rattle.der_c.proofs.certificate.certificate_at.Goals as goal
 
 pub returns-clause-parts : goal.returns-clause-parts

@@ -7,7 +7,7 @@ use Rattle.der_pkix.specs.declared.crl.tbs_cert_list.TbsCertList.{TbsCertList}
 use Rattle.der_places.specs.Layout.{LaidOut}
 use Rattle.der_places.specs.LayoutLaws.{first_laid, whole_stands}
 use Rattle.der_places.specs.Walking.{StandAt}
-use Rattle.der_places.specs.contracts.tbs_cert_list.TbsCertListPlaced.TheImpl.{ghosts as placed}
+use Rattle.der_places.specs.contracts.crl.tbs_cert_list.TbsCertListPlaced.TheImpl.{ghosts as placed}
 use Rattle.der_c.proofs.certificate_list.certificate_list_at.Goals as goal
 
 pub returns-clause-parts : goal.returns-clause-parts

@@ -7,7 +7,7 @@ use Rattle.der_pkcs.specs.declared.request.certification_request_info.Certificat
 use Rattle.der_places.specs.Layout.{LaidOut}
 use Rattle.der_places.specs.LayoutLaws.{first_laid, whole_stands}
 use Rattle.der_places.specs.Walking.{StandAt}
-use Rattle.der_places.specs.contracts.certification_request_info.CertificationRequestInfoPlaced.TheImpl.{ghosts as placed}
+use Rattle.der_places.specs.contracts.request.certification_request_info.CertificationRequestInfoPlaced.TheImpl.{ghosts as placed}
 use Rattle.der_c.proofs.certification_request.certification_request_at.Goals as goal
 
 pub returns-clause-parts : goal.returns-clause-parts

@@ -7,7 +7,7 @@ use Rattle.der_cms.specs.declared.cms.encapsulated_content_info.EncapsulatedCont
 use Rattle.der_places.specs.Layout.{LaidOut}
 use Rattle.der_places.specs.LayoutLaws.{third_laid, whole_stands}
 use Rattle.der_places.specs.Walking.{StandAt}
-use Rattle.der_places.specs.contracts.encapsulated_content_info.EncapsulatedContentInfoPlaced.TheImpl.{ghosts as placed}
+use Rattle.der_places.specs.contracts.cms.encapsulated_content_info.EncapsulatedContentInfoPlaced.TheImpl.{ghosts as placed}
 use Rattle.der_c.proofs.signed_data.signed_data_at.Goals as goal
 
 pub returns-clause-fields : goal.returns-clause-fields

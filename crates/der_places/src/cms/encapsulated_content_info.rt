@@ -1,0 +1,58 @@
+//! The fields of an EncapsulatedContentInfo.
+//!
+//! Made by tools/asn1 from cms.asn1.
+
+ghost use Rattle.std.proofs.Common.{lit<, true};
+ghost use Rattle.std.specs.Prelude.{◌∷◌, []};
+ghost use Rattle.der_cms.specs.Cms.EncapsulatedContentInfo as fields_of;
+ghost use Rattle.der_fields.specs.MarkerTags.{marker_tag, marker_tag-in_range};
+ghost use Rattle.der_places.specs.Layout.{explicit, field, no_more, optional};
+ghost use Rattle.der_places.specs.LayoutLaws.{first_of, is_encoding, maybe};
+ghost use Rattle.der_tlv.specs.declared.encoding_rules.EncodingRules.TheVariants.{Der};
+ghost use Rattle.der_tlv.specs.declared.tag.Tag.TheVariants as tags;
+
+use crate::place::Place;
+use crate::placed::Placed;
+use crate::presence::is_there;
+use crate::walk::next_place;
+use der_cms::cms::{ContentType, EncapsulatedContentInfo};
+use der_elem::Form;
+use der_fields::Explicit;
+use der_opaque::OctetStringRef;
+
+/// Where the fields of an `EncapsulatedContentInfo` stand.
+#[repr(C)]
+#[derive(Clone, Copy, Debug, PartialEq, Eq)]
+pub struct EncapsulatedContentInfoPlaces {
+    /// `eContentType`, `ContentType`.
+    pub e_content_type: Place,
+    /// `eContent`, `[0] EXPLICIT OCTET STRING OPTIONAL`; no octets where it is absent.
+    pub e_content: Place,
+}
+
+impl<'a> Placed for EncapsulatedContentInfo<'a> {
+    type Places = EncapsulatedContentInfoPlaces;
+
+    ghost listed = { λ p. p.e_content_type ∷ p.e_content ∷ [] };
+
+    ghost layout = { λ v.
+        field (⟦<ContentType<'a> as Form>⟧.accepts Der (fields_of.e_content_type v))
+        (optional (λ x. ⟦<Explicit<OctetStringRef<'a>, 0> as Form>⟧.accepts Der (explicit x)) (fields_of.e_content v)
+        no_more) };
+
+    fn walk(&self, octets: &[u8], start: Place) -> EncapsulatedContentInfoPlaces {
+        let e_content_type = next_place(octets, start, true);
+        let e_content = next_place(octets, e_content_type, is_there(self.e_content()));
+        EncapsulatedContentInfoPlaces {
+            e_content_type,
+            e_content,
+        }
+    }
+
+    ghost are_fields = { λ v c a.
+        let one = a in
+        let two = one.rest in
+        (first_of one (is_encoding tags.ObjectIdentifier (lit< tt) one.front one.first.0 one.first.1, one.first)
+        (first_of two (maybe (λ x. x.fields.first) (⟦<Explicit<OctetStringRef<'a>, 0> as Form>⟧.accepts Der) (λ x. ⟦<Explicit<OctetStringRef<'a>, 0> as Form>⟧.accepts Der (explicit x)) (λ x o b. (is_encoding (marker_tag 2 true 0) (marker_tag-in_range 2 true 0) o b.0 b.1, b)) v.fields.list.rest.first two.front two.first)
+        two.rest)) };
+}

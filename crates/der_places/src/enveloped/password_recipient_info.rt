@@ -1,0 +1,78 @@
+//! The fields of a PasswordRecipientInfo.
+//!
+//! Made by tools/asn1 from enveloped.asn1.
+
+ghost use Rattle.std.proofs.Common.{lit<, true};
+ghost use Rattle.std.specs.Prelude.{◌∷◌, []};
+ghost use Rattle.der_enveloped.specs.Enveloped.PasswordRecipientInfo as fields_of;
+ghost use Rattle.der_fields.specs.MarkerTags.{marker_tag, marker_tag-in_range};
+ghost use Rattle.der_places.specs.Layout.{field, implicit, no_more, optional};
+ghost use Rattle.der_places.specs.LayoutLaws.{first_of, is_encoding, maybe};
+ghost use Rattle.der_tlv.specs.declared.encoding_rules.EncodingRules.TheVariants.{Der};
+ghost use Rattle.der_tlv.specs.declared.tag.Tag.TheVariants as tags;
+
+use crate::place::Place;
+use crate::placed::Placed;
+use crate::presence::is_there;
+use crate::walk::next_place;
+use der_cms::cms::CmsVersion;
+use der_elem::Form;
+use der_enveloped::enveloped::PasswordRecipientInfo;
+use der_fields::Implicit;
+use der_opaque::OctetStringRef;
+use der_pkix::AlgorithmIdentifier;
+
+/// Where the fields of a `PasswordRecipientInfo` stand.
+#[repr(C)]
+#[derive(Clone, Copy, Debug, PartialEq, Eq)]
+pub struct PasswordRecipientInfoPlaces {
+    /// `version`, `CMSVersion`.
+    pub version: Place,
+    /// `keyDerivationAlgorithm`, `[0] AlgorithmIdentifier OPTIONAL`; no octets where it is absent.
+    pub key_derivation_algorithm: Place,
+    /// `keyEncryptionAlgorithm`, `AlgorithmIdentifier`.
+    pub key_encryption_algorithm: Place,
+    /// `encryptedKey`, `OCTET STRING`.
+    pub encrypted_key: Place,
+}
+
+impl<'a> Placed for PasswordRecipientInfo<'a> {
+    type Places = PasswordRecipientInfoPlaces;
+
+    ghost listed = { λ p. p.version ∷ p.key_derivation_algorithm ∷ p.key_encryption_algorithm ∷ p.encrypted_key ∷ [] };
+
+    ghost layout = { λ v.
+        field (⟦<CmsVersion as Form>⟧.accepts Der (fields_of.version v))
+        (optional (λ x. ⟦<Implicit<AlgorithmIdentifier<'a>, 0> as Form>⟧.accepts Der (implicit x)) (fields_of.key_derivation_algorithm v)
+        (field (⟦<AlgorithmIdentifier<'a> as Form>⟧.accepts Der (fields_of.key_encryption_algorithm v))
+        (field (⟦<OctetStringRef<'a> as Form>⟧.accepts Der (fields_of.encrypted_key v))
+        no_more))) };
+
+    fn walk(&self, octets: &[u8], start: Place) -> PasswordRecipientInfoPlaces {
+        let version = next_place(octets, start, true);
+        let key_derivation_algorithm = next_place(
+            octets,
+            version,
+            is_there(self.key_derivation_algorithm()),
+        );
+        let key_encryption_algorithm = next_place(octets, key_derivation_algorithm, true);
+        let encrypted_key = next_place(octets, key_encryption_algorithm, true);
+        PasswordRecipientInfoPlaces {
+            version,
+            key_derivation_algorithm,
+            key_encryption_algorithm,
+            encrypted_key,
+        }
+    }
+
+    ghost are_fields = { λ v c a.
+        let one = a in
+        let two = one.rest in
+        let three = two.rest in
+        let four = three.rest in
+        (first_of one (is_encoding tags.Integer (lit< tt) one.front one.first.0 one.first.1, one.first)
+        (first_of two (maybe (λ x. x.value) (⟦<Implicit<AlgorithmIdentifier<'a>, 0> as Form>⟧.accepts Der) (λ x. ⟦<Implicit<AlgorithmIdentifier<'a>, 0> as Form>⟧.accepts Der (implicit x)) (λ x o b. (is_encoding (marker_tag 2 true 0) (marker_tag-in_range 2 true 0) o b.0 b.1, b)) v.fields.list.rest.first two.front two.first)
+        (first_of three (is_encoding tags.Sequence (lit< tt) three.front three.first.0 three.first.1, three.first)
+        (first_of four (is_encoding tags.OctetString (lit< tt) four.front four.first.0 four.first.1, four.first)
+        four.rest)))) };
+}

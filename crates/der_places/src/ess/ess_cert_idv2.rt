@@ -1,0 +1,63 @@
+//! The fields of an ESSCertIDv2.
+//!
+//! Made by tools/asn1 from ess.asn1.
+
+ghost use Rattle.std.proofs.Common.{lit<};
+ghost use Rattle.std.specs.Prelude.{◌∷◌, []};
+ghost use Rattle.der_cms.specs.Ess.EssCertIdv2 as fields_of;
+ghost use Rattle.der_places.specs.Layout.{field, no_more, optional};
+ghost use Rattle.der_places.specs.LayoutLaws.{first_of, is_encoding, perhaps};
+ghost use Rattle.der_tlv.specs.declared.encoding_rules.EncodingRules.TheVariants.{Der};
+ghost use Rattle.der_tlv.specs.declared.tag.Tag.TheVariants as tags;
+
+use crate::place::Place;
+use crate::placed::Placed;
+use crate::presence::is_there;
+use crate::walk::next_place;
+use der_cms::ess::{EssCertIdv2, Hash, IssuerSerial};
+use der_elem::Form;
+use der_pkix::AlgorithmIdentifier;
+
+/// Where the fields of an `ESSCertIDv2` stand.
+#[repr(C)]
+#[derive(Clone, Copy, Debug, PartialEq, Eq)]
+pub struct EssCertIdv2Places {
+    /// `hashAlgorithm`, `AlgorithmIdentifier OPTIONAL`; no octets where it is absent.
+    pub hash_algorithm: Place,
+    /// `certHash`, `Hash`.
+    pub cert_hash: Place,
+    /// `issuerSerial`, `IssuerSerial OPTIONAL`; no octets where it is absent.
+    pub issuer_serial: Place,
+}
+
+impl<'a> Placed for EssCertIdv2<'a> {
+    type Places = EssCertIdv2Places;
+
+    ghost listed = { λ p. p.hash_algorithm ∷ p.cert_hash ∷ p.issuer_serial ∷ [] };
+
+    ghost layout = { λ v.
+        optional (⟦<AlgorithmIdentifier<'a> as Form>⟧.accepts Der) (fields_of.hash_algorithm v)
+        (field (⟦<Hash<'a> as Form>⟧.accepts Der (fields_of.cert_hash v))
+        (optional (⟦<IssuerSerial<'a> as Form>⟧.accepts Der) (fields_of.issuer_serial v)
+        no_more)) };
+
+    fn walk(&self, octets: &[u8], start: Place) -> EssCertIdv2Places {
+        let hash_algorithm = next_place(octets, start, is_there(self.hash_algorithm()));
+        let cert_hash = next_place(octets, hash_algorithm, true);
+        let issuer_serial = next_place(octets, cert_hash, is_there(self.issuer_serial()));
+        EssCertIdv2Places {
+            hash_algorithm,
+            cert_hash,
+            issuer_serial,
+        }
+    }
+
+    ghost are_fields = { λ v c a.
+        let one = a in
+        let two = one.rest in
+        let three = two.rest in
+        (first_of one (perhaps (⟦<AlgorithmIdentifier<'a> as Form>⟧.accepts Der) (λ x o b. is_encoding tags.Sequence (lit< tt) o b.0 b.1) v.fields.list.first one.front one.first)
+        (first_of two (is_encoding tags.OctetString (lit< tt) two.front two.first.0 two.first.1, two.first)
+        (first_of three (perhaps (⟦<IssuerSerial<'a> as Form>⟧.accepts Der) (λ x o b. is_encoding tags.Sequence (lit< tt) o b.0 b.1) v.fields.list.rest.rest.first three.front three.first)
+        three.rest))) };
+}

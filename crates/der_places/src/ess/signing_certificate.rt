@@ -1,0 +1,53 @@
+//! The fields of a SigningCertificate.
+//!
+//! Made by tools/asn1 from ess.asn1.
+
+ghost use Rattle.std.proofs.Common.{lit<};
+ghost use Rattle.std.specs.Prelude.{◌∷◌, []};
+ghost use Rattle.der_cms.specs.Ess.SigningCertificate as fields_of;
+ghost use Rattle.der_places.specs.Layout.{field, no_more, optional};
+ghost use Rattle.der_places.specs.LayoutLaws.{first_of, is_encoding, perhaps};
+ghost use Rattle.der_tlv.specs.declared.encoding_rules.EncodingRules.TheVariants.{Der};
+ghost use Rattle.der_tlv.specs.declared.tag.Tag.TheVariants as tags;
+
+use crate::place::Place;
+use crate::placed::Placed;
+use crate::presence::is_there;
+use crate::walk::next_place;
+use der_cms::ess::{EssCertId, SigningCertificate};
+use der_elem::Form;
+use der_extensions::extension::PolicyInformation;
+
+/// Where the fields of a `SigningCertificate` stand.
+#[repr(C)]
+#[derive(Clone, Copy, Debug, PartialEq, Eq)]
+pub struct SigningCertificatePlaces {
+    /// `certs`, `SEQUENCE OF ESSCertID`.
+    pub certs: Place,
+    /// `policies`, `SEQUENCE OF PolicyInformation OPTIONAL`; no octets where it is absent.
+    pub policies: Place,
+}
+
+impl<'a> Placed for SigningCertificate<'a> {
+    type Places = SigningCertificatePlaces;
+
+    ghost listed = { λ p. p.certs ∷ p.policies ∷ [] };
+
+    ghost layout = { λ v.
+        field (⟦<Vec<EssCertId<'a>> as Form>⟧.accepts Der (fields_of.certs v))
+        (optional (⟦<Vec<PolicyInformation<'a>> as Form>⟧.accepts Der) (fields_of.policies v)
+        no_more) };
+
+    fn walk(&self, octets: &[u8], start: Place) -> SigningCertificatePlaces {
+        let certs = next_place(octets, start, true);
+        let policies = next_place(octets, certs, is_there(self.policies()));
+        SigningCertificatePlaces { certs, policies }
+    }
+
+    ghost are_fields = { λ v c a.
+        let one = a in
+        let two = one.rest in
+        (first_of one (is_encoding tags.Sequence (lit< tt) one.front one.first.0 one.first.1, one.first)
+        (first_of two (perhaps (⟦<Vec<PolicyInformation<'a>> as Form>⟧.accepts Der) (λ x o b. is_encoding tags.Sequence (lit< tt) o b.0 b.1) v.fields.list.rest.first two.front two.first)
+        two.rest)) };
+}

@@ -1,0 +1,52 @@
+//! The fields of an Attribute.
+//!
+//! Made by tools/asn1 from name.asn1.
+
+ghost use Rattle.std.proofs.Common.{lit<};
+ghost use Rattle.std.specs.Prelude.{◌∷◌, []};
+ghost use Rattle.der_pkix.specs.Name.Attribute as fields_of;
+ghost use Rattle.der_places.specs.Layout.{field, no_more};
+ghost use Rattle.der_places.specs.LayoutLaws.{first_of, is_encoding};
+ghost use Rattle.der_tlv.specs.declared.encoding_rules.EncodingRules.TheVariants.{Der};
+ghost use Rattle.der_tlv.specs.declared.tag.Tag.TheVariants as tags;
+
+use crate::place::Place;
+use crate::placed::Placed;
+use crate::walk::next_place;
+use der_elem::Form;
+use der_nest::ItemSet;
+use der_pkix::name::{Attribute, AttributeType, AttributeValue, AttributeValueOrder};
+
+/// Where the fields of an `Attribute` stand.
+#[repr(C)]
+#[derive(Clone, Copy, Debug, PartialEq, Eq)]
+pub struct AttributePlaces {
+    /// `type`, `AttributeType`.
+    pub type_: Place,
+    /// `values`, `SET OF AttributeValue`.
+    pub values: Place,
+}
+
+impl<'a> Placed for Attribute<'a> {
+    type Places = AttributePlaces;
+
+    ghost listed = { λ p. p.type_ ∷ p.values ∷ [] };
+
+    ghost layout = { λ v.
+        field (⟦<AttributeType<'a> as Form>⟧.accepts Der (fields_of.type_ v))
+        (field (⟦<ItemSet<AttributeValue<'a>, AttributeValueOrder> as Form>⟧.accepts Der (fields_of.values v))
+        no_more) };
+
+    fn walk(&self, octets: &[u8], start: Place) -> AttributePlaces {
+        let type_ = next_place(octets, start, true);
+        let values = next_place(octets, type_, true);
+        AttributePlaces { type_, values }
+    }
+
+    ghost are_fields = { λ v c a.
+        let one = a in
+        let two = one.rest in
+        (first_of one (is_encoding tags.ObjectIdentifier (lit< tt) one.front one.first.0 one.first.1, one.first)
+        (first_of two (is_encoding tags.Set (lit< tt) two.front two.first.0 two.first.1, two.first)
+        two.rest)) };
+}

@@ -1,0 +1,54 @@
+//! The fields of an AttributeTypeAndValue.
+//!
+//! Made by tools/asn1 from name.asn1.
+
+ghost use Rattle.std.proofs.Common.{lit<};
+ghost use Rattle.std.specs.Prelude.{◌∷◌, []};
+ghost use Rattle.der_pkix.specs.Name.AttributeTypeAndValue as fields_of;
+ghost use Rattle.der_places.specs.Layout.{field, no_more};
+ghost use Rattle.der_places.specs.LayoutLaws.{first_of, is_encoding};
+ghost use Rattle.der_tlv.specs.declared.encoding_rules.EncodingRules.TheVariants.{Der};
+ghost use Rattle.der_tlv.specs.declared.tag.Tag.TheVariants as tags;
+
+use crate::place::Place;
+use crate::placed::Placed;
+use crate::walk::next_place;
+use der_elem::Form;
+use der_pkix::name::{AttributeType, AttributeTypeAndValue, AttributeValue};
+
+/// Where the fields of an `AttributeTypeAndValue` stand.
+#[repr(C)]
+#[derive(Clone, Copy, Debug, PartialEq, Eq)]
+pub struct AttributeTypeAndValuePlaces {
+    /// `type`, `AttributeType`.
+    pub type_: Place,
+    /// `value`, `AttributeValue`.
+    pub value: Place,
+}
+
+impl<'a> Placed for AttributeTypeAndValue<'a> {
+    type Places = AttributeTypeAndValuePlaces;
+
+    ghost listed = { λ p. p.type_ ∷ p.value ∷ [] };
+
+    ghost layout = { λ v.
+        field (⟦<AttributeType<'a> as Form>⟧.accepts Der (fields_of.type_ v))
+        (field (⟦<AttributeValue<'a> as Form>⟧.accepts Der (fields_of.value v))
+        no_more) };
+
+    fn walk(&self, octets: &[u8], start: Place) -> AttributeTypeAndValuePlaces {
+        let type_ = next_place(octets, start, true);
+        let value_ = next_place(octets, type_, true);
+        AttributeTypeAndValuePlaces {
+            type_,
+            value: value_,
+        }
+    }
+
+    ghost are_fields = { λ v c a.
+        let one = a in
+        let two = one.rest in
+        (first_of one (is_encoding tags.ObjectIdentifier (lit< tt) one.front one.first.0 one.first.1, one.first)
+        (first_of two (is_encoding _ two.first.0 two.front _ two.first.1, two.first)
+        two.rest)) };
+}

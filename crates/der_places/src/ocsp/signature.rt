@@ -1,0 +1,67 @@
+//! The fields of a Signature.
+//!
+//! Made by tools/asn1 from ocsp.asn1.
+
+ghost use Rattle.std.proofs.Common.{lit<, true};
+ghost use Rattle.std.specs.Prelude.{◌∷◌, []};
+ghost use Rattle.der_fields.specs.MarkerTags.{marker_tag, marker_tag-in_range};
+ghost use Rattle.der_ocsp.specs.Ocsp.Signature as fields_of;
+ghost use Rattle.der_ocsp.specs.declared.ocsp.explicit0_certificates.Explicit0Certificates.{Explicit0Certificates};
+ghost use Rattle.der_places.specs.Layout.{explicit, field, no_more, optional};
+ghost use Rattle.der_places.specs.LayoutLaws.{first_of, is_encoding, maybe};
+ghost use Rattle.der_tlv.specs.declared.encoding_rules.EncodingRules.TheVariants.{Der};
+ghost use Rattle.der_tlv.specs.declared.tag.Tag.TheVariants as tags;
+
+use crate::place::Place;
+use crate::placed::Placed;
+use crate::presence::is_there;
+use crate::walk::next_place;
+use der_bits::BitStringRef;
+use der_elem::Form;
+use der_fields::Explicit;
+use der_ocsp::ocsp::{Certificates, Signature};
+use der_pkix::AlgorithmIdentifier;
+
+/// Where the fields of a `Signature` stand.
+#[repr(C)]
+#[derive(Clone, Copy, Debug, PartialEq, Eq)]
+pub struct SignaturePlaces {
+    /// `signatureAlgorithm`, `AlgorithmIdentifier`.
+    pub signature_algorithm: Place,
+    /// `signature`, `BIT STRING`.
+    pub signature: Place,
+    /// `certs`, `[0] EXPLICIT Certificates OPTIONAL`; no octets where it is absent.
+    pub certs: Place,
+}
+
+impl<'a> Placed for Signature<'a> {
+    type Places = SignaturePlaces;
+
+    ghost listed = { λ p. p.signature_algorithm ∷ p.signature ∷ p.certs ∷ [] };
+
+    ghost layout = { λ v.
+        field (⟦<AlgorithmIdentifier<'a> as Form>⟧.accepts Der (fields_of.signature_algorithm v))
+        (field (⟦<BitStringRef<'a> as Form>⟧.accepts Der (fields_of.signature v))
+        (optional (λ x. ⟦<Explicit<Certificates<'a>, 0> as Form>⟧.accepts Der (explicit x)) (fields_of.certs v)
+        no_more)) };
+
+    fn walk(&self, octets: &[u8], start: Place) -> SignaturePlaces {
+        let signature_algorithm = next_place(octets, start, true);
+        let signature = next_place(octets, signature_algorithm, true);
+        let certs = next_place(octets, signature, is_there(self.certs()));
+        SignaturePlaces {
+            signature_algorithm,
+            signature,
+            certs,
+        }
+    }
+
+    ghost are_fields = { λ v c a.
+        let one = a in
+        let two = one.rest in
+        let three = two.rest in
+        (first_of one (is_encoding tags.Sequence (lit< tt) one.front one.first.0 one.first.1, one.first)
+        (first_of two (is_encoding tags.BitStringWithNamedBits (lit< tt) two.front two.first.0 two.first.1, two.first)
+        (first_of three (maybe (λ x. x.fields.list.first) (λ (x : Explicit0Certificates). ⟦<Explicit<Certificates<'a>, 0> as Form>⟧.accepts Der (explicit x.fields.list.first)) (λ x. ⟦<Explicit<Certificates<'a>, 0> as Form>⟧.accepts Der (explicit x)) (λ x o b. (is_encoding (marker_tag 2 true 0) (marker_tag-in_range 2 true 0) o b.0 b.1, b)) v.fields.list.rest.rest.first three.front three.first)
+        three.rest))) };
+}

@@ -1,0 +1,85 @@
+//! The fields of a TBSRequest.
+//!
+//! Made by tools/asn1 from ocsp.asn1.
+
+ghost use Rattle.std.proofs.Common.{lit<, true};
+ghost use Rattle.std.specs.Prelude.{◌∷◌, []};
+ghost use Rattle.der_fields.specs.Defaults.{is_default};
+ghost use Rattle.der_fields.specs.MarkerTags.{marker_tag, marker_tag-in_range};
+ghost use Rattle.der_ocsp.specs.Ocsp.TbsRequest as fields_of;
+ghost use Rattle.der_ocsp.specs.declared.ocsp.explicit1_general_name.Explicit1GeneralName.{Explicit1GeneralName};
+ghost use Rattle.der_ocsp.specs.declared.ocsp.explicit2_extensions.Explicit2Extensions.{Explicit2Extensions};
+ghost use Rattle.der_places.specs.Layout.{explicit, field, no_more, optional, unless};
+ghost use Rattle.der_places.specs.LayoutLaws.{besides, first_of, is_encoding, maybe};
+ghost use Rattle.der_tlv.specs.declared.encoding_rules.EncodingRules.TheVariants.{Der};
+ghost use Rattle.der_tlv.specs.declared.tag.Tag.TheVariants as tags;
+
+use crate::place::Place;
+use crate::placed::Placed;
+use crate::presence::is_there;
+use crate::walk::next_place;
+use der_elem::Form;
+use der_extensions::extension::GeneralName;
+use der_fields::{DefaultNumber, DefaultOf, End, Explicit, Field};
+use der_ocsp::ocsp::{Requests, TbsRequest, Version};
+use der_pkix::certificate::Extensions;
+
+/// Where the fields of a `TBSRequest` stand.
+#[repr(C)]
+#[derive(Clone, Copy, Debug, PartialEq, Eq)]
+pub struct TbsRequestPlaces {
+    /// `version`, `[0] EXPLICIT Version DEFAULT v1`; no octets where it is the default.
+    pub version: Place,
+    /// `requestorName`, `[1] EXPLICIT GeneralName OPTIONAL`; no octets where it is absent.
+    pub requestor_name: Place,
+    /// `requestList`, `Requests`.
+    pub request_list: Place,
+    /// `requestExtensions`, `[2] EXPLICIT Extensions OPTIONAL`; no octets where it is absent.
+    pub request_extensions: Place,
+}
+
+impl<'a> Placed for TbsRequest<'a> {
+    type Places = TbsRequestPlaces;
+
+    ghost listed = { λ p. p.version ∷ p.requestor_name ∷ p.request_list ∷ p.request_extensions ∷ [] };
+
+    ghost layout = { λ v.
+        unless (is_default ⟦<DefaultNumber<0> as DefaultOf<Explicit<Version, 0>>>⟧.octets (⟦<Explicit<Version, 0> as Form>⟧.encoding (explicit (fields_of.version v)))) (⟦<Explicit<Version, 0> as Form>⟧.accepts Der (explicit (fields_of.version v)))
+        (optional (λ x. ⟦<Explicit<GeneralName<'a>, 1> as Form>⟧.accepts Der (explicit x)) (fields_of.requestor_name v)
+        (field (⟦<Requests<'a> as Form>⟧.accepts Der (fields_of.request_list v))
+        (optional (λ x. ⟦<Explicit<Extensions<'a>, 2> as Form>⟧.accepts Der (explicit x)) (fields_of.request_extensions v)
+        no_more))) };
+
+    fn walk(&self, octets: &[u8], start: Place) -> TbsRequestPlaces {
+        let first = self.version();
+        let tagged: Explicit<Version, 0> = Explicit {
+            fields: Field { first, rest: End },
+        };
+        let is_default = <DefaultNumber<0> as DefaultOf<Explicit<Version, 0>>>::is_default(&tagged);
+        let version = next_place(octets, start, !is_default);
+        let requestor_name = next_place(octets, version, is_there(self.requestor_name()));
+        let request_list = next_place(octets, requestor_name, true);
+        let request_extensions = next_place(
+            octets,
+            request_list,
+            is_there(self.request_extensions()),
+        );
+        TbsRequestPlaces {
+            version,
+            requestor_name,
+            request_list,
+            request_extensions,
+        }
+    }
+
+    ghost are_fields = { λ v c a.
+        let one = a in
+        let two = one.rest in
+        let three = two.rest in
+        let four = three.rest in
+        (first_of one (besides (is_default ⟦<DefaultNumber<0> as DefaultOf<Explicit<Version, 0>>>⟧.octets (⟦<Explicit<Version, 0> as Form>⟧.encoding (explicit (fields_of.version v)))) (⟦<Explicit<Version, 0> as Form>⟧.readable (explicit (fields_of.version v))) (⟦<Explicit<Version, 0> as Form>⟧.accepts Der (explicit (fields_of.version v))) (λ o b. is_encoding (marker_tag 2 true 0) (marker_tag-in_range 2 true 0) o b.0 b.1) one.front one.first)
+        (first_of two (maybe (λ x. x.fields.list.first) (λ (x : Explicit1GeneralName). ⟦<Explicit<GeneralName<'a>, 1> as Form>⟧.accepts Der (explicit x.fields.list.first)) (λ x. ⟦<Explicit<GeneralName<'a>, 1> as Form>⟧.accepts Der (explicit x)) (λ x o b. (is_encoding (marker_tag 2 true 1) (marker_tag-in_range 2 true 1) o b.0 b.1, b)) v.fields.list.rest.first two.front two.first)
+        (first_of three (is_encoding tags.Sequence (lit< tt) three.front three.first.0 three.first.1, three.first)
+        (first_of four (maybe (λ x. x.fields.list.first) (λ (x : Explicit2Extensions). ⟦<Explicit<Extensions<'a>, 2> as Form>⟧.accepts Der (explicit x.fields.list.first)) (λ x. ⟦<Explicit<Extensions<'a>, 2> as Form>⟧.accepts Der (explicit x)) (λ x o b. (is_encoding (marker_tag 2 true 2) (marker_tag-in_range 2 true 2) o b.0 b.1, b)) v.fields.list.rest.rest.rest.first four.front four.first)
+        four.rest)))) };
+}

@@ -1,0 +1,56 @@
+//! The fields of a DigestInfo.
+//!
+//! Made by tools/asn1 from pkcs12.asn1.
+
+ghost use Rattle.std.proofs.Common.{lit<};
+ghost use Rattle.std.specs.Prelude.{◌∷◌, []};
+ghost use Rattle.der_pkcs.specs.Pkcs12.DigestInfo as fields_of;
+ghost use Rattle.der_places.specs.Layout.{field, no_more};
+ghost use Rattle.der_places.specs.LayoutLaws.{first_of, is_encoding};
+ghost use Rattle.der_tlv.specs.declared.encoding_rules.EncodingRules.TheVariants.{Der};
+ghost use Rattle.der_tlv.specs.declared.tag.Tag.TheVariants as tags;
+
+use crate::place::Place;
+use crate::placed::Placed;
+use crate::walk::next_place;
+use der_elem::Form;
+use der_opaque::OctetStringRef;
+use der_pkcs::pkcs12::DigestInfo;
+use der_pkix::AlgorithmIdentifier;
+
+/// Where the fields of a `DigestInfo` stand.
+#[repr(C)]
+#[derive(Clone, Copy, Debug, PartialEq, Eq)]
+pub struct DigestInfoPlaces {
+    /// `digestAlgorithm`, `AlgorithmIdentifier`.
+    pub digest_algorithm: Place,
+    /// `digest`, `OCTET STRING`.
+    pub digest: Place,
+}
+
+impl<'a> Placed for DigestInfo<'a> {
+    type Places = DigestInfoPlaces;
+
+    ghost listed = { λ p. p.digest_algorithm ∷ p.digest ∷ [] };
+
+    ghost layout = { λ v.
+        field (⟦<AlgorithmIdentifier<'a> as Form>⟧.accepts Der (fields_of.digest_algorithm v))
+        (field (⟦<OctetStringRef<'a> as Form>⟧.accepts Der (fields_of.digest v))
+        no_more) };
+
+    fn walk(&self, octets: &[u8], start: Place) -> DigestInfoPlaces {
+        let digest_algorithm = next_place(octets, start, true);
+        let digest = next_place(octets, digest_algorithm, true);
+        DigestInfoPlaces {
+            digest_algorithm,
+            digest,
+        }
+    }
+
+    ghost are_fields = { λ v c a.
+        let one = a in
+        let two = one.rest in
+        (first_of one (is_encoding tags.Sequence (lit< tt) one.front one.first.0 one.first.1, one.first)
+        (first_of two (is_encoding tags.OctetString (lit< tt) two.front two.first.0 two.first.1, two.first)
+        two.rest)) };
+}

@@ -1,0 +1,9 @@
+//! Where the fields of the types of PKCS-10 stand.
+//!
+//! Made by tools/asn1 from request.asn1.
+
+mod certification_request;
+mod certification_request_info;
+
+pub use certification_request::CertificationRequestPlaces;
+pub use certification_request_info::CertificationRequestInfoPlaces;

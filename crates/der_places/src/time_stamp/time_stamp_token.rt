@@ -1,0 +1,57 @@
+//! The fields of a TimeStampToken.
+//!
+//! Made by tools/asn1 from time_stamp.asn1.
+
+ghost use Rattle.std.proofs.Common.{lit<, true};
+ghost use Rattle.std.specs.Prelude.{◌∷◌, []};
+ghost use Rattle.der_fields.specs.MarkerTags.{marker_tag, marker_tag-in_range};
+ghost use Rattle.der_places.specs.Layout.{explicit, field, no_more};
+ghost use Rattle.der_places.specs.LayoutLaws.{first_of, is_encoding};
+ghost use Rattle.der_time_stamp.specs.TimeStamp.TimeStampToken as fields_of;
+ghost use Rattle.der_tlv.specs.declared.encoding_rules.EncodingRules.TheVariants.{Der};
+ghost use Rattle.der_tlv.specs.declared.tag.Tag.TheVariants as tags;
+
+use crate::place::Place;
+use crate::placed::Placed;
+use crate::walk::next_place;
+use der_elem::Form;
+use der_fields::Explicit;
+use der_opaque::{AnyRef, ObjectIdentifierRef};
+use der_time_stamp::time_stamp::TimeStampToken;
+
+/// Where the fields of a `TimeStampToken` stand.
+#[repr(C)]
+#[derive(Clone, Copy, Debug, PartialEq, Eq)]
+pub struct TimeStampTokenPlaces {
+    /// `contentType`, `OBJECT IDENTIFIER`.
+    pub content_type: Place,
+    /// `content`, `[0] EXPLICIT ANY DEFINED BY contentType`.
+    pub content: Place,
+}
+
+impl<'a> Placed for TimeStampToken<'a> {
+    type Places = TimeStampTokenPlaces;
+
+    ghost listed = { λ p. p.content_type ∷ p.content ∷ [] };
+
+    ghost layout = { λ v.
+        field (⟦<ObjectIdentifierRef<'a, 39> as Form>⟧.accepts Der (fields_of.content_type v))
+        (field (⟦<Explicit<AnyRef<'a>, 0> as Form>⟧.accepts Der (explicit (fields_of.content v)))
+        no_more) };
+
+    fn walk(&self, octets: &[u8], start: Place) -> TimeStampTokenPlaces {
+        let content_type = next_place(octets, start, true);
+        let content = next_place(octets, content_type, true);
+        TimeStampTokenPlaces {
+            content_type,
+            content,
+        }
+    }
+
+    ghost are_fields = { λ v c a.
+        let one = a in
+        let two = one.rest in
+        (first_of one (is_encoding tags.ObjectIdentifier (lit< tt) one.front one.first.0 one.first.1, one.first)
+        (first_of two (is_encoding (marker_tag 2 true 0) (marker_tag-in_range 2 true 0) two.front two.first.0 two.first.1, two.first)
+        two.rest)) };
+}

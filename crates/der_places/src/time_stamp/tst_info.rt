@@ -1,0 +1,121 @@
+//! The fields of a TSTInfo.
+//!
+//! Made by tools/asn1 from time_stamp.asn1.
+
+ghost use Rattle.std.proofs.Common.{lit<, true};
+ghost use Rattle.std.specs.Prelude.{◌∷◌, []};
+ghost use Rattle.der_fields.specs.Defaults.{is_default};
+ghost use Rattle.der_fields.specs.MarkerTags.{marker_tag, marker_tag-in_range};
+ghost use Rattle.der_places.specs.Layout.{explicit, field, implicit, no_more, optional, unless};
+ghost use Rattle.der_places.specs.LayoutLaws.{besides, first_of, is_encoding, maybe, perhaps};
+ghost use Rattle.der_time_stamp.specs.TimeStamp.TstInfo as fields_of;
+ghost use Rattle.der_time_stamp.specs.declared.time_stamp.explicit0_general_name.Explicit0GeneralName.{Explicit0GeneralName};
+ghost use Rattle.der_tlv.specs.declared.encoding_rules.EncodingRules.TheVariants.{Der};
+ghost use Rattle.der_tlv.specs.declared.tag.Tag.TheVariants as tags;
+
+use crate::place::Place;
+use crate::placed::Placed;
+use crate::presence::{is_some, is_there};
+use crate::walk::next_place;
+use der_elem::Form;
+use der_extensions::extension::GeneralName;
+use der_fields::{DefaultFalse, DefaultOf, Explicit, Implicit};
+use der_numbers::IntRef;
+use der_pkix::certificate::Extensions;
+use der_time::GeneralizedTime;
+use der_time_stamp::time_stamp::{Accuracy, MessageImprint, TsaPolicyId, TstInfo, TstInfoVersion};
+
+/// Where the fields of a `TSTInfo` stand.
+#[repr(C)]
+#[derive(Clone, Copy, Debug, PartialEq, Eq)]
+pub struct TstInfoPlaces {
+    /// `version`, `INTEGER { v1 (1) }`.
+    pub version: Place,
+    /// `policy`, `TSAPolicyId`.
+    pub policy: Place,
+    /// `messageImprint`, `MessageImprint`.
+    pub message_imprint: Place,
+    /// `serialNumber`, `INTEGER`.
+    pub serial_number: Place,
+    /// `genTime`, `GeneralizedTime`.
+    pub gen_time: Place,
+    /// `accuracy`, `Accuracy OPTIONAL`; no octets where it is absent.
+    pub accuracy: Place,
+    /// `ordering`, `BOOLEAN DEFAULT FALSE`; no octets where it is the default.
+    pub ordering: Place,
+    /// `nonce`, `INTEGER OPTIONAL`; no octets where it is absent.
+    pub nonce: Place,
+    /// `tsa`, `[0] GeneralName OPTIONAL`; no octets where it is absent.
+    pub tsa: Place,
+    /// `extensions`, `[1] IMPLICIT Extensions OPTIONAL`; no octets where it is absent.
+    pub extensions: Place,
+}
+
+impl<'a> Placed for TstInfo<'a> {
+    type Places = TstInfoPlaces;
+
+    ghost listed = { λ p. p.version ∷ p.policy ∷ p.message_imprint ∷ p.serial_number ∷ p.gen_time ∷ p.accuracy ∷ p.ordering ∷ p.nonce ∷ p.tsa ∷ p.extensions ∷ [] };
+
+    ghost layout = { λ v.
+        field (⟦<TstInfoVersion as Form>⟧.accepts Der (fields_of.version v))
+        (field (⟦<TsaPolicyId<'a> as Form>⟧.accepts Der (fields_of.policy v))
+        (field (⟦<MessageImprint<'a> as Form>⟧.accepts Der (fields_of.message_imprint v))
+        (field (⟦<IntRef<'a> as Form>⟧.accepts Der (fields_of.serial_number v))
+        (field (⟦<GeneralizedTime as Form>⟧.accepts Der (fields_of.gen_time v))
+        (optional (⟦<Accuracy as Form>⟧.accepts Der) (fields_of.accuracy v)
+        (unless (is_default ⟦<DefaultFalse as DefaultOf<bool>>⟧.octets (⟦<bool as Form>⟧.encoding (fields_of.ordering v))) (⟦<bool as Form>⟧.accepts Der (fields_of.ordering v))
+        (optional (⟦<IntRef<'a> as Form>⟧.accepts Der) (fields_of.nonce v)
+        (optional (λ x. ⟦<Explicit<GeneralName<'a>, 0> as Form>⟧.accepts Der (explicit x)) (fields_of.tsa v)
+        (optional (λ x. ⟦<Implicit<Extensions<'a>, 1> as Form>⟧.accepts Der (implicit x)) (fields_of.extensions v)
+        no_more))))))))) };
+
+    fn walk(&self, octets: &[u8], start: Place) -> TstInfoPlaces {
+        let version = next_place(octets, start, true);
+        let policy = next_place(octets, version, true);
+        let message_imprint = next_place(octets, policy, true);
+        let serial_number = next_place(octets, message_imprint, true);
+        let gen_time = next_place(octets, serial_number, true);
+        let accuracy = next_place(octets, gen_time, is_some(self.accuracy()));
+        let value = self.ordering();
+        let is_default = <DefaultFalse as DefaultOf<bool>>::is_default(&value);
+        let ordering = next_place(octets, accuracy, !is_default);
+        let nonce = next_place(octets, ordering, is_there(self.nonce()));
+        let tsa = next_place(octets, nonce, is_there(self.tsa()));
+        let extensions = next_place(octets, tsa, is_there(self.extensions()));
+        TstInfoPlaces {
+            version,
+            policy,
+            message_imprint,
+            serial_number,
+            gen_time,
+            accuracy,
+            ordering,
+            nonce,
+            tsa,
+            extensions,
+        }
+    }
+
+    ghost are_fields = { λ v c a.
+        let one = a in
+        let two = one.rest in
+        let three = two.rest in
+        let four = three.rest in
+        let five = four.rest in
+        let six = five.rest in
+        let seven = six.rest in
+        let eight = seven.rest in
+        let nine = eight.rest in
+        let ten = nine.rest in
+        (first_of one (is_encoding tags.Integer (lit< tt) one.front one.first.0 one.first.1, one.first)
+        (first_of two (is_encoding tags.ObjectIdentifier (lit< tt) two.front two.first.0 two.first.1, two.first)
+        (first_of three (is_encoding tags.Sequence (lit< tt) three.front three.first.0 three.first.1, three.first)
+        (first_of four (is_encoding tags.Integer (lit< tt) four.front four.first.0 four.first.1, four.first)
+        (first_of five (is_encoding tags.GeneralizedTime (lit< tt) five.front five.first.0 five.first.1, five.first)
+        (first_of six (perhaps (⟦<Accuracy as Form>⟧.accepts Der) (λ x o b. is_encoding tags.Sequence (lit< tt) o b.0 b.1) v.fields.list.rest.rest.rest.rest.rest.first six.front six.first)
+        (first_of seven (besides (is_default ⟦<DefaultFalse as DefaultOf<bool>>⟧.octets (⟦<bool as Form>⟧.encoding (fields_of.ordering v))) (⟦<bool as Form>⟧.readable (fields_of.ordering v)) (⟦<bool as Form>⟧.accepts Der (fields_of.ordering v)) (λ o b. is_encoding tags.Boolean (lit< tt) o b.0 b.1) seven.front seven.first)
+        (first_of eight (perhaps (⟦<IntRef<'a> as Form>⟧.accepts Der) (λ x o b. is_encoding tags.Integer (lit< tt) o b.0 b.1) v.fields.list.rest.rest.rest.rest.rest.rest.rest.first eight.front eight.first)
+        (first_of nine (maybe (λ x. x.fields.list.first) (λ (x : Explicit0GeneralName). ⟦<Explicit<GeneralName<'a>, 0> as Form>⟧.accepts Der (explicit x.fields.list.first)) (λ x. ⟦<Explicit<GeneralName<'a>, 0> as Form>⟧.accepts Der (explicit x)) (λ x o b. (is_encoding (marker_tag 2 true 0) (marker_tag-in_range 2 true 0) o b.0 b.1, b)) v.fields.list.rest.rest.rest.rest.rest.rest.rest.rest.list.first nine.front nine.first)
+        (first_of ten (maybe (λ x. x.value) (⟦<Implicit<Extensions<'a>, 1> as Form>⟧.accepts Der) (λ x. ⟦<Implicit<Extensions<'a>, 1> as Form>⟧.accepts Der (implicit x)) (λ x o b. (is_encoding (marker_tag 2 true 1) (marker_tag-in_range 2 true 1) o b.0 b.1, b)) v.fields.list.rest.rest.rest.rest.rest.rest.rest.rest.list.rest.first ten.front ten.first)
+        ten.rest)))))))))) };
+}
