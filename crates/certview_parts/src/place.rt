@@ -1,9 +1,8 @@
 //! Where values stand in octets, and the octets that stand there.
 
 use crate::page::Inner;
-use der_places::contents_of;
-
 pub use der_places::Place;
+use der_places::contents_of;
 
 /// The place of a message: all of the octets.
 pub fn place_of_all(octets: &[u8]) -> Place {

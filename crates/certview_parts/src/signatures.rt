@@ -23,7 +23,13 @@ pub fn push_signature_rows(
     place: &Place,
     signature: &BitStringRef<'_>,
 ) -> Result<(), AllocError> {
-    push_algorithm(alloc, page, algorithm_place, "signature algorithm", algorithm)?;
+    push_algorithm(
+        alloc,
+        page,
+        algorithm_place,
+        "signature algorithm",
+        algorithm,
+    )?;
     push_label(page, place, "signature")?;
     push_bits(page, signature)?;
     page.text.push('\n')

@@ -25,7 +25,8 @@ use der_asn1_types::FromDer;
 use der_asn1_types::asn1::{BitStringRef, IntRef};
 use der_pkix::certificate::laws::grammar_of_certificate;
 use der_pkix::certificate::{Certificate, TbsCertificate};
-use der_places::{TbsCertificatePlaces, places_of};
+use der_places::certificate::TbsCertificatePlaces;
+use der_places::places_of;
 use std::alloc::{AllocError, Global};
 use std::fmt::Write;
 

@@ -55,9 +55,7 @@ fn push_fields(
             push_label(page, &whole, "curve")?;
             page.text.push_str("implicit\n")
         }
-        EcParameters::SpecifiedCurve(domain) => {
-            push_domain(alloc, page, octets, &whole, domain)
-        }
+        EcParameters::SpecifiedCurve(domain) => { push_domain(alloc, page, octets, &whole, domain) }
     }
 }
 

@@ -6,10 +6,9 @@ use certview_parts::page::Page;
 use certview_parts::place::{Place, nowhere};
 use der_pkix::certificate::{Certificate, Extension, Extensions};
 use der_pkix::crl::CertificateList;
-use der_places::{
-    CertificateListPlaces, CertificatePlaces, TbsCertListPlaces, TbsCertificatePlaces, contents_of,
-    places_of,
-};
+use der_places::certificate::{CertificatePlaces, TbsCertificatePlaces};
+use der_places::crl::{CertificateListPlaces, TbsCertListPlaces};
+use der_places::{contents_of, places_of};
 use der_verify::{CertificateRule, ListRule, check_certificate, check_list};
 use std::alloc::{AllocError, Global};
 use std::fmt::Write;
@@ -41,7 +40,13 @@ pub fn push_certificate_findings(
     for rule in rules.as_slice() {
         let finding = certificate_finding(*rule);
         let field = place_in_certificate(&at, &within, finding.field);
-        let place = place_of(octets, field, &within.extensions, signed.extensions(), &finding);
+        let place = place_of(
+            octets,
+            field,
+            &within.extensions,
+            signed.extensions(),
+            &finding,
+        );
         push_finding(page, &place, rule.section(), &finding)?;
     }
     Ok(())

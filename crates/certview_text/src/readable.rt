@@ -195,7 +195,13 @@ fn push_algorithm_part(
     site: &Site,
 ) -> Result<(), AllocError> {
     match AlgorithmIdentifier::from_der(alloc, octets_of(octets, &site.extent)) {
-        Ok(algorithm) => push_algorithm(alloc, page, &site.place(), "signature algorithm", &algorithm),
+        Ok(algorithm) => push_algorithm(
+            alloc,
+            page,
+            &site.place(),
+            "signature algorithm",
+            &algorithm,
+        ),
         Err(error) => {
             push_label(page, &site.place(), "signature algorithm")?;
             push_malformed(page, site.extent.begin, error)?;

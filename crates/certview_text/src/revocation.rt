@@ -26,7 +26,8 @@ use der_asn1_types::FromDer;
 use der_pkix::certificate::Extension;
 use der_pkix::crl::laws::grammar_of_certificate_list;
 use der_pkix::crl::{CertificateList, RevokedCertificate, TbsCertList};
-use der_places::{TbsCertListPlaces, places_of};
+use der_places::crl::TbsCertListPlaces;
+use der_places::places_of;
 use std::alloc::{AllocError, Global};
 
 /// Adds the fields of the list of revoked certificates that these octets are, a line each.
