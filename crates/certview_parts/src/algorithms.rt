@@ -6,13 +6,13 @@ use crate::labels::push_label;
 use crate::names::push_encoding;
 use crate::page::{Page, push_malformed};
 use crate::place::Place;
-use crate::site::Site;
 use crate::values::sizes;
 use der_asn1_types::asn1::{AnyRef, BitStringRef, UintRef};
 use der_asn1_types::{FromDer, Tag};
 use der_pkix::AlgorithmIdentifier;
 use der_pkix::certificate::SubjectPublicKeyInfo;
 use der_pkix::key::RsaPublicKey;
+use der_places::{contents_of, places_of};
 use std::alloc::{AllocError, Global};
 use std::fmt::Write;
 
@@ -33,11 +33,11 @@ const DSA: [u8; 7] = [0x2a, 0x86, 0x48, 0xce, 0x38, 0x04, 0x01];
 pub fn push_algorithm(
     alloc: Global,
     page: &mut Page,
-    site: &Site,
+    place: &Place,
     label: &str,
     algorithm: &AlgorithmIdentifier<'_>,
 ) -> Result<(), AllocError> {
-    push_label(page, &site.place, label)?;
+    push_label(page, place, label)?;
     push_identifier(alloc, page, algorithm.oid.as_bytes())?;
     if let Some(parameters) = &algorithm.parameters {
         push_parameters(alloc, page, parameters)?;
@@ -69,17 +69,17 @@ pub fn push_key(
     alloc: Global,
     page: &mut Page,
     octets: &[u8],
-    site: &Site,
+    place: &Place,
     key: &SubjectPublicKeyInfo<'_>,
 ) -> Result<(), AllocError> {
-    let algorithm = site.field(octets, "algorithm");
-    push_algorithm(alloc, page, &algorithm, "key algorithm", key.algorithm())?;
-    let place = site.field(octets, "subjectPublicKey").place;
-    push_label(page, &place, "key")?;
+    let at = places_of(key, octets, place.offset);
+    push_algorithm(alloc, page, &at.algorithm, "key algorithm", key.algorithm())?;
+    push_label(page, &at.subject_public_key, "key")?;
     let bits = key.subject_public_key();
     match key.algorithm().oid.as_bytes() {
         oid if oid == RSA_ENCRYPTION.as_slice() || oid == RSASSA_PSS.as_slice() => {
-            push_rsa_key(alloc, page, &place, bits.raw_bytes())?
+            let begin = contents_of(octets, at.subject_public_key).offset as usize;
+            push_rsa_key(alloc, page, begin.saturating_add(1), bits.raw_bytes())?
         }
         oid if oid == EC_PUBLIC_KEY.as_slice() => {
             push_point(alloc, page, key.algorithm(), bits)?
@@ -97,11 +97,11 @@ fn push_bits_of(page: &mut Page, bits: usize, key: &BitStringRef<'_>) -> Result<
 }
 
 /// Adds the bits of the modulus, the exponent and the modulus of a key of RSA (RFC 3279 section 2.3.1),
-/// whose encoding the BIT STRING at this place holds, after the octet of its unused bits.
+/// before whose encoding so many octets of the message stand.
 fn push_rsa_key(
     alloc: Global,
     page: &mut Page,
-    place: &Place,
+    begin: usize,
     octets: &[u8],
 ) -> Result<(), AllocError> {
     match RsaPublicKey::from_der(alloc, octets) {
@@ -112,7 +112,7 @@ fn push_rsa_key(
             page.text.push_str(", modulus ")?;
             push_digits(page, key.modulus().as_bytes())
         }
-        Err(error) => push_malformed(page, place.contents.saturating_add(1), error),
+        Err(error) => push_malformed(page, begin, error),
     }
 }
 

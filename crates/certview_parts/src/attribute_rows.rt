@@ -3,16 +3,15 @@
 use crate::any_values::push_any;
 use crate::extension_rows::push_read_extensions;
 use crate::identifiers::push_identifier;
+use crate::items::Items;
 use crate::labels::push_label;
 use crate::page::Page;
-use crate::parts::Part;
-use crate::place::place_at;
+use crate::place::{Place, inner_at};
 use crate::rows::push_malformed_row;
-use crate::site::{Site, Sites};
 use der_asn1_types::FromDer;
 use der_pkcs::request::constants::PKCS_9_AT_EXTENSION_REQUEST;
 use der_pkix::name::Attribute;
-use der_pkix::parts::Part as PkixPart;
+use der_places::places_of;
 use std::alloc::{AllocError, Global};
 
 /// Adds a line for each attribute of a set, in the order in which they stand: what it is, and its values.
@@ -20,18 +19,18 @@ pub fn push_attribute_rows(
     alloc: Global,
     page: &mut Page,
     octets: &[u8],
-    set: &Site,
+    set: &Place,
     label: &str,
 ) -> Result<(), AllocError> {
-    let mut sites = Sites::within(octets, set);
-    for _ in set.place.contents..set.place.end {
-        let Some(site) = sites.next_site() else {
+    let mut items = Items::within(octets, set);
+    for _ in 0..set.length {
+        let Some(place) = items.next_item() else {
             break;
         };
-        let inner = site.inner(octets);
+        let inner = inner_at(octets, &place);
         match Attribute::from_der(alloc, inner.octets) {
-            Ok(attribute) => push_attribute(alloc, page, octets, &site, label, &attribute)?,
-            Err(error) => push_malformed_row(page, &site.place, label, inner.begin, error)?,
+            Ok(attribute) => push_attribute(alloc, page, octets, &place, label, &attribute)?,
+            Err(error) => push_malformed_row(page, &place, label, inner.begin, error)?,
         }
     }
     Ok(())
@@ -43,16 +42,17 @@ fn push_attribute(
     alloc: Global,
     page: &mut Page,
     octets: &[u8],
-    site: &Site,
+    place: &Place,
     label: &str,
     attribute: &Attribute<'_>,
 ) -> Result<(), AllocError> {
     let identifier = attribute.type_().as_bytes();
-    push_label(page, &site.place, label)?;
+    push_label(page, place, label)?;
     push_identifier(alloc, page, identifier)?;
     if identifier == PKCS_9_AT_EXTENSION_REQUEST.as_slice() {
         page.text.push('\n')?;
-        return push_requests(alloc, page, octets, &site.field(octets, "values"));
+        let at = places_of(attribute, octets, place.offset);
+        return push_requests(alloc, page, octets, &at.values);
     }
     push_values(alloc, page, attribute)
 }
@@ -75,20 +75,14 @@ fn push_requests(
     alloc: Global,
     page: &mut Page,
     octets: &[u8],
-    values: &Site,
+    values: &Place,
 ) -> Result<(), AllocError> {
-    let mut begin = values.place.contents;
-    for _ in values.place.contents..values.place.end {
-        let Some(place) = place_at(octets, begin, values.place.end) else {
+    let mut items = Items::within(octets, values);
+    for _ in 0..values.length {
+        let Some(list) = items.next_item() else {
             break;
         };
-        let list = Site {
-            step: 0,
-            part: Part::Pkix(PkixPart::Extensions),
-            place,
-        };
         push_read_extensions(alloc, page, octets, &list)?;
-        begin = place.end;
     }
     Ok(())
 }

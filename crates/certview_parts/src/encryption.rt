@@ -5,14 +5,13 @@ use crate::any_values::push_any;
 use crate::identifiers::push_identifier;
 use crate::labels::push_label;
 use crate::page::Page;
-use crate::parts::Part;
+use crate::place::{Place, inner_at};
 use crate::rows::{push_identifier_row, push_integer_row, push_malformed_row, push_octets_row};
-use crate::site::Site;
 use der_asn1_types::FromDer;
 use der_pkcs::encryption::constants::{ID_HMAC_WITH_SHA1, ID_PBES2, ID_PBKDF2};
 use der_pkcs::encryption::{PbeParameter, Pbes2Params, Pbkdf2Params, Pbkdf2Salt};
-use der_pkcs::parts::Part as PkcsPart;
 use der_pkix::AlgorithmIdentifier;
+use der_places::places_of;
 use std::alloc::{AllocError, Global};
 
 /// Adds the lines of an algorithm of encryption: what it is, and its parameters, those of PBES2, of PBES1
@@ -21,21 +20,21 @@ pub fn push_encryption(
     alloc: Global,
     page: &mut Page,
     octets: &[u8],
-    site: &Site,
+    place: &Place,
     algorithm: &AlgorithmIdentifier<'_>,
 ) -> Result<(), AllocError> {
     let label = "encryption algorithm";
     let identifier = algorithm.oid.as_bytes();
-    let parameters = site.field(octets, "parameters");
+    let parameters = places_of(algorithm, octets, place.offset).parameters;
     if identifier == ID_PBES2.as_slice() {
-        push_identifier_row(alloc, page, &site.place, label, identifier)?;
+        push_identifier_row(alloc, page, place, label, identifier)?;
         return push_scheme(alloc, page, octets, &parameters);
     }
     if has_salt_and_count(identifier) {
-        push_identifier_row(alloc, page, &site.place, label, identifier)?;
+        push_identifier_row(alloc, page, place, label, identifier)?;
         return push_salt_and_count(alloc, page, octets, &parameters);
     }
-    push_cipher(alloc, page, site, label, algorithm)
+    push_cipher(alloc, page, place, label, algorithm)
 }
 
 /// Whether an algorithm has a salt and a count as its parameters: PBES1 (1.2.840.113549.1.5, 1 to 11) and
@@ -53,24 +52,28 @@ fn push_scheme(
     alloc: Global,
     page: &mut Page,
     octets: &[u8],
-    site: &Site,
+    place: &Place,
 ) -> Result<(), AllocError> {
-    let inner = site.inner(octets);
-    let site = site.as_part(Part::Pkcs(PkcsPart::Pbes2Params));
+    let inner = inner_at(octets, place);
     match Pbes2Params::from_der(alloc, inner.octets) {
         Ok(scheme) => {
-            let derivation = site.field(octets, "keyDerivationFunc");
+            let at = places_of(&scheme, octets, place.offset);
             push_derivation(
                 alloc,
                 page,
                 octets,
-                &derivation,
+                &at.key_derivation_func,
                 scheme.key_derivation_func(),
             )?;
-            let cipher = site.field(octets, "encryptionScheme");
-            push_cipher(alloc, page, &cipher, "cipher", scheme.encryption_scheme())
+            push_cipher(
+                alloc,
+                page,
+                &at.encryption_scheme,
+                "cipher",
+                scheme.encryption_scheme(),
+            )
         }
-        Err(error) => push_malformed_row(page, &site.place, "scheme", inner.begin, error),
+        Err(error) => push_malformed_row(page, place, "scheme", inner.begin, error),
     }
 }
 
@@ -80,21 +83,20 @@ pub fn push_derivation(
     alloc: Global,
     page: &mut Page,
     octets: &[u8],
-    site: &Site,
+    place: &Place,
     function: &AlgorithmIdentifier<'_>,
 ) -> Result<(), AllocError> {
     let label = "key derivation";
     let identifier = function.oid.as_bytes();
     if identifier != ID_PBKDF2.as_slice() {
-        return push_algorithm(alloc, page, site, label, function);
+        return push_algorithm(alloc, page, place, label, function);
     }
-    push_identifier_row(alloc, page, &site.place, label, identifier)?;
-    let parameters = site.field(octets, "parameters");
-    let inner = parameters.inner(octets);
-    let fields = parameters.as_part(Part::Pkcs(PkcsPart::Pbkdf2Params));
+    push_identifier_row(alloc, page, place, label, identifier)?;
+    let fields = places_of(function, octets, place.offset).parameters;
+    let inner = inner_at(octets, &fields);
     match Pbkdf2Params::from_der(alloc, inner.octets) {
         Ok(derivation) => push_derivation_fields(alloc, page, octets, &fields, &derivation),
-        Err(error) => push_malformed_row(page, &fields.place, label, inner.begin, error),
+        Err(error) => push_malformed_row(page, &fields, label, inner.begin, error),
     }
 }
 
@@ -103,27 +105,23 @@ fn push_derivation_fields(
     alloc: Global,
     page: &mut Page,
     octets: &[u8],
-    site: &Site,
+    place: &Place,
     derivation: &Pbkdf2Params<'_>,
 ) -> Result<(), AllocError> {
-    let salt = site.field(octets, "salt");
+    let at = places_of(derivation, octets, place.offset);
     match derivation.salt() {
-        Pbkdf2Salt::Specified(salted) => {
-            push_octets_row(page, &salt.place, "salt", salted.as_bytes())?
-        }
-        Pbkdf2Salt::OtherSource(source) => push_algorithm(alloc, page, &salt, "salt", source)?,
+        Pbkdf2Salt::Specified(salt) => push_octets_row(page, &at.salt, "salt", salt.as_bytes())?,
+        Pbkdf2Salt::OtherSource(source) => push_algorithm(alloc, page, &at.salt, "salt", source)?,
     }
-    let count = site.field(octets, "iterationCount").place;
-    push_integer_row(page, &count, "iterations", derivation.iteration_count())?;
+    let count = derivation.iteration_count();
+    push_integer_row(page, &at.iteration_count, "iterations", count)?;
     if let Some(length) = derivation.key_length() {
-        let place = site.field(octets, "keyLength").place;
-        push_integer_row(page, &place, "key length", length)?;
+        push_integer_row(page, &at.key_length, "key length", length)?;
     }
     let label = "pseudorandom function";
-    let function = site.field(octets, "prf");
     match derivation.prf() {
-        Some(algorithm) => push_algorithm(alloc, page, &function, label, algorithm),
-        None => push_identifier_row(alloc, page, &function.place, label, &ID_HMAC_WITH_SHA1),
+        Some(algorithm) => push_algorithm(alloc, page, &at.prf, label, algorithm),
+        None => push_identifier_row(alloc, page, &at.prf, label, &ID_HMAC_WITH_SHA1),
     }
 }
 
@@ -131,11 +129,11 @@ fn push_derivation_fields(
 pub fn push_cipher(
     alloc: Global,
     page: &mut Page,
-    site: &Site,
+    place: &Place,
     label: &str,
     cipher: &AlgorithmIdentifier<'_>,
 ) -> Result<(), AllocError> {
-    push_label(page, &site.place, label)?;
+    push_label(page, place, label)?;
     push_identifier(alloc, page, cipher.oid.as_bytes())?;
     if let Some(parameters) = &cipher.parameters {
         page.text.push_str(", ")?;
@@ -149,17 +147,16 @@ fn push_salt_and_count(
     alloc: Global,
     page: &mut Page,
     octets: &[u8],
-    site: &Site,
+    place: &Place,
 ) -> Result<(), AllocError> {
-    let inner = site.inner(octets);
-    let site = site.as_part(Part::Pkcs(PkcsPart::PbeParameter));
+    let inner = inner_at(octets, place);
     match PbeParameter::from_der(alloc, inner.octets) {
         Ok(parameter) => {
-            let salt = site.field(octets, "salt").place;
-            push_octets_row(page, &salt, "salt", parameter.salt().as_bytes())?;
-            let count = site.field(octets, "iterationCount").place;
-            push_integer_row(page, &count, "iterations", parameter.iteration_count())
+            let at = places_of(&parameter, octets, place.offset);
+            push_octets_row(page, &at.salt, "salt", parameter.salt().as_bytes())?;
+            let count = parameter.iteration_count();
+            push_integer_row(page, &at.iteration_count, "iterations", count)
         }
-        Err(error) => push_malformed_row(page, &site.place, "parameters", inner.begin, error),
+        Err(error) => push_malformed_row(page, place, "parameters", inner.begin, error),
     }
 }

@@ -1,12 +1,14 @@
 //! Extensions of messages that are held whole, a line each.
 
 use crate::extensions::push_extension;
+use crate::items::Items;
 use crate::labels::push_label;
 use crate::page::Page;
+use crate::place::{Place, inner_at, nowhere};
 use crate::rows::push_malformed_row;
-use crate::site::{Site, Sites};
 use der_asn1_types::FromDer;
 use der_pkix::certificate::{Extension, Extensions};
+use der_places::contents_of;
 use std::alloc::{AllocError, Global};
 
 /// Adds a line for each extension of a list.
@@ -14,13 +16,13 @@ pub fn push_extension_rows(
     alloc: Global,
     page: &mut Page,
     octets: &[u8],
-    list: &Site,
+    list: &Place,
     label: &str,
     extensions: &[Extension<'_>],
 ) -> Result<(), AllocError> {
-    let mut sites = Sites::within(octets, list);
+    let mut items = Items::within(octets, list);
     for extension in extensions {
-        let place = sites.next_site().unwrap_or(list.nothing()).place;
+        let place = items.next_item().unwrap_or(nowhere());
         push_label(page, &place, label)?;
         push_extension(alloc, page, &place, extension)?;
         page.text.push('\n')?;
@@ -33,7 +35,7 @@ pub fn push_explicit_extensions(
     alloc: Global,
     page: &mut Page,
     octets: &[u8],
-    site: &Site,
+    place: &Place,
     label: &str,
     extensions: Option<&Extensions<'_>>,
 ) -> Result<(), AllocError> {
@@ -42,7 +44,7 @@ pub fn push_explicit_extensions(
             alloc,
             page,
             octets,
-            &site.field(octets, ""),
+            &contents_of(octets, *place),
             label,
             extensions.as_slice(),
         ),
@@ -55,9 +57,9 @@ pub fn push_read_extensions(
     alloc: Global,
     page: &mut Page,
     octets: &[u8],
-    list: &Site,
+    list: &Place,
 ) -> Result<(), AllocError> {
-    let inner = list.inner(octets);
+    let inner = inner_at(octets, list);
     match Extensions::from_der(alloc, inner.octets) {
         Ok(extensions) => push_extension_rows(
             alloc,
@@ -67,6 +69,6 @@ pub fn push_read_extensions(
             "extension",
             extensions.as_slice(),
         ),
-        Err(error) => push_malformed_row(page, &list.place, "extensions", inner.begin, error),
+        Err(error) => push_malformed_row(page, list, "extensions", inner.begin, error),
     }
 }

@@ -6,20 +6,21 @@ use crate::constraints::{push_constraints, push_number, push_policy_constraints}
 use crate::entries::{push_instruction, push_invalidity, push_reason};
 use crate::hexadecimal::push_digits;
 use crate::identifiers::push_identifier;
+use crate::items::Items;
 use crate::key_identifiers::{push_authority_key, push_subject_key};
 use crate::labels::push_label;
 use crate::lines::{Lines, Stop};
 use crate::other_names::push_other_names;
 use crate::page::{Inner, Page};
 use crate::periods::push_period;
-use crate::place::Place;
+use crate::place::{Place, nowhere};
 use crate::points::{push_issuing_point, push_points};
 use crate::policies::{push_mappings, push_policies};
 use crate::private_extensions::push_private;
-use crate::site::{Site, Sites};
 use crate::subtrees::push_name_constraints;
 use crate::usages::{push_purposes, push_usage};
 use der_pkix::certificate::Extension;
+use der_places::contents_of;
 use std::alloc::{AllocError, Global};
 use std::fmt::Write;
 
@@ -29,13 +30,12 @@ pub fn push_extensions<L: Lines>(
     page: &mut Page,
     lines: &mut L,
     octets: &[u8],
-    site: &Site,
+    place: &Place,
     extensions: &[Extension<'_>],
 ) -> Result<(), Stop> {
-    let list = site.field(octets, "");
-    let mut sites = Sites::within(octets, &list);
+    let mut items = Items::within(octets, &contents_of(octets, *place));
     for extension in extensions {
-        let place = sites.next_site().unwrap_or(list.nothing()).place;
+        let place = items.next_item().unwrap_or(nowhere());
         push_label(page, &place, "extension")?;
         push_extension(alloc, page, &place, extension)?;
         page.text.push('\n')?;
@@ -59,7 +59,7 @@ pub fn push_extension(
     let octets = extension.extn_value().as_bytes();
     let count = octets.len();
     write!(page.text, ", {count} octets")?;
-    let begin = place.end.saturating_sub(count);
+    let begin = (place.behind() as usize).saturating_sub(count);
     push_value(alloc, page, identifier.as_bytes(), Inner { octets, begin })
 }
 

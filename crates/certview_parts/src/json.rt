@@ -277,7 +277,7 @@ fn push_fault(
 
 /// Adds how many octets stand before a field, and how many it has; `null` twice of a field that is absent.
 fn push_place(out: &mut String, place: &Place) -> Result<(), AllocError> {
-    let (begin, count) = (place.begin, place.len());
+    let (begin, count) = (place.offset, place.length);
     if count == 0 {
         return out.push_str("\"offset\": null, \"length\": null");
     }

@@ -4,8 +4,8 @@ use crate::characters::push_escaped;
 use crate::hexadecimal::push_digits;
 use crate::identifiers::push_attribute_type;
 use crate::labels::push_label;
-use crate::page::{Page, push_malformed};
-use crate::site::Site;
+use crate::page::Page;
+use crate::place::Place;
 use der_asn1_types::asn1::{AnyRef, Kept};
 use der_asn1_types::{Encode, Tag};
 use der_modules::copy_of;
@@ -16,25 +16,24 @@ use std::alloc::{AllocError, Global};
 pub fn push_name<'a>(
     alloc: Global,
     page: &mut Page,
-    site: &Site,
+    place: &Place,
     label: &str,
     name: &Kept<'a, Name<'a>>,
 ) -> Result<(), AllocError> {
-    push_label(page, &site.place, label)?;
-    push_kept(alloc, page, site, copy_of(name))?;
+    push_label(page, place, label)?;
+    push_kept(alloc, page, copy_of(name))?;
     page.text.push('\n')
 }
 
-/// Adds a name that was kept as it came.
+/// Adds a name that was kept as it came once it was read, so that only memory can be refused.
 pub fn push_kept<'a>(
     alloc: Global,
     page: &mut Page,
-    site: &Site,
     name: Kept<'a, Name<'a>>,
 ) -> Result<(), AllocError> {
     match name.value(alloc) {
         Ok(name) => push_places(alloc, page, name.as_slice()),
-        Err(error) => push_malformed(page, site.place.contents, error),
+        Err(_) => Err(AllocError),
     }
 }
 

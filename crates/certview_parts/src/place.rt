@@ -1,68 +1,41 @@
-//! Where values stand in octets.
+//! Where values stand in octets, and the octets that stand there.
 
-use crate::values::sizes;
-
-/// Where the encoding of a value stands: how many octets are before it, before its contents, and
-/// before what follows it.
-#[derive(Clone, Copy, Debug, PartialEq, Eq)]
-pub struct Place {
-    /// How many octets are before it.
-    pub begin: usize,
-    /// How many octets are before its contents.
-    pub contents: usize,
-    /// How many octets are before what follows it.
-    pub end: usize,
-}
-
-impl Place {
-    /// No octets, of what has no place.
-    pub fn nothing() -> Place {
-        Place {
-            begin: 0,
-            contents: 0,
-            end: 0,
-        }
-    }
-
-    /// How many octets the encoding has.
-    pub fn len(self) -> usize {
-        self.end.saturating_sub(self.begin)
-    }
-
-    /// Whether an octet, of which so many are before it, is one of the encoding's.
-    pub fn has(self, octet: usize) -> bool {
-        self.begin <= octet && octet < self.end
-    }
-}
-
-/// The place of the value that begins after so many octets, and ends before so many: none where
-/// there is no octet between. Where no header can be read, all of them are its header.
-pub fn place_at(octets: &[u8], begin: usize, end: usize) -> Option<Place> {
-    let left = octets.get(begin..end)?;
-    if left.is_empty() {
-        return None;
-    }
-    let (header, whole) = sizes(left);
-    if header == 0 {
-        return Some(Place {
-            begin,
-            contents: end,
-            end,
-        });
-    }
-    Some(Place {
-        begin,
-        contents: begin.saturating_add(header),
-        end: begin.saturating_add(whole),
-    })
-}
+use crate::page::Inner;
+pub use der_places::Place;
+use der_places::contents_of;
 
 /// The place of a message: all of the octets.
 pub fn place_of_all(octets: &[u8]) -> Place {
-    let contents = sizes(octets).0;
     Place {
-        begin: 0,
-        contents,
-        end: octets.len(),
+        offset: 0,
+        length: u32::try_from(octets.len()).unwrap_or(u32::MAX),
     }
+}
+
+/// No octets, of what has no place.
+pub fn nowhere() -> Place {
+    Place {
+        offset: 0,
+        length: 0,
+    }
+}
+
+/// The octets at a place; none where they are not all there.
+pub fn octets_at<'a>(octets: &'a [u8], place: &Place) -> &'a [u8] {
+    let begin = place.offset as usize;
+    let end = place.behind() as usize;
+    octets.get(begin..end).unwrap_or(&[])
+}
+
+/// The octets at a place, which are read on their own.
+pub fn inner_at<'a>(octets: &'a [u8], place: &Place) -> Inner<'a> {
+    Inner {
+        octets: octets_at(octets, place),
+        begin: place.offset as usize,
+    }
+}
+
+/// The contents octets of the encoding at a place, which are read on their own.
+pub fn contents_at<'a>(octets: &'a [u8], place: &Place) -> Inner<'a> {
+    inner_at(octets, &contents_of(octets, *place))
 }

@@ -1,30 +1,36 @@
-//! Signatures of messages whose field of it is `signature`, and certificates beside them, as text.
+//! Signatures of messages, and certificates beside them, as text.
 
 use crate::algorithms::push_algorithm;
 use crate::bit_strings::push_bits;
 use crate::hexadecimal::push_serial;
+use crate::items::Items;
 use crate::labels::push_label;
 use crate::names::push_kept;
 use crate::page::Page;
-use crate::site::{Site, Sites};
+use crate::place::{Place, nowhere};
 use der_asn1_types::asn1::BitStringRef;
 use der_modules::copy_of;
 use der_pkix::AlgorithmIdentifier;
 use der_pkix::certificate::Certificate;
 use std::alloc::{AllocError, Global};
 
-/// Adds the lines of a signature that is a BIT STRING.
+/// Adds the lines of a signature that is a BIT STRING: its algorithm, where that stands, and itself.
 pub fn push_signature_rows(
     alloc: Global,
     page: &mut Page,
-    octets: &[u8],
-    site: &Site,
+    algorithm_place: &Place,
     algorithm: &AlgorithmIdentifier<'_>,
+    place: &Place,
     signature: &BitStringRef<'_>,
 ) -> Result<(), AllocError> {
-    let field = site.field(octets, "signatureAlgorithm");
-    push_algorithm(alloc, page, &field, "signature algorithm", algorithm)?;
-    push_label(page, &site.field(octets, "signature").place, "signature")?;
+    push_algorithm(
+        alloc,
+        page,
+        algorithm_place,
+        "signature algorithm",
+        algorithm,
+    )?;
+    push_label(page, place, "signature")?;
     push_bits(page, signature)?;
     page.text.push('\n')
 }
@@ -34,13 +40,13 @@ pub fn push_certificate_rows(
     alloc: Global,
     page: &mut Page,
     octets: &[u8],
-    list: &Site,
+    list: &Place,
     certificates: &[Certificate<'_>],
 ) -> Result<(), AllocError> {
-    let mut sites = Sites::within(octets, list);
+    let mut items = Items::within(octets, list);
     for certificate in certificates {
-        let site = sites.next_site().unwrap_or(list.nothing());
-        push_certificate_row(alloc, page, octets, &site, certificate)?;
+        let place = items.next_item().unwrap_or(nowhere());
+        push_certificate_row(alloc, page, &place, certificate)?;
     }
     Ok(())
 }
@@ -49,17 +55,13 @@ pub fn push_certificate_rows(
 pub fn push_certificate_row(
     alloc: Global,
     page: &mut Page,
-    octets: &[u8],
-    site: &Site,
+    place: &Place,
     certificate: &Certificate<'_>,
 ) -> Result<(), AllocError> {
     let signed = certificate.tbs_certificate();
-    push_label(page, &site.place, "certificate")?;
+    push_label(page, place, "certificate")?;
     push_serial(page, signed.serial_number().as_bytes())?;
     page.text.push_str(", ")?;
-    let subject = site
-        .field(octets, "tbsCertificate")
-        .field(octets, "subject");
-    push_kept(alloc, page, &subject, copy_of(signed.subject()))?;
+    push_kept(alloc, page, copy_of(signed.subject()))?;
     page.text.push('\n')
 }

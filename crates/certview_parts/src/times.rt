@@ -2,9 +2,10 @@
 
 use crate::labels::push_label;
 use crate::page::Page;
-use crate::site::Site;
+use crate::place::Place;
 use der_asn1_types::DateTime;
 use der_pkix::certificate::{Time, Validity};
+use der_places::places_of;
 use std::alloc::AllocError;
 use std::fmt::Write;
 
@@ -12,22 +13,23 @@ use std::fmt::Write;
 pub fn push_validity(
     page: &mut Page,
     octets: &[u8],
-    site: &Site,
+    place: &Place,
     validity: &Validity,
 ) -> Result<(), AllocError> {
     let (begin, end) = (validity.not_before(), validity.not_after());
-    push_moment(page, &site.field(octets, "notBefore"), "not before", &begin)?;
-    push_moment(page, &site.field(octets, "notAfter"), "not after", &end)
+    let at = places_of(validity, octets, place.offset);
+    push_moment(page, &at.not_before, "not before", &begin)?;
+    push_moment(page, &at.not_after, "not after", &end)
 }
 
 /// Adds a line with a time.
 pub fn push_moment(
     page: &mut Page,
-    site: &Site,
+    place: &Place,
     label: &str,
     time: &Time,
 ) -> Result<(), AllocError> {
-    push_label(page, &site.place, label)?;
+    push_label(page, place, label)?;
     push_time(page, time)?;
     page.text.push('\n')
 }

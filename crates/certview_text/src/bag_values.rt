@@ -5,19 +5,17 @@ use crate::encrypted_key::push_encrypted_fields;
 use crate::keys::push_secret;
 use certview_parts::algorithms::push_algorithm;
 use certview_parts::page::Page;
-use certview_parts::parts::Part;
+use certview_parts::place::{Place, contents_at, inner_at};
 use certview_parts::rows::{push_identifier_row, push_length_row, push_malformed_row};
 use certview_parts::signatures::push_certificate_row;
-use certview_parts::site::Site;
 use der_asn1_types::FromDer;
 use der_pkcs::encryption::EncryptedPrivateKeyInfo;
-use der_pkcs::parts::Part as PkcsPart;
 use der_pkcs::pkcs12::constants::{X509_CERTIFICATE, X509_CRL};
 use der_pkcs::pkcs12::{CertBag, CrlBag};
 use der_pkix::certificate::Certificate;
 use der_pkix::crl::CertificateList;
 use der_pkix::key::PrivateKeyInfo;
-use der_pkix::parts::Part as PkixPart;
+use der_places::{contents_of, places_of};
 use std::alloc::{AllocError, Global};
 
 /// Adds the lines of a bag's value, by the identifier of the bag, one of 1.2.840.113549.1.12.10.1: of
@@ -26,18 +24,18 @@ pub fn push_bag_value(
     alloc: Global,
     page: &mut Page,
     octets: &[u8],
-    site: &Site,
+    place: &Place,
     identifier: &[u8],
 ) -> Result<(), AllocError> {
     match identifier {
         [0x2a, 0x86, 0x48, 0x86, 0xf7, 0x0d, 1, 12, 10, 1, last] => match last {
-            1 => push_key_bag(alloc, page, octets, site),
-            2 => push_shrouded_key_bag(alloc, page, octets, site),
-            3 => push_certificate_bag(alloc, page, octets, site),
-            4 => push_list_bag(alloc, page, octets, site),
-            _ => push_length_row(page, &site.place, "value", site.inner(octets).octets),
+            1 => push_key_bag(alloc, page, octets, place),
+            2 => push_shrouded_key_bag(alloc, page, octets, place),
+            3 => push_certificate_bag(alloc, page, octets, place),
+            4 => push_list_bag(alloc, page, octets, place),
+            _ => push_length_row(page, place, "value", inner_at(octets, place).octets),
         },
-        _ => push_length_row(page, &site.place, "value", site.inner(octets).octets),
+        _ => push_length_row(page, place, "value", inner_at(octets, place).octets),
     }
 }
 
@@ -46,24 +44,23 @@ fn push_key_bag(
     alloc: Global,
     page: &mut Page,
     octets: &[u8],
-    site: &Site,
+    place: &Place,
 ) -> Result<(), AllocError> {
-    let inner = site.inner(octets);
-    let site = site.as_part(Part::Pkix(PkixPart::OneAsymmetricKey));
+    let inner = inner_at(octets, place);
     match PrivateKeyInfo::from_der(alloc, inner.octets) {
         Ok(key) => {
-            let algorithm = site.field(octets, "privateKeyAlgorithm");
+            let at = places_of(&key, octets, place.offset);
             push_algorithm(
                 alloc,
                 page,
-                &algorithm,
+                &at.private_key_algorithm,
                 "key algorithm",
                 key.private_key_algorithm(),
             )?;
             let count = key.private_key().as_bytes().len();
-            push_secret(page, octets, &site, "privateKey", count)
+            push_secret(page, &at.private_key, "privateKey", count)
         }
-        Err(error) => push_malformed_row(page, &site.place, "key", inner.begin, error),
+        Err(error) => push_malformed_row(page, place, "key", inner.begin, error),
     }
 }
 
@@ -71,13 +68,12 @@ fn push_shrouded_key_bag(
     alloc: Global,
     page: &mut Page,
     octets: &[u8],
-    site: &Site,
+    place: &Place,
 ) -> Result<(), AllocError> {
-    let inner = site.inner(octets);
-    let site = site.as_part(Part::Pkcs(PkcsPart::EncryptedPrivateKeyInfo));
+    let inner = inner_at(octets, place);
     match EncryptedPrivateKeyInfo::from_der(alloc, inner.octets) {
-        Ok(key) => push_encrypted_fields(alloc, page, octets, &site, &key),
-        Err(error) => push_malformed_row(page, &site.place, "encrypted key", inner.begin, error),
+        Ok(key) => push_encrypted_fields(alloc, page, octets, place, &key),
+        Err(error) => push_malformed_row(page, place, "encrypted key", inner.begin, error),
     }
 }
 
@@ -86,28 +82,20 @@ fn push_certificate_bag(
     alloc: Global,
     page: &mut Page,
     octets: &[u8],
-    site: &Site,
+    place: &Place,
 ) -> Result<(), AllocError> {
-    let inner = site.inner(octets);
-    let site = site.as_part(Part::Pkcs(PkcsPart::CertBag));
+    let inner = inner_at(octets, place);
     match CertBag::from_der(alloc, inner.octets) {
         Ok(bag) if bag.cert_id().as_bytes() == X509_CERTIFICATE.as_slice() => {
-            let string = site
-                .field(octets, "certValue")
-                .holding(octets, Part::value());
+            let at = places_of(&bag, octets, place.offset);
+            let string = contents_of(octets, at.cert_value);
             push_held_certificate(alloc, page, octets, &string)
         }
         Ok(bag) => {
             let kind = bag.cert_id().as_bytes();
-            push_identifier_row(
-                alloc,
-                page,
-                &site.place,
-                "certificate of another kind",
-                kind,
-            )
+            push_identifier_row(alloc, page, place, "certificate of another kind", kind)
         }
-        Err(error) => push_malformed_row(page, &site.place, "certificate", inner.begin, error),
+        Err(error) => push_malformed_row(page, place, "certificate", inner.begin, error),
     }
 }
 
@@ -115,13 +103,15 @@ fn push_held_certificate(
     alloc: Global,
     page: &mut Page,
     octets: &[u8],
-    string: &Site,
+    string: &Place,
 ) -> Result<(), AllocError> {
-    let inner = string.contents(octets);
-    let site = string.holding(octets, Part::Pkix(PkixPart::Certificate));
+    let inner = contents_at(octets, string);
     match Certificate::from_der(alloc, inner.octets) {
-        Ok(certificate) => push_certificate_row(alloc, page, octets, &site, &certificate),
-        Err(error) => push_malformed_row(page, &string.place, "certificate", inner.begin, error),
+        Ok(certificate) => {
+            let place = contents_of(octets, *string);
+            push_certificate_row(alloc, page, &place, &certificate)
+        }
+        Err(error) => push_malformed_row(page, string, "certificate", inner.begin, error),
     }
 }
 
@@ -131,22 +121,20 @@ fn push_list_bag(
     alloc: Global,
     page: &mut Page,
     octets: &[u8],
-    site: &Site,
+    place: &Place,
 ) -> Result<(), AllocError> {
-    let inner = site.inner(octets);
-    let site = site.as_part(Part::Pkcs(PkcsPart::CrlBag));
+    let inner = inner_at(octets, place);
     match CrlBag::from_der(alloc, inner.octets) {
         Ok(bag) if bag.crl_id().as_bytes() == X509_CRL.as_slice() => {
-            let string = site
-                .field(octets, "crlValue")
-                .holding(octets, Part::value());
+            let at = places_of(&bag, octets, place.offset);
+            let string = contents_of(octets, at.crl_value);
             push_held_list(alloc, page, octets, &string)
         }
         Ok(bag) => {
             let kind = bag.crl_id().as_bytes();
-            push_identifier_row(alloc, page, &site.place, "list of another kind", kind)
+            push_identifier_row(alloc, page, place, "list of another kind", kind)
         }
-        Err(error) => push_malformed_row(page, &site.place, "list", inner.begin, error),
+        Err(error) => push_malformed_row(page, place, "list", inner.begin, error),
     }
 }
 
@@ -154,12 +142,14 @@ fn push_held_list(
     alloc: Global,
     page: &mut Page,
     octets: &[u8],
-    string: &Site,
+    string: &Place,
 ) -> Result<(), AllocError> {
-    let inner = string.contents(octets);
-    let site = string.holding(octets, Part::Pkix(PkixPart::CertificateList));
+    let inner = contents_at(octets, string);
     match CertificateList::from_der(alloc, inner.octets) {
-        Ok(list) => push_list_row(alloc, page, octets, &site, &list),
-        Err(error) => push_malformed_row(page, &string.place, "list", inner.begin, error),
+        Ok(list) => {
+            let place = contents_of(octets, *string);
+            push_list_row(alloc, page, &place, &list)
+        }
+        Err(error) => push_malformed_row(page, string, "list", inner.begin, error),
     }
 }

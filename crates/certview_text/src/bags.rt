@@ -2,13 +2,13 @@
 
 use crate::bag_values::push_bag_value;
 use certview_parts::attribute_rows::push_attribute_rows;
+use certview_parts::items::Items;
 use certview_parts::page::Page;
-use certview_parts::parts::Part;
+use certview_parts::place::{Place, contents_at, nowhere};
 use certview_parts::rows::{push_identifier_row, push_malformed_row};
-use certview_parts::site::{Site, Sites};
 use der_asn1_types::FromDer;
-use der_pkcs::parts::Part as PkcsPart;
 use der_pkcs::pkcs12::{SafeBag, SafeContents};
+use der_places::{contents_of, places_of};
 use std::alloc::{AllocError, Global};
 
 /// Adds the lines of each of the bags that the OCTET STRING at this place holds.
@@ -16,13 +16,15 @@ pub fn push_bags(
     alloc: Global,
     page: &mut Page,
     octets: &[u8],
-    string: &Site,
+    string: &Place,
 ) -> Result<(), AllocError> {
-    let inner = string.contents(octets);
-    let list = string.holding(octets, Part::Pkcs(PkcsPart::SafeContents));
+    let inner = contents_at(octets, string);
     match SafeContents::from_der(alloc, inner.octets) {
-        Ok(bags) => push_each(alloc, page, octets, &list, bags.as_slice()),
-        Err(error) => push_malformed_row(page, &string.place, "bags", inner.begin, error),
+        Ok(bags) => {
+            let list = contents_of(octets, *string);
+            push_each(alloc, page, octets, &list, bags.as_slice())
+        }
+        Err(error) => push_malformed_row(page, string, "bags", inner.begin, error),
     }
 }
 
@@ -30,13 +32,13 @@ fn push_each(
     alloc: Global,
     page: &mut Page,
     octets: &[u8],
-    list: &Site,
+    list: &Place,
     bags: &[SafeBag<'_>],
 ) -> Result<(), AllocError> {
-    let mut sites = Sites::within(octets, list);
+    let mut items = Items::within(octets, list);
     for bag in bags {
-        let site = sites.next_site().unwrap_or(list.nothing());
-        push_bag(alloc, page, octets, &site, bag)?;
+        let place = items.next_item().unwrap_or(nowhere());
+        push_bag(alloc, page, octets, &place, bag)?;
     }
     Ok(())
 }
@@ -46,20 +48,13 @@ fn push_bag(
     alloc: Global,
     page: &mut Page,
     octets: &[u8],
-    site: &Site,
+    place: &Place,
     bag: &SafeBag<'_>,
 ) -> Result<(), AllocError> {
+    let at = places_of(bag, octets, place.offset);
     let identifier = bag.bag_id().as_bytes();
-    push_identifier_row(alloc, page, &site.place, "bag", identifier)?;
-    let value = site
-        .field(octets, "bagValue")
-        .holding(octets, Part::value());
+    push_identifier_row(alloc, page, place, "bag", identifier)?;
+    let value = contents_of(octets, at.bag_value);
     push_bag_value(alloc, page, octets, &value, identifier)?;
-    push_attribute_rows(
-        alloc,
-        page,
-        octets,
-        &site.field(octets, "bagAttributes"),
-        "attribute",
-    )
+    push_attribute_rows(alloc, page, octets, &at.bag_attributes, "attribute")
 }

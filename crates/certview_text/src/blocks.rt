@@ -15,7 +15,7 @@ use certview_parts::hexadecimal::push_with_colons;
 use certview_parts::labels::push_label;
 use certview_parts::lines::{Lines, Stop};
 use certview_parts::page::{ItemKind, Page, Span, push_words};
-use certview_parts::place::Place;
+use certview_parts::place::nowhere;
 use der_asn1_types::Error;
 use sha2::{Digest, Sha256};
 use std::alloc::{AllocError, Global};
@@ -48,7 +48,7 @@ fn push_fingerprint(page: &mut Page, kind: Kind, octets: &[u8]) -> Result<(), Al
     if kind.is_secret() {
         return Ok(());
     }
-    push_label(page, &Place::nothing(), "fingerprint")?;
+    push_label(page, &nowhere(), "fingerprint")?;
     page.text.push_str("SHA-256 ")?;
     let digest = Sha256::digest(octets);
     push_with_colons(page, digest.as_slice())?;

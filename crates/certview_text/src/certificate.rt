@@ -9,7 +9,7 @@ use crate::fault::{Fault, refusal};
 use crate::findings::push_certificate_findings;
 use crate::kind::Kind;
 use crate::moments::push_validity_at;
-use crate::whole::{push_title, whole_of};
+use crate::whole::push_title;
 use certview_parts::algorithms::{push_algorithm, push_key};
 use certview_parts::bit_strings::push_bits;
 use certview_parts::extensions::push_extensions;
@@ -18,13 +18,15 @@ use certview_parts::labels::push_label;
 use certview_parts::lines::{Lines, Stop};
 use certview_parts::names::push_name;
 use certview_parts::page::Page;
-use certview_parts::site::Site;
+use certview_parts::place::{Place, place_of_all};
+use certview_parts::signatures::push_signature_rows;
 use certview_parts::times::push_validity;
 use der_asn1_types::FromDer;
 use der_asn1_types::asn1::{BitStringRef, IntRef};
-use der_pkix::AlgorithmIdentifier;
 use der_pkix::certificate::laws::grammar_of_certificate;
 use der_pkix::certificate::{Certificate, TbsCertificate};
+use der_places::certificate::TbsCertificatePlaces;
+use der_places::places_of;
 use std::alloc::{AllocError, Global};
 use std::fmt::Write;
 
@@ -56,38 +58,27 @@ fn push_fields<L: Lines>(
     octets: &[u8],
     certificate: &Certificate<'_>,
 ) -> Result<(), Stop> {
-    let whole = whole_of(octets, Kind::Certificate);
-    push_title(page, &whole.place, Kind::Certificate)?;
-    let site = whole.field(octets, "tbsCertificate");
-    push_signed(alloc, page, octets, &site, certificate.tbs_certificate())?;
-    if let Some(extensions) = certificate.tbs_certificate().extensions() {
-        let list = site.field(octets, "extensions");
+    let whole = place_of_all(octets);
+    push_title(page, &whole, Kind::Certificate)?;
+    let at = places_of(certificate, octets, whole.offset);
+    let signed = certificate.tbs_certificate();
+    let within = places_of(signed, octets, at.tbs_certificate.offset);
+    push_signed(alloc, page, octets, &within, signed)?;
+    if let Some(extensions) = signed.extensions() {
+        let list = within.extensions;
         push_extensions(alloc, page, lines, octets, &list, extensions.as_slice())?;
     }
-    push_signature(
+    push_signature_rows(
         alloc,
         page,
-        octets,
-        &whole,
+        &at.signature_algorithm,
         certificate.signature_algorithm(),
+        &at.signature_value,
         certificate.signature_value(),
     )?;
-    push_asked(alloc, page, octets, &whole, certificate)?;
+    push_certificate_findings(alloc, page, octets, certificate, &whole)?;
+    push_validity_at(page, &within.validity, signed.validity())?;
     lines.take(page)
-}
-
-/// Adds what is asked of a certificate besides its fields.
-fn push_asked(
-    alloc: Global,
-    page: &mut Page,
-    octets: &[u8],
-    whole: &Site,
-    certificate: &Certificate<'_>,
-) -> Result<(), AllocError> {
-    push_certificate_findings(alloc, page, octets, certificate, whole)?;
-    let signed = whole.field(octets, "tbsCertificate");
-    let place = signed.field(octets, "validity").place;
-    push_validity_at(page, &place, certificate.tbs_certificate().validity())
 }
 
 /// Adds what is signed before its extensions.
@@ -95,66 +86,42 @@ fn push_signed(
     alloc: Global,
     page: &mut Page,
     octets: &[u8],
-    site: &Site,
+    at: &TbsCertificatePlaces,
     signed: &TbsCertificate<'_>,
 ) -> Result<(), AllocError> {
-    push_version(page, &site.field(octets, "version"), signed.version())?;
-    push_serial_number(
-        page,
-        &site.field(octets, "serialNumber"),
-        signed.serial_number(),
-    )?;
+    push_version(page, &at.version, signed.version())?;
+    push_serial_number(page, &at.serial_number, signed.serial_number())?;
     push_algorithm(
         alloc,
         page,
-        &site.field(octets, "signature"),
+        &at.signature,
         "signature algorithm",
         signed.signature(),
     )?;
-    push_name(
-        alloc,
-        page,
-        &site.field(octets, "issuer"),
-        "issuer",
-        signed.issuer(),
-    )?;
-    push_validity(
-        page,
-        octets,
-        &site.field(octets, "validity"),
-        &signed.validity(),
-    )?;
-    push_name(
-        alloc,
-        page,
-        &site.field(octets, "subject"),
-        "subject",
-        signed.subject(),
-    )?;
-    push_rest(alloc, page, octets, site, signed)
+    push_name(alloc, page, &at.issuer, "issuer", signed.issuer())?;
+    push_validity(page, octets, &at.validity, &signed.validity())?;
+    push_name(alloc, page, &at.subject, "subject", signed.subject())?;
+    push_rest(alloc, page, octets, at, signed)
 }
 
 fn push_rest(
     alloc: Global,
     page: &mut Page,
     octets: &[u8],
-    site: &Site,
+    at: &TbsCertificatePlaces,
     signed: &TbsCertificate<'_>,
 ) -> Result<(), AllocError> {
     let key = signed.subject_public_key_info();
-    push_key(
-        alloc,
-        page,
-        octets,
-        &site.field(octets, "subjectPublicKeyInfo"),
-        key,
-    )?;
-    let issuer = site.field(octets, "issuerUniqueID");
-    push_unique(page, &issuer, "issuer's number", signed.issuer_unique_id())?;
-    let subject = site.field(octets, "subjectUniqueID");
+    push_key(alloc, page, octets, &at.subject_public_key_info, key)?;
     push_unique(
         page,
-        &subject,
+        &at.issuer_unique_id,
+        "issuer's number",
+        signed.issuer_unique_id(),
+    )?;
+    push_unique(
+        page,
+        &at.subject_unique_id,
         "subject's number",
         signed.subject_unique_id(),
     )
@@ -163,13 +130,13 @@ fn push_rest(
 /// Adds a line with a number of an issuer or of a subject, where it is there.
 fn push_unique(
     page: &mut Page,
-    site: &Site,
+    place: &Place,
     label: &str,
     number: Option<&BitStringRef<'_>>,
 ) -> Result<(), AllocError> {
     match number {
         Some(bits) => {
-            push_label(page, &site.place, label)?;
+            push_label(page, place, label)?;
             push_bits(page, bits)?;
             page.text.push('\n')
         }
@@ -178,39 +145,18 @@ fn push_unique(
 }
 
 /// Adds a line with the version: what is encoded is one less (RFC 5280 section 4.1.2.1).
-pub fn push_version(page: &mut Page, site: &Site, number: u8) -> Result<(), AllocError> {
-    push_label(page, &site.place, "version")?;
+pub fn push_version(page: &mut Page, place: &Place, number: u8) -> Result<(), AllocError> {
+    push_label(page, place, "version")?;
     let version = u16::from(number) + 1;
     writeln!(page.text, "{version}")
 }
 
-fn push_serial_number(page: &mut Page, site: &Site, number: &IntRef<'_>) -> Result<(), AllocError> {
-    push_label(page, &site.place, "serial number")?;
-    push_serial(page, number.as_bytes())?;
-    page.text.push('\n')
-}
-
-/// Adds the lines of a signature: those of a certificate and of a list are alike.
-pub fn push_signature(
-    alloc: Global,
+fn push_serial_number(
     page: &mut Page,
-    octets: &[u8],
-    site: &Site,
-    algorithm: &AlgorithmIdentifier<'_>,
-    signature: &BitStringRef<'_>,
+    place: &Place,
+    number: &IntRef<'_>,
 ) -> Result<(), AllocError> {
-    push_algorithm(
-        alloc,
-        page,
-        &site.field(octets, "signatureAlgorithm"),
-        "signature algorithm",
-        algorithm,
-    )?;
-    push_label(
-        page,
-        &site.field(octets, "signatureValue").place,
-        "signature",
-    )?;
-    push_bits(page, signature)?;
+    push_label(page, place, "serial number")?;
+    push_serial(page, number.as_bytes())?;
     page.text.push('\n')
 }

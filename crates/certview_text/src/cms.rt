@@ -8,13 +8,14 @@ ghost use Rattle.certview_text.specs.Faults.{first_fault};
 use crate::contents::push_content;
 use crate::fault::{Fault, refusal};
 use crate::kind::Kind;
-use crate::whole::{push_title, whole_of};
+use crate::whole::push_title;
 use certview_parts::page::Page;
-use certview_parts::parts::Part;
+use certview_parts::place::place_of_all;
 use certview_parts::rows::push_identifier_row;
 use der_asn1_types::FromDer;
 use der_cms::cms::ContentInfo;
 use der_cms::cms::laws::grammar_of_content_info;
+use der_places::{contents_of, places_of};
 use std::alloc::{AllocError, Global};
 
 /// Adds the fields of the ContentInfo that these octets are, a line each; of its content, as its type says.
@@ -39,13 +40,11 @@ fn push_fields(
     octets: &[u8],
     message: &ContentInfo<'_>,
 ) -> Result<(), AllocError> {
-    let whole = whole_of(octets, Kind::Cms);
-    push_title(page, &whole.place, Kind::Cms)?;
+    let whole = place_of_all(octets);
+    let at = places_of(message, octets, whole.offset);
+    push_title(page, &whole, Kind::Cms)?;
     let identifier = message.content_type().as_bytes();
-    let place = whole.field(octets, "contentType").place;
-    push_identifier_row(alloc, page, &place, "content type", identifier)?;
-    let content = whole
-        .field(octets, "content")
-        .holding(octets, Part::value());
+    push_identifier_row(alloc, page, &at.content_type, "content type", identifier)?;
+    let content = contents_of(octets, at.content);
     push_content(alloc, page, octets, &content, identifier)
 }

@@ -1,11 +1,12 @@
 //! Certificates and lists of revoked ones that messages of CMS carry, as text (RFC 5652 section 10.2).
 
+use certview_parts::items::Items;
 use certview_parts::labels::push_label;
 use certview_parts::names::push_kept;
 use certview_parts::page::Page;
+use certview_parts::place::{Place, contents_at, inner_at};
 use certview_parts::rows::{push_identifier_row, push_length_row, push_malformed_row};
 use certview_parts::signatures::push_certificate_row;
-use certview_parts::site::{Site, Sites};
 use certview_parts::times::push_time;
 use der_asn1_types::FromDer;
 use der_cms::cms::{CertificateChoices, RevocationInfoChoice};
@@ -18,18 +19,18 @@ pub fn push_certificate_choices(
     alloc: Global,
     page: &mut Page,
     octets: &[u8],
-    set: &Site,
+    set: &Place,
 ) -> Result<(), AllocError> {
     let label = "certificate";
-    let mut sites = Sites::within(octets, set);
-    for _ in set.place.contents..set.place.end {
-        let Some(site) = sites.next_site() else {
+    let mut items = Items::within(octets, set);
+    for _ in 0..set.length {
+        let Some(place) = items.next_item() else {
             break;
         };
-        let inner = site.inner(octets);
+        let inner = inner_at(octets, &place);
         match CertificateChoices::from_der(alloc, inner.octets) {
-            Ok(certificate) => push_choice(alloc, page, octets, &site, &certificate)?,
-            Err(error) => push_malformed_row(page, &site.place, label, inner.begin, error)?,
+            Ok(certificate) => push_choice(alloc, page, octets, &place, &certificate)?,
+            Err(error) => push_malformed_row(page, &place, label, inner.begin, error)?,
         }
     }
     Ok(())
@@ -39,37 +40,26 @@ fn push_choice(
     alloc: Global,
     page: &mut Page,
     octets: &[u8],
-    site: &Site,
+    place: &Place,
     certificate: &CertificateChoices<'_>,
 ) -> Result<(), AllocError> {
-    let kept = site.contents(octets).octets;
+    let kept = contents_at(octets, place).octets;
     match certificate {
         CertificateChoices::Certificate(certificate) => {
-            push_certificate_row(alloc, page, octets, site, certificate)
+            push_certificate_row(alloc, page, place, certificate)
         }
         CertificateChoices::ExtendedCertificate(_) => {
-            push_length_row(page, &site.place, "extended certificate", kept)
+            push_length_row(page, place, "extended certificate", kept)
         }
         CertificateChoices::V1AttrCert(_) => {
-            push_length_row(
-                page,
-                &site.place,
-                "attribute certificate of version 1",
-                kept,
-            )
+            push_length_row(page, place, "attribute certificate of version 1", kept)
         }
         CertificateChoices::V2AttrCert(_) => {
-            push_length_row(page, &site.place, "attribute certificate", kept)
+            push_length_row(page, place, "attribute certificate", kept)
         }
         CertificateChoices::Other(other) => {
             let format = other.value.type_().as_bytes();
-            push_identifier_row(
-                alloc,
-                page,
-                &site.place,
-                "certificate of another format",
-                format,
-            )
+            push_identifier_row(alloc, page, place, "certificate of another format", format)
         }
     }
 }
@@ -79,18 +69,18 @@ pub fn push_revocations(
     alloc: Global,
     page: &mut Page,
     octets: &[u8],
-    set: &Site,
+    set: &Place,
 ) -> Result<(), AllocError> {
     let label = "list of revoked certificates";
-    let mut sites = Sites::within(octets, set);
-    for _ in set.place.contents..set.place.end {
-        let Some(site) = sites.next_site() else {
+    let mut items = Items::within(octets, set);
+    for _ in 0..set.length {
+        let Some(place) = items.next_item() else {
             break;
         };
-        let inner = site.inner(octets);
+        let inner = inner_at(octets, &place);
         match RevocationInfoChoice::from_der(alloc, inner.octets) {
-            Ok(revoked) => push_revocation(alloc, page, octets, &site, &revoked)?,
-            Err(error) => push_malformed_row(page, &site.place, label, inner.begin, error)?,
+            Ok(revoked) => push_revocation(alloc, page, &place, &revoked)?,
+            Err(error) => push_malformed_row(page, &place, label, inner.begin, error)?,
         }
     }
     Ok(())
@@ -99,15 +89,14 @@ pub fn push_revocations(
 fn push_revocation(
     alloc: Global,
     page: &mut Page,
-    octets: &[u8],
-    site: &Site,
+    place: &Place,
     revoked: &RevocationInfoChoice<'_>,
 ) -> Result<(), AllocError> {
     match revoked {
-        RevocationInfoChoice::Crl(list) => push_list_row(alloc, page, octets, site, list),
+        RevocationInfoChoice::Crl(list) => push_list_row(alloc, page, place, list),
         RevocationInfoChoice::Other(other) => {
             let format = other.value.type_().as_bytes();
-            push_identifier_row(alloc, page, &site.place, "list of another format", format)
+            push_identifier_row(alloc, page, place, "list of another format", format)
         }
     }
 }
@@ -116,15 +105,13 @@ fn push_revocation(
 pub fn push_list_row(
     alloc: Global,
     page: &mut Page,
-    octets: &[u8],
-    site: &Site,
+    place: &Place,
     revoked: &CertificateList<'_>,
 ) -> Result<(), AllocError> {
     let signed = revoked.tbs_cert_list();
-    push_label(page, &site.place, "list of revoked certificates")?;
+    push_label(page, place, "list of revoked certificates")?;
     push_time(page, &signed.this_update())?;
     page.text.push_str(", ")?;
-    let issuer = site.field(octets, "tbsCertList").field(octets, "issuer");
-    push_kept(alloc, page, &issuer, copy_of(signed.issuer()))?;
+    push_kept(alloc, page, copy_of(signed.issuer()))?;
     page.text.push('\n')
 }

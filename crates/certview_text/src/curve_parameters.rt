@@ -8,19 +8,18 @@ ghost use Rattle.certview_text.specs.Faults.{first_fault};
 use crate::fault::{Fault, refusal};
 use crate::keys::push_version;
 use crate::kind::Kind;
-use crate::whole::{push_title, whole_of};
+use crate::whole::push_title;
 use certview_parts::algorithms::push_algorithm;
 use certview_parts::any_values::push_any;
 use certview_parts::bit_strings::push_bits;
 use certview_parts::labels::push_label;
 use certview_parts::page::Page;
-use certview_parts::parts::Part;
+use certview_parts::place::{Place, place_of_all};
 use certview_parts::rows::{push_identifier_row, push_octets_row, push_signed_row};
-use certview_parts::site::Site;
 use der_asn1_types::FromDer;
 use der_pkix::key::laws::grammar_of_ec_parameters;
 use der_pkix::key::{Curve, EcParameters, FieldId, SpecifiedEcDomain};
-use der_pkix::parts::Part as PkixPart;
+use der_places::places_of;
 use std::alloc::{AllocError, Global};
 
 /// Adds the fields of the ECParameters that these octets are, a line each: a name, `implicit` where the curve
@@ -46,20 +45,17 @@ fn push_fields(
     octets: &[u8],
     parameters: &EcParameters<'_>,
 ) -> Result<(), AllocError> {
-    let whole = whole_of(octets, Kind::EcParameters);
-    push_title(page, &whole.place, Kind::EcParameters)?;
+    let whole = place_of_all(octets);
+    push_title(page, &whole, Kind::EcParameters)?;
     match parameters {
         EcParameters::NamedCurve(name) => {
-            push_identifier_row(alloc, page, &whole.place, "curve", name.as_bytes())
+            push_identifier_row(alloc, page, &whole, "curve", name.as_bytes())
         }
         EcParameters::ImplicitCurve(_) => {
-            push_label(page, &whole.place, "curve")?;
+            push_label(page, &whole, "curve")?;
             page.text.push_str("implicit\n")
         }
-        EcParameters::SpecifiedCurve(domain) => {
-            let site = whole.as_part(Part::Pkix(PkixPart::SpecifiedEcDomain));
-            push_domain(alloc, page, octets, &site, domain)
-        }
+        EcParameters::SpecifiedCurve(domain) => { push_domain(alloc, page, octets, &whole, domain) }
     }
 }
 
@@ -67,31 +63,20 @@ fn push_domain(
     alloc: Global,
     page: &mut Page,
     octets: &[u8],
-    site: &Site,
+    place: &Place,
     domain: &SpecifiedEcDomain<'_>,
 ) -> Result<(), AllocError> {
-    push_version(page, octets, site, domain.version())?;
-    let field = site.field(octets, "fieldID");
-    push_field(alloc, page, octets, &field, domain.field_id())?;
-    push_curve(page, octets, &site.field(octets, "curve"), domain.curve())?;
-    let base = site.field(octets, "base").place;
-    push_octets_row(page, &base, "base", domain.base().as_bytes())?;
-    let order = site.field(octets, "order").place;
-    push_signed_row(page, &order, "order", domain.order().as_bytes())?;
+    let at = places_of(domain, octets, place.offset);
+    push_version(page, &at.version, domain.version())?;
+    push_field(alloc, page, octets, &at.field_id, domain.field_id())?;
+    push_curve(page, octets, &at.curve, domain.curve())?;
+    push_octets_row(page, &at.base, "base", domain.base().as_bytes())?;
+    push_signed_row(page, &at.order, "order", domain.order().as_bytes())?;
     if let Some(cofactor) = domain.cofactor() {
-        let place = site.field(octets, "cofactor").place;
-        push_signed_row(page, &place, "cofactor", cofactor.as_bytes())?;
+        push_signed_row(page, &at.cofactor, "cofactor", cofactor.as_bytes())?;
     }
     match domain.hash() {
-        Some(hash) => {
-            push_algorithm(
-                alloc,
-                page,
-                &site.field(octets, "hash"),
-                "hash algorithm",
-                hash,
-            )
-        }
+        Some(hash) => push_algorithm(alloc, page, &at.hash, "hash algorithm", hash),
         None => Ok(()),
     }
 }
@@ -101,13 +86,13 @@ fn push_field(
     alloc: Global,
     page: &mut Page,
     octets: &[u8],
-    site: &Site,
+    place: &Place,
     field: &FieldId<'_>,
 ) -> Result<(), AllocError> {
-    let kind = site.field(octets, "fieldType").place;
-    push_identifier_row(alloc, page, &kind, "field", field.field_type().as_bytes())?;
-    let place = site.field(octets, "parameters").place;
-    push_label(page, &place, "parameters of the field")?;
+    let at = places_of(field, octets, place.offset);
+    let kind = field.field_type();
+    push_identifier_row(alloc, page, &at.field_type, "field", kind.as_bytes())?;
+    push_label(page, &at.parameters, "parameters of the field")?;
     push_any(alloc, page, field.parameters())?;
     page.text.push('\n')
 }
@@ -115,24 +100,15 @@ fn push_field(
 fn push_curve(
     page: &mut Page,
     octets: &[u8],
-    site: &Site,
+    place: &Place,
     curve: &Curve<'_>,
 ) -> Result<(), AllocError> {
-    push_octets_row(
-        page,
-        &site.field(octets, "a").place,
-        "a",
-        curve.a().as_bytes(),
-    )?;
-    push_octets_row(
-        page,
-        &site.field(octets, "b").place,
-        "b",
-        curve.b().as_bytes(),
-    )?;
+    let at = places_of(curve, octets, place.offset);
+    push_octets_row(page, &at.a, "a", curve.a().as_bytes())?;
+    push_octets_row(page, &at.b, "b", curve.b().as_bytes())?;
     match curve.seed() {
         Some(seed) => {
-            push_label(page, &site.field(octets, "seed").place, "seed")?;
+            push_label(page, &at.seed, "seed")?;
             push_bits(page, seed)?;
             page.text.push('\n')
         }

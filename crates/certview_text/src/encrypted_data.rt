@@ -4,12 +4,11 @@ use crate::keys::push_version;
 use certview_parts::attribute_rows::push_attribute_rows;
 use certview_parts::encryption::push_encryption;
 use certview_parts::page::Page;
-use certview_parts::parts::Part;
+use certview_parts::place::{Place, inner_at};
 use certview_parts::rows::{push_identifier_row, push_length_row, push_malformed_row};
-use certview_parts::site::Site;
 use der_asn1_types::FromDer;
 use der_cms::cms::{EncryptedContentInfo, EncryptedData};
-use der_cms::parts::Part as CmsPart;
+use der_places::places_of;
 use std::alloc::{AllocError, Global};
 
 /// Adds the fields of the EncryptedData at this place, a line each.
@@ -17,13 +16,12 @@ pub fn push_encrypted_data(
     alloc: Global,
     page: &mut Page,
     octets: &[u8],
-    site: &Site,
+    place: &Place,
 ) -> Result<(), AllocError> {
-    let inner = site.inner(octets);
-    let site = site.as_part(Part::Cms(CmsPart::EncryptedData));
+    let inner = inner_at(octets, place);
     match EncryptedData::from_der(alloc, inner.octets) {
-        Ok(encrypted) => push_fields(alloc, page, octets, &site, &encrypted),
-        Err(error) => push_malformed_row(page, &site.place, "encrypted data", inner.begin, error),
+        Ok(encrypted) => push_fields(alloc, page, octets, place, &encrypted),
+        Err(error) => push_malformed_row(page, place, "encrypted data", inner.begin, error),
     }
 }
 
@@ -31,20 +29,15 @@ fn push_fields(
     alloc: Global,
     page: &mut Page,
     octets: &[u8],
-    site: &Site,
+    place: &Place,
     encrypted: &EncryptedData<'_>,
 ) -> Result<(), AllocError> {
-    push_version(page, octets, site, encrypted.version())?;
-    let content = site.field(octets, "encryptedContentInfo");
-    push_encrypted_content(
-        alloc,
-        page,
-        octets,
-        &content,
-        encrypted.encrypted_content_info(),
-    )?;
-    let set = site.field(octets, "unprotectedAttrs");
-    push_attribute_rows(alloc, page, octets, &set, "unprotected attribute")
+    let at = places_of(encrypted, octets, place.offset);
+    push_version(page, &at.version, encrypted.version())?;
+    let content = encrypted.encrypted_content_info();
+    push_encrypted_content(alloc, page, octets, &at.encrypted_content_info, content)?;
+    let label = "unprotected attribute";
+    push_attribute_rows(alloc, page, octets, &at.unprotected_attrs, label)
 }
 
 /// Adds the type of what is encrypted, how it is, and how many octets there are, if they are there.
@@ -52,19 +45,24 @@ pub fn push_encrypted_content(
     alloc: Global,
     page: &mut Page,
     octets: &[u8],
-    site: &Site,
+    place: &Place,
     content: &EncryptedContentInfo<'_>,
 ) -> Result<(), AllocError> {
-    let place = site.field(octets, "contentType").place;
+    let at = places_of(content, octets, place.offset);
     let identifier = content.content_type().as_bytes();
-    push_identifier_row(alloc, page, &place, "content type", identifier)?;
-    let algorithm = site.field(octets, "contentEncryptionAlgorithm");
+    push_identifier_row(alloc, page, &at.content_type, "content type", identifier)?;
     let cipher = content.content_encryption_algorithm();
-    push_encryption(alloc, page, octets, &algorithm, cipher)?;
+    push_encryption(
+        alloc,
+        page,
+        octets,
+        &at.content_encryption_algorithm,
+        cipher,
+    )?;
     match content.encrypted_content() {
         Some(encrypted) => {
-            let place = site.field(octets, "encryptedContent").place;
-            push_length_row(page, &place, "encrypted content", encrypted.as_bytes())
+            let label = "encrypted content";
+            push_length_row(page, &at.encrypted_content, label, encrypted.as_bytes())
         }
         None => Ok(()),
     }

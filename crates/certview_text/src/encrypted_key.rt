@@ -7,14 +7,15 @@ ghost use Rattle.certview_text.specs.Faults.{first_fault};
 
 use crate::fault::{Fault, refusal};
 use crate::kind::Kind;
-use crate::whole::{push_title, whole_of};
+use crate::whole::push_title;
 use certview_parts::encryption::push_encryption;
 use certview_parts::page::Page;
+use certview_parts::place::{Place, place_of_all};
 use certview_parts::rows::push_length_row;
-use certview_parts::site::Site;
 use der_asn1_types::FromDer;
 use der_pkcs::encryption::EncryptedPrivateKeyInfo;
 use der_pkcs::encryption::laws::grammar_of_encrypted_private_key_info;
+use der_places::places_of;
 use std::alloc::{AllocError, Global};
 
 /// Adds the fields of the EncryptedPrivateKeyInfo that these octets are, a line each.
@@ -39,8 +40,8 @@ fn push_fields(
     octets: &[u8],
     key: &EncryptedPrivateKeyInfo<'_>,
 ) -> Result<(), AllocError> {
-    let whole = whole_of(octets, Kind::EncryptedPrivateKey);
-    push_title(page, &whole.place, Kind::EncryptedPrivateKey)?;
+    let whole = place_of_all(octets);
+    push_title(page, &whole, Kind::EncryptedPrivateKey)?;
     push_encrypted_fields(alloc, page, octets, &whole, key)
 }
 
@@ -49,15 +50,15 @@ pub fn push_encrypted_fields(
     alloc: Global,
     page: &mut Page,
     octets: &[u8],
-    site: &Site,
+    place: &Place,
     key: &EncryptedPrivateKeyInfo<'_>,
 ) -> Result<(), AllocError> {
-    let algorithm = site.field(octets, "encryptionAlgorithm");
-    push_encryption(alloc, page, octets, &algorithm, key.encryption_algorithm())?;
-    let place = site.field(octets, "encryptedData").place;
+    let at = places_of(key, octets, place.offset);
+    let algorithm = key.encryption_algorithm();
+    push_encryption(alloc, page, octets, &at.encryption_algorithm, algorithm)?;
     push_length_row(
         page,
-        &place,
+        &at.encrypted_data,
         "encrypted key",
         key.encrypted_data().as_bytes(),
     )

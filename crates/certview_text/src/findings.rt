@@ -1,11 +1,14 @@
 //! What a certificate or a list of revoked certificates breaks of RFC 5280 beyond its grammar, as text.
 
+use certview_parts::items::Items;
 use certview_parts::labels::push_label;
 use certview_parts::page::Page;
-use certview_parts::place::Place;
-use certview_parts::site::{Site, Sites};
+use certview_parts::place::{Place, nowhere};
 use der_pkix::certificate::{Certificate, Extension, Extensions};
 use der_pkix::crl::CertificateList;
+use der_places::certificate::{CertificatePlaces, TbsCertificatePlaces};
+use der_places::crl::{CertificateListPlaces, TbsCertListPlaces};
+use der_places::{contents_of, places_of};
 use der_verify::{CertificateRule, ListRule, check_certificate, check_list};
 use std::alloc::{AllocError, Global};
 use std::fmt::Write;
@@ -25,18 +28,25 @@ pub fn push_certificate_findings(
     page: &mut Page,
     octets: &[u8],
     certificate: &Certificate<'_>,
-    whole: &Site,
+    whole: &Place,
 ) -> Result<(), AllocError> {
     if !page.asked.has_rules {
         return Ok(());
     }
-    let signed = whole.field(octets, "tbsCertificate");
-    let list = signed.field(octets, "extensions");
-    let extensions = certificate.tbs_certificate().extensions();
+    let at = places_of(certificate, octets, whole.offset);
+    let signed = certificate.tbs_certificate();
+    let within = places_of(signed, octets, at.tbs_certificate.offset);
     let rules = check_certificate(alloc, certificate)?;
     for rule in rules.as_slice() {
         let finding = certificate_finding(*rule);
-        let place = place_of(octets, whole, &signed, &list, extensions, &finding);
+        let field = place_in_certificate(&at, &within, finding.field);
+        let place = place_of(
+            octets,
+            field,
+            &within.extensions,
+            signed.extensions(),
+            &finding,
+        );
         push_finding(page, &place, rule.section(), &finding)?;
     }
     Ok(())
@@ -48,18 +58,20 @@ pub fn push_list_findings(
     page: &mut Page,
     octets: &[u8],
     list: &CertificateList<'_>,
-    whole: &Site,
+    whole: &Place,
 ) -> Result<(), AllocError> {
     if !page.asked.has_rules {
         return Ok(());
     }
-    let signed = whole.field(octets, "tbsCertList");
-    let site = signed.field(octets, "crlExtensions");
-    let extensions = list.tbs_cert_list().crl_extensions();
+    let at = places_of(list, octets, whole.offset);
+    let signed = list.tbs_cert_list();
+    let within = places_of(signed, octets, at.tbs_cert_list.offset);
+    let (site, extensions) = (within.crl_extensions, signed.crl_extensions());
     let rules = check_list(alloc, list)?;
     for rule in rules.as_slice() {
         let finding = list_finding(*rule);
-        let place = place_of(octets, whole, &signed, &site, extensions, &finding);
+        let field = place_in_list(&at, &within, finding.field);
+        let place = place_of(octets, field, &site, extensions, &finding);
         push_finding(page, &place, rule.section(), &finding)?;
     }
     Ok(())
@@ -77,44 +89,68 @@ fn push_finding(
     writeln!(page.text, "RFC 5280 section {section}, {field} {words}")
 }
 
-/// Where the field stands that breaks a rule: an extension in the list of them, or a field of what is
-/// signed, or the algorithm outside of it.
+/// Where the field of a certificate stands that has this name: the algorithm outside of what is signed, or
+/// a field within.
+fn place_in_certificate(
+    at: &CertificatePlaces,
+    within: &TbsCertificatePlaces,
+    field: &str,
+) -> Place {
+    match field {
+        "signatureAlgorithm" => at.signature_algorithm,
+        "version" => within.version,
+        "serialNumber" => within.serial_number,
+        "issuer" => within.issuer,
+        "subject" => within.subject,
+        "extensions" => within.extensions,
+        _ => nowhere(),
+    }
+}
+
+/// The same of a list.
+fn place_in_list(at: &CertificateListPlaces, within: &TbsCertListPlaces, field: &str) -> Place {
+    match field {
+        "signatureAlgorithm" => at.signature_algorithm,
+        "version" => within.version,
+        "issuer" => within.issuer,
+        "nextUpdate" => within.next_update,
+        "revokedCertificates" => within.revoked_certificates,
+        "crlExtensions" => within.crl_extensions,
+        _ => nowhere(),
+    }
+}
+
+/// Where that stands which breaks a rule: an extension in the list of them, which stands after its tag, or
+/// a field.
 fn place_of(
     octets: &[u8],
-    whole: &Site,
-    signed: &Site,
-    list: &Site,
+    field: Place,
+    list: &Place,
     extensions: Option<&Extensions<'_>>,
     finding: &Finding,
 ) -> Place {
-    if !finding.extension.is_empty() {
-        return match extensions {
-            Some(some) => place_of_extension(octets, list, some.as_slice(), finding.extension),
-            None => place_of_extension(octets, list, &[], finding.extension),
-        };
+    match extensions {
+        _ if finding.extension.is_empty() => field,
+        Some(some) => place_of_extension(octets, list, some.as_slice(), finding.extension),
+        None => *list,
     }
-    if finding.field == "signatureAlgorithm" {
-        return whole.field(octets, finding.field).place;
-    }
-    signed.field(octets, finding.field).place
 }
 
-/// Where the first extension with this identifier stands.
+/// Where the first extension with this identifier stands; where there is none, the list.
 fn place_of_extension(
     octets: &[u8],
-    list: &Site,
+    list: &Place,
     extensions: &[Extension<'_>],
     identifier: &[u8],
 ) -> Place {
-    let inner = list.field(octets, "");
-    let mut sites = Sites::within(octets, &inner);
+    let mut items = Items::within(octets, &contents_of(octets, *list));
     for extension in extensions {
-        let place = sites.next_site().unwrap_or(inner.nothing()).place;
+        let place = items.next_item().unwrap_or(nowhere());
         if extension.extn_id().as_bytes() == identifier {
             return place;
         }
     }
-    list.place
+    *list
 }
 
 /// A field that breaks a rule.

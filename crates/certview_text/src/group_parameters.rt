@@ -7,18 +7,18 @@ ghost use Rattle.certview_text.specs.Faults.{first_fault};
 
 use crate::fault::{Fault, refusal};
 use crate::kind::Kind;
-use crate::whole::{push_title, whole_of};
+use crate::whole::push_title;
 use certview_parts::bit_strings::push_bits;
 use certview_parts::labels::push_label;
 use certview_parts::page::Page;
+use certview_parts::place::{Place, place_of_all};
 use certview_parts::rows::{push_integer_row, push_number_row};
-use certview_parts::site::Site;
 use der_asn1_types::FromDer;
-use der_asn1_types::asn1::UintRef;
 use der_pkcs::algorithm::laws::{
     grammar_of_dh_parameter, grammar_of_domain_parameters, grammar_of_dss_parms,
 };
 use der_pkcs::algorithm::{DhParameter, DomainParameters, DssParms, ValidationParms};
+use der_places::places_of;
 use std::alloc::{AllocError, Global};
 
 /// Adds the fields of the Dss-Parms that these octets are, a line each.
@@ -38,11 +38,12 @@ pub fn push_dsa_parameters(alloc: Global, page: &mut Page, octets: &[u8]) -> Res
 }
 
 fn dsa_fields(page: &mut Page, octets: &[u8], group: &DssParms<'_>) -> Result<(), AllocError> {
-    let whole = whole_of(octets, Kind::DsaParameters);
-    push_title(page, &whole.place, Kind::DsaParameters)?;
-    push_field(page, octets, &whole, "p", group.p())?;
-    push_field(page, octets, &whole, "q", group.q())?;
-    push_field(page, octets, &whole, "g", group.g())
+    let whole = place_of_all(octets);
+    push_title(page, &whole, Kind::DsaParameters)?;
+    let at = places_of(group, octets, whole.offset);
+    push_number_row(page, &at.p, "p", group.p().as_bytes())?;
+    push_number_row(page, &at.q, "q", group.q().as_bytes())?;
+    push_number_row(page, &at.g, "g", group.g().as_bytes())
 }
 
 /// Adds the fields of the DHParameter that these octets are, a line each.
@@ -60,13 +61,14 @@ pub fn push_dh_parameters(alloc: Global, page: &mut Page, octets: &[u8]) -> Resu
 }
 
 fn dh_fields(page: &mut Page, octets: &[u8], group: &DhParameter<'_>) -> Result<(), AllocError> {
-    let whole = whole_of(octets, Kind::DhParameters);
-    push_title(page, &whole.place, Kind::DhParameters)?;
-    push_field(page, octets, &whole, "prime", group.prime())?;
-    push_field(page, octets, &whole, "base", group.base())?;
+    let whole = place_of_all(octets);
+    push_title(page, &whole, Kind::DhParameters)?;
+    let at = places_of(group, octets, whole.offset);
+    push_number_row(page, &at.prime, "prime", group.prime().as_bytes())?;
+    push_number_row(page, &at.base, "base", group.base().as_bytes())?;
     match group.private_value_length() {
         Some(length) => {
-            let place = whole.field(octets, "privateValueLength").place;
+            let place = at.private_value_length;
             push_integer_row(page, &place, "length of a private value", length)
         }
         None => Ok(()),
@@ -92,23 +94,17 @@ fn x942_fields(
     octets: &[u8],
     group: &DomainParameters<'_>,
 ) -> Result<(), AllocError> {
-    let whole = whole_of(octets, Kind::X942Parameters);
-    push_title(page, &whole.place, Kind::X942Parameters)?;
-    push_field(page, octets, &whole, "p", group.p())?;
-    push_field(page, octets, &whole, "g", group.g())?;
-    push_field(page, octets, &whole, "q", group.q())?;
+    let whole = place_of_all(octets);
+    push_title(page, &whole, Kind::X942Parameters)?;
+    let at = places_of(group, octets, whole.offset);
+    push_number_row(page, &at.p, "p", group.p().as_bytes())?;
+    push_number_row(page, &at.g, "g", group.g().as_bytes())?;
+    push_number_row(page, &at.q, "q", group.q().as_bytes())?;
     if let Some(factor) = group.j() {
-        push_field(page, octets, &whole, "j", factor)?;
+        push_number_row(page, &at.j, "j", factor.as_bytes())?;
     }
     match group.validation_parms() {
-        Some(parameters) => {
-            push_validation(
-                page,
-                octets,
-                &whole.field(octets, "validationParms"),
-                parameters,
-            )
-        }
+        Some(parameters) => push_validation(page, octets, &at.validation_parms, parameters),
         None => Ok(()),
     }
 }
@@ -116,27 +112,13 @@ fn x942_fields(
 fn push_validation(
     page: &mut Page,
     octets: &[u8],
-    site: &Site,
+    place: &Place,
     parameters: &ValidationParms<'_>,
 ) -> Result<(), AllocError> {
-    push_label(page, &site.field(octets, "seed").place, "seed")?;
+    let at = places_of(parameters, octets, place.offset);
+    push_label(page, &at.seed, "seed")?;
     push_bits(page, parameters.seed())?;
     page.text.push('\n')?;
-    push_field(page, octets, site, "pgenCounter", parameters.pgen_counter())
-}
-
-/// Adds the line of a number, by the name of its field.
-fn push_field(
-    page: &mut Page,
-    octets: &[u8],
-    site: &Site,
-    name: &str,
-    number: &UintRef<'_>,
-) -> Result<(), AllocError> {
-    push_number_row(
-        page,
-        &site.field(octets, name).place,
-        name,
-        number.as_bytes(),
-    )
+    let count = parameters.pgen_counter();
+    push_number_row(page, &at.pgen_counter, "pgenCounter", count.as_bytes())
 }

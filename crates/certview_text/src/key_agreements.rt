@@ -5,14 +5,16 @@ use crate::recipients::{push_encrypted_key, push_key_encryption};
 use crate::signers::push_issued;
 use certview_parts::algorithms::push_key;
 use certview_parts::hexadecimal::push_with_colons;
+use certview_parts::items::Items;
 use certview_parts::labels::push_label;
 use certview_parts::page::Page;
+use certview_parts::place::{Place, nowhere};
 use certview_parts::rows::push_octets_row;
-use certview_parts::site::{Site, Sites};
 use der_enveloped::enveloped::{
     KeyAgreeRecipientIdentifier, KeyAgreeRecipientInfo, OriginatorIdentifierOrKey,
     RecipientEncryptedKey,
 };
+use der_places::{contents_of, places_of};
 use std::alloc::{AllocError, Global};
 
 /// Adds the lines of recipients with whom a key is agreed on: those of the sender's key, and of each key
@@ -21,25 +23,25 @@ pub fn push_agreement(
     alloc: Global,
     page: &mut Page,
     octets: &[u8],
-    site: &Site,
+    place: &Place,
     agreed: &KeyAgreeRecipientInfo<'_>,
 ) -> Result<(), AllocError> {
-    push_label(page, &site.place, "recipients")?;
+    let at = places_of(agreed, octets, place.offset);
+    push_label(page, place, "recipients")?;
     page.text.push_str("by key agreement\n")?;
-    push_version(page, octets, site, agreed.version())?;
-    let originator = site.field(octets, "originator").field(octets, "");
+    push_version(page, &at.version, agreed.version())?;
+    let originator = contents_of(octets, at.originator);
     push_originator_key(alloc, page, octets, &originator, agreed.originator())?;
     if let Some(material) = agreed.ukm() {
-        let place = site.field(octets, "ukm").place;
-        push_octets_row(page, &place, "keying material", material.as_bytes())?;
+        push_octets_row(page, &at.ukm, "keying material", material.as_bytes())?;
     }
-    push_key_encryption(alloc, page, octets, site, agreed.key_encryption_algorithm())?;
-    let list = site.field(octets, "recipientEncryptedKeys");
+    let algorithm = agreed.key_encryption_algorithm();
+    push_key_encryption(alloc, page, &at.key_encryption_algorithm, algorithm)?;
     push_encrypted_keys(
         alloc,
         page,
         octets,
-        &list,
+        &at.recipient_encrypted_keys,
         agreed.recipient_encrypted_keys().as_slice(),
     )
 }
@@ -49,23 +51,23 @@ fn push_originator_key(
     alloc: Global,
     page: &mut Page,
     octets: &[u8],
-    site: &Site,
+    place: &Place,
     originator: &OriginatorIdentifierOrKey<'_>,
 ) -> Result<(), AllocError> {
     match originator {
         OriginatorIdentifierOrKey::IssuerAndSerialNumber(issued) => {
-            push_label(page, &site.place, "originator")?;
-            push_issued(alloc, page, octets, site, issued)?;
+            push_label(page, place, "originator")?;
+            push_issued(alloc, page, issued)?;
             page.text.push('\n')
         }
         OriginatorIdentifierOrKey::SubjectKeyIdentifier(key) => {
-            push_label(page, &site.place, "originator")?;
+            push_label(page, place, "originator")?;
             page.text.push_str("key ")?;
             push_with_colons(page, key.value.as_bytes())?;
             page.text.push('\n')
         }
         OriginatorIdentifierOrKey::OriginatorKey(key) => {
-            push_key(alloc, page, octets, site, &key.value)
+            push_key(alloc, page, octets, place, &key.value)
         }
     }
 }
@@ -74,17 +76,17 @@ fn push_encrypted_keys(
     alloc: Global,
     page: &mut Page,
     octets: &[u8],
-    list: &Site,
+    list: &Place,
     keys: &[RecipientEncryptedKey<'_>],
 ) -> Result<(), AllocError> {
-    let mut sites = Sites::within(octets, list);
+    let mut items = Items::within(octets, list);
     for key in keys {
-        let site = sites.next_site().unwrap_or(list.nothing());
-        let identifier = site.field(octets, "rid");
-        push_label(page, &identifier.place, "recipient")?;
-        push_identifier_of(alloc, page, octets, &identifier, key.rid())?;
+        let place = items.next_item().unwrap_or(nowhere());
+        let at = places_of(key, octets, place.offset);
+        push_label(page, &at.rid, "recipient")?;
+        push_identifier_of(alloc, page, key.rid())?;
         page.text.push('\n')?;
-        push_encrypted_key(page, octets, &site, key.encrypted_key().as_bytes())?;
+        push_encrypted_key(page, &at.encrypted_key, key.encrypted_key().as_bytes())?;
     }
     Ok(())
 }
@@ -92,13 +94,11 @@ fn push_encrypted_keys(
 fn push_identifier_of(
     alloc: Global,
     page: &mut Page,
-    octets: &[u8],
-    site: &Site,
     identifier: &KeyAgreeRecipientIdentifier<'_>,
 ) -> Result<(), AllocError> {
     match identifier {
         KeyAgreeRecipientIdentifier::IssuerAndSerialNumber(issued) => {
-            push_issued(alloc, page, octets, site, issued)
+            push_issued(alloc, page, issued)
         }
         KeyAgreeRecipientIdentifier::RKeyId(key) => {
             page.text.push_str("key ")?;

@@ -8,7 +8,7 @@ ghost use Rattle.certview_text.specs.Faults.{first_fault};
 
 use crate::fault::{Fault, refusal};
 use crate::kind::Kind;
-use crate::whole::{push_title, whole_of};
+use crate::whole::push_title;
 use certview_parts::algorithms::{bits_of, push_algorithm, push_key};
 use certview_parts::attribute_rows::push_attribute_rows;
 use certview_parts::bit_strings::push_bits;
@@ -16,7 +16,7 @@ use certview_parts::hexadecimal::{push_digits, push_number_of};
 use certview_parts::identifiers::push_identifier;
 use certview_parts::labels::push_label;
 use certview_parts::page::Page;
-use certview_parts::site::Site;
+use certview_parts::place::{Place, place_of_all};
 use der_asn1_types::FromDer;
 use der_asn1_types::asn1::{BitStringRef, UintRef};
 use der_pkix::certificate::SubjectPublicKeyInfo;
@@ -25,6 +25,7 @@ use der_pkix::key::laws::{
     grammar_of_ec_private_key, grammar_of_private_key_info, grammar_of_rsa_public_key,
 };
 use der_pkix::key::{EcParameters, EcPrivateKey, PrivateKeyInfo, RsaPublicKey};
+use der_places::places_of;
 use std::alloc::{AllocError, Global};
 use std::fmt::Write;
 
@@ -50,8 +51,8 @@ fn public_key_fields(
     octets: &[u8],
     key: &SubjectPublicKeyInfo<'_>,
 ) -> Result<(), AllocError> {
-    let whole = whole_of(octets, Kind::PublicKey);
-    push_title(page, &whole.place, Kind::PublicKey)?;
+    let whole = place_of_all(octets);
+    push_title(page, &whole, Kind::PublicKey)?;
     push_key(alloc, page, octets, &whole, key)?;
     Ok(())
 }
@@ -76,40 +77,33 @@ fn private_key_fields(
     octets: &[u8],
     key: &PrivateKeyInfo<'_>,
 ) -> Result<(), AllocError> {
-    let whole = whole_of(octets, Kind::PrivateKey);
-    push_title(page, &whole.place, Kind::PrivateKey)?;
-    push_version(page, octets, &whole, key.version())?;
-    let algorithm = whole.field(octets, "privateKeyAlgorithm");
+    let whole = place_of_all(octets);
+    push_title(page, &whole, Kind::PrivateKey)?;
+    let at = places_of(key, octets, whole.offset);
+    push_version(page, &at.version, key.version())?;
     push_algorithm(
         alloc,
         page,
-        &algorithm,
+        &at.private_key_algorithm,
         "key algorithm",
         key.private_key_algorithm(),
     )?;
     let count = key.private_key().as_bytes().len();
-    push_secret(page, octets, &whole, "privateKey", count)?;
-    push_attribute_rows(
-        alloc,
-        page,
-        octets,
-        &whole.field(octets, "attributes"),
-        "attribute",
-    )?;
-    push_public_bits(page, octets, &whole, key.public_key())?;
+    push_secret(page, &at.private_key, "privateKey", count)?;
+    push_attribute_rows(alloc, page, octets, &at.attributes, "attribute")?;
+    push_public_bits(page, &at.public_key, key.public_key())?;
     Ok(())
 }
 
 /// Adds the public key that stands beside a private one, where it is there.
 fn push_public_bits(
     page: &mut Page,
-    octets: &[u8],
-    whole: &Site,
+    place: &Place,
     key: Option<&BitStringRef<'_>>,
 ) -> Result<(), AllocError> {
     match key {
         Some(bits) => {
-            push_label(page, &whole.field(octets, "publicKey").place, "public key")?;
+            push_label(page, place, "public key")?;
             push_bits(page, bits)?;
             page.text.push('\n')
         }
@@ -126,21 +120,21 @@ pub fn push_rsa_public_key(alloc: Global, page: &mut Page, octets: &[u8]) -> Res
 {
     grammar_of_rsa_public_key();
     match RsaPublicKey::from_der(alloc, octets) {
-        Ok(key) => Ok(rsa_public_key_fields(alloc, page, octets, &key)?),
+        Ok(key) => Ok(rsa_public_key_fields(page, octets, &key)?),
         Err(error) => Err(refusal(Kind::RsaPublicKey, octets, error)),
     }
 }
 
 fn rsa_public_key_fields(
-    alloc: Global,
     page: &mut Page,
     octets: &[u8],
     key: &RsaPublicKey<'_>,
 ) -> Result<(), AllocError> {
-    let whole = whole_of(octets, Kind::RsaPublicKey);
-    push_title(page, &whole.place, Kind::RsaPublicKey)?;
-    push_modulus(page, octets, &whole, key.modulus())?;
-    push_exponent(page, octets, &whole, key.public_exponent())?;
+    let whole = place_of_all(octets);
+    push_title(page, &whole, Kind::RsaPublicKey)?;
+    let at = places_of(key, octets, whole.offset);
+    push_modulus(page, &at.modulus, key.modulus())?;
+    push_exponent(page, &at.public_exponent, key.public_exponent())?;
     Ok(())
 }
 
@@ -164,13 +158,14 @@ fn ec_private_key_fields(
     octets: &[u8],
     key: &EcPrivateKey<'_>,
 ) -> Result<(), AllocError> {
-    let whole = whole_of(octets, Kind::EcPrivateKey);
-    push_title(page, &whole.place, Kind::EcPrivateKey)?;
-    push_version(page, octets, &whole, key.version())?;
+    let whole = place_of_all(octets);
+    push_title(page, &whole, Kind::EcPrivateKey)?;
+    let at = places_of(key, octets, whole.offset);
+    push_version(page, &at.version, key.version())?;
     let count = key.private_key().as_bytes().len();
-    push_secret(page, octets, &whole, "privateKey", count)?;
-    push_curve(alloc, page, octets, &whole, key)?;
-    push_public_bits(page, octets, &whole, key.public_key())?;
+    push_secret(page, &at.private_key, "privateKey", count)?;
+    push_curve(alloc, page, &at.parameters, key)?;
+    push_public_bits(page, &at.public_key, key.public_key())?;
     Ok(())
 }
 
@@ -178,13 +173,12 @@ fn ec_private_key_fields(
 fn push_curve(
     alloc: Global,
     page: &mut Page,
-    octets: &[u8],
-    whole: &Site,
+    place: &Place,
     key: &EcPrivateKey<'_>,
 ) -> Result<(), AllocError> {
     match key.parameters() {
         Some(parameters) => {
-            push_label(page, &whole.field(octets, "parameters").place, "curve")?;
+            push_label(page, place, "curve")?;
             push_curve_of(alloc, page, parameters)?;
             page.text.push('\n')
         }
@@ -206,37 +200,29 @@ fn push_curve_of(
 }
 
 /// Adds the version as it is encoded.
-pub fn push_version(
-    page: &mut Page,
-    octets: &[u8],
-    whole: &Site,
-    version: u8,
-) -> Result<(), AllocError> {
-    push_label(page, &whole.field(octets, "version").place, "version")?;
+pub fn push_version(page: &mut Page, place: &Place, version: u8) -> Result<(), AllocError> {
+    push_label(page, place, "version")?;
     writeln!(page.text, "{version}")
 }
 
 /// Adds how many octets of a field there are that is secret.
 pub fn push_secret(
     page: &mut Page,
-    octets: &[u8],
-    whole: &Site,
+    place: &Place,
     name: &str,
     count: usize,
 ) -> Result<(), AllocError> {
-    let place = whole.field(octets, name).place;
-    push_label(page, &place, name)?;
+    push_label(page, place, name)?;
     writeln!(page.text, "{count} octets, not shown")
 }
 
 /// Adds how many bits the modulus of a key of RSA has, and its octets.
 pub fn push_modulus(
     page: &mut Page,
-    octets: &[u8],
-    whole: &Site,
+    place: &Place,
     modulus: &UintRef<'_>,
 ) -> Result<(), AllocError> {
-    push_label(page, &whole.field(octets, "modulus").place, "modulus")?;
+    push_label(page, place, "modulus")?;
     let bits = bits_of(modulus.as_bytes());
     write!(page.text, "{bits} bits, ")?;
     push_digits(page, modulus.as_bytes())?;
@@ -246,12 +232,10 @@ pub fn push_modulus(
 /// Adds the public exponent of a key of RSA.
 pub fn push_exponent(
     page: &mut Page,
-    octets: &[u8],
-    whole: &Site,
+    place: &Place,
     exponent: &UintRef<'_>,
 ) -> Result<(), AllocError> {
-    let place = whole.field(octets, "publicExponent").place;
-    push_label(page, &place, "public exponent")?;
+    push_label(page, place, "public exponent")?;
     push_number_of(page, exponent.as_bytes())?;
     page.text.push('\n')
 }

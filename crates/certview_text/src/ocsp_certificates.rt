@@ -2,9 +2,10 @@
 
 use certview_parts::algorithms::push_algorithm;
 use certview_parts::page::Page;
+use certview_parts::place::Place;
 use certview_parts::rows::{push_octets_row, push_serial_row};
-use certview_parts::site::Site;
 use der_ocsp::ocsp::CertId;
+use der_places::places_of;
 use std::alloc::{AllocError, Global};
 
 /// Adds the lines of a CertID: the serial number, and the hashes of the issuer's name and key.
@@ -12,23 +13,21 @@ pub fn push_certificate_id(
     alloc: Global,
     page: &mut Page,
     octets: &[u8],
-    site: &Site,
+    place: &Place,
     certificate: &CertId<'_>,
 ) -> Result<(), AllocError> {
-    let serial = site.field(octets, "serialNumber").place;
+    let at = places_of(certificate, octets, place.offset);
     let number = certificate.serial_number().as_bytes();
-    push_serial_row(page, &serial, "serial number", number)?;
+    push_serial_row(page, &at.serial_number, "serial number", number)?;
     push_algorithm(
         alloc,
         page,
-        &site.field(octets, "hashAlgorithm"),
+        &at.hash_algorithm,
         "hash algorithm",
         certificate.hash_algorithm(),
     )?;
-    let name = site.field(octets, "issuerNameHash").place;
     let hash = certificate.issuer_name_hash().as_bytes();
-    push_octets_row(page, &name, "hash of issuer's name", hash)?;
-    let key = site.field(octets, "issuerKeyHash").place;
+    push_octets_row(page, &at.issuer_name_hash, "hash of issuer's name", hash)?;
     let hash = certificate.issuer_key_hash().as_bytes();
-    push_octets_row(page, &key, "hash of issuer's key", hash)
+    push_octets_row(page, &at.issuer_key_hash, "hash of issuer's key", hash)
 }

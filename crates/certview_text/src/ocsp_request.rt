@@ -9,17 +9,19 @@ use crate::certificate::push_version;
 use crate::fault::{Fault, refusal};
 use crate::kind::Kind;
 use crate::ocsp_certificates::push_certificate_id;
-use crate::whole::{push_title, whole_of};
+use crate::whole::push_title;
 use certview_parts::extension_rows::push_explicit_extensions;
+use certview_parts::items::Items;
 use certview_parts::labels::push_label;
 use certview_parts::other_names::push_other_name;
 use certview_parts::page::Page;
+use certview_parts::place::{Place, nowhere, place_of_all};
 use certview_parts::signatures::{push_certificate_rows, push_signature_rows};
-use certview_parts::site::{Site, Sites};
 use der_asn1_types::FromDer;
 use der_extensions::extension::GeneralName;
 use der_ocsp::ocsp::laws::grammar_of_ocsp_request;
 use der_ocsp::ocsp::{OcspRequest, Request, Signature, TbsRequest};
+use der_places::{contents_of, places_of};
 use std::alloc::{AllocError, Global};
 
 /// Adds the fields of the OCSPRequest that these octets are, a line each.
@@ -44,14 +46,14 @@ fn push_fields(
     octets: &[u8],
     request: &OcspRequest<'_>,
 ) -> Result<(), AllocError> {
-    let whole = whole_of(octets, Kind::OcspRequest);
-    push_title(page, &whole.place, Kind::OcspRequest)?;
-    let site = whole.field(octets, "tbsRequest");
-    push_signed(alloc, page, octets, &site, request.tbs_request())?;
+    let whole = place_of_all(octets);
+    let at = places_of(request, octets, whole.offset);
+    push_title(page, &whole, Kind::OcspRequest)?;
+    push_signed(alloc, page, octets, &at.tbs_request, request.tbs_request())?;
     match request.optional_signature() {
         Some(signature) => {
-            let site = whole.field(octets, "optionalSignature").field(octets, "");
-            push_signature(alloc, page, octets, &site, signature)
+            let place = contents_of(octets, at.optional_signature);
+            push_signature(alloc, page, octets, &place, signature)
         }
         None => Ok(()),
     }
@@ -61,19 +63,19 @@ fn push_signed(
     alloc: Global,
     page: &mut Page,
     octets: &[u8],
-    site: &Site,
+    place: &Place,
     signed: &TbsRequest<'_>,
 ) -> Result<(), AllocError> {
-    push_version(page, &site.field(octets, "version"), signed.version())?;
-    let requestor = site.field(octets, "requestorName");
-    push_requestor(alloc, page, &requestor, signed.requestor_name())?;
-    let list = site.field(octets, "requestList");
-    push_requests(alloc, page, octets, &list, signed.request_list().as_slice())?;
+    let at = places_of(signed, octets, place.offset);
+    push_version(page, &at.version, signed.version())?;
+    push_requestor(alloc, page, &at.requestor_name, signed.requestor_name())?;
+    let requests = signed.request_list().as_slice();
+    push_requests(alloc, page, octets, &at.request_list, requests)?;
     push_explicit_extensions(
         alloc,
         page,
         octets,
-        &site.field(octets, "requestExtensions"),
+        &at.request_extensions,
         "extension",
         signed.request_extensions(),
     )
@@ -82,12 +84,12 @@ fn push_signed(
 fn push_requestor(
     alloc: Global,
     page: &mut Page,
-    site: &Site,
+    place: &Place,
     name: Option<&GeneralName<'_>>,
 ) -> Result<(), AllocError> {
     match name {
         Some(name) => {
-            push_label(page, &site.place, "requestor")?;
+            push_label(page, place, "requestor")?;
             push_other_name(alloc, page, name)?;
             page.text.push('\n')
         }
@@ -100,19 +102,19 @@ fn push_requests(
     alloc: Global,
     page: &mut Page,
     octets: &[u8],
-    list: &Site,
+    list: &Place,
     requests: &[Request<'_>],
 ) -> Result<(), AllocError> {
-    let mut sites = Sites::within(octets, list);
+    let mut items = Items::within(octets, list);
     for request in requests {
-        let site = sites.next_site().unwrap_or(list.nothing());
-        let certificate = site.field(octets, "reqCert");
-        push_certificate_id(alloc, page, octets, &certificate, request.req_cert())?;
+        let place = items.next_item().unwrap_or(nowhere());
+        let at = places_of(request, octets, place.offset);
+        push_certificate_id(alloc, page, octets, &at.req_cert, request.req_cert())?;
         push_explicit_extensions(
             alloc,
             page,
             octets,
-            &site.field(octets, "singleRequestExtensions"),
+            &at.single_request_extensions,
             "extension of this certificate",
             request.single_request_extensions(),
         )?;
@@ -124,20 +126,21 @@ fn push_signature(
     alloc: Global,
     page: &mut Page,
     octets: &[u8],
-    site: &Site,
+    place: &Place,
     signature: &Signature<'_>,
 ) -> Result<(), AllocError> {
+    let at = places_of(signature, octets, place.offset);
     push_signature_rows(
         alloc,
         page,
-        octets,
-        site,
+        &at.signature_algorithm,
         signature.signature_algorithm(),
+        &at.signature,
         signature.signature(),
     )?;
     match signature.certs() {
         Some(certificates) => {
-            let list = site.field(octets, "certs").field(octets, "");
+            let list = contents_of(octets, at.certs);
             push_certificate_rows(alloc, page, octets, &list, certificates.as_slice())
         }
         None => Ok(()),

@@ -9,24 +9,23 @@ use crate::certificate::push_version;
 use crate::fault::{Fault, refusal};
 use crate::kind::Kind;
 use crate::ocsp_statuses::push_single_responses;
-use crate::whole::{push_title, whole_of};
+use crate::whole::push_title;
 use certview_parts::extension_rows::push_explicit_extensions;
 use certview_parts::labels::push_label;
 use certview_parts::names::push_name;
 use certview_parts::page::Page;
-use certview_parts::parts::Part;
+use certview_parts::place::{Place, place_of_all};
 use certview_parts::rows::{
     push_identifier_row, push_malformed_row, push_octets_row, push_time_row,
 };
 use certview_parts::signatures::{push_certificate_rows, push_signature_rows};
-use certview_parts::site::Site;
 use der_asn1_types::FromDer;
 use der_ocsp::ocsp::constants::ID_PKIX_OCSP_BASIC;
 use der_ocsp::ocsp::laws::grammar_of_ocsp_response;
 use der_ocsp::ocsp::{
     BasicOcspResponse, OcspResponse, OcspResponseStatus, ResponderId, ResponseBytes, ResponseData,
 };
-use der_ocsp::parts::Part as OcspPart;
+use der_places::{contents_of, places_of};
 use std::alloc::{AllocError, Global};
 
 /// Adds the fields of the OCSPResponse that these octets are, a line each.
@@ -51,16 +50,16 @@ fn push_fields(
     octets: &[u8],
     response: &OcspResponse<'_>,
 ) -> Result<(), AllocError> {
-    let whole = whole_of(octets, Kind::OcspResponse);
-    push_title(page, &whole.place, Kind::OcspResponse)?;
-    let status = whole.field(octets, "responseStatus").place;
-    push_label(page, &status, "status")?;
+    let whole = place_of_all(octets);
+    let at = places_of(response, octets, whole.offset);
+    push_title(page, &whole, Kind::OcspResponse)?;
+    push_label(page, &at.response_status, "status")?;
     page.text.push_str(name_of(response.response_status()))?;
     page.text.push('\n')?;
     match response.response_bytes() {
         Some(bytes) => {
-            let site = whole.field(octets, "responseBytes").field(octets, "");
-            push_response(alloc, page, octets, &site, bytes)
+            let place = contents_of(octets, at.response_bytes);
+            push_response(alloc, page, octets, &place, bytes)
         }
         None => Ok(()),
     }
@@ -82,26 +81,21 @@ fn push_response(
     alloc: Global,
     page: &mut Page,
     octets: &[u8],
-    site: &Site,
+    place: &Place,
     bytes: &ResponseBytes<'_>,
 ) -> Result<(), AllocError> {
-    let place = site.field(octets, "responseType").place;
+    let at = places_of(bytes, octets, place.offset);
     let identifier = bytes.response_type().as_bytes();
-    push_identifier_row(alloc, page, &place, "response type", identifier)?;
-    let response = site.field(octets, "response");
+    push_identifier_row(alloc, page, &at.response_type, "response type", identifier)?;
+    let held = bytes.response().as_bytes();
     if identifier != ID_PKIX_OCSP_BASIC.as_slice() {
-        return push_octets_row(
-            page,
-            &response.place,
-            "response",
-            bytes.response().as_bytes(),
-        );
+        return push_octets_row(page, &at.response, "response", held);
     }
-    let basic = response.holding(octets, Part::Ocsp(OcspPart::BasicOcspResponse));
-    let begin = response.place.contents;
-    match BasicOcspResponse::from_der(alloc, bytes.response().as_bytes()) {
+    let basic = contents_of(octets, at.response);
+    let begin = basic.offset as usize;
+    match BasicOcspResponse::from_der(alloc, held) {
         Ok(response) => push_basic(alloc, page, octets, &basic, &response),
-        Err(error) => push_malformed_row(page, &response.place, "response", begin, error),
+        Err(error) => push_malformed_row(page, &at.response, "response", begin, error),
     }
 }
 
@@ -109,22 +103,23 @@ fn push_basic(
     alloc: Global,
     page: &mut Page,
     octets: &[u8],
-    site: &Site,
+    place: &Place,
     response: &BasicOcspResponse<'_>,
 ) -> Result<(), AllocError> {
-    let signed = site.field(octets, "tbsResponseData");
-    push_signed(alloc, page, octets, &signed, response.tbs_response_data())?;
+    let at = places_of(response, octets, place.offset);
+    let signed = response.tbs_response_data();
+    push_signed(alloc, page, octets, &at.tbs_response_data, signed)?;
     push_signature_rows(
         alloc,
         page,
-        octets,
-        site,
+        &at.signature_algorithm,
         response.signature_algorithm(),
+        &at.signature,
         response.signature(),
     )?;
     match response.certs() {
         Some(certificates) => {
-            let list = site.field(octets, "certs").field(octets, "");
+            let list = contents_of(octets, at.certs);
             push_certificate_rows(alloc, page, octets, &list, certificates.as_slice())
         }
         None => Ok(()),
@@ -135,22 +130,21 @@ fn push_signed(
     alloc: Global,
     page: &mut Page,
     octets: &[u8],
-    site: &Site,
+    place: &Place,
     signed: &ResponseData<'_>,
 ) -> Result<(), AllocError> {
-    push_version(page, &site.field(octets, "version"), signed.version())?;
-    let responder = site.field(octets, "responderID");
-    push_responder(alloc, page, octets, &responder, signed.responder_id())?;
-    let produced = site.field(octets, "producedAt").place;
+    let at = places_of(signed, octets, place.offset);
+    push_version(page, &at.version, signed.version())?;
+    push_responder(alloc, page, octets, &at.responder_id, signed.responder_id())?;
     let time = signed.produced_at().to_date_time();
-    push_time_row(page, &produced, "produced at", &time)?;
-    let list = site.field(octets, "responses");
-    push_single_responses(alloc, page, octets, &list, signed.responses().as_slice())?;
+    push_time_row(page, &at.produced_at, "produced at", &time)?;
+    let responses = signed.responses().as_slice();
+    push_single_responses(alloc, page, octets, &at.responses, responses)?;
     push_explicit_extensions(
         alloc,
         page,
         octets,
-        &site.field(octets, "responseExtensions"),
+        &at.response_extensions,
         "extension",
         signed.response_extensions(),
     )
@@ -161,17 +155,17 @@ fn push_responder(
     alloc: Global,
     page: &mut Page,
     octets: &[u8],
-    site: &Site,
+    place: &Place,
     responder: &ResponderId<'_>,
 ) -> Result<(), AllocError> {
     match responder {
         ResponderId::ByName(name) => {
-            let named = site.field(octets, "");
+            let named = contents_of(octets, *place);
             push_name(alloc, page, &named, "responder", &name.fields.first)
         }
         ResponderId::ByKey(hash) => {
             let label = "hash of responder's key";
-            push_octets_row(page, &site.place, label, hash.fields.first.as_bytes())
+            push_octets_row(page, place, label, hash.fields.first.as_bytes())
         }
     }
 }

@@ -3,12 +3,14 @@
 use crate::ocsp_certificates::push_certificate_id;
 use certview_parts::entries::name_of;
 use certview_parts::extension_rows::push_explicit_extensions;
+use certview_parts::items::Items;
 use certview_parts::labels::push_label;
 use certview_parts::page::Page;
+use certview_parts::place::{Place, nowhere};
 use certview_parts::rows::push_time_row;
-use certview_parts::site::{Site, Sites};
 use certview_parts::times::push_date_time;
 use der_ocsp::ocsp::{CertStatus, RevokedInfo, SingleResponse};
+use der_places::places_of;
 use std::alloc::{AllocError, Global};
 
 /// Adds the lines of each SingleResponse.
@@ -16,13 +18,13 @@ pub fn push_single_responses(
     alloc: Global,
     page: &mut Page,
     octets: &[u8],
-    list: &Site,
+    list: &Place,
     responses: &[SingleResponse<'_>],
 ) -> Result<(), AllocError> {
-    let mut sites = Sites::within(octets, list);
+    let mut items = Items::within(octets, list);
     for response in responses {
-        let site = sites.next_site().unwrap_or(list.nothing());
-        push_single_response(alloc, page, octets, &site, response)?;
+        let place = items.next_item().unwrap_or(nowhere());
+        push_single_response(alloc, page, octets, &place, response)?;
     }
     Ok(())
 }
@@ -31,27 +33,24 @@ fn push_single_response(
     alloc: Global,
     page: &mut Page,
     octets: &[u8],
-    site: &Site,
+    place: &Place,
     response: &SingleResponse<'_>,
 ) -> Result<(), AllocError> {
-    let certificate = site.field(octets, "certID");
-    push_certificate_id(alloc, page, octets, &certificate, response.cert_id())?;
-    let status = site.field(octets, "certStatus");
-    push_label(page, &status.place, "status")?;
+    let at = places_of(response, octets, place.offset);
+    push_certificate_id(alloc, page, octets, &at.cert_id, response.cert_id())?;
+    push_label(page, &at.cert_status, "status")?;
     push_status(page, &response.cert_status())?;
     page.text.push('\n')?;
-    let now = site.field(octets, "thisUpdate").place;
     let time = response.this_update().to_date_time();
-    push_time_row(page, &now, "this update", &time)?;
+    push_time_row(page, &at.this_update, "this update", &time)?;
     if let Some(time) = response.next_update() {
-        let next = site.field(octets, "nextUpdate").place;
-        push_time_row(page, &next, "next update", &time.to_date_time())?;
+        push_time_row(page, &at.next_update, "next update", &time.to_date_time())?;
     }
     push_explicit_extensions(
         alloc,
         page,
         octets,
-        &site.field(octets, "singleExtensions"),
+        &at.single_extensions,
         "extension of this certificate",
         response.single_extensions(),
     )

@@ -10,19 +10,19 @@ use crate::contents::push_content;
 use crate::fault::{Fault, refusal};
 use crate::keys::push_version;
 use crate::kind::Kind;
-use crate::whole::{push_title, whole_of};
+use crate::whole::push_title;
 use certview_parts::algorithms::push_algorithm;
+use certview_parts::items::Items;
 use certview_parts::page::Page;
-use certview_parts::parts::Part;
+use certview_parts::place::{Place, contents_at, nowhere, place_of_all};
 use certview_parts::rows::{
     push_identifier_row, push_integer_row, push_malformed_row, push_octets_row,
 };
-use certview_parts::site::{Site, Sites};
 use der_asn1_types::FromDer;
 use der_cms::cms::constants::ID_DATA;
-use der_pkcs::parts::Part as PkcsPart;
 use der_pkcs::pkcs12::laws::grammar_of_pfx;
 use der_pkcs::pkcs12::{AuthenticatedSafe, ContentInfo, MacData, Pfx};
+use der_places::{contents_of, places_of};
 use std::alloc::{AllocError, Global};
 
 /// Adds the fields of the PFX that these octets are, a line each.
@@ -47,13 +47,13 @@ fn push_fields(
     octets: &[u8],
     file: &Pfx<'_>,
 ) -> Result<(), AllocError> {
-    let whole = whole_of(octets, Kind::Pkcs12);
-    push_title(page, &whole.place, Kind::Pkcs12)?;
-    push_version(page, octets, &whole, file.version())?;
-    let safe = whole.field(octets, "authSafe");
-    push_safe(alloc, page, octets, &safe, file.auth_safe())?;
+    let whole = place_of_all(octets);
+    let at = places_of(file, octets, whole.offset);
+    push_title(page, &whole, Kind::Pkcs12)?;
+    push_version(page, &at.version, file.version())?;
+    push_safe(alloc, page, octets, &at.auth_safe, file.auth_safe())?;
     match file.mac_data() {
-        Some(mac) => push_mac(alloc, page, octets, &whole.field(octets, "macData"), mac),
+        Some(mac) => push_mac(alloc, page, octets, &at.mac_data, mac),
         None => Ok(()),
     }
 }
@@ -63,24 +63,26 @@ fn push_safe(
     alloc: Global,
     page: &mut Page,
     octets: &[u8],
-    site: &Site,
+    place: &Place,
     content: &ContentInfo<'_>,
 ) -> Result<(), AllocError> {
+    let at = places_of(content, octets, place.offset);
     let identifier = content.content_type().as_bytes();
-    let place = site.field(octets, "contentType").place;
-    push_identifier_row(alloc, page, &place, "content type", identifier)?;
+    push_identifier_row(alloc, page, &at.content_type, "content type", identifier)?;
     if content.content().is_none() {
         return Ok(());
     }
-    let value = site.field(octets, "content").holding(octets, Part::value());
+    let value = contents_of(octets, at.content);
     if identifier != ID_DATA.as_slice() {
         return push_content(alloc, page, octets, &value, identifier);
     }
-    let inner = value.contents(octets);
-    let safe = value.holding(octets, Part::Pkcs(PkcsPart::AuthenticatedSafe));
+    let inner = contents_at(octets, &value);
     match AuthenticatedSafe::from_der(alloc, inner.octets) {
-        Ok(contents) => push_contents(alloc, page, octets, &safe, contents.as_slice()),
-        Err(error) => push_malformed_row(page, &value.place, "contents", inner.begin, error),
+        Ok(contents) => {
+            let list = contents_of(octets, value);
+            push_contents(alloc, page, octets, &list, contents.as_slice())
+        }
+        Err(error) => push_malformed_row(page, &value, "contents", inner.begin, error),
     }
 }
 
@@ -88,13 +90,13 @@ fn push_contents(
     alloc: Global,
     page: &mut Page,
     octets: &[u8],
-    list: &Site,
+    list: &Place,
     contents: &[ContentInfo<'_>],
 ) -> Result<(), AllocError> {
-    let mut sites = Sites::within(octets, list);
+    let mut items = Items::within(octets, list);
     for content in contents {
-        let site = sites.next_site().unwrap_or(list.nothing());
-        push_one_content(alloc, page, octets, &site, content)?;
+        let place = items.next_item().unwrap_or(nowhere());
+        push_one_content(alloc, page, octets, &place, content)?;
     }
     Ok(())
 }
@@ -104,16 +106,16 @@ fn push_one_content(
     alloc: Global,
     page: &mut Page,
     octets: &[u8],
-    site: &Site,
+    place: &Place,
     content: &ContentInfo<'_>,
 ) -> Result<(), AllocError> {
+    let at = places_of(content, octets, place.offset);
     let identifier = content.content_type().as_bytes();
-    let place = site.field(octets, "contentType").place;
-    push_identifier_row(alloc, page, &place, "content type", identifier)?;
+    push_identifier_row(alloc, page, &at.content_type, "content type", identifier)?;
     if content.content().is_none() {
         return Ok(());
     }
-    let value = site.field(octets, "content").holding(octets, Part::value());
+    let value = contents_of(octets, at.content);
     if identifier == ID_DATA.as_slice() {
         push_bags(alloc, page, octets, &value)
     } else {
@@ -126,22 +128,21 @@ fn push_mac(
     alloc: Global,
     page: &mut Page,
     octets: &[u8],
-    site: &Site,
+    place: &Place,
     mac: &MacData<'_>,
 ) -> Result<(), AllocError> {
-    let digest = site.field(octets, "mac");
-    let algorithm = digest.field(octets, "digestAlgorithm");
+    let at = places_of(mac, octets, place.offset);
+    let info = mac.mac();
+    let within = places_of(info, octets, at.mac.offset);
     push_algorithm(
         alloc,
         page,
-        &algorithm,
+        &within.digest_algorithm,
         "MAC algorithm",
-        mac.mac().digest_algorithm(),
+        info.digest_algorithm(),
     )?;
-    let place = digest.field(octets, "digest").place;
-    push_octets_row(page, &place, "MAC", mac.mac().digest().as_bytes())?;
-    let place = site.field(octets, "macSalt").place;
-    push_octets_row(page, &place, "salt", mac.mac_salt().as_bytes())?;
-    let place = site.field(octets, "iterations").place;
-    push_integer_row(page, &place, "iterations", mac.iterations().unwrap_or(1))
+    push_octets_row(page, &within.digest, "MAC", info.digest().as_bytes())?;
+    push_octets_row(page, &at.mac_salt, "salt", mac.mac_salt().as_bytes())?;
+    let iterations = mac.iterations().unwrap_or(1);
+    push_integer_row(page, &at.iterations, "iterations", iterations)
 }

@@ -4,6 +4,7 @@
 use crate::certificate::push_version;
 use crate::kind::{Kind, has_tag, has_time_tag};
 use crate::revocation::push_entry;
+use crate::site::{Extent, Site, Sites};
 use crate::whole::{push_title, whole_of};
 use certview_parts::algorithms::{push_algorithm, push_key};
 use certview_parts::bit_strings::push_bits;
@@ -14,8 +15,6 @@ use certview_parts::labels::push_label;
 use certview_parts::lines::{Lines, Stop};
 use certview_parts::names::push_attribute;
 use certview_parts::page::{Page, push_malformed};
-use certview_parts::place::Place;
-use certview_parts::site::{Site, Sites};
 use certview_parts::times::push_time;
 use der_asn1_types::FromDer;
 use der_asn1_types::asn1::{BitStringRef, IntRef};
@@ -46,13 +45,13 @@ pub fn push_parts<L: Lines>(
 }
 
 /// The octets of a field.
-fn octets_of<'a>(octets: &'a [u8], place: &Place) -> &'a [u8] {
-    octets.get(place.begin..place.end).unwrap_or(&[])
+fn octets_of<'a>(octets: &'a [u8], extent: &Extent) -> &'a [u8] {
+    octets.get(extent.begin..extent.end).unwrap_or(&[])
 }
 
 /// The contents octets of a field, and what follows it.
-fn octets_within<'a>(octets: &'a [u8], place: &Place) -> &'a [u8] {
-    octets.get(place.contents..).unwrap_or(&[])
+fn octets_within<'a>(octets: &'a [u8], extent: &Extent) -> &'a [u8] {
+    octets.get(extent.contents..).unwrap_or(&[])
 }
 
 /// The same with the times in it, where it looks like a certificate.
@@ -65,10 +64,10 @@ fn push_certificate_parts<L: Lines>(
 ) -> Result<(), Stop> {
     let site = whole.field(octets, "tbsCertificate");
     let validity = site.field(octets, "validity");
-    if !has_time_tag(octets_within(octets, &validity.place)) {
+    if !has_time_tag(octets_within(octets, &validity.extent)) {
         return Ok(());
     }
-    push_title(page, &whole.place, Kind::Certificate)?;
+    push_title(page, &whole.place(), Kind::Certificate)?;
     push_number_part(page, octets, &site)?;
     push_serial_part(alloc, page, octets, &site.field(octets, "serialNumber"))?;
     push_algorithm_part(alloc, page, octets, &site.field(octets, "signature"))?;
@@ -133,10 +132,10 @@ fn push_list_parts<L: Lines>(
 ) -> Result<(), Stop> {
     let site = whole.field(octets, "tbsCertList");
     let first = site.field(octets, "thisUpdate");
-    if !has_time_tag(octets_of(octets, &first.place)) {
+    if !has_time_tag(octets_of(octets, &first.extent)) {
         return Ok(());
     }
-    push_title(page, &whole.place, Kind::RevocationList)?;
+    push_title(page, &whole.place(), Kind::RevocationList)?;
     push_number_part(page, octets, &site)?;
     push_algorithm_part(alloc, page, octets, &site.field(octets, "signature"))?;
     push_name_part(alloc, page, octets, &site.field(octets, "issuer"), "issuer")?;
@@ -169,9 +168,9 @@ fn push_list_parts<L: Lines>(
 /// Adds the version, whose last octet is its number.
 fn push_number_part(page: &mut Page, octets: &[u8], site: &Site) -> Result<(), AllocError> {
     let version = site.field(octets, "version");
-    match octets_of(octets, &version.place) {
-        [.., number] => push_version(page, &version, *number),
-        [] => push_version(page, &version, 0),
+    match octets_of(octets, &version.extent) {
+        [.., number] => push_version(page, &version.place(), *number),
+        [] => push_version(page, &version.place(), 0),
     }
 }
 
@@ -181,10 +180,10 @@ fn push_serial_part(
     octets: &[u8],
     site: &Site,
 ) -> Result<(), AllocError> {
-    push_label(page, &site.place, "serial number")?;
-    match IntRef::from_der(alloc, octets_of(octets, &site.place)) {
+    push_label(page, &site.place(), "serial number")?;
+    match IntRef::from_der(alloc, octets_of(octets, &site.extent)) {
         Ok(number) => push_serial(page, number.as_bytes())?,
-        Err(error) => push_malformed(page, site.place.begin, error)?,
+        Err(error) => push_malformed(page, site.extent.begin, error)?,
     }
     page.text.push('\n')
 }
@@ -195,11 +194,17 @@ fn push_algorithm_part(
     octets: &[u8],
     site: &Site,
 ) -> Result<(), AllocError> {
-    match AlgorithmIdentifier::from_der(alloc, octets_of(octets, &site.place)) {
-        Ok(algorithm) => push_algorithm(alloc, page, site, "signature algorithm", &algorithm),
+    match AlgorithmIdentifier::from_der(alloc, octets_of(octets, &site.extent)) {
+        Ok(algorithm) => push_algorithm(
+            alloc,
+            page,
+            &site.place(),
+            "signature algorithm",
+            &algorithm,
+        ),
         Err(error) => {
-            push_label(page, &site.place, "signature algorithm")?;
-            push_malformed(page, site.place.begin, error)?;
+            push_label(page, &site.place(), "signature algorithm")?;
+            push_malformed(page, site.extent.begin, error)?;
             page.text.push('\n')
         }
     }
@@ -212,13 +217,13 @@ fn push_time_part(
     site: &Site,
     label: &str,
 ) -> Result<(), AllocError> {
-    if site.place.len() == 0 {
+    if site.extent.len() == 0 {
         return Ok(());
     }
-    push_label(page, &site.place, label)?;
-    match Time::from_der(alloc, octets_of(octets, &site.place)) {
+    push_label(page, &site.place(), label)?;
+    match Time::from_der(alloc, octets_of(octets, &site.extent)) {
         Ok(time) => push_time(page, &time)?,
-        Err(error) => push_malformed(page, site.place.begin, error)?,
+        Err(error) => push_malformed(page, site.extent.begin, error)?,
     }
     page.text.push('\n')
 }
@@ -231,10 +236,10 @@ fn push_name_part(
     site: &Site,
     label: &str,
 ) -> Result<(), AllocError> {
-    push_label(page, &site.place, label)?;
+    push_label(page, &site.place(), label)?;
     let begin = page.text.len();
     let mut sites = Sites::within(octets, site);
-    for _ in site.place.contents..site.place.end {
+    for _ in site.extent.contents..site.extent.end {
         let Some(part) = sites.next_site() else {
             break;
         };
@@ -243,9 +248,9 @@ fn push_name_part(
         }
         push_attribute_parts(alloc, page, octets, &part)?;
     }
-    if let Err(error) = Name::from_der(alloc, octets_of(octets, &site.place)) {
+    if let Err(error) = Name::from_der(alloc, octets_of(octets, &site.extent)) {
         if page.text.len() == begin {
-            push_malformed(page, site.place.begin, error)?;
+            push_malformed(page, site.extent.begin, error)?;
         }
     }
     page.text.push('\n')
@@ -260,7 +265,7 @@ fn push_attribute_parts(
 ) -> Result<(), AllocError> {
     let mut is_first = true;
     let mut sites = Sites::within(octets, site);
-    for _ in site.place.contents..site.place.end {
+    for _ in site.extent.contents..site.extent.end {
         let Some(part) = sites.next_site() else {
             break;
         };
@@ -268,11 +273,11 @@ fn push_attribute_parts(
             page.text.push('+')?;
         }
         is_first = false;
-        match AttributeTypeAndValue::from_der(alloc, octets_of(octets, &part.place)) {
+        match AttributeTypeAndValue::from_der(alloc, octets_of(octets, &part.extent)) {
             Ok(attribute) => push_attribute(alloc, page, &attribute)?,
             Err(error) => {
                 push_type_part(alloc, page, octets, &part)?;
-                push_malformed(page, part.place.begin, error)?;
+                push_malformed(page, part.extent.begin, error)?;
             }
         }
     }
@@ -286,11 +291,11 @@ fn push_type_part(
     octets: &[u8],
     site: &Site,
 ) -> Result<(), AllocError> {
-    let place = site.field(octets, "type").place;
-    if !has_tag(octets_of(octets, &place), 0x06) {
+    let extent = site.field(octets, "type").extent;
+    if !has_tag(octets_of(octets, &extent), 0x06) {
         return Ok(());
     }
-    let identifier = octets.get(place.contents..place.end).unwrap_or(&[]);
+    let identifier = octets.get(extent.contents..extent.end).unwrap_or(&[]);
     push_attribute_type(alloc, page, identifier)?;
     page.text.push('=')
 }
@@ -301,11 +306,11 @@ fn push_key_part(
     octets: &[u8],
     site: &Site,
 ) -> Result<(), AllocError> {
-    match SubjectPublicKeyInfo::from_der(alloc, octets_of(octets, &site.place)) {
-        Ok(key) => push_key(alloc, page, octets, site, &key),
+    match SubjectPublicKeyInfo::from_der(alloc, octets_of(octets, &site.extent)) {
+        Ok(key) => push_key(alloc, page, octets, &site.place(), &key),
         Err(error) => {
-            push_label(page, &site.place, "key")?;
-            push_malformed(page, site.place.begin, error)?;
+            push_label(page, &site.place(), "key")?;
+            push_malformed(page, site.extent.begin, error)?;
             page.text.push('\n')
         }
     }
@@ -318,13 +323,13 @@ fn push_unique_part(
     site: &Site,
     label: &str,
 ) -> Result<(), AllocError> {
-    let Some([unused, bits @ ..]) = octets.get(site.place.contents..site.place.end) else {
+    let Some([unused, bits @ ..]) = octets.get(site.extent.contents..site.extent.end) else {
         return Ok(());
     };
-    push_label(page, &site.place, label)?;
+    push_label(page, &site.place(), label)?;
     match BitStringRef::new(*unused, bits) {
         Ok(bits) => push_bits(page, &bits)?,
-        Err(error) => push_malformed(page, site.place.contents, error)?,
+        Err(error) => push_malformed(page, site.extent.contents, error)?,
     }
     page.text.push('\n')
 }
@@ -339,7 +344,7 @@ fn push_extension_parts<L: Lines>(
 ) -> Result<(), Stop> {
     let list = site.field(octets, "");
     let mut sites = Sites::within(octets, &list);
-    for _ in list.place.contents..list.place.end {
+    for _ in list.extent.contents..list.extent.end {
         let Some(part) = sites.next_site() else {
             break;
         };
@@ -355,10 +360,10 @@ fn push_extension_part(
     octets: &[u8],
     site: &Site,
 ) -> Result<(), AllocError> {
-    push_label(page, &site.place, "extension")?;
-    match Extension::from_der(alloc, octets_of(octets, &site.place)) {
-        Ok(extension) => push_extension(alloc, page, &site.place, &extension)?,
-        Err(error) => push_malformed(page, site.place.begin, error)?,
+    push_label(page, &site.place(), "extension")?;
+    match Extension::from_der(alloc, octets_of(octets, &site.extent)) {
+        Ok(extension) => push_extension(alloc, page, &site.place(), &extension)?,
+        Err(error) => push_malformed(page, site.extent.begin, error)?,
     }
     page.text.push('\n')
 }
@@ -372,7 +377,7 @@ fn push_entry_parts<L: Lines>(
     list: &Site,
 ) -> Result<(), Stop> {
     let mut sites = Sites::within(octets, list);
-    for _ in list.place.contents..list.place.end {
+    for _ in list.extent.contents..list.extent.end {
         let Some(part) = sites.next_site() else {
             break;
         };
@@ -388,11 +393,11 @@ fn push_entry_part(
     octets: &[u8],
     site: &Site,
 ) -> Result<(), AllocError> {
-    push_label(page, &site.place, "revoked")?;
-    match RevokedCertificate::from_der(alloc, octets_of(octets, &site.place)) {
-        Ok(entry) => push_entry(alloc, page, octets, site, &entry),
+    push_label(page, &site.place(), "revoked")?;
+    match RevokedCertificate::from_der(alloc, octets_of(octets, &site.extent)) {
+        Ok(entry) => push_entry(alloc, page, octets, &site.place(), &entry),
         Err(error) => {
-            push_malformed(page, site.place.begin, error)?;
+            push_malformed(page, site.extent.begin, error)?;
             page.text.push('\n')
         }
     }
@@ -406,17 +411,17 @@ fn push_signature_parts(
     whole: &Site,
 ) -> Result<(), AllocError> {
     let algorithm = whole.field(octets, "signatureAlgorithm");
-    if algorithm.place.len() > 0 {
+    if algorithm.extent.len() > 0 {
         push_algorithm_part(alloc, page, octets, &algorithm)?;
     }
     let site = whole.field(octets, "signatureValue");
-    if site.place.len() == 0 {
+    if site.extent.len() == 0 {
         return Ok(());
     }
-    push_label(page, &site.place, "signature")?;
-    match BitStringRef::from_der(alloc, octets_of(octets, &site.place)) {
+    push_label(page, &site.place(), "signature")?;
+    match BitStringRef::from_der(alloc, octets_of(octets, &site.extent)) {
         Ok(bits) => push_bits(page, &bits)?,
-        Err(error) => push_malformed(page, site.place.begin, error)?,
+        Err(error) => push_malformed(page, site.extent.begin, error)?,
     }
     page.text.push('\n')
 }

@@ -5,17 +5,19 @@ use crate::keys::push_version;
 use crate::signers::push_signer_identifier;
 use certview_parts::algorithms::push_algorithm;
 use certview_parts::encryption::push_derivation;
+use certview_parts::items::Items;
 use certview_parts::labels::push_label;
 use certview_parts::page::Page;
+use certview_parts::place::{Place, inner_at};
 use certview_parts::rows::{
     push_identifier_row, push_length_row, push_malformed_row, push_octets_row, push_time_row,
 };
-use certview_parts::site::{Site, Sites};
 use der_asn1_types::FromDer;
 use der_enveloped::enveloped::{
     KekRecipientInfo, KeyTransRecipientInfo, PasswordRecipientInfo, RecipientInfo,
 };
 use der_pkix::AlgorithmIdentifier;
+use der_places::places_of;
 use std::alloc::{AllocError, Global};
 
 /// Adds the lines of each recipient of a set, in the order in which they stand.
@@ -23,18 +25,18 @@ pub fn push_recipients(
     alloc: Global,
     page: &mut Page,
     octets: &[u8],
-    set: &Site,
+    set: &Place,
 ) -> Result<(), AllocError> {
     let label = "recipient";
-    let mut sites = Sites::within(octets, set);
-    for _ in set.place.contents..set.place.end {
-        let Some(site) = sites.next_site() else {
+    let mut items = Items::within(octets, set);
+    for _ in 0..set.length {
+        let Some(place) = items.next_item() else {
             break;
         };
-        let inner = site.inner(octets);
+        let inner = inner_at(octets, &place);
         match RecipientInfo::from_der(alloc, inner.octets) {
-            Ok(recipient) => push_recipient(alloc, page, octets, &site, &recipient)?,
-            Err(error) => push_malformed_row(page, &site.place, label, inner.begin, error)?,
+            Ok(recipient) => push_recipient(alloc, page, octets, &place, &recipient)?,
+            Err(error) => push_malformed_row(page, &place, label, inner.begin, error)?,
         }
     }
     Ok(())
@@ -44,17 +46,17 @@ fn push_recipient(
     alloc: Global,
     page: &mut Page,
     octets: &[u8],
-    site: &Site,
+    place: &Place,
     recipient: &RecipientInfo<'_>,
 ) -> Result<(), AllocError> {
     match recipient {
-        RecipientInfo::Ktri(recipient) => push_transport(alloc, page, octets, site, recipient),
-        RecipientInfo::Kari(agreed) => push_agreement(alloc, page, octets, site, &agreed.value),
-        RecipientInfo::Kekri(keyed) => push_keyed(alloc, page, octets, site, &keyed.value),
-        RecipientInfo::Pwri(told) => push_password(alloc, page, octets, site, &told.value),
+        RecipientInfo::Ktri(recipient) => push_transport(alloc, page, octets, place, recipient),
+        RecipientInfo::Kari(agreed) => push_agreement(alloc, page, octets, place, &agreed.value),
+        RecipientInfo::Kekri(keyed) => push_keyed(alloc, page, octets, place, &keyed.value),
+        RecipientInfo::Pwri(told) => push_password(alloc, page, octets, place, &told.value),
         RecipientInfo::Ori(other) => {
             let kind = other.value.type_().as_bytes();
-            push_identifier_row(alloc, page, &site.place, "recipient of another kind", kind)
+            push_identifier_row(alloc, page, place, "recipient of another kind", kind)
         }
     }
 }
@@ -64,22 +66,18 @@ fn push_transport(
     alloc: Global,
     page: &mut Page,
     octets: &[u8],
-    site: &Site,
+    place: &Place,
     recipient: &KeyTransRecipientInfo<'_>,
 ) -> Result<(), AllocError> {
-    let identifier = site.field(octets, "rid");
-    push_label(page, &identifier.place, "recipient")?;
-    push_signer_identifier(alloc, page, octets, &identifier, recipient.rid())?;
+    let at = places_of(recipient, octets, place.offset);
+    push_label(page, &at.rid, "recipient")?;
+    push_signer_identifier(alloc, page, recipient.rid())?;
     page.text.push('\n')?;
-    push_version(page, octets, site, recipient.version())?;
-    push_key_encryption(
-        alloc,
-        page,
-        octets,
-        site,
-        recipient.key_encryption_algorithm(),
-    )?;
-    push_encrypted_key(page, octets, site, recipient.encrypted_key().as_bytes())
+    push_version(page, &at.version, recipient.version())?;
+    let algorithm = recipient.key_encryption_algorithm();
+    push_key_encryption(alloc, page, &at.key_encryption_algorithm, algorithm)?;
+    let encrypted = recipient.encrypted_key().as_bytes();
+    push_encrypted_key(page, &at.encrypted_key, encrypted)
 }
 
 /// Adds the lines of a recipient that has a key already.
@@ -87,26 +85,23 @@ fn push_keyed(
     alloc: Global,
     page: &mut Page,
     octets: &[u8],
-    site: &Site,
+    place: &Place,
     recipient: &KekRecipientInfo<'_>,
 ) -> Result<(), AllocError> {
-    let key = site.field(octets, "kekid");
-    let place = key.field(octets, "subjectKeyIdentifier").place;
-    let identifier = recipient.kekid().subject_key_identifier().as_bytes();
-    push_octets_row(page, &place, "recipient with the key", identifier)?;
-    if let Some(date) = recipient.kekid().date() {
-        let place = key.field(octets, "date").place;
-        push_time_row(page, &place, "date of the key", &date.to_date_time())?;
+    let at = places_of(recipient, octets, place.offset);
+    let key = recipient.kekid();
+    let within = places_of(key, octets, at.kekid.offset);
+    let identifier = key.subject_key_identifier().as_bytes();
+    let label = "recipient with the key";
+    push_octets_row(page, &within.subject_key_identifier, label, identifier)?;
+    if let Some(date) = key.date() {
+        push_time_row(page, &within.date, "date of the key", &date.to_date_time())?;
     }
-    push_version(page, octets, site, recipient.version())?;
-    push_key_encryption(
-        alloc,
-        page,
-        octets,
-        site,
-        recipient.key_encryption_algorithm(),
-    )?;
-    push_encrypted_key(page, octets, site, recipient.encrypted_key().as_bytes())
+    push_version(page, &at.version, recipient.version())?;
+    let algorithm = recipient.key_encryption_algorithm();
+    push_key_encryption(alloc, page, &at.key_encryption_algorithm, algorithm)?;
+    let encrypted = recipient.encrypted_key().as_bytes();
+    push_encrypted_key(page, &at.encrypted_key, encrypted)
 }
 
 /// Adds the lines of a recipient that knows a password.
@@ -114,49 +109,33 @@ fn push_password(
     alloc: Global,
     page: &mut Page,
     octets: &[u8],
-    site: &Site,
+    place: &Place,
     recipient: &PasswordRecipientInfo<'_>,
 ) -> Result<(), AllocError> {
-    push_label(page, &site.place, "recipient")?;
+    let at = places_of(recipient, octets, place.offset);
+    push_label(page, place, "recipient")?;
     page.text.push_str("with a password\n")?;
-    push_version(page, octets, site, recipient.version())?;
+    push_version(page, &at.version, recipient.version())?;
     if let Some(function) = recipient.key_derivation_algorithm() {
-        let derivation = site.field(octets, "keyDerivationAlgorithm");
-        push_derivation(alloc, page, octets, &derivation, function)?;
+        push_derivation(alloc, page, octets, &at.key_derivation_algorithm, function)?;
     }
-    push_key_encryption(
-        alloc,
-        page,
-        octets,
-        site,
-        recipient.key_encryption_algorithm(),
-    )?;
-    push_encrypted_key(page, octets, site, recipient.encrypted_key().as_bytes())
+    let algorithm = recipient.key_encryption_algorithm();
+    push_key_encryption(alloc, page, &at.key_encryption_algorithm, algorithm)?;
+    let encrypted = recipient.encrypted_key().as_bytes();
+    push_encrypted_key(page, &at.encrypted_key, encrypted)
 }
 
 /// Adds the line of the algorithm by which a key is encrypted.
 pub fn push_key_encryption(
     alloc: Global,
     page: &mut Page,
-    octets: &[u8],
-    site: &Site,
+    place: &Place,
     algorithm: &AlgorithmIdentifier<'_>,
 ) -> Result<(), AllocError> {
-    let field = site.field(octets, "keyEncryptionAlgorithm");
-    push_algorithm(alloc, page, &field, "key encryption", algorithm)
+    push_algorithm(alloc, page, place, "key encryption", algorithm)
 }
 
 /// Adds the line of a key that is encrypted.
-pub fn push_encrypted_key(
-    page: &mut Page,
-    octets: &[u8],
-    site: &Site,
-    key: &[u8],
-) -> Result<(), AllocError> {
-    push_length_row(
-        page,
-        &site.field(octets, "encryptedKey").place,
-        "encrypted key",
-        key,
-    )
+pub fn push_encrypted_key(page: &mut Page, place: &Place, key: &[u8]) -> Result<(), AllocError> {
+    push_length_row(page, place, "encrypted key", key)
 }

@@ -8,16 +8,17 @@ ghost use Rattle.certview_text.specs.Faults.{first_fault};
 use crate::certificate::push_version;
 use crate::fault::{Fault, refusal};
 use crate::kind::Kind;
-use crate::whole::{push_title, whole_of};
+use crate::whole::push_title;
 use certview_parts::algorithms::push_key;
 use certview_parts::attribute_rows::push_attribute_rows;
 use certview_parts::names::push_name;
 use certview_parts::page::Page;
+use certview_parts::place::{Place, place_of_all};
 use certview_parts::signatures::push_signature_rows;
-use certview_parts::site::Site;
 use der_asn1_types::FromDer;
 use der_pkcs::request::laws::grammar_of_certification_request;
 use der_pkcs::request::{CertificationRequest, CertificationRequestInfo};
+use der_places::places_of;
 use std::alloc::{AllocError, Global};
 
 /// Adds the fields of the CertificationRequest that these octets are, a line each.
@@ -42,22 +43,22 @@ fn push_fields(
     octets: &[u8],
     request: &CertificationRequest<'_>,
 ) -> Result<(), AllocError> {
-    let whole = whole_of(octets, Kind::CertificationRequest);
-    push_title(page, &whole.place, Kind::CertificationRequest)?;
-    let site = whole.field(octets, "certificationRequestInfo");
+    let whole = place_of_all(octets);
+    push_title(page, &whole, Kind::CertificationRequest)?;
+    let at = places_of(request, octets, whole.offset);
     push_signed(
         alloc,
         page,
         octets,
-        &site,
+        &at.certification_request_info,
         request.certification_request_info(),
     )?;
     push_signature_rows(
         alloc,
         page,
-        octets,
-        &whole,
+        &at.signature_algorithm,
         request.signature_algorithm(),
+        &at.signature,
         request.signature(),
     )
 }
@@ -68,19 +69,13 @@ fn push_signed(
     alloc: Global,
     page: &mut Page,
     octets: &[u8],
-    site: &Site,
+    place: &Place,
     signed: &CertificationRequestInfo<'_>,
 ) -> Result<(), AllocError> {
-    push_version(page, &site.field(octets, "version"), signed.version())?;
-    let subject = site.field(octets, "subject");
-    push_name(alloc, page, &subject, "subject", signed.subject())?;
-    let key = site.field(octets, "subjectPKInfo");
-    push_key(alloc, page, octets, &key, signed.subject_pk_info())?;
-    push_attribute_rows(
-        alloc,
-        page,
-        octets,
-        &site.field(octets, "attributes"),
-        "attribute",
-    )
+    let at = places_of(signed, octets, place.offset);
+    push_version(page, &at.version, signed.version())?;
+    push_name(alloc, page, &at.subject, "subject", signed.subject())?;
+    let key = signed.subject_pk_info();
+    push_key(alloc, page, octets, &at.subject_pk_info, key)?;
+    push_attribute_rows(alloc, page, octets, &at.attributes, "attribute")
 }

@@ -5,25 +5,29 @@ ghost use Rattle.der_modules.specs.Asn1.{parse_of};
 ghost use Rattle.der_pkix.specs.Crl.Grammar.{certificate_list};
 ghost use Rattle.certview_text.specs.Faults.{first_fault};
 
-use crate::certificate::{push_signature, push_version};
+use crate::certificate::push_version;
 use crate::fault::{Fault, refusal};
 use crate::findings::push_list_findings;
 use crate::kind::Kind;
 use crate::moments::push_currency_at;
-use crate::whole::{push_title, whole_of};
+use crate::whole::push_title;
 use certview_parts::algorithms::push_algorithm;
 use certview_parts::extensions::{push_extension, push_extensions};
 use certview_parts::hexadecimal::push_serial;
+use certview_parts::items::Items;
 use certview_parts::labels::push_label;
 use certview_parts::lines::{Lines, Stop};
 use certview_parts::names::push_name;
 use certview_parts::page::Page;
-use certview_parts::site::{Site, Sites};
+use certview_parts::place::{Place, nowhere, place_of_all};
+use certview_parts::signatures::push_signature_rows;
 use certview_parts::times::{push_moment, push_time};
 use der_asn1_types::FromDer;
 use der_pkix::certificate::Extension;
 use der_pkix::crl::laws::grammar_of_certificate_list;
 use der_pkix::crl::{CertificateList, RevokedCertificate, TbsCertList};
+use der_places::crl::TbsCertListPlaces;
+use der_places::places_of;
 use std::alloc::{AllocError, Global};
 
 /// Adds the fields of the list of revoked certificates that these octets are, a line each.
@@ -52,71 +56,46 @@ fn push_fields<L: Lines>(
     octets: &[u8],
     list: &CertificateList<'_>,
 ) -> Result<(), Stop> {
-    let whole = whole_of(octets, Kind::RevocationList);
-    let site = whole.field(octets, "tbsCertList");
-    push_title(page, &whole.place, Kind::RevocationList)?;
-    push_signed(alloc, page, octets, &site, list.tbs_cert_list())?;
-    push_revoked(alloc, page, lines, octets, &site, list.tbs_cert_list())?;
-    push_signature(
+    let whole = place_of_all(octets);
+    push_title(page, &whole, Kind::RevocationList)?;
+    let at = places_of(list, octets, whole.offset);
+    let signed = list.tbs_cert_list();
+    let within = places_of(signed, octets, at.tbs_cert_list.offset);
+    push_signed(alloc, page, &within, signed)?;
+    push_revoked(alloc, page, lines, octets, &within, signed)?;
+    push_signature_rows(
         alloc,
         page,
-        octets,
-        &whole,
+        &at.signature_algorithm,
         list.signature_algorithm(),
+        &at.signature_value,
         list.signature_value(),
     )?;
-    push_asked(alloc, page, octets, &whole, list)?;
+    push_list_findings(alloc, page, octets, list, &whole)?;
+    let (now, next) = (signed.this_update(), signed.next_update());
+    push_currency_at(page, &within.this_update, now, next)?;
     lines.take(page)
-}
-
-/// Adds what is asked of a list besides its fields.
-fn push_asked(
-    alloc: Global,
-    page: &mut Page,
-    octets: &[u8],
-    whole: &Site,
-    list: &CertificateList<'_>,
-) -> Result<(), AllocError> {
-    push_list_findings(alloc, page, octets, list, whole)?;
-    let signed = list.tbs_cert_list();
-    let site = whole.field(octets, "tbsCertList");
-    let place = site.field(octets, "thisUpdate").place;
-    push_currency_at(page, &place, signed.this_update(), signed.next_update())
 }
 
 fn push_signed(
     alloc: Global,
     page: &mut Page,
-    octets: &[u8],
-    site: &Site,
+    at: &TbsCertListPlaces,
     signed: &TbsCertList<'_>,
 ) -> Result<(), AllocError> {
-    let version = signed.version().unwrap_or(0);
-    push_version(page, &site.field(octets, "version"), version)?;
-    let algorithm = site.field(octets, "signature");
+    push_version(page, &at.version, signed.version().unwrap_or(0))?;
     push_algorithm(
         alloc,
         page,
-        &algorithm,
+        &at.signature,
         "signature algorithm",
         signed.signature(),
     )?;
-    push_name(
-        alloc,
-        page,
-        &site.field(octets, "issuer"),
-        "issuer",
-        signed.issuer(),
-    )?;
-    let now = site.field(octets, "thisUpdate");
-    push_moment(page, &now, "this update", &signed.this_update())?;
+    push_name(alloc, page, &at.issuer, "issuer", signed.issuer())?;
+    let now = signed.this_update();
+    push_moment(page, &at.this_update, "this update", &now)?;
     match signed.next_update() {
-        Some(time) => push_moment(
-            page,
-            &site.field(octets, "nextUpdate"),
-            "next update",
-            &time,
-        ),
+        Some(time) => push_moment(page, &at.next_update, "next update", &time),
         None => Ok(()),
     }
 }
@@ -127,11 +106,11 @@ fn push_revoked<L: Lines>(
     page: &mut Page,
     lines: &mut L,
     octets: &[u8],
-    site: &Site,
+    at: &TbsCertListPlaces,
     signed: &TbsCertList<'_>,
 ) -> Result<(), Stop> {
     if let Some(entries) = signed.revoked_certificates() {
-        let list = site.field(octets, "revokedCertificates");
+        let list = at.revoked_certificates;
         push_entries(alloc, page, lines, octets, &list, entries.as_slice())?;
     }
     match signed.crl_extensions() {
@@ -140,7 +119,7 @@ fn push_revoked<L: Lines>(
             page,
             lines,
             octets,
-            &site.field(octets, "crlExtensions"),
+            &at.crl_extensions,
             extensions.as_slice(),
         ),
         None => Ok(()),
@@ -152,14 +131,14 @@ fn push_entries<L: Lines>(
     page: &mut Page,
     lines: &mut L,
     octets: &[u8],
-    list: &Site,
+    list: &Place,
     entries: &[RevokedCertificate<'_>],
 ) -> Result<(), Stop> {
-    let mut sites = Sites::within(octets, list);
+    let mut items = Items::within(octets, list);
     for entry in entries {
-        let site = sites.next_site().unwrap_or(list.nothing());
-        push_label(page, &site.place, "revoked")?;
-        push_entry(alloc, page, octets, &site, entry)?;
+        let place = items.next_item().unwrap_or(nowhere());
+        push_label(page, &place, "revoked")?;
+        push_entry(alloc, page, octets, &place, entry)?;
         lines.take(page)?;
     }
     Ok(())
@@ -170,14 +149,14 @@ pub fn push_entry(
     alloc: Global,
     page: &mut Page,
     octets: &[u8],
-    site: &Site,
+    place: &Place,
     entry: &RevokedCertificate<'_>,
 ) -> Result<(), AllocError> {
     push_serial(page, entry.user_certificate().as_bytes())?;
     page.text.push_str(", ")?;
     push_time(page, &entry.revocation_date())?;
     if let Some(extensions) = entry.crl_entry_extensions() {
-        let list = site.field(octets, "crlEntryExtensions");
+        let list = places_of(entry, octets, place.offset).crl_entry_extensions;
         push_entry_extensions(alloc, page, octets, &list, extensions.as_slice())?;
     }
     page.text.push('\n')
@@ -188,12 +167,12 @@ fn push_entry_extensions(
     alloc: Global,
     page: &mut Page,
     octets: &[u8],
-    list: &Site,
+    list: &Place,
     extensions: &[Extension<'_>],
 ) -> Result<(), AllocError> {
-    let mut sites = Sites::within(octets, list);
+    let mut items = Items::within(octets, list);
     for extension in extensions {
-        let place = sites.next_site().unwrap_or(list.nothing()).place;
+        let place = items.next_item().unwrap_or(nowhere());
         page.text.push_str(", extension ")?;
         push_extension(alloc, page, &place, extension)?;
     }

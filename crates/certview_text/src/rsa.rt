@@ -8,24 +8,15 @@ ghost use Rattle.certview_text.specs.Faults.{first_fault};
 use crate::fault::{Fault, refusal};
 use crate::keys::{push_exponent, push_modulus, push_secret, push_version};
 use crate::kind::Kind;
-use crate::whole::{push_title, whole_of};
+use crate::whole::push_title;
 use certview_parts::labels::push_count;
 use certview_parts::page::Page;
-use certview_parts::site::Site;
+use certview_parts::place::{Place, place_of_all};
 use der_asn1_types::FromDer;
 use der_pkix::key::RsaPrivateKey;
 use der_pkix::key::laws::grammar_of_rsa_private_key;
+use der_places::{contents_of, places_of};
 use std::alloc::{AllocError, Global};
-
-/// The fields that are secret, of which only the length is shown.
-const SECRETS: [&str; 6] = [
-    "privateExponent",
-    "prime1",
-    "prime2",
-    "exponent1",
-    "exponent2",
-    "coefficient",
-];
 
 /// Adds the fields of the RSAPrivateKey that these octets are, a line each.
 ///
@@ -44,31 +35,40 @@ pub fn push_rsa_private_key(alloc: Global, page: &mut Page, octets: &[u8]) -> Re
 }
 
 fn push_fields(page: &mut Page, octets: &[u8], key: &RsaPrivateKey<'_>) -> Result<(), AllocError> {
-    let whole = whole_of(octets, Kind::RsaPrivateKey);
-    push_title(page, &whole.place, Kind::RsaPrivateKey)?;
-    push_version(page, octets, &whole, key.version())?;
-    push_modulus(page, octets, &whole, key.modulus())?;
-    push_exponent(page, octets, &whole, key.public_exponent())?;
-    for name in &SECRETS {
-        let place = whole.field(octets, name).place;
-        let count = place.end.saturating_sub(place.contents);
-        push_secret(page, octets, &whole, name, count)?;
-    }
-    push_other_primes(page, octets, &whole, key)
+    let whole = place_of_all(octets);
+    push_title(page, &whole, Kind::RsaPrivateKey)?;
+    let at = places_of(key, octets, whole.offset);
+    push_version(page, &at.version, key.version())?;
+    push_modulus(page, &at.modulus, key.modulus())?;
+    push_exponent(page, &at.public_exponent, key.public_exponent())?;
+    push_number(page, octets, &at.private_exponent, "privateExponent")?;
+    push_number(page, octets, &at.prime1, "prime1")?;
+    push_number(page, octets, &at.prime2, "prime2")?;
+    push_number(page, octets, &at.exponent1, "exponent1")?;
+    push_number(page, octets, &at.exponent2, "exponent2")?;
+    push_number(page, octets, &at.coefficient, "coefficient")?;
+    push_other_primes(page, &at.other_prime_infos, key)
+}
+
+/// Adds how many contents octets a number has that is secret.
+fn push_number(
+    page: &mut Page,
+    octets: &[u8],
+    place: &Place,
+    name: &str,
+) -> Result<(), AllocError> {
+    let count = contents_of(octets, *place).length as usize;
+    push_secret(page, place, name, count)
 }
 
 /// Adds how many primes there are besides the two, where there are more.
 fn push_other_primes(
     page: &mut Page,
-    octets: &[u8],
-    whole: &Site,
+    place: &Place,
     key: &RsaPrivateKey<'_>,
 ) -> Result<(), AllocError> {
     match key.other_prime_infos() {
-        Some(primes) => {
-            let place = whole.field(octets, "otherPrimeInfos").place;
-            push_count(page, &place, "other primes", primes.as_slice().len())
-        }
+        Some(primes) => push_count(page, place, "other primes", primes.as_slice().len()),
         None => Ok(()),
     }
 }

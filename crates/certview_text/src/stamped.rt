@@ -6,15 +6,14 @@ use certview_parts::extension_rows::push_extension_rows;
 use certview_parts::labels::push_label;
 use certview_parts::other_names::push_other_name;
 use certview_parts::page::Page;
-use certview_parts::parts::Part;
+use certview_parts::place::{Place, contents_at};
 use certview_parts::rows::{
     push_identifier_row, push_malformed_row, push_octets_row, push_serial_row, push_time_row,
 };
-use certview_parts::site::Site;
 use der_asn1_types::FromDer;
 use der_asn1_types::asn1::IntRef;
 use der_pkix::certificate::Extensions;
-use der_time_stamp::parts::Part as TimeStampPart;
+use der_places::{contents_of, places_of};
 use der_time_stamp::time_stamp::{Accuracy, MessageImprint, TstInfo};
 use std::alloc::{AllocError, Global};
 use std::fmt::Write;
@@ -24,13 +23,13 @@ pub fn push_stamped(
     alloc: Global,
     page: &mut Page,
     octets: &[u8],
-    string: &Site,
+    string: &Place,
 ) -> Result<(), AllocError> {
-    let inner = string.contents(octets);
-    let site = string.holding(octets, Part::TimeStamp(TimeStampPart::TstInfo));
+    let inner = contents_at(octets, string);
+    let place = contents_of(octets, *string);
     match TstInfo::from_der(alloc, inner.octets) {
-        Ok(stamp) => push_fields(alloc, page, octets, &site, &stamp),
-        Err(error) => push_malformed_row(page, &site.place, "time stamp", inner.begin, error),
+        Ok(stamp) => push_fields(alloc, page, octets, &place, &stamp),
+        Err(error) => push_malformed_row(page, &place, "time stamp", inner.begin, error),
     }
 }
 
@@ -38,36 +37,29 @@ fn push_fields(
     alloc: Global,
     page: &mut Page,
     octets: &[u8],
-    site: &Site,
+    place: &Place,
     stamp: &TstInfo<'_>,
 ) -> Result<(), AllocError> {
-    push_version(page, octets, site, stamp.version())?;
-    let policy = site.field(octets, "policy").place;
-    push_identifier_row(alloc, page, &policy, "policy", stamp.policy().as_bytes())?;
-    let imprint = site.field(octets, "messageImprint");
-    push_imprint(alloc, page, octets, &imprint, stamp.message_imprint())?;
-    let serial = site.field(octets, "serialNumber").place;
-    push_serial_row(
-        page,
-        &serial,
-        "serial number",
-        stamp.serial_number().as_bytes(),
-    )?;
-    let place = site.field(octets, "genTime").place;
-    push_time_row(page, &place, "time", &stamp.gen_time().to_date_time())?;
+    let at = places_of(stamp, octets, place.offset);
+    push_version(page, &at.version, stamp.version())?;
+    push_identifier_row(alloc, page, &at.policy, "policy", stamp.policy().as_bytes())?;
+    let imprint = stamp.message_imprint();
+    push_imprint(alloc, page, octets, &at.message_imprint, imprint)?;
+    let number = stamp.serial_number().as_bytes();
+    push_serial_row(page, &at.serial_number, "serial number", number)?;
+    push_time_row(page, &at.gen_time, "time", &stamp.gen_time().to_date_time())?;
     if let Some(accuracy) = stamp.accuracy() {
-        let place = site.field(octets, "accuracy").place;
-        push_label(page, &place, "accuracy")?;
+        push_label(page, &at.accuracy, "accuracy")?;
         push_accuracy(page, &accuracy)?;
     }
-    push_flag(page, octets, site, "ordering", "in order", stamp.ordering())?;
-    push_nonce(page, octets, site, stamp.nonce())?;
+    push_flag(page, &at.ordering, "in order", stamp.ordering())?;
+    push_nonce(page, &at.nonce, stamp.nonce())?;
     if let Some(authority) = stamp.tsa() {
-        push_label(page, &site.field(octets, "tsa").place, "authority")?;
+        push_label(page, &at.tsa, "authority")?;
         push_other_name(alloc, page, authority)?;
         page.text.push('\n')?;
     }
-    push_extensions(alloc, page, octets, site, stamp.extensions())
+    push_extensions(alloc, page, octets, &at.extensions, stamp.extensions())
 }
 
 /// Adds the lines of a digest and its algorithm.
@@ -75,19 +67,15 @@ pub fn push_imprint(
     alloc: Global,
     page: &mut Page,
     octets: &[u8],
-    site: &Site,
+    place: &Place,
     imprint: &MessageImprint<'_>,
 ) -> Result<(), AllocError> {
-    let algorithm = site.field(octets, "hashAlgorithm");
-    push_algorithm(
-        alloc,
-        page,
-        &algorithm,
-        "digest algorithm",
-        imprint.hash_algorithm(),
-    )?;
-    let place = site.field(octets, "hashedMessage").place;
-    push_octets_row(page, &place, "digest", imprint.hashed_message().as_bytes())
+    let at = places_of(imprint, octets, place.offset);
+    let algorithm = imprint.hash_algorithm();
+    let label = "digest algorithm";
+    push_algorithm(alloc, page, &at.hash_algorithm, label, algorithm)?;
+    let digest = imprint.hashed_message().as_bytes();
+    push_octets_row(page, &at.hashed_message, "digest", digest)
 }
 
 /// Adds the parts of an accuracy that are there, and ends the line.
@@ -101,13 +89,11 @@ fn push_accuracy(page: &mut Page, accuracy: &Accuracy) -> Result<(), AllocError>
 /// Adds the line of a field that is `yes` or `no`.
 pub fn push_flag(
     page: &mut Page,
-    octets: &[u8],
-    site: &Site,
-    name: &str,
+    place: &Place,
     label: &str,
     is_set: bool,
 ) -> Result<(), AllocError> {
-    push_label(page, &site.field(octets, name).place, label)?;
+    push_label(page, place, label)?;
     let word = if is_set { "yes\n" } else { "no\n" };
     page.text.push_str(word)
 }
@@ -115,15 +101,11 @@ pub fn push_flag(
 /// Adds the line of a nonce, where it is there.
 pub fn push_nonce(
     page: &mut Page,
-    octets: &[u8],
-    site: &Site,
+    place: &Place,
     nonce: Option<&IntRef<'_>>,
 ) -> Result<(), AllocError> {
     match nonce {
-        Some(nonce) => {
-            let place = site.field(octets, "nonce").place;
-            push_serial_row(page, &place, "nonce", nonce.as_bytes())
-        }
+        Some(nonce) => push_serial_row(page, place, "nonce", nonce.as_bytes()),
         None => Ok(()),
     }
 }
@@ -133,21 +115,18 @@ pub fn push_extensions(
     alloc: Global,
     page: &mut Page,
     octets: &[u8],
-    site: &Site,
+    list: &Place,
     extensions: Option<&Extensions<'_>>,
 ) -> Result<(), AllocError> {
     match extensions {
-        Some(extensions) => {
-            let list = site.field(octets, "extensions");
-            push_extension_rows(
-                alloc,
-                page,
-                octets,
-                &list,
-                "extension",
-                extensions.as_slice(),
-            )
-        }
+        Some(extensions) => push_extension_rows(
+            alloc,
+            page,
+            octets,
+            list,
+            "extension",
+            extensions.as_slice(),
+        ),
         None => Ok(()),
     }
 }

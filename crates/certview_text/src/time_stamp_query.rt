@@ -9,10 +9,12 @@ use crate::fault::{Fault, refusal};
 use crate::keys::push_version;
 use crate::kind::Kind;
 use crate::stamped::{push_extensions, push_flag, push_imprint, push_nonce};
-use crate::whole::{push_title, whole_of};
+use crate::whole::push_title;
 use certview_parts::page::Page;
+use certview_parts::place::place_of_all;
 use certview_parts::rows::push_identifier_row;
 use der_asn1_types::FromDer;
+use der_places::places_of;
 use der_time_stamp::time_stamp::TimeStampReq;
 use der_time_stamp::time_stamp::laws::grammar_of_time_stamp_req;
 use std::alloc::{AllocError, Global};
@@ -39,23 +41,16 @@ fn push_fields(
     octets: &[u8],
     query: &TimeStampReq<'_>,
 ) -> Result<(), AllocError> {
-    let whole = whole_of(octets, Kind::TimeStampQuery);
-    push_title(page, &whole.place, Kind::TimeStampQuery)?;
-    push_version(page, octets, &whole, query.version())?;
-    let imprint = whole.field(octets, "messageImprint");
-    push_imprint(alloc, page, octets, &imprint, query.message_imprint())?;
+    let whole = place_of_all(octets);
+    let at = places_of(query, octets, whole.offset);
+    push_title(page, &whole, Kind::TimeStampQuery)?;
+    push_version(page, &at.version, query.version())?;
+    let imprint = query.message_imprint();
+    push_imprint(alloc, page, octets, &at.message_imprint, imprint)?;
     if let Some(policy) = query.req_policy() {
-        let place = whole.field(octets, "reqPolicy").place;
-        push_identifier_row(alloc, page, &place, "policy", policy.as_bytes())?;
+        push_identifier_row(alloc, page, &at.req_policy, "policy", policy.as_bytes())?;
     }
-    push_nonce(page, octets, &whole, query.nonce())?;
-    push_flag(
-        page,
-        octets,
-        &whole,
-        "certReq",
-        "with certificate",
-        query.cert_req(),
-    )?;
-    push_extensions(alloc, page, octets, &whole, query.extensions())
+    push_nonce(page, &at.nonce, query.nonce())?;
+    push_flag(page, &at.cert_req, "with certificate", query.cert_req())?;
+    push_extensions(alloc, page, octets, &at.extensions, query.extensions())
 }

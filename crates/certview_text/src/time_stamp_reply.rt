@@ -8,14 +8,15 @@ ghost use Rattle.certview_text.specs.Faults.{first_fault};
 use crate::contents::push_content;
 use crate::fault::{Fault, refusal};
 use crate::kind::Kind;
-use crate::whole::{push_title, whole_of};
+use crate::whole::push_title;
+use certview_parts::items::Items;
 use certview_parts::labels::push_label;
 use certview_parts::page::Page;
-use certview_parts::parts::Part;
+use certview_parts::place::{Place, nowhere, place_of_all};
 use certview_parts::rows::{push_identifier_row, push_text_row};
-use certview_parts::site::{Site, Sites};
 use der_asn1_types::FromDer;
 use der_asn1_types::asn1::NamedBitsRef;
+use der_places::{contents_of, places_of};
 use der_time_stamp::time_stamp::laws::grammar_of_time_stamp_resp;
 use der_time_stamp::time_stamp::{PkiFreeText, PkiStatusInfo, TimeStampResp, TimeStampToken};
 use std::alloc::{AllocError, Global};
@@ -84,15 +85,12 @@ fn push_fields(
     octets: &[u8],
     reply: &TimeStampResp<'_>,
 ) -> Result<(), AllocError> {
-    let whole = whole_of(octets, Kind::TimeStampReply);
-    push_title(page, &whole.place, Kind::TimeStampReply)?;
-    let status = whole.field(octets, "status");
-    push_status(page, octets, &status, reply.status())?;
+    let whole = place_of_all(octets);
+    let at = places_of(reply, octets, whole.offset);
+    push_title(page, &whole, Kind::TimeStampReply)?;
+    push_status(page, octets, &at.status, reply.status())?;
     match reply.time_stamp_token() {
-        Some(token) => {
-            let site = whole.field(octets, "timeStampToken");
-            push_token(alloc, page, octets, &site, token)
-        }
+        Some(token) => push_token(alloc, page, octets, &at.time_stamp_token, token),
         None => Ok(()),
     }
 }
@@ -101,18 +99,19 @@ fn push_fields(
 fn push_status(
     page: &mut Page,
     octets: &[u8],
-    site: &Site,
+    place: &Place,
     status: &PkiStatusInfo<'_>,
 ) -> Result<(), AllocError> {
-    push_label(page, &site.field(octets, "status").place, "status")?;
+    let at = places_of(status, octets, place.offset);
+    push_label(page, &at.status, "status")?;
     push_status_name(page, status.status())?;
     page.text.push('\n')?;
     if let Some(texts) = status.status_string() {
-        push_texts(page, octets, &site.field(octets, "statusString"), texts)?;
+        push_texts(page, octets, &at.status_string, texts)?;
     }
     match status.fail_info() {
         Some(bits) => {
-            push_label(page, &site.field(octets, "failInfo").place, "failure")?;
+            push_label(page, &at.fail_info, "failure")?;
             push_failures(page, *bits)
         }
         None => Ok(()),
@@ -129,12 +128,12 @@ fn push_status_name(page: &mut Page, status: u8) -> Result<(), AllocError> {
 fn push_texts(
     page: &mut Page,
     octets: &[u8],
-    list: &Site,
+    list: &Place,
     texts: &PkiFreeText<'_>,
 ) -> Result<(), AllocError> {
-    let mut sites = Sites::within(octets, list);
+    let mut items = Items::within(octets, list);
     for text in texts.as_slice() {
-        let place = sites.next_site().unwrap_or(list.nothing()).place;
+        let place = items.next_item().unwrap_or(nowhere());
         push_text_row(page, &place, "status text", text.as_str())?;
     }
     Ok(())
@@ -167,12 +166,12 @@ fn push_token(
     alloc: Global,
     page: &mut Page,
     octets: &[u8],
-    site: &Site,
+    place: &Place,
     token: &TimeStampToken<'_>,
 ) -> Result<(), AllocError> {
+    let at = places_of(token, octets, place.offset);
     let identifier = token.content_type().as_bytes();
-    let place = site.field(octets, "contentType").place;
-    push_identifier_row(alloc, page, &place, "content type", identifier)?;
-    let content = site.field(octets, "content").holding(octets, Part::value());
+    push_identifier_row(alloc, page, &at.content_type, "content type", identifier)?;
+    let content = contents_of(octets, at.content);
     push_content(alloc, page, octets, &content, identifier)
 }

@@ -1,10 +1,10 @@
 //! A message as a whole: what it is made of, where it stands, and what it is called.
 
 use crate::kind::Kind;
+use crate::parts::Part;
+use crate::site::Site;
 use certview_parts::page::{ItemKind, Page};
-use certview_parts::parts::Part;
 use certview_parts::place::Place;
-use certview_parts::site::Site;
 use der_cms::parts::Part as CmsPart;
 use der_ocsp::parts::Part as OcspPart;
 use der_pkcs::parts::Part as PkcsPart;

@@ -1,8 +1,73 @@
-//! The fields of a message, where they stand in its octets.
+//! The fields of a message, where they stand in its octets, which may be refused: as far as their headers
+//! can be read.
 
-use crate::page::Inner;
 use crate::parts::Part;
-use crate::place::{Place, place_at, place_of_all};
+use certview_parts::place::Place;
+use certview_parts::values::sizes;
+
+/// Where the encoding of a value stands: how many octets are before it, before its contents, and
+/// before what follows it.
+#[derive(Clone, Copy, Debug, PartialEq, Eq)]
+pub struct Extent {
+    /// How many octets are before it.
+    pub begin: usize,
+    /// How many octets are before its contents.
+    pub contents: usize,
+    /// How many octets are before what follows it.
+    pub end: usize,
+}
+
+impl Extent {
+    /// How many octets the encoding has.
+    pub fn len(self) -> usize {
+        self.end.saturating_sub(self.begin)
+    }
+
+    /// Whether an octet, of which so many are before it, is one of the encoding's.
+    fn has(self, octet: usize) -> bool {
+        self.begin <= octet && octet < self.end
+    }
+
+    /// Its place, as far as 32 bits say it.
+    fn place(self) -> Place {
+        Place {
+            offset: u32::try_from(self.begin).unwrap_or(u32::MAX),
+            length: u32::try_from(self.len()).unwrap_or(u32::MAX),
+        }
+    }
+}
+
+/// The extent of the value that begins after so many octets, and ends before so many: none where
+/// there is no octet between. Where no header can be read, all of them are its header.
+fn extent_at(octets: &[u8], begin: usize, end: usize) -> Option<Extent> {
+    let left = octets.get(begin..end)?;
+    if left.is_empty() {
+        return None;
+    }
+    let (header, whole) = sizes(left);
+    if header == 0 {
+        return Some(Extent {
+            begin,
+            contents: end,
+            end,
+        });
+    }
+    Some(Extent {
+        begin,
+        contents: begin.saturating_add(header),
+        end: begin.saturating_add(whole),
+    })
+}
+
+/// The extent of a message: all of the octets.
+fn extent_of_all(octets: &[u8]) -> Extent {
+    let contents = sizes(octets).0;
+    Extent {
+        begin: 0,
+        contents,
+        end: octets.len(),
+    }
+}
 
 /// A part of a message, and where it stands.
 #[derive(Clone, Copy, Debug, PartialEq, Eq)]
@@ -12,7 +77,7 @@ pub struct Site {
     /// What it is.
     pub part: Part,
     /// Where it stands.
-    pub place: Place,
+    pub extent: Extent,
 }
 
 /// Goes over the fields of a part, as they stand in the octets.
@@ -31,14 +96,14 @@ impl Site {
         Site {
             step: 0,
             part,
-            place: place_of_all(octets),
+            extent: extent_of_all(octets),
         }
     }
 
     /// The first field with this name; where there is none, no octets at the end.
     pub fn field(&self, octets: &[u8], name: &str) -> Site {
         let mut sites = Sites::within(octets, self);
-        for _ in self.place.contents..self.place.end {
+        for _ in self.extent.contents..self.extent.end {
             match sites.next_site() {
                 Some(site) if name_of(self.part, site.step) == name => return site,
                 Some(_) => {}
@@ -51,9 +116,9 @@ impl Site {
     /// The field that has the octet of which so many are before it.
     pub fn field_with(&self, octets: &[u8], octet: usize) -> Option<Site> {
         let mut sites = Sites::within(octets, self);
-        for _ in self.place.contents..self.place.end {
+        for _ in self.extent.contents..self.extent.end {
             let site = sites.next_site()?;
-            if site.place.has(octet) {
+            if site.extent.has(octet) {
                 return Some(site);
             }
         }
@@ -61,12 +126,12 @@ impl Site {
     }
 
     /// No octets at the end.
-    pub fn nothing(&self) -> Site {
-        let end = self.place.end;
+    fn nothing(&self) -> Site {
+        let end = self.extent.end;
         Site {
             step: 0,
             part: Part::value(),
-            place: Place {
+            extent: Extent {
                 begin: end,
                 contents: end,
                 end,
@@ -74,44 +139,9 @@ impl Site {
         }
     }
 
-    /// What stands in its contents octets, as this part: what an explicit tag is before, or an OCTET STRING
-    /// holds.
-    pub fn holding(&self, octets: &[u8], part: Part) -> Site {
-        match place_at(octets, self.place.contents, self.place.end) {
-            Some(place) => Site {
-                step: 0,
-                part,
-                place,
-            },
-            None => self.nothing(),
-        }
-    }
-
-    /// The same octets, as this part.
-    pub fn as_part(&self, part: Part) -> Site {
-        Site {
-            step: self.step,
-            part,
-            place: self.place,
-        }
-    }
-
-    /// Its contents octets, which are read on their own.
-    pub fn contents<'a>(&self, octets: &'a [u8]) -> Inner<'a> {
-        let begin = self.place.contents;
-        match octets.get(begin..self.place.end) {
-            Some(octets) => Inner { octets, begin },
-            None => Inner { octets: &[], begin },
-        }
-    }
-
-    /// Its octets, which are read on their own.
-    pub fn inner<'a>(&self, octets: &'a [u8]) -> Inner<'a> {
-        let begin = self.place.begin;
-        match octets.get(begin..self.place.end) {
-            Some(octets) => Inner { octets, begin },
-            None => Inner { octets: &[], begin },
-        }
+    /// Its place.
+    pub fn place(&self) -> Place {
+        self.extent.place()
     }
 }
 
@@ -121,20 +151,20 @@ impl<'a> Sites<'a> {
         Sites {
             octets,
             part: site.part,
-            begin: site.place.contents,
-            end: site.place.end,
+            begin: site.extent.contents,
+            end: site.extent.end,
             next: 0,
         }
     }
 
     /// The next field, if there is one that has a name.
     pub fn next_site(&mut self) -> Option<Site> {
-        let place = place_at(self.octets, self.begin, self.end)?;
-        let tag = *self.octets.get(place.begin)?;
+        let extent = extent_at(self.octets, self.begin, self.end)?;
+        let tag = *self.octets.get(extent.begin)?;
         let step = self.step_with(tag)?;
         let part = self.part.component(step)?.part;
-        self.begin = place.end;
-        Some(Site { step, part, place })
+        self.begin = extent.end;
+        Some(Site { step, part, extent })
     }
 
     /// The next field that may begin with this octet: those that are absent are passed over. Where
