@@ -47,8 +47,6 @@ class Function:
         self.module, self.name = module, begun[1]
         self.parameters = [part.split(":")[0].strip() for part in parted(code[begun.end() : end])]
         self.body = code[body : closing(code, body)]
-        lists = dict(re.findall(r"(?m)^const (\w+): \[&str; \w+\] = (\[[^;]*\]);", code))
-        self.lists = {name: lists[of] for name, of in re.findall(r"for (\w+) in &(\w+) ", self.body) if of in lists}
         self.uses = {}
         for used, many, one in re.findall(r"(?m)^use (?:crate|certview_parts)::(\w+)::(?:\{([^}]*)\}|(\w+));", code):
             self.uses.update({name: used for name in parted(many) or [one]})
@@ -75,15 +73,14 @@ def functions():
 
 
 def labels():
-    """All labels. A function takes one that hands a parameter to a function that takes one. What is given else is a text, the
-    name of one, or the variable of a loop over a list of texts."""
+    """All labels. A function takes one that hands a parameter to a function that takes one. What is given else is a text, or the
+    name of one."""
     others = functions()
     takers, found = {others["labels", "push_label"]: "label"}, set()
     while True:
         count = len(takers)
         for function in others.values():
             texts = dict(re.findall(r'let (\w+) = ("[^"]*");', function.body))
-            texts.update(function.lists)
             for taker, words in function.calls(others):
                 if taker not in takers:
                     continue
