@@ -9,6 +9,15 @@ use Rattle.der_pkix.specs.Crl.Grammar as lists
 use Rattle.der_extensions.specs.Extension.Grammar as values
 use Rattle.der_pkix.specs.Key.Grammar as keys
 use Rattle.der_pkix.specs.Name.Grammar as names
+use Rattle.der_pkcs.specs.Request.Grammar as requests
+use Rattle.der_pkcs.specs.Encryption.Grammar as encryption
+use Rattle.der_pkcs.specs.Pkcs12.Grammar as files
+use Rattle.der_pkcs.specs.Algorithm.Grammar as algorithms
+use Rattle.der_ocsp.specs.Ocsp.Grammar as status
+use Rattle.der_cms.specs.Cms.Grammar as signed
+use Rattle.der_enveloped.specs.Enveloped.Grammar as enveloped
+use Rattle.der_enveloped.specs.Authenticated.Grammar as authenticated
+use Rattle.der_time_stamp.specs.TimeStamp.Grammar as stamps
 
 -- the canonical encoding of what some octets encode as a type
 abbrev pub canonical_of : Grammar → CanonicalFunction
@@ -49,6 +58,61 @@ name_messages name =
     else if bytes_eq name (codes "rdn") then Some (canonical_of names.relative_distinguished_name)
     else if bytes_eq name (codes "algid") then Some (canonical_of certificates.algorithm_identifier)
     else if bytes_eq name (codes "generalname") then Some (canonical_of values.general_name)
+    else None
+
+-- requests, and what a password keeps
+unfoldable pub request_messages : Table
+request_messages name =
+    if bytes_eq name (codes "request") then Some (canonical_of requests.certification_request)
+    else if bytes_eq name (codes "requestinfo") then Some (canonical_of requests.certification_request_info)
+    else if bytes_eq name (codes "encryptedkey") then Some (canonical_of encryption.encrypted_private_key_info)
+    else if bytes_eq name (codes "pfx") then Some (canonical_of files.pfx)
+    else None
+
+-- parameters of algorithms
+unfoldable pub parameter_messages : Table
+parameter_messages name =
+    if bytes_eq name (codes "pbes2") then Some (canonical_of encryption.pbes2_params)
+    else if bytes_eq name (codes "pbkdf2") then Some (canonical_of encryption.pbkdf2_params)
+    else if bytes_eq name (codes "dsaparams") then Some (canonical_of algorithms.dss_parms)
+    else if bytes_eq name (codes "dhparams") then Some (canonical_of algorithms.dh_parameter)
+    else if bytes_eq name (codes "x942params") then Some (canonical_of algorithms.domain_parameters)
+    else None
+
+-- the status of certificates, asked and answered
+unfoldable pub status_messages : Table
+status_messages name =
+    if bytes_eq name (codes "ocsprequest") then Some (canonical_of status.ocsp_request)
+    else if bytes_eq name (codes "ocspresponse") then Some (canonical_of status.ocsp_response)
+    else if bytes_eq name (codes "basicocsp") then Some (canonical_of status.basic_ocsp_response)
+    else if bytes_eq name (codes "singleresponse") then Some (canonical_of status.single_response)
+    else if bytes_eq name (codes "certid") then Some (canonical_of status.cert_id)
+    else None
+
+-- signed and digested messages, and what they hold
+unfoldable pub signed_messages : Table
+signed_messages name =
+    if bytes_eq name (codes "contentinfo") then Some (canonical_of signed.content_info)
+    else if bytes_eq name (codes "signeddata") then Some (canonical_of signed.signed_data)
+    else if bytes_eq name (codes "signerinfo") then Some (canonical_of signed.signer_info)
+    else if bytes_eq name (codes "digesteddata") then Some (canonical_of signed.digested_data)
+    else if bytes_eq name (codes "attribute") then Some (canonical_of names.attribute)
+    else None
+
+-- messages for recipients, encrypted and authenticated ones
+unfoldable pub recipient_messages : Table
+recipient_messages name =
+    if bytes_eq name (codes "envelopeddata") then Some (canonical_of enveloped.enveloped_data)
+    else if bytes_eq name (codes "encrypteddata") then Some (canonical_of signed.encrypted_data)
+    else if bytes_eq name (codes "authenticateddata") then Some (canonical_of authenticated.authenticated_data)
+    else None
+
+-- time stamps, asked and answered
+unfoldable pub stamp_messages : Table
+stamp_messages name =
+    if bytes_eq name (codes "timestampreq") then Some (canonical_of stamps.time_stamp_req)
+    else if bytes_eq name (codes "timestampresp") then Some (canonical_of stamps.time_stamp_resp)
+    else if bytes_eq name (codes "tstinfo") then Some (canonical_of stamps.tst_info)
     else None
 
 -- values of extensions that are about a key
@@ -106,15 +170,29 @@ entry_values name =
     else if bytes_eq name (codes "holdinstructioncode") then Some (canonical_of values.hold_instruction_code)
     else None
 
--- the function of the message with a name
-unfoldable pub message_of : Table
-message_of name =
+-- messages, and what they hold
+unfoldable pub all_messages : Table
+all_messages name =
     or_else (certificate_messages name)
     (or_else (list_messages name)
     (or_else (key_messages name)
     (or_else (name_messages name)
-    (or_else (key_values name)
+    (or_else (request_messages name)
+    (or_else (parameter_messages name)
+    (or_else (status_messages name)
+    (or_else (signed_messages name)
+    (or_else (recipient_messages name) (stamp_messages name)))))))))
+
+-- values of extensions
+unfoldable pub all_values : Table
+all_values name =
+    or_else (key_values name)
     (or_else (subject_values name)
     (or_else (policy_values name)
     (or_else (access_values name)
-    (or_else (list_values name) (entry_values name)))))))))
+    (or_else (list_values name) (entry_values name)))))
+
+-- the function of the message or the value with a name
+unfoldable pub message_of : Table
+message_of name =
+    or_else (all_messages name) (all_values name)
