@@ -5,6 +5,7 @@
 #include <openssl/x509.h>
 #include <openssl/x509v3.h>
 #include <stdio.h>
+#include <stdlib.h>
 #include <string.h>
 
 static long messages, fields, differ;
@@ -44,6 +45,18 @@ static inline void absent(const char *name, der_place place, int is_absent)
         same((name), (place), written, length);      \
         OPENSSL_free(written);                       \
     } while (0)
+
+/* the octets are the one encoding of a value */
+static void compare_canonical(const char *name)
+{
+    uint8_t *room = malloc(len);
+    size_t written = 0;
+    der_fault fault;
+    der_place all = {0, (uint32_t)len};
+    same_number("answer by a name", der_canonical_named(name, octets, len, room, len, &written, &fault), 0);
+    same(name, all, room, (long)written);
+    free(room);
+}
 
 static inline uint64_t seconds(const ASN1_TIME *time)
 {

@@ -117,18 +117,6 @@ static void compare_rules(const X509 *x)
     same_number("broken rules", broken & ~not_told, broken_rules(x));
 }
 
-/* the octets are the one encoding of a value */
-static void compare_canonical(const char *name)
-{
-    uint8_t *room = malloc(len);
-    size_t written = 0;
-    der_fault fault;
-    der_place all = {0, (uint32_t)len};
-    same_number("answer by a name", der_canonical_named(name, octets, len, room, len, &written, &fault), 0);
-    same(name, all, room, (long)written);
-    free(room);
-}
-
 static void compare_certificate(X509 *x)
 {
     der_certificate_at at;

@@ -185,10 +185,11 @@ static void compare_names(const X509 *x)
     compare_name(&at.subject, X509_get_subject_name(x));
 }
 
-/* reads a message by OpenSSL, and compares it where that takes it */
-#define COMPARE(type, d2i, call, release)        \
+/* reads a message by OpenSSL, and compares it where that takes it; and its encoding by the name of its type */
+#define COMPARE(name, type, d2i, call, release)  \
     do {                                         \
         type *x = d2i(NULL, &p, (long)len);      \
+        compare_canonical(name);                 \
         if (x != NULL)                           \
             call(x);                             \
         else                                     \
@@ -201,13 +202,13 @@ static void compare(const char *name)
     const unsigned char *p = octets;
     messages++;
     if (strcmp(name, "CERTIFICATE") == 0)
-        COMPARE(X509, d2i_X509, compare_names, X509_free);
+        COMPARE("cert", X509, d2i_X509, compare_names, X509_free);
     else if (strcmp(name, "CERTIFICATE REQUEST") == 0)
-        COMPARE(X509_REQ, d2i_X509_REQ, compare_request, X509_REQ_free);
+        COMPARE("request", X509_REQ, d2i_X509_REQ, compare_request, X509_REQ_free);
     else if (strcmp(name, "OCSP RESPONSE") == 0)
-        COMPARE(OCSP_RESPONSE, d2i_OCSP_RESPONSE, compare_status, OCSP_RESPONSE_free);
+        COMPARE("ocspresponse", OCSP_RESPONSE, d2i_OCSP_RESPONSE, compare_status, OCSP_RESPONSE_free);
     else if (strcmp(name, "CMS") == 0)
-        COMPARE(CMS_ContentInfo, d2i_CMS_ContentInfo, compare_signed, CMS_ContentInfo_free);
+        COMPARE("contentinfo", CMS_ContentInfo, d2i_CMS_ContentInfo, compare_signed, CMS_ContentInfo_free);
     else
         messages--;
 }
