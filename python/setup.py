@@ -12,11 +12,12 @@ setup(
     ext_modules=[
         Extension(
             "derproved._der",
-            ["src/derproved/_der.c"],
+            [f"src/derproved/{name}.c" for name in ("_der", "field", "items", "message", "octets")],
+            depends=["src/derproved/classes.h"],
             include_dirs=[os.environ.get("DER_C_INCLUDE", str(HERE.parent / "c" / "include"))],
             extra_objects=[str(FOLDER / "libder_c.a")],
             define_macros=[("Py_LIMITED_API", "0x030b0000")],
-            extra_compile_args=["-std=c11", "-Wall", "-Wextra"],
+            extra_compile_args=["-std=c11", "-Wall", "-Wextra", "-fvisibility=hidden"],
             py_limited_api=True,
         )
     ],

@@ -5,9 +5,14 @@ The certificates are those of the system, and of the PEM files that DER_TEST_FIL
 """
 
 import base64
+import copy
+import gc
 import hashlib
+import inspect
 import os
+import pickle
 import re
+import sys
 import unittest
 from datetime import timezone
 from pathlib import Path
@@ -23,7 +28,11 @@ except ImportError:
     x509 = None
 
 SYSTEM = Path("/etc/ssl/certs/ca-certificates.crt")
+# a key, an entry of a list with two extensions, a name with three attributes in two parts
 KEY = bytes.fromhex("302a300506032b657003210019bf44096984cdfe8541bac167dc3b96c85086aa30b6b6cb0c5c38ad703166e1")
+REASON, CONSTRAINTS = bytes.fromhex("300a0603551d1504030a0101"), bytes.fromhex("300c0603551d130101ff04023000")
+ENTRY = bytes.fromhex("302e020105170d3236303130313030303030305a301a") + REASON + CONSTRAINTS
+NAME = bytes.fromhex("302331123007060355040a0c00300706035504" + "0b0c00310d300b06035504030c046e616d65")
 
 
 def pem_files() -> list[Path]:
@@ -273,6 +282,174 @@ class Calls(unittest.TestCase):
         for octets in [b"", b"0", b"\xff" * 9, bytes.fromhex("3084ffffffff")]:
             self.assertLessEqual(len(derproved.contents(octets)), len(octets))
             self.assertLessEqual(len(derproved.signed_octets(octets)), len(octets))
+
+
+class Objects(unittest.TestCase):
+    def classes(self):
+        found = [getattr(derproved, name) for name in derproved.__all__]
+        return [it for it in found if isinstance(it, type) and issubclass(it, derproved._der.Message)]
+
+    def test_no_object_is_there_before_it_was_read(self) -> None:
+        self.assertEqual(len(self.classes()), 15)
+        for it in self.classes():
+            for arguments in [(), (KEY, KEY), ("text",), (None,)]:
+                self.assertRaises(TypeError, it, *arguments)
+                self.assertRaises(TypeError, it.__new__, it, *arguments)
+            self.assertRaises(TypeError, it, other=KEY)
+            self.assertRaises(TypeError, object.__new__, it)
+            self.assertRaises(derproved.Error, it, octets=b"")
+        for it in [derproved._der.Message, derproved._der.Items, derproved._der.Field]:
+            self.assertRaises(TypeError, it)
+            self.assertRaises(TypeError, it, KEY)
+        self.assertRaises(TypeError, type("Other", (derproved._der.Message,), {}), KEY)
+        self.assertRaises(TypeError, type, "Both", (derproved.Certificate, derproved.Extension), {})
+        self.assertEqual(bytes(derproved.SubjectPublicKeyInfo(octets=KEY)), KEY)
+
+    def test_objects_do_not_change(self) -> None:
+        key = derproved.SubjectPublicKeyInfo(KEY)
+        for name in ["algorithm", "subject_public_key", "other"]:
+            self.assertRaises(AttributeError, setattr, key, name, b"")
+            self.assertRaises(AttributeError, delattr, key, name)
+        key.__init__(ENTRY)
+        self.assertEqual(bytes(key), KEY)
+
+    def test_classes_that_derive(self) -> None:
+        class Named(derproved.SubjectPublicKeyInfo):
+            def __init__(self, octets) -> None:
+                super().__init__(octets)
+                self.name = "own"
+
+        class Counted(derproved.SubjectPublicKeyInfo):
+            __slots__ = ("count",)
+
+            def __new__(cls, octets, count):
+                self = super().__new__(cls, octets)
+                self.count = count
+                return self
+
+        named, counted = Named(KEY), Counted(KEY, 5)
+        self.assertEqual((named.name, bytes(named.algorithm)), ("own", KEY[2:9]))
+        self.assertEqual((counted.count, bytes(counted.algorithm)), (5, KEY[2:9]))
+        self.assertRaises(AttributeError, setattr, named, "algorithm", b"")
+        self.assertRaises(TypeError, Named)
+
+    def test_fields_of_other_classes_are_not_read(self) -> None:
+        key = derproved.SubjectPublicKeyInfo(KEY)
+        for it in self.classes():
+            for name, field in vars(it).items():
+                if isinstance(field, derproved._der.Field):
+                    self.assertRaises(TypeError, field.__get__, KEY)
+                    self.assertRaises(AttributeError, field.__set__, key, b"")
+        for field in ["issuer", "not_after", "version", "extensions"]:
+            self.assertRaises(TypeError, vars(derproved.Certificate)[field].__get__, key)
+        self.assertRaises(TypeError, setattr, key, "__class__", derproved.ContentInfo)
+
+    def test_all_is_documented(self) -> None:
+        for it in self.classes():
+            self.assertEqual(str(inspect.signature(it)), "(octets)")
+            self.assertTrue(it.__doc__ and it.__doc__ != it.__base__.__doc__)
+            for name, value in vars(it).items():
+                if not name.startswith("_"):
+                    self.assertTrue(value.__doc__, name)
+                    self.assertIs(getattr(it, name), value)
+
+    def test_wrong_fields_are_not_made(self) -> None:
+        der = derproved._der
+        wrong = [(), (0,), (-1, ""), (256, ""), ("", 0), (0, "", -1), (0, "", 0, 0), (0, "", 0, int), (0, "", 0, 0, 0)]
+        makers = [der.field, der.optional, der.contents_field, der.number, der.flag, der.moment, der.optional_moment]
+        for make in [*makers, der.items]:
+            for arguments in wrong:
+                self.assertRaises((TypeError, OverflowError), make, *arguments)
+        for arguments in [(), (KEY,), (KEY, int), (KEY, KEY), ("", derproved.Extension)]:
+            self.assertRaises(TypeError, der.items_of, *arguments)
+            self.assertRaises(TypeError, der.name_attributes, *arguments)
+
+    def test_copies(self) -> None:
+        class Named(derproved.SubjectPublicKeyInfo):
+            pass
+
+        named = Named(bytearray(KEY))
+        named.name = "own"
+        found = copy.copy(named)
+        self.assertEqual((type(found), found.name, bytes(found)), (Named, "own", KEY))
+        for it in [derproved.SubjectPublicKeyInfo(KEY), list(derproved.RevokedCertificate(ENTRY).extensions)[1]]:
+            for found in [copy.copy(it), copy.deepcopy(it), pickle.loads(pickle.dumps(it))]:
+                self.assertEqual((type(found), bytes(found)), (type(it), bytes(it)))
+        for it in [derproved.RevokedCertificate(ENTRY).extensions, vars(derproved.Extension)["value"]]:
+            self.assertRaises(TypeError, pickle.dumps, it)
+            self.assertRaises(TypeError, copy.copy, it)
+
+    def test_octets_live_as_long_as_they_are_seen(self) -> None:
+        octets = bytearray(ENTRY)
+        view = memoryview(octets)
+        extension = list(derproved.RevokedCertificate(view).extensions)[1]
+        view.release()
+        self.assertRaises(BufferError, octets.clear)
+        self.assertEqual(bytes(extension), CONSTRAINTS)
+        value = extension.value
+        del extension
+        self.assertRaises(BufferError, octets.clear)
+        self.assertEqual(bytes(value), b"0\0")
+        del value
+        octets.clear()
+        self.assertEqual(bytes(list(derproved.RevokedCertificate(ENTRY + KEY).extensions)[0].value), b"\n\x01\x01")
+
+    def test_views_have_items_of_one_octet(self) -> None:
+        square = KEY + bytes(2 * len(KEY))
+        seen = [memoryview(KEY), memoryview(KEY).cast("c"), memoryview(KEY).cast("B", [4, 11]), memoryview(KEY).cast("i")]
+        for octets in seen:
+            found = derproved.SubjectPublicKeyInfo(octets).subject_public_key
+            self.assertEqual((found.format, found.ndim, bytes(found)), ("B", 1, KEY[9:]))
+            self.assertIs(found.obj, KEY)
+            self.assertEqual(derproved.contents(octets).tobytes(), KEY[2:])
+        for octets in [memoryview(square)[::3], memoryview(KEY[::-1])[::-1], memoryview(KEY).cast("i")[::-1]]:
+            self.assertRaises(BufferError, derproved.SubjectPublicKeyInfo, octets)
+            self.assertRaises(BufferError, derproved.contents, octets)
+
+    def test_items_are_read_when_they_are_asked_for(self) -> None:
+        octets = bytearray(ENTRY)
+        extensions = derproved.RevokedCertificate(octets).extensions
+        self.assertIs(iter(extensions), extensions)
+        first = next(extensions)
+        octets[-len(CONSTRAINTS)] = 0x31
+        with self.assertRaises(derproved.Error) as caught:
+            next(extensions)
+        self.assertEqual((caught.exception.args[0], list(extensions)), (4, []))
+        self.assertEqual((bytes(first), bytes(first.identifier), first.is_critical), (REASON, REASON[4:7], False))
+
+    def test_attributes_of_a_name(self) -> None:
+        found = [(bytes(it.identifier).hex(), bytes(it.value)) for it in derproved.name_attributes(NAME)]
+        self.assertEqual(found, [("55040a", b"\x0c\0"), ("55040b", b"\x0c\0"), ("550403", b"\x0c\x04name")])
+        self.assertEqual(list(derproved.attributes(None)), [])
+
+    def test_cycles_are_found(self) -> None:
+        class Octets(bytearray):
+            pass
+
+        gc.collect()
+        for read in [derproved.SubjectPublicKeyInfo, lambda octets: derproved.attributes(octets)]:
+            octets = Octets(KEY)
+            octets.own = read(octets)
+            del octets
+            self.assertGreater(gc.collect(), 0)
+
+    def test_memory_is_given_back(self) -> None:
+        def use() -> None:
+            for octets in [ENTRY, bytearray(ENTRY), memoryview(ENTRY).cast("H")]:
+                entry = derproved.RevokedCertificate(octets)
+                found = [(it.identifier, it.value, bytes(it), it.is_critical) for it in entry.extensions]
+                entry.revocation_date, entry.user_certificate, copy.copy(entry), next(entry.extensions), found
+                list(derproved.name_attributes(NAME)), derproved.contents(octets)
+                for wrong in [octets[:-1], "text"]:
+                    self.assertRaises((derproved.Error, TypeError), derproved.RevokedCertificate, wrong)
+
+        use()
+        gc.collect()
+        before = sys.getallocatedblocks()
+        for _ in range(1_000):
+            use()
+        gc.collect()
+        self.assertLess(sys.getallocatedblocks() - before, 1_000)
 
 
 if __name__ == "__main__":

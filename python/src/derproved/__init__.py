@@ -6,6 +6,10 @@ A value keeps the octets that it was read from, and a field is a memoryview of t
 copied but by canonical, and no signature is verified. The code that reads is Barleypulley's der_c; this package, which calls it, is not
 proved.
 
+A value is there once it was read, and does not change. What stands one behind another, as extensions, is an iterator, and
+each is read when it is asked for. A copy, or what pickle writes, has the octets, and is read anew. A class that derives from
+one of these has a __new__ of its own where it takes more than the octets.
+
     >>> import derproved
     >>> certificate = derproved.Certificate(octets)
     >>> certificate.not_after
@@ -20,7 +24,7 @@ many octets had been read, or None.
 from __future__ import annotations
 
 from collections.abc import Iterator
-from datetime import datetime, timedelta, timezone
+from datetime import datetime
 from enum import Enum, IntFlag
 
 from . import _der
@@ -57,346 +61,152 @@ __all__ = [
 
 Octets = bytes | bytearray | memoryview
 
-_EPOCH = datetime(1970, 1, 1, tzinfo=timezone.utc)
-
-
-def _at(seconds: int) -> datetime:
-    return _EPOCH + timedelta(seconds=seconds)
-
-
-def _view(octets: Octets) -> memoryview:
-    """The octets, one an item, whatever items they are seen as."""
-    view = memoryview(octets)
-    return view if view.format == "B" else view.cast("B")
-
 
 def contents(encoding: Octets) -> memoryview:
     """The contents octets of an encoding that was read, as a field of a certificate: 05 of 02 01 05."""
-    offset, length = _der.contents(encoding)
-    return _view(encoding)[offset : offset + length]
+    return _der.contents(encoding)
 
 
 def signed_octets(message: Octets) -> memoryview:
     """The octets that the signature of a certificate covers, of a list, of a request or of an answer about the status
     of certificates: the first field."""
-    offset, length = _der.signed_octets(message)
-    return _view(message)[offset : offset + length]
+    return _der.signed_octets(message)
 
 
-def _field(index: int, doc: str) -> property:
-    """A field that is always there, by its place in the order of the places."""
-
-    def get(self: _Message) -> memoryview:
-        offset = self._at[2 * index]
-        return self._octets[offset : offset + self._at[2 * index + 1]]
-
-    return property(get, doc=doc)
-
-
-def _optional(index: int, doc: str) -> property:
-    """A field that may be absent, and is then None."""
-
-    def get(self: _Message) -> memoryview | None:
-        offset, length = self._at[2 * index], self._at[2 * index + 1]
-        return self._octets[offset : offset + length] if length else None
-
-    return property(get, doc=doc)
-
-
-class _Message:
-    """Octets, and the places of fields in them."""
-
-    __slots__ = ("_octets", "_at")
-
-    _octets: memoryview
-    _at: tuple[int, ...]
-
-    def __bytes__(self) -> bytes:
-        return bytes(self._octets)
-
-
-class Extension(_Message):
+class Extension(_der.Extension):
     """An extension (RFC 5280 4.2), which stands at the front of the octets."""
 
     __slots__ = ()
 
-    def __init__(self, octets: Octets) -> None:
-        self._at = _der.extension(octets)
-        self._octets = _view(octets)[: self._at[1]]
-
-    extn_id = _field(1, "`extnID`, an OBJECT IDENTIFIER.")
-    extn_value = _field(3, "`extnValue`, an OCTET STRING.")
-
-    @property
-    def identifier(self) -> memoryview:
-        """The contents octets of `extnID`: 55 1D 0F of keyUsage."""
-        return contents(self.extn_id)
-
-    @property
-    def value(self) -> memoryview:
-        """The contents octets of `extnValue`: the encoding of what the extension says."""
-        return contents(self.extn_value)
-
-    @property
-    def is_critical(self) -> bool:
-        """`critical`."""
-        return self._at[8] == 1
+    extn_id = _der.field(1, "`extnID`, an OBJECT IDENTIFIER.")
+    extn_value = _der.field(3, "`extnValue`, an OCTET STRING.")
+    identifier = _der.contents_field(1, "The contents octets of `extnID`: 55 1D 0F of keyUsage.")
+    value = _der.contents_field(3, "The contents octets of `extnValue`: the encoding of what the extension says.")
+    is_critical = _der.flag(0, "`critical`.")
 
 
-def _extensions(items: memoryview) -> Iterator[Extension]:
-    while items:
-        extension = Extension(items)
-        yield extension
-        items = items[extension._at[1] :]
-
-
-class Certificate(_Message):
+class Certificate(_der.Certificate):
     """A certificate (RFC 5280 4.1), which all of the octets are."""
 
     __slots__ = ()
 
-    def __init__(self, octets: Octets) -> None:
-        self._at = _der.certificate(octets)
-        self._octets = _view(octets)
-
-    tbs_certificate = _field(0, "`tbsCertificate`: what the signature covers.")
-    signature_algorithm = _field(1, "`signatureAlgorithm`, an AlgorithmIdentifier.")
-    signature_value = _field(2, "`signatureValue`, a BIT STRING.")
-    serial_number = _field(4, "`serialNumber`, an INTEGER.")
-    signature = _field(5, "`signature` of what is signed, an AlgorithmIdentifier.")
-    issuer = _field(6, "`issuer`, a Name.")
-    validity = _field(7, "`validity`.")
-    subject = _field(8, "`subject`, a Name.")
-    subject_public_key_info = _field(9, "`subjectPublicKeyInfo`, which SubjectPublicKeyInfo reads.")
-    issuer_unique_id = _optional(10, "`issuerUniqueID` with its tag [1].")
-    subject_unique_id = _optional(11, "`subjectUniqueID` with its tag [2].")
-
-    @property
-    def not_before(self) -> datetime:
-        """`notBefore`."""
-        return _at(self._at[26])
-
-    @property
-    def not_after(self) -> datetime:
-        """`notAfter`; the certificate is valid in this second too."""
-        return _at(self._at[27])
-
-    @property
-    def version(self) -> int:
-        """1, 2 or 3."""
-        return self._at[28] + 1
-
-    @property
-    def extensions(self) -> Iterator[Extension]:
-        """The extensions, in their order."""
-        offset, length = self._at[24], self._at[25]
-        if length:
-            yield from _extensions(contents(contents(self._octets[offset : offset + length])))
+    tbs_certificate = _der.field(0, "`tbsCertificate`: what the signature covers.")
+    signature_algorithm = _der.field(1, "`signatureAlgorithm`, an AlgorithmIdentifier.")
+    signature_value = _der.field(2, "`signatureValue`, a BIT STRING.")
+    serial_number = _der.field(4, "`serialNumber`, an INTEGER.")
+    signature = _der.field(5, "`signature` of what is signed, an AlgorithmIdentifier.")
+    issuer = _der.field(6, "`issuer`, a Name.")
+    validity = _der.field(7, "`validity`.")
+    subject = _der.field(8, "`subject`, a Name.")
+    subject_public_key_info = _der.field(9, "`subjectPublicKeyInfo`, which SubjectPublicKeyInfo reads.")
+    issuer_unique_id = _der.optional(10, "`issuerUniqueID` with its tag [1].")
+    subject_unique_id = _der.optional(11, "`subjectUniqueID` with its tag [2].")
+    not_before = _der.moment(0, "`notBefore`.")
+    not_after = _der.moment(1, "`notAfter`; the certificate is valid in this second too.")
+    version = _der.number(2, "1, 2 or 3.", 1)
+    extensions = _der.items(12, "The extensions, in their order.", 2, Extension)
 
 
-class RevokedCertificate(_Message):
+class RevokedCertificate(_der.RevokedCertificate):
     """An entry of a list of revoked certificates (RFC 5280 5.1.2.6), which stands at the front of the octets."""
 
     __slots__ = ()
 
-    def __init__(self, octets: Octets) -> None:
-        self._at = _der.revoked_certificate(octets)
-        self._octets = _view(octets)[: self._at[1]]
-
-    user_certificate = _field(1, "`userCertificate`, an INTEGER.")
-    crl_entry_extensions = _optional(3, "`crlEntryExtensions`, a SEQUENCE OF.")
-
-    @property
-    def revocation_date(self) -> datetime:
-        """`revocationDate`."""
-        return _at(self._at[8])
-
-    @property
-    def extensions(self) -> Iterator[Extension]:
-        """The extensions, in their order."""
-        field = self.crl_entry_extensions
-        if field is not None:
-            yield from _extensions(contents(field))
+    user_certificate = _der.field(1, "`userCertificate`, an INTEGER.")
+    crl_entry_extensions = _der.optional(3, "`crlEntryExtensions`, a SEQUENCE OF.")
+    revocation_date = _der.moment(0, "`revocationDate`.")
+    extensions = _der.items(3, "The extensions, in their order.", 1, Extension)
 
 
-class CertificateList(_Message):
+class CertificateList(_der.CertificateList):
     """A list of revoked certificates (RFC 5280 5.1), which all of the octets are."""
 
     __slots__ = ()
 
-    def __init__(self, octets: Octets) -> None:
-        self._at = _der.certificate_list(octets)
-        self._octets = _view(octets)
-
-    tbs_cert_list = _field(0, "`tbsCertList`: what the signature covers.")
-    signature_algorithm = _field(1, "`signatureAlgorithm`, an AlgorithmIdentifier.")
-    signature_value = _field(2, "`signatureValue`, a BIT STRING.")
-    signature = _field(4, "`signature` of what is signed, an AlgorithmIdentifier.")
-    issuer = _field(5, "`issuer`, a Name.")
-
-    @property
-    def this_update(self) -> datetime:
-        """`thisUpdate`."""
-        return _at(self._at[20])
-
-    @property
-    def next_update(self) -> datetime | None:
-        """`nextUpdate`, if it is there."""
-        return _at(self._at[21]) if self._at[15] else None
-
-    @property
-    def version(self) -> int:
-        """1 or 2."""
-        return self._at[22] + 1
-
-    @property
-    def revoked_certificates(self) -> Iterator[RevokedCertificate]:
-        """The entries, in their order."""
-        offset, length = self._at[16], self._at[17]
-        items = contents(self._octets[offset : offset + length]) if length else self._octets[:0]
-        while items:
-            entry = RevokedCertificate(items)
-            yield entry
-            items = items[entry._at[1] :]
-
-    @property
-    def extensions(self) -> Iterator[Extension]:
-        """The extensions, in their order."""
-        offset, length = self._at[18], self._at[19]
-        if length:
-            yield from _extensions(contents(contents(self._octets[offset : offset + length])))
+    tbs_cert_list = _der.field(0, "`tbsCertList`: what the signature covers.")
+    signature_algorithm = _der.field(1, "`signatureAlgorithm`, an AlgorithmIdentifier.")
+    signature_value = _der.field(2, "`signatureValue`, a BIT STRING.")
+    signature = _der.field(4, "`signature` of what is signed, an AlgorithmIdentifier.")
+    issuer = _der.field(5, "`issuer`, a Name.")
+    this_update = _der.moment(0, "`thisUpdate`.")
+    next_update = _der.optional_moment(1, "`nextUpdate`, if it is there.", 7)
+    version = _der.number(2, "1 or 2.", 1)
+    revoked_certificates = _der.items(8, "The entries, in their order.", 1, RevokedCertificate)
+    extensions = _der.items(9, "The extensions, in their order.", 2, Extension)
 
 
-class SubjectPublicKeyInfo(_Message):
+class SubjectPublicKeyInfo(_der.SubjectPublicKeyInfo):
     """A SubjectPublicKeyInfo (RFC 5280 4.1.2.7), which all of the octets are."""
 
     __slots__ = ()
 
-    def __init__(self, octets: Octets) -> None:
-        self._at = _der.subject_public_key_info(octets)
-        self._octets = _view(octets)
-
-    algorithm = _field(0, "`algorithm`, an AlgorithmIdentifier.")
-    subject_public_key = _field(1, "`subjectPublicKey`, a BIT STRING.")
+    algorithm = _der.field(0, "`algorithm`, an AlgorithmIdentifier.")
+    subject_public_key = _der.field(1, "`subjectPublicKey`, a BIT STRING.")
 
 
-class PrivateKeyInfo(_Message):
+class PrivateKeyInfo(_der.PrivateKeyInfo):
     """A PrivateKeyInfo, which is a OneAsymmetricKey (RFC 5958 section 2), which all of the octets are."""
 
     __slots__ = ()
 
-    def __init__(self, octets: Octets) -> None:
-        self._at = _der.private_key_info(octets)
-        self._octets = _view(octets)
-
-    private_key_algorithm = _field(1, "`privateKeyAlgorithm`, an AlgorithmIdentifier.")
-    private_key = _field(2, "`privateKey`, an OCTET STRING.")
-    attributes = _optional(3, "`attributes` with their tag [0].")
-    public_key = _optional(4, "`publicKey` with its tag [1].")
-
-    @property
-    def version(self) -> int:
-        """1 or 2."""
-        return self._at[10] + 1
+    private_key_algorithm = _der.field(1, "`privateKeyAlgorithm`, an AlgorithmIdentifier.")
+    private_key = _der.field(2, "`privateKey`, an OCTET STRING.")
+    attributes = _der.optional(3, "`attributes` with their tag [0].")
+    public_key = _der.optional(4, "`publicKey` with its tag [1].")
+    version = _der.number(0, "1 or 2.", 1)
 
 
-class AttributeTypeAndValue(_Message):
+class AttributeTypeAndValue(_der.AttributeTypeAndValue):
     """An attribute of a name (RFC 5280 4.1.2.4), which stands at the front of the octets."""
 
     __slots__ = ()
 
-    def __init__(self, octets: Octets) -> None:
-        self._at = _der.attribute_type_and_value(octets)
-        self._octets = _view(octets)[: self._at[1]]
-
-    type = _field(1, "`type`, an OBJECT IDENTIFIER.")
-    value = _field(2, "`value`, of any type.")
-
-    @property
-    def identifier(self) -> memoryview:
-        """The contents octets of `type`: 55 04 03 of commonName."""
-        return contents(self.type)
+    type = _der.field(1, "`type`, an OBJECT IDENTIFIER.")
+    value = _der.field(2, "`value`, of any type.")
+    identifier = _der.contents_field(1, "The contents octets of `type`: 55 04 03 of commonName.")
 
 
 def name_attributes(name: Octets) -> Iterator[AttributeTypeAndValue]:
     """The attributes of a name that was read, as the issuer of a certificate, in their order."""
-    parts = contents(name)
-    while parts:
-        _, length = _der.first_encoding(parts)
-        items, parts = contents(parts[:length]), parts[length:]
-        while True:
-            attribute = AttributeTypeAndValue(items)
-            yield attribute
-            items = items[attribute._at[1] :]
-            if not items:
-                break
+    return _der.name_attributes(name, AttributeTypeAndValue)
 
 
-class Attribute(_Message):
+class Attribute(_der.Attribute):
     """An attribute with a set of values (RFC 5652 5.3, RFC 2986 4.1), which stands at the front of the octets."""
 
     __slots__ = ()
 
-    def __init__(self, octets: Octets) -> None:
-        self._at = _der.attribute(octets)
-        self._octets = _view(octets)[: self._at[1]]
-
-    type = _field(1, "`type`, an OBJECT IDENTIFIER.")
-    values = _field(2, "`values`, a SET OF.")
-
-    @property
-    def identifier(self) -> memoryview:
-        """The contents octets of `type`: 2A 86 48 86 F7 0D 01 09 04 of messageDigest."""
-        return contents(self.type)
+    type = _der.field(1, "`type`, an OBJECT IDENTIFIER.")
+    values = _der.field(2, "`values`, a SET OF.")
+    identifier = _der.contents_field(1, "The contents octets of `type`: 2A 86 48 86 F7 0D 01 09 04 of messageDigest.")
 
 
 def attributes(field: Octets | None) -> Iterator[Attribute]:
     """The attributes of a field that was read, as `attributes` of a private key, in their order; none of None."""
-    items = contents(field) if field is not None else None
-    while items:
-        attribute = Attribute(items)
-        yield attribute
-        items = items[attribute._at[1] :]
+    return iter(()) if field is None else _der.items_of(field, Attribute)
 
 
-class CertificationRequest(_Message):
+class CertificationRequest(_der.CertificationRequest):
     """A CertificationRequest (RFC 2986 4.2), which all of the octets are."""
 
     __slots__ = ()
 
-    def __init__(self, octets: Octets) -> None:
-        self._at = _der.certification_request(octets)
-        self._octets = _view(octets)
-
-    certification_request_info = _field(0, "`certificationRequestInfo`: what the signature covers.")
-    signature_algorithm = _field(1, "`signatureAlgorithm`, an AlgorithmIdentifier.")
-    signature = _field(2, "`signature`, a BIT STRING.")
-    subject = _field(4, "`subject`, a Name.")
-    subject_pk_info = _field(5, "`subjectPKInfo`, which SubjectPublicKeyInfo reads.")
-
-    @property
-    def attributes(self) -> Iterator[Attribute]:
-        """The attributes, in their order."""
-        offset, length = self._at[12], self._at[13]
-        return attributes(self._octets[offset : offset + length])
+    certification_request_info = _der.field(0, "`certificationRequestInfo`: what the signature covers.")
+    signature_algorithm = _der.field(1, "`signatureAlgorithm`, an AlgorithmIdentifier.")
+    signature = _der.field(2, "`signature`, a BIT STRING.")
+    subject = _der.field(4, "`subject`, a Name.")
+    subject_pk_info = _der.field(5, "`subjectPKInfo`, which SubjectPublicKeyInfo reads.")
+    attributes = _der.items(6, "The attributes, in their order.", 1, Attribute)
 
 
-class OcspResponse(_Message):
+class OcspResponse(_der.OcspResponse):
     """An OCSPResponse (RFC 6960 4.2.1), which all of the octets are."""
 
     __slots__ = ()
 
-    def __init__(self, octets: Octets) -> None:
-        self._at = _der.ocsp_response(octets)
-        self._octets = _view(octets)
-
-    response_type = _optional(2, "`responseType` of `responseBytes`, an OBJECT IDENTIFIER.")
-    response = _optional(3, "`response` of `responseBytes`, an OCTET STRING, of which BasicOcspResponse reads the contents.")
-
-    @property
-    def response_status(self) -> int:
-        """`responseStatus`: 0 for successful, 1 to 3, 5 or 6."""
-        return self._at[8]
+    response_type = _der.optional(2, "`responseType` of `responseBytes`, an OBJECT IDENTIFIER.")
+    response = _der.optional(3, "`response` of `responseBytes`, an OCTET STRING, of which BasicOcspResponse reads the contents.")
+    response_status = _der.number(0, "`responseStatus`: 0 for successful, 1 to 3, 5 or 6.")
 
 
 class CertStatus(Enum):
@@ -407,157 +217,81 @@ class CertStatus(Enum):
     UNKNOWN = 2
 
 
-class SingleResponse(_Message):
+class SingleResponse(_der.SingleResponse):
     """The answer about one certificate (RFC 6960 4.2.1), which stands at the front of the octets."""
 
     __slots__ = ()
 
-    def __init__(self, octets: Octets) -> None:
-        self._at = _der.single_response(octets)
-        self._octets = _view(octets)[: self._at[1]]
-
-    cert_id = _field(1, "`certID`.")
+    cert_id = _der.field(1, "`certID`.")
+    this_update = _der.moment(0, "`thisUpdate`.")
+    next_update = _der.optional_moment(1, "`nextUpdate`, if it is there.", 4)
+    extensions = _der.items(5, "The extensions, in their order.", 2, Extension)
+    _revocation_time = _der.moment(2, "0 seconds of a certificate that was not revoked.")
+    _cert_status = _der.number(3, "`certStatus` as a number.")
 
     @property
     def cert_status(self) -> CertStatus:
         """`certStatus`."""
-        return CertStatus(self._at[15])
+        return CertStatus(self._cert_status)
 
     @property
     def revocation_time(self) -> datetime | None:
         """When the certificate was revoked, if it was."""
-        return _at(self._at[14]) if self._at[15] == 1 else None
-
-    @property
-    def this_update(self) -> datetime:
-        """`thisUpdate`."""
-        return _at(self._at[12])
-
-    @property
-    def next_update(self) -> datetime | None:
-        """`nextUpdate`, if it is there."""
-        return _at(self._at[13]) if self._at[9] else None
-
-    @property
-    def extensions(self) -> Iterator[Extension]:
-        """The extensions, in their order."""
-        offset, length = self._at[10], self._at[11]
-        if length:
-            yield from _extensions(contents(contents(self._octets[offset : offset + length])))
+        return self._revocation_time if self.cert_status is CertStatus.REVOKED else None
 
 
-class BasicOcspResponse(_Message):
+class BasicOcspResponse(_der.BasicOcspResponse):
     """A BasicOCSPResponse (RFC 6960 4.2.1), which all of the octets are."""
 
     __slots__ = ()
 
-    def __init__(self, octets: Octets) -> None:
-        self._at = _der.basic_ocsp_response(octets)
-        self._octets = _view(octets)
-
-    tbs_response_data = _field(0, "`tbsResponseData`: what the signature covers.")
-    signature_algorithm = _field(1, "`signatureAlgorithm`, an AlgorithmIdentifier.")
-    signature = _field(2, "`signature`, a BIT STRING.")
-    certs = _optional(3, "`certs` with their tag [0].")
-    responder_id = _field(5, "`responderID`, with its tag [1] or [2].")
-
-    @property
-    def produced_at(self) -> datetime:
-        """`producedAt`."""
-        return _at(self._at[18])
-
-    @property
-    def responses(self) -> Iterator[SingleResponse]:
-        """The answers about single certificates, in their order."""
-        offset, length = self._at[14], self._at[15]
-        items = contents(self._octets[offset : offset + length])
-        while items:
-            single = SingleResponse(items)
-            yield single
-            items = items[single._at[1] :]
-
-    @property
-    def extensions(self) -> Iterator[Extension]:
-        """The extensions, in their order."""
-        offset, length = self._at[16], self._at[17]
-        if length:
-            yield from _extensions(contents(contents(self._octets[offset : offset + length])))
+    tbs_response_data = _der.field(0, "`tbsResponseData`: what the signature covers.")
+    signature_algorithm = _der.field(1, "`signatureAlgorithm`, an AlgorithmIdentifier.")
+    signature = _der.field(2, "`signature`, a BIT STRING.")
+    certs = _der.optional(3, "`certs` with their tag [0].")
+    responder_id = _der.field(5, "`responderID`, with its tag [1] or [2].")
+    produced_at = _der.moment(0, "`producedAt`.")
+    responses = _der.items(7, "The answers about single certificates, in their order.", 1, SingleResponse)
+    extensions = _der.items(8, "The extensions, in their order.", 2, Extension)
 
 
-class ContentInfo(_Message):
+class ContentInfo(_der.ContentInfo):
     """A ContentInfo (RFC 5652 section 3), which all of the octets are."""
 
     __slots__ = ()
 
-    def __init__(self, octets: Octets) -> None:
-        self._at = _der.content_info(octets)
-        self._octets = _view(octets)
-
-    content_type = _field(0, "`contentType`, an OBJECT IDENTIFIER.")
-    content = _field(1, "`content` with its tag [0], of which SignedData reads the contents.")
+    content_type = _der.field(0, "`contentType`, an OBJECT IDENTIFIER.")
+    content = _der.field(1, "`content` with its tag [0], of which SignedData reads the contents.")
 
 
-class SignerInfo(_Message):
+class SignerInfo(_der.SignerInfo):
     """A SignerInfo (RFC 5652 5.3), which stands at the front of the octets."""
 
     __slots__ = ()
 
-    def __init__(self, octets: Octets) -> None:
-        self._at = _der.signer_info(octets)
-        self._octets = _view(octets)[: self._at[1]]
-
-    sid = _field(2, "`sid`: a SEQUENCE of issuer and serial number, or with its tag [0] a key's identifier.")
-    digest_algorithm = _field(3, "`digestAlgorithm`, an AlgorithmIdentifier.")
-    signed_attrs = _optional(4, "`signedAttrs` with their tag [0].")
-    signature_algorithm = _field(5, "`signatureAlgorithm`, an AlgorithmIdentifier.")
-    signature = _field(6, "`signature`, an OCTET STRING.")
-    unsigned_attrs = _optional(7, "`unsignedAttrs` with their tag [1].")
-
-    @property
-    def version(self) -> int:
-        """`version`, 0 to 5."""
-        return self._at[16]
-
-    @property
-    def signed_attributes(self) -> Iterator[Attribute]:
-        """The signed attributes, in their order."""
-        return attributes(self.signed_attrs)
-
-    @property
-    def unsigned_attributes(self) -> Iterator[Attribute]:
-        """The unsigned attributes, in their order."""
-        return attributes(self.unsigned_attrs)
+    sid = _der.field(2, "`sid`: a SEQUENCE of issuer and serial number, or with its tag [0] a key's identifier.")
+    digest_algorithm = _der.field(3, "`digestAlgorithm`, an AlgorithmIdentifier.")
+    signed_attrs = _der.optional(4, "`signedAttrs` with their tag [0].")
+    signature_algorithm = _der.field(5, "`signatureAlgorithm`, an AlgorithmIdentifier.")
+    signature = _der.field(6, "`signature`, an OCTET STRING.")
+    unsigned_attrs = _der.optional(7, "`unsignedAttrs` with their tag [1].")
+    version = _der.number(0, "`version`, 0 to 5.")
+    signed_attributes = _der.items(4, "The signed attributes, in their order.", 1, Attribute)
+    unsigned_attributes = _der.items(7, "The unsigned attributes, in their order.", 1, Attribute)
 
 
-class SignedData(_Message):
+class SignedData(_der.SignedData):
     """A SignedData (RFC 5652 5.1), which all of the octets are."""
 
     __slots__ = ()
 
-    def __init__(self, octets: Octets) -> None:
-        self._at = _der.signed_data(octets)
-        self._octets = _view(octets)
-
-    digest_algorithms = _field(1, "`digestAlgorithms`, a SET OF.")
-    certificates = _optional(3, "`certificates` with their tag [0].")
-    crls = _optional(4, "`crls` with their tag [1].")
-    e_content_type = _field(6, "`eContentType` of `encapContentInfo`, an OBJECT IDENTIFIER.")
-    e_content = _optional(7, "`eContent` of `encapContentInfo` with its tag [0]: an OCTET STRING.")
-
-    @property
-    def version(self) -> int:
-        """`version`, 0 to 5."""
-        return self._at[16]
-
-    @property
-    def signer_infos(self) -> Iterator[SignerInfo]:
-        """The signers, in their order."""
-        offset, length = self._at[10], self._at[11]
-        items = contents(self._octets[offset : offset + length])
-        while items:
-            signer = SignerInfo(items)
-            yield signer
-            items = items[signer._at[1] :]
+    digest_algorithms = _der.field(1, "`digestAlgorithms`, a SET OF.")
+    certificates = _der.optional(3, "`certificates` with their tag [0].")
+    crls = _der.optional(4, "`crls` with their tag [1].")
+    e_content_type = _der.field(6, "`eContentType` of `encapContentInfo`, an OBJECT IDENTIFIER.")
+    e_content = _der.optional(7, "`eContent` of `encapContentInfo` with its tag [0]: an OCTET STRING.")
+    version = _der.number(0, "`version`, 0 to 5.")
+    signer_infos = _der.items(5, "The signers, in their order.", 1, SignerInfo)
 
 
 class CertificateRule(IntFlag):

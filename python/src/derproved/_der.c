@@ -1,112 +1,29 @@
-/* The calls of libder_c for Python: octets in, a tuple of numbers out. derproved/__init__.py names them. */
-#define PY_SSIZE_T_CLEAN
-#include <Python.h>
+/* The calls of libder_c for Python. A class for each message: its objects have the octets, and what the library says of
+ * them. derproved/__init__.py derives its classes from these, and names the fields. */
+#include "classes.h"
 
-#include "der.h"
-
-static PyObject *Error;
-
-/* what is raised: the number, the words, and the position or None */
-static PyObject *refuse(const der_fault *fault)
+/* What a call finds in octets, as a memoryview. */
+static PyObject *found_in(PyObject *octets, der_place (*find)(const uint8_t *octets, size_t len))
 {
-    PyObject *position = fault->is_placed ? PyLong_FromUnsignedLong(fault->position) : Py_NewRef(Py_None);
-    PyObject *arguments;
-    if (position == NULL)
+    der_place place;
+    PyObject *view = search(octets, find, &place), *found;
+    if (view == NULL)
         return NULL;
-    arguments = Py_BuildValue("(ksN)", (unsigned long)fault->number, der_number_text(fault->number), position);
-    if (arguments != NULL)
-        PyErr_SetObject(Error, arguments);
-    Py_XDECREF(arguments);
-    return NULL;
+    found = PySequence_GetSlice(view, place.offset, (Py_ssize_t)place.offset + place.length);
+    Py_DECREF(view);
+    return found;
 }
 
-static int put(PyObject *tuple, Py_ssize_t index, PyObject *number)
+static PyObject *contents(PyObject *module, PyObject *octets)
 {
-    return number == NULL ? -1 : PyTuple_SetItem(tuple, index, number);
-}
-
-/* so many places as pairs of numbers, and behind them so many numbers */
-static PyObject *told(const der_place *places, Py_ssize_t count, const uint64_t *numbers, Py_ssize_t others)
-{
-    PyObject *tuple = PyTuple_New(2 * count + others);
-    Py_ssize_t i;
-    for (i = 0; tuple != NULL && i < count; i++) {
-        if (put(tuple, 2 * i, PyLong_FromUnsignedLong(places[i].offset)) != 0
-            || put(tuple, 2 * i + 1, PyLong_FromUnsignedLong(places[i].length)) != 0)
-            Py_CLEAR(tuple);
-    }
-    for (i = 0; tuple != NULL && i < others; i++) {
-        if (put(tuple, 2 * count + i, PyLong_FromUnsignedLongLong(numbers[i])) != 0)
-            Py_CLEAR(tuple);
-    }
-    return tuple;
-}
-
-/* A call that reads octets, with so many places at the front of the struct, and so many numbers of 64 bits behind them. */
-#define READS(name, places, numbers)                                                                        \
-    static PyObject *read_##name(PyObject *module, PyObject *argument)                                      \
-    {                                                                                                       \
-        Py_buffer view;                                                                                     \
-        der_##name##_at at;                                                                                 \
-        der_fault fault;                                                                                    \
-        uint32_t answer;                                                                                    \
-        (void)module;                                                                                       \
-        if (PyObject_GetBuffer(argument, &view, PyBUF_SIMPLE) != 0)                                         \
-            return NULL;                                                                                    \
-        answer = der_##name(view.buf, (size_t)view.len, &at, &fault);                                       \
-        PyBuffer_Release(&view);                                                                            \
-        if (answer != 0)                                                                                    \
-            return refuse(&fault);                                                                          \
-        return told((const der_place *)&at, (places), (const uint64_t *)((const der_place *)&at + (places)), \
-                    (numbers));                                                                             \
-    }
-
-static_assert(sizeof(der_certificate_at) == 13 * sizeof(der_place) + 3 * sizeof(uint64_t), "places, then numbers");
-static_assert(sizeof(der_certificate_list_at) == 10 * sizeof(der_place) + 3 * sizeof(uint64_t), "places, then numbers");
-static_assert(sizeof(der_subject_public_key_info_at) == 2 * sizeof(der_place), "places alone");
-static_assert(sizeof(der_private_key_info_at) == 5 * sizeof(der_place) + sizeof(uint64_t), "places, then a number");
-static_assert(sizeof(der_revoked_certificate_at) == 4 * sizeof(der_place) + sizeof(uint64_t), "places, then a number");
-static_assert(sizeof(der_certification_request_at) == 7 * sizeof(der_place), "places alone");
-static_assert(sizeof(der_ocsp_response_at) == 4 * sizeof(der_place) + sizeof(uint64_t), "places, then a number");
-static_assert(sizeof(der_basic_ocsp_response_at) == 9 * sizeof(der_place) + sizeof(uint64_t), "places, then a number");
-static_assert(sizeof(der_single_response_at) == 6 * sizeof(der_place) + 4 * sizeof(uint64_t), "places, then numbers");
-static_assert(sizeof(der_content_info_at) == 2 * sizeof(der_place), "places alone");
-static_assert(sizeof(der_signed_data_at) == 8 * sizeof(der_place) + sizeof(uint64_t), "places, then a number");
-static_assert(sizeof(der_signer_info_at) == 8 * sizeof(der_place) + sizeof(uint64_t), "places, then a number");
-static_assert(sizeof(der_attribute_type_and_value_at) == 3 * sizeof(der_place), "places alone");
-static_assert(sizeof(der_attribute_at) == 3 * sizeof(der_place), "places alone");
-
-READS(certificate, 13, 3)
-READS(certificate_list, 10, 3)
-READS(subject_public_key_info, 2, 0)
-READS(private_key_info, 5, 1)
-READS(revoked_certificate, 4, 1)
-READS(certification_request, 7, 0)
-READS(ocsp_response, 4, 1)
-READS(basic_ocsp_response, 9, 1)
-READS(single_response, 6, 4)
-READS(content_info, 2, 0)
-READS(signed_data, 8, 1)
-READS(signer_info, 8, 1)
-READS(attribute_type_and_value, 3, 0)
-READS(attribute, 3, 0)
-
-static PyObject *read_extension(PyObject *module, PyObject *argument)
-{
-    Py_buffer view;
-    der_extension_at at;
-    der_fault fault;
-    uint32_t answer;
-    uint64_t is_critical;
     (void)module;
-    if (PyObject_GetBuffer(argument, &view, PyBUF_SIMPLE) != 0)
-        return NULL;
-    answer = der_extension(view.buf, (size_t)view.len, &at, &fault);
-    PyBuffer_Release(&view);
-    if (answer != 0)
-        return refuse(&fault);
-    is_critical = at.is_critical;
-    return told(&at.whole, 4, &is_critical, 1);
+    return found_in(octets, contents_of_all);
+}
+
+static PyObject *signed_octets(PyObject *module, PyObject *octets)
+{
+    (void)module;
+    return found_in(octets, der_signed_octets);
 }
 
 /* A call that checks what RFC 5280 asks: the rules that are broken, as bits. */
@@ -156,67 +73,24 @@ static PyObject *canonical(PyObject *module, PyObject *arguments)
     return found;
 }
 
-static PyObject *contents(PyObject *module, PyObject *argument)
-{
-    Py_buffer view;
-    der_place all, found;
-    (void)module;
-    if (PyObject_GetBuffer(argument, &view, PyBUF_SIMPLE) != 0)
-        return NULL;
-    all.offset = 0;
-    all.length = (uint64_t)view.len < UINT32_MAX ? (uint32_t)view.len : UINT32_MAX;
-    found = der_contents(view.buf, (size_t)view.len, &all);
-    PyBuffer_Release(&view);
-    return told(&found, 1, NULL, 0);
-}
-
-static PyObject *signed_octets(PyObject *module, PyObject *argument)
-{
-    Py_buffer view;
-    der_place found;
-    (void)module;
-    if (PyObject_GetBuffer(argument, &view, PyBUF_SIMPLE) != 0)
-        return NULL;
-    found = der_signed_octets(view.buf, (size_t)view.len);
-    PyBuffer_Release(&view);
-    return told(&found, 1, NULL, 0);
-}
-
-/* the place of the encoding at the front */
-static PyObject *first_encoding(PyObject *module, PyObject *argument)
-{
-    Py_buffer view;
-    der_place start = {0, 0}, found;
-    (void)module;
-    if (PyObject_GetBuffer(argument, &view, PyBUF_SIMPLE) != 0)
-        return NULL;
-    found = der_next_encoding(view.buf, (size_t)view.len, &start);
-    PyBuffer_Release(&view);
-    return told(&found, 1, NULL, 0);
-}
-
 static PyMethodDef methods[] = {
-    {"certificate", read_certificate, METH_O, "13 places, notBefore, notAfter and the version"},
-    {"certificate_list", read_certificate_list, METH_O, "10 places, thisUpdate, nextUpdate and the version"},
-    {"subject_public_key_info", read_subject_public_key_info, METH_O, "2 places"},
-    {"private_key_info", read_private_key_info, METH_O, "5 places and the version"},
-    {"revoked_certificate", read_revoked_certificate, METH_O, "4 places and revocationDate, of the entry at the front"},
-    {"certification_request", read_certification_request, METH_O, "7 places"},
-    {"ocsp_response", read_ocsp_response, METH_O, "4 places and the status"},
-    {"basic_ocsp_response", read_basic_ocsp_response, METH_O, "9 places and producedAt"},
-    {"single_response", read_single_response, METH_O, "6 places, thisUpdate, nextUpdate, revocationTime and certStatus, of the answer at the front"},
-    {"content_info", read_content_info, METH_O, "2 places"},
-    {"signed_data", read_signed_data, METH_O, "8 places and the version"},
-    {"signer_info", read_signer_info, METH_O, "8 places and the version, of the signer at the front"},
-    {"attribute_type_and_value", read_attribute_type_and_value, METH_O, "3 places, of the attribute at the front"},
-    {"attribute", read_attribute, METH_O, "3 places, of the attribute at the front"},
-    {"extension", read_extension, METH_O, "4 places and critical, of the extension at the front"},
-    {"check_rfc5280", check_rfc5280, METH_O, "the rules that a certificate breaks, as bits"},
-    {"check_rfc5280_list", check_rfc5280_list, METH_O, "the rules that a list breaks, as bits"},
-    {"canonical", canonical, METH_VARARGS, "the canonical encoding by the name of a type"},
-    {"first_encoding", first_encoding, METH_O, "the place of the encoding at the front"},
-    {"contents", contents, METH_O, "the place of the contents octets"},
-    {"signed_octets", signed_octets, METH_O, "the place of what a signature covers"},
+    {"field", place_field, METH_VARARGS, "A field that is always there: index of its place, documentation."},
+    {"optional", optional_field, METH_VARARGS, "The same of one that may be absent, and is then None."},
+    {"contents_field", contents_field, METH_VARARGS, "The contents octets of a field: index of its place, documentation."},
+    {"number", number_field, METH_VARARGS, "A number: its index, documentation, what is added to it."},
+    {"flag", flag_field, METH_VARARGS, "Whether a number is 1: its index, documentation."},
+    {"moment", moment_field, METH_VARARGS, "A datetime: index of its number, documentation."},
+    {"optional_moment", optional_moment_field, METH_VARARGS,
+     "The same of one that may be absent, and is then None: index of its number, documentation, index of its place."},
+    {"items", items_field, METH_VARARGS,
+     "What stands one behind another: index of the place, documentation, how many headers are before it, the class."},
+    {"items_of", items_of, METH_VARARGS, "What stands one behind another in an encoding, and the class of it."},
+    {"name_attributes", name_attributes, METH_VARARGS, "The same in the parts of a name."},
+    {"check_rfc5280", check_rfc5280, METH_O, "The rules that a certificate breaks, as bits."},
+    {"check_rfc5280_list", check_rfc5280_list, METH_O, "The rules that a list breaks, as bits."},
+    {"canonical", canonical, METH_VARARGS, "The canonical encoding by the name of a type."},
+    {"contents", contents, METH_O, "The contents octets."},
+    {"signed_octets", signed_octets, METH_O, "What a signature covers."},
     {NULL, NULL, 0, NULL},
 };
 
@@ -224,14 +98,18 @@ static struct PyModuleDef definition = {
     PyModuleDef_HEAD_INIT, "_der", "The calls of libder_c.", -1, methods, NULL, NULL, NULL, NULL,
 };
 
+PyTypeObject *add_class(PyObject *module, PyType_Spec *spec, PyTypeObject *base)
+{
+    PyObject *class = PyType_FromSpecWithBases(spec, (PyObject *)base);
+    if (class != NULL && PyModule_AddType(module, (PyTypeObject *)class) != 0)
+        Py_CLEAR(class);
+    return (PyTypeObject *)class;
+}
+
 PyMODINIT_FUNC PyInit__der(void)
 {
     PyObject *module = PyModule_Create(&definition);
-    if (module == NULL)
-        return NULL;
-    Error = PyErr_NewExceptionWithDoc("derproved.Error", "Why octets are refused: number, words, position.",
-                                      PyExc_ValueError, NULL);
-    if (PyModule_AddObjectRef(module, "Error", Error) != 0)
+    if (module != NULL && (add_messages(module) != 0 || add_items(module) != 0 || add_fields(module) != 0))
         Py_CLEAR(module);
     return module;
 }

@@ -1,0 +1,114 @@
+/* What the files of the module _der share: messages, what stands one behind another, and fields. */
+#ifndef CLASSES_H
+#define CLASSES_H
+#define PY_SSIZE_T_CLEAN
+#include <Python.h>
+#include <stdbool.h>
+#include <string.h>
+
+#include "der.h"
+
+/* An extension has a number of 32 bits behind its places, which is widened. */
+typedef struct extension_told {
+    der_place places[4];
+    uint64_t is_critical;
+} extension_told;
+
+/* What the library says of a message: places, and behind them numbers of 64 bits. */
+typedef union told {
+    der_certificate_at certificate;
+    der_certificate_list_at certificate_list;
+    der_subject_public_key_info_at subject_public_key_info;
+    der_private_key_info_at private_key_info;
+    der_certification_request_at certification_request;
+    der_ocsp_response_at ocsp_response;
+    der_basic_ocsp_response_at basic_ocsp_response;
+    der_content_info_at content_info;
+    der_signed_data_at signed_data;
+    der_revoked_certificate_at revoked_certificate;
+    der_single_response_at single_response;
+    der_signer_info_at signer_info;
+    der_attribute_type_and_value_at attribute_type_and_value;
+    der_attribute_at attribute;
+    extension_told extension;
+} told;
+
+/* A kind of messages, which is a class. */
+typedef struct kind {
+    const char *name, *doc;
+    const char *arguments; /* as PyArg_ParseTupleAndKeywords reads them */
+    newfunc make;
+    uint32_t (*read)(const uint8_t *octets, size_t len, told *out, der_fault *fault);
+    unsigned places, numbers;
+    bool is_all; /* all of the octets are the message; else it stands at their front, and its first place is it */
+    PyTypeObject *class;
+} kind;
+
+typedef struct message {
+    PyObject_HEAD
+    const kind *kind;
+    PyObject *octets; /* bytes, or a plain memoryview, which bytes become when a field is asked for */
+    Py_ssize_t start, length; /* of the message in the octets */
+    der_place places[];       /* counted from the start; the numbers stand behind them */
+} message;
+
+static_assert(offsetof(message, places) % sizeof(uint64_t) == 0, "numbers stand where they may");
+
+/* octets.c: a memoryview is plain that has items of one octet, in one dimension */
+
+/* Puts a plain memoryview in the place of a memoryview. */
+int make_plain(PyObject **view);
+
+/* A plain memoryview of octets, and the place that a call finds in them. */
+PyObject *search(PyObject *octets, der_place (*find)(const uint8_t *octets, size_t len), der_place *place);
+
+/* The contents octets of what all of the octets encode. */
+der_place contents_of_all(const uint8_t *octets, size_t len);
+
+/* message.c */
+
+extern PyTypeObject *Message;
+
+/* Raises Error: the number, the words, and the position or None. */
+PyObject *refuse(const der_fault *fault);
+
+/* The kind of a class. */
+const kind *kind_of(PyObject *class);
+
+/* Reads the message that so many octets behind a start are, or that stands at their front. `first` is where the octets are. */
+PyObject *read_at(const kind *of, PyObject *class, PyObject *octets, const uint8_t *first, Py_ssize_t start, Py_ssize_t length);
+
+/* The plain memoryview of a message's octets, which the message keeps. */
+PyObject *view_of(message *of);
+
+int add_messages(PyObject *module);
+
+/* items.c */
+
+/* What stands one behind another in a plain memoryview, of a kind and a class of that; or, of a name, in the parts of it. */
+PyObject *make_items(const kind *of, PyObject *class, PyObject *view, der_place left, der_place parts);
+
+PyObject *items_of(PyObject *module, PyObject *arguments);
+PyObject *name_attributes(PyObject *module, PyObject *arguments);
+
+int add_items(PyObject *module);
+
+/* field.c */
+
+PyObject *place_field(PyObject *module, PyObject *arguments);
+PyObject *optional_field(PyObject *module, PyObject *arguments);
+PyObject *contents_field(PyObject *module, PyObject *arguments);
+PyObject *number_field(PyObject *module, PyObject *arguments);
+PyObject *flag_field(PyObject *module, PyObject *arguments);
+PyObject *moment_field(PyObject *module, PyObject *arguments);
+PyObject *optional_moment_field(PyObject *module, PyObject *arguments);
+PyObject *items_field(PyObject *module, PyObject *arguments);
+
+int add_fields(PyObject *module);
+
+/* _der.c */
+
+/* Adds a class that derives from another, or from object where that is NULL. */
+PyTypeObject *add_class(PyObject *module, PyType_Spec *spec, PyTypeObject *base);
+
+#endif
