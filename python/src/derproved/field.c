@@ -42,10 +42,12 @@ static PyObject *slice(message *of, der_place place)
 static int go_into(message *of, unsigned count, der_place *place)
 {
     Py_buffer seen;
+    const uint8_t *first;
     if (PyObject_GetBuffer(of->octets, &seen, PyBUF_SIMPLE) != 0)
         return -1;
+    first = (const uint8_t *)seen.buf + of->start;
     for (; count > 0 && place->length > 0; count--)
-        *place = der_contents((const uint8_t *)seen.buf + of->start, (size_t)of->length, place);
+        *place = der_behind(place->offset, contents_of_all(first + place->offset, place->length));
     PyBuffer_Release(&seen);
     return 0;
 }
