@@ -31,18 +31,18 @@ HEAD = """\
 ghost use Rattle.std.specs.Prelude.{◌≡◌, ◌||◌};
 ghost use Rattle.der_fields.specs.ListMakers.{part_of, field_list};
 ghost use Rattle.der_fields.specs.FieldLaws.{either_memory};
-ghost use Rattle.der_fields.specs.FieldSteps.{each, both, list_tags, tags_after, rest_starts, rest_equality, rest_copies, rest_distinct, starts_step, equality_step, copies_step, distinct_step};
+ghost use Rattle.der_fields.specs.FieldSteps.{each, both, list_tags, tags_after, rest_starts, rest_equality, rest_copies, rest_equal_copies, rest_distinct, starts_step, equality_step, copies_step, equal_copies_step, distinct_step};
 ghost use Rattle.der_fields.specs.Listing.{field, end};
 
 use crate::coded::{DecodeFields, EncodeFields};
-use crate::copied::DuplicateFields;
+use crate::copied::{DuplicateFields, DuplicateFieldsAreEqual};
 use crate::distinct::DistinctTags;
 use crate::end::End;
 use crate::equal::FieldsEq;
 use crate::field::Field;
 use crate::field_list::FieldList;
 use crate::ordered::{FieldsFirstTag, FieldsOrd};
-use der_elem::{DecodeField, DerOrd, Duplicate, Encode, EncodingEq, FirstTag, Form, KnownTags};
+use der_elem::{DecodeField, DerOrd, Duplicate, DuplicateIsEqual, Encode, EncodingEq, FirstTag, Form, KnownTags};
 use der_tlv::{BackWriter, Error, Length, Source, Tag, Writer};
 use std::alloc::Global;
 use std::cmp::Ordering;
@@ -175,6 +175,11 @@ impl<%(copied)s, Rest: DuplicateFields + FieldsFirstTag> DuplicateFields for %(s
         %(copies)s.re_read v.list w.list };
 }
 
+impl<%(equally_copied)s, Rest: DuplicateFieldsAreEqual + FieldsFirstTag> DuplicateFieldsAreEqual for %(self)s {
+    ghost copies_are_equal = { λ v w.
+        %(equal_copies)s.equal v.list w.list };
+}
+
 impl<%(known)s, Rest: DistinctTags> DistinctTags for %(self)s {
     ghost first_tags = { %(tags)s.first };
 
@@ -272,6 +277,8 @@ def source(size):
         "are_copies": fold("both is_copy", "Rest.are_copies"),
         "copy_memory": chain(lambda _, t: f"{t}.takes_memory_to_copy ||", "Rest.take_memory_to_copy"),
         "copies": fold("copies_step Form is_copy starts copy_encoding copy_comparable copy_re_reads", rest_copies, lines),
+        "equally_copied": bounds("DuplicateIsEqual + FirstTag"),
+        "equal_copies": fold("equal_copies_step is_copy eq copy_is_equal", rest("rest_equal_copies are_copies eq copies_are_equal"), lines),
         "known": bounds("KnownTags + FirstTag"),
         "tags": fold("tags_after MAY_BE_ABSENT known_tags", rest_tags),
         "readable": fold("each readable", "Rest.each_readable"),

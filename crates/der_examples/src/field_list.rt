@@ -4,8 +4,8 @@ ghost use Rattle.std.specs.Prelude.{◌≡◌, ◌↔◌, IsTrue, IfOk};
 ghost use Rattle.der_asn1_types.specs.Decoding.{ReadsAll};
 
 use der_asn1_types::asn1::{ObjectIdentifier, OctetStringRef};
-use der_asn1_types::laws::sequence_is_read_back;
-use der_asn1_types::{Encode, Error, FieldSequence, Fields3, Form, FromDer, Implicit};
+use der_asn1_types::laws::{copies_are_equal, sequence_is_read_back};
+use der_asn1_types::{Duplicate, Encode, Error, FieldSequence, Fields3, Form, FromDer, Implicit};
 use std::alloc::Global;
 
 /// An identifier, a qualifier that may be absent, and a version, `[0] IMPLICIT INTEGER`, that may be
@@ -41,4 +41,15 @@ pub fn is_same_policy<'a>(policy: &Policy<'a>, other: &Policy<'a>) -> bool
 {
     sequence_is_read_back::<PolicyList<'a>>();
     policy == other
+}
+
+/// A copy of a policy, which is equal to it.
+///
+/// # Errors
+/// None: a policy takes no memory to copy.
+pub fn copy_policy<'a>(policy: &Policy<'a>) -> Result<Policy<'a>, Error>
+    ensures { IfOk result (λ copy. IsTrue (⟦<Policy<'a> as PartialEq>⟧.eq policy.now copy)) }
+{
+    copies_are_equal::<Policy<'a>>();
+    policy.duplicate()
 }

@@ -1,6 +1,6 @@
 -- What holds of a list of fields, from what holds of its first field and of the list after it: so it is told of a long list in one step.
 use Rattle.std.proofs.Common.{◌≡◌, List, Bool, true, false, ◌&&◌, Option, Some, IsTrue, ◌↔◌}
-use Rattle.std.proofs.lemmas.Bool.{and_parts}
+use Rattle.std.proofs.lemmas.Bool.{and_parts, and_from}
 use Rattle.der_tlv.specs.declared.tag.Tag.{Tag}
 use Rattle.der_tlv.specs.OctetLaws.{SameBeginning}
 use Rattle.der_elem.specs.declared.form.Form as form
@@ -59,6 +59,10 @@ pub record ListCopies {T : Type 0} (G : FieldsFormat T) (are_copies : T → T �
   pub comparable : (v w x : T) → are_copies v w → G.octets.comparable v x → G.octets.comparable w x
   pub re_read : (v w : T) → are_copies v w → G.octets.re_reads w ≡ G.octets.re_reads v
 
+-- a copy of fields is equal to its source
+pub record ListEqualCopies {T : Type 0} (are_copies : T → T → Type 0) (eq : T → T → Bool) : Type 0 where
+  pub equal : (v w : T) → are_copies v w → IsTrue (eq v w)
+
 -- fields with distinct tags are distinguished
 pub record ListDistinct {T : Type 0} (G : FieldsFormat T) (tags : ListTags) (each_readable : T → Type 0) (each_comparable : T → T → Type 0) : Type 0 where
   pub known : (v : T) (t : Tag) → G.first_tag v ≡ Some t → may_be tags.first t ≡ true
@@ -78,6 +82,12 @@ module _ {T : Type 0} (G : FieldsFormat T) (starts : (v : T) → Starts (G.first
 
 pub rest_distinct : {T : Type 0} (G : FieldsFormat T) (first : Option (List Tag)) (are_distinct : Bool) (each_readable : T → Type 0) (each_comparable : T → T → Type 0) → ((v : T) (t : Tag) → G.first_tag v ≡ Some t → may_be first t ≡ true) → (are_distinct ≡ true → (v : T) → each_readable v → G.octets.readable v) → (are_distinct ≡ true → (v w : T) → each_comparable v w → G.octets.comparable v w) → ListDistinct G (list_tags first are_distinct) each_readable each_comparable
 rest_distinct G first are_distinct each_readable each_comparable known readable comparable = record { known = known; readable = readable; comparable = comparable }
+
+pub rest_equal_copies : {T : Type 0} (are_copies : T → T → Type 0) (eq : T → T → Bool) → ((v w : T) → are_copies v w → IsTrue (eq v w)) → ListEqualCopies are_copies eq
+rest_equal_copies are_copies eq equal = record { equal = equal }
+
+pub equal_copies_step : {T U : Type 0} {are_copies : U → U → Type 0} {eq' : U → U → Bool} (is_copy : T → T → Type 0) (eq : T → T → Bool) → ((v w : T) → is_copy v w → IsTrue (eq v w)) → ListEqualCopies are_copies eq' → ListEqualCopies (both is_copy are_copies) (equal_fields eq eq')
+equal_copies_step {eq' = eq'} is_copy eq copy_is_equal rest = record { equal = λ v w c. and_from (eq v.first w.first) (eq' v.rest w.rest) (copy_is_equal v.first w.first c.0) (rest.equal v.rest w.rest c.1) }
 
 -- a field before a list
 module _ {T U : Type 0} (F : form.Ghosts T) {G : FieldsFormat U} where

@@ -1,2 +1,5 @@
 pub mod Asn1
+pub mod GeneralString
 pub mod MemberLaws
+pub use Rattle.der_opaque.specs.Opaque
+pub use Rattle.der_tlv.specs.declared.tag.Tag

@@ -3,8 +3,12 @@
 //! of what it holds (`specs/MemberLaws.antt`).
 #![tactic(auto)]
 
+mod general_string;
+
 ghost use Rattle.std.specs.Prelude.{◌≡◌};
 ghost use Rattle.der_modules.specs.MemberLaws.{CopiesOf};
+
+pub use general_string::GeneralStringOctets;
 
 /// The laws of a type's copies as one member, which its impls of `DuplicateValue` or of `Duplicate`
 /// cite.

@@ -1,5 +1,5 @@
 -- Contents octets that were read as those of a value, under DER, and are kept as they came.
-use Rattle.std.specs.Prelude.{◌≡◌, ℕ, List, length, Bool, true, false, Result, Ok, Err, refl}
+use Rattle.std.specs.Prelude.{◌≡◌, ℕ, ◌+◌, min, List, length, Bool, true, false, Option, Some, None, Result, Ok, Err, refl}
 use Rattle.std.proofs.Common.{◌∙◌, ap, subst, sym}
 use Rattle.der_tlv.specs.declared.error.ErrorKind.{ErrorKind}
 use Rattle.der_tlv.specs.declared.error.Error.{Error}
@@ -23,6 +23,11 @@ as_they_came octets (Err kind) = Err kind
 -- what contents octets that are to be kept come to, whatever the rules: they are read under DER, from position 0 on
 abbrev pub parse_kept : ContentsParse → ContentsParse
 parse_kept parse rules p octets = as_they_came octets (parse Der 0 octets)
+
+-- the position of a fault of contents octets, from the first octet of all: so many octets stand before the contents octets
+abbrev pub position_behind : ℕ → Option ℕ → Option ℕ
+position_behind begin (Some position) = Some (min (begin + position) 4294967295)
+position_behind begin None = None
 
 pub kept_of_octets : (octets : List ℕ) (r : Result (List ℕ) ErrorKind) → IsOfOctets r → IsOfOctets (as_they_came octets r)
 kept_of_octets octets (Ok contents) h = tt

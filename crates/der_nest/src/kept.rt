@@ -17,7 +17,7 @@ ghost use Rattle.der_opaque.specs.DecodingAs.{DecodesAs};
 ghost use Rattle.der_opaque.specs.contracts.octet_string_ref.OctetStringRefPartialEq.TheImpl.Laws as string_eq;
 ghost use Rattle.der_opaque.specs.contracts.octet_string_ref.OctetStringRefEq.TheImpl.Laws as string_equivalence;
 ghost use Rattle.der_nest.specs.Kept.{octets_of};
-ghost use Rattle.der_nest.specs.KeptFormat.{kept_format, KeepsContents};
+ghost use Rattle.der_nest.specs.KeptFormat.{kept_format, KeepsContents, position_behind};
 
 use der_elem::{
     Choice, ContentsEq, CopyIsDuplicate, DecodeValue, EncodeValue, FormValue, OneTag, TagMarker,
@@ -137,9 +137,10 @@ fn keep<'a, T: DecodeValue<'a, SliceReader<'a>>>(
     Ok(Kept { octets, of })
 }
 
-/// A fault of contents octets, of which so many octets stand before.
+/// A fault of contents octets, before the first of which so many octets stand.
 fn behind(begin: Length, error: Error) -> Error
-    ensures { result.kind ≡ error.kind }
+    ensures kind { result.kind ≡ error.kind }
+    ensures position { result.position ≡ position_behind begin error.position }
 {
     let kind = error.kind;
     let position = match error.position {

@@ -12,6 +12,8 @@ ghost use Rattle.der_nest.specs.Places.{IsInOrder, insert_in_order, insert_each,
 ghost use Rattle.der_nest.specs.Stable.{IsSetOf};
 ghost use Rattle.der_nest.specs.SequenceRef.{octets_of};
 
+use crate::item_set::ItemSet;
+use crate::non_empty::NonEmpty;
 use crate::sequence_of::SequenceOf;
 use crate::sequence_of_ref::SequenceOfRef;
 use crate::sequence_ref::SequenceRef;
@@ -82,18 +84,22 @@ pub fn sequences_by_contents<'a>(one: SequenceRef<'a>, other: SequenceRef<'a>) -
     one.cmp(&other)
 }
 
-/// The tags of the types (X.680 8.6): of `SetOfVec`, `SetOf`, `SetOfRef`, `SequenceOf`,
-/// `SequenceOfRef` and `SequenceRef`.
-pub fn universal_tags() -> [Tag; 6]
-    ensures { result ≡ tags.Set ∷ tags.Set ∷ tags.Set ∷ tags.Sequence ∷ tags.Sequence
-        ∷ tags.Sequence ∷ [] }
+/// The tags of the types (X.680 8.6): of `SetOfVec`, `ItemSet`, `SetOf`, `SetOfRef`, `SequenceOf`,
+/// `SequenceOfRef` and `SequenceRef`; and of `NonEmpty`, that of its list: of a set and of a
+/// sequence.
+pub fn universal_tags() -> [Tag; 9]
+    ensures { result ≡ tags.Set ∷ tags.Set ∷ tags.Set ∷ tags.Set ∷ tags.Sequence ∷ tags.Sequence
+        ∷ tags.Sequence ∷ tags.Set ∷ tags.Sequence ∷ [] }
 {
     [
         SetOfVec::<bool>::TAG,
+        ItemSet::<bool>::TAG,
         SetOf::<bool, 1>::TAG,
         SetOfRef::<bool>::TAG,
         SequenceOf::<bool, 1>::TAG,
         SequenceOfRef::<bool>::TAG,
         SequenceRef::TAG,
+        NonEmpty::<ItemSet<bool>>::TAG,
+        NonEmpty::<Vec<bool>>::TAG,
     ]
 }

@@ -3,18 +3,20 @@
 ghost use Rattle.std.specs.Prelude.{◌≡◌, ◌||◌};
 ghost use Rattle.der_fields.specs.ListMakers.{part_of, field_list};
 ghost use Rattle.der_fields.specs.FieldLaws.{either_memory};
-ghost use Rattle.der_fields.specs.FieldSteps.{each, both, list_tags, tags_after, rest_starts, rest_equality, rest_copies, rest_distinct, starts_step, equality_step, copies_step, distinct_step};
+ghost use Rattle.der_fields.specs.FieldSteps.{each, both, list_tags, tags_after, rest_starts, rest_equality, rest_copies, rest_equal_copies, rest_distinct, starts_step, equality_step, copies_step, equal_copies_step, distinct_step};
 ghost use Rattle.der_fields.specs.Listing.{field, end};
 
 use crate::coded::{DecodeFields, EncodeFields};
-use crate::copied::DuplicateFields;
+use crate::copied::{DuplicateFields, DuplicateFieldsAreEqual};
 use crate::distinct::DistinctTags;
 use crate::end::End;
 use crate::equal::FieldsEq;
 use crate::field::Field;
 use crate::field_list::FieldList;
 use crate::ordered::{FieldsFirstTag, FieldsOrd};
-use der_elem::{DecodeField, DerOrd, Duplicate, Encode, EncodingEq, FirstTag, Form, KnownTags};
+use der_elem::{
+    DecodeField, DerOrd, Duplicate, DuplicateIsEqual, Encode, EncodingEq, FirstTag, Form, KnownTags,
+};
 use der_tlv::{BackWriter, Error, Length, Source, Tag, Writer};
 use std::alloc::Global;
 use std::cmp::Ordering;
@@ -351,6 +353,29 @@ impl<
         (copies_step G.Form G.is_copy G.starts G.copy_encoding G.copy_comparable G.copy_re_reads
         (copies_step H.Form H.is_copy H.starts H.copy_encoding H.copy_comparable H.copy_re_reads
         (rest_copies Rest.list Rest.starts_fields Rest.are_copies Rest.copy_joined Rest.copy_all_comparable Rest.copy_re_read))))))))).re_read v.list w.list };
+}
+
+impl<
+    A: DuplicateIsEqual + FirstTag,
+    B: DuplicateIsEqual + FirstTag,
+    C: DuplicateIsEqual + FirstTag,
+    D: DuplicateIsEqual + FirstTag,
+    E: DuplicateIsEqual + FirstTag,
+    F: DuplicateIsEqual + FirstTag,
+    G: DuplicateIsEqual + FirstTag,
+    H: DuplicateIsEqual + FirstTag,
+    Rest: DuplicateFieldsAreEqual + FieldsFirstTag,
+> DuplicateFieldsAreEqual for Fields8<A, B, C, D, E, F, G, H, Rest> {
+    ghost copies_are_equal = { λ v w.
+        (equal_copies_step A.is_copy A.eq A.copy_is_equal
+        (equal_copies_step B.is_copy B.eq B.copy_is_equal
+        (equal_copies_step C.is_copy C.eq C.copy_is_equal
+        (equal_copies_step D.is_copy D.eq D.copy_is_equal
+        (equal_copies_step E.is_copy E.eq E.copy_is_equal
+        (equal_copies_step F.is_copy F.eq F.copy_is_equal
+        (equal_copies_step G.is_copy G.eq G.copy_is_equal
+        (equal_copies_step H.is_copy H.eq H.copy_is_equal
+        (rest_equal_copies Rest.are_copies Rest.eq Rest.copies_are_equal))))))))).equal v.list w.list };
 }
 
 impl<

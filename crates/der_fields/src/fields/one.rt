@@ -3,18 +3,20 @@
 ghost use Rattle.std.specs.Prelude.{◌≡◌, ◌||◌};
 ghost use Rattle.der_fields.specs.ListMakers.{part_of, field_list};
 ghost use Rattle.der_fields.specs.FieldLaws.{either_memory};
-ghost use Rattle.der_fields.specs.FieldSteps.{each, both, list_tags, tags_after, rest_starts, rest_equality, rest_copies, rest_distinct, starts_step, equality_step, copies_step, distinct_step};
+ghost use Rattle.der_fields.specs.FieldSteps.{each, both, list_tags, tags_after, rest_starts, rest_equality, rest_copies, rest_equal_copies, rest_distinct, starts_step, equality_step, copies_step, equal_copies_step, distinct_step};
 ghost use Rattle.der_fields.specs.Listing.{field, end};
 
 use crate::coded::{DecodeFields, EncodeFields};
-use crate::copied::DuplicateFields;
+use crate::copied::{DuplicateFields, DuplicateFieldsAreEqual};
 use crate::distinct::DistinctTags;
 use crate::end::End;
 use crate::equal::FieldsEq;
 use crate::field::Field;
 use crate::field_list::FieldList;
 use crate::ordered::{FieldsFirstTag, FieldsOrd};
-use der_elem::{DecodeField, DerOrd, Duplicate, Encode, EncodingEq, FirstTag, Form, KnownTags};
+use der_elem::{
+    DecodeField, DerOrd, Duplicate, DuplicateIsEqual, Encode, EncodingEq, FirstTag, Form, KnownTags,
+};
 use der_tlv::{BackWriter, Error, Length, Source, Tag, Writer};
 use std::alloc::Global;
 use std::cmp::Ordering;
@@ -142,6 +144,15 @@ impl<A: Duplicate + FirstTag, Rest: DuplicateFields + FieldsFirstTag> DuplicateF
     ghost copy_re_read = { λ v w.
         (copies_step A.Form A.is_copy A.starts A.copy_encoding A.copy_comparable A.copy_re_reads
         (rest_copies Rest.list Rest.starts_fields Rest.are_copies Rest.copy_joined Rest.copy_all_comparable Rest.copy_re_read)).re_read v.list w.list };
+}
+
+impl<
+    A: DuplicateIsEqual + FirstTag,
+    Rest: DuplicateFieldsAreEqual + FieldsFirstTag,
+> DuplicateFieldsAreEqual for Fields1<A, Rest> {
+    ghost copies_are_equal = { λ v w.
+        (equal_copies_step A.is_copy A.eq A.copy_is_equal
+        (rest_equal_copies Rest.are_copies Rest.eq Rest.copies_are_equal)).equal v.list w.list };
 }
 
 impl<A: KnownTags + FirstTag, Rest: DistinctTags> DistinctTags for Fields1<A, Rest> {

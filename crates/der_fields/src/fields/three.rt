@@ -3,18 +3,20 @@
 ghost use Rattle.std.specs.Prelude.{◌≡◌, ◌||◌};
 ghost use Rattle.der_fields.specs.ListMakers.{part_of, field_list};
 ghost use Rattle.der_fields.specs.FieldLaws.{either_memory};
-ghost use Rattle.der_fields.specs.FieldSteps.{each, both, list_tags, tags_after, rest_starts, rest_equality, rest_copies, rest_distinct, starts_step, equality_step, copies_step, distinct_step};
+ghost use Rattle.der_fields.specs.FieldSteps.{each, both, list_tags, tags_after, rest_starts, rest_equality, rest_copies, rest_equal_copies, rest_distinct, starts_step, equality_step, copies_step, equal_copies_step, distinct_step};
 ghost use Rattle.der_fields.specs.Listing.{field, end};
 
 use crate::coded::{DecodeFields, EncodeFields};
-use crate::copied::DuplicateFields;
+use crate::copied::{DuplicateFields, DuplicateFieldsAreEqual};
 use crate::distinct::DistinctTags;
 use crate::end::End;
 use crate::equal::FieldsEq;
 use crate::field::Field;
 use crate::field_list::FieldList;
 use crate::ordered::{FieldsFirstTag, FieldsOrd};
-use der_elem::{DecodeField, DerOrd, Duplicate, Encode, EncodingEq, FirstTag, Form, KnownTags};
+use der_elem::{
+    DecodeField, DerOrd, Duplicate, DuplicateIsEqual, Encode, EncodingEq, FirstTag, Form, KnownTags,
+};
 use der_tlv::{BackWriter, Error, Length, Source, Tag, Writer};
 use std::alloc::Global;
 use std::cmp::Ordering;
@@ -192,6 +194,19 @@ impl<
         (copies_step B.Form B.is_copy B.starts B.copy_encoding B.copy_comparable B.copy_re_reads
         (copies_step C.Form C.is_copy C.starts C.copy_encoding C.copy_comparable C.copy_re_reads
         (rest_copies Rest.list Rest.starts_fields Rest.are_copies Rest.copy_joined Rest.copy_all_comparable Rest.copy_re_read)))).re_read v.list w.list };
+}
+
+impl<
+    A: DuplicateIsEqual + FirstTag,
+    B: DuplicateIsEqual + FirstTag,
+    C: DuplicateIsEqual + FirstTag,
+    Rest: DuplicateFieldsAreEqual + FieldsFirstTag,
+> DuplicateFieldsAreEqual for Fields3<A, B, C, Rest> {
+    ghost copies_are_equal = { λ v w.
+        (equal_copies_step A.is_copy A.eq A.copy_is_equal
+        (equal_copies_step B.is_copy B.eq B.copy_is_equal
+        (equal_copies_step C.is_copy C.eq C.copy_is_equal
+        (rest_equal_copies Rest.are_copies Rest.eq Rest.copies_are_equal)))).equal v.list w.list };
 }
 
 impl<
