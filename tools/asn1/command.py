@@ -10,6 +10,7 @@ from .crates import Entry, entries_of, places_of
 from .errors import AsnError
 from .layout import LayoutError, laid_out
 from .parser import parse_module
+from .reading import text_of_file
 from .resolver import resolve
 from .syntax import Module
 from .writer.crate import MARK, files_of_crate, marked
@@ -19,12 +20,14 @@ from .writer.places import write_places
 from .writer.plan import Plan, Target
 from .writer.splitting import split_choices
 
+MOST_CALLS = 10_000  # within one another: types that stand deep within others are read and written so
 LIST = "asn1/modules.txt"
 ROOTS = ("src/lib.rt", "specs/Lib.antt")
 
 
 def main(arguments: list[str]) -> int:
     """0 where all is written, or is as it would be written."""
+    sys.setrecursionlimit(max(sys.getrecursionlimit(), MOST_CALLS))
     options = options_of(arguments)
     try:
         written = write_all(Path(options.list), options.remarks)
@@ -49,7 +52,7 @@ def options_of(arguments: list[str]) -> argparse.Namespace:
 def write_all(path: Path, with_remarks: bool) -> dict[str, str]:
     """The text of each file, by its path in crates/."""
     entries = entries_of(path)
-    modules = [parse_module(str(entry.file), entry.file.read_text(encoding="utf-8")) for entry in entries]
+    modules = [parse_module(str(entry.file), text_of_file(entry.file)) for entry in entries]
     resolved, remarks = resolve(modules)
     for remark in remarks if with_remarks else ():
         print(remark, file=sys.stderr)

@@ -6,6 +6,7 @@ import re
 from dataclasses import dataclass, field
 from enum import Enum
 
+from .annotations import ANNOTATION, is_annotations
 from .errors import AsnError, Place
 
 
@@ -64,10 +65,10 @@ RESERVED = frozenset(
 NAME = re.compile(r"[A-Za-z][A-Za-z0-9]*(?:-[A-Za-z0-9]+)*")
 FIELD_NAME = re.compile(r"&[A-Za-z][A-Za-z0-9]*(?:-[A-Za-z0-9]+)*")
 NUMBER = re.compile(r"[0-9]+")
+MOST_DIGITS = 1000
 QUOTED = re.compile(r"'([0-9A-F\s]*)'([BH])")
 TEXT = re.compile(r'"((?:[^"]|"")*)"')
 SYMBOLS = ("::=", "...", "..", "[[", "]]", *"{}<>,.()[]-:;=@|!^*")
-ANNOTATION = re.compile(r"@([A-Za-z][A-Za-z0-9_-]*)(?:\(([^()]*)\))?")
 
 
 class Lexer:
@@ -132,9 +133,9 @@ class Lexer:
         self.at = at
 
     def comment(self, start: int, end: int) -> None:
-        """Keeps the annotations of a comment that begins with one."""
+        """Keeps the annotations of a comment that begins with one, or with what is meant as one."""
         text = self.text[start:end]
-        if not text.strip().startswith("@"):
+        if not is_annotations(text):
             return
         place = self.place(start + len(text) - len(text.lstrip()))
         if not self.tokens or self.tokens[-1].place.line != place.line:
@@ -146,7 +147,7 @@ class Lexer:
         if ANNOTATION.sub("", text).strip():
             raise AsnError(
                 place,
-                "a comment that begins with '@' has annotations alone",
+                "a comment that begins with an annotation has annotations alone",
                 "write '-- @name' or '-- @name(argument)', several with spaces between them",
             )
         for found in ANNOTATION.finditer(text):
@@ -179,6 +180,9 @@ class Lexer:
         )
 
     def number_or_field(self, kind: Kind, text: str, end: int) -> None:
+        if kind is Kind.NUMBER and len(text) > MOST_DIGITS:
+            problem = f"a number of {len(text)} digits is not taken"
+            raise AsnError(self.place(self.at), problem, f"write one of {MOST_DIGITS} at most")
         if kind is Kind.NUMBER and len(text) > 1 and text[0] == "0":
             shortest = text.lstrip("0") or "0"
             raise AsnError(self.place(self.at), f"the number {text} begins with 0", f"write {shortest} (X.680 12.8)")

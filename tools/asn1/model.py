@@ -144,6 +144,15 @@ class Named:
     number: int
 
 
+@dataclass(frozen=True, eq=False)
+class Origin:
+    """A type of a module's tree, and the names that it is understood by."""
+
+    library: Library
+    env: Env
+    type: Type
+
+
 @dataclass
 class Definition:
     """A type that gets a name in Rattle."""
@@ -154,7 +163,7 @@ class Definition:
     rust: str
     text: str  # as the module has it; empty for an inner type
     remarks: list[str] = field(default_factory=list)
-    origin: tuple[Env, Type] | None = None  # what it is made from
+    origin: Origin | None = None  # what it is made from
     by_hand: tuple[str, ...] = ()  # the crate, the files and the name of a type that is not written
 
     def __hash__(self) -> int:

@@ -2,10 +2,9 @@
 
 from __future__ import annotations
 
-import difflib
 import re
 
-from .bounds import MACHINE
+from .annotations import NAMES, WIDTHS, nearest
 from .errors import AsnError
 from .lexer import Annotation
 
@@ -14,7 +13,7 @@ KNOWN: dict[str, tuple[str | None, str]] = {
     "owned": (None, "the value owns its octets"),
     "signed": (None, "an INTEGER of any length"),
     "unsigned": (None, "an INTEGER of any length that is not negative"),
-    **{width: (None, f"an INTEGER as {width}") for width in MACHINE},
+    **{width: (None, f"an INTEGER as {width}") for width in WIDTHS},
     "max": (r"[1-9][0-9]*", "how many contents octets an OBJECT IDENTIFIER may have"),
     "kept": (None, "it is read, and its octets are kept as they came"),
     "unread": (None, "it is not read, and its octets are kept"),
@@ -69,8 +68,8 @@ class Notes:
 def check(annotation: Annotation) -> None:
     """An annotation is known, and has an argument where it wants one."""
     if annotation.name not in KNOWN:
-        close = difflib.get_close_matches(annotation.name, list(KNOWN), 1)
-        known = f"did you mean '@{close[0]}'?" if close else "the annotations are " + ", ".join("@" + name for name in KNOWN)
+        close = nearest(annotation.name)
+        known = f"did you mean '@{close}'?" if close else "the annotations are " + ", ".join("@" + name for name in NAMES)
         raise AsnError(annotation.place, f"there is no annotation '@{annotation.name}'", known)
     form, says = KNOWN[annotation.name]
     if form is None and annotation.argument is not None:

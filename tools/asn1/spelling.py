@@ -12,6 +12,18 @@ KEYWORDS = frozenset(
     """.split()
 )
 
+# Rattle's own, and those of its pages and clauses.
+LOGIC = frozenset(
+    """
+    abbrev axiom coe com data deriving elim ensures fcoe ghost hcom infix infixl infixr module mutual open package record
+    requires ruleset tcoe unfold unfoldable unfolding
+    """.split()
+)
+# What no field may be called: what each struct has beside the calls of its fields, and the value on the page of the fields.
+CALLS = frozenset(["into_parts", "new", "v"])
+VARIANTS = frozenset(["Self", "Type"])  # what no variant may be called, in code or on a page
+NAMES = frozenset(["List", "Names", "Some"])  # nor a name of an ENUMERATED, whose page has them for something else
+
 WORD = re.compile(r"[A-Z]+v[0-9]+|[A-Z]+(?=s\b)s|[A-Z]+(?![a-z])[0-9]*|[A-Z][a-z0-9]+|[A-Z]|[a-z0-9]+")
 
 
@@ -27,14 +39,32 @@ def words(name: str) -> list[str]:
 
 
 def camel(name: str) -> str:
-    """As a type or a variant: `TBSCertificate` is `TbsCertificate`."""
+    """As a type: `TBSCertificate` is `TbsCertificate`."""
     return "".join(word[0].upper() + word[1:] for word in words(name))
 
 
+def variant(name: str) -> str:
+    """As a variant: `dNSName` is `DnsName`; a reserved word gets an underscore."""
+    found = camel(name)
+    return f"{found}_" if found in VARIANTS else found
+
+
+def enumeration_name(name: str, rust: str) -> str:
+    """As a variant of an ENUMERATED, whose own name is `rust`."""
+    found = variant(name)
+    return f"{found}_" if found in NAMES or found == rust else found
+
+
 def snake(name: str) -> str:
-    """As a field or a module: `dNSName` is `dns_name`; a keyword gets an underscore."""
+    """As a module: `dNSName` is `dns_name`; a reserved word gets an underscore."""
     found = "_".join(words(name))
-    return f"{found}_" if found in KEYWORDS else found
+    return f"{found}_" if found in KEYWORDS | LOGIC else found
+
+
+def field(name: str) -> str:
+    """As a field: the same, but for more names that are taken."""
+    found = snake(name)
+    return f"{found}_" if found in CALLS else found
 
 
 def screaming(name: str) -> str:

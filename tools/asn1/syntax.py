@@ -225,6 +225,7 @@ class NamedNumber:
     place: Place
     name: str
     number: Union[int, ReferenceValue, None]
+    is_addition: bool = False  # of an enumeration: after '...' (20.1)
 
 
 @dataclass(frozen=True)
@@ -346,6 +347,7 @@ class TaggedType:
     number: Union[int, ReferenceValue]
     mode: TagMode | None
     type: "Type"
+    is_automatic: bool = False  # it is in no text: the module's AUTOMATIC TAGS put it there (25.7, 29.2)
 
 
 @dataclass(frozen=True)

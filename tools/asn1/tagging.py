@@ -7,18 +7,23 @@ from dataclasses import replace
 from .errors import AsnError
 from .model import Field, Presence, Tag
 from .properties import tags_of
-from .syntax import Component, TagClass, TaggedType
+from .syntax import Component, TagClass, TaggedType, Type
 
 
 def automatic(components: list[Component]) -> list[Component]:
-    """The components with tags from 0, those of the root first (25.7, 25.8, 29.2)."""
+    """The components with tags from 0, those of the root first, in place of automatic ones that they have (25.7 to 25.9, 29.2)."""
     root = [part for part in components if not part.is_addition]
     additions = [part for part in components if part.is_addition]
     numbers = {id(part): number for number, part in enumerate(root + additions)}
     return [
-        replace(part, type=TaggedType(part.place, TagClass.CONTEXT, numbers[id(part)], None, part.type))
+        replace(part, type=TaggedType(part.place, TagClass.CONTEXT, numbers[id(part)], None, untagged(part.type), True))
         for part in components
     ]
+
+
+def untagged(type_: Type) -> Type:
+    """A type without its automatic tag."""
+    return type_.type if isinstance(type_, TaggedType) and type_.is_automatic else type_
 
 
 def are_tagged(components: list[Component]) -> bool:

@@ -2,8 +2,10 @@
 
 from __future__ import annotations
 
+from itertools import count
+
 from .errors import AsnError, Place
-from .scope import Env, Library
+from .scope import Env, Library, check_names
 from .syntax import (
     Arc,
     BracedValue,
@@ -21,18 +23,36 @@ KNOWN_ARCS = {
     (1,): {"standard": 0, "registration-authority": 1, "member-body": 2, "identified-organization": 3},
 }
 
+# How many object identifiers may stand first in one another.
+MOST_NAMES = 64
+
 
 def number_of(library: Library, env: Env, value: Value, named: dict[str, int] | None = None) -> int:
     """The number that a value comes to; `named` are the names of numbers of its type."""
-    if isinstance(value, NumberValue):
-        return value.number
+    if named and isinstance(value, ReferenceValue) and value.module is None and value.name in named:
+        return named[value.name]
+    last = value
     if isinstance(value, ReferenceValue):
-        if named and value.module is None and value.name in named:
-            return named[value.name]
-        scope, found = library.find(env, value.name, value.place, value.module)
-        if isinstance(found, ValueAssignment):
-            return number_of(library, Env(scope), found.value)
-    raise AsnError(value.place, "this value is no number", "write a number, or the name of one")
+        last = assigned_value(library, env, value)[1]
+    if isinstance(last, NumberValue):
+        return last.number
+    raise AsnError(last.place, "this value is no number", "write a number, or the name of one")
+
+
+def assigned_value(library: Library, env: Env, value: ReferenceValue) -> tuple[Env, Value]:
+    """What a name of a value stands for, by the names that stand for one another, and the names within it."""
+    found: Value = value
+    seen: set[tuple[str, str]] = set()
+    while isinstance(found, ReferenceValue):
+        scope, assignment = library.find(env, found.name, found.place, found.module)
+        key = (scope.module.name, found.name)
+        if key in seen:
+            raise AsnError(found.place, f"the value '{found.name}' stands for itself", "assign a number or arcs to one of the names")
+        seen.add(key)
+        if not isinstance(assignment, ValueAssignment):
+            break
+        env, found = Env(scope), assignment.value
+    return env, found
 
 
 def numbers_of(library: Library, env: Env, named: tuple[NamedNumber, ...]) -> dict[str, int]:
@@ -54,40 +74,65 @@ def wanted(one: NamedNumber) -> ReferenceValue:
 
 
 def enumeration_of(library: Library, env: Env, named: tuple[NamedNumber, ...]) -> dict[str, int]:
-    """The numbers of an ENUMERATED, of which those left out are the next that none has (20.2 to 20.7)."""
-    given = numbers_of(library, env, tuple(one for one in named if one.number is not None))
+    """The numbers of an ENUMERATED: of the root, of which those left out are the next that none of it has (20.3), and then
+    of the additions."""
+    check_names([(one.place, one.name) for one in named], "name")
+    root = tuple(one for one in named if not one.is_addition)
+    given = numbers_of(library, env, tuple(one for one in root if one.number is not None))
     taken = set(given.values())
     found: dict[str, int] = {}
     following = 0
+    for one in root:
+        while following in taken:
+            following += 1
+        found[one.name] = given.get(one.name, following)
+        taken.add(found[one.name])
+    return found | additions_of(library, env, named[len(root) :], taken)
+
+
+def additions_of(library: Library, env: Env, named: tuple[NamedNumber, ...], root: set[int]) -> dict[str, int]:
+    """The numbers of the additions, each greater than those of the additions before it: one left out is the least of these
+    that the root has not (20.5 to 20.7)."""
+    found: dict[str, int] = {}
+    least = 0
     for one in named:
-        if one.name in found:
-            raise AsnError(one.place, f"the name '{one.name}' stands twice", "give one another name")
         if one.number is None:
-            while following in taken:
-                following += 1
-            found[one.name] = following
-            taken.add(following)
+            number = next(number for number in count(least) if number not in root)
         else:
-            found[one.name] = given[one.name]
+            number = one.number if isinstance(one.number, int) else number_of(library, env, one.number)
+            check_addition(one, number, root, tuple(found.values()))
+        found[one.name] = number
+        least = max(least, number + 1)
     return found
 
 
-def arcs_of(library: Library, env: Env, value: Value) -> tuple[int, ...]:
-    """The arcs of an object identifier value."""
+def check_addition(one: NamedNumber, number: int, root: set[int], before: tuple[int, ...]) -> None:
+    """An addition has a number that the root has not, and that is above those of the additions before it (20.5, 20.6)."""
+    instead = "write a greater one, or leave the number out (X.680 20.7)"
+    if number in root:
+        raise AsnError(one.place, f"the number {number} of '{one.name}' is one of those before '...'", instead)
+    if before and number <= before[-1]:
+        raise AsnError(one.place, f"the number {number} of '{one.name}' is not greater than {before[-1]}, before it", instead)
+
+
+def arcs_of(library: Library, env: Env, value: Value, before: tuple[Value, ...] = ()) -> tuple[int, ...]:
+    """The arcs of an object identifier value; `before` are those whose first arcs are its."""
     if isinstance(value, ReferenceValue):
-        scope, found = library.find(env, value.name, value.place, value.module)
-        if isinstance(found, ValueAssignment):
-            return arcs_of(library, Env(scope), found.value)
+        env, value = assigned_value(library, env, value)
+    is_within = any(value is one for one in before)
+    if is_within or len(before) == MOST_NAMES:
+        problem = "stands first in itself" if is_within else f"has more than {MOST_NAMES} names one before another"
+        raise AsnError(value.place, f"this object identifier {problem}", "write its arcs out")
     if not isinstance(value, BracedValue) or not value.arcs:
         raise AsnError(value.place, "this is no object identifier", "write '{ iso(1) member-body(2) .. }'")
     arcs: tuple[int, ...] = ()
     for arc in value.arcs:
-        arcs += one_arc(library, env, arc, arcs)
+        arcs += one_arc(library, env, arc, arcs, (*before, value))
     check_arcs(arcs, value.place)
     return arcs
 
 
-def one_arc(library: Library, env: Env, arc: Arc, before: tuple[int, ...]) -> tuple[int, ...]:
+def one_arc(library: Library, env: Env, arc: Arc, before: tuple[int, ...], by: tuple[Value, ...]) -> tuple[int, ...]:
     """One arc, or all of an object identifier whose name stands first."""
     if isinstance(arc.number, int):
         return (arc.number,)
@@ -96,14 +141,14 @@ def one_arc(library: Library, env: Env, arc: Arc, before: tuple[int, ...]) -> tu
         if arc.name in known:
             return (known[arc.name],)
     reference = arc.number if isinstance(arc.number, ReferenceValue) else ReferenceValue(arc.place, None, arc.name or "")
-    scope, found = library.find(env, reference.name, arc.place, reference.module)
-    if not isinstance(found, ValueAssignment):
+    inner, found = assigned_value(library, env, reference)
+    if isinstance(found, ReferenceValue):
         raise AsnError(arc.place, f"'{reference.name}' is no value", "write a number, or the name of an object identifier")
-    if isinstance(found.value, NumberValue):
-        return (found.value.number,)
+    if isinstance(found, NumberValue):
+        return (found.number,)
     if before:
         raise AsnError(arc.place, f"the object identifier '{reference.name}' does not stand first", "write it first")
-    return arcs_of(library, Env(scope), found.value)
+    return arcs_of(library, inner, found, by)
 
 
 def check_arcs(arcs: tuple[int, ...], place: Place) -> None:

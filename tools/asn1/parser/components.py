@@ -83,10 +83,15 @@ def take_comma(cursor: Cursor) -> None:
 
 def parse_marker(cursor: Cursor, listed: Listed) -> None:
     """`...`, perhaps with an exception (53)."""
+    skip_exception(cursor)
+    listed.markers += 1
+
+
+def skip_exception(cursor: Cursor) -> None:
+    """`! number`, `! Type : value`: what a program does with what it does not know, which changes no octets (53.4)."""
     if cursor.take("!"):
         while cursor.peek().text not in (",", "}") and cursor.peek().kind is not Kind.END:
             cursor.next()
-    listed.markers += 1
 
 
 def parse_group(cursor: Cursor, listed: Listed, is_choice: bool) -> None:
@@ -103,6 +108,8 @@ def parse_group(cursor: Cursor, listed: Listed, is_choice: bool) -> None:
 def parse_components_of(cursor: Cursor, listed: Listed, is_choice: bool) -> None:
     """`COMPONENTS OF Type` (25.5)."""
     place = cursor.place
+    if listed.in_additions:
+        cursor.fail("COMPONENTS OF stands after '...'", "write the components out, each with OPTIONAL or DEFAULT")
     cursor.next()
     cursor.expect("OF", "write 'COMPONENTS OF Type'")
     if is_choice:

@@ -3,6 +3,7 @@
 from __future__ import annotations
 
 from ..errors import Place
+from ..lexer import Kind
 from ..syntax import (
     Alphabet,
     Combined,
@@ -31,6 +32,11 @@ def parse_constraints(cursor: Cursor) -> tuple[Constraint, ...]:
 
 def parse_constraint(cursor: Cursor) -> Constraint:
     """`( .. )`, with its extension marker and its exception (49.6, 50.1, 53)."""
+    with cursor.nested("constraints", "leave parentheses out"):
+        return parse_constraint_here(cursor)
+
+
+def parse_constraint_here(cursor: Cursor) -> Constraint:
     place = cursor.place
     cursor.expect("(", "write the constraint in parentheses")
     root = parse_union(cursor)
@@ -78,10 +84,8 @@ def parse_part(cursor: Cursor) -> Constraint:
     place = cursor.place
     if cursor.take("..."):
         return Combined(place, "|", (), True)
-    if cursor.take("("):
-        inner = parse_union(cursor)
-        cursor.expect(")", "close the constraint")
-        return inner
+    if cursor.sees("("):
+        return parse_group(cursor)
     if cursor.take("SIZE"):
         return Size(place, parse_constraint(cursor))
     if cursor.take("FROM"):
@@ -96,6 +100,15 @@ def parse_part(cursor: Cursor) -> Constraint:
         return parse_range(cursor)
     cursor.take("INCLUDES")
     return Included(place, types.parse_type(cursor))
+
+
+def parse_group(cursor: Cursor) -> Constraint:
+    """Elements in parentheses."""
+    with cursor.nested("constraints", "leave parentheses out"):
+        cursor.next()
+        inner = parse_union(cursor)
+    cursor.expect(")", "close the constraint")
+    return inner
 
 
 def parse_containing(cursor: Cursor, place: Place) -> Constraint:

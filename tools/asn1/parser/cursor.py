@@ -7,10 +7,12 @@ from collections.abc import Iterator
 from contextlib import contextmanager
 from typing import NoReturn
 
+from ..annotations import is_annotations
 from ..errors import AsnError, Place
 from ..lexer import Annotation, Kind, Token, tokens_of
 
-ANNOTATION_COMMENT = re.compile(r"[ \t]*--[ \t]*@[^\n]*?(?:--|(?=\n)|\Z)")
+DEEPEST = 40  # types, or constraints, within one another: what reads and writes them calls itself
+COMMENT = re.compile(r"[ \t]*--([ \t]*@[^\n]*?)(?:--|(?=\n)|\Z)")
 
 
 class Cursor:
@@ -20,6 +22,7 @@ class Cursor:
         self.text = text
         self.tokens = tokens_of(file, text)
         self.at = 0
+        self.depth = 0
         self.collected: list[list[Annotation]] = [[]]
 
     def peek(self, ahead: int = 0) -> Token:
@@ -74,6 +77,15 @@ class Cursor:
         raise AsnError(self.place, problem, instead)
 
     @contextmanager
+    def nested(self, what: str, instead: str) -> Iterator[None]:
+        """Within a type or a constraint, of which no more than some stand within one another."""
+        if self.depth == DEEPEST:
+            self.fail(f"more than {DEEPEST} {what} stand within one another here", instead)
+        self.depth += 1
+        yield
+        self.depth -= 1
+
+    @contextmanager
     def collecting(self) -> Iterator[list[Annotation]]:
         """The annotations after the items that are taken within."""
         notes: list[Annotation] = []
@@ -100,14 +112,16 @@ class Cursor:
     def text_from(self, first: Token) -> str:
         """The text from an item to the last one taken, in one line and with no comments."""
         start = next(i for i in range(self.at, -1, -1) if self.tokens[i] is first)
-        taken = [token.text for token in self.tokens[start : self.at]]
+        taken = [" ".join(token.text.split()) for token in self.tokens[start : self.at]]
         joined = re.sub(r"(?<=[(\[@]) | (?=[)\],])", "", " ".join(taken))
         return re.sub(r" ?(\.\.?) ?(?=[^.])", r"\1", joined)
 
     def source_from(self, first: Token) -> str:
-        """The lines from an item to the last one taken, as they stand, but with no annotations."""
-        text = self.text[first.start : self.tokens[self.at - 1].end]
-        lines = ANNOTATION_COMMENT.sub("", text).split("\n")
-        indent = first.place.column - 1
+        """The lines from an item to the last one taken, as they stand, but with no annotations, and with spaces for tabs."""
+        start = self.text.rfind("\n", 0, first.start) + 1
+        indent = len(self.text[start : first.start].expandtabs())
+        text = self.text[start : self.tokens[self.at - 1].end].expandtabs()[indent:]
+        text = COMMENT.sub(lambda found: "" if is_annotations(found.group(1)) else found.group(), text)
+        lines = re.sub(r"[^\S\n]", " ", text).split("\n")
         rest = [line[min(indent, len(line) - len(line.lstrip())) :].rstrip() for line in lines[1:]]
         return "\n".join([lines[0].rstrip(), *rest])

@@ -18,6 +18,7 @@ from ..syntax import (
     IntegerType,
     ListType,
     NamedNumber,
+    NullValue,
     ReferenceType,
     ReferenceValue,
     Simple,
@@ -52,6 +53,11 @@ REFUSED = {
 
 def parse_type(cursor: Cursor) -> Type:
     """A type with its tags before and its constraints after it."""
+    with cursor.nested("types", "give one of those within a name of its own, by an assignment"):
+        return parse_type_here(cursor)
+
+
+def parse_type_here(cursor: Cursor) -> Type:
     if cursor.sees("["):
         return parse_tagged(cursor)
     place = cursor.place
@@ -135,10 +141,12 @@ def parse_actuals(cursor: Cursor) -> tuple[Actual, ...]:
 
 
 def parse_actual(cursor: Cursor) -> Actual:
-    """A type, a value, or a set in braces."""
+    """A type, a value, or a set in braces; NULL is a type and a value."""
     first = cursor.peek()
     if cursor.sees("{"):
         return Actual(first.place, None, None, cursor.balanced())
+    if cursor.take("NULL"):
+        return Actual(first.place, SimpleType(first.place, Simple.NULL), NullValue(first.place), first.text)
     if sees_value(cursor):
         value = parse_value(cursor)
         return Actual(first.place, None, value, cursor.text_from(first))
@@ -214,7 +222,11 @@ def parse_enumerated(cursor: Cursor, place: Place) -> EnumeratedType:
     named: list[NamedNumber] = []
     extensible = False
     while not named or cursor.take(","):
-        if cursor.take("..."):
+        if cursor.sees("..."):
+            if extensible:
+                cursor.fail("'...' stands here a second time", "leave it out (X.680 20.1)")
+            cursor.next()
+            components.skip_exception(cursor)
             extensible = True
             continue
         token = cursor.expect_kind(Kind.LOWER, "a name", instead)
@@ -222,7 +234,7 @@ def parse_enumerated(cursor: Cursor, place: Place) -> EnumeratedType:
         if cursor.take("("):
             number = parse_number(cursor, instead)
             cursor.expect(")", instead)
-        named.append(NamedNumber(token.place, token.text, number))
+        named.append(NamedNumber(token.place, token.text, number, extensible))
     cursor.expect("}", instead)
     return EnumeratedType(place, tuple(named), extensible)
 

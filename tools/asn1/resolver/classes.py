@@ -19,6 +19,7 @@ from ..syntax import (
     TypeAssignment,
 )
 
+MOST_STEPS = 1000  # from a type to what it is: a parameter's name may be met again, and stand for another type then
 NOWHERE = Place("X.681", 1, 1)
 TYPE_IDENTIFIER = ClassAssignment(
     NOWHERE,
@@ -40,7 +41,8 @@ def find_class(library: Library, env: Env, name: str, place: Place) -> tuple[Env
             scope, found = library.find(env, name, place)
             if isinstance(found, ClassAssignment):
                 return Env(scope), found
-            env, following = Env(scope), found.type if isinstance(found, TypeAssignment) else None
+            plain = found if isinstance(found, TypeAssignment) and not found.parameters else None
+            env, following = Env(scope), plain.type if plain else None
         if not isinstance(following, ReferenceType) or following.actuals:
             return None
         name, place = following.name, following.place
@@ -99,23 +101,21 @@ def follow(library: Library, env: Env, reference: ReferenceType) -> tuple[Env, T
 
 def base_of(library: Library, env: Env, type_: Type) -> tuple[Env, Type]:
     """A type with no names, tags or constraints before it is told what it is; a name that reaches itself stays."""
-    seen: set[int] = set()
-    while id(type_) not in seen:
-        seen.add(id(type_))
+    for _ in range(MOST_STEPS):
         if isinstance(type_, (TaggedType, ConstrainedType)):
             type_ = type_.type
         elif isinstance(type_, ReferenceType):
             env, type_ = follow(library, env, type_)
         elif isinstance(type_, FieldOfClass):
             env, type_ = type_of_field(library, env, type_)
+        else:
+            break
     return env, type_
 
 
 def is_untagged_choice(library: Library, env: Env, type_: Type) -> bool:
     """Whether a type is a CHOICE or an open type with no tag before it (31.2.7)."""
-    seen: set[int] = set()
-    while id(type_) not in seen:
-        seen.add(id(type_))
+    for _ in range(MOST_STEPS):
         if isinstance(type_, TaggedType):
             return False
         if isinstance(type_, ConstrainedType):
@@ -124,4 +124,6 @@ def is_untagged_choice(library: Library, env: Env, type_: Type) -> bool:
             env, type_ = follow(library, env, type_)
         elif isinstance(type_, FieldOfClass):
             env, type_ = type_of_field(library, env, type_)
+        else:
+            break
     return isinstance(type_, (ChoiceType, AnyType))

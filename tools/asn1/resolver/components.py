@@ -8,7 +8,7 @@ from ..errors import AsnError, Place
 from ..model import Alias, Field, Leaf, Presence, Resolved, Tagged, Use, Whole
 from ..notes import Notes
 from ..scope import Env, check_names
-from ..spelling import camel, snake
+from ..spelling import camel, field, variant
 from ..syntax import (
     BooleanValue,
     ChoiceType,
@@ -27,6 +27,7 @@ from .classes import base_of
 from .context import Context
 
 Placed = tuple[Component, Env]
+DEEPEST = 40  # types whose components are taken, one in another
 
 
 def fields_of(context: Context, type_: FieldsType) -> tuple[tuple[Field, ...], tuple[Field, ...]]:
@@ -35,8 +36,8 @@ def fields_of(context: Context, type_: FieldsType) -> tuple[tuple[Field, ...], t
     if not placed:
         raise AsnError(type_.place, "this type has no component", "write NULL, or a component that is OPTIONAL")
     check_names([(part.place, part.name) for part, _ in placed], "name")
-    fields = tuple(one_field(context.within(env), part, snake(part.name)) for part, env in placed)
-    check_spelling(fields)
+    fields = tuple(one_field(context.within(env), part, field(part.name)) for part, env in placed)
+    check_fields(fields)
     if not type_.is_set:
         check_sequence(fields)
         return fields, fields
@@ -46,18 +47,24 @@ def fields_of(context: Context, type_: FieldsType) -> tuple[tuple[Field, ...], t
 
 def alternatives_of(context: Context, type_: ChoiceType) -> tuple[Field, ...]:
     """The alternatives, distinguished by their tags."""
-    parts = list(type_.alternatives)
-    if context.env.scope.module.tag_default is TagDefault.AUTOMATIC and not are_tagged(parts):
-        parts = automatic(parts)
+    parts = with_tags(context, type_)
     check_names([(part.place, part.name) for part in parts], "name")
-    fields = tuple(one_field(context, part, camel(part.name)) for part in parts)
-    check_spelling(fields)
+    fields = tuple(one_field(context, part, variant(part.name)) for part in parts)
+    check_fields(fields)
     check_all(fields, "X.680 29.3")
     return fields
 
 
-def components_of(context: Context, type_: FieldsType) -> list[Placed]:
-    """The components with those of COMPONENTS OF in their place, and automatic tags (25.5, 25.7)."""
+def with_tags(context: Context, type_: ChoiceType) -> list[Component]:
+    """The alternatives with automatic tags, if the module gives them some (29.2)."""
+    parts = list(type_.alternatives)
+    is_automatic = context.env.scope.module.tag_default is TagDefault.AUTOMATIC and not are_tagged(parts)
+    return automatic(parts) if is_automatic else parts
+
+
+def components_of(context: Context, type_: FieldsType, by: tuple[FieldsType, ...] = ()) -> list[Placed]:
+    """The components with those of COMPONENTS OF in their place, and automatic tags (25.5, 25.7); `by` are the types that take
+    this one's."""
     own = [part for part in type_.components if isinstance(part, Component)]
     is_automatic = context.env.scope.module.tag_default is TagDefault.AUTOMATIC and not are_tagged(own)
     placed: list[Placed] = []
@@ -65,20 +72,22 @@ def components_of(context: Context, type_: FieldsType) -> list[Placed]:
         if isinstance(part, Component):
             placed.append((part, context.env))
         else:
-            placed += included(context, part, type_)
+            placed += included(context, part, (*by, type_))
     if is_automatic:
         tagged = automatic([part for part, _ in placed])
         placed = [(part, env) for part, (_, env) in zip(tagged, placed)]
     return placed
 
 
-def included(context: Context, part: ComponentsOf, type_: FieldsType) -> list[Placed]:
+def included(context: Context, part: ComponentsOf, by: tuple[FieldsType, ...]) -> list[Placed]:
     """The components of a type whose components are taken (25.5), but for its additions."""
     env, base = base_of(context.state.library, context.env, part.type)
-    if not isinstance(base, FieldsType) or base.is_set != type_.is_set or base is type_:
-        word = "SET" if type_.is_set else "SEQUENCE"
+    word = "SET" if by[-1].is_set else "SEQUENCE"
+    if not isinstance(base, FieldsType) or base.is_set != by[-1].is_set or base is by[-1]:
         raise AsnError(part.place, f"COMPONENTS OF stands before what is no other {word}", "write the components out")
-    return [one for one in components_of(context.within(env), base) if not one[0].is_addition]
+    if any(base is one for one in by) or len(by) == DEEPEST:
+        raise AsnError(part.place, f"this {word} has its own components by COMPONENTS OF, or those of too many", "write them out")
+    return [one for one in components_of(context.within(env), base, by) if not one[0].is_addition]
 
 
 def one_field(context: Context, part: Component, rust: str) -> Field:
@@ -96,17 +105,18 @@ def one_field(context: Context, part: Component, rust: str) -> Field:
     return Field(part.place, part.name, rust, found, presence, default, part.text, part, context.env)
 
 
-def check_spelling(fields: tuple[Field, ...]) -> None:
-    """Names that differ in ASN.1 have to differ in Rattle too."""
-    seen: dict[str, Field] = {}
-    for part in fields:
-        if part.rust in seen:
-            raise AsnError(
-                part.place,
-                f"'{part.name}' and '{seen[part.rust].name}' are both '{part.rust}' in Rattle",
-                "write '-- @name(..)' after one of them",
-            )
-        seen[part.rust] = part
+def check_fields(fields: tuple[Field, ...]) -> None:
+    """Components that differ in ASN.1 have to differ in Rattle too."""
+    check_spelling([(part.place, part.name, part.rust) for part in fields], "write '-- @name(..)' after one of them")
+
+
+def check_spelling(names: list[tuple[Place, str, str]], instead: str = "give one of them another name") -> None:
+    """Names that differ in ASN.1 have to differ in Rattle too, as they are spelled there."""
+    seen: dict[str, str] = {}
+    for place, name, rust in names:
+        if rust in seen:
+            raise AsnError(place, f"'{name}' and '{seen[rust]}' are both '{rust}' in Rattle", instead)
+        seen[rust] = name
 
 
 # ---- DEFAULT

@@ -2,6 +2,8 @@
 
 from __future__ import annotations
 
+from collections.abc import Iterator
+from contextlib import contextmanager
 from dataclasses import dataclass, field, replace
 
 from ..errors import AsnError, Place, Remark
@@ -10,6 +12,16 @@ from ..notes import Notes
 from ..scope import Env, Library
 
 Key = tuple[str, str]
+DEEPEST = 60  # names of types, each within the type before it
+
+
+def too_deep(place: Place) -> AsnError:
+    """The error of types that are named, each from within the one before it, too often or without end."""
+    return AsnError(
+        place,
+        "too many types stand within one another here, by their names or their parameters",
+        "write '-- @unread' after a component on the way: its octets are kept, and read when they are asked for",
+    )
 
 
 @dataclass
@@ -21,10 +33,20 @@ class State:
     opening: list[Key] = field(default_factory=list)
     spelled: dict[Key, Place] = field(default_factory=dict)
     remarks: list[Remark] = field(default_factory=list)
+    depth: int = 0  # how many names of types are being looked into, each from within the one before it
 
     def scratch(self) -> "State":
         """A copy, to try what a second instance of a type comes to."""
-        return State(self.library, dict(self.definitions), list(self.opening), dict(self.spelled), [])
+        return State(self.library, dict(self.definitions), list(self.opening), dict(self.spelled), [], self.depth)
+
+    @contextmanager
+    def within(self, place: Place) -> Iterator[None]:
+        """Within a type that is named at this place: of what makes types, each name calls all from the beginning."""
+        if self.depth == DEEPEST:
+            raise too_deep(place)
+        self.depth += 1
+        yield
+        self.depth -= 1
 
     def add(self, definition: Definition) -> None:
         """Keeps a definition, whose name in Rattle no other of its module has."""
@@ -48,7 +70,7 @@ class Context:
     home: str  # the module whose types are being made
     inner: str  # the name in Rattle of a type that is written out here
     notes: Notes
-    remarks: list[str]  # what is not checked of the definition
+    remarks: list[str]  # what the documentation of the definition says of it
 
     def within(self, env: Env) -> "Context":
         return replace(self, env=env)
@@ -58,5 +80,9 @@ class Context:
 
     def remark(self, place: Place, text: str) -> None:
         """Says what is not checked here, in the documentation too."""
-        self.remarks.append(text)
+        self.say(place, text, f"Not checked: {text}.")
+
+    def say(self, place: Place, text: str, sentence: str) -> None:
+        """Says what a user has to know of a type: in a remark, and in a sentence of the documentation."""
+        self.remarks.append(sentence)
         self.state.remarks.append(Remark(place, text))

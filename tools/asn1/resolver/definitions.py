@@ -12,6 +12,7 @@ from ..model import (
     Enumeration,
     List,
     Named,
+    Origin,
     Resolved,
     Struct,
     Tag,
@@ -20,7 +21,7 @@ from ..model import (
 )
 from ..notes import Notes
 from ..scope import Env
-from ..spelling import camel
+from ..spelling import camel, enumeration_name, screaming
 from ..syntax import (
     BitStringType,
     ChoiceType,
@@ -38,8 +39,8 @@ from ..syntax import (
 from ..values import enumeration_of
 from . import types
 from .classes import bind, has_type_parameter
-from .components import alternatives_of, fields_of
-from .context import Context, State
+from .components import alternatives_of, check_spelling, fields_of, with_tags
+from .context import DEEPEST, Context, State, too_deep
 from .signatures import signature
 
 Constraints = tuple[Constraint, ...]
@@ -108,7 +109,7 @@ def peel(context: Context, type_: Type) -> tuple[list[TaggedType], list[Env], Ty
     tags: list[TaggedType] = []
     envs: list[Env] = []
     constraints: Constraints = ()
-    env = context.env
+    env, followed = context.env, 0
     while True:
         if isinstance(type_, TaggedType):
             tags.append(type_)
@@ -122,7 +123,9 @@ def peel(context: Context, type_: Type) -> tuple[list[TaggedType], list[Env], Ty
             inner = bind(env, scope, assignment, type_)
             if not has_type_parameter(context.state.library, env, assignment, type_):
                 return tags, envs, type_, constraints, env
-            env, type_ = inner, assignment.type
+            if followed == DEEPEST:
+                raise too_deep(type_.place)
+            env, type_, followed = inner, assignment.type, followed + 1
         else:
             return tags, envs, type_, constraints, env
 
@@ -130,7 +133,7 @@ def peel(context: Context, type_: Type) -> tuple[list[TaggedType], list[Env], Ty
 def define(context: Context, name: str, text: str, type_: Type, outer: Constraints = ()) -> Definition:
     """The definition of a type with this name, which remembers what it is made from."""
     found = defined(context, name, text, type_, outer)
-    found.origin = (context.env, type_)
+    found.origin = Origin(context.state.library, context.env, type_)
     return found
 
 
@@ -168,6 +171,7 @@ def plain(context: Context, name: str, text: str, base: Type, tag: Tag | None, c
     values = enumeration_of(context.state.library, context.env, base.named)
     if not all(abs(number) < 2**63 for number in values.values()):
         raise AsnError(base.place, "an ENUMERATED with numbers of 64 bits is not taken", "write INTEGER in its place")
+    check_spelling([(one.place, one.name, enumeration_name(one.name, context.inner)) for one in base.named])
     named = tuple(Named(*one) for one in values.items())
     return Enumeration(*about, values=named, is_extensible=base.extensible, tag=tag)
 
@@ -188,7 +192,7 @@ def behind_tags(
 
 def choice_of_one(context: Context, name: str, text: str, base: ChoiceType) -> Alias:
     """A CHOICE of one alternative has its octets and no others (X.690 8.13): a second name of it."""
-    only = base.alternatives[0]
+    (only,) = with_tags(context, base)
     notes = Notes(only.annotations)
     inner = replace(context, inner=context.inner + camel(only.name), notes=notes)
     found = types.resolve_type(inner, only.type)
@@ -206,6 +210,7 @@ def alias(context: Context, name: str, text: str, type_: Type, constraints: Cons
     found = Alias(type_.place, context.home, name, context.inner, text, context.remarks)
     if isinstance(base, (IntegerType, BitStringType)):
         found.type, names = types.numbers(context, base, outer)
+        check_spelling([(one.place, one.name, screaming(one.name)) for one in base.named])
         found.numbers, found.bits = names.numbers, names.bits
     else:
         inner = replace(context, inner=f"{context.inner}Value")

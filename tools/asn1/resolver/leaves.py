@@ -34,7 +34,16 @@ LACKING = {
     Simple.UNIVERSAL_STRING: "UniversalString",
 }
 ALWAYS_OWNED = frozenset([Simple.BMP_STRING])
-NEVER_OWNED = frozenset([Simple.BOOLEAN, Simple.NULL, Simple.UTC_TIME, Simple.GENERALIZED_TIME])
+NEVER_OWNED = frozenset(
+    [
+        Simple.BOOLEAN,
+        Simple.NULL,
+        Simple.UTC_TIME,
+        Simple.GENERALIZED_TIME,
+        Simple.VIDEOTEX_STRING,
+        Simple.GENERAL_STRING,
+    ]
+)
 
 
 def simple(context: Context, type_: SimpleType, constraints: tuple[Constraint, ...]) -> Leaf:
@@ -94,6 +103,7 @@ def integer(
     width = None if asked else width_of(bounds, numbers)
     if width is not None:
         remark_on_bounds(context, type_, width, bounds)
+        remark_on_names(context, type_, width, bounds)
         return Leaf(Whole.MACHINE_INTEGER, width=width), names
     is_natural = asked == "unsigned" or (asked is None and bounds.low is not None and bounds.low >= 0)
     if not bounds.exact or bounds not in (FREE, Bounds(0, None)):
@@ -134,6 +144,19 @@ def remark_on_bounds(context: Context, type_: IntegerType, width: str, bounds: B
         return
     if (bounds.low, bounds.high) != (machine.low, machine.high) or not bounds.exact:
         context.remark(type_.place, f"INTEGER as {width}: {bounds_text(bounds)} is not checked")
+
+
+def remark_on_names(context: Context, type_: IntegerType, width: str, bounds: Bounds) -> None:
+    """Names of numbers bound nothing (19.1): a machine integer that they alone say refuses numbers that X.680 allows."""
+    if not bounds.is_free:
+        return
+    refused = f"a number outside {MACHINE[width].low}..{MACHINE[width].high} is refused"
+    wider = next((f"'-- @{one}' takes more, and " for one in ("i32", "i64", "i128") if int(one[1:]) > int(width[1:])), "")
+    context.say(
+        type_.place,
+        f"INTEGER as {width}, by the numbers that have names: {refused}; {wider}'-- @signed' takes all",
+        f"{refused[0].upper()}{refused[1:]}: the names alone say how wide the type is.",
+    )
 
 
 def bounds_text(bounds: Bounds) -> str:

@@ -10,7 +10,7 @@ from ..spelling import screaming
 from ..syntax import Module, ReferenceType, Simple, SimpleType, TypeAssignment, ValueAssignment
 from ..values import arcs_of
 from .classes import base_of, find_class
-from .context import State
+from .context import State, too_deep
 from .definitions import definition_of
 
 
@@ -21,9 +21,17 @@ def resolve(modules: list[Module]) -> tuple[list[ResolvedModule], list[Remark]]:
         scope = state.library.scopes[module.name]
         for assignment in module.assignments:
             if isinstance(assignment, TypeAssignment) and is_written(state, scope, assignment):
-                definition_of(state, Env(scope), assignment, assignment.place)
+                define_type(state, scope, assignment)
     found = [resolved(state, module) for module in modules]
     return found, state.remarks
+
+
+def define_type(state: State, scope: Scope, assignment: TypeAssignment) -> None:
+    """The definition of an assignment; an error where that calls itself oftener than Python allows."""
+    try:
+        definition_of(state, Env(scope), assignment, assignment.place)
+    except RecursionError:
+        raise too_deep(assignment.place) from None
 
 
 def is_written(state: State, scope: Scope, assignment: TypeAssignment) -> bool:

@@ -10,8 +10,10 @@ from ..model import Alias, Definition, Kept, Leaf, Listed, Resolved, Tag, Tagged
 from ..syntax import (
     AnyType,
     BitStringType,
+    ChoiceType,
     ConstrainedType,
     Constraint,
+    EnumeratedType,
     FieldOfClass,
     FieldsType,
     IntegerType,
@@ -42,7 +44,8 @@ def resolve_type(context: Context, type_: Type, constraints: Constraints = ()) -
         return reference(context, type_, constraints)
     if isinstance(type_, FieldOfClass):
         env, inner = type_of_field(context.state.library, context.env, type_)
-        return resolve_type(context.within(env), inner, constraints)
+        with context.state.within(type_.place):
+            return resolve_type(context.within(env), inner, constraints)
     if isinstance(type_, ListType):
         return listed(context, type_, constraints)
     if isinstance(type_, SimpleType):
@@ -90,7 +93,7 @@ def tagged(context: Context, type_: TaggedType, constraints: Constraints) -> Tag
 
 
 def tag_of(context: Context, type_: TaggedType) -> tuple[Tag, bool]:
-    """The tag, and whether it is explicit (31.2.7)."""
+    """The tag, and whether it is explicit (31.2.7): an automatic one before a CHOICE alone, of whatever module the type is."""
     library, env = context.state.library, context.env
     if type_.tag_class is TagClass.UNIVERSAL:
         raise AsnError(type_.place, "a tag of the class UNIVERSAL is X.680's own (31.2.4)", "write another class")
@@ -104,7 +107,7 @@ def tag_of(context: Context, type_: TaggedType) -> tuple[Tag, bool]:
             "IMPLICIT stands before a CHOICE or an open type with no tag",
             "write EXPLICIT, or leave the word out: such a tag is explicit (X.680 31.2.7, 31.2.9)",
         )
-    is_implicit = env.scope.module.tag_default is not TagDefault.EXPLICIT and not is_choice
+    is_implicit = (type_.is_automatic or env.scope.module.tag_default is not TagDefault.EXPLICIT) and not is_choice
     if type_.mode is not None:
         is_implicit = type_.mode is TagMode.IMPLICIT
     return Tag(type_.tag_class.value, number), not is_implicit
@@ -134,6 +137,11 @@ def is_never_empty(context: Context, constraints: Constraints) -> bool:
 
 def reference(context: Context, type_: ReferenceType, constraints: Constraints) -> Resolved:
     """The name of a type: of a parameter, of one with parameters, or of an assignment."""
+    with context.state.within(type_.place):
+        return referred(context, type_, constraints)
+
+
+def referred(context: Context, type_: ReferenceType, constraints: Constraints) -> Resolved:
     library, env = context.state.library, context.env
     if type_.module is None and type_.name in env.bindings:
         binding = env.bindings[type_.name]
@@ -144,6 +152,8 @@ def reference(context: Context, type_: ReferenceType, constraints: Constraints) 
         return unread(context, type_)
     scope, assignment = library.find_type(env, type_.name, type_.place, type_.module)
     inner = bind(env, scope, assignment, type_)
+    if has_type_parameter(library, env, assignment, type_) and not is_written_out(context.within(inner), assignment.type):
+        return resolve_type(context.within(inner), assignment.type, constraints)
     for constraint in constraints:
         leaves.remark_on(context, constraint)
     if has_type_parameter(library, env, assignment, type_):
@@ -152,8 +162,14 @@ def reference(context: Context, type_: ReferenceType, constraints: Constraints) 
     return Kept(found) if context.notes.has("kept") else found
 
 
+def is_written_out(context: Context, type_: Type) -> bool:
+    """Whether a type with parameters has parts, so that each of its instances is a type of its own."""
+    return isinstance(definitions.peel(context, type_)[2], (FieldsType, ChoiceType, ListType, EnumeratedType))
+
+
 def unread(context: Context, type_: ReferenceType) -> Leaf:
     """A type that is not read: a SEQUENCE's contents octets are kept, or else any value."""
     base = base_of(context.state.library, context.env, type_)[1]
-    is_sequence = isinstance(base, (FieldsType, ListType)) and not base.is_set
-    return Leaf(Whole.UNREAD_SEQUENCE if is_sequence else Whole.ANY, context.notes.has("owned"))
+    if isinstance(base, (FieldsType, ListType)) and not base.is_set:
+        return Leaf(Whole.UNREAD_SEQUENCE)
+    return Leaf(Whole.ANY, context.notes.has("owned"))

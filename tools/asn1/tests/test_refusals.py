@@ -16,7 +16,7 @@ BODIES = [
     ("A- ::= INTEGER", "", "2:1", "the name 'A-' ends with a hyphen"),
     ("A ::= INTEGER # 5", "", "2:15", "the character '#' is none of ASN.1's"),
     ("A ::= SEQUENCE {\n  -- @kept\n  a INTEGER }", "", "3:6", "this annotation stands on a line of its own"),
-    ("A ::= INTEGER -- @u8 as ever", "", "2:18", "a comment that begins with '@'"),
+    ("A ::= INTEGER -- @u8 as ever", "", "2:18", "a comment that begins with an annotation"),
     # ---- headers, imports, assignments
     ("A ::= INTEGER", "EXTENSIBILITY IMPLIED", "1:18", "EXTENSIBILITY IMPLIED is not taken"),
     ("IMPORTS A FROM B WITH SUCCESSORS;", "", "2:18", "WITH SUCCESSORS is not taken"),

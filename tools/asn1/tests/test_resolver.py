@@ -89,6 +89,7 @@ class Integers(unittest.TestCase):
             ("INTEGER (1..MAX)", ["2:7 INTEGER of any length: (1..MAX) is not checked"]),
             ("INTEGER (0 | 255)", ["2:7 INTEGER as u8: (0..255) is not checked"]),
             ("INTEGER -- @u8", ["2:7 INTEGER as u8: other numbers are refused"]),
+            ("INTEGER { a(0) } (0..255)", []),
             ("OCTET STRING (SIZE (4))", ["2:21 SIZE (4..4) is not checked"]),
             ("SEQUENCE SIZE (1..MAX) OF NULL", []),
             ("SEQUENCE SIZE (1..4) OF NULL", ["2:16 SIZE (1..4) is checked as (1..MAX)"]),
@@ -98,6 +99,20 @@ class Integers(unittest.TestCase):
         ):
             with self.subTest(text):
                 self.assertEqual(remarks(f"A ::= {text}"), said)
+
+
+    def test_the_names_of_numbers_bound_nothing(self) -> None:
+        said = "2:7 INTEGER as {0}, by the numbers that have names: a number outside {1} is refused; {2}'-- @signed' takes all"
+        for text, words in (
+            ("{ one(1), two(2) }", ("u8", "0..255", "'-- @i32' takes more, and ")),
+            ("{ least(-40000) }", ("i32", "-2147483648..2147483647", "'-- @i64' takes more, and ")),
+            ("{ most(18446744073709551616) }", ("u128", f"0..{2**128 - 1}", "")),
+        ):
+            with self.subTest(text):
+                self.assertEqual(remarks(f"A ::= INTEGER {text}"), [said.format(*words)])
+                within = definitions(f"A ::= SEQUENCE {{ a INTEGER {text} }}")["AA"]
+                sentence = f"A number outside {words[1]} is refused: the names alone say how wide the type is."
+                self.assertEqual(within.remarks, [sentence])
 
 
 class Tags(unittest.TestCase):

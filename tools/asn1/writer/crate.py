@@ -3,7 +3,7 @@
 from __future__ import annotations
 
 from ..errors import AsnError, Place
-from ..model import Alias, Choice, Definition, Enumeration, List, ResolvedModule, Struct
+from ..model import Alias, Choice, Definition, Enumeration, List, ResolvedModule, Struct, is_within
 from ..spelling import snake
 from .aliases import constant_name, write_aliases, write_constants
 from .choices import write_choice, write_choice_page, write_order_proof
@@ -11,7 +11,7 @@ from .enumerations import write_enumeration, write_enumeration_page
 from .grammar import GrammarPage
 from .lists import write_list
 from .module_laws import write_laws
-from .names import RUST
+from .names import LOGIC, RUST, WORDS
 from .orders import order_name, write_orders
 from .pages import write_list_page, write_struct_page
 from .parts import write_parts
@@ -19,7 +19,8 @@ from .plan import Plan, Target, is_apart
 from .source import PRELUDE
 from .structs import write_struct
 
-TAKEN = PRELUDE | {name for _, name in RUST.values()} | {"Fields", "Tree"}
+TAKEN = PRELUDE | {name for words in (RUST, LOGIC, WORDS) for _, name in words.values()} | {"Fields", "Tree"}
+FILES = ("aliases", "constants", "grammar", "laws", "orders")  # of each module, beside those of its types
 MARK = "Made by tools/asn1"
 
 
@@ -27,6 +28,8 @@ def files_of_crate(plan: Plan, modules: list[ResolvedModule]) -> dict[str, str]:
     """All files of a crate, by their paths in its folder."""
     targets = [plan.targets[module.name] for module in modules]
     check_modules(modules, targets)
+    for module in modules:
+        check_names(plan, module)
     files: dict[str, str] = {}
     for module in modules:
         for path, text in write_module(plan, module).items():
@@ -58,12 +61,28 @@ def marked(path: str, text: str, file: str) -> str:
     return f"{first}\n//!\n//! {MARK} from {name}.\n{rest}"
 
 
+def check_names(plan: Plan, module: ResolvedModule) -> None:
+    """Names of a module differ, and in more than their capitals: of its types, of the orders of those that are in a set, and of
+    the files that each module has."""
+    seen: dict[str, str] = {name: f"'{name}', a file that each module has" for name in FILES}
+    for definition in sorted(module.definitions, key=is_within, reverse=True):
+        check_name(definition)
+        orders = [order_name(definition), f"{order_name(definition)}Of"] if definition in plan.ordered else []
+        for name in (definition.rust, *orders):
+            if name.lower() in seen:
+                raise AsnError(
+                    definition.place,
+                    f"the name '{name}' is taken by {seen[name.lower()]}",
+                    f"write '-- @name(..)' after the assignment, as '@name({definition.rust}Value)'",
+                )
+            seen[name.lower()] = f"'{name}' of '{definition.name}'"
+
+
 def write_module(plan: Plan, module: ResolvedModule) -> dict[str, str]:
     """The files of one module of ASN.1."""
     target = plan.targets[module.name]
     files: dict[str, str] = {}
     for definition in module.definitions:
-        check_name(definition)
         if is_apart(definition):
             continue
         files[f"src/{target.module}/{snake(definition.rust)}.rt"] = write_definition(plan, definition)

@@ -26,11 +26,11 @@ def asn1(text: str) -> str:
 
 
 def of_definition(definition: Definition, *more: str) -> str:
-    """The documentation of a type: its text, what else is to be said, and what is not checked."""
+    """The documentation of a type: its text, what else is to be said, and what the resolver said of it."""
     inner = doc(inner_words(definition))
     parts = [asn1(definition.text) if definition.text else inner]
     parts += [doc(text) for text in more]
-    parts += [doc(f"Not checked: {remark}.") for remark in definition.remarks]
+    parts += [doc(sentence) for sentence in definition.remarks]
     return "\n///\n".join(parts)
 
 

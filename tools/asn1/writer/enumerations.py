@@ -2,8 +2,11 @@
 
 from __future__ import annotations
 
-from ..model import Enumeration, Named
-from ..spelling import camel, snake
+from ..as_written import enumeration as names_as_written
+from ..model import Enumeration
+from ..resolver.classes import base_of
+from ..spelling import enumeration_name, snake
+from ..syntax import EnumeratedType
 from . import docs, markers
 from .module_laws import add_laws
 from .orders import write_order
@@ -21,14 +24,10 @@ def write_enumeration(plan: Plan, definition: Enumeration) -> str:
     return source.text([f"//! {definition.name}, an ENUMERATED of {len(definition.values)} names."])
 
 
-def variant(one: Named) -> str:
-    return camel(one.name)
-
-
 def declaration(definition: Enumeration) -> str:
     rust = definition.rust
     more = f"In a message it stands as `Enumerated<{rust}>`. A number without a name is refused (`ErrorKind::Value`, 13)."
-    rows = "\n".join(f"    /// `{one.name}` ({one.number}).\n    {variant(one)}," for one in definition.values)
+    rows = "\n".join(f"    /// `{one.name}` ({one.number}).\n    {enumeration_name(one.name, rust)}," for one in definition.values)
     head = docs.of_definition(definition, more)
     return f"{head}\n#[derive(Clone, Copy, Debug, PartialEq, Eq)]\npub enum {rust} {{\n{rows}\n}}"
 
@@ -37,8 +36,8 @@ def enumeration(source: Source, definition: Enumeration) -> str:
     """The numbers of the names, and the names of the numbers."""
     rust, target = definition.rust, source.target
     names = source.page_word(f"{target.crate}.specs.{target.page}.{rust}", f"names_of_{snake(rust)}")
-    to = "\n".join(f"            {rust}::{variant(one)} => {one.number}," for one in definition.values)
-    back = "\n".join(f"            {one.number} => Some({rust}::{variant(one)})," for one in definition.values)
+    to = "\n".join(f"            {rust}::{enumeration_name(one.name, rust)} => {one.number}," for one in definition.values)
+    back = "\n".join(f"            {one.number} => Some({rust}::{enumeration_name(one.name, rust)})," for one in definition.values)
     return (
         f"impl {source.use('Enumeration')} for {rust} {{\n"
         f"    type Marker = {markers.of_definition(source, definition)};\n\n"
@@ -53,16 +52,20 @@ def enumeration(source: Source, definition: Enumeration) -> str:
 
 
 def write_enumeration_page(plan: Plan, definition: Enumeration) -> str:
-    """The number of each name, and all of the names."""
+    """The number of each name, and all of the names, as the text of the module has them."""
+    assert definition.origin is not None
+    env, type_ = base_of(definition.origin.library, definition.origin.env, definition.origin.type)
+    assert isinstance(type_, EnumeratedType)
+    named = names_as_written(definition.origin.library, env, type_)
     page = Page(plan, plan.of(definition), f"-- The numbers of {definition.name}.")
     rust, name = page.logic_type(definition), snake(definition.rust)
     target = plan.of(definition)
     module = f"{target.crate}.specs.declared.{target.module}.{snake(definition.rust)}.{definition.rust}.TheVariants"
-    variants = [page.from_module(module, variant(one)) for one in definition.values]
+    variants = [page.from_module(module, enumeration_name(one, definition.rust)) for one, _ in named]
     for key in ("≡", "refl", "[]", "∷", "Some"):
         page.word(key)
     numbers = "\n".join(
-        f"number_of_{name} {one} = {page.integer(value.number)}" for one, value in zip(variants, definition.values)
+        f"number_of_{name} {one} = {page.integer(number)}" for one, (_, number) in zip(variants, named)
     )
     page.add(f"abbrev pub number_of_{name} : {rust} → {page.word('ℤ')}\n{numbers}")
     listed = " ∷ ".join([*variants, "[]"])

@@ -12,8 +12,8 @@ from .types import field_type, is_copy, plain, rust_type, way
 AT_ONCE = 8  # the longest list that the library reads in one step
 TAIL = ".list" + ".rest" * AT_ONCE  # where the fields after those stand
 
-# What the calls name within them: a parameter of such a name has an underscore after it.
-LOCALS = frozenset(["fields", "first", "list", "rest", "tail"])
+# What the calls name within them, and 'result', which clauses have: a parameter of such a name has an underscore after it.
+LOCALS = frozenset(["copy_of", "fields", "first", "list", "rest", "result", "tail"])
 
 
 def list_type(source: Source, types: list[str]) -> str:

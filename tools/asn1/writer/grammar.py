@@ -1,13 +1,14 @@
-"""The page of a module's grammar, written from the tree of the module: its tags are those of the text, and no resolver's.
+"""The page of a module's grammar, written from the tree of the module: its tags, its fields and alternatives, their order and
+their numbers are those of the text, and no resolver's.
 
-The clause of `laws` says that what is read is what the page says; so an error of the resolver in a tag, an order or an
-OPTIONAL is one that the prover refuses.
+The clause of `laws` says that what is read is what the page says; so an error of the resolver in one of these is one that
+the prover refuses.
 """
 
 from __future__ import annotations
 
-from dataclasses import replace
-
+from .. import as_written
+from ..as_written import Key, Part, default_number, key_of
 from ..model import (
     Alias,
     Choice,
@@ -31,7 +32,7 @@ from ..scope import Env, Library
 from ..spelling import snake
 from ..syntax import (
     BooleanValue,
-    Component,
+    ChoiceType,
     ConstrainedType,
     FieldOfClass,
     FieldsType,
@@ -43,10 +44,9 @@ from ..syntax import (
     TagMode,
     Type,
 )
-from ..tagging import are_tagged
 from ..values import number_of
 from .alternatives import halves
-from .names import ASN1, PARSES
+from .names import ASN1, PARSES, WORDS
 from .plan import Plan
 from .source import Page
 from .types import CHARACTERS, closed
@@ -54,9 +54,19 @@ from .types import CHARACTERS, closed
 CLASSES = {TagClass.APPLICATION: "application", TagClass.CONTEXT: "context", TagClass.PRIVATE: "private"}
 
 
+# The words of pages and laws, which no grammar may be called: those that are written in small letters.
+LIBRARY = frozenset(
+    {name for _, name in WORDS.values()}
+    | {name for _, _, name in PARSES.values()}
+    | set(CLASSES.values())
+    | set("any_of end explicit_encoding field implicit_encoding joined one optional parse_of unless_default".split())
+)
+
+
 def word_of(definition: Definition) -> str:
     """The name of a type's grammar."""
-    return snake(definition.rust)
+    found = snake(definition.rust)
+    return f"{found}_" if found in LIBRARY else found
 
 
 class GrammarPage:
@@ -101,7 +111,7 @@ class GrammarPage:
 
     def definition(self, definition: Definition) -> str:
         assert definition.origin is not None
-        env, type_ = definition.origin
+        env, type_ = definition.origin.env, definition.origin.type
         term = self.whole(env, type_, definition)
         text = definition.text or f"a type within another: {definition.name}"
         comment = "\n".join(f"-- {line}".rstrip() for line in text.split("\n"))
@@ -122,14 +132,16 @@ class GrammarPage:
             return self.whole(env, type_, definition)
         if isinstance(definition, Struct):
             assert isinstance(type_, FieldsType)
-            word = self.asn1("SET" if definition.is_set else "SEQUENCE")
-            return f"{word} {self.fields(definition, type_)}"
+            word = self.asn1("SET" if type_.is_set else "SEQUENCE")
+            return f"{word} {self.fields(env, type_, definition)}"
         if isinstance(definition, Choice):
-            parts = definition.alternatives
-            return self.choice([self.component(part, automatic_number(parts, part)) for part in parts])
+            assert isinstance(type_, ChoiceType)
+            types = resolved_parts(definition.alternatives)
+            parts = as_written.alternatives(env, type_)
+            return self.choice([self.component(part, types[key_of(part.component)]) for part in parts])
         if isinstance(definition, List):
             assert isinstance(type_, ListType) and definition.item is not None
-            word = self.asn1("SET_OF" if definition.is_set else "SEQUENCE_OF")
+            word = self.asn1("SET_OF" if type_.is_set else "SEQUENCE_OF")
             found = f"{word} {closed(self.term(env, type_.item, definition.item))}"
             return f"{self.asn1('NOT_EMPTY')} ({found})" if definition.is_never_empty else found
         assert isinstance(definition, Enumeration)
@@ -142,9 +154,9 @@ class GrammarPage:
     def alias(self, env: Env, type_: Type, definition: Alias) -> str:
         """A second name; a CHOICE of one alternative stays a CHOICE, before which a tag is explicit."""
         assert definition.type is not None
-        only = getattr(type_, "alternatives", ())
-        if len(only) == 1:
-            return f"{self.asn1('CHOICE_OF_ONE')} {closed(self.term(env, only[0].type, definition.type))}"
+        if isinstance(type_, ChoiceType):
+            (only,) = as_written.alternatives(env, type_)
+            return f"{self.asn1('CHOICE_OF_ONE')} {closed(self.component(only, definition.type))}"
         return self.term(env, type_, definition.type)
 
     def tagged(self, env: Env, type_: TaggedType, inner: str) -> str:
@@ -158,27 +170,26 @@ class GrammarPage:
 
     # ---- fields and alternatives
 
-    def fields(self, definition: Struct, type_: FieldsType) -> str:
+    def fields(self, env: Env, type_: FieldsType, definition: Struct) -> str:
         """The fields, one after another."""
-        lines = []
-        for part in definition.fields:
-            number = automatic_number(definition.declared, part)
-            inner = self.component(part, number)
+        types, lines = resolved_parts(definition.fields), []
+        for part in as_written.fields(self.library, env, type_):
+            inner = self.component(part, types[key_of(part.component)])
             if part.component.optional:
                 lines.append(f"{self.asn1('OPTIONAL')} {closed(inner)}")
             elif part.component.default is not None:
-                lines.append(f"{self.asn1('DEFAULT')} ({self.default(part, number)}) {closed(inner)}")
+                lines.append(f"{self.asn1('DEFAULT')} ({self.default(part)}) {closed(inner)}")
             else:
                 lines.append(f"{self.asn1('field')} {closed(inner)}")
         return "".join(f"\n    ({line}" for line in lines) + f"\n    {self.asn1('end')}" + ")" * len(lines)
 
-    def component(self, part: Field, number: int | None) -> str:
+    def component(self, part: Part, type_: Resolved) -> str:
         """The type of a component, with its automatic tag if the module gives it one (25.7, 29.2)."""
-        if number is None:
-            return self.term(part.env, part.component.type, part.type)
-        assert isinstance(part.component.type, TaggedType) and isinstance(part.type, Tagged)
-        inner = self.term(part.env, part.component.type.type, part.type.of)
-        return f"{self.asn1('IMPLICIT')} {self.asn1('context')} {number} {closed(inner)}"
+        if part.number is None:
+            return self.term(part.env, part.component.type, type_)
+        assert isinstance(type_, Tagged)
+        inner = self.term(part.env, part.component.type, type_.of)
+        return f"{self.asn1('IMPLICIT')} {self.asn1('context')} {part.number} {closed(inner)}"
 
     def choice(self, alternatives: list[str]) -> str:
         """The alternatives, as a balanced tree."""
@@ -252,18 +263,14 @@ class GrammarPage:
 
     # ---- defaults
 
-    def default(self, part: Field, number: int | None) -> str:
+    def default(self, part: Part) -> str:
         """The encoding of a default value."""
-        type_ = part.component.type
-        if number is not None:
-            assert isinstance(type_, TaggedType)
-            type_ = type_.type
-        tag, contents = self.default_of(part.env, type_, part)
-        if number is not None:
-            tag = self.tag("context", f"({self.page.word('is_constructed')} {tag})", number)
+        tag, contents = self.default_of(part.env, part.component.type, part)
+        if part.number is not None:
+            tag = self.tag("context", f"({self.page.word('is_constructed')} {tag})", part.number)
         return f"{self.page.word('tlv')} {tag} {contents}"
 
-    def default_of(self, env: Env, type_: Type, part: Field) -> tuple[str, str]:
+    def default_of(self, env: Env, type_: Type, part: Part) -> tuple[str, str]:
         """The tag and the contents octets of a default value."""
         self.page.word("tags")
         if isinstance(type_, ConstrainedType):
@@ -275,9 +282,9 @@ class GrammarPage:
             return self.default_of_tagged(env, type_, part)
         if isinstance(part.component.default, BooleanValue):
             return "tags.Boolean", f"({self.page.word('boolean_contents')} {self.page.word('false')})"
-        return "tags.Integer", f"({self.page.word('natural_contents')} {int(part.default or 0)})"
+        return "tags.Integer", f"({self.page.word('natural_contents')} {default_number(self.library, part)})"
 
-    def default_of_tagged(self, env: Env, type_: TaggedType, part: Field) -> tuple[str, str]:
+    def default_of_tagged(self, env: Env, type_: TaggedType, part: Part) -> tuple[str, str]:
         """The same after a tag."""
         tag, contents = self.default_of(env, type_.type, part)
         number = type_.number if isinstance(type_.number, int) else number_of(self.library, env, type_.number)
@@ -293,26 +300,9 @@ class GrammarPage:
         return f"({self.page.word('marker_tag')} {tag_class} {constructed} {number})"
 
 
-def automatic_number(parts: tuple[Field, ...], part: Field) -> int | None:
-    """The number of a component's automatic tag (25.7, 25.8): those of the root first, and then the additions."""
-    if part.env.scope.module.tag_default is not TagDefault.AUTOMATIC:
-        return None
-    written = [one.component for one in parts]
-    if not all(is_wrapped(one) for one in written) or are_tagged([unwrapped(one) for one in written]):
-        return None
-    root = [one for one in parts if not one.component.is_addition]
-    additions = [one for one in parts if one.component.is_addition]
-    return (root + additions).index(part)
-
-
-def is_wrapped(component: Component) -> bool:
-    """Whether the resolver put a tag before a component: it has the component's place."""
-    return isinstance(component.type, TaggedType) and component.type.place == component.place
-
-
-def unwrapped(component: Component) -> Component:
-    assert isinstance(component.type, TaggedType)
-    return replace(component, type=component.type.type)
+def resolved_parts(fields: tuple[Field, ...]) -> dict[Key, Resolved]:
+    """The types of fields or alternatives as the resolver has them, by the components of the text."""
+    return {key_of(one.component): one.type for one in fields}
 
 
 def named_in(definition: Definition) -> list[Definition]:

@@ -22,7 +22,7 @@ WHOLES: dict[Whole, tuple[str, str]] = {
     Whole.TELETEX_STRING: ("TeletexStringRef", "TeletexString"),
     Whole.VIDEOTEX_STRING: ("VideotexStringRef", "VideotexString"),
     Whole.IA5_STRING: ("Ia5StringRef", "Ia5String"),
-    Whole.GENERAL_STRING: ("GeneralStringRef", "GeneralStringRef"),
+    Whole.GENERAL_STRING: ("GeneralStringOctets", "GeneralStringOctets"),
     Whole.BMP_STRING: ("BmpString", "BmpString"),
     Whole.ANY: ("AnyRef", "Any"),
     Whole.UNREAD_SEQUENCE: ("SequenceRef", "SequenceRef"),

@@ -2,9 +2,13 @@
 
 from __future__ import annotations
 
+from .. import as_written
+from ..as_written import key_of
 from ..model import Definition, Enumeration, Leaf, Presence, Resolved, ResolvedModule, Struct, Tagged, Use, Whole, is_within
 from ..properties import properties_of_definition
+from ..resolver.classes import base_of
 from ..spelling import snake
+from ..syntax import FieldsType
 from . import docs
 from .fields import Member, members_of
 from .grammar import CLASSES, word_of
@@ -80,7 +84,7 @@ def octets_law(source: Source, struct: Struct) -> str:
     source.page_word(ASN1, "joined")
     source.word("[]")
     source.word("∷")
-    octets = [member_octets(source, member, f"({words}.{member.name} v)") for member in members_of(struct)]
+    octets = [member_octets(source, member, f"({words}.{name} v)") for name, member in members_as_written(struct)]
     listed = "\n        ∷ ".join([*octets, "[]"])
     contents = f"⟦<{type_} as {source.use('FormValue')}>⟧.{source.member('value')}.{source.member('contents')} v"
     head = docs.doc(f"The contents octets of `{struct.name}` are the encodings of its fields, one after another.")
@@ -93,6 +97,17 @@ def octets_law(source: Source, struct: Struct) -> str:
         f"pub fn octets_of_{name}{lifetime}()\n"
         f"    ensures {{ (v : {logic}) → {contents} ≡ joined (\n        {listed}) }}\n{{}}"
     )
+
+
+def members_as_written(struct: Struct) -> list[tuple[str, Member]]:
+    """The fields by the names and in the order of the text, and no resolver's: so the prover refuses the law where the calls
+    have others."""
+    assert struct.origin is not None
+    library = struct.origin.library
+    env, type_ = base_of(library, struct.origin.env, struct.origin.type)
+    assert isinstance(type_, FieldsType)
+    members = {key_of(member.field.component): member for member in members_of(struct)}
+    return [(part.field_name, members[key_of(part.component)]) for part in as_written.fields(library, env, type_)]
 
 
 def member_octets(source: Source, member: Member, value: str) -> str:

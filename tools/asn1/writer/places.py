@@ -19,7 +19,7 @@ from .source import Source
 from .types import default_type, enumeration_of, inner_name, lifetime_of, rust_type, way, wrapped
 
 # What the calls and the proofs name within them: a local of such a name has an underscore after it.
-LOCALS = frozenset(["octets", "start", "self", "first", "value", "fields", "rest"])
+LOCALS = frozenset(["octets", "start", "self", "first", "value", "fields", "rest", "result"])
 # The universal tags as the library names them.
 TAGS = {
     1: "Boolean",

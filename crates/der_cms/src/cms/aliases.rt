@@ -66,6 +66,8 @@ pub fn grammar_of_other_certificate_format<'a>()
 /// ```text
 /// CMSVersion ::= INTEGER { v0(0), v1(1), v2(2), v3(3), v4(4), v5(5) }
 /// ```
+///
+/// A number outside 0..255 is refused: the names alone say how wide the type is.
 pub type CmsVersion = u8;
 
 /// What is read as `CMSVersion` is what the page of the grammar says.

@@ -13,6 +13,8 @@ use der_time::GeneralizedTime;
 /// ```text
 /// Version ::= INTEGER { v1(0) }
 /// ```
+///
+/// A number outside 0..255 is refused: the names alone say how wide the type is.
 pub type Version = u8;
 
 /// What is read as `Version` is what the page of the grammar says.

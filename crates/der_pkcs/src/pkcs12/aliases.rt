@@ -11,6 +11,8 @@ use der_elem::Form;
 use der_pkix::key::PrivateKeyInfo;
 
 /// A type that is written out within another, as `PfxVersion`.
+///
+/// A number outside 0..255 is refused: the names alone say how wide the type is.
 pub type PfxVersion = u8;
 
 /// What is read as `PfxVersion` is what the page of the grammar says.

@@ -11,6 +11,8 @@ use der_opaque::AnyRef;
 use der_pkix::certificate::Extensions;
 
 /// A type that is written out within another, as `CertificationRequestInfoVersion`.
+///
+/// A number outside 0..255 is refused: the names alone say how wide the type is.
 pub type CertificationRequestInfoVersion = u8;
 
 /// What is read as `CertificationRequestInfoVersion` is what the page of the grammar says.

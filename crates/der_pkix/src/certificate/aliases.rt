@@ -14,6 +14,8 @@ use der_numbers::IntRef;
 /// ```text
 /// Version ::= INTEGER { v1(0), v2(1), v3(2) }
 /// ```
+///
+/// A number outside 0..255 is refused: the names alone say how wide the type is.
 pub type Version = u8;
 
 /// What is read as `Version` is what the page of the grammar says.

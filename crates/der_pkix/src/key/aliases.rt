@@ -10,6 +10,8 @@ use crate::key::one_asymmetric_key::OneAsymmetricKey;
 use der_elem::Form;
 
 /// A type that is written out within another, as `OneAsymmetricKeyVersion`.
+///
+/// A number outside 0..255 is refused: the names alone say how wide the type is.
 pub type OneAsymmetricKeyVersion = u8;
 
 /// What is read as `OneAsymmetricKeyVersion` is what the page of the grammar says.
@@ -34,6 +36,8 @@ pub fn grammar_of_private_key_info<'a>()
 {}
 
 /// A type that is written out within another, as `RsaPrivateKeyVersion`.
+///
+/// A number outside 0..255 is refused: the names alone say how wide the type is.
 pub type RsaPrivateKeyVersion = u8;
 
 /// What is read as `RsaPrivateKeyVersion` is what the page of the grammar says.
@@ -48,6 +52,8 @@ pub const RSA_PRIVATE_KEY_VERSION_TWO_PRIME: u8 = 0;
 pub const RSA_PRIVATE_KEY_VERSION_MULTI: u8 = 1;
 
 /// A type that is written out within another, as `EcPrivateKeyVersion`.
+///
+/// A number outside 0..255 is refused: the names alone say how wide the type is.
 pub type EcPrivateKeyVersion = u8;
 
 /// What is read as `EcPrivateKeyVersion` is what the page of the grammar says.
@@ -59,6 +65,8 @@ pub fn grammar_of_ec_private_key_version()
 pub const EC_PRIVATE_KEY_VERSION_EC_PRIVKEY_VER1: u8 = 1;
 
 /// A type that is written out within another, as `SpecifiedEcDomainVersion`.
+///
+/// A number outside 0..255 is refused: the names alone say how wide the type is.
 pub type SpecifiedEcDomainVersion = u8;
 
 /// What is read as `SpecifiedEcDomainVersion` is what the page of the grammar says.

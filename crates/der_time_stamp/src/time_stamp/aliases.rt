@@ -11,6 +11,8 @@ use der_elem::Form;
 use der_opaque::ObjectIdentifierRef;
 
 /// A type that is written out within another, as `TimeStampReqVersion`.
+///
+/// A number outside 0..255 is refused: the names alone say how wide the type is.
 pub type TimeStampReqVersion = u8;
 
 /// What is read as `TimeStampReqVersion` is what the page of the grammar says.
@@ -40,6 +42,8 @@ pub fn grammar_of_tsa_policy_id<'a>()
 ///      revocationWarning       (4),
 ///      revocationNotification  (5) }
 /// ```
+///
+/// A number outside 0..255 is refused: the names alone say how wide the type is.
 pub type PkiStatus = u8;
 
 /// What is read as `PKIStatus` is what the page of the grammar says.
@@ -108,6 +112,8 @@ pub const PKI_FAILURE_INFO_ADD_INFO_NOT_AVAILABLE: usize = 17;
 pub const PKI_FAILURE_INFO_SYSTEM_FAILURE: usize = 25;
 
 /// A type that is written out within another, as `TstInfoVersion`.
+///
+/// A number outside 0..255 is refused: the names alone say how wide the type is.
 pub type TstInfoVersion = u8;
 
 /// What is read as `TstInfoVersion` is what the page of the grammar says.

@@ -1,0 +1,187 @@
+"""What the text of a module says of a type's parts, by its tree alone: names, order, numbers, defaults.
+
+The pages and the laws rest on it, and the code on the resolver; so an error of the resolver in any of these is one that
+the prover refuses.
+"""
+
+from __future__ import annotations
+
+from dataclasses import dataclass, replace
+from itertools import count
+
+from .errors import Place
+from .resolver.classes import base_of, follow, type_of_field
+from .scope import Env, Library
+from .spelling import field
+from .syntax import (
+    BitStringType,
+    ChoiceType,
+    Component,
+    ConstrainedType,
+    EnumeratedType,
+    FieldOfClass,
+    FieldsType,
+    IntegerType,
+    ListType,
+    NamedNumber,
+    ReferenceType,
+    ReferenceValue,
+    Simple,
+    SimpleType,
+    TagClass,
+    TagDefault,
+    TaggedType,
+    Type,
+)
+from .values import number_of
+
+# The numbers of the universal class (X.680 8.4, table 1).
+UNIVERSAL = {
+    Simple.BOOLEAN: 1,
+    Simple.OCTET_STRING: 4,
+    Simple.NULL: 5,
+    Simple.OBJECT_IDENTIFIER: 6,
+    Simple.UTF8_STRING: 12,
+    Simple.NUMERIC_STRING: 18,
+    Simple.PRINTABLE_STRING: 19,
+    Simple.TELETEX_STRING: 20,
+    Simple.VIDEOTEX_STRING: 21,
+    Simple.IA5_STRING: 22,
+    Simple.UTC_TIME: 23,
+    Simple.GENERALIZED_TIME: 24,
+    Simple.GRAPHIC_STRING: 25,
+    Simple.VISIBLE_STRING: 26,
+    Simple.GENERAL_STRING: 27,
+    Simple.UNIVERSAL_STRING: 28,
+    Simple.BMP_STRING: 30,
+}
+
+
+@dataclass(frozen=True)
+class Part:
+    """A component of a SEQUENCE or a SET, or an alternative of a CHOICE."""
+
+    component: Component
+    env: Env
+    number: int | None = None  # of its automatic tag (25.7 to 25.9, 29.2)
+
+    @property
+    def field_name(self) -> str:
+        """Its name as a field of a struct."""
+        given = [note.argument for note in self.component.annotations if note.name == "name"]
+        return given[0] if given and given[0] else field(self.component.name)
+
+
+Key = tuple[Place, str]
+
+
+def key_of(component: Component) -> Key:
+    """What tells a component from all others, as the resolver has it too: where it stands, and its name."""
+    return component.place, component.name
+
+
+def fields(library: Library, env: Env, type_: FieldsType) -> list[Part]:
+    """The components in the order of their encodings: that of the text, and of a SET that of the tags (X.690 10.3)."""
+    parts = components(library, env, type_)
+    return sorted(parts, key=lambda part: tag_of(library, part)) if type_.is_set else parts
+
+
+def components(library: Library, env: Env, type_: FieldsType) -> list[Part]:
+    """The components in the order of the text, those of COMPONENTS OF in its place (25.5)."""
+    parts: list[Part] = []
+    for one in type_.components:
+        if isinstance(one, Component):
+            parts.append(Part(one, env))
+            continue
+        inner, base = base_of(library, env, one.type)
+        assert isinstance(base, FieldsType)
+        parts += [part for part in components(library, inner, base) if not part.component.is_addition]
+    return numbered(env, parts, [one for one in type_.components if isinstance(one, Component)])
+
+
+def alternatives(env: Env, type_: ChoiceType) -> list[Part]:
+    """The alternatives in the order of the text."""
+    return numbered(env, [Part(one, env) for one in type_.alternatives], list(type_.alternatives))
+
+
+def numbered(env: Env, parts: list[Part], own: list[Component]) -> list[Part]:
+    """With automatic tags from 0, those of the root first, where no component of the text has a tag (25.7 to 25.9, 29.2)."""
+    if env.scope.module.tag_default is not TagDefault.AUTOMATIC or any(isinstance(one.type, TaggedType) for one in own):
+        return parts
+    order = sorted(range(len(parts)), key=lambda i: parts[i].component.is_addition)
+    return [replace(part, number=order.index(i)) for i, part in enumerate(parts)]
+
+
+# ---- tags
+
+
+def tag_of(library: Library, part: Part) -> tuple[int, int]:
+    """The class and the number of the tag that a component begins with."""
+    if part.number is not None:
+        return TagClass.CONTEXT.value, part.number
+    return first_tag(library, part.env, part.component.type)
+
+
+def first_tag(library: Library, env: Env, type_: Type) -> tuple[int, int]:
+    """The tag that the encodings of a type begin with, of which there is one."""
+    if isinstance(type_, TaggedType):
+        number = type_.number if isinstance(type_.number, int) else number_of(library, env, type_.number)
+        return type_.tag_class.value, number
+    if isinstance(type_, ConstrainedType):
+        return first_tag(library, env, type_.type)
+    if isinstance(type_, ReferenceType):
+        return first_tag(library, *follow(library, env, type_))
+    if isinstance(type_, FieldOfClass):
+        return first_tag(library, *type_of_field(library, env, type_))
+    if isinstance(type_, ChoiceType):
+        (only,) = alternatives(env, type_)
+        return tag_of(library, only)
+    return TagClass.UNIVERSAL.value, universal(type_)
+
+
+def universal(type_: Type) -> int:
+    """The universal number of a type that is written out."""
+    if isinstance(type_, SimpleType):
+        return UNIVERSAL[type_.simple]
+    if isinstance(type_, (FieldsType, ListType)):
+        return 17 if type_.is_set else 16
+    numbers = {IntegerType: 2, BitStringType: 3, EnumeratedType: 10}
+    return numbers[type(type_)]
+
+
+# ---- numbers
+
+
+def enumeration(library: Library, env: Env, type_: EnumeratedType) -> list[tuple[str, int]]:
+    """The names of an ENUMERATED and their numbers: those of the root from 0 on, but for those given there (20.3); of an
+    addition with none the least that is free in the root, and above the additions before it (20.7)."""
+    root = [one for one in type_.named if not one.is_addition]
+    given = [given_number(library, env, one) for one in root]
+    free = (number for number in count() if number not in given)
+    numbers = [next(free) if number is None else number for number in given]
+    above = 0
+    for one in type_.named[len(root) :]:
+        number = given_number(library, env, one)
+        if number is None:
+            number = next(number for number in count(above) if number not in numbers[: len(root)])
+        numbers.append(number)
+        above = max(above, number + 1)
+    return [(one.name, number) for one, number in zip(type_.named, numbers)]
+
+
+def given_number(library: Library, env: Env, one: NamedNumber) -> int | None:
+    """The number that stands after a name, if one does."""
+    return number_of(library, env, one.number) if isinstance(one.number, ReferenceValue) else one.number
+
+
+def default_number(library: Library, part: Part) -> int:
+    """The number that a DEFAULT says, by itself or by a name of its type's."""
+    value = part.component.default
+    assert value is not None
+    env, base = base_of(library, part.env, part.component.type)
+    named = base.named if isinstance(base, IntegerType) else ()
+    for one in named if isinstance(value, ReferenceValue) else ():
+        number = given_number(library, env, one)
+        if one.name == value.name and number is not None:
+            return number
+    return number_of(library, part.env, value)

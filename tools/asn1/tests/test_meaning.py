@@ -1,0 +1,341 @@
+"""Numbers, names and sizes: what X.680 says that they are, where a module leaves a part of it unsaid."""
+
+from __future__ import annotations
+
+import unittest
+
+from ..model import (
+    Alias,
+    Choice,
+    Definition,
+    Enumeration,
+    Leaf,
+    List,
+    Listed,
+    Presence,
+    Struct,
+    Tag,
+    Tagged,
+    Use,
+    Whole,
+)
+from ..properties import tags_of
+from ..writer.leaves import WHOLES
+from .helpers import definitions, module_of, remarks, resolved
+from .test_writer import grammar, written
+
+# Names of numbers, of which one is the name of another.
+VALUES = """zero INTEGER ::= 0
+    three INTEGER ::= 3
+    seven INTEGER ::= 7
+    also-seven INTEGER ::= seven
+    top INTEGER ::= 255
+"""
+
+
+def struct(body: str) -> Struct:
+    """The SEQUENCE `A` of a module."""
+    found = definitions(body)["A"]
+    assert isinstance(found, Struct)
+    return found
+
+
+def alias(body: str) -> Alias:
+    """The second name `A` of a module."""
+    found = definitions(body)["A"]
+    assert isinstance(found, Alias)
+    return found
+
+
+def leaf(body: str) -> Leaf:
+    """The type of the library that `A` of a module is."""
+    found = alias(body).type
+    assert isinstance(found, Leaf)
+    return found
+
+
+def numbers(body: str) -> list[tuple[str, int]]:
+    """The names and numbers of the ENUMERATED `A` of a module."""
+    found = definitions(body)["A"]
+    assert isinstance(found, Enumeration)
+    return [(one.name, one.number) for one in found.values]
+
+
+class Enumerations(unittest.TestCase):
+    def test_numbers_that_are_left_out_begin_with_0(self) -> None:
+        """20.3: the first has 0, and each that follows one more."""
+        self.assertEqual(numbers("A ::= ENUMERATED { a, b, c }"), [("a", 0), ("b", 1), ("c", 2)])
+        self.assertEqual(numbers("A ::= ENUMERATED { a }"), [("a", 0)])
+        self.assertEqual(numbers("A ::= ENUMERATED { a, b(1), c }"), [("a", 0), ("b", 1), ("c", 2)])
+
+    def test_what_is_written_has_these_numbers(self) -> None:
+        text = written(module_of("A ::= ENUMERATED { red, green }"))["src/test/a.rt"]
+        for line in ("A::Red => 0,", "A::Green => 1,", "0 => Some(A::Red),", "1 => Some(A::Green),"):
+            self.assertIn(line, text)
+
+
+class NumbersByName(unittest.TestCase):
+    """A number that is the name of a value is the number of that value."""
+
+    def test_of_a_tag(self) -> None:
+        found = struct(VALUES + "A ::= SEQUENCE { a [zero] NULL, b [three] NULL, c [APPLICATION also-seven] NULL }")
+        tags = [part.type.tag for part in found.fields if isinstance(part.type, Tagged)]
+        self.assertEqual(tags, [Tag(2, 0), Tag(2, 3), Tag(1, 7)])
+
+    def test_of_bounds(self) -> None:
+        for text, width in (
+            ("(zero..top)", "u8"),
+            ("(0..also-seven)", "u8"),
+            ("(three | top)", "u8"),
+            ("(top)", "u8"),
+        ):
+            with self.subTest(text):
+                self.assertEqual(leaf(f"{VALUES}A ::= INTEGER {text}").width, width)
+        self.assertEqual(remarks(VALUES + "A ::= INTEGER (zero..top)"), [])
+        said = remarks(VALUES + "A ::= INTEGER (three..also-seven)")
+        self.assertEqual([text.split(" ", 1)[1] for text in said], ["INTEGER as u8: (3..7) is not checked"])
+
+    def test_of_an_enumeration(self) -> None:
+        found = numbers(VALUES + "A ::= ENUMERATED { a(three), b(zero), c(also-seven), d }")
+        self.assertEqual(found, [("a", 3), ("b", 0), ("c", 7), ("d", 1)])
+
+    def test_of_named_numbers_and_bits(self) -> None:
+        found = alias(VALUES + "A ::= INTEGER { a(zero), b(also-seven) }")
+        self.assertEqual([(one.name, one.number) for one in found.numbers], [("a", 0), ("b", 7)])
+        found = alias(VALUES + "A ::= BIT STRING { a(zero), b(three) }")
+        self.assertEqual([(one.name, one.number) for one in found.bits], [("a", 0), ("b", 3)])
+
+    def test_of_a_default(self) -> None:
+        byte = "INTEGER (0..255) DEFAULT"
+        found = struct(f"{VALUES}A ::= SEQUENCE {{ a {byte} three, b [0] {byte} zero }}")
+        self.assertEqual({part.presence for part in found.fields}, {Presence.DEFAULT})
+        self.assertEqual([part.default for part in found.fields], [3, 0])
+
+    def test_of_a_size(self) -> None:
+        for text, is_never_empty in (("zero..three", False), ("three..top", True), ("three", True)):
+            found = definitions(f"{VALUES}A ::= SEQUENCE SIZE ({text}) OF NULL")["A"]
+            assert isinstance(found, List)
+            self.assertEqual(found.is_never_empty, is_never_empty, text)
+
+    def test_of_an_arc(self) -> None:
+        found, _ = resolved(module_of(VALUES + "a OBJECT IDENTIFIER ::= { iso(1) x(three) seven }"))
+        self.assertEqual([one.arcs for one in found[0].constants], [(1, 3, 7)])
+
+    def test_of_another_module(self) -> None:
+        one = module_of(VALUES, name="One")
+        two = module_of("IMPORTS three FROM One;\nA ::= SEQUENCE { a [three] NULL }", name="Two")
+        found, _ = resolved(one, two)
+        part = found[1].definitions[0]
+        assert isinstance(part, Struct) and isinstance(part.fields[0].type, Tagged)
+        self.assertEqual(part.fields[0].type.tag, Tag(2, 3))
+
+
+class Imports(unittest.TestCase):
+    """A name that is imported is of the module that stands after FROM (13.16), whatever others have it."""
+
+    ONE = module_of("X ::= SEQUENCE { one NULL }\n n INTEGER ::= 1\n i OBJECT IDENTIFIER ::= { 1 2 1 }", name="One")
+    TWO = module_of("X ::= SEQUENCE { two NULL }\n n INTEGER ::= 2\n i OBJECT IDENTIFIER ::= { 1 2 2 }", name="Two")
+
+    def found(self, source: str, *texts: str) -> tuple[str, int, tuple[int, ...]]:
+        """The module of X, the number of n and the arcs of i that `Test` imports."""
+        body = f"IMPORTS X, n, i FROM {source};\nA ::= SEQUENCE {{ a [n] X }}\n j OBJECT IDENTIFIER ::= {{ i 9 }}"
+        modules, _ = resolved(*[module_of(body) if text == "" else text for text in texts])
+        test = next(module for module in modules if module.name == "Test")
+        part = test.definitions[0]
+        assert isinstance(part, Struct) and isinstance(part.fields[0].type, Tagged)
+        assert isinstance(part.fields[0].type.of, Use)
+        return part.fields[0].type.of.definition.module, part.fields[0].type.tag.number, test.constants[0].arcs
+
+    def test_the_module_after_from_has_it(self) -> None:
+        for texts in ((self.ONE, self.TWO, ""), (self.TWO, self.ONE, ""), ("", self.TWO, self.ONE)):
+            self.assertEqual(self.found("One", *texts), ("One", 1, (1, 2, 1, 9)))
+            self.assertEqual(self.found("Two", *texts), ("Two", 2, (1, 2, 2, 9)))
+
+    def test_a_module_hands_on_what_it_imports(self) -> None:
+        names = "X, n, i"
+        hands = module_of(f"EXPORTS {names};\nIMPORTS {names} FROM Two;", name="Hands")
+        self.assertEqual(self.found("Hands", self.ONE, self.TWO, hands, ""), ("Two", 2, (1, 2, 2, 9)))
+
+    def test_a_name_of_the_module_itself_is_its_own(self) -> None:
+        body = "A ::= SEQUENCE { a X }\nX ::= SEQUENCE { own NULL }"
+        found, _ = resolved(self.ONE, self.TWO, module_of(body))
+        part = next(one for one in found[2].definitions if one.rust == "A")
+        assert isinstance(part, Struct) and isinstance(part.fields[0].type, Use)
+        self.assertEqual(part.fields[0].type.definition.module, "Test")
+
+
+class Arcs(unittest.TestCase):
+    """The names of arcs that stand without a number (32.3), and their numbers (X.660 annex A)."""
+
+    KNOWN = (
+        ("itu-t recommendation", (0, 0)),
+        ("itu-t question", (0, 1)),
+        ("itu-t administration", (0, 2)),
+        ("itu-t network-operator", (0, 3)),
+        ("itu-t identified-organization", (0, 4)),
+        ("ccitt recommendation", (0, 0)),
+        ("ccitt network-operator", (0, 3)),
+        ("iso standard", (1, 0)),
+        ("iso registration-authority", (1, 1)),
+        ("iso member-body", (1, 2)),
+        ("iso identified-organization", (1, 3)),
+        ("iso(1) member-body us(840)", (1, 2, 840)),
+        ("iso identified-organization dod(6)", (1, 3, 6)),
+        ("joint-iso-itu-t 5", (2, 5)),
+        ("joint-iso-ccitt ds(5)", (2, 5)),
+    )
+
+    def test_a_known_name_is_its_number(self) -> None:
+        for text, arcs in self.KNOWN:
+            with self.subTest(text):
+                found, _ = resolved(module_of(f"a OBJECT IDENTIFIER ::= {{ {text} 77 }}"))
+                self.assertEqual([one.arcs for one in found[0].constants], [(*arcs, 77)])
+
+    def test_a_known_name_is_none_elsewhere(self) -> None:
+        body = "member-body INTEGER ::= 4\n a OBJECT IDENTIFIER ::= { joint-iso-itu-t member-body 7 }"
+        found, _ = resolved(module_of(body))
+        self.assertEqual([one.arcs for one in found[0].constants], [(2, 4, 7)])
+
+
+class Leaves(unittest.TestCase):
+    # Types, the library's type of each, and its universal tag (X.680 table 1).
+    KNOWN = (
+        ("BOOLEAN", Whole.BOOLEAN, 1),
+        ("INTEGER", Whole.INTEGER, 2),
+        ("BIT STRING", Whole.BIT_STRING, 3),
+        ("OCTET STRING", Whole.OCTET_STRING, 4),
+        ("NULL", Whole.NULL, 5),
+        ("OBJECT IDENTIFIER", Whole.OBJECT_IDENTIFIER, 6),
+        ("UTF8String", Whole.UTF8_STRING, 12),
+        ("PrintableString", Whole.PRINTABLE_STRING, 19),
+        ("TeletexString", Whole.TELETEX_STRING, 20),
+        ("T61String", Whole.TELETEX_STRING, 20),
+        ("VideotexString", Whole.VIDEOTEX_STRING, 21),
+        ("IA5String", Whole.IA5_STRING, 22),
+        ("UTCTime", Whole.UTC_TIME, 23),
+        ("GeneralizedTime", Whole.GENERALIZED_TIME, 24),
+        ("GeneralString", Whole.GENERAL_STRING, 27),
+        ("BMPString", Whole.BMP_STRING, 30),
+    )
+
+    def test_each_is_its_type_with_its_universal_tag(self) -> None:
+        for text, whole, number in self.KNOWN:
+            with self.subTest(text):
+                found = leaf(f"A ::= {text}")
+                self.assertIs(found.whole, whole)
+                self.assertEqual(tags_of(found), frozenset([Tag(0, number)]))
+
+    def test_t61_string_is_teletex_string(self) -> None:
+        """41.1, table 8: T61String is a second name of TeletexString, and VideotexString is another type."""
+        found = struct("A ::= SEQUENCE { a T61String, b TeletexString, c VideotexString }")
+        teletex = Leaf(Whole.TELETEX_STRING)
+        self.assertEqual([part.type for part in found.fields], [teletex, teletex, Leaf(Whole.VIDEOTEX_STRING)])
+        self.assertEqual(WHOLES[Whole.TELETEX_STRING], ("TeletexStringRef", "TeletexString"))
+        text = written(module_of("A ::= SEQUENCE { a T61String }"))["src/test/a.rt"]
+        self.assertIn("TeletexStringRef<'a>", text)
+        self.assertNotIn("Videotex", text)
+
+    def test_the_page_of_the_grammar_has_the_same_type(self) -> None:
+        names = {"A": "T61String", "B": "TeletexString", "C": "VideotexString"}
+        found = grammar("\n".join(f"{name} ::= SEQUENCE {{ a {type_} }}" for name, type_ in names.items()))
+        self.assertEqual(found["a"], found["b"])
+        self.assertNotEqual(found["a"], found["c"])
+
+    def test_an_object_identifier_has_39_octets_at_most(self) -> None:
+        self.assertEqual(leaf("A ::= OBJECT IDENTIFIER").octets, 39)
+        self.assertEqual(leaf("A ::= OBJECT IDENTIFIER -- @max(12)").octets, 12)
+
+    def test_the_narrowest_integer_at_each_end(self) -> None:
+        for bits in (8, 16, 32, 64, 128):
+            for low, high, width in (
+                (0, 2**bits - 1, f"u{bits}"),
+                (0, 2 ** (bits - 1), f"u{bits}"),
+                (0, 2 ** (bits - 1) - 1, f"u{bits}"),
+                (-(2 ** (bits - 1)), 2 ** (bits - 1) - 1, f"i{bits}"),
+                (-1, 2 ** (bits - 1) - 1, f"i{bits}"),
+            ):
+                with self.subTest(low=low, high=high):
+                    self.assertEqual(leaf(f"A ::= INTEGER ({low}..{high})").width, width)
+
+
+class Sizes(unittest.TestCase):
+    """A SIZE whose least is 1 or more is checked as (1..MAX), before OF of a SEQUENCE and of a SET."""
+
+    def test_a_least_of_1_or_more_is_never_empty(self) -> None:
+        for size, is_never_empty in (
+            ("1..MAX", True),
+            ("2..MAX", True),
+            ("2..3", True),
+            ("3", True),
+            ("2 | 4", True),
+            ("0..MAX", False),
+            ("0..3", False),
+            ("0 | 4", False),
+        ):
+            for kind in ("SEQUENCE", "SET"):
+                with self.subTest(kind=kind, size=size):
+                    found = definitions(f"A ::= {kind} SIZE ({size}) OF NULL")["A"]
+                    assert isinstance(found, List)
+                    self.assertEqual((found.is_set, found.is_never_empty), (kind == "SET", is_never_empty))
+
+    def test_of_a_list_that_is_written_out(self) -> None:
+        found = struct("A ::= SEQUENCE { a SET SIZE (2..MAX) OF NULL, b SEQUENCE SIZE (0..2) OF NULL, c SET OF NULL }")
+        lists = [part.type for part in found.fields if isinstance(part.type, Listed)]
+        self.assertEqual([one.is_set for one in lists], [True, False, True])
+        self.assertEqual([one.is_never_empty for one in lists], [True, False, False])
+
+    def test_what_is_written_checks_it(self) -> None:
+        body = "A ::= SEQUENCE SIZE (2..MAX) OF NULL\nB ::= SEQUENCE SIZE (1..MAX) OF NULL\nC ::= SEQUENCE OF NULL"
+        files, found = written(module_of(body)), grammar(body)
+        self.assertIn("NonEmpty<Vec<Null>>", files["src/test/a.rt"])
+        self.assertNotIn("NonEmpty", files["src/test/c.rt"])
+        self.assertEqual(found["a"], found["b"])
+        self.assertNotEqual(found["a"], found["c"])
+
+    def test_what_is_not_checked_is_said(self) -> None:
+        self.assertEqual(remarks("A ::= SEQUENCE SIZE (2..MAX) OF NULL"), ["2:16 SIZE (2..MAX) is checked as (1..MAX)"])
+
+
+class NamedNumbers(unittest.TestCase):
+    """The constants of named numbers and bits have the numbers that stand beside the names."""
+
+    BODY = """Version ::= INTEGER { v1(0), v2(1), v3(2) }
+        Fault ::= INTEGER { least(-2), most(300) }
+        Usage ::= BIT STRING { first(0), ninth(8) }
+        A ::= SEQUENCE { version INTEGER { one-prime(0), many(1) } }"""
+
+    def test_the_numbers(self) -> None:
+        found = definitions(self.BODY)
+        self.assertEqual(self.pairs(found["Version"]), [("v1", 0), ("v2", 1), ("v3", 2)])
+        self.assertEqual(self.pairs(found["Fault"]), [("least", -2), ("most", 300)])
+        self.assertEqual(self.pairs(found["Usage"]), [("first", 0), ("ninth", 8)])
+        self.assertEqual(self.pairs(found["AVersion"]), [("one-prime", 0), ("many", 1)])
+
+    def pairs(self, found: Definition) -> list[tuple[str, int]]:
+        assert isinstance(found, Alias)
+        return [(one.name, one.number) for one in (*found.numbers, *found.bits)]
+
+    def test_the_constants(self) -> None:
+        text = written(module_of(self.BODY))["src/test/aliases.rt"]
+        for line in (
+            "/// `v3` of `Version`.\npub const VERSION_V3: u8 = 2;",
+            "pub const VERSION_V1: u8 = 0;",
+            "pub const FAULT_LEAST: i16 = -2;",
+            "pub const FAULT_MOST: i16 = 300;",
+            "/// The place of the bit `ninth` of `Usage`.\npub const USAGE_NINTH: usize = 8;",
+            "pub const A_VERSION_MANY: u8 = 1;",
+        ):
+            self.assertIn(line, text)
+
+
+class TagsBeforeATag(unittest.TestCase):
+    def test_the_first_is_the_outer(self) -> None:
+        """31.2.6: each tag stands before what follows it."""
+        outer = alias("A ::= [1] EXPLICIT [2] EXPLICIT NULL").type
+        assert isinstance(outer, Tagged) and isinstance(outer.of, Tagged)
+        self.assertEqual((outer.tag, outer.of.tag), (Tag(2, 1), Tag(2, 2)))
+        found = definitions("A ::= CHOICE { a [3] EXPLICIT [4] EXPLICIT NULL, b [5] NULL }")["A"]
+        assert isinstance(found, Choice)
+        inner = found.alternatives[0].type
+        assert isinstance(inner, Tagged) and isinstance(inner.of, Tagged)
+        self.assertEqual((inner.tag, inner.of.tag), (Tag(2, 3), Tag(2, 4)))

@@ -1,0 +1,116 @@
+"""Names that are words of Rattle or of its pages, and names that two things would have."""
+
+from __future__ import annotations
+
+import re
+import unittest
+
+from ..errors import AsnError
+from ..spelling import field, snake, variant
+from .helpers import module_of, refusal
+from .test_writer import written
+
+# Words that a field may be called in ASN.1, and that no name in Rattle's clauses and pages may be.
+RESERVED = "data record module open infix abbrev unfoldable ghost requires ensures deriving package mutual new v type in"
+
+
+def refused(body: str) -> AsnError:
+    """The error that a module gets while it is written."""
+    try:
+        written(module_of(body))
+    except AsnError as error:
+        return error
+    raise AssertionError("the module is taken")
+
+
+class Fields(unittest.TestCase):
+    def test_a_reserved_word_gets_an_underscore(self) -> None:
+        names = RESERVED.split()
+        files = written(module_of(f"A ::= SEQUENCE {{ {', '.join(f'{name} NULL' for name in names)} }}"))
+        source, page = files["src/test/a.rt"], files["specs/Test/A.antt"]
+        self.assertEqual(re.findall(r"pub fn (\w+)\(&self\)", source), [f"{name}_" for name in names])
+        self.assertEqual(re.findall(r"^abbrev pub (\w+) :", page, re.M), [f"{name}_" for name in names])
+        self.assertEqual(re.findall(r"\(a_fields\.(\w+) v\)", source), [f"{name}_" for name in names])
+
+    def test_into_parts_is_one(self) -> None:
+        self.assertEqual([field("into-parts"), field("intoParts"), field("into")], ["into_parts_", "into_parts_", "into"])
+
+    def test_no_parameter_is_called_result(self) -> None:
+        source = written(module_of("A ::= SEQUENCE { result NULL }"))["src/test/a.rt"]
+        self.assertIn("pub fn new(result_: Null) -> A", source)
+        self.assertIn("pub fn result(&self) -> Null", source)
+
+
+class Variants(unittest.TestCase):
+    def test_self_and_type_get_an_underscore(self) -> None:
+        self.assertEqual([variant("self"), variant("type"), variant("selfSigned")], ["Self_", "Type_", "SelfSigned"])
+        source = written(module_of("A ::= CHOICE { self NULL, type BOOLEAN }"))["src/test/a.rt"]
+        self.assertIn("    Self_(Null),\n", source)
+        self.assertIn("    Type_(bool),\n", source)
+
+    def test_a_name_that_the_page_of_an_enumeration_has(self) -> None:
+        page = written(module_of("E ::= ENUMERATED { some, list, names, e, none }"))["specs/Test/E.antt"]
+        self.assertEqual(re.findall(r"^number_of_e (\w+) =", page, re.M), ["Some_", "List_", "Names_", "E_", "None"])
+
+
+class Types(unittest.TestCase):
+    def test_a_reserved_word_is_no_file(self) -> None:
+        files = written(module_of("Data ::= SEQUENCE { a NULL }\nA ::= SEQUENCE { data Data }"))
+        self.assertIn("src/test/data_.rt", files)
+        self.assertIn("use crate::test::data_::Data;", files["src/test/a.rt"])
+        self.assertIn("abbrev pub data_ : Grammar", files["specs/Test/Grammar.antt"])
+        self.assertEqual(snake("Record"), "record_")
+
+    def test_a_word_of_the_page_of_the_grammar_gets_an_underscore(self) -> None:
+        for name in ("One", "Application", "Optional", "Tlv", "AnyOf"):
+            word = snake(name)
+            with self.subTest(name):
+                files = written(module_of(f"{name} ::= SEQUENCE {{ a NULL }}"))
+                self.assertIn(f"abbrev pub {word}_ : Grammar", files["specs/Test/Grammar.antt"])
+                self.assertIn(f"pub fn grammar_of_{word}_()", files[f"src/test/{word}.rt"])
+                self.assertIn(f"grammar_of_{word}_", files["src/test/laws.rt"])
+
+    def test_a_file_that_each_module_has_is_no_types(self) -> None:
+        for name in ("Laws", "LAWS", "Orders", "Aliases", "Constants", "Grammar"):
+            for type_ in ("SEQUENCE { a NULL }", "NULL"):
+                with self.subTest(f"{name} ::= {type_}"):
+                    error = refused(f"A ::= NULL\n{name} ::= {type_}")
+                    self.assertIn("a file that each module has", error.problem)
+                    self.assertEqual((error.place.line, error.place.column), (3, 1))
+                    self.assertIn("@name(", error.instead)
+
+    def test_names_that_differ_in_capitals_alone(self) -> None:
+        error = refused("Ab ::= SEQUENCE { a NULL }\nB ::= SEQUENCE { a NULL } -- @name(AB)")
+        self.assertEqual(error.problem, "the name 'AB' is taken by 'Ab' of 'Ab'")
+        self.assertEqual(error.place.line, 3)
+
+    def test_the_name_of_an_order(self) -> None:
+        error = refused("A ::= SET OF B\nB ::= SEQUENCE { x NULL }\nBOrder ::= SEQUENCE { x NULL }")
+        self.assertEqual(error.problem, "the name 'BOrder' is taken by 'BOrder' of 'B'")
+        written(module_of("A ::= SEQUENCE OF B\nB ::= SEQUENCE { x NULL }\nBOrder ::= SEQUENCE { x NULL }"))
+
+    def test_the_name_of_a_half_or_a_holder(self) -> None:
+        choice = f"A ::= CHOICE {{ {', '.join(f'a{i} [{i}] B' for i in range(5))} }}\nB ::= SEQUENCE {{ x NULL }}"
+        error = refused(f"{choice}\nAFirst ::= NULL")
+        self.assertIn("the name 'AFirst' is taken by", error.problem)
+        self.assertEqual(error.place.line, 4)
+        error = refused("S ::= SEQUENCE { a [3] EXPLICIT L }\nL ::= SEQUENCE OF NULL\nExplicit3L ::= NULL")
+        self.assertIn("the name 'Explicit3L' is taken by", error.problem)
+        self.assertEqual(error.place.line, 4)
+
+
+class Spelling(unittest.TestCase):
+    def test_names_that_are_spelled_alike(self) -> None:
+        for text, rust in (
+            ("ENUMERATED { oneTwo, one-two }", "OneTwo"),
+            ("INTEGER { oneTwo(0), one-two(1) }", "ONE_TWO"),
+            ("BIT STRING { oneTwo(0), one-two(1) }", "ONE_TWO"),
+        ):
+            with self.subTest(text):
+                error = refusal(module_of(f"E ::= {text}"))
+                self.assertEqual(error.problem, f"'one-two' and 'oneTwo' are both '{rust}' in Rattle")
+                self.assertEqual(error.place.line, 2)
+
+
+if __name__ == "__main__":
+    unittest.main()

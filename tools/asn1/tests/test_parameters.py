@@ -1,0 +1,53 @@
+"""Types with parameters that have no parts of their own (X.683): an instance is what it stands for."""
+
+from __future__ import annotations
+
+import unittest
+
+from ..model import Alias, Leaf, Struct, Tagged, Use, Whole
+from .helpers import definitions, remarks
+from .test_writer import grammar
+
+
+class Instances(unittest.TestCase):
+    def whole(self, body: str) -> Whole:
+        """The type of the library that A is."""
+        found = definitions(body)["A"]
+        assert isinstance(found, Alias) and isinstance(found.type, Leaf)
+        return found.type.whole
+
+    def test_a_type_that_does_not_use_its_parameter(self) -> None:
+        self.assertIs(self.whole("E{T} ::= OCTET STRING\nA ::= E{INTEGER}"), Whole.OCTET_STRING)
+        encrypted = "ENCRYPTED{T} ::= BIT STRING (CONSTRAINED BY { T })\nA ::= ENCRYPTED{NULL}"
+        self.assertIs(self.whole(encrypted), Whole.BIT_STRING)
+        self.assertEqual(remarks(encrypted), ["2:30 CONSTRAINED BY { T } is not checked"])
+
+    def test_a_type_that_is_its_parameter(self) -> None:
+        self.assertIs(self.whole("E{T} ::= T\nA ::= E{INTEGER}"), Whole.INTEGER)
+        self.assertIs(self.whole("E{T} ::= T\nA ::= E{E{E{NULL}}}"), Whole.NULL)
+        found = definitions("E{T} ::= T\nB ::= SEQUENCE { a E{SEQUENCE { x NULL }} }")
+        self.assertIsInstance(found["BA"], Struct)
+
+    def test_a_tag_before_one(self) -> None:
+        body = "E{T} ::= [5] T\nA ::= E{INTEGER}\nB ::= SEQUENCE { a [0] E{C} }\nC ::= CHOICE { x NULL, y BOOLEAN }"
+        found = definitions(body)["A"]
+        assert isinstance(found, Alias)
+        self.assertIsInstance(found.type, Tagged)
+        self.assertEqual(grammar(body)["a"], "EXPLICIT context 5 INTEGER")
+        self.assertEqual(grammar(body)["b"], "SEQUENCE (field (EXPLICIT context 0 (EXPLICIT context 5 c)) end)")
+
+    def test_a_choice_behind_a_parameter_gets_an_explicit_tag(self) -> None:
+        body = "E{T} ::= T\nA ::= SEQUENCE { a [0] E{E{C}} }\nC ::= CHOICE { x NULL, y BOOLEAN }"
+        found = definitions(body, "IMPLICIT TAGS")["A"]
+        assert isinstance(found, Struct) and isinstance(found.fields[0].type, Tagged)
+        self.assertTrue(found.fields[0].type.is_explicit)
+
+    def test_names_of_numbers(self) -> None:
+        body = "E{T} ::= INTEGER { a(0), b(1) }\nA ::= SEQUENCE { a E{NULL} DEFAULT b }"
+        found = definitions(body)["A"]
+        assert isinstance(found, Struct) and isinstance(found.fields[0].type, Use)
+        self.assertEqual(found.fields[0].default, 1)
+
+
+if __name__ == "__main__":
+    unittest.main()
