@@ -2,5 +2,6 @@ pub mod Algorithms
 pub mod FindingOne
 pub mod FirstFields
 pub mod Fronts
+pub mod Repeats
 pub mod Steps
 mod Spaces

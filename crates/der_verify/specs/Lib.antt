@@ -2,6 +2,7 @@ pub mod Extensions
 pub mod Names
 pub mod Rfc5280
 pub mod Rfc5280Lists
+pub mod Sections
 pub mod Signed
 pub mod Sizes
 pub mod Text

@@ -2,6 +2,7 @@
 -- field's encoding (RFC 5280 4.1.1.3 and 5.1.1.3, RFC 2986 4.2, RFC 6960 4.2.1).
 use Rattle.std.specs.Prelude.{ℕ, ◌≡◌, ◌<◌, ◌^◌, List, ◌++◌, length}
 use Rattle.der_tlv.specs.declared.tag.Tag.{Tag}
+use Rattle.der_tlv.specs.declared.tag.Tag.TheVariants.{Sequence}
 use Rattle.der_tlv.specs.TagParts.{IsTag}
 use Rattle.der_tlv.specs.HeaderOctets.{tlv}
 
@@ -17,3 +18,9 @@ pub record HasFirst (octets : List ℕ) (outer inner : Tag) (contents others : L
   pub is_inner : IsTag inner
   pub short : length octets < 2 ^ 32
   pub octets_are : octets ≡ tlv outer (tlv inner contents ++ others)
+
+-- the octets of a SEQUENCE, of which these are the field that stands first: they stand just behind its header, and are read so
+pub record ReadsFirst (reads : List ℕ → Type 0) (octets first : List ℕ) : Type 0 where
+  pub others : List ℕ
+  pub octets_are : octets ≡ tlv Sequence (first ++ others)
+  pub read : reads first

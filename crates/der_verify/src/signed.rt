@@ -4,6 +4,7 @@
 //! Of a certificate 30 82 .. 30 82 .. they begin at the second 30, and end where the algorithm begins.
 
 ghost use Rattle.std.specs.Prelude.{◌≡◌, ◌<◌, ◌^◌, List, ℕ, length, IsOkAnd};
+ghost use Rattle.der_tlv.specs.declared.encoding_rules.EncodingRules.TheVariants.{Der};
 ghost use Rattle.der_tlv.specs.declared.tag.Tag.{Tag};
 ghost use Rattle.der_tlv.specs.HeaderOctets.{tlv};
 ghost use Rattle.der_pkix.specs.declared.certificate.certificate.Certificate.{Certificate};
@@ -14,7 +15,7 @@ ghost use Rattle.der_ocsp.specs.declared.ocsp.basic_ocsp_response.BasicOcspRespo
 ghost use Rattle.der_ocsp.specs.Ocsp.BasicOcspResponse as answer_fields;
 ghost use Rattle.der_pkcs.specs.declared.request.certification_request.CertificationRequest.{CertificationRequest};
 ghost use Rattle.der_pkcs.specs.Request.CertificationRequest as request_fields;
-ghost use Rattle.der_verify.specs.Signed.{BeginsWith, HasFirst};
+ghost use Rattle.der_verify.specs.Signed.{BeginsWith, HasFirst, ReadsFirst};
 
 use der_elem::Form;
 use der_ocsp::ocsp::{BasicOcspResponse, ResponseData};
@@ -70,7 +71,9 @@ pub fn first_field<'a>(octets: &'a [u8]) -> Result<&'a [u8], Error>
 /// # Errors
 /// The first fault of the two headers; `ErrorKind::Overflow` (9) for more than 4294967295 octets.
 pub fn octets_of_tbs_certificate<'a>(octets: &'a [u8]) -> Result<&'a [u8], Error>
-    ensures { (v : Certificate) → octets.now ≡ ⟦<Certificate<'a> as Form>⟧.encoding v → length octets.now < 2 ^ 32
+    ensures read { (v : Certificate) → ⟦<Certificate<'a> as Form>⟧.accepts Der v octets.now → length octets.now < 2 ^ 32
+        → IsOkAnd result (λ signed. ReadsFirst (⟦<TbsCertificate<'a> as Form>⟧.accepts Der (certificate_fields.tbs_certificate v)) octets.now signed.now) }
+    ensures canonical { (v : Certificate) → octets.now ≡ ⟦<Certificate<'a> as Form>⟧.encoding v → length octets.now < 2 ^ 32
         → IsOkAnd result (λ signed. signed.now ≡ ⟦<TbsCertificate<'a> as Form>⟧.encoding (certificate_fields.tbs_certificate v)) }
 {
     first_field(octets)
@@ -81,7 +84,9 @@ pub fn octets_of_tbs_certificate<'a>(octets: &'a [u8]) -> Result<&'a [u8], Error
 /// # Errors
 /// As `octets_of_tbs_certificate`.
 pub fn octets_of_tbs_cert_list<'a>(octets: &'a [u8]) -> Result<&'a [u8], Error>
-    ensures { (v : CertificateList) → octets.now ≡ ⟦<CertificateList<'a> as Form>⟧.encoding v → length octets.now < 2 ^ 32
+    ensures read { (v : CertificateList) → ⟦<CertificateList<'a> as Form>⟧.accepts Der v octets.now → length octets.now < 2 ^ 32
+        → IsOkAnd result (λ signed. ReadsFirst (⟦<TbsCertList<'a> as Form>⟧.accepts Der (certificate_list_fields.tbs_cert_list v)) octets.now signed.now) }
+    ensures canonical { (v : CertificateList) → octets.now ≡ ⟦<CertificateList<'a> as Form>⟧.encoding v → length octets.now < 2 ^ 32
         → IsOkAnd result (λ signed. signed.now ≡ ⟦<TbsCertList<'a> as Form>⟧.encoding (certificate_list_fields.tbs_cert_list v)) }
 {
     first_field(octets)
@@ -92,7 +97,9 @@ pub fn octets_of_tbs_cert_list<'a>(octets: &'a [u8]) -> Result<&'a [u8], Error>
 /// # Errors
 /// As `octets_of_tbs_certificate`.
 pub fn octets_of_certification_request_info<'a>(octets: &'a [u8]) -> Result<&'a [u8], Error>
-    ensures { (v : CertificationRequest) → octets.now ≡ ⟦<CertificationRequest<'a> as Form>⟧.encoding v → length octets.now < 2 ^ 32
+    ensures read { (v : CertificationRequest) → ⟦<CertificationRequest<'a> as Form>⟧.accepts Der v octets.now → length octets.now < 2 ^ 32
+        → IsOkAnd result (λ signed. ReadsFirst (⟦<CertificationRequestInfo<'a> as Form>⟧.accepts Der (request_fields.certification_request_info v)) octets.now signed.now) }
+    ensures canonical { (v : CertificationRequest) → octets.now ≡ ⟦<CertificationRequest<'a> as Form>⟧.encoding v → length octets.now < 2 ^ 32
         → IsOkAnd result (λ signed. signed.now ≡ ⟦<CertificationRequestInfo<'a> as Form>⟧.encoding (request_fields.certification_request_info v)) }
 {
     first_field(octets)
@@ -103,7 +110,9 @@ pub fn octets_of_certification_request_info<'a>(octets: &'a [u8]) -> Result<&'a 
 /// # Errors
 /// As `octets_of_tbs_certificate`.
 pub fn octets_of_tbs_response_data<'a>(octets: &'a [u8]) -> Result<&'a [u8], Error>
-    ensures { (v : BasicOcspResponse) → octets.now ≡ ⟦<BasicOcspResponse<'a> as Form>⟧.encoding v → length octets.now < 2 ^ 32
+    ensures read { (v : BasicOcspResponse) → ⟦<BasicOcspResponse<'a> as Form>⟧.accepts Der v octets.now → length octets.now < 2 ^ 32
+        → IsOkAnd result (λ signed. ReadsFirst (⟦<ResponseData<'a> as Form>⟧.accepts Der (answer_fields.tbs_response_data v)) octets.now signed.now) }
+    ensures canonical { (v : BasicOcspResponse) → octets.now ≡ ⟦<BasicOcspResponse<'a> as Form>⟧.encoding v → length octets.now < 2 ^ 32
         → IsOkAnd result (λ signed. signed.now ≡ ⟦<ResponseData<'a> as Form>⟧.encoding (answer_fields.tbs_response_data v)) }
 {
     first_field(octets)

@@ -3,6 +3,7 @@
 mod data;
 mod extensions;
 mod list_data;
+mod many;
 mod names;
 mod rules;
 mod rules_of_lists;

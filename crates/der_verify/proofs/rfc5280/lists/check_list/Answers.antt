@@ -13,8 +13,8 @@ each-init c =
 
 pub each-preserved-in_ok-push : goal.each-preserved-in_ok-push
 each-preserved-in_ok-push c =
-    taken (λ (r : ListRule). list_breaks r c.args.list.now) c.each.found.items c.each.left.now list_rules _ _ _ _ c.each.invariant c.in-len1-up.len_at_least refl refl (sym c.is_broken.ensures ∙ c.if-is_broken.true) c.in_ok-push.ensures.items
+    taken (λ (r : ListRule). list_breaks r c.args.list.now) c.each.found.items c.each.left.now list_rules _ _ _ _ c.each.invariant c.in-len1-up.len_at_least refl refl (sym c.in_ok-is_broken_in.ensures ∙ c.if-branch.true) c.in_ok-push.ensures.items
 
 pub each-preserved : goal.each-preserved
 each-preserved c =
-    left_out (λ (r : ListRule). list_breaks r c.args.list.now) c.each.found.items c.each.left.now list_rules _ _ _ c.each.invariant c.in-len1-up.len_at_least refl refl (sym c.is_broken.ensures ∙ c.if-is_broken.false)
+    left_out (λ (r : ListRule). list_breaks r c.args.list.now) c.each.found.items c.each.left.now list_rules _ _ _ c.each.invariant c.in-len1-up.len_at_least refl refl (sym c.in_ok-is_broken_in.ensures ∙ c.if-branch.false)
