@@ -36,7 +36,7 @@ use std::alloc::Global;
 pub struct MessageNames;
 
 impl Names for MessageNames {
-    ghost canonical_function_of = { message_of };
+    ghost table = { message_of };
 
     #[tactic(auto, unfolding(crate::specs::Messages::message_of))]
     fn put_canonical_of_name(

@@ -1,6 +1,7 @@
 -- What a call answers: 0 and what was read, or the number of the first fault.
-use Rattle.std.specs.Prelude.{◌≡◌, ◌⊎◌, ℕ, List, take, Ok}
+use Rattle.std.specs.Prelude.{◌≡◌, ◌⊎◌, ℕ, ◌^◌, ◌≤◌, List, length, take, Option, None, Some, Ok}
 use Rattle.der_tlv.specs.declared.encoding_rules.EncodingRules.TheVariants.{Der}
+use Rattle.der_tlv.specs.declared.error.Error.{Error}
 use Rattle.der_tlv.specs.declared.error.ErrorKind.{ErrorKind}
 use Rattle.der_tlv.specs.declared.error.ErrorKind.TheVariants.{Overflow}
 use Rattle.der_tlv.specs.ErrorNumber.{error_number}
@@ -14,10 +15,23 @@ pub record NoFault (old new : Fault) (answer : ℕ) : Type 0 where
   pub number : answer ≡ 0
   pub unchanged : new ≡ old
 
--- the number of a fault, 1 to 17, which is written too, and what was lent for what is read is as it was
-pub record IsFault {S : Type 0} (kind : ErrorKind) (old new : S) (fault : Fault) (answer : ℕ) : Type 0 where
-  pub number : answer ≡ error_number kind
-  pub written : fault.number ≡ answer
+-- whether a position is known, and it, else 0
+abbrev pub placing : Option ℕ → ℕ × ℕ
+placing None = (0, 0)
+placing (Some position) = (1, position)
+
+-- an error as it is written: its number, 1 to 17, and its position where it has one
+abbrev pub fault_of : Error → Fault
+fault_of error = record { number = error_number error.kind; is_placed = (placing error.position).0; position = (placing error.position).1 }
+
+-- a refusal of the call itself as it is written, with no position
+abbrev pub fault_of_call : ℕ → Fault
+fault_of_call answer = record { number = answer; is_placed = 0; position = 0 }
+
+-- the number of an error, which is written with its position, and what was lent for what is read is as it was
+pub record IsFault {S : Type 0} (error : Error) (old new : S) (fault : Fault) (answer : ℕ) : Type 0 where
+  pub number : answer ≡ error_number error.kind
+  pub written : fault ≡ fault_of error
   pub unchanged : new ≡ old
 
 -- the octets are read as a value, all of them, and this is shown of it
@@ -32,9 +46,9 @@ Refuses F octets kind = RanOut F.TAKES_MEMORY F.FAULTS_FIRST (F.parse Der 0 octe
 
 -- the octets are refused, and why
 pub record NotGiven {T S : Type 0} (F : form.Ghosts T) (octets : List ℕ) (old new : S) (fault : Fault) (answer : ℕ) : Type 0 where
-  pub kind : ErrorKind
-  pub reason : Refuses F octets kind
-  pub is_fault : IsFault kind old new fault answer
+  pub error : Error
+  pub reason : Refuses F octets error.kind
+  pub is_fault : IsFault error old new fault answer
 
 -- what a call answers that reads all octets
 abbrev pub Answers : {T S : Type 0} → form.Ghosts T → List ℕ → (T → S → Type 0) → S → S → Fault → Fault → ℕ → Type 0
@@ -46,9 +60,9 @@ pub record FrontRead {T : Type 0} (F : form.Ghosts T) (octets : List ℕ) (value
   pub accepted : F.accepts Der value (take taken octets)
   pub fits : Fits octets
 
--- no value is read from the front, for this reason; or no length can count the octets (9)
+-- no value is read from the front, for this reason; or no length can count the octets (9), and nothing is read
 abbrev pub FrontRefused : {T : Type 0} → form.Ghosts T → List ℕ → ErrorKind → Type 0
-FrontRefused F octets kind = Faults F.TAKES_MEMORY F.FAULTS_FIRST (F.parse Der 0 octets) kind ⊎ (kind ≡ Overflow)
+FrontRefused F octets kind = (Fits octets × Faults F.TAKES_MEMORY F.FAULTS_FIRST (F.parse Der 0 octets) kind) ⊎ ((kind ≡ Overflow) × (2 ^ 32 ≤ length octets))
 
 -- so many octets at the front are read as a value, and this is shown of both
 pub record FrontGiven {T S : Type 0} (F : form.Ghosts T) (octets : List ℕ) (shows : T → ℕ → S → Type 0) (new : S) : Type 0 where
@@ -59,9 +73,9 @@ pub record FrontGiven {T S : Type 0} (F : form.Ghosts T) (octets : List ℕ) (sh
 
 -- the octets at the front are refused, and why
 pub record FrontNotGiven {T S : Type 0} (F : form.Ghosts T) (octets : List ℕ) (old new : S) (fault : Fault) (answer : ℕ) : Type 0 where
-  pub kind : ErrorKind
-  pub reason : FrontRefused F octets kind
-  pub is_fault : IsFault kind old new fault answer
+  pub error : Error
+  pub reason : FrontRefused F octets error.kind
+  pub is_fault : IsFault error old new fault answer
 
 -- what a call answers that reads the octets at the front
 abbrev pub AnswersFront : {T S : Type 0} → form.Ghosts T → List ℕ → (T → ℕ → S → Type 0) → S → S → Fault → Fault → ℕ → Type 0

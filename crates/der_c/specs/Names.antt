@@ -1,7 +1,7 @@
 -- The types by their names: those of `certview lines`, and those of `derview`.
 use Rattle.der_lines.specs.Tables.{Table, or_else}
 use Rattle.certview_names.specs.Messages.{message_of}
-use Rattle.derview_names.specs.Names.{canonical_function_of}
+use Rattle.derview_names.specs.Names.{type_of}
 
 unfoldable pub type_named : Table
-type_named name = or_else (message_of name) (canonical_function_of name)
+type_named name = or_else (message_of name) (type_of name)

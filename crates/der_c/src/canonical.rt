@@ -18,9 +18,11 @@ use std::alloc::Global;
 /// The encoding is the octets that were read, but of the types of sets that are read in another order
 /// than DER's, and written in order.
 ///
-/// The answer is 0; or the number of the first fault, or 102 where no type has the name, and the room and
-/// the count are as they were; or 103 where the room is too short, and then the count says how many octets
-/// it should have.
+/// The answer is 0; or the number of the first fault, or 1 where memory runs out, or 102 where no type has
+/// the name, and the room and the count are as they were; or 103 where the room is too short, and then the
+/// count says how many octets it should have.
+///
+/// Of a type that takes no memory to be read, the answer is 1 only where the octets encode a value.
 #[unsafe(no_mangle)]
 pub extern "C" fn der_canonical(
     alloc: Global,
@@ -44,7 +46,7 @@ fn write_named<N: Names>(
     count: &mut usize,
     fault: &mut Fault,
 ) -> u32
-    ensures { AnswersNamed (N.canonical_function_of name.now) octets.now room.old room.new count.old count.new fault.old fault.new result }
+    ensures { AnswersNamed (N.table name.now) octets.now room.old room.new count.old count.new fault.old fault.new result }
 {
     let mut encoding = KeptWriter::new(alloc);
     match N::put_canonical_of_name(alloc, name, octets, &mut encoding) {
@@ -58,7 +60,7 @@ fn write_named<N: Names>(
 struct AllNames;
 
 impl Names for AllNames {
-    ghost canonical_function_of = { type_named };
+    ghost table = { type_named };
 
     #[tactic(auto, unfolding(crate::specs::Names::type_named))]
     fn put_canonical_of_name(

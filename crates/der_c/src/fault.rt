@@ -2,6 +2,7 @@
 
 ghost use Rattle.std.specs.Prelude.{◌≡◌};
 ghost use Rattle.der_tlv.specs.ErrorNumber.{error_number};
+ghost use Rattle.der_c.specs.Answers.{fault_of, fault_of_call, placing};
 
 use der_tlv::{Error, Length};
 
@@ -20,7 +21,7 @@ pub struct Fault {
 /// Writes the refusal where the caller says, and answers its number.
 pub(crate) fn refuse(error: Error, fault: &mut Fault) -> u32
     ensures number { result ≡ error_number error.kind }
-    ensures written { fault.new.number ≡ result }
+    ensures written { fault.new ≡ fault_of error }
 {
     let number = u32::from(error.kind.number());
     let (is_placed, position) = place_of(error.position);
@@ -41,7 +42,7 @@ pub(crate) const SHORT_ROOM: u32 = 103;
 /// Writes a refusal that is of the call itself, and answers its number.
 pub(crate) fn refuse_call(answer: u32, fault: &mut Fault) -> u32
     ensures number { result ≡ answer }
-    ensures written { fault.new.number ≡ answer }
+    ensures written { fault.new ≡ fault_of_call answer }
 {
     *fault = Fault {
         number: answer,
@@ -51,8 +52,10 @@ pub(crate) fn refuse_call(answer: u32, fault: &mut Fault) -> u32
     answer
 }
 
-/// Whether a position is known, and it.
-fn place_of(position: Option<Length>) -> (u32, u32) {
+/// Whether a position is known, and it, else 0.
+fn place_of(position: Option<Length>) -> (u32, u32)
+    ensures { result ≡ placing position }
+{
     match position {
         Some(position) => (1, position.value()),
         None => (0, 0),

@@ -7,7 +7,8 @@ use Rattle.hex.specs.Hex.{decode_of, encode_lower}
 use Rattle.der_tlv.specs.ErrorNumber.{error_number}
 use Rattle.der_tlv.specs.declared.error.ErrorKind.{ErrorKind}
 use Rattle.der_tlv.specs.declared.error.ErrorKind.TheVariants.{Memory}
-use Rattle.der_lines.specs.Tables.{CanonicalFunction, Table}
+use Rattle.der_lines.specs.Rows.{Row, canonical}
+use Rattle.der_lines.specs.Tables.{Table}
 
 -- what stands before the first space, and what stands after it
 abbrev pub parts_of : List ℕ → Option (List ℕ × List ℕ)
@@ -32,9 +33,9 @@ abbrev pub verdict_of : Result (List ℕ) ErrorKind → List ℕ
 verdict_of (Ok encoding) = accepted_of encoding
 verdict_of (Err kind) = refused_of kind
 
-abbrev pub verdict_by : Option CanonicalFunction → List ℕ → List ℕ
+abbrev pub verdict_by : Option Row → List ℕ → List ℕ
 verdict_by None octets = codes "bad line"
-verdict_by (Some function) octets = verdict_of (function octets)
+verdict_by (Some row) octets = verdict_of (canonical row octets)
 
 abbrev pub answer_to_text : Table → List ℕ → Option (List ℕ) → List ℕ
 answer_to_text table name None = codes "bad line"
@@ -49,9 +50,9 @@ unfoldable pub answer_of : Table → List ℕ → List ℕ
 answer_of table line = answer_to_parts table (parts_of line)
 
 -- what octets come to is not want of memory
-abbrev pub IsNotMemory : Option CanonicalFunction → List ℕ → Type 0
+abbrev pub IsNotMemory : Option Row → List ℕ → Type 0
 IsNotMemory None octets = Unit {0}
-IsNotMemory (Some function) octets = function octets ≢ Err Memory
+IsNotMemory (Some row) octets = canonical row octets ≢ Err Memory
 
 abbrev pub text_is_not_memory : Table → List ℕ → Option (List ℕ) → Type 0
 text_is_not_memory table name None = Unit {0}

@@ -5,6 +5,7 @@ pub mod Kept
 pub mod Lines
 pub mod Piece
 pub mod Puts
+pub mod Rows
 pub mod Run
 pub mod Sink
 pub mod Source

@@ -31,8 +31,8 @@ impl Room {
     /// Puts the answer to a line, and an LF, in the place of the line.
     #[tactic(auto, unfolding(crate::specs::Answer::answer_of))]
     pub fn answer<N: Names>(&mut self, alloc: Global, line: &mut Vec<u8>) -> Result<(), AllocError>
-        ensures reply { OnOk result (line.new.items ≡ reply_to N.canonical_function_of line.old.items) }
-        ensures memory { OnOk result (NotRefusedForMemory N.canonical_function_of line.old.items) }
+        ensures reply { OnOk result (line.new.items ≡ reply_to N.table line.old.items) }
+        ensures memory { OnOk result (NotRefusedForMemory N.table line.old.items) }
     {
         let Some((name, text)) = parts(line) else {
             return put_bad_line(line);

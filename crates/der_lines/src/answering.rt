@@ -24,22 +24,22 @@ pub fn run<N: Names, R: BufRead, W: Write>(
     // All lines were read and answered.
     ensures ok { OnOk result (IfSome (R.remaining input.old.reader) (λ text.
         Appends (W.contents output.old.writer) (W.contents output.new.writer)
-        (replies_to N.canonical_function_of text))) }
+        (replies_to N.table text))) }
     // No line is answered with want of memory (1): that ends the run.
     ensures memory { OnOk result (IfSome (R.remaining input.old.reader) (λ text.
-        All (NotRefusedForMemory N.canonical_function_of) (lines_of text))) }
+        All (NotRefusedForMemory N.table) (lines_of text))) }
     ensures ended { OnOk result (IfSome (R.remaining input.old.reader) (λ _.
         R.remaining input.new.reader ≡ Some [])) }
 
     // After a fault, a beginning of that was written.
     ensures beginning { OnErr result (IfSome (R.remaining input.old.reader) (λ text.
-        WritesBeginning N.canonical_function_of text
+        WritesBeginning N.table text
         (W.contents output.old.writer) (W.contents output.new.writer))) }
     ensures prompt { OnErr result (IfSome (R.remaining input.old.reader) (λ text.
-        AnswersAllButOne N.canonical_function_of text (R.remaining input.new.reader)
+        AnswersAllButOne N.table text (R.remaining input.new.reader)
         (W.contents output.old.writer) (W.contents output.new.writer))) }
     ensures exact { IsErrOf result Fault.Input → IfSome (R.remaining input.old.reader) (λ text.
-        AnswersWholeLines N.canonical_function_of text (R.remaining input.new.reader)
+        AnswersWholeLines N.table text (R.remaining input.new.reader)
         (W.contents output.old.writer) (W.contents output.new.writer)) }
 
     // Each fault has its cause, and each error with which a read or a write failed is told as it is.

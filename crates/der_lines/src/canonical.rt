@@ -1,10 +1,9 @@
 //! The canonical encoding of the value that octets encode, in room that is kept.
 
-ghost use Rattle.der_elem.specs.Decoding.{parse_all};
 ghost use Rattle.der_tlv.specs.declared.tag.Tag.TheVariants.{Sequence, Set};
-ghost use Rattle.der_elem.specs.Parsing.{parse_tagged};
 ghost use Rattle.der_nest.specs.Sets.{parse_set};
 ghost use Rattle.der_lines.specs.Puts.{Puts};
+ghost use Rattle.der_lines.specs.Rows.{row_of, tagged, taking, between};
 
 use crate::kept_writer::KeptWriter;
 use der_elem::{Decode, DerOrd, Encode, FromDer, Tagged};
@@ -18,13 +17,15 @@ use std::marker::PhantomData;
 /// place of what was written.
 ///
 /// # Errors
-/// The first fault of the octets; `ErrorKind::Memory` (1) where memory runs out.
+/// The first fault of the octets; `ErrorKind::Memory` (1) where memory runs out: of a type that takes
+/// none to be read, only for octets that encode a value; of one that takes it once every fault of the
+/// value is found, only for octets that begin with the encoding of a value.
 pub fn put_canonical<'a, T: FromDer<'a> + Encode>(
     alloc: Global,
     octets: &'a [u8],
     encoding: &mut KeptWriter,
 ) -> Result<(), Error>
-    ensures { Puts (parse_all T.parse octets.now) encoding.new.octets.items result }
+    ensures { Puts (row_of T.Form) octets.now encoding.new.octets.items result }
 {
     let value = T::from_der(alloc, octets)?;
     encoding.clear();
@@ -40,7 +41,7 @@ pub fn put_canonical_set<'a, T: Decode<'a, SliceReader<'a>> + Encode + DerOrd + 
     octets: &'a [u8],
     encoding: &mut KeptWriter,
 ) -> Result<(), Error>
-    ensures { Puts (parse_all (parse_tagged Set (parse_set T.parse)) octets.now)
+    ensures { Puts (tagged between Set (parse_set T.parse)) octets.now
         encoding.new.octets.items result }
 {
     put_canonical::<SetOfVec<T>>(alloc, octets, encoding)
@@ -58,8 +59,8 @@ pub fn put_canonical_sequence<'a, F: DecodeFields<'a, SliceReader<'a>> + EncodeF
     encoding: &mut KeptWriter,
     _sequence: PhantomData<FieldSequence<F>>,
 ) -> Result<(), Error>
-    ensures { Puts (parse_all (parse_tagged Sequence F.list.octets.parse) octets.now)
-        encoding.new.octets.items result }
+    ensures { Puts (tagged (taking F.list.octets.TAKES_MEMORY F.list.octets.FAULTS_FIRST)
+        Sequence F.list.octets.parse) octets.now encoding.new.octets.items result }
 {
     put_canonical::<FieldSequence<F>>(alloc, octets, encoding)
 }

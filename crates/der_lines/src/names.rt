@@ -1,8 +1,7 @@
 //! The types that lines name.
-ghost use Rattle.std.specs.Prelude.{◌≡◌, ℕ, List, Option, Result};
+ghost use Rattle.std.specs.Prelude.{◌≡◌};
 ghost use Rattle.std.specs.Str.{bytes_eq};
-ghost use Rattle.der_tlv.specs.declared.error.ErrorKind.{ErrorKind};
-ghost use Rattle.der_lines.specs.Tables.{AnswersAs};
+ghost use Rattle.der_lines.specs.Tables.{Table, AnswersAs};
 
 use crate::kept_writer::KeptWriter;
 use der_tlv::Error;
@@ -12,22 +11,22 @@ use std::alloc::Global;
 ///
 /// `choose!` writes the call for a table of names and types.
 pub trait Names {
-    /// By a type's name the canonical encoding of what octets encode as it, or their first fault.
-    ghost canonical_function_of: { List ℕ → Option (List ℕ → Result (List ℕ) ErrorKind) };
+    /// By a type's name what octets come to as that type, and when reading it takes memory.
+    ghost table: { Table };
 
     /// Puts the canonical encoding of the value that the octets encode, as the type of that name, if
     /// there is such a type, in the place of what was written.
     ///
     /// # Errors
-    /// The first fault of the octets; `ErrorKind::Memory` (1) where memory runs out.
+    /// The first fault of the octets; `ErrorKind::Memory` (1) where memory runs out: of a type that
+    /// takes none to be read, only for octets that encode a value.
     fn put_canonical_of_name(
         alloc: Global,
         name: &[u8],
         octets: &[u8],
         encoding: &mut KeptWriter,
     ) -> Option<Result<(), Error>>
-        ensures { AnswersAs (canonical_function_of name.now) octets.now
-            encoding.new.octets.items result };
+        ensures { AnswersAs (table name.now) octets.now encoding.new.octets.items result };
 }
 
 /// Whether a name is this text.

@@ -1,12 +1,11 @@
 //! The types by their names.
-ghost use Rattle.std.specs.Prelude.{◌≡◌};
+ghost use Rattle.std.specs.Prelude.{◌≡◌, false};
 ghost use Rattle.der_asn1_types.specs.BorrowedSets.{parse_borrowed};
-ghost use Rattle.der_asn1_types.specs.Decoding.{parse_all};
-ghost use Rattle.der_asn1_types.specs.Parsing.{parse_tagged};
 ghost use Rattle.der_asn1_types.specs.Tag.TheVariants.{Set};
 ghost use Rattle.der_lines.specs.Puts.{Puts};
+ghost use Rattle.der_lines.specs.Rows.{tagged, taking};
 ghost use Rattle.der_lines.specs.Tables.{AnswersAs};
-ghost use Rattle.derview_names.specs.Names.{canonical_function_of, plain_types, signed_types, unsigned_types, opaque_types, composed_types, tagged_types, number_types, string_types, bit_types, nested_types, set_types, borrowed_set_types, time_types};
+ghost use Rattle.derview_names.specs.Names.{type_of, plain_types, signed_types, unsigned_types, opaque_types, composed_types, tagged_types, number_types, string_types, bit_types, nested_types, set_types, borrowed_set_types, time_types};
 
 use der_asn1_types::asn1::{
     Any, AnyRef, Application, BitString, BitStringRef, BmpString, ContextSpecific,
@@ -24,9 +23,9 @@ use std::alloc::Global;
 pub struct TypeNames;
 
 impl Names for TypeNames {
-    ghost canonical_function_of = { canonical_function_of };
+    ghost table = { type_of };
 
-    #[tactic(auto, unfolding(crate::specs::Names::canonical_function_of))]
+    #[tactic(auto, unfolding(crate::specs::Names::type_of))]
     fn put_canonical_of_name(
         alloc: Global,
         name: &[u8],
@@ -315,7 +314,7 @@ fn put_canonical_borrowed<'a, T: Decode<'a, SliceReader<'a>> + Encode + DerOrd +
     octets: &'a [u8],
     encoding: &mut KeptWriter,
 ) -> Result<(), Error>
-    ensures { Puts (parse_all (parse_tagged Set (parse_borrowed T.parse)) octets.now)
+    ensures { Puts (tagged (taking T.Form.TAKES_MEMORY false) Set (parse_borrowed T.parse)) octets.now
         encoding.new.octets.items result }
 {
     put_canonical::<SetOfRef<T>>(alloc, octets, encoding)

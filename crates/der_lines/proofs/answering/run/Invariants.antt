@@ -6,7 +6,7 @@ use Rattle.der_lines.proofs.answering.run.Given as goal
 abbrev pub invariant-lines : goal.invariant-lines
 invariant-lines g l = record {
   answered : IfSome (g.R.Read.remaining l.fn.input.reader) (λ text.
-      Answered g.N.Names.canonical_function_of l.fn.input.lines_left l.input.lines_left text
+      Answered g.N.Names.table l.fn.input.lines_left l.input.lines_left text
       (g.R.Read.remaining l.input.reader) (g.W.Write.contents l.fn.output.writer) (g.W.Write.contents l.output.writer));
   read : l.input.failure ≡ l.fn.input.failure;
   wrote : l.output.failure ≡ l.fn.output.failure;
