@@ -7,21 +7,15 @@ use certview_names::MessageNames;
 use certview_text::{Fault, Outcome, View, plain, read_input, show, show_refused};
 use der_lines::{Fault as LineFault, LineReader, OctetWriter};
 use lines::{asks_for_lines, fault_of_run};
-use options::{Request, request_of};
+use options::{File, Request, request_of};
+use std::fs;
 use std::io::{self, BufReader, IsTerminal};
 use std::process::ExitCode;
-use std::{env, fs};
+use words::{is_text, words_of};
 
 mod lines;
 mod options;
-
-/// The words of the command line.
-fn words_of(rt: &HostRuntime) -> Result<Vec<String>, Fault> {
-    match env::args(rt) {
-        Ok(words) => Ok(words.collect(rt.alloc())?),
-        Err(error) => Err(input_fault(&error)),
-    }
-}
+mod words;
 
 fn input_fault(error: &io::Error) -> Fault {
     match error.kind() {
@@ -78,15 +72,16 @@ fn end_document(rt: &HostRuntime) -> u8 {
 }
 
 /// Shows a file.
-fn show_one(rt: &HostRuntime, file: &str, view: &View<'_>) -> Next {
-    match octets_of(rt, file) {
+fn show_one(rt: &HostRuntime, file: &File<'_>, view: &View<'_>) -> Next {
+    let name = file.name.as_str();
+    match octets_of(rt, file.word) {
         Ok(octets) => match show(rt.alloc(), view, octets.as_slice(), &mut io::writer(rt)) {
-            Ok(Outcome::Closed) => Next::Ends(0),
+            Ok(Outcome::Closed(status)) => Next::Ends(status),
             Ok(outcome) => Next::Goes(outcome.status()),
-            Err(Fault::Output) => Next::Ends(told(rt, file, Fault::Output)),
-            Err(fault) => refuse(rt, file, view, fault, octets.as_slice()),
+            Err(Fault::Output) => Next::Ends(told(rt, name, Fault::Output)),
+            Err(fault) => refuse(rt, name, view, fault, octets.as_slice()),
         },
-        Err(fault) => refuse(rt, file, view, fault, &[]),
+        Err(fault) => refuse(rt, name, view, fault, &[]),
     }
 }
 
@@ -94,7 +89,7 @@ fn show_one(rt: &HostRuntime, file: &str, view: &View<'_>) -> Next {
 fn refuse(rt: &HostRuntime, file: &str, view: &View<'_>, fault: Fault, octets: &[u8]) -> Next {
     let status = told(rt, file, fault);
     match show_refused(rt.alloc(), view, &fault, octets, &mut io::writer(rt)) {
-        Ok(Outcome::Closed) => Next::Ends(status),
+        Ok(Outcome::Closed(_)) => Next::Ends(status),
         Ok(_) => Next::Goes(status),
         Err(fault) => Next::Ends(told(rt, file, fault).max(status)),
     }
@@ -103,10 +98,7 @@ fn refuse(rt: &HostRuntime, file: &str, view: &View<'_>, fault: Fault, octets: &
 /// The octets of a file, or of standard input.
 fn octets_of(rt: &HostRuntime, file: &str) -> Result<Vec<u8>, Fault> {
     if file != "-" {
-        return match fs::open(rt, file) {
-            Ok(mut opened) => read_input(rt.alloc(), &mut opened),
-            Err(error) => Err(input_fault(&error)),
-        };
+        return octets_of_file(rt, file);
     }
     if rt.stdin().is_terminal() {
         let _ = eprintln!(rt;
@@ -114,6 +106,17 @@ fn octets_of(rt: &HostRuntime, file: &str) -> Result<Vec<u8>, Fault> {
         );
     }
     read_input(rt.alloc(), &mut rt.reader())
+}
+
+/// The octets of the file that this word names, which std opens only by a name of text.
+fn octets_of_file(rt: &HostRuntime, word: &str) -> Result<Vec<u8>, Fault> {
+    if !is_text(word) {
+        return Err(Fault::Name);
+    }
+    match fs::open(rt, word) {
+        Ok(mut file) => read_input(rt.alloc(), &mut file),
+        Err(error) => Err(input_fault(&error)),
+    }
 }
 
 /// Tells on standard error of a file that is not shown, and answers the status.
@@ -151,7 +154,7 @@ fn answer(rt: &HostRuntime, words: &[String]) -> Result<u8, Fault> {
 fn main(rt: HostRuntime) -> ExitCode {
     let answered = match words_of(&rt) {
         Ok(words) => answer(&rt, words.as_slice()),
-        Err(fault) => Err(fault),
+        Err(error) => Err(Fault::from(error)),
     };
     match answered {
         Ok(status) => ExitCode::from(status),

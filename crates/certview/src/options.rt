@@ -1,5 +1,6 @@
-//! The words of the command line.
+//! What the words of the command line ask for.
 
+use crate::words::name_of_word;
 use certview_text::{Asked, FIELDS, Form, View};
 use clap::error::ErrorKind;
 use clap::{Arg, ArgAction, Command, Error};
@@ -19,11 +20,20 @@ a space and hex digits.
 The status is 0, 1 for what is refused, could be read in part, breaks a rule or is not
 valid, and 2 where a file, the machine or the command line failed.";
 
+/// A file that is asked for.
+#[derive(Drop)]
+pub struct File<'a> {
+    /// The word that names it; `-` for standard input.
+    pub word: &'a str,
+    /// What it is called where it is told of.
+    pub name: String,
+}
+
 /// What is asked for.
 #[derive(Drop)]
 pub struct Request<'a> {
-    /// The files, in their order; `-` for standard input, alone where no file is named.
-    pub files: Vec<&'a str>,
+    /// The files, in their order; standard input alone where none is named.
+    pub files: Vec<File<'a>>,
     /// The names of the fields that are shown; all, where there are none.
     pub fields: Option<Vec<&'a str>>,
     /// Whether the document is JSON.
@@ -39,7 +49,7 @@ impl<'a> Request<'a> {
     pub fn view_of<'b>(&'b self, number: usize) -> View<'b> {
         let has_name = self.is_json || self.files.len() > 1;
         let name = match self.files.get(number) {
-            Some(file) if has_name => Some(*file),
+            Some(file) if has_name => Some(file.name.as_str()),
             _ => None,
         };
         let form = if self.is_json {
@@ -70,11 +80,10 @@ impl<'a> Request<'a> {
 /// For words that are no options, and where help or the version is asked for: the text of these.
 pub fn request_of<'a>(alloc: Global, words: &'a [String]) -> Result<Request<'a>, Error> {
     let matches = command(alloc)?.try_get_matches_from(words)?;
-    let mut files = Vec::new(alloc);
-    match matches.get_strs("FILE") {
-        Some(given) => files.extend_from_slice(given)?,
-        None => files.push("-")?,
-    }
+    let files = match matches.get_strs("FILE") {
+        Some(given) => files_of(alloc, given)?,
+        None => files_of(alloc, &["-"])?,
+    };
     let fields = match matches.get_strs("fields") {
         Some(given) => Some(list_of(alloc, given)?),
         None => None,
@@ -93,6 +102,16 @@ pub fn request_of<'a>(alloc: Global, words: &'a [String]) -> Result<Request<'a>,
             moment,
         },
     })
+}
+
+/// The files that these words name.
+fn files_of<'a>(alloc: Global, words: &[&'a str]) -> Result<Vec<File<'a>>, AllocError> {
+    let mut files = Vec::new(alloc);
+    for word in words {
+        let name = name_of_word(alloc, *word)?;
+        files.push(File { word: *word, name })?;
+    }
+    Ok(files)
 }
 
 fn list_of<'a>(alloc: Global, words: &[&'a str]) -> Result<Vec<&'a str>, AllocError> {

@@ -1,10 +1,13 @@
 //! Algorithms and public keys as text.
 
+use crate::any_values::push_full_null;
 use crate::hexadecimal::{push_digits, push_number_of};
 use crate::identifiers::{curve_bits, push_identifier};
+use crate::irregular::note_value;
+use crate::key_sizes::{is_point, size_of};
 use crate::labels::push_label;
 use crate::names::push_encoding;
-use crate::page::{Page, push_malformed};
+use crate::page::{Page, push_malformed, push_malformed_bits};
 use crate::place::Place;
 use crate::values::sizes;
 use der_asn1_types::asn1::{AnyRef, BitStringRef, UintRef};
@@ -40,24 +43,31 @@ pub fn push_algorithm(
     push_label(page, place, label)?;
     push_identifier(alloc, page, algorithm.oid.as_bytes())?;
     if let Some(parameters) = &algorithm.parameters {
-        push_parameters(alloc, page, parameters)?;
+        push_parameters(alloc, page, place, parameters)?;
     }
     page.text.push('\n')
 }
 
+/// Adds parameters, which stand at the end of a place.
 fn push_parameters(
     alloc: Global,
     page: &mut Page,
+    place: &Place,
     parameters: &AnyRef<'_>,
 ) -> Result<(), AllocError> {
     match parameters.header().tag {
-        Tag::Null => Ok(()),
+        Tag::Null if parameters.value().is_empty() => Ok(()),
+        Tag::Null => {
+            page.text.push_str(", parameters ")?;
+            push_full_null(page, Some(place.behind() as usize), parameters.value())
+        }
         Tag::ObjectIdentifier => {
             page.text.push_str(", ")?;
             push_identifier(alloc, page, parameters.value())
         }
         _ => {
             page.text.push_str(", parameters ")?;
+            note_value(page, parameters)?;
             push_encoding(alloc, page, parameters)
         }
     }
@@ -76,18 +86,53 @@ pub fn push_key(
     push_algorithm(alloc, page, &at.algorithm, "key algorithm", key.algorithm())?;
     push_label(page, &at.subject_public_key, "key")?;
     let bits = key.subject_public_key();
+    let end = at.subject_public_key.behind() as usize;
     match key.algorithm().oid.as_bytes() {
         oid if oid == RSA_ENCRYPTION.as_slice() || oid == RSASSA_PSS.as_slice() => {
             let begin = contents_of(octets, at.subject_public_key).offset as usize;
             push_rsa_key(alloc, page, begin.saturating_add(1), bits.raw_bytes())?
         }
         oid if oid == EC_PUBLIC_KEY.as_slice() => {
-            push_point(alloc, page, key.algorithm(), bits)?
+            push_point(alloc, page, end, key.algorithm(), bits)?
         }
         oid if oid == DSA.as_slice() => push_dsa_key(alloc, page, key.algorithm(), bits)?,
-        _ => push_bits_of(page, bits.bit_len(), bits)?,
+        oid => push_other_key(page, end, oid, bits)?,
     }
     page.text.push('\n')
+}
+
+/// Adds how many bits a key of another algorithm has, and its octets; of the algorithms of RFC 8410 a
+/// key has so many octets as section 4 says.
+fn push_other_key(
+    page: &mut Page,
+    end: usize,
+    algorithm: &[u8],
+    key: &BitStringRef<'_>,
+) -> Result<(), AllocError> {
+    match size_of(algorithm) {
+        Some(size) if !has_octets(key, size) => {
+            push_wrong_key(page, end, "no key of the algorithm", key)
+        }
+        _ => push_bits_of(page, key.bit_len(), key),
+    }
+}
+
+/// Whether a BIT STRING is so many whole octets.
+fn has_octets(bits: &BitStringRef<'_>, count: usize) -> bool {
+    bits.unused_bits() == 0 && bits.raw_bytes().len() == count
+}
+
+/// Adds that the octets of a BIT STRING, before whose end so many octets of the message stand, can be
+/// no key, and the octets.
+fn push_wrong_key(
+    page: &mut Page,
+    end: usize,
+    words: &str,
+    key: &BitStringRef<'_>,
+) -> Result<(), AllocError> {
+    push_malformed_bits(page, key.raw_bytes().len(), words, end)?;
+    page.text.push_str(", ")?;
+    push_digits(page, key.raw_bytes())
 }
 
 /// Adds how many bits a key has, and the octets of its BIT STRING.
@@ -116,11 +161,13 @@ fn push_rsa_key(
     }
 }
 
-/// Adds the bits of an element of the curve's field, if the curve has a name that is known, and the point
-/// (RFC 5480 section 2.2).
+/// Adds the bits of an element of the curve's field, if the curve has a name that is known, and the
+/// point (RFC 5480 section 2.2), before whose end so many octets of the message stand. Octets of
+/// another number than a point of the curve has are none.
 fn push_point(
     alloc: Global,
     page: &mut Page,
+    end: usize,
     algorithm: &AlgorithmIdentifier<'_>,
     point: &BitStringRef<'_>,
 ) -> Result<(), AllocError> {
@@ -131,7 +178,8 @@ fn push_point(
         _ => None,
     };
     match bits {
-        Some(bits) => push_bits_of(page, bits, point),
+        Some(bits) if is_point(point, bits) => push_bits_of(page, bits, point),
+        Some(_) => push_wrong_key(page, end, "no point of the curve", point),
         None => {
             page.text.push_str("point ")?;
             push_digits(page, point.raw_bytes())

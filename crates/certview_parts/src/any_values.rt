@@ -1,25 +1,54 @@
 //! Values whose type only their tag tells, as text.
 
+use crate::characters::Behind;
 use crate::hexadecimal::{push_digits, push_number_of, push_serial};
 use crate::identifiers::push_identifier;
+use crate::irregular::note_value;
 use crate::names::push_value;
-use crate::page::Page;
+use crate::page::{Page, push_malformed};
 use crate::times::push_date_time;
 use der_asn1_types::asn1::{AnyRef, GeneralizedTime, UtcTime};
-use der_asn1_types::{Encode, FromDer, Tag};
+use der_asn1_types::{Encode, Error, FromDer, Length, Tag};
 use std::alloc::{AllocError, Global};
 
 /// Adds a value: an identifier, a number, octets, a time or text by its tag; of another type `#` and its
-/// encoding.
-pub fn push_any(alloc: Global, page: &mut Page, value: &AnyRef<'_>) -> Result<(), AllocError> {
+/// encoding. So many octets of the message stand before its end, if that is known.
+pub fn push_any(
+    alloc: Global,
+    page: &mut Page,
+    end: Option<usize>,
+    value: &AnyRef<'_>,
+) -> Result<(), AllocError> {
     let octets = value.value();
     match value.header().tag {
         Tag::ObjectIdentifier => push_identifier(alloc, page, octets),
         Tag::OctetString => push_digits(page, octets),
-        Tag::Integer => push_integer(page, octets),
-        Tag::Null => page.text.push_str("NULL"),
+        Tag::Integer => {
+            note_value(page, value)?;
+            push_integer(page, octets)
+        }
+        Tag::Null if octets.is_empty() => page.text.push_str("NULL"),
+        Tag::Null => push_full_null(page, end, octets),
         Tag::UtcTime | Tag::GeneralizedTime => push_any_time(alloc, page, value),
-        _ => push_value(alloc, page, value),
+        _ => push_value(alloc, page, value, Behind::Mark),
+    }
+}
+
+/// Adds that a NULL has contents octets (X.690 8.8.2), before whose end so many octets of the message
+/// stand, if that is known.
+pub fn push_full_null(
+    page: &mut Page,
+    end: Option<usize>,
+    octets: &[u8],
+) -> Result<(), AllocError> {
+    let kind = Tag::Null.length_error();
+    match end {
+        Some(end) => {
+            let position = Some(Length::ZERO);
+            let begin = end.saturating_sub(octets.len());
+            push_malformed(page, begin, Error { kind, position })
+        }
+        None => push_malformed(page, 0, Error::from_kind(kind)),
     }
 }
 
@@ -42,6 +71,6 @@ fn push_any_time(alloc: Global, page: &mut Page, value: &AnyRef<'_>) -> Result<(
     }
     match GeneralizedTime::from_der(alloc, octets.as_slice()) {
         Ok(time) => push_date_time(page, &time.to_date_time()),
-        Err(_) => push_value(alloc, page, value),
+        Err(_) => push_value(alloc, page, value, Behind::Mark),
     }
 }

@@ -54,18 +54,25 @@ fn push_attribute(
         let at = places_of(attribute, octets, place.offset);
         return push_requests(alloc, page, octets, &at.values);
     }
-    push_values(alloc, page, attribute)
+    push_values(alloc, page, place, attribute)
 }
 
-/// Adds the values of an attribute, each after a comma, and ends the line.
+/// Adds the values of an attribute, each after a comma, and ends the line. One that is alone ends where
+/// the attribute does; several may stand in another order than they are shown in.
 fn push_values(
     alloc: Global,
     page: &mut Page,
+    place: &Place,
     attribute: &Attribute<'_>,
 ) -> Result<(), AllocError> {
-    for value in attribute.values().as_slice() {
+    let values = attribute.values().as_slice();
+    let end = match values.len() {
+        1 => Some(place.behind() as usize),
+        _ => None,
+    };
+    for value in values {
         page.text.push_str(", ")?;
-        push_any(alloc, page, value)?;
+        push_any(alloc, page, end, value)?;
     }
     page.text.push('\n')
 }

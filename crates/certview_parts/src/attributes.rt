@@ -1,5 +1,6 @@
 //! The value of the extension subjectDirectoryAttributes as text (RFC 5280 section 4.2.1.8).
 
+use crate::characters::Behind;
 use crate::identifiers::push_attribute_type;
 use crate::names::push_value;
 use crate::page::{Inner, Page, push_malformed};
@@ -43,7 +44,7 @@ fn push_values(alloc: Global, page: &mut Page, values: &[AnyRef<'_>]) -> Result<
     let mut mark = '=';
     for value in values {
         page.text.push(mark)?;
-        push_value(alloc, page, value)?;
+        push_value(alloc, page, value, Behind::Mark)?;
         mark = '+';
     }
     Ok(())

@@ -8,27 +8,40 @@ use crate::page::Page;
 use std::alloc::{AllocError, Global};
 use unicode::properties::{GeneralCategory, is_default_ignorable_code_point};
 
-/// Adds characters as RFC 4514 section 2.4 writes them: with a `\` before those that it escapes, before a
-/// `#` or a space that begins the text, and before a space that ends it. Characters that a terminal does
-/// not show, or that act on it, are `\` and two digits for each octet of UTF-8.
-pub fn push_escaped(page: &mut Page, characters: &str) -> Result<(), AllocError> {
+/// What may stand behind characters in a line.
+#[derive(Clone, Copy, Debug, PartialEq, Eq)]
+pub enum Behind {
+    /// A comma, a `+`, or the end of the line.
+    Mark,
+    /// A space and one of `WORDS` too.
+    Word,
+}
+
+/// The words that stand between values with a space before and behind them.
+const WORDS: [&str; 4] = ["and", "from", "to", "with"];
+
+/// Adds characters as RFC 4514 section 2.4 writes them: with a `\` before those that it escapes, before
+/// a `#` or a space that begins the text, and before a space that ends it. Where a word may stand
+/// behind them, a `\` stands before a space that comes before such a word as well. Characters that a
+/// terminal does not show, or that act on it, are `\` and two digits for each octet of UTF-8.
+pub fn push_escaped(page: &mut Page, characters: &str, behind: Behind) -> Result<(), AllocError> {
     match characters.strip_suffix(" ") {
         Some(front) => {
-            push_front(page, front)?;
+            push_front(page, front, behind)?;
             page.text.push_str("\\ ")
         }
-        None => push_front(page, characters),
+        None => push_front(page, characters, behind),
     }
 }
 
-fn push_front(page: &mut Page, characters: &str) -> Result<(), AllocError> {
-    let mut is_first = true;
-    for character in characters.chars() {
-        if is_escaped(character, is_first) {
+fn push_front(page: &mut Page, characters: &str, behind: Behind) -> Result<(), AllocError> {
+    for (index, character) in characters.char_indices() {
+        if is_escaped(character, index == 0)
+            || character == ' ' && behind == Behind::Word && is_before_word(characters, index)
+        {
             page.text.push('\\')?;
         }
         push_character(page, character)?;
-        is_first = false;
     }
     Ok(())
 }
@@ -38,6 +51,28 @@ fn is_escaped(character: char, is_first: bool) -> bool {
         '"' | '+' | ',' | ';' | '<' | '>' | '\\' => true,
         '#' | ' ' => is_first,
         _ => false,
+    }
+}
+
+/// Whether the space before which so many octets stand comes before one of the words, as a whole.
+fn is_before_word(characters: &str, index: usize) -> bool {
+    let rest = match characters.split_at_checked(index.saturating_add(1)) {
+        Some((_, rest)) => rest,
+        None => "",
+    };
+    for word in &WORDS {
+        if is_word(rest, word) {
+            return true;
+        }
+    }
+    false
+}
+
+/// Whether characters are a word, or begin with it and a space.
+fn is_word(characters: &str, word: &str) -> bool {
+    match characters.strip_prefix(word) {
+        Some(after) => after.is_empty() || after.starts_with(" "),
+        None => false,
     }
 }
 

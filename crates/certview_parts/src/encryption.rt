@@ -137,7 +137,7 @@ pub fn push_cipher(
     push_identifier(alloc, page, cipher.oid.as_bytes())?;
     if let Some(parameters) = &cipher.parameters {
         page.text.push_str(", ")?;
-        push_any(alloc, page, parameters)?;
+        push_any(alloc, page, Some(place.behind() as usize), parameters)?;
     }
     page.text.push('\n')
 }

@@ -1,7 +1,7 @@
 //! The values of the extensions of a revoked entry as text (RFC 5280 section 5.3), but for names.
 
 use crate::identifiers::push_identifier;
-use crate::page::{Inner, Page, push_malformed};
+use crate::page::{Inner, Page, push_malformed, push_malformed_inner};
 use crate::times::push_date_time;
 use der_asn1_types::FromDer;
 use der_asn1_types::asn1::Enumerated;
@@ -38,7 +38,7 @@ pub fn push_invalidity(alloc: Global, page: &mut Page, inner: Inner<'_>) -> Resu
     page.text.push_str(", ")?;
     match InvalidityDate::from_der(alloc, inner.octets) {
         Ok(time) => push_date_time(page, &time.to_date_time()),
-        Err(error) => push_malformed(page, inner.begin, error),
+        Err(error) => push_malformed_inner(page, inner, error),
     }
 }
 

@@ -9,7 +9,6 @@ use crate::identifiers::push_identifier;
 use crate::items::Items;
 use crate::key_identifiers::{push_authority_key, push_subject_key};
 use crate::labels::push_label;
-use crate::lines::{Lines, Stop};
 use crate::other_names::push_other_names;
 use crate::page::{Inner, Page};
 use crate::periods::push_period;
@@ -25,21 +24,19 @@ use std::alloc::{AllocError, Global};
 use std::fmt::Write;
 
 /// Adds a line for each extension. They stand after an explicit tag, in a list.
-pub fn push_extensions<L: Lines>(
+pub fn push_extensions(
     alloc: Global,
     page: &mut Page,
-    lines: &mut L,
     octets: &[u8],
     place: &Place,
     extensions: &[Extension<'_>],
-) -> Result<(), Stop> {
+) -> Result<(), AllocError> {
     let mut items = Items::within(octets, &contents_of(octets, *place));
     for extension in extensions {
         let place = items.next_item().unwrap_or(nowhere());
         push_label(page, &place, "extension")?;
         push_extension(alloc, page, &place, extension)?;
         page.text.push('\n')?;
-        lines.take(page)?;
     }
     Ok(())
 }

@@ -1,9 +1,10 @@
 //! The names of all fields.
 
 /// The name of each field that a message may have: its label, with a `-` for each space.
-pub const FIELDS: [&str; 119] = [
+pub const FIELDS: [&str; 125] = [
     "a",
     "accuracy",
+    "alias",
     "at",
     "attribute",
     "attribute-certificate",
@@ -58,6 +59,7 @@ pub const FIELDS: [&str; 119] = [
     "key-algorithm",
     "key-derivation",
     "key-encryption",
+    "key-identifier",
     "key-length",
     "keying-material",
     "length-of-a-private-value",
@@ -75,6 +77,7 @@ pub const FIELDS: [&str; 119] = [
     "order",
     "originator",
     "other-primes",
+    "other-setting",
     "p",
     "parameters",
     "parameters-of-the-field",
@@ -94,6 +97,7 @@ pub const FIELDS: [&str; 119] = [
     "recipient-of-another-kind",
     "recipient-with-the-key",
     "recipients",
+    "rejected-use",
     "requestor",
     "responder",
     "response",
@@ -115,6 +119,8 @@ pub const FIELDS: [&str; 119] = [
     "this-update",
     "time",
     "time-stamp",
+    "trust-settings",
+    "trusted-use",
     "unauthenticated-attribute",
     "unprotected-attribute",
     "unsigned-attribute",

@@ -3,16 +3,19 @@
 use crate::content_names::CONTENTS;
 use crate::hexadecimal::push_digits;
 use crate::identifier_names::{ALGORITHMS, ATTRIBUTES, CURVES, EXTENSIONS, Named, PURPOSES};
+use crate::irregular::note_identifier;
 use crate::page::Page;
 use std::alloc::{AllocError, Global};
 use std::fmt::Write;
 
-/// Adds the identifier of these contents octets, and its name in brackets where it has one here.
+/// Adds the identifier of these contents octets, and its name in brackets where it has one here. Octets
+/// that are none are noted.
 pub fn push_identifier(
     alloc: Global,
     page: &mut Page,
     identifier: &[u8],
 ) -> Result<(), AllocError> {
+    note_identifier(page, identifier)?;
     let dotted = dotted(alloc, identifier)?;
     page.text.push_str(dotted.as_str())?;
     match name_of(dotted.as_str()) {
@@ -27,6 +30,7 @@ pub fn push_attribute_type(
     page: &mut Page,
     identifier: &[u8],
 ) -> Result<(), AllocError> {
+    note_identifier(page, identifier)?;
     let dotted = dotted(alloc, identifier)?;
     match name_in(&ATTRIBUTES, dotted.as_str()) {
         Some(name) => page.text.push_str(name),

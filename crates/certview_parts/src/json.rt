@@ -261,7 +261,7 @@ fn push_fault(
         Some(number) => write!(out, "{number}")?,
         None => out.push_str("null")?,
     }
-    let words = quoted(alloc, page.part(fault.words))?;
+    let words = quoted(alloc, page.words_of(fault))?;
     write!(out, ", \"words\": {words}, \"position\": ")?;
     match fault.position {
         Some(position) => write!(out, "{position}")?,

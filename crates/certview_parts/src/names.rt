@@ -1,8 +1,9 @@
 //! Names as text (RFC 4514, in the order in which the attributes stand).
 
-use crate::characters::push_escaped;
+use crate::characters::{Behind, push_escaped};
 use crate::hexadecimal::push_digits;
 use crate::identifiers::push_attribute_type;
+use crate::irregular::note_value;
 use crate::labels::push_label;
 use crate::page::Page;
 use crate::place::Place;
@@ -32,7 +33,7 @@ pub fn push_kept<'a>(
     name: Kept<'a, Name<'a>>,
 ) -> Result<(), AllocError> {
     match name.value(alloc) {
-        Ok(name) => push_places(alloc, page, name.as_slice()),
+        Ok(name) => push_places(alloc, page, name.as_slice(), Behind::Mark),
         Err(_) => Err(AllocError),
     }
 }
@@ -42,6 +43,7 @@ pub fn push_places(
     alloc: Global,
     page: &mut Page,
     places: &[RelativeDistinguishedName<'_>],
+    behind: Behind,
 ) -> Result<(), AllocError> {
     let mut is_first = true;
     for place in places {
@@ -49,7 +51,7 @@ pub fn push_places(
             page.text.push_str(", ")?;
         }
         is_first = false;
-        push_attributes(alloc, page, place.as_slice())?;
+        push_attributes(alloc, page, place.as_slice(), behind)?;
     }
     Ok(())
 }
@@ -59,6 +61,7 @@ pub fn push_attributes(
     alloc: Global,
     page: &mut Page,
     attributes: &[AttributeTypeAndValue<'_>],
+    behind: Behind,
 ) -> Result<(), AllocError> {
     let mut is_first = true;
     for attribute in attributes {
@@ -66,7 +69,7 @@ pub fn push_attributes(
             page.text.push('+')?;
         }
         is_first = false;
-        push_attribute(alloc, page, attribute)?;
+        push_attribute(alloc, page, attribute, behind)?;
     }
     Ok(())
 }
@@ -76,20 +79,28 @@ pub fn push_attribute(
     alloc: Global,
     page: &mut Page,
     attribute: &AttributeTypeAndValue<'_>,
+    behind: Behind,
 ) -> Result<(), AllocError> {
     let identifier = attribute.type_();
     push_attribute_type(alloc, page, identifier.as_bytes())?;
     page.text.push('=')?;
-    push_value(alloc, page, attribute.value())
+    push_value(alloc, page, attribute.value(), behind)
 }
 
-/// Adds a value: the characters of a string type, or else `#` and its encoding.
-pub fn push_value(alloc: Global, page: &mut Page, value: &AnyRef<'_>) -> Result<(), AllocError> {
+/// Adds a value: the characters of a string type, or else `#` and its encoding. Contents octets that
+/// are none of its type are noted.
+pub fn push_value(
+    alloc: Global,
+    page: &mut Page,
+    value: &AnyRef<'_>,
+    behind: Behind,
+) -> Result<(), AllocError> {
+    note_value(page, value)?;
     let octets = value.value();
     match value.header().tag {
-        Tag::BmpString => push_units(alloc, page, value),
+        Tag::BmpString => push_units(alloc, page, value, behind),
         tag if is_text(tag, octets) => match str::from_utf8(octets) {
-            Ok(characters) => push_escaped(page, characters),
+            Ok(characters) => push_escaped(page, characters, behind),
             Err(_) => push_encoding(alloc, page, value),
         },
         _ => push_encoding(alloc, page, value),
@@ -111,10 +122,15 @@ fn is_text(tag: Tag, octets: &[u8]) -> bool {
 }
 
 /// Adds the characters of a BMPString; its encoding where these are not all characters.
-fn push_units(alloc: Global, page: &mut Page, value: &AnyRef<'_>) -> Result<(), AllocError> {
+fn push_units(
+    alloc: Global,
+    page: &mut Page,
+    value: &AnyRef<'_>,
+    behind: Behind,
+) -> Result<(), AllocError> {
     let mut characters = String::new(alloc);
     if push_characters(&mut characters, value.value())? {
-        return push_escaped(page, characters.as_str());
+        return push_escaped(page, characters.as_str(), behind);
     }
     push_encoding(alloc, page, value)
 }

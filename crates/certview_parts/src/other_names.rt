@@ -1,6 +1,6 @@
 //! Names of other kinds than those of directories, as text (RFC 5280 section 4.2.1.6).
 
-use crate::characters::push_escaped;
+use crate::characters::{Behind, push_escaped};
 use crate::hexadecimal::push_digits;
 use crate::identifiers::push_identifier;
 use crate::names::{push_places, push_value};
@@ -41,7 +41,7 @@ pub fn push_names(
     Ok(())
 }
 
-/// Adds a name: what it is of, and its value.
+/// Adds a name: what it is of, and its value, behind which a word may stand.
 pub fn push_other_name(
     alloc: Global,
     page: &mut Page,
@@ -53,13 +53,13 @@ pub fn push_other_name(
             let identifier = other.value.type_id();
             push_identifier(alloc, page, identifier.as_bytes())?;
             page.text.push(' ')?;
-            push_value(alloc, page, other.value.value())
+            push_value(alloc, page, other.value.value(), Behind::Word)
         }
         GeneralName::Rfc822Name(mail) => push_text(page, "mail ", mail.value.as_str()),
         GeneralName::DnsName(host) => push_text(page, "host ", host.value.as_str()),
         GeneralName::DirectoryName(directory) => {
             page.text.push_str("directory ")?;
-            push_places(alloc, page, directory.fields.first.as_slice())
+            push_places(alloc, page, directory.fields.first.as_slice(), Behind::Word)
         }
         GeneralName::UniformResourceIdentifier(resource) => {
             push_text(page, "resource ", resource.value.as_str())
@@ -90,7 +90,7 @@ fn push_whole(
 
 fn push_text(page: &mut Page, kind: &str, name: &str) -> Result<(), AllocError> {
     page.text.push_str(kind)?;
-    push_escaped(page, name)
+    push_escaped(page, name, Behind::Word)
 }
 
 /// Adds an address: four numbers of four octets, of sixteen as RFC 5952 writes it, and of a range the

@@ -1,8 +1,10 @@
 //! The fields of messages as they are found, before they are written.
 
 use crate::asked::Asked;
+use crate::early::{EARLY, is_early};
+use crate::encoding_rules::words_of_ber;
 use crate::place::Place;
-use der_asn1_types::{Error, ErrorKind};
+use der_asn1_types::{Error, ErrorKind, Tag};
 use std::alloc::{AllocError, Global};
 use std::fmt::Write;
 
@@ -16,9 +18,11 @@ pub struct Page {
     pub items: Vec<Item>,
     /// What is wrong, in the order of the items that it is said of.
     pub faults: Vec<Said>,
+    /// The words of what is wrong that the items do not say, one after another.
+    pub notes: String,
     /// What is asked of a message besides its fields.
     pub asked: Asked,
-    /// Whether a part could not be read, of which the line says so.
+    /// Whether a part could not be read, of which the line says so, or is shown and is none of its type.
     pub is_partial: bool,
     /// Whether a message breaks a rule, or is not valid at the moment that is asked for.
     pub has_findings: bool,
@@ -50,7 +54,7 @@ pub enum ItemKind {
     Refused,
 }
 
-/// What is wrong with an item, as its text says it.
+/// What is wrong with an item, as its text says it, or the notes.
 #[derive(Clone, Copy, Debug, PartialEq, Eq)]
 pub struct Said {
     /// How many items stand before the one that it is said of.
@@ -59,6 +63,8 @@ pub struct Said {
     pub number: Option<u8>,
     /// Where the words stand.
     pub words: Span,
+    /// Whether they stand in the notes, and not in the text.
+    pub is_noted: bool,
     /// How many octets of the message had been read.
     pub position: Option<usize>,
     /// Where the name of the field stands, if the fault has one.
@@ -86,6 +92,7 @@ impl Page {
             text: String::new(alloc),
             items: Vec::new(alloc),
             faults: Vec::new(alloc),
+            notes: String::new(alloc),
             asked,
             is_partial: false,
             has_findings: false,
@@ -100,13 +107,6 @@ impl Page {
             }
         }
         false
-    }
-
-    /// Drops all items.
-    pub fn clear(&mut self) {
-        self.text.clear();
-        self.items.clear();
-        self.faults.clear();
     }
 
     /// Begins an item that is called so. What it says is added to the text, and a line feed.
@@ -131,20 +131,45 @@ impl Page {
             item,
             number,
             words,
+            is_noted: false,
             position,
             field,
         })?;
         Ok(())
     }
 
+    /// Notes that a value of the last item, which is shown, has contents octets with this fault.
+    pub fn note(&mut self, kind: ErrorKind) -> Result<(), AllocError> {
+        let begin = self.notes.len();
+        write!(self.notes, "{kind}")?;
+        let words = Span {
+            begin,
+            end: self.notes.len(),
+        };
+        let item = self.items.len().saturating_sub(1);
+        self.is_partial = true;
+        self.faults.push(Said {
+            item,
+            number: Some(kind.number()),
+            words,
+            is_noted: true,
+            position: None,
+            field: Span::nothing(),
+        })?;
+        Ok(())
+    }
+
     /// The part of the text that stands there.
     pub fn part(&self, span: Span) -> &str {
-        let Some((front, _)) = self.text.as_str().split_at_checked(span.end) else {
-            return "";
-        };
-        match front.split_at_checked(span.begin) {
-            Some((_, part)) => part,
-            None => "",
+        part_of(self.text.as_str(), span)
+    }
+
+    /// The words of a fault.
+    pub fn words_of(&self, fault: &Said) -> &str {
+        if fault.is_noted {
+            part_of(self.notes.as_str(), fault.words)
+        } else {
+            self.part(fault.words)
         }
     }
 
@@ -170,6 +195,17 @@ impl Page {
     }
 }
 
+/// The part of a text that stands there; nothing where it is not all there.
+fn part_of(text: &str, span: Span) -> &str {
+    let Some((front, _)) = text.split_at_checked(span.end) else {
+        return "";
+    };
+    match front.split_at_checked(span.begin) {
+        Some((_, part)) => part,
+        None => "",
+    }
+}
+
 impl Span {
     /// No octets.
     pub fn nothing() -> Span {
@@ -190,15 +226,64 @@ pub struct Inner<'a> {
 /// unless memory ran out: the number of the fault, its words, and how many octets of the message had been
 /// read.
 pub fn push_malformed(page: &mut Page, begin: usize, error: Error) -> Result<(), AllocError> {
-    let place = place_of(&error, begin);
-    let kind = error.kind();
+    push_fault(page, begin, &error, false)
+}
+
+/// The same of octets in which a time may stand: one before 1970 has words of its own.
+pub fn push_malformed_inner(
+    page: &mut Page,
+    inner: Inner<'_>,
+    error: Error,
+) -> Result<(), AllocError> {
+    let is_early = is_early(inner.octets, &error);
+    push_fault(page, inner.begin, &error, is_early)
+}
+
+fn push_fault(
+    page: &mut Page,
+    begin: usize,
+    error: &Error,
+    is_early: bool,
+) -> Result<(), AllocError> {
+    let place = place_of(error, begin);
+    let kind = error.kind;
     if kind == ErrorKind::Memory {
         return Err(AllocError);
     }
     page.is_partial = true;
     let number = kind.number();
     write!(page.text, "malformed ({number}: ")?;
-    let words = push_words(page, &error)?;
+    let words = push_words(page, error, is_early)?;
+    end_fault(page, number, words, place)
+}
+
+/// Adds `malformed`, and that so many contents octets of a BIT STRING are none of what it is to hold;
+/// so many octets of the message stand before its end.
+pub fn push_malformed_bits(
+    page: &mut Page,
+    count: usize,
+    words: &str,
+    end: usize,
+) -> Result<(), AllocError> {
+    page.is_partial = true;
+    let number = Tag::BitString.value_error().number();
+    write!(page.text, "malformed ({number}: ")?;
+    let begin = page.text.len();
+    write!(page.text, "{count} octets, which are {words}")?;
+    let words = Span {
+        begin,
+        end: page.text.len(),
+    };
+    end_fault(page, number, words, Some(end))
+}
+
+/// Ends what is said of a fault, and notes it.
+fn end_fault(
+    page: &mut Page,
+    number: u8,
+    words: Span,
+    place: Option<usize>,
+) -> Result<(), AllocError> {
     page.text.push(')')?;
     page.say(Some(number), words, place, Span::nothing())?;
     match place {
@@ -207,11 +292,16 @@ pub fn push_malformed(page: &mut Page, begin: usize, error: Error) -> Result<(),
     }
 }
 
-/// Adds the words of a fault, and answers where they stand.
-pub fn push_words(page: &mut Page, error: &Error) -> Result<Span, AllocError> {
+/// Adds the words of a fault, which may be that of a time before 1970, and answers where they stand.
+pub fn push_words(page: &mut Page, error: &Error, is_early: bool) -> Result<Span, AllocError> {
     let begin = page.text.len();
-    let kind = error.kind();
-    write!(page.text, "{kind}")?;
+    let kind = error.kind;
+    if is_early {
+        page.text.push_str(EARLY)?;
+    } else {
+        write!(page.text, "{kind}")?;
+        page.text.push_str(words_of_ber(&kind))?;
+    }
     Ok(Span {
         begin,
         end: page.text.len(),

@@ -1,6 +1,6 @@
 //! The value of the extension privateKeyUsagePeriod as text (RFC 3280 section 4.2.1.4).
 
-use crate::page::{Inner, Page, push_malformed};
+use crate::page::{Inner, Page, push_malformed_inner};
 use crate::times::push_date_time;
 use der_asn1_types::FromDer;
 use der_asn1_types::asn1::GeneralizedTime;
@@ -16,7 +16,7 @@ pub fn push_period(alloc: Global, page: &mut Page, inner: Inner<'_>) -> Result<(
         }
         Err(error) => {
             page.text.push_str(", ")?;
-            push_malformed(page, inner.begin, error)
+            push_malformed_inner(page, inner, error)
         }
     }
 }

@@ -1,6 +1,7 @@
 //! The values of the extensions cRLDistributionPoints and freshestCRL as text (RFC 5280 sections 4.2.1.13
 //! and 4.2.1.15), which have one form, and of issuingDistributionPoint (section 5.2.5).
 
+use crate::characters::Behind;
 use crate::names::push_attributes;
 use crate::other_names::push_names;
 use crate::page::{Inner, Page, push_malformed};
@@ -131,7 +132,7 @@ fn push_point_name(
         ),
         DistributionPointName::NameRelativeToCrlIssuer(name) => {
             page.text.push_str(", relative ")?;
-            push_attributes(alloc, page, name.value.as_slice())
+            push_attributes(alloc, page, name.value.as_slice(), Behind::Mark)
         }
     }
 }

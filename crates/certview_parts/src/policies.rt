@@ -1,6 +1,7 @@
 //! The values of the extensions certificatePolicies and policyMappings as text (RFC 5280 sections 4.2.1.4
 //! and 4.2.1.5).
 
+use crate::characters::Behind;
 use crate::identifiers::push_identifier;
 use crate::names::push_value;
 use crate::page::{Inner, Page, push_malformed};
@@ -61,7 +62,7 @@ fn push_qualifier(
     qualifier: &AnyRef<'_>,
 ) -> Result<(), AllocError> {
     if qualifier.header().tag != Tag::Sequence {
-        return push_value(alloc, page, qualifier);
+        return push_value(alloc, page, qualifier, Behind::Word);
     }
     let Ok(octets) = qualifier.to_der(alloc) else {
         return Err(AllocError);
@@ -69,19 +70,19 @@ fn push_qualifier(
     match Vec::<AnyRef<'_>>::from_der(alloc, octets.as_slice()) {
         Ok(parts) => push_parts(alloc, page, parts.as_slice()),
         Err(error) if error.kind() == ErrorKind::Memory => Err(AllocError),
-        Err(_) => push_value(alloc, page, qualifier),
+        Err(_) => push_value(alloc, page, qualifier, Behind::Word),
     }
 }
 
-/// Adds the parts of a notice, with a space between two: a text as it is, others as they are encoded.
+/// Adds the parts of a notice, with `and` between two: a text as it is, others as they are encoded.
 fn push_parts(alloc: Global, page: &mut Page, parts: &[AnyRef<'_>]) -> Result<(), AllocError> {
     let mut is_first = true;
     for part in parts {
         if !is_first {
-            page.text.push(' ')?;
+            page.text.push_str(" and ")?;
         }
         is_first = false;
-        push_value(alloc, page, part)?;
+        push_value(alloc, page, part, Behind::Word)?;
     }
     Ok(())
 }

@@ -53,7 +53,10 @@ pub fn push_private(
 fn push_one(alloc: Global, page: &mut Page, inner: Inner<'_>) -> Result<(), AllocError> {
     page.text.push_str(", ")?;
     match AnyRef::from_der(alloc, inner.octets) {
-        Ok(value) => push_any(alloc, page, &value),
+        Ok(value) => {
+            let end = inner.begin.saturating_add(inner.octets.len());
+            push_any(alloc, page, Some(end), &value)
+        }
         Err(error) => push_malformed(page, inner.begin, error),
     }
 }

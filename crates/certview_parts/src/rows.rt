@@ -1,11 +1,11 @@
 //! Lines of one value each.
 
 use crate::algorithms::bits_of;
-use crate::characters::push_escaped;
+use crate::characters::{Behind, push_escaped};
 use crate::hexadecimal::{push_digits, push_number_of, push_serial};
 use crate::identifiers::push_identifier;
 use crate::labels::push_label;
-use crate::page::{Page, push_malformed};
+use crate::page::{Inner, Page, push_malformed, push_malformed_inner};
 use crate::place::Place;
 use crate::times::push_date_time;
 use der_asn1_types::{DateTime, Error};
@@ -59,7 +59,7 @@ pub fn push_text_row(
     text: &str,
 ) -> Result<(), AllocError> {
     push_label(page, place, label)?;
-    push_escaped(page, text)?;
+    push_escaped(page, text, Behind::Mark)?;
     page.text.push('\n')
 }
 
@@ -142,5 +142,18 @@ pub fn push_malformed_row(
 ) -> Result<(), AllocError> {
     push_label(page, place, label)?;
     push_malformed(page, begin, error)?;
+    page.text.push('\n')
+}
+
+/// The same of octets in which a time may stand: one before 1970 has words of its own.
+pub fn push_malformed_inner_row(
+    page: &mut Page,
+    place: &Place,
+    label: &str,
+    inner: Inner<'_>,
+    error: Error,
+) -> Result<(), AllocError> {
+    push_label(page, place, label)?;
+    push_malformed_inner(page, inner, error)?;
     page.text.push('\n')
 }

@@ -42,7 +42,11 @@ pub fn push_stamps(alloc: Global, page: &mut Page, inner: Inner<'_>) -> Result<(
     }
 }
 
+/// Adds the timestamps of a list, of which there is at least one.
 fn push_each(page: &mut Page, begin: usize, list: &[u8]) -> Result<(), AllocError> {
+    if list.is_empty() {
+        return push_wrong(page, begin);
+    }
     let mut rest = list;
     for _ in 0..list.len() {
         if rest.is_empty() {

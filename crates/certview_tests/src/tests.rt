@@ -2,9 +2,12 @@
 
 mod blocks;
 mod documents;
+mod dsa;
+mod encoding_rules;
 mod examples;
 mod extensions;
 mod faults;
+mod irregular;
 mod key_files;
 mod kinds;
 mod lines;
@@ -16,6 +19,7 @@ mod requests;
 mod signed_messages;
 mod stamps;
 mod statuses;
+mod trust_settings;
 mod whole_texts;
 
 use crate::tests::messages::{ED25519, RSA};

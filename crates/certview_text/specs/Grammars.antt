@@ -11,8 +11,9 @@ use Rattle.der_pkcs.specs.Algorithm.Grammar.{dss_parms, dh_parameter, domain_par
 use Rattle.der_ocsp.specs.Ocsp.Grammar.{ocsp_request, ocsp_response}
 use Rattle.der_cms.specs.Cms.Grammar.{content_info}
 use Rattle.der_time_stamp.specs.TimeStamp.Grammar.{time_stamp_req, time_stamp_resp}
+use Rattle.certview_text.specs.Dsa.{dsa_private_key}
 use Rattle.certview_text.specs.declared.kind.Kind.{Kind}
-use Rattle.certview_text.specs.declared.kind.Kind.TheVariants.{Certificate, RevocationList, PublicKey, PrivateKey, RsaPrivateKey, RsaPublicKey, EcPrivateKey, CertificationRequest, EncryptedPrivateKey, OcspRequest, OcspResponse, Cms, TimeStampQuery, TimeStampReply, Pkcs12, EcParameters, DsaParameters, DhParameters, X942Parameters}
+use Rattle.certview_text.specs.declared.kind.Kind.TheVariants.{Certificate, RevocationList, PublicKey, PrivateKey, RsaPrivateKey, RsaPublicKey, EcPrivateKey, DsaPrivateKey, CertificationRequest, EncryptedPrivateKey, OcspRequest, OcspResponse, Cms, TimeStampQuery, TimeStampReply, Pkcs12, EcParameters, DsaParameters, DhParameters, X942Parameters}
 
 -- what octets of a kind are read by
 abbrev pub grammar_of : Kind → Parse
@@ -23,6 +24,7 @@ grammar_of PrivateKey = parse_of private_key_info
 grammar_of RsaPrivateKey = parse_of rsa_private_key
 grammar_of RsaPublicKey = parse_of rsa_public_key
 grammar_of EcPrivateKey = parse_of ec_private_key
+grammar_of DsaPrivateKey = parse_of dsa_private_key
 grammar_of CertificationRequest = parse_of certification_request
 grammar_of EncryptedPrivateKey = parse_of encrypted_private_key_info
 grammar_of OcspRequest = parse_of ocsp_request

@@ -1,13 +1,29 @@
 -- What kind of message octets are, by the tags of their fields.
 use Rattle.std.specs.Prelude.{ℕ, List, [], ◌∷◌, Bool, false, not, ◌==◌, ◌||◌, ◌&&◌, if◌then◌else◌}
 use Rattle.certview_text.specs.declared.kind.Kind.{Kind}
-use Rattle.certview_text.specs.declared.kind.Kind.TheVariants.{Certificate, RevocationList, PublicKey, PrivateKey, RsaPrivateKey, RsaPublicKey, EcPrivateKey, CertificationRequest, EncryptedPrivateKey, OcspRequest, OcspResponse, Cms, TimeStampQuery, TimeStampReply, Pkcs12, EcParameters, DsaParameters, X942Parameters}
+use Rattle.certview_text.specs.declared.kind.Kind.TheVariants.{Certificate, RevocationList, PublicKey, PrivateKey, RsaPrivateKey, RsaPublicKey, EcPrivateKey, DsaPrivateKey, CertificationRequest, EncryptedPrivateKey, OcspRequest, OcspResponse, Cms, TimeStampQuery, TimeStampReply, Pkcs12, EcParameters, DsaParameters, X942Parameters}
 use Rattle.certview_parts.specs.Values.{after_header, after_value, contents}
 
 -- whether the first value has this identifier octet
 abbrev pub has_tag : ℕ → List ℕ → Bool
 has_tag tag [] = false
 has_tag tag (octet ∷ others) = octet == tag
+
+-- what stands after the first header, of which the length octet of an indefinite length is 80 hexadecimal (X.690 8.1.3.6)
+abbrev pub fields_of : List ℕ → List ℕ
+fields_of [] = after_header []
+fields_of (tag ∷ []) = after_header (tag ∷ [])
+fields_of (tag ∷ (octet ∷ fields)) = if octet == 128 then fields else after_header (tag ∷ (octet ∷ fields))
+
+-- the contents octets of the first value; of one with an indefinite length, all that stands after its header
+abbrev pub fields_within : List ℕ → List ℕ
+fields_within [] = contents []
+fields_within (tag ∷ []) = contents (tag ∷ [])
+fields_within (tag ∷ (octet ∷ fields)) = if octet == 128 then fields else contents (tag ∷ (octet ∷ fields))
+
+-- whether octets begin as a message: with a SEQUENCE (30 hexadecimal), or as ECParameters that are a name (6) or NULL (5)
+abbrev pub begins_message : List ℕ → Bool
+begins_message octets = has_tag 48 octets || has_tag 6 octets || has_tag 5 octets
 
 -- a UTCTime (17 hexadecimal) or a GeneralizedTime (18)
 abbrev pub has_time_tag : List ℕ → Bool
@@ -52,15 +68,20 @@ sequence_kind fields others =
 abbrev pub structure_kind : List ℕ → Kind
 structure_kind others =
     if has_tag 4 (after_value others) then PrivateKey
-    else (if has_tag 48 (contents others) then TimeStampQuery
-    else (if has_tag 160 (after_value (contents others)) then Pkcs12
+    else (if has_tag 48 (fields_within others) then TimeStampQuery
+    else (if has_tag 160 (after_value (fields_within others)) then Pkcs12
     else (if has_tag 48 (after_value others) then EcParameters else PrivateKey)))
 
--- Of what follows three INTEGERs: two more, those of an RSAPrivateKey; one or a SEQUENCE, of the parameters of Diffie-Hellman as
+-- Of what follows five INTEGERs: one more and no other, the last of a private key of DSA; else those of an RSAPrivateKey.
+abbrev pub primes_kind : List ℕ → Kind
+primes_kind others =
+    if has_tag 2 others && not (has_tag 2 (after_value others)) then DsaPrivateKey else RsaPrivateKey
+
+-- Of what follows three INTEGERs: two more, those of a private key; one or a SEQUENCE, of the parameters of Diffie-Hellman as
 -- X9.42 has them; nothing, the three of the parameters of DSA.
 abbrev pub numbers_kind : List ℕ → Kind
 numbers_kind others =
-    if has_tag 2 others then (if has_tag 2 (after_value others) then RsaPrivateKey else X942Parameters)
+    if has_tag 2 others then (if has_tag 2 (after_value others) then primes_kind (after_value (after_value others)) else X942Parameters)
     else (if has_tag 48 others then X942Parameters else DsaParameters)
 
 -- Of what follows a first INTEGER: a SEQUENCE; an OCTET STRING, the key of an ECPrivateKey; one INTEGER, the exponent of an
@@ -77,9 +98,9 @@ abbrev pub kind_of_fields : List ℕ → Kind
 kind_of_fields fields =
     if has_tag 2 fields then key_kind (after_value fields)
     else (if has_tag 6 fields then Cms
-    else (if has_tag 10 fields then OcspResponse else sequence_kind (contents fields) (after_value fields)))
+    else (if has_tag 10 fields then OcspResponse else sequence_kind (fields_within fields) (after_value fields)))
 
 -- What kind of message octets are: ECParameters that are a name or NULL, or else by the fields of a SEQUENCE.
 abbrev pub kind_of : List ℕ → Kind
 kind_of octets =
-    if has_tag 6 octets || has_tag 5 octets then EcParameters else kind_of_fields (after_header octets)
+    if has_tag 6 octets || has_tag 5 octets then EcParameters else kind_of_fields (fields_of octets)

@@ -1,3 +1,4 @@
+pub mod Dsa
 pub mod Faults
 pub mod Grammars
 pub mod Kinds

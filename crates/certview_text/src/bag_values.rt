@@ -6,7 +6,9 @@ use crate::keys::push_secret;
 use certview_parts::algorithms::push_algorithm;
 use certview_parts::page::Page;
 use certview_parts::place::{Place, contents_at, inner_at};
-use certview_parts::rows::{push_identifier_row, push_length_row, push_malformed_row};
+use certview_parts::rows::{
+    push_identifier_row, push_length_row, push_malformed_inner_row, push_malformed_row,
+};
 use certview_parts::signatures::push_certificate_row;
 use der_asn1_types::FromDer;
 use der_pkcs::encryption::EncryptedPrivateKeyInfo;
@@ -111,7 +113,7 @@ fn push_held_certificate(
             let place = contents_of(octets, *string);
             push_certificate_row(alloc, page, &place, &certificate)
         }
-        Err(error) => push_malformed_row(page, string, "certificate", inner.begin, error),
+        Err(error) => push_malformed_inner_row(page, string, "certificate", inner, error),
     }
 }
 
@@ -150,6 +152,6 @@ fn push_held_list(
             let place = contents_of(octets, *string);
             push_list_row(alloc, page, &place, &list)
         }
-        Err(error) => push_malformed_row(page, string, "list", inner.begin, error),
+        Err(error) => push_malformed_inner_row(page, string, "list", inner, error),
     }
 }

@@ -11,9 +11,9 @@ use crate::path::{IN_FIELD, Path};
 use crate::pem::{Block, Blocks, octets_of};
 use crate::readable::push_parts;
 use crate::text::push_message;
+use crate::trust_settings::{count_of_message, push_trust_settings};
 use certview_parts::hexadecimal::push_with_colons;
 use certview_parts::labels::push_label;
-use certview_parts::lines::{Lines, Stop};
 use certview_parts::page::{ItemKind, Page, Span, push_words};
 use certview_parts::place::nowhere;
 use der_asn1_types::Error;
@@ -24,19 +24,17 @@ use std::fmt::Write;
 /// Adds the fields of a message, and its fingerprint where that is asked for.
 ///
 /// # Errors
-/// `Refused` for octets that are no message of the kind; `Output` where the lines are not taken;
-/// `Memory`.
-pub fn push_octets<L: Lines>(
+/// `Refused` for octets that are no message of the kind; `Memory`.
+pub fn push_octets(
     alloc: Global,
     page: &mut Page,
-    lines: &mut L,
     has_fingerprint: bool,
     kind: Kind,
     octets: &[u8],
 ) -> Result<(), Fault>
     ensures { OnOk result (first_fault (grammar_of kind) octets.now ≡ None) }
 {
-    match push_message(alloc, page, lines, kind, octets) {
+    match push_message(alloc, page, kind, octets) {
         Ok(()) if has_fingerprint => Ok(push_fingerprint(page, kind, octets)?),
         Ok(()) => Ok(()),
         Err(fault) => Err(fault),
@@ -59,35 +57,32 @@ fn push_fingerprint(page: &mut Page, kind: Kind, octets: &[u8]) -> Result<(), Al
 /// that is refused among others is a line with its fault.
 ///
 /// # Errors
-/// The fault of the first block, where no block is shown; `Output` where the lines are not taken;
-/// `Memory`.
-pub fn push_blocks<L: Lines>(
+/// The fault of the first block, where no block is shown; `Memory`.
+pub fn push_blocks(
     alloc: Global,
     page: &mut Page,
-    lines: &mut L,
     has_fingerprint: bool,
     text: &[u8],
 ) -> Result<(), Fault> {
     let count = Blocks::count(text);
     if count < 2 {
-        return push_first(alloc, page, lines, has_fingerprint, text);
+        return push_first(alloc, page, has_fingerprint, text);
     }
-    match push_each(alloc, page, lines, has_fingerprint, text, count) {
-        Ok(0) => push_first(alloc, page, lines, has_fingerprint, text),
+    match push_each(alloc, page, has_fingerprint, text, count) {
+        Ok(0) => push_first(alloc, page, has_fingerprint, text),
         Ok(_) => Ok(()),
-        Err(stop) => Err(Fault::from(stop)),
+        Err(error) => Err(Fault::from(error)),
     }
 }
 
 /// Adds each of so many blocks, and answers of how many a message is shown.
-fn push_each<L: Lines>(
+fn push_each(
     alloc: Global,
     page: &mut Page,
-    lines: &mut L,
     has_fingerprint: bool,
     text: &[u8],
     count: usize,
-) -> Result<usize, Stop> {
+) -> Result<usize, AllocError> {
     let mut blocks = Blocks::of(text);
     let mut shown: usize = 0;
     for number in 0..count {
@@ -95,77 +90,63 @@ fn push_each<L: Lines>(
             break;
         };
         push_heading(page, number, count, &block)?;
-        if push_or_tell(alloc, page, lines, has_fingerprint, &block)? {
+        if push_or_tell(alloc, page, has_fingerprint, &block)? {
             shown = shown.saturating_add(1);
         }
-        lines.take(page)?;
     }
     Ok(shown)
 }
 
 /// Adds the message of the first block.
-fn push_first<L: Lines>(
+fn push_first(
     alloc: Global,
     page: &mut Page,
-    lines: &mut L,
     has_fingerprint: bool,
     text: &[u8],
 ) -> Result<(), Fault> {
     let mut blocks = Blocks::of(text);
     match blocks.next_block() {
-        Some(block) => push_block(alloc, page, lines, has_fingerprint, &block),
+        Some(block) => push_block(alloc, page, has_fingerprint, &block),
         None => Err(Fault::NoEnd),
     }
 }
 
 /// Adds the message of one of several blocks, or the line of one that is refused; answers whether the
 /// message is shown.
-fn push_or_tell<L: Lines>(
+fn push_or_tell(
     alloc: Global,
     page: &mut Page,
-    lines: &mut L,
     has_fingerprint: bool,
     block: &Block<'_>,
-) -> Result<bool, Stop> {
-    match push_block(alloc, page, lines, has_fingerprint, block) {
+) -> Result<bool, AllocError> {
+    match push_block(alloc, page, has_fingerprint, block) {
         Ok(()) => Ok(true),
-        Err(Fault::Memory) => Err(Stop::Memory),
-        Err(Fault::Output) => Err(Stop::Output),
+        Err(Fault::Memory) => Err(AllocError),
         Err(fault) => {
             push_refused(page, fault)?;
-            push_block_parts(alloc, page, lines, block)?;
+            push_block_parts(alloc, page, block)?;
             Ok(false)
         }
     }
 }
 
 /// Adds what can be read of the message of the first block.
-pub fn push_first_parts<L: Lines>(
-    alloc: Global,
-    page: &mut Page,
-    lines: &mut L,
-    text: &[u8],
-) -> Result<(), Stop> {
+pub fn push_first_parts(alloc: Global, page: &mut Page, text: &[u8]) -> Result<(), AllocError> {
     let mut blocks = Blocks::of(text);
     match blocks.next_block() {
-        Some(block) => push_block_parts(alloc, page, lines, &block),
+        Some(block) => push_block_parts(alloc, page, &block),
         None => Ok(()),
     }
 }
 
 /// Adds what can be read of the message of a block that is refused.
-fn push_block_parts<L: Lines>(
-    alloc: Global,
-    page: &mut Page,
-    lines: &mut L,
-    block: &Block<'_>,
-) -> Result<(), Stop> {
+fn push_block_parts(alloc: Global, page: &mut Page, block: &Block<'_>) -> Result<(), AllocError> {
     let Some(kind) = kind_with(block.label) else {
         return Ok(());
     };
     match octets_of(alloc, block) {
-        Ok(octets) => push_parts(alloc, page, lines, kind, octets.as_slice()),
-        Err(Fault::Memory) => Err(Stop::Memory),
+        Ok(octets) => push_parts(alloc, page, kind, octets.as_slice()),
+        Err(Fault::Memory) => Err(AllocError),
         Err(_) => Ok(()),
     }
 }
@@ -206,7 +187,7 @@ pub fn push_refused(page: &mut Page, fault: Fault) -> Result<(), AllocError> {
 fn push_refusal(page: &mut Page, error: &Error, path: Path) -> Result<(), AllocError> {
     let number = error.kind().number();
     write!(page.text, "refused ({number}): ")?;
-    let words = push_words(page, error)?;
+    let words = push_words(page, error, path.is_early)?;
     let position = match error.position {
         Some(position) => {
             write!(page.text, ", at position {position}")?;
@@ -227,16 +208,19 @@ fn push_refusal(page: &mut Page, error: &Error, path: Path) -> Result<(), AllocE
     page.say(Some(number), words, position, field)
 }
 
-fn push_block<L: Lines>(
+/// Adds the message of a block, and the trust settings that may stand behind it.
+fn push_block(
     alloc: Global,
     page: &mut Page,
-    lines: &mut L,
     has_fingerprint: bool,
     block: &Block<'_>,
 ) -> Result<(), Fault> {
     let Some(kind) = kind_with(block.label) else {
         return Err(Fault::UnknownLabel(Label::of(block.label)));
     };
-    let octets = octets_of(alloc, block)?;
-    push_octets(alloc, page, lines, has_fingerprint, kind, octets.as_slice())
+    let message = octets_of(alloc, block)?;
+    let octets = message.as_slice();
+    let count = count_of_message(block.label, octets);
+    push_octets(alloc, page, has_fingerprint, kind, &octets[..count])?;
+    Ok(push_trust_settings(alloc, page, octets, count)?)
 }

@@ -15,7 +15,6 @@ use certview_parts::bit_strings::push_bits;
 use certview_parts::extensions::push_extensions;
 use certview_parts::hexadecimal::push_serial;
 use certview_parts::labels::push_label;
-use certview_parts::lines::{Lines, Stop};
 use certview_parts::names::push_name;
 use certview_parts::page::Page;
 use certview_parts::place::{Place, place_of_all};
@@ -35,29 +34,23 @@ use std::fmt::Write;
 /// # Errors
 /// `Refused` with the first fault of the octets, in the order of the fields; with
 /// `ErrorKind::TrailingData` (3) where octets are left over; with `ErrorKind::Overflow` (9) where there
-/// are more than 4294967295. `Output` where the lines are not taken; `Memory`.
-pub fn push_certificate<L: Lines>(
-    alloc: Global,
-    page: &mut Page,
-    lines: &mut L,
-    octets: &[u8],
-) -> Result<(), Fault>
+/// are more than 4294967295. `Memory`.
+pub fn push_certificate(alloc: Global, page: &mut Page, octets: &[u8]) -> Result<(), Fault>
     ensures { OnOk result (first_fault (parse_of certificate) octets.now ≡ None) }
 {
     grammar_of_certificate();
     match Certificate::from_der(alloc, octets) {
-        Ok(certificate) => Ok(push_fields(alloc, page, lines, octets, &certificate)?),
+        Ok(certificate) => Ok(push_fields(alloc, page, octets, &certificate)?),
         Err(error) => Err(refusal(Kind::Certificate, octets, error)),
     }
 }
 
-fn push_fields<L: Lines>(
+fn push_fields(
     alloc: Global,
     page: &mut Page,
-    lines: &mut L,
     octets: &[u8],
     certificate: &Certificate<'_>,
-) -> Result<(), Stop> {
+) -> Result<(), AllocError> {
     let whole = place_of_all(octets);
     push_title(page, &whole, Kind::Certificate)?;
     let at = places_of(certificate, octets, whole.offset);
@@ -66,7 +59,7 @@ fn push_fields<L: Lines>(
     push_signed(alloc, page, octets, &within, signed)?;
     if let Some(extensions) = signed.extensions() {
         let list = within.extensions;
-        push_extensions(alloc, page, lines, octets, &list, extensions.as_slice())?;
+        push_extensions(alloc, page, octets, &list, extensions.as_slice())?;
     }
     push_signature_rows(
         alloc,
@@ -77,8 +70,7 @@ fn push_fields<L: Lines>(
         certificate.signature_value(),
     )?;
     push_certificate_findings(alloc, page, octets, certificate, &whole)?;
-    push_validity_at(page, &within.validity, signed.validity())?;
-    lines.take(page)
+    push_validity_at(page, &within.validity, signed.validity())
 }
 
 /// Adds what is signed before its extensions.

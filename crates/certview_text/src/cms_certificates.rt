@@ -5,7 +5,7 @@ use certview_parts::labels::push_label;
 use certview_parts::names::push_kept;
 use certview_parts::page::Page;
 use certview_parts::place::{Place, contents_at, inner_at};
-use certview_parts::rows::{push_identifier_row, push_length_row, push_malformed_row};
+use certview_parts::rows::{push_identifier_row, push_length_row, push_malformed_inner_row};
 use certview_parts::signatures::push_certificate_row;
 use certview_parts::times::push_time;
 use der_asn1_types::FromDer;
@@ -30,7 +30,7 @@ pub fn push_certificate_choices(
         let inner = inner_at(octets, &place);
         match CertificateChoices::from_der(alloc, inner.octets) {
             Ok(certificate) => push_choice(alloc, page, octets, &place, &certificate)?,
-            Err(error) => push_malformed_row(page, &place, label, inner.begin, error)?,
+            Err(error) => push_malformed_inner_row(page, &place, label, inner, error)?,
         }
     }
     Ok(())
@@ -80,7 +80,7 @@ pub fn push_revocations(
         let inner = inner_at(octets, &place);
         match RevocationInfoChoice::from_der(alloc, inner.octets) {
             Ok(revoked) => push_revocation(alloc, page, &place, &revoked)?,
-            Err(error) => push_malformed_row(page, &place, label, inner.begin, error)?,
+            Err(error) => push_malformed_inner_row(page, &place, label, inner, error)?,
         }
     }
     Ok(())

@@ -93,7 +93,8 @@ fn push_field(
     let kind = field.field_type();
     push_identifier_row(alloc, page, &at.field_type, "field", kind.as_bytes())?;
     push_label(page, &at.parameters, "parameters of the field")?;
-    push_any(alloc, page, field.parameters())?;
+    let end = at.parameters.behind() as usize;
+    push_any(alloc, page, Some(end), field.parameters())?;
     page.text.push('\n')
 }
 

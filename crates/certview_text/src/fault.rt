@@ -7,7 +7,8 @@ ghost use Rattle.der_asn1_types.specs.ErrorNumber.{error_number};
 use crate::kind::Kind;
 use crate::label::Label;
 use crate::path::{Path, path_of};
-use certview_parts::lines::Stop;
+use certview_parts::early::EARLY;
+use certview_parts::encoding_rules::words_of_ber;
 use der_asn1_types::{Error, ErrorKind};
 use std::alloc::AllocError;
 use std::fmt;
@@ -22,6 +23,8 @@ pub enum Fault {
     Refused(Error, Path),
     /// There are no octets.
     Empty,
+    /// The octets are no PEM text, and do not begin as a message in DER does.
+    NoMessage,
     /// A block of PEM text has a label that is not known.
     UnknownLabel(Label),
     /// A block of PEM text is encrypted (RFC 1421 section 4.6.1.1).
@@ -30,9 +33,11 @@ pub enum Fault {
     NoEnd,
     /// What stands in a block of PEM text is no Base64.
     NoBase64,
+    /// The name of the file is no UTF-8, so that it cannot be opened.
+    Name,
     /// A read failed.
     Input,
-    /// A write failed; or memory was refused after some of a long text had been written.
+    /// A write failed.
     Output,
     /// Memory was refused.
     Memory,
@@ -42,7 +47,7 @@ impl Fault {
     /// The exit status: 1 for octets that are refused, 2 where the machine failed.
     pub fn status(self) -> u8 {
         match self {
-            Fault::Input | Fault::Output | Fault::Memory => 2,
+            Fault::Name | Fault::Input | Fault::Output | Fault::Memory => 2,
             _ => 1,
         }
     }
@@ -50,7 +55,7 @@ impl Fault {
     /// What stands before the words of a fault that has no number.
     pub fn prefix(self) -> &'static str {
         match self {
-            Fault::Input | Fault::Output | Fault::Memory => "",
+            Fault::Name | Fault::Input | Fault::Output | Fault::Memory => "",
             _ => REFUSED,
         }
     }
@@ -72,12 +77,25 @@ impl From<AllocError> for Fault {
     }
 }
 
-impl From<Stop> for Fault {
-    fn from(stop: Stop) -> Fault {
-        match stop {
-            Stop::Output => Fault::Output,
-            Stop::Memory => Fault::Memory,
-        }
+/// Writes the words of a fault, which may be that of a time before 1970.
+fn write_words<W: fmt::Write>(
+    f: &mut fmt::Formatter<W>,
+    error: &Error,
+    is_early: bool,
+) -> fmt::Result {
+    if is_early {
+        return f.write_str(EARLY);
+    }
+    let kind = error.kind();
+    write!(f, "{kind}")?;
+    f.write_str(words_of_ber(&error.kind))
+}
+
+/// Writes how many octets had been read at a fault, if it says so.
+fn write_position<W: fmt::Write>(f: &mut fmt::Formatter<W>, error: &Error) -> fmt::Result {
+    match error.position {
+        Some(position) => write!(f, ", at position {position}"),
+        None => Ok(()),
     }
 }
 
@@ -86,13 +104,18 @@ impl fmt::Display for Fault {
         match *self {
             Fault::Refused(error, path) => {
                 let number = error.kind().number();
-                write!(f, "refused ({number}): {error}{path}")
+                write!(f, "refused ({number}): ")?;
+                write_words(f, &error, path.is_early)?;
+                write_position(f, &error)?;
+                write!(f, "{path}")
             }
             Fault::Empty => write!(f, "{REFUSED}the input is empty"),
+            Fault::NoMessage => write!(f, "{REFUSED}it is neither DER nor PEM text"),
             Fault::UnknownLabel(label) => write!(f, "{REFUSED}{label} is not known"),
             Fault::Encrypted => write!(f, "{REFUSED}it is encrypted"),
             Fault::NoEnd => write!(f, "{REFUSED}no line ends the block of PEM text"),
             Fault::NoBase64 => write!(f, "{REFUSED}what stands in the block is no Base64"),
+            Fault::Name => write!(f, "its name is no UTF-8, and such a file is not opened"),
             Fault::Input => write!(f, "input failed"),
             Fault::Output => write!(f, "output failed"),
             Fault::Memory => write!(f, "out of memory"),

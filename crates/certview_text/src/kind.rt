@@ -1,7 +1,7 @@
 //! What kind of message octets are.
 
 ghost use Rattle.std.specs.Prelude.{◌≡◌};
-ghost use Rattle.certview_text.specs.Kinds.{has_tag, has_time_tag, signed_kind, without, has_requests, has_status, sequence_kind, structure_kind, numbers_kind, key_kind, kind_of_fields, kind_of};
+ghost use Rattle.certview_text.specs.Kinds.{has_tag, has_time_tag, signed_kind, without, has_requests, has_status, sequence_kind, structure_kind, primes_kind, numbers_kind, key_kind, kind_of_fields, kind_of, begins_message, fields_of, fields_within};
 
 use certview_parts::values::{after_header, after_value, contents};
 
@@ -22,6 +22,8 @@ pub enum Kind {
     RsaPublicKey,
     /// An ECPrivateKey (RFC 5915 section 3).
     EcPrivateKey,
+    /// A private key of DSA, as OpenSSL writes it: version, p, q, g, the public key and the private one.
+    DsaPrivateKey,
     /// A CertificationRequest (RFC 2986 section 4.2).
     CertificationRequest,
     /// An EncryptedPrivateKeyInfo (RFC 5958 section 3).
@@ -59,6 +61,7 @@ impl Kind {
             Kind::RsaPrivateKey => "private key of RSA",
             Kind::RsaPublicKey => "public key of RSA",
             Kind::EcPrivateKey => "private key of an elliptic curve",
+            Kind::DsaPrivateKey => "private key of DSA",
             Kind::CertificationRequest => "certification request",
             Kind::EncryptedPrivateKey => "encrypted private key",
             Kind::OcspRequest => "OCSP request",
@@ -81,6 +84,7 @@ impl Kind {
             Kind::PrivateKey
                 | Kind::RsaPrivateKey
                 | Kind::EcPrivateKey
+                | Kind::DsaPrivateKey
                 | Kind::EncryptedPrivateKey
                 | Kind::Pkcs12
         )
@@ -88,14 +92,21 @@ impl Kind {
 }
 
 /// The kind of message that octets are, by the tags of their fields. Octets that are of none are
-/// taken for one, of which the grammar then refuses them.
+/// taken for one, of which the grammar then refuses them; so are those of BER, whose kind the tags tell too.
 pub fn kind_of(octets: &[u8]) -> Kind
     ensures { result ≡ kind_of octets.now }
 {
     if has_tag(octets, 0x06) || has_tag(octets, 0x05) {
         return Kind::EcParameters;
     }
-    kind_of_fields(after_header(octets))
+    kind_of_fields(fields_of(octets))
+}
+
+/// Whether octets begin as a message: with a SEQUENCE, or as ECParameters that are a name or NULL.
+pub fn begins_message(octets: &[u8]) -> bool
+    ensures { result ≡ begins_message octets.now }
+{
+    has_tag(octets, 0x30) || has_tag(octets, 0x06) || has_tag(octets, 0x05)
 }
 
 /// Of the fields of a SEQUENCE.
@@ -109,7 +120,7 @@ fn kind_of_fields(fields: &[u8]) -> Kind
     } else if has_tag(fields, 0x0a) {
         Kind::OcspResponse
     } else {
-        sequence_kind(contents(fields), after_value(fields))
+        sequence_kind(fields_within(fields), after_value(fields))
     }
 }
 
@@ -135,7 +146,7 @@ fn key_kind(others: &[u8]) -> Kind
 fn structure_kind(others: &[u8]) -> Kind
     ensures { result ≡ structure_kind others.now }
 {
-    let (third, fields) = (after_value(others), contents(others));
+    let (third, fields) = (after_value(others), fields_within(others));
     if has_tag(third, 0x04) {
         Kind::PrivateKey
     } else if has_tag(fields, 0x30) {
@@ -154,8 +165,9 @@ fn numbers_kind(others: &[u8]) -> Kind
     ensures { result ≡ numbers_kind others.now }
 {
     if has_tag(others, 0x02) {
-        if has_tag(after_value(others), 0x02) {
-            Kind::RsaPrivateKey
+        let fifth = after_value(others);
+        if has_tag(fifth, 0x02) {
+            primes_kind(after_value(fifth))
         } else {
             Kind::X942Parameters
         }
@@ -163,6 +175,17 @@ fn numbers_kind(others: &[u8]) -> Kind
         Kind::X942Parameters
     } else {
         Kind::DsaParameters
+    }
+}
+
+/// Of what follows five INTEGERs.
+fn primes_kind(others: &[u8]) -> Kind
+    ensures { result ≡ primes_kind others.now }
+{
+    if has_tag(others, 0x02) && !has_tag(after_value(others), 0x02) {
+        Kind::DsaPrivateKey
+    } else {
+        Kind::RsaPrivateKey
     }
 }
 
@@ -221,6 +244,38 @@ fn without(octets: &[u8], tag: u8) -> &[u8]
         after_value(octets)
     } else {
         octets
+    }
+}
+
+/// What stands after the first header, of which the length may be indefinite (X.690 8.1.3.6).
+fn fields_of(octets: &[u8]) -> &[u8]
+    ensures { result.now ≡ fields_of octets.now }
+{
+    match octets {
+        [_, length, fields @ ..] => {
+            if *length == 0x80 {
+                fields
+            } else {
+                after_header(octets)
+            }
+        }
+        _ => after_header(octets),
+    }
+}
+
+/// The contents octets of the first value; of one with an indefinite length, all that stands after its header.
+fn fields_within(octets: &[u8]) -> &[u8]
+    ensures { result.now ≡ fields_within octets.now }
+{
+    match octets {
+        [_, length, fields @ ..] => {
+            if *length == 0x80 {
+                fields
+            } else {
+                contents(octets)
+            }
+        }
+        _ => contents(octets),
     }
 }
 

@@ -3,12 +3,16 @@
 use crate::kind::Kind;
 use std::fmt;
 
+/// The label of a certificate that OpenSSL's trust settings may follow.
+const TRUSTED: &str = "TRUSTED CERTIFICATE";
+
 /// The labels of the messages that are shown (RFC 7468 sections 5 to 11 and 13; PKCS12 is GnuTLS's, and
 /// those that the RFC has not are OpenSSL's). A label of more than 32 octets is none of them.
-const LABELS: [(&str, Kind); 23] = [
+const LABELS: [(&str, Kind); 25] = [
     ("CERTIFICATE", Kind::Certificate),
     ("X509 CERTIFICATE", Kind::Certificate),
     ("X.509 CERTIFICATE", Kind::Certificate),
+    (TRUSTED, Kind::Certificate),
     ("X509 CRL", Kind::RevocationList),
     ("CRL", Kind::RevocationList),
     ("PUBLIC KEY", Kind::PublicKey),
@@ -16,6 +20,7 @@ const LABELS: [(&str, Kind); 23] = [
     ("RSA PRIVATE KEY", Kind::RsaPrivateKey),
     ("RSA PUBLIC KEY", Kind::RsaPublicKey),
     ("EC PRIVATE KEY", Kind::EcPrivateKey),
+    ("DSA PRIVATE KEY", Kind::DsaPrivateKey),
     ("CERTIFICATE REQUEST", Kind::CertificationRequest),
     ("NEW CERTIFICATE REQUEST", Kind::CertificationRequest),
     ("ENCRYPTED PRIVATE KEY", Kind::EncryptedPrivateKey),
@@ -39,6 +44,11 @@ pub fn kind_with(label: &[u8]) -> Option<Kind> {
         }
     }
     None
+}
+
+/// Whether a block with this label may have trust settings behind its message.
+pub fn may_have_settings(label: &[u8]) -> bool {
+    label == TRUSTED.as_bytes()
 }
 
 /// A label as it is shown: its first 32 octets, with a `?` for each that is no character of ASCII.

@@ -21,6 +21,7 @@ mod cms_certificates;
 mod contents;
 mod curve_parameters;
 mod digested_data;
+mod dsa;
 mod encrypted_data;
 mod encrypted_key;
 mod enveloped_data;
@@ -52,6 +53,7 @@ mod stamped;
 mod text;
 mod time_stamp_query;
 mod time_stamp_reply;
+mod trust_settings;
 mod viewing;
 mod whole;
 

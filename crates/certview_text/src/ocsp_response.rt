@@ -14,9 +14,9 @@ use certview_parts::extension_rows::push_explicit_extensions;
 use certview_parts::labels::push_label;
 use certview_parts::names::push_name;
 use certview_parts::page::Page;
-use certview_parts::place::{Place, place_of_all};
+use certview_parts::place::{Place, inner_at, place_of_all};
 use certview_parts::rows::{
-    push_identifier_row, push_malformed_row, push_octets_row, push_time_row,
+    push_identifier_row, push_malformed_inner_row, push_octets_row, push_time_row,
 };
 use certview_parts::signatures::{push_certificate_rows, push_signature_rows};
 use der_asn1_types::FromDer;
@@ -92,10 +92,10 @@ fn push_response(
         return push_octets_row(page, &at.response, "response", held);
     }
     let basic = contents_of(octets, at.response);
-    let begin = basic.offset as usize;
-    match BasicOcspResponse::from_der(alloc, held) {
+    let inner = inner_at(octets, &basic);
+    match BasicOcspResponse::from_der(alloc, inner.octets) {
         Ok(response) => push_basic(alloc, page, octets, &basic, &response),
-        Err(error) => push_malformed_row(page, &at.response, "response", begin, error),
+        Err(error) => push_malformed_inner_row(page, &at.response, "response", inner, error),
     }
 }
 

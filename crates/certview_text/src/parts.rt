@@ -1,5 +1,6 @@
 //! What the parts of messages are made of, whichever crate has their types.
 
+use crate::dsa::DSA_FIELDS;
 use der_cms::parts::Part as CmsPart;
 use der_enveloped::parts::Part as EnvelopedPart;
 use der_ocsp::parts::Part as OcspPart;
@@ -22,6 +23,8 @@ pub enum Part {
     Enveloped(EnvelopedPart),
     /// A type of `der_time_stamp`.
     TimeStamp(TimeStampPart),
+    /// A private key of DSA, of which each field is a number.
+    DsaPrivateKey,
 }
 
 /// A component, as the crates of the types have it.
@@ -50,6 +53,7 @@ impl Part {
             Part::Cms(part) => part.components().len(),
             Part::Enveloped(part) => part.components().len(),
             Part::TimeStamp(part) => part.components().len(),
+            Part::DsaPrivateKey => DSA_FIELDS.len(),
         }
     }
 
@@ -80,6 +84,10 @@ impl Part {
                 let found = part.components().get(step)?;
                 Some(component_of(found.name, found.octet, Part::TimeStamp(found.part)))
             }
+            Part::DsaPrivateKey => {
+                let name = DSA_FIELDS.get(step)?;
+                Some(component_of(*name, None, Part::value()))
+            }
         }
     }
 
@@ -92,6 +100,7 @@ impl Part {
             Part::Cms(part) => part.is_list(),
             Part::Enveloped(part) => part.is_list(),
             Part::TimeStamp(part) => part.is_list(),
+            Part::DsaPrivateKey => false,
         }
     }
 }

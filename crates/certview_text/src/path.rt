@@ -2,6 +2,7 @@
 
 use crate::kind::Kind;
 use crate::whole::{part_of, whole_of};
+use certview_parts::early::is_early;
 use der_asn1_types::{Error, ErrorKind};
 use std::fmt;
 
@@ -15,6 +16,8 @@ pub const IN_FIELD: &str = ", in ";
 pub struct Path {
     kind: Kind,
     steps: [usize; 6],
+    /// Whether a time before 1970 stands there, which is the fault.
+    pub is_early: bool,
 }
 
 impl Path {
@@ -23,6 +26,7 @@ impl Path {
         Path {
             kind,
             steps: [usize::MAX; 6],
+            is_early: false,
         }
     }
 }
@@ -30,10 +34,12 @@ impl Path {
 /// The innermost field that has the octet that was looked at last when the fault was met: the one
 /// before the fault's place, or the tag at it where a CHOICE has no alternative with that tag.
 pub fn path_of(octets: &[u8], kind: Kind, error: &Error) -> Path {
-    match octet_of(error) {
+    let mut path = match octet_of(error) {
         Some(octet) => path_to(octets, kind, octet),
         None => Path::whole(kind),
-    }
+    };
+    path.is_early = is_early(octets, error);
+    path
 }
 
 /// How many octets are before the one that was looked at last.

@@ -8,13 +8,13 @@ use crate::site::{Extent, Site, Sites};
 use crate::whole::{push_title, whole_of};
 use certview_parts::algorithms::{push_algorithm, push_key};
 use certview_parts::bit_strings::push_bits;
+use certview_parts::characters::Behind;
 use certview_parts::extensions::push_extension;
 use certview_parts::hexadecimal::push_serial;
 use certview_parts::identifiers::push_attribute_type;
 use certview_parts::labels::push_label;
-use certview_parts::lines::{Lines, Stop};
 use certview_parts::names::push_attribute;
-use certview_parts::page::{Page, push_malformed};
+use certview_parts::page::{Inner, Page, push_malformed, push_malformed_inner};
 use certview_parts::times::push_time;
 use der_asn1_types::FromDer;
 use der_asn1_types::asn1::{BitStringRef, IntRef};
@@ -28,18 +28,17 @@ use std::alloc::{AllocError, Global};
 /// added of octets that do not look like a certificate or a list.
 ///
 /// # Errors
-/// `Output` where the items are not taken; `Memory`.
-pub fn push_parts<L: Lines>(
+/// Where memory is refused.
+pub fn push_parts(
     alloc: Global,
     page: &mut Page,
-    lines: &mut L,
     kind: Kind,
     octets: &[u8],
-) -> Result<(), Stop> {
+) -> Result<(), AllocError> {
     let whole = whole_of(octets, kind);
     match kind {
-        Kind::Certificate => push_certificate_parts(alloc, page, lines, octets, &whole),
-        Kind::RevocationList => push_list_parts(alloc, page, lines, octets, &whole),
+        Kind::Certificate => push_certificate_parts(alloc, page, octets, &whole),
+        Kind::RevocationList => push_list_parts(alloc, page, octets, &whole),
         _ => Ok(()),
     }
 }
@@ -49,19 +48,26 @@ fn octets_of<'a>(octets: &'a [u8], extent: &Extent) -> &'a [u8] {
     octets.get(extent.begin..extent.end).unwrap_or(&[])
 }
 
+/// The octets of a field, which are read on their own.
+fn inner_of<'a>(octets: &'a [u8], extent: &Extent) -> Inner<'a> {
+    Inner {
+        octets: octets_of(octets, extent),
+        begin: extent.begin,
+    }
+}
+
 /// The contents octets of a field, and what follows it.
 fn octets_within<'a>(octets: &'a [u8], extent: &Extent) -> &'a [u8] {
     octets.get(extent.contents..).unwrap_or(&[])
 }
 
 /// The same with the times in it, where it looks like a certificate.
-fn push_certificate_parts<L: Lines>(
+fn push_certificate_parts(
     alloc: Global,
     page: &mut Page,
-    lines: &mut L,
     octets: &[u8],
     whole: &Site,
-) -> Result<(), Stop> {
+) -> Result<(), AllocError> {
     let site = whole.field(octets, "tbsCertificate");
     let validity = site.field(octets, "validity");
     if !has_time_tag(octets_within(octets, &validity.extent)) {
@@ -111,25 +117,17 @@ fn push_certificate_parts<L: Lines>(
         &site.field(octets, "subjectUniqueID"),
         "subject's number",
     )?;
-    push_extension_parts(
-        alloc,
-        page,
-        lines,
-        octets,
-        &site.field(octets, "extensions"),
-    )?;
-    push_signature_parts(alloc, page, octets, whole)?;
-    lines.take(page)
+    push_extension_parts(alloc, page, octets, &site.field(octets, "extensions"))?;
+    push_signature_parts(alloc, page, octets, whole)
 }
 
 /// The same of a list.
-fn push_list_parts<L: Lines>(
+fn push_list_parts(
     alloc: Global,
     page: &mut Page,
-    lines: &mut L,
     octets: &[u8],
     whole: &Site,
-) -> Result<(), Stop> {
+) -> Result<(), AllocError> {
     let site = whole.field(octets, "tbsCertList");
     let first = site.field(octets, "thisUpdate");
     if !has_time_tag(octets_of(octets, &first.extent)) {
@@ -150,19 +148,11 @@ fn push_list_parts<L: Lines>(
     push_entry_parts(
         alloc,
         page,
-        lines,
         octets,
         &site.field(octets, "revokedCertificates"),
     )?;
-    push_extension_parts(
-        alloc,
-        page,
-        lines,
-        octets,
-        &site.field(octets, "crlExtensions"),
-    )?;
-    push_signature_parts(alloc, page, octets, whole)?;
-    lines.take(page)
+    push_extension_parts(alloc, page, octets, &site.field(octets, "crlExtensions"))?;
+    push_signature_parts(alloc, page, octets, whole)
 }
 
 /// Adds the version, whose last octet is its number.
@@ -221,9 +211,10 @@ fn push_time_part(
         return Ok(());
     }
     push_label(page, &site.place(), label)?;
-    match Time::from_der(alloc, octets_of(octets, &site.extent)) {
+    let inner = inner_of(octets, &site.extent);
+    match Time::from_der(alloc, inner.octets) {
         Ok(time) => push_time(page, &time)?,
-        Err(error) => push_malformed(page, site.extent.begin, error)?,
+        Err(error) => push_malformed_inner(page, inner, error)?,
     }
     page.text.push('\n')
 }
@@ -274,7 +265,7 @@ fn push_attribute_parts(
         }
         is_first = false;
         match AttributeTypeAndValue::from_der(alloc, octets_of(octets, &part.extent)) {
-            Ok(attribute) => push_attribute(alloc, page, &attribute)?,
+            Ok(attribute) => push_attribute(alloc, page, &attribute, Behind::Mark)?,
             Err(error) => {
                 push_type_part(alloc, page, octets, &part)?;
                 push_malformed(page, part.extent.begin, error)?;
@@ -335,13 +326,12 @@ fn push_unique_part(
 }
 
 /// Adds each extension.
-fn push_extension_parts<L: Lines>(
+fn push_extension_parts(
     alloc: Global,
     page: &mut Page,
-    lines: &mut L,
     octets: &[u8],
     site: &Site,
-) -> Result<(), Stop> {
+) -> Result<(), AllocError> {
     let list = site.field(octets, "");
     let mut sites = Sites::within(octets, &list);
     for _ in list.extent.contents..list.extent.end {
@@ -349,7 +339,6 @@ fn push_extension_parts<L: Lines>(
             break;
         };
         push_extension_part(alloc, page, octets, &part)?;
-        lines.take(page)?;
     }
     Ok(())
 }
@@ -369,20 +358,18 @@ fn push_extension_part(
 }
 
 /// Adds each revoked certificate.
-fn push_entry_parts<L: Lines>(
+fn push_entry_parts(
     alloc: Global,
     page: &mut Page,
-    lines: &mut L,
     octets: &[u8],
     list: &Site,
-) -> Result<(), Stop> {
+) -> Result<(), AllocError> {
     let mut sites = Sites::within(octets, list);
     for _ in list.extent.contents..list.extent.end {
         let Some(part) = sites.next_site() else {
             break;
         };
         push_entry_part(alloc, page, octets, &part)?;
-        lines.take(page)?;
     }
     Ok(())
 }
@@ -394,10 +381,11 @@ fn push_entry_part(
     site: &Site,
 ) -> Result<(), AllocError> {
     push_label(page, &site.place(), "revoked")?;
-    match RevokedCertificate::from_der(alloc, octets_of(octets, &site.extent)) {
+    let inner = inner_of(octets, &site.extent);
+    match RevokedCertificate::from_der(alloc, inner.octets) {
         Ok(entry) => push_entry(alloc, page, octets, &site.place(), &entry),
         Err(error) => {
-            push_malformed(page, site.extent.begin, error)?;
+            push_malformed_inner(page, inner, error)?;
             page.text.push('\n')
         }
     }

@@ -10,7 +10,7 @@ use certview_parts::labels::push_label;
 use certview_parts::page::Page;
 use certview_parts::place::{Place, inner_at};
 use certview_parts::rows::{
-    push_identifier_row, push_length_row, push_malformed_row, push_octets_row, push_time_row,
+    push_identifier_row, push_length_row, push_malformed_inner_row, push_octets_row, push_time_row,
 };
 use der_asn1_types::FromDer;
 use der_enveloped::enveloped::{
@@ -36,7 +36,7 @@ pub fn push_recipients(
         let inner = inner_at(octets, &place);
         match RecipientInfo::from_der(alloc, inner.octets) {
             Ok(recipient) => push_recipient(alloc, page, octets, &place, &recipient)?,
-            Err(error) => push_malformed_row(page, &place, label, inner.begin, error)?,
+            Err(error) => push_malformed_inner_row(page, &place, label, inner, error)?,
         }
     }
     Ok(())

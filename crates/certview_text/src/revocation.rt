@@ -16,7 +16,6 @@ use certview_parts::extensions::{push_extension, push_extensions};
 use certview_parts::hexadecimal::push_serial;
 use certview_parts::items::Items;
 use certview_parts::labels::push_label;
-use certview_parts::lines::{Lines, Stop};
 use certview_parts::names::push_name;
 use certview_parts::page::Page;
 use certview_parts::place::{Place, nowhere, place_of_all};
@@ -34,35 +33,29 @@ use std::alloc::{AllocError, Global};
 ///
 /// # Errors
 /// As `push_certificate`.
-pub fn push_list<L: Lines>(
-    alloc: Global,
-    page: &mut Page,
-    lines: &mut L,
-    octets: &[u8],
-) -> Result<(), Fault>
+pub fn push_list(alloc: Global, page: &mut Page, octets: &[u8]) -> Result<(), Fault>
     ensures { OnOk result (first_fault (parse_of certificate_list) octets.now ≡ None) }
 {
     grammar_of_certificate_list();
     match CertificateList::from_der(alloc, octets) {
-        Ok(list) => Ok(push_fields(alloc, page, lines, octets, &list)?),
+        Ok(list) => Ok(push_fields(alloc, page, octets, &list)?),
         Err(error) => Err(refusal(Kind::RevocationList, octets, error)),
     }
 }
 
-fn push_fields<L: Lines>(
+fn push_fields(
     alloc: Global,
     page: &mut Page,
-    lines: &mut L,
     octets: &[u8],
     list: &CertificateList<'_>,
-) -> Result<(), Stop> {
+) -> Result<(), AllocError> {
     let whole = place_of_all(octets);
     push_title(page, &whole, Kind::RevocationList)?;
     let at = places_of(list, octets, whole.offset);
     let signed = list.tbs_cert_list();
     let within = places_of(signed, octets, at.tbs_cert_list.offset);
     push_signed(alloc, page, &within, signed)?;
-    push_revoked(alloc, page, lines, octets, &within, signed)?;
+    push_revoked(alloc, page, octets, &within, signed)?;
     push_signature_rows(
         alloc,
         page,
@@ -73,8 +66,7 @@ fn push_fields<L: Lines>(
     )?;
     push_list_findings(alloc, page, octets, list, &whole)?;
     let (now, next) = (signed.this_update(), signed.next_update());
-    push_currency_at(page, &within.this_update, now, next)?;
-    lines.take(page)
+    push_currency_at(page, &within.this_update, now, next)
 }
 
 fn push_signed(
@@ -101,23 +93,21 @@ fn push_signed(
 }
 
 /// Adds the entries, and the extensions of the list.
-fn push_revoked<L: Lines>(
+fn push_revoked(
     alloc: Global,
     page: &mut Page,
-    lines: &mut L,
     octets: &[u8],
     at: &TbsCertListPlaces,
     signed: &TbsCertList<'_>,
-) -> Result<(), Stop> {
+) -> Result<(), AllocError> {
     if let Some(entries) = signed.revoked_certificates() {
         let list = at.revoked_certificates;
-        push_entries(alloc, page, lines, octets, &list, entries.as_slice())?;
+        push_entries(alloc, page, octets, &list, entries.as_slice())?;
     }
     match signed.crl_extensions() {
         Some(extensions) => push_extensions(
             alloc,
             page,
-            lines,
             octets,
             &at.crl_extensions,
             extensions.as_slice(),
@@ -126,20 +116,18 @@ fn push_revoked<L: Lines>(
     }
 }
 
-fn push_entries<L: Lines>(
+fn push_entries(
     alloc: Global,
     page: &mut Page,
-    lines: &mut L,
     octets: &[u8],
     list: &Place,
     entries: &[RevokedCertificate<'_>],
-) -> Result<(), Stop> {
+) -> Result<(), AllocError> {
     let mut items = Items::within(octets, list);
     for entry in entries {
         let place = items.next_item().unwrap_or(nowhere());
         push_label(page, &place, "revoked")?;
         push_entry(alloc, page, octets, &place, entry)?;
-        lines.take(page)?;
     }
     Ok(())
 }

@@ -59,13 +59,17 @@ fn extent_at(octets: &[u8], begin: usize, end: usize) -> Option<Extent> {
     })
 }
 
-/// The extent of a message: all of the octets.
+/// The extent of a message: all of the octets. Where no header can be read, all of them are its header.
 fn extent_of_all(octets: &[u8]) -> Extent {
-    let contents = sizes(octets).0;
+    let end = octets.len();
+    let contents = match sizes(octets).0 {
+        0 => end,
+        count => count,
+    };
     Extent {
         begin: 0,
         contents,
-        end: octets.len(),
+        end,
     }
 }
 

@@ -8,7 +8,7 @@ use certview_parts::other_names::push_other_name;
 use certview_parts::page::Page;
 use certview_parts::place::{Place, contents_at};
 use certview_parts::rows::{
-    push_identifier_row, push_malformed_row, push_octets_row, push_serial_row, push_time_row,
+    push_identifier_row, push_malformed_inner_row, push_octets_row, push_serial_row, push_time_row,
 };
 use der_asn1_types::FromDer;
 use der_asn1_types::asn1::IntRef;
@@ -29,7 +29,7 @@ pub fn push_stamped(
     let place = contents_of(octets, *string);
     match TstInfo::from_der(alloc, inner.octets) {
         Ok(stamp) => push_fields(alloc, page, octets, &place, &stamp),
-        Err(error) => push_malformed_row(page, &place, "time stamp", inner.begin, error),
+        Err(error) => push_malformed_inner_row(page, &place, "time stamp", inner, error),
     }
 }
 

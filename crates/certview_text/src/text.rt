@@ -7,6 +7,7 @@ ghost use Rattle.certview_text.specs.Grammars.{grammar_of};
 use crate::certificate::push_certificate;
 use crate::cms::push_cms;
 use crate::curve_parameters::push_curve_parameters;
+use crate::dsa::push_dsa_private_key;
 use crate::encrypted_key::push_encrypted_key;
 use crate::fault::Fault;
 use crate::group_parameters::{push_dh_parameters, push_dsa_parameters, push_x942_parameters};
@@ -22,7 +23,6 @@ use crate::time_stamp_query::push_query;
 use crate::time_stamp_reply::push_reply;
 use crate::viewing::text_of;
 use certview_parts::form::{Form, Writer};
-use certview_parts::lines::{Held, Lines};
 use certview_parts::page::Page;
 use der_asn1_types::{Error, ErrorKind};
 use std::alloc::Global;
@@ -32,23 +32,18 @@ use std::alloc::Global;
 ///
 /// # Errors
 /// As `push_certificate`.
-pub fn push_message<L: Lines>(
-    alloc: Global,
-    page: &mut Page,
-    lines: &mut L,
-    kind: Kind,
-    octets: &[u8],
-) -> Result<(), Fault>
+pub fn push_message(alloc: Global, page: &mut Page, kind: Kind, octets: &[u8]) -> Result<(), Fault>
     ensures { OnOk result (first_fault (grammar_of kind) octets.now ≡ None) }
 {
     match kind {
-        Kind::Certificate => push_certificate(alloc, page, lines, octets),
-        Kind::RevocationList => push_list(alloc, page, lines, octets),
+        Kind::Certificate => push_certificate(alloc, page, octets),
+        Kind::RevocationList => push_list(alloc, page, octets),
         Kind::PublicKey => push_public_key(alloc, page, octets),
         Kind::PrivateKey => push_private_key(alloc, page, octets),
         Kind::RsaPrivateKey => push_rsa_private_key(alloc, page, octets),
         Kind::RsaPublicKey => push_rsa_public_key(alloc, page, octets),
         Kind::EcPrivateKey => push_ec_private_key(alloc, page, octets),
+        Kind::DsaPrivateKey => push_dsa_private_key(alloc, page, octets),
         Kind::CertificationRequest => push_request(alloc, page, octets),
         Kind::EncryptedPrivateKey => push_encrypted_key(alloc, page, octets),
         Kind::OcspRequest => push_ocsp_request(alloc, page, octets),
@@ -74,7 +69,7 @@ pub fn shown(alloc: Global, kind: Kind, octets: &[u8]) -> Result<String, Error>
     ensures { OnOk result (first_fault (grammar_of kind) octets.now ≡ None) }
 {
     let mut page = Page::new(alloc);
-    match push_message(alloc, &mut page, &mut Held, kind, octets) {
+    match push_message(alloc, &mut page, kind, octets) {
         Ok(()) => match text_of(alloc, Writer::new(Form::Text, None), &page) {
             Ok(text) => Ok(text),
             Err(_) => Err(Error::from_kind(ErrorKind::Memory)),

@@ -6,13 +6,12 @@ ghost use Rattle.certview_text.specs.Shown.{IsShown};
 
 use crate::blocks::{push_blocks, push_first_parts, push_octets, push_refused};
 use crate::fault::Fault;
-use crate::kind::kind_of;
+use crate::kind::{begins_message, kind_of};
 use crate::pem::is_text;
 use crate::readable::push_parts;
 use certview_parts::asked::Asked;
 use certview_parts::characters::push_plain;
 use certview_parts::form::{Form, Writer};
-use certview_parts::lines::{Lines, Measured, Stop, Written};
 use certview_parts::page::{ItemKind, Page};
 use std::alloc::{AllocError, Global};
 use std::io::{self, Read, Write};
@@ -41,8 +40,8 @@ pub enum Outcome {
     Partial,
     /// All of it is shown, and what was asked of it does not hold, of which a line says so.
     Found,
-    /// No one reads what is written.
-    Closed,
+    /// No one reads what is written. The status is that of what would have been shown.
+    Closed(u8),
 }
 
 impl<'a> View<'a> {
@@ -59,11 +58,12 @@ impl<'a> View<'a> {
 }
 
 impl Outcome {
-    /// The exit status: 1 for what is shown in part, and for what does not hold.
+    /// The exit status: 1 for what is shown in part, and for what does not hold, whether or not it is read.
     pub fn status(self) -> u8 {
         match self {
             Outcome::Partial | Outcome::Found => 1,
-            Outcome::Whole | Outcome::Closed => 0,
+            Outcome::Whole => 0,
+            Outcome::Closed(status) => status,
         }
     }
 
@@ -113,9 +113,8 @@ pub fn read_input<R: Read>(alloc: Global, input: &mut R) -> Result<Vec<u8>, Faul
     }
 }
 
-/// Writes the fields of the messages that an input carries. The items are found once before the first octet
-/// is written; of a long input this is to know that nothing of it is refused, and they are found again as
-/// they are written, a piece at a time.
+/// Writes the fields of the messages that an input carries. All of them are found, and are made text, before
+/// the first octet is written.
 ///
 /// # Errors
 /// The fault of the input; `Output` where a write fails; `Memory`.
@@ -128,10 +127,8 @@ pub fn show<W: Write>(
     ensures read { OnOk result (IsShown input.now) }
     ensures kept { IfErr result (λ fault. fault ≢ Fault.Output → Keeps (W.contents output.old) (W.contents output.new)) }
 {
-    match measured(alloc, view, input)? {
-        Some(page) => write_page(alloc, view, &page, output),
-        None => write_long(alloc, view, input, output),
-    }
+    let page = page_of(alloc, view, input)?;
+    write_page(alloc, view, &page, output)
 }
 
 /// Writes of an input that is refused why, and below that what can be read of it, a field on its own: for
@@ -149,77 +146,20 @@ pub fn show_refused<W: Write>(
     ensures { IfErr result (λ fault. fault ≢ Fault.Output → Keeps (W.contents output.old) (W.contents output.new)) }
 {
     let mut page = Page::new(alloc);
-    let mut lines = Measured { is_long: false };
-    push_remains(alloc, &mut page, &mut lines, view, fault, input)?;
-    if lines.is_long {
-        return write_long_remains(alloc, view, fault, input, output);
-    }
+    push_remains(alloc, &mut page, view, fault, input)?;
     if view.form == Form::Text && !page.has_message() {
         return Ok(Outcome::Partial);
     }
     write_page(alloc, view, &page, output)
 }
 
-/// The items of an input, if they are not long.
-fn measured(alloc: Global, view: &View<'_>, input: &[u8]) -> Result<Option<Page>, Fault>
+/// The items of an input.
+fn page_of(alloc: Global, view: &View<'_>, input: &[u8]) -> Result<Page, Fault>
     ensures { OnOk result (IsShown input.now) }
 {
     let mut page = Page::asking(alloc, view.asked);
-    let mut lines = Measured { is_long: false };
-    push_input(alloc, &mut page, &mut lines, view, input)?;
-    if lines.is_long {
-        Ok(None)
-    } else {
-        Ok(Some(page))
-    }
-}
-
-/// Writes the long text of an input, piece by piece.
-fn write_long<W: Write>(
-    alloc: Global,
-    view: &View<'_>,
-    input: &[u8],
-    output: &mut W,
-) -> Result<Outcome, Fault>
-    ensures { IfErr result (λ fault. fault ≡ Fault.Output) }
-{
-    let mut page = Page::asking(alloc, view.asked);
-    let mut lines = Written::new(alloc, output, Writer::new(view.form, view.fields));
-    let pushed = push_input(alloc, &mut page, &mut lines, view, input);
-    end_long(pushed.is_ok(), &page, &mut lines)
-}
-
-/// The same of one that is refused.
-fn write_long_remains<W: Write>(
-    alloc: Global,
-    view: &View<'_>,
-    fault: &Fault,
-    input: &[u8],
-    output: &mut W,
-) -> Result<Outcome, Fault>
-    ensures { IfErr result (λ fault. fault ≡ Fault.Output) }
-{
-    let mut page = Page::new(alloc);
-    let mut lines = Written::new(alloc, output, Writer::new(view.form, view.fields));
-    let pushed = push_remains(alloc, &mut page, &mut lines, view, fault, input);
-    end_long(pushed.is_ok(), &page, &mut lines)
-}
-
-/// Writes what is left of a long text, of which all items were found.
-fn end_long<W: Write>(
-    is_whole: bool,
-    page: &Page,
-    lines: &mut Written<'_, '_, W>,
-) -> Result<Outcome, Fault>
-    ensures { IfErr result (λ fault. fault ≡ Fault.Output) }
-{
-    if is_whole && lines.end(page).is_ok() {
-        Ok(Outcome::of(page))
-    } else if lines.is_closed {
-        Ok(Outcome::Closed)
-    } else {
-        Err(Fault::Output)
-    }
+    push_input(alloc, &mut page, view, input)?;
+    Ok(page)
 }
 
 /// Writes what a page has.
@@ -250,7 +190,9 @@ fn write_text<W: Write>(output: &mut W, text: &str, outcome: Outcome) -> Result<
 {
     match output.write_all(text.as_bytes()) {
         Ok(()) => Ok(outcome),
-        Err(error) if error.kind() == io::ErrorKind::BrokenPipe => Ok(Outcome::Closed),
+        Err(error) if error.kind() == io::ErrorKind::BrokenPipe => {
+            Ok(Outcome::Closed(outcome.status()))
+        }
         Err(_) => Err(Fault::Output),
     }
 }
@@ -264,13 +206,7 @@ fn read_fault(error: &io::Error) -> Fault {
 }
 
 /// Adds what is written for an input.
-fn push_input<L: Lines>(
-    alloc: Global,
-    page: &mut Page,
-    lines: &mut L,
-    view: &View<'_>,
-    input: &[u8],
-) -> Result<(), Fault>
+fn push_input(alloc: Global, page: &mut Page, view: &View<'_>, input: &[u8]) -> Result<(), Fault>
     ensures { OnOk result (IsShown input.now) }
 {
     push_input_name(page, view)?;
@@ -278,17 +214,19 @@ fn push_input<L: Lines>(
         return Err(Fault::Empty);
     }
     if is_text(input) {
-        return push_blocks(alloc, page, lines, view.has_fingerprint, input);
+        return push_blocks(alloc, page, view.has_fingerprint, input);
+    }
+    if !begins_message(input) {
+        return Err(Fault::NoMessage);
     }
     let kind = kind_of(input);
-    push_octets(alloc, page, lines, view.has_fingerprint, kind, input)
+    push_octets(alloc, page, view.has_fingerprint, kind, input)
 }
 
 /// Adds why an input is refused, and what can be read of it.
-fn push_remains<L: Lines>(
+fn push_remains(
     alloc: Global,
     page: &mut Page,
-    lines: &mut L,
     view: &View<'_>,
     fault: &Fault,
     input: &[u8],
@@ -296,22 +234,17 @@ fn push_remains<L: Lines>(
     push_input_name(page, view)?;
     push_refused(page, *fault)?;
     match *fault {
-        Fault::Refused(_, _) => Ok(push_parts_of(alloc, page, lines, input)?),
+        Fault::Refused(_, _) => Ok(push_parts_of(alloc, page, input)?),
         _ => Ok(()),
     }
 }
 
 /// Adds what can be read of an input that is refused.
-fn push_parts_of<L: Lines>(
-    alloc: Global,
-    page: &mut Page,
-    lines: &mut L,
-    input: &[u8],
-) -> Result<(), Stop> {
+fn push_parts_of(alloc: Global, page: &mut Page, input: &[u8]) -> Result<(), AllocError> {
     if is_text(input) {
-        push_first_parts(alloc, page, lines, input)
+        push_first_parts(alloc, page, input)
     } else {
-        push_parts(alloc, page, lines, kind_of(input), input)
+        push_parts(alloc, page, kind_of(input), input)
     }
 }
 

@@ -33,6 +33,7 @@ pub fn part_of(kind: Kind) -> Part {
         Kind::RsaPrivateKey => Part::Pkix(PkixPart::RsaPrivateKey),
         Kind::RsaPublicKey => Part::Pkix(PkixPart::RsaPublicKey),
         Kind::EcPrivateKey => Part::Pkix(PkixPart::EcPrivateKey),
+        Kind::DsaPrivateKey => Part::DsaPrivateKey,
         Kind::CertificationRequest => Part::Pkcs(PkcsPart::CertificationRequest),
         Kind::EncryptedPrivateKey => Part::Pkcs(PkcsPart::EncryptedPrivateKeyInfo),
         Kind::OcspRequest => Part::Ocsp(OcspPart::OcspRequest),

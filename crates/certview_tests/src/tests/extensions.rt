@@ -44,7 +44,7 @@ fn shows_policies(rt: HostRuntime) -> Result<(), Fail> {
     let text = shown(rt.alloc(), kind_of(octets.as_slice()), octets.as_slice())?;
     for line in [
         "  249    39  extension: 2.5.29.33 (policyMappings), 30 octets, issuer's 1.3.5.8.1 is subject's 2.5.29.32.0 (anyPolicy), issuer's 1.3.5.8.2 is subject's 1.3.5.9.2\n",
-        "  288   111  extension: 2.5.29.32 (certificatePolicies), 102 octets, 1.3.5.8.1, 1.3.5.8.2 with 1.3.6.1.5.5.7.2.1 (cps) http://cps.example/ with 1.3.6.1.5.5.7.2.2 (unotice) #30101a064261726c65793006020101020102 Read\\, then sign\n",
+        "  288   111  extension: 2.5.29.32 (certificatePolicies), 102 octets, 1.3.5.8.1, 1.3.5.8.2 with 1.3.6.1.5.5.7.2.1 (cps) http://cps.example/ with 1.3.6.1.5.5.7.2.2 (unotice) #30101a064261726c65793006020101020102 and Read\\, then sign\n",
     ] {
         assert_contains(&rt, text.as_str(), line);
     }

@@ -1,0 +1,30 @@
+//! How many octets keys have.
+
+use der_asn1_types::asn1::BitStringRef;
+
+/// How many octets a key has of an algorithm with an identifier of these contents octets, if it is one
+/// of RFC 8410: X25519, X448, Ed25519 and Ed448 (1.3.101.110 to 113; RFC 7748 section 5, RFC 8032
+/// sections 5.1.5 and 5.2.5).
+pub fn size_of(algorithm: &[u8]) -> Option<usize> {
+    match algorithm {
+        [0x2b, 0x65, 110 | 112] => Some(32),
+        [0x2b, 0x65, 111] => Some(56),
+        [0x2b, 0x65, 113] => Some(57),
+        _ => None,
+    }
+}
+
+/// Whether a BIT STRING has the form of a point of a curve, of whose field an element has so many bits:
+/// 04 and two elements, 02 or 03 and one (SEC 1 section 2.3.3), or 06 or 07 and two, which X9.62 has
+/// too. The point at infinity is no key.
+pub fn is_point(point: &BitStringRef<'_>, bits: usize) -> bool {
+    if point.unused_bits() != 0 {
+        return false;
+    }
+    let size = bits.saturating_add(7) / 8;
+    match point.raw_bytes() {
+        [2 | 3, element @ ..] => element.len() == size,
+        [4 | 6 | 7, elements @ ..] => elements.len() == size.saturating_mul(2),
+        _ => false,
+    }
+}

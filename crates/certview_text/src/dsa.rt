@@ -1,0 +1,68 @@
+//! A private key of DSA as text.
+
+ghost use Rattle.std.specs.Prelude.{◌≡◌, None, OnOk};
+ghost use Rattle.der_modules.specs.Asn1.{parse_of};
+ghost use Rattle.certview_text.specs.Dsa.{dsa_private_key};
+ghost use Rattle.certview_text.specs.Faults.{first_fault};
+
+use crate::fault::{Fault, refusal};
+use crate::keys::{push_secret, push_version};
+use crate::kind::Kind;
+use crate::whole::push_title;
+use certview_parts::items::Items;
+use certview_parts::page::Page;
+use certview_parts::place::{nowhere, place_of_all};
+use certview_parts::rows::push_number_row;
+use der_asn1_types::asn1::UintRef;
+use der_asn1_types::{FieldSequence, Fields6, Form, FromDer};
+use der_places::contents_of;
+use std::alloc::{AllocError, Global};
+
+/// The fields of the key, as OpenSSL calls them.
+pub const DSA_FIELDS: [&str; 6] = ["version", "p", "q", "g", "pub_key", "priv_key"];
+
+/// A private key of DSA: a version, the parameters p, q and g, the public key and the private one.
+type DsaPrivateKey<'a> = FieldSequence<
+    Fields6<u8, UintRef<'a>, UintRef<'a>, UintRef<'a>, UintRef<'a>, UintRef<'a>>,
+>;
+
+/// What is read as a private key of DSA is what the page of the grammar says.
+fn grammar_of_dsa_private_key<'a>()
+    ensures { ⟦<DsaPrivateKey<'a> as Form>⟧.parse ≡ parse_of dsa_private_key }
+{}
+
+/// Adds the fields of the private key of DSA that these octets are, a line each.
+///
+/// # Errors
+/// `Refused` with the first fault of the octets, in the order of the fields; with
+/// `ErrorKind::TrailingData` (3) where octets are left over; with `ErrorKind::Overflow` (9) where there
+/// are more than 4294967295. `Memory`.
+pub fn push_dsa_private_key(alloc: Global, page: &mut Page, octets: &[u8]) -> Result<(), Fault>
+    ensures { OnOk result (first_fault (parse_of dsa_private_key) octets.now ≡ None) }
+{
+    grammar_of_dsa_private_key();
+    match DsaPrivateKey::from_der(alloc, octets) {
+        Ok(key) => Ok(push_fields(page, octets, &key)?),
+        Err(error) => Err(refusal(Kind::DsaPrivateKey, octets, error)),
+    }
+}
+
+fn push_fields(page: &mut Page, octets: &[u8], key: &DsaPrivateKey<'_>) -> Result<(), AllocError> {
+    let whole = place_of_all(octets);
+    push_title(page, &whole, Kind::DsaPrivateKey)?;
+    let mut items = Items::within(octets, &whole);
+    let version = items.next_item().unwrap_or(nowhere());
+    let p = items.next_item().unwrap_or(nowhere());
+    let q = items.next_item().unwrap_or(nowhere());
+    let g = items.next_item().unwrap_or(nowhere());
+    let public = items.next_item().unwrap_or(nowhere());
+    let private = items.next_item().unwrap_or(nowhere());
+    push_version(page, &version, *key.fields.first())?;
+    push_number_row(page, &p, "p", key.fields.second().as_bytes())?;
+    push_number_row(page, &q, "q", key.fields.third().as_bytes())?;
+    push_number_row(page, &g, "g", key.fields.fourth().as_bytes())?;
+    let number = key.fields.fifth().as_bytes();
+    push_number_row(page, &public, "public key", number)?;
+    let count = contents_of(octets, private).length as usize;
+    push_secret(page, &private, "privateKey", count)
+}
