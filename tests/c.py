@@ -1,6 +1,6 @@
 #!/usr/bin/env python3
 """Builds the library for C, links it and calls it: from C beside OpenSSL, from Rust, from Python beside `cryptography`, and
-from Go beside crypto/x509.
+from Go beside crypto/x509; and compiles README.md's lines in these languages.
 
     python3 tests/c.py [--built TREE]
 
@@ -16,6 +16,8 @@ import subprocess
 import sys
 import tempfile
 import warnings
+
+from readme_lines import try_lines
 
 ROOT = os.path.dirname(os.path.dirname(os.path.abspath(__file__)))
 SYSTEM = "/etc/ssl/certs/ca-certificates.crt"
@@ -276,6 +278,7 @@ def main(words):
         try_rust(trials, room, system or samples)
         try_python(trials, room, own)
         try_go(trials, room, own)
+        try_lines(trials, room, samples[0])
     print(f"{trials.passed} passed, {trials.failed} failed")
     return 1 if trials.failed else 0
 

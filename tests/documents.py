@@ -65,6 +65,19 @@ def messages_of(text):
     return messages, refused
 
 
+def as_told(given):
+    """The part of a document that a file has, without the faults that the text does not tell: those of values that are shown all
+    the same, though their contents octets are none of their type."""
+    def field_as_told(field):
+        wanted = field_of(LINE.fullmatch(f"{'':13}{field['name']}: {field['value']}")).get("malformed", [])
+        kept = [it for it in field.get("malformed", []) if it in wanted]
+        return {**{key: it for key, it in field.items() if key != "malformed"}, **({"malformed": kept} if kept else {})}
+
+    messages = [{key: [field_as_told(one) for one in it] if key == "fields" else it for key, it in message.items()}
+                for message in given["messages"]]
+    return {**given, "messages": messages}
+
+
 def input_of(file, text, said):
     """The part of a document that a file is to have, from its text and from what is said of it elsewhere."""
     messages, refused = messages_of(text)

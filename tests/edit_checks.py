@@ -91,8 +91,10 @@ class Crate:
     def check(self, texts, kept, names):
         """What a check says of the functions or modules of these names, or of the whole crate where there are none, in a copy
         with these texts in place of its own."""
+        seconds = 0
         while True:
             answer = self.run(texts, kept, sorted(set().union(*(self.known_as.get(it, {it}) for it in names))))
+            answer.seconds = seconds = seconds + answer.seconds
             no_name, two_names = NO_NAME.search(answer.text), TWO_NAMES.search(answer.text)
             told = (no_name or two_names)[1] if no_name or two_names else None
             of = next((it for it in names if told in self.known_as.get(it, {it})), None)
@@ -108,10 +110,19 @@ class Crate:
             for path, text in texts.items():
                 with open(f"{room}/{path}", "w", encoding="utf-8") as file:
                     file.write(text)
-            how = {"stdin": subprocess.DEVNULL, "stdout": subprocess.PIPE, "stderr": subprocess.STDOUT}
             words = self.command(kept, only) if self.builds.ended() else ["nice", "-n", "19", *self.command(kept, only)]
-            ran = subprocess.run(words, cwd=room, errors="replace", **how)
-        return Answer(ran.stdout, ran.returncode)
+            return Answer(*ran(words, room))
+
+
+def ran(words, folder):
+    """What a command says, its status, and the processor seconds that it took."""
+    with tempfile.TemporaryFile() as said:
+        how = {"stdin": subprocess.DEVNULL, "stdout": said, "stderr": subprocess.STDOUT}
+        with subprocess.Popen(words, cwd=folder, **how) as process:
+            _, status, used = os.wait4(process.pid, 0)
+            process.returncode = os.waitstatus_to_exitcode(status)
+        said.seek(0)
+        return said.read().decode(errors="replace"), process.returncode, used.ru_utime + used.ru_stime
 
 
 class Builds:
@@ -166,8 +177,8 @@ class Builds:
 class Answer:
     """What a check has said: of each function, whether its own proof fails, and of the texts whether they are read."""
 
-    def __init__(self, text, status):
-        self.text, self.status = text, status
+    def __init__(self, text, status, seconds):
+        self.text, self.status, self.seconds = text, status, seconds
         lines = text.rstrip("\n").split("\n")
         self.judged = status in (0, 1) and lines[-1].startswith(("only=", "logic="))
         self.said = dict(STATUS.findall(text))
@@ -196,6 +207,7 @@ class Answer:
         """Whether all that is said of the function is that its proof file cites what is not there any more."""
         if self.said.get(path) != "not proved":
             return False
-        own = re.compile(rf"(\./)?proofs/.*/{path.split('::')[-1]}/.*: error")
+        *of, name = path.split("::")[1:]
+        own = re.compile(rf"(\./)?proofs/{''.join(f'{it}/' for it in of)}\+?{name}/.*: error")
         told = [it for it in self.text.split("\n") if own.match(it)]
         return bool(told) and all(NAMES.search(it) for it in told)

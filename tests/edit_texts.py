@@ -48,6 +48,12 @@ class Edit:
             text = text.replace(old, new)
         return text
 
+    def is_of_comments(self):
+        """Whether each line that it changes is a comment, before and after."""
+        lines, others = self.source.split("\n"), (self.alone or "").split("\n")
+        both = [it for at in self.changed() for it in (lines[at], others[at])]
+        return all(it.lstrip().startswith("//") for it in both)
+
     def changed(self):
         """The numbers of the lines that differ (no text of an edit has a second line)."""
         both = zip(self.source.split("\n"), (self.alone or "").split("\n"))

@@ -36,6 +36,7 @@ from maker import everything, spoilt
 from maker.workshop import AT_ONCE, Workshop
 from openssl_says import said_by
 from reader import kinds, pem
+from reader.identifiers import IRREGULAR
 from reader.octets import Refused
 
 # Few enough that the program which `rt try` builds asks for memory less often than the request that it is refused.
@@ -79,14 +80,20 @@ def shown(message):
     return [(it["offset"], it["length"], it["name"], MALFORMED.sub("<malformed>", it["value"])) for it in message["fields"]]
 
 
+def is_wrong_part(row):
+    """Whether a part cannot be read, or is shown and is none of its type."""
+    return "<malformed>" in row[3] or IRREGULAR in row[3]
+
+
 def compare_rows(what, rows, message):
     """Each field of a message: its place, its name and its value."""
     found = shown(message)
     for at, (row, field) in enumerate(zip(rows, found)):
         fields[message["kind"]] += 1
+        is_wrong, row = is_wrong_part(row), (*row[:3], row[3].replace(IRREGULAR, ""))
         if row != field:
             return fail(f"{what}, field {at}: certview has {field}, the reader {row}")
-        if ("<malformed>" in row[3]) != bool(message["fields"][at].get("malformed")):
+        if is_wrong != bool(message["fields"][at].get("malformed")):
             return fail(f"{what}, field {at}: {message['fields'][at]}")
     if len(rows) != len(found):
         longer = rows if len(rows) > len(found) else found
@@ -118,9 +125,10 @@ MALFORMED_ALWAYS = (
 )
 
 
-def is_malformed(rows):
+def is_malformed(message):
     """Whether a part is malformed that openssl was not told to write so."""
-    return any("<malformed>" in row[3] and not any(row[3].endswith(it) for it, _ in MALFORMED_ALWAYS) for row in rows)
+    values = [row[3] for row, it in zip(shown(message), message["fields"]) if "malformed" in it]
+    return any(not any(value.endswith(it) for it, _ in MALFORMED_ALWAYS) for value in values)
 
 
 def compare_made(made, document, counted=True):
@@ -137,7 +145,7 @@ def compare_made(made, document, counted=True):
     both = compare_message(what, made.taken_for or made.kind, held[0][1], message, refused)
     if both == bool(made.refused):
         fail(f"{what}: it is {'read' if both else 'refused'}, and that is not expected: {made.refused or refused}")
-    if both and is_malformed(shown(message)) != bool(made.malformed) and not made.may_be_malformed:
+    if both and is_malformed(message) != bool(made.malformed) and not made.may_be_malformed:
         fail(f"{what}: that a part is malformed, or that none is, is not expected: {made.malformed}")
     counts[made.kind] += counted
     return both
@@ -197,7 +205,7 @@ def try_wrong_documents(read):
     """Wrong documents of a file of each kind, of ten fields or nearly so, are found, by the reader and by openssl."""
     firsts = {}
     for made, document in sorted(read, key=lambda it: abs(len(it[1]["messages"][0]["fields"]) - 10)):
-        if not any("malformed" in it for it in document["messages"][0]["fields"]):
+        if not made.unasked and not any("malformed" in it for it in document["messages"][0]["fields"]):
             firsts.setdefault(made.kind, (made, document))
     for made, document in firsts.values():
         for what, other in planted.wrong_documents(document):
@@ -224,7 +232,7 @@ def compare_texts(program, read):
     with concurrent.futures.ThreadPoolExecutor(AT_ONCE) as pool:
         for made, document, wanted in pool.map(ask, read[::10]):
             answers["text"] += 1
-            if document != wanted:
+            if documents.as_told(document) != wanted:
                 fail(f"{os.path.basename(made.path)}: the document and the text differ: {document} and {wanted}")
 
 
@@ -234,7 +242,7 @@ def answer_of(kind, octets):
         rows = kinds.rows_of(kind, octets)
     except Refused:
         return "refused", []
-    return "malformed" if any("<malformed>" in row[3] for row in rows) else "read", rows
+    return "malformed" if any(map(is_wrong_part, rows)) else "read", rows
 
 
 def compare_spoilt(program, shop):
@@ -317,7 +325,7 @@ def main():
             if compare_made(it, document):
                 read.append((it, document))
         try_wrong_documents(read)
-        compare_with_openssl([(it, document["messages"][0]) for it, document in read])
+        compare_with_openssl([(it, document["messages"][0]) for it, document in read if not it.unasked])
         compare_texts(program, read)
         if words.spoilt:
             compare_spoilt(program, shop)

@@ -3,47 +3,118 @@ that the refusal stands on: the kit, the sources of the crate and of those below
 tried.
 
 A refusal is a file of its own, named by the sum of all that, in a folder where 'rt' keeps its proofs, outside each checkout.
-It is written apart and then renamed, so that two runs at once do no harm. What was not refused is not kept. Beside the
-refusals stands how long the edits of each crate took.
+It is written apart and then renamed, so that two runs at once do no harm, and at once, so that a run which is cut off keeps
+what it has tried. What was not refused is not kept.
 
-The record, tests/refused-edits, has these sums for other machines: a line for each edit that was refused where the record was
-written. It is a part of the repository, so who changes a source writes it anew."""
+The record, tests/refused-edits, has the refusals for other machines: a line for each edit that was refused where the record was
+written. It is a part of the repository, so who changes a source writes it anew. Each line stands in the log of the run that
+tried the edit, word for word."""
+import contextlib
+import fcntl
 import hashlib
 import importlib.machinery
 import importlib.util
 import json
 import os
+import re
 import sys
 import tempfile
+from dataclasses import dataclass
 
 # To be raised where tests/edits.py tries or judges edits in another way: what was kept by the old rules counts no more.
-RULES = 1
+RULES = 2
 # What a check of a crate reads.
 PARTS = ("src", "specs", "proofs")
+# What a refusal is by: a goal of the function that is not proved; names alone, which a proof file cites and the edit took away; or
+# the borrow checker alone, which does not cover what the edit writes.
+BY = ("goal", "names", "borrow")
+LINE = re.compile(rf"([0-9a-f]{{64}}) (\w+/[\w-]+) (\d{{4}}-\d\d-\d\d) (\d+) (\S+) ({'|'.join(BY)})")
+# A line of a run's log that says so of an edit.
+TOLD = re.compile(rf"^refused \(\d+ of \d+\): ({LINE.pattern})$", re.M)
+
+
+@dataclass(frozen=True)
+class Refusal:
+    """That an edit was refused: the sum of what this stands on, the edit's name, the day when it was tried, the processor seconds
+    that it took, the function that is not proved, and what that is by."""
+
+    sum: str
+    label: str
+    date: str
+    seconds: int
+    function: str
+    by: str
+
+    def line(self):
+        return f"{self.sum} {self.label} {self.date} {self.seconds} {self.function} {self.by}"
+
+    def is_as(self, other):
+        """Whether another says the same of the same edit, whenever that was tried and however long that took."""
+        return (self.label, self.function, self.by) == (other.label, other.function, other.by)
+
+
+def refusal_of(line):
+    """The refusal that a line tells, or none."""
+    found = LINE.fullmatch(line)
+    if not found:
+        return None
+    sum, label, date, seconds, function, by = found.groups()
+    return Refusal(sum, label, date, int(seconds), function, by)
 
 
 class Record:
-    """The sums of the edits that were refused where the record was written, by their labels."""
+    """The refusals of the record, by the names of their edits."""
 
     def __init__(self, file):
-        self.file, self.sums = file, {}
-        if os.path.isfile(file):
-            with open(file, encoding="utf-8") as lines:
-                for line in lines:
-                    sum, label = line.split()
-                    self.sums[label] = sum
+        self.file = file
+        self.refusals = self.read()
 
-    def has(self, label, sum):
-        return self.sums.get(label) == sum
+    def read(self):
+        if not os.path.isfile(self.file):
+            return {}
+        with open(self.file, encoding="utf-8") as lines:
+            found = [refusal_of(it.rstrip("\n")) for it in lines]
+        return {it.label: it for it in found if it}
 
-    def write(self, sums):
-        """Writes a record of these sums by the labels of edits, and of no others."""
-        with open(self.file, "w", encoding="utf-8") as file:
-            file.writelines(f"{sum} {label}\n" for label, sum in sorted(sums.items()))
+    def refusal(self, label, sum):
+        """The refusal of the edit of this name, if it stands on what this sum is of."""
+        found = self.refusals.get(label)
+        return found if found and found.sum == sum else None
+
+    def seconds(self, label):
+        """How long an edit took when it was last tried, whatever has changed since; none where it was not."""
+        found = self.refusals.get(label)
+        return found.seconds if found else None
+
+    def put(self, refusals, gone=()):
+        """Writes these refusals among the others, and none of the edits that are gone. Another run may write meanwhile."""
+        with locked(os.path.dirname(self.file)):
+            self.refusals = self.read()
+            self.refusals.update((it.label, it) for it in refusals)
+            kept = [it.line() + "\n" for label, it in sorted(self.refusals.items()) if label not in gone]
+            with open(f"{self.file}.new", "w", encoding="utf-8") as file:
+                file.writelines(kept)
+            os.replace(f"{self.file}.new", self.file)
+
+    def unlike(self, logs):
+        """The lines that stand in none of these logs of runs."""
+        told = {line for log in logs for line, *_ in TOLD.findall(log)}
+        return [it for _, it in sorted(self.refusals.items()) if it.line() not in told]
+
+
+@contextlib.contextmanager
+def locked(folder):
+    """Keeps other runs out of a folder."""
+    at = os.open(folder, os.O_RDONLY)
+    try:
+        fcntl.flock(at, fcntl.LOCK_EX)
+        yield
+    finally:
+        os.close(at)
 
 
 class Kept:
-    """The refusals of earlier runs on this machine, and how long the edits of each crate took."""
+    """The refusals of earlier runs on this machine."""
 
     def __init__(self, kit, anew=False):
         self.anew, self.at = anew, f"{os.path.dirname(kit)}/rattle-kept/der-edits"
@@ -53,23 +124,13 @@ class Kept:
         except OSError:
             self.is_usable = False
 
-    def refusal(self, sum):
-        """What was said where the edit of this sum was refused, or none."""
-        found = {} if self.anew else self.read(sum)
-        return found.get("said") if found.get("sum") == sum else None
+    def refusal(self, label, sum):
+        """The refusal of the edit of this name, if it stands on what this sum is of; none where all are to be tried."""
+        found = None if self.anew else refusal_of(str(self.read(sum).get("refused")))
+        return found if found and (found.label, found.sum) == (label, sum) else None
 
-    def keep(self, sum, said):
-        self.write(sum, {"sum": sum, "said": said})
-
-    def seconds(self, crate, edits):
-        """How long this many edits of a crate are likely to take, by an earlier run; none where there was none."""
-        found = self.read(f"seconds-{crate}")
-        return edits * found["seconds"] / found["edits"] if found.get("edits") else None
-
-    def keep_seconds(self, crate, edits, seconds, of):
-        """Notes how long these edits took, of all that the crate has, unless they are too few to tell of the others."""
-        if 2 * edits >= of:
-            self.write(f"seconds-{crate}", {"edits": edits, "seconds": seconds})
+    def keep(self, refusal):
+        self.write(refusal.sum, {"refused": refusal.line()})
 
     def read(self, name):
         try:

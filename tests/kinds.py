@@ -6,6 +6,7 @@ algorithms, iterations, lengths and texts with those that openssl prints. certvi
 the one that CERTVIEW names). Nothing is compared where there is no command openssl.
 """
 
+import base64
 import datetime
 import os
 import re
@@ -87,6 +88,9 @@ ecparam -name secp384r1 -out curve.pem
 ecparam -name secp256k1 -param_enc explicit -outform DER -out curve.der
 dsaparam -out dsa.pem 1024
 dsaparam -in dsa.pem -outform DER -out dsa.der
+genpkey -paramfile dsa.pem -out dsa.key
+pkey -in dsa.key -traditional -out dsa_key.pem
+x509 -in ca.pem -trustout -addtrust serverAuth -addreject emailProtection -setalias mill -out trusted.pem
 dhparam -out dh.pem 512
 genpkey -genparam -algorithm DHX -pkeyopt dh_rfc5114:2 -out dhx.pem
 """
@@ -363,6 +367,37 @@ class Kinds:
         self.numbers(shown, said, {"prime": "P"})
         shown.has("base", re.search(r"G: +(\d+)", said)[1])
 
+    def key_of_dsa(self):
+        """A key of DSA alone, in DER and as PEM text: its numbers are those that openssl finds, but for the private one."""
+        octets = self.block("dsa_key.pem")
+        with open(f"{self.folder}/dsa_key.der", "wb") as file:
+            file.write(octets)
+        said = re.findall("INTEGER +:([0-9A-F]+)", self.openssl("asn1parse -in dsa_key.pem"))
+        for name in ("dsa_key.pem", "dsa_key.der"):
+            shown = Shown(self, name)
+            shown.is_of("private key of DSA", octets)
+            shown.has("version", "0")
+            for label, digits in zip(("p", "q", "g", "public key"), said[1:]):
+                shown.has(label, f"{int(digits, 16).bit_length()} bits, {digits.lower()}")
+            shown.same("what is not shown", said[5].lower() in shown.text, False)
+
+    def trusted(self):
+        """A certificate that is trusted has the lines of the certificate, and those of its settings."""
+        shown, alone = Shown(self, "trusted.pem"), Shown(self, "ca.pem")
+        shown.same("the certificate", shown.text.startswith(alone.text), True)
+        said = self.openssl("x509 -in trusted.pem -noout -text")
+        shown.has("alias", re.search("Alias: (.*)", said)[1])
+        uses = {"TLS Web Server Authentication": "1.3.6.1.5.5.7.3.1 (serverAuth)", "E-mail Protection": "1.3.6.1.5.5.7.3.4 (emailProtection)"}
+        for label, title in (("trusted use", "Trusted Uses"), ("rejected use", "Rejected Uses")):
+            shown.has(label, uses[re.search(rf"{title}:\n +(.*)", said)[1]])
+        count = len(self.block("trusted.pem")) - len(self.block("ca.pem"))
+        shown.has("trust settings", f"{count} octets")
+
+    def block(self, name):
+        """The octets of a block of PEM text."""
+        with open(f"{self.folder}/{name}", encoding="utf-8") as file:
+            return base64.b64decode("".join(line for line in file.read().splitlines() if "-" not in line))
+
     def numbers(self, shown, said, names):
         for label, name in names.items():
             digits = re.sub("[^0-9a-f]", "", re.search(rf"(?m)^\s*{name}: *\n([0-9a-f:\s]+)", said)[1])
@@ -389,7 +424,7 @@ def compare(program, folder, tell):
     kinds = Kinds(program, folder, tell)
     if not kinds.make_files():
         return
-    for part in ("request", "encrypted_keys", "statuses", "messages", "stamps", "files", "parameters", "labels"):
+    for part in ("request", "encrypted_keys", "statuses", "messages", "stamps", "files", "parameters", "key_of_dsa", "trusted", "labels"):
         try:
             getattr(kinds, part)()
         except (AttributeError, IndexError, TypeError, ValueError) as error:

@@ -22,6 +22,20 @@ one = derproved.Certificate(open(sys.argv[1], "rb").read())
 print(one.version, int(one.not_before.timestamp()), int(one.not_after.timestamp()))"""
 
 
+MAIN = """
+int main(int count, char **words)
+{
+    static uint8_t octets[1 << 16];
+    FILE *file = count == 2 ? fopen(words[1], "rb") : NULL;
+    if (!file)
+        return 1;
+    print_dates(octets, fread(octets, 1, sizeof octets, file));
+    fclose(file);
+    return 0;
+}
+"""
+
+
 def path_without_rt(room):
     """PATH without the command rt: for a folder that has it, one with links to all else in it."""
     folders = []
@@ -89,6 +103,12 @@ class Machine:
         self.trials.tell(f"{', '.join(self.told)} tell the same", wrong and self.told)
 
 
+def program_of(page):
+    """The first program in C of a page, with a main that reads a file."""
+    first = re.search(r"^```c\n(.*?)^```$", page, re.M | re.S)[1]
+    return first + MAIN
+
+
 def use_c(machine):
     machine.run("sha256sum -c", ["sha256sum", "-c", "--quiet", "--strict", "RELEASE"])
     machine.run("make", ["make", "-s", "-C", "c"])
@@ -97,6 +117,25 @@ def use_c(machine):
     words = ["cc", "-std=c11", "-Iinstalled/include", "-o", "shared", "c/certificate.c", "-Linstalled/lib", "-lder_c", "-Wl,-rpath,$ORIGIN/installed/lib"]
     machine.run("the example is linked with the shared object", words)
     machine.example("C, shared", ["./shared", machine.sample])
+    use_pkg_config(machine)
+
+
+def use_pkg_config(machine):
+    """The program of docs/C.md, built by what pkg-config alone says of the folder that 'make' did not know."""
+    if not machine.has("pkg-config"):
+        machine.trials.left_out("C by pkg-config", "pkg-config")
+        return
+    with open(f"{ROOT}/docs/C.md", encoding="utf-8") as page, open(f"{machine.folder}/dates.c", "w", encoding="utf-8") as file:
+        file.write(program_of(page.read()))
+    installed = f"{machine.folder}/installed"
+    by_it = f"PKG_CONFIG_PATH={installed}/lib/pkgconfig pkg-config"
+    line = f"cc -std=c11 -o dates dates.c $({by_it} --cflags --libs der) -Wl,-rpath,$({by_it} --variable=libdir der)"
+    machine.run("the program of docs/C.md, by pkg-config", ["sh", "-c", line])
+    if not os.path.isfile(f"{machine.folder}/dates"):
+        return
+    told = machine.run("that program says the dates", ["./dates", machine.sample])
+    wanted = machine.told.get("C, shared")
+    machine.trials.tell("its dates are the example's", None if wanted and told.split() == list(wanted[1:]) else (told, wanted))
 
 
 def use_aarch64(machine):

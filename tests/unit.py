@@ -5,7 +5,7 @@ outside of memory and at a sum that does not fit.
     python3 tests/unit.py [NAME..]
 
 JOBS says how many crates are at work at a time. The last line counts the tests; a crate whose tests did not run to their end
-counts as one that failed. Who wants the tests proved, too, runs 'rt ci' at the top, or 'rt test' in a crate."""
+counts as one that failed. tests/proved_tests.py proves a part of them; 'rt ci' at the top and 'rt test' in a crate prove all."""
 import glob
 import os
 import re

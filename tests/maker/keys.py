@@ -62,6 +62,20 @@ def key_files(shop):
             more = shop.pick(((), ("-no_public",), ("-param_enc", "explicit"), ("-conv_form", "compressed")))
             shop.out("curve", "private key of an elliptic curve", f"{name} {more}, SEC 1", "ec", "-in", f"{name}.key", *more, form=form)
     multi_prime(shop)
+    odd_exponent(shop)
+
+
+def odd_exponent(shop):
+    """RSA with an exponent of three octets that differ, 010203."""
+    words = ["genpkey", "-algorithm", "RSA", "-pkeyopt", "rsa_keygen_bits:1024", "-pkeyopt", "rsa_keygen_pubexp:66051", "-out"]
+    rows = (
+        ("public", "public key", ["pkey", "-in", "odd-1.key", "-pubout"]),
+        ("rsa", "private key of RSA", ["rsa", "-in", "odd-2.key", "-traditional"]),
+        ("rsa", "public key of RSA", ["rsa", "-in", "odd-3.key", "-RSAPublicKey_out"]),
+    )
+    for number, (stem, kind, command) in enumerate(rows, 1):
+        before = [[*words, f"odd-{number}.key"]]
+        shop.out(stem, kind, "RSA with the exponent 66051", *command, before=before, form="DER")
 
 
 def multi_prime(shop):

@@ -22,6 +22,8 @@ class Made:
     may_be_malformed: str = ""
     taken_for: str = ""
     large: bool = False
+    # Why openssl is not asked what it says of the file.
+    unasked: str = ""
     # What else is to be compared: how its text is had from openssl, or what is known of the file.
     known: dict = field(default_factory=dict)
 

@@ -1,5 +1,7 @@
 """Files of which openssl has no command for the whole: their parts are named one by one, and `asn1parse -genconf` writes them."""
 
+import irregular as by_hand
+
 from .workshop import Made
 
 CERTIFICATE, LIST, RESPONSE = "certificate", "list of revoked certificates", "OCSP response"
@@ -65,6 +67,68 @@ def certificates():
     )
     for about, tree, reason in refused:
         yield CERTIFICATE, about, tree, reason
+
+
+def texts(kind, *values):
+    return (kind, [f"UTF8:{it}" for it in values])
+
+
+def of_authority(number):
+    """A certificate whose issuer's certificate has this serial number."""
+    issuer = ("IMPLICIT:1,SEQUENCE", ["IMPLICIT:2,IA5:i.example"])
+    authority = ("OCTWRAP,SEQUENCE", ["IMPLICIT:0,FORMAT:HEX,OCT:0102", issuer, f"IMPLICIT:2,INTEGER:{number}"])
+    return CERTIFICATE, f"an authority with the number {number}", certificate(THIRD, [extension("2.5.29.35", authority)])
+
+
+def authorities():
+    """Serial numbers from 80 on have an octet for the sign."""
+    for number in ("0x80", "0xff01", "0x7f"):
+        yield *of_authority(number), ""
+
+
+def unasked():
+    """What openssl prints otherwise, or not at all, and why it is not asked."""
+    yield *of_authority("-128"), "openssl prints no sign"
+    address, party = ("IMPLICIT:3,SEQUENCE", [("SEQUENCE", [])]), ("IMPLICIT:5,SEQUENCE", ["EXPLICIT:1,UTF8:party"])
+    names = ("OCTWRAP,SEQUENCE", [address, party, "IMPLICIT:7,FORMAT:HEX,OCT:0102030405", "IMPLICIT:2,IA5:a.example"])
+    about = "names of X.400 and EDI, and an address of five octets"
+    yield CERTIFICATE, about, certificate(THIRD, [extension("2.5.29.17", names)]), "openssl prints none of these names"
+    yield CERTIFICATE, "words of certview's in values", words_in_values(), "openssl prints no minimum, and parts in lines of their own"
+
+
+def words_in_values():
+    """A certificate with values that have the words which stand between values."""
+    ways = ("SEQUENCE", [("SEQUENCE", [f"OID:1.3.6.1.5.5.7.2.{last}", value]) for last, value in (
+        (1, "IA5:http://a with 1.2.3 to b"), (1, "IA5:with"), (2, texts("SEQUENCE", "one and two", "and", "sand")), (1, "IA5:ends with"))])
+    policy = ("OCTWRAP,SEQUENCE", [("SEQUENCE", ["OID:1.2.3", ways])])
+    directory = ("EXPLICIT:4,SEQUENCE", [("SET", [("SEQUENCE", ["OID:2.5.4.3", "UTF8:X to 99"])])])
+    bases = [[directory], [directory, "IMPLICIT:1,INTEGER:99"], ["IMPLICIT:2,IA5:x from 1  to"], ["IMPLICIT:1,IA5:a to", "IMPLICIT:0,INTEGER:2"]]
+    subtrees = ("OCTWRAP,SEQUENCE", [("IMPLICIT:0,SEQUENCE", [("SEQUENCE", it) for it in bases])])
+    more = [extension("2.5.29.32", policy), extension("2.5.29.30", subtrees, "TRUE")]
+    return certificate(THIRD, more)
+
+
+FULL_NULL = "IMPLICIT:5U,FORMAT:HEX,OCT:dead"
+POINT_ON = ("SEQUENCE", ["OID:1.2.840.10045.2.1", "OID:1.2.840.10045.3.1.7"])
+
+
+def irregular():
+    """Files with a part that is no DER, or none of what it stands for, and why."""
+    for identifier in ("1.3.6.1.4.1.11129.2.4.3", "1.3.6.1.5.5.7.48.1.5"):
+        poison = certificate(THIRD, [extension(identifier, f"OCTWRAP,{FULL_NULL}")])
+        yield CERTIFICATE, f"the extension {identifier} with a NULL with contents", poison, "X.690 8.8.2"
+    for about, octets in (("11 octets", "04" + "07" * 10), ("another form", "05" + "07" * 64), ("infinity", "00"), ("64 octets", "02" + "07" * 63)):
+        yield "public key", f"P-256, {about}", ("SEQUENCE", [POINT_ON, f"FORMAT:HEX,BITSTRING:{octets}"]), "no point: SEC 1 section 2.3.3"
+    for last, sizes in ((110, (5, 31, 33)), (111, (55, 57)), (112, (5, 57)), (113, (32, 56))):
+        for size in sizes:
+            key = ("SEQUENCE", [("SEQUENCE", [f"OID:1.3.101.{last}"]), "FORMAT:HEX,BITSTRING:" + "09" * size])
+            yield "public key", f"1.3.101.{last}, {size} octets", key, "RFC 8410 section 4"
+    for about, held in (("none", "0000"), ("one of no octets", "00020000")):
+        more = [extension("1.3.6.1.4.1.11129.2.4.2", f"OCTWRAP,FORMAT:HEX,OCT:{held}")]
+        yield CERTIFICATE, f"a list of timestamps, {about}", certificate(THIRD, more), "RFC 6962 section 3.3"
+    for value in ("IMPLICIT:12U,FORMAT:HEX,OCT:ff", "IMPLICIT:19U,IA5:a@b", "IMPLICIT:18U,IA5:1a", "IMPLICIT:22U,FORMAT:HEX,OCT:c3a9",
+                  "IMPLICIT:30U,FORMAT:HEX,OCT:d83c", "IMPLICIT:26U,FORMAT:HEX,OCT:7f"):
+        yield CERTIFICATE, f"a subject {value}", certificate(THIRD, subject=value), "X.680 41, X.690 8"
 
 
 def entry(number, *extensions):
@@ -139,9 +203,24 @@ def bags():
 
 
 def written_files(shop):
-    for part in (certificates, lists, keys, answers, messages, bags):
+    for part in (certificates, authorities, lists, keys, answers, messages, bags):
         for kind, about, tree, reason in part():
-            name_of = shop.name("written", "der")
-            config = shop.write(f"{name_of}.cnf", configuration(tree))
-            made = Made(shop.path(name_of), kind, about, refused=reason)
-            shop.later([["asn1parse", "-genconf", config, "-noout", "-out", name_of]], made)
+            write(shop, kind, about, tree).refused = reason
+    for kind, about, tree, reason in unasked():
+        write(shop, kind, about, tree).unasked = reason
+    for kind, about, tree, reason in irregular():
+        made = write(shop, kind, about, tree)
+        made.malformed = made.unasked = reason
+    for kind, about, octets, line, faults in by_hand.rows():
+        path = shop.path(shop.write(shop.name("by-hand", "der"), octets))
+        reason = str(faults) if faults else ""
+        shop.made.append(Made(path, kind, f"{about}: {line}", malformed=reason, unasked="it is built by hand, and not signed"))
+
+
+def write(shop, kind, about, tree):
+    """A file of these parts, which is answered."""
+    name_of = shop.name("written", "der")
+    config = shop.write(f"{name_of}.cnf", configuration(tree))
+    made = Made(shop.path(name_of), kind, about)
+    shop.later([["asn1parse", "-genconf", config, "-noout", "-out", name_of]], made)
+    return made

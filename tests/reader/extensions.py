@@ -155,11 +155,11 @@ def qualifier(encoding):
     kind, held = named(values.identifier(fields.take(0x06))), fields.next()
     fields.close()
     if held.tag != 0x30:
-        return f"{kind} {texts.value(held)}"
+        return f"{kind} {texts.value(held, True)}"
     try:
-        return f"{kind} {' '.join(texts.value(it) for it in held.fields().rest())}"
+        return f"{kind} {' and '.join(texts.value(it, True) for it in held.fields().rest())}"
     except Refused:
-        return f"{kind} {texts.value(held)}"
+        return f"{kind} {texts.value(held, True)}"
 
 
 def policies(encoding):
@@ -259,7 +259,7 @@ def stamp(coded):
 
 def stamps(encoding):
     coded, left = counted(encoding.has(0x04).contents)
-    refuse_unless(not left, "octets are left over")
+    refuse_unless(coded and not left, "a list with no timestamp, or octets are left over")
     found = []
     while coded:
         one_of, coded = counted(coded)

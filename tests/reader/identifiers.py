@@ -2,6 +2,9 @@
 
 from .names import NAMES, SHORT
 
+# Stands behind what is shown of a value whose contents octets are none of its type: no text that is shown has this character.
+IRREGULAR = "\0"
+
 
 def arcs(octets):
     """The arcs in dotted form (X.690 8.19); none where the octets stand for none, or one takes more than 64 bits."""
@@ -21,8 +24,14 @@ def arcs(octets):
     return ".".join(map(str, [root, found[0] - 40 * root, *found[1:]]))
 
 
+def is_identifier(octets):
+    """Whether each number ends, and is in the fewest octets (X.690 8.19.2)."""
+    begins = [at for at in range(len(octets)) if at == 0 or octets[at - 1] < 0x80]
+    return bool(octets) and octets[-1] < 0x80 and all(octets[at] != 0x80 for at in begins)
+
+
 def dotted(octets):
-    return arcs(octets) or f"#{octets.hex()}"
+    return arcs(octets) or f"#{octets.hex()}{'' if is_identifier(octets) else IRREGULAR}"
 
 
 def named(octets):

@@ -8,6 +8,8 @@ from .octets import Refused, read_inside, refuse_unless
 
 RSA = {"1.2.840.113549.1.1.1", "1.2.840.113549.1.1.10"}
 EC, DSA = "1.2.840.10045.2.1", "1.2.840.10040.4.1"
+# How many octets a key has: X25519, X448, Ed25519 and Ed448 (RFC 8410 section 4, RFC 7748, RFC 8032).
+SIZES = {"1.3.101.110": 32, "1.3.101.111": 56, "1.3.101.112": 32, "1.3.101.113": 57}
 
 
 class Rows:
@@ -36,11 +38,13 @@ def algorithm_of(encoding):
 
 def algorithm_text(encoding):
     kind, parameters = algorithm_of(encoding)
+    if parameters is not None and parameters.tag == 0x05 and parameters.contents:
+        return f"{named(kind)}, parameters <malformed>"
     if parameters is None or parameters.tag == 0x05:
         return named(kind)
     if parameters.tag == 0x06:
         return f"{named(kind)}, {named(parameters.contents)}"
-    return f"{named(kind)}, parameters #{parameters.whole.hex()}"
+    return f"{named(kind)}, parameters #{parameters.whole.hex()}{texts.mark(parameters)}"
 
 
 def add_algorithm(rows, label, encoding):
@@ -58,6 +62,13 @@ def rsa_key(encoding):
     return f"{texts.bits_of(modulus)} bits, exponent {texts.decimal(exponent)}, modulus {modulus.hex()}"
 
 
+def is_point(octets, bits):
+    """Whether octets have the form of a point of a curve (SEC 1 section 2.3.3, X9.62 section 4.3.6), but that at infinity."""
+    size = (bits + 7) // 8
+    lengths = {2: 1 + size, 3: 1 + size, 4: 1 + 2 * size, 6: 1 + 2 * size, 7: 1 + 2 * size}
+    return bool(octets) and lengths.get(octets[0]) == len(octets)
+
+
 def key_text(algorithm, encoding):
     """The bits of a public key as people count them, and its octets."""
     kind, parameters = algorithm_of(algorithm)
@@ -67,6 +78,8 @@ def key_text(algorithm, encoding):
         return rsa_key(encoding)
     if kind == EC:
         curve = CURVES.get(arcs(parameters.contents)) if parameters is not None and parameters.tag == 0x06 else None
+        if curve and (count % 8 or not is_point(octets, curve[1])):
+            return f"<malformed>, {octets.hex()}"
         return f"{curve[1]} bits, {octets.hex()}" if curve else f"point {octets.hex()}"
     if kind == DSA:
         try:
@@ -74,6 +87,8 @@ def key_text(algorithm, encoding):
         except Refused:
             prime = None
         return f"{texts.bits_of(prime)} bits, {octets.hex()}" if prime else f"key of DSA {octets.hex()}"
+    if SIZES.get(kind, count / 8) != count / 8:
+        return f"<malformed>, {octets.hex()}"
     return f"{count} bits, {octets.hex()}"
 
 

@@ -1,10 +1,11 @@
 """Values as people read them: numbers, octets, characters, names."""
 
 import ipaddress
+import re
 import unicodedata
 
 from . import values
-from .identifiers import named, short
+from .identifiers import IRREGULAR, is_identifier, named, short
 from .octets import Refused, refuse_unless
 
 HIDDEN = {"Cc", "Cf", "Cs", "Co", "Cn", "Zl", "Zp"}
@@ -15,6 +16,12 @@ IGNORED = [
     (0xFFF0, 0xFFF8), (0x1BCA0, 0x1BCA3), (0x1D173, 0x1D17A), (0xE0000, 0xE0FFF),
 ]
 TEXTS = {0x0C, 0x12, 0x13, 0x16, 0x1A}
+# The characters of NumericString, PrintableString and VisibleString (X.680 41).
+CHARACTERS = {0x12: rb"[0-9 ]*", 0x13: rb"[A-Za-z0-9 '()+,\-./:=?]*", 0x1A: rb"[ -~]*"}
+CHECKS = {
+    0x01: values.boolean, 0x02: values.integer, 0x03: values.bit_string, 0x05: values.null, 0x0C: values.utf8, 0x16: values.ia5,
+}
+WORDS = re.compile(r" (?=(?:and|from|to|with)(?: |\Z))")
 
 
 def colons(octets):
@@ -57,12 +64,13 @@ def plain(characters):
     return "".join(it if is_plain(it) else "".join(f"\\{octet:02x}" for octet in it.encode()) for it in characters)
 
 
-def escaped(characters):
-    """RFC 4514 section 2.4."""
+def escaped(characters, among_words=False):
+    """RFC 4514 section 2.4. Where a word of certview's may stand behind them, a space before such a word is escaped too."""
     ends_in_space = characters.endswith(" ")
     front = characters[:-1] if ends_in_space else characters
+    marked = {it.start() for it in WORDS.finditer(front)} if among_words else ()
     text = "".join(
-        "\\" + it if it in '"+,;<>\\' or at == 0 and it in "# " else plain(it) for at, it in enumerate(front)
+        "\\" + it if it in '"+,;<>\\' or at == 0 and it in "# " or at in marked else plain(it) for at, it in enumerate(front)
     )
     return text + "\\ " if ends_in_space else text
 
@@ -81,10 +89,30 @@ def characters_of(encoding):
     return None
 
 
-def value(encoding):
+def is_irregular(encoding):
+    """Whether contents octets are none of their type, of the types of which that is asked."""
+    octets = encoding.contents
+    if encoding.tag in CHARACTERS:
+        return not re.fullmatch(CHARACTERS[encoding.tag], octets)
+    if encoding.tag == 0x06:
+        return not is_identifier(octets)
+    if encoding.tag == 0x1E:
+        return len(octets) % 2 != 0 or any(it & 0xF8 == 0xD8 for it in octets[::2])
+    try:
+        CHECKS.get(encoding.tag, lambda it: it)(encoding)
+    except Refused:
+        return True
+    return False
+
+
+def mark(encoding):
+    return IRREGULAR if is_irregular(encoding) else ""
+
+
+def value(encoding, among_words=False):
     """A value of a name."""
     characters = characters_of(encoding)
-    return f"#{encoding.whole.hex()}" if characters is None else escaped(characters)
+    return (f"#{encoding.whole.hex()}" if characters is None else escaped(characters, among_words)) + mark(encoding)
 
 
 def any_value(encoding):
@@ -95,10 +123,11 @@ def any_value(encoding):
     if encoding.tag == 0x04:
         return octets.hex()
     if encoding.tag == 0x05:
-        return "NULL"
+        return "<malformed>" if octets else "NULL"
     if encoding.tag == 0x02:
         negative = octets[:1] >= b"\x80"
-        return serial(octets) if negative else decimal(octets[1:] if len(octets) > 1 and octets[0] == 0 else octets)
+        shown = serial(octets) if negative else decimal(octets[1:] if len(octets) > 1 and octets[0] == 0 else octets)
+        return shown + mark(encoding)
     if encoding.tag in (0x17, 0x18):
         try:
             return values.time(encoding)
@@ -107,23 +136,23 @@ def any_value(encoding):
     return value(encoding)
 
 
-def attribute(encoding):
+def attribute(encoding, among_words):
     fields = encoding.has(0x30).fields()
     kind, found = values.identifier(fields.take(0x06)), fields.next()
     fields.close()
-    return f"{short(kind)}={value(found)}"
+    return f"{short(kind)}={value(found, among_words)}"
 
 
-def relative_name(fields):
+def relative_name(fields, among_words=False):
     """The attributes of a SET, in the order of their encodings (X.690 11.6)."""
-    attributes = [(it.whole, attribute(it)) for it in fields.rest(0x30)]
+    attributes = [(it.whole, attribute(it, among_words)) for it in fields.rest(0x30)]
     refuse_unless(attributes, "a SET with no attribute")
     return "+".join(text for _, text in sorted(attributes, key=lambda pair: pair[0]))
 
 
-def name(encoding):
+def name(encoding, among_words=False):
     """A Name of RFC 5280, in the order in which its attributes stand."""
-    return ", ".join(relative_name(it.fields()) for it in encoding.has(0x30).fields().rest(0x31))
+    return ", ".join(relative_name(it.fields(), among_words) for it in encoding.has(0x30).fields().rest(0x31))
 
 
 def address(octets):
@@ -149,21 +178,21 @@ def other_name(encoding):
     inner = held.fields()
     found = inner.next()
     inner.close()
-    return f"other {named(kind)} {value(found)}"
+    return f"other {named(kind)} {value(found, True)}"
 
 
 def directory_name(encoding):
-    return f"directory {name(encoding.only(0x30))}"
+    return f"directory {name(encoding.only(0x30), True)}"
 
 
 GENERAL_NAMES = {
     0xA0: other_name,
-    0x81: lambda it: f"mail {escaped(values.ia5(it))}",
-    0x82: lambda it: f"host {escaped(values.ia5(it))}",
+    0x81: lambda it: f"mail {escaped(values.ia5(it), True)}",
+    0x82: lambda it: f"host {escaped(values.ia5(it), True)}",
     0xA3: lambda it: f"address of X.400 #{it.whole.hex()}",
     0xA4: directory_name,
     0xA5: lambda it: f"party of EDI #{it.whole.hex()}",
-    0x86: lambda it: f"resource {escaped(values.ia5(it))}",
+    0x86: lambda it: f"resource {escaped(values.ia5(it), True)}",
     0x87: lambda it: f"address {addresses(it.contents)}",
     0x88: lambda it: f"identifier {named(values.identifier(it))}",
 }
