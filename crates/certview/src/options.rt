@@ -82,7 +82,7 @@ pub fn request_of<'a>(alloc: Global, words: &'a [String]) -> Result<Request<'a>,
     let matches = command(alloc)?.try_get_matches_from(words)?;
     let files = match matches.get_strs("FILE") {
         Some(given) => files_of(alloc, given)?,
-        None => files_of(alloc, &["-"])?,
+        None => standard_input(alloc)?,
     };
     let fields = match matches.get_strs("fields") {
         Some(given) => Some(list_of(alloc, given)?),
@@ -111,6 +111,14 @@ fn files_of<'a>(alloc: Global, words: &[&'a str]) -> Result<Vec<File<'a>>, Alloc
         let name = name_of_word(alloc, *word)?;
         files.push(File { word: *word, name })?;
     }
+    Ok(files)
+}
+
+/// Standard input alone.
+fn standard_input<'a>(alloc: Global) -> Result<Vec<File<'a>>, AllocError> {
+    let mut files = Vec::new(alloc);
+    let name = String::from_str(alloc, "-")?;
+    files.push(File { word: "-", name })?;
     Ok(files)
 }
 
