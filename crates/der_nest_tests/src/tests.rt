@@ -16,6 +16,7 @@ mod copies;
 mod counting;
 mod counting_fixed;
 mod kept;
+mod lists;
 mod many;
 mod named_order;
 mod non_empty;

@@ -1,0 +1,13 @@
+pub mod ListRef
+pub mod SetRef
+pub mod UnorderedSetRef
+pub mod NonEmptyRef
+pub mod SetsInOrder
+pub mod SetsInOrderLaws
+pub mod SetFormat
+pub mod ReadingOn
+pub mod Items
+pub mod Asn1
+pub use Rattle.der_nest.specs.KeptFormat
+pub use Rattle.der_nest.specs.BorrowedSequences
+pub use Rattle.der_nest.specs.NonEmpty

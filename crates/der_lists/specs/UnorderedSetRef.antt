@@ -1,0 +1,7 @@
+-- What an UnorderedSetRef shows.
+use Rattle.std.specs.Prelude.{ℕ, List}
+use Rattle.der_lists.specs.declared.unordered_set_ref.UnorderedSetRef.{UnorderedSetRef}
+
+-- its contents octets
+abbrev pub octets_of : {T : Type 0} → UnorderedSetRef T → List ℕ
+octets_of kept = kept.octets.octets.now

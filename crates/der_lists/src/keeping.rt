@@ -1,0 +1,84 @@
+//! Contents octets that are kept once their items were read.
+
+ghost use Rattle.std.specs.Prelude.{◌≡◌, ◌<◌, ◌≤◌, ◌^◌, length, IfErr, OnOk};
+ghost use Rattle.der_tlv.specs.declared.error.ErrorKind.TheVariants as kinds;
+ghost use Rattle.der_tlv.specs.declared.tag.Tag.TheVariants as tags;
+ghost use Rattle.der_opaque.specs.OctetStringRef.{octets_of};
+ghost use Rattle.der_nest.specs.KeptFormat.{KeepsContents, position_behind};
+ghost use Rattle.der_nest.specs.BorrowedSequences.{items_format};
+ghost use Rattle.der_lists.specs.SetFormat.{set_format};
+
+use der_elem::{Choice, Decode};
+use der_opaque::OctetStringRef;
+use der_tlv::{Error, ErrorKind, Length, Reader, SliceReader};
+use std::alloc::Global;
+
+/// Keeps contents octets if items are read from them until nothing is left.
+pub(crate) fn keep_each<'a, T: Decode<'a, SliceReader<'a>> + Choice>(
+    alloc: Global,
+    octets: &'a [u8],
+) -> Result<OctetStringRef<'a>, Error>
+    ensures kept { length octets.now < 2 ^ 32
+        → KeepsContents octets_of (items_format T.Form) octets.now result }
+    ensures fits { OnOk result (length octets.now < 2 ^ 32) }
+    ensures long { IfErr result (λ e. 2 ^ 32 ≤ length octets.now → e.kind ≡ kinds.Length tags.OctetString) }
+{
+    let octets = match OctetStringRef::new(octets) {
+        Ok(octets) => octets,
+        Err(e) => return Err(e),
+    };
+    let mut reader = match SliceReader::new(octets.as_bytes()) {
+        Ok(reader) => reader,
+        Err(e) => return Err(e),
+    };
+    'items: while !reader.is_finished() {
+        let _item = T::decode(alloc, &mut reader)?;
+    }
+    Ok(octets)
+}
+
+/// Keeps contents octets if items are read from them until nothing is left, none of which is less than
+/// the one before it (`ErrorKind::SetOrdering`, 11). Their octets are compared as they stand.
+pub(crate) fn keep_in_order<'a, T: Decode<'a, SliceReader<'a>> + Choice>(
+    alloc: Global,
+    octets: &'a [u8],
+) -> Result<OctetStringRef<'a>, Error>
+    ensures kept { length octets.now < 2 ^ 32
+        → KeepsContents octets_of (set_format T.Form) octets.now result }
+    ensures fits { OnOk result (length octets.now < 2 ^ 32) }
+    ensures long { IfErr result (λ e. 2 ^ 32 ≤ length octets.now → e.kind ≡ kinds.Length tags.OctetString) }
+{
+    let octets = match OctetStringRef::new(octets) {
+        Ok(octets) => octets,
+        Err(e) => return Err(e),
+    };
+    let bytes = octets.as_bytes();
+    let mut reader = match SliceReader::new(bytes) {
+        Ok(reader) => reader,
+        Err(e) => return Err(e),
+    };
+    let mut last = &bytes[..0];
+    'items: while !reader.is_finished() {
+        let start = reader.position().value() as usize;
+        let _item = T::decode(alloc, &mut reader)?;
+        let item = &bytes[start..reader.position().value() as usize];
+        if last.cmp(item).is_gt() {
+            return Err(reader.error(ErrorKind::SetOrdering));
+        }
+        last = item;
+    }
+    Ok(octets)
+}
+
+/// A fault of contents octets, before the first of which so many octets stand.
+pub(crate) fn behind(begin: Length, error: Error) -> Error
+    ensures kind { result.kind ≡ error.kind }
+    ensures position { result.position ≡ position_behind begin error.position }
+{
+    let kind = error.kind;
+    let position = match error.position {
+        Some(position) => Some(Length::new(begin.value().saturating_add(position.value()))),
+        None => None,
+    };
+    Error { kind, position }
+}
