@@ -15,7 +15,6 @@ from .resolver import resolve
 from .syntax import Module
 from .writer.crate import MARK, files_of_crate, marked
 from .writer.holders import hold_tagged
-from .writer.orders import items_of_sets
 from .writer.places import write_places
 from .writer.plan import Plan, Target
 from .writer.splitting import split_choices
@@ -61,7 +60,7 @@ def write_all(path: Path, with_remarks: bool) -> dict[str, str]:
     split_choices(resolved)
     hold_tagged(resolved)
     targets = {module.name: Target(entry.crate, entry.module) for module, entry in zip(resolved, entries)}
-    plan = Plan(targets, items_of_sets(resolved))
+    plan = Plan(targets)
     found: dict[str, str] = {}
     for crate in dict.fromkeys(entry.crate for entry in entries):
         mine = [module for module, entry in zip(resolved, entries) if entry.crate == crate and entry.module]

@@ -1,4 +1,4 @@
-"""The list of what is written where: a line a crate, as `der_ocsp: ocsp=OCSP.asn1`; and as `der_places places: der_ocsp` of one
+"""The list of what is written where: a line a crate, as `der_ocsp: ocsp=OCSP.asn1`, and as `der_places places: der_ocsp` of one
 that has where the fields of others' types stand."""
 
 from __future__ import annotations
@@ -46,7 +46,9 @@ def entries_of(path: Path) -> list[Entry]:
         parsed = LINE.fullmatch(text)
         if parsed is None:
             raise AsnError(
-                Place(str(path), number, 1), "this line names no crate and its modules", "write 'crate: module=file.asn1 ..'"
+                Place(str(path), number, 1),
+                "this line names no crate and its modules",
+                "write 'crate: module=file.asn1 ..'",
             )
         for pair in parsed.group(2).split():
             module, _, file = pair.rpartition("=")

@@ -142,7 +142,7 @@ class Lexer:
             raise AsnError(
                 place,
                 "this annotation stands on a line of its own",
-                "write it after what it is about, on the same line: 'issuer Name, -- @kept'",
+                "write it after what it is about, on the same line: 'issuer Name, -- @unread'",
             )
         if ANNOTATION.sub("", text).strip():
             raise AsnError(

@@ -73,11 +73,12 @@ class Use:
 
 @dataclass(frozen=True)
 class Listed:
-    """SEQUENCE OF or SET OF."""
+    """SEQUENCE OF or SET OF, whose items stay in the octets that were read."""
 
     item: "Resolved"
     is_set: bool
     is_never_empty: bool
+    is_any_order: bool = False  # of a SET OF: as BER writes it
 
 
 @dataclass(frozen=True)
@@ -91,13 +92,6 @@ class Tagged:
 
 
 @dataclass(frozen=True)
-class Kept:
-    """A type that is read, and whose octets are kept as they came."""
-
-    of: "Resolved"
-
-
-@dataclass(frozen=True)
 class NameOf:
     """A value of an ENUMERATED itself, which `Enumerated` holds."""
 
@@ -107,7 +101,7 @@ class NameOf:
         return id(self.definition)
 
 
-Resolved = Union[Leaf, Use, Listed, Tagged, Kept, NameOf]
+Resolved = Union[Leaf, Use, Listed, Tagged, NameOf]
 
 
 # ---- definitions
@@ -197,7 +191,14 @@ class List(Definition):
     item: Resolved | None = None
     is_set: bool = False
     is_never_empty: bool = False
+    is_any_order: bool = False
     tag: Tag | None = None
+
+    @property
+    def listed(self) -> Listed:
+        """The list itself, with no name."""
+        assert self.item is not None
+        return Listed(self.item, self.is_set, self.is_never_empty, self.is_any_order)
 
 
 @dataclass(eq=False)

@@ -9,7 +9,6 @@ from .model import (
     Choice,
     Definition,
     Enumeration,
-    Kept,
     Leaf,
     List,
     Listed,
@@ -63,8 +62,6 @@ def tags_of(type_: Resolved) -> frozenset[Tag] | None:
         return frozenset([type_.tag])
     if isinstance(type_, Listed):
         return frozenset([SET if type_.is_set else SEQUENCE])
-    if isinstance(type_, Kept):
-        return tags_of(type_.of)
     assert isinstance(type_, Use)
     return tags_of_definition(type_.definition)
 
@@ -94,8 +91,6 @@ def is_constructed(type_: Resolved) -> bool:
         return type_.whole is Whole.UNREAD_SEQUENCE
     if isinstance(type_, Tagged):
         return type_.is_explicit or is_constructed(type_.of)
-    if isinstance(type_, Kept):
-        return is_constructed(type_.of)
     if isinstance(type_, Use) and isinstance(type_.definition, Alias):
         assert type_.definition.type is not None
         return is_constructed(type_.definition.type)
@@ -151,11 +146,9 @@ def properties_of(type_: Resolved) -> Properties:
         borrows = not type_.is_owned and type_.whole not in OWNED
         return Properties(borrows, takes, not takes)
     if isinstance(type_, Listed):
-        return Properties(properties_of(type_.item).borrows, True, False)
+        return Properties(True, properties_of(type_.item).takes_memory, True)
     if isinstance(type_, Tagged):
         return properties_of(type_.of)
-    if isinstance(type_, Kept):
-        return NOTHING + Properties(True, properties_of(type_.of).takes_memory, True)
     if isinstance(type_, NameOf):
         return NOTHING
     return properties_of_definition(type_.definition)
@@ -167,8 +160,7 @@ def properties_of_definition(definition: Definition) -> Properties:
         assert definition.type is not None
         return properties_of(definition.type)
     if isinstance(definition, List):
-        assert definition.item is not None
-        return Properties(properties_of(definition.item).borrows, True, False)
+        return properties_of(definition.listed)
     found = NOTHING
     if isinstance(definition, Struct):
         for part in definition.fields:

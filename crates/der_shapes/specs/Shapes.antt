@@ -2,7 +2,11 @@
 -- Made by tools/asn1 from shapes.asn1.
 pub mod General
 pub mod Grammar
+pub mod Lists
 pub mod Mixed
+pub mod Numbers
+pub mod Ordered
 pub mod Pair
 pub mod Status
 pub mod Subtree
+pub mod Unordered

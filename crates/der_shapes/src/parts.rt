@@ -11,6 +11,18 @@ pub enum Part {
     Subtree,
     /// `Mixed`.
     Mixed,
+    /// `Numbers`.
+    Numbers,
+    /// `Ordered`.
+    Ordered,
+    /// `Unordered`.
+    Unordered,
+    /// `Lists`.
+    Lists,
+    /// SEQUENCE OF `Numbers`.
+    SequenceOfNumbers,
+    /// `Ordered` after an explicit tag.
+    ExplicitOrdered,
     /// A value with no components that have names.
     Value,
 }
@@ -85,6 +97,76 @@ static MIXED: [Component; 3] = [
     },
 ];
 
+static NUMBERS: [Component; 1] = [Component {
+    name: "",
+    octet: None,
+    part: Part::Value,
+}];
+
+static ORDERED: [Component; 1] = [Component {
+    name: "",
+    octet: None,
+    part: Part::Pair,
+}];
+
+static UNORDERED: [Component; 3] = [
+    Component {
+        name: "",
+        octet: Some(0x80),
+        part: Part::Value,
+    },
+    Component {
+        name: "",
+        octet: Some(0x81),
+        part: Part::Value,
+    },
+    Component {
+        name: "",
+        octet: Some(0x82),
+        part: Part::Value,
+    },
+];
+
+static LISTS: [Component; 5] = [
+    Component {
+        name: "numbers",
+        octet: None,
+        part: Part::Numbers,
+    },
+    Component {
+        name: "some",
+        octet: None,
+        part: Part::SequenceOfNumbers,
+    },
+    Component {
+        name: "ordered",
+        octet: Some(0xa0),
+        part: Part::ExplicitOrdered,
+    },
+    Component {
+        name: "unordered",
+        octet: Some(0xa1),
+        part: Part::Unordered,
+    },
+    Component {
+        name: "bits",
+        octet: None,
+        part: Part::Value,
+    },
+];
+
+static SEQUENCE_OF_NUMBERS: [Component; 1] = [Component {
+    name: "",
+    octet: None,
+    part: Part::Numbers,
+}];
+
+static EXPLICIT_ORDERED: [Component; 1] = [Component {
+    name: "",
+    octet: None,
+    part: Part::Ordered,
+}];
+
 impl Part {
     /// The components, in their order; of a list the one that each item is.
     ///
@@ -95,12 +177,21 @@ impl Part {
             Part::Pair => &PAIR,
             Part::Subtree => &SUBTREE,
             Part::Mixed => &MIXED,
+            Part::Numbers => &NUMBERS,
+            Part::Ordered => &ORDERED,
+            Part::Unordered => &UNORDERED,
+            Part::Lists => &LISTS,
+            Part::SequenceOfNumbers => &SEQUENCE_OF_NUMBERS,
+            Part::ExplicitOrdered => &EXPLICIT_ORDERED,
             Part::Value => &[],
         }
     }
 
     /// Whether it is a list, of which each item is alike.
     pub fn is_list(self) -> bool {
-        false
+        matches!(
+            self,
+            Part::Numbers | Part::Ordered | Part::Unordered | Part::SequenceOfNumbers
+        )
     }
 }

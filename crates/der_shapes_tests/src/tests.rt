@@ -1,6 +1,7 @@
 //! Values of each shape, read and written back, and octets that are refused.
 
 mod fields;
+mod lists;
 mod ordering;
 mod parts;
 mod reading;
@@ -21,16 +22,29 @@ fn same<T: PartialEq + Debug + Drop>(rt: &impl Abort, found: T, wanted: T) {
     assert_eq!(rt; found, wanted);
 }
 
+/// The same in one of several cases, which is told where it fails.
+fn same_in<C: Debug, T: PartialEq + Debug + Drop>(rt: &impl Abort, case: &C, found: T, wanted: T) {
+    assert_eq!(rt; found, wanted, "{case:?}");
+}
+
 /// Asserts that the condition holds.
 fn holds(rt: &impl Abort, condition: bool) {
     assert!(rt; condition);
 }
 
-// The octets, or the number of why there are none.
-fn numbered(written: Result<Vec<u8>, Error>) -> Result<Vec<u8>, u8> {
-    match written {
-        Ok(octets) => Ok(octets),
+// What was found, or the number of why it was not.
+fn numbered<T>(found: Result<T, Error>) -> Result<T, u8> {
+    match found {
+        Ok(value) => Ok(value),
         Err(e) => Err(e.kind().number()),
+    }
+}
+
+// The item of a list, or the number of why there is none: 0 where the list is too short.
+fn item<T>(found: Option<Result<T, Error>>) -> Result<T, u8> {
+    match found {
+        Some(item) => numbered(item),
+        None => Err(0),
     }
 }
 

@@ -166,7 +166,8 @@ def plain(context: Context, name: str, text: str, base: Type, tag: Tag | None, c
     if isinstance(base, ListType):
         never_empty = types.is_never_empty(context, constraints)
         item = types.resolve_type(context.item(), base.item)
-        return List(*about, item=item, is_set=base.is_set, is_never_empty=never_empty, tag=tag)
+        any_order = types.is_any_order(context, base)
+        return List(*about, item=item, is_set=base.is_set, is_never_empty=never_empty, is_any_order=any_order, tag=tag)
     assert isinstance(base, EnumeratedType)
     values = enumeration_of(context.state.library, context.env, base.named)
     if not all(abs(number) < 2**63 for number in values.values()):

@@ -2,7 +2,7 @@
 
 from __future__ import annotations
 
-from ..model import Alias, Choice, Definition, Enumeration, Field, Kept, Leaf, List, Listed, Resolved, Struct, Tagged
+from ..model import Alias, Choice, Definition, Enumeration, Field, Leaf, List, Listed, Resolved, Struct, Tagged
 
 
 def signature(definition: Definition) -> str:
@@ -13,8 +13,7 @@ def signature(definition: Definition) -> str:
     if isinstance(definition, Choice):
         return f"CHOICE {{{', '.join(field_signature(part) for part in definition.alternatives)}}}"
     if isinstance(definition, List):
-        assert definition.item is not None
-        return f"{definition.is_set} {definition.tag} {definition.is_never_empty} OF {type_signature(definition.item)}"
+        return f"{definition.tag} {type_signature(definition.listed)}"
     if isinstance(definition, Enumeration):
         return f"ENUMERATED {definition.tag} {definition.values}"
     assert isinstance(definition, Alias) and definition.type is not None
@@ -30,9 +29,7 @@ def type_signature(type_: Resolved) -> str:
     if isinstance(type_, Leaf):
         return f"{type_.whole.name} {type_.is_owned} {type_.width} {type_.octets}"
     if isinstance(type_, Listed):
-        return f"{type_.is_set} {type_.is_never_empty} OF {type_signature(type_.item)}"
+        return f"{type_.is_set} {type_.is_never_empty} {type_.is_any_order} OF {type_signature(type_.item)}"
     if isinstance(type_, Tagged):
         return f"{type_.tag} {type_.is_explicit} {type_signature(type_.of)}"
-    if isinstance(type_, Kept):
-        return f"kept {type_signature(type_.of)}"
     return f"{type_.definition.module}.{type_.definition.rust}"

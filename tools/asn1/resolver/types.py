@@ -6,7 +6,7 @@ from dataclasses import replace
 
 from ..bounds import Bounds, size_of
 from ..errors import AsnError
-from ..model import Alias, Definition, Kept, Leaf, Listed, Resolved, Tag, Tagged, Use, Whole
+from ..model import Alias, Definition, Leaf, Listed, Resolved, Tag, Tagged, Use, Whole
 from ..syntax import (
     AnyType,
     BitStringType,
@@ -116,7 +116,12 @@ def tag_of(context: Context, type_: TaggedType) -> tuple[Tag, bool]:
 def listed(context: Context, type_: ListType, constraints: Constraints) -> Listed:
     """SEQUENCE OF or SET OF."""
     item = resolve_type(context.item(), type_.item)
-    return Listed(item, type_.is_set, is_never_empty(context, constraints))
+    return Listed(item, type_.is_set, is_never_empty(context, constraints), is_any_order(context, type_))
+
+
+def is_any_order(context: Context, type_: ListType) -> bool:
+    """Whether a SET OF stands as BER writes it, with its items in any order."""
+    return type_.is_set and context.notes.has("any_order")
 
 
 def is_never_empty(context: Context, constraints: Constraints) -> bool:
@@ -158,8 +163,7 @@ def referred(context: Context, type_: ReferenceType, constraints: Constraints) -
         leaves.remark_on(context, constraint)
     if has_type_parameter(library, env, assignment, type_):
         return Use(written_out(context, type_, ()))
-    found = Use(definitions.definition_of(context.state, inner, assignment, type_.place))
-    return Kept(found) if context.notes.has("kept") else found
+    return Use(definitions.definition_of(context.state, inner, assignment, type_.place))
 
 
 def is_written_out(context: Context, type_: Type) -> bool:

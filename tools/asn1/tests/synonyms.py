@@ -104,6 +104,7 @@ SIGNATURE_VALUE = said(
     "signature BIT STRING", "signatureValue BIT STRING", "RFC 5280 names it signatureValue in section 4.1 and 5.1."
 )
 ATTRIBUTES = ours("SignedAttributes")
+UNSIGNED = ours("UnsignedAttributes")
 
 KEYS: dict[str, Synonyms] = {
     "OneAsymmetricKey": (
@@ -159,10 +160,9 @@ MESSAGES: dict[str, dict[str, Synonyms]] = {
     "CmsSigned": {
         "SignedData": standard("DigestAlgorithmIdentifiers", "DigestAlgorithmIdentifier", "SignerInfos"),
         "SignerInfo": standard("DigestAlgorithmIdentifier", "SignatureAlgorithmIdentifier", "SignatureValue"),
-        "UnsignedAttributes": ATTRIBUTES,
         "DigestedData": standard("DigestAlgorithmIdentifier", "Digest"),
         "EncryptedContentInfo": standard("ContentEncryptionAlgorithmIdentifier", "EncryptedContent"),
-        "UnprotectedAttributes": ATTRIBUTES,
+        "UnprotectedAttributes": UNSIGNED,
         "OtherRevocationInfoFormat": attribute_type_and_value("otherRevInfoFormat", "otherRevInfo"),
         "OtherCertificateFormat": attribute_type_and_value("otherCertFormat", "otherCert"),
         "ExtendedCertificate": said(
@@ -213,7 +213,7 @@ MESSAGES: dict[str, dict[str, Synonyms]] = {
             "MessageAuthenticationCodeAlgorithm", "DigestAlgorithmIdentifier", "MessageAuthenticationCode"
         ),
         "AuthAttributes": ATTRIBUTES,
-        "UnauthAttributes": ATTRIBUTES,
+        "UnauthAttributes": UNSIGNED,
     },
 }
 

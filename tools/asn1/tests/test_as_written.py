@@ -9,8 +9,11 @@ from collections.abc import Callable
 from dataclasses import replace
 from unittest import mock
 
-from ..model import Field
+from ..model import Field, List, Listed
 from ..resolver import definitions as resolver
+from ..resolver import types as resolver_types
+from ..writer import pages, types
+from ..writer.grammar import GrammarPage
 from .helpers import module_of
 from .test_writer import written
 
@@ -133,6 +136,72 @@ class Grammars(unittest.TestCase):
         with with_fields(lambda fields: tuple(replace(part, default=5) for part in fields)):
             found = grammar_of(written(body), "s")
         self.assertEqual(re.findall(r"natural_contents (\d+)", found), ["1", "7"])
+
+
+def list_in_code(files: dict[str, str], type_: str) -> str:
+    """The list that the only field of a type is, or that a list with a name holds."""
+    found = re.search(r"Fields1<(\w+)<'a, Null>>|items: (\w+)<'a, Null>,", files[f"src/test/{type_}.rt"])
+    assert found is not None
+    return found[1] or found[2]
+
+
+class Lists(unittest.TestCase):
+    """The page of the grammar says which list it is in a word of its own, so that other code contradicts it."""
+
+    BODY = "A ::= SET OF NULL\nB ::= SEQUENCE OF NULL\nS ::= SEQUENCE { a SET OF NULL }"
+
+    def found(self) -> tuple[str, str]:
+        """The words of the three on the page, and their types in the code."""
+        files = written(module_of(self.BODY))
+        words = [re.findall(r"\w+_OF\w*", grammar_of(files, name))[0] for name in ("a", "b", "s")]
+        return " ".join(words), " ".join(list_in_code(files, name) for name in ("a", "b", "s"))
+
+    def test_the_page_and_the_code_agree(self) -> None:
+        self.assertEqual(self.found(), ("SET_OF SEQUENCE_OF SET_OF", "SetRef ListRef SetRef"))
+
+    def test_a_page_with_sets_in_any_order_contradicts_the_code(self) -> None:
+        right = GrammarPage.list_word
+
+        def wrong(page: GrammarPage, *arguments: object) -> str:
+            return right(page, *arguments).replace("SET_OF", "SET_OF_ANY_ORDER")  # type: ignore[arg-type]
+
+        with mock.patch.object(GrammarPage, "list_word", wrong):
+            page, code = self.found()
+        self.assertEqual(page, "SET_OF_ANY_ORDER SEQUENCE_OF SET_OF_ANY_ORDER")
+        self.assertEqual(code, "SetRef ListRef SetRef")
+
+    def test_code_with_another_list_contradicts_the_page(self) -> None:
+        for wrong in ("ListRef", "UnorderedSetRef"):
+            with self.subTest(wrong), mock.patch.object(types, "list_name", lambda _: wrong):
+                with mock.patch.object(pages, "list_name", lambda _: wrong):
+                    page, code = self.found()
+                self.assertEqual(page, "SET_OF SEQUENCE_OF SET_OF")
+                self.assertEqual(code, f"{wrong} {wrong} {wrong}")
+
+    def test_whether_it_is_a_set_is_the_texts_to_say(self) -> None:
+        """A resolver that has a SET OF for a SEQUENCE OF, and the other way round, writes code that the page contradicts."""
+        listed, plain = resolver_types.listed, resolver.plain
+
+        def wrong_plain(*arguments: object) -> object:
+            found = plain(*arguments)  # type: ignore[arg-type]
+            if isinstance(found, List):
+                found.is_set = not found.is_set
+            return found
+
+        def wrong_listed(*arguments: object) -> Listed:
+            found = listed(*arguments)  # type: ignore[arg-type]
+            return replace(found, is_set=not found.is_set)
+
+        with mock.patch.object(resolver, "plain", wrong_plain), mock.patch.object(resolver_types, "listed", wrong_listed):
+            page, code = self.found()
+        self.assertEqual(page, "SET_OF SEQUENCE_OF SET_OF")
+        self.assertEqual(code, "ListRef SetRef ListRef")
+
+    def test_an_order_that_the_resolver_alone_has_stands_on_the_page(self) -> None:
+        """The page has the order from the resolver, as the code has it: both say it, for an eye to see."""
+        with mock.patch.object(resolver_types, "is_any_order", lambda _, type_: type_.is_set):
+            found = self.found()
+        self.assertEqual(found, ("SET_OF_ANY_ORDER SEQUENCE_OF SET_OF_ANY_ORDER", "UnorderedSetRef ListRef UnorderedSetRef"))
 
 
 class Numbers(unittest.TestCase):

@@ -1,6 +1,6 @@
 """The constants of the written crates, beside the numbers that the text of ASN.1 has.
 
-The text is read by expressions of this file and of `standards.py`, and not by the compiler.
+The text is read by expressions of this file and of `standards.py`, and not by the compiler; its list of modules is.
 """
 
 from __future__ import annotations
@@ -9,6 +9,7 @@ import re
 import unittest
 from collections.abc import Iterator
 
+from ..crates import entries_of
 from .standards import COMMENT, NAME, WRITTEN, library
 
 CRATES = WRITTEN.parent / "crates"
@@ -35,10 +36,9 @@ def letters(*names: str) -> str:
 
 def modules() -> Iterator[tuple[str, str, str]]:
     """The crates and modules of `modules.txt`, with the text of each, without comments."""
-    for line in (WRITTEN / "modules.txt").read_text(encoding="utf-8").splitlines():
-        crate, _, rest = line.partition(": ")
-        for module, file in re.findall(r"(\w+)=([\w-]+\.asn1)", rest if crate.isidentifier() else ""):
-            yield crate, module, COMMENT.sub(" ", (WRITTEN / file).read_text(encoding="utf-8"))
+    for entry in entries_of(WRITTEN / "modules.txt"):
+        if entry.module:
+            yield entry.crate, entry.module, COMMENT.sub(" ", entry.file.read_text(encoding="utf-8"))
 
 
 def named_in_text() -> dict[Key, tuple[str, int]]:

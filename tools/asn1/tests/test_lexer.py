@@ -47,9 +47,9 @@ class Items(unittest.TestCase):
         self.assertEqual(places, [(1, 1), (2, 3), (4, 1), (4, 2)])
 
     def test_annotations_belong_to_the_item_before_them(self) -> None:
-        tokens = tokens_of("test.asn1", "a Name, -- @kept @name(b)\nc")
+        tokens = tokens_of("test.asn1", "a Name, -- @unread @name(b)\nc")
         found = [(token.text, [(note.name, note.argument) for note in token.annotations]) for token in tokens[:4]]
-        self.assertEqual(found, [("a", []), ("Name", []), (",", [("kept", None), ("name", "b")]), ("c", [])])
+        self.assertEqual(found, [("a", []), ("Name", []), (",", [("unread", None), ("name", "b")]), ("c", [])])
 
     def test_an_at_sign_within_a_comment_is_no_annotation(self) -> None:
-        self.assertEqual(tokens_of("test.asn1", "a -- see @kept")[0].annotations, [])
+        self.assertEqual(tokens_of("test.asn1", "a -- see @unread")[0].annotations, [])

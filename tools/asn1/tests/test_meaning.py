@@ -287,7 +287,7 @@ class Sizes(unittest.TestCase):
     def test_what_is_written_checks_it(self) -> None:
         body = "A ::= SEQUENCE SIZE (2..MAX) OF NULL\nB ::= SEQUENCE SIZE (1..MAX) OF NULL\nC ::= SEQUENCE OF NULL"
         files, found = written(module_of(body)), grammar(body)
-        self.assertIn("NonEmpty<Vec<Null>>", files["src/test/a.rt"])
+        self.assertIn("NonEmptyRef<ListRef<'a, Null>>", files["src/test/a.rt"])
         self.assertNotIn("NonEmpty", files["src/test/c.rt"])
         self.assertEqual(found["a"], found["b"])
         self.assertNotEqual(found["a"], found["c"])

@@ -4,8 +4,9 @@ from __future__ import annotations
 
 import unittest
 
+from ..crates import entries_of
 from ..model import Alias, Choice, Constant, Definition, Leaf, List, ResolvedModule, Struct, Tagged, Use, Whole
-from ..properties import properties_of_definition, tags_of
+from ..properties import Properties, properties_of_definition, tags_of
 from .helpers import MODULES, resolved, standard
 
 PKIX = ("PKIX1Explicit88", "PKIX1Implicit88")
@@ -55,7 +56,10 @@ class Pkix(unittest.TestCase):
                 "extensions",
             ],
         )
-        self.assertTrue(properties_of_definition(found).takes_memory)
+
+    def test_a_tbs_certificate_is_copied_and_takes_no_memory(self) -> None:
+        found = struct(self.explicit, "TbsCertificate")
+        self.assertEqual(properties_of_definition(found), Properties(borrows=True, takes_memory=False, is_copy=True))
 
     def test_a_type_that_is_written_out_has_the_name_of_its_annotation(self) -> None:
         found = struct(self.explicit, "RevokedCertificate")
@@ -122,10 +126,9 @@ class HandedOn(unittest.TestCase):
     """The modules of RFC 5280 by their own names, which hand on what stands in others by topic."""
 
     def test_what_imports_from_them_is_taken_as_it_stands(self) -> None:
-        folder = MODULES.parents[3] / "asn1"
-        lines = (folder / "modules.txt").read_text(encoding="utf-8").split("\n")
-        names = [name for line in lines if line.startswith(("der_pkix:", "der_extensions:")) for name in line.split()[1:]]
-        texts = [(folder / name.split("=")[-1]).read_text(encoding="utf-8") for name in names]
+        entries = entries_of(MODULES.parents[3] / "asn1" / "modules.txt")
+        files = [entry.file for entry in entries if entry.crate in ("der_pkix", "der_extensions")]
+        texts = [file.read_text(encoding="utf-8") for file in files]
         found, _ = resolved(*texts, standard("OCSP"))
         ocsp = next(module for module in found if module.name == "OCSP-2013-88")
         kinds = [part.type for part in struct(ocsp, "CertId").fields]

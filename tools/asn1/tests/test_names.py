@@ -71,7 +71,7 @@ class Types(unittest.TestCase):
                 self.assertIn(f"grammar_of_{word}_", files["src/test/laws.rt"])
 
     def test_a_file_that_each_module_has_is_no_types(self) -> None:
-        for name in ("Laws", "LAWS", "Orders", "Aliases", "Constants", "Grammar"):
+        for name in ("Laws", "LAWS", "Aliases", "Constants", "Grammar"):
             for type_ in ("SEQUENCE { a NULL }", "NULL"):
                 with self.subTest(f"{name} ::= {type_}"):
                     error = refused(f"A ::= NULL\n{name} ::= {type_}")
@@ -84,19 +84,18 @@ class Types(unittest.TestCase):
         self.assertEqual(error.problem, "the name 'AB' is taken by 'Ab' of 'Ab'")
         self.assertEqual(error.place.line, 3)
 
-    def test_the_name_of_an_order(self) -> None:
-        error = refused("A ::= SET OF B\nB ::= SEQUENCE { x NULL }\nBOrder ::= SEQUENCE { x NULL }")
-        self.assertEqual(error.problem, "the name 'BOrder' is taken by 'BOrder' of 'B'")
-        written(module_of("A ::= SEQUENCE OF B\nB ::= SEQUENCE { x NULL }\nBOrder ::= SEQUENCE { x NULL }"))
-
     def test_the_name_of_a_half_or_a_holder(self) -> None:
         choice = f"A ::= CHOICE {{ {', '.join(f'a{i} [{i}] B' for i in range(5))} }}\nB ::= SEQUENCE {{ x NULL }}"
         error = refused(f"{choice}\nAFirst ::= NULL")
         self.assertIn("the name 'AFirst' is taken by", error.problem)
         self.assertEqual(error.place.line, 4)
-        error = refused("S ::= SEQUENCE { a [3] EXPLICIT L }\nL ::= SEQUENCE OF NULL\nExplicit3L ::= NULL")
+        error = refused("S ::= SEQUENCE { a [3] EXPLICIT L }\nL ::= SEQUENCE { x BMPString }\nExplicit3L ::= NULL")
         self.assertIn("the name 'Explicit3L' is taken by", error.problem)
         self.assertEqual(error.place.line, 4)
+
+    def test_a_list_has_no_holder(self) -> None:
+        files = written(module_of("S ::= SEQUENCE { a [3] EXPLICIT L }\nL ::= SEQUENCE OF NULL\nExplicit3L ::= SET OF NULL"))
+        self.assertIn("SetRef<'a, Null>", files["src/test/explicit3_l.rt"])
 
 
 class Spelling(unittest.TestCase):

@@ -168,8 +168,8 @@ class Assignments(unittest.TestCase):
         self.assertEqual(only.text, "A ::= SEQUENCE {\n  a INTEGER,\n  b INTEGER -- a word\n}")
 
     def test_annotations_of_components_and_of_the_assignment(self) -> None:
-        only = parsed("A ::= SEQUENCE { -- @omit\n a INTEGER, -- @u8\n b T -- @kept\n} -- @name(B)").assignments[0]
+        only = parsed("A ::= SEQUENCE { -- @omit\n a INTEGER, -- @u8\n b T -- @unread\n} -- @name(B)").assignments[0]
         assert isinstance(only, TypeAssignment) and isinstance(only.type, FieldsType)
         self.assertEqual([note.name for note in only.annotations], ["omit", "name"])
         parts = [part for part in only.type.components if isinstance(part, Component)]
-        self.assertEqual([[note.name for note in part.annotations] for part in parts], [["u8"], ["kept"]])
+        self.assertEqual([[note.name for note in part.annotations] for part in parts], [["u8"], ["unread"]])

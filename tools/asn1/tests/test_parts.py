@@ -6,7 +6,6 @@ import unittest
 
 from ..errors import AsnError
 from ..writer.crate import files_of_crate
-from ..writer.orders import items_of_sets
 from ..writer.parts import components, is_list, parts_of, variants, write_parts
 from ..writer.plan import Plan, Target
 from .helpers import module_of, resolved, standard
@@ -86,8 +85,8 @@ class Components(unittest.TestCase):
         found = parts(module_of("A ::= [APPLICATION 1] SEQUENCE { a NULL }"))
         self.assertEqual(found, {"ExplicitAValue": [("", "", "AValue")], "AValue": [("a", "", "Value")]})
 
-    def test_what_is_kept_and_what_is_not_read(self) -> None:
-        body = "A ::= SEQUENCE { a B, -- @kept\n b B -- @unread\n }\nB ::= SEQUENCE { x NULL }"
+    def test_what_is_not_read(self) -> None:
+        body = "A ::= SEQUENCE { a B, b B -- @unread\n }\nB ::= SEQUENCE { x NULL }"
         self.assertEqual(parts(module_of(body))["A"], [("a", "", "B"), ("b", "", "Value")])
 
     def test_a_type_that_is_not_written_has_its_text(self) -> None:
@@ -147,7 +146,7 @@ class Files(unittest.TestCase):
 
     def test_a_module_with_the_files_name_is_refused(self) -> None:
         found, _ = resolved(module_of("A ::= SEQUENCE { a NULL }"))
-        plan = Plan({"Test": Target("der_test", "parts")}, items_of_sets(found))
+        plan = Plan({"Test": Target("der_test", "parts")})
         with self.assertRaises(AsnError) as caught:
             files_of_crate(plan, found)
         self.assertIn("'parts' is the name of a module that each crate has", caught.exception.problem)

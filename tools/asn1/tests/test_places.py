@@ -2,6 +2,7 @@
 
 from __future__ import annotations
 
+import re
 import tempfile
 import unittest
 from pathlib import Path
@@ -9,7 +10,6 @@ from pathlib import Path
 from ..crates import entries_of, places_of
 from ..errors import AsnError
 from ..writer.holders import hold_tagged
-from ..writer.orders import items_of_sets
 from ..writer.places import write_places
 from ..writer.plan import Plan, Target
 from ..writer.splitting import split_choices
@@ -21,24 +21,24 @@ def written(body: str, tags: str = "") -> dict[str, str]:
     found, _ = resolved(module_of(body, tags))
     split_choices(found)
     hold_tagged(found)
-    plan = Plan({found[0].name: Target("der_test", "test")}, items_of_sets(found))
+    plan = Plan({found[0].name: Target("der_test", "test")})
     return {path: " ".join(text.split()) for path, text in write_places(plan, "der_test_places", found).items()}
 
 
 class Fields(unittest.TestCase):
     """A field that is always there, one that may be absent, and one with a default."""
 
-    BODY = """L ::= SEQUENCE OF BOOLEAN
-        S ::= SEQUENCE {
+    BODY = """S ::= SEQUENCE {
             always INTEGER (0..255), any ANY, perhaps INTEGER (0..255) OPTIONAL,
-            lent [1] IMPLICIT OCTET STRING OPTIONAL, held [2] EXPLICIT L OPTIONAL, flag [3] IMPLICIT BOOLEAN DEFAULT FALSE }"""
+            lent [1] IMPLICIT OCTET STRING OPTIONAL, held [2] EXPLICIT L OPTIONAL, flag [3] IMPLICIT BOOLEAN DEFAULT FALSE }
+        L ::= """
 
     def setUp(self) -> None:
-        self.files = written(self.BODY)
+        self.files = written(f"{self.BODY} SEQUENCE {{ x BMPString }}")
         self.text = self.files["src/test/s.rt"]
 
     def test_there_is_a_file_for_each_struct_a_user_meets(self) -> None:
-        self.assertEqual(sorted(self.files), ["src/test.rt", "src/test/s.rt"])
+        self.assertEqual(sorted(self.files), ["src/test.rt", "src/test/l.rt", "src/test/s.rt"])
         self.assertIn("pub use s::SPlaces;", self.files["src/test.rt"])
 
     def test_the_walk_goes_from_field_to_field(self) -> None:
@@ -75,6 +75,32 @@ class Fields(unittest.TestCase):
     def test_each_place_says_when_it_has_no_octets(self) -> None:
         self.assertIn("/// `perhaps`, `INTEGER (0..255) OPTIONAL`; no octets where it is absent. pub perhaps: Place,", self.text)
         self.assertIn("; no octets where it is the default. pub flag: Place,", self.text)
+
+
+class Listed(unittest.TestCase):
+    """A list stands after its tag, and in no struct that holds both."""
+
+    def setUp(self) -> None:
+        self.text = written(f"{Fields.BODY} SEQUENCE OF BOOLEAN")["src/test/s.rt"]
+
+    def test_the_layout_has_the_list_with_its_tag(self) -> None:
+        self.assertIn("optional (λ x. ⟦<Explicit<L<'a>, 2> as Form>⟧.accepts Der (explicit x)) (fields_of.held v)", self.text)
+
+    def test_the_proof_goes_to_the_first_of_the_fields_after_the_tag(self) -> None:
+        self.assertIn("(maybe (λ x. x.fields.first) (⟦<Explicit<L<'a>, 2> as Form>⟧.accepts Der)", self.text)
+        self.assertNotIn("Explicit2L", self.text)
+
+    def test_the_walk_is_the_same(self) -> None:
+        held = written(f"{Fields.BODY} SEQUENCE {{ x BMPString }}")["src/test/s.rt"]
+        walks = [re.findall(r"let (\w+) = (next_place\(.*?\));", text) for text in (self.text, held)]
+        self.assertEqual(walks[0], walks[1])
+        self.assertEqual(len(walks[0]), 6)
+
+    def test_a_list_that_is_written_out(self) -> None:
+        text = written("S ::= SEQUENCE { a SET OF NULL, b [0] IMPLICIT SEQUENCE SIZE (1..MAX) OF NULL OPTIONAL }")["src/test/s.rt"]
+        self.assertIn("field (⟦<SetRef<'a, Null> as Form>⟧.accepts Der (fields_of.a v))", text)
+        self.assertIn("⟦<Implicit<NonEmptyRef<ListRef<'a, Null>>, 0> as Form>⟧.accepts Der (implicit x)", text)
+        self.assertIn("use der_lists::{ListRef, NonEmptyRef, SetRef};", text)
 
 
 class Choices(unittest.TestCase):

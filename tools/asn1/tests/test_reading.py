@@ -63,9 +63,9 @@ class Comments(unittest.TestCase):
     def test_a_misspelt_annotation_is_an_error(self) -> None:
         for comment, said in (
             ("@ownd", "there is no annotation '@ownd'"),
-            ("@keep", "there is no annotation '@keep'"),
+            ("@kept", "there is no annotation '@kept'"),
             ("@unraed, of course", "has annotations alone"),
-            ("@kept for ever", "has annotations alone"),
+            ("@owned for ever", "has annotations alone"),
             ("@later", "there is no annotation '@later'"),
         ):
             with self.subTest(comment):

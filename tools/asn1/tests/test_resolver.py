@@ -274,11 +274,25 @@ class Properties(unittest.TestCase):
             ("SEQUENCE { a OCTET STRING -- @owned\n }", (False, True, False)),
             ("SEQUENCE { a OBJECT IDENTIFIER }", (True, False, True)),
             ("SEQUENCE { a OBJECT IDENTIFIER -- @owned\n }", (False, False, True)),
-            ("SEQUENCE { a SEQUENCE OF BOOLEAN }", (False, True, False)),
-            ("SEQUENCE { a SET OF ANY OPTIONAL }", (True, True, False)),
             ("CHOICE { a NULL, b [0] UTF8String }", (True, False, True)),
             ("SEQUENCE { a BMPString }", (False, True, False)),
             ("ENUMERATED { a }", (False, False, True)),
+        ):
+            with self.subTest(text):
+                self.assertEqual(self.properties(f"A ::= {text}"), expected)
+
+    def test_of_lists(self) -> None:
+        """They borrow, and are copied, whatever their items are; reading checks the items, and takes memory where these do."""
+        for text, expected in (
+            ("SEQUENCE { a SEQUENCE OF BOOLEAN }", (True, False, True)),
+            ("SEQUENCE { a SET OF ANY OPTIONAL }", (True, False, True)),
+            ("SEQUENCE OF BOOLEAN", (True, False, True)),
+            ("SET SIZE (1..MAX) OF UTF8String", (True, False, True)),
+            ("SET OF BMPString", (True, True, True)),
+            ("SET OF BMPString -- @any_order", (True, True, True)),
+            ("SEQUENCE { a [0] SEQUENCE SIZE (1..MAX) OF SEQUENCE { x BMPString } }", (True, True, True)),
+            ("SEQUENCE OF SEQUENCE OF BMPString", (True, True, True)),
+            ("SEQUENCE OF SET OF NULL", (True, False, True)),
         ):
             with self.subTest(text):
                 self.assertEqual(self.properties(f"A ::= {text}"), expected)

@@ -19,7 +19,6 @@ from ..writer.crate import files_of_crate
 from ..writer.fields import places
 from ..writer.grammar import GrammarPage
 from ..writer.holders import hold_tagged
-from ..writer.orders import items_of_sets
 from ..writer.plan import Plan, Target
 from ..writer.splitting import split_choices
 from .helpers import module_of, resolved, standard
@@ -31,8 +30,7 @@ def written(*texts: str) -> dict[str, str]:
     split_choices(found)
     hold_tagged(found)
     targets = {module.name: Target("der_test", f"module{i}" if i else "test") for i, module in enumerate(found)}
-    plan = Plan(targets, items_of_sets(found))
-    return files_of_crate(plan, found)
+    return files_of_crate(Plan(targets), found)
 
 
 def grammar(body: str, tags: str = "") -> dict[str, str]:
@@ -46,12 +44,12 @@ def grammar(body: str, tags: str = "") -> dict[str, str]:
 class Holders(unittest.TestCase):
     """A value after an explicit tag that is not copied is held by a struct of its own, which no user meets."""
 
-    BODY = """I ::= SEQUENCE OF BOOLEAN
-        S ::= SEQUENCE { a [3] EXPLICIT I OPTIONAL, b [4] EXPLICIT BOOLEAN, c [5] EXPLICIT I }
-        T ::= SEQUENCE { a [3] EXPLICIT I }"""
+    BODY = """S ::= SEQUENCE { a [3] EXPLICIT I OPTIONAL, b [4] EXPLICIT BOOLEAN, c [5] EXPLICIT I }
+        T ::= SEQUENCE { a [3] EXPLICIT I }
+        I ::= """
 
     def setUp(self) -> None:
-        self.files = written(module_of(self.BODY))
+        self.files = written(module_of(f"{self.BODY} SEQUENCE {{ x BMPString }}"))
 
     def test_there_is_one_for_a_tag_and_a_type(self) -> None:
         self.assertIn("Fields3<Option<Explicit3I>, Explicit<bool, 4>, Explicit5I>", self.files["src/test/s.rt"])
@@ -63,6 +61,8 @@ class Holders(unittest.TestCase):
         text = self.files["src/test/explicit3_i.rt"]
         self.assertIn("type Marker = ExplicitTag<3>;", text)
         self.assertIn("type Fields = Fields1<I>;", text)
+        self.assertIn("    pub(crate) fields: Fields,\n", text)
+        self.assertIn("impl DuplicateValue for Explicit3I {", text)
         self.assertNotIn("pub fn", text)
 
     def test_it_has_no_name_outside(self) -> None:
@@ -78,6 +78,32 @@ class Holders(unittest.TestCase):
         self.assertIn("pub fn a(&self) -> Option<&I>", text)
         self.assertIn("pub fn c(&self) -> &I", text)
         self.assertIn("v.fields.list.rest.rest.first.fields.list.first", self.files["specs/Test/S.antt"])
+
+    def test_what_is_copied_has_none(self) -> None:
+        """A list is copied, whatever its items are."""
+        for text in ("SEQUENCE OF BMPString", "SEQUENCE { x OCTET STRING }"):
+            with self.subTest(text):
+                files = written(module_of(self.BODY + text))
+                listed = "Fields3<Option<Explicit<I<'a>, 3>>, Explicit<bool, 4>, Explicit<I<'a>, 5>>"
+                self.assertIn(listed, files["src/test/s.rt"])
+                self.assertIn("pub fn new(a: Option<&I<'a>>, b: bool, c: &I<'a>) -> S<'a>", files["src/test/s.rt"])
+                self.assertIn("v.fields.list.rest.rest.first.fields.first", files["specs/Test/S.antt"])
+                self.assertEqual([name for name in files if "explicit" in name], [])
+
+    def test_what_owns_memory_has_one(self) -> None:
+        for text, held in (
+            ("SEQUENCE { x BMPString, y SET OF NULL }", "Explicit3I<'a>"),
+            ("SEQUENCE { x OCTET STRING -- @owned\n }", "Explicit3I"),
+            ("CHOICE { x UTF8String, y BMPString }", "Explicit3I<'a>"),
+            ("BMPString", "Explicit3I"),
+        ):
+            with self.subTest(text):
+                files = written(module_of(self.BODY + text))
+                self.assertIn(f"Fields1<{held}>;", files["src/test/t.rt"])
+
+    def test_what_has_no_name_has_none(self) -> None:
+        files = written(module_of("S ::= SEQUENCE { a [3] EXPLICIT BMPString }"))
+        self.assertIn("Fields1<Explicit<BmpString, 3>>;", files["src/test/s.rt"])
 
 
 class Pieces(unittest.TestCase):
@@ -152,20 +178,14 @@ class Shapes(unittest.TestCase):
         assert found is not None
         return found[1]
 
-    def test_sets(self) -> None:
-        of_any = self.field_of("A ::= SEQUENCE { a SET OF ANY }")
-        self.assertEqual(of_any, "ItemSet<AnyRef<'a>, Values>")
-        of_choice = "A ::= SEQUENCE { a SET OF B }\nB ::= CHOICE { x NULL, y BOOLEAN }"
-        self.assertEqual(self.field_of(of_choice), "ItemSet<B, BOrder>")
-        self.assertIn("impl ItemOrder<B> for BOrder {", written(module_of(of_choice))["src/test/b.rt"])
-        of_octets = "A ::= SEQUENCE { a SET OF OCTET STRING }"
-        self.assertEqual(self.field_of(of_octets), "ItemSet<OctetStringRef<'a>, OctetStringRefOrder>")
-        orders = written(module_of(of_octets))["src/test/orders.rt"]
-        self.assertIn("impl<'a> ItemOrder<OctetStringRef<'a>> for OctetStringRefOrder {", orders)
-
     def test_lists_of_one_item_or_more(self) -> None:
-        self.assertEqual(self.field_of("A ::= SEQUENCE { a SEQUENCE SIZE (1..MAX) OF NULL }"), "NonEmpty<Vec<Null>>")
-        self.assertEqual(grammar("A ::= SEQUENCE SIZE (1..MAX) OF NULL")["a"], "NOT_EMPTY (SEQUENCE_OF NULL)")
+        for text, held in (
+            ("SEQUENCE SIZE (1..MAX) OF NULL", "NonEmptyRef<ListRef<'a, Null>>"),
+            ("SET SIZE (1..MAX) OF ANY", "NonEmptyRef<SetRef<'a, AnyRef<'a>>>"),
+        ):
+            self.assertEqual(self.field_of(f"A ::= SEQUENCE {{ a {text} }}"), held)
+        found = grammar("A ::= SEQUENCE SIZE (1..MAX) OF NULL\nB ::= SET SIZE (1..MAX) OF NULL")
+        self.assertEqual((found["a"], found["b"]), ("NOT_EMPTY (SEQUENCE_OF NULL)", "NOT_EMPTY (SET_OF NULL)"))
 
     def test_names_of_numbers(self) -> None:
         body = "A ::= SEQUENCE { a B }\nB ::= ENUMERATED { x(0), y(-3) }"
@@ -181,11 +201,6 @@ class Shapes(unittest.TestCase):
         aliases = written(module_of(body))["src/test/aliases.rt"]
         self.assertIn("pub type B<'a> = NamedBitsRef<'a>;", aliases)
         self.assertIn("pub const B_Y: usize = 2;", aliases)
-
-    def test_what_is_kept(self) -> None:
-        body = "A ::= SEQUENCE { a B -- @kept\n}\nB ::= SEQUENCE { x NULL }"
-        self.assertEqual(self.field_of(body), "Kept<'a, B>")
-        self.assertIn("    pub fn a(&self) -> &Kept<'a, B>\n", written(module_of(body))["src/test/a.rt"])
 
     def test_a_type_that_a_crate_has(self) -> None:
         body = "A ::= SEQUENCE { a B }\nB ::= SEQUENCE { x NULL } -- @rust(der_b::files::own::Bee)"
@@ -214,12 +229,6 @@ class Shapes(unittest.TestCase):
         found = written(module_of("A ::= SEQUENCE { a NULL, b INTEGER OPTIONAL, c OCTET STRING }"))["src/test/a.rt"]
         self.assertNotIn("Debug,", found)
         self.assertIn('.field("a", &self.a())\n            .field("b", &self.b())\n            .field("c", self.c())', found)
-
-    def test_the_order_of_a_set(self) -> None:
-        body = "A ::= SET OF B\nB ::= SEQUENCE { x NULL }\nC ::= SET OF D\nD ::= SEQUENCE { x SEQUENCE OF NULL }"
-        found = written(module_of(body))
-        self.assertIn("pub struct BOrder;", found["src/test/b.rt"])
-        self.assertIn("pub type DOrder = DOrderOf<0>;", found["src/test/d.rt"])
 
     def test_the_proof_of_an_order(self) -> None:
         found = written(module_of("A ::= CHOICE { x B, y NULL, z [0] B }\nB ::= SEQUENCE { x NULL }\nC ::= CHOICE { x NULL, y BOOLEAN }"))

@@ -7,7 +7,6 @@ from ..properties import properties_of_definition
 from ..spelling import screaming
 from . import docs
 from .module_laws import add_laws
-from .orders import write_order
 from .plan import Plan, Target
 from .source import Source
 from .types import lifetime_of, rust_type
@@ -19,14 +18,12 @@ def write_aliases(plan: Plan, target: Target, aliases: list[Definition], name: s
     for alias in aliases:
         if not isinstance(alias, Alias):
             source.add(f"pub use {source.root_of(alias.by_hand[0])}::{alias.rust};")
-            write_order(source, alias)
             add_laws(source, alias)
             continue
         assert alias.type is not None
         lifetime = lifetime_of(properties_of_definition(alias).borrows)
         type_ = rust_type(source, alias.type)
         source.add(f"{docs.of_definition(alias)}\npub type {alias.rust}{lifetime} = {type_};")
-        write_order(source, alias)
         add_laws(source, alias)
         for one in alias.numbers:
             source.add(number(alias, one, rust_type(source, alias.type)))

@@ -2,7 +2,7 @@
 
 from __future__ import annotations
 
-from ..model import Alias, Choice, List, Resolved, Struct, Use
+from ..model import Alias, Choice, List, Resolved, Struct, Tagged, Use
 from ..properties import properties_of_definition
 from ..spelling import snake
 from . import choice_laws, docs
@@ -22,7 +22,6 @@ from .alternatives import (
     value_in_leaf,
 )
 from .module_laws import add_laws
-from .orders import write_order
 from .plan import Plan
 from .source import Page, Source
 from .types import lifetime_of, logic_type, rust_type
@@ -50,7 +49,6 @@ def write_choice(plan: Plan, choice: Choice) -> str:
     source.add(choice_laws.encoding_eq(source, all_of))
     source.add(choice_laws.duplicate(source, all_of))
     source.add(choice_laws.duplicate_is_equal(source, all_of))
-    write_order(source, choice)
     if not choice.is_half:
         add_laws(source, choice)
     name = choice.name[0].upper() + choice.name[1:] if choice.is_half else choice.name
@@ -232,7 +230,7 @@ def reading(source: Source, all_of: Alternatives, trait: str, call: str, body: s
 def place(source: Source, all_of: Alternatives, index: int) -> str:
     """The value of an alternative, in the tree."""
     half = all_of.half(index)
-    value = "value" if half is None else f"{source.use_beside(half, half.rust)}::{all_of.names[index]}(value)"
+    value = "value" if half is None else f"{source.use_type(half)}::{all_of.names[index]}(value)"
     return at(all_of.leaf(index), len(all_of.parts), lambda side, inner: f"OneOf::{side}({inner})", value)
 
 
@@ -264,9 +262,9 @@ def order(source: Source, all_of: Alternatives) -> str:
 
 
 def write_order_proof(plan: Plan, choice: Choice) -> dict[str, str]:
-    """The proof of the order, where an alternative is a struct or a CHOICE with no tag before it: what its comparison says is
-    said of the CHOICE, which the prover's search meets a limit at."""
-    own = [part.rust for part in choice.alternatives if has_parts(part.type)]
+    """The proof of the order, where an alternative is a struct or a CHOICE with no tag before it, or a struct of many fields
+    behind one: what its comparison says is said of the CHOICE, which the prover's search meets a limit at."""
+    own = [part.rust for part in choice.alternatives if has_parts(part.type) or is_long(part.type)]
     if not own:
         return {}
     first = choice.alternatives[0].rust
@@ -290,6 +288,15 @@ def has_parts(type_: Resolved) -> bool:
         assert type_.definition.type is not None
         type_ = type_.definition.type
     return isinstance(type_, Use) and isinstance(type_.definition, (Choice, Struct, List))
+
+
+def is_long(type_: Resolved) -> bool:
+    """Whether a type is a struct of more than four fields behind a tag, by whatever name."""
+    while isinstance(type_, Tagged) or (isinstance(type_, Use) and isinstance(type_.definition, Alias)):
+        inner = type_.of if isinstance(type_, Tagged) else type_.definition.type
+        assert inner is not None
+        type_ = inner
+    return isinstance(type_, Use) and isinstance(type_.definition, Struct) and len(type_.definition.fields) > 4
 
 
 # ---- the page

@@ -12,7 +12,6 @@ from .grammar import GrammarPage
 from .lists import write_list
 from .module_laws import write_laws
 from .names import LOGIC, RUST, WORDS
-from .orders import order_name, write_orders
 from .pages import write_list_page, write_struct_page
 from .parts import write_parts
 from .plan import Plan, Target, is_apart
@@ -20,7 +19,7 @@ from .source import PRELUDE
 from .structs import write_struct
 
 TAKEN = PRELUDE | {name for words in (RUST, LOGIC, WORDS) for _, name in words.values()} | {"Fields", "Tree"}
-FILES = ("aliases", "constants", "grammar", "laws", "orders")  # of each module, beside those of its types
+FILES = ("aliases", "constants", "grammar", "laws")  # of each module, beside those of its types
 MARK = "Made by tools/asn1"
 
 
@@ -29,7 +28,7 @@ def files_of_crate(plan: Plan, modules: list[ResolvedModule]) -> dict[str, str]:
     targets = [plan.targets[module.name] for module in modules]
     check_modules(modules, targets)
     for module in modules:
-        check_names(plan, module)
+        check_names(module)
     files: dict[str, str] = {}
     for module in modules:
         for path, text in write_module(plan, module).items():
@@ -61,21 +60,19 @@ def marked(path: str, text: str, file: str) -> str:
     return f"{first}\n//!\n//! {MARK} from {name}.\n{rest}"
 
 
-def check_names(plan: Plan, module: ResolvedModule) -> None:
-    """Names of a module differ, and in more than their capitals: of its types, of the orders of those that are in a set, and of
-    the files that each module has."""
+def check_names(module: ResolvedModule) -> None:
+    """Names of a module differ, and in more than their capitals: of its types, and of the files that each module has."""
     seen: dict[str, str] = {name: f"'{name}', a file that each module has" for name in FILES}
     for definition in sorted(module.definitions, key=is_within, reverse=True):
         check_name(definition)
-        orders = [order_name(definition), f"{order_name(definition)}Of"] if definition in plan.ordered else []
-        for name in (definition.rust, *orders):
-            if name.lower() in seen:
-                raise AsnError(
-                    definition.place,
-                    f"the name '{name}' is taken by {seen[name.lower()]}",
-                    f"write '-- @name(..)' after the assignment, as '@name({definition.rust}Value)'",
-                )
-            seen[name.lower()] = f"'{name}' of '{definition.name}'"
+        name = definition.rust
+        if name.lower() in seen:
+            raise AsnError(
+                definition.place,
+                f"the name '{name}' is taken by {seen[name.lower()]}",
+                f"write '-- @name(..)' after the assignment, as '@name({name}Value)'",
+            )
+        seen[name.lower()] = f"'{name}' of '{definition.name}'"
 
 
 def write_module(plan: Plan, module: ResolvedModule) -> dict[str, str]:
@@ -97,8 +94,6 @@ def write_module(plan: Plan, module: ResolvedModule) -> dict[str, str]:
     if module.constants:
         files[f"src/{target.module}/constants.rt"] = write_constants(plan, target, module.constants, module.name)
     files[f"src/{target.module}/laws.rt"] = write_laws(plan, module)
-    if target in plan.leaves:
-        files[f"src/{target.module}/orders.rt"] = write_orders(plan, target)
     files[f"specs/{target.page}/Grammar.antt"] = GrammarPage(plan, module).text()
     files[f"src/{target.module}.rt"] = root(plan, module)
     pages = sorted(path.split("/")[-1][: -len(".antt")] for path in files if path.startswith("specs/"))
@@ -147,13 +142,10 @@ def root(plan: Plan, module: ResolvedModule) -> str:
         if isinstance(definition, Struct) and definition.is_holder:
             continue
         names.append(definition.rust)
-        if definition in plan.ordered:
-            names.append(order_name(definition))
         if isinstance(definition, Alias):
             names += [constant_name(definition, one) for one in (*definition.numbers, *definition.bits)]
     lines = [f"//! {module.name}.", ""]
     lines += [f"mod {name};" for name in sorted(by_file)]
-    lines += ["mod orders;"] if plan.leaves.get(plan.targets[module.name]) else []
     lines += ["pub mod constants;"] if module.constants else []
     lines += ["pub mod laws;", ""]
     for name, names in sorted(by_file.items()):

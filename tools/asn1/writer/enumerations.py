@@ -9,7 +9,6 @@ from ..spelling import enumeration_name, snake
 from ..syntax import EnumeratedType
 from . import docs, markers
 from .module_laws import add_laws
-from .orders import write_order
 from .plan import Plan
 from .source import Page, Source
 
@@ -19,7 +18,6 @@ def write_enumeration(plan: Plan, definition: Enumeration) -> str:
     source = Source(plan, plan.of(definition), plan.file(definition))
     source.add(declaration(definition))
     source.add(enumeration(source, definition))
-    write_order(source, definition)
     add_laws(source, definition)
     return source.text([f"//! {definition.name}, an ENUMERATED of {len(definition.values)} names."])
 

@@ -4,7 +4,7 @@ from __future__ import annotations
 
 from dataclasses import dataclass
 
-from ..model import Alias, Field, Kept, Presence, Resolved, Struct, Use
+from ..model import Alias, Field, Listed, Presence, Resolved, Struct, Use
 from ..properties import properties_of
 from .source import Source
 from .types import field_type, is_copy, plain, rust_type, way
@@ -35,11 +35,11 @@ def place_within(index: int) -> str:
 
 
 def is_written(type_: Resolved) -> bool:
-    """Whether a type is a struct or an enum that is written too, or one that is kept."""
+    """Whether a type is a struct or an enum that is written too, or a list."""
     while isinstance(type_, Use) and isinstance(type_.definition, Alias):
         assert type_.definition.type is not None
         type_ = plain(type_.definition.type)
-    return isinstance(type_, (Use, Kept))
+    return isinstance(type_, (Use, Listed))
 
 
 @dataclass(frozen=True)

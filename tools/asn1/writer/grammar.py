@@ -15,7 +15,6 @@ from ..model import (
     Definition,
     Enumeration,
     Field,
-    Kept,
     Leaf,
     List,
     Listed,
@@ -46,7 +45,7 @@ from ..syntax import (
 )
 from ..values import number_of
 from .alternatives import halves
-from .names import ASN1, PARSES, WORDS
+from .names import ASN1, LISTS, PARSES, WORDS
 from .plan import Plan
 from .source import Page
 from .types import CHARACTERS, closed
@@ -141,9 +140,7 @@ class GrammarPage:
             return self.choice([self.component(part, types[key_of(part.component)]) for part in parts])
         if isinstance(definition, List):
             assert isinstance(type_, ListType) and definition.item is not None
-            word = self.asn1("SET_OF" if type_.is_set else "SEQUENCE_OF")
-            found = f"{word} {closed(self.term(env, type_.item, definition.item))}"
-            return f"{self.asn1('NOT_EMPTY')} ({found})" if definition.is_never_empty else found
+            return self.items(env, type_, definition.listed)
         assert isinstance(definition, Enumeration)
         self.page.word("tags")
         target, name = self.plan.of(definition), snake(definition.rust)
@@ -211,8 +208,6 @@ class GrammarPage:
         if isinstance(type_, FieldOfClass):
             env, type_ = type_of_field(self.library, env, type_)
             return self.term(env, type_, resolved)
-        if isinstance(resolved, Kept):
-            return f"{self.asn1('KEPT')} {closed(self.term(env, type_, resolved.of))}"
         if isinstance(resolved, Use):
             return self.use(resolved.definition)
         if isinstance(resolved, Leaf):
@@ -221,9 +216,18 @@ class GrammarPage:
             env, type_ = follow(self.library, env, type_)
             return self.term(env, type_, resolved)
         assert isinstance(type_, ListType) and isinstance(resolved, Listed)
-        word = self.asn1("SET_OF" if type_.is_set else "SEQUENCE_OF")
-        found = f"{word} {closed(self.term(env, type_.item, resolved.item))}"
-        return f"{self.asn1('NOT_EMPTY')} ({found})" if resolved.is_never_empty else found
+        return self.items(env, type_, resolved)
+
+    def items(self, env: Env, type_: ListType, listed: Listed) -> str:
+        """The grammar of a list."""
+        item = closed(self.term(env, type_.item, listed.item))
+        found = f"{self.list_word(type_, listed)} {item}"
+        return f"{self.asn1('NOT_EMPTY')} ({found})" if listed.is_never_empty else found
+
+    def list_word(self, type_: ListType, listed: Listed) -> str:
+        """The word of a list: whether it is a SET is the text's to say."""
+        word = "SET_OF" if type_.is_set else "SEQUENCE_OF"
+        return self.page.from_module(LISTS, "SET_OF_ANY_ORDER" if type_.is_set and listed.is_any_order else word)
 
     def use(self, definition: Definition) -> str:
         """The grammar of a type that has a name, perhaps of another page."""
@@ -314,7 +318,7 @@ def named_in(definition: Definition) -> list[Definition]:
             found.append(type_.definition)
         elif isinstance(type_, Listed):
             look(type_.item)
-        elif isinstance(type_, (Tagged, Kept)):
+        elif isinstance(type_, Tagged):
             look(type_.of)
 
     if isinstance(definition, Alias):

@@ -6,7 +6,7 @@ impl that proves it, and joined with those of the others by the words of `Member
 
 from __future__ import annotations
 
-from ..model import Alias, Choice, Definition, Enumeration, Field, Kept, Leaf, Listed, Presence, Resolved, Tagged, Use, Whole
+from ..model import Alias, Choice, Definition, Enumeration, Field, Leaf, Listed, Presence, Resolved, Tagged, Use, Whole
 from ..properties import properties_of, properties_of_definition
 from ..spelling import snake
 from . import markers
@@ -114,11 +114,8 @@ class Laws:
     def contents_eq_at(self, type_: Resolved, v: str, w: str) -> str:
         """The same at two values."""
         type_ = named(type_)
-        if isinstance(type_, Kept) or (isinstance(type_, Use) and isinstance(type_.definition, Enumeration)):
+        if is_decided(type_):
             return f"(λ one. {self.decided(type_, v, w)})"
-        if isinstance(type_, Listed):
-            items = "" if type_.is_set else ".items"
-            return f"({self.items_eq(type_)} {v}{items} {w}{items})"
         if not isinstance(type_, Tagged):
             return f"({self.contents_eq(type_)} {v} {w})"
         if not type_.is_explicit:
@@ -129,19 +126,14 @@ class Laws:
         return f"({alone}.equal {v}.fields {w}.fields)"
 
     def decided(self, type_: Resolved, v: str, w: str) -> str:
-        """That octets that are kept, or the numbers of names, are equal exactly where contents octets are."""
-        if isinstance(type_, Kept):
-            return f"{self.word('bytes_decides')} {v}.octets.octets.now {w}.octets.octets.now"
+        """That the octets of lists, or the numbers of names, are equal exactly where contents octets are."""
+        if isinstance(type_, Listed):
+            octets = f"{way_to_list(type_)}.octets.octets.now"
+            return f"{self.word('bytes_decides')} {v}{octets} {w}{octets}"
         assert isinstance(type_, Use)
         quoted = self.quote(self.source.use_type(type_.definition), "Enumeration")
         number_of = f"{quoted}.{self.source.member('names')}.{self.source.member('number_of')}"
         return f"{self.word('numbers_decide')} ({number_of} {v}.value) ({number_of} {w}.value)"
-
-    def items_eq(self, type_: Listed) -> str:
-        """The same of the items of a list, one after another."""
-        item = type_.item
-        law = self.encoding_eq(item)
-        return f"({self.word('items_equality')} {self.form(item)} {self.has_tags(item)} {self.eq(item)} {law})"
 
     def leaf_contents_eq(self, leaf: Leaf) -> str:
         law = self.law(self.of_library(leaf_key(leaf), "ContentsEq"), "contents_eq")
@@ -230,25 +222,19 @@ class Laws:
                 return self.same(type_, f"(λ v. ({self.leaf_contents_eq(type_)} v v tt).1 {self.word('refl')})", False)
             traits = [self.of_library(leaf_key(type_), trait) for trait in ("DuplicateValue", "DuplicateValueIsEqual")]
             return self.copies_of(traits[0], traits[1], False)
-        if isinstance(type_, Kept) or (isinstance(type_, Use) and isinstance(type_.definition, Enumeration)):
+        if is_decided(type_):
             return self.same(type_, f"(λ v. ({self.decided(type_, 'v', 'v')}).1 {self.word('refl')})", False)
         if isinstance(type_, Use):
             if properties_of_definition(type_.definition).is_copy:
                 return self.same(type_, self.equal_to_itself(type_.definition), False)
             traits = [self.of_definition(type_.definition, trait) for trait in ("DuplicateValue", "DuplicateValueIsEqual")]
             return self.copies_of(traits[0], traits[1], False)
-        if isinstance(type_, Listed):
-            items = self.items_copies(type_)
-            return items if type_.is_set else f"({self.word('held_copies')} (λ x. x.items) {items})"
         assert isinstance(type_, Tagged)
         if not type_.is_explicit:
             return f"({self.word('held_copies')} (λ x. x.value) {self.contents_copies(type_.of)})"
         starts, copies = self.tagged_starts(type_.of), self.encoding_copies(type_.of)
         alone = self.member_copies(rust_type(self.source, type_.of), starts, copies, self.word("no_copies"))
         return f"({self.word('held_copies')} (λ x. x.fields) ({self.word('listed_copies')} {alone}))"
-
-    def items_copies(self, type_: Listed) -> str:
-        return f"({self.word('items_copies')} {self.form(type_.item)} {self.encoding_copies(type_.item)})"
 
     def tagged_starts(self, type_: Resolved) -> str:
         return f"({self.word('tagged_starts')} {self.form(type_)} {self.has_tags(type_)})"
@@ -283,6 +269,16 @@ def named(type_: Resolved) -> Resolved:
         assert type_.definition.type is not None
         type_ = type_.definition.type
     return type_
+
+
+def is_decided(type_: Resolved) -> bool:
+    """Whether values are compared by the octets of a list, or by the numbers of names."""
+    return isinstance(type_, Listed) or (isinstance(type_, Use) and isinstance(type_.definition, Enumeration))
+
+
+def way_to_list(type_: Listed) -> str:
+    """The way from a list that has an item to the list."""
+    return ".list" if type_.is_never_empty else ""
 
 
 def leaf_key(leaf: Leaf) -> str:

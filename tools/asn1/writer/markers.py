@@ -5,7 +5,6 @@ from __future__ import annotations
 from ..model import (
     Alias,
     Enumeration,
-    Kept,
     Leaf,
     List,
     Listed,
@@ -70,8 +69,6 @@ def of_type(source: Source, type_: Resolved) -> str:
         if type_.is_explicit:
             return explicit(source, type_.tag)
         return implicit(source, of_type(source, type_.of), type_.tag)
-    if isinstance(type_, Kept):
-        return of_type(source, type_.of)
     assert isinstance(type_, Use)
     definition = type_.definition
     if isinstance(definition, Alias):

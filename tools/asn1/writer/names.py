@@ -97,12 +97,10 @@ RUST: dict[str, tuple[str, str]] = {
     "PrintableString": ("der_ascii", "PrintableString"),
     "PrintableStringRef": ("der_ascii", "PrintableStringRef"),
     "SequenceRef": ("der_nest", "SequenceRef"),
-    "ItemOrder": ("der_nest", "ItemOrder"),
-    "ItemSet": ("der_nest", "ItemSet"),
-    "Kept": ("der_nest", "Kept"),
-    "NonEmpty": ("der_nest", "NonEmpty"),
-    "OrdersByEncoding": ("der_nest", "OrdersByEncoding"),
-    "Values": ("der_nest", "Values"),
+    "ListRef": ("der_lists", "ListRef"),
+    "NonEmptyRef": ("der_lists", "NonEmptyRef"),
+    "SetRef": ("der_lists", "SetRef"),
+    "UnorderedSetRef": ("der_lists", "UnorderedSetRef"),
     "TeletexString": ("der_ascii", "TeletexString"),
     "TeletexStringRef": ("der_ascii", "TeletexStringRef"),
     "Uint": ("der_numbers", "Uint"),
@@ -150,14 +148,15 @@ WORDS: dict[str, tuple[str, str]] = {
         name: ("der_modules.specs.MemberLaws", name)
         for name in (
             "copies_of default_copies default_equality default_starts either_copies either_equality either_tag held_copies "
-            "items_copies items_equality listed_copies member_copies member_equality no_copies no_equality one_tag "
-            "one_tag_copies one_tag_equality own_tags optional_copies optional_equality optional_starts part_copies "
-            "part_equality same_copies seen_copies seen_equality tagged_starts"
+            "listed_copies member_copies member_equality no_copies no_equality one_tag one_tag_copies one_tag_equality "
+            "own_tags optional_copies optional_equality optional_starts part_copies part_equality same_copies seen_copies "
+            "seen_equality tagged_starts"
         ).split()
     },
     "tlv_tagged": ("der_elem.specs.TaggedLaws", "tlv_tagged"),
     "∷": ("std.specs.Prelude", "◌∷◌"),
     "List": ("std.specs.Prelude", "List"),
+    "list_of": ("der_lists.specs.NonEmptyRef", "list_of"),
     "numbers_decide": ("der_numbers.specs.EnumeratedLaws", "numbers_decide"),
     "pos": ("std.specs.Prelude", "pos"),
     "negsuc": ("std.specs.Prelude", "negsuc"),
@@ -199,8 +198,6 @@ MEMBERS: dict[str, str] = {
     "readable": "readable",
     "same_length": "same_length",
     "tags": "tags",
-    "item_encoding": "item_encoding",
-    "is_encoding": "is_encoding",
     "names": "names",
     "number_of": "number_of",
     "TAG": "TAG",
@@ -254,6 +251,7 @@ MEMBERS: dict[str, str] = {
 # ---- grammars: the module of the words of ASN.1, and of each type its tag and the parse of its contents octets
 
 ASN1 = "der_modules.specs.Asn1"
+LISTS = "der_lists.specs.Asn1"  # those of lists
 
 PARSES: dict[str, tuple[str, str, str]] = {
     "ANY": ("", "der_opaque.specs.AnyForm", "parse_any"),
@@ -322,9 +320,11 @@ LOGIC: dict[str, tuple[str | None, str]] = {
     "BitString": ("der_bits.specs.declared.bit_string.BitString", "BitString"),
     "BitStringRef": ("der_bits.specs.declared.bit_string_ref.BitStringRef", "BitStringRef"),
     "NamedBitsRef": ("der_bits.specs.declared.named_bits.NamedBitsRef", "NamedBitsRef"),
-    "Kept": ("der_nest.specs.declared.kept.Kept", "Kept"),
+    "ListRef": ("der_lists.specs.declared.list_ref.ListRef", "ListRef"),
+    "NonEmptyRef": ("der_lists.specs.declared.non_empty_ref.NonEmptyRef", "NonEmptyRef"),
+    "SetRef": ("der_lists.specs.declared.set_ref.SetRef", "SetRef"),
+    "UnorderedSetRef": ("der_lists.specs.declared.unordered_set_ref.UnorderedSetRef", "UnorderedSetRef"),
     "Enumerated": ("der_numbers.specs.declared.enumerated.Enumerated", "Enumerated"),
-    "List": ("std.specs.Prelude", "List"),
     "BmpString": ("der_text.specs.declared.bmp_string.BmpString", "BmpString"),
     "CharacterString": ("der_ascii.specs.declared.string.CharacterString", "CharacterString"),
     "CharacterStringRef": ("der_ascii.specs.declared.string_ref.CharacterStringRef", "CharacterStringRef"),
@@ -333,7 +333,6 @@ LOGIC: dict[str, tuple[str | None, str]] = {
     "End": ("der_fields.specs.declared.end.End", "End"),
     "ExplicitIn": ("der_fields.specs.declared.explicit.ExplicitIn", "ExplicitIn"),
     "Field": ("der_fields.specs.declared.field.Field", "Field"),
-    "Global": ("std.specs.declared.alloc.Global", "Global"),
     "String": ("std.specs.declared.string.String", "String"),
     "GeneralStringOctets": ("der_modules.specs.declared.general_string.GeneralStringOctets", "GeneralStringOctets"),
     "GeneralizedTime": ("der_time.specs.declared.generalized_time.GeneralizedTime", "GeneralizedTime"),
@@ -353,6 +352,5 @@ LOGIC: dict[str, tuple[str | None, str]] = {
     "UintRef": ("der_numbers.specs.declared.uint_ref.UintRef", "UintRef"),
     "UtcTime": ("der_time.specs.declared.utc_time.UtcTime", "UtcTime"),
     "Utf8StringRef": ("der_text.specs.declared.utf8_string.Utf8StringRef", "Utf8StringRef"),
-    "Vec": ("std.specs.Prelude", "Vec"),
     "WithDefault": ("der_fields.specs.declared.with_default.WithDefault", "WithDefault"),
 }

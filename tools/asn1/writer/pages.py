@@ -6,7 +6,8 @@ from ..model import List, Struct
 from .fields import Member, members_of
 from .plan import Plan
 from .source import Page
-from .types import closed, logic_type, plain
+from .laws import way_to_list
+from .types import closed, list_name, logic_type, plain
 
 
 def write_struct_page(plan: Plan, struct: Struct) -> str:
@@ -37,7 +38,6 @@ def write_list_page(plan: Plan, definition: List) -> str:
     page = Page(plan, plan.of(definition), f"-- The items of {definition.name}.")
     whole = page.logic_type(definition)
     item = closed(logic_type(page, definition.item))
-    listed = page.word("List")
-    items = "v.items" if definition.is_set else "v.items.items"
-    page.add(f"abbrev pub items_of : {whole} → {listed} {item}\nitems_of v = {items}")
+    listed = page.logic(list_name(definition.listed))
+    page.add(f"abbrev pub items_of : {whole} → {listed} {item}\nitems_of v = v.items{way_to_list(definition.listed)}")
     return page.text()

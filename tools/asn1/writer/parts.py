@@ -7,7 +7,7 @@ from dataclasses import dataclass
 from typing import Union
 
 from ..errors import AsnError
-from ..model import Alias, Choice, Definition, Kept, List, Listed, Presence, ResolvedModule, Resolved, Struct, Tagged, Use, is_within
+from ..model import Alias, Choice, Definition, List, Listed, Presence, ResolvedModule, Resolved, Struct, Tagged, Use, is_within
 from ..properties import identifier_octet
 from ..spelling import camel, screaming
 from .plan import Plan
@@ -40,9 +40,9 @@ class Component:
 
 
 def plain(type_: Resolved) -> Resolved:
-    """A type without what changes nothing within: second names, implicit tags, and that its octets are kept."""
+    """A type without what changes nothing within: second names, and implicit tags."""
     while True:
-        if isinstance(type_, Kept) or (isinstance(type_, Tagged) and not type_.is_explicit):
+        if isinstance(type_, Tagged) and not type_.is_explicit:
             type_ = type_.of
         elif isinstance(type_, Use) and isinstance(type_.definition, Alias):
             assert type_.definition.type is not None

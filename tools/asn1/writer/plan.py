@@ -2,9 +2,9 @@
 
 from __future__ import annotations
 
-from dataclasses import dataclass, field
+from dataclasses import dataclass
 
-from ..model import Alias, Definition, Leaf
+from ..model import Alias, Definition
 from ..spelling import snake
 
 
@@ -31,8 +31,6 @@ class Plan:
     """The targets of all modules that are known."""
 
     targets: dict[str, Target]
-    ordered: frozenset[Definition] = frozenset()  # the items of sets, whose orders have names
-    leaves: dict[Target, dict[str, Leaf]] = field(default_factory=dict)  # items that are the library's own, by their orders
 
     def of(self, definition: Definition) -> Target:
         return self.targets[definition.module]

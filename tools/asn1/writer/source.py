@@ -31,12 +31,9 @@ class Source:
 
     def use_type(self, definition: Definition) -> str:
         """A type that is written too, which is imported from where it stands."""
-        return self.use_beside(definition, definition.rust)
-
-    def use_beside(self, definition: Definition, name: str) -> str:
-        """An item that stands in the file of a type that is written too."""
+        name = definition.rust
         target, file = self.plan.of(definition), self.plan.file(definition)
-        if definition.by_hand and name == definition.rust:
+        if definition.by_hand:
             if file == self.file and target == self.target:
                 return name
             path = self.root_of(definition.by_hand[0])

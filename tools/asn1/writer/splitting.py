@@ -2,7 +2,7 @@
 
 from __future__ import annotations
 
-from ..model import Alias, Choice, Definition, Enumeration, Kept, Leaf, Listed, Resolved, ResolvedModule, Tagged, Use
+from ..model import Alias, Choice, Definition, Enumeration, Leaf, Listed, Resolved, ResolvedModule, Tagged, Use
 from .alternatives import halves
 
 MOST_STRUCTS = 4  # of a CHOICE that is read at once
@@ -38,7 +38,7 @@ def count_structs(choice: Choice) -> int:
 def is_struct(type_: Resolved) -> bool:
     """Whether an alternative has components, by whatever name and after whatever tags."""
     while not isinstance(type_, Leaf):
-        if isinstance(type_, (Tagged, Kept)):
+        if isinstance(type_, Tagged):
             type_ = type_.of
         elif isinstance(type_, Use) and isinstance(type_.definition, Alias):
             assert type_.definition.type is not None

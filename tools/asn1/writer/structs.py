@@ -8,7 +8,6 @@ from ..spelling import snake
 from . import docs, markers
 from .fields import AT_ONCE, TAIL, Member, list_type, members_of, place_within
 from .module_laws import add_laws
-from .orders import write_order
 from .plan import Plan
 from .source import Source
 from .types import inner_name, lifetime_of, wrapped
@@ -47,7 +46,6 @@ def write_struct(plan: Plan, struct: Struct) -> str:
     code_traits(source, struct, lifetime, "fields", turbofish, is_list_of_fields=True)
     value_order(source, struct.rust + lifetime, lifetime, "self.fields.cmp_fields(&other.fields)", "FieldsOrd")
     equality_and_copies(source, struct, lifetime)
-    write_order(source, struct)
     if not struct.is_holder:
         add_laws(source, struct)
     return source.text(first_lines(struct))
@@ -63,7 +61,7 @@ def equality_and_copies(source: Source, struct: Struct, lifetime: str) -> None:
         return
     listed = f"({source.word('listed_copies')} {laws.list_copies(fields)})"
     copy_laws(source, whole, lifetime, f"{source.word('held_copies')} (λ v. v.fields.list){BREAK}{listed}")
-    duplicate_value(source, struct, lifetime, ("fields", f"Fields{lifetime}", "DuplicateFields"))
+    duplicate_value(source, struct, lifetime)
 
 
 def first_lines(struct: Struct) -> list[str]:

@@ -6,7 +6,6 @@ from ..model import Alias, Enumeration, Field, Leaf, Listed, NameOf, Presence, R
 from ..properties import properties_of, properties_of_definition
 from ..syntax import TagClass
 from .leaves import CHARACTERS, WHOLES, lifetime_of, rust_leaf
-from .orders import order_of
 from .source import Page, Source
 
 CLASSES = {TagClass.CONTEXT.value: "", TagClass.APPLICATION.value: "Application", TagClass.PRIVATE.value: "Private"}
@@ -32,14 +31,23 @@ def rust_type(source: Source, type_: Resolved) -> str:
             return f"{source.use('Enumerated')}<{name}>"
         return name + lifetime_of(properties_of_definition(type_.definition).borrows)
     if isinstance(type_, Listed):
-        item = rust_type(source, type_.item)
-        found = f"{source.use('ItemSet')}<{item}, {order_of(source, type_.item)}>" if type_.is_set else f"Vec<{item}>"
-        return f"{source.use('NonEmpty')}<{found}>" if type_.is_never_empty else found
-    if isinstance(type_, Tagged):
-        if type_.holder is not None:
-            return rust_type(source, Use(type_.holder))
-        return f"{source.use(tagging(type_.tag, type_.is_explicit))}<{rust_type(source, type_.of)}, {type_.tag.number}>"
-    return f"{source.use('Kept')}<'a, {rust_type(source, type_.of)}>"
+        return rust_list(source, type_)
+    if type_.holder is not None:
+        return rust_type(source, Use(type_.holder))
+    return f"{source.use(tagging(type_.tag, type_.is_explicit))}<{rust_type(source, type_.of)}, {type_.tag.number}>"
+
+
+def rust_list(source: Source, type_: Listed) -> str:
+    """A list, which borrows the octets that were read."""
+    found = f"{source.use(list_name(type_))}<'a, {rust_type(source, type_.item)}>"
+    return f"{source.use('NonEmptyRef')}<{found}>" if type_.is_never_empty else found
+
+
+def list_name(type_: Listed) -> str:
+    """The library's type of a list."""
+    if not type_.is_set:
+        return "ListRef"
+    return "UnorderedSetRef" if type_.is_any_order else "SetRef"
 
 
 def enumeration_of(type_: Resolved) -> Enumeration | None:
@@ -135,13 +143,11 @@ def logic_type(page: Page, type_: Resolved) -> str:
     if isinstance(type_, NameOf):
         return page.logic_type(type_.definition)
     if isinstance(type_, Listed):
-        item = closed(logic_type(page, type_.item))
-        return f"{page.logic('List')} {item}" if type_.is_set else f"{page.logic('Vec')} {item} {page.logic('Global')}"
-    if isinstance(type_, Tagged):
-        if type_.holder is not None:
-            return page.logic_type(type_.holder)
-        return logic_tagged(page, type_.tag, type_.is_explicit, closed(logic_type(page, type_.of)))
-    return f"{page.logic('Kept')} {closed(logic_type(page, type_.of))}"
+        found = f"{page.logic(list_name(type_))} {closed(logic_type(page, type_.item))}"
+        return f"{page.logic('NonEmptyRef')} ({found})" if type_.is_never_empty else found
+    if type_.holder is not None:
+        return page.logic_type(type_.holder)
+    return logic_tagged(page, type_.tag, type_.is_explicit, closed(logic_type(page, type_.of)))
 
 
 def logic_tagged(page: Page, tag: Tag, is_explicit: bool, inner: str) -> str:

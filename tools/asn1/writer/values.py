@@ -107,30 +107,20 @@ def law_of_copies(source: Source, whole: str, key: str) -> str:
     return f"⟦<{whole} as CopyLaws>⟧.{source.member('copies')}.laws.{key}"
 
 
-def duplicate_value(
-    source: Source,
-    definition: Definition,
-    lifetime: str,
-    held: tuple[str, str, str],
-) -> None:
-    """Copies of a value, by those of its member: the member, its type, and the trait that copies it."""
-    member, type_, trait = held
-    source.use(trait)
-    is_list = trait == "DuplicateFields"
-    quote = f"⟦<{type_} as {trait}>⟧"
-    copied = source.member("are_copies" if is_list else "is_copy_value")
-    takes = source.member("take_memory_to_copy" if is_list else "takes_memory_to_copy_value")
-    call = "duplicate_fields" if is_list else "duplicate_value"
+def duplicate_value(source: Source, definition: Definition, lifetime: str) -> None:
+    """Copies of a value, by those of its fields."""
+    quote = f"⟦<Fields{lifetime} as {source.use('DuplicateFields')}>⟧"
+    copied, takes = source.member("are_copies"), source.member("take_memory_to_copy")
     whole = definition.rust + lifetime
     names = ("copy_contents", "copy_comparable_value", "copy_re_reads_value")
     laws = [law_of_copies(source, whole, key) for key in COPIES]
     terms = "\n\n".join(f"    ghost {source.member(name)} = {{ {term} }};" for name, term in zip(names, laws))
     source.add(
         f"impl{lifetime} {source.use('DuplicateValue')} for {whole} {{\n"
-        f"    ghost {source.member('is_copy_value')} = {{ λ v w. {quote}.{copied} v.{member} w.{member} }};\n\n"
+        f"    ghost {source.member('is_copy_value')} = {{ λ v w. {quote}.{copied} v.fields w.fields }};\n\n"
         f"    ghost {source.member('takes_memory_to_copy_value')} = {{ {quote}.{takes} }};\n\n"
         f"    fn duplicate_value(&self) -> Result<{whole}, {source.use('Error')}> {{\n"
-        f"        match self.{member}.{call}() {{\n            Ok({member}) => Ok({definition.rust} {{ {member} }}),\n"
+        f"        match self.fields.duplicate_fields() {{\n            Ok(fields) => Ok({definition.rust} {{ fields }}),\n"
         f"            Err(e) => Err(e),\n        }}\n    }}\n\n{terms}\n}}"
     )
     source.add(

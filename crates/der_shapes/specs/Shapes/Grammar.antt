@@ -2,12 +2,14 @@
 -- Made by tools/asn1 from shapes.asn1.
 use Rattle.std.specs.Prelude.{false, true}
 use Rattle.der_ascii.specs.Characters.{parse_string}
+use Rattle.der_bits.specs.BitString.{parse_bit_string}
 use Rattle.der_elem.specs.Boolean.{boolean_contents, parse_boolean}
 use Rattle.der_elem.specs.Integer.{natural_contents}
 use Rattle.der_elem.specs.IntegerReading.{parse_signed, parse_unsigned}
 use Rattle.der_elem.specs.Null.{parse_null}
 use Rattle.der_fields.specs.MarkerTags.{marker_tag}
-use Rattle.der_modules.specs.Asn1.{CHOICE, DEFAULT, EXPLICIT, Grammar, IMPLICIT, OPTIONAL, SEQUENCE, SEQUENCE_OF, SET, any_of, application, context, end, field, one, private}
+use Rattle.der_lists.specs.Asn1.{SEQUENCE_OF, SET_OF, SET_OF_ANY_ORDER}
+use Rattle.der_modules.specs.Asn1.{CHOICE, DEFAULT, EXPLICIT, Grammar, IMPLICIT, NOT_EMPTY, OPTIONAL, SEQUENCE, SET, any_of, application, context, end, field, one, private}
 use Rattle.der_numbers.specs.AnyLength.{parse_integer, parse_natural}
 use Rattle.der_opaque.specs.AnyForm.{parse_any}
 use Rattle.der_opaque.specs.ObjectIdentifierOctets.{parse_identifier}
@@ -19,6 +21,9 @@ use Rattle.der_tlv.specs.declared.tag.Tag.TheVariants as tags
 
 abbrev pub ANY : Grammar
 ANY = any_of (λ t. true) parse_any
+
+abbrev pub BIT_STRING : Grammar
+BIT_STRING = one tags.BitString parse_bit_string
 
 abbrev pub BOOLEAN : Grammar
 BOOLEAN = one tags.Boolean parse_boolean
@@ -111,3 +116,34 @@ mixed =
     (field INTEGER_i8
     (field (IMPLICIT context 1 INTEGER)
     end)))
+
+-- Numbers ::= SEQUENCE OF INTEGER (0..255)
+abbrev pub numbers : Grammar
+numbers =
+    SEQUENCE_OF INTEGER_u8
+
+-- Ordered ::= SET OF Pair
+abbrev pub ordered : Grammar
+ordered =
+    SET_OF pair
+
+-- Unordered ::= SET SIZE (1..MAX) OF Status
+abbrev pub unordered : Grammar
+unordered =
+    NOT_EMPTY (SET_OF_ANY_ORDER status)
+
+-- Lists ::= SEQUENCE {
+--     numbers    Numbers,
+--     some       SEQUENCE SIZE (1..MAX) OF Numbers,
+--     ordered    [0] EXPLICIT Ordered OPTIONAL,
+--     unordered  [1] Unordered OPTIONAL,
+--     bits       SET OF BIT STRING }
+abbrev pub lists : Grammar
+lists =
+    SEQUENCE
+    (field numbers
+    (field (NOT_EMPTY (SEQUENCE_OF numbers))
+    (OPTIONAL (EXPLICIT context 0 ordered)
+    (OPTIONAL (IMPLICIT context 1 unordered)
+    (field (SET_OF BIT_STRING)
+    end)))))

@@ -1,7 +1,7 @@
 -- The fields of Subtree, by their names.
 -- Made by tools/asn1 from shapes.asn1.
-use Rattle.std.specs.Prelude.{Bool, Option, Vec, option_map, ℕ}
-use Rattle.std.specs.declared.alloc.Global.{Global}
+use Rattle.std.specs.Prelude.{Bool, Option, option_map, ℕ}
+use Rattle.der_lists.specs.declared.list_ref.ListRef.{ListRef}
 use Rattle.der_numbers.specs.declared.uint_ref.UintRef.{UintRef}
 use Rattle.der_shapes.specs.declared.shapes.general.General.{General}
 use Rattle.der_shapes.specs.declared.shapes.status.Status.{Status}
@@ -24,5 +24,5 @@ abbrev pub only : Subtree → Bool
 only v = v.fields.list.rest.rest.rest.first.value.value
 
 -- statuses [3] SEQUENCE OF Status OPTIONAL
-abbrev pub statuses : Subtree → Option (Vec Status Global)
+abbrev pub statuses : Subtree → Option (ListRef Status)
 statuses v = option_map (λ x. x.value) v.fields.list.rest.rest.rest.rest.first

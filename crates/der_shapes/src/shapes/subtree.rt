@@ -2,35 +2,33 @@
 //!
 //! Made by tools/asn1 from shapes.asn1.
 
+ghost use Rattle.std.specs.Cmp.Lexicographic.{bytes_decides};
 ghost use Rattle.std.specs.Prelude.{◌∷◌, ◌≡◌, [], false, refl, true};
 ghost use Rattle.der_elem.specs.FormatMakers.{mapped_format};
 ghost use Rattle.der_elem.specs.contracts.boolean.BoolContentsEq.TheImpl.Laws as bool_contents_eq;
 ghost use Rattle.der_elem.specs.contracts.integer.unsigned.U8ContentsEq.TheImpl.Laws as u8_contents_eq;
 ghost use Rattle.der_modules.specs.Asn1.{context, explicit_encoding, implicit_encoding, joined, optional, parse_of, private, unless_default};
-ghost use Rattle.der_modules.specs.MemberLaws.{copies_of, default_copies, default_equality, default_starts, held_copies, items_copies, items_equality, listed_copies, member_copies, member_equality, no_copies, no_equality, one_tag, one_tag_copies, one_tag_equality, optional_copies, optional_equality, optional_starts, own_tags, same_copies, tagged_starts};
+ghost use Rattle.der_modules.specs.MemberLaws.{default_equality, default_starts, member_equality, no_equality, one_tag, one_tag_equality, optional_equality, optional_starts, own_tags, tagged_starts};
 ghost use Rattle.der_numbers.specs.contracts.uint_ref.UintRefContentsEq.TheImpl.Laws as uintref_contents_eq;
 ghost use Rattle.der_shapes.specs.Shapes.Grammar.{subtree};
 ghost use Rattle.der_shapes.specs.Shapes.Subtree as subtree_fields;
 ghost use Rattle.der_shapes.specs.contracts.shapes.general.GeneralEncodingEq.TheImpl.Laws as general_encoding_eq;
-ghost use Rattle.der_shapes.specs.contracts.shapes.general.GeneralEq.TheImpl.Laws as general_eq;
 ghost use Rattle.der_shapes.specs.contracts.shapes.general.GeneralTagged.TheImpl.Laws as general_tagged;
-ghost use Rattle.der_shapes.specs.contracts.shapes.status.StatusEncodingEq.TheImpl.Laws as status_encoding_eq;
-ghost use Rattle.der_shapes.specs.contracts.shapes.status.StatusEq.TheImpl.Laws as status_eq;
-ghost use Rattle.der_shapes.specs.contracts.shapes.status.StatusTagged.TheImpl.Laws as status_tagged;
 ghost use Rattle.der_shapes.specs.declared.shapes.subtree.Subtree.{Subtree};
 
 use crate::shapes::general::General;
 use crate::shapes::status::Status;
 use der_elem::{
-    BooleanTag, ContentsEq, DecodeValue, DuplicateValue, DuplicateValueIsEqual, EncodeValue, Form,
-    FormValue, IntegerTag, OneTag, SequenceTag, TagMarker, Tagged, ValueOrd,
+    BooleanTag, ContentsEq, CopyIsDuplicate, DecodeValue, EncodeValue, Form, FormValue, IntegerTag,
+    OneTag, SequenceTag, TagMarker, Tagged, ValueOrd,
 };
 use der_fields::{
-    DecodeFields, DefaultFalse, DefaultNumber, DefaultOf, DuplicateFields, EncodeFields, End,
-    Explicit, ExplicitTag, Field, FieldList, Fields5, FieldsOrd, Implicit, ImplicitApplicationTag,
-    ImplicitPrivate, ImplicitPrivateTag, ImplicitTag, WithDefault,
+    DecodeFields, DefaultFalse, DefaultNumber, DefaultOf, EncodeFields, End, Explicit, ExplicitTag,
+    Field, FieldList, Fields5, FieldsOrd, Implicit, ImplicitApplicationTag, ImplicitPrivate,
+    ImplicitPrivateTag, ImplicitTag, WithDefault,
 };
-use der_modules::{CopyLaws, copy_of};
+use der_lists::ListRef;
+use der_modules::copy_of;
 use der_numbers::UintRef;
 use der_tlv::{BackWriter, Error, Header, Length, Source, Writer};
 use std::alloc::Global;
@@ -43,7 +41,7 @@ type Fields<'a> = Fields5<
     WithDefault<Implicit<u8, 0>, DefaultNumber<0>>,
     Option<Implicit<UintRef<'a>, 1>>,
     WithDefault<ImplicitPrivate<bool, 2>, DefaultFalse>,
-    Option<Implicit<Vec<Status>, 3>>,
+    Option<Implicit<ListRef<'a, Status>, 3>>,
 >;
 
 /// ```text
@@ -55,9 +53,8 @@ type Fields<'a> = Fields5<
 ///     statuses  [3] SEQUENCE OF Status OPTIONAL }
 /// ```
 ///
-/// Reading refuses the first fault of the octets, in their order; `ErrorKind::Memory` (1) where
-/// memory runs out.
-#[derive(PartialEq, Eq, Drop)]
+/// Reading refuses the first fault of the octets, in their order.
+#[derive(Clone, Copy, PartialEq, Eq)]
 pub struct Subtree<'a> {
     fields: Fields<'a>,
 }
@@ -72,16 +69,18 @@ impl<'a> Subtree<'a> {
         minimum: u8,
         maximum: Option<UintRef<'a>>,
         only: bool,
-        statuses: Option<Vec<Status>>,
+        statuses: Option<&ListRef<'a, Status>>,
     ) -> Subtree<'a>
         ensures base { subtree_fields.base result ≡ base.now }
         ensures minimum { subtree_fields.minimum result ≡ minimum }
         ensures maximum { subtree_fields.maximum result ≡ maximum.entry }
         ensures only { subtree_fields.only result ≡ only }
-        ensures statuses { subtree_fields.statuses result ≡ statuses }
+        ensures statuses { subtree_fields.statuses result ≡ option_copied statuses.entry }
     {
         let first = match statuses {
-            Some(value) => Some(Implicit { value }),
+            Some(value) => Some(Implicit {
+                value: copy_of(value),
+            }),
             None => None,
         };
         let rest = Field { first, rest: End };
@@ -103,51 +102,6 @@ impl<'a> Subtree<'a> {
         let list = Field { first, rest };
         let fields = Fields5 { list };
         Subtree { fields }
-    }
-
-    /// The values of the fields, in their order.
-    pub fn into_parts(
-        self,
-    ) -> (
-        General<'a>,
-        u8,
-        Option<UintRef<'a>>,
-        bool,
-        Option<Vec<Status>>,
-    )
-        ensures base { subtree_fields.base self.entry ≡ result.0 }
-        ensures minimum { subtree_fields.minimum self.entry ≡ result.1 }
-        ensures maximum { subtree_fields.maximum self.entry ≡ result.2 }
-        ensures only { subtree_fields.only self.entry ≡ result.3 }
-        ensures statuses { subtree_fields.statuses self.entry ≡ result.4 }
-    {
-        let Fields5 { list } = self.fields;
-        let Field { first: base, rest } = list;
-        let Field {
-            first: minimum,
-            rest,
-        } = rest;
-        let Field {
-            first: maximum,
-            rest,
-        } = rest;
-        let Field { first: only, rest } = rest;
-        let Field {
-            first: statuses,
-            ..
-        } = rest;
-        let base = base.fields.first;
-        let minimum = minimum.value.value;
-        let maximum = match maximum {
-            Some(tagged) => Some(tagged.value),
-            None => None,
-        };
-        let only = only.value.value;
-        let statuses = match statuses {
-            Some(tagged) => Some(tagged.value),
-            None => None,
-        };
-        (base, minimum, maximum, only, statuses)
     }
 
     /// `base`, `[5] EXPLICIT General`.
@@ -182,7 +136,7 @@ impl<'a> Subtree<'a> {
     }
 
     /// `statuses`, `[3] SEQUENCE OF Status OPTIONAL`.
-    pub fn statuses(&self) -> Option<&Vec<Status>>
+    pub fn statuses(&self) -> Option<&ListRef<'a, Status>>
         ensures { option_copied result ≡ subtree_fields.statuses self.now }
     {
         match &self.fields.list.rest.rest.rest.rest.first {
@@ -213,9 +167,9 @@ impl<'a> FormValue for Subtree<'a> {
 }
 
 impl<'a, R: Source<'a>> DecodeValue<'a, R> for Subtree<'a> {
-    ghost TAKES_MEMORY = { true };
+    ghost TAKES_MEMORY = { false };
 
-    const TAKES_MEMORY: bool = true;
+    const TAKES_MEMORY: bool = false;
 
     fn decode_value(alloc: Global, reader: &mut R, _header: Header) -> Result<Subtree<'a>, Error> {
         match Fields::<'a>::decode_fields(alloc, reader) {
@@ -268,58 +222,14 @@ impl<'a> ContentsEq for Subtree<'a> {
         (default_starts ⟦<ImplicitPrivate<bool, 2> as Form>⟧ (one_tag ⟦<ImplicitPrivateTag<BooleanTag, 2> as TagMarker>⟧.TAG ⟦<ImplicitPrivate<bool, 2> as FormValue>⟧.value.contents) (λ x. x.value) ⟦<DefaultFalse as DefaultOf<ImplicitPrivate<bool, 2>>>⟧.octets)
         ⟦<WithDefault<ImplicitPrivate<bool, 2>, DefaultFalse> as PartialEq>⟧.eq
         (default_equality ⟦<ImplicitPrivate<bool, 2> as Form>⟧ (one_tag ⟦<ImplicitPrivateTag<BooleanTag, 2> as TagMarker>⟧.TAG ⟦<ImplicitPrivate<bool, 2> as FormValue>⟧.value.contents) (λ x. x.value) ⟦<DefaultFalse as DefaultOf<ImplicitPrivate<bool, 2>>>⟧.octets ⟦<ImplicitPrivate<bool, 2> as PartialEq>⟧.eq (one_tag_equality ⟦<ImplicitPrivateTag<BooleanTag, 2> as TagMarker>⟧.TAG ⟦<ImplicitPrivate<bool, 2> as FormValue>⟧.value.contents ⟦<ImplicitPrivate<bool, 2> as FormValue>⟧.value.comparable ⟦<ImplicitPrivate<bool, 2> as PartialEq>⟧.eq (λ v w. (bool_contents_eq.contents_eq-law v.value w.value))))
-        (member_equality ⟦<Option<Implicit<Vec<Status>, 3>> as Form>⟧
-        (optional_starts ⟦<Implicit<Vec<Status>, 3> as Form>⟧ (one_tag ⟦<ImplicitTag<SequenceTag, 3> as TagMarker>⟧.TAG ⟦<Implicit<Vec<Status>, 3> as FormValue>⟧.value.contents))
-        ⟦<Option<Implicit<Vec<Status>, 3>> as PartialEq>⟧.eq
-        (optional_equality ⟦<Implicit<Vec<Status>, 3> as Form>⟧ (one_tag ⟦<ImplicitTag<SequenceTag, 3> as TagMarker>⟧.TAG ⟦<Implicit<Vec<Status>, 3> as FormValue>⟧.value.contents) ⟦<Implicit<Vec<Status>, 3> as PartialEq>⟧.eq (one_tag_equality ⟦<ImplicitTag<SequenceTag, 3> as TagMarker>⟧.TAG ⟦<Implicit<Vec<Status>, 3> as FormValue>⟧.value.contents ⟦<Implicit<Vec<Status>, 3> as FormValue>⟧.value.comparable ⟦<Implicit<Vec<Status>, 3> as PartialEq>⟧.eq (λ v w. ((items_equality ⟦<Status as Form>⟧ (own_tags ⟦<Status as Form>⟧.tags ⟦<Status as Form>⟧.first_tag_of ⟦<Status as Form>⟧.encoding ⟦<Status as Tagged>⟧.tag_of ⟦<Status as FormValue>⟧.value.contents status_tagged.encoding_is-law status_tagged.own_tag-law status_tagged.first_tag_is-law) ⟦<Status as PartialEq>⟧.eq status_encoding_eq.encoding_eq-law) v.value.items w.value.items))))
+        (member_equality ⟦<Option<Implicit<ListRef<'a, Status>, 3>> as Form>⟧
+        (optional_starts ⟦<Implicit<ListRef<'a, Status>, 3> as Form>⟧ (one_tag ⟦<ImplicitTag<SequenceTag, 3> as TagMarker>⟧.TAG ⟦<Implicit<ListRef<'a, Status>, 3> as FormValue>⟧.value.contents))
+        ⟦<Option<Implicit<ListRef<'a, Status>, 3>> as PartialEq>⟧.eq
+        (optional_equality ⟦<Implicit<ListRef<'a, Status>, 3> as Form>⟧ (one_tag ⟦<ImplicitTag<SequenceTag, 3> as TagMarker>⟧.TAG ⟦<Implicit<ListRef<'a, Status>, 3> as FormValue>⟧.value.contents) ⟦<Implicit<ListRef<'a, Status>, 3> as PartialEq>⟧.eq (one_tag_equality ⟦<ImplicitTag<SequenceTag, 3> as TagMarker>⟧.TAG ⟦<Implicit<ListRef<'a, Status>, 3> as FormValue>⟧.value.contents ⟦<Implicit<ListRef<'a, Status>, 3> as FormValue>⟧.value.comparable ⟦<Implicit<ListRef<'a, Status>, 3> as PartialEq>⟧.eq (λ v w. (λ one. bytes_decides v.value.octets.octets.now w.value.octets.octets.now))))
         no_equality))))).equal v.fields.list w.fields.list };
 }
 
-impl<'a> CopyLaws for Subtree<'a> {
-    ghost copies = { copies_of (held_copies (λ v. v.fields.list)
-        (listed_copies (member_copies ⟦<Explicit<General<'a>, 5> as Form>⟧
-        (tagged_starts ⟦<Explicit<General<'a>, 5> as Form>⟧ (one_tag ⟦<ExplicitTag<5> as TagMarker>⟧.TAG ⟦<Explicit<General<'a>, 5> as FormValue>⟧.value.contents))
-        (one_tag_copies ⟦<ExplicitTag<5> as TagMarker>⟧.TAG (held_copies (λ x. x.fields) (listed_copies (member_copies ⟦<General<'a> as Form>⟧
-        (tagged_starts ⟦<General<'a> as Form>⟧ (own_tags ⟦<General<'a> as Form>⟧.tags ⟦<General<'a> as Form>⟧.first_tag_of ⟦<General<'a> as Form>⟧.encoding ⟦<General<'a> as Tagged>⟧.tag_of ⟦<General<'a> as FormValue>⟧.value.contents general_tagged.encoding_is-law general_tagged.own_tag-law general_tagged.first_tag_is-law))
-        (same_copies ⟦<General<'a> as Form>⟧.encoding ⟦<General<'a> as Form>⟧.comparable ⟦<General<'a> as Form>⟧.re_reads ⟦<General<'a> as PartialEq>⟧.eq general_eq.laws-law.refl)
-        no_copies))))
-        (member_copies ⟦<WithDefault<Implicit<u8, 0>, DefaultNumber<0>> as Form>⟧
-        (default_starts ⟦<Implicit<u8, 0> as Form>⟧ (one_tag ⟦<ImplicitTag<IntegerTag, 0> as TagMarker>⟧.TAG ⟦<Implicit<u8, 0> as FormValue>⟧.value.contents) (λ x. x.value) ⟦<DefaultNumber<0> as DefaultOf<Implicit<u8, 0>>>⟧.octets)
-        (default_copies ⟦<Implicit<u8, 0> as Form>⟧ (one_tag_copies ⟦<ImplicitTag<IntegerTag, 0> as TagMarker>⟧.TAG (held_copies (λ x. x.value) (same_copies ⟦<u8 as FormValue>⟧.value.contents ⟦<u8 as FormValue>⟧.value.comparable ⟦<u8 as FormValue>⟧.value.re_reads ⟦<u8 as PartialEq>⟧.eq (λ v. (u8_contents_eq.contents_eq-law v v tt).1 refl)))) (λ x. x.value) ⟦<DefaultNumber<0> as DefaultOf<Implicit<u8, 0>>>⟧.octets)
-        (member_copies ⟦<Option<Implicit<UintRef<'a>, 1>> as Form>⟧
-        (optional_starts ⟦<Implicit<UintRef<'a>, 1> as Form>⟧ (one_tag ⟦<ImplicitTag<IntegerTag, 1> as TagMarker>⟧.TAG ⟦<Implicit<UintRef<'a>, 1> as FormValue>⟧.value.contents))
-        (optional_copies ⟦<Implicit<UintRef<'a>, 1> as Form>⟧ (one_tag_copies ⟦<ImplicitTag<IntegerTag, 1> as TagMarker>⟧.TAG (held_copies (λ x. x.value) (same_copies ⟦<UintRef<'a> as FormValue>⟧.value.contents ⟦<UintRef<'a> as FormValue>⟧.value.comparable ⟦<UintRef<'a> as FormValue>⟧.value.re_reads ⟦<UintRef<'a> as PartialEq>⟧.eq (λ v. (uintref_contents_eq.contents_eq-law v v tt).1 refl)))))
-        (member_copies ⟦<WithDefault<ImplicitPrivate<bool, 2>, DefaultFalse> as Form>⟧
-        (default_starts ⟦<ImplicitPrivate<bool, 2> as Form>⟧ (one_tag ⟦<ImplicitPrivateTag<BooleanTag, 2> as TagMarker>⟧.TAG ⟦<ImplicitPrivate<bool, 2> as FormValue>⟧.value.contents) (λ x. x.value) ⟦<DefaultFalse as DefaultOf<ImplicitPrivate<bool, 2>>>⟧.octets)
-        (default_copies ⟦<ImplicitPrivate<bool, 2> as Form>⟧ (one_tag_copies ⟦<ImplicitPrivateTag<BooleanTag, 2> as TagMarker>⟧.TAG (held_copies (λ x. x.value) (same_copies ⟦<bool as FormValue>⟧.value.contents ⟦<bool as FormValue>⟧.value.comparable ⟦<bool as FormValue>⟧.value.re_reads ⟦<bool as PartialEq>⟧.eq (λ v. (bool_contents_eq.contents_eq-law v v tt).1 refl)))) (λ x. x.value) ⟦<DefaultFalse as DefaultOf<ImplicitPrivate<bool, 2>>>⟧.octets)
-        (member_copies ⟦<Option<Implicit<Vec<Status>, 3>> as Form>⟧
-        (optional_starts ⟦<Implicit<Vec<Status>, 3> as Form>⟧ (one_tag ⟦<ImplicitTag<SequenceTag, 3> as TagMarker>⟧.TAG ⟦<Implicit<Vec<Status>, 3> as FormValue>⟧.value.contents))
-        (optional_copies ⟦<Implicit<Vec<Status>, 3> as Form>⟧ (one_tag_copies ⟦<ImplicitTag<SequenceTag, 3> as TagMarker>⟧.TAG (held_copies (λ x. x.value) (held_copies (λ x. x.items) (items_copies ⟦<Status as Form>⟧ (same_copies ⟦<Status as Form>⟧.encoding ⟦<Status as Form>⟧.comparable ⟦<Status as Form>⟧.re_reads ⟦<Status as PartialEq>⟧.eq status_eq.laws-law.refl))))))
-        no_copies))))))) };
-}
-
-impl<'a> DuplicateValue for Subtree<'a> {
-    ghost is_copy_value = { λ v w. ⟦<Fields<'a> as DuplicateFields>⟧.are_copies v.fields w.fields };
-
-    ghost takes_memory_to_copy_value = { ⟦<Fields<'a> as DuplicateFields>⟧.take_memory_to_copy };
-
-    fn duplicate_value(&self) -> Result<Subtree<'a>, Error> {
-        match self.fields.duplicate_fields() {
-            Ok(fields) => Ok(Subtree { fields }),
-            Err(e) => Err(e),
-        }
-    }
-
-    ghost copy_contents = { ⟦<Subtree<'a> as CopyLaws>⟧.copies.laws.octets_are };
-
-    ghost copy_comparable_value = { ⟦<Subtree<'a> as CopyLaws>⟧.copies.laws.comparable_are };
-
-    ghost copy_re_reads_value = { ⟦<Subtree<'a> as CopyLaws>⟧.copies.laws.re_reads_are };
-}
-
-impl<'a> DuplicateValueIsEqual for Subtree<'a> {
-    ghost copy_value_is_equal = { ⟦<Subtree<'a> as CopyLaws>⟧.copies.laws.equal_are };
-}
+impl<'a> CopyIsDuplicate for Subtree<'a> {}
 
 /// What is read as `Subtree` is what the page of the grammar says.
 pub fn grammar_of_subtree<'a>()
@@ -334,6 +244,6 @@ pub fn octets_of_subtree<'a>()
         ∷ unless_default ⟦<DefaultNumber<0> as DefaultOf<Implicit<u8, 0>>>⟧.octets (implicit_encoding context false 0 (⟦<u8 as FormValue>⟧.value.contents (subtree_fields.minimum v)))
         ∷ optional (λ x. (implicit_encoding context false 1 (⟦<UintRef<'a> as FormValue>⟧.value.contents x))) (subtree_fields.maximum v)
         ∷ unless_default ⟦<DefaultFalse as DefaultOf<ImplicitPrivate<bool, 2>>>⟧.octets (implicit_encoding private false 2 (⟦<bool as FormValue>⟧.value.contents (subtree_fields.only v)))
-        ∷ optional (λ x. (implicit_encoding context true 3 (⟦<Vec<Status> as FormValue>⟧.value.contents x))) (subtree_fields.statuses v)
+        ∷ optional (λ x. (implicit_encoding context true 3 (⟦<ListRef<'a, Status> as FormValue>⟧.value.contents x))) (subtree_fields.statuses v)
         ∷ []) }
 {}

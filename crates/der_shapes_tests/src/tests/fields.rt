@@ -1,6 +1,6 @@
 //! Fields by their names, and values of fields.
 
-use super::{holds, same};
+use super::{holds, numbered, same};
 use der_elem::FromDer;
 use der_shapes::shapes::{Pair, Subtree};
 use std::alloc::Global;
@@ -12,7 +12,7 @@ fn bounds_of(alloc: Global, octets: &[u8]) -> Result<(u8, bool, bool, usize), u8
     match Subtree::from_der(alloc, octets) {
         Ok(subtree) => {
             let statuses = match subtree.statuses() {
-                Some(statuses) => statuses.len(),
+                Some(statuses) => numbered(statuses.count(alloc))?,
                 None => 0,
             };
             let is_bounded = subtree.maximum().is_some();
