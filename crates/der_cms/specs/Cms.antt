@@ -15,3 +15,4 @@ pub mod SignedAttributes
 pub mod SignedData
 pub mod SignerIdentifier
 pub mod SignerInfo
+pub mod UnsignedAttributes

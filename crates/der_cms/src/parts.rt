@@ -57,6 +57,8 @@ pub enum Part {
     SignedAttributes,
     /// `Attribute`.
     Attribute,
+    /// `UnsignedAttributes`.
+    UnsignedAttributes,
     /// `DigestedData`.
     DigestedData,
     /// `EncryptedData`.
@@ -527,7 +529,7 @@ static SIGNER_INFO: [Component; 8] = [
     Component {
         name: "unsignedAttrs",
         octet: Some(0xa1),
-        part: Part::SignedAttributes,
+        part: Part::UnsignedAttributes,
     },
 ];
 
@@ -562,6 +564,12 @@ static ATTRIBUTE: [Component; 2] = [
         part: Part::Value,
     },
 ];
+
+static UNSIGNED_ATTRIBUTES: [Component; 1] = [Component {
+    name: "",
+    octet: None,
+    part: Part::Attribute,
+}];
 
 static DIGESTED_DATA: [Component; 4] = [
     Component {
@@ -600,7 +608,7 @@ static ENCRYPTED_DATA: [Component; 3] = [
     Component {
         name: "unprotectedAttrs",
         octet: Some(0xa1),
-        part: Part::SignedAttributes,
+        part: Part::UnsignedAttributes,
     },
 ];
 
@@ -842,6 +850,7 @@ impl Part {
             Part::IssuerAndSerialNumber => &ISSUER_AND_SERIAL_NUMBER,
             Part::SignedAttributes => &SIGNED_ATTRIBUTES,
             Part::Attribute => &ATTRIBUTE,
+            Part::UnsignedAttributes => &UNSIGNED_ATTRIBUTES,
             Part::DigestedData => &DIGESTED_DATA,
             Part::EncryptedData => &ENCRYPTED_DATA,
             Part::EncryptedContentInfo => &ENCRYPTED_CONTENT_INFO,
@@ -876,6 +885,7 @@ impl Part {
                 | Part::SequenceOfRevokedCertificate
                 | Part::SetOfSignerInfo
                 | Part::SignedAttributes
+                | Part::UnsignedAttributes
                 | Part::SequenceOfEssCertId
                 | Part::GeneralNames
                 | Part::SequenceOfPolicyInformation

@@ -35,7 +35,7 @@ pub use originator_info::OriginatorInfo;
 pub use password_recipient_info::PasswordRecipientInfo;
 pub use recipient_encrypted_key::RecipientEncryptedKey;
 pub use recipient_encrypted_keys::RecipientEncryptedKeys;
-pub use recipient_info::{RecipientInfo, RecipientInfoOrder};
+pub use recipient_info::RecipientInfo;
 pub use recipient_info_first::RecipientInfoFirst;
 pub use recipient_info_other::RecipientInfoOther;
 pub use recipient_infos::RecipientInfos;

@@ -65,14 +65,16 @@ pub enum Part {
     PasswordRecipientInfo,
     /// `EncryptedContentInfo`.
     EncryptedContentInfo,
-    /// `SignedAttributes`.
-    SignedAttributes,
+    /// `UnsignedAttributes`.
+    UnsignedAttributes,
     /// `Attribute`.
     Attribute,
     /// `AuthenticatedData`.
     AuthenticatedData,
     /// `EncapsulatedContentInfo`.
     EncapsulatedContentInfo,
+    /// `SignedAttributes`.
+    SignedAttributes,
     /// A value with no components that have names.
     Value,
 }
@@ -112,7 +114,7 @@ static ENVELOPED_DATA: [Component; 5] = [
     Component {
         name: "unprotectedAttrs",
         octet: Some(0xa1),
-        part: Part::SignedAttributes,
+        part: Part::UnsignedAttributes,
     },
 ];
 
@@ -661,7 +663,7 @@ static ENCRYPTED_CONTENT_INFO: [Component; 3] = [
     },
 ];
 
-static SIGNED_ATTRIBUTES: [Component; 1] = [Component {
+static UNSIGNED_ATTRIBUTES: [Component; 1] = [Component {
     name: "",
     octet: None,
     part: Part::Attribute,
@@ -724,7 +726,7 @@ static AUTHENTICATED_DATA: [Component; 9] = [
     Component {
         name: "unauthAttrs",
         octet: Some(0xa3),
-        part: Part::SignedAttributes,
+        part: Part::UnsignedAttributes,
     },
 ];
 
@@ -740,6 +742,12 @@ static ENCAPSULATED_CONTENT_INFO: [Component; 2] = [
         part: Part::Value,
     },
 ];
+
+static SIGNED_ATTRIBUTES: [Component; 1] = [Component {
+    name: "",
+    octet: None,
+    part: Part::Attribute,
+}];
 
 impl Part {
     /// The components, in their order; of a list the one that each item is.
@@ -778,10 +786,11 @@ impl Part {
             Part::KekRecipientInfo => &KEK_RECIPIENT_INFO,
             Part::PasswordRecipientInfo => &PASSWORD_RECIPIENT_INFO,
             Part::EncryptedContentInfo => &ENCRYPTED_CONTENT_INFO,
-            Part::SignedAttributes => &SIGNED_ATTRIBUTES,
+            Part::UnsignedAttributes => &UNSIGNED_ATTRIBUTES,
             Part::Attribute => &ATTRIBUTE,
             Part::AuthenticatedData => &AUTHENTICATED_DATA,
             Part::EncapsulatedContentInfo => &ENCAPSULATED_CONTENT_INFO,
+            Part::SignedAttributes => &SIGNED_ATTRIBUTES,
             Part::Value => &[],
         }
     }
@@ -798,6 +807,7 @@ impl Part {
                 | Part::SequenceOfRevokedCertificate
                 | Part::RecipientInfos
                 | Part::RecipientEncryptedKeys
+                | Part::UnsignedAttributes
                 | Part::SignedAttributes
         )
     }

@@ -6,6 +6,7 @@
 mod authenticated;
 mod enveloped;
 mod fields;
+mod memory;
 mod messages;
 mod stamps;
 
@@ -23,6 +24,11 @@ use std::test::Fail;
 /// assertions stand in functions of their own, and each is proved once.
 fn same_in<C: Debug, T: PartialEq + Debug + Drop>(rt: &impl Abort, case: &C, found: T, wanted: T) {
     assert_eq!(rt; found, wanted, "{case:?}");
+}
+
+/// Asserts that the condition holds.
+fn holds(rt: &impl Abort, condition: bool) {
+    assert!(rt; condition);
 }
 
 /// Puts another octet in a place.

@@ -14,7 +14,6 @@ mod crl_distribution_points;
 mod crl_reason;
 mod distribution_point;
 mod distribution_point_name;
-mod explicit0_distribution_point_name;
 mod ext_key_usage_syntax;
 mod general_name;
 mod general_names;

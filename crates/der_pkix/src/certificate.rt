@@ -4,7 +4,6 @@
 
 mod aliases;
 mod certificate;
-mod explicit3_extensions;
 mod extension;
 mod extensions;
 pub mod laws;
@@ -14,8 +13,8 @@ mod time;
 mod validity;
 
 pub use aliases::{
-    AlgorithmIdentifier, AlgorithmIdentifierOrder, CertificateSerialNumber, UniqueIdentifier,
-    VERSION_V1, VERSION_V2, VERSION_V3, Version,
+    AlgorithmIdentifier, CertificateSerialNumber, UniqueIdentifier, VERSION_V1, VERSION_V2,
+    VERSION_V3, Version,
 };
 pub use certificate::Certificate;
 pub use extension::Extension;

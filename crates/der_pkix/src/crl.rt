@@ -3,7 +3,6 @@
 //! Made by tools/asn1 from crl.asn1.
 
 mod certificate_list;
-mod explicit0_extensions;
 pub mod laws;
 mod revoked_certificate;
 mod tbs_cert_list;

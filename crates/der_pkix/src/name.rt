@@ -10,8 +10,8 @@ pub mod laws;
 mod rdn_sequence;
 mod relative_distinguished_name;
 
-pub use aliases::{AttributeType, AttributeValue, AttributeValueOrder, DistinguishedName, Name};
-pub use attribute::{Attribute, AttributeOrder};
-pub use attribute_type_and_value::{AttributeTypeAndValue, AttributeTypeAndValueOrder};
+pub use aliases::{AttributeType, AttributeValue, DistinguishedName, Name};
+pub use attribute::Attribute;
+pub use attribute_type_and_value::AttributeTypeAndValue;
 pub use rdn_sequence::RdnSequence;
 pub use relative_distinguished_name::RelativeDistinguishedName;

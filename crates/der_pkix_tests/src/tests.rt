@@ -13,6 +13,7 @@ mod extensions;
 mod general_names;
 mod key_values;
 mod list_values;
+mod memory;
 mod names;
 mod points;
 mod policies;
@@ -45,10 +46,10 @@ fn holds(rt: &impl Abort, condition: bool) {
     assert!(rt; condition);
 }
 
-// The octets, or the number of why there are none.
-pub(crate) fn numbered(written: Result<Vec<u8>, Error>) -> Result<Vec<u8>, u8> {
-    match written {
-        Ok(octets) => Ok(octets),
+// What was found, or the number of why it was not.
+pub(crate) fn numbered<T>(found: Result<T, Error>) -> Result<T, u8> {
+    match found {
+        Ok(value) => Ok(value),
         Err(e) => Err(e.kind().number()),
     }
 }

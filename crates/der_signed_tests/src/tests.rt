@@ -3,6 +3,7 @@
 //! The keys are of Ed25519 and on P-256, and one is of RSA; a comment at the octets says the command.
 
 mod digested;
+mod memory;
 mod requests;
 mod signed_messages;
 mod signers;
@@ -13,6 +14,7 @@ mod status_requests;
 
 use der_asn1_types::{DerOrd, Duplicate, Encode, Error, FromDer};
 use der_cms::cms::ContentInfo;
+use der_pkix::name::Attribute;
 use std::alloc::Global;
 use std::cmp::Ordering;
 use std::fmt::Debug;
@@ -36,10 +38,10 @@ fn holds(rt: &impl Abort, condition: bool) {
     assert!(rt; condition);
 }
 
-// The octets, or the number of why there are none.
-pub(crate) fn numbered(written: Result<Vec<u8>, Error>) -> Result<Vec<u8>, u8> {
-    match written {
-        Ok(octets) => Ok(octets),
+// What was found, or the number of why it was not.
+pub(crate) fn numbered<T>(found: Result<T, Error>) -> Result<T, u8> {
+    match found {
+        Ok(value) => Ok(value),
         Err(e) => Err(e.kind().number()),
     }
 }
@@ -104,6 +106,15 @@ fn content_of(alloc: Global, octets: &[u8]) -> Result<Vec<u8>, u8> {
     match ContentInfo::from_der(alloc, octets) {
         Ok(message) => numbered(message.content().to_der(alloc)),
         Err(e) => Err(e.kind().number()),
+    }
+}
+
+// The encoding of the first value of an attribute.
+fn first_value(alloc: Global, attribute: &Attribute) -> Result<Vec<u8>, u8> {
+    match attribute.values().get(alloc, 0) {
+        Some(Ok(value)) => numbered(value.to_der(alloc)),
+        Some(Err(e)) => Err(e.kind().number()),
+        None => Err(0),
     }
 }
 

@@ -5,7 +5,6 @@
 mod accuracy;
 mod aliases;
 pub mod constants;
-mod explicit0_general_name;
 pub mod laws;
 mod message_imprint;
 mod pki_free_text;

@@ -3,7 +3,8 @@
 use Rattle.std.specs.Prelude.{true}
 use Rattle.der_elem.specs.IntegerReading.{parse_unsigned}
 use Rattle.der_extensions.specs.Extension.Grammar.{subject_key_identifier}
-use Rattle.der_modules.specs.Asn1.{CHOICE, EXPLICIT, Grammar, IMPLICIT, KEPT, NOT_EMPTY, OPTIONAL, SEQUENCE, SET_OF, any_of, context, end, field, one}
+use Rattle.der_lists.specs.Asn1.{SET_OF, SET_OF_ANY_ORDER}
+use Rattle.der_modules.specs.Asn1.{CHOICE, EXPLICIT, Grammar, IMPLICIT, NOT_EMPTY, OPTIONAL, SEQUENCE, any_of, context, end, field, one}
 use Rattle.der_opaque.specs.AnyForm.{parse_any}
 use Rattle.der_opaque.specs.ObjectIdentifierOctets.{parse_identifier}
 use Rattle.der_opaque.specs.Opaque.{parse_octets}
@@ -83,7 +84,7 @@ certificate_choices =
 -- CertificateSet ::= SET OF CertificateChoices
 abbrev pub certificate_set : Grammar
 certificate_set =
-    SET_OF certificate_choices
+    SET_OF_ANY_ORDER certificate_choices
 
 -- OtherRevocationInfoFormat ::= AttributeTypeAndValue
 abbrev pub other_revocation_info_format : Grammar
@@ -102,7 +103,7 @@ revocation_info_choice =
 -- RevocationInfoChoices ::= SET OF RevocationInfoChoice
 abbrev pub revocation_info_choices : Grammar
 revocation_info_choices =
-    SET_OF revocation_info_choice
+    SET_OF_ANY_ORDER revocation_info_choice
 
 -- IssuerAndSerialNumber ::= SEQUENCE {
 --      issuer        Name,
@@ -110,7 +111,7 @@ revocation_info_choices =
 abbrev pub issuer_and_serial_number : Grammar
 issuer_and_serial_number =
     SEQUENCE
-    (field (KEPT name)
+    (field name
     (field certificate_serial_number
     end))
 
@@ -128,10 +129,10 @@ abbrev pub signed_attributes : Grammar
 signed_attributes =
     NOT_EMPTY (SET_OF attribute)
 
--- UnsignedAttributes ::= SignedAttributes
+-- UnsignedAttributes ::= SET SIZE (1..MAX) OF Attribute
 abbrev pub unsigned_attributes : Grammar
 unsigned_attributes =
-    signed_attributes
+    NOT_EMPTY (SET_OF_ANY_ORDER attribute)
 
 -- SignerInfo ::= SEQUENCE {
 --      version             CMSVersion,
@@ -159,16 +160,17 @@ signer_info =
 --      encapContentInfo  EncapsulatedContentInfo,
 --      certificates      [0] IMPLICIT CertificateSet OPTIONAL,
 --      crls              [1] IMPLICIT RevocationInfoChoices OPTIONAL,
---      signerInfos       SET OF SignerInfo }
+--      signerInfos       SET OF SignerInfo
+-- }
 abbrev pub signed_data : Grammar
 signed_data =
     SEQUENCE
     (field cms_version
-    (field (SET_OF algorithm_identifier)
+    (field (SET_OF_ANY_ORDER algorithm_identifier)
     (field encapsulated_content_info
     (OPTIONAL (IMPLICIT context 0 certificate_set)
     (OPTIONAL (IMPLICIT context 1 revocation_info_choices)
-    (field (SET_OF signer_info)
+    (field (SET_OF_ANY_ORDER signer_info)
     end))))))
 
 -- DigestedData ::= SEQUENCE {
@@ -197,10 +199,10 @@ encrypted_content_info =
     (OPTIONAL (IMPLICIT context 0 OCTET_STRING)
     end)))
 
--- UnprotectedAttributes ::= SignedAttributes
+-- UnprotectedAttributes ::= UnsignedAttributes
 abbrev pub unprotected_attributes : Grammar
 unprotected_attributes =
-    signed_attributes
+    unsigned_attributes
 
 -- EncryptedData ::= SEQUENCE {
 --      version               CMSVersion,

@@ -1,12 +1,11 @@
 -- The fields of IssuerAndSerialNumber, by their names.
 -- Made by tools/asn1 from cms.asn1.
 use Rattle.der_cms.specs.declared.cms.issuer_and_serial_number.IssuerAndSerialNumber.{IssuerAndSerialNumber}
-use Rattle.der_nest.specs.declared.kept.Kept.{Kept}
 use Rattle.der_numbers.specs.declared.int_ref.IntRef.{IntRef}
 use Rattle.der_pkix.specs.declared.name.rdn_sequence.RdnSequence.{RdnSequence}
 
 -- issuer Name
-abbrev pub issuer : IssuerAndSerialNumber → Kept RdnSequence
+abbrev pub issuer : IssuerAndSerialNumber → RdnSequence
 issuer v = v.fields.list.first
 
 -- serialNumber CertificateSerialNumber

@@ -1,11 +1,12 @@
 -- The fields of SignedData, by their names.
 -- Made by tools/asn1 from cms.asn1.
-use Rattle.std.specs.Prelude.{List, Option, option_map, ℕ}
+use Rattle.std.specs.Prelude.{Option, option_map, ℕ}
 use Rattle.der_cms.specs.declared.cms.certificate_set.CertificateSet.{CertificateSet}
 use Rattle.der_cms.specs.declared.cms.encapsulated_content_info.EncapsulatedContentInfo.{EncapsulatedContentInfo}
 use Rattle.der_cms.specs.declared.cms.revocation_info_choices.RevocationInfoChoices.{RevocationInfoChoices}
 use Rattle.der_cms.specs.declared.cms.signed_data.SignedData.{SignedData}
 use Rattle.der_cms.specs.declared.cms.signer_info.SignerInfo.{SignerInfo}
+use Rattle.der_lists.specs.declared.unordered_set_ref.UnorderedSetRef.{UnorderedSetRef}
 use Rattle.der_pkix.specs.declared.algorithm_identifier.AlgorithmIdentifier.{AlgorithmIdentifier}
 
 -- version CMSVersion
@@ -13,7 +14,7 @@ abbrev pub version : SignedData → ℕ
 version v = v.fields.list.first
 
 -- digestAlgorithms SET OF AlgorithmIdentifier
-abbrev pub digest_algorithms : SignedData → List AlgorithmIdentifier
+abbrev pub digest_algorithms : SignedData → UnorderedSetRef AlgorithmIdentifier
 digest_algorithms v = v.fields.list.rest.first
 
 -- encapContentInfo EncapsulatedContentInfo
@@ -29,5 +30,5 @@ abbrev pub crls : SignedData → Option RevocationInfoChoices
 crls v = option_map (λ x. x.value) v.fields.list.rest.rest.rest.rest.first
 
 -- signerInfos SET OF SignerInfo
-abbrev pub signer_infos : SignedData → List SignerInfo
+abbrev pub signer_infos : SignedData → UnorderedSetRef SignerInfo
 signer_infos v = v.fields.list.rest.rest.rest.rest.rest.first

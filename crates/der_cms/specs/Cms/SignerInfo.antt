@@ -4,6 +4,7 @@ use Rattle.std.specs.Prelude.{Option, option_map, ℕ}
 use Rattle.der_cms.specs.declared.cms.signed_attributes.SignedAttributes.{SignedAttributes}
 use Rattle.der_cms.specs.declared.cms.signer_identifier.SignerIdentifier.{SignerIdentifier}
 use Rattle.der_cms.specs.declared.cms.signer_info.SignerInfo.{SignerInfo}
+use Rattle.der_cms.specs.declared.cms.unsigned_attributes.UnsignedAttributes.{UnsignedAttributes}
 use Rattle.der_opaque.specs.declared.octet_string_ref.OctetStringRef.{OctetStringRef}
 use Rattle.der_pkix.specs.declared.algorithm_identifier.AlgorithmIdentifier.{AlgorithmIdentifier}
 
@@ -32,5 +33,5 @@ abbrev pub signature : SignerInfo → OctetStringRef
 signature v = v.fields.list.rest.rest.rest.rest.rest.first
 
 -- unsignedAttrs [1] IMPLICIT UnsignedAttributes OPTIONAL
-abbrev pub unsigned_attrs : SignerInfo → Option SignedAttributes
+abbrev pub unsigned_attrs : SignerInfo → Option UnsignedAttributes
 unsigned_attrs v = option_map (λ x. x.value) v.fields.list.rest.rest.rest.rest.rest.rest.first

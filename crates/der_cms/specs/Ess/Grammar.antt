@@ -1,7 +1,8 @@
 -- The grammar of ExtendedSecurityServices-2006, in the words of ASN.1.
 -- Made by tools/asn1 from ess.asn1.
 use Rattle.der_extensions.specs.Extension.Grammar.{general_names, policy_information}
-use Rattle.der_modules.specs.Asn1.{Grammar, OPTIONAL, SEQUENCE, SEQUENCE_OF, end, field, one}
+use Rattle.der_lists.specs.Asn1.{SEQUENCE_OF}
+use Rattle.der_modules.specs.Asn1.{Grammar, OPTIONAL, SEQUENCE, end, field, one}
 use Rattle.der_opaque.specs.Opaque.{parse_octets}
 use Rattle.der_pkix.specs.Certificate.Grammar.{algorithm_identifier, certificate_serial_number}
 use Rattle.der_tlv.specs.declared.tag.Tag.TheVariants as tags

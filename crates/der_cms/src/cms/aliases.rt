@@ -3,11 +3,11 @@
 //! Made by tools/asn1 from cms.asn1.
 
 ghost use Rattle.std.specs.Prelude.{◌≡◌};
-ghost use Rattle.der_cms.specs.Cms.Grammar.{cms_version, content_type, countersignature, message_digest, other_certificate_format, other_revocation_info_format, signing_time, unprotected_attributes, unsigned_attributes};
+ghost use Rattle.der_cms.specs.Cms.Grammar.{cms_version, content_type, countersignature, message_digest, other_certificate_format, other_revocation_info_format, signing_time, unprotected_attributes};
 ghost use Rattle.der_modules.specs.Asn1.{parse_of};
 
-use crate::cms::signed_attributes::SignedAttributes;
 use crate::cms::signer_info::SignerInfo;
+use crate::cms::unsigned_attributes::UnsignedAttributes;
 use der_elem::Form;
 use der_opaque::{ObjectIdentifierRef, OctetStringRef};
 use der_pkix::certificate::Time;
@@ -24,19 +24,9 @@ pub fn grammar_of_content_type<'a>()
 {}
 
 /// ```text
-/// UnsignedAttributes ::= SignedAttributes
+/// UnprotectedAttributes ::= UnsignedAttributes
 /// ```
-pub type UnsignedAttributes<'a> = SignedAttributes<'a>;
-
-/// What is read as `UnsignedAttributes` is what the page of the grammar says.
-pub fn grammar_of_unsigned_attributes<'a>()
-    ensures { ⟦<UnsignedAttributes<'a> as Form>⟧.parse ≡ parse_of unsigned_attributes }
-{}
-
-/// ```text
-/// UnprotectedAttributes ::= SignedAttributes
-/// ```
-pub type UnprotectedAttributes<'a> = SignedAttributes<'a>;
+pub type UnprotectedAttributes<'a> = UnsignedAttributes<'a>;
 
 /// What is read as `UnprotectedAttributes` is what the page of the grammar says.
 pub fn grammar_of_unprotected_attributes<'a>()

@@ -5,6 +5,7 @@
 ghost use Rattle.std.specs.Prelude.{◌≡◌, false, refl, true};
 ghost use Rattle.der_cms.specs.Cms.CertificateChoices.{tree_of};
 ghost use Rattle.der_cms.specs.Cms.Grammar.{certificate_choices};
+ghost use Rattle.der_cms.specs.contracts.cms.certificate_choices.CertificateChoicesEq.TheImpl.Laws as certificate_choices_eq;
 ghost use Rattle.der_cms.specs.declared.cms.certificate_choices.CertificateChoices.TheVariants as of;
 ghost use Rattle.der_elem.specs.Accepting.{IsTlv};
 ghost use Rattle.der_elem.specs.FirstTags.{HasFirstTag};
@@ -12,13 +13,10 @@ ghost use Rattle.der_elem.specs.FormatMakers.{mapped_format};
 ghost use Rattle.der_elem.specs.KnownTagLaws.{known_either, own_is_known};
 ghost use Rattle.der_elem.specs.TaggedLaws.{tlv_tagged};
 ghost use Rattle.der_modules.specs.Asn1.{parse_of};
-ghost use Rattle.der_modules.specs.MemberLaws.{copies_of, either_copies, either_equality, either_tag, held_copies, one_tag, one_tag_copies, one_tag_equality, same_copies, seen_copies, seen_equality};
+ghost use Rattle.der_modules.specs.MemberLaws.{copies_of, either_equality, either_tag, one_tag, one_tag_equality, same_copies, seen_equality};
 ghost use Rattle.der_nest.specs.contracts.sequence_ref.SequenceRefContentsEq.TheImpl.Laws as sequenceref_contents_eq;
 ghost use Rattle.der_pkix.specs.contracts.certificate.certificate.CertificateContentsEq.TheImpl.Laws as certificate_contents_eq;
-ghost use Rattle.der_pkix.specs.contracts.certificate.certificate.CertificateDuplicateValue.TheImpl.Laws as certificate_duplicate_value;
-ghost use Rattle.der_pkix.specs.contracts.certificate.certificate.CertificateDuplicateValueIsEqual.TheImpl.Laws as certificate_duplicate_value_is_equal;
 ghost use Rattle.der_pkix.specs.contracts.name.attribute_type_and_value.AttributeTypeAndValueContentsEq.TheImpl.Laws as attribute_type_and_value_contents_eq;
-ghost use Rattle.der_pkix.specs.contracts.name.attribute_type_and_value.AttributeTypeAndValueEq.TheImpl.Laws as attribute_type_and_value_eq;
 
 use crate::cms::aliases::OtherCertificateFormat;
 use der_elem::{
@@ -26,10 +24,9 @@ use der_elem::{
     Form, FormValue, KnownTags, SequenceTag, TagMarker, Tagged,
 };
 use der_fields::{Implicit, ImplicitTag, OneOf, cmp_headers};
-use der_modules::CopyLaws;
-use der_nest::{ItemOrder, OrdersByEncoding, SequenceRef};
+use der_modules::{CopyLaws, copy_of};
+use der_nest::SequenceRef;
 use der_pkix::certificate::Certificate;
-use der_pkix::name::AttributeTypeAndValue;
 use der_tlv::{BackWriter, Error, Length, Source, Tag, Writer};
 use std::alloc::Global;
 use std::cmp::Ordering;
@@ -51,7 +48,7 @@ type Tree<'a> = OneOf<
 ///
 /// Reading refuses a tag that no alternative has (`ErrorKind::TagUnexpected`, 4), and the
 /// alternative's faults.
-#[derive(Debug, PartialEq, Eq, Drop)]
+#[derive(Clone, Copy, Debug, PartialEq, Eq)]
 pub enum CertificateChoices<'a> {
     /// `certificate`, `Certificate`.
     Certificate(Certificate<'a>),
@@ -180,9 +177,9 @@ impl<'a> KnownTags for CertificateChoices<'a> {
 }
 
 impl<'a, R: Source<'a>> Decode<'a, R> for CertificateChoices<'a> {
-    ghost TAKES_MEMORY = { true };
+    ghost TAKES_MEMORY = { false };
 
-    const TAKES_MEMORY: bool = true;
+    const TAKES_MEMORY: bool = false;
 
     fn decode(alloc: Global, reader: &mut R) -> Result<CertificateChoices<'a>, Error> {
         match Tree::<'a>::decode(alloc, reader) {
@@ -203,9 +200,9 @@ impl<'a, R: Source<'a>> Decode<'a, R> for CertificateChoices<'a> {
 }
 
 impl<'a, R: Source<'a>> DecodeField<'a, R> for CertificateChoices<'a> {
-    ghost TAKES_MEMORY = { true };
+    ghost TAKES_MEMORY = { false };
 
-    const TAKES_MEMORY: bool = true;
+    const TAKES_MEMORY: bool = false;
 
     fn decode_field(alloc: Global, reader: &mut R) -> Result<CertificateChoices<'a>, Error> {
         CertificateChoices::decode(alloc, reader)
@@ -304,65 +301,16 @@ impl<'a> EncodingEq for CertificateChoices<'a> {
 }
 
 impl<'a> CopyLaws for CertificateChoices<'a> {
-    ghost copies = { copies_of ((seen_copies tree_of ⟦<CertificateChoices<'a> as PartialEq>⟧.eq ⟦<Tree<'a> as PartialEq>⟧.eq (λ v w. elim v as (λ k. ⟦<CertificateChoices<'a> as PartialEq>⟧.eq k w ≡ ⟦<Tree<'a> as PartialEq>⟧.eq (tree_of k) (tree_of w)) [ of.Certificate x ↦ elim w as (λ k. ⟦<CertificateChoices<'a> as PartialEq>⟧.eq (of.Certificate x) k ≡ ⟦<Tree<'a> as PartialEq>⟧.eq (tree_of (of.Certificate x)) (tree_of k)) [ of.Certificate y ↦ refl | of.ExtendedCertificate y ↦ refl | of.V1AttrCert y ↦ refl | of.V2AttrCert y ↦ refl | of.Other y ↦ refl ] | of.ExtendedCertificate x ↦ elim w as (λ k. ⟦<CertificateChoices<'a> as PartialEq>⟧.eq (of.ExtendedCertificate x) k ≡ ⟦<Tree<'a> as PartialEq>⟧.eq (tree_of (of.ExtendedCertificate x)) (tree_of k)) [ of.Certificate y ↦ refl | of.ExtendedCertificate y ↦ refl | of.V1AttrCert y ↦ refl | of.V2AttrCert y ↦ refl | of.Other y ↦ refl ] | of.V1AttrCert x ↦ elim w as (λ k. ⟦<CertificateChoices<'a> as PartialEq>⟧.eq (of.V1AttrCert x) k ≡ ⟦<Tree<'a> as PartialEq>⟧.eq (tree_of (of.V1AttrCert x)) (tree_of k)) [ of.Certificate y ↦ refl | of.ExtendedCertificate y ↦ refl | of.V1AttrCert y ↦ refl | of.V2AttrCert y ↦ refl | of.Other y ↦ refl ] | of.V2AttrCert x ↦ elim w as (λ k. ⟦<CertificateChoices<'a> as PartialEq>⟧.eq (of.V2AttrCert x) k ≡ ⟦<Tree<'a> as PartialEq>⟧.eq (tree_of (of.V2AttrCert x)) (tree_of k)) [ of.Certificate y ↦ refl | of.ExtendedCertificate y ↦ refl | of.V1AttrCert y ↦ refl | of.V2AttrCert y ↦ refl | of.Other y ↦ refl ] | of.Other x ↦ elim w as (λ k. ⟦<CertificateChoices<'a> as PartialEq>⟧.eq (of.Other x) k ≡ ⟦<Tree<'a> as PartialEq>⟧.eq (tree_of (of.Other x)) (tree_of k)) [ of.Certificate y ↦ refl | of.ExtendedCertificate y ↦ refl | of.V1AttrCert y ↦ refl | of.V2AttrCert y ↦ refl | of.Other y ↦ refl ] ]) (either_copies ⟦<OneOf<OneOf<Certificate<'a>, Implicit<SequenceRef<'a>, 0>>, Implicit<SequenceRef<'a>, 1>> as Form>⟧ ⟦<OneOf<Implicit<SequenceRef<'a>, 2>, Implicit<OtherCertificateFormat<'a>, 3>> as Form>⟧
-        (either_tag ⟦<OneOf<Certificate<'a>, Implicit<SequenceRef<'a>, 0>> as Form>⟧ ⟦<Implicit<SequenceRef<'a>, 1> as Form>⟧
-        (either_tag ⟦<Certificate<'a> as Form>⟧ ⟦<Implicit<SequenceRef<'a>, 0> as Form>⟧
-        (one_tag ⟦<SequenceTag as TagMarker>⟧.TAG ⟦<Certificate<'a> as FormValue>⟧.value.contents)
-        (one_tag ⟦<ImplicitTag<SequenceTag, 0> as TagMarker>⟧.TAG ⟦<Implicit<SequenceRef<'a>, 0> as FormValue>⟧.value.contents))
-        (one_tag ⟦<ImplicitTag<SequenceTag, 1> as TagMarker>⟧.TAG ⟦<Implicit<SequenceRef<'a>, 1> as FormValue>⟧.value.contents))
-        (either_tag ⟦<Implicit<SequenceRef<'a>, 2> as Form>⟧ ⟦<Implicit<OtherCertificateFormat<'a>, 3> as Form>⟧
-        (one_tag ⟦<ImplicitTag<SequenceTag, 2> as TagMarker>⟧.TAG ⟦<Implicit<SequenceRef<'a>, 2> as FormValue>⟧.value.contents)
-        (one_tag ⟦<ImplicitTag<SequenceTag, 3> as TagMarker>⟧.TAG ⟦<Implicit<OtherCertificateFormat<'a>, 3> as FormValue>⟧.value.contents))
-        (either_copies ⟦<OneOf<Certificate<'a>, Implicit<SequenceRef<'a>, 0>> as Form>⟧ ⟦<Implicit<SequenceRef<'a>, 1> as Form>⟧
-        (either_tag ⟦<Certificate<'a> as Form>⟧ ⟦<Implicit<SequenceRef<'a>, 0> as Form>⟧
-        (one_tag ⟦<SequenceTag as TagMarker>⟧.TAG ⟦<Certificate<'a> as FormValue>⟧.value.contents)
-        (one_tag ⟦<ImplicitTag<SequenceTag, 0> as TagMarker>⟧.TAG ⟦<Implicit<SequenceRef<'a>, 0> as FormValue>⟧.value.contents))
-        (one_tag ⟦<ImplicitTag<SequenceTag, 1> as TagMarker>⟧.TAG ⟦<Implicit<SequenceRef<'a>, 1> as FormValue>⟧.value.contents)
-        (either_copies ⟦<Certificate<'a> as Form>⟧ ⟦<Implicit<SequenceRef<'a>, 0> as Form>⟧
-        (one_tag ⟦<SequenceTag as TagMarker>⟧.TAG ⟦<Certificate<'a> as FormValue>⟧.value.contents)
-        (one_tag ⟦<ImplicitTag<SequenceTag, 0> as TagMarker>⟧.TAG ⟦<Implicit<SequenceRef<'a>, 0> as FormValue>⟧.value.contents)
-        (one_tag_copies ⟦<SequenceTag as TagMarker>⟧.TAG (record { octets_are = certificate_duplicate_value.copy_contents-law; comparable_are = certificate_duplicate_value.copy_comparable_value-law; re_reads_are = certificate_duplicate_value.copy_re_reads_value-law; equal_are = certificate_duplicate_value_is_equal.copy_value_is_equal-law }))
-        (one_tag_copies ⟦<ImplicitTag<SequenceTag, 0> as TagMarker>⟧.TAG (held_copies (λ x. x.value) (same_copies ⟦<SequenceRef<'a> as FormValue>⟧.value.contents ⟦<SequenceRef<'a> as FormValue>⟧.value.comparable ⟦<SequenceRef<'a> as FormValue>⟧.value.re_reads ⟦<SequenceRef<'a> as PartialEq>⟧.eq (λ v. (sequenceref_contents_eq.contents_eq-law v v tt).1 refl))))
-        ⟦<OneOf<Certificate<'a>, Implicit<SequenceRef<'a>, 0>> as PartialEq>⟧.eq (λ v x. refl) (λ w y. refl))
-        (one_tag_copies ⟦<ImplicitTag<SequenceTag, 1> as TagMarker>⟧.TAG (held_copies (λ x. x.value) (same_copies ⟦<SequenceRef<'a> as FormValue>⟧.value.contents ⟦<SequenceRef<'a> as FormValue>⟧.value.comparable ⟦<SequenceRef<'a> as FormValue>⟧.value.re_reads ⟦<SequenceRef<'a> as PartialEq>⟧.eq (λ v. (sequenceref_contents_eq.contents_eq-law v v tt).1 refl))))
-        ⟦<OneOf<OneOf<Certificate<'a>, Implicit<SequenceRef<'a>, 0>>, Implicit<SequenceRef<'a>, 1>> as PartialEq>⟧.eq (λ v x. refl) (λ w y. refl))
-        (either_copies ⟦<Implicit<SequenceRef<'a>, 2> as Form>⟧ ⟦<Implicit<OtherCertificateFormat<'a>, 3> as Form>⟧
-        (one_tag ⟦<ImplicitTag<SequenceTag, 2> as TagMarker>⟧.TAG ⟦<Implicit<SequenceRef<'a>, 2> as FormValue>⟧.value.contents)
-        (one_tag ⟦<ImplicitTag<SequenceTag, 3> as TagMarker>⟧.TAG ⟦<Implicit<OtherCertificateFormat<'a>, 3> as FormValue>⟧.value.contents)
-        (one_tag_copies ⟦<ImplicitTag<SequenceTag, 2> as TagMarker>⟧.TAG (held_copies (λ x. x.value) (same_copies ⟦<SequenceRef<'a> as FormValue>⟧.value.contents ⟦<SequenceRef<'a> as FormValue>⟧.value.comparable ⟦<SequenceRef<'a> as FormValue>⟧.value.re_reads ⟦<SequenceRef<'a> as PartialEq>⟧.eq (λ v. (sequenceref_contents_eq.contents_eq-law v v tt).1 refl))))
-        (one_tag_copies ⟦<ImplicitTag<SequenceTag, 3> as TagMarker>⟧.TAG (held_copies (λ x. x.value) (same_copies ⟦<AttributeTypeAndValue<'a> as FormValue>⟧.value.contents ⟦<AttributeTypeAndValue<'a> as FormValue>⟧.value.comparable ⟦<AttributeTypeAndValue<'a> as FormValue>⟧.value.re_reads ⟦<AttributeTypeAndValue<'a> as PartialEq>⟧.eq attribute_type_and_value_eq.laws-law.refl)))
-        ⟦<OneOf<Implicit<SequenceRef<'a>, 2>, Implicit<OtherCertificateFormat<'a>, 3>> as PartialEq>⟧.eq (λ v x. refl) (λ w y. refl))
-        ⟦<OneOf<OneOf<OneOf<Certificate<'a>, Implicit<SequenceRef<'a>, 0>>, Implicit<SequenceRef<'a>, 1>>, OneOf<Implicit<SequenceRef<'a>, 2>, Implicit<OtherCertificateFormat<'a>, 3>>> as PartialEq>⟧.eq (λ v x. refl) (λ w y. refl)))) };
+    ghost copies = { copies_of ((same_copies ⟦<CertificateChoices<'a> as Form>⟧.encoding ⟦<CertificateChoices<'a> as Form>⟧.comparable ⟦<CertificateChoices<'a> as Form>⟧.re_reads ⟦<CertificateChoices<'a> as PartialEq>⟧.eq certificate_choices_eq.laws-law.refl)) };
 }
 
 impl<'a> Duplicate for CertificateChoices<'a> {
-    ghost is_copy = { λ v w. ⟦<Tree<'a> as Duplicate>⟧.is_copy (tree_of v) (tree_of w) };
+    ghost is_copy = { λ v w. w ≡ v };
 
-    ghost takes_memory_to_copy = { ⟦<Tree<'a> as Duplicate>⟧.takes_memory_to_copy };
+    ghost takes_memory_to_copy = { false };
 
     fn duplicate(&self) -> Result<CertificateChoices<'a>, Error> {
-        match self {
-            CertificateChoices::Certificate(value) => match value.duplicate() {
-                Ok(value) => Ok(CertificateChoices::Certificate(value)),
-                Err(e) => Err(e),
-            },
-            CertificateChoices::ExtendedCertificate(value) => match value.duplicate() {
-                Ok(value) => Ok(CertificateChoices::ExtendedCertificate(value)),
-                Err(e) => Err(e),
-            },
-            CertificateChoices::V1AttrCert(value) => match value.duplicate() {
-                Ok(value) => Ok(CertificateChoices::V1AttrCert(value)),
-                Err(e) => Err(e),
-            },
-            CertificateChoices::V2AttrCert(value) => match value.duplicate() {
-                Ok(value) => Ok(CertificateChoices::V2AttrCert(value)),
-                Err(e) => Err(e),
-            },
-            CertificateChoices::Other(value) => match value.duplicate() {
-                Ok(value) => Ok(CertificateChoices::Other(value)),
-                Err(e) => Err(e),
-            },
-        }
+        Ok(copy_of(self))
     }
 
     ghost copy_encoding = { ⟦<CertificateChoices<'a> as CopyLaws>⟧.copies.laws.octets_are };
@@ -374,17 +322,6 @@ impl<'a> Duplicate for CertificateChoices<'a> {
 
 impl<'a> DuplicateIsEqual for CertificateChoices<'a> {
     ghost copy_is_equal = { ⟦<CertificateChoices<'a> as CopyLaws>⟧.copies.laws.equal_are };
-}
-
-/// The order of a SET OF `CertificateChoices<'a>`: that of the encodings (X.690 11.6).
-pub struct CertificateChoicesOrder;
-
-impl<'a> ItemOrder<CertificateChoices<'a>> for CertificateChoicesOrder {
-    ghost item_encoding = { ⟦<CertificateChoices<'a> as Form>⟧.encoding };
-}
-
-impl<'a> OrdersByEncoding<CertificateChoices<'a>> for CertificateChoicesOrder {
-    ghost is_encoding = { refl };
 }
 
 /// What is read as `CertificateChoices` is what the page of the grammar says.

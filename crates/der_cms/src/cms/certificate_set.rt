@@ -2,23 +2,18 @@
 //!
 //! Made by tools/asn1 from cms.asn1.
 
-ghost use Rattle.std.specs.Prelude.{◌≡◌, refl, true};
+ghost use Rattle.std.specs.Cmp.Lexicographic.{bytes_decides};
+ghost use Rattle.std.specs.Prelude.{◌≡◌, false, refl};
 ghost use Rattle.der_cms.specs.Cms.Grammar.{certificate_set};
-ghost use Rattle.der_cms.specs.contracts.cms.certificate_choices.CertificateChoicesDuplicate.TheImpl.Laws as certificate_choices_duplicate;
-ghost use Rattle.der_cms.specs.contracts.cms.certificate_choices.CertificateChoicesDuplicateIsEqual.TheImpl.Laws as certificate_choices_duplicate_is_equal;
-ghost use Rattle.der_cms.specs.contracts.cms.certificate_choices.CertificateChoicesEncodingEq.TheImpl.Laws as certificate_choices_encoding_eq;
-ghost use Rattle.der_cms.specs.contracts.cms.certificate_choices.CertificateChoicesTagged.TheImpl.Laws as certificate_choices_tagged;
 ghost use Rattle.der_elem.specs.FormatMakers.{mapped_format};
 ghost use Rattle.der_modules.specs.Asn1.{parse_of};
-ghost use Rattle.der_modules.specs.MemberLaws.{copies_of, held_copies, items_copies, items_equality, own_tags};
 
-use crate::cms::certificate_choices::{CertificateChoices, CertificateChoicesOrder};
+use crate::cms::certificate_choices::CertificateChoices;
 use der_elem::{
-    ContentsEq, DecodeValue, DuplicateValue, DuplicateValueIsEqual, EncodeValue, Form, FormValue,
-    OneTag, SetTag, Tagged, ValueOrd,
+    ContentsEq, CopyIsDuplicate, DecodeValue, EncodeValue, Form, FormValue, OneTag, SetTag,
+    ValueOrd,
 };
-use der_modules::CopyLaws;
-use der_nest::ItemSet;
+use der_lists::UnorderedSetRef;
 use der_tlv::{BackWriter, Error, Header, Length, Source, Writer};
 use std::alloc::Global;
 use std::cmp::Ordering;
@@ -27,37 +22,29 @@ use std::cmp::Ordering;
 /// CertificateSet ::= SET OF CertificateChoices
 /// ```
 ///
-/// Reading refuses the first fault of the octets, in their order; `ErrorKind::Memory` (1) where
-/// memory runs out.
-#[derive(Debug, PartialEq, Eq, Drop)]
+/// The items stand in the order in which they came: BER asks for none.
+///
+/// Reading refuses the first fault of the octets, in their order.
+#[derive(Clone, Copy, Debug, PartialEq, Eq)]
 pub struct CertificateSet<'a> {
-    items: ItemSet<CertificateChoices<'a>, CertificateChoicesOrder>,
+    items: UnorderedSetRef<'a, CertificateChoices<'a>>,
 }
 
 impl<'a> CertificateSet<'a> {
     ghost use Rattle.der_cms.specs.Cms.CertificateSet as certificate_set;
 
     /// These items.
-    pub fn new(
-        items: ItemSet<CertificateChoices<'a>, CertificateChoicesOrder>,
-    ) -> CertificateSet<'a>
+    pub fn new(items: UnorderedSetRef<'a, CertificateChoices<'a>>) -> CertificateSet<'a>
         ensures { certificate_set.items_of result ≡ items.entry }
     {
         CertificateSet { items }
     }
 
     /// The items, in their order.
-    pub fn as_slice(&self) -> &[CertificateChoices<'a>]
+    pub fn items(&self) -> &UnorderedSetRef<'a, CertificateChoices<'a>>
         ensures { result.now ≡ certificate_set.items_of self.now }
     {
-        self.items.as_slice()
-    }
-
-    /// The items, in the room that holds them.
-    pub fn into_items(self) -> ItemSet<CertificateChoices<'a>, CertificateChoicesOrder>
-        ensures { certificate_set.items_of self.entry ≡ result }
-    {
-        self.items
+        &self.items
     }
 }
 
@@ -66,22 +53,20 @@ impl<'a> OneTag for CertificateSet<'a> {
 }
 
 impl<'a> FormValue for CertificateSet<'a> {
-    ghost value = { mapped_format (λ v. v.items) ⟦<ItemSet<CertificateChoices<'a>, CertificateChoicesOrder> as FormValue>⟧.value };
+    ghost value = { mapped_format (λ v. v.items) ⟦<UnorderedSetRef<'a, CertificateChoices<'a>> as FormValue>⟧.value };
 }
 
 impl<'a, R: Source<'a>> DecodeValue<'a, R> for CertificateSet<'a> {
-    ghost TAKES_MEMORY = { true };
+    ghost TAKES_MEMORY = { false };
 
-    const TAKES_MEMORY: bool = true;
+    const TAKES_MEMORY: bool = false;
 
     fn decode_value(
         alloc: Global,
         reader: &mut R,
         header: Header,
     ) -> Result<CertificateSet<'a>, Error> {
-        match ItemSet::<CertificateChoices<'a>, CertificateChoicesOrder>::decode_value(
-            alloc, reader, header,
-        ) {
+        match UnorderedSetRef::<'a, CertificateChoices<'a>>::decode_value(alloc, reader, header) {
             Ok(items) => Ok(CertificateSet { items }),
             Err(e) => Err(e),
         }
@@ -111,36 +96,10 @@ impl<'a> ValueOrd for CertificateSet<'a> {
 }
 
 impl<'a> ContentsEq for CertificateSet<'a> {
-    ghost contents_eq = { λ v w. (items_equality ⟦<CertificateChoices<'a> as Form>⟧ (own_tags ⟦<CertificateChoices<'a> as Form>⟧.tags ⟦<CertificateChoices<'a> as Form>⟧.first_tag_of ⟦<CertificateChoices<'a> as Form>⟧.encoding ⟦<CertificateChoices<'a> as Tagged>⟧.tag_of ⟦<CertificateChoices<'a> as FormValue>⟧.value.contents certificate_choices_tagged.encoding_is-law certificate_choices_tagged.own_tag-law certificate_choices_tagged.first_tag_is-law) ⟦<CertificateChoices<'a> as PartialEq>⟧.eq certificate_choices_encoding_eq.encoding_eq-law) v.items w.items };
+    ghost contents_eq = { λ v w. (λ one. bytes_decides v.items.octets.octets.now w.items.octets.octets.now) };
 }
 
-impl<'a> CopyLaws for CertificateSet<'a> {
-    ghost copies = { copies_of (held_copies (λ v. v.items)
-        (items_copies ⟦<CertificateChoices<'a> as Form>⟧ (record { octets_are = certificate_choices_duplicate.copy_encoding-law; comparable_are = certificate_choices_duplicate.copy_comparable-law; re_reads_are = certificate_choices_duplicate.copy_re_reads-law; equal_are = certificate_choices_duplicate_is_equal.copy_is_equal-law }))) };
-}
-
-impl<'a> DuplicateValue for CertificateSet<'a> {
-    ghost is_copy_value = { λ v w. ⟦<ItemSet<CertificateChoices<'a>, CertificateChoicesOrder> as DuplicateValue>⟧.is_copy_value v.items w.items };
-
-    ghost takes_memory_to_copy_value = { ⟦<ItemSet<CertificateChoices<'a>, CertificateChoicesOrder> as DuplicateValue>⟧.takes_memory_to_copy_value };
-
-    fn duplicate_value(&self) -> Result<CertificateSet<'a>, Error> {
-        match self.items.duplicate_value() {
-            Ok(items) => Ok(CertificateSet { items }),
-            Err(e) => Err(e),
-        }
-    }
-
-    ghost copy_contents = { ⟦<CertificateSet<'a> as CopyLaws>⟧.copies.laws.octets_are };
-
-    ghost copy_comparable_value = { ⟦<CertificateSet<'a> as CopyLaws>⟧.copies.laws.comparable_are };
-
-    ghost copy_re_reads_value = { ⟦<CertificateSet<'a> as CopyLaws>⟧.copies.laws.re_reads_are };
-}
-
-impl<'a> DuplicateValueIsEqual for CertificateSet<'a> {
-    ghost copy_value_is_equal = { ⟦<CertificateSet<'a> as CopyLaws>⟧.copies.laws.equal_are };
-}
+impl<'a> CopyIsDuplicate for CertificateSet<'a> {}
 
 /// What is read as `CertificateSet` is what the page of the grammar says.
 pub fn grammar_of_certificate_set<'a>()

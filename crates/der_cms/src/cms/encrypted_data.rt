@@ -2,31 +2,27 @@
 //!
 //! Made by tools/asn1 from cms.asn1.
 
-ghost use Rattle.std.specs.Prelude.{◌∷◌, ◌≡◌, [], refl, true};
+ghost use Rattle.std.specs.Prelude.{◌∷◌, ◌≡◌, [], false, refl, true};
 ghost use Rattle.der_cms.specs.Cms.EncryptedData as encrypted_data_fields;
 ghost use Rattle.der_cms.specs.Cms.Grammar.{encrypted_data};
 ghost use Rattle.der_cms.specs.contracts.cms.encrypted_content_info.EncryptedContentInfoContentsEq.TheImpl.Laws as encrypted_content_info_contents_eq;
-ghost use Rattle.der_cms.specs.contracts.cms.encrypted_content_info.EncryptedContentInfoEq.TheImpl.Laws as encrypted_content_info_eq;
-ghost use Rattle.der_cms.specs.contracts.cms.signed_attributes.SignedAttributesContentsEq.TheImpl.Laws as signed_attributes_contents_eq;
-ghost use Rattle.der_cms.specs.contracts.cms.signed_attributes.SignedAttributesDuplicateValue.TheImpl.Laws as signed_attributes_duplicate_value;
-ghost use Rattle.der_cms.specs.contracts.cms.signed_attributes.SignedAttributesDuplicateValueIsEqual.TheImpl.Laws as signed_attributes_duplicate_value_is_equal;
+ghost use Rattle.der_cms.specs.contracts.cms.unsigned_attributes.UnsignedAttributesContentsEq.TheImpl.Laws as unsigned_attributes_contents_eq;
 ghost use Rattle.der_cms.specs.declared.cms.encrypted_data.EncryptedData.{EncryptedData};
 ghost use Rattle.der_elem.specs.FormatMakers.{mapped_format};
 ghost use Rattle.der_elem.specs.contracts.integer.unsigned.U8ContentsEq.TheImpl.Laws as u8_contents_eq;
 ghost use Rattle.der_modules.specs.Asn1.{context, implicit_encoding, joined, optional, parse_of};
-ghost use Rattle.der_modules.specs.MemberLaws.{copies_of, held_copies, listed_copies, member_copies, member_equality, no_copies, no_equality, one_tag, one_tag_copies, one_tag_equality, optional_copies, optional_equality, optional_starts, same_copies, tagged_starts};
+ghost use Rattle.der_modules.specs.MemberLaws.{member_equality, no_equality, one_tag, one_tag_equality, optional_equality, optional_starts, tagged_starts};
 
 use crate::cms::aliases::{CmsVersion, UnprotectedAttributes};
 use crate::cms::encrypted_content_info::EncryptedContentInfo;
 use der_elem::{
-    ContentsEq, DecodeValue, DuplicateValue, DuplicateValueIsEqual, EncodeValue, Form, FormValue,
-    IntegerTag, OneTag, Sequence, SequenceTag, SetTag, TagMarker, ValueOrd,
+    ContentsEq, CopyIsDuplicate, DecodeValue, EncodeValue, Form, FormValue, IntegerTag, OneTag,
+    Sequence, SequenceTag, SetTag, TagMarker, ValueOrd,
 };
 use der_fields::{
-    DecodeFields, DuplicateFields, EncodeFields, End, Field, FieldList, Fields3, FieldsOrd,
-    Implicit, ImplicitTag,
+    DecodeFields, EncodeFields, End, Field, FieldList, Fields3, FieldsOrd, Implicit, ImplicitTag,
 };
-use der_modules::{CopyLaws, copy_of};
+use der_modules::copy_of;
 use der_tlv::{BackWriter, Error, Header, Length, Source, Writer};
 use std::alloc::Global;
 use std::cmp::Ordering;
@@ -46,9 +42,8 @@ type Fields<'a> = Fields3<
 ///      unprotectedAttrs      [1] IMPLICIT UnprotectedAttributes OPTIONAL }
 /// ```
 ///
-/// Reading refuses the first fault of the octets, in their order; `ErrorKind::Memory` (1) where
-/// memory runs out.
-#[derive(PartialEq, Eq, Drop)]
+/// Reading refuses the first fault of the octets, in their order.
+#[derive(Clone, Copy, PartialEq, Eq)]
 pub struct EncryptedData<'a> {
     fields: Fields<'a>,
 }
@@ -61,14 +56,16 @@ impl<'a> EncryptedData<'a> {
     pub fn new(
         version: CmsVersion,
         encrypted_content_info: &EncryptedContentInfo<'a>,
-        unprotected_attrs: Option<UnprotectedAttributes<'a>>,
+        unprotected_attrs: Option<&UnprotectedAttributes<'a>>,
     ) -> EncryptedData<'a>
         ensures version { encrypted_data_fields.version result ≡ version }
         ensures encrypted_content_info { encrypted_data_fields.encrypted_content_info result ≡ encrypted_content_info.now }
-        ensures unprotected_attrs { encrypted_data_fields.unprotected_attrs result ≡ unprotected_attrs.entry }
+        ensures unprotected_attrs { encrypted_data_fields.unprotected_attrs result ≡ option_copied unprotected_attrs.entry }
     {
         let first = match unprotected_attrs {
-            Some(value) => Some(Implicit { value }),
+            Some(value) => Some(Implicit {
+                value: copy_of(value),
+            }),
             None => None,
         };
         let rest = Field { first, rest: End };
@@ -78,38 +75,6 @@ impl<'a> EncryptedData<'a> {
         let list = Field { first, rest };
         let fields = Fields3 { list };
         EncryptedData { fields }
-    }
-
-    /// The values of the fields, in their order.
-    pub fn into_parts(
-        self,
-    ) -> (
-        CmsVersion,
-        EncryptedContentInfo<'a>,
-        Option<UnprotectedAttributes<'a>>,
-    )
-        ensures version { encrypted_data_fields.version self.entry ≡ result.0 }
-        ensures encrypted_content_info { encrypted_data_fields.encrypted_content_info self.entry ≡ result.1 }
-        ensures unprotected_attrs { encrypted_data_fields.unprotected_attrs self.entry ≡ result.2 }
-    {
-        let Fields3 { list } = self.fields;
-        let Field {
-            first: version,
-            rest,
-        } = list;
-        let Field {
-            first: encrypted_content_info,
-            rest,
-        } = rest;
-        let Field {
-            first: unprotected_attrs,
-            ..
-        } = rest;
-        let unprotected_attrs = match unprotected_attrs {
-            Some(tagged) => Some(tagged.value),
-            None => None,
-        };
-        (version, encrypted_content_info, unprotected_attrs)
     }
 
     /// `version`, `CMSVersion`.
@@ -160,9 +125,9 @@ impl<'a> FormValue for EncryptedData<'a> {
 }
 
 impl<'a, R: Source<'a>> DecodeValue<'a, R> for EncryptedData<'a> {
-    ghost TAKES_MEMORY = { true };
+    ghost TAKES_MEMORY = { false };
 
-    const TAKES_MEMORY: bool = true;
+    const TAKES_MEMORY: bool = false;
 
     fn decode_value(
         alloc: Global,
@@ -210,46 +175,11 @@ impl<'a> ContentsEq for EncryptedData<'a> {
         (member_equality ⟦<Option<Implicit<UnprotectedAttributes<'a>, 1>> as Form>⟧
         (optional_starts ⟦<Implicit<UnprotectedAttributes<'a>, 1> as Form>⟧ (one_tag ⟦<ImplicitTag<SetTag, 1> as TagMarker>⟧.TAG ⟦<Implicit<UnprotectedAttributes<'a>, 1> as FormValue>⟧.value.contents))
         ⟦<Option<Implicit<UnprotectedAttributes<'a>, 1>> as PartialEq>⟧.eq
-        (optional_equality ⟦<Implicit<UnprotectedAttributes<'a>, 1> as Form>⟧ (one_tag ⟦<ImplicitTag<SetTag, 1> as TagMarker>⟧.TAG ⟦<Implicit<UnprotectedAttributes<'a>, 1> as FormValue>⟧.value.contents) ⟦<Implicit<UnprotectedAttributes<'a>, 1> as PartialEq>⟧.eq (one_tag_equality ⟦<ImplicitTag<SetTag, 1> as TagMarker>⟧.TAG ⟦<Implicit<UnprotectedAttributes<'a>, 1> as FormValue>⟧.value.contents ⟦<Implicit<UnprotectedAttributes<'a>, 1> as FormValue>⟧.value.comparable ⟦<Implicit<UnprotectedAttributes<'a>, 1> as PartialEq>⟧.eq (λ v w. (signed_attributes_contents_eq.contents_eq-law v.value w.value))))
+        (optional_equality ⟦<Implicit<UnprotectedAttributes<'a>, 1> as Form>⟧ (one_tag ⟦<ImplicitTag<SetTag, 1> as TagMarker>⟧.TAG ⟦<Implicit<UnprotectedAttributes<'a>, 1> as FormValue>⟧.value.contents) ⟦<Implicit<UnprotectedAttributes<'a>, 1> as PartialEq>⟧.eq (one_tag_equality ⟦<ImplicitTag<SetTag, 1> as TagMarker>⟧.TAG ⟦<Implicit<UnprotectedAttributes<'a>, 1> as FormValue>⟧.value.contents ⟦<Implicit<UnprotectedAttributes<'a>, 1> as FormValue>⟧.value.comparable ⟦<Implicit<UnprotectedAttributes<'a>, 1> as PartialEq>⟧.eq (λ v w. (unsigned_attributes_contents_eq.contents_eq-law v.value w.value))))
         no_equality))).equal v.fields.list w.fields.list };
 }
 
-impl<'a> CopyLaws for EncryptedData<'a> {
-    ghost copies = { copies_of (held_copies (λ v. v.fields.list)
-        (listed_copies (member_copies ⟦<CmsVersion as Form>⟧
-        (tagged_starts ⟦<CmsVersion as Form>⟧ (one_tag ⟦<IntegerTag as TagMarker>⟧.TAG ⟦<u8 as FormValue>⟧.value.contents))
-        (one_tag_copies ⟦<IntegerTag as TagMarker>⟧.TAG (same_copies ⟦<u8 as FormValue>⟧.value.contents ⟦<u8 as FormValue>⟧.value.comparable ⟦<u8 as FormValue>⟧.value.re_reads ⟦<u8 as PartialEq>⟧.eq (λ v. (u8_contents_eq.contents_eq-law v v tt).1 refl)))
-        (member_copies ⟦<EncryptedContentInfo<'a> as Form>⟧
-        (tagged_starts ⟦<EncryptedContentInfo<'a> as Form>⟧ (one_tag ⟦<SequenceTag as TagMarker>⟧.TAG ⟦<EncryptedContentInfo<'a> as FormValue>⟧.value.contents))
-        (one_tag_copies ⟦<SequenceTag as TagMarker>⟧.TAG (same_copies ⟦<EncryptedContentInfo<'a> as FormValue>⟧.value.contents ⟦<EncryptedContentInfo<'a> as FormValue>⟧.value.comparable ⟦<EncryptedContentInfo<'a> as FormValue>⟧.value.re_reads ⟦<EncryptedContentInfo<'a> as PartialEq>⟧.eq encrypted_content_info_eq.laws-law.refl))
-        (member_copies ⟦<Option<Implicit<UnprotectedAttributes<'a>, 1>> as Form>⟧
-        (optional_starts ⟦<Implicit<UnprotectedAttributes<'a>, 1> as Form>⟧ (one_tag ⟦<ImplicitTag<SetTag, 1> as TagMarker>⟧.TAG ⟦<Implicit<UnprotectedAttributes<'a>, 1> as FormValue>⟧.value.contents))
-        (optional_copies ⟦<Implicit<UnprotectedAttributes<'a>, 1> as Form>⟧ (one_tag_copies ⟦<ImplicitTag<SetTag, 1> as TagMarker>⟧.TAG (held_copies (λ x. x.value) (record { octets_are = signed_attributes_duplicate_value.copy_contents-law; comparable_are = signed_attributes_duplicate_value.copy_comparable_value-law; re_reads_are = signed_attributes_duplicate_value.copy_re_reads_value-law; equal_are = signed_attributes_duplicate_value_is_equal.copy_value_is_equal-law }))))
-        no_copies))))) };
-}
-
-impl<'a> DuplicateValue for EncryptedData<'a> {
-    ghost is_copy_value = { λ v w. ⟦<Fields<'a> as DuplicateFields>⟧.are_copies v.fields w.fields };
-
-    ghost takes_memory_to_copy_value = { ⟦<Fields<'a> as DuplicateFields>⟧.take_memory_to_copy };
-
-    fn duplicate_value(&self) -> Result<EncryptedData<'a>, Error> {
-        match self.fields.duplicate_fields() {
-            Ok(fields) => Ok(EncryptedData { fields }),
-            Err(e) => Err(e),
-        }
-    }
-
-    ghost copy_contents = { ⟦<EncryptedData<'a> as CopyLaws>⟧.copies.laws.octets_are };
-
-    ghost copy_comparable_value = { ⟦<EncryptedData<'a> as CopyLaws>⟧.copies.laws.comparable_are };
-
-    ghost copy_re_reads_value = { ⟦<EncryptedData<'a> as CopyLaws>⟧.copies.laws.re_reads_are };
-}
-
-impl<'a> DuplicateValueIsEqual for EncryptedData<'a> {
-    ghost copy_value_is_equal = { ⟦<EncryptedData<'a> as CopyLaws>⟧.copies.laws.equal_are };
-}
+impl<'a> CopyIsDuplicate for EncryptedData<'a> {}
 
 /// What is read as `EncryptedData` is what the page of the grammar says.
 pub fn grammar_of_encrypted_data<'a>()

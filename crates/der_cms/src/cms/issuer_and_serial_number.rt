@@ -2,8 +2,7 @@
 //!
 //! Made by tools/asn1 from cms.asn1.
 
-ghost use Rattle.std.specs.Cmp.Lexicographic.{bytes_decides};
-ghost use Rattle.std.specs.Prelude.{◌∷◌, ◌≡◌, [], refl, true};
+ghost use Rattle.std.specs.Prelude.{◌∷◌, ◌≡◌, [], false, refl};
 ghost use Rattle.der_cms.specs.Cms.Grammar.{issuer_and_serial_number};
 ghost use Rattle.der_cms.specs.Cms.IssuerAndSerialNumber as issuer_and_serial_number_fields;
 ghost use Rattle.der_cms.specs.declared.cms.issuer_and_serial_number.IssuerAndSerialNumber.{IssuerAndSerialNumber};
@@ -11,6 +10,7 @@ ghost use Rattle.der_elem.specs.FormatMakers.{mapped_format};
 ghost use Rattle.der_modules.specs.Asn1.{joined, parse_of};
 ghost use Rattle.der_modules.specs.MemberLaws.{member_equality, no_equality, one_tag, one_tag_equality, tagged_starts};
 ghost use Rattle.der_numbers.specs.contracts.int_ref.IntRefContentsEq.TheImpl.Laws as intref_contents_eq;
+ghost use Rattle.der_pkix.specs.contracts.name.rdn_sequence.RdnSequenceContentsEq.TheImpl.Laws as rdn_sequence_contents_eq;
 
 use der_elem::{
     ContentsEq, CopyIsDuplicate, DecodeValue, EncodeValue, Form, FormValue, IntegerTag, OneTag,
@@ -18,17 +18,16 @@ use der_elem::{
 };
 use der_fields::{DecodeFields, EncodeFields, End, Field, FieldList, Fields2, FieldsOrd};
 use der_modules::copy_of;
-use der_nest::Kept;
 use der_numbers::IntRef;
 use der_pkix::certificate::CertificateSerialNumber;
-use der_pkix::name::Name;
+use der_pkix::name::{Name, RdnSequence};
 use der_tlv::{BackWriter, Error, Header, Length, Source, Writer};
 use std::alloc::Global;
 use std::cmp::Ordering;
 use std::fmt;
 
 /// The list of the fields.
-type Fields<'a> = Fields2<Kept<'a, Name<'a>>, CertificateSerialNumber<'a>>;
+type Fields<'a> = Fields2<Name<'a>, CertificateSerialNumber<'a>>;
 
 /// ```text
 /// IssuerAndSerialNumber ::= SEQUENCE {
@@ -36,8 +35,7 @@ type Fields<'a> = Fields2<Kept<'a, Name<'a>>, CertificateSerialNumber<'a>>;
 ///      serialNumber  CertificateSerialNumber }
 /// ```
 ///
-/// Reading refuses the first fault of the octets, in their order; `ErrorKind::Memory` (1) where
-/// memory runs out.
+/// Reading refuses the first fault of the octets, in their order.
 #[derive(Clone, Copy, PartialEq, Eq)]
 pub struct IssuerAndSerialNumber<'a> {
     fields: Fields<'a>,
@@ -48,7 +46,7 @@ impl<'a> IssuerAndSerialNumber<'a> {
 
     /// A value of these fields.
     pub fn new(
-        issuer: &Kept<'a, Name<'a>>,
+        issuer: &Name<'a>,
         serial_number: CertificateSerialNumber<'a>,
     ) -> IssuerAndSerialNumber<'a>
         ensures issuer { issuer_and_serial_number_fields.issuer result ≡ issuer.now }
@@ -63,7 +61,7 @@ impl<'a> IssuerAndSerialNumber<'a> {
     }
 
     /// `issuer`, `Name`.
-    pub fn issuer(&self) -> &Kept<'a, Name<'a>>
+    pub fn issuer(&self) -> &Name<'a>
         ensures { result.now ≡ issuer_and_serial_number_fields.issuer self.now }
     {
         &self.fields.list.first
@@ -99,9 +97,9 @@ impl<'a> FormValue for IssuerAndSerialNumber<'a> {
 }
 
 impl<'a, R: Source<'a>> DecodeValue<'a, R> for IssuerAndSerialNumber<'a> {
-    ghost TAKES_MEMORY = { true };
+    ghost TAKES_MEMORY = { false };
 
-    const TAKES_MEMORY: bool = true;
+    const TAKES_MEMORY: bool = false;
 
     fn decode_value(
         alloc: Global,
@@ -138,10 +136,10 @@ impl<'a> ValueOrd for IssuerAndSerialNumber<'a> {
 }
 
 impl<'a> ContentsEq for IssuerAndSerialNumber<'a> {
-    ghost contents_eq = { λ v w. (member_equality ⟦<Kept<'a, Name<'a>> as Form>⟧
-        (tagged_starts ⟦<Kept<'a, Name<'a>> as Form>⟧ (one_tag ⟦<SequenceTag as TagMarker>⟧.TAG ⟦<Kept<'a, Name<'a>> as FormValue>⟧.value.contents))
-        ⟦<Kept<'a, Name<'a>> as PartialEq>⟧.eq
-        (one_tag_equality ⟦<SequenceTag as TagMarker>⟧.TAG ⟦<Kept<'a, Name<'a>> as FormValue>⟧.value.contents ⟦<Kept<'a, Name<'a>> as FormValue>⟧.value.comparable ⟦<Kept<'a, Name<'a>> as PartialEq>⟧.eq (λ v w. (λ one. bytes_decides v.octets.octets.now w.octets.octets.now)))
+    ghost contents_eq = { λ v w. (member_equality ⟦<Name<'a> as Form>⟧
+        (tagged_starts ⟦<Name<'a> as Form>⟧ (one_tag ⟦<SequenceTag as TagMarker>⟧.TAG ⟦<RdnSequence<'a> as FormValue>⟧.value.contents))
+        ⟦<Name<'a> as PartialEq>⟧.eq
+        (one_tag_equality ⟦<SequenceTag as TagMarker>⟧.TAG ⟦<RdnSequence<'a> as FormValue>⟧.value.contents ⟦<RdnSequence<'a> as FormValue>⟧.value.comparable ⟦<RdnSequence<'a> as PartialEq>⟧.eq rdn_sequence_contents_eq.contents_eq-law)
         (member_equality ⟦<CertificateSerialNumber<'a> as Form>⟧
         (tagged_starts ⟦<CertificateSerialNumber<'a> as Form>⟧ (one_tag ⟦<IntegerTag as TagMarker>⟧.TAG ⟦<IntRef<'a> as FormValue>⟧.value.contents))
         ⟦<CertificateSerialNumber<'a> as PartialEq>⟧.eq
@@ -160,7 +158,7 @@ pub fn grammar_of_issuer_and_serial_number<'a>()
 /// another.
 pub fn octets_of_issuer_and_serial_number<'a>()
     ensures { (v : IssuerAndSerialNumber) → ⟦<IssuerAndSerialNumber<'a> as FormValue>⟧.value.contents v ≡ joined (
-        (⟦<Kept<'a, Name<'a>> as Form>⟧.encoding (issuer_and_serial_number_fields.issuer v))
+        (⟦<Name<'a> as Form>⟧.encoding (issuer_and_serial_number_fields.issuer v))
         ∷ (⟦<CertificateSerialNumber<'a> as Form>⟧.encoding (issuer_and_serial_number_fields.serial_number v))
         ∷ []) }
 {}

@@ -6,7 +6,7 @@ pub use crate::cms::aliases::{
     grammar_of_cms_version, grammar_of_content_type, grammar_of_countersignature,
     grammar_of_message_digest, grammar_of_other_certificate_format,
     grammar_of_other_revocation_info_format, grammar_of_signing_time,
-    grammar_of_unprotected_attributes, grammar_of_unsigned_attributes,
+    grammar_of_unprotected_attributes,
 };
 pub use crate::cms::certificate_choices::grammar_of_certificate_choices;
 pub use crate::cms::certificate_set::grammar_of_certificate_set;
@@ -28,3 +28,4 @@ pub use crate::cms::signed_attributes::grammar_of_signed_attributes;
 pub use crate::cms::signed_data::{grammar_of_signed_data, octets_of_signed_data};
 pub use crate::cms::signer_identifier::grammar_of_signer_identifier;
 pub use crate::cms::signer_info::{grammar_of_signer_info, octets_of_signer_info};
+pub use crate::cms::unsigned_attributes::grammar_of_unsigned_attributes;

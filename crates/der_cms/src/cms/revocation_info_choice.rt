@@ -5,6 +5,7 @@
 ghost use Rattle.std.specs.Prelude.{◌≡◌, false, refl, true};
 ghost use Rattle.der_cms.specs.Cms.Grammar.{revocation_info_choice};
 ghost use Rattle.der_cms.specs.Cms.RevocationInfoChoice.{tree_of};
+ghost use Rattle.der_cms.specs.contracts.cms.revocation_info_choice.RevocationInfoChoiceEq.TheImpl.Laws as revocation_info_choice_eq;
 ghost use Rattle.der_cms.specs.declared.cms.revocation_info_choice.RevocationInfoChoice.TheVariants as of;
 ghost use Rattle.der_elem.specs.Accepting.{IsTlv};
 ghost use Rattle.der_elem.specs.FirstTags.{HasFirstTag};
@@ -12,12 +13,9 @@ ghost use Rattle.der_elem.specs.FormatMakers.{mapped_format};
 ghost use Rattle.der_elem.specs.KnownTagLaws.{known_either, own_is_known};
 ghost use Rattle.der_elem.specs.TaggedLaws.{tlv_tagged};
 ghost use Rattle.der_modules.specs.Asn1.{parse_of};
-ghost use Rattle.der_modules.specs.MemberLaws.{copies_of, either_copies, either_equality, either_tag, held_copies, one_tag, one_tag_copies, one_tag_equality, same_copies, seen_copies, seen_equality};
+ghost use Rattle.der_modules.specs.MemberLaws.{copies_of, either_equality, either_tag, one_tag, one_tag_equality, same_copies, seen_equality};
 ghost use Rattle.der_pkix.specs.contracts.crl.certificate_list.CertificateListContentsEq.TheImpl.Laws as certificate_list_contents_eq;
-ghost use Rattle.der_pkix.specs.contracts.crl.certificate_list.CertificateListDuplicateValue.TheImpl.Laws as certificate_list_duplicate_value;
-ghost use Rattle.der_pkix.specs.contracts.crl.certificate_list.CertificateListDuplicateValueIsEqual.TheImpl.Laws as certificate_list_duplicate_value_is_equal;
 ghost use Rattle.der_pkix.specs.contracts.name.attribute_type_and_value.AttributeTypeAndValueContentsEq.TheImpl.Laws as attribute_type_and_value_contents_eq;
-ghost use Rattle.der_pkix.specs.contracts.name.attribute_type_and_value.AttributeTypeAndValueEq.TheImpl.Laws as attribute_type_and_value_eq;
 
 use crate::cms::aliases::OtherRevocationInfoFormat;
 use der_elem::{
@@ -25,10 +23,8 @@ use der_elem::{
     Form, FormValue, KnownTags, SequenceTag, TagMarker, Tagged,
 };
 use der_fields::{Implicit, ImplicitTag, OneOf, cmp_headers};
-use der_modules::CopyLaws;
-use der_nest::{ItemOrder, OrdersByEncoding};
+use der_modules::{CopyLaws, copy_of};
 use der_pkix::crl::CertificateList;
-use der_pkix::name::AttributeTypeAndValue;
 use der_tlv::{BackWriter, Error, Length, Source, Tag, Writer};
 use std::alloc::Global;
 use std::cmp::Ordering;
@@ -44,7 +40,7 @@ type Tree<'a> = OneOf<CertificateList<'a>, Implicit<OtherRevocationInfoFormat<'a
 ///
 /// Reading refuses a tag that no alternative has (`ErrorKind::TagUnexpected`, 4), and the
 /// alternative's faults.
-#[derive(Debug, PartialEq, Eq, Drop)]
+#[derive(Clone, Copy, Debug, PartialEq, Eq)]
 pub enum RevocationInfoChoice<'a> {
     /// `crl`, `CertificateList`.
     Crl(CertificateList<'a>),
@@ -146,9 +142,9 @@ impl<'a> KnownTags for RevocationInfoChoice<'a> {
 }
 
 impl<'a, R: Source<'a>> Decode<'a, R> for RevocationInfoChoice<'a> {
-    ghost TAKES_MEMORY = { true };
+    ghost TAKES_MEMORY = { false };
 
-    const TAKES_MEMORY: bool = true;
+    const TAKES_MEMORY: bool = false;
 
     fn decode(alloc: Global, reader: &mut R) -> Result<RevocationInfoChoice<'a>, Error> {
         match Tree::<'a>::decode(alloc, reader) {
@@ -162,9 +158,9 @@ impl<'a, R: Source<'a>> Decode<'a, R> for RevocationInfoChoice<'a> {
 }
 
 impl<'a, R: Source<'a>> DecodeField<'a, R> for RevocationInfoChoice<'a> {
-    ghost TAKES_MEMORY = { true };
+    ghost TAKES_MEMORY = { false };
 
-    const TAKES_MEMORY: bool = true;
+    const TAKES_MEMORY: bool = false;
 
     fn decode_field(alloc: Global, reader: &mut R) -> Result<RevocationInfoChoice<'a>, Error> {
         RevocationInfoChoice::decode(alloc, reader)
@@ -220,30 +216,16 @@ impl<'a> EncodingEq for RevocationInfoChoice<'a> {
 }
 
 impl<'a> CopyLaws for RevocationInfoChoice<'a> {
-    ghost copies = { copies_of ((seen_copies tree_of ⟦<RevocationInfoChoice<'a> as PartialEq>⟧.eq ⟦<Tree<'a> as PartialEq>⟧.eq (λ v w. elim v as (λ k. ⟦<RevocationInfoChoice<'a> as PartialEq>⟧.eq k w ≡ ⟦<Tree<'a> as PartialEq>⟧.eq (tree_of k) (tree_of w)) [ of.Crl x ↦ elim w as (λ k. ⟦<RevocationInfoChoice<'a> as PartialEq>⟧.eq (of.Crl x) k ≡ ⟦<Tree<'a> as PartialEq>⟧.eq (tree_of (of.Crl x)) (tree_of k)) [ of.Crl y ↦ refl | of.Other y ↦ refl ] | of.Other x ↦ elim w as (λ k. ⟦<RevocationInfoChoice<'a> as PartialEq>⟧.eq (of.Other x) k ≡ ⟦<Tree<'a> as PartialEq>⟧.eq (tree_of (of.Other x)) (tree_of k)) [ of.Crl y ↦ refl | of.Other y ↦ refl ] ]) (either_copies ⟦<CertificateList<'a> as Form>⟧ ⟦<Implicit<OtherRevocationInfoFormat<'a>, 1> as Form>⟧
-        (one_tag ⟦<SequenceTag as TagMarker>⟧.TAG ⟦<CertificateList<'a> as FormValue>⟧.value.contents)
-        (one_tag ⟦<ImplicitTag<SequenceTag, 1> as TagMarker>⟧.TAG ⟦<Implicit<OtherRevocationInfoFormat<'a>, 1> as FormValue>⟧.value.contents)
-        (one_tag_copies ⟦<SequenceTag as TagMarker>⟧.TAG (record { octets_are = certificate_list_duplicate_value.copy_contents-law; comparable_are = certificate_list_duplicate_value.copy_comparable_value-law; re_reads_are = certificate_list_duplicate_value.copy_re_reads_value-law; equal_are = certificate_list_duplicate_value_is_equal.copy_value_is_equal-law }))
-        (one_tag_copies ⟦<ImplicitTag<SequenceTag, 1> as TagMarker>⟧.TAG (held_copies (λ x. x.value) (same_copies ⟦<AttributeTypeAndValue<'a> as FormValue>⟧.value.contents ⟦<AttributeTypeAndValue<'a> as FormValue>⟧.value.comparable ⟦<AttributeTypeAndValue<'a> as FormValue>⟧.value.re_reads ⟦<AttributeTypeAndValue<'a> as PartialEq>⟧.eq attribute_type_and_value_eq.laws-law.refl)))
-        ⟦<OneOf<CertificateList<'a>, Implicit<OtherRevocationInfoFormat<'a>, 1>> as PartialEq>⟧.eq (λ v x. refl) (λ w y. refl)))) };
+    ghost copies = { copies_of ((same_copies ⟦<RevocationInfoChoice<'a> as Form>⟧.encoding ⟦<RevocationInfoChoice<'a> as Form>⟧.comparable ⟦<RevocationInfoChoice<'a> as Form>⟧.re_reads ⟦<RevocationInfoChoice<'a> as PartialEq>⟧.eq revocation_info_choice_eq.laws-law.refl)) };
 }
 
 impl<'a> Duplicate for RevocationInfoChoice<'a> {
-    ghost is_copy = { λ v w. ⟦<Tree<'a> as Duplicate>⟧.is_copy (tree_of v) (tree_of w) };
+    ghost is_copy = { λ v w. w ≡ v };
 
-    ghost takes_memory_to_copy = { ⟦<Tree<'a> as Duplicate>⟧.takes_memory_to_copy };
+    ghost takes_memory_to_copy = { false };
 
     fn duplicate(&self) -> Result<RevocationInfoChoice<'a>, Error> {
-        match self {
-            RevocationInfoChoice::Crl(value) => match value.duplicate() {
-                Ok(value) => Ok(RevocationInfoChoice::Crl(value)),
-                Err(e) => Err(e),
-            },
-            RevocationInfoChoice::Other(value) => match value.duplicate() {
-                Ok(value) => Ok(RevocationInfoChoice::Other(value)),
-                Err(e) => Err(e),
-            },
-        }
+        Ok(copy_of(self))
     }
 
     ghost copy_encoding = { ⟦<RevocationInfoChoice<'a> as CopyLaws>⟧.copies.laws.octets_are };
@@ -255,17 +237,6 @@ impl<'a> Duplicate for RevocationInfoChoice<'a> {
 
 impl<'a> DuplicateIsEqual for RevocationInfoChoice<'a> {
     ghost copy_is_equal = { ⟦<RevocationInfoChoice<'a> as CopyLaws>⟧.copies.laws.equal_are };
-}
-
-/// The order of a SET OF `RevocationInfoChoice<'a>`: that of the encodings (X.690 11.6).
-pub struct RevocationInfoChoiceOrder;
-
-impl<'a> ItemOrder<RevocationInfoChoice<'a>> for RevocationInfoChoiceOrder {
-    ghost item_encoding = { ⟦<RevocationInfoChoice<'a> as Form>⟧.encoding };
-}
-
-impl<'a> OrdersByEncoding<RevocationInfoChoice<'a>> for RevocationInfoChoiceOrder {
-    ghost is_encoding = { refl };
 }
 
 /// What is read as `RevocationInfoChoice` is what the page of the grammar says.

@@ -2,22 +2,19 @@
 //!
 //! Made by tools/asn1 from cms.asn1.
 
-ghost use Rattle.std.specs.Prelude.{◌≡◌, refl, true};
+ghost use Rattle.std.specs.Cmp.Lexicographic.{bytes_decides};
+ghost use Rattle.std.specs.Prelude.{◌≡◌, false, refl};
 ghost use Rattle.der_cms.specs.Cms.Grammar.{signed_attributes};
 ghost use Rattle.der_elem.specs.FormatMakers.{mapped_format};
+ghost use Rattle.der_lists.specs.NonEmptyRef.{list_of};
 ghost use Rattle.der_modules.specs.Asn1.{parse_of};
-ghost use Rattle.der_modules.specs.MemberLaws.{copies_of, held_copies, items_copies, items_equality, one_tag, one_tag_copies, one_tag_equality};
-ghost use Rattle.der_pkix.specs.contracts.name.attribute.AttributeContentsEq.TheImpl.Laws as attribute_contents_eq;
-ghost use Rattle.der_pkix.specs.contracts.name.attribute.AttributeDuplicateValue.TheImpl.Laws as attribute_duplicate_value;
-ghost use Rattle.der_pkix.specs.contracts.name.attribute.AttributeDuplicateValueIsEqual.TheImpl.Laws as attribute_duplicate_value_is_equal;
 
 use der_elem::{
-    ContentsEq, DecodeValue, DuplicateValue, DuplicateValueIsEqual, EncodeValue, Form, FormValue,
-    OneTag, SequenceTag, SetTag, TagMarker, ValueOrd,
+    ContentsEq, CopyIsDuplicate, DecodeValue, EncodeValue, Form, FormValue, OneTag, SetTag,
+    ValueOrd,
 };
-use der_modules::CopyLaws;
-use der_nest::{ItemSet, NonEmpty};
-use der_pkix::name::{Attribute, AttributeOrder};
+use der_lists::{NonEmptyRef, SetRef};
+use der_pkix::name::Attribute;
 use der_tlv::{BackWriter, Error, Header, Length, Source, Writer};
 use std::alloc::Global;
 use std::cmp::Ordering;
@@ -26,35 +23,30 @@ use std::cmp::Ordering;
 /// SignedAttributes ::= SET SIZE (1..MAX) OF Attribute
 /// ```
 ///
-/// Reading refuses the first fault of the octets, in their order; `ErrorKind::Memory` (1) where
-/// memory runs out.
-#[derive(Debug, PartialEq, Eq, Drop)]
+/// The items stand in the order of their octets (X.690 11.6): others are refused
+/// (`ErrorKind::SetOrdering`, 11).
+///
+/// Reading refuses the first fault of the octets, in their order.
+#[derive(Clone, Copy, Debug, PartialEq, Eq)]
 pub struct SignedAttributes<'a> {
-    items: NonEmpty<ItemSet<Attribute<'a>, AttributeOrder>>,
+    items: NonEmptyRef<SetRef<'a, Attribute<'a>>>,
 }
 
 impl<'a> SignedAttributes<'a> {
     ghost use Rattle.der_cms.specs.Cms.SignedAttributes as signed_attributes;
 
     /// These items.
-    pub fn new(items: NonEmpty<ItemSet<Attribute<'a>, AttributeOrder>>) -> SignedAttributes<'a>
-        ensures { signed_attributes.items_of result ≡ items.entry }
+    pub fn new(items: NonEmptyRef<SetRef<'a, Attribute<'a>>>) -> SignedAttributes<'a>
+        ensures { signed_attributes.items_of result ≡ list_of items.entry }
     {
         SignedAttributes { items }
     }
 
     /// The items, in their order.
-    pub fn as_slice(&self) -> &[Attribute<'a>]
+    pub fn items(&self) -> &SetRef<'a, Attribute<'a>>
         ensures { result.now ≡ signed_attributes.items_of self.now }
     {
-        self.items.list().as_slice()
-    }
-
-    /// The items, in the room that holds them.
-    pub fn into_items(self) -> NonEmpty<ItemSet<Attribute<'a>, AttributeOrder>>
-        ensures { signed_attributes.items_of self.entry ≡ result }
-    {
-        self.items
+        self.items.list()
     }
 }
 
@@ -63,22 +55,20 @@ impl<'a> OneTag for SignedAttributes<'a> {
 }
 
 impl<'a> FormValue for SignedAttributes<'a> {
-    ghost value = { mapped_format (λ v. v.items) ⟦<NonEmpty<ItemSet<Attribute<'a>, AttributeOrder>> as FormValue>⟧.value };
+    ghost value = { mapped_format (λ v. v.items) ⟦<NonEmptyRef<SetRef<'a, Attribute<'a>>> as FormValue>⟧.value };
 }
 
 impl<'a, R: Source<'a>> DecodeValue<'a, R> for SignedAttributes<'a> {
-    ghost TAKES_MEMORY = { true };
+    ghost TAKES_MEMORY = { false };
 
-    const TAKES_MEMORY: bool = true;
+    const TAKES_MEMORY: bool = false;
 
     fn decode_value(
         alloc: Global,
         reader: &mut R,
         header: Header,
     ) -> Result<SignedAttributes<'a>, Error> {
-        match NonEmpty::<ItemSet<Attribute<'a>, AttributeOrder>>::decode_value(
-            alloc, reader, header,
-        ) {
+        match NonEmptyRef::<SetRef<'a, Attribute<'a>>>::decode_value(alloc, reader, header) {
             Ok(items) => Ok(SignedAttributes { items }),
             Err(e) => Err(e),
         }
@@ -108,36 +98,10 @@ impl<'a> ValueOrd for SignedAttributes<'a> {
 }
 
 impl<'a> ContentsEq for SignedAttributes<'a> {
-    ghost contents_eq = { λ v w. (items_equality ⟦<Attribute<'a> as Form>⟧ (one_tag ⟦<SequenceTag as TagMarker>⟧.TAG ⟦<Attribute<'a> as FormValue>⟧.value.contents) ⟦<Attribute<'a> as PartialEq>⟧.eq (one_tag_equality ⟦<SequenceTag as TagMarker>⟧.TAG ⟦<Attribute<'a> as FormValue>⟧.value.contents ⟦<Attribute<'a> as FormValue>⟧.value.comparable ⟦<Attribute<'a> as PartialEq>⟧.eq attribute_contents_eq.contents_eq-law)) v.items w.items };
+    ghost contents_eq = { λ v w. (λ one. bytes_decides v.items.list.octets.octets.now w.items.list.octets.octets.now) };
 }
 
-impl<'a> CopyLaws for SignedAttributes<'a> {
-    ghost copies = { copies_of (held_copies (λ v. v.items)
-        (items_copies ⟦<Attribute<'a> as Form>⟧ (one_tag_copies ⟦<SequenceTag as TagMarker>⟧.TAG (record { octets_are = attribute_duplicate_value.copy_contents-law; comparable_are = attribute_duplicate_value.copy_comparable_value-law; re_reads_are = attribute_duplicate_value.copy_re_reads_value-law; equal_are = attribute_duplicate_value_is_equal.copy_value_is_equal-law })))) };
-}
-
-impl<'a> DuplicateValue for SignedAttributes<'a> {
-    ghost is_copy_value = { λ v w. ⟦<NonEmpty<ItemSet<Attribute<'a>, AttributeOrder>> as DuplicateValue>⟧.is_copy_value v.items w.items };
-
-    ghost takes_memory_to_copy_value = { ⟦<NonEmpty<ItemSet<Attribute<'a>, AttributeOrder>> as DuplicateValue>⟧.takes_memory_to_copy_value };
-
-    fn duplicate_value(&self) -> Result<SignedAttributes<'a>, Error> {
-        match self.items.duplicate_value() {
-            Ok(items) => Ok(SignedAttributes { items }),
-            Err(e) => Err(e),
-        }
-    }
-
-    ghost copy_contents = { ⟦<SignedAttributes<'a> as CopyLaws>⟧.copies.laws.octets_are };
-
-    ghost copy_comparable_value = { ⟦<SignedAttributes<'a> as CopyLaws>⟧.copies.laws.comparable_are };
-
-    ghost copy_re_reads_value = { ⟦<SignedAttributes<'a> as CopyLaws>⟧.copies.laws.re_reads_are };
-}
-
-impl<'a> DuplicateValueIsEqual for SignedAttributes<'a> {
-    ghost copy_value_is_equal = { ⟦<SignedAttributes<'a> as CopyLaws>⟧.copies.laws.equal_are };
-}
+impl<'a> CopyIsDuplicate for SignedAttributes<'a> {}
 
 /// What is read as `SignedAttributes` is what the page of the grammar says.
 pub fn grammar_of_signed_attributes<'a>()

@@ -2,45 +2,34 @@
 //!
 //! Made by tools/asn1 from cms.asn1.
 
-ghost use Rattle.std.specs.Prelude.{◌∷◌, ◌≡◌, [], refl, true};
+ghost use Rattle.std.specs.Cmp.Lexicographic.{bytes_decides};
+ghost use Rattle.std.specs.Prelude.{◌∷◌, ◌≡◌, [], false, refl, true};
 ghost use Rattle.der_cms.specs.Cms.Grammar.{signed_data};
 ghost use Rattle.der_cms.specs.Cms.SignedData as signed_data_fields;
 ghost use Rattle.der_cms.specs.contracts.cms.certificate_set.CertificateSetContentsEq.TheImpl.Laws as certificate_set_contents_eq;
-ghost use Rattle.der_cms.specs.contracts.cms.certificate_set.CertificateSetDuplicateValue.TheImpl.Laws as certificate_set_duplicate_value;
-ghost use Rattle.der_cms.specs.contracts.cms.certificate_set.CertificateSetDuplicateValueIsEqual.TheImpl.Laws as certificate_set_duplicate_value_is_equal;
 ghost use Rattle.der_cms.specs.contracts.cms.encapsulated_content_info.EncapsulatedContentInfoContentsEq.TheImpl.Laws as encapsulated_content_info_contents_eq;
-ghost use Rattle.der_cms.specs.contracts.cms.encapsulated_content_info.EncapsulatedContentInfoEq.TheImpl.Laws as encapsulated_content_info_eq;
 ghost use Rattle.der_cms.specs.contracts.cms.revocation_info_choices.RevocationInfoChoicesContentsEq.TheImpl.Laws as revocation_info_choices_contents_eq;
-ghost use Rattle.der_cms.specs.contracts.cms.revocation_info_choices.RevocationInfoChoicesDuplicateValue.TheImpl.Laws as revocation_info_choices_duplicate_value;
-ghost use Rattle.der_cms.specs.contracts.cms.revocation_info_choices.RevocationInfoChoicesDuplicateValueIsEqual.TheImpl.Laws as revocation_info_choices_duplicate_value_is_equal;
-ghost use Rattle.der_cms.specs.contracts.cms.signer_info.SignerInfoContentsEq.TheImpl.Laws as signer_info_contents_eq;
-ghost use Rattle.der_cms.specs.contracts.cms.signer_info.SignerInfoDuplicateValue.TheImpl.Laws as signer_info_duplicate_value;
-ghost use Rattle.der_cms.specs.contracts.cms.signer_info.SignerInfoDuplicateValueIsEqual.TheImpl.Laws as signer_info_duplicate_value_is_equal;
 ghost use Rattle.der_cms.specs.declared.cms.signed_data.SignedData.{SignedData};
 ghost use Rattle.der_elem.specs.FormatMakers.{mapped_format};
 ghost use Rattle.der_elem.specs.contracts.integer.unsigned.U8ContentsEq.TheImpl.Laws as u8_contents_eq;
 ghost use Rattle.der_modules.specs.Asn1.{context, implicit_encoding, joined, optional, parse_of};
-ghost use Rattle.der_modules.specs.MemberLaws.{copies_of, held_copies, items_copies, items_equality, listed_copies, member_copies, member_equality, no_copies, no_equality, one_tag, one_tag_copies, one_tag_equality, optional_copies, optional_equality, optional_starts, same_copies, tagged_starts};
-ghost use Rattle.der_pkix.specs.contracts.algorithm_identifier.AlgorithmIdentifierContentsEq.TheImpl.Laws as algorithm_identifier_contents_eq;
-ghost use Rattle.der_pkix.specs.contracts.algorithm_identifier.AlgorithmIdentifierEq.TheImpl.Laws as algorithm_identifier_eq;
+ghost use Rattle.der_modules.specs.MemberLaws.{member_equality, no_equality, one_tag, one_tag_equality, optional_equality, optional_starts, tagged_starts};
 
 use crate::cms::aliases::CmsVersion;
 use crate::cms::certificate_set::CertificateSet;
 use crate::cms::encapsulated_content_info::EncapsulatedContentInfo;
 use crate::cms::revocation_info_choices::RevocationInfoChoices;
-use crate::cms::signer_info::{SignerInfo, SignerInfoOrder};
+use crate::cms::signer_info::SignerInfo;
 use der_elem::{
-    ContentsEq, DecodeValue, DuplicateValue, DuplicateValueIsEqual, EncodeValue, Form, FormValue,
-    IntegerTag, OneTag, Sequence, SequenceTag, SetTag, TagMarker, ValueOrd,
+    ContentsEq, CopyIsDuplicate, DecodeValue, EncodeValue, Form, FormValue, IntegerTag, OneTag,
+    Sequence, SequenceTag, SetTag, TagMarker, ValueOrd,
 };
 use der_fields::{
-    DecodeFields, DuplicateFields, EncodeFields, End, Field, FieldList, Fields6, FieldsOrd,
-    Implicit, ImplicitTag,
+    DecodeFields, EncodeFields, End, Field, FieldList, Fields6, FieldsOrd, Implicit, ImplicitTag,
 };
-use der_modules::{CopyLaws, copy_of};
-use der_nest::ItemSet;
+use der_lists::UnorderedSetRef;
+use der_modules::copy_of;
 use der_pkix::AlgorithmIdentifier;
-use der_pkix::certificate::AlgorithmIdentifierOrder;
 use der_tlv::{BackWriter, Error, Header, Length, Source, Writer};
 use std::alloc::Global;
 use std::cmp::Ordering;
@@ -49,11 +38,11 @@ use std::fmt;
 /// The list of the fields.
 type Fields<'a> = Fields6<
     CmsVersion,
-    ItemSet<AlgorithmIdentifier<'a>, AlgorithmIdentifierOrder>,
+    UnorderedSetRef<'a, AlgorithmIdentifier<'a>>,
     EncapsulatedContentInfo<'a>,
     Option<Implicit<CertificateSet<'a>, 0>>,
     Option<Implicit<RevocationInfoChoices<'a>, 1>>,
-    ItemSet<SignerInfo<'a>, SignerInfoOrder>,
+    UnorderedSetRef<'a, SignerInfo<'a>>,
 >;
 
 /// ```text
@@ -63,12 +52,12 @@ type Fields<'a> = Fields6<
 ///      encapContentInfo  EncapsulatedContentInfo,
 ///      certificates      [0] IMPLICIT CertificateSet OPTIONAL,
 ///      crls              [1] IMPLICIT RevocationInfoChoices OPTIONAL,
-///      signerInfos       SET OF SignerInfo }
+///      signerInfos       SET OF SignerInfo
+/// }
 /// ```
 ///
-/// Reading refuses the first fault of the octets, in their order; `ErrorKind::Memory` (1) where
-/// memory runs out.
-#[derive(PartialEq, Eq, Drop)]
+/// Reading refuses the first fault of the octets, in their order.
+#[derive(Clone, Copy, PartialEq, Eq)]
 pub struct SignedData<'a> {
     fields: Fields<'a>,
 }
@@ -80,97 +69,43 @@ impl<'a> SignedData<'a> {
     /// A value of these fields.
     pub fn new(
         version: CmsVersion,
-        digest_algorithms: ItemSet<AlgorithmIdentifier<'a>, AlgorithmIdentifierOrder>,
+        digest_algorithms: &UnorderedSetRef<'a, AlgorithmIdentifier<'a>>,
         encap_content_info: &EncapsulatedContentInfo<'a>,
-        certificates: Option<CertificateSet<'a>>,
-        crls: Option<RevocationInfoChoices<'a>>,
-        signer_infos: ItemSet<SignerInfo<'a>, SignerInfoOrder>,
+        certificates: Option<&CertificateSet<'a>>,
+        crls: Option<&RevocationInfoChoices<'a>>,
+        signer_infos: &UnorderedSetRef<'a, SignerInfo<'a>>,
     ) -> SignedData<'a>
         ensures version { signed_data_fields.version result ≡ version }
-        ensures digest_algorithms { signed_data_fields.digest_algorithms result ≡ digest_algorithms.entry }
+        ensures digest_algorithms { signed_data_fields.digest_algorithms result ≡ digest_algorithms.now }
         ensures encap_content_info { signed_data_fields.encap_content_info result ≡ encap_content_info.now }
-        ensures certificates { signed_data_fields.certificates result ≡ certificates.entry }
-        ensures crls { signed_data_fields.crls result ≡ crls.entry }
-        ensures signer_infos { signed_data_fields.signer_infos result ≡ signer_infos.entry }
+        ensures certificates { signed_data_fields.certificates result ≡ option_copied certificates.entry }
+        ensures crls { signed_data_fields.crls result ≡ option_copied crls.entry }
+        ensures signer_infos { signed_data_fields.signer_infos result ≡ signer_infos.now }
     {
-        let first = signer_infos;
+        let first = copy_of(signer_infos);
         let rest = Field { first, rest: End };
         let first = match crls {
-            Some(value) => Some(Implicit { value }),
+            Some(value) => Some(Implicit {
+                value: copy_of(value),
+            }),
             None => None,
         };
         let rest = Field { first, rest };
         let first = match certificates {
-            Some(value) => Some(Implicit { value }),
+            Some(value) => Some(Implicit {
+                value: copy_of(value),
+            }),
             None => None,
         };
         let rest = Field { first, rest };
         let first = copy_of(encap_content_info);
         let rest = Field { first, rest };
-        let first = digest_algorithms;
+        let first = copy_of(digest_algorithms);
         let rest = Field { first, rest };
         let first = version;
         let list = Field { first, rest };
         let fields = Fields6 { list };
         SignedData { fields }
-    }
-
-    /// The values of the fields, in their order.
-    pub fn into_parts(
-        self,
-    ) -> (
-        CmsVersion,
-        ItemSet<AlgorithmIdentifier<'a>, AlgorithmIdentifierOrder>,
-        EncapsulatedContentInfo<'a>,
-        Option<CertificateSet<'a>>,
-        Option<RevocationInfoChoices<'a>>,
-        ItemSet<SignerInfo<'a>, SignerInfoOrder>,
-    )
-        ensures version { signed_data_fields.version self.entry ≡ result.0 }
-        ensures digest_algorithms { signed_data_fields.digest_algorithms self.entry ≡ result.1 }
-        ensures encap_content_info { signed_data_fields.encap_content_info self.entry ≡ result.2 }
-        ensures certificates { signed_data_fields.certificates self.entry ≡ result.3 }
-        ensures crls { signed_data_fields.crls self.entry ≡ result.4 }
-        ensures signer_infos { signed_data_fields.signer_infos self.entry ≡ result.5 }
-    {
-        let Fields6 { list } = self.fields;
-        let Field {
-            first: version,
-            rest,
-        } = list;
-        let Field {
-            first: digest_algorithms,
-            rest,
-        } = rest;
-        let Field {
-            first: encap_content_info,
-            rest,
-        } = rest;
-        let Field {
-            first: certificates,
-            rest,
-        } = rest;
-        let Field { first: crls, rest } = rest;
-        let Field {
-            first: signer_infos,
-            ..
-        } = rest;
-        let certificates = match certificates {
-            Some(tagged) => Some(tagged.value),
-            None => None,
-        };
-        let crls = match crls {
-            Some(tagged) => Some(tagged.value),
-            None => None,
-        };
-        (
-            version,
-            digest_algorithms,
-            encap_content_info,
-            certificates,
-            crls,
-            signer_infos,
-        )
     }
 
     /// `version`, `CMSVersion`.
@@ -181,7 +116,7 @@ impl<'a> SignedData<'a> {
     }
 
     /// `digestAlgorithms`, `SET OF AlgorithmIdentifier`.
-    pub fn digest_algorithms(&self) -> &ItemSet<AlgorithmIdentifier<'a>, AlgorithmIdentifierOrder>
+    pub fn digest_algorithms(&self) -> &UnorderedSetRef<'a, AlgorithmIdentifier<'a>>
         ensures { result.now ≡ signed_data_fields.digest_algorithms self.now }
     {
         &self.fields.list.rest.first
@@ -215,7 +150,7 @@ impl<'a> SignedData<'a> {
     }
 
     /// `signerInfos`, `SET OF SignerInfo`.
-    pub fn signer_infos(&self) -> &ItemSet<SignerInfo<'a>, SignerInfoOrder>
+    pub fn signer_infos(&self) -> &UnorderedSetRef<'a, SignerInfo<'a>>
         ensures { result.now ≡ signed_data_fields.signer_infos self.now }
     {
         &self.fields.list.rest.rest.rest.rest.rest.first
@@ -248,9 +183,9 @@ impl<'a> FormValue for SignedData<'a> {
 }
 
 impl<'a, R: Source<'a>> DecodeValue<'a, R> for SignedData<'a> {
-    ghost TAKES_MEMORY = { true };
+    ghost TAKES_MEMORY = { false };
 
-    const TAKES_MEMORY: bool = true;
+    const TAKES_MEMORY: bool = false;
 
     fn decode_value(
         alloc: Global,
@@ -291,10 +226,10 @@ impl<'a> ContentsEq for SignedData<'a> {
         (tagged_starts ⟦<CmsVersion as Form>⟧ (one_tag ⟦<IntegerTag as TagMarker>⟧.TAG ⟦<u8 as FormValue>⟧.value.contents))
         ⟦<CmsVersion as PartialEq>⟧.eq
         (one_tag_equality ⟦<IntegerTag as TagMarker>⟧.TAG ⟦<u8 as FormValue>⟧.value.contents ⟦<u8 as FormValue>⟧.value.comparable ⟦<u8 as PartialEq>⟧.eq u8_contents_eq.contents_eq-law)
-        (member_equality ⟦<ItemSet<AlgorithmIdentifier<'a>, AlgorithmIdentifierOrder> as Form>⟧
-        (tagged_starts ⟦<ItemSet<AlgorithmIdentifier<'a>, AlgorithmIdentifierOrder> as Form>⟧ (one_tag ⟦<SetTag as TagMarker>⟧.TAG ⟦<ItemSet<AlgorithmIdentifier<'a>, AlgorithmIdentifierOrder> as FormValue>⟧.value.contents))
-        ⟦<ItemSet<AlgorithmIdentifier<'a>, AlgorithmIdentifierOrder> as PartialEq>⟧.eq
-        (one_tag_equality ⟦<SetTag as TagMarker>⟧.TAG ⟦<ItemSet<AlgorithmIdentifier<'a>, AlgorithmIdentifierOrder> as FormValue>⟧.value.contents ⟦<ItemSet<AlgorithmIdentifier<'a>, AlgorithmIdentifierOrder> as FormValue>⟧.value.comparable ⟦<ItemSet<AlgorithmIdentifier<'a>, AlgorithmIdentifierOrder> as PartialEq>⟧.eq (λ v w. ((items_equality ⟦<AlgorithmIdentifier<'a> as Form>⟧ (one_tag ⟦<SequenceTag as TagMarker>⟧.TAG ⟦<AlgorithmIdentifier<'a> as FormValue>⟧.value.contents) ⟦<AlgorithmIdentifier<'a> as PartialEq>⟧.eq (one_tag_equality ⟦<SequenceTag as TagMarker>⟧.TAG ⟦<AlgorithmIdentifier<'a> as FormValue>⟧.value.contents ⟦<AlgorithmIdentifier<'a> as FormValue>⟧.value.comparable ⟦<AlgorithmIdentifier<'a> as PartialEq>⟧.eq algorithm_identifier_contents_eq.contents_eq-law)) v w)))
+        (member_equality ⟦<UnorderedSetRef<'a, AlgorithmIdentifier<'a>> as Form>⟧
+        (tagged_starts ⟦<UnorderedSetRef<'a, AlgorithmIdentifier<'a>> as Form>⟧ (one_tag ⟦<SetTag as TagMarker>⟧.TAG ⟦<UnorderedSetRef<'a, AlgorithmIdentifier<'a>> as FormValue>⟧.value.contents))
+        ⟦<UnorderedSetRef<'a, AlgorithmIdentifier<'a>> as PartialEq>⟧.eq
+        (one_tag_equality ⟦<SetTag as TagMarker>⟧.TAG ⟦<UnorderedSetRef<'a, AlgorithmIdentifier<'a>> as FormValue>⟧.value.contents ⟦<UnorderedSetRef<'a, AlgorithmIdentifier<'a>> as FormValue>⟧.value.comparable ⟦<UnorderedSetRef<'a, AlgorithmIdentifier<'a>> as PartialEq>⟧.eq (λ v w. (λ one. bytes_decides v.octets.octets.now w.octets.octets.now)))
         (member_equality ⟦<EncapsulatedContentInfo<'a> as Form>⟧
         (tagged_starts ⟦<EncapsulatedContentInfo<'a> as Form>⟧ (one_tag ⟦<SequenceTag as TagMarker>⟧.TAG ⟦<EncapsulatedContentInfo<'a> as FormValue>⟧.value.contents))
         ⟦<EncapsulatedContentInfo<'a> as PartialEq>⟧.eq
@@ -307,58 +242,14 @@ impl<'a> ContentsEq for SignedData<'a> {
         (optional_starts ⟦<Implicit<RevocationInfoChoices<'a>, 1> as Form>⟧ (one_tag ⟦<ImplicitTag<SetTag, 1> as TagMarker>⟧.TAG ⟦<Implicit<RevocationInfoChoices<'a>, 1> as FormValue>⟧.value.contents))
         ⟦<Option<Implicit<RevocationInfoChoices<'a>, 1>> as PartialEq>⟧.eq
         (optional_equality ⟦<Implicit<RevocationInfoChoices<'a>, 1> as Form>⟧ (one_tag ⟦<ImplicitTag<SetTag, 1> as TagMarker>⟧.TAG ⟦<Implicit<RevocationInfoChoices<'a>, 1> as FormValue>⟧.value.contents) ⟦<Implicit<RevocationInfoChoices<'a>, 1> as PartialEq>⟧.eq (one_tag_equality ⟦<ImplicitTag<SetTag, 1> as TagMarker>⟧.TAG ⟦<Implicit<RevocationInfoChoices<'a>, 1> as FormValue>⟧.value.contents ⟦<Implicit<RevocationInfoChoices<'a>, 1> as FormValue>⟧.value.comparable ⟦<Implicit<RevocationInfoChoices<'a>, 1> as PartialEq>⟧.eq (λ v w. (revocation_info_choices_contents_eq.contents_eq-law v.value w.value))))
-        (member_equality ⟦<ItemSet<SignerInfo<'a>, SignerInfoOrder> as Form>⟧
-        (tagged_starts ⟦<ItemSet<SignerInfo<'a>, SignerInfoOrder> as Form>⟧ (one_tag ⟦<SetTag as TagMarker>⟧.TAG ⟦<ItemSet<SignerInfo<'a>, SignerInfoOrder> as FormValue>⟧.value.contents))
-        ⟦<ItemSet<SignerInfo<'a>, SignerInfoOrder> as PartialEq>⟧.eq
-        (one_tag_equality ⟦<SetTag as TagMarker>⟧.TAG ⟦<ItemSet<SignerInfo<'a>, SignerInfoOrder> as FormValue>⟧.value.contents ⟦<ItemSet<SignerInfo<'a>, SignerInfoOrder> as FormValue>⟧.value.comparable ⟦<ItemSet<SignerInfo<'a>, SignerInfoOrder> as PartialEq>⟧.eq (λ v w. ((items_equality ⟦<SignerInfo<'a> as Form>⟧ (one_tag ⟦<SequenceTag as TagMarker>⟧.TAG ⟦<SignerInfo<'a> as FormValue>⟧.value.contents) ⟦<SignerInfo<'a> as PartialEq>⟧.eq (one_tag_equality ⟦<SequenceTag as TagMarker>⟧.TAG ⟦<SignerInfo<'a> as FormValue>⟧.value.contents ⟦<SignerInfo<'a> as FormValue>⟧.value.comparable ⟦<SignerInfo<'a> as PartialEq>⟧.eq signer_info_contents_eq.contents_eq-law)) v w)))
+        (member_equality ⟦<UnorderedSetRef<'a, SignerInfo<'a>> as Form>⟧
+        (tagged_starts ⟦<UnorderedSetRef<'a, SignerInfo<'a>> as Form>⟧ (one_tag ⟦<SetTag as TagMarker>⟧.TAG ⟦<UnorderedSetRef<'a, SignerInfo<'a>> as FormValue>⟧.value.contents))
+        ⟦<UnorderedSetRef<'a, SignerInfo<'a>> as PartialEq>⟧.eq
+        (one_tag_equality ⟦<SetTag as TagMarker>⟧.TAG ⟦<UnorderedSetRef<'a, SignerInfo<'a>> as FormValue>⟧.value.contents ⟦<UnorderedSetRef<'a, SignerInfo<'a>> as FormValue>⟧.value.comparable ⟦<UnorderedSetRef<'a, SignerInfo<'a>> as PartialEq>⟧.eq (λ v w. (λ one. bytes_decides v.octets.octets.now w.octets.octets.now)))
         no_equality)))))).equal v.fields.list w.fields.list };
 }
 
-impl<'a> CopyLaws for SignedData<'a> {
-    ghost copies = { copies_of (held_copies (λ v. v.fields.list)
-        (listed_copies (member_copies ⟦<CmsVersion as Form>⟧
-        (tagged_starts ⟦<CmsVersion as Form>⟧ (one_tag ⟦<IntegerTag as TagMarker>⟧.TAG ⟦<u8 as FormValue>⟧.value.contents))
-        (one_tag_copies ⟦<IntegerTag as TagMarker>⟧.TAG (same_copies ⟦<u8 as FormValue>⟧.value.contents ⟦<u8 as FormValue>⟧.value.comparable ⟦<u8 as FormValue>⟧.value.re_reads ⟦<u8 as PartialEq>⟧.eq (λ v. (u8_contents_eq.contents_eq-law v v tt).1 refl)))
-        (member_copies ⟦<ItemSet<AlgorithmIdentifier<'a>, AlgorithmIdentifierOrder> as Form>⟧
-        (tagged_starts ⟦<ItemSet<AlgorithmIdentifier<'a>, AlgorithmIdentifierOrder> as Form>⟧ (one_tag ⟦<SetTag as TagMarker>⟧.TAG ⟦<ItemSet<AlgorithmIdentifier<'a>, AlgorithmIdentifierOrder> as FormValue>⟧.value.contents))
-        (one_tag_copies ⟦<SetTag as TagMarker>⟧.TAG (items_copies ⟦<AlgorithmIdentifier<'a> as Form>⟧ (one_tag_copies ⟦<SequenceTag as TagMarker>⟧.TAG (same_copies ⟦<AlgorithmIdentifier<'a> as FormValue>⟧.value.contents ⟦<AlgorithmIdentifier<'a> as FormValue>⟧.value.comparable ⟦<AlgorithmIdentifier<'a> as FormValue>⟧.value.re_reads ⟦<AlgorithmIdentifier<'a> as PartialEq>⟧.eq algorithm_identifier_eq.laws-law.refl))))
-        (member_copies ⟦<EncapsulatedContentInfo<'a> as Form>⟧
-        (tagged_starts ⟦<EncapsulatedContentInfo<'a> as Form>⟧ (one_tag ⟦<SequenceTag as TagMarker>⟧.TAG ⟦<EncapsulatedContentInfo<'a> as FormValue>⟧.value.contents))
-        (one_tag_copies ⟦<SequenceTag as TagMarker>⟧.TAG (same_copies ⟦<EncapsulatedContentInfo<'a> as FormValue>⟧.value.contents ⟦<EncapsulatedContentInfo<'a> as FormValue>⟧.value.comparable ⟦<EncapsulatedContentInfo<'a> as FormValue>⟧.value.re_reads ⟦<EncapsulatedContentInfo<'a> as PartialEq>⟧.eq encapsulated_content_info_eq.laws-law.refl))
-        (member_copies ⟦<Option<Implicit<CertificateSet<'a>, 0>> as Form>⟧
-        (optional_starts ⟦<Implicit<CertificateSet<'a>, 0> as Form>⟧ (one_tag ⟦<ImplicitTag<SetTag, 0> as TagMarker>⟧.TAG ⟦<Implicit<CertificateSet<'a>, 0> as FormValue>⟧.value.contents))
-        (optional_copies ⟦<Implicit<CertificateSet<'a>, 0> as Form>⟧ (one_tag_copies ⟦<ImplicitTag<SetTag, 0> as TagMarker>⟧.TAG (held_copies (λ x. x.value) (record { octets_are = certificate_set_duplicate_value.copy_contents-law; comparable_are = certificate_set_duplicate_value.copy_comparable_value-law; re_reads_are = certificate_set_duplicate_value.copy_re_reads_value-law; equal_are = certificate_set_duplicate_value_is_equal.copy_value_is_equal-law }))))
-        (member_copies ⟦<Option<Implicit<RevocationInfoChoices<'a>, 1>> as Form>⟧
-        (optional_starts ⟦<Implicit<RevocationInfoChoices<'a>, 1> as Form>⟧ (one_tag ⟦<ImplicitTag<SetTag, 1> as TagMarker>⟧.TAG ⟦<Implicit<RevocationInfoChoices<'a>, 1> as FormValue>⟧.value.contents))
-        (optional_copies ⟦<Implicit<RevocationInfoChoices<'a>, 1> as Form>⟧ (one_tag_copies ⟦<ImplicitTag<SetTag, 1> as TagMarker>⟧.TAG (held_copies (λ x. x.value) (record { octets_are = revocation_info_choices_duplicate_value.copy_contents-law; comparable_are = revocation_info_choices_duplicate_value.copy_comparable_value-law; re_reads_are = revocation_info_choices_duplicate_value.copy_re_reads_value-law; equal_are = revocation_info_choices_duplicate_value_is_equal.copy_value_is_equal-law }))))
-        (member_copies ⟦<ItemSet<SignerInfo<'a>, SignerInfoOrder> as Form>⟧
-        (tagged_starts ⟦<ItemSet<SignerInfo<'a>, SignerInfoOrder> as Form>⟧ (one_tag ⟦<SetTag as TagMarker>⟧.TAG ⟦<ItemSet<SignerInfo<'a>, SignerInfoOrder> as FormValue>⟧.value.contents))
-        (one_tag_copies ⟦<SetTag as TagMarker>⟧.TAG (items_copies ⟦<SignerInfo<'a> as Form>⟧ (one_tag_copies ⟦<SequenceTag as TagMarker>⟧.TAG (record { octets_are = signer_info_duplicate_value.copy_contents-law; comparable_are = signer_info_duplicate_value.copy_comparable_value-law; re_reads_are = signer_info_duplicate_value.copy_re_reads_value-law; equal_are = signer_info_duplicate_value_is_equal.copy_value_is_equal-law }))))
-        no_copies)))))))) };
-}
-
-impl<'a> DuplicateValue for SignedData<'a> {
-    ghost is_copy_value = { λ v w. ⟦<Fields<'a> as DuplicateFields>⟧.are_copies v.fields w.fields };
-
-    ghost takes_memory_to_copy_value = { ⟦<Fields<'a> as DuplicateFields>⟧.take_memory_to_copy };
-
-    fn duplicate_value(&self) -> Result<SignedData<'a>, Error> {
-        match self.fields.duplicate_fields() {
-            Ok(fields) => Ok(SignedData { fields }),
-            Err(e) => Err(e),
-        }
-    }
-
-    ghost copy_contents = { ⟦<SignedData<'a> as CopyLaws>⟧.copies.laws.octets_are };
-
-    ghost copy_comparable_value = { ⟦<SignedData<'a> as CopyLaws>⟧.copies.laws.comparable_are };
-
-    ghost copy_re_reads_value = { ⟦<SignedData<'a> as CopyLaws>⟧.copies.laws.re_reads_are };
-}
-
-impl<'a> DuplicateValueIsEqual for SignedData<'a> {
-    ghost copy_value_is_equal = { ⟦<SignedData<'a> as CopyLaws>⟧.copies.laws.equal_are };
-}
+impl<'a> CopyIsDuplicate for SignedData<'a> {}
 
 /// What is read as `SignedData` is what the page of the grammar says.
 pub fn grammar_of_signed_data<'a>()
@@ -370,10 +261,10 @@ pub fn grammar_of_signed_data<'a>()
 pub fn octets_of_signed_data<'a>()
     ensures { (v : SignedData) → ⟦<SignedData<'a> as FormValue>⟧.value.contents v ≡ joined (
         (⟦<CmsVersion as Form>⟧.encoding (signed_data_fields.version v))
-        ∷ (⟦<ItemSet<AlgorithmIdentifier<'a>, AlgorithmIdentifierOrder> as Form>⟧.encoding (signed_data_fields.digest_algorithms v))
+        ∷ (⟦<UnorderedSetRef<'a, AlgorithmIdentifier<'a>> as Form>⟧.encoding (signed_data_fields.digest_algorithms v))
         ∷ (⟦<EncapsulatedContentInfo<'a> as Form>⟧.encoding (signed_data_fields.encap_content_info v))
         ∷ optional (λ x. (implicit_encoding context true 0 (⟦<CertificateSet<'a> as FormValue>⟧.value.contents x))) (signed_data_fields.certificates v)
         ∷ optional (λ x. (implicit_encoding context true 1 (⟦<RevocationInfoChoices<'a> as FormValue>⟧.value.contents x))) (signed_data_fields.crls v)
-        ∷ (⟦<ItemSet<SignerInfo<'a>, SignerInfoOrder> as Form>⟧.encoding (signed_data_fields.signer_infos v))
+        ∷ (⟦<UnorderedSetRef<'a, SignerInfo<'a>> as Form>⟧.encoding (signed_data_fields.signer_infos v))
         ∷ []) }
 {}

@@ -142,9 +142,9 @@ impl<'a> KnownTags for SignerIdentifier<'a> {
 }
 
 impl<'a, R: Source<'a>> Decode<'a, R> for SignerIdentifier<'a> {
-    ghost TAKES_MEMORY = { true };
+    ghost TAKES_MEMORY = { false };
 
-    const TAKES_MEMORY: bool = true;
+    const TAKES_MEMORY: bool = false;
 
     fn decode(alloc: Global, reader: &mut R) -> Result<SignerIdentifier<'a>, Error> {
         match Tree::<'a>::decode(alloc, reader) {
@@ -158,9 +158,9 @@ impl<'a, R: Source<'a>> Decode<'a, R> for SignerIdentifier<'a> {
 }
 
 impl<'a, R: Source<'a>> DecodeField<'a, R> for SignerIdentifier<'a> {
-    ghost TAKES_MEMORY = { true };
+    ghost TAKES_MEMORY = { false };
 
-    const TAKES_MEMORY: bool = true;
+    const TAKES_MEMORY: bool = false;
 
     fn decode_field(alloc: Global, reader: &mut R) -> Result<SignerIdentifier<'a>, Error> {
         SignerIdentifier::decode(alloc, reader)

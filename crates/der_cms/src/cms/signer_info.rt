@@ -2,37 +2,33 @@
 //!
 //! Made by tools/asn1 from cms.asn1.
 
-ghost use Rattle.std.specs.Prelude.{◌∷◌, ◌≡◌, [], refl, true};
+ghost use Rattle.std.specs.Prelude.{◌∷◌, ◌≡◌, [], false, refl, true};
 ghost use Rattle.der_cms.specs.Cms.Grammar.{signer_info};
 ghost use Rattle.der_cms.specs.Cms.SignerInfo as signer_info_fields;
 ghost use Rattle.der_cms.specs.contracts.cms.signed_attributes.SignedAttributesContentsEq.TheImpl.Laws as signed_attributes_contents_eq;
-ghost use Rattle.der_cms.specs.contracts.cms.signed_attributes.SignedAttributesDuplicateValue.TheImpl.Laws as signed_attributes_duplicate_value;
-ghost use Rattle.der_cms.specs.contracts.cms.signed_attributes.SignedAttributesDuplicateValueIsEqual.TheImpl.Laws as signed_attributes_duplicate_value_is_equal;
 ghost use Rattle.der_cms.specs.contracts.cms.signer_identifier.SignerIdentifierEncodingEq.TheImpl.Laws as signer_identifier_encoding_eq;
-ghost use Rattle.der_cms.specs.contracts.cms.signer_identifier.SignerIdentifierEq.TheImpl.Laws as signer_identifier_eq;
 ghost use Rattle.der_cms.specs.contracts.cms.signer_identifier.SignerIdentifierTagged.TheImpl.Laws as signer_identifier_tagged;
+ghost use Rattle.der_cms.specs.contracts.cms.unsigned_attributes.UnsignedAttributesContentsEq.TheImpl.Laws as unsigned_attributes_contents_eq;
 ghost use Rattle.der_cms.specs.declared.cms.signer_info.SignerInfo.{SignerInfo};
 ghost use Rattle.der_elem.specs.FormatMakers.{mapped_format};
 ghost use Rattle.der_elem.specs.contracts.integer.unsigned.U8ContentsEq.TheImpl.Laws as u8_contents_eq;
 ghost use Rattle.der_modules.specs.Asn1.{context, implicit_encoding, joined, optional, parse_of};
-ghost use Rattle.der_modules.specs.MemberLaws.{copies_of, held_copies, listed_copies, member_copies, member_equality, no_copies, no_equality, one_tag, one_tag_copies, one_tag_equality, optional_copies, optional_equality, optional_starts, own_tags, same_copies, tagged_starts};
+ghost use Rattle.der_modules.specs.MemberLaws.{member_equality, no_equality, one_tag, one_tag_equality, optional_equality, optional_starts, own_tags, tagged_starts};
 ghost use Rattle.der_opaque.specs.contracts.octet_string_ref.OctetStringRefContentsEq.TheImpl.Laws as octetstringref_contents_eq;
 ghost use Rattle.der_pkix.specs.contracts.algorithm_identifier.AlgorithmIdentifierContentsEq.TheImpl.Laws as algorithm_identifier_contents_eq;
-ghost use Rattle.der_pkix.specs.contracts.algorithm_identifier.AlgorithmIdentifierEq.TheImpl.Laws as algorithm_identifier_eq;
 
-use crate::cms::aliases::{CmsVersion, UnsignedAttributes};
+use crate::cms::aliases::CmsVersion;
 use crate::cms::signed_attributes::SignedAttributes;
 use crate::cms::signer_identifier::SignerIdentifier;
+use crate::cms::unsigned_attributes::UnsignedAttributes;
 use der_elem::{
-    ContentsEq, DecodeValue, DuplicateValue, DuplicateValueIsEqual, EncodeValue, Form, FormValue,
-    IntegerTag, OctetStringTag, OneTag, Sequence, SequenceTag, SetTag, TagMarker, Tagged, ValueOrd,
+    ContentsEq, CopyIsDuplicate, DecodeValue, EncodeValue, Form, FormValue, IntegerTag,
+    OctetStringTag, OneTag, Sequence, SequenceTag, SetTag, TagMarker, Tagged, ValueOrd,
 };
 use der_fields::{
-    DecodeFields, DuplicateFields, EncodeFields, End, Field, FieldList, Fields7, FieldsOrd,
-    Implicit, ImplicitTag,
+    DecodeFields, EncodeFields, End, Field, FieldList, Fields7, FieldsOrd, Implicit, ImplicitTag,
 };
-use der_modules::{CopyLaws, copy_of};
-use der_nest::{ItemOrder, OrdersByEncoding};
+use der_modules::copy_of;
 use der_opaque::OctetStringRef;
 use der_pkix::AlgorithmIdentifier;
 use der_tlv::{BackWriter, Error, Header, Length, Source, Writer};
@@ -62,9 +58,8 @@ type Fields<'a> = Fields7<
 ///      unsignedAttrs       [1] IMPLICIT UnsignedAttributes OPTIONAL }
 /// ```
 ///
-/// Reading refuses the first fault of the octets, in their order; `ErrorKind::Memory` (1) where
-/// memory runs out.
-#[derive(PartialEq, Eq, Drop)]
+/// Reading refuses the first fault of the octets, in their order.
+#[derive(Clone, Copy, PartialEq, Eq)]
 pub struct SignerInfo<'a> {
     fields: Fields<'a>,
 }
@@ -78,21 +73,23 @@ impl<'a> SignerInfo<'a> {
         version: CmsVersion,
         sid: &SignerIdentifier<'a>,
         digest_algorithm: &AlgorithmIdentifier<'a>,
-        signed_attrs: Option<SignedAttributes<'a>>,
+        signed_attrs: Option<&SignedAttributes<'a>>,
         signature_algorithm: &AlgorithmIdentifier<'a>,
         signature: OctetStringRef<'a>,
-        unsigned_attrs: Option<UnsignedAttributes<'a>>,
+        unsigned_attrs: Option<&UnsignedAttributes<'a>>,
     ) -> SignerInfo<'a>
         ensures version { signer_info_fields.version result ≡ version }
         ensures sid { signer_info_fields.sid result ≡ sid.now }
         ensures digest_algorithm { signer_info_fields.digest_algorithm result ≡ digest_algorithm.now }
-        ensures signed_attrs { signer_info_fields.signed_attrs result ≡ signed_attrs.entry }
+        ensures signed_attrs { signer_info_fields.signed_attrs result ≡ option_copied signed_attrs.entry }
         ensures signature_algorithm { signer_info_fields.signature_algorithm result ≡ signature_algorithm.now }
         ensures signature { signer_info_fields.signature result ≡ signature.entry }
-        ensures unsigned_attrs { signer_info_fields.unsigned_attrs result ≡ unsigned_attrs.entry }
+        ensures unsigned_attrs { signer_info_fields.unsigned_attrs result ≡ option_copied unsigned_attrs.entry }
     {
         let first = match unsigned_attrs {
-            Some(value) => Some(Implicit { value }),
+            Some(value) => Some(Implicit {
+                value: copy_of(value),
+            }),
             None => None,
         };
         let rest = Field { first, rest: End };
@@ -101,7 +98,9 @@ impl<'a> SignerInfo<'a> {
         let first = copy_of(signature_algorithm);
         let rest = Field { first, rest };
         let first = match signed_attrs {
-            Some(value) => Some(Implicit { value }),
+            Some(value) => Some(Implicit {
+                value: copy_of(value),
+            }),
             None => None,
         };
         let rest = Field { first, rest };
@@ -113,71 +112,6 @@ impl<'a> SignerInfo<'a> {
         let list = Field { first, rest };
         let fields = Fields7 { list };
         SignerInfo { fields }
-    }
-
-    /// The values of the fields, in their order.
-    pub fn into_parts(
-        self,
-    ) -> (
-        CmsVersion,
-        SignerIdentifier<'a>,
-        AlgorithmIdentifier<'a>,
-        Option<SignedAttributes<'a>>,
-        AlgorithmIdentifier<'a>,
-        OctetStringRef<'a>,
-        Option<UnsignedAttributes<'a>>,
-    )
-        ensures version { signer_info_fields.version self.entry ≡ result.0 }
-        ensures sid { signer_info_fields.sid self.entry ≡ result.1 }
-        ensures digest_algorithm { signer_info_fields.digest_algorithm self.entry ≡ result.2 }
-        ensures signed_attrs { signer_info_fields.signed_attrs self.entry ≡ result.3 }
-        ensures signature_algorithm { signer_info_fields.signature_algorithm self.entry ≡ result.4 }
-        ensures signature { signer_info_fields.signature self.entry ≡ result.5 }
-        ensures unsigned_attrs { signer_info_fields.unsigned_attrs self.entry ≡ result.6 }
-    {
-        let Fields7 { list } = self.fields;
-        let Field {
-            first: version,
-            rest,
-        } = list;
-        let Field { first: sid, rest } = rest;
-        let Field {
-            first: digest_algorithm,
-            rest,
-        } = rest;
-        let Field {
-            first: signed_attrs,
-            rest,
-        } = rest;
-        let Field {
-            first: signature_algorithm,
-            rest,
-        } = rest;
-        let Field {
-            first: signature,
-            rest,
-        } = rest;
-        let Field {
-            first: unsigned_attrs,
-            ..
-        } = rest;
-        let signed_attrs = match signed_attrs {
-            Some(tagged) => Some(tagged.value),
-            None => None,
-        };
-        let unsigned_attrs = match unsigned_attrs {
-            Some(tagged) => Some(tagged.value),
-            None => None,
-        };
-        (
-            version,
-            sid,
-            digest_algorithm,
-            signed_attrs,
-            signature_algorithm,
-            signature,
-            unsigned_attrs,
-        )
     }
 
     /// `version`, `CMSVersion`.
@@ -263,9 +197,9 @@ impl<'a> FormValue for SignerInfo<'a> {
 }
 
 impl<'a, R: Source<'a>> DecodeValue<'a, R> for SignerInfo<'a> {
-    ghost TAKES_MEMORY = { true };
+    ghost TAKES_MEMORY = { false };
 
-    const TAKES_MEMORY: bool = true;
+    const TAKES_MEMORY: bool = false;
 
     fn decode_value(
         alloc: Global,
@@ -329,74 +263,11 @@ impl<'a> ContentsEq for SignerInfo<'a> {
         (member_equality ⟦<Option<Implicit<UnsignedAttributes<'a>, 1>> as Form>⟧
         (optional_starts ⟦<Implicit<UnsignedAttributes<'a>, 1> as Form>⟧ (one_tag ⟦<ImplicitTag<SetTag, 1> as TagMarker>⟧.TAG ⟦<Implicit<UnsignedAttributes<'a>, 1> as FormValue>⟧.value.contents))
         ⟦<Option<Implicit<UnsignedAttributes<'a>, 1>> as PartialEq>⟧.eq
-        (optional_equality ⟦<Implicit<UnsignedAttributes<'a>, 1> as Form>⟧ (one_tag ⟦<ImplicitTag<SetTag, 1> as TagMarker>⟧.TAG ⟦<Implicit<UnsignedAttributes<'a>, 1> as FormValue>⟧.value.contents) ⟦<Implicit<UnsignedAttributes<'a>, 1> as PartialEq>⟧.eq (one_tag_equality ⟦<ImplicitTag<SetTag, 1> as TagMarker>⟧.TAG ⟦<Implicit<UnsignedAttributes<'a>, 1> as FormValue>⟧.value.contents ⟦<Implicit<UnsignedAttributes<'a>, 1> as FormValue>⟧.value.comparable ⟦<Implicit<UnsignedAttributes<'a>, 1> as PartialEq>⟧.eq (λ v w. (signed_attributes_contents_eq.contents_eq-law v.value w.value))))
+        (optional_equality ⟦<Implicit<UnsignedAttributes<'a>, 1> as Form>⟧ (one_tag ⟦<ImplicitTag<SetTag, 1> as TagMarker>⟧.TAG ⟦<Implicit<UnsignedAttributes<'a>, 1> as FormValue>⟧.value.contents) ⟦<Implicit<UnsignedAttributes<'a>, 1> as PartialEq>⟧.eq (one_tag_equality ⟦<ImplicitTag<SetTag, 1> as TagMarker>⟧.TAG ⟦<Implicit<UnsignedAttributes<'a>, 1> as FormValue>⟧.value.contents ⟦<Implicit<UnsignedAttributes<'a>, 1> as FormValue>⟧.value.comparable ⟦<Implicit<UnsignedAttributes<'a>, 1> as PartialEq>⟧.eq (λ v w. (unsigned_attributes_contents_eq.contents_eq-law v.value w.value))))
         no_equality))))))).equal v.fields.list w.fields.list };
 }
 
-impl<'a> CopyLaws for SignerInfo<'a> {
-    ghost copies = { copies_of (held_copies (λ v. v.fields.list)
-        (listed_copies (member_copies ⟦<CmsVersion as Form>⟧
-        (tagged_starts ⟦<CmsVersion as Form>⟧ (one_tag ⟦<IntegerTag as TagMarker>⟧.TAG ⟦<u8 as FormValue>⟧.value.contents))
-        (one_tag_copies ⟦<IntegerTag as TagMarker>⟧.TAG (same_copies ⟦<u8 as FormValue>⟧.value.contents ⟦<u8 as FormValue>⟧.value.comparable ⟦<u8 as FormValue>⟧.value.re_reads ⟦<u8 as PartialEq>⟧.eq (λ v. (u8_contents_eq.contents_eq-law v v tt).1 refl)))
-        (member_copies ⟦<SignerIdentifier<'a> as Form>⟧
-        (tagged_starts ⟦<SignerIdentifier<'a> as Form>⟧ (own_tags ⟦<SignerIdentifier<'a> as Form>⟧.tags ⟦<SignerIdentifier<'a> as Form>⟧.first_tag_of ⟦<SignerIdentifier<'a> as Form>⟧.encoding ⟦<SignerIdentifier<'a> as Tagged>⟧.tag_of ⟦<SignerIdentifier<'a> as FormValue>⟧.value.contents signer_identifier_tagged.encoding_is-law signer_identifier_tagged.own_tag-law signer_identifier_tagged.first_tag_is-law))
-        (same_copies ⟦<SignerIdentifier<'a> as Form>⟧.encoding ⟦<SignerIdentifier<'a> as Form>⟧.comparable ⟦<SignerIdentifier<'a> as Form>⟧.re_reads ⟦<SignerIdentifier<'a> as PartialEq>⟧.eq signer_identifier_eq.laws-law.refl)
-        (member_copies ⟦<AlgorithmIdentifier<'a> as Form>⟧
-        (tagged_starts ⟦<AlgorithmIdentifier<'a> as Form>⟧ (one_tag ⟦<SequenceTag as TagMarker>⟧.TAG ⟦<AlgorithmIdentifier<'a> as FormValue>⟧.value.contents))
-        (one_tag_copies ⟦<SequenceTag as TagMarker>⟧.TAG (same_copies ⟦<AlgorithmIdentifier<'a> as FormValue>⟧.value.contents ⟦<AlgorithmIdentifier<'a> as FormValue>⟧.value.comparable ⟦<AlgorithmIdentifier<'a> as FormValue>⟧.value.re_reads ⟦<AlgorithmIdentifier<'a> as PartialEq>⟧.eq algorithm_identifier_eq.laws-law.refl))
-        (member_copies ⟦<Option<Implicit<SignedAttributes<'a>, 0>> as Form>⟧
-        (optional_starts ⟦<Implicit<SignedAttributes<'a>, 0> as Form>⟧ (one_tag ⟦<ImplicitTag<SetTag, 0> as TagMarker>⟧.TAG ⟦<Implicit<SignedAttributes<'a>, 0> as FormValue>⟧.value.contents))
-        (optional_copies ⟦<Implicit<SignedAttributes<'a>, 0> as Form>⟧ (one_tag_copies ⟦<ImplicitTag<SetTag, 0> as TagMarker>⟧.TAG (held_copies (λ x. x.value) (record { octets_are = signed_attributes_duplicate_value.copy_contents-law; comparable_are = signed_attributes_duplicate_value.copy_comparable_value-law; re_reads_are = signed_attributes_duplicate_value.copy_re_reads_value-law; equal_are = signed_attributes_duplicate_value_is_equal.copy_value_is_equal-law }))))
-        (member_copies ⟦<AlgorithmIdentifier<'a> as Form>⟧
-        (tagged_starts ⟦<AlgorithmIdentifier<'a> as Form>⟧ (one_tag ⟦<SequenceTag as TagMarker>⟧.TAG ⟦<AlgorithmIdentifier<'a> as FormValue>⟧.value.contents))
-        (one_tag_copies ⟦<SequenceTag as TagMarker>⟧.TAG (same_copies ⟦<AlgorithmIdentifier<'a> as FormValue>⟧.value.contents ⟦<AlgorithmIdentifier<'a> as FormValue>⟧.value.comparable ⟦<AlgorithmIdentifier<'a> as FormValue>⟧.value.re_reads ⟦<AlgorithmIdentifier<'a> as PartialEq>⟧.eq algorithm_identifier_eq.laws-law.refl))
-        (member_copies ⟦<OctetStringRef<'a> as Form>⟧
-        (tagged_starts ⟦<OctetStringRef<'a> as Form>⟧ (one_tag ⟦<OctetStringTag as TagMarker>⟧.TAG ⟦<OctetStringRef<'a> as FormValue>⟧.value.contents))
-        (one_tag_copies ⟦<OctetStringTag as TagMarker>⟧.TAG (same_copies ⟦<OctetStringRef<'a> as FormValue>⟧.value.contents ⟦<OctetStringRef<'a> as FormValue>⟧.value.comparable ⟦<OctetStringRef<'a> as FormValue>⟧.value.re_reads ⟦<OctetStringRef<'a> as PartialEq>⟧.eq (λ v. (octetstringref_contents_eq.contents_eq-law v v tt).1 refl)))
-        (member_copies ⟦<Option<Implicit<UnsignedAttributes<'a>, 1>> as Form>⟧
-        (optional_starts ⟦<Implicit<UnsignedAttributes<'a>, 1> as Form>⟧ (one_tag ⟦<ImplicitTag<SetTag, 1> as TagMarker>⟧.TAG ⟦<Implicit<UnsignedAttributes<'a>, 1> as FormValue>⟧.value.contents))
-        (optional_copies ⟦<Implicit<UnsignedAttributes<'a>, 1> as Form>⟧ (one_tag_copies ⟦<ImplicitTag<SetTag, 1> as TagMarker>⟧.TAG (held_copies (λ x. x.value) (record { octets_are = signed_attributes_duplicate_value.copy_contents-law; comparable_are = signed_attributes_duplicate_value.copy_comparable_value-law; re_reads_are = signed_attributes_duplicate_value.copy_re_reads_value-law; equal_are = signed_attributes_duplicate_value_is_equal.copy_value_is_equal-law }))))
-        no_copies))))))))) };
-}
-
-impl<'a> DuplicateValue for SignerInfo<'a> {
-    ghost is_copy_value = { λ v w. ⟦<Fields<'a> as DuplicateFields>⟧.are_copies v.fields w.fields };
-
-    ghost takes_memory_to_copy_value = { ⟦<Fields<'a> as DuplicateFields>⟧.take_memory_to_copy };
-
-    fn duplicate_value(&self) -> Result<SignerInfo<'a>, Error> {
-        match self.fields.duplicate_fields() {
-            Ok(fields) => Ok(SignerInfo { fields }),
-            Err(e) => Err(e),
-        }
-    }
-
-    ghost copy_contents = { ⟦<SignerInfo<'a> as CopyLaws>⟧.copies.laws.octets_are };
-
-    ghost copy_comparable_value = { ⟦<SignerInfo<'a> as CopyLaws>⟧.copies.laws.comparable_are };
-
-    ghost copy_re_reads_value = { ⟦<SignerInfo<'a> as CopyLaws>⟧.copies.laws.re_reads_are };
-}
-
-impl<'a> DuplicateValueIsEqual for SignerInfo<'a> {
-    ghost copy_value_is_equal = { ⟦<SignerInfo<'a> as CopyLaws>⟧.copies.laws.equal_are };
-}
-
-/// The order of a SET OF `SignerInfo<'a>`: that of the encodings (X.690 11.6).
-///
-/// The number says nothing: a limit of the toolchain asks for one.
-pub struct SignerInfoOrderOf<const N: usize>;
-
-/// The order of a SET OF `SignerInfo<'a>`: that of the encodings (X.690 11.6).
-pub type SignerInfoOrder = SignerInfoOrderOf<0>;
-
-impl<'a> ItemOrder<SignerInfo<'a>> for SignerInfoOrder {
-    ghost item_encoding = { ⟦<SignerInfo<'a> as Form>⟧.encoding };
-}
-
-impl<'a> OrdersByEncoding<SignerInfo<'a>> for SignerInfoOrder {
-    ghost is_encoding = { refl };
-}
+impl<'a> CopyIsDuplicate for SignerInfo<'a> {}
 
 /// What is read as `SignerInfo` is what the page of the grammar says.
 pub fn grammar_of_signer_info<'a>()

@@ -2,30 +2,25 @@
 //!
 //! Made by tools/asn1 from ess.asn1.
 
-ghost use Rattle.std.specs.Prelude.{◌∷◌, ◌≡◌, [], refl, true};
+ghost use Rattle.std.specs.Prelude.{◌∷◌, ◌≡◌, [], false, refl};
 ghost use Rattle.der_cms.specs.Ess.EssCertIdv2 as ess_cert_idv2_fields;
 ghost use Rattle.der_cms.specs.Ess.Grammar.{ess_cert_idv2};
 ghost use Rattle.der_cms.specs.contracts.ess.issuer_serial.IssuerSerialContentsEq.TheImpl.Laws as issuer_serial_contents_eq;
-ghost use Rattle.der_cms.specs.contracts.ess.issuer_serial.IssuerSerialDuplicateValue.TheImpl.Laws as issuer_serial_duplicate_value;
-ghost use Rattle.der_cms.specs.contracts.ess.issuer_serial.IssuerSerialDuplicateValueIsEqual.TheImpl.Laws as issuer_serial_duplicate_value_is_equal;
 ghost use Rattle.der_cms.specs.declared.ess.ess_cert_idv2.EssCertIdv2.{EssCertIdv2};
 ghost use Rattle.der_elem.specs.FormatMakers.{mapped_format};
 ghost use Rattle.der_modules.specs.Asn1.{joined, optional, parse_of};
-ghost use Rattle.der_modules.specs.MemberLaws.{copies_of, held_copies, listed_copies, member_copies, member_equality, no_copies, no_equality, one_tag, one_tag_copies, one_tag_equality, optional_copies, optional_equality, optional_starts, same_copies, tagged_starts};
+ghost use Rattle.der_modules.specs.MemberLaws.{member_equality, no_equality, one_tag, one_tag_equality, optional_equality, optional_starts, tagged_starts};
 ghost use Rattle.der_opaque.specs.contracts.octet_string_ref.OctetStringRefContentsEq.TheImpl.Laws as octetstringref_contents_eq;
 ghost use Rattle.der_pkix.specs.contracts.algorithm_identifier.AlgorithmIdentifierContentsEq.TheImpl.Laws as algorithm_identifier_contents_eq;
-ghost use Rattle.der_pkix.specs.contracts.algorithm_identifier.AlgorithmIdentifierEq.TheImpl.Laws as algorithm_identifier_eq;
 
 use crate::ess::aliases::Hash;
 use crate::ess::issuer_serial::IssuerSerial;
 use der_elem::{
-    ContentsEq, DecodeValue, DuplicateValue, DuplicateValueIsEqual, EncodeValue, Form, FormValue,
-    OctetStringTag, OneTag, Sequence, SequenceTag, TagMarker, ValueOrd,
+    ContentsEq, CopyIsDuplicate, DecodeValue, EncodeValue, Form, FormValue, OctetStringTag, OneTag,
+    Sequence, SequenceTag, TagMarker, ValueOrd,
 };
-use der_fields::{
-    DecodeFields, DuplicateFields, EncodeFields, End, Field, FieldList, Fields3, FieldsOrd,
-};
-use der_modules::{CopyLaws, copy_of};
+use der_fields::{DecodeFields, EncodeFields, End, Field, FieldList, Fields3, FieldsOrd};
+use der_modules::copy_of;
 use der_opaque::OctetStringRef;
 use der_pkix::AlgorithmIdentifier;
 use der_tlv::{BackWriter, Error, Header, Length, Source, Writer};
@@ -45,9 +40,8 @@ type Fields<'a> = Fields3<Option<AlgorithmIdentifier<'a>>, Hash<'a>, Option<Issu
 ///      issuerSerial   IssuerSerial OPTIONAL }
 /// ```
 ///
-/// Reading refuses the first fault of the octets, in their order; `ErrorKind::Memory` (1) where
-/// memory runs out.
-#[derive(PartialEq, Eq, Drop)]
+/// Reading refuses the first fault of the octets, in their order.
+#[derive(Clone, Copy, PartialEq, Eq)]
 pub struct EssCertIdv2<'a> {
     fields: Fields<'a>,
 }
@@ -60,13 +54,16 @@ impl<'a> EssCertIdv2<'a> {
     pub fn new(
         hash_algorithm: Option<&AlgorithmIdentifier<'a>>,
         cert_hash: Hash<'a>,
-        issuer_serial: Option<IssuerSerial<'a>>,
+        issuer_serial: Option<&IssuerSerial<'a>>,
     ) -> EssCertIdv2<'a>
         ensures hash_algorithm { ess_cert_idv2_fields.hash_algorithm result ≡ option_copied hash_algorithm.entry }
         ensures cert_hash { ess_cert_idv2_fields.cert_hash result ≡ cert_hash.entry }
-        ensures issuer_serial { ess_cert_idv2_fields.issuer_serial result ≡ issuer_serial.entry }
+        ensures issuer_serial { ess_cert_idv2_fields.issuer_serial result ≡ option_copied issuer_serial.entry }
     {
-        let first = issuer_serial;
+        let first = match issuer_serial {
+            Some(value) => Some(copy_of(value)),
+            None => None,
+        };
         let rest = Field { first, rest: End };
         let first = cert_hash;
         let rest = Field { first, rest };
@@ -77,34 +74,6 @@ impl<'a> EssCertIdv2<'a> {
         let list = Field { first, rest };
         let fields = Fields3 { list };
         EssCertIdv2 { fields }
-    }
-
-    /// The values of the fields, in their order.
-    pub fn into_parts(
-        self,
-    ) -> (
-        Option<AlgorithmIdentifier<'a>>,
-        Hash<'a>,
-        Option<IssuerSerial<'a>>,
-    )
-        ensures hash_algorithm { ess_cert_idv2_fields.hash_algorithm self.entry ≡ result.0 }
-        ensures cert_hash { ess_cert_idv2_fields.cert_hash self.entry ≡ result.1 }
-        ensures issuer_serial { ess_cert_idv2_fields.issuer_serial self.entry ≡ result.2 }
-    {
-        let Fields3 { list } = self.fields;
-        let Field {
-            first: hash_algorithm,
-            rest,
-        } = list;
-        let Field {
-            first: cert_hash,
-            rest,
-        } = rest;
-        let Field {
-            first: issuer_serial,
-            ..
-        } = rest;
-        (hash_algorithm, cert_hash, issuer_serial)
     }
 
     /// `hashAlgorithm`, `AlgorithmIdentifier OPTIONAL`.
@@ -158,9 +127,9 @@ impl<'a> FormValue for EssCertIdv2<'a> {
 }
 
 impl<'a, R: Source<'a>> DecodeValue<'a, R> for EssCertIdv2<'a> {
-    ghost TAKES_MEMORY = { true };
+    ghost TAKES_MEMORY = { false };
 
-    const TAKES_MEMORY: bool = true;
+    const TAKES_MEMORY: bool = false;
 
     fn decode_value(
         alloc: Global,
@@ -212,42 +181,7 @@ impl<'a> ContentsEq for EssCertIdv2<'a> {
         no_equality))).equal v.fields.list w.fields.list };
 }
 
-impl<'a> CopyLaws for EssCertIdv2<'a> {
-    ghost copies = { copies_of (held_copies (λ v. v.fields.list)
-        (listed_copies (member_copies ⟦<Option<AlgorithmIdentifier<'a>> as Form>⟧
-        (optional_starts ⟦<AlgorithmIdentifier<'a> as Form>⟧ (one_tag ⟦<SequenceTag as TagMarker>⟧.TAG ⟦<AlgorithmIdentifier<'a> as FormValue>⟧.value.contents))
-        (optional_copies ⟦<AlgorithmIdentifier<'a> as Form>⟧ (one_tag_copies ⟦<SequenceTag as TagMarker>⟧.TAG (same_copies ⟦<AlgorithmIdentifier<'a> as FormValue>⟧.value.contents ⟦<AlgorithmIdentifier<'a> as FormValue>⟧.value.comparable ⟦<AlgorithmIdentifier<'a> as FormValue>⟧.value.re_reads ⟦<AlgorithmIdentifier<'a> as PartialEq>⟧.eq algorithm_identifier_eq.laws-law.refl)))
-        (member_copies ⟦<Hash<'a> as Form>⟧
-        (tagged_starts ⟦<Hash<'a> as Form>⟧ (one_tag ⟦<OctetStringTag as TagMarker>⟧.TAG ⟦<OctetStringRef<'a> as FormValue>⟧.value.contents))
-        (one_tag_copies ⟦<OctetStringTag as TagMarker>⟧.TAG (same_copies ⟦<OctetStringRef<'a> as FormValue>⟧.value.contents ⟦<OctetStringRef<'a> as FormValue>⟧.value.comparable ⟦<OctetStringRef<'a> as FormValue>⟧.value.re_reads ⟦<OctetStringRef<'a> as PartialEq>⟧.eq (λ v. (octetstringref_contents_eq.contents_eq-law v v tt).1 refl)))
-        (member_copies ⟦<Option<IssuerSerial<'a>> as Form>⟧
-        (optional_starts ⟦<IssuerSerial<'a> as Form>⟧ (one_tag ⟦<SequenceTag as TagMarker>⟧.TAG ⟦<IssuerSerial<'a> as FormValue>⟧.value.contents))
-        (optional_copies ⟦<IssuerSerial<'a> as Form>⟧ (one_tag_copies ⟦<SequenceTag as TagMarker>⟧.TAG (record { octets_are = issuer_serial_duplicate_value.copy_contents-law; comparable_are = issuer_serial_duplicate_value.copy_comparable_value-law; re_reads_are = issuer_serial_duplicate_value.copy_re_reads_value-law; equal_are = issuer_serial_duplicate_value_is_equal.copy_value_is_equal-law })))
-        no_copies))))) };
-}
-
-impl<'a> DuplicateValue for EssCertIdv2<'a> {
-    ghost is_copy_value = { λ v w. ⟦<Fields<'a> as DuplicateFields>⟧.are_copies v.fields w.fields };
-
-    ghost takes_memory_to_copy_value = { ⟦<Fields<'a> as DuplicateFields>⟧.take_memory_to_copy };
-
-    fn duplicate_value(&self) -> Result<EssCertIdv2<'a>, Error> {
-        match self.fields.duplicate_fields() {
-            Ok(fields) => Ok(EssCertIdv2 { fields }),
-            Err(e) => Err(e),
-        }
-    }
-
-    ghost copy_contents = { ⟦<EssCertIdv2<'a> as CopyLaws>⟧.copies.laws.octets_are };
-
-    ghost copy_comparable_value = { ⟦<EssCertIdv2<'a> as CopyLaws>⟧.copies.laws.comparable_are };
-
-    ghost copy_re_reads_value = { ⟦<EssCertIdv2<'a> as CopyLaws>⟧.copies.laws.re_reads_are };
-}
-
-impl<'a> DuplicateValueIsEqual for EssCertIdv2<'a> {
-    ghost copy_value_is_equal = { ⟦<EssCertIdv2<'a> as CopyLaws>⟧.copies.laws.equal_are };
-}
+impl<'a> CopyIsDuplicate for EssCertIdv2<'a> {}
 
 /// What is read as `ESSCertIDv2` is what the page of the grammar says.
 pub fn grammar_of_ess_cert_idv2<'a>()

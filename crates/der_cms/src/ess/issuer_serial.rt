@@ -2,27 +2,23 @@
 //!
 //! Made by tools/asn1 from ess.asn1.
 
-ghost use Rattle.std.specs.Prelude.{◌∷◌, ◌≡◌, [], refl, true};
+ghost use Rattle.std.specs.Prelude.{◌∷◌, ◌≡◌, [], false, refl};
 ghost use Rattle.der_cms.specs.Ess.Grammar.{issuer_serial};
 ghost use Rattle.der_cms.specs.Ess.IssuerSerial as issuer_serial_fields;
 ghost use Rattle.der_cms.specs.declared.ess.issuer_serial.IssuerSerial.{IssuerSerial};
 ghost use Rattle.der_elem.specs.FormatMakers.{mapped_format};
 ghost use Rattle.der_extensions.specs.contracts.extension.general_names.GeneralNamesContentsEq.TheImpl.Laws as general_names_contents_eq;
-ghost use Rattle.der_extensions.specs.contracts.extension.general_names.GeneralNamesDuplicateValue.TheImpl.Laws as general_names_duplicate_value;
-ghost use Rattle.der_extensions.specs.contracts.extension.general_names.GeneralNamesDuplicateValueIsEqual.TheImpl.Laws as general_names_duplicate_value_is_equal;
 ghost use Rattle.der_modules.specs.Asn1.{joined, parse_of};
-ghost use Rattle.der_modules.specs.MemberLaws.{copies_of, held_copies, listed_copies, member_copies, member_equality, no_copies, no_equality, one_tag, one_tag_copies, one_tag_equality, same_copies, tagged_starts};
+ghost use Rattle.der_modules.specs.MemberLaws.{member_equality, no_equality, one_tag, one_tag_equality, tagged_starts};
 ghost use Rattle.der_numbers.specs.contracts.int_ref.IntRefContentsEq.TheImpl.Laws as intref_contents_eq;
 
 use der_elem::{
-    ContentsEq, DecodeValue, DuplicateValue, DuplicateValueIsEqual, EncodeValue, Form, FormValue,
-    IntegerTag, OneTag, Sequence, SequenceTag, TagMarker, ValueOrd,
+    ContentsEq, CopyIsDuplicate, DecodeValue, EncodeValue, Form, FormValue, IntegerTag, OneTag,
+    Sequence, SequenceTag, TagMarker, ValueOrd,
 };
 use der_extensions::extension::GeneralNames;
-use der_fields::{
-    DecodeFields, DuplicateFields, EncodeFields, End, Field, FieldList, Fields2, FieldsOrd,
-};
-use der_modules::CopyLaws;
+use der_fields::{DecodeFields, EncodeFields, End, Field, FieldList, Fields2, FieldsOrd};
+use der_modules::copy_of;
 use der_numbers::IntRef;
 use der_pkix::certificate::CertificateSerialNumber;
 use der_tlv::{BackWriter, Error, Header, Length, Source, Writer};
@@ -39,9 +35,8 @@ type Fields<'a> = Fields2<GeneralNames<'a>, CertificateSerialNumber<'a>>;
 ///      serialNumber  CertificateSerialNumber }
 /// ```
 ///
-/// Reading refuses the first fault of the octets, in their order; `ErrorKind::Memory` (1) where
-/// memory runs out.
-#[derive(PartialEq, Eq, Drop)]
+/// Reading refuses the first fault of the octets, in their order.
+#[derive(Clone, Copy, PartialEq, Eq)]
 pub struct IssuerSerial<'a> {
     fields: Fields<'a>,
 }
@@ -51,35 +46,18 @@ impl<'a> IssuerSerial<'a> {
 
     /// A value of these fields.
     pub fn new(
-        issuer: GeneralNames<'a>,
+        issuer: &GeneralNames<'a>,
         serial_number: CertificateSerialNumber<'a>,
     ) -> IssuerSerial<'a>
-        ensures issuer { issuer_serial_fields.issuer result ≡ issuer.entry }
+        ensures issuer { issuer_serial_fields.issuer result ≡ issuer.now }
         ensures serial_number { issuer_serial_fields.serial_number result ≡ serial_number.entry }
     {
         let first = serial_number;
         let rest = Field { first, rest: End };
-        let first = issuer;
+        let first = copy_of(issuer);
         let list = Field { first, rest };
         let fields = Fields2 { list };
         IssuerSerial { fields }
-    }
-
-    /// The values of the fields, in their order.
-    pub fn into_parts(self) -> (GeneralNames<'a>, CertificateSerialNumber<'a>)
-        ensures issuer { issuer_serial_fields.issuer self.entry ≡ result.0 }
-        ensures serial_number { issuer_serial_fields.serial_number self.entry ≡ result.1 }
-    {
-        let Fields2 { list } = self.fields;
-        let Field {
-            first: issuer,
-            rest,
-        } = list;
-        let Field {
-            first: serial_number,
-            ..
-        } = rest;
-        (issuer, serial_number)
     }
 
     /// `issuer`, `GeneralNames`.
@@ -119,9 +97,9 @@ impl<'a> FormValue for IssuerSerial<'a> {
 }
 
 impl<'a, R: Source<'a>> DecodeValue<'a, R> for IssuerSerial<'a> {
-    ghost TAKES_MEMORY = { true };
+    ghost TAKES_MEMORY = { false };
 
-    const TAKES_MEMORY: bool = true;
+    const TAKES_MEMORY: bool = false;
 
     fn decode_value(
         alloc: Global,
@@ -169,39 +147,7 @@ impl<'a> ContentsEq for IssuerSerial<'a> {
         no_equality)).equal v.fields.list w.fields.list };
 }
 
-impl<'a> CopyLaws for IssuerSerial<'a> {
-    ghost copies = { copies_of (held_copies (λ v. v.fields.list)
-        (listed_copies (member_copies ⟦<GeneralNames<'a> as Form>⟧
-        (tagged_starts ⟦<GeneralNames<'a> as Form>⟧ (one_tag ⟦<SequenceTag as TagMarker>⟧.TAG ⟦<GeneralNames<'a> as FormValue>⟧.value.contents))
-        (one_tag_copies ⟦<SequenceTag as TagMarker>⟧.TAG (record { octets_are = general_names_duplicate_value.copy_contents-law; comparable_are = general_names_duplicate_value.copy_comparable_value-law; re_reads_are = general_names_duplicate_value.copy_re_reads_value-law; equal_are = general_names_duplicate_value_is_equal.copy_value_is_equal-law }))
-        (member_copies ⟦<CertificateSerialNumber<'a> as Form>⟧
-        (tagged_starts ⟦<CertificateSerialNumber<'a> as Form>⟧ (one_tag ⟦<IntegerTag as TagMarker>⟧.TAG ⟦<IntRef<'a> as FormValue>⟧.value.contents))
-        (one_tag_copies ⟦<IntegerTag as TagMarker>⟧.TAG (same_copies ⟦<IntRef<'a> as FormValue>⟧.value.contents ⟦<IntRef<'a> as FormValue>⟧.value.comparable ⟦<IntRef<'a> as FormValue>⟧.value.re_reads ⟦<IntRef<'a> as PartialEq>⟧.eq (λ v. (intref_contents_eq.contents_eq-law v v tt).1 refl)))
-        no_copies)))) };
-}
-
-impl<'a> DuplicateValue for IssuerSerial<'a> {
-    ghost is_copy_value = { λ v w. ⟦<Fields<'a> as DuplicateFields>⟧.are_copies v.fields w.fields };
-
-    ghost takes_memory_to_copy_value = { ⟦<Fields<'a> as DuplicateFields>⟧.take_memory_to_copy };
-
-    fn duplicate_value(&self) -> Result<IssuerSerial<'a>, Error> {
-        match self.fields.duplicate_fields() {
-            Ok(fields) => Ok(IssuerSerial { fields }),
-            Err(e) => Err(e),
-        }
-    }
-
-    ghost copy_contents = { ⟦<IssuerSerial<'a> as CopyLaws>⟧.copies.laws.octets_are };
-
-    ghost copy_comparable_value = { ⟦<IssuerSerial<'a> as CopyLaws>⟧.copies.laws.comparable_are };
-
-    ghost copy_re_reads_value = { ⟦<IssuerSerial<'a> as CopyLaws>⟧.copies.laws.re_reads_are };
-}
-
-impl<'a> DuplicateValueIsEqual for IssuerSerial<'a> {
-    ghost copy_value_is_equal = { ⟦<IssuerSerial<'a> as CopyLaws>⟧.copies.laws.equal_are };
-}
+impl<'a> CopyIsDuplicate for IssuerSerial<'a> {}
 
 /// What is read as `IssuerSerial` is what the page of the grammar says.
 pub fn grammar_of_issuer_serial<'a>()

@@ -3,6 +3,7 @@
 use Rattle.std.specs.Prelude.{Option, option_map, ℕ}
 use Rattle.der_cms.specs.declared.cms.encapsulated_content_info.EncapsulatedContentInfo.{EncapsulatedContentInfo}
 use Rattle.der_cms.specs.declared.cms.signed_attributes.SignedAttributes.{SignedAttributes}
+use Rattle.der_cms.specs.declared.cms.unsigned_attributes.UnsignedAttributes.{UnsignedAttributes}
 use Rattle.der_enveloped.specs.declared.authenticated.authenticated_data.AuthenticatedData.{AuthenticatedData}
 use Rattle.der_enveloped.specs.declared.enveloped.originator_info.OriginatorInfo.{OriginatorInfo}
 use Rattle.der_enveloped.specs.declared.enveloped.recipient_infos.RecipientInfos.{RecipientInfos}
@@ -42,5 +43,5 @@ abbrev pub mac : AuthenticatedData → OctetStringRef
 mac v = v.fields.list.rest.rest.rest.rest.rest.rest.rest.first
 
 -- unauthAttrs [3] IMPLICIT UnauthAttributes OPTIONAL
-abbrev pub unauth_attrs : AuthenticatedData → Option SignedAttributes
+abbrev pub unauth_attrs : AuthenticatedData → Option UnsignedAttributes
 unauth_attrs v = option_map (λ x. x.value) v.fields.list.rest.rest.rest.rest.rest.rest.rest.rest.list.first

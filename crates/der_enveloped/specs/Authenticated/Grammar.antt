@@ -1,6 +1,6 @@
 -- The grammar of CmsAuthenticated, in the words of ASN.1.
 -- Made by tools/asn1 from authenticated.asn1.
-use Rattle.der_cms.specs.Cms.Grammar.{cms_version, encapsulated_content_info, signed_attributes}
+use Rattle.der_cms.specs.Cms.Grammar.{cms_version, encapsulated_content_info, signed_attributes, unsigned_attributes}
 use Rattle.der_enveloped.specs.Enveloped.Grammar.{originator_info, recipient_infos}
 use Rattle.der_modules.specs.Asn1.{Grammar, IMPLICIT, OPTIONAL, SEQUENCE, context, end, field, one}
 use Rattle.der_opaque.specs.Opaque.{parse_octets}
@@ -15,10 +15,10 @@ abbrev pub auth_attributes : Grammar
 auth_attributes =
     signed_attributes
 
--- UnauthAttributes ::= SignedAttributes
+-- UnauthAttributes ::= UnsignedAttributes
 abbrev pub unauth_attributes : Grammar
 unauth_attributes =
-    signed_attributes
+    unsigned_attributes
 
 -- AuthenticatedData ::= SEQUENCE {
 --      version           CMSVersion,

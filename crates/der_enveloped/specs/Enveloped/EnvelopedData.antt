@@ -2,7 +2,7 @@
 -- Made by tools/asn1 from enveloped.asn1.
 use Rattle.std.specs.Prelude.{Option, option_map, ℕ}
 use Rattle.der_cms.specs.declared.cms.encrypted_content_info.EncryptedContentInfo.{EncryptedContentInfo}
-use Rattle.der_cms.specs.declared.cms.signed_attributes.SignedAttributes.{SignedAttributes}
+use Rattle.der_cms.specs.declared.cms.unsigned_attributes.UnsignedAttributes.{UnsignedAttributes}
 use Rattle.der_enveloped.specs.declared.enveloped.enveloped_data.EnvelopedData.{EnvelopedData}
 use Rattle.der_enveloped.specs.declared.enveloped.originator_info.OriginatorInfo.{OriginatorInfo}
 use Rattle.der_enveloped.specs.declared.enveloped.recipient_infos.RecipientInfos.{RecipientInfos}
@@ -24,5 +24,5 @@ abbrev pub encrypted_content_info : EnvelopedData → EncryptedContentInfo
 encrypted_content_info v = v.fields.list.rest.rest.rest.first
 
 -- unprotectedAttrs [1] IMPLICIT UnprotectedAttributes OPTIONAL
-abbrev pub unprotected_attrs : EnvelopedData → Option SignedAttributes
+abbrev pub unprotected_attrs : EnvelopedData → Option UnsignedAttributes
 unprotected_attrs v = option_map (λ x. x.value) v.fields.list.rest.rest.rest.rest.first

@@ -2,7 +2,8 @@
 -- Made by tools/asn1 from enveloped.asn1.
 use Rattle.der_cms.specs.Cms.Grammar.{certificate_set, cms_version, encrypted_content_info, issuer_and_serial_number, revocation_info_choices, signer_identifier, unprotected_attributes}
 use Rattle.der_extensions.specs.Extension.Grammar.{subject_key_identifier}
-use Rattle.der_modules.specs.Asn1.{CHOICE, EXPLICIT, Grammar, IMPLICIT, NOT_EMPTY, OPTIONAL, SEQUENCE, SEQUENCE_OF, SET_OF, context, end, field, one}
+use Rattle.der_lists.specs.Asn1.{SEQUENCE_OF, SET_OF_ANY_ORDER}
+use Rattle.der_modules.specs.Asn1.{CHOICE, EXPLICIT, Grammar, IMPLICIT, NOT_EMPTY, OPTIONAL, SEQUENCE, context, end, field, one}
 use Rattle.der_opaque.specs.Opaque.{parse_octets}
 use Rattle.der_pkix.specs.Certificate.Grammar.{algorithm_identifier, subject_public_key_info}
 use Rattle.der_pkix.specs.Name.Grammar.{attribute_type_and_value}
@@ -182,7 +183,7 @@ recipient_info =
 -- RecipientInfos ::= SET SIZE (1..MAX) OF RecipientInfo
 abbrev pub recipient_infos : Grammar
 recipient_infos =
-    NOT_EMPTY (SET_OF recipient_info)
+    NOT_EMPTY (SET_OF_ANY_ORDER recipient_info)
 
 -- EnvelopedData ::= SEQUENCE {
 --      version               CMSVersion,

@@ -6,7 +6,7 @@ ghost use Rattle.std.specs.Prelude.{◌≡◌};
 ghost use Rattle.der_enveloped.specs.Authenticated.Grammar.{auth_attributes, unauth_attributes};
 ghost use Rattle.der_modules.specs.Asn1.{parse_of};
 
-use der_cms::cms::SignedAttributes;
+use der_cms::cms::{SignedAttributes, UnsignedAttributes};
 use der_elem::Form;
 
 /// ```text
@@ -20,9 +20,9 @@ pub fn grammar_of_auth_attributes<'a>()
 {}
 
 /// ```text
-/// UnauthAttributes ::= SignedAttributes
+/// UnauthAttributes ::= UnsignedAttributes
 /// ```
-pub type UnauthAttributes<'a> = SignedAttributes<'a>;
+pub type UnauthAttributes<'a> = UnsignedAttributes<'a>;
 
 /// What is read as `UnauthAttributes` is what the page of the grammar says.
 pub fn grammar_of_unauth_attributes<'a>()

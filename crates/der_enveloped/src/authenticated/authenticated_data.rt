@@ -2,41 +2,34 @@
 //!
 //! Made by tools/asn1 from authenticated.asn1.
 
-ghost use Rattle.std.specs.Prelude.{◌∷◌, ◌≡◌, [], refl, true};
+ghost use Rattle.std.specs.Prelude.{◌∷◌, ◌≡◌, [], false, refl, true};
 ghost use Rattle.der_cms.specs.contracts.cms.encapsulated_content_info.EncapsulatedContentInfoContentsEq.TheImpl.Laws as encapsulated_content_info_contents_eq;
-ghost use Rattle.der_cms.specs.contracts.cms.encapsulated_content_info.EncapsulatedContentInfoEq.TheImpl.Laws as encapsulated_content_info_eq;
 ghost use Rattle.der_cms.specs.contracts.cms.signed_attributes.SignedAttributesContentsEq.TheImpl.Laws as signed_attributes_contents_eq;
-ghost use Rattle.der_cms.specs.contracts.cms.signed_attributes.SignedAttributesDuplicateValue.TheImpl.Laws as signed_attributes_duplicate_value;
-ghost use Rattle.der_cms.specs.contracts.cms.signed_attributes.SignedAttributesDuplicateValueIsEqual.TheImpl.Laws as signed_attributes_duplicate_value_is_equal;
+ghost use Rattle.der_cms.specs.contracts.cms.unsigned_attributes.UnsignedAttributesContentsEq.TheImpl.Laws as unsigned_attributes_contents_eq;
 ghost use Rattle.der_elem.specs.FormatMakers.{mapped_format};
 ghost use Rattle.der_elem.specs.contracts.integer.unsigned.U8ContentsEq.TheImpl.Laws as u8_contents_eq;
 ghost use Rattle.der_enveloped.specs.Authenticated.AuthenticatedData as authenticated_data_fields;
 ghost use Rattle.der_enveloped.specs.Authenticated.Grammar.{authenticated_data};
 ghost use Rattle.der_enveloped.specs.contracts.enveloped.originator_info.OriginatorInfoContentsEq.TheImpl.Laws as originator_info_contents_eq;
-ghost use Rattle.der_enveloped.specs.contracts.enveloped.originator_info.OriginatorInfoDuplicateValue.TheImpl.Laws as originator_info_duplicate_value;
-ghost use Rattle.der_enveloped.specs.contracts.enveloped.originator_info.OriginatorInfoDuplicateValueIsEqual.TheImpl.Laws as originator_info_duplicate_value_is_equal;
 ghost use Rattle.der_enveloped.specs.contracts.enveloped.recipient_infos.RecipientInfosContentsEq.TheImpl.Laws as recipient_infos_contents_eq;
-ghost use Rattle.der_enveloped.specs.contracts.enveloped.recipient_infos.RecipientInfosDuplicateValue.TheImpl.Laws as recipient_infos_duplicate_value;
-ghost use Rattle.der_enveloped.specs.contracts.enveloped.recipient_infos.RecipientInfosDuplicateValueIsEqual.TheImpl.Laws as recipient_infos_duplicate_value_is_equal;
 ghost use Rattle.der_enveloped.specs.declared.authenticated.authenticated_data.AuthenticatedData.{AuthenticatedData};
 ghost use Rattle.der_modules.specs.Asn1.{context, implicit_encoding, joined, optional, parse_of};
-ghost use Rattle.der_modules.specs.MemberLaws.{copies_of, held_copies, listed_copies, member_copies, member_equality, no_copies, no_equality, one_tag, one_tag_copies, one_tag_equality, optional_copies, optional_equality, optional_starts, part_copies, part_equality, same_copies, tagged_starts};
+ghost use Rattle.der_modules.specs.MemberLaws.{member_equality, no_equality, one_tag, one_tag_equality, optional_equality, optional_starts, part_equality, tagged_starts};
 ghost use Rattle.der_opaque.specs.contracts.octet_string_ref.OctetStringRefContentsEq.TheImpl.Laws as octetstringref_contents_eq;
 ghost use Rattle.der_pkix.specs.contracts.algorithm_identifier.AlgorithmIdentifierContentsEq.TheImpl.Laws as algorithm_identifier_contents_eq;
-ghost use Rattle.der_pkix.specs.contracts.algorithm_identifier.AlgorithmIdentifierEq.TheImpl.Laws as algorithm_identifier_eq;
 
 use crate::authenticated::aliases::{AuthAttributes, UnauthAttributes};
 use crate::enveloped::{OriginatorInfo, RecipientInfos};
 use der_cms::cms::{CmsVersion, EncapsulatedContentInfo};
 use der_elem::{
-    ContentsEq, DecodeValue, DuplicateValue, DuplicateValueIsEqual, EncodeValue, Form, FormValue,
-    IntegerTag, OctetStringTag, OneTag, Sequence, SequenceTag, SetTag, TagMarker, ValueOrd,
+    ContentsEq, CopyIsDuplicate, DecodeValue, EncodeValue, Form, FormValue, IntegerTag,
+    OctetStringTag, OneTag, Sequence, SequenceTag, SetTag, TagMarker, ValueOrd,
 };
 use der_fields::{
-    DecodeFields, DuplicateFields, EncodeFields, End, Field, FieldList, Fields1, Fields8,
-    FieldsOrd, Implicit, ImplicitTag,
+    DecodeFields, EncodeFields, End, Field, FieldList, Fields1, Fields8, FieldsOrd, Implicit,
+    ImplicitTag,
 };
-use der_modules::{CopyLaws, copy_of};
+use der_modules::copy_of;
 use der_opaque::OctetStringRef;
 use der_pkix::AlgorithmIdentifier;
 use der_tlv::{BackWriter, Error, Header, Length, Source, Writer};
@@ -70,9 +63,8 @@ type Fields<'a> = Fields8<
 ///      unauthAttrs       [3] IMPLICIT UnauthAttributes OPTIONAL }
 /// ```
 ///
-/// Reading refuses the first fault of the octets, in their order; `ErrorKind::Memory` (1) where
-/// memory runs out.
-#[derive(PartialEq, Eq, Drop)]
+/// Reading refuses the first fault of the octets, in their order.
+#[derive(Clone, Copy, PartialEq, Eq)]
 pub struct AuthenticatedData<'a> {
     fields: Fields<'a>,
 }
@@ -84,27 +76,29 @@ impl<'a> AuthenticatedData<'a> {
     /// A value of these fields.
     pub fn new(
         version: CmsVersion,
-        originator_info: Option<OriginatorInfo<'a>>,
-        recipient_infos: RecipientInfos<'a>,
+        originator_info: Option<&OriginatorInfo<'a>>,
+        recipient_infos: &RecipientInfos<'a>,
         mac_algorithm: &AlgorithmIdentifier<'a>,
         digest_algorithm: Option<&AlgorithmIdentifier<'a>>,
         encap_content_info: &EncapsulatedContentInfo<'a>,
-        auth_attrs: Option<AuthAttributes<'a>>,
+        auth_attrs: Option<&AuthAttributes<'a>>,
         mac: OctetStringRef<'a>,
-        unauth_attrs: Option<UnauthAttributes<'a>>,
+        unauth_attrs: Option<&UnauthAttributes<'a>>,
     ) -> AuthenticatedData<'a>
         ensures version { authenticated_data_fields.version result ≡ version }
-        ensures originator_info { authenticated_data_fields.originator_info result ≡ originator_info.entry }
-        ensures recipient_infos { authenticated_data_fields.recipient_infos result ≡ recipient_infos.entry }
+        ensures originator_info { authenticated_data_fields.originator_info result ≡ option_copied originator_info.entry }
+        ensures recipient_infos { authenticated_data_fields.recipient_infos result ≡ recipient_infos.now }
         ensures mac_algorithm { authenticated_data_fields.mac_algorithm result ≡ mac_algorithm.now }
         ensures digest_algorithm { authenticated_data_fields.digest_algorithm result ≡ option_copied digest_algorithm.entry }
         ensures encap_content_info { authenticated_data_fields.encap_content_info result ≡ encap_content_info.now }
-        ensures auth_attrs { authenticated_data_fields.auth_attrs result ≡ auth_attrs.entry }
+        ensures auth_attrs { authenticated_data_fields.auth_attrs result ≡ option_copied auth_attrs.entry }
         ensures mac { authenticated_data_fields.mac result ≡ mac.entry }
-        ensures unauth_attrs { authenticated_data_fields.unauth_attrs result ≡ unauth_attrs.entry }
+        ensures unauth_attrs { authenticated_data_fields.unauth_attrs result ≡ option_copied unauth_attrs.entry }
     {
         let first = match unauth_attrs {
-            Some(value) => Some(Implicit { value }),
+            Some(value) => Some(Implicit {
+                value: copy_of(value),
+            }),
             None => None,
         };
         let list = Field { first, rest: End };
@@ -112,7 +106,9 @@ impl<'a> AuthenticatedData<'a> {
         let first = mac;
         let rest = Field { first, rest };
         let first = match auth_attrs {
-            Some(value) => Some(Implicit { value }),
+            Some(value) => Some(Implicit {
+                value: copy_of(value),
+            }),
             None => None,
         };
         let rest = Field { first, rest };
@@ -127,10 +123,12 @@ impl<'a> AuthenticatedData<'a> {
         let rest = Field { first, rest };
         let first = copy_of(mac_algorithm);
         let rest = Field { first, rest };
-        let first = recipient_infos;
+        let first = copy_of(recipient_infos);
         let rest = Field { first, rest };
         let first = match originator_info {
-            Some(value) => Some(Implicit { value }),
+            Some(value) => Some(Implicit {
+                value: copy_of(value),
+            }),
             None => None,
         };
         let rest = Field { first, rest };
@@ -138,94 +136,6 @@ impl<'a> AuthenticatedData<'a> {
         let list = Field { first, rest };
         let fields = Fields8 { list };
         AuthenticatedData { fields }
-    }
-
-    /// The values of the fields, in their order.
-    pub fn into_parts(
-        self,
-    ) -> (
-        CmsVersion,
-        Option<OriginatorInfo<'a>>,
-        RecipientInfos<'a>,
-        AlgorithmIdentifier<'a>,
-        Option<AlgorithmIdentifier<'a>>,
-        EncapsulatedContentInfo<'a>,
-        Option<AuthAttributes<'a>>,
-        OctetStringRef<'a>,
-        Option<UnauthAttributes<'a>>,
-    )
-        ensures version { authenticated_data_fields.version self.entry ≡ result.0 }
-        ensures originator_info { authenticated_data_fields.originator_info self.entry ≡ result.1 }
-        ensures recipient_infos { authenticated_data_fields.recipient_infos self.entry ≡ result.2 }
-        ensures mac_algorithm { authenticated_data_fields.mac_algorithm self.entry ≡ result.3 }
-        ensures digest_algorithm { authenticated_data_fields.digest_algorithm self.entry ≡ result.4 }
-        ensures encap_content_info { authenticated_data_fields.encap_content_info self.entry ≡ result.5 }
-        ensures auth_attrs { authenticated_data_fields.auth_attrs self.entry ≡ result.6 }
-        ensures mac { authenticated_data_fields.mac self.entry ≡ result.7 }
-        ensures unauth_attrs { authenticated_data_fields.unauth_attrs self.entry ≡ result.8 }
-    {
-        let Fields8 { list } = self.fields;
-        let Field {
-            first: version,
-            rest,
-        } = list;
-        let Field {
-            first: originator_info,
-            rest,
-        } = rest;
-        let Field {
-            first: recipient_infos,
-            rest,
-        } = rest;
-        let Field {
-            first: mac_algorithm,
-            rest,
-        } = rest;
-        let Field {
-            first: digest_algorithm,
-            rest,
-        } = rest;
-        let Field {
-            first: encap_content_info,
-            rest,
-        } = rest;
-        let Field {
-            first: auth_attrs,
-            rest,
-        } = rest;
-        let Field { first: mac, rest } = rest;
-        let Fields1 { list } = rest;
-        let Field {
-            first: unauth_attrs,
-            ..
-        } = list;
-        let originator_info = match originator_info {
-            Some(tagged) => Some(tagged.value),
-            None => None,
-        };
-        let digest_algorithm = match digest_algorithm {
-            Some(tagged) => Some(tagged.value),
-            None => None,
-        };
-        let auth_attrs = match auth_attrs {
-            Some(tagged) => Some(tagged.value),
-            None => None,
-        };
-        let unauth_attrs = match unauth_attrs {
-            Some(tagged) => Some(tagged.value),
-            None => None,
-        };
-        (
-            version,
-            originator_info,
-            recipient_infos,
-            mac_algorithm,
-            digest_algorithm,
-            encap_content_info,
-            auth_attrs,
-            mac,
-            unauth_attrs,
-        )
     }
 
     /// `version`, `CMSVersion`.
@@ -334,9 +244,9 @@ impl<'a> FormValue for AuthenticatedData<'a> {
 }
 
 impl<'a, R: Source<'a>> DecodeValue<'a, R> for AuthenticatedData<'a> {
-    ghost TAKES_MEMORY = { true };
+    ghost TAKES_MEMORY = { false };
 
-    const TAKES_MEMORY: bool = true;
+    const TAKES_MEMORY: bool = false;
 
     fn decode_value(
         alloc: Global,
@@ -408,64 +318,11 @@ impl<'a> ContentsEq for AuthenticatedData<'a> {
         (part_equality (λ x. x.list) (member_equality ⟦<Option<Implicit<UnauthAttributes<'a>, 3>> as Form>⟧
         (optional_starts ⟦<Implicit<UnauthAttributes<'a>, 3> as Form>⟧ (one_tag ⟦<ImplicitTag<SetTag, 3> as TagMarker>⟧.TAG ⟦<Implicit<UnauthAttributes<'a>, 3> as FormValue>⟧.value.contents))
         ⟦<Option<Implicit<UnauthAttributes<'a>, 3>> as PartialEq>⟧.eq
-        (optional_equality ⟦<Implicit<UnauthAttributes<'a>, 3> as Form>⟧ (one_tag ⟦<ImplicitTag<SetTag, 3> as TagMarker>⟧.TAG ⟦<Implicit<UnauthAttributes<'a>, 3> as FormValue>⟧.value.contents) ⟦<Implicit<UnauthAttributes<'a>, 3> as PartialEq>⟧.eq (one_tag_equality ⟦<ImplicitTag<SetTag, 3> as TagMarker>⟧.TAG ⟦<Implicit<UnauthAttributes<'a>, 3> as FormValue>⟧.value.contents ⟦<Implicit<UnauthAttributes<'a>, 3> as FormValue>⟧.value.comparable ⟦<Implicit<UnauthAttributes<'a>, 3> as PartialEq>⟧.eq (λ v w. (signed_attributes_contents_eq.contents_eq-law v.value w.value))))
+        (optional_equality ⟦<Implicit<UnauthAttributes<'a>, 3> as Form>⟧ (one_tag ⟦<ImplicitTag<SetTag, 3> as TagMarker>⟧.TAG ⟦<Implicit<UnauthAttributes<'a>, 3> as FormValue>⟧.value.contents) ⟦<Implicit<UnauthAttributes<'a>, 3> as PartialEq>⟧.eq (one_tag_equality ⟦<ImplicitTag<SetTag, 3> as TagMarker>⟧.TAG ⟦<Implicit<UnauthAttributes<'a>, 3> as FormValue>⟧.value.contents ⟦<Implicit<UnauthAttributes<'a>, 3> as FormValue>⟧.value.comparable ⟦<Implicit<UnauthAttributes<'a>, 3> as PartialEq>⟧.eq (λ v w. (unsigned_attributes_contents_eq.contents_eq-law v.value w.value))))
         no_equality)))))))))).equal v.fields.list w.fields.list };
 }
 
-impl<'a> CopyLaws for AuthenticatedData<'a> {
-    ghost copies = { copies_of (held_copies (λ v. v.fields.list)
-        (listed_copies (member_copies ⟦<CmsVersion as Form>⟧
-        (tagged_starts ⟦<CmsVersion as Form>⟧ (one_tag ⟦<IntegerTag as TagMarker>⟧.TAG ⟦<u8 as FormValue>⟧.value.contents))
-        (one_tag_copies ⟦<IntegerTag as TagMarker>⟧.TAG (same_copies ⟦<u8 as FormValue>⟧.value.contents ⟦<u8 as FormValue>⟧.value.comparable ⟦<u8 as FormValue>⟧.value.re_reads ⟦<u8 as PartialEq>⟧.eq (λ v. (u8_contents_eq.contents_eq-law v v tt).1 refl)))
-        (member_copies ⟦<Option<Implicit<OriginatorInfo<'a>, 0>> as Form>⟧
-        (optional_starts ⟦<Implicit<OriginatorInfo<'a>, 0> as Form>⟧ (one_tag ⟦<ImplicitTag<SequenceTag, 0> as TagMarker>⟧.TAG ⟦<Implicit<OriginatorInfo<'a>, 0> as FormValue>⟧.value.contents))
-        (optional_copies ⟦<Implicit<OriginatorInfo<'a>, 0> as Form>⟧ (one_tag_copies ⟦<ImplicitTag<SequenceTag, 0> as TagMarker>⟧.TAG (held_copies (λ x. x.value) (record { octets_are = originator_info_duplicate_value.copy_contents-law; comparable_are = originator_info_duplicate_value.copy_comparable_value-law; re_reads_are = originator_info_duplicate_value.copy_re_reads_value-law; equal_are = originator_info_duplicate_value_is_equal.copy_value_is_equal-law }))))
-        (member_copies ⟦<RecipientInfos<'a> as Form>⟧
-        (tagged_starts ⟦<RecipientInfos<'a> as Form>⟧ (one_tag ⟦<SetTag as TagMarker>⟧.TAG ⟦<RecipientInfos<'a> as FormValue>⟧.value.contents))
-        (one_tag_copies ⟦<SetTag as TagMarker>⟧.TAG (record { octets_are = recipient_infos_duplicate_value.copy_contents-law; comparable_are = recipient_infos_duplicate_value.copy_comparable_value-law; re_reads_are = recipient_infos_duplicate_value.copy_re_reads_value-law; equal_are = recipient_infos_duplicate_value_is_equal.copy_value_is_equal-law }))
-        (member_copies ⟦<AlgorithmIdentifier<'a> as Form>⟧
-        (tagged_starts ⟦<AlgorithmIdentifier<'a> as Form>⟧ (one_tag ⟦<SequenceTag as TagMarker>⟧.TAG ⟦<AlgorithmIdentifier<'a> as FormValue>⟧.value.contents))
-        (one_tag_copies ⟦<SequenceTag as TagMarker>⟧.TAG (same_copies ⟦<AlgorithmIdentifier<'a> as FormValue>⟧.value.contents ⟦<AlgorithmIdentifier<'a> as FormValue>⟧.value.comparable ⟦<AlgorithmIdentifier<'a> as FormValue>⟧.value.re_reads ⟦<AlgorithmIdentifier<'a> as PartialEq>⟧.eq algorithm_identifier_eq.laws-law.refl))
-        (member_copies ⟦<Option<Implicit<AlgorithmIdentifier<'a>, 1>> as Form>⟧
-        (optional_starts ⟦<Implicit<AlgorithmIdentifier<'a>, 1> as Form>⟧ (one_tag ⟦<ImplicitTag<SequenceTag, 1> as TagMarker>⟧.TAG ⟦<Implicit<AlgorithmIdentifier<'a>, 1> as FormValue>⟧.value.contents))
-        (optional_copies ⟦<Implicit<AlgorithmIdentifier<'a>, 1> as Form>⟧ (one_tag_copies ⟦<ImplicitTag<SequenceTag, 1> as TagMarker>⟧.TAG (held_copies (λ x. x.value) (same_copies ⟦<AlgorithmIdentifier<'a> as FormValue>⟧.value.contents ⟦<AlgorithmIdentifier<'a> as FormValue>⟧.value.comparable ⟦<AlgorithmIdentifier<'a> as FormValue>⟧.value.re_reads ⟦<AlgorithmIdentifier<'a> as PartialEq>⟧.eq algorithm_identifier_eq.laws-law.refl))))
-        (member_copies ⟦<EncapsulatedContentInfo<'a> as Form>⟧
-        (tagged_starts ⟦<EncapsulatedContentInfo<'a> as Form>⟧ (one_tag ⟦<SequenceTag as TagMarker>⟧.TAG ⟦<EncapsulatedContentInfo<'a> as FormValue>⟧.value.contents))
-        (one_tag_copies ⟦<SequenceTag as TagMarker>⟧.TAG (same_copies ⟦<EncapsulatedContentInfo<'a> as FormValue>⟧.value.contents ⟦<EncapsulatedContentInfo<'a> as FormValue>⟧.value.comparable ⟦<EncapsulatedContentInfo<'a> as FormValue>⟧.value.re_reads ⟦<EncapsulatedContentInfo<'a> as PartialEq>⟧.eq encapsulated_content_info_eq.laws-law.refl))
-        (member_copies ⟦<Option<Implicit<AuthAttributes<'a>, 2>> as Form>⟧
-        (optional_starts ⟦<Implicit<AuthAttributes<'a>, 2> as Form>⟧ (one_tag ⟦<ImplicitTag<SetTag, 2> as TagMarker>⟧.TAG ⟦<Implicit<AuthAttributes<'a>, 2> as FormValue>⟧.value.contents))
-        (optional_copies ⟦<Implicit<AuthAttributes<'a>, 2> as Form>⟧ (one_tag_copies ⟦<ImplicitTag<SetTag, 2> as TagMarker>⟧.TAG (held_copies (λ x. x.value) (record { octets_are = signed_attributes_duplicate_value.copy_contents-law; comparable_are = signed_attributes_duplicate_value.copy_comparable_value-law; re_reads_are = signed_attributes_duplicate_value.copy_re_reads_value-law; equal_are = signed_attributes_duplicate_value_is_equal.copy_value_is_equal-law }))))
-        (member_copies ⟦<OctetStringRef<'a> as Form>⟧
-        (tagged_starts ⟦<OctetStringRef<'a> as Form>⟧ (one_tag ⟦<OctetStringTag as TagMarker>⟧.TAG ⟦<OctetStringRef<'a> as FormValue>⟧.value.contents))
-        (one_tag_copies ⟦<OctetStringTag as TagMarker>⟧.TAG (same_copies ⟦<OctetStringRef<'a> as FormValue>⟧.value.contents ⟦<OctetStringRef<'a> as FormValue>⟧.value.comparable ⟦<OctetStringRef<'a> as FormValue>⟧.value.re_reads ⟦<OctetStringRef<'a> as PartialEq>⟧.eq (λ v. (octetstringref_contents_eq.contents_eq-law v v tt).1 refl)))
-        (part_copies (λ x. x.list) (member_copies ⟦<Option<Implicit<UnauthAttributes<'a>, 3>> as Form>⟧
-        (optional_starts ⟦<Implicit<UnauthAttributes<'a>, 3> as Form>⟧ (one_tag ⟦<ImplicitTag<SetTag, 3> as TagMarker>⟧.TAG ⟦<Implicit<UnauthAttributes<'a>, 3> as FormValue>⟧.value.contents))
-        (optional_copies ⟦<Implicit<UnauthAttributes<'a>, 3> as Form>⟧ (one_tag_copies ⟦<ImplicitTag<SetTag, 3> as TagMarker>⟧.TAG (held_copies (λ x. x.value) (record { octets_are = signed_attributes_duplicate_value.copy_contents-law; comparable_are = signed_attributes_duplicate_value.copy_comparable_value-law; re_reads_are = signed_attributes_duplicate_value.copy_re_reads_value-law; equal_are = signed_attributes_duplicate_value_is_equal.copy_value_is_equal-law }))))
-        no_copies)))))))))))) };
-}
-
-impl<'a> DuplicateValue for AuthenticatedData<'a> {
-    ghost is_copy_value = { λ v w. ⟦<Fields<'a> as DuplicateFields>⟧.are_copies v.fields w.fields };
-
-    ghost takes_memory_to_copy_value = { ⟦<Fields<'a> as DuplicateFields>⟧.take_memory_to_copy };
-
-    fn duplicate_value(&self) -> Result<AuthenticatedData<'a>, Error> {
-        match self.fields.duplicate_fields() {
-            Ok(fields) => Ok(AuthenticatedData { fields }),
-            Err(e) => Err(e),
-        }
-    }
-
-    ghost copy_contents = { ⟦<AuthenticatedData<'a> as CopyLaws>⟧.copies.laws.octets_are };
-
-    ghost copy_comparable_value = { ⟦<AuthenticatedData<'a> as CopyLaws>⟧.copies.laws.comparable_are };
-
-    ghost copy_re_reads_value = { ⟦<AuthenticatedData<'a> as CopyLaws>⟧.copies.laws.re_reads_are };
-}
-
-impl<'a> DuplicateValueIsEqual for AuthenticatedData<'a> {
-    ghost copy_value_is_equal = { ⟦<AuthenticatedData<'a> as CopyLaws>⟧.copies.laws.equal_are };
-}
+impl<'a> CopyIsDuplicate for AuthenticatedData<'a> {}
 
 /// What is read as `AuthenticatedData` is what the page of the grammar says.
 pub fn grammar_of_authenticated_data<'a>()

@@ -2,38 +2,30 @@
 //!
 //! Made by tools/asn1 from enveloped.asn1.
 
-ghost use Rattle.std.specs.Prelude.{◌∷◌, ◌≡◌, [], refl, true};
+ghost use Rattle.std.specs.Prelude.{◌∷◌, ◌≡◌, [], false, refl, true};
 ghost use Rattle.der_cms.specs.contracts.cms.encrypted_content_info.EncryptedContentInfoContentsEq.TheImpl.Laws as encrypted_content_info_contents_eq;
-ghost use Rattle.der_cms.specs.contracts.cms.encrypted_content_info.EncryptedContentInfoEq.TheImpl.Laws as encrypted_content_info_eq;
-ghost use Rattle.der_cms.specs.contracts.cms.signed_attributes.SignedAttributesContentsEq.TheImpl.Laws as signed_attributes_contents_eq;
-ghost use Rattle.der_cms.specs.contracts.cms.signed_attributes.SignedAttributesDuplicateValue.TheImpl.Laws as signed_attributes_duplicate_value;
-ghost use Rattle.der_cms.specs.contracts.cms.signed_attributes.SignedAttributesDuplicateValueIsEqual.TheImpl.Laws as signed_attributes_duplicate_value_is_equal;
+ghost use Rattle.der_cms.specs.contracts.cms.unsigned_attributes.UnsignedAttributesContentsEq.TheImpl.Laws as unsigned_attributes_contents_eq;
 ghost use Rattle.der_elem.specs.FormatMakers.{mapped_format};
 ghost use Rattle.der_elem.specs.contracts.integer.unsigned.U8ContentsEq.TheImpl.Laws as u8_contents_eq;
 ghost use Rattle.der_enveloped.specs.Enveloped.EnvelopedData as enveloped_data_fields;
 ghost use Rattle.der_enveloped.specs.Enveloped.Grammar.{enveloped_data};
 ghost use Rattle.der_enveloped.specs.contracts.enveloped.originator_info.OriginatorInfoContentsEq.TheImpl.Laws as originator_info_contents_eq;
-ghost use Rattle.der_enveloped.specs.contracts.enveloped.originator_info.OriginatorInfoDuplicateValue.TheImpl.Laws as originator_info_duplicate_value;
-ghost use Rattle.der_enveloped.specs.contracts.enveloped.originator_info.OriginatorInfoDuplicateValueIsEqual.TheImpl.Laws as originator_info_duplicate_value_is_equal;
 ghost use Rattle.der_enveloped.specs.contracts.enveloped.recipient_infos.RecipientInfosContentsEq.TheImpl.Laws as recipient_infos_contents_eq;
-ghost use Rattle.der_enveloped.specs.contracts.enveloped.recipient_infos.RecipientInfosDuplicateValue.TheImpl.Laws as recipient_infos_duplicate_value;
-ghost use Rattle.der_enveloped.specs.contracts.enveloped.recipient_infos.RecipientInfosDuplicateValueIsEqual.TheImpl.Laws as recipient_infos_duplicate_value_is_equal;
 ghost use Rattle.der_enveloped.specs.declared.enveloped.enveloped_data.EnvelopedData.{EnvelopedData};
 ghost use Rattle.der_modules.specs.Asn1.{context, implicit_encoding, joined, optional, parse_of};
-ghost use Rattle.der_modules.specs.MemberLaws.{copies_of, held_copies, listed_copies, member_copies, member_equality, no_copies, no_equality, one_tag, one_tag_copies, one_tag_equality, optional_copies, optional_equality, optional_starts, same_copies, tagged_starts};
+ghost use Rattle.der_modules.specs.MemberLaws.{member_equality, no_equality, one_tag, one_tag_equality, optional_equality, optional_starts, tagged_starts};
 
 use crate::enveloped::originator_info::OriginatorInfo;
 use crate::enveloped::recipient_infos::RecipientInfos;
 use der_cms::cms::{CmsVersion, EncryptedContentInfo, UnprotectedAttributes};
 use der_elem::{
-    ContentsEq, DecodeValue, DuplicateValue, DuplicateValueIsEqual, EncodeValue, Form, FormValue,
-    IntegerTag, OneTag, Sequence, SequenceTag, SetTag, TagMarker, ValueOrd,
+    ContentsEq, CopyIsDuplicate, DecodeValue, EncodeValue, Form, FormValue, IntegerTag, OneTag,
+    Sequence, SequenceTag, SetTag, TagMarker, ValueOrd,
 };
 use der_fields::{
-    DecodeFields, DuplicateFields, EncodeFields, End, Field, FieldList, Fields5, FieldsOrd,
-    Implicit, ImplicitTag,
+    DecodeFields, EncodeFields, End, Field, FieldList, Fields5, FieldsOrd, Implicit, ImplicitTag,
 };
-use der_modules::{CopyLaws, copy_of};
+use der_modules::copy_of;
 use der_tlv::{BackWriter, Error, Header, Length, Source, Writer};
 use std::alloc::Global;
 use std::cmp::Ordering;
@@ -57,9 +49,8 @@ type Fields<'a> = Fields5<
 ///      unprotectedAttrs      [1] IMPLICIT UnprotectedAttributes OPTIONAL }
 /// ```
 ///
-/// Reading refuses the first fault of the octets, in their order; `ErrorKind::Memory` (1) where
-/// memory runs out.
-#[derive(PartialEq, Eq, Drop)]
+/// Reading refuses the first fault of the octets, in their order.
+#[derive(Clone, Copy, PartialEq, Eq)]
 pub struct EnvelopedData<'a> {
     fields: Fields<'a>,
 }
@@ -71,28 +62,32 @@ impl<'a> EnvelopedData<'a> {
     /// A value of these fields.
     pub fn new(
         version: CmsVersion,
-        originator_info: Option<OriginatorInfo<'a>>,
-        recipient_infos: RecipientInfos<'a>,
+        originator_info: Option<&OriginatorInfo<'a>>,
+        recipient_infos: &RecipientInfos<'a>,
         encrypted_content_info: &EncryptedContentInfo<'a>,
-        unprotected_attrs: Option<UnprotectedAttributes<'a>>,
+        unprotected_attrs: Option<&UnprotectedAttributes<'a>>,
     ) -> EnvelopedData<'a>
         ensures version { enveloped_data_fields.version result ≡ version }
-        ensures originator_info { enveloped_data_fields.originator_info result ≡ originator_info.entry }
-        ensures recipient_infos { enveloped_data_fields.recipient_infos result ≡ recipient_infos.entry }
+        ensures originator_info { enveloped_data_fields.originator_info result ≡ option_copied originator_info.entry }
+        ensures recipient_infos { enveloped_data_fields.recipient_infos result ≡ recipient_infos.now }
         ensures encrypted_content_info { enveloped_data_fields.encrypted_content_info result ≡ encrypted_content_info.now }
-        ensures unprotected_attrs { enveloped_data_fields.unprotected_attrs result ≡ unprotected_attrs.entry }
+        ensures unprotected_attrs { enveloped_data_fields.unprotected_attrs result ≡ option_copied unprotected_attrs.entry }
     {
         let first = match unprotected_attrs {
-            Some(value) => Some(Implicit { value }),
+            Some(value) => Some(Implicit {
+                value: copy_of(value),
+            }),
             None => None,
         };
         let rest = Field { first, rest: End };
         let first = copy_of(encrypted_content_info);
         let rest = Field { first, rest };
-        let first = recipient_infos;
+        let first = copy_of(recipient_infos);
         let rest = Field { first, rest };
         let first = match originator_info {
-            Some(value) => Some(Implicit { value }),
+            Some(value) => Some(Implicit {
+                value: copy_of(value),
+            }),
             None => None,
         };
         let rest = Field { first, rest };
@@ -100,60 +95,6 @@ impl<'a> EnvelopedData<'a> {
         let list = Field { first, rest };
         let fields = Fields5 { list };
         EnvelopedData { fields }
-    }
-
-    /// The values of the fields, in their order.
-    pub fn into_parts(
-        self,
-    ) -> (
-        CmsVersion,
-        Option<OriginatorInfo<'a>>,
-        RecipientInfos<'a>,
-        EncryptedContentInfo<'a>,
-        Option<UnprotectedAttributes<'a>>,
-    )
-        ensures version { enveloped_data_fields.version self.entry ≡ result.0 }
-        ensures originator_info { enveloped_data_fields.originator_info self.entry ≡ result.1 }
-        ensures recipient_infos { enveloped_data_fields.recipient_infos self.entry ≡ result.2 }
-        ensures encrypted_content_info { enveloped_data_fields.encrypted_content_info self.entry ≡ result.3 }
-        ensures unprotected_attrs { enveloped_data_fields.unprotected_attrs self.entry ≡ result.4 }
-    {
-        let Fields5 { list } = self.fields;
-        let Field {
-            first: version,
-            rest,
-        } = list;
-        let Field {
-            first: originator_info,
-            rest,
-        } = rest;
-        let Field {
-            first: recipient_infos,
-            rest,
-        } = rest;
-        let Field {
-            first: encrypted_content_info,
-            rest,
-        } = rest;
-        let Field {
-            first: unprotected_attrs,
-            ..
-        } = rest;
-        let originator_info = match originator_info {
-            Some(tagged) => Some(tagged.value),
-            None => None,
-        };
-        let unprotected_attrs = match unprotected_attrs {
-            Some(tagged) => Some(tagged.value),
-            None => None,
-        };
-        (
-            version,
-            originator_info,
-            recipient_infos,
-            encrypted_content_info,
-            unprotected_attrs,
-        )
     }
 
     /// `version`, `CMSVersion`.
@@ -223,9 +164,9 @@ impl<'a> FormValue for EnvelopedData<'a> {
 }
 
 impl<'a, R: Source<'a>> DecodeValue<'a, R> for EnvelopedData<'a> {
-    ghost TAKES_MEMORY = { true };
+    ghost TAKES_MEMORY = { false };
 
-    const TAKES_MEMORY: bool = true;
+    const TAKES_MEMORY: bool = false;
 
     fn decode_value(
         alloc: Global,
@@ -281,52 +222,11 @@ impl<'a> ContentsEq for EnvelopedData<'a> {
         (member_equality ⟦<Option<Implicit<UnprotectedAttributes<'a>, 1>> as Form>⟧
         (optional_starts ⟦<Implicit<UnprotectedAttributes<'a>, 1> as Form>⟧ (one_tag ⟦<ImplicitTag<SetTag, 1> as TagMarker>⟧.TAG ⟦<Implicit<UnprotectedAttributes<'a>, 1> as FormValue>⟧.value.contents))
         ⟦<Option<Implicit<UnprotectedAttributes<'a>, 1>> as PartialEq>⟧.eq
-        (optional_equality ⟦<Implicit<UnprotectedAttributes<'a>, 1> as Form>⟧ (one_tag ⟦<ImplicitTag<SetTag, 1> as TagMarker>⟧.TAG ⟦<Implicit<UnprotectedAttributes<'a>, 1> as FormValue>⟧.value.contents) ⟦<Implicit<UnprotectedAttributes<'a>, 1> as PartialEq>⟧.eq (one_tag_equality ⟦<ImplicitTag<SetTag, 1> as TagMarker>⟧.TAG ⟦<Implicit<UnprotectedAttributes<'a>, 1> as FormValue>⟧.value.contents ⟦<Implicit<UnprotectedAttributes<'a>, 1> as FormValue>⟧.value.comparable ⟦<Implicit<UnprotectedAttributes<'a>, 1> as PartialEq>⟧.eq (λ v w. (signed_attributes_contents_eq.contents_eq-law v.value w.value))))
+        (optional_equality ⟦<Implicit<UnprotectedAttributes<'a>, 1> as Form>⟧ (one_tag ⟦<ImplicitTag<SetTag, 1> as TagMarker>⟧.TAG ⟦<Implicit<UnprotectedAttributes<'a>, 1> as FormValue>⟧.value.contents) ⟦<Implicit<UnprotectedAttributes<'a>, 1> as PartialEq>⟧.eq (one_tag_equality ⟦<ImplicitTag<SetTag, 1> as TagMarker>⟧.TAG ⟦<Implicit<UnprotectedAttributes<'a>, 1> as FormValue>⟧.value.contents ⟦<Implicit<UnprotectedAttributes<'a>, 1> as FormValue>⟧.value.comparable ⟦<Implicit<UnprotectedAttributes<'a>, 1> as PartialEq>⟧.eq (λ v w. (unsigned_attributes_contents_eq.contents_eq-law v.value w.value))))
         no_equality))))).equal v.fields.list w.fields.list };
 }
 
-impl<'a> CopyLaws for EnvelopedData<'a> {
-    ghost copies = { copies_of (held_copies (λ v. v.fields.list)
-        (listed_copies (member_copies ⟦<CmsVersion as Form>⟧
-        (tagged_starts ⟦<CmsVersion as Form>⟧ (one_tag ⟦<IntegerTag as TagMarker>⟧.TAG ⟦<u8 as FormValue>⟧.value.contents))
-        (one_tag_copies ⟦<IntegerTag as TagMarker>⟧.TAG (same_copies ⟦<u8 as FormValue>⟧.value.contents ⟦<u8 as FormValue>⟧.value.comparable ⟦<u8 as FormValue>⟧.value.re_reads ⟦<u8 as PartialEq>⟧.eq (λ v. (u8_contents_eq.contents_eq-law v v tt).1 refl)))
-        (member_copies ⟦<Option<Implicit<OriginatorInfo<'a>, 0>> as Form>⟧
-        (optional_starts ⟦<Implicit<OriginatorInfo<'a>, 0> as Form>⟧ (one_tag ⟦<ImplicitTag<SequenceTag, 0> as TagMarker>⟧.TAG ⟦<Implicit<OriginatorInfo<'a>, 0> as FormValue>⟧.value.contents))
-        (optional_copies ⟦<Implicit<OriginatorInfo<'a>, 0> as Form>⟧ (one_tag_copies ⟦<ImplicitTag<SequenceTag, 0> as TagMarker>⟧.TAG (held_copies (λ x. x.value) (record { octets_are = originator_info_duplicate_value.copy_contents-law; comparable_are = originator_info_duplicate_value.copy_comparable_value-law; re_reads_are = originator_info_duplicate_value.copy_re_reads_value-law; equal_are = originator_info_duplicate_value_is_equal.copy_value_is_equal-law }))))
-        (member_copies ⟦<RecipientInfos<'a> as Form>⟧
-        (tagged_starts ⟦<RecipientInfos<'a> as Form>⟧ (one_tag ⟦<SetTag as TagMarker>⟧.TAG ⟦<RecipientInfos<'a> as FormValue>⟧.value.contents))
-        (one_tag_copies ⟦<SetTag as TagMarker>⟧.TAG (record { octets_are = recipient_infos_duplicate_value.copy_contents-law; comparable_are = recipient_infos_duplicate_value.copy_comparable_value-law; re_reads_are = recipient_infos_duplicate_value.copy_re_reads_value-law; equal_are = recipient_infos_duplicate_value_is_equal.copy_value_is_equal-law }))
-        (member_copies ⟦<EncryptedContentInfo<'a> as Form>⟧
-        (tagged_starts ⟦<EncryptedContentInfo<'a> as Form>⟧ (one_tag ⟦<SequenceTag as TagMarker>⟧.TAG ⟦<EncryptedContentInfo<'a> as FormValue>⟧.value.contents))
-        (one_tag_copies ⟦<SequenceTag as TagMarker>⟧.TAG (same_copies ⟦<EncryptedContentInfo<'a> as FormValue>⟧.value.contents ⟦<EncryptedContentInfo<'a> as FormValue>⟧.value.comparable ⟦<EncryptedContentInfo<'a> as FormValue>⟧.value.re_reads ⟦<EncryptedContentInfo<'a> as PartialEq>⟧.eq encrypted_content_info_eq.laws-law.refl))
-        (member_copies ⟦<Option<Implicit<UnprotectedAttributes<'a>, 1>> as Form>⟧
-        (optional_starts ⟦<Implicit<UnprotectedAttributes<'a>, 1> as Form>⟧ (one_tag ⟦<ImplicitTag<SetTag, 1> as TagMarker>⟧.TAG ⟦<Implicit<UnprotectedAttributes<'a>, 1> as FormValue>⟧.value.contents))
-        (optional_copies ⟦<Implicit<UnprotectedAttributes<'a>, 1> as Form>⟧ (one_tag_copies ⟦<ImplicitTag<SetTag, 1> as TagMarker>⟧.TAG (held_copies (λ x. x.value) (record { octets_are = signed_attributes_duplicate_value.copy_contents-law; comparable_are = signed_attributes_duplicate_value.copy_comparable_value-law; re_reads_are = signed_attributes_duplicate_value.copy_re_reads_value-law; equal_are = signed_attributes_duplicate_value_is_equal.copy_value_is_equal-law }))))
-        no_copies))))))) };
-}
-
-impl<'a> DuplicateValue for EnvelopedData<'a> {
-    ghost is_copy_value = { λ v w. ⟦<Fields<'a> as DuplicateFields>⟧.are_copies v.fields w.fields };
-
-    ghost takes_memory_to_copy_value = { ⟦<Fields<'a> as DuplicateFields>⟧.take_memory_to_copy };
-
-    fn duplicate_value(&self) -> Result<EnvelopedData<'a>, Error> {
-        match self.fields.duplicate_fields() {
-            Ok(fields) => Ok(EnvelopedData { fields }),
-            Err(e) => Err(e),
-        }
-    }
-
-    ghost copy_contents = { ⟦<EnvelopedData<'a> as CopyLaws>⟧.copies.laws.octets_are };
-
-    ghost copy_comparable_value = { ⟦<EnvelopedData<'a> as CopyLaws>⟧.copies.laws.comparable_are };
-
-    ghost copy_re_reads_value = { ⟦<EnvelopedData<'a> as CopyLaws>⟧.copies.laws.re_reads_are };
-}
-
-impl<'a> DuplicateValueIsEqual for EnvelopedData<'a> {
-    ghost copy_value_is_equal = { ⟦<EnvelopedData<'a> as CopyLaws>⟧.copies.laws.equal_are };
-}
+impl<'a> CopyIsDuplicate for EnvelopedData<'a> {}
 
 /// What is read as `EnvelopedData` is what the page of the grammar says.
 pub fn grammar_of_enveloped_data<'a>()

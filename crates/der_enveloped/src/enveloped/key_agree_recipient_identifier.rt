@@ -142,9 +142,9 @@ impl<'a> KnownTags for KeyAgreeRecipientIdentifier<'a> {
 }
 
 impl<'a, R: Source<'a>> Decode<'a, R> for KeyAgreeRecipientIdentifier<'a> {
-    ghost TAKES_MEMORY = { true };
+    ghost TAKES_MEMORY = { false };
 
-    const TAKES_MEMORY: bool = true;
+    const TAKES_MEMORY: bool = false;
 
     fn decode(alloc: Global, reader: &mut R) -> Result<KeyAgreeRecipientIdentifier<'a>, Error> {
         match Tree::<'a>::decode(alloc, reader) {
@@ -160,9 +160,9 @@ impl<'a, R: Source<'a>> Decode<'a, R> for KeyAgreeRecipientIdentifier<'a> {
 }
 
 impl<'a, R: Source<'a>> DecodeField<'a, R> for KeyAgreeRecipientIdentifier<'a> {
-    ghost TAKES_MEMORY = { true };
+    ghost TAKES_MEMORY = { false };
 
-    const TAKES_MEMORY: bool = true;
+    const TAKES_MEMORY: bool = false;
 
     fn decode_field(
         alloc: Global,

@@ -2,37 +2,32 @@
 //!
 //! Made by tools/asn1 from enveloped.asn1.
 
-ghost use Rattle.std.specs.Prelude.{◌∷◌, ◌≡◌, [], refl, true};
+ghost use Rattle.std.specs.Prelude.{◌∷◌, ◌≡◌, [], false, refl};
 ghost use Rattle.der_elem.specs.FormatMakers.{mapped_format};
 ghost use Rattle.der_elem.specs.contracts.integer.unsigned.U8ContentsEq.TheImpl.Laws as u8_contents_eq;
 ghost use Rattle.der_enveloped.specs.Enveloped.Grammar.{key_agree_recipient_info};
 ghost use Rattle.der_enveloped.specs.Enveloped.KeyAgreeRecipientInfo as key_agree_recipient_info_fields;
 ghost use Rattle.der_enveloped.specs.contracts.enveloped.originator_identifier_or_key.OriginatorIdentifierOrKeyEncodingEq.TheImpl.Laws as originator_identifier_or_key_encoding_eq;
-ghost use Rattle.der_enveloped.specs.contracts.enveloped.originator_identifier_or_key.OriginatorIdentifierOrKeyEq.TheImpl.Laws as originator_identifier_or_key_eq;
 ghost use Rattle.der_enveloped.specs.contracts.enveloped.originator_identifier_or_key.OriginatorIdentifierOrKeyTagged.TheImpl.Laws as originator_identifier_or_key_tagged;
 ghost use Rattle.der_enveloped.specs.contracts.enveloped.recipient_encrypted_keys.RecipientEncryptedKeysContentsEq.TheImpl.Laws as recipient_encrypted_keys_contents_eq;
-ghost use Rattle.der_enveloped.specs.contracts.enveloped.recipient_encrypted_keys.RecipientEncryptedKeysDuplicateValue.TheImpl.Laws as recipient_encrypted_keys_duplicate_value;
-ghost use Rattle.der_enveloped.specs.contracts.enveloped.recipient_encrypted_keys.RecipientEncryptedKeysDuplicateValueIsEqual.TheImpl.Laws as recipient_encrypted_keys_duplicate_value_is_equal;
 ghost use Rattle.der_enveloped.specs.declared.enveloped.key_agree_recipient_info.KeyAgreeRecipientInfo.{KeyAgreeRecipientInfo};
 ghost use Rattle.der_modules.specs.Asn1.{context, explicit_encoding, joined, optional, parse_of};
-ghost use Rattle.der_modules.specs.MemberLaws.{copies_of, held_copies, listed_copies, member_copies, member_equality, no_copies, no_equality, one_tag, one_tag_copies, one_tag_equality, optional_copies, optional_equality, optional_starts, own_tags, same_copies, tagged_starts};
+ghost use Rattle.der_modules.specs.MemberLaws.{member_equality, no_equality, one_tag, one_tag_equality, optional_equality, optional_starts, own_tags, tagged_starts};
 ghost use Rattle.der_opaque.specs.contracts.octet_string_ref.OctetStringRefContentsEq.TheImpl.Laws as octetstringref_contents_eq;
 ghost use Rattle.der_pkix.specs.contracts.algorithm_identifier.AlgorithmIdentifierContentsEq.TheImpl.Laws as algorithm_identifier_contents_eq;
-ghost use Rattle.der_pkix.specs.contracts.algorithm_identifier.AlgorithmIdentifierEq.TheImpl.Laws as algorithm_identifier_eq;
 
 use crate::enveloped::aliases::UserKeyingMaterial;
 use crate::enveloped::originator_identifier_or_key::OriginatorIdentifierOrKey;
 use crate::enveloped::recipient_encrypted_keys::RecipientEncryptedKeys;
 use der_cms::cms::CmsVersion;
 use der_elem::{
-    ContentsEq, DecodeValue, DuplicateValue, DuplicateValueIsEqual, EncodeValue, Form, FormValue,
-    IntegerTag, OctetStringTag, OneTag, Sequence, SequenceTag, TagMarker, Tagged, ValueOrd,
+    ContentsEq, CopyIsDuplicate, DecodeValue, EncodeValue, Form, FormValue, IntegerTag,
+    OctetStringTag, OneTag, Sequence, SequenceTag, TagMarker, Tagged, ValueOrd,
 };
 use der_fields::{
-    DecodeFields, DuplicateFields, EncodeFields, End, Explicit, ExplicitTag, Field, FieldList,
-    Fields5, FieldsOrd,
+    DecodeFields, EncodeFields, End, Explicit, ExplicitTag, Field, FieldList, Fields5, FieldsOrd,
 };
-use der_modules::{CopyLaws, copy_of};
+use der_modules::copy_of;
 use der_opaque::OctetStringRef;
 use der_pkix::AlgorithmIdentifier;
 use der_tlv::{BackWriter, Error, Header, Length, Source, Writer};
@@ -58,9 +53,8 @@ type Fields<'a> = Fields5<
 ///      recipientEncryptedKeys  RecipientEncryptedKeys }
 /// ```
 ///
-/// Reading refuses the first fault of the octets, in their order; `ErrorKind::Memory` (1) where
-/// memory runs out.
-#[derive(PartialEq, Eq, Drop)]
+/// Reading refuses the first fault of the octets, in their order.
+#[derive(Clone, Copy, PartialEq, Eq)]
 pub struct KeyAgreeRecipientInfo<'a> {
     fields: Fields<'a>,
 }
@@ -75,15 +69,15 @@ impl<'a> KeyAgreeRecipientInfo<'a> {
         originator: &OriginatorIdentifierOrKey<'a>,
         ukm: Option<UserKeyingMaterial<'a>>,
         key_encryption_algorithm: &AlgorithmIdentifier<'a>,
-        recipient_encrypted_keys: RecipientEncryptedKeys<'a>,
+        recipient_encrypted_keys: &RecipientEncryptedKeys<'a>,
     ) -> KeyAgreeRecipientInfo<'a>
         ensures version { key_agree_recipient_info_fields.version result ≡ version }
         ensures originator { key_agree_recipient_info_fields.originator result ≡ originator.now }
         ensures ukm { key_agree_recipient_info_fields.ukm result ≡ ukm.entry }
         ensures key_encryption_algorithm { key_agree_recipient_info_fields.key_encryption_algorithm result ≡ key_encryption_algorithm.now }
-        ensures recipient_encrypted_keys { key_agree_recipient_info_fields.recipient_encrypted_keys result ≡ recipient_encrypted_keys.entry }
+        ensures recipient_encrypted_keys { key_agree_recipient_info_fields.recipient_encrypted_keys result ≡ recipient_encrypted_keys.now }
     {
-        let first = recipient_encrypted_keys;
+        let first = copy_of(recipient_encrypted_keys);
         let rest = Field { first, rest: End };
         let first = copy_of(key_encryption_algorithm);
         let rest = Field { first, rest };
@@ -105,54 +99,6 @@ impl<'a> KeyAgreeRecipientInfo<'a> {
         let list = Field { first, rest };
         let fields = Fields5 { list };
         KeyAgreeRecipientInfo { fields }
-    }
-
-    /// The values of the fields, in their order.
-    pub fn into_parts(
-        self,
-    ) -> (
-        CmsVersion,
-        OriginatorIdentifierOrKey<'a>,
-        Option<UserKeyingMaterial<'a>>,
-        AlgorithmIdentifier<'a>,
-        RecipientEncryptedKeys<'a>,
-    )
-        ensures version { key_agree_recipient_info_fields.version self.entry ≡ result.0 }
-        ensures originator { key_agree_recipient_info_fields.originator self.entry ≡ result.1 }
-        ensures ukm { key_agree_recipient_info_fields.ukm self.entry ≡ result.2 }
-        ensures key_encryption_algorithm { key_agree_recipient_info_fields.key_encryption_algorithm self.entry ≡ result.3 }
-        ensures recipient_encrypted_keys { key_agree_recipient_info_fields.recipient_encrypted_keys self.entry ≡ result.4 }
-    {
-        let Fields5 { list } = self.fields;
-        let Field {
-            first: version,
-            rest,
-        } = list;
-        let Field {
-            first: originator,
-            rest,
-        } = rest;
-        let Field { first: ukm, rest } = rest;
-        let Field {
-            first: key_encryption_algorithm,
-            rest,
-        } = rest;
-        let Field {
-            first: recipient_encrypted_keys,
-            ..
-        } = rest;
-        let originator = originator.fields.first;
-        let ukm = match ukm {
-            Some(tagged) => Some(tagged.fields.first),
-            None => None,
-        };
-        (
-            version,
-            originator,
-            ukm,
-            key_encryption_algorithm,
-            recipient_encrypted_keys,
-        )
     }
 
     /// `version`, `CMSVersion`.
@@ -219,9 +165,9 @@ impl<'a> FormValue for KeyAgreeRecipientInfo<'a> {
 }
 
 impl<'a, R: Source<'a>> DecodeValue<'a, R> for KeyAgreeRecipientInfo<'a> {
-    ghost TAKES_MEMORY = { true };
+    ghost TAKES_MEMORY = { false };
 
-    const TAKES_MEMORY: bool = true;
+    const TAKES_MEMORY: bool = false;
 
     fn decode_value(
         alloc: Global,
@@ -289,54 +235,7 @@ impl<'a> ContentsEq for KeyAgreeRecipientInfo<'a> {
         no_equality))))).equal v.fields.list w.fields.list };
 }
 
-impl<'a> CopyLaws for KeyAgreeRecipientInfo<'a> {
-    ghost copies = { copies_of (held_copies (λ v. v.fields.list)
-        (listed_copies (member_copies ⟦<CmsVersion as Form>⟧
-        (tagged_starts ⟦<CmsVersion as Form>⟧ (one_tag ⟦<IntegerTag as TagMarker>⟧.TAG ⟦<u8 as FormValue>⟧.value.contents))
-        (one_tag_copies ⟦<IntegerTag as TagMarker>⟧.TAG (same_copies ⟦<u8 as FormValue>⟧.value.contents ⟦<u8 as FormValue>⟧.value.comparable ⟦<u8 as FormValue>⟧.value.re_reads ⟦<u8 as PartialEq>⟧.eq (λ v. (u8_contents_eq.contents_eq-law v v tt).1 refl)))
-        (member_copies ⟦<Explicit<OriginatorIdentifierOrKey<'a>, 0> as Form>⟧
-        (tagged_starts ⟦<Explicit<OriginatorIdentifierOrKey<'a>, 0> as Form>⟧ (one_tag ⟦<ExplicitTag<0> as TagMarker>⟧.TAG ⟦<Explicit<OriginatorIdentifierOrKey<'a>, 0> as FormValue>⟧.value.contents))
-        (one_tag_copies ⟦<ExplicitTag<0> as TagMarker>⟧.TAG (held_copies (λ x. x.fields) (listed_copies (member_copies ⟦<OriginatorIdentifierOrKey<'a> as Form>⟧
-        (tagged_starts ⟦<OriginatorIdentifierOrKey<'a> as Form>⟧ (own_tags ⟦<OriginatorIdentifierOrKey<'a> as Form>⟧.tags ⟦<OriginatorIdentifierOrKey<'a> as Form>⟧.first_tag_of ⟦<OriginatorIdentifierOrKey<'a> as Form>⟧.encoding ⟦<OriginatorIdentifierOrKey<'a> as Tagged>⟧.tag_of ⟦<OriginatorIdentifierOrKey<'a> as FormValue>⟧.value.contents originator_identifier_or_key_tagged.encoding_is-law originator_identifier_or_key_tagged.own_tag-law originator_identifier_or_key_tagged.first_tag_is-law))
-        (same_copies ⟦<OriginatorIdentifierOrKey<'a> as Form>⟧.encoding ⟦<OriginatorIdentifierOrKey<'a> as Form>⟧.comparable ⟦<OriginatorIdentifierOrKey<'a> as Form>⟧.re_reads ⟦<OriginatorIdentifierOrKey<'a> as PartialEq>⟧.eq originator_identifier_or_key_eq.laws-law.refl)
-        no_copies))))
-        (member_copies ⟦<Option<Explicit<UserKeyingMaterial<'a>, 1>> as Form>⟧
-        (optional_starts ⟦<Explicit<UserKeyingMaterial<'a>, 1> as Form>⟧ (one_tag ⟦<ExplicitTag<1> as TagMarker>⟧.TAG ⟦<Explicit<UserKeyingMaterial<'a>, 1> as FormValue>⟧.value.contents))
-        (optional_copies ⟦<Explicit<UserKeyingMaterial<'a>, 1> as Form>⟧ (one_tag_copies ⟦<ExplicitTag<1> as TagMarker>⟧.TAG (held_copies (λ x. x.fields) (listed_copies (member_copies ⟦<UserKeyingMaterial<'a> as Form>⟧
-        (tagged_starts ⟦<UserKeyingMaterial<'a> as Form>⟧ (one_tag ⟦<OctetStringTag as TagMarker>⟧.TAG ⟦<OctetStringRef<'a> as FormValue>⟧.value.contents))
-        (one_tag_copies ⟦<OctetStringTag as TagMarker>⟧.TAG (same_copies ⟦<OctetStringRef<'a> as FormValue>⟧.value.contents ⟦<OctetStringRef<'a> as FormValue>⟧.value.comparable ⟦<OctetStringRef<'a> as FormValue>⟧.value.re_reads ⟦<OctetStringRef<'a> as PartialEq>⟧.eq (λ v. (octetstringref_contents_eq.contents_eq-law v v tt).1 refl)))
-        no_copies)))))
-        (member_copies ⟦<AlgorithmIdentifier<'a> as Form>⟧
-        (tagged_starts ⟦<AlgorithmIdentifier<'a> as Form>⟧ (one_tag ⟦<SequenceTag as TagMarker>⟧.TAG ⟦<AlgorithmIdentifier<'a> as FormValue>⟧.value.contents))
-        (one_tag_copies ⟦<SequenceTag as TagMarker>⟧.TAG (same_copies ⟦<AlgorithmIdentifier<'a> as FormValue>⟧.value.contents ⟦<AlgorithmIdentifier<'a> as FormValue>⟧.value.comparable ⟦<AlgorithmIdentifier<'a> as FormValue>⟧.value.re_reads ⟦<AlgorithmIdentifier<'a> as PartialEq>⟧.eq algorithm_identifier_eq.laws-law.refl))
-        (member_copies ⟦<RecipientEncryptedKeys<'a> as Form>⟧
-        (tagged_starts ⟦<RecipientEncryptedKeys<'a> as Form>⟧ (one_tag ⟦<SequenceTag as TagMarker>⟧.TAG ⟦<RecipientEncryptedKeys<'a> as FormValue>⟧.value.contents))
-        (one_tag_copies ⟦<SequenceTag as TagMarker>⟧.TAG (record { octets_are = recipient_encrypted_keys_duplicate_value.copy_contents-law; comparable_are = recipient_encrypted_keys_duplicate_value.copy_comparable_value-law; re_reads_are = recipient_encrypted_keys_duplicate_value.copy_re_reads_value-law; equal_are = recipient_encrypted_keys_duplicate_value_is_equal.copy_value_is_equal-law }))
-        no_copies))))))) };
-}
-
-impl<'a> DuplicateValue for KeyAgreeRecipientInfo<'a> {
-    ghost is_copy_value = { λ v w. ⟦<Fields<'a> as DuplicateFields>⟧.are_copies v.fields w.fields };
-
-    ghost takes_memory_to_copy_value = { ⟦<Fields<'a> as DuplicateFields>⟧.take_memory_to_copy };
-
-    fn duplicate_value(&self) -> Result<KeyAgreeRecipientInfo<'a>, Error> {
-        match self.fields.duplicate_fields() {
-            Ok(fields) => Ok(KeyAgreeRecipientInfo { fields }),
-            Err(e) => Err(e),
-        }
-    }
-
-    ghost copy_contents = { ⟦<KeyAgreeRecipientInfo<'a> as CopyLaws>⟧.copies.laws.octets_are };
-
-    ghost copy_comparable_value = { ⟦<KeyAgreeRecipientInfo<'a> as CopyLaws>⟧.copies.laws.comparable_are };
-
-    ghost copy_re_reads_value = { ⟦<KeyAgreeRecipientInfo<'a> as CopyLaws>⟧.copies.laws.re_reads_are };
-}
-
-impl<'a> DuplicateValueIsEqual for KeyAgreeRecipientInfo<'a> {
-    ghost copy_value_is_equal = { ⟦<KeyAgreeRecipientInfo<'a> as CopyLaws>⟧.copies.laws.equal_are };
-}
+impl<'a> CopyIsDuplicate for KeyAgreeRecipientInfo<'a> {}
 
 /// What is read as `KeyAgreeRecipientInfo` is what the page of the grammar says.
 pub fn grammar_of_key_agree_recipient_info<'a>()

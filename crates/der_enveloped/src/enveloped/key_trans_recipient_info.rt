@@ -2,7 +2,7 @@
 //!
 //! Made by tools/asn1 from enveloped.asn1.
 
-ghost use Rattle.std.specs.Prelude.{◌∷◌, ◌≡◌, [], refl, true};
+ghost use Rattle.std.specs.Prelude.{◌∷◌, ◌≡◌, [], false, refl};
 ghost use Rattle.der_cms.specs.contracts.cms.signer_identifier.SignerIdentifierEncodingEq.TheImpl.Laws as signer_identifier_encoding_eq;
 ghost use Rattle.der_cms.specs.contracts.cms.signer_identifier.SignerIdentifierTagged.TheImpl.Laws as signer_identifier_tagged;
 ghost use Rattle.der_elem.specs.FormatMakers.{mapped_format};
@@ -46,8 +46,7 @@ type Fields<'a> = Fields4<
 ///      encryptedKey            OCTET STRING }
 /// ```
 ///
-/// Reading refuses the first fault of the octets, in their order; `ErrorKind::Memory` (1) where
-/// memory runs out.
+/// Reading refuses the first fault of the octets, in their order.
 #[derive(Clone, Copy, PartialEq, Eq)]
 pub struct KeyTransRecipientInfo<'a> {
     fields: Fields<'a>,
@@ -133,9 +132,9 @@ impl<'a> FormValue for KeyTransRecipientInfo<'a> {
 }
 
 impl<'a, R: Source<'a>> DecodeValue<'a, R> for KeyTransRecipientInfo<'a> {
-    ghost TAKES_MEMORY = { true };
+    ghost TAKES_MEMORY = { false };
 
-    const TAKES_MEMORY: bool = true;
+    const TAKES_MEMORY: bool = false;
 
     fn decode_value(
         alloc: Global,

@@ -157,9 +157,9 @@ impl<'a> KnownTags for OriginatorIdentifierOrKey<'a> {
 }
 
 impl<'a, R: Source<'a>> Decode<'a, R> for OriginatorIdentifierOrKey<'a> {
-    ghost TAKES_MEMORY = { true };
+    ghost TAKES_MEMORY = { false };
 
-    const TAKES_MEMORY: bool = true;
+    const TAKES_MEMORY: bool = false;
 
     fn decode(alloc: Global, reader: &mut R) -> Result<OriginatorIdentifierOrKey<'a>, Error> {
         match Tree::<'a>::decode(alloc, reader) {
@@ -178,9 +178,9 @@ impl<'a, R: Source<'a>> Decode<'a, R> for OriginatorIdentifierOrKey<'a> {
 }
 
 impl<'a, R: Source<'a>> DecodeField<'a, R> for OriginatorIdentifierOrKey<'a> {
-    ghost TAKES_MEMORY = { true };
+    ghost TAKES_MEMORY = { false };
 
-    const TAKES_MEMORY: bool = true;
+    const TAKES_MEMORY: bool = false;
 
     fn decode_field(alloc: Global, reader: &mut R) -> Result<OriginatorIdentifierOrKey<'a>, Error> {
         OriginatorIdentifierOrKey::decode(alloc, reader)

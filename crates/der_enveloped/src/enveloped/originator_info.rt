@@ -2,30 +2,25 @@
 //!
 //! Made by tools/asn1 from enveloped.asn1.
 
-ghost use Rattle.std.specs.Prelude.{◌∷◌, ◌≡◌, [], refl, true};
+ghost use Rattle.std.specs.Prelude.{◌∷◌, ◌≡◌, [], false, refl, true};
 ghost use Rattle.der_cms.specs.contracts.cms.certificate_set.CertificateSetContentsEq.TheImpl.Laws as certificate_set_contents_eq;
-ghost use Rattle.der_cms.specs.contracts.cms.certificate_set.CertificateSetDuplicateValue.TheImpl.Laws as certificate_set_duplicate_value;
-ghost use Rattle.der_cms.specs.contracts.cms.certificate_set.CertificateSetDuplicateValueIsEqual.TheImpl.Laws as certificate_set_duplicate_value_is_equal;
 ghost use Rattle.der_cms.specs.contracts.cms.revocation_info_choices.RevocationInfoChoicesContentsEq.TheImpl.Laws as revocation_info_choices_contents_eq;
-ghost use Rattle.der_cms.specs.contracts.cms.revocation_info_choices.RevocationInfoChoicesDuplicateValue.TheImpl.Laws as revocation_info_choices_duplicate_value;
-ghost use Rattle.der_cms.specs.contracts.cms.revocation_info_choices.RevocationInfoChoicesDuplicateValueIsEqual.TheImpl.Laws as revocation_info_choices_duplicate_value_is_equal;
 ghost use Rattle.der_elem.specs.FormatMakers.{mapped_format};
 ghost use Rattle.der_enveloped.specs.Enveloped.Grammar.{originator_info};
 ghost use Rattle.der_enveloped.specs.Enveloped.OriginatorInfo as originator_info_fields;
 ghost use Rattle.der_enveloped.specs.declared.enveloped.originator_info.OriginatorInfo.{OriginatorInfo};
 ghost use Rattle.der_modules.specs.Asn1.{context, implicit_encoding, joined, optional, parse_of};
-ghost use Rattle.der_modules.specs.MemberLaws.{copies_of, held_copies, listed_copies, member_copies, member_equality, no_copies, no_equality, one_tag, one_tag_copies, one_tag_equality, optional_copies, optional_equality, optional_starts};
+ghost use Rattle.der_modules.specs.MemberLaws.{member_equality, no_equality, one_tag, one_tag_equality, optional_equality, optional_starts};
 
 use der_cms::cms::{CertificateSet, RevocationInfoChoices};
 use der_elem::{
-    ContentsEq, DecodeValue, DuplicateValue, DuplicateValueIsEqual, EncodeValue, Form, FormValue,
-    OneTag, Sequence, SequenceTag, SetTag, TagMarker, ValueOrd,
+    ContentsEq, CopyIsDuplicate, DecodeValue, EncodeValue, Form, FormValue, OneTag, Sequence,
+    SequenceTag, SetTag, TagMarker, ValueOrd,
 };
 use der_fields::{
-    DecodeFields, DuplicateFields, EncodeFields, End, Field, FieldList, Fields2, FieldsOrd,
-    Implicit, ImplicitTag,
+    DecodeFields, EncodeFields, End, Field, FieldList, Fields2, FieldsOrd, Implicit, ImplicitTag,
 };
-use der_modules::CopyLaws;
+use der_modules::copy_of;
 use der_tlv::{BackWriter, Error, Header, Length, Source, Writer};
 use std::alloc::Global;
 use std::cmp::Ordering;
@@ -43,9 +38,8 @@ type Fields<'a> = Fields2<
 ///      crls   [1] IMPLICIT RevocationInfoChoices OPTIONAL }
 /// ```
 ///
-/// Reading refuses the first fault of the octets, in their order; `ErrorKind::Memory` (1) where
-/// memory runs out.
-#[derive(PartialEq, Eq, Drop)]
+/// Reading refuses the first fault of the octets, in their order.
+#[derive(Clone, Copy, PartialEq, Eq)]
 pub struct OriginatorInfo<'a> {
     fields: Fields<'a>,
 }
@@ -56,48 +50,28 @@ impl<'a> OriginatorInfo<'a> {
 
     /// A value of these fields.
     pub fn new(
-        certs: Option<CertificateSet<'a>>,
-        crls: Option<RevocationInfoChoices<'a>>,
+        certs: Option<&CertificateSet<'a>>,
+        crls: Option<&RevocationInfoChoices<'a>>,
     ) -> OriginatorInfo<'a>
-        ensures certs { originator_info_fields.certs result ≡ certs.entry }
-        ensures crls { originator_info_fields.crls result ≡ crls.entry }
+        ensures certs { originator_info_fields.certs result ≡ option_copied certs.entry }
+        ensures crls { originator_info_fields.crls result ≡ option_copied crls.entry }
     {
         let first = match crls {
-            Some(value) => Some(Implicit { value }),
+            Some(value) => Some(Implicit {
+                value: copy_of(value),
+            }),
             None => None,
         };
         let rest = Field { first, rest: End };
         let first = match certs {
-            Some(value) => Some(Implicit { value }),
+            Some(value) => Some(Implicit {
+                value: copy_of(value),
+            }),
             None => None,
         };
         let list = Field { first, rest };
         let fields = Fields2 { list };
         OriginatorInfo { fields }
-    }
-
-    /// The values of the fields, in their order.
-    pub fn into_parts(
-        self,
-    ) -> (
-        Option<CertificateSet<'a>>,
-        Option<RevocationInfoChoices<'a>>,
-    )
-        ensures certs { originator_info_fields.certs self.entry ≡ result.0 }
-        ensures crls { originator_info_fields.crls self.entry ≡ result.1 }
-    {
-        let Fields2 { list } = self.fields;
-        let Field { first: certs, rest } = list;
-        let Field { first: crls, .. } = rest;
-        let certs = match certs {
-            Some(tagged) => Some(tagged.value),
-            None => None,
-        };
-        let crls = match crls {
-            Some(tagged) => Some(tagged.value),
-            None => None,
-        };
-        (certs, crls)
     }
 
     /// `certs`, `[0] IMPLICIT CertificateSet OPTIONAL`.
@@ -143,9 +117,9 @@ impl<'a> FormValue for OriginatorInfo<'a> {
 }
 
 impl<'a, R: Source<'a>> DecodeValue<'a, R> for OriginatorInfo<'a> {
-    ghost TAKES_MEMORY = { true };
+    ghost TAKES_MEMORY = { false };
 
-    const TAKES_MEMORY: bool = true;
+    const TAKES_MEMORY: bool = false;
 
     fn decode_value(
         alloc: Global,
@@ -193,39 +167,7 @@ impl<'a> ContentsEq for OriginatorInfo<'a> {
         no_equality)).equal v.fields.list w.fields.list };
 }
 
-impl<'a> CopyLaws for OriginatorInfo<'a> {
-    ghost copies = { copies_of (held_copies (λ v. v.fields.list)
-        (listed_copies (member_copies ⟦<Option<Implicit<CertificateSet<'a>, 0>> as Form>⟧
-        (optional_starts ⟦<Implicit<CertificateSet<'a>, 0> as Form>⟧ (one_tag ⟦<ImplicitTag<SetTag, 0> as TagMarker>⟧.TAG ⟦<Implicit<CertificateSet<'a>, 0> as FormValue>⟧.value.contents))
-        (optional_copies ⟦<Implicit<CertificateSet<'a>, 0> as Form>⟧ (one_tag_copies ⟦<ImplicitTag<SetTag, 0> as TagMarker>⟧.TAG (held_copies (λ x. x.value) (record { octets_are = certificate_set_duplicate_value.copy_contents-law; comparable_are = certificate_set_duplicate_value.copy_comparable_value-law; re_reads_are = certificate_set_duplicate_value.copy_re_reads_value-law; equal_are = certificate_set_duplicate_value_is_equal.copy_value_is_equal-law }))))
-        (member_copies ⟦<Option<Implicit<RevocationInfoChoices<'a>, 1>> as Form>⟧
-        (optional_starts ⟦<Implicit<RevocationInfoChoices<'a>, 1> as Form>⟧ (one_tag ⟦<ImplicitTag<SetTag, 1> as TagMarker>⟧.TAG ⟦<Implicit<RevocationInfoChoices<'a>, 1> as FormValue>⟧.value.contents))
-        (optional_copies ⟦<Implicit<RevocationInfoChoices<'a>, 1> as Form>⟧ (one_tag_copies ⟦<ImplicitTag<SetTag, 1> as TagMarker>⟧.TAG (held_copies (λ x. x.value) (record { octets_are = revocation_info_choices_duplicate_value.copy_contents-law; comparable_are = revocation_info_choices_duplicate_value.copy_comparable_value-law; re_reads_are = revocation_info_choices_duplicate_value.copy_re_reads_value-law; equal_are = revocation_info_choices_duplicate_value_is_equal.copy_value_is_equal-law }))))
-        no_copies)))) };
-}
-
-impl<'a> DuplicateValue for OriginatorInfo<'a> {
-    ghost is_copy_value = { λ v w. ⟦<Fields<'a> as DuplicateFields>⟧.are_copies v.fields w.fields };
-
-    ghost takes_memory_to_copy_value = { ⟦<Fields<'a> as DuplicateFields>⟧.take_memory_to_copy };
-
-    fn duplicate_value(&self) -> Result<OriginatorInfo<'a>, Error> {
-        match self.fields.duplicate_fields() {
-            Ok(fields) => Ok(OriginatorInfo { fields }),
-            Err(e) => Err(e),
-        }
-    }
-
-    ghost copy_contents = { ⟦<OriginatorInfo<'a> as CopyLaws>⟧.copies.laws.octets_are };
-
-    ghost copy_comparable_value = { ⟦<OriginatorInfo<'a> as CopyLaws>⟧.copies.laws.comparable_are };
-
-    ghost copy_re_reads_value = { ⟦<OriginatorInfo<'a> as CopyLaws>⟧.copies.laws.re_reads_are };
-}
-
-impl<'a> DuplicateValueIsEqual for OriginatorInfo<'a> {
-    ghost copy_value_is_equal = { ⟦<OriginatorInfo<'a> as CopyLaws>⟧.copies.laws.equal_are };
-}
+impl<'a> CopyIsDuplicate for OriginatorInfo<'a> {}
 
 /// What is read as `OriginatorInfo` is what the page of the grammar says.
 pub fn grammar_of_originator_info<'a>()

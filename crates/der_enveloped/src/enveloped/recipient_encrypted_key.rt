@@ -2,7 +2,7 @@
 //!
 //! Made by tools/asn1 from enveloped.asn1.
 
-ghost use Rattle.std.specs.Prelude.{◌∷◌, ◌≡◌, [], refl, true};
+ghost use Rattle.std.specs.Prelude.{◌∷◌, ◌≡◌, [], false, refl};
 ghost use Rattle.der_elem.specs.FormatMakers.{mapped_format};
 ghost use Rattle.der_enveloped.specs.Enveloped.Grammar.{recipient_encrypted_key};
 ghost use Rattle.der_enveloped.specs.Enveloped.RecipientEncryptedKey as recipient_encrypted_key_fields;
@@ -35,8 +35,7 @@ type Fields<'a> = Fields2<KeyAgreeRecipientIdentifier<'a>, OctetStringRef<'a>>;
 ///      encryptedKey  OCTET STRING }
 /// ```
 ///
-/// Reading refuses the first fault of the octets, in their order; `ErrorKind::Memory` (1) where
-/// memory runs out.
+/// Reading refuses the first fault of the octets, in their order.
 #[derive(Clone, Copy, PartialEq, Eq)]
 pub struct RecipientEncryptedKey<'a> {
     fields: Fields<'a>,
@@ -98,9 +97,9 @@ impl<'a> FormValue for RecipientEncryptedKey<'a> {
 }
 
 impl<'a, R: Source<'a>> DecodeValue<'a, R> for RecipientEncryptedKey<'a> {
-    ghost TAKES_MEMORY = { true };
+    ghost TAKES_MEMORY = { false };
 
-    const TAKES_MEMORY: bool = true;
+    const TAKES_MEMORY: bool = false;
 
     fn decode_value(
         alloc: Global,

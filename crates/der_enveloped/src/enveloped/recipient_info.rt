@@ -9,22 +9,20 @@ ghost use Rattle.der_elem.specs.FormatMakers.{mapped_format};
 ghost use Rattle.der_elem.specs.KnownTagLaws.{known_either};
 ghost use Rattle.der_enveloped.specs.Enveloped.Grammar.{recipient_info};
 ghost use Rattle.der_enveloped.specs.Enveloped.RecipientInfo.{tree_of};
+ghost use Rattle.der_enveloped.specs.contracts.enveloped.recipient_info.RecipientInfoEq.TheImpl.Laws as recipient_info_eq;
 ghost use Rattle.der_enveloped.specs.contracts.enveloped.recipient_info_first.RecipientInfoFirstChoice.TheImpl.Laws as recipient_info_first_choice;
-ghost use Rattle.der_enveloped.specs.contracts.enveloped.recipient_info_first.RecipientInfoFirstDuplicate.TheImpl.Laws as recipient_info_first_duplicate;
-ghost use Rattle.der_enveloped.specs.contracts.enveloped.recipient_info_first.RecipientInfoFirstDuplicateIsEqual.TheImpl.Laws as recipient_info_first_duplicate_is_equal;
 ghost use Rattle.der_enveloped.specs.contracts.enveloped.recipient_info_first.RecipientInfoFirstEncodingEq.TheImpl.Laws as recipient_info_first_encoding_eq;
 ghost use Rattle.der_enveloped.specs.contracts.enveloped.recipient_info_first.RecipientInfoFirstKnownTags.TheImpl.Laws as recipient_info_first_known_tags;
 ghost use Rattle.der_enveloped.specs.contracts.enveloped.recipient_info_first.RecipientInfoFirstTagged.TheImpl.Laws as recipient_info_first_tagged;
 ghost use Rattle.der_enveloped.specs.contracts.enveloped.recipient_info_other.RecipientInfoOtherChoice.TheImpl.Laws as recipient_info_other_choice;
 ghost use Rattle.der_enveloped.specs.contracts.enveloped.recipient_info_other.RecipientInfoOtherEncodingEq.TheImpl.Laws as recipient_info_other_encoding_eq;
-ghost use Rattle.der_enveloped.specs.contracts.enveloped.recipient_info_other.RecipientInfoOtherEq.TheImpl.Laws as recipient_info_other_eq;
 ghost use Rattle.der_enveloped.specs.contracts.enveloped.recipient_info_other.RecipientInfoOtherKnownTags.TheImpl.Laws as recipient_info_other_known_tags;
 ghost use Rattle.der_enveloped.specs.contracts.enveloped.recipient_info_other.RecipientInfoOtherTagged.TheImpl.Laws as recipient_info_other_tagged;
 ghost use Rattle.der_enveloped.specs.declared.enveloped.recipient_info.RecipientInfo.TheVariants as of;
 ghost use Rattle.der_enveloped.specs.declared.enveloped.recipient_info_first.RecipientInfoFirst.TheVariants as recipient_info_first;
 ghost use Rattle.der_enveloped.specs.declared.enveloped.recipient_info_other.RecipientInfoOther.TheVariants as recipient_info_other;
 ghost use Rattle.der_modules.specs.Asn1.{parse_of};
-ghost use Rattle.der_modules.specs.MemberLaws.{copies_of, either_copies, either_equality, either_tag, own_tags, same_copies, seen_copies, seen_equality};
+ghost use Rattle.der_modules.specs.MemberLaws.{copies_of, either_equality, either_tag, own_tags, same_copies, seen_equality};
 
 use crate::enveloped::aliases::OtherRecipientInfo;
 use crate::enveloped::kek_recipient_info::KekRecipientInfo;
@@ -38,8 +36,7 @@ use der_elem::{
     Form, FormValue, KnownTags, Tagged,
 };
 use der_fields::{Implicit, OneOf, cmp_headers};
-use der_modules::CopyLaws;
-use der_nest::{ItemOrder, OrdersByEncoding};
+use der_modules::{CopyLaws, copy_of};
 use der_tlv::{BackWriter, Error, Length, Source, Tag, Writer};
 use std::alloc::Global;
 use std::cmp::Ordering;
@@ -58,7 +55,7 @@ type Tree<'a> = OneOf<RecipientInfoFirst<'a>, RecipientInfoOther<'a>>;
 ///
 /// Reading refuses a tag that no alternative has (`ErrorKind::TagUnexpected`, 4), and the
 /// alternative's faults.
-#[derive(Debug, PartialEq, Eq, Drop)]
+#[derive(Clone, Copy, Debug, PartialEq, Eq)]
 pub enum RecipientInfo<'a> {
     /// `ktri`, `KeyTransRecipientInfo`.
     Ktri(KeyTransRecipientInfo<'a>),
@@ -169,9 +166,9 @@ impl<'a> KnownTags for RecipientInfo<'a> {
 }
 
 impl<'a, R: Source<'a>> Decode<'a, R> for RecipientInfo<'a> {
-    ghost TAKES_MEMORY = { true };
+    ghost TAKES_MEMORY = { false };
 
-    const TAKES_MEMORY: bool = true;
+    const TAKES_MEMORY: bool = false;
 
     fn decode(alloc: Global, reader: &mut R) -> Result<RecipientInfo<'a>, Error> {
         match Tree::<'a>::decode(alloc, reader) {
@@ -188,9 +185,9 @@ impl<'a, R: Source<'a>> Decode<'a, R> for RecipientInfo<'a> {
 }
 
 impl<'a, R: Source<'a>> DecodeField<'a, R> for RecipientInfo<'a> {
-    ghost TAKES_MEMORY = { true };
+    ghost TAKES_MEMORY = { false };
 
-    const TAKES_MEMORY: bool = true;
+    const TAKES_MEMORY: bool = false;
 
     fn decode_field(alloc: Global, reader: &mut R) -> Result<RecipientInfo<'a>, Error> {
         RecipientInfo::decode(alloc, reader)
@@ -255,42 +252,16 @@ impl<'a> EncodingEq for RecipientInfo<'a> {
 }
 
 impl<'a> CopyLaws for RecipientInfo<'a> {
-    ghost copies = { copies_of ((seen_copies tree_of ⟦<RecipientInfo<'a> as PartialEq>⟧.eq ⟦<Tree<'a> as PartialEq>⟧.eq (λ v w. elim v as (λ k. ⟦<RecipientInfo<'a> as PartialEq>⟧.eq k w ≡ ⟦<Tree<'a> as PartialEq>⟧.eq (tree_of k) (tree_of w)) [ of.Ktri x ↦ elim w as (λ k. ⟦<RecipientInfo<'a> as PartialEq>⟧.eq (of.Ktri x) k ≡ ⟦<Tree<'a> as PartialEq>⟧.eq (tree_of (of.Ktri x)) (tree_of k)) [ of.Ktri y ↦ refl | of.Kari y ↦ refl | of.Kekri y ↦ refl | of.Pwri y ↦ refl | of.Ori y ↦ refl ] | of.Kari x ↦ elim w as (λ k. ⟦<RecipientInfo<'a> as PartialEq>⟧.eq (of.Kari x) k ≡ ⟦<Tree<'a> as PartialEq>⟧.eq (tree_of (of.Kari x)) (tree_of k)) [ of.Ktri y ↦ refl | of.Kari y ↦ refl | of.Kekri y ↦ refl | of.Pwri y ↦ refl | of.Ori y ↦ refl ] | of.Kekri x ↦ elim w as (λ k. ⟦<RecipientInfo<'a> as PartialEq>⟧.eq (of.Kekri x) k ≡ ⟦<Tree<'a> as PartialEq>⟧.eq (tree_of (of.Kekri x)) (tree_of k)) [ of.Ktri y ↦ refl | of.Kari y ↦ refl | of.Kekri y ↦ refl | of.Pwri y ↦ refl | of.Ori y ↦ refl ] | of.Pwri x ↦ elim w as (λ k. ⟦<RecipientInfo<'a> as PartialEq>⟧.eq (of.Pwri x) k ≡ ⟦<Tree<'a> as PartialEq>⟧.eq (tree_of (of.Pwri x)) (tree_of k)) [ of.Ktri y ↦ refl | of.Kari y ↦ refl | of.Kekri y ↦ refl | of.Pwri y ↦ refl | of.Ori y ↦ refl ] | of.Ori x ↦ elim w as (λ k. ⟦<RecipientInfo<'a> as PartialEq>⟧.eq (of.Ori x) k ≡ ⟦<Tree<'a> as PartialEq>⟧.eq (tree_of (of.Ori x)) (tree_of k)) [ of.Ktri y ↦ refl | of.Kari y ↦ refl | of.Kekri y ↦ refl | of.Pwri y ↦ refl | of.Ori y ↦ refl ] ]) (either_copies ⟦<RecipientInfoFirst<'a> as Form>⟧ ⟦<RecipientInfoOther<'a> as Form>⟧
-        (own_tags ⟦<RecipientInfoFirst<'a> as Form>⟧.tags ⟦<RecipientInfoFirst<'a> as Form>⟧.first_tag_of ⟦<RecipientInfoFirst<'a> as Form>⟧.encoding ⟦<RecipientInfoFirst<'a> as Tagged>⟧.tag_of ⟦<RecipientInfoFirst<'a> as FormValue>⟧.value.contents recipient_info_first_tagged.encoding_is-law recipient_info_first_tagged.own_tag-law recipient_info_first_tagged.first_tag_is-law)
-        (own_tags ⟦<RecipientInfoOther<'a> as Form>⟧.tags ⟦<RecipientInfoOther<'a> as Form>⟧.first_tag_of ⟦<RecipientInfoOther<'a> as Form>⟧.encoding ⟦<RecipientInfoOther<'a> as Tagged>⟧.tag_of ⟦<RecipientInfoOther<'a> as FormValue>⟧.value.contents recipient_info_other_tagged.encoding_is-law recipient_info_other_tagged.own_tag-law recipient_info_other_tagged.first_tag_is-law)
-        (record { octets_are = recipient_info_first_duplicate.copy_encoding-law; comparable_are = recipient_info_first_duplicate.copy_comparable-law; re_reads_are = recipient_info_first_duplicate.copy_re_reads-law; equal_are = recipient_info_first_duplicate_is_equal.copy_is_equal-law })
-        (same_copies ⟦<RecipientInfoOther<'a> as Form>⟧.encoding ⟦<RecipientInfoOther<'a> as Form>⟧.comparable ⟦<RecipientInfoOther<'a> as Form>⟧.re_reads ⟦<RecipientInfoOther<'a> as PartialEq>⟧.eq recipient_info_other_eq.laws-law.refl)
-        ⟦<OneOf<RecipientInfoFirst<'a>, RecipientInfoOther<'a>> as PartialEq>⟧.eq (λ v x. refl) (λ w y. refl)))) };
+    ghost copies = { copies_of ((same_copies ⟦<RecipientInfo<'a> as Form>⟧.encoding ⟦<RecipientInfo<'a> as Form>⟧.comparable ⟦<RecipientInfo<'a> as Form>⟧.re_reads ⟦<RecipientInfo<'a> as PartialEq>⟧.eq recipient_info_eq.laws-law.refl)) };
 }
 
 impl<'a> Duplicate for RecipientInfo<'a> {
-    ghost is_copy = { λ v w. ⟦<Tree<'a> as Duplicate>⟧.is_copy (tree_of v) (tree_of w) };
+    ghost is_copy = { λ v w. w ≡ v };
 
-    ghost takes_memory_to_copy = { ⟦<Tree<'a> as Duplicate>⟧.takes_memory_to_copy };
+    ghost takes_memory_to_copy = { false };
 
     fn duplicate(&self) -> Result<RecipientInfo<'a>, Error> {
-        match self {
-            RecipientInfo::Ktri(value) => match value.duplicate() {
-                Ok(value) => Ok(RecipientInfo::Ktri(value)),
-                Err(e) => Err(e),
-            },
-            RecipientInfo::Kari(value) => match value.duplicate() {
-                Ok(value) => Ok(RecipientInfo::Kari(value)),
-                Err(e) => Err(e),
-            },
-            RecipientInfo::Kekri(value) => match value.duplicate() {
-                Ok(value) => Ok(RecipientInfo::Kekri(value)),
-                Err(e) => Err(e),
-            },
-            RecipientInfo::Pwri(value) => match value.duplicate() {
-                Ok(value) => Ok(RecipientInfo::Pwri(value)),
-                Err(e) => Err(e),
-            },
-            RecipientInfo::Ori(value) => match value.duplicate() {
-                Ok(value) => Ok(RecipientInfo::Ori(value)),
-                Err(e) => Err(e),
-            },
-        }
+        Ok(copy_of(self))
     }
 
     ghost copy_encoding = { ⟦<RecipientInfo<'a> as CopyLaws>⟧.copies.laws.octets_are };
@@ -302,17 +273,6 @@ impl<'a> Duplicate for RecipientInfo<'a> {
 
 impl<'a> DuplicateIsEqual for RecipientInfo<'a> {
     ghost copy_is_equal = { ⟦<RecipientInfo<'a> as CopyLaws>⟧.copies.laws.equal_are };
-}
-
-/// The order of a SET OF `RecipientInfo<'a>`: that of the encodings (X.690 11.6).
-pub struct RecipientInfoOrder;
-
-impl<'a> ItemOrder<RecipientInfo<'a>> for RecipientInfoOrder {
-    ghost item_encoding = { ⟦<RecipientInfo<'a> as Form>⟧.encoding };
-}
-
-impl<'a> OrdersByEncoding<RecipientInfo<'a>> for RecipientInfoOrder {
-    ghost is_encoding = { refl };
 }
 
 /// What is read as `RecipientInfo` is what the page of the grammar says.

@@ -10,14 +10,11 @@ ghost use Rattle.der_elem.specs.KnownTagLaws.{known_either, own_is_known};
 ghost use Rattle.der_elem.specs.TaggedLaws.{tlv_tagged};
 ghost use Rattle.der_enveloped.specs.Enveloped.RecipientInfoFirst.{tree_of};
 ghost use Rattle.der_enveloped.specs.contracts.enveloped.kek_recipient_info.KekRecipientInfoContentsEq.TheImpl.Laws as kek_recipient_info_contents_eq;
-ghost use Rattle.der_enveloped.specs.contracts.enveloped.kek_recipient_info.KekRecipientInfoEq.TheImpl.Laws as kek_recipient_info_eq;
 ghost use Rattle.der_enveloped.specs.contracts.enveloped.key_agree_recipient_info.KeyAgreeRecipientInfoContentsEq.TheImpl.Laws as key_agree_recipient_info_contents_eq;
-ghost use Rattle.der_enveloped.specs.contracts.enveloped.key_agree_recipient_info.KeyAgreeRecipientInfoDuplicateValue.TheImpl.Laws as key_agree_recipient_info_duplicate_value;
-ghost use Rattle.der_enveloped.specs.contracts.enveloped.key_agree_recipient_info.KeyAgreeRecipientInfoDuplicateValueIsEqual.TheImpl.Laws as key_agree_recipient_info_duplicate_value_is_equal;
 ghost use Rattle.der_enveloped.specs.contracts.enveloped.key_trans_recipient_info.KeyTransRecipientInfoContentsEq.TheImpl.Laws as key_trans_recipient_info_contents_eq;
-ghost use Rattle.der_enveloped.specs.contracts.enveloped.key_trans_recipient_info.KeyTransRecipientInfoEq.TheImpl.Laws as key_trans_recipient_info_eq;
+ghost use Rattle.der_enveloped.specs.contracts.enveloped.recipient_info_first.RecipientInfoFirstEq.TheImpl.Laws as recipient_info_first_eq;
 ghost use Rattle.der_enveloped.specs.declared.enveloped.recipient_info_first.RecipientInfoFirst.TheVariants as of;
-ghost use Rattle.der_modules.specs.MemberLaws.{copies_of, either_copies, either_equality, either_tag, held_copies, one_tag, one_tag_copies, one_tag_equality, same_copies, seen_copies, seen_equality};
+ghost use Rattle.der_modules.specs.MemberLaws.{copies_of, either_equality, either_tag, one_tag, one_tag_equality, same_copies, seen_equality};
 
 use crate::enveloped::kek_recipient_info::KekRecipientInfo;
 use crate::enveloped::key_agree_recipient_info::KeyAgreeRecipientInfo;
@@ -27,7 +24,7 @@ use der_elem::{
     Form, FormValue, KnownTags, SequenceTag, TagMarker, Tagged,
 };
 use der_fields::{Implicit, ImplicitTag, OneOf, cmp_headers};
-use der_modules::CopyLaws;
+use der_modules::{CopyLaws, copy_of};
 use der_tlv::{BackWriter, Error, Length, Source, Tag, Writer};
 use std::alloc::Global;
 use std::cmp::Ordering;
@@ -42,7 +39,7 @@ type Tree<'a> = OneOf<
 ///
 /// Reading refuses a tag that no alternative has (`ErrorKind::TagUnexpected`, 4), and the
 /// alternative's faults.
-#[derive(Debug, PartialEq, Eq, Drop)]
+#[derive(Clone, Copy, Debug, PartialEq, Eq)]
 pub enum RecipientInfoFirst<'a> {
     /// `ktri`, `KeyTransRecipientInfo`.
     Ktri(KeyTransRecipientInfo<'a>),
@@ -153,9 +150,9 @@ impl<'a> KnownTags for RecipientInfoFirst<'a> {
 }
 
 impl<'a, R: Source<'a>> Decode<'a, R> for RecipientInfoFirst<'a> {
-    ghost TAKES_MEMORY = { true };
+    ghost TAKES_MEMORY = { false };
 
-    const TAKES_MEMORY: bool = true;
+    const TAKES_MEMORY: bool = false;
 
     fn decode(alloc: Global, reader: &mut R) -> Result<RecipientInfoFirst<'a>, Error> {
         match Tree::<'a>::decode(alloc, reader) {
@@ -170,9 +167,9 @@ impl<'a, R: Source<'a>> Decode<'a, R> for RecipientInfoFirst<'a> {
 }
 
 impl<'a, R: Source<'a>> DecodeField<'a, R> for RecipientInfoFirst<'a> {
-    ghost TAKES_MEMORY = { true };
+    ghost TAKES_MEMORY = { false };
 
-    const TAKES_MEMORY: bool = true;
+    const TAKES_MEMORY: bool = false;
 
     fn decode_field(alloc: Global, reader: &mut R) -> Result<RecipientInfoFirst<'a>, Error> {
         RecipientInfoFirst::decode(alloc, reader)
@@ -243,41 +240,16 @@ impl<'a> EncodingEq for RecipientInfoFirst<'a> {
 }
 
 impl<'a> CopyLaws for RecipientInfoFirst<'a> {
-    ghost copies = { copies_of ((seen_copies tree_of ⟦<RecipientInfoFirst<'a> as PartialEq>⟧.eq ⟦<Tree<'a> as PartialEq>⟧.eq (λ v w. elim v as (λ k. ⟦<RecipientInfoFirst<'a> as PartialEq>⟧.eq k w ≡ ⟦<Tree<'a> as PartialEq>⟧.eq (tree_of k) (tree_of w)) [ of.Ktri x ↦ elim w as (λ k. ⟦<RecipientInfoFirst<'a> as PartialEq>⟧.eq (of.Ktri x) k ≡ ⟦<Tree<'a> as PartialEq>⟧.eq (tree_of (of.Ktri x)) (tree_of k)) [ of.Ktri y ↦ refl | of.Kari y ↦ refl | of.Kekri y ↦ refl ] | of.Kari x ↦ elim w as (λ k. ⟦<RecipientInfoFirst<'a> as PartialEq>⟧.eq (of.Kari x) k ≡ ⟦<Tree<'a> as PartialEq>⟧.eq (tree_of (of.Kari x)) (tree_of k)) [ of.Ktri y ↦ refl | of.Kari y ↦ refl | of.Kekri y ↦ refl ] | of.Kekri x ↦ elim w as (λ k. ⟦<RecipientInfoFirst<'a> as PartialEq>⟧.eq (of.Kekri x) k ≡ ⟦<Tree<'a> as PartialEq>⟧.eq (tree_of (of.Kekri x)) (tree_of k)) [ of.Ktri y ↦ refl | of.Kari y ↦ refl | of.Kekri y ↦ refl ] ]) (either_copies ⟦<OneOf<KeyTransRecipientInfo<'a>, Implicit<KeyAgreeRecipientInfo<'a>, 1>> as Form>⟧ ⟦<Implicit<KekRecipientInfo<'a>, 2> as Form>⟧
-        (either_tag ⟦<KeyTransRecipientInfo<'a> as Form>⟧ ⟦<Implicit<KeyAgreeRecipientInfo<'a>, 1> as Form>⟧
-        (one_tag ⟦<SequenceTag as TagMarker>⟧.TAG ⟦<KeyTransRecipientInfo<'a> as FormValue>⟧.value.contents)
-        (one_tag ⟦<ImplicitTag<SequenceTag, 1> as TagMarker>⟧.TAG ⟦<Implicit<KeyAgreeRecipientInfo<'a>, 1> as FormValue>⟧.value.contents))
-        (one_tag ⟦<ImplicitTag<SequenceTag, 2> as TagMarker>⟧.TAG ⟦<Implicit<KekRecipientInfo<'a>, 2> as FormValue>⟧.value.contents)
-        (either_copies ⟦<KeyTransRecipientInfo<'a> as Form>⟧ ⟦<Implicit<KeyAgreeRecipientInfo<'a>, 1> as Form>⟧
-        (one_tag ⟦<SequenceTag as TagMarker>⟧.TAG ⟦<KeyTransRecipientInfo<'a> as FormValue>⟧.value.contents)
-        (one_tag ⟦<ImplicitTag<SequenceTag, 1> as TagMarker>⟧.TAG ⟦<Implicit<KeyAgreeRecipientInfo<'a>, 1> as FormValue>⟧.value.contents)
-        (one_tag_copies ⟦<SequenceTag as TagMarker>⟧.TAG (same_copies ⟦<KeyTransRecipientInfo<'a> as FormValue>⟧.value.contents ⟦<KeyTransRecipientInfo<'a> as FormValue>⟧.value.comparable ⟦<KeyTransRecipientInfo<'a> as FormValue>⟧.value.re_reads ⟦<KeyTransRecipientInfo<'a> as PartialEq>⟧.eq key_trans_recipient_info_eq.laws-law.refl))
-        (one_tag_copies ⟦<ImplicitTag<SequenceTag, 1> as TagMarker>⟧.TAG (held_copies (λ x. x.value) (record { octets_are = key_agree_recipient_info_duplicate_value.copy_contents-law; comparable_are = key_agree_recipient_info_duplicate_value.copy_comparable_value-law; re_reads_are = key_agree_recipient_info_duplicate_value.copy_re_reads_value-law; equal_are = key_agree_recipient_info_duplicate_value_is_equal.copy_value_is_equal-law })))
-        ⟦<OneOf<KeyTransRecipientInfo<'a>, Implicit<KeyAgreeRecipientInfo<'a>, 1>> as PartialEq>⟧.eq (λ v x. refl) (λ w y. refl))
-        (one_tag_copies ⟦<ImplicitTag<SequenceTag, 2> as TagMarker>⟧.TAG (held_copies (λ x. x.value) (same_copies ⟦<KekRecipientInfo<'a> as FormValue>⟧.value.contents ⟦<KekRecipientInfo<'a> as FormValue>⟧.value.comparable ⟦<KekRecipientInfo<'a> as FormValue>⟧.value.re_reads ⟦<KekRecipientInfo<'a> as PartialEq>⟧.eq kek_recipient_info_eq.laws-law.refl)))
-        ⟦<OneOf<OneOf<KeyTransRecipientInfo<'a>, Implicit<KeyAgreeRecipientInfo<'a>, 1>>, Implicit<KekRecipientInfo<'a>, 2>> as PartialEq>⟧.eq (λ v x. refl) (λ w y. refl)))) };
+    ghost copies = { copies_of ((same_copies ⟦<RecipientInfoFirst<'a> as Form>⟧.encoding ⟦<RecipientInfoFirst<'a> as Form>⟧.comparable ⟦<RecipientInfoFirst<'a> as Form>⟧.re_reads ⟦<RecipientInfoFirst<'a> as PartialEq>⟧.eq recipient_info_first_eq.laws-law.refl)) };
 }
 
 impl<'a> Duplicate for RecipientInfoFirst<'a> {
-    ghost is_copy = { λ v w. ⟦<Tree<'a> as Duplicate>⟧.is_copy (tree_of v) (tree_of w) };
+    ghost is_copy = { λ v w. w ≡ v };
 
-    ghost takes_memory_to_copy = { ⟦<Tree<'a> as Duplicate>⟧.takes_memory_to_copy };
+    ghost takes_memory_to_copy = { false };
 
     fn duplicate(&self) -> Result<RecipientInfoFirst<'a>, Error> {
-        match self {
-            RecipientInfoFirst::Ktri(value) => match value.duplicate() {
-                Ok(value) => Ok(RecipientInfoFirst::Ktri(value)),
-                Err(e) => Err(e),
-            },
-            RecipientInfoFirst::Kari(value) => match value.duplicate() {
-                Ok(value) => Ok(RecipientInfoFirst::Kari(value)),
-                Err(e) => Err(e),
-            },
-            RecipientInfoFirst::Kekri(value) => match value.duplicate() {
-                Ok(value) => Ok(RecipientInfoFirst::Kekri(value)),
-                Err(e) => Err(e),
-            },
-        }
+        Ok(copy_of(self))
     }
 
     ghost copy_encoding = { ⟦<RecipientInfoFirst<'a> as CopyLaws>⟧.copies.laws.octets_are };

@@ -2,23 +2,19 @@
 //!
 //! Made by tools/asn1 from enveloped.asn1.
 
-ghost use Rattle.std.specs.Prelude.{◌≡◌, refl, true};
+ghost use Rattle.std.specs.Cmp.Lexicographic.{bytes_decides};
+ghost use Rattle.std.specs.Prelude.{◌≡◌, false, refl};
 ghost use Rattle.der_elem.specs.FormatMakers.{mapped_format};
 ghost use Rattle.der_enveloped.specs.Enveloped.Grammar.{recipient_infos};
-ghost use Rattle.der_enveloped.specs.contracts.enveloped.recipient_info.RecipientInfoDuplicate.TheImpl.Laws as recipient_info_duplicate;
-ghost use Rattle.der_enveloped.specs.contracts.enveloped.recipient_info.RecipientInfoDuplicateIsEqual.TheImpl.Laws as recipient_info_duplicate_is_equal;
-ghost use Rattle.der_enveloped.specs.contracts.enveloped.recipient_info.RecipientInfoEncodingEq.TheImpl.Laws as recipient_info_encoding_eq;
-ghost use Rattle.der_enveloped.specs.contracts.enveloped.recipient_info.RecipientInfoTagged.TheImpl.Laws as recipient_info_tagged;
+ghost use Rattle.der_lists.specs.NonEmptyRef.{list_of};
 ghost use Rattle.der_modules.specs.Asn1.{parse_of};
-ghost use Rattle.der_modules.specs.MemberLaws.{copies_of, held_copies, items_copies, items_equality, own_tags};
 
-use crate::enveloped::recipient_info::{RecipientInfo, RecipientInfoOrder};
+use crate::enveloped::recipient_info::RecipientInfo;
 use der_elem::{
-    ContentsEq, DecodeValue, DuplicateValue, DuplicateValueIsEqual, EncodeValue, Form, FormValue,
-    OneTag, SetTag, Tagged, ValueOrd,
+    ContentsEq, CopyIsDuplicate, DecodeValue, EncodeValue, Form, FormValue, OneTag, SetTag,
+    ValueOrd,
 };
-use der_modules::CopyLaws;
-use der_nest::{ItemSet, NonEmpty};
+use der_lists::{NonEmptyRef, UnorderedSetRef};
 use der_tlv::{BackWriter, Error, Header, Length, Source, Writer};
 use std::alloc::Global;
 use std::cmp::Ordering;
@@ -27,37 +23,29 @@ use std::cmp::Ordering;
 /// RecipientInfos ::= SET SIZE (1..MAX) OF RecipientInfo
 /// ```
 ///
-/// Reading refuses the first fault of the octets, in their order; `ErrorKind::Memory` (1) where
-/// memory runs out.
-#[derive(Debug, PartialEq, Eq, Drop)]
+/// The items stand in the order in which they came: BER asks for none.
+///
+/// Reading refuses the first fault of the octets, in their order.
+#[derive(Clone, Copy, Debug, PartialEq, Eq)]
 pub struct RecipientInfos<'a> {
-    items: NonEmpty<ItemSet<RecipientInfo<'a>, RecipientInfoOrder>>,
+    items: NonEmptyRef<UnorderedSetRef<'a, RecipientInfo<'a>>>,
 }
 
 impl<'a> RecipientInfos<'a> {
     ghost use Rattle.der_enveloped.specs.Enveloped.RecipientInfos as recipient_infos;
 
     /// These items.
-    pub fn new(
-        items: NonEmpty<ItemSet<RecipientInfo<'a>, RecipientInfoOrder>>,
-    ) -> RecipientInfos<'a>
-        ensures { recipient_infos.items_of result ≡ items.entry }
+    pub fn new(items: NonEmptyRef<UnorderedSetRef<'a, RecipientInfo<'a>>>) -> RecipientInfos<'a>
+        ensures { recipient_infos.items_of result ≡ list_of items.entry }
     {
         RecipientInfos { items }
     }
 
     /// The items, in their order.
-    pub fn as_slice(&self) -> &[RecipientInfo<'a>]
+    pub fn items(&self) -> &UnorderedSetRef<'a, RecipientInfo<'a>>
         ensures { result.now ≡ recipient_infos.items_of self.now }
     {
-        self.items.list().as_slice()
-    }
-
-    /// The items, in the room that holds them.
-    pub fn into_items(self) -> NonEmpty<ItemSet<RecipientInfo<'a>, RecipientInfoOrder>>
-        ensures { recipient_infos.items_of self.entry ≡ result }
-    {
-        self.items
+        self.items.list()
     }
 }
 
@@ -66,20 +54,20 @@ impl<'a> OneTag for RecipientInfos<'a> {
 }
 
 impl<'a> FormValue for RecipientInfos<'a> {
-    ghost value = { mapped_format (λ v. v.items) ⟦<NonEmpty<ItemSet<RecipientInfo<'a>, RecipientInfoOrder>> as FormValue>⟧.value };
+    ghost value = { mapped_format (λ v. v.items) ⟦<NonEmptyRef<UnorderedSetRef<'a, RecipientInfo<'a>>> as FormValue>⟧.value };
 }
 
 impl<'a, R: Source<'a>> DecodeValue<'a, R> for RecipientInfos<'a> {
-    ghost TAKES_MEMORY = { true };
+    ghost TAKES_MEMORY = { false };
 
-    const TAKES_MEMORY: bool = true;
+    const TAKES_MEMORY: bool = false;
 
     fn decode_value(
         alloc: Global,
         reader: &mut R,
         header: Header,
     ) -> Result<RecipientInfos<'a>, Error> {
-        match NonEmpty::<ItemSet<RecipientInfo<'a>, RecipientInfoOrder>>::decode_value(
+        match NonEmptyRef::<UnorderedSetRef<'a, RecipientInfo<'a>>>::decode_value(
             alloc, reader, header,
         ) {
             Ok(items) => Ok(RecipientInfos { items }),
@@ -111,36 +99,10 @@ impl<'a> ValueOrd for RecipientInfos<'a> {
 }
 
 impl<'a> ContentsEq for RecipientInfos<'a> {
-    ghost contents_eq = { λ v w. (items_equality ⟦<RecipientInfo<'a> as Form>⟧ (own_tags ⟦<RecipientInfo<'a> as Form>⟧.tags ⟦<RecipientInfo<'a> as Form>⟧.first_tag_of ⟦<RecipientInfo<'a> as Form>⟧.encoding ⟦<RecipientInfo<'a> as Tagged>⟧.tag_of ⟦<RecipientInfo<'a> as FormValue>⟧.value.contents recipient_info_tagged.encoding_is-law recipient_info_tagged.own_tag-law recipient_info_tagged.first_tag_is-law) ⟦<RecipientInfo<'a> as PartialEq>⟧.eq recipient_info_encoding_eq.encoding_eq-law) v.items w.items };
+    ghost contents_eq = { λ v w. (λ one. bytes_decides v.items.list.octets.octets.now w.items.list.octets.octets.now) };
 }
 
-impl<'a> CopyLaws for RecipientInfos<'a> {
-    ghost copies = { copies_of (held_copies (λ v. v.items)
-        (items_copies ⟦<RecipientInfo<'a> as Form>⟧ (record { octets_are = recipient_info_duplicate.copy_encoding-law; comparable_are = recipient_info_duplicate.copy_comparable-law; re_reads_are = recipient_info_duplicate.copy_re_reads-law; equal_are = recipient_info_duplicate_is_equal.copy_is_equal-law }))) };
-}
-
-impl<'a> DuplicateValue for RecipientInfos<'a> {
-    ghost is_copy_value = { λ v w. ⟦<NonEmpty<ItemSet<RecipientInfo<'a>, RecipientInfoOrder>> as DuplicateValue>⟧.is_copy_value v.items w.items };
-
-    ghost takes_memory_to_copy_value = { ⟦<NonEmpty<ItemSet<RecipientInfo<'a>, RecipientInfoOrder>> as DuplicateValue>⟧.takes_memory_to_copy_value };
-
-    fn duplicate_value(&self) -> Result<RecipientInfos<'a>, Error> {
-        match self.items.duplicate_value() {
-            Ok(items) => Ok(RecipientInfos { items }),
-            Err(e) => Err(e),
-        }
-    }
-
-    ghost copy_contents = { ⟦<RecipientInfos<'a> as CopyLaws>⟧.copies.laws.octets_are };
-
-    ghost copy_comparable_value = { ⟦<RecipientInfos<'a> as CopyLaws>⟧.copies.laws.comparable_are };
-
-    ghost copy_re_reads_value = { ⟦<RecipientInfos<'a> as CopyLaws>⟧.copies.laws.re_reads_are };
-}
-
-impl<'a> DuplicateValueIsEqual for RecipientInfos<'a> {
-    ghost copy_value_is_equal = { ⟦<RecipientInfos<'a> as CopyLaws>⟧.copies.laws.equal_are };
-}
+impl<'a> CopyIsDuplicate for RecipientInfos<'a> {}
 
 /// What is read as `RecipientInfos` is what the page of the grammar says.
 pub fn grammar_of_recipient_infos<'a>()

@@ -12,13 +12,23 @@ const FEWEST: &str =
     "30310201003109a40706032a03040500300a06082a864886f70d0209300b06092a864886f70d01070104080102030405060708";
 
 /// What is read and written back, and of which each beginning is refused.
-pub(super) const WRITTEN: [(Message, &str); 2] = [
+pub(super) const WRITTEN: [(Message, &str); 4] = [
     (Message::AuthenticatedData, EVERY),
     (Message::AuthenticatedData, FEWEST),
+    // recipients, and attributes that are not authenticated, that are exchanged
+    (
+        Message::AuthenticatedData,
+        "30500201003112a40706032a03040500a40706032a03030500300a06082a864886f70d0209300b06092a864886f70d01070104080102030405060708a314300906032a030431023000300706032a03033100",
+    ),
+    // two attributes that are authenticated
+    (
+        Message::AuthenticatedData,
+        "30470201003109a40706032a03040500300a06082a864886f70d0209300b06092a864886f70d010701a214300706032a03033100300906032a03043102300004080102030405060708",
+    ),
 ];
 
 /// What is refused, and the number of its first fault.
-pub(super) const REFUSED: [(Message, &str, u8); 2] = [
+pub(super) const REFUSED: [(Message, &str, u8); 3] = [
     // no recipient
     (
         Message::AuthenticatedData,
@@ -30,6 +40,12 @@ pub(super) const REFUSED: [(Message, &str, u8); 2] = [
         Message::AuthenticatedData,
         "30330201003109a40706032a03040500300a06082a864886f70d0209300b06092a864886f70d01070104080102030405060708a300",
         13,
+    ),
+    // attributes that are authenticated, and exchanged
+    (
+        Message::AuthenticatedData,
+        "30470201003109a40706032a03040500300a06082a864886f70d0209300b06092a864886f70d010701a214300906032a030431023000300706032a0303310004080102030405060708",
+        11,
     ),
 ];
 

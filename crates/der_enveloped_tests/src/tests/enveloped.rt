@@ -32,7 +32,7 @@ const THREE: &str =
     "308201900201033182014ba181a4020103a051a14f300906072a8648ce3d0201034200045ea1552568fe77e9763d791d07580774db95df9ed775b3a1e180a12c4a0a3f9687469bd4ef4072cedbc8db9f90b71a33beebdb1bf64c39ee2e9dd3d5aaa9c2af301806092b81051086483f0002300b0609608648016503040105303230303014300f310d300b06035504030c046d696c6c020103041808f9cdcc8aef7fdebd3b12dfecb15bebb4e20e5dde47f7aba230020104300404020a0b300b06096086480165030401050418f5f8546d400f8c58818f4bea6d4f6c261a5ccffcb1e2e13da370020100a01b06092a864886f70d01050c300e0408ce181b28e180538002020800302c060b2a864886f70d0109100309301d06096086480165030401020410977f95812dc08936c288a39458c5d8ce0420edafa5503674f7b8f7821660711aafa6b9dd87873e38fe74f90bf217196247e6303c06092a864886f70d010701301d060960864801650304010204108a3a64ffd68c27ce121093050aa5acea8010261240b4612c99e7d66f70845337601b";
 
 /// What is read and written back, and of which each beginning is refused.
-pub(super) const WRITTEN: [(Message, &str); 11] = [
+pub(super) const WRITTEN: [(Message, &str); 12] = [
     (Message::EnvelopedData, TRANSPORT),
     (Message::EnvelopedData, AGREEMENT),
     (Message::EnvelopedData, AGREEMENT_BY_KEY),
@@ -43,6 +43,11 @@ pub(super) const WRITTEN: [(Message, &str); 11] = [
     (
         Message::EnvelopedData,
         "3034020103a00ba009a30706032a030505003109a40706032a03040500300c06032a0304300506032a0305a109300706032a03033100",
+    ),
+    // recipients and attributes that are exchanged
+    (
+        Message::EnvelopedData,
+        "303b0201003112a40706032a03040500a40706032a03030500300c06032a0304300506032a0305a114300906032a030431023000300706032a03033100",
     ),
     // a recipient of another kind; one that a key, a date and an attribute name; and two that agree, one by
     // a certificate with material of the user, and one by a key that is named so

@@ -1,5 +1,6 @@
 //! Fields by their names, of values that are read.
 
+use super::messages::numbered;
 use super::{same_in, stamps};
 use der_asn1_types::FromDer;
 use der_enveloped::enveloped::RecipientInfo;
@@ -18,17 +19,15 @@ enum Kind {
     Other,
 }
 
-// The kind of a recipient, and how many octets its key has.
+// The kind of a recipient, and how many octets its key has, or how many keys agree.
 fn recipient_told(alloc: Global, octets: &[u8]) -> Result<(Kind, usize), u8> {
     match RecipientInfo::from_der(alloc, octets) {
         Ok(RecipientInfo::Ktri(info)) => {
             Ok((Kind::Transport, info.encrypted_key().as_bytes().len()))
         }
         Ok(RecipientInfo::Kari(info)) => {
-            Ok((
-                Kind::Agreement,
-                info.value.recipient_encrypted_keys().as_slice().len(),
-            ))
+            let keys = info.value.recipient_encrypted_keys();
+            Ok((Kind::Agreement, numbered(keys.items().count(alloc))?))
         }
         Ok(RecipientInfo::Kekri(info)) => {
             Ok((Kind::Shared, info.value.encrypted_key().as_bytes().len()))

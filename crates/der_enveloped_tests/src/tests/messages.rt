@@ -22,10 +22,10 @@ pub(super) enum Message {
 /// the order of the two values, and whether they are equal.
 pub(super) type Tried = (Vec<u8>, bool, Ordering, bool);
 
-// The octets, or the number of why there are none.
-fn numbered(written: Result<Vec<u8>, Error>) -> Result<Vec<u8>, u8> {
-    match written {
-        Ok(octets) => Ok(octets),
+// What was found, or the number of why it was not.
+pub(super) fn numbered<T>(found: Result<T, Error>) -> Result<T, u8> {
+    match found {
+        Ok(value) => Ok(value),
         Err(e) => Err(e.kind().number()),
     }
 }

@@ -8,7 +8,7 @@ use Rattle.der_extensions.specs.declared.extension.general_names.GeneralNames.{G
 
 -- distributionPoint [0] DistributionPointName OPTIONAL
 abbrev pub distribution_point : DistributionPoint → Option DistributionPointName
-distribution_point v = option_map (λ x. x.fields.list.first) v.fields.list.first
+distribution_point v = option_map (λ x. x.fields.first) v.fields.list.first
 
 -- reasons [1] ReasonFlags OPTIONAL
 abbrev pub reasons : DistributionPoint → Option NamedBitsRef

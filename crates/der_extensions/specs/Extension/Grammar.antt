@@ -8,7 +8,8 @@ use Rattle.der_elem.specs.Integer.{natural_contents}
 use Rattle.der_elem.specs.IntegerReading.{parse_unsigned}
 use Rattle.der_extensions.specs.Extension.CrlReason.{all_of_crl_reason, number_of_crl_reason}
 use Rattle.der_fields.specs.MarkerTags.{marker_tag}
-use Rattle.der_modules.specs.Asn1.{CHOICE, DEFAULT, EXPLICIT, Grammar, IMPLICIT, NAMED, NOT_EMPTY, OPTIONAL, SEQUENCE, SEQUENCE_OF, any_of, context, end, field, one}
+use Rattle.der_lists.specs.Asn1.{SEQUENCE_OF}
+use Rattle.der_modules.specs.Asn1.{CHOICE, DEFAULT, EXPLICIT, Grammar, IMPLICIT, NAMED, NOT_EMPTY, OPTIONAL, SEQUENCE, any_of, context, end, field, one}
 use Rattle.der_numbers.specs.AnyLength.{parse_natural}
 use Rattle.der_opaque.specs.AnyForm.{parse_any}
 use Rattle.der_opaque.specs.ObjectIdentifierOctets.{parse_identifier}

@@ -7,7 +7,7 @@ use Rattle.der_extensions.specs.declared.extension.issuing_distribution_point.Is
 
 -- distributionPoint [0] DistributionPointName OPTIONAL
 abbrev pub distribution_point : IssuingDistributionPoint → Option DistributionPointName
-distribution_point v = option_map (λ x. x.fields.list.first) v.fields.list.first
+distribution_point v = option_map (λ x. x.fields.first) v.fields.list.first
 
 -- onlyContainsUserCerts [1] BOOLEAN DEFAULT FALSE
 abbrev pub only_contains_user_certs : IssuingDistributionPoint → Bool

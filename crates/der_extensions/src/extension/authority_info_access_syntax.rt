@@ -2,22 +2,19 @@
 //!
 //! Made by tools/asn1 from extension.asn1.
 
-ghost use Rattle.std.specs.Prelude.{◌≡◌, refl, true};
+ghost use Rattle.std.specs.Cmp.Lexicographic.{bytes_decides};
+ghost use Rattle.std.specs.Prelude.{◌≡◌, false, refl};
 ghost use Rattle.der_elem.specs.FormatMakers.{mapped_format};
 ghost use Rattle.der_extensions.specs.Extension.Grammar.{authority_info_access_syntax};
-ghost use Rattle.der_extensions.specs.contracts.extension.access_description.AccessDescriptionContentsEq.TheImpl.Laws as access_description_contents_eq;
-ghost use Rattle.der_extensions.specs.contracts.extension.access_description.AccessDescriptionDuplicateValue.TheImpl.Laws as access_description_duplicate_value;
-ghost use Rattle.der_extensions.specs.contracts.extension.access_description.AccessDescriptionDuplicateValueIsEqual.TheImpl.Laws as access_description_duplicate_value_is_equal;
+ghost use Rattle.der_lists.specs.NonEmptyRef.{list_of};
 ghost use Rattle.der_modules.specs.Asn1.{parse_of};
-ghost use Rattle.der_modules.specs.MemberLaws.{copies_of, held_copies, items_copies, items_equality, one_tag, one_tag_copies, one_tag_equality};
 
 use crate::extension::access_description::AccessDescription;
 use der_elem::{
-    ContentsEq, DecodeValue, DuplicateValue, DuplicateValueIsEqual, EncodeValue, Form, FormValue,
-    OneTag, Sequence, SequenceTag, TagMarker, ValueOrd,
+    ContentsEq, CopyIsDuplicate, DecodeValue, EncodeValue, Form, FormValue, OneTag, Sequence,
+    SequenceTag, ValueOrd,
 };
-use der_modules::CopyLaws;
-use der_nest::NonEmpty;
+use der_lists::{ListRef, NonEmptyRef};
 use der_tlv::{BackWriter, Error, Header, Length, Source, Writer};
 use std::alloc::Global;
 use std::cmp::Ordering;
@@ -27,35 +24,29 @@ use std::cmp::Ordering;
 ///         SEQUENCE SIZE (1..MAX) OF AccessDescription
 /// ```
 ///
-/// Reading refuses the first fault of the octets, in their order; `ErrorKind::Memory` (1) where
-/// memory runs out.
-#[derive(Debug, PartialEq, Eq, Drop)]
+/// Reading refuses the first fault of the octets, in their order.
+#[derive(Clone, Copy, Debug, PartialEq, Eq)]
 pub struct AuthorityInfoAccessSyntax<'a> {
-    items: NonEmpty<Vec<AccessDescription<'a>>>,
+    items: NonEmptyRef<ListRef<'a, AccessDescription<'a>>>,
 }
 
 impl<'a> AuthorityInfoAccessSyntax<'a> {
     ghost use Rattle.der_extensions.specs.Extension.AuthorityInfoAccessSyntax as authority_info_access_syntax;
 
     /// These items.
-    pub fn new(items: NonEmpty<Vec<AccessDescription<'a>>>) -> AuthorityInfoAccessSyntax<'a>
-        ensures { authority_info_access_syntax.items_of result ≡ items.entry.items }
+    pub fn new(
+        items: NonEmptyRef<ListRef<'a, AccessDescription<'a>>>,
+    ) -> AuthorityInfoAccessSyntax<'a>
+        ensures { authority_info_access_syntax.items_of result ≡ list_of items.entry }
     {
         AuthorityInfoAccessSyntax { items }
     }
 
     /// The items, in their order.
-    pub fn as_slice(&self) -> &[AccessDescription<'a>]
+    pub fn items(&self) -> &ListRef<'a, AccessDescription<'a>>
         ensures { result.now ≡ authority_info_access_syntax.items_of self.now }
     {
-        self.items.list().as_slice()
-    }
-
-    /// The items, in the room that holds them.
-    pub fn into_items(self) -> NonEmpty<Vec<AccessDescription<'a>>>
-        ensures { authority_info_access_syntax.items_of self.entry ≡ result.items }
-    {
-        self.items
+        self.items.list()
     }
 }
 
@@ -68,20 +59,22 @@ impl<'a> Sequence<'a> for AuthorityInfoAccessSyntax<'a> {
 }
 
 impl<'a> FormValue for AuthorityInfoAccessSyntax<'a> {
-    ghost value = { mapped_format (λ v. v.items) ⟦<NonEmpty<Vec<AccessDescription<'a>>> as FormValue>⟧.value };
+    ghost value = { mapped_format (λ v. v.items) ⟦<NonEmptyRef<ListRef<'a, AccessDescription<'a>>> as FormValue>⟧.value };
 }
 
 impl<'a, R: Source<'a>> DecodeValue<'a, R> for AuthorityInfoAccessSyntax<'a> {
-    ghost TAKES_MEMORY = { true };
+    ghost TAKES_MEMORY = { false };
 
-    const TAKES_MEMORY: bool = true;
+    const TAKES_MEMORY: bool = false;
 
     fn decode_value(
         alloc: Global,
         reader: &mut R,
         header: Header,
     ) -> Result<AuthorityInfoAccessSyntax<'a>, Error> {
-        match NonEmpty::<Vec<AccessDescription<'a>>>::decode_value(alloc, reader, header) {
+        match NonEmptyRef::<ListRef<'a, AccessDescription<'a>>>::decode_value(
+            alloc, reader, header,
+        ) {
             Ok(items) => Ok(AuthorityInfoAccessSyntax { items }),
             Err(e) => Err(e),
         }
@@ -111,36 +104,10 @@ impl<'a> ValueOrd for AuthorityInfoAccessSyntax<'a> {
 }
 
 impl<'a> ContentsEq for AuthorityInfoAccessSyntax<'a> {
-    ghost contents_eq = { λ v w. (items_equality ⟦<AccessDescription<'a> as Form>⟧ (one_tag ⟦<SequenceTag as TagMarker>⟧.TAG ⟦<AccessDescription<'a> as FormValue>⟧.value.contents) ⟦<AccessDescription<'a> as PartialEq>⟧.eq (one_tag_equality ⟦<SequenceTag as TagMarker>⟧.TAG ⟦<AccessDescription<'a> as FormValue>⟧.value.contents ⟦<AccessDescription<'a> as FormValue>⟧.value.comparable ⟦<AccessDescription<'a> as PartialEq>⟧.eq access_description_contents_eq.contents_eq-law)) v.items.items w.items.items };
+    ghost contents_eq = { λ v w. (λ one. bytes_decides v.items.list.octets.octets.now w.items.list.octets.octets.now) };
 }
 
-impl<'a> CopyLaws for AuthorityInfoAccessSyntax<'a> {
-    ghost copies = { copies_of (held_copies (λ v. v.items.items)
-        (items_copies ⟦<AccessDescription<'a> as Form>⟧ (one_tag_copies ⟦<SequenceTag as TagMarker>⟧.TAG (record { octets_are = access_description_duplicate_value.copy_contents-law; comparable_are = access_description_duplicate_value.copy_comparable_value-law; re_reads_are = access_description_duplicate_value.copy_re_reads_value-law; equal_are = access_description_duplicate_value_is_equal.copy_value_is_equal-law })))) };
-}
-
-impl<'a> DuplicateValue for AuthorityInfoAccessSyntax<'a> {
-    ghost is_copy_value = { λ v w. ⟦<NonEmpty<Vec<AccessDescription<'a>>> as DuplicateValue>⟧.is_copy_value v.items w.items };
-
-    ghost takes_memory_to_copy_value = { ⟦<NonEmpty<Vec<AccessDescription<'a>>> as DuplicateValue>⟧.takes_memory_to_copy_value };
-
-    fn duplicate_value(&self) -> Result<AuthorityInfoAccessSyntax<'a>, Error> {
-        match self.items.duplicate_value() {
-            Ok(items) => Ok(AuthorityInfoAccessSyntax { items }),
-            Err(e) => Err(e),
-        }
-    }
-
-    ghost copy_contents = { ⟦<AuthorityInfoAccessSyntax<'a> as CopyLaws>⟧.copies.laws.octets_are };
-
-    ghost copy_comparable_value = { ⟦<AuthorityInfoAccessSyntax<'a> as CopyLaws>⟧.copies.laws.comparable_are };
-
-    ghost copy_re_reads_value = { ⟦<AuthorityInfoAccessSyntax<'a> as CopyLaws>⟧.copies.laws.re_reads_are };
-}
-
-impl<'a> DuplicateValueIsEqual for AuthorityInfoAccessSyntax<'a> {
-    ghost copy_value_is_equal = { ⟦<AuthorityInfoAccessSyntax<'a> as CopyLaws>⟧.copies.laws.equal_are };
-}
+impl<'a> CopyIsDuplicate for AuthorityInfoAccessSyntax<'a> {}
 
 /// What is read as `AuthorityInfoAccessSyntax` is what the page of the grammar says.
 pub fn grammar_of_authority_info_access_syntax<'a>()

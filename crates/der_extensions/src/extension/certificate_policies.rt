@@ -2,22 +2,19 @@
 //!
 //! Made by tools/asn1 from extension.asn1.
 
-ghost use Rattle.std.specs.Prelude.{◌≡◌, refl, true};
+ghost use Rattle.std.specs.Cmp.Lexicographic.{bytes_decides};
+ghost use Rattle.std.specs.Prelude.{◌≡◌, false, refl};
 ghost use Rattle.der_elem.specs.FormatMakers.{mapped_format};
 ghost use Rattle.der_extensions.specs.Extension.Grammar.{certificate_policies};
-ghost use Rattle.der_extensions.specs.contracts.extension.policy_information.PolicyInformationContentsEq.TheImpl.Laws as policy_information_contents_eq;
-ghost use Rattle.der_extensions.specs.contracts.extension.policy_information.PolicyInformationDuplicateValue.TheImpl.Laws as policy_information_duplicate_value;
-ghost use Rattle.der_extensions.specs.contracts.extension.policy_information.PolicyInformationDuplicateValueIsEqual.TheImpl.Laws as policy_information_duplicate_value_is_equal;
+ghost use Rattle.der_lists.specs.NonEmptyRef.{list_of};
 ghost use Rattle.der_modules.specs.Asn1.{parse_of};
-ghost use Rattle.der_modules.specs.MemberLaws.{copies_of, held_copies, items_copies, items_equality, one_tag, one_tag_copies, one_tag_equality};
 
 use crate::extension::policy_information::PolicyInformation;
 use der_elem::{
-    ContentsEq, DecodeValue, DuplicateValue, DuplicateValueIsEqual, EncodeValue, Form, FormValue,
-    OneTag, Sequence, SequenceTag, TagMarker, ValueOrd,
+    ContentsEq, CopyIsDuplicate, DecodeValue, EncodeValue, Form, FormValue, OneTag, Sequence,
+    SequenceTag, ValueOrd,
 };
-use der_modules::CopyLaws;
-use der_nest::NonEmpty;
+use der_lists::{ListRef, NonEmptyRef};
 use der_tlv::{BackWriter, Error, Header, Length, Source, Writer};
 use std::alloc::Global;
 use std::cmp::Ordering;
@@ -26,35 +23,27 @@ use std::cmp::Ordering;
 /// CertificatePolicies ::= SEQUENCE SIZE (1..MAX) OF PolicyInformation
 /// ```
 ///
-/// Reading refuses the first fault of the octets, in their order; `ErrorKind::Memory` (1) where
-/// memory runs out.
-#[derive(Debug, PartialEq, Eq, Drop)]
+/// Reading refuses the first fault of the octets, in their order.
+#[derive(Clone, Copy, Debug, PartialEq, Eq)]
 pub struct CertificatePolicies<'a> {
-    items: NonEmpty<Vec<PolicyInformation<'a>>>,
+    items: NonEmptyRef<ListRef<'a, PolicyInformation<'a>>>,
 }
 
 impl<'a> CertificatePolicies<'a> {
     ghost use Rattle.der_extensions.specs.Extension.CertificatePolicies as certificate_policies;
 
     /// These items.
-    pub fn new(items: NonEmpty<Vec<PolicyInformation<'a>>>) -> CertificatePolicies<'a>
-        ensures { certificate_policies.items_of result ≡ items.entry.items }
+    pub fn new(items: NonEmptyRef<ListRef<'a, PolicyInformation<'a>>>) -> CertificatePolicies<'a>
+        ensures { certificate_policies.items_of result ≡ list_of items.entry }
     {
         CertificatePolicies { items }
     }
 
     /// The items, in their order.
-    pub fn as_slice(&self) -> &[PolicyInformation<'a>]
+    pub fn items(&self) -> &ListRef<'a, PolicyInformation<'a>>
         ensures { result.now ≡ certificate_policies.items_of self.now }
     {
-        self.items.list().as_slice()
-    }
-
-    /// The items, in the room that holds them.
-    pub fn into_items(self) -> NonEmpty<Vec<PolicyInformation<'a>>>
-        ensures { certificate_policies.items_of self.entry ≡ result.items }
-    {
-        self.items
+        self.items.list()
     }
 }
 
@@ -67,20 +56,22 @@ impl<'a> Sequence<'a> for CertificatePolicies<'a> {
 }
 
 impl<'a> FormValue for CertificatePolicies<'a> {
-    ghost value = { mapped_format (λ v. v.items) ⟦<NonEmpty<Vec<PolicyInformation<'a>>> as FormValue>⟧.value };
+    ghost value = { mapped_format (λ v. v.items) ⟦<NonEmptyRef<ListRef<'a, PolicyInformation<'a>>> as FormValue>⟧.value };
 }
 
 impl<'a, R: Source<'a>> DecodeValue<'a, R> for CertificatePolicies<'a> {
-    ghost TAKES_MEMORY = { true };
+    ghost TAKES_MEMORY = { false };
 
-    const TAKES_MEMORY: bool = true;
+    const TAKES_MEMORY: bool = false;
 
     fn decode_value(
         alloc: Global,
         reader: &mut R,
         header: Header,
     ) -> Result<CertificatePolicies<'a>, Error> {
-        match NonEmpty::<Vec<PolicyInformation<'a>>>::decode_value(alloc, reader, header) {
+        match NonEmptyRef::<ListRef<'a, PolicyInformation<'a>>>::decode_value(
+            alloc, reader, header,
+        ) {
             Ok(items) => Ok(CertificatePolicies { items }),
             Err(e) => Err(e),
         }
@@ -110,36 +101,10 @@ impl<'a> ValueOrd for CertificatePolicies<'a> {
 }
 
 impl<'a> ContentsEq for CertificatePolicies<'a> {
-    ghost contents_eq = { λ v w. (items_equality ⟦<PolicyInformation<'a> as Form>⟧ (one_tag ⟦<SequenceTag as TagMarker>⟧.TAG ⟦<PolicyInformation<'a> as FormValue>⟧.value.contents) ⟦<PolicyInformation<'a> as PartialEq>⟧.eq (one_tag_equality ⟦<SequenceTag as TagMarker>⟧.TAG ⟦<PolicyInformation<'a> as FormValue>⟧.value.contents ⟦<PolicyInformation<'a> as FormValue>⟧.value.comparable ⟦<PolicyInformation<'a> as PartialEq>⟧.eq policy_information_contents_eq.contents_eq-law)) v.items.items w.items.items };
+    ghost contents_eq = { λ v w. (λ one. bytes_decides v.items.list.octets.octets.now w.items.list.octets.octets.now) };
 }
 
-impl<'a> CopyLaws for CertificatePolicies<'a> {
-    ghost copies = { copies_of (held_copies (λ v. v.items.items)
-        (items_copies ⟦<PolicyInformation<'a> as Form>⟧ (one_tag_copies ⟦<SequenceTag as TagMarker>⟧.TAG (record { octets_are = policy_information_duplicate_value.copy_contents-law; comparable_are = policy_information_duplicate_value.copy_comparable_value-law; re_reads_are = policy_information_duplicate_value.copy_re_reads_value-law; equal_are = policy_information_duplicate_value_is_equal.copy_value_is_equal-law })))) };
-}
-
-impl<'a> DuplicateValue for CertificatePolicies<'a> {
-    ghost is_copy_value = { λ v w. ⟦<NonEmpty<Vec<PolicyInformation<'a>>> as DuplicateValue>⟧.is_copy_value v.items w.items };
-
-    ghost takes_memory_to_copy_value = { ⟦<NonEmpty<Vec<PolicyInformation<'a>>> as DuplicateValue>⟧.takes_memory_to_copy_value };
-
-    fn duplicate_value(&self) -> Result<CertificatePolicies<'a>, Error> {
-        match self.items.duplicate_value() {
-            Ok(items) => Ok(CertificatePolicies { items }),
-            Err(e) => Err(e),
-        }
-    }
-
-    ghost copy_contents = { ⟦<CertificatePolicies<'a> as CopyLaws>⟧.copies.laws.octets_are };
-
-    ghost copy_comparable_value = { ⟦<CertificatePolicies<'a> as CopyLaws>⟧.copies.laws.comparable_are };
-
-    ghost copy_re_reads_value = { ⟦<CertificatePolicies<'a> as CopyLaws>⟧.copies.laws.re_reads_are };
-}
-
-impl<'a> DuplicateValueIsEqual for CertificatePolicies<'a> {
-    ghost copy_value_is_equal = { ⟦<CertificatePolicies<'a> as CopyLaws>⟧.copies.laws.equal_are };
-}
+impl<'a> CopyIsDuplicate for CertificatePolicies<'a> {}
 
 /// What is read as `CertificatePolicies` is what the page of the grammar says.
 pub fn grammar_of_certificate_policies<'a>()

@@ -2,22 +2,19 @@
 //!
 //! Made by tools/asn1 from extension.asn1.
 
-ghost use Rattle.std.specs.Prelude.{◌≡◌, refl, true};
+ghost use Rattle.std.specs.Cmp.Lexicographic.{bytes_decides};
+ghost use Rattle.std.specs.Prelude.{◌≡◌, false, refl};
 ghost use Rattle.der_elem.specs.FormatMakers.{mapped_format};
 ghost use Rattle.der_extensions.specs.Extension.Grammar.{crl_distribution_points};
-ghost use Rattle.der_extensions.specs.contracts.extension.distribution_point.DistributionPointContentsEq.TheImpl.Laws as distribution_point_contents_eq;
-ghost use Rattle.der_extensions.specs.contracts.extension.distribution_point.DistributionPointDuplicateValue.TheImpl.Laws as distribution_point_duplicate_value;
-ghost use Rattle.der_extensions.specs.contracts.extension.distribution_point.DistributionPointDuplicateValueIsEqual.TheImpl.Laws as distribution_point_duplicate_value_is_equal;
+ghost use Rattle.der_lists.specs.NonEmptyRef.{list_of};
 ghost use Rattle.der_modules.specs.Asn1.{parse_of};
-ghost use Rattle.der_modules.specs.MemberLaws.{copies_of, held_copies, items_copies, items_equality, one_tag, one_tag_copies, one_tag_equality};
 
 use crate::extension::distribution_point::DistributionPoint;
 use der_elem::{
-    ContentsEq, DecodeValue, DuplicateValue, DuplicateValueIsEqual, EncodeValue, Form, FormValue,
-    OneTag, Sequence, SequenceTag, TagMarker, ValueOrd,
+    ContentsEq, CopyIsDuplicate, DecodeValue, EncodeValue, Form, FormValue, OneTag, Sequence,
+    SequenceTag, ValueOrd,
 };
-use der_modules::CopyLaws;
-use der_nest::NonEmpty;
+use der_lists::{ListRef, NonEmptyRef};
 use der_tlv::{BackWriter, Error, Header, Length, Source, Writer};
 use std::alloc::Global;
 use std::cmp::Ordering;
@@ -26,35 +23,27 @@ use std::cmp::Ordering;
 /// CRLDistributionPoints ::= SEQUENCE SIZE (1..MAX) OF DistributionPoint
 /// ```
 ///
-/// Reading refuses the first fault of the octets, in their order; `ErrorKind::Memory` (1) where
-/// memory runs out.
-#[derive(Debug, PartialEq, Eq, Drop)]
+/// Reading refuses the first fault of the octets, in their order.
+#[derive(Clone, Copy, Debug, PartialEq, Eq)]
 pub struct CrlDistributionPoints<'a> {
-    items: NonEmpty<Vec<DistributionPoint<'a>>>,
+    items: NonEmptyRef<ListRef<'a, DistributionPoint<'a>>>,
 }
 
 impl<'a> CrlDistributionPoints<'a> {
     ghost use Rattle.der_extensions.specs.Extension.CrlDistributionPoints as crl_distribution_points;
 
     /// These items.
-    pub fn new(items: NonEmpty<Vec<DistributionPoint<'a>>>) -> CrlDistributionPoints<'a>
-        ensures { crl_distribution_points.items_of result ≡ items.entry.items }
+    pub fn new(items: NonEmptyRef<ListRef<'a, DistributionPoint<'a>>>) -> CrlDistributionPoints<'a>
+        ensures { crl_distribution_points.items_of result ≡ list_of items.entry }
     {
         CrlDistributionPoints { items }
     }
 
     /// The items, in their order.
-    pub fn as_slice(&self) -> &[DistributionPoint<'a>]
+    pub fn items(&self) -> &ListRef<'a, DistributionPoint<'a>>
         ensures { result.now ≡ crl_distribution_points.items_of self.now }
     {
-        self.items.list().as_slice()
-    }
-
-    /// The items, in the room that holds them.
-    pub fn into_items(self) -> NonEmpty<Vec<DistributionPoint<'a>>>
-        ensures { crl_distribution_points.items_of self.entry ≡ result.items }
-    {
-        self.items
+        self.items.list()
     }
 }
 
@@ -67,20 +56,22 @@ impl<'a> Sequence<'a> for CrlDistributionPoints<'a> {
 }
 
 impl<'a> FormValue for CrlDistributionPoints<'a> {
-    ghost value = { mapped_format (λ v. v.items) ⟦<NonEmpty<Vec<DistributionPoint<'a>>> as FormValue>⟧.value };
+    ghost value = { mapped_format (λ v. v.items) ⟦<NonEmptyRef<ListRef<'a, DistributionPoint<'a>>> as FormValue>⟧.value };
 }
 
 impl<'a, R: Source<'a>> DecodeValue<'a, R> for CrlDistributionPoints<'a> {
-    ghost TAKES_MEMORY = { true };
+    ghost TAKES_MEMORY = { false };
 
-    const TAKES_MEMORY: bool = true;
+    const TAKES_MEMORY: bool = false;
 
     fn decode_value(
         alloc: Global,
         reader: &mut R,
         header: Header,
     ) -> Result<CrlDistributionPoints<'a>, Error> {
-        match NonEmpty::<Vec<DistributionPoint<'a>>>::decode_value(alloc, reader, header) {
+        match NonEmptyRef::<ListRef<'a, DistributionPoint<'a>>>::decode_value(
+            alloc, reader, header,
+        ) {
             Ok(items) => Ok(CrlDistributionPoints { items }),
             Err(e) => Err(e),
         }
@@ -110,36 +101,10 @@ impl<'a> ValueOrd for CrlDistributionPoints<'a> {
 }
 
 impl<'a> ContentsEq for CrlDistributionPoints<'a> {
-    ghost contents_eq = { λ v w. (items_equality ⟦<DistributionPoint<'a> as Form>⟧ (one_tag ⟦<SequenceTag as TagMarker>⟧.TAG ⟦<DistributionPoint<'a> as FormValue>⟧.value.contents) ⟦<DistributionPoint<'a> as PartialEq>⟧.eq (one_tag_equality ⟦<SequenceTag as TagMarker>⟧.TAG ⟦<DistributionPoint<'a> as FormValue>⟧.value.contents ⟦<DistributionPoint<'a> as FormValue>⟧.value.comparable ⟦<DistributionPoint<'a> as PartialEq>⟧.eq distribution_point_contents_eq.contents_eq-law)) v.items.items w.items.items };
+    ghost contents_eq = { λ v w. (λ one. bytes_decides v.items.list.octets.octets.now w.items.list.octets.octets.now) };
 }
 
-impl<'a> CopyLaws for CrlDistributionPoints<'a> {
-    ghost copies = { copies_of (held_copies (λ v. v.items.items)
-        (items_copies ⟦<DistributionPoint<'a> as Form>⟧ (one_tag_copies ⟦<SequenceTag as TagMarker>⟧.TAG (record { octets_are = distribution_point_duplicate_value.copy_contents-law; comparable_are = distribution_point_duplicate_value.copy_comparable_value-law; re_reads_are = distribution_point_duplicate_value.copy_re_reads_value-law; equal_are = distribution_point_duplicate_value_is_equal.copy_value_is_equal-law })))) };
-}
-
-impl<'a> DuplicateValue for CrlDistributionPoints<'a> {
-    ghost is_copy_value = { λ v w. ⟦<NonEmpty<Vec<DistributionPoint<'a>>> as DuplicateValue>⟧.is_copy_value v.items w.items };
-
-    ghost takes_memory_to_copy_value = { ⟦<NonEmpty<Vec<DistributionPoint<'a>>> as DuplicateValue>⟧.takes_memory_to_copy_value };
-
-    fn duplicate_value(&self) -> Result<CrlDistributionPoints<'a>, Error> {
-        match self.items.duplicate_value() {
-            Ok(items) => Ok(CrlDistributionPoints { items }),
-            Err(e) => Err(e),
-        }
-    }
-
-    ghost copy_contents = { ⟦<CrlDistributionPoints<'a> as CopyLaws>⟧.copies.laws.octets_are };
-
-    ghost copy_comparable_value = { ⟦<CrlDistributionPoints<'a> as CopyLaws>⟧.copies.laws.comparable_are };
-
-    ghost copy_re_reads_value = { ⟦<CrlDistributionPoints<'a> as CopyLaws>⟧.copies.laws.re_reads_are };
-}
-
-impl<'a> DuplicateValueIsEqual for CrlDistributionPoints<'a> {
-    ghost copy_value_is_equal = { ⟦<CrlDistributionPoints<'a> as CopyLaws>⟧.copies.laws.equal_are };
-}
+impl<'a> CopyIsDuplicate for CrlDistributionPoints<'a> {}
 
 /// What is read as `CRLDistributionPoints` is what the page of the grammar says.
 pub fn grammar_of_crl_distribution_points<'a>()

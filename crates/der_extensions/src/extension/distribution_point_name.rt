@@ -10,15 +10,12 @@ ghost use Rattle.der_elem.specs.KnownTagLaws.{known_either, own_is_known};
 ghost use Rattle.der_elem.specs.TaggedLaws.{tlv_tagged};
 ghost use Rattle.der_extensions.specs.Extension.DistributionPointName.{tree_of};
 ghost use Rattle.der_extensions.specs.Extension.Grammar.{distribution_point_name};
+ghost use Rattle.der_extensions.specs.contracts.extension.distribution_point_name.DistributionPointNameEq.TheImpl.Laws as distribution_point_name_eq;
 ghost use Rattle.der_extensions.specs.contracts.extension.general_names.GeneralNamesContentsEq.TheImpl.Laws as general_names_contents_eq;
-ghost use Rattle.der_extensions.specs.contracts.extension.general_names.GeneralNamesDuplicateValue.TheImpl.Laws as general_names_duplicate_value;
-ghost use Rattle.der_extensions.specs.contracts.extension.general_names.GeneralNamesDuplicateValueIsEqual.TheImpl.Laws as general_names_duplicate_value_is_equal;
 ghost use Rattle.der_extensions.specs.declared.extension.distribution_point_name.DistributionPointName.TheVariants as of;
 ghost use Rattle.der_modules.specs.Asn1.{parse_of};
-ghost use Rattle.der_modules.specs.MemberLaws.{copies_of, either_copies, either_equality, either_tag, held_copies, one_tag, one_tag_copies, one_tag_equality, seen_copies, seen_equality};
+ghost use Rattle.der_modules.specs.MemberLaws.{copies_of, either_equality, either_tag, one_tag, one_tag_equality, same_copies, seen_equality};
 ghost use Rattle.der_pkix.specs.contracts.name.relative_distinguished_name.RelativeDistinguishedNameContentsEq.TheImpl.Laws as relative_distinguished_name_contents_eq;
-ghost use Rattle.der_pkix.specs.contracts.name.relative_distinguished_name.RelativeDistinguishedNameDuplicateValue.TheImpl.Laws as relative_distinguished_name_duplicate_value;
-ghost use Rattle.der_pkix.specs.contracts.name.relative_distinguished_name.RelativeDistinguishedNameDuplicateValueIsEqual.TheImpl.Laws as relative_distinguished_name_duplicate_value_is_equal;
 
 use crate::extension::general_names::GeneralNames;
 use der_elem::{
@@ -26,7 +23,7 @@ use der_elem::{
     Form, FormValue, KnownTags, SequenceTag, SetTag, TagMarker, Tagged,
 };
 use der_fields::{Implicit, ImplicitTag, OneOf, cmp_headers};
-use der_modules::CopyLaws;
+use der_modules::{CopyLaws, copy_of};
 use der_pkix::name::RelativeDistinguishedName;
 use der_tlv::{BackWriter, Error, Length, Source, Tag, Writer};
 use std::alloc::Global;
@@ -43,7 +40,7 @@ type Tree<'a> = OneOf<Implicit<GeneralNames<'a>, 0>, Implicit<RelativeDistinguis
 ///
 /// Reading refuses a tag that no alternative has (`ErrorKind::TagUnexpected`, 4), and the
 /// alternative's faults.
-#[derive(Debug, PartialEq, Eq, Drop)]
+#[derive(Clone, Copy, Debug, PartialEq, Eq)]
 pub enum DistributionPointName<'a> {
     /// `fullName`, `[0] GeneralNames`.
     FullName(Implicit<GeneralNames<'a>, 0>),
@@ -145,9 +142,9 @@ impl<'a> KnownTags for DistributionPointName<'a> {
 }
 
 impl<'a, R: Source<'a>> Decode<'a, R> for DistributionPointName<'a> {
-    ghost TAKES_MEMORY = { true };
+    ghost TAKES_MEMORY = { false };
 
-    const TAKES_MEMORY: bool = true;
+    const TAKES_MEMORY: bool = false;
 
     fn decode(alloc: Global, reader: &mut R) -> Result<DistributionPointName<'a>, Error> {
         match Tree::<'a>::decode(alloc, reader) {
@@ -161,9 +158,9 @@ impl<'a, R: Source<'a>> Decode<'a, R> for DistributionPointName<'a> {
 }
 
 impl<'a, R: Source<'a>> DecodeField<'a, R> for DistributionPointName<'a> {
-    ghost TAKES_MEMORY = { true };
+    ghost TAKES_MEMORY = { false };
 
-    const TAKES_MEMORY: bool = true;
+    const TAKES_MEMORY: bool = false;
 
     fn decode_field(alloc: Global, reader: &mut R) -> Result<DistributionPointName<'a>, Error> {
         DistributionPointName::decode(alloc, reader)
@@ -222,30 +219,16 @@ impl<'a> EncodingEq for DistributionPointName<'a> {
 }
 
 impl<'a> CopyLaws for DistributionPointName<'a> {
-    ghost copies = { copies_of ((seen_copies tree_of ⟦<DistributionPointName<'a> as PartialEq>⟧.eq ⟦<Tree<'a> as PartialEq>⟧.eq (λ v w. elim v as (λ k. ⟦<DistributionPointName<'a> as PartialEq>⟧.eq k w ≡ ⟦<Tree<'a> as PartialEq>⟧.eq (tree_of k) (tree_of w)) [ of.FullName x ↦ elim w as (λ k. ⟦<DistributionPointName<'a> as PartialEq>⟧.eq (of.FullName x) k ≡ ⟦<Tree<'a> as PartialEq>⟧.eq (tree_of (of.FullName x)) (tree_of k)) [ of.FullName y ↦ refl | of.NameRelativeToCrlIssuer y ↦ refl ] | of.NameRelativeToCrlIssuer x ↦ elim w as (λ k. ⟦<DistributionPointName<'a> as PartialEq>⟧.eq (of.NameRelativeToCrlIssuer x) k ≡ ⟦<Tree<'a> as PartialEq>⟧.eq (tree_of (of.NameRelativeToCrlIssuer x)) (tree_of k)) [ of.FullName y ↦ refl | of.NameRelativeToCrlIssuer y ↦ refl ] ]) (either_copies ⟦<Implicit<GeneralNames<'a>, 0> as Form>⟧ ⟦<Implicit<RelativeDistinguishedName<'a>, 1> as Form>⟧
-        (one_tag ⟦<ImplicitTag<SequenceTag, 0> as TagMarker>⟧.TAG ⟦<Implicit<GeneralNames<'a>, 0> as FormValue>⟧.value.contents)
-        (one_tag ⟦<ImplicitTag<SetTag, 1> as TagMarker>⟧.TAG ⟦<Implicit<RelativeDistinguishedName<'a>, 1> as FormValue>⟧.value.contents)
-        (one_tag_copies ⟦<ImplicitTag<SequenceTag, 0> as TagMarker>⟧.TAG (held_copies (λ x. x.value) (record { octets_are = general_names_duplicate_value.copy_contents-law; comparable_are = general_names_duplicate_value.copy_comparable_value-law; re_reads_are = general_names_duplicate_value.copy_re_reads_value-law; equal_are = general_names_duplicate_value_is_equal.copy_value_is_equal-law })))
-        (one_tag_copies ⟦<ImplicitTag<SetTag, 1> as TagMarker>⟧.TAG (held_copies (λ x. x.value) (record { octets_are = relative_distinguished_name_duplicate_value.copy_contents-law; comparable_are = relative_distinguished_name_duplicate_value.copy_comparable_value-law; re_reads_are = relative_distinguished_name_duplicate_value.copy_re_reads_value-law; equal_are = relative_distinguished_name_duplicate_value_is_equal.copy_value_is_equal-law })))
-        ⟦<OneOf<Implicit<GeneralNames<'a>, 0>, Implicit<RelativeDistinguishedName<'a>, 1>> as PartialEq>⟧.eq (λ v x. refl) (λ w y. refl)))) };
+    ghost copies = { copies_of ((same_copies ⟦<DistributionPointName<'a> as Form>⟧.encoding ⟦<DistributionPointName<'a> as Form>⟧.comparable ⟦<DistributionPointName<'a> as Form>⟧.re_reads ⟦<DistributionPointName<'a> as PartialEq>⟧.eq distribution_point_name_eq.laws-law.refl)) };
 }
 
 impl<'a> Duplicate for DistributionPointName<'a> {
-    ghost is_copy = { λ v w. ⟦<Tree<'a> as Duplicate>⟧.is_copy (tree_of v) (tree_of w) };
+    ghost is_copy = { λ v w. w ≡ v };
 
-    ghost takes_memory_to_copy = { ⟦<Tree<'a> as Duplicate>⟧.takes_memory_to_copy };
+    ghost takes_memory_to_copy = { false };
 
     fn duplicate(&self) -> Result<DistributionPointName<'a>, Error> {
-        match self {
-            DistributionPointName::FullName(value) => match value.duplicate() {
-                Ok(value) => Ok(DistributionPointName::FullName(value)),
-                Err(e) => Err(e),
-            },
-            DistributionPointName::NameRelativeToCrlIssuer(value) => match value.duplicate() {
-                Ok(value) => Ok(DistributionPointName::NameRelativeToCrlIssuer(value)),
-                Err(e) => Err(e),
-            },
-        }
+        Ok(copy_of(self))
     }
 
     ghost copy_encoding = { ⟦<DistributionPointName<'a> as CopyLaws>⟧.copies.laws.octets_are };

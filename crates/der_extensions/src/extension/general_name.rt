@@ -13,16 +13,14 @@ ghost use Rattle.der_elem.specs.TaggedLaws.{tlv_tagged};
 ghost use Rattle.der_extensions.specs.Extension.GeneralName.{tree_of};
 ghost use Rattle.der_extensions.specs.Extension.Grammar.{general_name};
 ghost use Rattle.der_extensions.specs.contracts.extension.another_name.AnotherNameContentsEq.TheImpl.Laws as another_name_contents_eq;
-ghost use Rattle.der_extensions.specs.contracts.extension.another_name.AnotherNameEq.TheImpl.Laws as another_name_eq;
+ghost use Rattle.der_extensions.specs.contracts.extension.general_name.GeneralNameEq.TheImpl.Laws as general_name_eq;
 ghost use Rattle.der_extensions.specs.declared.extension.general_name.GeneralName.TheVariants as of;
 ghost use Rattle.der_modules.specs.Asn1.{parse_of};
-ghost use Rattle.der_modules.specs.MemberLaws.{copies_of, either_copies, either_equality, either_tag, held_copies, listed_copies, member_copies, member_equality, no_copies, no_equality, one_tag, one_tag_copies, one_tag_equality, same_copies, seen_copies, seen_equality, tagged_starts};
+ghost use Rattle.der_modules.specs.MemberLaws.{copies_of, either_equality, either_tag, member_equality, no_equality, one_tag, one_tag_equality, same_copies, seen_equality, tagged_starts};
 ghost use Rattle.der_nest.specs.contracts.sequence_ref.SequenceRefContentsEq.TheImpl.Laws as sequenceref_contents_eq;
 ghost use Rattle.der_opaque.specs.contracts.object_identifier_ref.ObjectIdentifierRefContentsEq.TheImpl.Laws as objectidentifierref_contents_eq;
 ghost use Rattle.der_opaque.specs.contracts.octet_string_ref.OctetStringRefContentsEq.TheImpl.Laws as octetstringref_contents_eq;
 ghost use Rattle.der_pkix.specs.contracts.name.rdn_sequence.RdnSequenceContentsEq.TheImpl.Laws as rdn_sequence_contents_eq;
-ghost use Rattle.der_pkix.specs.contracts.name.rdn_sequence.RdnSequenceDuplicateValue.TheImpl.Laws as rdn_sequence_duplicate_value;
-ghost use Rattle.der_pkix.specs.contracts.name.rdn_sequence.RdnSequenceDuplicateValueIsEqual.TheImpl.Laws as rdn_sequence_duplicate_value_is_equal;
 
 use crate::extension::another_name::AnotherName;
 use der_ascii::{CharacterStringTag, Ia5StringRef};
@@ -32,7 +30,7 @@ use der_elem::{
     Tagged,
 };
 use der_fields::{Explicit, ExplicitTag, Implicit, ImplicitTag, OneOf, cmp_headers};
-use der_modules::CopyLaws;
+use der_modules::{CopyLaws, copy_of};
 use der_nest::SequenceRef;
 use der_opaque::{ObjectIdentifierRef, OctetStringRef};
 use der_pkix::name::{Name, RdnSequence};
@@ -70,7 +68,7 @@ type Tree<'a> = OneOf<
 ///
 /// Reading refuses a tag that no alternative has (`ErrorKind::TagUnexpected`, 4), and the
 /// alternative's faults.
-#[derive(Debug, PartialEq, Eq, Drop)]
+#[derive(Clone, Copy, Debug, PartialEq, Eq)]
 pub enum GeneralName<'a> {
     /// `otherName`, `[0] AnotherName`.
     OtherName(Implicit<AnotherName<'a>, 0>),
@@ -235,9 +233,9 @@ impl<'a> KnownTags for GeneralName<'a> {
 }
 
 impl<'a, R: Source<'a>> Decode<'a, R> for GeneralName<'a> {
-    ghost TAKES_MEMORY = { true };
+    ghost TAKES_MEMORY = { false };
 
-    const TAKES_MEMORY: bool = true;
+    const TAKES_MEMORY: bool = false;
 
     fn decode(alloc: Global, reader: &mut R) -> Result<GeneralName<'a>, Error> {
         match Tree::<'a>::decode(alloc, reader) {
@@ -274,9 +272,9 @@ impl<'a, R: Source<'a>> Decode<'a, R> for GeneralName<'a> {
 }
 
 impl<'a, R: Source<'a>> DecodeField<'a, R> for GeneralName<'a> {
-    ghost TAKES_MEMORY = { true };
+    ghost TAKES_MEMORY = { false };
 
-    const TAKES_MEMORY: bool = true;
+    const TAKES_MEMORY: bool = false;
 
     fn decode_field(alloc: Global, reader: &mut R) -> Result<GeneralName<'a>, Error> {
         GeneralName::decode(alloc, reader)
@@ -442,122 +440,16 @@ impl<'a> EncodingEq for GeneralName<'a> {
 }
 
 impl<'a> CopyLaws for GeneralName<'a> {
-    ghost copies = { copies_of ((seen_copies tree_of ⟦<GeneralName<'a> as PartialEq>⟧.eq ⟦<Tree<'a> as PartialEq>⟧.eq (λ v w. elim v as (λ k. ⟦<GeneralName<'a> as PartialEq>⟧.eq k w ≡ ⟦<Tree<'a> as PartialEq>⟧.eq (tree_of k) (tree_of w)) [ of.OtherName x ↦ elim w as (λ k. ⟦<GeneralName<'a> as PartialEq>⟧.eq (of.OtherName x) k ≡ ⟦<Tree<'a> as PartialEq>⟧.eq (tree_of (of.OtherName x)) (tree_of k)) [ of.OtherName y ↦ refl | of.Rfc822Name y ↦ refl | of.DnsName y ↦ refl | of.X400Address y ↦ refl | of.DirectoryName y ↦ refl | of.EdiPartyName y ↦ refl | of.UniformResourceIdentifier y ↦ refl | of.IpAddress y ↦ refl | of.RegisteredId y ↦ refl ] | of.Rfc822Name x ↦ elim w as (λ k. ⟦<GeneralName<'a> as PartialEq>⟧.eq (of.Rfc822Name x) k ≡ ⟦<Tree<'a> as PartialEq>⟧.eq (tree_of (of.Rfc822Name x)) (tree_of k)) [ of.OtherName y ↦ refl | of.Rfc822Name y ↦ refl | of.DnsName y ↦ refl | of.X400Address y ↦ refl | of.DirectoryName y ↦ refl | of.EdiPartyName y ↦ refl | of.UniformResourceIdentifier y ↦ refl | of.IpAddress y ↦ refl | of.RegisteredId y ↦ refl ] | of.DnsName x ↦ elim w as (λ k. ⟦<GeneralName<'a> as PartialEq>⟧.eq (of.DnsName x) k ≡ ⟦<Tree<'a> as PartialEq>⟧.eq (tree_of (of.DnsName x)) (tree_of k)) [ of.OtherName y ↦ refl | of.Rfc822Name y ↦ refl | of.DnsName y ↦ refl | of.X400Address y ↦ refl | of.DirectoryName y ↦ refl | of.EdiPartyName y ↦ refl | of.UniformResourceIdentifier y ↦ refl | of.IpAddress y ↦ refl | of.RegisteredId y ↦ refl ] | of.X400Address x ↦ elim w as (λ k. ⟦<GeneralName<'a> as PartialEq>⟧.eq (of.X400Address x) k ≡ ⟦<Tree<'a> as PartialEq>⟧.eq (tree_of (of.X400Address x)) (tree_of k)) [ of.OtherName y ↦ refl | of.Rfc822Name y ↦ refl | of.DnsName y ↦ refl | of.X400Address y ↦ refl | of.DirectoryName y ↦ refl | of.EdiPartyName y ↦ refl | of.UniformResourceIdentifier y ↦ refl | of.IpAddress y ↦ refl | of.RegisteredId y ↦ refl ] | of.DirectoryName x ↦ elim w as (λ k. ⟦<GeneralName<'a> as PartialEq>⟧.eq (of.DirectoryName x) k ≡ ⟦<Tree<'a> as PartialEq>⟧.eq (tree_of (of.DirectoryName x)) (tree_of k)) [ of.OtherName y ↦ refl | of.Rfc822Name y ↦ refl | of.DnsName y ↦ refl | of.X400Address y ↦ refl | of.DirectoryName y ↦ refl | of.EdiPartyName y ↦ refl | of.UniformResourceIdentifier y ↦ refl | of.IpAddress y ↦ refl | of.RegisteredId y ↦ refl ] | of.EdiPartyName x ↦ elim w as (λ k. ⟦<GeneralName<'a> as PartialEq>⟧.eq (of.EdiPartyName x) k ≡ ⟦<Tree<'a> as PartialEq>⟧.eq (tree_of (of.EdiPartyName x)) (tree_of k)) [ of.OtherName y ↦ refl | of.Rfc822Name y ↦ refl | of.DnsName y ↦ refl | of.X400Address y ↦ refl | of.DirectoryName y ↦ refl | of.EdiPartyName y ↦ refl | of.UniformResourceIdentifier y ↦ refl | of.IpAddress y ↦ refl | of.RegisteredId y ↦ refl ] | of.UniformResourceIdentifier x ↦ elim w as (λ k. ⟦<GeneralName<'a> as PartialEq>⟧.eq (of.UniformResourceIdentifier x) k ≡ ⟦<Tree<'a> as PartialEq>⟧.eq (tree_of (of.UniformResourceIdentifier x)) (tree_of k)) [ of.OtherName y ↦ refl | of.Rfc822Name y ↦ refl | of.DnsName y ↦ refl | of.X400Address y ↦ refl | of.DirectoryName y ↦ refl | of.EdiPartyName y ↦ refl | of.UniformResourceIdentifier y ↦ refl | of.IpAddress y ↦ refl | of.RegisteredId y ↦ refl ] | of.IpAddress x ↦ elim w as (λ k. ⟦<GeneralName<'a> as PartialEq>⟧.eq (of.IpAddress x) k ≡ ⟦<Tree<'a> as PartialEq>⟧.eq (tree_of (of.IpAddress x)) (tree_of k)) [ of.OtherName y ↦ refl | of.Rfc822Name y ↦ refl | of.DnsName y ↦ refl | of.X400Address y ↦ refl | of.DirectoryName y ↦ refl | of.EdiPartyName y ↦ refl | of.UniformResourceIdentifier y ↦ refl | of.IpAddress y ↦ refl | of.RegisteredId y ↦ refl ] | of.RegisteredId x ↦ elim w as (λ k. ⟦<GeneralName<'a> as PartialEq>⟧.eq (of.RegisteredId x) k ≡ ⟦<Tree<'a> as PartialEq>⟧.eq (tree_of (of.RegisteredId x)) (tree_of k)) [ of.OtherName y ↦ refl | of.Rfc822Name y ↦ refl | of.DnsName y ↦ refl | of.X400Address y ↦ refl | of.DirectoryName y ↦ refl | of.EdiPartyName y ↦ refl | of.UniformResourceIdentifier y ↦ refl | of.IpAddress y ↦ refl | of.RegisteredId y ↦ refl ] ]) (either_copies ⟦<OneOf<OneOf<OneOf<Implicit<AnotherName<'a>, 0>, Implicit<Ia5StringRef<'a>, 1>>, Implicit<Ia5StringRef<'a>, 2>>, OneOf<Implicit<SequenceRef<'a>, 3>, Explicit<Name<'a>, 4>>> as Form>⟧ ⟦<OneOf<OneOf<Implicit<SequenceRef<'a>, 5>, Implicit<Ia5StringRef<'a>, 6>>, OneOf<Implicit<OctetStringRef<'a>, 7>, Implicit<ObjectIdentifierRef<'a, 39>, 8>>> as Form>⟧
-        (either_tag ⟦<OneOf<OneOf<Implicit<AnotherName<'a>, 0>, Implicit<Ia5StringRef<'a>, 1>>, Implicit<Ia5StringRef<'a>, 2>> as Form>⟧ ⟦<OneOf<Implicit<SequenceRef<'a>, 3>, Explicit<Name<'a>, 4>> as Form>⟧
-        (either_tag ⟦<OneOf<Implicit<AnotherName<'a>, 0>, Implicit<Ia5StringRef<'a>, 1>> as Form>⟧ ⟦<Implicit<Ia5StringRef<'a>, 2> as Form>⟧
-        (either_tag ⟦<Implicit<AnotherName<'a>, 0> as Form>⟧ ⟦<Implicit<Ia5StringRef<'a>, 1> as Form>⟧
-        (one_tag ⟦<ImplicitTag<SequenceTag, 0> as TagMarker>⟧.TAG ⟦<Implicit<AnotherName<'a>, 0> as FormValue>⟧.value.contents)
-        (one_tag ⟦<ImplicitTag<CharacterStringTag<22>, 1> as TagMarker>⟧.TAG ⟦<Implicit<Ia5StringRef<'a>, 1> as FormValue>⟧.value.contents))
-        (one_tag ⟦<ImplicitTag<CharacterStringTag<22>, 2> as TagMarker>⟧.TAG ⟦<Implicit<Ia5StringRef<'a>, 2> as FormValue>⟧.value.contents))
-        (either_tag ⟦<Implicit<SequenceRef<'a>, 3> as Form>⟧ ⟦<Explicit<Name<'a>, 4> as Form>⟧
-        (one_tag ⟦<ImplicitTag<SequenceTag, 3> as TagMarker>⟧.TAG ⟦<Implicit<SequenceRef<'a>, 3> as FormValue>⟧.value.contents)
-        (one_tag ⟦<ExplicitTag<4> as TagMarker>⟧.TAG ⟦<Explicit<Name<'a>, 4> as FormValue>⟧.value.contents)))
-        (either_tag ⟦<OneOf<Implicit<SequenceRef<'a>, 5>, Implicit<Ia5StringRef<'a>, 6>> as Form>⟧ ⟦<OneOf<Implicit<OctetStringRef<'a>, 7>, Implicit<ObjectIdentifierRef<'a, 39>, 8>> as Form>⟧
-        (either_tag ⟦<Implicit<SequenceRef<'a>, 5> as Form>⟧ ⟦<Implicit<Ia5StringRef<'a>, 6> as Form>⟧
-        (one_tag ⟦<ImplicitTag<SequenceTag, 5> as TagMarker>⟧.TAG ⟦<Implicit<SequenceRef<'a>, 5> as FormValue>⟧.value.contents)
-        (one_tag ⟦<ImplicitTag<CharacterStringTag<22>, 6> as TagMarker>⟧.TAG ⟦<Implicit<Ia5StringRef<'a>, 6> as FormValue>⟧.value.contents))
-        (either_tag ⟦<Implicit<OctetStringRef<'a>, 7> as Form>⟧ ⟦<Implicit<ObjectIdentifierRef<'a, 39>, 8> as Form>⟧
-        (one_tag ⟦<ImplicitTag<OctetStringTag, 7> as TagMarker>⟧.TAG ⟦<Implicit<OctetStringRef<'a>, 7> as FormValue>⟧.value.contents)
-        (one_tag ⟦<ImplicitTag<ObjectIdentifierTag, 8> as TagMarker>⟧.TAG ⟦<Implicit<ObjectIdentifierRef<'a, 39>, 8> as FormValue>⟧.value.contents)))
-        (either_copies ⟦<OneOf<OneOf<Implicit<AnotherName<'a>, 0>, Implicit<Ia5StringRef<'a>, 1>>, Implicit<Ia5StringRef<'a>, 2>> as Form>⟧ ⟦<OneOf<Implicit<SequenceRef<'a>, 3>, Explicit<Name<'a>, 4>> as Form>⟧
-        (either_tag ⟦<OneOf<Implicit<AnotherName<'a>, 0>, Implicit<Ia5StringRef<'a>, 1>> as Form>⟧ ⟦<Implicit<Ia5StringRef<'a>, 2> as Form>⟧
-        (either_tag ⟦<Implicit<AnotherName<'a>, 0> as Form>⟧ ⟦<Implicit<Ia5StringRef<'a>, 1> as Form>⟧
-        (one_tag ⟦<ImplicitTag<SequenceTag, 0> as TagMarker>⟧.TAG ⟦<Implicit<AnotherName<'a>, 0> as FormValue>⟧.value.contents)
-        (one_tag ⟦<ImplicitTag<CharacterStringTag<22>, 1> as TagMarker>⟧.TAG ⟦<Implicit<Ia5StringRef<'a>, 1> as FormValue>⟧.value.contents))
-        (one_tag ⟦<ImplicitTag<CharacterStringTag<22>, 2> as TagMarker>⟧.TAG ⟦<Implicit<Ia5StringRef<'a>, 2> as FormValue>⟧.value.contents))
-        (either_tag ⟦<Implicit<SequenceRef<'a>, 3> as Form>⟧ ⟦<Explicit<Name<'a>, 4> as Form>⟧
-        (one_tag ⟦<ImplicitTag<SequenceTag, 3> as TagMarker>⟧.TAG ⟦<Implicit<SequenceRef<'a>, 3> as FormValue>⟧.value.contents)
-        (one_tag ⟦<ExplicitTag<4> as TagMarker>⟧.TAG ⟦<Explicit<Name<'a>, 4> as FormValue>⟧.value.contents))
-        (either_copies ⟦<OneOf<Implicit<AnotherName<'a>, 0>, Implicit<Ia5StringRef<'a>, 1>> as Form>⟧ ⟦<Implicit<Ia5StringRef<'a>, 2> as Form>⟧
-        (either_tag ⟦<Implicit<AnotherName<'a>, 0> as Form>⟧ ⟦<Implicit<Ia5StringRef<'a>, 1> as Form>⟧
-        (one_tag ⟦<ImplicitTag<SequenceTag, 0> as TagMarker>⟧.TAG ⟦<Implicit<AnotherName<'a>, 0> as FormValue>⟧.value.contents)
-        (one_tag ⟦<ImplicitTag<CharacterStringTag<22>, 1> as TagMarker>⟧.TAG ⟦<Implicit<Ia5StringRef<'a>, 1> as FormValue>⟧.value.contents))
-        (one_tag ⟦<ImplicitTag<CharacterStringTag<22>, 2> as TagMarker>⟧.TAG ⟦<Implicit<Ia5StringRef<'a>, 2> as FormValue>⟧.value.contents)
-        (either_copies ⟦<Implicit<AnotherName<'a>, 0> as Form>⟧ ⟦<Implicit<Ia5StringRef<'a>, 1> as Form>⟧
-        (one_tag ⟦<ImplicitTag<SequenceTag, 0> as TagMarker>⟧.TAG ⟦<Implicit<AnotherName<'a>, 0> as FormValue>⟧.value.contents)
-        (one_tag ⟦<ImplicitTag<CharacterStringTag<22>, 1> as TagMarker>⟧.TAG ⟦<Implicit<Ia5StringRef<'a>, 1> as FormValue>⟧.value.contents)
-        (one_tag_copies ⟦<ImplicitTag<SequenceTag, 0> as TagMarker>⟧.TAG (held_copies (λ x. x.value) (same_copies ⟦<AnotherName<'a> as FormValue>⟧.value.contents ⟦<AnotherName<'a> as FormValue>⟧.value.comparable ⟦<AnotherName<'a> as FormValue>⟧.value.re_reads ⟦<AnotherName<'a> as PartialEq>⟧.eq another_name_eq.laws-law.refl)))
-        (one_tag_copies ⟦<ImplicitTag<CharacterStringTag<22>, 1> as TagMarker>⟧.TAG (held_copies (λ x. x.value) (same_copies ⟦<Ia5StringRef<'a> as FormValue>⟧.value.contents ⟦<Ia5StringRef<'a> as FormValue>⟧.value.comparable ⟦<Ia5StringRef<'a> as FormValue>⟧.value.re_reads ⟦<Ia5StringRef<'a> as PartialEq>⟧.eq (λ v. ((characterstringref_contents_eq.contents_eq-law 22 (record { fits = lit< tt })) v v tt).1 refl))))
-        ⟦<OneOf<Implicit<AnotherName<'a>, 0>, Implicit<Ia5StringRef<'a>, 1>> as PartialEq>⟧.eq (λ v x. refl) (λ w y. refl))
-        (one_tag_copies ⟦<ImplicitTag<CharacterStringTag<22>, 2> as TagMarker>⟧.TAG (held_copies (λ x. x.value) (same_copies ⟦<Ia5StringRef<'a> as FormValue>⟧.value.contents ⟦<Ia5StringRef<'a> as FormValue>⟧.value.comparable ⟦<Ia5StringRef<'a> as FormValue>⟧.value.re_reads ⟦<Ia5StringRef<'a> as PartialEq>⟧.eq (λ v. ((characterstringref_contents_eq.contents_eq-law 22 (record { fits = lit< tt })) v v tt).1 refl))))
-        ⟦<OneOf<OneOf<Implicit<AnotherName<'a>, 0>, Implicit<Ia5StringRef<'a>, 1>>, Implicit<Ia5StringRef<'a>, 2>> as PartialEq>⟧.eq (λ v x. refl) (λ w y. refl))
-        (either_copies ⟦<Implicit<SequenceRef<'a>, 3> as Form>⟧ ⟦<Explicit<Name<'a>, 4> as Form>⟧
-        (one_tag ⟦<ImplicitTag<SequenceTag, 3> as TagMarker>⟧.TAG ⟦<Implicit<SequenceRef<'a>, 3> as FormValue>⟧.value.contents)
-        (one_tag ⟦<ExplicitTag<4> as TagMarker>⟧.TAG ⟦<Explicit<Name<'a>, 4> as FormValue>⟧.value.contents)
-        (one_tag_copies ⟦<ImplicitTag<SequenceTag, 3> as TagMarker>⟧.TAG (held_copies (λ x. x.value) (same_copies ⟦<SequenceRef<'a> as FormValue>⟧.value.contents ⟦<SequenceRef<'a> as FormValue>⟧.value.comparable ⟦<SequenceRef<'a> as FormValue>⟧.value.re_reads ⟦<SequenceRef<'a> as PartialEq>⟧.eq (λ v. (sequenceref_contents_eq.contents_eq-law v v tt).1 refl))))
-        (one_tag_copies ⟦<ExplicitTag<4> as TagMarker>⟧.TAG (held_copies (λ x. x.fields) (listed_copies (member_copies ⟦<Name<'a> as Form>⟧
-        (tagged_starts ⟦<Name<'a> as Form>⟧ (one_tag ⟦<SequenceTag as TagMarker>⟧.TAG ⟦<RdnSequence<'a> as FormValue>⟧.value.contents))
-        (one_tag_copies ⟦<SequenceTag as TagMarker>⟧.TAG (record { octets_are = rdn_sequence_duplicate_value.copy_contents-law; comparable_are = rdn_sequence_duplicate_value.copy_comparable_value-law; re_reads_are = rdn_sequence_duplicate_value.copy_re_reads_value-law; equal_are = rdn_sequence_duplicate_value_is_equal.copy_value_is_equal-law }))
-        no_copies))))
-        ⟦<OneOf<Implicit<SequenceRef<'a>, 3>, Explicit<Name<'a>, 4>> as PartialEq>⟧.eq (λ v x. refl) (λ w y. refl))
-        ⟦<OneOf<OneOf<OneOf<Implicit<AnotherName<'a>, 0>, Implicit<Ia5StringRef<'a>, 1>>, Implicit<Ia5StringRef<'a>, 2>>, OneOf<Implicit<SequenceRef<'a>, 3>, Explicit<Name<'a>, 4>>> as PartialEq>⟧.eq (λ v x. refl) (λ w y. refl))
-        (either_copies ⟦<OneOf<Implicit<SequenceRef<'a>, 5>, Implicit<Ia5StringRef<'a>, 6>> as Form>⟧ ⟦<OneOf<Implicit<OctetStringRef<'a>, 7>, Implicit<ObjectIdentifierRef<'a, 39>, 8>> as Form>⟧
-        (either_tag ⟦<Implicit<SequenceRef<'a>, 5> as Form>⟧ ⟦<Implicit<Ia5StringRef<'a>, 6> as Form>⟧
-        (one_tag ⟦<ImplicitTag<SequenceTag, 5> as TagMarker>⟧.TAG ⟦<Implicit<SequenceRef<'a>, 5> as FormValue>⟧.value.contents)
-        (one_tag ⟦<ImplicitTag<CharacterStringTag<22>, 6> as TagMarker>⟧.TAG ⟦<Implicit<Ia5StringRef<'a>, 6> as FormValue>⟧.value.contents))
-        (either_tag ⟦<Implicit<OctetStringRef<'a>, 7> as Form>⟧ ⟦<Implicit<ObjectIdentifierRef<'a, 39>, 8> as Form>⟧
-        (one_tag ⟦<ImplicitTag<OctetStringTag, 7> as TagMarker>⟧.TAG ⟦<Implicit<OctetStringRef<'a>, 7> as FormValue>⟧.value.contents)
-        (one_tag ⟦<ImplicitTag<ObjectIdentifierTag, 8> as TagMarker>⟧.TAG ⟦<Implicit<ObjectIdentifierRef<'a, 39>, 8> as FormValue>⟧.value.contents))
-        (either_copies ⟦<Implicit<SequenceRef<'a>, 5> as Form>⟧ ⟦<Implicit<Ia5StringRef<'a>, 6> as Form>⟧
-        (one_tag ⟦<ImplicitTag<SequenceTag, 5> as TagMarker>⟧.TAG ⟦<Implicit<SequenceRef<'a>, 5> as FormValue>⟧.value.contents)
-        (one_tag ⟦<ImplicitTag<CharacterStringTag<22>, 6> as TagMarker>⟧.TAG ⟦<Implicit<Ia5StringRef<'a>, 6> as FormValue>⟧.value.contents)
-        (one_tag_copies ⟦<ImplicitTag<SequenceTag, 5> as TagMarker>⟧.TAG (held_copies (λ x. x.value) (same_copies ⟦<SequenceRef<'a> as FormValue>⟧.value.contents ⟦<SequenceRef<'a> as FormValue>⟧.value.comparable ⟦<SequenceRef<'a> as FormValue>⟧.value.re_reads ⟦<SequenceRef<'a> as PartialEq>⟧.eq (λ v. (sequenceref_contents_eq.contents_eq-law v v tt).1 refl))))
-        (one_tag_copies ⟦<ImplicitTag<CharacterStringTag<22>, 6> as TagMarker>⟧.TAG (held_copies (λ x. x.value) (same_copies ⟦<Ia5StringRef<'a> as FormValue>⟧.value.contents ⟦<Ia5StringRef<'a> as FormValue>⟧.value.comparable ⟦<Ia5StringRef<'a> as FormValue>⟧.value.re_reads ⟦<Ia5StringRef<'a> as PartialEq>⟧.eq (λ v. ((characterstringref_contents_eq.contents_eq-law 22 (record { fits = lit< tt })) v v tt).1 refl))))
-        ⟦<OneOf<Implicit<SequenceRef<'a>, 5>, Implicit<Ia5StringRef<'a>, 6>> as PartialEq>⟧.eq (λ v x. refl) (λ w y. refl))
-        (either_copies ⟦<Implicit<OctetStringRef<'a>, 7> as Form>⟧ ⟦<Implicit<ObjectIdentifierRef<'a, 39>, 8> as Form>⟧
-        (one_tag ⟦<ImplicitTag<OctetStringTag, 7> as TagMarker>⟧.TAG ⟦<Implicit<OctetStringRef<'a>, 7> as FormValue>⟧.value.contents)
-        (one_tag ⟦<ImplicitTag<ObjectIdentifierTag, 8> as TagMarker>⟧.TAG ⟦<Implicit<ObjectIdentifierRef<'a, 39>, 8> as FormValue>⟧.value.contents)
-        (one_tag_copies ⟦<ImplicitTag<OctetStringTag, 7> as TagMarker>⟧.TAG (held_copies (λ x. x.value) (same_copies ⟦<OctetStringRef<'a> as FormValue>⟧.value.contents ⟦<OctetStringRef<'a> as FormValue>⟧.value.comparable ⟦<OctetStringRef<'a> as FormValue>⟧.value.re_reads ⟦<OctetStringRef<'a> as PartialEq>⟧.eq (λ v. (octetstringref_contents_eq.contents_eq-law v v tt).1 refl))))
-        (one_tag_copies ⟦<ImplicitTag<ObjectIdentifierTag, 8> as TagMarker>⟧.TAG (held_copies (λ x. x.value) (same_copies ⟦<ObjectIdentifierRef<'a, 39> as FormValue>⟧.value.contents ⟦<ObjectIdentifierRef<'a, 39> as FormValue>⟧.value.comparable ⟦<ObjectIdentifierRef<'a, 39> as FormValue>⟧.value.re_reads ⟦<ObjectIdentifierRef<'a, 39> as PartialEq>⟧.eq (λ v. ((objectidentifierref_contents_eq.contents_eq-law 39 (record { fits = lit< tt })) v v tt).1 refl))))
-        ⟦<OneOf<Implicit<OctetStringRef<'a>, 7>, Implicit<ObjectIdentifierRef<'a, 39>, 8>> as PartialEq>⟧.eq (λ v x. refl) (λ w y. refl))
-        ⟦<OneOf<OneOf<Implicit<SequenceRef<'a>, 5>, Implicit<Ia5StringRef<'a>, 6>>, OneOf<Implicit<OctetStringRef<'a>, 7>, Implicit<ObjectIdentifierRef<'a, 39>, 8>>> as PartialEq>⟧.eq (λ v x. refl) (λ w y. refl))
-        ⟦<OneOf<OneOf<OneOf<OneOf<Implicit<AnotherName<'a>, 0>, Implicit<Ia5StringRef<'a>, 1>>, Implicit<Ia5StringRef<'a>, 2>>, OneOf<Implicit<SequenceRef<'a>, 3>, Explicit<Name<'a>, 4>>>, OneOf<OneOf<Implicit<SequenceRef<'a>, 5>, Implicit<Ia5StringRef<'a>, 6>>, OneOf<Implicit<OctetStringRef<'a>, 7>, Implicit<ObjectIdentifierRef<'a, 39>, 8>>>> as PartialEq>⟧.eq (λ v x. refl) (λ w y. refl)))) };
+    ghost copies = { copies_of ((same_copies ⟦<GeneralName<'a> as Form>⟧.encoding ⟦<GeneralName<'a> as Form>⟧.comparable ⟦<GeneralName<'a> as Form>⟧.re_reads ⟦<GeneralName<'a> as PartialEq>⟧.eq general_name_eq.laws-law.refl)) };
 }
 
 impl<'a> Duplicate for GeneralName<'a> {
-    ghost is_copy = { λ v w. ⟦<Tree<'a> as Duplicate>⟧.is_copy (tree_of v) (tree_of w) };
+    ghost is_copy = { λ v w. w ≡ v };
 
-    ghost takes_memory_to_copy = { ⟦<Tree<'a> as Duplicate>⟧.takes_memory_to_copy };
+    ghost takes_memory_to_copy = { false };
 
     fn duplicate(&self) -> Result<GeneralName<'a>, Error> {
-        match self {
-            GeneralName::OtherName(value) => match value.duplicate() {
-                Ok(value) => Ok(GeneralName::OtherName(value)),
-                Err(e) => Err(e),
-            },
-            GeneralName::Rfc822Name(value) => match value.duplicate() {
-                Ok(value) => Ok(GeneralName::Rfc822Name(value)),
-                Err(e) => Err(e),
-            },
-            GeneralName::DnsName(value) => match value.duplicate() {
-                Ok(value) => Ok(GeneralName::DnsName(value)),
-                Err(e) => Err(e),
-            },
-            GeneralName::X400Address(value) => match value.duplicate() {
-                Ok(value) => Ok(GeneralName::X400Address(value)),
-                Err(e) => Err(e),
-            },
-            GeneralName::DirectoryName(value) => match value.duplicate() {
-                Ok(value) => Ok(GeneralName::DirectoryName(value)),
-                Err(e) => Err(e),
-            },
-            GeneralName::EdiPartyName(value) => match value.duplicate() {
-                Ok(value) => Ok(GeneralName::EdiPartyName(value)),
-                Err(e) => Err(e),
-            },
-            GeneralName::UniformResourceIdentifier(value) => match value.duplicate() {
-                Ok(value) => Ok(GeneralName::UniformResourceIdentifier(value)),
-                Err(e) => Err(e),
-            },
-            GeneralName::IpAddress(value) => match value.duplicate() {
-                Ok(value) => Ok(GeneralName::IpAddress(value)),
-                Err(e) => Err(e),
-            },
-            GeneralName::RegisteredId(value) => match value.duplicate() {
-                Ok(value) => Ok(GeneralName::RegisteredId(value)),
-                Err(e) => Err(e),
-            },
-        }
+        Ok(copy_of(self))
     }
 
     ghost copy_encoding = { ⟦<GeneralName<'a> as CopyLaws>⟧.copies.laws.octets_are };

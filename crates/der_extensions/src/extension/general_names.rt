@@ -2,23 +2,19 @@
 //!
 //! Made by tools/asn1 from extension.asn1.
 
-ghost use Rattle.std.specs.Prelude.{◌≡◌, refl, true};
+ghost use Rattle.std.specs.Cmp.Lexicographic.{bytes_decides};
+ghost use Rattle.std.specs.Prelude.{◌≡◌, false, refl};
 ghost use Rattle.der_elem.specs.FormatMakers.{mapped_format};
 ghost use Rattle.der_extensions.specs.Extension.Grammar.{general_names};
-ghost use Rattle.der_extensions.specs.contracts.extension.general_name.GeneralNameDuplicate.TheImpl.Laws as general_name_duplicate;
-ghost use Rattle.der_extensions.specs.contracts.extension.general_name.GeneralNameDuplicateIsEqual.TheImpl.Laws as general_name_duplicate_is_equal;
-ghost use Rattle.der_extensions.specs.contracts.extension.general_name.GeneralNameEncodingEq.TheImpl.Laws as general_name_encoding_eq;
-ghost use Rattle.der_extensions.specs.contracts.extension.general_name.GeneralNameTagged.TheImpl.Laws as general_name_tagged;
+ghost use Rattle.der_lists.specs.NonEmptyRef.{list_of};
 ghost use Rattle.der_modules.specs.Asn1.{parse_of};
-ghost use Rattle.der_modules.specs.MemberLaws.{copies_of, held_copies, items_copies, items_equality, own_tags};
 
 use crate::extension::general_name::GeneralName;
 use der_elem::{
-    ContentsEq, DecodeValue, DuplicateValue, DuplicateValueIsEqual, EncodeValue, Form, FormValue,
-    OneTag, Sequence, SequenceTag, Tagged, ValueOrd,
+    ContentsEq, CopyIsDuplicate, DecodeValue, EncodeValue, Form, FormValue, OneTag, Sequence,
+    SequenceTag, ValueOrd,
 };
-use der_modules::CopyLaws;
-use der_nest::NonEmpty;
+use der_lists::{ListRef, NonEmptyRef};
 use der_tlv::{BackWriter, Error, Header, Length, Source, Writer};
 use std::alloc::Global;
 use std::cmp::Ordering;
@@ -27,35 +23,27 @@ use std::cmp::Ordering;
 /// GeneralNames ::= SEQUENCE SIZE (1..MAX) OF GeneralName
 /// ```
 ///
-/// Reading refuses the first fault of the octets, in their order; `ErrorKind::Memory` (1) where
-/// memory runs out.
-#[derive(Debug, PartialEq, Eq, Drop)]
+/// Reading refuses the first fault of the octets, in their order.
+#[derive(Clone, Copy, Debug, PartialEq, Eq)]
 pub struct GeneralNames<'a> {
-    items: NonEmpty<Vec<GeneralName<'a>>>,
+    items: NonEmptyRef<ListRef<'a, GeneralName<'a>>>,
 }
 
 impl<'a> GeneralNames<'a> {
     ghost use Rattle.der_extensions.specs.Extension.GeneralNames as general_names;
 
     /// These items.
-    pub fn new(items: NonEmpty<Vec<GeneralName<'a>>>) -> GeneralNames<'a>
-        ensures { general_names.items_of result ≡ items.entry.items }
+    pub fn new(items: NonEmptyRef<ListRef<'a, GeneralName<'a>>>) -> GeneralNames<'a>
+        ensures { general_names.items_of result ≡ list_of items.entry }
     {
         GeneralNames { items }
     }
 
     /// The items, in their order.
-    pub fn as_slice(&self) -> &[GeneralName<'a>]
+    pub fn items(&self) -> &ListRef<'a, GeneralName<'a>>
         ensures { result.now ≡ general_names.items_of self.now }
     {
-        self.items.list().as_slice()
-    }
-
-    /// The items, in the room that holds them.
-    pub fn into_items(self) -> NonEmpty<Vec<GeneralName<'a>>>
-        ensures { general_names.items_of self.entry ≡ result.items }
-    {
-        self.items
+        self.items.list()
     }
 }
 
@@ -68,20 +56,20 @@ impl<'a> Sequence<'a> for GeneralNames<'a> {
 }
 
 impl<'a> FormValue for GeneralNames<'a> {
-    ghost value = { mapped_format (λ v. v.items) ⟦<NonEmpty<Vec<GeneralName<'a>>> as FormValue>⟧.value };
+    ghost value = { mapped_format (λ v. v.items) ⟦<NonEmptyRef<ListRef<'a, GeneralName<'a>>> as FormValue>⟧.value };
 }
 
 impl<'a, R: Source<'a>> DecodeValue<'a, R> for GeneralNames<'a> {
-    ghost TAKES_MEMORY = { true };
+    ghost TAKES_MEMORY = { false };
 
-    const TAKES_MEMORY: bool = true;
+    const TAKES_MEMORY: bool = false;
 
     fn decode_value(
         alloc: Global,
         reader: &mut R,
         header: Header,
     ) -> Result<GeneralNames<'a>, Error> {
-        match NonEmpty::<Vec<GeneralName<'a>>>::decode_value(alloc, reader, header) {
+        match NonEmptyRef::<ListRef<'a, GeneralName<'a>>>::decode_value(alloc, reader, header) {
             Ok(items) => Ok(GeneralNames { items }),
             Err(e) => Err(e),
         }
@@ -111,36 +99,10 @@ impl<'a> ValueOrd for GeneralNames<'a> {
 }
 
 impl<'a> ContentsEq for GeneralNames<'a> {
-    ghost contents_eq = { λ v w. (items_equality ⟦<GeneralName<'a> as Form>⟧ (own_tags ⟦<GeneralName<'a> as Form>⟧.tags ⟦<GeneralName<'a> as Form>⟧.first_tag_of ⟦<GeneralName<'a> as Form>⟧.encoding ⟦<GeneralName<'a> as Tagged>⟧.tag_of ⟦<GeneralName<'a> as FormValue>⟧.value.contents general_name_tagged.encoding_is-law general_name_tagged.own_tag-law general_name_tagged.first_tag_is-law) ⟦<GeneralName<'a> as PartialEq>⟧.eq general_name_encoding_eq.encoding_eq-law) v.items.items w.items.items };
+    ghost contents_eq = { λ v w. (λ one. bytes_decides v.items.list.octets.octets.now w.items.list.octets.octets.now) };
 }
 
-impl<'a> CopyLaws for GeneralNames<'a> {
-    ghost copies = { copies_of (held_copies (λ v. v.items.items)
-        (items_copies ⟦<GeneralName<'a> as Form>⟧ (record { octets_are = general_name_duplicate.copy_encoding-law; comparable_are = general_name_duplicate.copy_comparable-law; re_reads_are = general_name_duplicate.copy_re_reads-law; equal_are = general_name_duplicate_is_equal.copy_is_equal-law }))) };
-}
-
-impl<'a> DuplicateValue for GeneralNames<'a> {
-    ghost is_copy_value = { λ v w. ⟦<NonEmpty<Vec<GeneralName<'a>>> as DuplicateValue>⟧.is_copy_value v.items w.items };
-
-    ghost takes_memory_to_copy_value = { ⟦<NonEmpty<Vec<GeneralName<'a>>> as DuplicateValue>⟧.takes_memory_to_copy_value };
-
-    fn duplicate_value(&self) -> Result<GeneralNames<'a>, Error> {
-        match self.items.duplicate_value() {
-            Ok(items) => Ok(GeneralNames { items }),
-            Err(e) => Err(e),
-        }
-    }
-
-    ghost copy_contents = { ⟦<GeneralNames<'a> as CopyLaws>⟧.copies.laws.octets_are };
-
-    ghost copy_comparable_value = { ⟦<GeneralNames<'a> as CopyLaws>⟧.copies.laws.comparable_are };
-
-    ghost copy_re_reads_value = { ⟦<GeneralNames<'a> as CopyLaws>⟧.copies.laws.re_reads_are };
-}
-
-impl<'a> DuplicateValueIsEqual for GeneralNames<'a> {
-    ghost copy_value_is_equal = { ⟦<GeneralNames<'a> as CopyLaws>⟧.copies.laws.equal_are };
-}
+impl<'a> CopyIsDuplicate for GeneralNames<'a> {}
 
 /// What is read as `GeneralNames` is what the page of the grammar says.
 pub fn grammar_of_general_names<'a>()

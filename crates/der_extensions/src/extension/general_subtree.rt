@@ -2,30 +2,28 @@
 //!
 //! Made by tools/asn1 from extension.asn1.
 
-ghost use Rattle.std.specs.Prelude.{◌∷◌, ◌≡◌, [], false, refl, true};
+ghost use Rattle.std.specs.Prelude.{◌∷◌, ◌≡◌, [], false, refl};
 ghost use Rattle.der_elem.specs.FormatMakers.{mapped_format};
 ghost use Rattle.der_elem.specs.contracts.integer.unsigned.U8ContentsEq.TheImpl.Laws as u8_contents_eq;
 ghost use Rattle.der_extensions.specs.Extension.GeneralSubtree as general_subtree_fields;
 ghost use Rattle.der_extensions.specs.Extension.Grammar.{general_subtree};
-ghost use Rattle.der_extensions.specs.contracts.extension.general_name.GeneralNameDuplicate.TheImpl.Laws as general_name_duplicate;
-ghost use Rattle.der_extensions.specs.contracts.extension.general_name.GeneralNameDuplicateIsEqual.TheImpl.Laws as general_name_duplicate_is_equal;
 ghost use Rattle.der_extensions.specs.contracts.extension.general_name.GeneralNameEncodingEq.TheImpl.Laws as general_name_encoding_eq;
 ghost use Rattle.der_extensions.specs.contracts.extension.general_name.GeneralNameTagged.TheImpl.Laws as general_name_tagged;
 ghost use Rattle.der_extensions.specs.declared.extension.general_subtree.GeneralSubtree.{GeneralSubtree};
 ghost use Rattle.der_modules.specs.Asn1.{context, implicit_encoding, joined, optional, parse_of, unless_default};
-ghost use Rattle.der_modules.specs.MemberLaws.{copies_of, default_copies, default_equality, default_starts, held_copies, listed_copies, member_copies, member_equality, no_copies, no_equality, one_tag, one_tag_copies, one_tag_equality, optional_copies, optional_equality, optional_starts, own_tags, same_copies, tagged_starts};
+ghost use Rattle.der_modules.specs.MemberLaws.{default_equality, default_starts, member_equality, no_equality, one_tag, one_tag_equality, optional_equality, optional_starts, own_tags, tagged_starts};
 
 use crate::extension::aliases::BaseDistance;
 use crate::extension::general_name::GeneralName;
 use der_elem::{
-    ContentsEq, DecodeValue, DuplicateValue, DuplicateValueIsEqual, EncodeValue, Form, FormValue,
-    IntegerTag, OneTag, Sequence, SequenceTag, TagMarker, Tagged, ValueOrd,
+    ContentsEq, CopyIsDuplicate, DecodeValue, EncodeValue, Form, FormValue, IntegerTag, OneTag,
+    Sequence, SequenceTag, TagMarker, Tagged, ValueOrd,
 };
 use der_fields::{
-    DecodeFields, DefaultNumber, DefaultOf, DuplicateFields, EncodeFields, End, Field, FieldList,
-    Fields3, FieldsOrd, Implicit, ImplicitTag, WithDefault,
+    DecodeFields, DefaultNumber, DefaultOf, EncodeFields, End, Field, FieldList, Fields3,
+    FieldsOrd, Implicit, ImplicitTag, WithDefault,
 };
-use der_modules::CopyLaws;
+use der_modules::copy_of;
 use der_tlv::{BackWriter, Error, Header, Length, Source, Writer};
 use std::alloc::Global;
 use std::cmp::Ordering;
@@ -45,9 +43,8 @@ type Fields<'a> = Fields3<
 ///      maximum         [1]     BaseDistance OPTIONAL }
 /// ```
 ///
-/// Reading refuses the first fault of the octets, in their order; `ErrorKind::Memory` (1) where
-/// memory runs out.
-#[derive(PartialEq, Eq, Drop)]
+/// Reading refuses the first fault of the octets, in their order.
+#[derive(Clone, Copy, PartialEq, Eq)]
 pub struct GeneralSubtree<'a> {
     fields: Fields<'a>,
 }
@@ -57,11 +54,11 @@ impl<'a> GeneralSubtree<'a> {
 
     /// A value of these fields.
     pub fn new(
-        base: GeneralName<'a>,
+        base: &GeneralName<'a>,
         minimum: BaseDistance,
         maximum: Option<BaseDistance>,
     ) -> GeneralSubtree<'a>
-        ensures base { general_subtree_fields.base result ≡ base.entry }
+        ensures base { general_subtree_fields.base result ≡ base.now }
         ensures minimum { general_subtree_fields.minimum result ≡ minimum }
         ensures maximum { general_subtree_fields.maximum result ≡ maximum }
     {
@@ -72,31 +69,10 @@ impl<'a> GeneralSubtree<'a> {
         let rest = Field { first, rest: End };
         let first = WithDefault::new(Implicit { value: minimum });
         let rest = Field { first, rest };
-        let first = base;
+        let first = copy_of(base);
         let list = Field { first, rest };
         let fields = Fields3 { list };
         GeneralSubtree { fields }
-    }
-
-    /// The values of the fields, in their order.
-    pub fn into_parts(self) -> (GeneralName<'a>, BaseDistance, Option<BaseDistance>)
-        ensures base { general_subtree_fields.base self.entry ≡ result.0 }
-        ensures minimum { general_subtree_fields.minimum self.entry ≡ result.1 }
-        ensures maximum { general_subtree_fields.maximum self.entry ≡ result.2 }
-    {
-        let Fields3 { list } = self.fields;
-        let Field { first: base, rest } = list;
-        let Field {
-            first: minimum,
-            rest,
-        } = rest;
-        let Field { first: maximum, .. } = rest;
-        let minimum = minimum.value.value;
-        let maximum = match maximum {
-            Some(tagged) => Some(tagged.value),
-            None => None,
-        };
-        (base, minimum, maximum)
     }
 
     /// `base`, `GeneralName`.
@@ -147,9 +123,9 @@ impl<'a> FormValue for GeneralSubtree<'a> {
 }
 
 impl<'a, R: Source<'a>> DecodeValue<'a, R> for GeneralSubtree<'a> {
-    ghost TAKES_MEMORY = { true };
+    ghost TAKES_MEMORY = { false };
 
-    const TAKES_MEMORY: bool = true;
+    const TAKES_MEMORY: bool = false;
 
     fn decode_value(
         alloc: Global,
@@ -201,42 +177,7 @@ impl<'a> ContentsEq for GeneralSubtree<'a> {
         no_equality))).equal v.fields.list w.fields.list };
 }
 
-impl<'a> CopyLaws for GeneralSubtree<'a> {
-    ghost copies = { copies_of (held_copies (λ v. v.fields.list)
-        (listed_copies (member_copies ⟦<GeneralName<'a> as Form>⟧
-        (tagged_starts ⟦<GeneralName<'a> as Form>⟧ (own_tags ⟦<GeneralName<'a> as Form>⟧.tags ⟦<GeneralName<'a> as Form>⟧.first_tag_of ⟦<GeneralName<'a> as Form>⟧.encoding ⟦<GeneralName<'a> as Tagged>⟧.tag_of ⟦<GeneralName<'a> as FormValue>⟧.value.contents general_name_tagged.encoding_is-law general_name_tagged.own_tag-law general_name_tagged.first_tag_is-law))
-        (record { octets_are = general_name_duplicate.copy_encoding-law; comparable_are = general_name_duplicate.copy_comparable-law; re_reads_are = general_name_duplicate.copy_re_reads-law; equal_are = general_name_duplicate_is_equal.copy_is_equal-law })
-        (member_copies ⟦<WithDefault<Implicit<BaseDistance, 0>, DefaultNumber<0>> as Form>⟧
-        (default_starts ⟦<Implicit<BaseDistance, 0> as Form>⟧ (one_tag ⟦<ImplicitTag<IntegerTag, 0> as TagMarker>⟧.TAG ⟦<Implicit<BaseDistance, 0> as FormValue>⟧.value.contents) (λ x. x.value) ⟦<DefaultNumber<0> as DefaultOf<Implicit<BaseDistance, 0>>>⟧.octets)
-        (default_copies ⟦<Implicit<BaseDistance, 0> as Form>⟧ (one_tag_copies ⟦<ImplicitTag<IntegerTag, 0> as TagMarker>⟧.TAG (held_copies (λ x. x.value) (same_copies ⟦<u8 as FormValue>⟧.value.contents ⟦<u8 as FormValue>⟧.value.comparable ⟦<u8 as FormValue>⟧.value.re_reads ⟦<u8 as PartialEq>⟧.eq (λ v. (u8_contents_eq.contents_eq-law v v tt).1 refl)))) (λ x. x.value) ⟦<DefaultNumber<0> as DefaultOf<Implicit<BaseDistance, 0>>>⟧.octets)
-        (member_copies ⟦<Option<Implicit<BaseDistance, 1>> as Form>⟧
-        (optional_starts ⟦<Implicit<BaseDistance, 1> as Form>⟧ (one_tag ⟦<ImplicitTag<IntegerTag, 1> as TagMarker>⟧.TAG ⟦<Implicit<BaseDistance, 1> as FormValue>⟧.value.contents))
-        (optional_copies ⟦<Implicit<BaseDistance, 1> as Form>⟧ (one_tag_copies ⟦<ImplicitTag<IntegerTag, 1> as TagMarker>⟧.TAG (held_copies (λ x. x.value) (same_copies ⟦<u8 as FormValue>⟧.value.contents ⟦<u8 as FormValue>⟧.value.comparable ⟦<u8 as FormValue>⟧.value.re_reads ⟦<u8 as PartialEq>⟧.eq (λ v. (u8_contents_eq.contents_eq-law v v tt).1 refl)))))
-        no_copies))))) };
-}
-
-impl<'a> DuplicateValue for GeneralSubtree<'a> {
-    ghost is_copy_value = { λ v w. ⟦<Fields<'a> as DuplicateFields>⟧.are_copies v.fields w.fields };
-
-    ghost takes_memory_to_copy_value = { ⟦<Fields<'a> as DuplicateFields>⟧.take_memory_to_copy };
-
-    fn duplicate_value(&self) -> Result<GeneralSubtree<'a>, Error> {
-        match self.fields.duplicate_fields() {
-            Ok(fields) => Ok(GeneralSubtree { fields }),
-            Err(e) => Err(e),
-        }
-    }
-
-    ghost copy_contents = { ⟦<GeneralSubtree<'a> as CopyLaws>⟧.copies.laws.octets_are };
-
-    ghost copy_comparable_value = { ⟦<GeneralSubtree<'a> as CopyLaws>⟧.copies.laws.comparable_are };
-
-    ghost copy_re_reads_value = { ⟦<GeneralSubtree<'a> as CopyLaws>⟧.copies.laws.re_reads_are };
-}
-
-impl<'a> DuplicateValueIsEqual for GeneralSubtree<'a> {
-    ghost copy_value_is_equal = { ⟦<GeneralSubtree<'a> as CopyLaws>⟧.copies.laws.equal_are };
-}
+impl<'a> CopyIsDuplicate for GeneralSubtree<'a> {}
 
 /// What is read as `GeneralSubtree` is what the page of the grammar says.
 pub fn grammar_of_general_subtree<'a>()

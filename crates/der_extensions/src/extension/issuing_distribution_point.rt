@@ -2,32 +2,29 @@
 //!
 //! Made by tools/asn1 from extension.asn1.
 
-ghost use Rattle.std.specs.Prelude.{◌∷◌, ◌≡◌, [], false, refl, true};
+ghost use Rattle.std.specs.Prelude.{◌∷◌, ◌≡◌, [], false, refl};
 ghost use Rattle.der_bits.specs.contracts.named_bits.NamedBitsRefContentsEq.TheImpl.Laws as namedbitsref_contents_eq;
 ghost use Rattle.der_elem.specs.FormatMakers.{mapped_format};
 ghost use Rattle.der_elem.specs.contracts.boolean.BoolContentsEq.TheImpl.Laws as bool_contents_eq;
 ghost use Rattle.der_extensions.specs.Extension.Grammar.{issuing_distribution_point};
 ghost use Rattle.der_extensions.specs.Extension.IssuingDistributionPoint as issuing_distribution_point_fields;
-ghost use Rattle.der_extensions.specs.contracts.extension.explicit0_distribution_point_name.Explicit0DistributionPointNameContentsEq.TheImpl.Laws as explicit0_distribution_point_name_contents_eq;
-ghost use Rattle.der_extensions.specs.contracts.extension.explicit0_distribution_point_name.Explicit0DistributionPointNameDuplicateValue.TheImpl.Laws as explicit0_distribution_point_name_duplicate_value;
-ghost use Rattle.der_extensions.specs.contracts.extension.explicit0_distribution_point_name.Explicit0DistributionPointNameDuplicateValueIsEqual.TheImpl.Laws as explicit0_distribution_point_name_duplicate_value_is_equal;
+ghost use Rattle.der_extensions.specs.contracts.extension.distribution_point_name.DistributionPointNameEncodingEq.TheImpl.Laws as distribution_point_name_encoding_eq;
+ghost use Rattle.der_extensions.specs.contracts.extension.distribution_point_name.DistributionPointNameTagged.TheImpl.Laws as distribution_point_name_tagged;
 ghost use Rattle.der_extensions.specs.declared.extension.issuing_distribution_point.IssuingDistributionPoint.{IssuingDistributionPoint};
 ghost use Rattle.der_modules.specs.Asn1.{context, explicit_encoding, implicit_encoding, joined, optional, parse_of, unless_default};
-ghost use Rattle.der_modules.specs.MemberLaws.{copies_of, default_copies, default_equality, default_starts, held_copies, listed_copies, member_copies, member_equality, no_copies, no_equality, one_tag, one_tag_copies, one_tag_equality, optional_copies, optional_equality, optional_starts, same_copies};
+ghost use Rattle.der_modules.specs.MemberLaws.{default_equality, default_starts, member_equality, no_equality, one_tag, one_tag_equality, optional_equality, optional_starts, own_tags, tagged_starts};
 
 use crate::extension::aliases::ReasonFlags;
 use crate::extension::distribution_point_name::DistributionPointName;
-use crate::extension::explicit0_distribution_point_name::Explicit0DistributionPointName;
-use der_bits::NamedBitsRef;
 use der_elem::{
-    BitStringTag, BooleanTag, ContentsEq, DecodeValue, DuplicateValue, DuplicateValueIsEqual,
-    EncodeValue, Form, FormValue, OneTag, Sequence, SequenceTag, TagMarker, ValueOrd,
+    BitStringTag, BooleanTag, ContentsEq, CopyIsDuplicate, DecodeValue, EncodeValue, Form,
+    FormValue, OneTag, Sequence, SequenceTag, TagMarker, Tagged, ValueOrd,
 };
 use der_fields::{
-    DecodeFields, DefaultFalse, DefaultOf, DuplicateFields, EncodeFields, End, ExplicitTag, Field,
-    FieldList, Fields1, Fields6, FieldsOrd, Implicit, ImplicitTag, WithDefault,
+    DecodeFields, DefaultFalse, DefaultOf, EncodeFields, End, Explicit, ExplicitTag, Field,
+    FieldList, Fields6, FieldsOrd, Implicit, ImplicitTag, WithDefault,
 };
-use der_modules::CopyLaws;
+use der_modules::copy_of;
 use der_tlv::{BackWriter, Error, Header, Length, Source, Writer};
 use std::alloc::Global;
 use std::cmp::Ordering;
@@ -35,7 +32,7 @@ use std::fmt;
 
 /// The list of the fields.
 type Fields<'a> = Fields6<
-    Option<Explicit0DistributionPointName<'a>>,
+    Option<Explicit<DistributionPointName<'a>, 0>>,
     WithDefault<Implicit<bool, 1>, DefaultFalse>,
     WithDefault<Implicit<bool, 2>, DefaultFalse>,
     Option<Implicit<ReasonFlags<'a>, 3>>,
@@ -53,9 +50,8 @@ type Fields<'a> = Fields6<
 ///      onlyContainsAttributeCerts [5] BOOLEAN DEFAULT FALSE }
 /// ```
 ///
-/// Reading refuses the first fault of the octets, in their order; `ErrorKind::Memory` (1) where
-/// memory runs out.
-#[derive(PartialEq, Eq, Drop)]
+/// Reading refuses the first fault of the octets, in their order.
+#[derive(Clone, Copy, PartialEq, Eq)]
 pub struct IssuingDistributionPoint<'a> {
     fields: Fields<'a>,
 }
@@ -66,14 +62,14 @@ impl<'a> IssuingDistributionPoint<'a> {
 
     /// A value of these fields.
     pub fn new(
-        distribution_point: Option<DistributionPointName<'a>>,
+        distribution_point: Option<&DistributionPointName<'a>>,
         only_contains_user_certs: bool,
         only_contains_ca_certs: bool,
         only_some_reasons: Option<ReasonFlags<'a>>,
         indirect_crl: bool,
         only_contains_attribute_certs: bool,
     ) -> IssuingDistributionPoint<'a>
-        ensures distribution_point { issuing_distribution_point_fields.distribution_point result ≡ distribution_point.entry }
+        ensures distribution_point { issuing_distribution_point_fields.distribution_point result ≡ option_copied distribution_point.entry }
         ensures only_contains_user_certs { issuing_distribution_point_fields.only_contains_user_certs result ≡ only_contains_user_certs }
         ensures only_contains_ca_certs { issuing_distribution_point_fields.only_contains_ca_certs result ≡ only_contains_ca_certs }
         ensures only_some_reasons { issuing_distribution_point_fields.only_some_reasons result ≡ only_some_reasons.entry }
@@ -102,9 +98,10 @@ impl<'a> IssuingDistributionPoint<'a> {
         });
         let rest = Field { first, rest };
         let first = match distribution_point {
-            Some(first) => Some(Explicit0DistributionPointName {
-                fields: Fields1 {
-                    list: Field { first, rest: End },
+            Some(first) => Some(Explicit {
+                fields: Field {
+                    first: copy_of(first),
+                    rest: End,
                 },
             }),
             None => None,
@@ -114,77 +111,12 @@ impl<'a> IssuingDistributionPoint<'a> {
         IssuingDistributionPoint { fields }
     }
 
-    /// The values of the fields, in their order.
-    pub fn into_parts(
-        self,
-    ) -> (
-        Option<DistributionPointName<'a>>,
-        bool,
-        bool,
-        Option<ReasonFlags<'a>>,
-        bool,
-        bool,
-    )
-        ensures distribution_point { issuing_distribution_point_fields.distribution_point self.entry ≡ result.0 }
-        ensures only_contains_user_certs { issuing_distribution_point_fields.only_contains_user_certs self.entry ≡ result.1 }
-        ensures only_contains_ca_certs { issuing_distribution_point_fields.only_contains_ca_certs self.entry ≡ result.2 }
-        ensures only_some_reasons { issuing_distribution_point_fields.only_some_reasons self.entry ≡ result.3 }
-        ensures indirect_crl { issuing_distribution_point_fields.indirect_crl self.entry ≡ result.4 }
-        ensures only_contains_attribute_certs { issuing_distribution_point_fields.only_contains_attribute_certs self.entry ≡ result.5 }
-    {
-        let Fields6 { list } = self.fields;
-        let Field {
-            first: distribution_point,
-            rest,
-        } = list;
-        let Field {
-            first: only_contains_user_certs,
-            rest,
-        } = rest;
-        let Field {
-            first: only_contains_ca_certs,
-            rest,
-        } = rest;
-        let Field {
-            first: only_some_reasons,
-            rest,
-        } = rest;
-        let Field {
-            first: indirect_crl,
-            rest,
-        } = rest;
-        let Field {
-            first: only_contains_attribute_certs,
-            ..
-        } = rest;
-        let distribution_point = match distribution_point {
-            Some(tagged) => Some(tagged.fields.list.first),
-            None => None,
-        };
-        let only_contains_user_certs = only_contains_user_certs.value.value;
-        let only_contains_ca_certs = only_contains_ca_certs.value.value;
-        let only_some_reasons = match only_some_reasons {
-            Some(tagged) => Some(tagged.value),
-            None => None,
-        };
-        let indirect_crl = indirect_crl.value.value;
-        let only_contains_attribute_certs = only_contains_attribute_certs.value.value;
-        (
-            distribution_point,
-            only_contains_user_certs,
-            only_contains_ca_certs,
-            only_some_reasons,
-            indirect_crl,
-            only_contains_attribute_certs,
-        )
-    }
-
     /// `distributionPoint`, `[0] DistributionPointName OPTIONAL`.
     pub fn distribution_point(&self) -> Option<&DistributionPointName<'a>>
         ensures { option_copied result ≡ issuing_distribution_point_fields.distribution_point self.now }
     {
         match &self.fields.list.first {
-            Some(value) => Some(&value.fields.list.first),
+            Some(value) => Some(&value.fields.first),
             None => None,
         }
     }
@@ -257,9 +189,9 @@ impl<'a> FormValue for IssuingDistributionPoint<'a> {
 }
 
 impl<'a, R: Source<'a>> DecodeValue<'a, R> for IssuingDistributionPoint<'a> {
-    ghost TAKES_MEMORY = { true };
+    ghost TAKES_MEMORY = { false };
 
-    const TAKES_MEMORY: bool = true;
+    const TAKES_MEMORY: bool = false;
 
     fn decode_value(
         alloc: Global,
@@ -296,10 +228,14 @@ impl<'a> ValueOrd for IssuingDistributionPoint<'a> {
 }
 
 impl<'a> ContentsEq for IssuingDistributionPoint<'a> {
-    ghost contents_eq = { λ v w. (member_equality ⟦<Option<Explicit0DistributionPointName<'a>> as Form>⟧
-        (optional_starts ⟦<Explicit0DistributionPointName<'a> as Form>⟧ (one_tag ⟦<ExplicitTag<0> as TagMarker>⟧.TAG ⟦<Explicit0DistributionPointName<'a> as FormValue>⟧.value.contents))
-        ⟦<Option<Explicit0DistributionPointName<'a>> as PartialEq>⟧.eq
-        (optional_equality ⟦<Explicit0DistributionPointName<'a> as Form>⟧ (one_tag ⟦<ExplicitTag<0> as TagMarker>⟧.TAG ⟦<Explicit0DistributionPointName<'a> as FormValue>⟧.value.contents) ⟦<Explicit0DistributionPointName<'a> as PartialEq>⟧.eq (one_tag_equality ⟦<ExplicitTag<0> as TagMarker>⟧.TAG ⟦<Explicit0DistributionPointName<'a> as FormValue>⟧.value.contents ⟦<Explicit0DistributionPointName<'a> as FormValue>⟧.value.comparable ⟦<Explicit0DistributionPointName<'a> as PartialEq>⟧.eq explicit0_distribution_point_name_contents_eq.contents_eq-law))
+    ghost contents_eq = { λ v w. (member_equality ⟦<Option<Explicit<DistributionPointName<'a>, 0>> as Form>⟧
+        (optional_starts ⟦<Explicit<DistributionPointName<'a>, 0> as Form>⟧ (one_tag ⟦<ExplicitTag<0> as TagMarker>⟧.TAG ⟦<Explicit<DistributionPointName<'a>, 0> as FormValue>⟧.value.contents))
+        ⟦<Option<Explicit<DistributionPointName<'a>, 0>> as PartialEq>⟧.eq
+        (optional_equality ⟦<Explicit<DistributionPointName<'a>, 0> as Form>⟧ (one_tag ⟦<ExplicitTag<0> as TagMarker>⟧.TAG ⟦<Explicit<DistributionPointName<'a>, 0> as FormValue>⟧.value.contents) ⟦<Explicit<DistributionPointName<'a>, 0> as PartialEq>⟧.eq (one_tag_equality ⟦<ExplicitTag<0> as TagMarker>⟧.TAG ⟦<Explicit<DistributionPointName<'a>, 0> as FormValue>⟧.value.contents ⟦<Explicit<DistributionPointName<'a>, 0> as FormValue>⟧.value.comparable ⟦<Explicit<DistributionPointName<'a>, 0> as PartialEq>⟧.eq (λ v w. ((member_equality ⟦<DistributionPointName<'a> as Form>⟧
+        (tagged_starts ⟦<DistributionPointName<'a> as Form>⟧ (own_tags ⟦<DistributionPointName<'a> as Form>⟧.tags ⟦<DistributionPointName<'a> as Form>⟧.first_tag_of ⟦<DistributionPointName<'a> as Form>⟧.encoding ⟦<DistributionPointName<'a> as Tagged>⟧.tag_of ⟦<DistributionPointName<'a> as FormValue>⟧.value.contents distribution_point_name_tagged.encoding_is-law distribution_point_name_tagged.own_tag-law distribution_point_name_tagged.first_tag_is-law))
+        ⟦<DistributionPointName<'a> as PartialEq>⟧.eq
+        distribution_point_name_encoding_eq.encoding_eq-law
+        no_equality).equal v.fields w.fields))))
         (member_equality ⟦<WithDefault<Implicit<bool, 1>, DefaultFalse> as Form>⟧
         (default_starts ⟦<Implicit<bool, 1> as Form>⟧ (one_tag ⟦<ImplicitTag<BooleanTag, 1> as TagMarker>⟧.TAG ⟦<Implicit<bool, 1> as FormValue>⟧.value.contents) (λ x. x.value) ⟦<DefaultFalse as DefaultOf<Implicit<bool, 1>>>⟧.octets)
         ⟦<WithDefault<Implicit<bool, 1>, DefaultFalse> as PartialEq>⟧.eq
@@ -323,51 +259,7 @@ impl<'a> ContentsEq for IssuingDistributionPoint<'a> {
         no_equality)))))).equal v.fields.list w.fields.list };
 }
 
-impl<'a> CopyLaws for IssuingDistributionPoint<'a> {
-    ghost copies = { copies_of (held_copies (λ v. v.fields.list)
-        (listed_copies (member_copies ⟦<Option<Explicit0DistributionPointName<'a>> as Form>⟧
-        (optional_starts ⟦<Explicit0DistributionPointName<'a> as Form>⟧ (one_tag ⟦<ExplicitTag<0> as TagMarker>⟧.TAG ⟦<Explicit0DistributionPointName<'a> as FormValue>⟧.value.contents))
-        (optional_copies ⟦<Explicit0DistributionPointName<'a> as Form>⟧ (one_tag_copies ⟦<ExplicitTag<0> as TagMarker>⟧.TAG (record { octets_are = explicit0_distribution_point_name_duplicate_value.copy_contents-law; comparable_are = explicit0_distribution_point_name_duplicate_value.copy_comparable_value-law; re_reads_are = explicit0_distribution_point_name_duplicate_value.copy_re_reads_value-law; equal_are = explicit0_distribution_point_name_duplicate_value_is_equal.copy_value_is_equal-law })))
-        (member_copies ⟦<WithDefault<Implicit<bool, 1>, DefaultFalse> as Form>⟧
-        (default_starts ⟦<Implicit<bool, 1> as Form>⟧ (one_tag ⟦<ImplicitTag<BooleanTag, 1> as TagMarker>⟧.TAG ⟦<Implicit<bool, 1> as FormValue>⟧.value.contents) (λ x. x.value) ⟦<DefaultFalse as DefaultOf<Implicit<bool, 1>>>⟧.octets)
-        (default_copies ⟦<Implicit<bool, 1> as Form>⟧ (one_tag_copies ⟦<ImplicitTag<BooleanTag, 1> as TagMarker>⟧.TAG (held_copies (λ x. x.value) (same_copies ⟦<bool as FormValue>⟧.value.contents ⟦<bool as FormValue>⟧.value.comparable ⟦<bool as FormValue>⟧.value.re_reads ⟦<bool as PartialEq>⟧.eq (λ v. (bool_contents_eq.contents_eq-law v v tt).1 refl)))) (λ x. x.value) ⟦<DefaultFalse as DefaultOf<Implicit<bool, 1>>>⟧.octets)
-        (member_copies ⟦<WithDefault<Implicit<bool, 2>, DefaultFalse> as Form>⟧
-        (default_starts ⟦<Implicit<bool, 2> as Form>⟧ (one_tag ⟦<ImplicitTag<BooleanTag, 2> as TagMarker>⟧.TAG ⟦<Implicit<bool, 2> as FormValue>⟧.value.contents) (λ x. x.value) ⟦<DefaultFalse as DefaultOf<Implicit<bool, 2>>>⟧.octets)
-        (default_copies ⟦<Implicit<bool, 2> as Form>⟧ (one_tag_copies ⟦<ImplicitTag<BooleanTag, 2> as TagMarker>⟧.TAG (held_copies (λ x. x.value) (same_copies ⟦<bool as FormValue>⟧.value.contents ⟦<bool as FormValue>⟧.value.comparable ⟦<bool as FormValue>⟧.value.re_reads ⟦<bool as PartialEq>⟧.eq (λ v. (bool_contents_eq.contents_eq-law v v tt).1 refl)))) (λ x. x.value) ⟦<DefaultFalse as DefaultOf<Implicit<bool, 2>>>⟧.octets)
-        (member_copies ⟦<Option<Implicit<ReasonFlags<'a>, 3>> as Form>⟧
-        (optional_starts ⟦<Implicit<ReasonFlags<'a>, 3> as Form>⟧ (one_tag ⟦<ImplicitTag<BitStringTag, 3> as TagMarker>⟧.TAG ⟦<Implicit<ReasonFlags<'a>, 3> as FormValue>⟧.value.contents))
-        (optional_copies ⟦<Implicit<ReasonFlags<'a>, 3> as Form>⟧ (one_tag_copies ⟦<ImplicitTag<BitStringTag, 3> as TagMarker>⟧.TAG (held_copies (λ x. x.value) (same_copies ⟦<NamedBitsRef<'a> as FormValue>⟧.value.contents ⟦<NamedBitsRef<'a> as FormValue>⟧.value.comparable ⟦<NamedBitsRef<'a> as FormValue>⟧.value.re_reads ⟦<NamedBitsRef<'a> as PartialEq>⟧.eq (λ v. (namedbitsref_contents_eq.contents_eq-law v v tt).1 refl)))))
-        (member_copies ⟦<WithDefault<Implicit<bool, 4>, DefaultFalse> as Form>⟧
-        (default_starts ⟦<Implicit<bool, 4> as Form>⟧ (one_tag ⟦<ImplicitTag<BooleanTag, 4> as TagMarker>⟧.TAG ⟦<Implicit<bool, 4> as FormValue>⟧.value.contents) (λ x. x.value) ⟦<DefaultFalse as DefaultOf<Implicit<bool, 4>>>⟧.octets)
-        (default_copies ⟦<Implicit<bool, 4> as Form>⟧ (one_tag_copies ⟦<ImplicitTag<BooleanTag, 4> as TagMarker>⟧.TAG (held_copies (λ x. x.value) (same_copies ⟦<bool as FormValue>⟧.value.contents ⟦<bool as FormValue>⟧.value.comparable ⟦<bool as FormValue>⟧.value.re_reads ⟦<bool as PartialEq>⟧.eq (λ v. (bool_contents_eq.contents_eq-law v v tt).1 refl)))) (λ x. x.value) ⟦<DefaultFalse as DefaultOf<Implicit<bool, 4>>>⟧.octets)
-        (member_copies ⟦<WithDefault<Implicit<bool, 5>, DefaultFalse> as Form>⟧
-        (default_starts ⟦<Implicit<bool, 5> as Form>⟧ (one_tag ⟦<ImplicitTag<BooleanTag, 5> as TagMarker>⟧.TAG ⟦<Implicit<bool, 5> as FormValue>⟧.value.contents) (λ x. x.value) ⟦<DefaultFalse as DefaultOf<Implicit<bool, 5>>>⟧.octets)
-        (default_copies ⟦<Implicit<bool, 5> as Form>⟧ (one_tag_copies ⟦<ImplicitTag<BooleanTag, 5> as TagMarker>⟧.TAG (held_copies (λ x. x.value) (same_copies ⟦<bool as FormValue>⟧.value.contents ⟦<bool as FormValue>⟧.value.comparable ⟦<bool as FormValue>⟧.value.re_reads ⟦<bool as PartialEq>⟧.eq (λ v. (bool_contents_eq.contents_eq-law v v tt).1 refl)))) (λ x. x.value) ⟦<DefaultFalse as DefaultOf<Implicit<bool, 5>>>⟧.octets)
-        no_copies)))))))) };
-}
-
-impl<'a> DuplicateValue for IssuingDistributionPoint<'a> {
-    ghost is_copy_value = { λ v w. ⟦<Fields<'a> as DuplicateFields>⟧.are_copies v.fields w.fields };
-
-    ghost takes_memory_to_copy_value = { ⟦<Fields<'a> as DuplicateFields>⟧.take_memory_to_copy };
-
-    fn duplicate_value(&self) -> Result<IssuingDistributionPoint<'a>, Error> {
-        match self.fields.duplicate_fields() {
-            Ok(fields) => Ok(IssuingDistributionPoint { fields }),
-            Err(e) => Err(e),
-        }
-    }
-
-    ghost copy_contents = { ⟦<IssuingDistributionPoint<'a> as CopyLaws>⟧.copies.laws.octets_are };
-
-    ghost copy_comparable_value = { ⟦<IssuingDistributionPoint<'a> as CopyLaws>⟧.copies.laws.comparable_are };
-
-    ghost copy_re_reads_value = { ⟦<IssuingDistributionPoint<'a> as CopyLaws>⟧.copies.laws.re_reads_are };
-}
-
-impl<'a> DuplicateValueIsEqual for IssuingDistributionPoint<'a> {
-    ghost copy_value_is_equal = { ⟦<IssuingDistributionPoint<'a> as CopyLaws>⟧.copies.laws.equal_are };
-}
+impl<'a> CopyIsDuplicate for IssuingDistributionPoint<'a> {}
 
 /// What is read as `IssuingDistributionPoint` is what the page of the grammar says.
 pub fn grammar_of_issuing_distribution_point<'a>()

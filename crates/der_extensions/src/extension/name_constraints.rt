@@ -2,27 +2,24 @@
 //!
 //! Made by tools/asn1 from extension.asn1.
 
-ghost use Rattle.std.specs.Prelude.{◌∷◌, ◌≡◌, [], refl, true};
+ghost use Rattle.std.specs.Prelude.{◌∷◌, ◌≡◌, [], false, refl, true};
 ghost use Rattle.der_elem.specs.FormatMakers.{mapped_format};
 ghost use Rattle.der_extensions.specs.Extension.Grammar.{name_constraints};
 ghost use Rattle.der_extensions.specs.Extension.NameConstraints as name_constraints_fields;
 ghost use Rattle.der_extensions.specs.contracts.extension.general_subtrees.GeneralSubtreesContentsEq.TheImpl.Laws as general_subtrees_contents_eq;
-ghost use Rattle.der_extensions.specs.contracts.extension.general_subtrees.GeneralSubtreesDuplicateValue.TheImpl.Laws as general_subtrees_duplicate_value;
-ghost use Rattle.der_extensions.specs.contracts.extension.general_subtrees.GeneralSubtreesDuplicateValueIsEqual.TheImpl.Laws as general_subtrees_duplicate_value_is_equal;
 ghost use Rattle.der_extensions.specs.declared.extension.name_constraints.NameConstraints.{NameConstraints};
 ghost use Rattle.der_modules.specs.Asn1.{context, implicit_encoding, joined, optional, parse_of};
-ghost use Rattle.der_modules.specs.MemberLaws.{copies_of, held_copies, listed_copies, member_copies, member_equality, no_copies, no_equality, one_tag, one_tag_copies, one_tag_equality, optional_copies, optional_equality, optional_starts};
+ghost use Rattle.der_modules.specs.MemberLaws.{member_equality, no_equality, one_tag, one_tag_equality, optional_equality, optional_starts};
 
 use crate::extension::general_subtrees::GeneralSubtrees;
 use der_elem::{
-    ContentsEq, DecodeValue, DuplicateValue, DuplicateValueIsEqual, EncodeValue, Form, FormValue,
-    OneTag, Sequence, SequenceTag, TagMarker, ValueOrd,
+    ContentsEq, CopyIsDuplicate, DecodeValue, EncodeValue, Form, FormValue, OneTag, Sequence,
+    SequenceTag, TagMarker, ValueOrd,
 };
 use der_fields::{
-    DecodeFields, DuplicateFields, EncodeFields, End, Field, FieldList, Fields2, FieldsOrd,
-    Implicit, ImplicitTag,
+    DecodeFields, EncodeFields, End, Field, FieldList, Fields2, FieldsOrd, Implicit, ImplicitTag,
 };
-use der_modules::CopyLaws;
+use der_modules::copy_of;
 use der_tlv::{BackWriter, Error, Header, Length, Source, Writer};
 use std::alloc::Global;
 use std::cmp::Ordering;
@@ -40,9 +37,8 @@ type Fields<'a> = Fields2<
 ///      excludedSubtrees        [1]     GeneralSubtrees OPTIONAL }
 /// ```
 ///
-/// Reading refuses the first fault of the octets, in their order; `ErrorKind::Memory` (1) where
-/// memory runs out.
-#[derive(PartialEq, Eq, Drop)]
+/// Reading refuses the first fault of the octets, in their order.
+#[derive(Clone, Copy, PartialEq, Eq)]
 pub struct NameConstraints<'a> {
     fields: Fields<'a>,
 }
@@ -53,49 +49,28 @@ impl<'a> NameConstraints<'a> {
 
     /// A value of these fields.
     pub fn new(
-        permitted_subtrees: Option<GeneralSubtrees<'a>>,
-        excluded_subtrees: Option<GeneralSubtrees<'a>>,
+        permitted_subtrees: Option<&GeneralSubtrees<'a>>,
+        excluded_subtrees: Option<&GeneralSubtrees<'a>>,
     ) -> NameConstraints<'a>
-        ensures permitted_subtrees { name_constraints_fields.permitted_subtrees result ≡ permitted_subtrees.entry }
-        ensures excluded_subtrees { name_constraints_fields.excluded_subtrees result ≡ excluded_subtrees.entry }
+        ensures permitted_subtrees { name_constraints_fields.permitted_subtrees result ≡ option_copied permitted_subtrees.entry }
+        ensures excluded_subtrees { name_constraints_fields.excluded_subtrees result ≡ option_copied excluded_subtrees.entry }
     {
         let first = match excluded_subtrees {
-            Some(value) => Some(Implicit { value }),
+            Some(value) => Some(Implicit {
+                value: copy_of(value),
+            }),
             None => None,
         };
         let rest = Field { first, rest: End };
         let first = match permitted_subtrees {
-            Some(value) => Some(Implicit { value }),
+            Some(value) => Some(Implicit {
+                value: copy_of(value),
+            }),
             None => None,
         };
         let list = Field { first, rest };
         let fields = Fields2 { list };
         NameConstraints { fields }
-    }
-
-    /// The values of the fields, in their order.
-    pub fn into_parts(self) -> (Option<GeneralSubtrees<'a>>, Option<GeneralSubtrees<'a>>)
-        ensures permitted_subtrees { name_constraints_fields.permitted_subtrees self.entry ≡ result.0 }
-        ensures excluded_subtrees { name_constraints_fields.excluded_subtrees self.entry ≡ result.1 }
-    {
-        let Fields2 { list } = self.fields;
-        let Field {
-            first: permitted_subtrees,
-            rest,
-        } = list;
-        let Field {
-            first: excluded_subtrees,
-            ..
-        } = rest;
-        let permitted_subtrees = match permitted_subtrees {
-            Some(tagged) => Some(tagged.value),
-            None => None,
-        };
-        let excluded_subtrees = match excluded_subtrees {
-            Some(tagged) => Some(tagged.value),
-            None => None,
-        };
-        (permitted_subtrees, excluded_subtrees)
     }
 
     /// `permittedSubtrees`, `[0] GeneralSubtrees OPTIONAL`.
@@ -141,9 +116,9 @@ impl<'a> FormValue for NameConstraints<'a> {
 }
 
 impl<'a, R: Source<'a>> DecodeValue<'a, R> for NameConstraints<'a> {
-    ghost TAKES_MEMORY = { true };
+    ghost TAKES_MEMORY = { false };
 
-    const TAKES_MEMORY: bool = true;
+    const TAKES_MEMORY: bool = false;
 
     fn decode_value(
         alloc: Global,
@@ -191,39 +166,7 @@ impl<'a> ContentsEq for NameConstraints<'a> {
         no_equality)).equal v.fields.list w.fields.list };
 }
 
-impl<'a> CopyLaws for NameConstraints<'a> {
-    ghost copies = { copies_of (held_copies (λ v. v.fields.list)
-        (listed_copies (member_copies ⟦<Option<Implicit<GeneralSubtrees<'a>, 0>> as Form>⟧
-        (optional_starts ⟦<Implicit<GeneralSubtrees<'a>, 0> as Form>⟧ (one_tag ⟦<ImplicitTag<SequenceTag, 0> as TagMarker>⟧.TAG ⟦<Implicit<GeneralSubtrees<'a>, 0> as FormValue>⟧.value.contents))
-        (optional_copies ⟦<Implicit<GeneralSubtrees<'a>, 0> as Form>⟧ (one_tag_copies ⟦<ImplicitTag<SequenceTag, 0> as TagMarker>⟧.TAG (held_copies (λ x. x.value) (record { octets_are = general_subtrees_duplicate_value.copy_contents-law; comparable_are = general_subtrees_duplicate_value.copy_comparable_value-law; re_reads_are = general_subtrees_duplicate_value.copy_re_reads_value-law; equal_are = general_subtrees_duplicate_value_is_equal.copy_value_is_equal-law }))))
-        (member_copies ⟦<Option<Implicit<GeneralSubtrees<'a>, 1>> as Form>⟧
-        (optional_starts ⟦<Implicit<GeneralSubtrees<'a>, 1> as Form>⟧ (one_tag ⟦<ImplicitTag<SequenceTag, 1> as TagMarker>⟧.TAG ⟦<Implicit<GeneralSubtrees<'a>, 1> as FormValue>⟧.value.contents))
-        (optional_copies ⟦<Implicit<GeneralSubtrees<'a>, 1> as Form>⟧ (one_tag_copies ⟦<ImplicitTag<SequenceTag, 1> as TagMarker>⟧.TAG (held_copies (λ x. x.value) (record { octets_are = general_subtrees_duplicate_value.copy_contents-law; comparable_are = general_subtrees_duplicate_value.copy_comparable_value-law; re_reads_are = general_subtrees_duplicate_value.copy_re_reads_value-law; equal_are = general_subtrees_duplicate_value_is_equal.copy_value_is_equal-law }))))
-        no_copies)))) };
-}
-
-impl<'a> DuplicateValue for NameConstraints<'a> {
-    ghost is_copy_value = { λ v w. ⟦<Fields<'a> as DuplicateFields>⟧.are_copies v.fields w.fields };
-
-    ghost takes_memory_to_copy_value = { ⟦<Fields<'a> as DuplicateFields>⟧.take_memory_to_copy };
-
-    fn duplicate_value(&self) -> Result<NameConstraints<'a>, Error> {
-        match self.fields.duplicate_fields() {
-            Ok(fields) => Ok(NameConstraints { fields }),
-            Err(e) => Err(e),
-        }
-    }
-
-    ghost copy_contents = { ⟦<NameConstraints<'a> as CopyLaws>⟧.copies.laws.octets_are };
-
-    ghost copy_comparable_value = { ⟦<NameConstraints<'a> as CopyLaws>⟧.copies.laws.comparable_are };
-
-    ghost copy_re_reads_value = { ⟦<NameConstraints<'a> as CopyLaws>⟧.copies.laws.re_reads_are };
-}
-
-impl<'a> DuplicateValueIsEqual for NameConstraints<'a> {
-    ghost copy_value_is_equal = { ⟦<NameConstraints<'a> as CopyLaws>⟧.copies.laws.equal_are };
-}
+impl<'a> CopyIsDuplicate for NameConstraints<'a> {}
 
 /// What is read as `NameConstraints` is what the page of the grammar says.
 pub fn grammar_of_name_constraints<'a>()

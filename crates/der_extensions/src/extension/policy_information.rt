@@ -3,28 +3,25 @@
 //! Made by tools/asn1 from extension.asn1.
 
 ghost use Rattle.std.proofs.Common.{lit<};
-ghost use Rattle.std.specs.Prelude.{◌∷◌, ◌≡◌, [], refl, true};
+ghost use Rattle.std.specs.Cmp.Lexicographic.{bytes_decides};
+ghost use Rattle.std.specs.Prelude.{◌∷◌, ◌≡◌, [], false, refl};
 ghost use Rattle.der_elem.specs.FormatMakers.{mapped_format};
 ghost use Rattle.der_extensions.specs.Extension.Grammar.{policy_information};
 ghost use Rattle.der_extensions.specs.Extension.PolicyInformation as policy_information_fields;
-ghost use Rattle.der_extensions.specs.contracts.extension.policy_qualifier_info.PolicyQualifierInfoContentsEq.TheImpl.Laws as policy_qualifier_info_contents_eq;
-ghost use Rattle.der_extensions.specs.contracts.extension.policy_qualifier_info.PolicyQualifierInfoEq.TheImpl.Laws as policy_qualifier_info_eq;
 ghost use Rattle.der_extensions.specs.declared.extension.policy_information.PolicyInformation.{PolicyInformation};
 ghost use Rattle.der_modules.specs.Asn1.{joined, optional, parse_of};
-ghost use Rattle.der_modules.specs.MemberLaws.{copies_of, held_copies, items_copies, items_equality, listed_copies, member_copies, member_equality, no_copies, no_equality, one_tag, one_tag_copies, one_tag_equality, optional_copies, optional_equality, optional_starts, same_copies, tagged_starts};
+ghost use Rattle.der_modules.specs.MemberLaws.{member_equality, no_equality, one_tag, one_tag_equality, optional_equality, optional_starts, tagged_starts};
 ghost use Rattle.der_opaque.specs.contracts.object_identifier_ref.ObjectIdentifierRefContentsEq.TheImpl.Laws as objectidentifierref_contents_eq;
 
 use crate::extension::aliases::CertPolicyId;
 use crate::extension::policy_qualifier_info::PolicyQualifierInfo;
 use der_elem::{
-    ContentsEq, DecodeValue, DuplicateValue, DuplicateValueIsEqual, EncodeValue, Form, FormValue,
-    ObjectIdentifierTag, OneTag, Sequence, SequenceTag, TagMarker, ValueOrd,
+    ContentsEq, CopyIsDuplicate, DecodeValue, EncodeValue, Form, FormValue, ObjectIdentifierTag,
+    OneTag, Sequence, SequenceTag, TagMarker, ValueOrd,
 };
-use der_fields::{
-    DecodeFields, DuplicateFields, EncodeFields, End, Field, FieldList, Fields2, FieldsOrd,
-};
-use der_modules::CopyLaws;
-use der_nest::NonEmpty;
+use der_fields::{DecodeFields, EncodeFields, End, Field, FieldList, Fields2, FieldsOrd};
+use der_lists::{ListRef, NonEmptyRef};
+use der_modules::copy_of;
 use der_opaque::ObjectIdentifierRef;
 use der_tlv::{BackWriter, Error, Header, Length, Source, Writer};
 use std::alloc::Global;
@@ -32,7 +29,10 @@ use std::cmp::Ordering;
 use std::fmt;
 
 /// The list of the fields.
-type Fields<'a> = Fields2<CertPolicyId<'a>, Option<NonEmpty<Vec<PolicyQualifierInfo<'a>>>>>;
+type Fields<'a> = Fields2<
+    CertPolicyId<'a>,
+    Option<NonEmptyRef<ListRef<'a, PolicyQualifierInfo<'a>>>>,
+>;
 
 /// ```text
 /// PolicyInformation ::= SEQUENCE {
@@ -41,9 +41,8 @@ type Fields<'a> = Fields2<CertPolicyId<'a>, Option<NonEmpty<Vec<PolicyQualifierI
 ///              PolicyQualifierInfo OPTIONAL }
 /// ```
 ///
-/// Reading refuses the first fault of the octets, in their order; `ErrorKind::Memory` (1) where
-/// memory runs out.
-#[derive(PartialEq, Eq, Drop)]
+/// Reading refuses the first fault of the octets, in their order.
+#[derive(Clone, Copy, PartialEq, Eq)]
 pub struct PolicyInformation<'a> {
     fields: Fields<'a>,
 }
@@ -55,39 +54,20 @@ impl<'a> PolicyInformation<'a> {
     /// A value of these fields.
     pub fn new(
         policy_identifier: CertPolicyId<'a>,
-        policy_qualifiers: Option<NonEmpty<Vec<PolicyQualifierInfo<'a>>>>,
+        policy_qualifiers: Option<&NonEmptyRef<ListRef<'a, PolicyQualifierInfo<'a>>>>,
     ) -> PolicyInformation<'a>
         ensures policy_identifier { policy_information_fields.policy_identifier result ≡ policy_identifier.entry }
-        ensures policy_qualifiers { policy_information_fields.policy_qualifiers result ≡ policy_qualifiers.entry }
+        ensures policy_qualifiers { policy_information_fields.policy_qualifiers result ≡ option_copied policy_qualifiers.entry }
     {
-        let first = policy_qualifiers;
+        let first = match policy_qualifiers {
+            Some(value) => Some(copy_of(value)),
+            None => None,
+        };
         let rest = Field { first, rest: End };
         let first = policy_identifier;
         let list = Field { first, rest };
         let fields = Fields2 { list };
         PolicyInformation { fields }
-    }
-
-    /// The values of the fields, in their order.
-    pub fn into_parts(
-        self,
-    ) -> (
-        CertPolicyId<'a>,
-        Option<NonEmpty<Vec<PolicyQualifierInfo<'a>>>>,
-    )
-        ensures policy_identifier { policy_information_fields.policy_identifier self.entry ≡ result.0 }
-        ensures policy_qualifiers { policy_information_fields.policy_qualifiers self.entry ≡ result.1 }
-    {
-        let Fields2 { list } = self.fields;
-        let Field {
-            first: policy_identifier,
-            rest,
-        } = list;
-        let Field {
-            first: policy_qualifiers,
-            ..
-        } = rest;
-        (policy_identifier, policy_qualifiers)
     }
 
     /// `policyIdentifier`, `CertPolicyId`.
@@ -98,7 +78,7 @@ impl<'a> PolicyInformation<'a> {
     }
 
     /// `policyQualifiers`, `SEQUENCE SIZE (1..MAX) OF PolicyQualifierInfo OPTIONAL`.
-    pub fn policy_qualifiers(&self) -> Option<&NonEmpty<Vec<PolicyQualifierInfo<'a>>>>
+    pub fn policy_qualifiers(&self) -> Option<&NonEmptyRef<ListRef<'a, PolicyQualifierInfo<'a>>>>
         ensures { option_copied result ≡ policy_information_fields.policy_qualifiers self.now }
     {
         match &self.fields.list.rest.first {
@@ -130,9 +110,9 @@ impl<'a> FormValue for PolicyInformation<'a> {
 }
 
 impl<'a, R: Source<'a>> DecodeValue<'a, R> for PolicyInformation<'a> {
-    ghost TAKES_MEMORY = { true };
+    ghost TAKES_MEMORY = { false };
 
-    const TAKES_MEMORY: bool = true;
+    const TAKES_MEMORY: bool = false;
 
     fn decode_value(
         alloc: Global,
@@ -173,46 +153,14 @@ impl<'a> ContentsEq for PolicyInformation<'a> {
         (tagged_starts ⟦<CertPolicyId<'a> as Form>⟧ (one_tag ⟦<ObjectIdentifierTag as TagMarker>⟧.TAG ⟦<ObjectIdentifierRef<'a, 39> as FormValue>⟧.value.contents))
         ⟦<CertPolicyId<'a> as PartialEq>⟧.eq
         (one_tag_equality ⟦<ObjectIdentifierTag as TagMarker>⟧.TAG ⟦<ObjectIdentifierRef<'a, 39> as FormValue>⟧.value.contents ⟦<ObjectIdentifierRef<'a, 39> as FormValue>⟧.value.comparable ⟦<ObjectIdentifierRef<'a, 39> as PartialEq>⟧.eq (objectidentifierref_contents_eq.contents_eq-law 39 (record { fits = lit< tt })))
-        (member_equality ⟦<Option<NonEmpty<Vec<PolicyQualifierInfo<'a>>>> as Form>⟧
-        (optional_starts ⟦<NonEmpty<Vec<PolicyQualifierInfo<'a>>> as Form>⟧ (one_tag ⟦<SequenceTag as TagMarker>⟧.TAG ⟦<NonEmpty<Vec<PolicyQualifierInfo<'a>>> as FormValue>⟧.value.contents))
-        ⟦<Option<NonEmpty<Vec<PolicyQualifierInfo<'a>>>> as PartialEq>⟧.eq
-        (optional_equality ⟦<NonEmpty<Vec<PolicyQualifierInfo<'a>>> as Form>⟧ (one_tag ⟦<SequenceTag as TagMarker>⟧.TAG ⟦<NonEmpty<Vec<PolicyQualifierInfo<'a>>> as FormValue>⟧.value.contents) ⟦<NonEmpty<Vec<PolicyQualifierInfo<'a>>> as PartialEq>⟧.eq (one_tag_equality ⟦<SequenceTag as TagMarker>⟧.TAG ⟦<NonEmpty<Vec<PolicyQualifierInfo<'a>>> as FormValue>⟧.value.contents ⟦<NonEmpty<Vec<PolicyQualifierInfo<'a>>> as FormValue>⟧.value.comparable ⟦<NonEmpty<Vec<PolicyQualifierInfo<'a>>> as PartialEq>⟧.eq (λ v w. ((items_equality ⟦<PolicyQualifierInfo<'a> as Form>⟧ (one_tag ⟦<SequenceTag as TagMarker>⟧.TAG ⟦<PolicyQualifierInfo<'a> as FormValue>⟧.value.contents) ⟦<PolicyQualifierInfo<'a> as PartialEq>⟧.eq (one_tag_equality ⟦<SequenceTag as TagMarker>⟧.TAG ⟦<PolicyQualifierInfo<'a> as FormValue>⟧.value.contents ⟦<PolicyQualifierInfo<'a> as FormValue>⟧.value.comparable ⟦<PolicyQualifierInfo<'a> as PartialEq>⟧.eq policy_qualifier_info_contents_eq.contents_eq-law)) v.items w.items))))
+        (member_equality ⟦<Option<NonEmptyRef<ListRef<'a, PolicyQualifierInfo<'a>>>> as Form>⟧
+        (optional_starts ⟦<NonEmptyRef<ListRef<'a, PolicyQualifierInfo<'a>>> as Form>⟧ (one_tag ⟦<SequenceTag as TagMarker>⟧.TAG ⟦<NonEmptyRef<ListRef<'a, PolicyQualifierInfo<'a>>> as FormValue>⟧.value.contents))
+        ⟦<Option<NonEmptyRef<ListRef<'a, PolicyQualifierInfo<'a>>>> as PartialEq>⟧.eq
+        (optional_equality ⟦<NonEmptyRef<ListRef<'a, PolicyQualifierInfo<'a>>> as Form>⟧ (one_tag ⟦<SequenceTag as TagMarker>⟧.TAG ⟦<NonEmptyRef<ListRef<'a, PolicyQualifierInfo<'a>>> as FormValue>⟧.value.contents) ⟦<NonEmptyRef<ListRef<'a, PolicyQualifierInfo<'a>>> as PartialEq>⟧.eq (one_tag_equality ⟦<SequenceTag as TagMarker>⟧.TAG ⟦<NonEmptyRef<ListRef<'a, PolicyQualifierInfo<'a>>> as FormValue>⟧.value.contents ⟦<NonEmptyRef<ListRef<'a, PolicyQualifierInfo<'a>>> as FormValue>⟧.value.comparable ⟦<NonEmptyRef<ListRef<'a, PolicyQualifierInfo<'a>>> as PartialEq>⟧.eq (λ v w. (λ one. bytes_decides v.list.octets.octets.now w.list.octets.octets.now))))
         no_equality)).equal v.fields.list w.fields.list };
 }
 
-impl<'a> CopyLaws for PolicyInformation<'a> {
-    ghost copies = { copies_of (held_copies (λ v. v.fields.list)
-        (listed_copies (member_copies ⟦<CertPolicyId<'a> as Form>⟧
-        (tagged_starts ⟦<CertPolicyId<'a> as Form>⟧ (one_tag ⟦<ObjectIdentifierTag as TagMarker>⟧.TAG ⟦<ObjectIdentifierRef<'a, 39> as FormValue>⟧.value.contents))
-        (one_tag_copies ⟦<ObjectIdentifierTag as TagMarker>⟧.TAG (same_copies ⟦<ObjectIdentifierRef<'a, 39> as FormValue>⟧.value.contents ⟦<ObjectIdentifierRef<'a, 39> as FormValue>⟧.value.comparable ⟦<ObjectIdentifierRef<'a, 39> as FormValue>⟧.value.re_reads ⟦<ObjectIdentifierRef<'a, 39> as PartialEq>⟧.eq (λ v. ((objectidentifierref_contents_eq.contents_eq-law 39 (record { fits = lit< tt })) v v tt).1 refl)))
-        (member_copies ⟦<Option<NonEmpty<Vec<PolicyQualifierInfo<'a>>>> as Form>⟧
-        (optional_starts ⟦<NonEmpty<Vec<PolicyQualifierInfo<'a>>> as Form>⟧ (one_tag ⟦<SequenceTag as TagMarker>⟧.TAG ⟦<NonEmpty<Vec<PolicyQualifierInfo<'a>>> as FormValue>⟧.value.contents))
-        (optional_copies ⟦<NonEmpty<Vec<PolicyQualifierInfo<'a>>> as Form>⟧ (one_tag_copies ⟦<SequenceTag as TagMarker>⟧.TAG (held_copies (λ x. x.items) (items_copies ⟦<PolicyQualifierInfo<'a> as Form>⟧ (one_tag_copies ⟦<SequenceTag as TagMarker>⟧.TAG (same_copies ⟦<PolicyQualifierInfo<'a> as FormValue>⟧.value.contents ⟦<PolicyQualifierInfo<'a> as FormValue>⟧.value.comparable ⟦<PolicyQualifierInfo<'a> as FormValue>⟧.value.re_reads ⟦<PolicyQualifierInfo<'a> as PartialEq>⟧.eq policy_qualifier_info_eq.laws-law.refl))))))
-        no_copies)))) };
-}
-
-impl<'a> DuplicateValue for PolicyInformation<'a> {
-    ghost is_copy_value = { λ v w. ⟦<Fields<'a> as DuplicateFields>⟧.are_copies v.fields w.fields };
-
-    ghost takes_memory_to_copy_value = { ⟦<Fields<'a> as DuplicateFields>⟧.take_memory_to_copy };
-
-    fn duplicate_value(&self) -> Result<PolicyInformation<'a>, Error> {
-        match self.fields.duplicate_fields() {
-            Ok(fields) => Ok(PolicyInformation { fields }),
-            Err(e) => Err(e),
-        }
-    }
-
-    ghost copy_contents = { ⟦<PolicyInformation<'a> as CopyLaws>⟧.copies.laws.octets_are };
-
-    ghost copy_comparable_value = { ⟦<PolicyInformation<'a> as CopyLaws>⟧.copies.laws.comparable_are };
-
-    ghost copy_re_reads_value = { ⟦<PolicyInformation<'a> as CopyLaws>⟧.copies.laws.re_reads_are };
-}
-
-impl<'a> DuplicateValueIsEqual for PolicyInformation<'a> {
-    ghost copy_value_is_equal = { ⟦<PolicyInformation<'a> as CopyLaws>⟧.copies.laws.equal_are };
-}
+impl<'a> CopyIsDuplicate for PolicyInformation<'a> {}
 
 /// What is read as `PolicyInformation` is what the page of the grammar says.
 pub fn grammar_of_policy_information<'a>()
@@ -223,6 +171,6 @@ pub fn grammar_of_policy_information<'a>()
 pub fn octets_of_policy_information<'a>()
     ensures { (v : PolicyInformation) → ⟦<PolicyInformation<'a> as FormValue>⟧.value.contents v ≡ joined (
         (⟦<CertPolicyId<'a> as Form>⟧.encoding (policy_information_fields.policy_identifier v))
-        ∷ optional (λ x. (⟦<NonEmpty<Vec<PolicyQualifierInfo<'a>>> as Form>⟧.encoding x)) (policy_information_fields.policy_qualifiers v)
+        ∷ optional (λ x. (⟦<NonEmptyRef<ListRef<'a, PolicyQualifierInfo<'a>>> as Form>⟧.encoding x)) (policy_information_fields.policy_qualifiers v)
         ∷ []) }
 {}

@@ -2,21 +2,19 @@
 //!
 //! Made by tools/asn1 from extension.asn1.
 
-ghost use Rattle.std.specs.Prelude.{◌≡◌, refl, true};
+ghost use Rattle.std.specs.Cmp.Lexicographic.{bytes_decides};
+ghost use Rattle.std.specs.Prelude.{◌≡◌, false, refl};
 ghost use Rattle.der_elem.specs.FormatMakers.{mapped_format};
 ghost use Rattle.der_extensions.specs.Extension.Grammar.{policy_mappings};
-ghost use Rattle.der_extensions.specs.contracts.extension.policy_mapping.PolicyMappingContentsEq.TheImpl.Laws as policy_mapping_contents_eq;
-ghost use Rattle.der_extensions.specs.contracts.extension.policy_mapping.PolicyMappingEq.TheImpl.Laws as policy_mapping_eq;
+ghost use Rattle.der_lists.specs.NonEmptyRef.{list_of};
 ghost use Rattle.der_modules.specs.Asn1.{parse_of};
-ghost use Rattle.der_modules.specs.MemberLaws.{copies_of, held_copies, items_copies, items_equality, one_tag, one_tag_copies, one_tag_equality, same_copies};
 
 use crate::extension::policy_mapping::PolicyMapping;
 use der_elem::{
-    ContentsEq, DecodeValue, DuplicateValue, DuplicateValueIsEqual, EncodeValue, Form, FormValue,
-    OneTag, Sequence, SequenceTag, TagMarker, ValueOrd,
+    ContentsEq, CopyIsDuplicate, DecodeValue, EncodeValue, Form, FormValue, OneTag, Sequence,
+    SequenceTag, ValueOrd,
 };
-use der_modules::CopyLaws;
-use der_nest::NonEmpty;
+use der_lists::{ListRef, NonEmptyRef};
 use der_tlv::{BackWriter, Error, Header, Length, Source, Writer};
 use std::alloc::Global;
 use std::cmp::Ordering;
@@ -27,35 +25,27 @@ use std::cmp::Ordering;
 ///      subjectDomainPolicy     CertPolicyId }
 /// ```
 ///
-/// Reading refuses the first fault of the octets, in their order; `ErrorKind::Memory` (1) where
-/// memory runs out.
-#[derive(Debug, PartialEq, Eq, Drop)]
+/// Reading refuses the first fault of the octets, in their order.
+#[derive(Clone, Copy, Debug, PartialEq, Eq)]
 pub struct PolicyMappings<'a> {
-    items: NonEmpty<Vec<PolicyMapping<'a>>>,
+    items: NonEmptyRef<ListRef<'a, PolicyMapping<'a>>>,
 }
 
 impl<'a> PolicyMappings<'a> {
     ghost use Rattle.der_extensions.specs.Extension.PolicyMappings as policy_mappings;
 
     /// These items.
-    pub fn new(items: NonEmpty<Vec<PolicyMapping<'a>>>) -> PolicyMappings<'a>
-        ensures { policy_mappings.items_of result ≡ items.entry.items }
+    pub fn new(items: NonEmptyRef<ListRef<'a, PolicyMapping<'a>>>) -> PolicyMappings<'a>
+        ensures { policy_mappings.items_of result ≡ list_of items.entry }
     {
         PolicyMappings { items }
     }
 
     /// The items, in their order.
-    pub fn as_slice(&self) -> &[PolicyMapping<'a>]
+    pub fn items(&self) -> &ListRef<'a, PolicyMapping<'a>>
         ensures { result.now ≡ policy_mappings.items_of self.now }
     {
-        self.items.list().as_slice()
-    }
-
-    /// The items, in the room that holds them.
-    pub fn into_items(self) -> NonEmpty<Vec<PolicyMapping<'a>>>
-        ensures { policy_mappings.items_of self.entry ≡ result.items }
-    {
-        self.items
+        self.items.list()
     }
 }
 
@@ -68,20 +58,20 @@ impl<'a> Sequence<'a> for PolicyMappings<'a> {
 }
 
 impl<'a> FormValue for PolicyMappings<'a> {
-    ghost value = { mapped_format (λ v. v.items) ⟦<NonEmpty<Vec<PolicyMapping<'a>>> as FormValue>⟧.value };
+    ghost value = { mapped_format (λ v. v.items) ⟦<NonEmptyRef<ListRef<'a, PolicyMapping<'a>>> as FormValue>⟧.value };
 }
 
 impl<'a, R: Source<'a>> DecodeValue<'a, R> for PolicyMappings<'a> {
-    ghost TAKES_MEMORY = { true };
+    ghost TAKES_MEMORY = { false };
 
-    const TAKES_MEMORY: bool = true;
+    const TAKES_MEMORY: bool = false;
 
     fn decode_value(
         alloc: Global,
         reader: &mut R,
         header: Header,
     ) -> Result<PolicyMappings<'a>, Error> {
-        match NonEmpty::<Vec<PolicyMapping<'a>>>::decode_value(alloc, reader, header) {
+        match NonEmptyRef::<ListRef<'a, PolicyMapping<'a>>>::decode_value(alloc, reader, header) {
             Ok(items) => Ok(PolicyMappings { items }),
             Err(e) => Err(e),
         }
@@ -111,36 +101,10 @@ impl<'a> ValueOrd for PolicyMappings<'a> {
 }
 
 impl<'a> ContentsEq for PolicyMappings<'a> {
-    ghost contents_eq = { λ v w. (items_equality ⟦<PolicyMapping<'a> as Form>⟧ (one_tag ⟦<SequenceTag as TagMarker>⟧.TAG ⟦<PolicyMapping<'a> as FormValue>⟧.value.contents) ⟦<PolicyMapping<'a> as PartialEq>⟧.eq (one_tag_equality ⟦<SequenceTag as TagMarker>⟧.TAG ⟦<PolicyMapping<'a> as FormValue>⟧.value.contents ⟦<PolicyMapping<'a> as FormValue>⟧.value.comparable ⟦<PolicyMapping<'a> as PartialEq>⟧.eq policy_mapping_contents_eq.contents_eq-law)) v.items.items w.items.items };
+    ghost contents_eq = { λ v w. (λ one. bytes_decides v.items.list.octets.octets.now w.items.list.octets.octets.now) };
 }
 
-impl<'a> CopyLaws for PolicyMappings<'a> {
-    ghost copies = { copies_of (held_copies (λ v. v.items.items)
-        (items_copies ⟦<PolicyMapping<'a> as Form>⟧ (one_tag_copies ⟦<SequenceTag as TagMarker>⟧.TAG (same_copies ⟦<PolicyMapping<'a> as FormValue>⟧.value.contents ⟦<PolicyMapping<'a> as FormValue>⟧.value.comparable ⟦<PolicyMapping<'a> as FormValue>⟧.value.re_reads ⟦<PolicyMapping<'a> as PartialEq>⟧.eq policy_mapping_eq.laws-law.refl)))) };
-}
-
-impl<'a> DuplicateValue for PolicyMappings<'a> {
-    ghost is_copy_value = { λ v w. ⟦<NonEmpty<Vec<PolicyMapping<'a>>> as DuplicateValue>⟧.is_copy_value v.items w.items };
-
-    ghost takes_memory_to_copy_value = { ⟦<NonEmpty<Vec<PolicyMapping<'a>>> as DuplicateValue>⟧.takes_memory_to_copy_value };
-
-    fn duplicate_value(&self) -> Result<PolicyMappings<'a>, Error> {
-        match self.items.duplicate_value() {
-            Ok(items) => Ok(PolicyMappings { items }),
-            Err(e) => Err(e),
-        }
-    }
-
-    ghost copy_contents = { ⟦<PolicyMappings<'a> as CopyLaws>⟧.copies.laws.octets_are };
-
-    ghost copy_comparable_value = { ⟦<PolicyMappings<'a> as CopyLaws>⟧.copies.laws.comparable_are };
-
-    ghost copy_re_reads_value = { ⟦<PolicyMappings<'a> as CopyLaws>⟧.copies.laws.re_reads_are };
-}
-
-impl<'a> DuplicateValueIsEqual for PolicyMappings<'a> {
-    ghost copy_value_is_equal = { ⟦<PolicyMappings<'a> as CopyLaws>⟧.copies.laws.equal_are };
-}
+impl<'a> CopyIsDuplicate for PolicyMappings<'a> {}
 
 /// What is read as `PolicyMappings` is what the page of the grammar says.
 pub fn grammar_of_policy_mappings<'a>()

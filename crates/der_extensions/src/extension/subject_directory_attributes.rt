@@ -2,21 +2,18 @@
 //!
 //! Made by tools/asn1 from extension.asn1.
 
-ghost use Rattle.std.specs.Prelude.{◌≡◌, refl, true};
+ghost use Rattle.std.specs.Cmp.Lexicographic.{bytes_decides};
+ghost use Rattle.std.specs.Prelude.{◌≡◌, false, refl};
 ghost use Rattle.der_elem.specs.FormatMakers.{mapped_format};
 ghost use Rattle.der_extensions.specs.Extension.Grammar.{subject_directory_attributes};
+ghost use Rattle.der_lists.specs.NonEmptyRef.{list_of};
 ghost use Rattle.der_modules.specs.Asn1.{parse_of};
-ghost use Rattle.der_modules.specs.MemberLaws.{copies_of, held_copies, items_copies, items_equality, one_tag, one_tag_copies, one_tag_equality};
-ghost use Rattle.der_pkix.specs.contracts.name.attribute.AttributeContentsEq.TheImpl.Laws as attribute_contents_eq;
-ghost use Rattle.der_pkix.specs.contracts.name.attribute.AttributeDuplicateValue.TheImpl.Laws as attribute_duplicate_value;
-ghost use Rattle.der_pkix.specs.contracts.name.attribute.AttributeDuplicateValueIsEqual.TheImpl.Laws as attribute_duplicate_value_is_equal;
 
 use der_elem::{
-    ContentsEq, DecodeValue, DuplicateValue, DuplicateValueIsEqual, EncodeValue, Form, FormValue,
-    OneTag, Sequence, SequenceTag, TagMarker, ValueOrd,
+    ContentsEq, CopyIsDuplicate, DecodeValue, EncodeValue, Form, FormValue, OneTag, Sequence,
+    SequenceTag, ValueOrd,
 };
-use der_modules::CopyLaws;
-use der_nest::NonEmpty;
+use der_lists::{ListRef, NonEmptyRef};
 use der_pkix::name::Attribute;
 use der_tlv::{BackWriter, Error, Header, Length, Source, Writer};
 use std::alloc::Global;
@@ -26,35 +23,27 @@ use std::cmp::Ordering;
 /// SubjectDirectoryAttributes ::= SEQUENCE SIZE (1..MAX) OF Attribute
 /// ```
 ///
-/// Reading refuses the first fault of the octets, in their order; `ErrorKind::Memory` (1) where
-/// memory runs out.
-#[derive(Debug, PartialEq, Eq, Drop)]
+/// Reading refuses the first fault of the octets, in their order.
+#[derive(Clone, Copy, Debug, PartialEq, Eq)]
 pub struct SubjectDirectoryAttributes<'a> {
-    items: NonEmpty<Vec<Attribute<'a>>>,
+    items: NonEmptyRef<ListRef<'a, Attribute<'a>>>,
 }
 
 impl<'a> SubjectDirectoryAttributes<'a> {
     ghost use Rattle.der_extensions.specs.Extension.SubjectDirectoryAttributes as subject_directory_attributes;
 
     /// These items.
-    pub fn new(items: NonEmpty<Vec<Attribute<'a>>>) -> SubjectDirectoryAttributes<'a>
-        ensures { subject_directory_attributes.items_of result ≡ items.entry.items }
+    pub fn new(items: NonEmptyRef<ListRef<'a, Attribute<'a>>>) -> SubjectDirectoryAttributes<'a>
+        ensures { subject_directory_attributes.items_of result ≡ list_of items.entry }
     {
         SubjectDirectoryAttributes { items }
     }
 
     /// The items, in their order.
-    pub fn as_slice(&self) -> &[Attribute<'a>]
+    pub fn items(&self) -> &ListRef<'a, Attribute<'a>>
         ensures { result.now ≡ subject_directory_attributes.items_of self.now }
     {
-        self.items.list().as_slice()
-    }
-
-    /// The items, in the room that holds them.
-    pub fn into_items(self) -> NonEmpty<Vec<Attribute<'a>>>
-        ensures { subject_directory_attributes.items_of self.entry ≡ result.items }
-    {
-        self.items
+        self.items.list()
     }
 }
 
@@ -67,20 +56,20 @@ impl<'a> Sequence<'a> for SubjectDirectoryAttributes<'a> {
 }
 
 impl<'a> FormValue for SubjectDirectoryAttributes<'a> {
-    ghost value = { mapped_format (λ v. v.items) ⟦<NonEmpty<Vec<Attribute<'a>>> as FormValue>⟧.value };
+    ghost value = { mapped_format (λ v. v.items) ⟦<NonEmptyRef<ListRef<'a, Attribute<'a>>> as FormValue>⟧.value };
 }
 
 impl<'a, R: Source<'a>> DecodeValue<'a, R> for SubjectDirectoryAttributes<'a> {
-    ghost TAKES_MEMORY = { true };
+    ghost TAKES_MEMORY = { false };
 
-    const TAKES_MEMORY: bool = true;
+    const TAKES_MEMORY: bool = false;
 
     fn decode_value(
         alloc: Global,
         reader: &mut R,
         header: Header,
     ) -> Result<SubjectDirectoryAttributes<'a>, Error> {
-        match NonEmpty::<Vec<Attribute<'a>>>::decode_value(alloc, reader, header) {
+        match NonEmptyRef::<ListRef<'a, Attribute<'a>>>::decode_value(alloc, reader, header) {
             Ok(items) => Ok(SubjectDirectoryAttributes { items }),
             Err(e) => Err(e),
         }
@@ -110,36 +99,10 @@ impl<'a> ValueOrd for SubjectDirectoryAttributes<'a> {
 }
 
 impl<'a> ContentsEq for SubjectDirectoryAttributes<'a> {
-    ghost contents_eq = { λ v w. (items_equality ⟦<Attribute<'a> as Form>⟧ (one_tag ⟦<SequenceTag as TagMarker>⟧.TAG ⟦<Attribute<'a> as FormValue>⟧.value.contents) ⟦<Attribute<'a> as PartialEq>⟧.eq (one_tag_equality ⟦<SequenceTag as TagMarker>⟧.TAG ⟦<Attribute<'a> as FormValue>⟧.value.contents ⟦<Attribute<'a> as FormValue>⟧.value.comparable ⟦<Attribute<'a> as PartialEq>⟧.eq attribute_contents_eq.contents_eq-law)) v.items.items w.items.items };
+    ghost contents_eq = { λ v w. (λ one. bytes_decides v.items.list.octets.octets.now w.items.list.octets.octets.now) };
 }
 
-impl<'a> CopyLaws for SubjectDirectoryAttributes<'a> {
-    ghost copies = { copies_of (held_copies (λ v. v.items.items)
-        (items_copies ⟦<Attribute<'a> as Form>⟧ (one_tag_copies ⟦<SequenceTag as TagMarker>⟧.TAG (record { octets_are = attribute_duplicate_value.copy_contents-law; comparable_are = attribute_duplicate_value.copy_comparable_value-law; re_reads_are = attribute_duplicate_value.copy_re_reads_value-law; equal_are = attribute_duplicate_value_is_equal.copy_value_is_equal-law })))) };
-}
-
-impl<'a> DuplicateValue for SubjectDirectoryAttributes<'a> {
-    ghost is_copy_value = { λ v w. ⟦<NonEmpty<Vec<Attribute<'a>>> as DuplicateValue>⟧.is_copy_value v.items w.items };
-
-    ghost takes_memory_to_copy_value = { ⟦<NonEmpty<Vec<Attribute<'a>>> as DuplicateValue>⟧.takes_memory_to_copy_value };
-
-    fn duplicate_value(&self) -> Result<SubjectDirectoryAttributes<'a>, Error> {
-        match self.items.duplicate_value() {
-            Ok(items) => Ok(SubjectDirectoryAttributes { items }),
-            Err(e) => Err(e),
-        }
-    }
-
-    ghost copy_contents = { ⟦<SubjectDirectoryAttributes<'a> as CopyLaws>⟧.copies.laws.octets_are };
-
-    ghost copy_comparable_value = { ⟦<SubjectDirectoryAttributes<'a> as CopyLaws>⟧.copies.laws.comparable_are };
-
-    ghost copy_re_reads_value = { ⟦<SubjectDirectoryAttributes<'a> as CopyLaws>⟧.copies.laws.re_reads_are };
-}
-
-impl<'a> DuplicateValueIsEqual for SubjectDirectoryAttributes<'a> {
-    ghost copy_value_is_equal = { ⟦<SubjectDirectoryAttributes<'a> as CopyLaws>⟧.copies.laws.equal_are };
-}
+impl<'a> CopyIsDuplicate for SubjectDirectoryAttributes<'a> {}
 
 /// What is read as `SubjectDirectoryAttributes` is what the page of the grammar says.
 pub fn grammar_of_subject_directory_attributes<'a>()

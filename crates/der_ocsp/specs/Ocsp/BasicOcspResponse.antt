@@ -21,4 +21,4 @@ signature v = v.fields.list.rest.rest.first
 
 -- certs [0] EXPLICIT Certificates OPTIONAL
 abbrev pub certs : BasicOcspResponse → Option Certificates
-certs v = option_map (λ x. x.fields.list.first) v.fields.list.rest.rest.rest.first
+certs v = option_map (λ x. x.fields.first) v.fields.list.rest.rest.rest.first

@@ -8,7 +8,8 @@ use Rattle.der_elem.specs.IntegerReading.{parse_unsigned}
 use Rattle.der_elem.specs.Null.{parse_null}
 use Rattle.der_extensions.specs.Extension.Grammar.{authority_info_access_syntax, crl_reason, general_name}
 use Rattle.der_fields.specs.MarkerTags.{marker_tag}
-use Rattle.der_modules.specs.Asn1.{CHOICE, DEFAULT, EXPLICIT, Grammar, IMPLICIT, KEPT, NAMED, OPTIONAL, SEQUENCE, SEQUENCE_OF, context, end, field, one}
+use Rattle.der_lists.specs.Asn1.{SEQUENCE_OF}
+use Rattle.der_modules.specs.Asn1.{CHOICE, DEFAULT, EXPLICIT, Grammar, IMPLICIT, NAMED, OPTIONAL, SEQUENCE, context, end, field, one}
 use Rattle.der_numbers.specs.AnyLength.{parse_integer}
 use Rattle.der_ocsp.specs.Ocsp.OcspResponseStatus.{all_of_ocsp_response_status, number_of_ocsp_response_status}
 use Rattle.der_opaque.specs.ObjectIdentifierOctets.{parse_identifier}
@@ -161,7 +162,7 @@ key_hash =
 abbrev pub responder_id : Grammar
 responder_id =
     CHOICE
-    (EXPLICIT context 1 (KEPT name))
+    (EXPLICIT context 1 name)
     (EXPLICIT context 2 key_hash)
 
 -- RevokedInfo ::= SEQUENCE {
@@ -275,7 +276,7 @@ archive_cutoff =
 abbrev pub service_locator : Grammar
 service_locator =
     SEQUENCE
-    (field (KEPT name)
+    (field name
     (field authority_info_access_syntax
     end))
 

@@ -11,4 +11,4 @@ tbs_request v = v.fields.list.first
 
 -- optionalSignature [0] EXPLICIT Signature OPTIONAL
 abbrev pub optional_signature : OcspRequest → Option Signature
-optional_signature v = option_map (λ x. x.fields.list.first) v.fields.list.rest.first
+optional_signature v = option_map (λ x. x.fields.first) v.fields.list.rest.first

@@ -11,4 +11,4 @@ req_cert v = v.fields.list.first
 
 -- singleRequestExtensions [0] EXPLICIT Extensions OPTIONAL
 abbrev pub single_request_extensions : Request → Option Extensions
-single_request_extensions v = option_map (λ x. x.fields.list.first) v.fields.list.rest.first
+single_request_extensions v = option_map (λ x. x.fields.first) v.fields.list.rest.first

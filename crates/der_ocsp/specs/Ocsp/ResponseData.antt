@@ -25,4 +25,4 @@ responses v = v.fields.list.rest.rest.rest.first
 
 -- responseExtensions [1] EXPLICIT Extensions OPTIONAL
 abbrev pub response_extensions : ResponseData → Option Extensions
-response_extensions v = option_map (λ x. x.fields.list.first) v.fields.list.rest.rest.rest.rest.first
+response_extensions v = option_map (λ x. x.fields.first) v.fields.list.rest.rest.rest.rest.first

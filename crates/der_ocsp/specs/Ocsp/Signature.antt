@@ -16,4 +16,4 @@ signature v = v.fields.list.rest.first
 
 -- certs [0] EXPLICIT Certificates OPTIONAL
 abbrev pub certs : Signature → Option Certificates
-certs v = option_map (λ x. x.fields.list.first) v.fields.list.rest.rest.first
+certs v = option_map (λ x. x.fields.first) v.fields.list.rest.rest.first

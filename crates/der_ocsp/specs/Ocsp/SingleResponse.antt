@@ -25,4 +25,4 @@ next_update v = option_map (λ x. x.fields.first) v.fields.list.rest.rest.rest.f
 
 -- singleExtensions [1] EXPLICIT Extensions OPTIONAL
 abbrev pub single_extensions : SingleResponse → Option Extensions
-single_extensions v = option_map (λ x. x.fields.list.first) v.fields.list.rest.rest.rest.rest.first
+single_extensions v = option_map (λ x. x.fields.first) v.fields.list.rest.rest.rest.rest.first

@@ -12,7 +12,7 @@ version v = v.fields.list.first.value.fields.first
 
 -- requestorName [1] EXPLICIT GeneralName OPTIONAL
 abbrev pub requestor_name : TbsRequest → Option GeneralName
-requestor_name v = option_map (λ x. x.fields.list.first) v.fields.list.rest.first
+requestor_name v = option_map (λ x. x.fields.first) v.fields.list.rest.first
 
 -- requestList Requests
 abbrev pub request_list : TbsRequest → Requests
@@ -20,4 +20,4 @@ request_list v = v.fields.list.rest.rest.first
 
 -- requestExtensions [2] EXPLICIT Extensions OPTIONAL
 abbrev pub request_extensions : TbsRequest → Option Extensions
-request_extensions v = option_map (λ x. x.fields.list.first) v.fields.list.rest.rest.rest.first
+request_extensions v = option_map (λ x. x.fields.first) v.fields.list.rest.rest.rest.first

@@ -2,19 +2,17 @@
 //!
 //! Made by tools/asn1 from ocsp.asn1.
 
-ghost use Rattle.std.proofs.Common.{lit<};
-ghost use Rattle.std.specs.Prelude.{◌≡◌, refl, true};
+ghost use Rattle.std.specs.Cmp.Lexicographic.{bytes_decides};
+ghost use Rattle.std.specs.Prelude.{◌≡◌, false, refl};
 ghost use Rattle.der_elem.specs.FormatMakers.{mapped_format};
 ghost use Rattle.der_modules.specs.Asn1.{parse_of};
-ghost use Rattle.der_modules.specs.MemberLaws.{copies_of, held_copies, items_copies, items_equality, one_tag, one_tag_copies, one_tag_equality, same_copies};
 ghost use Rattle.der_ocsp.specs.Ocsp.Grammar.{acceptable_responses};
-ghost use Rattle.der_opaque.specs.contracts.object_identifier_ref.ObjectIdentifierRefContentsEq.TheImpl.Laws as objectidentifierref_contents_eq;
 
 use der_elem::{
-    ContentsEq, DecodeValue, DuplicateValue, DuplicateValueIsEqual, EncodeValue, Form, FormValue,
-    ObjectIdentifierTag, OneTag, Sequence, SequenceTag, TagMarker, ValueOrd,
+    ContentsEq, CopyIsDuplicate, DecodeValue, EncodeValue, Form, FormValue, OneTag, Sequence,
+    SequenceTag, ValueOrd,
 };
-use der_modules::CopyLaws;
+use der_lists::ListRef;
 use der_opaque::ObjectIdentifierRef;
 use der_tlv::{BackWriter, Error, Header, Length, Source, Writer};
 use std::alloc::Global;
@@ -24,35 +22,27 @@ use std::cmp::Ordering;
 /// AcceptableResponses ::= SEQUENCE OF OBJECT IDENTIFIER
 /// ```
 ///
-/// Reading refuses the first fault of the octets, in their order; `ErrorKind::Memory` (1) where
-/// memory runs out.
-#[derive(Debug, PartialEq, Eq, Drop)]
+/// Reading refuses the first fault of the octets, in their order.
+#[derive(Clone, Copy, Debug, PartialEq, Eq)]
 pub struct AcceptableResponses<'a> {
-    items: Vec<ObjectIdentifierRef<'a, 39>>,
+    items: ListRef<'a, ObjectIdentifierRef<'a, 39>>,
 }
 
 impl<'a> AcceptableResponses<'a> {
     ghost use Rattle.der_ocsp.specs.Ocsp.AcceptableResponses as acceptable_responses;
 
     /// These items.
-    pub fn new(items: Vec<ObjectIdentifierRef<'a, 39>>) -> AcceptableResponses<'a>
-        ensures { acceptable_responses.items_of result ≡ items.entry.items }
+    pub fn new(items: ListRef<'a, ObjectIdentifierRef<'a, 39>>) -> AcceptableResponses<'a>
+        ensures { acceptable_responses.items_of result ≡ items.entry }
     {
         AcceptableResponses { items }
     }
 
     /// The items, in their order.
-    pub fn as_slice(&self) -> &[ObjectIdentifierRef<'a, 39>]
+    pub fn items(&self) -> &ListRef<'a, ObjectIdentifierRef<'a, 39>>
         ensures { result.now ≡ acceptable_responses.items_of self.now }
     {
-        self.items.as_slice()
-    }
-
-    /// The items, in the room that holds them.
-    pub fn into_items(self) -> Vec<ObjectIdentifierRef<'a, 39>>
-        ensures { acceptable_responses.items_of self.entry ≡ result.items }
-    {
-        self.items
+        &self.items
     }
 }
 
@@ -65,20 +55,20 @@ impl<'a> Sequence<'a> for AcceptableResponses<'a> {
 }
 
 impl<'a> FormValue for AcceptableResponses<'a> {
-    ghost value = { mapped_format (λ v. v.items) ⟦<Vec<ObjectIdentifierRef<'a, 39>> as FormValue>⟧.value };
+    ghost value = { mapped_format (λ v. v.items) ⟦<ListRef<'a, ObjectIdentifierRef<'a, 39>> as FormValue>⟧.value };
 }
 
 impl<'a, R: Source<'a>> DecodeValue<'a, R> for AcceptableResponses<'a> {
-    ghost TAKES_MEMORY = { true };
+    ghost TAKES_MEMORY = { false };
 
-    const TAKES_MEMORY: bool = true;
+    const TAKES_MEMORY: bool = false;
 
     fn decode_value(
         alloc: Global,
         reader: &mut R,
         header: Header,
     ) -> Result<AcceptableResponses<'a>, Error> {
-        match Vec::<ObjectIdentifierRef<'a, 39>>::decode_value(alloc, reader, header) {
+        match ListRef::<'a, ObjectIdentifierRef<'a, 39>>::decode_value(alloc, reader, header) {
             Ok(items) => Ok(AcceptableResponses { items }),
             Err(e) => Err(e),
         }
@@ -108,36 +98,10 @@ impl<'a> ValueOrd for AcceptableResponses<'a> {
 }
 
 impl<'a> ContentsEq for AcceptableResponses<'a> {
-    ghost contents_eq = { λ v w. (items_equality ⟦<ObjectIdentifierRef<'a, 39> as Form>⟧ (one_tag ⟦<ObjectIdentifierTag as TagMarker>⟧.TAG ⟦<ObjectIdentifierRef<'a, 39> as FormValue>⟧.value.contents) ⟦<ObjectIdentifierRef<'a, 39> as PartialEq>⟧.eq (one_tag_equality ⟦<ObjectIdentifierTag as TagMarker>⟧.TAG ⟦<ObjectIdentifierRef<'a, 39> as FormValue>⟧.value.contents ⟦<ObjectIdentifierRef<'a, 39> as FormValue>⟧.value.comparable ⟦<ObjectIdentifierRef<'a, 39> as PartialEq>⟧.eq (objectidentifierref_contents_eq.contents_eq-law 39 (record { fits = lit< tt })))) v.items.items w.items.items };
+    ghost contents_eq = { λ v w. (λ one. bytes_decides v.items.octets.octets.now w.items.octets.octets.now) };
 }
 
-impl<'a> CopyLaws for AcceptableResponses<'a> {
-    ghost copies = { copies_of (held_copies (λ v. v.items.items)
-        (items_copies ⟦<ObjectIdentifierRef<'a, 39> as Form>⟧ (one_tag_copies ⟦<ObjectIdentifierTag as TagMarker>⟧.TAG (same_copies ⟦<ObjectIdentifierRef<'a, 39> as FormValue>⟧.value.contents ⟦<ObjectIdentifierRef<'a, 39> as FormValue>⟧.value.comparable ⟦<ObjectIdentifierRef<'a, 39> as FormValue>⟧.value.re_reads ⟦<ObjectIdentifierRef<'a, 39> as PartialEq>⟧.eq (λ v. ((objectidentifierref_contents_eq.contents_eq-law 39 (record { fits = lit< tt })) v v tt).1 refl))))) };
-}
-
-impl<'a> DuplicateValue for AcceptableResponses<'a> {
-    ghost is_copy_value = { λ v w. ⟦<Vec<ObjectIdentifierRef<'a, 39>> as DuplicateValue>⟧.is_copy_value v.items w.items };
-
-    ghost takes_memory_to_copy_value = { ⟦<Vec<ObjectIdentifierRef<'a, 39>> as DuplicateValue>⟧.takes_memory_to_copy_value };
-
-    fn duplicate_value(&self) -> Result<AcceptableResponses<'a>, Error> {
-        match self.items.duplicate_value() {
-            Ok(items) => Ok(AcceptableResponses { items }),
-            Err(e) => Err(e),
-        }
-    }
-
-    ghost copy_contents = { ⟦<AcceptableResponses<'a> as CopyLaws>⟧.copies.laws.octets_are };
-
-    ghost copy_comparable_value = { ⟦<AcceptableResponses<'a> as CopyLaws>⟧.copies.laws.comparable_are };
-
-    ghost copy_re_reads_value = { ⟦<AcceptableResponses<'a> as CopyLaws>⟧.copies.laws.re_reads_are };
-}
-
-impl<'a> DuplicateValueIsEqual for AcceptableResponses<'a> {
-    ghost copy_value_is_equal = { ⟦<AcceptableResponses<'a> as CopyLaws>⟧.copies.laws.equal_are };
-}
+impl<'a> CopyIsDuplicate for AcceptableResponses<'a> {}
 
 /// What is read as `AcceptableResponses` is what the page of the grammar says.
 pub fn grammar_of_acceptable_responses<'a>()

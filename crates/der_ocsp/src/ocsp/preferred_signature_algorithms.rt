@@ -2,20 +2,18 @@
 //!
 //! Made by tools/asn1 from ocsp.asn1.
 
-ghost use Rattle.std.specs.Prelude.{◌≡◌, refl, true};
+ghost use Rattle.std.specs.Cmp.Lexicographic.{bytes_decides};
+ghost use Rattle.std.specs.Prelude.{◌≡◌, false, refl};
 ghost use Rattle.der_elem.specs.FormatMakers.{mapped_format};
 ghost use Rattle.der_modules.specs.Asn1.{parse_of};
-ghost use Rattle.der_modules.specs.MemberLaws.{copies_of, held_copies, items_copies, items_equality, one_tag, one_tag_copies, one_tag_equality, same_copies};
 ghost use Rattle.der_ocsp.specs.Ocsp.Grammar.{preferred_signature_algorithms};
-ghost use Rattle.der_ocsp.specs.contracts.ocsp.preferred_signature_algorithm.PreferredSignatureAlgorithmContentsEq.TheImpl.Laws as preferred_signature_algorithm_contents_eq;
-ghost use Rattle.der_ocsp.specs.contracts.ocsp.preferred_signature_algorithm.PreferredSignatureAlgorithmEq.TheImpl.Laws as preferred_signature_algorithm_eq;
 
 use crate::ocsp::preferred_signature_algorithm::PreferredSignatureAlgorithm;
 use der_elem::{
-    ContentsEq, DecodeValue, DuplicateValue, DuplicateValueIsEqual, EncodeValue, Form, FormValue,
-    OneTag, Sequence, SequenceTag, TagMarker, ValueOrd,
+    ContentsEq, CopyIsDuplicate, DecodeValue, EncodeValue, Form, FormValue, OneTag, Sequence,
+    SequenceTag, ValueOrd,
 };
-use der_modules::CopyLaws;
+use der_lists::ListRef;
 use der_tlv::{BackWriter, Error, Header, Length, Source, Writer};
 use std::alloc::Global;
 use std::cmp::Ordering;
@@ -24,35 +22,29 @@ use std::cmp::Ordering;
 /// PreferredSignatureAlgorithms ::= SEQUENCE OF PreferredSignatureAlgorithm
 /// ```
 ///
-/// Reading refuses the first fault of the octets, in their order; `ErrorKind::Memory` (1) where
-/// memory runs out.
-#[derive(Debug, PartialEq, Eq, Drop)]
+/// Reading refuses the first fault of the octets, in their order.
+#[derive(Clone, Copy, Debug, PartialEq, Eq)]
 pub struct PreferredSignatureAlgorithms<'a> {
-    items: Vec<PreferredSignatureAlgorithm<'a>>,
+    items: ListRef<'a, PreferredSignatureAlgorithm<'a>>,
 }
 
 impl<'a> PreferredSignatureAlgorithms<'a> {
     ghost use Rattle.der_ocsp.specs.Ocsp.PreferredSignatureAlgorithms as preferred_signature_algorithms;
 
     /// These items.
-    pub fn new(items: Vec<PreferredSignatureAlgorithm<'a>>) -> PreferredSignatureAlgorithms<'a>
-        ensures { preferred_signature_algorithms.items_of result ≡ items.entry.items }
+    pub fn new(
+        items: ListRef<'a, PreferredSignatureAlgorithm<'a>>,
+    ) -> PreferredSignatureAlgorithms<'a>
+        ensures { preferred_signature_algorithms.items_of result ≡ items.entry }
     {
         PreferredSignatureAlgorithms { items }
     }
 
     /// The items, in their order.
-    pub fn as_slice(&self) -> &[PreferredSignatureAlgorithm<'a>]
+    pub fn items(&self) -> &ListRef<'a, PreferredSignatureAlgorithm<'a>>
         ensures { result.now ≡ preferred_signature_algorithms.items_of self.now }
     {
-        self.items.as_slice()
-    }
-
-    /// The items, in the room that holds them.
-    pub fn into_items(self) -> Vec<PreferredSignatureAlgorithm<'a>>
-        ensures { preferred_signature_algorithms.items_of self.entry ≡ result.items }
-    {
-        self.items
+        &self.items
     }
 }
 
@@ -65,20 +57,20 @@ impl<'a> Sequence<'a> for PreferredSignatureAlgorithms<'a> {
 }
 
 impl<'a> FormValue for PreferredSignatureAlgorithms<'a> {
-    ghost value = { mapped_format (λ v. v.items) ⟦<Vec<PreferredSignatureAlgorithm<'a>> as FormValue>⟧.value };
+    ghost value = { mapped_format (λ v. v.items) ⟦<ListRef<'a, PreferredSignatureAlgorithm<'a>> as FormValue>⟧.value };
 }
 
 impl<'a, R: Source<'a>> DecodeValue<'a, R> for PreferredSignatureAlgorithms<'a> {
-    ghost TAKES_MEMORY = { true };
+    ghost TAKES_MEMORY = { false };
 
-    const TAKES_MEMORY: bool = true;
+    const TAKES_MEMORY: bool = false;
 
     fn decode_value(
         alloc: Global,
         reader: &mut R,
         header: Header,
     ) -> Result<PreferredSignatureAlgorithms<'a>, Error> {
-        match Vec::<PreferredSignatureAlgorithm<'a>>::decode_value(alloc, reader, header) {
+        match ListRef::<'a, PreferredSignatureAlgorithm<'a>>::decode_value(alloc, reader, header) {
             Ok(items) => Ok(PreferredSignatureAlgorithms { items }),
             Err(e) => Err(e),
         }
@@ -108,36 +100,10 @@ impl<'a> ValueOrd for PreferredSignatureAlgorithms<'a> {
 }
 
 impl<'a> ContentsEq for PreferredSignatureAlgorithms<'a> {
-    ghost contents_eq = { λ v w. (items_equality ⟦<PreferredSignatureAlgorithm<'a> as Form>⟧ (one_tag ⟦<SequenceTag as TagMarker>⟧.TAG ⟦<PreferredSignatureAlgorithm<'a> as FormValue>⟧.value.contents) ⟦<PreferredSignatureAlgorithm<'a> as PartialEq>⟧.eq (one_tag_equality ⟦<SequenceTag as TagMarker>⟧.TAG ⟦<PreferredSignatureAlgorithm<'a> as FormValue>⟧.value.contents ⟦<PreferredSignatureAlgorithm<'a> as FormValue>⟧.value.comparable ⟦<PreferredSignatureAlgorithm<'a> as PartialEq>⟧.eq preferred_signature_algorithm_contents_eq.contents_eq-law)) v.items.items w.items.items };
+    ghost contents_eq = { λ v w. (λ one. bytes_decides v.items.octets.octets.now w.items.octets.octets.now) };
 }
 
-impl<'a> CopyLaws for PreferredSignatureAlgorithms<'a> {
-    ghost copies = { copies_of (held_copies (λ v. v.items.items)
-        (items_copies ⟦<PreferredSignatureAlgorithm<'a> as Form>⟧ (one_tag_copies ⟦<SequenceTag as TagMarker>⟧.TAG (same_copies ⟦<PreferredSignatureAlgorithm<'a> as FormValue>⟧.value.contents ⟦<PreferredSignatureAlgorithm<'a> as FormValue>⟧.value.comparable ⟦<PreferredSignatureAlgorithm<'a> as FormValue>⟧.value.re_reads ⟦<PreferredSignatureAlgorithm<'a> as PartialEq>⟧.eq preferred_signature_algorithm_eq.laws-law.refl)))) };
-}
-
-impl<'a> DuplicateValue for PreferredSignatureAlgorithms<'a> {
-    ghost is_copy_value = { λ v w. ⟦<Vec<PreferredSignatureAlgorithm<'a>> as DuplicateValue>⟧.is_copy_value v.items w.items };
-
-    ghost takes_memory_to_copy_value = { ⟦<Vec<PreferredSignatureAlgorithm<'a>> as DuplicateValue>⟧.takes_memory_to_copy_value };
-
-    fn duplicate_value(&self) -> Result<PreferredSignatureAlgorithms<'a>, Error> {
-        match self.items.duplicate_value() {
-            Ok(items) => Ok(PreferredSignatureAlgorithms { items }),
-            Err(e) => Err(e),
-        }
-    }
-
-    ghost copy_contents = { ⟦<PreferredSignatureAlgorithms<'a> as CopyLaws>⟧.copies.laws.octets_are };
-
-    ghost copy_comparable_value = { ⟦<PreferredSignatureAlgorithms<'a> as CopyLaws>⟧.copies.laws.comparable_are };
-
-    ghost copy_re_reads_value = { ⟦<PreferredSignatureAlgorithms<'a> as CopyLaws>⟧.copies.laws.re_reads_are };
-}
-
-impl<'a> DuplicateValueIsEqual for PreferredSignatureAlgorithms<'a> {
-    ghost copy_value_is_equal = { ⟦<PreferredSignatureAlgorithms<'a> as CopyLaws>⟧.copies.laws.equal_are };
-}
+impl<'a> CopyIsDuplicate for PreferredSignatureAlgorithms<'a> {}
 
 /// What is read as `PreferredSignatureAlgorithms` is what the page of the grammar says.
 pub fn grammar_of_preferred_signature_algorithms<'a>()

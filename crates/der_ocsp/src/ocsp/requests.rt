@@ -2,21 +2,18 @@
 //!
 //! Made by tools/asn1 from ocsp.asn1.
 
-ghost use Rattle.std.specs.Prelude.{◌≡◌, refl, true};
+ghost use Rattle.std.specs.Cmp.Lexicographic.{bytes_decides};
+ghost use Rattle.std.specs.Prelude.{◌≡◌, false, refl};
 ghost use Rattle.der_elem.specs.FormatMakers.{mapped_format};
 ghost use Rattle.der_modules.specs.Asn1.{parse_of};
-ghost use Rattle.der_modules.specs.MemberLaws.{copies_of, held_copies, items_copies, items_equality, one_tag, one_tag_copies, one_tag_equality};
 ghost use Rattle.der_ocsp.specs.Ocsp.Grammar.{requests};
-ghost use Rattle.der_ocsp.specs.contracts.ocsp.request.RequestContentsEq.TheImpl.Laws as request_contents_eq;
-ghost use Rattle.der_ocsp.specs.contracts.ocsp.request.RequestDuplicateValue.TheImpl.Laws as request_duplicate_value;
-ghost use Rattle.der_ocsp.specs.contracts.ocsp.request.RequestDuplicateValueIsEqual.TheImpl.Laws as request_duplicate_value_is_equal;
 
 use crate::ocsp::request::Request;
 use der_elem::{
-    ContentsEq, DecodeValue, DuplicateValue, DuplicateValueIsEqual, EncodeValue, Form, FormValue,
-    OneTag, Sequence, SequenceTag, TagMarker, ValueOrd,
+    ContentsEq, CopyIsDuplicate, DecodeValue, EncodeValue, Form, FormValue, OneTag, Sequence,
+    SequenceTag, ValueOrd,
 };
-use der_modules::CopyLaws;
+use der_lists::ListRef;
 use der_tlv::{BackWriter, Error, Header, Length, Source, Writer};
 use std::alloc::Global;
 use std::cmp::Ordering;
@@ -25,35 +22,27 @@ use std::cmp::Ordering;
 /// Requests ::= SEQUENCE OF Request
 /// ```
 ///
-/// Reading refuses the first fault of the octets, in their order; `ErrorKind::Memory` (1) where
-/// memory runs out.
-#[derive(Debug, PartialEq, Eq, Drop)]
+/// Reading refuses the first fault of the octets, in their order.
+#[derive(Clone, Copy, Debug, PartialEq, Eq)]
 pub struct Requests<'a> {
-    items: Vec<Request<'a>>,
+    items: ListRef<'a, Request<'a>>,
 }
 
 impl<'a> Requests<'a> {
     ghost use Rattle.der_ocsp.specs.Ocsp.Requests as requests;
 
     /// These items.
-    pub fn new(items: Vec<Request<'a>>) -> Requests<'a>
-        ensures { requests.items_of result ≡ items.entry.items }
+    pub fn new(items: ListRef<'a, Request<'a>>) -> Requests<'a>
+        ensures { requests.items_of result ≡ items.entry }
     {
         Requests { items }
     }
 
     /// The items, in their order.
-    pub fn as_slice(&self) -> &[Request<'a>]
+    pub fn items(&self) -> &ListRef<'a, Request<'a>>
         ensures { result.now ≡ requests.items_of self.now }
     {
-        self.items.as_slice()
-    }
-
-    /// The items, in the room that holds them.
-    pub fn into_items(self) -> Vec<Request<'a>>
-        ensures { requests.items_of self.entry ≡ result.items }
-    {
-        self.items
+        &self.items
     }
 }
 
@@ -66,16 +55,16 @@ impl<'a> Sequence<'a> for Requests<'a> {
 }
 
 impl<'a> FormValue for Requests<'a> {
-    ghost value = { mapped_format (λ v. v.items) ⟦<Vec<Request<'a>> as FormValue>⟧.value };
+    ghost value = { mapped_format (λ v. v.items) ⟦<ListRef<'a, Request<'a>> as FormValue>⟧.value };
 }
 
 impl<'a, R: Source<'a>> DecodeValue<'a, R> for Requests<'a> {
-    ghost TAKES_MEMORY = { true };
+    ghost TAKES_MEMORY = { false };
 
-    const TAKES_MEMORY: bool = true;
+    const TAKES_MEMORY: bool = false;
 
     fn decode_value(alloc: Global, reader: &mut R, header: Header) -> Result<Requests<'a>, Error> {
-        match Vec::<Request<'a>>::decode_value(alloc, reader, header) {
+        match ListRef::<'a, Request<'a>>::decode_value(alloc, reader, header) {
             Ok(items) => Ok(Requests { items }),
             Err(e) => Err(e),
         }
@@ -105,36 +94,10 @@ impl<'a> ValueOrd for Requests<'a> {
 }
 
 impl<'a> ContentsEq for Requests<'a> {
-    ghost contents_eq = { λ v w. (items_equality ⟦<Request<'a> as Form>⟧ (one_tag ⟦<SequenceTag as TagMarker>⟧.TAG ⟦<Request<'a> as FormValue>⟧.value.contents) ⟦<Request<'a> as PartialEq>⟧.eq (one_tag_equality ⟦<SequenceTag as TagMarker>⟧.TAG ⟦<Request<'a> as FormValue>⟧.value.contents ⟦<Request<'a> as FormValue>⟧.value.comparable ⟦<Request<'a> as PartialEq>⟧.eq request_contents_eq.contents_eq-law)) v.items.items w.items.items };
+    ghost contents_eq = { λ v w. (λ one. bytes_decides v.items.octets.octets.now w.items.octets.octets.now) };
 }
 
-impl<'a> CopyLaws for Requests<'a> {
-    ghost copies = { copies_of (held_copies (λ v. v.items.items)
-        (items_copies ⟦<Request<'a> as Form>⟧ (one_tag_copies ⟦<SequenceTag as TagMarker>⟧.TAG (record { octets_are = request_duplicate_value.copy_contents-law; comparable_are = request_duplicate_value.copy_comparable_value-law; re_reads_are = request_duplicate_value.copy_re_reads_value-law; equal_are = request_duplicate_value_is_equal.copy_value_is_equal-law })))) };
-}
-
-impl<'a> DuplicateValue for Requests<'a> {
-    ghost is_copy_value = { λ v w. ⟦<Vec<Request<'a>> as DuplicateValue>⟧.is_copy_value v.items w.items };
-
-    ghost takes_memory_to_copy_value = { ⟦<Vec<Request<'a>> as DuplicateValue>⟧.takes_memory_to_copy_value };
-
-    fn duplicate_value(&self) -> Result<Requests<'a>, Error> {
-        match self.items.duplicate_value() {
-            Ok(items) => Ok(Requests { items }),
-            Err(e) => Err(e),
-        }
-    }
-
-    ghost copy_contents = { ⟦<Requests<'a> as CopyLaws>⟧.copies.laws.octets_are };
-
-    ghost copy_comparable_value = { ⟦<Requests<'a> as CopyLaws>⟧.copies.laws.comparable_are };
-
-    ghost copy_re_reads_value = { ⟦<Requests<'a> as CopyLaws>⟧.copies.laws.re_reads_are };
-}
-
-impl<'a> DuplicateValueIsEqual for Requests<'a> {
-    ghost copy_value_is_equal = { ⟦<Requests<'a> as CopyLaws>⟧.copies.laws.equal_are };
-}
+impl<'a> CopyIsDuplicate for Requests<'a> {}
 
 /// What is read as `Requests` is what the page of the grammar says.
 pub fn grammar_of_requests<'a>()

@@ -2,7 +2,6 @@
 //!
 //! Made by tools/asn1 from ocsp.asn1.
 
-ghost use Rattle.std.specs.Cmp.Lexicographic.{bytes_decides};
 ghost use Rattle.std.specs.Prelude.{◌≡◌, false, refl, true};
 ghost use Rattle.der_elem.specs.Accepting.{IsTlv};
 ghost use Rattle.der_elem.specs.FirstTags.{HasFirstTag};
@@ -16,6 +15,7 @@ ghost use Rattle.der_ocsp.specs.Ocsp.ResponderId.{tree_of};
 ghost use Rattle.der_ocsp.specs.contracts.ocsp.responder_id.ResponderIdEq.TheImpl.Laws as responder_id_eq;
 ghost use Rattle.der_ocsp.specs.declared.ocsp.responder_id.ResponderId.TheVariants as of;
 ghost use Rattle.der_opaque.specs.contracts.octet_string_ref.OctetStringRefContentsEq.TheImpl.Laws as octetstringref_contents_eq;
+ghost use Rattle.der_pkix.specs.contracts.name.rdn_sequence.RdnSequenceContentsEq.TheImpl.Laws as rdn_sequence_contents_eq;
 
 use crate::ocsp::aliases::KeyHash;
 use der_elem::{
@@ -24,15 +24,14 @@ use der_elem::{
 };
 use der_fields::{Explicit, ExplicitTag, OneOf, cmp_headers};
 use der_modules::{CopyLaws, copy_of};
-use der_nest::Kept;
 use der_opaque::OctetStringRef;
-use der_pkix::name::Name;
+use der_pkix::name::{Name, RdnSequence};
 use der_tlv::{BackWriter, Error, Length, Source, Tag, Writer};
 use std::alloc::Global;
 use std::cmp::Ordering;
 
 /// The alternatives, as a tree.
-type Tree<'a> = OneOf<Explicit<Kept<'a, Name<'a>>, 1>, Explicit<KeyHash<'a>, 2>>;
+type Tree<'a> = OneOf<Explicit<Name<'a>, 1>, Explicit<KeyHash<'a>, 2>>;
 
 /// ```text
 /// ResponderID ::= CHOICE {
@@ -45,7 +44,7 @@ type Tree<'a> = OneOf<Explicit<Kept<'a, Name<'a>>, 1>, Explicit<KeyHash<'a>, 2>>
 #[derive(Clone, Copy, Debug, PartialEq, Eq)]
 pub enum ResponderId<'a> {
     /// `byName`, `[1] Name`.
-    ByName(Explicit<Kept<'a, Name<'a>>, 1>),
+    ByName(Explicit<Name<'a>, 1>),
     /// `byKey`, `[2] KeyHash`.
     ByKey(Explicit<KeyHash<'a>, 2>),
 }
@@ -104,18 +103,18 @@ impl<'a> Tagged for ResponderId<'a> {
         }
     }
 
-    ghost encoding_is = { λ v. (either_tag ⟦<Explicit<Kept<'a, Name<'a>>, 1> as Form>⟧ ⟦<Explicit<KeyHash<'a>, 2> as Form>⟧
-        (one_tag ⟦<ExplicitTag<1> as TagMarker>⟧.TAG ⟦<Explicit<Kept<'a, Name<'a>>, 1> as FormValue>⟧.value.contents)
+    ghost encoding_is = { λ v. (either_tag ⟦<Explicit<Name<'a>, 1> as Form>⟧ ⟦<Explicit<KeyHash<'a>, 2> as Form>⟧
+        (one_tag ⟦<ExplicitTag<1> as TagMarker>⟧.TAG ⟦<Explicit<Name<'a>, 1> as FormValue>⟧.value.contents)
         (one_tag ⟦<ExplicitTag<2> as TagMarker>⟧.TAG ⟦<Explicit<KeyHash<'a>, 2> as FormValue>⟧.value.contents)).encoding_is (tree_of v) };
 
-    ghost accepted_is_tlv = { λ rules v b. elim v as (λ k. ⟦<Tree<'a> as Form>⟧.accepts rules (tree_of k) b → IsTlv b) [ of.ByName x ↦ λ a. tlv_tagged _ ⟦<Explicit<Kept<'a, Name<'a>>, 1> as FormValue>⟧.value.accepts rules x b a.0 | of.ByKey x ↦ λ a. tlv_tagged _ ⟦<Explicit<KeyHash<'a>, 2> as FormValue>⟧.value.accepts rules x b a.0 ] };
+    ghost accepted_is_tlv = { λ rules v b. elim v as (λ k. ⟦<Tree<'a> as Form>⟧.accepts rules (tree_of k) b → IsTlv b) [ of.ByName x ↦ λ a. tlv_tagged _ ⟦<Explicit<Name<'a>, 1> as FormValue>⟧.value.accepts rules x b a.0 | of.ByKey x ↦ λ a. tlv_tagged _ ⟦<Explicit<KeyHash<'a>, 2> as FormValue>⟧.value.accepts rules x b a.0 ] };
 
-    ghost own_tag = { λ v. (either_tag ⟦<Explicit<Kept<'a, Name<'a>>, 1> as Form>⟧ ⟦<Explicit<KeyHash<'a>, 2> as Form>⟧
-        (one_tag ⟦<ExplicitTag<1> as TagMarker>⟧.TAG ⟦<Explicit<Kept<'a, Name<'a>>, 1> as FormValue>⟧.value.contents)
+    ghost own_tag = { λ v. (either_tag ⟦<Explicit<Name<'a>, 1> as Form>⟧ ⟦<Explicit<KeyHash<'a>, 2> as Form>⟧
+        (one_tag ⟦<ExplicitTag<1> as TagMarker>⟧.TAG ⟦<Explicit<Name<'a>, 1> as FormValue>⟧.value.contents)
         (one_tag ⟦<ExplicitTag<2> as TagMarker>⟧.TAG ⟦<Explicit<KeyHash<'a>, 2> as FormValue>⟧.value.contents)).own_tag (tree_of v) };
 
-    ghost first_tag_is = { λ v. (either_tag ⟦<Explicit<Kept<'a, Name<'a>>, 1> as Form>⟧ ⟦<Explicit<KeyHash<'a>, 2> as Form>⟧
-        (one_tag ⟦<ExplicitTag<1> as TagMarker>⟧.TAG ⟦<Explicit<Kept<'a, Name<'a>>, 1> as FormValue>⟧.value.contents)
+    ghost first_tag_is = { λ v. (either_tag ⟦<Explicit<Name<'a>, 1> as Form>⟧ ⟦<Explicit<KeyHash<'a>, 2> as Form>⟧
+        (one_tag ⟦<ExplicitTag<1> as TagMarker>⟧.TAG ⟦<Explicit<Name<'a>, 1> as FormValue>⟧.value.contents)
         (one_tag ⟦<ExplicitTag<2> as TagMarker>⟧.TAG ⟦<Explicit<KeyHash<'a>, 2> as FormValue>⟧.value.contents)).first_tag_is (tree_of v) };
 
     ghost re_reads_alike = { λ v. elim v as (λ k. ⟦<Tree<'a> as FormValue>⟧.value.re_reads (tree_of k) ≡ true → ⟦<Tree<'a> as Form>⟧.re_reads (tree_of k) ≡ true) [ of.ByName x ↦ λ h. h | of.ByKey x ↦ λ h. h ] };
@@ -138,15 +137,15 @@ impl<'a> KnownTags for ResponderId<'a> {
 
     ghost MAY_BE_ABSENT = { false };
 
-    ghost are_known = { (known_either ⟦<Explicit<Kept<'a, Name<'a>>, 1> as KnownTags>⟧.known_tags ⟦<Explicit<KeyHash<'a>, 2> as KnownTags>⟧.known_tags ⟦<Explicit<Kept<'a, Name<'a>>, 1> as Form>⟧.tags ⟦<Explicit<KeyHash<'a>, 2> as Form>⟧.tags (own_is_known _) (own_is_known _)) };
+    ghost are_known = { (known_either ⟦<Explicit<Name<'a>, 1> as KnownTags>⟧.known_tags ⟦<Explicit<KeyHash<'a>, 2> as KnownTags>⟧.known_tags ⟦<Explicit<Name<'a>, 1> as Form>⟧.tags ⟦<Explicit<KeyHash<'a>, 2> as Form>⟧.tags (own_is_known _) (own_is_known _)) };
 
     ghost is_there = { λ e v. elim v as (λ k. HasFirstTag (⟦<Tree<'a> as Form>⟧.first_tag_of (tree_of k))) [ of.ByName x ↦ record { tag = _; is_tag = refl } | of.ByKey x ↦ record { tag = _; is_tag = refl } ] };
 }
 
 impl<'a, R: Source<'a>> Decode<'a, R> for ResponderId<'a> {
-    ghost TAKES_MEMORY = { true };
+    ghost TAKES_MEMORY = { false };
 
-    const TAKES_MEMORY: bool = true;
+    const TAKES_MEMORY: bool = false;
 
     fn decode(alloc: Global, reader: &mut R) -> Result<ResponderId<'a>, Error> {
         match Tree::<'a>::decode(alloc, reader) {
@@ -160,9 +159,9 @@ impl<'a, R: Source<'a>> Decode<'a, R> for ResponderId<'a> {
 }
 
 impl<'a, R: Source<'a>> DecodeField<'a, R> for ResponderId<'a> {
-    ghost TAKES_MEMORY = { true };
+    ghost TAKES_MEMORY = { false };
 
-    const TAKES_MEMORY: bool = true;
+    const TAKES_MEMORY: bool = false;
 
     fn decode_field(alloc: Global, reader: &mut R) -> Result<ResponderId<'a>, Error> {
         ResponderId::decode(alloc, reader)
@@ -205,21 +204,21 @@ impl<'a> DerOrd for ResponderId<'a> {
 }
 
 impl<'a> EncodingEq for ResponderId<'a> {
-    ghost encoding_eq = { seen_equality tree_of ⟦<ResponderId<'a> as PartialEq>⟧.eq ⟦<Tree<'a> as PartialEq>⟧.eq (λ v w. elim v as (λ k. ⟦<ResponderId<'a> as PartialEq>⟧.eq k w ≡ ⟦<Tree<'a> as PartialEq>⟧.eq (tree_of k) (tree_of w)) [ of.ByName x ↦ elim w as (λ k. ⟦<ResponderId<'a> as PartialEq>⟧.eq (of.ByName x) k ≡ ⟦<Tree<'a> as PartialEq>⟧.eq (tree_of (of.ByName x)) (tree_of k)) [ of.ByName y ↦ refl | of.ByKey y ↦ refl ] | of.ByKey x ↦ elim w as (λ k. ⟦<ResponderId<'a> as PartialEq>⟧.eq (of.ByKey x) k ≡ ⟦<Tree<'a> as PartialEq>⟧.eq (tree_of (of.ByKey x)) (tree_of k)) [ of.ByName y ↦ refl | of.ByKey y ↦ refl ] ]) (either_equality ⟦<Explicit<Kept<'a, Name<'a>>, 1> as Form>⟧ ⟦<Explicit<KeyHash<'a>, 2> as Form>⟧
-        (one_tag ⟦<ExplicitTag<1> as TagMarker>⟧.TAG ⟦<Explicit<Kept<'a, Name<'a>>, 1> as FormValue>⟧.value.contents)
+    ghost encoding_eq = { seen_equality tree_of ⟦<ResponderId<'a> as PartialEq>⟧.eq ⟦<Tree<'a> as PartialEq>⟧.eq (λ v w. elim v as (λ k. ⟦<ResponderId<'a> as PartialEq>⟧.eq k w ≡ ⟦<Tree<'a> as PartialEq>⟧.eq (tree_of k) (tree_of w)) [ of.ByName x ↦ elim w as (λ k. ⟦<ResponderId<'a> as PartialEq>⟧.eq (of.ByName x) k ≡ ⟦<Tree<'a> as PartialEq>⟧.eq (tree_of (of.ByName x)) (tree_of k)) [ of.ByName y ↦ refl | of.ByKey y ↦ refl ] | of.ByKey x ↦ elim w as (λ k. ⟦<ResponderId<'a> as PartialEq>⟧.eq (of.ByKey x) k ≡ ⟦<Tree<'a> as PartialEq>⟧.eq (tree_of (of.ByKey x)) (tree_of k)) [ of.ByName y ↦ refl | of.ByKey y ↦ refl ] ]) (either_equality ⟦<Explicit<Name<'a>, 1> as Form>⟧ ⟦<Explicit<KeyHash<'a>, 2> as Form>⟧
+        (one_tag ⟦<ExplicitTag<1> as TagMarker>⟧.TAG ⟦<Explicit<Name<'a>, 1> as FormValue>⟧.value.contents)
         (one_tag ⟦<ExplicitTag<2> as TagMarker>⟧.TAG ⟦<Explicit<KeyHash<'a>, 2> as FormValue>⟧.value.contents)
-        ⟦<Explicit<Kept<'a, Name<'a>>, 1> as PartialEq>⟧.eq ⟦<Explicit<KeyHash<'a>, 2> as PartialEq>⟧.eq
-        (one_tag_equality ⟦<ExplicitTag<1> as TagMarker>⟧.TAG ⟦<Explicit<Kept<'a, Name<'a>>, 1> as FormValue>⟧.value.contents ⟦<Explicit<Kept<'a, Name<'a>>, 1> as FormValue>⟧.value.comparable ⟦<Explicit<Kept<'a, Name<'a>>, 1> as PartialEq>⟧.eq (λ v w. ((member_equality ⟦<Kept<'a, Name<'a>> as Form>⟧
-        (tagged_starts ⟦<Kept<'a, Name<'a>> as Form>⟧ (one_tag ⟦<SequenceTag as TagMarker>⟧.TAG ⟦<Kept<'a, Name<'a>> as FormValue>⟧.value.contents))
-        ⟦<Kept<'a, Name<'a>> as PartialEq>⟧.eq
-        (one_tag_equality ⟦<SequenceTag as TagMarker>⟧.TAG ⟦<Kept<'a, Name<'a>> as FormValue>⟧.value.contents ⟦<Kept<'a, Name<'a>> as FormValue>⟧.value.comparable ⟦<Kept<'a, Name<'a>> as PartialEq>⟧.eq (λ v w. (λ one. bytes_decides v.octets.octets.now w.octets.octets.now)))
+        ⟦<Explicit<Name<'a>, 1> as PartialEq>⟧.eq ⟦<Explicit<KeyHash<'a>, 2> as PartialEq>⟧.eq
+        (one_tag_equality ⟦<ExplicitTag<1> as TagMarker>⟧.TAG ⟦<Explicit<Name<'a>, 1> as FormValue>⟧.value.contents ⟦<Explicit<Name<'a>, 1> as FormValue>⟧.value.comparable ⟦<Explicit<Name<'a>, 1> as PartialEq>⟧.eq (λ v w. ((member_equality ⟦<Name<'a> as Form>⟧
+        (tagged_starts ⟦<Name<'a> as Form>⟧ (one_tag ⟦<SequenceTag as TagMarker>⟧.TAG ⟦<RdnSequence<'a> as FormValue>⟧.value.contents))
+        ⟦<Name<'a> as PartialEq>⟧.eq
+        (one_tag_equality ⟦<SequenceTag as TagMarker>⟧.TAG ⟦<RdnSequence<'a> as FormValue>⟧.value.contents ⟦<RdnSequence<'a> as FormValue>⟧.value.comparable ⟦<RdnSequence<'a> as PartialEq>⟧.eq rdn_sequence_contents_eq.contents_eq-law)
         no_equality).equal v.fields w.fields)))
         (one_tag_equality ⟦<ExplicitTag<2> as TagMarker>⟧.TAG ⟦<Explicit<KeyHash<'a>, 2> as FormValue>⟧.value.contents ⟦<Explicit<KeyHash<'a>, 2> as FormValue>⟧.value.comparable ⟦<Explicit<KeyHash<'a>, 2> as PartialEq>⟧.eq (λ v w. ((member_equality ⟦<KeyHash<'a> as Form>⟧
         (tagged_starts ⟦<KeyHash<'a> as Form>⟧ (one_tag ⟦<OctetStringTag as TagMarker>⟧.TAG ⟦<OctetStringRef<'a> as FormValue>⟧.value.contents))
         ⟦<KeyHash<'a> as PartialEq>⟧.eq
         (one_tag_equality ⟦<OctetStringTag as TagMarker>⟧.TAG ⟦<OctetStringRef<'a> as FormValue>⟧.value.contents ⟦<OctetStringRef<'a> as FormValue>⟧.value.comparable ⟦<OctetStringRef<'a> as PartialEq>⟧.eq octetstringref_contents_eq.contents_eq-law)
         no_equality).equal v.fields w.fields)))
-        ⟦<OneOf<Explicit<Kept<'a, Name<'a>>, 1>, Explicit<KeyHash<'a>, 2>> as PartialEq>⟧.eq (λ v x. refl) (λ w y. refl) (λ v w. refl) (λ w v. refl)) };
+        ⟦<OneOf<Explicit<Name<'a>, 1>, Explicit<KeyHash<'a>, 2>> as PartialEq>⟧.eq (λ v x. refl) (λ w y. refl) (λ v w. refl) (λ w v. refl)) };
 }
 
 impl<'a> CopyLaws for ResponderId<'a> {

@@ -2,38 +2,32 @@
 //!
 //! Made by tools/asn1 from ocsp.asn1.
 
-ghost use Rattle.std.specs.Prelude.{◌∷◌, ◌≡◌, [], refl, true};
+ghost use Rattle.std.specs.Prelude.{◌∷◌, ◌≡◌, [], false, refl};
 ghost use Rattle.der_elem.specs.FormatMakers.{mapped_format};
 ghost use Rattle.der_elem.specs.contracts.integer.unsigned.U8ContentsEq.TheImpl.Laws as u8_contents_eq;
 ghost use Rattle.der_modules.specs.Asn1.{context, explicit_encoding, joined, optional, parse_of, unless_default};
-ghost use Rattle.der_modules.specs.MemberLaws.{copies_of, default_copies, default_equality, default_starts, held_copies, listed_copies, member_copies, member_equality, no_copies, no_equality, one_tag, one_tag_copies, one_tag_equality, optional_copies, optional_equality, optional_starts, own_tags, same_copies, tagged_starts};
+ghost use Rattle.der_modules.specs.MemberLaws.{default_equality, default_starts, member_equality, no_equality, one_tag, one_tag_equality, optional_equality, optional_starts, own_tags, tagged_starts};
 ghost use Rattle.der_ocsp.specs.Ocsp.Grammar.{response_data};
 ghost use Rattle.der_ocsp.specs.Ocsp.ResponseData as response_data_fields;
-ghost use Rattle.der_ocsp.specs.contracts.ocsp.explicit1_extensions.Explicit1ExtensionsContentsEq.TheImpl.Laws as explicit1_extensions_contents_eq;
-ghost use Rattle.der_ocsp.specs.contracts.ocsp.explicit1_extensions.Explicit1ExtensionsDuplicateValue.TheImpl.Laws as explicit1_extensions_duplicate_value;
-ghost use Rattle.der_ocsp.specs.contracts.ocsp.explicit1_extensions.Explicit1ExtensionsDuplicateValueIsEqual.TheImpl.Laws as explicit1_extensions_duplicate_value_is_equal;
 ghost use Rattle.der_ocsp.specs.contracts.ocsp.responder_id.ResponderIdEncodingEq.TheImpl.Laws as responder_id_encoding_eq;
-ghost use Rattle.der_ocsp.specs.contracts.ocsp.responder_id.ResponderIdEq.TheImpl.Laws as responder_id_eq;
 ghost use Rattle.der_ocsp.specs.contracts.ocsp.responder_id.ResponderIdTagged.TheImpl.Laws as responder_id_tagged;
 ghost use Rattle.der_ocsp.specs.contracts.ocsp.single_responses.SingleResponsesContentsEq.TheImpl.Laws as single_responses_contents_eq;
-ghost use Rattle.der_ocsp.specs.contracts.ocsp.single_responses.SingleResponsesDuplicateValue.TheImpl.Laws as single_responses_duplicate_value;
-ghost use Rattle.der_ocsp.specs.contracts.ocsp.single_responses.SingleResponsesDuplicateValueIsEqual.TheImpl.Laws as single_responses_duplicate_value_is_equal;
 ghost use Rattle.der_ocsp.specs.declared.ocsp.response_data.ResponseData.{ResponseData};
+ghost use Rattle.der_pkix.specs.contracts.certificate.extensions.ExtensionsContentsEq.TheImpl.Laws as extensions_contents_eq;
 ghost use Rattle.der_time.specs.contracts.generalized_time.GeneralizedTimeContentsEq.TheImpl.Laws as generalizedtime_contents_eq;
 
 use crate::ocsp::aliases::Version;
-use crate::ocsp::explicit1_extensions::Explicit1Extensions;
 use crate::ocsp::responder_id::ResponderId;
 use crate::ocsp::single_responses::SingleResponses;
 use der_elem::{
-    ContentsEq, DecodeValue, DuplicateValue, DuplicateValueIsEqual, EncodeValue, Form, FormValue,
-    GeneralizedTimeTag, IntegerTag, OneTag, Sequence, SequenceTag, TagMarker, Tagged, ValueOrd,
+    ContentsEq, CopyIsDuplicate, DecodeValue, EncodeValue, Form, FormValue, GeneralizedTimeTag,
+    IntegerTag, OneTag, Sequence, SequenceTag, TagMarker, Tagged, ValueOrd,
 };
 use der_fields::{
-    DecodeFields, DefaultNumber, DefaultOf, DuplicateFields, EncodeFields, End, Explicit,
-    ExplicitTag, Field, FieldList, Fields1, Fields5, FieldsOrd, WithDefault,
+    DecodeFields, DefaultNumber, DefaultOf, EncodeFields, End, Explicit, ExplicitTag, Field,
+    FieldList, Fields5, FieldsOrd, WithDefault,
 };
-use der_modules::{CopyLaws, copy_of};
+use der_modules::copy_of;
 use der_pkix::certificate::Extensions;
 use der_time::GeneralizedTime;
 use der_tlv::{BackWriter, Error, Header, Length, Source, Writer};
@@ -47,7 +41,7 @@ type Fields<'a> = Fields5<
     ResponderId<'a>,
     GeneralizedTime,
     SingleResponses<'a>,
-    Option<Explicit1Extensions<'a>>,
+    Option<Explicit<Extensions<'a>, 1>>,
 >;
 
 /// ```text
@@ -59,9 +53,8 @@ type Fields<'a> = Fields5<
 ///      responseExtensions  [1] EXPLICIT Extensions OPTIONAL }
 /// ```
 ///
-/// Reading refuses the first fault of the octets, in their order; `ErrorKind::Memory` (1) where
-/// memory runs out.
-#[derive(PartialEq, Eq, Drop)]
+/// Reading refuses the first fault of the octets, in their order.
+#[derive(Clone, Copy, PartialEq, Eq)]
 pub struct ResponseData<'a> {
     fields: Fields<'a>,
 }
@@ -75,25 +68,26 @@ impl<'a> ResponseData<'a> {
         version: Version,
         responder_id: &ResponderId<'a>,
         produced_at: GeneralizedTime,
-        responses: SingleResponses<'a>,
-        response_extensions: Option<Extensions<'a>>,
+        responses: &SingleResponses<'a>,
+        response_extensions: Option<&Extensions<'a>>,
     ) -> ResponseData<'a>
         ensures version { response_data_fields.version result ≡ version }
         ensures responder_id { response_data_fields.responder_id result ≡ responder_id.now }
         ensures produced_at { response_data_fields.produced_at result ≡ produced_at }
-        ensures responses { response_data_fields.responses result ≡ responses.entry }
-        ensures response_extensions { response_data_fields.response_extensions result ≡ response_extensions.entry }
+        ensures responses { response_data_fields.responses result ≡ responses.now }
+        ensures response_extensions { response_data_fields.response_extensions result ≡ option_copied response_extensions.entry }
     {
         let first = match response_extensions {
-            Some(first) => Some(Explicit1Extensions {
-                fields: Fields1 {
-                    list: Field { first, rest: End },
+            Some(first) => Some(Explicit {
+                fields: Field {
+                    first: copy_of(first),
+                    rest: End,
                 },
             }),
             None => None,
         };
         let rest = Field { first, rest: End };
-        let first = responses;
+        let first = copy_of(responses);
         let rest = Field { first, rest };
         let first = produced_at;
         let rest = Field { first, rest };
@@ -108,57 +102,6 @@ impl<'a> ResponseData<'a> {
         let list = Field { first, rest };
         let fields = Fields5 { list };
         ResponseData { fields }
-    }
-
-    /// The values of the fields, in their order.
-    pub fn into_parts(
-        self,
-    ) -> (
-        Version,
-        ResponderId<'a>,
-        GeneralizedTime,
-        SingleResponses<'a>,
-        Option<Extensions<'a>>,
-    )
-        ensures version { response_data_fields.version self.entry ≡ result.0 }
-        ensures responder_id { response_data_fields.responder_id self.entry ≡ result.1 }
-        ensures produced_at { response_data_fields.produced_at self.entry ≡ result.2 }
-        ensures responses { response_data_fields.responses self.entry ≡ result.3 }
-        ensures response_extensions { response_data_fields.response_extensions self.entry ≡ result.4 }
-    {
-        let Fields5 { list } = self.fields;
-        let Field {
-            first: version,
-            rest,
-        } = list;
-        let Field {
-            first: responder_id,
-            rest,
-        } = rest;
-        let Field {
-            first: produced_at,
-            rest,
-        } = rest;
-        let Field {
-            first: responses,
-            rest,
-        } = rest;
-        let Field {
-            first: response_extensions,
-            ..
-        } = rest;
-        let version = version.value.fields.first;
-        let response_extensions = match response_extensions {
-            Some(tagged) => Some(tagged.fields.list.first),
-            None => None,
-        };
-        (
-            version,
-            responder_id,
-            produced_at,
-            responses,
-            response_extensions,
-        )
     }
 
     /// `version`, `[0] EXPLICIT Version DEFAULT v1`.
@@ -194,7 +137,7 @@ impl<'a> ResponseData<'a> {
         ensures { option_copied result ≡ response_data_fields.response_extensions self.now }
     {
         match &self.fields.list.rest.rest.rest.rest.first {
-            Some(value) => Some(&value.fields.list.first),
+            Some(value) => Some(&value.fields.first),
             None => None,
         }
     }
@@ -225,9 +168,9 @@ impl<'a> FormValue for ResponseData<'a> {
 }
 
 impl<'a, R: Source<'a>> DecodeValue<'a, R> for ResponseData<'a> {
-    ghost TAKES_MEMORY = { true };
+    ghost TAKES_MEMORY = { false };
 
-    const TAKES_MEMORY: bool = true;
+    const TAKES_MEMORY: bool = false;
 
     fn decode_value(
         alloc: Global,
@@ -284,58 +227,18 @@ impl<'a> ContentsEq for ResponseData<'a> {
         (tagged_starts ⟦<SingleResponses<'a> as Form>⟧ (one_tag ⟦<SequenceTag as TagMarker>⟧.TAG ⟦<SingleResponses<'a> as FormValue>⟧.value.contents))
         ⟦<SingleResponses<'a> as PartialEq>⟧.eq
         (one_tag_equality ⟦<SequenceTag as TagMarker>⟧.TAG ⟦<SingleResponses<'a> as FormValue>⟧.value.contents ⟦<SingleResponses<'a> as FormValue>⟧.value.comparable ⟦<SingleResponses<'a> as PartialEq>⟧.eq single_responses_contents_eq.contents_eq-law)
-        (member_equality ⟦<Option<Explicit1Extensions<'a>> as Form>⟧
-        (optional_starts ⟦<Explicit1Extensions<'a> as Form>⟧ (one_tag ⟦<ExplicitTag<1> as TagMarker>⟧.TAG ⟦<Explicit1Extensions<'a> as FormValue>⟧.value.contents))
-        ⟦<Option<Explicit1Extensions<'a>> as PartialEq>⟧.eq
-        (optional_equality ⟦<Explicit1Extensions<'a> as Form>⟧ (one_tag ⟦<ExplicitTag<1> as TagMarker>⟧.TAG ⟦<Explicit1Extensions<'a> as FormValue>⟧.value.contents) ⟦<Explicit1Extensions<'a> as PartialEq>⟧.eq (one_tag_equality ⟦<ExplicitTag<1> as TagMarker>⟧.TAG ⟦<Explicit1Extensions<'a> as FormValue>⟧.value.contents ⟦<Explicit1Extensions<'a> as FormValue>⟧.value.comparable ⟦<Explicit1Extensions<'a> as PartialEq>⟧.eq explicit1_extensions_contents_eq.contents_eq-law))
+        (member_equality ⟦<Option<Explicit<Extensions<'a>, 1>> as Form>⟧
+        (optional_starts ⟦<Explicit<Extensions<'a>, 1> as Form>⟧ (one_tag ⟦<ExplicitTag<1> as TagMarker>⟧.TAG ⟦<Explicit<Extensions<'a>, 1> as FormValue>⟧.value.contents))
+        ⟦<Option<Explicit<Extensions<'a>, 1>> as PartialEq>⟧.eq
+        (optional_equality ⟦<Explicit<Extensions<'a>, 1> as Form>⟧ (one_tag ⟦<ExplicitTag<1> as TagMarker>⟧.TAG ⟦<Explicit<Extensions<'a>, 1> as FormValue>⟧.value.contents) ⟦<Explicit<Extensions<'a>, 1> as PartialEq>⟧.eq (one_tag_equality ⟦<ExplicitTag<1> as TagMarker>⟧.TAG ⟦<Explicit<Extensions<'a>, 1> as FormValue>⟧.value.contents ⟦<Explicit<Extensions<'a>, 1> as FormValue>⟧.value.comparable ⟦<Explicit<Extensions<'a>, 1> as PartialEq>⟧.eq (λ v w. ((member_equality ⟦<Extensions<'a> as Form>⟧
+        (tagged_starts ⟦<Extensions<'a> as Form>⟧ (one_tag ⟦<SequenceTag as TagMarker>⟧.TAG ⟦<Extensions<'a> as FormValue>⟧.value.contents))
+        ⟦<Extensions<'a> as PartialEq>⟧.eq
+        (one_tag_equality ⟦<SequenceTag as TagMarker>⟧.TAG ⟦<Extensions<'a> as FormValue>⟧.value.contents ⟦<Extensions<'a> as FormValue>⟧.value.comparable ⟦<Extensions<'a> as PartialEq>⟧.eq extensions_contents_eq.contents_eq-law)
+        no_equality).equal v.fields w.fields))))
         no_equality))))).equal v.fields.list w.fields.list };
 }
 
-impl<'a> CopyLaws for ResponseData<'a> {
-    ghost copies = { copies_of (held_copies (λ v. v.fields.list)
-        (listed_copies (member_copies ⟦<WithDefault<Explicit<Version, 0>, DefaultNumber<0>> as Form>⟧
-        (default_starts ⟦<Explicit<Version, 0> as Form>⟧ (one_tag ⟦<ExplicitTag<0> as TagMarker>⟧.TAG ⟦<Explicit<Version, 0> as FormValue>⟧.value.contents) (λ x. x.value) ⟦<DefaultNumber<0> as DefaultOf<Explicit<Version, 0>>>⟧.octets)
-        (default_copies ⟦<Explicit<Version, 0> as Form>⟧ (one_tag_copies ⟦<ExplicitTag<0> as TagMarker>⟧.TAG (held_copies (λ x. x.fields) (listed_copies (member_copies ⟦<Version as Form>⟧
-        (tagged_starts ⟦<Version as Form>⟧ (one_tag ⟦<IntegerTag as TagMarker>⟧.TAG ⟦<u8 as FormValue>⟧.value.contents))
-        (one_tag_copies ⟦<IntegerTag as TagMarker>⟧.TAG (same_copies ⟦<u8 as FormValue>⟧.value.contents ⟦<u8 as FormValue>⟧.value.comparable ⟦<u8 as FormValue>⟧.value.re_reads ⟦<u8 as PartialEq>⟧.eq (λ v. (u8_contents_eq.contents_eq-law v v tt).1 refl)))
-        no_copies)))) (λ x. x.value) ⟦<DefaultNumber<0> as DefaultOf<Explicit<Version, 0>>>⟧.octets)
-        (member_copies ⟦<ResponderId<'a> as Form>⟧
-        (tagged_starts ⟦<ResponderId<'a> as Form>⟧ (own_tags ⟦<ResponderId<'a> as Form>⟧.tags ⟦<ResponderId<'a> as Form>⟧.first_tag_of ⟦<ResponderId<'a> as Form>⟧.encoding ⟦<ResponderId<'a> as Tagged>⟧.tag_of ⟦<ResponderId<'a> as FormValue>⟧.value.contents responder_id_tagged.encoding_is-law responder_id_tagged.own_tag-law responder_id_tagged.first_tag_is-law))
-        (same_copies ⟦<ResponderId<'a> as Form>⟧.encoding ⟦<ResponderId<'a> as Form>⟧.comparable ⟦<ResponderId<'a> as Form>⟧.re_reads ⟦<ResponderId<'a> as PartialEq>⟧.eq responder_id_eq.laws-law.refl)
-        (member_copies ⟦<GeneralizedTime as Form>⟧
-        (tagged_starts ⟦<GeneralizedTime as Form>⟧ (one_tag ⟦<GeneralizedTimeTag as TagMarker>⟧.TAG ⟦<GeneralizedTime as FormValue>⟧.value.contents))
-        (one_tag_copies ⟦<GeneralizedTimeTag as TagMarker>⟧.TAG (same_copies ⟦<GeneralizedTime as FormValue>⟧.value.contents ⟦<GeneralizedTime as FormValue>⟧.value.comparable ⟦<GeneralizedTime as FormValue>⟧.value.re_reads ⟦<GeneralizedTime as PartialEq>⟧.eq (λ v. (generalizedtime_contents_eq.contents_eq-law v v tt).1 refl)))
-        (member_copies ⟦<SingleResponses<'a> as Form>⟧
-        (tagged_starts ⟦<SingleResponses<'a> as Form>⟧ (one_tag ⟦<SequenceTag as TagMarker>⟧.TAG ⟦<SingleResponses<'a> as FormValue>⟧.value.contents))
-        (one_tag_copies ⟦<SequenceTag as TagMarker>⟧.TAG (record { octets_are = single_responses_duplicate_value.copy_contents-law; comparable_are = single_responses_duplicate_value.copy_comparable_value-law; re_reads_are = single_responses_duplicate_value.copy_re_reads_value-law; equal_are = single_responses_duplicate_value_is_equal.copy_value_is_equal-law }))
-        (member_copies ⟦<Option<Explicit1Extensions<'a>> as Form>⟧
-        (optional_starts ⟦<Explicit1Extensions<'a> as Form>⟧ (one_tag ⟦<ExplicitTag<1> as TagMarker>⟧.TAG ⟦<Explicit1Extensions<'a> as FormValue>⟧.value.contents))
-        (optional_copies ⟦<Explicit1Extensions<'a> as Form>⟧ (one_tag_copies ⟦<ExplicitTag<1> as TagMarker>⟧.TAG (record { octets_are = explicit1_extensions_duplicate_value.copy_contents-law; comparable_are = explicit1_extensions_duplicate_value.copy_comparable_value-law; re_reads_are = explicit1_extensions_duplicate_value.copy_re_reads_value-law; equal_are = explicit1_extensions_duplicate_value_is_equal.copy_value_is_equal-law })))
-        no_copies))))))) };
-}
-
-impl<'a> DuplicateValue for ResponseData<'a> {
-    ghost is_copy_value = { λ v w. ⟦<Fields<'a> as DuplicateFields>⟧.are_copies v.fields w.fields };
-
-    ghost takes_memory_to_copy_value = { ⟦<Fields<'a> as DuplicateFields>⟧.take_memory_to_copy };
-
-    fn duplicate_value(&self) -> Result<ResponseData<'a>, Error> {
-        match self.fields.duplicate_fields() {
-            Ok(fields) => Ok(ResponseData { fields }),
-            Err(e) => Err(e),
-        }
-    }
-
-    ghost copy_contents = { ⟦<ResponseData<'a> as CopyLaws>⟧.copies.laws.octets_are };
-
-    ghost copy_comparable_value = { ⟦<ResponseData<'a> as CopyLaws>⟧.copies.laws.comparable_are };
-
-    ghost copy_re_reads_value = { ⟦<ResponseData<'a> as CopyLaws>⟧.copies.laws.re_reads_are };
-}
-
-impl<'a> DuplicateValueIsEqual for ResponseData<'a> {
-    ghost copy_value_is_equal = { ⟦<ResponseData<'a> as CopyLaws>⟧.copies.laws.equal_are };
-}
+impl<'a> CopyIsDuplicate for ResponseData<'a> {}
 
 /// What is read as `ResponseData` is what the page of the grammar says.
 pub fn grammar_of_response_data<'a>()

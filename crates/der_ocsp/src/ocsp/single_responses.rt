@@ -2,21 +2,18 @@
 //!
 //! Made by tools/asn1 from ocsp.asn1.
 
-ghost use Rattle.std.specs.Prelude.{◌≡◌, refl, true};
+ghost use Rattle.std.specs.Cmp.Lexicographic.{bytes_decides};
+ghost use Rattle.std.specs.Prelude.{◌≡◌, false, refl};
 ghost use Rattle.der_elem.specs.FormatMakers.{mapped_format};
 ghost use Rattle.der_modules.specs.Asn1.{parse_of};
-ghost use Rattle.der_modules.specs.MemberLaws.{copies_of, held_copies, items_copies, items_equality, one_tag, one_tag_copies, one_tag_equality};
 ghost use Rattle.der_ocsp.specs.Ocsp.Grammar.{single_responses};
-ghost use Rattle.der_ocsp.specs.contracts.ocsp.single_response.SingleResponseContentsEq.TheImpl.Laws as single_response_contents_eq;
-ghost use Rattle.der_ocsp.specs.contracts.ocsp.single_response.SingleResponseDuplicateValue.TheImpl.Laws as single_response_duplicate_value;
-ghost use Rattle.der_ocsp.specs.contracts.ocsp.single_response.SingleResponseDuplicateValueIsEqual.TheImpl.Laws as single_response_duplicate_value_is_equal;
 
 use crate::ocsp::single_response::SingleResponse;
 use der_elem::{
-    ContentsEq, DecodeValue, DuplicateValue, DuplicateValueIsEqual, EncodeValue, Form, FormValue,
-    OneTag, Sequence, SequenceTag, TagMarker, ValueOrd,
+    ContentsEq, CopyIsDuplicate, DecodeValue, EncodeValue, Form, FormValue, OneTag, Sequence,
+    SequenceTag, ValueOrd,
 };
-use der_modules::CopyLaws;
+use der_lists::ListRef;
 use der_tlv::{BackWriter, Error, Header, Length, Source, Writer};
 use std::alloc::Global;
 use std::cmp::Ordering;
@@ -25,35 +22,27 @@ use std::cmp::Ordering;
 /// SingleResponses ::= SEQUENCE OF SingleResponse
 /// ```
 ///
-/// Reading refuses the first fault of the octets, in their order; `ErrorKind::Memory` (1) where
-/// memory runs out.
-#[derive(Debug, PartialEq, Eq, Drop)]
+/// Reading refuses the first fault of the octets, in their order.
+#[derive(Clone, Copy, Debug, PartialEq, Eq)]
 pub struct SingleResponses<'a> {
-    items: Vec<SingleResponse<'a>>,
+    items: ListRef<'a, SingleResponse<'a>>,
 }
 
 impl<'a> SingleResponses<'a> {
     ghost use Rattle.der_ocsp.specs.Ocsp.SingleResponses as single_responses;
 
     /// These items.
-    pub fn new(items: Vec<SingleResponse<'a>>) -> SingleResponses<'a>
-        ensures { single_responses.items_of result ≡ items.entry.items }
+    pub fn new(items: ListRef<'a, SingleResponse<'a>>) -> SingleResponses<'a>
+        ensures { single_responses.items_of result ≡ items.entry }
     {
         SingleResponses { items }
     }
 
     /// The items, in their order.
-    pub fn as_slice(&self) -> &[SingleResponse<'a>]
+    pub fn items(&self) -> &ListRef<'a, SingleResponse<'a>>
         ensures { result.now ≡ single_responses.items_of self.now }
     {
-        self.items.as_slice()
-    }
-
-    /// The items, in the room that holds them.
-    pub fn into_items(self) -> Vec<SingleResponse<'a>>
-        ensures { single_responses.items_of self.entry ≡ result.items }
-    {
-        self.items
+        &self.items
     }
 }
 
@@ -66,20 +55,20 @@ impl<'a> Sequence<'a> for SingleResponses<'a> {
 }
 
 impl<'a> FormValue for SingleResponses<'a> {
-    ghost value = { mapped_format (λ v. v.items) ⟦<Vec<SingleResponse<'a>> as FormValue>⟧.value };
+    ghost value = { mapped_format (λ v. v.items) ⟦<ListRef<'a, SingleResponse<'a>> as FormValue>⟧.value };
 }
 
 impl<'a, R: Source<'a>> DecodeValue<'a, R> for SingleResponses<'a> {
-    ghost TAKES_MEMORY = { true };
+    ghost TAKES_MEMORY = { false };
 
-    const TAKES_MEMORY: bool = true;
+    const TAKES_MEMORY: bool = false;
 
     fn decode_value(
         alloc: Global,
         reader: &mut R,
         header: Header,
     ) -> Result<SingleResponses<'a>, Error> {
-        match Vec::<SingleResponse<'a>>::decode_value(alloc, reader, header) {
+        match ListRef::<'a, SingleResponse<'a>>::decode_value(alloc, reader, header) {
             Ok(items) => Ok(SingleResponses { items }),
             Err(e) => Err(e),
         }
@@ -109,36 +98,10 @@ impl<'a> ValueOrd for SingleResponses<'a> {
 }
 
 impl<'a> ContentsEq for SingleResponses<'a> {
-    ghost contents_eq = { λ v w. (items_equality ⟦<SingleResponse<'a> as Form>⟧ (one_tag ⟦<SequenceTag as TagMarker>⟧.TAG ⟦<SingleResponse<'a> as FormValue>⟧.value.contents) ⟦<SingleResponse<'a> as PartialEq>⟧.eq (one_tag_equality ⟦<SequenceTag as TagMarker>⟧.TAG ⟦<SingleResponse<'a> as FormValue>⟧.value.contents ⟦<SingleResponse<'a> as FormValue>⟧.value.comparable ⟦<SingleResponse<'a> as PartialEq>⟧.eq single_response_contents_eq.contents_eq-law)) v.items.items w.items.items };
+    ghost contents_eq = { λ v w. (λ one. bytes_decides v.items.octets.octets.now w.items.octets.octets.now) };
 }
 
-impl<'a> CopyLaws for SingleResponses<'a> {
-    ghost copies = { copies_of (held_copies (λ v. v.items.items)
-        (items_copies ⟦<SingleResponse<'a> as Form>⟧ (one_tag_copies ⟦<SequenceTag as TagMarker>⟧.TAG (record { octets_are = single_response_duplicate_value.copy_contents-law; comparable_are = single_response_duplicate_value.copy_comparable_value-law; re_reads_are = single_response_duplicate_value.copy_re_reads_value-law; equal_are = single_response_duplicate_value_is_equal.copy_value_is_equal-law })))) };
-}
-
-impl<'a> DuplicateValue for SingleResponses<'a> {
-    ghost is_copy_value = { λ v w. ⟦<Vec<SingleResponse<'a>> as DuplicateValue>⟧.is_copy_value v.items w.items };
-
-    ghost takes_memory_to_copy_value = { ⟦<Vec<SingleResponse<'a>> as DuplicateValue>⟧.takes_memory_to_copy_value };
-
-    fn duplicate_value(&self) -> Result<SingleResponses<'a>, Error> {
-        match self.items.duplicate_value() {
-            Ok(items) => Ok(SingleResponses { items }),
-            Err(e) => Err(e),
-        }
-    }
-
-    ghost copy_contents = { ⟦<SingleResponses<'a> as CopyLaws>⟧.copies.laws.octets_are };
-
-    ghost copy_comparable_value = { ⟦<SingleResponses<'a> as CopyLaws>⟧.copies.laws.comparable_are };
-
-    ghost copy_re_reads_value = { ⟦<SingleResponses<'a> as CopyLaws>⟧.copies.laws.re_reads_are };
-}
-
-impl<'a> DuplicateValueIsEqual for SingleResponses<'a> {
-    ghost copy_value_is_equal = { ⟦<SingleResponses<'a> as CopyLaws>⟧.copies.laws.equal_are };
-}
+impl<'a> CopyIsDuplicate for SingleResponses<'a> {}
 
 /// What is read as `SingleResponses` is what the page of the grammar says.
 pub fn grammar_of_single_responses<'a>()

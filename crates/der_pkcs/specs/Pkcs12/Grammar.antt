@@ -2,7 +2,8 @@
 -- Made by tools/asn1 from pkcs12.asn1.
 use Rattle.std.specs.Prelude.{true}
 use Rattle.der_elem.specs.IntegerReading.{parse_unsigned}
-use Rattle.der_modules.specs.Asn1.{EXPLICIT, Grammar, OPTIONAL, SEQUENCE, SEQUENCE_OF, any_of, context, end, field, one}
+use Rattle.der_lists.specs.Asn1.{SEQUENCE_OF}
+use Rattle.der_modules.specs.Asn1.{EXPLICIT, Grammar, OPTIONAL, SEQUENCE, any_of, context, end, field, one}
 use Rattle.der_opaque.specs.AnyForm.{parse_any}
 use Rattle.der_opaque.specs.ObjectIdentifierOctets.{parse_identifier}
 use Rattle.der_opaque.specs.Opaque.{parse_octets}

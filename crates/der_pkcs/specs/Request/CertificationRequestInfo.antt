@@ -1,7 +1,6 @@
 -- The fields of CertificationRequestInfo, by their names.
 -- Made by tools/asn1 from request.asn1.
 use Rattle.std.specs.Prelude.{ℕ}
-use Rattle.der_nest.specs.declared.kept.Kept.{Kept}
 use Rattle.der_pkcs.specs.declared.request.certification_request_info.CertificationRequestInfo.{CertificationRequestInfo}
 use Rattle.der_pkix.specs.declared.certificate.subject_public_key_info.SubjectPublicKeyInfo.{SubjectPublicKeyInfo}
 use Rattle.der_pkix.specs.declared.key.attributes.Attributes.{Attributes}
@@ -12,7 +11,7 @@ abbrev pub version : CertificationRequestInfo → ℕ
 version v = v.fields.list.first
 
 -- subject Name
-abbrev pub subject : CertificationRequestInfo → Kept RdnSequence
+abbrev pub subject : CertificationRequestInfo → RdnSequence
 subject v = v.fields.list.rest.first
 
 -- subjectPKInfo SubjectPublicKeyInfo

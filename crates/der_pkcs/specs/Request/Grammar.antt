@@ -3,7 +3,7 @@
 use Rattle.std.specs.Prelude.{true}
 use Rattle.der_bits.specs.BitString.{parse_bit_string}
 use Rattle.der_elem.specs.IntegerReading.{parse_unsigned}
-use Rattle.der_modules.specs.Asn1.{Grammar, IMPLICIT, KEPT, SEQUENCE, any_of, context, end, field, one}
+use Rattle.der_modules.specs.Asn1.{Grammar, IMPLICIT, SEQUENCE, any_of, context, end, field, one}
 use Rattle.der_opaque.specs.AnyForm.{parse_any}
 use Rattle.der_pkix.specs.Certificate.Grammar.{algorithm_identifier, extensions, subject_public_key_info}
 use Rattle.der_pkix.specs.Key.Grammar.{attributes}
@@ -33,7 +33,7 @@ abbrev pub certification_request_info : Grammar
 certification_request_info =
     SEQUENCE
     (field certification_request_info_version
-    (field (KEPT name)
+    (field name
     (field subject_public_key_info
     (field (IMPLICIT context 0 attributes)
     end))))

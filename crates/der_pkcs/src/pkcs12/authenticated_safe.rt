@@ -2,20 +2,18 @@
 //!
 //! Made by tools/asn1 from pkcs12.asn1.
 
-ghost use Rattle.std.specs.Prelude.{◌≡◌, refl, true};
+ghost use Rattle.std.specs.Cmp.Lexicographic.{bytes_decides};
+ghost use Rattle.std.specs.Prelude.{◌≡◌, false, refl};
 ghost use Rattle.der_elem.specs.FormatMakers.{mapped_format};
 ghost use Rattle.der_modules.specs.Asn1.{parse_of};
-ghost use Rattle.der_modules.specs.MemberLaws.{copies_of, held_copies, items_copies, items_equality, one_tag, one_tag_copies, one_tag_equality, same_copies};
 ghost use Rattle.der_pkcs.specs.Pkcs12.Grammar.{authenticated_safe};
-ghost use Rattle.der_pkcs.specs.contracts.pkcs12.content_info.ContentInfoContentsEq.TheImpl.Laws as content_info_contents_eq;
-ghost use Rattle.der_pkcs.specs.contracts.pkcs12.content_info.ContentInfoEq.TheImpl.Laws as content_info_eq;
 
 use crate::pkcs12::content_info::ContentInfo;
 use der_elem::{
-    ContentsEq, DecodeValue, DuplicateValue, DuplicateValueIsEqual, EncodeValue, Form, FormValue,
-    OneTag, Sequence, SequenceTag, TagMarker, ValueOrd,
+    ContentsEq, CopyIsDuplicate, DecodeValue, EncodeValue, Form, FormValue, OneTag, Sequence,
+    SequenceTag, ValueOrd,
 };
-use der_modules::CopyLaws;
+use der_lists::ListRef;
 use der_tlv::{BackWriter, Error, Header, Length, Source, Writer};
 use std::alloc::Global;
 use std::cmp::Ordering;
@@ -24,35 +22,27 @@ use std::cmp::Ordering;
 /// AuthenticatedSafe ::= SEQUENCE OF ContentInfo
 /// ```
 ///
-/// Reading refuses the first fault of the octets, in their order; `ErrorKind::Memory` (1) where
-/// memory runs out.
-#[derive(Debug, PartialEq, Eq, Drop)]
+/// Reading refuses the first fault of the octets, in their order.
+#[derive(Clone, Copy, Debug, PartialEq, Eq)]
 pub struct AuthenticatedSafe<'a> {
-    items: Vec<ContentInfo<'a>>,
+    items: ListRef<'a, ContentInfo<'a>>,
 }
 
 impl<'a> AuthenticatedSafe<'a> {
     ghost use Rattle.der_pkcs.specs.Pkcs12.AuthenticatedSafe as authenticated_safe;
 
     /// These items.
-    pub fn new(items: Vec<ContentInfo<'a>>) -> AuthenticatedSafe<'a>
-        ensures { authenticated_safe.items_of result ≡ items.entry.items }
+    pub fn new(items: ListRef<'a, ContentInfo<'a>>) -> AuthenticatedSafe<'a>
+        ensures { authenticated_safe.items_of result ≡ items.entry }
     {
         AuthenticatedSafe { items }
     }
 
     /// The items, in their order.
-    pub fn as_slice(&self) -> &[ContentInfo<'a>]
+    pub fn items(&self) -> &ListRef<'a, ContentInfo<'a>>
         ensures { result.now ≡ authenticated_safe.items_of self.now }
     {
-        self.items.as_slice()
-    }
-
-    /// The items, in the room that holds them.
-    pub fn into_items(self) -> Vec<ContentInfo<'a>>
-        ensures { authenticated_safe.items_of self.entry ≡ result.items }
-    {
-        self.items
+        &self.items
     }
 }
 
@@ -65,20 +55,20 @@ impl<'a> Sequence<'a> for AuthenticatedSafe<'a> {
 }
 
 impl<'a> FormValue for AuthenticatedSafe<'a> {
-    ghost value = { mapped_format (λ v. v.items) ⟦<Vec<ContentInfo<'a>> as FormValue>⟧.value };
+    ghost value = { mapped_format (λ v. v.items) ⟦<ListRef<'a, ContentInfo<'a>> as FormValue>⟧.value };
 }
 
 impl<'a, R: Source<'a>> DecodeValue<'a, R> for AuthenticatedSafe<'a> {
-    ghost TAKES_MEMORY = { true };
+    ghost TAKES_MEMORY = { false };
 
-    const TAKES_MEMORY: bool = true;
+    const TAKES_MEMORY: bool = false;
 
     fn decode_value(
         alloc: Global,
         reader: &mut R,
         header: Header,
     ) -> Result<AuthenticatedSafe<'a>, Error> {
-        match Vec::<ContentInfo<'a>>::decode_value(alloc, reader, header) {
+        match ListRef::<'a, ContentInfo<'a>>::decode_value(alloc, reader, header) {
             Ok(items) => Ok(AuthenticatedSafe { items }),
             Err(e) => Err(e),
         }
@@ -108,36 +98,10 @@ impl<'a> ValueOrd for AuthenticatedSafe<'a> {
 }
 
 impl<'a> ContentsEq for AuthenticatedSafe<'a> {
-    ghost contents_eq = { λ v w. (items_equality ⟦<ContentInfo<'a> as Form>⟧ (one_tag ⟦<SequenceTag as TagMarker>⟧.TAG ⟦<ContentInfo<'a> as FormValue>⟧.value.contents) ⟦<ContentInfo<'a> as PartialEq>⟧.eq (one_tag_equality ⟦<SequenceTag as TagMarker>⟧.TAG ⟦<ContentInfo<'a> as FormValue>⟧.value.contents ⟦<ContentInfo<'a> as FormValue>⟧.value.comparable ⟦<ContentInfo<'a> as PartialEq>⟧.eq content_info_contents_eq.contents_eq-law)) v.items.items w.items.items };
+    ghost contents_eq = { λ v w. (λ one. bytes_decides v.items.octets.octets.now w.items.octets.octets.now) };
 }
 
-impl<'a> CopyLaws for AuthenticatedSafe<'a> {
-    ghost copies = { copies_of (held_copies (λ v. v.items.items)
-        (items_copies ⟦<ContentInfo<'a> as Form>⟧ (one_tag_copies ⟦<SequenceTag as TagMarker>⟧.TAG (same_copies ⟦<ContentInfo<'a> as FormValue>⟧.value.contents ⟦<ContentInfo<'a> as FormValue>⟧.value.comparable ⟦<ContentInfo<'a> as FormValue>⟧.value.re_reads ⟦<ContentInfo<'a> as PartialEq>⟧.eq content_info_eq.laws-law.refl)))) };
-}
-
-impl<'a> DuplicateValue for AuthenticatedSafe<'a> {
-    ghost is_copy_value = { λ v w. ⟦<Vec<ContentInfo<'a>> as DuplicateValue>⟧.is_copy_value v.items w.items };
-
-    ghost takes_memory_to_copy_value = { ⟦<Vec<ContentInfo<'a>> as DuplicateValue>⟧.takes_memory_to_copy_value };
-
-    fn duplicate_value(&self) -> Result<AuthenticatedSafe<'a>, Error> {
-        match self.items.duplicate_value() {
-            Ok(items) => Ok(AuthenticatedSafe { items }),
-            Err(e) => Err(e),
-        }
-    }
-
-    ghost copy_contents = { ⟦<AuthenticatedSafe<'a> as CopyLaws>⟧.copies.laws.octets_are };
-
-    ghost copy_comparable_value = { ⟦<AuthenticatedSafe<'a> as CopyLaws>⟧.copies.laws.comparable_are };
-
-    ghost copy_re_reads_value = { ⟦<AuthenticatedSafe<'a> as CopyLaws>⟧.copies.laws.re_reads_are };
-}
-
-impl<'a> DuplicateValueIsEqual for AuthenticatedSafe<'a> {
-    ghost copy_value_is_equal = { ⟦<AuthenticatedSafe<'a> as CopyLaws>⟧.copies.laws.equal_are };
-}
+impl<'a> CopyIsDuplicate for AuthenticatedSafe<'a> {}
 
 /// What is read as `AuthenticatedSafe` is what the page of the grammar says.
 pub fn grammar_of_authenticated_safe<'a>()

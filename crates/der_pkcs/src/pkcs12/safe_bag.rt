@@ -3,12 +3,10 @@
 //! Made by tools/asn1 from pkcs12.asn1.
 
 ghost use Rattle.std.proofs.Common.{lit<};
-ghost use Rattle.std.specs.Prelude.{◌∷◌, ◌≡◌, [], refl, true};
+ghost use Rattle.std.specs.Prelude.{◌∷◌, ◌≡◌, [], false, refl};
 ghost use Rattle.der_elem.specs.FormatMakers.{mapped_format};
 ghost use Rattle.der_modules.specs.Asn1.{context, explicit_encoding, joined, optional, parse_of};
-ghost use Rattle.der_modules.specs.MemberLaws.{copies_of, held_copies, listed_copies, member_copies, member_equality, no_copies, no_equality, one_tag, one_tag_copies, one_tag_equality, optional_copies, optional_equality, optional_starts, own_tags, same_copies, tagged_starts};
-ghost use Rattle.der_opaque.specs.contracts.any_ref.AnyRefDuplicate.TheImpl.Laws as anyref_duplicate;
-ghost use Rattle.der_opaque.specs.contracts.any_ref.AnyRefDuplicateIsEqual.TheImpl.Laws as anyref_duplicate_is_equal;
+ghost use Rattle.der_modules.specs.MemberLaws.{member_equality, no_equality, one_tag, one_tag_equality, optional_equality, optional_starts, own_tags, tagged_starts};
 ghost use Rattle.der_opaque.specs.contracts.any_ref.AnyRefEncodingEq.TheImpl.Laws as anyref_encoding_eq;
 ghost use Rattle.der_opaque.specs.contracts.any_ref.AnyRefTagged.TheImpl.Laws as anyref_tagged;
 ghost use Rattle.der_opaque.specs.contracts.object_identifier_ref.ObjectIdentifierRefContentsEq.TheImpl.Laws as objectidentifierref_contents_eq;
@@ -16,18 +14,15 @@ ghost use Rattle.der_pkcs.specs.Pkcs12.Grammar.{safe_bag};
 ghost use Rattle.der_pkcs.specs.Pkcs12.SafeBag as safe_bag_fields;
 ghost use Rattle.der_pkcs.specs.declared.pkcs12.safe_bag.SafeBag.{SafeBag};
 ghost use Rattle.der_pkix.specs.contracts.key.attributes.AttributesContentsEq.TheImpl.Laws as attributes_contents_eq;
-ghost use Rattle.der_pkix.specs.contracts.key.attributes.AttributesDuplicateValue.TheImpl.Laws as attributes_duplicate_value;
-ghost use Rattle.der_pkix.specs.contracts.key.attributes.AttributesDuplicateValueIsEqual.TheImpl.Laws as attributes_duplicate_value_is_equal;
 
 use der_elem::{
-    ContentsEq, DecodeValue, DuplicateValue, DuplicateValueIsEqual, EncodeValue, Form, FormValue,
-    ObjectIdentifierTag, OneTag, Sequence, SequenceTag, SetTag, TagMarker, Tagged, ValueOrd,
+    ContentsEq, CopyIsDuplicate, DecodeValue, EncodeValue, Form, FormValue, ObjectIdentifierTag,
+    OneTag, Sequence, SequenceTag, SetTag, TagMarker, Tagged, ValueOrd,
 };
 use der_fields::{
-    DecodeFields, DuplicateFields, EncodeFields, End, Explicit, ExplicitTag, Field, FieldList,
-    Fields3, FieldsOrd,
+    DecodeFields, EncodeFields, End, Explicit, ExplicitTag, Field, FieldList, Fields3, FieldsOrd,
 };
-use der_modules::CopyLaws;
+use der_modules::copy_of;
 use der_opaque::{AnyRef, ObjectIdentifierRef};
 use der_pkix::key::Attributes;
 use der_tlv::{BackWriter, Error, Header, Length, Source, Writer};
@@ -49,9 +44,8 @@ type Fields<'a> = Fields3<
 ///      bagAttributes  Attributes OPTIONAL }
 /// ```
 ///
-/// Reading refuses the first fault of the octets, in their order; `ErrorKind::Memory` (1) where
-/// memory runs out.
-#[derive(PartialEq, Eq, Drop)]
+/// Reading refuses the first fault of the octets, in their order.
+#[derive(Clone, Copy, PartialEq, Eq)]
 pub struct SafeBag<'a> {
     fields: Fields<'a>,
 }
@@ -64,13 +58,16 @@ impl<'a> SafeBag<'a> {
     pub fn new(
         bag_id: ObjectIdentifierRef<'a, 39>,
         bag_value: AnyRef<'a>,
-        bag_attributes: Option<Attributes<'a>>,
+        bag_attributes: Option<&Attributes<'a>>,
     ) -> SafeBag<'a>
         ensures bag_id { safe_bag_fields.bag_id result ≡ bag_id.entry }
         ensures bag_value { safe_bag_fields.bag_value result ≡ bag_value.entry }
-        ensures bag_attributes { safe_bag_fields.bag_attributes result ≡ bag_attributes.entry }
+        ensures bag_attributes { safe_bag_fields.bag_attributes result ≡ option_copied bag_attributes.entry }
     {
-        let first = bag_attributes;
+        let first = match bag_attributes {
+            Some(value) => Some(copy_of(value)),
+            None => None,
+        };
         let rest = Field { first, rest: End };
         let first = Explicit {
             fields: Field {
@@ -83,35 +80,6 @@ impl<'a> SafeBag<'a> {
         let list = Field { first, rest };
         let fields = Fields3 { list };
         SafeBag { fields }
-    }
-
-    /// The values of the fields, in their order.
-    pub fn into_parts(
-        self,
-    ) -> (
-        ObjectIdentifierRef<'a, 39>,
-        AnyRef<'a>,
-        Option<Attributes<'a>>,
-    )
-        ensures bag_id { safe_bag_fields.bag_id self.entry ≡ result.0 }
-        ensures bag_value { safe_bag_fields.bag_value self.entry ≡ result.1 }
-        ensures bag_attributes { safe_bag_fields.bag_attributes self.entry ≡ result.2 }
-    {
-        let Fields3 { list } = self.fields;
-        let Field {
-            first: bag_id,
-            rest,
-        } = list;
-        let Field {
-            first: bag_value,
-            rest,
-        } = rest;
-        let Field {
-            first: bag_attributes,
-            ..
-        } = rest;
-        let bag_value = bag_value.fields.first;
-        (bag_id, bag_value, bag_attributes)
     }
 
     /// `bagId`, `OBJECT IDENTIFIER`.
@@ -162,9 +130,9 @@ impl<'a> FormValue for SafeBag<'a> {
 }
 
 impl<'a, R: Source<'a>> DecodeValue<'a, R> for SafeBag<'a> {
-    ghost TAKES_MEMORY = { true };
+    ghost TAKES_MEMORY = { false };
 
-    const TAKES_MEMORY: bool = true;
+    const TAKES_MEMORY: bool = false;
 
     fn decode_value(alloc: Global, reader: &mut R, _header: Header) -> Result<SafeBag<'a>, Error> {
         match Fields::<'a>::decode_fields(alloc, reader) {
@@ -216,45 +184,7 @@ impl<'a> ContentsEq for SafeBag<'a> {
         no_equality))).equal v.fields.list w.fields.list };
 }
 
-impl<'a> CopyLaws for SafeBag<'a> {
-    ghost copies = { copies_of (held_copies (λ v. v.fields.list)
-        (listed_copies (member_copies ⟦<ObjectIdentifierRef<'a, 39> as Form>⟧
-        (tagged_starts ⟦<ObjectIdentifierRef<'a, 39> as Form>⟧ (one_tag ⟦<ObjectIdentifierTag as TagMarker>⟧.TAG ⟦<ObjectIdentifierRef<'a, 39> as FormValue>⟧.value.contents))
-        (one_tag_copies ⟦<ObjectIdentifierTag as TagMarker>⟧.TAG (same_copies ⟦<ObjectIdentifierRef<'a, 39> as FormValue>⟧.value.contents ⟦<ObjectIdentifierRef<'a, 39> as FormValue>⟧.value.comparable ⟦<ObjectIdentifierRef<'a, 39> as FormValue>⟧.value.re_reads ⟦<ObjectIdentifierRef<'a, 39> as PartialEq>⟧.eq (λ v. ((objectidentifierref_contents_eq.contents_eq-law 39 (record { fits = lit< tt })) v v tt).1 refl)))
-        (member_copies ⟦<Explicit<AnyRef<'a>, 0> as Form>⟧
-        (tagged_starts ⟦<Explicit<AnyRef<'a>, 0> as Form>⟧ (one_tag ⟦<ExplicitTag<0> as TagMarker>⟧.TAG ⟦<Explicit<AnyRef<'a>, 0> as FormValue>⟧.value.contents))
-        (one_tag_copies ⟦<ExplicitTag<0> as TagMarker>⟧.TAG (held_copies (λ x. x.fields) (listed_copies (member_copies ⟦<AnyRef<'a> as Form>⟧
-        (tagged_starts ⟦<AnyRef<'a> as Form>⟧ (own_tags ⟦<AnyRef<'a> as Form>⟧.tags ⟦<AnyRef<'a> as Form>⟧.first_tag_of ⟦<AnyRef<'a> as Form>⟧.encoding ⟦<AnyRef<'a> as Tagged>⟧.tag_of ⟦<AnyRef<'a> as FormValue>⟧.value.contents anyref_tagged.encoding_is-law anyref_tagged.own_tag-law anyref_tagged.first_tag_is-law))
-        (record { octets_are = anyref_duplicate.copy_encoding-law; comparable_are = anyref_duplicate.copy_comparable-law; re_reads_are = anyref_duplicate.copy_re_reads-law; equal_are = anyref_duplicate_is_equal.copy_is_equal-law })
-        no_copies))))
-        (member_copies ⟦<Option<Attributes<'a>> as Form>⟧
-        (optional_starts ⟦<Attributes<'a> as Form>⟧ (one_tag ⟦<SetTag as TagMarker>⟧.TAG ⟦<Attributes<'a> as FormValue>⟧.value.contents))
-        (optional_copies ⟦<Attributes<'a> as Form>⟧ (one_tag_copies ⟦<SetTag as TagMarker>⟧.TAG (record { octets_are = attributes_duplicate_value.copy_contents-law; comparable_are = attributes_duplicate_value.copy_comparable_value-law; re_reads_are = attributes_duplicate_value.copy_re_reads_value-law; equal_are = attributes_duplicate_value_is_equal.copy_value_is_equal-law })))
-        no_copies))))) };
-}
-
-impl<'a> DuplicateValue for SafeBag<'a> {
-    ghost is_copy_value = { λ v w. ⟦<Fields<'a> as DuplicateFields>⟧.are_copies v.fields w.fields };
-
-    ghost takes_memory_to_copy_value = { ⟦<Fields<'a> as DuplicateFields>⟧.take_memory_to_copy };
-
-    fn duplicate_value(&self) -> Result<SafeBag<'a>, Error> {
-        match self.fields.duplicate_fields() {
-            Ok(fields) => Ok(SafeBag { fields }),
-            Err(e) => Err(e),
-        }
-    }
-
-    ghost copy_contents = { ⟦<SafeBag<'a> as CopyLaws>⟧.copies.laws.octets_are };
-
-    ghost copy_comparable_value = { ⟦<SafeBag<'a> as CopyLaws>⟧.copies.laws.comparable_are };
-
-    ghost copy_re_reads_value = { ⟦<SafeBag<'a> as CopyLaws>⟧.copies.laws.re_reads_are };
-}
-
-impl<'a> DuplicateValueIsEqual for SafeBag<'a> {
-    ghost copy_value_is_equal = { ⟦<SafeBag<'a> as CopyLaws>⟧.copies.laws.equal_are };
-}
+impl<'a> CopyIsDuplicate for SafeBag<'a> {}
 
 /// What is read as `SafeBag` is what the page of the grammar says.
 pub fn grammar_of_safe_bag<'a>()

@@ -2,21 +2,18 @@
 //!
 //! Made by tools/asn1 from pkcs12.asn1.
 
-ghost use Rattle.std.specs.Prelude.{◌≡◌, refl, true};
+ghost use Rattle.std.specs.Cmp.Lexicographic.{bytes_decides};
+ghost use Rattle.std.specs.Prelude.{◌≡◌, false, refl};
 ghost use Rattle.der_elem.specs.FormatMakers.{mapped_format};
 ghost use Rattle.der_modules.specs.Asn1.{parse_of};
-ghost use Rattle.der_modules.specs.MemberLaws.{copies_of, held_copies, items_copies, items_equality, one_tag, one_tag_copies, one_tag_equality};
 ghost use Rattle.der_pkcs.specs.Pkcs12.Grammar.{safe_contents};
-ghost use Rattle.der_pkcs.specs.contracts.pkcs12.safe_bag.SafeBagContentsEq.TheImpl.Laws as safe_bag_contents_eq;
-ghost use Rattle.der_pkcs.specs.contracts.pkcs12.safe_bag.SafeBagDuplicateValue.TheImpl.Laws as safe_bag_duplicate_value;
-ghost use Rattle.der_pkcs.specs.contracts.pkcs12.safe_bag.SafeBagDuplicateValueIsEqual.TheImpl.Laws as safe_bag_duplicate_value_is_equal;
 
 use crate::pkcs12::safe_bag::SafeBag;
 use der_elem::{
-    ContentsEq, DecodeValue, DuplicateValue, DuplicateValueIsEqual, EncodeValue, Form, FormValue,
-    OneTag, Sequence, SequenceTag, TagMarker, ValueOrd,
+    ContentsEq, CopyIsDuplicate, DecodeValue, EncodeValue, Form, FormValue, OneTag, Sequence,
+    SequenceTag, ValueOrd,
 };
-use der_modules::CopyLaws;
+use der_lists::ListRef;
 use der_tlv::{BackWriter, Error, Header, Length, Source, Writer};
 use std::alloc::Global;
 use std::cmp::Ordering;
@@ -25,35 +22,27 @@ use std::cmp::Ordering;
 /// SafeContents ::= SEQUENCE OF SafeBag
 /// ```
 ///
-/// Reading refuses the first fault of the octets, in their order; `ErrorKind::Memory` (1) where
-/// memory runs out.
-#[derive(Debug, PartialEq, Eq, Drop)]
+/// Reading refuses the first fault of the octets, in their order.
+#[derive(Clone, Copy, Debug, PartialEq, Eq)]
 pub struct SafeContents<'a> {
-    items: Vec<SafeBag<'a>>,
+    items: ListRef<'a, SafeBag<'a>>,
 }
 
 impl<'a> SafeContents<'a> {
     ghost use Rattle.der_pkcs.specs.Pkcs12.SafeContents as safe_contents;
 
     /// These items.
-    pub fn new(items: Vec<SafeBag<'a>>) -> SafeContents<'a>
-        ensures { safe_contents.items_of result ≡ items.entry.items }
+    pub fn new(items: ListRef<'a, SafeBag<'a>>) -> SafeContents<'a>
+        ensures { safe_contents.items_of result ≡ items.entry }
     {
         SafeContents { items }
     }
 
     /// The items, in their order.
-    pub fn as_slice(&self) -> &[SafeBag<'a>]
+    pub fn items(&self) -> &ListRef<'a, SafeBag<'a>>
         ensures { result.now ≡ safe_contents.items_of self.now }
     {
-        self.items.as_slice()
-    }
-
-    /// The items, in the room that holds them.
-    pub fn into_items(self) -> Vec<SafeBag<'a>>
-        ensures { safe_contents.items_of self.entry ≡ result.items }
-    {
-        self.items
+        &self.items
     }
 }
 
@@ -66,20 +55,20 @@ impl<'a> Sequence<'a> for SafeContents<'a> {
 }
 
 impl<'a> FormValue for SafeContents<'a> {
-    ghost value = { mapped_format (λ v. v.items) ⟦<Vec<SafeBag<'a>> as FormValue>⟧.value };
+    ghost value = { mapped_format (λ v. v.items) ⟦<ListRef<'a, SafeBag<'a>> as FormValue>⟧.value };
 }
 
 impl<'a, R: Source<'a>> DecodeValue<'a, R> for SafeContents<'a> {
-    ghost TAKES_MEMORY = { true };
+    ghost TAKES_MEMORY = { false };
 
-    const TAKES_MEMORY: bool = true;
+    const TAKES_MEMORY: bool = false;
 
     fn decode_value(
         alloc: Global,
         reader: &mut R,
         header: Header,
     ) -> Result<SafeContents<'a>, Error> {
-        match Vec::<SafeBag<'a>>::decode_value(alloc, reader, header) {
+        match ListRef::<'a, SafeBag<'a>>::decode_value(alloc, reader, header) {
             Ok(items) => Ok(SafeContents { items }),
             Err(e) => Err(e),
         }
@@ -109,36 +98,10 @@ impl<'a> ValueOrd for SafeContents<'a> {
 }
 
 impl<'a> ContentsEq for SafeContents<'a> {
-    ghost contents_eq = { λ v w. (items_equality ⟦<SafeBag<'a> as Form>⟧ (one_tag ⟦<SequenceTag as TagMarker>⟧.TAG ⟦<SafeBag<'a> as FormValue>⟧.value.contents) ⟦<SafeBag<'a> as PartialEq>⟧.eq (one_tag_equality ⟦<SequenceTag as TagMarker>⟧.TAG ⟦<SafeBag<'a> as FormValue>⟧.value.contents ⟦<SafeBag<'a> as FormValue>⟧.value.comparable ⟦<SafeBag<'a> as PartialEq>⟧.eq safe_bag_contents_eq.contents_eq-law)) v.items.items w.items.items };
+    ghost contents_eq = { λ v w. (λ one. bytes_decides v.items.octets.octets.now w.items.octets.octets.now) };
 }
 
-impl<'a> CopyLaws for SafeContents<'a> {
-    ghost copies = { copies_of (held_copies (λ v. v.items.items)
-        (items_copies ⟦<SafeBag<'a> as Form>⟧ (one_tag_copies ⟦<SequenceTag as TagMarker>⟧.TAG (record { octets_are = safe_bag_duplicate_value.copy_contents-law; comparable_are = safe_bag_duplicate_value.copy_comparable_value-law; re_reads_are = safe_bag_duplicate_value.copy_re_reads_value-law; equal_are = safe_bag_duplicate_value_is_equal.copy_value_is_equal-law })))) };
-}
-
-impl<'a> DuplicateValue for SafeContents<'a> {
-    ghost is_copy_value = { λ v w. ⟦<Vec<SafeBag<'a>> as DuplicateValue>⟧.is_copy_value v.items w.items };
-
-    ghost takes_memory_to_copy_value = { ⟦<Vec<SafeBag<'a>> as DuplicateValue>⟧.takes_memory_to_copy_value };
-
-    fn duplicate_value(&self) -> Result<SafeContents<'a>, Error> {
-        match self.items.duplicate_value() {
-            Ok(items) => Ok(SafeContents { items }),
-            Err(e) => Err(e),
-        }
-    }
-
-    ghost copy_contents = { ⟦<SafeContents<'a> as CopyLaws>⟧.copies.laws.octets_are };
-
-    ghost copy_comparable_value = { ⟦<SafeContents<'a> as CopyLaws>⟧.copies.laws.comparable_are };
-
-    ghost copy_re_reads_value = { ⟦<SafeContents<'a> as CopyLaws>⟧.copies.laws.re_reads_are };
-}
-
-impl<'a> DuplicateValueIsEqual for SafeContents<'a> {
-    ghost copy_value_is_equal = { ⟦<SafeContents<'a> as CopyLaws>⟧.copies.laws.equal_are };
-}
+impl<'a> CopyIsDuplicate for SafeContents<'a> {}
 
 /// What is read as `SafeContents` is what the page of the grammar says.
 pub fn grammar_of_safe_contents<'a>()

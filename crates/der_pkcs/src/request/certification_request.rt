@@ -2,30 +2,25 @@
 //!
 //! Made by tools/asn1 from request.asn1.
 
-ghost use Rattle.std.specs.Prelude.{◌∷◌, ◌≡◌, [], refl, true};
+ghost use Rattle.std.specs.Prelude.{◌∷◌, ◌≡◌, [], false, refl};
 ghost use Rattle.der_bits.specs.contracts.bit_string_ref.BitStringRefContentsEq.TheImpl.Laws as bitstringref_contents_eq;
 ghost use Rattle.der_elem.specs.FormatMakers.{mapped_format};
 ghost use Rattle.der_modules.specs.Asn1.{joined, parse_of};
-ghost use Rattle.der_modules.specs.MemberLaws.{copies_of, held_copies, listed_copies, member_copies, member_equality, no_copies, no_equality, one_tag, one_tag_copies, one_tag_equality, same_copies, tagged_starts};
+ghost use Rattle.der_modules.specs.MemberLaws.{member_equality, no_equality, one_tag, one_tag_equality, tagged_starts};
 ghost use Rattle.der_pkcs.specs.Request.CertificationRequest as certification_request_fields;
 ghost use Rattle.der_pkcs.specs.Request.Grammar.{certification_request};
 ghost use Rattle.der_pkcs.specs.contracts.request.certification_request_info.CertificationRequestInfoContentsEq.TheImpl.Laws as certification_request_info_contents_eq;
-ghost use Rattle.der_pkcs.specs.contracts.request.certification_request_info.CertificationRequestInfoDuplicateValue.TheImpl.Laws as certification_request_info_duplicate_value;
-ghost use Rattle.der_pkcs.specs.contracts.request.certification_request_info.CertificationRequestInfoDuplicateValueIsEqual.TheImpl.Laws as certification_request_info_duplicate_value_is_equal;
 ghost use Rattle.der_pkcs.specs.declared.request.certification_request.CertificationRequest.{CertificationRequest};
 ghost use Rattle.der_pkix.specs.contracts.algorithm_identifier.AlgorithmIdentifierContentsEq.TheImpl.Laws as algorithm_identifier_contents_eq;
-ghost use Rattle.der_pkix.specs.contracts.algorithm_identifier.AlgorithmIdentifierEq.TheImpl.Laws as algorithm_identifier_eq;
 
 use crate::request::certification_request_info::CertificationRequestInfo;
 use der_bits::BitStringRef;
 use der_elem::{
-    BitStringTag, ContentsEq, DecodeValue, DuplicateValue, DuplicateValueIsEqual, EncodeValue,
-    Form, FormValue, OneTag, Sequence, SequenceTag, TagMarker, ValueOrd,
+    BitStringTag, ContentsEq, CopyIsDuplicate, DecodeValue, EncodeValue, Form, FormValue, OneTag,
+    Sequence, SequenceTag, TagMarker, ValueOrd,
 };
-use der_fields::{
-    DecodeFields, DuplicateFields, EncodeFields, End, Field, FieldList, Fields3, FieldsOrd,
-};
-use der_modules::{CopyLaws, copy_of};
+use der_fields::{DecodeFields, EncodeFields, End, Field, FieldList, Fields3, FieldsOrd};
+use der_modules::copy_of;
 use der_pkix::AlgorithmIdentifier;
 use der_tlv::{BackWriter, Error, Header, Length, Source, Writer};
 use std::alloc::Global;
@@ -42,9 +37,8 @@ type Fields<'a> = Fields3<CertificationRequestInfo<'a>, AlgorithmIdentifier<'a>,
 ///      signature                 BIT STRING }
 /// ```
 ///
-/// Reading refuses the first fault of the octets, in their order; `ErrorKind::Memory` (1) where
-/// memory runs out.
-#[derive(PartialEq, Eq, Drop)]
+/// Reading refuses the first fault of the octets, in their order.
+#[derive(Clone, Copy, PartialEq, Eq)]
 pub struct CertificationRequest<'a> {
     fields: Fields<'a>,
 }
@@ -54,11 +48,11 @@ impl<'a> CertificationRequest<'a> {
 
     /// A value of these fields.
     pub fn new(
-        certification_request_info: CertificationRequestInfo<'a>,
+        certification_request_info: &CertificationRequestInfo<'a>,
         signature_algorithm: &AlgorithmIdentifier<'a>,
         signature: BitStringRef<'a>,
     ) -> CertificationRequest<'a>
-        ensures certification_request_info { certification_request_fields.certification_request_info result ≡ certification_request_info.entry }
+        ensures certification_request_info { certification_request_fields.certification_request_info result ≡ certification_request_info.now }
         ensures signature_algorithm { certification_request_fields.signature_algorithm result ≡ signature_algorithm.now }
         ensures signature { certification_request_fields.signature result ≡ signature.entry }
     {
@@ -66,38 +60,10 @@ impl<'a> CertificationRequest<'a> {
         let rest = Field { first, rest: End };
         let first = copy_of(signature_algorithm);
         let rest = Field { first, rest };
-        let first = certification_request_info;
+        let first = copy_of(certification_request_info);
         let list = Field { first, rest };
         let fields = Fields3 { list };
         CertificationRequest { fields }
-    }
-
-    /// The values of the fields, in their order.
-    pub fn into_parts(
-        self,
-    ) -> (
-        CertificationRequestInfo<'a>,
-        AlgorithmIdentifier<'a>,
-        BitStringRef<'a>,
-    )
-        ensures certification_request_info { certification_request_fields.certification_request_info self.entry ≡ result.0 }
-        ensures signature_algorithm { certification_request_fields.signature_algorithm self.entry ≡ result.1 }
-        ensures signature { certification_request_fields.signature self.entry ≡ result.2 }
-    {
-        let Fields3 { list } = self.fields;
-        let Field {
-            first: certification_request_info,
-            rest,
-        } = list;
-        let Field {
-            first: signature_algorithm,
-            rest,
-        } = rest;
-        let Field {
-            first: signature,
-            ..
-        } = rest;
-        (certification_request_info, signature_algorithm, signature)
     }
 
     /// `certificationRequestInfo`, `CertificationRequestInfo`.
@@ -148,9 +114,9 @@ impl<'a> FormValue for CertificationRequest<'a> {
 }
 
 impl<'a, R: Source<'a>> DecodeValue<'a, R> for CertificationRequest<'a> {
-    ghost TAKES_MEMORY = { true };
+    ghost TAKES_MEMORY = { false };
 
-    const TAKES_MEMORY: bool = true;
+    const TAKES_MEMORY: bool = false;
 
     fn decode_value(
         alloc: Global,
@@ -202,42 +168,7 @@ impl<'a> ContentsEq for CertificationRequest<'a> {
         no_equality))).equal v.fields.list w.fields.list };
 }
 
-impl<'a> CopyLaws for CertificationRequest<'a> {
-    ghost copies = { copies_of (held_copies (λ v. v.fields.list)
-        (listed_copies (member_copies ⟦<CertificationRequestInfo<'a> as Form>⟧
-        (tagged_starts ⟦<CertificationRequestInfo<'a> as Form>⟧ (one_tag ⟦<SequenceTag as TagMarker>⟧.TAG ⟦<CertificationRequestInfo<'a> as FormValue>⟧.value.contents))
-        (one_tag_copies ⟦<SequenceTag as TagMarker>⟧.TAG (record { octets_are = certification_request_info_duplicate_value.copy_contents-law; comparable_are = certification_request_info_duplicate_value.copy_comparable_value-law; re_reads_are = certification_request_info_duplicate_value.copy_re_reads_value-law; equal_are = certification_request_info_duplicate_value_is_equal.copy_value_is_equal-law }))
-        (member_copies ⟦<AlgorithmIdentifier<'a> as Form>⟧
-        (tagged_starts ⟦<AlgorithmIdentifier<'a> as Form>⟧ (one_tag ⟦<SequenceTag as TagMarker>⟧.TAG ⟦<AlgorithmIdentifier<'a> as FormValue>⟧.value.contents))
-        (one_tag_copies ⟦<SequenceTag as TagMarker>⟧.TAG (same_copies ⟦<AlgorithmIdentifier<'a> as FormValue>⟧.value.contents ⟦<AlgorithmIdentifier<'a> as FormValue>⟧.value.comparable ⟦<AlgorithmIdentifier<'a> as FormValue>⟧.value.re_reads ⟦<AlgorithmIdentifier<'a> as PartialEq>⟧.eq algorithm_identifier_eq.laws-law.refl))
-        (member_copies ⟦<BitStringRef<'a> as Form>⟧
-        (tagged_starts ⟦<BitStringRef<'a> as Form>⟧ (one_tag ⟦<BitStringTag as TagMarker>⟧.TAG ⟦<BitStringRef<'a> as FormValue>⟧.value.contents))
-        (one_tag_copies ⟦<BitStringTag as TagMarker>⟧.TAG (same_copies ⟦<BitStringRef<'a> as FormValue>⟧.value.contents ⟦<BitStringRef<'a> as FormValue>⟧.value.comparable ⟦<BitStringRef<'a> as FormValue>⟧.value.re_reads ⟦<BitStringRef<'a> as PartialEq>⟧.eq (λ v. (bitstringref_contents_eq.contents_eq-law v v tt).1 refl)))
-        no_copies))))) };
-}
-
-impl<'a> DuplicateValue for CertificationRequest<'a> {
-    ghost is_copy_value = { λ v w. ⟦<Fields<'a> as DuplicateFields>⟧.are_copies v.fields w.fields };
-
-    ghost takes_memory_to_copy_value = { ⟦<Fields<'a> as DuplicateFields>⟧.take_memory_to_copy };
-
-    fn duplicate_value(&self) -> Result<CertificationRequest<'a>, Error> {
-        match self.fields.duplicate_fields() {
-            Ok(fields) => Ok(CertificationRequest { fields }),
-            Err(e) => Err(e),
-        }
-    }
-
-    ghost copy_contents = { ⟦<CertificationRequest<'a> as CopyLaws>⟧.copies.laws.octets_are };
-
-    ghost copy_comparable_value = { ⟦<CertificationRequest<'a> as CopyLaws>⟧.copies.laws.comparable_are };
-
-    ghost copy_re_reads_value = { ⟦<CertificationRequest<'a> as CopyLaws>⟧.copies.laws.re_reads_are };
-}
-
-impl<'a> DuplicateValueIsEqual for CertificationRequest<'a> {
-    ghost copy_value_is_equal = { ⟦<CertificationRequest<'a> as CopyLaws>⟧.copies.laws.equal_are };
-}
+impl<'a> CopyIsDuplicate for CertificationRequest<'a> {}
 
 /// What is read as `CertificationRequest` is what the page of the grammar says.
 pub fn grammar_of_certification_request<'a>()

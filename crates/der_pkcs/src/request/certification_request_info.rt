@@ -2,35 +2,30 @@
 //!
 //! Made by tools/asn1 from request.asn1.
 
-ghost use Rattle.std.specs.Cmp.Lexicographic.{bytes_decides};
-ghost use Rattle.std.specs.Prelude.{◌∷◌, ◌≡◌, [], refl, true};
+ghost use Rattle.std.specs.Prelude.{◌∷◌, ◌≡◌, [], false, refl, true};
 ghost use Rattle.der_elem.specs.FormatMakers.{mapped_format};
 ghost use Rattle.der_elem.specs.contracts.integer.unsigned.U8ContentsEq.TheImpl.Laws as u8_contents_eq;
 ghost use Rattle.der_modules.specs.Asn1.{context, implicit_encoding, joined, parse_of};
-ghost use Rattle.der_modules.specs.MemberLaws.{copies_of, held_copies, listed_copies, member_copies, member_equality, no_copies, no_equality, one_tag, one_tag_copies, one_tag_equality, same_copies, tagged_starts};
+ghost use Rattle.der_modules.specs.MemberLaws.{member_equality, no_equality, one_tag, one_tag_equality, tagged_starts};
 ghost use Rattle.der_pkcs.specs.Request.CertificationRequestInfo as certification_request_info_fields;
 ghost use Rattle.der_pkcs.specs.Request.Grammar.{certification_request_info};
 ghost use Rattle.der_pkcs.specs.declared.request.certification_request_info.CertificationRequestInfo.{CertificationRequestInfo};
 ghost use Rattle.der_pkix.specs.contracts.certificate.subject_public_key_info.SubjectPublicKeyInfoContentsEq.TheImpl.Laws as subject_public_key_info_contents_eq;
-ghost use Rattle.der_pkix.specs.contracts.certificate.subject_public_key_info.SubjectPublicKeyInfoEq.TheImpl.Laws as subject_public_key_info_eq;
 ghost use Rattle.der_pkix.specs.contracts.key.attributes.AttributesContentsEq.TheImpl.Laws as attributes_contents_eq;
-ghost use Rattle.der_pkix.specs.contracts.key.attributes.AttributesDuplicateValue.TheImpl.Laws as attributes_duplicate_value;
-ghost use Rattle.der_pkix.specs.contracts.key.attributes.AttributesDuplicateValueIsEqual.TheImpl.Laws as attributes_duplicate_value_is_equal;
+ghost use Rattle.der_pkix.specs.contracts.name.rdn_sequence.RdnSequenceContentsEq.TheImpl.Laws as rdn_sequence_contents_eq;
 
 use crate::request::aliases::CertificationRequestInfoVersion;
 use der_elem::{
-    ContentsEq, DecodeValue, DuplicateValue, DuplicateValueIsEqual, EncodeValue, Form, FormValue,
-    IntegerTag, OneTag, Sequence, SequenceTag, SetTag, TagMarker, ValueOrd,
+    ContentsEq, CopyIsDuplicate, DecodeValue, EncodeValue, Form, FormValue, IntegerTag, OneTag,
+    Sequence, SequenceTag, SetTag, TagMarker, ValueOrd,
 };
 use der_fields::{
-    DecodeFields, DuplicateFields, EncodeFields, End, Field, FieldList, Fields4, FieldsOrd,
-    Implicit, ImplicitTag,
+    DecodeFields, EncodeFields, End, Field, FieldList, Fields4, FieldsOrd, Implicit, ImplicitTag,
 };
-use der_modules::{CopyLaws, copy_of};
-use der_nest::Kept;
+use der_modules::copy_of;
 use der_pkix::certificate::SubjectPublicKeyInfo;
 use der_pkix::key::Attributes;
-use der_pkix::name::Name;
+use der_pkix::name::{Name, RdnSequence};
 use der_tlv::{BackWriter, Error, Header, Length, Source, Writer};
 use std::alloc::Global;
 use std::cmp::Ordering;
@@ -39,7 +34,7 @@ use std::fmt;
 /// The list of the fields.
 type Fields<'a> = Fields4<
     CertificationRequestInfoVersion,
-    Kept<'a, Name<'a>>,
+    Name<'a>,
     SubjectPublicKeyInfo<'a>,
     Implicit<Attributes<'a>, 0>,
 >;
@@ -52,9 +47,8 @@ type Fields<'a> = Fields4<
 ///      attributes     [0] Attributes }
 /// ```
 ///
-/// Reading refuses the first fault of the octets, in their order; `ErrorKind::Memory` (1) where
-/// memory runs out.
-#[derive(PartialEq, Eq, Drop)]
+/// Reading refuses the first fault of the octets, in their order.
+#[derive(Clone, Copy, PartialEq, Eq)]
 pub struct CertificationRequestInfo<'a> {
     fields: Fields<'a>,
 }
@@ -65,16 +59,18 @@ impl<'a> CertificationRequestInfo<'a> {
     /// A value of these fields.
     pub fn new(
         version: CertificationRequestInfoVersion,
-        subject: &Kept<'a, Name<'a>>,
+        subject: &Name<'a>,
         subject_pk_info: &SubjectPublicKeyInfo<'a>,
-        attributes: Attributes<'a>,
+        attributes: &Attributes<'a>,
     ) -> CertificationRequestInfo<'a>
         ensures version { certification_request_info_fields.version result ≡ version }
         ensures subject { certification_request_info_fields.subject result ≡ subject.now }
         ensures subject_pk_info { certification_request_info_fields.subject_pk_info result ≡ subject_pk_info.now }
-        ensures attributes { certification_request_info_fields.attributes result ≡ attributes.entry }
+        ensures attributes { certification_request_info_fields.attributes result ≡ attributes.now }
     {
-        let first = Implicit { value: attributes };
+        let first = Implicit {
+            value: copy_of(attributes),
+        };
         let rest = Field { first, rest: End };
         let first = copy_of(subject_pk_info);
         let rest = Field { first, rest };
@@ -86,41 +82,6 @@ impl<'a> CertificationRequestInfo<'a> {
         CertificationRequestInfo { fields }
     }
 
-    /// The values of the fields, in their order.
-    pub fn into_parts(
-        self,
-    ) -> (
-        CertificationRequestInfoVersion,
-        Kept<'a, Name<'a>>,
-        SubjectPublicKeyInfo<'a>,
-        Attributes<'a>,
-    )
-        ensures version { certification_request_info_fields.version self.entry ≡ result.0 }
-        ensures subject { certification_request_info_fields.subject self.entry ≡ result.1 }
-        ensures subject_pk_info { certification_request_info_fields.subject_pk_info self.entry ≡ result.2 }
-        ensures attributes { certification_request_info_fields.attributes self.entry ≡ result.3 }
-    {
-        let Fields4 { list } = self.fields;
-        let Field {
-            first: version,
-            rest,
-        } = list;
-        let Field {
-            first: subject,
-            rest,
-        } = rest;
-        let Field {
-            first: subject_pk_info,
-            rest,
-        } = rest;
-        let Field {
-            first: attributes,
-            ..
-        } = rest;
-        let attributes = attributes.value;
-        (version, subject, subject_pk_info, attributes)
-    }
-
     /// `version`, `INTEGER { v1 (0) }`.
     pub fn version(&self) -> CertificationRequestInfoVersion
         ensures { result ≡ certification_request_info_fields.version self.now }
@@ -129,7 +90,7 @@ impl<'a> CertificationRequestInfo<'a> {
     }
 
     /// `subject`, `Name`.
-    pub fn subject(&self) -> &Kept<'a, Name<'a>>
+    pub fn subject(&self) -> &Name<'a>
         ensures { result.now ≡ certification_request_info_fields.subject self.now }
     {
         &self.fields.list.rest.first
@@ -174,9 +135,9 @@ impl<'a> FormValue for CertificationRequestInfo<'a> {
 }
 
 impl<'a, R: Source<'a>> DecodeValue<'a, R> for CertificationRequestInfo<'a> {
-    ghost TAKES_MEMORY = { true };
+    ghost TAKES_MEMORY = { false };
 
-    const TAKES_MEMORY: bool = true;
+    const TAKES_MEMORY: bool = false;
 
     fn decode_value(
         alloc: Global,
@@ -217,10 +178,10 @@ impl<'a> ContentsEq for CertificationRequestInfo<'a> {
         (tagged_starts ⟦<CertificationRequestInfoVersion as Form>⟧ (one_tag ⟦<IntegerTag as TagMarker>⟧.TAG ⟦<u8 as FormValue>⟧.value.contents))
         ⟦<CertificationRequestInfoVersion as PartialEq>⟧.eq
         (one_tag_equality ⟦<IntegerTag as TagMarker>⟧.TAG ⟦<u8 as FormValue>⟧.value.contents ⟦<u8 as FormValue>⟧.value.comparable ⟦<u8 as PartialEq>⟧.eq u8_contents_eq.contents_eq-law)
-        (member_equality ⟦<Kept<'a, Name<'a>> as Form>⟧
-        (tagged_starts ⟦<Kept<'a, Name<'a>> as Form>⟧ (one_tag ⟦<SequenceTag as TagMarker>⟧.TAG ⟦<Kept<'a, Name<'a>> as FormValue>⟧.value.contents))
-        ⟦<Kept<'a, Name<'a>> as PartialEq>⟧.eq
-        (one_tag_equality ⟦<SequenceTag as TagMarker>⟧.TAG ⟦<Kept<'a, Name<'a>> as FormValue>⟧.value.contents ⟦<Kept<'a, Name<'a>> as FormValue>⟧.value.comparable ⟦<Kept<'a, Name<'a>> as PartialEq>⟧.eq (λ v w. (λ one. bytes_decides v.octets.octets.now w.octets.octets.now)))
+        (member_equality ⟦<Name<'a> as Form>⟧
+        (tagged_starts ⟦<Name<'a> as Form>⟧ (one_tag ⟦<SequenceTag as TagMarker>⟧.TAG ⟦<RdnSequence<'a> as FormValue>⟧.value.contents))
+        ⟦<Name<'a> as PartialEq>⟧.eq
+        (one_tag_equality ⟦<SequenceTag as TagMarker>⟧.TAG ⟦<RdnSequence<'a> as FormValue>⟧.value.contents ⟦<RdnSequence<'a> as FormValue>⟧.value.comparable ⟦<RdnSequence<'a> as PartialEq>⟧.eq rdn_sequence_contents_eq.contents_eq-law)
         (member_equality ⟦<SubjectPublicKeyInfo<'a> as Form>⟧
         (tagged_starts ⟦<SubjectPublicKeyInfo<'a> as Form>⟧ (one_tag ⟦<SequenceTag as TagMarker>⟧.TAG ⟦<SubjectPublicKeyInfo<'a> as FormValue>⟧.value.contents))
         ⟦<SubjectPublicKeyInfo<'a> as PartialEq>⟧.eq
@@ -232,45 +193,7 @@ impl<'a> ContentsEq for CertificationRequestInfo<'a> {
         no_equality)))).equal v.fields.list w.fields.list };
 }
 
-impl<'a> CopyLaws for CertificationRequestInfo<'a> {
-    ghost copies = { copies_of (held_copies (λ v. v.fields.list)
-        (listed_copies (member_copies ⟦<CertificationRequestInfoVersion as Form>⟧
-        (tagged_starts ⟦<CertificationRequestInfoVersion as Form>⟧ (one_tag ⟦<IntegerTag as TagMarker>⟧.TAG ⟦<u8 as FormValue>⟧.value.contents))
-        (one_tag_copies ⟦<IntegerTag as TagMarker>⟧.TAG (same_copies ⟦<u8 as FormValue>⟧.value.contents ⟦<u8 as FormValue>⟧.value.comparable ⟦<u8 as FormValue>⟧.value.re_reads ⟦<u8 as PartialEq>⟧.eq (λ v. (u8_contents_eq.contents_eq-law v v tt).1 refl)))
-        (member_copies ⟦<Kept<'a, Name<'a>> as Form>⟧
-        (tagged_starts ⟦<Kept<'a, Name<'a>> as Form>⟧ (one_tag ⟦<SequenceTag as TagMarker>⟧.TAG ⟦<Kept<'a, Name<'a>> as FormValue>⟧.value.contents))
-        (one_tag_copies ⟦<SequenceTag as TagMarker>⟧.TAG (same_copies ⟦<Kept<'a, Name<'a>> as FormValue>⟧.value.contents ⟦<Kept<'a, Name<'a>> as FormValue>⟧.value.comparable ⟦<Kept<'a, Name<'a>> as FormValue>⟧.value.re_reads ⟦<Kept<'a, Name<'a>> as PartialEq>⟧.eq (λ v. (bytes_decides v.octets.octets.now v.octets.octets.now).1 refl)))
-        (member_copies ⟦<SubjectPublicKeyInfo<'a> as Form>⟧
-        (tagged_starts ⟦<SubjectPublicKeyInfo<'a> as Form>⟧ (one_tag ⟦<SequenceTag as TagMarker>⟧.TAG ⟦<SubjectPublicKeyInfo<'a> as FormValue>⟧.value.contents))
-        (one_tag_copies ⟦<SequenceTag as TagMarker>⟧.TAG (same_copies ⟦<SubjectPublicKeyInfo<'a> as FormValue>⟧.value.contents ⟦<SubjectPublicKeyInfo<'a> as FormValue>⟧.value.comparable ⟦<SubjectPublicKeyInfo<'a> as FormValue>⟧.value.re_reads ⟦<SubjectPublicKeyInfo<'a> as PartialEq>⟧.eq subject_public_key_info_eq.laws-law.refl))
-        (member_copies ⟦<Implicit<Attributes<'a>, 0> as Form>⟧
-        (tagged_starts ⟦<Implicit<Attributes<'a>, 0> as Form>⟧ (one_tag ⟦<ImplicitTag<SetTag, 0> as TagMarker>⟧.TAG ⟦<Implicit<Attributes<'a>, 0> as FormValue>⟧.value.contents))
-        (one_tag_copies ⟦<ImplicitTag<SetTag, 0> as TagMarker>⟧.TAG (held_copies (λ x. x.value) (record { octets_are = attributes_duplicate_value.copy_contents-law; comparable_are = attributes_duplicate_value.copy_comparable_value-law; re_reads_are = attributes_duplicate_value.copy_re_reads_value-law; equal_are = attributes_duplicate_value_is_equal.copy_value_is_equal-law })))
-        no_copies)))))) };
-}
-
-impl<'a> DuplicateValue for CertificationRequestInfo<'a> {
-    ghost is_copy_value = { λ v w. ⟦<Fields<'a> as DuplicateFields>⟧.are_copies v.fields w.fields };
-
-    ghost takes_memory_to_copy_value = { ⟦<Fields<'a> as DuplicateFields>⟧.take_memory_to_copy };
-
-    fn duplicate_value(&self) -> Result<CertificationRequestInfo<'a>, Error> {
-        match self.fields.duplicate_fields() {
-            Ok(fields) => Ok(CertificationRequestInfo { fields }),
-            Err(e) => Err(e),
-        }
-    }
-
-    ghost copy_contents = { ⟦<CertificationRequestInfo<'a> as CopyLaws>⟧.copies.laws.octets_are };
-
-    ghost copy_comparable_value = { ⟦<CertificationRequestInfo<'a> as CopyLaws>⟧.copies.laws.comparable_are };
-
-    ghost copy_re_reads_value = { ⟦<CertificationRequestInfo<'a> as CopyLaws>⟧.copies.laws.re_reads_are };
-}
-
-impl<'a> DuplicateValueIsEqual for CertificationRequestInfo<'a> {
-    ghost copy_value_is_equal = { ⟦<CertificationRequestInfo<'a> as CopyLaws>⟧.copies.laws.equal_are };
-}
+impl<'a> CopyIsDuplicate for CertificationRequestInfo<'a> {}
 
 /// What is read as `CertificationRequestInfo` is what the page of the grammar says.
 pub fn grammar_of_certification_request_info<'a>()
@@ -282,7 +205,7 @@ pub fn grammar_of_certification_request_info<'a>()
 pub fn octets_of_certification_request_info<'a>()
     ensures { (v : CertificationRequestInfo) → ⟦<CertificationRequestInfo<'a> as FormValue>⟧.value.contents v ≡ joined (
         (⟦<CertificationRequestInfoVersion as Form>⟧.encoding (certification_request_info_fields.version v))
-        ∷ (⟦<Kept<'a, Name<'a>> as Form>⟧.encoding (certification_request_info_fields.subject v))
+        ∷ (⟦<Name<'a> as Form>⟧.encoding (certification_request_info_fields.subject v))
         ∷ (⟦<SubjectPublicKeyInfo<'a> as Form>⟧.encoding (certification_request_info_fields.subject_pk_info v))
         ∷ (implicit_encoding context true 0 (⟦<Attributes<'a> as FormValue>⟧.value.contents (certification_request_info_fields.attributes v)))
         ∷ []) }

@@ -96,11 +96,27 @@ fn file_told(alloc: Global, octets: &[u8]) -> Result<(u8, Option<(usize, Option<
 }
 
 // How many bags stand in the value of a bag, if that is contents of bags itself.
-fn bags_within(alloc: Global, bag: &SafeBag) -> usize {
+fn bags_within(alloc: Global, bag: &SafeBag<'_>) -> usize {
     let value = *bag.bag_value();
     match value.decode_as::<SafeContents>(alloc) {
-        Ok(contents) => contents.as_slice().len(),
+        Ok(contents) => count_of(alloc, &contents),
         Err(_) => 0,
+    }
+}
+
+// How many bags there are.
+fn count_of(alloc: Global, contents: &SafeContents<'_>) -> usize {
+    match contents.items().count(alloc) {
+        Ok(count) => count,
+        Err(_) => 0,
+    }
+}
+
+// Of the first bag, whether it has attributes, and how many bags stand in it.
+fn first_told(alloc: Global, contents: &SafeContents<'_>) -> (bool, usize) {
+    match contents.items().get(alloc, 0) {
+        Some(Ok(bag)) => (bag.bag_attributes().is_some(), bags_within(alloc, &bag)),
+        _ => (false, 0),
     }
 }
 
@@ -108,12 +124,8 @@ fn bags_within(alloc: Global, bag: &SafeBag) -> usize {
 fn bags_told(alloc: Global, octets: &[u8]) -> Result<(usize, bool, usize), u8> {
     match SafeContents::from_der(alloc, octets) {
         Ok(contents) => {
-            let bags = contents.as_slice();
-            let (has_attributes, within) = match bags.first() {
-                Some(bag) => (bag.bag_attributes().is_some(), bags_within(alloc, bag)),
-                None => (false, 0),
-            };
-            Ok((bags.len(), has_attributes, within))
+            let (has_attributes, within) = first_told(alloc, &contents);
+            Ok((count_of(alloc, &contents), has_attributes, within))
         }
         Err(e) => Err(e.kind().number()),
     }

@@ -6,7 +6,8 @@ use Rattle.der_elem.specs.Boolean.{boolean_contents, parse_boolean}
 use Rattle.der_elem.specs.Integer.{natural_contents}
 use Rattle.der_elem.specs.IntegerReading.{parse_unsigned}
 use Rattle.der_fields.specs.MarkerTags.{marker_tag}
-use Rattle.der_modules.specs.Asn1.{CHOICE, DEFAULT, EXPLICIT, Grammar, IMPLICIT, KEPT, NOT_EMPTY, OPTIONAL, SEQUENCE, SEQUENCE_OF, any_of, context, end, field, one}
+use Rattle.der_lists.specs.Asn1.{SEQUENCE_OF}
+use Rattle.der_modules.specs.Asn1.{CHOICE, DEFAULT, EXPLICIT, Grammar, IMPLICIT, NOT_EMPTY, OPTIONAL, SEQUENCE, any_of, context, end, field, one}
 use Rattle.der_numbers.specs.AnyLength.{parse_integer}
 use Rattle.der_opaque.specs.AnyForm.{parse_any}
 use Rattle.der_opaque.specs.ObjectIdentifierOctets.{parse_identifier}
@@ -133,9 +134,9 @@ tbs_certificate =
     (DEFAULT (tlv (marker_tag context true 0) (tlv tags.Integer (natural_contents 0))) (EXPLICIT context 0 version)
     (field certificate_serial_number
     (field algorithm_identifier
-    (field (KEPT name)
+    (field name
     (field validity
-    (field (KEPT name)
+    (field name
     (field subject_public_key_info
     (OPTIONAL (IMPLICIT context 1 unique_identifier)
     (OPTIONAL (IMPLICIT context 2 unique_identifier)

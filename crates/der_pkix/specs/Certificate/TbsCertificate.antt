@@ -2,7 +2,6 @@
 -- Made by tools/asn1 from certificate.asn1.
 use Rattle.std.specs.Prelude.{Option, option_map, ℕ}
 use Rattle.der_bits.specs.declared.bit_string_ref.BitStringRef.{BitStringRef}
-use Rattle.der_nest.specs.declared.kept.Kept.{Kept}
 use Rattle.der_numbers.specs.declared.int_ref.IntRef.{IntRef}
 use Rattle.der_pkix.specs.declared.algorithm_identifier.AlgorithmIdentifier.{AlgorithmIdentifier}
 use Rattle.der_pkix.specs.declared.certificate.extensions.Extensions.{Extensions}
@@ -24,7 +23,7 @@ abbrev pub signature : TbsCertificate → AlgorithmIdentifier
 signature v = v.fields.list.rest.rest.first
 
 -- issuer Name
-abbrev pub issuer : TbsCertificate → Kept RdnSequence
+abbrev pub issuer : TbsCertificate → RdnSequence
 issuer v = v.fields.list.rest.rest.rest.first
 
 -- validity Validity
@@ -32,7 +31,7 @@ abbrev pub validity : TbsCertificate → Validity
 validity v = v.fields.list.rest.rest.rest.rest.first
 
 -- subject Name
-abbrev pub subject : TbsCertificate → Kept RdnSequence
+abbrev pub subject : TbsCertificate → RdnSequence
 subject v = v.fields.list.rest.rest.rest.rest.rest.first
 
 -- subjectPublicKeyInfo SubjectPublicKeyInfo
@@ -49,4 +48,4 @@ subject_unique_id v = option_map (λ x. x.value) v.fields.list.rest.rest.rest.re
 
 -- extensions [3] Extensions OPTIONAL
 abbrev pub extensions : TbsCertificate → Option Extensions
-extensions v = option_map (λ x. x.fields.list.first) v.fields.list.rest.rest.rest.rest.rest.rest.rest.rest.list.rest.first
+extensions v = option_map (λ x. x.fields.first) v.fields.list.rest.rest.rest.rest.rest.rest.rest.rest.list.rest.first

@@ -1,7 +1,8 @@
 -- The grammar of PkixRevocation, in the words of ASN.1.
 -- Made by tools/asn1 from crl.asn1.
 use Rattle.der_bits.specs.BitString.{parse_bit_string}
-use Rattle.der_modules.specs.Asn1.{EXPLICIT, Grammar, KEPT, OPTIONAL, SEQUENCE, SEQUENCE_OF, context, end, field, one}
+use Rattle.der_lists.specs.Asn1.{SEQUENCE_OF}
+use Rattle.der_modules.specs.Asn1.{EXPLICIT, Grammar, OPTIONAL, SEQUENCE, context, end, field, one}
 use Rattle.der_pkix.specs.Certificate.Grammar.{algorithm_identifier, certificate_serial_number, extensions, time, version}
 use Rattle.der_pkix.specs.Name.Grammar.{name}
 use Rattle.der_tlv.specs.declared.tag.Tag.TheVariants as tags
@@ -37,7 +38,7 @@ tbs_cert_list =
     SEQUENCE
     (OPTIONAL version
     (field algorithm_identifier
-    (field (KEPT name)
+    (field name
     (field time
     (OPTIONAL time
     (OPTIONAL (SEQUENCE_OF revoked_certificate)

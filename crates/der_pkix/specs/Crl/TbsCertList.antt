@@ -1,8 +1,7 @@
 -- The fields of TBSCertList, by their names.
 -- Made by tools/asn1 from crl.asn1.
-use Rattle.std.specs.Prelude.{Option, Vec, option_map, ℕ}
-use Rattle.std.specs.declared.alloc.Global.{Global}
-use Rattle.der_nest.specs.declared.kept.Kept.{Kept}
+use Rattle.std.specs.Prelude.{Option, option_map, ℕ}
+use Rattle.der_lists.specs.declared.list_ref.ListRef.{ListRef}
 use Rattle.der_pkix.specs.declared.algorithm_identifier.AlgorithmIdentifier.{AlgorithmIdentifier}
 use Rattle.der_pkix.specs.declared.certificate.extensions.Extensions.{Extensions}
 use Rattle.der_pkix.specs.declared.certificate.time.Time.{Time}
@@ -19,7 +18,7 @@ abbrev pub signature : TbsCertList → AlgorithmIdentifier
 signature v = v.fields.list.rest.first
 
 -- issuer Name
-abbrev pub issuer : TbsCertList → Kept RdnSequence
+abbrev pub issuer : TbsCertList → RdnSequence
 issuer v = v.fields.list.rest.rest.first
 
 -- thisUpdate Time
@@ -31,9 +30,9 @@ abbrev pub next_update : TbsCertList → Option Time
 next_update v = v.fields.list.rest.rest.rest.rest.first
 
 -- revokedCertificates SEQUENCE OF SEQUENCE { userCertificate CertificateSerialNumber, revocationDate Time, crlEntryExtensions Extensions OPTIONAL } OPTIONAL
-abbrev pub revoked_certificates : TbsCertList → Option (Vec RevokedCertificate Global)
+abbrev pub revoked_certificates : TbsCertList → Option (ListRef RevokedCertificate)
 revoked_certificates v = v.fields.list.rest.rest.rest.rest.rest.first
 
 -- crlExtensions [0] Extensions OPTIONAL
 abbrev pub crl_extensions : TbsCertList → Option Extensions
-crl_extensions v = option_map (λ x. x.fields.list.first) v.fields.list.rest.rest.rest.rest.rest.rest.first
+crl_extensions v = option_map (λ x. x.fields.first) v.fields.list.rest.rest.rest.rest.rest.rest.first

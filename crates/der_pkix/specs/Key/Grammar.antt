@@ -4,7 +4,8 @@ use Rattle.std.specs.Prelude.{true}
 use Rattle.der_bits.specs.BitString.{parse_bit_string}
 use Rattle.der_elem.specs.IntegerReading.{parse_unsigned}
 use Rattle.der_elem.specs.Null.{parse_null}
-use Rattle.der_modules.specs.Asn1.{CHOICE, EXPLICIT, Grammar, IMPLICIT, NOT_EMPTY, OPTIONAL, SEQUENCE, SEQUENCE_OF, SET_OF, any_of, context, end, field, one}
+use Rattle.der_lists.specs.Asn1.{SEQUENCE_OF, SET_OF_ANY_ORDER}
+use Rattle.der_modules.specs.Asn1.{CHOICE, EXPLICIT, Grammar, IMPLICIT, NOT_EMPTY, OPTIONAL, SEQUENCE, any_of, context, end, field, one}
 use Rattle.der_numbers.specs.AnyLength.{parse_integer, parse_natural}
 use Rattle.der_opaque.specs.AnyForm.{parse_any}
 use Rattle.der_opaque.specs.ObjectIdentifierOctets.{parse_identifier}
@@ -45,7 +46,7 @@ one_asymmetric_key_version =
 -- Attributes ::= SET OF Attribute
 abbrev pub attributes : Grammar
 attributes =
-    SET_OF attribute
+    SET_OF_ANY_ORDER attribute
 
 -- OneAsymmetricKey ::= SEQUENCE {
 --      version              INTEGER { v1(0), v2(1) },

@@ -1,7 +1,8 @@
 -- The grammar of PkixNames, in the words of ASN.1.
 -- Made by tools/asn1 from name.asn1.
 use Rattle.std.specs.Prelude.{true}
-use Rattle.der_modules.specs.Asn1.{CHOICE_OF_ONE, Grammar, NOT_EMPTY, SEQUENCE, SEQUENCE_OF, SET_OF, any_of, end, field, one}
+use Rattle.der_lists.specs.Asn1.{SEQUENCE_OF, SET_OF, SET_OF_ANY_ORDER}
+use Rattle.der_modules.specs.Asn1.{CHOICE_OF_ONE, Grammar, NOT_EMPTY, SEQUENCE, any_of, end, field, one}
 use Rattle.der_opaque.specs.AnyForm.{parse_any}
 use Rattle.der_opaque.specs.ObjectIdentifierOctets.{parse_identifier}
 use Rattle.der_tlv.specs.declared.tag.Tag.TheVariants as tags
@@ -24,12 +25,13 @@ attribute_value =
 
 -- Attribute ::= SEQUENCE {
 --      type    AttributeType,
---      values  SET OF AttributeValue }
+--      values  SET OF AttributeValue
+-- }
 abbrev pub attribute : Grammar
 attribute =
     SEQUENCE
     (field attribute_type
-    (field (SET_OF attribute_value)
+    (field (SET_OF_ANY_ORDER attribute_value)
     end))
 
 -- AttributeTypeAndValue ::= SEQUENCE {

@@ -2,13 +2,12 @@
 //!
 //! Made by tools/asn1 from certificate.asn1.
 
-ghost use Rattle.std.specs.Prelude.{◌≡◌, refl};
+ghost use Rattle.std.specs.Prelude.{◌≡◌};
 ghost use Rattle.der_modules.specs.Asn1.{parse_of};
 ghost use Rattle.der_pkix.specs.Certificate.Grammar.{algorithm_identifier, certificate_serial_number, unique_identifier, version};
 
 use der_bits::BitStringRef;
 use der_elem::Form;
-use der_nest::{ItemOrder, OrdersByEncoding};
 use der_numbers::IntRef;
 
 /// ```text
@@ -53,17 +52,6 @@ pub fn grammar_of_unique_identifier<'a>()
 {}
 
 pub use crate::AlgorithmIdentifier;
-
-/// The order of a SET OF `AlgorithmIdentifier<'a>`: that of the encodings (X.690 11.6).
-pub struct AlgorithmIdentifierOrder;
-
-impl<'a> ItemOrder<AlgorithmIdentifier<'a>> for AlgorithmIdentifierOrder {
-    ghost item_encoding = { ⟦<AlgorithmIdentifier<'a> as Form>⟧.encoding };
-}
-
-impl<'a> OrdersByEncoding<AlgorithmIdentifier<'a>> for AlgorithmIdentifierOrder {
-    ghost is_encoding = { refl };
-}
 
 /// What is read as `AlgorithmIdentifier` is what the page of the grammar says.
 pub fn grammar_of_algorithm_identifier<'a>()

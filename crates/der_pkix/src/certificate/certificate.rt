@@ -2,31 +2,26 @@
 //!
 //! Made by tools/asn1 from certificate.asn1.
 
-ghost use Rattle.std.specs.Prelude.{◌∷◌, ◌≡◌, [], refl, true};
+ghost use Rattle.std.specs.Prelude.{◌∷◌, ◌≡◌, [], false, refl};
 ghost use Rattle.der_bits.specs.contracts.bit_string_ref.BitStringRefContentsEq.TheImpl.Laws as bitstringref_contents_eq;
 ghost use Rattle.der_elem.specs.FormatMakers.{mapped_format};
 ghost use Rattle.der_modules.specs.Asn1.{joined, parse_of};
-ghost use Rattle.der_modules.specs.MemberLaws.{copies_of, held_copies, listed_copies, member_copies, member_equality, no_copies, no_equality, one_tag, one_tag_copies, one_tag_equality, same_copies, tagged_starts};
+ghost use Rattle.der_modules.specs.MemberLaws.{member_equality, no_equality, one_tag, one_tag_equality, tagged_starts};
 ghost use Rattle.der_pkix.specs.Certificate.Certificate as certificate_fields;
 ghost use Rattle.der_pkix.specs.Certificate.Grammar.{certificate};
 ghost use Rattle.der_pkix.specs.contracts.algorithm_identifier.AlgorithmIdentifierContentsEq.TheImpl.Laws as algorithm_identifier_contents_eq;
-ghost use Rattle.der_pkix.specs.contracts.algorithm_identifier.AlgorithmIdentifierEq.TheImpl.Laws as algorithm_identifier_eq;
 ghost use Rattle.der_pkix.specs.contracts.certificate.tbs_certificate.TbsCertificateContentsEq.TheImpl.Laws as tbs_certificate_contents_eq;
-ghost use Rattle.der_pkix.specs.contracts.certificate.tbs_certificate.TbsCertificateDuplicateValue.TheImpl.Laws as tbs_certificate_duplicate_value;
-ghost use Rattle.der_pkix.specs.contracts.certificate.tbs_certificate.TbsCertificateDuplicateValueIsEqual.TheImpl.Laws as tbs_certificate_duplicate_value_is_equal;
 ghost use Rattle.der_pkix.specs.declared.certificate.certificate.Certificate.{Certificate};
 
 use crate::AlgorithmIdentifier;
 use crate::certificate::tbs_certificate::TbsCertificate;
 use der_bits::BitStringRef;
 use der_elem::{
-    BitStringTag, ContentsEq, DecodeValue, DuplicateValue, DuplicateValueIsEqual, EncodeValue,
-    Form, FormValue, OneTag, Sequence, SequenceTag, TagMarker, ValueOrd,
+    BitStringTag, ContentsEq, CopyIsDuplicate, DecodeValue, EncodeValue, Form, FormValue, OneTag,
+    Sequence, SequenceTag, TagMarker, ValueOrd,
 };
-use der_fields::{
-    DecodeFields, DuplicateFields, EncodeFields, End, Field, FieldList, Fields3, FieldsOrd,
-};
-use der_modules::{CopyLaws, copy_of};
+use der_fields::{DecodeFields, EncodeFields, End, Field, FieldList, Fields3, FieldsOrd};
+use der_modules::copy_of;
 use der_tlv::{BackWriter, Error, Header, Length, Source, Writer};
 use std::alloc::Global;
 use std::cmp::Ordering;
@@ -42,9 +37,8 @@ type Fields<'a> = Fields3<TbsCertificate<'a>, AlgorithmIdentifier<'a>, BitString
 ///      signatureValue      BIT STRING }
 /// ```
 ///
-/// Reading refuses the first fault of the octets, in their order; `ErrorKind::Memory` (1) where
-/// memory runs out.
-#[derive(PartialEq, Eq, Drop)]
+/// Reading refuses the first fault of the octets, in their order.
+#[derive(Clone, Copy, PartialEq, Eq)]
 pub struct Certificate<'a> {
     fields: Fields<'a>,
 }
@@ -54,11 +48,11 @@ impl<'a> Certificate<'a> {
 
     /// A value of these fields.
     pub fn new(
-        tbs_certificate: TbsCertificate<'a>,
+        tbs_certificate: &TbsCertificate<'a>,
         signature_algorithm: &AlgorithmIdentifier<'a>,
         signature_value: BitStringRef<'a>,
     ) -> Certificate<'a>
-        ensures tbs_certificate { certificate_fields.tbs_certificate result ≡ tbs_certificate.entry }
+        ensures tbs_certificate { certificate_fields.tbs_certificate result ≡ tbs_certificate.now }
         ensures signature_algorithm { certificate_fields.signature_algorithm result ≡ signature_algorithm.now }
         ensures signature_value { certificate_fields.signature_value result ≡ signature_value.entry }
     {
@@ -66,38 +60,10 @@ impl<'a> Certificate<'a> {
         let rest = Field { first, rest: End };
         let first = copy_of(signature_algorithm);
         let rest = Field { first, rest };
-        let first = tbs_certificate;
+        let first = copy_of(tbs_certificate);
         let list = Field { first, rest };
         let fields = Fields3 { list };
         Certificate { fields }
-    }
-
-    /// The values of the fields, in their order.
-    pub fn into_parts(
-        self,
-    ) -> (
-        TbsCertificate<'a>,
-        AlgorithmIdentifier<'a>,
-        BitStringRef<'a>,
-    )
-        ensures tbs_certificate { certificate_fields.tbs_certificate self.entry ≡ result.0 }
-        ensures signature_algorithm { certificate_fields.signature_algorithm self.entry ≡ result.1 }
-        ensures signature_value { certificate_fields.signature_value self.entry ≡ result.2 }
-    {
-        let Fields3 { list } = self.fields;
-        let Field {
-            first: tbs_certificate,
-            rest,
-        } = list;
-        let Field {
-            first: signature_algorithm,
-            rest,
-        } = rest;
-        let Field {
-            first: signature_value,
-            ..
-        } = rest;
-        (tbs_certificate, signature_algorithm, signature_value)
     }
 
     /// `tbsCertificate`, `TBSCertificate`.
@@ -145,9 +111,9 @@ impl<'a> FormValue for Certificate<'a> {
 }
 
 impl<'a, R: Source<'a>> DecodeValue<'a, R> for Certificate<'a> {
-    ghost TAKES_MEMORY = { true };
+    ghost TAKES_MEMORY = { false };
 
-    const TAKES_MEMORY: bool = true;
+    const TAKES_MEMORY: bool = false;
 
     fn decode_value(
         alloc: Global,
@@ -199,42 +165,7 @@ impl<'a> ContentsEq for Certificate<'a> {
         no_equality))).equal v.fields.list w.fields.list };
 }
 
-impl<'a> CopyLaws for Certificate<'a> {
-    ghost copies = { copies_of (held_copies (λ v. v.fields.list)
-        (listed_copies (member_copies ⟦<TbsCertificate<'a> as Form>⟧
-        (tagged_starts ⟦<TbsCertificate<'a> as Form>⟧ (one_tag ⟦<SequenceTag as TagMarker>⟧.TAG ⟦<TbsCertificate<'a> as FormValue>⟧.value.contents))
-        (one_tag_copies ⟦<SequenceTag as TagMarker>⟧.TAG (record { octets_are = tbs_certificate_duplicate_value.copy_contents-law; comparable_are = tbs_certificate_duplicate_value.copy_comparable_value-law; re_reads_are = tbs_certificate_duplicate_value.copy_re_reads_value-law; equal_are = tbs_certificate_duplicate_value_is_equal.copy_value_is_equal-law }))
-        (member_copies ⟦<AlgorithmIdentifier<'a> as Form>⟧
-        (tagged_starts ⟦<AlgorithmIdentifier<'a> as Form>⟧ (one_tag ⟦<SequenceTag as TagMarker>⟧.TAG ⟦<AlgorithmIdentifier<'a> as FormValue>⟧.value.contents))
-        (one_tag_copies ⟦<SequenceTag as TagMarker>⟧.TAG (same_copies ⟦<AlgorithmIdentifier<'a> as FormValue>⟧.value.contents ⟦<AlgorithmIdentifier<'a> as FormValue>⟧.value.comparable ⟦<AlgorithmIdentifier<'a> as FormValue>⟧.value.re_reads ⟦<AlgorithmIdentifier<'a> as PartialEq>⟧.eq algorithm_identifier_eq.laws-law.refl))
-        (member_copies ⟦<BitStringRef<'a> as Form>⟧
-        (tagged_starts ⟦<BitStringRef<'a> as Form>⟧ (one_tag ⟦<BitStringTag as TagMarker>⟧.TAG ⟦<BitStringRef<'a> as FormValue>⟧.value.contents))
-        (one_tag_copies ⟦<BitStringTag as TagMarker>⟧.TAG (same_copies ⟦<BitStringRef<'a> as FormValue>⟧.value.contents ⟦<BitStringRef<'a> as FormValue>⟧.value.comparable ⟦<BitStringRef<'a> as FormValue>⟧.value.re_reads ⟦<BitStringRef<'a> as PartialEq>⟧.eq (λ v. (bitstringref_contents_eq.contents_eq-law v v tt).1 refl)))
-        no_copies))))) };
-}
-
-impl<'a> DuplicateValue for Certificate<'a> {
-    ghost is_copy_value = { λ v w. ⟦<Fields<'a> as DuplicateFields>⟧.are_copies v.fields w.fields };
-
-    ghost takes_memory_to_copy_value = { ⟦<Fields<'a> as DuplicateFields>⟧.take_memory_to_copy };
-
-    fn duplicate_value(&self) -> Result<Certificate<'a>, Error> {
-        match self.fields.duplicate_fields() {
-            Ok(fields) => Ok(Certificate { fields }),
-            Err(e) => Err(e),
-        }
-    }
-
-    ghost copy_contents = { ⟦<Certificate<'a> as CopyLaws>⟧.copies.laws.octets_are };
-
-    ghost copy_comparable_value = { ⟦<Certificate<'a> as CopyLaws>⟧.copies.laws.comparable_are };
-
-    ghost copy_re_reads_value = { ⟦<Certificate<'a> as CopyLaws>⟧.copies.laws.re_reads_are };
-}
-
-impl<'a> DuplicateValueIsEqual for Certificate<'a> {
-    ghost copy_value_is_equal = { ⟦<Certificate<'a> as CopyLaws>⟧.copies.laws.equal_are };
-}
+impl<'a> CopyIsDuplicate for Certificate<'a> {}
 
 /// What is read as `Certificate` is what the page of the grammar says.
 pub fn grammar_of_certificate<'a>()

@@ -2,46 +2,37 @@
 //!
 //! Made by tools/asn1 from certificate.asn1.
 
-ghost use Rattle.std.specs.Cmp.Lexicographic.{bytes_decides};
-ghost use Rattle.std.specs.Prelude.{◌∷◌, ◌≡◌, [], false, refl, true};
+ghost use Rattle.std.specs.Prelude.{◌∷◌, ◌≡◌, [], false, refl};
 ghost use Rattle.der_bits.specs.contracts.bit_string_ref.BitStringRefContentsEq.TheImpl.Laws as bitstringref_contents_eq;
 ghost use Rattle.der_elem.specs.FormatMakers.{mapped_format};
 ghost use Rattle.der_elem.specs.contracts.integer.unsigned.U8ContentsEq.TheImpl.Laws as u8_contents_eq;
 ghost use Rattle.der_modules.specs.Asn1.{context, explicit_encoding, implicit_encoding, joined, optional, parse_of, unless_default};
-ghost use Rattle.der_modules.specs.MemberLaws.{copies_of, default_copies, default_equality, default_starts, held_copies, listed_copies, member_copies, member_equality, no_copies, no_equality, one_tag, one_tag_copies, one_tag_equality, optional_copies, optional_equality, optional_starts, part_copies, part_equality, same_copies, tagged_starts};
+ghost use Rattle.der_modules.specs.MemberLaws.{default_equality, default_starts, member_equality, no_equality, one_tag, one_tag_equality, optional_equality, optional_starts, part_equality, tagged_starts};
 ghost use Rattle.der_numbers.specs.contracts.int_ref.IntRefContentsEq.TheImpl.Laws as intref_contents_eq;
 ghost use Rattle.der_pkix.specs.Certificate.Grammar.{tbs_certificate};
 ghost use Rattle.der_pkix.specs.Certificate.TbsCertificate as tbs_certificate_fields;
 ghost use Rattle.der_pkix.specs.contracts.algorithm_identifier.AlgorithmIdentifierContentsEq.TheImpl.Laws as algorithm_identifier_contents_eq;
-ghost use Rattle.der_pkix.specs.contracts.algorithm_identifier.AlgorithmIdentifierEq.TheImpl.Laws as algorithm_identifier_eq;
-ghost use Rattle.der_pkix.specs.contracts.certificate.explicit3_extensions.Explicit3ExtensionsContentsEq.TheImpl.Laws as explicit3_extensions_contents_eq;
-ghost use Rattle.der_pkix.specs.contracts.certificate.explicit3_extensions.Explicit3ExtensionsDuplicateValue.TheImpl.Laws as explicit3_extensions_duplicate_value;
-ghost use Rattle.der_pkix.specs.contracts.certificate.explicit3_extensions.Explicit3ExtensionsDuplicateValueIsEqual.TheImpl.Laws as explicit3_extensions_duplicate_value_is_equal;
+ghost use Rattle.der_pkix.specs.contracts.certificate.extensions.ExtensionsContentsEq.TheImpl.Laws as extensions_contents_eq;
 ghost use Rattle.der_pkix.specs.contracts.certificate.subject_public_key_info.SubjectPublicKeyInfoContentsEq.TheImpl.Laws as subject_public_key_info_contents_eq;
-ghost use Rattle.der_pkix.specs.contracts.certificate.subject_public_key_info.SubjectPublicKeyInfoEq.TheImpl.Laws as subject_public_key_info_eq;
 ghost use Rattle.der_pkix.specs.contracts.certificate.validity.ValidityContentsEq.TheImpl.Laws as validity_contents_eq;
-ghost use Rattle.der_pkix.specs.contracts.certificate.validity.ValidityEq.TheImpl.Laws as validity_eq;
+ghost use Rattle.der_pkix.specs.contracts.name.rdn_sequence.RdnSequenceContentsEq.TheImpl.Laws as rdn_sequence_contents_eq;
 ghost use Rattle.der_pkix.specs.declared.certificate.tbs_certificate.TbsCertificate.{TbsCertificate};
 
 use crate::AlgorithmIdentifier;
 use crate::certificate::aliases::{CertificateSerialNumber, UniqueIdentifier, Version};
-use crate::certificate::explicit3_extensions::Explicit3Extensions;
 use crate::certificate::extensions::Extensions;
 use crate::certificate::subject_public_key_info::SubjectPublicKeyInfo;
 use crate::certificate::validity::Validity;
-use crate::name::Name;
-use der_bits::BitStringRef;
+use crate::name::{Name, RdnSequence};
 use der_elem::{
-    BitStringTag, ContentsEq, DecodeValue, DuplicateValue, DuplicateValueIsEqual, EncodeValue,
-    Form, FormValue, IntegerTag, OneTag, Sequence, SequenceTag, TagMarker, ValueOrd,
+    BitStringTag, ContentsEq, CopyIsDuplicate, DecodeValue, EncodeValue, Form, FormValue,
+    IntegerTag, OneTag, Sequence, SequenceTag, TagMarker, ValueOrd,
 };
 use der_fields::{
-    DecodeFields, DefaultNumber, DefaultOf, DuplicateFields, EncodeFields, End, Explicit,
-    ExplicitTag, Field, FieldList, Fields1, Fields2, Fields8, FieldsOrd, Implicit, ImplicitTag,
-    WithDefault,
+    DecodeFields, DefaultNumber, DefaultOf, EncodeFields, End, Explicit, ExplicitTag, Field,
+    FieldList, Fields2, Fields8, FieldsOrd, Implicit, ImplicitTag, WithDefault,
 };
-use der_modules::{CopyLaws, copy_of};
-use der_nest::Kept;
+use der_modules::copy_of;
 use der_numbers::IntRef;
 use der_tlv::{BackWriter, Error, Header, Length, Source, Writer};
 use std::alloc::Global;
@@ -53,12 +44,12 @@ type Fields<'a> = Fields8<
     WithDefault<Explicit<Version, 0>, DefaultNumber<0>>,
     CertificateSerialNumber<'a>,
     AlgorithmIdentifier<'a>,
-    Kept<'a, Name<'a>>,
+    Name<'a>,
     Validity,
-    Kept<'a, Name<'a>>,
+    Name<'a>,
     SubjectPublicKeyInfo<'a>,
     Option<Implicit<UniqueIdentifier<'a>, 1>>,
-    Fields2<Option<Implicit<UniqueIdentifier<'a>, 2>>, Option<Explicit3Extensions<'a>>>,
+    Fields2<Option<Implicit<UniqueIdentifier<'a>, 2>>, Option<Explicit<Extensions<'a>, 3>>>,
 >;
 
 /// ```text
@@ -77,9 +68,8 @@ type Fields<'a> = Fields8<
 ///      extensions       [3]  Extensions OPTIONAL }
 /// ```
 ///
-/// Reading refuses the first fault of the octets, in their order; `ErrorKind::Memory` (1) where
-/// memory runs out.
-#[derive(PartialEq, Eq, Drop)]
+/// Reading refuses the first fault of the octets, in their order.
+#[derive(Clone, Copy, PartialEq, Eq)]
 pub struct TbsCertificate<'a> {
     fields: Fields<'a>,
 }
@@ -93,13 +83,13 @@ impl<'a> TbsCertificate<'a> {
         version: Version,
         serial_number: CertificateSerialNumber<'a>,
         signature: &AlgorithmIdentifier<'a>,
-        issuer: &Kept<'a, Name<'a>>,
+        issuer: &Name<'a>,
         validity: Validity,
-        subject: &Kept<'a, Name<'a>>,
+        subject: &Name<'a>,
         subject_public_key_info: &SubjectPublicKeyInfo<'a>,
         issuer_unique_id: Option<UniqueIdentifier<'a>>,
         subject_unique_id: Option<UniqueIdentifier<'a>>,
-        extensions: Option<Extensions<'a>>,
+        extensions: Option<&Extensions<'a>>,
     ) -> TbsCertificate<'a>
         ensures version { tbs_certificate_fields.version result ≡ version }
         ensures serial_number { tbs_certificate_fields.serial_number result ≡ serial_number.entry }
@@ -110,12 +100,13 @@ impl<'a> TbsCertificate<'a> {
         ensures subject_public_key_info { tbs_certificate_fields.subject_public_key_info result ≡ subject_public_key_info.now }
         ensures issuer_unique_id { tbs_certificate_fields.issuer_unique_id result ≡ issuer_unique_id.entry }
         ensures subject_unique_id { tbs_certificate_fields.subject_unique_id result ≡ subject_unique_id.entry }
-        ensures extensions { tbs_certificate_fields.extensions result ≡ extensions.entry }
+        ensures extensions { tbs_certificate_fields.extensions result ≡ option_copied extensions.entry }
     {
         let first = match extensions {
-            Some(first) => Some(Explicit3Extensions {
-                fields: Fields1 {
-                    list: Field { first, rest: End },
+            Some(first) => Some(Explicit {
+                fields: Field {
+                    first: copy_of(first),
+                    rest: End,
                 },
             }),
             None => None,
@@ -155,101 +146,6 @@ impl<'a> TbsCertificate<'a> {
         TbsCertificate { fields }
     }
 
-    /// The values of the fields, in their order.
-    pub fn into_parts(
-        self,
-    ) -> (
-        Version,
-        CertificateSerialNumber<'a>,
-        AlgorithmIdentifier<'a>,
-        Kept<'a, Name<'a>>,
-        Validity,
-        Kept<'a, Name<'a>>,
-        SubjectPublicKeyInfo<'a>,
-        Option<UniqueIdentifier<'a>>,
-        Option<UniqueIdentifier<'a>>,
-        Option<Extensions<'a>>,
-    )
-        ensures version { tbs_certificate_fields.version self.entry ≡ result.0 }
-        ensures serial_number { tbs_certificate_fields.serial_number self.entry ≡ result.1 }
-        ensures signature { tbs_certificate_fields.signature self.entry ≡ result.2 }
-        ensures issuer { tbs_certificate_fields.issuer self.entry ≡ result.3 }
-        ensures validity { tbs_certificate_fields.validity self.entry ≡ result.4 }
-        ensures subject { tbs_certificate_fields.subject self.entry ≡ result.5 }
-        ensures subject_public_key_info { tbs_certificate_fields.subject_public_key_info self.entry ≡ result.6 }
-        ensures issuer_unique_id { tbs_certificate_fields.issuer_unique_id self.entry ≡ result.7 }
-        ensures subject_unique_id { tbs_certificate_fields.subject_unique_id self.entry ≡ result.8 }
-        ensures extensions { tbs_certificate_fields.extensions self.entry ≡ result.9 }
-    {
-        let Fields8 { list } = self.fields;
-        let Field {
-            first: version,
-            rest,
-        } = list;
-        let Field {
-            first: serial_number,
-            rest,
-        } = rest;
-        let Field {
-            first: signature,
-            rest,
-        } = rest;
-        let Field {
-            first: issuer,
-            rest,
-        } = rest;
-        let Field {
-            first: validity,
-            rest,
-        } = rest;
-        let Field {
-            first: subject,
-            rest,
-        } = rest;
-        let Field {
-            first: subject_public_key_info,
-            rest,
-        } = rest;
-        let Field {
-            first: issuer_unique_id,
-            rest,
-        } = rest;
-        let Fields2 { list } = rest;
-        let Field {
-            first: subject_unique_id,
-            rest,
-        } = list;
-        let Field {
-            first: extensions,
-            ..
-        } = rest;
-        let version = version.value.fields.first;
-        let issuer_unique_id = match issuer_unique_id {
-            Some(tagged) => Some(tagged.value),
-            None => None,
-        };
-        let subject_unique_id = match subject_unique_id {
-            Some(tagged) => Some(tagged.value),
-            None => None,
-        };
-        let extensions = match extensions {
-            Some(tagged) => Some(tagged.fields.list.first),
-            None => None,
-        };
-        (
-            version,
-            serial_number,
-            signature,
-            issuer,
-            validity,
-            subject,
-            subject_public_key_info,
-            issuer_unique_id,
-            subject_unique_id,
-            extensions,
-        )
-    }
-
     /// `version`, `[0] Version DEFAULT v1`.
     pub fn version(&self) -> Version
         ensures { result ≡ tbs_certificate_fields.version self.now }
@@ -272,7 +168,7 @@ impl<'a> TbsCertificate<'a> {
     }
 
     /// `issuer`, `Name`.
-    pub fn issuer(&self) -> &Kept<'a, Name<'a>>
+    pub fn issuer(&self) -> &Name<'a>
         ensures { result.now ≡ tbs_certificate_fields.issuer self.now }
     {
         &self.fields.list.rest.rest.rest.first
@@ -286,7 +182,7 @@ impl<'a> TbsCertificate<'a> {
     }
 
     /// `subject`, `Name`.
-    pub fn subject(&self) -> &Kept<'a, Name<'a>>
+    pub fn subject(&self) -> &Name<'a>
         ensures { result.now ≡ tbs_certificate_fields.subject self.now }
     {
         &self.fields.list.rest.rest.rest.rest.rest.first
@@ -326,7 +222,7 @@ impl<'a> TbsCertificate<'a> {
     {
         let tail = &self.fields.list.rest.rest.rest.rest.rest.rest.rest.rest;
         match &tail.list.rest.first {
-            Some(value) => Some(&value.fields.list.first),
+            Some(value) => Some(&value.fields.first),
             None => None,
         }
     }
@@ -362,9 +258,9 @@ impl<'a> FormValue for TbsCertificate<'a> {
 }
 
 impl<'a, R: Source<'a>> DecodeValue<'a, R> for TbsCertificate<'a> {
-    ghost TAKES_MEMORY = { true };
+    ghost TAKES_MEMORY = { false };
 
-    const TAKES_MEMORY: bool = true;
+    const TAKES_MEMORY: bool = false;
 
     fn decode_value(
         alloc: Global,
@@ -417,18 +313,18 @@ impl<'a> ContentsEq for TbsCertificate<'a> {
         (tagged_starts ⟦<AlgorithmIdentifier<'a> as Form>⟧ (one_tag ⟦<SequenceTag as TagMarker>⟧.TAG ⟦<AlgorithmIdentifier<'a> as FormValue>⟧.value.contents))
         ⟦<AlgorithmIdentifier<'a> as PartialEq>⟧.eq
         (one_tag_equality ⟦<SequenceTag as TagMarker>⟧.TAG ⟦<AlgorithmIdentifier<'a> as FormValue>⟧.value.contents ⟦<AlgorithmIdentifier<'a> as FormValue>⟧.value.comparable ⟦<AlgorithmIdentifier<'a> as PartialEq>⟧.eq algorithm_identifier_contents_eq.contents_eq-law)
-        (member_equality ⟦<Kept<'a, Name<'a>> as Form>⟧
-        (tagged_starts ⟦<Kept<'a, Name<'a>> as Form>⟧ (one_tag ⟦<SequenceTag as TagMarker>⟧.TAG ⟦<Kept<'a, Name<'a>> as FormValue>⟧.value.contents))
-        ⟦<Kept<'a, Name<'a>> as PartialEq>⟧.eq
-        (one_tag_equality ⟦<SequenceTag as TagMarker>⟧.TAG ⟦<Kept<'a, Name<'a>> as FormValue>⟧.value.contents ⟦<Kept<'a, Name<'a>> as FormValue>⟧.value.comparable ⟦<Kept<'a, Name<'a>> as PartialEq>⟧.eq (λ v w. (λ one. bytes_decides v.octets.octets.now w.octets.octets.now)))
+        (member_equality ⟦<Name<'a> as Form>⟧
+        (tagged_starts ⟦<Name<'a> as Form>⟧ (one_tag ⟦<SequenceTag as TagMarker>⟧.TAG ⟦<RdnSequence<'a> as FormValue>⟧.value.contents))
+        ⟦<Name<'a> as PartialEq>⟧.eq
+        (one_tag_equality ⟦<SequenceTag as TagMarker>⟧.TAG ⟦<RdnSequence<'a> as FormValue>⟧.value.contents ⟦<RdnSequence<'a> as FormValue>⟧.value.comparable ⟦<RdnSequence<'a> as PartialEq>⟧.eq rdn_sequence_contents_eq.contents_eq-law)
         (member_equality ⟦<Validity as Form>⟧
         (tagged_starts ⟦<Validity as Form>⟧ (one_tag ⟦<SequenceTag as TagMarker>⟧.TAG ⟦<Validity as FormValue>⟧.value.contents))
         ⟦<Validity as PartialEq>⟧.eq
         (one_tag_equality ⟦<SequenceTag as TagMarker>⟧.TAG ⟦<Validity as FormValue>⟧.value.contents ⟦<Validity as FormValue>⟧.value.comparable ⟦<Validity as PartialEq>⟧.eq validity_contents_eq.contents_eq-law)
-        (member_equality ⟦<Kept<'a, Name<'a>> as Form>⟧
-        (tagged_starts ⟦<Kept<'a, Name<'a>> as Form>⟧ (one_tag ⟦<SequenceTag as TagMarker>⟧.TAG ⟦<Kept<'a, Name<'a>> as FormValue>⟧.value.contents))
-        ⟦<Kept<'a, Name<'a>> as PartialEq>⟧.eq
-        (one_tag_equality ⟦<SequenceTag as TagMarker>⟧.TAG ⟦<Kept<'a, Name<'a>> as FormValue>⟧.value.contents ⟦<Kept<'a, Name<'a>> as FormValue>⟧.value.comparable ⟦<Kept<'a, Name<'a>> as PartialEq>⟧.eq (λ v w. (λ one. bytes_decides v.octets.octets.now w.octets.octets.now)))
+        (member_equality ⟦<Name<'a> as Form>⟧
+        (tagged_starts ⟦<Name<'a> as Form>⟧ (one_tag ⟦<SequenceTag as TagMarker>⟧.TAG ⟦<RdnSequence<'a> as FormValue>⟧.value.contents))
+        ⟦<Name<'a> as PartialEq>⟧.eq
+        (one_tag_equality ⟦<SequenceTag as TagMarker>⟧.TAG ⟦<RdnSequence<'a> as FormValue>⟧.value.contents ⟦<RdnSequence<'a> as FormValue>⟧.value.comparable ⟦<RdnSequence<'a> as PartialEq>⟧.eq rdn_sequence_contents_eq.contents_eq-law)
         (member_equality ⟦<SubjectPublicKeyInfo<'a> as Form>⟧
         (tagged_starts ⟦<SubjectPublicKeyInfo<'a> as Form>⟧ (one_tag ⟦<SequenceTag as TagMarker>⟧.TAG ⟦<SubjectPublicKeyInfo<'a> as FormValue>⟧.value.contents))
         ⟦<SubjectPublicKeyInfo<'a> as PartialEq>⟧.eq
@@ -441,73 +337,18 @@ impl<'a> ContentsEq for TbsCertificate<'a> {
         (optional_starts ⟦<Implicit<UniqueIdentifier<'a>, 2> as Form>⟧ (one_tag ⟦<ImplicitTag<BitStringTag, 2> as TagMarker>⟧.TAG ⟦<Implicit<UniqueIdentifier<'a>, 2> as FormValue>⟧.value.contents))
         ⟦<Option<Implicit<UniqueIdentifier<'a>, 2>> as PartialEq>⟧.eq
         (optional_equality ⟦<Implicit<UniqueIdentifier<'a>, 2> as Form>⟧ (one_tag ⟦<ImplicitTag<BitStringTag, 2> as TagMarker>⟧.TAG ⟦<Implicit<UniqueIdentifier<'a>, 2> as FormValue>⟧.value.contents) ⟦<Implicit<UniqueIdentifier<'a>, 2> as PartialEq>⟧.eq (one_tag_equality ⟦<ImplicitTag<BitStringTag, 2> as TagMarker>⟧.TAG ⟦<Implicit<UniqueIdentifier<'a>, 2> as FormValue>⟧.value.contents ⟦<Implicit<UniqueIdentifier<'a>, 2> as FormValue>⟧.value.comparable ⟦<Implicit<UniqueIdentifier<'a>, 2> as PartialEq>⟧.eq (λ v w. (bitstringref_contents_eq.contents_eq-law v.value w.value))))
-        (member_equality ⟦<Option<Explicit3Extensions<'a>> as Form>⟧
-        (optional_starts ⟦<Explicit3Extensions<'a> as Form>⟧ (one_tag ⟦<ExplicitTag<3> as TagMarker>⟧.TAG ⟦<Explicit3Extensions<'a> as FormValue>⟧.value.contents))
-        ⟦<Option<Explicit3Extensions<'a>> as PartialEq>⟧.eq
-        (optional_equality ⟦<Explicit3Extensions<'a> as Form>⟧ (one_tag ⟦<ExplicitTag<3> as TagMarker>⟧.TAG ⟦<Explicit3Extensions<'a> as FormValue>⟧.value.contents) ⟦<Explicit3Extensions<'a> as PartialEq>⟧.eq (one_tag_equality ⟦<ExplicitTag<3> as TagMarker>⟧.TAG ⟦<Explicit3Extensions<'a> as FormValue>⟧.value.contents ⟦<Explicit3Extensions<'a> as FormValue>⟧.value.comparable ⟦<Explicit3Extensions<'a> as PartialEq>⟧.eq explicit3_extensions_contents_eq.contents_eq-law))
+        (member_equality ⟦<Option<Explicit<Extensions<'a>, 3>> as Form>⟧
+        (optional_starts ⟦<Explicit<Extensions<'a>, 3> as Form>⟧ (one_tag ⟦<ExplicitTag<3> as TagMarker>⟧.TAG ⟦<Explicit<Extensions<'a>, 3> as FormValue>⟧.value.contents))
+        ⟦<Option<Explicit<Extensions<'a>, 3>> as PartialEq>⟧.eq
+        (optional_equality ⟦<Explicit<Extensions<'a>, 3> as Form>⟧ (one_tag ⟦<ExplicitTag<3> as TagMarker>⟧.TAG ⟦<Explicit<Extensions<'a>, 3> as FormValue>⟧.value.contents) ⟦<Explicit<Extensions<'a>, 3> as PartialEq>⟧.eq (one_tag_equality ⟦<ExplicitTag<3> as TagMarker>⟧.TAG ⟦<Explicit<Extensions<'a>, 3> as FormValue>⟧.value.contents ⟦<Explicit<Extensions<'a>, 3> as FormValue>⟧.value.comparable ⟦<Explicit<Extensions<'a>, 3> as PartialEq>⟧.eq (λ v w. ((member_equality ⟦<Extensions<'a> as Form>⟧
+        (tagged_starts ⟦<Extensions<'a> as Form>⟧ (one_tag ⟦<SequenceTag as TagMarker>⟧.TAG ⟦<Extensions<'a> as FormValue>⟧.value.contents))
+        ⟦<Extensions<'a> as PartialEq>⟧.eq
+        (one_tag_equality ⟦<SequenceTag as TagMarker>⟧.TAG ⟦<Extensions<'a> as FormValue>⟧.value.contents ⟦<Extensions<'a> as FormValue>⟧.value.comparable ⟦<Extensions<'a> as PartialEq>⟧.eq extensions_contents_eq.contents_eq-law)
+        no_equality).equal v.fields w.fields))))
         no_equality))))))))))).equal v.fields.list w.fields.list };
 }
 
-impl<'a> CopyLaws for TbsCertificate<'a> {
-    ghost copies = { copies_of (held_copies (λ v. v.fields.list)
-        (listed_copies (member_copies ⟦<WithDefault<Explicit<Version, 0>, DefaultNumber<0>> as Form>⟧
-        (default_starts ⟦<Explicit<Version, 0> as Form>⟧ (one_tag ⟦<ExplicitTag<0> as TagMarker>⟧.TAG ⟦<Explicit<Version, 0> as FormValue>⟧.value.contents) (λ x. x.value) ⟦<DefaultNumber<0> as DefaultOf<Explicit<Version, 0>>>⟧.octets)
-        (default_copies ⟦<Explicit<Version, 0> as Form>⟧ (one_tag_copies ⟦<ExplicitTag<0> as TagMarker>⟧.TAG (held_copies (λ x. x.fields) (listed_copies (member_copies ⟦<Version as Form>⟧
-        (tagged_starts ⟦<Version as Form>⟧ (one_tag ⟦<IntegerTag as TagMarker>⟧.TAG ⟦<u8 as FormValue>⟧.value.contents))
-        (one_tag_copies ⟦<IntegerTag as TagMarker>⟧.TAG (same_copies ⟦<u8 as FormValue>⟧.value.contents ⟦<u8 as FormValue>⟧.value.comparable ⟦<u8 as FormValue>⟧.value.re_reads ⟦<u8 as PartialEq>⟧.eq (λ v. (u8_contents_eq.contents_eq-law v v tt).1 refl)))
-        no_copies)))) (λ x. x.value) ⟦<DefaultNumber<0> as DefaultOf<Explicit<Version, 0>>>⟧.octets)
-        (member_copies ⟦<CertificateSerialNumber<'a> as Form>⟧
-        (tagged_starts ⟦<CertificateSerialNumber<'a> as Form>⟧ (one_tag ⟦<IntegerTag as TagMarker>⟧.TAG ⟦<IntRef<'a> as FormValue>⟧.value.contents))
-        (one_tag_copies ⟦<IntegerTag as TagMarker>⟧.TAG (same_copies ⟦<IntRef<'a> as FormValue>⟧.value.contents ⟦<IntRef<'a> as FormValue>⟧.value.comparable ⟦<IntRef<'a> as FormValue>⟧.value.re_reads ⟦<IntRef<'a> as PartialEq>⟧.eq (λ v. (intref_contents_eq.contents_eq-law v v tt).1 refl)))
-        (member_copies ⟦<AlgorithmIdentifier<'a> as Form>⟧
-        (tagged_starts ⟦<AlgorithmIdentifier<'a> as Form>⟧ (one_tag ⟦<SequenceTag as TagMarker>⟧.TAG ⟦<AlgorithmIdentifier<'a> as FormValue>⟧.value.contents))
-        (one_tag_copies ⟦<SequenceTag as TagMarker>⟧.TAG (same_copies ⟦<AlgorithmIdentifier<'a> as FormValue>⟧.value.contents ⟦<AlgorithmIdentifier<'a> as FormValue>⟧.value.comparable ⟦<AlgorithmIdentifier<'a> as FormValue>⟧.value.re_reads ⟦<AlgorithmIdentifier<'a> as PartialEq>⟧.eq algorithm_identifier_eq.laws-law.refl))
-        (member_copies ⟦<Kept<'a, Name<'a>> as Form>⟧
-        (tagged_starts ⟦<Kept<'a, Name<'a>> as Form>⟧ (one_tag ⟦<SequenceTag as TagMarker>⟧.TAG ⟦<Kept<'a, Name<'a>> as FormValue>⟧.value.contents))
-        (one_tag_copies ⟦<SequenceTag as TagMarker>⟧.TAG (same_copies ⟦<Kept<'a, Name<'a>> as FormValue>⟧.value.contents ⟦<Kept<'a, Name<'a>> as FormValue>⟧.value.comparable ⟦<Kept<'a, Name<'a>> as FormValue>⟧.value.re_reads ⟦<Kept<'a, Name<'a>> as PartialEq>⟧.eq (λ v. (bytes_decides v.octets.octets.now v.octets.octets.now).1 refl)))
-        (member_copies ⟦<Validity as Form>⟧
-        (tagged_starts ⟦<Validity as Form>⟧ (one_tag ⟦<SequenceTag as TagMarker>⟧.TAG ⟦<Validity as FormValue>⟧.value.contents))
-        (one_tag_copies ⟦<SequenceTag as TagMarker>⟧.TAG (same_copies ⟦<Validity as FormValue>⟧.value.contents ⟦<Validity as FormValue>⟧.value.comparable ⟦<Validity as FormValue>⟧.value.re_reads ⟦<Validity as PartialEq>⟧.eq validity_eq.laws-law.refl))
-        (member_copies ⟦<Kept<'a, Name<'a>> as Form>⟧
-        (tagged_starts ⟦<Kept<'a, Name<'a>> as Form>⟧ (one_tag ⟦<SequenceTag as TagMarker>⟧.TAG ⟦<Kept<'a, Name<'a>> as FormValue>⟧.value.contents))
-        (one_tag_copies ⟦<SequenceTag as TagMarker>⟧.TAG (same_copies ⟦<Kept<'a, Name<'a>> as FormValue>⟧.value.contents ⟦<Kept<'a, Name<'a>> as FormValue>⟧.value.comparable ⟦<Kept<'a, Name<'a>> as FormValue>⟧.value.re_reads ⟦<Kept<'a, Name<'a>> as PartialEq>⟧.eq (λ v. (bytes_decides v.octets.octets.now v.octets.octets.now).1 refl)))
-        (member_copies ⟦<SubjectPublicKeyInfo<'a> as Form>⟧
-        (tagged_starts ⟦<SubjectPublicKeyInfo<'a> as Form>⟧ (one_tag ⟦<SequenceTag as TagMarker>⟧.TAG ⟦<SubjectPublicKeyInfo<'a> as FormValue>⟧.value.contents))
-        (one_tag_copies ⟦<SequenceTag as TagMarker>⟧.TAG (same_copies ⟦<SubjectPublicKeyInfo<'a> as FormValue>⟧.value.contents ⟦<SubjectPublicKeyInfo<'a> as FormValue>⟧.value.comparable ⟦<SubjectPublicKeyInfo<'a> as FormValue>⟧.value.re_reads ⟦<SubjectPublicKeyInfo<'a> as PartialEq>⟧.eq subject_public_key_info_eq.laws-law.refl))
-        (member_copies ⟦<Option<Implicit<UniqueIdentifier<'a>, 1>> as Form>⟧
-        (optional_starts ⟦<Implicit<UniqueIdentifier<'a>, 1> as Form>⟧ (one_tag ⟦<ImplicitTag<BitStringTag, 1> as TagMarker>⟧.TAG ⟦<Implicit<UniqueIdentifier<'a>, 1> as FormValue>⟧.value.contents))
-        (optional_copies ⟦<Implicit<UniqueIdentifier<'a>, 1> as Form>⟧ (one_tag_copies ⟦<ImplicitTag<BitStringTag, 1> as TagMarker>⟧.TAG (held_copies (λ x. x.value) (same_copies ⟦<BitStringRef<'a> as FormValue>⟧.value.contents ⟦<BitStringRef<'a> as FormValue>⟧.value.comparable ⟦<BitStringRef<'a> as FormValue>⟧.value.re_reads ⟦<BitStringRef<'a> as PartialEq>⟧.eq (λ v. (bitstringref_contents_eq.contents_eq-law v v tt).1 refl)))))
-        (part_copies (λ x. x.list) (member_copies ⟦<Option<Implicit<UniqueIdentifier<'a>, 2>> as Form>⟧
-        (optional_starts ⟦<Implicit<UniqueIdentifier<'a>, 2> as Form>⟧ (one_tag ⟦<ImplicitTag<BitStringTag, 2> as TagMarker>⟧.TAG ⟦<Implicit<UniqueIdentifier<'a>, 2> as FormValue>⟧.value.contents))
-        (optional_copies ⟦<Implicit<UniqueIdentifier<'a>, 2> as Form>⟧ (one_tag_copies ⟦<ImplicitTag<BitStringTag, 2> as TagMarker>⟧.TAG (held_copies (λ x. x.value) (same_copies ⟦<BitStringRef<'a> as FormValue>⟧.value.contents ⟦<BitStringRef<'a> as FormValue>⟧.value.comparable ⟦<BitStringRef<'a> as FormValue>⟧.value.re_reads ⟦<BitStringRef<'a> as PartialEq>⟧.eq (λ v. (bitstringref_contents_eq.contents_eq-law v v tt).1 refl)))))
-        (member_copies ⟦<Option<Explicit3Extensions<'a>> as Form>⟧
-        (optional_starts ⟦<Explicit3Extensions<'a> as Form>⟧ (one_tag ⟦<ExplicitTag<3> as TagMarker>⟧.TAG ⟦<Explicit3Extensions<'a> as FormValue>⟧.value.contents))
-        (optional_copies ⟦<Explicit3Extensions<'a> as Form>⟧ (one_tag_copies ⟦<ExplicitTag<3> as TagMarker>⟧.TAG (record { octets_are = explicit3_extensions_duplicate_value.copy_contents-law; comparable_are = explicit3_extensions_duplicate_value.copy_comparable_value-law; re_reads_are = explicit3_extensions_duplicate_value.copy_re_reads_value-law; equal_are = explicit3_extensions_duplicate_value_is_equal.copy_value_is_equal-law })))
-        no_copies))))))))))))) };
-}
-
-impl<'a> DuplicateValue for TbsCertificate<'a> {
-    ghost is_copy_value = { λ v w. ⟦<Fields<'a> as DuplicateFields>⟧.are_copies v.fields w.fields };
-
-    ghost takes_memory_to_copy_value = { ⟦<Fields<'a> as DuplicateFields>⟧.take_memory_to_copy };
-
-    fn duplicate_value(&self) -> Result<TbsCertificate<'a>, Error> {
-        match self.fields.duplicate_fields() {
-            Ok(fields) => Ok(TbsCertificate { fields }),
-            Err(e) => Err(e),
-        }
-    }
-
-    ghost copy_contents = { ⟦<TbsCertificate<'a> as CopyLaws>⟧.copies.laws.octets_are };
-
-    ghost copy_comparable_value = { ⟦<TbsCertificate<'a> as CopyLaws>⟧.copies.laws.comparable_are };
-
-    ghost copy_re_reads_value = { ⟦<TbsCertificate<'a> as CopyLaws>⟧.copies.laws.re_reads_are };
-}
-
-impl<'a> DuplicateValueIsEqual for TbsCertificate<'a> {
-    ghost copy_value_is_equal = { ⟦<TbsCertificate<'a> as CopyLaws>⟧.copies.laws.equal_are };
-}
+impl<'a> CopyIsDuplicate for TbsCertificate<'a> {}
 
 /// What is read as `TBSCertificate` is what the page of the grammar says.
 pub fn grammar_of_tbs_certificate<'a>()
@@ -521,9 +362,9 @@ pub fn octets_of_tbs_certificate<'a>()
         unless_default ⟦<DefaultNumber<0> as DefaultOf<Explicit<Version, 0>>>⟧.octets (explicit_encoding context 0 (⟦<Version as Form>⟧.encoding (tbs_certificate_fields.version v)))
         ∷ (⟦<CertificateSerialNumber<'a> as Form>⟧.encoding (tbs_certificate_fields.serial_number v))
         ∷ (⟦<AlgorithmIdentifier<'a> as Form>⟧.encoding (tbs_certificate_fields.signature v))
-        ∷ (⟦<Kept<'a, Name<'a>> as Form>⟧.encoding (tbs_certificate_fields.issuer v))
+        ∷ (⟦<Name<'a> as Form>⟧.encoding (tbs_certificate_fields.issuer v))
         ∷ (⟦<Validity as Form>⟧.encoding (tbs_certificate_fields.validity v))
-        ∷ (⟦<Kept<'a, Name<'a>> as Form>⟧.encoding (tbs_certificate_fields.subject v))
+        ∷ (⟦<Name<'a> as Form>⟧.encoding (tbs_certificate_fields.subject v))
         ∷ (⟦<SubjectPublicKeyInfo<'a> as Form>⟧.encoding (tbs_certificate_fields.subject_public_key_info v))
         ∷ optional (λ x. (implicit_encoding context false 1 (⟦<UniqueIdentifier<'a> as FormValue>⟧.value.contents x))) (tbs_certificate_fields.issuer_unique_id v)
         ∷ optional (λ x. (implicit_encoding context false 2 (⟦<UniqueIdentifier<'a> as FormValue>⟧.value.contents x))) (tbs_certificate_fields.subject_unique_id v)

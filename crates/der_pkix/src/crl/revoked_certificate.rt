@@ -2,30 +2,25 @@
 //!
 //! Made by tools/asn1 from crl.asn1.
 
-ghost use Rattle.std.specs.Prelude.{◌∷◌, ◌≡◌, [], refl, true};
+ghost use Rattle.std.specs.Prelude.{◌∷◌, ◌≡◌, [], false, refl};
 ghost use Rattle.der_elem.specs.FormatMakers.{mapped_format};
 ghost use Rattle.der_modules.specs.Asn1.{joined, optional, parse_of};
-ghost use Rattle.der_modules.specs.MemberLaws.{copies_of, held_copies, listed_copies, member_copies, member_equality, no_copies, no_equality, one_tag, one_tag_copies, one_tag_equality, optional_copies, optional_equality, optional_starts, own_tags, same_copies, tagged_starts};
+ghost use Rattle.der_modules.specs.MemberLaws.{member_equality, no_equality, one_tag, one_tag_equality, optional_equality, optional_starts, own_tags, tagged_starts};
 ghost use Rattle.der_numbers.specs.contracts.int_ref.IntRefContentsEq.TheImpl.Laws as intref_contents_eq;
 ghost use Rattle.der_pkix.specs.Crl.Grammar.{revoked_certificate};
 ghost use Rattle.der_pkix.specs.Crl.RevokedCertificate as revoked_certificate_fields;
 ghost use Rattle.der_pkix.specs.contracts.certificate.extensions.ExtensionsContentsEq.TheImpl.Laws as extensions_contents_eq;
-ghost use Rattle.der_pkix.specs.contracts.certificate.extensions.ExtensionsDuplicateValue.TheImpl.Laws as extensions_duplicate_value;
-ghost use Rattle.der_pkix.specs.contracts.certificate.extensions.ExtensionsDuplicateValueIsEqual.TheImpl.Laws as extensions_duplicate_value_is_equal;
 ghost use Rattle.der_pkix.specs.contracts.certificate.time.TimeEncodingEq.TheImpl.Laws as time_encoding_eq;
-ghost use Rattle.der_pkix.specs.contracts.certificate.time.TimeEq.TheImpl.Laws as time_eq;
 ghost use Rattle.der_pkix.specs.contracts.certificate.time.TimeTagged.TheImpl.Laws as time_tagged;
 ghost use Rattle.der_pkix.specs.declared.crl.revoked_certificate.RevokedCertificate.{RevokedCertificate};
 
 use crate::certificate::{CertificateSerialNumber, Extensions, Time};
 use der_elem::{
-    ContentsEq, DecodeValue, DuplicateValue, DuplicateValueIsEqual, EncodeValue, Form, FormValue,
-    IntegerTag, OneTag, Sequence, SequenceTag, TagMarker, Tagged, ValueOrd,
+    ContentsEq, CopyIsDuplicate, DecodeValue, EncodeValue, Form, FormValue, IntegerTag, OneTag,
+    Sequence, SequenceTag, TagMarker, Tagged, ValueOrd,
 };
-use der_fields::{
-    DecodeFields, DuplicateFields, EncodeFields, End, Field, FieldList, Fields3, FieldsOrd,
-};
-use der_modules::CopyLaws;
+use der_fields::{DecodeFields, EncodeFields, End, Field, FieldList, Fields3, FieldsOrd};
+use der_modules::copy_of;
 use der_numbers::IntRef;
 use der_tlv::{BackWriter, Error, Header, Length, Source, Writer};
 use std::alloc::Global;
@@ -37,9 +32,8 @@ type Fields<'a> = Fields3<CertificateSerialNumber<'a>, Time, Option<Extensions<'
 
 /// A type that is written out within another, as `RevokedCertificate`.
 ///
-/// Reading refuses the first fault of the octets, in their order; `ErrorKind::Memory` (1) where
-/// memory runs out.
-#[derive(PartialEq, Eq, Drop)]
+/// Reading refuses the first fault of the octets, in their order.
+#[derive(Clone, Copy, PartialEq, Eq)]
 pub struct RevokedCertificate<'a> {
     fields: Fields<'a>,
 }
@@ -52,13 +46,16 @@ impl<'a> RevokedCertificate<'a> {
     pub fn new(
         user_certificate: CertificateSerialNumber<'a>,
         revocation_date: Time,
-        crl_entry_extensions: Option<Extensions<'a>>,
+        crl_entry_extensions: Option<&Extensions<'a>>,
     ) -> RevokedCertificate<'a>
         ensures user_certificate { revoked_certificate_fields.user_certificate result ≡ user_certificate.entry }
         ensures revocation_date { revoked_certificate_fields.revocation_date result ≡ revocation_date }
-        ensures crl_entry_extensions { revoked_certificate_fields.crl_entry_extensions result ≡ crl_entry_extensions.entry }
+        ensures crl_entry_extensions { revoked_certificate_fields.crl_entry_extensions result ≡ option_copied crl_entry_extensions.entry }
     {
-        let first = crl_entry_extensions;
+        let first = match crl_entry_extensions {
+            Some(value) => Some(copy_of(value)),
+            None => None,
+        };
         let rest = Field { first, rest: End };
         let first = revocation_date;
         let rest = Field { first, rest };
@@ -66,28 +63,6 @@ impl<'a> RevokedCertificate<'a> {
         let list = Field { first, rest };
         let fields = Fields3 { list };
         RevokedCertificate { fields }
-    }
-
-    /// The values of the fields, in their order.
-    pub fn into_parts(self) -> (CertificateSerialNumber<'a>, Time, Option<Extensions<'a>>)
-        ensures user_certificate { revoked_certificate_fields.user_certificate self.entry ≡ result.0 }
-        ensures revocation_date { revoked_certificate_fields.revocation_date self.entry ≡ result.1 }
-        ensures crl_entry_extensions { revoked_certificate_fields.crl_entry_extensions self.entry ≡ result.2 }
-    {
-        let Fields3 { list } = self.fields;
-        let Field {
-            first: user_certificate,
-            rest,
-        } = list;
-        let Field {
-            first: revocation_date,
-            rest,
-        } = rest;
-        let Field {
-            first: crl_entry_extensions,
-            ..
-        } = rest;
-        (user_certificate, revocation_date, crl_entry_extensions)
     }
 
     /// `userCertificate`, `CertificateSerialNumber`.
@@ -138,9 +113,9 @@ impl<'a> FormValue for RevokedCertificate<'a> {
 }
 
 impl<'a, R: Source<'a>> DecodeValue<'a, R> for RevokedCertificate<'a> {
-    ghost TAKES_MEMORY = { true };
+    ghost TAKES_MEMORY = { false };
 
-    const TAKES_MEMORY: bool = true;
+    const TAKES_MEMORY: bool = false;
 
     fn decode_value(
         alloc: Global,
@@ -192,42 +167,7 @@ impl<'a> ContentsEq for RevokedCertificate<'a> {
         no_equality))).equal v.fields.list w.fields.list };
 }
 
-impl<'a> CopyLaws for RevokedCertificate<'a> {
-    ghost copies = { copies_of (held_copies (λ v. v.fields.list)
-        (listed_copies (member_copies ⟦<CertificateSerialNumber<'a> as Form>⟧
-        (tagged_starts ⟦<CertificateSerialNumber<'a> as Form>⟧ (one_tag ⟦<IntegerTag as TagMarker>⟧.TAG ⟦<IntRef<'a> as FormValue>⟧.value.contents))
-        (one_tag_copies ⟦<IntegerTag as TagMarker>⟧.TAG (same_copies ⟦<IntRef<'a> as FormValue>⟧.value.contents ⟦<IntRef<'a> as FormValue>⟧.value.comparable ⟦<IntRef<'a> as FormValue>⟧.value.re_reads ⟦<IntRef<'a> as PartialEq>⟧.eq (λ v. (intref_contents_eq.contents_eq-law v v tt).1 refl)))
-        (member_copies ⟦<Time as Form>⟧
-        (tagged_starts ⟦<Time as Form>⟧ (own_tags ⟦<Time as Form>⟧.tags ⟦<Time as Form>⟧.first_tag_of ⟦<Time as Form>⟧.encoding ⟦<Time as Tagged>⟧.tag_of ⟦<Time as FormValue>⟧.value.contents time_tagged.encoding_is-law time_tagged.own_tag-law time_tagged.first_tag_is-law))
-        (same_copies ⟦<Time as Form>⟧.encoding ⟦<Time as Form>⟧.comparable ⟦<Time as Form>⟧.re_reads ⟦<Time as PartialEq>⟧.eq time_eq.laws-law.refl)
-        (member_copies ⟦<Option<Extensions<'a>> as Form>⟧
-        (optional_starts ⟦<Extensions<'a> as Form>⟧ (one_tag ⟦<SequenceTag as TagMarker>⟧.TAG ⟦<Extensions<'a> as FormValue>⟧.value.contents))
-        (optional_copies ⟦<Extensions<'a> as Form>⟧ (one_tag_copies ⟦<SequenceTag as TagMarker>⟧.TAG (record { octets_are = extensions_duplicate_value.copy_contents-law; comparable_are = extensions_duplicate_value.copy_comparable_value-law; re_reads_are = extensions_duplicate_value.copy_re_reads_value-law; equal_are = extensions_duplicate_value_is_equal.copy_value_is_equal-law })))
-        no_copies))))) };
-}
-
-impl<'a> DuplicateValue for RevokedCertificate<'a> {
-    ghost is_copy_value = { λ v w. ⟦<Fields<'a> as DuplicateFields>⟧.are_copies v.fields w.fields };
-
-    ghost takes_memory_to_copy_value = { ⟦<Fields<'a> as DuplicateFields>⟧.take_memory_to_copy };
-
-    fn duplicate_value(&self) -> Result<RevokedCertificate<'a>, Error> {
-        match self.fields.duplicate_fields() {
-            Ok(fields) => Ok(RevokedCertificate { fields }),
-            Err(e) => Err(e),
-        }
-    }
-
-    ghost copy_contents = { ⟦<RevokedCertificate<'a> as CopyLaws>⟧.copies.laws.octets_are };
-
-    ghost copy_comparable_value = { ⟦<RevokedCertificate<'a> as CopyLaws>⟧.copies.laws.comparable_are };
-
-    ghost copy_re_reads_value = { ⟦<RevokedCertificate<'a> as CopyLaws>⟧.copies.laws.re_reads_are };
-}
-
-impl<'a> DuplicateValueIsEqual for RevokedCertificate<'a> {
-    ghost copy_value_is_equal = { ⟦<RevokedCertificate<'a> as CopyLaws>⟧.copies.laws.equal_are };
-}
+impl<'a> CopyIsDuplicate for RevokedCertificate<'a> {}
 
 /// What is read as `RevokedCertificate` is what the page of the grammar says.
 pub fn grammar_of_revoked_certificate<'a>()

@@ -2,22 +2,18 @@
 //!
 //! Made by tools/asn1 from key.asn1.
 
-ghost use Rattle.std.specs.Prelude.{◌≡◌, refl, true};
+ghost use Rattle.std.specs.Cmp.Lexicographic.{bytes_decides};
+ghost use Rattle.std.specs.Prelude.{◌≡◌, false, refl};
 ghost use Rattle.der_elem.specs.FormatMakers.{mapped_format};
 ghost use Rattle.der_modules.specs.Asn1.{parse_of};
-ghost use Rattle.der_modules.specs.MemberLaws.{copies_of, held_copies, items_copies, items_equality, one_tag, one_tag_copies, one_tag_equality};
 ghost use Rattle.der_pkix.specs.Key.Grammar.{attributes};
-ghost use Rattle.der_pkix.specs.contracts.name.attribute.AttributeContentsEq.TheImpl.Laws as attribute_contents_eq;
-ghost use Rattle.der_pkix.specs.contracts.name.attribute.AttributeDuplicateValue.TheImpl.Laws as attribute_duplicate_value;
-ghost use Rattle.der_pkix.specs.contracts.name.attribute.AttributeDuplicateValueIsEqual.TheImpl.Laws as attribute_duplicate_value_is_equal;
 
-use crate::name::{Attribute, AttributeOrder};
+use crate::name::Attribute;
 use der_elem::{
-    ContentsEq, DecodeValue, DuplicateValue, DuplicateValueIsEqual, EncodeValue, Form, FormValue,
-    OneTag, SequenceTag, SetTag, TagMarker, ValueOrd,
+    ContentsEq, CopyIsDuplicate, DecodeValue, EncodeValue, Form, FormValue, OneTag, SetTag,
+    ValueOrd,
 };
-use der_modules::CopyLaws;
-use der_nest::ItemSet;
+use der_lists::UnorderedSetRef;
 use der_tlv::{BackWriter, Error, Header, Length, Source, Writer};
 use std::alloc::Global;
 use std::cmp::Ordering;
@@ -26,35 +22,29 @@ use std::cmp::Ordering;
 /// Attributes ::= SET OF Attribute
 /// ```
 ///
-/// Reading refuses the first fault of the octets, in their order; `ErrorKind::Memory` (1) where
-/// memory runs out.
-#[derive(Debug, PartialEq, Eq, Drop)]
+/// The items stand in the order in which they came: BER asks for none.
+///
+/// Reading refuses the first fault of the octets, in their order.
+#[derive(Clone, Copy, Debug, PartialEq, Eq)]
 pub struct Attributes<'a> {
-    items: ItemSet<Attribute<'a>, AttributeOrder>,
+    items: UnorderedSetRef<'a, Attribute<'a>>,
 }
 
 impl<'a> Attributes<'a> {
     ghost use Rattle.der_pkix.specs.Key.Attributes as attributes;
 
     /// These items.
-    pub fn new(items: ItemSet<Attribute<'a>, AttributeOrder>) -> Attributes<'a>
+    pub fn new(items: UnorderedSetRef<'a, Attribute<'a>>) -> Attributes<'a>
         ensures { attributes.items_of result ≡ items.entry }
     {
         Attributes { items }
     }
 
     /// The items, in their order.
-    pub fn as_slice(&self) -> &[Attribute<'a>]
+    pub fn items(&self) -> &UnorderedSetRef<'a, Attribute<'a>>
         ensures { result.now ≡ attributes.items_of self.now }
     {
-        self.items.as_slice()
-    }
-
-    /// The items, in the room that holds them.
-    pub fn into_items(self) -> ItemSet<Attribute<'a>, AttributeOrder>
-        ensures { attributes.items_of self.entry ≡ result }
-    {
-        self.items
+        &self.items
     }
 }
 
@@ -63,20 +53,20 @@ impl<'a> OneTag for Attributes<'a> {
 }
 
 impl<'a> FormValue for Attributes<'a> {
-    ghost value = { mapped_format (λ v. v.items) ⟦<ItemSet<Attribute<'a>, AttributeOrder> as FormValue>⟧.value };
+    ghost value = { mapped_format (λ v. v.items) ⟦<UnorderedSetRef<'a, Attribute<'a>> as FormValue>⟧.value };
 }
 
 impl<'a, R: Source<'a>> DecodeValue<'a, R> for Attributes<'a> {
-    ghost TAKES_MEMORY = { true };
+    ghost TAKES_MEMORY = { false };
 
-    const TAKES_MEMORY: bool = true;
+    const TAKES_MEMORY: bool = false;
 
     fn decode_value(
         alloc: Global,
         reader: &mut R,
         header: Header,
     ) -> Result<Attributes<'a>, Error> {
-        match ItemSet::<Attribute<'a>, AttributeOrder>::decode_value(alloc, reader, header) {
+        match UnorderedSetRef::<'a, Attribute<'a>>::decode_value(alloc, reader, header) {
             Ok(items) => Ok(Attributes { items }),
             Err(e) => Err(e),
         }
@@ -106,36 +96,10 @@ impl<'a> ValueOrd for Attributes<'a> {
 }
 
 impl<'a> ContentsEq for Attributes<'a> {
-    ghost contents_eq = { λ v w. (items_equality ⟦<Attribute<'a> as Form>⟧ (one_tag ⟦<SequenceTag as TagMarker>⟧.TAG ⟦<Attribute<'a> as FormValue>⟧.value.contents) ⟦<Attribute<'a> as PartialEq>⟧.eq (one_tag_equality ⟦<SequenceTag as TagMarker>⟧.TAG ⟦<Attribute<'a> as FormValue>⟧.value.contents ⟦<Attribute<'a> as FormValue>⟧.value.comparable ⟦<Attribute<'a> as PartialEq>⟧.eq attribute_contents_eq.contents_eq-law)) v.items w.items };
+    ghost contents_eq = { λ v w. (λ one. bytes_decides v.items.octets.octets.now w.items.octets.octets.now) };
 }
 
-impl<'a> CopyLaws for Attributes<'a> {
-    ghost copies = { copies_of (held_copies (λ v. v.items)
-        (items_copies ⟦<Attribute<'a> as Form>⟧ (one_tag_copies ⟦<SequenceTag as TagMarker>⟧.TAG (record { octets_are = attribute_duplicate_value.copy_contents-law; comparable_are = attribute_duplicate_value.copy_comparable_value-law; re_reads_are = attribute_duplicate_value.copy_re_reads_value-law; equal_are = attribute_duplicate_value_is_equal.copy_value_is_equal-law })))) };
-}
-
-impl<'a> DuplicateValue for Attributes<'a> {
-    ghost is_copy_value = { λ v w. ⟦<ItemSet<Attribute<'a>, AttributeOrder> as DuplicateValue>⟧.is_copy_value v.items w.items };
-
-    ghost takes_memory_to_copy_value = { ⟦<ItemSet<Attribute<'a>, AttributeOrder> as DuplicateValue>⟧.takes_memory_to_copy_value };
-
-    fn duplicate_value(&self) -> Result<Attributes<'a>, Error> {
-        match self.items.duplicate_value() {
-            Ok(items) => Ok(Attributes { items }),
-            Err(e) => Err(e),
-        }
-    }
-
-    ghost copy_contents = { ⟦<Attributes<'a> as CopyLaws>⟧.copies.laws.octets_are };
-
-    ghost copy_comparable_value = { ⟦<Attributes<'a> as CopyLaws>⟧.copies.laws.comparable_are };
-
-    ghost copy_re_reads_value = { ⟦<Attributes<'a> as CopyLaws>⟧.copies.laws.re_reads_are };
-}
-
-impl<'a> DuplicateValueIsEqual for Attributes<'a> {
-    ghost copy_value_is_equal = { ⟦<Attributes<'a> as CopyLaws>⟧.copies.laws.equal_are };
-}
+impl<'a> CopyIsDuplicate for Attributes<'a> {}
 
 /// What is read as `Attributes` is what the page of the grammar says.
 pub fn grammar_of_attributes<'a>()

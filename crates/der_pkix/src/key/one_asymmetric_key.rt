@@ -7,15 +7,12 @@ ghost use Rattle.der_bits.specs.contracts.bit_string_ref.BitStringRefContentsEq.
 ghost use Rattle.der_elem.specs.FormatMakers.{mapped_format};
 ghost use Rattle.der_elem.specs.contracts.integer.unsigned.U8ContentsEq.TheImpl.Laws as u8_contents_eq;
 ghost use Rattle.der_modules.specs.Asn1.{context, implicit_encoding, joined, optional, parse_of};
-ghost use Rattle.der_modules.specs.MemberLaws.{copies_of, held_copies, listed_copies, member_copies, member_equality, no_copies, no_equality, one_tag, one_tag_copies, one_tag_equality, optional_copies, optional_equality, optional_starts, same_copies, tagged_starts};
+ghost use Rattle.der_modules.specs.MemberLaws.{member_equality, no_equality, one_tag, one_tag_equality, optional_equality, optional_starts, tagged_starts};
 ghost use Rattle.der_opaque.specs.contracts.octet_string_ref.OctetStringRefContentsEq.TheImpl.Laws as octetstringref_contents_eq;
 ghost use Rattle.der_pkix.specs.Key.Grammar.{one_asymmetric_key};
 ghost use Rattle.der_pkix.specs.Key.OneAsymmetricKey as one_asymmetric_key_fields;
 ghost use Rattle.der_pkix.specs.contracts.algorithm_identifier.AlgorithmIdentifierContentsEq.TheImpl.Laws as algorithm_identifier_contents_eq;
-ghost use Rattle.der_pkix.specs.contracts.algorithm_identifier.AlgorithmIdentifierEq.TheImpl.Laws as algorithm_identifier_eq;
 ghost use Rattle.der_pkix.specs.contracts.key.attributes.AttributesContentsEq.TheImpl.Laws as attributes_contents_eq;
-ghost use Rattle.der_pkix.specs.contracts.key.attributes.AttributesDuplicateValue.TheImpl.Laws as attributes_duplicate_value;
-ghost use Rattle.der_pkix.specs.contracts.key.attributes.AttributesDuplicateValueIsEqual.TheImpl.Laws as attributes_duplicate_value_is_equal;
 ghost use Rattle.der_pkix.specs.declared.key.one_asymmetric_key.OneAsymmetricKey.{OneAsymmetricKey};
 
 use crate::AlgorithmIdentifier;
@@ -23,15 +20,13 @@ use crate::key::aliases::OneAsymmetricKeyVersion;
 use crate::key::attributes::Attributes;
 use der_bits::BitStringRef;
 use der_elem::{
-    BitStringTag, ContentsEq, DecodeValue, DuplicateValue, DuplicateValueIsEqual, EncodeValue,
-    Form, FormValue, IntegerTag, OctetStringTag, OneTag, Sequence, SequenceTag, SetTag, TagMarker,
-    ValueOrd,
+    BitStringTag, ContentsEq, CopyIsDuplicate, DecodeValue, EncodeValue, Form, FormValue,
+    IntegerTag, OctetStringTag, OneTag, Sequence, SequenceTag, SetTag, TagMarker, ValueOrd,
 };
 use der_fields::{
-    DecodeFields, DuplicateFields, EncodeFields, End, Field, FieldList, Fields5, FieldsOrd,
-    Implicit, ImplicitTag,
+    DecodeFields, EncodeFields, End, Field, FieldList, Fields5, FieldsOrd, Implicit, ImplicitTag,
 };
-use der_modules::{CopyLaws, copy_of};
+use der_modules::copy_of;
 use der_opaque::OctetStringRef;
 use der_tlv::{BackWriter, Error, Header, Length, Source, Writer};
 use std::alloc::Global;
@@ -59,11 +54,10 @@ type Fields<'a> = Fields5<
 ///      ... }
 /// ```
 ///
-/// Reading refuses the first fault of the octets, in their order; `ErrorKind::Memory` (1) where
-/// memory runs out.
+/// Reading refuses the first fault of the octets, in their order.
 ///
 /// Not checked: '...': fields that this module does not have are refused.
-#[derive(PartialEq, Eq, Drop)]
+#[derive(Clone, Copy, PartialEq, Eq)]
 pub struct OneAsymmetricKey<'a> {
     fields: Fields<'a>,
 }
@@ -77,13 +71,13 @@ impl<'a> OneAsymmetricKey<'a> {
         version: OneAsymmetricKeyVersion,
         private_key_algorithm: &AlgorithmIdentifier<'a>,
         private_key: OctetStringRef<'a>,
-        attributes: Option<Attributes<'a>>,
+        attributes: Option<&Attributes<'a>>,
         public_key: Option<BitStringRef<'a>>,
     ) -> OneAsymmetricKey<'a>
         ensures version { one_asymmetric_key_fields.version result ≡ version }
         ensures private_key_algorithm { one_asymmetric_key_fields.private_key_algorithm result ≡ private_key_algorithm.now }
         ensures private_key { one_asymmetric_key_fields.private_key result ≡ private_key.entry }
-        ensures attributes { one_asymmetric_key_fields.attributes result ≡ attributes.entry }
+        ensures attributes { one_asymmetric_key_fields.attributes result ≡ option_copied attributes.entry }
         ensures public_key { one_asymmetric_key_fields.public_key result ≡ public_key.entry }
     {
         let first = match public_key {
@@ -92,7 +86,9 @@ impl<'a> OneAsymmetricKey<'a> {
         };
         let rest = Field { first, rest: End };
         let first = match attributes {
-            Some(value) => Some(Implicit { value }),
+            Some(value) => Some(Implicit {
+                value: copy_of(value),
+            }),
             None => None,
         };
         let rest = Field { first, rest };
@@ -104,60 +100,6 @@ impl<'a> OneAsymmetricKey<'a> {
         let list = Field { first, rest };
         let fields = Fields5 { list };
         OneAsymmetricKey { fields }
-    }
-
-    /// The values of the fields, in their order.
-    pub fn into_parts(
-        self,
-    ) -> (
-        OneAsymmetricKeyVersion,
-        AlgorithmIdentifier<'a>,
-        OctetStringRef<'a>,
-        Option<Attributes<'a>>,
-        Option<BitStringRef<'a>>,
-    )
-        ensures version { one_asymmetric_key_fields.version self.entry ≡ result.0 }
-        ensures private_key_algorithm { one_asymmetric_key_fields.private_key_algorithm self.entry ≡ result.1 }
-        ensures private_key { one_asymmetric_key_fields.private_key self.entry ≡ result.2 }
-        ensures attributes { one_asymmetric_key_fields.attributes self.entry ≡ result.3 }
-        ensures public_key { one_asymmetric_key_fields.public_key self.entry ≡ result.4 }
-    {
-        let Fields5 { list } = self.fields;
-        let Field {
-            first: version,
-            rest,
-        } = list;
-        let Field {
-            first: private_key_algorithm,
-            rest,
-        } = rest;
-        let Field {
-            first: private_key,
-            rest,
-        } = rest;
-        let Field {
-            first: attributes,
-            rest,
-        } = rest;
-        let Field {
-            first: public_key,
-            ..
-        } = rest;
-        let attributes = match attributes {
-            Some(tagged) => Some(tagged.value),
-            None => None,
-        };
-        let public_key = match public_key {
-            Some(tagged) => Some(tagged.value),
-            None => None,
-        };
-        (
-            version,
-            private_key_algorithm,
-            private_key,
-            attributes,
-            public_key,
-        )
     }
 
     /// `version`, `INTEGER { v1 (0), v2 (1) }`.
@@ -227,9 +169,9 @@ impl<'a> FormValue for OneAsymmetricKey<'a> {
 }
 
 impl<'a, R: Source<'a>> DecodeValue<'a, R> for OneAsymmetricKey<'a> {
-    ghost TAKES_MEMORY = { true };
+    ghost TAKES_MEMORY = { false };
 
-    const TAKES_MEMORY: bool = true;
+    const TAKES_MEMORY: bool = false;
 
     fn decode_value(
         alloc: Global,
@@ -289,48 +231,7 @@ impl<'a> ContentsEq for OneAsymmetricKey<'a> {
         no_equality))))).equal v.fields.list w.fields.list };
 }
 
-impl<'a> CopyLaws for OneAsymmetricKey<'a> {
-    ghost copies = { copies_of (held_copies (λ v. v.fields.list)
-        (listed_copies (member_copies ⟦<OneAsymmetricKeyVersion as Form>⟧
-        (tagged_starts ⟦<OneAsymmetricKeyVersion as Form>⟧ (one_tag ⟦<IntegerTag as TagMarker>⟧.TAG ⟦<u8 as FormValue>⟧.value.contents))
-        (one_tag_copies ⟦<IntegerTag as TagMarker>⟧.TAG (same_copies ⟦<u8 as FormValue>⟧.value.contents ⟦<u8 as FormValue>⟧.value.comparable ⟦<u8 as FormValue>⟧.value.re_reads ⟦<u8 as PartialEq>⟧.eq (λ v. (u8_contents_eq.contents_eq-law v v tt).1 refl)))
-        (member_copies ⟦<AlgorithmIdentifier<'a> as Form>⟧
-        (tagged_starts ⟦<AlgorithmIdentifier<'a> as Form>⟧ (one_tag ⟦<SequenceTag as TagMarker>⟧.TAG ⟦<AlgorithmIdentifier<'a> as FormValue>⟧.value.contents))
-        (one_tag_copies ⟦<SequenceTag as TagMarker>⟧.TAG (same_copies ⟦<AlgorithmIdentifier<'a> as FormValue>⟧.value.contents ⟦<AlgorithmIdentifier<'a> as FormValue>⟧.value.comparable ⟦<AlgorithmIdentifier<'a> as FormValue>⟧.value.re_reads ⟦<AlgorithmIdentifier<'a> as PartialEq>⟧.eq algorithm_identifier_eq.laws-law.refl))
-        (member_copies ⟦<OctetStringRef<'a> as Form>⟧
-        (tagged_starts ⟦<OctetStringRef<'a> as Form>⟧ (one_tag ⟦<OctetStringTag as TagMarker>⟧.TAG ⟦<OctetStringRef<'a> as FormValue>⟧.value.contents))
-        (one_tag_copies ⟦<OctetStringTag as TagMarker>⟧.TAG (same_copies ⟦<OctetStringRef<'a> as FormValue>⟧.value.contents ⟦<OctetStringRef<'a> as FormValue>⟧.value.comparable ⟦<OctetStringRef<'a> as FormValue>⟧.value.re_reads ⟦<OctetStringRef<'a> as PartialEq>⟧.eq (λ v. (octetstringref_contents_eq.contents_eq-law v v tt).1 refl)))
-        (member_copies ⟦<Option<Implicit<Attributes<'a>, 0>> as Form>⟧
-        (optional_starts ⟦<Implicit<Attributes<'a>, 0> as Form>⟧ (one_tag ⟦<ImplicitTag<SetTag, 0> as TagMarker>⟧.TAG ⟦<Implicit<Attributes<'a>, 0> as FormValue>⟧.value.contents))
-        (optional_copies ⟦<Implicit<Attributes<'a>, 0> as Form>⟧ (one_tag_copies ⟦<ImplicitTag<SetTag, 0> as TagMarker>⟧.TAG (held_copies (λ x. x.value) (record { octets_are = attributes_duplicate_value.copy_contents-law; comparable_are = attributes_duplicate_value.copy_comparable_value-law; re_reads_are = attributes_duplicate_value.copy_re_reads_value-law; equal_are = attributes_duplicate_value_is_equal.copy_value_is_equal-law }))))
-        (member_copies ⟦<Option<Implicit<BitStringRef<'a>, 1>> as Form>⟧
-        (optional_starts ⟦<Implicit<BitStringRef<'a>, 1> as Form>⟧ (one_tag ⟦<ImplicitTag<BitStringTag, 1> as TagMarker>⟧.TAG ⟦<Implicit<BitStringRef<'a>, 1> as FormValue>⟧.value.contents))
-        (optional_copies ⟦<Implicit<BitStringRef<'a>, 1> as Form>⟧ (one_tag_copies ⟦<ImplicitTag<BitStringTag, 1> as TagMarker>⟧.TAG (held_copies (λ x. x.value) (same_copies ⟦<BitStringRef<'a> as FormValue>⟧.value.contents ⟦<BitStringRef<'a> as FormValue>⟧.value.comparable ⟦<BitStringRef<'a> as FormValue>⟧.value.re_reads ⟦<BitStringRef<'a> as PartialEq>⟧.eq (λ v. (bitstringref_contents_eq.contents_eq-law v v tt).1 refl)))))
-        no_copies))))))) };
-}
-
-impl<'a> DuplicateValue for OneAsymmetricKey<'a> {
-    ghost is_copy_value = { λ v w. ⟦<Fields<'a> as DuplicateFields>⟧.are_copies v.fields w.fields };
-
-    ghost takes_memory_to_copy_value = { ⟦<Fields<'a> as DuplicateFields>⟧.take_memory_to_copy };
-
-    fn duplicate_value(&self) -> Result<OneAsymmetricKey<'a>, Error> {
-        match self.fields.duplicate_fields() {
-            Ok(fields) => Ok(OneAsymmetricKey { fields }),
-            Err(e) => Err(e),
-        }
-    }
-
-    ghost copy_contents = { ⟦<OneAsymmetricKey<'a> as CopyLaws>⟧.copies.laws.octets_are };
-
-    ghost copy_comparable_value = { ⟦<OneAsymmetricKey<'a> as CopyLaws>⟧.copies.laws.comparable_are };
-
-    ghost copy_re_reads_value = { ⟦<OneAsymmetricKey<'a> as CopyLaws>⟧.copies.laws.re_reads_are };
-}
-
-impl<'a> DuplicateValueIsEqual for OneAsymmetricKey<'a> {
-    ghost copy_value_is_equal = { ⟦<OneAsymmetricKey<'a> as CopyLaws>⟧.copies.laws.equal_are };
-}
+impl<'a> CopyIsDuplicate for OneAsymmetricKey<'a> {}
 
 /// What is read as `OneAsymmetricKey` is what the page of the grammar says.
 pub fn grammar_of_one_asymmetric_key<'a>()

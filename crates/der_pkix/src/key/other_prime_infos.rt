@@ -2,21 +2,19 @@
 //!
 //! Made by tools/asn1 from key.asn1.
 
-ghost use Rattle.std.specs.Prelude.{◌≡◌, refl, true};
+ghost use Rattle.std.specs.Cmp.Lexicographic.{bytes_decides};
+ghost use Rattle.std.specs.Prelude.{◌≡◌, false, refl};
 ghost use Rattle.der_elem.specs.FormatMakers.{mapped_format};
+ghost use Rattle.der_lists.specs.NonEmptyRef.{list_of};
 ghost use Rattle.der_modules.specs.Asn1.{parse_of};
-ghost use Rattle.der_modules.specs.MemberLaws.{copies_of, held_copies, items_copies, items_equality, one_tag, one_tag_copies, one_tag_equality, same_copies};
 ghost use Rattle.der_pkix.specs.Key.Grammar.{other_prime_infos};
-ghost use Rattle.der_pkix.specs.contracts.key.other_prime_info.OtherPrimeInfoContentsEq.TheImpl.Laws as other_prime_info_contents_eq;
-ghost use Rattle.der_pkix.specs.contracts.key.other_prime_info.OtherPrimeInfoEq.TheImpl.Laws as other_prime_info_eq;
 
 use crate::key::other_prime_info::OtherPrimeInfo;
 use der_elem::{
-    ContentsEq, DecodeValue, DuplicateValue, DuplicateValueIsEqual, EncodeValue, Form, FormValue,
-    OneTag, Sequence, SequenceTag, TagMarker, ValueOrd,
+    ContentsEq, CopyIsDuplicate, DecodeValue, EncodeValue, Form, FormValue, OneTag, Sequence,
+    SequenceTag, ValueOrd,
 };
-use der_modules::CopyLaws;
-use der_nest::NonEmpty;
+use der_lists::{ListRef, NonEmptyRef};
 use der_tlv::{BackWriter, Error, Header, Length, Source, Writer};
 use std::alloc::Global;
 use std::cmp::Ordering;
@@ -25,35 +23,27 @@ use std::cmp::Ordering;
 /// OtherPrimeInfos ::= SEQUENCE SIZE (1..MAX) OF OtherPrimeInfo
 /// ```
 ///
-/// Reading refuses the first fault of the octets, in their order; `ErrorKind::Memory` (1) where
-/// memory runs out.
-#[derive(Debug, PartialEq, Eq, Drop)]
+/// Reading refuses the first fault of the octets, in their order.
+#[derive(Clone, Copy, Debug, PartialEq, Eq)]
 pub struct OtherPrimeInfos<'a> {
-    items: NonEmpty<Vec<OtherPrimeInfo<'a>>>,
+    items: NonEmptyRef<ListRef<'a, OtherPrimeInfo<'a>>>,
 }
 
 impl<'a> OtherPrimeInfos<'a> {
     ghost use Rattle.der_pkix.specs.Key.OtherPrimeInfos as other_prime_infos;
 
     /// These items.
-    pub fn new(items: NonEmpty<Vec<OtherPrimeInfo<'a>>>) -> OtherPrimeInfos<'a>
-        ensures { other_prime_infos.items_of result ≡ items.entry.items }
+    pub fn new(items: NonEmptyRef<ListRef<'a, OtherPrimeInfo<'a>>>) -> OtherPrimeInfos<'a>
+        ensures { other_prime_infos.items_of result ≡ list_of items.entry }
     {
         OtherPrimeInfos { items }
     }
 
     /// The items, in their order.
-    pub fn as_slice(&self) -> &[OtherPrimeInfo<'a>]
+    pub fn items(&self) -> &ListRef<'a, OtherPrimeInfo<'a>>
         ensures { result.now ≡ other_prime_infos.items_of self.now }
     {
-        self.items.list().as_slice()
-    }
-
-    /// The items, in the room that holds them.
-    pub fn into_items(self) -> NonEmpty<Vec<OtherPrimeInfo<'a>>>
-        ensures { other_prime_infos.items_of self.entry ≡ result.items }
-    {
-        self.items
+        self.items.list()
     }
 }
 
@@ -66,20 +56,20 @@ impl<'a> Sequence<'a> for OtherPrimeInfos<'a> {
 }
 
 impl<'a> FormValue for OtherPrimeInfos<'a> {
-    ghost value = { mapped_format (λ v. v.items) ⟦<NonEmpty<Vec<OtherPrimeInfo<'a>>> as FormValue>⟧.value };
+    ghost value = { mapped_format (λ v. v.items) ⟦<NonEmptyRef<ListRef<'a, OtherPrimeInfo<'a>>> as FormValue>⟧.value };
 }
 
 impl<'a, R: Source<'a>> DecodeValue<'a, R> for OtherPrimeInfos<'a> {
-    ghost TAKES_MEMORY = { true };
+    ghost TAKES_MEMORY = { false };
 
-    const TAKES_MEMORY: bool = true;
+    const TAKES_MEMORY: bool = false;
 
     fn decode_value(
         alloc: Global,
         reader: &mut R,
         header: Header,
     ) -> Result<OtherPrimeInfos<'a>, Error> {
-        match NonEmpty::<Vec<OtherPrimeInfo<'a>>>::decode_value(alloc, reader, header) {
+        match NonEmptyRef::<ListRef<'a, OtherPrimeInfo<'a>>>::decode_value(alloc, reader, header) {
             Ok(items) => Ok(OtherPrimeInfos { items }),
             Err(e) => Err(e),
         }
@@ -109,36 +99,10 @@ impl<'a> ValueOrd for OtherPrimeInfos<'a> {
 }
 
 impl<'a> ContentsEq for OtherPrimeInfos<'a> {
-    ghost contents_eq = { λ v w. (items_equality ⟦<OtherPrimeInfo<'a> as Form>⟧ (one_tag ⟦<SequenceTag as TagMarker>⟧.TAG ⟦<OtherPrimeInfo<'a> as FormValue>⟧.value.contents) ⟦<OtherPrimeInfo<'a> as PartialEq>⟧.eq (one_tag_equality ⟦<SequenceTag as TagMarker>⟧.TAG ⟦<OtherPrimeInfo<'a> as FormValue>⟧.value.contents ⟦<OtherPrimeInfo<'a> as FormValue>⟧.value.comparable ⟦<OtherPrimeInfo<'a> as PartialEq>⟧.eq other_prime_info_contents_eq.contents_eq-law)) v.items.items w.items.items };
+    ghost contents_eq = { λ v w. (λ one. bytes_decides v.items.list.octets.octets.now w.items.list.octets.octets.now) };
 }
 
-impl<'a> CopyLaws for OtherPrimeInfos<'a> {
-    ghost copies = { copies_of (held_copies (λ v. v.items.items)
-        (items_copies ⟦<OtherPrimeInfo<'a> as Form>⟧ (one_tag_copies ⟦<SequenceTag as TagMarker>⟧.TAG (same_copies ⟦<OtherPrimeInfo<'a> as FormValue>⟧.value.contents ⟦<OtherPrimeInfo<'a> as FormValue>⟧.value.comparable ⟦<OtherPrimeInfo<'a> as FormValue>⟧.value.re_reads ⟦<OtherPrimeInfo<'a> as PartialEq>⟧.eq other_prime_info_eq.laws-law.refl)))) };
-}
-
-impl<'a> DuplicateValue for OtherPrimeInfos<'a> {
-    ghost is_copy_value = { λ v w. ⟦<NonEmpty<Vec<OtherPrimeInfo<'a>>> as DuplicateValue>⟧.is_copy_value v.items w.items };
-
-    ghost takes_memory_to_copy_value = { ⟦<NonEmpty<Vec<OtherPrimeInfo<'a>>> as DuplicateValue>⟧.takes_memory_to_copy_value };
-
-    fn duplicate_value(&self) -> Result<OtherPrimeInfos<'a>, Error> {
-        match self.items.duplicate_value() {
-            Ok(items) => Ok(OtherPrimeInfos { items }),
-            Err(e) => Err(e),
-        }
-    }
-
-    ghost copy_contents = { ⟦<OtherPrimeInfos<'a> as CopyLaws>⟧.copies.laws.octets_are };
-
-    ghost copy_comparable_value = { ⟦<OtherPrimeInfos<'a> as CopyLaws>⟧.copies.laws.comparable_are };
-
-    ghost copy_re_reads_value = { ⟦<OtherPrimeInfos<'a> as CopyLaws>⟧.copies.laws.re_reads_are };
-}
-
-impl<'a> DuplicateValueIsEqual for OtherPrimeInfos<'a> {
-    ghost copy_value_is_equal = { ⟦<OtherPrimeInfos<'a> as CopyLaws>⟧.copies.laws.equal_are };
-}
+impl<'a> CopyIsDuplicate for OtherPrimeInfos<'a> {}
 
 /// What is read as `OtherPrimeInfos` is what the page of the grammar says.
 pub fn grammar_of_other_prime_infos<'a>()

@@ -2,29 +2,25 @@
 //!
 //! Made by tools/asn1 from key.asn1.
 
-ghost use Rattle.std.specs.Prelude.{◌∷◌, ◌≡◌, [], refl, true};
+ghost use Rattle.std.specs.Prelude.{◌∷◌, ◌≡◌, [], false, refl};
 ghost use Rattle.der_elem.specs.FormatMakers.{mapped_format};
 ghost use Rattle.der_elem.specs.contracts.integer.unsigned.U8ContentsEq.TheImpl.Laws as u8_contents_eq;
 ghost use Rattle.der_modules.specs.Asn1.{joined, optional, parse_of};
-ghost use Rattle.der_modules.specs.MemberLaws.{copies_of, held_copies, listed_copies, member_copies, member_equality, no_copies, no_equality, one_tag, one_tag_copies, one_tag_equality, optional_copies, optional_equality, optional_starts, part_copies, part_equality, same_copies, tagged_starts};
+ghost use Rattle.der_modules.specs.MemberLaws.{member_equality, no_equality, one_tag, one_tag_equality, optional_equality, optional_starts, part_equality, tagged_starts};
 ghost use Rattle.der_numbers.specs.contracts.uint_ref.UintRefContentsEq.TheImpl.Laws as uintref_contents_eq;
 ghost use Rattle.der_pkix.specs.Key.Grammar.{rsa_private_key};
 ghost use Rattle.der_pkix.specs.Key.RsaPrivateKey as rsa_private_key_fields;
 ghost use Rattle.der_pkix.specs.contracts.key.other_prime_infos.OtherPrimeInfosContentsEq.TheImpl.Laws as other_prime_infos_contents_eq;
-ghost use Rattle.der_pkix.specs.contracts.key.other_prime_infos.OtherPrimeInfosDuplicateValue.TheImpl.Laws as other_prime_infos_duplicate_value;
-ghost use Rattle.der_pkix.specs.contracts.key.other_prime_infos.OtherPrimeInfosDuplicateValueIsEqual.TheImpl.Laws as other_prime_infos_duplicate_value_is_equal;
 ghost use Rattle.der_pkix.specs.declared.key.rsa_private_key.RsaPrivateKey.{RsaPrivateKey};
 
 use crate::key::aliases::RsaPrivateKeyVersion;
 use crate::key::other_prime_infos::OtherPrimeInfos;
 use der_elem::{
-    ContentsEq, DecodeValue, DuplicateValue, DuplicateValueIsEqual, EncodeValue, Form, FormValue,
-    IntegerTag, OneTag, Sequence, SequenceTag, TagMarker, ValueOrd,
+    ContentsEq, CopyIsDuplicate, DecodeValue, EncodeValue, Form, FormValue, IntegerTag, OneTag,
+    Sequence, SequenceTag, TagMarker, ValueOrd,
 };
-use der_fields::{
-    DecodeFields, DuplicateFields, EncodeFields, End, Field, FieldList, Fields2, Fields8, FieldsOrd,
-};
-use der_modules::CopyLaws;
+use der_fields::{DecodeFields, EncodeFields, End, Field, FieldList, Fields2, Fields8, FieldsOrd};
+use der_modules::copy_of;
 use der_numbers::UintRef;
 use der_tlv::{BackWriter, Error, Header, Length, Source, Writer};
 use std::alloc::Global;
@@ -58,9 +54,8 @@ type Fields<'a> = Fields8<
 ///      otherPrimeInfos  OtherPrimeInfos OPTIONAL }
 /// ```
 ///
-/// Reading refuses the first fault of the octets, in their order; `ErrorKind::Memory` (1) where
-/// memory runs out.
-#[derive(PartialEq, Eq, Drop)]
+/// Reading refuses the first fault of the octets, in their order.
+#[derive(Clone, Copy, PartialEq, Eq)]
 pub struct RsaPrivateKey<'a> {
     fields: Fields<'a>,
 }
@@ -80,7 +75,7 @@ impl<'a> RsaPrivateKey<'a> {
         exponent1: UintRef<'a>,
         exponent2: UintRef<'a>,
         coefficient: UintRef<'a>,
-        other_prime_infos: Option<OtherPrimeInfos<'a>>,
+        other_prime_infos: Option<&OtherPrimeInfos<'a>>,
     ) -> RsaPrivateKey<'a>
         ensures version { rsa_private_key_fields.version result ≡ version }
         ensures modulus { rsa_private_key_fields.modulus result ≡ modulus.entry }
@@ -91,9 +86,12 @@ impl<'a> RsaPrivateKey<'a> {
         ensures exponent1 { rsa_private_key_fields.exponent1 result ≡ exponent1.entry }
         ensures exponent2 { rsa_private_key_fields.exponent2 result ≡ exponent2.entry }
         ensures coefficient { rsa_private_key_fields.coefficient result ≡ coefficient.entry }
-        ensures other_prime_infos { rsa_private_key_fields.other_prime_infos result ≡ other_prime_infos.entry }
+        ensures other_prime_infos { rsa_private_key_fields.other_prime_infos result ≡ option_copied other_prime_infos.entry }
     {
-        let first = other_prime_infos;
+        let first = match other_prime_infos {
+            Some(value) => Some(copy_of(value)),
+            None => None,
+        };
         let rest = Field { first, rest: End };
         let first = coefficient;
         let list = Field { first, rest };
@@ -116,88 +114,6 @@ impl<'a> RsaPrivateKey<'a> {
         let list = Field { first, rest };
         let fields = Fields8 { list };
         RsaPrivateKey { fields }
-    }
-
-    /// The values of the fields, in their order.
-    pub fn into_parts(
-        self,
-    ) -> (
-        RsaPrivateKeyVersion,
-        UintRef<'a>,
-        UintRef<'a>,
-        UintRef<'a>,
-        UintRef<'a>,
-        UintRef<'a>,
-        UintRef<'a>,
-        UintRef<'a>,
-        UintRef<'a>,
-        Option<OtherPrimeInfos<'a>>,
-    )
-        ensures version { rsa_private_key_fields.version self.entry ≡ result.0 }
-        ensures modulus { rsa_private_key_fields.modulus self.entry ≡ result.1 }
-        ensures public_exponent { rsa_private_key_fields.public_exponent self.entry ≡ result.2 }
-        ensures private_exponent { rsa_private_key_fields.private_exponent self.entry ≡ result.3 }
-        ensures prime1 { rsa_private_key_fields.prime1 self.entry ≡ result.4 }
-        ensures prime2 { rsa_private_key_fields.prime2 self.entry ≡ result.5 }
-        ensures exponent1 { rsa_private_key_fields.exponent1 self.entry ≡ result.6 }
-        ensures exponent2 { rsa_private_key_fields.exponent2 self.entry ≡ result.7 }
-        ensures coefficient { rsa_private_key_fields.coefficient self.entry ≡ result.8 }
-        ensures other_prime_infos { rsa_private_key_fields.other_prime_infos self.entry ≡ result.9 }
-    {
-        let Fields8 { list } = self.fields;
-        let Field {
-            first: version,
-            rest,
-        } = list;
-        let Field {
-            first: modulus,
-            rest,
-        } = rest;
-        let Field {
-            first: public_exponent,
-            rest,
-        } = rest;
-        let Field {
-            first: private_exponent,
-            rest,
-        } = rest;
-        let Field {
-            first: prime1,
-            rest,
-        } = rest;
-        let Field {
-            first: prime2,
-            rest,
-        } = rest;
-        let Field {
-            first: exponent1,
-            rest,
-        } = rest;
-        let Field {
-            first: exponent2,
-            rest,
-        } = rest;
-        let Fields2 { list } = rest;
-        let Field {
-            first: coefficient,
-            rest,
-        } = list;
-        let Field {
-            first: other_prime_infos,
-            ..
-        } = rest;
-        (
-            version,
-            modulus,
-            public_exponent,
-            private_exponent,
-            prime1,
-            prime2,
-            exponent1,
-            exponent2,
-            coefficient,
-            other_prime_infos,
-        )
     }
 
     /// `version`, `INTEGER { two-prime (0), multi (1) }`.
@@ -306,9 +222,9 @@ impl<'a> FormValue for RsaPrivateKey<'a> {
 }
 
 impl<'a, R: Source<'a>> DecodeValue<'a, R> for RsaPrivateKey<'a> {
-    ghost TAKES_MEMORY = { true };
+    ghost TAKES_MEMORY = { false };
 
-    const TAKES_MEMORY: bool = true;
+    const TAKES_MEMORY: bool = false;
 
     fn decode_value(
         alloc: Global,
@@ -388,63 +304,7 @@ impl<'a> ContentsEq for RsaPrivateKey<'a> {
         no_equality))))))))))).equal v.fields.list w.fields.list };
 }
 
-impl<'a> CopyLaws for RsaPrivateKey<'a> {
-    ghost copies = { copies_of (held_copies (λ v. v.fields.list)
-        (listed_copies (member_copies ⟦<RsaPrivateKeyVersion as Form>⟧
-        (tagged_starts ⟦<RsaPrivateKeyVersion as Form>⟧ (one_tag ⟦<IntegerTag as TagMarker>⟧.TAG ⟦<u8 as FormValue>⟧.value.contents))
-        (one_tag_copies ⟦<IntegerTag as TagMarker>⟧.TAG (same_copies ⟦<u8 as FormValue>⟧.value.contents ⟦<u8 as FormValue>⟧.value.comparable ⟦<u8 as FormValue>⟧.value.re_reads ⟦<u8 as PartialEq>⟧.eq (λ v. (u8_contents_eq.contents_eq-law v v tt).1 refl)))
-        (member_copies ⟦<UintRef<'a> as Form>⟧
-        (tagged_starts ⟦<UintRef<'a> as Form>⟧ (one_tag ⟦<IntegerTag as TagMarker>⟧.TAG ⟦<UintRef<'a> as FormValue>⟧.value.contents))
-        (one_tag_copies ⟦<IntegerTag as TagMarker>⟧.TAG (same_copies ⟦<UintRef<'a> as FormValue>⟧.value.contents ⟦<UintRef<'a> as FormValue>⟧.value.comparable ⟦<UintRef<'a> as FormValue>⟧.value.re_reads ⟦<UintRef<'a> as PartialEq>⟧.eq (λ v. (uintref_contents_eq.contents_eq-law v v tt).1 refl)))
-        (member_copies ⟦<UintRef<'a> as Form>⟧
-        (tagged_starts ⟦<UintRef<'a> as Form>⟧ (one_tag ⟦<IntegerTag as TagMarker>⟧.TAG ⟦<UintRef<'a> as FormValue>⟧.value.contents))
-        (one_tag_copies ⟦<IntegerTag as TagMarker>⟧.TAG (same_copies ⟦<UintRef<'a> as FormValue>⟧.value.contents ⟦<UintRef<'a> as FormValue>⟧.value.comparable ⟦<UintRef<'a> as FormValue>⟧.value.re_reads ⟦<UintRef<'a> as PartialEq>⟧.eq (λ v. (uintref_contents_eq.contents_eq-law v v tt).1 refl)))
-        (member_copies ⟦<UintRef<'a> as Form>⟧
-        (tagged_starts ⟦<UintRef<'a> as Form>⟧ (one_tag ⟦<IntegerTag as TagMarker>⟧.TAG ⟦<UintRef<'a> as FormValue>⟧.value.contents))
-        (one_tag_copies ⟦<IntegerTag as TagMarker>⟧.TAG (same_copies ⟦<UintRef<'a> as FormValue>⟧.value.contents ⟦<UintRef<'a> as FormValue>⟧.value.comparable ⟦<UintRef<'a> as FormValue>⟧.value.re_reads ⟦<UintRef<'a> as PartialEq>⟧.eq (λ v. (uintref_contents_eq.contents_eq-law v v tt).1 refl)))
-        (member_copies ⟦<UintRef<'a> as Form>⟧
-        (tagged_starts ⟦<UintRef<'a> as Form>⟧ (one_tag ⟦<IntegerTag as TagMarker>⟧.TAG ⟦<UintRef<'a> as FormValue>⟧.value.contents))
-        (one_tag_copies ⟦<IntegerTag as TagMarker>⟧.TAG (same_copies ⟦<UintRef<'a> as FormValue>⟧.value.contents ⟦<UintRef<'a> as FormValue>⟧.value.comparable ⟦<UintRef<'a> as FormValue>⟧.value.re_reads ⟦<UintRef<'a> as PartialEq>⟧.eq (λ v. (uintref_contents_eq.contents_eq-law v v tt).1 refl)))
-        (member_copies ⟦<UintRef<'a> as Form>⟧
-        (tagged_starts ⟦<UintRef<'a> as Form>⟧ (one_tag ⟦<IntegerTag as TagMarker>⟧.TAG ⟦<UintRef<'a> as FormValue>⟧.value.contents))
-        (one_tag_copies ⟦<IntegerTag as TagMarker>⟧.TAG (same_copies ⟦<UintRef<'a> as FormValue>⟧.value.contents ⟦<UintRef<'a> as FormValue>⟧.value.comparable ⟦<UintRef<'a> as FormValue>⟧.value.re_reads ⟦<UintRef<'a> as PartialEq>⟧.eq (λ v. (uintref_contents_eq.contents_eq-law v v tt).1 refl)))
-        (member_copies ⟦<UintRef<'a> as Form>⟧
-        (tagged_starts ⟦<UintRef<'a> as Form>⟧ (one_tag ⟦<IntegerTag as TagMarker>⟧.TAG ⟦<UintRef<'a> as FormValue>⟧.value.contents))
-        (one_tag_copies ⟦<IntegerTag as TagMarker>⟧.TAG (same_copies ⟦<UintRef<'a> as FormValue>⟧.value.contents ⟦<UintRef<'a> as FormValue>⟧.value.comparable ⟦<UintRef<'a> as FormValue>⟧.value.re_reads ⟦<UintRef<'a> as PartialEq>⟧.eq (λ v. (uintref_contents_eq.contents_eq-law v v tt).1 refl)))
-        (member_copies ⟦<UintRef<'a> as Form>⟧
-        (tagged_starts ⟦<UintRef<'a> as Form>⟧ (one_tag ⟦<IntegerTag as TagMarker>⟧.TAG ⟦<UintRef<'a> as FormValue>⟧.value.contents))
-        (one_tag_copies ⟦<IntegerTag as TagMarker>⟧.TAG (same_copies ⟦<UintRef<'a> as FormValue>⟧.value.contents ⟦<UintRef<'a> as FormValue>⟧.value.comparable ⟦<UintRef<'a> as FormValue>⟧.value.re_reads ⟦<UintRef<'a> as PartialEq>⟧.eq (λ v. (uintref_contents_eq.contents_eq-law v v tt).1 refl)))
-        (part_copies (λ x. x.list) (member_copies ⟦<UintRef<'a> as Form>⟧
-        (tagged_starts ⟦<UintRef<'a> as Form>⟧ (one_tag ⟦<IntegerTag as TagMarker>⟧.TAG ⟦<UintRef<'a> as FormValue>⟧.value.contents))
-        (one_tag_copies ⟦<IntegerTag as TagMarker>⟧.TAG (same_copies ⟦<UintRef<'a> as FormValue>⟧.value.contents ⟦<UintRef<'a> as FormValue>⟧.value.comparable ⟦<UintRef<'a> as FormValue>⟧.value.re_reads ⟦<UintRef<'a> as PartialEq>⟧.eq (λ v. (uintref_contents_eq.contents_eq-law v v tt).1 refl)))
-        (member_copies ⟦<Option<OtherPrimeInfos<'a>> as Form>⟧
-        (optional_starts ⟦<OtherPrimeInfos<'a> as Form>⟧ (one_tag ⟦<SequenceTag as TagMarker>⟧.TAG ⟦<OtherPrimeInfos<'a> as FormValue>⟧.value.contents))
-        (optional_copies ⟦<OtherPrimeInfos<'a> as Form>⟧ (one_tag_copies ⟦<SequenceTag as TagMarker>⟧.TAG (record { octets_are = other_prime_infos_duplicate_value.copy_contents-law; comparable_are = other_prime_infos_duplicate_value.copy_comparable_value-law; re_reads_are = other_prime_infos_duplicate_value.copy_re_reads_value-law; equal_are = other_prime_infos_duplicate_value_is_equal.copy_value_is_equal-law })))
-        no_copies))))))))))))) };
-}
-
-impl<'a> DuplicateValue for RsaPrivateKey<'a> {
-    ghost is_copy_value = { λ v w. ⟦<Fields<'a> as DuplicateFields>⟧.are_copies v.fields w.fields };
-
-    ghost takes_memory_to_copy_value = { ⟦<Fields<'a> as DuplicateFields>⟧.take_memory_to_copy };
-
-    fn duplicate_value(&self) -> Result<RsaPrivateKey<'a>, Error> {
-        match self.fields.duplicate_fields() {
-            Ok(fields) => Ok(RsaPrivateKey { fields }),
-            Err(e) => Err(e),
-        }
-    }
-
-    ghost copy_contents = { ⟦<RsaPrivateKey<'a> as CopyLaws>⟧.copies.laws.octets_are };
-
-    ghost copy_comparable_value = { ⟦<RsaPrivateKey<'a> as CopyLaws>⟧.copies.laws.comparable_are };
-
-    ghost copy_re_reads_value = { ⟦<RsaPrivateKey<'a> as CopyLaws>⟧.copies.laws.re_reads_are };
-}
-
-impl<'a> DuplicateValueIsEqual for RsaPrivateKey<'a> {
-    ghost copy_value_is_equal = { ⟦<RsaPrivateKey<'a> as CopyLaws>⟧.copies.laws.equal_are };
-}
+impl<'a> CopyIsDuplicate for RsaPrivateKey<'a> {}
 
 /// What is read as `RSAPrivateKey` is what the page of the grammar says.
 pub fn grammar_of_rsa_private_key<'a>()

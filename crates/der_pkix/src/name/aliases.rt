@@ -2,13 +2,12 @@
 //!
 //! Made by tools/asn1 from name.asn1.
 
-ghost use Rattle.std.specs.Prelude.{◌≡◌, refl};
+ghost use Rattle.std.specs.Prelude.{◌≡◌};
 ghost use Rattle.der_modules.specs.Asn1.{parse_of};
 ghost use Rattle.der_pkix.specs.Name.Grammar.{attribute_type, attribute_value, distinguished_name, name};
 
 use crate::name::rdn_sequence::RdnSequence;
 use der_elem::Form;
-use der_nest::{ItemOrder, OrdersByEncoding};
 use der_opaque::{AnyRef, ObjectIdentifierRef};
 
 /// ```text
@@ -25,17 +24,6 @@ pub fn grammar_of_attribute_type<'a>()
 /// AttributeValue ::= ANY
 /// ```
 pub type AttributeValue<'a> = AnyRef<'a>;
-
-/// The order of a SET OF `AttributeValue<'a>`: that of the encodings (X.690 11.6).
-pub struct AttributeValueOrder;
-
-impl<'a> ItemOrder<AttributeValue<'a>> for AttributeValueOrder {
-    ghost item_encoding = { ⟦<AttributeValue<'a> as Form>⟧.encoding };
-}
-
-impl<'a> OrdersByEncoding<AttributeValue<'a>> for AttributeValueOrder {
-    ghost is_encoding = { refl };
-}
 
 /// What is read as `AttributeValue` is what the page of the grammar says.
 pub fn grammar_of_attribute_value<'a>()

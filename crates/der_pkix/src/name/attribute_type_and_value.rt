@@ -20,7 +20,6 @@ use der_elem::{
     OneTag, Sequence, SequenceTag, TagMarker, Tagged, ValueOrd,
 };
 use der_fields::{DecodeFields, EncodeFields, End, Field, FieldList, Fields2, FieldsOrd};
-use der_nest::{ItemOrder, OrdersByEncoding};
 use der_opaque::{AnyRef, ObjectIdentifierRef};
 use der_tlv::{BackWriter, Error, Header, Length, Source, Writer};
 use std::alloc::Global;
@@ -146,17 +145,6 @@ impl<'a> ContentsEq for AttributeTypeAndValue<'a> {
 }
 
 impl<'a> CopyIsDuplicate for AttributeTypeAndValue<'a> {}
-
-/// The order of a SET OF `AttributeTypeAndValue<'a>`: that of the encodings (X.690 11.6).
-pub struct AttributeTypeAndValueOrder;
-
-impl<'a> ItemOrder<AttributeTypeAndValue<'a>> for AttributeTypeAndValueOrder {
-    ghost item_encoding = { ⟦<AttributeTypeAndValue<'a> as Form>⟧.encoding };
-}
-
-impl<'a> OrdersByEncoding<AttributeTypeAndValue<'a>> for AttributeTypeAndValueOrder {
-    ghost is_encoding = { refl };
-}
 
 /// What is read as `AttributeTypeAndValue` is what the page of the grammar says.
 pub fn grammar_of_attribute_type_and_value<'a>()

@@ -2,21 +2,18 @@
 //!
 //! Made by tools/asn1 from name.asn1.
 
-ghost use Rattle.std.specs.Prelude.{◌≡◌, refl, true};
+ghost use Rattle.std.specs.Cmp.Lexicographic.{bytes_decides};
+ghost use Rattle.std.specs.Prelude.{◌≡◌, false, refl};
 ghost use Rattle.der_elem.specs.FormatMakers.{mapped_format};
 ghost use Rattle.der_modules.specs.Asn1.{parse_of};
-ghost use Rattle.der_modules.specs.MemberLaws.{copies_of, held_copies, items_copies, items_equality, one_tag, one_tag_copies, one_tag_equality};
 ghost use Rattle.der_pkix.specs.Name.Grammar.{rdn_sequence};
-ghost use Rattle.der_pkix.specs.contracts.name.relative_distinguished_name.RelativeDistinguishedNameContentsEq.TheImpl.Laws as relative_distinguished_name_contents_eq;
-ghost use Rattle.der_pkix.specs.contracts.name.relative_distinguished_name.RelativeDistinguishedNameDuplicateValue.TheImpl.Laws as relative_distinguished_name_duplicate_value;
-ghost use Rattle.der_pkix.specs.contracts.name.relative_distinguished_name.RelativeDistinguishedNameDuplicateValueIsEqual.TheImpl.Laws as relative_distinguished_name_duplicate_value_is_equal;
 
 use crate::name::relative_distinguished_name::RelativeDistinguishedName;
 use der_elem::{
-    ContentsEq, DecodeValue, DuplicateValue, DuplicateValueIsEqual, EncodeValue, Form, FormValue,
-    OneTag, Sequence, SequenceTag, SetTag, TagMarker, ValueOrd,
+    ContentsEq, CopyIsDuplicate, DecodeValue, EncodeValue, Form, FormValue, OneTag, Sequence,
+    SequenceTag, ValueOrd,
 };
-use der_modules::CopyLaws;
+use der_lists::ListRef;
 use der_tlv::{BackWriter, Error, Header, Length, Source, Writer};
 use std::alloc::Global;
 use std::cmp::Ordering;
@@ -25,35 +22,27 @@ use std::cmp::Ordering;
 /// RDNSequence ::= SEQUENCE OF RelativeDistinguishedName
 /// ```
 ///
-/// Reading refuses the first fault of the octets, in their order; `ErrorKind::Memory` (1) where
-/// memory runs out.
-#[derive(Debug, PartialEq, Eq, Drop)]
+/// Reading refuses the first fault of the octets, in their order.
+#[derive(Clone, Copy, Debug, PartialEq, Eq)]
 pub struct RdnSequence<'a> {
-    items: Vec<RelativeDistinguishedName<'a>>,
+    items: ListRef<'a, RelativeDistinguishedName<'a>>,
 }
 
 impl<'a> RdnSequence<'a> {
     ghost use Rattle.der_pkix.specs.Name.RdnSequence as rdn_sequence;
 
     /// These items.
-    pub fn new(items: Vec<RelativeDistinguishedName<'a>>) -> RdnSequence<'a>
-        ensures { rdn_sequence.items_of result ≡ items.entry.items }
+    pub fn new(items: ListRef<'a, RelativeDistinguishedName<'a>>) -> RdnSequence<'a>
+        ensures { rdn_sequence.items_of result ≡ items.entry }
     {
         RdnSequence { items }
     }
 
     /// The items, in their order.
-    pub fn as_slice(&self) -> &[RelativeDistinguishedName<'a>]
+    pub fn items(&self) -> &ListRef<'a, RelativeDistinguishedName<'a>>
         ensures { result.now ≡ rdn_sequence.items_of self.now }
     {
-        self.items.as_slice()
-    }
-
-    /// The items, in the room that holds them.
-    pub fn into_items(self) -> Vec<RelativeDistinguishedName<'a>>
-        ensures { rdn_sequence.items_of self.entry ≡ result.items }
-    {
-        self.items
+        &self.items
     }
 }
 
@@ -66,20 +55,20 @@ impl<'a> Sequence<'a> for RdnSequence<'a> {
 }
 
 impl<'a> FormValue for RdnSequence<'a> {
-    ghost value = { mapped_format (λ v. v.items) ⟦<Vec<RelativeDistinguishedName<'a>> as FormValue>⟧.value };
+    ghost value = { mapped_format (λ v. v.items) ⟦<ListRef<'a, RelativeDistinguishedName<'a>> as FormValue>⟧.value };
 }
 
 impl<'a, R: Source<'a>> DecodeValue<'a, R> for RdnSequence<'a> {
-    ghost TAKES_MEMORY = { true };
+    ghost TAKES_MEMORY = { false };
 
-    const TAKES_MEMORY: bool = true;
+    const TAKES_MEMORY: bool = false;
 
     fn decode_value(
         alloc: Global,
         reader: &mut R,
         header: Header,
     ) -> Result<RdnSequence<'a>, Error> {
-        match Vec::<RelativeDistinguishedName<'a>>::decode_value(alloc, reader, header) {
+        match ListRef::<'a, RelativeDistinguishedName<'a>>::decode_value(alloc, reader, header) {
             Ok(items) => Ok(RdnSequence { items }),
             Err(e) => Err(e),
         }
@@ -109,36 +98,10 @@ impl<'a> ValueOrd for RdnSequence<'a> {
 }
 
 impl<'a> ContentsEq for RdnSequence<'a> {
-    ghost contents_eq = { λ v w. (items_equality ⟦<RelativeDistinguishedName<'a> as Form>⟧ (one_tag ⟦<SetTag as TagMarker>⟧.TAG ⟦<RelativeDistinguishedName<'a> as FormValue>⟧.value.contents) ⟦<RelativeDistinguishedName<'a> as PartialEq>⟧.eq (one_tag_equality ⟦<SetTag as TagMarker>⟧.TAG ⟦<RelativeDistinguishedName<'a> as FormValue>⟧.value.contents ⟦<RelativeDistinguishedName<'a> as FormValue>⟧.value.comparable ⟦<RelativeDistinguishedName<'a> as PartialEq>⟧.eq relative_distinguished_name_contents_eq.contents_eq-law)) v.items.items w.items.items };
+    ghost contents_eq = { λ v w. (λ one. bytes_decides v.items.octets.octets.now w.items.octets.octets.now) };
 }
 
-impl<'a> CopyLaws for RdnSequence<'a> {
-    ghost copies = { copies_of (held_copies (λ v. v.items.items)
-        (items_copies ⟦<RelativeDistinguishedName<'a> as Form>⟧ (one_tag_copies ⟦<SetTag as TagMarker>⟧.TAG (record { octets_are = relative_distinguished_name_duplicate_value.copy_contents-law; comparable_are = relative_distinguished_name_duplicate_value.copy_comparable_value-law; re_reads_are = relative_distinguished_name_duplicate_value.copy_re_reads_value-law; equal_are = relative_distinguished_name_duplicate_value_is_equal.copy_value_is_equal-law })))) };
-}
-
-impl<'a> DuplicateValue for RdnSequence<'a> {
-    ghost is_copy_value = { λ v w. ⟦<Vec<RelativeDistinguishedName<'a>> as DuplicateValue>⟧.is_copy_value v.items w.items };
-
-    ghost takes_memory_to_copy_value = { ⟦<Vec<RelativeDistinguishedName<'a>> as DuplicateValue>⟧.takes_memory_to_copy_value };
-
-    fn duplicate_value(&self) -> Result<RdnSequence<'a>, Error> {
-        match self.items.duplicate_value() {
-            Ok(items) => Ok(RdnSequence { items }),
-            Err(e) => Err(e),
-        }
-    }
-
-    ghost copy_contents = { ⟦<RdnSequence<'a> as CopyLaws>⟧.copies.laws.octets_are };
-
-    ghost copy_comparable_value = { ⟦<RdnSequence<'a> as CopyLaws>⟧.copies.laws.comparable_are };
-
-    ghost copy_re_reads_value = { ⟦<RdnSequence<'a> as CopyLaws>⟧.copies.laws.re_reads_are };
-}
-
-impl<'a> DuplicateValueIsEqual for RdnSequence<'a> {
-    ghost copy_value_is_equal = { ⟦<RdnSequence<'a> as CopyLaws>⟧.copies.laws.equal_are };
-}
+impl<'a> CopyIsDuplicate for RdnSequence<'a> {}
 
 /// What is read as `RDNSequence` is what the page of the grammar says.
 pub fn grammar_of_rdn_sequence<'a>()

@@ -2,21 +2,19 @@
 //!
 //! Made by tools/asn1 from name.asn1.
 
-ghost use Rattle.std.specs.Prelude.{◌≡◌, refl, true};
+ghost use Rattle.std.specs.Cmp.Lexicographic.{bytes_decides};
+ghost use Rattle.std.specs.Prelude.{◌≡◌, false, refl};
 ghost use Rattle.der_elem.specs.FormatMakers.{mapped_format};
+ghost use Rattle.der_lists.specs.NonEmptyRef.{list_of};
 ghost use Rattle.der_modules.specs.Asn1.{parse_of};
-ghost use Rattle.der_modules.specs.MemberLaws.{copies_of, held_copies, items_copies, items_equality, one_tag, one_tag_copies, one_tag_equality, same_copies};
 ghost use Rattle.der_pkix.specs.Name.Grammar.{relative_distinguished_name};
-ghost use Rattle.der_pkix.specs.contracts.name.attribute_type_and_value.AttributeTypeAndValueContentsEq.TheImpl.Laws as attribute_type_and_value_contents_eq;
-ghost use Rattle.der_pkix.specs.contracts.name.attribute_type_and_value.AttributeTypeAndValueEq.TheImpl.Laws as attribute_type_and_value_eq;
 
-use crate::name::attribute_type_and_value::{AttributeTypeAndValue, AttributeTypeAndValueOrder};
+use crate::name::attribute_type_and_value::AttributeTypeAndValue;
 use der_elem::{
-    ContentsEq, DecodeValue, DuplicateValue, DuplicateValueIsEqual, EncodeValue, Form, FormValue,
-    OneTag, SequenceTag, SetTag, TagMarker, ValueOrd,
+    ContentsEq, CopyIsDuplicate, DecodeValue, EncodeValue, Form, FormValue, OneTag, SetTag,
+    ValueOrd,
 };
-use der_modules::CopyLaws;
-use der_nest::{ItemSet, NonEmpty};
+use der_lists::{NonEmptyRef, SetRef};
 use der_tlv::{BackWriter, Error, Header, Length, Source, Writer};
 use std::alloc::Global;
 use std::cmp::Ordering;
@@ -25,11 +23,13 @@ use std::cmp::Ordering;
 /// RelativeDistinguishedName ::= SET SIZE (1..MAX) OF AttributeTypeAndValue
 /// ```
 ///
-/// Reading refuses the first fault of the octets, in their order; `ErrorKind::Memory` (1) where
-/// memory runs out.
-#[derive(Debug, PartialEq, Eq, Drop)]
+/// The items stand in the order of their octets (X.690 11.6): others are refused
+/// (`ErrorKind::SetOrdering`, 11).
+///
+/// Reading refuses the first fault of the octets, in their order.
+#[derive(Clone, Copy, Debug, PartialEq, Eq)]
 pub struct RelativeDistinguishedName<'a> {
-    items: NonEmpty<ItemSet<AttributeTypeAndValue<'a>, AttributeTypeAndValueOrder>>,
+    items: NonEmptyRef<SetRef<'a, AttributeTypeAndValue<'a>>>,
 }
 
 impl<'a> RelativeDistinguishedName<'a> {
@@ -37,27 +37,18 @@ impl<'a> RelativeDistinguishedName<'a> {
 
     /// These items.
     pub fn new(
-        items: NonEmpty<ItemSet<AttributeTypeAndValue<'a>, AttributeTypeAndValueOrder>>,
+        items: NonEmptyRef<SetRef<'a, AttributeTypeAndValue<'a>>>,
     ) -> RelativeDistinguishedName<'a>
-        ensures { relative_distinguished_name.items_of result ≡ items.entry }
+        ensures { relative_distinguished_name.items_of result ≡ list_of items.entry }
     {
         RelativeDistinguishedName { items }
     }
 
     /// The items, in their order.
-    pub fn as_slice(&self) -> &[AttributeTypeAndValue<'a>]
+    pub fn items(&self) -> &SetRef<'a, AttributeTypeAndValue<'a>>
         ensures { result.now ≡ relative_distinguished_name.items_of self.now }
     {
-        self.items.list().as_slice()
-    }
-
-    /// The items, in the room that holds them.
-    pub fn into_items(
-        self,
-    ) -> NonEmpty<ItemSet<AttributeTypeAndValue<'a>, AttributeTypeAndValueOrder>>
-        ensures { relative_distinguished_name.items_of self.entry ≡ result }
-    {
-        self.items
+        self.items.list()
     }
 }
 
@@ -66,23 +57,22 @@ impl<'a> OneTag for RelativeDistinguishedName<'a> {
 }
 
 impl<'a> FormValue for RelativeDistinguishedName<'a> {
-    ghost value = { mapped_format (λ v. v.items) ⟦<NonEmpty<ItemSet<AttributeTypeAndValue<'a>, AttributeTypeAndValueOrder>> as FormValue>⟧.value };
+    ghost value = { mapped_format (λ v. v.items) ⟦<NonEmptyRef<SetRef<'a, AttributeTypeAndValue<'a>>> as FormValue>⟧.value };
 }
 
 impl<'a, R: Source<'a>> DecodeValue<'a, R> for RelativeDistinguishedName<'a> {
-    ghost TAKES_MEMORY = { true };
+    ghost TAKES_MEMORY = { false };
 
-    const TAKES_MEMORY: bool = true;
+    const TAKES_MEMORY: bool = false;
 
     fn decode_value(
         alloc: Global,
         reader: &mut R,
         header: Header,
     ) -> Result<RelativeDistinguishedName<'a>, Error> {
-        match NonEmpty::<
-            ItemSet<AttributeTypeAndValue<'a>, AttributeTypeAndValueOrder>,
-        >::decode_value(alloc, reader, header)
-        {
+        match NonEmptyRef::<SetRef<'a, AttributeTypeAndValue<'a>>>::decode_value(
+            alloc, reader, header,
+        ) {
             Ok(items) => Ok(RelativeDistinguishedName { items }),
             Err(e) => Err(e),
         }
@@ -112,36 +102,10 @@ impl<'a> ValueOrd for RelativeDistinguishedName<'a> {
 }
 
 impl<'a> ContentsEq for RelativeDistinguishedName<'a> {
-    ghost contents_eq = { λ v w. (items_equality ⟦<AttributeTypeAndValue<'a> as Form>⟧ (one_tag ⟦<SequenceTag as TagMarker>⟧.TAG ⟦<AttributeTypeAndValue<'a> as FormValue>⟧.value.contents) ⟦<AttributeTypeAndValue<'a> as PartialEq>⟧.eq (one_tag_equality ⟦<SequenceTag as TagMarker>⟧.TAG ⟦<AttributeTypeAndValue<'a> as FormValue>⟧.value.contents ⟦<AttributeTypeAndValue<'a> as FormValue>⟧.value.comparable ⟦<AttributeTypeAndValue<'a> as PartialEq>⟧.eq attribute_type_and_value_contents_eq.contents_eq-law)) v.items w.items };
+    ghost contents_eq = { λ v w. (λ one. bytes_decides v.items.list.octets.octets.now w.items.list.octets.octets.now) };
 }
 
-impl<'a> CopyLaws for RelativeDistinguishedName<'a> {
-    ghost copies = { copies_of (held_copies (λ v. v.items)
-        (items_copies ⟦<AttributeTypeAndValue<'a> as Form>⟧ (one_tag_copies ⟦<SequenceTag as TagMarker>⟧.TAG (same_copies ⟦<AttributeTypeAndValue<'a> as FormValue>⟧.value.contents ⟦<AttributeTypeAndValue<'a> as FormValue>⟧.value.comparable ⟦<AttributeTypeAndValue<'a> as FormValue>⟧.value.re_reads ⟦<AttributeTypeAndValue<'a> as PartialEq>⟧.eq attribute_type_and_value_eq.laws-law.refl)))) };
-}
-
-impl<'a> DuplicateValue for RelativeDistinguishedName<'a> {
-    ghost is_copy_value = { λ v w. ⟦<NonEmpty<ItemSet<AttributeTypeAndValue<'a>, AttributeTypeAndValueOrder>> as DuplicateValue>⟧.is_copy_value v.items w.items };
-
-    ghost takes_memory_to_copy_value = { ⟦<NonEmpty<ItemSet<AttributeTypeAndValue<'a>, AttributeTypeAndValueOrder>> as DuplicateValue>⟧.takes_memory_to_copy_value };
-
-    fn duplicate_value(&self) -> Result<RelativeDistinguishedName<'a>, Error> {
-        match self.items.duplicate_value() {
-            Ok(items) => Ok(RelativeDistinguishedName { items }),
-            Err(e) => Err(e),
-        }
-    }
-
-    ghost copy_contents = { ⟦<RelativeDistinguishedName<'a> as CopyLaws>⟧.copies.laws.octets_are };
-
-    ghost copy_comparable_value = { ⟦<RelativeDistinguishedName<'a> as CopyLaws>⟧.copies.laws.comparable_are };
-
-    ghost copy_re_reads_value = { ⟦<RelativeDistinguishedName<'a> as CopyLaws>⟧.copies.laws.re_reads_are };
-}
-
-impl<'a> DuplicateValueIsEqual for RelativeDistinguishedName<'a> {
-    ghost copy_value_is_equal = { ⟦<RelativeDistinguishedName<'a> as CopyLaws>⟧.copies.laws.equal_are };
-}
+impl<'a> CopyIsDuplicate for RelativeDistinguishedName<'a> {}
 
 /// What is read as `RelativeDistinguishedName` is what the page of the grammar says.
 pub fn grammar_of_relative_distinguished_name<'a>()

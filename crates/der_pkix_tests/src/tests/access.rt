@@ -1,6 +1,6 @@
 //! Values of extensions that are about access to information.
 
-use super::{copied, same};
+use super::{copied, numbered, same};
 use der_asn1_types::FromDer;
 use der_extensions::extension::{
     AccessDescription, AuthorityInfoAccessSyntax, GeneralName, SubjectInfoAccessSyntax,
@@ -26,11 +26,12 @@ fn access_told(alloc: Global, access: &AccessDescription) -> Result<(Vec<u8>, Ve
 fn authority_access_told(alloc: Global, octets: &[u8]) -> Result<(usize, (Vec<u8>, Vec<u8>)), u8> {
     match AuthorityInfoAccessSyntax::from_der(alloc, octets) {
         Ok(accesses) => {
-            let Some(last) = accesses.as_slice().last() else {
-                return Err(0);
-            };
-            let said = access_told(alloc, last)?;
-            Ok((accesses.as_slice().len(), said))
+            let count = numbered(accesses.items().count(alloc))?;
+            match accesses.items().get(alloc, count.saturating_sub(1)) {
+                Some(Ok(last)) => Ok((count, access_told(alloc, &last)?)),
+                Some(Err(e)) => Err(e.kind().number()),
+                None => Err(0),
+            }
         }
         Err(e) => Err(e.kind().number()),
     }
@@ -40,11 +41,12 @@ fn authority_access_told(alloc: Global, octets: &[u8]) -> Result<(usize, (Vec<u8
 fn subject_access_told(alloc: Global, octets: &[u8]) -> Result<(usize, (Vec<u8>, Vec<u8>)), u8> {
     match SubjectInfoAccessSyntax::from_der(alloc, octets) {
         Ok(accesses) => {
-            let Some(last) = accesses.as_slice().last() else {
-                return Err(0);
-            };
-            let said = access_told(alloc, last)?;
-            Ok((accesses.as_slice().len(), said))
+            let count = numbered(accesses.items().count(alloc))?;
+            match accesses.items().get(alloc, count.saturating_sub(1)) {
+                Some(Ok(last)) => Ok((count, access_told(alloc, &last)?)),
+                Some(Err(e)) => Err(e.kind().number()),
+                None => Err(0),
+            }
         }
         Err(e) => Err(e.kind().number()),
     }

@@ -1,22 +1,30 @@
 //! The attributes of a subject.
 
-use super::{copied, same};
+use super::{copied, numbered, same};
 use der_asn1_types::FromDer;
 use der_extensions::extension::SubjectDirectoryAttributes;
+use der_pkix::name::Attribute;
 use std::alloc::Global;
 use std::process::Abort;
 use std::test::Fail;
 
-// How many attributes there are, the contents octets of the last one's type, and how many values it has.
-fn attributes_told(alloc: Global, octets: &[u8]) -> Result<(usize, Vec<u8>, usize), u8> {
+// The contents octets of the attribute's type, and how many values it has.
+fn attribute_told(alloc: Global, attribute: &Attribute) -> Result<(Vec<u8>, usize), u8> {
+    let kind = copied(alloc, attribute.type_().as_bytes())?;
+    let count = numbered(attribute.values().count(alloc))?;
+    Ok((kind, count))
+}
+
+// How many attributes there are, and what the last one says.
+fn attributes_told(alloc: Global, octets: &[u8]) -> Result<(usize, (Vec<u8>, usize)), u8> {
     match SubjectDirectoryAttributes::from_der(alloc, octets) {
         Ok(attributes) => {
-            let Some(last) = attributes.as_slice().last() else {
-                return Err(0);
-            };
-            let kind = last.type_();
-            let kind = copied(alloc, kind.as_bytes())?;
-            Ok((attributes.as_slice().len(), kind, last.values().len()))
+            let count = numbered(attributes.items().count(alloc))?;
+            match attributes.items().get(alloc, count.saturating_sub(1)) {
+                Some(Ok(last)) => Ok((count, attribute_told(alloc, &last)?)),
+                Some(Err(e)) => Err(e.kind().number()),
+                None => Err(0),
+            }
         }
         Err(e) => Err(e.kind().number()),
     }
@@ -31,6 +39,6 @@ fn attributes_have_values(rt: HostRuntime) -> Result<(), Fail> {
     )?;
     let found = attributes_told(alloc, octets.as_slice());
     let kind = hex::decode(alloc, "2b06010505070904")?;
-    same(&rt, found, Ok((2, kind, 2)));
+    same(&rt, found, Ok((2, (kind, 2))));
     Ok(())
 }

@@ -1,11 +1,8 @@
 //! Certificates, and what is signed of them.
 
-use super::{copied, same};
+use super::{copied, numbered, same};
 use der_asn1_types::FromDer;
-use der_asn1_types::asn1::Kept;
-use der_modules::copy_of;
 use der_pkix::certificate::{Certificate, TbsCertificate};
-use der_pkix::name::Name;
 use std::alloc::Global;
 use std::process::Abort;
 use std::test::Fail;
@@ -28,7 +25,7 @@ fn certificate_told(
         Ok(certificate) => {
             let signed = certificate.tbs_certificate();
             let extensions = match signed.extensions() {
-                Some(extensions) => extensions.as_slice().len(),
+                Some(extensions) => numbered(extensions.items().count(alloc))?,
                 None => 0,
             };
             let serial = copied(alloc, signed.serial_number().as_bytes())?;
@@ -37,20 +34,12 @@ fn certificate_told(
             Ok((
                 signed.version(),
                 serial,
-                number_of_parts(alloc, copy_of(signed.issuer()))?,
+                numbered(signed.issuer().items().count(alloc))?,
                 extensions,
                 key.bit_len(),
                 signature.bit_len(),
             ))
         }
-        Err(e) => Err(e.kind().number()),
-    }
-}
-
-// How many parts a name has.
-fn number_of_parts<'a>(alloc: Global, name: Kept<'a, Name<'a>>) -> Result<usize, u8> {
-    match name.value(alloc) {
-        Ok(name) => Ok(name.as_slice().len()),
         Err(e) => Err(e.kind().number()),
     }
 }

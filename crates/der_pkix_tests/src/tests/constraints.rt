@@ -1,6 +1,6 @@
 //! Values of extensions that constrain a path, or names.
 
-use super::{copied, same};
+use super::{copied, numbered, same};
 use der_asn1_types::FromDer;
 use der_extensions::extension::{BasicConstraints, NameConstraints};
 use std::alloc::Global;
@@ -26,11 +26,11 @@ fn subtrees_told(alloc: Global, octets: &[u8]) -> Result<(Option<usize>, Option<
     match NameConstraints::from_der(alloc, octets) {
         Ok(constraints) => {
             let permitted = match constraints.permitted_subtrees() {
-                Some(subtrees) => Some(subtrees.as_slice().len()),
+                Some(subtrees) => Some(numbered(subtrees.items().count(alloc))?),
                 None => None,
             };
             let excluded = match constraints.excluded_subtrees() {
-                Some(subtrees) => Some(subtrees.as_slice().len()),
+                Some(subtrees) => Some(numbered(subtrees.items().count(alloc))?),
                 None => None,
             };
             Ok((permitted, excluded))
@@ -46,10 +46,11 @@ fn bounds_told(alloc: Global, octets: &[u8]) -> Result<(u8, Option<u8>), u8> {
             let Some(subtrees) = constraints.permitted_subtrees() else {
                 return Err(0);
             };
-            let Some(first) = subtrees.as_slice().first() else {
-                return Err(0);
-            };
-            Ok((first.minimum(), first.maximum()))
+            match subtrees.items().get(alloc, 0) {
+                Some(Ok(first)) => Ok((first.minimum(), first.maximum())),
+                Some(Err(e)) => Err(e.kind().number()),
+                None => Err(0),
+            }
         }
         Err(e) => Err(e.kind().number()),
     }

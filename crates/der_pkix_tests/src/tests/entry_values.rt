@@ -1,6 +1,6 @@
 //! Values of extensions of entries of a list of revoked certificates.
 
-use super::{copied, same};
+use super::{copied, numbered, same};
 use der_asn1_types::FromDer;
 use der_asn1_types::asn1::Enumerated;
 use der_extensions::extension::{
@@ -28,16 +28,25 @@ fn date_told(alloc: Global, octets: &[u8]) -> Result<(u16, u8, u8), u8> {
     }
 }
 
+// How many parts the name of a directory has.
+fn parts_of(alloc: Global, name: &GeneralName) -> Result<usize, u8> {
+    match name {
+        GeneralName::DirectoryName(name) => numbered(name.fields.first.items().count(alloc)),
+        _ => Err(0),
+    }
+}
+
 // How many names there are, and how many parts the first has, which is a directory's.
 fn issuer_told(alloc: Global, octets: &[u8]) -> Result<(usize, usize), u8> {
     match CertificateIssuer::from_der(alloc, octets) {
-        Ok(names) => match names.as_slice().first() {
-            Some(GeneralName::DirectoryName(name)) => Ok((
-                names.as_slice().len(),
-                name.fields.first.as_slice().len(),
-            )),
-            _ => Err(0),
-        },
+        Ok(names) => {
+            let count = numbered(names.items().count(alloc))?;
+            match names.items().get(alloc, 0) {
+                Some(Ok(first)) => Ok((count, parts_of(alloc, &first)?)),
+                Some(Err(e)) => Err(e.kind().number()),
+                None => Err(0),
+            }
+        }
         Err(e) => Err(e.kind().number()),
     }
 }

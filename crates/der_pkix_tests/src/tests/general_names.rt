@@ -30,8 +30,12 @@ fn kinds_told(alloc: Global, octets: &[u8]) -> Result<Vec<u8>, u8> {
         Err(e) => return Err(e.kind().number()),
     };
     let mut kinds = Vec::new(alloc);
-    for name in names.as_slice() {
-        if kinds.push(kind_of(name)).is_err() {
+    let mut left = names.items().iter(alloc);
+    'names: while let Some(name) = left.next() {
+        let Ok(name) = name else {
+            return Err(0);
+        };
+        if kinds.push(kind_of(&name)).is_err() {
             return Err(1);
         }
     }

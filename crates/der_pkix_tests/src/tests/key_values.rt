@@ -1,6 +1,6 @@
 //! Values of extensions that are about a key.
 
-use super::{copied, same};
+use super::{copied, numbered, same};
 use der_asn1_types::FromDer;
 use der_asn1_types::asn1::GeneralizedTime;
 use der_extensions::extension::constants::ID_KP_CLIENT_AUTH;
@@ -28,11 +28,12 @@ fn usage_told(alloc: Global, octets: &[u8]) -> Result<(bool, bool, bool), u8> {
 fn purposes_told(alloc: Global, octets: &[u8]) -> Result<(usize, bool), u8> {
     match ExtKeyUsageSyntax::from_der(alloc, octets) {
         Ok(purposes) => {
-            let Some(last) = purposes.as_slice().last() else {
-                return Err(0);
-            };
-            let is_client = last.as_bytes() == ID_KP_CLIENT_AUTH.as_slice();
-            Ok((purposes.as_slice().len(), is_client))
+            let count = numbered(purposes.items().count(alloc))?;
+            match purposes.items().get(alloc, count.saturating_sub(1)) {
+                Some(Ok(last)) => Ok((count, last.as_bytes() == ID_KP_CLIENT_AUTH.as_slice())),
+                Some(Err(e)) => Err(e.kind().number()),
+                None => Err(0),
+            }
         }
         Err(e) => Err(e.kind().number()),
     }
@@ -57,7 +58,7 @@ fn authority_told(
                 None => None,
             };
             let issuer = match authority.authority_cert_issuer() {
-                Some(names) => Some(names.as_slice().len()),
+                Some(names) => Some(numbered(names.items().count(alloc))?),
                 None => None,
             };
             let serial = match authority.authority_cert_serial_number() {

@@ -1,6 +1,6 @@
 //! Values of extensions of lists of revoked certificates.
 
-use super::{copied, same};
+use super::{copied, numbered, same};
 use der_asn1_types::FromDer;
 use der_extensions::extension::{
     BaseCrlNumber, CrlNumber, DistributionPointName, IssuingDistributionPoint,
@@ -43,7 +43,9 @@ fn reasons_told(alloc: Global, octets: &[u8]) -> Result<(usize, bool, bool), u8>
     match IssuingDistributionPoint::from_der(alloc, octets) {
         Ok(point) => {
             let names = match point.distribution_point() {
-                Some(DistributionPointName::FullName(names)) => names.value.as_slice().len(),
+                Some(DistributionPointName::FullName(names)) => {
+                    numbered(names.value.items().count(alloc))?
+                }
                 _ => 0,
             };
             match point.only_some_reasons() {

@@ -1,28 +1,41 @@
 //! Names, and their parts.
 
-use super::{copied, same};
+use super::{copied, numbered, same};
 use der_asn1_types::FromDer;
-use der_pkix::name::Name;
+use der_pkix::name::{AttributeTypeAndValue, Name, RelativeDistinguishedName};
 use std::alloc::Global;
 use std::process::Abort;
 use std::test::Fail;
 
-// How many parts a name has, how many attributes stand in the second, and the contents octets of the
-// first attribute's type and value.
-fn name_told(alloc: Global, octets: &[u8]) -> Result<(usize, usize, Vec<u8>, Vec<u8>), u8> {
+/// The contents octets of an attribute's type and value.
+type Told = (Vec<u8>, Vec<u8>);
+
+fn attribute_told(alloc: Global, attribute: &AttributeTypeAndValue) -> Result<Told, u8> {
+    let kind = copied(alloc, attribute.type_().as_bytes())?;
+    let value = copied(alloc, attribute.value().value())?;
+    Ok((kind, value))
+}
+
+// How many attributes stand in a part, and what the first one says.
+fn part_told(alloc: Global, part: &RelativeDistinguishedName) -> Result<(usize, Told), u8> {
+    let count = numbered(part.items().count(alloc))?;
+    match part.items().get(alloc, 0) {
+        Some(Ok(first)) => Ok((count, attribute_told(alloc, &first)?)),
+        Some(Err(e)) => Err(e.kind().number()),
+        None => Err(0),
+    }
+}
+
+// How many parts a name has, and what the second one says.
+fn name_told(alloc: Global, octets: &[u8]) -> Result<(usize, (usize, Told)), u8> {
     match Name::from_der(alloc, octets) {
         Ok(name) => {
-            let Some(second) = name.as_slice().get(1) else {
-                return Err(0);
-            };
-            let Some(attribute) = second.as_slice().first() else {
-                return Err(0);
-            };
-            let kind = attribute.type_();
-            let value = *attribute.value();
-            let kind = copied(alloc, kind.as_bytes())?;
-            let value = copied(alloc, value.value())?;
-            Ok((name.as_slice().len(), second.as_slice().len(), kind, value))
+            let count = numbered(name.items().count(alloc))?;
+            match name.items().get(alloc, 1) {
+                Some(Ok(second)) => Ok((count, part_told(alloc, &second)?)),
+                Some(Err(e)) => Err(e.kind().number()),
+                None => Err(0),
+            }
         }
         Err(e) => Err(e.kind().number()),
     }
@@ -38,6 +51,6 @@ fn names_have_parts(rt: HostRuntime) -> Result<(), Fail> {
     let found = name_told(alloc, octets.as_slice());
     let kind = hex::decode(alloc, "55040a")?;
     let value = hex::decode(alloc, "50756c6c6579")?;
-    same(&rt, found, Ok((3, 2, kind, value)));
+    same(&rt, found, Ok((3, (2, (kind, value)))));
     Ok(())
 }

@@ -1,60 +1,74 @@
 //! Values of extensions that are about policies.
 
-use super::{copied, same};
+use super::{copied, numbered, same};
 use der_asn1_types::FromDer;
 use der_extensions::extension::constants::ID_QT_CPS;
 use der_extensions::extension::{
-    CertificatePolicies, InhibitAnyPolicy, PolicyConstraints, PolicyMappings, PolicyQualifierInfo,
-    SkipCerts,
+    CertificatePolicies, InhibitAnyPolicy, PolicyConstraints, PolicyInformation, PolicyMapping,
+    PolicyMappings, SkipCerts,
 };
 use std::alloc::Global;
 use std::process::Abort;
 use std::test::Fail;
 
-// How many policies there are, the contents octets of the last one's identifier, how many qualifiers
-// it has, and whether the first of these is the place of a statement.
-fn policies_told(alloc: Global, octets: &[u8]) -> Result<(usize, Vec<u8>, usize, bool), u8> {
+/// The contents octets of a policy's identifier, how many qualifiers it has, and whether the first of
+/// these is the place of a statement.
+type Told = (Vec<u8>, usize, bool);
+
+// How many qualifiers a policy has, and whether the first of these is the place of a statement.
+fn qualifiers_told(alloc: Global, policy: &PolicyInformation) -> Result<(usize, bool), u8> {
+    let Some(qualifiers) = policy.policy_qualifiers() else {
+        return Ok((0, false));
+    };
+    let count = numbered(qualifiers.list().count(alloc))?;
+    match qualifiers.list().get(alloc, 0) {
+        Some(Ok(first)) => {
+            let kind = first.policy_qualifier_id();
+            Ok((count, kind.as_bytes() == ID_QT_CPS.as_slice()))
+        }
+        Some(Err(e)) => Err(e.kind().number()),
+        None => Ok((0, false)),
+    }
+}
+
+fn policy_told(alloc: Global, policy: &PolicyInformation) -> Result<Told, u8> {
+    let identifier = copied(alloc, policy.policy_identifier().as_bytes())?;
+    let (count, is_place) = qualifiers_told(alloc, policy)?;
+    Ok((identifier, count, is_place))
+}
+
+// How many policies there are, and what the last one says.
+fn policies_told(alloc: Global, octets: &[u8]) -> Result<(usize, Told), u8> {
     match CertificatePolicies::from_der(alloc, octets) {
         Ok(policies) => {
-            let Some(last) = policies.as_slice().last() else {
-                return Err(0);
-            };
-            let kind = last.policy_identifier();
-            let identifier = copied(alloc, kind.as_bytes())?;
-            let (count, is_place) = match last.policy_qualifiers() {
-                Some(qualifiers) => qualifiers_told(qualifiers.list().as_slice()),
-                None => (0, false),
-            };
-            Ok((policies.as_slice().len(), identifier, count, is_place))
+            let count = numbered(policies.items().count(alloc))?;
+            match policies.items().get(alloc, count.saturating_sub(1)) {
+                Some(Ok(last)) => Ok((count, policy_told(alloc, &last)?)),
+                Some(Err(e)) => Err(e.kind().number()),
+                None => Err(0),
+            }
         }
         Err(e) => Err(e.kind().number()),
     }
 }
 
-fn qualifiers_told(qualifiers: &[PolicyQualifierInfo]) -> (usize, bool) {
-    match qualifiers.first() {
-        Some(first) => {
-            let kind = first.policy_qualifier_id();
-            (qualifiers.len(), kind.as_bytes() == ID_QT_CPS.as_slice())
-        }
-        None => (0, false),
-    }
+// The contents octets of a mapping's two identifiers.
+fn mapping_told(alloc: Global, mapping: &PolicyMapping) -> Result<(Vec<u8>, Vec<u8>), u8> {
+    let issuer = copied(alloc, mapping.issuer_domain_policy().as_bytes())?;
+    let subject = copied(alloc, mapping.subject_domain_policy().as_bytes())?;
+    Ok((issuer, subject))
 }
 
-// How many mappings there are, and the contents octets of the last one's two identifiers.
-fn mappings_told(alloc: Global, octets: &[u8]) -> Result<(usize, Vec<u8>, Vec<u8>), u8> {
+// How many mappings there are, and the identifiers of the last one.
+fn mappings_told(alloc: Global, octets: &[u8]) -> Result<(usize, (Vec<u8>, Vec<u8>)), u8> {
     match PolicyMappings::from_der(alloc, octets) {
         Ok(mappings) => {
-            let Some(last) = mappings.as_slice().last() else {
-                return Err(0);
-            };
-            let (of_issuer, of_subject) = (
-                last.issuer_domain_policy(),
-                last.subject_domain_policy(),
-            );
-            let issuer = copied(alloc, of_issuer.as_bytes())?;
-            let subject = copied(alloc, of_subject.as_bytes())?;
-            Ok((mappings.as_slice().len(), issuer, subject))
+            let count = numbered(mappings.items().count(alloc))?;
+            match mappings.items().get(alloc, count.saturating_sub(1)) {
+                Some(Ok(last)) => Ok((count, mapping_told(alloc, &last)?)),
+                Some(Err(e)) => Err(e.kind().number()),
+                None => Err(0),
+            }
         }
         Err(e) => Err(e.kind().number()),
     }
@@ -101,11 +115,11 @@ fn policies_have_qualifiers(rt: HostRuntime) -> Result<(), Fail> {
     )?;
     let found = policies_told(alloc, octets.as_slice());
     let identifier = hex::decode(alloc, "2a0305")?;
-    same(&rt, found, Ok((2, identifier, 2, true)));
+    same(&rt, found, Ok((2, (identifier, 2, true))));
     let octets = hex::decode(alloc, "3007300506032a0304")?;
     let found = policies_told(alloc, octets.as_slice());
     let identifier = hex::decode(alloc, "2a0304")?;
-    same(&rt, found, Ok((1, identifier, 0, false)));
+    same(&rt, found, Ok((1, (identifier, 0, false))));
     Ok(())
 }
 
@@ -119,7 +133,7 @@ fn mappings_have_two_policies(rt: HostRuntime) -> Result<(), Fail> {
     let found = mappings_told(alloc, octets.as_slice());
     let issuer = hex::decode(alloc, "2a0306")?;
     let subject = hex::decode(alloc, "2a0307")?;
-    same(&rt, found, Ok((2, issuer, subject)));
+    same(&rt, found, Ok((2, (issuer, subject))));
     Ok(())
 }
 

@@ -1,6 +1,6 @@
 //! Private keys, and those of RSA.
 
-use super::{copied, same};
+use super::{copied, numbered, same};
 use der_asn1_types::FromDer;
 use der_pkix::key::{PrivateKeyInfo, RsaPrivateKey};
 use std::alloc::Global;
@@ -15,7 +15,7 @@ fn private_key_told(
     match PrivateKeyInfo::from_der(alloc, octets) {
         Ok(key) => {
             let attributes = match key.attributes() {
-                Some(attributes) => Some(attributes.as_slice().len()),
+                Some(attributes) => Some(numbered(attributes.items().count(alloc))?),
                 None => None,
             };
             let bits = match key.public_key() {
@@ -33,7 +33,7 @@ fn rsa_private_key_told(alloc: Global, octets: &[u8]) -> Result<(u8, Vec<u8>, us
     match RsaPrivateKey::from_der(alloc, octets) {
         Ok(key) => {
             let others = match key.other_prime_infos() {
-                Some(others) => others.as_slice().len(),
+                Some(others) => numbered(others.items().count(alloc))?,
                 None => 0,
             };
             let exponent = copied(alloc, key.public_exponent().as_bytes())?;

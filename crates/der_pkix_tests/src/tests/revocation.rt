@@ -1,6 +1,6 @@
 //! Lists of revoked certificates that OpenSSL wrote, and their entries.
 
-use super::{copied, same};
+use super::{copied, numbered, same};
 use der_asn1_types::FromDer;
 use der_pkix::crl::{CertificateList, RevokedCertificate};
 use std::alloc::Global;
@@ -26,11 +26,11 @@ fn list_told(
         Ok(list) => {
             let signed = list.tbs_cert_list();
             let entries = match signed.revoked_certificates() {
-                Some(entries) => Some(entries.len()),
+                Some(entries) => Some(numbered(entries.count(alloc))?),
                 None => None,
             };
             let extensions = match signed.crl_extensions() {
-                Some(extensions) => extensions.as_slice().len(),
+                Some(extensions) => numbered(extensions.items().count(alloc))?,
                 None => 0,
             };
             Ok((
@@ -50,7 +50,7 @@ fn entry_told(alloc: Global, octets: &[u8]) -> Result<(Vec<u8>, usize), u8> {
     match RevokedCertificate::from_der(alloc, octets) {
         Ok(entry) => {
             let extensions = match entry.crl_entry_extensions() {
-                Some(extensions) => extensions.as_slice().len(),
+                Some(extensions) => numbered(extensions.items().count(alloc))?,
                 None => 0,
             };
             let number = copied(alloc, entry.user_certificate().as_bytes())?;

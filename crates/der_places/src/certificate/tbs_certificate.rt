@@ -7,7 +7,6 @@ ghost use Rattle.std.specs.Prelude.{◌∷◌, []};
 ghost use Rattle.der_fields.specs.Defaults.{is_default};
 ghost use Rattle.der_fields.specs.MarkerTags.{marker_tag, marker_tag-in_range};
 ghost use Rattle.der_pkix.specs.Certificate.TbsCertificate as fields_of;
-ghost use Rattle.der_pkix.specs.declared.certificate.explicit3_extensions.Explicit3Extensions.{Explicit3Extensions};
 ghost use Rattle.der_places.specs.Layout.{explicit, field, implicit, no_more, optional, unless};
 ghost use Rattle.der_places.specs.LayoutLaws.{besides, first_of, is_encoding, maybe};
 ghost use Rattle.der_tlv.specs.declared.encoding_rules.EncodingRules.TheVariants.{Der};
@@ -19,7 +18,6 @@ use crate::presence::is_there;
 use crate::walk::next_place;
 use der_elem::Form;
 use der_fields::{DefaultNumber, DefaultOf, End, Explicit, Field, Implicit};
-use der_nest::Kept;
 use der_pkix::AlgorithmIdentifier;
 use der_pkix::certificate::{
     CertificateSerialNumber, Extensions, SubjectPublicKeyInfo, TbsCertificate, UniqueIdentifier,
@@ -62,9 +60,9 @@ impl<'a> Placed for TbsCertificate<'a> {
         unless (is_default ⟦<DefaultNumber<0> as DefaultOf<Explicit<Version, 0>>>⟧.octets (⟦<Explicit<Version, 0> as Form>⟧.encoding (explicit (fields_of.version v)))) (⟦<Explicit<Version, 0> as Form>⟧.accepts Der (explicit (fields_of.version v)))
         (field (⟦<CertificateSerialNumber<'a> as Form>⟧.accepts Der (fields_of.serial_number v))
         (field (⟦<AlgorithmIdentifier<'a> as Form>⟧.accepts Der (fields_of.signature v))
-        (field (⟦<Kept<'a, Name<'a>> as Form>⟧.accepts Der (fields_of.issuer v))
+        (field (⟦<Name<'a> as Form>⟧.accepts Der (fields_of.issuer v))
         (field (⟦<Validity as Form>⟧.accepts Der (fields_of.validity v))
-        (field (⟦<Kept<'a, Name<'a>> as Form>⟧.accepts Der (fields_of.subject v))
+        (field (⟦<Name<'a> as Form>⟧.accepts Der (fields_of.subject v))
         (field (⟦<SubjectPublicKeyInfo<'a> as Form>⟧.accepts Der (fields_of.subject_public_key_info v))
         (optional (λ x. ⟦<Implicit<UniqueIdentifier<'a>, 1> as Form>⟧.accepts Der (implicit x)) (fields_of.issuer_unique_id v)
         (optional (λ x. ⟦<Implicit<UniqueIdentifier<'a>, 2> as Form>⟧.accepts Der (implicit x)) (fields_of.subject_unique_id v)
@@ -129,6 +127,6 @@ impl<'a> Placed for TbsCertificate<'a> {
         (first_of field7 (is_encoding tags.Sequence (lit< tt) field7.front field7.first.0 field7.first.1, field7.first)
         (first_of field8 (maybe (λ x. x.value) (⟦<Implicit<UniqueIdentifier<'a>, 1> as Form>⟧.accepts Der) (λ x. ⟦<Implicit<UniqueIdentifier<'a>, 1> as Form>⟧.accepts Der (implicit x)) (λ x o b. (is_encoding (marker_tag 2 false 1) (marker_tag-in_range 2 false 1) o b.0 b.1, b)) v.fields.list.rest.rest.rest.rest.rest.rest.rest.first field8.front field8.first)
         (first_of field9 (maybe (λ x. x.value) (⟦<Implicit<UniqueIdentifier<'a>, 2> as Form>⟧.accepts Der) (λ x. ⟦<Implicit<UniqueIdentifier<'a>, 2> as Form>⟧.accepts Der (implicit x)) (λ x o b. (is_encoding (marker_tag 2 false 2) (marker_tag-in_range 2 false 2) o b.0 b.1, b)) v.fields.list.rest.rest.rest.rest.rest.rest.rest.rest.list.first field9.front field9.first)
-        (first_of field10 (maybe (λ x. x.fields.list.first) (λ (x : Explicit3Extensions). ⟦<Explicit<Extensions<'a>, 3> as Form>⟧.accepts Der (explicit x.fields.list.first)) (λ x. ⟦<Explicit<Extensions<'a>, 3> as Form>⟧.accepts Der (explicit x)) (λ x o b. (is_encoding (marker_tag 2 true 3) (marker_tag-in_range 2 true 3) o b.0 b.1, b)) v.fields.list.rest.rest.rest.rest.rest.rest.rest.rest.list.rest.first field10.front field10.first)
+        (first_of field10 (maybe (λ x. x.fields.first) (⟦<Explicit<Extensions<'a>, 3> as Form>⟧.accepts Der) (λ x. ⟦<Explicit<Extensions<'a>, 3> as Form>⟧.accepts Der (explicit x)) (λ x o b. (is_encoding (marker_tag 2 true 3) (marker_tag-in_range 2 true 3) o b.0 b.1, b)) v.fields.list.rest.rest.rest.rest.rest.rest.rest.rest.list.rest.first field10.front field10.first)
         field10.rest)))))))))) };
 }

@@ -15,7 +15,6 @@ use crate::placed::Placed;
 use crate::walk::next_place;
 use der_cms::cms::IssuerAndSerialNumber;
 use der_elem::Form;
-use der_nest::Kept;
 use der_pkix::certificate::CertificateSerialNumber;
 use der_pkix::name::Name;
 
@@ -35,7 +34,7 @@ impl<'a> Placed for IssuerAndSerialNumber<'a> {
     ghost listed = { λ p. p.issuer ∷ p.serial_number ∷ [] };
 
     ghost layout = { λ v.
-        field (⟦<Kept<'a, Name<'a>> as Form>⟧.accepts Der (fields_of.issuer v))
+        field (⟦<Name<'a> as Form>⟧.accepts Der (fields_of.issuer v))
         (field (⟦<CertificateSerialNumber<'a> as Form>⟧.accepts Der (fields_of.serial_number v))
         no_more) };
 

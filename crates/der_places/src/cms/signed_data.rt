@@ -17,13 +17,12 @@ use crate::presence::is_there;
 use crate::walk::next_place;
 use der_cms::cms::{
     CertificateSet, CmsVersion, EncapsulatedContentInfo, RevocationInfoChoices, SignedData,
-    SignerInfo, SignerInfoOrder,
+    SignerInfo,
 };
 use der_elem::Form;
 use der_fields::Implicit;
-use der_nest::ItemSet;
+use der_lists::UnorderedSetRef;
 use der_pkix::AlgorithmIdentifier;
-use der_pkix::certificate::AlgorithmIdentifierOrder;
 
 /// Where the fields of a `SignedData` stand.
 #[repr(C)]
@@ -50,11 +49,11 @@ impl<'a> Placed for SignedData<'a> {
 
     ghost layout = { λ v.
         field (⟦<CmsVersion as Form>⟧.accepts Der (fields_of.version v))
-        (field (⟦<ItemSet<AlgorithmIdentifier<'a>, AlgorithmIdentifierOrder> as Form>⟧.accepts Der (fields_of.digest_algorithms v))
+        (field (⟦<UnorderedSetRef<'a, AlgorithmIdentifier<'a>> as Form>⟧.accepts Der (fields_of.digest_algorithms v))
         (field (⟦<EncapsulatedContentInfo<'a> as Form>⟧.accepts Der (fields_of.encap_content_info v))
         (optional (λ x. ⟦<Implicit<CertificateSet<'a>, 0> as Form>⟧.accepts Der (implicit x)) (fields_of.certificates v)
         (optional (λ x. ⟦<Implicit<RevocationInfoChoices<'a>, 1> as Form>⟧.accepts Der (implicit x)) (fields_of.crls v)
-        (field (⟦<ItemSet<SignerInfo<'a>, SignerInfoOrder> as Form>⟧.accepts Der (fields_of.signer_infos v))
+        (field (⟦<UnorderedSetRef<'a, SignerInfo<'a>> as Form>⟧.accepts Der (fields_of.signer_infos v))
         no_more))))) };
 
     fn walk(&self, octets: &[u8], start: Place) -> SignedDataPlaces {

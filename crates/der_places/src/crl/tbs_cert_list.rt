@@ -8,7 +8,6 @@ ghost use Rattle.der_fields.specs.MarkerTags.{marker_tag, marker_tag-in_range};
 ghost use Rattle.der_pkix.specs.Crl.TbsCertList as fields_of;
 ghost use Rattle.der_pkix.specs.declared.certificate.time.Time.{Time};
 ghost use Rattle.der_pkix.specs.declared.certificate.time.Time.TheVariants as time_of;
-ghost use Rattle.der_pkix.specs.declared.crl.explicit0_extensions.Explicit0Extensions.{Explicit0Extensions};
 ghost use Rattle.der_places.specs.Layout.{explicit, field, no_more, optional};
 ghost use Rattle.der_places.specs.LayoutLaws.{first_of, is_encoding, maybe, perhaps};
 ghost use Rattle.der_places.specs.Walking.{IsEncoding};
@@ -21,7 +20,7 @@ use crate::presence::{is_some, is_there};
 use crate::walk::next_place;
 use der_elem::Form;
 use der_fields::Explicit;
-use der_nest::Kept;
+use der_lists::ListRef;
 use der_pkix::AlgorithmIdentifier;
 use der_pkix::certificate::{Extensions, Time, Version};
 use der_pkix::crl::{RevokedCertificate, TbsCertList};
@@ -57,10 +56,10 @@ impl<'a> Placed for TbsCertList<'a> {
     ghost layout = { λ v.
         optional (⟦<Version as Form>⟧.accepts Der) (fields_of.version v)
         (field (⟦<AlgorithmIdentifier<'a> as Form>⟧.accepts Der (fields_of.signature v))
-        (field (⟦<Kept<'a, Name<'a>> as Form>⟧.accepts Der (fields_of.issuer v))
+        (field (⟦<Name<'a> as Form>⟧.accepts Der (fields_of.issuer v))
         (field (⟦<Time as Form>⟧.accepts Der (fields_of.this_update v))
         (optional (⟦<Time as Form>⟧.accepts Der) (fields_of.next_update v)
-        (optional (⟦<Vec<RevokedCertificate<'a>> as Form>⟧.accepts Der) (fields_of.revoked_certificates v)
+        (optional (⟦<ListRef<'a, RevokedCertificate<'a>> as Form>⟧.accepts Der) (fields_of.revoked_certificates v)
         (optional (λ x. ⟦<Explicit<Extensions<'a>, 0> as Form>⟧.accepts Der (explicit x)) (fields_of.crl_extensions v)
         no_more)))))) };
 
@@ -105,7 +104,7 @@ impl<'a> Placed for TbsCertList<'a> {
         (first_of field3 (is_encoding tags.Sequence (lit< tt) field3.front field3.first.0 field3.first.1, field3.first)
         (first_of field4 (is_time _ field4.front field4.first, field4.first)
         (first_of field5 (perhaps (⟦<Time as Form>⟧.accepts Der) (λ x o b. is_time x o b) v.fields.list.rest.rest.rest.rest.first field5.front field5.first)
-        (first_of field6 (perhaps (⟦<Vec<RevokedCertificate<'a>> as Form>⟧.accepts Der) (λ x o b. is_encoding tags.Sequence (lit< tt) o b.0 b.1) v.fields.list.rest.rest.rest.rest.rest.first field6.front field6.first)
-        (first_of field7 (maybe (λ x. x.fields.list.first) (λ (x : Explicit0Extensions). ⟦<Explicit<Extensions<'a>, 0> as Form>⟧.accepts Der (explicit x.fields.list.first)) (λ x. ⟦<Explicit<Extensions<'a>, 0> as Form>⟧.accepts Der (explicit x)) (λ x o b. (is_encoding (marker_tag 2 true 0) (marker_tag-in_range 2 true 0) o b.0 b.1, b)) v.fields.list.rest.rest.rest.rest.rest.rest.first field7.front field7.first)
+        (first_of field6 (perhaps (⟦<ListRef<'a, RevokedCertificate<'a>> as Form>⟧.accepts Der) (λ x o b. is_encoding tags.Sequence (lit< tt) o b.0 b.1) v.fields.list.rest.rest.rest.rest.rest.first field6.front field6.first)
+        (first_of field7 (maybe (λ x. x.fields.first) (⟦<Explicit<Extensions<'a>, 0> as Form>⟧.accepts Der) (λ x. ⟦<Explicit<Extensions<'a>, 0> as Form>⟧.accepts Der (explicit x)) (λ x o b. (is_encoding (marker_tag 2 true 0) (marker_tag-in_range 2 true 0) o b.0 b.1, b)) v.fields.list.rest.rest.rest.rest.rest.rest.first field7.front field7.first)
         field7.rest))))))) };
 }

@@ -17,6 +17,7 @@ use crate::walk::next_place;
 use der_cms::ess::{EssCertId, SigningCertificate};
 use der_elem::Form;
 use der_extensions::extension::PolicyInformation;
+use der_lists::ListRef;
 
 /// Where the fields of a `SigningCertificate` stand.
 #[repr(C)]
@@ -34,8 +35,8 @@ impl<'a> Placed for SigningCertificate<'a> {
     ghost listed = { λ p. p.certs ∷ p.policies ∷ [] };
 
     ghost layout = { λ v.
-        field (⟦<Vec<EssCertId<'a>> as Form>⟧.accepts Der (fields_of.certs v))
-        (optional (⟦<Vec<PolicyInformation<'a>> as Form>⟧.accepts Der) (fields_of.policies v)
+        field (⟦<ListRef<'a, EssCertId<'a>> as Form>⟧.accepts Der (fields_of.certs v))
+        (optional (⟦<ListRef<'a, PolicyInformation<'a>> as Form>⟧.accepts Der) (fields_of.policies v)
         no_more) };
 
     fn walk(&self, octets: &[u8], start: Place) -> SigningCertificatePlaces {
@@ -48,6 +49,6 @@ impl<'a> Placed for SigningCertificate<'a> {
         let field1 = a in
         let field2 = field1.rest in
         (first_of field1 (is_encoding tags.Sequence (lit< tt) field1.front field1.first.0 field1.first.1, field1.first)
-        (first_of field2 (perhaps (⟦<Vec<PolicyInformation<'a>> as Form>⟧.accepts Der) (λ x o b. is_encoding tags.Sequence (lit< tt) o b.0 b.1) v.fields.list.rest.first field2.front field2.first)
+        (first_of field2 (perhaps (⟦<ListRef<'a, PolicyInformation<'a>> as Form>⟧.accepts Der) (λ x o b. is_encoding tags.Sequence (lit< tt) o b.0 b.1) v.fields.list.rest.first field2.front field2.first)
         field2.rest)) };
 }

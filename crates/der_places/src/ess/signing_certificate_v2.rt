@@ -17,6 +17,7 @@ use crate::walk::next_place;
 use der_cms::ess::{EssCertIdv2, SigningCertificateV2};
 use der_elem::Form;
 use der_extensions::extension::PolicyInformation;
+use der_lists::ListRef;
 
 /// Where the fields of a `SigningCertificateV2` stand.
 #[repr(C)]
@@ -34,8 +35,8 @@ impl<'a> Placed for SigningCertificateV2<'a> {
     ghost listed = { λ p. p.certs ∷ p.policies ∷ [] };
 
     ghost layout = { λ v.
-        field (⟦<Vec<EssCertIdv2<'a>> as Form>⟧.accepts Der (fields_of.certs v))
-        (optional (⟦<Vec<PolicyInformation<'a>> as Form>⟧.accepts Der) (fields_of.policies v)
+        field (⟦<ListRef<'a, EssCertIdv2<'a>> as Form>⟧.accepts Der (fields_of.certs v))
+        (optional (⟦<ListRef<'a, PolicyInformation<'a>> as Form>⟧.accepts Der) (fields_of.policies v)
         no_more) };
 
     fn walk(&self, octets: &[u8], start: Place) -> SigningCertificateV2Places {
@@ -48,6 +49,6 @@ impl<'a> Placed for SigningCertificateV2<'a> {
         let field1 = a in
         let field2 = field1.rest in
         (first_of field1 (is_encoding tags.Sequence (lit< tt) field1.front field1.first.0 field1.first.1, field1.first)
-        (first_of field2 (perhaps (⟦<Vec<PolicyInformation<'a>> as Form>⟧.accepts Der) (λ x o b. is_encoding tags.Sequence (lit< tt) o b.0 b.1) v.fields.list.rest.first field2.front field2.first)
+        (first_of field2 (perhaps (⟦<ListRef<'a, PolicyInformation<'a>> as Form>⟧.accepts Der) (λ x o b. is_encoding tags.Sequence (lit< tt) o b.0 b.1) v.fields.list.rest.first field2.front field2.first)
         field2.rest)) };
 }

@@ -5,7 +5,6 @@
 ghost use Rattle.std.proofs.Common.{false, true};
 ghost use Rattle.std.specs.Prelude.{◌∷◌, []};
 ghost use Rattle.der_extensions.specs.Extension.DistributionPoint as fields_of;
-ghost use Rattle.der_extensions.specs.declared.extension.explicit0_distribution_point_name.Explicit0DistributionPointName.{Explicit0DistributionPointName};
 ghost use Rattle.der_fields.specs.MarkerTags.{marker_tag, marker_tag-in_range};
 ghost use Rattle.der_places.specs.Layout.{explicit, implicit, no_more, optional};
 ghost use Rattle.der_places.specs.LayoutLaws.{first_of, is_encoding, maybe};
@@ -59,7 +58,7 @@ impl<'a> Placed for DistributionPoint<'a> {
         let field1 = a in
         let field2 = field1.rest in
         let field3 = field2.rest in
-        (first_of field1 (maybe (λ x. x.fields.list.first) (λ (x : Explicit0DistributionPointName). ⟦<Explicit<DistributionPointName<'a>, 0> as Form>⟧.accepts Der (explicit x.fields.list.first)) (λ x. ⟦<Explicit<DistributionPointName<'a>, 0> as Form>⟧.accepts Der (explicit x)) (λ x o b. (is_encoding (marker_tag 2 true 0) (marker_tag-in_range 2 true 0) o b.0 b.1, b)) v.fields.list.first field1.front field1.first)
+        (first_of field1 (maybe (λ x. x.fields.first) (⟦<Explicit<DistributionPointName<'a>, 0> as Form>⟧.accepts Der) (λ x. ⟦<Explicit<DistributionPointName<'a>, 0> as Form>⟧.accepts Der (explicit x)) (λ x o b. (is_encoding (marker_tag 2 true 0) (marker_tag-in_range 2 true 0) o b.0 b.1, b)) v.fields.list.first field1.front field1.first)
         (first_of field2 (maybe (λ x. x.value) (⟦<Implicit<ReasonFlags<'a>, 1> as Form>⟧.accepts Der) (λ x. ⟦<Implicit<ReasonFlags<'a>, 1> as Form>⟧.accepts Der (implicit x)) (λ x o b. (is_encoding (marker_tag 2 false 1) (marker_tag-in_range 2 false 1) o b.0 b.1, b)) v.fields.list.rest.first field2.front field2.first)
         (first_of field3 (maybe (λ x. x.value) (⟦<Implicit<GeneralNames<'a>, 2> as Form>⟧.accepts Der) (λ x. ⟦<Implicit<GeneralNames<'a>, 2> as Form>⟧.accepts Der (implicit x)) (λ x o b. (is_encoding (marker_tag 2 true 2) (marker_tag-in_range 2 true 2) o b.0 b.1, b)) v.fields.list.rest.rest.first field3.front field3.first)
         field3.rest))) };

@@ -5,7 +5,6 @@
 ghost use Rattle.std.proofs.Common.{false, true};
 ghost use Rattle.std.specs.Prelude.{◌∷◌, []};
 ghost use Rattle.der_extensions.specs.Extension.IssuingDistributionPoint as fields_of;
-ghost use Rattle.der_extensions.specs.declared.extension.explicit0_distribution_point_name.Explicit0DistributionPointName.{Explicit0DistributionPointName};
 ghost use Rattle.der_fields.specs.Defaults.{is_default};
 ghost use Rattle.der_fields.specs.MarkerTags.{marker_tag, marker_tag-in_range};
 ghost use Rattle.der_places.specs.Layout.{explicit, implicit, no_more, optional, unless};
@@ -93,7 +92,7 @@ impl<'a> Placed for IssuingDistributionPoint<'a> {
         let field4 = field3.rest in
         let field5 = field4.rest in
         let field6 = field5.rest in
-        (first_of field1 (maybe (λ x. x.fields.list.first) (λ (x : Explicit0DistributionPointName). ⟦<Explicit<DistributionPointName<'a>, 0> as Form>⟧.accepts Der (explicit x.fields.list.first)) (λ x. ⟦<Explicit<DistributionPointName<'a>, 0> as Form>⟧.accepts Der (explicit x)) (λ x o b. (is_encoding (marker_tag 2 true 0) (marker_tag-in_range 2 true 0) o b.0 b.1, b)) v.fields.list.first field1.front field1.first)
+        (first_of field1 (maybe (λ x. x.fields.first) (⟦<Explicit<DistributionPointName<'a>, 0> as Form>⟧.accepts Der) (λ x. ⟦<Explicit<DistributionPointName<'a>, 0> as Form>⟧.accepts Der (explicit x)) (λ x o b. (is_encoding (marker_tag 2 true 0) (marker_tag-in_range 2 true 0) o b.0 b.1, b)) v.fields.list.first field1.front field1.first)
         (first_of field2 (besides (is_default ⟦<DefaultFalse as DefaultOf<Implicit<bool, 1>>>⟧.octets (⟦<Implicit<bool, 1> as Form>⟧.encoding (implicit (fields_of.only_contains_user_certs v)))) (⟦<Implicit<bool, 1> as Form>⟧.readable (implicit (fields_of.only_contains_user_certs v))) (⟦<Implicit<bool, 1> as Form>⟧.accepts Der (implicit (fields_of.only_contains_user_certs v))) (λ o b. is_encoding (marker_tag 2 false 1) (marker_tag-in_range 2 false 1) o b.0 b.1) field2.front field2.first)
         (first_of field3 (besides (is_default ⟦<DefaultFalse as DefaultOf<Implicit<bool, 2>>>⟧.octets (⟦<Implicit<bool, 2> as Form>⟧.encoding (implicit (fields_of.only_contains_ca_certs v)))) (⟦<Implicit<bool, 2> as Form>⟧.readable (implicit (fields_of.only_contains_ca_certs v))) (⟦<Implicit<bool, 2> as Form>⟧.accepts Der (implicit (fields_of.only_contains_ca_certs v))) (λ o b. is_encoding (marker_tag 2 false 2) (marker_tag-in_range 2 false 2) o b.0 b.1) field3.front field3.first)
         (first_of field4 (maybe (λ x. x.value) (⟦<Implicit<ReasonFlags<'a>, 3> as Form>⟧.accepts Der) (λ x. ⟦<Implicit<ReasonFlags<'a>, 3> as Form>⟧.accepts Der (implicit x)) (λ x o b. (is_encoding (marker_tag 2 false 3) (marker_tag-in_range 2 false 3) o b.0 b.1, b)) v.fields.list.rest.rest.rest.first field4.front field4.first)

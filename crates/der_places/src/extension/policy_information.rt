@@ -16,7 +16,7 @@ use crate::presence::is_there;
 use crate::walk::next_place;
 use der_elem::Form;
 use der_extensions::extension::{CertPolicyId, PolicyInformation, PolicyQualifierInfo};
-use der_nest::NonEmpty;
+use der_lists::{ListRef, NonEmptyRef};
 
 /// Where the fields of a `PolicyInformation` stand.
 #[repr(C)]
@@ -36,7 +36,7 @@ impl<'a> Placed for PolicyInformation<'a> {
 
     ghost layout = { λ v.
         field (⟦<CertPolicyId<'a> as Form>⟧.accepts Der (fields_of.policy_identifier v))
-        (optional (⟦<NonEmpty<Vec<PolicyQualifierInfo<'a>>> as Form>⟧.accepts Der) (fields_of.policy_qualifiers v)
+        (optional (⟦<NonEmptyRef<ListRef<'a, PolicyQualifierInfo<'a>>> as Form>⟧.accepts Der) (fields_of.policy_qualifiers v)
         no_more) };
 
     fn walk(&self, octets: &[u8], start: Place) -> PolicyInformationPlaces {
@@ -56,6 +56,6 @@ impl<'a> Placed for PolicyInformation<'a> {
         let field1 = a in
         let field2 = field1.rest in
         (first_of field1 (is_encoding tags.ObjectIdentifier (lit< tt) field1.front field1.first.0 field1.first.1, field1.first)
-        (first_of field2 (perhaps (⟦<NonEmpty<Vec<PolicyQualifierInfo<'a>>> as Form>⟧.accepts Der) (λ x o b. is_encoding tags.Sequence (lit< tt) o b.0 b.1) v.fields.list.rest.first field2.front field2.first)
+        (first_of field2 (perhaps (⟦<NonEmptyRef<ListRef<'a, PolicyQualifierInfo<'a>>> as Form>⟧.accepts Der) (λ x o b. is_encoding tags.Sequence (lit< tt) o b.0 b.1) v.fields.list.rest.first field2.front field2.first)
         field2.rest)) };
 }

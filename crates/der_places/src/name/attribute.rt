@@ -14,8 +14,8 @@ use crate::place::Place;
 use crate::placed::Placed;
 use crate::walk::next_place;
 use der_elem::Form;
-use der_nest::ItemSet;
-use der_pkix::name::{Attribute, AttributeType, AttributeValue, AttributeValueOrder};
+use der_lists::UnorderedSetRef;
+use der_pkix::name::{Attribute, AttributeType, AttributeValue};
 
 /// Where the fields of an `Attribute` stand.
 #[repr(C)]
@@ -34,7 +34,7 @@ impl<'a> Placed for Attribute<'a> {
 
     ghost layout = { λ v.
         field (⟦<AttributeType<'a> as Form>⟧.accepts Der (fields_of.type_ v))
-        (field (⟦<ItemSet<AttributeValue<'a>, AttributeValueOrder> as Form>⟧.accepts Der (fields_of.values v))
+        (field (⟦<UnorderedSetRef<'a, AttributeValue<'a>> as Form>⟧.accepts Der (fields_of.values v))
         no_more) };
 
     fn walk(&self, octets: &[u8], start: Place) -> AttributePlaces {

@@ -6,7 +6,6 @@ ghost use Rattle.std.proofs.Common.{lit<, true};
 ghost use Rattle.std.specs.Prelude.{◌∷◌, []};
 ghost use Rattle.der_fields.specs.MarkerTags.{marker_tag, marker_tag-in_range};
 ghost use Rattle.der_ocsp.specs.Ocsp.BasicOcspResponse as fields_of;
-ghost use Rattle.der_ocsp.specs.declared.ocsp.explicit0_certificates.Explicit0Certificates.{Explicit0Certificates};
 ghost use Rattle.der_places.specs.Layout.{explicit, field, no_more, optional};
 ghost use Rattle.der_places.specs.LayoutLaws.{first_of, is_encoding, maybe};
 ghost use Rattle.der_tlv.specs.declared.encoding_rules.EncodingRules.TheVariants.{Der};
@@ -69,6 +68,6 @@ impl<'a> Placed for BasicOcspResponse<'a> {
         (first_of field1 (is_encoding tags.Sequence (lit< tt) field1.front field1.first.0 field1.first.1, field1.first)
         (first_of field2 (is_encoding tags.Sequence (lit< tt) field2.front field2.first.0 field2.first.1, field2.first)
         (first_of field3 (is_encoding tags.BitString (lit< tt) field3.front field3.first.0 field3.first.1, field3.first)
-        (first_of field4 (maybe (λ x. x.fields.list.first) (λ (x : Explicit0Certificates). ⟦<Explicit<Certificates<'a>, 0> as Form>⟧.accepts Der (explicit x.fields.list.first)) (λ x. ⟦<Explicit<Certificates<'a>, 0> as Form>⟧.accepts Der (explicit x)) (λ x o b. (is_encoding (marker_tag 2 true 0) (marker_tag-in_range 2 true 0) o b.0 b.1, b)) v.fields.list.rest.rest.rest.first field4.front field4.first)
+        (first_of field4 (maybe (λ x. x.fields.first) (⟦<Explicit<Certificates<'a>, 0> as Form>⟧.accepts Der) (λ x. ⟦<Explicit<Certificates<'a>, 0> as Form>⟧.accepts Der (explicit x)) (λ x o b. (is_encoding (marker_tag 2 true 0) (marker_tag-in_range 2 true 0) o b.0 b.1, b)) v.fields.list.rest.rest.rest.first field4.front field4.first)
         field4.rest)))) };
 }

@@ -6,7 +6,6 @@ ghost use Rattle.std.proofs.Common.{lit<, true};
 ghost use Rattle.std.specs.Prelude.{◌∷◌, []};
 ghost use Rattle.der_fields.specs.MarkerTags.{marker_tag, marker_tag-in_range};
 ghost use Rattle.der_ocsp.specs.Ocsp.OcspRequest as fields_of;
-ghost use Rattle.der_ocsp.specs.declared.ocsp.explicit0_signature.Explicit0Signature.{Explicit0Signature};
 ghost use Rattle.der_places.specs.Layout.{explicit, field, no_more, optional};
 ghost use Rattle.der_places.specs.LayoutLaws.{first_of, is_encoding, maybe};
 ghost use Rattle.der_tlv.specs.declared.encoding_rules.EncodingRules.TheVariants.{Der};
@@ -57,6 +56,6 @@ impl<'a> Placed for OcspRequest<'a> {
         let field1 = a in
         let field2 = field1.rest in
         (first_of field1 (is_encoding tags.Sequence (lit< tt) field1.front field1.first.0 field1.first.1, field1.first)
-        (first_of field2 (maybe (λ x. x.fields.list.first) (λ (x : Explicit0Signature). ⟦<Explicit<Signature<'a>, 0> as Form>⟧.accepts Der (explicit x.fields.list.first)) (λ x. ⟦<Explicit<Signature<'a>, 0> as Form>⟧.accepts Der (explicit x)) (λ x o b. (is_encoding (marker_tag 2 true 0) (marker_tag-in_range 2 true 0) o b.0 b.1, b)) v.fields.list.rest.first field2.front field2.first)
+        (first_of field2 (maybe (λ x. x.fields.first) (⟦<Explicit<Signature<'a>, 0> as Form>⟧.accepts Der) (λ x. ⟦<Explicit<Signature<'a>, 0> as Form>⟧.accepts Der (explicit x)) (λ x o b. (is_encoding (marker_tag 2 true 0) (marker_tag-in_range 2 true 0) o b.0 b.1, b)) v.fields.list.rest.first field2.front field2.first)
         field2.rest)) };
 }

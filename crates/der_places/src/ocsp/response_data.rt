@@ -7,7 +7,6 @@ ghost use Rattle.std.specs.Prelude.{◌∷◌, List, [], ℕ};
 ghost use Rattle.der_fields.specs.Defaults.{is_default};
 ghost use Rattle.der_fields.specs.MarkerTags.{marker_tag, marker_tag-in_range};
 ghost use Rattle.der_ocsp.specs.Ocsp.ResponseData as fields_of;
-ghost use Rattle.der_ocsp.specs.declared.ocsp.explicit1_extensions.Explicit1Extensions.{Explicit1Extensions};
 ghost use Rattle.der_ocsp.specs.declared.ocsp.responder_id.ResponderId.{ResponderId};
 ghost use Rattle.der_ocsp.specs.declared.ocsp.responder_id.ResponderId.TheVariants as responder_id_of;
 ghost use Rattle.der_places.specs.Layout.{explicit, field, no_more, optional, unless};
@@ -90,6 +89,6 @@ impl<'a> Placed for ResponseData<'a> {
         (first_of field2 (is_responder_id _ field2.front field2.first, field2.first)
         (first_of field3 (is_encoding tags.GeneralizedTime (lit< tt) field3.front field3.first.0 field3.first.1, field3.first)
         (first_of field4 (is_encoding tags.Sequence (lit< tt) field4.front field4.first.0 field4.first.1, field4.first)
-        (first_of field5 (maybe (λ x. x.fields.list.first) (λ (x : Explicit1Extensions). ⟦<Explicit<Extensions<'a>, 1> as Form>⟧.accepts Der (explicit x.fields.list.first)) (λ x. ⟦<Explicit<Extensions<'a>, 1> as Form>⟧.accepts Der (explicit x)) (λ x o b. (is_encoding (marker_tag 2 true 1) (marker_tag-in_range 2 true 1) o b.0 b.1, b)) v.fields.list.rest.rest.rest.rest.first field5.front field5.first)
+        (first_of field5 (maybe (λ x. x.fields.first) (⟦<Explicit<Extensions<'a>, 1> as Form>⟧.accepts Der) (λ x. ⟦<Explicit<Extensions<'a>, 1> as Form>⟧.accepts Der (explicit x)) (λ x o b. (is_encoding (marker_tag 2 true 1) (marker_tag-in_range 2 true 1) o b.0 b.1, b)) v.fields.list.rest.rest.rest.rest.first field5.front field5.first)
         field5.rest))))) };
 }

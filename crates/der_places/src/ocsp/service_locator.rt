@@ -15,7 +15,6 @@ use crate::placed::Placed;
 use crate::walk::next_place;
 use der_elem::Form;
 use der_extensions::extension::AuthorityInfoAccessSyntax;
-use der_nest::Kept;
 use der_ocsp::ocsp::ServiceLocator;
 use der_pkix::name::Name;
 
@@ -35,7 +34,7 @@ impl<'a> Placed for ServiceLocator<'a> {
     ghost listed = { λ p. p.issuer ∷ p.locator ∷ [] };
 
     ghost layout = { λ v.
-        field (⟦<Kept<'a, Name<'a>> as Form>⟧.accepts Der (fields_of.issuer v))
+        field (⟦<Name<'a> as Form>⟧.accepts Der (fields_of.issuer v))
         (field (⟦<AuthorityInfoAccessSyntax<'a> as Form>⟧.accepts Der (fields_of.locator v))
         no_more) };
 

@@ -7,8 +7,6 @@ ghost use Rattle.std.specs.Prelude.{◌∷◌, []};
 ghost use Rattle.der_fields.specs.Defaults.{is_default};
 ghost use Rattle.der_fields.specs.MarkerTags.{marker_tag, marker_tag-in_range};
 ghost use Rattle.der_ocsp.specs.Ocsp.TbsRequest as fields_of;
-ghost use Rattle.der_ocsp.specs.declared.ocsp.explicit1_general_name.Explicit1GeneralName.{Explicit1GeneralName};
-ghost use Rattle.der_ocsp.specs.declared.ocsp.explicit2_extensions.Explicit2Extensions.{Explicit2Extensions};
 ghost use Rattle.der_places.specs.Layout.{explicit, field, no_more, optional, unless};
 ghost use Rattle.der_places.specs.LayoutLaws.{besides, first_of, is_encoding, maybe};
 ghost use Rattle.der_tlv.specs.declared.encoding_rules.EncodingRules.TheVariants.{Der};
@@ -78,8 +76,8 @@ impl<'a> Placed for TbsRequest<'a> {
         let field3 = field2.rest in
         let field4 = field3.rest in
         (first_of field1 (besides (is_default ⟦<DefaultNumber<0> as DefaultOf<Explicit<Version, 0>>>⟧.octets (⟦<Explicit<Version, 0> as Form>⟧.encoding (explicit (fields_of.version v)))) (⟦<Explicit<Version, 0> as Form>⟧.readable (explicit (fields_of.version v))) (⟦<Explicit<Version, 0> as Form>⟧.accepts Der (explicit (fields_of.version v))) (λ o b. is_encoding (marker_tag 2 true 0) (marker_tag-in_range 2 true 0) o b.0 b.1) field1.front field1.first)
-        (first_of field2 (maybe (λ x. x.fields.list.first) (λ (x : Explicit1GeneralName). ⟦<Explicit<GeneralName<'a>, 1> as Form>⟧.accepts Der (explicit x.fields.list.first)) (λ x. ⟦<Explicit<GeneralName<'a>, 1> as Form>⟧.accepts Der (explicit x)) (λ x o b. (is_encoding (marker_tag 2 true 1) (marker_tag-in_range 2 true 1) o b.0 b.1, b)) v.fields.list.rest.first field2.front field2.first)
+        (first_of field2 (maybe (λ x. x.fields.first) (⟦<Explicit<GeneralName<'a>, 1> as Form>⟧.accepts Der) (λ x. ⟦<Explicit<GeneralName<'a>, 1> as Form>⟧.accepts Der (explicit x)) (λ x o b. (is_encoding (marker_tag 2 true 1) (marker_tag-in_range 2 true 1) o b.0 b.1, b)) v.fields.list.rest.first field2.front field2.first)
         (first_of field3 (is_encoding tags.Sequence (lit< tt) field3.front field3.first.0 field3.first.1, field3.first)
-        (first_of field4 (maybe (λ x. x.fields.list.first) (λ (x : Explicit2Extensions). ⟦<Explicit<Extensions<'a>, 2> as Form>⟧.accepts Der (explicit x.fields.list.first)) (λ x. ⟦<Explicit<Extensions<'a>, 2> as Form>⟧.accepts Der (explicit x)) (λ x o b. (is_encoding (marker_tag 2 true 2) (marker_tag-in_range 2 true 2) o b.0 b.1, b)) v.fields.list.rest.rest.rest.first field4.front field4.first)
+        (first_of field4 (maybe (λ x. x.fields.first) (⟦<Explicit<Extensions<'a>, 2> as Form>⟧.accepts Der) (λ x. ⟦<Explicit<Extensions<'a>, 2> as Form>⟧.accepts Der (explicit x)) (λ x o b. (is_encoding (marker_tag 2 true 2) (marker_tag-in_range 2 true 2) o b.0 b.1, b)) v.fields.list.rest.rest.rest.first field4.front field4.first)
         field4.rest)))) };
 }

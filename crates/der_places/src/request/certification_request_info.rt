@@ -16,7 +16,6 @@ use crate::placed::Placed;
 use crate::walk::next_place;
 use der_elem::Form;
 use der_fields::Implicit;
-use der_nest::Kept;
 use der_pkcs::request::{CertificationRequestInfo, CertificationRequestInfoVersion};
 use der_pkix::certificate::SubjectPublicKeyInfo;
 use der_pkix::key::Attributes;
@@ -43,7 +42,7 @@ impl<'a> Placed for CertificationRequestInfo<'a> {
 
     ghost layout = { λ v.
         field (⟦<CertificationRequestInfoVersion as Form>⟧.accepts Der (fields_of.version v))
-        (field (⟦<Kept<'a, Name<'a>> as Form>⟧.accepts Der (fields_of.subject v))
+        (field (⟦<Name<'a> as Form>⟧.accepts Der (fields_of.subject v))
         (field (⟦<SubjectPublicKeyInfo<'a> as Form>⟧.accepts Der (fields_of.subject_pk_info v))
         (field (⟦<Implicit<Attributes<'a>, 0> as Form>⟧.accepts Der (implicit (fields_of.attributes v)))
         no_more))) };

@@ -9,7 +9,6 @@ ghost use Rattle.der_fields.specs.MarkerTags.{marker_tag, marker_tag-in_range};
 ghost use Rattle.der_places.specs.Layout.{explicit, field, implicit, no_more, optional, unless};
 ghost use Rattle.der_places.specs.LayoutLaws.{besides, first_of, is_encoding, maybe, perhaps};
 ghost use Rattle.der_time_stamp.specs.TimeStamp.TstInfo as fields_of;
-ghost use Rattle.der_time_stamp.specs.declared.time_stamp.explicit0_general_name.Explicit0GeneralName.{Explicit0GeneralName};
 ghost use Rattle.der_tlv.specs.declared.encoding_rules.EncodingRules.TheVariants.{Der};
 ghost use Rattle.der_tlv.specs.declared.tag.Tag.TheVariants as tags;
 
@@ -115,7 +114,7 @@ impl<'a> Placed for TstInfo<'a> {
         (first_of field6 (perhaps (⟦<Accuracy as Form>⟧.accepts Der) (λ x o b. is_encoding tags.Sequence (lit< tt) o b.0 b.1) v.fields.list.rest.rest.rest.rest.rest.first field6.front field6.first)
         (first_of field7 (besides (is_default ⟦<DefaultFalse as DefaultOf<bool>>⟧.octets (⟦<bool as Form>⟧.encoding (fields_of.ordering v))) (⟦<bool as Form>⟧.readable (fields_of.ordering v)) (⟦<bool as Form>⟧.accepts Der (fields_of.ordering v)) (λ o b. is_encoding tags.Boolean (lit< tt) o b.0 b.1) field7.front field7.first)
         (first_of field8 (perhaps (⟦<IntRef<'a> as Form>⟧.accepts Der) (λ x o b. is_encoding tags.Integer (lit< tt) o b.0 b.1) v.fields.list.rest.rest.rest.rest.rest.rest.rest.first field8.front field8.first)
-        (first_of field9 (maybe (λ x. x.fields.list.first) (λ (x : Explicit0GeneralName). ⟦<Explicit<GeneralName<'a>, 0> as Form>⟧.accepts Der (explicit x.fields.list.first)) (λ x. ⟦<Explicit<GeneralName<'a>, 0> as Form>⟧.accepts Der (explicit x)) (λ x o b. (is_encoding (marker_tag 2 true 0) (marker_tag-in_range 2 true 0) o b.0 b.1, b)) v.fields.list.rest.rest.rest.rest.rest.rest.rest.rest.list.first field9.front field9.first)
+        (first_of field9 (maybe (λ x. x.fields.first) (⟦<Explicit<GeneralName<'a>, 0> as Form>⟧.accepts Der) (λ x. ⟦<Explicit<GeneralName<'a>, 0> as Form>⟧.accepts Der (explicit x)) (λ x o b. (is_encoding (marker_tag 2 true 0) (marker_tag-in_range 2 true 0) o b.0 b.1, b)) v.fields.list.rest.rest.rest.rest.rest.rest.rest.rest.list.first field9.front field9.first)
         (first_of field10 (maybe (λ x. x.value) (⟦<Implicit<Extensions<'a>, 1> as Form>⟧.accepts Der) (λ x. ⟦<Implicit<Extensions<'a>, 1> as Form>⟧.accepts Der (implicit x)) (λ x o b. (is_encoding (marker_tag 2 true 1) (marker_tag-in_range 2 true 1) o b.0 b.1, b)) v.fields.list.rest.rest.rest.rest.rest.rest.rest.rest.list.rest.first field10.front field10.first)
         field10.rest)))))))))) };
 }

@@ -2,7 +2,7 @@
 
 use super::{at, same};
 use der_elem::FromDer;
-use der_pkix::certificate::{Certificate, SubjectPublicKeyInfo};
+use der_pkix::certificate::{Certificate, Extensions, SubjectPublicKeyInfo};
 use der_places::certificate::{
     CertificatePlaces, ExtensionPlaces, SubjectPublicKeyInfoPlaces, TbsCertificatePlaces,
 };
@@ -39,20 +39,34 @@ fn first_extensions(
     octets: &[u8],
 ) -> Result<Option<(ExtensionPlaces, ExtensionPlaces)>, u8> {
     match Certificate::from_der(alloc, octets) {
-        Ok(certificate) => Ok(two_extensions(&certificate, octets)),
+        Ok(certificate) => Ok(two_extensions(alloc, &certificate, octets)),
         Err(e) => Err(e.kind().number()),
     }
 }
 
 fn two_extensions(
+    alloc: Global,
     certificate: &Certificate<'_>,
     octets: &[u8],
 ) -> Option<(ExtensionPlaces, ExtensionPlaces)> {
     let extensions = certificate.tbs_certificate().extensions()?;
-    let first = extensions.as_slice().first()?;
-    let second = extensions.as_slice().get(1)?;
-    let one = places_of(first, octets, 138);
-    Some((one, places_of(second, octets, one.extn_value.behind())))
+    let one = extension_at(alloc, extensions, 0, octets, 138)?;
+    let second = extension_at(alloc, extensions, 1, octets, one.extn_value.behind())?;
+    Some((one, second))
+}
+
+// The places of the fields of an extension, of which the number in the list and the offset are told.
+fn extension_at(
+    alloc: Global,
+    extensions: &Extensions<'_>,
+    index: usize,
+    octets: &[u8],
+    offset: u32,
+) -> Option<ExtensionPlaces> {
+    match extensions.items().get(alloc, index) {
+        Some(Ok(extension)) => Some(places_of(&extension, octets, offset)),
+        _ => None,
+    }
 }
 
 // The places of the fields of a key.

@@ -27,16 +27,22 @@ fn fields(alloc: Global, octets: &[u8]) -> Result<(CertificateListPlaces, TbsCer
 // The places of the fields of the first entry.
 fn first_entry(alloc: Global, octets: &[u8]) -> Result<Option<RevokedCertificatePlaces>, u8> {
     match CertificateList::from_der(alloc, octets) {
-        Ok(list) => Ok(entry_of(&list, octets)),
+        Ok(list) => Ok(entry_of(alloc, &list, octets)),
         Err(e) => Err(e.kind().number()),
     }
 }
 
-fn entry_of(list: &CertificateList<'_>, octets: &[u8]) -> Option<RevokedCertificatePlaces> {
+fn entry_of(
+    alloc: Global,
+    list: &CertificateList<'_>,
+    octets: &[u8],
+) -> Option<RevokedCertificatePlaces> {
     let entries = list.tbs_cert_list().revoked_certificates()?;
-    let entry = entries.as_slice().first()?;
     let offset = contents_of(octets, at(59, 22)).offset;
-    Some(places_of(entry, octets, offset))
+    match entries.get(alloc, 0) {
+        Some(Ok(entry)) => Some(places_of(&entry, octets, offset)),
+        _ => None,
+    }
 }
 
 #[test]

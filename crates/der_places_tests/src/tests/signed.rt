@@ -40,9 +40,9 @@ fn inner(
             let parts = places_of(&data, octets, 0);
             let content = data.encap_content_info();
             let content = places_of(content, octets, parts.encap_content_info.offset);
-            let signer = match data.signer_infos().as_slice().first() {
-                Some(signer) => Some(places_of(signer, octets, 47)),
-                None => None,
+            let signer = match data.signer_infos().get(alloc, 0) {
+                Some(Ok(signer)) => Some(places_of(&signer, octets, 47)),
+                _ => None,
             };
             Ok((parts, content, signer))
         }

@@ -52,9 +52,9 @@ fn inner(
             let parts = places_of(&basic, octets, 0);
             let signed = basic.tbs_response_data();
             let data = places_of(signed, octets, parts.tbs_response_data.offset);
-            let second = match signed.responses().as_slice().get(1) {
-                Some(second) => Some(places_of(second, octets, 152)),
-                None => None,
+            let second = match signed.responses().items().get(alloc, 1) {
+                Some(Ok(second)) => Some(places_of(&second, octets, 152)),
+                _ => None,
             };
             Ok((parts, data, second))
         }

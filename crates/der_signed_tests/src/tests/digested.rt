@@ -1,7 +1,9 @@
 //! Messages with a digest, and messages that are encrypted with a key that both sides have (RFC 5652
 //! sections 7 and 8).
 
-use super::{again, content_of, copied, put, read_and_compared, read_and_copied, same, same_in};
+use super::{
+    again, content_of, copied, numbered, put, read_and_compared, read_and_copied, same, same_in,
+};
 use der_asn1_types::FromDer;
 use der_cms::cms::{DigestedData, EncryptedData};
 use std::alloc::Global;
@@ -73,7 +75,7 @@ fn encrypted_told(
                 None => None,
             };
             let attributes = match encrypted.unprotected_attrs() {
-                Some(attributes) => Some(attributes.as_slice().len()),
+                Some(attributes) => Some(numbered(attributes.items().count(alloc))?),
                 None => None,
             };
             Ok((encrypted.version(), cipher, text, attributes))

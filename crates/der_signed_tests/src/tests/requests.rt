@@ -1,9 +1,11 @@
 //! Requests for certificates (RFC 2986), and their attributes (RFC 2985).
 
-use super::{again, copied, numbered, put, read_and_compared, read_and_copied, same, same_in};
-use der_asn1_types::{Encode, FromDer};
-use der_modules::copy_of;
+use super::{
+    again, copied, first_value, numbered, put, read_and_compared, read_and_copied, same, same_in,
+};
+use der_asn1_types::FromDer;
 use der_pkcs::request::{CertificationRequest, ExtensionRequest};
+use der_pkix::name::Attribute;
 use std::alloc::Global;
 use std::cmp::Ordering;
 use std::process::Abort;
@@ -40,17 +42,14 @@ fn request_told(alloc: Global, octets: &[u8]) -> Result<(u8, usize, usize, usize
     match CertificationRequest::from_der(alloc, octets) {
         Ok(request) => {
             let info = request.certification_request_info();
-            let parts = match copy_of(info.subject()).value(alloc) {
-                Ok(name) => name.as_slice().len(),
-                Err(e) => return Err(e.kind().number()),
-            };
+            let parts = numbered(info.subject().items().count(alloc))?;
             let key = *info.subject_pk_info().subject_public_key();
             let signature = *request.signature();
             Ok((
                 info.version(),
                 parts,
                 key.bit_len(),
-                info.attributes().as_slice().len(),
+                numbered(info.attributes().items().count(alloc))?,
                 signature.bit_len(),
             ))
         }
@@ -58,20 +57,23 @@ fn request_told(alloc: Global, octets: &[u8]) -> Result<(u8, usize, usize, usize
     }
 }
 
-// The contents octets of the type of the attribute at that place, and the encoding of its first value.
+// The contents octets of an attribute's type, and the encoding of its first value.
+fn type_and_value(alloc: Global, attribute: &Attribute) -> Result<(Vec<u8>, Vec<u8>), u8> {
+    let kind = copied(alloc, attribute.type_().as_bytes())?;
+    let value = first_value(alloc, attribute)?;
+    Ok((kind, value))
+}
+
+// The same of the attribute at that place.
 fn attribute_told(alloc: Global, octets: &[u8], place: usize) -> Result<(Vec<u8>, Vec<u8>), u8> {
     match CertificationRequest::from_der(alloc, octets) {
         Ok(request) => {
-            let info = request.certification_request_info();
-            let Some(attribute) = info.attributes().as_slice().get(place) else {
-                return Err(0);
-            };
-            let Some(value) = attribute.values().as_slice().first() else {
-                return Err(0);
-            };
-            let kind = attribute.type_();
-            let kind = copied(alloc, kind.as_bytes())?;
-            Ok((kind, numbered(value.to_der(alloc))?))
+            let attributes = request.certification_request_info().attributes();
+            match attributes.items().get(alloc, place) {
+                Some(Ok(attribute)) => type_and_value(alloc, &attribute),
+                Some(Err(e)) => Err(e.kind().number()),
+                None => Err(0),
+            }
         }
         Err(e) => Err(e.kind().number()),
     }

@@ -1,6 +1,8 @@
 //! Signed messages (RFC 5652 sections 3 and 5), and their certificates and lists (section 10.2).
 
-use super::{again, content_of, copied, put, read_and_compared, read_and_copied, same, same_in};
+use super::{
+    again, content_of, copied, numbered, put, read_and_compared, read_and_copied, same, same_in,
+};
 use der_asn1_types::FromDer;
 use der_cms::cms::constants::ID_SIGNED_DATA;
 use der_cms::cms::{CertificateChoices, ContentInfo, RevocationInfoChoice, SignedData};
@@ -90,60 +92,76 @@ fn signed_told(
                 None => None,
             };
             let certificates = match signed.certificates() {
-                Some(certificates) => Some(certificates.as_slice().len()),
+                Some(certificates) => Some(numbered(certificates.items().count(alloc))?),
                 None => None,
             };
             let lists = match signed.crls() {
-                Some(lists) => Some(lists.as_slice().len()),
+                Some(lists) => Some(numbered(lists.items().count(alloc))?),
                 None => None,
             };
             Ok((
                 signed.version(),
-                signed.digest_algorithms().len(),
+                numbered(signed.digest_algorithms().count(alloc))?,
                 content,
                 certificates,
                 lists,
-                signed.signer_infos().len(),
+                numbered(signed.signer_infos().count(alloc))?,
             ))
         }
         Err(e) => Err(e.kind().number()),
     }
 }
 
-// The octets of the number of the first certificate.
+// The octets of the number of a certificate.
+fn number_of(alloc: Global, certificate: &CertificateChoices) -> Result<Vec<u8>, u8> {
+    match certificate {
+        CertificateChoices::Certificate(certificate) => {
+            let number = certificate.tbs_certificate().serial_number();
+            copied(alloc, number.as_bytes())
+        }
+        _ => Err(0),
+    }
+}
+
+// The same of the first certificate.
 fn certificate_told(alloc: Global, octets: &[u8]) -> Result<Vec<u8>, u8> {
     match SignedData::from_der(alloc, octets) {
         Ok(signed) => {
             let Some(certificates) = signed.certificates() else {
                 return Err(0);
             };
-            match certificates.as_slice().first() {
-                Some(CertificateChoices::Certificate(certificate)) => {
-                    let number = certificate.tbs_certificate().serial_number();
-                    copied(alloc, number.as_bytes())
-                }
-                _ => Err(0),
+            match certificates.items().get(alloc, 0) {
+                Some(Ok(first)) => number_of(alloc, &first),
+                Some(Err(e)) => Err(e.kind().number()),
+                None => Err(0),
             }
         }
         Err(e) => Err(e.kind().number()),
     }
 }
 
-// How many entries the first list has.
+// How many entries a list has.
+fn entries_of(alloc: Global, list: &RevocationInfoChoice) -> Result<Option<usize>, u8> {
+    match list {
+        RevocationInfoChoice::Crl(list) => match list.tbs_cert_list().revoked_certificates() {
+            Some(entries) => Ok(Some(numbered(entries.count(alloc))?)),
+            None => Ok(None),
+        },
+        _ => Err(0),
+    }
+}
+
+// The same of the first list.
 fn list_told(alloc: Global, octets: &[u8]) -> Result<Option<usize>, u8> {
     match SignedData::from_der(alloc, octets) {
         Ok(signed) => {
             let Some(lists) = signed.crls() else {
                 return Err(0);
             };
-            match lists.as_slice().first() {
-                Some(RevocationInfoChoice::Crl(list)) => {
-                    match list.tbs_cert_list().revoked_certificates() {
-                        Some(entries) => Ok(Some(entries.len())),
-                        None => Ok(None),
-                    }
-                }
-                _ => Err(0),
+            match lists.items().get(alloc, 0) {
+                Some(Ok(first)) => entries_of(alloc, &first),
+                Some(Err(e)) => Err(e.kind().number()),
+                None => Err(0),
             }
         }
         Err(e) => Err(e.kind().number()),
@@ -319,19 +337,20 @@ fn what_is_signed_may_be_as_short_as_it_gets(rt: HostRuntime) -> Result<(), Fail
 }
 
 #[test]
-fn certificates_are_put_in_order(rt: HostRuntime) -> Result<(), Fail> {
+fn certificates_stay_in_their_order(rt: HostRuntime) -> Result<(), Fail> {
     let alloc = rt.alloc();
-    // two formats of certificates, exchanged and in order
-    let exchanged = hex::decode(
-        alloc,
+    let rows = [
+        // two formats of certificates, exchanged and in order
         "30220201033100300506032a0304a012a30706032a03060500a30706032a030505003100",
-    )?;
-    let written = signed_again(alloc, exchanged.as_slice())?;
-    let octets = hex::decode(
-        alloc,
         "30220201033100300506032a0304a012a30706032a03050500a30706032a030605003100",
-    )?;
-    same(&rt, written.as_slice(), octets.as_slice());
+        // two formats of lists, exchanged
+        "30220201033100300506032a0304a112a10706032a03060500a10706032a030505003100",
+    ];
+    for digits in rows {
+        let octets = hex::decode(alloc, digits)?;
+        let written = signed_again(alloc, octets.as_slice())?;
+        same_in(&rt, &digits, written.as_slice(), octets.as_slice());
+    }
     Ok(())
 }
 

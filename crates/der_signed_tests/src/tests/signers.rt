@@ -2,13 +2,15 @@
 //! certificates (RFC 5035).
 
 use super::{
-    again, content_of, copied, numbered, put, read_and_compared, read_and_copied, same, same_in,
+    again, content_of, copied, first_value, numbered, put, read_and_compared, read_and_copied,
+    same, same_in,
 };
 use der_asn1_types::{Encode, FromDer};
 use der_cms::cms::{
     Countersignature, SignedAttributes, SignedData, SignerIdentifier, SignerInfo, SigningTime,
+    UnsignedAttributes,
 };
-use der_cms::ess::{SigningCertificate, SigningCertificateV2};
+use der_cms::ess::{EssCertIdv2, SigningCertificate, SigningCertificateV2};
 use der_pkix::certificate::Time;
 use std::alloc::Global;
 use std::cmp::Ordering;
@@ -37,6 +39,10 @@ fn attributes_again(alloc: Global, octets: &[u8]) -> Result<Vec<u8>, u8> {
     again::<SignedAttributes>(alloc, octets)
 }
 
+fn unsigned_again(alloc: Global, octets: &[u8]) -> Result<Vec<u8>, u8> {
+    again::<UnsignedAttributes>(alloc, octets)
+}
+
 fn certificate_again(alloc: Global, octets: &[u8]) -> Result<Vec<u8>, u8> {
     again::<SigningCertificate>(alloc, octets)
 }
@@ -61,8 +67,9 @@ fn certificate_v2_copied(alloc: Global, octets: &[u8]) -> Result<bool, u8> {
 fn signer_of(alloc: Global, octets: &[u8]) -> Result<Vec<u8>, u8> {
     let content = content_of(alloc, octets)?;
     match SignedData::from_der(alloc, content.as_slice()) {
-        Ok(signed) => match signed.signer_infos().as_slice().first() {
-            Some(signer) => numbered(signer.to_der(alloc)),
+        Ok(signed) => match signed.signer_infos().get(alloc, 0) {
+            Some(Ok(signer)) => numbered(signer.to_der(alloc)),
+            Some(Err(e)) => Err(e.kind().number()),
             None => Err(0),
         },
         Err(e) => Err(e.kind().number()),
@@ -87,11 +94,9 @@ fn countersignature_of(alloc: Global, octets: &[u8]) -> Result<Vec<u8>, u8> {
             let Some(attributes) = signer.unsigned_attrs() else {
                 return Err(0);
             };
-            let Some(attribute) = attributes.as_slice().first() else {
-                return Err(0);
-            };
-            match attribute.values().as_slice().first() {
-                Some(value) => numbered(value.to_der(alloc)),
+            match attributes.items().get(alloc, 0) {
+                Some(Ok(attribute)) => first_value(alloc, &attribute),
+                Some(Err(e)) => Err(e.kind().number()),
                 None => Err(0),
             }
         }
@@ -102,11 +107,9 @@ fn countersignature_of(alloc: Global, octets: &[u8]) -> Result<Vec<u8>, u8> {
 // The encoding of the first value of the attribute at that place.
 fn value_of(alloc: Global, octets: &[u8], place: usize) -> Result<Vec<u8>, u8> {
     match SignedAttributes::from_der(alloc, octets) {
-        Ok(attributes) => match attributes.as_slice().get(place) {
-            Some(attribute) => match attribute.values().as_slice().first() {
-                Some(value) => numbered(value.to_der(alloc)),
-                None => Err(0),
-            },
+        Ok(attributes) => match attributes.items().get(alloc, place) {
+            Some(Ok(attribute)) => first_value(alloc, &attribute),
+            Some(Err(e)) => Err(e.kind().number()),
             None => Err(0),
         },
         Err(e) => Err(e.kind().number()),
@@ -130,7 +133,7 @@ fn signer_told(
                 }
             };
             let attributes = match signer.signed_attrs() {
-                Some(attributes) => Some(attributes.as_slice().len()),
+                Some(attributes) => Some(numbered(attributes.items().count(alloc))?),
                 None => None,
             };
             Ok((
@@ -154,24 +157,31 @@ fn year_of(alloc: Global, octets: &[u8]) -> Result<u16, u8> {
     }
 }
 
-// How many certificates are named, whether the first has an algorithm, the octets of its hash, and those
-// of its number.
-fn named_told(alloc: Global, octets: &[u8]) -> Result<(usize, bool, usize, Vec<u8>), u8> {
+/// Whether a certificate is named with an algorithm, the octets of its hash, and those of its number.
+type Told = (bool, usize, Vec<u8>);
+
+fn named_of(alloc: Global, named: &EssCertIdv2) -> Result<Told, u8> {
+    let Some(name) = named.issuer_serial() else {
+        return Err(0);
+    };
+    let number = copied(alloc, name.serial_number().as_bytes())?;
+    Ok((
+        named.hash_algorithm().is_some(),
+        named.cert_hash().as_bytes().len(),
+        number,
+    ))
+}
+
+// How many certificates are named, and how the first is.
+fn named_told(alloc: Global, octets: &[u8]) -> Result<(usize, Told), u8> {
     match SigningCertificateV2::from_der(alloc, octets) {
         Ok(named) => {
-            let Some(first) = named.certs().as_slice().first() else {
-                return Err(0);
-            };
-            let Some(name) = first.issuer_serial() else {
-                return Err(0);
-            };
-            let number = copied(alloc, name.serial_number().as_bytes())?;
-            Ok((
-                named.certs().len(),
-                first.hash_algorithm().is_some(),
-                first.cert_hash().as_bytes().len(),
-                number,
-            ))
+            let count = numbered(named.certs().count(alloc))?;
+            match named.certs().get(alloc, 0) {
+                Some(Ok(first)) => Ok((count, named_of(alloc, &first)?)),
+                Some(Err(e)) => Err(e.kind().number()),
+                None => Err(0),
+            }
         }
         Err(e) => Err(e.kind().number()),
     }
@@ -262,7 +272,7 @@ fn certificates_of_signers_are_named(rt: HostRuntime) -> Result<(), Fail> {
     same(&rt, written.as_slice(), value.as_slice());
     let number = hex::decode(alloc, "02")?;
     let found = named_told(alloc, value.as_slice());
-    same(&rt, found, Ok((1, false, 32, number)));
+    same(&rt, found, Ok((1, (false, 32, number))));
     same(
         &rt,
         certificate_v2_copied(alloc, value.as_slice()),
@@ -340,22 +350,43 @@ fn a_changed_octet_of_a_signer_is_refused(rt: HostRuntime) -> Result<(), Fail> {
 }
 
 #[test]
-fn attributes_are_put_in_order(rt: HostRuntime) -> Result<(), Fail> {
+fn attributes_that_are_signed_stand_in_order(rt: HostRuntime) -> Result<(), Fail> {
     let alloc = rt.alloc();
     let rows = [
-        // none, and one that is a number
+        // none, one that is a number, and two that are exchanged
         ("3100", 13),
         ("3103020105", 4),
+        ("3114300906032a030431023000300706032a03033100", 11),
     ];
     for (digits, number) in rows {
         let octets = hex::decode(alloc, digits)?;
         let answer = attributes_again(alloc, octets.as_slice());
         same_in(&rt, &digits, answer.err(), Some(number));
     }
-    let exchanged = hex::decode(alloc, "3114300906032a030431023000300706032a03033100")?;
     let octets = hex::decode(alloc, "3114300706032a03033100300906032a030431023000")?;
-    let written = attributes_again(alloc, exchanged.as_slice())?;
+    let written = attributes_again(alloc, octets.as_slice())?;
     same(&rt, written.as_slice(), octets.as_slice());
+    Ok(())
+}
+
+#[test]
+fn attributes_that_are_not_signed_stay_in_their_order(rt: HostRuntime) -> Result<(), Fail> {
+    let alloc = rt.alloc();
+    // two that are exchanged, and in order
+    for digits in [
+        "3114300906032a030431023000300706032a03033100",
+        "3114300706032a03033100300906032a030431023000",
+    ] {
+        let octets = hex::decode(alloc, digits)?;
+        let written = unsigned_again(alloc, octets.as_slice())?;
+        same_in(&rt, &digits, written.as_slice(), octets.as_slice());
+    }
+    // none, and one that is a number
+    for (digits, number) in [("3100", 13), ("3103020105", 4)] {
+        let octets = hex::decode(alloc, digits)?;
+        let answer = unsigned_again(alloc, octets.as_slice());
+        same_in(&rt, &digits, answer.err(), Some(number));
+    }
     Ok(())
 }
 

@@ -1,10 +1,10 @@
 //! Answers about the status of certificates (RFC 6960 section 4.2).
 
-use super::{again, copied, put, read_and_compared, read_and_copied, same, same_in};
+use super::{again, copied, numbered, put, read_and_compared, read_and_copied, same, same_in};
 use der_asn1_types::FromDer;
 use der_extensions::extension::CrlReason;
 use der_ocsp::ocsp::{
-    BasicOcspResponse, CertStatus, OcspResponse, OcspResponseStatus, ResponderId,
+    BasicOcspResponse, CertStatus, OcspResponse, OcspResponseStatus, ResponderId, SingleResponse,
 };
 use std::alloc::Global;
 use std::cmp::Ordering;
@@ -90,11 +90,11 @@ fn basic_told(
                 ResponderId::ByKey(key) => Some(key.fields.first.as_bytes().len()),
             };
             let extensions = match signed.response_extensions() {
-                Some(extensions) => extensions.as_slice().len(),
+                Some(extensions) => numbered(extensions.items().count(alloc))?,
                 None => 0,
             };
             let certificates = match basic.certs() {
-                Some(certificates) => Some(certificates.as_slice().len()),
+                Some(certificates) => Some(numbered(certificates.items().count(alloc))?),
                 None => None,
             };
             let signature = *basic.signature();
@@ -102,7 +102,7 @@ fn basic_told(
                 signed.version(),
                 key,
                 signed.produced_at().to_date_time().year(),
-                signed.responses().as_slice().len(),
+                numbered(signed.responses().items().count(alloc))?,
                 extensions,
                 certificates,
                 signature.bit_len(),
@@ -120,23 +120,29 @@ enum Told {
     Unknown,
 }
 
+// The status of a certificate.
+fn told_of(single: &SingleResponse) -> Told {
+    match single.cert_status() {
+        CertStatus::Good(_) => Told::Good,
+        CertStatus::Revoked(info) => Told::Revoked(
+            info.value.revocation_time().to_date_time().day(),
+            info.value.revocation_reason(),
+        ),
+        CertStatus::Unknown(_) => Told::Unknown,
+    }
+}
+
 // The status of the certificate at that place, and whether there is a next update.
 fn status_told(alloc: Global, octets: &[u8], place: usize) -> Result<(Told, bool), u8> {
     match BasicOcspResponse::from_der(alloc, octets) {
-        Ok(basic) => match basic.tbs_response_data().responses().as_slice().get(place) {
-            Some(single) => {
-                let told = match single.cert_status() {
-                    CertStatus::Good(_) => Told::Good,
-                    CertStatus::Revoked(info) => Told::Revoked(
-                        info.value.revocation_time().to_date_time().day(),
-                        info.value.revocation_reason(),
-                    ),
-                    CertStatus::Unknown(_) => Told::Unknown,
-                };
-                Ok((told, single.next_update().is_some()))
+        Ok(basic) => {
+            let answers = basic.tbs_response_data().responses();
+            match answers.items().get(alloc, place) {
+                Some(Ok(single)) => Ok((told_of(&single), single.next_update().is_some())),
+                Some(Err(e)) => Err(e.kind().number()),
+                None => Err(0),
             }
-            None => Err(0),
-        },
+        }
         Err(e) => Err(e.kind().number()),
     }
 }

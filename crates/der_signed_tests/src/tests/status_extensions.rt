@@ -1,7 +1,7 @@
 //! The values of the extensions of requests and answers (RFC 6960 section 4.4): octets that `openssl
 //! asn1parse -genconf` wrote.
 
-use super::{again, copied, read_and_compared, same, same_in};
+use super::{again, copied, numbered, read_and_compared, same, same_in};
 use der_asn1_types::FromDer;
 use der_ocsp::ocsp::{
     AcceptableResponses, ArchiveCutoff, CrlId, ExtendedRevoke, Nonce, PreferredSignatureAlgorithms,
@@ -88,13 +88,12 @@ fn list_told(
 fn algorithms_told(alloc: Global, octets: &[u8]) -> Result<(usize, bool), u8> {
     match PreferredSignatureAlgorithms::from_der(alloc, octets) {
         Ok(algorithms) => {
-            let Some(last) = algorithms.as_slice().last() else {
-                return Err(0);
-            };
-            Ok((
-                algorithms.as_slice().len(),
-                last.cert_identifier().is_some(),
-            ))
+            let count = numbered(algorithms.items().count(alloc))?;
+            match algorithms.items().get(alloc, count.saturating_sub(1)) {
+                Some(Ok(last)) => Ok((count, last.cert_identifier().is_some())),
+                Some(Err(e)) => Err(e.kind().number()),
+                None => Err(0),
+            }
         }
         Err(e) => Err(e.kind().number()),
     }

@@ -1,8 +1,8 @@
 //! Requests for the status of certificates (RFC 6960 section 4.1).
 
-use super::{again, copied, put, read_and_compared, read_and_copied, same, same_in};
+use super::{again, copied, numbered, put, read_and_compared, read_and_copied, same, same_in};
 use der_asn1_types::FromDer;
-use der_ocsp::ocsp::OcspRequest;
+use der_ocsp::ocsp::{OcspRequest, Requests, Signature};
 use std::alloc::Global;
 use std::cmp::Ordering;
 use std::process::Abort;
@@ -34,6 +34,27 @@ fn request_copied(alloc: Global, octets: &[u8]) -> Result<bool, u8> {
     read_and_copied::<OcspRequest>(alloc, octets)
 }
 
+// How many certificates are asked about, and the octets of the last one's number.
+fn asked_told(alloc: Global, requests: &Requests) -> Result<(usize, Vec<u8>), u8> {
+    let count = numbered(requests.items().count(alloc))?;
+    match requests.items().get(alloc, count.saturating_sub(1)) {
+        Some(Ok(last)) => {
+            let number = copied(alloc, last.req_cert().serial_number().as_bytes())?;
+            Ok((count, number))
+        }
+        Some(Err(e)) => Err(e.kind().number()),
+        None => Err(0),
+    }
+}
+
+// How many certificates a signature has.
+fn certificates_of(alloc: Global, signature: &Signature) -> Result<usize, u8> {
+    match signature.certs() {
+        Some(certificates) => numbered(certificates.items().count(alloc)),
+        None => Ok(0),
+    }
+}
+
 // The version, how many certificates are asked about, the octets of the last one's number, how many
 // extensions there are, whether the request has a name, and how many certificates its signature has.
 fn request_told(
@@ -43,24 +64,18 @@ fn request_told(
     match OcspRequest::from_der(alloc, octets) {
         Ok(request) => {
             let asked = request.tbs_request();
-            let Some(last) = asked.request_list().as_slice().last() else {
-                return Err(0);
-            };
+            let (count, number) = asked_told(alloc, asked.request_list())?;
             let extensions = match asked.request_extensions() {
-                Some(extensions) => extensions.as_slice().len(),
+                Some(extensions) => numbered(extensions.items().count(alloc))?,
                 None => 0,
             };
             let certificates = match request.optional_signature() {
-                Some(signature) => match signature.certs() {
-                    Some(certificates) => Some(certificates.as_slice().len()),
-                    None => Some(0),
-                },
+                Some(signature) => Some(certificates_of(alloc, signature)?),
                 None => None,
             };
-            let number = copied(alloc, last.req_cert().serial_number().as_bytes())?;
             Ok((
                 asked.version(),
-                asked.request_list().as_slice().len(),
+                count,
                 number,
                 extensions,
                 asked.requestor_name().is_some(),

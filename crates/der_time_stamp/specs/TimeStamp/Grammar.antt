@@ -6,7 +6,8 @@ use Rattle.der_elem.specs.Boolean.{boolean_contents, parse_boolean}
 use Rattle.der_elem.specs.IntegerReading.{parse_unsigned}
 use Rattle.der_elem.specs.Utf8String.{parse_utf8}
 use Rattle.der_extensions.specs.Extension.Grammar.{general_name}
-use Rattle.der_modules.specs.Asn1.{DEFAULT, EXPLICIT, Grammar, IMPLICIT, NOT_EMPTY, OPTIONAL, SEQUENCE, SEQUENCE_OF, any_of, context, end, field, one}
+use Rattle.der_lists.specs.Asn1.{SEQUENCE_OF}
+use Rattle.der_modules.specs.Asn1.{DEFAULT, EXPLICIT, Grammar, IMPLICIT, NOT_EMPTY, OPTIONAL, SEQUENCE, any_of, context, end, field, one}
 use Rattle.der_numbers.specs.AnyLength.{parse_integer}
 use Rattle.der_opaque.specs.AnyForm.{parse_any}
 use Rattle.der_opaque.specs.ObjectIdentifierOctets.{parse_identifier}

@@ -44,7 +44,7 @@ nonce v = v.fields.list.rest.rest.rest.rest.rest.rest.rest.first
 
 -- tsa [0] GeneralName OPTIONAL
 abbrev pub tsa : TstInfo → Option GeneralName
-tsa v = option_map (λ x. x.fields.list.first) v.fields.list.rest.rest.rest.rest.rest.rest.rest.rest.list.first
+tsa v = option_map (λ x. x.fields.first) v.fields.list.rest.rest.rest.rest.rest.rest.rest.rest.list.first
 
 -- extensions [1] IMPLICIT Extensions OPTIONAL
 abbrev pub extensions : TstInfo → Option Extensions

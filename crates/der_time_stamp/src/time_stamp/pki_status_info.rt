@@ -2,30 +2,26 @@
 //!
 //! Made by tools/asn1 from time_stamp.asn1.
 
-ghost use Rattle.std.specs.Prelude.{◌∷◌, ◌≡◌, [], refl, true};
+ghost use Rattle.std.specs.Prelude.{◌∷◌, ◌≡◌, [], false, refl};
 ghost use Rattle.der_bits.specs.contracts.named_bits.NamedBitsRefContentsEq.TheImpl.Laws as namedbitsref_contents_eq;
 ghost use Rattle.der_elem.specs.FormatMakers.{mapped_format};
 ghost use Rattle.der_elem.specs.contracts.integer.unsigned.U8ContentsEq.TheImpl.Laws as u8_contents_eq;
 ghost use Rattle.der_modules.specs.Asn1.{joined, optional, parse_of};
-ghost use Rattle.der_modules.specs.MemberLaws.{copies_of, held_copies, listed_copies, member_copies, member_equality, no_copies, no_equality, one_tag, one_tag_copies, one_tag_equality, optional_copies, optional_equality, optional_starts, same_copies, tagged_starts};
+ghost use Rattle.der_modules.specs.MemberLaws.{member_equality, no_equality, one_tag, one_tag_equality, optional_equality, optional_starts, tagged_starts};
 ghost use Rattle.der_time_stamp.specs.TimeStamp.Grammar.{pki_status_info};
 ghost use Rattle.der_time_stamp.specs.TimeStamp.PkiStatusInfo as pki_status_info_fields;
 ghost use Rattle.der_time_stamp.specs.contracts.time_stamp.pki_free_text.PkiFreeTextContentsEq.TheImpl.Laws as pki_free_text_contents_eq;
-ghost use Rattle.der_time_stamp.specs.contracts.time_stamp.pki_free_text.PkiFreeTextDuplicateValue.TheImpl.Laws as pki_free_text_duplicate_value;
-ghost use Rattle.der_time_stamp.specs.contracts.time_stamp.pki_free_text.PkiFreeTextDuplicateValueIsEqual.TheImpl.Laws as pki_free_text_duplicate_value_is_equal;
 ghost use Rattle.der_time_stamp.specs.declared.time_stamp.pki_status_info.PkiStatusInfo.{PkiStatusInfo};
 
 use crate::time_stamp::aliases::{PkiFailureInfo, PkiStatus};
 use crate::time_stamp::pki_free_text::PkiFreeText;
 use der_bits::NamedBitsRef;
 use der_elem::{
-    BitStringTag, ContentsEq, DecodeValue, DuplicateValue, DuplicateValueIsEqual, EncodeValue,
-    Form, FormValue, IntegerTag, OneTag, Sequence, SequenceTag, TagMarker, ValueOrd,
+    BitStringTag, ContentsEq, CopyIsDuplicate, DecodeValue, EncodeValue, Form, FormValue,
+    IntegerTag, OneTag, Sequence, SequenceTag, TagMarker, ValueOrd,
 };
-use der_fields::{
-    DecodeFields, DuplicateFields, EncodeFields, End, Field, FieldList, Fields3, FieldsOrd,
-};
-use der_modules::CopyLaws;
+use der_fields::{DecodeFields, EncodeFields, End, Field, FieldList, Fields3, FieldsOrd};
+use der_modules::copy_of;
 use der_tlv::{BackWriter, Error, Header, Length, Source, Writer};
 use std::alloc::Global;
 use std::cmp::Ordering;
@@ -41,9 +37,8 @@ type Fields<'a> = Fields3<PkiStatus, Option<PkiFreeText<'a>>, Option<PkiFailureI
 ///      failInfo      PKIFailureInfo OPTIONAL }
 /// ```
 ///
-/// Reading refuses the first fault of the octets, in their order; `ErrorKind::Memory` (1) where
-/// memory runs out.
-#[derive(PartialEq, Eq, Drop)]
+/// Reading refuses the first fault of the octets, in their order.
+#[derive(Clone, Copy, PartialEq, Eq)]
 pub struct PkiStatusInfo<'a> {
     fields: Fields<'a>,
 }
@@ -55,49 +50,24 @@ impl<'a> PkiStatusInfo<'a> {
     /// A value of these fields.
     pub fn new(
         status: PkiStatus,
-        status_string: Option<PkiFreeText<'a>>,
+        status_string: Option<&PkiFreeText<'a>>,
         fail_info: Option<PkiFailureInfo<'a>>,
     ) -> PkiStatusInfo<'a>
         ensures status { pki_status_info_fields.status result ≡ status }
-        ensures status_string { pki_status_info_fields.status_string result ≡ status_string.entry }
+        ensures status_string { pki_status_info_fields.status_string result ≡ option_copied status_string.entry }
         ensures fail_info { pki_status_info_fields.fail_info result ≡ fail_info.entry }
     {
         let first = fail_info;
         let rest = Field { first, rest: End };
-        let first = status_string;
+        let first = match status_string {
+            Some(value) => Some(copy_of(value)),
+            None => None,
+        };
         let rest = Field { first, rest };
         let first = status;
         let list = Field { first, rest };
         let fields = Fields3 { list };
         PkiStatusInfo { fields }
-    }
-
-    /// The values of the fields, in their order.
-    pub fn into_parts(
-        self,
-    ) -> (
-        PkiStatus,
-        Option<PkiFreeText<'a>>,
-        Option<PkiFailureInfo<'a>>,
-    )
-        ensures status { pki_status_info_fields.status self.entry ≡ result.0 }
-        ensures status_string { pki_status_info_fields.status_string self.entry ≡ result.1 }
-        ensures fail_info { pki_status_info_fields.fail_info self.entry ≡ result.2 }
-    {
-        let Fields3 { list } = self.fields;
-        let Field {
-            first: status,
-            rest,
-        } = list;
-        let Field {
-            first: status_string,
-            rest,
-        } = rest;
-        let Field {
-            first: fail_info,
-            ..
-        } = rest;
-        (status, status_string, fail_info)
     }
 
     /// `status`, `PKIStatus`.
@@ -151,9 +121,9 @@ impl<'a> FormValue for PkiStatusInfo<'a> {
 }
 
 impl<'a, R: Source<'a>> DecodeValue<'a, R> for PkiStatusInfo<'a> {
-    ghost TAKES_MEMORY = { true };
+    ghost TAKES_MEMORY = { false };
 
-    const TAKES_MEMORY: bool = true;
+    const TAKES_MEMORY: bool = false;
 
     fn decode_value(
         alloc: Global,
@@ -205,42 +175,7 @@ impl<'a> ContentsEq for PkiStatusInfo<'a> {
         no_equality))).equal v.fields.list w.fields.list };
 }
 
-impl<'a> CopyLaws for PkiStatusInfo<'a> {
-    ghost copies = { copies_of (held_copies (λ v. v.fields.list)
-        (listed_copies (member_copies ⟦<PkiStatus as Form>⟧
-        (tagged_starts ⟦<PkiStatus as Form>⟧ (one_tag ⟦<IntegerTag as TagMarker>⟧.TAG ⟦<u8 as FormValue>⟧.value.contents))
-        (one_tag_copies ⟦<IntegerTag as TagMarker>⟧.TAG (same_copies ⟦<u8 as FormValue>⟧.value.contents ⟦<u8 as FormValue>⟧.value.comparable ⟦<u8 as FormValue>⟧.value.re_reads ⟦<u8 as PartialEq>⟧.eq (λ v. (u8_contents_eq.contents_eq-law v v tt).1 refl)))
-        (member_copies ⟦<Option<PkiFreeText<'a>> as Form>⟧
-        (optional_starts ⟦<PkiFreeText<'a> as Form>⟧ (one_tag ⟦<SequenceTag as TagMarker>⟧.TAG ⟦<PkiFreeText<'a> as FormValue>⟧.value.contents))
-        (optional_copies ⟦<PkiFreeText<'a> as Form>⟧ (one_tag_copies ⟦<SequenceTag as TagMarker>⟧.TAG (record { octets_are = pki_free_text_duplicate_value.copy_contents-law; comparable_are = pki_free_text_duplicate_value.copy_comparable_value-law; re_reads_are = pki_free_text_duplicate_value.copy_re_reads_value-law; equal_are = pki_free_text_duplicate_value_is_equal.copy_value_is_equal-law })))
-        (member_copies ⟦<Option<PkiFailureInfo<'a>> as Form>⟧
-        (optional_starts ⟦<PkiFailureInfo<'a> as Form>⟧ (one_tag ⟦<BitStringTag as TagMarker>⟧.TAG ⟦<NamedBitsRef<'a> as FormValue>⟧.value.contents))
-        (optional_copies ⟦<PkiFailureInfo<'a> as Form>⟧ (one_tag_copies ⟦<BitStringTag as TagMarker>⟧.TAG (same_copies ⟦<NamedBitsRef<'a> as FormValue>⟧.value.contents ⟦<NamedBitsRef<'a> as FormValue>⟧.value.comparable ⟦<NamedBitsRef<'a> as FormValue>⟧.value.re_reads ⟦<NamedBitsRef<'a> as PartialEq>⟧.eq (λ v. (namedbitsref_contents_eq.contents_eq-law v v tt).1 refl))))
-        no_copies))))) };
-}
-
-impl<'a> DuplicateValue for PkiStatusInfo<'a> {
-    ghost is_copy_value = { λ v w. ⟦<Fields<'a> as DuplicateFields>⟧.are_copies v.fields w.fields };
-
-    ghost takes_memory_to_copy_value = { ⟦<Fields<'a> as DuplicateFields>⟧.take_memory_to_copy };
-
-    fn duplicate_value(&self) -> Result<PkiStatusInfo<'a>, Error> {
-        match self.fields.duplicate_fields() {
-            Ok(fields) => Ok(PkiStatusInfo { fields }),
-            Err(e) => Err(e),
-        }
-    }
-
-    ghost copy_contents = { ⟦<PkiStatusInfo<'a> as CopyLaws>⟧.copies.laws.octets_are };
-
-    ghost copy_comparable_value = { ⟦<PkiStatusInfo<'a> as CopyLaws>⟧.copies.laws.comparable_are };
-
-    ghost copy_re_reads_value = { ⟦<PkiStatusInfo<'a> as CopyLaws>⟧.copies.laws.re_reads_are };
-}
-
-impl<'a> DuplicateValueIsEqual for PkiStatusInfo<'a> {
-    ghost copy_value_is_equal = { ⟦<PkiStatusInfo<'a> as CopyLaws>⟧.copies.laws.equal_are };
-}
+impl<'a> CopyIsDuplicate for PkiStatusInfo<'a> {}
 
 /// What is read as `PKIStatusInfo` is what the page of the grammar says.
 pub fn grammar_of_pki_status_info<'a>()

@@ -3,34 +3,31 @@
 //! Made by tools/asn1 from time_stamp.asn1.
 
 ghost use Rattle.std.proofs.Common.{lit<};
-ghost use Rattle.std.specs.Prelude.{◌∷◌, ◌≡◌, [], refl, true};
+ghost use Rattle.std.specs.Prelude.{◌∷◌, ◌≡◌, [], false, refl, true};
 ghost use Rattle.der_elem.specs.FormatMakers.{mapped_format};
 ghost use Rattle.der_elem.specs.contracts.boolean.BoolContentsEq.TheImpl.Laws as bool_contents_eq;
 ghost use Rattle.der_elem.specs.contracts.integer.unsigned.U8ContentsEq.TheImpl.Laws as u8_contents_eq;
 ghost use Rattle.der_modules.specs.Asn1.{context, implicit_encoding, joined, optional, parse_of, unless_default};
-ghost use Rattle.der_modules.specs.MemberLaws.{copies_of, default_copies, default_equality, default_starts, held_copies, listed_copies, member_copies, member_equality, no_copies, no_equality, one_tag, one_tag_copies, one_tag_equality, optional_copies, optional_equality, optional_starts, same_copies, tagged_starts};
+ghost use Rattle.der_modules.specs.MemberLaws.{default_equality, default_starts, member_equality, no_equality, one_tag, one_tag_equality, optional_equality, optional_starts, tagged_starts};
 ghost use Rattle.der_numbers.specs.contracts.int_ref.IntRefContentsEq.TheImpl.Laws as intref_contents_eq;
 ghost use Rattle.der_opaque.specs.contracts.object_identifier_ref.ObjectIdentifierRefContentsEq.TheImpl.Laws as objectidentifierref_contents_eq;
 ghost use Rattle.der_pkix.specs.contracts.certificate.extensions.ExtensionsContentsEq.TheImpl.Laws as extensions_contents_eq;
-ghost use Rattle.der_pkix.specs.contracts.certificate.extensions.ExtensionsDuplicateValue.TheImpl.Laws as extensions_duplicate_value;
-ghost use Rattle.der_pkix.specs.contracts.certificate.extensions.ExtensionsDuplicateValueIsEqual.TheImpl.Laws as extensions_duplicate_value_is_equal;
 ghost use Rattle.der_time_stamp.specs.TimeStamp.Grammar.{time_stamp_req};
 ghost use Rattle.der_time_stamp.specs.TimeStamp.TimeStampReq as time_stamp_req_fields;
 ghost use Rattle.der_time_stamp.specs.contracts.time_stamp.message_imprint.MessageImprintContentsEq.TheImpl.Laws as message_imprint_contents_eq;
-ghost use Rattle.der_time_stamp.specs.contracts.time_stamp.message_imprint.MessageImprintEq.TheImpl.Laws as message_imprint_eq;
 ghost use Rattle.der_time_stamp.specs.declared.time_stamp.time_stamp_req.TimeStampReq.{TimeStampReq};
 
 use crate::time_stamp::aliases::{TimeStampReqVersion, TsaPolicyId};
 use crate::time_stamp::message_imprint::MessageImprint;
 use der_elem::{
-    BooleanTag, ContentsEq, DecodeValue, DuplicateValue, DuplicateValueIsEqual, EncodeValue, Form,
-    FormValue, IntegerTag, ObjectIdentifierTag, OneTag, Sequence, SequenceTag, TagMarker, ValueOrd,
+    BooleanTag, ContentsEq, CopyIsDuplicate, DecodeValue, EncodeValue, Form, FormValue, IntegerTag,
+    ObjectIdentifierTag, OneTag, Sequence, SequenceTag, TagMarker, ValueOrd,
 };
 use der_fields::{
-    DecodeFields, DefaultFalse, DefaultOf, DuplicateFields, EncodeFields, End, Field, FieldList,
-    Fields6, FieldsOrd, Implicit, ImplicitTag, WithDefault,
+    DecodeFields, DefaultFalse, DefaultOf, EncodeFields, End, Field, FieldList, Fields6, FieldsOrd,
+    Implicit, ImplicitTag, WithDefault,
 };
-use der_modules::{CopyLaws, copy_of};
+use der_modules::copy_of;
 use der_numbers::IntRef;
 use der_opaque::ObjectIdentifierRef;
 use der_pkix::certificate::Extensions;
@@ -59,9 +56,8 @@ type Fields<'a> = Fields6<
 ///      extensions      [0] IMPLICIT Extensions OPTIONAL }
 /// ```
 ///
-/// Reading refuses the first fault of the octets, in their order; `ErrorKind::Memory` (1) where
-/// memory runs out.
-#[derive(PartialEq, Eq, Drop)]
+/// Reading refuses the first fault of the octets, in their order.
+#[derive(Clone, Copy, PartialEq, Eq)]
 pub struct TimeStampReq<'a> {
     fields: Fields<'a>,
 }
@@ -77,17 +73,19 @@ impl<'a> TimeStampReq<'a> {
         req_policy: Option<TsaPolicyId<'a>>,
         nonce: Option<IntRef<'a>>,
         cert_req: bool,
-        extensions: Option<Extensions<'a>>,
+        extensions: Option<&Extensions<'a>>,
     ) -> TimeStampReq<'a>
         ensures version { time_stamp_req_fields.version result ≡ version }
         ensures message_imprint { time_stamp_req_fields.message_imprint result ≡ message_imprint.now }
         ensures req_policy { time_stamp_req_fields.req_policy result ≡ req_policy.entry }
         ensures nonce { time_stamp_req_fields.nonce result ≡ nonce.entry }
         ensures cert_req { time_stamp_req_fields.cert_req result ≡ cert_req }
-        ensures extensions { time_stamp_req_fields.extensions result ≡ extensions.entry }
+        ensures extensions { time_stamp_req_fields.extensions result ≡ option_copied extensions.entry }
     {
         let first = match extensions {
-            Some(value) => Some(Implicit { value }),
+            Some(value) => Some(Implicit {
+                value: copy_of(value),
+            }),
             None => None,
         };
         let rest = Field { first, rest: End };
@@ -103,61 +101,6 @@ impl<'a> TimeStampReq<'a> {
         let list = Field { first, rest };
         let fields = Fields6 { list };
         TimeStampReq { fields }
-    }
-
-    /// The values of the fields, in their order.
-    pub fn into_parts(
-        self,
-    ) -> (
-        TimeStampReqVersion,
-        MessageImprint<'a>,
-        Option<TsaPolicyId<'a>>,
-        Option<IntRef<'a>>,
-        bool,
-        Option<Extensions<'a>>,
-    )
-        ensures version { time_stamp_req_fields.version self.entry ≡ result.0 }
-        ensures message_imprint { time_stamp_req_fields.message_imprint self.entry ≡ result.1 }
-        ensures req_policy { time_stamp_req_fields.req_policy self.entry ≡ result.2 }
-        ensures nonce { time_stamp_req_fields.nonce self.entry ≡ result.3 }
-        ensures cert_req { time_stamp_req_fields.cert_req self.entry ≡ result.4 }
-        ensures extensions { time_stamp_req_fields.extensions self.entry ≡ result.5 }
-    {
-        let Fields6 { list } = self.fields;
-        let Field {
-            first: version,
-            rest,
-        } = list;
-        let Field {
-            first: message_imprint,
-            rest,
-        } = rest;
-        let Field {
-            first: req_policy,
-            rest,
-        } = rest;
-        let Field { first: nonce, rest } = rest;
-        let Field {
-            first: cert_req,
-            rest,
-        } = rest;
-        let Field {
-            first: extensions,
-            ..
-        } = rest;
-        let cert_req = cert_req.value;
-        let extensions = match extensions {
-            Some(tagged) => Some(tagged.value),
-            None => None,
-        };
-        (
-            version,
-            message_imprint,
-            req_policy,
-            nonce,
-            cert_req,
-            extensions,
-        )
     }
 
     /// `version`, `INTEGER { v1 (1) }`.
@@ -238,9 +181,9 @@ impl<'a> FormValue for TimeStampReq<'a> {
 }
 
 impl<'a, R: Source<'a>> DecodeValue<'a, R> for TimeStampReq<'a> {
-    ghost TAKES_MEMORY = { true };
+    ghost TAKES_MEMORY = { false };
 
-    const TAKES_MEMORY: bool = true;
+    const TAKES_MEMORY: bool = false;
 
     fn decode_value(
         alloc: Global,
@@ -304,51 +247,7 @@ impl<'a> ContentsEq for TimeStampReq<'a> {
         no_equality)))))).equal v.fields.list w.fields.list };
 }
 
-impl<'a> CopyLaws for TimeStampReq<'a> {
-    ghost copies = { copies_of (held_copies (λ v. v.fields.list)
-        (listed_copies (member_copies ⟦<TimeStampReqVersion as Form>⟧
-        (tagged_starts ⟦<TimeStampReqVersion as Form>⟧ (one_tag ⟦<IntegerTag as TagMarker>⟧.TAG ⟦<u8 as FormValue>⟧.value.contents))
-        (one_tag_copies ⟦<IntegerTag as TagMarker>⟧.TAG (same_copies ⟦<u8 as FormValue>⟧.value.contents ⟦<u8 as FormValue>⟧.value.comparable ⟦<u8 as FormValue>⟧.value.re_reads ⟦<u8 as PartialEq>⟧.eq (λ v. (u8_contents_eq.contents_eq-law v v tt).1 refl)))
-        (member_copies ⟦<MessageImprint<'a> as Form>⟧
-        (tagged_starts ⟦<MessageImprint<'a> as Form>⟧ (one_tag ⟦<SequenceTag as TagMarker>⟧.TAG ⟦<MessageImprint<'a> as FormValue>⟧.value.contents))
-        (one_tag_copies ⟦<SequenceTag as TagMarker>⟧.TAG (same_copies ⟦<MessageImprint<'a> as FormValue>⟧.value.contents ⟦<MessageImprint<'a> as FormValue>⟧.value.comparable ⟦<MessageImprint<'a> as FormValue>⟧.value.re_reads ⟦<MessageImprint<'a> as PartialEq>⟧.eq message_imprint_eq.laws-law.refl))
-        (member_copies ⟦<Option<TsaPolicyId<'a>> as Form>⟧
-        (optional_starts ⟦<TsaPolicyId<'a> as Form>⟧ (one_tag ⟦<ObjectIdentifierTag as TagMarker>⟧.TAG ⟦<ObjectIdentifierRef<'a, 39> as FormValue>⟧.value.contents))
-        (optional_copies ⟦<TsaPolicyId<'a> as Form>⟧ (one_tag_copies ⟦<ObjectIdentifierTag as TagMarker>⟧.TAG (same_copies ⟦<ObjectIdentifierRef<'a, 39> as FormValue>⟧.value.contents ⟦<ObjectIdentifierRef<'a, 39> as FormValue>⟧.value.comparable ⟦<ObjectIdentifierRef<'a, 39> as FormValue>⟧.value.re_reads ⟦<ObjectIdentifierRef<'a, 39> as PartialEq>⟧.eq (λ v. ((objectidentifierref_contents_eq.contents_eq-law 39 (record { fits = lit< tt })) v v tt).1 refl))))
-        (member_copies ⟦<Option<IntRef<'a>> as Form>⟧
-        (optional_starts ⟦<IntRef<'a> as Form>⟧ (one_tag ⟦<IntegerTag as TagMarker>⟧.TAG ⟦<IntRef<'a> as FormValue>⟧.value.contents))
-        (optional_copies ⟦<IntRef<'a> as Form>⟧ (one_tag_copies ⟦<IntegerTag as TagMarker>⟧.TAG (same_copies ⟦<IntRef<'a> as FormValue>⟧.value.contents ⟦<IntRef<'a> as FormValue>⟧.value.comparable ⟦<IntRef<'a> as FormValue>⟧.value.re_reads ⟦<IntRef<'a> as PartialEq>⟧.eq (λ v. (intref_contents_eq.contents_eq-law v v tt).1 refl))))
-        (member_copies ⟦<WithDefault<bool, DefaultFalse> as Form>⟧
-        (default_starts ⟦<bool as Form>⟧ (one_tag ⟦<BooleanTag as TagMarker>⟧.TAG ⟦<bool as FormValue>⟧.value.contents) (λ x. x.value) ⟦<DefaultFalse as DefaultOf<bool>>⟧.octets)
-        (default_copies ⟦<bool as Form>⟧ (one_tag_copies ⟦<BooleanTag as TagMarker>⟧.TAG (same_copies ⟦<bool as FormValue>⟧.value.contents ⟦<bool as FormValue>⟧.value.comparable ⟦<bool as FormValue>⟧.value.re_reads ⟦<bool as PartialEq>⟧.eq (λ v. (bool_contents_eq.contents_eq-law v v tt).1 refl))) (λ x. x.value) ⟦<DefaultFalse as DefaultOf<bool>>⟧.octets)
-        (member_copies ⟦<Option<Implicit<Extensions<'a>, 0>> as Form>⟧
-        (optional_starts ⟦<Implicit<Extensions<'a>, 0> as Form>⟧ (one_tag ⟦<ImplicitTag<SequenceTag, 0> as TagMarker>⟧.TAG ⟦<Implicit<Extensions<'a>, 0> as FormValue>⟧.value.contents))
-        (optional_copies ⟦<Implicit<Extensions<'a>, 0> as Form>⟧ (one_tag_copies ⟦<ImplicitTag<SequenceTag, 0> as TagMarker>⟧.TAG (held_copies (λ x. x.value) (record { octets_are = extensions_duplicate_value.copy_contents-law; comparable_are = extensions_duplicate_value.copy_comparable_value-law; re_reads_are = extensions_duplicate_value.copy_re_reads_value-law; equal_are = extensions_duplicate_value_is_equal.copy_value_is_equal-law }))))
-        no_copies)))))))) };
-}
-
-impl<'a> DuplicateValue for TimeStampReq<'a> {
-    ghost is_copy_value = { λ v w. ⟦<Fields<'a> as DuplicateFields>⟧.are_copies v.fields w.fields };
-
-    ghost takes_memory_to_copy_value = { ⟦<Fields<'a> as DuplicateFields>⟧.take_memory_to_copy };
-
-    fn duplicate_value(&self) -> Result<TimeStampReq<'a>, Error> {
-        match self.fields.duplicate_fields() {
-            Ok(fields) => Ok(TimeStampReq { fields }),
-            Err(e) => Err(e),
-        }
-    }
-
-    ghost copy_contents = { ⟦<TimeStampReq<'a> as CopyLaws>⟧.copies.laws.octets_are };
-
-    ghost copy_comparable_value = { ⟦<TimeStampReq<'a> as CopyLaws>⟧.copies.laws.comparable_are };
-
-    ghost copy_re_reads_value = { ⟦<TimeStampReq<'a> as CopyLaws>⟧.copies.laws.re_reads_are };
-}
-
-impl<'a> DuplicateValueIsEqual for TimeStampReq<'a> {
-    ghost copy_value_is_equal = { ⟦<TimeStampReq<'a> as CopyLaws>⟧.copies.laws.equal_are };
-}
+impl<'a> CopyIsDuplicate for TimeStampReq<'a> {}
 
 /// What is read as `TimeStampReq` is what the page of the grammar says.
 pub fn grammar_of_time_stamp_req<'a>()

@@ -2,29 +2,24 @@
 //!
 //! Made by tools/asn1 from time_stamp.asn1.
 
-ghost use Rattle.std.specs.Prelude.{◌∷◌, ◌≡◌, [], refl, true};
+ghost use Rattle.std.specs.Prelude.{◌∷◌, ◌≡◌, [], false, refl};
 ghost use Rattle.der_elem.specs.FormatMakers.{mapped_format};
 ghost use Rattle.der_modules.specs.Asn1.{joined, optional, parse_of};
-ghost use Rattle.der_modules.specs.MemberLaws.{copies_of, held_copies, listed_copies, member_copies, member_equality, no_copies, no_equality, one_tag, one_tag_copies, one_tag_equality, optional_copies, optional_equality, optional_starts, same_copies, tagged_starts};
+ghost use Rattle.der_modules.specs.MemberLaws.{member_equality, no_equality, one_tag, one_tag_equality, optional_equality, optional_starts, tagged_starts};
 ghost use Rattle.der_time_stamp.specs.TimeStamp.Grammar.{time_stamp_resp};
 ghost use Rattle.der_time_stamp.specs.TimeStamp.TimeStampResp as time_stamp_resp_fields;
 ghost use Rattle.der_time_stamp.specs.contracts.time_stamp.pki_status_info.PkiStatusInfoContentsEq.TheImpl.Laws as pki_status_info_contents_eq;
-ghost use Rattle.der_time_stamp.specs.contracts.time_stamp.pki_status_info.PkiStatusInfoDuplicateValue.TheImpl.Laws as pki_status_info_duplicate_value;
-ghost use Rattle.der_time_stamp.specs.contracts.time_stamp.pki_status_info.PkiStatusInfoDuplicateValueIsEqual.TheImpl.Laws as pki_status_info_duplicate_value_is_equal;
 ghost use Rattle.der_time_stamp.specs.contracts.time_stamp.time_stamp_token.TimeStampTokenContentsEq.TheImpl.Laws as time_stamp_token_contents_eq;
-ghost use Rattle.der_time_stamp.specs.contracts.time_stamp.time_stamp_token.TimeStampTokenEq.TheImpl.Laws as time_stamp_token_eq;
 ghost use Rattle.der_time_stamp.specs.declared.time_stamp.time_stamp_resp.TimeStampResp.{TimeStampResp};
 
 use crate::time_stamp::pki_status_info::PkiStatusInfo;
 use crate::time_stamp::time_stamp_token::TimeStampToken;
 use der_elem::{
-    ContentsEq, DecodeValue, DuplicateValue, DuplicateValueIsEqual, EncodeValue, Form, FormValue,
-    OneTag, Sequence, SequenceTag, TagMarker, ValueOrd,
+    ContentsEq, CopyIsDuplicate, DecodeValue, EncodeValue, Form, FormValue, OneTag, Sequence,
+    SequenceTag, TagMarker, ValueOrd,
 };
-use der_fields::{
-    DecodeFields, DuplicateFields, EncodeFields, End, Field, FieldList, Fields2, FieldsOrd,
-};
-use der_modules::{CopyLaws, copy_of};
+use der_fields::{DecodeFields, EncodeFields, End, Field, FieldList, Fields2, FieldsOrd};
+use der_modules::copy_of;
 use der_tlv::{BackWriter, Error, Header, Length, Source, Writer};
 use std::alloc::Global;
 use std::cmp::Ordering;
@@ -39,9 +34,8 @@ type Fields<'a> = Fields2<PkiStatusInfo<'a>, Option<TimeStampToken<'a>>>;
 ///      timeStampToken  TimeStampToken OPTIONAL }
 /// ```
 ///
-/// Reading refuses the first fault of the octets, in their order; `ErrorKind::Memory` (1) where
-/// memory runs out.
-#[derive(PartialEq, Eq, Drop)]
+/// Reading refuses the first fault of the octets, in their order.
+#[derive(Clone, Copy, PartialEq, Eq)]
 pub struct TimeStampResp<'a> {
     fields: Fields<'a>,
 }
@@ -52,10 +46,10 @@ impl<'a> TimeStampResp<'a> {
 
     /// A value of these fields.
     pub fn new(
-        status: PkiStatusInfo<'a>,
+        status: &PkiStatusInfo<'a>,
         time_stamp_token: Option<&TimeStampToken<'a>>,
     ) -> TimeStampResp<'a>
-        ensures status { time_stamp_resp_fields.status result ≡ status.entry }
+        ensures status { time_stamp_resp_fields.status result ≡ status.now }
         ensures time_stamp_token { time_stamp_resp_fields.time_stamp_token result ≡ option_copied time_stamp_token.entry }
     {
         let first = match time_stamp_token {
@@ -63,27 +57,10 @@ impl<'a> TimeStampResp<'a> {
             None => None,
         };
         let rest = Field { first, rest: End };
-        let first = status;
+        let first = copy_of(status);
         let list = Field { first, rest };
         let fields = Fields2 { list };
         TimeStampResp { fields }
-    }
-
-    /// The values of the fields, in their order.
-    pub fn into_parts(self) -> (PkiStatusInfo<'a>, Option<TimeStampToken<'a>>)
-        ensures status { time_stamp_resp_fields.status self.entry ≡ result.0 }
-        ensures time_stamp_token { time_stamp_resp_fields.time_stamp_token self.entry ≡ result.1 }
-    {
-        let Fields2 { list } = self.fields;
-        let Field {
-            first: status,
-            rest,
-        } = list;
-        let Field {
-            first: time_stamp_token,
-            ..
-        } = rest;
-        (status, time_stamp_token)
     }
 
     /// `status`, `PKIStatusInfo`.
@@ -126,9 +103,9 @@ impl<'a> FormValue for TimeStampResp<'a> {
 }
 
 impl<'a, R: Source<'a>> DecodeValue<'a, R> for TimeStampResp<'a> {
-    ghost TAKES_MEMORY = { true };
+    ghost TAKES_MEMORY = { false };
 
-    const TAKES_MEMORY: bool = true;
+    const TAKES_MEMORY: bool = false;
 
     fn decode_value(
         alloc: Global,
@@ -176,39 +153,7 @@ impl<'a> ContentsEq for TimeStampResp<'a> {
         no_equality)).equal v.fields.list w.fields.list };
 }
 
-impl<'a> CopyLaws for TimeStampResp<'a> {
-    ghost copies = { copies_of (held_copies (λ v. v.fields.list)
-        (listed_copies (member_copies ⟦<PkiStatusInfo<'a> as Form>⟧
-        (tagged_starts ⟦<PkiStatusInfo<'a> as Form>⟧ (one_tag ⟦<SequenceTag as TagMarker>⟧.TAG ⟦<PkiStatusInfo<'a> as FormValue>⟧.value.contents))
-        (one_tag_copies ⟦<SequenceTag as TagMarker>⟧.TAG (record { octets_are = pki_status_info_duplicate_value.copy_contents-law; comparable_are = pki_status_info_duplicate_value.copy_comparable_value-law; re_reads_are = pki_status_info_duplicate_value.copy_re_reads_value-law; equal_are = pki_status_info_duplicate_value_is_equal.copy_value_is_equal-law }))
-        (member_copies ⟦<Option<TimeStampToken<'a>> as Form>⟧
-        (optional_starts ⟦<TimeStampToken<'a> as Form>⟧ (one_tag ⟦<SequenceTag as TagMarker>⟧.TAG ⟦<TimeStampToken<'a> as FormValue>⟧.value.contents))
-        (optional_copies ⟦<TimeStampToken<'a> as Form>⟧ (one_tag_copies ⟦<SequenceTag as TagMarker>⟧.TAG (same_copies ⟦<TimeStampToken<'a> as FormValue>⟧.value.contents ⟦<TimeStampToken<'a> as FormValue>⟧.value.comparable ⟦<TimeStampToken<'a> as FormValue>⟧.value.re_reads ⟦<TimeStampToken<'a> as PartialEq>⟧.eq time_stamp_token_eq.laws-law.refl)))
-        no_copies)))) };
-}
-
-impl<'a> DuplicateValue for TimeStampResp<'a> {
-    ghost is_copy_value = { λ v w. ⟦<Fields<'a> as DuplicateFields>⟧.are_copies v.fields w.fields };
-
-    ghost takes_memory_to_copy_value = { ⟦<Fields<'a> as DuplicateFields>⟧.take_memory_to_copy };
-
-    fn duplicate_value(&self) -> Result<TimeStampResp<'a>, Error> {
-        match self.fields.duplicate_fields() {
-            Ok(fields) => Ok(TimeStampResp { fields }),
-            Err(e) => Err(e),
-        }
-    }
-
-    ghost copy_contents = { ⟦<TimeStampResp<'a> as CopyLaws>⟧.copies.laws.octets_are };
-
-    ghost copy_comparable_value = { ⟦<TimeStampResp<'a> as CopyLaws>⟧.copies.laws.comparable_are };
-
-    ghost copy_re_reads_value = { ⟦<TimeStampResp<'a> as CopyLaws>⟧.copies.laws.re_reads_are };
-}
-
-impl<'a> DuplicateValueIsEqual for TimeStampResp<'a> {
-    ghost copy_value_is_equal = { ⟦<TimeStampResp<'a> as CopyLaws>⟧.copies.laws.equal_are };
-}
+impl<'a> CopyIsDuplicate for TimeStampResp<'a> {}
 
 /// What is read as `TimeStampResp` is what the page of the grammar says.
 pub fn grammar_of_time_stamp_resp<'a>()

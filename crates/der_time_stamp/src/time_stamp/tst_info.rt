@@ -3,44 +3,38 @@
 //! Made by tools/asn1 from time_stamp.asn1.
 
 ghost use Rattle.std.proofs.Common.{lit<};
-ghost use Rattle.std.specs.Prelude.{◌∷◌, ◌≡◌, [], refl, true};
+ghost use Rattle.std.specs.Prelude.{◌∷◌, ◌≡◌, [], false, refl, true};
 ghost use Rattle.der_elem.specs.FormatMakers.{mapped_format};
 ghost use Rattle.der_elem.specs.contracts.boolean.BoolContentsEq.TheImpl.Laws as bool_contents_eq;
 ghost use Rattle.der_elem.specs.contracts.integer.unsigned.U8ContentsEq.TheImpl.Laws as u8_contents_eq;
+ghost use Rattle.der_extensions.specs.contracts.extension.general_name.GeneralNameEncodingEq.TheImpl.Laws as general_name_encoding_eq;
+ghost use Rattle.der_extensions.specs.contracts.extension.general_name.GeneralNameTagged.TheImpl.Laws as general_name_tagged;
 ghost use Rattle.der_modules.specs.Asn1.{context, explicit_encoding, implicit_encoding, joined, optional, parse_of, unless_default};
-ghost use Rattle.der_modules.specs.MemberLaws.{copies_of, default_copies, default_equality, default_starts, held_copies, listed_copies, member_copies, member_equality, no_copies, no_equality, one_tag, one_tag_copies, one_tag_equality, optional_copies, optional_equality, optional_starts, part_copies, part_equality, same_copies, tagged_starts};
+ghost use Rattle.der_modules.specs.MemberLaws.{default_equality, default_starts, member_equality, no_equality, one_tag, one_tag_equality, optional_equality, optional_starts, own_tags, part_equality, tagged_starts};
 ghost use Rattle.der_numbers.specs.contracts.int_ref.IntRefContentsEq.TheImpl.Laws as intref_contents_eq;
 ghost use Rattle.der_opaque.specs.contracts.object_identifier_ref.ObjectIdentifierRefContentsEq.TheImpl.Laws as objectidentifierref_contents_eq;
 ghost use Rattle.der_pkix.specs.contracts.certificate.extensions.ExtensionsContentsEq.TheImpl.Laws as extensions_contents_eq;
-ghost use Rattle.der_pkix.specs.contracts.certificate.extensions.ExtensionsDuplicateValue.TheImpl.Laws as extensions_duplicate_value;
-ghost use Rattle.der_pkix.specs.contracts.certificate.extensions.ExtensionsDuplicateValueIsEqual.TheImpl.Laws as extensions_duplicate_value_is_equal;
 ghost use Rattle.der_time.specs.contracts.generalized_time.GeneralizedTimeContentsEq.TheImpl.Laws as generalizedtime_contents_eq;
 ghost use Rattle.der_time_stamp.specs.TimeStamp.Grammar.{tst_info};
 ghost use Rattle.der_time_stamp.specs.TimeStamp.TstInfo as tst_info_fields;
 ghost use Rattle.der_time_stamp.specs.contracts.time_stamp.accuracy.AccuracyContentsEq.TheImpl.Laws as accuracy_contents_eq;
-ghost use Rattle.der_time_stamp.specs.contracts.time_stamp.accuracy.AccuracyEq.TheImpl.Laws as accuracy_eq;
-ghost use Rattle.der_time_stamp.specs.contracts.time_stamp.explicit0_general_name.Explicit0GeneralNameContentsEq.TheImpl.Laws as explicit0_general_name_contents_eq;
-ghost use Rattle.der_time_stamp.specs.contracts.time_stamp.explicit0_general_name.Explicit0GeneralNameDuplicateValue.TheImpl.Laws as explicit0_general_name_duplicate_value;
-ghost use Rattle.der_time_stamp.specs.contracts.time_stamp.explicit0_general_name.Explicit0GeneralNameDuplicateValueIsEqual.TheImpl.Laws as explicit0_general_name_duplicate_value_is_equal;
 ghost use Rattle.der_time_stamp.specs.contracts.time_stamp.message_imprint.MessageImprintContentsEq.TheImpl.Laws as message_imprint_contents_eq;
-ghost use Rattle.der_time_stamp.specs.contracts.time_stamp.message_imprint.MessageImprintEq.TheImpl.Laws as message_imprint_eq;
 ghost use Rattle.der_time_stamp.specs.declared.time_stamp.tst_info.TstInfo.{TstInfo};
 
 use crate::time_stamp::accuracy::Accuracy;
 use crate::time_stamp::aliases::{TsaPolicyId, TstInfoVersion};
-use crate::time_stamp::explicit0_general_name::Explicit0GeneralName;
 use crate::time_stamp::message_imprint::MessageImprint;
 use der_elem::{
-    BooleanTag, ContentsEq, DecodeValue, DuplicateValue, DuplicateValueIsEqual, EncodeValue, Form,
-    FormValue, GeneralizedTimeTag, IntegerTag, ObjectIdentifierTag, OneTag, Sequence, SequenceTag,
-    TagMarker, ValueOrd,
+    BooleanTag, ContentsEq, CopyIsDuplicate, DecodeValue, EncodeValue, Form, FormValue,
+    GeneralizedTimeTag, IntegerTag, ObjectIdentifierTag, OneTag, Sequence, SequenceTag, TagMarker,
+    Tagged, ValueOrd,
 };
 use der_extensions::extension::GeneralName;
 use der_fields::{
-    DecodeFields, DefaultFalse, DefaultOf, DuplicateFields, EncodeFields, End, ExplicitTag, Field,
-    FieldList, Fields1, Fields2, Fields8, FieldsOrd, Implicit, ImplicitTag, WithDefault,
+    DecodeFields, DefaultFalse, DefaultOf, EncodeFields, End, Explicit, ExplicitTag, Field,
+    FieldList, Fields2, Fields8, FieldsOrd, Implicit, ImplicitTag, WithDefault,
 };
-use der_modules::{CopyLaws, copy_of};
+use der_modules::copy_of;
 use der_numbers::IntRef;
 use der_opaque::ObjectIdentifierRef;
 use der_pkix::certificate::Extensions;
@@ -60,7 +54,7 @@ type Fields<'a> = Fields8<
     Option<Accuracy>,
     WithDefault<bool, DefaultFalse>,
     Option<IntRef<'a>>,
-    Fields2<Option<Explicit0GeneralName<'a>>, Option<Implicit<Extensions<'a>, 1>>>,
+    Fields2<Option<Explicit<GeneralName<'a>, 0>>, Option<Implicit<Extensions<'a>, 1>>>,
 >;
 
 /// ```text
@@ -77,9 +71,8 @@ type Fields<'a> = Fields8<
 ///      extensions      [1] IMPLICIT Extensions OPTIONAL }
 /// ```
 ///
-/// Reading refuses the first fault of the octets, in their order; `ErrorKind::Memory` (1) where
-/// memory runs out.
-#[derive(PartialEq, Eq, Drop)]
+/// Reading refuses the first fault of the octets, in their order.
+#[derive(Clone, Copy, PartialEq, Eq)]
 pub struct TstInfo<'a> {
     fields: Fields<'a>,
 }
@@ -98,8 +91,8 @@ impl<'a> TstInfo<'a> {
         accuracy: Option<Accuracy>,
         ordering: bool,
         nonce: Option<IntRef<'a>>,
-        tsa: Option<GeneralName<'a>>,
-        extensions: Option<Extensions<'a>>,
+        tsa: Option<&GeneralName<'a>>,
+        extensions: Option<&Extensions<'a>>,
     ) -> TstInfo<'a>
         ensures version { tst_info_fields.version result ≡ version }
         ensures policy { tst_info_fields.policy result ≡ policy.entry }
@@ -109,18 +102,21 @@ impl<'a> TstInfo<'a> {
         ensures accuracy { tst_info_fields.accuracy result ≡ accuracy }
         ensures ordering { tst_info_fields.ordering result ≡ ordering }
         ensures nonce { tst_info_fields.nonce result ≡ nonce.entry }
-        ensures tsa { tst_info_fields.tsa result ≡ tsa.entry }
-        ensures extensions { tst_info_fields.extensions result ≡ extensions.entry }
+        ensures tsa { tst_info_fields.tsa result ≡ option_copied tsa.entry }
+        ensures extensions { tst_info_fields.extensions result ≡ option_copied extensions.entry }
     {
         let first = match extensions {
-            Some(value) => Some(Implicit { value }),
+            Some(value) => Some(Implicit {
+                value: copy_of(value),
+            }),
             None => None,
         };
         let rest = Field { first, rest: End };
         let first = match tsa {
-            Some(first) => Some(Explicit0GeneralName {
-                fields: Fields1 {
-                    list: Field { first, rest: End },
+            Some(first) => Some(Explicit {
+                fields: Field {
+                    first: copy_of(first),
+                    rest: End,
                 },
             }),
             None => None,
@@ -145,91 +141,6 @@ impl<'a> TstInfo<'a> {
         let list = Field { first, rest };
         let fields = Fields8 { list };
         TstInfo { fields }
-    }
-
-    /// The values of the fields, in their order.
-    pub fn into_parts(
-        self,
-    ) -> (
-        TstInfoVersion,
-        TsaPolicyId<'a>,
-        MessageImprint<'a>,
-        IntRef<'a>,
-        GeneralizedTime,
-        Option<Accuracy>,
-        bool,
-        Option<IntRef<'a>>,
-        Option<GeneralName<'a>>,
-        Option<Extensions<'a>>,
-    )
-        ensures version { tst_info_fields.version self.entry ≡ result.0 }
-        ensures policy { tst_info_fields.policy self.entry ≡ result.1 }
-        ensures message_imprint { tst_info_fields.message_imprint self.entry ≡ result.2 }
-        ensures serial_number { tst_info_fields.serial_number self.entry ≡ result.3 }
-        ensures gen_time { tst_info_fields.gen_time self.entry ≡ result.4 }
-        ensures accuracy { tst_info_fields.accuracy self.entry ≡ result.5 }
-        ensures ordering { tst_info_fields.ordering self.entry ≡ result.6 }
-        ensures nonce { tst_info_fields.nonce self.entry ≡ result.7 }
-        ensures tsa { tst_info_fields.tsa self.entry ≡ result.8 }
-        ensures extensions { tst_info_fields.extensions self.entry ≡ result.9 }
-    {
-        let Fields8 { list } = self.fields;
-        let Field {
-            first: version,
-            rest,
-        } = list;
-        let Field {
-            first: policy,
-            rest,
-        } = rest;
-        let Field {
-            first: message_imprint,
-            rest,
-        } = rest;
-        let Field {
-            first: serial_number,
-            rest,
-        } = rest;
-        let Field {
-            first: gen_time,
-            rest,
-        } = rest;
-        let Field {
-            first: accuracy,
-            rest,
-        } = rest;
-        let Field {
-            first: ordering,
-            rest,
-        } = rest;
-        let Field { first: nonce, rest } = rest;
-        let Fields2 { list } = rest;
-        let Field { first: tsa, rest } = list;
-        let Field {
-            first: extensions,
-            ..
-        } = rest;
-        let ordering = ordering.value;
-        let tsa = match tsa {
-            Some(tagged) => Some(tagged.fields.list.first),
-            None => None,
-        };
-        let extensions = match extensions {
-            Some(tagged) => Some(tagged.value),
-            None => None,
-        };
-        (
-            version,
-            policy,
-            message_imprint,
-            serial_number,
-            gen_time,
-            accuracy,
-            ordering,
-            nonce,
-            tsa,
-            extensions,
-        )
     }
 
     /// `version`, `INTEGER { v1 (1) }`.
@@ -297,7 +208,7 @@ impl<'a> TstInfo<'a> {
     {
         let tail = &self.fields.list.rest.rest.rest.rest.rest.rest.rest.rest;
         match &tail.list.first {
-            Some(value) => Some(&value.fields.list.first),
+            Some(value) => Some(&value.fields.first),
             None => None,
         }
     }
@@ -344,9 +255,9 @@ impl<'a> FormValue for TstInfo<'a> {
 }
 
 impl<'a, R: Source<'a>> DecodeValue<'a, R> for TstInfo<'a> {
-    ghost TAKES_MEMORY = { true };
+    ghost TAKES_MEMORY = { false };
 
-    const TAKES_MEMORY: bool = true;
+    const TAKES_MEMORY: bool = false;
 
     fn decode_value(alloc: Global, reader: &mut R, _header: Header) -> Result<TstInfo<'a>, Error> {
         match Fields::<'a>::decode_fields(alloc, reader) {
@@ -411,10 +322,14 @@ impl<'a> ContentsEq for TstInfo<'a> {
         (optional_starts ⟦<IntRef<'a> as Form>⟧ (one_tag ⟦<IntegerTag as TagMarker>⟧.TAG ⟦<IntRef<'a> as FormValue>⟧.value.contents))
         ⟦<Option<IntRef<'a>> as PartialEq>⟧.eq
         (optional_equality ⟦<IntRef<'a> as Form>⟧ (one_tag ⟦<IntegerTag as TagMarker>⟧.TAG ⟦<IntRef<'a> as FormValue>⟧.value.contents) ⟦<IntRef<'a> as PartialEq>⟧.eq (one_tag_equality ⟦<IntegerTag as TagMarker>⟧.TAG ⟦<IntRef<'a> as FormValue>⟧.value.contents ⟦<IntRef<'a> as FormValue>⟧.value.comparable ⟦<IntRef<'a> as PartialEq>⟧.eq intref_contents_eq.contents_eq-law))
-        (part_equality (λ x. x.list) (member_equality ⟦<Option<Explicit0GeneralName<'a>> as Form>⟧
-        (optional_starts ⟦<Explicit0GeneralName<'a> as Form>⟧ (one_tag ⟦<ExplicitTag<0> as TagMarker>⟧.TAG ⟦<Explicit0GeneralName<'a> as FormValue>⟧.value.contents))
-        ⟦<Option<Explicit0GeneralName<'a>> as PartialEq>⟧.eq
-        (optional_equality ⟦<Explicit0GeneralName<'a> as Form>⟧ (one_tag ⟦<ExplicitTag<0> as TagMarker>⟧.TAG ⟦<Explicit0GeneralName<'a> as FormValue>⟧.value.contents) ⟦<Explicit0GeneralName<'a> as PartialEq>⟧.eq (one_tag_equality ⟦<ExplicitTag<0> as TagMarker>⟧.TAG ⟦<Explicit0GeneralName<'a> as FormValue>⟧.value.contents ⟦<Explicit0GeneralName<'a> as FormValue>⟧.value.comparable ⟦<Explicit0GeneralName<'a> as PartialEq>⟧.eq explicit0_general_name_contents_eq.contents_eq-law))
+        (part_equality (λ x. x.list) (member_equality ⟦<Option<Explicit<GeneralName<'a>, 0>> as Form>⟧
+        (optional_starts ⟦<Explicit<GeneralName<'a>, 0> as Form>⟧ (one_tag ⟦<ExplicitTag<0> as TagMarker>⟧.TAG ⟦<Explicit<GeneralName<'a>, 0> as FormValue>⟧.value.contents))
+        ⟦<Option<Explicit<GeneralName<'a>, 0>> as PartialEq>⟧.eq
+        (optional_equality ⟦<Explicit<GeneralName<'a>, 0> as Form>⟧ (one_tag ⟦<ExplicitTag<0> as TagMarker>⟧.TAG ⟦<Explicit<GeneralName<'a>, 0> as FormValue>⟧.value.contents) ⟦<Explicit<GeneralName<'a>, 0> as PartialEq>⟧.eq (one_tag_equality ⟦<ExplicitTag<0> as TagMarker>⟧.TAG ⟦<Explicit<GeneralName<'a>, 0> as FormValue>⟧.value.contents ⟦<Explicit<GeneralName<'a>, 0> as FormValue>⟧.value.comparable ⟦<Explicit<GeneralName<'a>, 0> as PartialEq>⟧.eq (λ v w. ((member_equality ⟦<GeneralName<'a> as Form>⟧
+        (tagged_starts ⟦<GeneralName<'a> as Form>⟧ (own_tags ⟦<GeneralName<'a> as Form>⟧.tags ⟦<GeneralName<'a> as Form>⟧.first_tag_of ⟦<GeneralName<'a> as Form>⟧.encoding ⟦<GeneralName<'a> as Tagged>⟧.tag_of ⟦<GeneralName<'a> as FormValue>⟧.value.contents general_name_tagged.encoding_is-law general_name_tagged.own_tag-law general_name_tagged.first_tag_is-law))
+        ⟦<GeneralName<'a> as PartialEq>⟧.eq
+        general_name_encoding_eq.encoding_eq-law
+        no_equality).equal v.fields w.fields))))
         (member_equality ⟦<Option<Implicit<Extensions<'a>, 1>> as Form>⟧
         (optional_starts ⟦<Implicit<Extensions<'a>, 1> as Form>⟧ (one_tag ⟦<ImplicitTag<SequenceTag, 1> as TagMarker>⟧.TAG ⟦<Implicit<Extensions<'a>, 1> as FormValue>⟧.value.contents))
         ⟦<Option<Implicit<Extensions<'a>, 1>> as PartialEq>⟧.eq
@@ -422,63 +337,7 @@ impl<'a> ContentsEq for TstInfo<'a> {
         no_equality))))))))))).equal v.fields.list w.fields.list };
 }
 
-impl<'a> CopyLaws for TstInfo<'a> {
-    ghost copies = { copies_of (held_copies (λ v. v.fields.list)
-        (listed_copies (member_copies ⟦<TstInfoVersion as Form>⟧
-        (tagged_starts ⟦<TstInfoVersion as Form>⟧ (one_tag ⟦<IntegerTag as TagMarker>⟧.TAG ⟦<u8 as FormValue>⟧.value.contents))
-        (one_tag_copies ⟦<IntegerTag as TagMarker>⟧.TAG (same_copies ⟦<u8 as FormValue>⟧.value.contents ⟦<u8 as FormValue>⟧.value.comparable ⟦<u8 as FormValue>⟧.value.re_reads ⟦<u8 as PartialEq>⟧.eq (λ v. (u8_contents_eq.contents_eq-law v v tt).1 refl)))
-        (member_copies ⟦<TsaPolicyId<'a> as Form>⟧
-        (tagged_starts ⟦<TsaPolicyId<'a> as Form>⟧ (one_tag ⟦<ObjectIdentifierTag as TagMarker>⟧.TAG ⟦<ObjectIdentifierRef<'a, 39> as FormValue>⟧.value.contents))
-        (one_tag_copies ⟦<ObjectIdentifierTag as TagMarker>⟧.TAG (same_copies ⟦<ObjectIdentifierRef<'a, 39> as FormValue>⟧.value.contents ⟦<ObjectIdentifierRef<'a, 39> as FormValue>⟧.value.comparable ⟦<ObjectIdentifierRef<'a, 39> as FormValue>⟧.value.re_reads ⟦<ObjectIdentifierRef<'a, 39> as PartialEq>⟧.eq (λ v. ((objectidentifierref_contents_eq.contents_eq-law 39 (record { fits = lit< tt })) v v tt).1 refl)))
-        (member_copies ⟦<MessageImprint<'a> as Form>⟧
-        (tagged_starts ⟦<MessageImprint<'a> as Form>⟧ (one_tag ⟦<SequenceTag as TagMarker>⟧.TAG ⟦<MessageImprint<'a> as FormValue>⟧.value.contents))
-        (one_tag_copies ⟦<SequenceTag as TagMarker>⟧.TAG (same_copies ⟦<MessageImprint<'a> as FormValue>⟧.value.contents ⟦<MessageImprint<'a> as FormValue>⟧.value.comparable ⟦<MessageImprint<'a> as FormValue>⟧.value.re_reads ⟦<MessageImprint<'a> as PartialEq>⟧.eq message_imprint_eq.laws-law.refl))
-        (member_copies ⟦<IntRef<'a> as Form>⟧
-        (tagged_starts ⟦<IntRef<'a> as Form>⟧ (one_tag ⟦<IntegerTag as TagMarker>⟧.TAG ⟦<IntRef<'a> as FormValue>⟧.value.contents))
-        (one_tag_copies ⟦<IntegerTag as TagMarker>⟧.TAG (same_copies ⟦<IntRef<'a> as FormValue>⟧.value.contents ⟦<IntRef<'a> as FormValue>⟧.value.comparable ⟦<IntRef<'a> as FormValue>⟧.value.re_reads ⟦<IntRef<'a> as PartialEq>⟧.eq (λ v. (intref_contents_eq.contents_eq-law v v tt).1 refl)))
-        (member_copies ⟦<GeneralizedTime as Form>⟧
-        (tagged_starts ⟦<GeneralizedTime as Form>⟧ (one_tag ⟦<GeneralizedTimeTag as TagMarker>⟧.TAG ⟦<GeneralizedTime as FormValue>⟧.value.contents))
-        (one_tag_copies ⟦<GeneralizedTimeTag as TagMarker>⟧.TAG (same_copies ⟦<GeneralizedTime as FormValue>⟧.value.contents ⟦<GeneralizedTime as FormValue>⟧.value.comparable ⟦<GeneralizedTime as FormValue>⟧.value.re_reads ⟦<GeneralizedTime as PartialEq>⟧.eq (λ v. (generalizedtime_contents_eq.contents_eq-law v v tt).1 refl)))
-        (member_copies ⟦<Option<Accuracy> as Form>⟧
-        (optional_starts ⟦<Accuracy as Form>⟧ (one_tag ⟦<SequenceTag as TagMarker>⟧.TAG ⟦<Accuracy as FormValue>⟧.value.contents))
-        (optional_copies ⟦<Accuracy as Form>⟧ (one_tag_copies ⟦<SequenceTag as TagMarker>⟧.TAG (same_copies ⟦<Accuracy as FormValue>⟧.value.contents ⟦<Accuracy as FormValue>⟧.value.comparable ⟦<Accuracy as FormValue>⟧.value.re_reads ⟦<Accuracy as PartialEq>⟧.eq accuracy_eq.laws-law.refl)))
-        (member_copies ⟦<WithDefault<bool, DefaultFalse> as Form>⟧
-        (default_starts ⟦<bool as Form>⟧ (one_tag ⟦<BooleanTag as TagMarker>⟧.TAG ⟦<bool as FormValue>⟧.value.contents) (λ x. x.value) ⟦<DefaultFalse as DefaultOf<bool>>⟧.octets)
-        (default_copies ⟦<bool as Form>⟧ (one_tag_copies ⟦<BooleanTag as TagMarker>⟧.TAG (same_copies ⟦<bool as FormValue>⟧.value.contents ⟦<bool as FormValue>⟧.value.comparable ⟦<bool as FormValue>⟧.value.re_reads ⟦<bool as PartialEq>⟧.eq (λ v. (bool_contents_eq.contents_eq-law v v tt).1 refl))) (λ x. x.value) ⟦<DefaultFalse as DefaultOf<bool>>⟧.octets)
-        (member_copies ⟦<Option<IntRef<'a>> as Form>⟧
-        (optional_starts ⟦<IntRef<'a> as Form>⟧ (one_tag ⟦<IntegerTag as TagMarker>⟧.TAG ⟦<IntRef<'a> as FormValue>⟧.value.contents))
-        (optional_copies ⟦<IntRef<'a> as Form>⟧ (one_tag_copies ⟦<IntegerTag as TagMarker>⟧.TAG (same_copies ⟦<IntRef<'a> as FormValue>⟧.value.contents ⟦<IntRef<'a> as FormValue>⟧.value.comparable ⟦<IntRef<'a> as FormValue>⟧.value.re_reads ⟦<IntRef<'a> as PartialEq>⟧.eq (λ v. (intref_contents_eq.contents_eq-law v v tt).1 refl))))
-        (part_copies (λ x. x.list) (member_copies ⟦<Option<Explicit0GeneralName<'a>> as Form>⟧
-        (optional_starts ⟦<Explicit0GeneralName<'a> as Form>⟧ (one_tag ⟦<ExplicitTag<0> as TagMarker>⟧.TAG ⟦<Explicit0GeneralName<'a> as FormValue>⟧.value.contents))
-        (optional_copies ⟦<Explicit0GeneralName<'a> as Form>⟧ (one_tag_copies ⟦<ExplicitTag<0> as TagMarker>⟧.TAG (record { octets_are = explicit0_general_name_duplicate_value.copy_contents-law; comparable_are = explicit0_general_name_duplicate_value.copy_comparable_value-law; re_reads_are = explicit0_general_name_duplicate_value.copy_re_reads_value-law; equal_are = explicit0_general_name_duplicate_value_is_equal.copy_value_is_equal-law })))
-        (member_copies ⟦<Option<Implicit<Extensions<'a>, 1>> as Form>⟧
-        (optional_starts ⟦<Implicit<Extensions<'a>, 1> as Form>⟧ (one_tag ⟦<ImplicitTag<SequenceTag, 1> as TagMarker>⟧.TAG ⟦<Implicit<Extensions<'a>, 1> as FormValue>⟧.value.contents))
-        (optional_copies ⟦<Implicit<Extensions<'a>, 1> as Form>⟧ (one_tag_copies ⟦<ImplicitTag<SequenceTag, 1> as TagMarker>⟧.TAG (held_copies (λ x. x.value) (record { octets_are = extensions_duplicate_value.copy_contents-law; comparable_are = extensions_duplicate_value.copy_comparable_value-law; re_reads_are = extensions_duplicate_value.copy_re_reads_value-law; equal_are = extensions_duplicate_value_is_equal.copy_value_is_equal-law }))))
-        no_copies))))))))))))) };
-}
-
-impl<'a> DuplicateValue for TstInfo<'a> {
-    ghost is_copy_value = { λ v w. ⟦<Fields<'a> as DuplicateFields>⟧.are_copies v.fields w.fields };
-
-    ghost takes_memory_to_copy_value = { ⟦<Fields<'a> as DuplicateFields>⟧.take_memory_to_copy };
-
-    fn duplicate_value(&self) -> Result<TstInfo<'a>, Error> {
-        match self.fields.duplicate_fields() {
-            Ok(fields) => Ok(TstInfo { fields }),
-            Err(e) => Err(e),
-        }
-    }
-
-    ghost copy_contents = { ⟦<TstInfo<'a> as CopyLaws>⟧.copies.laws.octets_are };
-
-    ghost copy_comparable_value = { ⟦<TstInfo<'a> as CopyLaws>⟧.copies.laws.comparable_are };
-
-    ghost copy_re_reads_value = { ⟦<TstInfo<'a> as CopyLaws>⟧.copies.laws.re_reads_are };
-}
-
-impl<'a> DuplicateValueIsEqual for TstInfo<'a> {
-    ghost copy_value_is_equal = { ⟦<TstInfo<'a> as CopyLaws>⟧.copies.laws.equal_are };
-}
+impl<'a> CopyIsDuplicate for TstInfo<'a> {}
 
 /// What is read as `TSTInfo` is what the page of the grammar says.
 pub fn grammar_of_tst_info<'a>()

@@ -1,6 +1,7 @@
 use Rattle.std.proofs.Common.{◌≡◌, ◌∙◌, Option, ap, refl}
 use Rattle.der_cms.specs.Cms.SignerInfo as fields_of
 use Rattle.der_cms.specs.declared.cms.signed_attributes.SignedAttributes.{SignedAttributes}
+use Rattle.der_cms.specs.declared.cms.unsigned_attributes.UnsignedAttributes.{UnsignedAttributes}
 use Rattle.der_places.specs.Layout.{is_there}
 use Rattle.der_places.specs.LayoutLaws.{told}
 use Rattle.der_places.proofs.cms.signer_info.SignerInfoPlaced.walk.Goals as goal
@@ -10,7 +11,7 @@ returns c =
     let octets = c.args.octets.now in
     let value = c.args.self.now in
     let signed_told : c.is_there.result ≡ is_there (fields_of.signed_attrs value) = c.is_there.ensures ∙ ap (λ (o : Option SignedAttributes). is_there o) c.signed_attrs.ensures in
-    let unsigned_told : c.is_there-2.result ≡ is_there (fields_of.unsigned_attrs value) = c.is_there-2.ensures ∙ ap (λ (o : Option SignedAttributes). is_there o) c.unsigned_attrs.ensures in (
+    let unsigned_told : c.is_there-2.result ≡ is_there (fields_of.unsigned_attrs value) = c.is_there-2.ensures ∙ ap (λ (o : Option UnsignedAttributes). is_there o) c.unsigned_attrs.ensures in (
       c.next_place-version.ensures,
       (
         c.next_place-sid.ensures,
