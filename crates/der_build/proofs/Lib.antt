@@ -1,3 +1,2 @@
 mod Built
-mod Keeping
 mod Parts

@@ -2,12 +2,12 @@
 //! from their values, and public keys from their octets.
 //!
 //! What is built borrows the octets that it is built from, as all values of `der_pkix` do: the caller
-//! holds them as long as the value. What is written on the way, as a name that a certificate keeps
-//! (`Kept`), is a `Vec<u8>` of the caller's.
+//! holds them as long as the value. A name is a list of parts that are written first: so it is given as a
+//! `Vec<u8>` of the caller's, from which the caller reads it.
 //!
 //! ```rust
-//! let octets = name(alloc, attributes)?.to_der(alloc)?;
-//! let subject = kept_name(alloc, octets.as_slice())?;
+//! let octets = name(alloc, attributes)?;
+//! let subject = Name::from_der(alloc, octets.as_slice())?;
 //! ```
 #![tactic(auto)]
 
@@ -20,5 +20,5 @@ mod text_rules;
 pub use attributes::{TextAttribute, attribute};
 pub use extensions::extension;
 pub use keys::{ed25519_key, p256_key, rsa_key, rsa_public_key};
-pub use names::{kept_name, name};
+pub use names::name;
 pub use text_rules::{character_count, may_have};

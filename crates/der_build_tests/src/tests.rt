@@ -4,7 +4,7 @@ mod extensions;
 mod keys;
 mod names;
 
-use der_asn1_types::{Encode, Error};
+use der_asn1_types::Error;
 use std::alloc::Global;
 use std::fmt::Debug;
 use std::process::Abort;
@@ -21,14 +21,6 @@ fn same_in<C: Debug, T: PartialEq + Debug + Drop>(rt: &impl Abort, case: &C, fou
 fn numbered(written: Result<Vec<u8>, Error>) -> Result<Vec<u8>, u8> {
     match written {
         Ok(octets) => Ok(octets),
-        Err(e) => Err(e.kind().number()),
-    }
-}
-
-// The octets of a value, or the number of why there are none.
-fn written<T: Encode>(alloc: Global, built: Result<T, Error>) -> Result<Vec<u8>, u8> {
-    match built {
-        Ok(value) => numbered(value.to_der(alloc)),
         Err(e) => Err(e.kind().number()),
     }
 }

@@ -1,1 +1,2 @@
+pub mod ExtensionRequests
 pub mod ResponseStatuses

@@ -2,12 +2,13 @@
 //! `to_der` writes the octets that the signature covers.
 
 ghost use Rattle.std.specs.Prelude.{◌≡◌, None, Some, IfOk};
+ghost use Rattle.der_examples.specs.ExtensionRequests.{attribute_octets, attributes_octets};
 ghost use Rattle.der_pkcs.specs.Request.CertificationRequestInfo as info_fields;
 ghost use Rattle.der_pkix.specs.Certificate.TbsCertificate as tbs_fields;
 
-use der_asn1_types::asn1::{AnyRef, IntRef, ItemSet, Kept, ObjectIdentifierRef};
-use der_asn1_types::{Error, Form, FromDer};
-use der_build::kept_name;
+use der_asn1_types::asn1::{IntRef, ObjectIdentifierRef};
+use der_asn1_types::{Encode, Error, Form, FromDer};
+use der_lists::UnorderedSetRef;
 use der_modules::copy_of;
 use der_pkcs::request::constants::PKCS_9_AT_EXTENSION_REQUEST;
 use der_pkcs::request::{CERTIFICATION_REQUEST_INFO_VERSION_V1, CertificationRequestInfo};
@@ -37,22 +38,22 @@ pub struct SelfSigned<'a> {
 /// What is signed of a self-signed certificate of version 3 (RFC 5280 section 4.1).
 ///
 /// # Errors
-/// The first fault of the name; `ErrorKind::Memory` (1) where memory runs out.
+/// The first fault of the name.
 pub fn self_signed<'a>(
     alloc: Global,
     of: &SelfSigned<'a>,
-    extensions: Extensions<'a>,
+    extensions: &Extensions<'a>,
 ) -> Result<TbsCertificate<'a>, Error>
     ensures version { IfOk result (λ tbs. tbs_fields.version tbs ≡ 2) }
     ensures serial_number { IfOk result (λ tbs. tbs_fields.serial_number tbs ≡ of.now.serial_number) }
     ensures signature { IfOk result (λ tbs. tbs_fields.signature tbs ≡ of.now.signature) }
-    ensures issuer { IfOk result (λ tbs. ⟦<Kept<'a, Name<'a>> as Form>⟧.encoding (tbs_fields.issuer tbs) ≡ of.now.name.now) }
+    ensures issuer { IfOk result (λ tbs. ⟦<Name<'a> as Form>⟧.encoding (tbs_fields.issuer tbs) ≡ of.now.name.now) }
     ensures validity { IfOk result (λ tbs. tbs_fields.validity tbs ≡ of.now.validity) }
-    ensures subject { IfOk result (λ tbs. ⟦<Kept<'a, Name<'a>> as Form>⟧.encoding (tbs_fields.subject tbs) ≡ of.now.name.now) }
+    ensures subject { IfOk result (λ tbs. ⟦<Name<'a> as Form>⟧.encoding (tbs_fields.subject tbs) ≡ of.now.name.now) }
     ensures key { IfOk result (λ tbs. tbs_fields.subject_public_key_info tbs ≡ of.now.key) }
-    ensures extensions { IfOk result (λ tbs. tbs_fields.extensions tbs ≡ Some extensions.entry) }
+    ensures extensions { IfOk result (λ tbs. tbs_fields.extensions tbs ≡ Some extensions.now) }
 {
-    let issuer = match kept_name(alloc, of.name) {
+    let issuer = match name_of(alloc, of.name) {
         Ok(name) => name,
         Err(e) => return Err(e),
     };
@@ -71,23 +72,22 @@ pub fn self_signed<'a>(
     ))
 }
 
-/// What is signed of a request (RFC 2986 section 4.1), with the extensions that are asked for as its one
-/// attribute (RFC 2985 section 5.4.2). The extensions are given by their encoding.
+/// What is signed of a request (RFC 2986 section 4.1), with these attributes.
 ///
 /// # Errors
-/// The first fault of the name, or of what encodes the extensions; `ErrorKind::Memory` (1) where memory
-/// runs out.
+/// The first fault of the name.
 pub fn request_for<'a>(
     alloc: Global,
     name: &'a [u8],
     key: &SubjectPublicKeyInfo<'a>,
-    extensions: &'a [u8],
+    attributes: &Attributes<'a>,
 ) -> Result<CertificationRequestInfo<'a>, Error>
     ensures version { IfOk result (λ info. info_fields.version info ≡ 0) }
-    ensures subject { IfOk result (λ info. ⟦<Kept<'a, Name<'a>> as Form>⟧.encoding (info_fields.subject info) ≡ name.now) }
+    ensures subject { IfOk result (λ info. ⟦<Name<'a> as Form>⟧.encoding (info_fields.subject info) ≡ name.now) }
     ensures key { IfOk result (λ info. info_fields.subject_pk_info info ≡ key.now) }
+    ensures attributes { IfOk result (λ info. info_fields.attributes info ≡ attributes.now) }
 {
-    let subject = match kept_name(alloc, name) {
+    let subject = match name_of(alloc, name) {
         Ok(name) => name,
         Err(e) => return Err(e),
     };
@@ -95,23 +95,45 @@ pub fn request_for<'a>(
         CERTIFICATION_REQUEST_INFO_VERSION_V1,
         &subject,
         key,
-        asked_for(alloc, extensions)?,
+        attributes,
     ))
 }
 
-/// The attribute with which a request asks for extensions.
-fn asked_for<'a>(alloc: Global, extensions: &'a [u8]) -> Result<Attributes<'a>, Error> {
-    let value = match AnyRef::from_der(alloc, extensions) {
-        Ok(value) => value,
-        Err(e) => return Err(e),
-    };
-    let mut values = ItemSet::new(alloc);
-    values.insert(value)?;
+/// The encoding of the attributes of a request that asks for these extensions: one attribute, of which
+/// they are the only value (RFC 2985 section 5.4.2). `Attributes::from_der` reads it.
+///
+/// # Errors
+/// `ErrorKind::Overflow` (9) for more than 4294967295 octets; `ErrorKind::Memory` (1) where memory runs
+/// out.
+pub fn extension_request<'a>(alloc: Global, extensions: &Extensions<'a>) -> Result<Vec<u8>, Error>
+    ensures { IfOk result (λ octets. octets.items
+        ≡ attributes_octets (⟦<Extensions<'a> as Form>⟧.encoding extensions.now)) }
+{
+    let value = extensions.to_der(alloc)?;
+    let attribute = asking_for(alloc, value.as_slice())?;
+    match UnorderedSetRef::new(alloc, attribute.as_slice()) {
+        Ok(items) => Attributes::new(items).to_der(alloc),
+        Err(e) => Err(e),
+    }
+}
+
+/// The encoding of the attribute with which a request asks for extensions, which have this encoding.
+fn asking_for(alloc: Global, extensions: &[u8]) -> Result<Vec<u8>, Error>
+    ensures { IfOk result (λ octets. octets.items ≡ attribute_octets extensions.now) }
+{
     let type_ = match ObjectIdentifierRef::from_bytes(&PKCS_9_AT_EXTENSION_REQUEST) {
         Ok(type_) => type_,
         Err(e) => return Err(e),
     };
-    let mut attributes = ItemSet::new(alloc);
-    attributes.insert(Attribute::new(type_, values))?;
-    Ok(Attributes::new(attributes))
+    match UnorderedSetRef::new(alloc, extensions) {
+        Ok(values) => Attribute::new(type_, &values).to_der(alloc),
+        Err(e) => Err(e),
+    }
+}
+
+/// The name of these octets.
+fn name_of<'a>(alloc: Global, octets: &'a [u8]) -> Result<Name<'a>, Error>
+    ensures { IfOk result (λ name. ⟦<Name<'a> as Form>⟧.encoding name ≡ octets.now) }
+{
+    Name::from_der(alloc, octets)
 }

@@ -27,7 +27,7 @@ mod writing;
 
 pub use anys::named_curve;
 pub use bits::{is_usage, may_sign_certificates};
-pub use building::{SelfSigned, request_for, self_signed};
+pub use building::{SelfSigned, extension_request, request_for, self_signed};
 pub use certificates::{read_certificate, serial_and_self_issued};
 pub use choice_sets::{
     AttributeValues, ByKeyName, KeyName, KeyNames, read_key_names, read_values, with_value,

@@ -1,5 +1,6 @@
 //! The callers, called; and values of several crates in one another.
 
+mod building;
 mod canonical;
 mod choices;
 mod examples;

@@ -1,7 +1,10 @@
 pub mod Algorithms
+pub mod EncodedAlike
 pub mod FindingOne
 pub mod FirstFields
 pub mod Fronts
+pub mod OtherRules
 pub mod Repeats
+pub mod ShownItems
 pub mod Steps
 mod Spaces

@@ -1,17 +1,23 @@
--- A list that is gone through from its front, beside the identifiers that were seen before.
-use Rattle.std.proofs.Common.{◌≡◌, ℕ, ◌-◌, ◌≤◌, Bool, true, false, ◌||◌, List, [], ◌∷◌, length, take, drop, get_or, cond, not, refl, sym, ap, ◌∙◌, subst, arith}
+-- Extensions that are read again, beside the identifiers that were seen before.
+use Rattle.std.proofs.Common.{◌≡◌, ℕ, Bool, true, false, ◌||◌, List, [], ◌∷◌, Some, None, Ok, cond, not, refl, sym, ap, ◌∙◌, subst}
 use Rattle.std.proofs.lemmas.Cmp.{nat_list_eq_equiv}
 use Rattle.std.proofs.lemmas.Map.Text.{is_eq-slice_cmp}
 use Rattle.std.specs.Borrow.{Bor}
 use Rattle.std.specs.Cmp.Lexicographic.{slice_cmp}
 use Rattle.std.specs.List.{list_any}
 use Rattle.std.specs.Ordering.{is_eq, nat_cmp}
+use Rattle.der_tlv.specs.declared.encoding_rules.EncodingRules.TheVariants.{Der}
+use Rattle.der_tlv.specs.ReaderState.{ReaderState, new_reader}
+use Rattle.der_elem.specs.Accepting.{Fits}
+use Rattle.der_elem.specs.declared.form.Form as form
+use Rattle.der_lists.specs.ReadingOn.{ReadsOn}
+use Rattle.der_lists.specs.Items.{AreItems, AreToCome}
+use Rattle.der_lists.proofs.TestedItems.{all_to_come, next_of, none_to_come}
 use Rattle.der_opaque.specs.ObjectIdentifierRef as identifier
 use Rattle.der_pkix.specs.Certificate.Extension as extension
 use Rattle.der_pkix.specs.declared.certificate.extension.Extension.{Extension}
-use Rattle.der_verify.specs.Extensions.{has_identifier, some_of}
+use Rattle.der_verify.specs.Extensions.{has_identifier}
 use Rattle.der_verify.specs.Rfc5280.{has_repeated}
-use Rattle.der_verify.proofs.Steps.{others_are}
 
 -- the contents octets of an extension's identifier
 abbrev pub octets_of : Extension → List ℕ
@@ -23,9 +29,9 @@ is_among keys octets = list_any (λ k. is_eq (slice_cmp nat_cmp octets k.now)) k
 
 -- an extension has an identifier that was seen, or two extensions have one
 abbrev pub repeats : List (Bor (List ℕ)) → List Extension → Bool
-repeats keys left = some_of (λ e. is_among keys (octets_of e)) left || has_repeated left
+repeats keys left = list_any (λ e. is_among keys (octets_of e)) left || has_repeated left
 
-none_among : (l : List Extension) → some_of (λ e. is_among [] (octets_of e)) l ≡ false
+none_among : (l : List Extension) → list_any (λ e. is_among [] (octets_of e)) l ≡ false
 none_among [] = refl
 none_among (e ∷ es) = none_among es
 
@@ -60,28 +66,84 @@ is_one old new octets joins e =
     let same : is_eq (slice_cmp nat_cmp octets (octets_of e)) ≡ has_identifier octets e = is_eq-slice_cmp octets (octets_of e) ∙ nat_list_eq_equiv.symm octets (octets_of e) in
     joins q ∙ either (is_eq (slice_cmp nat_cmp octets (octets_of e))) (is_among old (octets_of e)) ∙ ap (λ b. b || is_among old (octets_of e)) same
 
-are_some : (old new : List (Bor (List ℕ))) (octets : List ℕ) → Joins old new octets → (l : List Extension) → some_of (λ e. is_among new (octets_of e)) l ≡ (some_of (has_identifier octets) l || some_of (λ e. is_among old (octets_of e)) l)
+are_some : (old new : List (Bor (List ℕ))) (octets : List ℕ) → Joins old new octets → (l : List Extension) → list_any (λ e. is_among new (octets_of e)) l ≡ (list_any (has_identifier octets) l || list_any (λ e. is_among old (octets_of e)) l)
 are_some old new octets joins [] = refl
 are_some old new octets joins (e ∷ es) =
-    ap (λ b. b || some_of (λ f. is_among new (octets_of f)) es) (is_one old new octets joins e)
+    ap (λ b. b || list_any (λ f. is_among new (octets_of f)) es) (is_one old new octets joins e)
     ∙ ap (λ b. (has_identifier octets e || is_among old (octets_of e)) || b) (are_some old new octets joins es)
-    ∙ shuffled (has_identifier octets e) (is_among old (octets_of e)) (some_of (has_identifier octets) es) (some_of (λ f. is_among old (octets_of f)) es)
+    ∙ shuffled (has_identifier octets e) (is_among old (octets_of e)) (list_any (has_identifier octets) es) (list_any (λ f. is_among old (octets_of f)) es)
 
 -- an extension that was not seen, and those after it
 after_new : (old new : List (Bor (List ℕ))) (e : Extension) (es : List Extension) → is_among old (octets_of e) ≡ false → Joins old new (octets_of e) → repeats new es ≡ repeats old (e ∷ es)
 after_new old new e es unseen joins =
     ap (λ b. b || has_repeated es) (are_some old new (octets_of e) joins es)
-    ∙ turned (some_of (λ f. is_among old (octets_of f)) es) (some_of (has_identifier (octets_of e)) es) (has_repeated es)
-    ∙ sym (ap (λ b. (b || some_of (λ f. is_among old (octets_of f)) es) || has_repeated (e ∷ es)) unseen)
+    ∙ turned (list_any (λ f. is_among old (octets_of f)) es) (list_any (has_identifier (octets_of e)) es) (has_repeated es)
+    ∙ sym (ap (λ b. (b || list_any (λ f. is_among old (octets_of f)) es) || has_repeated (e ∷ es)) unseen)
 
--- one that was not seen, and then those that are left
-pub not_seen : (old new : List (Bor (List ℕ))) (l all : List Extension) (item d : Extension) (others : List Extension) → repeats old l ≡ has_repeated all → 1 ≤ length l → item ≡ get_or l 0 d → others ≡ take (length l - 1) (drop 1 l) → is_among old (octets_of item) ≡ false → Joins old new (octets_of item) → repeats new others ≡ has_repeated all
-not_seen old new [] all item d others i some at o unseen joins = absurd (omega arith)
-not_seen old new (e ∷ es) all item d others i some at o unseen joins =
-    ap (repeats new) (others_are e es others o)
-    ∙ after_new old new e es (ap (λ x. is_among old (octets_of x)) (sym at) ∙ unseen) (subst (λ x. Joins old new (octets_of x)) at joins) ∙ i
+module _ (F : form.Ghosts Extension) (octets : List ℕ) where
+  -- what is told of the extensions to come, beside those that were seen, is told of all
+  abbrev pub StillRepeats : List (Bor (List ℕ)) → ReaderState → Type 0
+  StillRepeats keys now = (all : List Extension) → AreItems F octets all → (left : List Extension) × AreToCome F now left × (repeats keys left ≡ has_repeated all)
+
+  pub repeats_begin : (keys : List (Bor (List ℕ))) (now : ReaderState) → keys ≡ [] → Fits octets → now ≡ new_reader octets Der → StillRepeats keys now
+  repeats_begin keys now none fits is = λ all a. (all, all_to_come F octets all now fits is a, nothing_seen keys all none)
+
+  pub repeats_end : (keys : List (Bor (List ℕ))) (now new : ReaderState) → StillRepeats keys now → ReadsOn F now new None → (all : List Extension) → AreItems F octets all → false ≡ has_repeated all
+  repeats_end keys now new left on all a =
+      let so = left all a in
+      sym (ap (repeats keys) (none_to_come F now new so.0 so.1 on)) ∙ so.2
+
+  module _ (alike : (v w : Extension) → F.encoding v ≡ F.encoding w → octets_of v ≡ octets_of w) where
+    -- one that was not seen, and then those that are left
+    pub repeats_on : (old new : List (Bor (List ℕ))) (now next_now : ReaderState) (v : Extension) → StillRepeats old now → ReadsOn F now next_now (Some (Ok v)) → is_among old (octets_of v) ≡ false → Joins old new (octets_of v) → StillRepeats new next_now
+    repeats_on old new now next_now v left on unseen joins = λ all a.
+        let so = left all a in
+        let next = next_of F now next_now so.0 v so.1 on in
+        let same = alike next.first v next.same in (
+          next.others,
+          next.left,
+          after_new old new next.first next.others (ap (is_among old) same ∙ unseen) (subst (Joins old new) (sym same) joins)
+              ∙ sym (ap (repeats old) next.are) ∙ so.2,
+        )
+
+    -- one that was seen
+    pub repeats_here : (keys : List (Bor (List ℕ))) (now new : ReaderState) (v : Extension) → StillRepeats keys now → ReadsOn F now new (Some (Ok v)) → is_among keys (octets_of v) ≡ true → (all : List Extension) → AreItems F octets all → true ≡ has_repeated all
+    repeats_here keys now new v left on seen all a =
+        let so = left all a in
+        let next = next_of F now new so.0 v so.1 on in
+        let first : is_among keys (octets_of next.first) ≡ true = ap (is_among keys) (alike next.first v next.same) ∙ seen in
+        sym (ap (λ b. (b || list_any (λ e. is_among keys (octets_of e)) next.others) || has_repeated (next.first ∷ next.others)) first)
+        ∙ sym (ap (repeats keys) next.are) ∙ so.2
+
+  -- whether two of all have one identifier is whether two of those that are left have
+  abbrev pub StillTwo : ReaderState → Type 0
+  StillTwo now = (all : List Extension) → AreItems F octets all → (left : List Extension) × AreToCome F now left × (has_repeated left ≡ has_repeated all)
+
+  pub two_begin : (now : ReaderState) → Fits octets → now ≡ new_reader octets Der → StillTwo now
+  two_begin now fits is = λ all a. (all, all_to_come F octets all now fits is a, refl)
+
+  pub two_end : (now new : ReaderState) → StillTwo now → ReadsOn F now new None → (all : List Extension) → AreItems F octets all → false ≡ has_repeated all
+  two_end now new left on all a =
+      let so = left all a in
+      sym (ap has_repeated (none_to_come F now new so.0 so.1 on)) ∙ so.2
+
+  module _ (alike : (v w : Extension) → F.encoding v ≡ F.encoding w → octets_of v ≡ octets_of w) where
+    pub two_go : (now new : ReaderState) (v : Extension) (b : Bool) → StillTwo now → ReadsOn F now new (Some (Ok v)) → ((items : List Extension) → AreToCome F new items → b ≡ list_any (has_identifier (octets_of v)) items) → (all : List Extension) → AreItems F octets all → (left : List Extension) × AreToCome F new left × ((b || has_repeated left) ≡ has_repeated all)
+    two_go now new v b left on tells all a =
+        let so = left all a in
+        let next = next_of F now new so.0 v so.1 on in (
+          next.others,
+          next.left,
+          ap (λ c. c || has_repeated next.others) (tells next.others next.left ∙ ap (λ o. list_any (has_identifier o) next.others) (sym (alike next.first v next.same)))
+              ∙ sym (ap has_repeated next.are) ∙ so.2,
+        )
 
 -- a key that is new was not there
 pub was_absent : (added there : Bool) → added ≡ not there → added ≡ true → there ≡ false
 was_absent added false a n = refl
 was_absent added true a n = sym n ∙ a
+
+-- a key that is not new was there
+pub was_present : (added there : Bool) → added ≡ not there → added ≡ false → there ≡ true
+was_present added true a n = refl
+was_present added false a n = let k : true ≡ false = sym a ∙ n in absurd (cc)

@@ -10,7 +10,7 @@ others_are e es others o = let n : length (e ∷ es) - 1 ≡ length es = omega a
 pub passing : {X : Type 0} (test : X → Bool) (e : X) (es : List X) → test e ≡ true → filter test (e ∷ es) ≡ e ∷ filter test es
 passing test e es t = ap (λ b. cond b (e ∷ filter test es) (filter test es)) t
 
-failing : {X : Type 0} (test : X → Bool) (e : X) (es : List X) → test e ≡ false → filter test (e ∷ es) ≡ filter test es
+pub failing : {X : Type 0} (test : X → Bool) (e : X) (es : List X) → test e ≡ false → filter test (e ∷ es) ≡ filter test es
 failing test e es t = ap (λ b. cond b (e ∷ filter test es) (filter test es)) t
 
 -- an item that fails is left out

@@ -1,8 +1,10 @@
+pub mod EqualEncodings
 pub mod Extensions
 pub mod Names
 pub mod Rfc5280
 pub mod Rfc5280Lists
 pub mod Sections
+pub mod Shown
 pub mod Signed
 pub mod Sizes
 pub mod Text

@@ -5,13 +5,20 @@ use Rattle.std.specs.Cmp.Lexicographic.{pointwise}
 use Rattle.der_tlv.specs.declared.tag.Tag.{Tag}
 use Rattle.der_tlv.specs.declared.tag.Tag.TheVariants as tags
 use Rattle.der_tlv.specs.Identifier.{same_identifier}
+use Rattle.der_elem.specs.declared.form.Form as form
 use Rattle.der_opaque.specs.declared.any_ref.AnyRef.{AnyRef}
 use Rattle.der_opaque.specs.AnyRef.{contents_of, tag_of}
 use Rattle.der_opaque.specs.ObjectIdentifierRef.{octets_of}
+use Rattle.der_lists.specs.Items.{AreItems}
+use Rattle.der_lists.specs.ListRef as list
+use Rattle.der_lists.specs.SetRef as set
 use Rattle.der_pkix.specs.declared.name.attribute_type_and_value.AttributeTypeAndValue.{AttributeTypeAndValue}
+use Rattle.der_pkix.specs.declared.name.rdn_sequence.RdnSequence.{RdnSequence}
 use Rattle.der_pkix.specs.declared.name.relative_distinguished_name.RelativeDistinguishedName.{RelativeDistinguishedName}
 use Rattle.der_pkix.specs.Name.AttributeTypeAndValue as attribute
+use Rattle.der_pkix.specs.Name.RdnSequence as name
 use Rattle.der_pkix.specs.Name.RelativeDistinguishedName as part
+use Rattle.der_verify.specs.Shown.{AreShown}
 use Rattle.der_verify.specs.Text.{prepared, same_character}
 
 -- whether octets are all characters of ASCII that are seen, or spaces (X.680 table 8, VisibleString)
@@ -45,9 +52,17 @@ abbrev pub each_matches : List AttributeTypeAndValue → List AttributeTypeAndVa
 each_matches attributes others = list_all (λ a. list_any (same_attribute a) others) attributes
 
 -- "Two relative distinguished names RDN1 and RDN2 match if they have the same number of naming attributes and for each naming attribute in RDN1 there is a matching naming attribute in RDN2", and in RDN1 for each in RDN2, which says more only where one has an attribute twice
-abbrev pub same_part : RelativeDistinguishedName → RelativeDistinguishedName → Bool
-same_part p q = length (part.items_of p) == length (part.items_of q) && (each_matches (part.items_of p) (part.items_of q) && each_matches (part.items_of q) (part.items_of p))
+abbrev pub same_part : List AttributeTypeAndValue → List AttributeTypeAndValue → Bool
+same_part attributes others = length attributes == length others && (each_matches attributes others && each_matches others attributes)
 
 -- as many parts, and each matches the one in its place
-abbrev pub same_name : List RelativeDistinguishedName → List RelativeDistinguishedName → Bool
+abbrev pub same_name : List (List AttributeTypeAndValue) → List (List AttributeTypeAndValue) → Bool
 same_name = pointwise same_part
+
+-- the attributes of a part of a name
+abbrev pub AreAttributes : form.Ghosts AttributeTypeAndValue → RelativeDistinguishedName → List AttributeTypeAndValue → Type 0
+AreAttributes A p attributes = AreItems A (set.octets_of (part.items_of p)) attributes
+
+-- the attributes of each part of a name
+abbrev pub AreParts : form.Ghosts RelativeDistinguishedName → form.Ghosts AttributeTypeAndValue → RdnSequence → List (List AttributeTypeAndValue) → Type 0
+AreParts P A n parts = AreShown P (AreAttributes A) (list.octets_of (name.items_of n)) parts

@@ -1,38 +1,49 @@
 -- What RFC 5280 asks of a certificate beyond its grammar: a test a rule, which is true of a certificate that breaks it.
-use Rattle.std.specs.Prelude.{ℕ, ◌==◌, nat_eq, nat_lt, nat_le, List, [], ◌∷◌, length, take, drop, Bool, true, false, not, ◌&&◌, ◌||◌, Option, Some, None, is_some}
+use Rattle.std.specs.Prelude.{ℕ, ◌==◌, nat_eq, nat_lt, nat_le, ◌≡◌, List, [], ◌∷◌, length, take, drop, Bool, true, false, not, ◌&&◌, ◌||◌, Option, Some, None, is_some}
 use Rattle.std.specs.Borrow.{Bor}
 use Rattle.std.specs.Bool.{beq}
+use Rattle.std.specs.List.{list_any}
 use Rattle.std.specs.Cmp.Lexicographic.{pointwise}
+use Rattle.der_elem.specs.declared.form.Form as form
 use Rattle.der_opaque.specs.ObjectIdentifierRef as identifier
 use Rattle.der_opaque.specs.OctetStringRef as string
 use Rattle.der_numbers.specs.IntRef.{contents_of}
-use Rattle.der_nest.specs.Kept as kept
+use Rattle.der_lists.specs.ListRef as list
 use Rattle.der_pkix.specs.declared.certificate.tbs_certificate.TbsCertificate.{TbsCertificate}
 use Rattle.der_pkix.specs.declared.certificate.extension.Extension.{Extension}
 use Rattle.der_pkix.specs.declared.certificate.extensions.Extensions.{Extensions}
 use Rattle.der_pkix.specs.declared.certificate.certificate.Certificate.{Certificate}
+use Rattle.der_pkix.specs.declared.name.rdn_sequence.RdnSequence.{RdnSequence}
 use Rattle.der_pkix.specs.contracts.algorithm_identifier.AlgorithmIdentifierPartialEq.TheImpl as equality
 use Rattle.der_pkix.specs.Certificate.Certificate as certificate
 use Rattle.der_pkix.specs.Certificate.TbsCertificate as tbs
 use Rattle.der_pkix.specs.Certificate.Extension as extension
-use Rattle.der_pkix.specs.Certificate.Extensions as extensions
-use Rattle.der_verify.specs.Extensions.{has_identifier, some_of}
+use Rattle.der_pkix.specs.Name.RdnSequence as name
+use Rattle.der_verify.specs.Extensions.{has_identifier, AreExtensions}
 use Rattle.der_verify.specs.declared.rfc5280.CertificateRule.{CertificateRule}
 use Rattle.der_verify.specs.declared.rfc5280.CertificateRule.TheVariants as rule
 
 -- the extensions; none where the field is absent
-abbrev pub listed : Option Extensions → List Extension
-listed None = []
-listed (Some x) = extensions.items_of x
+abbrev pub AreListed : form.Ghosts Extension → Option Extensions → List Extension → Type 0
+AreListed F None items = items ≡ []
+AreListed F (Some x) items = AreExtensions F x items
 
--- whether there is an extension with this identifier that is critical, or one that is not
+-- whether a name has no attributes
+abbrev pub is_empty_name : RdnSequence → Bool
+is_empty_name n = length (list.octets_of (name.items_of n)) == 0
+
+-- whether an extension has this identifier and is critical, or is not
+abbrev pub is_so_critical : List ℕ → Bool → Extension → Bool
+is_so_critical octets critical e = has_identifier octets e && beq (extension.critical e) critical
+
+-- whether there is such an extension
 abbrev pub has_criticality : List ℕ → Bool → List Extension → Bool
-has_criticality octets critical = some_of (λ e. has_identifier octets e && beq (extension.critical e) critical)
+has_criticality octets critical = list_any (is_so_critical octets critical)
 
 -- whether two extensions have one identifier
 abbrev pub has_repeated : List Extension → Bool
 has_repeated [] = false
-has_repeated (e ∷ others) = some_of (has_identifier (identifier.octets_of (extension.extn_id e))) others || has_repeated others
+has_repeated (e ∷ others) = list_any (has_identifier (identifier.octets_of (extension.extn_id e))) others || has_repeated others
 
 -- whether contents octets are those of a positive INTEGER: the first bit says no sign, and they are not 00
 abbrev pub is_positive : List ℕ → Bool
@@ -74,26 +85,25 @@ abbrev pub seen_forbidden : Option (Bor (List ℕ) × Bool) → Option (List ℕ
 seen_forbidden None = None
 seen_forbidden (Some (octets, critical)) = Some (octets.now, critical)
 
--- the other rules
-abbrev pub breaks_otherwise : CertificateRule → TbsCertificate → Bool
+-- the other rules, of a certificate with these extensions
+abbrev pub breaks_otherwise : CertificateRule → TbsCertificate → List Extension → Bool
 -- 4.1.2.1: extensions stand in version 3 (2) alone
-breaks_otherwise rule.ExtensionsInVersion3 c = is_some (tbs.extensions c) && not (tbs.version c == 2)
+breaks_otherwise rule.ExtensionsInVersion3 c listed = is_some (tbs.extensions c) && not (tbs.version c == 2)
 -- 4.1.2.2: the serial number is positive
-breaks_otherwise rule.SerialNumberIsPositive c = not (is_positive (contents_of (tbs.serial_number c)))
+breaks_otherwise rule.SerialNumberIsPositive c listed = not (is_positive (contents_of (tbs.serial_number c)))
 -- 4.1.2.2: it has at most 20 octets
-breaks_otherwise rule.SerialNumberHasAtMost20Octets c = nat_lt 20 (length (contents_of (tbs.serial_number c)))
+breaks_otherwise rule.SerialNumberHasAtMost20Octets c listed = nat_lt 20 (length (contents_of (tbs.serial_number c)))
 -- 4.1.2.4: the issuer is not empty
-breaks_otherwise rule.IssuerIsNotEmpty c = length (kept.octets_of (tbs.issuer c)) == 0
+breaks_otherwise rule.IssuerIsNotEmpty c listed = is_empty_name (tbs.issuer c)
 -- 4.1.2.6: beside an empty subject stands a subjectAltName that is critical
-breaks_otherwise rule.EmptySubjectHasCriticalAltName c =
-    length (kept.octets_of (tbs.subject c)) == 0 && not (has_criticality (id_ce 17) true (listed (tbs.extensions c)))
+breaks_otherwise rule.EmptySubjectHasCriticalAltName c listed = is_empty_name (tbs.subject c) && not (has_criticality (id_ce 17) true listed)
 -- 4.1.2.8: unique identifiers stand in version 2 (1) and 3 (2) alone
-breaks_otherwise rule.UniqueIdentifiersInVersion2 c = (is_some (tbs.issuer_unique_id c) || is_some (tbs.subject_unique_id c)) && tbs.version c == 0
+breaks_otherwise rule.UniqueIdentifiersInVersion2 c listed = (is_some (tbs.issuer_unique_id c) || is_some (tbs.subject_unique_id c)) && tbs.version c == 0
 -- 4.2: each extension stands once
-breaks_otherwise rule.ExtensionsStandOnce c = has_repeated (listed (tbs.extensions c))
+breaks_otherwise rule.ExtensionsStandOnce c listed = has_repeated listed
 -- 4.2.1.9: basicConstraints of a CA is critical
-breaks_otherwise rule.BasicConstraintsOfCaIsCritical c = some_of is_uncritical_ca (listed (tbs.extensions c))
-breaks_otherwise _ c = false
+breaks_otherwise rule.BasicConstraintsOfCaIsCritical c listed = list_any is_uncritical_ca listed
+breaks_otherwise _ c listed = false
 
 -- an extension that is not allowed stands there
 abbrev pub breaks_criticality : Option (List ℕ × Bool) → List Extension → Bool
@@ -101,18 +111,18 @@ breaks_criticality None extensions = false
 breaks_criticality (Some (octets, critical)) extensions = has_criticality octets critical extensions
 
 -- whether the part that is signed breaks a rule
-abbrev pub breaks_within : CertificateRule → TbsCertificate → Bool
-breaks_within r c = breaks_otherwise r c || breaks_criticality (forbidden r) (listed (tbs.extensions c))
+abbrev pub breaks_within : CertificateRule → TbsCertificate → List Extension → Bool
+breaks_within r c listed = breaks_otherwise r c listed || breaks_criticality (forbidden r) listed
 
 -- whether the algorithm within is equal to the one outside
 abbrev pub same_algorithms : Certificate → Bool
 same_algorithms c = equality.ghosts.eq (tbs.signature (certificate.tbs_certificate c)) (certificate.signature_algorithm c)
 
--- whether a certificate breaks a rule
-abbrev pub breaks : CertificateRule → Certificate → Bool
+-- whether a certificate with these extensions breaks a rule
+abbrev pub breaks : CertificateRule → Certificate → List Extension → Bool
 -- 4.1.1.2, 4.1.2.3: the two algorithms are one
-breaks rule.AlgorithmsAgree c = not (same_algorithms c)
-breaks r c = breaks_within r (certificate.tbs_certificate c)
+breaks rule.AlgorithmsAgree c listed = not (same_algorithms c)
+breaks r c listed = breaks_within r (certificate.tbs_certificate c) listed
 
 -- all rules, in the order in which they are told
 abbrev pub certificate_rules : List CertificateRule

@@ -1,8 +1,11 @@
 -- What RFC 5280 asks of a list of revoked certificates beyond its grammar: a test a rule, which is true of a list that breaks it.
-use Rattle.std.specs.Prelude.{ℕ, ◌==◌, List, [], ◌∷◌, length, Bool, true, false, not, ◌&&◌, ◌||◌, Option, Some, None, is_some, is_none}
-use Rattle.std.specs.declared.alloc.Global.{Global}
-use Rattle.std.specs.Prelude.{Option, Vec, ℕ}
-use Rattle.der_nest.specs.Kept as kept
+use Rattle.std.specs.Prelude.{◌≡◌, ℕ, ◌==◌, List, [], ◌∷◌, length, Bool, true, false, not, ◌&&◌, ◌||◌, Option, Some, None, is_some, is_none}
+use Rattle.std.specs.List.{list_any}
+use Rattle.der_elem.specs.declared.form.Form as form
+use Rattle.der_lists.specs.ListRef as list_ref
+use Rattle.der_lists.specs.declared.list_ref.ListRef.{ListRef}
+use Rattle.der_pkix.specs.declared.certificate.extension.Extension.{Extension}
+use Rattle.der_pkix.specs.declared.certificate.extensions.Extensions.{Extensions}
 use Rattle.der_pkix.specs.declared.crl.certificate_list.CertificateList.{CertificateList}
 use Rattle.der_pkix.specs.declared.crl.tbs_cert_list.TbsCertList.{TbsCertList}
 use Rattle.der_pkix.specs.declared.crl.revoked_certificate.RevokedCertificate.{RevokedCertificate}
@@ -10,26 +13,42 @@ use Rattle.der_pkix.specs.contracts.algorithm_identifier.AlgorithmIdentifierPart
 use Rattle.der_pkix.specs.Crl.CertificateList as list
 use Rattle.der_pkix.specs.Crl.TbsCertList as tbs
 use Rattle.der_pkix.specs.Crl.RevokedCertificate as entry
-use Rattle.der_verify.specs.Extensions.{some_of}
-use Rattle.der_verify.specs.Rfc5280.{breaks_criticality, has_criticality, has_repeated, id_ce, id_pe, listed}
+use Rattle.der_verify.specs.Extensions.{AreExtensions}
+use Rattle.der_verify.specs.Rfc5280.{breaks_criticality, has_criticality, has_repeated, id_ce, id_pe, is_empty_name}
+use Rattle.der_verify.specs.Shown.{AreShown}
 use Rattle.der_verify.specs.declared.rfc5280.lists.ListRule.{ListRule}
 use Rattle.der_verify.specs.declared.rfc5280.lists.ListRule.TheVariants as rule
 
--- the entries; none where the field is absent
-abbrev pub entries_of : Option (Vec RevokedCertificate Global) → List RevokedCertificate
-entries_of None = []
-entries_of (Some v) = v.items
+-- the extensions of an entry, if it has some
+abbrev pub ShowsExtensions : form.Ghosts Extension → Option Extensions → Option (List Extension) → Type 0
+ShowsExtensions F None None = Unit {0}
+ShowsExtensions F (Some x) (Some items) = AreExtensions F x items
+ShowsExtensions F _ _ = ⊥
 
-abbrev pub entries : TbsCertList → List RevokedCertificate
-entries c = entries_of (tbs.revoked_certificates c)
+abbrev pub EntryShows : form.Ghosts Extension → RevokedCertificate → Option (List Extension) → Type 0
+EntryShows F e shown = ShowsExtensions F (entry.crl_entry_extensions e) shown
+
+-- the entries, each by its extensions; none where the field is absent
+abbrev pub AreEntries : form.Ghosts RevokedCertificate → form.Ghosts Extension → Option (ListRef RevokedCertificate) → List (Option (List Extension)) → Type 0
+AreEntries R F None entries = entries ≡ []
+AreEntries R F (Some l) entries = AreShown R (EntryShows F) (list_ref.octets_of l) entries
+
+-- the list stands there, and has no entries
+abbrev pub is_empty_list : Option (ListRef RevokedCertificate) → Bool
+is_empty_list None = false
+is_empty_list (Some l) = length (list_ref.octets_of l) == 0
 
 -- whether an extension of an entry has this identifier and is critical, or is not
-abbrev pub entry_has_criticality : List ℕ → Bool → List RevokedCertificate → Bool
-entry_has_criticality octets critical = some_of (λ e. has_criticality octets critical (listed (entry.crl_entry_extensions e)))
+abbrev pub has_criticality_within : List ℕ → Bool → Option (List Extension) → Bool
+has_criticality_within octets critical None = false
+has_criticality_within octets critical (Some items) = has_criticality octets critical items
+
+abbrev pub entry_has_criticality : List ℕ → Bool → List (Option (List Extension)) → Bool
+entry_has_criticality octets critical = list_any (has_criticality_within octets critical)
 
 -- whether an entry has extensions
-abbrev pub entry_has_extensions : List RevokedCertificate → Bool
-entry_has_extensions = some_of (λ e. is_some (entry.crl_entry_extensions e))
+abbrev pub entry_has_extensions : List (Option (List Extension)) → Bool
+entry_has_extensions = list_any (λ e. is_some e)
 
 -- whether the version is 2 (1)
 abbrev pub is_version_2 : Option ℕ → Bool
@@ -52,39 +71,39 @@ forbidden_of_entry rule.InvalidityDateIsNotCritical = Some (id_ce 24, true)
 forbidden_of_entry rule.CertificateIssuerIsCritical = Some (id_ce 29, false)
 forbidden_of_entry _ = None
 
--- the other rules
-abbrev pub list_breaks_otherwise : ListRule → TbsCertList → Bool
+-- the other rules, of a list with these extensions and these entries
+abbrev pub list_breaks_otherwise : ListRule → TbsCertList → List Extension → List (Option (List Extension)) → Bool
 -- 5.1.2.1: extensions stand in version 2 alone
-list_breaks_otherwise rule.ExtensionsInVersion2 c = (is_some (tbs.crl_extensions c) || entry_has_extensions (entries c)) && not (is_version_2 (tbs.version c))
+list_breaks_otherwise rule.ExtensionsInVersion2 c listed entries = (is_some (tbs.crl_extensions c) || entry_has_extensions entries) && not (is_version_2 (tbs.version c))
 -- 5.1.2.3: the issuer is not empty
-list_breaks_otherwise rule.IssuerIsNotEmpty c = length (kept.octets_of (tbs.issuer c)) == 0
+list_breaks_otherwise rule.IssuerIsNotEmpty c listed entries = is_empty_name (tbs.issuer c)
 -- 5.1.2.5: nextUpdate is there
-list_breaks_otherwise rule.NextUpdateIsThere c = is_none (tbs.next_update c)
+list_breaks_otherwise rule.NextUpdateIsThere c listed entries = is_none (tbs.next_update c)
 -- 5.1.2.6: "When there are no revoked certificates, the revoked certificates list MUST be absent."
-list_breaks_otherwise rule.EmptyListIsAbsent c = is_some (tbs.revoked_certificates c) && (length (entries c) == 0)
+list_breaks_otherwise rule.EmptyListIsAbsent c listed entries = is_empty_list (tbs.revoked_certificates c)
 -- 5.2, 4.2: each extension stands once
-list_breaks_otherwise rule.ExtensionsStandOnce c = has_repeated (listed (tbs.crl_extensions c))
-list_breaks_otherwise _ c = false
+list_breaks_otherwise rule.ExtensionsStandOnce c listed entries = has_repeated listed
+list_breaks_otherwise _ c listed entries = false
 
 -- an extension of an entry that is not allowed stands there
-abbrev pub entry_breaks_criticality : Option (List ℕ × Bool) → List RevokedCertificate → Bool
+abbrev pub entry_breaks_criticality : Option (List ℕ × Bool) → List (Option (List Extension)) → Bool
 entry_breaks_criticality None entries = false
 entry_breaks_criticality (Some (octets, critical)) entries = entry_has_criticality octets critical entries
 
 -- whether the part that is signed breaks a rule
-abbrev pub list_breaks_within : ListRule → TbsCertList → Bool
-list_breaks_within r c =
-    list_breaks_otherwise r c || breaks_criticality (forbidden_of_list r) (listed (tbs.crl_extensions c)) || entry_breaks_criticality (forbidden_of_entry r) (entries c)
+abbrev pub list_breaks_within : ListRule → TbsCertList → List Extension → List (Option (List Extension)) → Bool
+list_breaks_within r c listed entries =
+    list_breaks_otherwise r c listed entries || breaks_criticality (forbidden_of_list r) listed || entry_breaks_criticality (forbidden_of_entry r) entries
 
 -- whether the algorithm within is equal to the one outside
 abbrev pub list_same_algorithms : CertificateList → Bool
 list_same_algorithms c = equality.ghosts.eq (tbs.signature (list.tbs_cert_list c)) (list.signature_algorithm c)
 
--- whether a list breaks a rule
-abbrev pub list_breaks : ListRule → CertificateList → Bool
+-- whether a list with these extensions and these entries breaks a rule
+abbrev pub list_breaks : ListRule → CertificateList → List Extension → List (Option (List Extension)) → Bool
 -- 5.1.1.2, 5.1.2.2: the two algorithms are one
-list_breaks rule.AlgorithmsAgree c = not (list_same_algorithms c)
-list_breaks r c = list_breaks_within r (list.tbs_cert_list c)
+list_breaks rule.AlgorithmsAgree c listed entries = not (list_same_algorithms c)
+list_breaks r c listed entries = list_breaks_within r (list.tbs_cert_list c) listed entries
 
 -- all rules, in the order in which they are told
 abbrev pub list_rules : List ListRule

@@ -7,9 +7,7 @@ use Rattle.der_opaque.specs.AnyRef.{contents_of, tag_of}
 use Rattle.der_opaque.specs.ObjectIdentifierRef.{octets_of}
 use Rattle.der_build.specs.Attributes.{character_count, fewest, most}
 use Rattle.der_pkix.specs.declared.name.attribute_type_and_value.AttributeTypeAndValue.{AttributeTypeAndValue}
-use Rattle.der_pkix.specs.declared.name.relative_distinguished_name.RelativeDistinguishedName.{RelativeDistinguishedName}
 use Rattle.der_pkix.specs.Name.AttributeTypeAndValue as attribute
-use Rattle.der_pkix.specs.Name.RelativeDistinguishedName as part
 
 -- how many characters a string has, by its tag: an octet each; in UTF-8 those that begin one; two octets each; another value is no text of DirectoryString or IA5String
 abbrev pub characters : Tag → List ℕ → Option ℕ
@@ -33,5 +31,5 @@ size_holds a = may_be (octets_of (attribute.type_ a)) (characters (tag_of (attri
 abbrev pub sizes_hold_of : List AttributeTypeAndValue → Bool
 sizes_hold_of = list_all size_holds
 
-abbrev pub sizes_hold : List RelativeDistinguishedName → Bool
-sizes_hold = list_all (λ p. sizes_hold_of (part.items_of p))
+abbrev pub sizes_hold : List (List AttributeTypeAndValue) → Bool
+sizes_hold = list_all sizes_hold_of

@@ -1,31 +1,43 @@
 //! Extensions by their identifiers (RFC 5280 4.2): "A certificate MUST NOT include more than one instance of a
 //! particular extension."
 
-ghost use Rattle.std.specs.Prelude.{◌≡◌};
-ghost use Rattle.der_verify.specs.Extensions.{has_identifier, some_of, with_identifier, FindsOne};
+ghost use Rattle.std.specs.Prelude.{◌≡◌, List, length, Result, Err, Some};
+ghost use Rattle.std.specs.List.{list_any};
+ghost use Rattle.der_pkix.specs.declared.certificate.extension.Extension.{Extension};
+ghost use Rattle.der_lists.specs.Items.{AreToCome};
+ghost use Rattle.der_verify.specs.Extensions.{has_identifier, with_identifier, AreExtensions, FindsOne};
 
-use der_pkix::certificate::Extension;
+use crate::shown::{ShownTest, one_passes};
+use der_elem::Form;
+use der_lists::ItemIter;
+use der_pkix::certificate::{Extension, Extensions};
 use der_tlv::{Error, Tag};
+use std::alloc::Global;
 
 /// The extension whose identifier has these contents octets, if there is one: 55 1D 0F of keyUsage.
 ///
 /// # Errors
 /// `ErrorKind::Value` (13) with the tag of SEQUENCE where there are two or more.
-pub fn find_extension<'x, 'a>(
-    extensions: &'x [Extension<'a>],
+pub fn find_extension<'a>(
+    alloc: Global,
+    extensions: &Extensions<'a>,
     identifier: &[u8],
-) -> Result<Option<&'x Extension<'a>>, Error>
-    ensures { FindsOne (with_identifier identifier.now extensions.now) result }
+) -> Result<Option<Extension<'a>>, Error>
+    ensures { (items : List Extension) → AreExtensions ⟦<Extension<'a> as Form>⟧ extensions.now items
+        → FindsOne ⟦<Extension<'a> as Form>⟧ (with_identifier identifier.now items) result }
 {
-    let mut left = extensions;
-    'each: while let [extension, others @ ..] = left {
-        if has_identifier(extension, identifier) {
-            if has_extension(others, identifier) {
+    let mut left = extensions.items().iter(alloc);
+    'each: while let Some(item) = left.next() {
+        let extension = match item {
+            Ok(extension) => extension,
+            Err(e) => return Err(e),
+        };
+        if has_identifier(&extension, identifier) {
+            if one_has(left, identifier) {
                 return Err(Error::from_kind(Tag::Sequence.value_error()));
             }
             return Ok(Some(extension));
         }
-        left = others;
     }
     Ok(None)
 }
@@ -37,16 +49,34 @@ pub(crate) fn has_identifier(extension: &Extension<'_>, identifier: &[u8]) -> bo
     extension.extn_id().as_bytes() == identifier
 }
 
-/// Whether an extension is there whose identifier has these contents octets.
-pub(crate) fn has_extension(extensions: &[Extension<'_>], identifier: &[u8]) -> bool
-    ensures { result ≡ some_of (has_identifier identifier.now) extensions.now }
+/// Whether one of the extensions to come has an identifier with these contents octets.
+pub(crate) fn one_has<'a>(extensions: ItemIter<'a, Extension<'a>>, identifier: &[u8]) -> bool
+    ensures { (items : List Extension) → AreToCome ⟦<Extension<'a> as Form>⟧ extensions.entry items
+        → result ≡ list_any (has_identifier identifier.now) items }
 {
-    let mut left = extensions;
-    'each: while let [extension, others @ ..] = left {
-        if has_identifier(extension, identifier) {
-            return true;
-        }
-        left = others;
+    one_passes(extensions, &HasIdentifier { identifier })
+}
+
+/// That an extension has this identifier.
+#[derive(Drop)]
+struct HasIdentifier<'b> {
+    identifier: &'b [u8],
+}
+
+impl<'a, 'b> ShownTest<Extension<'a>> for HasIdentifier<'b> {
+    ghost use Rattle.der_pkix.specs.declared.certificate.extension.Extension.{Extension};
+    ghost use Rattle.der_verify.specs.Extensions.{has_identifier};
+    ghost use Rattle.der_verify.specs.Shown.{Encodes, encodes_too};
+
+    ghost Shown = { Extension };
+
+    ghost shows = { λ p v x. Encodes ⟦<Extension<'a> as Form>⟧ v x };
+
+    ghost passes = { λ p x. has_identifier p.identifier.now x };
+
+    fn passes(&self, item: &Extension<'a>) -> bool {
+        has_identifier(item, self.identifier)
     }
-    false
+
+    ghost respects = { λ p v w x. encodes_too ⟦<Extension<'a> as Form>⟧ v w x };
 }

@@ -1,10 +1,11 @@
-//! What who verifies a signature needs of a message, beside reading it: the octets that are signed,
-//! an extension by its identifier, and what RFC 5280 asks beyond the grammar.
+//! Helpers for verifying: the octets that a signature covers, an extension by its identifier, and what
+//! RFC 5280 asks beyond the grammar.
 #![tactic(auto)]
 
 mod extensions;
 mod names;
 mod rfc5280;
+mod shown;
 mod signed;
 mod sizes;
 mod time;

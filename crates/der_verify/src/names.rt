@@ -4,17 +4,20 @@
 
 mod text;
 
-ghost use Rattle.std.specs.Prelude.{◌≡◌};
-ghost use Rattle.std.specs.List.{list_any};
-ghost use Rattle.std.specs.Cmp.Lexicographic.{pointwise};
+ghost use Rattle.std.specs.Prelude.{◌≡◌, ◌==◌, List, length};
 ghost use Rattle.der_opaque.specs.AnyRef.{contents_of, tag_of};
-ghost use Rattle.der_pkix.specs.Name.RdnSequence as name_items;
-ghost use Rattle.der_pkix.specs.Name.RelativeDistinguishedName as part_items;
-ghost use Rattle.der_verify.specs.Names.{each_matches, is_visible, is_text, is_text_tag, same_attribute, same_exactly, same_name, same_part, same_value};
+ghost use Rattle.der_lists.specs.Items.{AreItems};
+ghost use Rattle.der_lists.specs.SetRef as set;
+ghost use Rattle.der_pkix.specs.declared.name.attribute_type_and_value.AttributeTypeAndValue.{AttributeTypeAndValue};
+ghost use Rattle.der_verify.specs.Names.{each_matches, is_visible, is_text, is_text_tag, same_attribute, same_exactly, same_name, same_value, AreParts};
 
+use crate::shown::{PairTest, ShownTest, all_pass, one_passes, pairs_pass};
+use der_elem::Form;
+use der_lists::SetRef;
 use der_opaque::AnyRef;
 use der_pkix::name::{AttributeTypeAndValue, Name, RelativeDistinguishedName};
 use der_tlv::Tag;
+use std::alloc::Global;
 use text::same_text;
 
 /// Whether two names match (RFC 5280 section 7.1): they have as many parts, and each matches the one
@@ -22,10 +25,17 @@ use text::same_text;
 ///
 /// Two parts match where they have as many attributes, and each attribute of either matches one of the
 /// other; two attributes, where their types are equal and their values match (`values_match`).
-pub fn names_match(first: &Name<'_>, second: &Name<'_>) -> bool
-    ensures { result ≡ same_name (name_items.items_of first.now) (name_items.items_of second.now) }
+pub fn names_match<'a>(alloc: Global, first: &Name<'a>, second: &Name<'a>) -> bool
+    ensures { (parts others : List (List AttributeTypeAndValue))
+        → AreParts ⟦<RelativeDistinguishedName<'a> as Form>⟧ ⟦<AttributeTypeAndValue<'a> as Form>⟧ first.now parts
+        → AreParts ⟦<RelativeDistinguishedName<'a> as Form>⟧ ⟦<AttributeTypeAndValue<'a> as Form>⟧ second.now others
+        → result ≡ same_name parts others }
 {
-    parts_match(first.as_slice(), second.as_slice())
+    pairs_pass(
+        first.items().iter(alloc),
+        second.items().iter(alloc),
+        &SamePart { alloc },
+    )
 }
 
 /// Whether two values match: PrintableStrings and UTF8Strings of the characters 20 to 7E, where they
@@ -43,68 +53,147 @@ pub fn values_match(first: &AnyRef<'_>, second: &AnyRef<'_>) -> bool
     }
 }
 
-/// Whether two lists of parts match, each part the one in its place.
-fn parts_match(
-    first: &[RelativeDistinguishedName<'_>],
-    second: &[RelativeDistinguishedName<'_>],
-) -> bool
-    ensures { result ≡ same_name first.now second.now }
-{
-    let mut left = first;
-    let mut right = second;
-    'each: while let [part, parts @ ..] = left {
-        let [other, others @ ..] = right else {
-            return false;
-        };
-        if !part_matches(part, other) {
-            return false;
-        }
-        left = parts;
-        right = others;
-    }
-    right.is_empty()
+/// That two parts match.
+#[derive(Drop)]
+struct SamePart {
+    alloc: Global,
 }
 
-/// Whether two parts match.
-fn part_matches(
-    first: &RelativeDistinguishedName<'_>,
-    second: &RelativeDistinguishedName<'_>,
+impl<'a> PairTest<RelativeDistinguishedName<'a>> for SamePart {
+    ghost use Rattle.std.specs.Prelude.{List};
+    ghost use Rattle.der_pkix.specs.declared.name.attribute_type_and_value.AttributeTypeAndValue.{AttributeTypeAndValue};
+    ghost use Rattle.der_verify.specs.Names.{AreAttributes, same_part};
+    ghost use Rattle.der_verify.specs.EqualEncodings.{same_attributes};
+
+    ghost Shown = { List AttributeTypeAndValue };
+
+    ghost shows = { λ p. AreAttributes ⟦<AttributeTypeAndValue<'a> as Form>⟧ };
+
+    ghost passes = { λ p. same_part };
+
+    fn passes(
+        &self,
+        item: &RelativeDistinguishedName<'a>,
+        other: &RelativeDistinguishedName<'a>,
+    ) -> bool {
+        let attributes = item.items();
+        let others = other.items();
+        are_as_many(self.alloc, attributes, others)
+            && all_match(self.alloc, attributes, others)
+            && all_match(self.alloc, others, attributes)
+    }
+
+    ghost respects = { λ p. same_attributes ⟦<AttributeTypeAndValue<'a> as Form>⟧ };
+}
+
+/// Whether two parts have as many attributes.
+fn are_as_many<'a>(
+    alloc: Global,
+    attributes: &SetRef<'a, AttributeTypeAndValue<'a>>,
+    others: &SetRef<'a, AttributeTypeAndValue<'a>>,
 ) -> bool
-    ensures { result ≡ same_part first.now second.now }
+    ensures { (xs ys : List AttributeTypeAndValue)
+        → AreItems ⟦<AttributeTypeAndValue<'a> as Form>⟧ (set.octets_of attributes.now) xs
+        → AreItems ⟦<AttributeTypeAndValue<'a> as Form>⟧ (set.octets_of others.now) ys
+        → result ≡ (length xs == length ys) }
 {
-    let attributes = first.as_slice();
-    let others = second.as_slice();
-    attributes.len() == others.len()
-        && all_match(attributes, others)
-        && all_match(others, attributes)
+    pairs_pass(attributes.iter(alloc), others.iter(alloc), &AnyTwo)
+}
+
+/// A test that any two attributes pass, so that lists pass it which have as many of them.
+struct AnyTwo;
+
+impl<'a> PairTest<AttributeTypeAndValue<'a>> for AnyTwo {
+    ghost use Rattle.std.specs.Prelude.{true};
+    ghost use Rattle.der_pkix.specs.declared.name.attribute_type_and_value.AttributeTypeAndValue.{AttributeTypeAndValue};
+    ghost use Rattle.der_verify.specs.Shown.{Encodes, encodes_too};
+
+    ghost Shown = { AttributeTypeAndValue };
+
+    ghost shows = { λ p v x. Encodes ⟦<AttributeTypeAndValue<'a> as Form>⟧ v x };
+
+    ghost passes = { λ p x y. true };
+
+    fn passes(
+        &self,
+        _item: &AttributeTypeAndValue<'a>,
+        _other: &AttributeTypeAndValue<'a>,
+    ) -> bool {
+        true
+    }
+
+    ghost respects = { λ p v w x. encodes_too ⟦<AttributeTypeAndValue<'a> as Form>⟧ v w x };
 }
 
 /// Whether each attribute matches one of the others.
-fn all_match(attributes: &[AttributeTypeAndValue<'_>], others: &[AttributeTypeAndValue<'_>]) -> bool
-    ensures { result ≡ each_matches attributes.now others.now }
+fn all_match<'a>(
+    alloc: Global,
+    attributes: &SetRef<'a, AttributeTypeAndValue<'a>>,
+    others: &SetRef<'a, AttributeTypeAndValue<'a>>,
+) -> bool
+    ensures { (xs ys : List AttributeTypeAndValue)
+        → AreItems ⟦<AttributeTypeAndValue<'a> as Form>⟧ (set.octets_of attributes.now) xs
+        → AreItems ⟦<AttributeTypeAndValue<'a> as Form>⟧ (set.octets_of others.now) ys
+        → result ≡ each_matches xs ys }
 {
-    let mut left = attributes;
-    'each: while let [attribute, rest @ ..] = left {
-        if !matches_one(attribute, others) {
-            return false;
-        }
-        left = rest;
-    }
-    true
+    all_pass(attributes.iter(alloc), &MatchesOne { alloc, others })
 }
 
-/// Whether an attribute matches one of a list.
-fn matches_one(attribute: &AttributeTypeAndValue<'_>, others: &[AttributeTypeAndValue<'_>]) -> bool
-    ensures { result ≡ list_any (same_attribute attribute.now) others.now }
-{
-    let mut left = others;
-    'each: while let [other, rest @ ..] = left {
-        if attributes_match(attribute, other) {
-            return true;
-        }
-        left = rest;
+/// That an attribute matches one of these.
+#[derive(Drop)]
+struct MatchesOne<'a, 'b> {
+    alloc: Global,
+    others: &'b SetRef<'a, AttributeTypeAndValue<'a>>,
+}
+
+impl<'a, 'b> ShownTest<AttributeTypeAndValue<'a>> for MatchesOne<'a, 'b> {
+    ghost use Rattle.std.specs.Prelude.{List};
+    ghost use Rattle.std.specs.List.{list_any};
+    ghost use Rattle.der_lists.specs.Items.{AreItems};
+    ghost use Rattle.der_lists.specs.SetRef as set;
+    ghost use Rattle.der_pkix.specs.declared.name.attribute_type_and_value.AttributeTypeAndValue.{AttributeTypeAndValue};
+    ghost use Rattle.der_verify.specs.Names.{same_attribute};
+    ghost use Rattle.der_verify.specs.Shown.{Encodes, encodes_beside};
+
+    // an attribute, and these
+    ghost Shown = { AttributeTypeAndValue × List AttributeTypeAndValue };
+
+    ghost shows = { λ p v x. Encodes ⟦<AttributeTypeAndValue<'a> as Form>⟧ v x.0 × AreItems ⟦<AttributeTypeAndValue<'a> as Form>⟧ (set.octets_of p.others.now) x.1 };
+
+    ghost passes = { λ p x. list_any (same_attribute x.0) x.1 };
+
+    fn passes(&self, item: &AttributeTypeAndValue<'a>) -> bool {
+        one_passes(
+            self.others.iter(self.alloc),
+            &SameAttribute { attribute: item },
+        )
     }
-    false
+
+    ghost respects = { λ p v w x. encodes_beside ⟦<AttributeTypeAndValue<'a> as Form>⟧ v w x.0 (AreItems ⟦<AttributeTypeAndValue<'a> as Form>⟧ (set.octets_of p.others.now) x.1) };
+}
+
+/// That an attribute matches this one.
+#[derive(Drop)]
+struct SameAttribute<'a, 'b> {
+    attribute: &'b AttributeTypeAndValue<'a>,
+}
+
+impl<'a, 'b> ShownTest<AttributeTypeAndValue<'a>> for SameAttribute<'a, 'b> {
+    ghost use Rattle.der_pkix.specs.declared.name.attribute_type_and_value.AttributeTypeAndValue.{AttributeTypeAndValue};
+    ghost use Rattle.der_verify.specs.Names.{same_attribute};
+    ghost use Rattle.der_verify.specs.Shown.{Encodes, encodes_too};
+
+    ghost Shown = { AttributeTypeAndValue };
+
+    ghost shows = { λ p v x. Encodes ⟦<AttributeTypeAndValue<'a> as Form>⟧ v x };
+
+    ghost passes = { λ p x. same_attribute p.attribute.now x };
+
+    fn passes(&self, item: &AttributeTypeAndValue<'a>) -> bool {
+        attributes_match(self.attribute, item)
+    }
+
+    ghost respects = { λ p v w x. encodes_too ⟦<AttributeTypeAndValue<'a> as Form>⟧ v w x };
 }
 
 /// Whether two attributes match.

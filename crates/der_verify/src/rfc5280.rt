@@ -4,18 +4,20 @@
 mod lists;
 mod repeated;
 
-ghost use Rattle.std.specs.Prelude.{◌≡◌, ◌==◌, ◌||◌, ◌↔◌, filter, is_some, length, IfOk, IsTrue};
+ghost use Rattle.std.specs.Prelude.{◌≡◌, ◌||◌, ◌↔◌, List, filter, is_some, IfOk, IsTrue};
+ghost use Rattle.std.specs.List.{list_any};
+ghost use Rattle.der_lists.specs.Items.{AreItems};
+ghost use Rattle.der_lists.specs.ListRef as list_ref;
+ghost use Rattle.der_pkix.specs.declared.certificate.extension.Extension.{Extension};
 ghost use Rattle.der_pkix.specs.Certificate.Certificate as certificate_fields;
-ghost use Rattle.der_nest.specs.Kept as kept;
 ghost use Rattle.der_pkix.specs.Certificate.TbsCertificate as tbs_fields;
-ghost use Rattle.der_verify.specs.Extensions.{has_identifier, some_of};
 ghost use Rattle.der_verify.specs.Sections.{section};
-ghost use Rattle.der_verify.specs.Rfc5280.{breaks, breaks_otherwise, breaks_within, certificate_rules, same_algorithms, forbidden, has_criticality, has_repeated, is_positive, is_uncritical_ca, listed, says_true, seen_forbidden};
+ghost use Rattle.der_verify.specs.Rfc5280.{breaks, breaks_otherwise, breaks_within, certificate_rules, same_algorithms, forbidden, has_criticality, has_repeated, is_empty_name, is_positive, is_so_critical, is_uncritical_ca, says_true, seen_forbidden, AreListed};
 
-use crate::extensions::{has_extension, has_identifier};
+use crate::extensions::{has_identifier, one_has};
+use crate::shown::{ShownTest, one_passes};
 use der_elem::Form;
-use der_modules::copy_of;
-use der_nest::Kept;
+use der_lists::ListRef;
 use der_pkix::AlgorithmIdentifier;
 use der_pkix::certificate::{Certificate, Extension, TbsCertificate};
 use der_pkix::name::Name;
@@ -90,12 +92,13 @@ pub const CERTIFICATE_RULES: [CertificateRule; 18] = [
 ///
 /// # Errors
 /// Where memory runs out.
-pub fn check_certificate(
+pub fn check_certificate<'a>(
     alloc: Global,
-    certificate: &Certificate<'_>,
+    certificate: &Certificate<'a>,
 ) -> Result<Vec<CertificateRule>, AllocError>
-    ensures { IfOk result (λ found.
-        found.items ≡ filter (λ r. breaks r certificate.now) certificate_rules) }
+    ensures { (listed : List Extension)
+        → AreListed ⟦<Extension<'a> as Form>⟧ (tbs_fields.extensions (certificate_fields.tbs_certificate certificate.now)) listed
+        → IfOk result (λ found. found.items ≡ filter (λ r. breaks r certificate.now listed) certificate_rules) }
 {
     let mut found = Vec::new(alloc);
     let mut left = CERTIFICATE_RULES.as_slice();
@@ -149,39 +152,46 @@ impl CertificateRule {
     ///
     /// # Errors
     /// Where memory runs out.
-    pub fn is_broken_in(
+    pub fn is_broken_in<'a>(
         self,
         alloc: Global,
-        certificate: &Certificate<'_>,
+        certificate: &Certificate<'a>,
     ) -> Result<bool, AllocError>
-        ensures { IfOk result (λ broken. broken ≡ breaks self certificate.now) }
+        ensures { (listed : List Extension)
+            → AreListed ⟦<Extension<'a> as Form>⟧ (tbs_fields.extensions (certificate_fields.tbs_certificate certificate.now)) listed
+            → IfOk result (λ broken. broken ≡ breaks self certificate.now listed) }
     {
         match self {
             CertificateRule::ExtensionsStandOnce => {
                 certificate_repeats(alloc, certificate.tbs_certificate())
             }
-            _ => Ok(self.is_broken(certificate)),
+            _ => Ok(self.is_broken(alloc, certificate)),
         }
     }
 
     /// Whether a certificate breaks the rule. That each extension stands once is seen by comparing
-    /// each of them with all behind it.
-    pub fn is_broken(self, certificate: &Certificate<'_>) -> bool
-        ensures { result ≡ breaks self certificate.now }
+    /// each of them with all behind it. It takes no memory.
+    pub fn is_broken<'a>(self, alloc: Global, certificate: &Certificate<'a>) -> bool
+        ensures { (listed : List Extension)
+            → AreListed ⟦<Extension<'a> as Form>⟧ (tbs_fields.extensions (certificate_fields.tbs_certificate certificate.now)) listed
+            → result ≡ breaks self certificate.now listed }
     {
         match self {
             CertificateRule::AlgorithmsAgree => !algorithms_agree(certificate),
-            _ => self.is_broken_within(certificate.tbs_certificate()),
+            _ => self.is_broken_within(alloc, certificate.tbs_certificate()),
         }
     }
 
     /// Whether the part of a certificate that is signed breaks the rule.
-    fn is_broken_within(self, certificate: &TbsCertificate<'_>) -> bool
-        ensures { result ≡ breaks_within self certificate.now }
+    fn is_broken_within<'a>(self, alloc: Global, certificate: &TbsCertificate<'a>) -> bool
+        ensures { (listed : List Extension) → AreListed ⟦<Extension<'a> as Form>⟧ (tbs_fields.extensions certificate.now) listed
+            → result ≡ breaks_within self certificate.now listed }
     {
         match self.forbidden() {
-            Some((identifier, critical)) => has_criticality_in(certificate, identifier, critical),
-            None => self.is_broken_otherwise(certificate),
+            Some((identifier, critical)) => {
+                has_criticality_in(alloc, certificate, identifier, critical)
+            }
+            None => self.is_broken_otherwise(alloc, certificate),
         }
     }
 
@@ -214,8 +224,9 @@ impl CertificateRule {
     }
 
     /// Whether a certificate breaks a rule that is about more than criticality.
-    fn is_broken_otherwise(self, certificate: &TbsCertificate<'_>) -> bool
-        ensures { result ≡ breaks_otherwise self certificate.now }
+    fn is_broken_otherwise<'a>(self, alloc: Global, certificate: &TbsCertificate<'a>) -> bool
+        ensures { (listed : List Extension) → AreListed ⟦<Extension<'a> as Form>⟧ (tbs_fields.extensions certificate.now) listed
+            → result ≡ breaks_otherwise self certificate.now listed }
     {
         match self {
             CertificateRule::ExtensionsInVersion3 => {
@@ -230,21 +241,19 @@ impl CertificateRule {
             CertificateRule::IssuerIsNotEmpty => is_empty_name(certificate.issuer()),
             CertificateRule::EmptySubjectHasCriticalAltName => {
                 is_empty_name(certificate.subject())
-                    && !has_criticality_in(certificate, &[0x55, 0x1d, 0x11], true)
+                    && !has_criticality_in(alloc, certificate, &[0x55, 0x1d, 0x11], true)
             }
             CertificateRule::UniqueIdentifiersInVersion2 => {
                 has_unique_identifier(certificate) && certificate.version() == 0
             }
             CertificateRule::ExtensionsStandOnce => match certificate.extensions() {
-                Some(extensions) => has_repeated_one(extensions.as_slice()),
+                Some(extensions) => has_repeated_one(alloc, extensions.items()),
                 None => false,
             },
-            CertificateRule::BasicConstraintsOfCaIsCritical => {
-                match certificate.extensions() {
-                    Some(extensions) => has_uncritical_ca(extensions.as_slice()),
-                    None => false,
-                }
-            }
+            CertificateRule::BasicConstraintsOfCaIsCritical => match certificate.extensions() {
+                Some(extensions) => has_uncritical_ca(alloc, extensions.items()),
+                None => false,
+            },
             _ => false,
         }
     }
@@ -261,10 +270,10 @@ fn is_positive_integer(octets: &[u8]) -> bool
 }
 
 /// Whether a name has no attributes.
-fn is_empty_name(name: &Kept<'_, Name<'_>>) -> bool
-    ensures { result ≡ (length (kept.octets_of name.now) == 0) }
+fn is_empty_name(name: &Name<'_>) -> bool
+    ensures { result ≡ is_empty_name name.now }
 {
-    copy_of(name).as_bytes().is_empty()
+    name.items().is_empty()
 }
 
 /// Whether a certificate has one of the two unique identifiers.
@@ -275,55 +284,117 @@ fn has_unique_identifier(certificate: &TbsCertificate<'_>) -> bool
 }
 
 /// Whether an extension of a certificate has this identifier and is critical, or is not.
-fn has_criticality_in(certificate: &TbsCertificate<'_>, identifier: &[u8], critical: bool) -> bool
-    ensures { result ≡ has_criticality identifier.now critical (listed (tbs_fields.extensions certificate.now)) }
+fn has_criticality_in<'a>(
+    alloc: Global,
+    certificate: &TbsCertificate<'a>,
+    identifier: &[u8],
+    critical: bool,
+) -> bool
+    ensures { (listed : List Extension) → AreListed ⟦<Extension<'a> as Form>⟧ (tbs_fields.extensions certificate.now) listed
+        → result ≡ has_criticality identifier.now critical listed }
 {
     match certificate.extensions() {
-        Some(extensions) => has_criticality_of(extensions.as_slice(), identifier, critical),
+        Some(extensions) => has_criticality_of(alloc, extensions.items(), identifier, critical),
         None => false,
     }
 }
 
 /// Whether an extension with this identifier is there that is critical, or that is not.
-fn has_criticality_of(extensions: &[Extension<'_>], identifier: &[u8], critical: bool) -> bool
-    ensures { result ≡ has_criticality identifier.now critical extensions.now }
+fn has_criticality_of<'a>(
+    alloc: Global,
+    extensions: &ListRef<'a, Extension<'a>>,
+    identifier: &[u8],
+    critical: bool,
+) -> bool
+    ensures { (items : List Extension) → AreItems ⟦<Extension<'a> as Form>⟧ (list_ref.octets_of extensions.now) items
+        → result ≡ has_criticality identifier.now critical items }
 {
-    let mut left = extensions;
-    'each: while let [extension, others @ ..] = left {
-        if has_identifier(extension, identifier) && extension.critical() == critical {
-            return true;
-        }
-        left = others;
+    let test = HasCriticality {
+        identifier,
+        critical,
+    };
+    one_passes(extensions.iter(alloc), &test)
+}
+
+/// Whether an extension has this identifier and is critical, or is not.
+fn is_so_critical(extension: &Extension<'_>, identifier: &[u8], critical: bool) -> bool
+    ensures { result ≡ is_so_critical identifier.now critical extension.now }
+{
+    has_identifier(extension, identifier) && extension.critical() == critical
+}
+
+/// That an extension has this identifier and is critical, or is not.
+#[derive(Drop)]
+struct HasCriticality<'b> {
+    identifier: &'b [u8],
+    critical: bool,
+}
+
+impl<'a, 'b> ShownTest<Extension<'a>> for HasCriticality<'b> {
+    ghost use Rattle.der_pkix.specs.declared.certificate.extension.Extension.{Extension};
+    ghost use Rattle.der_verify.specs.Rfc5280.{is_so_critical};
+    ghost use Rattle.der_verify.specs.Shown.{Encodes, encodes_too};
+
+    ghost Shown = { Extension };
+
+    ghost shows = { λ p v x. Encodes ⟦<Extension<'a> as Form>⟧ v x };
+
+    ghost passes = { λ p. is_so_critical p.identifier.now p.critical };
+
+    fn passes(&self, item: &Extension<'a>) -> bool {
+        is_so_critical(item, self.identifier, self.critical)
     }
-    false
+
+    ghost respects = { λ p v w x. encodes_too ⟦<Extension<'a> as Form>⟧ v w x };
 }
 
 /// Whether two extensions have one identifier.
-fn has_repeated_one(extensions: &[Extension<'_>]) -> bool
-    ensures { result ≡ has_repeated extensions.now }
+fn has_repeated_one<'a>(alloc: Global, extensions: &ListRef<'a, Extension<'a>>) -> bool
+    ensures { (items : List Extension) → AreItems ⟦<Extension<'a> as Form>⟧ (list_ref.octets_of extensions.now) items
+        → result ≡ has_repeated items }
 {
-    let mut left = extensions;
-    'each: while let [extension, others @ ..] = left {
-        if has_extension(others, extension.extn_id().as_bytes()) {
+    let mut left = extensions.iter(alloc);
+    'each: while let Some(item) = left.next() {
+        let Ok(extension) = item else {
+            return false;
+        };
+        let Ok(others) = left.clone() else {
+            return false;
+        };
+        if one_has(others, extension.extn_id().as_bytes()) {
             return true;
         }
-        left = others;
     }
     false
 }
 
 /// Whether basicConstraints of a CA is there that is not critical.
-fn has_uncritical_ca(extensions: &[Extension<'_>]) -> bool
-    ensures { result ≡ some_of is_uncritical_ca extensions.now }
+fn has_uncritical_ca<'a>(alloc: Global, extensions: &ListRef<'a, Extension<'a>>) -> bool
+    ensures { (items : List Extension) → AreItems ⟦<Extension<'a> as Form>⟧ (list_ref.octets_of extensions.now) items
+        → result ≡ list_any is_uncritical_ca items }
 {
-    let mut left = extensions;
-    'each: while let [extension, others @ ..] = left {
-        if is_uncritical(extension) {
-            return true;
-        }
-        left = others;
+    one_passes(extensions.iter(alloc), &IsUncriticalCa)
+}
+
+/// That an extension is basicConstraints of a CA that is not critical.
+struct IsUncriticalCa;
+
+impl<'a> ShownTest<Extension<'a>> for IsUncriticalCa {
+    ghost use Rattle.der_pkix.specs.declared.certificate.extension.Extension.{Extension};
+    ghost use Rattle.der_verify.specs.Rfc5280.{is_uncritical_ca};
+    ghost use Rattle.der_verify.specs.Shown.{Encodes, encodes_too};
+
+    ghost Shown = { Extension };
+
+    ghost shows = { λ p v x. Encodes ⟦<Extension<'a> as Form>⟧ v x };
+
+    ghost passes = { λ p. is_uncritical_ca };
+
+    fn passes(&self, item: &Extension<'a>) -> bool {
+        is_uncritical(item)
     }
-    false
+
+    ghost respects = { λ p v w x. encodes_too ⟦<Extension<'a> as Form>⟧ v w x };
 }
 
 /// Whether an extension is basicConstraints of a CA that is not critical.

@@ -1,15 +1,19 @@
 //! How many characters the texts of a name have: the bounds of RFC 5280 appendix A.1 (SIZE), which are
 //! beyond the grammar of a name.
 
-ghost use Rattle.std.specs.Prelude.{◌≡◌};
+ghost use Rattle.std.specs.Prelude.{◌≡◌, List};
 ghost use Rattle.der_opaque.specs.AnyRef.{contents_of, tag_of};
-ghost use Rattle.der_pkix.specs.Name.RdnSequence as name_items;
-ghost use Rattle.der_verify.specs.Sizes.{characters, size_holds, sizes_hold, sizes_hold_of};
+ghost use Rattle.der_pkix.specs.declared.name.attribute_type_and_value.AttributeTypeAndValue.{AttributeTypeAndValue};
+ghost use Rattle.der_verify.specs.Names.{AreParts};
+ghost use Rattle.der_verify.specs.Sizes.{characters, size_holds, sizes_hold};
 
+use crate::shown::{ShownTest, all_pass};
 use der_build::{character_count, may_have};
+use der_elem::Form;
 use der_opaque::AnyRef;
 use der_pkix::name::{AttributeTypeAndValue, Name, RelativeDistinguishedName};
 use der_tlv::Tag;
+use std::alloc::Global;
 
 /// Whether each text of a name has a number of characters that RFC 5280 appendix A.1 allows for the
 /// type of its attribute: commonName 1 to 64, countryName 2, localityName 1 to 128, emailAddress 1 to
@@ -17,10 +21,12 @@ use der_tlv::Tag;
 /// domainComponent. What is neither of the strings of DirectoryString nor an IA5String has no bound.
 ///
 /// A name with commonName of 65 characters is read, and breaks this.
-pub fn sizes_hold(name: &Name<'_>) -> bool
-    ensures { result ≡ sizes_hold (name_items.items_of name.now) }
+pub fn sizes_hold<'a>(alloc: Global, name: &Name<'a>) -> bool
+    ensures { (parts : List (List AttributeTypeAndValue))
+        → AreParts ⟦<RelativeDistinguishedName<'a> as Form>⟧ ⟦<AttributeTypeAndValue<'a> as Form>⟧ name.now parts
+        → result ≡ sizes_hold parts }
 {
-    each_holds(name.as_slice())
+    all_pass(name.items().iter(alloc), &PartSizesHold { alloc })
 }
 
 /// The same of one attribute.
@@ -33,30 +39,51 @@ pub fn size_holds(attribute: &AttributeTypeAndValue<'_>) -> bool
     }
 }
 
-fn each_holds(parts: &[RelativeDistinguishedName<'_>]) -> bool
-    ensures { result ≡ sizes_hold parts.now }
-{
-    let mut left = parts;
-    'each: while let [part, others @ ..] = left {
-        if !all_hold(part.as_slice()) {
-            return false;
-        }
-        left = others;
-    }
-    true
+/// That the sizes of a part hold.
+#[derive(Drop)]
+struct PartSizesHold {
+    alloc: Global,
 }
 
-fn all_hold(attributes: &[AttributeTypeAndValue<'_>]) -> bool
-    ensures { result ≡ sizes_hold_of attributes.now }
-{
-    let mut left = attributes;
-    'each: while let [attribute, others @ ..] = left {
-        if !size_holds(attribute) {
-            return false;
-        }
-        left = others;
+impl<'a> ShownTest<RelativeDistinguishedName<'a>> for PartSizesHold {
+    ghost use Rattle.std.specs.Prelude.{List};
+    ghost use Rattle.der_pkix.specs.declared.name.attribute_type_and_value.AttributeTypeAndValue.{AttributeTypeAndValue};
+    ghost use Rattle.der_verify.specs.EqualEncodings.{same_attributes};
+    ghost use Rattle.der_verify.specs.Names.{AreAttributes};
+    ghost use Rattle.der_verify.specs.Sizes.{sizes_hold_of};
+
+    ghost Shown = { List AttributeTypeAndValue };
+
+    ghost shows = { λ p. AreAttributes ⟦<AttributeTypeAndValue<'a> as Form>⟧ };
+
+    ghost passes = { λ p. sizes_hold_of };
+
+    fn passes(&self, item: &RelativeDistinguishedName<'a>) -> bool {
+        all_pass(item.items().iter(self.alloc), &SizeHolds)
     }
-    true
+
+    ghost respects = { λ p. same_attributes ⟦<AttributeTypeAndValue<'a> as Form>⟧ };
+}
+
+/// That the size of an attribute holds.
+struct SizeHolds;
+
+impl<'a> ShownTest<AttributeTypeAndValue<'a>> for SizeHolds {
+    ghost use Rattle.der_pkix.specs.declared.name.attribute_type_and_value.AttributeTypeAndValue.{AttributeTypeAndValue};
+    ghost use Rattle.der_verify.specs.Shown.{Encodes, encodes_too};
+    ghost use Rattle.der_verify.specs.Sizes.{size_holds};
+
+    ghost Shown = { AttributeTypeAndValue };
+
+    ghost shows = { λ p v x. Encodes ⟦<AttributeTypeAndValue<'a> as Form>⟧ v x };
+
+    ghost passes = { λ p. size_holds };
+
+    fn passes(&self, item: &AttributeTypeAndValue<'a>) -> bool {
+        size_holds(item)
+    }
+
+    ghost respects = { λ p v w x. encodes_too ⟦<AttributeTypeAndValue<'a> as Form>⟧ v w x };
 }
 
 /// How many characters a value has, where it is one of these strings.

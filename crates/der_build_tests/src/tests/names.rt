@@ -1,8 +1,9 @@
 //! Attributes with their texts, and names of them.
 
-use super::{numbered, same_in, wanted, written};
-use der_asn1_types::Encode;
-use der_build::{TextAttribute, attribute, kept_name, name};
+use super::{numbered, same_in, wanted};
+use der_asn1_types::{Encode, FromDer};
+use der_build::{TextAttribute, attribute, name};
+use der_pkix::name::Name;
 use std::alloc::Global;
 use std::process::Abort;
 use std::test::Fail;
@@ -126,7 +127,15 @@ fn attributes_are_refused(rt: HostRuntime) -> Result<(), Fail> {
     Ok(())
 }
 
-// The octets of a name of a country and a commonName, kept and written again.
+// The octets of the name that these are read as.
+fn name_again(alloc: Global, octets: &[u8]) -> Result<Vec<u8>, u8> {
+    match Name::from_der(alloc, octets) {
+        Ok(name) => numbered(name.to_der(alloc)),
+        Err(e) => Err(e.kind().number()),
+    }
+}
+
+// The octets of a name of a country and a commonName, read and written again.
 fn name_of(alloc: Global, country: &str, common_name: &str) -> Result<Vec<u8>, u8> {
     let attributes = [
         TextAttribute {
@@ -138,8 +147,8 @@ fn name_of(alloc: Global, country: &str, common_name: &str) -> Result<Vec<u8>, u
             text: common_name,
         },
     ];
-    let octets = written(alloc, name(alloc, attributes.as_slice()))?;
-    written(alloc, kept_name(alloc, octets.as_slice()))
+    let octets = numbered(name(alloc, attributes.as_slice()))?;
+    name_again(alloc, octets.as_slice())
 }
 
 #[test]
@@ -167,10 +176,10 @@ fn names_are_built(rt: HostRuntime) -> Result<(), Fail> {
     same_in(
         &rt,
         &"no parts",
-        written(alloc, name(alloc, &[])),
+        numbered(name(alloc, &[])),
         wanted(alloc, "3000"),
     );
-    let found = written(alloc, kept_name(alloc, &[0x30, 0x02, 0x05, 0x00]));
+    let found = name_again(alloc, &[0x30, 0x02, 0x05, 0x00]);
     same_in(&rt, &"no name", found, Err(4));
     Ok(())
 }

@@ -1,17 +1,22 @@
 //! What RFC 5280 asks of a list of revoked certificates beyond its grammar (sections 5.1 to 5.3).
 
-ghost use Rattle.std.specs.Prelude.{◌≡◌, ◌↔◌, filter, IfOk, IsTrue};
+ghost use Rattle.std.specs.Prelude.{◌≡◌, ◌↔◌, List, Option, filter, IfOk, IsTrue};
+ghost use Rattle.der_lists.specs.ListRef as list_ref;
+ghost use Rattle.der_pkix.specs.declared.certificate.extension.Extension.{Extension};
 ghost use Rattle.der_pkix.specs.Crl.CertificateList as list_fields;
-ghost use Rattle.der_pkix.specs.Crl.RevokedCertificate as entry_fields;
 ghost use Rattle.der_pkix.specs.Crl.TbsCertList as tbs_fields;
-ghost use Rattle.der_verify.specs.Rfc5280.{has_criticality, listed, seen_forbidden};
+ghost use Rattle.der_verify.specs.Rfc5280.{seen_forbidden, AreListed};
 ghost use Rattle.der_verify.specs.Sections.{list_section};
-ghost use Rattle.der_verify.specs.Rfc5280Lists.{entries, entry_has_criticality, entry_has_extensions, forbidden_of_entry, forbidden_of_list, is_version_2, list_breaks, list_breaks_otherwise, list_breaks_within, list_rules, list_same_algorithms};
+ghost use Rattle.der_verify.specs.Shown.{AreShown};
+ghost use Rattle.der_verify.specs.Rfc5280Lists.{entry_has_criticality, entry_has_extensions, forbidden_of_entry, forbidden_of_list, is_version_2, list_breaks, list_breaks_otherwise, list_breaks_within, list_rules, list_same_algorithms, AreEntries, EntryShows};
 
 use super::repeated::list_repeats;
 use super::{has_criticality_of, has_repeated_one, is_empty_name};
+use crate::shown::{ShownTest, one_passes};
 use der_elem::Form;
+use der_lists::ListRef;
 use der_pkix::AlgorithmIdentifier;
+use der_pkix::certificate::Extension;
 use der_pkix::crl::{CertificateList, RevokedCertificate, TbsCertList};
 use std::alloc::{AllocError, Global};
 
@@ -70,9 +75,14 @@ pub const LIST_RULES: [ListRule; 14] = [
 ///
 /// # Errors
 /// Where memory runs out.
-pub fn check_list(alloc: Global, list: &CertificateList<'_>) -> Result<Vec<ListRule>, AllocError>
-    ensures { IfOk result (λ found.
-        found.items ≡ filter (λ r. list_breaks r list.now) list_rules) }
+pub fn check_list<'a>(
+    alloc: Global,
+    list: &CertificateList<'a>,
+) -> Result<Vec<ListRule>, AllocError>
+    ensures { (listed : List Extension) (entries : List (Option (List Extension)))
+        → AreListed ⟦<Extension<'a> as Form>⟧ (tbs_fields.crl_extensions (list_fields.tbs_cert_list list.now)) listed
+        → AreEntries ⟦<RevokedCertificate<'a> as Form>⟧ ⟦<Extension<'a> as Form>⟧ (tbs_fields.revoked_certificates (list_fields.tbs_cert_list list.now)) entries
+        → IfOk result (λ found. found.items ≡ filter (λ r. list_breaks r list.now listed entries) list_rules) }
 {
     let mut found = Vec::new(alloc);
     let mut left = LIST_RULES.as_slice();
@@ -122,40 +132,55 @@ impl ListRule {
     ///
     /// # Errors
     /// Where memory runs out.
-    pub fn is_broken_in(self, alloc: Global, list: &CertificateList<'_>) -> Result<bool, AllocError>
-        ensures { IfOk result (λ broken. broken ≡ list_breaks self list.now) }
+    pub fn is_broken_in<'a>(
+        self,
+        alloc: Global,
+        list: &CertificateList<'a>,
+    ) -> Result<bool, AllocError>
+        ensures { (listed : List Extension) (entries : List (Option (List Extension)))
+            → AreListed ⟦<Extension<'a> as Form>⟧ (tbs_fields.crl_extensions (list_fields.tbs_cert_list list.now)) listed
+            → AreEntries ⟦<RevokedCertificate<'a> as Form>⟧ ⟦<Extension<'a> as Form>⟧ (tbs_fields.revoked_certificates (list_fields.tbs_cert_list list.now)) entries
+            → IfOk result (λ broken. broken ≡ list_breaks self list.now listed entries) }
     {
         match self {
             ListRule::ExtensionsStandOnce => list_repeats(alloc, list.tbs_cert_list()),
-            _ => Ok(self.is_broken(list)),
+            _ => Ok(self.is_broken(alloc, list)),
         }
     }
 
     /// Whether a list breaks the rule. That each extension stands once is seen by comparing each of
-    /// them with all behind it.
-    pub fn is_broken(self, list: &CertificateList<'_>) -> bool
-        ensures { result ≡ list_breaks self list.now }
+    /// them with all behind it. It takes no memory.
+    pub fn is_broken<'a>(self, alloc: Global, list: &CertificateList<'a>) -> bool
+        ensures { (listed : List Extension) (entries : List (Option (List Extension)))
+            → AreListed ⟦<Extension<'a> as Form>⟧ (tbs_fields.crl_extensions (list_fields.tbs_cert_list list.now)) listed
+            → AreEntries ⟦<RevokedCertificate<'a> as Form>⟧ ⟦<Extension<'a> as Form>⟧ (tbs_fields.revoked_certificates (list_fields.tbs_cert_list list.now)) entries
+            → result ≡ list_breaks self list.now listed entries }
     {
         match self {
             ListRule::AlgorithmsAgree => !list_algorithms_agree(list),
-            _ => self.is_broken_within(list.tbs_cert_list()),
+            _ => self.is_broken_within(alloc, list.tbs_cert_list()),
         }
     }
 
     /// Whether the part of a list that is signed breaks the rule.
-    fn is_broken_within(self, list: &TbsCertList<'_>) -> bool
-        ensures { result ≡ list_breaks_within self list.now }
+    fn is_broken_within<'a>(self, alloc: Global, list: &TbsCertList<'a>) -> bool
+        ensures { (listed : List Extension) (entries : List (Option (List Extension)))
+            → AreListed ⟦<Extension<'a> as Form>⟧ (tbs_fields.crl_extensions list.now) listed
+            → AreEntries ⟦<RevokedCertificate<'a> as Form>⟧ ⟦<Extension<'a> as Form>⟧ (tbs_fields.revoked_certificates list.now) entries
+            → result ≡ list_breaks_within self list.now listed entries }
     {
         match (self.forbidden(), self.forbidden_of_entry()) {
             (Some((identifier, critical)), _) => match list.crl_extensions() {
-                Some(extensions) => has_criticality_of(extensions.as_slice(), identifier, critical),
+                Some(extensions) => {
+                    has_criticality_of(alloc, extensions.items(), identifier, critical)
+                }
                 None => false,
             },
             (None, Some((identifier, critical))) => match list.revoked_certificates() {
-                Some(entries) => entry_has_criticality_of(entries.as_slice(), identifier, critical),
+                Some(entries) => entry_has_criticality_of(alloc, entries, identifier, critical),
                 None => false,
             },
-            (None, None) => self.is_broken_otherwise(list),
+            (None, None) => self.is_broken_otherwise(alloc, list),
         }
     }
 
@@ -189,13 +214,16 @@ impl ListRule {
     }
 
     /// Whether a list breaks a rule that is about more than criticality.
-    fn is_broken_otherwise(self, list: &TbsCertList<'_>) -> bool
-        ensures { result ≡ list_breaks_otherwise self list.now }
+    fn is_broken_otherwise<'a>(self, alloc: Global, list: &TbsCertList<'a>) -> bool
+        ensures { (listed : List Extension) (entries : List (Option (List Extension)))
+            → AreListed ⟦<Extension<'a> as Form>⟧ (tbs_fields.crl_extensions list.now) listed
+            → AreEntries ⟦<RevokedCertificate<'a> as Form>⟧ ⟦<Extension<'a> as Form>⟧ (tbs_fields.revoked_certificates list.now) entries
+            → result ≡ list_breaks_otherwise self list.now listed entries }
     {
         match self {
             ListRule::ExtensionsInVersion2 => {
                 !is_of_version_2(list.version())
-                    && (list.crl_extensions().is_some() || has_entry_extensions(list))
+                    && (list.crl_extensions().is_some() || has_entry_extensions(alloc, list))
             }
             ListRule::IssuerIsNotEmpty => is_empty_name(list.issuer()),
             ListRule::NextUpdateIsThere => list.next_update().is_none(),
@@ -204,7 +232,7 @@ impl ListRule {
                 None => false,
             },
             ListRule::ExtensionsStandOnce => match list.crl_extensions() {
-                Some(extensions) => has_repeated_one(extensions.as_slice()),
+                Some(extensions) => has_repeated_one(alloc, extensions.items()),
                 None => false,
             },
             _ => false,
@@ -223,53 +251,100 @@ fn is_of_version_2(version: Option<u8>) -> bool
 }
 
 /// Whether an entry of a list has extensions.
-fn has_entry_extensions(list: &TbsCertList<'_>) -> bool
-    ensures { result ≡ entry_has_extensions (entries list.now) }
+fn has_entry_extensions<'a>(alloc: Global, list: &TbsCertList<'a>) -> bool
+    ensures { (entries : List (Option (List Extension)))
+        → AreEntries ⟦<RevokedCertificate<'a> as Form>⟧ ⟦<Extension<'a> as Form>⟧ (tbs_fields.revoked_certificates list.now) entries
+        → result ≡ entry_has_extensions entries }
 {
     match list.revoked_certificates() {
-        Some(entries) => some_has_extensions(entries.as_slice()),
+        Some(entries) => one_has_extensions(alloc, entries),
         None => false,
     }
 }
 
 /// Whether one of these entries has extensions.
-fn some_has_extensions(entries: &[RevokedCertificate<'_>]) -> bool
-    ensures { result ≡ entry_has_extensions entries.now }
+fn one_has_extensions<'a>(alloc: Global, entries: &ListRef<'a, RevokedCertificate<'a>>) -> bool
+    ensures { (shown : List (Option (List Extension)))
+        → AreShown ⟦<RevokedCertificate<'a> as Form>⟧ (EntryShows ⟦<Extension<'a> as Form>⟧) (list_ref.octets_of entries.now) shown
+        → result ≡ entry_has_extensions shown }
 {
-    let mut left = entries;
-    'each: while let [entry, others @ ..] = left {
-        if entry.crl_entry_extensions().is_some() {
-            return true;
-        }
-        left = others;
+    one_passes(entries.iter(alloc), &HasExtensions)
+}
+
+/// That an entry has extensions.
+struct HasExtensions;
+
+impl<'a> ShownTest<RevokedCertificate<'a>> for HasExtensions {
+    ghost use Rattle.std.specs.Prelude.{List, Option, is_some};
+    ghost use Rattle.der_pkix.specs.declared.certificate.extension.Extension.{Extension};
+    ghost use Rattle.der_verify.specs.EqualEncodings.{same_extensions};
+    ghost use Rattle.der_verify.specs.Rfc5280Lists.{EntryShows};
+
+    ghost Shown = { Option (List Extension) };
+
+    ghost shows = { λ p. EntryShows ⟦<Extension<'a> as Form>⟧ };
+
+    ghost passes = { λ p x. is_some x };
+
+    fn passes(&self, item: &RevokedCertificate<'a>) -> bool {
+        item.crl_entry_extensions().is_some()
     }
-    false
+
+    ghost respects = { λ p. same_extensions ⟦<Extension<'a> as Form>⟧ };
 }
 
 /// Whether an extension of an entry has this identifier and is critical, or is not.
-fn entry_has_criticality_of(
-    entries: &[RevokedCertificate<'_>],
+fn entry_has_criticality_of<'a>(
+    alloc: Global,
+    entries: &ListRef<'a, RevokedCertificate<'a>>,
     identifier: &[u8],
     critical: bool,
 ) -> bool
-    ensures { result ≡ entry_has_criticality identifier.now critical entries.now }
+    ensures { (shown : List (Option (List Extension)))
+        → AreShown ⟦<RevokedCertificate<'a> as Form>⟧ (EntryShows ⟦<Extension<'a> as Form>⟧) (list_ref.octets_of entries.now) shown
+        → result ≡ entry_has_criticality identifier.now critical shown }
 {
-    let mut left = entries;
-    'each: while let [entry, others @ ..] = left {
-        if entry_has(entry, identifier, critical) {
-            return true;
-        }
-        left = others;
-    }
-    false
+    let test = HasCriticalityWithin {
+        alloc,
+        identifier,
+        critical,
+    };
+    one_passes(entries.iter(alloc), &test)
 }
 
-/// The same of one entry.
-fn entry_has(entry: &RevokedCertificate<'_>, identifier: &[u8], critical: bool) -> bool
-    ensures { result ≡ has_criticality identifier.now critical (listed (entry_fields.crl_entry_extensions entry.now)) }
-{
-    match entry.crl_entry_extensions() {
-        Some(extensions) => has_criticality_of(extensions.as_slice(), identifier, critical),
-        None => false,
+/// That an extension of an entry has this identifier and is critical, or is not.
+#[derive(Drop)]
+struct HasCriticalityWithin<'b> {
+    alloc: Global,
+    identifier: &'b [u8],
+    critical: bool,
+}
+
+impl<'a, 'b> ShownTest<RevokedCertificate<'a>> for HasCriticalityWithin<'b> {
+    ghost use Rattle.std.specs.Prelude.{List, Option};
+    ghost use Rattle.der_pkix.specs.declared.certificate.extension.Extension.{Extension};
+    ghost use Rattle.der_verify.specs.EqualEncodings.{same_extensions};
+    ghost use Rattle.der_verify.specs.Rfc5280Lists.{has_criticality_within, EntryShows};
+
+    ghost Shown = { Option (List Extension) };
+
+    ghost shows = { λ p. EntryShows ⟦<Extension<'a> as Form>⟧ };
+
+    ghost passes = { λ p. has_criticality_within p.identifier.now p.critical };
+
+    fn passes(&self, item: &RevokedCertificate<'a>) -> bool {
+        match item.crl_entry_extensions() {
+            Some(extensions) => {
+                has_criticality_of(
+                    self.alloc,
+                    extensions.items(),
+                    self.identifier,
+                    self.critical,
+                )
+            }
+            None => false,
+        }
     }
+
+    ghost respects = { λ p. same_extensions ⟦<Extension<'a> as Form>⟧ };
 }

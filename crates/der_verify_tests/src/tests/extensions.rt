@@ -18,7 +18,7 @@ fn extension_told(
 ) -> Result<Option<(bool, Vec<u8>)>, u8> {
     match Certificate::from_der(alloc, octets) {
         Ok(certificate) => match certificate.tbs_certificate().extensions() {
-            Some(extensions) => match find_extension(extensions.as_slice(), identifier) {
+            Some(extensions) => match find_extension(alloc, extensions, identifier) {
                 Ok(Some(extension)) => {
                     let value = copied(alloc, extension.extn_value().as_bytes())?;
                     Ok(Some((extension.critical(), value)))

@@ -55,22 +55,45 @@ fn numbers_to(alloc: Global, count: u16) -> Result<Vec<u16>, AllocError> {
     Ok(numbers)
 }
 
-/// The processor time that checking the certificate of these octets takes, so many times.
-fn time_of(rt: &impl CpuClock, alloc: Global, octets: &[u8], times: u32) -> Result<Duration, Fail> {
-    let certificate = Certificate::from_der(alloc, octets)?;
+/// The processor time of asking, so many times, whether a certificate has an extension that stands twice.
+fn time_to_ask(
+    rt: &impl CpuClock,
+    alloc: Global,
+    certificate: &Certificate,
+    times: u32,
+) -> Result<Duration, Fail> {
     let begin = rt.thread_cpu_time()?;
     for _ in 0..times {
-        if !check_certificate(alloc, &certificate)?.is_empty() {
-            return Err(Fail::from("a rule is broken"));
+        if CertificateRule::ExtensionsStandOnce.is_broken_in(alloc, certificate)? {
+            return Err(Fail::from("an extension stands twice"));
         }
     }
     let end = rt.thread_cpu_time()?;
     Ok(end.saturating_sub(begin))
 }
 
-/// Where n extensions take n log n comparisons, one check of 2,048 takes little more than 16 checks of
-/// 128; where each is compared with all behind it, 16 times as much. The better of three trials says it,
-/// since other programs run beside.
+/// The same of the certificate of these octets.
+fn time_of(rt: &impl CpuClock, alloc: Global, octets: &[u8], times: u32) -> Result<Duration, Fail> {
+    match Certificate::from_der(alloc, octets) {
+        Ok(certificate) => time_to_ask(rt, alloc, &certificate, times),
+        Err(e) => Err(Fail::from(e)),
+    }
+}
+
+/// The rules that the certificate of these octets breaks.
+fn rules_of(alloc: Global, octets: &[u8]) -> Result<Vec<CertificateRule>, Fail> {
+    match Certificate::from_der(alloc, octets) {
+        Ok(certificate) => match check_certificate(alloc, &certificate) {
+            Ok(found) => Ok(found),
+            Err(e) => Err(Fail::from(e)),
+        },
+        Err(e) => Err(Fail::from(e)),
+    }
+}
+
+/// Where n extensions take n log n comparisons, asking once of 2,048 takes little more than asking 16
+/// times of 128; where each is compared with all behind it, many times as much. The better of three trials
+/// says it, since other programs run beside.
 #[test]
 fn many_extensions_take_little_more_time_each(rt: HostRuntime) -> Result<(), Fail> {
     let alloc = rt.alloc();
@@ -97,8 +120,7 @@ fn one_of_many_that_stands_twice_is_found(rt: HostRuntime) -> Result<(), Fail> {
     ] {
         numbers.push(number)?;
         let octets = certificate_with(alloc, numbers.as_slice())?;
-        let certificate = Certificate::from_der(alloc, octets.as_slice())?;
-        let found = check_certificate(alloc, &certificate)?;
+        let found = rules_of(alloc, octets.as_slice())?;
         same(&rt, found.as_slice(), rules);
         numbers.truncate(300);
     }

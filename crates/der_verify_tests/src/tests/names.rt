@@ -9,9 +9,9 @@ use std::process::Abort;
 use std::test::Fail;
 
 // Whether the names that two encodings have match.
-fn matching_told(alloc: Global, first: &[u8], second: &[u8]) -> Result<bool, u8> {
+fn matching_told<'a>(alloc: Global, first: &'a [u8], second: &'a [u8]) -> Result<bool, u8> {
     match (Name::from_der(alloc, first), Name::from_der(alloc, second)) {
-        (Ok(first), Ok(second)) => Ok(names_match(&first, &second)),
+        (Ok(first), Ok(second)) => Ok(names_match(alloc, &first, &second)),
         (Err(e), _) => Err(e.kind().number()),
         (Ok(_), Err(e)) => Err(e.kind().number()),
     }
@@ -143,29 +143,30 @@ fn names_are_compared(rt: HostRuntime) -> Result<(), Fail> {
         ),
         ("3000", "3000", true),
         ("3000", "300f310d300b06035504030c046d696c6c", false),
-        // attributes of one part in another order, one that stands twice, and one more
+        // attributes of one part in the same order, and in another one, which spaces make longer; one that
+        // stands twice, and one more
         (
-            "301b3119300b06035504030c046d696c6c300a060355040a0c03727965",
-            "301b3119300b060355040313046d696c6c300a060355040a1303527965",
+            "301b3119300a060355040a0c03727965300b06035504030c046d696c6c",
+            "301b3119300a060355040a1303527965300b060355040313046d696c6c",
             true,
         ),
         (
-            "30193117300b06035504030c046d696c6c3008060355040a0c0161",
-            "301931173008060355040a130141300b060355040313044d494c4c",
+            "301931173008060355040a0c0161300b06035504030c046d696c6c",
+            "3020311e300b060355040313044d494c4c300f060355040a13082020204120202020",
             true,
         ),
         (
             "301631143008060355040313016130080603550403130162",
-            "3016311430080603550403130141300806035504030c0161",
+            "30163114300806035504030c016130080603550403130141",
             false,
         ),
         (
-            "3016311430080603550403130141300806035504030c0161",
+            "30163114300806035504030c016130080603550403130141",
             "301631143008060355040313016130080603550403130162",
             false,
         ),
         (
-            "301b3119300b06035504030c046d696c6c300a060355040a0c03727965",
+            "301b3119300a060355040a0c03727965300b06035504030c046d696c6c",
             "300f310d300b06035504030c046d696c6c",
             false,
         ),

@@ -30,7 +30,7 @@ fn is_alone(alloc: Global, octets: &[u8], rule: CertificateRule) -> Result<bool,
     match Certificate::from_der(alloc, octets) {
         Ok(certificate) => {
             for other in CERTIFICATE_RULES {
-                if other.is_broken(&certificate) != (other == rule) {
+                if other.is_broken(alloc, &certificate) != (other == rule) {
                     return Ok(false);
                 }
             }

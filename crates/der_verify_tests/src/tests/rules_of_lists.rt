@@ -30,7 +30,7 @@ fn is_alone(alloc: Global, octets: &[u8], rule: ListRule) -> Result<bool, u8> {
     match CertificateList::from_der(alloc, octets) {
         Ok(list) => {
             for other in LIST_RULES {
-                if other.is_broken(&list) != (other == rule) {
+                if other.is_broken(alloc, &list) != (other == rule) {
                     return Ok(false);
                 }
             }

@@ -34,7 +34,7 @@ fn encoding(alloc: Global, tag: u8, contents: &[u8]) -> Result<Vec<u8>, AllocErr
     octets.push(tag)?;
     let count = contents.len();
     if count > 255 {
-        octets.extend_from_slice(&[0x82, (count / 256) as u8])?;
+        octets.extend_from_slice(&[0x82, (count / 256 % 256) as u8])?;
     } else if count > 127 {
         octets.push(0x81)?;
     }
@@ -45,7 +45,7 @@ fn encoding(alloc: Global, tag: u8, contents: &[u8]) -> Result<Vec<u8>, AllocErr
 
 fn holds_of(alloc: Global, octets: &[u8]) -> Result<bool, u8> {
     match Name::from_der(alloc, octets) {
-        Ok(name) => Ok(sizes_hold(&name)),
+        Ok(name) => Ok(sizes_hold(alloc, &name)),
         Err(e) => Err(e.kind().number()),
     }
 }

@@ -1,9 +1,13 @@
-use Rattle.std.proofs.Common.{◌≡◌, length}
-use Rattle.der_verify.specs.Extensions.{with_identifier}
+use Rattle.std.proofs.Common.{length}
+use Rattle.der_lists.specs.ListRef.{octets_of}
+use Rattle.der_lists.specs.ReadingOn.{octets_to_come}
+use Rattle.der_pkix.specs.Certificate.Extensions.{items_of}
+use Rattle.der_verify.specs.contracts.shown.MeaningsMeantExtension.TheImpl as extension
+use Rattle.der_verify.proofs.FindingOne.{StillFinds}
 use Rattle.der_verify.proofs.extensions.find_extension.Given as goal
 
 abbrev pub invariant-each : goal.invariant-each
-invariant-each l = with_identifier l.identifier l.left ≡ with_identifier l.identifier l.extensions
+invariant-each l = StillFinds extension.ghosts.FORM l.identifier (octets_of (items_of l.fn.extensions)) l.left
 
 abbrev pub decreases-each : goal.decreases-each
-decreases-each l = length l.left
+decreases-each l = length (octets_to_come l.left)

@@ -1,15 +1,25 @@
 -- An identifier is seen once more, or is one of those that were seen.
-use Rattle.std.proofs.Common.{ap, refl, subst, sym, ◌∙◌}
+use Rattle.std.proofs.Common.{ap, subst, sym, ◌∙◌}
+use Rattle.der_lists.specs.ListRef as list
 use Rattle.der_opaque.specs.ObjectIdentifierRef as identifier
-use Rattle.der_verify.proofs.Repeats.{is_among, Joins, not_seen, nothing_seen, was_absent}
+use Rattle.der_verify.specs.EqualEncodings.{same_extension}
+use Rattle.der_verify.specs.contracts.shown.MeaningsMeantExtension.TheImpl as extension_meaning
+use Rattle.der_verify.proofs.Repeats.{is_among, Joins, repeats_begin, repeats_end, repeats_here, repeats_on, was_absent, was_present}
 use Rattle.der_verify.proofs.rfc5280.repeated.one_repeats.Goals as goal
 
 pub each-init : goal.each-init
-each-init c = nothing_seen c.new-seen.result.keys c.args.extensions.now c.new-seen.ensures.empty
+each-init c = repeats_begin extension_meaning.ghosts.FORM (list.octets_of c.args.extensions.now) c.new-seen.result.keys c.iter-left.result c.new-seen.ensures.empty c.args.extensions.now.octets.short c.iter-left.ensures.octets
+
+pub returns-then-not-branch : goal.returns-then-not-branch
+returns-then-not-branch c =
+    repeats_here extension_meaning.ghosts.FORM (list.octets_of c.args.extensions.now) (λ v w e. (same_extension v w e).identifier) c.each.seen.keys c.each.left c.next.new.self c.in-Ok.extension c.each.invariant (rw c.in-Ok.is at c.in-Some.ensures.steps)
+    (ap (is_among c.each.seen.keys) (sym (c.as_bytes.ensures.value ∙ ap identifier.octets_of c.extn_id.ensures)) ∙ was_present _ _ c.in_ok-insert.ensures.added c.if-not-branch.true)
 
 pub each-preserved : goal.each-preserved
 each-preserved c =
-    let key = c.as_bytes.ensures.value ∙ ap identifier.octets_of c.extn_id.ensures in
-    not_seen c.each.seen.keys c.insert.new.self.keys c.each.left.now c.args.extensions.now c.extension-item.result _ _ c.each.invariant c.in-len1-up.len_at_least c.extension-item.is refl
-    (ap (is_among c.each.seen.keys) (sym key) ∙ was_absent _ _ c.in_ok-insert.ensures.added c.if-not-branch.false)
-    (subst (Joins c.each.seen.keys c.insert.new.self.keys) key c.in_ok-insert.ensures.updates.0)
+    repeats_on extension_meaning.ghosts.FORM (list.octets_of c.args.extensions.now) (λ v w e. (same_extension v w e).identifier) c.each.seen.keys c.insert.new.self.keys c.each.left c.next.new.self c.in-Ok.extension c.each.invariant (rw c.in-Ok.is at c.in-Some.ensures.steps)
+    (ap (is_among c.each.seen.keys) (sym (c.as_bytes.ensures.value ∙ ap identifier.octets_of c.extn_id.ensures)) ∙ was_absent _ _ c.in_ok-insert.ensures.added c.if-not-branch.false)
+    (subst (Joins c.each.seen.keys c.insert.new.self.keys) (c.as_bytes.ensures.value ∙ ap identifier.octets_of c.extn_id.ensures) c.in_ok-insert.ensures.updates.0)
+
+pub returns : goal.returns
+returns c = repeats_end extension_meaning.ghosts.FORM (list.octets_of c.args.extensions.now) c.each.seen.keys c.each.left c.next.new.self c.each.invariant (rw c.in_default.is at c.next.ensures.steps)

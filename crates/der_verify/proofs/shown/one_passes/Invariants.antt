@@ -1,0 +1,10 @@
+use Rattle.std.proofs.Common.{length}
+use Rattle.der_lists.specs.ReadingOn.{octets_to_come}
+use Rattle.der_verify.proofs.ShownItems.{SomeLeft}
+use Rattle.der_verify.proofs.shown.one_passes.Given as goal
+
+abbrev pub invariant-each : goal.invariant-each
+invariant-each g l = SomeLeft g.T.Form (g.P.ShownTest.shows l.test) (g.P.ShownTest.passes l.test) l.fn.items l.left
+
+abbrev pub decreases-each : goal.decreases-each
+decreases-each g l = length (octets_to_come l.left)
