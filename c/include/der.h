@@ -12,9 +12,8 @@
  *   - a pointer with a length points to so many octets, which nothing writes during the call (a null pointer with length
  *     0 stands for no octets, and with another it is refused, 101);
  *   - `out`, `fault`, a room and the octets do not overlap;
- *   - no call from a signal handler, or in a process that was forked from one with threads: the calls that read lists (of
- *     extensions, entries, attributes, answers, signers) take memory from malloc, and give it back; so do der_canonical and
- *     the calls that check.
+ *   - no call of der_canonical from a signal handler, or in a process that was forked from one with threads: it takes
+ *     memory from malloc, and gives it back. No other call takes memory.
  */
 #ifndef DER_H
 #define DER_H
@@ -32,7 +31,7 @@ extern "C" {
  * number never changes its meaning. */
 enum der_number {
     DER_OK = 0,
-    DER_MEMORY = 1,             /* memory ran out */
+    DER_MEMORY = 1,             /* memory ran out, in der_canonical */
     DER_INCOMPLETE = 2,         /* the octets end too soon */
     DER_TRAILING_DATA = 3,      /* octets are left over after a value */
     DER_TAG_UNEXPECTED = 4,     /* another tag stands there than may stand there */
@@ -398,8 +397,8 @@ uint32_t der_check_rfc5280_list(const uint8_t *octets, size_t len, uint32_t *bro
  * room and `written` are as they were.
  *
  * The names are those of certview lines ("cert", "crl", "spki", "pkcs8", "keyusage" ..) and of derview ("i64", "oid",
- * "utctime" ..); docs/FORMAT.md has them. What is read is DER, so its encoding is the octets that were read, but of the types
- * of sets that are read in another order than DER's, and written in order: as many octets in any case. */
+ * "utctime" ..); docs/FORMAT.md has them. The encoding is the octets that were read, but of derview's types of
+ * sets that are read in any order, and written in order: as many octets in any case. A set of a message stays as it came. */
 uint32_t der_canonical(const uint8_t *name, size_t name_len, const uint8_t *octets, size_t len, uint8_t *room,
                        size_t room_len, size_t *written, der_fault *fault);
 

@@ -11,7 +11,7 @@ use std::alloc::{AllocError, Global};
 /// Adds for each what is there to be had, and where.
 pub fn push_access(alloc: Global, page: &mut Page, inner: Inner<'_>) -> Result<(), AllocError> {
     match AuthorityInfoAccessSyntax::from_der(alloc, inner.octets) {
-        Ok(ways) => push_ways(alloc, page, ways.as_slice()),
+        Ok(ways) => push_ways(alloc, page, &ways),
         Err(error) => {
             page.text.push_str(", ")?;
             push_malformed(page, inner.begin, error)
@@ -22,14 +22,22 @@ pub fn push_access(alloc: Global, page: &mut Page, inner: Inner<'_>) -> Result<(
 fn push_ways(
     alloc: Global,
     page: &mut Page,
-    ways: &[AccessDescription<'_>],
+    ways: &AuthorityInfoAccessSyntax<'_>,
 ) -> Result<(), AllocError> {
-    for way in ways {
-        page.text.push_str(", ")?;
-        let method = way.access_method();
-        push_identifier(alloc, page, method.as_bytes())?;
-        page.text.push(' ')?;
-        push_other_name(alloc, page, way.access_location())?;
+    for item in ways.items().iter(alloc) {
+        let Ok(way) = item else {
+            // It was read before.
+            return Err(AllocError);
+        };
+        push_way(alloc, page, &way)?;
     }
     Ok(())
+}
+
+fn push_way(alloc: Global, page: &mut Page, way: &AccessDescription<'_>) -> Result<(), AllocError> {
+    page.text.push_str(", ")?;
+    let method = way.access_method();
+    push_identifier(alloc, page, method.as_bytes())?;
+    page.text.push(' ')?;
+    push_other_name(alloc, page, way.access_location())
 }

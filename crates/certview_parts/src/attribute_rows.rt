@@ -9,6 +9,7 @@ use crate::page::Page;
 use crate::place::{Place, inner_at};
 use crate::rows::push_malformed_row;
 use der_asn1_types::FromDer;
+use der_asn1_types::asn1::AnyRef;
 use der_pkcs::request::constants::PKCS_9_AT_EXTENSION_REQUEST;
 use der_pkix::name::Attribute;
 use der_places::places_of;
@@ -58,23 +59,37 @@ fn push_attribute(
 }
 
 /// Adds the values of an attribute, each after a comma, and ends the line. One that is alone ends where
-/// the attribute does; several may stand in another order than they are shown in.
+/// the attribute does; where each of several ends is not told.
 fn push_values(
     alloc: Global,
     page: &mut Page,
     place: &Place,
     attribute: &Attribute<'_>,
 ) -> Result<(), AllocError> {
-    let values = attribute.values().as_slice();
-    let end = match values.len() {
-        1 => Some(place.behind() as usize),
+    let values = attribute.values();
+    let end = match values.count(alloc) {
+        Ok(1) => Some(place.behind() as usize),
         _ => None,
     };
-    for value in values {
-        page.text.push_str(", ")?;
-        push_any(alloc, page, end, value)?;
+    for item in values.iter(alloc) {
+        let Ok(value) = item else {
+            // It was read before.
+            return Err(AllocError);
+        };
+        push_value(alloc, page, end, &value)?;
     }
     page.text.push('\n')
+}
+
+/// Adds a value after a comma.
+fn push_value(
+    alloc: Global,
+    page: &mut Page,
+    end: Option<usize>,
+    value: &AnyRef<'_>,
+) -> Result<(), AllocError> {
+    page.text.push_str(", ")?;
+    push_any(alloc, page, end, value)
 }
 
 /// Adds the lines of the extensions that are asked for: of each value of the set.

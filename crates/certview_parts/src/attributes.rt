@@ -17,7 +17,7 @@ pub fn push_directory_attributes(
     inner: Inner<'_>,
 ) -> Result<(), AllocError> {
     match SubjectDirectoryAttributes::from_der(alloc, inner.octets) {
-        Ok(attributes) => push_each(alloc, page, attributes.as_slice()),
+        Ok(attributes) => push_each(alloc, page, &attributes),
         Err(error) => {
             page.text.push_str(", ")?;
             push_malformed(page, inner.begin, error)
@@ -28,24 +28,46 @@ pub fn push_directory_attributes(
 fn push_each(
     alloc: Global,
     page: &mut Page,
-    attributes: &[Attribute<'_>],
+    attributes: &SubjectDirectoryAttributes<'_>,
 ) -> Result<(), AllocError> {
-    for attribute in attributes {
-        page.text.push_str(", ")?;
-        let identifier = attribute.type_();
-        push_attribute_type(alloc, page, identifier.as_bytes())?;
-        push_values(alloc, page, attribute.values().as_slice())?;
+    for item in attributes.items().iter(alloc) {
+        let Ok(attribute) = item else {
+            // It was read before.
+            return Err(AllocError);
+        };
+        push_attribute(alloc, page, &attribute)?;
     }
     Ok(())
 }
 
-/// Adds the values of an attribute, the first after a `=`, and each other after a `+`.
-fn push_values(alloc: Global, page: &mut Page, values: &[AnyRef<'_>]) -> Result<(), AllocError> {
+/// Adds an attribute: its values, the first after a `=`, and each other after a `+`.
+fn push_attribute(
+    alloc: Global,
+    page: &mut Page,
+    attribute: &Attribute<'_>,
+) -> Result<(), AllocError> {
+    page.text.push_str(", ")?;
+    let identifier = attribute.type_();
+    push_attribute_type(alloc, page, identifier.as_bytes())?;
     let mut mark = '=';
-    for value in values {
-        page.text.push(mark)?;
-        push_value(alloc, page, value, Behind::Mark)?;
+    for item in attribute.values().iter(alloc) {
+        let Ok(value) = item else {
+            // It was read before.
+            return Err(AllocError);
+        };
+        push_marked(alloc, page, mark, &value)?;
         mark = '+';
     }
     Ok(())
+}
+
+/// Adds a value after a mark.
+fn push_marked(
+    alloc: Global,
+    page: &mut Page,
+    mark: char,
+    value: &AnyRef<'_>,
+) -> Result<(), AllocError> {
+    page.text.push(mark)?;
+    push_value(alloc, page, value, Behind::Mark)
 }

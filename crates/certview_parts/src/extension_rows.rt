@@ -18,16 +18,30 @@ pub fn push_extension_rows(
     octets: &[u8],
     list: &Place,
     label: &str,
-    extensions: &[Extension<'_>],
+    extensions: &Extensions<'_>,
 ) -> Result<(), AllocError> {
-    let mut items = Items::within(octets, list);
-    for extension in extensions {
-        let place = items.next_item().unwrap_or(nowhere());
-        push_label(page, &place, label)?;
-        push_extension(alloc, page, &place, extension)?;
-        page.text.push('\n')?;
+    let mut places = Items::within(octets, list);
+    for item in extensions.items().iter(alloc) {
+        let place = places.next_item().unwrap_or(nowhere());
+        let Ok(extension) = item else {
+            // It was read before.
+            return Err(AllocError);
+        };
+        push_extension_row(alloc, page, &place, label, &extension)?;
     }
     Ok(())
+}
+
+fn push_extension_row(
+    alloc: Global,
+    page: &mut Page,
+    place: &Place,
+    label: &str,
+    extension: &Extension<'_>,
+) -> Result<(), AllocError> {
+    push_label(page, place, label)?;
+    push_extension(alloc, page, place, extension)?;
+    page.text.push('\n')
 }
 
 /// Adds a line for each extension of a list that may be absent, and stands after an explicit tag.
@@ -46,7 +60,7 @@ pub fn push_explicit_extensions(
             octets,
             &contents_of(octets, *place),
             label,
-            extensions.as_slice(),
+            extensions,
         ),
         None => Ok(()),
     }
@@ -61,14 +75,9 @@ pub fn push_read_extensions(
 ) -> Result<(), AllocError> {
     let inner = inner_at(octets, list);
     match Extensions::from_der(alloc, inner.octets) {
-        Ok(extensions) => push_extension_rows(
-            alloc,
-            page,
-            octets,
-            list,
-            "extension",
-            extensions.as_slice(),
-        ),
+        Ok(extensions) => {
+            push_extension_rows(alloc, page, octets, list, "extension", &extensions)
+        }
         Err(error) => push_malformed_row(page, list, "extensions", inner.begin, error),
     }
 }

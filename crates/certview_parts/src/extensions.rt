@@ -6,40 +6,19 @@ use crate::constraints::{push_constraints, push_number, push_policy_constraints}
 use crate::entries::{push_instruction, push_invalidity, push_reason};
 use crate::hexadecimal::push_digits;
 use crate::identifiers::push_identifier;
-use crate::items::Items;
 use crate::key_identifiers::{push_authority_key, push_subject_key};
-use crate::labels::push_label;
 use crate::other_names::push_other_names;
 use crate::page::{Inner, Page};
 use crate::periods::push_period;
-use crate::place::{Place, nowhere};
+use crate::place::Place;
 use crate::points::{push_issuing_point, push_points};
 use crate::policies::{push_mappings, push_policies};
 use crate::private_extensions::push_private;
 use crate::subtrees::push_name_constraints;
 use crate::usages::{push_purposes, push_usage};
 use der_pkix::certificate::Extension;
-use der_places::contents_of;
 use std::alloc::{AllocError, Global};
 use std::fmt::Write;
-
-/// Adds a line for each extension. They stand after an explicit tag, in a list.
-pub fn push_extensions(
-    alloc: Global,
-    page: &mut Page,
-    octets: &[u8],
-    place: &Place,
-    extensions: &[Extension<'_>],
-) -> Result<(), AllocError> {
-    let mut items = Items::within(octets, &contents_of(octets, *place));
-    for extension in extensions {
-        let place = items.next_item().unwrap_or(nowhere());
-        push_label(page, &place, "extension")?;
-        push_extension(alloc, page, &place, extension)?;
-        page.text.push('\n')?;
-    }
-    Ok(())
-}
 
 /// Adds an extension: what it is, whether it is critical, and its value.
 pub fn push_extension(

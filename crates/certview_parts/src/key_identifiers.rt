@@ -47,7 +47,7 @@ fn push_authority(
         push_with_colons(page, identifier.as_bytes())?;
     }
     if let Some(names) = authority.authority_cert_issuer() {
-        push_names(alloc, page, "issuer ", names.as_slice())?;
+        push_names(alloc, page, "issuer ", names)?;
     }
     match authority.authority_cert_serial_number() {
         Some(number) => {

@@ -7,71 +7,88 @@ use crate::irregular::note_value;
 use crate::labels::push_label;
 use crate::page::Page;
 use crate::place::Place;
-use der_asn1_types::asn1::{AnyRef, Kept};
+use der_asn1_types::asn1::AnyRef;
 use der_asn1_types::{Encode, Tag};
-use der_modules::copy_of;
 use der_pkix::name::{AttributeTypeAndValue, Name, RelativeDistinguishedName};
 use std::alloc::{AllocError, Global};
 
 /// Adds a line with a name.
-pub fn push_name<'a>(
+pub fn push_name(
     alloc: Global,
     page: &mut Page,
     place: &Place,
     label: &str,
-    name: &Kept<'a, Name<'a>>,
+    name: &Name<'_>,
 ) -> Result<(), AllocError> {
     push_label(page, place, label)?;
-    push_kept(alloc, page, copy_of(name))?;
+    push_places(alloc, page, name, Behind::Mark)?;
     page.text.push('\n')
-}
-
-/// Adds a name that was kept as it came once it was read, so that only memory can be refused.
-pub fn push_kept<'a>(
-    alloc: Global,
-    page: &mut Page,
-    name: Kept<'a, Name<'a>>,
-) -> Result<(), AllocError> {
-    match name.value(alloc) {
-        Ok(name) => push_places(alloc, page, name.as_slice(), Behind::Mark),
-        Err(_) => Err(AllocError),
-    }
 }
 
 /// Adds the places of a name.
 pub fn push_places(
     alloc: Global,
     page: &mut Page,
-    places: &[RelativeDistinguishedName<'_>],
+    name: &Name<'_>,
     behind: Behind,
 ) -> Result<(), AllocError> {
     let mut is_first = true;
-    for place in places {
-        if !is_first {
-            page.text.push_str(", ")?;
-        }
+    for item in name.items().iter(alloc) {
+        let Ok(place) = item else {
+            // It was read before.
+            return Err(AllocError);
+        };
+        push_next_place(alloc, page, is_first, &place, behind)?;
         is_first = false;
-        push_attributes(alloc, page, place.as_slice(), behind)?;
     }
     Ok(())
+}
+
+/// Adds a place of a name, after a comma if it is not the first.
+fn push_next_place(
+    alloc: Global,
+    page: &mut Page,
+    is_first: bool,
+    place: &RelativeDistinguishedName<'_>,
+    behind: Behind,
+) -> Result<(), AllocError> {
+    if !is_first {
+        page.text.push_str(", ")?;
+    }
+    push_attributes(alloc, page, place, behind)
 }
 
 /// Adds the attributes of a place of a name.
 pub fn push_attributes(
     alloc: Global,
     page: &mut Page,
-    attributes: &[AttributeTypeAndValue<'_>],
+    place: &RelativeDistinguishedName<'_>,
     behind: Behind,
 ) -> Result<(), AllocError> {
     let mut is_first = true;
-    for attribute in attributes {
-        if !is_first {
-            page.text.push('+')?;
-        }
+    for item in place.items().iter(alloc) {
+        let Ok(attribute) = item else {
+            // It was read before.
+            return Err(AllocError);
+        };
+        push_next_attribute(alloc, page, is_first, &attribute, behind)?;
         is_first = false;
-        push_attribute(alloc, page, attribute, behind)?;
     }
     Ok(())
+}
+
+/// Adds an attribute, after a `+` if it is not the first of its place.
+fn push_next_attribute(
+    alloc: Global,
+    page: &mut Page,
+    is_first: bool,
+    attribute: &AttributeTypeAndValue<'_>,
+    behind: Behind,
+) -> Result<(), AllocError> {
+    if !is_first {
+        page.text.push('+')?;
+    }
+    push_attribute(alloc, page, attribute, behind)
 }
 
 /// Adds an attribute.

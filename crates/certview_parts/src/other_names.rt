@@ -6,7 +6,7 @@ use crate::identifiers::push_identifier;
 use crate::names::{push_places, push_value};
 use crate::page::{Inner, Page, push_malformed};
 use der_asn1_types::{Encode, FromDer};
-use der_extensions::extension::{GeneralName, SubjectAltName};
+use der_extensions::extension::{GeneralName, GeneralNames, SubjectAltName};
 use std::alloc::{AllocError, Global};
 use std::fmt::Write;
 use std::net::Ipv6Addr;
@@ -18,7 +18,7 @@ pub fn push_other_names(
     inner: Inner<'_>,
 ) -> Result<(), AllocError> {
     match SubjectAltName::from_der(alloc, inner.octets) {
-        Ok(names) => push_names(alloc, page, "", names.as_slice()),
+        Ok(names) => push_names(alloc, page, "", &names),
         Err(error) => {
             page.text.push_str(", ")?;
             push_malformed(page, inner.begin, error)
@@ -31,14 +31,27 @@ pub fn push_names(
     alloc: Global,
     page: &mut Page,
     of: &str,
-    names: &[GeneralName<'_>],
+    names: &GeneralNames<'_>,
 ) -> Result<(), AllocError> {
-    for name in names {
-        page.text.push_str(", ")?;
-        page.text.push_str(of)?;
-        push_other_name(alloc, page, name)?;
+    for item in names.items().iter(alloc) {
+        let Ok(name) = item else {
+            // It was read before.
+            return Err(AllocError);
+        };
+        push_name_of(alloc, page, of, &name)?;
     }
     Ok(())
+}
+
+fn push_name_of(
+    alloc: Global,
+    page: &mut Page,
+    of: &str,
+    name: &GeneralName<'_>,
+) -> Result<(), AllocError> {
+    page.text.push_str(", ")?;
+    page.text.push_str(of)?;
+    push_other_name(alloc, page, name)
 }
 
 /// Adds a name: what it is of, and its value, behind which a word may stand.
@@ -59,7 +72,7 @@ pub fn push_other_name(
         GeneralName::DnsName(host) => push_text(page, "host ", host.value.as_str()),
         GeneralName::DirectoryName(directory) => {
             page.text.push_str("directory ")?;
-            push_places(alloc, page, directory.fields.first.as_slice(), Behind::Word)
+            push_places(alloc, page, &directory.fields.first, Behind::Word)
         }
         GeneralName::UniformResourceIdentifier(resource) => {
             push_text(page, "resource ", resource.value.as_str())

@@ -29,7 +29,7 @@ const REASONS: [&str; 9] = [
 /// Adds where lists are to be had.
 pub fn push_points(alloc: Global, page: &mut Page, inner: Inner<'_>) -> Result<(), AllocError> {
     match CrlDistributionPoints::from_der(alloc, inner.octets) {
-        Ok(points) => push_each(alloc, page, points.as_slice()),
+        Ok(points) => push_each(alloc, page, &points),
         Err(error) => {
             page.text.push_str(", ")?;
             push_malformed(page, inner.begin, error)
@@ -40,10 +40,14 @@ pub fn push_points(alloc: Global, page: &mut Page, inner: Inner<'_>) -> Result<(
 fn push_each(
     alloc: Global,
     page: &mut Page,
-    points: &[DistributionPoint<'_>],
+    points: &CrlDistributionPoints<'_>,
 ) -> Result<(), AllocError> {
-    for point in points {
-        push_point(alloc, page, point)?;
+    for item in points.items().iter(alloc) {
+        let Ok(point) = item else {
+            // It was read before.
+            return Err(AllocError);
+        };
+        push_point(alloc, page, &point)?;
     }
     Ok(())
 }
@@ -58,7 +62,7 @@ fn push_point(
     }
     push_reasons(page, ", reasons", point.reasons())?;
     match point.crl_issuer() {
-        Some(names) => push_names(alloc, page, "issuer ", names.as_slice()),
+        Some(names) => push_names(alloc, page, "issuer ", names),
         None => Ok(()),
     }
 }
@@ -124,15 +128,10 @@ fn push_point_name(
     name: &DistributionPointName<'_>,
 ) -> Result<(), AllocError> {
     match name {
-        DistributionPointName::FullName(names) => push_names(
-            alloc,
-            page,
-            "",
-            names.value.as_slice(),
-        ),
+        DistributionPointName::FullName(names) => push_names(alloc, page, "", &names.value),
         DistributionPointName::NameRelativeToCrlIssuer(name) => {
             page.text.push_str(", relative ")?;
-            push_attributes(alloc, page, name.value.as_slice(), Behind::Mark)
+            push_attributes(alloc, page, &name.value, Behind::Mark)
         }
     }
 }

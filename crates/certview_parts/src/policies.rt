@@ -10,12 +10,13 @@ use der_asn1_types::{Encode, ErrorKind, FromDer, Tag};
 use der_extensions::extension::{
     CertificatePolicies, PolicyInformation, PolicyMapping, PolicyMappings, PolicyQualifierInfo,
 };
+use der_lists::ListRef;
 use std::alloc::{AllocError, Global};
 
 /// Adds the policies, each with its qualifiers.
 pub fn push_policies(alloc: Global, page: &mut Page, inner: Inner<'_>) -> Result<(), AllocError> {
     match CertificatePolicies::from_der(alloc, inner.octets) {
-        Ok(policies) => push_each(alloc, page, policies.as_slice()),
+        Ok(policies) => push_each(alloc, page, &policies),
         Err(error) => {
             page.text.push_str(", ")?;
             push_malformed(page, inner.begin, error)
@@ -26,33 +27,58 @@ pub fn push_policies(alloc: Global, page: &mut Page, inner: Inner<'_>) -> Result
 fn push_each(
     alloc: Global,
     page: &mut Page,
-    policies: &[PolicyInformation<'_>],
+    policies: &CertificatePolicies<'_>,
 ) -> Result<(), AllocError> {
-    for policy in policies {
-        page.text.push_str(", ")?;
-        let identifier = policy.policy_identifier();
-        push_identifier(alloc, page, identifier.as_bytes())?;
-        if let Some(qualifiers) = policy.policy_qualifiers() {
-            push_qualifiers(alloc, page, qualifiers.list().as_slice())?;
-        }
+    for item in policies.items().iter(alloc) {
+        let Ok(policy) = item else {
+            // It was read before.
+            return Err(AllocError);
+        };
+        push_policy(alloc, page, &policy)?;
     }
     Ok(())
 }
 
-/// Adds each qualifier: what it is, and its characters or its encoding.
-fn push_qualifiers(
+fn push_policy(
     alloc: Global,
     page: &mut Page,
-    qualifiers: &[PolicyQualifierInfo<'_>],
+    policy: &PolicyInformation<'_>,
 ) -> Result<(), AllocError> {
-    for qualifier in qualifiers {
-        page.text.push_str(" with ")?;
-        let identifier = qualifier.policy_qualifier_id();
-        push_identifier(alloc, page, identifier.as_bytes())?;
-        page.text.push(' ')?;
-        push_qualifier(alloc, page, qualifier.qualifier())?;
+    page.text.push_str(", ")?;
+    let identifier = policy.policy_identifier();
+    push_identifier(alloc, page, identifier.as_bytes())?;
+    match policy.policy_qualifiers() {
+        Some(qualifiers) => push_qualifiers(alloc, page, qualifiers.list()),
+        None => Ok(()),
+    }
+}
+
+fn push_qualifiers<'a>(
+    alloc: Global,
+    page: &mut Page,
+    qualifiers: &ListRef<'a, PolicyQualifierInfo<'a>>,
+) -> Result<(), AllocError> {
+    for item in qualifiers.iter(alloc) {
+        let Ok(qualifier) = item else {
+            // It was read before.
+            return Err(AllocError);
+        };
+        push_qualifier_info(alloc, page, &qualifier)?;
     }
     Ok(())
+}
+
+/// Adds what a qualifier is, and its characters or its encoding.
+fn push_qualifier_info(
+    alloc: Global,
+    page: &mut Page,
+    qualifier: &PolicyQualifierInfo<'_>,
+) -> Result<(), AllocError> {
+    page.text.push_str(" with ")?;
+    let identifier = qualifier.policy_qualifier_id();
+    push_identifier(alloc, page, identifier.as_bytes())?;
+    page.text.push(' ')?;
+    push_qualifier(alloc, page, qualifier.qualifier())
 }
 
 /// Adds a qualifier: its characters; of a notice for users, which is a SEQUENCE, those of its parts.
@@ -90,7 +116,7 @@ fn push_parts(alloc: Global, page: &mut Page, parts: &[AnyRef<'_>]) -> Result<()
 /// Adds the policies that the issuer takes for others of the subject.
 pub fn push_mappings(alloc: Global, page: &mut Page, inner: Inner<'_>) -> Result<(), AllocError> {
     match PolicyMappings::from_der(alloc, inner.octets) {
-        Ok(mappings) => push_each_mapping(alloc, page, mappings.as_slice()),
+        Ok(mappings) => push_each_mapping(alloc, page, &mappings),
         Err(error) => {
             page.text.push_str(", ")?;
             push_malformed(page, inner.begin, error)
@@ -101,17 +127,29 @@ pub fn push_mappings(alloc: Global, page: &mut Page, inner: Inner<'_>) -> Result
 fn push_each_mapping(
     alloc: Global,
     page: &mut Page,
-    mappings: &[PolicyMapping<'_>],
+    mappings: &PolicyMappings<'_>,
 ) -> Result<(), AllocError> {
-    for mapping in mappings {
-        let (issuer, subject) = (
-            mapping.issuer_domain_policy(),
-            mapping.subject_domain_policy(),
-        );
-        page.text.push_str(", issuer's ")?;
-        push_identifier(alloc, page, issuer.as_bytes())?;
-        page.text.push_str(" is subject's ")?;
-        push_identifier(alloc, page, subject.as_bytes())?;
+    for item in mappings.items().iter(alloc) {
+        let Ok(mapping) = item else {
+            // It was read before.
+            return Err(AllocError);
+        };
+        push_mapping(alloc, page, &mapping)?;
     }
     Ok(())
+}
+
+fn push_mapping(
+    alloc: Global,
+    page: &mut Page,
+    mapping: &PolicyMapping<'_>,
+) -> Result<(), AllocError> {
+    let (issuer, subject) = (
+        mapping.issuer_domain_policy(),
+        mapping.subject_domain_policy(),
+    );
+    page.text.push_str(", issuer's ")?;
+    push_identifier(alloc, page, issuer.as_bytes())?;
+    page.text.push_str(" is subject's ")?;
+    push_identifier(alloc, page, subject.as_bytes())
 }

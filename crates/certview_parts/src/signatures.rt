@@ -2,14 +2,15 @@
 
 use crate::algorithms::push_algorithm;
 use crate::bit_strings::push_bits;
+use crate::characters::Behind;
 use crate::hexadecimal::push_serial;
 use crate::items::Items;
 use crate::labels::push_label;
-use crate::names::push_kept;
+use crate::names::push_places;
 use crate::page::Page;
 use crate::place::{Place, nowhere};
 use der_asn1_types::asn1::BitStringRef;
-use der_modules::copy_of;
+use der_lists::ListRef;
 use der_pkix::AlgorithmIdentifier;
 use der_pkix::certificate::Certificate;
 use std::alloc::{AllocError, Global};
@@ -36,17 +37,21 @@ pub fn push_signature_rows(
 }
 
 /// Adds a line for each certificate of a list.
-pub fn push_certificate_rows(
+pub fn push_certificate_rows<'a>(
     alloc: Global,
     page: &mut Page,
     octets: &[u8],
     list: &Place,
-    certificates: &[Certificate<'_>],
+    certificates: &ListRef<'a, Certificate<'a>>,
 ) -> Result<(), AllocError> {
-    let mut items = Items::within(octets, list);
-    for certificate in certificates {
-        let place = items.next_item().unwrap_or(nowhere());
-        push_certificate_row(alloc, page, &place, certificate)?;
+    let mut places = Items::within(octets, list);
+    for item in certificates.iter(alloc) {
+        let place = places.next_item().unwrap_or(nowhere());
+        let Ok(certificate) = item else {
+            // It was read before.
+            return Err(AllocError);
+        };
+        push_certificate_row(alloc, page, &place, &certificate)?;
     }
     Ok(())
 }
@@ -62,6 +67,6 @@ pub fn push_certificate_row(
     push_label(page, place, "certificate")?;
     push_serial(page, signed.serial_number().as_bytes())?;
     page.text.push_str(", ")?;
-    push_kept(alloc, page, copy_of(signed.subject()))?;
+    push_places(alloc, page, signed.subject(), Behind::Mark)?;
     page.text.push('\n')
 }

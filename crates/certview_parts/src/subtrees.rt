@@ -37,7 +37,7 @@ fn push_subtrees(
     subtrees: Option<&GeneralSubtrees<'_>>,
 ) -> Result<(), AllocError> {
     match subtrees {
-        Some(subtrees) => push_each(alloc, page, label, subtrees.as_slice()),
+        Some(subtrees) => push_each(alloc, page, label, subtrees),
         None => Ok(()),
     }
 }
@@ -46,14 +46,27 @@ fn push_each(
     alloc: Global,
     page: &mut Page,
     label: &str,
-    subtrees: &[GeneralSubtree<'_>],
+    subtrees: &GeneralSubtrees<'_>,
 ) -> Result<(), AllocError> {
-    for subtree in subtrees {
-        page.text.push_str(label)?;
-        push_other_name(alloc, page, subtree.base())?;
-        push_distances(page, subtree.minimum(), subtree.maximum())?;
+    for item in subtrees.items().iter(alloc) {
+        let Ok(subtree) = item else {
+            // It was read before.
+            return Err(AllocError);
+        };
+        push_subtree(alloc, page, label, &subtree)?;
     }
     Ok(())
+}
+
+fn push_subtree(
+    alloc: Global,
+    page: &mut Page,
+    label: &str,
+    subtree: &GeneralSubtree<'_>,
+) -> Result<(), AllocError> {
+    page.text.push_str(label)?;
+    push_other_name(alloc, page, subtree.base())?;
+    push_distances(page, subtree.minimum(), subtree.maximum())
 }
 
 /// Adds how far below the base the names begin and end, where that is said.

@@ -5,7 +5,7 @@ use crate::identifiers::push_identifier;
 use crate::page::{Inner, Page, push_malformed};
 use der_asn1_types::FromDer;
 use der_asn1_types::asn1::NamedBitsRef;
-use der_extensions::extension::{ExtKeyUsageSyntax, KeyPurposeId, KeyUsage};
+use der_extensions::extension::{ExtKeyUsageSyntax, KeyUsage};
 use std::alloc::{AllocError, Global};
 use std::fmt::Write;
 
@@ -64,7 +64,7 @@ fn push_other_bits(
 /// Adds the purposes.
 pub fn push_purposes(alloc: Global, page: &mut Page, inner: Inner<'_>) -> Result<(), AllocError> {
     match ExtKeyUsageSyntax::from_der(alloc, inner.octets) {
-        Ok(purposes) => push_each(alloc, page, purposes.as_slice()),
+        Ok(purposes) => push_each(alloc, page, &purposes),
         Err(error) => {
             page.text.push_str(", ")?;
             push_malformed(page, inner.begin, error)
@@ -72,10 +72,22 @@ pub fn push_purposes(alloc: Global, page: &mut Page, inner: Inner<'_>) -> Result
     }
 }
 
-fn push_each(alloc: Global, page: &mut Page, purposes: &[KeyPurposeId]) -> Result<(), AllocError> {
-    for purpose in purposes {
-        page.text.push_str(", ")?;
-        push_identifier(alloc, page, purpose.as_bytes())?;
+fn push_each(
+    alloc: Global,
+    page: &mut Page,
+    purposes: &ExtKeyUsageSyntax<'_>,
+) -> Result<(), AllocError> {
+    for item in purposes.items().iter(alloc) {
+        match item {
+            Ok(purpose) => push_purpose(alloc, page, purpose.as_bytes())?,
+            // It was read before.
+            Err(_) => return Err(AllocError),
+        }
     }
     Ok(())
+}
+
+fn push_purpose(alloc: Global, page: &mut Page, identifier: &[u8]) -> Result<(), AllocError> {
+    page.text.push_str(", ")?;
+    push_identifier(alloc, page, identifier)
 }

@@ -22,7 +22,7 @@ pub fn push_bags(
     match SafeContents::from_der(alloc, inner.octets) {
         Ok(bags) => {
             let list = contents_of(octets, *string);
-            push_each(alloc, page, octets, &list, bags.as_slice())
+            push_each(alloc, page, octets, &list, &bags)
         }
         Err(error) => push_malformed_row(page, string, "bags", inner.begin, error),
     }
@@ -33,12 +33,16 @@ fn push_each(
     page: &mut Page,
     octets: &[u8],
     list: &Place,
-    bags: &[SafeBag<'_>],
+    bags: &SafeContents<'_>,
 ) -> Result<(), AllocError> {
-    let mut items = Items::within(octets, list);
-    for bag in bags {
-        let place = items.next_item().unwrap_or(nowhere());
-        push_bag(alloc, page, octets, &place, bag)?;
+    let mut places = Items::within(octets, list);
+    for item in bags.items().iter(alloc) {
+        let place = places.next_item().unwrap_or(nowhere());
+        let Ok(bag) = item else {
+            // It was read before.
+            return Err(AllocError);
+        };
+        push_bag(alloc, page, octets, &place, &bag)?;
     }
     Ok(())
 }

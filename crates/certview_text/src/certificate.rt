@@ -12,7 +12,7 @@ use crate::moments::push_validity_at;
 use crate::whole::push_title;
 use certview_parts::algorithms::{push_algorithm, push_key};
 use certview_parts::bit_strings::push_bits;
-use certview_parts::extensions::push_extensions;
+use certview_parts::extension_rows::push_explicit_extensions;
 use certview_parts::hexadecimal::push_serial;
 use certview_parts::labels::push_label;
 use certview_parts::names::push_name;
@@ -57,10 +57,14 @@ fn push_fields(
     let signed = certificate.tbs_certificate();
     let within = places_of(signed, octets, at.tbs_certificate.offset);
     push_signed(alloc, page, octets, &within, signed)?;
-    if let Some(extensions) = signed.extensions() {
-        let list = within.extensions;
-        push_extensions(alloc, page, octets, &list, extensions.as_slice())?;
-    }
+    push_explicit_extensions(
+        alloc,
+        page,
+        octets,
+        &within.extensions,
+        "extension",
+        signed.extensions(),
+    )?;
     push_signature_rows(
         alloc,
         page,

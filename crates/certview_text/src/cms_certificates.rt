@@ -1,8 +1,9 @@
 //! Certificates and lists of revoked ones that messages of CMS carry, as text (RFC 5652 section 10.2).
 
+use certview_parts::characters::Behind;
 use certview_parts::items::Items;
 use certview_parts::labels::push_label;
-use certview_parts::names::push_kept;
+use certview_parts::names::push_places;
 use certview_parts::page::Page;
 use certview_parts::place::{Place, contents_at, inner_at};
 use certview_parts::rows::{push_identifier_row, push_length_row, push_malformed_inner_row};
@@ -10,7 +11,6 @@ use certview_parts::signatures::push_certificate_row;
 use certview_parts::times::push_time;
 use der_asn1_types::FromDer;
 use der_cms::cms::{CertificateChoices, RevocationInfoChoice};
-use der_modules::copy_of;
 use der_pkix::crl::CertificateList;
 use std::alloc::{AllocError, Global};
 
@@ -112,6 +112,6 @@ pub fn push_list_row(
     push_label(page, place, "list of revoked certificates")?;
     push_time(page, &signed.this_update())?;
     page.text.push_str(", ")?;
-    push_kept(alloc, page, copy_of(signed.issuer()))?;
+    push_places(alloc, page, signed.issuer(), Behind::Mark)?;
     page.text.push('\n')
 }

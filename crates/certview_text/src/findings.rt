@@ -4,7 +4,7 @@ use certview_parts::items::Items;
 use certview_parts::labels::push_label;
 use certview_parts::page::Page;
 use certview_parts::place::{Place, nowhere};
-use der_pkix::certificate::{Certificate, Extension, Extensions};
+use der_pkix::certificate::{Certificate, Extensions};
 use der_pkix::crl::CertificateList;
 use der_places::certificate::{CertificatePlaces, TbsCertificatePlaces};
 use der_places::crl::{CertificateListPlaces, TbsCertListPlaces};
@@ -41,6 +41,7 @@ pub fn push_certificate_findings(
         let finding = certificate_finding(*rule);
         let field = place_in_certificate(&at, &within, finding.field);
         let place = place_of(
+            alloc,
             octets,
             field,
             &within.extensions,
@@ -71,7 +72,7 @@ pub fn push_list_findings(
     for rule in rules.as_slice() {
         let finding = list_finding(*rule);
         let field = place_in_list(&at, &within, finding.field);
-        let place = place_of(octets, field, &site, extensions, &finding);
+        let place = place_of(alloc, octets, field, &site, extensions, &finding);
         push_finding(page, &place, rule.section(), &finding)?;
     }
     Ok(())
@@ -123,6 +124,7 @@ fn place_in_list(at: &CertificateListPlaces, within: &TbsCertListPlaces, field: 
 /// Where that stands which breaks a rule: an extension in the list of them, which stands after its tag, or
 /// a field.
 fn place_of(
+    alloc: Global,
     octets: &[u8],
     field: Place,
     list: &Place,
@@ -131,23 +133,25 @@ fn place_of(
 ) -> Place {
     match extensions {
         _ if finding.extension.is_empty() => field,
-        Some(some) => place_of_extension(octets, list, some.as_slice(), finding.extension),
+        Some(some) => place_of_extension(alloc, octets, list, some, finding.extension),
         None => *list,
     }
 }
 
 /// Where the first extension with this identifier stands; where there is none, the list.
 fn place_of_extension(
+    alloc: Global,
     octets: &[u8],
     list: &Place,
-    extensions: &[Extension<'_>],
+    extensions: &Extensions<'_>,
     identifier: &[u8],
 ) -> Place {
-    let mut items = Items::within(octets, &contents_of(octets, *list));
-    for extension in extensions {
-        let place = items.next_item().unwrap_or(nowhere());
-        if extension.extn_id().as_bytes() == identifier {
-            return place;
+    let mut places = Items::within(octets, &contents_of(octets, *list));
+    for item in extensions.items().iter(alloc) {
+        let place = places.next_item().unwrap_or(nowhere());
+        match item {
+            Ok(extension) if extension.extn_id().as_bytes() == identifier => return place,
+            _ => {}
         }
     }
     *list

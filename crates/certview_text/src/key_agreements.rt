@@ -12,7 +12,7 @@ use certview_parts::place::{Place, nowhere};
 use certview_parts::rows::push_octets_row;
 use der_enveloped::enveloped::{
     KeyAgreeRecipientIdentifier, KeyAgreeRecipientInfo, OriginatorIdentifierOrKey,
-    RecipientEncryptedKey,
+    RecipientEncryptedKey, RecipientEncryptedKeys,
 };
 use der_places::{contents_of, places_of};
 use std::alloc::{AllocError, Global};
@@ -42,7 +42,7 @@ pub fn push_agreement(
         page,
         octets,
         &at.recipient_encrypted_keys,
-        agreed.recipient_encrypted_keys().as_slice(),
+        agreed.recipient_encrypted_keys(),
     )
 }
 
@@ -77,18 +77,33 @@ fn push_encrypted_keys(
     page: &mut Page,
     octets: &[u8],
     list: &Place,
-    keys: &[RecipientEncryptedKey<'_>],
+    keys: &RecipientEncryptedKeys<'_>,
 ) -> Result<(), AllocError> {
-    let mut items = Items::within(octets, list);
-    for key in keys {
-        let place = items.next_item().unwrap_or(nowhere());
-        let at = places_of(key, octets, place.offset);
-        push_label(page, &at.rid, "recipient")?;
-        push_identifier_of(alloc, page, key.rid())?;
-        page.text.push('\n')?;
-        push_encrypted_key(page, &at.encrypted_key, key.encrypted_key().as_bytes())?;
+    let mut places = Items::within(octets, list);
+    for item in keys.items().iter(alloc) {
+        let place = places.next_item().unwrap_or(nowhere());
+        let Ok(key) = item else {
+            // It was read before.
+            return Err(AllocError);
+        };
+        push_agreed_key(alloc, page, octets, &place, &key)?;
     }
     Ok(())
+}
+
+/// Adds for whom a key is encrypted, and how many octets it has.
+fn push_agreed_key(
+    alloc: Global,
+    page: &mut Page,
+    octets: &[u8],
+    place: &Place,
+    key: &RecipientEncryptedKey<'_>,
+) -> Result<(), AllocError> {
+    let at = places_of(key, octets, place.offset);
+    push_label(page, &at.rid, "recipient")?;
+    push_identifier_of(alloc, page, key.rid())?;
+    page.text.push('\n')?;
+    push_encrypted_key(page, &at.encrypted_key, key.encrypted_key().as_bytes())
 }
 
 fn push_identifier_of(

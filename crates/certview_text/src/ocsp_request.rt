@@ -20,7 +20,7 @@ use certview_parts::signatures::{push_certificate_rows, push_signature_rows};
 use der_asn1_types::FromDer;
 use der_extensions::extension::GeneralName;
 use der_ocsp::ocsp::laws::grammar_of_ocsp_request;
-use der_ocsp::ocsp::{OcspRequest, Request, Signature, TbsRequest};
+use der_ocsp::ocsp::{OcspRequest, Request, Requests, Signature, TbsRequest};
 use der_places::{contents_of, places_of};
 use std::alloc::{AllocError, Global};
 
@@ -69,7 +69,7 @@ fn push_signed(
     let at = places_of(signed, octets, place.offset);
     push_version(page, &at.version, signed.version())?;
     push_requestor(alloc, page, &at.requestor_name, signed.requestor_name())?;
-    let requests = signed.request_list().as_slice();
+    let requests = signed.request_list();
     push_requests(alloc, page, octets, &at.request_list, requests)?;
     push_explicit_extensions(
         alloc,
@@ -103,23 +103,37 @@ fn push_requests(
     page: &mut Page,
     octets: &[u8],
     list: &Place,
-    requests: &[Request<'_>],
+    requests: &Requests<'_>,
 ) -> Result<(), AllocError> {
-    let mut items = Items::within(octets, list);
-    for request in requests {
-        let place = items.next_item().unwrap_or(nowhere());
-        let at = places_of(request, octets, place.offset);
-        push_certificate_id(alloc, page, octets, &at.req_cert, request.req_cert())?;
-        push_explicit_extensions(
-            alloc,
-            page,
-            octets,
-            &at.single_request_extensions,
-            "extension of this certificate",
-            request.single_request_extensions(),
-        )?;
+    let mut places = Items::within(octets, list);
+    for item in requests.items().iter(alloc) {
+        let place = places.next_item().unwrap_or(nowhere());
+        let Ok(request) = item else {
+            // It was read before.
+            return Err(AllocError);
+        };
+        push_one_request(alloc, page, octets, &place, &request)?;
     }
     Ok(())
+}
+
+fn push_one_request(
+    alloc: Global,
+    page: &mut Page,
+    octets: &[u8],
+    place: &Place,
+    request: &Request<'_>,
+) -> Result<(), AllocError> {
+    let at = places_of(request, octets, place.offset);
+    push_certificate_id(alloc, page, octets, &at.req_cert, request.req_cert())?;
+    push_explicit_extensions(
+        alloc,
+        page,
+        octets,
+        &at.single_request_extensions,
+        "extension of this certificate",
+        request.single_request_extensions(),
+    )
 }
 
 fn push_signature(
@@ -141,7 +155,7 @@ fn push_signature(
     match signature.certs() {
         Some(certificates) => {
             let list = contents_of(octets, at.certs);
-            push_certificate_rows(alloc, page, octets, &list, certificates.as_slice())
+            push_certificate_rows(alloc, page, octets, &list, certificates.items())
         }
         None => Ok(()),
     }

@@ -120,7 +120,7 @@ fn push_basic(
     match response.certs() {
         Some(certificates) => {
             let list = contents_of(octets, at.certs);
-            push_certificate_rows(alloc, page, octets, &list, certificates.as_slice())
+            push_certificate_rows(alloc, page, octets, &list, certificates.items())
         }
         None => Ok(()),
     }
@@ -138,7 +138,7 @@ fn push_signed(
     push_responder(alloc, page, octets, &at.responder_id, signed.responder_id())?;
     let time = signed.produced_at().to_date_time();
     push_time_row(page, &at.produced_at, "produced at", &time)?;
-    let responses = signed.responses().as_slice();
+    let responses = signed.responses();
     push_single_responses(alloc, page, octets, &at.responses, responses)?;
     push_explicit_extensions(
         alloc,

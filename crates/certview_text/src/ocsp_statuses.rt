@@ -9,7 +9,7 @@ use certview_parts::page::Page;
 use certview_parts::place::{Place, nowhere};
 use certview_parts::rows::push_time_row;
 use certview_parts::times::push_date_time;
-use der_ocsp::ocsp::{CertStatus, RevokedInfo, SingleResponse};
+use der_ocsp::ocsp::{CertStatus, RevokedInfo, SingleResponse, SingleResponses};
 use der_places::places_of;
 use std::alloc::{AllocError, Global};
 
@@ -19,12 +19,16 @@ pub fn push_single_responses(
     page: &mut Page,
     octets: &[u8],
     list: &Place,
-    responses: &[SingleResponse<'_>],
+    responses: &SingleResponses<'_>,
 ) -> Result<(), AllocError> {
-    let mut items = Items::within(octets, list);
-    for response in responses {
-        let place = items.next_item().unwrap_or(nowhere());
-        push_single_response(alloc, page, octets, &place, response)?;
+    let mut places = Items::within(octets, list);
+    for item in responses.items().iter(alloc) {
+        let place = places.next_item().unwrap_or(nowhere());
+        let Ok(response) = item else {
+            // It was read before.
+            return Err(AllocError);
+        };
+        push_single_response(alloc, page, octets, &place, &response)?;
     }
     Ok(())
 }

@@ -80,7 +80,7 @@ fn push_safe(
     match AuthenticatedSafe::from_der(alloc, inner.octets) {
         Ok(contents) => {
             let list = contents_of(octets, value);
-            push_contents(alloc, page, octets, &list, contents.as_slice())
+            push_contents(alloc, page, octets, &list, &contents)
         }
         Err(error) => push_malformed_row(page, &value, "contents", inner.begin, error),
     }
@@ -91,12 +91,16 @@ fn push_contents(
     page: &mut Page,
     octets: &[u8],
     list: &Place,
-    contents: &[ContentInfo<'_>],
+    contents: &AuthenticatedSafe<'_>,
 ) -> Result<(), AllocError> {
-    let mut items = Items::within(octets, list);
-    for content in contents {
-        let place = items.next_item().unwrap_or(nowhere());
-        push_one_content(alloc, page, octets, &place, content)?;
+    let mut places = Items::within(octets, list);
+    for item in contents.items().iter(alloc) {
+        let place = places.next_item().unwrap_or(nowhere());
+        let Ok(content) = item else {
+            // It was read before.
+            return Err(AllocError);
+        };
+        push_one_content(alloc, page, octets, &place, &content)?;
     }
     Ok(())
 }

@@ -12,7 +12,8 @@ use crate::kind::Kind;
 use crate::moments::push_currency_at;
 use crate::whole::push_title;
 use certview_parts::algorithms::push_algorithm;
-use certview_parts::extensions::{push_extension, push_extensions};
+use certview_parts::extension_rows::push_explicit_extensions;
+use certview_parts::extensions::push_extension;
 use certview_parts::hexadecimal::push_serial;
 use certview_parts::items::Items;
 use certview_parts::labels::push_label;
@@ -22,7 +23,8 @@ use certview_parts::place::{Place, nowhere, place_of_all};
 use certview_parts::signatures::push_signature_rows;
 use certview_parts::times::{push_moment, push_time};
 use der_asn1_types::FromDer;
-use der_pkix::certificate::Extension;
+use der_lists::ListRef;
+use der_pkix::certificate::{Extension, Extensions};
 use der_pkix::crl::laws::grammar_of_certificate_list;
 use der_pkix::crl::{CertificateList, RevokedCertificate, TbsCertList};
 use der_places::crl::TbsCertListPlaces;
@@ -102,32 +104,34 @@ fn push_revoked(
 ) -> Result<(), AllocError> {
     if let Some(entries) = signed.revoked_certificates() {
         let list = at.revoked_certificates;
-        push_entries(alloc, page, octets, &list, entries.as_slice())?;
+        push_entries(alloc, page, octets, &list, entries)?;
     }
-    match signed.crl_extensions() {
-        Some(extensions) => push_extensions(
-            alloc,
-            page,
-            octets,
-            &at.crl_extensions,
-            extensions.as_slice(),
-        ),
-        None => Ok(()),
-    }
+    push_explicit_extensions(
+        alloc,
+        page,
+        octets,
+        &at.crl_extensions,
+        "extension",
+        signed.crl_extensions(),
+    )
 }
 
-fn push_entries(
+fn push_entries<'a>(
     alloc: Global,
     page: &mut Page,
     octets: &[u8],
     list: &Place,
-    entries: &[RevokedCertificate<'_>],
+    entries: &ListRef<'a, RevokedCertificate<'a>>,
 ) -> Result<(), AllocError> {
-    let mut items = Items::within(octets, list);
-    for entry in entries {
-        let place = items.next_item().unwrap_or(nowhere());
+    let mut places = Items::within(octets, list);
+    for item in entries.iter(alloc) {
+        let place = places.next_item().unwrap_or(nowhere());
         push_label(page, &place, "revoked")?;
-        push_entry(alloc, page, octets, &place, entry)?;
+        let Ok(entry) = item else {
+            // It was read before.
+            return Err(AllocError);
+        };
+        push_entry(alloc, page, octets, &place, &entry)?;
     }
     Ok(())
 }
@@ -145,7 +149,7 @@ pub fn push_entry(
     push_time(page, &entry.revocation_date())?;
     if let Some(extensions) = entry.crl_entry_extensions() {
         let list = places_of(entry, octets, place.offset).crl_entry_extensions;
-        push_entry_extensions(alloc, page, octets, &list, extensions.as_slice())?;
+        push_entry_extensions(alloc, page, octets, &list, extensions)?;
     }
     page.text.push('\n')
 }
@@ -156,13 +160,26 @@ fn push_entry_extensions(
     page: &mut Page,
     octets: &[u8],
     list: &Place,
-    extensions: &[Extension<'_>],
+    extensions: &Extensions<'_>,
 ) -> Result<(), AllocError> {
-    let mut items = Items::within(octets, list);
-    for extension in extensions {
-        let place = items.next_item().unwrap_or(nowhere());
-        page.text.push_str(", extension ")?;
-        push_extension(alloc, page, &place, extension)?;
+    let mut places = Items::within(octets, list);
+    for item in extensions.items().iter(alloc) {
+        let place = places.next_item().unwrap_or(nowhere());
+        let Ok(extension) = item else {
+            // It was read before.
+            return Err(AllocError);
+        };
+        push_entry_extension(alloc, page, &place, &extension)?;
     }
     Ok(())
+}
+
+fn push_entry_extension(
+    alloc: Global,
+    page: &mut Page,
+    place: &Place,
+    extension: &Extension<'_>,
+) -> Result<(), AllocError> {
+    page.text.push_str(", extension ")?;
+    push_extension(alloc, page, place, extension)
 }

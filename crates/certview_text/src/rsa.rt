@@ -29,12 +29,17 @@ pub fn push_rsa_private_key(alloc: Global, page: &mut Page, octets: &[u8]) -> Re
 {
     grammar_of_rsa_private_key();
     match RsaPrivateKey::from_der(alloc, octets) {
-        Ok(key) => Ok(push_fields(page, octets, &key)?),
+        Ok(key) => Ok(push_fields(alloc, page, octets, &key)?),
         Err(error) => Err(refusal(Kind::RsaPrivateKey, octets, error)),
     }
 }
 
-fn push_fields(page: &mut Page, octets: &[u8], key: &RsaPrivateKey<'_>) -> Result<(), AllocError> {
+fn push_fields(
+    alloc: Global,
+    page: &mut Page,
+    octets: &[u8],
+    key: &RsaPrivateKey<'_>,
+) -> Result<(), AllocError> {
     let whole = place_of_all(octets);
     push_title(page, &whole, Kind::RsaPrivateKey)?;
     let at = places_of(key, octets, whole.offset);
@@ -47,7 +52,7 @@ fn push_fields(page: &mut Page, octets: &[u8], key: &RsaPrivateKey<'_>) -> Resul
     push_number(page, octets, &at.exponent1, "exponent1")?;
     push_number(page, octets, &at.exponent2, "exponent2")?;
     push_number(page, octets, &at.coefficient, "coefficient")?;
-    push_other_primes(page, &at.other_prime_infos, key)
+    push_other_primes(alloc, page, &at.other_prime_infos, key)
 }
 
 /// Adds how many contents octets a number has that is secret.
@@ -63,12 +68,17 @@ fn push_number(
 
 /// Adds how many primes there are besides the two, where there are more.
 fn push_other_primes(
+    alloc: Global,
     page: &mut Page,
     place: &Place,
     key: &RsaPrivateKey<'_>,
 ) -> Result<(), AllocError> {
-    match key.other_prime_infos() {
-        Some(primes) => push_count(page, place, "other primes", primes.as_slice().len()),
-        None => Ok(()),
+    let Some(primes) = key.other_prime_infos() else {
+        return Ok(());
+    };
+    match primes.items().count(alloc) {
+        Ok(count) => push_count(page, place, "other primes", count),
+        // They were read before.
+        Err(_) => Err(AllocError),
     }
 }

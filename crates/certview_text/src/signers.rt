@@ -3,16 +3,16 @@
 use crate::keys::push_version;
 use certview_parts::algorithms::push_algorithm;
 use certview_parts::attribute_rows::push_attribute_rows;
+use certview_parts::characters::Behind;
 use certview_parts::hexadecimal::{push_serial, push_with_colons};
 use certview_parts::items::Items;
 use certview_parts::labels::push_label;
-use certview_parts::names::push_kept;
+use certview_parts::names::push_places;
 use certview_parts::page::Page;
 use certview_parts::place::{Place, inner_at};
 use certview_parts::rows::{push_malformed_row, push_octets_row};
 use der_asn1_types::FromDer;
 use der_cms::cms::{IssuerAndSerialNumber, SignerIdentifier, SignerInfo};
-use der_modules::copy_of;
 use der_places::places_of;
 use std::alloc::{AllocError, Global};
 
@@ -90,5 +90,5 @@ pub fn push_issued(
 ) -> Result<(), AllocError> {
     push_serial(page, issued.serial_number().as_bytes())?;
     page.text.push_str(", ")?;
-    push_kept(alloc, page, copy_of(issued.issuer()))
+    push_places(alloc, page, issued.issuer(), Behind::Mark)
 }

@@ -119,14 +119,9 @@ pub fn push_extensions(
     extensions: Option<&Extensions<'_>>,
 ) -> Result<(), AllocError> {
     match extensions {
-        Some(extensions) => push_extension_rows(
-            alloc,
-            page,
-            octets,
-            list,
-            "extension",
-            extensions.as_slice(),
-        ),
+        Some(extensions) => {
+            push_extension_rows(alloc, page, octets, list, "extension", extensions)
+        }
         None => Ok(()),
     }
 }

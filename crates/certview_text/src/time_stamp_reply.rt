@@ -88,7 +88,7 @@ fn push_fields(
     let whole = place_of_all(octets);
     let at = places_of(reply, octets, whole.offset);
     push_title(page, &whole, Kind::TimeStampReply)?;
-    push_status(page, octets, &at.status, reply.status())?;
+    push_status(alloc, page, octets, &at.status, reply.status())?;
     match reply.time_stamp_token() {
         Some(token) => push_token(alloc, page, octets, &at.time_stamp_token, token),
         None => Ok(()),
@@ -97,6 +97,7 @@ fn push_fields(
 
 /// Adds the status, its texts, and what went wrong, where these are there.
 fn push_status(
+    alloc: Global,
     page: &mut Page,
     octets: &[u8],
     place: &Place,
@@ -107,7 +108,7 @@ fn push_status(
     push_status_name(page, status.status())?;
     page.text.push('\n')?;
     if let Some(texts) = status.status_string() {
-        push_texts(page, octets, &at.status_string, texts)?;
+        push_texts(alloc, page, octets, &at.status_string, texts)?;
     }
     match status.fail_info() {
         Some(bits) => {
@@ -126,14 +127,19 @@ fn push_status_name(page: &mut Page, status: u8) -> Result<(), AllocError> {
 }
 
 fn push_texts(
+    alloc: Global,
     page: &mut Page,
     octets: &[u8],
     list: &Place,
     texts: &PkiFreeText<'_>,
 ) -> Result<(), AllocError> {
-    let mut items = Items::within(octets, list);
-    for text in texts.as_slice() {
-        let place = items.next_item().unwrap_or(nowhere());
+    let mut places = Items::within(octets, list);
+    for item in texts.items().iter(alloc) {
+        let place = places.next_item().unwrap_or(nowhere());
+        let Ok(text) = item else {
+            // It was read before.
+            return Err(AllocError);
+        };
         push_text_row(page, &place, "status text", text.as_str())?;
     }
     Ok(())

@@ -1,16 +1,21 @@
 //! What RFC 5280 asks beyond the grammar.
 
-ghost use Rattle.std.specs.Prelude.{◌≡◌, map};
-ghost use Rattle.der_verify.specs.Rfc5280.{breaks, certificate_rules};
-ghost use Rattle.der_verify.specs.Rfc5280Lists.{list_breaks, list_rules};
+ghost use Rattle.std.specs.Prelude.{◌≡◌, List, Option, map};
+ghost use Rattle.der_pkix.specs.declared.certificate.extension.Extension.{Extension};
+ghost use Rattle.der_pkix.specs.Certificate.Certificate as certificate_fields;
+ghost use Rattle.der_pkix.specs.Certificate.TbsCertificate as tbs_fields;
+ghost use Rattle.der_pkix.specs.Crl.CertificateList as list_fields;
+ghost use Rattle.der_pkix.specs.Crl.TbsCertList as tbs_list_fields;
+ghost use Rattle.der_verify.specs.Rfc5280.{breaks, certificate_rules, AreListed};
+ghost use Rattle.der_verify.specs.Rfc5280Lists.{list_breaks, list_rules, AreEntries};
 ghost use Rattle.der_c.specs.Answers.{Answers};
 ghost use Rattle.der_c.specs.Bits.{bits};
 
 use crate::bits::number_of_flags;
 use crate::fault::{Fault, refuse};
 use der_elem::{Form, FromDer};
-use der_pkix::certificate::Certificate;
-use der_pkix::crl::CertificateList;
+use der_pkix::certificate::{Certificate, Extension};
+use der_pkix::crl::{CertificateList, RevokedCertificate};
 use der_verify::{CertificateRule, ListRule};
 use std::alloc::Global;
 
@@ -28,12 +33,13 @@ pub extern "C" fn der_check_rfc5280<'a>(
     fault: &mut Fault,
 ) -> u32
     ensures { Answers ⟦<Certificate<'a> as Form>⟧ octets.now
-        (λ v n. n ≡ bits (map (λ r. breaks r v) certificate_rules))
+        (λ v n. (listed : List Extension) → AreListed ⟦<Extension<'a> as Form>⟧ (tbs_fields.extensions (certificate_fields.tbs_certificate v)) listed
+        → n ≡ bits (map (λ r. breaks r v listed) certificate_rules))
         broken.old broken.new fault.old fault.new result }
 {
     match Certificate::from_der(alloc, octets) {
         Ok(value) => {
-            *broken = broken_by_certificate(&value);
+            *broken = broken_by_certificate(alloc, &value);
             0
         }
         Err(error) => refuse(error, fault),
@@ -41,28 +47,29 @@ pub extern "C" fn der_check_rfc5280<'a>(
 }
 
 /// The rules that a certificate breaks, as bits.
-fn broken_by_certificate(value: &Certificate<'_>) -> u32
-    ensures { result ≡ bits (map (λ r. breaks r value.now) certificate_rules) }
+fn broken_by_certificate<'a>(alloc: Global, value: &Certificate<'a>) -> u32
+    ensures { (listed : List Extension) → AreListed ⟦<Extension<'a> as Form>⟧ (tbs_fields.extensions (certificate_fields.tbs_certificate value.now)) listed
+        → result ≡ bits (map (λ r. breaks r value.now listed) certificate_rules) }
 {
     number_of_flags(&[
-        CertificateRule::InhibitAnyPolicyIsCritical.is_broken(value),
-        CertificateRule::PolicyConstraintsIsCritical.is_broken(value),
-        CertificateRule::NameConstraintsIsCritical.is_broken(value),
-        CertificateRule::BasicConstraintsOfCaIsCritical.is_broken(value),
-        CertificateRule::SubjectInfoAccessIsNotCritical.is_broken(value),
-        CertificateRule::AuthorityInfoAccessIsNotCritical.is_broken(value),
-        CertificateRule::FreshestCrlIsNotCritical.is_broken(value),
-        CertificateRule::SubjectDirectoryAttributesIsNotCritical.is_broken(value),
-        CertificateRule::SubjectKeyIdentifierIsNotCritical.is_broken(value),
-        CertificateRule::AuthorityKeyIdentifierIsNotCritical.is_broken(value),
-        CertificateRule::ExtensionsStandOnce.is_broken(value),
-        CertificateRule::UniqueIdentifiersInVersion2.is_broken(value),
-        CertificateRule::EmptySubjectHasCriticalAltName.is_broken(value),
-        CertificateRule::IssuerIsNotEmpty.is_broken(value),
-        CertificateRule::SerialNumberHasAtMost20Octets.is_broken(value),
-        CertificateRule::SerialNumberIsPositive.is_broken(value),
-        CertificateRule::ExtensionsInVersion3.is_broken(value),
-        CertificateRule::AlgorithmsAgree.is_broken(value),
+        CertificateRule::InhibitAnyPolicyIsCritical.is_broken(alloc, value),
+        CertificateRule::PolicyConstraintsIsCritical.is_broken(alloc, value),
+        CertificateRule::NameConstraintsIsCritical.is_broken(alloc, value),
+        CertificateRule::BasicConstraintsOfCaIsCritical.is_broken(alloc, value),
+        CertificateRule::SubjectInfoAccessIsNotCritical.is_broken(alloc, value),
+        CertificateRule::AuthorityInfoAccessIsNotCritical.is_broken(alloc, value),
+        CertificateRule::FreshestCrlIsNotCritical.is_broken(alloc, value),
+        CertificateRule::SubjectDirectoryAttributesIsNotCritical.is_broken(alloc, value),
+        CertificateRule::SubjectKeyIdentifierIsNotCritical.is_broken(alloc, value),
+        CertificateRule::AuthorityKeyIdentifierIsNotCritical.is_broken(alloc, value),
+        CertificateRule::ExtensionsStandOnce.is_broken(alloc, value),
+        CertificateRule::UniqueIdentifiersInVersion2.is_broken(alloc, value),
+        CertificateRule::EmptySubjectHasCriticalAltName.is_broken(alloc, value),
+        CertificateRule::IssuerIsNotEmpty.is_broken(alloc, value),
+        CertificateRule::SerialNumberHasAtMost20Octets.is_broken(alloc, value),
+        CertificateRule::SerialNumberIsPositive.is_broken(alloc, value),
+        CertificateRule::ExtensionsInVersion3.is_broken(alloc, value),
+        CertificateRule::AlgorithmsAgree.is_broken(alloc, value),
     ])
 }
 
@@ -79,12 +86,15 @@ pub extern "C" fn der_check_rfc5280_list<'a>(
     fault: &mut Fault,
 ) -> u32
     ensures { Answers ⟦<CertificateList<'a> as Form>⟧ octets.now
-        (λ v n. n ≡ bits (map (λ r. list_breaks r v) list_rules))
+        (λ v n. (listed : List Extension) (entries : List (Option (List Extension)))
+        → AreListed ⟦<Extension<'a> as Form>⟧ (tbs_list_fields.crl_extensions (list_fields.tbs_cert_list v)) listed
+        → AreEntries ⟦<RevokedCertificate<'a> as Form>⟧ ⟦<Extension<'a> as Form>⟧ (tbs_list_fields.revoked_certificates (list_fields.tbs_cert_list v)) entries
+        → n ≡ bits (map (λ r. list_breaks r v listed entries) list_rules))
         broken.old broken.new fault.old fault.new result }
 {
     match CertificateList::from_der(alloc, octets) {
         Ok(value) => {
-            *broken = broken_by_list(&value);
+            *broken = broken_by_list(alloc, &value);
             0
         }
         Err(error) => refuse(error, fault),
@@ -92,23 +102,26 @@ pub extern "C" fn der_check_rfc5280_list<'a>(
 }
 
 /// The rules that a list breaks, as bits.
-fn broken_by_list(value: &CertificateList<'_>) -> u32
-    ensures { result ≡ bits (map (λ r. list_breaks r value.now) list_rules) }
+fn broken_by_list<'a>(alloc: Global, value: &CertificateList<'a>) -> u32
+    ensures { (listed : List Extension) (entries : List (Option (List Extension)))
+        → AreListed ⟦<Extension<'a> as Form>⟧ (tbs_list_fields.crl_extensions (list_fields.tbs_cert_list value.now)) listed
+        → AreEntries ⟦<RevokedCertificate<'a> as Form>⟧ ⟦<Extension<'a> as Form>⟧ (tbs_list_fields.revoked_certificates (list_fields.tbs_cert_list value.now)) entries
+        → result ≡ bits (map (λ r. list_breaks r value.now listed entries) list_rules) }
 {
     number_of_flags(&[
-        ListRule::CertificateIssuerIsCritical.is_broken(value),
-        ListRule::InvalidityDateIsNotCritical.is_broken(value),
-        ListRule::ReasonCodeIsNotCritical.is_broken(value),
-        ListRule::AuthorityInfoAccessIsNotCritical.is_broken(value),
-        ListRule::FreshestCrlIsNotCritical.is_broken(value),
-        ListRule::IssuingDistributionPointIsCritical.is_broken(value),
-        ListRule::DeltaCrlIndicatorIsCritical.is_broken(value),
-        ListRule::CrlNumberIsNotCritical.is_broken(value),
-        ListRule::ExtensionsStandOnce.is_broken(value),
-        ListRule::EmptyListIsAbsent.is_broken(value),
-        ListRule::NextUpdateIsThere.is_broken(value),
-        ListRule::IssuerIsNotEmpty.is_broken(value),
-        ListRule::ExtensionsInVersion2.is_broken(value),
-        ListRule::AlgorithmsAgree.is_broken(value),
+        ListRule::CertificateIssuerIsCritical.is_broken(alloc, value),
+        ListRule::InvalidityDateIsNotCritical.is_broken(alloc, value),
+        ListRule::ReasonCodeIsNotCritical.is_broken(alloc, value),
+        ListRule::AuthorityInfoAccessIsNotCritical.is_broken(alloc, value),
+        ListRule::FreshestCrlIsNotCritical.is_broken(alloc, value),
+        ListRule::IssuingDistributionPointIsCritical.is_broken(alloc, value),
+        ListRule::DeltaCrlIndicatorIsCritical.is_broken(alloc, value),
+        ListRule::CrlNumberIsNotCritical.is_broken(alloc, value),
+        ListRule::ExtensionsStandOnce.is_broken(alloc, value),
+        ListRule::EmptyListIsAbsent.is_broken(alloc, value),
+        ListRule::NextUpdateIsThere.is_broken(alloc, value),
+        ListRule::IssuerIsNotEmpty.is_broken(alloc, value),
+        ListRule::ExtensionsInVersion2.is_broken(alloc, value),
+        ListRule::AlgorithmsAgree.is_broken(alloc, value),
     ])
 }

@@ -8,11 +8,10 @@ use der_asn1_types::asn1::{AnyRef, OctetStringRef};
 use der_asn1_types::{Decode, Encode, FromDer, Reader, SliceReader, Tagged};
 use der_cms::cms::{ContentInfo, SignedData};
 use der_modules::copy_of;
-use der_nest::Kept;
 use der_ocsp::ocsp::{BasicOcspResponse, OcspResponse};
 use der_pkix::certificate::Certificate;
 use der_pkix::crl::CertificateList;
-use der_pkix::name::Name;
+use der_pkix::name::{Name, RelativeDistinguishedName};
 use std::alloc::Global;
 use std::io::Read;
 use std::process::ExitCode;
@@ -62,20 +61,34 @@ fn walked(alloc: Global, octets: &[u8], depth: u32) -> u32 {
     count
 }
 
-fn name_is_read<'a>(alloc: Global, name: Kept<'a, Name<'a>>) -> usize {
-    match name.value(alloc) {
-        Ok(_name) => 1,
-        Err(_) => 0,
+/// Whether each attribute of a place of a name is read again.
+fn has_attributes(alloc: Global, place: &RelativeDistinguishedName<'_>) -> bool {
+    for attribute in place.items().iter(alloc) {
+        if attribute.is_err() {
+            return false;
+        }
     }
+    true
 }
 
-/// Whether the octets are a certificate, and its two names are read into lists of sets.
+/// Whether each place of a name is read again, and each attribute of it: 1, or 0.
+fn name_is_read(alloc: Global, name: &Name<'_>) -> usize {
+    for place in name.items().iter(alloc) {
+        match place {
+            Ok(place) if has_attributes(alloc, &place) => {}
+            _ => return 0,
+        }
+    }
+    1
+}
+
+/// Whether the octets are a certificate, and its two names are read again, attribute by attribute.
 fn certificate_with_names(alloc: Global, octets: &[u8]) -> usize {
     match Certificate::from_der(alloc, octets) {
         Ok(certificate) => {
             let signed = certificate.tbs_certificate();
-            let issuer = name_is_read(alloc, copy_of(signed.issuer()));
-            issuer.min(name_is_read(alloc, copy_of(signed.subject())))
+            let issuer = name_is_read(alloc, signed.issuer());
+            issuer.min(name_is_read(alloc, signed.subject()))
         }
         Err(_) => 0,
     }

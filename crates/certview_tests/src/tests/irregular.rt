@@ -8,7 +8,7 @@ use std::process::Abort;
 use std::test::Fail;
 
 /// Asserts that a line is shown of octets, and whether a part of them is none of what it is to be.
-fn assert_shown(
+pub fn assert_shown(
     rt: &impl Abort,
     alloc: Global,
     digits: &str,

@@ -235,7 +235,7 @@ fn other_names_are_bad_lines(rt: HostRuntime) -> Result<(), Fail> {
 }
 
 #[test]
-fn octets_are_refused_or_put_in_order(rt: HostRuntime) -> Result<(), Fail> {
+fn octets_are_refused_or_answered(rt: HostRuntime) -> Result<(), Fail> {
     let alloc = rt.alloc();
     let rows = [
         // no octets, octets after a message, and a message of another name
@@ -264,13 +264,26 @@ fn octets_are_refused_or_put_in_order(rt: HostRuntime) -> Result<(), Fail> {
             "ecpriv 30090201010400a0020500",
             "ok 30090201010400a0020500\n",
         ),
-        // attributes at one place, put in order
-        (
-            "name 303d310b3009060355040613025345311e300d060355040b0c064261726c6579300d060355040a0c0650756c6c6579310e300c06035504030c05677261696e",
-            "ok 303d310b3009060355040613025345311e300d060355040a0c0650756c6c6579300d060355040b0c064261726c6579310e300c06035504030c05677261696e\n",
-        ),
     ];
     for (line, want) in rows {
+        assert_answers(&rt, alloc, line, want)?;
+    }
+    Ok(())
+}
+
+#[test]
+fn attributes_at_one_place_stand_in_order(rt: HostRuntime) -> Result<(), Fail> {
+    let alloc = rt.alloc();
+    for (line, want) in [
+        (
+            "name 303d310b3009060355040613025345311e300d060355040b0c064261726c6579300d060355040a0c0650756c6c6579310e300c06035504030c05677261696e",
+            "refused 11\n",
+        ),
+        (
+            "name 303d310b3009060355040613025345311e300d060355040a0c0650756c6c6579300d060355040b0c064261726c6579310e300c06035504030c05677261696e",
+            "ok 303d310b3009060355040613025345311e300d060355040a0c0650756c6c6579300d060355040b0c064261726c6579310e300c06035504030c05677261696e\n",
+        ),
+    ] {
         assert_answers(&rt, alloc, line, want)?;
     }
     Ok(())
