@@ -1,11 +1,13 @@
-/* mbedTLS 3.6: its certificates point into the octets ("nocopy"); an entry of a list takes memory. */
-#include "peer.h"
+/* mbedTLS 3.6, for the program of the rows: its certificates point into the octets ("nocopy"); an entry of a list takes
+ * memory. Each call answers as those of peer.h. It reads no SignedData with signed attributes. */
+#include <stddef.h>
+#include <stdint.h>
 
 #include <mbedtls/asn1.h>
 #include <mbedtls/x509_crl.h>
 #include <mbedtls/x509_crt.h>
 
-static size_t certificate(const uint8_t *octets, size_t len) {
+size_t beside_mbedtls_certificate(const uint8_t *octets, size_t len) {
     mbedtls_x509_crt value;
     mbedtls_x509_crt_init(&value);
     int failed = mbedtls_x509_crt_parse_der_nocopy(&value, octets, len);
@@ -13,7 +15,28 @@ static size_t certificate(const uint8_t *octets, size_t len) {
     return !failed;
 }
 
-static size_t revoked(const uint8_t *octets, size_t len) {
+/* How many parts of a name have a value. */
+static size_t parts(const mbedtls_x509_name *name) {
+    size_t count = 0;
+    for (; name; name = name->next)
+        count += name->val.p != NULL;
+    return count;
+}
+
+/* The same, and goes through the two names. */
+size_t beside_mbedtls_certificate_names(const uint8_t *octets, size_t len) {
+    mbedtls_x509_crt value;
+    mbedtls_x509_crt_init(&value);
+    int failed = mbedtls_x509_crt_parse_der_nocopy(&value, octets, len);
+    if (!failed) {
+        volatile size_t count = parts(&value.issuer) + parts(&value.subject);
+        (void)count;
+    }
+    mbedtls_x509_crt_free(&value);
+    return !failed;
+}
+
+size_t beside_mbedtls_revoked(const uint8_t *octets, size_t len) {
     mbedtls_x509_crl value;
     size_t count = 0;
     mbedtls_x509_crl_init(&value);
@@ -24,7 +47,7 @@ static size_t revoked(const uint8_t *octets, size_t len) {
     return count;
 }
 
-static size_t walk(const uint8_t *octets, size_t len) {
+size_t beside_mbedtls_walk(const uint8_t *octets, size_t len) {
     unsigned char *at = (unsigned char *)octets;
     const unsigned char *end = octets + len;
     size_t count = 0;
@@ -35,16 +58,8 @@ static size_t walk(const uint8_t *octets, size_t len) {
             return 0;
         count++;
         if (tag & MBEDTLS_ASN1_CONSTRUCTED)
-            count += walk(at, contents);
+            count += beside_mbedtls_walk(at, contents);
         at += contents;
     }
     return count;
 }
-
-/* (it reads no SignedData with signed attributes) */
-const struct peer_does peer_does_all[] = {
-    {"certificate", certificate},
-    {"revoked", revoked},
-    {"walk", walk},
-    {NULL, NULL},
-};

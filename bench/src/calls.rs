@@ -1,24 +1,29 @@
-//! The calls that are measured: of the library, and of OpenSSL.
+//! The calls that are measured: of the library, of mbedTLS and of OpenSSL.
 
 /// Whether the library's calls are there.
 pub const ARE_THERE: bool = cfg!(feature = "here");
 
+/// What the names of candidates begin with whose calls are not there.
+pub fn missing() -> Vec<&'static str> {
+    [("here", ARE_THERE), ("mbedTLS 3.6", cfg!(mbedtls))].iter().filter(|(_, is_there)| !is_there).map(|(name, _)| *name).collect()
+}
+
+/// Calls over octets, each of which answers a count or a length: a module with a condition on which they are linked.
 macro_rules! of_octets {
-    ($($call:ident)*) => {
-        #[cfg(feature = "here")]
+    ($module:ident if $linked:meta; $($call:ident)*) => {
+        #[cfg($linked)]
         unsafe extern "C" {
             $(fn $call(octets: *const u8, len: usize) -> usize;)*
         }
 
         $(
-            #[cfg(not(feature = "here"))]
+            #[cfg(not($linked))]
             unsafe extern "C" fn $call(_octets: *const u8, _len: usize) -> usize {
                 0
             }
         )*
 
-        /// The calls over octets, each of which answers a count or a length.
-        pub mod octets {
+        pub mod $module {
             $(
                 pub fn $call(octets: &[u8]) -> usize {
                     // SAFETY: the call reads the slice and keeps nothing of it.
@@ -30,6 +35,12 @@ macro_rules! of_octets {
 }
 
 of_octets! {
+    mbedtls if mbedtls;
+    beside_mbedtls_certificate beside_mbedtls_certificate_names beside_mbedtls_revoked beside_mbedtls_walk
+}
+
+of_octets! {
+    octets if feature = "here";
     walk walk_headers
     read_i64 read_u64
     read_set read_octet_set rewrite_set
@@ -40,7 +51,7 @@ of_octets! {
     read_bits_owned rewrite_bits_owned read_octets_owned rewrite_octets_owned
     read_string_owned rewrite_string_owned read_printable_owned rewrite_printable_owned
     read_int_owned rewrite_int_owned
-    read_certificate read_certificate_names rewrite_certificate read_revoked read_signed read_status
+    read_certificate read_certificate_names rewrite_certificate check_revoked read_revoked read_signed read_status
 }
 
 macro_rules! of_other_types {

@@ -244,47 +244,37 @@ fn time_of(value: Value) -> Option<u64> {
     Some(parts.iter().fold(year as u64, |all, part| all << 8 | u64::from(*part)))
 }
 
-pub struct Extension {
-    pub id: Span,
-    pub is_critical: bool,
-    pub value: Span,
-}
-
-fn extensions(mut all: Span) -> Option<Vec<Extension>> {
-    let mut list = Vec::new();
-    while !all.is_empty() {
-        let mut one = all.of_tag(0x30)?;
-        let id = identifier(one.of_tag(6)?)?;
-        let is_critical = match one.if_tag(1)? {
+/// Extensions that are checked, of which there is one at least.
+fn extensions(all: Span) -> Option<Span> {
+    let mut rest = all;
+    while !rest.is_empty() {
+        let mut one = rest.of_tag(0x30)?;
+        identifier(one.of_tag(6)?)?;
+        if let Some(truth) = one.if_tag(1)? {
             // SAFETY: one octet is there.
-            Some(truth) if truth.len() == 1 && unsafe { truth.octet(0) } == 0xff => true,
-            Some(_) => return None,
-            None => false,
-        };
-        let value = one.of_tag(4)?;
+            if truth.len() != 1 || unsafe { truth.octet(0) } != 0xff {
+                return None;
+            }
+        }
+        one.of_tag(4)?;
         one.done()?;
-        list.push(Extension { id, is_critical, value });
     }
-    if list.is_empty() { None } else { Some(list) }
+    if all.is_empty() { None } else { Some(all) }
 }
 
-pub struct Attribute {
-    pub id: Span,
-    pub value: Value,
-}
-
-/// A name as a list of sets. A set of more than one item is to be in the order of its items' encodings.
-fn name(mut all: Span) -> Option<Vec<Vec<Attribute>>> {
-    let mut list = Vec::new();
+/// A name that is checked. A set of more than one item is to be in the order of its items' encodings.
+fn check_name(mut all: Span) -> Option<()> {
     while !all.is_empty() {
         let mut set = all.of_tag(0x31)?;
-        let mut items = Vec::with_capacity(1);
+        if set.is_empty() {
+            return None;
+        }
         let mut last: Option<&[u8]> = None;
         while !set.is_empty() {
             let begin = set.at;
             let mut one = set.of_tag(0x30)?;
-            let id = identifier(one.of_tag(6)?)?;
-            let value = one.next()?;
+            identifier(one.of_tag(6)?)?;
+            one.next()?;
             one.done()?;
             // SAFETY: the item's octets.
             let octets = unsafe { std::slice::from_raw_parts(begin, set.at as usize - begin as usize) };
@@ -292,14 +282,21 @@ fn name(mut all: Span) -> Option<Vec<Vec<Attribute>>> {
                 return None;
             }
             last = Some(octets);
-            items.push(Attribute { id, value });
         }
-        if items.is_empty() {
-            return None;
-        }
-        list.push(items);
     }
-    Some(list)
+    Some(())
+}
+
+/// Each attribute of a name that was checked.
+fn go_through(mut all: Span) -> Option<()> {
+    while !all.is_empty() {
+        let mut set = all.of_tag(0x31)?;
+        while !set.is_empty() {
+            let mut one = set.of_tag(0x30)?;
+            black_box((one.of_tag(6)?, one.next()?));
+        }
+    }
+    Some(())
 }
 
 pub struct Certificate {
@@ -310,7 +307,7 @@ pub struct Certificate {
     pub times: [u64; 2],
     pub key: Span,
     pub identifiers: [Option<Span>; 2],
-    pub extensions: Option<Vec<Extension>>,
+    pub extensions: Option<Span>,
     pub signature: Span,
 }
 
@@ -327,7 +324,7 @@ fn version(all: &mut Span) -> Option<u8> {
     }
 }
 
-fn tagged_extensions(all: &mut Span, tag: u8) -> Option<Option<Vec<Extension>>> {
+fn tagged_extensions(all: &mut Span, tag: u8) -> Option<Option<Span>> {
     match all.if_tag(tag)? {
         Some(mut tagged) => {
             let list = tagged.of_tag(0x30)?;
@@ -376,76 +373,49 @@ fn whole(octets: &[u8]) -> Option<Span> {
     Some(parts)
 }
 
-/// Reads a certificate whose names are checked and kept as octets.
+/// A certificate whose names are checked.
+fn checked(parts: Span) -> Option<Certificate> {
+    let certificate = certificate_of(parts)?;
+    for name in certificate.names {
+        check_name(name)?;
+    }
+    Some(certificate)
+}
+
+/// Reads a certificate, and checks its names.
 pub fn certificate(octets: &[u8]) -> usize {
+    let read = || checked(whole(octets)?);
+    usize::from(black_box(read()).is_some())
+}
+
+/// Reads a certificate, and goes through its names when they are checked.
+pub fn certificate_names(octets: &[u8]) -> usize {
     let read = || {
-        let certificate = certificate_of(whole(octets)?)?;
-        for kept in certificate.names {
-            check_name(kept)?;
+        let certificate = checked(whole(octets)?)?;
+        for name in certificate.names {
+            go_through(name)?;
         }
         Some(certificate)
     };
     usize::from(black_box(read()).is_some())
 }
 
-/// A name that is checked and makes no list.
-fn check_name(mut all: Span) -> Option<()> {
+/// Entries of a list of revoked certificates that are checked.
+fn check_entries(mut all: Span) -> Option<()> {
     while !all.is_empty() {
-        let mut set = all.of_tag(0x31)?;
-        if set.is_empty() {
-            return None;
+        let mut one = all.of_tag(0x30)?;
+        integer(one.of_tag(2)?)?;
+        time_of(one.next()?)?;
+        if let Some(list) = one.if_tag(0x30)? {
+            extensions(list)?;
         }
-        let mut last: Option<&[u8]> = None;
-        while !set.is_empty() {
-            let begin = set.at;
-            let mut one = set.of_tag(0x30)?;
-            identifier(one.of_tag(6)?)?;
-            one.next()?;
-            one.done()?;
-            // SAFETY: the item's octets.
-            let octets = unsafe { std::slice::from_raw_parts(begin, set.at as usize - begin as usize) };
-            if last.is_some_and(|last| last > octets) {
-                return None;
-            }
-            last = Some(octets);
-        }
+        one.done()?;
     }
     Some(())
 }
 
-/// Reads a certificate and makes lists of sets of its names.
-pub fn certificate_names(octets: &[u8]) -> usize {
-    let read = || {
-        let certificate = certificate_of(whole(octets)?)?;
-        let names = [name(certificate.names[0])?, name(certificate.names[1])?];
-        Some((certificate, names))
-    };
-    usize::from(black_box(read()).is_some())
-}
-
-pub struct Revoked {
-    pub serial: Span,
-    pub date: u64,
-    pub extensions: Option<Vec<Extension>>,
-}
-
-fn revoked_in(mut all: Span) -> Option<Vec<Revoked>> {
-    let mut list = Vec::new();
-    while !all.is_empty() {
-        let mut one = all.of_tag(0x30)?;
-        let serial = integer(one.of_tag(2)?)?;
-        let date = time_of(one.next()?)?;
-        let extensions = match one.if_tag(0x30)? {
-            Some(list) => Some(extensions(list)?),
-            None => None,
-        };
-        one.done()?;
-        list.push(Revoked { serial, date, extensions });
-    }
-    Some(list)
-}
-
-fn list_of(octets: &[u8]) -> Option<Vec<Revoked>> {
+/// The entries of a list of revoked certificates, if it has some.
+fn entries_of(octets: &[u8]) -> Option<Option<Span>> {
     let mut parts = whole(octets)?;
     let mut signed = parts.of_tag(0x30)?;
     black_box(algorithm(&mut parts)?);
@@ -460,18 +430,31 @@ fn list_of(octets: &[u8]) -> Option<Vec<Revoked>> {
     if matches!(signed.first(), 0x17 | 0x18) {
         black_box(time_of(signed.next()?)?);
     }
-    let entries = match signed.if_tag(0x30)? {
-        Some(list) => revoked_in(list)?,
-        None => Vec::new(),
-    };
+    let entries = signed.if_tag(0x30)?;
+    if let Some(list) = entries {
+        check_entries(list)?;
+    }
     black_box(tagged_extensions(&mut signed, 0xa0)?);
     signed.done()?;
     Some(entries)
 }
 
-/// Reads a list of revoked certificates into a list of entries.
+/// Reads a list of revoked certificates, and checks its entries.
+pub fn revoked_checked(octets: &[u8]) -> usize {
+    usize::from(black_box(entries_of(octets)).is_some())
+}
+
+/// Reads a list of revoked certificates, and goes through its entries when they are checked: how many there are.
 pub fn revoked(octets: &[u8]) -> usize {
-    black_box(list_of(octets)).map_or(0, |list| list.len())
+    let Some(Some(mut entries)) = entries_of(octets) else {
+        return 0;
+    };
+    let mut count = 0;
+    while let Some(mut one) = entries.of_tag(0x30) {
+        black_box((one.of_tag(2), one.next(), one.if_tag(0x30)));
+        count += 1;
+    }
+    count
 }
 
 fn integers(octets: &[u8]) -> Option<Vec<i64>> {
@@ -571,26 +554,20 @@ fn signer(mut one: Span) -> Option<[Span; 3]> {
     Some([serial, attributes, signature])
 }
 
-fn certificates(mut all: Span) -> Option<Vec<Certificate>> {
-    let mut list = Vec::with_capacity(1);
+fn certificates(mut all: Span) -> Option<()> {
     while !all.is_empty() {
-        let certificate = certificate_of(all.of_tag(0x30)?)?;
-        for kept in certificate.names {
-            check_name(kept)?;
-        }
-        list.push(certificate);
+        black_box(checked(all.of_tag(0x30)?)?);
     }
-    Some(list)
+    Some(())
 }
 
-fn signed_in(mut all: Span) -> Option<(Vec<Certificate>, Vec<[Span; 3]>)> {
+fn signed_in(mut all: Span) -> Option<[Span; 2]> {
     integer(all.of_tag(2)?)?;
-    let mut digests = all.of_tag(0x31)?;
-    let mut algorithms = Vec::with_capacity(1);
-    while !digests.is_empty() {
-        algorithms.push(algorithm(&mut digests)?);
+    let digests = all.of_tag(0x31)?;
+    let mut rest = digests;
+    while !rest.is_empty() {
+        black_box(algorithm(&mut rest)?);
     }
-    black_box(&algorithms);
     let mut content = all.of_tag(0x30)?;
     identifier(content.of_tag(6)?)?;
     if let Some(mut tagged) = content.if_tag(0xa0)? {
@@ -598,17 +575,16 @@ fn signed_in(mut all: Span) -> Option<(Vec<Certificate>, Vec<[Span; 3]>)> {
         tagged.done()?;
     }
     content.done()?;
-    let certificates = match all.if_tag(0xa0)? {
-        Some(set) => certificates(set)?,
-        None => Vec::new(),
-    };
-    let mut set = all.of_tag(0x31)?;
-    all.done()?;
-    let mut signers = Vec::with_capacity(1);
-    while !set.is_empty() {
-        signers.push(signer(set.of_tag(0x30)?)?);
+    if let Some(set) = all.if_tag(0xa0)? {
+        certificates(set)?;
     }
-    Some((certificates, signers))
+    let signers = all.of_tag(0x31)?;
+    all.done()?;
+    let mut rest = signers;
+    while !rest.is_empty() {
+        black_box(signer(rest.of_tag(0x30)?)?);
+    }
+    Some([digests, signers])
 }
 
 /// Reads a message with SignedData, which has no list of revoked certificates.
@@ -665,7 +641,7 @@ fn single(mut one: Span) -> Option<(Span, u64, Option<u64>)> {
     Some((serial, this, next))
 }
 
-fn basic(octets: Span) -> Option<(Vec<(Span, u64, Option<u64>)>, Vec<Certificate>)> {
+fn basic(octets: Span) -> Option<Span> {
     let mut outer = octets;
     let mut all = outer.of_tag(0x30)?;
     outer.done()?;
@@ -680,25 +656,21 @@ fn basic(octets: Span) -> Option<(Vec<(Span, u64, Option<u64>)>, Vec<Certificate
     }
     tagged.done()?;
     black_box(time_of(data.next()?)?);
-    let mut list = data.of_tag(0x30)?;
-    let mut singles = Vec::with_capacity(1);
-    while !list.is_empty() {
-        singles.push(single(list.of_tag(0x30)?)?);
+    let singles = data.of_tag(0x30)?;
+    let mut rest = singles;
+    while !rest.is_empty() {
+        black_box(single(rest.of_tag(0x30)?)?);
     }
     black_box(tagged_extensions(&mut data, 0xa1)?);
     data.done()?;
     black_box(algorithm(&mut all)?);
     black_box(bits(all.of_tag(3)?)?);
-    let certificates = match all.if_tag(0xa0)? {
-        Some(mut tagged) => {
-            let list = certificates(tagged.of_tag(0x30)?)?;
-            tagged.done()?;
-            list
-        }
-        None => Vec::new(),
-    };
+    if let Some(mut tagged) = all.if_tag(0xa0)? {
+        certificates(tagged.of_tag(0x30)?)?;
+        tagged.done()?;
+    }
     all.done()?;
-    Some((singles, certificates))
+    Some(singles)
 }
 
 /// Reads an answer of OCSP and the basic answer in it.

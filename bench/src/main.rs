@@ -1,5 +1,5 @@
-//! The library beside its peers: the same octets, in turn, on one processor. What is in Rust, and OpenSSL's calls of
-//! single types, are measured in this process; the other libraries in C and Go have programs of their own.
+//! The library beside its peers: the same octets, in turn, on one processor. What is in Rust, mbedTLS, and OpenSSL's calls
+//! of single types, are measured in this process; the other libraries in C and Go have programs of their own.
 
 mod calls;
 mod inputs;
@@ -34,18 +34,18 @@ fn main() {
         rows: argument(0).unwrap_or_default(),
         once: argument(1),
         rounds: argument(2).and_then(|rounds| rounds.parse().ok()),
-        has_library: calls::ARE_THERE,
+        missing: calls::missing(),
         kept: std::env::var("BENCH_ROWS").ok().and_then(|path| std::fs::File::create(path).ok()).map(RefCell::new),
     };
-    if !plan.has_library {
-        println!("not there: the library's calls; only its peers are measured");
+    for name in &plan.missing {
+        println!("not there: {name}, whose calls this program does not have");
     }
     let peers = Peer::all(&room);
     messages::rows(&plan, &room, &peers);
     messages::lists(&plan);
     integers(&plan);
     // What follows compares single types, and shows nothing without the library.
-    if plan.has_library {
+    if calls::ARE_THERE {
         sets(&plan);
         walks(&plan);
         types(&plan);

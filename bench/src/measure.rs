@@ -31,14 +31,14 @@ const OF_LIMIT: f64 = 2.0;
 
 /// What to run.
 pub struct Plan {
-    /// A part of the names of the rows that are run; all where it is empty.
+    /// Parts of the names of the rows that are run, with | between; all where it is empty.
     pub rows: String,
     /// The candidate that is called once, and nothing else measured.
     pub once: Option<String>,
     /// The rounds of a row, where not its own number.
     pub rounds: Option<usize>,
-    /// Whether the library's calls are there, which candidates have the name "here".
-    pub has_library: bool,
+    /// What the names of candidates begin with whose calls are not in this program.
+    pub missing: Vec<&'static str>,
     /// Where each row's times go too, for the picture: row, candidate, nanoseconds, and the goal, with tabs between.
     pub kept: Option<RefCell<std::fs::File>>,
 }
@@ -89,7 +89,7 @@ impl Candidate<'_> {
 impl Plan {
     /// Whether a row of this name is run.
     pub fn has(&self, row: &str) -> bool {
-        row.contains(self.rows.as_str())
+        self.rows.split('|').any(|part| row.contains(part))
     }
 
     /// Measures the candidates in turn, and prints the least time of each for one of `items`, and the share of it that
@@ -98,7 +98,7 @@ impl Plan {
         if !self.has(row) {
             return;
         }
-        candidates.retain(|candidate| self.has_library || !candidate.name.starts_with("here"));
+        candidates.retain(|candidate| !self.missing.iter().any(|name| candidate.name.starts_with(name)));
         if let Some(once) = &self.once {
             for candidate in candidates.iter_mut().filter(|c| c.name == once) {
                 call_once(row, items, candidate);

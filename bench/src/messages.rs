@@ -1,6 +1,6 @@
 //! The rows of messages: certificates, lists of revoked ones, signed messages, answers of OCSP, each message by itself.
 
-use crate::calls::{self, octets as here};
+use crate::calls::{self, mbedtls, octets as here};
 use crate::measure::{Candidate, Goal, Plan, Work, by};
 use crate::peers::Peer;
 use crate::{inputs, limit, of_asn1, of_der, places};
@@ -38,10 +38,12 @@ impl Messages {
 
 pub type Call = fn(&[u8]) -> usize;
 
-/// A row over the messages of a file. Its candidates are calls for a message, and the call that peers know by a name.
+/// A row over the messages of a file. Its time is of one of so many items as stand in a message by `items`. Its candidates
+/// are calls for a message, and the call that peers know by a name.
 struct Row<'a> {
     name: &'a str,
     file: &'a str,
+    items: Call,
     rounds: usize,
     goals: &'a [Goal],
     calls: &'a [(&'static str, Call)],
@@ -87,12 +89,7 @@ fn run(plan: &Plan, room: &Path, peers: &[Peer], row: &Row) {
         return;
     };
     let all = messages.all();
-    // A row of what stands in messages is divided by how much of that there is.
-    let items = match row.of_peers {
-        "walk" => all.iter().map(|octets| limit::walk(octets)).sum(),
-        "revoked" => all.iter().map(|octets| limit::revoked(octets)).sum(),
-        _ => all.len(),
-    };
+    let items: usize = all.iter().map(|octets| (row.items)(octets)).sum();
     let mut candidates: Vec<Candidate> = Vec::new();
     for (name, call) in row.calls {
         let all = &all;
@@ -105,38 +102,55 @@ fn run(plan: &Plan, room: &Path, peers: &[Peer], row: &Row) {
     plan.row(row.name, items.max(1), row.rounds, row.goals, candidates);
 }
 
-const WITH_NAMES: [(&str, Call); 5] = [
+/// Whether the octets are a list of revoked certificates, for a row whose calls don't count the entries.
+fn mbedtls_list(octets: &[u8]) -> usize {
+    mbedtls::beside_mbedtls_revoked(octets).min(1)
+}
+
+// (the names are gone through item by item where they are no lists)
+const WITH_NAMES: [(&str, Call); 6] = [
     ("here", here::read_certificate_names),
     ("limit", limit::certificate_names),
+    ("mbedTLS 3.6", mbedtls::beside_mbedtls_certificate_names),
     ("asn1 0.24", of_asn1::certificate_names),
     ("x509-cert", x509_cert),
     ("x509-parser", x509_parser),
 ];
 
 // (where a name says so, the names are not looked into)
-const NAMES_KEPT: [(&str, Call); 6] = [
+const CERTIFICATE: [(&str, Call); 7] = [
     ("here", here::read_certificate),
     ("limit", limit::certificate),
+    ("mbedTLS 3.6", mbedtls::beside_mbedtls_certificate),
     ("asn1 0.24", of_asn1::certificate),
     ("no names: asn1 0.24", of_asn1::certificate_no_names),
     ("no names: webpki", webpki),
     ("no names: der 0.8", of_der::certificate),
 ];
 
+// (the entries are gone through one by one where they are no list)
 const REVOKED: [(&str, Call); 7] = [
     ("here", here::read_revoked),
     ("limit", limit::revoked),
+    ("mbedTLS 3.6", mbedtls::beside_mbedtls_revoked),
     ("asn1 0.24", of_asn1::revoked),
-    ("asn1 0.24, later", of_asn1::revoked_later),
     ("der 0.8", of_der::revoked),
     ("x509-cert", x509_cert_revoked),
     ("x509-parser", x509_parser_revoked),
 ];
 
-const WALK: [(&str, Call); 5] = [
+const REVOKED_CHECKED: [(&str, Call); 4] = [
+    ("here", here::check_revoked),
+    ("limit", limit::revoked_checked),
+    ("mbedTLS 3.6", mbedtls_list),
+    ("asn1 0.24", of_asn1::revoked_checked),
+];
+
+const WALK: [(&str, Call); 6] = [
     ("here", here::walk),
     ("here, headers", here::walk_headers),
     ("limit", limit::walk),
+    ("mbedTLS 3.6", mbedtls::beside_mbedtls_walk),
     ("asn1 0.24", of_asn1::walk),
     ("der 0.8", of_der::walk),
 ];
@@ -148,41 +162,49 @@ const SIGNED: [(&str, Call); 3] = [("here", here::read_signed), ("limit", limit:
 
 const STATUS: [(&str, Call); 3] = [("here", here::read_status), ("limit", limit::status), ("asn1 0.24", of_asn1::status)];
 
+/// Where the time is of a message.
+fn one(_octets: &[u8]) -> usize {
+    1
+}
+
 /// The rows whose goals are shares of the fastest peers.
 pub fn rows(plan: &Plan, room: &Path, peers: &[Peer]) {
-    let row = |name, file, rounds, goals, calls, of_peers| {
-        run(plan, room, peers, &Row { name, file, rounds, goals, calls, of_peers });
+    let row_of = |name, file, items, rounds, goals, calls, of_peers| {
+        run(plan, room, peers, &Row { name, file, items, rounds, goals, calls, of_peers });
     };
+    let row = |name, file, goals, calls, of_peers| row_of(name, file, one, 25, goals, calls, of_peers);
     for (name, file) in [("certificate with names, system", "system"), ("certificate with names, leaf", "leaves")] {
-        row(name, file, 25, &[("mbedTLS 3.6", 0.9)], &WITH_NAMES, "certificate");
+        row(name, file, &[("mbedTLS 3.6", 0.9)], &WITH_NAMES, "certificate");
     }
-    // (what C and Go read is in the rows above: it is certificates with their names)
-    for (name, file) in [("certificate, names kept, system", "system"), ("certificate, names kept, leaf", "leaves")] {
-        row(name, file, 25, &[("asn1 0.24", 0.7)], &NAMES_KEPT, "none");
+    // (what the other libraries in C and Go read is in the rows above: it is certificates with their names)
+    for (name, file) in [("certificate, system", "system"), ("certificate, leaf", "leaves")] {
+        row(name, file, &[("asn1 0.24", 0.7)], &CERTIFICATE, "none");
     }
     // (where the fields stand, as C has them: a walk over the headers is what it cannot do without)
     let goals = &[("here, headers", 1.5), ("OpenSSL", 1.0), ("x509-cert", 1.0)];
     for (name, file) in [("places of the fields, system", "system"), ("places of the fields, leaf", "leaves")] {
-        row(name, file, 25, goals, &places::FIELDS, "certificate");
+        row(name, file, goals, &places::FIELDS, "certificate");
     }
     for (name, file) in [("places of each part, system", "system"), ("places of each part, leaf", "leaves")] {
-        row(name, file, 25, goals, &places::EACH_PART, "certificate");
+        row(name, file, goals, &places::EACH_PART, "certificate");
     }
-    for (name, file, rounds) in [
-        ("revoked entry, 1,000", "revoked-1000", 25),
-        ("revoked entry, 10,000", "revoked-10000", 15),
-        ("revoked entry, 100,000", "revoked-100000", 7),
-        ("revoked entry, 1,000,000", "revoked-1000000", 3),
+    let goals = &[("mbedTLS 3.6", 0.7)];
+    for (name, checked, file, rounds) in [
+        ("revoked entry, 1,000", "revoked entry checked, 1,000", "revoked-1000", 25),
+        ("revoked entry, 10,000", "revoked entry checked, 10,000", "revoked-10000", 15),
+        ("revoked entry, 100,000", "revoked entry checked, 100,000", "revoked-100000", 7),
+        ("revoked entry, 1,000,000", "revoked entry checked, 1,000,000", "revoked-1000000", 3),
     ] {
-        row(name, file, rounds, &[("mbedTLS 3.6", 0.7)], &REVOKED, "revoked");
+        row_of(name, file, limit::revoked, rounds, goals, &REVOKED, "revoked");
+        row_of(checked, file, limit::revoked, rounds, goals, &REVOKED_CHECKED, "none");
     }
     let goals = &[("mbedTLS 3.6", 1.0), ("OpenSSL", 0.55)];
     for (name, file) in [("walk one at a time, system", "system"), ("walk one at a time, leaf", "leaves")] {
-        row(name, file, 25, goals, &WALK, "walk");
+        row_of(name, file, limit::walk, 25, goals, &WALK, "walk");
     }
-    row("read and write a leaf certificate", "leaves", 25, &[("der 0.8", 0.35)], &REWRITTEN, "rewritten");
-    row("SignedData with one certificate", "signed", 25, &[], &SIGNED, "signed");
-    row("OCSP answer", "status", 25, &[], &STATUS, "status");
+    row("read and write a leaf certificate", "leaves", &[("der 0.8", 0.35)], &REWRITTEN, "rewritten");
+    row("SignedData with one certificate", "signed", &[], &SIGNED, "signed");
+    row("OCSP answer", "status", &[], &STATUS, "status");
 }
 
 /// The leaves of the rows of lists within lists, and how often they are written at each call.

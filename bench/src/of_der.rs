@@ -96,7 +96,7 @@ pub struct List<'a> {
     pub signature: BitStringRef<'a>,
 }
 
-/// A certificate whose names are kept, and not looked into.
+/// A certificate whose names are not looked into.
 pub fn certificate(octets: &[u8]) -> usize {
     usize::from(Certificate::from_der(octets).is_ok())
 }

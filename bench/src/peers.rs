@@ -1,4 +1,4 @@
-//! The peers that are programs of their own: each library in C, and Go. They answer `c/peer.c`'s lines.
+//! The peers that are programs of their own: the libraries in C but mbedTLS, and Go. They answer `c/peer.c`'s lines.
 
 use std::cell::RefCell;
 use std::io::{BufRead, BufReader, Write};
@@ -6,8 +6,7 @@ use std::path::{Path, PathBuf};
 use std::process::{Child, ChildStdout, Command, Stdio};
 
 /// A peer's name, and the name of its program in the folder `peers` of the room.
-pub const ALL: [(&str, &str); 9] = [
-    ("mbedTLS 3.6", "mbedtls"),
+pub const ALL: [(&str, &str); 8] = [
     ("wolfSSL", "wolfssl"),
     ("GnuTLS", "gnutls"),
     ("NSS", "nss"),

@@ -1,6 +1,6 @@
 //! The rows of places: where the fields of a certificate stand, by the calls for C, as `der-proved` makes them.
 
-use crate::calls::octets as here;
+use crate::calls::{mbedtls, octets as here};
 use crate::messages::{Call, x509_cert, x509_parser};
 
 /// The fields of a certificate.
@@ -36,8 +36,18 @@ fn headers(octets: &[u8]) -> usize {
     usize::from(here::walk_headers(octets) > 0)
 }
 
-pub const FIELDS: [(&str, Call); 4] =
-    [("here", certificate), ("here, headers", headers), ("x509-cert", x509_cert), ("x509-parser", x509_parser)];
+pub const FIELDS: [(&str, Call); 5] = [
+    ("here", certificate),
+    ("here, headers", headers),
+    ("mbedTLS 3.6", mbedtls::beside_mbedtls_certificate),
+    ("x509-cert", x509_cert),
+    ("x509-parser", x509_parser),
+];
 
-pub const EACH_PART: [(&str, Call); 4] =
-    [("here", each_part), ("here, headers", headers), ("x509-cert", x509_cert), ("x509-parser", x509_parser)];
+pub const EACH_PART: [(&str, Call); 5] = [
+    ("here", each_part),
+    ("here, headers", headers),
+    ("mbedTLS 3.6", mbedtls::beside_mbedtls_certificate_names),
+    ("x509-cert", x509_cert),
+    ("x509-parser", x509_parser),
+];
