@@ -171,7 +171,7 @@ def library():
     """The lines of crates.txt of what a written crate stands on."""
     with open(f"{ROOT}/crates.txt", encoding="utf-8") as it:
         lines = dict(line.rstrip("\n").split(":", 1) for line in it if ":" in line)
-    wanted, found = ["der_ascii", "der_bits", "der_modules", "der_text", "der_time"], {}
+    wanted, found = ["der_ascii", "der_bits", "der_lists", "der_modules", "der_text", "der_time"], {}
     while wanted:
         name = wanted.pop()
         if name in lines and name not in found:

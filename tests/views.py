@@ -594,7 +594,7 @@ def close_the_pipe(program):
 
 def refuse_memory(program):
     """In the program of `rt try` a request of a known number is refused. A bundle comes to it, and nothing of it is written."""
-    bundle = CERTIFICATE * 200
+    bundle = CERTIFICATE * 400
     for words in ([], ["--json"]):
         status, text, said = run(program, words, bundle)
         wanted = documents.input_of("-", "", "certview: out of memory\n")
