@@ -26,6 +26,16 @@ use Rattle.der_nest.specs.BorrowedLaws.{last_of, before_all, follow_in_order, pa
 use Rattle.der_lists.specs.SetsInOrder.{IsItem, InOrder, AcceptsInOrder, as_it_stands, parse_standing}
 use Rattle.der_lists.specs.SetsInOrderLaws.{few_parts, parts_parsed}
 
+-- no octets are not greater than others
+none_above : (e : List ℕ) → is_gt (lex [] e) ≡ false
+none_above [] = refl
+none_above (x ∷ e) = refl
+
+pub none_before : (octets : List ℕ) (before start : ℕ) (e : List ℕ) → before ≡ start → is_gt (lex (take (start - before) (drop before octets)) e) ≡ false
+none_before octets before start e same =
+    let n : start - before ≡ 0 = omega arith in
+    ap (λ k. is_gt (lex (take k (drop before octets)) e)) n ∙ none_above e
+
 -- the octets of the items that were read, in order, and those of the last
 pub record InOrderSoFar {T : Type 0} (F : form.Ghosts T) (octets : List ℕ) (now : ReaderState) (last : List ℕ) : Type 0 where
   pub parts : List (List ℕ)
@@ -174,3 +184,26 @@ module _ {T : Type 0} {F : form.Ghosts T} {octets : List ℕ} {now : ReaderState
     -- where nothing is left, the octets are those of the items
     pub in_order_accepted : rest now ≡ [] → AcceptsInOrder F s.parts octets
     in_order_accepted none = record { all = whole ∙ ap (λ c. concat s.parts ++ c) none ∙ append-nil (concat s.parts); items = s.items }
+
+-- the items that were read, the last of which begins at a place
+pub record InOrderFrom {T : Type 0} (F : form.Ghosts T) (octets : List ℕ) (now : ReaderState) (before : ℕ) : Type 0 where
+  pub read : InOrderSoFar F octets now (take (now.position - before) (drop before octets))
+  pub behind : before ≤ now.position
+
+pub none_from : {T : Type 0} (F : form.Ghosts T) (octets : List ℕ) (now : ReaderState) → now ≡ new_reader octets Der → InOrderFrom F octets now 0
+none_from F octets now e =
+    let n : now.position - 0 ≡ 0 = omega (arith, ap (λ s. s.position) e) in
+    record { read = none_in_order F octets now (take (now.position - 0) (drop 0 octets)) e (ap (λ k. take k (drop 0 octets)) n); behind = omega arith }
+
+module _ {T : Type 0} {F : form.Ghosts T} {octets : List ℕ} {now : ReaderState} {before : ℕ} (s : InOrderFrom F octets now before) where
+  -- the octets before a place are those of the last item
+  pub last_at : (bytes : List ℕ) (start : ℕ) → bytes ≡ octets → start ≡ now.position → take (start - before) (drop before bytes) ≡ take (now.position - before) (drop before octets)
+  last_at bytes start same from = ap (λ k. take (k - before) (drop before bytes)) from ∙ ap (λ b. take (now.position - before) (drop before b)) same
+
+  pub one_more_from : {new : ReaderState} {v : T} (nonempty : (v : T) (b : List ℕ) → F.accepts Der v b → 0 < length b) → (told : Decoded F now new v) → (bytes : List ℕ) (start end : ℕ) → bytes ≡ octets → start ≡ now.position → end ≡ new.position → is_gt (lex (take (start - before) (drop before bytes)) (take (end - start) (drop start bytes))) ≡ false → InOrderFrom F octets new start
+  one_more_from {new} {v} nonempty told bytes start end same from to not_above =
+      let part = take (end - start) (drop start bytes) in
+      let is = part_is s.read told bytes start end same from to in
+      let more : InOrderSoFar F octets new part = one_more_in_order s.read nonempty told part is (ap (λ l. is_gt (lex l part)) (sym (last_at bytes start same from)) ∙ not_above) in
+      let is_at : part ≡ take (new.position - start) (drop start octets) = ap (λ k. take (k - start) (drop start bytes)) to ∙ ap (λ b. take (new.position - start) (drop start b)) same in
+      record { read = subst (InOrderSoFar F octets new) is_at more; behind = omega (arith, ap (λ s. s.position) told.after) }

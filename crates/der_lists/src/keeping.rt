@@ -1,6 +1,8 @@
 //! Contents octets that are kept once their items were read.
 
-ghost use Rattle.std.specs.Prelude.{◌≡◌, ◌<◌, ◌≤◌, ◌^◌, length, IfErr, OnOk};
+ghost use Rattle.std.specs.Prelude.{◌≡◌, ◌<◌, ◌≤◌, ◌-◌, ◌^◌, length, take, drop, IfErr, OnOk};
+ghost use Rattle.std.specs.Ordering.{is_gt};
+ghost use Rattle.der_tlv.specs.Octets.{lex};
 ghost use Rattle.der_tlv.specs.declared.error.ErrorKind.TheVariants as kinds;
 ghost use Rattle.der_tlv.specs.declared.tag.Tag.TheVariants as tags;
 ghost use Rattle.der_opaque.specs.OctetStringRef.{octets_of};
@@ -57,17 +59,41 @@ pub(crate) fn keep_in_order<'a, T: Decode<'a, SliceReader<'a>> + Choice>(
         Ok(reader) => reader,
         Err(e) => return Err(e),
     };
-    let mut last = &bytes[..0];
+    let mut before = 0;
     'items: while !reader.is_finished() {
         let start = reader.position().value() as usize;
         let _item = T::decode(alloc, &mut reader)?;
-        let item = &bytes[start..reader.position().value() as usize];
-        if last.cmp(item).is_gt() {
+        if is_less(bytes, before, start, reader.position().value() as usize) {
             return Err(reader.error(ErrorKind::SetOrdering));
         }
-        last = item;
+        before = start;
     }
     Ok(octets)
+}
+
+/// Whether the item that stands from one place to another is less than the item before it, which begins at
+/// a place of its own. The first item has none before it, and both places are alike.
+#[inline(always)]
+#[tactic(auto, using(crate::proofs::InOrderReading::none_before))]
+fn is_less(octets: &[u8], before: usize, start: usize, end: usize) -> bool
+    requires behind { before ≤ start }
+    requires ordered { start ≤ end }
+    requires inside { end ≤ length octets.now }
+    ensures { result ≡ is_gt (lex (take (start - before) (drop before octets.now))
+        (take (end - start) (drop start octets.now))) }
+{
+    if before == start {
+        return false;
+    }
+    is_above(&octets[before..start], &octets[start..end])
+}
+
+/// Whether octets are greater than others.
+#[inline(never)]
+fn is_above(octets: &[u8], others: &[u8]) -> bool
+    ensures { result ≡ is_gt (lex octets.now others.now) }
+{
+    octets.cmp(others).is_gt()
 }
 
 /// A fault of contents octets, before the first of which so many octets stand.

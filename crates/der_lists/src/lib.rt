@@ -13,6 +13,7 @@ mod item_iter;
 mod item_test;
 mod keeping;
 mod list_ref;
+mod members;
 mod non_empty_ref;
 mod set_ref;
 mod unordered_set_ref;

@@ -77,8 +77,8 @@ impl<'a, R: Source<'a>, L: DecodeValue<'a, R> + OneTag> DecodeValue<'a, R> for N
         reader: &mut R,
         header: Header,
     ) -> Result<NonEmptyRef<L>, Error> {
-        check_ready(reader)?;
-        if reader.is_finished() {
+        if header.length == Length::ZERO {
+            check_ready(reader)?;
             return Err(reader.error(<<L as OneTag>::Marker as TagMarker>::TAG.value_error()));
         }
         let list = L::decode_value(alloc, reader, header)?;

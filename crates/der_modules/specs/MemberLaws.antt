@@ -1,8 +1,6 @@
 -- The laws of a type of one's own, from those of what it holds, one by one: a struct or an enum with no bounds names each.
-use Rattle.std.specs.List.{list_any}
 use Rattle.std.specs.Option.{option_eq}
-use Rattle.std.specs.Cmp.Lexicographic.{pointwise}
-use Rattle.std.proofs.Common.{◌≡◌, ℕ, List, flat_map, Bool, true, false, ◌||◌, Option, Some, refl, sym, ap, ◌∙◌, subst, IsTrue, ◌↔◌}
+use Rattle.std.proofs.Common.{◌≡◌, ℕ, List, Bool, true, Option, Some, refl, sym, ap, ◌∙◌, subst, IsTrue, ◌↔◌}
 use Rattle.std.proofs.lemmas.Bool.{and_from}
 use Rattle.der_tlv.specs.declared.tag.Tag.{Tag}
 use Rattle.der_tlv.specs.OctetLaws.{SameBeginning}
@@ -11,21 +9,17 @@ use Rattle.der_tlv.specs.HeaderLaws.{same_identifier-same}
 use Rattle.der_tlv.specs.Identifier.{same_identifier}
 use Rattle.der_elem.specs.declared.form.Form as form
 use Rattle.der_elem.specs.FirstTags.{SamePresence, Starts}
-use Rattle.der_elem.specs.FirstTagLaws.{beginning_tagged, beginning_option, starts_tagged, starts_option, own_first_tag_tagged, own_first_tag_option}
-use Rattle.der_elem.specs.Items.{AllComparable, AreCopies}
-use Rattle.der_elem.specs.CopyLaws.{copies_encoding, copies_comparable, copies_re_read, copies_are_equal}
-use Rattle.der_elem.specs.EqualityLaws.{items_eq}
-use Rattle.der_elem.specs.Options.{first_tag_option, encoding_option, comparable_option, test_option, is_copy_option}
-use Rattle.der_elem.specs.OptionLaws.{encoding_eq_option, copy_encoding_option, copy_comparable_option, copy_re_reads_option, copy_is_equal_option}
+use Rattle.der_elem.specs.FirstTagLaws.{starts_tagged}
+use Rattle.der_elem.specs.Options.{encoding_option, comparable_option, test_option, is_copy_option}
+use Rattle.der_elem.specs.OptionLaws.{copy_encoding_option, copy_comparable_option, copy_re_reads_option, copy_is_equal_option}
 use Rattle.der_elem.specs.TaggedLaws.{encoding_eq_tagged}
 use Rattle.der_fields.specs.declared.one_of.OneOf.{OneOf}
 use Rattle.der_fields.specs.declared.one_of.OneOf.TheVariants.{First, Other}
 use Rattle.der_fields.specs.Alternatives.{of_one, ComparableOne, IsCopyOne}
-use Rattle.der_fields.specs.AlternativeLaws.{encoding_is_one, own_tag_one, first_tag_is_one, encoding_eq_one, copy_encoding_one, copy_comparable_one, copy_re_reads_one, copy_is_equal_one}
-use Rattle.der_fields.specs.Defaults.{is_default, octets_unless, first_tag_unless, test_unless}
-use Rattle.der_fields.specs.DefaultLaws.{own_first_tag_default, starts_default, beginning_default, encoding_eq_default}
+use Rattle.der_fields.specs.AlternativeLaws.{copy_encoding_one, copy_comparable_one, copy_re_reads_one, copy_is_equal_one}
+use Rattle.der_fields.specs.Defaults.{is_default, octets_unless, test_unless}
 use Rattle.der_fields.specs.FieldsFormat.{FieldsFormat}
-use Rattle.der_fields.specs.FieldSteps.{both, equal_fields, ListEquality, ListCopies, equality_step, copies_step, rest_copies, rest_equality}
+use Rattle.der_fields.specs.FieldSteps.{both, equal_fields, ListCopies, copies_step, rest_copies}
 use Rattle.der_fields.specs.ListMakers.{end_list, field_list, part_of}
 
 -- comparable values are equal exactly where their octets are
@@ -96,50 +90,7 @@ held_copies view c = record {
   equal_are = λ v w. c.equal_are (view v) (view w);
 }
 
--- ---- items of a list
-
-module _ {T : Type 0} (F : form.Ghosts T) where
-  pub items_equality : {tag_of : T → Tag} {contents : T → List ℕ} → HasTag F.tags F.first_tag_of F.encoding tag_of contents → (eq : T → T → Bool) → Equal F.comparable eq F.encoding → Equal (AllComparable F.comparable) (pointwise eq) (flat_map F.encoding)
-  items_equality {tag_of} {contents} h eq equal = items_eq tag_of contents F.encoding h.encoding_is F.comparable eq equal
-
-  pub items_copies : {is_copy : T → T → Type 0} {eq : T → T → Bool} → Copies is_copy eq F.encoding F.comparable F.re_reads → Copies (AreCopies is_copy) (pointwise eq) (flat_map F.encoding) (AllComparable F.comparable) (list_any F.re_reads)
-  items_copies {is_copy} {eq} c = record {
-    octets_are = copies_encoding F is_copy c.octets_are;
-    comparable_are = copies_comparable F is_copy c.comparable_are;
-    re_reads_are = copies_re_read F is_copy c.re_reads_are;
-    equal_are = copies_are_equal is_copy eq c.equal_are;
-  }
-
 -- ---- fields: one that is there, one that may be absent, one that has a default
-
-module _ {T : Type 0} (F : form.Ghosts T) {tag_of : T → Tag} {contents : T → List ℕ} (h : HasTag F.tags F.first_tag_of F.encoding tag_of contents) where
-  pub tagged_starts : HasFirst F.tags F.first_tag_of F.encoding
-  tagged_starts = record {
-    starts = λ v. starts_tagged tag_of contents F.encoding h.encoding_is v (F.first_tag_of v) (h.first_tag_is v);
-    own_first_tag = λ v. own_first_tag_tagged F.tags (tag_of v) (h.own_tag v) (F.first_tag_of v) (h.first_tag_is v);
-    same_beginning = λ v w p. beginning_tagged tag_of contents F.encoding h.encoding_is v w;
-  }
-
-  pub optional_starts : HasFirst F.tags (first_tag_option F.first_tag_of) (encoding_option F.encoding)
-  optional_starts = record {
-    starts = starts_option tag_of contents F.encoding h.encoding_is F.first_tag_of h.first_tag_is;
-    own_first_tag = own_first_tag_option F.tags tag_of h.own_tag F.first_tag_of h.first_tag_is;
-    same_beginning = beginning_option tag_of contents F.encoding h.encoding_is F.first_tag_of h.first_tag_is;
-  }
-
-  pub optional_equality : (eq : T → T → Bool) → Equal F.comparable eq F.encoding → Equal (comparable_option F.comparable) (option_eq eq) (encoding_option F.encoding)
-  optional_equality eq equal = encoding_eq_option tag_of contents F.encoding h.encoding_is F.comparable eq equal
-
-  module _ {W : Type 0} (value_of : W → T) (default : List ℕ) where
-    pub default_starts : HasFirst F.tags (λ v. first_tag_unless (is_default default (F.encoding (value_of v))) (F.first_tag_of (value_of v))) (λ v. octets_unless (is_default default (F.encoding (value_of v))) (F.encoding (value_of v)))
-    default_starts = record {
-      starts = λ v. starts_default tag_of contents F.encoding h.encoding_is (value_of v) (F.first_tag_of (value_of v)) (h.first_tag_is (value_of v)) (is_default default (F.encoding (value_of v)));
-      own_first_tag = λ v. own_first_tag_default F.tags (tag_of (value_of v)) (h.own_tag (value_of v)) (F.first_tag_of (value_of v)) (h.first_tag_is (value_of v)) (is_default default (F.encoding (value_of v)));
-      same_beginning = λ v w. beginning_default tag_of contents F.encoding h.encoding_is F.first_tag_of h.first_tag_is (is_default default (F.encoding (value_of v))) (is_default default (F.encoding (value_of w))) (value_of v) (value_of w);
-    }
-
-    pub default_equality : (eq : T → T → Bool) → Equal F.comparable eq F.encoding → Equal (λ v w. F.comparable (value_of v) (value_of w)) (λ v w. eq (value_of v) (value_of w)) (λ v. octets_unless (is_default default (F.encoding (value_of v))) (F.encoding (value_of v)))
-    default_equality eq equal v w = encoding_eq_default tag_of contents F.encoding h.encoding_is F.comparable eq equal default (value_of v) (value_of w)
 
 module _ {T : Type 0} (F : form.Ghosts T) {is_copy : T → T → Type 0} {eq : T → T → Bool} (c : Copies is_copy eq F.encoding F.comparable F.re_reads) where
   pub optional_copies : Copies (is_copy_option is_copy) (option_eq eq) (encoding_option F.encoding) (comparable_option F.comparable) (test_option F.re_reads)
@@ -165,16 +116,10 @@ pub record FieldCopies {T : Type 0} (G : FieldsFormat T) (are_copies : T → T �
   pub list : ListCopies G are_copies
   pub equal : (v w : T) → are_copies v w → IsTrue (eq v w)
 
-pub no_equality : ListEquality end_list (λ v w. true)
-no_equality = rest_equality end_list (λ v. refl) (λ v w. true) (λ v w one. (λ h. refl, λ e. refl))
-
 pub no_copies : FieldCopies end_list (λ v w. Unit {0}) (λ v w. true)
 no_copies = record { list = rest_copies end_list (λ v. refl) (λ v w. Unit {0}) (λ v w c. refl) (λ v w x c one. tt) (λ v w c. refl); equal = λ v w c. refl }
 
 module _ {T U : Type 0} (F : form.Ghosts T) (first : HasFirst F.tags F.first_tag_of F.encoding) {G : FieldsFormat U} where
-  pub member_equality : (eq : T → T → Bool) → Equal F.comparable eq F.encoding → {eq' : U → U → Bool} → ListEquality G eq' → ListEquality (field_list F G) (equal_fields eq eq')
-  member_equality eq equal rest = equality_step F eq equal first.starts first.own_first_tag first.same_beginning rest
-
   pub member_copies : {is_copy : T → T → Type 0} {eq : T → T → Bool} → Copies is_copy eq F.encoding F.comparable F.re_reads → {are_copies : U → U → Type 0} {eq' : U → U → Bool} → FieldCopies G are_copies eq' → FieldCopies (field_list F G) (both is_copy are_copies) (equal_fields eq eq')
   member_copies {is_copy} {eq} c {are_copies} {eq'} rest = record {
     list = copies_step F is_copy first.starts c.octets_are c.comparable_are c.re_reads_are rest.list;
@@ -183,9 +128,6 @@ module _ {T U : Type 0} (F : form.Ghosts T) (first : HasFirst F.tags F.first_tag
 
 -- fields after those that a step tells
 module _ {S T : Type 0} (view : S → T) {G : FieldsFormat T} where
-  pub part_equality : {eq : T → T → Bool} → ListEquality G eq → ListEquality (part_of view G) (λ v w. eq (view v) (view w))
-  part_equality e = record { starts = record { starts = λ v. e.starts.starts (view v) }; equal = λ v w. e.equal (view v) (view w) }
-
   pub part_copies : {are_copies : T → T → Type 0} {eq : T → T → Bool} → FieldCopies G are_copies eq → FieldCopies (part_of view G) (λ v w. are_copies (view v) (view w)) (λ v w. eq (view v) (view w))
   part_copies c = record {
     list = record {
@@ -203,31 +145,21 @@ listed_copies c = record { octets_are = c.list.joined; comparable_are = c.list.c
 
 -- ---- the alternatives of a CHOICE, two at a time
 
+starts_of : {T : Type 0} (F : form.Ghosts T) {tag_of : T → Tag} {contents : T → List ℕ} → HasTag F.tags F.first_tag_of F.encoding tag_of contents → (v : T) → Starts (F.first_tag_of v) (F.encoding v)
+starts_of F {tag_of} {contents} h v = starts_tagged tag_of contents F.encoding h.encoding_is v (F.first_tag_of v) (h.first_tag_is v)
+
 module _ {A B : Type 0} (F : form.Ghosts A) (G : form.Ghosts B) {tag_of : A → Tag} {tag_of' : B → Tag} {contents : A → List ℕ} {contents' : B → List ℕ} (h : HasTag F.tags F.first_tag_of F.encoding tag_of contents) (k : HasTag G.tags G.first_tag_of G.encoding tag_of' contents') where
-  pub either_tag : HasTag (λ t. F.tags t || G.tags t) (of_one F.first_tag_of G.first_tag_of) (of_one F.encoding G.encoding) (of_one tag_of tag_of') (of_one contents contents')
-  either_tag = record {
-    encoding_is = encoding_is_one tag_of tag_of' contents F.encoding contents' G.encoding h.encoding_is k.encoding_is;
-    own_tag = own_tag_one F.tags G.tags tag_of tag_of' h.own_tag k.own_tag;
-    first_tag_is = first_tag_is_one tag_of tag_of' F.first_tag_of G.first_tag_of h.first_tag_is k.first_tag_is;
-  }
-
-  pub either_equality : (eq : A → A → Bool) (eq' : B → B → Bool) → Equal F.comparable eq F.encoding → Equal G.comparable eq' G.encoding → (eq_one : OneOf A B → OneOf A B → Bool) → ((v x : A) → eq_one (First v) (First x) ≡ eq v x) → ((w y : B) → eq_one (Other w) (Other y) ≡ eq' w y) → ((v : A) (w : B) → eq_one (First v) (Other w) ≡ false) → ((w : B) (v : A) → eq_one (Other w) (First v) ≡ false) → Equal (ComparableOne F.tags F.first_tag_of G.first_tag_of F.comparable G.comparable) eq_one (of_one F.encoding G.encoding)
-  either_equality eq eq' equal equal' eq_one same same' other other' = encoding_eq_one F G eq eq' equal equal' (tagged_starts F h).starts (tagged_starts G k).starts eq_one same same' other other'
-
   module _ {is_copy : A → A → Type 0} {is_copy' : B → B → Type 0} {eq : A → A → Bool} {eq' : B → B → Bool} (c : Copies is_copy eq F.encoding F.comparable F.re_reads) (d : Copies is_copy' eq' G.encoding G.comparable G.re_reads) where
     pub either_copies : (eq_one : OneOf A B → OneOf A B → Bool) → ((v x : A) → eq_one (First v) (First x) ≡ eq v x) → ((w y : B) → eq_one (Other w) (Other y) ≡ eq' w y) → Copies (IsCopyOne is_copy is_copy') eq_one (of_one F.encoding G.encoding) (ComparableOne F.tags F.first_tag_of G.first_tag_of F.comparable G.comparable) (of_one F.re_reads G.re_reads)
     either_copies eq_one same same' = record {
       octets_are = copy_encoding_one F G is_copy is_copy' c.octets_are d.octets_are;
-      comparable_are = copy_comparable_one F G is_copy is_copy' c.octets_are d.octets_are (tagged_starts F h).starts (tagged_starts G k).starts c.comparable_are d.comparable_are;
+      comparable_are = copy_comparable_one F G is_copy is_copy' c.octets_are d.octets_are (starts_of F h) (starts_of G k) c.comparable_are d.comparable_are;
       re_reads_are = copy_re_reads_one F G is_copy is_copy' c.octets_are d.octets_are c.re_reads_are d.re_reads_are;
       equal_are = copy_is_equal_one is_copy is_copy' eq_one (λ v x e. subst IsTrue (sym (same v x)) (c.equal_are v x e)) (λ w y e. subst IsTrue (sym (same' w y)) (d.equal_are w y e));
     }
 
 -- an enum that is seen as the tree of its alternatives
 module _ {S T : Type 0} (view : S → T) (own : S → S → Bool) (eq : T → T → Bool) (same : (v w : S) → own v w ≡ eq (view v) (view w)) where
-  pub seen_equality : {comparable : T → T → Type 0} {octets : T → List ℕ} → Equal comparable eq octets → Equal (λ v w. comparable (view v) (view w)) own (λ v. octets (view v))
-  seen_equality {comparable} {octets} equal v w one = subst (λ b. IsTrue b ↔ (octets (view v) ≡ octets (view w))) (sym (same v w)) (equal (view v) (view w) one)
-
   pub seen_copies : {is_copy : T → T → Type 0} {octets : T → List ℕ} {comparable : T → T → Type 0} {re_reads : T → Bool} → Copies is_copy eq octets comparable re_reads → Copies (λ v w. is_copy (view v) (view w)) own (λ v. octets (view v)) (λ v w. comparable (view v) (view w)) (λ v. re_reads (view v))
   seen_copies c = record {
     octets_are = λ v w. c.octets_are (view v) (view w);

@@ -1,14 +1,19 @@
 //! What the types of a module of ASN.1 stand on that `tools/asn1` writes: the words of ASN.1, in
-//! which its grammar is written (`specs/Asn1.antt`), and the laws of a type of one's own, from those
-//! of what it holds (`specs/MemberLaws.antt`).
+//! which its grammar is written (`specs/Asn1.antt`), equality of a type of one's own, from that of what
+//! it holds (`specs/Members.antt`), and the laws of its copies (`specs/MemberLaws.antt`).
 #![tactic(auto)]
 
+mod building;
 mod general_string;
+mod library;
+mod member;
 
 ghost use Rattle.std.specs.Prelude.{◌≡◌};
 ghost use Rattle.der_modules.specs.MemberLaws.{CopiesOf};
 
+pub use der_fields::{End, Field};
 pub use general_string::GeneralStringOctets;
+pub use member::{Choosing, Member};
 
 /// The laws of a type's copies as one member, which its impls of `DuplicateValue` or of `Duplicate`
 /// cite.
