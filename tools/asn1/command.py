@@ -6,7 +6,7 @@ import argparse
 import sys
 from pathlib import Path
 
-from .crates import Entry, entries_of, places_of
+from .crates import Entry, entries_of, parts_of, places_of
 from .errors import AsnError
 from .layout import LayoutError, laid_out
 from .parser import parse_module
@@ -15,6 +15,7 @@ from .resolver import resolve
 from .syntax import Module
 from .writer.crate import MARK, files_of_crate, marked
 from .writer.holders import hold_tagged
+from .writer.parts import write_parts
 from .writer.places import write_places
 from .writer.plan import Plan, Target
 from .writer.splitting import split_choices
@@ -71,6 +72,10 @@ def write_all(path: Path, with_remarks: bool) -> dict[str, str]:
             if entry.crate in others and entry.module:
                 for name, text in write_places(plan, crate, [module]).items():
                     found[f"{crate}/{name}"] = marked(name, text, module.file)
+    for crate, others in parts_of(path).items():
+        theirs = [module for module, entry in zip(resolved, entries) if entry.crate in others and entry.module]
+        for name, text in write_parts(plan, theirs).items():
+            found[f"{crate}/{name}"] = text
     return laid_out(found)
 
 

@@ -1,5 +1,5 @@
-"""The list of what is written where: a line a crate, as `der_ocsp: ocsp=OCSP.asn1`, and as `der_places places: der_ocsp` of one
-that has where the fields of others' types stand."""
+"""The list of what is written where: a line a crate, as `der_ocsp: ocsp=OCSP.asn1`; as `der_places places: der_ocsp` of one that
+has where the fields of others' types stand; and as `certview_text parts: der_ocsp` of one that has what their octets are made of."""
 
 from __future__ import annotations
 
@@ -10,7 +10,7 @@ from pathlib import Path
 from .errors import AsnError, Place
 
 LINE = re.compile(r"([a-z][a-z0-9_]*):((?:\s+(?:[a-z][a-z0-9_]*=)?[^\s=]+)+)\s*")
-PLACES = re.compile(r"([a-z][a-z0-9_]*)\s+places:((?:\s+[a-z][a-z0-9_]*)+)")
+OF_OTHERS = re.compile(r"([a-z][a-z0-9_]*)\s+(places|parts):((?:\s+[a-z][a-z0-9_]*)+)")
 
 
 @dataclass(frozen=True)
@@ -33,15 +33,25 @@ def lines_of(path: Path) -> list[tuple[int, str]]:
 
 def places_of(path: Path) -> dict[str, list[str]]:
     """The crates that have places, and each crate of whose types."""
-    parsed = [PLACES.fullmatch(text) for _, text in lines_of(path)]
-    return {found.group(1): found.group(2).split() for found in parsed if found}
+    return of_others(path, "places")
+
+
+def parts_of(path: Path) -> dict[str, list[str]]:
+    """The crates that have parts, and each crate of whose types."""
+    return of_others(path, "parts")
+
+
+def of_others(path: Path, word: str) -> dict[str, list[str]]:
+    """The crates of the lines with this word, and the crates that each line names."""
+    parsed = [OF_OTHERS.fullmatch(text) for _, text in lines_of(path)]
+    return {found.group(1): found.group(3).split() for found in parsed if found and found.group(2) == word}
 
 
 def entries_of(path: Path) -> list[Entry]:
     """The entries of a list; files are named from the folder that it stands in."""
     found: list[Entry] = []
     for number, text in lines_of(path):
-        if PLACES.fullmatch(text):
+        if OF_OTHERS.fullmatch(text):
             continue
         parsed = LINE.fullmatch(text)
         if parsed is None:

@@ -33,8 +33,6 @@ DEEPEST = 40  # types whose components are taken, one in another
 def fields_of(context: Context, type_: FieldsType) -> tuple[tuple[Field, ...], tuple[Field, ...]]:
     """The fields, distinguished by their tags: in the order of their encodings, and as they are written."""
     placed = components_of(context, type_)
-    if not placed:
-        raise AsnError(type_.place, "this type has no component", "write NULL, or a component that is OPTIONAL")
     check_names([(part.place, part.name) for part, _ in placed], "name")
     fields = tuple(one_field(context.within(env), part, field(part.name)) for part, env in placed)
     check_fields(fields)

@@ -137,8 +137,8 @@ class Fields(unittest.TestCase):
 
     def test_values_are_equal_where_their_octets_are(self) -> None:
         source = written(module_of("A ::= SEQUENCE { a SET OF NULL, b SEQUENCE SIZE (1..MAX) OF NULL }"))["src/test/a.rt"]
-        self.assertIn("(λ one. bytes_decides v.octets.octets.now w.octets.octets.now)", source)
-        self.assertIn("(λ one. bytes_decides v.list.octets.octets.now w.list.octets.octets.now)", source)
+        self.assertIn("(field ⟦<SetRef<'a, Null> as Member>⟧.member\n", source)
+        self.assertIn("(field ⟦<NonEmptyRef<ListRef<'a, Null>> as Member>⟧.member\n", source)
 
 
 class AnyOrder(unittest.TestCase):
@@ -251,7 +251,7 @@ class Named(unittest.TestCase):
         self.assertIn("#[derive(PartialEq, Eq, Drop)]\npub struct A<'a> {", source)
         self.assertIn("impl<'a> CopyLaws for A<'a> {", source)
         self.assertIn("(same_copies ⟦<SetRef<'a, Null> as FormValue>⟧.value.contents", source)
-        self.assertIn("(λ v. (bytes_decides v.octets.octets.now v.octets.octets.now).1 refl)", source)
+        self.assertIn("(λ v. (⟦<SetRef<'a, Null> as Member>⟧.member.equal v v tt).1 refl)", source)
 
 
 class Together(unittest.TestCase):

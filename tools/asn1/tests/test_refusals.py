@@ -106,7 +106,6 @@ BODIES = [
     ("A ::= SEQUENCE { a A OPTIONAL }", "", "2:20", "the type 'A' reaches itself: A, A"),
     ("A ::= SEQUENCE OF B\nB ::= CHOICE { a [0] A, b NULL }", "", "3:22", "the type 'A' reaches itself: A, B, A"),
     ("A ::= B\nB ::= A", "", "3:7", "the type 'A' reaches itself"),
-    ("A ::= SEQUENCE { }", "", "2:7", "this type has no component"),
     ("A ::= ENUMERATED { a(9223372036854775808) }", "", "2:7", "an ENUMERATED with numbers of 64 bits"),
     # ---- DEFAULT
     ("A ::= SEQUENCE { a BOOLEAN DEFAULT TRUE }", "", "2:36", "DEFAULT TRUE is not taken"),

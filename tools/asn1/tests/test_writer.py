@@ -68,7 +68,7 @@ class Holders(unittest.TestCase):
     def test_it_has_no_name_outside(self) -> None:
         root = self.files["src/test.rt"]
         self.assertIn("mod explicit3_i;", root)
-        for name in ("src/test/laws.rt", "specs/Test.antt", "specs/Test/Grammar.antt", "src/parts.rt"):
+        for name in ("src/test/laws.rt", "specs/Test.antt", "specs/Test/Grammar.antt"):
             self.assertNotIn("Explicit3", self.files[name])
         self.assertNotIn("Explicit3", root)
 
@@ -207,11 +207,23 @@ class Shapes(unittest.TestCase):
         found = written(module_of(body))
         self.assertNotIn("src/test/b.rt", found)
         self.assertIn("use der_b::Bee;", found["src/test/a.rt"])
-        self.assertIn("Rattle.der_b.specs.contracts.files.own.BeeContentsEq.TheImpl.Laws", found["src/test/a.rt"])
+        self.assertIn("(field ⟦<Bee as Member>⟧.member\n", found["src/test/a.rt"])
         self.assertIn("use Rattle.der_b.specs.declared.files.own.Bee.{Bee}", found["specs/Test/A.antt"])
         self.assertIn("pub use der_b::Bee;", found["src/test/aliases.rt"])
         self.assertIn("pub fn grammar_of_bee()", found["src/test/aliases.rt"])
         self.assertEqual(grammar(body)["bee"], "SEQUENCE (field NULL end)")
+
+    def test_no_components(self) -> None:
+        """SEQUENCE { } and SET { } have one value, 30 00 and 31 00 (X.680 25.1, 27.1)."""
+        for text, tag in (("SEQUENCE { }", "Sequence"), ("SET { }", "Set"), ("SEQUENCE { ... }", "Sequence")):
+            with self.subTest(text):
+                found = written(module_of(f"A ::= {text}"))
+                self.assertIn("type Fields = End;", found["src/test/a.rt"])
+                self.assertIn("pub fn new() -> A {", found["src/test/a.rt"])
+                self.assertIn("joined (\n        [])", found["src/test/a.rt"])
+                self.assertNotIn("specs/Test/A.antt", found)
+                self.assertEqual(grammar(f"A ::= {text}")["a"], f"{tag.upper()} end")
+        self.assertIn("Implicit<AB, 0>", written(module_of("A ::= SEQUENCE { b [0] SEQUENCE { } }", "IMPLICIT TAGS"))["src/test/a.rt"])
 
     def test_defaults_after_tags(self) -> None:
         body = "A ::= SEQUENCE { a [0] BOOLEAN DEFAULT FALSE }"

@@ -1,11 +1,12 @@
-"""Equality, copies and the known tags of a CHOICE, from those of its alternatives."""
+"""Copies and the known tags of a CHOICE, from those of its alternatives."""
 
 from __future__ import annotations
 
 from ..model import Resolved
 from ..properties import properties_of_definition
-from .alternatives import Alternatives, by_variants, first_tags, ghosts, halves, quote, tree
-from .laws import BREAK, Laws
+from .alternatives import Alternatives, first_tags, ghosts, halves, quote, tree
+from .equality import BREAK, choice_of, own_eq, same_equality
+from .copies import Copies
 from .source import Source
 from .values import COPIES, copy_laws, law_of_copies
 
@@ -16,7 +17,7 @@ class TreeLaws:
     def __init__(self, source: Source, all_of: Alternatives) -> None:
         self.source = source
         self.all_of = all_of
-        self.laws = Laws(source)
+        self.laws = Copies(source)
 
     def types(self) -> list[Resolved]:
         return self.all_of.parts
@@ -30,26 +31,8 @@ class TreeLaws:
         return indices[:middle], indices[middle:]
 
     def has_tags(self, indices: list[int]) -> str:
-        if len(indices) == 1:
-            return self.laws.has_tags(self.types()[indices[0]])
-        first, other = self.sides(indices)
-        forms = " ".join(self.laws.quote(self.node(part), "Form") for part in (first, other))
-        parts = [forms, self.has_tags(first), self.has_tags(other)]
-        return f"({self.source.word('either_tag')} {BREAK.join(parts)})"
-
-    def equality(self, indices: list[int]) -> str:
-        """That two values of a node are equal exactly where their encodings are."""
-        if len(indices) == 1:
-            return self.laws.encoding_eq(self.types()[indices[0]])
-        first, other = self.sides(indices)
-        eqs = [self.laws.quote(self.node(part), "PartialEq") + ".eq" for part in (first, other, indices)]
-        forms = [self.laws.quote(self.node(part), "Form") for part in (first, other)]
-        same = "(λ v x. refl) (λ w y. refl) (λ v w. refl) (λ w v. refl)"
-        return (
-            f"({self.source.word('either_equality')} {forms[0]} {forms[1]}{BREAK}{self.has_tags(first)}{BREAK}"
-            f"{self.has_tags(other)}{BREAK}{eqs[0]} {eqs[1]}{BREAK}{self.equality(first)}{BREAK}{self.equality(other)}"
-            f"{BREAK}{eqs[2]} {same})"
-        )
+        """That an encoding of a node is a tag and contents octets."""
+        return f"{choice_of(self.source, self.node(indices))}.has_tag"
 
     def copies(self, indices: list[int]) -> str:
         """That a copy of a value of a node has its encoding, and all else."""
@@ -83,52 +66,18 @@ def everything(all_of: Alternatives) -> list[int]:
     return list(range(len(all_of.leaves)))
 
 
-def same_equality(source: Source, all_of: Alternatives) -> str:
-    """That the enum's equality is that of its tree, by two alternatives at a time."""
-    source.word("refl")
-    source.word("≡")
-    own, other, view = own_eq(all_of), tree_eq(all_of), all_of.view
-
-    def row(i: int) -> str:
-        first = f"({all_of.variants}.{all_of.names[i]} x)"
-        cases = " | ".join(f"{all_of.variants}.{name} y ↦ refl" for name in all_of.names)
-        return f"elim w as (λ k. {own} {first} k ≡ {other} ({view} {first}) ({view} k)) [ {cases} ]"
-
-    return f"(λ v w. {by_variants(all_of, f'{own} k w ≡ {other} ({view} k) ({view} w)', row)})"
-
-
-def own_eq(all_of: Alternatives) -> str:
-    return f"⟦<{all_of.whole} as PartialEq>⟧.eq"
-
-
-def tree_eq(all_of: Alternatives) -> str:
-    return f"{quote(all_of, 'PartialEq')}.eq"
-
-
-def encoding_eq(source: Source, all_of: Alternatives) -> str:
-    """That values are equal exactly where their encodings are: as of the tree, whose equality is the enum's."""
-    equality = TreeLaws(source, all_of).equality(everything(all_of))
-    term = (
-        f"{source.word('seen_equality')} {all_of.view} {own_eq(all_of)} {tree_eq(all_of)} "
-        f"{same_equality(source, all_of)} {equality}"
-    )
-    return (
-        f"impl{all_of.lifetime} {source.use('EncodingEq')} for {all_of.whole} {{\n"
-        f"    ghost {source.member('encoding_eq')} = {{ {term} }};\n}}"
-    )
-
-
 def copies(source: Source, all_of: Alternatives) -> str:
     """That a copy is as the value: the value itself where it is small, else as copies of the tree."""
     m = source.member
     if properties_of_definition(all_of.choice).is_copy:
         form = f"⟦<{all_of.whole} as Form>⟧"
-        equal = Laws(source).equal_to_itself(all_of.choice)
+        equal = Copies(source).equal_to_itself(all_of.choice)
         members = " ".join(f"{form}.{m(name)}" for name in ("encoding", "comparable", "re_reads"))
         return f"({source.word('same_copies')} {members} {own_eq(all_of)} {equal})"
     inner = TreeLaws(source, all_of).copies(everything(all_of))
-    seen = f"{source.word('seen_copies')} {all_of.view} {own_eq(all_of)} {tree_eq(all_of)}"
-    return f"({seen} {same_equality(source, all_of)} {inner})"
+    tree_eq = f"{quote(all_of, 'PartialEq')}.eq"
+    seen = f"{source.word('seen_copies')} {all_of.view} {own_eq(all_of)} {tree_eq}"
+    return f"({seen} {same_equality(source, all_of, tree_eq)} {inner})"
 
 
 def duplicate(source: Source, all_of: Alternatives) -> str:

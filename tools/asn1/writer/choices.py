@@ -21,6 +21,7 @@ from .alternatives import (
     tree,
     value_in_leaf,
 )
+from .equality import choice_of, write_choice_member
 from .module_laws import add_laws
 from .plan import Plan
 from .source import Page, Source
@@ -46,7 +47,7 @@ def write_choice(plan: Plan, choice: Choice) -> str:
     source.add(decode_field(source, all_of))
     source.add(encode(source, all_of))
     source.add(order(source, all_of))
-    source.add(choice_laws.encoding_eq(source, all_of))
+    write_choice_member(source, all_of)
     source.add(choice_laws.duplicate(source, all_of))
     source.add(choice_laws.duplicate_is_equal(source, all_of))
     if not choice.is_half:
@@ -128,9 +129,9 @@ def tagged(source: Source, all_of: Alternatives) -> str:
     """The tag of a value, and that its encoding begins with it."""
     source.page_word(variants_module(source, all_of), "")
     form_q, value_q, tagged_q = (quote(all_of, trait) for trait in ("Form", "FormValue", "Tagged"))
-    m, view, k = source.member, all_of.view, f"({all_of.view} k)"
+    m, k = source.member, f"({all_of.view} k)"
     tag_of = f"{tagged_q}.{m('tag_of')}"
-    has_tags = choice_laws.TreeLaws(source, all_of).has_tags(choice_laws.everything(all_of))
+    has_tags = f"{choice_of(source, all_of.whole)}.has_tag"
     is_tlv = by_variants(
         all_of, f"{form_q}.{m('accepts')} rules {k} b → {source.word('IsTlv')} b", lambda i: tlv_law(source, all_of, i)
     )
@@ -140,16 +141,16 @@ def tagged(source: Source, all_of: Alternatives) -> str:
         lambda i: re_reads_law(source, all_of, i),
     )
     members = [
-        (m("encoding_is"), f"λ v. {has_tags}.encoding_is ({view} v)"),
+        (m("encoding_is"), f"{has_tags}.encoding_is"),
         (m("accepted_is_tlv"), f"λ rules v b. {is_tlv}"),
-        (m("own_tag"), f"λ v. {has_tags}.own_tag ({view} v)"),
-        (m("first_tag_is"), f"λ v. {has_tags}.first_tag_is ({view} v)"),
+        (m("own_tag"), f"{has_tags}.own_tag"),
+        (m("first_tag_is"), f"{has_tags}.first_tag_is"),
         (m("re_reads_alike"), f"λ v. {re_reads}"),
         (m("comparable_alike"), "λ v w h. tt"),
     ]
     return (
         f"impl{all_of.lifetime} {source.use('Tagged')} for {all_of.whole} {{\n"
-        f"    ghost {m('tag_of')} = {{ λ v. {tag_of} ({view} v) }};\n\n"
+        f"    ghost {m('tag_of')} = {{ λ v. {tag_of} ({all_of.view} v) }};\n\n"
         f"    fn tag(&self) -> {source.use('Tag')} {{\n        match self {{\n"
         f"{arms(all_of, 'tag()')}\n        }}\n    }}\n\n"
         f"{ghosts(members)}\n}}"

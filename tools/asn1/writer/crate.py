@@ -2,7 +2,7 @@
 
 from __future__ import annotations
 
-from ..errors import AsnError, Place
+from ..errors import AsnError
 from ..model import Alias, Choice, Definition, Enumeration, List, ResolvedModule, Struct, is_within
 from ..spelling import snake
 from .aliases import constant_name, write_aliases, write_constants
@@ -13,7 +13,6 @@ from .lists import write_list
 from .module_laws import write_laws
 from .names import LOGIC, RUST, WORDS
 from .pages import write_list_page, write_struct_page
-from .parts import write_parts
 from .plan import Plan, Target, is_apart
 from .source import PRELUDE
 from .structs import write_struct
@@ -26,7 +25,6 @@ MARK = "Made by tools/asn1"
 def files_of_crate(plan: Plan, modules: list[ResolvedModule]) -> dict[str, str]:
     """All files of a crate, by their paths in its folder."""
     targets = [plan.targets[module.name] for module in modules]
-    check_modules(modules, targets)
     for module in modules:
         check_names(module)
     files: dict[str, str] = {}
@@ -34,21 +32,11 @@ def files_of_crate(plan: Plan, modules: list[ResolvedModule]) -> dict[str, str]:
         for path, text in write_module(plan, module).items():
             files[path] = marked(path, text, module.file)
     standards = ", ".join(module.name for module in modules)
-    files["src/parts.rt"] = write_parts(plan, modules)
-    sources = "\n".join(f"pub mod {name};" for name in sorted([*(target.module for target in targets), "parts"]))
+    sources = "\n".join(f"pub mod {name};" for name in sorted(target.module for target in targets))
     pages = "".join(f"pub mod {target.page}\n" for target in targets)
     files["src/lib.rt"] = f"//! The types of {standards}.\n//!\n//! {MARK}.\n#![tactic(auto)]\n\n{sources}\n"
     files["specs/Lib.antt"] = f"-- {MARK}.\n{pages}"
     return files
-
-
-def check_modules(modules: list[ResolvedModule], targets: list[Target]) -> None:
-    """No module may have the name of the crate's own file of parts."""
-    for module, target in zip(modules, targets):
-        if target.module == "parts":
-            raise AsnError(
-                Place(module.file, 1, 1), "'parts' is the name of a module that each crate has", "write another in the list"
-            )
 
 
 def marked(path: str, text: str, file: str) -> str:
@@ -124,7 +112,7 @@ def write_definition(plan: Plan, definition: Definition) -> str:
 
 def write_page(plan: Plan, definition: Definition) -> str | None:
     if isinstance(definition, Struct):
-        return None if definition.is_holder else write_struct_page(plan, definition)
+        return None if definition.is_holder or not definition.fields else write_struct_page(plan, definition)
     if isinstance(definition, Choice):
         return write_choice_page(plan, definition)
     if isinstance(definition, List):

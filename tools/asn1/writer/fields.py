@@ -17,7 +17,9 @@ LOCALS = frozenset(["copy_of", "fields", "first", "list", "rest", "result", "tai
 
 
 def list_type(source: Source, types: list[str]) -> str:
-    """The list of these fields: of up to eight in one step, and with the others after them."""
+    """The list of these fields: of none its end, of up to eight in one step, and with the others after them."""
+    if not types:
+        return source.use("End")
     head, tail = types[:AT_ONCE], types[AT_ONCE:]
     name = source.use(f"Fields{len(head)}")
     following = [list_type(source, tail)] if tail else []

@@ -7,13 +7,13 @@ from dataclasses import replace
 from ..model import List
 from ..properties import properties_of_definition
 from . import docs, markers
+from .equality import member_of, tag_of_marker, write_member
 from .grammar import word_of
 from .module_laws import add_laws
 from .plan import Plan
 from .source import Source
 from .types import lifetime_of, rust_type
-from .laws import Laws
-from .values import code_traits, contents_equality, copy_is_duplicate, derives, one_tag, value_order
+from .values import code_traits, copy_is_duplicate, derives, one_tag, value_order
 
 IN_ORDER = "The items stand in the order of their octets (X.690 11.6): others are refused (`ErrorKind::SetOrdering`, 11)."
 ANY_ORDER = "The items stand in the order in which they came: BER asks for none."
@@ -36,7 +36,8 @@ def write_list(plan: Plan, definition: List) -> str:
     )
     code_traits(source, definition, lifetime, "items", held.replace("<", "::<", 1), is_list_of_fields=False)
     value_order(source, whole, lifetime, "self.items.value_cmp(&other.items)", "ValueOrd")
-    contents_equality(source, whole, lifetime, f"(λ one. {Laws(source).decided(listed, 'v.items', 'w.items')})")
+    tag = tag_of_marker(source, markers.of_definition(source, definition))
+    write_member(source, whole, lifetime, f"{source.word('seen_member')} {tag} (λ v. v.items) {member_of(source, held)}")
     copy_is_duplicate(source, whole, lifetime)
     add_laws(source, definition)
     kind = "SET OF" if definition.is_set else "SEQUENCE OF"

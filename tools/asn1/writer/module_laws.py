@@ -12,7 +12,7 @@ from ..syntax import FieldsType
 from . import docs
 from .fields import Member, members_of
 from .grammar import CLASSES, word_of
-from .laws import named
+from .equality import named
 from .names import ASN1
 from .plan import Plan
 from .source import Source
@@ -80,10 +80,11 @@ def octets_law(source: Source, struct: Struct) -> str:
     target = source.target
     name = snake(struct.rust)
     words = f"{name}_fields"
-    source.page_word(f"{target.crate}.specs.{target.page}.{struct.rust} as {words}", "")
     source.page_word(ASN1, "joined")
     source.word("[]")
-    source.word("∷")
+    if struct.fields:
+        source.page_word(f"{target.crate}.specs.{target.page}.{struct.rust} as {words}", "")
+        source.word("∷")
     octets = [member_octets(source, member, f"({words}.{name} v)") for name, member in members_as_written(struct)]
     listed = "\n        ∷ ".join([*octets, "[]"])
     contents = f"⟦<{type_} as {source.use('FormValue')}>⟧.{source.member('value')}.{source.member('contents')} v"

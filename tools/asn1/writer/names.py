@@ -70,8 +70,13 @@ RUST: dict[str, tuple[str, str]] = {
     "OneOf": ("der_fields", "OneOf"),
     "WithDefault": ("der_fields", "WithDefault"),
     "cmp_headers": ("der_fields", "cmp_headers"),
+    "Choosing": ("der_modules", "Choosing"),
     "CopyLaws": ("der_modules", "CopyLaws"),
+    "Member": ("der_modules", "Member"),
     "copy_of": ("der_modules", "copy_of"),
+    "field_list": ("der_modules", "field_list"),
+    "if_present": ("der_modules", "if_present"),
+    "tagged": ("der_modules", "tagged"),
     **{f"Fields{n}": ("der_fields", f"Fields{n}") for n in range(1, 9)},
     # values
     "Any": ("der_opaque", "Any"),
@@ -147,10 +152,15 @@ WORDS: dict[str, tuple[str, str]] = {
     **{
         name: ("der_modules.specs.MemberLaws", name)
         for name in (
-            "copies_of default_copies default_equality default_starts either_copies either_equality either_tag held_copies "
-            "listed_copies member_copies member_equality no_copies no_equality one_tag one_tag_copies one_tag_equality "
-            "own_tags optional_copies optional_equality optional_starts part_copies part_equality same_copies seen_copies "
-            "seen_equality tagged_starts"
+            "copies_of default_copies either_copies held_copies listed_copies member_copies no_copies one_tag_copies "
+            "optional_copies part_copies same_copies seen_copies"
+        ).split()
+    },
+    **{
+        name: ("der_modules.specs.Members", name)
+        for name in (
+            "choice_field default_choice_field default_field field first_of first_of_default first_of_option no_fields "
+            "optional_choice_field optional_field part seen_choice seen_member struct_member"
         ).split()
     },
     "tlv_tagged": ("der_elem.specs.TaggedLaws", "tlv_tagged"),
@@ -223,6 +233,8 @@ MEMBERS: dict[str, str] = {
     "is_there": "is_there",
     "known_tags": "known_tags",
     # equality and copies
+    "choice": "choice",
+    "member": "member",
     "contents_eq": "contents_eq",
     "encoding_eq": "encoding_eq",
     "fields_eq": "fields_eq",

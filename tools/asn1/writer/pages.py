@@ -6,7 +6,7 @@ from ..model import List, Struct
 from .fields import Member, members_of
 from .plan import Plan
 from .source import Page
-from .laws import way_to_list
+from .copies import way_to_list
 from .types import closed, list_name, logic_type, plain
 
 

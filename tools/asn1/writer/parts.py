@@ -1,4 +1,7 @@
-"""What octets are made of: the file that has the components of each type by their names."""
+"""What octets are made of: the table that has the components of each type by their names, in a crate that reads others' types.
+
+A file has the type of all parts, and one a module the components of its types.
+"""
 
 from __future__ import annotations
 
@@ -10,6 +13,7 @@ from ..errors import AsnError
 from ..model import Alias, Choice, Definition, List, Listed, Presence, ResolvedModule, Resolved, Struct, Tagged, Use, is_within
 from ..properties import identifier_octet
 from ..spelling import camel, screaming
+from .crate import MARK
 from .plan import Plan
 
 TAKEN = ("PART", "COMPONENT", "VALUE")  # as `screaming` spells the names that the file itself has
@@ -98,7 +102,7 @@ def components(part: Part) -> list[Component]:
     ]
 
 
-# ---- all parts of a crate
+# ---- all parts of a table
 
 
 def parts_of(modules: list[ResolvedModule]) -> list[Part]:
@@ -161,29 +165,42 @@ def check_distinct(found: dict[Part, str]) -> None:
         seen.add(screaming(name))
 
 
-# ---- the file
+# ---- the files
 
 
-def write_parts(plan: Plan, modules: list[ResolvedModule]) -> str:
-    """The source file of the parts of a crate."""
+def write_parts(plan: Plan, modules: list[ResolvedModule]) -> dict[str, str]:
+    """The files of the parts of all types of these modules, by their paths."""
     names = variants(plan, parts_of(modules))
-    return "\n\n".join([HEAD, declaration(names), COMPONENT, *(table(names, part) for part in names), calls(names)]) + "\n"
+    files = {"src/parts.rt": root(plan, names)}
+    for module in modules_of(plan, names):
+        mine = [part for part in names if module_of(plan, part) == module]
+        files[f"src/parts/{module}.rt"] = tables(names, module, mine)
+    return files
 
 
-HEAD = """//! What the octets of each type are made of: the components by their names.
+def module_of(plan: Plan, part: Part) -> str:
+    """The module in which the type with a name stands that a part is, or stands around."""
+    return plan.of(innermost(part)).module
+
+
+def modules_of(plan: Plan, names: dict[Part, str]) -> list[str]:
+    return sorted({module_of(plan, part) for part in names})
+
+
+HEAD = f"""//! What the octets of each type are made of: the components by their names.
 //!
-//! Made by tools/asn1."""
+//! {MARK}."""
 
-COMPONENT = """/// A component.
-#[derive(Clone, Copy, Debug, PartialEq, Eq)]
-pub struct Component {
-    /// Its name in the module; none of an item of a list, or of what stands after an explicit tag.
-    pub name: &'static str,
-    /// The identifier octet that tells it, where it may be absent or is one of several.
-    pub octet: Option<u8>,
-    /// What it is made of.
-    pub part: Part,
-}"""
+COMPONENT = """/// A component: its name in the module, or no name where it is an item of a list or stands after an explicit
+/// tag; the identifier octet that tells it, where it may be absent or is one of several; what it is made of.
+#[derive(Clone, Copy)]
+pub struct Component(pub &'static str, pub Option<u8>, pub Part);"""
+
+
+def root(plan: Plan, names: dict[Part, str]) -> str:
+    """The file of all parts, and where the components of each stand."""
+    files = "\n".join(f"mod {module};" for module in modules_of(plan, names))
+    return "\n\n".join([HEAD, *([files] if files else []), declaration(names), COMPONENT, calls(plan, names)]) + "\n"
 
 
 def declaration(names: dict[Part, str]) -> str:
@@ -191,7 +208,7 @@ def declaration(names: dict[Part, str]) -> str:
     listed = "".join(f"    /// {described(part)}.\n    {name},\n" for part, name in names.items())
     return (
         "/// What stands in octets: a type with components, a list, or a value with no such parts.\n"
-        "#[derive(Clone, Copy, Debug, PartialEq, Eq)]\n"
+        "#[derive(Clone, Copy)]\n"
         f"pub enum Part {{\n{listed}    /// A value with no components that have names.\n    Value,\n}}"
     )
 
@@ -201,26 +218,11 @@ def described(part: Part | Choice) -> str:
     return WORDS[part.word].format(described(part.of)) if isinstance(part, Around) else f"`{part.name}`"
 
 
-def table(names: dict[Part, str], part: Part) -> str:
-    """The components of a part."""
-    listed = components(part)
-    lines = "".join(f"    {literal(names, one)},\n" for one in listed)
-    return f"static {screaming(names[part])}: [Component; {len(listed)}] = [\n{lines}];"
-
-
-def literal(names: dict[Part, str], one: Component) -> str:
-    octet = "None" if one.octet is None else f"Some({one.octet:#04x})"
-    part = "Value" if one.part is None else names[one.part]
-    return f'Component {{ name: "{one.name}", octet: {octet}, part: Part::{part} }}'
-
-
-def is_list(part: Part) -> bool:
-    return isinstance(part, List) or (isinstance(part, Around) and part.word != "Explicit")
-
-
-def calls(names: dict[Part, str]) -> str:
+def calls(plan: Plan, names: dict[Part, str]) -> str:
     """What is asked of a part."""
-    arms = "".join(f"            Part::{name} => &{screaming(name)},\n" for name in names.values())
+    arms = "".join(
+        f"            Part::{name} => &{module_of(plan, part)}::{screaming(name)},\n" for part, name in names.items()
+    )
     lists = " | ".join(f"Part::{name}" for part, name in names.items() if is_list(part))
     return f"""impl Part {{
     /// The components, in their order; of a list the one that each item is.
@@ -238,3 +240,25 @@ def calls(names: dict[Part, str]) -> str:
         {f"matches!(self, {lists})" if lists else "false"}
     }}
 }}"""
+
+
+def tables(names: dict[Part, str], module: str, mine: list[Part]) -> str:
+    """The components of the types of a module."""
+    head = f"//! What the octets of the types of `{module}` are made of.\n//!\n//! {MARK}.\n\n"
+    return f"{head}use super::{{Component, Part}};\n\n" + "\n".join(table(names, part) for part in mine)
+
+
+def table(names: dict[Part, str], part: Part) -> str:
+    """The components of a part."""
+    listed = [literal(names, one) for one in components(part)]
+    return f"pub(super) static {screaming(names[part])}: [Component; {len(listed)}] = [{', '.join(listed)}];\n"
+
+
+def literal(names: dict[Part, str], one: Component) -> str:
+    octet = "None" if one.octet is None else f"Some({one.octet:#04x})"
+    part = "Value" if one.part is None else names[one.part]
+    return f'Component("{one.name}", {octet}, Part::{part})'
+
+
+def is_list(part: Part) -> bool:
+    return isinstance(part, List) or (isinstance(part, Around) and part.word != "Explicit")

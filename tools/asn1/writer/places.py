@@ -16,7 +16,7 @@ from .alternatives import depth
 from .fields import Member, members_of
 from .plan import Plan, Target, is_apart
 from .source import Source
-from .types import default_type, enumeration_of, inner_name, lifetime_of, rust_type, way, wrapped
+from .types import default_type, enumeration_of, lifetime_of, rust_type, way, wrapped
 
 # What the calls and the proofs name within them: a local of such a name has an underscore after it.
 LOCALS = frozenset(["octets", "start", "self", "first", "value", "fields", "rest", "result"])
@@ -60,7 +60,7 @@ def write_places(plan: Plan, crate: str, modules: list[ResolvedModule]) -> dict[
 
 def structs_of(module: ResolvedModule) -> list[Struct]:
     """The structs that a user meets, and that are written."""
-    structs = [found for found in module.definitions if isinstance(found, Struct)]
+    structs = [found for found in module.definitions if isinstance(found, Struct) and found.fields]
     return [found for found in structs if not found.is_holder and not is_apart(found)]
 
 
@@ -249,7 +249,7 @@ class Places:
             return [], "true"
         if one.presence is Presence.OPTIONAL:
             return [], f"{self.of_library('is_some' if one.member.is_small else 'is_there')}(self.{one.name}())"
-        inner, rust = inner_name(one.type), self.rust(one.type)
+        inner, rust = "value", self.rust(one.type)
         value = wrapped(self.source, bare(one.type), inner)
         lets = [f"let {inner} = self.{one.name}();"]
         if value != inner:

@@ -6,15 +6,15 @@ from ..model import Presence, Struct
 from ..properties import properties_of_definition
 from ..spelling import snake
 from . import docs, markers
+from .copies import Copies
+from .equality import BREAK, listed, tag_of_marker, write_member
 from .fields import AT_ONCE, TAIL, Member, list_type, members_of, place_within
 from .module_laws import add_laws
 from .plan import Plan
 from .source import Source
-from .types import inner_name, lifetime_of, wrapped
-from .laws import BREAK, Laws
+from .types import lifetime_of, wrapped
 from .values import (
     code_traits,
-    contents_equality,
     copy_is_duplicate,
     copy_laws,
     derives,
@@ -53,14 +53,16 @@ def write_struct(plan: Plan, struct: Struct) -> str:
 
 def equality_and_copies(source: Source, struct: Struct, lifetime: str) -> None:
     """Both by those of the fields."""
-    laws, whole = Laws(source), struct.rust + lifetime
-    fields = struct.fields
-    contents_equality(source, whole, lifetime, f"{laws.list_equality(fields)}.equal v.fields.list w.fields.list")
+    whole = struct.rust + lifetime
+    tag = tag_of_marker(source, markers.of_definition(source, struct))
+    view = "v.fields.list" if struct.fields else "v.fields"
+    term = f"{source.word('struct_member')} {tag} (λ v. {view}){BREAK}{listed(source, struct.fields)}"
+    write_member(source, whole, lifetime, term)
     if properties_of_definition(struct).is_copy:
         copy_is_duplicate(source, whole, lifetime)
         return
-    listed = f"({source.word('listed_copies')} {laws.list_copies(fields)})"
-    copy_laws(source, whole, lifetime, f"{source.word('held_copies')} (λ v. v.fields.list){BREAK}{listed}")
+    copies = f"({source.word('listed_copies')} {Copies(source).list_copies(struct.fields)})"
+    copy_laws(source, whole, lifetime, f"{source.word('held_copies')} (λ v. v.fields.list){BREAK}{copies}")
     duplicate_value(source, struct, lifetime)
 
 
@@ -68,7 +70,7 @@ def first_lines(struct: Struct) -> list[str]:
     if struct.is_holder:
         return [f"//! {struct.name}, a value with its tag."]
     kind = "SET" if struct.is_set else "SEQUENCE"
-    return [f"//! {struct.name}, a {kind} of {len(struct.fields)} field{'s' if len(struct.fields) != 1 else ''}."]
+    return [f"//! {struct.name}, a {kind} of {len(struct.fields) or 'no'} field{'s' if len(struct.fields) != 1 else ''}."]
 
 
 def declaration(struct: Struct, lifetime: str) -> str:
@@ -84,6 +86,8 @@ def declaration(struct: Struct, lifetime: str) -> str:
 
 def own_calls(source: Source, struct: Struct, members: list[Member], lifetime: str) -> str:
     """`new`, `into_parts`, and an accessor a field, each with its clauses."""
+    if not members:
+        return no_fields_call(source, struct)
     words = page_of(source, struct)
     parts = [
         f"    ghost use Rattle.{source.target.crate}.specs.{source.target.page}.{struct.rust} as {words};",
@@ -99,17 +103,25 @@ def own_calls(source: Source, struct: Struct, members: list[Member], lifetime: s
     return f"impl{lifetime} {struct.rust}{lifetime} {{\n" + "\n\n".join(parts) + "\n}"
 
 
+def no_fields_call(source: Source, struct: Struct) -> str:
+    """`new` of a type with no fields, which has one value."""
+    return (
+        f"impl {struct.rust} {{\n{docs.doc('The value, which has no fields.', indent='    ')}\n"
+        f"    pub fn new() -> {struct.rust} {{\n        {struct.rust} {{ fields: {source.use('End')} }}\n    }}\n}}"
+    )
+
+
 def shown(source: Source, struct: Struct, members: list[Member], lifetime: str) -> str:
     """`Debug`: the fields by their names."""
     fmt = source.use("fmt")
-    rows = "\n".join(
-        f"            .field(\"{member.name}\", {'&' if member.is_small or member.is_optional else ''}self.{member.name}())"
+    rows = "".join(
+        f"            .field(\"{member.name}\", {'&' if member.is_small or member.is_optional else ''}self.{member.name}())\n"
         for member in members
     )
     return (
         f"impl{lifetime} {fmt}::Debug for {struct.rust}{lifetime} {{\n"
         f"    fn fmt<W: {fmt}::Write>(&self, f: &mut {fmt}::Formatter<W>) -> {fmt}::Result {{\n"
-        f"        f.debug_struct(\"{struct.rust}\")\n{rows}\n            .finish()\n    }}\n}}"
+        f"        f.debug_struct(\"{struct.rust}\")\n{rows}            .finish()\n    }}\n}}"
     )
 
 
@@ -139,28 +151,24 @@ def entry(member: Member) -> str:
 
 
 def list_lets(source: Source, members: list[Member]) -> str:
-    """The list of the values, from the last on: calls take no struct of fields that borrow."""
-    field, lines = source.use("Field"), []
-    for member in reversed(members):
-        is_last, is_head = member is members[-1], member.index % AT_ONCE == 0
-        rest = f"rest: {source.use('End')}" if is_last else "rest"
-        lines.append(f"let first = {in_list(source, member)};")
-        lines.append(f"let {'list' if is_head else 'rest'} = {field} {{ first, {rest} }};")
-        if is_head:
-            whole = source.use(f"Fields{min(AT_ONCE, len(members) - member.index)}")
-            lines.append(f"let {'rest' if member.index else 'fields'} = {whole} {{ list }};")
-    return "".join(f"        {line}\n" for line in lines)
+    """The list of the values: of more than eight, those after them first."""
+    head, tail = members[:AT_ONCE], members[AT_ONCE:]
+    lines = list_lets(source, tail) if tail else ""
+    values = ", ".join(in_list(source, member) for member in head) + ("; rest" if tail else "")
+    whole = source.use(f"Fields{min(AT_ONCE, len(members))}")
+    name = "rest" if head[0].index else "fields"
+    return f"{lines}        let list = {source.use('field_list')}![{values}];\n        let {name} = {whole} {{ list }};\n"
 
 
 def in_list(source: Source, member: Member) -> str:
     """The value of a field, after its tags and with its default, if it has any."""
     if not member.way and not member.is_lent:
         return member.local
-    name = inner_name(member.field.type) if member.is_optional else member.local
+    name = "value" if member.is_optional else member.local
     value = f"{source.use('copy_of')}({name})" if member.is_lent else name
     inner = wrapped(source, member.field.type, value)
     if member.is_optional:
-        return f"match {member.local} {{ Some({name}) => Some({inner}), None => None, }}"
+        return if_present(source, member.local, inner)
     if member.field.presence is Presence.DEFAULT:
         return f"{source.use('WithDefault')}::new({inner})"
     return inner
@@ -197,8 +205,7 @@ def parts_lets(source: Source, members: list[Member]) -> list[str]:
         place = "rest"
     for member in members:
         if member.is_optional and member.way:
-            value = f"match {member.local} {{ Some(tagged) => Some(tagged{member.way}), None => None, }}"
-            lines.append(f"let {member.local} = {value};")
+            lines.append(f"let {member.local} = {if_present(source, member.local, f'value{member.way}')};")
         elif member.way:
             lines.append(f"let {member.local} = {member.local}{member.way};")
     return lines
@@ -211,12 +218,11 @@ def accessor(source: Source, member: Member, words: str) -> str:
     of = f"{words}.{member.name} self.now"
     value_type = member.value_type(source)
     if member.is_optional and member.is_small:
-        body = place if not member.way else option_match(place, f"tagged{member.way}")
+        body = place if not member.way else if_present(source, place, f"value{member.way}")
         return call(head, member.name, value_type, f"result ≡ {of}", lets + body)
     if member.is_optional:
         inner = value_type[len("Option<") : -1]
-        body = option_match(f"&{place}", f"&value{member.way}" if member.way else "value")
-        body = body.replace("Some(tagged)", "Some(value)")
+        body = if_present(source, f"&{place}", f"&value{member.way}" if member.way else "value")
         return call(head, member.name, f"Option<&{inner}>", f"option_copied result ≡ {of}", lets + body)
     if member.is_small:
         return call(head, member.name, value_type, f"result ≡ {of}", lets + place + member.way)
@@ -230,8 +236,9 @@ def accessor_place(member: Member) -> tuple[str, str]:
     return f"let tail = &self.fields{TAIL * (member.index // AT_ONCE)};\n        ", f"tail{place_within(member.index)}"
 
 
-def option_match(place: str, inner: str) -> str:
-    return f"match {place} {{ Some(tagged) => Some({inner}), None => None, }}"
+def if_present(source: Source, place: str, made: str) -> str:
+    """What is made of the value of an OPTIONAL field."""
+    return f"{source.use('if_present')}!(value in {place} => {made})"
 
 
 def call(head: str, name: str, result: str, clause: str, body: str) -> str:

@@ -100,26 +100,19 @@ def way_after(type_: Tagged) -> str:
     return ".fields.first" if type_.is_explicit else ".value"
 
 
-def inner_name(type_: Resolved) -> str:
-    """What the library calls the value after a tag."""
-    return "first" if isinstance(type_, Tagged) and type_.is_explicit else "value"
-
-
 def wrapped(source: Source, type_: Resolved, value: str) -> str:
     """A value after the tags of a type."""
     if not isinstance(type_, Tagged):
         if enumeration_of(type_) is None:
             return value
         return f"{source.use('Enumerated')} {{ {'value' if value == 'value' else f'value: {value}'} }}"
-    inner, name = wrapped(source, type_.of, value), inner_name(type_)
-    member = name if inner == name else f"{name}: {inner}"
+    inner = wrapped(source, type_.of, value)
+    if type_.holder is not None:
+        fields = f"{source.use('Fields1')} {{ list: {source.use('field_list')}![{inner}] }}"
+        return f"{source.use_type(type_.holder)} {{ fields: {fields} }}"
     if type_.is_explicit:
-        alone = f"{source.use('Field')} {{ {member}, rest: {source.use('End')} }}"
-        if type_.holder is not None:
-            fields = f"{source.use('Fields1')} {{ list: {alone} }}"
-            return f"{source.use_type(type_.holder)} {{ fields: {fields} }}"
-        return f"{source.use(tagging(type_.tag, True))} {{ fields: {alone} }}"
-    return f"{source.use(tagging(type_.tag, False))} {{ {member} }}"
+        return f"{source.use('tagged')}!({source.use(tagging(type_.tag, True))}, {inner})"
+    return f"{source.use(tagging(type_.tag, False))} {{ {'value' if inner == 'value' else f'value: {inner}'} }}"
 
 
 def is_copy(type_: Resolved) -> bool:

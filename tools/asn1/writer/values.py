@@ -58,13 +58,19 @@ def decode_value(
     call = "decode_fields(alloc, reader)" if is_list_of_fields else "decode_value(alloc, reader, header)"
     header = "_header" if is_list_of_fields else "header"
     whole = f"{definition.rust}{lifetime}"
+    body = (
+        f"        match {held}::{call} {{\n            Ok({member}) => Ok({definition.rust} {{ {member} }}),\n"
+        f"            Err(e) => Err(e),\n        }}\n"
+    )
+    if not is_list_of_fields:
+        # (the borrow checker has no rule for `?` on a list of fields that borrow)
+        body = f"        let {member} = {held}::{call}?;\n        Ok({definition.rust} {{ {member} }})\n"
     source.add(
         f"impl<'a, R: {source.use('Source')}<'a>> {source.use('DecodeValue')}<'a, R> for {whole} {{\n"
         f"    ghost {need} = {{ {takes} }};\n\n    const {need}: bool = {takes};\n\n"
         f"    fn decode_value(alloc: {source.use('Global')}, reader: &mut R, {header}: {source.use('Header')}) "
         f"-> Result<{whole}, {source.use('Error')}> {{\n"
-        f"        match {held}::{call} {{\n            Ok({member}) => Ok({definition.rust} {{ {member} }}),\n"
-        f"            Err(e) => Err(e),\n        }}\n    }}\n\n    ghost {law} = {{ refl }};\n}}"
+        f"{body}    }}\n\n    ghost {law} = {{ refl }};\n}}"
     )
 
 
@@ -75,14 +81,6 @@ def value_order(source: Source, whole: str, lifetime: str, body: str, trait: str
         f"impl{lifetime} {source.use('ValueOrd')} for {whole} {{\n"
         f"    fn value_cmp(&self, other: &{whole}) -> Result<{source.use('Ordering')}, {source.use('Error')}> {{\n"
         f"        {body}\n    }}\n}}"
-    )
-
-
-def contents_equality(source: Source, whole: str, lifetime: str, term: str) -> None:
-    """That values are equal exactly where their contents octets are."""
-    source.add(
-        f"impl{lifetime} {source.use('ContentsEq')} for {whole} {{\n"
-        f"    ghost {source.member('contents_eq')} = {{ λ v w. {term} }};\n}}"
     )
 
 
