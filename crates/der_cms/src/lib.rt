@@ -5,4 +5,3 @@
 
 pub mod cms;
 pub mod ess;
-pub mod parts;

@@ -5,4 +5,3 @@
 
 pub mod authenticated;
 pub mod enveloped;
-pub mod parts;

@@ -20,4 +20,3 @@
 #![tactic(auto)]
 
 pub mod extension;
-pub mod parts;

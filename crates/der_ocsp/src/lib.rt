@@ -4,4 +4,3 @@
 #![tactic(auto)]
 
 pub mod ocsp;
-pub mod parts;

@@ -5,6 +5,5 @@
 
 pub mod algorithm;
 pub mod encryption;
-pub mod parts;
 pub mod pkcs12;
 pub mod request;

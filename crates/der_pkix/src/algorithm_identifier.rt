@@ -11,14 +11,16 @@ ghost use Rattle.der_elem.specs.OptionLaws.{encoding_eq_option};
 ghost use Rattle.der_elem.specs.TaggedLaws.{encoding_eq_tagged};
 ghost use Rattle.der_fields.specs.DistinguishingLaws.{eq_both, eq_last, tlv_distinguished};
 ghost use Rattle.der_fields.specs.Listing.{field, end};
+ghost use Rattle.der_modules.specs.Members.{value_member};
 ghost use Rattle.der_opaque.specs.contracts.any_ref.AnyRefEncodingEq.TheImpl.Laws as anyref_encoding_eq;
 ghost use Rattle.der_opaque.specs.contracts.object_identifier_ref.ObjectIdentifierRefContentsEq.TheImpl.Laws as objectidentifierref_contents_eq;
 
 use der_elem::{
     ContentsEq, CopyIsDuplicate, DecodeValue, EncodeValue, FormValue, OneTag, Sequence,
-    SequenceTag, ValueOrd,
+    SequenceTag, TagMarker, ValueOrd,
 };
 use der_fields::{End, Field, FieldList, FieldSequence};
+use der_modules::Member;
 use der_opaque::{AnyRef, ObjectIdentifierRef};
 use der_tlv::{BackWriter, Error, Header, Length, Source, Writer};
 use std::alloc::Global;
@@ -102,11 +104,15 @@ impl<'a> ValueOrd for AlgorithmIdentifier<'a> {
     }
 }
 
-impl<'a> ContentsEq for AlgorithmIdentifier<'a> {
-    ghost contents_eq = { λ v w one.
+impl<'a> Member for AlgorithmIdentifier<'a> {
+    ghost member = { value_member ⟦<SequenceTag as TagMarker>⟧.TAG ⟦<AlgorithmIdentifier<'a> as FormValue>⟧.value ⟦<AlgorithmIdentifier<'a> as PartialEq>⟧.eq (λ v w one.
         let oid = encoding_eq_tagged _ _ _ _ (objectidentifierref_contents_eq.contents_eq-law 39 (record { fits = lit< tt })) v.oid w.oid one.0 in
         let parameters = encoding_eq_option _ _ _ (λ _. refl) _ _ anyref_encoding_eq.encoding_eq-law v.parameters w.parameters one.1.0 in
-        eq_both _ _ _ _ _ _ oid (eq_last _ _ _ parameters) (tlv_distinguished _ _ _ _ _ _) };
+        eq_both _ _ _ _ _ _ oid (eq_last _ _ _ parameters) (tlv_distinguished _ _ _ _ _ _)) };
+}
+
+impl<'a> ContentsEq for AlgorithmIdentifier<'a> {
+    ghost contents_eq = { ⟦<AlgorithmIdentifier<'a> as Member>⟧.member.equal };
 }
 
 impl<'a> CopyIsDuplicate for AlgorithmIdentifier<'a> {}

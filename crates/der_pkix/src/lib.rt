@@ -27,6 +27,5 @@ pub mod certificate;
 pub mod crl;
 pub mod key;
 pub mod name;
-pub mod parts;
 
 pub use algorithm_identifier::AlgorithmIdentifier;

@@ -13,18 +13,16 @@ ghost use Rattle.der_elem.specs.FormatMakers.{mapped_format};
 ghost use Rattle.der_elem.specs.KnownTagLaws.{known_either, own_is_known};
 ghost use Rattle.der_elem.specs.TaggedLaws.{tlv_tagged};
 ghost use Rattle.der_modules.specs.Asn1.{parse_of};
-ghost use Rattle.der_modules.specs.MemberLaws.{copies_of, either_equality, either_tag, one_tag, one_tag_equality, same_copies, seen_equality};
-ghost use Rattle.der_nest.specs.contracts.sequence_ref.SequenceRefContentsEq.TheImpl.Laws as sequenceref_contents_eq;
-ghost use Rattle.der_pkix.specs.contracts.certificate.certificate.CertificateContentsEq.TheImpl.Laws as certificate_contents_eq;
-ghost use Rattle.der_pkix.specs.contracts.name.attribute_type_and_value.AttributeTypeAndValueContentsEq.TheImpl.Laws as attribute_type_and_value_contents_eq;
+ghost use Rattle.der_modules.specs.MemberLaws.{copies_of, same_copies};
+ghost use Rattle.der_modules.specs.Members.{seen_choice};
 
 use crate::cms::aliases::OtherCertificateFormat;
 use der_elem::{
     Choice, Decode, DecodeField, DerOrd, Duplicate, DuplicateIsEqual, EncodeValue, EncodingEq,
-    Form, FormValue, KnownTags, SequenceTag, TagMarker, Tagged,
+    Form, FormValue, KnownTags, Tagged,
 };
-use der_fields::{Implicit, ImplicitTag, OneOf, cmp_headers};
-use der_modules::{CopyLaws, copy_of};
+use der_fields::{Implicit, OneOf, cmp_headers};
+use der_modules::{Choosing, CopyLaws, copy_of};
 use der_nest::SequenceRef;
 use der_pkix::certificate::Certificate;
 use der_tlv::{BackWriter, Error, Length, Source, Tag, Writer};
@@ -119,37 +117,13 @@ impl<'a> Tagged for CertificateChoices<'a> {
         }
     }
 
-    ghost encoding_is = { λ v. (either_tag ⟦<OneOf<OneOf<Certificate<'a>, Implicit<SequenceRef<'a>, 0>>, Implicit<SequenceRef<'a>, 1>> as Form>⟧ ⟦<OneOf<Implicit<SequenceRef<'a>, 2>, Implicit<OtherCertificateFormat<'a>, 3>> as Form>⟧
-        (either_tag ⟦<OneOf<Certificate<'a>, Implicit<SequenceRef<'a>, 0>> as Form>⟧ ⟦<Implicit<SequenceRef<'a>, 1> as Form>⟧
-        (either_tag ⟦<Certificate<'a> as Form>⟧ ⟦<Implicit<SequenceRef<'a>, 0> as Form>⟧
-        (one_tag ⟦<SequenceTag as TagMarker>⟧.TAG ⟦<Certificate<'a> as FormValue>⟧.value.contents)
-        (one_tag ⟦<ImplicitTag<SequenceTag, 0> as TagMarker>⟧.TAG ⟦<Implicit<SequenceRef<'a>, 0> as FormValue>⟧.value.contents))
-        (one_tag ⟦<ImplicitTag<SequenceTag, 1> as TagMarker>⟧.TAG ⟦<Implicit<SequenceRef<'a>, 1> as FormValue>⟧.value.contents))
-        (either_tag ⟦<Implicit<SequenceRef<'a>, 2> as Form>⟧ ⟦<Implicit<OtherCertificateFormat<'a>, 3> as Form>⟧
-        (one_tag ⟦<ImplicitTag<SequenceTag, 2> as TagMarker>⟧.TAG ⟦<Implicit<SequenceRef<'a>, 2> as FormValue>⟧.value.contents)
-        (one_tag ⟦<ImplicitTag<SequenceTag, 3> as TagMarker>⟧.TAG ⟦<Implicit<OtherCertificateFormat<'a>, 3> as FormValue>⟧.value.contents))).encoding_is (tree_of v) };
+    ghost encoding_is = { ⟦<CertificateChoices<'a> as Choosing>⟧.choice.has_tag.encoding_is };
 
     ghost accepted_is_tlv = { λ rules v b. elim v as (λ k. ⟦<Tree<'a> as Form>⟧.accepts rules (tree_of k) b → IsTlv b) [ of.Certificate x ↦ λ a. tlv_tagged _ ⟦<Certificate<'a> as FormValue>⟧.value.accepts rules x b a.0.0.0 | of.ExtendedCertificate x ↦ λ a. tlv_tagged _ ⟦<Implicit<SequenceRef<'a>, 0> as FormValue>⟧.value.accepts rules x b a.0.0.0 | of.V1AttrCert x ↦ λ a. tlv_tagged _ ⟦<Implicit<SequenceRef<'a>, 1> as FormValue>⟧.value.accepts rules x b a.0.0 | of.V2AttrCert x ↦ λ a. tlv_tagged _ ⟦<Implicit<SequenceRef<'a>, 2> as FormValue>⟧.value.accepts rules x b a.0.0 | of.Other x ↦ λ a. tlv_tagged _ ⟦<Implicit<OtherCertificateFormat<'a>, 3> as FormValue>⟧.value.accepts rules x b a.0.0 ] };
 
-    ghost own_tag = { λ v. (either_tag ⟦<OneOf<OneOf<Certificate<'a>, Implicit<SequenceRef<'a>, 0>>, Implicit<SequenceRef<'a>, 1>> as Form>⟧ ⟦<OneOf<Implicit<SequenceRef<'a>, 2>, Implicit<OtherCertificateFormat<'a>, 3>> as Form>⟧
-        (either_tag ⟦<OneOf<Certificate<'a>, Implicit<SequenceRef<'a>, 0>> as Form>⟧ ⟦<Implicit<SequenceRef<'a>, 1> as Form>⟧
-        (either_tag ⟦<Certificate<'a> as Form>⟧ ⟦<Implicit<SequenceRef<'a>, 0> as Form>⟧
-        (one_tag ⟦<SequenceTag as TagMarker>⟧.TAG ⟦<Certificate<'a> as FormValue>⟧.value.contents)
-        (one_tag ⟦<ImplicitTag<SequenceTag, 0> as TagMarker>⟧.TAG ⟦<Implicit<SequenceRef<'a>, 0> as FormValue>⟧.value.contents))
-        (one_tag ⟦<ImplicitTag<SequenceTag, 1> as TagMarker>⟧.TAG ⟦<Implicit<SequenceRef<'a>, 1> as FormValue>⟧.value.contents))
-        (either_tag ⟦<Implicit<SequenceRef<'a>, 2> as Form>⟧ ⟦<Implicit<OtherCertificateFormat<'a>, 3> as Form>⟧
-        (one_tag ⟦<ImplicitTag<SequenceTag, 2> as TagMarker>⟧.TAG ⟦<Implicit<SequenceRef<'a>, 2> as FormValue>⟧.value.contents)
-        (one_tag ⟦<ImplicitTag<SequenceTag, 3> as TagMarker>⟧.TAG ⟦<Implicit<OtherCertificateFormat<'a>, 3> as FormValue>⟧.value.contents))).own_tag (tree_of v) };
+    ghost own_tag = { ⟦<CertificateChoices<'a> as Choosing>⟧.choice.has_tag.own_tag };
 
-    ghost first_tag_is = { λ v. (either_tag ⟦<OneOf<OneOf<Certificate<'a>, Implicit<SequenceRef<'a>, 0>>, Implicit<SequenceRef<'a>, 1>> as Form>⟧ ⟦<OneOf<Implicit<SequenceRef<'a>, 2>, Implicit<OtherCertificateFormat<'a>, 3>> as Form>⟧
-        (either_tag ⟦<OneOf<Certificate<'a>, Implicit<SequenceRef<'a>, 0>> as Form>⟧ ⟦<Implicit<SequenceRef<'a>, 1> as Form>⟧
-        (either_tag ⟦<Certificate<'a> as Form>⟧ ⟦<Implicit<SequenceRef<'a>, 0> as Form>⟧
-        (one_tag ⟦<SequenceTag as TagMarker>⟧.TAG ⟦<Certificate<'a> as FormValue>⟧.value.contents)
-        (one_tag ⟦<ImplicitTag<SequenceTag, 0> as TagMarker>⟧.TAG ⟦<Implicit<SequenceRef<'a>, 0> as FormValue>⟧.value.contents))
-        (one_tag ⟦<ImplicitTag<SequenceTag, 1> as TagMarker>⟧.TAG ⟦<Implicit<SequenceRef<'a>, 1> as FormValue>⟧.value.contents))
-        (either_tag ⟦<Implicit<SequenceRef<'a>, 2> as Form>⟧ ⟦<Implicit<OtherCertificateFormat<'a>, 3> as Form>⟧
-        (one_tag ⟦<ImplicitTag<SequenceTag, 2> as TagMarker>⟧.TAG ⟦<Implicit<SequenceRef<'a>, 2> as FormValue>⟧.value.contents)
-        (one_tag ⟦<ImplicitTag<SequenceTag, 3> as TagMarker>⟧.TAG ⟦<Implicit<OtherCertificateFormat<'a>, 3> as FormValue>⟧.value.contents))).first_tag_is (tree_of v) };
+    ghost first_tag_is = { ⟦<CertificateChoices<'a> as Choosing>⟧.choice.has_tag.first_tag_is };
 
     ghost re_reads_alike = { λ v. elim v as (λ k. ⟦<Tree<'a> as FormValue>⟧.value.re_reads (tree_of k) ≡ true → ⟦<Tree<'a> as Form>⟧.re_reads (tree_of k) ≡ true) [ of.Certificate x ↦ λ h. h | of.ExtendedCertificate x ↦ λ h. h | of.V1AttrCert x ↦ λ h. h | of.V2AttrCert x ↦ λ h. h | of.Other x ↦ λ h. h ] };
 
@@ -264,40 +238,19 @@ impl<'a> DerOrd for CertificateChoices<'a> {
     }
 }
 
+impl<'a> Choosing for CertificateChoices<'a> {
+    ghost choice = { seen_choice tree_of ⟦<CertificateChoices<'a> as PartialEq>⟧.eq ⟦<Tree<'a> as Choosing>⟧.choice
+        (λ v w. elim v as (λ k. ⟦<CertificateChoices<'a> as PartialEq>⟧.eq k w ≡ ⟦<Tree<'a> as Choosing>⟧.choice.eq (tree_of k) (tree_of w)) [
+          | of.Certificate x ↦ elim w as (λ k. ⟦<CertificateChoices<'a> as PartialEq>⟧.eq (of.Certificate x) k ≡ ⟦<Tree<'a> as Choosing>⟧.choice.eq (tree_of (of.Certificate x)) (tree_of k)) [ of.Certificate y ↦ refl | of.ExtendedCertificate y ↦ refl | of.V1AttrCert y ↦ refl | of.V2AttrCert y ↦ refl | of.Other y ↦ refl ]
+          | of.ExtendedCertificate x ↦ elim w as (λ k. ⟦<CertificateChoices<'a> as PartialEq>⟧.eq (of.ExtendedCertificate x) k ≡ ⟦<Tree<'a> as Choosing>⟧.choice.eq (tree_of (of.ExtendedCertificate x)) (tree_of k)) [ of.Certificate y ↦ refl | of.ExtendedCertificate y ↦ refl | of.V1AttrCert y ↦ refl | of.V2AttrCert y ↦ refl | of.Other y ↦ refl ]
+          | of.V1AttrCert x ↦ elim w as (λ k. ⟦<CertificateChoices<'a> as PartialEq>⟧.eq (of.V1AttrCert x) k ≡ ⟦<Tree<'a> as Choosing>⟧.choice.eq (tree_of (of.V1AttrCert x)) (tree_of k)) [ of.Certificate y ↦ refl | of.ExtendedCertificate y ↦ refl | of.V1AttrCert y ↦ refl | of.V2AttrCert y ↦ refl | of.Other y ↦ refl ]
+          | of.V2AttrCert x ↦ elim w as (λ k. ⟦<CertificateChoices<'a> as PartialEq>⟧.eq (of.V2AttrCert x) k ≡ ⟦<Tree<'a> as Choosing>⟧.choice.eq (tree_of (of.V2AttrCert x)) (tree_of k)) [ of.Certificate y ↦ refl | of.ExtendedCertificate y ↦ refl | of.V1AttrCert y ↦ refl | of.V2AttrCert y ↦ refl | of.Other y ↦ refl ]
+          | of.Other x ↦ elim w as (λ k. ⟦<CertificateChoices<'a> as PartialEq>⟧.eq (of.Other x) k ≡ ⟦<Tree<'a> as Choosing>⟧.choice.eq (tree_of (of.Other x)) (tree_of k)) [ of.Certificate y ↦ refl | of.ExtendedCertificate y ↦ refl | of.V1AttrCert y ↦ refl | of.V2AttrCert y ↦ refl | of.Other y ↦ refl ]
+        ]) };
+}
+
 impl<'a> EncodingEq for CertificateChoices<'a> {
-    ghost encoding_eq = { seen_equality tree_of ⟦<CertificateChoices<'a> as PartialEq>⟧.eq ⟦<Tree<'a> as PartialEq>⟧.eq (λ v w. elim v as (λ k. ⟦<CertificateChoices<'a> as PartialEq>⟧.eq k w ≡ ⟦<Tree<'a> as PartialEq>⟧.eq (tree_of k) (tree_of w)) [ of.Certificate x ↦ elim w as (λ k. ⟦<CertificateChoices<'a> as PartialEq>⟧.eq (of.Certificate x) k ≡ ⟦<Tree<'a> as PartialEq>⟧.eq (tree_of (of.Certificate x)) (tree_of k)) [ of.Certificate y ↦ refl | of.ExtendedCertificate y ↦ refl | of.V1AttrCert y ↦ refl | of.V2AttrCert y ↦ refl | of.Other y ↦ refl ] | of.ExtendedCertificate x ↦ elim w as (λ k. ⟦<CertificateChoices<'a> as PartialEq>⟧.eq (of.ExtendedCertificate x) k ≡ ⟦<Tree<'a> as PartialEq>⟧.eq (tree_of (of.ExtendedCertificate x)) (tree_of k)) [ of.Certificate y ↦ refl | of.ExtendedCertificate y ↦ refl | of.V1AttrCert y ↦ refl | of.V2AttrCert y ↦ refl | of.Other y ↦ refl ] | of.V1AttrCert x ↦ elim w as (λ k. ⟦<CertificateChoices<'a> as PartialEq>⟧.eq (of.V1AttrCert x) k ≡ ⟦<Tree<'a> as PartialEq>⟧.eq (tree_of (of.V1AttrCert x)) (tree_of k)) [ of.Certificate y ↦ refl | of.ExtendedCertificate y ↦ refl | of.V1AttrCert y ↦ refl | of.V2AttrCert y ↦ refl | of.Other y ↦ refl ] | of.V2AttrCert x ↦ elim w as (λ k. ⟦<CertificateChoices<'a> as PartialEq>⟧.eq (of.V2AttrCert x) k ≡ ⟦<Tree<'a> as PartialEq>⟧.eq (tree_of (of.V2AttrCert x)) (tree_of k)) [ of.Certificate y ↦ refl | of.ExtendedCertificate y ↦ refl | of.V1AttrCert y ↦ refl | of.V2AttrCert y ↦ refl | of.Other y ↦ refl ] | of.Other x ↦ elim w as (λ k. ⟦<CertificateChoices<'a> as PartialEq>⟧.eq (of.Other x) k ≡ ⟦<Tree<'a> as PartialEq>⟧.eq (tree_of (of.Other x)) (tree_of k)) [ of.Certificate y ↦ refl | of.ExtendedCertificate y ↦ refl | of.V1AttrCert y ↦ refl | of.V2AttrCert y ↦ refl | of.Other y ↦ refl ] ]) (either_equality ⟦<OneOf<OneOf<Certificate<'a>, Implicit<SequenceRef<'a>, 0>>, Implicit<SequenceRef<'a>, 1>> as Form>⟧ ⟦<OneOf<Implicit<SequenceRef<'a>, 2>, Implicit<OtherCertificateFormat<'a>, 3>> as Form>⟧
-        (either_tag ⟦<OneOf<Certificate<'a>, Implicit<SequenceRef<'a>, 0>> as Form>⟧ ⟦<Implicit<SequenceRef<'a>, 1> as Form>⟧
-        (either_tag ⟦<Certificate<'a> as Form>⟧ ⟦<Implicit<SequenceRef<'a>, 0> as Form>⟧
-        (one_tag ⟦<SequenceTag as TagMarker>⟧.TAG ⟦<Certificate<'a> as FormValue>⟧.value.contents)
-        (one_tag ⟦<ImplicitTag<SequenceTag, 0> as TagMarker>⟧.TAG ⟦<Implicit<SequenceRef<'a>, 0> as FormValue>⟧.value.contents))
-        (one_tag ⟦<ImplicitTag<SequenceTag, 1> as TagMarker>⟧.TAG ⟦<Implicit<SequenceRef<'a>, 1> as FormValue>⟧.value.contents))
-        (either_tag ⟦<Implicit<SequenceRef<'a>, 2> as Form>⟧ ⟦<Implicit<OtherCertificateFormat<'a>, 3> as Form>⟧
-        (one_tag ⟦<ImplicitTag<SequenceTag, 2> as TagMarker>⟧.TAG ⟦<Implicit<SequenceRef<'a>, 2> as FormValue>⟧.value.contents)
-        (one_tag ⟦<ImplicitTag<SequenceTag, 3> as TagMarker>⟧.TAG ⟦<Implicit<OtherCertificateFormat<'a>, 3> as FormValue>⟧.value.contents))
-        ⟦<OneOf<OneOf<Certificate<'a>, Implicit<SequenceRef<'a>, 0>>, Implicit<SequenceRef<'a>, 1>> as PartialEq>⟧.eq ⟦<OneOf<Implicit<SequenceRef<'a>, 2>, Implicit<OtherCertificateFormat<'a>, 3>> as PartialEq>⟧.eq
-        (either_equality ⟦<OneOf<Certificate<'a>, Implicit<SequenceRef<'a>, 0>> as Form>⟧ ⟦<Implicit<SequenceRef<'a>, 1> as Form>⟧
-        (either_tag ⟦<Certificate<'a> as Form>⟧ ⟦<Implicit<SequenceRef<'a>, 0> as Form>⟧
-        (one_tag ⟦<SequenceTag as TagMarker>⟧.TAG ⟦<Certificate<'a> as FormValue>⟧.value.contents)
-        (one_tag ⟦<ImplicitTag<SequenceTag, 0> as TagMarker>⟧.TAG ⟦<Implicit<SequenceRef<'a>, 0> as FormValue>⟧.value.contents))
-        (one_tag ⟦<ImplicitTag<SequenceTag, 1> as TagMarker>⟧.TAG ⟦<Implicit<SequenceRef<'a>, 1> as FormValue>⟧.value.contents)
-        ⟦<OneOf<Certificate<'a>, Implicit<SequenceRef<'a>, 0>> as PartialEq>⟧.eq ⟦<Implicit<SequenceRef<'a>, 1> as PartialEq>⟧.eq
-        (either_equality ⟦<Certificate<'a> as Form>⟧ ⟦<Implicit<SequenceRef<'a>, 0> as Form>⟧
-        (one_tag ⟦<SequenceTag as TagMarker>⟧.TAG ⟦<Certificate<'a> as FormValue>⟧.value.contents)
-        (one_tag ⟦<ImplicitTag<SequenceTag, 0> as TagMarker>⟧.TAG ⟦<Implicit<SequenceRef<'a>, 0> as FormValue>⟧.value.contents)
-        ⟦<Certificate<'a> as PartialEq>⟧.eq ⟦<Implicit<SequenceRef<'a>, 0> as PartialEq>⟧.eq
-        (one_tag_equality ⟦<SequenceTag as TagMarker>⟧.TAG ⟦<Certificate<'a> as FormValue>⟧.value.contents ⟦<Certificate<'a> as FormValue>⟧.value.comparable ⟦<Certificate<'a> as PartialEq>⟧.eq certificate_contents_eq.contents_eq-law)
-        (one_tag_equality ⟦<ImplicitTag<SequenceTag, 0> as TagMarker>⟧.TAG ⟦<Implicit<SequenceRef<'a>, 0> as FormValue>⟧.value.contents ⟦<Implicit<SequenceRef<'a>, 0> as FormValue>⟧.value.comparable ⟦<Implicit<SequenceRef<'a>, 0> as PartialEq>⟧.eq (λ v w. (sequenceref_contents_eq.contents_eq-law v.value w.value)))
-        ⟦<OneOf<Certificate<'a>, Implicit<SequenceRef<'a>, 0>> as PartialEq>⟧.eq (λ v x. refl) (λ w y. refl) (λ v w. refl) (λ w v. refl))
-        (one_tag_equality ⟦<ImplicitTag<SequenceTag, 1> as TagMarker>⟧.TAG ⟦<Implicit<SequenceRef<'a>, 1> as FormValue>⟧.value.contents ⟦<Implicit<SequenceRef<'a>, 1> as FormValue>⟧.value.comparable ⟦<Implicit<SequenceRef<'a>, 1> as PartialEq>⟧.eq (λ v w. (sequenceref_contents_eq.contents_eq-law v.value w.value)))
-        ⟦<OneOf<OneOf<Certificate<'a>, Implicit<SequenceRef<'a>, 0>>, Implicit<SequenceRef<'a>, 1>> as PartialEq>⟧.eq (λ v x. refl) (λ w y. refl) (λ v w. refl) (λ w v. refl))
-        (either_equality ⟦<Implicit<SequenceRef<'a>, 2> as Form>⟧ ⟦<Implicit<OtherCertificateFormat<'a>, 3> as Form>⟧
-        (one_tag ⟦<ImplicitTag<SequenceTag, 2> as TagMarker>⟧.TAG ⟦<Implicit<SequenceRef<'a>, 2> as FormValue>⟧.value.contents)
-        (one_tag ⟦<ImplicitTag<SequenceTag, 3> as TagMarker>⟧.TAG ⟦<Implicit<OtherCertificateFormat<'a>, 3> as FormValue>⟧.value.contents)
-        ⟦<Implicit<SequenceRef<'a>, 2> as PartialEq>⟧.eq ⟦<Implicit<OtherCertificateFormat<'a>, 3> as PartialEq>⟧.eq
-        (one_tag_equality ⟦<ImplicitTag<SequenceTag, 2> as TagMarker>⟧.TAG ⟦<Implicit<SequenceRef<'a>, 2> as FormValue>⟧.value.contents ⟦<Implicit<SequenceRef<'a>, 2> as FormValue>⟧.value.comparable ⟦<Implicit<SequenceRef<'a>, 2> as PartialEq>⟧.eq (λ v w. (sequenceref_contents_eq.contents_eq-law v.value w.value)))
-        (one_tag_equality ⟦<ImplicitTag<SequenceTag, 3> as TagMarker>⟧.TAG ⟦<Implicit<OtherCertificateFormat<'a>, 3> as FormValue>⟧.value.contents ⟦<Implicit<OtherCertificateFormat<'a>, 3> as FormValue>⟧.value.comparable ⟦<Implicit<OtherCertificateFormat<'a>, 3> as PartialEq>⟧.eq (λ v w. (attribute_type_and_value_contents_eq.contents_eq-law v.value w.value)))
-        ⟦<OneOf<Implicit<SequenceRef<'a>, 2>, Implicit<OtherCertificateFormat<'a>, 3>> as PartialEq>⟧.eq (λ v x. refl) (λ w y. refl) (λ v w. refl) (λ w v. refl))
-        ⟦<OneOf<OneOf<OneOf<Certificate<'a>, Implicit<SequenceRef<'a>, 0>>, Implicit<SequenceRef<'a>, 1>>, OneOf<Implicit<SequenceRef<'a>, 2>, Implicit<OtherCertificateFormat<'a>, 3>>> as PartialEq>⟧.eq (λ v x. refl) (λ w y. refl) (λ v w. refl) (λ w v. refl)) };
+    ghost encoding_eq = { ⟦<CertificateChoices<'a> as Choosing>⟧.choice.equal };
 }
 
 impl<'a> CopyLaws for CertificateChoices<'a> {

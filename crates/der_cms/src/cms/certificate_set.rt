@@ -2,18 +2,19 @@
 //!
 //! Made by tools/asn1 from cms.asn1.
 
-ghost use Rattle.std.specs.Cmp.Lexicographic.{bytes_decides};
 ghost use Rattle.std.specs.Prelude.{◌≡◌, false, refl};
 ghost use Rattle.der_cms.specs.Cms.Grammar.{certificate_set};
 ghost use Rattle.der_elem.specs.FormatMakers.{mapped_format};
 ghost use Rattle.der_modules.specs.Asn1.{parse_of};
+ghost use Rattle.der_modules.specs.Members.{seen_member};
 
 use crate::cms::certificate_choices::CertificateChoices;
 use der_elem::{
     ContentsEq, CopyIsDuplicate, DecodeValue, EncodeValue, Form, FormValue, OneTag, SetTag,
-    ValueOrd,
+    TagMarker, ValueOrd,
 };
 use der_lists::UnorderedSetRef;
+use der_modules::Member;
 use der_tlv::{BackWriter, Error, Header, Length, Source, Writer};
 use std::alloc::Global;
 use std::cmp::Ordering;
@@ -66,10 +67,10 @@ impl<'a, R: Source<'a>> DecodeValue<'a, R> for CertificateSet<'a> {
         reader: &mut R,
         header: Header,
     ) -> Result<CertificateSet<'a>, Error> {
-        match UnorderedSetRef::<'a, CertificateChoices<'a>>::decode_value(alloc, reader, header) {
-            Ok(items) => Ok(CertificateSet { items }),
-            Err(e) => Err(e),
-        }
+        let items = UnorderedSetRef::<'a, CertificateChoices<'a>>::decode_value(
+            alloc, reader, header,
+        )?;
+        Ok(CertificateSet { items })
     }
 
     ghost takes_memory_is = { refl };
@@ -95,8 +96,12 @@ impl<'a> ValueOrd for CertificateSet<'a> {
     }
 }
 
+impl<'a> Member for CertificateSet<'a> {
+    ghost member = { seen_member ⟦<SetTag as TagMarker>⟧.TAG (λ v. v.items) ⟦<UnorderedSetRef<'a, CertificateChoices<'a>> as Member>⟧.member };
+}
+
 impl<'a> ContentsEq for CertificateSet<'a> {
-    ghost contents_eq = { λ v w. (λ one. bytes_decides v.items.octets.octets.now w.items.octets.octets.now) };
+    ghost contents_eq = { ⟦<CertificateSet<'a> as Member>⟧.member.equal };
 }
 
 impl<'a> CopyIsDuplicate for CertificateSet<'a> {}

@@ -2,27 +2,22 @@
 //!
 //! Made by tools/asn1 from cms.asn1.
 
-ghost use Rattle.std.proofs.Common.{lit<};
 ghost use Rattle.std.specs.Prelude.{◌∷◌, ◌≡◌, [], false, refl};
 ghost use Rattle.der_cms.specs.Cms.ContentInfo as content_info_fields;
 ghost use Rattle.der_cms.specs.Cms.Grammar.{content_info};
 ghost use Rattle.der_cms.specs.declared.cms.content_info.ContentInfo.{ContentInfo};
 ghost use Rattle.der_elem.specs.FormatMakers.{mapped_format};
 ghost use Rattle.der_modules.specs.Asn1.{context, explicit_encoding, joined, parse_of};
-ghost use Rattle.der_modules.specs.MemberLaws.{member_equality, no_equality, one_tag, one_tag_equality, own_tags, tagged_starts};
-ghost use Rattle.der_opaque.specs.contracts.any_ref.AnyRefEncodingEq.TheImpl.Laws as anyref_encoding_eq;
-ghost use Rattle.der_opaque.specs.contracts.any_ref.AnyRefTagged.TheImpl.Laws as anyref_tagged;
-ghost use Rattle.der_opaque.specs.contracts.object_identifier_ref.ObjectIdentifierRefContentsEq.TheImpl.Laws as objectidentifierref_contents_eq;
+ghost use Rattle.der_modules.specs.Members.{field, no_fields, struct_member};
 
 use crate::cms::aliases::ContentType;
 use der_elem::{
-    ContentsEq, CopyIsDuplicate, DecodeValue, EncodeValue, Form, FormValue, ObjectIdentifierTag,
-    OneTag, Sequence, SequenceTag, TagMarker, Tagged, ValueOrd,
+    ContentsEq, CopyIsDuplicate, DecodeValue, EncodeValue, Form, FormValue, OneTag, Sequence,
+    SequenceTag, TagMarker, ValueOrd,
 };
-use der_fields::{
-    DecodeFields, EncodeFields, End, Explicit, ExplicitTag, Field, FieldList, Fields2, FieldsOrd,
-};
-use der_opaque::{AnyRef, ObjectIdentifierRef};
+use der_fields::{DecodeFields, EncodeFields, Explicit, FieldList, Fields2, FieldsOrd};
+use der_modules::{Member, field_list, tagged};
+use der_opaque::AnyRef;
 use der_tlv::{BackWriter, Error, Header, Length, Source, Writer};
 use std::alloc::Global;
 use std::cmp::Ordering;
@@ -51,15 +46,7 @@ impl<'a> ContentInfo<'a> {
         ensures content_type { content_info_fields.content_type result ≡ content_type.entry }
         ensures content { content_info_fields.content result ≡ content.entry }
     {
-        let first = Explicit {
-            fields: Field {
-                first: content,
-                rest: End,
-            },
-        };
-        let rest = Field { first, rest: End };
-        let first = content_type;
-        let list = Field { first, rest };
+        let list = field_list![content_type, tagged!(Explicit, content)];
         let fields = Fields2 { list };
         ContentInfo { fields }
     }
@@ -139,20 +126,15 @@ impl<'a> ValueOrd for ContentInfo<'a> {
     }
 }
 
+impl<'a> Member for ContentInfo<'a> {
+    ghost member = { struct_member ⟦<SequenceTag as TagMarker>⟧.TAG (λ v. v.fields.list)
+        (field ⟦<ContentType<'a> as Member>⟧.member
+        (field ⟦<Explicit<AnyRef<'a>, 0> as Member>⟧.member
+        no_fields)) };
+}
+
 impl<'a> ContentsEq for ContentInfo<'a> {
-    ghost contents_eq = { λ v w. (member_equality ⟦<ContentType<'a> as Form>⟧
-        (tagged_starts ⟦<ContentType<'a> as Form>⟧ (one_tag ⟦<ObjectIdentifierTag as TagMarker>⟧.TAG ⟦<ObjectIdentifierRef<'a, 39> as FormValue>⟧.value.contents))
-        ⟦<ContentType<'a> as PartialEq>⟧.eq
-        (one_tag_equality ⟦<ObjectIdentifierTag as TagMarker>⟧.TAG ⟦<ObjectIdentifierRef<'a, 39> as FormValue>⟧.value.contents ⟦<ObjectIdentifierRef<'a, 39> as FormValue>⟧.value.comparable ⟦<ObjectIdentifierRef<'a, 39> as PartialEq>⟧.eq (objectidentifierref_contents_eq.contents_eq-law 39 (record { fits = lit< tt })))
-        (member_equality ⟦<Explicit<AnyRef<'a>, 0> as Form>⟧
-        (tagged_starts ⟦<Explicit<AnyRef<'a>, 0> as Form>⟧ (one_tag ⟦<ExplicitTag<0> as TagMarker>⟧.TAG ⟦<Explicit<AnyRef<'a>, 0> as FormValue>⟧.value.contents))
-        ⟦<Explicit<AnyRef<'a>, 0> as PartialEq>⟧.eq
-        (one_tag_equality ⟦<ExplicitTag<0> as TagMarker>⟧.TAG ⟦<Explicit<AnyRef<'a>, 0> as FormValue>⟧.value.contents ⟦<Explicit<AnyRef<'a>, 0> as FormValue>⟧.value.comparable ⟦<Explicit<AnyRef<'a>, 0> as PartialEq>⟧.eq (λ v w. ((member_equality ⟦<AnyRef<'a> as Form>⟧
-        (tagged_starts ⟦<AnyRef<'a> as Form>⟧ (own_tags ⟦<AnyRef<'a> as Form>⟧.tags ⟦<AnyRef<'a> as Form>⟧.first_tag_of ⟦<AnyRef<'a> as Form>⟧.encoding ⟦<AnyRef<'a> as Tagged>⟧.tag_of ⟦<AnyRef<'a> as FormValue>⟧.value.contents anyref_tagged.encoding_is-law anyref_tagged.own_tag-law anyref_tagged.first_tag_is-law))
-        ⟦<AnyRef<'a> as PartialEq>⟧.eq
-        anyref_encoding_eq.encoding_eq-law
-        no_equality).equal v.fields w.fields)))
-        no_equality)).equal v.fields.list w.fields.list };
+    ghost contents_eq = { ⟦<ContentInfo<'a> as Member>⟧.member.equal };
 }
 
 impl<'a> CopyIsDuplicate for ContentInfo<'a> {}

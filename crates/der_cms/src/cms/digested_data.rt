@@ -5,23 +5,19 @@
 ghost use Rattle.std.specs.Prelude.{◌∷◌, ◌≡◌, [], false, refl};
 ghost use Rattle.der_cms.specs.Cms.DigestedData as digested_data_fields;
 ghost use Rattle.der_cms.specs.Cms.Grammar.{digested_data};
-ghost use Rattle.der_cms.specs.contracts.cms.encapsulated_content_info.EncapsulatedContentInfoContentsEq.TheImpl.Laws as encapsulated_content_info_contents_eq;
 ghost use Rattle.der_cms.specs.declared.cms.digested_data.DigestedData.{DigestedData};
 ghost use Rattle.der_elem.specs.FormatMakers.{mapped_format};
-ghost use Rattle.der_elem.specs.contracts.integer.unsigned.U8ContentsEq.TheImpl.Laws as u8_contents_eq;
 ghost use Rattle.der_modules.specs.Asn1.{joined, parse_of};
-ghost use Rattle.der_modules.specs.MemberLaws.{member_equality, no_equality, one_tag, one_tag_equality, tagged_starts};
-ghost use Rattle.der_opaque.specs.contracts.octet_string_ref.OctetStringRefContentsEq.TheImpl.Laws as octetstringref_contents_eq;
-ghost use Rattle.der_pkix.specs.contracts.algorithm_identifier.AlgorithmIdentifierContentsEq.TheImpl.Laws as algorithm_identifier_contents_eq;
+ghost use Rattle.der_modules.specs.Members.{field, no_fields, struct_member};
 
 use crate::cms::aliases::CmsVersion;
 use crate::cms::encapsulated_content_info::EncapsulatedContentInfo;
 use der_elem::{
-    ContentsEq, CopyIsDuplicate, DecodeValue, EncodeValue, Form, FormValue, IntegerTag,
-    OctetStringTag, OneTag, Sequence, SequenceTag, TagMarker, ValueOrd,
+    ContentsEq, CopyIsDuplicate, DecodeValue, EncodeValue, Form, FormValue, OneTag, Sequence,
+    SequenceTag, TagMarker, ValueOrd,
 };
-use der_fields::{DecodeFields, EncodeFields, End, Field, FieldList, Fields4, FieldsOrd};
-use der_modules::copy_of;
+use der_fields::{DecodeFields, EncodeFields, FieldList, Fields4, FieldsOrd};
+use der_modules::{Member, copy_of, field_list};
 use der_opaque::OctetStringRef;
 use der_pkix::AlgorithmIdentifier;
 use der_tlv::{BackWriter, Error, Header, Length, Source, Writer};
@@ -66,14 +62,12 @@ impl<'a> DigestedData<'a> {
         ensures encap_content_info { digested_data_fields.encap_content_info result ≡ encap_content_info.now }
         ensures digest { digested_data_fields.digest result ≡ digest.entry }
     {
-        let first = digest;
-        let rest = Field { first, rest: End };
-        let first = copy_of(encap_content_info);
-        let rest = Field { first, rest };
-        let first = copy_of(digest_algorithm);
-        let rest = Field { first, rest };
-        let first = version;
-        let list = Field { first, rest };
+        let list = field_list![
+            version,
+            copy_of(digest_algorithm),
+            copy_of(encap_content_info),
+            digest
+        ];
         let fields = Fields4 { list };
         DigestedData { fields }
     }
@@ -169,24 +163,17 @@ impl<'a> ValueOrd for DigestedData<'a> {
     }
 }
 
+impl<'a> Member for DigestedData<'a> {
+    ghost member = { struct_member ⟦<SequenceTag as TagMarker>⟧.TAG (λ v. v.fields.list)
+        (field ⟦<CmsVersion as Member>⟧.member
+        (field ⟦<AlgorithmIdentifier<'a> as Member>⟧.member
+        (field ⟦<EncapsulatedContentInfo<'a> as Member>⟧.member
+        (field ⟦<OctetStringRef<'a> as Member>⟧.member
+        no_fields)))) };
+}
+
 impl<'a> ContentsEq for DigestedData<'a> {
-    ghost contents_eq = { λ v w. (member_equality ⟦<CmsVersion as Form>⟧
-        (tagged_starts ⟦<CmsVersion as Form>⟧ (one_tag ⟦<IntegerTag as TagMarker>⟧.TAG ⟦<u8 as FormValue>⟧.value.contents))
-        ⟦<CmsVersion as PartialEq>⟧.eq
-        (one_tag_equality ⟦<IntegerTag as TagMarker>⟧.TAG ⟦<u8 as FormValue>⟧.value.contents ⟦<u8 as FormValue>⟧.value.comparable ⟦<u8 as PartialEq>⟧.eq u8_contents_eq.contents_eq-law)
-        (member_equality ⟦<AlgorithmIdentifier<'a> as Form>⟧
-        (tagged_starts ⟦<AlgorithmIdentifier<'a> as Form>⟧ (one_tag ⟦<SequenceTag as TagMarker>⟧.TAG ⟦<AlgorithmIdentifier<'a> as FormValue>⟧.value.contents))
-        ⟦<AlgorithmIdentifier<'a> as PartialEq>⟧.eq
-        (one_tag_equality ⟦<SequenceTag as TagMarker>⟧.TAG ⟦<AlgorithmIdentifier<'a> as FormValue>⟧.value.contents ⟦<AlgorithmIdentifier<'a> as FormValue>⟧.value.comparable ⟦<AlgorithmIdentifier<'a> as PartialEq>⟧.eq algorithm_identifier_contents_eq.contents_eq-law)
-        (member_equality ⟦<EncapsulatedContentInfo<'a> as Form>⟧
-        (tagged_starts ⟦<EncapsulatedContentInfo<'a> as Form>⟧ (one_tag ⟦<SequenceTag as TagMarker>⟧.TAG ⟦<EncapsulatedContentInfo<'a> as FormValue>⟧.value.contents))
-        ⟦<EncapsulatedContentInfo<'a> as PartialEq>⟧.eq
-        (one_tag_equality ⟦<SequenceTag as TagMarker>⟧.TAG ⟦<EncapsulatedContentInfo<'a> as FormValue>⟧.value.contents ⟦<EncapsulatedContentInfo<'a> as FormValue>⟧.value.comparable ⟦<EncapsulatedContentInfo<'a> as PartialEq>⟧.eq encapsulated_content_info_contents_eq.contents_eq-law)
-        (member_equality ⟦<OctetStringRef<'a> as Form>⟧
-        (tagged_starts ⟦<OctetStringRef<'a> as Form>⟧ (one_tag ⟦<OctetStringTag as TagMarker>⟧.TAG ⟦<OctetStringRef<'a> as FormValue>⟧.value.contents))
-        ⟦<OctetStringRef<'a> as PartialEq>⟧.eq
-        (one_tag_equality ⟦<OctetStringTag as TagMarker>⟧.TAG ⟦<OctetStringRef<'a> as FormValue>⟧.value.contents ⟦<OctetStringRef<'a> as FormValue>⟧.value.comparable ⟦<OctetStringRef<'a> as PartialEq>⟧.eq octetstringref_contents_eq.contents_eq-law)
-        no_equality)))).equal v.fields.list w.fields.list };
+    ghost contents_eq = { ⟦<DigestedData<'a> as Member>⟧.member.equal };
 }
 
 impl<'a> CopyIsDuplicate for DigestedData<'a> {}

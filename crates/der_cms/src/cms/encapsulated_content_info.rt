@@ -2,26 +2,22 @@
 //!
 //! Made by tools/asn1 from cms.asn1.
 
-ghost use Rattle.std.proofs.Common.{lit<};
 ghost use Rattle.std.specs.Prelude.{◌∷◌, ◌≡◌, [], false, refl};
 ghost use Rattle.der_cms.specs.Cms.EncapsulatedContentInfo as encapsulated_content_info_fields;
 ghost use Rattle.der_cms.specs.Cms.Grammar.{encapsulated_content_info};
 ghost use Rattle.der_cms.specs.declared.cms.encapsulated_content_info.EncapsulatedContentInfo.{EncapsulatedContentInfo};
 ghost use Rattle.der_elem.specs.FormatMakers.{mapped_format};
 ghost use Rattle.der_modules.specs.Asn1.{context, explicit_encoding, joined, optional, parse_of};
-ghost use Rattle.der_modules.specs.MemberLaws.{member_equality, no_equality, one_tag, one_tag_equality, optional_equality, optional_starts, tagged_starts};
-ghost use Rattle.der_opaque.specs.contracts.object_identifier_ref.ObjectIdentifierRefContentsEq.TheImpl.Laws as objectidentifierref_contents_eq;
-ghost use Rattle.der_opaque.specs.contracts.octet_string_ref.OctetStringRefContentsEq.TheImpl.Laws as octetstringref_contents_eq;
+ghost use Rattle.der_modules.specs.Members.{field, no_fields, optional_field, struct_member};
 
 use crate::cms::aliases::ContentType;
 use der_elem::{
-    ContentsEq, CopyIsDuplicate, DecodeValue, EncodeValue, Form, FormValue, ObjectIdentifierTag,
-    OctetStringTag, OneTag, Sequence, SequenceTag, TagMarker, ValueOrd,
+    ContentsEq, CopyIsDuplicate, DecodeValue, EncodeValue, Form, FormValue, OneTag, Sequence,
+    SequenceTag, TagMarker, ValueOrd,
 };
-use der_fields::{
-    DecodeFields, EncodeFields, End, Explicit, ExplicitTag, Field, FieldList, Fields2, FieldsOrd,
-};
-use der_opaque::{ObjectIdentifierRef, OctetStringRef};
+use der_fields::{DecodeFields, EncodeFields, Explicit, FieldList, Fields2, FieldsOrd};
+use der_modules::{Member, field_list, if_present, tagged};
+use der_opaque::OctetStringRef;
 use der_tlv::{BackWriter, Error, Header, Length, Source, Writer};
 use std::alloc::Global;
 use std::cmp::Ordering;
@@ -54,15 +50,10 @@ impl<'a> EncapsulatedContentInfo<'a> {
         ensures e_content_type { encapsulated_content_info_fields.e_content_type result ≡ e_content_type.entry }
         ensures e_content { encapsulated_content_info_fields.e_content result ≡ e_content.entry }
     {
-        let first = match e_content {
-            Some(first) => Some(Explicit {
-                fields: Field { first, rest: End },
-            }),
-            None => None,
-        };
-        let rest = Field { first, rest: End };
-        let first = e_content_type;
-        let list = Field { first, rest };
+        let list = field_list![
+            e_content_type,
+            if_present!(value in e_content => tagged!(Explicit, value))
+        ];
         let fields = Fields2 { list };
         EncapsulatedContentInfo { fields }
     }
@@ -78,10 +69,7 @@ impl<'a> EncapsulatedContentInfo<'a> {
     pub fn e_content(&self) -> Option<&OctetStringRef<'a>>
         ensures { option_copied result ≡ encapsulated_content_info_fields.e_content self.now }
     {
-        match &self.fields.list.rest.first {
-            Some(value) => Some(&value.fields.first),
-            None => None,
-        }
+        if_present!(value in &self.fields.list.rest.first => &value.fields.first)
     }
 }
 
@@ -145,20 +133,15 @@ impl<'a> ValueOrd for EncapsulatedContentInfo<'a> {
     }
 }
 
+impl<'a> Member for EncapsulatedContentInfo<'a> {
+    ghost member = { struct_member ⟦<SequenceTag as TagMarker>⟧.TAG (λ v. v.fields.list)
+        (field ⟦<ContentType<'a> as Member>⟧.member
+        (optional_field ⟦<Explicit<OctetStringRef<'a>, 0> as Member>⟧.member
+        no_fields)) };
+}
+
 impl<'a> ContentsEq for EncapsulatedContentInfo<'a> {
-    ghost contents_eq = { λ v w. (member_equality ⟦<ContentType<'a> as Form>⟧
-        (tagged_starts ⟦<ContentType<'a> as Form>⟧ (one_tag ⟦<ObjectIdentifierTag as TagMarker>⟧.TAG ⟦<ObjectIdentifierRef<'a, 39> as FormValue>⟧.value.contents))
-        ⟦<ContentType<'a> as PartialEq>⟧.eq
-        (one_tag_equality ⟦<ObjectIdentifierTag as TagMarker>⟧.TAG ⟦<ObjectIdentifierRef<'a, 39> as FormValue>⟧.value.contents ⟦<ObjectIdentifierRef<'a, 39> as FormValue>⟧.value.comparable ⟦<ObjectIdentifierRef<'a, 39> as PartialEq>⟧.eq (objectidentifierref_contents_eq.contents_eq-law 39 (record { fits = lit< tt })))
-        (member_equality ⟦<Option<Explicit<OctetStringRef<'a>, 0>> as Form>⟧
-        (optional_starts ⟦<Explicit<OctetStringRef<'a>, 0> as Form>⟧ (one_tag ⟦<ExplicitTag<0> as TagMarker>⟧.TAG ⟦<Explicit<OctetStringRef<'a>, 0> as FormValue>⟧.value.contents))
-        ⟦<Option<Explicit<OctetStringRef<'a>, 0>> as PartialEq>⟧.eq
-        (optional_equality ⟦<Explicit<OctetStringRef<'a>, 0> as Form>⟧ (one_tag ⟦<ExplicitTag<0> as TagMarker>⟧.TAG ⟦<Explicit<OctetStringRef<'a>, 0> as FormValue>⟧.value.contents) ⟦<Explicit<OctetStringRef<'a>, 0> as PartialEq>⟧.eq (one_tag_equality ⟦<ExplicitTag<0> as TagMarker>⟧.TAG ⟦<Explicit<OctetStringRef<'a>, 0> as FormValue>⟧.value.contents ⟦<Explicit<OctetStringRef<'a>, 0> as FormValue>⟧.value.comparable ⟦<Explicit<OctetStringRef<'a>, 0> as PartialEq>⟧.eq (λ v w. ((member_equality ⟦<OctetStringRef<'a> as Form>⟧
-        (tagged_starts ⟦<OctetStringRef<'a> as Form>⟧ (one_tag ⟦<OctetStringTag as TagMarker>⟧.TAG ⟦<OctetStringRef<'a> as FormValue>⟧.value.contents))
-        ⟦<OctetStringRef<'a> as PartialEq>⟧.eq
-        (one_tag_equality ⟦<OctetStringTag as TagMarker>⟧.TAG ⟦<OctetStringRef<'a> as FormValue>⟧.value.contents ⟦<OctetStringRef<'a> as FormValue>⟧.value.comparable ⟦<OctetStringRef<'a> as PartialEq>⟧.eq octetstringref_contents_eq.contents_eq-law)
-        no_equality).equal v.fields w.fields))))
-        no_equality)).equal v.fields.list w.fields.list };
+    ghost contents_eq = { ⟦<EncapsulatedContentInfo<'a> as Member>⟧.member.equal };
 }
 
 impl<'a> CopyIsDuplicate for EncapsulatedContentInfo<'a> {}

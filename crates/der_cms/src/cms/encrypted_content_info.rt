@@ -2,28 +2,22 @@
 //!
 //! Made by tools/asn1 from cms.asn1.
 
-ghost use Rattle.std.proofs.Common.{lit<};
 ghost use Rattle.std.specs.Prelude.{◌∷◌, ◌≡◌, [], false, refl};
 ghost use Rattle.der_cms.specs.Cms.EncryptedContentInfo as encrypted_content_info_fields;
 ghost use Rattle.der_cms.specs.Cms.Grammar.{encrypted_content_info};
 ghost use Rattle.der_cms.specs.declared.cms.encrypted_content_info.EncryptedContentInfo.{EncryptedContentInfo};
 ghost use Rattle.der_elem.specs.FormatMakers.{mapped_format};
 ghost use Rattle.der_modules.specs.Asn1.{context, implicit_encoding, joined, optional, parse_of};
-ghost use Rattle.der_modules.specs.MemberLaws.{member_equality, no_equality, one_tag, one_tag_equality, optional_equality, optional_starts, tagged_starts};
-ghost use Rattle.der_opaque.specs.contracts.object_identifier_ref.ObjectIdentifierRefContentsEq.TheImpl.Laws as objectidentifierref_contents_eq;
-ghost use Rattle.der_opaque.specs.contracts.octet_string_ref.OctetStringRefContentsEq.TheImpl.Laws as octetstringref_contents_eq;
-ghost use Rattle.der_pkix.specs.contracts.algorithm_identifier.AlgorithmIdentifierContentsEq.TheImpl.Laws as algorithm_identifier_contents_eq;
+ghost use Rattle.der_modules.specs.Members.{field, no_fields, optional_field, struct_member};
 
 use crate::cms::aliases::ContentType;
 use der_elem::{
-    ContentsEq, CopyIsDuplicate, DecodeValue, EncodeValue, Form, FormValue, ObjectIdentifierTag,
-    OctetStringTag, OneTag, Sequence, SequenceTag, TagMarker, ValueOrd,
+    ContentsEq, CopyIsDuplicate, DecodeValue, EncodeValue, Form, FormValue, OneTag, Sequence,
+    SequenceTag, TagMarker, ValueOrd,
 };
-use der_fields::{
-    DecodeFields, EncodeFields, End, Field, FieldList, Fields3, FieldsOrd, Implicit, ImplicitTag,
-};
-use der_modules::copy_of;
-use der_opaque::{ObjectIdentifierRef, OctetStringRef};
+use der_fields::{DecodeFields, EncodeFields, FieldList, Fields3, FieldsOrd, Implicit};
+use der_modules::{Member, copy_of, field_list, if_present};
+use der_opaque::OctetStringRef;
 use der_pkix::AlgorithmIdentifier;
 use der_tlv::{BackWriter, Error, Header, Length, Source, Writer};
 use std::alloc::Global;
@@ -64,15 +58,11 @@ impl<'a> EncryptedContentInfo<'a> {
         ensures content_encryption_algorithm { encrypted_content_info_fields.content_encryption_algorithm result ≡ content_encryption_algorithm.now }
         ensures encrypted_content { encrypted_content_info_fields.encrypted_content result ≡ encrypted_content.entry }
     {
-        let first = match encrypted_content {
-            Some(value) => Some(Implicit { value }),
-            None => None,
-        };
-        let rest = Field { first, rest: End };
-        let first = copy_of(content_encryption_algorithm);
-        let rest = Field { first, rest };
-        let first = content_type;
-        let list = Field { first, rest };
+        let list = field_list![
+            content_type,
+            copy_of(content_encryption_algorithm),
+            if_present!(value in encrypted_content => Implicit { value })
+        ];
         let fields = Fields3 { list };
         EncryptedContentInfo { fields }
     }
@@ -95,10 +85,7 @@ impl<'a> EncryptedContentInfo<'a> {
     pub fn encrypted_content(&self) -> Option<&OctetStringRef<'a>>
         ensures { option_copied result ≡ encrypted_content_info_fields.encrypted_content self.now }
     {
-        match &self.fields.list.rest.rest.first {
-            Some(value) => Some(&value.value),
-            None => None,
-        }
+        if_present!(value in &self.fields.list.rest.rest.first => &value.value)
     }
 }
 
@@ -166,20 +153,16 @@ impl<'a> ValueOrd for EncryptedContentInfo<'a> {
     }
 }
 
+impl<'a> Member for EncryptedContentInfo<'a> {
+    ghost member = { struct_member ⟦<SequenceTag as TagMarker>⟧.TAG (λ v. v.fields.list)
+        (field ⟦<ContentType<'a> as Member>⟧.member
+        (field ⟦<AlgorithmIdentifier<'a> as Member>⟧.member
+        (optional_field ⟦<Implicit<OctetStringRef<'a>, 0> as Member>⟧.member
+        no_fields))) };
+}
+
 impl<'a> ContentsEq for EncryptedContentInfo<'a> {
-    ghost contents_eq = { λ v w. (member_equality ⟦<ContentType<'a> as Form>⟧
-        (tagged_starts ⟦<ContentType<'a> as Form>⟧ (one_tag ⟦<ObjectIdentifierTag as TagMarker>⟧.TAG ⟦<ObjectIdentifierRef<'a, 39> as FormValue>⟧.value.contents))
-        ⟦<ContentType<'a> as PartialEq>⟧.eq
-        (one_tag_equality ⟦<ObjectIdentifierTag as TagMarker>⟧.TAG ⟦<ObjectIdentifierRef<'a, 39> as FormValue>⟧.value.contents ⟦<ObjectIdentifierRef<'a, 39> as FormValue>⟧.value.comparable ⟦<ObjectIdentifierRef<'a, 39> as PartialEq>⟧.eq (objectidentifierref_contents_eq.contents_eq-law 39 (record { fits = lit< tt })))
-        (member_equality ⟦<AlgorithmIdentifier<'a> as Form>⟧
-        (tagged_starts ⟦<AlgorithmIdentifier<'a> as Form>⟧ (one_tag ⟦<SequenceTag as TagMarker>⟧.TAG ⟦<AlgorithmIdentifier<'a> as FormValue>⟧.value.contents))
-        ⟦<AlgorithmIdentifier<'a> as PartialEq>⟧.eq
-        (one_tag_equality ⟦<SequenceTag as TagMarker>⟧.TAG ⟦<AlgorithmIdentifier<'a> as FormValue>⟧.value.contents ⟦<AlgorithmIdentifier<'a> as FormValue>⟧.value.comparable ⟦<AlgorithmIdentifier<'a> as PartialEq>⟧.eq algorithm_identifier_contents_eq.contents_eq-law)
-        (member_equality ⟦<Option<Implicit<OctetStringRef<'a>, 0>> as Form>⟧
-        (optional_starts ⟦<Implicit<OctetStringRef<'a>, 0> as Form>⟧ (one_tag ⟦<ImplicitTag<OctetStringTag, 0> as TagMarker>⟧.TAG ⟦<Implicit<OctetStringRef<'a>, 0> as FormValue>⟧.value.contents))
-        ⟦<Option<Implicit<OctetStringRef<'a>, 0>> as PartialEq>⟧.eq
-        (optional_equality ⟦<Implicit<OctetStringRef<'a>, 0> as Form>⟧ (one_tag ⟦<ImplicitTag<OctetStringTag, 0> as TagMarker>⟧.TAG ⟦<Implicit<OctetStringRef<'a>, 0> as FormValue>⟧.value.contents) ⟦<Implicit<OctetStringRef<'a>, 0> as PartialEq>⟧.eq (one_tag_equality ⟦<ImplicitTag<OctetStringTag, 0> as TagMarker>⟧.TAG ⟦<Implicit<OctetStringRef<'a>, 0> as FormValue>⟧.value.contents ⟦<Implicit<OctetStringRef<'a>, 0> as FormValue>⟧.value.comparable ⟦<Implicit<OctetStringRef<'a>, 0> as PartialEq>⟧.eq (λ v w. (octetstringref_contents_eq.contents_eq-law v.value w.value))))
-        no_equality))).equal v.fields.list w.fields.list };
+    ghost contents_eq = { ⟦<EncryptedContentInfo<'a> as Member>⟧.member.equal };
 }
 
 impl<'a> CopyIsDuplicate for EncryptedContentInfo<'a> {}

@@ -5,24 +5,19 @@
 ghost use Rattle.std.specs.Prelude.{◌∷◌, ◌≡◌, [], false, refl, true};
 ghost use Rattle.der_cms.specs.Cms.EncryptedData as encrypted_data_fields;
 ghost use Rattle.der_cms.specs.Cms.Grammar.{encrypted_data};
-ghost use Rattle.der_cms.specs.contracts.cms.encrypted_content_info.EncryptedContentInfoContentsEq.TheImpl.Laws as encrypted_content_info_contents_eq;
-ghost use Rattle.der_cms.specs.contracts.cms.unsigned_attributes.UnsignedAttributesContentsEq.TheImpl.Laws as unsigned_attributes_contents_eq;
 ghost use Rattle.der_cms.specs.declared.cms.encrypted_data.EncryptedData.{EncryptedData};
 ghost use Rattle.der_elem.specs.FormatMakers.{mapped_format};
-ghost use Rattle.der_elem.specs.contracts.integer.unsigned.U8ContentsEq.TheImpl.Laws as u8_contents_eq;
 ghost use Rattle.der_modules.specs.Asn1.{context, implicit_encoding, joined, optional, parse_of};
-ghost use Rattle.der_modules.specs.MemberLaws.{member_equality, no_equality, one_tag, one_tag_equality, optional_equality, optional_starts, tagged_starts};
+ghost use Rattle.der_modules.specs.Members.{field, no_fields, optional_field, struct_member};
 
 use crate::cms::aliases::{CmsVersion, UnprotectedAttributes};
 use crate::cms::encrypted_content_info::EncryptedContentInfo;
 use der_elem::{
-    ContentsEq, CopyIsDuplicate, DecodeValue, EncodeValue, Form, FormValue, IntegerTag, OneTag,
-    Sequence, SequenceTag, SetTag, TagMarker, ValueOrd,
+    ContentsEq, CopyIsDuplicate, DecodeValue, EncodeValue, Form, FormValue, OneTag, Sequence,
+    SequenceTag, TagMarker, ValueOrd,
 };
-use der_fields::{
-    DecodeFields, EncodeFields, End, Field, FieldList, Fields3, FieldsOrd, Implicit, ImplicitTag,
-};
-use der_modules::copy_of;
+use der_fields::{DecodeFields, EncodeFields, FieldList, Fields3, FieldsOrd, Implicit};
+use der_modules::{Member, copy_of, field_list, if_present};
 use der_tlv::{BackWriter, Error, Header, Length, Source, Writer};
 use std::alloc::Global;
 use std::cmp::Ordering;
@@ -62,17 +57,11 @@ impl<'a> EncryptedData<'a> {
         ensures encrypted_content_info { encrypted_data_fields.encrypted_content_info result ≡ encrypted_content_info.now }
         ensures unprotected_attrs { encrypted_data_fields.unprotected_attrs result ≡ option_copied unprotected_attrs.entry }
     {
-        let first = match unprotected_attrs {
-            Some(value) => Some(Implicit {
-                value: copy_of(value),
-            }),
-            None => None,
-        };
-        let rest = Field { first, rest: End };
-        let first = copy_of(encrypted_content_info);
-        let rest = Field { first, rest };
-        let first = version;
-        let list = Field { first, rest };
+        let list = field_list![
+            version,
+            copy_of(encrypted_content_info),
+            if_present!(value in unprotected_attrs => Implicit { value: copy_of(value) })
+        ];
         let fields = Fields3 { list };
         EncryptedData { fields }
     }
@@ -95,10 +84,7 @@ impl<'a> EncryptedData<'a> {
     pub fn unprotected_attrs(&self) -> Option<&UnprotectedAttributes<'a>>
         ensures { option_copied result ≡ encrypted_data_fields.unprotected_attrs self.now }
     {
-        match &self.fields.list.rest.rest.first {
-            Some(value) => Some(&value.value),
-            None => None,
-        }
+        if_present!(value in &self.fields.list.rest.rest.first => &value.value)
     }
 }
 
@@ -163,20 +149,16 @@ impl<'a> ValueOrd for EncryptedData<'a> {
     }
 }
 
+impl<'a> Member for EncryptedData<'a> {
+    ghost member = { struct_member ⟦<SequenceTag as TagMarker>⟧.TAG (λ v. v.fields.list)
+        (field ⟦<CmsVersion as Member>⟧.member
+        (field ⟦<EncryptedContentInfo<'a> as Member>⟧.member
+        (optional_field ⟦<Implicit<UnprotectedAttributes<'a>, 1> as Member>⟧.member
+        no_fields))) };
+}
+
 impl<'a> ContentsEq for EncryptedData<'a> {
-    ghost contents_eq = { λ v w. (member_equality ⟦<CmsVersion as Form>⟧
-        (tagged_starts ⟦<CmsVersion as Form>⟧ (one_tag ⟦<IntegerTag as TagMarker>⟧.TAG ⟦<u8 as FormValue>⟧.value.contents))
-        ⟦<CmsVersion as PartialEq>⟧.eq
-        (one_tag_equality ⟦<IntegerTag as TagMarker>⟧.TAG ⟦<u8 as FormValue>⟧.value.contents ⟦<u8 as FormValue>⟧.value.comparable ⟦<u8 as PartialEq>⟧.eq u8_contents_eq.contents_eq-law)
-        (member_equality ⟦<EncryptedContentInfo<'a> as Form>⟧
-        (tagged_starts ⟦<EncryptedContentInfo<'a> as Form>⟧ (one_tag ⟦<SequenceTag as TagMarker>⟧.TAG ⟦<EncryptedContentInfo<'a> as FormValue>⟧.value.contents))
-        ⟦<EncryptedContentInfo<'a> as PartialEq>⟧.eq
-        (one_tag_equality ⟦<SequenceTag as TagMarker>⟧.TAG ⟦<EncryptedContentInfo<'a> as FormValue>⟧.value.contents ⟦<EncryptedContentInfo<'a> as FormValue>⟧.value.comparable ⟦<EncryptedContentInfo<'a> as PartialEq>⟧.eq encrypted_content_info_contents_eq.contents_eq-law)
-        (member_equality ⟦<Option<Implicit<UnprotectedAttributes<'a>, 1>> as Form>⟧
-        (optional_starts ⟦<Implicit<UnprotectedAttributes<'a>, 1> as Form>⟧ (one_tag ⟦<ImplicitTag<SetTag, 1> as TagMarker>⟧.TAG ⟦<Implicit<UnprotectedAttributes<'a>, 1> as FormValue>⟧.value.contents))
-        ⟦<Option<Implicit<UnprotectedAttributes<'a>, 1>> as PartialEq>⟧.eq
-        (optional_equality ⟦<Implicit<UnprotectedAttributes<'a>, 1> as Form>⟧ (one_tag ⟦<ImplicitTag<SetTag, 1> as TagMarker>⟧.TAG ⟦<Implicit<UnprotectedAttributes<'a>, 1> as FormValue>⟧.value.contents) ⟦<Implicit<UnprotectedAttributes<'a>, 1> as PartialEq>⟧.eq (one_tag_equality ⟦<ImplicitTag<SetTag, 1> as TagMarker>⟧.TAG ⟦<Implicit<UnprotectedAttributes<'a>, 1> as FormValue>⟧.value.contents ⟦<Implicit<UnprotectedAttributes<'a>, 1> as FormValue>⟧.value.comparable ⟦<Implicit<UnprotectedAttributes<'a>, 1> as PartialEq>⟧.eq (λ v w. (unsigned_attributes_contents_eq.contents_eq-law v.value w.value))))
-        no_equality))).equal v.fields.list w.fields.list };
+    ghost contents_eq = { ⟦<EncryptedData<'a> as Member>⟧.member.equal };
 }
 
 impl<'a> CopyIsDuplicate for EncryptedData<'a> {}

@@ -8,19 +8,16 @@ ghost use Rattle.der_cms.specs.Cms.IssuerAndSerialNumber as issuer_and_serial_nu
 ghost use Rattle.der_cms.specs.declared.cms.issuer_and_serial_number.IssuerAndSerialNumber.{IssuerAndSerialNumber};
 ghost use Rattle.der_elem.specs.FormatMakers.{mapped_format};
 ghost use Rattle.der_modules.specs.Asn1.{joined, parse_of};
-ghost use Rattle.der_modules.specs.MemberLaws.{member_equality, no_equality, one_tag, one_tag_equality, tagged_starts};
-ghost use Rattle.der_numbers.specs.contracts.int_ref.IntRefContentsEq.TheImpl.Laws as intref_contents_eq;
-ghost use Rattle.der_pkix.specs.contracts.name.rdn_sequence.RdnSequenceContentsEq.TheImpl.Laws as rdn_sequence_contents_eq;
+ghost use Rattle.der_modules.specs.Members.{field, no_fields, struct_member};
 
 use der_elem::{
-    ContentsEq, CopyIsDuplicate, DecodeValue, EncodeValue, Form, FormValue, IntegerTag, OneTag,
-    Sequence, SequenceTag, TagMarker, ValueOrd,
+    ContentsEq, CopyIsDuplicate, DecodeValue, EncodeValue, Form, FormValue, OneTag, Sequence,
+    SequenceTag, TagMarker, ValueOrd,
 };
-use der_fields::{DecodeFields, EncodeFields, End, Field, FieldList, Fields2, FieldsOrd};
-use der_modules::copy_of;
-use der_numbers::IntRef;
+use der_fields::{DecodeFields, EncodeFields, FieldList, Fields2, FieldsOrd};
+use der_modules::{Member, copy_of, field_list};
 use der_pkix::certificate::CertificateSerialNumber;
-use der_pkix::name::{Name, RdnSequence};
+use der_pkix::name::Name;
 use der_tlv::{BackWriter, Error, Header, Length, Source, Writer};
 use std::alloc::Global;
 use std::cmp::Ordering;
@@ -52,10 +49,7 @@ impl<'a> IssuerAndSerialNumber<'a> {
         ensures issuer { issuer_and_serial_number_fields.issuer result ≡ issuer.now }
         ensures serial_number { issuer_and_serial_number_fields.serial_number result ≡ serial_number.entry }
     {
-        let first = serial_number;
-        let rest = Field { first, rest: End };
-        let first = copy_of(issuer);
-        let list = Field { first, rest };
+        let list = field_list![copy_of(issuer), serial_number];
         let fields = Fields2 { list };
         IssuerAndSerialNumber { fields }
     }
@@ -135,16 +129,15 @@ impl<'a> ValueOrd for IssuerAndSerialNumber<'a> {
     }
 }
 
+impl<'a> Member for IssuerAndSerialNumber<'a> {
+    ghost member = { struct_member ⟦<SequenceTag as TagMarker>⟧.TAG (λ v. v.fields.list)
+        (field ⟦<Name<'a> as Member>⟧.member
+        (field ⟦<CertificateSerialNumber<'a> as Member>⟧.member
+        no_fields)) };
+}
+
 impl<'a> ContentsEq for IssuerAndSerialNumber<'a> {
-    ghost contents_eq = { λ v w. (member_equality ⟦<Name<'a> as Form>⟧
-        (tagged_starts ⟦<Name<'a> as Form>⟧ (one_tag ⟦<SequenceTag as TagMarker>⟧.TAG ⟦<RdnSequence<'a> as FormValue>⟧.value.contents))
-        ⟦<Name<'a> as PartialEq>⟧.eq
-        (one_tag_equality ⟦<SequenceTag as TagMarker>⟧.TAG ⟦<RdnSequence<'a> as FormValue>⟧.value.contents ⟦<RdnSequence<'a> as FormValue>⟧.value.comparable ⟦<RdnSequence<'a> as PartialEq>⟧.eq rdn_sequence_contents_eq.contents_eq-law)
-        (member_equality ⟦<CertificateSerialNumber<'a> as Form>⟧
-        (tagged_starts ⟦<CertificateSerialNumber<'a> as Form>⟧ (one_tag ⟦<IntegerTag as TagMarker>⟧.TAG ⟦<IntRef<'a> as FormValue>⟧.value.contents))
-        ⟦<CertificateSerialNumber<'a> as PartialEq>⟧.eq
-        (one_tag_equality ⟦<IntegerTag as TagMarker>⟧.TAG ⟦<IntRef<'a> as FormValue>⟧.value.contents ⟦<IntRef<'a> as FormValue>⟧.value.comparable ⟦<IntRef<'a> as PartialEq>⟧.eq intref_contents_eq.contents_eq-law)
-        no_equality)).equal v.fields.list w.fields.list };
+    ghost contents_eq = { ⟦<IssuerAndSerialNumber<'a> as Member>⟧.member.equal };
 }
 
 impl<'a> CopyIsDuplicate for IssuerAndSerialNumber<'a> {}

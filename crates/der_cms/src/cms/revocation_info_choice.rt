@@ -13,17 +13,16 @@ ghost use Rattle.der_elem.specs.FormatMakers.{mapped_format};
 ghost use Rattle.der_elem.specs.KnownTagLaws.{known_either, own_is_known};
 ghost use Rattle.der_elem.specs.TaggedLaws.{tlv_tagged};
 ghost use Rattle.der_modules.specs.Asn1.{parse_of};
-ghost use Rattle.der_modules.specs.MemberLaws.{copies_of, either_equality, either_tag, one_tag, one_tag_equality, same_copies, seen_equality};
-ghost use Rattle.der_pkix.specs.contracts.crl.certificate_list.CertificateListContentsEq.TheImpl.Laws as certificate_list_contents_eq;
-ghost use Rattle.der_pkix.specs.contracts.name.attribute_type_and_value.AttributeTypeAndValueContentsEq.TheImpl.Laws as attribute_type_and_value_contents_eq;
+ghost use Rattle.der_modules.specs.MemberLaws.{copies_of, same_copies};
+ghost use Rattle.der_modules.specs.Members.{seen_choice};
 
 use crate::cms::aliases::OtherRevocationInfoFormat;
 use der_elem::{
     Choice, Decode, DecodeField, DerOrd, Duplicate, DuplicateIsEqual, EncodeValue, EncodingEq,
-    Form, FormValue, KnownTags, SequenceTag, TagMarker, Tagged,
+    Form, FormValue, KnownTags, Tagged,
 };
-use der_fields::{Implicit, ImplicitTag, OneOf, cmp_headers};
-use der_modules::{CopyLaws, copy_of};
+use der_fields::{Implicit, OneOf, cmp_headers};
+use der_modules::{Choosing, CopyLaws, copy_of};
 use der_pkix::crl::CertificateList;
 use der_tlv::{BackWriter, Error, Length, Source, Tag, Writer};
 use std::alloc::Global;
@@ -102,19 +101,13 @@ impl<'a> Tagged for RevocationInfoChoice<'a> {
         }
     }
 
-    ghost encoding_is = { λ v. (either_tag ⟦<CertificateList<'a> as Form>⟧ ⟦<Implicit<OtherRevocationInfoFormat<'a>, 1> as Form>⟧
-        (one_tag ⟦<SequenceTag as TagMarker>⟧.TAG ⟦<CertificateList<'a> as FormValue>⟧.value.contents)
-        (one_tag ⟦<ImplicitTag<SequenceTag, 1> as TagMarker>⟧.TAG ⟦<Implicit<OtherRevocationInfoFormat<'a>, 1> as FormValue>⟧.value.contents)).encoding_is (tree_of v) };
+    ghost encoding_is = { ⟦<RevocationInfoChoice<'a> as Choosing>⟧.choice.has_tag.encoding_is };
 
     ghost accepted_is_tlv = { λ rules v b. elim v as (λ k. ⟦<Tree<'a> as Form>⟧.accepts rules (tree_of k) b → IsTlv b) [ of.Crl x ↦ λ a. tlv_tagged _ ⟦<CertificateList<'a> as FormValue>⟧.value.accepts rules x b a.0 | of.Other x ↦ λ a. tlv_tagged _ ⟦<Implicit<OtherRevocationInfoFormat<'a>, 1> as FormValue>⟧.value.accepts rules x b a.0 ] };
 
-    ghost own_tag = { λ v. (either_tag ⟦<CertificateList<'a> as Form>⟧ ⟦<Implicit<OtherRevocationInfoFormat<'a>, 1> as Form>⟧
-        (one_tag ⟦<SequenceTag as TagMarker>⟧.TAG ⟦<CertificateList<'a> as FormValue>⟧.value.contents)
-        (one_tag ⟦<ImplicitTag<SequenceTag, 1> as TagMarker>⟧.TAG ⟦<Implicit<OtherRevocationInfoFormat<'a>, 1> as FormValue>⟧.value.contents)).own_tag (tree_of v) };
+    ghost own_tag = { ⟦<RevocationInfoChoice<'a> as Choosing>⟧.choice.has_tag.own_tag };
 
-    ghost first_tag_is = { λ v. (either_tag ⟦<CertificateList<'a> as Form>⟧ ⟦<Implicit<OtherRevocationInfoFormat<'a>, 1> as Form>⟧
-        (one_tag ⟦<SequenceTag as TagMarker>⟧.TAG ⟦<CertificateList<'a> as FormValue>⟧.value.contents)
-        (one_tag ⟦<ImplicitTag<SequenceTag, 1> as TagMarker>⟧.TAG ⟦<Implicit<OtherRevocationInfoFormat<'a>, 1> as FormValue>⟧.value.contents)).first_tag_is (tree_of v) };
+    ghost first_tag_is = { ⟦<RevocationInfoChoice<'a> as Choosing>⟧.choice.has_tag.first_tag_is };
 
     ghost re_reads_alike = { λ v. elim v as (λ k. ⟦<Tree<'a> as FormValue>⟧.value.re_reads (tree_of k) ≡ true → ⟦<Tree<'a> as Form>⟧.re_reads (tree_of k) ≡ true) [ of.Crl x ↦ λ h. h | of.Other x ↦ λ h. h ] };
 
@@ -205,14 +198,16 @@ impl<'a> DerOrd for RevocationInfoChoice<'a> {
     }
 }
 
+impl<'a> Choosing for RevocationInfoChoice<'a> {
+    ghost choice = { seen_choice tree_of ⟦<RevocationInfoChoice<'a> as PartialEq>⟧.eq ⟦<Tree<'a> as Choosing>⟧.choice
+        (λ v w. elim v as (λ k. ⟦<RevocationInfoChoice<'a> as PartialEq>⟧.eq k w ≡ ⟦<Tree<'a> as Choosing>⟧.choice.eq (tree_of k) (tree_of w)) [
+          | of.Crl x ↦ elim w as (λ k. ⟦<RevocationInfoChoice<'a> as PartialEq>⟧.eq (of.Crl x) k ≡ ⟦<Tree<'a> as Choosing>⟧.choice.eq (tree_of (of.Crl x)) (tree_of k)) [ of.Crl y ↦ refl | of.Other y ↦ refl ]
+          | of.Other x ↦ elim w as (λ k. ⟦<RevocationInfoChoice<'a> as PartialEq>⟧.eq (of.Other x) k ≡ ⟦<Tree<'a> as Choosing>⟧.choice.eq (tree_of (of.Other x)) (tree_of k)) [ of.Crl y ↦ refl | of.Other y ↦ refl ]
+        ]) };
+}
+
 impl<'a> EncodingEq for RevocationInfoChoice<'a> {
-    ghost encoding_eq = { seen_equality tree_of ⟦<RevocationInfoChoice<'a> as PartialEq>⟧.eq ⟦<Tree<'a> as PartialEq>⟧.eq (λ v w. elim v as (λ k. ⟦<RevocationInfoChoice<'a> as PartialEq>⟧.eq k w ≡ ⟦<Tree<'a> as PartialEq>⟧.eq (tree_of k) (tree_of w)) [ of.Crl x ↦ elim w as (λ k. ⟦<RevocationInfoChoice<'a> as PartialEq>⟧.eq (of.Crl x) k ≡ ⟦<Tree<'a> as PartialEq>⟧.eq (tree_of (of.Crl x)) (tree_of k)) [ of.Crl y ↦ refl | of.Other y ↦ refl ] | of.Other x ↦ elim w as (λ k. ⟦<RevocationInfoChoice<'a> as PartialEq>⟧.eq (of.Other x) k ≡ ⟦<Tree<'a> as PartialEq>⟧.eq (tree_of (of.Other x)) (tree_of k)) [ of.Crl y ↦ refl | of.Other y ↦ refl ] ]) (either_equality ⟦<CertificateList<'a> as Form>⟧ ⟦<Implicit<OtherRevocationInfoFormat<'a>, 1> as Form>⟧
-        (one_tag ⟦<SequenceTag as TagMarker>⟧.TAG ⟦<CertificateList<'a> as FormValue>⟧.value.contents)
-        (one_tag ⟦<ImplicitTag<SequenceTag, 1> as TagMarker>⟧.TAG ⟦<Implicit<OtherRevocationInfoFormat<'a>, 1> as FormValue>⟧.value.contents)
-        ⟦<CertificateList<'a> as PartialEq>⟧.eq ⟦<Implicit<OtherRevocationInfoFormat<'a>, 1> as PartialEq>⟧.eq
-        (one_tag_equality ⟦<SequenceTag as TagMarker>⟧.TAG ⟦<CertificateList<'a> as FormValue>⟧.value.contents ⟦<CertificateList<'a> as FormValue>⟧.value.comparable ⟦<CertificateList<'a> as PartialEq>⟧.eq certificate_list_contents_eq.contents_eq-law)
-        (one_tag_equality ⟦<ImplicitTag<SequenceTag, 1> as TagMarker>⟧.TAG ⟦<Implicit<OtherRevocationInfoFormat<'a>, 1> as FormValue>⟧.value.contents ⟦<Implicit<OtherRevocationInfoFormat<'a>, 1> as FormValue>⟧.value.comparable ⟦<Implicit<OtherRevocationInfoFormat<'a>, 1> as PartialEq>⟧.eq (λ v w. (attribute_type_and_value_contents_eq.contents_eq-law v.value w.value)))
-        ⟦<OneOf<CertificateList<'a>, Implicit<OtherRevocationInfoFormat<'a>, 1>> as PartialEq>⟧.eq (λ v x. refl) (λ w y. refl) (λ v w. refl) (λ w v. refl)) };
+    ghost encoding_eq = { ⟦<RevocationInfoChoice<'a> as Choosing>⟧.choice.equal };
 }
 
 impl<'a> CopyLaws for RevocationInfoChoice<'a> {

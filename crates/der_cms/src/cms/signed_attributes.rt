@@ -2,18 +2,19 @@
 //!
 //! Made by tools/asn1 from cms.asn1.
 
-ghost use Rattle.std.specs.Cmp.Lexicographic.{bytes_decides};
 ghost use Rattle.std.specs.Prelude.{◌≡◌, false, refl};
 ghost use Rattle.der_cms.specs.Cms.Grammar.{signed_attributes};
 ghost use Rattle.der_elem.specs.FormatMakers.{mapped_format};
 ghost use Rattle.der_lists.specs.NonEmptyRef.{list_of};
 ghost use Rattle.der_modules.specs.Asn1.{parse_of};
+ghost use Rattle.der_modules.specs.Members.{seen_member};
 
 use der_elem::{
     ContentsEq, CopyIsDuplicate, DecodeValue, EncodeValue, Form, FormValue, OneTag, SetTag,
-    ValueOrd,
+    TagMarker, ValueOrd,
 };
 use der_lists::{NonEmptyRef, SetRef};
+use der_modules::Member;
 use der_pkix::name::Attribute;
 use der_tlv::{BackWriter, Error, Header, Length, Source, Writer};
 use std::alloc::Global;
@@ -68,10 +69,8 @@ impl<'a, R: Source<'a>> DecodeValue<'a, R> for SignedAttributes<'a> {
         reader: &mut R,
         header: Header,
     ) -> Result<SignedAttributes<'a>, Error> {
-        match NonEmptyRef::<SetRef<'a, Attribute<'a>>>::decode_value(alloc, reader, header) {
-            Ok(items) => Ok(SignedAttributes { items }),
-            Err(e) => Err(e),
-        }
+        let items = NonEmptyRef::<SetRef<'a, Attribute<'a>>>::decode_value(alloc, reader, header)?;
+        Ok(SignedAttributes { items })
     }
 
     ghost takes_memory_is = { refl };
@@ -97,8 +96,12 @@ impl<'a> ValueOrd for SignedAttributes<'a> {
     }
 }
 
+impl<'a> Member for SignedAttributes<'a> {
+    ghost member = { seen_member ⟦<SetTag as TagMarker>⟧.TAG (λ v. v.items) ⟦<NonEmptyRef<SetRef<'a, Attribute<'a>>> as Member>⟧.member };
+}
+
 impl<'a> ContentsEq for SignedAttributes<'a> {
-    ghost contents_eq = { λ v w. (λ one. bytes_decides v.items.list.octets.octets.now w.items.list.octets.octets.now) };
+    ghost contents_eq = { ⟦<SignedAttributes<'a> as Member>⟧.member.equal };
 }
 
 impl<'a> CopyIsDuplicate for SignedAttributes<'a> {}

@@ -2,18 +2,13 @@
 //!
 //! Made by tools/asn1 from cms.asn1.
 
-ghost use Rattle.std.specs.Cmp.Lexicographic.{bytes_decides};
 ghost use Rattle.std.specs.Prelude.{◌∷◌, ◌≡◌, [], false, refl, true};
 ghost use Rattle.der_cms.specs.Cms.Grammar.{signed_data};
 ghost use Rattle.der_cms.specs.Cms.SignedData as signed_data_fields;
-ghost use Rattle.der_cms.specs.contracts.cms.certificate_set.CertificateSetContentsEq.TheImpl.Laws as certificate_set_contents_eq;
-ghost use Rattle.der_cms.specs.contracts.cms.encapsulated_content_info.EncapsulatedContentInfoContentsEq.TheImpl.Laws as encapsulated_content_info_contents_eq;
-ghost use Rattle.der_cms.specs.contracts.cms.revocation_info_choices.RevocationInfoChoicesContentsEq.TheImpl.Laws as revocation_info_choices_contents_eq;
 ghost use Rattle.der_cms.specs.declared.cms.signed_data.SignedData.{SignedData};
 ghost use Rattle.der_elem.specs.FormatMakers.{mapped_format};
-ghost use Rattle.der_elem.specs.contracts.integer.unsigned.U8ContentsEq.TheImpl.Laws as u8_contents_eq;
 ghost use Rattle.der_modules.specs.Asn1.{context, implicit_encoding, joined, optional, parse_of};
-ghost use Rattle.der_modules.specs.MemberLaws.{member_equality, no_equality, one_tag, one_tag_equality, optional_equality, optional_starts, tagged_starts};
+ghost use Rattle.der_modules.specs.Members.{field, no_fields, optional_field, struct_member};
 
 use crate::cms::aliases::CmsVersion;
 use crate::cms::certificate_set::CertificateSet;
@@ -21,14 +16,12 @@ use crate::cms::encapsulated_content_info::EncapsulatedContentInfo;
 use crate::cms::revocation_info_choices::RevocationInfoChoices;
 use crate::cms::signer_info::SignerInfo;
 use der_elem::{
-    ContentsEq, CopyIsDuplicate, DecodeValue, EncodeValue, Form, FormValue, IntegerTag, OneTag,
-    Sequence, SequenceTag, SetTag, TagMarker, ValueOrd,
+    ContentsEq, CopyIsDuplicate, DecodeValue, EncodeValue, Form, FormValue, OneTag, Sequence,
+    SequenceTag, TagMarker, ValueOrd,
 };
-use der_fields::{
-    DecodeFields, EncodeFields, End, Field, FieldList, Fields6, FieldsOrd, Implicit, ImplicitTag,
-};
+use der_fields::{DecodeFields, EncodeFields, FieldList, Fields6, FieldsOrd, Implicit};
 use der_lists::UnorderedSetRef;
-use der_modules::copy_of;
+use der_modules::{Member, copy_of, field_list, if_present};
 use der_pkix::AlgorithmIdentifier;
 use der_tlv::{BackWriter, Error, Header, Length, Source, Writer};
 use std::alloc::Global;
@@ -82,28 +75,14 @@ impl<'a> SignedData<'a> {
         ensures crls { signed_data_fields.crls result ≡ option_copied crls.entry }
         ensures signer_infos { signed_data_fields.signer_infos result ≡ signer_infos.now }
     {
-        let first = copy_of(signer_infos);
-        let rest = Field { first, rest: End };
-        let first = match crls {
-            Some(value) => Some(Implicit {
-                value: copy_of(value),
-            }),
-            None => None,
-        };
-        let rest = Field { first, rest };
-        let first = match certificates {
-            Some(value) => Some(Implicit {
-                value: copy_of(value),
-            }),
-            None => None,
-        };
-        let rest = Field { first, rest };
-        let first = copy_of(encap_content_info);
-        let rest = Field { first, rest };
-        let first = copy_of(digest_algorithms);
-        let rest = Field { first, rest };
-        let first = version;
-        let list = Field { first, rest };
+        let list = field_list![
+            version,
+            copy_of(digest_algorithms),
+            copy_of(encap_content_info),
+            if_present!(value in certificates => Implicit { value: copy_of(value) }),
+            if_present!(value in crls => Implicit { value: copy_of(value) }),
+            copy_of(signer_infos)
+        ];
         let fields = Fields6 { list };
         SignedData { fields }
     }
@@ -133,20 +112,14 @@ impl<'a> SignedData<'a> {
     pub fn certificates(&self) -> Option<&CertificateSet<'a>>
         ensures { option_copied result ≡ signed_data_fields.certificates self.now }
     {
-        match &self.fields.list.rest.rest.rest.first {
-            Some(value) => Some(&value.value),
-            None => None,
-        }
+        if_present!(value in &self.fields.list.rest.rest.rest.first => &value.value)
     }
 
     /// `crls`, `[1] IMPLICIT RevocationInfoChoices OPTIONAL`.
     pub fn crls(&self) -> Option<&RevocationInfoChoices<'a>>
         ensures { option_copied result ≡ signed_data_fields.crls self.now }
     {
-        match &self.fields.list.rest.rest.rest.rest.first {
-            Some(value) => Some(&value.value),
-            None => None,
-        }
+        if_present!(value in &self.fields.list.rest.rest.rest.rest.first => &value.value)
     }
 
     /// `signerInfos`, `SET OF SignerInfo`.
@@ -221,32 +194,19 @@ impl<'a> ValueOrd for SignedData<'a> {
     }
 }
 
+impl<'a> Member for SignedData<'a> {
+    ghost member = { struct_member ⟦<SequenceTag as TagMarker>⟧.TAG (λ v. v.fields.list)
+        (field ⟦<CmsVersion as Member>⟧.member
+        (field ⟦<UnorderedSetRef<'a, AlgorithmIdentifier<'a>> as Member>⟧.member
+        (field ⟦<EncapsulatedContentInfo<'a> as Member>⟧.member
+        (optional_field ⟦<Implicit<CertificateSet<'a>, 0> as Member>⟧.member
+        (optional_field ⟦<Implicit<RevocationInfoChoices<'a>, 1> as Member>⟧.member
+        (field ⟦<UnorderedSetRef<'a, SignerInfo<'a>> as Member>⟧.member
+        no_fields)))))) };
+}
+
 impl<'a> ContentsEq for SignedData<'a> {
-    ghost contents_eq = { λ v w. (member_equality ⟦<CmsVersion as Form>⟧
-        (tagged_starts ⟦<CmsVersion as Form>⟧ (one_tag ⟦<IntegerTag as TagMarker>⟧.TAG ⟦<u8 as FormValue>⟧.value.contents))
-        ⟦<CmsVersion as PartialEq>⟧.eq
-        (one_tag_equality ⟦<IntegerTag as TagMarker>⟧.TAG ⟦<u8 as FormValue>⟧.value.contents ⟦<u8 as FormValue>⟧.value.comparable ⟦<u8 as PartialEq>⟧.eq u8_contents_eq.contents_eq-law)
-        (member_equality ⟦<UnorderedSetRef<'a, AlgorithmIdentifier<'a>> as Form>⟧
-        (tagged_starts ⟦<UnorderedSetRef<'a, AlgorithmIdentifier<'a>> as Form>⟧ (one_tag ⟦<SetTag as TagMarker>⟧.TAG ⟦<UnorderedSetRef<'a, AlgorithmIdentifier<'a>> as FormValue>⟧.value.contents))
-        ⟦<UnorderedSetRef<'a, AlgorithmIdentifier<'a>> as PartialEq>⟧.eq
-        (one_tag_equality ⟦<SetTag as TagMarker>⟧.TAG ⟦<UnorderedSetRef<'a, AlgorithmIdentifier<'a>> as FormValue>⟧.value.contents ⟦<UnorderedSetRef<'a, AlgorithmIdentifier<'a>> as FormValue>⟧.value.comparable ⟦<UnorderedSetRef<'a, AlgorithmIdentifier<'a>> as PartialEq>⟧.eq (λ v w. (λ one. bytes_decides v.octets.octets.now w.octets.octets.now)))
-        (member_equality ⟦<EncapsulatedContentInfo<'a> as Form>⟧
-        (tagged_starts ⟦<EncapsulatedContentInfo<'a> as Form>⟧ (one_tag ⟦<SequenceTag as TagMarker>⟧.TAG ⟦<EncapsulatedContentInfo<'a> as FormValue>⟧.value.contents))
-        ⟦<EncapsulatedContentInfo<'a> as PartialEq>⟧.eq
-        (one_tag_equality ⟦<SequenceTag as TagMarker>⟧.TAG ⟦<EncapsulatedContentInfo<'a> as FormValue>⟧.value.contents ⟦<EncapsulatedContentInfo<'a> as FormValue>⟧.value.comparable ⟦<EncapsulatedContentInfo<'a> as PartialEq>⟧.eq encapsulated_content_info_contents_eq.contents_eq-law)
-        (member_equality ⟦<Option<Implicit<CertificateSet<'a>, 0>> as Form>⟧
-        (optional_starts ⟦<Implicit<CertificateSet<'a>, 0> as Form>⟧ (one_tag ⟦<ImplicitTag<SetTag, 0> as TagMarker>⟧.TAG ⟦<Implicit<CertificateSet<'a>, 0> as FormValue>⟧.value.contents))
-        ⟦<Option<Implicit<CertificateSet<'a>, 0>> as PartialEq>⟧.eq
-        (optional_equality ⟦<Implicit<CertificateSet<'a>, 0> as Form>⟧ (one_tag ⟦<ImplicitTag<SetTag, 0> as TagMarker>⟧.TAG ⟦<Implicit<CertificateSet<'a>, 0> as FormValue>⟧.value.contents) ⟦<Implicit<CertificateSet<'a>, 0> as PartialEq>⟧.eq (one_tag_equality ⟦<ImplicitTag<SetTag, 0> as TagMarker>⟧.TAG ⟦<Implicit<CertificateSet<'a>, 0> as FormValue>⟧.value.contents ⟦<Implicit<CertificateSet<'a>, 0> as FormValue>⟧.value.comparable ⟦<Implicit<CertificateSet<'a>, 0> as PartialEq>⟧.eq (λ v w. (certificate_set_contents_eq.contents_eq-law v.value w.value))))
-        (member_equality ⟦<Option<Implicit<RevocationInfoChoices<'a>, 1>> as Form>⟧
-        (optional_starts ⟦<Implicit<RevocationInfoChoices<'a>, 1> as Form>⟧ (one_tag ⟦<ImplicitTag<SetTag, 1> as TagMarker>⟧.TAG ⟦<Implicit<RevocationInfoChoices<'a>, 1> as FormValue>⟧.value.contents))
-        ⟦<Option<Implicit<RevocationInfoChoices<'a>, 1>> as PartialEq>⟧.eq
-        (optional_equality ⟦<Implicit<RevocationInfoChoices<'a>, 1> as Form>⟧ (one_tag ⟦<ImplicitTag<SetTag, 1> as TagMarker>⟧.TAG ⟦<Implicit<RevocationInfoChoices<'a>, 1> as FormValue>⟧.value.contents) ⟦<Implicit<RevocationInfoChoices<'a>, 1> as PartialEq>⟧.eq (one_tag_equality ⟦<ImplicitTag<SetTag, 1> as TagMarker>⟧.TAG ⟦<Implicit<RevocationInfoChoices<'a>, 1> as FormValue>⟧.value.contents ⟦<Implicit<RevocationInfoChoices<'a>, 1> as FormValue>⟧.value.comparable ⟦<Implicit<RevocationInfoChoices<'a>, 1> as PartialEq>⟧.eq (λ v w. (revocation_info_choices_contents_eq.contents_eq-law v.value w.value))))
-        (member_equality ⟦<UnorderedSetRef<'a, SignerInfo<'a>> as Form>⟧
-        (tagged_starts ⟦<UnorderedSetRef<'a, SignerInfo<'a>> as Form>⟧ (one_tag ⟦<SetTag as TagMarker>⟧.TAG ⟦<UnorderedSetRef<'a, SignerInfo<'a>> as FormValue>⟧.value.contents))
-        ⟦<UnorderedSetRef<'a, SignerInfo<'a>> as PartialEq>⟧.eq
-        (one_tag_equality ⟦<SetTag as TagMarker>⟧.TAG ⟦<UnorderedSetRef<'a, SignerInfo<'a>> as FormValue>⟧.value.contents ⟦<UnorderedSetRef<'a, SignerInfo<'a>> as FormValue>⟧.value.comparable ⟦<UnorderedSetRef<'a, SignerInfo<'a>> as PartialEq>⟧.eq (λ v w. (λ one. bytes_decides v.octets.octets.now w.octets.octets.now)))
-        no_equality)))))).equal v.fields.list w.fields.list };
+    ghost contents_eq = { ⟦<SignedData<'a> as Member>⟧.member.equal };
 }
 
 impl<'a> CopyIsDuplicate for SignedData<'a> {}

@@ -5,7 +5,6 @@
 ghost use Rattle.std.specs.Prelude.{◌≡◌, false, refl, true};
 ghost use Rattle.der_cms.specs.Cms.Grammar.{signer_identifier};
 ghost use Rattle.der_cms.specs.Cms.SignerIdentifier.{tree_of};
-ghost use Rattle.der_cms.specs.contracts.cms.issuer_and_serial_number.IssuerAndSerialNumberContentsEq.TheImpl.Laws as issuer_and_serial_number_contents_eq;
 ghost use Rattle.der_cms.specs.contracts.cms.signer_identifier.SignerIdentifierEq.TheImpl.Laws as signer_identifier_eq;
 ghost use Rattle.der_cms.specs.declared.cms.signer_identifier.SignerIdentifier.TheVariants as of;
 ghost use Rattle.der_elem.specs.Accepting.{IsTlv};
@@ -14,17 +13,17 @@ ghost use Rattle.der_elem.specs.FormatMakers.{mapped_format};
 ghost use Rattle.der_elem.specs.KnownTagLaws.{known_either, own_is_known};
 ghost use Rattle.der_elem.specs.TaggedLaws.{tlv_tagged};
 ghost use Rattle.der_modules.specs.Asn1.{parse_of};
-ghost use Rattle.der_modules.specs.MemberLaws.{copies_of, either_equality, either_tag, one_tag, one_tag_equality, same_copies, seen_equality};
-ghost use Rattle.der_opaque.specs.contracts.octet_string_ref.OctetStringRefContentsEq.TheImpl.Laws as octetstringref_contents_eq;
+ghost use Rattle.der_modules.specs.MemberLaws.{copies_of, same_copies};
+ghost use Rattle.der_modules.specs.Members.{seen_choice};
 
 use crate::cms::issuer_and_serial_number::IssuerAndSerialNumber;
 use der_elem::{
     Choice, Decode, DecodeField, DerOrd, Duplicate, DuplicateIsEqual, EncodeValue, EncodingEq,
-    Form, FormValue, KnownTags, OctetStringTag, SequenceTag, TagMarker, Tagged,
+    Form, FormValue, KnownTags, Tagged,
 };
 use der_extensions::extension::SubjectKeyIdentifier;
-use der_fields::{Implicit, ImplicitTag, OneOf, cmp_headers};
-use der_modules::{CopyLaws, copy_of};
+use der_fields::{Implicit, OneOf, cmp_headers};
+use der_modules::{Choosing, CopyLaws, copy_of};
 use der_tlv::{BackWriter, Error, Length, Source, Tag, Writer};
 use std::alloc::Global;
 use std::cmp::Ordering;
@@ -102,19 +101,13 @@ impl<'a> Tagged for SignerIdentifier<'a> {
         }
     }
 
-    ghost encoding_is = { λ v. (either_tag ⟦<IssuerAndSerialNumber<'a> as Form>⟧ ⟦<Implicit<SubjectKeyIdentifier<'a>, 0> as Form>⟧
-        (one_tag ⟦<SequenceTag as TagMarker>⟧.TAG ⟦<IssuerAndSerialNumber<'a> as FormValue>⟧.value.contents)
-        (one_tag ⟦<ImplicitTag<OctetStringTag, 0> as TagMarker>⟧.TAG ⟦<Implicit<SubjectKeyIdentifier<'a>, 0> as FormValue>⟧.value.contents)).encoding_is (tree_of v) };
+    ghost encoding_is = { ⟦<SignerIdentifier<'a> as Choosing>⟧.choice.has_tag.encoding_is };
 
     ghost accepted_is_tlv = { λ rules v b. elim v as (λ k. ⟦<Tree<'a> as Form>⟧.accepts rules (tree_of k) b → IsTlv b) [ of.IssuerAndSerialNumber x ↦ λ a. tlv_tagged _ ⟦<IssuerAndSerialNumber<'a> as FormValue>⟧.value.accepts rules x b a.0 | of.SubjectKeyIdentifier x ↦ λ a. tlv_tagged _ ⟦<Implicit<SubjectKeyIdentifier<'a>, 0> as FormValue>⟧.value.accepts rules x b a.0 ] };
 
-    ghost own_tag = { λ v. (either_tag ⟦<IssuerAndSerialNumber<'a> as Form>⟧ ⟦<Implicit<SubjectKeyIdentifier<'a>, 0> as Form>⟧
-        (one_tag ⟦<SequenceTag as TagMarker>⟧.TAG ⟦<IssuerAndSerialNumber<'a> as FormValue>⟧.value.contents)
-        (one_tag ⟦<ImplicitTag<OctetStringTag, 0> as TagMarker>⟧.TAG ⟦<Implicit<SubjectKeyIdentifier<'a>, 0> as FormValue>⟧.value.contents)).own_tag (tree_of v) };
+    ghost own_tag = { ⟦<SignerIdentifier<'a> as Choosing>⟧.choice.has_tag.own_tag };
 
-    ghost first_tag_is = { λ v. (either_tag ⟦<IssuerAndSerialNumber<'a> as Form>⟧ ⟦<Implicit<SubjectKeyIdentifier<'a>, 0> as Form>⟧
-        (one_tag ⟦<SequenceTag as TagMarker>⟧.TAG ⟦<IssuerAndSerialNumber<'a> as FormValue>⟧.value.contents)
-        (one_tag ⟦<ImplicitTag<OctetStringTag, 0> as TagMarker>⟧.TAG ⟦<Implicit<SubjectKeyIdentifier<'a>, 0> as FormValue>⟧.value.contents)).first_tag_is (tree_of v) };
+    ghost first_tag_is = { ⟦<SignerIdentifier<'a> as Choosing>⟧.choice.has_tag.first_tag_is };
 
     ghost re_reads_alike = { λ v. elim v as (λ k. ⟦<Tree<'a> as FormValue>⟧.value.re_reads (tree_of k) ≡ true → ⟦<Tree<'a> as Form>⟧.re_reads (tree_of k) ≡ true) [ of.IssuerAndSerialNumber x ↦ λ h. h | of.SubjectKeyIdentifier x ↦ λ h. h ] };
 
@@ -208,14 +201,16 @@ impl<'a> DerOrd for SignerIdentifier<'a> {
     }
 }
 
+impl<'a> Choosing for SignerIdentifier<'a> {
+    ghost choice = { seen_choice tree_of ⟦<SignerIdentifier<'a> as PartialEq>⟧.eq ⟦<Tree<'a> as Choosing>⟧.choice
+        (λ v w. elim v as (λ k. ⟦<SignerIdentifier<'a> as PartialEq>⟧.eq k w ≡ ⟦<Tree<'a> as Choosing>⟧.choice.eq (tree_of k) (tree_of w)) [
+          | of.IssuerAndSerialNumber x ↦ elim w as (λ k. ⟦<SignerIdentifier<'a> as PartialEq>⟧.eq (of.IssuerAndSerialNumber x) k ≡ ⟦<Tree<'a> as Choosing>⟧.choice.eq (tree_of (of.IssuerAndSerialNumber x)) (tree_of k)) [ of.IssuerAndSerialNumber y ↦ refl | of.SubjectKeyIdentifier y ↦ refl ]
+          | of.SubjectKeyIdentifier x ↦ elim w as (λ k. ⟦<SignerIdentifier<'a> as PartialEq>⟧.eq (of.SubjectKeyIdentifier x) k ≡ ⟦<Tree<'a> as Choosing>⟧.choice.eq (tree_of (of.SubjectKeyIdentifier x)) (tree_of k)) [ of.IssuerAndSerialNumber y ↦ refl | of.SubjectKeyIdentifier y ↦ refl ]
+        ]) };
+}
+
 impl<'a> EncodingEq for SignerIdentifier<'a> {
-    ghost encoding_eq = { seen_equality tree_of ⟦<SignerIdentifier<'a> as PartialEq>⟧.eq ⟦<Tree<'a> as PartialEq>⟧.eq (λ v w. elim v as (λ k. ⟦<SignerIdentifier<'a> as PartialEq>⟧.eq k w ≡ ⟦<Tree<'a> as PartialEq>⟧.eq (tree_of k) (tree_of w)) [ of.IssuerAndSerialNumber x ↦ elim w as (λ k. ⟦<SignerIdentifier<'a> as PartialEq>⟧.eq (of.IssuerAndSerialNumber x) k ≡ ⟦<Tree<'a> as PartialEq>⟧.eq (tree_of (of.IssuerAndSerialNumber x)) (tree_of k)) [ of.IssuerAndSerialNumber y ↦ refl | of.SubjectKeyIdentifier y ↦ refl ] | of.SubjectKeyIdentifier x ↦ elim w as (λ k. ⟦<SignerIdentifier<'a> as PartialEq>⟧.eq (of.SubjectKeyIdentifier x) k ≡ ⟦<Tree<'a> as PartialEq>⟧.eq (tree_of (of.SubjectKeyIdentifier x)) (tree_of k)) [ of.IssuerAndSerialNumber y ↦ refl | of.SubjectKeyIdentifier y ↦ refl ] ]) (either_equality ⟦<IssuerAndSerialNumber<'a> as Form>⟧ ⟦<Implicit<SubjectKeyIdentifier<'a>, 0> as Form>⟧
-        (one_tag ⟦<SequenceTag as TagMarker>⟧.TAG ⟦<IssuerAndSerialNumber<'a> as FormValue>⟧.value.contents)
-        (one_tag ⟦<ImplicitTag<OctetStringTag, 0> as TagMarker>⟧.TAG ⟦<Implicit<SubjectKeyIdentifier<'a>, 0> as FormValue>⟧.value.contents)
-        ⟦<IssuerAndSerialNumber<'a> as PartialEq>⟧.eq ⟦<Implicit<SubjectKeyIdentifier<'a>, 0> as PartialEq>⟧.eq
-        (one_tag_equality ⟦<SequenceTag as TagMarker>⟧.TAG ⟦<IssuerAndSerialNumber<'a> as FormValue>⟧.value.contents ⟦<IssuerAndSerialNumber<'a> as FormValue>⟧.value.comparable ⟦<IssuerAndSerialNumber<'a> as PartialEq>⟧.eq issuer_and_serial_number_contents_eq.contents_eq-law)
-        (one_tag_equality ⟦<ImplicitTag<OctetStringTag, 0> as TagMarker>⟧.TAG ⟦<Implicit<SubjectKeyIdentifier<'a>, 0> as FormValue>⟧.value.contents ⟦<Implicit<SubjectKeyIdentifier<'a>, 0> as FormValue>⟧.value.comparable ⟦<Implicit<SubjectKeyIdentifier<'a>, 0> as PartialEq>⟧.eq (λ v w. (octetstringref_contents_eq.contents_eq-law v.value w.value)))
-        ⟦<OneOf<IssuerAndSerialNumber<'a>, Implicit<SubjectKeyIdentifier<'a>, 0>> as PartialEq>⟧.eq (λ v x. refl) (λ w y. refl) (λ v w. refl) (λ w v. refl)) };
+    ghost encoding_eq = { ⟦<SignerIdentifier<'a> as Choosing>⟧.choice.equal };
 }
 
 impl<'a> CopyLaws for SignerIdentifier<'a> {

@@ -5,30 +5,21 @@
 ghost use Rattle.std.specs.Prelude.{◌∷◌, ◌≡◌, [], false, refl, true};
 ghost use Rattle.der_cms.specs.Cms.Grammar.{signer_info};
 ghost use Rattle.der_cms.specs.Cms.SignerInfo as signer_info_fields;
-ghost use Rattle.der_cms.specs.contracts.cms.signed_attributes.SignedAttributesContentsEq.TheImpl.Laws as signed_attributes_contents_eq;
-ghost use Rattle.der_cms.specs.contracts.cms.signer_identifier.SignerIdentifierEncodingEq.TheImpl.Laws as signer_identifier_encoding_eq;
-ghost use Rattle.der_cms.specs.contracts.cms.signer_identifier.SignerIdentifierTagged.TheImpl.Laws as signer_identifier_tagged;
-ghost use Rattle.der_cms.specs.contracts.cms.unsigned_attributes.UnsignedAttributesContentsEq.TheImpl.Laws as unsigned_attributes_contents_eq;
 ghost use Rattle.der_cms.specs.declared.cms.signer_info.SignerInfo.{SignerInfo};
 ghost use Rattle.der_elem.specs.FormatMakers.{mapped_format};
-ghost use Rattle.der_elem.specs.contracts.integer.unsigned.U8ContentsEq.TheImpl.Laws as u8_contents_eq;
 ghost use Rattle.der_modules.specs.Asn1.{context, implicit_encoding, joined, optional, parse_of};
-ghost use Rattle.der_modules.specs.MemberLaws.{member_equality, no_equality, one_tag, one_tag_equality, optional_equality, optional_starts, own_tags, tagged_starts};
-ghost use Rattle.der_opaque.specs.contracts.octet_string_ref.OctetStringRefContentsEq.TheImpl.Laws as octetstringref_contents_eq;
-ghost use Rattle.der_pkix.specs.contracts.algorithm_identifier.AlgorithmIdentifierContentsEq.TheImpl.Laws as algorithm_identifier_contents_eq;
+ghost use Rattle.der_modules.specs.Members.{choice_field, field, no_fields, optional_field, struct_member};
 
 use crate::cms::aliases::CmsVersion;
 use crate::cms::signed_attributes::SignedAttributes;
 use crate::cms::signer_identifier::SignerIdentifier;
 use crate::cms::unsigned_attributes::UnsignedAttributes;
 use der_elem::{
-    ContentsEq, CopyIsDuplicate, DecodeValue, EncodeValue, Form, FormValue, IntegerTag,
-    OctetStringTag, OneTag, Sequence, SequenceTag, SetTag, TagMarker, Tagged, ValueOrd,
+    ContentsEq, CopyIsDuplicate, DecodeValue, EncodeValue, Form, FormValue, OneTag, Sequence,
+    SequenceTag, TagMarker, ValueOrd,
 };
-use der_fields::{
-    DecodeFields, EncodeFields, End, Field, FieldList, Fields7, FieldsOrd, Implicit, ImplicitTag,
-};
-use der_modules::copy_of;
+use der_fields::{DecodeFields, EncodeFields, FieldList, Fields7, FieldsOrd, Implicit};
+use der_modules::{Choosing, Member, copy_of, field_list, if_present};
 use der_opaque::OctetStringRef;
 use der_pkix::AlgorithmIdentifier;
 use der_tlv::{BackWriter, Error, Header, Length, Source, Writer};
@@ -86,30 +77,15 @@ impl<'a> SignerInfo<'a> {
         ensures signature { signer_info_fields.signature result ≡ signature.entry }
         ensures unsigned_attrs { signer_info_fields.unsigned_attrs result ≡ option_copied unsigned_attrs.entry }
     {
-        let first = match unsigned_attrs {
-            Some(value) => Some(Implicit {
-                value: copy_of(value),
-            }),
-            None => None,
-        };
-        let rest = Field { first, rest: End };
-        let first = signature;
-        let rest = Field { first, rest };
-        let first = copy_of(signature_algorithm);
-        let rest = Field { first, rest };
-        let first = match signed_attrs {
-            Some(value) => Some(Implicit {
-                value: copy_of(value),
-            }),
-            None => None,
-        };
-        let rest = Field { first, rest };
-        let first = copy_of(digest_algorithm);
-        let rest = Field { first, rest };
-        let first = copy_of(sid);
-        let rest = Field { first, rest };
-        let first = version;
-        let list = Field { first, rest };
+        let list = field_list![
+            version,
+            copy_of(sid),
+            copy_of(digest_algorithm),
+            if_present!(value in signed_attrs => Implicit { value: copy_of(value) }),
+            copy_of(signature_algorithm),
+            signature,
+            if_present!(value in unsigned_attrs => Implicit { value: copy_of(value) })
+        ];
         let fields = Fields7 { list };
         SignerInfo { fields }
     }
@@ -139,10 +115,7 @@ impl<'a> SignerInfo<'a> {
     pub fn signed_attrs(&self) -> Option<&SignedAttributes<'a>>
         ensures { option_copied result ≡ signer_info_fields.signed_attrs self.now }
     {
-        match &self.fields.list.rest.rest.rest.first {
-            Some(value) => Some(&value.value),
-            None => None,
-        }
+        if_present!(value in &self.fields.list.rest.rest.rest.first => &value.value)
     }
 
     /// `signatureAlgorithm`, `AlgorithmIdentifier`.
@@ -163,10 +136,7 @@ impl<'a> SignerInfo<'a> {
     pub fn unsigned_attrs(&self) -> Option<&UnsignedAttributes<'a>>
         ensures { option_copied result ≡ signer_info_fields.unsigned_attrs self.now }
     {
-        match &self.fields.list.rest.rest.rest.rest.rest.rest.first {
-            Some(value) => Some(&value.value),
-            None => None,
-        }
+        if_present!(value in &self.fields.list.rest.rest.rest.rest.rest.rest.first => &value.value)
     }
 }
 
@@ -235,36 +205,20 @@ impl<'a> ValueOrd for SignerInfo<'a> {
     }
 }
 
+impl<'a> Member for SignerInfo<'a> {
+    ghost member = { struct_member ⟦<SequenceTag as TagMarker>⟧.TAG (λ v. v.fields.list)
+        (field ⟦<CmsVersion as Member>⟧.member
+        (choice_field ⟦<SignerIdentifier<'a> as Choosing>⟧.choice
+        (field ⟦<AlgorithmIdentifier<'a> as Member>⟧.member
+        (optional_field ⟦<Implicit<SignedAttributes<'a>, 0> as Member>⟧.member
+        (field ⟦<AlgorithmIdentifier<'a> as Member>⟧.member
+        (field ⟦<OctetStringRef<'a> as Member>⟧.member
+        (optional_field ⟦<Implicit<UnsignedAttributes<'a>, 1> as Member>⟧.member
+        no_fields))))))) };
+}
+
 impl<'a> ContentsEq for SignerInfo<'a> {
-    ghost contents_eq = { λ v w. (member_equality ⟦<CmsVersion as Form>⟧
-        (tagged_starts ⟦<CmsVersion as Form>⟧ (one_tag ⟦<IntegerTag as TagMarker>⟧.TAG ⟦<u8 as FormValue>⟧.value.contents))
-        ⟦<CmsVersion as PartialEq>⟧.eq
-        (one_tag_equality ⟦<IntegerTag as TagMarker>⟧.TAG ⟦<u8 as FormValue>⟧.value.contents ⟦<u8 as FormValue>⟧.value.comparable ⟦<u8 as PartialEq>⟧.eq u8_contents_eq.contents_eq-law)
-        (member_equality ⟦<SignerIdentifier<'a> as Form>⟧
-        (tagged_starts ⟦<SignerIdentifier<'a> as Form>⟧ (own_tags ⟦<SignerIdentifier<'a> as Form>⟧.tags ⟦<SignerIdentifier<'a> as Form>⟧.first_tag_of ⟦<SignerIdentifier<'a> as Form>⟧.encoding ⟦<SignerIdentifier<'a> as Tagged>⟧.tag_of ⟦<SignerIdentifier<'a> as FormValue>⟧.value.contents signer_identifier_tagged.encoding_is-law signer_identifier_tagged.own_tag-law signer_identifier_tagged.first_tag_is-law))
-        ⟦<SignerIdentifier<'a> as PartialEq>⟧.eq
-        signer_identifier_encoding_eq.encoding_eq-law
-        (member_equality ⟦<AlgorithmIdentifier<'a> as Form>⟧
-        (tagged_starts ⟦<AlgorithmIdentifier<'a> as Form>⟧ (one_tag ⟦<SequenceTag as TagMarker>⟧.TAG ⟦<AlgorithmIdentifier<'a> as FormValue>⟧.value.contents))
-        ⟦<AlgorithmIdentifier<'a> as PartialEq>⟧.eq
-        (one_tag_equality ⟦<SequenceTag as TagMarker>⟧.TAG ⟦<AlgorithmIdentifier<'a> as FormValue>⟧.value.contents ⟦<AlgorithmIdentifier<'a> as FormValue>⟧.value.comparable ⟦<AlgorithmIdentifier<'a> as PartialEq>⟧.eq algorithm_identifier_contents_eq.contents_eq-law)
-        (member_equality ⟦<Option<Implicit<SignedAttributes<'a>, 0>> as Form>⟧
-        (optional_starts ⟦<Implicit<SignedAttributes<'a>, 0> as Form>⟧ (one_tag ⟦<ImplicitTag<SetTag, 0> as TagMarker>⟧.TAG ⟦<Implicit<SignedAttributes<'a>, 0> as FormValue>⟧.value.contents))
-        ⟦<Option<Implicit<SignedAttributes<'a>, 0>> as PartialEq>⟧.eq
-        (optional_equality ⟦<Implicit<SignedAttributes<'a>, 0> as Form>⟧ (one_tag ⟦<ImplicitTag<SetTag, 0> as TagMarker>⟧.TAG ⟦<Implicit<SignedAttributes<'a>, 0> as FormValue>⟧.value.contents) ⟦<Implicit<SignedAttributes<'a>, 0> as PartialEq>⟧.eq (one_tag_equality ⟦<ImplicitTag<SetTag, 0> as TagMarker>⟧.TAG ⟦<Implicit<SignedAttributes<'a>, 0> as FormValue>⟧.value.contents ⟦<Implicit<SignedAttributes<'a>, 0> as FormValue>⟧.value.comparable ⟦<Implicit<SignedAttributes<'a>, 0> as PartialEq>⟧.eq (λ v w. (signed_attributes_contents_eq.contents_eq-law v.value w.value))))
-        (member_equality ⟦<AlgorithmIdentifier<'a> as Form>⟧
-        (tagged_starts ⟦<AlgorithmIdentifier<'a> as Form>⟧ (one_tag ⟦<SequenceTag as TagMarker>⟧.TAG ⟦<AlgorithmIdentifier<'a> as FormValue>⟧.value.contents))
-        ⟦<AlgorithmIdentifier<'a> as PartialEq>⟧.eq
-        (one_tag_equality ⟦<SequenceTag as TagMarker>⟧.TAG ⟦<AlgorithmIdentifier<'a> as FormValue>⟧.value.contents ⟦<AlgorithmIdentifier<'a> as FormValue>⟧.value.comparable ⟦<AlgorithmIdentifier<'a> as PartialEq>⟧.eq algorithm_identifier_contents_eq.contents_eq-law)
-        (member_equality ⟦<OctetStringRef<'a> as Form>⟧
-        (tagged_starts ⟦<OctetStringRef<'a> as Form>⟧ (one_tag ⟦<OctetStringTag as TagMarker>⟧.TAG ⟦<OctetStringRef<'a> as FormValue>⟧.value.contents))
-        ⟦<OctetStringRef<'a> as PartialEq>⟧.eq
-        (one_tag_equality ⟦<OctetStringTag as TagMarker>⟧.TAG ⟦<OctetStringRef<'a> as FormValue>⟧.value.contents ⟦<OctetStringRef<'a> as FormValue>⟧.value.comparable ⟦<OctetStringRef<'a> as PartialEq>⟧.eq octetstringref_contents_eq.contents_eq-law)
-        (member_equality ⟦<Option<Implicit<UnsignedAttributes<'a>, 1>> as Form>⟧
-        (optional_starts ⟦<Implicit<UnsignedAttributes<'a>, 1> as Form>⟧ (one_tag ⟦<ImplicitTag<SetTag, 1> as TagMarker>⟧.TAG ⟦<Implicit<UnsignedAttributes<'a>, 1> as FormValue>⟧.value.contents))
-        ⟦<Option<Implicit<UnsignedAttributes<'a>, 1>> as PartialEq>⟧.eq
-        (optional_equality ⟦<Implicit<UnsignedAttributes<'a>, 1> as Form>⟧ (one_tag ⟦<ImplicitTag<SetTag, 1> as TagMarker>⟧.TAG ⟦<Implicit<UnsignedAttributes<'a>, 1> as FormValue>⟧.value.contents) ⟦<Implicit<UnsignedAttributes<'a>, 1> as PartialEq>⟧.eq (one_tag_equality ⟦<ImplicitTag<SetTag, 1> as TagMarker>⟧.TAG ⟦<Implicit<UnsignedAttributes<'a>, 1> as FormValue>⟧.value.contents ⟦<Implicit<UnsignedAttributes<'a>, 1> as FormValue>⟧.value.comparable ⟦<Implicit<UnsignedAttributes<'a>, 1> as PartialEq>⟧.eq (λ v w. (unsigned_attributes_contents_eq.contents_eq-law v.value w.value))))
-        no_equality))))))).equal v.fields.list w.fields.list };
+    ghost contents_eq = { ⟦<SignerInfo<'a> as Member>⟧.member.equal };
 }
 
 impl<'a> CopyIsDuplicate for SignerInfo<'a> {}

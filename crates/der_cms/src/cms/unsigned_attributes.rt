@@ -2,18 +2,19 @@
 //!
 //! Made by tools/asn1 from cms.asn1.
 
-ghost use Rattle.std.specs.Cmp.Lexicographic.{bytes_decides};
 ghost use Rattle.std.specs.Prelude.{◌≡◌, false, refl};
 ghost use Rattle.der_cms.specs.Cms.Grammar.{unsigned_attributes};
 ghost use Rattle.der_elem.specs.FormatMakers.{mapped_format};
 ghost use Rattle.der_lists.specs.NonEmptyRef.{list_of};
 ghost use Rattle.der_modules.specs.Asn1.{parse_of};
+ghost use Rattle.der_modules.specs.Members.{seen_member};
 
 use der_elem::{
     ContentsEq, CopyIsDuplicate, DecodeValue, EncodeValue, Form, FormValue, OneTag, SetTag,
-    ValueOrd,
+    TagMarker, ValueOrd,
 };
 use der_lists::{NonEmptyRef, UnorderedSetRef};
+use der_modules::Member;
 use der_pkix::name::Attribute;
 use der_tlv::{BackWriter, Error, Header, Length, Source, Writer};
 use std::alloc::Global;
@@ -67,12 +68,10 @@ impl<'a, R: Source<'a>> DecodeValue<'a, R> for UnsignedAttributes<'a> {
         reader: &mut R,
         header: Header,
     ) -> Result<UnsignedAttributes<'a>, Error> {
-        match NonEmptyRef::<UnorderedSetRef<'a, Attribute<'a>>>::decode_value(
+        let items = NonEmptyRef::<UnorderedSetRef<'a, Attribute<'a>>>::decode_value(
             alloc, reader, header,
-        ) {
-            Ok(items) => Ok(UnsignedAttributes { items }),
-            Err(e) => Err(e),
-        }
+        )?;
+        Ok(UnsignedAttributes { items })
     }
 
     ghost takes_memory_is = { refl };
@@ -98,8 +97,12 @@ impl<'a> ValueOrd for UnsignedAttributes<'a> {
     }
 }
 
+impl<'a> Member for UnsignedAttributes<'a> {
+    ghost member = { seen_member ⟦<SetTag as TagMarker>⟧.TAG (λ v. v.items) ⟦<NonEmptyRef<UnorderedSetRef<'a, Attribute<'a>>> as Member>⟧.member };
+}
+
 impl<'a> ContentsEq for UnsignedAttributes<'a> {
-    ghost contents_eq = { λ v w. (λ one. bytes_decides v.items.list.octets.octets.now w.items.list.octets.octets.now) };
+    ghost contents_eq = { ⟦<UnsignedAttributes<'a> as Member>⟧.member.equal };
 }
 
 impl<'a> CopyIsDuplicate for UnsignedAttributes<'a> {}

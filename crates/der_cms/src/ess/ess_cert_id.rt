@@ -5,22 +5,19 @@
 ghost use Rattle.std.specs.Prelude.{◌∷◌, ◌≡◌, [], false, refl};
 ghost use Rattle.der_cms.specs.Ess.EssCertId as ess_cert_id_fields;
 ghost use Rattle.der_cms.specs.Ess.Grammar.{ess_cert_id};
-ghost use Rattle.der_cms.specs.contracts.ess.issuer_serial.IssuerSerialContentsEq.TheImpl.Laws as issuer_serial_contents_eq;
 ghost use Rattle.der_cms.specs.declared.ess.ess_cert_id.EssCertId.{EssCertId};
 ghost use Rattle.der_elem.specs.FormatMakers.{mapped_format};
 ghost use Rattle.der_modules.specs.Asn1.{joined, optional, parse_of};
-ghost use Rattle.der_modules.specs.MemberLaws.{member_equality, no_equality, one_tag, one_tag_equality, optional_equality, optional_starts, tagged_starts};
-ghost use Rattle.der_opaque.specs.contracts.octet_string_ref.OctetStringRefContentsEq.TheImpl.Laws as octetstringref_contents_eq;
+ghost use Rattle.der_modules.specs.Members.{field, no_fields, optional_field, struct_member};
 
 use crate::ess::aliases::Hash;
 use crate::ess::issuer_serial::IssuerSerial;
 use der_elem::{
-    ContentsEq, CopyIsDuplicate, DecodeValue, EncodeValue, Form, FormValue, OctetStringTag, OneTag,
-    Sequence, SequenceTag, TagMarker, ValueOrd,
+    ContentsEq, CopyIsDuplicate, DecodeValue, EncodeValue, Form, FormValue, OneTag, Sequence,
+    SequenceTag, TagMarker, ValueOrd,
 };
-use der_fields::{DecodeFields, EncodeFields, End, Field, FieldList, Fields2, FieldsOrd};
-use der_modules::copy_of;
-use der_opaque::OctetStringRef;
+use der_fields::{DecodeFields, EncodeFields, FieldList, Fields2, FieldsOrd};
+use der_modules::{Member, copy_of, field_list, if_present};
 use der_tlv::{BackWriter, Error, Header, Length, Source, Writer};
 use std::alloc::Global;
 use std::cmp::Ordering;
@@ -50,13 +47,10 @@ impl<'a> EssCertId<'a> {
         ensures cert_hash { ess_cert_id_fields.cert_hash result ≡ cert_hash.entry }
         ensures issuer_serial { ess_cert_id_fields.issuer_serial result ≡ option_copied issuer_serial.entry }
     {
-        let first = match issuer_serial {
-            Some(value) => Some(copy_of(value)),
-            None => None,
-        };
-        let rest = Field { first, rest: End };
-        let first = cert_hash;
-        let list = Field { first, rest };
+        let list = field_list![
+            cert_hash,
+            if_present!(value in issuer_serial => copy_of(value))
+        ];
         let fields = Fields2 { list };
         EssCertId { fields }
     }
@@ -72,10 +66,7 @@ impl<'a> EssCertId<'a> {
     pub fn issuer_serial(&self) -> Option<&IssuerSerial<'a>>
         ensures { option_copied result ≡ ess_cert_id_fields.issuer_serial self.now }
     {
-        match &self.fields.list.rest.first {
-            Some(value) => Some(value),
-            None => None,
-        }
+        if_present!(value in &self.fields.list.rest.first => value)
     }
 }
 
@@ -139,16 +130,15 @@ impl<'a> ValueOrd for EssCertId<'a> {
     }
 }
 
+impl<'a> Member for EssCertId<'a> {
+    ghost member = { struct_member ⟦<SequenceTag as TagMarker>⟧.TAG (λ v. v.fields.list)
+        (field ⟦<Hash<'a> as Member>⟧.member
+        (optional_field ⟦<IssuerSerial<'a> as Member>⟧.member
+        no_fields)) };
+}
+
 impl<'a> ContentsEq for EssCertId<'a> {
-    ghost contents_eq = { λ v w. (member_equality ⟦<Hash<'a> as Form>⟧
-        (tagged_starts ⟦<Hash<'a> as Form>⟧ (one_tag ⟦<OctetStringTag as TagMarker>⟧.TAG ⟦<OctetStringRef<'a> as FormValue>⟧.value.contents))
-        ⟦<Hash<'a> as PartialEq>⟧.eq
-        (one_tag_equality ⟦<OctetStringTag as TagMarker>⟧.TAG ⟦<OctetStringRef<'a> as FormValue>⟧.value.contents ⟦<OctetStringRef<'a> as FormValue>⟧.value.comparable ⟦<OctetStringRef<'a> as PartialEq>⟧.eq octetstringref_contents_eq.contents_eq-law)
-        (member_equality ⟦<Option<IssuerSerial<'a>> as Form>⟧
-        (optional_starts ⟦<IssuerSerial<'a> as Form>⟧ (one_tag ⟦<SequenceTag as TagMarker>⟧.TAG ⟦<IssuerSerial<'a> as FormValue>⟧.value.contents))
-        ⟦<Option<IssuerSerial<'a>> as PartialEq>⟧.eq
-        (optional_equality ⟦<IssuerSerial<'a> as Form>⟧ (one_tag ⟦<SequenceTag as TagMarker>⟧.TAG ⟦<IssuerSerial<'a> as FormValue>⟧.value.contents) ⟦<IssuerSerial<'a> as PartialEq>⟧.eq (one_tag_equality ⟦<SequenceTag as TagMarker>⟧.TAG ⟦<IssuerSerial<'a> as FormValue>⟧.value.contents ⟦<IssuerSerial<'a> as FormValue>⟧.value.comparable ⟦<IssuerSerial<'a> as PartialEq>⟧.eq issuer_serial_contents_eq.contents_eq-law))
-        no_equality)).equal v.fields.list w.fields.list };
+    ghost contents_eq = { ⟦<EssCertId<'a> as Member>⟧.member.equal };
 }
 
 impl<'a> CopyIsDuplicate for EssCertId<'a> {}

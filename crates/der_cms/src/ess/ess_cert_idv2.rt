@@ -5,23 +5,19 @@
 ghost use Rattle.std.specs.Prelude.{◌∷◌, ◌≡◌, [], false, refl};
 ghost use Rattle.der_cms.specs.Ess.EssCertIdv2 as ess_cert_idv2_fields;
 ghost use Rattle.der_cms.specs.Ess.Grammar.{ess_cert_idv2};
-ghost use Rattle.der_cms.specs.contracts.ess.issuer_serial.IssuerSerialContentsEq.TheImpl.Laws as issuer_serial_contents_eq;
 ghost use Rattle.der_cms.specs.declared.ess.ess_cert_idv2.EssCertIdv2.{EssCertIdv2};
 ghost use Rattle.der_elem.specs.FormatMakers.{mapped_format};
 ghost use Rattle.der_modules.specs.Asn1.{joined, optional, parse_of};
-ghost use Rattle.der_modules.specs.MemberLaws.{member_equality, no_equality, one_tag, one_tag_equality, optional_equality, optional_starts, tagged_starts};
-ghost use Rattle.der_opaque.specs.contracts.octet_string_ref.OctetStringRefContentsEq.TheImpl.Laws as octetstringref_contents_eq;
-ghost use Rattle.der_pkix.specs.contracts.algorithm_identifier.AlgorithmIdentifierContentsEq.TheImpl.Laws as algorithm_identifier_contents_eq;
+ghost use Rattle.der_modules.specs.Members.{field, no_fields, optional_field, struct_member};
 
 use crate::ess::aliases::Hash;
 use crate::ess::issuer_serial::IssuerSerial;
 use der_elem::{
-    ContentsEq, CopyIsDuplicate, DecodeValue, EncodeValue, Form, FormValue, OctetStringTag, OneTag,
-    Sequence, SequenceTag, TagMarker, ValueOrd,
+    ContentsEq, CopyIsDuplicate, DecodeValue, EncodeValue, Form, FormValue, OneTag, Sequence,
+    SequenceTag, TagMarker, ValueOrd,
 };
-use der_fields::{DecodeFields, EncodeFields, End, Field, FieldList, Fields3, FieldsOrd};
-use der_modules::copy_of;
-use der_opaque::OctetStringRef;
+use der_fields::{DecodeFields, EncodeFields, FieldList, Fields3, FieldsOrd};
+use der_modules::{Member, copy_of, field_list, if_present};
 use der_pkix::AlgorithmIdentifier;
 use der_tlv::{BackWriter, Error, Header, Length, Source, Writer};
 use std::alloc::Global;
@@ -60,18 +56,11 @@ impl<'a> EssCertIdv2<'a> {
         ensures cert_hash { ess_cert_idv2_fields.cert_hash result ≡ cert_hash.entry }
         ensures issuer_serial { ess_cert_idv2_fields.issuer_serial result ≡ option_copied issuer_serial.entry }
     {
-        let first = match issuer_serial {
-            Some(value) => Some(copy_of(value)),
-            None => None,
-        };
-        let rest = Field { first, rest: End };
-        let first = cert_hash;
-        let rest = Field { first, rest };
-        let first = match hash_algorithm {
-            Some(value) => Some(copy_of(value)),
-            None => None,
-        };
-        let list = Field { first, rest };
+        let list = field_list![
+            if_present!(value in hash_algorithm => copy_of(value)),
+            cert_hash,
+            if_present!(value in issuer_serial => copy_of(value))
+        ];
         let fields = Fields3 { list };
         EssCertIdv2 { fields }
     }
@@ -80,10 +69,7 @@ impl<'a> EssCertIdv2<'a> {
     pub fn hash_algorithm(&self) -> Option<&AlgorithmIdentifier<'a>>
         ensures { option_copied result ≡ ess_cert_idv2_fields.hash_algorithm self.now }
     {
-        match &self.fields.list.first {
-            Some(value) => Some(value),
-            None => None,
-        }
+        if_present!(value in &self.fields.list.first => value)
     }
 
     /// `certHash`, `Hash`.
@@ -97,10 +83,7 @@ impl<'a> EssCertIdv2<'a> {
     pub fn issuer_serial(&self) -> Option<&IssuerSerial<'a>>
         ensures { option_copied result ≡ ess_cert_idv2_fields.issuer_serial self.now }
     {
-        match &self.fields.list.rest.rest.first {
-            Some(value) => Some(value),
-            None => None,
-        }
+        if_present!(value in &self.fields.list.rest.rest.first => value)
     }
 }
 
@@ -165,20 +148,16 @@ impl<'a> ValueOrd for EssCertIdv2<'a> {
     }
 }
 
+impl<'a> Member for EssCertIdv2<'a> {
+    ghost member = { struct_member ⟦<SequenceTag as TagMarker>⟧.TAG (λ v. v.fields.list)
+        (optional_field ⟦<AlgorithmIdentifier<'a> as Member>⟧.member
+        (field ⟦<Hash<'a> as Member>⟧.member
+        (optional_field ⟦<IssuerSerial<'a> as Member>⟧.member
+        no_fields))) };
+}
+
 impl<'a> ContentsEq for EssCertIdv2<'a> {
-    ghost contents_eq = { λ v w. (member_equality ⟦<Option<AlgorithmIdentifier<'a>> as Form>⟧
-        (optional_starts ⟦<AlgorithmIdentifier<'a> as Form>⟧ (one_tag ⟦<SequenceTag as TagMarker>⟧.TAG ⟦<AlgorithmIdentifier<'a> as FormValue>⟧.value.contents))
-        ⟦<Option<AlgorithmIdentifier<'a>> as PartialEq>⟧.eq
-        (optional_equality ⟦<AlgorithmIdentifier<'a> as Form>⟧ (one_tag ⟦<SequenceTag as TagMarker>⟧.TAG ⟦<AlgorithmIdentifier<'a> as FormValue>⟧.value.contents) ⟦<AlgorithmIdentifier<'a> as PartialEq>⟧.eq (one_tag_equality ⟦<SequenceTag as TagMarker>⟧.TAG ⟦<AlgorithmIdentifier<'a> as FormValue>⟧.value.contents ⟦<AlgorithmIdentifier<'a> as FormValue>⟧.value.comparable ⟦<AlgorithmIdentifier<'a> as PartialEq>⟧.eq algorithm_identifier_contents_eq.contents_eq-law))
-        (member_equality ⟦<Hash<'a> as Form>⟧
-        (tagged_starts ⟦<Hash<'a> as Form>⟧ (one_tag ⟦<OctetStringTag as TagMarker>⟧.TAG ⟦<OctetStringRef<'a> as FormValue>⟧.value.contents))
-        ⟦<Hash<'a> as PartialEq>⟧.eq
-        (one_tag_equality ⟦<OctetStringTag as TagMarker>⟧.TAG ⟦<OctetStringRef<'a> as FormValue>⟧.value.contents ⟦<OctetStringRef<'a> as FormValue>⟧.value.comparable ⟦<OctetStringRef<'a> as PartialEq>⟧.eq octetstringref_contents_eq.contents_eq-law)
-        (member_equality ⟦<Option<IssuerSerial<'a>> as Form>⟧
-        (optional_starts ⟦<IssuerSerial<'a> as Form>⟧ (one_tag ⟦<SequenceTag as TagMarker>⟧.TAG ⟦<IssuerSerial<'a> as FormValue>⟧.value.contents))
-        ⟦<Option<IssuerSerial<'a>> as PartialEq>⟧.eq
-        (optional_equality ⟦<IssuerSerial<'a> as Form>⟧ (one_tag ⟦<SequenceTag as TagMarker>⟧.TAG ⟦<IssuerSerial<'a> as FormValue>⟧.value.contents) ⟦<IssuerSerial<'a> as PartialEq>⟧.eq (one_tag_equality ⟦<SequenceTag as TagMarker>⟧.TAG ⟦<IssuerSerial<'a> as FormValue>⟧.value.contents ⟦<IssuerSerial<'a> as FormValue>⟧.value.comparable ⟦<IssuerSerial<'a> as PartialEq>⟧.eq issuer_serial_contents_eq.contents_eq-law))
-        no_equality))).equal v.fields.list w.fields.list };
+    ghost contents_eq = { ⟦<EssCertIdv2<'a> as Member>⟧.member.equal };
 }
 
 impl<'a> CopyIsDuplicate for EssCertIdv2<'a> {}

@@ -2,14 +2,13 @@
 //!
 //! Made by tools/asn1 from ess.asn1.
 
-ghost use Rattle.std.specs.Cmp.Lexicographic.{bytes_decides};
 ghost use Rattle.std.specs.Prelude.{◌∷◌, ◌≡◌, [], false, refl};
 ghost use Rattle.der_cms.specs.Ess.Grammar.{signing_certificate};
 ghost use Rattle.der_cms.specs.Ess.SigningCertificate as signing_certificate_fields;
 ghost use Rattle.der_cms.specs.declared.ess.signing_certificate.SigningCertificate.{SigningCertificate};
 ghost use Rattle.der_elem.specs.FormatMakers.{mapped_format};
 ghost use Rattle.der_modules.specs.Asn1.{joined, optional, parse_of};
-ghost use Rattle.der_modules.specs.MemberLaws.{member_equality, no_equality, one_tag, one_tag_equality, optional_equality, optional_starts, tagged_starts};
+ghost use Rattle.der_modules.specs.Members.{field, no_fields, optional_field, struct_member};
 
 use crate::ess::ess_cert_id::EssCertId;
 use der_elem::{
@@ -17,9 +16,9 @@ use der_elem::{
     SequenceTag, TagMarker, ValueOrd,
 };
 use der_extensions::extension::PolicyInformation;
-use der_fields::{DecodeFields, EncodeFields, End, Field, FieldList, Fields2, FieldsOrd};
+use der_fields::{DecodeFields, EncodeFields, FieldList, Fields2, FieldsOrd};
 use der_lists::ListRef;
-use der_modules::copy_of;
+use der_modules::{Member, copy_of, field_list, if_present};
 use der_tlv::{BackWriter, Error, Header, Length, Source, Writer};
 use std::alloc::Global;
 use std::cmp::Ordering;
@@ -52,13 +51,10 @@ impl<'a> SigningCertificate<'a> {
         ensures certs { signing_certificate_fields.certs result ≡ certs.now }
         ensures policies { signing_certificate_fields.policies result ≡ option_copied policies.entry }
     {
-        let first = match policies {
-            Some(value) => Some(copy_of(value)),
-            None => None,
-        };
-        let rest = Field { first, rest: End };
-        let first = copy_of(certs);
-        let list = Field { first, rest };
+        let list = field_list![
+            copy_of(certs),
+            if_present!(value in policies => copy_of(value))
+        ];
         let fields = Fields2 { list };
         SigningCertificate { fields }
     }
@@ -74,10 +70,7 @@ impl<'a> SigningCertificate<'a> {
     pub fn policies(&self) -> Option<&ListRef<'a, PolicyInformation<'a>>>
         ensures { option_copied result ≡ signing_certificate_fields.policies self.now }
     {
-        match &self.fields.list.rest.first {
-            Some(value) => Some(value),
-            None => None,
-        }
+        if_present!(value in &self.fields.list.rest.first => value)
     }
 }
 
@@ -141,16 +134,15 @@ impl<'a> ValueOrd for SigningCertificate<'a> {
     }
 }
 
+impl<'a> Member for SigningCertificate<'a> {
+    ghost member = { struct_member ⟦<SequenceTag as TagMarker>⟧.TAG (λ v. v.fields.list)
+        (field ⟦<ListRef<'a, EssCertId<'a>> as Member>⟧.member
+        (optional_field ⟦<ListRef<'a, PolicyInformation<'a>> as Member>⟧.member
+        no_fields)) };
+}
+
 impl<'a> ContentsEq for SigningCertificate<'a> {
-    ghost contents_eq = { λ v w. (member_equality ⟦<ListRef<'a, EssCertId<'a>> as Form>⟧
-        (tagged_starts ⟦<ListRef<'a, EssCertId<'a>> as Form>⟧ (one_tag ⟦<SequenceTag as TagMarker>⟧.TAG ⟦<ListRef<'a, EssCertId<'a>> as FormValue>⟧.value.contents))
-        ⟦<ListRef<'a, EssCertId<'a>> as PartialEq>⟧.eq
-        (one_tag_equality ⟦<SequenceTag as TagMarker>⟧.TAG ⟦<ListRef<'a, EssCertId<'a>> as FormValue>⟧.value.contents ⟦<ListRef<'a, EssCertId<'a>> as FormValue>⟧.value.comparable ⟦<ListRef<'a, EssCertId<'a>> as PartialEq>⟧.eq (λ v w. (λ one. bytes_decides v.octets.octets.now w.octets.octets.now)))
-        (member_equality ⟦<Option<ListRef<'a, PolicyInformation<'a>>> as Form>⟧
-        (optional_starts ⟦<ListRef<'a, PolicyInformation<'a>> as Form>⟧ (one_tag ⟦<SequenceTag as TagMarker>⟧.TAG ⟦<ListRef<'a, PolicyInformation<'a>> as FormValue>⟧.value.contents))
-        ⟦<Option<ListRef<'a, PolicyInformation<'a>>> as PartialEq>⟧.eq
-        (optional_equality ⟦<ListRef<'a, PolicyInformation<'a>> as Form>⟧ (one_tag ⟦<SequenceTag as TagMarker>⟧.TAG ⟦<ListRef<'a, PolicyInformation<'a>> as FormValue>⟧.value.contents) ⟦<ListRef<'a, PolicyInformation<'a>> as PartialEq>⟧.eq (one_tag_equality ⟦<SequenceTag as TagMarker>⟧.TAG ⟦<ListRef<'a, PolicyInformation<'a>> as FormValue>⟧.value.contents ⟦<ListRef<'a, PolicyInformation<'a>> as FormValue>⟧.value.comparable ⟦<ListRef<'a, PolicyInformation<'a>> as PartialEq>⟧.eq (λ v w. (λ one. bytes_decides v.octets.octets.now w.octets.octets.now))))
-        no_equality)).equal v.fields.list w.fields.list };
+    ghost contents_eq = { ⟦<SigningCertificate<'a> as Member>⟧.member.equal };
 }
 
 impl<'a> CopyIsDuplicate for SigningCertificate<'a> {}

@@ -3,33 +3,22 @@
 //! Made by tools/asn1 from authenticated.asn1.
 
 ghost use Rattle.std.specs.Prelude.{◌∷◌, ◌≡◌, [], false, refl, true};
-ghost use Rattle.der_cms.specs.contracts.cms.encapsulated_content_info.EncapsulatedContentInfoContentsEq.TheImpl.Laws as encapsulated_content_info_contents_eq;
-ghost use Rattle.der_cms.specs.contracts.cms.signed_attributes.SignedAttributesContentsEq.TheImpl.Laws as signed_attributes_contents_eq;
-ghost use Rattle.der_cms.specs.contracts.cms.unsigned_attributes.UnsignedAttributesContentsEq.TheImpl.Laws as unsigned_attributes_contents_eq;
 ghost use Rattle.der_elem.specs.FormatMakers.{mapped_format};
-ghost use Rattle.der_elem.specs.contracts.integer.unsigned.U8ContentsEq.TheImpl.Laws as u8_contents_eq;
 ghost use Rattle.der_enveloped.specs.Authenticated.AuthenticatedData as authenticated_data_fields;
 ghost use Rattle.der_enveloped.specs.Authenticated.Grammar.{authenticated_data};
-ghost use Rattle.der_enveloped.specs.contracts.enveloped.originator_info.OriginatorInfoContentsEq.TheImpl.Laws as originator_info_contents_eq;
-ghost use Rattle.der_enveloped.specs.contracts.enveloped.recipient_infos.RecipientInfosContentsEq.TheImpl.Laws as recipient_infos_contents_eq;
 ghost use Rattle.der_enveloped.specs.declared.authenticated.authenticated_data.AuthenticatedData.{AuthenticatedData};
 ghost use Rattle.der_modules.specs.Asn1.{context, implicit_encoding, joined, optional, parse_of};
-ghost use Rattle.der_modules.specs.MemberLaws.{member_equality, no_equality, one_tag, one_tag_equality, optional_equality, optional_starts, part_equality, tagged_starts};
-ghost use Rattle.der_opaque.specs.contracts.octet_string_ref.OctetStringRefContentsEq.TheImpl.Laws as octetstringref_contents_eq;
-ghost use Rattle.der_pkix.specs.contracts.algorithm_identifier.AlgorithmIdentifierContentsEq.TheImpl.Laws as algorithm_identifier_contents_eq;
+ghost use Rattle.der_modules.specs.Members.{field, no_fields, optional_field, part, struct_member};
 
 use crate::authenticated::aliases::{AuthAttributes, UnauthAttributes};
 use crate::enveloped::{OriginatorInfo, RecipientInfos};
 use der_cms::cms::{CmsVersion, EncapsulatedContentInfo};
 use der_elem::{
-    ContentsEq, CopyIsDuplicate, DecodeValue, EncodeValue, Form, FormValue, IntegerTag,
-    OctetStringTag, OneTag, Sequence, SequenceTag, SetTag, TagMarker, ValueOrd,
+    ContentsEq, CopyIsDuplicate, DecodeValue, EncodeValue, Form, FormValue, OneTag, Sequence,
+    SequenceTag, TagMarker, ValueOrd,
 };
-use der_fields::{
-    DecodeFields, EncodeFields, End, Field, FieldList, Fields1, Fields8, FieldsOrd, Implicit,
-    ImplicitTag,
-};
-use der_modules::copy_of;
+use der_fields::{DecodeFields, EncodeFields, FieldList, Fields1, Fields8, FieldsOrd, Implicit};
+use der_modules::{Member, copy_of, field_list, if_present};
 use der_opaque::OctetStringRef;
 use der_pkix::AlgorithmIdentifier;
 use der_tlv::{BackWriter, Error, Header, Length, Source, Writer};
@@ -95,45 +84,12 @@ impl<'a> AuthenticatedData<'a> {
         ensures mac { authenticated_data_fields.mac result ≡ mac.entry }
         ensures unauth_attrs { authenticated_data_fields.unauth_attrs result ≡ option_copied unauth_attrs.entry }
     {
-        let first = match unauth_attrs {
-            Some(value) => Some(Implicit {
-                value: copy_of(value),
-            }),
-            None => None,
-        };
-        let list = Field { first, rest: End };
+        let list = field_list![
+            if_present!(value in unauth_attrs => Implicit { value: copy_of(value) })
+        ];
         let rest = Fields1 { list };
-        let first = mac;
-        let rest = Field { first, rest };
-        let first = match auth_attrs {
-            Some(value) => Some(Implicit {
-                value: copy_of(value),
-            }),
-            None => None,
-        };
-        let rest = Field { first, rest };
-        let first = copy_of(encap_content_info);
-        let rest = Field { first, rest };
-        let first = match digest_algorithm {
-            Some(value) => Some(Implicit {
-                value: copy_of(value),
-            }),
-            None => None,
-        };
-        let rest = Field { first, rest };
-        let first = copy_of(mac_algorithm);
-        let rest = Field { first, rest };
-        let first = copy_of(recipient_infos);
-        let rest = Field { first, rest };
-        let first = match originator_info {
-            Some(value) => Some(Implicit {
-                value: copy_of(value),
-            }),
-            None => None,
-        };
-        let rest = Field { first, rest };
-        let first = version;
-        let list = Field { first, rest };
+        let list =
+            field_list![version, if_present!(value in originator_info => Implicit { value: copy_of(value) }), copy_of(recipient_infos), copy_of(mac_algorithm), if_present!(value in digest_algorithm => Implicit { value: copy_of(value) }), copy_of(encap_content_info), if_present!(value in auth_attrs => Implicit { value: copy_of(value) }), mac; rest];
         let fields = Fields8 { list };
         AuthenticatedData { fields }
     }
@@ -149,10 +105,7 @@ impl<'a> AuthenticatedData<'a> {
     pub fn originator_info(&self) -> Option<&OriginatorInfo<'a>>
         ensures { option_copied result ≡ authenticated_data_fields.originator_info self.now }
     {
-        match &self.fields.list.rest.first {
-            Some(value) => Some(&value.value),
-            None => None,
-        }
+        if_present!(value in &self.fields.list.rest.first => &value.value)
     }
 
     /// `recipientInfos`, `RecipientInfos`.
@@ -173,10 +126,7 @@ impl<'a> AuthenticatedData<'a> {
     pub fn digest_algorithm(&self) -> Option<&AlgorithmIdentifier<'a>>
         ensures { option_copied result ≡ authenticated_data_fields.digest_algorithm self.now }
     {
-        match &self.fields.list.rest.rest.rest.rest.first {
-            Some(value) => Some(&value.value),
-            None => None,
-        }
+        if_present!(value in &self.fields.list.rest.rest.rest.rest.first => &value.value)
     }
 
     /// `encapContentInfo`, `EncapsulatedContentInfo`.
@@ -190,10 +140,7 @@ impl<'a> AuthenticatedData<'a> {
     pub fn auth_attrs(&self) -> Option<&AuthAttributes<'a>>
         ensures { option_copied result ≡ authenticated_data_fields.auth_attrs self.now }
     {
-        match &self.fields.list.rest.rest.rest.rest.rest.rest.first {
-            Some(value) => Some(&value.value),
-            None => None,
-        }
+        if_present!(value in &self.fields.list.rest.rest.rest.rest.rest.rest.first => &value.value)
     }
 
     /// `mac`, `OCTET STRING`.
@@ -208,10 +155,7 @@ impl<'a> AuthenticatedData<'a> {
         ensures { option_copied result ≡ authenticated_data_fields.unauth_attrs self.now }
     {
         let tail = &self.fields.list.rest.rest.rest.rest.rest.rest.rest.rest;
-        match &tail.list.first {
-            Some(value) => Some(&value.value),
-            None => None,
-        }
+        if_present!(value in &tail.list.first => &value.value)
     }
 }
 
@@ -282,44 +226,23 @@ impl<'a> ValueOrd for AuthenticatedData<'a> {
     }
 }
 
+impl<'a> Member for AuthenticatedData<'a> {
+    ghost member = { struct_member ⟦<SequenceTag as TagMarker>⟧.TAG (λ v. v.fields.list)
+        (field ⟦<CmsVersion as Member>⟧.member
+        (optional_field ⟦<Implicit<OriginatorInfo<'a>, 0> as Member>⟧.member
+        (field ⟦<RecipientInfos<'a> as Member>⟧.member
+        (field ⟦<AlgorithmIdentifier<'a> as Member>⟧.member
+        (optional_field ⟦<Implicit<AlgorithmIdentifier<'a>, 1> as Member>⟧.member
+        (field ⟦<EncapsulatedContentInfo<'a> as Member>⟧.member
+        (optional_field ⟦<Implicit<AuthAttributes<'a>, 2> as Member>⟧.member
+        (field ⟦<OctetStringRef<'a> as Member>⟧.member
+        (part (λ v. v.list)
+        (optional_field ⟦<Implicit<UnauthAttributes<'a>, 3> as Member>⟧.member
+        no_fields)))))))))) };
+}
+
 impl<'a> ContentsEq for AuthenticatedData<'a> {
-    ghost contents_eq = { λ v w. (member_equality ⟦<CmsVersion as Form>⟧
-        (tagged_starts ⟦<CmsVersion as Form>⟧ (one_tag ⟦<IntegerTag as TagMarker>⟧.TAG ⟦<u8 as FormValue>⟧.value.contents))
-        ⟦<CmsVersion as PartialEq>⟧.eq
-        (one_tag_equality ⟦<IntegerTag as TagMarker>⟧.TAG ⟦<u8 as FormValue>⟧.value.contents ⟦<u8 as FormValue>⟧.value.comparable ⟦<u8 as PartialEq>⟧.eq u8_contents_eq.contents_eq-law)
-        (member_equality ⟦<Option<Implicit<OriginatorInfo<'a>, 0>> as Form>⟧
-        (optional_starts ⟦<Implicit<OriginatorInfo<'a>, 0> as Form>⟧ (one_tag ⟦<ImplicitTag<SequenceTag, 0> as TagMarker>⟧.TAG ⟦<Implicit<OriginatorInfo<'a>, 0> as FormValue>⟧.value.contents))
-        ⟦<Option<Implicit<OriginatorInfo<'a>, 0>> as PartialEq>⟧.eq
-        (optional_equality ⟦<Implicit<OriginatorInfo<'a>, 0> as Form>⟧ (one_tag ⟦<ImplicitTag<SequenceTag, 0> as TagMarker>⟧.TAG ⟦<Implicit<OriginatorInfo<'a>, 0> as FormValue>⟧.value.contents) ⟦<Implicit<OriginatorInfo<'a>, 0> as PartialEq>⟧.eq (one_tag_equality ⟦<ImplicitTag<SequenceTag, 0> as TagMarker>⟧.TAG ⟦<Implicit<OriginatorInfo<'a>, 0> as FormValue>⟧.value.contents ⟦<Implicit<OriginatorInfo<'a>, 0> as FormValue>⟧.value.comparable ⟦<Implicit<OriginatorInfo<'a>, 0> as PartialEq>⟧.eq (λ v w. (originator_info_contents_eq.contents_eq-law v.value w.value))))
-        (member_equality ⟦<RecipientInfos<'a> as Form>⟧
-        (tagged_starts ⟦<RecipientInfos<'a> as Form>⟧ (one_tag ⟦<SetTag as TagMarker>⟧.TAG ⟦<RecipientInfos<'a> as FormValue>⟧.value.contents))
-        ⟦<RecipientInfos<'a> as PartialEq>⟧.eq
-        (one_tag_equality ⟦<SetTag as TagMarker>⟧.TAG ⟦<RecipientInfos<'a> as FormValue>⟧.value.contents ⟦<RecipientInfos<'a> as FormValue>⟧.value.comparable ⟦<RecipientInfos<'a> as PartialEq>⟧.eq recipient_infos_contents_eq.contents_eq-law)
-        (member_equality ⟦<AlgorithmIdentifier<'a> as Form>⟧
-        (tagged_starts ⟦<AlgorithmIdentifier<'a> as Form>⟧ (one_tag ⟦<SequenceTag as TagMarker>⟧.TAG ⟦<AlgorithmIdentifier<'a> as FormValue>⟧.value.contents))
-        ⟦<AlgorithmIdentifier<'a> as PartialEq>⟧.eq
-        (one_tag_equality ⟦<SequenceTag as TagMarker>⟧.TAG ⟦<AlgorithmIdentifier<'a> as FormValue>⟧.value.contents ⟦<AlgorithmIdentifier<'a> as FormValue>⟧.value.comparable ⟦<AlgorithmIdentifier<'a> as PartialEq>⟧.eq algorithm_identifier_contents_eq.contents_eq-law)
-        (member_equality ⟦<Option<Implicit<AlgorithmIdentifier<'a>, 1>> as Form>⟧
-        (optional_starts ⟦<Implicit<AlgorithmIdentifier<'a>, 1> as Form>⟧ (one_tag ⟦<ImplicitTag<SequenceTag, 1> as TagMarker>⟧.TAG ⟦<Implicit<AlgorithmIdentifier<'a>, 1> as FormValue>⟧.value.contents))
-        ⟦<Option<Implicit<AlgorithmIdentifier<'a>, 1>> as PartialEq>⟧.eq
-        (optional_equality ⟦<Implicit<AlgorithmIdentifier<'a>, 1> as Form>⟧ (one_tag ⟦<ImplicitTag<SequenceTag, 1> as TagMarker>⟧.TAG ⟦<Implicit<AlgorithmIdentifier<'a>, 1> as FormValue>⟧.value.contents) ⟦<Implicit<AlgorithmIdentifier<'a>, 1> as PartialEq>⟧.eq (one_tag_equality ⟦<ImplicitTag<SequenceTag, 1> as TagMarker>⟧.TAG ⟦<Implicit<AlgorithmIdentifier<'a>, 1> as FormValue>⟧.value.contents ⟦<Implicit<AlgorithmIdentifier<'a>, 1> as FormValue>⟧.value.comparable ⟦<Implicit<AlgorithmIdentifier<'a>, 1> as PartialEq>⟧.eq (λ v w. (algorithm_identifier_contents_eq.contents_eq-law v.value w.value))))
-        (member_equality ⟦<EncapsulatedContentInfo<'a> as Form>⟧
-        (tagged_starts ⟦<EncapsulatedContentInfo<'a> as Form>⟧ (one_tag ⟦<SequenceTag as TagMarker>⟧.TAG ⟦<EncapsulatedContentInfo<'a> as FormValue>⟧.value.contents))
-        ⟦<EncapsulatedContentInfo<'a> as PartialEq>⟧.eq
-        (one_tag_equality ⟦<SequenceTag as TagMarker>⟧.TAG ⟦<EncapsulatedContentInfo<'a> as FormValue>⟧.value.contents ⟦<EncapsulatedContentInfo<'a> as FormValue>⟧.value.comparable ⟦<EncapsulatedContentInfo<'a> as PartialEq>⟧.eq encapsulated_content_info_contents_eq.contents_eq-law)
-        (member_equality ⟦<Option<Implicit<AuthAttributes<'a>, 2>> as Form>⟧
-        (optional_starts ⟦<Implicit<AuthAttributes<'a>, 2> as Form>⟧ (one_tag ⟦<ImplicitTag<SetTag, 2> as TagMarker>⟧.TAG ⟦<Implicit<AuthAttributes<'a>, 2> as FormValue>⟧.value.contents))
-        ⟦<Option<Implicit<AuthAttributes<'a>, 2>> as PartialEq>⟧.eq
-        (optional_equality ⟦<Implicit<AuthAttributes<'a>, 2> as Form>⟧ (one_tag ⟦<ImplicitTag<SetTag, 2> as TagMarker>⟧.TAG ⟦<Implicit<AuthAttributes<'a>, 2> as FormValue>⟧.value.contents) ⟦<Implicit<AuthAttributes<'a>, 2> as PartialEq>⟧.eq (one_tag_equality ⟦<ImplicitTag<SetTag, 2> as TagMarker>⟧.TAG ⟦<Implicit<AuthAttributes<'a>, 2> as FormValue>⟧.value.contents ⟦<Implicit<AuthAttributes<'a>, 2> as FormValue>⟧.value.comparable ⟦<Implicit<AuthAttributes<'a>, 2> as PartialEq>⟧.eq (λ v w. (signed_attributes_contents_eq.contents_eq-law v.value w.value))))
-        (member_equality ⟦<OctetStringRef<'a> as Form>⟧
-        (tagged_starts ⟦<OctetStringRef<'a> as Form>⟧ (one_tag ⟦<OctetStringTag as TagMarker>⟧.TAG ⟦<OctetStringRef<'a> as FormValue>⟧.value.contents))
-        ⟦<OctetStringRef<'a> as PartialEq>⟧.eq
-        (one_tag_equality ⟦<OctetStringTag as TagMarker>⟧.TAG ⟦<OctetStringRef<'a> as FormValue>⟧.value.contents ⟦<OctetStringRef<'a> as FormValue>⟧.value.comparable ⟦<OctetStringRef<'a> as PartialEq>⟧.eq octetstringref_contents_eq.contents_eq-law)
-        (part_equality (λ x. x.list) (member_equality ⟦<Option<Implicit<UnauthAttributes<'a>, 3>> as Form>⟧
-        (optional_starts ⟦<Implicit<UnauthAttributes<'a>, 3> as Form>⟧ (one_tag ⟦<ImplicitTag<SetTag, 3> as TagMarker>⟧.TAG ⟦<Implicit<UnauthAttributes<'a>, 3> as FormValue>⟧.value.contents))
-        ⟦<Option<Implicit<UnauthAttributes<'a>, 3>> as PartialEq>⟧.eq
-        (optional_equality ⟦<Implicit<UnauthAttributes<'a>, 3> as Form>⟧ (one_tag ⟦<ImplicitTag<SetTag, 3> as TagMarker>⟧.TAG ⟦<Implicit<UnauthAttributes<'a>, 3> as FormValue>⟧.value.contents) ⟦<Implicit<UnauthAttributes<'a>, 3> as PartialEq>⟧.eq (one_tag_equality ⟦<ImplicitTag<SetTag, 3> as TagMarker>⟧.TAG ⟦<Implicit<UnauthAttributes<'a>, 3> as FormValue>⟧.value.contents ⟦<Implicit<UnauthAttributes<'a>, 3> as FormValue>⟧.value.comparable ⟦<Implicit<UnauthAttributes<'a>, 3> as PartialEq>⟧.eq (λ v w. (unsigned_attributes_contents_eq.contents_eq-law v.value w.value))))
-        no_equality)))))))))).equal v.fields.list w.fields.list };
+    ghost contents_eq = { ⟦<AuthenticatedData<'a> as Member>⟧.member.equal };
 }
 
 impl<'a> CopyIsDuplicate for AuthenticatedData<'a> {}

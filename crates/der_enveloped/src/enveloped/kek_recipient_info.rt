@@ -4,25 +4,20 @@
 
 ghost use Rattle.std.specs.Prelude.{◌∷◌, ◌≡◌, [], false, refl};
 ghost use Rattle.der_elem.specs.FormatMakers.{mapped_format};
-ghost use Rattle.der_elem.specs.contracts.integer.unsigned.U8ContentsEq.TheImpl.Laws as u8_contents_eq;
 ghost use Rattle.der_enveloped.specs.Enveloped.Grammar.{kek_recipient_info};
 ghost use Rattle.der_enveloped.specs.Enveloped.KekRecipientInfo as kek_recipient_info_fields;
-ghost use Rattle.der_enveloped.specs.contracts.enveloped.recipient_key_identifier.RecipientKeyIdentifierContentsEq.TheImpl.Laws as recipient_key_identifier_contents_eq;
 ghost use Rattle.der_enveloped.specs.declared.enveloped.kek_recipient_info.KekRecipientInfo.{KekRecipientInfo};
 ghost use Rattle.der_modules.specs.Asn1.{joined, parse_of};
-ghost use Rattle.der_modules.specs.MemberLaws.{member_equality, no_equality, one_tag, one_tag_equality, tagged_starts};
-ghost use Rattle.der_opaque.specs.contracts.octet_string_ref.OctetStringRefContentsEq.TheImpl.Laws as octetstringref_contents_eq;
-ghost use Rattle.der_pkix.specs.contracts.algorithm_identifier.AlgorithmIdentifierContentsEq.TheImpl.Laws as algorithm_identifier_contents_eq;
+ghost use Rattle.der_modules.specs.Members.{field, no_fields, struct_member};
 
 use crate::enveloped::aliases::KekIdentifier;
-use crate::enveloped::recipient_key_identifier::RecipientKeyIdentifier;
 use der_cms::cms::CmsVersion;
 use der_elem::{
-    ContentsEq, CopyIsDuplicate, DecodeValue, EncodeValue, Form, FormValue, IntegerTag,
-    OctetStringTag, OneTag, Sequence, SequenceTag, TagMarker, ValueOrd,
+    ContentsEq, CopyIsDuplicate, DecodeValue, EncodeValue, Form, FormValue, OneTag, Sequence,
+    SequenceTag, TagMarker, ValueOrd,
 };
-use der_fields::{DecodeFields, EncodeFields, End, Field, FieldList, Fields4, FieldsOrd};
-use der_modules::copy_of;
+use der_fields::{DecodeFields, EncodeFields, FieldList, Fields4, FieldsOrd};
+use der_modules::{Member, copy_of, field_list};
 use der_opaque::OctetStringRef;
 use der_pkix::AlgorithmIdentifier;
 use der_tlv::{BackWriter, Error, Header, Length, Source, Writer};
@@ -67,14 +62,12 @@ impl<'a> KekRecipientInfo<'a> {
         ensures key_encryption_algorithm { kek_recipient_info_fields.key_encryption_algorithm result ≡ key_encryption_algorithm.now }
         ensures encrypted_key { kek_recipient_info_fields.encrypted_key result ≡ encrypted_key.entry }
     {
-        let first = encrypted_key;
-        let rest = Field { first, rest: End };
-        let first = copy_of(key_encryption_algorithm);
-        let rest = Field { first, rest };
-        let first = copy_of(kekid);
-        let rest = Field { first, rest };
-        let first = version;
-        let list = Field { first, rest };
+        let list = field_list![
+            version,
+            copy_of(kekid),
+            copy_of(key_encryption_algorithm),
+            encrypted_key
+        ];
         let fields = Fields4 { list };
         KekRecipientInfo { fields }
     }
@@ -170,24 +163,17 @@ impl<'a> ValueOrd for KekRecipientInfo<'a> {
     }
 }
 
+impl<'a> Member for KekRecipientInfo<'a> {
+    ghost member = { struct_member ⟦<SequenceTag as TagMarker>⟧.TAG (λ v. v.fields.list)
+        (field ⟦<CmsVersion as Member>⟧.member
+        (field ⟦<KekIdentifier<'a> as Member>⟧.member
+        (field ⟦<AlgorithmIdentifier<'a> as Member>⟧.member
+        (field ⟦<OctetStringRef<'a> as Member>⟧.member
+        no_fields)))) };
+}
+
 impl<'a> ContentsEq for KekRecipientInfo<'a> {
-    ghost contents_eq = { λ v w. (member_equality ⟦<CmsVersion as Form>⟧
-        (tagged_starts ⟦<CmsVersion as Form>⟧ (one_tag ⟦<IntegerTag as TagMarker>⟧.TAG ⟦<u8 as FormValue>⟧.value.contents))
-        ⟦<CmsVersion as PartialEq>⟧.eq
-        (one_tag_equality ⟦<IntegerTag as TagMarker>⟧.TAG ⟦<u8 as FormValue>⟧.value.contents ⟦<u8 as FormValue>⟧.value.comparable ⟦<u8 as PartialEq>⟧.eq u8_contents_eq.contents_eq-law)
-        (member_equality ⟦<KekIdentifier<'a> as Form>⟧
-        (tagged_starts ⟦<KekIdentifier<'a> as Form>⟧ (one_tag ⟦<SequenceTag as TagMarker>⟧.TAG ⟦<RecipientKeyIdentifier<'a> as FormValue>⟧.value.contents))
-        ⟦<KekIdentifier<'a> as PartialEq>⟧.eq
-        (one_tag_equality ⟦<SequenceTag as TagMarker>⟧.TAG ⟦<RecipientKeyIdentifier<'a> as FormValue>⟧.value.contents ⟦<RecipientKeyIdentifier<'a> as FormValue>⟧.value.comparable ⟦<RecipientKeyIdentifier<'a> as PartialEq>⟧.eq recipient_key_identifier_contents_eq.contents_eq-law)
-        (member_equality ⟦<AlgorithmIdentifier<'a> as Form>⟧
-        (tagged_starts ⟦<AlgorithmIdentifier<'a> as Form>⟧ (one_tag ⟦<SequenceTag as TagMarker>⟧.TAG ⟦<AlgorithmIdentifier<'a> as FormValue>⟧.value.contents))
-        ⟦<AlgorithmIdentifier<'a> as PartialEq>⟧.eq
-        (one_tag_equality ⟦<SequenceTag as TagMarker>⟧.TAG ⟦<AlgorithmIdentifier<'a> as FormValue>⟧.value.contents ⟦<AlgorithmIdentifier<'a> as FormValue>⟧.value.comparable ⟦<AlgorithmIdentifier<'a> as PartialEq>⟧.eq algorithm_identifier_contents_eq.contents_eq-law)
-        (member_equality ⟦<OctetStringRef<'a> as Form>⟧
-        (tagged_starts ⟦<OctetStringRef<'a> as Form>⟧ (one_tag ⟦<OctetStringTag as TagMarker>⟧.TAG ⟦<OctetStringRef<'a> as FormValue>⟧.value.contents))
-        ⟦<OctetStringRef<'a> as PartialEq>⟧.eq
-        (one_tag_equality ⟦<OctetStringTag as TagMarker>⟧.TAG ⟦<OctetStringRef<'a> as FormValue>⟧.value.contents ⟦<OctetStringRef<'a> as FormValue>⟧.value.comparable ⟦<OctetStringRef<'a> as PartialEq>⟧.eq octetstringref_contents_eq.contents_eq-law)
-        no_equality)))).equal v.fields.list w.fields.list };
+    ghost contents_eq = { ⟦<KekRecipientInfo<'a> as Member>⟧.member.equal };
 }
 
 impl<'a> CopyIsDuplicate for KekRecipientInfo<'a> {}

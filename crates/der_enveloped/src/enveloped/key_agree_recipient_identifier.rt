@@ -3,7 +3,6 @@
 //! Made by tools/asn1 from enveloped.asn1.
 
 ghost use Rattle.std.specs.Prelude.{◌≡◌, false, refl, true};
-ghost use Rattle.der_cms.specs.contracts.cms.issuer_and_serial_number.IssuerAndSerialNumberContentsEq.TheImpl.Laws as issuer_and_serial_number_contents_eq;
 ghost use Rattle.der_elem.specs.Accepting.{IsTlv};
 ghost use Rattle.der_elem.specs.FirstTags.{HasFirstTag};
 ghost use Rattle.der_elem.specs.FormatMakers.{mapped_format};
@@ -12,19 +11,19 @@ ghost use Rattle.der_elem.specs.TaggedLaws.{tlv_tagged};
 ghost use Rattle.der_enveloped.specs.Enveloped.Grammar.{key_agree_recipient_identifier};
 ghost use Rattle.der_enveloped.specs.Enveloped.KeyAgreeRecipientIdentifier.{tree_of};
 ghost use Rattle.der_enveloped.specs.contracts.enveloped.key_agree_recipient_identifier.KeyAgreeRecipientIdentifierEq.TheImpl.Laws as key_agree_recipient_identifier_eq;
-ghost use Rattle.der_enveloped.specs.contracts.enveloped.recipient_key_identifier.RecipientKeyIdentifierContentsEq.TheImpl.Laws as recipient_key_identifier_contents_eq;
 ghost use Rattle.der_enveloped.specs.declared.enveloped.key_agree_recipient_identifier.KeyAgreeRecipientIdentifier.TheVariants as of;
 ghost use Rattle.der_modules.specs.Asn1.{parse_of};
-ghost use Rattle.der_modules.specs.MemberLaws.{copies_of, either_equality, either_tag, one_tag, one_tag_equality, same_copies, seen_equality};
+ghost use Rattle.der_modules.specs.MemberLaws.{copies_of, same_copies};
+ghost use Rattle.der_modules.specs.Members.{seen_choice};
 
 use crate::enveloped::recipient_key_identifier::RecipientKeyIdentifier;
 use der_cms::cms::IssuerAndSerialNumber;
 use der_elem::{
     Choice, Decode, DecodeField, DerOrd, Duplicate, DuplicateIsEqual, EncodeValue, EncodingEq,
-    Form, FormValue, KnownTags, SequenceTag, TagMarker, Tagged,
+    Form, FormValue, KnownTags, Tagged,
 };
-use der_fields::{Implicit, ImplicitTag, OneOf, cmp_headers};
-use der_modules::{CopyLaws, copy_of};
+use der_fields::{Implicit, OneOf, cmp_headers};
+use der_modules::{Choosing, CopyLaws, copy_of};
 use der_tlv::{BackWriter, Error, Length, Source, Tag, Writer};
 use std::alloc::Global;
 use std::cmp::Ordering;
@@ -102,19 +101,13 @@ impl<'a> Tagged for KeyAgreeRecipientIdentifier<'a> {
         }
     }
 
-    ghost encoding_is = { λ v. (either_tag ⟦<IssuerAndSerialNumber<'a> as Form>⟧ ⟦<Implicit<RecipientKeyIdentifier<'a>, 0> as Form>⟧
-        (one_tag ⟦<SequenceTag as TagMarker>⟧.TAG ⟦<IssuerAndSerialNumber<'a> as FormValue>⟧.value.contents)
-        (one_tag ⟦<ImplicitTag<SequenceTag, 0> as TagMarker>⟧.TAG ⟦<Implicit<RecipientKeyIdentifier<'a>, 0> as FormValue>⟧.value.contents)).encoding_is (tree_of v) };
+    ghost encoding_is = { ⟦<KeyAgreeRecipientIdentifier<'a> as Choosing>⟧.choice.has_tag.encoding_is };
 
     ghost accepted_is_tlv = { λ rules v b. elim v as (λ k. ⟦<Tree<'a> as Form>⟧.accepts rules (tree_of k) b → IsTlv b) [ of.IssuerAndSerialNumber x ↦ λ a. tlv_tagged _ ⟦<IssuerAndSerialNumber<'a> as FormValue>⟧.value.accepts rules x b a.0 | of.RKeyId x ↦ λ a. tlv_tagged _ ⟦<Implicit<RecipientKeyIdentifier<'a>, 0> as FormValue>⟧.value.accepts rules x b a.0 ] };
 
-    ghost own_tag = { λ v. (either_tag ⟦<IssuerAndSerialNumber<'a> as Form>⟧ ⟦<Implicit<RecipientKeyIdentifier<'a>, 0> as Form>⟧
-        (one_tag ⟦<SequenceTag as TagMarker>⟧.TAG ⟦<IssuerAndSerialNumber<'a> as FormValue>⟧.value.contents)
-        (one_tag ⟦<ImplicitTag<SequenceTag, 0> as TagMarker>⟧.TAG ⟦<Implicit<RecipientKeyIdentifier<'a>, 0> as FormValue>⟧.value.contents)).own_tag (tree_of v) };
+    ghost own_tag = { ⟦<KeyAgreeRecipientIdentifier<'a> as Choosing>⟧.choice.has_tag.own_tag };
 
-    ghost first_tag_is = { λ v. (either_tag ⟦<IssuerAndSerialNumber<'a> as Form>⟧ ⟦<Implicit<RecipientKeyIdentifier<'a>, 0> as Form>⟧
-        (one_tag ⟦<SequenceTag as TagMarker>⟧.TAG ⟦<IssuerAndSerialNumber<'a> as FormValue>⟧.value.contents)
-        (one_tag ⟦<ImplicitTag<SequenceTag, 0> as TagMarker>⟧.TAG ⟦<Implicit<RecipientKeyIdentifier<'a>, 0> as FormValue>⟧.value.contents)).first_tag_is (tree_of v) };
+    ghost first_tag_is = { ⟦<KeyAgreeRecipientIdentifier<'a> as Choosing>⟧.choice.has_tag.first_tag_is };
 
     ghost re_reads_alike = { λ v. elim v as (λ k. ⟦<Tree<'a> as FormValue>⟧.value.re_reads (tree_of k) ≡ true → ⟦<Tree<'a> as Form>⟧.re_reads (tree_of k) ≡ true) [ of.IssuerAndSerialNumber x ↦ λ h. h | of.RKeyId x ↦ λ h. h ] };
 
@@ -215,14 +208,16 @@ impl<'a> DerOrd for KeyAgreeRecipientIdentifier<'a> {
     }
 }
 
+impl<'a> Choosing for KeyAgreeRecipientIdentifier<'a> {
+    ghost choice = { seen_choice tree_of ⟦<KeyAgreeRecipientIdentifier<'a> as PartialEq>⟧.eq ⟦<Tree<'a> as Choosing>⟧.choice
+        (λ v w. elim v as (λ k. ⟦<KeyAgreeRecipientIdentifier<'a> as PartialEq>⟧.eq k w ≡ ⟦<Tree<'a> as Choosing>⟧.choice.eq (tree_of k) (tree_of w)) [
+          | of.IssuerAndSerialNumber x ↦ elim w as (λ k. ⟦<KeyAgreeRecipientIdentifier<'a> as PartialEq>⟧.eq (of.IssuerAndSerialNumber x) k ≡ ⟦<Tree<'a> as Choosing>⟧.choice.eq (tree_of (of.IssuerAndSerialNumber x)) (tree_of k)) [ of.IssuerAndSerialNumber y ↦ refl | of.RKeyId y ↦ refl ]
+          | of.RKeyId x ↦ elim w as (λ k. ⟦<KeyAgreeRecipientIdentifier<'a> as PartialEq>⟧.eq (of.RKeyId x) k ≡ ⟦<Tree<'a> as Choosing>⟧.choice.eq (tree_of (of.RKeyId x)) (tree_of k)) [ of.IssuerAndSerialNumber y ↦ refl | of.RKeyId y ↦ refl ]
+        ]) };
+}
+
 impl<'a> EncodingEq for KeyAgreeRecipientIdentifier<'a> {
-    ghost encoding_eq = { seen_equality tree_of ⟦<KeyAgreeRecipientIdentifier<'a> as PartialEq>⟧.eq ⟦<Tree<'a> as PartialEq>⟧.eq (λ v w. elim v as (λ k. ⟦<KeyAgreeRecipientIdentifier<'a> as PartialEq>⟧.eq k w ≡ ⟦<Tree<'a> as PartialEq>⟧.eq (tree_of k) (tree_of w)) [ of.IssuerAndSerialNumber x ↦ elim w as (λ k. ⟦<KeyAgreeRecipientIdentifier<'a> as PartialEq>⟧.eq (of.IssuerAndSerialNumber x) k ≡ ⟦<Tree<'a> as PartialEq>⟧.eq (tree_of (of.IssuerAndSerialNumber x)) (tree_of k)) [ of.IssuerAndSerialNumber y ↦ refl | of.RKeyId y ↦ refl ] | of.RKeyId x ↦ elim w as (λ k. ⟦<KeyAgreeRecipientIdentifier<'a> as PartialEq>⟧.eq (of.RKeyId x) k ≡ ⟦<Tree<'a> as PartialEq>⟧.eq (tree_of (of.RKeyId x)) (tree_of k)) [ of.IssuerAndSerialNumber y ↦ refl | of.RKeyId y ↦ refl ] ]) (either_equality ⟦<IssuerAndSerialNumber<'a> as Form>⟧ ⟦<Implicit<RecipientKeyIdentifier<'a>, 0> as Form>⟧
-        (one_tag ⟦<SequenceTag as TagMarker>⟧.TAG ⟦<IssuerAndSerialNumber<'a> as FormValue>⟧.value.contents)
-        (one_tag ⟦<ImplicitTag<SequenceTag, 0> as TagMarker>⟧.TAG ⟦<Implicit<RecipientKeyIdentifier<'a>, 0> as FormValue>⟧.value.contents)
-        ⟦<IssuerAndSerialNumber<'a> as PartialEq>⟧.eq ⟦<Implicit<RecipientKeyIdentifier<'a>, 0> as PartialEq>⟧.eq
-        (one_tag_equality ⟦<SequenceTag as TagMarker>⟧.TAG ⟦<IssuerAndSerialNumber<'a> as FormValue>⟧.value.contents ⟦<IssuerAndSerialNumber<'a> as FormValue>⟧.value.comparable ⟦<IssuerAndSerialNumber<'a> as PartialEq>⟧.eq issuer_and_serial_number_contents_eq.contents_eq-law)
-        (one_tag_equality ⟦<ImplicitTag<SequenceTag, 0> as TagMarker>⟧.TAG ⟦<Implicit<RecipientKeyIdentifier<'a>, 0> as FormValue>⟧.value.contents ⟦<Implicit<RecipientKeyIdentifier<'a>, 0> as FormValue>⟧.value.comparable ⟦<Implicit<RecipientKeyIdentifier<'a>, 0> as PartialEq>⟧.eq (λ v w. (recipient_key_identifier_contents_eq.contents_eq-law v.value w.value)))
-        ⟦<OneOf<IssuerAndSerialNumber<'a>, Implicit<RecipientKeyIdentifier<'a>, 0>> as PartialEq>⟧.eq (λ v x. refl) (λ w y. refl) (λ v w. refl) (λ w v. refl)) };
+    ghost encoding_eq = { ⟦<KeyAgreeRecipientIdentifier<'a> as Choosing>⟧.choice.equal };
 }
 
 impl<'a> CopyLaws for KeyAgreeRecipientIdentifier<'a> {

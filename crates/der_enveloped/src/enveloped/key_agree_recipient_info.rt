@@ -4,31 +4,22 @@
 
 ghost use Rattle.std.specs.Prelude.{◌∷◌, ◌≡◌, [], false, refl};
 ghost use Rattle.der_elem.specs.FormatMakers.{mapped_format};
-ghost use Rattle.der_elem.specs.contracts.integer.unsigned.U8ContentsEq.TheImpl.Laws as u8_contents_eq;
 ghost use Rattle.der_enveloped.specs.Enveloped.Grammar.{key_agree_recipient_info};
 ghost use Rattle.der_enveloped.specs.Enveloped.KeyAgreeRecipientInfo as key_agree_recipient_info_fields;
-ghost use Rattle.der_enveloped.specs.contracts.enveloped.originator_identifier_or_key.OriginatorIdentifierOrKeyEncodingEq.TheImpl.Laws as originator_identifier_or_key_encoding_eq;
-ghost use Rattle.der_enveloped.specs.contracts.enveloped.originator_identifier_or_key.OriginatorIdentifierOrKeyTagged.TheImpl.Laws as originator_identifier_or_key_tagged;
-ghost use Rattle.der_enveloped.specs.contracts.enveloped.recipient_encrypted_keys.RecipientEncryptedKeysContentsEq.TheImpl.Laws as recipient_encrypted_keys_contents_eq;
 ghost use Rattle.der_enveloped.specs.declared.enveloped.key_agree_recipient_info.KeyAgreeRecipientInfo.{KeyAgreeRecipientInfo};
 ghost use Rattle.der_modules.specs.Asn1.{context, explicit_encoding, joined, optional, parse_of};
-ghost use Rattle.der_modules.specs.MemberLaws.{member_equality, no_equality, one_tag, one_tag_equality, optional_equality, optional_starts, own_tags, tagged_starts};
-ghost use Rattle.der_opaque.specs.contracts.octet_string_ref.OctetStringRefContentsEq.TheImpl.Laws as octetstringref_contents_eq;
-ghost use Rattle.der_pkix.specs.contracts.algorithm_identifier.AlgorithmIdentifierContentsEq.TheImpl.Laws as algorithm_identifier_contents_eq;
+ghost use Rattle.der_modules.specs.Members.{field, no_fields, optional_field, struct_member};
 
 use crate::enveloped::aliases::UserKeyingMaterial;
 use crate::enveloped::originator_identifier_or_key::OriginatorIdentifierOrKey;
 use crate::enveloped::recipient_encrypted_keys::RecipientEncryptedKeys;
 use der_cms::cms::CmsVersion;
 use der_elem::{
-    ContentsEq, CopyIsDuplicate, DecodeValue, EncodeValue, Form, FormValue, IntegerTag,
-    OctetStringTag, OneTag, Sequence, SequenceTag, TagMarker, Tagged, ValueOrd,
+    ContentsEq, CopyIsDuplicate, DecodeValue, EncodeValue, Form, FormValue, OneTag, Sequence,
+    SequenceTag, TagMarker, ValueOrd,
 };
-use der_fields::{
-    DecodeFields, EncodeFields, End, Explicit, ExplicitTag, Field, FieldList, Fields5, FieldsOrd,
-};
-use der_modules::copy_of;
-use der_opaque::OctetStringRef;
+use der_fields::{DecodeFields, EncodeFields, Explicit, FieldList, Fields5, FieldsOrd};
+use der_modules::{Member, copy_of, field_list, if_present, tagged};
 use der_pkix::AlgorithmIdentifier;
 use der_tlv::{BackWriter, Error, Header, Length, Source, Writer};
 use std::alloc::Global;
@@ -77,26 +68,13 @@ impl<'a> KeyAgreeRecipientInfo<'a> {
         ensures key_encryption_algorithm { key_agree_recipient_info_fields.key_encryption_algorithm result ≡ key_encryption_algorithm.now }
         ensures recipient_encrypted_keys { key_agree_recipient_info_fields.recipient_encrypted_keys result ≡ recipient_encrypted_keys.now }
     {
-        let first = copy_of(recipient_encrypted_keys);
-        let rest = Field { first, rest: End };
-        let first = copy_of(key_encryption_algorithm);
-        let rest = Field { first, rest };
-        let first = match ukm {
-            Some(first) => Some(Explicit {
-                fields: Field { first, rest: End },
-            }),
-            None => None,
-        };
-        let rest = Field { first, rest };
-        let first = Explicit {
-            fields: Field {
-                first: copy_of(originator),
-                rest: End,
-            },
-        };
-        let rest = Field { first, rest };
-        let first = version;
-        let list = Field { first, rest };
+        let list = field_list![
+            version,
+            tagged!(Explicit, copy_of(originator)),
+            if_present!(value in ukm => tagged!(Explicit, value)),
+            copy_of(key_encryption_algorithm),
+            copy_of(recipient_encrypted_keys)
+        ];
         let fields = Fields5 { list };
         KeyAgreeRecipientInfo { fields }
     }
@@ -119,10 +97,7 @@ impl<'a> KeyAgreeRecipientInfo<'a> {
     pub fn ukm(&self) -> Option<&UserKeyingMaterial<'a>>
         ensures { option_copied result ≡ key_agree_recipient_info_fields.ukm self.now }
     {
-        match &self.fields.list.rest.rest.first {
-            Some(value) => Some(&value.fields.first),
-            None => None,
-        }
+        if_present!(value in &self.fields.list.rest.rest.first => &value.fields.first)
     }
 
     /// `keyEncryptionAlgorithm`, `AlgorithmIdentifier`.
@@ -203,36 +178,18 @@ impl<'a> ValueOrd for KeyAgreeRecipientInfo<'a> {
     }
 }
 
+impl<'a> Member for KeyAgreeRecipientInfo<'a> {
+    ghost member = { struct_member ⟦<SequenceTag as TagMarker>⟧.TAG (λ v. v.fields.list)
+        (field ⟦<CmsVersion as Member>⟧.member
+        (field ⟦<Explicit<OriginatorIdentifierOrKey<'a>, 0> as Member>⟧.member
+        (optional_field ⟦<Explicit<UserKeyingMaterial<'a>, 1> as Member>⟧.member
+        (field ⟦<AlgorithmIdentifier<'a> as Member>⟧.member
+        (field ⟦<RecipientEncryptedKeys<'a> as Member>⟧.member
+        no_fields))))) };
+}
+
 impl<'a> ContentsEq for KeyAgreeRecipientInfo<'a> {
-    ghost contents_eq = { λ v w. (member_equality ⟦<CmsVersion as Form>⟧
-        (tagged_starts ⟦<CmsVersion as Form>⟧ (one_tag ⟦<IntegerTag as TagMarker>⟧.TAG ⟦<u8 as FormValue>⟧.value.contents))
-        ⟦<CmsVersion as PartialEq>⟧.eq
-        (one_tag_equality ⟦<IntegerTag as TagMarker>⟧.TAG ⟦<u8 as FormValue>⟧.value.contents ⟦<u8 as FormValue>⟧.value.comparable ⟦<u8 as PartialEq>⟧.eq u8_contents_eq.contents_eq-law)
-        (member_equality ⟦<Explicit<OriginatorIdentifierOrKey<'a>, 0> as Form>⟧
-        (tagged_starts ⟦<Explicit<OriginatorIdentifierOrKey<'a>, 0> as Form>⟧ (one_tag ⟦<ExplicitTag<0> as TagMarker>⟧.TAG ⟦<Explicit<OriginatorIdentifierOrKey<'a>, 0> as FormValue>⟧.value.contents))
-        ⟦<Explicit<OriginatorIdentifierOrKey<'a>, 0> as PartialEq>⟧.eq
-        (one_tag_equality ⟦<ExplicitTag<0> as TagMarker>⟧.TAG ⟦<Explicit<OriginatorIdentifierOrKey<'a>, 0> as FormValue>⟧.value.contents ⟦<Explicit<OriginatorIdentifierOrKey<'a>, 0> as FormValue>⟧.value.comparable ⟦<Explicit<OriginatorIdentifierOrKey<'a>, 0> as PartialEq>⟧.eq (λ v w. ((member_equality ⟦<OriginatorIdentifierOrKey<'a> as Form>⟧
-        (tagged_starts ⟦<OriginatorIdentifierOrKey<'a> as Form>⟧ (own_tags ⟦<OriginatorIdentifierOrKey<'a> as Form>⟧.tags ⟦<OriginatorIdentifierOrKey<'a> as Form>⟧.first_tag_of ⟦<OriginatorIdentifierOrKey<'a> as Form>⟧.encoding ⟦<OriginatorIdentifierOrKey<'a> as Tagged>⟧.tag_of ⟦<OriginatorIdentifierOrKey<'a> as FormValue>⟧.value.contents originator_identifier_or_key_tagged.encoding_is-law originator_identifier_or_key_tagged.own_tag-law originator_identifier_or_key_tagged.first_tag_is-law))
-        ⟦<OriginatorIdentifierOrKey<'a> as PartialEq>⟧.eq
-        originator_identifier_or_key_encoding_eq.encoding_eq-law
-        no_equality).equal v.fields w.fields)))
-        (member_equality ⟦<Option<Explicit<UserKeyingMaterial<'a>, 1>> as Form>⟧
-        (optional_starts ⟦<Explicit<UserKeyingMaterial<'a>, 1> as Form>⟧ (one_tag ⟦<ExplicitTag<1> as TagMarker>⟧.TAG ⟦<Explicit<UserKeyingMaterial<'a>, 1> as FormValue>⟧.value.contents))
-        ⟦<Option<Explicit<UserKeyingMaterial<'a>, 1>> as PartialEq>⟧.eq
-        (optional_equality ⟦<Explicit<UserKeyingMaterial<'a>, 1> as Form>⟧ (one_tag ⟦<ExplicitTag<1> as TagMarker>⟧.TAG ⟦<Explicit<UserKeyingMaterial<'a>, 1> as FormValue>⟧.value.contents) ⟦<Explicit<UserKeyingMaterial<'a>, 1> as PartialEq>⟧.eq (one_tag_equality ⟦<ExplicitTag<1> as TagMarker>⟧.TAG ⟦<Explicit<UserKeyingMaterial<'a>, 1> as FormValue>⟧.value.contents ⟦<Explicit<UserKeyingMaterial<'a>, 1> as FormValue>⟧.value.comparable ⟦<Explicit<UserKeyingMaterial<'a>, 1> as PartialEq>⟧.eq (λ v w. ((member_equality ⟦<UserKeyingMaterial<'a> as Form>⟧
-        (tagged_starts ⟦<UserKeyingMaterial<'a> as Form>⟧ (one_tag ⟦<OctetStringTag as TagMarker>⟧.TAG ⟦<OctetStringRef<'a> as FormValue>⟧.value.contents))
-        ⟦<UserKeyingMaterial<'a> as PartialEq>⟧.eq
-        (one_tag_equality ⟦<OctetStringTag as TagMarker>⟧.TAG ⟦<OctetStringRef<'a> as FormValue>⟧.value.contents ⟦<OctetStringRef<'a> as FormValue>⟧.value.comparable ⟦<OctetStringRef<'a> as PartialEq>⟧.eq octetstringref_contents_eq.contents_eq-law)
-        no_equality).equal v.fields w.fields))))
-        (member_equality ⟦<AlgorithmIdentifier<'a> as Form>⟧
-        (tagged_starts ⟦<AlgorithmIdentifier<'a> as Form>⟧ (one_tag ⟦<SequenceTag as TagMarker>⟧.TAG ⟦<AlgorithmIdentifier<'a> as FormValue>⟧.value.contents))
-        ⟦<AlgorithmIdentifier<'a> as PartialEq>⟧.eq
-        (one_tag_equality ⟦<SequenceTag as TagMarker>⟧.TAG ⟦<AlgorithmIdentifier<'a> as FormValue>⟧.value.contents ⟦<AlgorithmIdentifier<'a> as FormValue>⟧.value.comparable ⟦<AlgorithmIdentifier<'a> as PartialEq>⟧.eq algorithm_identifier_contents_eq.contents_eq-law)
-        (member_equality ⟦<RecipientEncryptedKeys<'a> as Form>⟧
-        (tagged_starts ⟦<RecipientEncryptedKeys<'a> as Form>⟧ (one_tag ⟦<SequenceTag as TagMarker>⟧.TAG ⟦<RecipientEncryptedKeys<'a> as FormValue>⟧.value.contents))
-        ⟦<RecipientEncryptedKeys<'a> as PartialEq>⟧.eq
-        (one_tag_equality ⟦<SequenceTag as TagMarker>⟧.TAG ⟦<RecipientEncryptedKeys<'a> as FormValue>⟧.value.contents ⟦<RecipientEncryptedKeys<'a> as FormValue>⟧.value.comparable ⟦<RecipientEncryptedKeys<'a> as PartialEq>⟧.eq recipient_encrypted_keys_contents_eq.contents_eq-law)
-        no_equality))))).equal v.fields.list w.fields.list };
+    ghost contents_eq = { ⟦<KeyAgreeRecipientInfo<'a> as Member>⟧.member.equal };
 }
 
 impl<'a> CopyIsDuplicate for KeyAgreeRecipientInfo<'a> {}

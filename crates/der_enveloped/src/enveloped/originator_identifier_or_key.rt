@@ -3,7 +3,6 @@
 //! Made by tools/asn1 from enveloped.asn1.
 
 ghost use Rattle.std.specs.Prelude.{◌≡◌, false, refl, true};
-ghost use Rattle.der_cms.specs.contracts.cms.issuer_and_serial_number.IssuerAndSerialNumberContentsEq.TheImpl.Laws as issuer_and_serial_number_contents_eq;
 ghost use Rattle.der_elem.specs.Accepting.{IsTlv};
 ghost use Rattle.der_elem.specs.FirstTags.{HasFirstTag};
 ghost use Rattle.der_elem.specs.FormatMakers.{mapped_format};
@@ -14,19 +13,18 @@ ghost use Rattle.der_enveloped.specs.Enveloped.OriginatorIdentifierOrKey.{tree_o
 ghost use Rattle.der_enveloped.specs.contracts.enveloped.originator_identifier_or_key.OriginatorIdentifierOrKeyEq.TheImpl.Laws as originator_identifier_or_key_eq;
 ghost use Rattle.der_enveloped.specs.declared.enveloped.originator_identifier_or_key.OriginatorIdentifierOrKey.TheVariants as of;
 ghost use Rattle.der_modules.specs.Asn1.{parse_of};
-ghost use Rattle.der_modules.specs.MemberLaws.{copies_of, either_equality, either_tag, one_tag, one_tag_equality, same_copies, seen_equality};
-ghost use Rattle.der_opaque.specs.contracts.octet_string_ref.OctetStringRefContentsEq.TheImpl.Laws as octetstringref_contents_eq;
-ghost use Rattle.der_pkix.specs.contracts.certificate.subject_public_key_info.SubjectPublicKeyInfoContentsEq.TheImpl.Laws as subject_public_key_info_contents_eq;
+ghost use Rattle.der_modules.specs.MemberLaws.{copies_of, same_copies};
+ghost use Rattle.der_modules.specs.Members.{seen_choice};
 
 use crate::enveloped::aliases::OriginatorPublicKey;
 use der_cms::cms::IssuerAndSerialNumber;
 use der_elem::{
     Choice, Decode, DecodeField, DerOrd, Duplicate, DuplicateIsEqual, EncodeValue, EncodingEq,
-    Form, FormValue, KnownTags, OctetStringTag, SequenceTag, TagMarker, Tagged,
+    Form, FormValue, KnownTags, Tagged,
 };
 use der_extensions::extension::SubjectKeyIdentifier;
-use der_fields::{Implicit, ImplicitTag, OneOf, cmp_headers};
-use der_modules::{CopyLaws, copy_of};
+use der_fields::{Implicit, OneOf, cmp_headers};
+use der_modules::{Choosing, CopyLaws, copy_of};
 use der_tlv::{BackWriter, Error, Length, Source, Tag, Writer};
 use std::alloc::Global;
 use std::cmp::Ordering;
@@ -111,25 +109,13 @@ impl<'a> Tagged for OriginatorIdentifierOrKey<'a> {
         }
     }
 
-    ghost encoding_is = { λ v. (either_tag ⟦<OneOf<IssuerAndSerialNumber<'a>, Implicit<SubjectKeyIdentifier<'a>, 0>> as Form>⟧ ⟦<Implicit<OriginatorPublicKey<'a>, 1> as Form>⟧
-        (either_tag ⟦<IssuerAndSerialNumber<'a> as Form>⟧ ⟦<Implicit<SubjectKeyIdentifier<'a>, 0> as Form>⟧
-        (one_tag ⟦<SequenceTag as TagMarker>⟧.TAG ⟦<IssuerAndSerialNumber<'a> as FormValue>⟧.value.contents)
-        (one_tag ⟦<ImplicitTag<OctetStringTag, 0> as TagMarker>⟧.TAG ⟦<Implicit<SubjectKeyIdentifier<'a>, 0> as FormValue>⟧.value.contents))
-        (one_tag ⟦<ImplicitTag<SequenceTag, 1> as TagMarker>⟧.TAG ⟦<Implicit<OriginatorPublicKey<'a>, 1> as FormValue>⟧.value.contents)).encoding_is (tree_of v) };
+    ghost encoding_is = { ⟦<OriginatorIdentifierOrKey<'a> as Choosing>⟧.choice.has_tag.encoding_is };
 
     ghost accepted_is_tlv = { λ rules v b. elim v as (λ k. ⟦<Tree<'a> as Form>⟧.accepts rules (tree_of k) b → IsTlv b) [ of.IssuerAndSerialNumber x ↦ λ a. tlv_tagged _ ⟦<IssuerAndSerialNumber<'a> as FormValue>⟧.value.accepts rules x b a.0.0 | of.SubjectKeyIdentifier x ↦ λ a. tlv_tagged _ ⟦<Implicit<SubjectKeyIdentifier<'a>, 0> as FormValue>⟧.value.accepts rules x b a.0.0 | of.OriginatorKey x ↦ λ a. tlv_tagged _ ⟦<Implicit<OriginatorPublicKey<'a>, 1> as FormValue>⟧.value.accepts rules x b a.0 ] };
 
-    ghost own_tag = { λ v. (either_tag ⟦<OneOf<IssuerAndSerialNumber<'a>, Implicit<SubjectKeyIdentifier<'a>, 0>> as Form>⟧ ⟦<Implicit<OriginatorPublicKey<'a>, 1> as Form>⟧
-        (either_tag ⟦<IssuerAndSerialNumber<'a> as Form>⟧ ⟦<Implicit<SubjectKeyIdentifier<'a>, 0> as Form>⟧
-        (one_tag ⟦<SequenceTag as TagMarker>⟧.TAG ⟦<IssuerAndSerialNumber<'a> as FormValue>⟧.value.contents)
-        (one_tag ⟦<ImplicitTag<OctetStringTag, 0> as TagMarker>⟧.TAG ⟦<Implicit<SubjectKeyIdentifier<'a>, 0> as FormValue>⟧.value.contents))
-        (one_tag ⟦<ImplicitTag<SequenceTag, 1> as TagMarker>⟧.TAG ⟦<Implicit<OriginatorPublicKey<'a>, 1> as FormValue>⟧.value.contents)).own_tag (tree_of v) };
+    ghost own_tag = { ⟦<OriginatorIdentifierOrKey<'a> as Choosing>⟧.choice.has_tag.own_tag };
 
-    ghost first_tag_is = { λ v. (either_tag ⟦<OneOf<IssuerAndSerialNumber<'a>, Implicit<SubjectKeyIdentifier<'a>, 0>> as Form>⟧ ⟦<Implicit<OriginatorPublicKey<'a>, 1> as Form>⟧
-        (either_tag ⟦<IssuerAndSerialNumber<'a> as Form>⟧ ⟦<Implicit<SubjectKeyIdentifier<'a>, 0> as Form>⟧
-        (one_tag ⟦<SequenceTag as TagMarker>⟧.TAG ⟦<IssuerAndSerialNumber<'a> as FormValue>⟧.value.contents)
-        (one_tag ⟦<ImplicitTag<OctetStringTag, 0> as TagMarker>⟧.TAG ⟦<Implicit<SubjectKeyIdentifier<'a>, 0> as FormValue>⟧.value.contents))
-        (one_tag ⟦<ImplicitTag<SequenceTag, 1> as TagMarker>⟧.TAG ⟦<Implicit<OriginatorPublicKey<'a>, 1> as FormValue>⟧.value.contents)).first_tag_is (tree_of v) };
+    ghost first_tag_is = { ⟦<OriginatorIdentifierOrKey<'a> as Choosing>⟧.choice.has_tag.first_tag_is };
 
     ghost re_reads_alike = { λ v. elim v as (λ k. ⟦<Tree<'a> as FormValue>⟧.value.re_reads (tree_of k) ≡ true → ⟦<Tree<'a> as Form>⟧.re_reads (tree_of k) ≡ true) [ of.IssuerAndSerialNumber x ↦ λ h. h | of.SubjectKeyIdentifier x ↦ λ h. h | of.OriginatorKey x ↦ λ h. h ] };
 
@@ -239,22 +225,17 @@ impl<'a> DerOrd for OriginatorIdentifierOrKey<'a> {
     }
 }
 
+impl<'a> Choosing for OriginatorIdentifierOrKey<'a> {
+    ghost choice = { seen_choice tree_of ⟦<OriginatorIdentifierOrKey<'a> as PartialEq>⟧.eq ⟦<Tree<'a> as Choosing>⟧.choice
+        (λ v w. elim v as (λ k. ⟦<OriginatorIdentifierOrKey<'a> as PartialEq>⟧.eq k w ≡ ⟦<Tree<'a> as Choosing>⟧.choice.eq (tree_of k) (tree_of w)) [
+          | of.IssuerAndSerialNumber x ↦ elim w as (λ k. ⟦<OriginatorIdentifierOrKey<'a> as PartialEq>⟧.eq (of.IssuerAndSerialNumber x) k ≡ ⟦<Tree<'a> as Choosing>⟧.choice.eq (tree_of (of.IssuerAndSerialNumber x)) (tree_of k)) [ of.IssuerAndSerialNumber y ↦ refl | of.SubjectKeyIdentifier y ↦ refl | of.OriginatorKey y ↦ refl ]
+          | of.SubjectKeyIdentifier x ↦ elim w as (λ k. ⟦<OriginatorIdentifierOrKey<'a> as PartialEq>⟧.eq (of.SubjectKeyIdentifier x) k ≡ ⟦<Tree<'a> as Choosing>⟧.choice.eq (tree_of (of.SubjectKeyIdentifier x)) (tree_of k)) [ of.IssuerAndSerialNumber y ↦ refl | of.SubjectKeyIdentifier y ↦ refl | of.OriginatorKey y ↦ refl ]
+          | of.OriginatorKey x ↦ elim w as (λ k. ⟦<OriginatorIdentifierOrKey<'a> as PartialEq>⟧.eq (of.OriginatorKey x) k ≡ ⟦<Tree<'a> as Choosing>⟧.choice.eq (tree_of (of.OriginatorKey x)) (tree_of k)) [ of.IssuerAndSerialNumber y ↦ refl | of.SubjectKeyIdentifier y ↦ refl | of.OriginatorKey y ↦ refl ]
+        ]) };
+}
+
 impl<'a> EncodingEq for OriginatorIdentifierOrKey<'a> {
-    ghost encoding_eq = { seen_equality tree_of ⟦<OriginatorIdentifierOrKey<'a> as PartialEq>⟧.eq ⟦<Tree<'a> as PartialEq>⟧.eq (λ v w. elim v as (λ k. ⟦<OriginatorIdentifierOrKey<'a> as PartialEq>⟧.eq k w ≡ ⟦<Tree<'a> as PartialEq>⟧.eq (tree_of k) (tree_of w)) [ of.IssuerAndSerialNumber x ↦ elim w as (λ k. ⟦<OriginatorIdentifierOrKey<'a> as PartialEq>⟧.eq (of.IssuerAndSerialNumber x) k ≡ ⟦<Tree<'a> as PartialEq>⟧.eq (tree_of (of.IssuerAndSerialNumber x)) (tree_of k)) [ of.IssuerAndSerialNumber y ↦ refl | of.SubjectKeyIdentifier y ↦ refl | of.OriginatorKey y ↦ refl ] | of.SubjectKeyIdentifier x ↦ elim w as (λ k. ⟦<OriginatorIdentifierOrKey<'a> as PartialEq>⟧.eq (of.SubjectKeyIdentifier x) k ≡ ⟦<Tree<'a> as PartialEq>⟧.eq (tree_of (of.SubjectKeyIdentifier x)) (tree_of k)) [ of.IssuerAndSerialNumber y ↦ refl | of.SubjectKeyIdentifier y ↦ refl | of.OriginatorKey y ↦ refl ] | of.OriginatorKey x ↦ elim w as (λ k. ⟦<OriginatorIdentifierOrKey<'a> as PartialEq>⟧.eq (of.OriginatorKey x) k ≡ ⟦<Tree<'a> as PartialEq>⟧.eq (tree_of (of.OriginatorKey x)) (tree_of k)) [ of.IssuerAndSerialNumber y ↦ refl | of.SubjectKeyIdentifier y ↦ refl | of.OriginatorKey y ↦ refl ] ]) (either_equality ⟦<OneOf<IssuerAndSerialNumber<'a>, Implicit<SubjectKeyIdentifier<'a>, 0>> as Form>⟧ ⟦<Implicit<OriginatorPublicKey<'a>, 1> as Form>⟧
-        (either_tag ⟦<IssuerAndSerialNumber<'a> as Form>⟧ ⟦<Implicit<SubjectKeyIdentifier<'a>, 0> as Form>⟧
-        (one_tag ⟦<SequenceTag as TagMarker>⟧.TAG ⟦<IssuerAndSerialNumber<'a> as FormValue>⟧.value.contents)
-        (one_tag ⟦<ImplicitTag<OctetStringTag, 0> as TagMarker>⟧.TAG ⟦<Implicit<SubjectKeyIdentifier<'a>, 0> as FormValue>⟧.value.contents))
-        (one_tag ⟦<ImplicitTag<SequenceTag, 1> as TagMarker>⟧.TAG ⟦<Implicit<OriginatorPublicKey<'a>, 1> as FormValue>⟧.value.contents)
-        ⟦<OneOf<IssuerAndSerialNumber<'a>, Implicit<SubjectKeyIdentifier<'a>, 0>> as PartialEq>⟧.eq ⟦<Implicit<OriginatorPublicKey<'a>, 1> as PartialEq>⟧.eq
-        (either_equality ⟦<IssuerAndSerialNumber<'a> as Form>⟧ ⟦<Implicit<SubjectKeyIdentifier<'a>, 0> as Form>⟧
-        (one_tag ⟦<SequenceTag as TagMarker>⟧.TAG ⟦<IssuerAndSerialNumber<'a> as FormValue>⟧.value.contents)
-        (one_tag ⟦<ImplicitTag<OctetStringTag, 0> as TagMarker>⟧.TAG ⟦<Implicit<SubjectKeyIdentifier<'a>, 0> as FormValue>⟧.value.contents)
-        ⟦<IssuerAndSerialNumber<'a> as PartialEq>⟧.eq ⟦<Implicit<SubjectKeyIdentifier<'a>, 0> as PartialEq>⟧.eq
-        (one_tag_equality ⟦<SequenceTag as TagMarker>⟧.TAG ⟦<IssuerAndSerialNumber<'a> as FormValue>⟧.value.contents ⟦<IssuerAndSerialNumber<'a> as FormValue>⟧.value.comparable ⟦<IssuerAndSerialNumber<'a> as PartialEq>⟧.eq issuer_and_serial_number_contents_eq.contents_eq-law)
-        (one_tag_equality ⟦<ImplicitTag<OctetStringTag, 0> as TagMarker>⟧.TAG ⟦<Implicit<SubjectKeyIdentifier<'a>, 0> as FormValue>⟧.value.contents ⟦<Implicit<SubjectKeyIdentifier<'a>, 0> as FormValue>⟧.value.comparable ⟦<Implicit<SubjectKeyIdentifier<'a>, 0> as PartialEq>⟧.eq (λ v w. (octetstringref_contents_eq.contents_eq-law v.value w.value)))
-        ⟦<OneOf<IssuerAndSerialNumber<'a>, Implicit<SubjectKeyIdentifier<'a>, 0>> as PartialEq>⟧.eq (λ v x. refl) (λ w y. refl) (λ v w. refl) (λ w v. refl))
-        (one_tag_equality ⟦<ImplicitTag<SequenceTag, 1> as TagMarker>⟧.TAG ⟦<Implicit<OriginatorPublicKey<'a>, 1> as FormValue>⟧.value.contents ⟦<Implicit<OriginatorPublicKey<'a>, 1> as FormValue>⟧.value.comparable ⟦<Implicit<OriginatorPublicKey<'a>, 1> as PartialEq>⟧.eq (λ v w. (subject_public_key_info_contents_eq.contents_eq-law v.value w.value)))
-        ⟦<OneOf<OneOf<IssuerAndSerialNumber<'a>, Implicit<SubjectKeyIdentifier<'a>, 0>>, Implicit<OriginatorPublicKey<'a>, 1>> as PartialEq>⟧.eq (λ v x. refl) (λ w y. refl) (λ v w. refl) (λ w v. refl)) };
+    ghost encoding_eq = { ⟦<OriginatorIdentifierOrKey<'a> as Choosing>⟧.choice.equal };
 }
 
 impl<'a> CopyLaws for OriginatorIdentifierOrKey<'a> {

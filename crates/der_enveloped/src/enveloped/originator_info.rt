@@ -3,24 +3,20 @@
 //! Made by tools/asn1 from enveloped.asn1.
 
 ghost use Rattle.std.specs.Prelude.{◌∷◌, ◌≡◌, [], false, refl, true};
-ghost use Rattle.der_cms.specs.contracts.cms.certificate_set.CertificateSetContentsEq.TheImpl.Laws as certificate_set_contents_eq;
-ghost use Rattle.der_cms.specs.contracts.cms.revocation_info_choices.RevocationInfoChoicesContentsEq.TheImpl.Laws as revocation_info_choices_contents_eq;
 ghost use Rattle.der_elem.specs.FormatMakers.{mapped_format};
 ghost use Rattle.der_enveloped.specs.Enveloped.Grammar.{originator_info};
 ghost use Rattle.der_enveloped.specs.Enveloped.OriginatorInfo as originator_info_fields;
 ghost use Rattle.der_enveloped.specs.declared.enveloped.originator_info.OriginatorInfo.{OriginatorInfo};
 ghost use Rattle.der_modules.specs.Asn1.{context, implicit_encoding, joined, optional, parse_of};
-ghost use Rattle.der_modules.specs.MemberLaws.{member_equality, no_equality, one_tag, one_tag_equality, optional_equality, optional_starts};
+ghost use Rattle.der_modules.specs.Members.{no_fields, optional_field, struct_member};
 
 use der_cms::cms::{CertificateSet, RevocationInfoChoices};
 use der_elem::{
     ContentsEq, CopyIsDuplicate, DecodeValue, EncodeValue, Form, FormValue, OneTag, Sequence,
-    SequenceTag, SetTag, TagMarker, ValueOrd,
+    SequenceTag, TagMarker, ValueOrd,
 };
-use der_fields::{
-    DecodeFields, EncodeFields, End, Field, FieldList, Fields2, FieldsOrd, Implicit, ImplicitTag,
-};
-use der_modules::copy_of;
+use der_fields::{DecodeFields, EncodeFields, FieldList, Fields2, FieldsOrd, Implicit};
+use der_modules::{Member, copy_of, field_list, if_present};
 use der_tlv::{BackWriter, Error, Header, Length, Source, Writer};
 use std::alloc::Global;
 use std::cmp::Ordering;
@@ -56,20 +52,10 @@ impl<'a> OriginatorInfo<'a> {
         ensures certs { originator_info_fields.certs result ≡ option_copied certs.entry }
         ensures crls { originator_info_fields.crls result ≡ option_copied crls.entry }
     {
-        let first = match crls {
-            Some(value) => Some(Implicit {
-                value: copy_of(value),
-            }),
-            None => None,
-        };
-        let rest = Field { first, rest: End };
-        let first = match certs {
-            Some(value) => Some(Implicit {
-                value: copy_of(value),
-            }),
-            None => None,
-        };
-        let list = Field { first, rest };
+        let list = field_list![
+            if_present!(value in certs => Implicit { value: copy_of(value) }),
+            if_present!(value in crls => Implicit { value: copy_of(value) })
+        ];
         let fields = Fields2 { list };
         OriginatorInfo { fields }
     }
@@ -78,20 +64,14 @@ impl<'a> OriginatorInfo<'a> {
     pub fn certs(&self) -> Option<&CertificateSet<'a>>
         ensures { option_copied result ≡ originator_info_fields.certs self.now }
     {
-        match &self.fields.list.first {
-            Some(value) => Some(&value.value),
-            None => None,
-        }
+        if_present!(value in &self.fields.list.first => &value.value)
     }
 
     /// `crls`, `[1] IMPLICIT RevocationInfoChoices OPTIONAL`.
     pub fn crls(&self) -> Option<&RevocationInfoChoices<'a>>
         ensures { option_copied result ≡ originator_info_fields.crls self.now }
     {
-        match &self.fields.list.rest.first {
-            Some(value) => Some(&value.value),
-            None => None,
-        }
+        if_present!(value in &self.fields.list.rest.first => &value.value)
     }
 }
 
@@ -155,16 +135,15 @@ impl<'a> ValueOrd for OriginatorInfo<'a> {
     }
 }
 
+impl<'a> Member for OriginatorInfo<'a> {
+    ghost member = { struct_member ⟦<SequenceTag as TagMarker>⟧.TAG (λ v. v.fields.list)
+        (optional_field ⟦<Implicit<CertificateSet<'a>, 0> as Member>⟧.member
+        (optional_field ⟦<Implicit<RevocationInfoChoices<'a>, 1> as Member>⟧.member
+        no_fields)) };
+}
+
 impl<'a> ContentsEq for OriginatorInfo<'a> {
-    ghost contents_eq = { λ v w. (member_equality ⟦<Option<Implicit<CertificateSet<'a>, 0>> as Form>⟧
-        (optional_starts ⟦<Implicit<CertificateSet<'a>, 0> as Form>⟧ (one_tag ⟦<ImplicitTag<SetTag, 0> as TagMarker>⟧.TAG ⟦<Implicit<CertificateSet<'a>, 0> as FormValue>⟧.value.contents))
-        ⟦<Option<Implicit<CertificateSet<'a>, 0>> as PartialEq>⟧.eq
-        (optional_equality ⟦<Implicit<CertificateSet<'a>, 0> as Form>⟧ (one_tag ⟦<ImplicitTag<SetTag, 0> as TagMarker>⟧.TAG ⟦<Implicit<CertificateSet<'a>, 0> as FormValue>⟧.value.contents) ⟦<Implicit<CertificateSet<'a>, 0> as PartialEq>⟧.eq (one_tag_equality ⟦<ImplicitTag<SetTag, 0> as TagMarker>⟧.TAG ⟦<Implicit<CertificateSet<'a>, 0> as FormValue>⟧.value.contents ⟦<Implicit<CertificateSet<'a>, 0> as FormValue>⟧.value.comparable ⟦<Implicit<CertificateSet<'a>, 0> as PartialEq>⟧.eq (λ v w. (certificate_set_contents_eq.contents_eq-law v.value w.value))))
-        (member_equality ⟦<Option<Implicit<RevocationInfoChoices<'a>, 1>> as Form>⟧
-        (optional_starts ⟦<Implicit<RevocationInfoChoices<'a>, 1> as Form>⟧ (one_tag ⟦<ImplicitTag<SetTag, 1> as TagMarker>⟧.TAG ⟦<Implicit<RevocationInfoChoices<'a>, 1> as FormValue>⟧.value.contents))
-        ⟦<Option<Implicit<RevocationInfoChoices<'a>, 1>> as PartialEq>⟧.eq
-        (optional_equality ⟦<Implicit<RevocationInfoChoices<'a>, 1> as Form>⟧ (one_tag ⟦<ImplicitTag<SetTag, 1> as TagMarker>⟧.TAG ⟦<Implicit<RevocationInfoChoices<'a>, 1> as FormValue>⟧.value.contents) ⟦<Implicit<RevocationInfoChoices<'a>, 1> as PartialEq>⟧.eq (one_tag_equality ⟦<ImplicitTag<SetTag, 1> as TagMarker>⟧.TAG ⟦<Implicit<RevocationInfoChoices<'a>, 1> as FormValue>⟧.value.contents ⟦<Implicit<RevocationInfoChoices<'a>, 1> as FormValue>⟧.value.comparable ⟦<Implicit<RevocationInfoChoices<'a>, 1> as PartialEq>⟧.eq (λ v w. (revocation_info_choices_contents_eq.contents_eq-law v.value w.value))))
-        no_equality)).equal v.fields.list w.fields.list };
+    ghost contents_eq = { ⟦<OriginatorInfo<'a> as Member>⟧.member.equal };
 }
 
 impl<'a> CopyIsDuplicate for OriginatorInfo<'a> {}

@@ -4,24 +4,19 @@
 
 ghost use Rattle.std.specs.Prelude.{◌∷◌, ◌≡◌, [], false, refl, true};
 ghost use Rattle.der_elem.specs.FormatMakers.{mapped_format};
-ghost use Rattle.der_elem.specs.contracts.integer.unsigned.U8ContentsEq.TheImpl.Laws as u8_contents_eq;
 ghost use Rattle.der_enveloped.specs.Enveloped.Grammar.{password_recipient_info};
 ghost use Rattle.der_enveloped.specs.Enveloped.PasswordRecipientInfo as password_recipient_info_fields;
 ghost use Rattle.der_enveloped.specs.declared.enveloped.password_recipient_info.PasswordRecipientInfo.{PasswordRecipientInfo};
 ghost use Rattle.der_modules.specs.Asn1.{context, implicit_encoding, joined, optional, parse_of};
-ghost use Rattle.der_modules.specs.MemberLaws.{member_equality, no_equality, one_tag, one_tag_equality, optional_equality, optional_starts, tagged_starts};
-ghost use Rattle.der_opaque.specs.contracts.octet_string_ref.OctetStringRefContentsEq.TheImpl.Laws as octetstringref_contents_eq;
-ghost use Rattle.der_pkix.specs.contracts.algorithm_identifier.AlgorithmIdentifierContentsEq.TheImpl.Laws as algorithm_identifier_contents_eq;
+ghost use Rattle.der_modules.specs.Members.{field, no_fields, optional_field, struct_member};
 
 use der_cms::cms::CmsVersion;
 use der_elem::{
-    ContentsEq, CopyIsDuplicate, DecodeValue, EncodeValue, Form, FormValue, IntegerTag,
-    OctetStringTag, OneTag, Sequence, SequenceTag, TagMarker, ValueOrd,
+    ContentsEq, CopyIsDuplicate, DecodeValue, EncodeValue, Form, FormValue, OneTag, Sequence,
+    SequenceTag, TagMarker, ValueOrd,
 };
-use der_fields::{
-    DecodeFields, EncodeFields, End, Field, FieldList, Fields4, FieldsOrd, Implicit, ImplicitTag,
-};
-use der_modules::copy_of;
+use der_fields::{DecodeFields, EncodeFields, FieldList, Fields4, FieldsOrd, Implicit};
+use der_modules::{Member, copy_of, field_list, if_present};
 use der_opaque::OctetStringRef;
 use der_pkix::AlgorithmIdentifier;
 use der_tlv::{BackWriter, Error, Header, Length, Source, Writer};
@@ -67,19 +62,12 @@ impl<'a> PasswordRecipientInfo<'a> {
         ensures key_encryption_algorithm { password_recipient_info_fields.key_encryption_algorithm result ≡ key_encryption_algorithm.now }
         ensures encrypted_key { password_recipient_info_fields.encrypted_key result ≡ encrypted_key.entry }
     {
-        let first = encrypted_key;
-        let rest = Field { first, rest: End };
-        let first = copy_of(key_encryption_algorithm);
-        let rest = Field { first, rest };
-        let first = match key_derivation_algorithm {
-            Some(value) => Some(Implicit {
-                value: copy_of(value),
-            }),
-            None => None,
-        };
-        let rest = Field { first, rest };
-        let first = version;
-        let list = Field { first, rest };
+        let list = field_list![
+            version,
+            if_present!(value in key_derivation_algorithm => Implicit { value: copy_of(value) }),
+            copy_of(key_encryption_algorithm),
+            encrypted_key
+        ];
         let fields = Fields4 { list };
         PasswordRecipientInfo { fields }
     }
@@ -95,10 +83,7 @@ impl<'a> PasswordRecipientInfo<'a> {
     pub fn key_derivation_algorithm(&self) -> Option<&AlgorithmIdentifier<'a>>
         ensures { option_copied result ≡ password_recipient_info_fields.key_derivation_algorithm self.now }
     {
-        match &self.fields.list.rest.first {
-            Some(value) => Some(&value.value),
-            None => None,
-        }
+        if_present!(value in &self.fields.list.rest.first => &value.value)
     }
 
     /// `keyEncryptionAlgorithm`, `AlgorithmIdentifier`.
@@ -178,24 +163,17 @@ impl<'a> ValueOrd for PasswordRecipientInfo<'a> {
     }
 }
 
+impl<'a> Member for PasswordRecipientInfo<'a> {
+    ghost member = { struct_member ⟦<SequenceTag as TagMarker>⟧.TAG (λ v. v.fields.list)
+        (field ⟦<CmsVersion as Member>⟧.member
+        (optional_field ⟦<Implicit<AlgorithmIdentifier<'a>, 0> as Member>⟧.member
+        (field ⟦<AlgorithmIdentifier<'a> as Member>⟧.member
+        (field ⟦<OctetStringRef<'a> as Member>⟧.member
+        no_fields)))) };
+}
+
 impl<'a> ContentsEq for PasswordRecipientInfo<'a> {
-    ghost contents_eq = { λ v w. (member_equality ⟦<CmsVersion as Form>⟧
-        (tagged_starts ⟦<CmsVersion as Form>⟧ (one_tag ⟦<IntegerTag as TagMarker>⟧.TAG ⟦<u8 as FormValue>⟧.value.contents))
-        ⟦<CmsVersion as PartialEq>⟧.eq
-        (one_tag_equality ⟦<IntegerTag as TagMarker>⟧.TAG ⟦<u8 as FormValue>⟧.value.contents ⟦<u8 as FormValue>⟧.value.comparable ⟦<u8 as PartialEq>⟧.eq u8_contents_eq.contents_eq-law)
-        (member_equality ⟦<Option<Implicit<AlgorithmIdentifier<'a>, 0>> as Form>⟧
-        (optional_starts ⟦<Implicit<AlgorithmIdentifier<'a>, 0> as Form>⟧ (one_tag ⟦<ImplicitTag<SequenceTag, 0> as TagMarker>⟧.TAG ⟦<Implicit<AlgorithmIdentifier<'a>, 0> as FormValue>⟧.value.contents))
-        ⟦<Option<Implicit<AlgorithmIdentifier<'a>, 0>> as PartialEq>⟧.eq
-        (optional_equality ⟦<Implicit<AlgorithmIdentifier<'a>, 0> as Form>⟧ (one_tag ⟦<ImplicitTag<SequenceTag, 0> as TagMarker>⟧.TAG ⟦<Implicit<AlgorithmIdentifier<'a>, 0> as FormValue>⟧.value.contents) ⟦<Implicit<AlgorithmIdentifier<'a>, 0> as PartialEq>⟧.eq (one_tag_equality ⟦<ImplicitTag<SequenceTag, 0> as TagMarker>⟧.TAG ⟦<Implicit<AlgorithmIdentifier<'a>, 0> as FormValue>⟧.value.contents ⟦<Implicit<AlgorithmIdentifier<'a>, 0> as FormValue>⟧.value.comparable ⟦<Implicit<AlgorithmIdentifier<'a>, 0> as PartialEq>⟧.eq (λ v w. (algorithm_identifier_contents_eq.contents_eq-law v.value w.value))))
-        (member_equality ⟦<AlgorithmIdentifier<'a> as Form>⟧
-        (tagged_starts ⟦<AlgorithmIdentifier<'a> as Form>⟧ (one_tag ⟦<SequenceTag as TagMarker>⟧.TAG ⟦<AlgorithmIdentifier<'a> as FormValue>⟧.value.contents))
-        ⟦<AlgorithmIdentifier<'a> as PartialEq>⟧.eq
-        (one_tag_equality ⟦<SequenceTag as TagMarker>⟧.TAG ⟦<AlgorithmIdentifier<'a> as FormValue>⟧.value.contents ⟦<AlgorithmIdentifier<'a> as FormValue>⟧.value.comparable ⟦<AlgorithmIdentifier<'a> as PartialEq>⟧.eq algorithm_identifier_contents_eq.contents_eq-law)
-        (member_equality ⟦<OctetStringRef<'a> as Form>⟧
-        (tagged_starts ⟦<OctetStringRef<'a> as Form>⟧ (one_tag ⟦<OctetStringTag as TagMarker>⟧.TAG ⟦<OctetStringRef<'a> as FormValue>⟧.value.contents))
-        ⟦<OctetStringRef<'a> as PartialEq>⟧.eq
-        (one_tag_equality ⟦<OctetStringTag as TagMarker>⟧.TAG ⟦<OctetStringRef<'a> as FormValue>⟧.value.contents ⟦<OctetStringRef<'a> as FormValue>⟧.value.comparable ⟦<OctetStringRef<'a> as PartialEq>⟧.eq octetstringref_contents_eq.contents_eq-law)
-        no_equality)))).equal v.fields.list w.fields.list };
+    ghost contents_eq = { ⟦<PasswordRecipientInfo<'a> as Member>⟧.member.equal };
 }
 
 impl<'a> CopyIsDuplicate for PasswordRecipientInfo<'a> {}

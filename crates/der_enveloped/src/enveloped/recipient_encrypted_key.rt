@@ -6,20 +6,17 @@ ghost use Rattle.std.specs.Prelude.{◌∷◌, ◌≡◌, [], false, refl};
 ghost use Rattle.der_elem.specs.FormatMakers.{mapped_format};
 ghost use Rattle.der_enveloped.specs.Enveloped.Grammar.{recipient_encrypted_key};
 ghost use Rattle.der_enveloped.specs.Enveloped.RecipientEncryptedKey as recipient_encrypted_key_fields;
-ghost use Rattle.der_enveloped.specs.contracts.enveloped.key_agree_recipient_identifier.KeyAgreeRecipientIdentifierEncodingEq.TheImpl.Laws as key_agree_recipient_identifier_encoding_eq;
-ghost use Rattle.der_enveloped.specs.contracts.enveloped.key_agree_recipient_identifier.KeyAgreeRecipientIdentifierTagged.TheImpl.Laws as key_agree_recipient_identifier_tagged;
 ghost use Rattle.der_enveloped.specs.declared.enveloped.recipient_encrypted_key.RecipientEncryptedKey.{RecipientEncryptedKey};
 ghost use Rattle.der_modules.specs.Asn1.{joined, parse_of};
-ghost use Rattle.der_modules.specs.MemberLaws.{member_equality, no_equality, one_tag, one_tag_equality, own_tags, tagged_starts};
-ghost use Rattle.der_opaque.specs.contracts.octet_string_ref.OctetStringRefContentsEq.TheImpl.Laws as octetstringref_contents_eq;
+ghost use Rattle.der_modules.specs.Members.{choice_field, field, no_fields, struct_member};
 
 use crate::enveloped::key_agree_recipient_identifier::KeyAgreeRecipientIdentifier;
 use der_elem::{
-    ContentsEq, CopyIsDuplicate, DecodeValue, EncodeValue, Form, FormValue, OctetStringTag, OneTag,
-    Sequence, SequenceTag, TagMarker, Tagged, ValueOrd,
+    ContentsEq, CopyIsDuplicate, DecodeValue, EncodeValue, Form, FormValue, OneTag, Sequence,
+    SequenceTag, TagMarker, ValueOrd,
 };
-use der_fields::{DecodeFields, EncodeFields, End, Field, FieldList, Fields2, FieldsOrd};
-use der_modules::copy_of;
+use der_fields::{DecodeFields, EncodeFields, FieldList, Fields2, FieldsOrd};
+use der_modules::{Choosing, Member, copy_of, field_list};
 use der_opaque::OctetStringRef;
 use der_tlv::{BackWriter, Error, Header, Length, Source, Writer};
 use std::alloc::Global;
@@ -52,10 +49,7 @@ impl<'a> RecipientEncryptedKey<'a> {
         ensures rid { recipient_encrypted_key_fields.rid result ≡ rid.now }
         ensures encrypted_key { recipient_encrypted_key_fields.encrypted_key result ≡ encrypted_key.entry }
     {
-        let first = encrypted_key;
-        let rest = Field { first, rest: End };
-        let first = copy_of(rid);
-        let list = Field { first, rest };
+        let list = field_list![copy_of(rid), encrypted_key];
         let fields = Fields2 { list };
         RecipientEncryptedKey { fields }
     }
@@ -135,16 +129,15 @@ impl<'a> ValueOrd for RecipientEncryptedKey<'a> {
     }
 }
 
+impl<'a> Member for RecipientEncryptedKey<'a> {
+    ghost member = { struct_member ⟦<SequenceTag as TagMarker>⟧.TAG (λ v. v.fields.list)
+        (choice_field ⟦<KeyAgreeRecipientIdentifier<'a> as Choosing>⟧.choice
+        (field ⟦<OctetStringRef<'a> as Member>⟧.member
+        no_fields)) };
+}
+
 impl<'a> ContentsEq for RecipientEncryptedKey<'a> {
-    ghost contents_eq = { λ v w. (member_equality ⟦<KeyAgreeRecipientIdentifier<'a> as Form>⟧
-        (tagged_starts ⟦<KeyAgreeRecipientIdentifier<'a> as Form>⟧ (own_tags ⟦<KeyAgreeRecipientIdentifier<'a> as Form>⟧.tags ⟦<KeyAgreeRecipientIdentifier<'a> as Form>⟧.first_tag_of ⟦<KeyAgreeRecipientIdentifier<'a> as Form>⟧.encoding ⟦<KeyAgreeRecipientIdentifier<'a> as Tagged>⟧.tag_of ⟦<KeyAgreeRecipientIdentifier<'a> as FormValue>⟧.value.contents key_agree_recipient_identifier_tagged.encoding_is-law key_agree_recipient_identifier_tagged.own_tag-law key_agree_recipient_identifier_tagged.first_tag_is-law))
-        ⟦<KeyAgreeRecipientIdentifier<'a> as PartialEq>⟧.eq
-        key_agree_recipient_identifier_encoding_eq.encoding_eq-law
-        (member_equality ⟦<OctetStringRef<'a> as Form>⟧
-        (tagged_starts ⟦<OctetStringRef<'a> as Form>⟧ (one_tag ⟦<OctetStringTag as TagMarker>⟧.TAG ⟦<OctetStringRef<'a> as FormValue>⟧.value.contents))
-        ⟦<OctetStringRef<'a> as PartialEq>⟧.eq
-        (one_tag_equality ⟦<OctetStringTag as TagMarker>⟧.TAG ⟦<OctetStringRef<'a> as FormValue>⟧.value.contents ⟦<OctetStringRef<'a> as FormValue>⟧.value.comparable ⟦<OctetStringRef<'a> as PartialEq>⟧.eq octetstringref_contents_eq.contents_eq-law)
-        no_equality)).equal v.fields.list w.fields.list };
+    ghost contents_eq = { ⟦<RecipientEncryptedKey<'a> as Member>⟧.member.equal };
 }
 
 impl<'a> CopyIsDuplicate for RecipientEncryptedKey<'a> {}

@@ -11,18 +11,17 @@ ghost use Rattle.der_enveloped.specs.Enveloped.Grammar.{recipient_info};
 ghost use Rattle.der_enveloped.specs.Enveloped.RecipientInfo.{tree_of};
 ghost use Rattle.der_enveloped.specs.contracts.enveloped.recipient_info.RecipientInfoEq.TheImpl.Laws as recipient_info_eq;
 ghost use Rattle.der_enveloped.specs.contracts.enveloped.recipient_info_first.RecipientInfoFirstChoice.TheImpl.Laws as recipient_info_first_choice;
-ghost use Rattle.der_enveloped.specs.contracts.enveloped.recipient_info_first.RecipientInfoFirstEncodingEq.TheImpl.Laws as recipient_info_first_encoding_eq;
 ghost use Rattle.der_enveloped.specs.contracts.enveloped.recipient_info_first.RecipientInfoFirstKnownTags.TheImpl.Laws as recipient_info_first_known_tags;
 ghost use Rattle.der_enveloped.specs.contracts.enveloped.recipient_info_first.RecipientInfoFirstTagged.TheImpl.Laws as recipient_info_first_tagged;
 ghost use Rattle.der_enveloped.specs.contracts.enveloped.recipient_info_other.RecipientInfoOtherChoice.TheImpl.Laws as recipient_info_other_choice;
-ghost use Rattle.der_enveloped.specs.contracts.enveloped.recipient_info_other.RecipientInfoOtherEncodingEq.TheImpl.Laws as recipient_info_other_encoding_eq;
 ghost use Rattle.der_enveloped.specs.contracts.enveloped.recipient_info_other.RecipientInfoOtherKnownTags.TheImpl.Laws as recipient_info_other_known_tags;
 ghost use Rattle.der_enveloped.specs.contracts.enveloped.recipient_info_other.RecipientInfoOtherTagged.TheImpl.Laws as recipient_info_other_tagged;
 ghost use Rattle.der_enveloped.specs.declared.enveloped.recipient_info.RecipientInfo.TheVariants as of;
 ghost use Rattle.der_enveloped.specs.declared.enveloped.recipient_info_first.RecipientInfoFirst.TheVariants as recipient_info_first;
 ghost use Rattle.der_enveloped.specs.declared.enveloped.recipient_info_other.RecipientInfoOther.TheVariants as recipient_info_other;
 ghost use Rattle.der_modules.specs.Asn1.{parse_of};
-ghost use Rattle.der_modules.specs.MemberLaws.{copies_of, either_equality, either_tag, own_tags, same_copies, seen_equality};
+ghost use Rattle.der_modules.specs.MemberLaws.{copies_of, same_copies};
+ghost use Rattle.der_modules.specs.Members.{seen_choice};
 
 use crate::enveloped::aliases::OtherRecipientInfo;
 use crate::enveloped::kek_recipient_info::KekRecipientInfo;
@@ -36,7 +35,7 @@ use der_elem::{
     Form, FormValue, KnownTags, Tagged,
 };
 use der_fields::{Implicit, OneOf, cmp_headers};
-use der_modules::{CopyLaws, copy_of};
+use der_modules::{Choosing, CopyLaws, copy_of};
 use der_tlv::{BackWriter, Error, Length, Source, Tag, Writer};
 use std::alloc::Global;
 use std::cmp::Ordering;
@@ -126,19 +125,13 @@ impl<'a> Tagged for RecipientInfo<'a> {
         }
     }
 
-    ghost encoding_is = { λ v. (either_tag ⟦<RecipientInfoFirst<'a> as Form>⟧ ⟦<RecipientInfoOther<'a> as Form>⟧
-        (own_tags ⟦<RecipientInfoFirst<'a> as Form>⟧.tags ⟦<RecipientInfoFirst<'a> as Form>⟧.first_tag_of ⟦<RecipientInfoFirst<'a> as Form>⟧.encoding ⟦<RecipientInfoFirst<'a> as Tagged>⟧.tag_of ⟦<RecipientInfoFirst<'a> as FormValue>⟧.value.contents recipient_info_first_tagged.encoding_is-law recipient_info_first_tagged.own_tag-law recipient_info_first_tagged.first_tag_is-law)
-        (own_tags ⟦<RecipientInfoOther<'a> as Form>⟧.tags ⟦<RecipientInfoOther<'a> as Form>⟧.first_tag_of ⟦<RecipientInfoOther<'a> as Form>⟧.encoding ⟦<RecipientInfoOther<'a> as Tagged>⟧.tag_of ⟦<RecipientInfoOther<'a> as FormValue>⟧.value.contents recipient_info_other_tagged.encoding_is-law recipient_info_other_tagged.own_tag-law recipient_info_other_tagged.first_tag_is-law)).encoding_is (tree_of v) };
+    ghost encoding_is = { ⟦<RecipientInfo<'a> as Choosing>⟧.choice.has_tag.encoding_is };
 
     ghost accepted_is_tlv = { λ rules v b. elim v as (λ k. ⟦<Tree<'a> as Form>⟧.accepts rules (tree_of k) b → IsTlv b) [ of.Ktri x ↦ λ a. recipient_info_first_tagged.accepted_is_tlv-law rules (recipient_info_first.Ktri x) b a.0 | of.Kari x ↦ λ a. recipient_info_first_tagged.accepted_is_tlv-law rules (recipient_info_first.Kari x) b a.0 | of.Kekri x ↦ λ a. recipient_info_first_tagged.accepted_is_tlv-law rules (recipient_info_first.Kekri x) b a.0 | of.Pwri x ↦ λ a. recipient_info_other_tagged.accepted_is_tlv-law rules (recipient_info_other.Pwri x) b a.0 | of.Ori x ↦ λ a. recipient_info_other_tagged.accepted_is_tlv-law rules (recipient_info_other.Ori x) b a.0 ] };
 
-    ghost own_tag = { λ v. (either_tag ⟦<RecipientInfoFirst<'a> as Form>⟧ ⟦<RecipientInfoOther<'a> as Form>⟧
-        (own_tags ⟦<RecipientInfoFirst<'a> as Form>⟧.tags ⟦<RecipientInfoFirst<'a> as Form>⟧.first_tag_of ⟦<RecipientInfoFirst<'a> as Form>⟧.encoding ⟦<RecipientInfoFirst<'a> as Tagged>⟧.tag_of ⟦<RecipientInfoFirst<'a> as FormValue>⟧.value.contents recipient_info_first_tagged.encoding_is-law recipient_info_first_tagged.own_tag-law recipient_info_first_tagged.first_tag_is-law)
-        (own_tags ⟦<RecipientInfoOther<'a> as Form>⟧.tags ⟦<RecipientInfoOther<'a> as Form>⟧.first_tag_of ⟦<RecipientInfoOther<'a> as Form>⟧.encoding ⟦<RecipientInfoOther<'a> as Tagged>⟧.tag_of ⟦<RecipientInfoOther<'a> as FormValue>⟧.value.contents recipient_info_other_tagged.encoding_is-law recipient_info_other_tagged.own_tag-law recipient_info_other_tagged.first_tag_is-law)).own_tag (tree_of v) };
+    ghost own_tag = { ⟦<RecipientInfo<'a> as Choosing>⟧.choice.has_tag.own_tag };
 
-    ghost first_tag_is = { λ v. (either_tag ⟦<RecipientInfoFirst<'a> as Form>⟧ ⟦<RecipientInfoOther<'a> as Form>⟧
-        (own_tags ⟦<RecipientInfoFirst<'a> as Form>⟧.tags ⟦<RecipientInfoFirst<'a> as Form>⟧.first_tag_of ⟦<RecipientInfoFirst<'a> as Form>⟧.encoding ⟦<RecipientInfoFirst<'a> as Tagged>⟧.tag_of ⟦<RecipientInfoFirst<'a> as FormValue>⟧.value.contents recipient_info_first_tagged.encoding_is-law recipient_info_first_tagged.own_tag-law recipient_info_first_tagged.first_tag_is-law)
-        (own_tags ⟦<RecipientInfoOther<'a> as Form>⟧.tags ⟦<RecipientInfoOther<'a> as Form>⟧.first_tag_of ⟦<RecipientInfoOther<'a> as Form>⟧.encoding ⟦<RecipientInfoOther<'a> as Tagged>⟧.tag_of ⟦<RecipientInfoOther<'a> as FormValue>⟧.value.contents recipient_info_other_tagged.encoding_is-law recipient_info_other_tagged.own_tag-law recipient_info_other_tagged.first_tag_is-law)).first_tag_is (tree_of v) };
+    ghost first_tag_is = { ⟦<RecipientInfo<'a> as Choosing>⟧.choice.has_tag.first_tag_is };
 
     ghost re_reads_alike = { λ v. elim v as (λ k. ⟦<Tree<'a> as FormValue>⟧.value.re_reads (tree_of k) ≡ true → ⟦<Tree<'a> as Form>⟧.re_reads (tree_of k) ≡ true) [ of.Ktri x ↦ recipient_info_first_tagged.re_reads_alike-law (recipient_info_first.Ktri x) | of.Kari x ↦ recipient_info_first_tagged.re_reads_alike-law (recipient_info_first.Kari x) | of.Kekri x ↦ recipient_info_first_tagged.re_reads_alike-law (recipient_info_first.Kekri x) | of.Pwri x ↦ recipient_info_other_tagged.re_reads_alike-law (recipient_info_other.Pwri x) | of.Ori x ↦ recipient_info_other_tagged.re_reads_alike-law (recipient_info_other.Ori x) ] };
 
@@ -241,14 +234,19 @@ impl<'a> DerOrd for RecipientInfo<'a> {
     }
 }
 
+impl<'a> Choosing for RecipientInfo<'a> {
+    ghost choice = { seen_choice tree_of ⟦<RecipientInfo<'a> as PartialEq>⟧.eq ⟦<Tree<'a> as Choosing>⟧.choice
+        (λ v w. elim v as (λ k. ⟦<RecipientInfo<'a> as PartialEq>⟧.eq k w ≡ ⟦<Tree<'a> as Choosing>⟧.choice.eq (tree_of k) (tree_of w)) [
+          | of.Ktri x ↦ elim w as (λ k. ⟦<RecipientInfo<'a> as PartialEq>⟧.eq (of.Ktri x) k ≡ ⟦<Tree<'a> as Choosing>⟧.choice.eq (tree_of (of.Ktri x)) (tree_of k)) [ of.Ktri y ↦ refl | of.Kari y ↦ refl | of.Kekri y ↦ refl | of.Pwri y ↦ refl | of.Ori y ↦ refl ]
+          | of.Kari x ↦ elim w as (λ k. ⟦<RecipientInfo<'a> as PartialEq>⟧.eq (of.Kari x) k ≡ ⟦<Tree<'a> as Choosing>⟧.choice.eq (tree_of (of.Kari x)) (tree_of k)) [ of.Ktri y ↦ refl | of.Kari y ↦ refl | of.Kekri y ↦ refl | of.Pwri y ↦ refl | of.Ori y ↦ refl ]
+          | of.Kekri x ↦ elim w as (λ k. ⟦<RecipientInfo<'a> as PartialEq>⟧.eq (of.Kekri x) k ≡ ⟦<Tree<'a> as Choosing>⟧.choice.eq (tree_of (of.Kekri x)) (tree_of k)) [ of.Ktri y ↦ refl | of.Kari y ↦ refl | of.Kekri y ↦ refl | of.Pwri y ↦ refl | of.Ori y ↦ refl ]
+          | of.Pwri x ↦ elim w as (λ k. ⟦<RecipientInfo<'a> as PartialEq>⟧.eq (of.Pwri x) k ≡ ⟦<Tree<'a> as Choosing>⟧.choice.eq (tree_of (of.Pwri x)) (tree_of k)) [ of.Ktri y ↦ refl | of.Kari y ↦ refl | of.Kekri y ↦ refl | of.Pwri y ↦ refl | of.Ori y ↦ refl ]
+          | of.Ori x ↦ elim w as (λ k. ⟦<RecipientInfo<'a> as PartialEq>⟧.eq (of.Ori x) k ≡ ⟦<Tree<'a> as Choosing>⟧.choice.eq (tree_of (of.Ori x)) (tree_of k)) [ of.Ktri y ↦ refl | of.Kari y ↦ refl | of.Kekri y ↦ refl | of.Pwri y ↦ refl | of.Ori y ↦ refl ]
+        ]) };
+}
+
 impl<'a> EncodingEq for RecipientInfo<'a> {
-    ghost encoding_eq = { seen_equality tree_of ⟦<RecipientInfo<'a> as PartialEq>⟧.eq ⟦<Tree<'a> as PartialEq>⟧.eq (λ v w. elim v as (λ k. ⟦<RecipientInfo<'a> as PartialEq>⟧.eq k w ≡ ⟦<Tree<'a> as PartialEq>⟧.eq (tree_of k) (tree_of w)) [ of.Ktri x ↦ elim w as (λ k. ⟦<RecipientInfo<'a> as PartialEq>⟧.eq (of.Ktri x) k ≡ ⟦<Tree<'a> as PartialEq>⟧.eq (tree_of (of.Ktri x)) (tree_of k)) [ of.Ktri y ↦ refl | of.Kari y ↦ refl | of.Kekri y ↦ refl | of.Pwri y ↦ refl | of.Ori y ↦ refl ] | of.Kari x ↦ elim w as (λ k. ⟦<RecipientInfo<'a> as PartialEq>⟧.eq (of.Kari x) k ≡ ⟦<Tree<'a> as PartialEq>⟧.eq (tree_of (of.Kari x)) (tree_of k)) [ of.Ktri y ↦ refl | of.Kari y ↦ refl | of.Kekri y ↦ refl | of.Pwri y ↦ refl | of.Ori y ↦ refl ] | of.Kekri x ↦ elim w as (λ k. ⟦<RecipientInfo<'a> as PartialEq>⟧.eq (of.Kekri x) k ≡ ⟦<Tree<'a> as PartialEq>⟧.eq (tree_of (of.Kekri x)) (tree_of k)) [ of.Ktri y ↦ refl | of.Kari y ↦ refl | of.Kekri y ↦ refl | of.Pwri y ↦ refl | of.Ori y ↦ refl ] | of.Pwri x ↦ elim w as (λ k. ⟦<RecipientInfo<'a> as PartialEq>⟧.eq (of.Pwri x) k ≡ ⟦<Tree<'a> as PartialEq>⟧.eq (tree_of (of.Pwri x)) (tree_of k)) [ of.Ktri y ↦ refl | of.Kari y ↦ refl | of.Kekri y ↦ refl | of.Pwri y ↦ refl | of.Ori y ↦ refl ] | of.Ori x ↦ elim w as (λ k. ⟦<RecipientInfo<'a> as PartialEq>⟧.eq (of.Ori x) k ≡ ⟦<Tree<'a> as PartialEq>⟧.eq (tree_of (of.Ori x)) (tree_of k)) [ of.Ktri y ↦ refl | of.Kari y ↦ refl | of.Kekri y ↦ refl | of.Pwri y ↦ refl | of.Ori y ↦ refl ] ]) (either_equality ⟦<RecipientInfoFirst<'a> as Form>⟧ ⟦<RecipientInfoOther<'a> as Form>⟧
-        (own_tags ⟦<RecipientInfoFirst<'a> as Form>⟧.tags ⟦<RecipientInfoFirst<'a> as Form>⟧.first_tag_of ⟦<RecipientInfoFirst<'a> as Form>⟧.encoding ⟦<RecipientInfoFirst<'a> as Tagged>⟧.tag_of ⟦<RecipientInfoFirst<'a> as FormValue>⟧.value.contents recipient_info_first_tagged.encoding_is-law recipient_info_first_tagged.own_tag-law recipient_info_first_tagged.first_tag_is-law)
-        (own_tags ⟦<RecipientInfoOther<'a> as Form>⟧.tags ⟦<RecipientInfoOther<'a> as Form>⟧.first_tag_of ⟦<RecipientInfoOther<'a> as Form>⟧.encoding ⟦<RecipientInfoOther<'a> as Tagged>⟧.tag_of ⟦<RecipientInfoOther<'a> as FormValue>⟧.value.contents recipient_info_other_tagged.encoding_is-law recipient_info_other_tagged.own_tag-law recipient_info_other_tagged.first_tag_is-law)
-        ⟦<RecipientInfoFirst<'a> as PartialEq>⟧.eq ⟦<RecipientInfoOther<'a> as PartialEq>⟧.eq
-        recipient_info_first_encoding_eq.encoding_eq-law
-        recipient_info_other_encoding_eq.encoding_eq-law
-        ⟦<OneOf<RecipientInfoFirst<'a>, RecipientInfoOther<'a>> as PartialEq>⟧.eq (λ v x. refl) (λ w y. refl) (λ v w. refl) (λ w v. refl)) };
+    ghost encoding_eq = { ⟦<RecipientInfo<'a> as Choosing>⟧.choice.equal };
 }
 
 impl<'a> CopyLaws for RecipientInfo<'a> {

@@ -9,22 +9,20 @@ ghost use Rattle.der_elem.specs.FormatMakers.{mapped_format};
 ghost use Rattle.der_elem.specs.KnownTagLaws.{known_either, own_is_known};
 ghost use Rattle.der_elem.specs.TaggedLaws.{tlv_tagged};
 ghost use Rattle.der_enveloped.specs.Enveloped.RecipientInfoFirst.{tree_of};
-ghost use Rattle.der_enveloped.specs.contracts.enveloped.kek_recipient_info.KekRecipientInfoContentsEq.TheImpl.Laws as kek_recipient_info_contents_eq;
-ghost use Rattle.der_enveloped.specs.contracts.enveloped.key_agree_recipient_info.KeyAgreeRecipientInfoContentsEq.TheImpl.Laws as key_agree_recipient_info_contents_eq;
-ghost use Rattle.der_enveloped.specs.contracts.enveloped.key_trans_recipient_info.KeyTransRecipientInfoContentsEq.TheImpl.Laws as key_trans_recipient_info_contents_eq;
 ghost use Rattle.der_enveloped.specs.contracts.enveloped.recipient_info_first.RecipientInfoFirstEq.TheImpl.Laws as recipient_info_first_eq;
 ghost use Rattle.der_enveloped.specs.declared.enveloped.recipient_info_first.RecipientInfoFirst.TheVariants as of;
-ghost use Rattle.der_modules.specs.MemberLaws.{copies_of, either_equality, either_tag, one_tag, one_tag_equality, same_copies, seen_equality};
+ghost use Rattle.der_modules.specs.MemberLaws.{copies_of, same_copies};
+ghost use Rattle.der_modules.specs.Members.{seen_choice};
 
 use crate::enveloped::kek_recipient_info::KekRecipientInfo;
 use crate::enveloped::key_agree_recipient_info::KeyAgreeRecipientInfo;
 use crate::enveloped::key_trans_recipient_info::KeyTransRecipientInfo;
 use der_elem::{
     Choice, Decode, DecodeField, DerOrd, Duplicate, DuplicateIsEqual, EncodeValue, EncodingEq,
-    Form, FormValue, KnownTags, SequenceTag, TagMarker, Tagged,
+    Form, FormValue, KnownTags, Tagged,
 };
-use der_fields::{Implicit, ImplicitTag, OneOf, cmp_headers};
-use der_modules::{CopyLaws, copy_of};
+use der_fields::{Implicit, OneOf, cmp_headers};
+use der_modules::{Choosing, CopyLaws, copy_of};
 use der_tlv::{BackWriter, Error, Length, Source, Tag, Writer};
 use std::alloc::Global;
 use std::cmp::Ordering;
@@ -104,25 +102,13 @@ impl<'a> Tagged for RecipientInfoFirst<'a> {
         }
     }
 
-    ghost encoding_is = { λ v. (either_tag ⟦<OneOf<KeyTransRecipientInfo<'a>, Implicit<KeyAgreeRecipientInfo<'a>, 1>> as Form>⟧ ⟦<Implicit<KekRecipientInfo<'a>, 2> as Form>⟧
-        (either_tag ⟦<KeyTransRecipientInfo<'a> as Form>⟧ ⟦<Implicit<KeyAgreeRecipientInfo<'a>, 1> as Form>⟧
-        (one_tag ⟦<SequenceTag as TagMarker>⟧.TAG ⟦<KeyTransRecipientInfo<'a> as FormValue>⟧.value.contents)
-        (one_tag ⟦<ImplicitTag<SequenceTag, 1> as TagMarker>⟧.TAG ⟦<Implicit<KeyAgreeRecipientInfo<'a>, 1> as FormValue>⟧.value.contents))
-        (one_tag ⟦<ImplicitTag<SequenceTag, 2> as TagMarker>⟧.TAG ⟦<Implicit<KekRecipientInfo<'a>, 2> as FormValue>⟧.value.contents)).encoding_is (tree_of v) };
+    ghost encoding_is = { ⟦<RecipientInfoFirst<'a> as Choosing>⟧.choice.has_tag.encoding_is };
 
     ghost accepted_is_tlv = { λ rules v b. elim v as (λ k. ⟦<Tree<'a> as Form>⟧.accepts rules (tree_of k) b → IsTlv b) [ of.Ktri x ↦ λ a. tlv_tagged _ ⟦<KeyTransRecipientInfo<'a> as FormValue>⟧.value.accepts rules x b a.0.0 | of.Kari x ↦ λ a. tlv_tagged _ ⟦<Implicit<KeyAgreeRecipientInfo<'a>, 1> as FormValue>⟧.value.accepts rules x b a.0.0 | of.Kekri x ↦ λ a. tlv_tagged _ ⟦<Implicit<KekRecipientInfo<'a>, 2> as FormValue>⟧.value.accepts rules x b a.0 ] };
 
-    ghost own_tag = { λ v. (either_tag ⟦<OneOf<KeyTransRecipientInfo<'a>, Implicit<KeyAgreeRecipientInfo<'a>, 1>> as Form>⟧ ⟦<Implicit<KekRecipientInfo<'a>, 2> as Form>⟧
-        (either_tag ⟦<KeyTransRecipientInfo<'a> as Form>⟧ ⟦<Implicit<KeyAgreeRecipientInfo<'a>, 1> as Form>⟧
-        (one_tag ⟦<SequenceTag as TagMarker>⟧.TAG ⟦<KeyTransRecipientInfo<'a> as FormValue>⟧.value.contents)
-        (one_tag ⟦<ImplicitTag<SequenceTag, 1> as TagMarker>⟧.TAG ⟦<Implicit<KeyAgreeRecipientInfo<'a>, 1> as FormValue>⟧.value.contents))
-        (one_tag ⟦<ImplicitTag<SequenceTag, 2> as TagMarker>⟧.TAG ⟦<Implicit<KekRecipientInfo<'a>, 2> as FormValue>⟧.value.contents)).own_tag (tree_of v) };
+    ghost own_tag = { ⟦<RecipientInfoFirst<'a> as Choosing>⟧.choice.has_tag.own_tag };
 
-    ghost first_tag_is = { λ v. (either_tag ⟦<OneOf<KeyTransRecipientInfo<'a>, Implicit<KeyAgreeRecipientInfo<'a>, 1>> as Form>⟧ ⟦<Implicit<KekRecipientInfo<'a>, 2> as Form>⟧
-        (either_tag ⟦<KeyTransRecipientInfo<'a> as Form>⟧ ⟦<Implicit<KeyAgreeRecipientInfo<'a>, 1> as Form>⟧
-        (one_tag ⟦<SequenceTag as TagMarker>⟧.TAG ⟦<KeyTransRecipientInfo<'a> as FormValue>⟧.value.contents)
-        (one_tag ⟦<ImplicitTag<SequenceTag, 1> as TagMarker>⟧.TAG ⟦<Implicit<KeyAgreeRecipientInfo<'a>, 1> as FormValue>⟧.value.contents))
-        (one_tag ⟦<ImplicitTag<SequenceTag, 2> as TagMarker>⟧.TAG ⟦<Implicit<KekRecipientInfo<'a>, 2> as FormValue>⟧.value.contents)).first_tag_is (tree_of v) };
+    ghost first_tag_is = { ⟦<RecipientInfoFirst<'a> as Choosing>⟧.choice.has_tag.first_tag_is };
 
     ghost re_reads_alike = { λ v. elim v as (λ k. ⟦<Tree<'a> as FormValue>⟧.value.re_reads (tree_of k) ≡ true → ⟦<Tree<'a> as Form>⟧.re_reads (tree_of k) ≡ true) [ of.Ktri x ↦ λ h. h | of.Kari x ↦ λ h. h | of.Kekri x ↦ λ h. h ] };
 
@@ -221,22 +207,17 @@ impl<'a> DerOrd for RecipientInfoFirst<'a> {
     }
 }
 
+impl<'a> Choosing for RecipientInfoFirst<'a> {
+    ghost choice = { seen_choice tree_of ⟦<RecipientInfoFirst<'a> as PartialEq>⟧.eq ⟦<Tree<'a> as Choosing>⟧.choice
+        (λ v w. elim v as (λ k. ⟦<RecipientInfoFirst<'a> as PartialEq>⟧.eq k w ≡ ⟦<Tree<'a> as Choosing>⟧.choice.eq (tree_of k) (tree_of w)) [
+          | of.Ktri x ↦ elim w as (λ k. ⟦<RecipientInfoFirst<'a> as PartialEq>⟧.eq (of.Ktri x) k ≡ ⟦<Tree<'a> as Choosing>⟧.choice.eq (tree_of (of.Ktri x)) (tree_of k)) [ of.Ktri y ↦ refl | of.Kari y ↦ refl | of.Kekri y ↦ refl ]
+          | of.Kari x ↦ elim w as (λ k. ⟦<RecipientInfoFirst<'a> as PartialEq>⟧.eq (of.Kari x) k ≡ ⟦<Tree<'a> as Choosing>⟧.choice.eq (tree_of (of.Kari x)) (tree_of k)) [ of.Ktri y ↦ refl | of.Kari y ↦ refl | of.Kekri y ↦ refl ]
+          | of.Kekri x ↦ elim w as (λ k. ⟦<RecipientInfoFirst<'a> as PartialEq>⟧.eq (of.Kekri x) k ≡ ⟦<Tree<'a> as Choosing>⟧.choice.eq (tree_of (of.Kekri x)) (tree_of k)) [ of.Ktri y ↦ refl | of.Kari y ↦ refl | of.Kekri y ↦ refl ]
+        ]) };
+}
+
 impl<'a> EncodingEq for RecipientInfoFirst<'a> {
-    ghost encoding_eq = { seen_equality tree_of ⟦<RecipientInfoFirst<'a> as PartialEq>⟧.eq ⟦<Tree<'a> as PartialEq>⟧.eq (λ v w. elim v as (λ k. ⟦<RecipientInfoFirst<'a> as PartialEq>⟧.eq k w ≡ ⟦<Tree<'a> as PartialEq>⟧.eq (tree_of k) (tree_of w)) [ of.Ktri x ↦ elim w as (λ k. ⟦<RecipientInfoFirst<'a> as PartialEq>⟧.eq (of.Ktri x) k ≡ ⟦<Tree<'a> as PartialEq>⟧.eq (tree_of (of.Ktri x)) (tree_of k)) [ of.Ktri y ↦ refl | of.Kari y ↦ refl | of.Kekri y ↦ refl ] | of.Kari x ↦ elim w as (λ k. ⟦<RecipientInfoFirst<'a> as PartialEq>⟧.eq (of.Kari x) k ≡ ⟦<Tree<'a> as PartialEq>⟧.eq (tree_of (of.Kari x)) (tree_of k)) [ of.Ktri y ↦ refl | of.Kari y ↦ refl | of.Kekri y ↦ refl ] | of.Kekri x ↦ elim w as (λ k. ⟦<RecipientInfoFirst<'a> as PartialEq>⟧.eq (of.Kekri x) k ≡ ⟦<Tree<'a> as PartialEq>⟧.eq (tree_of (of.Kekri x)) (tree_of k)) [ of.Ktri y ↦ refl | of.Kari y ↦ refl | of.Kekri y ↦ refl ] ]) (either_equality ⟦<OneOf<KeyTransRecipientInfo<'a>, Implicit<KeyAgreeRecipientInfo<'a>, 1>> as Form>⟧ ⟦<Implicit<KekRecipientInfo<'a>, 2> as Form>⟧
-        (either_tag ⟦<KeyTransRecipientInfo<'a> as Form>⟧ ⟦<Implicit<KeyAgreeRecipientInfo<'a>, 1> as Form>⟧
-        (one_tag ⟦<SequenceTag as TagMarker>⟧.TAG ⟦<KeyTransRecipientInfo<'a> as FormValue>⟧.value.contents)
-        (one_tag ⟦<ImplicitTag<SequenceTag, 1> as TagMarker>⟧.TAG ⟦<Implicit<KeyAgreeRecipientInfo<'a>, 1> as FormValue>⟧.value.contents))
-        (one_tag ⟦<ImplicitTag<SequenceTag, 2> as TagMarker>⟧.TAG ⟦<Implicit<KekRecipientInfo<'a>, 2> as FormValue>⟧.value.contents)
-        ⟦<OneOf<KeyTransRecipientInfo<'a>, Implicit<KeyAgreeRecipientInfo<'a>, 1>> as PartialEq>⟧.eq ⟦<Implicit<KekRecipientInfo<'a>, 2> as PartialEq>⟧.eq
-        (either_equality ⟦<KeyTransRecipientInfo<'a> as Form>⟧ ⟦<Implicit<KeyAgreeRecipientInfo<'a>, 1> as Form>⟧
-        (one_tag ⟦<SequenceTag as TagMarker>⟧.TAG ⟦<KeyTransRecipientInfo<'a> as FormValue>⟧.value.contents)
-        (one_tag ⟦<ImplicitTag<SequenceTag, 1> as TagMarker>⟧.TAG ⟦<Implicit<KeyAgreeRecipientInfo<'a>, 1> as FormValue>⟧.value.contents)
-        ⟦<KeyTransRecipientInfo<'a> as PartialEq>⟧.eq ⟦<Implicit<KeyAgreeRecipientInfo<'a>, 1> as PartialEq>⟧.eq
-        (one_tag_equality ⟦<SequenceTag as TagMarker>⟧.TAG ⟦<KeyTransRecipientInfo<'a> as FormValue>⟧.value.contents ⟦<KeyTransRecipientInfo<'a> as FormValue>⟧.value.comparable ⟦<KeyTransRecipientInfo<'a> as PartialEq>⟧.eq key_trans_recipient_info_contents_eq.contents_eq-law)
-        (one_tag_equality ⟦<ImplicitTag<SequenceTag, 1> as TagMarker>⟧.TAG ⟦<Implicit<KeyAgreeRecipientInfo<'a>, 1> as FormValue>⟧.value.contents ⟦<Implicit<KeyAgreeRecipientInfo<'a>, 1> as FormValue>⟧.value.comparable ⟦<Implicit<KeyAgreeRecipientInfo<'a>, 1> as PartialEq>⟧.eq (λ v w. (key_agree_recipient_info_contents_eq.contents_eq-law v.value w.value)))
-        ⟦<OneOf<KeyTransRecipientInfo<'a>, Implicit<KeyAgreeRecipientInfo<'a>, 1>> as PartialEq>⟧.eq (λ v x. refl) (λ w y. refl) (λ v w. refl) (λ w v. refl))
-        (one_tag_equality ⟦<ImplicitTag<SequenceTag, 2> as TagMarker>⟧.TAG ⟦<Implicit<KekRecipientInfo<'a>, 2> as FormValue>⟧.value.contents ⟦<Implicit<KekRecipientInfo<'a>, 2> as FormValue>⟧.value.comparable ⟦<Implicit<KekRecipientInfo<'a>, 2> as PartialEq>⟧.eq (λ v w. (kek_recipient_info_contents_eq.contents_eq-law v.value w.value)))
-        ⟦<OneOf<OneOf<KeyTransRecipientInfo<'a>, Implicit<KeyAgreeRecipientInfo<'a>, 1>>, Implicit<KekRecipientInfo<'a>, 2>> as PartialEq>⟧.eq (λ v x. refl) (λ w y. refl) (λ v w. refl) (λ w v. refl)) };
+    ghost encoding_eq = { ⟦<RecipientInfoFirst<'a> as Choosing>⟧.choice.equal };
 }
 
 impl<'a> CopyLaws for RecipientInfoFirst<'a> {

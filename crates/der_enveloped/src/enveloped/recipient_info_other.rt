@@ -9,20 +9,19 @@ ghost use Rattle.der_elem.specs.FormatMakers.{mapped_format};
 ghost use Rattle.der_elem.specs.KnownTagLaws.{known_either, own_is_known};
 ghost use Rattle.der_elem.specs.TaggedLaws.{tlv_tagged};
 ghost use Rattle.der_enveloped.specs.Enveloped.RecipientInfoOther.{tree_of};
-ghost use Rattle.der_enveloped.specs.contracts.enveloped.password_recipient_info.PasswordRecipientInfoContentsEq.TheImpl.Laws as password_recipient_info_contents_eq;
 ghost use Rattle.der_enveloped.specs.contracts.enveloped.recipient_info_other.RecipientInfoOtherEq.TheImpl.Laws as recipient_info_other_eq;
 ghost use Rattle.der_enveloped.specs.declared.enveloped.recipient_info_other.RecipientInfoOther.TheVariants as of;
-ghost use Rattle.der_modules.specs.MemberLaws.{copies_of, either_equality, either_tag, one_tag, one_tag_equality, same_copies, seen_equality};
-ghost use Rattle.der_pkix.specs.contracts.name.attribute_type_and_value.AttributeTypeAndValueContentsEq.TheImpl.Laws as attribute_type_and_value_contents_eq;
+ghost use Rattle.der_modules.specs.MemberLaws.{copies_of, same_copies};
+ghost use Rattle.der_modules.specs.Members.{seen_choice};
 
 use crate::enveloped::aliases::OtherRecipientInfo;
 use crate::enveloped::password_recipient_info::PasswordRecipientInfo;
 use der_elem::{
     Choice, Decode, DecodeField, DerOrd, Duplicate, DuplicateIsEqual, EncodeValue, EncodingEq,
-    Form, FormValue, KnownTags, SequenceTag, TagMarker, Tagged,
+    Form, FormValue, KnownTags, Tagged,
 };
-use der_fields::{Implicit, ImplicitTag, OneOf, cmp_headers};
-use der_modules::{CopyLaws, copy_of};
+use der_fields::{Implicit, OneOf, cmp_headers};
+use der_modules::{Choosing, CopyLaws, copy_of};
 use der_tlv::{BackWriter, Error, Length, Source, Tag, Writer};
 use std::alloc::Global;
 use std::cmp::Ordering;
@@ -96,19 +95,13 @@ impl<'a> Tagged for RecipientInfoOther<'a> {
         }
     }
 
-    ghost encoding_is = { λ v. (either_tag ⟦<Implicit<PasswordRecipientInfo<'a>, 3> as Form>⟧ ⟦<Implicit<OtherRecipientInfo<'a>, 4> as Form>⟧
-        (one_tag ⟦<ImplicitTag<SequenceTag, 3> as TagMarker>⟧.TAG ⟦<Implicit<PasswordRecipientInfo<'a>, 3> as FormValue>⟧.value.contents)
-        (one_tag ⟦<ImplicitTag<SequenceTag, 4> as TagMarker>⟧.TAG ⟦<Implicit<OtherRecipientInfo<'a>, 4> as FormValue>⟧.value.contents)).encoding_is (tree_of v) };
+    ghost encoding_is = { ⟦<RecipientInfoOther<'a> as Choosing>⟧.choice.has_tag.encoding_is };
 
     ghost accepted_is_tlv = { λ rules v b. elim v as (λ k. ⟦<Tree<'a> as Form>⟧.accepts rules (tree_of k) b → IsTlv b) [ of.Pwri x ↦ λ a. tlv_tagged _ ⟦<Implicit<PasswordRecipientInfo<'a>, 3> as FormValue>⟧.value.accepts rules x b a.0 | of.Ori x ↦ λ a. tlv_tagged _ ⟦<Implicit<OtherRecipientInfo<'a>, 4> as FormValue>⟧.value.accepts rules x b a.0 ] };
 
-    ghost own_tag = { λ v. (either_tag ⟦<Implicit<PasswordRecipientInfo<'a>, 3> as Form>⟧ ⟦<Implicit<OtherRecipientInfo<'a>, 4> as Form>⟧
-        (one_tag ⟦<ImplicitTag<SequenceTag, 3> as TagMarker>⟧.TAG ⟦<Implicit<PasswordRecipientInfo<'a>, 3> as FormValue>⟧.value.contents)
-        (one_tag ⟦<ImplicitTag<SequenceTag, 4> as TagMarker>⟧.TAG ⟦<Implicit<OtherRecipientInfo<'a>, 4> as FormValue>⟧.value.contents)).own_tag (tree_of v) };
+    ghost own_tag = { ⟦<RecipientInfoOther<'a> as Choosing>⟧.choice.has_tag.own_tag };
 
-    ghost first_tag_is = { λ v. (either_tag ⟦<Implicit<PasswordRecipientInfo<'a>, 3> as Form>⟧ ⟦<Implicit<OtherRecipientInfo<'a>, 4> as Form>⟧
-        (one_tag ⟦<ImplicitTag<SequenceTag, 3> as TagMarker>⟧.TAG ⟦<Implicit<PasswordRecipientInfo<'a>, 3> as FormValue>⟧.value.contents)
-        (one_tag ⟦<ImplicitTag<SequenceTag, 4> as TagMarker>⟧.TAG ⟦<Implicit<OtherRecipientInfo<'a>, 4> as FormValue>⟧.value.contents)).first_tag_is (tree_of v) };
+    ghost first_tag_is = { ⟦<RecipientInfoOther<'a> as Choosing>⟧.choice.has_tag.first_tag_is };
 
     ghost re_reads_alike = { λ v. elim v as (λ k. ⟦<Tree<'a> as FormValue>⟧.value.re_reads (tree_of k) ≡ true → ⟦<Tree<'a> as Form>⟧.re_reads (tree_of k) ≡ true) [ of.Pwri x ↦ λ h. h | of.Ori x ↦ λ h. h ] };
 
@@ -200,14 +193,16 @@ impl<'a> DerOrd for RecipientInfoOther<'a> {
     }
 }
 
+impl<'a> Choosing for RecipientInfoOther<'a> {
+    ghost choice = { seen_choice tree_of ⟦<RecipientInfoOther<'a> as PartialEq>⟧.eq ⟦<Tree<'a> as Choosing>⟧.choice
+        (λ v w. elim v as (λ k. ⟦<RecipientInfoOther<'a> as PartialEq>⟧.eq k w ≡ ⟦<Tree<'a> as Choosing>⟧.choice.eq (tree_of k) (tree_of w)) [
+          | of.Pwri x ↦ elim w as (λ k. ⟦<RecipientInfoOther<'a> as PartialEq>⟧.eq (of.Pwri x) k ≡ ⟦<Tree<'a> as Choosing>⟧.choice.eq (tree_of (of.Pwri x)) (tree_of k)) [ of.Pwri y ↦ refl | of.Ori y ↦ refl ]
+          | of.Ori x ↦ elim w as (λ k. ⟦<RecipientInfoOther<'a> as PartialEq>⟧.eq (of.Ori x) k ≡ ⟦<Tree<'a> as Choosing>⟧.choice.eq (tree_of (of.Ori x)) (tree_of k)) [ of.Pwri y ↦ refl | of.Ori y ↦ refl ]
+        ]) };
+}
+
 impl<'a> EncodingEq for RecipientInfoOther<'a> {
-    ghost encoding_eq = { seen_equality tree_of ⟦<RecipientInfoOther<'a> as PartialEq>⟧.eq ⟦<Tree<'a> as PartialEq>⟧.eq (λ v w. elim v as (λ k. ⟦<RecipientInfoOther<'a> as PartialEq>⟧.eq k w ≡ ⟦<Tree<'a> as PartialEq>⟧.eq (tree_of k) (tree_of w)) [ of.Pwri x ↦ elim w as (λ k. ⟦<RecipientInfoOther<'a> as PartialEq>⟧.eq (of.Pwri x) k ≡ ⟦<Tree<'a> as PartialEq>⟧.eq (tree_of (of.Pwri x)) (tree_of k)) [ of.Pwri y ↦ refl | of.Ori y ↦ refl ] | of.Ori x ↦ elim w as (λ k. ⟦<RecipientInfoOther<'a> as PartialEq>⟧.eq (of.Ori x) k ≡ ⟦<Tree<'a> as PartialEq>⟧.eq (tree_of (of.Ori x)) (tree_of k)) [ of.Pwri y ↦ refl | of.Ori y ↦ refl ] ]) (either_equality ⟦<Implicit<PasswordRecipientInfo<'a>, 3> as Form>⟧ ⟦<Implicit<OtherRecipientInfo<'a>, 4> as Form>⟧
-        (one_tag ⟦<ImplicitTag<SequenceTag, 3> as TagMarker>⟧.TAG ⟦<Implicit<PasswordRecipientInfo<'a>, 3> as FormValue>⟧.value.contents)
-        (one_tag ⟦<ImplicitTag<SequenceTag, 4> as TagMarker>⟧.TAG ⟦<Implicit<OtherRecipientInfo<'a>, 4> as FormValue>⟧.value.contents)
-        ⟦<Implicit<PasswordRecipientInfo<'a>, 3> as PartialEq>⟧.eq ⟦<Implicit<OtherRecipientInfo<'a>, 4> as PartialEq>⟧.eq
-        (one_tag_equality ⟦<ImplicitTag<SequenceTag, 3> as TagMarker>⟧.TAG ⟦<Implicit<PasswordRecipientInfo<'a>, 3> as FormValue>⟧.value.contents ⟦<Implicit<PasswordRecipientInfo<'a>, 3> as FormValue>⟧.value.comparable ⟦<Implicit<PasswordRecipientInfo<'a>, 3> as PartialEq>⟧.eq (λ v w. (password_recipient_info_contents_eq.contents_eq-law v.value w.value)))
-        (one_tag_equality ⟦<ImplicitTag<SequenceTag, 4> as TagMarker>⟧.TAG ⟦<Implicit<OtherRecipientInfo<'a>, 4> as FormValue>⟧.value.contents ⟦<Implicit<OtherRecipientInfo<'a>, 4> as FormValue>⟧.value.comparable ⟦<Implicit<OtherRecipientInfo<'a>, 4> as PartialEq>⟧.eq (λ v w. (attribute_type_and_value_contents_eq.contents_eq-law v.value w.value)))
-        ⟦<OneOf<Implicit<PasswordRecipientInfo<'a>, 3>, Implicit<OtherRecipientInfo<'a>, 4>> as PartialEq>⟧.eq (λ v x. refl) (λ w y. refl) (λ v w. refl) (λ w v. refl)) };
+    ghost encoding_eq = { ⟦<RecipientInfoOther<'a> as Choosing>⟧.choice.equal };
 }
 
 impl<'a> CopyLaws for RecipientInfoOther<'a> {

@@ -2,19 +2,20 @@
 //!
 //! Made by tools/asn1 from enveloped.asn1.
 
-ghost use Rattle.std.specs.Cmp.Lexicographic.{bytes_decides};
 ghost use Rattle.std.specs.Prelude.{◌≡◌, false, refl};
 ghost use Rattle.der_elem.specs.FormatMakers.{mapped_format};
 ghost use Rattle.der_enveloped.specs.Enveloped.Grammar.{recipient_infos};
 ghost use Rattle.der_lists.specs.NonEmptyRef.{list_of};
 ghost use Rattle.der_modules.specs.Asn1.{parse_of};
+ghost use Rattle.der_modules.specs.Members.{seen_member};
 
 use crate::enveloped::recipient_info::RecipientInfo;
 use der_elem::{
     ContentsEq, CopyIsDuplicate, DecodeValue, EncodeValue, Form, FormValue, OneTag, SetTag,
-    ValueOrd,
+    TagMarker, ValueOrd,
 };
 use der_lists::{NonEmptyRef, UnorderedSetRef};
+use der_modules::Member;
 use der_tlv::{BackWriter, Error, Header, Length, Source, Writer};
 use std::alloc::Global;
 use std::cmp::Ordering;
@@ -67,12 +68,10 @@ impl<'a, R: Source<'a>> DecodeValue<'a, R> for RecipientInfos<'a> {
         reader: &mut R,
         header: Header,
     ) -> Result<RecipientInfos<'a>, Error> {
-        match NonEmptyRef::<UnorderedSetRef<'a, RecipientInfo<'a>>>::decode_value(
+        let items = NonEmptyRef::<UnorderedSetRef<'a, RecipientInfo<'a>>>::decode_value(
             alloc, reader, header,
-        ) {
-            Ok(items) => Ok(RecipientInfos { items }),
-            Err(e) => Err(e),
-        }
+        )?;
+        Ok(RecipientInfos { items })
     }
 
     ghost takes_memory_is = { refl };
@@ -98,8 +97,12 @@ impl<'a> ValueOrd for RecipientInfos<'a> {
     }
 }
 
+impl<'a> Member for RecipientInfos<'a> {
+    ghost member = { seen_member ⟦<SetTag as TagMarker>⟧.TAG (λ v. v.items) ⟦<NonEmptyRef<UnorderedSetRef<'a, RecipientInfo<'a>>> as Member>⟧.member };
+}
+
 impl<'a> ContentsEq for RecipientInfos<'a> {
-    ghost contents_eq = { λ v w. (λ one. bytes_decides v.items.list.octets.octets.now w.items.list.octets.octets.now) };
+    ghost contents_eq = { ⟦<RecipientInfos<'a> as Member>⟧.member.equal };
 }
 
 impl<'a> CopyIsDuplicate for RecipientInfos<'a> {}

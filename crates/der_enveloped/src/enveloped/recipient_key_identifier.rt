@@ -8,21 +8,16 @@ ghost use Rattle.der_enveloped.specs.Enveloped.Grammar.{recipient_key_identifier
 ghost use Rattle.der_enveloped.specs.Enveloped.RecipientKeyIdentifier as recipient_key_identifier_fields;
 ghost use Rattle.der_enveloped.specs.declared.enveloped.recipient_key_identifier.RecipientKeyIdentifier.{RecipientKeyIdentifier};
 ghost use Rattle.der_modules.specs.Asn1.{joined, optional, parse_of};
-ghost use Rattle.der_modules.specs.MemberLaws.{member_equality, no_equality, one_tag, one_tag_equality, optional_equality, optional_starts, tagged_starts};
-ghost use Rattle.der_opaque.specs.contracts.octet_string_ref.OctetStringRefContentsEq.TheImpl.Laws as octetstringref_contents_eq;
-ghost use Rattle.der_pkix.specs.contracts.algorithm_identifier.AlgorithmIdentifierContentsEq.TheImpl.Laws as algorithm_identifier_contents_eq;
-ghost use Rattle.der_time.specs.contracts.generalized_time.GeneralizedTimeContentsEq.TheImpl.Laws as generalizedtime_contents_eq;
+ghost use Rattle.der_modules.specs.Members.{field, no_fields, optional_field, struct_member};
 
 use crate::enveloped::aliases::OtherKeyAttribute;
 use der_elem::{
-    ContentsEq, CopyIsDuplicate, DecodeValue, EncodeValue, Form, FormValue, GeneralizedTimeTag,
-    OctetStringTag, OneTag, Sequence, SequenceTag, TagMarker, ValueOrd,
+    ContentsEq, CopyIsDuplicate, DecodeValue, EncodeValue, Form, FormValue, OneTag, Sequence,
+    SequenceTag, TagMarker, ValueOrd,
 };
 use der_extensions::extension::SubjectKeyIdentifier;
-use der_fields::{DecodeFields, EncodeFields, End, Field, FieldList, Fields3, FieldsOrd};
-use der_modules::copy_of;
-use der_opaque::OctetStringRef;
-use der_pkix::AlgorithmIdentifier;
+use der_fields::{DecodeFields, EncodeFields, FieldList, Fields3, FieldsOrd};
+use der_modules::{Member, copy_of, field_list, if_present};
 use der_time::GeneralizedTime;
 use der_tlv::{BackWriter, Error, Header, Length, Source, Writer};
 use std::alloc::Global;
@@ -63,15 +58,11 @@ impl<'a> RecipientKeyIdentifier<'a> {
         ensures date { recipient_key_identifier_fields.date result ≡ date }
         ensures other { recipient_key_identifier_fields.other result ≡ option_copied other.entry }
     {
-        let first = match other {
-            Some(value) => Some(copy_of(value)),
-            None => None,
-        };
-        let rest = Field { first, rest: End };
-        let first = date;
-        let rest = Field { first, rest };
-        let first = subject_key_identifier;
-        let list = Field { first, rest };
+        let list = field_list![
+            subject_key_identifier,
+            date,
+            if_present!(value in other => copy_of(value))
+        ];
         let fields = Fields3 { list };
         RecipientKeyIdentifier { fields }
     }
@@ -94,10 +85,7 @@ impl<'a> RecipientKeyIdentifier<'a> {
     pub fn other(&self) -> Option<&OtherKeyAttribute<'a>>
         ensures { option_copied result ≡ recipient_key_identifier_fields.other self.now }
     {
-        match &self.fields.list.rest.rest.first {
-            Some(value) => Some(value),
-            None => None,
-        }
+        if_present!(value in &self.fields.list.rest.rest.first => value)
     }
 }
 
@@ -162,20 +150,16 @@ impl<'a> ValueOrd for RecipientKeyIdentifier<'a> {
     }
 }
 
+impl<'a> Member for RecipientKeyIdentifier<'a> {
+    ghost member = { struct_member ⟦<SequenceTag as TagMarker>⟧.TAG (λ v. v.fields.list)
+        (field ⟦<SubjectKeyIdentifier<'a> as Member>⟧.member
+        (optional_field ⟦<GeneralizedTime as Member>⟧.member
+        (optional_field ⟦<OtherKeyAttribute<'a> as Member>⟧.member
+        no_fields))) };
+}
+
 impl<'a> ContentsEq for RecipientKeyIdentifier<'a> {
-    ghost contents_eq = { λ v w. (member_equality ⟦<SubjectKeyIdentifier<'a> as Form>⟧
-        (tagged_starts ⟦<SubjectKeyIdentifier<'a> as Form>⟧ (one_tag ⟦<OctetStringTag as TagMarker>⟧.TAG ⟦<OctetStringRef<'a> as FormValue>⟧.value.contents))
-        ⟦<SubjectKeyIdentifier<'a> as PartialEq>⟧.eq
-        (one_tag_equality ⟦<OctetStringTag as TagMarker>⟧.TAG ⟦<OctetStringRef<'a> as FormValue>⟧.value.contents ⟦<OctetStringRef<'a> as FormValue>⟧.value.comparable ⟦<OctetStringRef<'a> as PartialEq>⟧.eq octetstringref_contents_eq.contents_eq-law)
-        (member_equality ⟦<Option<GeneralizedTime> as Form>⟧
-        (optional_starts ⟦<GeneralizedTime as Form>⟧ (one_tag ⟦<GeneralizedTimeTag as TagMarker>⟧.TAG ⟦<GeneralizedTime as FormValue>⟧.value.contents))
-        ⟦<Option<GeneralizedTime> as PartialEq>⟧.eq
-        (optional_equality ⟦<GeneralizedTime as Form>⟧ (one_tag ⟦<GeneralizedTimeTag as TagMarker>⟧.TAG ⟦<GeneralizedTime as FormValue>⟧.value.contents) ⟦<GeneralizedTime as PartialEq>⟧.eq (one_tag_equality ⟦<GeneralizedTimeTag as TagMarker>⟧.TAG ⟦<GeneralizedTime as FormValue>⟧.value.contents ⟦<GeneralizedTime as FormValue>⟧.value.comparable ⟦<GeneralizedTime as PartialEq>⟧.eq generalizedtime_contents_eq.contents_eq-law))
-        (member_equality ⟦<Option<OtherKeyAttribute<'a>> as Form>⟧
-        (optional_starts ⟦<OtherKeyAttribute<'a> as Form>⟧ (one_tag ⟦<SequenceTag as TagMarker>⟧.TAG ⟦<AlgorithmIdentifier<'a> as FormValue>⟧.value.contents))
-        ⟦<Option<OtherKeyAttribute<'a>> as PartialEq>⟧.eq
-        (optional_equality ⟦<OtherKeyAttribute<'a> as Form>⟧ (one_tag ⟦<SequenceTag as TagMarker>⟧.TAG ⟦<AlgorithmIdentifier<'a> as FormValue>⟧.value.contents) ⟦<OtherKeyAttribute<'a> as PartialEq>⟧.eq (one_tag_equality ⟦<SequenceTag as TagMarker>⟧.TAG ⟦<AlgorithmIdentifier<'a> as FormValue>⟧.value.contents ⟦<AlgorithmIdentifier<'a> as FormValue>⟧.value.comparable ⟦<AlgorithmIdentifier<'a> as PartialEq>⟧.eq algorithm_identifier_contents_eq.contents_eq-law))
-        no_equality))).equal v.fields.list w.fields.list };
+    ghost contents_eq = { ⟦<RecipientKeyIdentifier<'a> as Member>⟧.member.equal };
 }
 
 impl<'a> CopyIsDuplicate for RecipientKeyIdentifier<'a> {}

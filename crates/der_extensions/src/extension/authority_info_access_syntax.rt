@@ -2,19 +2,20 @@
 //!
 //! Made by tools/asn1 from extension.asn1.
 
-ghost use Rattle.std.specs.Cmp.Lexicographic.{bytes_decides};
 ghost use Rattle.std.specs.Prelude.{◌≡◌, false, refl};
 ghost use Rattle.der_elem.specs.FormatMakers.{mapped_format};
 ghost use Rattle.der_extensions.specs.Extension.Grammar.{authority_info_access_syntax};
 ghost use Rattle.der_lists.specs.NonEmptyRef.{list_of};
 ghost use Rattle.der_modules.specs.Asn1.{parse_of};
+ghost use Rattle.der_modules.specs.Members.{seen_member};
 
 use crate::extension::access_description::AccessDescription;
 use der_elem::{
     ContentsEq, CopyIsDuplicate, DecodeValue, EncodeValue, Form, FormValue, OneTag, Sequence,
-    SequenceTag, ValueOrd,
+    SequenceTag, TagMarker, ValueOrd,
 };
 use der_lists::{ListRef, NonEmptyRef};
+use der_modules::Member;
 use der_tlv::{BackWriter, Error, Header, Length, Source, Writer};
 use std::alloc::Global;
 use std::cmp::Ordering;
@@ -72,12 +73,10 @@ impl<'a, R: Source<'a>> DecodeValue<'a, R> for AuthorityInfoAccessSyntax<'a> {
         reader: &mut R,
         header: Header,
     ) -> Result<AuthorityInfoAccessSyntax<'a>, Error> {
-        match NonEmptyRef::<ListRef<'a, AccessDescription<'a>>>::decode_value(
+        let items = NonEmptyRef::<ListRef<'a, AccessDescription<'a>>>::decode_value(
             alloc, reader, header,
-        ) {
-            Ok(items) => Ok(AuthorityInfoAccessSyntax { items }),
-            Err(e) => Err(e),
-        }
+        )?;
+        Ok(AuthorityInfoAccessSyntax { items })
     }
 
     ghost takes_memory_is = { refl };
@@ -103,8 +102,12 @@ impl<'a> ValueOrd for AuthorityInfoAccessSyntax<'a> {
     }
 }
 
+impl<'a> Member for AuthorityInfoAccessSyntax<'a> {
+    ghost member = { seen_member ⟦<SequenceTag as TagMarker>⟧.TAG (λ v. v.items) ⟦<NonEmptyRef<ListRef<'a, AccessDescription<'a>>> as Member>⟧.member };
+}
+
 impl<'a> ContentsEq for AuthorityInfoAccessSyntax<'a> {
-    ghost contents_eq = { λ v w. (λ one. bytes_decides v.items.list.octets.octets.now w.items.list.octets.octets.now) };
+    ghost contents_eq = { ⟦<AuthorityInfoAccessSyntax<'a> as Member>⟧.member.equal };
 }
 
 impl<'a> CopyIsDuplicate for AuthorityInfoAccessSyntax<'a> {}

@@ -6,23 +6,18 @@ ghost use Rattle.std.specs.Prelude.{◌∷◌, ◌≡◌, [], false, refl, true}
 ghost use Rattle.der_elem.specs.FormatMakers.{mapped_format};
 ghost use Rattle.der_extensions.specs.Extension.AuthorityKeyIdentifier as authority_key_identifier_fields;
 ghost use Rattle.der_extensions.specs.Extension.Grammar.{authority_key_identifier};
-ghost use Rattle.der_extensions.specs.contracts.extension.general_names.GeneralNamesContentsEq.TheImpl.Laws as general_names_contents_eq;
 ghost use Rattle.der_extensions.specs.declared.extension.authority_key_identifier.AuthorityKeyIdentifier.{AuthorityKeyIdentifier};
 ghost use Rattle.der_modules.specs.Asn1.{context, implicit_encoding, joined, optional, parse_of};
-ghost use Rattle.der_modules.specs.MemberLaws.{member_equality, no_equality, one_tag, one_tag_equality, optional_equality, optional_starts};
-ghost use Rattle.der_numbers.specs.contracts.int_ref.IntRefContentsEq.TheImpl.Laws as intref_contents_eq;
-ghost use Rattle.der_opaque.specs.contracts.octet_string_ref.OctetStringRefContentsEq.TheImpl.Laws as octetstringref_contents_eq;
+ghost use Rattle.der_modules.specs.Members.{no_fields, optional_field, struct_member};
 
 use crate::extension::aliases::KeyIdentifier;
 use crate::extension::general_names::GeneralNames;
 use der_elem::{
-    ContentsEq, CopyIsDuplicate, DecodeValue, EncodeValue, Form, FormValue, IntegerTag,
-    OctetStringTag, OneTag, Sequence, SequenceTag, TagMarker, ValueOrd,
+    ContentsEq, CopyIsDuplicate, DecodeValue, EncodeValue, Form, FormValue, OneTag, Sequence,
+    SequenceTag, TagMarker, ValueOrd,
 };
-use der_fields::{
-    DecodeFields, EncodeFields, End, Field, FieldList, Fields3, FieldsOrd, Implicit, ImplicitTag,
-};
-use der_modules::copy_of;
+use der_fields::{DecodeFields, EncodeFields, FieldList, Fields3, FieldsOrd, Implicit};
+use der_modules::{Member, copy_of, field_list, if_present};
 use der_pkix::certificate::CertificateSerialNumber;
 use der_tlv::{BackWriter, Error, Header, Length, Source, Writer};
 use std::alloc::Global;
@@ -63,23 +58,11 @@ impl<'a> AuthorityKeyIdentifier<'a> {
         ensures authority_cert_issuer { authority_key_identifier_fields.authority_cert_issuer result ≡ option_copied authority_cert_issuer.entry }
         ensures authority_cert_serial_number { authority_key_identifier_fields.authority_cert_serial_number result ≡ authority_cert_serial_number.entry }
     {
-        let first = match authority_cert_serial_number {
-            Some(value) => Some(Implicit { value }),
-            None => None,
-        };
-        let rest = Field { first, rest: End };
-        let first = match authority_cert_issuer {
-            Some(value) => Some(Implicit {
-                value: copy_of(value),
-            }),
-            None => None,
-        };
-        let rest = Field { first, rest };
-        let first = match key_identifier {
-            Some(value) => Some(Implicit { value }),
-            None => None,
-        };
-        let list = Field { first, rest };
+        let list = field_list![
+            if_present!(value in key_identifier => Implicit { value }),
+            if_present!(value in authority_cert_issuer => Implicit { value: copy_of(value) }),
+            if_present!(value in authority_cert_serial_number => Implicit { value })
+        ];
         let fields = Fields3 { list };
         AuthorityKeyIdentifier { fields }
     }
@@ -88,30 +71,21 @@ impl<'a> AuthorityKeyIdentifier<'a> {
     pub fn key_identifier(&self) -> Option<&KeyIdentifier<'a>>
         ensures { option_copied result ≡ authority_key_identifier_fields.key_identifier self.now }
     {
-        match &self.fields.list.first {
-            Some(value) => Some(&value.value),
-            None => None,
-        }
+        if_present!(value in &self.fields.list.first => &value.value)
     }
 
     /// `authorityCertIssuer`, `[1] GeneralNames OPTIONAL`.
     pub fn authority_cert_issuer(&self) -> Option<&GeneralNames<'a>>
         ensures { option_copied result ≡ authority_key_identifier_fields.authority_cert_issuer self.now }
     {
-        match &self.fields.list.rest.first {
-            Some(value) => Some(&value.value),
-            None => None,
-        }
+        if_present!(value in &self.fields.list.rest.first => &value.value)
     }
 
     /// `authorityCertSerialNumber`, `[2] CertificateSerialNumber OPTIONAL`.
     pub fn authority_cert_serial_number(&self) -> Option<&CertificateSerialNumber<'a>>
         ensures { option_copied result ≡ authority_key_identifier_fields.authority_cert_serial_number self.now }
     {
-        match &self.fields.list.rest.rest.first {
-            Some(value) => Some(&value.value),
-            None => None,
-        }
+        if_present!(value in &self.fields.list.rest.rest.first => &value.value)
     }
 }
 
@@ -179,20 +153,16 @@ impl<'a> ValueOrd for AuthorityKeyIdentifier<'a> {
     }
 }
 
+impl<'a> Member for AuthorityKeyIdentifier<'a> {
+    ghost member = { struct_member ⟦<SequenceTag as TagMarker>⟧.TAG (λ v. v.fields.list)
+        (optional_field ⟦<Implicit<KeyIdentifier<'a>, 0> as Member>⟧.member
+        (optional_field ⟦<Implicit<GeneralNames<'a>, 1> as Member>⟧.member
+        (optional_field ⟦<Implicit<CertificateSerialNumber<'a>, 2> as Member>⟧.member
+        no_fields))) };
+}
+
 impl<'a> ContentsEq for AuthorityKeyIdentifier<'a> {
-    ghost contents_eq = { λ v w. (member_equality ⟦<Option<Implicit<KeyIdentifier<'a>, 0>> as Form>⟧
-        (optional_starts ⟦<Implicit<KeyIdentifier<'a>, 0> as Form>⟧ (one_tag ⟦<ImplicitTag<OctetStringTag, 0> as TagMarker>⟧.TAG ⟦<Implicit<KeyIdentifier<'a>, 0> as FormValue>⟧.value.contents))
-        ⟦<Option<Implicit<KeyIdentifier<'a>, 0>> as PartialEq>⟧.eq
-        (optional_equality ⟦<Implicit<KeyIdentifier<'a>, 0> as Form>⟧ (one_tag ⟦<ImplicitTag<OctetStringTag, 0> as TagMarker>⟧.TAG ⟦<Implicit<KeyIdentifier<'a>, 0> as FormValue>⟧.value.contents) ⟦<Implicit<KeyIdentifier<'a>, 0> as PartialEq>⟧.eq (one_tag_equality ⟦<ImplicitTag<OctetStringTag, 0> as TagMarker>⟧.TAG ⟦<Implicit<KeyIdentifier<'a>, 0> as FormValue>⟧.value.contents ⟦<Implicit<KeyIdentifier<'a>, 0> as FormValue>⟧.value.comparable ⟦<Implicit<KeyIdentifier<'a>, 0> as PartialEq>⟧.eq (λ v w. (octetstringref_contents_eq.contents_eq-law v.value w.value))))
-        (member_equality ⟦<Option<Implicit<GeneralNames<'a>, 1>> as Form>⟧
-        (optional_starts ⟦<Implicit<GeneralNames<'a>, 1> as Form>⟧ (one_tag ⟦<ImplicitTag<SequenceTag, 1> as TagMarker>⟧.TAG ⟦<Implicit<GeneralNames<'a>, 1> as FormValue>⟧.value.contents))
-        ⟦<Option<Implicit<GeneralNames<'a>, 1>> as PartialEq>⟧.eq
-        (optional_equality ⟦<Implicit<GeneralNames<'a>, 1> as Form>⟧ (one_tag ⟦<ImplicitTag<SequenceTag, 1> as TagMarker>⟧.TAG ⟦<Implicit<GeneralNames<'a>, 1> as FormValue>⟧.value.contents) ⟦<Implicit<GeneralNames<'a>, 1> as PartialEq>⟧.eq (one_tag_equality ⟦<ImplicitTag<SequenceTag, 1> as TagMarker>⟧.TAG ⟦<Implicit<GeneralNames<'a>, 1> as FormValue>⟧.value.contents ⟦<Implicit<GeneralNames<'a>, 1> as FormValue>⟧.value.comparable ⟦<Implicit<GeneralNames<'a>, 1> as PartialEq>⟧.eq (λ v w. (general_names_contents_eq.contents_eq-law v.value w.value))))
-        (member_equality ⟦<Option<Implicit<CertificateSerialNumber<'a>, 2>> as Form>⟧
-        (optional_starts ⟦<Implicit<CertificateSerialNumber<'a>, 2> as Form>⟧ (one_tag ⟦<ImplicitTag<IntegerTag, 2> as TagMarker>⟧.TAG ⟦<Implicit<CertificateSerialNumber<'a>, 2> as FormValue>⟧.value.contents))
-        ⟦<Option<Implicit<CertificateSerialNumber<'a>, 2>> as PartialEq>⟧.eq
-        (optional_equality ⟦<Implicit<CertificateSerialNumber<'a>, 2> as Form>⟧ (one_tag ⟦<ImplicitTag<IntegerTag, 2> as TagMarker>⟧.TAG ⟦<Implicit<CertificateSerialNumber<'a>, 2> as FormValue>⟧.value.contents) ⟦<Implicit<CertificateSerialNumber<'a>, 2> as PartialEq>⟧.eq (one_tag_equality ⟦<ImplicitTag<IntegerTag, 2> as TagMarker>⟧.TAG ⟦<Implicit<CertificateSerialNumber<'a>, 2> as FormValue>⟧.value.contents ⟦<Implicit<CertificateSerialNumber<'a>, 2> as FormValue>⟧.value.comparable ⟦<Implicit<CertificateSerialNumber<'a>, 2> as PartialEq>⟧.eq (λ v w. (intref_contents_eq.contents_eq-law v.value w.value))))
-        no_equality))).equal v.fields.list w.fields.list };
+    ghost contents_eq = { ⟦<AuthorityKeyIdentifier<'a> as Member>⟧.member.equal };
 }
 
 impl<'a> CopyIsDuplicate for AuthorityKeyIdentifier<'a> {}

@@ -4,22 +4,20 @@
 
 ghost use Rattle.std.specs.Prelude.{◌∷◌, ◌≡◌, [], false, refl};
 ghost use Rattle.der_elem.specs.FormatMakers.{mapped_format};
-ghost use Rattle.der_elem.specs.contracts.boolean.BoolContentsEq.TheImpl.Laws as bool_contents_eq;
 ghost use Rattle.der_extensions.specs.Extension.BasicConstraints as basic_constraints_fields;
 ghost use Rattle.der_extensions.specs.Extension.Grammar.{basic_constraints};
 ghost use Rattle.der_extensions.specs.declared.extension.basic_constraints.BasicConstraints.{BasicConstraints};
 ghost use Rattle.der_modules.specs.Asn1.{joined, optional, parse_of, unless_default};
-ghost use Rattle.der_modules.specs.MemberLaws.{default_equality, default_starts, member_equality, no_equality, one_tag, one_tag_equality, optional_equality, optional_starts};
-ghost use Rattle.der_numbers.specs.contracts.uint_ref.UintRefContentsEq.TheImpl.Laws as uintref_contents_eq;
+ghost use Rattle.der_modules.specs.Members.{default_field, no_fields, optional_field, struct_member};
 
 use der_elem::{
-    BooleanTag, ContentsEq, CopyIsDuplicate, DecodeValue, EncodeValue, Form, FormValue, IntegerTag,
-    OneTag, Sequence, SequenceTag, TagMarker, ValueOrd,
+    ContentsEq, CopyIsDuplicate, DecodeValue, EncodeValue, Form, FormValue, OneTag, Sequence,
+    SequenceTag, TagMarker, ValueOrd,
 };
 use der_fields::{
-    DecodeFields, DefaultFalse, DefaultOf, EncodeFields, End, Field, FieldList, Fields2, FieldsOrd,
-    WithDefault,
+    DecodeFields, DefaultFalse, DefaultOf, EncodeFields, FieldList, Fields2, FieldsOrd, WithDefault,
 };
+use der_modules::{Member, field_list, if_present};
 use der_numbers::UintRef;
 use der_tlv::{BackWriter, Error, Header, Length, Source, Writer};
 use std::alloc::Global;
@@ -50,10 +48,7 @@ impl<'a> BasicConstraints<'a> {
         ensures ca { basic_constraints_fields.ca result ≡ ca }
         ensures path_len_constraint { basic_constraints_fields.path_len_constraint result ≡ path_len_constraint.entry }
     {
-        let first = path_len_constraint;
-        let rest = Field { first, rest: End };
-        let first = WithDefault::new(ca);
-        let list = Field { first, rest };
+        let list = field_list![WithDefault::new(ca), path_len_constraint];
         let fields = Fields2 { list };
         BasicConstraints { fields }
     }
@@ -69,10 +64,7 @@ impl<'a> BasicConstraints<'a> {
     pub fn path_len_constraint(&self) -> Option<&UintRef<'a>>
         ensures { option_copied result ≡ basic_constraints_fields.path_len_constraint self.now }
     {
-        match &self.fields.list.rest.first {
-            Some(value) => Some(value),
-            None => None,
-        }
+        if_present!(value in &self.fields.list.rest.first => value)
     }
 }
 
@@ -136,16 +128,15 @@ impl<'a> ValueOrd for BasicConstraints<'a> {
     }
 }
 
+impl<'a> Member for BasicConstraints<'a> {
+    ghost member = { struct_member ⟦<SequenceTag as TagMarker>⟧.TAG (λ v. v.fields.list)
+        (default_field ⟦<DefaultFalse as DefaultOf<bool>>⟧.octets ⟦<bool as Member>⟧.member
+        (optional_field ⟦<UintRef<'a> as Member>⟧.member
+        no_fields)) };
+}
+
 impl<'a> ContentsEq for BasicConstraints<'a> {
-    ghost contents_eq = { λ v w. (member_equality ⟦<WithDefault<bool, DefaultFalse> as Form>⟧
-        (default_starts ⟦<bool as Form>⟧ (one_tag ⟦<BooleanTag as TagMarker>⟧.TAG ⟦<bool as FormValue>⟧.value.contents) (λ x. x.value) ⟦<DefaultFalse as DefaultOf<bool>>⟧.octets)
-        ⟦<WithDefault<bool, DefaultFalse> as PartialEq>⟧.eq
-        (default_equality ⟦<bool as Form>⟧ (one_tag ⟦<BooleanTag as TagMarker>⟧.TAG ⟦<bool as FormValue>⟧.value.contents) (λ x. x.value) ⟦<DefaultFalse as DefaultOf<bool>>⟧.octets ⟦<bool as PartialEq>⟧.eq (one_tag_equality ⟦<BooleanTag as TagMarker>⟧.TAG ⟦<bool as FormValue>⟧.value.contents ⟦<bool as FormValue>⟧.value.comparable ⟦<bool as PartialEq>⟧.eq bool_contents_eq.contents_eq-law))
-        (member_equality ⟦<Option<UintRef<'a>> as Form>⟧
-        (optional_starts ⟦<UintRef<'a> as Form>⟧ (one_tag ⟦<IntegerTag as TagMarker>⟧.TAG ⟦<UintRef<'a> as FormValue>⟧.value.contents))
-        ⟦<Option<UintRef<'a>> as PartialEq>⟧.eq
-        (optional_equality ⟦<UintRef<'a> as Form>⟧ (one_tag ⟦<IntegerTag as TagMarker>⟧.TAG ⟦<UintRef<'a> as FormValue>⟧.value.contents) ⟦<UintRef<'a> as PartialEq>⟧.eq (one_tag_equality ⟦<IntegerTag as TagMarker>⟧.TAG ⟦<UintRef<'a> as FormValue>⟧.value.contents ⟦<UintRef<'a> as FormValue>⟧.value.comparable ⟦<UintRef<'a> as PartialEq>⟧.eq uintref_contents_eq.contents_eq-law))
-        no_equality)).equal v.fields.list w.fields.list };
+    ghost contents_eq = { ⟦<BasicConstraints<'a> as Member>⟧.member.equal };
 }
 
 impl<'a> CopyIsDuplicate for BasicConstraints<'a> {}

@@ -2,19 +2,20 @@
 //!
 //! Made by tools/asn1 from extension.asn1.
 
-ghost use Rattle.std.specs.Cmp.Lexicographic.{bytes_decides};
 ghost use Rattle.std.specs.Prelude.{◌≡◌, false, refl};
 ghost use Rattle.der_elem.specs.FormatMakers.{mapped_format};
 ghost use Rattle.der_extensions.specs.Extension.Grammar.{certificate_policies};
 ghost use Rattle.der_lists.specs.NonEmptyRef.{list_of};
 ghost use Rattle.der_modules.specs.Asn1.{parse_of};
+ghost use Rattle.der_modules.specs.Members.{seen_member};
 
 use crate::extension::policy_information::PolicyInformation;
 use der_elem::{
     ContentsEq, CopyIsDuplicate, DecodeValue, EncodeValue, Form, FormValue, OneTag, Sequence,
-    SequenceTag, ValueOrd,
+    SequenceTag, TagMarker, ValueOrd,
 };
 use der_lists::{ListRef, NonEmptyRef};
+use der_modules::Member;
 use der_tlv::{BackWriter, Error, Header, Length, Source, Writer};
 use std::alloc::Global;
 use std::cmp::Ordering;
@@ -69,12 +70,10 @@ impl<'a, R: Source<'a>> DecodeValue<'a, R> for CertificatePolicies<'a> {
         reader: &mut R,
         header: Header,
     ) -> Result<CertificatePolicies<'a>, Error> {
-        match NonEmptyRef::<ListRef<'a, PolicyInformation<'a>>>::decode_value(
+        let items = NonEmptyRef::<ListRef<'a, PolicyInformation<'a>>>::decode_value(
             alloc, reader, header,
-        ) {
-            Ok(items) => Ok(CertificatePolicies { items }),
-            Err(e) => Err(e),
-        }
+        )?;
+        Ok(CertificatePolicies { items })
     }
 
     ghost takes_memory_is = { refl };
@@ -100,8 +99,12 @@ impl<'a> ValueOrd for CertificatePolicies<'a> {
     }
 }
 
+impl<'a> Member for CertificatePolicies<'a> {
+    ghost member = { seen_member ⟦<SequenceTag as TagMarker>⟧.TAG (λ v. v.items) ⟦<NonEmptyRef<ListRef<'a, PolicyInformation<'a>>> as Member>⟧.member };
+}
+
 impl<'a> ContentsEq for CertificatePolicies<'a> {
-    ghost contents_eq = { λ v w. (λ one. bytes_decides v.items.list.octets.octets.now w.items.list.octets.octets.now) };
+    ghost contents_eq = { ⟦<CertificatePolicies<'a> as Member>⟧.member.equal };
 }
 
 impl<'a> CopyIsDuplicate for CertificatePolicies<'a> {}

@@ -3,29 +3,22 @@
 //! Made by tools/asn1 from extension.asn1.
 
 ghost use Rattle.std.specs.Prelude.{◌∷◌, ◌≡◌, [], false, refl, true};
-ghost use Rattle.der_bits.specs.contracts.named_bits.NamedBitsRefContentsEq.TheImpl.Laws as namedbitsref_contents_eq;
 ghost use Rattle.der_elem.specs.FormatMakers.{mapped_format};
 ghost use Rattle.der_extensions.specs.Extension.DistributionPoint as distribution_point_fields;
 ghost use Rattle.der_extensions.specs.Extension.Grammar.{distribution_point};
-ghost use Rattle.der_extensions.specs.contracts.extension.distribution_point_name.DistributionPointNameEncodingEq.TheImpl.Laws as distribution_point_name_encoding_eq;
-ghost use Rattle.der_extensions.specs.contracts.extension.distribution_point_name.DistributionPointNameTagged.TheImpl.Laws as distribution_point_name_tagged;
-ghost use Rattle.der_extensions.specs.contracts.extension.general_names.GeneralNamesContentsEq.TheImpl.Laws as general_names_contents_eq;
 ghost use Rattle.der_extensions.specs.declared.extension.distribution_point.DistributionPoint.{DistributionPoint};
 ghost use Rattle.der_modules.specs.Asn1.{context, explicit_encoding, implicit_encoding, joined, optional, parse_of};
-ghost use Rattle.der_modules.specs.MemberLaws.{member_equality, no_equality, one_tag, one_tag_equality, optional_equality, optional_starts, own_tags, tagged_starts};
+ghost use Rattle.der_modules.specs.Members.{no_fields, optional_field, struct_member};
 
 use crate::extension::aliases::ReasonFlags;
 use crate::extension::distribution_point_name::DistributionPointName;
 use crate::extension::general_names::GeneralNames;
 use der_elem::{
-    BitStringTag, ContentsEq, CopyIsDuplicate, DecodeValue, EncodeValue, Form, FormValue, OneTag,
-    Sequence, SequenceTag, TagMarker, Tagged, ValueOrd,
+    ContentsEq, CopyIsDuplicate, DecodeValue, EncodeValue, Form, FormValue, OneTag, Sequence,
+    SequenceTag, TagMarker, ValueOrd,
 };
-use der_fields::{
-    DecodeFields, EncodeFields, End, Explicit, ExplicitTag, Field, FieldList, Fields3, FieldsOrd,
-    Implicit, ImplicitTag,
-};
-use der_modules::copy_of;
+use der_fields::{DecodeFields, EncodeFields, Explicit, FieldList, Fields3, FieldsOrd, Implicit};
+use der_modules::{Member, copy_of, field_list, if_present, tagged};
 use der_tlv::{BackWriter, Error, Header, Length, Source, Writer};
 use std::alloc::Global;
 use std::cmp::Ordering;
@@ -65,28 +58,11 @@ impl<'a> DistributionPoint<'a> {
         ensures reasons { distribution_point_fields.reasons result ≡ reasons.entry }
         ensures crl_issuer { distribution_point_fields.crl_issuer result ≡ option_copied crl_issuer.entry }
     {
-        let first = match crl_issuer {
-            Some(value) => Some(Implicit {
-                value: copy_of(value),
-            }),
-            None => None,
-        };
-        let rest = Field { first, rest: End };
-        let first = match reasons {
-            Some(value) => Some(Implicit { value }),
-            None => None,
-        };
-        let rest = Field { first, rest };
-        let first = match distribution_point {
-            Some(first) => Some(Explicit {
-                fields: Field {
-                    first: copy_of(first),
-                    rest: End,
-                },
-            }),
-            None => None,
-        };
-        let list = Field { first, rest };
+        let list = field_list![
+            if_present!(value in distribution_point => tagged!(Explicit, copy_of(value))),
+            if_present!(value in reasons => Implicit { value }),
+            if_present!(value in crl_issuer => Implicit { value: copy_of(value) })
+        ];
         let fields = Fields3 { list };
         DistributionPoint { fields }
     }
@@ -95,30 +71,21 @@ impl<'a> DistributionPoint<'a> {
     pub fn distribution_point(&self) -> Option<&DistributionPointName<'a>>
         ensures { option_copied result ≡ distribution_point_fields.distribution_point self.now }
     {
-        match &self.fields.list.first {
-            Some(value) => Some(&value.fields.first),
-            None => None,
-        }
+        if_present!(value in &self.fields.list.first => &value.fields.first)
     }
 
     /// `reasons`, `[1] ReasonFlags OPTIONAL`.
     pub fn reasons(&self) -> Option<&ReasonFlags<'a>>
         ensures { option_copied result ≡ distribution_point_fields.reasons self.now }
     {
-        match &self.fields.list.rest.first {
-            Some(value) => Some(&value.value),
-            None => None,
-        }
+        if_present!(value in &self.fields.list.rest.first => &value.value)
     }
 
     /// `cRLIssuer`, `[2] GeneralNames OPTIONAL`.
     pub fn crl_issuer(&self) -> Option<&GeneralNames<'a>>
         ensures { option_copied result ≡ distribution_point_fields.crl_issuer self.now }
     {
-        match &self.fields.list.rest.rest.first {
-            Some(value) => Some(&value.value),
-            None => None,
-        }
+        if_present!(value in &self.fields.list.rest.rest.first => &value.value)
     }
 }
 
@@ -183,24 +150,16 @@ impl<'a> ValueOrd for DistributionPoint<'a> {
     }
 }
 
+impl<'a> Member for DistributionPoint<'a> {
+    ghost member = { struct_member ⟦<SequenceTag as TagMarker>⟧.TAG (λ v. v.fields.list)
+        (optional_field ⟦<Explicit<DistributionPointName<'a>, 0> as Member>⟧.member
+        (optional_field ⟦<Implicit<ReasonFlags<'a>, 1> as Member>⟧.member
+        (optional_field ⟦<Implicit<GeneralNames<'a>, 2> as Member>⟧.member
+        no_fields))) };
+}
+
 impl<'a> ContentsEq for DistributionPoint<'a> {
-    ghost contents_eq = { λ v w. (member_equality ⟦<Option<Explicit<DistributionPointName<'a>, 0>> as Form>⟧
-        (optional_starts ⟦<Explicit<DistributionPointName<'a>, 0> as Form>⟧ (one_tag ⟦<ExplicitTag<0> as TagMarker>⟧.TAG ⟦<Explicit<DistributionPointName<'a>, 0> as FormValue>⟧.value.contents))
-        ⟦<Option<Explicit<DistributionPointName<'a>, 0>> as PartialEq>⟧.eq
-        (optional_equality ⟦<Explicit<DistributionPointName<'a>, 0> as Form>⟧ (one_tag ⟦<ExplicitTag<0> as TagMarker>⟧.TAG ⟦<Explicit<DistributionPointName<'a>, 0> as FormValue>⟧.value.contents) ⟦<Explicit<DistributionPointName<'a>, 0> as PartialEq>⟧.eq (one_tag_equality ⟦<ExplicitTag<0> as TagMarker>⟧.TAG ⟦<Explicit<DistributionPointName<'a>, 0> as FormValue>⟧.value.contents ⟦<Explicit<DistributionPointName<'a>, 0> as FormValue>⟧.value.comparable ⟦<Explicit<DistributionPointName<'a>, 0> as PartialEq>⟧.eq (λ v w. ((member_equality ⟦<DistributionPointName<'a> as Form>⟧
-        (tagged_starts ⟦<DistributionPointName<'a> as Form>⟧ (own_tags ⟦<DistributionPointName<'a> as Form>⟧.tags ⟦<DistributionPointName<'a> as Form>⟧.first_tag_of ⟦<DistributionPointName<'a> as Form>⟧.encoding ⟦<DistributionPointName<'a> as Tagged>⟧.tag_of ⟦<DistributionPointName<'a> as FormValue>⟧.value.contents distribution_point_name_tagged.encoding_is-law distribution_point_name_tagged.own_tag-law distribution_point_name_tagged.first_tag_is-law))
-        ⟦<DistributionPointName<'a> as PartialEq>⟧.eq
-        distribution_point_name_encoding_eq.encoding_eq-law
-        no_equality).equal v.fields w.fields))))
-        (member_equality ⟦<Option<Implicit<ReasonFlags<'a>, 1>> as Form>⟧
-        (optional_starts ⟦<Implicit<ReasonFlags<'a>, 1> as Form>⟧ (one_tag ⟦<ImplicitTag<BitStringTag, 1> as TagMarker>⟧.TAG ⟦<Implicit<ReasonFlags<'a>, 1> as FormValue>⟧.value.contents))
-        ⟦<Option<Implicit<ReasonFlags<'a>, 1>> as PartialEq>⟧.eq
-        (optional_equality ⟦<Implicit<ReasonFlags<'a>, 1> as Form>⟧ (one_tag ⟦<ImplicitTag<BitStringTag, 1> as TagMarker>⟧.TAG ⟦<Implicit<ReasonFlags<'a>, 1> as FormValue>⟧.value.contents) ⟦<Implicit<ReasonFlags<'a>, 1> as PartialEq>⟧.eq (one_tag_equality ⟦<ImplicitTag<BitStringTag, 1> as TagMarker>⟧.TAG ⟦<Implicit<ReasonFlags<'a>, 1> as FormValue>⟧.value.contents ⟦<Implicit<ReasonFlags<'a>, 1> as FormValue>⟧.value.comparable ⟦<Implicit<ReasonFlags<'a>, 1> as PartialEq>⟧.eq (λ v w. (namedbitsref_contents_eq.contents_eq-law v.value w.value))))
-        (member_equality ⟦<Option<Implicit<GeneralNames<'a>, 2>> as Form>⟧
-        (optional_starts ⟦<Implicit<GeneralNames<'a>, 2> as Form>⟧ (one_tag ⟦<ImplicitTag<SequenceTag, 2> as TagMarker>⟧.TAG ⟦<Implicit<GeneralNames<'a>, 2> as FormValue>⟧.value.contents))
-        ⟦<Option<Implicit<GeneralNames<'a>, 2>> as PartialEq>⟧.eq
-        (optional_equality ⟦<Implicit<GeneralNames<'a>, 2> as Form>⟧ (one_tag ⟦<ImplicitTag<SequenceTag, 2> as TagMarker>⟧.TAG ⟦<Implicit<GeneralNames<'a>, 2> as FormValue>⟧.value.contents) ⟦<Implicit<GeneralNames<'a>, 2> as PartialEq>⟧.eq (one_tag_equality ⟦<ImplicitTag<SequenceTag, 2> as TagMarker>⟧.TAG ⟦<Implicit<GeneralNames<'a>, 2> as FormValue>⟧.value.contents ⟦<Implicit<GeneralNames<'a>, 2> as FormValue>⟧.value.comparable ⟦<Implicit<GeneralNames<'a>, 2> as PartialEq>⟧.eq (λ v w. (general_names_contents_eq.contents_eq-law v.value w.value))))
-        no_equality))).equal v.fields.list w.fields.list };
+    ghost contents_eq = { ⟦<DistributionPoint<'a> as Member>⟧.member.equal };
 }
 
 impl<'a> CopyIsDuplicate for DistributionPoint<'a> {}

@@ -11,19 +11,18 @@ ghost use Rattle.der_elem.specs.TaggedLaws.{tlv_tagged};
 ghost use Rattle.der_extensions.specs.Extension.DistributionPointName.{tree_of};
 ghost use Rattle.der_extensions.specs.Extension.Grammar.{distribution_point_name};
 ghost use Rattle.der_extensions.specs.contracts.extension.distribution_point_name.DistributionPointNameEq.TheImpl.Laws as distribution_point_name_eq;
-ghost use Rattle.der_extensions.specs.contracts.extension.general_names.GeneralNamesContentsEq.TheImpl.Laws as general_names_contents_eq;
 ghost use Rattle.der_extensions.specs.declared.extension.distribution_point_name.DistributionPointName.TheVariants as of;
 ghost use Rattle.der_modules.specs.Asn1.{parse_of};
-ghost use Rattle.der_modules.specs.MemberLaws.{copies_of, either_equality, either_tag, one_tag, one_tag_equality, same_copies, seen_equality};
-ghost use Rattle.der_pkix.specs.contracts.name.relative_distinguished_name.RelativeDistinguishedNameContentsEq.TheImpl.Laws as relative_distinguished_name_contents_eq;
+ghost use Rattle.der_modules.specs.MemberLaws.{copies_of, same_copies};
+ghost use Rattle.der_modules.specs.Members.{seen_choice};
 
 use crate::extension::general_names::GeneralNames;
 use der_elem::{
     Choice, Decode, DecodeField, DerOrd, Duplicate, DuplicateIsEqual, EncodeValue, EncodingEq,
-    Form, FormValue, KnownTags, SequenceTag, SetTag, TagMarker, Tagged,
+    Form, FormValue, KnownTags, Tagged,
 };
-use der_fields::{Implicit, ImplicitTag, OneOf, cmp_headers};
-use der_modules::{CopyLaws, copy_of};
+use der_fields::{Implicit, OneOf, cmp_headers};
+use der_modules::{Choosing, CopyLaws, copy_of};
 use der_pkix::name::RelativeDistinguishedName;
 use der_tlv::{BackWriter, Error, Length, Source, Tag, Writer};
 use std::alloc::Global;
@@ -102,19 +101,13 @@ impl<'a> Tagged for DistributionPointName<'a> {
         }
     }
 
-    ghost encoding_is = { λ v. (either_tag ⟦<Implicit<GeneralNames<'a>, 0> as Form>⟧ ⟦<Implicit<RelativeDistinguishedName<'a>, 1> as Form>⟧
-        (one_tag ⟦<ImplicitTag<SequenceTag, 0> as TagMarker>⟧.TAG ⟦<Implicit<GeneralNames<'a>, 0> as FormValue>⟧.value.contents)
-        (one_tag ⟦<ImplicitTag<SetTag, 1> as TagMarker>⟧.TAG ⟦<Implicit<RelativeDistinguishedName<'a>, 1> as FormValue>⟧.value.contents)).encoding_is (tree_of v) };
+    ghost encoding_is = { ⟦<DistributionPointName<'a> as Choosing>⟧.choice.has_tag.encoding_is };
 
     ghost accepted_is_tlv = { λ rules v b. elim v as (λ k. ⟦<Tree<'a> as Form>⟧.accepts rules (tree_of k) b → IsTlv b) [ of.FullName x ↦ λ a. tlv_tagged _ ⟦<Implicit<GeneralNames<'a>, 0> as FormValue>⟧.value.accepts rules x b a.0 | of.NameRelativeToCrlIssuer x ↦ λ a. tlv_tagged _ ⟦<Implicit<RelativeDistinguishedName<'a>, 1> as FormValue>⟧.value.accepts rules x b a.0 ] };
 
-    ghost own_tag = { λ v. (either_tag ⟦<Implicit<GeneralNames<'a>, 0> as Form>⟧ ⟦<Implicit<RelativeDistinguishedName<'a>, 1> as Form>⟧
-        (one_tag ⟦<ImplicitTag<SequenceTag, 0> as TagMarker>⟧.TAG ⟦<Implicit<GeneralNames<'a>, 0> as FormValue>⟧.value.contents)
-        (one_tag ⟦<ImplicitTag<SetTag, 1> as TagMarker>⟧.TAG ⟦<Implicit<RelativeDistinguishedName<'a>, 1> as FormValue>⟧.value.contents)).own_tag (tree_of v) };
+    ghost own_tag = { ⟦<DistributionPointName<'a> as Choosing>⟧.choice.has_tag.own_tag };
 
-    ghost first_tag_is = { λ v. (either_tag ⟦<Implicit<GeneralNames<'a>, 0> as Form>⟧ ⟦<Implicit<RelativeDistinguishedName<'a>, 1> as Form>⟧
-        (one_tag ⟦<ImplicitTag<SequenceTag, 0> as TagMarker>⟧.TAG ⟦<Implicit<GeneralNames<'a>, 0> as FormValue>⟧.value.contents)
-        (one_tag ⟦<ImplicitTag<SetTag, 1> as TagMarker>⟧.TAG ⟦<Implicit<RelativeDistinguishedName<'a>, 1> as FormValue>⟧.value.contents)).first_tag_is (tree_of v) };
+    ghost first_tag_is = { ⟦<DistributionPointName<'a> as Choosing>⟧.choice.has_tag.first_tag_is };
 
     ghost re_reads_alike = { λ v. elim v as (λ k. ⟦<Tree<'a> as FormValue>⟧.value.re_reads (tree_of k) ≡ true → ⟦<Tree<'a> as Form>⟧.re_reads (tree_of k) ≡ true) [ of.FullName x ↦ λ h. h | of.NameRelativeToCrlIssuer x ↦ λ h. h ] };
 
@@ -208,14 +201,16 @@ impl<'a> DerOrd for DistributionPointName<'a> {
     }
 }
 
+impl<'a> Choosing for DistributionPointName<'a> {
+    ghost choice = { seen_choice tree_of ⟦<DistributionPointName<'a> as PartialEq>⟧.eq ⟦<Tree<'a> as Choosing>⟧.choice
+        (λ v w. elim v as (λ k. ⟦<DistributionPointName<'a> as PartialEq>⟧.eq k w ≡ ⟦<Tree<'a> as Choosing>⟧.choice.eq (tree_of k) (tree_of w)) [
+          | of.FullName x ↦ elim w as (λ k. ⟦<DistributionPointName<'a> as PartialEq>⟧.eq (of.FullName x) k ≡ ⟦<Tree<'a> as Choosing>⟧.choice.eq (tree_of (of.FullName x)) (tree_of k)) [ of.FullName y ↦ refl | of.NameRelativeToCrlIssuer y ↦ refl ]
+          | of.NameRelativeToCrlIssuer x ↦ elim w as (λ k. ⟦<DistributionPointName<'a> as PartialEq>⟧.eq (of.NameRelativeToCrlIssuer x) k ≡ ⟦<Tree<'a> as Choosing>⟧.choice.eq (tree_of (of.NameRelativeToCrlIssuer x)) (tree_of k)) [ of.FullName y ↦ refl | of.NameRelativeToCrlIssuer y ↦ refl ]
+        ]) };
+}
+
 impl<'a> EncodingEq for DistributionPointName<'a> {
-    ghost encoding_eq = { seen_equality tree_of ⟦<DistributionPointName<'a> as PartialEq>⟧.eq ⟦<Tree<'a> as PartialEq>⟧.eq (λ v w. elim v as (λ k. ⟦<DistributionPointName<'a> as PartialEq>⟧.eq k w ≡ ⟦<Tree<'a> as PartialEq>⟧.eq (tree_of k) (tree_of w)) [ of.FullName x ↦ elim w as (λ k. ⟦<DistributionPointName<'a> as PartialEq>⟧.eq (of.FullName x) k ≡ ⟦<Tree<'a> as PartialEq>⟧.eq (tree_of (of.FullName x)) (tree_of k)) [ of.FullName y ↦ refl | of.NameRelativeToCrlIssuer y ↦ refl ] | of.NameRelativeToCrlIssuer x ↦ elim w as (λ k. ⟦<DistributionPointName<'a> as PartialEq>⟧.eq (of.NameRelativeToCrlIssuer x) k ≡ ⟦<Tree<'a> as PartialEq>⟧.eq (tree_of (of.NameRelativeToCrlIssuer x)) (tree_of k)) [ of.FullName y ↦ refl | of.NameRelativeToCrlIssuer y ↦ refl ] ]) (either_equality ⟦<Implicit<GeneralNames<'a>, 0> as Form>⟧ ⟦<Implicit<RelativeDistinguishedName<'a>, 1> as Form>⟧
-        (one_tag ⟦<ImplicitTag<SequenceTag, 0> as TagMarker>⟧.TAG ⟦<Implicit<GeneralNames<'a>, 0> as FormValue>⟧.value.contents)
-        (one_tag ⟦<ImplicitTag<SetTag, 1> as TagMarker>⟧.TAG ⟦<Implicit<RelativeDistinguishedName<'a>, 1> as FormValue>⟧.value.contents)
-        ⟦<Implicit<GeneralNames<'a>, 0> as PartialEq>⟧.eq ⟦<Implicit<RelativeDistinguishedName<'a>, 1> as PartialEq>⟧.eq
-        (one_tag_equality ⟦<ImplicitTag<SequenceTag, 0> as TagMarker>⟧.TAG ⟦<Implicit<GeneralNames<'a>, 0> as FormValue>⟧.value.contents ⟦<Implicit<GeneralNames<'a>, 0> as FormValue>⟧.value.comparable ⟦<Implicit<GeneralNames<'a>, 0> as PartialEq>⟧.eq (λ v w. (general_names_contents_eq.contents_eq-law v.value w.value)))
-        (one_tag_equality ⟦<ImplicitTag<SetTag, 1> as TagMarker>⟧.TAG ⟦<Implicit<RelativeDistinguishedName<'a>, 1> as FormValue>⟧.value.contents ⟦<Implicit<RelativeDistinguishedName<'a>, 1> as FormValue>⟧.value.comparable ⟦<Implicit<RelativeDistinguishedName<'a>, 1> as PartialEq>⟧.eq (λ v w. (relative_distinguished_name_contents_eq.contents_eq-law v.value w.value)))
-        ⟦<OneOf<Implicit<GeneralNames<'a>, 0>, Implicit<RelativeDistinguishedName<'a>, 1>> as PartialEq>⟧.eq (λ v x. refl) (λ w y. refl) (λ v w. refl) (λ w v. refl)) };
+    ghost encoding_eq = { ⟦<DistributionPointName<'a> as Choosing>⟧.choice.equal };
 }
 
 impl<'a> CopyLaws for DistributionPointName<'a> {

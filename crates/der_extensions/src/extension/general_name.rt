@@ -2,9 +2,7 @@
 //!
 //! Made by tools/asn1 from extension.asn1.
 
-ghost use Rattle.std.proofs.Common.{lit<};
 ghost use Rattle.std.specs.Prelude.{◌≡◌, false, refl, true};
-ghost use Rattle.der_ascii.specs.contracts.string_ref.CharacterStringRefContentsEq.TheImpl.Laws as characterstringref_contents_eq;
 ghost use Rattle.der_elem.specs.Accepting.{IsTlv};
 ghost use Rattle.der_elem.specs.FirstTags.{HasFirstTag};
 ghost use Rattle.der_elem.specs.FormatMakers.{mapped_format};
@@ -12,28 +10,23 @@ ghost use Rattle.der_elem.specs.KnownTagLaws.{known_either, own_is_known};
 ghost use Rattle.der_elem.specs.TaggedLaws.{tlv_tagged};
 ghost use Rattle.der_extensions.specs.Extension.GeneralName.{tree_of};
 ghost use Rattle.der_extensions.specs.Extension.Grammar.{general_name};
-ghost use Rattle.der_extensions.specs.contracts.extension.another_name.AnotherNameContentsEq.TheImpl.Laws as another_name_contents_eq;
 ghost use Rattle.der_extensions.specs.contracts.extension.general_name.GeneralNameEq.TheImpl.Laws as general_name_eq;
 ghost use Rattle.der_extensions.specs.declared.extension.general_name.GeneralName.TheVariants as of;
 ghost use Rattle.der_modules.specs.Asn1.{parse_of};
-ghost use Rattle.der_modules.specs.MemberLaws.{copies_of, either_equality, either_tag, member_equality, no_equality, one_tag, one_tag_equality, same_copies, seen_equality, tagged_starts};
-ghost use Rattle.der_nest.specs.contracts.sequence_ref.SequenceRefContentsEq.TheImpl.Laws as sequenceref_contents_eq;
-ghost use Rattle.der_opaque.specs.contracts.object_identifier_ref.ObjectIdentifierRefContentsEq.TheImpl.Laws as objectidentifierref_contents_eq;
-ghost use Rattle.der_opaque.specs.contracts.octet_string_ref.OctetStringRefContentsEq.TheImpl.Laws as octetstringref_contents_eq;
-ghost use Rattle.der_pkix.specs.contracts.name.rdn_sequence.RdnSequenceContentsEq.TheImpl.Laws as rdn_sequence_contents_eq;
+ghost use Rattle.der_modules.specs.MemberLaws.{copies_of, same_copies};
+ghost use Rattle.der_modules.specs.Members.{seen_choice};
 
 use crate::extension::another_name::AnotherName;
-use der_ascii::{CharacterStringTag, Ia5StringRef};
+use der_ascii::Ia5StringRef;
 use der_elem::{
     Choice, Decode, DecodeField, DerOrd, Duplicate, DuplicateIsEqual, EncodeValue, EncodingEq,
-    Form, FormValue, KnownTags, ObjectIdentifierTag, OctetStringTag, SequenceTag, TagMarker,
-    Tagged,
+    Form, FormValue, KnownTags, Tagged,
 };
-use der_fields::{Explicit, ExplicitTag, Implicit, ImplicitTag, OneOf, cmp_headers};
-use der_modules::{CopyLaws, copy_of};
+use der_fields::{Explicit, Implicit, OneOf, cmp_headers};
+use der_modules::{Choosing, CopyLaws, copy_of};
 use der_nest::SequenceRef;
 use der_opaque::{ObjectIdentifierRef, OctetStringRef};
-use der_pkix::name::{Name, RdnSequence};
+use der_pkix::name::Name;
 use der_tlv::{BackWriter, Error, Length, Source, Tag, Writer};
 use std::alloc::Global;
 use std::cmp::Ordering;
@@ -151,61 +144,13 @@ impl<'a> Tagged for GeneralName<'a> {
         }
     }
 
-    ghost encoding_is = { λ v. (either_tag ⟦<OneOf<OneOf<OneOf<Implicit<AnotherName<'a>, 0>, Implicit<Ia5StringRef<'a>, 1>>, Implicit<Ia5StringRef<'a>, 2>>, OneOf<Implicit<SequenceRef<'a>, 3>, Explicit<Name<'a>, 4>>> as Form>⟧ ⟦<OneOf<OneOf<Implicit<SequenceRef<'a>, 5>, Implicit<Ia5StringRef<'a>, 6>>, OneOf<Implicit<OctetStringRef<'a>, 7>, Implicit<ObjectIdentifierRef<'a, 39>, 8>>> as Form>⟧
-        (either_tag ⟦<OneOf<OneOf<Implicit<AnotherName<'a>, 0>, Implicit<Ia5StringRef<'a>, 1>>, Implicit<Ia5StringRef<'a>, 2>> as Form>⟧ ⟦<OneOf<Implicit<SequenceRef<'a>, 3>, Explicit<Name<'a>, 4>> as Form>⟧
-        (either_tag ⟦<OneOf<Implicit<AnotherName<'a>, 0>, Implicit<Ia5StringRef<'a>, 1>> as Form>⟧ ⟦<Implicit<Ia5StringRef<'a>, 2> as Form>⟧
-        (either_tag ⟦<Implicit<AnotherName<'a>, 0> as Form>⟧ ⟦<Implicit<Ia5StringRef<'a>, 1> as Form>⟧
-        (one_tag ⟦<ImplicitTag<SequenceTag, 0> as TagMarker>⟧.TAG ⟦<Implicit<AnotherName<'a>, 0> as FormValue>⟧.value.contents)
-        (one_tag ⟦<ImplicitTag<CharacterStringTag<22>, 1> as TagMarker>⟧.TAG ⟦<Implicit<Ia5StringRef<'a>, 1> as FormValue>⟧.value.contents))
-        (one_tag ⟦<ImplicitTag<CharacterStringTag<22>, 2> as TagMarker>⟧.TAG ⟦<Implicit<Ia5StringRef<'a>, 2> as FormValue>⟧.value.contents))
-        (either_tag ⟦<Implicit<SequenceRef<'a>, 3> as Form>⟧ ⟦<Explicit<Name<'a>, 4> as Form>⟧
-        (one_tag ⟦<ImplicitTag<SequenceTag, 3> as TagMarker>⟧.TAG ⟦<Implicit<SequenceRef<'a>, 3> as FormValue>⟧.value.contents)
-        (one_tag ⟦<ExplicitTag<4> as TagMarker>⟧.TAG ⟦<Explicit<Name<'a>, 4> as FormValue>⟧.value.contents)))
-        (either_tag ⟦<OneOf<Implicit<SequenceRef<'a>, 5>, Implicit<Ia5StringRef<'a>, 6>> as Form>⟧ ⟦<OneOf<Implicit<OctetStringRef<'a>, 7>, Implicit<ObjectIdentifierRef<'a, 39>, 8>> as Form>⟧
-        (either_tag ⟦<Implicit<SequenceRef<'a>, 5> as Form>⟧ ⟦<Implicit<Ia5StringRef<'a>, 6> as Form>⟧
-        (one_tag ⟦<ImplicitTag<SequenceTag, 5> as TagMarker>⟧.TAG ⟦<Implicit<SequenceRef<'a>, 5> as FormValue>⟧.value.contents)
-        (one_tag ⟦<ImplicitTag<CharacterStringTag<22>, 6> as TagMarker>⟧.TAG ⟦<Implicit<Ia5StringRef<'a>, 6> as FormValue>⟧.value.contents))
-        (either_tag ⟦<Implicit<OctetStringRef<'a>, 7> as Form>⟧ ⟦<Implicit<ObjectIdentifierRef<'a, 39>, 8> as Form>⟧
-        (one_tag ⟦<ImplicitTag<OctetStringTag, 7> as TagMarker>⟧.TAG ⟦<Implicit<OctetStringRef<'a>, 7> as FormValue>⟧.value.contents)
-        (one_tag ⟦<ImplicitTag<ObjectIdentifierTag, 8> as TagMarker>⟧.TAG ⟦<Implicit<ObjectIdentifierRef<'a, 39>, 8> as FormValue>⟧.value.contents)))).encoding_is (tree_of v) };
+    ghost encoding_is = { ⟦<GeneralName<'a> as Choosing>⟧.choice.has_tag.encoding_is };
 
     ghost accepted_is_tlv = { λ rules v b. elim v as (λ k. ⟦<Tree<'a> as Form>⟧.accepts rules (tree_of k) b → IsTlv b) [ of.OtherName x ↦ λ a. tlv_tagged _ ⟦<Implicit<AnotherName<'a>, 0> as FormValue>⟧.value.accepts rules x b a.0.0.0.0 | of.Rfc822Name x ↦ λ a. tlv_tagged _ ⟦<Implicit<Ia5StringRef<'a>, 1> as FormValue>⟧.value.accepts rules x b a.0.0.0.0 | of.DnsName x ↦ λ a. tlv_tagged _ ⟦<Implicit<Ia5StringRef<'a>, 2> as FormValue>⟧.value.accepts rules x b a.0.0.0 | of.X400Address x ↦ λ a. tlv_tagged _ ⟦<Implicit<SequenceRef<'a>, 3> as FormValue>⟧.value.accepts rules x b a.0.0.0 | of.DirectoryName x ↦ λ a. tlv_tagged _ ⟦<Explicit<Name<'a>, 4> as FormValue>⟧.value.accepts rules x b a.0.0.0 | of.EdiPartyName x ↦ λ a. tlv_tagged _ ⟦<Implicit<SequenceRef<'a>, 5> as FormValue>⟧.value.accepts rules x b a.0.0.0 | of.UniformResourceIdentifier x ↦ λ a. tlv_tagged _ ⟦<Implicit<Ia5StringRef<'a>, 6> as FormValue>⟧.value.accepts rules x b a.0.0.0 | of.IpAddress x ↦ λ a. tlv_tagged _ ⟦<Implicit<OctetStringRef<'a>, 7> as FormValue>⟧.value.accepts rules x b a.0.0.0 | of.RegisteredId x ↦ λ a. tlv_tagged _ ⟦<Implicit<ObjectIdentifierRef<'a, 39>, 8> as FormValue>⟧.value.accepts rules x b a.0.0.0 ] };
 
-    ghost own_tag = { λ v. (either_tag ⟦<OneOf<OneOf<OneOf<Implicit<AnotherName<'a>, 0>, Implicit<Ia5StringRef<'a>, 1>>, Implicit<Ia5StringRef<'a>, 2>>, OneOf<Implicit<SequenceRef<'a>, 3>, Explicit<Name<'a>, 4>>> as Form>⟧ ⟦<OneOf<OneOf<Implicit<SequenceRef<'a>, 5>, Implicit<Ia5StringRef<'a>, 6>>, OneOf<Implicit<OctetStringRef<'a>, 7>, Implicit<ObjectIdentifierRef<'a, 39>, 8>>> as Form>⟧
-        (either_tag ⟦<OneOf<OneOf<Implicit<AnotherName<'a>, 0>, Implicit<Ia5StringRef<'a>, 1>>, Implicit<Ia5StringRef<'a>, 2>> as Form>⟧ ⟦<OneOf<Implicit<SequenceRef<'a>, 3>, Explicit<Name<'a>, 4>> as Form>⟧
-        (either_tag ⟦<OneOf<Implicit<AnotherName<'a>, 0>, Implicit<Ia5StringRef<'a>, 1>> as Form>⟧ ⟦<Implicit<Ia5StringRef<'a>, 2> as Form>⟧
-        (either_tag ⟦<Implicit<AnotherName<'a>, 0> as Form>⟧ ⟦<Implicit<Ia5StringRef<'a>, 1> as Form>⟧
-        (one_tag ⟦<ImplicitTag<SequenceTag, 0> as TagMarker>⟧.TAG ⟦<Implicit<AnotherName<'a>, 0> as FormValue>⟧.value.contents)
-        (one_tag ⟦<ImplicitTag<CharacterStringTag<22>, 1> as TagMarker>⟧.TAG ⟦<Implicit<Ia5StringRef<'a>, 1> as FormValue>⟧.value.contents))
-        (one_tag ⟦<ImplicitTag<CharacterStringTag<22>, 2> as TagMarker>⟧.TAG ⟦<Implicit<Ia5StringRef<'a>, 2> as FormValue>⟧.value.contents))
-        (either_tag ⟦<Implicit<SequenceRef<'a>, 3> as Form>⟧ ⟦<Explicit<Name<'a>, 4> as Form>⟧
-        (one_tag ⟦<ImplicitTag<SequenceTag, 3> as TagMarker>⟧.TAG ⟦<Implicit<SequenceRef<'a>, 3> as FormValue>⟧.value.contents)
-        (one_tag ⟦<ExplicitTag<4> as TagMarker>⟧.TAG ⟦<Explicit<Name<'a>, 4> as FormValue>⟧.value.contents)))
-        (either_tag ⟦<OneOf<Implicit<SequenceRef<'a>, 5>, Implicit<Ia5StringRef<'a>, 6>> as Form>⟧ ⟦<OneOf<Implicit<OctetStringRef<'a>, 7>, Implicit<ObjectIdentifierRef<'a, 39>, 8>> as Form>⟧
-        (either_tag ⟦<Implicit<SequenceRef<'a>, 5> as Form>⟧ ⟦<Implicit<Ia5StringRef<'a>, 6> as Form>⟧
-        (one_tag ⟦<ImplicitTag<SequenceTag, 5> as TagMarker>⟧.TAG ⟦<Implicit<SequenceRef<'a>, 5> as FormValue>⟧.value.contents)
-        (one_tag ⟦<ImplicitTag<CharacterStringTag<22>, 6> as TagMarker>⟧.TAG ⟦<Implicit<Ia5StringRef<'a>, 6> as FormValue>⟧.value.contents))
-        (either_tag ⟦<Implicit<OctetStringRef<'a>, 7> as Form>⟧ ⟦<Implicit<ObjectIdentifierRef<'a, 39>, 8> as Form>⟧
-        (one_tag ⟦<ImplicitTag<OctetStringTag, 7> as TagMarker>⟧.TAG ⟦<Implicit<OctetStringRef<'a>, 7> as FormValue>⟧.value.contents)
-        (one_tag ⟦<ImplicitTag<ObjectIdentifierTag, 8> as TagMarker>⟧.TAG ⟦<Implicit<ObjectIdentifierRef<'a, 39>, 8> as FormValue>⟧.value.contents)))).own_tag (tree_of v) };
+    ghost own_tag = { ⟦<GeneralName<'a> as Choosing>⟧.choice.has_tag.own_tag };
 
-    ghost first_tag_is = { λ v. (either_tag ⟦<OneOf<OneOf<OneOf<Implicit<AnotherName<'a>, 0>, Implicit<Ia5StringRef<'a>, 1>>, Implicit<Ia5StringRef<'a>, 2>>, OneOf<Implicit<SequenceRef<'a>, 3>, Explicit<Name<'a>, 4>>> as Form>⟧ ⟦<OneOf<OneOf<Implicit<SequenceRef<'a>, 5>, Implicit<Ia5StringRef<'a>, 6>>, OneOf<Implicit<OctetStringRef<'a>, 7>, Implicit<ObjectIdentifierRef<'a, 39>, 8>>> as Form>⟧
-        (either_tag ⟦<OneOf<OneOf<Implicit<AnotherName<'a>, 0>, Implicit<Ia5StringRef<'a>, 1>>, Implicit<Ia5StringRef<'a>, 2>> as Form>⟧ ⟦<OneOf<Implicit<SequenceRef<'a>, 3>, Explicit<Name<'a>, 4>> as Form>⟧
-        (either_tag ⟦<OneOf<Implicit<AnotherName<'a>, 0>, Implicit<Ia5StringRef<'a>, 1>> as Form>⟧ ⟦<Implicit<Ia5StringRef<'a>, 2> as Form>⟧
-        (either_tag ⟦<Implicit<AnotherName<'a>, 0> as Form>⟧ ⟦<Implicit<Ia5StringRef<'a>, 1> as Form>⟧
-        (one_tag ⟦<ImplicitTag<SequenceTag, 0> as TagMarker>⟧.TAG ⟦<Implicit<AnotherName<'a>, 0> as FormValue>⟧.value.contents)
-        (one_tag ⟦<ImplicitTag<CharacterStringTag<22>, 1> as TagMarker>⟧.TAG ⟦<Implicit<Ia5StringRef<'a>, 1> as FormValue>⟧.value.contents))
-        (one_tag ⟦<ImplicitTag<CharacterStringTag<22>, 2> as TagMarker>⟧.TAG ⟦<Implicit<Ia5StringRef<'a>, 2> as FormValue>⟧.value.contents))
-        (either_tag ⟦<Implicit<SequenceRef<'a>, 3> as Form>⟧ ⟦<Explicit<Name<'a>, 4> as Form>⟧
-        (one_tag ⟦<ImplicitTag<SequenceTag, 3> as TagMarker>⟧.TAG ⟦<Implicit<SequenceRef<'a>, 3> as FormValue>⟧.value.contents)
-        (one_tag ⟦<ExplicitTag<4> as TagMarker>⟧.TAG ⟦<Explicit<Name<'a>, 4> as FormValue>⟧.value.contents)))
-        (either_tag ⟦<OneOf<Implicit<SequenceRef<'a>, 5>, Implicit<Ia5StringRef<'a>, 6>> as Form>⟧ ⟦<OneOf<Implicit<OctetStringRef<'a>, 7>, Implicit<ObjectIdentifierRef<'a, 39>, 8>> as Form>⟧
-        (either_tag ⟦<Implicit<SequenceRef<'a>, 5> as Form>⟧ ⟦<Implicit<Ia5StringRef<'a>, 6> as Form>⟧
-        (one_tag ⟦<ImplicitTag<SequenceTag, 5> as TagMarker>⟧.TAG ⟦<Implicit<SequenceRef<'a>, 5> as FormValue>⟧.value.contents)
-        (one_tag ⟦<ImplicitTag<CharacterStringTag<22>, 6> as TagMarker>⟧.TAG ⟦<Implicit<Ia5StringRef<'a>, 6> as FormValue>⟧.value.contents))
-        (either_tag ⟦<Implicit<OctetStringRef<'a>, 7> as Form>⟧ ⟦<Implicit<ObjectIdentifierRef<'a, 39>, 8> as Form>⟧
-        (one_tag ⟦<ImplicitTag<OctetStringTag, 7> as TagMarker>⟧.TAG ⟦<Implicit<OctetStringRef<'a>, 7> as FormValue>⟧.value.contents)
-        (one_tag ⟦<ImplicitTag<ObjectIdentifierTag, 8> as TagMarker>⟧.TAG ⟦<Implicit<ObjectIdentifierRef<'a, 39>, 8> as FormValue>⟧.value.contents)))).first_tag_is (tree_of v) };
+    ghost first_tag_is = { ⟦<GeneralName<'a> as Choosing>⟧.choice.has_tag.first_tag_is };
 
     ghost re_reads_alike = { λ v. elim v as (λ k. ⟦<Tree<'a> as FormValue>⟧.value.re_reads (tree_of k) ≡ true → ⟦<Tree<'a> as Form>⟧.re_reads (tree_of k) ≡ true) [ of.OtherName x ↦ λ h. h | of.Rfc822Name x ↦ λ h. h | of.DnsName x ↦ λ h. h | of.X400Address x ↦ λ h. h | of.DirectoryName x ↦ λ h. h | of.EdiPartyName x ↦ λ h. h | of.UniformResourceIdentifier x ↦ λ h. h | of.IpAddress x ↦ λ h. h | of.RegisteredId x ↦ λ h. h ] };
 
@@ -357,86 +302,23 @@ impl<'a> DerOrd for GeneralName<'a> {
     }
 }
 
+impl<'a> Choosing for GeneralName<'a> {
+    ghost choice = { seen_choice tree_of ⟦<GeneralName<'a> as PartialEq>⟧.eq ⟦<Tree<'a> as Choosing>⟧.choice
+        (λ v w. elim v as (λ k. ⟦<GeneralName<'a> as PartialEq>⟧.eq k w ≡ ⟦<Tree<'a> as Choosing>⟧.choice.eq (tree_of k) (tree_of w)) [
+          | of.OtherName x ↦ elim w as (λ k. ⟦<GeneralName<'a> as PartialEq>⟧.eq (of.OtherName x) k ≡ ⟦<Tree<'a> as Choosing>⟧.choice.eq (tree_of (of.OtherName x)) (tree_of k)) [ of.OtherName y ↦ refl | of.Rfc822Name y ↦ refl | of.DnsName y ↦ refl | of.X400Address y ↦ refl | of.DirectoryName y ↦ refl | of.EdiPartyName y ↦ refl | of.UniformResourceIdentifier y ↦ refl | of.IpAddress y ↦ refl | of.RegisteredId y ↦ refl ]
+          | of.Rfc822Name x ↦ elim w as (λ k. ⟦<GeneralName<'a> as PartialEq>⟧.eq (of.Rfc822Name x) k ≡ ⟦<Tree<'a> as Choosing>⟧.choice.eq (tree_of (of.Rfc822Name x)) (tree_of k)) [ of.OtherName y ↦ refl | of.Rfc822Name y ↦ refl | of.DnsName y ↦ refl | of.X400Address y ↦ refl | of.DirectoryName y ↦ refl | of.EdiPartyName y ↦ refl | of.UniformResourceIdentifier y ↦ refl | of.IpAddress y ↦ refl | of.RegisteredId y ↦ refl ]
+          | of.DnsName x ↦ elim w as (λ k. ⟦<GeneralName<'a> as PartialEq>⟧.eq (of.DnsName x) k ≡ ⟦<Tree<'a> as Choosing>⟧.choice.eq (tree_of (of.DnsName x)) (tree_of k)) [ of.OtherName y ↦ refl | of.Rfc822Name y ↦ refl | of.DnsName y ↦ refl | of.X400Address y ↦ refl | of.DirectoryName y ↦ refl | of.EdiPartyName y ↦ refl | of.UniformResourceIdentifier y ↦ refl | of.IpAddress y ↦ refl | of.RegisteredId y ↦ refl ]
+          | of.X400Address x ↦ elim w as (λ k. ⟦<GeneralName<'a> as PartialEq>⟧.eq (of.X400Address x) k ≡ ⟦<Tree<'a> as Choosing>⟧.choice.eq (tree_of (of.X400Address x)) (tree_of k)) [ of.OtherName y ↦ refl | of.Rfc822Name y ↦ refl | of.DnsName y ↦ refl | of.X400Address y ↦ refl | of.DirectoryName y ↦ refl | of.EdiPartyName y ↦ refl | of.UniformResourceIdentifier y ↦ refl | of.IpAddress y ↦ refl | of.RegisteredId y ↦ refl ]
+          | of.DirectoryName x ↦ elim w as (λ k. ⟦<GeneralName<'a> as PartialEq>⟧.eq (of.DirectoryName x) k ≡ ⟦<Tree<'a> as Choosing>⟧.choice.eq (tree_of (of.DirectoryName x)) (tree_of k)) [ of.OtherName y ↦ refl | of.Rfc822Name y ↦ refl | of.DnsName y ↦ refl | of.X400Address y ↦ refl | of.DirectoryName y ↦ refl | of.EdiPartyName y ↦ refl | of.UniformResourceIdentifier y ↦ refl | of.IpAddress y ↦ refl | of.RegisteredId y ↦ refl ]
+          | of.EdiPartyName x ↦ elim w as (λ k. ⟦<GeneralName<'a> as PartialEq>⟧.eq (of.EdiPartyName x) k ≡ ⟦<Tree<'a> as Choosing>⟧.choice.eq (tree_of (of.EdiPartyName x)) (tree_of k)) [ of.OtherName y ↦ refl | of.Rfc822Name y ↦ refl | of.DnsName y ↦ refl | of.X400Address y ↦ refl | of.DirectoryName y ↦ refl | of.EdiPartyName y ↦ refl | of.UniformResourceIdentifier y ↦ refl | of.IpAddress y ↦ refl | of.RegisteredId y ↦ refl ]
+          | of.UniformResourceIdentifier x ↦ elim w as (λ k. ⟦<GeneralName<'a> as PartialEq>⟧.eq (of.UniformResourceIdentifier x) k ≡ ⟦<Tree<'a> as Choosing>⟧.choice.eq (tree_of (of.UniformResourceIdentifier x)) (tree_of k)) [ of.OtherName y ↦ refl | of.Rfc822Name y ↦ refl | of.DnsName y ↦ refl | of.X400Address y ↦ refl | of.DirectoryName y ↦ refl | of.EdiPartyName y ↦ refl | of.UniformResourceIdentifier y ↦ refl | of.IpAddress y ↦ refl | of.RegisteredId y ↦ refl ]
+          | of.IpAddress x ↦ elim w as (λ k. ⟦<GeneralName<'a> as PartialEq>⟧.eq (of.IpAddress x) k ≡ ⟦<Tree<'a> as Choosing>⟧.choice.eq (tree_of (of.IpAddress x)) (tree_of k)) [ of.OtherName y ↦ refl | of.Rfc822Name y ↦ refl | of.DnsName y ↦ refl | of.X400Address y ↦ refl | of.DirectoryName y ↦ refl | of.EdiPartyName y ↦ refl | of.UniformResourceIdentifier y ↦ refl | of.IpAddress y ↦ refl | of.RegisteredId y ↦ refl ]
+          | of.RegisteredId x ↦ elim w as (λ k. ⟦<GeneralName<'a> as PartialEq>⟧.eq (of.RegisteredId x) k ≡ ⟦<Tree<'a> as Choosing>⟧.choice.eq (tree_of (of.RegisteredId x)) (tree_of k)) [ of.OtherName y ↦ refl | of.Rfc822Name y ↦ refl | of.DnsName y ↦ refl | of.X400Address y ↦ refl | of.DirectoryName y ↦ refl | of.EdiPartyName y ↦ refl | of.UniformResourceIdentifier y ↦ refl | of.IpAddress y ↦ refl | of.RegisteredId y ↦ refl ]
+        ]) };
+}
+
 impl<'a> EncodingEq for GeneralName<'a> {
-    ghost encoding_eq = { seen_equality tree_of ⟦<GeneralName<'a> as PartialEq>⟧.eq ⟦<Tree<'a> as PartialEq>⟧.eq (λ v w. elim v as (λ k. ⟦<GeneralName<'a> as PartialEq>⟧.eq k w ≡ ⟦<Tree<'a> as PartialEq>⟧.eq (tree_of k) (tree_of w)) [ of.OtherName x ↦ elim w as (λ k. ⟦<GeneralName<'a> as PartialEq>⟧.eq (of.OtherName x) k ≡ ⟦<Tree<'a> as PartialEq>⟧.eq (tree_of (of.OtherName x)) (tree_of k)) [ of.OtherName y ↦ refl | of.Rfc822Name y ↦ refl | of.DnsName y ↦ refl | of.X400Address y ↦ refl | of.DirectoryName y ↦ refl | of.EdiPartyName y ↦ refl | of.UniformResourceIdentifier y ↦ refl | of.IpAddress y ↦ refl | of.RegisteredId y ↦ refl ] | of.Rfc822Name x ↦ elim w as (λ k. ⟦<GeneralName<'a> as PartialEq>⟧.eq (of.Rfc822Name x) k ≡ ⟦<Tree<'a> as PartialEq>⟧.eq (tree_of (of.Rfc822Name x)) (tree_of k)) [ of.OtherName y ↦ refl | of.Rfc822Name y ↦ refl | of.DnsName y ↦ refl | of.X400Address y ↦ refl | of.DirectoryName y ↦ refl | of.EdiPartyName y ↦ refl | of.UniformResourceIdentifier y ↦ refl | of.IpAddress y ↦ refl | of.RegisteredId y ↦ refl ] | of.DnsName x ↦ elim w as (λ k. ⟦<GeneralName<'a> as PartialEq>⟧.eq (of.DnsName x) k ≡ ⟦<Tree<'a> as PartialEq>⟧.eq (tree_of (of.DnsName x)) (tree_of k)) [ of.OtherName y ↦ refl | of.Rfc822Name y ↦ refl | of.DnsName y ↦ refl | of.X400Address y ↦ refl | of.DirectoryName y ↦ refl | of.EdiPartyName y ↦ refl | of.UniformResourceIdentifier y ↦ refl | of.IpAddress y ↦ refl | of.RegisteredId y ↦ refl ] | of.X400Address x ↦ elim w as (λ k. ⟦<GeneralName<'a> as PartialEq>⟧.eq (of.X400Address x) k ≡ ⟦<Tree<'a> as PartialEq>⟧.eq (tree_of (of.X400Address x)) (tree_of k)) [ of.OtherName y ↦ refl | of.Rfc822Name y ↦ refl | of.DnsName y ↦ refl | of.X400Address y ↦ refl | of.DirectoryName y ↦ refl | of.EdiPartyName y ↦ refl | of.UniformResourceIdentifier y ↦ refl | of.IpAddress y ↦ refl | of.RegisteredId y ↦ refl ] | of.DirectoryName x ↦ elim w as (λ k. ⟦<GeneralName<'a> as PartialEq>⟧.eq (of.DirectoryName x) k ≡ ⟦<Tree<'a> as PartialEq>⟧.eq (tree_of (of.DirectoryName x)) (tree_of k)) [ of.OtherName y ↦ refl | of.Rfc822Name y ↦ refl | of.DnsName y ↦ refl | of.X400Address y ↦ refl | of.DirectoryName y ↦ refl | of.EdiPartyName y ↦ refl | of.UniformResourceIdentifier y ↦ refl | of.IpAddress y ↦ refl | of.RegisteredId y ↦ refl ] | of.EdiPartyName x ↦ elim w as (λ k. ⟦<GeneralName<'a> as PartialEq>⟧.eq (of.EdiPartyName x) k ≡ ⟦<Tree<'a> as PartialEq>⟧.eq (tree_of (of.EdiPartyName x)) (tree_of k)) [ of.OtherName y ↦ refl | of.Rfc822Name y ↦ refl | of.DnsName y ↦ refl | of.X400Address y ↦ refl | of.DirectoryName y ↦ refl | of.EdiPartyName y ↦ refl | of.UniformResourceIdentifier y ↦ refl | of.IpAddress y ↦ refl | of.RegisteredId y ↦ refl ] | of.UniformResourceIdentifier x ↦ elim w as (λ k. ⟦<GeneralName<'a> as PartialEq>⟧.eq (of.UniformResourceIdentifier x) k ≡ ⟦<Tree<'a> as PartialEq>⟧.eq (tree_of (of.UniformResourceIdentifier x)) (tree_of k)) [ of.OtherName y ↦ refl | of.Rfc822Name y ↦ refl | of.DnsName y ↦ refl | of.X400Address y ↦ refl | of.DirectoryName y ↦ refl | of.EdiPartyName y ↦ refl | of.UniformResourceIdentifier y ↦ refl | of.IpAddress y ↦ refl | of.RegisteredId y ↦ refl ] | of.IpAddress x ↦ elim w as (λ k. ⟦<GeneralName<'a> as PartialEq>⟧.eq (of.IpAddress x) k ≡ ⟦<Tree<'a> as PartialEq>⟧.eq (tree_of (of.IpAddress x)) (tree_of k)) [ of.OtherName y ↦ refl | of.Rfc822Name y ↦ refl | of.DnsName y ↦ refl | of.X400Address y ↦ refl | of.DirectoryName y ↦ refl | of.EdiPartyName y ↦ refl | of.UniformResourceIdentifier y ↦ refl | of.IpAddress y ↦ refl | of.RegisteredId y ↦ refl ] | of.RegisteredId x ↦ elim w as (λ k. ⟦<GeneralName<'a> as PartialEq>⟧.eq (of.RegisteredId x) k ≡ ⟦<Tree<'a> as PartialEq>⟧.eq (tree_of (of.RegisteredId x)) (tree_of k)) [ of.OtherName y ↦ refl | of.Rfc822Name y ↦ refl | of.DnsName y ↦ refl | of.X400Address y ↦ refl | of.DirectoryName y ↦ refl | of.EdiPartyName y ↦ refl | of.UniformResourceIdentifier y ↦ refl | of.IpAddress y ↦ refl | of.RegisteredId y ↦ refl ] ]) (either_equality ⟦<OneOf<OneOf<OneOf<Implicit<AnotherName<'a>, 0>, Implicit<Ia5StringRef<'a>, 1>>, Implicit<Ia5StringRef<'a>, 2>>, OneOf<Implicit<SequenceRef<'a>, 3>, Explicit<Name<'a>, 4>>> as Form>⟧ ⟦<OneOf<OneOf<Implicit<SequenceRef<'a>, 5>, Implicit<Ia5StringRef<'a>, 6>>, OneOf<Implicit<OctetStringRef<'a>, 7>, Implicit<ObjectIdentifierRef<'a, 39>, 8>>> as Form>⟧
-        (either_tag ⟦<OneOf<OneOf<Implicit<AnotherName<'a>, 0>, Implicit<Ia5StringRef<'a>, 1>>, Implicit<Ia5StringRef<'a>, 2>> as Form>⟧ ⟦<OneOf<Implicit<SequenceRef<'a>, 3>, Explicit<Name<'a>, 4>> as Form>⟧
-        (either_tag ⟦<OneOf<Implicit<AnotherName<'a>, 0>, Implicit<Ia5StringRef<'a>, 1>> as Form>⟧ ⟦<Implicit<Ia5StringRef<'a>, 2> as Form>⟧
-        (either_tag ⟦<Implicit<AnotherName<'a>, 0> as Form>⟧ ⟦<Implicit<Ia5StringRef<'a>, 1> as Form>⟧
-        (one_tag ⟦<ImplicitTag<SequenceTag, 0> as TagMarker>⟧.TAG ⟦<Implicit<AnotherName<'a>, 0> as FormValue>⟧.value.contents)
-        (one_tag ⟦<ImplicitTag<CharacterStringTag<22>, 1> as TagMarker>⟧.TAG ⟦<Implicit<Ia5StringRef<'a>, 1> as FormValue>⟧.value.contents))
-        (one_tag ⟦<ImplicitTag<CharacterStringTag<22>, 2> as TagMarker>⟧.TAG ⟦<Implicit<Ia5StringRef<'a>, 2> as FormValue>⟧.value.contents))
-        (either_tag ⟦<Implicit<SequenceRef<'a>, 3> as Form>⟧ ⟦<Explicit<Name<'a>, 4> as Form>⟧
-        (one_tag ⟦<ImplicitTag<SequenceTag, 3> as TagMarker>⟧.TAG ⟦<Implicit<SequenceRef<'a>, 3> as FormValue>⟧.value.contents)
-        (one_tag ⟦<ExplicitTag<4> as TagMarker>⟧.TAG ⟦<Explicit<Name<'a>, 4> as FormValue>⟧.value.contents)))
-        (either_tag ⟦<OneOf<Implicit<SequenceRef<'a>, 5>, Implicit<Ia5StringRef<'a>, 6>> as Form>⟧ ⟦<OneOf<Implicit<OctetStringRef<'a>, 7>, Implicit<ObjectIdentifierRef<'a, 39>, 8>> as Form>⟧
-        (either_tag ⟦<Implicit<SequenceRef<'a>, 5> as Form>⟧ ⟦<Implicit<Ia5StringRef<'a>, 6> as Form>⟧
-        (one_tag ⟦<ImplicitTag<SequenceTag, 5> as TagMarker>⟧.TAG ⟦<Implicit<SequenceRef<'a>, 5> as FormValue>⟧.value.contents)
-        (one_tag ⟦<ImplicitTag<CharacterStringTag<22>, 6> as TagMarker>⟧.TAG ⟦<Implicit<Ia5StringRef<'a>, 6> as FormValue>⟧.value.contents))
-        (either_tag ⟦<Implicit<OctetStringRef<'a>, 7> as Form>⟧ ⟦<Implicit<ObjectIdentifierRef<'a, 39>, 8> as Form>⟧
-        (one_tag ⟦<ImplicitTag<OctetStringTag, 7> as TagMarker>⟧.TAG ⟦<Implicit<OctetStringRef<'a>, 7> as FormValue>⟧.value.contents)
-        (one_tag ⟦<ImplicitTag<ObjectIdentifierTag, 8> as TagMarker>⟧.TAG ⟦<Implicit<ObjectIdentifierRef<'a, 39>, 8> as FormValue>⟧.value.contents)))
-        ⟦<OneOf<OneOf<OneOf<Implicit<AnotherName<'a>, 0>, Implicit<Ia5StringRef<'a>, 1>>, Implicit<Ia5StringRef<'a>, 2>>, OneOf<Implicit<SequenceRef<'a>, 3>, Explicit<Name<'a>, 4>>> as PartialEq>⟧.eq ⟦<OneOf<OneOf<Implicit<SequenceRef<'a>, 5>, Implicit<Ia5StringRef<'a>, 6>>, OneOf<Implicit<OctetStringRef<'a>, 7>, Implicit<ObjectIdentifierRef<'a, 39>, 8>>> as PartialEq>⟧.eq
-        (either_equality ⟦<OneOf<OneOf<Implicit<AnotherName<'a>, 0>, Implicit<Ia5StringRef<'a>, 1>>, Implicit<Ia5StringRef<'a>, 2>> as Form>⟧ ⟦<OneOf<Implicit<SequenceRef<'a>, 3>, Explicit<Name<'a>, 4>> as Form>⟧
-        (either_tag ⟦<OneOf<Implicit<AnotherName<'a>, 0>, Implicit<Ia5StringRef<'a>, 1>> as Form>⟧ ⟦<Implicit<Ia5StringRef<'a>, 2> as Form>⟧
-        (either_tag ⟦<Implicit<AnotherName<'a>, 0> as Form>⟧ ⟦<Implicit<Ia5StringRef<'a>, 1> as Form>⟧
-        (one_tag ⟦<ImplicitTag<SequenceTag, 0> as TagMarker>⟧.TAG ⟦<Implicit<AnotherName<'a>, 0> as FormValue>⟧.value.contents)
-        (one_tag ⟦<ImplicitTag<CharacterStringTag<22>, 1> as TagMarker>⟧.TAG ⟦<Implicit<Ia5StringRef<'a>, 1> as FormValue>⟧.value.contents))
-        (one_tag ⟦<ImplicitTag<CharacterStringTag<22>, 2> as TagMarker>⟧.TAG ⟦<Implicit<Ia5StringRef<'a>, 2> as FormValue>⟧.value.contents))
-        (either_tag ⟦<Implicit<SequenceRef<'a>, 3> as Form>⟧ ⟦<Explicit<Name<'a>, 4> as Form>⟧
-        (one_tag ⟦<ImplicitTag<SequenceTag, 3> as TagMarker>⟧.TAG ⟦<Implicit<SequenceRef<'a>, 3> as FormValue>⟧.value.contents)
-        (one_tag ⟦<ExplicitTag<4> as TagMarker>⟧.TAG ⟦<Explicit<Name<'a>, 4> as FormValue>⟧.value.contents))
-        ⟦<OneOf<OneOf<Implicit<AnotherName<'a>, 0>, Implicit<Ia5StringRef<'a>, 1>>, Implicit<Ia5StringRef<'a>, 2>> as PartialEq>⟧.eq ⟦<OneOf<Implicit<SequenceRef<'a>, 3>, Explicit<Name<'a>, 4>> as PartialEq>⟧.eq
-        (either_equality ⟦<OneOf<Implicit<AnotherName<'a>, 0>, Implicit<Ia5StringRef<'a>, 1>> as Form>⟧ ⟦<Implicit<Ia5StringRef<'a>, 2> as Form>⟧
-        (either_tag ⟦<Implicit<AnotherName<'a>, 0> as Form>⟧ ⟦<Implicit<Ia5StringRef<'a>, 1> as Form>⟧
-        (one_tag ⟦<ImplicitTag<SequenceTag, 0> as TagMarker>⟧.TAG ⟦<Implicit<AnotherName<'a>, 0> as FormValue>⟧.value.contents)
-        (one_tag ⟦<ImplicitTag<CharacterStringTag<22>, 1> as TagMarker>⟧.TAG ⟦<Implicit<Ia5StringRef<'a>, 1> as FormValue>⟧.value.contents))
-        (one_tag ⟦<ImplicitTag<CharacterStringTag<22>, 2> as TagMarker>⟧.TAG ⟦<Implicit<Ia5StringRef<'a>, 2> as FormValue>⟧.value.contents)
-        ⟦<OneOf<Implicit<AnotherName<'a>, 0>, Implicit<Ia5StringRef<'a>, 1>> as PartialEq>⟧.eq ⟦<Implicit<Ia5StringRef<'a>, 2> as PartialEq>⟧.eq
-        (either_equality ⟦<Implicit<AnotherName<'a>, 0> as Form>⟧ ⟦<Implicit<Ia5StringRef<'a>, 1> as Form>⟧
-        (one_tag ⟦<ImplicitTag<SequenceTag, 0> as TagMarker>⟧.TAG ⟦<Implicit<AnotherName<'a>, 0> as FormValue>⟧.value.contents)
-        (one_tag ⟦<ImplicitTag<CharacterStringTag<22>, 1> as TagMarker>⟧.TAG ⟦<Implicit<Ia5StringRef<'a>, 1> as FormValue>⟧.value.contents)
-        ⟦<Implicit<AnotherName<'a>, 0> as PartialEq>⟧.eq ⟦<Implicit<Ia5StringRef<'a>, 1> as PartialEq>⟧.eq
-        (one_tag_equality ⟦<ImplicitTag<SequenceTag, 0> as TagMarker>⟧.TAG ⟦<Implicit<AnotherName<'a>, 0> as FormValue>⟧.value.contents ⟦<Implicit<AnotherName<'a>, 0> as FormValue>⟧.value.comparable ⟦<Implicit<AnotherName<'a>, 0> as PartialEq>⟧.eq (λ v w. (another_name_contents_eq.contents_eq-law v.value w.value)))
-        (one_tag_equality ⟦<ImplicitTag<CharacterStringTag<22>, 1> as TagMarker>⟧.TAG ⟦<Implicit<Ia5StringRef<'a>, 1> as FormValue>⟧.value.contents ⟦<Implicit<Ia5StringRef<'a>, 1> as FormValue>⟧.value.comparable ⟦<Implicit<Ia5StringRef<'a>, 1> as PartialEq>⟧.eq (λ v w. ((characterstringref_contents_eq.contents_eq-law 22 (record { fits = lit< tt })) v.value w.value)))
-        ⟦<OneOf<Implicit<AnotherName<'a>, 0>, Implicit<Ia5StringRef<'a>, 1>> as PartialEq>⟧.eq (λ v x. refl) (λ w y. refl) (λ v w. refl) (λ w v. refl))
-        (one_tag_equality ⟦<ImplicitTag<CharacterStringTag<22>, 2> as TagMarker>⟧.TAG ⟦<Implicit<Ia5StringRef<'a>, 2> as FormValue>⟧.value.contents ⟦<Implicit<Ia5StringRef<'a>, 2> as FormValue>⟧.value.comparable ⟦<Implicit<Ia5StringRef<'a>, 2> as PartialEq>⟧.eq (λ v w. ((characterstringref_contents_eq.contents_eq-law 22 (record { fits = lit< tt })) v.value w.value)))
-        ⟦<OneOf<OneOf<Implicit<AnotherName<'a>, 0>, Implicit<Ia5StringRef<'a>, 1>>, Implicit<Ia5StringRef<'a>, 2>> as PartialEq>⟧.eq (λ v x. refl) (λ w y. refl) (λ v w. refl) (λ w v. refl))
-        (either_equality ⟦<Implicit<SequenceRef<'a>, 3> as Form>⟧ ⟦<Explicit<Name<'a>, 4> as Form>⟧
-        (one_tag ⟦<ImplicitTag<SequenceTag, 3> as TagMarker>⟧.TAG ⟦<Implicit<SequenceRef<'a>, 3> as FormValue>⟧.value.contents)
-        (one_tag ⟦<ExplicitTag<4> as TagMarker>⟧.TAG ⟦<Explicit<Name<'a>, 4> as FormValue>⟧.value.contents)
-        ⟦<Implicit<SequenceRef<'a>, 3> as PartialEq>⟧.eq ⟦<Explicit<Name<'a>, 4> as PartialEq>⟧.eq
-        (one_tag_equality ⟦<ImplicitTag<SequenceTag, 3> as TagMarker>⟧.TAG ⟦<Implicit<SequenceRef<'a>, 3> as FormValue>⟧.value.contents ⟦<Implicit<SequenceRef<'a>, 3> as FormValue>⟧.value.comparable ⟦<Implicit<SequenceRef<'a>, 3> as PartialEq>⟧.eq (λ v w. (sequenceref_contents_eq.contents_eq-law v.value w.value)))
-        (one_tag_equality ⟦<ExplicitTag<4> as TagMarker>⟧.TAG ⟦<Explicit<Name<'a>, 4> as FormValue>⟧.value.contents ⟦<Explicit<Name<'a>, 4> as FormValue>⟧.value.comparable ⟦<Explicit<Name<'a>, 4> as PartialEq>⟧.eq (λ v w. ((member_equality ⟦<Name<'a> as Form>⟧
-        (tagged_starts ⟦<Name<'a> as Form>⟧ (one_tag ⟦<SequenceTag as TagMarker>⟧.TAG ⟦<RdnSequence<'a> as FormValue>⟧.value.contents))
-        ⟦<Name<'a> as PartialEq>⟧.eq
-        (one_tag_equality ⟦<SequenceTag as TagMarker>⟧.TAG ⟦<RdnSequence<'a> as FormValue>⟧.value.contents ⟦<RdnSequence<'a> as FormValue>⟧.value.comparable ⟦<RdnSequence<'a> as PartialEq>⟧.eq rdn_sequence_contents_eq.contents_eq-law)
-        no_equality).equal v.fields w.fields)))
-        ⟦<OneOf<Implicit<SequenceRef<'a>, 3>, Explicit<Name<'a>, 4>> as PartialEq>⟧.eq (λ v x. refl) (λ w y. refl) (λ v w. refl) (λ w v. refl))
-        ⟦<OneOf<OneOf<OneOf<Implicit<AnotherName<'a>, 0>, Implicit<Ia5StringRef<'a>, 1>>, Implicit<Ia5StringRef<'a>, 2>>, OneOf<Implicit<SequenceRef<'a>, 3>, Explicit<Name<'a>, 4>>> as PartialEq>⟧.eq (λ v x. refl) (λ w y. refl) (λ v w. refl) (λ w v. refl))
-        (either_equality ⟦<OneOf<Implicit<SequenceRef<'a>, 5>, Implicit<Ia5StringRef<'a>, 6>> as Form>⟧ ⟦<OneOf<Implicit<OctetStringRef<'a>, 7>, Implicit<ObjectIdentifierRef<'a, 39>, 8>> as Form>⟧
-        (either_tag ⟦<Implicit<SequenceRef<'a>, 5> as Form>⟧ ⟦<Implicit<Ia5StringRef<'a>, 6> as Form>⟧
-        (one_tag ⟦<ImplicitTag<SequenceTag, 5> as TagMarker>⟧.TAG ⟦<Implicit<SequenceRef<'a>, 5> as FormValue>⟧.value.contents)
-        (one_tag ⟦<ImplicitTag<CharacterStringTag<22>, 6> as TagMarker>⟧.TAG ⟦<Implicit<Ia5StringRef<'a>, 6> as FormValue>⟧.value.contents))
-        (either_tag ⟦<Implicit<OctetStringRef<'a>, 7> as Form>⟧ ⟦<Implicit<ObjectIdentifierRef<'a, 39>, 8> as Form>⟧
-        (one_tag ⟦<ImplicitTag<OctetStringTag, 7> as TagMarker>⟧.TAG ⟦<Implicit<OctetStringRef<'a>, 7> as FormValue>⟧.value.contents)
-        (one_tag ⟦<ImplicitTag<ObjectIdentifierTag, 8> as TagMarker>⟧.TAG ⟦<Implicit<ObjectIdentifierRef<'a, 39>, 8> as FormValue>⟧.value.contents))
-        ⟦<OneOf<Implicit<SequenceRef<'a>, 5>, Implicit<Ia5StringRef<'a>, 6>> as PartialEq>⟧.eq ⟦<OneOf<Implicit<OctetStringRef<'a>, 7>, Implicit<ObjectIdentifierRef<'a, 39>, 8>> as PartialEq>⟧.eq
-        (either_equality ⟦<Implicit<SequenceRef<'a>, 5> as Form>⟧ ⟦<Implicit<Ia5StringRef<'a>, 6> as Form>⟧
-        (one_tag ⟦<ImplicitTag<SequenceTag, 5> as TagMarker>⟧.TAG ⟦<Implicit<SequenceRef<'a>, 5> as FormValue>⟧.value.contents)
-        (one_tag ⟦<ImplicitTag<CharacterStringTag<22>, 6> as TagMarker>⟧.TAG ⟦<Implicit<Ia5StringRef<'a>, 6> as FormValue>⟧.value.contents)
-        ⟦<Implicit<SequenceRef<'a>, 5> as PartialEq>⟧.eq ⟦<Implicit<Ia5StringRef<'a>, 6> as PartialEq>⟧.eq
-        (one_tag_equality ⟦<ImplicitTag<SequenceTag, 5> as TagMarker>⟧.TAG ⟦<Implicit<SequenceRef<'a>, 5> as FormValue>⟧.value.contents ⟦<Implicit<SequenceRef<'a>, 5> as FormValue>⟧.value.comparable ⟦<Implicit<SequenceRef<'a>, 5> as PartialEq>⟧.eq (λ v w. (sequenceref_contents_eq.contents_eq-law v.value w.value)))
-        (one_tag_equality ⟦<ImplicitTag<CharacterStringTag<22>, 6> as TagMarker>⟧.TAG ⟦<Implicit<Ia5StringRef<'a>, 6> as FormValue>⟧.value.contents ⟦<Implicit<Ia5StringRef<'a>, 6> as FormValue>⟧.value.comparable ⟦<Implicit<Ia5StringRef<'a>, 6> as PartialEq>⟧.eq (λ v w. ((characterstringref_contents_eq.contents_eq-law 22 (record { fits = lit< tt })) v.value w.value)))
-        ⟦<OneOf<Implicit<SequenceRef<'a>, 5>, Implicit<Ia5StringRef<'a>, 6>> as PartialEq>⟧.eq (λ v x. refl) (λ w y. refl) (λ v w. refl) (λ w v. refl))
-        (either_equality ⟦<Implicit<OctetStringRef<'a>, 7> as Form>⟧ ⟦<Implicit<ObjectIdentifierRef<'a, 39>, 8> as Form>⟧
-        (one_tag ⟦<ImplicitTag<OctetStringTag, 7> as TagMarker>⟧.TAG ⟦<Implicit<OctetStringRef<'a>, 7> as FormValue>⟧.value.contents)
-        (one_tag ⟦<ImplicitTag<ObjectIdentifierTag, 8> as TagMarker>⟧.TAG ⟦<Implicit<ObjectIdentifierRef<'a, 39>, 8> as FormValue>⟧.value.contents)
-        ⟦<Implicit<OctetStringRef<'a>, 7> as PartialEq>⟧.eq ⟦<Implicit<ObjectIdentifierRef<'a, 39>, 8> as PartialEq>⟧.eq
-        (one_tag_equality ⟦<ImplicitTag<OctetStringTag, 7> as TagMarker>⟧.TAG ⟦<Implicit<OctetStringRef<'a>, 7> as FormValue>⟧.value.contents ⟦<Implicit<OctetStringRef<'a>, 7> as FormValue>⟧.value.comparable ⟦<Implicit<OctetStringRef<'a>, 7> as PartialEq>⟧.eq (λ v w. (octetstringref_contents_eq.contents_eq-law v.value w.value)))
-        (one_tag_equality ⟦<ImplicitTag<ObjectIdentifierTag, 8> as TagMarker>⟧.TAG ⟦<Implicit<ObjectIdentifierRef<'a, 39>, 8> as FormValue>⟧.value.contents ⟦<Implicit<ObjectIdentifierRef<'a, 39>, 8> as FormValue>⟧.value.comparable ⟦<Implicit<ObjectIdentifierRef<'a, 39>, 8> as PartialEq>⟧.eq (λ v w. ((objectidentifierref_contents_eq.contents_eq-law 39 (record { fits = lit< tt })) v.value w.value)))
-        ⟦<OneOf<Implicit<OctetStringRef<'a>, 7>, Implicit<ObjectIdentifierRef<'a, 39>, 8>> as PartialEq>⟧.eq (λ v x. refl) (λ w y. refl) (λ v w. refl) (λ w v. refl))
-        ⟦<OneOf<OneOf<Implicit<SequenceRef<'a>, 5>, Implicit<Ia5StringRef<'a>, 6>>, OneOf<Implicit<OctetStringRef<'a>, 7>, Implicit<ObjectIdentifierRef<'a, 39>, 8>>> as PartialEq>⟧.eq (λ v x. refl) (λ w y. refl) (λ v w. refl) (λ w v. refl))
-        ⟦<OneOf<OneOf<OneOf<OneOf<Implicit<AnotherName<'a>, 0>, Implicit<Ia5StringRef<'a>, 1>>, Implicit<Ia5StringRef<'a>, 2>>, OneOf<Implicit<SequenceRef<'a>, 3>, Explicit<Name<'a>, 4>>>, OneOf<OneOf<Implicit<SequenceRef<'a>, 5>, Implicit<Ia5StringRef<'a>, 6>>, OneOf<Implicit<OctetStringRef<'a>, 7>, Implicit<ObjectIdentifierRef<'a, 39>, 8>>>> as PartialEq>⟧.eq (λ v x. refl) (λ w y. refl) (λ v w. refl) (λ w v. refl)) };
+    ghost encoding_eq = { ⟦<GeneralName<'a> as Choosing>⟧.choice.equal };
 }
 
 impl<'a> CopyLaws for GeneralName<'a> {

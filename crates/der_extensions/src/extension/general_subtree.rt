@@ -4,26 +4,23 @@
 
 ghost use Rattle.std.specs.Prelude.{◌∷◌, ◌≡◌, [], false, refl};
 ghost use Rattle.der_elem.specs.FormatMakers.{mapped_format};
-ghost use Rattle.der_elem.specs.contracts.integer.unsigned.U8ContentsEq.TheImpl.Laws as u8_contents_eq;
 ghost use Rattle.der_extensions.specs.Extension.GeneralSubtree as general_subtree_fields;
 ghost use Rattle.der_extensions.specs.Extension.Grammar.{general_subtree};
-ghost use Rattle.der_extensions.specs.contracts.extension.general_name.GeneralNameEncodingEq.TheImpl.Laws as general_name_encoding_eq;
-ghost use Rattle.der_extensions.specs.contracts.extension.general_name.GeneralNameTagged.TheImpl.Laws as general_name_tagged;
 ghost use Rattle.der_extensions.specs.declared.extension.general_subtree.GeneralSubtree.{GeneralSubtree};
 ghost use Rattle.der_modules.specs.Asn1.{context, implicit_encoding, joined, optional, parse_of, unless_default};
-ghost use Rattle.der_modules.specs.MemberLaws.{default_equality, default_starts, member_equality, no_equality, one_tag, one_tag_equality, optional_equality, optional_starts, own_tags, tagged_starts};
+ghost use Rattle.der_modules.specs.Members.{choice_field, default_field, no_fields, optional_field, struct_member};
 
 use crate::extension::aliases::BaseDistance;
 use crate::extension::general_name::GeneralName;
 use der_elem::{
-    ContentsEq, CopyIsDuplicate, DecodeValue, EncodeValue, Form, FormValue, IntegerTag, OneTag,
-    Sequence, SequenceTag, TagMarker, Tagged, ValueOrd,
+    ContentsEq, CopyIsDuplicate, DecodeValue, EncodeValue, Form, FormValue, OneTag, Sequence,
+    SequenceTag, TagMarker, ValueOrd,
 };
 use der_fields::{
-    DecodeFields, DefaultNumber, DefaultOf, EncodeFields, End, Field, FieldList, Fields3,
-    FieldsOrd, Implicit, ImplicitTag, WithDefault,
+    DecodeFields, DefaultNumber, DefaultOf, EncodeFields, FieldList, Fields3, FieldsOrd, Implicit,
+    WithDefault,
 };
-use der_modules::copy_of;
+use der_modules::{Choosing, Member, copy_of, field_list, if_present};
 use der_tlv::{BackWriter, Error, Header, Length, Source, Writer};
 use std::alloc::Global;
 use std::cmp::Ordering;
@@ -62,15 +59,11 @@ impl<'a> GeneralSubtree<'a> {
         ensures minimum { general_subtree_fields.minimum result ≡ minimum }
         ensures maximum { general_subtree_fields.maximum result ≡ maximum }
     {
-        let first = match maximum {
-            Some(value) => Some(Implicit { value }),
-            None => None,
-        };
-        let rest = Field { first, rest: End };
-        let first = WithDefault::new(Implicit { value: minimum });
-        let rest = Field { first, rest };
-        let first = copy_of(base);
-        let list = Field { first, rest };
+        let list = field_list![
+            copy_of(base),
+            WithDefault::new(Implicit { value: minimum }),
+            if_present!(value in maximum => Implicit { value })
+        ];
         let fields = Fields3 { list };
         GeneralSubtree { fields }
     }
@@ -93,10 +86,7 @@ impl<'a> GeneralSubtree<'a> {
     pub fn maximum(&self) -> Option<BaseDistance>
         ensures { result ≡ general_subtree_fields.maximum self.now }
     {
-        match self.fields.list.rest.rest.first {
-            Some(tagged) => Some(tagged.value),
-            None => None,
-        }
+        if_present!(value in self.fields.list.rest.rest.first => value.value)
     }
 }
 
@@ -161,20 +151,16 @@ impl<'a> ValueOrd for GeneralSubtree<'a> {
     }
 }
 
+impl<'a> Member for GeneralSubtree<'a> {
+    ghost member = { struct_member ⟦<SequenceTag as TagMarker>⟧.TAG (λ v. v.fields.list)
+        (choice_field ⟦<GeneralName<'a> as Choosing>⟧.choice
+        (default_field ⟦<DefaultNumber<0> as DefaultOf<Implicit<BaseDistance, 0>>>⟧.octets ⟦<Implicit<BaseDistance, 0> as Member>⟧.member
+        (optional_field ⟦<Implicit<BaseDistance, 1> as Member>⟧.member
+        no_fields))) };
+}
+
 impl<'a> ContentsEq for GeneralSubtree<'a> {
-    ghost contents_eq = { λ v w. (member_equality ⟦<GeneralName<'a> as Form>⟧
-        (tagged_starts ⟦<GeneralName<'a> as Form>⟧ (own_tags ⟦<GeneralName<'a> as Form>⟧.tags ⟦<GeneralName<'a> as Form>⟧.first_tag_of ⟦<GeneralName<'a> as Form>⟧.encoding ⟦<GeneralName<'a> as Tagged>⟧.tag_of ⟦<GeneralName<'a> as FormValue>⟧.value.contents general_name_tagged.encoding_is-law general_name_tagged.own_tag-law general_name_tagged.first_tag_is-law))
-        ⟦<GeneralName<'a> as PartialEq>⟧.eq
-        general_name_encoding_eq.encoding_eq-law
-        (member_equality ⟦<WithDefault<Implicit<BaseDistance, 0>, DefaultNumber<0>> as Form>⟧
-        (default_starts ⟦<Implicit<BaseDistance, 0> as Form>⟧ (one_tag ⟦<ImplicitTag<IntegerTag, 0> as TagMarker>⟧.TAG ⟦<Implicit<BaseDistance, 0> as FormValue>⟧.value.contents) (λ x. x.value) ⟦<DefaultNumber<0> as DefaultOf<Implicit<BaseDistance, 0>>>⟧.octets)
-        ⟦<WithDefault<Implicit<BaseDistance, 0>, DefaultNumber<0>> as PartialEq>⟧.eq
-        (default_equality ⟦<Implicit<BaseDistance, 0> as Form>⟧ (one_tag ⟦<ImplicitTag<IntegerTag, 0> as TagMarker>⟧.TAG ⟦<Implicit<BaseDistance, 0> as FormValue>⟧.value.contents) (λ x. x.value) ⟦<DefaultNumber<0> as DefaultOf<Implicit<BaseDistance, 0>>>⟧.octets ⟦<Implicit<BaseDistance, 0> as PartialEq>⟧.eq (one_tag_equality ⟦<ImplicitTag<IntegerTag, 0> as TagMarker>⟧.TAG ⟦<Implicit<BaseDistance, 0> as FormValue>⟧.value.contents ⟦<Implicit<BaseDistance, 0> as FormValue>⟧.value.comparable ⟦<Implicit<BaseDistance, 0> as PartialEq>⟧.eq (λ v w. (u8_contents_eq.contents_eq-law v.value w.value))))
-        (member_equality ⟦<Option<Implicit<BaseDistance, 1>> as Form>⟧
-        (optional_starts ⟦<Implicit<BaseDistance, 1> as Form>⟧ (one_tag ⟦<ImplicitTag<IntegerTag, 1> as TagMarker>⟧.TAG ⟦<Implicit<BaseDistance, 1> as FormValue>⟧.value.contents))
-        ⟦<Option<Implicit<BaseDistance, 1>> as PartialEq>⟧.eq
-        (optional_equality ⟦<Implicit<BaseDistance, 1> as Form>⟧ (one_tag ⟦<ImplicitTag<IntegerTag, 1> as TagMarker>⟧.TAG ⟦<Implicit<BaseDistance, 1> as FormValue>⟧.value.contents) ⟦<Implicit<BaseDistance, 1> as PartialEq>⟧.eq (one_tag_equality ⟦<ImplicitTag<IntegerTag, 1> as TagMarker>⟧.TAG ⟦<Implicit<BaseDistance, 1> as FormValue>⟧.value.contents ⟦<Implicit<BaseDistance, 1> as FormValue>⟧.value.comparable ⟦<Implicit<BaseDistance, 1> as PartialEq>⟧.eq (λ v w. (u8_contents_eq.contents_eq-law v.value w.value))))
-        no_equality))).equal v.fields.list w.fields.list };
+    ghost contents_eq = { ⟦<GeneralSubtree<'a> as Member>⟧.member.equal };
 }
 
 impl<'a> CopyIsDuplicate for GeneralSubtree<'a> {}

@@ -2,19 +2,20 @@
 //!
 //! Made by tools/asn1 from extension.asn1.
 
-ghost use Rattle.std.specs.Cmp.Lexicographic.{bytes_decides};
 ghost use Rattle.std.specs.Prelude.{◌≡◌, false, refl};
 ghost use Rattle.der_elem.specs.FormatMakers.{mapped_format};
 ghost use Rattle.der_extensions.specs.Extension.Grammar.{general_subtrees};
 ghost use Rattle.der_lists.specs.NonEmptyRef.{list_of};
 ghost use Rattle.der_modules.specs.Asn1.{parse_of};
+ghost use Rattle.der_modules.specs.Members.{seen_member};
 
 use crate::extension::general_subtree::GeneralSubtree;
 use der_elem::{
     ContentsEq, CopyIsDuplicate, DecodeValue, EncodeValue, Form, FormValue, OneTag, Sequence,
-    SequenceTag, ValueOrd,
+    SequenceTag, TagMarker, ValueOrd,
 };
 use der_lists::{ListRef, NonEmptyRef};
+use der_modules::Member;
 use der_tlv::{BackWriter, Error, Header, Length, Source, Writer};
 use std::alloc::Global;
 use std::cmp::Ordering;
@@ -69,10 +70,10 @@ impl<'a, R: Source<'a>> DecodeValue<'a, R> for GeneralSubtrees<'a> {
         reader: &mut R,
         header: Header,
     ) -> Result<GeneralSubtrees<'a>, Error> {
-        match NonEmptyRef::<ListRef<'a, GeneralSubtree<'a>>>::decode_value(alloc, reader, header) {
-            Ok(items) => Ok(GeneralSubtrees { items }),
-            Err(e) => Err(e),
-        }
+        let items = NonEmptyRef::<ListRef<'a, GeneralSubtree<'a>>>::decode_value(
+            alloc, reader, header,
+        )?;
+        Ok(GeneralSubtrees { items })
     }
 
     ghost takes_memory_is = { refl };
@@ -98,8 +99,12 @@ impl<'a> ValueOrd for GeneralSubtrees<'a> {
     }
 }
 
+impl<'a> Member for GeneralSubtrees<'a> {
+    ghost member = { seen_member ⟦<SequenceTag as TagMarker>⟧.TAG (λ v. v.items) ⟦<NonEmptyRef<ListRef<'a, GeneralSubtree<'a>>> as Member>⟧.member };
+}
+
 impl<'a> ContentsEq for GeneralSubtrees<'a> {
-    ghost contents_eq = { λ v w. (λ one. bytes_decides v.items.list.octets.octets.now w.items.list.octets.octets.now) };
+    ghost contents_eq = { ⟦<GeneralSubtrees<'a> as Member>⟧.member.equal };
 }
 
 impl<'a> CopyIsDuplicate for GeneralSubtrees<'a> {}

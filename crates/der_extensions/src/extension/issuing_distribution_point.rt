@@ -3,28 +3,24 @@
 //! Made by tools/asn1 from extension.asn1.
 
 ghost use Rattle.std.specs.Prelude.{◌∷◌, ◌≡◌, [], false, refl};
-ghost use Rattle.der_bits.specs.contracts.named_bits.NamedBitsRefContentsEq.TheImpl.Laws as namedbitsref_contents_eq;
 ghost use Rattle.der_elem.specs.FormatMakers.{mapped_format};
-ghost use Rattle.der_elem.specs.contracts.boolean.BoolContentsEq.TheImpl.Laws as bool_contents_eq;
 ghost use Rattle.der_extensions.specs.Extension.Grammar.{issuing_distribution_point};
 ghost use Rattle.der_extensions.specs.Extension.IssuingDistributionPoint as issuing_distribution_point_fields;
-ghost use Rattle.der_extensions.specs.contracts.extension.distribution_point_name.DistributionPointNameEncodingEq.TheImpl.Laws as distribution_point_name_encoding_eq;
-ghost use Rattle.der_extensions.specs.contracts.extension.distribution_point_name.DistributionPointNameTagged.TheImpl.Laws as distribution_point_name_tagged;
 ghost use Rattle.der_extensions.specs.declared.extension.issuing_distribution_point.IssuingDistributionPoint.{IssuingDistributionPoint};
 ghost use Rattle.der_modules.specs.Asn1.{context, explicit_encoding, implicit_encoding, joined, optional, parse_of, unless_default};
-ghost use Rattle.der_modules.specs.MemberLaws.{default_equality, default_starts, member_equality, no_equality, one_tag, one_tag_equality, optional_equality, optional_starts, own_tags, tagged_starts};
+ghost use Rattle.der_modules.specs.Members.{default_field, no_fields, optional_field, struct_member};
 
 use crate::extension::aliases::ReasonFlags;
 use crate::extension::distribution_point_name::DistributionPointName;
 use der_elem::{
-    BitStringTag, BooleanTag, ContentsEq, CopyIsDuplicate, DecodeValue, EncodeValue, Form,
-    FormValue, OneTag, Sequence, SequenceTag, TagMarker, Tagged, ValueOrd,
+    ContentsEq, CopyIsDuplicate, DecodeValue, EncodeValue, Form, FormValue, OneTag, Sequence,
+    SequenceTag, TagMarker, ValueOrd,
 };
 use der_fields::{
-    DecodeFields, DefaultFalse, DefaultOf, EncodeFields, End, Explicit, ExplicitTag, Field,
-    FieldList, Fields6, FieldsOrd, Implicit, ImplicitTag, WithDefault,
+    DecodeFields, DefaultFalse, DefaultOf, EncodeFields, Explicit, FieldList, Fields6, FieldsOrd,
+    Implicit, WithDefault,
 };
-use der_modules::copy_of;
+use der_modules::{Member, copy_of, field_list, if_present, tagged};
 use der_tlv::{BackWriter, Error, Header, Length, Source, Writer};
 use std::alloc::Global;
 use std::cmp::Ordering;
@@ -76,37 +72,22 @@ impl<'a> IssuingDistributionPoint<'a> {
         ensures indirect_crl { issuing_distribution_point_fields.indirect_crl result ≡ indirect_crl }
         ensures only_contains_attribute_certs { issuing_distribution_point_fields.only_contains_attribute_certs result ≡ only_contains_attribute_certs }
     {
-        let first = WithDefault::new(Implicit {
-            value: only_contains_attribute_certs,
-        });
-        let rest = Field { first, rest: End };
-        let first = WithDefault::new(Implicit {
-            value: indirect_crl,
-        });
-        let rest = Field { first, rest };
-        let first = match only_some_reasons {
-            Some(value) => Some(Implicit { value }),
-            None => None,
-        };
-        let rest = Field { first, rest };
-        let first = WithDefault::new(Implicit {
-            value: only_contains_ca_certs,
-        });
-        let rest = Field { first, rest };
-        let first = WithDefault::new(Implicit {
-            value: only_contains_user_certs,
-        });
-        let rest = Field { first, rest };
-        let first = match distribution_point {
-            Some(first) => Some(Explicit {
-                fields: Field {
-                    first: copy_of(first),
-                    rest: End,
-                },
+        let list = field_list![
+            if_present!(value in distribution_point => tagged!(Explicit, copy_of(value))),
+            WithDefault::new(Implicit {
+                value: only_contains_user_certs
             }),
-            None => None,
-        };
-        let list = Field { first, rest };
+            WithDefault::new(Implicit {
+                value: only_contains_ca_certs
+            }),
+            if_present!(value in only_some_reasons => Implicit { value }),
+            WithDefault::new(Implicit {
+                value: indirect_crl
+            }),
+            WithDefault::new(Implicit {
+                value: only_contains_attribute_certs
+            })
+        ];
         let fields = Fields6 { list };
         IssuingDistributionPoint { fields }
     }
@@ -115,10 +96,7 @@ impl<'a> IssuingDistributionPoint<'a> {
     pub fn distribution_point(&self) -> Option<&DistributionPointName<'a>>
         ensures { option_copied result ≡ issuing_distribution_point_fields.distribution_point self.now }
     {
-        match &self.fields.list.first {
-            Some(value) => Some(&value.fields.first),
-            None => None,
-        }
+        if_present!(value in &self.fields.list.first => &value.fields.first)
     }
 
     /// `onlyContainsUserCerts`, `[1] BOOLEAN DEFAULT FALSE`.
@@ -139,10 +117,7 @@ impl<'a> IssuingDistributionPoint<'a> {
     pub fn only_some_reasons(&self) -> Option<&ReasonFlags<'a>>
         ensures { option_copied result ≡ issuing_distribution_point_fields.only_some_reasons self.now }
     {
-        match &self.fields.list.rest.rest.rest.first {
-            Some(value) => Some(&value.value),
-            None => None,
-        }
+        if_present!(value in &self.fields.list.rest.rest.rest.first => &value.value)
     }
 
     /// `indirectCRL`, `[4] BOOLEAN DEFAULT FALSE`.
@@ -227,36 +202,19 @@ impl<'a> ValueOrd for IssuingDistributionPoint<'a> {
     }
 }
 
+impl<'a> Member for IssuingDistributionPoint<'a> {
+    ghost member = { struct_member ⟦<SequenceTag as TagMarker>⟧.TAG (λ v. v.fields.list)
+        (optional_field ⟦<Explicit<DistributionPointName<'a>, 0> as Member>⟧.member
+        (default_field ⟦<DefaultFalse as DefaultOf<Implicit<bool, 1>>>⟧.octets ⟦<Implicit<bool, 1> as Member>⟧.member
+        (default_field ⟦<DefaultFalse as DefaultOf<Implicit<bool, 2>>>⟧.octets ⟦<Implicit<bool, 2> as Member>⟧.member
+        (optional_field ⟦<Implicit<ReasonFlags<'a>, 3> as Member>⟧.member
+        (default_field ⟦<DefaultFalse as DefaultOf<Implicit<bool, 4>>>⟧.octets ⟦<Implicit<bool, 4> as Member>⟧.member
+        (default_field ⟦<DefaultFalse as DefaultOf<Implicit<bool, 5>>>⟧.octets ⟦<Implicit<bool, 5> as Member>⟧.member
+        no_fields)))))) };
+}
+
 impl<'a> ContentsEq for IssuingDistributionPoint<'a> {
-    ghost contents_eq = { λ v w. (member_equality ⟦<Option<Explicit<DistributionPointName<'a>, 0>> as Form>⟧
-        (optional_starts ⟦<Explicit<DistributionPointName<'a>, 0> as Form>⟧ (one_tag ⟦<ExplicitTag<0> as TagMarker>⟧.TAG ⟦<Explicit<DistributionPointName<'a>, 0> as FormValue>⟧.value.contents))
-        ⟦<Option<Explicit<DistributionPointName<'a>, 0>> as PartialEq>⟧.eq
-        (optional_equality ⟦<Explicit<DistributionPointName<'a>, 0> as Form>⟧ (one_tag ⟦<ExplicitTag<0> as TagMarker>⟧.TAG ⟦<Explicit<DistributionPointName<'a>, 0> as FormValue>⟧.value.contents) ⟦<Explicit<DistributionPointName<'a>, 0> as PartialEq>⟧.eq (one_tag_equality ⟦<ExplicitTag<0> as TagMarker>⟧.TAG ⟦<Explicit<DistributionPointName<'a>, 0> as FormValue>⟧.value.contents ⟦<Explicit<DistributionPointName<'a>, 0> as FormValue>⟧.value.comparable ⟦<Explicit<DistributionPointName<'a>, 0> as PartialEq>⟧.eq (λ v w. ((member_equality ⟦<DistributionPointName<'a> as Form>⟧
-        (tagged_starts ⟦<DistributionPointName<'a> as Form>⟧ (own_tags ⟦<DistributionPointName<'a> as Form>⟧.tags ⟦<DistributionPointName<'a> as Form>⟧.first_tag_of ⟦<DistributionPointName<'a> as Form>⟧.encoding ⟦<DistributionPointName<'a> as Tagged>⟧.tag_of ⟦<DistributionPointName<'a> as FormValue>⟧.value.contents distribution_point_name_tagged.encoding_is-law distribution_point_name_tagged.own_tag-law distribution_point_name_tagged.first_tag_is-law))
-        ⟦<DistributionPointName<'a> as PartialEq>⟧.eq
-        distribution_point_name_encoding_eq.encoding_eq-law
-        no_equality).equal v.fields w.fields))))
-        (member_equality ⟦<WithDefault<Implicit<bool, 1>, DefaultFalse> as Form>⟧
-        (default_starts ⟦<Implicit<bool, 1> as Form>⟧ (one_tag ⟦<ImplicitTag<BooleanTag, 1> as TagMarker>⟧.TAG ⟦<Implicit<bool, 1> as FormValue>⟧.value.contents) (λ x. x.value) ⟦<DefaultFalse as DefaultOf<Implicit<bool, 1>>>⟧.octets)
-        ⟦<WithDefault<Implicit<bool, 1>, DefaultFalse> as PartialEq>⟧.eq
-        (default_equality ⟦<Implicit<bool, 1> as Form>⟧ (one_tag ⟦<ImplicitTag<BooleanTag, 1> as TagMarker>⟧.TAG ⟦<Implicit<bool, 1> as FormValue>⟧.value.contents) (λ x. x.value) ⟦<DefaultFalse as DefaultOf<Implicit<bool, 1>>>⟧.octets ⟦<Implicit<bool, 1> as PartialEq>⟧.eq (one_tag_equality ⟦<ImplicitTag<BooleanTag, 1> as TagMarker>⟧.TAG ⟦<Implicit<bool, 1> as FormValue>⟧.value.contents ⟦<Implicit<bool, 1> as FormValue>⟧.value.comparable ⟦<Implicit<bool, 1> as PartialEq>⟧.eq (λ v w. (bool_contents_eq.contents_eq-law v.value w.value))))
-        (member_equality ⟦<WithDefault<Implicit<bool, 2>, DefaultFalse> as Form>⟧
-        (default_starts ⟦<Implicit<bool, 2> as Form>⟧ (one_tag ⟦<ImplicitTag<BooleanTag, 2> as TagMarker>⟧.TAG ⟦<Implicit<bool, 2> as FormValue>⟧.value.contents) (λ x. x.value) ⟦<DefaultFalse as DefaultOf<Implicit<bool, 2>>>⟧.octets)
-        ⟦<WithDefault<Implicit<bool, 2>, DefaultFalse> as PartialEq>⟧.eq
-        (default_equality ⟦<Implicit<bool, 2> as Form>⟧ (one_tag ⟦<ImplicitTag<BooleanTag, 2> as TagMarker>⟧.TAG ⟦<Implicit<bool, 2> as FormValue>⟧.value.contents) (λ x. x.value) ⟦<DefaultFalse as DefaultOf<Implicit<bool, 2>>>⟧.octets ⟦<Implicit<bool, 2> as PartialEq>⟧.eq (one_tag_equality ⟦<ImplicitTag<BooleanTag, 2> as TagMarker>⟧.TAG ⟦<Implicit<bool, 2> as FormValue>⟧.value.contents ⟦<Implicit<bool, 2> as FormValue>⟧.value.comparable ⟦<Implicit<bool, 2> as PartialEq>⟧.eq (λ v w. (bool_contents_eq.contents_eq-law v.value w.value))))
-        (member_equality ⟦<Option<Implicit<ReasonFlags<'a>, 3>> as Form>⟧
-        (optional_starts ⟦<Implicit<ReasonFlags<'a>, 3> as Form>⟧ (one_tag ⟦<ImplicitTag<BitStringTag, 3> as TagMarker>⟧.TAG ⟦<Implicit<ReasonFlags<'a>, 3> as FormValue>⟧.value.contents))
-        ⟦<Option<Implicit<ReasonFlags<'a>, 3>> as PartialEq>⟧.eq
-        (optional_equality ⟦<Implicit<ReasonFlags<'a>, 3> as Form>⟧ (one_tag ⟦<ImplicitTag<BitStringTag, 3> as TagMarker>⟧.TAG ⟦<Implicit<ReasonFlags<'a>, 3> as FormValue>⟧.value.contents) ⟦<Implicit<ReasonFlags<'a>, 3> as PartialEq>⟧.eq (one_tag_equality ⟦<ImplicitTag<BitStringTag, 3> as TagMarker>⟧.TAG ⟦<Implicit<ReasonFlags<'a>, 3> as FormValue>⟧.value.contents ⟦<Implicit<ReasonFlags<'a>, 3> as FormValue>⟧.value.comparable ⟦<Implicit<ReasonFlags<'a>, 3> as PartialEq>⟧.eq (λ v w. (namedbitsref_contents_eq.contents_eq-law v.value w.value))))
-        (member_equality ⟦<WithDefault<Implicit<bool, 4>, DefaultFalse> as Form>⟧
-        (default_starts ⟦<Implicit<bool, 4> as Form>⟧ (one_tag ⟦<ImplicitTag<BooleanTag, 4> as TagMarker>⟧.TAG ⟦<Implicit<bool, 4> as FormValue>⟧.value.contents) (λ x. x.value) ⟦<DefaultFalse as DefaultOf<Implicit<bool, 4>>>⟧.octets)
-        ⟦<WithDefault<Implicit<bool, 4>, DefaultFalse> as PartialEq>⟧.eq
-        (default_equality ⟦<Implicit<bool, 4> as Form>⟧ (one_tag ⟦<ImplicitTag<BooleanTag, 4> as TagMarker>⟧.TAG ⟦<Implicit<bool, 4> as FormValue>⟧.value.contents) (λ x. x.value) ⟦<DefaultFalse as DefaultOf<Implicit<bool, 4>>>⟧.octets ⟦<Implicit<bool, 4> as PartialEq>⟧.eq (one_tag_equality ⟦<ImplicitTag<BooleanTag, 4> as TagMarker>⟧.TAG ⟦<Implicit<bool, 4> as FormValue>⟧.value.contents ⟦<Implicit<bool, 4> as FormValue>⟧.value.comparable ⟦<Implicit<bool, 4> as PartialEq>⟧.eq (λ v w. (bool_contents_eq.contents_eq-law v.value w.value))))
-        (member_equality ⟦<WithDefault<Implicit<bool, 5>, DefaultFalse> as Form>⟧
-        (default_starts ⟦<Implicit<bool, 5> as Form>⟧ (one_tag ⟦<ImplicitTag<BooleanTag, 5> as TagMarker>⟧.TAG ⟦<Implicit<bool, 5> as FormValue>⟧.value.contents) (λ x. x.value) ⟦<DefaultFalse as DefaultOf<Implicit<bool, 5>>>⟧.octets)
-        ⟦<WithDefault<Implicit<bool, 5>, DefaultFalse> as PartialEq>⟧.eq
-        (default_equality ⟦<Implicit<bool, 5> as Form>⟧ (one_tag ⟦<ImplicitTag<BooleanTag, 5> as TagMarker>⟧.TAG ⟦<Implicit<bool, 5> as FormValue>⟧.value.contents) (λ x. x.value) ⟦<DefaultFalse as DefaultOf<Implicit<bool, 5>>>⟧.octets ⟦<Implicit<bool, 5> as PartialEq>⟧.eq (one_tag_equality ⟦<ImplicitTag<BooleanTag, 5> as TagMarker>⟧.TAG ⟦<Implicit<bool, 5> as FormValue>⟧.value.contents ⟦<Implicit<bool, 5> as FormValue>⟧.value.comparable ⟦<Implicit<bool, 5> as PartialEq>⟧.eq (λ v w. (bool_contents_eq.contents_eq-law v.value w.value))))
-        no_equality)))))).equal v.fields.list w.fields.list };
+    ghost contents_eq = { ⟦<IssuingDistributionPoint<'a> as Member>⟧.member.equal };
 }
 
 impl<'a> CopyIsDuplicate for IssuingDistributionPoint<'a> {}

@@ -6,20 +6,17 @@ ghost use Rattle.std.specs.Prelude.{◌∷◌, ◌≡◌, [], false, refl, true}
 ghost use Rattle.der_elem.specs.FormatMakers.{mapped_format};
 ghost use Rattle.der_extensions.specs.Extension.Grammar.{name_constraints};
 ghost use Rattle.der_extensions.specs.Extension.NameConstraints as name_constraints_fields;
-ghost use Rattle.der_extensions.specs.contracts.extension.general_subtrees.GeneralSubtreesContentsEq.TheImpl.Laws as general_subtrees_contents_eq;
 ghost use Rattle.der_extensions.specs.declared.extension.name_constraints.NameConstraints.{NameConstraints};
 ghost use Rattle.der_modules.specs.Asn1.{context, implicit_encoding, joined, optional, parse_of};
-ghost use Rattle.der_modules.specs.MemberLaws.{member_equality, no_equality, one_tag, one_tag_equality, optional_equality, optional_starts};
+ghost use Rattle.der_modules.specs.Members.{no_fields, optional_field, struct_member};
 
 use crate::extension::general_subtrees::GeneralSubtrees;
 use der_elem::{
     ContentsEq, CopyIsDuplicate, DecodeValue, EncodeValue, Form, FormValue, OneTag, Sequence,
     SequenceTag, TagMarker, ValueOrd,
 };
-use der_fields::{
-    DecodeFields, EncodeFields, End, Field, FieldList, Fields2, FieldsOrd, Implicit, ImplicitTag,
-};
-use der_modules::copy_of;
+use der_fields::{DecodeFields, EncodeFields, FieldList, Fields2, FieldsOrd, Implicit};
+use der_modules::{Member, copy_of, field_list, if_present};
 use der_tlv::{BackWriter, Error, Header, Length, Source, Writer};
 use std::alloc::Global;
 use std::cmp::Ordering;
@@ -55,20 +52,10 @@ impl<'a> NameConstraints<'a> {
         ensures permitted_subtrees { name_constraints_fields.permitted_subtrees result ≡ option_copied permitted_subtrees.entry }
         ensures excluded_subtrees { name_constraints_fields.excluded_subtrees result ≡ option_copied excluded_subtrees.entry }
     {
-        let first = match excluded_subtrees {
-            Some(value) => Some(Implicit {
-                value: copy_of(value),
-            }),
-            None => None,
-        };
-        let rest = Field { first, rest: End };
-        let first = match permitted_subtrees {
-            Some(value) => Some(Implicit {
-                value: copy_of(value),
-            }),
-            None => None,
-        };
-        let list = Field { first, rest };
+        let list = field_list![
+            if_present!(value in permitted_subtrees => Implicit { value: copy_of(value) }),
+            if_present!(value in excluded_subtrees => Implicit { value: copy_of(value) })
+        ];
         let fields = Fields2 { list };
         NameConstraints { fields }
     }
@@ -77,20 +64,14 @@ impl<'a> NameConstraints<'a> {
     pub fn permitted_subtrees(&self) -> Option<&GeneralSubtrees<'a>>
         ensures { option_copied result ≡ name_constraints_fields.permitted_subtrees self.now }
     {
-        match &self.fields.list.first {
-            Some(value) => Some(&value.value),
-            None => None,
-        }
+        if_present!(value in &self.fields.list.first => &value.value)
     }
 
     /// `excludedSubtrees`, `[1] GeneralSubtrees OPTIONAL`.
     pub fn excluded_subtrees(&self) -> Option<&GeneralSubtrees<'a>>
         ensures { option_copied result ≡ name_constraints_fields.excluded_subtrees self.now }
     {
-        match &self.fields.list.rest.first {
-            Some(value) => Some(&value.value),
-            None => None,
-        }
+        if_present!(value in &self.fields.list.rest.first => &value.value)
     }
 }
 
@@ -154,16 +135,15 @@ impl<'a> ValueOrd for NameConstraints<'a> {
     }
 }
 
+impl<'a> Member for NameConstraints<'a> {
+    ghost member = { struct_member ⟦<SequenceTag as TagMarker>⟧.TAG (λ v. v.fields.list)
+        (optional_field ⟦<Implicit<GeneralSubtrees<'a>, 0> as Member>⟧.member
+        (optional_field ⟦<Implicit<GeneralSubtrees<'a>, 1> as Member>⟧.member
+        no_fields)) };
+}
+
 impl<'a> ContentsEq for NameConstraints<'a> {
-    ghost contents_eq = { λ v w. (member_equality ⟦<Option<Implicit<GeneralSubtrees<'a>, 0>> as Form>⟧
-        (optional_starts ⟦<Implicit<GeneralSubtrees<'a>, 0> as Form>⟧ (one_tag ⟦<ImplicitTag<SequenceTag, 0> as TagMarker>⟧.TAG ⟦<Implicit<GeneralSubtrees<'a>, 0> as FormValue>⟧.value.contents))
-        ⟦<Option<Implicit<GeneralSubtrees<'a>, 0>> as PartialEq>⟧.eq
-        (optional_equality ⟦<Implicit<GeneralSubtrees<'a>, 0> as Form>⟧ (one_tag ⟦<ImplicitTag<SequenceTag, 0> as TagMarker>⟧.TAG ⟦<Implicit<GeneralSubtrees<'a>, 0> as FormValue>⟧.value.contents) ⟦<Implicit<GeneralSubtrees<'a>, 0> as PartialEq>⟧.eq (one_tag_equality ⟦<ImplicitTag<SequenceTag, 0> as TagMarker>⟧.TAG ⟦<Implicit<GeneralSubtrees<'a>, 0> as FormValue>⟧.value.contents ⟦<Implicit<GeneralSubtrees<'a>, 0> as FormValue>⟧.value.comparable ⟦<Implicit<GeneralSubtrees<'a>, 0> as PartialEq>⟧.eq (λ v w. (general_subtrees_contents_eq.contents_eq-law v.value w.value))))
-        (member_equality ⟦<Option<Implicit<GeneralSubtrees<'a>, 1>> as Form>⟧
-        (optional_starts ⟦<Implicit<GeneralSubtrees<'a>, 1> as Form>⟧ (one_tag ⟦<ImplicitTag<SequenceTag, 1> as TagMarker>⟧.TAG ⟦<Implicit<GeneralSubtrees<'a>, 1> as FormValue>⟧.value.contents))
-        ⟦<Option<Implicit<GeneralSubtrees<'a>, 1>> as PartialEq>⟧.eq
-        (optional_equality ⟦<Implicit<GeneralSubtrees<'a>, 1> as Form>⟧ (one_tag ⟦<ImplicitTag<SequenceTag, 1> as TagMarker>⟧.TAG ⟦<Implicit<GeneralSubtrees<'a>, 1> as FormValue>⟧.value.contents) ⟦<Implicit<GeneralSubtrees<'a>, 1> as PartialEq>⟧.eq (one_tag_equality ⟦<ImplicitTag<SequenceTag, 1> as TagMarker>⟧.TAG ⟦<Implicit<GeneralSubtrees<'a>, 1> as FormValue>⟧.value.contents ⟦<Implicit<GeneralSubtrees<'a>, 1> as FormValue>⟧.value.comparable ⟦<Implicit<GeneralSubtrees<'a>, 1> as PartialEq>⟧.eq (λ v w. (general_subtrees_contents_eq.contents_eq-law v.value w.value))))
-        no_equality)).equal v.fields.list w.fields.list };
+    ghost contents_eq = { ⟦<NameConstraints<'a> as Member>⟧.member.equal };
 }
 
 impl<'a> CopyIsDuplicate for NameConstraints<'a> {}

@@ -8,17 +8,15 @@ ghost use Rattle.der_extensions.specs.Extension.Grammar.{policy_constraints};
 ghost use Rattle.der_extensions.specs.Extension.PolicyConstraints as policy_constraints_fields;
 ghost use Rattle.der_extensions.specs.declared.extension.policy_constraints.PolicyConstraints.{PolicyConstraints};
 ghost use Rattle.der_modules.specs.Asn1.{context, implicit_encoding, joined, optional, parse_of};
-ghost use Rattle.der_modules.specs.MemberLaws.{member_equality, no_equality, one_tag, one_tag_equality, optional_equality, optional_starts};
-ghost use Rattle.der_numbers.specs.contracts.uint_ref.UintRefContentsEq.TheImpl.Laws as uintref_contents_eq;
+ghost use Rattle.der_modules.specs.Members.{no_fields, optional_field, struct_member};
 
 use crate::extension::aliases::SkipCerts;
 use der_elem::{
-    ContentsEq, CopyIsDuplicate, DecodeValue, EncodeValue, Form, FormValue, IntegerTag, OneTag,
-    Sequence, SequenceTag, TagMarker, ValueOrd,
+    ContentsEq, CopyIsDuplicate, DecodeValue, EncodeValue, Form, FormValue, OneTag, Sequence,
+    SequenceTag, TagMarker, ValueOrd,
 };
-use der_fields::{
-    DecodeFields, EncodeFields, End, Field, FieldList, Fields2, FieldsOrd, Implicit, ImplicitTag,
-};
+use der_fields::{DecodeFields, EncodeFields, FieldList, Fields2, FieldsOrd, Implicit};
+use der_modules::{Member, field_list, if_present};
 use der_tlv::{BackWriter, Error, Header, Length, Source, Writer};
 use std::alloc::Global;
 use std::cmp::Ordering;
@@ -51,16 +49,10 @@ impl<'a> PolicyConstraints<'a> {
         ensures require_explicit_policy { policy_constraints_fields.require_explicit_policy result ≡ require_explicit_policy.entry }
         ensures inhibit_policy_mapping { policy_constraints_fields.inhibit_policy_mapping result ≡ inhibit_policy_mapping.entry }
     {
-        let first = match inhibit_policy_mapping {
-            Some(value) => Some(Implicit { value }),
-            None => None,
-        };
-        let rest = Field { first, rest: End };
-        let first = match require_explicit_policy {
-            Some(value) => Some(Implicit { value }),
-            None => None,
-        };
-        let list = Field { first, rest };
+        let list = field_list![
+            if_present!(value in require_explicit_policy => Implicit { value }),
+            if_present!(value in inhibit_policy_mapping => Implicit { value })
+        ];
         let fields = Fields2 { list };
         PolicyConstraints { fields }
     }
@@ -69,20 +61,14 @@ impl<'a> PolicyConstraints<'a> {
     pub fn require_explicit_policy(&self) -> Option<&SkipCerts<'a>>
         ensures { option_copied result ≡ policy_constraints_fields.require_explicit_policy self.now }
     {
-        match &self.fields.list.first {
-            Some(value) => Some(&value.value),
-            None => None,
-        }
+        if_present!(value in &self.fields.list.first => &value.value)
     }
 
     /// `inhibitPolicyMapping`, `[1] SkipCerts OPTIONAL`.
     pub fn inhibit_policy_mapping(&self) -> Option<&SkipCerts<'a>>
         ensures { option_copied result ≡ policy_constraints_fields.inhibit_policy_mapping self.now }
     {
-        match &self.fields.list.rest.first {
-            Some(value) => Some(&value.value),
-            None => None,
-        }
+        if_present!(value in &self.fields.list.rest.first => &value.value)
     }
 }
 
@@ -146,16 +132,15 @@ impl<'a> ValueOrd for PolicyConstraints<'a> {
     }
 }
 
+impl<'a> Member for PolicyConstraints<'a> {
+    ghost member = { struct_member ⟦<SequenceTag as TagMarker>⟧.TAG (λ v. v.fields.list)
+        (optional_field ⟦<Implicit<SkipCerts<'a>, 0> as Member>⟧.member
+        (optional_field ⟦<Implicit<SkipCerts<'a>, 1> as Member>⟧.member
+        no_fields)) };
+}
+
 impl<'a> ContentsEq for PolicyConstraints<'a> {
-    ghost contents_eq = { λ v w. (member_equality ⟦<Option<Implicit<SkipCerts<'a>, 0>> as Form>⟧
-        (optional_starts ⟦<Implicit<SkipCerts<'a>, 0> as Form>⟧ (one_tag ⟦<ImplicitTag<IntegerTag, 0> as TagMarker>⟧.TAG ⟦<Implicit<SkipCerts<'a>, 0> as FormValue>⟧.value.contents))
-        ⟦<Option<Implicit<SkipCerts<'a>, 0>> as PartialEq>⟧.eq
-        (optional_equality ⟦<Implicit<SkipCerts<'a>, 0> as Form>⟧ (one_tag ⟦<ImplicitTag<IntegerTag, 0> as TagMarker>⟧.TAG ⟦<Implicit<SkipCerts<'a>, 0> as FormValue>⟧.value.contents) ⟦<Implicit<SkipCerts<'a>, 0> as PartialEq>⟧.eq (one_tag_equality ⟦<ImplicitTag<IntegerTag, 0> as TagMarker>⟧.TAG ⟦<Implicit<SkipCerts<'a>, 0> as FormValue>⟧.value.contents ⟦<Implicit<SkipCerts<'a>, 0> as FormValue>⟧.value.comparable ⟦<Implicit<SkipCerts<'a>, 0> as PartialEq>⟧.eq (λ v w. (uintref_contents_eq.contents_eq-law v.value w.value))))
-        (member_equality ⟦<Option<Implicit<SkipCerts<'a>, 1>> as Form>⟧
-        (optional_starts ⟦<Implicit<SkipCerts<'a>, 1> as Form>⟧ (one_tag ⟦<ImplicitTag<IntegerTag, 1> as TagMarker>⟧.TAG ⟦<Implicit<SkipCerts<'a>, 1> as FormValue>⟧.value.contents))
-        ⟦<Option<Implicit<SkipCerts<'a>, 1>> as PartialEq>⟧.eq
-        (optional_equality ⟦<Implicit<SkipCerts<'a>, 1> as Form>⟧ (one_tag ⟦<ImplicitTag<IntegerTag, 1> as TagMarker>⟧.TAG ⟦<Implicit<SkipCerts<'a>, 1> as FormValue>⟧.value.contents) ⟦<Implicit<SkipCerts<'a>, 1> as PartialEq>⟧.eq (one_tag_equality ⟦<ImplicitTag<IntegerTag, 1> as TagMarker>⟧.TAG ⟦<Implicit<SkipCerts<'a>, 1> as FormValue>⟧.value.contents ⟦<Implicit<SkipCerts<'a>, 1> as FormValue>⟧.value.comparable ⟦<Implicit<SkipCerts<'a>, 1> as PartialEq>⟧.eq (λ v w. (uintref_contents_eq.contents_eq-law v.value w.value))))
-        no_equality)).equal v.fields.list w.fields.list };
+    ghost contents_eq = { ⟦<PolicyConstraints<'a> as Member>⟧.member.equal };
 }
 
 impl<'a> CopyIsDuplicate for PolicyConstraints<'a> {}

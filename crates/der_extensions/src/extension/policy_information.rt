@@ -2,27 +2,23 @@
 //!
 //! Made by tools/asn1 from extension.asn1.
 
-ghost use Rattle.std.proofs.Common.{lit<};
-ghost use Rattle.std.specs.Cmp.Lexicographic.{bytes_decides};
 ghost use Rattle.std.specs.Prelude.{◌∷◌, ◌≡◌, [], false, refl};
 ghost use Rattle.der_elem.specs.FormatMakers.{mapped_format};
 ghost use Rattle.der_extensions.specs.Extension.Grammar.{policy_information};
 ghost use Rattle.der_extensions.specs.Extension.PolicyInformation as policy_information_fields;
 ghost use Rattle.der_extensions.specs.declared.extension.policy_information.PolicyInformation.{PolicyInformation};
 ghost use Rattle.der_modules.specs.Asn1.{joined, optional, parse_of};
-ghost use Rattle.der_modules.specs.MemberLaws.{member_equality, no_equality, one_tag, one_tag_equality, optional_equality, optional_starts, tagged_starts};
-ghost use Rattle.der_opaque.specs.contracts.object_identifier_ref.ObjectIdentifierRefContentsEq.TheImpl.Laws as objectidentifierref_contents_eq;
+ghost use Rattle.der_modules.specs.Members.{field, no_fields, optional_field, struct_member};
 
 use crate::extension::aliases::CertPolicyId;
 use crate::extension::policy_qualifier_info::PolicyQualifierInfo;
 use der_elem::{
-    ContentsEq, CopyIsDuplicate, DecodeValue, EncodeValue, Form, FormValue, ObjectIdentifierTag,
-    OneTag, Sequence, SequenceTag, TagMarker, ValueOrd,
+    ContentsEq, CopyIsDuplicate, DecodeValue, EncodeValue, Form, FormValue, OneTag, Sequence,
+    SequenceTag, TagMarker, ValueOrd,
 };
-use der_fields::{DecodeFields, EncodeFields, End, Field, FieldList, Fields2, FieldsOrd};
+use der_fields::{DecodeFields, EncodeFields, FieldList, Fields2, FieldsOrd};
 use der_lists::{ListRef, NonEmptyRef};
-use der_modules::copy_of;
-use der_opaque::ObjectIdentifierRef;
+use der_modules::{Member, copy_of, field_list, if_present};
 use der_tlv::{BackWriter, Error, Header, Length, Source, Writer};
 use std::alloc::Global;
 use std::cmp::Ordering;
@@ -59,13 +55,10 @@ impl<'a> PolicyInformation<'a> {
         ensures policy_identifier { policy_information_fields.policy_identifier result ≡ policy_identifier.entry }
         ensures policy_qualifiers { policy_information_fields.policy_qualifiers result ≡ option_copied policy_qualifiers.entry }
     {
-        let first = match policy_qualifiers {
-            Some(value) => Some(copy_of(value)),
-            None => None,
-        };
-        let rest = Field { first, rest: End };
-        let first = policy_identifier;
-        let list = Field { first, rest };
+        let list = field_list![
+            policy_identifier,
+            if_present!(value in policy_qualifiers => copy_of(value))
+        ];
         let fields = Fields2 { list };
         PolicyInformation { fields }
     }
@@ -81,10 +74,7 @@ impl<'a> PolicyInformation<'a> {
     pub fn policy_qualifiers(&self) -> Option<&NonEmptyRef<ListRef<'a, PolicyQualifierInfo<'a>>>>
         ensures { option_copied result ≡ policy_information_fields.policy_qualifiers self.now }
     {
-        match &self.fields.list.rest.first {
-            Some(value) => Some(value),
-            None => None,
-        }
+        if_present!(value in &self.fields.list.rest.first => value)
     }
 }
 
@@ -148,16 +138,15 @@ impl<'a> ValueOrd for PolicyInformation<'a> {
     }
 }
 
+impl<'a> Member for PolicyInformation<'a> {
+    ghost member = { struct_member ⟦<SequenceTag as TagMarker>⟧.TAG (λ v. v.fields.list)
+        (field ⟦<CertPolicyId<'a> as Member>⟧.member
+        (optional_field ⟦<NonEmptyRef<ListRef<'a, PolicyQualifierInfo<'a>>> as Member>⟧.member
+        no_fields)) };
+}
+
 impl<'a> ContentsEq for PolicyInformation<'a> {
-    ghost contents_eq = { λ v w. (member_equality ⟦<CertPolicyId<'a> as Form>⟧
-        (tagged_starts ⟦<CertPolicyId<'a> as Form>⟧ (one_tag ⟦<ObjectIdentifierTag as TagMarker>⟧.TAG ⟦<ObjectIdentifierRef<'a, 39> as FormValue>⟧.value.contents))
-        ⟦<CertPolicyId<'a> as PartialEq>⟧.eq
-        (one_tag_equality ⟦<ObjectIdentifierTag as TagMarker>⟧.TAG ⟦<ObjectIdentifierRef<'a, 39> as FormValue>⟧.value.contents ⟦<ObjectIdentifierRef<'a, 39> as FormValue>⟧.value.comparable ⟦<ObjectIdentifierRef<'a, 39> as PartialEq>⟧.eq (objectidentifierref_contents_eq.contents_eq-law 39 (record { fits = lit< tt })))
-        (member_equality ⟦<Option<NonEmptyRef<ListRef<'a, PolicyQualifierInfo<'a>>>> as Form>⟧
-        (optional_starts ⟦<NonEmptyRef<ListRef<'a, PolicyQualifierInfo<'a>>> as Form>⟧ (one_tag ⟦<SequenceTag as TagMarker>⟧.TAG ⟦<NonEmptyRef<ListRef<'a, PolicyQualifierInfo<'a>>> as FormValue>⟧.value.contents))
-        ⟦<Option<NonEmptyRef<ListRef<'a, PolicyQualifierInfo<'a>>>> as PartialEq>⟧.eq
-        (optional_equality ⟦<NonEmptyRef<ListRef<'a, PolicyQualifierInfo<'a>>> as Form>⟧ (one_tag ⟦<SequenceTag as TagMarker>⟧.TAG ⟦<NonEmptyRef<ListRef<'a, PolicyQualifierInfo<'a>>> as FormValue>⟧.value.contents) ⟦<NonEmptyRef<ListRef<'a, PolicyQualifierInfo<'a>>> as PartialEq>⟧.eq (one_tag_equality ⟦<SequenceTag as TagMarker>⟧.TAG ⟦<NonEmptyRef<ListRef<'a, PolicyQualifierInfo<'a>>> as FormValue>⟧.value.contents ⟦<NonEmptyRef<ListRef<'a, PolicyQualifierInfo<'a>>> as FormValue>⟧.value.comparable ⟦<NonEmptyRef<ListRef<'a, PolicyQualifierInfo<'a>>> as PartialEq>⟧.eq (λ v w. (λ one. bytes_decides v.list.octets.octets.now w.list.octets.octets.now))))
-        no_equality)).equal v.fields.list w.fields.list };
+    ghost contents_eq = { ⟦<PolicyInformation<'a> as Member>⟧.member.equal };
 }
 
 impl<'a> CopyIsDuplicate for PolicyInformation<'a> {}

@@ -2,23 +2,21 @@
 //!
 //! Made by tools/asn1 from extension.asn1.
 
-ghost use Rattle.std.proofs.Common.{lit<};
 ghost use Rattle.std.specs.Prelude.{◌∷◌, ◌≡◌, [], false, refl};
 ghost use Rattle.der_elem.specs.FormatMakers.{mapped_format};
 ghost use Rattle.der_extensions.specs.Extension.Grammar.{policy_mapping};
 ghost use Rattle.der_extensions.specs.Extension.PolicyMapping as policy_mapping_fields;
 ghost use Rattle.der_extensions.specs.declared.extension.policy_mapping.PolicyMapping.{PolicyMapping};
 ghost use Rattle.der_modules.specs.Asn1.{joined, parse_of};
-ghost use Rattle.der_modules.specs.MemberLaws.{member_equality, no_equality, one_tag, one_tag_equality, tagged_starts};
-ghost use Rattle.der_opaque.specs.contracts.object_identifier_ref.ObjectIdentifierRefContentsEq.TheImpl.Laws as objectidentifierref_contents_eq;
+ghost use Rattle.der_modules.specs.Members.{field, no_fields, struct_member};
 
 use crate::extension::aliases::CertPolicyId;
 use der_elem::{
-    ContentsEq, CopyIsDuplicate, DecodeValue, EncodeValue, Form, FormValue, ObjectIdentifierTag,
-    OneTag, Sequence, SequenceTag, TagMarker, ValueOrd,
+    ContentsEq, CopyIsDuplicate, DecodeValue, EncodeValue, Form, FormValue, OneTag, Sequence,
+    SequenceTag, TagMarker, ValueOrd,
 };
-use der_fields::{DecodeFields, EncodeFields, End, Field, FieldList, Fields2, FieldsOrd};
-use der_opaque::ObjectIdentifierRef;
+use der_fields::{DecodeFields, EncodeFields, FieldList, Fields2, FieldsOrd};
+use der_modules::{Member, field_list};
 use der_tlv::{BackWriter, Error, Header, Length, Source, Writer};
 use std::alloc::Global;
 use std::cmp::Ordering;
@@ -46,10 +44,7 @@ impl<'a> PolicyMapping<'a> {
         ensures issuer_domain_policy { policy_mapping_fields.issuer_domain_policy result ≡ issuer_domain_policy.entry }
         ensures subject_domain_policy { policy_mapping_fields.subject_domain_policy result ≡ subject_domain_policy.entry }
     {
-        let first = subject_domain_policy;
-        let rest = Field { first, rest: End };
-        let first = issuer_domain_policy;
-        let list = Field { first, rest };
+        let list = field_list![issuer_domain_policy, subject_domain_policy];
         let fields = Fields2 { list };
         PolicyMapping { fields }
     }
@@ -129,16 +124,15 @@ impl<'a> ValueOrd for PolicyMapping<'a> {
     }
 }
 
+impl<'a> Member for PolicyMapping<'a> {
+    ghost member = { struct_member ⟦<SequenceTag as TagMarker>⟧.TAG (λ v. v.fields.list)
+        (field ⟦<CertPolicyId<'a> as Member>⟧.member
+        (field ⟦<CertPolicyId<'a> as Member>⟧.member
+        no_fields)) };
+}
+
 impl<'a> ContentsEq for PolicyMapping<'a> {
-    ghost contents_eq = { λ v w. (member_equality ⟦<CertPolicyId<'a> as Form>⟧
-        (tagged_starts ⟦<CertPolicyId<'a> as Form>⟧ (one_tag ⟦<ObjectIdentifierTag as TagMarker>⟧.TAG ⟦<ObjectIdentifierRef<'a, 39> as FormValue>⟧.value.contents))
-        ⟦<CertPolicyId<'a> as PartialEq>⟧.eq
-        (one_tag_equality ⟦<ObjectIdentifierTag as TagMarker>⟧.TAG ⟦<ObjectIdentifierRef<'a, 39> as FormValue>⟧.value.contents ⟦<ObjectIdentifierRef<'a, 39> as FormValue>⟧.value.comparable ⟦<ObjectIdentifierRef<'a, 39> as PartialEq>⟧.eq (objectidentifierref_contents_eq.contents_eq-law 39 (record { fits = lit< tt })))
-        (member_equality ⟦<CertPolicyId<'a> as Form>⟧
-        (tagged_starts ⟦<CertPolicyId<'a> as Form>⟧ (one_tag ⟦<ObjectIdentifierTag as TagMarker>⟧.TAG ⟦<ObjectIdentifierRef<'a, 39> as FormValue>⟧.value.contents))
-        ⟦<CertPolicyId<'a> as PartialEq>⟧.eq
-        (one_tag_equality ⟦<ObjectIdentifierTag as TagMarker>⟧.TAG ⟦<ObjectIdentifierRef<'a, 39> as FormValue>⟧.value.contents ⟦<ObjectIdentifierRef<'a, 39> as FormValue>⟧.value.comparable ⟦<ObjectIdentifierRef<'a, 39> as PartialEq>⟧.eq (objectidentifierref_contents_eq.contents_eq-law 39 (record { fits = lit< tt })))
-        no_equality)).equal v.fields.list w.fields.list };
+    ghost contents_eq = { ⟦<PolicyMapping<'a> as Member>⟧.member.equal };
 }
 
 impl<'a> CopyIsDuplicate for PolicyMapping<'a> {}

@@ -2,25 +2,22 @@
 //!
 //! Made by tools/asn1 from extension.asn1.
 
-ghost use Rattle.std.proofs.Common.{lit<};
 ghost use Rattle.std.specs.Prelude.{◌∷◌, ◌≡◌, [], false, refl};
 ghost use Rattle.der_elem.specs.FormatMakers.{mapped_format};
 ghost use Rattle.der_extensions.specs.Extension.Grammar.{policy_qualifier_info};
 ghost use Rattle.der_extensions.specs.Extension.PolicyQualifierInfo as policy_qualifier_info_fields;
 ghost use Rattle.der_extensions.specs.declared.extension.policy_qualifier_info.PolicyQualifierInfo.{PolicyQualifierInfo};
 ghost use Rattle.der_modules.specs.Asn1.{joined, parse_of};
-ghost use Rattle.der_modules.specs.MemberLaws.{member_equality, no_equality, one_tag, one_tag_equality, own_tags, tagged_starts};
-ghost use Rattle.der_opaque.specs.contracts.any_ref.AnyRefEncodingEq.TheImpl.Laws as anyref_encoding_eq;
-ghost use Rattle.der_opaque.specs.contracts.any_ref.AnyRefTagged.TheImpl.Laws as anyref_tagged;
-ghost use Rattle.der_opaque.specs.contracts.object_identifier_ref.ObjectIdentifierRefContentsEq.TheImpl.Laws as objectidentifierref_contents_eq;
+ghost use Rattle.der_modules.specs.Members.{choice_field, field, no_fields, struct_member};
 
 use crate::extension::aliases::PolicyQualifierId;
 use der_elem::{
-    ContentsEq, CopyIsDuplicate, DecodeValue, EncodeValue, Form, FormValue, ObjectIdentifierTag,
-    OneTag, Sequence, SequenceTag, TagMarker, Tagged, ValueOrd,
+    ContentsEq, CopyIsDuplicate, DecodeValue, EncodeValue, Form, FormValue, OneTag, Sequence,
+    SequenceTag, TagMarker, ValueOrd,
 };
-use der_fields::{DecodeFields, EncodeFields, End, Field, FieldList, Fields2, FieldsOrd};
-use der_opaque::{AnyRef, ObjectIdentifierRef};
+use der_fields::{DecodeFields, EncodeFields, FieldList, Fields2, FieldsOrd};
+use der_modules::{Choosing, Member, field_list};
+use der_opaque::AnyRef;
 use der_tlv::{BackWriter, Error, Header, Length, Source, Writer};
 use std::alloc::Global;
 use std::cmp::Ordering;
@@ -52,10 +49,7 @@ impl<'a> PolicyQualifierInfo<'a> {
         ensures policy_qualifier_id { policy_qualifier_info_fields.policy_qualifier_id result ≡ policy_qualifier_id.entry }
         ensures qualifier { policy_qualifier_info_fields.qualifier result ≡ qualifier.entry }
     {
-        let first = qualifier;
-        let rest = Field { first, rest: End };
-        let first = policy_qualifier_id;
-        let list = Field { first, rest };
+        let list = field_list![policy_qualifier_id, qualifier];
         let fields = Fields2 { list };
         PolicyQualifierInfo { fields }
     }
@@ -135,16 +129,15 @@ impl<'a> ValueOrd for PolicyQualifierInfo<'a> {
     }
 }
 
+impl<'a> Member for PolicyQualifierInfo<'a> {
+    ghost member = { struct_member ⟦<SequenceTag as TagMarker>⟧.TAG (λ v. v.fields.list)
+        (field ⟦<PolicyQualifierId<'a> as Member>⟧.member
+        (choice_field ⟦<AnyRef<'a> as Choosing>⟧.choice
+        no_fields)) };
+}
+
 impl<'a> ContentsEq for PolicyQualifierInfo<'a> {
-    ghost contents_eq = { λ v w. (member_equality ⟦<PolicyQualifierId<'a> as Form>⟧
-        (tagged_starts ⟦<PolicyQualifierId<'a> as Form>⟧ (one_tag ⟦<ObjectIdentifierTag as TagMarker>⟧.TAG ⟦<ObjectIdentifierRef<'a, 39> as FormValue>⟧.value.contents))
-        ⟦<PolicyQualifierId<'a> as PartialEq>⟧.eq
-        (one_tag_equality ⟦<ObjectIdentifierTag as TagMarker>⟧.TAG ⟦<ObjectIdentifierRef<'a, 39> as FormValue>⟧.value.contents ⟦<ObjectIdentifierRef<'a, 39> as FormValue>⟧.value.comparable ⟦<ObjectIdentifierRef<'a, 39> as PartialEq>⟧.eq (objectidentifierref_contents_eq.contents_eq-law 39 (record { fits = lit< tt })))
-        (member_equality ⟦<AnyRef<'a> as Form>⟧
-        (tagged_starts ⟦<AnyRef<'a> as Form>⟧ (own_tags ⟦<AnyRef<'a> as Form>⟧.tags ⟦<AnyRef<'a> as Form>⟧.first_tag_of ⟦<AnyRef<'a> as Form>⟧.encoding ⟦<AnyRef<'a> as Tagged>⟧.tag_of ⟦<AnyRef<'a> as FormValue>⟧.value.contents anyref_tagged.encoding_is-law anyref_tagged.own_tag-law anyref_tagged.first_tag_is-law))
-        ⟦<AnyRef<'a> as PartialEq>⟧.eq
-        anyref_encoding_eq.encoding_eq-law
-        no_equality)).equal v.fields.list w.fields.list };
+    ghost contents_eq = { ⟦<PolicyQualifierInfo<'a> as Member>⟧.member.equal };
 }
 
 impl<'a> CopyIsDuplicate for PolicyQualifierInfo<'a> {}

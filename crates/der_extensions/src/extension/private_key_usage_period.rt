@@ -8,16 +8,14 @@ ghost use Rattle.der_extensions.specs.Extension.Grammar.{private_key_usage_perio
 ghost use Rattle.der_extensions.specs.Extension.PrivateKeyUsagePeriod as private_key_usage_period_fields;
 ghost use Rattle.der_extensions.specs.declared.extension.private_key_usage_period.PrivateKeyUsagePeriod.{PrivateKeyUsagePeriod};
 ghost use Rattle.der_modules.specs.Asn1.{context, implicit_encoding, joined, optional, parse_of};
-ghost use Rattle.der_modules.specs.MemberLaws.{member_equality, no_equality, one_tag, one_tag_equality, optional_equality, optional_starts};
-ghost use Rattle.der_time.specs.contracts.generalized_time.GeneralizedTimeContentsEq.TheImpl.Laws as generalizedtime_contents_eq;
+ghost use Rattle.der_modules.specs.Members.{no_fields, optional_field, struct_member};
 
 use der_elem::{
-    ContentsEq, CopyIsDuplicate, DecodeValue, EncodeValue, Form, FormValue, GeneralizedTimeTag,
-    OneTag, Sequence, SequenceTag, TagMarker, ValueOrd,
+    ContentsEq, CopyIsDuplicate, DecodeValue, EncodeValue, Form, FormValue, OneTag, Sequence,
+    SequenceTag, TagMarker, ValueOrd,
 };
-use der_fields::{
-    DecodeFields, EncodeFields, End, Field, FieldList, Fields2, FieldsOrd, Implicit, ImplicitTag,
-};
+use der_fields::{DecodeFields, EncodeFields, FieldList, Fields2, FieldsOrd, Implicit};
+use der_modules::{Member, field_list, if_present};
 use der_time::GeneralizedTime;
 use der_tlv::{BackWriter, Error, Header, Length, Source, Writer};
 use std::alloc::Global;
@@ -50,16 +48,10 @@ impl PrivateKeyUsagePeriod {
         ensures not_before { private_key_usage_period_fields.not_before result ≡ not_before }
         ensures not_after { private_key_usage_period_fields.not_after result ≡ not_after }
     {
-        let first = match not_after {
-            Some(value) => Some(Implicit { value }),
-            None => None,
-        };
-        let rest = Field { first, rest: End };
-        let first = match not_before {
-            Some(value) => Some(Implicit { value }),
-            None => None,
-        };
-        let list = Field { first, rest };
+        let list = field_list![
+            if_present!(value in not_before => Implicit { value }),
+            if_present!(value in not_after => Implicit { value })
+        ];
         let fields = Fields2 { list };
         PrivateKeyUsagePeriod { fields }
     }
@@ -68,20 +60,14 @@ impl PrivateKeyUsagePeriod {
     pub fn not_before(&self) -> Option<GeneralizedTime>
         ensures { result ≡ private_key_usage_period_fields.not_before self.now }
     {
-        match self.fields.list.first {
-            Some(tagged) => Some(tagged.value),
-            None => None,
-        }
+        if_present!(value in self.fields.list.first => value.value)
     }
 
     /// `notAfter`, `[1] GeneralizedTime OPTIONAL`.
     pub fn not_after(&self) -> Option<GeneralizedTime>
         ensures { result ≡ private_key_usage_period_fields.not_after self.now }
     {
-        match self.fields.list.rest.first {
-            Some(tagged) => Some(tagged.value),
-            None => None,
-        }
+        if_present!(value in self.fields.list.rest.first => value.value)
     }
 }
 
@@ -145,16 +131,15 @@ impl ValueOrd for PrivateKeyUsagePeriod {
     }
 }
 
+impl Member for PrivateKeyUsagePeriod {
+    ghost member = { struct_member ⟦<SequenceTag as TagMarker>⟧.TAG (λ v. v.fields.list)
+        (optional_field ⟦<Implicit<GeneralizedTime, 0> as Member>⟧.member
+        (optional_field ⟦<Implicit<GeneralizedTime, 1> as Member>⟧.member
+        no_fields)) };
+}
+
 impl ContentsEq for PrivateKeyUsagePeriod {
-    ghost contents_eq = { λ v w. (member_equality ⟦<Option<Implicit<GeneralizedTime, 0>> as Form>⟧
-        (optional_starts ⟦<Implicit<GeneralizedTime, 0> as Form>⟧ (one_tag ⟦<ImplicitTag<GeneralizedTimeTag, 0> as TagMarker>⟧.TAG ⟦<Implicit<GeneralizedTime, 0> as FormValue>⟧.value.contents))
-        ⟦<Option<Implicit<GeneralizedTime, 0>> as PartialEq>⟧.eq
-        (optional_equality ⟦<Implicit<GeneralizedTime, 0> as Form>⟧ (one_tag ⟦<ImplicitTag<GeneralizedTimeTag, 0> as TagMarker>⟧.TAG ⟦<Implicit<GeneralizedTime, 0> as FormValue>⟧.value.contents) ⟦<Implicit<GeneralizedTime, 0> as PartialEq>⟧.eq (one_tag_equality ⟦<ImplicitTag<GeneralizedTimeTag, 0> as TagMarker>⟧.TAG ⟦<Implicit<GeneralizedTime, 0> as FormValue>⟧.value.contents ⟦<Implicit<GeneralizedTime, 0> as FormValue>⟧.value.comparable ⟦<Implicit<GeneralizedTime, 0> as PartialEq>⟧.eq (λ v w. (generalizedtime_contents_eq.contents_eq-law v.value w.value))))
-        (member_equality ⟦<Option<Implicit<GeneralizedTime, 1>> as Form>⟧
-        (optional_starts ⟦<Implicit<GeneralizedTime, 1> as Form>⟧ (one_tag ⟦<ImplicitTag<GeneralizedTimeTag, 1> as TagMarker>⟧.TAG ⟦<Implicit<GeneralizedTime, 1> as FormValue>⟧.value.contents))
-        ⟦<Option<Implicit<GeneralizedTime, 1>> as PartialEq>⟧.eq
-        (optional_equality ⟦<Implicit<GeneralizedTime, 1> as Form>⟧ (one_tag ⟦<ImplicitTag<GeneralizedTimeTag, 1> as TagMarker>⟧.TAG ⟦<Implicit<GeneralizedTime, 1> as FormValue>⟧.value.contents) ⟦<Implicit<GeneralizedTime, 1> as PartialEq>⟧.eq (one_tag_equality ⟦<ImplicitTag<GeneralizedTimeTag, 1> as TagMarker>⟧.TAG ⟦<Implicit<GeneralizedTime, 1> as FormValue>⟧.value.contents ⟦<Implicit<GeneralizedTime, 1> as FormValue>⟧.value.comparable ⟦<Implicit<GeneralizedTime, 1> as PartialEq>⟧.eq (λ v w. (generalizedtime_contents_eq.contents_eq-law v.value w.value))))
-        no_equality)).equal v.fields.list w.fields.list };
+    ghost contents_eq = { ⟦<PrivateKeyUsagePeriod as Member>⟧.member.equal };
 }
 
 impl CopyIsDuplicate for PrivateKeyUsagePeriod {}

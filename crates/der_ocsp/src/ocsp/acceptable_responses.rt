@@ -2,17 +2,18 @@
 //!
 //! Made by tools/asn1 from ocsp.asn1.
 
-ghost use Rattle.std.specs.Cmp.Lexicographic.{bytes_decides};
 ghost use Rattle.std.specs.Prelude.{◌≡◌, false, refl};
 ghost use Rattle.der_elem.specs.FormatMakers.{mapped_format};
 ghost use Rattle.der_modules.specs.Asn1.{parse_of};
+ghost use Rattle.der_modules.specs.Members.{seen_member};
 ghost use Rattle.der_ocsp.specs.Ocsp.Grammar.{acceptable_responses};
 
 use der_elem::{
     ContentsEq, CopyIsDuplicate, DecodeValue, EncodeValue, Form, FormValue, OneTag, Sequence,
-    SequenceTag, ValueOrd,
+    SequenceTag, TagMarker, ValueOrd,
 };
 use der_lists::ListRef;
+use der_modules::Member;
 use der_opaque::ObjectIdentifierRef;
 use der_tlv::{BackWriter, Error, Header, Length, Source, Writer};
 use std::alloc::Global;
@@ -68,10 +69,10 @@ impl<'a, R: Source<'a>> DecodeValue<'a, R> for AcceptableResponses<'a> {
         reader: &mut R,
         header: Header,
     ) -> Result<AcceptableResponses<'a>, Error> {
-        match ListRef::<'a, ObjectIdentifierRef<'a, 39>>::decode_value(alloc, reader, header) {
-            Ok(items) => Ok(AcceptableResponses { items }),
-            Err(e) => Err(e),
-        }
+        let items = ListRef::<'a, ObjectIdentifierRef<'a, 39>>::decode_value(
+            alloc, reader, header,
+        )?;
+        Ok(AcceptableResponses { items })
     }
 
     ghost takes_memory_is = { refl };
@@ -97,8 +98,12 @@ impl<'a> ValueOrd for AcceptableResponses<'a> {
     }
 }
 
+impl<'a> Member for AcceptableResponses<'a> {
+    ghost member = { seen_member ⟦<SequenceTag as TagMarker>⟧.TAG (λ v. v.items) ⟦<ListRef<'a, ObjectIdentifierRef<'a, 39>> as Member>⟧.member };
+}
+
 impl<'a> ContentsEq for AcceptableResponses<'a> {
-    ghost contents_eq = { λ v w. (λ one. bytes_decides v.items.octets.octets.now w.items.octets.octets.now) };
+    ghost contents_eq = { ⟦<AcceptableResponses<'a> as Member>⟧.member.equal };
 }
 
 impl<'a> CopyIsDuplicate for AcceptableResponses<'a> {}

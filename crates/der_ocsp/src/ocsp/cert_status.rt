@@ -9,22 +9,21 @@ ghost use Rattle.der_elem.specs.FormatMakers.{mapped_format};
 ghost use Rattle.der_elem.specs.KnownTagLaws.{known_either, own_is_known};
 ghost use Rattle.der_elem.specs.TaggedLaws.{tlv_tagged};
 ghost use Rattle.der_modules.specs.Asn1.{parse_of};
-ghost use Rattle.der_modules.specs.MemberLaws.{copies_of, either_equality, either_tag, one_tag, one_tag_equality, same_copies, seen_equality};
+ghost use Rattle.der_modules.specs.MemberLaws.{copies_of, same_copies};
+ghost use Rattle.der_modules.specs.Members.{seen_choice};
 ghost use Rattle.der_ocsp.specs.Ocsp.CertStatus.{tree_of};
 ghost use Rattle.der_ocsp.specs.Ocsp.Grammar.{cert_status};
 ghost use Rattle.der_ocsp.specs.contracts.ocsp.cert_status.CertStatusEq.TheImpl.Laws as cert_status_eq;
-ghost use Rattle.der_ocsp.specs.contracts.ocsp.revoked_info.RevokedInfoContentsEq.TheImpl.Laws as revoked_info_contents_eq;
 ghost use Rattle.der_ocsp.specs.declared.ocsp.cert_status.CertStatus.TheVariants as of;
-ghost use Rattle.der_opaque.specs.contracts.null.NullContentsEq.TheImpl.Laws as null_contents_eq;
 
 use crate::ocsp::aliases::UnknownInfo;
 use crate::ocsp::revoked_info::RevokedInfo;
 use der_elem::{
     Choice, Decode, DecodeField, DerOrd, Duplicate, DuplicateIsEqual, EncodeValue, EncodingEq,
-    Form, FormValue, KnownTags, NullTag, SequenceTag, TagMarker, Tagged,
+    Form, FormValue, KnownTags, Tagged,
 };
-use der_fields::{Implicit, ImplicitTag, OneOf, cmp_headers};
-use der_modules::{CopyLaws, copy_of};
+use der_fields::{Implicit, OneOf, cmp_headers};
+use der_modules::{Choosing, CopyLaws, copy_of};
 use der_opaque::Null;
 use der_tlv::{BackWriter, Error, Length, Source, Tag, Writer};
 use std::alloc::Global;
@@ -107,25 +106,13 @@ impl Tagged for CertStatus {
         }
     }
 
-    ghost encoding_is = { λ v. (either_tag ⟦<OneOf<Implicit<Null, 0>, Implicit<RevokedInfo, 1>> as Form>⟧ ⟦<Implicit<UnknownInfo, 2> as Form>⟧
-        (either_tag ⟦<Implicit<Null, 0> as Form>⟧ ⟦<Implicit<RevokedInfo, 1> as Form>⟧
-        (one_tag ⟦<ImplicitTag<NullTag, 0> as TagMarker>⟧.TAG ⟦<Implicit<Null, 0> as FormValue>⟧.value.contents)
-        (one_tag ⟦<ImplicitTag<SequenceTag, 1> as TagMarker>⟧.TAG ⟦<Implicit<RevokedInfo, 1> as FormValue>⟧.value.contents))
-        (one_tag ⟦<ImplicitTag<NullTag, 2> as TagMarker>⟧.TAG ⟦<Implicit<UnknownInfo, 2> as FormValue>⟧.value.contents)).encoding_is (tree_of v) };
+    ghost encoding_is = { ⟦<CertStatus as Choosing>⟧.choice.has_tag.encoding_is };
 
     ghost accepted_is_tlv = { λ rules v b. elim v as (λ k. ⟦<Tree as Form>⟧.accepts rules (tree_of k) b → IsTlv b) [ of.Good x ↦ λ a. tlv_tagged _ ⟦<Implicit<Null, 0> as FormValue>⟧.value.accepts rules x b a.0.0 | of.Revoked x ↦ λ a. tlv_tagged _ ⟦<Implicit<RevokedInfo, 1> as FormValue>⟧.value.accepts rules x b a.0.0 | of.Unknown x ↦ λ a. tlv_tagged _ ⟦<Implicit<UnknownInfo, 2> as FormValue>⟧.value.accepts rules x b a.0 ] };
 
-    ghost own_tag = { λ v. (either_tag ⟦<OneOf<Implicit<Null, 0>, Implicit<RevokedInfo, 1>> as Form>⟧ ⟦<Implicit<UnknownInfo, 2> as Form>⟧
-        (either_tag ⟦<Implicit<Null, 0> as Form>⟧ ⟦<Implicit<RevokedInfo, 1> as Form>⟧
-        (one_tag ⟦<ImplicitTag<NullTag, 0> as TagMarker>⟧.TAG ⟦<Implicit<Null, 0> as FormValue>⟧.value.contents)
-        (one_tag ⟦<ImplicitTag<SequenceTag, 1> as TagMarker>⟧.TAG ⟦<Implicit<RevokedInfo, 1> as FormValue>⟧.value.contents))
-        (one_tag ⟦<ImplicitTag<NullTag, 2> as TagMarker>⟧.TAG ⟦<Implicit<UnknownInfo, 2> as FormValue>⟧.value.contents)).own_tag (tree_of v) };
+    ghost own_tag = { ⟦<CertStatus as Choosing>⟧.choice.has_tag.own_tag };
 
-    ghost first_tag_is = { λ v. (either_tag ⟦<OneOf<Implicit<Null, 0>, Implicit<RevokedInfo, 1>> as Form>⟧ ⟦<Implicit<UnknownInfo, 2> as Form>⟧
-        (either_tag ⟦<Implicit<Null, 0> as Form>⟧ ⟦<Implicit<RevokedInfo, 1> as Form>⟧
-        (one_tag ⟦<ImplicitTag<NullTag, 0> as TagMarker>⟧.TAG ⟦<Implicit<Null, 0> as FormValue>⟧.value.contents)
-        (one_tag ⟦<ImplicitTag<SequenceTag, 1> as TagMarker>⟧.TAG ⟦<Implicit<RevokedInfo, 1> as FormValue>⟧.value.contents))
-        (one_tag ⟦<ImplicitTag<NullTag, 2> as TagMarker>⟧.TAG ⟦<Implicit<UnknownInfo, 2> as FormValue>⟧.value.contents)).first_tag_is (tree_of v) };
+    ghost first_tag_is = { ⟦<CertStatus as Choosing>⟧.choice.has_tag.first_tag_is };
 
     ghost re_reads_alike = { λ v. elim v as (λ k. ⟦<Tree as FormValue>⟧.value.re_reads (tree_of k) ≡ true → ⟦<Tree as Form>⟧.re_reads (tree_of k) ≡ true) [ of.Good x ↦ λ h. h | of.Revoked x ↦ λ h. h | of.Unknown x ↦ λ h. h ] };
 
@@ -216,22 +203,17 @@ impl DerOrd for CertStatus {
     }
 }
 
+impl Choosing for CertStatus {
+    ghost choice = { seen_choice tree_of ⟦<CertStatus as PartialEq>⟧.eq ⟦<Tree as Choosing>⟧.choice
+        (λ v w. elim v as (λ k. ⟦<CertStatus as PartialEq>⟧.eq k w ≡ ⟦<Tree as Choosing>⟧.choice.eq (tree_of k) (tree_of w)) [
+          | of.Good x ↦ elim w as (λ k. ⟦<CertStatus as PartialEq>⟧.eq (of.Good x) k ≡ ⟦<Tree as Choosing>⟧.choice.eq (tree_of (of.Good x)) (tree_of k)) [ of.Good y ↦ refl | of.Revoked y ↦ refl | of.Unknown y ↦ refl ]
+          | of.Revoked x ↦ elim w as (λ k. ⟦<CertStatus as PartialEq>⟧.eq (of.Revoked x) k ≡ ⟦<Tree as Choosing>⟧.choice.eq (tree_of (of.Revoked x)) (tree_of k)) [ of.Good y ↦ refl | of.Revoked y ↦ refl | of.Unknown y ↦ refl ]
+          | of.Unknown x ↦ elim w as (λ k. ⟦<CertStatus as PartialEq>⟧.eq (of.Unknown x) k ≡ ⟦<Tree as Choosing>⟧.choice.eq (tree_of (of.Unknown x)) (tree_of k)) [ of.Good y ↦ refl | of.Revoked y ↦ refl | of.Unknown y ↦ refl ]
+        ]) };
+}
+
 impl EncodingEq for CertStatus {
-    ghost encoding_eq = { seen_equality tree_of ⟦<CertStatus as PartialEq>⟧.eq ⟦<Tree as PartialEq>⟧.eq (λ v w. elim v as (λ k. ⟦<CertStatus as PartialEq>⟧.eq k w ≡ ⟦<Tree as PartialEq>⟧.eq (tree_of k) (tree_of w)) [ of.Good x ↦ elim w as (λ k. ⟦<CertStatus as PartialEq>⟧.eq (of.Good x) k ≡ ⟦<Tree as PartialEq>⟧.eq (tree_of (of.Good x)) (tree_of k)) [ of.Good y ↦ refl | of.Revoked y ↦ refl | of.Unknown y ↦ refl ] | of.Revoked x ↦ elim w as (λ k. ⟦<CertStatus as PartialEq>⟧.eq (of.Revoked x) k ≡ ⟦<Tree as PartialEq>⟧.eq (tree_of (of.Revoked x)) (tree_of k)) [ of.Good y ↦ refl | of.Revoked y ↦ refl | of.Unknown y ↦ refl ] | of.Unknown x ↦ elim w as (λ k. ⟦<CertStatus as PartialEq>⟧.eq (of.Unknown x) k ≡ ⟦<Tree as PartialEq>⟧.eq (tree_of (of.Unknown x)) (tree_of k)) [ of.Good y ↦ refl | of.Revoked y ↦ refl | of.Unknown y ↦ refl ] ]) (either_equality ⟦<OneOf<Implicit<Null, 0>, Implicit<RevokedInfo, 1>> as Form>⟧ ⟦<Implicit<UnknownInfo, 2> as Form>⟧
-        (either_tag ⟦<Implicit<Null, 0> as Form>⟧ ⟦<Implicit<RevokedInfo, 1> as Form>⟧
-        (one_tag ⟦<ImplicitTag<NullTag, 0> as TagMarker>⟧.TAG ⟦<Implicit<Null, 0> as FormValue>⟧.value.contents)
-        (one_tag ⟦<ImplicitTag<SequenceTag, 1> as TagMarker>⟧.TAG ⟦<Implicit<RevokedInfo, 1> as FormValue>⟧.value.contents))
-        (one_tag ⟦<ImplicitTag<NullTag, 2> as TagMarker>⟧.TAG ⟦<Implicit<UnknownInfo, 2> as FormValue>⟧.value.contents)
-        ⟦<OneOf<Implicit<Null, 0>, Implicit<RevokedInfo, 1>> as PartialEq>⟧.eq ⟦<Implicit<UnknownInfo, 2> as PartialEq>⟧.eq
-        (either_equality ⟦<Implicit<Null, 0> as Form>⟧ ⟦<Implicit<RevokedInfo, 1> as Form>⟧
-        (one_tag ⟦<ImplicitTag<NullTag, 0> as TagMarker>⟧.TAG ⟦<Implicit<Null, 0> as FormValue>⟧.value.contents)
-        (one_tag ⟦<ImplicitTag<SequenceTag, 1> as TagMarker>⟧.TAG ⟦<Implicit<RevokedInfo, 1> as FormValue>⟧.value.contents)
-        ⟦<Implicit<Null, 0> as PartialEq>⟧.eq ⟦<Implicit<RevokedInfo, 1> as PartialEq>⟧.eq
-        (one_tag_equality ⟦<ImplicitTag<NullTag, 0> as TagMarker>⟧.TAG ⟦<Implicit<Null, 0> as FormValue>⟧.value.contents ⟦<Implicit<Null, 0> as FormValue>⟧.value.comparable ⟦<Implicit<Null, 0> as PartialEq>⟧.eq (λ v w. (null_contents_eq.contents_eq-law v.value w.value)))
-        (one_tag_equality ⟦<ImplicitTag<SequenceTag, 1> as TagMarker>⟧.TAG ⟦<Implicit<RevokedInfo, 1> as FormValue>⟧.value.contents ⟦<Implicit<RevokedInfo, 1> as FormValue>⟧.value.comparable ⟦<Implicit<RevokedInfo, 1> as PartialEq>⟧.eq (λ v w. (revoked_info_contents_eq.contents_eq-law v.value w.value)))
-        ⟦<OneOf<Implicit<Null, 0>, Implicit<RevokedInfo, 1>> as PartialEq>⟧.eq (λ v x. refl) (λ w y. refl) (λ v w. refl) (λ w v. refl))
-        (one_tag_equality ⟦<ImplicitTag<NullTag, 2> as TagMarker>⟧.TAG ⟦<Implicit<UnknownInfo, 2> as FormValue>⟧.value.contents ⟦<Implicit<UnknownInfo, 2> as FormValue>⟧.value.comparable ⟦<Implicit<UnknownInfo, 2> as PartialEq>⟧.eq (λ v w. (null_contents_eq.contents_eq-law v.value w.value)))
-        ⟦<OneOf<OneOf<Implicit<Null, 0>, Implicit<RevokedInfo, 1>>, Implicit<UnknownInfo, 2>> as PartialEq>⟧.eq (λ v x. refl) (λ w y. refl) (λ v w. refl) (λ w v. refl)) };
+    ghost encoding_eq = { ⟦<CertStatus as Choosing>⟧.choice.equal };
 }
 
 impl CopyLaws for CertStatus {

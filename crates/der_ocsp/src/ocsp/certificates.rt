@@ -2,17 +2,18 @@
 //!
 //! Made by tools/asn1 from ocsp.asn1.
 
-ghost use Rattle.std.specs.Cmp.Lexicographic.{bytes_decides};
 ghost use Rattle.std.specs.Prelude.{◌≡◌, false, refl};
 ghost use Rattle.der_elem.specs.FormatMakers.{mapped_format};
 ghost use Rattle.der_modules.specs.Asn1.{parse_of};
+ghost use Rattle.der_modules.specs.Members.{seen_member};
 ghost use Rattle.der_ocsp.specs.Ocsp.Grammar.{certificates};
 
 use der_elem::{
     ContentsEq, CopyIsDuplicate, DecodeValue, EncodeValue, Form, FormValue, OneTag, Sequence,
-    SequenceTag, ValueOrd,
+    SequenceTag, TagMarker, ValueOrd,
 };
 use der_lists::ListRef;
+use der_modules::Member;
 use der_pkix::certificate::Certificate;
 use der_tlv::{BackWriter, Error, Header, Length, Source, Writer};
 use std::alloc::Global;
@@ -68,10 +69,8 @@ impl<'a, R: Source<'a>> DecodeValue<'a, R> for Certificates<'a> {
         reader: &mut R,
         header: Header,
     ) -> Result<Certificates<'a>, Error> {
-        match ListRef::<'a, Certificate<'a>>::decode_value(alloc, reader, header) {
-            Ok(items) => Ok(Certificates { items }),
-            Err(e) => Err(e),
-        }
+        let items = ListRef::<'a, Certificate<'a>>::decode_value(alloc, reader, header)?;
+        Ok(Certificates { items })
     }
 
     ghost takes_memory_is = { refl };
@@ -97,8 +96,12 @@ impl<'a> ValueOrd for Certificates<'a> {
     }
 }
 
+impl<'a> Member for Certificates<'a> {
+    ghost member = { seen_member ⟦<SequenceTag as TagMarker>⟧.TAG (λ v. v.items) ⟦<ListRef<'a, Certificate<'a>> as Member>⟧.member };
+}
+
 impl<'a> ContentsEq for Certificates<'a> {
-    ghost contents_eq = { λ v w. (λ one. bytes_decides v.items.octets.octets.now w.items.octets.octets.now) };
+    ghost contents_eq = { ⟦<Certificates<'a> as Member>⟧.member.equal };
 }
 
 impl<'a> CopyIsDuplicate for Certificates<'a> {}

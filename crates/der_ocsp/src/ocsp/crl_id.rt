@@ -2,26 +2,21 @@
 //!
 //! Made by tools/asn1 from ocsp.asn1.
 
-ghost use Rattle.std.proofs.Common.{lit<};
 ghost use Rattle.std.specs.Prelude.{◌∷◌, ◌≡◌, [], false, refl};
-ghost use Rattle.der_ascii.specs.contracts.string_ref.CharacterStringRefContentsEq.TheImpl.Laws as characterstringref_contents_eq;
 ghost use Rattle.der_elem.specs.FormatMakers.{mapped_format};
 ghost use Rattle.der_modules.specs.Asn1.{context, explicit_encoding, joined, optional, parse_of};
-ghost use Rattle.der_modules.specs.MemberLaws.{member_equality, no_equality, one_tag, one_tag_equality, optional_equality, optional_starts, tagged_starts};
-ghost use Rattle.der_numbers.specs.contracts.int_ref.IntRefContentsEq.TheImpl.Laws as intref_contents_eq;
+ghost use Rattle.der_modules.specs.Members.{no_fields, optional_field, struct_member};
 ghost use Rattle.der_ocsp.specs.Ocsp.CrlId as crl_id_fields;
 ghost use Rattle.der_ocsp.specs.Ocsp.Grammar.{crl_id};
 ghost use Rattle.der_ocsp.specs.declared.ocsp.crl_id.CrlId.{CrlId};
-ghost use Rattle.der_time.specs.contracts.generalized_time.GeneralizedTimeContentsEq.TheImpl.Laws as generalizedtime_contents_eq;
 
-use der_ascii::{CharacterStringTag, Ia5StringRef};
+use der_ascii::Ia5StringRef;
 use der_elem::{
-    ContentsEq, CopyIsDuplicate, DecodeValue, EncodeValue, Form, FormValue, GeneralizedTimeTag,
-    IntegerTag, OneTag, Sequence, SequenceTag, TagMarker, ValueOrd,
+    ContentsEq, CopyIsDuplicate, DecodeValue, EncodeValue, Form, FormValue, OneTag, Sequence,
+    SequenceTag, TagMarker, ValueOrd,
 };
-use der_fields::{
-    DecodeFields, EncodeFields, End, Explicit, ExplicitTag, Field, FieldList, Fields3, FieldsOrd,
-};
+use der_fields::{DecodeFields, EncodeFields, Explicit, FieldList, Fields3, FieldsOrd};
+use der_modules::{Member, field_list, if_present, tagged};
 use der_numbers::IntRef;
 use der_time::GeneralizedTime;
 use der_tlv::{BackWriter, Error, Header, Length, Source, Writer};
@@ -63,27 +58,11 @@ impl<'a> CrlId<'a> {
         ensures crl_num { crl_id_fields.crl_num result ≡ crl_num.entry }
         ensures crl_time { crl_id_fields.crl_time result ≡ crl_time }
     {
-        let first = match crl_time {
-            Some(first) => Some(Explicit {
-                fields: Field { first, rest: End },
-            }),
-            None => None,
-        };
-        let rest = Field { first, rest: End };
-        let first = match crl_num {
-            Some(first) => Some(Explicit {
-                fields: Field { first, rest: End },
-            }),
-            None => None,
-        };
-        let rest = Field { first, rest };
-        let first = match crl_url {
-            Some(first) => Some(Explicit {
-                fields: Field { first, rest: End },
-            }),
-            None => None,
-        };
-        let list = Field { first, rest };
+        let list = field_list![
+            if_present!(value in crl_url => tagged!(Explicit, value)),
+            if_present!(value in crl_num => tagged!(Explicit, value)),
+            if_present!(value in crl_time => tagged!(Explicit, value))
+        ];
         let fields = Fields3 { list };
         CrlId { fields }
     }
@@ -92,30 +71,21 @@ impl<'a> CrlId<'a> {
     pub fn crl_url(&self) -> Option<&Ia5StringRef<'a>>
         ensures { option_copied result ≡ crl_id_fields.crl_url self.now }
     {
-        match &self.fields.list.first {
-            Some(value) => Some(&value.fields.first),
-            None => None,
-        }
+        if_present!(value in &self.fields.list.first => &value.fields.first)
     }
 
     /// `crlNum`, `[1] EXPLICIT INTEGER OPTIONAL`.
     pub fn crl_num(&self) -> Option<&IntRef<'a>>
         ensures { option_copied result ≡ crl_id_fields.crl_num self.now }
     {
-        match &self.fields.list.rest.first {
-            Some(value) => Some(&value.fields.first),
-            None => None,
-        }
+        if_present!(value in &self.fields.list.rest.first => &value.fields.first)
     }
 
     /// `crlTime`, `[2] EXPLICIT GeneralizedTime OPTIONAL`.
     pub fn crl_time(&self) -> Option<GeneralizedTime>
         ensures { result ≡ crl_id_fields.crl_time self.now }
     {
-        match self.fields.list.rest.rest.first {
-            Some(tagged) => Some(tagged.fields.first),
-            None => None,
-        }
+        if_present!(value in self.fields.list.rest.rest.first => value.fields.first)
     }
 }
 
@@ -176,32 +146,16 @@ impl<'a> ValueOrd for CrlId<'a> {
     }
 }
 
+impl<'a> Member for CrlId<'a> {
+    ghost member = { struct_member ⟦<SequenceTag as TagMarker>⟧.TAG (λ v. v.fields.list)
+        (optional_field ⟦<Explicit<Ia5StringRef<'a>, 0> as Member>⟧.member
+        (optional_field ⟦<Explicit<IntRef<'a>, 1> as Member>⟧.member
+        (optional_field ⟦<Explicit<GeneralizedTime, 2> as Member>⟧.member
+        no_fields))) };
+}
+
 impl<'a> ContentsEq for CrlId<'a> {
-    ghost contents_eq = { λ v w. (member_equality ⟦<Option<Explicit<Ia5StringRef<'a>, 0>> as Form>⟧
-        (optional_starts ⟦<Explicit<Ia5StringRef<'a>, 0> as Form>⟧ (one_tag ⟦<ExplicitTag<0> as TagMarker>⟧.TAG ⟦<Explicit<Ia5StringRef<'a>, 0> as FormValue>⟧.value.contents))
-        ⟦<Option<Explicit<Ia5StringRef<'a>, 0>> as PartialEq>⟧.eq
-        (optional_equality ⟦<Explicit<Ia5StringRef<'a>, 0> as Form>⟧ (one_tag ⟦<ExplicitTag<0> as TagMarker>⟧.TAG ⟦<Explicit<Ia5StringRef<'a>, 0> as FormValue>⟧.value.contents) ⟦<Explicit<Ia5StringRef<'a>, 0> as PartialEq>⟧.eq (one_tag_equality ⟦<ExplicitTag<0> as TagMarker>⟧.TAG ⟦<Explicit<Ia5StringRef<'a>, 0> as FormValue>⟧.value.contents ⟦<Explicit<Ia5StringRef<'a>, 0> as FormValue>⟧.value.comparable ⟦<Explicit<Ia5StringRef<'a>, 0> as PartialEq>⟧.eq (λ v w. ((member_equality ⟦<Ia5StringRef<'a> as Form>⟧
-        (tagged_starts ⟦<Ia5StringRef<'a> as Form>⟧ (one_tag ⟦<CharacterStringTag<22> as TagMarker>⟧.TAG ⟦<Ia5StringRef<'a> as FormValue>⟧.value.contents))
-        ⟦<Ia5StringRef<'a> as PartialEq>⟧.eq
-        (one_tag_equality ⟦<CharacterStringTag<22> as TagMarker>⟧.TAG ⟦<Ia5StringRef<'a> as FormValue>⟧.value.contents ⟦<Ia5StringRef<'a> as FormValue>⟧.value.comparable ⟦<Ia5StringRef<'a> as PartialEq>⟧.eq (characterstringref_contents_eq.contents_eq-law 22 (record { fits = lit< tt })))
-        no_equality).equal v.fields w.fields))))
-        (member_equality ⟦<Option<Explicit<IntRef<'a>, 1>> as Form>⟧
-        (optional_starts ⟦<Explicit<IntRef<'a>, 1> as Form>⟧ (one_tag ⟦<ExplicitTag<1> as TagMarker>⟧.TAG ⟦<Explicit<IntRef<'a>, 1> as FormValue>⟧.value.contents))
-        ⟦<Option<Explicit<IntRef<'a>, 1>> as PartialEq>⟧.eq
-        (optional_equality ⟦<Explicit<IntRef<'a>, 1> as Form>⟧ (one_tag ⟦<ExplicitTag<1> as TagMarker>⟧.TAG ⟦<Explicit<IntRef<'a>, 1> as FormValue>⟧.value.contents) ⟦<Explicit<IntRef<'a>, 1> as PartialEq>⟧.eq (one_tag_equality ⟦<ExplicitTag<1> as TagMarker>⟧.TAG ⟦<Explicit<IntRef<'a>, 1> as FormValue>⟧.value.contents ⟦<Explicit<IntRef<'a>, 1> as FormValue>⟧.value.comparable ⟦<Explicit<IntRef<'a>, 1> as PartialEq>⟧.eq (λ v w. ((member_equality ⟦<IntRef<'a> as Form>⟧
-        (tagged_starts ⟦<IntRef<'a> as Form>⟧ (one_tag ⟦<IntegerTag as TagMarker>⟧.TAG ⟦<IntRef<'a> as FormValue>⟧.value.contents))
-        ⟦<IntRef<'a> as PartialEq>⟧.eq
-        (one_tag_equality ⟦<IntegerTag as TagMarker>⟧.TAG ⟦<IntRef<'a> as FormValue>⟧.value.contents ⟦<IntRef<'a> as FormValue>⟧.value.comparable ⟦<IntRef<'a> as PartialEq>⟧.eq intref_contents_eq.contents_eq-law)
-        no_equality).equal v.fields w.fields))))
-        (member_equality ⟦<Option<Explicit<GeneralizedTime, 2>> as Form>⟧
-        (optional_starts ⟦<Explicit<GeneralizedTime, 2> as Form>⟧ (one_tag ⟦<ExplicitTag<2> as TagMarker>⟧.TAG ⟦<Explicit<GeneralizedTime, 2> as FormValue>⟧.value.contents))
-        ⟦<Option<Explicit<GeneralizedTime, 2>> as PartialEq>⟧.eq
-        (optional_equality ⟦<Explicit<GeneralizedTime, 2> as Form>⟧ (one_tag ⟦<ExplicitTag<2> as TagMarker>⟧.TAG ⟦<Explicit<GeneralizedTime, 2> as FormValue>⟧.value.contents) ⟦<Explicit<GeneralizedTime, 2> as PartialEq>⟧.eq (one_tag_equality ⟦<ExplicitTag<2> as TagMarker>⟧.TAG ⟦<Explicit<GeneralizedTime, 2> as FormValue>⟧.value.contents ⟦<Explicit<GeneralizedTime, 2> as FormValue>⟧.value.comparable ⟦<Explicit<GeneralizedTime, 2> as PartialEq>⟧.eq (λ v w. ((member_equality ⟦<GeneralizedTime as Form>⟧
-        (tagged_starts ⟦<GeneralizedTime as Form>⟧ (one_tag ⟦<GeneralizedTimeTag as TagMarker>⟧.TAG ⟦<GeneralizedTime as FormValue>⟧.value.contents))
-        ⟦<GeneralizedTime as PartialEq>⟧.eq
-        (one_tag_equality ⟦<GeneralizedTimeTag as TagMarker>⟧.TAG ⟦<GeneralizedTime as FormValue>⟧.value.contents ⟦<GeneralizedTime as FormValue>⟧.value.comparable ⟦<GeneralizedTime as PartialEq>⟧.eq generalizedtime_contents_eq.contents_eq-law)
-        no_equality).equal v.fields w.fields))))
-        no_equality))).equal v.fields.list w.fields.list };
+    ghost contents_eq = { ⟦<CrlId<'a> as Member>⟧.member.equal };
 }
 
 impl<'a> CopyIsDuplicate for CrlId<'a> {}

@@ -5,11 +5,9 @@
 ghost use Rattle.std.specs.Prelude.{◌∷◌, ◌≡◌, [], false, refl};
 ghost use Rattle.der_elem.specs.FormatMakers.{mapped_format};
 ghost use Rattle.der_modules.specs.Asn1.{context, explicit_encoding, joined, optional, parse_of};
-ghost use Rattle.der_modules.specs.MemberLaws.{member_equality, no_equality, one_tag, one_tag_equality, optional_equality, optional_starts, tagged_starts};
+ghost use Rattle.der_modules.specs.Members.{field, no_fields, optional_field, struct_member};
 ghost use Rattle.der_ocsp.specs.Ocsp.Grammar.{ocsp_request};
 ghost use Rattle.der_ocsp.specs.Ocsp.OcspRequest as ocsp_request_fields;
-ghost use Rattle.der_ocsp.specs.contracts.ocsp.signature.SignatureContentsEq.TheImpl.Laws as signature_contents_eq;
-ghost use Rattle.der_ocsp.specs.contracts.ocsp.tbs_request.TbsRequestContentsEq.TheImpl.Laws as tbs_request_contents_eq;
 ghost use Rattle.der_ocsp.specs.declared.ocsp.ocsp_request.OcspRequest.{OcspRequest};
 
 use crate::ocsp::signature::Signature;
@@ -18,10 +16,8 @@ use der_elem::{
     ContentsEq, CopyIsDuplicate, DecodeValue, EncodeValue, Form, FormValue, OneTag, Sequence,
     SequenceTag, TagMarker, ValueOrd,
 };
-use der_fields::{
-    DecodeFields, EncodeFields, End, Explicit, ExplicitTag, Field, FieldList, Fields2, FieldsOrd,
-};
-use der_modules::copy_of;
+use der_fields::{DecodeFields, EncodeFields, Explicit, FieldList, Fields2, FieldsOrd};
+use der_modules::{Member, copy_of, field_list, if_present, tagged};
 use der_tlv::{BackWriter, Error, Header, Length, Source, Writer};
 use std::alloc::Global;
 use std::cmp::Ordering;
@@ -54,18 +50,10 @@ impl<'a> OcspRequest<'a> {
         ensures tbs_request { ocsp_request_fields.tbs_request result ≡ tbs_request.now }
         ensures optional_signature { ocsp_request_fields.optional_signature result ≡ option_copied optional_signature.entry }
     {
-        let first = match optional_signature {
-            Some(first) => Some(Explicit {
-                fields: Field {
-                    first: copy_of(first),
-                    rest: End,
-                },
-            }),
-            None => None,
-        };
-        let rest = Field { first, rest: End };
-        let first = copy_of(tbs_request);
-        let list = Field { first, rest };
+        let list = field_list![
+            copy_of(tbs_request),
+            if_present!(value in optional_signature => tagged!(Explicit, copy_of(value)))
+        ];
         let fields = Fields2 { list };
         OcspRequest { fields }
     }
@@ -81,10 +69,7 @@ impl<'a> OcspRequest<'a> {
     pub fn optional_signature(&self) -> Option<&Signature<'a>>
         ensures { option_copied result ≡ ocsp_request_fields.optional_signature self.now }
     {
-        match &self.fields.list.rest.first {
-            Some(value) => Some(&value.fields.first),
-            None => None,
-        }
+        if_present!(value in &self.fields.list.rest.first => &value.fields.first)
     }
 }
 
@@ -148,20 +133,15 @@ impl<'a> ValueOrd for OcspRequest<'a> {
     }
 }
 
+impl<'a> Member for OcspRequest<'a> {
+    ghost member = { struct_member ⟦<SequenceTag as TagMarker>⟧.TAG (λ v. v.fields.list)
+        (field ⟦<TbsRequest<'a> as Member>⟧.member
+        (optional_field ⟦<Explicit<Signature<'a>, 0> as Member>⟧.member
+        no_fields)) };
+}
+
 impl<'a> ContentsEq for OcspRequest<'a> {
-    ghost contents_eq = { λ v w. (member_equality ⟦<TbsRequest<'a> as Form>⟧
-        (tagged_starts ⟦<TbsRequest<'a> as Form>⟧ (one_tag ⟦<SequenceTag as TagMarker>⟧.TAG ⟦<TbsRequest<'a> as FormValue>⟧.value.contents))
-        ⟦<TbsRequest<'a> as PartialEq>⟧.eq
-        (one_tag_equality ⟦<SequenceTag as TagMarker>⟧.TAG ⟦<TbsRequest<'a> as FormValue>⟧.value.contents ⟦<TbsRequest<'a> as FormValue>⟧.value.comparable ⟦<TbsRequest<'a> as PartialEq>⟧.eq tbs_request_contents_eq.contents_eq-law)
-        (member_equality ⟦<Option<Explicit<Signature<'a>, 0>> as Form>⟧
-        (optional_starts ⟦<Explicit<Signature<'a>, 0> as Form>⟧ (one_tag ⟦<ExplicitTag<0> as TagMarker>⟧.TAG ⟦<Explicit<Signature<'a>, 0> as FormValue>⟧.value.contents))
-        ⟦<Option<Explicit<Signature<'a>, 0>> as PartialEq>⟧.eq
-        (optional_equality ⟦<Explicit<Signature<'a>, 0> as Form>⟧ (one_tag ⟦<ExplicitTag<0> as TagMarker>⟧.TAG ⟦<Explicit<Signature<'a>, 0> as FormValue>⟧.value.contents) ⟦<Explicit<Signature<'a>, 0> as PartialEq>⟧.eq (one_tag_equality ⟦<ExplicitTag<0> as TagMarker>⟧.TAG ⟦<Explicit<Signature<'a>, 0> as FormValue>⟧.value.contents ⟦<Explicit<Signature<'a>, 0> as FormValue>⟧.value.comparable ⟦<Explicit<Signature<'a>, 0> as PartialEq>⟧.eq (λ v w. ((member_equality ⟦<Signature<'a> as Form>⟧
-        (tagged_starts ⟦<Signature<'a> as Form>⟧ (one_tag ⟦<SequenceTag as TagMarker>⟧.TAG ⟦<Signature<'a> as FormValue>⟧.value.contents))
-        ⟦<Signature<'a> as PartialEq>⟧.eq
-        (one_tag_equality ⟦<SequenceTag as TagMarker>⟧.TAG ⟦<Signature<'a> as FormValue>⟧.value.contents ⟦<Signature<'a> as FormValue>⟧.value.comparable ⟦<Signature<'a> as PartialEq>⟧.eq signature_contents_eq.contents_eq-law)
-        no_equality).equal v.fields w.fields))))
-        no_equality)).equal v.fields.list w.fields.list };
+    ghost contents_eq = { ⟦<OcspRequest<'a> as Member>⟧.member.equal };
 }
 
 impl<'a> CopyIsDuplicate for OcspRequest<'a> {}

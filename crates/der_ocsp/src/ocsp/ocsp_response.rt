@@ -5,11 +5,9 @@
 ghost use Rattle.std.specs.Prelude.{◌∷◌, ◌≡◌, [], false, refl};
 ghost use Rattle.der_elem.specs.FormatMakers.{mapped_format};
 ghost use Rattle.der_modules.specs.Asn1.{context, explicit_encoding, joined, optional, parse_of};
-ghost use Rattle.der_modules.specs.MemberLaws.{member_equality, no_equality, one_tag, one_tag_equality, optional_equality, optional_starts, tagged_starts};
-ghost use Rattle.der_numbers.specs.EnumeratedLaws.{numbers_decide};
+ghost use Rattle.der_modules.specs.Members.{field, no_fields, optional_field, struct_member};
 ghost use Rattle.der_ocsp.specs.Ocsp.Grammar.{ocsp_response};
 ghost use Rattle.der_ocsp.specs.Ocsp.OcspResponse as ocsp_response_fields;
-ghost use Rattle.der_ocsp.specs.contracts.ocsp.response_bytes.ResponseBytesContentsEq.TheImpl.Laws as response_bytes_contents_eq;
 ghost use Rattle.der_ocsp.specs.declared.ocsp.ocsp_response.OcspResponse.{OcspResponse};
 
 use crate::ocsp::ocsp_response_status::OcspResponseStatus;
@@ -18,11 +16,9 @@ use der_elem::{
     ContentsEq, CopyIsDuplicate, DecodeValue, EncodeValue, Form, FormValue, OneTag, Sequence,
     SequenceTag, TagMarker, ValueOrd,
 };
-use der_fields::{
-    DecodeFields, EncodeFields, End, Explicit, ExplicitTag, Field, FieldList, Fields2, FieldsOrd,
-};
-use der_modules::copy_of;
-use der_numbers::{Enumerated, EnumeratedTag, Enumeration};
+use der_fields::{DecodeFields, EncodeFields, Explicit, FieldList, Fields2, FieldsOrd};
+use der_modules::{Member, copy_of, field_list, if_present, tagged};
+use der_numbers::Enumerated;
 use der_tlv::{BackWriter, Error, Header, Length, Source, Writer};
 use std::alloc::Global;
 use std::cmp::Ordering;
@@ -55,20 +51,12 @@ impl<'a> OcspResponse<'a> {
         ensures response_status { ocsp_response_fields.response_status result ≡ response_status }
         ensures response_bytes { ocsp_response_fields.response_bytes result ≡ option_copied response_bytes.entry }
     {
-        let first = match response_bytes {
-            Some(first) => Some(Explicit {
-                fields: Field {
-                    first: copy_of(first),
-                    rest: End,
-                },
-            }),
-            None => None,
-        };
-        let rest = Field { first, rest: End };
-        let first = Enumerated {
-            value: response_status,
-        };
-        let list = Field { first, rest };
+        let list = field_list![
+            Enumerated {
+                value: response_status
+            },
+            if_present!(value in response_bytes => tagged!(Explicit, copy_of(value)))
+        ];
         let fields = Fields2 { list };
         OcspResponse { fields }
     }
@@ -84,10 +72,7 @@ impl<'a> OcspResponse<'a> {
     pub fn response_bytes(&self) -> Option<&ResponseBytes<'a>>
         ensures { option_copied result ≡ ocsp_response_fields.response_bytes self.now }
     {
-        match &self.fields.list.rest.first {
-            Some(value) => Some(&value.fields.first),
-            None => None,
-        }
+        if_present!(value in &self.fields.list.rest.first => &value.fields.first)
     }
 }
 
@@ -151,20 +136,15 @@ impl<'a> ValueOrd for OcspResponse<'a> {
     }
 }
 
+impl<'a> Member for OcspResponse<'a> {
+    ghost member = { struct_member ⟦<SequenceTag as TagMarker>⟧.TAG (λ v. v.fields.list)
+        (field ⟦<Enumerated<OcspResponseStatus> as Member>⟧.member
+        (optional_field ⟦<Explicit<ResponseBytes<'a>, 0> as Member>⟧.member
+        no_fields)) };
+}
+
 impl<'a> ContentsEq for OcspResponse<'a> {
-    ghost contents_eq = { λ v w. (member_equality ⟦<Enumerated<OcspResponseStatus> as Form>⟧
-        (tagged_starts ⟦<Enumerated<OcspResponseStatus> as Form>⟧ (one_tag ⟦<EnumeratedTag as TagMarker>⟧.TAG ⟦<Enumerated<OcspResponseStatus> as FormValue>⟧.value.contents))
-        ⟦<Enumerated<OcspResponseStatus> as PartialEq>⟧.eq
-        (one_tag_equality ⟦<EnumeratedTag as TagMarker>⟧.TAG ⟦<Enumerated<OcspResponseStatus> as FormValue>⟧.value.contents ⟦<Enumerated<OcspResponseStatus> as FormValue>⟧.value.comparable ⟦<Enumerated<OcspResponseStatus> as PartialEq>⟧.eq (λ v w. (λ one. numbers_decide (⟦<OcspResponseStatus as Enumeration>⟧.names.number_of v.value) (⟦<OcspResponseStatus as Enumeration>⟧.names.number_of w.value))))
-        (member_equality ⟦<Option<Explicit<ResponseBytes<'a>, 0>> as Form>⟧
-        (optional_starts ⟦<Explicit<ResponseBytes<'a>, 0> as Form>⟧ (one_tag ⟦<ExplicitTag<0> as TagMarker>⟧.TAG ⟦<Explicit<ResponseBytes<'a>, 0> as FormValue>⟧.value.contents))
-        ⟦<Option<Explicit<ResponseBytes<'a>, 0>> as PartialEq>⟧.eq
-        (optional_equality ⟦<Explicit<ResponseBytes<'a>, 0> as Form>⟧ (one_tag ⟦<ExplicitTag<0> as TagMarker>⟧.TAG ⟦<Explicit<ResponseBytes<'a>, 0> as FormValue>⟧.value.contents) ⟦<Explicit<ResponseBytes<'a>, 0> as PartialEq>⟧.eq (one_tag_equality ⟦<ExplicitTag<0> as TagMarker>⟧.TAG ⟦<Explicit<ResponseBytes<'a>, 0> as FormValue>⟧.value.contents ⟦<Explicit<ResponseBytes<'a>, 0> as FormValue>⟧.value.comparable ⟦<Explicit<ResponseBytes<'a>, 0> as PartialEq>⟧.eq (λ v w. ((member_equality ⟦<ResponseBytes<'a> as Form>⟧
-        (tagged_starts ⟦<ResponseBytes<'a> as Form>⟧ (one_tag ⟦<SequenceTag as TagMarker>⟧.TAG ⟦<ResponseBytes<'a> as FormValue>⟧.value.contents))
-        ⟦<ResponseBytes<'a> as PartialEq>⟧.eq
-        (one_tag_equality ⟦<SequenceTag as TagMarker>⟧.TAG ⟦<ResponseBytes<'a> as FormValue>⟧.value.contents ⟦<ResponseBytes<'a> as FormValue>⟧.value.comparable ⟦<ResponseBytes<'a> as PartialEq>⟧.eq response_bytes_contents_eq.contents_eq-law)
-        no_equality).equal v.fields w.fields))))
-        no_equality)).equal v.fields.list w.fields.list };
+    ghost contents_eq = { ⟦<OcspResponse<'a> as Member>⟧.member.equal };
 }
 
 impl<'a> CopyIsDuplicate for OcspResponse<'a> {}

@@ -5,18 +5,17 @@
 ghost use Rattle.std.specs.Prelude.{◌∷◌, ◌≡◌, [], false, refl};
 ghost use Rattle.der_elem.specs.FormatMakers.{mapped_format};
 ghost use Rattle.der_modules.specs.Asn1.{joined, optional, parse_of};
-ghost use Rattle.der_modules.specs.MemberLaws.{member_equality, no_equality, one_tag, one_tag_equality, optional_equality, optional_starts, tagged_starts};
+ghost use Rattle.der_modules.specs.Members.{field, no_fields, optional_field, struct_member};
 ghost use Rattle.der_ocsp.specs.Ocsp.Grammar.{preferred_signature_algorithm};
 ghost use Rattle.der_ocsp.specs.Ocsp.PreferredSignatureAlgorithm as preferred_signature_algorithm_fields;
 ghost use Rattle.der_ocsp.specs.declared.ocsp.preferred_signature_algorithm.PreferredSignatureAlgorithm.{PreferredSignatureAlgorithm};
-ghost use Rattle.der_pkix.specs.contracts.algorithm_identifier.AlgorithmIdentifierContentsEq.TheImpl.Laws as algorithm_identifier_contents_eq;
 
 use der_elem::{
     ContentsEq, CopyIsDuplicate, DecodeValue, EncodeValue, Form, FormValue, OneTag, Sequence,
     SequenceTag, TagMarker, ValueOrd,
 };
-use der_fields::{DecodeFields, EncodeFields, End, Field, FieldList, Fields2, FieldsOrd};
-use der_modules::copy_of;
+use der_fields::{DecodeFields, EncodeFields, FieldList, Fields2, FieldsOrd};
+use der_modules::{Member, copy_of, field_list, if_present};
 use der_pkix::AlgorithmIdentifier;
 use der_tlv::{BackWriter, Error, Header, Length, Source, Writer};
 use std::alloc::Global;
@@ -50,13 +49,10 @@ impl<'a> PreferredSignatureAlgorithm<'a> {
         ensures sig_identifier { preferred_signature_algorithm_fields.sig_identifier result ≡ sig_identifier.now }
         ensures cert_identifier { preferred_signature_algorithm_fields.cert_identifier result ≡ option_copied cert_identifier.entry }
     {
-        let first = match cert_identifier {
-            Some(value) => Some(copy_of(value)),
-            None => None,
-        };
-        let rest = Field { first, rest: End };
-        let first = copy_of(sig_identifier);
-        let list = Field { first, rest };
+        let list = field_list![
+            copy_of(sig_identifier),
+            if_present!(value in cert_identifier => copy_of(value))
+        ];
         let fields = Fields2 { list };
         PreferredSignatureAlgorithm { fields }
     }
@@ -72,10 +68,7 @@ impl<'a> PreferredSignatureAlgorithm<'a> {
     pub fn cert_identifier(&self) -> Option<&AlgorithmIdentifier<'a>>
         ensures { option_copied result ≡ preferred_signature_algorithm_fields.cert_identifier self.now }
     {
-        match &self.fields.list.rest.first {
-            Some(value) => Some(value),
-            None => None,
-        }
+        if_present!(value in &self.fields.list.rest.first => value)
     }
 }
 
@@ -139,16 +132,15 @@ impl<'a> ValueOrd for PreferredSignatureAlgorithm<'a> {
     }
 }
 
+impl<'a> Member for PreferredSignatureAlgorithm<'a> {
+    ghost member = { struct_member ⟦<SequenceTag as TagMarker>⟧.TAG (λ v. v.fields.list)
+        (field ⟦<AlgorithmIdentifier<'a> as Member>⟧.member
+        (optional_field ⟦<AlgorithmIdentifier<'a> as Member>⟧.member
+        no_fields)) };
+}
+
 impl<'a> ContentsEq for PreferredSignatureAlgorithm<'a> {
-    ghost contents_eq = { λ v w. (member_equality ⟦<AlgorithmIdentifier<'a> as Form>⟧
-        (tagged_starts ⟦<AlgorithmIdentifier<'a> as Form>⟧ (one_tag ⟦<SequenceTag as TagMarker>⟧.TAG ⟦<AlgorithmIdentifier<'a> as FormValue>⟧.value.contents))
-        ⟦<AlgorithmIdentifier<'a> as PartialEq>⟧.eq
-        (one_tag_equality ⟦<SequenceTag as TagMarker>⟧.TAG ⟦<AlgorithmIdentifier<'a> as FormValue>⟧.value.contents ⟦<AlgorithmIdentifier<'a> as FormValue>⟧.value.comparable ⟦<AlgorithmIdentifier<'a> as PartialEq>⟧.eq algorithm_identifier_contents_eq.contents_eq-law)
-        (member_equality ⟦<Option<AlgorithmIdentifier<'a>> as Form>⟧
-        (optional_starts ⟦<AlgorithmIdentifier<'a> as Form>⟧ (one_tag ⟦<SequenceTag as TagMarker>⟧.TAG ⟦<AlgorithmIdentifier<'a> as FormValue>⟧.value.contents))
-        ⟦<Option<AlgorithmIdentifier<'a>> as PartialEq>⟧.eq
-        (optional_equality ⟦<AlgorithmIdentifier<'a> as Form>⟧ (one_tag ⟦<SequenceTag as TagMarker>⟧.TAG ⟦<AlgorithmIdentifier<'a> as FormValue>⟧.value.contents) ⟦<AlgorithmIdentifier<'a> as PartialEq>⟧.eq (one_tag_equality ⟦<SequenceTag as TagMarker>⟧.TAG ⟦<AlgorithmIdentifier<'a> as FormValue>⟧.value.contents ⟦<AlgorithmIdentifier<'a> as FormValue>⟧.value.comparable ⟦<AlgorithmIdentifier<'a> as PartialEq>⟧.eq algorithm_identifier_contents_eq.contents_eq-law))
-        no_equality)).equal v.fields.list w.fields.list };
+    ghost contents_eq = { ⟦<PreferredSignatureAlgorithm<'a> as Member>⟧.member.equal };
 }
 
 impl<'a> CopyIsDuplicate for PreferredSignatureAlgorithm<'a> {}

@@ -2,18 +2,19 @@
 //!
 //! Made by tools/asn1 from ocsp.asn1.
 
-ghost use Rattle.std.specs.Cmp.Lexicographic.{bytes_decides};
 ghost use Rattle.std.specs.Prelude.{◌≡◌, false, refl};
 ghost use Rattle.der_elem.specs.FormatMakers.{mapped_format};
 ghost use Rattle.der_modules.specs.Asn1.{parse_of};
+ghost use Rattle.der_modules.specs.Members.{seen_member};
 ghost use Rattle.der_ocsp.specs.Ocsp.Grammar.{preferred_signature_algorithms};
 
 use crate::ocsp::preferred_signature_algorithm::PreferredSignatureAlgorithm;
 use der_elem::{
     ContentsEq, CopyIsDuplicate, DecodeValue, EncodeValue, Form, FormValue, OneTag, Sequence,
-    SequenceTag, ValueOrd,
+    SequenceTag, TagMarker, ValueOrd,
 };
 use der_lists::ListRef;
+use der_modules::Member;
 use der_tlv::{BackWriter, Error, Header, Length, Source, Writer};
 use std::alloc::Global;
 use std::cmp::Ordering;
@@ -70,10 +71,10 @@ impl<'a, R: Source<'a>> DecodeValue<'a, R> for PreferredSignatureAlgorithms<'a> 
         reader: &mut R,
         header: Header,
     ) -> Result<PreferredSignatureAlgorithms<'a>, Error> {
-        match ListRef::<'a, PreferredSignatureAlgorithm<'a>>::decode_value(alloc, reader, header) {
-            Ok(items) => Ok(PreferredSignatureAlgorithms { items }),
-            Err(e) => Err(e),
-        }
+        let items = ListRef::<'a, PreferredSignatureAlgorithm<'a>>::decode_value(
+            alloc, reader, header,
+        )?;
+        Ok(PreferredSignatureAlgorithms { items })
     }
 
     ghost takes_memory_is = { refl };
@@ -99,8 +100,12 @@ impl<'a> ValueOrd for PreferredSignatureAlgorithms<'a> {
     }
 }
 
+impl<'a> Member for PreferredSignatureAlgorithms<'a> {
+    ghost member = { seen_member ⟦<SequenceTag as TagMarker>⟧.TAG (λ v. v.items) ⟦<ListRef<'a, PreferredSignatureAlgorithm<'a>> as Member>⟧.member };
+}
+
 impl<'a> ContentsEq for PreferredSignatureAlgorithms<'a> {
-    ghost contents_eq = { λ v w. (λ one. bytes_decides v.items.octets.octets.now w.items.octets.octets.now) };
+    ghost contents_eq = { ⟦<PreferredSignatureAlgorithms<'a> as Member>⟧.member.equal };
 }
 
 impl<'a> CopyIsDuplicate for PreferredSignatureAlgorithms<'a> {}

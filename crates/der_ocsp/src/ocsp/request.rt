@@ -5,22 +5,18 @@
 ghost use Rattle.std.specs.Prelude.{◌∷◌, ◌≡◌, [], false, refl};
 ghost use Rattle.der_elem.specs.FormatMakers.{mapped_format};
 ghost use Rattle.der_modules.specs.Asn1.{context, explicit_encoding, joined, optional, parse_of};
-ghost use Rattle.der_modules.specs.MemberLaws.{member_equality, no_equality, one_tag, one_tag_equality, optional_equality, optional_starts, tagged_starts};
+ghost use Rattle.der_modules.specs.Members.{field, no_fields, optional_field, struct_member};
 ghost use Rattle.der_ocsp.specs.Ocsp.Grammar.{request};
 ghost use Rattle.der_ocsp.specs.Ocsp.Request as request_fields;
-ghost use Rattle.der_ocsp.specs.contracts.ocsp.cert_id.CertIdContentsEq.TheImpl.Laws as cert_id_contents_eq;
 ghost use Rattle.der_ocsp.specs.declared.ocsp.request.Request.{Request};
-ghost use Rattle.der_pkix.specs.contracts.certificate.extensions.ExtensionsContentsEq.TheImpl.Laws as extensions_contents_eq;
 
 use crate::ocsp::cert_id::CertId;
 use der_elem::{
     ContentsEq, CopyIsDuplicate, DecodeValue, EncodeValue, Form, FormValue, OneTag, Sequence,
     SequenceTag, TagMarker, ValueOrd,
 };
-use der_fields::{
-    DecodeFields, EncodeFields, End, Explicit, ExplicitTag, Field, FieldList, Fields2, FieldsOrd,
-};
-use der_modules::copy_of;
+use der_fields::{DecodeFields, EncodeFields, Explicit, FieldList, Fields2, FieldsOrd};
+use der_modules::{Member, copy_of, field_list, if_present, tagged};
 use der_pkix::certificate::Extensions;
 use der_tlv::{BackWriter, Error, Header, Length, Source, Writer};
 use std::alloc::Global;
@@ -54,18 +50,10 @@ impl<'a> Request<'a> {
         ensures req_cert { request_fields.req_cert result ≡ req_cert.now }
         ensures single_request_extensions { request_fields.single_request_extensions result ≡ option_copied single_request_extensions.entry }
     {
-        let first = match single_request_extensions {
-            Some(first) => Some(Explicit {
-                fields: Field {
-                    first: copy_of(first),
-                    rest: End,
-                },
-            }),
-            None => None,
-        };
-        let rest = Field { first, rest: End };
-        let first = copy_of(req_cert);
-        let list = Field { first, rest };
+        let list = field_list![
+            copy_of(req_cert),
+            if_present!(value in single_request_extensions => tagged!(Explicit, copy_of(value)))
+        ];
         let fields = Fields2 { list };
         Request { fields }
     }
@@ -81,10 +69,7 @@ impl<'a> Request<'a> {
     pub fn single_request_extensions(&self) -> Option<&Extensions<'a>>
         ensures { option_copied result ≡ request_fields.single_request_extensions self.now }
     {
-        match &self.fields.list.rest.first {
-            Some(value) => Some(&value.fields.first),
-            None => None,
-        }
+        if_present!(value in &self.fields.list.rest.first => &value.fields.first)
     }
 }
 
@@ -147,20 +132,15 @@ impl<'a> ValueOrd for Request<'a> {
     }
 }
 
+impl<'a> Member for Request<'a> {
+    ghost member = { struct_member ⟦<SequenceTag as TagMarker>⟧.TAG (λ v. v.fields.list)
+        (field ⟦<CertId<'a> as Member>⟧.member
+        (optional_field ⟦<Explicit<Extensions<'a>, 0> as Member>⟧.member
+        no_fields)) };
+}
+
 impl<'a> ContentsEq for Request<'a> {
-    ghost contents_eq = { λ v w. (member_equality ⟦<CertId<'a> as Form>⟧
-        (tagged_starts ⟦<CertId<'a> as Form>⟧ (one_tag ⟦<SequenceTag as TagMarker>⟧.TAG ⟦<CertId<'a> as FormValue>⟧.value.contents))
-        ⟦<CertId<'a> as PartialEq>⟧.eq
-        (one_tag_equality ⟦<SequenceTag as TagMarker>⟧.TAG ⟦<CertId<'a> as FormValue>⟧.value.contents ⟦<CertId<'a> as FormValue>⟧.value.comparable ⟦<CertId<'a> as PartialEq>⟧.eq cert_id_contents_eq.contents_eq-law)
-        (member_equality ⟦<Option<Explicit<Extensions<'a>, 0>> as Form>⟧
-        (optional_starts ⟦<Explicit<Extensions<'a>, 0> as Form>⟧ (one_tag ⟦<ExplicitTag<0> as TagMarker>⟧.TAG ⟦<Explicit<Extensions<'a>, 0> as FormValue>⟧.value.contents))
-        ⟦<Option<Explicit<Extensions<'a>, 0>> as PartialEq>⟧.eq
-        (optional_equality ⟦<Explicit<Extensions<'a>, 0> as Form>⟧ (one_tag ⟦<ExplicitTag<0> as TagMarker>⟧.TAG ⟦<Explicit<Extensions<'a>, 0> as FormValue>⟧.value.contents) ⟦<Explicit<Extensions<'a>, 0> as PartialEq>⟧.eq (one_tag_equality ⟦<ExplicitTag<0> as TagMarker>⟧.TAG ⟦<Explicit<Extensions<'a>, 0> as FormValue>⟧.value.contents ⟦<Explicit<Extensions<'a>, 0> as FormValue>⟧.value.comparable ⟦<Explicit<Extensions<'a>, 0> as PartialEq>⟧.eq (λ v w. ((member_equality ⟦<Extensions<'a> as Form>⟧
-        (tagged_starts ⟦<Extensions<'a> as Form>⟧ (one_tag ⟦<SequenceTag as TagMarker>⟧.TAG ⟦<Extensions<'a> as FormValue>⟧.value.contents))
-        ⟦<Extensions<'a> as PartialEq>⟧.eq
-        (one_tag_equality ⟦<SequenceTag as TagMarker>⟧.TAG ⟦<Extensions<'a> as FormValue>⟧.value.contents ⟦<Extensions<'a> as FormValue>⟧.value.comparable ⟦<Extensions<'a> as PartialEq>⟧.eq extensions_contents_eq.contents_eq-law)
-        no_equality).equal v.fields w.fields))))
-        no_equality)).equal v.fields.list w.fields.list };
+    ghost contents_eq = { ⟦<Request<'a> as Member>⟧.member.equal };
 }
 
 impl<'a> CopyIsDuplicate for Request<'a> {}

@@ -9,23 +9,21 @@ ghost use Rattle.der_elem.specs.FormatMakers.{mapped_format};
 ghost use Rattle.der_elem.specs.KnownTagLaws.{known_either, own_is_known};
 ghost use Rattle.der_elem.specs.TaggedLaws.{tlv_tagged};
 ghost use Rattle.der_modules.specs.Asn1.{parse_of};
-ghost use Rattle.der_modules.specs.MemberLaws.{copies_of, either_equality, either_tag, member_equality, no_equality, one_tag, one_tag_equality, same_copies, seen_equality, tagged_starts};
+ghost use Rattle.der_modules.specs.MemberLaws.{copies_of, same_copies};
+ghost use Rattle.der_modules.specs.Members.{seen_choice};
 ghost use Rattle.der_ocsp.specs.Ocsp.Grammar.{responder_id};
 ghost use Rattle.der_ocsp.specs.Ocsp.ResponderId.{tree_of};
 ghost use Rattle.der_ocsp.specs.contracts.ocsp.responder_id.ResponderIdEq.TheImpl.Laws as responder_id_eq;
 ghost use Rattle.der_ocsp.specs.declared.ocsp.responder_id.ResponderId.TheVariants as of;
-ghost use Rattle.der_opaque.specs.contracts.octet_string_ref.OctetStringRefContentsEq.TheImpl.Laws as octetstringref_contents_eq;
-ghost use Rattle.der_pkix.specs.contracts.name.rdn_sequence.RdnSequenceContentsEq.TheImpl.Laws as rdn_sequence_contents_eq;
 
 use crate::ocsp::aliases::KeyHash;
 use der_elem::{
     Choice, Decode, DecodeField, DerOrd, Duplicate, DuplicateIsEqual, EncodeValue, EncodingEq,
-    Form, FormValue, KnownTags, OctetStringTag, SequenceTag, TagMarker, Tagged,
+    Form, FormValue, KnownTags, Tagged,
 };
-use der_fields::{Explicit, ExplicitTag, OneOf, cmp_headers};
-use der_modules::{CopyLaws, copy_of};
-use der_opaque::OctetStringRef;
-use der_pkix::name::{Name, RdnSequence};
+use der_fields::{Explicit, OneOf, cmp_headers};
+use der_modules::{Choosing, CopyLaws, copy_of};
+use der_pkix::name::Name;
 use der_tlv::{BackWriter, Error, Length, Source, Tag, Writer};
 use std::alloc::Global;
 use std::cmp::Ordering;
@@ -103,19 +101,13 @@ impl<'a> Tagged for ResponderId<'a> {
         }
     }
 
-    ghost encoding_is = { λ v. (either_tag ⟦<Explicit<Name<'a>, 1> as Form>⟧ ⟦<Explicit<KeyHash<'a>, 2> as Form>⟧
-        (one_tag ⟦<ExplicitTag<1> as TagMarker>⟧.TAG ⟦<Explicit<Name<'a>, 1> as FormValue>⟧.value.contents)
-        (one_tag ⟦<ExplicitTag<2> as TagMarker>⟧.TAG ⟦<Explicit<KeyHash<'a>, 2> as FormValue>⟧.value.contents)).encoding_is (tree_of v) };
+    ghost encoding_is = { ⟦<ResponderId<'a> as Choosing>⟧.choice.has_tag.encoding_is };
 
     ghost accepted_is_tlv = { λ rules v b. elim v as (λ k. ⟦<Tree<'a> as Form>⟧.accepts rules (tree_of k) b → IsTlv b) [ of.ByName x ↦ λ a. tlv_tagged _ ⟦<Explicit<Name<'a>, 1> as FormValue>⟧.value.accepts rules x b a.0 | of.ByKey x ↦ λ a. tlv_tagged _ ⟦<Explicit<KeyHash<'a>, 2> as FormValue>⟧.value.accepts rules x b a.0 ] };
 
-    ghost own_tag = { λ v. (either_tag ⟦<Explicit<Name<'a>, 1> as Form>⟧ ⟦<Explicit<KeyHash<'a>, 2> as Form>⟧
-        (one_tag ⟦<ExplicitTag<1> as TagMarker>⟧.TAG ⟦<Explicit<Name<'a>, 1> as FormValue>⟧.value.contents)
-        (one_tag ⟦<ExplicitTag<2> as TagMarker>⟧.TAG ⟦<Explicit<KeyHash<'a>, 2> as FormValue>⟧.value.contents)).own_tag (tree_of v) };
+    ghost own_tag = { ⟦<ResponderId<'a> as Choosing>⟧.choice.has_tag.own_tag };
 
-    ghost first_tag_is = { λ v. (either_tag ⟦<Explicit<Name<'a>, 1> as Form>⟧ ⟦<Explicit<KeyHash<'a>, 2> as Form>⟧
-        (one_tag ⟦<ExplicitTag<1> as TagMarker>⟧.TAG ⟦<Explicit<Name<'a>, 1> as FormValue>⟧.value.contents)
-        (one_tag ⟦<ExplicitTag<2> as TagMarker>⟧.TAG ⟦<Explicit<KeyHash<'a>, 2> as FormValue>⟧.value.contents)).first_tag_is (tree_of v) };
+    ghost first_tag_is = { ⟦<ResponderId<'a> as Choosing>⟧.choice.has_tag.first_tag_is };
 
     ghost re_reads_alike = { λ v. elim v as (λ k. ⟦<Tree<'a> as FormValue>⟧.value.re_reads (tree_of k) ≡ true → ⟦<Tree<'a> as Form>⟧.re_reads (tree_of k) ≡ true) [ of.ByName x ↦ λ h. h | of.ByKey x ↦ λ h. h ] };
 
@@ -203,22 +195,16 @@ impl<'a> DerOrd for ResponderId<'a> {
     }
 }
 
+impl<'a> Choosing for ResponderId<'a> {
+    ghost choice = { seen_choice tree_of ⟦<ResponderId<'a> as PartialEq>⟧.eq ⟦<Tree<'a> as Choosing>⟧.choice
+        (λ v w. elim v as (λ k. ⟦<ResponderId<'a> as PartialEq>⟧.eq k w ≡ ⟦<Tree<'a> as Choosing>⟧.choice.eq (tree_of k) (tree_of w)) [
+          | of.ByName x ↦ elim w as (λ k. ⟦<ResponderId<'a> as PartialEq>⟧.eq (of.ByName x) k ≡ ⟦<Tree<'a> as Choosing>⟧.choice.eq (tree_of (of.ByName x)) (tree_of k)) [ of.ByName y ↦ refl | of.ByKey y ↦ refl ]
+          | of.ByKey x ↦ elim w as (λ k. ⟦<ResponderId<'a> as PartialEq>⟧.eq (of.ByKey x) k ≡ ⟦<Tree<'a> as Choosing>⟧.choice.eq (tree_of (of.ByKey x)) (tree_of k)) [ of.ByName y ↦ refl | of.ByKey y ↦ refl ]
+        ]) };
+}
+
 impl<'a> EncodingEq for ResponderId<'a> {
-    ghost encoding_eq = { seen_equality tree_of ⟦<ResponderId<'a> as PartialEq>⟧.eq ⟦<Tree<'a> as PartialEq>⟧.eq (λ v w. elim v as (λ k. ⟦<ResponderId<'a> as PartialEq>⟧.eq k w ≡ ⟦<Tree<'a> as PartialEq>⟧.eq (tree_of k) (tree_of w)) [ of.ByName x ↦ elim w as (λ k. ⟦<ResponderId<'a> as PartialEq>⟧.eq (of.ByName x) k ≡ ⟦<Tree<'a> as PartialEq>⟧.eq (tree_of (of.ByName x)) (tree_of k)) [ of.ByName y ↦ refl | of.ByKey y ↦ refl ] | of.ByKey x ↦ elim w as (λ k. ⟦<ResponderId<'a> as PartialEq>⟧.eq (of.ByKey x) k ≡ ⟦<Tree<'a> as PartialEq>⟧.eq (tree_of (of.ByKey x)) (tree_of k)) [ of.ByName y ↦ refl | of.ByKey y ↦ refl ] ]) (either_equality ⟦<Explicit<Name<'a>, 1> as Form>⟧ ⟦<Explicit<KeyHash<'a>, 2> as Form>⟧
-        (one_tag ⟦<ExplicitTag<1> as TagMarker>⟧.TAG ⟦<Explicit<Name<'a>, 1> as FormValue>⟧.value.contents)
-        (one_tag ⟦<ExplicitTag<2> as TagMarker>⟧.TAG ⟦<Explicit<KeyHash<'a>, 2> as FormValue>⟧.value.contents)
-        ⟦<Explicit<Name<'a>, 1> as PartialEq>⟧.eq ⟦<Explicit<KeyHash<'a>, 2> as PartialEq>⟧.eq
-        (one_tag_equality ⟦<ExplicitTag<1> as TagMarker>⟧.TAG ⟦<Explicit<Name<'a>, 1> as FormValue>⟧.value.contents ⟦<Explicit<Name<'a>, 1> as FormValue>⟧.value.comparable ⟦<Explicit<Name<'a>, 1> as PartialEq>⟧.eq (λ v w. ((member_equality ⟦<Name<'a> as Form>⟧
-        (tagged_starts ⟦<Name<'a> as Form>⟧ (one_tag ⟦<SequenceTag as TagMarker>⟧.TAG ⟦<RdnSequence<'a> as FormValue>⟧.value.contents))
-        ⟦<Name<'a> as PartialEq>⟧.eq
-        (one_tag_equality ⟦<SequenceTag as TagMarker>⟧.TAG ⟦<RdnSequence<'a> as FormValue>⟧.value.contents ⟦<RdnSequence<'a> as FormValue>⟧.value.comparable ⟦<RdnSequence<'a> as PartialEq>⟧.eq rdn_sequence_contents_eq.contents_eq-law)
-        no_equality).equal v.fields w.fields)))
-        (one_tag_equality ⟦<ExplicitTag<2> as TagMarker>⟧.TAG ⟦<Explicit<KeyHash<'a>, 2> as FormValue>⟧.value.contents ⟦<Explicit<KeyHash<'a>, 2> as FormValue>⟧.value.comparable ⟦<Explicit<KeyHash<'a>, 2> as PartialEq>⟧.eq (λ v w. ((member_equality ⟦<KeyHash<'a> as Form>⟧
-        (tagged_starts ⟦<KeyHash<'a> as Form>⟧ (one_tag ⟦<OctetStringTag as TagMarker>⟧.TAG ⟦<OctetStringRef<'a> as FormValue>⟧.value.contents))
-        ⟦<KeyHash<'a> as PartialEq>⟧.eq
-        (one_tag_equality ⟦<OctetStringTag as TagMarker>⟧.TAG ⟦<OctetStringRef<'a> as FormValue>⟧.value.contents ⟦<OctetStringRef<'a> as FormValue>⟧.value.comparable ⟦<OctetStringRef<'a> as PartialEq>⟧.eq octetstringref_contents_eq.contents_eq-law)
-        no_equality).equal v.fields w.fields)))
-        ⟦<OneOf<Explicit<Name<'a>, 1>, Explicit<KeyHash<'a>, 2>> as PartialEq>⟧.eq (λ v x. refl) (λ w y. refl) (λ v w. refl) (λ w v. refl)) };
+    ghost encoding_eq = { ⟦<ResponderId<'a> as Choosing>⟧.choice.equal };
 }
 
 impl<'a> CopyLaws for ResponderId<'a> {

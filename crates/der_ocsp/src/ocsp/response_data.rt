@@ -4,30 +4,24 @@
 
 ghost use Rattle.std.specs.Prelude.{◌∷◌, ◌≡◌, [], false, refl};
 ghost use Rattle.der_elem.specs.FormatMakers.{mapped_format};
-ghost use Rattle.der_elem.specs.contracts.integer.unsigned.U8ContentsEq.TheImpl.Laws as u8_contents_eq;
 ghost use Rattle.der_modules.specs.Asn1.{context, explicit_encoding, joined, optional, parse_of, unless_default};
-ghost use Rattle.der_modules.specs.MemberLaws.{default_equality, default_starts, member_equality, no_equality, one_tag, one_tag_equality, optional_equality, optional_starts, own_tags, tagged_starts};
+ghost use Rattle.der_modules.specs.Members.{choice_field, default_field, field, no_fields, optional_field, struct_member};
 ghost use Rattle.der_ocsp.specs.Ocsp.Grammar.{response_data};
 ghost use Rattle.der_ocsp.specs.Ocsp.ResponseData as response_data_fields;
-ghost use Rattle.der_ocsp.specs.contracts.ocsp.responder_id.ResponderIdEncodingEq.TheImpl.Laws as responder_id_encoding_eq;
-ghost use Rattle.der_ocsp.specs.contracts.ocsp.responder_id.ResponderIdTagged.TheImpl.Laws as responder_id_tagged;
-ghost use Rattle.der_ocsp.specs.contracts.ocsp.single_responses.SingleResponsesContentsEq.TheImpl.Laws as single_responses_contents_eq;
 ghost use Rattle.der_ocsp.specs.declared.ocsp.response_data.ResponseData.{ResponseData};
-ghost use Rattle.der_pkix.specs.contracts.certificate.extensions.ExtensionsContentsEq.TheImpl.Laws as extensions_contents_eq;
-ghost use Rattle.der_time.specs.contracts.generalized_time.GeneralizedTimeContentsEq.TheImpl.Laws as generalizedtime_contents_eq;
 
 use crate::ocsp::aliases::Version;
 use crate::ocsp::responder_id::ResponderId;
 use crate::ocsp::single_responses::SingleResponses;
 use der_elem::{
-    ContentsEq, CopyIsDuplicate, DecodeValue, EncodeValue, Form, FormValue, GeneralizedTimeTag,
-    IntegerTag, OneTag, Sequence, SequenceTag, TagMarker, Tagged, ValueOrd,
+    ContentsEq, CopyIsDuplicate, DecodeValue, EncodeValue, Form, FormValue, OneTag, Sequence,
+    SequenceTag, TagMarker, ValueOrd,
 };
 use der_fields::{
-    DecodeFields, DefaultNumber, DefaultOf, EncodeFields, End, Explicit, ExplicitTag, Field,
-    FieldList, Fields5, FieldsOrd, WithDefault,
+    DecodeFields, DefaultNumber, DefaultOf, EncodeFields, Explicit, FieldList, Fields5, FieldsOrd,
+    WithDefault,
 };
-use der_modules::copy_of;
+use der_modules::{Choosing, Member, copy_of, field_list, if_present, tagged};
 use der_pkix::certificate::Extensions;
 use der_time::GeneralizedTime;
 use der_tlv::{BackWriter, Error, Header, Length, Source, Writer};
@@ -77,29 +71,13 @@ impl<'a> ResponseData<'a> {
         ensures responses { response_data_fields.responses result ≡ responses.now }
         ensures response_extensions { response_data_fields.response_extensions result ≡ option_copied response_extensions.entry }
     {
-        let first = match response_extensions {
-            Some(first) => Some(Explicit {
-                fields: Field {
-                    first: copy_of(first),
-                    rest: End,
-                },
-            }),
-            None => None,
-        };
-        let rest = Field { first, rest: End };
-        let first = copy_of(responses);
-        let rest = Field { first, rest };
-        let first = produced_at;
-        let rest = Field { first, rest };
-        let first = copy_of(responder_id);
-        let rest = Field { first, rest };
-        let first = WithDefault::new(Explicit {
-            fields: Field {
-                first: version,
-                rest: End,
-            },
-        });
-        let list = Field { first, rest };
+        let list = field_list![
+            WithDefault::new(tagged!(Explicit, version)),
+            copy_of(responder_id),
+            produced_at,
+            copy_of(responses),
+            if_present!(value in response_extensions => tagged!(Explicit, copy_of(value)))
+        ];
         let fields = Fields5 { list };
         ResponseData { fields }
     }
@@ -136,10 +114,7 @@ impl<'a> ResponseData<'a> {
     pub fn response_extensions(&self) -> Option<&Extensions<'a>>
         ensures { option_copied result ≡ response_data_fields.response_extensions self.now }
     {
-        match &self.fields.list.rest.rest.rest.rest.first {
-            Some(value) => Some(&value.fields.first),
-            None => None,
-        }
+        if_present!(value in &self.fields.list.rest.rest.rest.rest.first => &value.fields.first)
     }
 }
 
@@ -206,36 +181,18 @@ impl<'a> ValueOrd for ResponseData<'a> {
     }
 }
 
+impl<'a> Member for ResponseData<'a> {
+    ghost member = { struct_member ⟦<SequenceTag as TagMarker>⟧.TAG (λ v. v.fields.list)
+        (default_field ⟦<DefaultNumber<0> as DefaultOf<Explicit<Version, 0>>>⟧.octets ⟦<Explicit<Version, 0> as Member>⟧.member
+        (choice_field ⟦<ResponderId<'a> as Choosing>⟧.choice
+        (field ⟦<GeneralizedTime as Member>⟧.member
+        (field ⟦<SingleResponses<'a> as Member>⟧.member
+        (optional_field ⟦<Explicit<Extensions<'a>, 1> as Member>⟧.member
+        no_fields))))) };
+}
+
 impl<'a> ContentsEq for ResponseData<'a> {
-    ghost contents_eq = { λ v w. (member_equality ⟦<WithDefault<Explicit<Version, 0>, DefaultNumber<0>> as Form>⟧
-        (default_starts ⟦<Explicit<Version, 0> as Form>⟧ (one_tag ⟦<ExplicitTag<0> as TagMarker>⟧.TAG ⟦<Explicit<Version, 0> as FormValue>⟧.value.contents) (λ x. x.value) ⟦<DefaultNumber<0> as DefaultOf<Explicit<Version, 0>>>⟧.octets)
-        ⟦<WithDefault<Explicit<Version, 0>, DefaultNumber<0>> as PartialEq>⟧.eq
-        (default_equality ⟦<Explicit<Version, 0> as Form>⟧ (one_tag ⟦<ExplicitTag<0> as TagMarker>⟧.TAG ⟦<Explicit<Version, 0> as FormValue>⟧.value.contents) (λ x. x.value) ⟦<DefaultNumber<0> as DefaultOf<Explicit<Version, 0>>>⟧.octets ⟦<Explicit<Version, 0> as PartialEq>⟧.eq (one_tag_equality ⟦<ExplicitTag<0> as TagMarker>⟧.TAG ⟦<Explicit<Version, 0> as FormValue>⟧.value.contents ⟦<Explicit<Version, 0> as FormValue>⟧.value.comparable ⟦<Explicit<Version, 0> as PartialEq>⟧.eq (λ v w. ((member_equality ⟦<Version as Form>⟧
-        (tagged_starts ⟦<Version as Form>⟧ (one_tag ⟦<IntegerTag as TagMarker>⟧.TAG ⟦<u8 as FormValue>⟧.value.contents))
-        ⟦<Version as PartialEq>⟧.eq
-        (one_tag_equality ⟦<IntegerTag as TagMarker>⟧.TAG ⟦<u8 as FormValue>⟧.value.contents ⟦<u8 as FormValue>⟧.value.comparable ⟦<u8 as PartialEq>⟧.eq u8_contents_eq.contents_eq-law)
-        no_equality).equal v.fields w.fields))))
-        (member_equality ⟦<ResponderId<'a> as Form>⟧
-        (tagged_starts ⟦<ResponderId<'a> as Form>⟧ (own_tags ⟦<ResponderId<'a> as Form>⟧.tags ⟦<ResponderId<'a> as Form>⟧.first_tag_of ⟦<ResponderId<'a> as Form>⟧.encoding ⟦<ResponderId<'a> as Tagged>⟧.tag_of ⟦<ResponderId<'a> as FormValue>⟧.value.contents responder_id_tagged.encoding_is-law responder_id_tagged.own_tag-law responder_id_tagged.first_tag_is-law))
-        ⟦<ResponderId<'a> as PartialEq>⟧.eq
-        responder_id_encoding_eq.encoding_eq-law
-        (member_equality ⟦<GeneralizedTime as Form>⟧
-        (tagged_starts ⟦<GeneralizedTime as Form>⟧ (one_tag ⟦<GeneralizedTimeTag as TagMarker>⟧.TAG ⟦<GeneralizedTime as FormValue>⟧.value.contents))
-        ⟦<GeneralizedTime as PartialEq>⟧.eq
-        (one_tag_equality ⟦<GeneralizedTimeTag as TagMarker>⟧.TAG ⟦<GeneralizedTime as FormValue>⟧.value.contents ⟦<GeneralizedTime as FormValue>⟧.value.comparable ⟦<GeneralizedTime as PartialEq>⟧.eq generalizedtime_contents_eq.contents_eq-law)
-        (member_equality ⟦<SingleResponses<'a> as Form>⟧
-        (tagged_starts ⟦<SingleResponses<'a> as Form>⟧ (one_tag ⟦<SequenceTag as TagMarker>⟧.TAG ⟦<SingleResponses<'a> as FormValue>⟧.value.contents))
-        ⟦<SingleResponses<'a> as PartialEq>⟧.eq
-        (one_tag_equality ⟦<SequenceTag as TagMarker>⟧.TAG ⟦<SingleResponses<'a> as FormValue>⟧.value.contents ⟦<SingleResponses<'a> as FormValue>⟧.value.comparable ⟦<SingleResponses<'a> as PartialEq>⟧.eq single_responses_contents_eq.contents_eq-law)
-        (member_equality ⟦<Option<Explicit<Extensions<'a>, 1>> as Form>⟧
-        (optional_starts ⟦<Explicit<Extensions<'a>, 1> as Form>⟧ (one_tag ⟦<ExplicitTag<1> as TagMarker>⟧.TAG ⟦<Explicit<Extensions<'a>, 1> as FormValue>⟧.value.contents))
-        ⟦<Option<Explicit<Extensions<'a>, 1>> as PartialEq>⟧.eq
-        (optional_equality ⟦<Explicit<Extensions<'a>, 1> as Form>⟧ (one_tag ⟦<ExplicitTag<1> as TagMarker>⟧.TAG ⟦<Explicit<Extensions<'a>, 1> as FormValue>⟧.value.contents) ⟦<Explicit<Extensions<'a>, 1> as PartialEq>⟧.eq (one_tag_equality ⟦<ExplicitTag<1> as TagMarker>⟧.TAG ⟦<Explicit<Extensions<'a>, 1> as FormValue>⟧.value.contents ⟦<Explicit<Extensions<'a>, 1> as FormValue>⟧.value.comparable ⟦<Explicit<Extensions<'a>, 1> as PartialEq>⟧.eq (λ v w. ((member_equality ⟦<Extensions<'a> as Form>⟧
-        (tagged_starts ⟦<Extensions<'a> as Form>⟧ (one_tag ⟦<SequenceTag as TagMarker>⟧.TAG ⟦<Extensions<'a> as FormValue>⟧.value.contents))
-        ⟦<Extensions<'a> as PartialEq>⟧.eq
-        (one_tag_equality ⟦<SequenceTag as TagMarker>⟧.TAG ⟦<Extensions<'a> as FormValue>⟧.value.contents ⟦<Extensions<'a> as FormValue>⟧.value.comparable ⟦<Extensions<'a> as PartialEq>⟧.eq extensions_contents_eq.contents_eq-law)
-        no_equality).equal v.fields w.fields))))
-        no_equality))))).equal v.fields.list w.fields.list };
+    ghost contents_eq = { ⟦<ResponseData<'a> as Member>⟧.member.equal };
 }
 
 impl<'a> CopyIsDuplicate for ResponseData<'a> {}

@@ -5,22 +5,19 @@
 ghost use Rattle.std.specs.Prelude.{◌∷◌, ◌≡◌, [], false, refl};
 ghost use Rattle.der_elem.specs.FormatMakers.{mapped_format};
 ghost use Rattle.der_modules.specs.Asn1.{context, explicit_encoding, joined, optional, parse_of};
-ghost use Rattle.der_modules.specs.MemberLaws.{member_equality, no_equality, one_tag, one_tag_equality, optional_equality, optional_starts, tagged_starts};
-ghost use Rattle.der_numbers.specs.EnumeratedLaws.{numbers_decide};
+ghost use Rattle.der_modules.specs.Members.{field, no_fields, optional_field, struct_member};
 ghost use Rattle.der_ocsp.specs.Ocsp.Grammar.{revoked_info};
 ghost use Rattle.der_ocsp.specs.Ocsp.RevokedInfo as revoked_info_fields;
 ghost use Rattle.der_ocsp.specs.declared.ocsp.revoked_info.RevokedInfo.{RevokedInfo};
-ghost use Rattle.der_time.specs.contracts.generalized_time.GeneralizedTimeContentsEq.TheImpl.Laws as generalizedtime_contents_eq;
 
 use der_elem::{
-    ContentsEq, CopyIsDuplicate, DecodeValue, EncodeValue, Form, FormValue, GeneralizedTimeTag,
-    OneTag, Sequence, SequenceTag, TagMarker, ValueOrd,
+    ContentsEq, CopyIsDuplicate, DecodeValue, EncodeValue, Form, FormValue, OneTag, Sequence,
+    SequenceTag, TagMarker, ValueOrd,
 };
 use der_extensions::extension::CrlReason;
-use der_fields::{
-    DecodeFields, EncodeFields, End, Explicit, ExplicitTag, Field, FieldList, Fields2, FieldsOrd,
-};
-use der_numbers::{Enumerated, EnumeratedTag, Enumeration};
+use der_fields::{DecodeFields, EncodeFields, Explicit, FieldList, Fields2, FieldsOrd};
+use der_modules::{Member, field_list, if_present, tagged};
+use der_numbers::Enumerated;
 use der_time::GeneralizedTime;
 use der_tlv::{BackWriter, Error, Header, Length, Source, Writer};
 use std::alloc::Global;
@@ -53,18 +50,10 @@ impl RevokedInfo {
         ensures revocation_time { revoked_info_fields.revocation_time result ≡ revocation_time }
         ensures revocation_reason { revoked_info_fields.revocation_reason result ≡ revocation_reason }
     {
-        let first = match revocation_reason {
-            Some(first) => Some(Explicit {
-                fields: Field {
-                    first: Enumerated { value: first },
-                    rest: End,
-                },
-            }),
-            None => None,
-        };
-        let rest = Field { first, rest: End };
-        let first = revocation_time;
-        let list = Field { first, rest };
+        let list = field_list![
+            revocation_time,
+            if_present!(value in revocation_reason => tagged!(Explicit, Enumerated { value }))
+        ];
         let fields = Fields2 { list };
         RevokedInfo { fields }
     }
@@ -80,10 +69,7 @@ impl RevokedInfo {
     pub fn revocation_reason(&self) -> Option<CrlReason>
         ensures { result ≡ revoked_info_fields.revocation_reason self.now }
     {
-        match self.fields.list.rest.first {
-            Some(tagged) => Some(tagged.fields.first.value),
-            None => None,
-        }
+        if_present!(value in self.fields.list.rest.first => value.fields.first.value)
     }
 }
 
@@ -143,20 +129,15 @@ impl ValueOrd for RevokedInfo {
     }
 }
 
+impl Member for RevokedInfo {
+    ghost member = { struct_member ⟦<SequenceTag as TagMarker>⟧.TAG (λ v. v.fields.list)
+        (field ⟦<GeneralizedTime as Member>⟧.member
+        (optional_field ⟦<Explicit<Enumerated<CrlReason>, 0> as Member>⟧.member
+        no_fields)) };
+}
+
 impl ContentsEq for RevokedInfo {
-    ghost contents_eq = { λ v w. (member_equality ⟦<GeneralizedTime as Form>⟧
-        (tagged_starts ⟦<GeneralizedTime as Form>⟧ (one_tag ⟦<GeneralizedTimeTag as TagMarker>⟧.TAG ⟦<GeneralizedTime as FormValue>⟧.value.contents))
-        ⟦<GeneralizedTime as PartialEq>⟧.eq
-        (one_tag_equality ⟦<GeneralizedTimeTag as TagMarker>⟧.TAG ⟦<GeneralizedTime as FormValue>⟧.value.contents ⟦<GeneralizedTime as FormValue>⟧.value.comparable ⟦<GeneralizedTime as PartialEq>⟧.eq generalizedtime_contents_eq.contents_eq-law)
-        (member_equality ⟦<Option<Explicit<Enumerated<CrlReason>, 0>> as Form>⟧
-        (optional_starts ⟦<Explicit<Enumerated<CrlReason>, 0> as Form>⟧ (one_tag ⟦<ExplicitTag<0> as TagMarker>⟧.TAG ⟦<Explicit<Enumerated<CrlReason>, 0> as FormValue>⟧.value.contents))
-        ⟦<Option<Explicit<Enumerated<CrlReason>, 0>> as PartialEq>⟧.eq
-        (optional_equality ⟦<Explicit<Enumerated<CrlReason>, 0> as Form>⟧ (one_tag ⟦<ExplicitTag<0> as TagMarker>⟧.TAG ⟦<Explicit<Enumerated<CrlReason>, 0> as FormValue>⟧.value.contents) ⟦<Explicit<Enumerated<CrlReason>, 0> as PartialEq>⟧.eq (one_tag_equality ⟦<ExplicitTag<0> as TagMarker>⟧.TAG ⟦<Explicit<Enumerated<CrlReason>, 0> as FormValue>⟧.value.contents ⟦<Explicit<Enumerated<CrlReason>, 0> as FormValue>⟧.value.comparable ⟦<Explicit<Enumerated<CrlReason>, 0> as PartialEq>⟧.eq (λ v w. ((member_equality ⟦<Enumerated<CrlReason> as Form>⟧
-        (tagged_starts ⟦<Enumerated<CrlReason> as Form>⟧ (one_tag ⟦<EnumeratedTag as TagMarker>⟧.TAG ⟦<Enumerated<CrlReason> as FormValue>⟧.value.contents))
-        ⟦<Enumerated<CrlReason> as PartialEq>⟧.eq
-        (one_tag_equality ⟦<EnumeratedTag as TagMarker>⟧.TAG ⟦<Enumerated<CrlReason> as FormValue>⟧.value.contents ⟦<Enumerated<CrlReason> as FormValue>⟧.value.comparable ⟦<Enumerated<CrlReason> as PartialEq>⟧.eq (λ v w. (λ one. numbers_decide (⟦<CrlReason as Enumeration>⟧.names.number_of v.value) (⟦<CrlReason as Enumeration>⟧.names.number_of w.value))))
-        no_equality).equal v.fields w.fields))))
-        no_equality)).equal v.fields.list w.fields.list };
+    ghost contents_eq = { ⟦<RevokedInfo as Member>⟧.member.equal };
 }
 
 impl CopyIsDuplicate for RevokedInfo {}

@@ -4,22 +4,20 @@
 
 ghost use Rattle.std.specs.Prelude.{◌∷◌, ◌≡◌, [], false, refl};
 ghost use Rattle.der_elem.specs.FormatMakers.{mapped_format};
-ghost use Rattle.der_extensions.specs.contracts.extension.authority_info_access_syntax.AuthorityInfoAccessSyntaxContentsEq.TheImpl.Laws as authority_info_access_syntax_contents_eq;
 ghost use Rattle.der_modules.specs.Asn1.{joined, parse_of};
-ghost use Rattle.der_modules.specs.MemberLaws.{member_equality, no_equality, one_tag, one_tag_equality, tagged_starts};
+ghost use Rattle.der_modules.specs.Members.{field, no_fields, struct_member};
 ghost use Rattle.der_ocsp.specs.Ocsp.Grammar.{service_locator};
 ghost use Rattle.der_ocsp.specs.Ocsp.ServiceLocator as service_locator_fields;
 ghost use Rattle.der_ocsp.specs.declared.ocsp.service_locator.ServiceLocator.{ServiceLocator};
-ghost use Rattle.der_pkix.specs.contracts.name.rdn_sequence.RdnSequenceContentsEq.TheImpl.Laws as rdn_sequence_contents_eq;
 
 use der_elem::{
     ContentsEq, CopyIsDuplicate, DecodeValue, EncodeValue, Form, FormValue, OneTag, Sequence,
     SequenceTag, TagMarker, ValueOrd,
 };
 use der_extensions::extension::AuthorityInfoAccessSyntax;
-use der_fields::{DecodeFields, EncodeFields, End, Field, FieldList, Fields2, FieldsOrd};
-use der_modules::copy_of;
-use der_pkix::name::{Name, RdnSequence};
+use der_fields::{DecodeFields, EncodeFields, FieldList, Fields2, FieldsOrd};
+use der_modules::{Member, copy_of, field_list};
+use der_pkix::name::Name;
 use der_tlv::{BackWriter, Error, Header, Length, Source, Writer};
 use std::alloc::Global;
 use std::cmp::Ordering;
@@ -48,10 +46,7 @@ impl<'a> ServiceLocator<'a> {
         ensures issuer { service_locator_fields.issuer result ≡ issuer.now }
         ensures locator { service_locator_fields.locator result ≡ locator.now }
     {
-        let first = copy_of(locator);
-        let rest = Field { first, rest: End };
-        let first = copy_of(issuer);
-        let list = Field { first, rest };
+        let list = field_list![copy_of(issuer), copy_of(locator)];
         let fields = Fields2 { list };
         ServiceLocator { fields }
     }
@@ -131,16 +126,15 @@ impl<'a> ValueOrd for ServiceLocator<'a> {
     }
 }
 
+impl<'a> Member for ServiceLocator<'a> {
+    ghost member = { struct_member ⟦<SequenceTag as TagMarker>⟧.TAG (λ v. v.fields.list)
+        (field ⟦<Name<'a> as Member>⟧.member
+        (field ⟦<AuthorityInfoAccessSyntax<'a> as Member>⟧.member
+        no_fields)) };
+}
+
 impl<'a> ContentsEq for ServiceLocator<'a> {
-    ghost contents_eq = { λ v w. (member_equality ⟦<Name<'a> as Form>⟧
-        (tagged_starts ⟦<Name<'a> as Form>⟧ (one_tag ⟦<SequenceTag as TagMarker>⟧.TAG ⟦<RdnSequence<'a> as FormValue>⟧.value.contents))
-        ⟦<Name<'a> as PartialEq>⟧.eq
-        (one_tag_equality ⟦<SequenceTag as TagMarker>⟧.TAG ⟦<RdnSequence<'a> as FormValue>⟧.value.contents ⟦<RdnSequence<'a> as FormValue>⟧.value.comparable ⟦<RdnSequence<'a> as PartialEq>⟧.eq rdn_sequence_contents_eq.contents_eq-law)
-        (member_equality ⟦<AuthorityInfoAccessSyntax<'a> as Form>⟧
-        (tagged_starts ⟦<AuthorityInfoAccessSyntax<'a> as Form>⟧ (one_tag ⟦<SequenceTag as TagMarker>⟧.TAG ⟦<AuthorityInfoAccessSyntax<'a> as FormValue>⟧.value.contents))
-        ⟦<AuthorityInfoAccessSyntax<'a> as PartialEq>⟧.eq
-        (one_tag_equality ⟦<SequenceTag as TagMarker>⟧.TAG ⟦<AuthorityInfoAccessSyntax<'a> as FormValue>⟧.value.contents ⟦<AuthorityInfoAccessSyntax<'a> as FormValue>⟧.value.comparable ⟦<AuthorityInfoAccessSyntax<'a> as PartialEq>⟧.eq authority_info_access_syntax_contents_eq.contents_eq-law)
-        no_equality)).equal v.fields.list w.fields.list };
+    ghost contents_eq = { ⟦<ServiceLocator<'a> as Member>⟧.member.equal };
 }
 
 impl<'a> CopyIsDuplicate for ServiceLocator<'a> {}

@@ -3,26 +3,21 @@
 //! Made by tools/asn1 from ocsp.asn1.
 
 ghost use Rattle.std.specs.Prelude.{◌∷◌, ◌≡◌, [], false, refl};
-ghost use Rattle.der_bits.specs.contracts.bit_string_ref.BitStringRefContentsEq.TheImpl.Laws as bitstringref_contents_eq;
 ghost use Rattle.der_elem.specs.FormatMakers.{mapped_format};
 ghost use Rattle.der_modules.specs.Asn1.{context, explicit_encoding, joined, optional, parse_of};
-ghost use Rattle.der_modules.specs.MemberLaws.{member_equality, no_equality, one_tag, one_tag_equality, optional_equality, optional_starts, tagged_starts};
+ghost use Rattle.der_modules.specs.Members.{field, no_fields, optional_field, struct_member};
 ghost use Rattle.der_ocsp.specs.Ocsp.Grammar.{signature};
 ghost use Rattle.der_ocsp.specs.Ocsp.Signature as signature_fields;
-ghost use Rattle.der_ocsp.specs.contracts.ocsp.certificates.CertificatesContentsEq.TheImpl.Laws as certificates_contents_eq;
 ghost use Rattle.der_ocsp.specs.declared.ocsp.signature.Signature.{Signature};
-ghost use Rattle.der_pkix.specs.contracts.algorithm_identifier.AlgorithmIdentifierContentsEq.TheImpl.Laws as algorithm_identifier_contents_eq;
 
 use crate::ocsp::certificates::Certificates;
 use der_bits::BitStringRef;
 use der_elem::{
-    BitStringTag, ContentsEq, CopyIsDuplicate, DecodeValue, EncodeValue, Form, FormValue, OneTag,
-    Sequence, SequenceTag, TagMarker, ValueOrd,
+    ContentsEq, CopyIsDuplicate, DecodeValue, EncodeValue, Form, FormValue, OneTag, Sequence,
+    SequenceTag, TagMarker, ValueOrd,
 };
-use der_fields::{
-    DecodeFields, EncodeFields, End, Explicit, ExplicitTag, Field, FieldList, Fields3, FieldsOrd,
-};
-use der_modules::copy_of;
+use der_fields::{DecodeFields, EncodeFields, Explicit, FieldList, Fields3, FieldsOrd};
+use der_modules::{Member, copy_of, field_list, if_present, tagged};
 use der_pkix::AlgorithmIdentifier;
 use der_tlv::{BackWriter, Error, Header, Length, Source, Writer};
 use std::alloc::Global;
@@ -63,20 +58,11 @@ impl<'a> Signature<'a> {
         ensures signature { signature_fields.signature result ≡ signature.entry }
         ensures certs { signature_fields.certs result ≡ option_copied certs.entry }
     {
-        let first = match certs {
-            Some(first) => Some(Explicit {
-                fields: Field {
-                    first: copy_of(first),
-                    rest: End,
-                },
-            }),
-            None => None,
-        };
-        let rest = Field { first, rest: End };
-        let first = signature;
-        let rest = Field { first, rest };
-        let first = copy_of(signature_algorithm);
-        let list = Field { first, rest };
+        let list = field_list![
+            copy_of(signature_algorithm),
+            signature,
+            if_present!(value in certs => tagged!(Explicit, copy_of(value)))
+        ];
         let fields = Fields3 { list };
         Signature { fields }
     }
@@ -99,10 +85,7 @@ impl<'a> Signature<'a> {
     pub fn certs(&self) -> Option<&Certificates<'a>>
         ensures { option_copied result ≡ signature_fields.certs self.now }
     {
-        match &self.fields.list.rest.rest.first {
-            Some(value) => Some(&value.fields.first),
-            None => None,
-        }
+        if_present!(value in &self.fields.list.rest.rest.first => &value.fields.first)
     }
 }
 
@@ -167,24 +150,16 @@ impl<'a> ValueOrd for Signature<'a> {
     }
 }
 
+impl<'a> Member for Signature<'a> {
+    ghost member = { struct_member ⟦<SequenceTag as TagMarker>⟧.TAG (λ v. v.fields.list)
+        (field ⟦<AlgorithmIdentifier<'a> as Member>⟧.member
+        (field ⟦<BitStringRef<'a> as Member>⟧.member
+        (optional_field ⟦<Explicit<Certificates<'a>, 0> as Member>⟧.member
+        no_fields))) };
+}
+
 impl<'a> ContentsEq for Signature<'a> {
-    ghost contents_eq = { λ v w. (member_equality ⟦<AlgorithmIdentifier<'a> as Form>⟧
-        (tagged_starts ⟦<AlgorithmIdentifier<'a> as Form>⟧ (one_tag ⟦<SequenceTag as TagMarker>⟧.TAG ⟦<AlgorithmIdentifier<'a> as FormValue>⟧.value.contents))
-        ⟦<AlgorithmIdentifier<'a> as PartialEq>⟧.eq
-        (one_tag_equality ⟦<SequenceTag as TagMarker>⟧.TAG ⟦<AlgorithmIdentifier<'a> as FormValue>⟧.value.contents ⟦<AlgorithmIdentifier<'a> as FormValue>⟧.value.comparable ⟦<AlgorithmIdentifier<'a> as PartialEq>⟧.eq algorithm_identifier_contents_eq.contents_eq-law)
-        (member_equality ⟦<BitStringRef<'a> as Form>⟧
-        (tagged_starts ⟦<BitStringRef<'a> as Form>⟧ (one_tag ⟦<BitStringTag as TagMarker>⟧.TAG ⟦<BitStringRef<'a> as FormValue>⟧.value.contents))
-        ⟦<BitStringRef<'a> as PartialEq>⟧.eq
-        (one_tag_equality ⟦<BitStringTag as TagMarker>⟧.TAG ⟦<BitStringRef<'a> as FormValue>⟧.value.contents ⟦<BitStringRef<'a> as FormValue>⟧.value.comparable ⟦<BitStringRef<'a> as PartialEq>⟧.eq bitstringref_contents_eq.contents_eq-law)
-        (member_equality ⟦<Option<Explicit<Certificates<'a>, 0>> as Form>⟧
-        (optional_starts ⟦<Explicit<Certificates<'a>, 0> as Form>⟧ (one_tag ⟦<ExplicitTag<0> as TagMarker>⟧.TAG ⟦<Explicit<Certificates<'a>, 0> as FormValue>⟧.value.contents))
-        ⟦<Option<Explicit<Certificates<'a>, 0>> as PartialEq>⟧.eq
-        (optional_equality ⟦<Explicit<Certificates<'a>, 0> as Form>⟧ (one_tag ⟦<ExplicitTag<0> as TagMarker>⟧.TAG ⟦<Explicit<Certificates<'a>, 0> as FormValue>⟧.value.contents) ⟦<Explicit<Certificates<'a>, 0> as PartialEq>⟧.eq (one_tag_equality ⟦<ExplicitTag<0> as TagMarker>⟧.TAG ⟦<Explicit<Certificates<'a>, 0> as FormValue>⟧.value.contents ⟦<Explicit<Certificates<'a>, 0> as FormValue>⟧.value.comparable ⟦<Explicit<Certificates<'a>, 0> as PartialEq>⟧.eq (λ v w. ((member_equality ⟦<Certificates<'a> as Form>⟧
-        (tagged_starts ⟦<Certificates<'a> as Form>⟧ (one_tag ⟦<SequenceTag as TagMarker>⟧.TAG ⟦<Certificates<'a> as FormValue>⟧.value.contents))
-        ⟦<Certificates<'a> as PartialEq>⟧.eq
-        (one_tag_equality ⟦<SequenceTag as TagMarker>⟧.TAG ⟦<Certificates<'a> as FormValue>⟧.value.contents ⟦<Certificates<'a> as FormValue>⟧.value.comparable ⟦<Certificates<'a> as PartialEq>⟧.eq certificates_contents_eq.contents_eq-law)
-        no_equality).equal v.fields w.fields))))
-        no_equality))).equal v.fields.list w.fields.list };
+    ghost contents_eq = { ⟦<Signature<'a> as Member>⟧.member.equal };
 }
 
 impl<'a> CopyIsDuplicate for Signature<'a> {}

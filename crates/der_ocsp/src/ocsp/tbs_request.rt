@@ -4,29 +4,24 @@
 
 ghost use Rattle.std.specs.Prelude.{◌∷◌, ◌≡◌, [], false, refl};
 ghost use Rattle.der_elem.specs.FormatMakers.{mapped_format};
-ghost use Rattle.der_elem.specs.contracts.integer.unsigned.U8ContentsEq.TheImpl.Laws as u8_contents_eq;
-ghost use Rattle.der_extensions.specs.contracts.extension.general_name.GeneralNameEncodingEq.TheImpl.Laws as general_name_encoding_eq;
-ghost use Rattle.der_extensions.specs.contracts.extension.general_name.GeneralNameTagged.TheImpl.Laws as general_name_tagged;
 ghost use Rattle.der_modules.specs.Asn1.{context, explicit_encoding, joined, optional, parse_of, unless_default};
-ghost use Rattle.der_modules.specs.MemberLaws.{default_equality, default_starts, member_equality, no_equality, one_tag, one_tag_equality, optional_equality, optional_starts, own_tags, tagged_starts};
+ghost use Rattle.der_modules.specs.Members.{default_field, field, no_fields, optional_field, struct_member};
 ghost use Rattle.der_ocsp.specs.Ocsp.Grammar.{tbs_request};
 ghost use Rattle.der_ocsp.specs.Ocsp.TbsRequest as tbs_request_fields;
-ghost use Rattle.der_ocsp.specs.contracts.ocsp.requests.RequestsContentsEq.TheImpl.Laws as requests_contents_eq;
 ghost use Rattle.der_ocsp.specs.declared.ocsp.tbs_request.TbsRequest.{TbsRequest};
-ghost use Rattle.der_pkix.specs.contracts.certificate.extensions.ExtensionsContentsEq.TheImpl.Laws as extensions_contents_eq;
 
 use crate::ocsp::aliases::Version;
 use crate::ocsp::requests::Requests;
 use der_elem::{
-    ContentsEq, CopyIsDuplicate, DecodeValue, EncodeValue, Form, FormValue, IntegerTag, OneTag,
-    Sequence, SequenceTag, TagMarker, Tagged, ValueOrd,
+    ContentsEq, CopyIsDuplicate, DecodeValue, EncodeValue, Form, FormValue, OneTag, Sequence,
+    SequenceTag, TagMarker, ValueOrd,
 };
 use der_extensions::extension::GeneralName;
 use der_fields::{
-    DecodeFields, DefaultNumber, DefaultOf, EncodeFields, End, Explicit, ExplicitTag, Field,
-    FieldList, Fields4, FieldsOrd, WithDefault,
+    DecodeFields, DefaultNumber, DefaultOf, EncodeFields, Explicit, FieldList, Fields4, FieldsOrd,
+    WithDefault,
 };
-use der_modules::copy_of;
+use der_modules::{Member, copy_of, field_list, if_present, tagged};
 use der_pkix::certificate::Extensions;
 use der_tlv::{BackWriter, Error, Header, Length, Source, Writer};
 use std::alloc::Global;
@@ -71,35 +66,12 @@ impl<'a> TbsRequest<'a> {
         ensures request_list { tbs_request_fields.request_list result ≡ request_list.now }
         ensures request_extensions { tbs_request_fields.request_extensions result ≡ option_copied request_extensions.entry }
     {
-        let first = match request_extensions {
-            Some(first) => Some(Explicit {
-                fields: Field {
-                    first: copy_of(first),
-                    rest: End,
-                },
-            }),
-            None => None,
-        };
-        let rest = Field { first, rest: End };
-        let first = copy_of(request_list);
-        let rest = Field { first, rest };
-        let first = match requestor_name {
-            Some(first) => Some(Explicit {
-                fields: Field {
-                    first: copy_of(first),
-                    rest: End,
-                },
-            }),
-            None => None,
-        };
-        let rest = Field { first, rest };
-        let first = WithDefault::new(Explicit {
-            fields: Field {
-                first: version,
-                rest: End,
-            },
-        });
-        let list = Field { first, rest };
+        let list = field_list![
+            WithDefault::new(tagged!(Explicit, version)),
+            if_present!(value in requestor_name => tagged!(Explicit, copy_of(value))),
+            copy_of(request_list),
+            if_present!(value in request_extensions => tagged!(Explicit, copy_of(value)))
+        ];
         let fields = Fields4 { list };
         TbsRequest { fields }
     }
@@ -115,10 +87,7 @@ impl<'a> TbsRequest<'a> {
     pub fn requestor_name(&self) -> Option<&GeneralName<'a>>
         ensures { option_copied result ≡ tbs_request_fields.requestor_name self.now }
     {
-        match &self.fields.list.rest.first {
-            Some(value) => Some(&value.fields.first),
-            None => None,
-        }
+        if_present!(value in &self.fields.list.rest.first => &value.fields.first)
     }
 
     /// `requestList`, `Requests`.
@@ -132,10 +101,7 @@ impl<'a> TbsRequest<'a> {
     pub fn request_extensions(&self) -> Option<&Extensions<'a>>
         ensures { option_copied result ≡ tbs_request_fields.request_extensions self.now }
     {
-        match &self.fields.list.rest.rest.rest.first {
-            Some(value) => Some(&value.fields.first),
-            None => None,
-        }
+        if_present!(value in &self.fields.list.rest.rest.rest.first => &value.fields.first)
     }
 }
 
@@ -201,36 +167,17 @@ impl<'a> ValueOrd for TbsRequest<'a> {
     }
 }
 
+impl<'a> Member for TbsRequest<'a> {
+    ghost member = { struct_member ⟦<SequenceTag as TagMarker>⟧.TAG (λ v. v.fields.list)
+        (default_field ⟦<DefaultNumber<0> as DefaultOf<Explicit<Version, 0>>>⟧.octets ⟦<Explicit<Version, 0> as Member>⟧.member
+        (optional_field ⟦<Explicit<GeneralName<'a>, 1> as Member>⟧.member
+        (field ⟦<Requests<'a> as Member>⟧.member
+        (optional_field ⟦<Explicit<Extensions<'a>, 2> as Member>⟧.member
+        no_fields)))) };
+}
+
 impl<'a> ContentsEq for TbsRequest<'a> {
-    ghost contents_eq = { λ v w. (member_equality ⟦<WithDefault<Explicit<Version, 0>, DefaultNumber<0>> as Form>⟧
-        (default_starts ⟦<Explicit<Version, 0> as Form>⟧ (one_tag ⟦<ExplicitTag<0> as TagMarker>⟧.TAG ⟦<Explicit<Version, 0> as FormValue>⟧.value.contents) (λ x. x.value) ⟦<DefaultNumber<0> as DefaultOf<Explicit<Version, 0>>>⟧.octets)
-        ⟦<WithDefault<Explicit<Version, 0>, DefaultNumber<0>> as PartialEq>⟧.eq
-        (default_equality ⟦<Explicit<Version, 0> as Form>⟧ (one_tag ⟦<ExplicitTag<0> as TagMarker>⟧.TAG ⟦<Explicit<Version, 0> as FormValue>⟧.value.contents) (λ x. x.value) ⟦<DefaultNumber<0> as DefaultOf<Explicit<Version, 0>>>⟧.octets ⟦<Explicit<Version, 0> as PartialEq>⟧.eq (one_tag_equality ⟦<ExplicitTag<0> as TagMarker>⟧.TAG ⟦<Explicit<Version, 0> as FormValue>⟧.value.contents ⟦<Explicit<Version, 0> as FormValue>⟧.value.comparable ⟦<Explicit<Version, 0> as PartialEq>⟧.eq (λ v w. ((member_equality ⟦<Version as Form>⟧
-        (tagged_starts ⟦<Version as Form>⟧ (one_tag ⟦<IntegerTag as TagMarker>⟧.TAG ⟦<u8 as FormValue>⟧.value.contents))
-        ⟦<Version as PartialEq>⟧.eq
-        (one_tag_equality ⟦<IntegerTag as TagMarker>⟧.TAG ⟦<u8 as FormValue>⟧.value.contents ⟦<u8 as FormValue>⟧.value.comparable ⟦<u8 as PartialEq>⟧.eq u8_contents_eq.contents_eq-law)
-        no_equality).equal v.fields w.fields))))
-        (member_equality ⟦<Option<Explicit<GeneralName<'a>, 1>> as Form>⟧
-        (optional_starts ⟦<Explicit<GeneralName<'a>, 1> as Form>⟧ (one_tag ⟦<ExplicitTag<1> as TagMarker>⟧.TAG ⟦<Explicit<GeneralName<'a>, 1> as FormValue>⟧.value.contents))
-        ⟦<Option<Explicit<GeneralName<'a>, 1>> as PartialEq>⟧.eq
-        (optional_equality ⟦<Explicit<GeneralName<'a>, 1> as Form>⟧ (one_tag ⟦<ExplicitTag<1> as TagMarker>⟧.TAG ⟦<Explicit<GeneralName<'a>, 1> as FormValue>⟧.value.contents) ⟦<Explicit<GeneralName<'a>, 1> as PartialEq>⟧.eq (one_tag_equality ⟦<ExplicitTag<1> as TagMarker>⟧.TAG ⟦<Explicit<GeneralName<'a>, 1> as FormValue>⟧.value.contents ⟦<Explicit<GeneralName<'a>, 1> as FormValue>⟧.value.comparable ⟦<Explicit<GeneralName<'a>, 1> as PartialEq>⟧.eq (λ v w. ((member_equality ⟦<GeneralName<'a> as Form>⟧
-        (tagged_starts ⟦<GeneralName<'a> as Form>⟧ (own_tags ⟦<GeneralName<'a> as Form>⟧.tags ⟦<GeneralName<'a> as Form>⟧.first_tag_of ⟦<GeneralName<'a> as Form>⟧.encoding ⟦<GeneralName<'a> as Tagged>⟧.tag_of ⟦<GeneralName<'a> as FormValue>⟧.value.contents general_name_tagged.encoding_is-law general_name_tagged.own_tag-law general_name_tagged.first_tag_is-law))
-        ⟦<GeneralName<'a> as PartialEq>⟧.eq
-        general_name_encoding_eq.encoding_eq-law
-        no_equality).equal v.fields w.fields))))
-        (member_equality ⟦<Requests<'a> as Form>⟧
-        (tagged_starts ⟦<Requests<'a> as Form>⟧ (one_tag ⟦<SequenceTag as TagMarker>⟧.TAG ⟦<Requests<'a> as FormValue>⟧.value.contents))
-        ⟦<Requests<'a> as PartialEq>⟧.eq
-        (one_tag_equality ⟦<SequenceTag as TagMarker>⟧.TAG ⟦<Requests<'a> as FormValue>⟧.value.contents ⟦<Requests<'a> as FormValue>⟧.value.comparable ⟦<Requests<'a> as PartialEq>⟧.eq requests_contents_eq.contents_eq-law)
-        (member_equality ⟦<Option<Explicit<Extensions<'a>, 2>> as Form>⟧
-        (optional_starts ⟦<Explicit<Extensions<'a>, 2> as Form>⟧ (one_tag ⟦<ExplicitTag<2> as TagMarker>⟧.TAG ⟦<Explicit<Extensions<'a>, 2> as FormValue>⟧.value.contents))
-        ⟦<Option<Explicit<Extensions<'a>, 2>> as PartialEq>⟧.eq
-        (optional_equality ⟦<Explicit<Extensions<'a>, 2> as Form>⟧ (one_tag ⟦<ExplicitTag<2> as TagMarker>⟧.TAG ⟦<Explicit<Extensions<'a>, 2> as FormValue>⟧.value.contents) ⟦<Explicit<Extensions<'a>, 2> as PartialEq>⟧.eq (one_tag_equality ⟦<ExplicitTag<2> as TagMarker>⟧.TAG ⟦<Explicit<Extensions<'a>, 2> as FormValue>⟧.value.contents ⟦<Explicit<Extensions<'a>, 2> as FormValue>⟧.value.comparable ⟦<Explicit<Extensions<'a>, 2> as PartialEq>⟧.eq (λ v w. ((member_equality ⟦<Extensions<'a> as Form>⟧
-        (tagged_starts ⟦<Extensions<'a> as Form>⟧ (one_tag ⟦<SequenceTag as TagMarker>⟧.TAG ⟦<Extensions<'a> as FormValue>⟧.value.contents))
-        ⟦<Extensions<'a> as PartialEq>⟧.eq
-        (one_tag_equality ⟦<SequenceTag as TagMarker>⟧.TAG ⟦<Extensions<'a> as FormValue>⟧.value.contents ⟦<Extensions<'a> as FormValue>⟧.value.comparable ⟦<Extensions<'a> as PartialEq>⟧.eq extensions_contents_eq.contents_eq-law)
-        no_equality).equal v.fields w.fields))))
-        no_equality)))).equal v.fields.list w.fields.list };
+    ghost contents_eq = { ⟦<TbsRequest<'a> as Member>⟧.member.equal };
 }
 
 impl<'a> CopyIsDuplicate for TbsRequest<'a> {}

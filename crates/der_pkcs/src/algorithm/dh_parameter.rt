@@ -4,19 +4,18 @@
 
 ghost use Rattle.std.specs.Prelude.{◌∷◌, ◌≡◌, [], false, refl};
 ghost use Rattle.der_elem.specs.FormatMakers.{mapped_format};
-ghost use Rattle.der_elem.specs.contracts.integer.unsigned.U32ContentsEq.TheImpl.Laws as u32_contents_eq;
 ghost use Rattle.der_modules.specs.Asn1.{joined, optional, parse_of};
-ghost use Rattle.der_modules.specs.MemberLaws.{member_equality, no_equality, one_tag, one_tag_equality, optional_equality, optional_starts, tagged_starts};
-ghost use Rattle.der_numbers.specs.contracts.uint_ref.UintRefContentsEq.TheImpl.Laws as uintref_contents_eq;
+ghost use Rattle.der_modules.specs.Members.{field, no_fields, optional_field, struct_member};
 ghost use Rattle.der_pkcs.specs.Algorithm.DhParameter as dh_parameter_fields;
 ghost use Rattle.der_pkcs.specs.Algorithm.Grammar.{dh_parameter};
 ghost use Rattle.der_pkcs.specs.declared.algorithm.dh_parameter.DhParameter.{DhParameter};
 
 use der_elem::{
-    ContentsEq, CopyIsDuplicate, DecodeValue, EncodeValue, Form, FormValue, IntegerTag, OneTag,
-    Sequence, SequenceTag, TagMarker, ValueOrd,
+    ContentsEq, CopyIsDuplicate, DecodeValue, EncodeValue, Form, FormValue, OneTag, Sequence,
+    SequenceTag, TagMarker, ValueOrd,
 };
-use der_fields::{DecodeFields, EncodeFields, End, Field, FieldList, Fields3, FieldsOrd};
+use der_fields::{DecodeFields, EncodeFields, FieldList, Fields3, FieldsOrd};
+use der_modules::{Member, field_list};
 use der_numbers::UintRef;
 use der_tlv::{BackWriter, Error, Header, Length, Source, Writer};
 use std::alloc::Global;
@@ -55,12 +54,7 @@ impl<'a> DhParameter<'a> {
         ensures base { dh_parameter_fields.base result ≡ base.entry }
         ensures private_value_length { dh_parameter_fields.private_value_length result ≡ private_value_length }
     {
-        let first = private_value_length;
-        let rest = Field { first, rest: End };
-        let first = base;
-        let rest = Field { first, rest };
-        let first = prime;
-        let list = Field { first, rest };
+        let list = field_list![prime, base, private_value_length];
         let fields = Fields3 { list };
         DhParameter { fields }
     }
@@ -148,20 +142,16 @@ impl<'a> ValueOrd for DhParameter<'a> {
     }
 }
 
+impl<'a> Member for DhParameter<'a> {
+    ghost member = { struct_member ⟦<SequenceTag as TagMarker>⟧.TAG (λ v. v.fields.list)
+        (field ⟦<UintRef<'a> as Member>⟧.member
+        (field ⟦<UintRef<'a> as Member>⟧.member
+        (optional_field ⟦<u32 as Member>⟧.member
+        no_fields))) };
+}
+
 impl<'a> ContentsEq for DhParameter<'a> {
-    ghost contents_eq = { λ v w. (member_equality ⟦<UintRef<'a> as Form>⟧
-        (tagged_starts ⟦<UintRef<'a> as Form>⟧ (one_tag ⟦<IntegerTag as TagMarker>⟧.TAG ⟦<UintRef<'a> as FormValue>⟧.value.contents))
-        ⟦<UintRef<'a> as PartialEq>⟧.eq
-        (one_tag_equality ⟦<IntegerTag as TagMarker>⟧.TAG ⟦<UintRef<'a> as FormValue>⟧.value.contents ⟦<UintRef<'a> as FormValue>⟧.value.comparable ⟦<UintRef<'a> as PartialEq>⟧.eq uintref_contents_eq.contents_eq-law)
-        (member_equality ⟦<UintRef<'a> as Form>⟧
-        (tagged_starts ⟦<UintRef<'a> as Form>⟧ (one_tag ⟦<IntegerTag as TagMarker>⟧.TAG ⟦<UintRef<'a> as FormValue>⟧.value.contents))
-        ⟦<UintRef<'a> as PartialEq>⟧.eq
-        (one_tag_equality ⟦<IntegerTag as TagMarker>⟧.TAG ⟦<UintRef<'a> as FormValue>⟧.value.contents ⟦<UintRef<'a> as FormValue>⟧.value.comparable ⟦<UintRef<'a> as PartialEq>⟧.eq uintref_contents_eq.contents_eq-law)
-        (member_equality ⟦<Option<u32> as Form>⟧
-        (optional_starts ⟦<u32 as Form>⟧ (one_tag ⟦<IntegerTag as TagMarker>⟧.TAG ⟦<u32 as FormValue>⟧.value.contents))
-        ⟦<Option<u32> as PartialEq>⟧.eq
-        (optional_equality ⟦<u32 as Form>⟧ (one_tag ⟦<IntegerTag as TagMarker>⟧.TAG ⟦<u32 as FormValue>⟧.value.contents) ⟦<u32 as PartialEq>⟧.eq (one_tag_equality ⟦<IntegerTag as TagMarker>⟧.TAG ⟦<u32 as FormValue>⟧.value.contents ⟦<u32 as FormValue>⟧.value.comparable ⟦<u32 as PartialEq>⟧.eq u32_contents_eq.contents_eq-law))
-        no_equality))).equal v.fields.list w.fields.list };
+    ghost contents_eq = { ⟦<DhParameter<'a> as Member>⟧.member.equal };
 }
 
 impl<'a> CopyIsDuplicate for DhParameter<'a> {}

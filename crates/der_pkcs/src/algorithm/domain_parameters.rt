@@ -5,20 +5,18 @@
 ghost use Rattle.std.specs.Prelude.{◌∷◌, ◌≡◌, [], false, refl};
 ghost use Rattle.der_elem.specs.FormatMakers.{mapped_format};
 ghost use Rattle.der_modules.specs.Asn1.{joined, optional, parse_of};
-ghost use Rattle.der_modules.specs.MemberLaws.{member_equality, no_equality, one_tag, one_tag_equality, optional_equality, optional_starts, tagged_starts};
-ghost use Rattle.der_numbers.specs.contracts.uint_ref.UintRefContentsEq.TheImpl.Laws as uintref_contents_eq;
+ghost use Rattle.der_modules.specs.Members.{field, no_fields, optional_field, struct_member};
 ghost use Rattle.der_pkcs.specs.Algorithm.DomainParameters as domain_parameters_fields;
 ghost use Rattle.der_pkcs.specs.Algorithm.Grammar.{domain_parameters};
-ghost use Rattle.der_pkcs.specs.contracts.algorithm.validation_parms.ValidationParmsContentsEq.TheImpl.Laws as validation_parms_contents_eq;
 ghost use Rattle.der_pkcs.specs.declared.algorithm.domain_parameters.DomainParameters.{DomainParameters};
 
 use crate::algorithm::validation_parms::ValidationParms;
 use der_elem::{
-    ContentsEq, CopyIsDuplicate, DecodeValue, EncodeValue, Form, FormValue, IntegerTag, OneTag,
-    Sequence, SequenceTag, TagMarker, ValueOrd,
+    ContentsEq, CopyIsDuplicate, DecodeValue, EncodeValue, Form, FormValue, OneTag, Sequence,
+    SequenceTag, TagMarker, ValueOrd,
 };
-use der_fields::{DecodeFields, EncodeFields, End, Field, FieldList, Fields5, FieldsOrd};
-use der_modules::copy_of;
+use der_fields::{DecodeFields, EncodeFields, FieldList, Fields5, FieldsOrd};
+use der_modules::{Member, copy_of, field_list, if_present};
 use der_numbers::UintRef;
 use der_tlv::{BackWriter, Error, Header, Length, Source, Writer};
 use std::alloc::Global;
@@ -67,19 +65,13 @@ impl<'a> DomainParameters<'a> {
         ensures j { domain_parameters_fields.j result ≡ j.entry }
         ensures validation_parms { domain_parameters_fields.validation_parms result ≡ option_copied validation_parms.entry }
     {
-        let first = match validation_parms {
-            Some(value) => Some(copy_of(value)),
-            None => None,
-        };
-        let rest = Field { first, rest: End };
-        let first = j;
-        let rest = Field { first, rest };
-        let first = q;
-        let rest = Field { first, rest };
-        let first = g;
-        let rest = Field { first, rest };
-        let first = p;
-        let list = Field { first, rest };
+        let list = field_list![
+            p,
+            g,
+            q,
+            j,
+            if_present!(value in validation_parms => copy_of(value))
+        ];
         let fields = Fields5 { list };
         DomainParameters { fields }
     }
@@ -109,20 +101,14 @@ impl<'a> DomainParameters<'a> {
     pub fn j(&self) -> Option<&UintRef<'a>>
         ensures { option_copied result ≡ domain_parameters_fields.j self.now }
     {
-        match &self.fields.list.rest.rest.rest.first {
-            Some(value) => Some(value),
-            None => None,
-        }
+        if_present!(value in &self.fields.list.rest.rest.rest.first => value)
     }
 
     /// `validationParms`, `ValidationParms OPTIONAL`.
     pub fn validation_parms(&self) -> Option<&ValidationParms<'a>>
         ensures { option_copied result ≡ domain_parameters_fields.validation_parms self.now }
     {
-        match &self.fields.list.rest.rest.rest.rest.first {
-            Some(value) => Some(value),
-            None => None,
-        }
+        if_present!(value in &self.fields.list.rest.rest.rest.rest.first => value)
     }
 }
 
@@ -189,28 +175,18 @@ impl<'a> ValueOrd for DomainParameters<'a> {
     }
 }
 
+impl<'a> Member for DomainParameters<'a> {
+    ghost member = { struct_member ⟦<SequenceTag as TagMarker>⟧.TAG (λ v. v.fields.list)
+        (field ⟦<UintRef<'a> as Member>⟧.member
+        (field ⟦<UintRef<'a> as Member>⟧.member
+        (field ⟦<UintRef<'a> as Member>⟧.member
+        (optional_field ⟦<UintRef<'a> as Member>⟧.member
+        (optional_field ⟦<ValidationParms<'a> as Member>⟧.member
+        no_fields))))) };
+}
+
 impl<'a> ContentsEq for DomainParameters<'a> {
-    ghost contents_eq = { λ v w. (member_equality ⟦<UintRef<'a> as Form>⟧
-        (tagged_starts ⟦<UintRef<'a> as Form>⟧ (one_tag ⟦<IntegerTag as TagMarker>⟧.TAG ⟦<UintRef<'a> as FormValue>⟧.value.contents))
-        ⟦<UintRef<'a> as PartialEq>⟧.eq
-        (one_tag_equality ⟦<IntegerTag as TagMarker>⟧.TAG ⟦<UintRef<'a> as FormValue>⟧.value.contents ⟦<UintRef<'a> as FormValue>⟧.value.comparable ⟦<UintRef<'a> as PartialEq>⟧.eq uintref_contents_eq.contents_eq-law)
-        (member_equality ⟦<UintRef<'a> as Form>⟧
-        (tagged_starts ⟦<UintRef<'a> as Form>⟧ (one_tag ⟦<IntegerTag as TagMarker>⟧.TAG ⟦<UintRef<'a> as FormValue>⟧.value.contents))
-        ⟦<UintRef<'a> as PartialEq>⟧.eq
-        (one_tag_equality ⟦<IntegerTag as TagMarker>⟧.TAG ⟦<UintRef<'a> as FormValue>⟧.value.contents ⟦<UintRef<'a> as FormValue>⟧.value.comparable ⟦<UintRef<'a> as PartialEq>⟧.eq uintref_contents_eq.contents_eq-law)
-        (member_equality ⟦<UintRef<'a> as Form>⟧
-        (tagged_starts ⟦<UintRef<'a> as Form>⟧ (one_tag ⟦<IntegerTag as TagMarker>⟧.TAG ⟦<UintRef<'a> as FormValue>⟧.value.contents))
-        ⟦<UintRef<'a> as PartialEq>⟧.eq
-        (one_tag_equality ⟦<IntegerTag as TagMarker>⟧.TAG ⟦<UintRef<'a> as FormValue>⟧.value.contents ⟦<UintRef<'a> as FormValue>⟧.value.comparable ⟦<UintRef<'a> as PartialEq>⟧.eq uintref_contents_eq.contents_eq-law)
-        (member_equality ⟦<Option<UintRef<'a>> as Form>⟧
-        (optional_starts ⟦<UintRef<'a> as Form>⟧ (one_tag ⟦<IntegerTag as TagMarker>⟧.TAG ⟦<UintRef<'a> as FormValue>⟧.value.contents))
-        ⟦<Option<UintRef<'a>> as PartialEq>⟧.eq
-        (optional_equality ⟦<UintRef<'a> as Form>⟧ (one_tag ⟦<IntegerTag as TagMarker>⟧.TAG ⟦<UintRef<'a> as FormValue>⟧.value.contents) ⟦<UintRef<'a> as PartialEq>⟧.eq (one_tag_equality ⟦<IntegerTag as TagMarker>⟧.TAG ⟦<UintRef<'a> as FormValue>⟧.value.contents ⟦<UintRef<'a> as FormValue>⟧.value.comparable ⟦<UintRef<'a> as PartialEq>⟧.eq uintref_contents_eq.contents_eq-law))
-        (member_equality ⟦<Option<ValidationParms<'a>> as Form>⟧
-        (optional_starts ⟦<ValidationParms<'a> as Form>⟧ (one_tag ⟦<SequenceTag as TagMarker>⟧.TAG ⟦<ValidationParms<'a> as FormValue>⟧.value.contents))
-        ⟦<Option<ValidationParms<'a>> as PartialEq>⟧.eq
-        (optional_equality ⟦<ValidationParms<'a> as Form>⟧ (one_tag ⟦<SequenceTag as TagMarker>⟧.TAG ⟦<ValidationParms<'a> as FormValue>⟧.value.contents) ⟦<ValidationParms<'a> as PartialEq>⟧.eq (one_tag_equality ⟦<SequenceTag as TagMarker>⟧.TAG ⟦<ValidationParms<'a> as FormValue>⟧.value.contents ⟦<ValidationParms<'a> as FormValue>⟧.value.comparable ⟦<ValidationParms<'a> as PartialEq>⟧.eq validation_parms_contents_eq.contents_eq-law))
-        no_equality))))).equal v.fields.list w.fields.list };
+    ghost contents_eq = { ⟦<DomainParameters<'a> as Member>⟧.member.equal };
 }
 
 impl<'a> CopyIsDuplicate for DomainParameters<'a> {}

@@ -5,20 +5,17 @@
 ghost use Rattle.std.specs.Prelude.{◌∷◌, ◌≡◌, [], false, refl};
 ghost use Rattle.der_elem.specs.FormatMakers.{mapped_format};
 ghost use Rattle.der_modules.specs.Asn1.{context, explicit_encoding, joined, optional, parse_of};
-ghost use Rattle.der_modules.specs.MemberLaws.{member_equality, no_equality, one_tag, one_tag_equality, optional_equality, optional_starts, tagged_starts};
+ghost use Rattle.der_modules.specs.Members.{no_fields, optional_field, struct_member};
 ghost use Rattle.der_pkcs.specs.Algorithm.Grammar.{rsaes_oaep_params};
 ghost use Rattle.der_pkcs.specs.Algorithm.RsaesOaepParams as rsaes_oaep_params_fields;
 ghost use Rattle.der_pkcs.specs.declared.algorithm.rsaes_oaep_params.RsaesOaepParams.{RsaesOaepParams};
-ghost use Rattle.der_pkix.specs.contracts.algorithm_identifier.AlgorithmIdentifierContentsEq.TheImpl.Laws as algorithm_identifier_contents_eq;
 
 use der_elem::{
     ContentsEq, CopyIsDuplicate, DecodeValue, EncodeValue, Form, FormValue, OneTag, Sequence,
     SequenceTag, TagMarker, ValueOrd,
 };
-use der_fields::{
-    DecodeFields, EncodeFields, End, Explicit, ExplicitTag, Field, FieldList, Fields3, FieldsOrd,
-};
-use der_modules::copy_of;
+use der_fields::{DecodeFields, EncodeFields, Explicit, FieldList, Fields3, FieldsOrd};
+use der_modules::{Member, copy_of, field_list, if_present, tagged};
 use der_pkix::AlgorithmIdentifier;
 use der_tlv::{BackWriter, Error, Header, Length, Source, Writer};
 use std::alloc::Global;
@@ -61,36 +58,11 @@ impl<'a> RsaesOaepParams<'a> {
         ensures mask_gen_func { rsaes_oaep_params_fields.mask_gen_func result ≡ option_copied mask_gen_func.entry }
         ensures p_source_func { rsaes_oaep_params_fields.p_source_func result ≡ option_copied p_source_func.entry }
     {
-        let first = match p_source_func {
-            Some(first) => Some(Explicit {
-                fields: Field {
-                    first: copy_of(first),
-                    rest: End,
-                },
-            }),
-            None => None,
-        };
-        let rest = Field { first, rest: End };
-        let first = match mask_gen_func {
-            Some(first) => Some(Explicit {
-                fields: Field {
-                    first: copy_of(first),
-                    rest: End,
-                },
-            }),
-            None => None,
-        };
-        let rest = Field { first, rest };
-        let first = match hash_func {
-            Some(first) => Some(Explicit {
-                fields: Field {
-                    first: copy_of(first),
-                    rest: End,
-                },
-            }),
-            None => None,
-        };
-        let list = Field { first, rest };
+        let list = field_list![
+            if_present!(value in hash_func => tagged!(Explicit, copy_of(value))),
+            if_present!(value in mask_gen_func => tagged!(Explicit, copy_of(value))),
+            if_present!(value in p_source_func => tagged!(Explicit, copy_of(value)))
+        ];
         let fields = Fields3 { list };
         RsaesOaepParams { fields }
     }
@@ -99,30 +71,21 @@ impl<'a> RsaesOaepParams<'a> {
     pub fn hash_func(&self) -> Option<&AlgorithmIdentifier<'a>>
         ensures { option_copied result ≡ rsaes_oaep_params_fields.hash_func self.now }
     {
-        match &self.fields.list.first {
-            Some(value) => Some(&value.fields.first),
-            None => None,
-        }
+        if_present!(value in &self.fields.list.first => &value.fields.first)
     }
 
     /// `maskGenFunc`, `[1] AlgorithmIdentifier OPTIONAL`.
     pub fn mask_gen_func(&self) -> Option<&AlgorithmIdentifier<'a>>
         ensures { option_copied result ≡ rsaes_oaep_params_fields.mask_gen_func self.now }
     {
-        match &self.fields.list.rest.first {
-            Some(value) => Some(&value.fields.first),
-            None => None,
-        }
+        if_present!(value in &self.fields.list.rest.first => &value.fields.first)
     }
 
     /// `pSourceFunc`, `[2] AlgorithmIdentifier OPTIONAL`.
     pub fn p_source_func(&self) -> Option<&AlgorithmIdentifier<'a>>
         ensures { option_copied result ≡ rsaes_oaep_params_fields.p_source_func self.now }
     {
-        match &self.fields.list.rest.rest.first {
-            Some(value) => Some(&value.fields.first),
-            None => None,
-        }
+        if_present!(value in &self.fields.list.rest.rest.first => &value.fields.first)
     }
 }
 
@@ -187,32 +150,16 @@ impl<'a> ValueOrd for RsaesOaepParams<'a> {
     }
 }
 
+impl<'a> Member for RsaesOaepParams<'a> {
+    ghost member = { struct_member ⟦<SequenceTag as TagMarker>⟧.TAG (λ v. v.fields.list)
+        (optional_field ⟦<Explicit<AlgorithmIdentifier<'a>, 0> as Member>⟧.member
+        (optional_field ⟦<Explicit<AlgorithmIdentifier<'a>, 1> as Member>⟧.member
+        (optional_field ⟦<Explicit<AlgorithmIdentifier<'a>, 2> as Member>⟧.member
+        no_fields))) };
+}
+
 impl<'a> ContentsEq for RsaesOaepParams<'a> {
-    ghost contents_eq = { λ v w. (member_equality ⟦<Option<Explicit<AlgorithmIdentifier<'a>, 0>> as Form>⟧
-        (optional_starts ⟦<Explicit<AlgorithmIdentifier<'a>, 0> as Form>⟧ (one_tag ⟦<ExplicitTag<0> as TagMarker>⟧.TAG ⟦<Explicit<AlgorithmIdentifier<'a>, 0> as FormValue>⟧.value.contents))
-        ⟦<Option<Explicit<AlgorithmIdentifier<'a>, 0>> as PartialEq>⟧.eq
-        (optional_equality ⟦<Explicit<AlgorithmIdentifier<'a>, 0> as Form>⟧ (one_tag ⟦<ExplicitTag<0> as TagMarker>⟧.TAG ⟦<Explicit<AlgorithmIdentifier<'a>, 0> as FormValue>⟧.value.contents) ⟦<Explicit<AlgorithmIdentifier<'a>, 0> as PartialEq>⟧.eq (one_tag_equality ⟦<ExplicitTag<0> as TagMarker>⟧.TAG ⟦<Explicit<AlgorithmIdentifier<'a>, 0> as FormValue>⟧.value.contents ⟦<Explicit<AlgorithmIdentifier<'a>, 0> as FormValue>⟧.value.comparable ⟦<Explicit<AlgorithmIdentifier<'a>, 0> as PartialEq>⟧.eq (λ v w. ((member_equality ⟦<AlgorithmIdentifier<'a> as Form>⟧
-        (tagged_starts ⟦<AlgorithmIdentifier<'a> as Form>⟧ (one_tag ⟦<SequenceTag as TagMarker>⟧.TAG ⟦<AlgorithmIdentifier<'a> as FormValue>⟧.value.contents))
-        ⟦<AlgorithmIdentifier<'a> as PartialEq>⟧.eq
-        (one_tag_equality ⟦<SequenceTag as TagMarker>⟧.TAG ⟦<AlgorithmIdentifier<'a> as FormValue>⟧.value.contents ⟦<AlgorithmIdentifier<'a> as FormValue>⟧.value.comparable ⟦<AlgorithmIdentifier<'a> as PartialEq>⟧.eq algorithm_identifier_contents_eq.contents_eq-law)
-        no_equality).equal v.fields w.fields))))
-        (member_equality ⟦<Option<Explicit<AlgorithmIdentifier<'a>, 1>> as Form>⟧
-        (optional_starts ⟦<Explicit<AlgorithmIdentifier<'a>, 1> as Form>⟧ (one_tag ⟦<ExplicitTag<1> as TagMarker>⟧.TAG ⟦<Explicit<AlgorithmIdentifier<'a>, 1> as FormValue>⟧.value.contents))
-        ⟦<Option<Explicit<AlgorithmIdentifier<'a>, 1>> as PartialEq>⟧.eq
-        (optional_equality ⟦<Explicit<AlgorithmIdentifier<'a>, 1> as Form>⟧ (one_tag ⟦<ExplicitTag<1> as TagMarker>⟧.TAG ⟦<Explicit<AlgorithmIdentifier<'a>, 1> as FormValue>⟧.value.contents) ⟦<Explicit<AlgorithmIdentifier<'a>, 1> as PartialEq>⟧.eq (one_tag_equality ⟦<ExplicitTag<1> as TagMarker>⟧.TAG ⟦<Explicit<AlgorithmIdentifier<'a>, 1> as FormValue>⟧.value.contents ⟦<Explicit<AlgorithmIdentifier<'a>, 1> as FormValue>⟧.value.comparable ⟦<Explicit<AlgorithmIdentifier<'a>, 1> as PartialEq>⟧.eq (λ v w. ((member_equality ⟦<AlgorithmIdentifier<'a> as Form>⟧
-        (tagged_starts ⟦<AlgorithmIdentifier<'a> as Form>⟧ (one_tag ⟦<SequenceTag as TagMarker>⟧.TAG ⟦<AlgorithmIdentifier<'a> as FormValue>⟧.value.contents))
-        ⟦<AlgorithmIdentifier<'a> as PartialEq>⟧.eq
-        (one_tag_equality ⟦<SequenceTag as TagMarker>⟧.TAG ⟦<AlgorithmIdentifier<'a> as FormValue>⟧.value.contents ⟦<AlgorithmIdentifier<'a> as FormValue>⟧.value.comparable ⟦<AlgorithmIdentifier<'a> as PartialEq>⟧.eq algorithm_identifier_contents_eq.contents_eq-law)
-        no_equality).equal v.fields w.fields))))
-        (member_equality ⟦<Option<Explicit<AlgorithmIdentifier<'a>, 2>> as Form>⟧
-        (optional_starts ⟦<Explicit<AlgorithmIdentifier<'a>, 2> as Form>⟧ (one_tag ⟦<ExplicitTag<2> as TagMarker>⟧.TAG ⟦<Explicit<AlgorithmIdentifier<'a>, 2> as FormValue>⟧.value.contents))
-        ⟦<Option<Explicit<AlgorithmIdentifier<'a>, 2>> as PartialEq>⟧.eq
-        (optional_equality ⟦<Explicit<AlgorithmIdentifier<'a>, 2> as Form>⟧ (one_tag ⟦<ExplicitTag<2> as TagMarker>⟧.TAG ⟦<Explicit<AlgorithmIdentifier<'a>, 2> as FormValue>⟧.value.contents) ⟦<Explicit<AlgorithmIdentifier<'a>, 2> as PartialEq>⟧.eq (one_tag_equality ⟦<ExplicitTag<2> as TagMarker>⟧.TAG ⟦<Explicit<AlgorithmIdentifier<'a>, 2> as FormValue>⟧.value.contents ⟦<Explicit<AlgorithmIdentifier<'a>, 2> as FormValue>⟧.value.comparable ⟦<Explicit<AlgorithmIdentifier<'a>, 2> as PartialEq>⟧.eq (λ v w. ((member_equality ⟦<AlgorithmIdentifier<'a> as Form>⟧
-        (tagged_starts ⟦<AlgorithmIdentifier<'a> as Form>⟧ (one_tag ⟦<SequenceTag as TagMarker>⟧.TAG ⟦<AlgorithmIdentifier<'a> as FormValue>⟧.value.contents))
-        ⟦<AlgorithmIdentifier<'a> as PartialEq>⟧.eq
-        (one_tag_equality ⟦<SequenceTag as TagMarker>⟧.TAG ⟦<AlgorithmIdentifier<'a> as FormValue>⟧.value.contents ⟦<AlgorithmIdentifier<'a> as FormValue>⟧.value.comparable ⟦<AlgorithmIdentifier<'a> as PartialEq>⟧.eq algorithm_identifier_contents_eq.contents_eq-law)
-        no_equality).equal v.fields w.fields))))
-        no_equality))).equal v.fields.list w.fields.list };
+    ghost contents_eq = { ⟦<RsaesOaepParams<'a> as Member>⟧.member.equal };
 }
 
 impl<'a> CopyIsDuplicate for RsaesOaepParams<'a> {}

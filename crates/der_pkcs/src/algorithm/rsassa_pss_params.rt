@@ -4,24 +4,21 @@
 
 ghost use Rattle.std.specs.Prelude.{◌∷◌, ◌≡◌, [], false, refl};
 ghost use Rattle.der_elem.specs.FormatMakers.{mapped_format};
-ghost use Rattle.der_elem.specs.contracts.integer.unsigned.U32ContentsEq.TheImpl.Laws as u32_contents_eq;
-ghost use Rattle.der_elem.specs.contracts.integer.unsigned.U8ContentsEq.TheImpl.Laws as u8_contents_eq;
 ghost use Rattle.der_modules.specs.Asn1.{context, explicit_encoding, joined, optional, parse_of, unless_default};
-ghost use Rattle.der_modules.specs.MemberLaws.{default_equality, default_starts, member_equality, no_equality, one_tag, one_tag_equality, optional_equality, optional_starts, tagged_starts};
+ghost use Rattle.der_modules.specs.Members.{default_field, no_fields, optional_field, struct_member};
 ghost use Rattle.der_pkcs.specs.Algorithm.Grammar.{rsassa_pss_params};
 ghost use Rattle.der_pkcs.specs.Algorithm.RsassaPssParams as rsassa_pss_params_fields;
 ghost use Rattle.der_pkcs.specs.declared.algorithm.rsassa_pss_params.RsassaPssParams.{RsassaPssParams};
-ghost use Rattle.der_pkix.specs.contracts.algorithm_identifier.AlgorithmIdentifierContentsEq.TheImpl.Laws as algorithm_identifier_contents_eq;
 
 use der_elem::{
-    ContentsEq, CopyIsDuplicate, DecodeValue, EncodeValue, Form, FormValue, IntegerTag, OneTag,
-    Sequence, SequenceTag, TagMarker, ValueOrd,
+    ContentsEq, CopyIsDuplicate, DecodeValue, EncodeValue, Form, FormValue, OneTag, Sequence,
+    SequenceTag, TagMarker, ValueOrd,
 };
 use der_fields::{
-    DecodeFields, DefaultNumber, DefaultOf, EncodeFields, End, Explicit, ExplicitTag, Field,
-    FieldList, Fields4, FieldsOrd, WithDefault,
+    DecodeFields, DefaultNumber, DefaultOf, EncodeFields, Explicit, FieldList, Fields4, FieldsOrd,
+    WithDefault,
 };
-use der_modules::copy_of;
+use der_modules::{Member, copy_of, field_list, if_present, tagged};
 use der_pkix::AlgorithmIdentifier;
 use der_tlv::{BackWriter, Error, Header, Length, Source, Writer};
 use std::alloc::Global;
@@ -74,40 +71,12 @@ impl<'a> RsassaPssParams<'a> {
         ensures salt_length { rsassa_pss_params_fields.salt_length result ≡ salt_length }
         ensures trailer_field { rsassa_pss_params_fields.trailer_field result ≡ trailer_field }
     {
-        let first = WithDefault::new(Explicit {
-            fields: Field {
-                first: trailer_field,
-                rest: End,
-            },
-        });
-        let rest = Field { first, rest: End };
-        let first = match salt_length {
-            Some(first) => Some(Explicit {
-                fields: Field { first, rest: End },
-            }),
-            None => None,
-        };
-        let rest = Field { first, rest };
-        let first = match mask_gen_algorithm {
-            Some(first) => Some(Explicit {
-                fields: Field {
-                    first: copy_of(first),
-                    rest: End,
-                },
-            }),
-            None => None,
-        };
-        let rest = Field { first, rest };
-        let first = match hash_algorithm {
-            Some(first) => Some(Explicit {
-                fields: Field {
-                    first: copy_of(first),
-                    rest: End,
-                },
-            }),
-            None => None,
-        };
-        let list = Field { first, rest };
+        let list = field_list![
+            if_present!(value in hash_algorithm => tagged!(Explicit, copy_of(value))),
+            if_present!(value in mask_gen_algorithm => tagged!(Explicit, copy_of(value))),
+            if_present!(value in salt_length => tagged!(Explicit, value)),
+            WithDefault::new(tagged!(Explicit, trailer_field))
+        ];
         let fields = Fields4 { list };
         RsassaPssParams { fields }
     }
@@ -116,30 +85,21 @@ impl<'a> RsassaPssParams<'a> {
     pub fn hash_algorithm(&self) -> Option<&AlgorithmIdentifier<'a>>
         ensures { option_copied result ≡ rsassa_pss_params_fields.hash_algorithm self.now }
     {
-        match &self.fields.list.first {
-            Some(value) => Some(&value.fields.first),
-            None => None,
-        }
+        if_present!(value in &self.fields.list.first => &value.fields.first)
     }
 
     /// `maskGenAlgorithm`, `[1] AlgorithmIdentifier OPTIONAL`.
     pub fn mask_gen_algorithm(&self) -> Option<&AlgorithmIdentifier<'a>>
         ensures { option_copied result ≡ rsassa_pss_params_fields.mask_gen_algorithm self.now }
     {
-        match &self.fields.list.rest.first {
-            Some(value) => Some(&value.fields.first),
-            None => None,
-        }
+        if_present!(value in &self.fields.list.rest.first => &value.fields.first)
     }
 
     /// `saltLength`, `[2] INTEGER OPTIONAL`.
     pub fn salt_length(&self) -> Option<u32>
         ensures { result ≡ rsassa_pss_params_fields.salt_length self.now }
     {
-        match self.fields.list.rest.rest.first {
-            Some(tagged) => Some(tagged.fields.first),
-            None => None,
-        }
+        if_present!(value in self.fields.list.rest.rest.first => value.fields.first)
     }
 
     /// `trailerField`, `[3] INTEGER DEFAULT 1`.
@@ -212,40 +172,17 @@ impl<'a> ValueOrd for RsassaPssParams<'a> {
     }
 }
 
+impl<'a> Member for RsassaPssParams<'a> {
+    ghost member = { struct_member ⟦<SequenceTag as TagMarker>⟧.TAG (λ v. v.fields.list)
+        (optional_field ⟦<Explicit<AlgorithmIdentifier<'a>, 0> as Member>⟧.member
+        (optional_field ⟦<Explicit<AlgorithmIdentifier<'a>, 1> as Member>⟧.member
+        (optional_field ⟦<Explicit<u32, 2> as Member>⟧.member
+        (default_field ⟦<DefaultNumber<1> as DefaultOf<Explicit<u8, 3>>>⟧.octets ⟦<Explicit<u8, 3> as Member>⟧.member
+        no_fields)))) };
+}
+
 impl<'a> ContentsEq for RsassaPssParams<'a> {
-    ghost contents_eq = { λ v w. (member_equality ⟦<Option<Explicit<AlgorithmIdentifier<'a>, 0>> as Form>⟧
-        (optional_starts ⟦<Explicit<AlgorithmIdentifier<'a>, 0> as Form>⟧ (one_tag ⟦<ExplicitTag<0> as TagMarker>⟧.TAG ⟦<Explicit<AlgorithmIdentifier<'a>, 0> as FormValue>⟧.value.contents))
-        ⟦<Option<Explicit<AlgorithmIdentifier<'a>, 0>> as PartialEq>⟧.eq
-        (optional_equality ⟦<Explicit<AlgorithmIdentifier<'a>, 0> as Form>⟧ (one_tag ⟦<ExplicitTag<0> as TagMarker>⟧.TAG ⟦<Explicit<AlgorithmIdentifier<'a>, 0> as FormValue>⟧.value.contents) ⟦<Explicit<AlgorithmIdentifier<'a>, 0> as PartialEq>⟧.eq (one_tag_equality ⟦<ExplicitTag<0> as TagMarker>⟧.TAG ⟦<Explicit<AlgorithmIdentifier<'a>, 0> as FormValue>⟧.value.contents ⟦<Explicit<AlgorithmIdentifier<'a>, 0> as FormValue>⟧.value.comparable ⟦<Explicit<AlgorithmIdentifier<'a>, 0> as PartialEq>⟧.eq (λ v w. ((member_equality ⟦<AlgorithmIdentifier<'a> as Form>⟧
-        (tagged_starts ⟦<AlgorithmIdentifier<'a> as Form>⟧ (one_tag ⟦<SequenceTag as TagMarker>⟧.TAG ⟦<AlgorithmIdentifier<'a> as FormValue>⟧.value.contents))
-        ⟦<AlgorithmIdentifier<'a> as PartialEq>⟧.eq
-        (one_tag_equality ⟦<SequenceTag as TagMarker>⟧.TAG ⟦<AlgorithmIdentifier<'a> as FormValue>⟧.value.contents ⟦<AlgorithmIdentifier<'a> as FormValue>⟧.value.comparable ⟦<AlgorithmIdentifier<'a> as PartialEq>⟧.eq algorithm_identifier_contents_eq.contents_eq-law)
-        no_equality).equal v.fields w.fields))))
-        (member_equality ⟦<Option<Explicit<AlgorithmIdentifier<'a>, 1>> as Form>⟧
-        (optional_starts ⟦<Explicit<AlgorithmIdentifier<'a>, 1> as Form>⟧ (one_tag ⟦<ExplicitTag<1> as TagMarker>⟧.TAG ⟦<Explicit<AlgorithmIdentifier<'a>, 1> as FormValue>⟧.value.contents))
-        ⟦<Option<Explicit<AlgorithmIdentifier<'a>, 1>> as PartialEq>⟧.eq
-        (optional_equality ⟦<Explicit<AlgorithmIdentifier<'a>, 1> as Form>⟧ (one_tag ⟦<ExplicitTag<1> as TagMarker>⟧.TAG ⟦<Explicit<AlgorithmIdentifier<'a>, 1> as FormValue>⟧.value.contents) ⟦<Explicit<AlgorithmIdentifier<'a>, 1> as PartialEq>⟧.eq (one_tag_equality ⟦<ExplicitTag<1> as TagMarker>⟧.TAG ⟦<Explicit<AlgorithmIdentifier<'a>, 1> as FormValue>⟧.value.contents ⟦<Explicit<AlgorithmIdentifier<'a>, 1> as FormValue>⟧.value.comparable ⟦<Explicit<AlgorithmIdentifier<'a>, 1> as PartialEq>⟧.eq (λ v w. ((member_equality ⟦<AlgorithmIdentifier<'a> as Form>⟧
-        (tagged_starts ⟦<AlgorithmIdentifier<'a> as Form>⟧ (one_tag ⟦<SequenceTag as TagMarker>⟧.TAG ⟦<AlgorithmIdentifier<'a> as FormValue>⟧.value.contents))
-        ⟦<AlgorithmIdentifier<'a> as PartialEq>⟧.eq
-        (one_tag_equality ⟦<SequenceTag as TagMarker>⟧.TAG ⟦<AlgorithmIdentifier<'a> as FormValue>⟧.value.contents ⟦<AlgorithmIdentifier<'a> as FormValue>⟧.value.comparable ⟦<AlgorithmIdentifier<'a> as PartialEq>⟧.eq algorithm_identifier_contents_eq.contents_eq-law)
-        no_equality).equal v.fields w.fields))))
-        (member_equality ⟦<Option<Explicit<u32, 2>> as Form>⟧
-        (optional_starts ⟦<Explicit<u32, 2> as Form>⟧ (one_tag ⟦<ExplicitTag<2> as TagMarker>⟧.TAG ⟦<Explicit<u32, 2> as FormValue>⟧.value.contents))
-        ⟦<Option<Explicit<u32, 2>> as PartialEq>⟧.eq
-        (optional_equality ⟦<Explicit<u32, 2> as Form>⟧ (one_tag ⟦<ExplicitTag<2> as TagMarker>⟧.TAG ⟦<Explicit<u32, 2> as FormValue>⟧.value.contents) ⟦<Explicit<u32, 2> as PartialEq>⟧.eq (one_tag_equality ⟦<ExplicitTag<2> as TagMarker>⟧.TAG ⟦<Explicit<u32, 2> as FormValue>⟧.value.contents ⟦<Explicit<u32, 2> as FormValue>⟧.value.comparable ⟦<Explicit<u32, 2> as PartialEq>⟧.eq (λ v w. ((member_equality ⟦<u32 as Form>⟧
-        (tagged_starts ⟦<u32 as Form>⟧ (one_tag ⟦<IntegerTag as TagMarker>⟧.TAG ⟦<u32 as FormValue>⟧.value.contents))
-        ⟦<u32 as PartialEq>⟧.eq
-        (one_tag_equality ⟦<IntegerTag as TagMarker>⟧.TAG ⟦<u32 as FormValue>⟧.value.contents ⟦<u32 as FormValue>⟧.value.comparable ⟦<u32 as PartialEq>⟧.eq u32_contents_eq.contents_eq-law)
-        no_equality).equal v.fields w.fields))))
-        (member_equality ⟦<WithDefault<Explicit<u8, 3>, DefaultNumber<1>> as Form>⟧
-        (default_starts ⟦<Explicit<u8, 3> as Form>⟧ (one_tag ⟦<ExplicitTag<3> as TagMarker>⟧.TAG ⟦<Explicit<u8, 3> as FormValue>⟧.value.contents) (λ x. x.value) ⟦<DefaultNumber<1> as DefaultOf<Explicit<u8, 3>>>⟧.octets)
-        ⟦<WithDefault<Explicit<u8, 3>, DefaultNumber<1>> as PartialEq>⟧.eq
-        (default_equality ⟦<Explicit<u8, 3> as Form>⟧ (one_tag ⟦<ExplicitTag<3> as TagMarker>⟧.TAG ⟦<Explicit<u8, 3> as FormValue>⟧.value.contents) (λ x. x.value) ⟦<DefaultNumber<1> as DefaultOf<Explicit<u8, 3>>>⟧.octets ⟦<Explicit<u8, 3> as PartialEq>⟧.eq (one_tag_equality ⟦<ExplicitTag<3> as TagMarker>⟧.TAG ⟦<Explicit<u8, 3> as FormValue>⟧.value.contents ⟦<Explicit<u8, 3> as FormValue>⟧.value.comparable ⟦<Explicit<u8, 3> as PartialEq>⟧.eq (λ v w. ((member_equality ⟦<u8 as Form>⟧
-        (tagged_starts ⟦<u8 as Form>⟧ (one_tag ⟦<IntegerTag as TagMarker>⟧.TAG ⟦<u8 as FormValue>⟧.value.contents))
-        ⟦<u8 as PartialEq>⟧.eq
-        (one_tag_equality ⟦<IntegerTag as TagMarker>⟧.TAG ⟦<u8 as FormValue>⟧.value.contents ⟦<u8 as FormValue>⟧.value.comparable ⟦<u8 as PartialEq>⟧.eq u8_contents_eq.contents_eq-law)
-        no_equality).equal v.fields w.fields))))
-        no_equality)))).equal v.fields.list w.fields.list };
+    ghost contents_eq = { ⟦<RsassaPssParams<'a> as Member>⟧.member.equal };
 }
 
 impl<'a> CopyIsDuplicate for RsassaPssParams<'a> {}

@@ -5,19 +5,17 @@
 ghost use Rattle.std.specs.Prelude.{◌∷◌, ◌≡◌, [], false, refl};
 ghost use Rattle.der_elem.specs.FormatMakers.{mapped_format};
 ghost use Rattle.der_modules.specs.Asn1.{joined, parse_of};
-ghost use Rattle.der_modules.specs.MemberLaws.{member_equality, no_equality, one_tag, one_tag_equality, tagged_starts};
-ghost use Rattle.der_opaque.specs.contracts.octet_string_ref.OctetStringRefContentsEq.TheImpl.Laws as octetstringref_contents_eq;
+ghost use Rattle.der_modules.specs.Members.{field, no_fields, struct_member};
 ghost use Rattle.der_pkcs.specs.Encryption.EncryptedPrivateKeyInfo as encrypted_private_key_info_fields;
 ghost use Rattle.der_pkcs.specs.Encryption.Grammar.{encrypted_private_key_info};
 ghost use Rattle.der_pkcs.specs.declared.encryption.encrypted_private_key_info.EncryptedPrivateKeyInfo.{EncryptedPrivateKeyInfo};
-ghost use Rattle.der_pkix.specs.contracts.algorithm_identifier.AlgorithmIdentifierContentsEq.TheImpl.Laws as algorithm_identifier_contents_eq;
 
 use der_elem::{
-    ContentsEq, CopyIsDuplicate, DecodeValue, EncodeValue, Form, FormValue, OctetStringTag, OneTag,
-    Sequence, SequenceTag, TagMarker, ValueOrd,
+    ContentsEq, CopyIsDuplicate, DecodeValue, EncodeValue, Form, FormValue, OneTag, Sequence,
+    SequenceTag, TagMarker, ValueOrd,
 };
-use der_fields::{DecodeFields, EncodeFields, End, Field, FieldList, Fields2, FieldsOrd};
-use der_modules::copy_of;
+use der_fields::{DecodeFields, EncodeFields, FieldList, Fields2, FieldsOrd};
+use der_modules::{Member, copy_of, field_list};
 use der_opaque::OctetStringRef;
 use der_pkix::AlgorithmIdentifier;
 use der_tlv::{BackWriter, Error, Header, Length, Source, Writer};
@@ -51,10 +49,7 @@ impl<'a> EncryptedPrivateKeyInfo<'a> {
         ensures encryption_algorithm { encrypted_private_key_info_fields.encryption_algorithm result ≡ encryption_algorithm.now }
         ensures encrypted_data { encrypted_private_key_info_fields.encrypted_data result ≡ encrypted_data.entry }
     {
-        let first = encrypted_data;
-        let rest = Field { first, rest: End };
-        let first = copy_of(encryption_algorithm);
-        let list = Field { first, rest };
+        let list = field_list![copy_of(encryption_algorithm), encrypted_data];
         let fields = Fields2 { list };
         EncryptedPrivateKeyInfo { fields }
     }
@@ -134,16 +129,15 @@ impl<'a> ValueOrd for EncryptedPrivateKeyInfo<'a> {
     }
 }
 
+impl<'a> Member for EncryptedPrivateKeyInfo<'a> {
+    ghost member = { struct_member ⟦<SequenceTag as TagMarker>⟧.TAG (λ v. v.fields.list)
+        (field ⟦<AlgorithmIdentifier<'a> as Member>⟧.member
+        (field ⟦<OctetStringRef<'a> as Member>⟧.member
+        no_fields)) };
+}
+
 impl<'a> ContentsEq for EncryptedPrivateKeyInfo<'a> {
-    ghost contents_eq = { λ v w. (member_equality ⟦<AlgorithmIdentifier<'a> as Form>⟧
-        (tagged_starts ⟦<AlgorithmIdentifier<'a> as Form>⟧ (one_tag ⟦<SequenceTag as TagMarker>⟧.TAG ⟦<AlgorithmIdentifier<'a> as FormValue>⟧.value.contents))
-        ⟦<AlgorithmIdentifier<'a> as PartialEq>⟧.eq
-        (one_tag_equality ⟦<SequenceTag as TagMarker>⟧.TAG ⟦<AlgorithmIdentifier<'a> as FormValue>⟧.value.contents ⟦<AlgorithmIdentifier<'a> as FormValue>⟧.value.comparable ⟦<AlgorithmIdentifier<'a> as PartialEq>⟧.eq algorithm_identifier_contents_eq.contents_eq-law)
-        (member_equality ⟦<OctetStringRef<'a> as Form>⟧
-        (tagged_starts ⟦<OctetStringRef<'a> as Form>⟧ (one_tag ⟦<OctetStringTag as TagMarker>⟧.TAG ⟦<OctetStringRef<'a> as FormValue>⟧.value.contents))
-        ⟦<OctetStringRef<'a> as PartialEq>⟧.eq
-        (one_tag_equality ⟦<OctetStringTag as TagMarker>⟧.TAG ⟦<OctetStringRef<'a> as FormValue>⟧.value.contents ⟦<OctetStringRef<'a> as FormValue>⟧.value.comparable ⟦<OctetStringRef<'a> as PartialEq>⟧.eq octetstringref_contents_eq.contents_eq-law)
-        no_equality)).equal v.fields.list w.fields.list };
+    ghost contents_eq = { ⟦<EncryptedPrivateKeyInfo<'a> as Member>⟧.member.equal };
 }
 
 impl<'a> CopyIsDuplicate for EncryptedPrivateKeyInfo<'a> {}

@@ -4,19 +4,18 @@
 
 ghost use Rattle.std.specs.Prelude.{◌∷◌, ◌≡◌, [], false, refl};
 ghost use Rattle.der_elem.specs.FormatMakers.{mapped_format};
-ghost use Rattle.der_elem.specs.contracts.integer.unsigned.U32ContentsEq.TheImpl.Laws as u32_contents_eq;
 ghost use Rattle.der_modules.specs.Asn1.{joined, parse_of};
-ghost use Rattle.der_modules.specs.MemberLaws.{member_equality, no_equality, one_tag, one_tag_equality, tagged_starts};
-ghost use Rattle.der_opaque.specs.contracts.octet_string_ref.OctetStringRefContentsEq.TheImpl.Laws as octetstringref_contents_eq;
+ghost use Rattle.der_modules.specs.Members.{field, no_fields, struct_member};
 ghost use Rattle.der_pkcs.specs.Encryption.Grammar.{pbe_parameter};
 ghost use Rattle.der_pkcs.specs.Encryption.PbeParameter as pbe_parameter_fields;
 ghost use Rattle.der_pkcs.specs.declared.encryption.pbe_parameter.PbeParameter.{PbeParameter};
 
 use der_elem::{
-    ContentsEq, CopyIsDuplicate, DecodeValue, EncodeValue, Form, FormValue, IntegerTag,
-    OctetStringTag, OneTag, Sequence, SequenceTag, TagMarker, ValueOrd,
+    ContentsEq, CopyIsDuplicate, DecodeValue, EncodeValue, Form, FormValue, OneTag, Sequence,
+    SequenceTag, TagMarker, ValueOrd,
 };
-use der_fields::{DecodeFields, EncodeFields, End, Field, FieldList, Fields2, FieldsOrd};
+use der_fields::{DecodeFields, EncodeFields, FieldList, Fields2, FieldsOrd};
+use der_modules::{Member, field_list};
 use der_opaque::OctetStringRef;
 use der_tlv::{BackWriter, Error, Header, Length, Source, Writer};
 use std::alloc::Global;
@@ -51,10 +50,7 @@ impl<'a> PbeParameter<'a> {
         ensures salt { pbe_parameter_fields.salt result ≡ salt.entry }
         ensures iteration_count { pbe_parameter_fields.iteration_count result ≡ iteration_count }
     {
-        let first = iteration_count;
-        let rest = Field { first, rest: End };
-        let first = salt;
-        let list = Field { first, rest };
+        let list = field_list![salt, iteration_count];
         let fields = Fields2 { list };
         PbeParameter { fields }
     }
@@ -134,16 +130,15 @@ impl<'a> ValueOrd for PbeParameter<'a> {
     }
 }
 
+impl<'a> Member for PbeParameter<'a> {
+    ghost member = { struct_member ⟦<SequenceTag as TagMarker>⟧.TAG (λ v. v.fields.list)
+        (field ⟦<OctetStringRef<'a> as Member>⟧.member
+        (field ⟦<u32 as Member>⟧.member
+        no_fields)) };
+}
+
 impl<'a> ContentsEq for PbeParameter<'a> {
-    ghost contents_eq = { λ v w. (member_equality ⟦<OctetStringRef<'a> as Form>⟧
-        (tagged_starts ⟦<OctetStringRef<'a> as Form>⟧ (one_tag ⟦<OctetStringTag as TagMarker>⟧.TAG ⟦<OctetStringRef<'a> as FormValue>⟧.value.contents))
-        ⟦<OctetStringRef<'a> as PartialEq>⟧.eq
-        (one_tag_equality ⟦<OctetStringTag as TagMarker>⟧.TAG ⟦<OctetStringRef<'a> as FormValue>⟧.value.contents ⟦<OctetStringRef<'a> as FormValue>⟧.value.comparable ⟦<OctetStringRef<'a> as PartialEq>⟧.eq octetstringref_contents_eq.contents_eq-law)
-        (member_equality ⟦<u32 as Form>⟧
-        (tagged_starts ⟦<u32 as Form>⟧ (one_tag ⟦<IntegerTag as TagMarker>⟧.TAG ⟦<u32 as FormValue>⟧.value.contents))
-        ⟦<u32 as PartialEq>⟧.eq
-        (one_tag_equality ⟦<IntegerTag as TagMarker>⟧.TAG ⟦<u32 as FormValue>⟧.value.contents ⟦<u32 as FormValue>⟧.value.comparable ⟦<u32 as PartialEq>⟧.eq u32_contents_eq.contents_eq-law)
-        no_equality)).equal v.fields.list w.fields.list };
+    ghost contents_eq = { ⟦<PbeParameter<'a> as Member>⟧.member.equal };
 }
 
 impl<'a> CopyIsDuplicate for PbeParameter<'a> {}

@@ -4,23 +4,19 @@
 
 ghost use Rattle.std.specs.Prelude.{◌∷◌, ◌≡◌, [], false, refl};
 ghost use Rattle.der_elem.specs.FormatMakers.{mapped_format};
-ghost use Rattle.der_elem.specs.contracts.integer.unsigned.U32ContentsEq.TheImpl.Laws as u32_contents_eq;
 ghost use Rattle.der_modules.specs.Asn1.{joined, optional, parse_of};
-ghost use Rattle.der_modules.specs.MemberLaws.{member_equality, no_equality, one_tag, one_tag_equality, optional_equality, optional_starts, own_tags, tagged_starts};
+ghost use Rattle.der_modules.specs.Members.{choice_field, field, no_fields, optional_field, struct_member};
 ghost use Rattle.der_pkcs.specs.Encryption.Grammar.{pbkdf2_params};
 ghost use Rattle.der_pkcs.specs.Encryption.Pbkdf2Params as pbkdf2_params_fields;
-ghost use Rattle.der_pkcs.specs.contracts.encryption.pbkdf2_salt.Pbkdf2SaltEncodingEq.TheImpl.Laws as pbkdf2_salt_encoding_eq;
-ghost use Rattle.der_pkcs.specs.contracts.encryption.pbkdf2_salt.Pbkdf2SaltTagged.TheImpl.Laws as pbkdf2_salt_tagged;
 ghost use Rattle.der_pkcs.specs.declared.encryption.pbkdf2_params.Pbkdf2Params.{Pbkdf2Params};
-ghost use Rattle.der_pkix.specs.contracts.algorithm_identifier.AlgorithmIdentifierContentsEq.TheImpl.Laws as algorithm_identifier_contents_eq;
 
 use crate::encryption::pbkdf2_salt::Pbkdf2Salt;
 use der_elem::{
-    ContentsEq, CopyIsDuplicate, DecodeValue, EncodeValue, Form, FormValue, IntegerTag, OneTag,
-    Sequence, SequenceTag, TagMarker, Tagged, ValueOrd,
+    ContentsEq, CopyIsDuplicate, DecodeValue, EncodeValue, Form, FormValue, OneTag, Sequence,
+    SequenceTag, TagMarker, ValueOrd,
 };
-use der_fields::{DecodeFields, EncodeFields, End, Field, FieldList, Fields4, FieldsOrd};
-use der_modules::copy_of;
+use der_fields::{DecodeFields, EncodeFields, FieldList, Fields4, FieldsOrd};
+use der_modules::{Choosing, Member, copy_of, field_list, if_present};
 use der_pkix::AlgorithmIdentifier;
 use der_tlv::{BackWriter, Error, Header, Length, Source, Writer};
 use std::alloc::Global;
@@ -66,17 +62,12 @@ impl<'a> Pbkdf2Params<'a> {
         ensures key_length { pbkdf2_params_fields.key_length result ≡ key_length }
         ensures prf { pbkdf2_params_fields.prf result ≡ option_copied prf.entry }
     {
-        let first = match prf {
-            Some(value) => Some(copy_of(value)),
-            None => None,
-        };
-        let rest = Field { first, rest: End };
-        let first = key_length;
-        let rest = Field { first, rest };
-        let first = iteration_count;
-        let rest = Field { first, rest };
-        let first = copy_of(salt);
-        let list = Field { first, rest };
+        let list = field_list![
+            copy_of(salt),
+            iteration_count,
+            key_length,
+            if_present!(value in prf => copy_of(value))
+        ];
         let fields = Fields4 { list };
         Pbkdf2Params { fields }
     }
@@ -106,10 +97,7 @@ impl<'a> Pbkdf2Params<'a> {
     pub fn prf(&self) -> Option<&AlgorithmIdentifier<'a>>
         ensures { option_copied result ≡ pbkdf2_params_fields.prf self.now }
     {
-        match &self.fields.list.rest.rest.rest.first {
-            Some(value) => Some(value),
-            None => None,
-        }
+        if_present!(value in &self.fields.list.rest.rest.rest.first => value)
     }
 }
 
@@ -175,24 +163,17 @@ impl<'a> ValueOrd for Pbkdf2Params<'a> {
     }
 }
 
+impl<'a> Member for Pbkdf2Params<'a> {
+    ghost member = { struct_member ⟦<SequenceTag as TagMarker>⟧.TAG (λ v. v.fields.list)
+        (choice_field ⟦<Pbkdf2Salt<'a> as Choosing>⟧.choice
+        (field ⟦<u32 as Member>⟧.member
+        (optional_field ⟦<u32 as Member>⟧.member
+        (optional_field ⟦<AlgorithmIdentifier<'a> as Member>⟧.member
+        no_fields)))) };
+}
+
 impl<'a> ContentsEq for Pbkdf2Params<'a> {
-    ghost contents_eq = { λ v w. (member_equality ⟦<Pbkdf2Salt<'a> as Form>⟧
-        (tagged_starts ⟦<Pbkdf2Salt<'a> as Form>⟧ (own_tags ⟦<Pbkdf2Salt<'a> as Form>⟧.tags ⟦<Pbkdf2Salt<'a> as Form>⟧.first_tag_of ⟦<Pbkdf2Salt<'a> as Form>⟧.encoding ⟦<Pbkdf2Salt<'a> as Tagged>⟧.tag_of ⟦<Pbkdf2Salt<'a> as FormValue>⟧.value.contents pbkdf2_salt_tagged.encoding_is-law pbkdf2_salt_tagged.own_tag-law pbkdf2_salt_tagged.first_tag_is-law))
-        ⟦<Pbkdf2Salt<'a> as PartialEq>⟧.eq
-        pbkdf2_salt_encoding_eq.encoding_eq-law
-        (member_equality ⟦<u32 as Form>⟧
-        (tagged_starts ⟦<u32 as Form>⟧ (one_tag ⟦<IntegerTag as TagMarker>⟧.TAG ⟦<u32 as FormValue>⟧.value.contents))
-        ⟦<u32 as PartialEq>⟧.eq
-        (one_tag_equality ⟦<IntegerTag as TagMarker>⟧.TAG ⟦<u32 as FormValue>⟧.value.contents ⟦<u32 as FormValue>⟧.value.comparable ⟦<u32 as PartialEq>⟧.eq u32_contents_eq.contents_eq-law)
-        (member_equality ⟦<Option<u32> as Form>⟧
-        (optional_starts ⟦<u32 as Form>⟧ (one_tag ⟦<IntegerTag as TagMarker>⟧.TAG ⟦<u32 as FormValue>⟧.value.contents))
-        ⟦<Option<u32> as PartialEq>⟧.eq
-        (optional_equality ⟦<u32 as Form>⟧ (one_tag ⟦<IntegerTag as TagMarker>⟧.TAG ⟦<u32 as FormValue>⟧.value.contents) ⟦<u32 as PartialEq>⟧.eq (one_tag_equality ⟦<IntegerTag as TagMarker>⟧.TAG ⟦<u32 as FormValue>⟧.value.contents ⟦<u32 as FormValue>⟧.value.comparable ⟦<u32 as PartialEq>⟧.eq u32_contents_eq.contents_eq-law))
-        (member_equality ⟦<Option<AlgorithmIdentifier<'a>> as Form>⟧
-        (optional_starts ⟦<AlgorithmIdentifier<'a> as Form>⟧ (one_tag ⟦<SequenceTag as TagMarker>⟧.TAG ⟦<AlgorithmIdentifier<'a> as FormValue>⟧.value.contents))
-        ⟦<Option<AlgorithmIdentifier<'a>> as PartialEq>⟧.eq
-        (optional_equality ⟦<AlgorithmIdentifier<'a> as Form>⟧ (one_tag ⟦<SequenceTag as TagMarker>⟧.TAG ⟦<AlgorithmIdentifier<'a> as FormValue>⟧.value.contents) ⟦<AlgorithmIdentifier<'a> as PartialEq>⟧.eq (one_tag_equality ⟦<SequenceTag as TagMarker>⟧.TAG ⟦<AlgorithmIdentifier<'a> as FormValue>⟧.value.contents ⟦<AlgorithmIdentifier<'a> as FormValue>⟧.value.comparable ⟦<AlgorithmIdentifier<'a> as PartialEq>⟧.eq algorithm_identifier_contents_eq.contents_eq-law))
-        no_equality)))).equal v.fields.list w.fields.list };
+    ghost contents_eq = { ⟦<Pbkdf2Params<'a> as Member>⟧.member.equal };
 }
 
 impl<'a> CopyIsDuplicate for Pbkdf2Params<'a> {}

@@ -9,20 +9,19 @@ ghost use Rattle.der_elem.specs.FormatMakers.{mapped_format};
 ghost use Rattle.der_elem.specs.KnownTagLaws.{known_either, own_is_known};
 ghost use Rattle.der_elem.specs.TaggedLaws.{tlv_tagged};
 ghost use Rattle.der_modules.specs.Asn1.{parse_of};
-ghost use Rattle.der_modules.specs.MemberLaws.{copies_of, either_equality, either_tag, one_tag, one_tag_equality, same_copies, seen_equality};
-ghost use Rattle.der_opaque.specs.contracts.octet_string_ref.OctetStringRefContentsEq.TheImpl.Laws as octetstringref_contents_eq;
+ghost use Rattle.der_modules.specs.MemberLaws.{copies_of, same_copies};
+ghost use Rattle.der_modules.specs.Members.{seen_choice};
 ghost use Rattle.der_pkcs.specs.Encryption.Grammar.{pbkdf2_salt};
 ghost use Rattle.der_pkcs.specs.Encryption.Pbkdf2Salt.{tree_of};
 ghost use Rattle.der_pkcs.specs.contracts.encryption.pbkdf2_salt.Pbkdf2SaltEq.TheImpl.Laws as pbkdf2_salt_eq;
 ghost use Rattle.der_pkcs.specs.declared.encryption.pbkdf2_salt.Pbkdf2Salt.TheVariants as of;
-ghost use Rattle.der_pkix.specs.contracts.algorithm_identifier.AlgorithmIdentifierContentsEq.TheImpl.Laws as algorithm_identifier_contents_eq;
 
 use der_elem::{
     Choice, Decode, DecodeField, DerOrd, Duplicate, DuplicateIsEqual, EncodeValue, EncodingEq,
-    Form, FormValue, KnownTags, OctetStringTag, SequenceTag, TagMarker, Tagged,
+    Form, FormValue, KnownTags, Tagged,
 };
 use der_fields::{OneOf, cmp_headers};
-use der_modules::{CopyLaws, copy_of};
+use der_modules::{Choosing, CopyLaws, copy_of};
 use der_opaque::OctetStringRef;
 use der_pkix::AlgorithmIdentifier;
 use der_tlv::{BackWriter, Error, Length, Source, Tag, Writer};
@@ -98,19 +97,13 @@ impl<'a> Tagged for Pbkdf2Salt<'a> {
         }
     }
 
-    ghost encoding_is = { λ v. (either_tag ⟦<OctetStringRef<'a> as Form>⟧ ⟦<AlgorithmIdentifier<'a> as Form>⟧
-        (one_tag ⟦<OctetStringTag as TagMarker>⟧.TAG ⟦<OctetStringRef<'a> as FormValue>⟧.value.contents)
-        (one_tag ⟦<SequenceTag as TagMarker>⟧.TAG ⟦<AlgorithmIdentifier<'a> as FormValue>⟧.value.contents)).encoding_is (tree_of v) };
+    ghost encoding_is = { ⟦<Pbkdf2Salt<'a> as Choosing>⟧.choice.has_tag.encoding_is };
 
     ghost accepted_is_tlv = { λ rules v b. elim v as (λ k. ⟦<Tree<'a> as Form>⟧.accepts rules (tree_of k) b → IsTlv b) [ of.Specified x ↦ λ a. tlv_tagged _ ⟦<OctetStringRef<'a> as FormValue>⟧.value.accepts rules x b a.0 | of.OtherSource x ↦ λ a. tlv_tagged _ ⟦<AlgorithmIdentifier<'a> as FormValue>⟧.value.accepts rules x b a.0 ] };
 
-    ghost own_tag = { λ v. (either_tag ⟦<OctetStringRef<'a> as Form>⟧ ⟦<AlgorithmIdentifier<'a> as Form>⟧
-        (one_tag ⟦<OctetStringTag as TagMarker>⟧.TAG ⟦<OctetStringRef<'a> as FormValue>⟧.value.contents)
-        (one_tag ⟦<SequenceTag as TagMarker>⟧.TAG ⟦<AlgorithmIdentifier<'a> as FormValue>⟧.value.contents)).own_tag (tree_of v) };
+    ghost own_tag = { ⟦<Pbkdf2Salt<'a> as Choosing>⟧.choice.has_tag.own_tag };
 
-    ghost first_tag_is = { λ v. (either_tag ⟦<OctetStringRef<'a> as Form>⟧ ⟦<AlgorithmIdentifier<'a> as Form>⟧
-        (one_tag ⟦<OctetStringTag as TagMarker>⟧.TAG ⟦<OctetStringRef<'a> as FormValue>⟧.value.contents)
-        (one_tag ⟦<SequenceTag as TagMarker>⟧.TAG ⟦<AlgorithmIdentifier<'a> as FormValue>⟧.value.contents)).first_tag_is (tree_of v) };
+    ghost first_tag_is = { ⟦<Pbkdf2Salt<'a> as Choosing>⟧.choice.has_tag.first_tag_is };
 
     ghost re_reads_alike = { λ v. elim v as (λ k. ⟦<Tree<'a> as FormValue>⟧.value.re_reads (tree_of k) ≡ true → ⟦<Tree<'a> as Form>⟧.re_reads (tree_of k) ≡ true) [ of.Specified x ↦ λ h. h | of.OtherSource x ↦ λ h. h ] };
 
@@ -200,14 +193,16 @@ impl<'a> DerOrd for Pbkdf2Salt<'a> {
     }
 }
 
+impl<'a> Choosing for Pbkdf2Salt<'a> {
+    ghost choice = { seen_choice tree_of ⟦<Pbkdf2Salt<'a> as PartialEq>⟧.eq ⟦<Tree<'a> as Choosing>⟧.choice
+        (λ v w. elim v as (λ k. ⟦<Pbkdf2Salt<'a> as PartialEq>⟧.eq k w ≡ ⟦<Tree<'a> as Choosing>⟧.choice.eq (tree_of k) (tree_of w)) [
+          | of.Specified x ↦ elim w as (λ k. ⟦<Pbkdf2Salt<'a> as PartialEq>⟧.eq (of.Specified x) k ≡ ⟦<Tree<'a> as Choosing>⟧.choice.eq (tree_of (of.Specified x)) (tree_of k)) [ of.Specified y ↦ refl | of.OtherSource y ↦ refl ]
+          | of.OtherSource x ↦ elim w as (λ k. ⟦<Pbkdf2Salt<'a> as PartialEq>⟧.eq (of.OtherSource x) k ≡ ⟦<Tree<'a> as Choosing>⟧.choice.eq (tree_of (of.OtherSource x)) (tree_of k)) [ of.Specified y ↦ refl | of.OtherSource y ↦ refl ]
+        ]) };
+}
+
 impl<'a> EncodingEq for Pbkdf2Salt<'a> {
-    ghost encoding_eq = { seen_equality tree_of ⟦<Pbkdf2Salt<'a> as PartialEq>⟧.eq ⟦<Tree<'a> as PartialEq>⟧.eq (λ v w. elim v as (λ k. ⟦<Pbkdf2Salt<'a> as PartialEq>⟧.eq k w ≡ ⟦<Tree<'a> as PartialEq>⟧.eq (tree_of k) (tree_of w)) [ of.Specified x ↦ elim w as (λ k. ⟦<Pbkdf2Salt<'a> as PartialEq>⟧.eq (of.Specified x) k ≡ ⟦<Tree<'a> as PartialEq>⟧.eq (tree_of (of.Specified x)) (tree_of k)) [ of.Specified y ↦ refl | of.OtherSource y ↦ refl ] | of.OtherSource x ↦ elim w as (λ k. ⟦<Pbkdf2Salt<'a> as PartialEq>⟧.eq (of.OtherSource x) k ≡ ⟦<Tree<'a> as PartialEq>⟧.eq (tree_of (of.OtherSource x)) (tree_of k)) [ of.Specified y ↦ refl | of.OtherSource y ↦ refl ] ]) (either_equality ⟦<OctetStringRef<'a> as Form>⟧ ⟦<AlgorithmIdentifier<'a> as Form>⟧
-        (one_tag ⟦<OctetStringTag as TagMarker>⟧.TAG ⟦<OctetStringRef<'a> as FormValue>⟧.value.contents)
-        (one_tag ⟦<SequenceTag as TagMarker>⟧.TAG ⟦<AlgorithmIdentifier<'a> as FormValue>⟧.value.contents)
-        ⟦<OctetStringRef<'a> as PartialEq>⟧.eq ⟦<AlgorithmIdentifier<'a> as PartialEq>⟧.eq
-        (one_tag_equality ⟦<OctetStringTag as TagMarker>⟧.TAG ⟦<OctetStringRef<'a> as FormValue>⟧.value.contents ⟦<OctetStringRef<'a> as FormValue>⟧.value.comparable ⟦<OctetStringRef<'a> as PartialEq>⟧.eq octetstringref_contents_eq.contents_eq-law)
-        (one_tag_equality ⟦<SequenceTag as TagMarker>⟧.TAG ⟦<AlgorithmIdentifier<'a> as FormValue>⟧.value.contents ⟦<AlgorithmIdentifier<'a> as FormValue>⟧.value.comparable ⟦<AlgorithmIdentifier<'a> as PartialEq>⟧.eq algorithm_identifier_contents_eq.contents_eq-law)
-        ⟦<OneOf<OctetStringRef<'a>, AlgorithmIdentifier<'a>> as PartialEq>⟧.eq (λ v x. refl) (λ w y. refl) (λ v w. refl) (λ w v. refl)) };
+    ghost encoding_eq = { ⟦<Pbkdf2Salt<'a> as Choosing>⟧.choice.equal };
 }
 
 impl<'a> CopyLaws for Pbkdf2Salt<'a> {

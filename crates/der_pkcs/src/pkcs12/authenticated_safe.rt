@@ -2,18 +2,19 @@
 //!
 //! Made by tools/asn1 from pkcs12.asn1.
 
-ghost use Rattle.std.specs.Cmp.Lexicographic.{bytes_decides};
 ghost use Rattle.std.specs.Prelude.{◌≡◌, false, refl};
 ghost use Rattle.der_elem.specs.FormatMakers.{mapped_format};
 ghost use Rattle.der_modules.specs.Asn1.{parse_of};
+ghost use Rattle.der_modules.specs.Members.{seen_member};
 ghost use Rattle.der_pkcs.specs.Pkcs12.Grammar.{authenticated_safe};
 
 use crate::pkcs12::content_info::ContentInfo;
 use der_elem::{
     ContentsEq, CopyIsDuplicate, DecodeValue, EncodeValue, Form, FormValue, OneTag, Sequence,
-    SequenceTag, ValueOrd,
+    SequenceTag, TagMarker, ValueOrd,
 };
 use der_lists::ListRef;
+use der_modules::Member;
 use der_tlv::{BackWriter, Error, Header, Length, Source, Writer};
 use std::alloc::Global;
 use std::cmp::Ordering;
@@ -68,10 +69,8 @@ impl<'a, R: Source<'a>> DecodeValue<'a, R> for AuthenticatedSafe<'a> {
         reader: &mut R,
         header: Header,
     ) -> Result<AuthenticatedSafe<'a>, Error> {
-        match ListRef::<'a, ContentInfo<'a>>::decode_value(alloc, reader, header) {
-            Ok(items) => Ok(AuthenticatedSafe { items }),
-            Err(e) => Err(e),
-        }
+        let items = ListRef::<'a, ContentInfo<'a>>::decode_value(alloc, reader, header)?;
+        Ok(AuthenticatedSafe { items })
     }
 
     ghost takes_memory_is = { refl };
@@ -97,8 +96,12 @@ impl<'a> ValueOrd for AuthenticatedSafe<'a> {
     }
 }
 
+impl<'a> Member for AuthenticatedSafe<'a> {
+    ghost member = { seen_member ⟦<SequenceTag as TagMarker>⟧.TAG (λ v. v.items) ⟦<ListRef<'a, ContentInfo<'a>> as Member>⟧.member };
+}
+
 impl<'a> ContentsEq for AuthenticatedSafe<'a> {
-    ghost contents_eq = { λ v w. (λ one. bytes_decides v.items.octets.octets.now w.items.octets.octets.now) };
+    ghost contents_eq = { ⟦<AuthenticatedSafe<'a> as Member>⟧.member.equal };
 }
 
 impl<'a> CopyIsDuplicate for AuthenticatedSafe<'a> {}

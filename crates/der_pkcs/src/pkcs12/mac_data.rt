@@ -4,22 +4,19 @@
 
 ghost use Rattle.std.specs.Prelude.{◌∷◌, ◌≡◌, [], false, refl};
 ghost use Rattle.der_elem.specs.FormatMakers.{mapped_format};
-ghost use Rattle.der_elem.specs.contracts.integer.unsigned.U32ContentsEq.TheImpl.Laws as u32_contents_eq;
 ghost use Rattle.der_modules.specs.Asn1.{joined, optional, parse_of};
-ghost use Rattle.der_modules.specs.MemberLaws.{member_equality, no_equality, one_tag, one_tag_equality, optional_equality, optional_starts, tagged_starts};
-ghost use Rattle.der_opaque.specs.contracts.octet_string_ref.OctetStringRefContentsEq.TheImpl.Laws as octetstringref_contents_eq;
+ghost use Rattle.der_modules.specs.Members.{field, no_fields, optional_field, struct_member};
 ghost use Rattle.der_pkcs.specs.Pkcs12.Grammar.{mac_data};
 ghost use Rattle.der_pkcs.specs.Pkcs12.MacData as mac_data_fields;
-ghost use Rattle.der_pkcs.specs.contracts.pkcs12.digest_info.DigestInfoContentsEq.TheImpl.Laws as digest_info_contents_eq;
 ghost use Rattle.der_pkcs.specs.declared.pkcs12.mac_data.MacData.{MacData};
 
 use crate::pkcs12::digest_info::DigestInfo;
 use der_elem::{
-    ContentsEq, CopyIsDuplicate, DecodeValue, EncodeValue, Form, FormValue, IntegerTag,
-    OctetStringTag, OneTag, Sequence, SequenceTag, TagMarker, ValueOrd,
+    ContentsEq, CopyIsDuplicate, DecodeValue, EncodeValue, Form, FormValue, OneTag, Sequence,
+    SequenceTag, TagMarker, ValueOrd,
 };
-use der_fields::{DecodeFields, EncodeFields, End, Field, FieldList, Fields3, FieldsOrd};
-use der_modules::copy_of;
+use der_fields::{DecodeFields, EncodeFields, FieldList, Fields3, FieldsOrd};
+use der_modules::{Member, copy_of, field_list};
 use der_opaque::OctetStringRef;
 use der_tlv::{BackWriter, Error, Header, Length, Source, Writer};
 use std::alloc::Global;
@@ -60,12 +57,7 @@ impl<'a> MacData<'a> {
         ensures mac_salt { mac_data_fields.mac_salt result ≡ mac_salt.entry }
         ensures iterations { mac_data_fields.iterations result ≡ iterations }
     {
-        let first = iterations;
-        let rest = Field { first, rest: End };
-        let first = mac_salt;
-        let rest = Field { first, rest };
-        let first = copy_of(mac);
-        let list = Field { first, rest };
+        let list = field_list![copy_of(mac), mac_salt, iterations];
         let fields = Fields3 { list };
         MacData { fields }
     }
@@ -149,20 +141,16 @@ impl<'a> ValueOrd for MacData<'a> {
     }
 }
 
+impl<'a> Member for MacData<'a> {
+    ghost member = { struct_member ⟦<SequenceTag as TagMarker>⟧.TAG (λ v. v.fields.list)
+        (field ⟦<DigestInfo<'a> as Member>⟧.member
+        (field ⟦<OctetStringRef<'a> as Member>⟧.member
+        (optional_field ⟦<u32 as Member>⟧.member
+        no_fields))) };
+}
+
 impl<'a> ContentsEq for MacData<'a> {
-    ghost contents_eq = { λ v w. (member_equality ⟦<DigestInfo<'a> as Form>⟧
-        (tagged_starts ⟦<DigestInfo<'a> as Form>⟧ (one_tag ⟦<SequenceTag as TagMarker>⟧.TAG ⟦<DigestInfo<'a> as FormValue>⟧.value.contents))
-        ⟦<DigestInfo<'a> as PartialEq>⟧.eq
-        (one_tag_equality ⟦<SequenceTag as TagMarker>⟧.TAG ⟦<DigestInfo<'a> as FormValue>⟧.value.contents ⟦<DigestInfo<'a> as FormValue>⟧.value.comparable ⟦<DigestInfo<'a> as PartialEq>⟧.eq digest_info_contents_eq.contents_eq-law)
-        (member_equality ⟦<OctetStringRef<'a> as Form>⟧
-        (tagged_starts ⟦<OctetStringRef<'a> as Form>⟧ (one_tag ⟦<OctetStringTag as TagMarker>⟧.TAG ⟦<OctetStringRef<'a> as FormValue>⟧.value.contents))
-        ⟦<OctetStringRef<'a> as PartialEq>⟧.eq
-        (one_tag_equality ⟦<OctetStringTag as TagMarker>⟧.TAG ⟦<OctetStringRef<'a> as FormValue>⟧.value.contents ⟦<OctetStringRef<'a> as FormValue>⟧.value.comparable ⟦<OctetStringRef<'a> as PartialEq>⟧.eq octetstringref_contents_eq.contents_eq-law)
-        (member_equality ⟦<Option<u32> as Form>⟧
-        (optional_starts ⟦<u32 as Form>⟧ (one_tag ⟦<IntegerTag as TagMarker>⟧.TAG ⟦<u32 as FormValue>⟧.value.contents))
-        ⟦<Option<u32> as PartialEq>⟧.eq
-        (optional_equality ⟦<u32 as Form>⟧ (one_tag ⟦<IntegerTag as TagMarker>⟧.TAG ⟦<u32 as FormValue>⟧.value.contents) ⟦<u32 as PartialEq>⟧.eq (one_tag_equality ⟦<IntegerTag as TagMarker>⟧.TAG ⟦<u32 as FormValue>⟧.value.contents ⟦<u32 as FormValue>⟧.value.comparable ⟦<u32 as PartialEq>⟧.eq u32_contents_eq.contents_eq-law))
-        no_equality))).equal v.fields.list w.fields.list };
+    ghost contents_eq = { ⟦<MacData<'a> as Member>⟧.member.equal };
 }
 
 impl<'a> CopyIsDuplicate for MacData<'a> {}

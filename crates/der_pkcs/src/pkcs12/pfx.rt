@@ -4,24 +4,21 @@
 
 ghost use Rattle.std.specs.Prelude.{◌∷◌, ◌≡◌, [], false, refl};
 ghost use Rattle.der_elem.specs.FormatMakers.{mapped_format};
-ghost use Rattle.der_elem.specs.contracts.integer.unsigned.U8ContentsEq.TheImpl.Laws as u8_contents_eq;
 ghost use Rattle.der_modules.specs.Asn1.{joined, optional, parse_of};
-ghost use Rattle.der_modules.specs.MemberLaws.{member_equality, no_equality, one_tag, one_tag_equality, optional_equality, optional_starts, tagged_starts};
+ghost use Rattle.der_modules.specs.Members.{field, no_fields, optional_field, struct_member};
 ghost use Rattle.der_pkcs.specs.Pkcs12.Grammar.{pfx};
 ghost use Rattle.der_pkcs.specs.Pkcs12.Pfx as pfx_fields;
-ghost use Rattle.der_pkcs.specs.contracts.pkcs12.content_info.ContentInfoContentsEq.TheImpl.Laws as content_info_contents_eq;
-ghost use Rattle.der_pkcs.specs.contracts.pkcs12.mac_data.MacDataContentsEq.TheImpl.Laws as mac_data_contents_eq;
 ghost use Rattle.der_pkcs.specs.declared.pkcs12.pfx.Pfx.{Pfx};
 
 use crate::pkcs12::aliases::PfxVersion;
 use crate::pkcs12::content_info::ContentInfo;
 use crate::pkcs12::mac_data::MacData;
 use der_elem::{
-    ContentsEq, CopyIsDuplicate, DecodeValue, EncodeValue, Form, FormValue, IntegerTag, OneTag,
-    Sequence, SequenceTag, TagMarker, ValueOrd,
+    ContentsEq, CopyIsDuplicate, DecodeValue, EncodeValue, Form, FormValue, OneTag, Sequence,
+    SequenceTag, TagMarker, ValueOrd,
 };
-use der_fields::{DecodeFields, EncodeFields, End, Field, FieldList, Fields3, FieldsOrd};
-use der_modules::copy_of;
+use der_fields::{DecodeFields, EncodeFields, FieldList, Fields3, FieldsOrd};
+use der_modules::{Member, copy_of, field_list, if_present};
 use der_tlv::{BackWriter, Error, Header, Length, Source, Writer};
 use std::alloc::Global;
 use std::cmp::Ordering;
@@ -57,15 +54,11 @@ impl<'a> Pfx<'a> {
         ensures auth_safe { pfx_fields.auth_safe result ≡ auth_safe.now }
         ensures mac_data { pfx_fields.mac_data result ≡ option_copied mac_data.entry }
     {
-        let first = match mac_data {
-            Some(value) => Some(copy_of(value)),
-            None => None,
-        };
-        let rest = Field { first, rest: End };
-        let first = copy_of(auth_safe);
-        let rest = Field { first, rest };
-        let first = version;
-        let list = Field { first, rest };
+        let list = field_list![
+            version,
+            copy_of(auth_safe),
+            if_present!(value in mac_data => copy_of(value))
+        ];
         let fields = Fields3 { list };
         Pfx { fields }
     }
@@ -88,10 +81,7 @@ impl<'a> Pfx<'a> {
     pub fn mac_data(&self) -> Option<&MacData<'a>>
         ensures { option_copied result ≡ pfx_fields.mac_data self.now }
     {
-        match &self.fields.list.rest.rest.first {
-            Some(value) => Some(value),
-            None => None,
-        }
+        if_present!(value in &self.fields.list.rest.rest.first => value)
     }
 }
 
@@ -152,20 +142,16 @@ impl<'a> ValueOrd for Pfx<'a> {
     }
 }
 
+impl<'a> Member for Pfx<'a> {
+    ghost member = { struct_member ⟦<SequenceTag as TagMarker>⟧.TAG (λ v. v.fields.list)
+        (field ⟦<PfxVersion as Member>⟧.member
+        (field ⟦<ContentInfo<'a> as Member>⟧.member
+        (optional_field ⟦<MacData<'a> as Member>⟧.member
+        no_fields))) };
+}
+
 impl<'a> ContentsEq for Pfx<'a> {
-    ghost contents_eq = { λ v w. (member_equality ⟦<PfxVersion as Form>⟧
-        (tagged_starts ⟦<PfxVersion as Form>⟧ (one_tag ⟦<IntegerTag as TagMarker>⟧.TAG ⟦<u8 as FormValue>⟧.value.contents))
-        ⟦<PfxVersion as PartialEq>⟧.eq
-        (one_tag_equality ⟦<IntegerTag as TagMarker>⟧.TAG ⟦<u8 as FormValue>⟧.value.contents ⟦<u8 as FormValue>⟧.value.comparable ⟦<u8 as PartialEq>⟧.eq u8_contents_eq.contents_eq-law)
-        (member_equality ⟦<ContentInfo<'a> as Form>⟧
-        (tagged_starts ⟦<ContentInfo<'a> as Form>⟧ (one_tag ⟦<SequenceTag as TagMarker>⟧.TAG ⟦<ContentInfo<'a> as FormValue>⟧.value.contents))
-        ⟦<ContentInfo<'a> as PartialEq>⟧.eq
-        (one_tag_equality ⟦<SequenceTag as TagMarker>⟧.TAG ⟦<ContentInfo<'a> as FormValue>⟧.value.contents ⟦<ContentInfo<'a> as FormValue>⟧.value.comparable ⟦<ContentInfo<'a> as PartialEq>⟧.eq content_info_contents_eq.contents_eq-law)
-        (member_equality ⟦<Option<MacData<'a>> as Form>⟧
-        (optional_starts ⟦<MacData<'a> as Form>⟧ (one_tag ⟦<SequenceTag as TagMarker>⟧.TAG ⟦<MacData<'a> as FormValue>⟧.value.contents))
-        ⟦<Option<MacData<'a>> as PartialEq>⟧.eq
-        (optional_equality ⟦<MacData<'a> as Form>⟧ (one_tag ⟦<SequenceTag as TagMarker>⟧.TAG ⟦<MacData<'a> as FormValue>⟧.value.contents) ⟦<MacData<'a> as PartialEq>⟧.eq (one_tag_equality ⟦<SequenceTag as TagMarker>⟧.TAG ⟦<MacData<'a> as FormValue>⟧.value.contents ⟦<MacData<'a> as FormValue>⟧.value.comparable ⟦<MacData<'a> as PartialEq>⟧.eq mac_data_contents_eq.contents_eq-law))
-        no_equality))).equal v.fields.list w.fields.list };
+    ghost contents_eq = { ⟦<Pfx<'a> as Member>⟧.member.equal };
 }
 
 impl<'a> CopyIsDuplicate for Pfx<'a> {}

@@ -2,27 +2,20 @@
 //!
 //! Made by tools/asn1 from pkcs12.asn1.
 
-ghost use Rattle.std.proofs.Common.{lit<};
 ghost use Rattle.std.specs.Prelude.{◌∷◌, ◌≡◌, [], false, refl};
 ghost use Rattle.der_elem.specs.FormatMakers.{mapped_format};
 ghost use Rattle.der_modules.specs.Asn1.{context, explicit_encoding, joined, optional, parse_of};
-ghost use Rattle.der_modules.specs.MemberLaws.{member_equality, no_equality, one_tag, one_tag_equality, optional_equality, optional_starts, own_tags, tagged_starts};
-ghost use Rattle.der_opaque.specs.contracts.any_ref.AnyRefEncodingEq.TheImpl.Laws as anyref_encoding_eq;
-ghost use Rattle.der_opaque.specs.contracts.any_ref.AnyRefTagged.TheImpl.Laws as anyref_tagged;
-ghost use Rattle.der_opaque.specs.contracts.object_identifier_ref.ObjectIdentifierRefContentsEq.TheImpl.Laws as objectidentifierref_contents_eq;
+ghost use Rattle.der_modules.specs.Members.{field, no_fields, optional_field, struct_member};
 ghost use Rattle.der_pkcs.specs.Pkcs12.Grammar.{safe_bag};
 ghost use Rattle.der_pkcs.specs.Pkcs12.SafeBag as safe_bag_fields;
 ghost use Rattle.der_pkcs.specs.declared.pkcs12.safe_bag.SafeBag.{SafeBag};
-ghost use Rattle.der_pkix.specs.contracts.key.attributes.AttributesContentsEq.TheImpl.Laws as attributes_contents_eq;
 
 use der_elem::{
-    ContentsEq, CopyIsDuplicate, DecodeValue, EncodeValue, Form, FormValue, ObjectIdentifierTag,
-    OneTag, Sequence, SequenceTag, SetTag, TagMarker, Tagged, ValueOrd,
+    ContentsEq, CopyIsDuplicate, DecodeValue, EncodeValue, Form, FormValue, OneTag, Sequence,
+    SequenceTag, TagMarker, ValueOrd,
 };
-use der_fields::{
-    DecodeFields, EncodeFields, End, Explicit, ExplicitTag, Field, FieldList, Fields3, FieldsOrd,
-};
-use der_modules::copy_of;
+use der_fields::{DecodeFields, EncodeFields, Explicit, FieldList, Fields3, FieldsOrd};
+use der_modules::{Member, copy_of, field_list, if_present, tagged};
 use der_opaque::{AnyRef, ObjectIdentifierRef};
 use der_pkix::key::Attributes;
 use der_tlv::{BackWriter, Error, Header, Length, Source, Writer};
@@ -64,20 +57,11 @@ impl<'a> SafeBag<'a> {
         ensures bag_value { safe_bag_fields.bag_value result ≡ bag_value.entry }
         ensures bag_attributes { safe_bag_fields.bag_attributes result ≡ option_copied bag_attributes.entry }
     {
-        let first = match bag_attributes {
-            Some(value) => Some(copy_of(value)),
-            None => None,
-        };
-        let rest = Field { first, rest: End };
-        let first = Explicit {
-            fields: Field {
-                first: bag_value,
-                rest: End,
-            },
-        };
-        let rest = Field { first, rest };
-        let first = bag_id;
-        let list = Field { first, rest };
+        let list = field_list![
+            bag_id,
+            tagged!(Explicit, bag_value),
+            if_present!(value in bag_attributes => copy_of(value))
+        ];
         let fields = Fields3 { list };
         SafeBag { fields }
     }
@@ -100,10 +84,7 @@ impl<'a> SafeBag<'a> {
     pub fn bag_attributes(&self) -> Option<&Attributes<'a>>
         ensures { option_copied result ≡ safe_bag_fields.bag_attributes self.now }
     {
-        match &self.fields.list.rest.rest.first {
-            Some(value) => Some(value),
-            None => None,
-        }
+        if_present!(value in &self.fields.list.rest.rest.first => value)
     }
 }
 
@@ -164,24 +145,16 @@ impl<'a> ValueOrd for SafeBag<'a> {
     }
 }
 
+impl<'a> Member for SafeBag<'a> {
+    ghost member = { struct_member ⟦<SequenceTag as TagMarker>⟧.TAG (λ v. v.fields.list)
+        (field ⟦<ObjectIdentifierRef<'a, 39> as Member>⟧.member
+        (field ⟦<Explicit<AnyRef<'a>, 0> as Member>⟧.member
+        (optional_field ⟦<Attributes<'a> as Member>⟧.member
+        no_fields))) };
+}
+
 impl<'a> ContentsEq for SafeBag<'a> {
-    ghost contents_eq = { λ v w. (member_equality ⟦<ObjectIdentifierRef<'a, 39> as Form>⟧
-        (tagged_starts ⟦<ObjectIdentifierRef<'a, 39> as Form>⟧ (one_tag ⟦<ObjectIdentifierTag as TagMarker>⟧.TAG ⟦<ObjectIdentifierRef<'a, 39> as FormValue>⟧.value.contents))
-        ⟦<ObjectIdentifierRef<'a, 39> as PartialEq>⟧.eq
-        (one_tag_equality ⟦<ObjectIdentifierTag as TagMarker>⟧.TAG ⟦<ObjectIdentifierRef<'a, 39> as FormValue>⟧.value.contents ⟦<ObjectIdentifierRef<'a, 39> as FormValue>⟧.value.comparable ⟦<ObjectIdentifierRef<'a, 39> as PartialEq>⟧.eq (objectidentifierref_contents_eq.contents_eq-law 39 (record { fits = lit< tt })))
-        (member_equality ⟦<Explicit<AnyRef<'a>, 0> as Form>⟧
-        (tagged_starts ⟦<Explicit<AnyRef<'a>, 0> as Form>⟧ (one_tag ⟦<ExplicitTag<0> as TagMarker>⟧.TAG ⟦<Explicit<AnyRef<'a>, 0> as FormValue>⟧.value.contents))
-        ⟦<Explicit<AnyRef<'a>, 0> as PartialEq>⟧.eq
-        (one_tag_equality ⟦<ExplicitTag<0> as TagMarker>⟧.TAG ⟦<Explicit<AnyRef<'a>, 0> as FormValue>⟧.value.contents ⟦<Explicit<AnyRef<'a>, 0> as FormValue>⟧.value.comparable ⟦<Explicit<AnyRef<'a>, 0> as PartialEq>⟧.eq (λ v w. ((member_equality ⟦<AnyRef<'a> as Form>⟧
-        (tagged_starts ⟦<AnyRef<'a> as Form>⟧ (own_tags ⟦<AnyRef<'a> as Form>⟧.tags ⟦<AnyRef<'a> as Form>⟧.first_tag_of ⟦<AnyRef<'a> as Form>⟧.encoding ⟦<AnyRef<'a> as Tagged>⟧.tag_of ⟦<AnyRef<'a> as FormValue>⟧.value.contents anyref_tagged.encoding_is-law anyref_tagged.own_tag-law anyref_tagged.first_tag_is-law))
-        ⟦<AnyRef<'a> as PartialEq>⟧.eq
-        anyref_encoding_eq.encoding_eq-law
-        no_equality).equal v.fields w.fields)))
-        (member_equality ⟦<Option<Attributes<'a>> as Form>⟧
-        (optional_starts ⟦<Attributes<'a> as Form>⟧ (one_tag ⟦<SetTag as TagMarker>⟧.TAG ⟦<Attributes<'a> as FormValue>⟧.value.contents))
-        ⟦<Option<Attributes<'a>> as PartialEq>⟧.eq
-        (optional_equality ⟦<Attributes<'a> as Form>⟧ (one_tag ⟦<SetTag as TagMarker>⟧.TAG ⟦<Attributes<'a> as FormValue>⟧.value.contents) ⟦<Attributes<'a> as PartialEq>⟧.eq (one_tag_equality ⟦<SetTag as TagMarker>⟧.TAG ⟦<Attributes<'a> as FormValue>⟧.value.contents ⟦<Attributes<'a> as FormValue>⟧.value.comparable ⟦<Attributes<'a> as PartialEq>⟧.eq attributes_contents_eq.contents_eq-law))
-        no_equality))).equal v.fields.list w.fields.list };
+    ghost contents_eq = { ⟦<SafeBag<'a> as Member>⟧.member.equal };
 }
 
 impl<'a> CopyIsDuplicate for SafeBag<'a> {}

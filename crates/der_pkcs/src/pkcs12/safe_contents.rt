@@ -2,18 +2,19 @@
 //!
 //! Made by tools/asn1 from pkcs12.asn1.
 
-ghost use Rattle.std.specs.Cmp.Lexicographic.{bytes_decides};
 ghost use Rattle.std.specs.Prelude.{◌≡◌, false, refl};
 ghost use Rattle.der_elem.specs.FormatMakers.{mapped_format};
 ghost use Rattle.der_modules.specs.Asn1.{parse_of};
+ghost use Rattle.der_modules.specs.Members.{seen_member};
 ghost use Rattle.der_pkcs.specs.Pkcs12.Grammar.{safe_contents};
 
 use crate::pkcs12::safe_bag::SafeBag;
 use der_elem::{
     ContentsEq, CopyIsDuplicate, DecodeValue, EncodeValue, Form, FormValue, OneTag, Sequence,
-    SequenceTag, ValueOrd,
+    SequenceTag, TagMarker, ValueOrd,
 };
 use der_lists::ListRef;
+use der_modules::Member;
 use der_tlv::{BackWriter, Error, Header, Length, Source, Writer};
 use std::alloc::Global;
 use std::cmp::Ordering;
@@ -68,10 +69,8 @@ impl<'a, R: Source<'a>> DecodeValue<'a, R> for SafeContents<'a> {
         reader: &mut R,
         header: Header,
     ) -> Result<SafeContents<'a>, Error> {
-        match ListRef::<'a, SafeBag<'a>>::decode_value(alloc, reader, header) {
-            Ok(items) => Ok(SafeContents { items }),
-            Err(e) => Err(e),
-        }
+        let items = ListRef::<'a, SafeBag<'a>>::decode_value(alloc, reader, header)?;
+        Ok(SafeContents { items })
     }
 
     ghost takes_memory_is = { refl };
@@ -97,8 +96,12 @@ impl<'a> ValueOrd for SafeContents<'a> {
     }
 }
 
+impl<'a> Member for SafeContents<'a> {
+    ghost member = { seen_member ⟦<SequenceTag as TagMarker>⟧.TAG (λ v. v.items) ⟦<ListRef<'a, SafeBag<'a>> as Member>⟧.member };
+}
+
 impl<'a> ContentsEq for SafeContents<'a> {
-    ghost contents_eq = { λ v w. (λ one. bytes_decides v.items.octets.octets.now w.items.octets.octets.now) };
+    ghost contents_eq = { ⟦<SafeContents<'a> as Member>⟧.member.equal };
 }
 
 impl<'a> CopyIsDuplicate for SafeContents<'a> {}

@@ -2,25 +2,20 @@
 //!
 //! Made by tools/asn1 from pkcs12.asn1.
 
-ghost use Rattle.std.proofs.Common.{lit<};
 ghost use Rattle.std.specs.Prelude.{◌∷◌, ◌≡◌, [], false, refl};
 ghost use Rattle.der_elem.specs.FormatMakers.{mapped_format};
 ghost use Rattle.der_modules.specs.Asn1.{context, explicit_encoding, joined, parse_of};
-ghost use Rattle.der_modules.specs.MemberLaws.{member_equality, no_equality, one_tag, one_tag_equality, own_tags, tagged_starts};
-ghost use Rattle.der_opaque.specs.contracts.any_ref.AnyRefEncodingEq.TheImpl.Laws as anyref_encoding_eq;
-ghost use Rattle.der_opaque.specs.contracts.any_ref.AnyRefTagged.TheImpl.Laws as anyref_tagged;
-ghost use Rattle.der_opaque.specs.contracts.object_identifier_ref.ObjectIdentifierRefContentsEq.TheImpl.Laws as objectidentifierref_contents_eq;
+ghost use Rattle.der_modules.specs.Members.{field, no_fields, struct_member};
 ghost use Rattle.der_pkcs.specs.Pkcs12.Grammar.{secret_bag};
 ghost use Rattle.der_pkcs.specs.Pkcs12.SecretBag as secret_bag_fields;
 ghost use Rattle.der_pkcs.specs.declared.pkcs12.secret_bag.SecretBag.{SecretBag};
 
 use der_elem::{
-    ContentsEq, CopyIsDuplicate, DecodeValue, EncodeValue, Form, FormValue, ObjectIdentifierTag,
-    OneTag, Sequence, SequenceTag, TagMarker, Tagged, ValueOrd,
+    ContentsEq, CopyIsDuplicate, DecodeValue, EncodeValue, Form, FormValue, OneTag, Sequence,
+    SequenceTag, TagMarker, ValueOrd,
 };
-use der_fields::{
-    DecodeFields, EncodeFields, End, Explicit, ExplicitTag, Field, FieldList, Fields2, FieldsOrd,
-};
+use der_fields::{DecodeFields, EncodeFields, Explicit, FieldList, Fields2, FieldsOrd};
+use der_modules::{Member, field_list, tagged};
 use der_opaque::{AnyRef, ObjectIdentifierRef};
 use der_tlv::{BackWriter, Error, Header, Length, Source, Writer};
 use std::alloc::Global;
@@ -53,15 +48,7 @@ impl<'a> SecretBag<'a> {
         ensures secret_type_id { secret_bag_fields.secret_type_id result ≡ secret_type_id.entry }
         ensures secret_value { secret_bag_fields.secret_value result ≡ secret_value.entry }
     {
-        let first = Explicit {
-            fields: Field {
-                first: secret_value,
-                rest: End,
-            },
-        };
-        let rest = Field { first, rest: End };
-        let first = secret_type_id;
-        let list = Field { first, rest };
+        let list = field_list![secret_type_id, tagged!(Explicit, secret_value)];
         let fields = Fields2 { list };
         SecretBag { fields }
     }
@@ -141,20 +128,15 @@ impl<'a> ValueOrd for SecretBag<'a> {
     }
 }
 
+impl<'a> Member for SecretBag<'a> {
+    ghost member = { struct_member ⟦<SequenceTag as TagMarker>⟧.TAG (λ v. v.fields.list)
+        (field ⟦<ObjectIdentifierRef<'a, 39> as Member>⟧.member
+        (field ⟦<Explicit<AnyRef<'a>, 0> as Member>⟧.member
+        no_fields)) };
+}
+
 impl<'a> ContentsEq for SecretBag<'a> {
-    ghost contents_eq = { λ v w. (member_equality ⟦<ObjectIdentifierRef<'a, 39> as Form>⟧
-        (tagged_starts ⟦<ObjectIdentifierRef<'a, 39> as Form>⟧ (one_tag ⟦<ObjectIdentifierTag as TagMarker>⟧.TAG ⟦<ObjectIdentifierRef<'a, 39> as FormValue>⟧.value.contents))
-        ⟦<ObjectIdentifierRef<'a, 39> as PartialEq>⟧.eq
-        (one_tag_equality ⟦<ObjectIdentifierTag as TagMarker>⟧.TAG ⟦<ObjectIdentifierRef<'a, 39> as FormValue>⟧.value.contents ⟦<ObjectIdentifierRef<'a, 39> as FormValue>⟧.value.comparable ⟦<ObjectIdentifierRef<'a, 39> as PartialEq>⟧.eq (objectidentifierref_contents_eq.contents_eq-law 39 (record { fits = lit< tt })))
-        (member_equality ⟦<Explicit<AnyRef<'a>, 0> as Form>⟧
-        (tagged_starts ⟦<Explicit<AnyRef<'a>, 0> as Form>⟧ (one_tag ⟦<ExplicitTag<0> as TagMarker>⟧.TAG ⟦<Explicit<AnyRef<'a>, 0> as FormValue>⟧.value.contents))
-        ⟦<Explicit<AnyRef<'a>, 0> as PartialEq>⟧.eq
-        (one_tag_equality ⟦<ExplicitTag<0> as TagMarker>⟧.TAG ⟦<Explicit<AnyRef<'a>, 0> as FormValue>⟧.value.contents ⟦<Explicit<AnyRef<'a>, 0> as FormValue>⟧.value.comparable ⟦<Explicit<AnyRef<'a>, 0> as PartialEq>⟧.eq (λ v w. ((member_equality ⟦<AnyRef<'a> as Form>⟧
-        (tagged_starts ⟦<AnyRef<'a> as Form>⟧ (own_tags ⟦<AnyRef<'a> as Form>⟧.tags ⟦<AnyRef<'a> as Form>⟧.first_tag_of ⟦<AnyRef<'a> as Form>⟧.encoding ⟦<AnyRef<'a> as Tagged>⟧.tag_of ⟦<AnyRef<'a> as FormValue>⟧.value.contents anyref_tagged.encoding_is-law anyref_tagged.own_tag-law anyref_tagged.first_tag_is-law))
-        ⟦<AnyRef<'a> as PartialEq>⟧.eq
-        anyref_encoding_eq.encoding_eq-law
-        no_equality).equal v.fields w.fields)))
-        no_equality)).equal v.fields.list w.fields.list };
+    ghost contents_eq = { ⟦<SecretBag<'a> as Member>⟧.member.equal };
 }
 
 impl<'a> CopyIsDuplicate for SecretBag<'a> {}

@@ -3,24 +3,21 @@
 //! Made by tools/asn1 from request.asn1.
 
 ghost use Rattle.std.specs.Prelude.{◌∷◌, ◌≡◌, [], false, refl};
-ghost use Rattle.der_bits.specs.contracts.bit_string_ref.BitStringRefContentsEq.TheImpl.Laws as bitstringref_contents_eq;
 ghost use Rattle.der_elem.specs.FormatMakers.{mapped_format};
 ghost use Rattle.der_modules.specs.Asn1.{joined, parse_of};
-ghost use Rattle.der_modules.specs.MemberLaws.{member_equality, no_equality, one_tag, one_tag_equality, tagged_starts};
+ghost use Rattle.der_modules.specs.Members.{field, no_fields, struct_member};
 ghost use Rattle.der_pkcs.specs.Request.CertificationRequest as certification_request_fields;
 ghost use Rattle.der_pkcs.specs.Request.Grammar.{certification_request};
-ghost use Rattle.der_pkcs.specs.contracts.request.certification_request_info.CertificationRequestInfoContentsEq.TheImpl.Laws as certification_request_info_contents_eq;
 ghost use Rattle.der_pkcs.specs.declared.request.certification_request.CertificationRequest.{CertificationRequest};
-ghost use Rattle.der_pkix.specs.contracts.algorithm_identifier.AlgorithmIdentifierContentsEq.TheImpl.Laws as algorithm_identifier_contents_eq;
 
 use crate::request::certification_request_info::CertificationRequestInfo;
 use der_bits::BitStringRef;
 use der_elem::{
-    BitStringTag, ContentsEq, CopyIsDuplicate, DecodeValue, EncodeValue, Form, FormValue, OneTag,
-    Sequence, SequenceTag, TagMarker, ValueOrd,
+    ContentsEq, CopyIsDuplicate, DecodeValue, EncodeValue, Form, FormValue, OneTag, Sequence,
+    SequenceTag, TagMarker, ValueOrd,
 };
-use der_fields::{DecodeFields, EncodeFields, End, Field, FieldList, Fields3, FieldsOrd};
-use der_modules::copy_of;
+use der_fields::{DecodeFields, EncodeFields, FieldList, Fields3, FieldsOrd};
+use der_modules::{Member, copy_of, field_list};
 use der_pkix::AlgorithmIdentifier;
 use der_tlv::{BackWriter, Error, Header, Length, Source, Writer};
 use std::alloc::Global;
@@ -56,12 +53,11 @@ impl<'a> CertificationRequest<'a> {
         ensures signature_algorithm { certification_request_fields.signature_algorithm result ≡ signature_algorithm.now }
         ensures signature { certification_request_fields.signature result ≡ signature.entry }
     {
-        let first = signature;
-        let rest = Field { first, rest: End };
-        let first = copy_of(signature_algorithm);
-        let rest = Field { first, rest };
-        let first = copy_of(certification_request_info);
-        let list = Field { first, rest };
+        let list = field_list![
+            copy_of(certification_request_info),
+            copy_of(signature_algorithm),
+            signature
+        ];
         let fields = Fields3 { list };
         CertificationRequest { fields }
     }
@@ -152,20 +148,16 @@ impl<'a> ValueOrd for CertificationRequest<'a> {
     }
 }
 
+impl<'a> Member for CertificationRequest<'a> {
+    ghost member = { struct_member ⟦<SequenceTag as TagMarker>⟧.TAG (λ v. v.fields.list)
+        (field ⟦<CertificationRequestInfo<'a> as Member>⟧.member
+        (field ⟦<AlgorithmIdentifier<'a> as Member>⟧.member
+        (field ⟦<BitStringRef<'a> as Member>⟧.member
+        no_fields))) };
+}
+
 impl<'a> ContentsEq for CertificationRequest<'a> {
-    ghost contents_eq = { λ v w. (member_equality ⟦<CertificationRequestInfo<'a> as Form>⟧
-        (tagged_starts ⟦<CertificationRequestInfo<'a> as Form>⟧ (one_tag ⟦<SequenceTag as TagMarker>⟧.TAG ⟦<CertificationRequestInfo<'a> as FormValue>⟧.value.contents))
-        ⟦<CertificationRequestInfo<'a> as PartialEq>⟧.eq
-        (one_tag_equality ⟦<SequenceTag as TagMarker>⟧.TAG ⟦<CertificationRequestInfo<'a> as FormValue>⟧.value.contents ⟦<CertificationRequestInfo<'a> as FormValue>⟧.value.comparable ⟦<CertificationRequestInfo<'a> as PartialEq>⟧.eq certification_request_info_contents_eq.contents_eq-law)
-        (member_equality ⟦<AlgorithmIdentifier<'a> as Form>⟧
-        (tagged_starts ⟦<AlgorithmIdentifier<'a> as Form>⟧ (one_tag ⟦<SequenceTag as TagMarker>⟧.TAG ⟦<AlgorithmIdentifier<'a> as FormValue>⟧.value.contents))
-        ⟦<AlgorithmIdentifier<'a> as PartialEq>⟧.eq
-        (one_tag_equality ⟦<SequenceTag as TagMarker>⟧.TAG ⟦<AlgorithmIdentifier<'a> as FormValue>⟧.value.contents ⟦<AlgorithmIdentifier<'a> as FormValue>⟧.value.comparable ⟦<AlgorithmIdentifier<'a> as PartialEq>⟧.eq algorithm_identifier_contents_eq.contents_eq-law)
-        (member_equality ⟦<BitStringRef<'a> as Form>⟧
-        (tagged_starts ⟦<BitStringRef<'a> as Form>⟧ (one_tag ⟦<BitStringTag as TagMarker>⟧.TAG ⟦<BitStringRef<'a> as FormValue>⟧.value.contents))
-        ⟦<BitStringRef<'a> as PartialEq>⟧.eq
-        (one_tag_equality ⟦<BitStringTag as TagMarker>⟧.TAG ⟦<BitStringRef<'a> as FormValue>⟧.value.contents ⟦<BitStringRef<'a> as FormValue>⟧.value.comparable ⟦<BitStringRef<'a> as PartialEq>⟧.eq bitstringref_contents_eq.contents_eq-law)
-        no_equality))).equal v.fields.list w.fields.list };
+    ghost contents_eq = { ⟦<CertificationRequest<'a> as Member>⟧.member.equal };
 }
 
 impl<'a> CopyIsDuplicate for CertificationRequest<'a> {}

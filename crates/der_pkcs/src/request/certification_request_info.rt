@@ -4,28 +4,22 @@
 
 ghost use Rattle.std.specs.Prelude.{◌∷◌, ◌≡◌, [], false, refl, true};
 ghost use Rattle.der_elem.specs.FormatMakers.{mapped_format};
-ghost use Rattle.der_elem.specs.contracts.integer.unsigned.U8ContentsEq.TheImpl.Laws as u8_contents_eq;
 ghost use Rattle.der_modules.specs.Asn1.{context, implicit_encoding, joined, parse_of};
-ghost use Rattle.der_modules.specs.MemberLaws.{member_equality, no_equality, one_tag, one_tag_equality, tagged_starts};
+ghost use Rattle.der_modules.specs.Members.{field, no_fields, struct_member};
 ghost use Rattle.der_pkcs.specs.Request.CertificationRequestInfo as certification_request_info_fields;
 ghost use Rattle.der_pkcs.specs.Request.Grammar.{certification_request_info};
 ghost use Rattle.der_pkcs.specs.declared.request.certification_request_info.CertificationRequestInfo.{CertificationRequestInfo};
-ghost use Rattle.der_pkix.specs.contracts.certificate.subject_public_key_info.SubjectPublicKeyInfoContentsEq.TheImpl.Laws as subject_public_key_info_contents_eq;
-ghost use Rattle.der_pkix.specs.contracts.key.attributes.AttributesContentsEq.TheImpl.Laws as attributes_contents_eq;
-ghost use Rattle.der_pkix.specs.contracts.name.rdn_sequence.RdnSequenceContentsEq.TheImpl.Laws as rdn_sequence_contents_eq;
 
 use crate::request::aliases::CertificationRequestInfoVersion;
 use der_elem::{
-    ContentsEq, CopyIsDuplicate, DecodeValue, EncodeValue, Form, FormValue, IntegerTag, OneTag,
-    Sequence, SequenceTag, SetTag, TagMarker, ValueOrd,
+    ContentsEq, CopyIsDuplicate, DecodeValue, EncodeValue, Form, FormValue, OneTag, Sequence,
+    SequenceTag, TagMarker, ValueOrd,
 };
-use der_fields::{
-    DecodeFields, EncodeFields, End, Field, FieldList, Fields4, FieldsOrd, Implicit, ImplicitTag,
-};
-use der_modules::copy_of;
+use der_fields::{DecodeFields, EncodeFields, FieldList, Fields4, FieldsOrd, Implicit};
+use der_modules::{Member, copy_of, field_list};
 use der_pkix::certificate::SubjectPublicKeyInfo;
 use der_pkix::key::Attributes;
-use der_pkix::name::{Name, RdnSequence};
+use der_pkix::name::Name;
 use der_tlv::{BackWriter, Error, Header, Length, Source, Writer};
 use std::alloc::Global;
 use std::cmp::Ordering;
@@ -68,16 +62,14 @@ impl<'a> CertificationRequestInfo<'a> {
         ensures subject_pk_info { certification_request_info_fields.subject_pk_info result ≡ subject_pk_info.now }
         ensures attributes { certification_request_info_fields.attributes result ≡ attributes.now }
     {
-        let first = Implicit {
-            value: copy_of(attributes),
-        };
-        let rest = Field { first, rest: End };
-        let first = copy_of(subject_pk_info);
-        let rest = Field { first, rest };
-        let first = copy_of(subject);
-        let rest = Field { first, rest };
-        let first = version;
-        let list = Field { first, rest };
+        let list = field_list![
+            version,
+            copy_of(subject),
+            copy_of(subject_pk_info),
+            Implicit {
+                value: copy_of(attributes)
+            }
+        ];
         let fields = Fields4 { list };
         CertificationRequestInfo { fields }
     }
@@ -173,24 +165,17 @@ impl<'a> ValueOrd for CertificationRequestInfo<'a> {
     }
 }
 
+impl<'a> Member for CertificationRequestInfo<'a> {
+    ghost member = { struct_member ⟦<SequenceTag as TagMarker>⟧.TAG (λ v. v.fields.list)
+        (field ⟦<CertificationRequestInfoVersion as Member>⟧.member
+        (field ⟦<Name<'a> as Member>⟧.member
+        (field ⟦<SubjectPublicKeyInfo<'a> as Member>⟧.member
+        (field ⟦<Implicit<Attributes<'a>, 0> as Member>⟧.member
+        no_fields)))) };
+}
+
 impl<'a> ContentsEq for CertificationRequestInfo<'a> {
-    ghost contents_eq = { λ v w. (member_equality ⟦<CertificationRequestInfoVersion as Form>⟧
-        (tagged_starts ⟦<CertificationRequestInfoVersion as Form>⟧ (one_tag ⟦<IntegerTag as TagMarker>⟧.TAG ⟦<u8 as FormValue>⟧.value.contents))
-        ⟦<CertificationRequestInfoVersion as PartialEq>⟧.eq
-        (one_tag_equality ⟦<IntegerTag as TagMarker>⟧.TAG ⟦<u8 as FormValue>⟧.value.contents ⟦<u8 as FormValue>⟧.value.comparable ⟦<u8 as PartialEq>⟧.eq u8_contents_eq.contents_eq-law)
-        (member_equality ⟦<Name<'a> as Form>⟧
-        (tagged_starts ⟦<Name<'a> as Form>⟧ (one_tag ⟦<SequenceTag as TagMarker>⟧.TAG ⟦<RdnSequence<'a> as FormValue>⟧.value.contents))
-        ⟦<Name<'a> as PartialEq>⟧.eq
-        (one_tag_equality ⟦<SequenceTag as TagMarker>⟧.TAG ⟦<RdnSequence<'a> as FormValue>⟧.value.contents ⟦<RdnSequence<'a> as FormValue>⟧.value.comparable ⟦<RdnSequence<'a> as PartialEq>⟧.eq rdn_sequence_contents_eq.contents_eq-law)
-        (member_equality ⟦<SubjectPublicKeyInfo<'a> as Form>⟧
-        (tagged_starts ⟦<SubjectPublicKeyInfo<'a> as Form>⟧ (one_tag ⟦<SequenceTag as TagMarker>⟧.TAG ⟦<SubjectPublicKeyInfo<'a> as FormValue>⟧.value.contents))
-        ⟦<SubjectPublicKeyInfo<'a> as PartialEq>⟧.eq
-        (one_tag_equality ⟦<SequenceTag as TagMarker>⟧.TAG ⟦<SubjectPublicKeyInfo<'a> as FormValue>⟧.value.contents ⟦<SubjectPublicKeyInfo<'a> as FormValue>⟧.value.comparable ⟦<SubjectPublicKeyInfo<'a> as PartialEq>⟧.eq subject_public_key_info_contents_eq.contents_eq-law)
-        (member_equality ⟦<Implicit<Attributes<'a>, 0> as Form>⟧
-        (tagged_starts ⟦<Implicit<Attributes<'a>, 0> as Form>⟧ (one_tag ⟦<ImplicitTag<SetTag, 0> as TagMarker>⟧.TAG ⟦<Implicit<Attributes<'a>, 0> as FormValue>⟧.value.contents))
-        ⟦<Implicit<Attributes<'a>, 0> as PartialEq>⟧.eq
-        (one_tag_equality ⟦<ImplicitTag<SetTag, 0> as TagMarker>⟧.TAG ⟦<Implicit<Attributes<'a>, 0> as FormValue>⟧.value.contents ⟦<Implicit<Attributes<'a>, 0> as FormValue>⟧.value.comparable ⟦<Implicit<Attributes<'a>, 0> as PartialEq>⟧.eq (λ v w. (attributes_contents_eq.contents_eq-law v.value w.value)))
-        no_equality)))).equal v.fields.list w.fields.list };
+    ghost contents_eq = { ⟦<CertificationRequestInfo<'a> as Member>⟧.member.equal };
 }
 
 impl<'a> CopyIsDuplicate for CertificationRequestInfo<'a> {}

@@ -3,25 +3,22 @@
 //! Made by tools/asn1 from certificate.asn1.
 
 ghost use Rattle.std.specs.Prelude.{◌∷◌, ◌≡◌, [], false, refl};
-ghost use Rattle.der_bits.specs.contracts.bit_string_ref.BitStringRefContentsEq.TheImpl.Laws as bitstringref_contents_eq;
 ghost use Rattle.der_elem.specs.FormatMakers.{mapped_format};
 ghost use Rattle.der_modules.specs.Asn1.{joined, parse_of};
-ghost use Rattle.der_modules.specs.MemberLaws.{member_equality, no_equality, one_tag, one_tag_equality, tagged_starts};
+ghost use Rattle.der_modules.specs.Members.{field, no_fields, struct_member};
 ghost use Rattle.der_pkix.specs.Certificate.Certificate as certificate_fields;
 ghost use Rattle.der_pkix.specs.Certificate.Grammar.{certificate};
-ghost use Rattle.der_pkix.specs.contracts.algorithm_identifier.AlgorithmIdentifierContentsEq.TheImpl.Laws as algorithm_identifier_contents_eq;
-ghost use Rattle.der_pkix.specs.contracts.certificate.tbs_certificate.TbsCertificateContentsEq.TheImpl.Laws as tbs_certificate_contents_eq;
 ghost use Rattle.der_pkix.specs.declared.certificate.certificate.Certificate.{Certificate};
 
 use crate::AlgorithmIdentifier;
 use crate::certificate::tbs_certificate::TbsCertificate;
 use der_bits::BitStringRef;
 use der_elem::{
-    BitStringTag, ContentsEq, CopyIsDuplicate, DecodeValue, EncodeValue, Form, FormValue, OneTag,
-    Sequence, SequenceTag, TagMarker, ValueOrd,
+    ContentsEq, CopyIsDuplicate, DecodeValue, EncodeValue, Form, FormValue, OneTag, Sequence,
+    SequenceTag, TagMarker, ValueOrd,
 };
-use der_fields::{DecodeFields, EncodeFields, End, Field, FieldList, Fields3, FieldsOrd};
-use der_modules::copy_of;
+use der_fields::{DecodeFields, EncodeFields, FieldList, Fields3, FieldsOrd};
+use der_modules::{Member, copy_of, field_list};
 use der_tlv::{BackWriter, Error, Header, Length, Source, Writer};
 use std::alloc::Global;
 use std::cmp::Ordering;
@@ -56,12 +53,11 @@ impl<'a> Certificate<'a> {
         ensures signature_algorithm { certificate_fields.signature_algorithm result ≡ signature_algorithm.now }
         ensures signature_value { certificate_fields.signature_value result ≡ signature_value.entry }
     {
-        let first = signature_value;
-        let rest = Field { first, rest: End };
-        let first = copy_of(signature_algorithm);
-        let rest = Field { first, rest };
-        let first = copy_of(tbs_certificate);
-        let list = Field { first, rest };
+        let list = field_list![
+            copy_of(tbs_certificate),
+            copy_of(signature_algorithm),
+            signature_value
+        ];
         let fields = Fields3 { list };
         Certificate { fields }
     }
@@ -149,20 +145,16 @@ impl<'a> ValueOrd for Certificate<'a> {
     }
 }
 
+impl<'a> Member for Certificate<'a> {
+    ghost member = { struct_member ⟦<SequenceTag as TagMarker>⟧.TAG (λ v. v.fields.list)
+        (field ⟦<TbsCertificate<'a> as Member>⟧.member
+        (field ⟦<AlgorithmIdentifier<'a> as Member>⟧.member
+        (field ⟦<BitStringRef<'a> as Member>⟧.member
+        no_fields))) };
+}
+
 impl<'a> ContentsEq for Certificate<'a> {
-    ghost contents_eq = { λ v w. (member_equality ⟦<TbsCertificate<'a> as Form>⟧
-        (tagged_starts ⟦<TbsCertificate<'a> as Form>⟧ (one_tag ⟦<SequenceTag as TagMarker>⟧.TAG ⟦<TbsCertificate<'a> as FormValue>⟧.value.contents))
-        ⟦<TbsCertificate<'a> as PartialEq>⟧.eq
-        (one_tag_equality ⟦<SequenceTag as TagMarker>⟧.TAG ⟦<TbsCertificate<'a> as FormValue>⟧.value.contents ⟦<TbsCertificate<'a> as FormValue>⟧.value.comparable ⟦<TbsCertificate<'a> as PartialEq>⟧.eq tbs_certificate_contents_eq.contents_eq-law)
-        (member_equality ⟦<AlgorithmIdentifier<'a> as Form>⟧
-        (tagged_starts ⟦<AlgorithmIdentifier<'a> as Form>⟧ (one_tag ⟦<SequenceTag as TagMarker>⟧.TAG ⟦<AlgorithmIdentifier<'a> as FormValue>⟧.value.contents))
-        ⟦<AlgorithmIdentifier<'a> as PartialEq>⟧.eq
-        (one_tag_equality ⟦<SequenceTag as TagMarker>⟧.TAG ⟦<AlgorithmIdentifier<'a> as FormValue>⟧.value.contents ⟦<AlgorithmIdentifier<'a> as FormValue>⟧.value.comparable ⟦<AlgorithmIdentifier<'a> as PartialEq>⟧.eq algorithm_identifier_contents_eq.contents_eq-law)
-        (member_equality ⟦<BitStringRef<'a> as Form>⟧
-        (tagged_starts ⟦<BitStringRef<'a> as Form>⟧ (one_tag ⟦<BitStringTag as TagMarker>⟧.TAG ⟦<BitStringRef<'a> as FormValue>⟧.value.contents))
-        ⟦<BitStringRef<'a> as PartialEq>⟧.eq
-        (one_tag_equality ⟦<BitStringTag as TagMarker>⟧.TAG ⟦<BitStringRef<'a> as FormValue>⟧.value.contents ⟦<BitStringRef<'a> as FormValue>⟧.value.comparable ⟦<BitStringRef<'a> as PartialEq>⟧.eq bitstringref_contents_eq.contents_eq-law)
-        no_equality))).equal v.fields.list w.fields.list };
+    ghost contents_eq = { ⟦<Certificate<'a> as Member>⟧.member.equal };
 }
 
 impl<'a> CopyIsDuplicate for Certificate<'a> {}

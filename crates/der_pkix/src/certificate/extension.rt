@@ -2,26 +2,22 @@
 //!
 //! Made by tools/asn1 from certificate.asn1.
 
-ghost use Rattle.std.proofs.Common.{lit<};
 ghost use Rattle.std.specs.Prelude.{◌∷◌, ◌≡◌, [], false, refl};
 ghost use Rattle.der_elem.specs.FormatMakers.{mapped_format};
-ghost use Rattle.der_elem.specs.contracts.boolean.BoolContentsEq.TheImpl.Laws as bool_contents_eq;
 ghost use Rattle.der_modules.specs.Asn1.{joined, parse_of, unless_default};
-ghost use Rattle.der_modules.specs.MemberLaws.{default_equality, default_starts, member_equality, no_equality, one_tag, one_tag_equality, tagged_starts};
-ghost use Rattle.der_opaque.specs.contracts.object_identifier_ref.ObjectIdentifierRefContentsEq.TheImpl.Laws as objectidentifierref_contents_eq;
-ghost use Rattle.der_opaque.specs.contracts.octet_string_ref.OctetStringRefContentsEq.TheImpl.Laws as octetstringref_contents_eq;
+ghost use Rattle.der_modules.specs.Members.{default_field, field, no_fields, struct_member};
 ghost use Rattle.der_pkix.specs.Certificate.Extension as extension_fields;
 ghost use Rattle.der_pkix.specs.Certificate.Grammar.{extension};
 ghost use Rattle.der_pkix.specs.declared.certificate.extension.Extension.{Extension};
 
 use der_elem::{
-    BooleanTag, ContentsEq, CopyIsDuplicate, DecodeValue, EncodeValue, Form, FormValue,
-    ObjectIdentifierTag, OctetStringTag, OneTag, Sequence, SequenceTag, TagMarker, ValueOrd,
+    ContentsEq, CopyIsDuplicate, DecodeValue, EncodeValue, Form, FormValue, OneTag, Sequence,
+    SequenceTag, TagMarker, ValueOrd,
 };
 use der_fields::{
-    DecodeFields, DefaultFalse, DefaultOf, EncodeFields, End, Field, FieldList, Fields3, FieldsOrd,
-    WithDefault,
+    DecodeFields, DefaultFalse, DefaultOf, EncodeFields, FieldList, Fields3, FieldsOrd, WithDefault,
 };
+use der_modules::{Member, field_list};
 use der_opaque::{ObjectIdentifierRef, OctetStringRef};
 use der_tlv::{BackWriter, Error, Header, Length, Source, Writer};
 use std::alloc::Global;
@@ -61,12 +57,7 @@ impl<'a> Extension<'a> {
         ensures critical { extension_fields.critical result ≡ critical }
         ensures extn_value { extension_fields.extn_value result ≡ extn_value.entry }
     {
-        let first = extn_value;
-        let rest = Field { first, rest: End };
-        let first = WithDefault::new(critical);
-        let rest = Field { first, rest };
-        let first = extn_id;
-        let list = Field { first, rest };
+        let list = field_list![extn_id, WithDefault::new(critical), extn_value];
         let fields = Fields3 { list };
         Extension { fields }
     }
@@ -154,20 +145,16 @@ impl<'a> ValueOrd for Extension<'a> {
     }
 }
 
+impl<'a> Member for Extension<'a> {
+    ghost member = { struct_member ⟦<SequenceTag as TagMarker>⟧.TAG (λ v. v.fields.list)
+        (field ⟦<ObjectIdentifierRef<'a, 39> as Member>⟧.member
+        (default_field ⟦<DefaultFalse as DefaultOf<bool>>⟧.octets ⟦<bool as Member>⟧.member
+        (field ⟦<OctetStringRef<'a> as Member>⟧.member
+        no_fields))) };
+}
+
 impl<'a> ContentsEq for Extension<'a> {
-    ghost contents_eq = { λ v w. (member_equality ⟦<ObjectIdentifierRef<'a, 39> as Form>⟧
-        (tagged_starts ⟦<ObjectIdentifierRef<'a, 39> as Form>⟧ (one_tag ⟦<ObjectIdentifierTag as TagMarker>⟧.TAG ⟦<ObjectIdentifierRef<'a, 39> as FormValue>⟧.value.contents))
-        ⟦<ObjectIdentifierRef<'a, 39> as PartialEq>⟧.eq
-        (one_tag_equality ⟦<ObjectIdentifierTag as TagMarker>⟧.TAG ⟦<ObjectIdentifierRef<'a, 39> as FormValue>⟧.value.contents ⟦<ObjectIdentifierRef<'a, 39> as FormValue>⟧.value.comparable ⟦<ObjectIdentifierRef<'a, 39> as PartialEq>⟧.eq (objectidentifierref_contents_eq.contents_eq-law 39 (record { fits = lit< tt })))
-        (member_equality ⟦<WithDefault<bool, DefaultFalse> as Form>⟧
-        (default_starts ⟦<bool as Form>⟧ (one_tag ⟦<BooleanTag as TagMarker>⟧.TAG ⟦<bool as FormValue>⟧.value.contents) (λ x. x.value) ⟦<DefaultFalse as DefaultOf<bool>>⟧.octets)
-        ⟦<WithDefault<bool, DefaultFalse> as PartialEq>⟧.eq
-        (default_equality ⟦<bool as Form>⟧ (one_tag ⟦<BooleanTag as TagMarker>⟧.TAG ⟦<bool as FormValue>⟧.value.contents) (λ x. x.value) ⟦<DefaultFalse as DefaultOf<bool>>⟧.octets ⟦<bool as PartialEq>⟧.eq (one_tag_equality ⟦<BooleanTag as TagMarker>⟧.TAG ⟦<bool as FormValue>⟧.value.contents ⟦<bool as FormValue>⟧.value.comparable ⟦<bool as PartialEq>⟧.eq bool_contents_eq.contents_eq-law))
-        (member_equality ⟦<OctetStringRef<'a> as Form>⟧
-        (tagged_starts ⟦<OctetStringRef<'a> as Form>⟧ (one_tag ⟦<OctetStringTag as TagMarker>⟧.TAG ⟦<OctetStringRef<'a> as FormValue>⟧.value.contents))
-        ⟦<OctetStringRef<'a> as PartialEq>⟧.eq
-        (one_tag_equality ⟦<OctetStringTag as TagMarker>⟧.TAG ⟦<OctetStringRef<'a> as FormValue>⟧.value.contents ⟦<OctetStringRef<'a> as FormValue>⟧.value.comparable ⟦<OctetStringRef<'a> as PartialEq>⟧.eq octetstringref_contents_eq.contents_eq-law)
-        no_equality))).equal v.fields.list w.fields.list };
+    ghost contents_eq = { ⟦<Extension<'a> as Member>⟧.member.equal };
 }
 
 impl<'a> CopyIsDuplicate for Extension<'a> {}

@@ -2,19 +2,20 @@
 //!
 //! Made by tools/asn1 from certificate.asn1.
 
-ghost use Rattle.std.specs.Cmp.Lexicographic.{bytes_decides};
 ghost use Rattle.std.specs.Prelude.{◌≡◌, false, refl};
 ghost use Rattle.der_elem.specs.FormatMakers.{mapped_format};
 ghost use Rattle.der_lists.specs.NonEmptyRef.{list_of};
 ghost use Rattle.der_modules.specs.Asn1.{parse_of};
+ghost use Rattle.der_modules.specs.Members.{seen_member};
 ghost use Rattle.der_pkix.specs.Certificate.Grammar.{extensions};
 
 use crate::certificate::extension::Extension;
 use der_elem::{
     ContentsEq, CopyIsDuplicate, DecodeValue, EncodeValue, Form, FormValue, OneTag, Sequence,
-    SequenceTag, ValueOrd,
+    SequenceTag, TagMarker, ValueOrd,
 };
 use der_lists::{ListRef, NonEmptyRef};
+use der_modules::Member;
 use der_tlv::{BackWriter, Error, Header, Length, Source, Writer};
 use std::alloc::Global;
 use std::cmp::Ordering;
@@ -69,10 +70,8 @@ impl<'a, R: Source<'a>> DecodeValue<'a, R> for Extensions<'a> {
         reader: &mut R,
         header: Header,
     ) -> Result<Extensions<'a>, Error> {
-        match NonEmptyRef::<ListRef<'a, Extension<'a>>>::decode_value(alloc, reader, header) {
-            Ok(items) => Ok(Extensions { items }),
-            Err(e) => Err(e),
-        }
+        let items = NonEmptyRef::<ListRef<'a, Extension<'a>>>::decode_value(alloc, reader, header)?;
+        Ok(Extensions { items })
     }
 
     ghost takes_memory_is = { refl };
@@ -98,8 +97,12 @@ impl<'a> ValueOrd for Extensions<'a> {
     }
 }
 
+impl<'a> Member for Extensions<'a> {
+    ghost member = { seen_member ⟦<SequenceTag as TagMarker>⟧.TAG (λ v. v.items) ⟦<NonEmptyRef<ListRef<'a, Extension<'a>>> as Member>⟧.member };
+}
+
 impl<'a> ContentsEq for Extensions<'a> {
-    ghost contents_eq = { λ v w. (λ one. bytes_decides v.items.list.octets.octets.now w.items.list.octets.octets.now) };
+    ghost contents_eq = { ⟦<Extensions<'a> as Member>⟧.member.equal };
 }
 
 impl<'a> CopyIsDuplicate for Extensions<'a> {}

@@ -3,23 +3,21 @@
 //! Made by tools/asn1 from certificate.asn1.
 
 ghost use Rattle.std.specs.Prelude.{◌∷◌, ◌≡◌, [], false, refl};
-ghost use Rattle.der_bits.specs.contracts.bit_string_ref.BitStringRefContentsEq.TheImpl.Laws as bitstringref_contents_eq;
 ghost use Rattle.der_elem.specs.FormatMakers.{mapped_format};
 ghost use Rattle.der_modules.specs.Asn1.{joined, parse_of};
-ghost use Rattle.der_modules.specs.MemberLaws.{member_equality, no_equality, one_tag, one_tag_equality, tagged_starts};
+ghost use Rattle.der_modules.specs.Members.{field, no_fields, struct_member};
 ghost use Rattle.der_pkix.specs.Certificate.Grammar.{subject_public_key_info};
 ghost use Rattle.der_pkix.specs.Certificate.SubjectPublicKeyInfo as subject_public_key_info_fields;
-ghost use Rattle.der_pkix.specs.contracts.algorithm_identifier.AlgorithmIdentifierContentsEq.TheImpl.Laws as algorithm_identifier_contents_eq;
 ghost use Rattle.der_pkix.specs.declared.certificate.subject_public_key_info.SubjectPublicKeyInfo.{SubjectPublicKeyInfo};
 
 use crate::AlgorithmIdentifier;
 use der_bits::BitStringRef;
 use der_elem::{
-    BitStringTag, ContentsEq, CopyIsDuplicate, DecodeValue, EncodeValue, Form, FormValue, OneTag,
-    Sequence, SequenceTag, TagMarker, ValueOrd,
+    ContentsEq, CopyIsDuplicate, DecodeValue, EncodeValue, Form, FormValue, OneTag, Sequence,
+    SequenceTag, TagMarker, ValueOrd,
 };
-use der_fields::{DecodeFields, EncodeFields, End, Field, FieldList, Fields2, FieldsOrd};
-use der_modules::copy_of;
+use der_fields::{DecodeFields, EncodeFields, FieldList, Fields2, FieldsOrd};
+use der_modules::{Member, copy_of, field_list};
 use der_tlv::{BackWriter, Error, Header, Length, Source, Writer};
 use std::alloc::Global;
 use std::cmp::Ordering;
@@ -51,10 +49,7 @@ impl<'a> SubjectPublicKeyInfo<'a> {
         ensures algorithm { subject_public_key_info_fields.algorithm result ≡ algorithm.now }
         ensures subject_public_key { subject_public_key_info_fields.subject_public_key result ≡ subject_public_key.entry }
     {
-        let first = subject_public_key;
-        let rest = Field { first, rest: End };
-        let first = copy_of(algorithm);
-        let list = Field { first, rest };
+        let list = field_list![copy_of(algorithm), subject_public_key];
         let fields = Fields2 { list };
         SubjectPublicKeyInfo { fields }
     }
@@ -134,16 +129,15 @@ impl<'a> ValueOrd for SubjectPublicKeyInfo<'a> {
     }
 }
 
+impl<'a> Member for SubjectPublicKeyInfo<'a> {
+    ghost member = { struct_member ⟦<SequenceTag as TagMarker>⟧.TAG (λ v. v.fields.list)
+        (field ⟦<AlgorithmIdentifier<'a> as Member>⟧.member
+        (field ⟦<BitStringRef<'a> as Member>⟧.member
+        no_fields)) };
+}
+
 impl<'a> ContentsEq for SubjectPublicKeyInfo<'a> {
-    ghost contents_eq = { λ v w. (member_equality ⟦<AlgorithmIdentifier<'a> as Form>⟧
-        (tagged_starts ⟦<AlgorithmIdentifier<'a> as Form>⟧ (one_tag ⟦<SequenceTag as TagMarker>⟧.TAG ⟦<AlgorithmIdentifier<'a> as FormValue>⟧.value.contents))
-        ⟦<AlgorithmIdentifier<'a> as PartialEq>⟧.eq
-        (one_tag_equality ⟦<SequenceTag as TagMarker>⟧.TAG ⟦<AlgorithmIdentifier<'a> as FormValue>⟧.value.contents ⟦<AlgorithmIdentifier<'a> as FormValue>⟧.value.comparable ⟦<AlgorithmIdentifier<'a> as PartialEq>⟧.eq algorithm_identifier_contents_eq.contents_eq-law)
-        (member_equality ⟦<BitStringRef<'a> as Form>⟧
-        (tagged_starts ⟦<BitStringRef<'a> as Form>⟧ (one_tag ⟦<BitStringTag as TagMarker>⟧.TAG ⟦<BitStringRef<'a> as FormValue>⟧.value.contents))
-        ⟦<BitStringRef<'a> as PartialEq>⟧.eq
-        (one_tag_equality ⟦<BitStringTag as TagMarker>⟧.TAG ⟦<BitStringRef<'a> as FormValue>⟧.value.contents ⟦<BitStringRef<'a> as FormValue>⟧.value.comparable ⟦<BitStringRef<'a> as PartialEq>⟧.eq bitstringref_contents_eq.contents_eq-law)
-        no_equality)).equal v.fields.list w.fields.list };
+    ghost contents_eq = { ⟦<SubjectPublicKeyInfo<'a> as Member>⟧.member.equal };
 }
 
 impl<'a> CopyIsDuplicate for SubjectPublicKeyInfo<'a> {}

@@ -3,19 +3,11 @@
 //! Made by tools/asn1 from certificate.asn1.
 
 ghost use Rattle.std.specs.Prelude.{◌∷◌, ◌≡◌, [], false, refl};
-ghost use Rattle.der_bits.specs.contracts.bit_string_ref.BitStringRefContentsEq.TheImpl.Laws as bitstringref_contents_eq;
 ghost use Rattle.der_elem.specs.FormatMakers.{mapped_format};
-ghost use Rattle.der_elem.specs.contracts.integer.unsigned.U8ContentsEq.TheImpl.Laws as u8_contents_eq;
 ghost use Rattle.der_modules.specs.Asn1.{context, explicit_encoding, implicit_encoding, joined, optional, parse_of, unless_default};
-ghost use Rattle.der_modules.specs.MemberLaws.{default_equality, default_starts, member_equality, no_equality, one_tag, one_tag_equality, optional_equality, optional_starts, part_equality, tagged_starts};
-ghost use Rattle.der_numbers.specs.contracts.int_ref.IntRefContentsEq.TheImpl.Laws as intref_contents_eq;
+ghost use Rattle.der_modules.specs.Members.{default_field, field, no_fields, optional_field, part, struct_member};
 ghost use Rattle.der_pkix.specs.Certificate.Grammar.{tbs_certificate};
 ghost use Rattle.der_pkix.specs.Certificate.TbsCertificate as tbs_certificate_fields;
-ghost use Rattle.der_pkix.specs.contracts.algorithm_identifier.AlgorithmIdentifierContentsEq.TheImpl.Laws as algorithm_identifier_contents_eq;
-ghost use Rattle.der_pkix.specs.contracts.certificate.extensions.ExtensionsContentsEq.TheImpl.Laws as extensions_contents_eq;
-ghost use Rattle.der_pkix.specs.contracts.certificate.subject_public_key_info.SubjectPublicKeyInfoContentsEq.TheImpl.Laws as subject_public_key_info_contents_eq;
-ghost use Rattle.der_pkix.specs.contracts.certificate.validity.ValidityContentsEq.TheImpl.Laws as validity_contents_eq;
-ghost use Rattle.der_pkix.specs.contracts.name.rdn_sequence.RdnSequenceContentsEq.TheImpl.Laws as rdn_sequence_contents_eq;
 ghost use Rattle.der_pkix.specs.declared.certificate.tbs_certificate.TbsCertificate.{TbsCertificate};
 
 use crate::AlgorithmIdentifier;
@@ -23,17 +15,16 @@ use crate::certificate::aliases::{CertificateSerialNumber, UniqueIdentifier, Ver
 use crate::certificate::extensions::Extensions;
 use crate::certificate::subject_public_key_info::SubjectPublicKeyInfo;
 use crate::certificate::validity::Validity;
-use crate::name::{Name, RdnSequence};
+use crate::name::Name;
 use der_elem::{
-    BitStringTag, ContentsEq, CopyIsDuplicate, DecodeValue, EncodeValue, Form, FormValue,
-    IntegerTag, OneTag, Sequence, SequenceTag, TagMarker, ValueOrd,
+    ContentsEq, CopyIsDuplicate, DecodeValue, EncodeValue, Form, FormValue, OneTag, Sequence,
+    SequenceTag, TagMarker, ValueOrd,
 };
 use der_fields::{
-    DecodeFields, DefaultNumber, DefaultOf, EncodeFields, End, Explicit, ExplicitTag, Field,
-    FieldList, Fields2, Fields8, FieldsOrd, Implicit, ImplicitTag, WithDefault,
+    DecodeFields, DefaultNumber, DefaultOf, EncodeFields, Explicit, FieldList, Fields2, Fields8,
+    FieldsOrd, Implicit, WithDefault,
 };
-use der_modules::copy_of;
-use der_numbers::IntRef;
+use der_modules::{Member, copy_of, field_list, if_present, tagged};
 use der_tlv::{BackWriter, Error, Header, Length, Source, Writer};
 use std::alloc::Global;
 use std::cmp::Ordering;
@@ -102,46 +93,13 @@ impl<'a> TbsCertificate<'a> {
         ensures subject_unique_id { tbs_certificate_fields.subject_unique_id result ≡ subject_unique_id.entry }
         ensures extensions { tbs_certificate_fields.extensions result ≡ option_copied extensions.entry }
     {
-        let first = match extensions {
-            Some(first) => Some(Explicit {
-                fields: Field {
-                    first: copy_of(first),
-                    rest: End,
-                },
-            }),
-            None => None,
-        };
-        let rest = Field { first, rest: End };
-        let first = match subject_unique_id {
-            Some(value) => Some(Implicit { value }),
-            None => None,
-        };
-        let list = Field { first, rest };
+        let list = field_list![
+            if_present!(value in subject_unique_id => Implicit { value }),
+            if_present!(value in extensions => tagged!(Explicit, copy_of(value)))
+        ];
         let rest = Fields2 { list };
-        let first = match issuer_unique_id {
-            Some(value) => Some(Implicit { value }),
-            None => None,
-        };
-        let rest = Field { first, rest };
-        let first = copy_of(subject_public_key_info);
-        let rest = Field { first, rest };
-        let first = copy_of(subject);
-        let rest = Field { first, rest };
-        let first = validity;
-        let rest = Field { first, rest };
-        let first = copy_of(issuer);
-        let rest = Field { first, rest };
-        let first = copy_of(signature);
-        let rest = Field { first, rest };
-        let first = serial_number;
-        let rest = Field { first, rest };
-        let first = WithDefault::new(Explicit {
-            fields: Field {
-                first: version,
-                rest: End,
-            },
-        });
-        let list = Field { first, rest };
+        let list =
+            field_list![WithDefault::new(tagged!(Explicit, version)), serial_number, copy_of(signature), copy_of(issuer), validity, copy_of(subject), copy_of(subject_public_key_info), if_present!(value in issuer_unique_id => Implicit { value }); rest];
         let fields = Fields8 { list };
         TbsCertificate { fields }
     }
@@ -199,10 +157,7 @@ impl<'a> TbsCertificate<'a> {
     pub fn issuer_unique_id(&self) -> Option<&UniqueIdentifier<'a>>
         ensures { option_copied result ≡ tbs_certificate_fields.issuer_unique_id self.now }
     {
-        match &self.fields.list.rest.rest.rest.rest.rest.rest.rest.first {
-            Some(value) => Some(&value.value),
-            None => None,
-        }
+        if_present!(value in &self.fields.list.rest.rest.rest.rest.rest.rest.rest.first => &value.value)
     }
 
     /// `subjectUniqueID`, `[2] IMPLICIT UniqueIdentifier OPTIONAL`.
@@ -210,10 +165,7 @@ impl<'a> TbsCertificate<'a> {
         ensures { option_copied result ≡ tbs_certificate_fields.subject_unique_id self.now }
     {
         let tail = &self.fields.list.rest.rest.rest.rest.rest.rest.rest.rest;
-        match &tail.list.first {
-            Some(value) => Some(&value.value),
-            None => None,
-        }
+        if_present!(value in &tail.list.first => &value.value)
     }
 
     /// `extensions`, `[3] Extensions OPTIONAL`.
@@ -221,10 +173,7 @@ impl<'a> TbsCertificate<'a> {
         ensures { option_copied result ≡ tbs_certificate_fields.extensions self.now }
     {
         let tail = &self.fields.list.rest.rest.rest.rest.rest.rest.rest.rest;
-        match &tail.list.rest.first {
-            Some(value) => Some(&value.fields.first),
-            None => None,
-        }
+        if_present!(value in &tail.list.rest.first => &value.fields.first)
     }
 }
 
@@ -296,56 +245,24 @@ impl<'a> ValueOrd for TbsCertificate<'a> {
     }
 }
 
+impl<'a> Member for TbsCertificate<'a> {
+    ghost member = { struct_member ⟦<SequenceTag as TagMarker>⟧.TAG (λ v. v.fields.list)
+        (default_field ⟦<DefaultNumber<0> as DefaultOf<Explicit<Version, 0>>>⟧.octets ⟦<Explicit<Version, 0> as Member>⟧.member
+        (field ⟦<CertificateSerialNumber<'a> as Member>⟧.member
+        (field ⟦<AlgorithmIdentifier<'a> as Member>⟧.member
+        (field ⟦<Name<'a> as Member>⟧.member
+        (field ⟦<Validity as Member>⟧.member
+        (field ⟦<Name<'a> as Member>⟧.member
+        (field ⟦<SubjectPublicKeyInfo<'a> as Member>⟧.member
+        (optional_field ⟦<Implicit<UniqueIdentifier<'a>, 1> as Member>⟧.member
+        (part (λ v. v.list)
+        (optional_field ⟦<Implicit<UniqueIdentifier<'a>, 2> as Member>⟧.member
+        (optional_field ⟦<Explicit<Extensions<'a>, 3> as Member>⟧.member
+        no_fields))))))))))) };
+}
+
 impl<'a> ContentsEq for TbsCertificate<'a> {
-    ghost contents_eq = { λ v w. (member_equality ⟦<WithDefault<Explicit<Version, 0>, DefaultNumber<0>> as Form>⟧
-        (default_starts ⟦<Explicit<Version, 0> as Form>⟧ (one_tag ⟦<ExplicitTag<0> as TagMarker>⟧.TAG ⟦<Explicit<Version, 0> as FormValue>⟧.value.contents) (λ x. x.value) ⟦<DefaultNumber<0> as DefaultOf<Explicit<Version, 0>>>⟧.octets)
-        ⟦<WithDefault<Explicit<Version, 0>, DefaultNumber<0>> as PartialEq>⟧.eq
-        (default_equality ⟦<Explicit<Version, 0> as Form>⟧ (one_tag ⟦<ExplicitTag<0> as TagMarker>⟧.TAG ⟦<Explicit<Version, 0> as FormValue>⟧.value.contents) (λ x. x.value) ⟦<DefaultNumber<0> as DefaultOf<Explicit<Version, 0>>>⟧.octets ⟦<Explicit<Version, 0> as PartialEq>⟧.eq (one_tag_equality ⟦<ExplicitTag<0> as TagMarker>⟧.TAG ⟦<Explicit<Version, 0> as FormValue>⟧.value.contents ⟦<Explicit<Version, 0> as FormValue>⟧.value.comparable ⟦<Explicit<Version, 0> as PartialEq>⟧.eq (λ v w. ((member_equality ⟦<Version as Form>⟧
-        (tagged_starts ⟦<Version as Form>⟧ (one_tag ⟦<IntegerTag as TagMarker>⟧.TAG ⟦<u8 as FormValue>⟧.value.contents))
-        ⟦<Version as PartialEq>⟧.eq
-        (one_tag_equality ⟦<IntegerTag as TagMarker>⟧.TAG ⟦<u8 as FormValue>⟧.value.contents ⟦<u8 as FormValue>⟧.value.comparable ⟦<u8 as PartialEq>⟧.eq u8_contents_eq.contents_eq-law)
-        no_equality).equal v.fields w.fields))))
-        (member_equality ⟦<CertificateSerialNumber<'a> as Form>⟧
-        (tagged_starts ⟦<CertificateSerialNumber<'a> as Form>⟧ (one_tag ⟦<IntegerTag as TagMarker>⟧.TAG ⟦<IntRef<'a> as FormValue>⟧.value.contents))
-        ⟦<CertificateSerialNumber<'a> as PartialEq>⟧.eq
-        (one_tag_equality ⟦<IntegerTag as TagMarker>⟧.TAG ⟦<IntRef<'a> as FormValue>⟧.value.contents ⟦<IntRef<'a> as FormValue>⟧.value.comparable ⟦<IntRef<'a> as PartialEq>⟧.eq intref_contents_eq.contents_eq-law)
-        (member_equality ⟦<AlgorithmIdentifier<'a> as Form>⟧
-        (tagged_starts ⟦<AlgorithmIdentifier<'a> as Form>⟧ (one_tag ⟦<SequenceTag as TagMarker>⟧.TAG ⟦<AlgorithmIdentifier<'a> as FormValue>⟧.value.contents))
-        ⟦<AlgorithmIdentifier<'a> as PartialEq>⟧.eq
-        (one_tag_equality ⟦<SequenceTag as TagMarker>⟧.TAG ⟦<AlgorithmIdentifier<'a> as FormValue>⟧.value.contents ⟦<AlgorithmIdentifier<'a> as FormValue>⟧.value.comparable ⟦<AlgorithmIdentifier<'a> as PartialEq>⟧.eq algorithm_identifier_contents_eq.contents_eq-law)
-        (member_equality ⟦<Name<'a> as Form>⟧
-        (tagged_starts ⟦<Name<'a> as Form>⟧ (one_tag ⟦<SequenceTag as TagMarker>⟧.TAG ⟦<RdnSequence<'a> as FormValue>⟧.value.contents))
-        ⟦<Name<'a> as PartialEq>⟧.eq
-        (one_tag_equality ⟦<SequenceTag as TagMarker>⟧.TAG ⟦<RdnSequence<'a> as FormValue>⟧.value.contents ⟦<RdnSequence<'a> as FormValue>⟧.value.comparable ⟦<RdnSequence<'a> as PartialEq>⟧.eq rdn_sequence_contents_eq.contents_eq-law)
-        (member_equality ⟦<Validity as Form>⟧
-        (tagged_starts ⟦<Validity as Form>⟧ (one_tag ⟦<SequenceTag as TagMarker>⟧.TAG ⟦<Validity as FormValue>⟧.value.contents))
-        ⟦<Validity as PartialEq>⟧.eq
-        (one_tag_equality ⟦<SequenceTag as TagMarker>⟧.TAG ⟦<Validity as FormValue>⟧.value.contents ⟦<Validity as FormValue>⟧.value.comparable ⟦<Validity as PartialEq>⟧.eq validity_contents_eq.contents_eq-law)
-        (member_equality ⟦<Name<'a> as Form>⟧
-        (tagged_starts ⟦<Name<'a> as Form>⟧ (one_tag ⟦<SequenceTag as TagMarker>⟧.TAG ⟦<RdnSequence<'a> as FormValue>⟧.value.contents))
-        ⟦<Name<'a> as PartialEq>⟧.eq
-        (one_tag_equality ⟦<SequenceTag as TagMarker>⟧.TAG ⟦<RdnSequence<'a> as FormValue>⟧.value.contents ⟦<RdnSequence<'a> as FormValue>⟧.value.comparable ⟦<RdnSequence<'a> as PartialEq>⟧.eq rdn_sequence_contents_eq.contents_eq-law)
-        (member_equality ⟦<SubjectPublicKeyInfo<'a> as Form>⟧
-        (tagged_starts ⟦<SubjectPublicKeyInfo<'a> as Form>⟧ (one_tag ⟦<SequenceTag as TagMarker>⟧.TAG ⟦<SubjectPublicKeyInfo<'a> as FormValue>⟧.value.contents))
-        ⟦<SubjectPublicKeyInfo<'a> as PartialEq>⟧.eq
-        (one_tag_equality ⟦<SequenceTag as TagMarker>⟧.TAG ⟦<SubjectPublicKeyInfo<'a> as FormValue>⟧.value.contents ⟦<SubjectPublicKeyInfo<'a> as FormValue>⟧.value.comparable ⟦<SubjectPublicKeyInfo<'a> as PartialEq>⟧.eq subject_public_key_info_contents_eq.contents_eq-law)
-        (member_equality ⟦<Option<Implicit<UniqueIdentifier<'a>, 1>> as Form>⟧
-        (optional_starts ⟦<Implicit<UniqueIdentifier<'a>, 1> as Form>⟧ (one_tag ⟦<ImplicitTag<BitStringTag, 1> as TagMarker>⟧.TAG ⟦<Implicit<UniqueIdentifier<'a>, 1> as FormValue>⟧.value.contents))
-        ⟦<Option<Implicit<UniqueIdentifier<'a>, 1>> as PartialEq>⟧.eq
-        (optional_equality ⟦<Implicit<UniqueIdentifier<'a>, 1> as Form>⟧ (one_tag ⟦<ImplicitTag<BitStringTag, 1> as TagMarker>⟧.TAG ⟦<Implicit<UniqueIdentifier<'a>, 1> as FormValue>⟧.value.contents) ⟦<Implicit<UniqueIdentifier<'a>, 1> as PartialEq>⟧.eq (one_tag_equality ⟦<ImplicitTag<BitStringTag, 1> as TagMarker>⟧.TAG ⟦<Implicit<UniqueIdentifier<'a>, 1> as FormValue>⟧.value.contents ⟦<Implicit<UniqueIdentifier<'a>, 1> as FormValue>⟧.value.comparable ⟦<Implicit<UniqueIdentifier<'a>, 1> as PartialEq>⟧.eq (λ v w. (bitstringref_contents_eq.contents_eq-law v.value w.value))))
-        (part_equality (λ x. x.list) (member_equality ⟦<Option<Implicit<UniqueIdentifier<'a>, 2>> as Form>⟧
-        (optional_starts ⟦<Implicit<UniqueIdentifier<'a>, 2> as Form>⟧ (one_tag ⟦<ImplicitTag<BitStringTag, 2> as TagMarker>⟧.TAG ⟦<Implicit<UniqueIdentifier<'a>, 2> as FormValue>⟧.value.contents))
-        ⟦<Option<Implicit<UniqueIdentifier<'a>, 2>> as PartialEq>⟧.eq
-        (optional_equality ⟦<Implicit<UniqueIdentifier<'a>, 2> as Form>⟧ (one_tag ⟦<ImplicitTag<BitStringTag, 2> as TagMarker>⟧.TAG ⟦<Implicit<UniqueIdentifier<'a>, 2> as FormValue>⟧.value.contents) ⟦<Implicit<UniqueIdentifier<'a>, 2> as PartialEq>⟧.eq (one_tag_equality ⟦<ImplicitTag<BitStringTag, 2> as TagMarker>⟧.TAG ⟦<Implicit<UniqueIdentifier<'a>, 2> as FormValue>⟧.value.contents ⟦<Implicit<UniqueIdentifier<'a>, 2> as FormValue>⟧.value.comparable ⟦<Implicit<UniqueIdentifier<'a>, 2> as PartialEq>⟧.eq (λ v w. (bitstringref_contents_eq.contents_eq-law v.value w.value))))
-        (member_equality ⟦<Option<Explicit<Extensions<'a>, 3>> as Form>⟧
-        (optional_starts ⟦<Explicit<Extensions<'a>, 3> as Form>⟧ (one_tag ⟦<ExplicitTag<3> as TagMarker>⟧.TAG ⟦<Explicit<Extensions<'a>, 3> as FormValue>⟧.value.contents))
-        ⟦<Option<Explicit<Extensions<'a>, 3>> as PartialEq>⟧.eq
-        (optional_equality ⟦<Explicit<Extensions<'a>, 3> as Form>⟧ (one_tag ⟦<ExplicitTag<3> as TagMarker>⟧.TAG ⟦<Explicit<Extensions<'a>, 3> as FormValue>⟧.value.contents) ⟦<Explicit<Extensions<'a>, 3> as PartialEq>⟧.eq (one_tag_equality ⟦<ExplicitTag<3> as TagMarker>⟧.TAG ⟦<Explicit<Extensions<'a>, 3> as FormValue>⟧.value.contents ⟦<Explicit<Extensions<'a>, 3> as FormValue>⟧.value.comparable ⟦<Explicit<Extensions<'a>, 3> as PartialEq>⟧.eq (λ v w. ((member_equality ⟦<Extensions<'a> as Form>⟧
-        (tagged_starts ⟦<Extensions<'a> as Form>⟧ (one_tag ⟦<SequenceTag as TagMarker>⟧.TAG ⟦<Extensions<'a> as FormValue>⟧.value.contents))
-        ⟦<Extensions<'a> as PartialEq>⟧.eq
-        (one_tag_equality ⟦<SequenceTag as TagMarker>⟧.TAG ⟦<Extensions<'a> as FormValue>⟧.value.contents ⟦<Extensions<'a> as FormValue>⟧.value.comparable ⟦<Extensions<'a> as PartialEq>⟧.eq extensions_contents_eq.contents_eq-law)
-        no_equality).equal v.fields w.fields))))
-        no_equality))))))))))).equal v.fields.list w.fields.list };
+    ghost contents_eq = { ⟦<TbsCertificate<'a> as Member>⟧.member.equal };
 }
 
 impl<'a> CopyIsDuplicate for TbsCertificate<'a> {}

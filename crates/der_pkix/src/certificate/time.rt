@@ -9,20 +9,19 @@ ghost use Rattle.der_elem.specs.FormatMakers.{mapped_format};
 ghost use Rattle.der_elem.specs.KnownTagLaws.{known_either, own_is_known};
 ghost use Rattle.der_elem.specs.TaggedLaws.{tlv_tagged};
 ghost use Rattle.der_modules.specs.Asn1.{parse_of};
-ghost use Rattle.der_modules.specs.MemberLaws.{copies_of, either_equality, either_tag, one_tag, one_tag_equality, same_copies, seen_equality};
+ghost use Rattle.der_modules.specs.MemberLaws.{copies_of, same_copies};
+ghost use Rattle.der_modules.specs.Members.{seen_choice};
 ghost use Rattle.der_pkix.specs.Certificate.Grammar.{time};
 ghost use Rattle.der_pkix.specs.Certificate.Time.{tree_of};
 ghost use Rattle.der_pkix.specs.contracts.certificate.time.TimeEq.TheImpl.Laws as time_eq;
 ghost use Rattle.der_pkix.specs.declared.certificate.time.Time.TheVariants as of;
-ghost use Rattle.der_time.specs.contracts.generalized_time.GeneralizedTimeContentsEq.TheImpl.Laws as generalizedtime_contents_eq;
-ghost use Rattle.der_time.specs.contracts.utc_time.UtcTimeContentsEq.TheImpl.Laws as utctime_contents_eq;
 
 use der_elem::{
     Choice, Decode, DecodeField, DerOrd, Duplicate, DuplicateIsEqual, EncodeValue, EncodingEq,
-    Form, FormValue, GeneralizedTimeTag, KnownTags, TagMarker, Tagged, UtcTimeTag,
+    Form, FormValue, KnownTags, Tagged,
 };
 use der_fields::{OneOf, cmp_headers};
-use der_modules::{CopyLaws, copy_of};
+use der_modules::{Choosing, CopyLaws, copy_of};
 use der_time::{GeneralizedTime, UtcTime};
 use der_tlv::{BackWriter, Error, Length, Source, Tag, Writer};
 use std::alloc::Global;
@@ -101,19 +100,13 @@ impl Tagged for Time {
         }
     }
 
-    ghost encoding_is = { λ v. (either_tag ⟦<UtcTime as Form>⟧ ⟦<GeneralizedTime as Form>⟧
-        (one_tag ⟦<UtcTimeTag as TagMarker>⟧.TAG ⟦<UtcTime as FormValue>⟧.value.contents)
-        (one_tag ⟦<GeneralizedTimeTag as TagMarker>⟧.TAG ⟦<GeneralizedTime as FormValue>⟧.value.contents)).encoding_is (tree_of v) };
+    ghost encoding_is = { ⟦<Time as Choosing>⟧.choice.has_tag.encoding_is };
 
     ghost accepted_is_tlv = { λ rules v b. elim v as (λ k. ⟦<Tree as Form>⟧.accepts rules (tree_of k) b → IsTlv b) [ of.UtcTime x ↦ λ a. tlv_tagged _ ⟦<UtcTime as FormValue>⟧.value.accepts rules x b a.0 | of.GeneralTime x ↦ λ a. tlv_tagged _ ⟦<GeneralizedTime as FormValue>⟧.value.accepts rules x b a.0 ] };
 
-    ghost own_tag = { λ v. (either_tag ⟦<UtcTime as Form>⟧ ⟦<GeneralizedTime as Form>⟧
-        (one_tag ⟦<UtcTimeTag as TagMarker>⟧.TAG ⟦<UtcTime as FormValue>⟧.value.contents)
-        (one_tag ⟦<GeneralizedTimeTag as TagMarker>⟧.TAG ⟦<GeneralizedTime as FormValue>⟧.value.contents)).own_tag (tree_of v) };
+    ghost own_tag = { ⟦<Time as Choosing>⟧.choice.has_tag.own_tag };
 
-    ghost first_tag_is = { λ v. (either_tag ⟦<UtcTime as Form>⟧ ⟦<GeneralizedTime as Form>⟧
-        (one_tag ⟦<UtcTimeTag as TagMarker>⟧.TAG ⟦<UtcTime as FormValue>⟧.value.contents)
-        (one_tag ⟦<GeneralizedTimeTag as TagMarker>⟧.TAG ⟦<GeneralizedTime as FormValue>⟧.value.contents)).first_tag_is (tree_of v) };
+    ghost first_tag_is = { ⟦<Time as Choosing>⟧.choice.has_tag.first_tag_is };
 
     ghost re_reads_alike = { λ v. elim v as (λ k. ⟦<Tree as FormValue>⟧.value.re_reads (tree_of k) ≡ true → ⟦<Tree as Form>⟧.re_reads (tree_of k) ≡ true) [ of.UtcTime x ↦ λ h. h | of.GeneralTime x ↦ λ h. h ] };
 
@@ -199,14 +192,16 @@ impl DerOrd for Time {
     }
 }
 
+impl Choosing for Time {
+    ghost choice = { seen_choice tree_of ⟦<Time as PartialEq>⟧.eq ⟦<Tree as Choosing>⟧.choice
+        (λ v w. elim v as (λ k. ⟦<Time as PartialEq>⟧.eq k w ≡ ⟦<Tree as Choosing>⟧.choice.eq (tree_of k) (tree_of w)) [
+          | of.UtcTime x ↦ elim w as (λ k. ⟦<Time as PartialEq>⟧.eq (of.UtcTime x) k ≡ ⟦<Tree as Choosing>⟧.choice.eq (tree_of (of.UtcTime x)) (tree_of k)) [ of.UtcTime y ↦ refl | of.GeneralTime y ↦ refl ]
+          | of.GeneralTime x ↦ elim w as (λ k. ⟦<Time as PartialEq>⟧.eq (of.GeneralTime x) k ≡ ⟦<Tree as Choosing>⟧.choice.eq (tree_of (of.GeneralTime x)) (tree_of k)) [ of.UtcTime y ↦ refl | of.GeneralTime y ↦ refl ]
+        ]) };
+}
+
 impl EncodingEq for Time {
-    ghost encoding_eq = { seen_equality tree_of ⟦<Time as PartialEq>⟧.eq ⟦<Tree as PartialEq>⟧.eq (λ v w. elim v as (λ k. ⟦<Time as PartialEq>⟧.eq k w ≡ ⟦<Tree as PartialEq>⟧.eq (tree_of k) (tree_of w)) [ of.UtcTime x ↦ elim w as (λ k. ⟦<Time as PartialEq>⟧.eq (of.UtcTime x) k ≡ ⟦<Tree as PartialEq>⟧.eq (tree_of (of.UtcTime x)) (tree_of k)) [ of.UtcTime y ↦ refl | of.GeneralTime y ↦ refl ] | of.GeneralTime x ↦ elim w as (λ k. ⟦<Time as PartialEq>⟧.eq (of.GeneralTime x) k ≡ ⟦<Tree as PartialEq>⟧.eq (tree_of (of.GeneralTime x)) (tree_of k)) [ of.UtcTime y ↦ refl | of.GeneralTime y ↦ refl ] ]) (either_equality ⟦<UtcTime as Form>⟧ ⟦<GeneralizedTime as Form>⟧
-        (one_tag ⟦<UtcTimeTag as TagMarker>⟧.TAG ⟦<UtcTime as FormValue>⟧.value.contents)
-        (one_tag ⟦<GeneralizedTimeTag as TagMarker>⟧.TAG ⟦<GeneralizedTime as FormValue>⟧.value.contents)
-        ⟦<UtcTime as PartialEq>⟧.eq ⟦<GeneralizedTime as PartialEq>⟧.eq
-        (one_tag_equality ⟦<UtcTimeTag as TagMarker>⟧.TAG ⟦<UtcTime as FormValue>⟧.value.contents ⟦<UtcTime as FormValue>⟧.value.comparable ⟦<UtcTime as PartialEq>⟧.eq utctime_contents_eq.contents_eq-law)
-        (one_tag_equality ⟦<GeneralizedTimeTag as TagMarker>⟧.TAG ⟦<GeneralizedTime as FormValue>⟧.value.contents ⟦<GeneralizedTime as FormValue>⟧.value.comparable ⟦<GeneralizedTime as PartialEq>⟧.eq generalizedtime_contents_eq.contents_eq-law)
-        ⟦<OneOf<UtcTime, GeneralizedTime> as PartialEq>⟧.eq (λ v x. refl) (λ w y. refl) (λ v w. refl) (λ w v. refl)) };
+    ghost encoding_eq = { ⟦<Time as Choosing>⟧.choice.equal };
 }
 
 impl CopyLaws for Time {

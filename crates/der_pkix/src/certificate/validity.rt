@@ -5,19 +5,18 @@
 ghost use Rattle.std.specs.Prelude.{◌∷◌, ◌≡◌, [], false, refl};
 ghost use Rattle.der_elem.specs.FormatMakers.{mapped_format};
 ghost use Rattle.der_modules.specs.Asn1.{joined, parse_of};
-ghost use Rattle.der_modules.specs.MemberLaws.{member_equality, no_equality, own_tags, tagged_starts};
+ghost use Rattle.der_modules.specs.Members.{choice_field, no_fields, struct_member};
 ghost use Rattle.der_pkix.specs.Certificate.Grammar.{validity};
 ghost use Rattle.der_pkix.specs.Certificate.Validity as validity_fields;
-ghost use Rattle.der_pkix.specs.contracts.certificate.time.TimeEncodingEq.TheImpl.Laws as time_encoding_eq;
-ghost use Rattle.der_pkix.specs.contracts.certificate.time.TimeTagged.TheImpl.Laws as time_tagged;
 ghost use Rattle.der_pkix.specs.declared.certificate.validity.Validity.{Validity};
 
 use crate::certificate::time::Time;
 use der_elem::{
     ContentsEq, CopyIsDuplicate, DecodeValue, EncodeValue, Form, FormValue, OneTag, Sequence,
-    SequenceTag, Tagged, ValueOrd,
+    SequenceTag, TagMarker, ValueOrd,
 };
-use der_fields::{DecodeFields, EncodeFields, End, Field, FieldList, Fields2, FieldsOrd};
+use der_fields::{DecodeFields, EncodeFields, FieldList, Fields2, FieldsOrd};
+use der_modules::{Choosing, Member, field_list};
 use der_tlv::{BackWriter, Error, Header, Length, Source, Writer};
 use std::alloc::Global;
 use std::cmp::Ordering;
@@ -46,10 +45,7 @@ impl Validity {
         ensures not_before { validity_fields.not_before result ≡ not_before }
         ensures not_after { validity_fields.not_after result ≡ not_after }
     {
-        let first = not_after;
-        let rest = Field { first, rest: End };
-        let first = not_before;
-        let list = Field { first, rest };
+        let list = field_list![not_before, not_after];
         let fields = Fields2 { list };
         Validity { fields }
     }
@@ -125,16 +121,15 @@ impl ValueOrd for Validity {
     }
 }
 
+impl Member for Validity {
+    ghost member = { struct_member ⟦<SequenceTag as TagMarker>⟧.TAG (λ v. v.fields.list)
+        (choice_field ⟦<Time as Choosing>⟧.choice
+        (choice_field ⟦<Time as Choosing>⟧.choice
+        no_fields)) };
+}
+
 impl ContentsEq for Validity {
-    ghost contents_eq = { λ v w. (member_equality ⟦<Time as Form>⟧
-        (tagged_starts ⟦<Time as Form>⟧ (own_tags ⟦<Time as Form>⟧.tags ⟦<Time as Form>⟧.first_tag_of ⟦<Time as Form>⟧.encoding ⟦<Time as Tagged>⟧.tag_of ⟦<Time as FormValue>⟧.value.contents time_tagged.encoding_is-law time_tagged.own_tag-law time_tagged.first_tag_is-law))
-        ⟦<Time as PartialEq>⟧.eq
-        time_encoding_eq.encoding_eq-law
-        (member_equality ⟦<Time as Form>⟧
-        (tagged_starts ⟦<Time as Form>⟧ (own_tags ⟦<Time as Form>⟧.tags ⟦<Time as Form>⟧.first_tag_of ⟦<Time as Form>⟧.encoding ⟦<Time as Tagged>⟧.tag_of ⟦<Time as FormValue>⟧.value.contents time_tagged.encoding_is-law time_tagged.own_tag-law time_tagged.first_tag_is-law))
-        ⟦<Time as PartialEq>⟧.eq
-        time_encoding_eq.encoding_eq-law
-        no_equality)).equal v.fields.list w.fields.list };
+    ghost contents_eq = { ⟦<Validity as Member>⟧.member.equal };
 }
 
 impl CopyIsDuplicate for Validity {}

@@ -5,23 +5,18 @@
 ghost use Rattle.std.specs.Prelude.{◌∷◌, ◌≡◌, [], false, refl};
 ghost use Rattle.der_elem.specs.FormatMakers.{mapped_format};
 ghost use Rattle.der_modules.specs.Asn1.{joined, optional, parse_of};
-ghost use Rattle.der_modules.specs.MemberLaws.{member_equality, no_equality, one_tag, one_tag_equality, optional_equality, optional_starts, own_tags, tagged_starts};
-ghost use Rattle.der_numbers.specs.contracts.int_ref.IntRefContentsEq.TheImpl.Laws as intref_contents_eq;
+ghost use Rattle.der_modules.specs.Members.{choice_field, field, no_fields, optional_field, struct_member};
 ghost use Rattle.der_pkix.specs.Crl.Grammar.{revoked_certificate};
 ghost use Rattle.der_pkix.specs.Crl.RevokedCertificate as revoked_certificate_fields;
-ghost use Rattle.der_pkix.specs.contracts.certificate.extensions.ExtensionsContentsEq.TheImpl.Laws as extensions_contents_eq;
-ghost use Rattle.der_pkix.specs.contracts.certificate.time.TimeEncodingEq.TheImpl.Laws as time_encoding_eq;
-ghost use Rattle.der_pkix.specs.contracts.certificate.time.TimeTagged.TheImpl.Laws as time_tagged;
 ghost use Rattle.der_pkix.specs.declared.crl.revoked_certificate.RevokedCertificate.{RevokedCertificate};
 
 use crate::certificate::{CertificateSerialNumber, Extensions, Time};
 use der_elem::{
-    ContentsEq, CopyIsDuplicate, DecodeValue, EncodeValue, Form, FormValue, IntegerTag, OneTag,
-    Sequence, SequenceTag, TagMarker, Tagged, ValueOrd,
+    ContentsEq, CopyIsDuplicate, DecodeValue, EncodeValue, Form, FormValue, OneTag, Sequence,
+    SequenceTag, TagMarker, ValueOrd,
 };
-use der_fields::{DecodeFields, EncodeFields, End, Field, FieldList, Fields3, FieldsOrd};
-use der_modules::copy_of;
-use der_numbers::IntRef;
+use der_fields::{DecodeFields, EncodeFields, FieldList, Fields3, FieldsOrd};
+use der_modules::{Choosing, Member, copy_of, field_list, if_present};
 use der_tlv::{BackWriter, Error, Header, Length, Source, Writer};
 use std::alloc::Global;
 use std::cmp::Ordering;
@@ -52,15 +47,11 @@ impl<'a> RevokedCertificate<'a> {
         ensures revocation_date { revoked_certificate_fields.revocation_date result ≡ revocation_date }
         ensures crl_entry_extensions { revoked_certificate_fields.crl_entry_extensions result ≡ option_copied crl_entry_extensions.entry }
     {
-        let first = match crl_entry_extensions {
-            Some(value) => Some(copy_of(value)),
-            None => None,
-        };
-        let rest = Field { first, rest: End };
-        let first = revocation_date;
-        let rest = Field { first, rest };
-        let first = user_certificate;
-        let list = Field { first, rest };
+        let list = field_list![
+            user_certificate,
+            revocation_date,
+            if_present!(value in crl_entry_extensions => copy_of(value))
+        ];
         let fields = Fields3 { list };
         RevokedCertificate { fields }
     }
@@ -83,10 +74,7 @@ impl<'a> RevokedCertificate<'a> {
     pub fn crl_entry_extensions(&self) -> Option<&Extensions<'a>>
         ensures { option_copied result ≡ revoked_certificate_fields.crl_entry_extensions self.now }
     {
-        match &self.fields.list.rest.rest.first {
-            Some(value) => Some(value),
-            None => None,
-        }
+        if_present!(value in &self.fields.list.rest.rest.first => value)
     }
 }
 
@@ -151,20 +139,16 @@ impl<'a> ValueOrd for RevokedCertificate<'a> {
     }
 }
 
+impl<'a> Member for RevokedCertificate<'a> {
+    ghost member = { struct_member ⟦<SequenceTag as TagMarker>⟧.TAG (λ v. v.fields.list)
+        (field ⟦<CertificateSerialNumber<'a> as Member>⟧.member
+        (choice_field ⟦<Time as Choosing>⟧.choice
+        (optional_field ⟦<Extensions<'a> as Member>⟧.member
+        no_fields))) };
+}
+
 impl<'a> ContentsEq for RevokedCertificate<'a> {
-    ghost contents_eq = { λ v w. (member_equality ⟦<CertificateSerialNumber<'a> as Form>⟧
-        (tagged_starts ⟦<CertificateSerialNumber<'a> as Form>⟧ (one_tag ⟦<IntegerTag as TagMarker>⟧.TAG ⟦<IntRef<'a> as FormValue>⟧.value.contents))
-        ⟦<CertificateSerialNumber<'a> as PartialEq>⟧.eq
-        (one_tag_equality ⟦<IntegerTag as TagMarker>⟧.TAG ⟦<IntRef<'a> as FormValue>⟧.value.contents ⟦<IntRef<'a> as FormValue>⟧.value.comparable ⟦<IntRef<'a> as PartialEq>⟧.eq intref_contents_eq.contents_eq-law)
-        (member_equality ⟦<Time as Form>⟧
-        (tagged_starts ⟦<Time as Form>⟧ (own_tags ⟦<Time as Form>⟧.tags ⟦<Time as Form>⟧.first_tag_of ⟦<Time as Form>⟧.encoding ⟦<Time as Tagged>⟧.tag_of ⟦<Time as FormValue>⟧.value.contents time_tagged.encoding_is-law time_tagged.own_tag-law time_tagged.first_tag_is-law))
-        ⟦<Time as PartialEq>⟧.eq
-        time_encoding_eq.encoding_eq-law
-        (member_equality ⟦<Option<Extensions<'a>> as Form>⟧
-        (optional_starts ⟦<Extensions<'a> as Form>⟧ (one_tag ⟦<SequenceTag as TagMarker>⟧.TAG ⟦<Extensions<'a> as FormValue>⟧.value.contents))
-        ⟦<Option<Extensions<'a>> as PartialEq>⟧.eq
-        (optional_equality ⟦<Extensions<'a> as Form>⟧ (one_tag ⟦<SequenceTag as TagMarker>⟧.TAG ⟦<Extensions<'a> as FormValue>⟧.value.contents) ⟦<Extensions<'a> as PartialEq>⟧.eq (one_tag_equality ⟦<SequenceTag as TagMarker>⟧.TAG ⟦<Extensions<'a> as FormValue>⟧.value.contents ⟦<Extensions<'a> as FormValue>⟧.value.comparable ⟦<Extensions<'a> as PartialEq>⟧.eq extensions_contents_eq.contents_eq-law))
-        no_equality))).equal v.fields.list w.fields.list };
+    ghost contents_eq = { ⟦<RevokedCertificate<'a> as Member>⟧.member.equal };
 }
 
 impl<'a> CopyIsDuplicate for RevokedCertificate<'a> {}

@@ -2,34 +2,25 @@
 //!
 //! Made by tools/asn1 from crl.asn1.
 
-ghost use Rattle.std.specs.Cmp.Lexicographic.{bytes_decides};
 ghost use Rattle.std.specs.Prelude.{◌∷◌, ◌≡◌, [], false, refl};
 ghost use Rattle.der_elem.specs.FormatMakers.{mapped_format};
-ghost use Rattle.der_elem.specs.contracts.integer.unsigned.U8ContentsEq.TheImpl.Laws as u8_contents_eq;
 ghost use Rattle.der_modules.specs.Asn1.{context, explicit_encoding, joined, optional, parse_of};
-ghost use Rattle.der_modules.specs.MemberLaws.{member_equality, no_equality, one_tag, one_tag_equality, optional_equality, optional_starts, own_tags, tagged_starts};
+ghost use Rattle.der_modules.specs.Members.{choice_field, field, no_fields, optional_choice_field, optional_field, struct_member};
 ghost use Rattle.der_pkix.specs.Crl.Grammar.{tbs_cert_list};
 ghost use Rattle.der_pkix.specs.Crl.TbsCertList as tbs_cert_list_fields;
-ghost use Rattle.der_pkix.specs.contracts.algorithm_identifier.AlgorithmIdentifierContentsEq.TheImpl.Laws as algorithm_identifier_contents_eq;
-ghost use Rattle.der_pkix.specs.contracts.certificate.extensions.ExtensionsContentsEq.TheImpl.Laws as extensions_contents_eq;
-ghost use Rattle.der_pkix.specs.contracts.certificate.time.TimeEncodingEq.TheImpl.Laws as time_encoding_eq;
-ghost use Rattle.der_pkix.specs.contracts.certificate.time.TimeTagged.TheImpl.Laws as time_tagged;
-ghost use Rattle.der_pkix.specs.contracts.name.rdn_sequence.RdnSequenceContentsEq.TheImpl.Laws as rdn_sequence_contents_eq;
 ghost use Rattle.der_pkix.specs.declared.crl.tbs_cert_list.TbsCertList.{TbsCertList};
 
 use crate::AlgorithmIdentifier;
 use crate::certificate::{Extensions, Time, Version};
 use crate::crl::revoked_certificate::RevokedCertificate;
-use crate::name::{Name, RdnSequence};
+use crate::name::Name;
 use der_elem::{
-    ContentsEq, CopyIsDuplicate, DecodeValue, EncodeValue, Form, FormValue, IntegerTag, OneTag,
-    Sequence, SequenceTag, TagMarker, Tagged, ValueOrd,
+    ContentsEq, CopyIsDuplicate, DecodeValue, EncodeValue, Form, FormValue, OneTag, Sequence,
+    SequenceTag, TagMarker, ValueOrd,
 };
-use der_fields::{
-    DecodeFields, EncodeFields, End, Explicit, ExplicitTag, Field, FieldList, Fields7, FieldsOrd,
-};
+use der_fields::{DecodeFields, EncodeFields, Explicit, FieldList, Fields7, FieldsOrd};
 use der_lists::ListRef;
-use der_modules::copy_of;
+use der_modules::{Choosing, Member, copy_of, field_list, if_present, tagged};
 use der_tlv::{BackWriter, Error, Header, Length, Source, Writer};
 use std::alloc::Global;
 use std::cmp::Ordering;
@@ -91,31 +82,15 @@ impl<'a> TbsCertList<'a> {
         ensures revoked_certificates { tbs_cert_list_fields.revoked_certificates result ≡ option_copied revoked_certificates.entry }
         ensures crl_extensions { tbs_cert_list_fields.crl_extensions result ≡ option_copied crl_extensions.entry }
     {
-        let first = match crl_extensions {
-            Some(first) => Some(Explicit {
-                fields: Field {
-                    first: copy_of(first),
-                    rest: End,
-                },
-            }),
-            None => None,
-        };
-        let rest = Field { first, rest: End };
-        let first = match revoked_certificates {
-            Some(value) => Some(copy_of(value)),
-            None => None,
-        };
-        let rest = Field { first, rest };
-        let first = next_update;
-        let rest = Field { first, rest };
-        let first = this_update;
-        let rest = Field { first, rest };
-        let first = copy_of(issuer);
-        let rest = Field { first, rest };
-        let first = copy_of(signature);
-        let rest = Field { first, rest };
-        let first = version;
-        let list = Field { first, rest };
+        let list = field_list![
+            version,
+            copy_of(signature),
+            copy_of(issuer),
+            this_update,
+            next_update,
+            if_present!(value in revoked_certificates => copy_of(value)),
+            if_present!(value in crl_extensions => tagged!(Explicit, copy_of(value)))
+        ];
         let fields = Fields7 { list };
         TbsCertList { fields }
     }
@@ -160,20 +135,14 @@ impl<'a> TbsCertList<'a> {
     pub fn revoked_certificates(&self) -> Option<&ListRef<'a, RevokedCertificate<'a>>>
         ensures { option_copied result ≡ tbs_cert_list_fields.revoked_certificates self.now }
     {
-        match &self.fields.list.rest.rest.rest.rest.rest.first {
-            Some(value) => Some(value),
-            None => None,
-        }
+        if_present!(value in &self.fields.list.rest.rest.rest.rest.rest.first => value)
     }
 
     /// `crlExtensions`, `[0] Extensions OPTIONAL`.
     pub fn crl_extensions(&self) -> Option<&Extensions<'a>>
         ensures { option_copied result ≡ tbs_cert_list_fields.crl_extensions self.now }
     {
-        match &self.fields.list.rest.rest.rest.rest.rest.rest.first {
-            Some(value) => Some(&value.fields.first),
-            None => None,
-        }
+        if_present!(value in &self.fields.list.rest.rest.rest.rest.rest.rest.first => &value.fields.first)
     }
 }
 
@@ -242,40 +211,20 @@ impl<'a> ValueOrd for TbsCertList<'a> {
     }
 }
 
+impl<'a> Member for TbsCertList<'a> {
+    ghost member = { struct_member ⟦<SequenceTag as TagMarker>⟧.TAG (λ v. v.fields.list)
+        (optional_field ⟦<Version as Member>⟧.member
+        (field ⟦<AlgorithmIdentifier<'a> as Member>⟧.member
+        (field ⟦<Name<'a> as Member>⟧.member
+        (choice_field ⟦<Time as Choosing>⟧.choice
+        (optional_choice_field ⟦<Time as Choosing>⟧.choice
+        (optional_field ⟦<ListRef<'a, RevokedCertificate<'a>> as Member>⟧.member
+        (optional_field ⟦<Explicit<Extensions<'a>, 0> as Member>⟧.member
+        no_fields))))))) };
+}
+
 impl<'a> ContentsEq for TbsCertList<'a> {
-    ghost contents_eq = { λ v w. (member_equality ⟦<Option<Version> as Form>⟧
-        (optional_starts ⟦<Version as Form>⟧ (one_tag ⟦<IntegerTag as TagMarker>⟧.TAG ⟦<u8 as FormValue>⟧.value.contents))
-        ⟦<Option<Version> as PartialEq>⟧.eq
-        (optional_equality ⟦<Version as Form>⟧ (one_tag ⟦<IntegerTag as TagMarker>⟧.TAG ⟦<u8 as FormValue>⟧.value.contents) ⟦<Version as PartialEq>⟧.eq (one_tag_equality ⟦<IntegerTag as TagMarker>⟧.TAG ⟦<u8 as FormValue>⟧.value.contents ⟦<u8 as FormValue>⟧.value.comparable ⟦<u8 as PartialEq>⟧.eq u8_contents_eq.contents_eq-law))
-        (member_equality ⟦<AlgorithmIdentifier<'a> as Form>⟧
-        (tagged_starts ⟦<AlgorithmIdentifier<'a> as Form>⟧ (one_tag ⟦<SequenceTag as TagMarker>⟧.TAG ⟦<AlgorithmIdentifier<'a> as FormValue>⟧.value.contents))
-        ⟦<AlgorithmIdentifier<'a> as PartialEq>⟧.eq
-        (one_tag_equality ⟦<SequenceTag as TagMarker>⟧.TAG ⟦<AlgorithmIdentifier<'a> as FormValue>⟧.value.contents ⟦<AlgorithmIdentifier<'a> as FormValue>⟧.value.comparable ⟦<AlgorithmIdentifier<'a> as PartialEq>⟧.eq algorithm_identifier_contents_eq.contents_eq-law)
-        (member_equality ⟦<Name<'a> as Form>⟧
-        (tagged_starts ⟦<Name<'a> as Form>⟧ (one_tag ⟦<SequenceTag as TagMarker>⟧.TAG ⟦<RdnSequence<'a> as FormValue>⟧.value.contents))
-        ⟦<Name<'a> as PartialEq>⟧.eq
-        (one_tag_equality ⟦<SequenceTag as TagMarker>⟧.TAG ⟦<RdnSequence<'a> as FormValue>⟧.value.contents ⟦<RdnSequence<'a> as FormValue>⟧.value.comparable ⟦<RdnSequence<'a> as PartialEq>⟧.eq rdn_sequence_contents_eq.contents_eq-law)
-        (member_equality ⟦<Time as Form>⟧
-        (tagged_starts ⟦<Time as Form>⟧ (own_tags ⟦<Time as Form>⟧.tags ⟦<Time as Form>⟧.first_tag_of ⟦<Time as Form>⟧.encoding ⟦<Time as Tagged>⟧.tag_of ⟦<Time as FormValue>⟧.value.contents time_tagged.encoding_is-law time_tagged.own_tag-law time_tagged.first_tag_is-law))
-        ⟦<Time as PartialEq>⟧.eq
-        time_encoding_eq.encoding_eq-law
-        (member_equality ⟦<Option<Time> as Form>⟧
-        (optional_starts ⟦<Time as Form>⟧ (own_tags ⟦<Time as Form>⟧.tags ⟦<Time as Form>⟧.first_tag_of ⟦<Time as Form>⟧.encoding ⟦<Time as Tagged>⟧.tag_of ⟦<Time as FormValue>⟧.value.contents time_tagged.encoding_is-law time_tagged.own_tag-law time_tagged.first_tag_is-law))
-        ⟦<Option<Time> as PartialEq>⟧.eq
-        (optional_equality ⟦<Time as Form>⟧ (own_tags ⟦<Time as Form>⟧.tags ⟦<Time as Form>⟧.first_tag_of ⟦<Time as Form>⟧.encoding ⟦<Time as Tagged>⟧.tag_of ⟦<Time as FormValue>⟧.value.contents time_tagged.encoding_is-law time_tagged.own_tag-law time_tagged.first_tag_is-law) ⟦<Time as PartialEq>⟧.eq time_encoding_eq.encoding_eq-law)
-        (member_equality ⟦<Option<ListRef<'a, RevokedCertificate<'a>>> as Form>⟧
-        (optional_starts ⟦<ListRef<'a, RevokedCertificate<'a>> as Form>⟧ (one_tag ⟦<SequenceTag as TagMarker>⟧.TAG ⟦<ListRef<'a, RevokedCertificate<'a>> as FormValue>⟧.value.contents))
-        ⟦<Option<ListRef<'a, RevokedCertificate<'a>>> as PartialEq>⟧.eq
-        (optional_equality ⟦<ListRef<'a, RevokedCertificate<'a>> as Form>⟧ (one_tag ⟦<SequenceTag as TagMarker>⟧.TAG ⟦<ListRef<'a, RevokedCertificate<'a>> as FormValue>⟧.value.contents) ⟦<ListRef<'a, RevokedCertificate<'a>> as PartialEq>⟧.eq (one_tag_equality ⟦<SequenceTag as TagMarker>⟧.TAG ⟦<ListRef<'a, RevokedCertificate<'a>> as FormValue>⟧.value.contents ⟦<ListRef<'a, RevokedCertificate<'a>> as FormValue>⟧.value.comparable ⟦<ListRef<'a, RevokedCertificate<'a>> as PartialEq>⟧.eq (λ v w. (λ one. bytes_decides v.octets.octets.now w.octets.octets.now))))
-        (member_equality ⟦<Option<Explicit<Extensions<'a>, 0>> as Form>⟧
-        (optional_starts ⟦<Explicit<Extensions<'a>, 0> as Form>⟧ (one_tag ⟦<ExplicitTag<0> as TagMarker>⟧.TAG ⟦<Explicit<Extensions<'a>, 0> as FormValue>⟧.value.contents))
-        ⟦<Option<Explicit<Extensions<'a>, 0>> as PartialEq>⟧.eq
-        (optional_equality ⟦<Explicit<Extensions<'a>, 0> as Form>⟧ (one_tag ⟦<ExplicitTag<0> as TagMarker>⟧.TAG ⟦<Explicit<Extensions<'a>, 0> as FormValue>⟧.value.contents) ⟦<Explicit<Extensions<'a>, 0> as PartialEq>⟧.eq (one_tag_equality ⟦<ExplicitTag<0> as TagMarker>⟧.TAG ⟦<Explicit<Extensions<'a>, 0> as FormValue>⟧.value.contents ⟦<Explicit<Extensions<'a>, 0> as FormValue>⟧.value.comparable ⟦<Explicit<Extensions<'a>, 0> as PartialEq>⟧.eq (λ v w. ((member_equality ⟦<Extensions<'a> as Form>⟧
-        (tagged_starts ⟦<Extensions<'a> as Form>⟧ (one_tag ⟦<SequenceTag as TagMarker>⟧.TAG ⟦<Extensions<'a> as FormValue>⟧.value.contents))
-        ⟦<Extensions<'a> as PartialEq>⟧.eq
-        (one_tag_equality ⟦<SequenceTag as TagMarker>⟧.TAG ⟦<Extensions<'a> as FormValue>⟧.value.contents ⟦<Extensions<'a> as FormValue>⟧.value.comparable ⟦<Extensions<'a> as PartialEq>⟧.eq extensions_contents_eq.contents_eq-law)
-        no_equality).equal v.fields w.fields))))
-        no_equality))))))).equal v.fields.list w.fields.list };
+    ghost contents_eq = { ⟦<TbsCertList<'a> as Member>⟧.member.equal };
 }
 
 impl<'a> CopyIsDuplicate for TbsCertList<'a> {}

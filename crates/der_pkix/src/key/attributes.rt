@@ -2,18 +2,19 @@
 //!
 //! Made by tools/asn1 from key.asn1.
 
-ghost use Rattle.std.specs.Cmp.Lexicographic.{bytes_decides};
 ghost use Rattle.std.specs.Prelude.{◌≡◌, false, refl};
 ghost use Rattle.der_elem.specs.FormatMakers.{mapped_format};
 ghost use Rattle.der_modules.specs.Asn1.{parse_of};
+ghost use Rattle.der_modules.specs.Members.{seen_member};
 ghost use Rattle.der_pkix.specs.Key.Grammar.{attributes};
 
 use crate::name::Attribute;
 use der_elem::{
     ContentsEq, CopyIsDuplicate, DecodeValue, EncodeValue, Form, FormValue, OneTag, SetTag,
-    ValueOrd,
+    TagMarker, ValueOrd,
 };
 use der_lists::UnorderedSetRef;
+use der_modules::Member;
 use der_tlv::{BackWriter, Error, Header, Length, Source, Writer};
 use std::alloc::Global;
 use std::cmp::Ordering;
@@ -66,10 +67,8 @@ impl<'a, R: Source<'a>> DecodeValue<'a, R> for Attributes<'a> {
         reader: &mut R,
         header: Header,
     ) -> Result<Attributes<'a>, Error> {
-        match UnorderedSetRef::<'a, Attribute<'a>>::decode_value(alloc, reader, header) {
-            Ok(items) => Ok(Attributes { items }),
-            Err(e) => Err(e),
-        }
+        let items = UnorderedSetRef::<'a, Attribute<'a>>::decode_value(alloc, reader, header)?;
+        Ok(Attributes { items })
     }
 
     ghost takes_memory_is = { refl };
@@ -95,8 +94,12 @@ impl<'a> ValueOrd for Attributes<'a> {
     }
 }
 
+impl<'a> Member for Attributes<'a> {
+    ghost member = { seen_member ⟦<SetTag as TagMarker>⟧.TAG (λ v. v.items) ⟦<UnorderedSetRef<'a, Attribute<'a>> as Member>⟧.member };
+}
+
 impl<'a> ContentsEq for Attributes<'a> {
-    ghost contents_eq = { λ v w. (λ one. bytes_decides v.items.octets.octets.now w.items.octets.octets.now) };
+    ghost contents_eq = { ⟦<Attributes<'a> as Member>⟧.member.equal };
 }
 
 impl<'a> CopyIsDuplicate for Attributes<'a> {}

@@ -2,7 +2,6 @@
 //!
 //! Made by tools/asn1 from key.asn1.
 
-ghost use Rattle.std.proofs.Common.{lit<};
 ghost use Rattle.std.specs.Prelude.{◌≡◌, false, refl, true};
 ghost use Rattle.der_elem.specs.Accepting.{IsTlv};
 ghost use Rattle.der_elem.specs.FirstTags.{HasFirstTag};
@@ -10,22 +9,20 @@ ghost use Rattle.der_elem.specs.FormatMakers.{mapped_format};
 ghost use Rattle.der_elem.specs.KnownTagLaws.{known_either, own_is_known};
 ghost use Rattle.der_elem.specs.TaggedLaws.{tlv_tagged};
 ghost use Rattle.der_modules.specs.Asn1.{parse_of};
-ghost use Rattle.der_modules.specs.MemberLaws.{copies_of, either_equality, either_tag, one_tag, one_tag_equality, same_copies, seen_equality};
-ghost use Rattle.der_opaque.specs.contracts.null.NullContentsEq.TheImpl.Laws as null_contents_eq;
-ghost use Rattle.der_opaque.specs.contracts.object_identifier_ref.ObjectIdentifierRefContentsEq.TheImpl.Laws as objectidentifierref_contents_eq;
+ghost use Rattle.der_modules.specs.MemberLaws.{copies_of, same_copies};
+ghost use Rattle.der_modules.specs.Members.{seen_choice};
 ghost use Rattle.der_pkix.specs.Key.EcParameters.{tree_of};
 ghost use Rattle.der_pkix.specs.Key.Grammar.{ec_parameters};
 ghost use Rattle.der_pkix.specs.contracts.key.ec_parameters.EcParametersEq.TheImpl.Laws as ec_parameters_eq;
-ghost use Rattle.der_pkix.specs.contracts.key.specified_ec_domain.SpecifiedEcDomainContentsEq.TheImpl.Laws as specified_ec_domain_contents_eq;
 ghost use Rattle.der_pkix.specs.declared.key.ec_parameters.EcParameters.TheVariants as of;
 
 use crate::key::specified_ec_domain::SpecifiedEcDomain;
 use der_elem::{
     Choice, Decode, DecodeField, DerOrd, Duplicate, DuplicateIsEqual, EncodeValue, EncodingEq,
-    Form, FormValue, KnownTags, NullTag, ObjectIdentifierTag, SequenceTag, TagMarker, Tagged,
+    Form, FormValue, KnownTags, Tagged,
 };
 use der_fields::{OneOf, cmp_headers};
-use der_modules::{CopyLaws, copy_of};
+use der_modules::{Choosing, CopyLaws, copy_of};
 use der_opaque::{Null, ObjectIdentifierRef};
 use der_tlv::{BackWriter, Error, Length, Source, Tag, Writer};
 use std::alloc::Global;
@@ -108,25 +105,13 @@ impl<'a> Tagged for EcParameters<'a> {
         }
     }
 
-    ghost encoding_is = { λ v. (either_tag ⟦<OneOf<ObjectIdentifierRef<'a, 39>, Null> as Form>⟧ ⟦<SpecifiedEcDomain<'a> as Form>⟧
-        (either_tag ⟦<ObjectIdentifierRef<'a, 39> as Form>⟧ ⟦<Null as Form>⟧
-        (one_tag ⟦<ObjectIdentifierTag as TagMarker>⟧.TAG ⟦<ObjectIdentifierRef<'a, 39> as FormValue>⟧.value.contents)
-        (one_tag ⟦<NullTag as TagMarker>⟧.TAG ⟦<Null as FormValue>⟧.value.contents))
-        (one_tag ⟦<SequenceTag as TagMarker>⟧.TAG ⟦<SpecifiedEcDomain<'a> as FormValue>⟧.value.contents)).encoding_is (tree_of v) };
+    ghost encoding_is = { ⟦<EcParameters<'a> as Choosing>⟧.choice.has_tag.encoding_is };
 
     ghost accepted_is_tlv = { λ rules v b. elim v as (λ k. ⟦<Tree<'a> as Form>⟧.accepts rules (tree_of k) b → IsTlv b) [ of.NamedCurve x ↦ λ a. tlv_tagged _ ⟦<ObjectIdentifierRef<'a, 39> as FormValue>⟧.value.accepts rules x b a.0.0 | of.ImplicitCurve x ↦ λ a. tlv_tagged _ ⟦<Null as FormValue>⟧.value.accepts rules x b a.0.0 | of.SpecifiedCurve x ↦ λ a. tlv_tagged _ ⟦<SpecifiedEcDomain<'a> as FormValue>⟧.value.accepts rules x b a.0 ] };
 
-    ghost own_tag = { λ v. (either_tag ⟦<OneOf<ObjectIdentifierRef<'a, 39>, Null> as Form>⟧ ⟦<SpecifiedEcDomain<'a> as Form>⟧
-        (either_tag ⟦<ObjectIdentifierRef<'a, 39> as Form>⟧ ⟦<Null as Form>⟧
-        (one_tag ⟦<ObjectIdentifierTag as TagMarker>⟧.TAG ⟦<ObjectIdentifierRef<'a, 39> as FormValue>⟧.value.contents)
-        (one_tag ⟦<NullTag as TagMarker>⟧.TAG ⟦<Null as FormValue>⟧.value.contents))
-        (one_tag ⟦<SequenceTag as TagMarker>⟧.TAG ⟦<SpecifiedEcDomain<'a> as FormValue>⟧.value.contents)).own_tag (tree_of v) };
+    ghost own_tag = { ⟦<EcParameters<'a> as Choosing>⟧.choice.has_tag.own_tag };
 
-    ghost first_tag_is = { λ v. (either_tag ⟦<OneOf<ObjectIdentifierRef<'a, 39>, Null> as Form>⟧ ⟦<SpecifiedEcDomain<'a> as Form>⟧
-        (either_tag ⟦<ObjectIdentifierRef<'a, 39> as Form>⟧ ⟦<Null as Form>⟧
-        (one_tag ⟦<ObjectIdentifierTag as TagMarker>⟧.TAG ⟦<ObjectIdentifierRef<'a, 39> as FormValue>⟧.value.contents)
-        (one_tag ⟦<NullTag as TagMarker>⟧.TAG ⟦<Null as FormValue>⟧.value.contents))
-        (one_tag ⟦<SequenceTag as TagMarker>⟧.TAG ⟦<SpecifiedEcDomain<'a> as FormValue>⟧.value.contents)).first_tag_is (tree_of v) };
+    ghost first_tag_is = { ⟦<EcParameters<'a> as Choosing>⟧.choice.has_tag.first_tag_is };
 
     ghost re_reads_alike = { λ v. elim v as (λ k. ⟦<Tree<'a> as FormValue>⟧.value.re_reads (tree_of k) ≡ true → ⟦<Tree<'a> as Form>⟧.re_reads (tree_of k) ≡ true) [ of.NamedCurve x ↦ λ h. h | of.ImplicitCurve x ↦ λ h. h | of.SpecifiedCurve x ↦ λ h. h ] };
 
@@ -223,22 +208,17 @@ impl<'a> DerOrd for EcParameters<'a> {
     }
 }
 
+impl<'a> Choosing for EcParameters<'a> {
+    ghost choice = { seen_choice tree_of ⟦<EcParameters<'a> as PartialEq>⟧.eq ⟦<Tree<'a> as Choosing>⟧.choice
+        (λ v w. elim v as (λ k. ⟦<EcParameters<'a> as PartialEq>⟧.eq k w ≡ ⟦<Tree<'a> as Choosing>⟧.choice.eq (tree_of k) (tree_of w)) [
+          | of.NamedCurve x ↦ elim w as (λ k. ⟦<EcParameters<'a> as PartialEq>⟧.eq (of.NamedCurve x) k ≡ ⟦<Tree<'a> as Choosing>⟧.choice.eq (tree_of (of.NamedCurve x)) (tree_of k)) [ of.NamedCurve y ↦ refl | of.ImplicitCurve y ↦ refl | of.SpecifiedCurve y ↦ refl ]
+          | of.ImplicitCurve x ↦ elim w as (λ k. ⟦<EcParameters<'a> as PartialEq>⟧.eq (of.ImplicitCurve x) k ≡ ⟦<Tree<'a> as Choosing>⟧.choice.eq (tree_of (of.ImplicitCurve x)) (tree_of k)) [ of.NamedCurve y ↦ refl | of.ImplicitCurve y ↦ refl | of.SpecifiedCurve y ↦ refl ]
+          | of.SpecifiedCurve x ↦ elim w as (λ k. ⟦<EcParameters<'a> as PartialEq>⟧.eq (of.SpecifiedCurve x) k ≡ ⟦<Tree<'a> as Choosing>⟧.choice.eq (tree_of (of.SpecifiedCurve x)) (tree_of k)) [ of.NamedCurve y ↦ refl | of.ImplicitCurve y ↦ refl | of.SpecifiedCurve y ↦ refl ]
+        ]) };
+}
+
 impl<'a> EncodingEq for EcParameters<'a> {
-    ghost encoding_eq = { seen_equality tree_of ⟦<EcParameters<'a> as PartialEq>⟧.eq ⟦<Tree<'a> as PartialEq>⟧.eq (λ v w. elim v as (λ k. ⟦<EcParameters<'a> as PartialEq>⟧.eq k w ≡ ⟦<Tree<'a> as PartialEq>⟧.eq (tree_of k) (tree_of w)) [ of.NamedCurve x ↦ elim w as (λ k. ⟦<EcParameters<'a> as PartialEq>⟧.eq (of.NamedCurve x) k ≡ ⟦<Tree<'a> as PartialEq>⟧.eq (tree_of (of.NamedCurve x)) (tree_of k)) [ of.NamedCurve y ↦ refl | of.ImplicitCurve y ↦ refl | of.SpecifiedCurve y ↦ refl ] | of.ImplicitCurve x ↦ elim w as (λ k. ⟦<EcParameters<'a> as PartialEq>⟧.eq (of.ImplicitCurve x) k ≡ ⟦<Tree<'a> as PartialEq>⟧.eq (tree_of (of.ImplicitCurve x)) (tree_of k)) [ of.NamedCurve y ↦ refl | of.ImplicitCurve y ↦ refl | of.SpecifiedCurve y ↦ refl ] | of.SpecifiedCurve x ↦ elim w as (λ k. ⟦<EcParameters<'a> as PartialEq>⟧.eq (of.SpecifiedCurve x) k ≡ ⟦<Tree<'a> as PartialEq>⟧.eq (tree_of (of.SpecifiedCurve x)) (tree_of k)) [ of.NamedCurve y ↦ refl | of.ImplicitCurve y ↦ refl | of.SpecifiedCurve y ↦ refl ] ]) (either_equality ⟦<OneOf<ObjectIdentifierRef<'a, 39>, Null> as Form>⟧ ⟦<SpecifiedEcDomain<'a> as Form>⟧
-        (either_tag ⟦<ObjectIdentifierRef<'a, 39> as Form>⟧ ⟦<Null as Form>⟧
-        (one_tag ⟦<ObjectIdentifierTag as TagMarker>⟧.TAG ⟦<ObjectIdentifierRef<'a, 39> as FormValue>⟧.value.contents)
-        (one_tag ⟦<NullTag as TagMarker>⟧.TAG ⟦<Null as FormValue>⟧.value.contents))
-        (one_tag ⟦<SequenceTag as TagMarker>⟧.TAG ⟦<SpecifiedEcDomain<'a> as FormValue>⟧.value.contents)
-        ⟦<OneOf<ObjectIdentifierRef<'a, 39>, Null> as PartialEq>⟧.eq ⟦<SpecifiedEcDomain<'a> as PartialEq>⟧.eq
-        (either_equality ⟦<ObjectIdentifierRef<'a, 39> as Form>⟧ ⟦<Null as Form>⟧
-        (one_tag ⟦<ObjectIdentifierTag as TagMarker>⟧.TAG ⟦<ObjectIdentifierRef<'a, 39> as FormValue>⟧.value.contents)
-        (one_tag ⟦<NullTag as TagMarker>⟧.TAG ⟦<Null as FormValue>⟧.value.contents)
-        ⟦<ObjectIdentifierRef<'a, 39> as PartialEq>⟧.eq ⟦<Null as PartialEq>⟧.eq
-        (one_tag_equality ⟦<ObjectIdentifierTag as TagMarker>⟧.TAG ⟦<ObjectIdentifierRef<'a, 39> as FormValue>⟧.value.contents ⟦<ObjectIdentifierRef<'a, 39> as FormValue>⟧.value.comparable ⟦<ObjectIdentifierRef<'a, 39> as PartialEq>⟧.eq (objectidentifierref_contents_eq.contents_eq-law 39 (record { fits = lit< tt })))
-        (one_tag_equality ⟦<NullTag as TagMarker>⟧.TAG ⟦<Null as FormValue>⟧.value.contents ⟦<Null as FormValue>⟧.value.comparable ⟦<Null as PartialEq>⟧.eq null_contents_eq.contents_eq-law)
-        ⟦<OneOf<ObjectIdentifierRef<'a, 39>, Null> as PartialEq>⟧.eq (λ v x. refl) (λ w y. refl) (λ v w. refl) (λ w v. refl))
-        (one_tag_equality ⟦<SequenceTag as TagMarker>⟧.TAG ⟦<SpecifiedEcDomain<'a> as FormValue>⟧.value.contents ⟦<SpecifiedEcDomain<'a> as FormValue>⟧.value.comparable ⟦<SpecifiedEcDomain<'a> as PartialEq>⟧.eq specified_ec_domain_contents_eq.contents_eq-law)
-        ⟦<OneOf<OneOf<ObjectIdentifierRef<'a, 39>, Null>, SpecifiedEcDomain<'a>> as PartialEq>⟧.eq (λ v x. refl) (λ w y. refl) (λ v w. refl) (λ w v. refl)) };
+    ghost encoding_eq = { ⟦<EcParameters<'a> as Choosing>⟧.choice.equal };
 }
 
 impl<'a> CopyLaws for EcParameters<'a> {

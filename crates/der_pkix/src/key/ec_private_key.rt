@@ -3,29 +3,22 @@
 //! Made by tools/asn1 from key.asn1.
 
 ghost use Rattle.std.specs.Prelude.{◌∷◌, ◌≡◌, [], false, refl};
-ghost use Rattle.der_bits.specs.contracts.bit_string_ref.BitStringRefContentsEq.TheImpl.Laws as bitstringref_contents_eq;
 ghost use Rattle.der_elem.specs.FormatMakers.{mapped_format};
-ghost use Rattle.der_elem.specs.contracts.integer.unsigned.U8ContentsEq.TheImpl.Laws as u8_contents_eq;
 ghost use Rattle.der_modules.specs.Asn1.{context, explicit_encoding, joined, optional, parse_of};
-ghost use Rattle.der_modules.specs.MemberLaws.{member_equality, no_equality, one_tag, one_tag_equality, optional_equality, optional_starts, own_tags, tagged_starts};
-ghost use Rattle.der_opaque.specs.contracts.octet_string_ref.OctetStringRefContentsEq.TheImpl.Laws as octetstringref_contents_eq;
+ghost use Rattle.der_modules.specs.Members.{field, no_fields, optional_field, struct_member};
 ghost use Rattle.der_pkix.specs.Key.EcPrivateKey as ec_private_key_fields;
 ghost use Rattle.der_pkix.specs.Key.Grammar.{ec_private_key};
-ghost use Rattle.der_pkix.specs.contracts.key.ec_parameters.EcParametersEncodingEq.TheImpl.Laws as ec_parameters_encoding_eq;
-ghost use Rattle.der_pkix.specs.contracts.key.ec_parameters.EcParametersTagged.TheImpl.Laws as ec_parameters_tagged;
 ghost use Rattle.der_pkix.specs.declared.key.ec_private_key.EcPrivateKey.{EcPrivateKey};
 
 use crate::key::aliases::EcPrivateKeyVersion;
 use crate::key::ec_parameters::EcParameters;
 use der_bits::BitStringRef;
 use der_elem::{
-    BitStringTag, ContentsEq, CopyIsDuplicate, DecodeValue, EncodeValue, Form, FormValue,
-    IntegerTag, OctetStringTag, OneTag, Sequence, SequenceTag, TagMarker, Tagged, ValueOrd,
+    ContentsEq, CopyIsDuplicate, DecodeValue, EncodeValue, Form, FormValue, OneTag, Sequence,
+    SequenceTag, TagMarker, ValueOrd,
 };
-use der_fields::{
-    DecodeFields, EncodeFields, End, Explicit, ExplicitTag, Field, FieldList, Fields4, FieldsOrd,
-};
-use der_modules::copy_of;
+use der_fields::{DecodeFields, EncodeFields, Explicit, FieldList, Fields4, FieldsOrd};
+use der_modules::{Member, copy_of, field_list, if_present, tagged};
 use der_opaque::OctetStringRef;
 use der_tlv::{BackWriter, Error, Header, Length, Source, Writer};
 use std::alloc::Global;
@@ -70,27 +63,12 @@ impl<'a> EcPrivateKey<'a> {
         ensures parameters { ec_private_key_fields.parameters result ≡ option_copied parameters.entry }
         ensures public_key { ec_private_key_fields.public_key result ≡ public_key.entry }
     {
-        let first = match public_key {
-            Some(first) => Some(Explicit {
-                fields: Field { first, rest: End },
-            }),
-            None => None,
-        };
-        let rest = Field { first, rest: End };
-        let first = match parameters {
-            Some(first) => Some(Explicit {
-                fields: Field {
-                    first: copy_of(first),
-                    rest: End,
-                },
-            }),
-            None => None,
-        };
-        let rest = Field { first, rest };
-        let first = private_key;
-        let rest = Field { first, rest };
-        let first = version;
-        let list = Field { first, rest };
+        let list = field_list![
+            version,
+            private_key,
+            if_present!(value in parameters => tagged!(Explicit, copy_of(value))),
+            if_present!(value in public_key => tagged!(Explicit, value))
+        ];
         let fields = Fields4 { list };
         EcPrivateKey { fields }
     }
@@ -113,20 +91,14 @@ impl<'a> EcPrivateKey<'a> {
     pub fn parameters(&self) -> Option<&EcParameters<'a>>
         ensures { option_copied result ≡ ec_private_key_fields.parameters self.now }
     {
-        match &self.fields.list.rest.rest.first {
-            Some(value) => Some(&value.fields.first),
-            None => None,
-        }
+        if_present!(value in &self.fields.list.rest.rest.first => &value.fields.first)
     }
 
     /// `publicKey`, `[1] BIT STRING OPTIONAL`.
     pub fn public_key(&self) -> Option<&BitStringRef<'a>>
         ensures { option_copied result ≡ ec_private_key_fields.public_key self.now }
     {
-        match &self.fields.list.rest.rest.rest.first {
-            Some(value) => Some(&value.fields.first),
-            None => None,
-        }
+        if_present!(value in &self.fields.list.rest.rest.rest.first => &value.fields.first)
     }
 }
 
@@ -192,32 +164,17 @@ impl<'a> ValueOrd for EcPrivateKey<'a> {
     }
 }
 
+impl<'a> Member for EcPrivateKey<'a> {
+    ghost member = { struct_member ⟦<SequenceTag as TagMarker>⟧.TAG (λ v. v.fields.list)
+        (field ⟦<EcPrivateKeyVersion as Member>⟧.member
+        (field ⟦<OctetStringRef<'a> as Member>⟧.member
+        (optional_field ⟦<Explicit<EcParameters<'a>, 0> as Member>⟧.member
+        (optional_field ⟦<Explicit<BitStringRef<'a>, 1> as Member>⟧.member
+        no_fields)))) };
+}
+
 impl<'a> ContentsEq for EcPrivateKey<'a> {
-    ghost contents_eq = { λ v w. (member_equality ⟦<EcPrivateKeyVersion as Form>⟧
-        (tagged_starts ⟦<EcPrivateKeyVersion as Form>⟧ (one_tag ⟦<IntegerTag as TagMarker>⟧.TAG ⟦<u8 as FormValue>⟧.value.contents))
-        ⟦<EcPrivateKeyVersion as PartialEq>⟧.eq
-        (one_tag_equality ⟦<IntegerTag as TagMarker>⟧.TAG ⟦<u8 as FormValue>⟧.value.contents ⟦<u8 as FormValue>⟧.value.comparable ⟦<u8 as PartialEq>⟧.eq u8_contents_eq.contents_eq-law)
-        (member_equality ⟦<OctetStringRef<'a> as Form>⟧
-        (tagged_starts ⟦<OctetStringRef<'a> as Form>⟧ (one_tag ⟦<OctetStringTag as TagMarker>⟧.TAG ⟦<OctetStringRef<'a> as FormValue>⟧.value.contents))
-        ⟦<OctetStringRef<'a> as PartialEq>⟧.eq
-        (one_tag_equality ⟦<OctetStringTag as TagMarker>⟧.TAG ⟦<OctetStringRef<'a> as FormValue>⟧.value.contents ⟦<OctetStringRef<'a> as FormValue>⟧.value.comparable ⟦<OctetStringRef<'a> as PartialEq>⟧.eq octetstringref_contents_eq.contents_eq-law)
-        (member_equality ⟦<Option<Explicit<EcParameters<'a>, 0>> as Form>⟧
-        (optional_starts ⟦<Explicit<EcParameters<'a>, 0> as Form>⟧ (one_tag ⟦<ExplicitTag<0> as TagMarker>⟧.TAG ⟦<Explicit<EcParameters<'a>, 0> as FormValue>⟧.value.contents))
-        ⟦<Option<Explicit<EcParameters<'a>, 0>> as PartialEq>⟧.eq
-        (optional_equality ⟦<Explicit<EcParameters<'a>, 0> as Form>⟧ (one_tag ⟦<ExplicitTag<0> as TagMarker>⟧.TAG ⟦<Explicit<EcParameters<'a>, 0> as FormValue>⟧.value.contents) ⟦<Explicit<EcParameters<'a>, 0> as PartialEq>⟧.eq (one_tag_equality ⟦<ExplicitTag<0> as TagMarker>⟧.TAG ⟦<Explicit<EcParameters<'a>, 0> as FormValue>⟧.value.contents ⟦<Explicit<EcParameters<'a>, 0> as FormValue>⟧.value.comparable ⟦<Explicit<EcParameters<'a>, 0> as PartialEq>⟧.eq (λ v w. ((member_equality ⟦<EcParameters<'a> as Form>⟧
-        (tagged_starts ⟦<EcParameters<'a> as Form>⟧ (own_tags ⟦<EcParameters<'a> as Form>⟧.tags ⟦<EcParameters<'a> as Form>⟧.first_tag_of ⟦<EcParameters<'a> as Form>⟧.encoding ⟦<EcParameters<'a> as Tagged>⟧.tag_of ⟦<EcParameters<'a> as FormValue>⟧.value.contents ec_parameters_tagged.encoding_is-law ec_parameters_tagged.own_tag-law ec_parameters_tagged.first_tag_is-law))
-        ⟦<EcParameters<'a> as PartialEq>⟧.eq
-        ec_parameters_encoding_eq.encoding_eq-law
-        no_equality).equal v.fields w.fields))))
-        (member_equality ⟦<Option<Explicit<BitStringRef<'a>, 1>> as Form>⟧
-        (optional_starts ⟦<Explicit<BitStringRef<'a>, 1> as Form>⟧ (one_tag ⟦<ExplicitTag<1> as TagMarker>⟧.TAG ⟦<Explicit<BitStringRef<'a>, 1> as FormValue>⟧.value.contents))
-        ⟦<Option<Explicit<BitStringRef<'a>, 1>> as PartialEq>⟧.eq
-        (optional_equality ⟦<Explicit<BitStringRef<'a>, 1> as Form>⟧ (one_tag ⟦<ExplicitTag<1> as TagMarker>⟧.TAG ⟦<Explicit<BitStringRef<'a>, 1> as FormValue>⟧.value.contents) ⟦<Explicit<BitStringRef<'a>, 1> as PartialEq>⟧.eq (one_tag_equality ⟦<ExplicitTag<1> as TagMarker>⟧.TAG ⟦<Explicit<BitStringRef<'a>, 1> as FormValue>⟧.value.contents ⟦<Explicit<BitStringRef<'a>, 1> as FormValue>⟧.value.comparable ⟦<Explicit<BitStringRef<'a>, 1> as PartialEq>⟧.eq (λ v w. ((member_equality ⟦<BitStringRef<'a> as Form>⟧
-        (tagged_starts ⟦<BitStringRef<'a> as Form>⟧ (one_tag ⟦<BitStringTag as TagMarker>⟧.TAG ⟦<BitStringRef<'a> as FormValue>⟧.value.contents))
-        ⟦<BitStringRef<'a> as PartialEq>⟧.eq
-        (one_tag_equality ⟦<BitStringTag as TagMarker>⟧.TAG ⟦<BitStringRef<'a> as FormValue>⟧.value.contents ⟦<BitStringRef<'a> as FormValue>⟧.value.comparable ⟦<BitStringRef<'a> as PartialEq>⟧.eq bitstringref_contents_eq.contents_eq-law)
-        no_equality).equal v.fields w.fields))))
-        no_equality)))).equal v.fields.list w.fields.list };
+    ghost contents_eq = { ⟦<EcPrivateKey<'a> as Member>⟧.member.equal };
 }
 
 impl<'a> CopyIsDuplicate for EcPrivateKey<'a> {}

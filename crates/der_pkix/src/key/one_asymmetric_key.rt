@@ -3,16 +3,11 @@
 //! Made by tools/asn1 from key.asn1.
 
 ghost use Rattle.std.specs.Prelude.{◌∷◌, ◌≡◌, [], false, refl, true};
-ghost use Rattle.der_bits.specs.contracts.bit_string_ref.BitStringRefContentsEq.TheImpl.Laws as bitstringref_contents_eq;
 ghost use Rattle.der_elem.specs.FormatMakers.{mapped_format};
-ghost use Rattle.der_elem.specs.contracts.integer.unsigned.U8ContentsEq.TheImpl.Laws as u8_contents_eq;
 ghost use Rattle.der_modules.specs.Asn1.{context, implicit_encoding, joined, optional, parse_of};
-ghost use Rattle.der_modules.specs.MemberLaws.{member_equality, no_equality, one_tag, one_tag_equality, optional_equality, optional_starts, tagged_starts};
-ghost use Rattle.der_opaque.specs.contracts.octet_string_ref.OctetStringRefContentsEq.TheImpl.Laws as octetstringref_contents_eq;
+ghost use Rattle.der_modules.specs.Members.{field, no_fields, optional_field, struct_member};
 ghost use Rattle.der_pkix.specs.Key.Grammar.{one_asymmetric_key};
 ghost use Rattle.der_pkix.specs.Key.OneAsymmetricKey as one_asymmetric_key_fields;
-ghost use Rattle.der_pkix.specs.contracts.algorithm_identifier.AlgorithmIdentifierContentsEq.TheImpl.Laws as algorithm_identifier_contents_eq;
-ghost use Rattle.der_pkix.specs.contracts.key.attributes.AttributesContentsEq.TheImpl.Laws as attributes_contents_eq;
 ghost use Rattle.der_pkix.specs.declared.key.one_asymmetric_key.OneAsymmetricKey.{OneAsymmetricKey};
 
 use crate::AlgorithmIdentifier;
@@ -20,13 +15,11 @@ use crate::key::aliases::OneAsymmetricKeyVersion;
 use crate::key::attributes::Attributes;
 use der_bits::BitStringRef;
 use der_elem::{
-    BitStringTag, ContentsEq, CopyIsDuplicate, DecodeValue, EncodeValue, Form, FormValue,
-    IntegerTag, OctetStringTag, OneTag, Sequence, SequenceTag, SetTag, TagMarker, ValueOrd,
+    ContentsEq, CopyIsDuplicate, DecodeValue, EncodeValue, Form, FormValue, OneTag, Sequence,
+    SequenceTag, TagMarker, ValueOrd,
 };
-use der_fields::{
-    DecodeFields, EncodeFields, End, Field, FieldList, Fields5, FieldsOrd, Implicit, ImplicitTag,
-};
-use der_modules::copy_of;
+use der_fields::{DecodeFields, EncodeFields, FieldList, Fields5, FieldsOrd, Implicit};
+use der_modules::{Member, copy_of, field_list, if_present};
 use der_opaque::OctetStringRef;
 use der_tlv::{BackWriter, Error, Header, Length, Source, Writer};
 use std::alloc::Global;
@@ -80,24 +73,13 @@ impl<'a> OneAsymmetricKey<'a> {
         ensures attributes { one_asymmetric_key_fields.attributes result ≡ option_copied attributes.entry }
         ensures public_key { one_asymmetric_key_fields.public_key result ≡ public_key.entry }
     {
-        let first = match public_key {
-            Some(value) => Some(Implicit { value }),
-            None => None,
-        };
-        let rest = Field { first, rest: End };
-        let first = match attributes {
-            Some(value) => Some(Implicit {
-                value: copy_of(value),
-            }),
-            None => None,
-        };
-        let rest = Field { first, rest };
-        let first = private_key;
-        let rest = Field { first, rest };
-        let first = copy_of(private_key_algorithm);
-        let rest = Field { first, rest };
-        let first = version;
-        let list = Field { first, rest };
+        let list = field_list![
+            version,
+            copy_of(private_key_algorithm),
+            private_key,
+            if_present!(value in attributes => Implicit { value: copy_of(value) }),
+            if_present!(value in public_key => Implicit { value })
+        ];
         let fields = Fields5 { list };
         OneAsymmetricKey { fields }
     }
@@ -127,20 +109,14 @@ impl<'a> OneAsymmetricKey<'a> {
     pub fn attributes(&self) -> Option<&Attributes<'a>>
         ensures { option_copied result ≡ one_asymmetric_key_fields.attributes self.now }
     {
-        match &self.fields.list.rest.rest.rest.first {
-            Some(value) => Some(&value.value),
-            None => None,
-        }
+        if_present!(value in &self.fields.list.rest.rest.rest.first => &value.value)
     }
 
     /// `publicKey`, `[1] IMPLICIT BIT STRING OPTIONAL`.
     pub fn public_key(&self) -> Option<&BitStringRef<'a>>
         ensures { option_copied result ≡ one_asymmetric_key_fields.public_key self.now }
     {
-        match &self.fields.list.rest.rest.rest.rest.first {
-            Some(value) => Some(&value.value),
-            None => None,
-        }
+        if_present!(value in &self.fields.list.rest.rest.rest.rest.first => &value.value)
     }
 }
 
@@ -207,28 +183,18 @@ impl<'a> ValueOrd for OneAsymmetricKey<'a> {
     }
 }
 
+impl<'a> Member for OneAsymmetricKey<'a> {
+    ghost member = { struct_member ⟦<SequenceTag as TagMarker>⟧.TAG (λ v. v.fields.list)
+        (field ⟦<OneAsymmetricKeyVersion as Member>⟧.member
+        (field ⟦<AlgorithmIdentifier<'a> as Member>⟧.member
+        (field ⟦<OctetStringRef<'a> as Member>⟧.member
+        (optional_field ⟦<Implicit<Attributes<'a>, 0> as Member>⟧.member
+        (optional_field ⟦<Implicit<BitStringRef<'a>, 1> as Member>⟧.member
+        no_fields))))) };
+}
+
 impl<'a> ContentsEq for OneAsymmetricKey<'a> {
-    ghost contents_eq = { λ v w. (member_equality ⟦<OneAsymmetricKeyVersion as Form>⟧
-        (tagged_starts ⟦<OneAsymmetricKeyVersion as Form>⟧ (one_tag ⟦<IntegerTag as TagMarker>⟧.TAG ⟦<u8 as FormValue>⟧.value.contents))
-        ⟦<OneAsymmetricKeyVersion as PartialEq>⟧.eq
-        (one_tag_equality ⟦<IntegerTag as TagMarker>⟧.TAG ⟦<u8 as FormValue>⟧.value.contents ⟦<u8 as FormValue>⟧.value.comparable ⟦<u8 as PartialEq>⟧.eq u8_contents_eq.contents_eq-law)
-        (member_equality ⟦<AlgorithmIdentifier<'a> as Form>⟧
-        (tagged_starts ⟦<AlgorithmIdentifier<'a> as Form>⟧ (one_tag ⟦<SequenceTag as TagMarker>⟧.TAG ⟦<AlgorithmIdentifier<'a> as FormValue>⟧.value.contents))
-        ⟦<AlgorithmIdentifier<'a> as PartialEq>⟧.eq
-        (one_tag_equality ⟦<SequenceTag as TagMarker>⟧.TAG ⟦<AlgorithmIdentifier<'a> as FormValue>⟧.value.contents ⟦<AlgorithmIdentifier<'a> as FormValue>⟧.value.comparable ⟦<AlgorithmIdentifier<'a> as PartialEq>⟧.eq algorithm_identifier_contents_eq.contents_eq-law)
-        (member_equality ⟦<OctetStringRef<'a> as Form>⟧
-        (tagged_starts ⟦<OctetStringRef<'a> as Form>⟧ (one_tag ⟦<OctetStringTag as TagMarker>⟧.TAG ⟦<OctetStringRef<'a> as FormValue>⟧.value.contents))
-        ⟦<OctetStringRef<'a> as PartialEq>⟧.eq
-        (one_tag_equality ⟦<OctetStringTag as TagMarker>⟧.TAG ⟦<OctetStringRef<'a> as FormValue>⟧.value.contents ⟦<OctetStringRef<'a> as FormValue>⟧.value.comparable ⟦<OctetStringRef<'a> as PartialEq>⟧.eq octetstringref_contents_eq.contents_eq-law)
-        (member_equality ⟦<Option<Implicit<Attributes<'a>, 0>> as Form>⟧
-        (optional_starts ⟦<Implicit<Attributes<'a>, 0> as Form>⟧ (one_tag ⟦<ImplicitTag<SetTag, 0> as TagMarker>⟧.TAG ⟦<Implicit<Attributes<'a>, 0> as FormValue>⟧.value.contents))
-        ⟦<Option<Implicit<Attributes<'a>, 0>> as PartialEq>⟧.eq
-        (optional_equality ⟦<Implicit<Attributes<'a>, 0> as Form>⟧ (one_tag ⟦<ImplicitTag<SetTag, 0> as TagMarker>⟧.TAG ⟦<Implicit<Attributes<'a>, 0> as FormValue>⟧.value.contents) ⟦<Implicit<Attributes<'a>, 0> as PartialEq>⟧.eq (one_tag_equality ⟦<ImplicitTag<SetTag, 0> as TagMarker>⟧.TAG ⟦<Implicit<Attributes<'a>, 0> as FormValue>⟧.value.contents ⟦<Implicit<Attributes<'a>, 0> as FormValue>⟧.value.comparable ⟦<Implicit<Attributes<'a>, 0> as PartialEq>⟧.eq (λ v w. (attributes_contents_eq.contents_eq-law v.value w.value))))
-        (member_equality ⟦<Option<Implicit<BitStringRef<'a>, 1>> as Form>⟧
-        (optional_starts ⟦<Implicit<BitStringRef<'a>, 1> as Form>⟧ (one_tag ⟦<ImplicitTag<BitStringTag, 1> as TagMarker>⟧.TAG ⟦<Implicit<BitStringRef<'a>, 1> as FormValue>⟧.value.contents))
-        ⟦<Option<Implicit<BitStringRef<'a>, 1>> as PartialEq>⟧.eq
-        (optional_equality ⟦<Implicit<BitStringRef<'a>, 1> as Form>⟧ (one_tag ⟦<ImplicitTag<BitStringTag, 1> as TagMarker>⟧.TAG ⟦<Implicit<BitStringRef<'a>, 1> as FormValue>⟧.value.contents) ⟦<Implicit<BitStringRef<'a>, 1> as PartialEq>⟧.eq (one_tag_equality ⟦<ImplicitTag<BitStringTag, 1> as TagMarker>⟧.TAG ⟦<Implicit<BitStringRef<'a>, 1> as FormValue>⟧.value.contents ⟦<Implicit<BitStringRef<'a>, 1> as FormValue>⟧.value.comparable ⟦<Implicit<BitStringRef<'a>, 1> as PartialEq>⟧.eq (λ v w. (bitstringref_contents_eq.contents_eq-law v.value w.value))))
-        no_equality))))).equal v.fields.list w.fields.list };
+    ghost contents_eq = { ⟦<OneAsymmetricKey<'a> as Member>⟧.member.equal };
 }
 
 impl<'a> CopyIsDuplicate for OneAsymmetricKey<'a> {}

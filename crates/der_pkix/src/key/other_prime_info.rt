@@ -5,17 +5,17 @@
 ghost use Rattle.std.specs.Prelude.{◌∷◌, ◌≡◌, [], false, refl};
 ghost use Rattle.der_elem.specs.FormatMakers.{mapped_format};
 ghost use Rattle.der_modules.specs.Asn1.{joined, parse_of};
-ghost use Rattle.der_modules.specs.MemberLaws.{member_equality, no_equality, one_tag, one_tag_equality, tagged_starts};
-ghost use Rattle.der_numbers.specs.contracts.uint_ref.UintRefContentsEq.TheImpl.Laws as uintref_contents_eq;
+ghost use Rattle.der_modules.specs.Members.{field, no_fields, struct_member};
 ghost use Rattle.der_pkix.specs.Key.Grammar.{other_prime_info};
 ghost use Rattle.der_pkix.specs.Key.OtherPrimeInfo as other_prime_info_fields;
 ghost use Rattle.der_pkix.specs.declared.key.other_prime_info.OtherPrimeInfo.{OtherPrimeInfo};
 
 use der_elem::{
-    ContentsEq, CopyIsDuplicate, DecodeValue, EncodeValue, Form, FormValue, IntegerTag, OneTag,
-    Sequence, SequenceTag, TagMarker, ValueOrd,
+    ContentsEq, CopyIsDuplicate, DecodeValue, EncodeValue, Form, FormValue, OneTag, Sequence,
+    SequenceTag, TagMarker, ValueOrd,
 };
-use der_fields::{DecodeFields, EncodeFields, End, Field, FieldList, Fields3, FieldsOrd};
+use der_fields::{DecodeFields, EncodeFields, FieldList, Fields3, FieldsOrd};
+use der_modules::{Member, field_list};
 use der_numbers::UintRef;
 use der_tlv::{BackWriter, Error, Header, Length, Source, Writer};
 use std::alloc::Global;
@@ -51,12 +51,7 @@ impl<'a> OtherPrimeInfo<'a> {
         ensures exponent { other_prime_info_fields.exponent result ≡ exponent.entry }
         ensures coefficient { other_prime_info_fields.coefficient result ≡ coefficient.entry }
     {
-        let first = coefficient;
-        let rest = Field { first, rest: End };
-        let first = exponent;
-        let rest = Field { first, rest };
-        let first = prime;
-        let list = Field { first, rest };
+        let list = field_list![prime, exponent, coefficient];
         let fields = Fields3 { list };
         OtherPrimeInfo { fields }
     }
@@ -144,20 +139,16 @@ impl<'a> ValueOrd for OtherPrimeInfo<'a> {
     }
 }
 
+impl<'a> Member for OtherPrimeInfo<'a> {
+    ghost member = { struct_member ⟦<SequenceTag as TagMarker>⟧.TAG (λ v. v.fields.list)
+        (field ⟦<UintRef<'a> as Member>⟧.member
+        (field ⟦<UintRef<'a> as Member>⟧.member
+        (field ⟦<UintRef<'a> as Member>⟧.member
+        no_fields))) };
+}
+
 impl<'a> ContentsEq for OtherPrimeInfo<'a> {
-    ghost contents_eq = { λ v w. (member_equality ⟦<UintRef<'a> as Form>⟧
-        (tagged_starts ⟦<UintRef<'a> as Form>⟧ (one_tag ⟦<IntegerTag as TagMarker>⟧.TAG ⟦<UintRef<'a> as FormValue>⟧.value.contents))
-        ⟦<UintRef<'a> as PartialEq>⟧.eq
-        (one_tag_equality ⟦<IntegerTag as TagMarker>⟧.TAG ⟦<UintRef<'a> as FormValue>⟧.value.contents ⟦<UintRef<'a> as FormValue>⟧.value.comparable ⟦<UintRef<'a> as PartialEq>⟧.eq uintref_contents_eq.contents_eq-law)
-        (member_equality ⟦<UintRef<'a> as Form>⟧
-        (tagged_starts ⟦<UintRef<'a> as Form>⟧ (one_tag ⟦<IntegerTag as TagMarker>⟧.TAG ⟦<UintRef<'a> as FormValue>⟧.value.contents))
-        ⟦<UintRef<'a> as PartialEq>⟧.eq
-        (one_tag_equality ⟦<IntegerTag as TagMarker>⟧.TAG ⟦<UintRef<'a> as FormValue>⟧.value.contents ⟦<UintRef<'a> as FormValue>⟧.value.comparable ⟦<UintRef<'a> as PartialEq>⟧.eq uintref_contents_eq.contents_eq-law)
-        (member_equality ⟦<UintRef<'a> as Form>⟧
-        (tagged_starts ⟦<UintRef<'a> as Form>⟧ (one_tag ⟦<IntegerTag as TagMarker>⟧.TAG ⟦<UintRef<'a> as FormValue>⟧.value.contents))
-        ⟦<UintRef<'a> as PartialEq>⟧.eq
-        (one_tag_equality ⟦<IntegerTag as TagMarker>⟧.TAG ⟦<UintRef<'a> as FormValue>⟧.value.contents ⟦<UintRef<'a> as FormValue>⟧.value.comparable ⟦<UintRef<'a> as PartialEq>⟧.eq uintref_contents_eq.contents_eq-law)
-        no_equality))).equal v.fields.list w.fields.list };
+    ghost contents_eq = { ⟦<OtherPrimeInfo<'a> as Member>⟧.member.equal };
 }
 
 impl<'a> CopyIsDuplicate for OtherPrimeInfo<'a> {}

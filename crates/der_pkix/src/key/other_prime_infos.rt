@@ -2,19 +2,20 @@
 //!
 //! Made by tools/asn1 from key.asn1.
 
-ghost use Rattle.std.specs.Cmp.Lexicographic.{bytes_decides};
 ghost use Rattle.std.specs.Prelude.{◌≡◌, false, refl};
 ghost use Rattle.der_elem.specs.FormatMakers.{mapped_format};
 ghost use Rattle.der_lists.specs.NonEmptyRef.{list_of};
 ghost use Rattle.der_modules.specs.Asn1.{parse_of};
+ghost use Rattle.der_modules.specs.Members.{seen_member};
 ghost use Rattle.der_pkix.specs.Key.Grammar.{other_prime_infos};
 
 use crate::key::other_prime_info::OtherPrimeInfo;
 use der_elem::{
     ContentsEq, CopyIsDuplicate, DecodeValue, EncodeValue, Form, FormValue, OneTag, Sequence,
-    SequenceTag, ValueOrd,
+    SequenceTag, TagMarker, ValueOrd,
 };
 use der_lists::{ListRef, NonEmptyRef};
+use der_modules::Member;
 use der_tlv::{BackWriter, Error, Header, Length, Source, Writer};
 use std::alloc::Global;
 use std::cmp::Ordering;
@@ -69,10 +70,10 @@ impl<'a, R: Source<'a>> DecodeValue<'a, R> for OtherPrimeInfos<'a> {
         reader: &mut R,
         header: Header,
     ) -> Result<OtherPrimeInfos<'a>, Error> {
-        match NonEmptyRef::<ListRef<'a, OtherPrimeInfo<'a>>>::decode_value(alloc, reader, header) {
-            Ok(items) => Ok(OtherPrimeInfos { items }),
-            Err(e) => Err(e),
-        }
+        let items = NonEmptyRef::<ListRef<'a, OtherPrimeInfo<'a>>>::decode_value(
+            alloc, reader, header,
+        )?;
+        Ok(OtherPrimeInfos { items })
     }
 
     ghost takes_memory_is = { refl };
@@ -98,8 +99,12 @@ impl<'a> ValueOrd for OtherPrimeInfos<'a> {
     }
 }
 
+impl<'a> Member for OtherPrimeInfos<'a> {
+    ghost member = { seen_member ⟦<SequenceTag as TagMarker>⟧.TAG (λ v. v.items) ⟦<NonEmptyRef<ListRef<'a, OtherPrimeInfo<'a>>> as Member>⟧.member };
+}
+
 impl<'a> ContentsEq for OtherPrimeInfos<'a> {
-    ghost contents_eq = { λ v w. (λ one. bytes_decides v.items.list.octets.octets.now w.items.list.octets.octets.now) };
+    ghost contents_eq = { ⟦<OtherPrimeInfos<'a> as Member>⟧.member.equal };
 }
 
 impl<'a> CopyIsDuplicate for OtherPrimeInfos<'a> {}

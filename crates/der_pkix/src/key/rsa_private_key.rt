@@ -4,23 +4,20 @@
 
 ghost use Rattle.std.specs.Prelude.{◌∷◌, ◌≡◌, [], false, refl};
 ghost use Rattle.der_elem.specs.FormatMakers.{mapped_format};
-ghost use Rattle.der_elem.specs.contracts.integer.unsigned.U8ContentsEq.TheImpl.Laws as u8_contents_eq;
 ghost use Rattle.der_modules.specs.Asn1.{joined, optional, parse_of};
-ghost use Rattle.der_modules.specs.MemberLaws.{member_equality, no_equality, one_tag, one_tag_equality, optional_equality, optional_starts, part_equality, tagged_starts};
-ghost use Rattle.der_numbers.specs.contracts.uint_ref.UintRefContentsEq.TheImpl.Laws as uintref_contents_eq;
+ghost use Rattle.der_modules.specs.Members.{field, no_fields, optional_field, part, struct_member};
 ghost use Rattle.der_pkix.specs.Key.Grammar.{rsa_private_key};
 ghost use Rattle.der_pkix.specs.Key.RsaPrivateKey as rsa_private_key_fields;
-ghost use Rattle.der_pkix.specs.contracts.key.other_prime_infos.OtherPrimeInfosContentsEq.TheImpl.Laws as other_prime_infos_contents_eq;
 ghost use Rattle.der_pkix.specs.declared.key.rsa_private_key.RsaPrivateKey.{RsaPrivateKey};
 
 use crate::key::aliases::RsaPrivateKeyVersion;
 use crate::key::other_prime_infos::OtherPrimeInfos;
 use der_elem::{
-    ContentsEq, CopyIsDuplicate, DecodeValue, EncodeValue, Form, FormValue, IntegerTag, OneTag,
-    Sequence, SequenceTag, TagMarker, ValueOrd,
+    ContentsEq, CopyIsDuplicate, DecodeValue, EncodeValue, Form, FormValue, OneTag, Sequence,
+    SequenceTag, TagMarker, ValueOrd,
 };
-use der_fields::{DecodeFields, EncodeFields, End, Field, FieldList, Fields2, Fields8, FieldsOrd};
-use der_modules::copy_of;
+use der_fields::{DecodeFields, EncodeFields, FieldList, Fields2, Fields8, FieldsOrd};
+use der_modules::{Member, copy_of, field_list, if_present};
 use der_numbers::UintRef;
 use der_tlv::{BackWriter, Error, Header, Length, Source, Writer};
 use std::alloc::Global;
@@ -88,30 +85,13 @@ impl<'a> RsaPrivateKey<'a> {
         ensures coefficient { rsa_private_key_fields.coefficient result ≡ coefficient.entry }
         ensures other_prime_infos { rsa_private_key_fields.other_prime_infos result ≡ option_copied other_prime_infos.entry }
     {
-        let first = match other_prime_infos {
-            Some(value) => Some(copy_of(value)),
-            None => None,
-        };
-        let rest = Field { first, rest: End };
-        let first = coefficient;
-        let list = Field { first, rest };
+        let list = field_list![
+            coefficient,
+            if_present!(value in other_prime_infos => copy_of(value))
+        ];
         let rest = Fields2 { list };
-        let first = exponent2;
-        let rest = Field { first, rest };
-        let first = exponent1;
-        let rest = Field { first, rest };
-        let first = prime2;
-        let rest = Field { first, rest };
-        let first = prime1;
-        let rest = Field { first, rest };
-        let first = private_exponent;
-        let rest = Field { first, rest };
-        let first = public_exponent;
-        let rest = Field { first, rest };
-        let first = modulus;
-        let rest = Field { first, rest };
-        let first = version;
-        let list = Field { first, rest };
+        let list =
+            field_list![version, modulus, public_exponent, private_exponent, prime1, prime2, exponent1, exponent2; rest];
         let fields = Fields8 { list };
         RsaPrivateKey { fields }
     }
@@ -185,10 +165,7 @@ impl<'a> RsaPrivateKey<'a> {
         ensures { option_copied result ≡ rsa_private_key_fields.other_prime_infos self.now }
     {
         let tail = &self.fields.list.rest.rest.rest.rest.rest.rest.rest.rest;
-        match &tail.list.rest.first {
-            Some(value) => Some(value),
-            None => None,
-        }
+        if_present!(value in &tail.list.rest.first => value)
     }
 }
 
@@ -260,48 +237,24 @@ impl<'a> ValueOrd for RsaPrivateKey<'a> {
     }
 }
 
+impl<'a> Member for RsaPrivateKey<'a> {
+    ghost member = { struct_member ⟦<SequenceTag as TagMarker>⟧.TAG (λ v. v.fields.list)
+        (field ⟦<RsaPrivateKeyVersion as Member>⟧.member
+        (field ⟦<UintRef<'a> as Member>⟧.member
+        (field ⟦<UintRef<'a> as Member>⟧.member
+        (field ⟦<UintRef<'a> as Member>⟧.member
+        (field ⟦<UintRef<'a> as Member>⟧.member
+        (field ⟦<UintRef<'a> as Member>⟧.member
+        (field ⟦<UintRef<'a> as Member>⟧.member
+        (field ⟦<UintRef<'a> as Member>⟧.member
+        (part (λ v. v.list)
+        (field ⟦<UintRef<'a> as Member>⟧.member
+        (optional_field ⟦<OtherPrimeInfos<'a> as Member>⟧.member
+        no_fields))))))))))) };
+}
+
 impl<'a> ContentsEq for RsaPrivateKey<'a> {
-    ghost contents_eq = { λ v w. (member_equality ⟦<RsaPrivateKeyVersion as Form>⟧
-        (tagged_starts ⟦<RsaPrivateKeyVersion as Form>⟧ (one_tag ⟦<IntegerTag as TagMarker>⟧.TAG ⟦<u8 as FormValue>⟧.value.contents))
-        ⟦<RsaPrivateKeyVersion as PartialEq>⟧.eq
-        (one_tag_equality ⟦<IntegerTag as TagMarker>⟧.TAG ⟦<u8 as FormValue>⟧.value.contents ⟦<u8 as FormValue>⟧.value.comparable ⟦<u8 as PartialEq>⟧.eq u8_contents_eq.contents_eq-law)
-        (member_equality ⟦<UintRef<'a> as Form>⟧
-        (tagged_starts ⟦<UintRef<'a> as Form>⟧ (one_tag ⟦<IntegerTag as TagMarker>⟧.TAG ⟦<UintRef<'a> as FormValue>⟧.value.contents))
-        ⟦<UintRef<'a> as PartialEq>⟧.eq
-        (one_tag_equality ⟦<IntegerTag as TagMarker>⟧.TAG ⟦<UintRef<'a> as FormValue>⟧.value.contents ⟦<UintRef<'a> as FormValue>⟧.value.comparable ⟦<UintRef<'a> as PartialEq>⟧.eq uintref_contents_eq.contents_eq-law)
-        (member_equality ⟦<UintRef<'a> as Form>⟧
-        (tagged_starts ⟦<UintRef<'a> as Form>⟧ (one_tag ⟦<IntegerTag as TagMarker>⟧.TAG ⟦<UintRef<'a> as FormValue>⟧.value.contents))
-        ⟦<UintRef<'a> as PartialEq>⟧.eq
-        (one_tag_equality ⟦<IntegerTag as TagMarker>⟧.TAG ⟦<UintRef<'a> as FormValue>⟧.value.contents ⟦<UintRef<'a> as FormValue>⟧.value.comparable ⟦<UintRef<'a> as PartialEq>⟧.eq uintref_contents_eq.contents_eq-law)
-        (member_equality ⟦<UintRef<'a> as Form>⟧
-        (tagged_starts ⟦<UintRef<'a> as Form>⟧ (one_tag ⟦<IntegerTag as TagMarker>⟧.TAG ⟦<UintRef<'a> as FormValue>⟧.value.contents))
-        ⟦<UintRef<'a> as PartialEq>⟧.eq
-        (one_tag_equality ⟦<IntegerTag as TagMarker>⟧.TAG ⟦<UintRef<'a> as FormValue>⟧.value.contents ⟦<UintRef<'a> as FormValue>⟧.value.comparable ⟦<UintRef<'a> as PartialEq>⟧.eq uintref_contents_eq.contents_eq-law)
-        (member_equality ⟦<UintRef<'a> as Form>⟧
-        (tagged_starts ⟦<UintRef<'a> as Form>⟧ (one_tag ⟦<IntegerTag as TagMarker>⟧.TAG ⟦<UintRef<'a> as FormValue>⟧.value.contents))
-        ⟦<UintRef<'a> as PartialEq>⟧.eq
-        (one_tag_equality ⟦<IntegerTag as TagMarker>⟧.TAG ⟦<UintRef<'a> as FormValue>⟧.value.contents ⟦<UintRef<'a> as FormValue>⟧.value.comparable ⟦<UintRef<'a> as PartialEq>⟧.eq uintref_contents_eq.contents_eq-law)
-        (member_equality ⟦<UintRef<'a> as Form>⟧
-        (tagged_starts ⟦<UintRef<'a> as Form>⟧ (one_tag ⟦<IntegerTag as TagMarker>⟧.TAG ⟦<UintRef<'a> as FormValue>⟧.value.contents))
-        ⟦<UintRef<'a> as PartialEq>⟧.eq
-        (one_tag_equality ⟦<IntegerTag as TagMarker>⟧.TAG ⟦<UintRef<'a> as FormValue>⟧.value.contents ⟦<UintRef<'a> as FormValue>⟧.value.comparable ⟦<UintRef<'a> as PartialEq>⟧.eq uintref_contents_eq.contents_eq-law)
-        (member_equality ⟦<UintRef<'a> as Form>⟧
-        (tagged_starts ⟦<UintRef<'a> as Form>⟧ (one_tag ⟦<IntegerTag as TagMarker>⟧.TAG ⟦<UintRef<'a> as FormValue>⟧.value.contents))
-        ⟦<UintRef<'a> as PartialEq>⟧.eq
-        (one_tag_equality ⟦<IntegerTag as TagMarker>⟧.TAG ⟦<UintRef<'a> as FormValue>⟧.value.contents ⟦<UintRef<'a> as FormValue>⟧.value.comparable ⟦<UintRef<'a> as PartialEq>⟧.eq uintref_contents_eq.contents_eq-law)
-        (member_equality ⟦<UintRef<'a> as Form>⟧
-        (tagged_starts ⟦<UintRef<'a> as Form>⟧ (one_tag ⟦<IntegerTag as TagMarker>⟧.TAG ⟦<UintRef<'a> as FormValue>⟧.value.contents))
-        ⟦<UintRef<'a> as PartialEq>⟧.eq
-        (one_tag_equality ⟦<IntegerTag as TagMarker>⟧.TAG ⟦<UintRef<'a> as FormValue>⟧.value.contents ⟦<UintRef<'a> as FormValue>⟧.value.comparable ⟦<UintRef<'a> as PartialEq>⟧.eq uintref_contents_eq.contents_eq-law)
-        (part_equality (λ x. x.list) (member_equality ⟦<UintRef<'a> as Form>⟧
-        (tagged_starts ⟦<UintRef<'a> as Form>⟧ (one_tag ⟦<IntegerTag as TagMarker>⟧.TAG ⟦<UintRef<'a> as FormValue>⟧.value.contents))
-        ⟦<UintRef<'a> as PartialEq>⟧.eq
-        (one_tag_equality ⟦<IntegerTag as TagMarker>⟧.TAG ⟦<UintRef<'a> as FormValue>⟧.value.contents ⟦<UintRef<'a> as FormValue>⟧.value.comparable ⟦<UintRef<'a> as PartialEq>⟧.eq uintref_contents_eq.contents_eq-law)
-        (member_equality ⟦<Option<OtherPrimeInfos<'a>> as Form>⟧
-        (optional_starts ⟦<OtherPrimeInfos<'a> as Form>⟧ (one_tag ⟦<SequenceTag as TagMarker>⟧.TAG ⟦<OtherPrimeInfos<'a> as FormValue>⟧.value.contents))
-        ⟦<Option<OtherPrimeInfos<'a>> as PartialEq>⟧.eq
-        (optional_equality ⟦<OtherPrimeInfos<'a> as Form>⟧ (one_tag ⟦<SequenceTag as TagMarker>⟧.TAG ⟦<OtherPrimeInfos<'a> as FormValue>⟧.value.contents) ⟦<OtherPrimeInfos<'a> as PartialEq>⟧.eq (one_tag_equality ⟦<SequenceTag as TagMarker>⟧.TAG ⟦<OtherPrimeInfos<'a> as FormValue>⟧.value.contents ⟦<OtherPrimeInfos<'a> as FormValue>⟧.value.comparable ⟦<OtherPrimeInfos<'a> as PartialEq>⟧.eq other_prime_infos_contents_eq.contents_eq-law))
-        no_equality))))))))))).equal v.fields.list w.fields.list };
+    ghost contents_eq = { ⟦<RsaPrivateKey<'a> as Member>⟧.member.equal };
 }
 
 impl<'a> CopyIsDuplicate for RsaPrivateKey<'a> {}

@@ -5,17 +5,17 @@
 ghost use Rattle.std.specs.Prelude.{◌∷◌, ◌≡◌, [], false, refl};
 ghost use Rattle.der_elem.specs.FormatMakers.{mapped_format};
 ghost use Rattle.der_modules.specs.Asn1.{joined, parse_of};
-ghost use Rattle.der_modules.specs.MemberLaws.{member_equality, no_equality, one_tag, one_tag_equality, tagged_starts};
-ghost use Rattle.der_numbers.specs.contracts.uint_ref.UintRefContentsEq.TheImpl.Laws as uintref_contents_eq;
+ghost use Rattle.der_modules.specs.Members.{field, no_fields, struct_member};
 ghost use Rattle.der_pkix.specs.Key.Grammar.{rsa_public_key};
 ghost use Rattle.der_pkix.specs.Key.RsaPublicKey as rsa_public_key_fields;
 ghost use Rattle.der_pkix.specs.declared.key.rsa_public_key.RsaPublicKey.{RsaPublicKey};
 
 use der_elem::{
-    ContentsEq, CopyIsDuplicate, DecodeValue, EncodeValue, Form, FormValue, IntegerTag, OneTag,
-    Sequence, SequenceTag, TagMarker, ValueOrd,
+    ContentsEq, CopyIsDuplicate, DecodeValue, EncodeValue, Form, FormValue, OneTag, Sequence,
+    SequenceTag, TagMarker, ValueOrd,
 };
-use der_fields::{DecodeFields, EncodeFields, End, Field, FieldList, Fields2, FieldsOrd};
+use der_fields::{DecodeFields, EncodeFields, FieldList, Fields2, FieldsOrd};
+use der_modules::{Member, field_list};
 use der_numbers::UintRef;
 use der_tlv::{BackWriter, Error, Header, Length, Source, Writer};
 use std::alloc::Global;
@@ -45,10 +45,7 @@ impl<'a> RsaPublicKey<'a> {
         ensures modulus { rsa_public_key_fields.modulus result ≡ modulus.entry }
         ensures public_exponent { rsa_public_key_fields.public_exponent result ≡ public_exponent.entry }
     {
-        let first = public_exponent;
-        let rest = Field { first, rest: End };
-        let first = modulus;
-        let list = Field { first, rest };
+        let list = field_list![modulus, public_exponent];
         let fields = Fields2 { list };
         RsaPublicKey { fields }
     }
@@ -128,16 +125,15 @@ impl<'a> ValueOrd for RsaPublicKey<'a> {
     }
 }
 
+impl<'a> Member for RsaPublicKey<'a> {
+    ghost member = { struct_member ⟦<SequenceTag as TagMarker>⟧.TAG (λ v. v.fields.list)
+        (field ⟦<UintRef<'a> as Member>⟧.member
+        (field ⟦<UintRef<'a> as Member>⟧.member
+        no_fields)) };
+}
+
 impl<'a> ContentsEq for RsaPublicKey<'a> {
-    ghost contents_eq = { λ v w. (member_equality ⟦<UintRef<'a> as Form>⟧
-        (tagged_starts ⟦<UintRef<'a> as Form>⟧ (one_tag ⟦<IntegerTag as TagMarker>⟧.TAG ⟦<UintRef<'a> as FormValue>⟧.value.contents))
-        ⟦<UintRef<'a> as PartialEq>⟧.eq
-        (one_tag_equality ⟦<IntegerTag as TagMarker>⟧.TAG ⟦<UintRef<'a> as FormValue>⟧.value.contents ⟦<UintRef<'a> as FormValue>⟧.value.comparable ⟦<UintRef<'a> as PartialEq>⟧.eq uintref_contents_eq.contents_eq-law)
-        (member_equality ⟦<UintRef<'a> as Form>⟧
-        (tagged_starts ⟦<UintRef<'a> as Form>⟧ (one_tag ⟦<IntegerTag as TagMarker>⟧.TAG ⟦<UintRef<'a> as FormValue>⟧.value.contents))
-        ⟦<UintRef<'a> as PartialEq>⟧.eq
-        (one_tag_equality ⟦<IntegerTag as TagMarker>⟧.TAG ⟦<UintRef<'a> as FormValue>⟧.value.contents ⟦<UintRef<'a> as FormValue>⟧.value.comparable ⟦<UintRef<'a> as PartialEq>⟧.eq uintref_contents_eq.contents_eq-law)
-        no_equality)).equal v.fields.list w.fields.list };
+    ghost contents_eq = { ⟦<RsaPublicKey<'a> as Member>⟧.member.equal };
 }
 
 impl<'a> CopyIsDuplicate for RsaPublicKey<'a> {}

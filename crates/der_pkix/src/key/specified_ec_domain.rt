@@ -4,16 +4,10 @@
 
 ghost use Rattle.std.specs.Prelude.{◌∷◌, ◌≡◌, [], false, refl};
 ghost use Rattle.der_elem.specs.FormatMakers.{mapped_format};
-ghost use Rattle.der_elem.specs.contracts.integer.unsigned.U8ContentsEq.TheImpl.Laws as u8_contents_eq;
 ghost use Rattle.der_modules.specs.Asn1.{joined, optional, parse_of};
-ghost use Rattle.der_modules.specs.MemberLaws.{member_equality, no_equality, one_tag, one_tag_equality, optional_equality, optional_starts, tagged_starts};
-ghost use Rattle.der_numbers.specs.contracts.int_ref.IntRefContentsEq.TheImpl.Laws as intref_contents_eq;
-ghost use Rattle.der_opaque.specs.contracts.octet_string_ref.OctetStringRefContentsEq.TheImpl.Laws as octetstringref_contents_eq;
+ghost use Rattle.der_modules.specs.Members.{field, no_fields, optional_field, struct_member};
 ghost use Rattle.der_pkix.specs.Key.Grammar.{specified_ec_domain};
 ghost use Rattle.der_pkix.specs.Key.SpecifiedEcDomain as specified_ec_domain_fields;
-ghost use Rattle.der_pkix.specs.contracts.algorithm_identifier.AlgorithmIdentifierContentsEq.TheImpl.Laws as algorithm_identifier_contents_eq;
-ghost use Rattle.der_pkix.specs.contracts.key.curve.CurveContentsEq.TheImpl.Laws as curve_contents_eq;
-ghost use Rattle.der_pkix.specs.contracts.key.field_id.FieldIdContentsEq.TheImpl.Laws as field_id_contents_eq;
 ghost use Rattle.der_pkix.specs.declared.key.specified_ec_domain.SpecifiedEcDomain.{SpecifiedEcDomain};
 
 use crate::AlgorithmIdentifier;
@@ -21,11 +15,11 @@ use crate::key::aliases::SpecifiedEcDomainVersion;
 use crate::key::curve::Curve;
 use crate::key::field_id::FieldId;
 use der_elem::{
-    ContentsEq, CopyIsDuplicate, DecodeValue, EncodeValue, Form, FormValue, IntegerTag,
-    OctetStringTag, OneTag, Sequence, SequenceTag, TagMarker, ValueOrd,
+    ContentsEq, CopyIsDuplicate, DecodeValue, EncodeValue, Form, FormValue, OneTag, Sequence,
+    SequenceTag, TagMarker, ValueOrd,
 };
-use der_fields::{DecodeFields, EncodeFields, End, Field, FieldList, Fields7, FieldsOrd};
-use der_modules::copy_of;
+use der_fields::{DecodeFields, EncodeFields, FieldList, Fields7, FieldsOrd};
+use der_modules::{Member, copy_of, field_list, if_present};
 use der_numbers::IntRef;
 use der_opaque::OctetStringRef;
 use der_tlv::{BackWriter, Error, Header, Length, Source, Writer};
@@ -83,23 +77,15 @@ impl<'a> SpecifiedEcDomain<'a> {
         ensures cofactor { specified_ec_domain_fields.cofactor result ≡ cofactor.entry }
         ensures hash { specified_ec_domain_fields.hash result ≡ option_copied hash.entry }
     {
-        let first = match hash {
-            Some(value) => Some(copy_of(value)),
-            None => None,
-        };
-        let rest = Field { first, rest: End };
-        let first = cofactor;
-        let rest = Field { first, rest };
-        let first = order;
-        let rest = Field { first, rest };
-        let first = base;
-        let rest = Field { first, rest };
-        let first = copy_of(curve);
-        let rest = Field { first, rest };
-        let first = copy_of(field_id);
-        let rest = Field { first, rest };
-        let first = version;
-        let list = Field { first, rest };
+        let list = field_list![
+            version,
+            copy_of(field_id),
+            copy_of(curve),
+            base,
+            order,
+            cofactor,
+            if_present!(value in hash => copy_of(value))
+        ];
         let fields = Fields7 { list };
         SpecifiedEcDomain { fields }
     }
@@ -143,20 +129,14 @@ impl<'a> SpecifiedEcDomain<'a> {
     pub fn cofactor(&self) -> Option<&IntRef<'a>>
         ensures { option_copied result ≡ specified_ec_domain_fields.cofactor self.now }
     {
-        match &self.fields.list.rest.rest.rest.rest.rest.first {
-            Some(value) => Some(value),
-            None => None,
-        }
+        if_present!(value in &self.fields.list.rest.rest.rest.rest.rest.first => value)
     }
 
     /// `hash`, `AlgorithmIdentifier OPTIONAL`.
     pub fn hash(&self) -> Option<&AlgorithmIdentifier<'a>>
         ensures { option_copied result ≡ specified_ec_domain_fields.hash self.now }
     {
-        match &self.fields.list.rest.rest.rest.rest.rest.rest.first {
-            Some(value) => Some(value),
-            None => None,
-        }
+        if_present!(value in &self.fields.list.rest.rest.rest.rest.rest.rest.first => value)
     }
 }
 
@@ -225,36 +205,20 @@ impl<'a> ValueOrd for SpecifiedEcDomain<'a> {
     }
 }
 
+impl<'a> Member for SpecifiedEcDomain<'a> {
+    ghost member = { struct_member ⟦<SequenceTag as TagMarker>⟧.TAG (λ v. v.fields.list)
+        (field ⟦<SpecifiedEcDomainVersion as Member>⟧.member
+        (field ⟦<FieldId<'a> as Member>⟧.member
+        (field ⟦<Curve<'a> as Member>⟧.member
+        (field ⟦<OctetStringRef<'a> as Member>⟧.member
+        (field ⟦<IntRef<'a> as Member>⟧.member
+        (optional_field ⟦<IntRef<'a> as Member>⟧.member
+        (optional_field ⟦<AlgorithmIdentifier<'a> as Member>⟧.member
+        no_fields))))))) };
+}
+
 impl<'a> ContentsEq for SpecifiedEcDomain<'a> {
-    ghost contents_eq = { λ v w. (member_equality ⟦<SpecifiedEcDomainVersion as Form>⟧
-        (tagged_starts ⟦<SpecifiedEcDomainVersion as Form>⟧ (one_tag ⟦<IntegerTag as TagMarker>⟧.TAG ⟦<u8 as FormValue>⟧.value.contents))
-        ⟦<SpecifiedEcDomainVersion as PartialEq>⟧.eq
-        (one_tag_equality ⟦<IntegerTag as TagMarker>⟧.TAG ⟦<u8 as FormValue>⟧.value.contents ⟦<u8 as FormValue>⟧.value.comparable ⟦<u8 as PartialEq>⟧.eq u8_contents_eq.contents_eq-law)
-        (member_equality ⟦<FieldId<'a> as Form>⟧
-        (tagged_starts ⟦<FieldId<'a> as Form>⟧ (one_tag ⟦<SequenceTag as TagMarker>⟧.TAG ⟦<FieldId<'a> as FormValue>⟧.value.contents))
-        ⟦<FieldId<'a> as PartialEq>⟧.eq
-        (one_tag_equality ⟦<SequenceTag as TagMarker>⟧.TAG ⟦<FieldId<'a> as FormValue>⟧.value.contents ⟦<FieldId<'a> as FormValue>⟧.value.comparable ⟦<FieldId<'a> as PartialEq>⟧.eq field_id_contents_eq.contents_eq-law)
-        (member_equality ⟦<Curve<'a> as Form>⟧
-        (tagged_starts ⟦<Curve<'a> as Form>⟧ (one_tag ⟦<SequenceTag as TagMarker>⟧.TAG ⟦<Curve<'a> as FormValue>⟧.value.contents))
-        ⟦<Curve<'a> as PartialEq>⟧.eq
-        (one_tag_equality ⟦<SequenceTag as TagMarker>⟧.TAG ⟦<Curve<'a> as FormValue>⟧.value.contents ⟦<Curve<'a> as FormValue>⟧.value.comparable ⟦<Curve<'a> as PartialEq>⟧.eq curve_contents_eq.contents_eq-law)
-        (member_equality ⟦<OctetStringRef<'a> as Form>⟧
-        (tagged_starts ⟦<OctetStringRef<'a> as Form>⟧ (one_tag ⟦<OctetStringTag as TagMarker>⟧.TAG ⟦<OctetStringRef<'a> as FormValue>⟧.value.contents))
-        ⟦<OctetStringRef<'a> as PartialEq>⟧.eq
-        (one_tag_equality ⟦<OctetStringTag as TagMarker>⟧.TAG ⟦<OctetStringRef<'a> as FormValue>⟧.value.contents ⟦<OctetStringRef<'a> as FormValue>⟧.value.comparable ⟦<OctetStringRef<'a> as PartialEq>⟧.eq octetstringref_contents_eq.contents_eq-law)
-        (member_equality ⟦<IntRef<'a> as Form>⟧
-        (tagged_starts ⟦<IntRef<'a> as Form>⟧ (one_tag ⟦<IntegerTag as TagMarker>⟧.TAG ⟦<IntRef<'a> as FormValue>⟧.value.contents))
-        ⟦<IntRef<'a> as PartialEq>⟧.eq
-        (one_tag_equality ⟦<IntegerTag as TagMarker>⟧.TAG ⟦<IntRef<'a> as FormValue>⟧.value.contents ⟦<IntRef<'a> as FormValue>⟧.value.comparable ⟦<IntRef<'a> as PartialEq>⟧.eq intref_contents_eq.contents_eq-law)
-        (member_equality ⟦<Option<IntRef<'a>> as Form>⟧
-        (optional_starts ⟦<IntRef<'a> as Form>⟧ (one_tag ⟦<IntegerTag as TagMarker>⟧.TAG ⟦<IntRef<'a> as FormValue>⟧.value.contents))
-        ⟦<Option<IntRef<'a>> as PartialEq>⟧.eq
-        (optional_equality ⟦<IntRef<'a> as Form>⟧ (one_tag ⟦<IntegerTag as TagMarker>⟧.TAG ⟦<IntRef<'a> as FormValue>⟧.value.contents) ⟦<IntRef<'a> as PartialEq>⟧.eq (one_tag_equality ⟦<IntegerTag as TagMarker>⟧.TAG ⟦<IntRef<'a> as FormValue>⟧.value.contents ⟦<IntRef<'a> as FormValue>⟧.value.comparable ⟦<IntRef<'a> as PartialEq>⟧.eq intref_contents_eq.contents_eq-law))
-        (member_equality ⟦<Option<AlgorithmIdentifier<'a>> as Form>⟧
-        (optional_starts ⟦<AlgorithmIdentifier<'a> as Form>⟧ (one_tag ⟦<SequenceTag as TagMarker>⟧.TAG ⟦<AlgorithmIdentifier<'a> as FormValue>⟧.value.contents))
-        ⟦<Option<AlgorithmIdentifier<'a>> as PartialEq>⟧.eq
-        (optional_equality ⟦<AlgorithmIdentifier<'a> as Form>⟧ (one_tag ⟦<SequenceTag as TagMarker>⟧.TAG ⟦<AlgorithmIdentifier<'a> as FormValue>⟧.value.contents) ⟦<AlgorithmIdentifier<'a> as PartialEq>⟧.eq (one_tag_equality ⟦<SequenceTag as TagMarker>⟧.TAG ⟦<AlgorithmIdentifier<'a> as FormValue>⟧.value.contents ⟦<AlgorithmIdentifier<'a> as FormValue>⟧.value.comparable ⟦<AlgorithmIdentifier<'a> as PartialEq>⟧.eq algorithm_identifier_contents_eq.contents_eq-law))
-        no_equality))))))).equal v.fields.list w.fields.list };
+    ghost contents_eq = { ⟦<SpecifiedEcDomain<'a> as Member>⟧.member.equal };
 }
 
 impl<'a> CopyIsDuplicate for SpecifiedEcDomain<'a> {}

@@ -2,26 +2,22 @@
 //!
 //! Made by tools/asn1 from name.asn1.
 
-ghost use Rattle.std.proofs.Common.{lit<};
-ghost use Rattle.std.specs.Cmp.Lexicographic.{bytes_decides};
 ghost use Rattle.std.specs.Prelude.{◌∷◌, ◌≡◌, [], false, refl};
 ghost use Rattle.der_elem.specs.FormatMakers.{mapped_format};
 ghost use Rattle.der_modules.specs.Asn1.{joined, parse_of};
-ghost use Rattle.der_modules.specs.MemberLaws.{member_equality, no_equality, one_tag, one_tag_equality, tagged_starts};
-ghost use Rattle.der_opaque.specs.contracts.object_identifier_ref.ObjectIdentifierRefContentsEq.TheImpl.Laws as objectidentifierref_contents_eq;
+ghost use Rattle.der_modules.specs.Members.{field, no_fields, struct_member};
 ghost use Rattle.der_pkix.specs.Name.Attribute as attribute_fields;
 ghost use Rattle.der_pkix.specs.Name.Grammar.{attribute};
 ghost use Rattle.der_pkix.specs.declared.name.attribute.Attribute.{Attribute};
 
 use crate::name::aliases::{AttributeType, AttributeValue};
 use der_elem::{
-    ContentsEq, CopyIsDuplicate, DecodeValue, EncodeValue, Form, FormValue, ObjectIdentifierTag,
-    OneTag, Sequence, SequenceTag, SetTag, TagMarker, ValueOrd,
+    ContentsEq, CopyIsDuplicate, DecodeValue, EncodeValue, Form, FormValue, OneTag, Sequence,
+    SequenceTag, TagMarker, ValueOrd,
 };
-use der_fields::{DecodeFields, EncodeFields, End, Field, FieldList, Fields2, FieldsOrd};
+use der_fields::{DecodeFields, EncodeFields, FieldList, Fields2, FieldsOrd};
 use der_lists::UnorderedSetRef;
-use der_modules::copy_of;
-use der_opaque::ObjectIdentifierRef;
+use der_modules::{Member, copy_of, field_list};
 use der_tlv::{BackWriter, Error, Header, Length, Source, Writer};
 use std::alloc::Global;
 use std::cmp::Ordering;
@@ -54,10 +50,7 @@ impl<'a> Attribute<'a> {
         ensures type_ { attribute_fields.type_ result ≡ type_.entry }
         ensures values { attribute_fields.values result ≡ values.now }
     {
-        let first = copy_of(values);
-        let rest = Field { first, rest: End };
-        let first = type_;
-        let list = Field { first, rest };
+        let list = field_list![type_, copy_of(values)];
         let fields = Fields2 { list };
         Attribute { fields }
     }
@@ -137,16 +130,15 @@ impl<'a> ValueOrd for Attribute<'a> {
     }
 }
 
+impl<'a> Member for Attribute<'a> {
+    ghost member = { struct_member ⟦<SequenceTag as TagMarker>⟧.TAG (λ v. v.fields.list)
+        (field ⟦<AttributeType<'a> as Member>⟧.member
+        (field ⟦<UnorderedSetRef<'a, AttributeValue<'a>> as Member>⟧.member
+        no_fields)) };
+}
+
 impl<'a> ContentsEq for Attribute<'a> {
-    ghost contents_eq = { λ v w. (member_equality ⟦<AttributeType<'a> as Form>⟧
-        (tagged_starts ⟦<AttributeType<'a> as Form>⟧ (one_tag ⟦<ObjectIdentifierTag as TagMarker>⟧.TAG ⟦<ObjectIdentifierRef<'a, 39> as FormValue>⟧.value.contents))
-        ⟦<AttributeType<'a> as PartialEq>⟧.eq
-        (one_tag_equality ⟦<ObjectIdentifierTag as TagMarker>⟧.TAG ⟦<ObjectIdentifierRef<'a, 39> as FormValue>⟧.value.contents ⟦<ObjectIdentifierRef<'a, 39> as FormValue>⟧.value.comparable ⟦<ObjectIdentifierRef<'a, 39> as PartialEq>⟧.eq (objectidentifierref_contents_eq.contents_eq-law 39 (record { fits = lit< tt })))
-        (member_equality ⟦<UnorderedSetRef<'a, AttributeValue<'a>> as Form>⟧
-        (tagged_starts ⟦<UnorderedSetRef<'a, AttributeValue<'a>> as Form>⟧ (one_tag ⟦<SetTag as TagMarker>⟧.TAG ⟦<UnorderedSetRef<'a, AttributeValue<'a>> as FormValue>⟧.value.contents))
-        ⟦<UnorderedSetRef<'a, AttributeValue<'a>> as PartialEq>⟧.eq
-        (one_tag_equality ⟦<SetTag as TagMarker>⟧.TAG ⟦<UnorderedSetRef<'a, AttributeValue<'a>> as FormValue>⟧.value.contents ⟦<UnorderedSetRef<'a, AttributeValue<'a>> as FormValue>⟧.value.comparable ⟦<UnorderedSetRef<'a, AttributeValue<'a>> as PartialEq>⟧.eq (λ v w. (λ one. bytes_decides v.octets.octets.now w.octets.octets.now)))
-        no_equality)).equal v.fields.list w.fields.list };
+    ghost contents_eq = { ⟦<Attribute<'a> as Member>⟧.member.equal };
 }
 
 impl<'a> CopyIsDuplicate for Attribute<'a> {}

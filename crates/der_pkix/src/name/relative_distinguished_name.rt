@@ -2,19 +2,20 @@
 //!
 //! Made by tools/asn1 from name.asn1.
 
-ghost use Rattle.std.specs.Cmp.Lexicographic.{bytes_decides};
 ghost use Rattle.std.specs.Prelude.{◌≡◌, false, refl};
 ghost use Rattle.der_elem.specs.FormatMakers.{mapped_format};
 ghost use Rattle.der_lists.specs.NonEmptyRef.{list_of};
 ghost use Rattle.der_modules.specs.Asn1.{parse_of};
+ghost use Rattle.der_modules.specs.Members.{seen_member};
 ghost use Rattle.der_pkix.specs.Name.Grammar.{relative_distinguished_name};
 
 use crate::name::attribute_type_and_value::AttributeTypeAndValue;
 use der_elem::{
     ContentsEq, CopyIsDuplicate, DecodeValue, EncodeValue, Form, FormValue, OneTag, SetTag,
-    ValueOrd,
+    TagMarker, ValueOrd,
 };
 use der_lists::{NonEmptyRef, SetRef};
+use der_modules::Member;
 use der_tlv::{BackWriter, Error, Header, Length, Source, Writer};
 use std::alloc::Global;
 use std::cmp::Ordering;
@@ -70,12 +71,10 @@ impl<'a, R: Source<'a>> DecodeValue<'a, R> for RelativeDistinguishedName<'a> {
         reader: &mut R,
         header: Header,
     ) -> Result<RelativeDistinguishedName<'a>, Error> {
-        match NonEmptyRef::<SetRef<'a, AttributeTypeAndValue<'a>>>::decode_value(
+        let items = NonEmptyRef::<SetRef<'a, AttributeTypeAndValue<'a>>>::decode_value(
             alloc, reader, header,
-        ) {
-            Ok(items) => Ok(RelativeDistinguishedName { items }),
-            Err(e) => Err(e),
-        }
+        )?;
+        Ok(RelativeDistinguishedName { items })
     }
 
     ghost takes_memory_is = { refl };
@@ -101,8 +100,12 @@ impl<'a> ValueOrd for RelativeDistinguishedName<'a> {
     }
 }
 
+impl<'a> Member for RelativeDistinguishedName<'a> {
+    ghost member = { seen_member ⟦<SetTag as TagMarker>⟧.TAG (λ v. v.items) ⟦<NonEmptyRef<SetRef<'a, AttributeTypeAndValue<'a>>> as Member>⟧.member };
+}
+
 impl<'a> ContentsEq for RelativeDistinguishedName<'a> {
-    ghost contents_eq = { λ v w. (λ one. bytes_decides v.items.list.octets.octets.now w.items.list.octets.octets.now) };
+    ghost contents_eq = { ⟦<RelativeDistinguishedName<'a> as Member>⟧.member.equal };
 }
 
 impl<'a> CopyIsDuplicate for RelativeDistinguishedName<'a> {}

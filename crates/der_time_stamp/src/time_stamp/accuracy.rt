@@ -4,21 +4,18 @@
 
 ghost use Rattle.std.specs.Prelude.{◌∷◌, ◌≡◌, [], false, refl};
 ghost use Rattle.der_elem.specs.FormatMakers.{mapped_format};
-ghost use Rattle.der_elem.specs.contracts.integer.unsigned.U16ContentsEq.TheImpl.Laws as u16_contents_eq;
-ghost use Rattle.der_elem.specs.contracts.integer.unsigned.U32ContentsEq.TheImpl.Laws as u32_contents_eq;
 ghost use Rattle.der_modules.specs.Asn1.{context, implicit_encoding, joined, optional, parse_of};
-ghost use Rattle.der_modules.specs.MemberLaws.{member_equality, no_equality, one_tag, one_tag_equality, optional_equality, optional_starts};
+ghost use Rattle.der_modules.specs.Members.{no_fields, optional_field, struct_member};
 ghost use Rattle.der_time_stamp.specs.TimeStamp.Accuracy as accuracy_fields;
 ghost use Rattle.der_time_stamp.specs.TimeStamp.Grammar.{accuracy};
 ghost use Rattle.der_time_stamp.specs.declared.time_stamp.accuracy.Accuracy.{Accuracy};
 
 use der_elem::{
-    ContentsEq, CopyIsDuplicate, DecodeValue, EncodeValue, Form, FormValue, IntegerTag, OneTag,
-    Sequence, SequenceTag, TagMarker, ValueOrd,
+    ContentsEq, CopyIsDuplicate, DecodeValue, EncodeValue, Form, FormValue, OneTag, Sequence,
+    SequenceTag, TagMarker, ValueOrd,
 };
-use der_fields::{
-    DecodeFields, EncodeFields, End, Field, FieldList, Fields3, FieldsOrd, Implicit, ImplicitTag,
-};
+use der_fields::{DecodeFields, EncodeFields, FieldList, Fields3, FieldsOrd, Implicit};
+use der_modules::{Member, field_list, if_present};
 use der_tlv::{BackWriter, Error, Header, Length, Source, Writer};
 use std::alloc::Global;
 use std::cmp::Ordering;
@@ -55,18 +52,11 @@ impl Accuracy {
         ensures millis { accuracy_fields.millis result ≡ millis }
         ensures micros { accuracy_fields.micros result ≡ micros }
     {
-        let first = match micros {
-            Some(value) => Some(Implicit { value }),
-            None => None,
-        };
-        let rest = Field { first, rest: End };
-        let first = match millis {
-            Some(value) => Some(Implicit { value }),
-            None => None,
-        };
-        let rest = Field { first, rest };
-        let first = seconds;
-        let list = Field { first, rest };
+        let list = field_list![
+            seconds,
+            if_present!(value in millis => Implicit { value }),
+            if_present!(value in micros => Implicit { value })
+        ];
         let fields = Fields3 { list };
         Accuracy { fields }
     }
@@ -82,20 +72,14 @@ impl Accuracy {
     pub fn millis(&self) -> Option<u16>
         ensures { result ≡ accuracy_fields.millis self.now }
     {
-        match self.fields.list.rest.first {
-            Some(tagged) => Some(tagged.value),
-            None => None,
-        }
+        if_present!(value in self.fields.list.rest.first => value.value)
     }
 
     /// `micros`, `[1] INTEGER (1..999) OPTIONAL`.
     pub fn micros(&self) -> Option<u16>
         ensures { result ≡ accuracy_fields.micros self.now }
     {
-        match self.fields.list.rest.rest.first {
-            Some(tagged) => Some(tagged.value),
-            None => None,
-        }
+        if_present!(value in self.fields.list.rest.rest.first => value.value)
     }
 }
 
@@ -156,20 +140,16 @@ impl ValueOrd for Accuracy {
     }
 }
 
+impl Member for Accuracy {
+    ghost member = { struct_member ⟦<SequenceTag as TagMarker>⟧.TAG (λ v. v.fields.list)
+        (optional_field ⟦<u32 as Member>⟧.member
+        (optional_field ⟦<Implicit<u16, 0> as Member>⟧.member
+        (optional_field ⟦<Implicit<u16, 1> as Member>⟧.member
+        no_fields))) };
+}
+
 impl ContentsEq for Accuracy {
-    ghost contents_eq = { λ v w. (member_equality ⟦<Option<u32> as Form>⟧
-        (optional_starts ⟦<u32 as Form>⟧ (one_tag ⟦<IntegerTag as TagMarker>⟧.TAG ⟦<u32 as FormValue>⟧.value.contents))
-        ⟦<Option<u32> as PartialEq>⟧.eq
-        (optional_equality ⟦<u32 as Form>⟧ (one_tag ⟦<IntegerTag as TagMarker>⟧.TAG ⟦<u32 as FormValue>⟧.value.contents) ⟦<u32 as PartialEq>⟧.eq (one_tag_equality ⟦<IntegerTag as TagMarker>⟧.TAG ⟦<u32 as FormValue>⟧.value.contents ⟦<u32 as FormValue>⟧.value.comparable ⟦<u32 as PartialEq>⟧.eq u32_contents_eq.contents_eq-law))
-        (member_equality ⟦<Option<Implicit<u16, 0>> as Form>⟧
-        (optional_starts ⟦<Implicit<u16, 0> as Form>⟧ (one_tag ⟦<ImplicitTag<IntegerTag, 0> as TagMarker>⟧.TAG ⟦<Implicit<u16, 0> as FormValue>⟧.value.contents))
-        ⟦<Option<Implicit<u16, 0>> as PartialEq>⟧.eq
-        (optional_equality ⟦<Implicit<u16, 0> as Form>⟧ (one_tag ⟦<ImplicitTag<IntegerTag, 0> as TagMarker>⟧.TAG ⟦<Implicit<u16, 0> as FormValue>⟧.value.contents) ⟦<Implicit<u16, 0> as PartialEq>⟧.eq (one_tag_equality ⟦<ImplicitTag<IntegerTag, 0> as TagMarker>⟧.TAG ⟦<Implicit<u16, 0> as FormValue>⟧.value.contents ⟦<Implicit<u16, 0> as FormValue>⟧.value.comparable ⟦<Implicit<u16, 0> as PartialEq>⟧.eq (λ v w. (u16_contents_eq.contents_eq-law v.value w.value))))
-        (member_equality ⟦<Option<Implicit<u16, 1>> as Form>⟧
-        (optional_starts ⟦<Implicit<u16, 1> as Form>⟧ (one_tag ⟦<ImplicitTag<IntegerTag, 1> as TagMarker>⟧.TAG ⟦<Implicit<u16, 1> as FormValue>⟧.value.contents))
-        ⟦<Option<Implicit<u16, 1>> as PartialEq>⟧.eq
-        (optional_equality ⟦<Implicit<u16, 1> as Form>⟧ (one_tag ⟦<ImplicitTag<IntegerTag, 1> as TagMarker>⟧.TAG ⟦<Implicit<u16, 1> as FormValue>⟧.value.contents) ⟦<Implicit<u16, 1> as PartialEq>⟧.eq (one_tag_equality ⟦<ImplicitTag<IntegerTag, 1> as TagMarker>⟧.TAG ⟦<Implicit<u16, 1> as FormValue>⟧.value.contents ⟦<Implicit<u16, 1> as FormValue>⟧.value.comparable ⟦<Implicit<u16, 1> as PartialEq>⟧.eq (λ v w. (u16_contents_eq.contents_eq-law v.value w.value))))
-        no_equality))).equal v.fields.list w.fields.list };
+    ghost contents_eq = { ⟦<Accuracy as Member>⟧.member.equal };
 }
 
 impl CopyIsDuplicate for Accuracy {}

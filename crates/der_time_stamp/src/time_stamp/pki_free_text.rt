@@ -2,18 +2,19 @@
 //!
 //! Made by tools/asn1 from time_stamp.asn1.
 
-ghost use Rattle.std.specs.Cmp.Lexicographic.{bytes_decides};
 ghost use Rattle.std.specs.Prelude.{◌≡◌, false, refl};
 ghost use Rattle.der_elem.specs.FormatMakers.{mapped_format};
 ghost use Rattle.der_lists.specs.NonEmptyRef.{list_of};
 ghost use Rattle.der_modules.specs.Asn1.{parse_of};
+ghost use Rattle.der_modules.specs.Members.{seen_member};
 ghost use Rattle.der_time_stamp.specs.TimeStamp.Grammar.{pki_free_text};
 
 use der_elem::{
     ContentsEq, CopyIsDuplicate, DecodeValue, EncodeValue, Form, FormValue, OneTag, Sequence,
-    SequenceTag, ValueOrd,
+    SequenceTag, TagMarker, ValueOrd,
 };
 use der_lists::{ListRef, NonEmptyRef};
+use der_modules::Member;
 use der_text::Utf8StringRef;
 use der_tlv::{BackWriter, Error, Header, Length, Source, Writer};
 use std::alloc::Global;
@@ -69,10 +70,10 @@ impl<'a, R: Source<'a>> DecodeValue<'a, R> for PkiFreeText<'a> {
         reader: &mut R,
         header: Header,
     ) -> Result<PkiFreeText<'a>, Error> {
-        match NonEmptyRef::<ListRef<'a, Utf8StringRef<'a>>>::decode_value(alloc, reader, header) {
-            Ok(items) => Ok(PkiFreeText { items }),
-            Err(e) => Err(e),
-        }
+        let items = NonEmptyRef::<ListRef<'a, Utf8StringRef<'a>>>::decode_value(
+            alloc, reader, header,
+        )?;
+        Ok(PkiFreeText { items })
     }
 
     ghost takes_memory_is = { refl };
@@ -98,8 +99,12 @@ impl<'a> ValueOrd for PkiFreeText<'a> {
     }
 }
 
+impl<'a> Member for PkiFreeText<'a> {
+    ghost member = { seen_member ⟦<SequenceTag as TagMarker>⟧.TAG (λ v. v.items) ⟦<NonEmptyRef<ListRef<'a, Utf8StringRef<'a>>> as Member>⟧.member };
+}
+
 impl<'a> ContentsEq for PkiFreeText<'a> {
-    ghost contents_eq = { λ v w. (λ one. bytes_decides v.items.list.octets.octets.now w.items.list.octets.octets.now) };
+    ghost contents_eq = { ⟦<PkiFreeText<'a> as Member>⟧.member.equal };
 }
 
 impl<'a> CopyIsDuplicate for PkiFreeText<'a> {}

@@ -3,25 +3,21 @@
 //! Made by tools/asn1 from time_stamp.asn1.
 
 ghost use Rattle.std.specs.Prelude.{◌∷◌, ◌≡◌, [], false, refl};
-ghost use Rattle.der_bits.specs.contracts.named_bits.NamedBitsRefContentsEq.TheImpl.Laws as namedbitsref_contents_eq;
 ghost use Rattle.der_elem.specs.FormatMakers.{mapped_format};
-ghost use Rattle.der_elem.specs.contracts.integer.unsigned.U8ContentsEq.TheImpl.Laws as u8_contents_eq;
 ghost use Rattle.der_modules.specs.Asn1.{joined, optional, parse_of};
-ghost use Rattle.der_modules.specs.MemberLaws.{member_equality, no_equality, one_tag, one_tag_equality, optional_equality, optional_starts, tagged_starts};
+ghost use Rattle.der_modules.specs.Members.{field, no_fields, optional_field, struct_member};
 ghost use Rattle.der_time_stamp.specs.TimeStamp.Grammar.{pki_status_info};
 ghost use Rattle.der_time_stamp.specs.TimeStamp.PkiStatusInfo as pki_status_info_fields;
-ghost use Rattle.der_time_stamp.specs.contracts.time_stamp.pki_free_text.PkiFreeTextContentsEq.TheImpl.Laws as pki_free_text_contents_eq;
 ghost use Rattle.der_time_stamp.specs.declared.time_stamp.pki_status_info.PkiStatusInfo.{PkiStatusInfo};
 
 use crate::time_stamp::aliases::{PkiFailureInfo, PkiStatus};
 use crate::time_stamp::pki_free_text::PkiFreeText;
-use der_bits::NamedBitsRef;
 use der_elem::{
-    BitStringTag, ContentsEq, CopyIsDuplicate, DecodeValue, EncodeValue, Form, FormValue,
-    IntegerTag, OneTag, Sequence, SequenceTag, TagMarker, ValueOrd,
+    ContentsEq, CopyIsDuplicate, DecodeValue, EncodeValue, Form, FormValue, OneTag, Sequence,
+    SequenceTag, TagMarker, ValueOrd,
 };
-use der_fields::{DecodeFields, EncodeFields, End, Field, FieldList, Fields3, FieldsOrd};
-use der_modules::copy_of;
+use der_fields::{DecodeFields, EncodeFields, FieldList, Fields3, FieldsOrd};
+use der_modules::{Member, copy_of, field_list, if_present};
 use der_tlv::{BackWriter, Error, Header, Length, Source, Writer};
 use std::alloc::Global;
 use std::cmp::Ordering;
@@ -57,15 +53,11 @@ impl<'a> PkiStatusInfo<'a> {
         ensures status_string { pki_status_info_fields.status_string result ≡ option_copied status_string.entry }
         ensures fail_info { pki_status_info_fields.fail_info result ≡ fail_info.entry }
     {
-        let first = fail_info;
-        let rest = Field { first, rest: End };
-        let first = match status_string {
-            Some(value) => Some(copy_of(value)),
-            None => None,
-        };
-        let rest = Field { first, rest };
-        let first = status;
-        let list = Field { first, rest };
+        let list = field_list![
+            status,
+            if_present!(value in status_string => copy_of(value)),
+            fail_info
+        ];
         let fields = Fields3 { list };
         PkiStatusInfo { fields }
     }
@@ -81,20 +73,14 @@ impl<'a> PkiStatusInfo<'a> {
     pub fn status_string(&self) -> Option<&PkiFreeText<'a>>
         ensures { option_copied result ≡ pki_status_info_fields.status_string self.now }
     {
-        match &self.fields.list.rest.first {
-            Some(value) => Some(value),
-            None => None,
-        }
+        if_present!(value in &self.fields.list.rest.first => value)
     }
 
     /// `failInfo`, `PKIFailureInfo OPTIONAL`.
     pub fn fail_info(&self) -> Option<&PkiFailureInfo<'a>>
         ensures { option_copied result ≡ pki_status_info_fields.fail_info self.now }
     {
-        match &self.fields.list.rest.rest.first {
-            Some(value) => Some(value),
-            None => None,
-        }
+        if_present!(value in &self.fields.list.rest.rest.first => value)
     }
 }
 
@@ -159,20 +145,16 @@ impl<'a> ValueOrd for PkiStatusInfo<'a> {
     }
 }
 
+impl<'a> Member for PkiStatusInfo<'a> {
+    ghost member = { struct_member ⟦<SequenceTag as TagMarker>⟧.TAG (λ v. v.fields.list)
+        (field ⟦<PkiStatus as Member>⟧.member
+        (optional_field ⟦<PkiFreeText<'a> as Member>⟧.member
+        (optional_field ⟦<PkiFailureInfo<'a> as Member>⟧.member
+        no_fields))) };
+}
+
 impl<'a> ContentsEq for PkiStatusInfo<'a> {
-    ghost contents_eq = { λ v w. (member_equality ⟦<PkiStatus as Form>⟧
-        (tagged_starts ⟦<PkiStatus as Form>⟧ (one_tag ⟦<IntegerTag as TagMarker>⟧.TAG ⟦<u8 as FormValue>⟧.value.contents))
-        ⟦<PkiStatus as PartialEq>⟧.eq
-        (one_tag_equality ⟦<IntegerTag as TagMarker>⟧.TAG ⟦<u8 as FormValue>⟧.value.contents ⟦<u8 as FormValue>⟧.value.comparable ⟦<u8 as PartialEq>⟧.eq u8_contents_eq.contents_eq-law)
-        (member_equality ⟦<Option<PkiFreeText<'a>> as Form>⟧
-        (optional_starts ⟦<PkiFreeText<'a> as Form>⟧ (one_tag ⟦<SequenceTag as TagMarker>⟧.TAG ⟦<PkiFreeText<'a> as FormValue>⟧.value.contents))
-        ⟦<Option<PkiFreeText<'a>> as PartialEq>⟧.eq
-        (optional_equality ⟦<PkiFreeText<'a> as Form>⟧ (one_tag ⟦<SequenceTag as TagMarker>⟧.TAG ⟦<PkiFreeText<'a> as FormValue>⟧.value.contents) ⟦<PkiFreeText<'a> as PartialEq>⟧.eq (one_tag_equality ⟦<SequenceTag as TagMarker>⟧.TAG ⟦<PkiFreeText<'a> as FormValue>⟧.value.contents ⟦<PkiFreeText<'a> as FormValue>⟧.value.comparable ⟦<PkiFreeText<'a> as PartialEq>⟧.eq pki_free_text_contents_eq.contents_eq-law))
-        (member_equality ⟦<Option<PkiFailureInfo<'a>> as Form>⟧
-        (optional_starts ⟦<PkiFailureInfo<'a> as Form>⟧ (one_tag ⟦<BitStringTag as TagMarker>⟧.TAG ⟦<NamedBitsRef<'a> as FormValue>⟧.value.contents))
-        ⟦<Option<PkiFailureInfo<'a>> as PartialEq>⟧.eq
-        (optional_equality ⟦<PkiFailureInfo<'a> as Form>⟧ (one_tag ⟦<BitStringTag as TagMarker>⟧.TAG ⟦<NamedBitsRef<'a> as FormValue>⟧.value.contents) ⟦<PkiFailureInfo<'a> as PartialEq>⟧.eq (one_tag_equality ⟦<BitStringTag as TagMarker>⟧.TAG ⟦<NamedBitsRef<'a> as FormValue>⟧.value.contents ⟦<NamedBitsRef<'a> as FormValue>⟧.value.comparable ⟦<NamedBitsRef<'a> as PartialEq>⟧.eq namedbitsref_contents_eq.contents_eq-law))
-        no_equality))).equal v.fields.list w.fields.list };
+    ghost contents_eq = { ⟦<PkiStatusInfo<'a> as Member>⟧.member.equal };
 }
 
 impl<'a> CopyIsDuplicate for PkiStatusInfo<'a> {}

@@ -2,34 +2,26 @@
 //!
 //! Made by tools/asn1 from time_stamp.asn1.
 
-ghost use Rattle.std.proofs.Common.{lit<};
 ghost use Rattle.std.specs.Prelude.{◌∷◌, ◌≡◌, [], false, refl, true};
 ghost use Rattle.der_elem.specs.FormatMakers.{mapped_format};
-ghost use Rattle.der_elem.specs.contracts.boolean.BoolContentsEq.TheImpl.Laws as bool_contents_eq;
-ghost use Rattle.der_elem.specs.contracts.integer.unsigned.U8ContentsEq.TheImpl.Laws as u8_contents_eq;
 ghost use Rattle.der_modules.specs.Asn1.{context, implicit_encoding, joined, optional, parse_of, unless_default};
-ghost use Rattle.der_modules.specs.MemberLaws.{default_equality, default_starts, member_equality, no_equality, one_tag, one_tag_equality, optional_equality, optional_starts, tagged_starts};
-ghost use Rattle.der_numbers.specs.contracts.int_ref.IntRefContentsEq.TheImpl.Laws as intref_contents_eq;
-ghost use Rattle.der_opaque.specs.contracts.object_identifier_ref.ObjectIdentifierRefContentsEq.TheImpl.Laws as objectidentifierref_contents_eq;
-ghost use Rattle.der_pkix.specs.contracts.certificate.extensions.ExtensionsContentsEq.TheImpl.Laws as extensions_contents_eq;
+ghost use Rattle.der_modules.specs.Members.{default_field, field, no_fields, optional_field, struct_member};
 ghost use Rattle.der_time_stamp.specs.TimeStamp.Grammar.{time_stamp_req};
 ghost use Rattle.der_time_stamp.specs.TimeStamp.TimeStampReq as time_stamp_req_fields;
-ghost use Rattle.der_time_stamp.specs.contracts.time_stamp.message_imprint.MessageImprintContentsEq.TheImpl.Laws as message_imprint_contents_eq;
 ghost use Rattle.der_time_stamp.specs.declared.time_stamp.time_stamp_req.TimeStampReq.{TimeStampReq};
 
 use crate::time_stamp::aliases::{TimeStampReqVersion, TsaPolicyId};
 use crate::time_stamp::message_imprint::MessageImprint;
 use der_elem::{
-    BooleanTag, ContentsEq, CopyIsDuplicate, DecodeValue, EncodeValue, Form, FormValue, IntegerTag,
-    ObjectIdentifierTag, OneTag, Sequence, SequenceTag, TagMarker, ValueOrd,
+    ContentsEq, CopyIsDuplicate, DecodeValue, EncodeValue, Form, FormValue, OneTag, Sequence,
+    SequenceTag, TagMarker, ValueOrd,
 };
 use der_fields::{
-    DecodeFields, DefaultFalse, DefaultOf, EncodeFields, End, Field, FieldList, Fields6, FieldsOrd,
-    Implicit, ImplicitTag, WithDefault,
+    DecodeFields, DefaultFalse, DefaultOf, EncodeFields, FieldList, Fields6, FieldsOrd, Implicit,
+    WithDefault,
 };
-use der_modules::copy_of;
+use der_modules::{Member, copy_of, field_list, if_present};
 use der_numbers::IntRef;
-use der_opaque::ObjectIdentifierRef;
 use der_pkix::certificate::Extensions;
 use der_tlv::{BackWriter, Error, Header, Length, Source, Writer};
 use std::alloc::Global;
@@ -82,23 +74,14 @@ impl<'a> TimeStampReq<'a> {
         ensures cert_req { time_stamp_req_fields.cert_req result ≡ cert_req }
         ensures extensions { time_stamp_req_fields.extensions result ≡ option_copied extensions.entry }
     {
-        let first = match extensions {
-            Some(value) => Some(Implicit {
-                value: copy_of(value),
-            }),
-            None => None,
-        };
-        let rest = Field { first, rest: End };
-        let first = WithDefault::new(cert_req);
-        let rest = Field { first, rest };
-        let first = nonce;
-        let rest = Field { first, rest };
-        let first = req_policy;
-        let rest = Field { first, rest };
-        let first = copy_of(message_imprint);
-        let rest = Field { first, rest };
-        let first = version;
-        let list = Field { first, rest };
+        let list = field_list![
+            version,
+            copy_of(message_imprint),
+            req_policy,
+            nonce,
+            WithDefault::new(cert_req),
+            if_present!(value in extensions => Implicit { value: copy_of(value) })
+        ];
         let fields = Fields6 { list };
         TimeStampReq { fields }
     }
@@ -121,20 +104,14 @@ impl<'a> TimeStampReq<'a> {
     pub fn req_policy(&self) -> Option<&TsaPolicyId<'a>>
         ensures { option_copied result ≡ time_stamp_req_fields.req_policy self.now }
     {
-        match &self.fields.list.rest.rest.first {
-            Some(value) => Some(value),
-            None => None,
-        }
+        if_present!(value in &self.fields.list.rest.rest.first => value)
     }
 
     /// `nonce`, `INTEGER OPTIONAL`.
     pub fn nonce(&self) -> Option<&IntRef<'a>>
         ensures { option_copied result ≡ time_stamp_req_fields.nonce self.now }
     {
-        match &self.fields.list.rest.rest.rest.first {
-            Some(value) => Some(value),
-            None => None,
-        }
+        if_present!(value in &self.fields.list.rest.rest.rest.first => value)
     }
 
     /// `certReq`, `BOOLEAN DEFAULT FALSE`.
@@ -148,10 +125,7 @@ impl<'a> TimeStampReq<'a> {
     pub fn extensions(&self) -> Option<&Extensions<'a>>
         ensures { option_copied result ≡ time_stamp_req_fields.extensions self.now }
     {
-        match &self.fields.list.rest.rest.rest.rest.rest.first {
-            Some(value) => Some(&value.value),
-            None => None,
-        }
+        if_present!(value in &self.fields.list.rest.rest.rest.rest.rest.first => &value.value)
     }
 }
 
@@ -219,32 +193,19 @@ impl<'a> ValueOrd for TimeStampReq<'a> {
     }
 }
 
+impl<'a> Member for TimeStampReq<'a> {
+    ghost member = { struct_member ⟦<SequenceTag as TagMarker>⟧.TAG (λ v. v.fields.list)
+        (field ⟦<TimeStampReqVersion as Member>⟧.member
+        (field ⟦<MessageImprint<'a> as Member>⟧.member
+        (optional_field ⟦<TsaPolicyId<'a> as Member>⟧.member
+        (optional_field ⟦<IntRef<'a> as Member>⟧.member
+        (default_field ⟦<DefaultFalse as DefaultOf<bool>>⟧.octets ⟦<bool as Member>⟧.member
+        (optional_field ⟦<Implicit<Extensions<'a>, 0> as Member>⟧.member
+        no_fields)))))) };
+}
+
 impl<'a> ContentsEq for TimeStampReq<'a> {
-    ghost contents_eq = { λ v w. (member_equality ⟦<TimeStampReqVersion as Form>⟧
-        (tagged_starts ⟦<TimeStampReqVersion as Form>⟧ (one_tag ⟦<IntegerTag as TagMarker>⟧.TAG ⟦<u8 as FormValue>⟧.value.contents))
-        ⟦<TimeStampReqVersion as PartialEq>⟧.eq
-        (one_tag_equality ⟦<IntegerTag as TagMarker>⟧.TAG ⟦<u8 as FormValue>⟧.value.contents ⟦<u8 as FormValue>⟧.value.comparable ⟦<u8 as PartialEq>⟧.eq u8_contents_eq.contents_eq-law)
-        (member_equality ⟦<MessageImprint<'a> as Form>⟧
-        (tagged_starts ⟦<MessageImprint<'a> as Form>⟧ (one_tag ⟦<SequenceTag as TagMarker>⟧.TAG ⟦<MessageImprint<'a> as FormValue>⟧.value.contents))
-        ⟦<MessageImprint<'a> as PartialEq>⟧.eq
-        (one_tag_equality ⟦<SequenceTag as TagMarker>⟧.TAG ⟦<MessageImprint<'a> as FormValue>⟧.value.contents ⟦<MessageImprint<'a> as FormValue>⟧.value.comparable ⟦<MessageImprint<'a> as PartialEq>⟧.eq message_imprint_contents_eq.contents_eq-law)
-        (member_equality ⟦<Option<TsaPolicyId<'a>> as Form>⟧
-        (optional_starts ⟦<TsaPolicyId<'a> as Form>⟧ (one_tag ⟦<ObjectIdentifierTag as TagMarker>⟧.TAG ⟦<ObjectIdentifierRef<'a, 39> as FormValue>⟧.value.contents))
-        ⟦<Option<TsaPolicyId<'a>> as PartialEq>⟧.eq
-        (optional_equality ⟦<TsaPolicyId<'a> as Form>⟧ (one_tag ⟦<ObjectIdentifierTag as TagMarker>⟧.TAG ⟦<ObjectIdentifierRef<'a, 39> as FormValue>⟧.value.contents) ⟦<TsaPolicyId<'a> as PartialEq>⟧.eq (one_tag_equality ⟦<ObjectIdentifierTag as TagMarker>⟧.TAG ⟦<ObjectIdentifierRef<'a, 39> as FormValue>⟧.value.contents ⟦<ObjectIdentifierRef<'a, 39> as FormValue>⟧.value.comparable ⟦<ObjectIdentifierRef<'a, 39> as PartialEq>⟧.eq (objectidentifierref_contents_eq.contents_eq-law 39 (record { fits = lit< tt }))))
-        (member_equality ⟦<Option<IntRef<'a>> as Form>⟧
-        (optional_starts ⟦<IntRef<'a> as Form>⟧ (one_tag ⟦<IntegerTag as TagMarker>⟧.TAG ⟦<IntRef<'a> as FormValue>⟧.value.contents))
-        ⟦<Option<IntRef<'a>> as PartialEq>⟧.eq
-        (optional_equality ⟦<IntRef<'a> as Form>⟧ (one_tag ⟦<IntegerTag as TagMarker>⟧.TAG ⟦<IntRef<'a> as FormValue>⟧.value.contents) ⟦<IntRef<'a> as PartialEq>⟧.eq (one_tag_equality ⟦<IntegerTag as TagMarker>⟧.TAG ⟦<IntRef<'a> as FormValue>⟧.value.contents ⟦<IntRef<'a> as FormValue>⟧.value.comparable ⟦<IntRef<'a> as PartialEq>⟧.eq intref_contents_eq.contents_eq-law))
-        (member_equality ⟦<WithDefault<bool, DefaultFalse> as Form>⟧
-        (default_starts ⟦<bool as Form>⟧ (one_tag ⟦<BooleanTag as TagMarker>⟧.TAG ⟦<bool as FormValue>⟧.value.contents) (λ x. x.value) ⟦<DefaultFalse as DefaultOf<bool>>⟧.octets)
-        ⟦<WithDefault<bool, DefaultFalse> as PartialEq>⟧.eq
-        (default_equality ⟦<bool as Form>⟧ (one_tag ⟦<BooleanTag as TagMarker>⟧.TAG ⟦<bool as FormValue>⟧.value.contents) (λ x. x.value) ⟦<DefaultFalse as DefaultOf<bool>>⟧.octets ⟦<bool as PartialEq>⟧.eq (one_tag_equality ⟦<BooleanTag as TagMarker>⟧.TAG ⟦<bool as FormValue>⟧.value.contents ⟦<bool as FormValue>⟧.value.comparable ⟦<bool as PartialEq>⟧.eq bool_contents_eq.contents_eq-law))
-        (member_equality ⟦<Option<Implicit<Extensions<'a>, 0>> as Form>⟧
-        (optional_starts ⟦<Implicit<Extensions<'a>, 0> as Form>⟧ (one_tag ⟦<ImplicitTag<SequenceTag, 0> as TagMarker>⟧.TAG ⟦<Implicit<Extensions<'a>, 0> as FormValue>⟧.value.contents))
-        ⟦<Option<Implicit<Extensions<'a>, 0>> as PartialEq>⟧.eq
-        (optional_equality ⟦<Implicit<Extensions<'a>, 0> as Form>⟧ (one_tag ⟦<ImplicitTag<SequenceTag, 0> as TagMarker>⟧.TAG ⟦<Implicit<Extensions<'a>, 0> as FormValue>⟧.value.contents) ⟦<Implicit<Extensions<'a>, 0> as PartialEq>⟧.eq (one_tag_equality ⟦<ImplicitTag<SequenceTag, 0> as TagMarker>⟧.TAG ⟦<Implicit<Extensions<'a>, 0> as FormValue>⟧.value.contents ⟦<Implicit<Extensions<'a>, 0> as FormValue>⟧.value.comparable ⟦<Implicit<Extensions<'a>, 0> as PartialEq>⟧.eq (λ v w. (extensions_contents_eq.contents_eq-law v.value w.value))))
-        no_equality)))))).equal v.fields.list w.fields.list };
+    ghost contents_eq = { ⟦<TimeStampReq<'a> as Member>⟧.member.equal };
 }
 
 impl<'a> CopyIsDuplicate for TimeStampReq<'a> {}

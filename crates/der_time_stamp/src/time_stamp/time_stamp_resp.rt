@@ -5,11 +5,9 @@
 ghost use Rattle.std.specs.Prelude.{◌∷◌, ◌≡◌, [], false, refl};
 ghost use Rattle.der_elem.specs.FormatMakers.{mapped_format};
 ghost use Rattle.der_modules.specs.Asn1.{joined, optional, parse_of};
-ghost use Rattle.der_modules.specs.MemberLaws.{member_equality, no_equality, one_tag, one_tag_equality, optional_equality, optional_starts, tagged_starts};
+ghost use Rattle.der_modules.specs.Members.{field, no_fields, optional_field, struct_member};
 ghost use Rattle.der_time_stamp.specs.TimeStamp.Grammar.{time_stamp_resp};
 ghost use Rattle.der_time_stamp.specs.TimeStamp.TimeStampResp as time_stamp_resp_fields;
-ghost use Rattle.der_time_stamp.specs.contracts.time_stamp.pki_status_info.PkiStatusInfoContentsEq.TheImpl.Laws as pki_status_info_contents_eq;
-ghost use Rattle.der_time_stamp.specs.contracts.time_stamp.time_stamp_token.TimeStampTokenContentsEq.TheImpl.Laws as time_stamp_token_contents_eq;
 ghost use Rattle.der_time_stamp.specs.declared.time_stamp.time_stamp_resp.TimeStampResp.{TimeStampResp};
 
 use crate::time_stamp::pki_status_info::PkiStatusInfo;
@@ -18,8 +16,8 @@ use der_elem::{
     ContentsEq, CopyIsDuplicate, DecodeValue, EncodeValue, Form, FormValue, OneTag, Sequence,
     SequenceTag, TagMarker, ValueOrd,
 };
-use der_fields::{DecodeFields, EncodeFields, End, Field, FieldList, Fields2, FieldsOrd};
-use der_modules::copy_of;
+use der_fields::{DecodeFields, EncodeFields, FieldList, Fields2, FieldsOrd};
+use der_modules::{Member, copy_of, field_list, if_present};
 use der_tlv::{BackWriter, Error, Header, Length, Source, Writer};
 use std::alloc::Global;
 use std::cmp::Ordering;
@@ -52,13 +50,10 @@ impl<'a> TimeStampResp<'a> {
         ensures status { time_stamp_resp_fields.status result ≡ status.now }
         ensures time_stamp_token { time_stamp_resp_fields.time_stamp_token result ≡ option_copied time_stamp_token.entry }
     {
-        let first = match time_stamp_token {
-            Some(value) => Some(copy_of(value)),
-            None => None,
-        };
-        let rest = Field { first, rest: End };
-        let first = copy_of(status);
-        let list = Field { first, rest };
+        let list = field_list![
+            copy_of(status),
+            if_present!(value in time_stamp_token => copy_of(value))
+        ];
         let fields = Fields2 { list };
         TimeStampResp { fields }
     }
@@ -74,10 +69,7 @@ impl<'a> TimeStampResp<'a> {
     pub fn time_stamp_token(&self) -> Option<&TimeStampToken<'a>>
         ensures { option_copied result ≡ time_stamp_resp_fields.time_stamp_token self.now }
     {
-        match &self.fields.list.rest.first {
-            Some(value) => Some(value),
-            None => None,
-        }
+        if_present!(value in &self.fields.list.rest.first => value)
     }
 }
 
@@ -141,16 +133,15 @@ impl<'a> ValueOrd for TimeStampResp<'a> {
     }
 }
 
+impl<'a> Member for TimeStampResp<'a> {
+    ghost member = { struct_member ⟦<SequenceTag as TagMarker>⟧.TAG (λ v. v.fields.list)
+        (field ⟦<PkiStatusInfo<'a> as Member>⟧.member
+        (optional_field ⟦<TimeStampToken<'a> as Member>⟧.member
+        no_fields)) };
+}
+
 impl<'a> ContentsEq for TimeStampResp<'a> {
-    ghost contents_eq = { λ v w. (member_equality ⟦<PkiStatusInfo<'a> as Form>⟧
-        (tagged_starts ⟦<PkiStatusInfo<'a> as Form>⟧ (one_tag ⟦<SequenceTag as TagMarker>⟧.TAG ⟦<PkiStatusInfo<'a> as FormValue>⟧.value.contents))
-        ⟦<PkiStatusInfo<'a> as PartialEq>⟧.eq
-        (one_tag_equality ⟦<SequenceTag as TagMarker>⟧.TAG ⟦<PkiStatusInfo<'a> as FormValue>⟧.value.contents ⟦<PkiStatusInfo<'a> as FormValue>⟧.value.comparable ⟦<PkiStatusInfo<'a> as PartialEq>⟧.eq pki_status_info_contents_eq.contents_eq-law)
-        (member_equality ⟦<Option<TimeStampToken<'a>> as Form>⟧
-        (optional_starts ⟦<TimeStampToken<'a> as Form>⟧ (one_tag ⟦<SequenceTag as TagMarker>⟧.TAG ⟦<TimeStampToken<'a> as FormValue>⟧.value.contents))
-        ⟦<Option<TimeStampToken<'a>> as PartialEq>⟧.eq
-        (optional_equality ⟦<TimeStampToken<'a> as Form>⟧ (one_tag ⟦<SequenceTag as TagMarker>⟧.TAG ⟦<TimeStampToken<'a> as FormValue>⟧.value.contents) ⟦<TimeStampToken<'a> as PartialEq>⟧.eq (one_tag_equality ⟦<SequenceTag as TagMarker>⟧.TAG ⟦<TimeStampToken<'a> as FormValue>⟧.value.contents ⟦<TimeStampToken<'a> as FormValue>⟧.value.comparable ⟦<TimeStampToken<'a> as PartialEq>⟧.eq time_stamp_token_contents_eq.contents_eq-law))
-        no_equality)).equal v.fields.list w.fields.list };
+    ghost contents_eq = { ⟦<TimeStampResp<'a> as Member>⟧.member.equal };
 }
 
 impl<'a> CopyIsDuplicate for TimeStampResp<'a> {}

@@ -2,41 +2,28 @@
 //!
 //! Made by tools/asn1 from time_stamp.asn1.
 
-ghost use Rattle.std.proofs.Common.{lit<};
 ghost use Rattle.std.specs.Prelude.{◌∷◌, ◌≡◌, [], false, refl, true};
 ghost use Rattle.der_elem.specs.FormatMakers.{mapped_format};
-ghost use Rattle.der_elem.specs.contracts.boolean.BoolContentsEq.TheImpl.Laws as bool_contents_eq;
-ghost use Rattle.der_elem.specs.contracts.integer.unsigned.U8ContentsEq.TheImpl.Laws as u8_contents_eq;
-ghost use Rattle.der_extensions.specs.contracts.extension.general_name.GeneralNameEncodingEq.TheImpl.Laws as general_name_encoding_eq;
-ghost use Rattle.der_extensions.specs.contracts.extension.general_name.GeneralNameTagged.TheImpl.Laws as general_name_tagged;
 ghost use Rattle.der_modules.specs.Asn1.{context, explicit_encoding, implicit_encoding, joined, optional, parse_of, unless_default};
-ghost use Rattle.der_modules.specs.MemberLaws.{default_equality, default_starts, member_equality, no_equality, one_tag, one_tag_equality, optional_equality, optional_starts, own_tags, part_equality, tagged_starts};
-ghost use Rattle.der_numbers.specs.contracts.int_ref.IntRefContentsEq.TheImpl.Laws as intref_contents_eq;
-ghost use Rattle.der_opaque.specs.contracts.object_identifier_ref.ObjectIdentifierRefContentsEq.TheImpl.Laws as objectidentifierref_contents_eq;
-ghost use Rattle.der_pkix.specs.contracts.certificate.extensions.ExtensionsContentsEq.TheImpl.Laws as extensions_contents_eq;
-ghost use Rattle.der_time.specs.contracts.generalized_time.GeneralizedTimeContentsEq.TheImpl.Laws as generalizedtime_contents_eq;
+ghost use Rattle.der_modules.specs.Members.{default_field, field, no_fields, optional_field, part, struct_member};
 ghost use Rattle.der_time_stamp.specs.TimeStamp.Grammar.{tst_info};
 ghost use Rattle.der_time_stamp.specs.TimeStamp.TstInfo as tst_info_fields;
-ghost use Rattle.der_time_stamp.specs.contracts.time_stamp.accuracy.AccuracyContentsEq.TheImpl.Laws as accuracy_contents_eq;
-ghost use Rattle.der_time_stamp.specs.contracts.time_stamp.message_imprint.MessageImprintContentsEq.TheImpl.Laws as message_imprint_contents_eq;
 ghost use Rattle.der_time_stamp.specs.declared.time_stamp.tst_info.TstInfo.{TstInfo};
 
 use crate::time_stamp::accuracy::Accuracy;
 use crate::time_stamp::aliases::{TsaPolicyId, TstInfoVersion};
 use crate::time_stamp::message_imprint::MessageImprint;
 use der_elem::{
-    BooleanTag, ContentsEq, CopyIsDuplicate, DecodeValue, EncodeValue, Form, FormValue,
-    GeneralizedTimeTag, IntegerTag, ObjectIdentifierTag, OneTag, Sequence, SequenceTag, TagMarker,
-    Tagged, ValueOrd,
+    ContentsEq, CopyIsDuplicate, DecodeValue, EncodeValue, Form, FormValue, OneTag, Sequence,
+    SequenceTag, TagMarker, ValueOrd,
 };
 use der_extensions::extension::GeneralName;
 use der_fields::{
-    DecodeFields, DefaultFalse, DefaultOf, EncodeFields, End, Explicit, ExplicitTag, Field,
-    FieldList, Fields2, Fields8, FieldsOrd, Implicit, ImplicitTag, WithDefault,
+    DecodeFields, DefaultFalse, DefaultOf, EncodeFields, Explicit, FieldList, Fields2, Fields8,
+    FieldsOrd, Implicit, WithDefault,
 };
-use der_modules::copy_of;
+use der_modules::{Member, copy_of, field_list, if_present, tagged};
 use der_numbers::IntRef;
-use der_opaque::ObjectIdentifierRef;
 use der_pkix::certificate::Extensions;
 use der_time::GeneralizedTime;
 use der_tlv::{BackWriter, Error, Header, Length, Source, Writer};
@@ -105,40 +92,13 @@ impl<'a> TstInfo<'a> {
         ensures tsa { tst_info_fields.tsa result ≡ option_copied tsa.entry }
         ensures extensions { tst_info_fields.extensions result ≡ option_copied extensions.entry }
     {
-        let first = match extensions {
-            Some(value) => Some(Implicit {
-                value: copy_of(value),
-            }),
-            None => None,
-        };
-        let rest = Field { first, rest: End };
-        let first = match tsa {
-            Some(first) => Some(Explicit {
-                fields: Field {
-                    first: copy_of(first),
-                    rest: End,
-                },
-            }),
-            None => None,
-        };
-        let list = Field { first, rest };
+        let list = field_list![
+            if_present!(value in tsa => tagged!(Explicit, copy_of(value))),
+            if_present!(value in extensions => Implicit { value: copy_of(value) })
+        ];
         let rest = Fields2 { list };
-        let first = nonce;
-        let rest = Field { first, rest };
-        let first = WithDefault::new(ordering);
-        let rest = Field { first, rest };
-        let first = accuracy;
-        let rest = Field { first, rest };
-        let first = gen_time;
-        let rest = Field { first, rest };
-        let first = serial_number;
-        let rest = Field { first, rest };
-        let first = copy_of(message_imprint);
-        let rest = Field { first, rest };
-        let first = policy;
-        let rest = Field { first, rest };
-        let first = version;
-        let list = Field { first, rest };
+        let list =
+            field_list![version, policy, copy_of(message_imprint), serial_number, gen_time, accuracy, WithDefault::new(ordering), nonce; rest];
         let fields = Fields8 { list };
         TstInfo { fields }
     }
@@ -196,10 +156,7 @@ impl<'a> TstInfo<'a> {
     pub fn nonce(&self) -> Option<&IntRef<'a>>
         ensures { option_copied result ≡ tst_info_fields.nonce self.now }
     {
-        match &self.fields.list.rest.rest.rest.rest.rest.rest.rest.first {
-            Some(value) => Some(value),
-            None => None,
-        }
+        if_present!(value in &self.fields.list.rest.rest.rest.rest.rest.rest.rest.first => value)
     }
 
     /// `tsa`, `[0] GeneralName OPTIONAL`.
@@ -207,10 +164,7 @@ impl<'a> TstInfo<'a> {
         ensures { option_copied result ≡ tst_info_fields.tsa self.now }
     {
         let tail = &self.fields.list.rest.rest.rest.rest.rest.rest.rest.rest;
-        match &tail.list.first {
-            Some(value) => Some(&value.fields.first),
-            None => None,
-        }
+        if_present!(value in &tail.list.first => &value.fields.first)
     }
 
     /// `extensions`, `[1] IMPLICIT Extensions OPTIONAL`.
@@ -218,10 +172,7 @@ impl<'a> TstInfo<'a> {
         ensures { option_copied result ≡ tst_info_fields.extensions self.now }
     {
         let tail = &self.fields.list.rest.rest.rest.rest.rest.rest.rest.rest;
-        match &tail.list.rest.first {
-            Some(value) => Some(&value.value),
-            None => None,
-        }
+        if_present!(value in &tail.list.rest.first => &value.value)
     }
 }
 
@@ -289,52 +240,24 @@ impl<'a> ValueOrd for TstInfo<'a> {
     }
 }
 
+impl<'a> Member for TstInfo<'a> {
+    ghost member = { struct_member ⟦<SequenceTag as TagMarker>⟧.TAG (λ v. v.fields.list)
+        (field ⟦<TstInfoVersion as Member>⟧.member
+        (field ⟦<TsaPolicyId<'a> as Member>⟧.member
+        (field ⟦<MessageImprint<'a> as Member>⟧.member
+        (field ⟦<IntRef<'a> as Member>⟧.member
+        (field ⟦<GeneralizedTime as Member>⟧.member
+        (optional_field ⟦<Accuracy as Member>⟧.member
+        (default_field ⟦<DefaultFalse as DefaultOf<bool>>⟧.octets ⟦<bool as Member>⟧.member
+        (optional_field ⟦<IntRef<'a> as Member>⟧.member
+        (part (λ v. v.list)
+        (optional_field ⟦<Explicit<GeneralName<'a>, 0> as Member>⟧.member
+        (optional_field ⟦<Implicit<Extensions<'a>, 1> as Member>⟧.member
+        no_fields))))))))))) };
+}
+
 impl<'a> ContentsEq for TstInfo<'a> {
-    ghost contents_eq = { λ v w. (member_equality ⟦<TstInfoVersion as Form>⟧
-        (tagged_starts ⟦<TstInfoVersion as Form>⟧ (one_tag ⟦<IntegerTag as TagMarker>⟧.TAG ⟦<u8 as FormValue>⟧.value.contents))
-        ⟦<TstInfoVersion as PartialEq>⟧.eq
-        (one_tag_equality ⟦<IntegerTag as TagMarker>⟧.TAG ⟦<u8 as FormValue>⟧.value.contents ⟦<u8 as FormValue>⟧.value.comparable ⟦<u8 as PartialEq>⟧.eq u8_contents_eq.contents_eq-law)
-        (member_equality ⟦<TsaPolicyId<'a> as Form>⟧
-        (tagged_starts ⟦<TsaPolicyId<'a> as Form>⟧ (one_tag ⟦<ObjectIdentifierTag as TagMarker>⟧.TAG ⟦<ObjectIdentifierRef<'a, 39> as FormValue>⟧.value.contents))
-        ⟦<TsaPolicyId<'a> as PartialEq>⟧.eq
-        (one_tag_equality ⟦<ObjectIdentifierTag as TagMarker>⟧.TAG ⟦<ObjectIdentifierRef<'a, 39> as FormValue>⟧.value.contents ⟦<ObjectIdentifierRef<'a, 39> as FormValue>⟧.value.comparable ⟦<ObjectIdentifierRef<'a, 39> as PartialEq>⟧.eq (objectidentifierref_contents_eq.contents_eq-law 39 (record { fits = lit< tt })))
-        (member_equality ⟦<MessageImprint<'a> as Form>⟧
-        (tagged_starts ⟦<MessageImprint<'a> as Form>⟧ (one_tag ⟦<SequenceTag as TagMarker>⟧.TAG ⟦<MessageImprint<'a> as FormValue>⟧.value.contents))
-        ⟦<MessageImprint<'a> as PartialEq>⟧.eq
-        (one_tag_equality ⟦<SequenceTag as TagMarker>⟧.TAG ⟦<MessageImprint<'a> as FormValue>⟧.value.contents ⟦<MessageImprint<'a> as FormValue>⟧.value.comparable ⟦<MessageImprint<'a> as PartialEq>⟧.eq message_imprint_contents_eq.contents_eq-law)
-        (member_equality ⟦<IntRef<'a> as Form>⟧
-        (tagged_starts ⟦<IntRef<'a> as Form>⟧ (one_tag ⟦<IntegerTag as TagMarker>⟧.TAG ⟦<IntRef<'a> as FormValue>⟧.value.contents))
-        ⟦<IntRef<'a> as PartialEq>⟧.eq
-        (one_tag_equality ⟦<IntegerTag as TagMarker>⟧.TAG ⟦<IntRef<'a> as FormValue>⟧.value.contents ⟦<IntRef<'a> as FormValue>⟧.value.comparable ⟦<IntRef<'a> as PartialEq>⟧.eq intref_contents_eq.contents_eq-law)
-        (member_equality ⟦<GeneralizedTime as Form>⟧
-        (tagged_starts ⟦<GeneralizedTime as Form>⟧ (one_tag ⟦<GeneralizedTimeTag as TagMarker>⟧.TAG ⟦<GeneralizedTime as FormValue>⟧.value.contents))
-        ⟦<GeneralizedTime as PartialEq>⟧.eq
-        (one_tag_equality ⟦<GeneralizedTimeTag as TagMarker>⟧.TAG ⟦<GeneralizedTime as FormValue>⟧.value.contents ⟦<GeneralizedTime as FormValue>⟧.value.comparable ⟦<GeneralizedTime as PartialEq>⟧.eq generalizedtime_contents_eq.contents_eq-law)
-        (member_equality ⟦<Option<Accuracy> as Form>⟧
-        (optional_starts ⟦<Accuracy as Form>⟧ (one_tag ⟦<SequenceTag as TagMarker>⟧.TAG ⟦<Accuracy as FormValue>⟧.value.contents))
-        ⟦<Option<Accuracy> as PartialEq>⟧.eq
-        (optional_equality ⟦<Accuracy as Form>⟧ (one_tag ⟦<SequenceTag as TagMarker>⟧.TAG ⟦<Accuracy as FormValue>⟧.value.contents) ⟦<Accuracy as PartialEq>⟧.eq (one_tag_equality ⟦<SequenceTag as TagMarker>⟧.TAG ⟦<Accuracy as FormValue>⟧.value.contents ⟦<Accuracy as FormValue>⟧.value.comparable ⟦<Accuracy as PartialEq>⟧.eq accuracy_contents_eq.contents_eq-law))
-        (member_equality ⟦<WithDefault<bool, DefaultFalse> as Form>⟧
-        (default_starts ⟦<bool as Form>⟧ (one_tag ⟦<BooleanTag as TagMarker>⟧.TAG ⟦<bool as FormValue>⟧.value.contents) (λ x. x.value) ⟦<DefaultFalse as DefaultOf<bool>>⟧.octets)
-        ⟦<WithDefault<bool, DefaultFalse> as PartialEq>⟧.eq
-        (default_equality ⟦<bool as Form>⟧ (one_tag ⟦<BooleanTag as TagMarker>⟧.TAG ⟦<bool as FormValue>⟧.value.contents) (λ x. x.value) ⟦<DefaultFalse as DefaultOf<bool>>⟧.octets ⟦<bool as PartialEq>⟧.eq (one_tag_equality ⟦<BooleanTag as TagMarker>⟧.TAG ⟦<bool as FormValue>⟧.value.contents ⟦<bool as FormValue>⟧.value.comparable ⟦<bool as PartialEq>⟧.eq bool_contents_eq.contents_eq-law))
-        (member_equality ⟦<Option<IntRef<'a>> as Form>⟧
-        (optional_starts ⟦<IntRef<'a> as Form>⟧ (one_tag ⟦<IntegerTag as TagMarker>⟧.TAG ⟦<IntRef<'a> as FormValue>⟧.value.contents))
-        ⟦<Option<IntRef<'a>> as PartialEq>⟧.eq
-        (optional_equality ⟦<IntRef<'a> as Form>⟧ (one_tag ⟦<IntegerTag as TagMarker>⟧.TAG ⟦<IntRef<'a> as FormValue>⟧.value.contents) ⟦<IntRef<'a> as PartialEq>⟧.eq (one_tag_equality ⟦<IntegerTag as TagMarker>⟧.TAG ⟦<IntRef<'a> as FormValue>⟧.value.contents ⟦<IntRef<'a> as FormValue>⟧.value.comparable ⟦<IntRef<'a> as PartialEq>⟧.eq intref_contents_eq.contents_eq-law))
-        (part_equality (λ x. x.list) (member_equality ⟦<Option<Explicit<GeneralName<'a>, 0>> as Form>⟧
-        (optional_starts ⟦<Explicit<GeneralName<'a>, 0> as Form>⟧ (one_tag ⟦<ExplicitTag<0> as TagMarker>⟧.TAG ⟦<Explicit<GeneralName<'a>, 0> as FormValue>⟧.value.contents))
-        ⟦<Option<Explicit<GeneralName<'a>, 0>> as PartialEq>⟧.eq
-        (optional_equality ⟦<Explicit<GeneralName<'a>, 0> as Form>⟧ (one_tag ⟦<ExplicitTag<0> as TagMarker>⟧.TAG ⟦<Explicit<GeneralName<'a>, 0> as FormValue>⟧.value.contents) ⟦<Explicit<GeneralName<'a>, 0> as PartialEq>⟧.eq (one_tag_equality ⟦<ExplicitTag<0> as TagMarker>⟧.TAG ⟦<Explicit<GeneralName<'a>, 0> as FormValue>⟧.value.contents ⟦<Explicit<GeneralName<'a>, 0> as FormValue>⟧.value.comparable ⟦<Explicit<GeneralName<'a>, 0> as PartialEq>⟧.eq (λ v w. ((member_equality ⟦<GeneralName<'a> as Form>⟧
-        (tagged_starts ⟦<GeneralName<'a> as Form>⟧ (own_tags ⟦<GeneralName<'a> as Form>⟧.tags ⟦<GeneralName<'a> as Form>⟧.first_tag_of ⟦<GeneralName<'a> as Form>⟧.encoding ⟦<GeneralName<'a> as Tagged>⟧.tag_of ⟦<GeneralName<'a> as FormValue>⟧.value.contents general_name_tagged.encoding_is-law general_name_tagged.own_tag-law general_name_tagged.first_tag_is-law))
-        ⟦<GeneralName<'a> as PartialEq>⟧.eq
-        general_name_encoding_eq.encoding_eq-law
-        no_equality).equal v.fields w.fields))))
-        (member_equality ⟦<Option<Implicit<Extensions<'a>, 1>> as Form>⟧
-        (optional_starts ⟦<Implicit<Extensions<'a>, 1> as Form>⟧ (one_tag ⟦<ImplicitTag<SequenceTag, 1> as TagMarker>⟧.TAG ⟦<Implicit<Extensions<'a>, 1> as FormValue>⟧.value.contents))
-        ⟦<Option<Implicit<Extensions<'a>, 1>> as PartialEq>⟧.eq
-        (optional_equality ⟦<Implicit<Extensions<'a>, 1> as Form>⟧ (one_tag ⟦<ImplicitTag<SequenceTag, 1> as TagMarker>⟧.TAG ⟦<Implicit<Extensions<'a>, 1> as FormValue>⟧.value.contents) ⟦<Implicit<Extensions<'a>, 1> as PartialEq>⟧.eq (one_tag_equality ⟦<ImplicitTag<SequenceTag, 1> as TagMarker>⟧.TAG ⟦<Implicit<Extensions<'a>, 1> as FormValue>⟧.value.contents ⟦<Implicit<Extensions<'a>, 1> as FormValue>⟧.value.comparable ⟦<Implicit<Extensions<'a>, 1> as PartialEq>⟧.eq (λ v w. (extensions_contents_eq.contents_eq-law v.value w.value))))
-        no_equality))))))))))).equal v.fields.list w.fields.list };
+    ghost contents_eq = { ⟦<TstInfo<'a> as Member>⟧.member.equal };
 }
 
 impl<'a> CopyIsDuplicate for TstInfo<'a> {}
