@@ -2,7 +2,10 @@
 -- Made by tools/asn1 from shapes.asn1.
 pub mod General
 pub mod Grammar
+pub mod Label
+pub mod Labels
 pub mod Lists
+pub mod Marks
 pub mod Mixed
 pub mod Numbers
 pub mod Ordered

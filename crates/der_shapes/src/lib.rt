@@ -3,5 +3,4 @@
 //! Made by tools/asn1.
 #![tactic(auto)]
 
-pub mod parts;
 pub mod shapes;

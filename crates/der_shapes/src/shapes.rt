@@ -2,10 +2,16 @@
 //!
 //! Made by tools/asn1 from shapes.asn1.
 
+mod empty;
 mod general;
+mod label;
+mod labels;
 pub mod laws;
 mod lists;
+mod marks;
+mod marks_fourth;
 mod mixed;
+mod nothing;
 mod numbers;
 mod ordered;
 mod pair;
@@ -13,9 +19,15 @@ mod status;
 mod subtree;
 mod unordered;
 
+pub use empty::Empty;
 pub use general::General;
+pub use label::Label;
+pub use labels::Labels;
 pub use lists::Lists;
+pub use marks::Marks;
+pub use marks_fourth::MarksFourth;
 pub use mixed::Mixed;
+pub use nothing::Nothing;
 pub use numbers::Numbers;
 pub use ordered::Ordered;
 pub use pair::Pair;

@@ -1,9 +1,10 @@
 //! Values of each shape, read and written back, and octets that are refused.
 
+mod empty;
 mod fields;
 mod lists;
 mod ordering;
-mod parts;
+mod owning;
 mod reading;
 mod refusing;
 

@@ -147,3 +147,58 @@ lists =
     (OPTIONAL (IMPLICIT context 1 unordered)
     (field (SET_OF BIT_STRING)
     end)))))
+
+-- Nothing ::= SEQUENCE { }
+abbrev pub nothing : Grammar
+nothing =
+    SEQUENCE
+    end
+
+-- Empty ::= SET { }
+abbrev pub empty : Grammar
+empty =
+    SET
+    end
+
+-- a type within another: MarksFourth
+abbrev pub marks_fourth : Grammar
+marks_fourth =
+    SET
+    end
+
+-- Marks ::= SEQUENCE {
+--     first   Nothing,
+--     second  [0] Nothing OPTIONAL,
+--     third   [1] EXPLICIT Empty OPTIONAL,
+--     fourth  SET { ... } }
+abbrev pub marks : Grammar
+marks =
+    SEQUENCE
+    (field nothing
+    (OPTIONAL (IMPLICIT context 0 nothing)
+    (OPTIONAL (EXPLICIT context 1 empty)
+    (field marks_fourth
+    end))))
+
+-- Label ::= CHOICE {
+--     text    OCTET STRING,
+--     number  [0] INTEGER }
+abbrev pub label : Grammar
+label =
+    CHOICE
+    OCTET_STRING
+    (IMPLICIT context 0 INTEGER)
+
+-- Labels ::= SEQUENCE {
+--     label    Label,
+--     title    OCTET STRING OPTIONAL,
+--     other    [1] EXPLICIT OCTET STRING OPTIONAL,
+--     visible  BOOLEAN DEFAULT FALSE }
+abbrev pub labels : Grammar
+labels =
+    SEQUENCE
+    (field label
+    (OPTIONAL OCTET_STRING
+    (OPTIONAL (EXPLICIT context 1 OCTET_STRING)
+    (DEFAULT (tlv tags.Boolean (boolean_contents false)) BOOLEAN
+    end))))

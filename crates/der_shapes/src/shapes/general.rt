@@ -2,34 +2,31 @@
 //!
 //! Made by tools/asn1 from shapes.asn1.
 
-ghost use Rattle.std.proofs.Common.{lit<};
 ghost use Rattle.std.specs.Prelude.{◌≡◌, false, refl, true};
-ghost use Rattle.der_ascii.specs.contracts.string_ref.CharacterStringRefContentsEq.TheImpl.Laws as characterstringref_contents_eq;
 ghost use Rattle.der_elem.specs.Accepting.{IsTlv};
 ghost use Rattle.der_elem.specs.FirstTags.{HasFirstTag};
 ghost use Rattle.der_elem.specs.FormatMakers.{mapped_format};
 ghost use Rattle.der_elem.specs.KnownTagLaws.{known_either, own_is_known};
 ghost use Rattle.der_elem.specs.TaggedLaws.{tlv_tagged};
 ghost use Rattle.der_modules.specs.Asn1.{parse_of};
-ghost use Rattle.der_modules.specs.MemberLaws.{copies_of, either_equality, either_tag, one_tag, one_tag_equality, own_tags, same_copies, seen_equality};
-ghost use Rattle.der_opaque.specs.contracts.octet_string_ref.OctetStringRefContentsEq.TheImpl.Laws as octetstringref_contents_eq;
+ghost use Rattle.der_modules.specs.MemberLaws.{copies_of, same_copies};
+ghost use Rattle.der_modules.specs.Members.{seen_choice};
 ghost use Rattle.der_shapes.specs.Shapes.General.{tree_of};
 ghost use Rattle.der_shapes.specs.Shapes.Grammar.{general};
 ghost use Rattle.der_shapes.specs.contracts.shapes.general.GeneralEq.TheImpl.Laws as general_eq;
 ghost use Rattle.der_shapes.specs.contracts.shapes.status.StatusChoice.TheImpl.Laws as status_choice;
-ghost use Rattle.der_shapes.specs.contracts.shapes.status.StatusEncodingEq.TheImpl.Laws as status_encoding_eq;
 ghost use Rattle.der_shapes.specs.contracts.shapes.status.StatusKnownTags.TheImpl.Laws as status_known_tags;
 ghost use Rattle.der_shapes.specs.contracts.shapes.status.StatusTagged.TheImpl.Laws as status_tagged;
 ghost use Rattle.der_shapes.specs.declared.shapes.general.General.TheVariants as of;
 
 use crate::shapes::status::Status;
-use der_ascii::{CharacterStringTag, Ia5StringRef};
+use der_ascii::Ia5StringRef;
 use der_elem::{
     Choice, Decode, DecodeField, DerOrd, Duplicate, DuplicateIsEqual, EncodeValue, EncodingEq,
-    Form, FormValue, KnownTags, OctetStringTag, TagMarker, Tagged,
+    Form, FormValue, KnownTags, Tagged,
 };
-use der_fields::{Implicit, ImplicitTag, OneOf, cmp_headers};
-use der_modules::{CopyLaws, copy_of};
+use der_fields::{Implicit, OneOf, cmp_headers};
+use der_modules::{Choosing, CopyLaws, copy_of};
 use der_opaque::OctetStringRef;
 use der_tlv::{BackWriter, Error, Length, Source, Tag, Writer};
 use std::alloc::Global;
@@ -115,25 +112,13 @@ impl<'a> Tagged for General<'a> {
         }
     }
 
-    ghost encoding_is = { λ v. (either_tag ⟦<OneOf<Implicit<Ia5StringRef<'a>, 11>, Implicit<OctetStringRef<'a>, 17>> as Form>⟧ ⟦<Status as Form>⟧
-        (either_tag ⟦<Implicit<Ia5StringRef<'a>, 11> as Form>⟧ ⟦<Implicit<OctetStringRef<'a>, 17> as Form>⟧
-        (one_tag ⟦<ImplicitTag<CharacterStringTag<22>, 11> as TagMarker>⟧.TAG ⟦<Implicit<Ia5StringRef<'a>, 11> as FormValue>⟧.value.contents)
-        (one_tag ⟦<ImplicitTag<OctetStringTag, 17> as TagMarker>⟧.TAG ⟦<Implicit<OctetStringRef<'a>, 17> as FormValue>⟧.value.contents))
-        (own_tags ⟦<Status as Form>⟧.tags ⟦<Status as Form>⟧.first_tag_of ⟦<Status as Form>⟧.encoding ⟦<Status as Tagged>⟧.tag_of ⟦<Status as FormValue>⟧.value.contents status_tagged.encoding_is-law status_tagged.own_tag-law status_tagged.first_tag_is-law)).encoding_is (tree_of v) };
+    ghost encoding_is = { ⟦<General<'a> as Choosing>⟧.choice.has_tag.encoding_is };
 
     ghost accepted_is_tlv = { λ rules v b. elim v as (λ k. ⟦<Tree<'a> as Form>⟧.accepts rules (tree_of k) b → IsTlv b) [ of.Address x ↦ λ a. tlv_tagged _ ⟦<Implicit<Ia5StringRef<'a>, 11> as FormValue>⟧.value.accepts rules x b a.0.0 | of.Number x ↦ λ a. tlv_tagged _ ⟦<Implicit<OctetStringRef<'a>, 17> as FormValue>⟧.value.accepts rules x b a.0.0 | of.Status x ↦ λ a. status_tagged.accepted_is_tlv-law rules x b a.0 ] };
 
-    ghost own_tag = { λ v. (either_tag ⟦<OneOf<Implicit<Ia5StringRef<'a>, 11>, Implicit<OctetStringRef<'a>, 17>> as Form>⟧ ⟦<Status as Form>⟧
-        (either_tag ⟦<Implicit<Ia5StringRef<'a>, 11> as Form>⟧ ⟦<Implicit<OctetStringRef<'a>, 17> as Form>⟧
-        (one_tag ⟦<ImplicitTag<CharacterStringTag<22>, 11> as TagMarker>⟧.TAG ⟦<Implicit<Ia5StringRef<'a>, 11> as FormValue>⟧.value.contents)
-        (one_tag ⟦<ImplicitTag<OctetStringTag, 17> as TagMarker>⟧.TAG ⟦<Implicit<OctetStringRef<'a>, 17> as FormValue>⟧.value.contents))
-        (own_tags ⟦<Status as Form>⟧.tags ⟦<Status as Form>⟧.first_tag_of ⟦<Status as Form>⟧.encoding ⟦<Status as Tagged>⟧.tag_of ⟦<Status as FormValue>⟧.value.contents status_tagged.encoding_is-law status_tagged.own_tag-law status_tagged.first_tag_is-law)).own_tag (tree_of v) };
+    ghost own_tag = { ⟦<General<'a> as Choosing>⟧.choice.has_tag.own_tag };
 
-    ghost first_tag_is = { λ v. (either_tag ⟦<OneOf<Implicit<Ia5StringRef<'a>, 11>, Implicit<OctetStringRef<'a>, 17>> as Form>⟧ ⟦<Status as Form>⟧
-        (either_tag ⟦<Implicit<Ia5StringRef<'a>, 11> as Form>⟧ ⟦<Implicit<OctetStringRef<'a>, 17> as Form>⟧
-        (one_tag ⟦<ImplicitTag<CharacterStringTag<22>, 11> as TagMarker>⟧.TAG ⟦<Implicit<Ia5StringRef<'a>, 11> as FormValue>⟧.value.contents)
-        (one_tag ⟦<ImplicitTag<OctetStringTag, 17> as TagMarker>⟧.TAG ⟦<Implicit<OctetStringRef<'a>, 17> as FormValue>⟧.value.contents))
-        (own_tags ⟦<Status as Form>⟧.tags ⟦<Status as Form>⟧.first_tag_of ⟦<Status as Form>⟧.encoding ⟦<Status as Tagged>⟧.tag_of ⟦<Status as FormValue>⟧.value.contents status_tagged.encoding_is-law status_tagged.own_tag-law status_tagged.first_tag_is-law)).first_tag_is (tree_of v) };
+    ghost first_tag_is = { ⟦<General<'a> as Choosing>⟧.choice.has_tag.first_tag_is };
 
     ghost re_reads_alike = { λ v. elim v as (λ k. ⟦<Tree<'a> as FormValue>⟧.value.re_reads (tree_of k) ≡ true → ⟦<Tree<'a> as Form>⟧.re_reads (tree_of k) ≡ true) [ of.Address x ↦ λ h. h | of.Number x ↦ λ h. h | of.Status x ↦ status_tagged.re_reads_alike-law x ] };
 
@@ -226,22 +211,17 @@ impl<'a> DerOrd for General<'a> {
     }
 }
 
+impl<'a> Choosing for General<'a> {
+    ghost choice = { seen_choice tree_of ⟦<General<'a> as PartialEq>⟧.eq ⟦<Tree<'a> as Choosing>⟧.choice
+        (λ v w. elim v as (λ k. ⟦<General<'a> as PartialEq>⟧.eq k w ≡ ⟦<Tree<'a> as Choosing>⟧.choice.eq (tree_of k) (tree_of w)) [
+          | of.Address x ↦ elim w as (λ k. ⟦<General<'a> as PartialEq>⟧.eq (of.Address x) k ≡ ⟦<Tree<'a> as Choosing>⟧.choice.eq (tree_of (of.Address x)) (tree_of k)) [ of.Address y ↦ refl | of.Number y ↦ refl | of.Status y ↦ refl ]
+          | of.Number x ↦ elim w as (λ k. ⟦<General<'a> as PartialEq>⟧.eq (of.Number x) k ≡ ⟦<Tree<'a> as Choosing>⟧.choice.eq (tree_of (of.Number x)) (tree_of k)) [ of.Address y ↦ refl | of.Number y ↦ refl | of.Status y ↦ refl ]
+          | of.Status x ↦ elim w as (λ k. ⟦<General<'a> as PartialEq>⟧.eq (of.Status x) k ≡ ⟦<Tree<'a> as Choosing>⟧.choice.eq (tree_of (of.Status x)) (tree_of k)) [ of.Address y ↦ refl | of.Number y ↦ refl | of.Status y ↦ refl ]
+        ]) };
+}
+
 impl<'a> EncodingEq for General<'a> {
-    ghost encoding_eq = { seen_equality tree_of ⟦<General<'a> as PartialEq>⟧.eq ⟦<Tree<'a> as PartialEq>⟧.eq (λ v w. elim v as (λ k. ⟦<General<'a> as PartialEq>⟧.eq k w ≡ ⟦<Tree<'a> as PartialEq>⟧.eq (tree_of k) (tree_of w)) [ of.Address x ↦ elim w as (λ k. ⟦<General<'a> as PartialEq>⟧.eq (of.Address x) k ≡ ⟦<Tree<'a> as PartialEq>⟧.eq (tree_of (of.Address x)) (tree_of k)) [ of.Address y ↦ refl | of.Number y ↦ refl | of.Status y ↦ refl ] | of.Number x ↦ elim w as (λ k. ⟦<General<'a> as PartialEq>⟧.eq (of.Number x) k ≡ ⟦<Tree<'a> as PartialEq>⟧.eq (tree_of (of.Number x)) (tree_of k)) [ of.Address y ↦ refl | of.Number y ↦ refl | of.Status y ↦ refl ] | of.Status x ↦ elim w as (λ k. ⟦<General<'a> as PartialEq>⟧.eq (of.Status x) k ≡ ⟦<Tree<'a> as PartialEq>⟧.eq (tree_of (of.Status x)) (tree_of k)) [ of.Address y ↦ refl | of.Number y ↦ refl | of.Status y ↦ refl ] ]) (either_equality ⟦<OneOf<Implicit<Ia5StringRef<'a>, 11>, Implicit<OctetStringRef<'a>, 17>> as Form>⟧ ⟦<Status as Form>⟧
-        (either_tag ⟦<Implicit<Ia5StringRef<'a>, 11> as Form>⟧ ⟦<Implicit<OctetStringRef<'a>, 17> as Form>⟧
-        (one_tag ⟦<ImplicitTag<CharacterStringTag<22>, 11> as TagMarker>⟧.TAG ⟦<Implicit<Ia5StringRef<'a>, 11> as FormValue>⟧.value.contents)
-        (one_tag ⟦<ImplicitTag<OctetStringTag, 17> as TagMarker>⟧.TAG ⟦<Implicit<OctetStringRef<'a>, 17> as FormValue>⟧.value.contents))
-        (own_tags ⟦<Status as Form>⟧.tags ⟦<Status as Form>⟧.first_tag_of ⟦<Status as Form>⟧.encoding ⟦<Status as Tagged>⟧.tag_of ⟦<Status as FormValue>⟧.value.contents status_tagged.encoding_is-law status_tagged.own_tag-law status_tagged.first_tag_is-law)
-        ⟦<OneOf<Implicit<Ia5StringRef<'a>, 11>, Implicit<OctetStringRef<'a>, 17>> as PartialEq>⟧.eq ⟦<Status as PartialEq>⟧.eq
-        (either_equality ⟦<Implicit<Ia5StringRef<'a>, 11> as Form>⟧ ⟦<Implicit<OctetStringRef<'a>, 17> as Form>⟧
-        (one_tag ⟦<ImplicitTag<CharacterStringTag<22>, 11> as TagMarker>⟧.TAG ⟦<Implicit<Ia5StringRef<'a>, 11> as FormValue>⟧.value.contents)
-        (one_tag ⟦<ImplicitTag<OctetStringTag, 17> as TagMarker>⟧.TAG ⟦<Implicit<OctetStringRef<'a>, 17> as FormValue>⟧.value.contents)
-        ⟦<Implicit<Ia5StringRef<'a>, 11> as PartialEq>⟧.eq ⟦<Implicit<OctetStringRef<'a>, 17> as PartialEq>⟧.eq
-        (one_tag_equality ⟦<ImplicitTag<CharacterStringTag<22>, 11> as TagMarker>⟧.TAG ⟦<Implicit<Ia5StringRef<'a>, 11> as FormValue>⟧.value.contents ⟦<Implicit<Ia5StringRef<'a>, 11> as FormValue>⟧.value.comparable ⟦<Implicit<Ia5StringRef<'a>, 11> as PartialEq>⟧.eq (λ v w. ((characterstringref_contents_eq.contents_eq-law 22 (record { fits = lit< tt })) v.value w.value)))
-        (one_tag_equality ⟦<ImplicitTag<OctetStringTag, 17> as TagMarker>⟧.TAG ⟦<Implicit<OctetStringRef<'a>, 17> as FormValue>⟧.value.contents ⟦<Implicit<OctetStringRef<'a>, 17> as FormValue>⟧.value.comparable ⟦<Implicit<OctetStringRef<'a>, 17> as PartialEq>⟧.eq (λ v w. (octetstringref_contents_eq.contents_eq-law v.value w.value)))
-        ⟦<OneOf<Implicit<Ia5StringRef<'a>, 11>, Implicit<OctetStringRef<'a>, 17>> as PartialEq>⟧.eq (λ v x. refl) (λ w y. refl) (λ v w. refl) (λ w v. refl))
-        status_encoding_eq.encoding_eq-law
-        ⟦<OneOf<OneOf<Implicit<Ia5StringRef<'a>, 11>, Implicit<OctetStringRef<'a>, 17>>, Status> as PartialEq>⟧.eq (λ v x. refl) (λ w y. refl) (λ v w. refl) (λ w v. refl)) };
+    ghost encoding_eq = { ⟦<General<'a> as Choosing>⟧.choice.equal };
 }
 
 impl<'a> CopyLaws for General<'a> {

@@ -2,9 +2,15 @@
 //!
 //! Made by tools/asn1 from shapes.asn1.
 
+pub use crate::shapes::empty::{grammar_of_empty, octets_of_empty};
 pub use crate::shapes::general::grammar_of_general;
+pub use crate::shapes::label::grammar_of_label;
+pub use crate::shapes::labels::{grammar_of_labels, octets_of_labels};
 pub use crate::shapes::lists::{grammar_of_lists, octets_of_lists};
+pub use crate::shapes::marks::{grammar_of_marks, octets_of_marks};
+pub use crate::shapes::marks_fourth::{grammar_of_marks_fourth, octets_of_marks_fourth};
 pub use crate::shapes::mixed::{grammar_of_mixed, octets_of_mixed};
+pub use crate::shapes::nothing::{grammar_of_nothing, octets_of_nothing};
 pub use crate::shapes::numbers::grammar_of_numbers;
 pub use crate::shapes::ordered::grammar_of_ordered;
 pub use crate::shapes::pair::{grammar_of_pair, octets_of_pair};

@@ -2,16 +2,12 @@
 //!
 //! Made by tools/asn1 from shapes.asn1.
 
-ghost use Rattle.std.specs.Cmp.Lexicographic.{bytes_decides};
 ghost use Rattle.std.specs.Prelude.{◌∷◌, ◌≡◌, [], false, refl, true};
 ghost use Rattle.der_elem.specs.FormatMakers.{mapped_format};
 ghost use Rattle.der_modules.specs.Asn1.{context, explicit_encoding, implicit_encoding, joined, optional, parse_of};
-ghost use Rattle.der_modules.specs.MemberLaws.{member_equality, no_equality, one_tag, one_tag_equality, optional_equality, optional_starts, tagged_starts};
+ghost use Rattle.der_modules.specs.Members.{field, no_fields, optional_field, struct_member};
 ghost use Rattle.der_shapes.specs.Shapes.Grammar.{lists};
 ghost use Rattle.der_shapes.specs.Shapes.Lists as lists_fields;
-ghost use Rattle.der_shapes.specs.contracts.shapes.numbers.NumbersContentsEq.TheImpl.Laws as numbers_contents_eq;
-ghost use Rattle.der_shapes.specs.contracts.shapes.ordered.OrderedContentsEq.TheImpl.Laws as ordered_contents_eq;
-ghost use Rattle.der_shapes.specs.contracts.shapes.unordered.UnorderedContentsEq.TheImpl.Laws as unordered_contents_eq;
 ghost use Rattle.der_shapes.specs.declared.shapes.lists.Lists.{Lists};
 
 use crate::shapes::numbers::Numbers;
@@ -20,14 +16,11 @@ use crate::shapes::unordered::Unordered;
 use der_bits::BitStringRef;
 use der_elem::{
     ContentsEq, CopyIsDuplicate, DecodeValue, EncodeValue, Form, FormValue, OneTag, Sequence,
-    SequenceTag, SetTag, TagMarker, ValueOrd,
+    SequenceTag, TagMarker, ValueOrd,
 };
-use der_fields::{
-    DecodeFields, EncodeFields, End, Explicit, ExplicitTag, Field, FieldList, Fields5, FieldsOrd,
-    Implicit, ImplicitTag,
-};
+use der_fields::{DecodeFields, EncodeFields, Explicit, FieldList, Fields5, FieldsOrd, Implicit};
 use der_lists::{ListRef, NonEmptyRef, SetRef};
-use der_modules::copy_of;
+use der_modules::{Member, copy_of, field_list, if_present, tagged};
 use der_tlv::{BackWriter, Error, Header, Length, Source, Writer};
 use std::alloc::Global;
 use std::cmp::Ordering;
@@ -75,29 +68,13 @@ impl<'a> Lists<'a> {
         ensures unordered { lists_fields.unordered result ≡ option_copied unordered.entry }
         ensures bits { lists_fields.bits result ≡ bits.now }
     {
-        let first = copy_of(bits);
-        let rest = Field { first, rest: End };
-        let first = match unordered {
-            Some(value) => Some(Implicit {
-                value: copy_of(value),
-            }),
-            None => None,
-        };
-        let rest = Field { first, rest };
-        let first = match ordered {
-            Some(first) => Some(Explicit {
-                fields: Field {
-                    first: copy_of(first),
-                    rest: End,
-                },
-            }),
-            None => None,
-        };
-        let rest = Field { first, rest };
-        let first = copy_of(some);
-        let rest = Field { first, rest };
-        let first = copy_of(numbers);
-        let list = Field { first, rest };
+        let list = field_list![
+            copy_of(numbers),
+            copy_of(some),
+            if_present!(value in ordered => tagged!(Explicit, copy_of(value))),
+            if_present!(value in unordered => Implicit { value: copy_of(value) }),
+            copy_of(bits)
+        ];
         let fields = Fields5 { list };
         Lists { fields }
     }
@@ -120,20 +97,14 @@ impl<'a> Lists<'a> {
     pub fn ordered(&self) -> Option<&Ordered<'a>>
         ensures { option_copied result ≡ lists_fields.ordered self.now }
     {
-        match &self.fields.list.rest.rest.first {
-            Some(value) => Some(&value.fields.first),
-            None => None,
-        }
+        if_present!(value in &self.fields.list.rest.rest.first => &value.fields.first)
     }
 
     /// `unordered`, `[1] Unordered OPTIONAL`.
     pub fn unordered(&self) -> Option<&Unordered<'a>>
         ensures { option_copied result ≡ lists_fields.unordered self.now }
     {
-        match &self.fields.list.rest.rest.rest.first {
-            Some(value) => Some(&value.value),
-            None => None,
-        }
+        if_present!(value in &self.fields.list.rest.rest.rest.first => &value.value)
     }
 
     /// `bits`, `SET OF BIT STRING`.
@@ -203,32 +174,18 @@ impl<'a> ValueOrd for Lists<'a> {
     }
 }
 
+impl<'a> Member for Lists<'a> {
+    ghost member = { struct_member ⟦<SequenceTag as TagMarker>⟧.TAG (λ v. v.fields.list)
+        (field ⟦<Numbers<'a> as Member>⟧.member
+        (field ⟦<NonEmptyRef<ListRef<'a, Numbers<'a>>> as Member>⟧.member
+        (optional_field ⟦<Explicit<Ordered<'a>, 0> as Member>⟧.member
+        (optional_field ⟦<Implicit<Unordered<'a>, 1> as Member>⟧.member
+        (field ⟦<SetRef<'a, BitStringRef<'a>> as Member>⟧.member
+        no_fields))))) };
+}
+
 impl<'a> ContentsEq for Lists<'a> {
-    ghost contents_eq = { λ v w. (member_equality ⟦<Numbers<'a> as Form>⟧
-        (tagged_starts ⟦<Numbers<'a> as Form>⟧ (one_tag ⟦<SequenceTag as TagMarker>⟧.TAG ⟦<Numbers<'a> as FormValue>⟧.value.contents))
-        ⟦<Numbers<'a> as PartialEq>⟧.eq
-        (one_tag_equality ⟦<SequenceTag as TagMarker>⟧.TAG ⟦<Numbers<'a> as FormValue>⟧.value.contents ⟦<Numbers<'a> as FormValue>⟧.value.comparable ⟦<Numbers<'a> as PartialEq>⟧.eq numbers_contents_eq.contents_eq-law)
-        (member_equality ⟦<NonEmptyRef<ListRef<'a, Numbers<'a>>> as Form>⟧
-        (tagged_starts ⟦<NonEmptyRef<ListRef<'a, Numbers<'a>>> as Form>⟧ (one_tag ⟦<SequenceTag as TagMarker>⟧.TAG ⟦<NonEmptyRef<ListRef<'a, Numbers<'a>>> as FormValue>⟧.value.contents))
-        ⟦<NonEmptyRef<ListRef<'a, Numbers<'a>>> as PartialEq>⟧.eq
-        (one_tag_equality ⟦<SequenceTag as TagMarker>⟧.TAG ⟦<NonEmptyRef<ListRef<'a, Numbers<'a>>> as FormValue>⟧.value.contents ⟦<NonEmptyRef<ListRef<'a, Numbers<'a>>> as FormValue>⟧.value.comparable ⟦<NonEmptyRef<ListRef<'a, Numbers<'a>>> as PartialEq>⟧.eq (λ v w. (λ one. bytes_decides v.list.octets.octets.now w.list.octets.octets.now)))
-        (member_equality ⟦<Option<Explicit<Ordered<'a>, 0>> as Form>⟧
-        (optional_starts ⟦<Explicit<Ordered<'a>, 0> as Form>⟧ (one_tag ⟦<ExplicitTag<0> as TagMarker>⟧.TAG ⟦<Explicit<Ordered<'a>, 0> as FormValue>⟧.value.contents))
-        ⟦<Option<Explicit<Ordered<'a>, 0>> as PartialEq>⟧.eq
-        (optional_equality ⟦<Explicit<Ordered<'a>, 0> as Form>⟧ (one_tag ⟦<ExplicitTag<0> as TagMarker>⟧.TAG ⟦<Explicit<Ordered<'a>, 0> as FormValue>⟧.value.contents) ⟦<Explicit<Ordered<'a>, 0> as PartialEq>⟧.eq (one_tag_equality ⟦<ExplicitTag<0> as TagMarker>⟧.TAG ⟦<Explicit<Ordered<'a>, 0> as FormValue>⟧.value.contents ⟦<Explicit<Ordered<'a>, 0> as FormValue>⟧.value.comparable ⟦<Explicit<Ordered<'a>, 0> as PartialEq>⟧.eq (λ v w. ((member_equality ⟦<Ordered<'a> as Form>⟧
-        (tagged_starts ⟦<Ordered<'a> as Form>⟧ (one_tag ⟦<SetTag as TagMarker>⟧.TAG ⟦<Ordered<'a> as FormValue>⟧.value.contents))
-        ⟦<Ordered<'a> as PartialEq>⟧.eq
-        (one_tag_equality ⟦<SetTag as TagMarker>⟧.TAG ⟦<Ordered<'a> as FormValue>⟧.value.contents ⟦<Ordered<'a> as FormValue>⟧.value.comparable ⟦<Ordered<'a> as PartialEq>⟧.eq ordered_contents_eq.contents_eq-law)
-        no_equality).equal v.fields w.fields))))
-        (member_equality ⟦<Option<Implicit<Unordered<'a>, 1>> as Form>⟧
-        (optional_starts ⟦<Implicit<Unordered<'a>, 1> as Form>⟧ (one_tag ⟦<ImplicitTag<SetTag, 1> as TagMarker>⟧.TAG ⟦<Implicit<Unordered<'a>, 1> as FormValue>⟧.value.contents))
-        ⟦<Option<Implicit<Unordered<'a>, 1>> as PartialEq>⟧.eq
-        (optional_equality ⟦<Implicit<Unordered<'a>, 1> as Form>⟧ (one_tag ⟦<ImplicitTag<SetTag, 1> as TagMarker>⟧.TAG ⟦<Implicit<Unordered<'a>, 1> as FormValue>⟧.value.contents) ⟦<Implicit<Unordered<'a>, 1> as PartialEq>⟧.eq (one_tag_equality ⟦<ImplicitTag<SetTag, 1> as TagMarker>⟧.TAG ⟦<Implicit<Unordered<'a>, 1> as FormValue>⟧.value.contents ⟦<Implicit<Unordered<'a>, 1> as FormValue>⟧.value.comparable ⟦<Implicit<Unordered<'a>, 1> as PartialEq>⟧.eq (λ v w. (unordered_contents_eq.contents_eq-law v.value w.value))))
-        (member_equality ⟦<SetRef<'a, BitStringRef<'a>> as Form>⟧
-        (tagged_starts ⟦<SetRef<'a, BitStringRef<'a>> as Form>⟧ (one_tag ⟦<SetTag as TagMarker>⟧.TAG ⟦<SetRef<'a, BitStringRef<'a>> as FormValue>⟧.value.contents))
-        ⟦<SetRef<'a, BitStringRef<'a>> as PartialEq>⟧.eq
-        (one_tag_equality ⟦<SetTag as TagMarker>⟧.TAG ⟦<SetRef<'a, BitStringRef<'a>> as FormValue>⟧.value.contents ⟦<SetRef<'a, BitStringRef<'a>> as FormValue>⟧.value.comparable ⟦<SetRef<'a, BitStringRef<'a>> as PartialEq>⟧.eq (λ v w. (λ one. bytes_decides v.octets.octets.now w.octets.octets.now)))
-        no_equality))))).equal v.fields.list w.fields.list };
+    ghost contents_eq = { ⟦<Lists<'a> as Member>⟧.member.equal };
 }
 
 impl<'a> CopyIsDuplicate for Lists<'a> {}

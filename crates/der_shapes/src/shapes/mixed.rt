@@ -4,22 +4,18 @@
 
 ghost use Rattle.std.specs.Prelude.{◌∷◌, ◌≡◌, [], false, refl};
 ghost use Rattle.der_elem.specs.FormatMakers.{mapped_format};
-ghost use Rattle.der_elem.specs.contracts.boolean.BoolContentsEq.TheImpl.Laws as bool_contents_eq;
-ghost use Rattle.der_elem.specs.contracts.integer.signed.I8ContentsEq.TheImpl.Laws as i8_contents_eq;
 ghost use Rattle.der_modules.specs.Asn1.{context, implicit_encoding, joined, parse_of};
-ghost use Rattle.der_modules.specs.MemberLaws.{member_equality, no_equality, one_tag, one_tag_equality, tagged_starts};
-ghost use Rattle.der_numbers.specs.contracts.int_ref.IntRefContentsEq.TheImpl.Laws as intref_contents_eq;
+ghost use Rattle.der_modules.specs.Members.{field, no_fields, struct_member};
 ghost use Rattle.der_shapes.specs.Shapes.Grammar.{mixed};
 ghost use Rattle.der_shapes.specs.Shapes.Mixed as mixed_fields;
 ghost use Rattle.der_shapes.specs.declared.shapes.mixed.Mixed.{Mixed};
 
 use der_elem::{
-    BooleanTag, ContentsEq, CopyIsDuplicate, DecodeValue, EncodeValue, Form, FormValue, IntegerTag,
-    OneTag, SetTag, TagMarker, ValueOrd,
+    ContentsEq, CopyIsDuplicate, DecodeValue, EncodeValue, Form, FormValue, OneTag, SetTag,
+    TagMarker, ValueOrd,
 };
-use der_fields::{
-    DecodeFields, EncodeFields, End, Field, FieldList, Fields3, FieldsOrd, Implicit, ImplicitTag,
-};
+use der_fields::{DecodeFields, EncodeFields, FieldList, Fields3, FieldsOrd, Implicit};
+use der_modules::{Member, field_list};
 use der_numbers::IntRef;
 use der_tlv::{BackWriter, Error, Header, Length, Source, Writer};
 use std::alloc::Global;
@@ -53,12 +49,7 @@ impl<'a> Mixed<'a> {
         ensures second { mixed_fields.second result ≡ second }
         ensures third { mixed_fields.third result ≡ third.entry }
     {
-        let first = Implicit { value: third };
-        let rest = Field { first, rest: End };
-        let first = second;
-        let rest = Field { first, rest };
-        let first = first_;
-        let list = Field { first, rest };
+        let list = field_list![first_, second, Implicit { value: third }];
         let fields = Fields3 { list };
         Mixed { fields }
     }
@@ -138,20 +129,16 @@ impl<'a> ValueOrd for Mixed<'a> {
     }
 }
 
+impl<'a> Member for Mixed<'a> {
+    ghost member = { struct_member ⟦<SetTag as TagMarker>⟧.TAG (λ v. v.fields.list)
+        (field ⟦<bool as Member>⟧.member
+        (field ⟦<i8 as Member>⟧.member
+        (field ⟦<Implicit<IntRef<'a>, 1> as Member>⟧.member
+        no_fields))) };
+}
+
 impl<'a> ContentsEq for Mixed<'a> {
-    ghost contents_eq = { λ v w. (member_equality ⟦<bool as Form>⟧
-        (tagged_starts ⟦<bool as Form>⟧ (one_tag ⟦<BooleanTag as TagMarker>⟧.TAG ⟦<bool as FormValue>⟧.value.contents))
-        ⟦<bool as PartialEq>⟧.eq
-        (one_tag_equality ⟦<BooleanTag as TagMarker>⟧.TAG ⟦<bool as FormValue>⟧.value.contents ⟦<bool as FormValue>⟧.value.comparable ⟦<bool as PartialEq>⟧.eq bool_contents_eq.contents_eq-law)
-        (member_equality ⟦<i8 as Form>⟧
-        (tagged_starts ⟦<i8 as Form>⟧ (one_tag ⟦<IntegerTag as TagMarker>⟧.TAG ⟦<i8 as FormValue>⟧.value.contents))
-        ⟦<i8 as PartialEq>⟧.eq
-        (one_tag_equality ⟦<IntegerTag as TagMarker>⟧.TAG ⟦<i8 as FormValue>⟧.value.contents ⟦<i8 as FormValue>⟧.value.comparable ⟦<i8 as PartialEq>⟧.eq i8_contents_eq.contents_eq-law)
-        (member_equality ⟦<Implicit<IntRef<'a>, 1> as Form>⟧
-        (tagged_starts ⟦<Implicit<IntRef<'a>, 1> as Form>⟧ (one_tag ⟦<ImplicitTag<IntegerTag, 1> as TagMarker>⟧.TAG ⟦<Implicit<IntRef<'a>, 1> as FormValue>⟧.value.contents))
-        ⟦<Implicit<IntRef<'a>, 1> as PartialEq>⟧.eq
-        (one_tag_equality ⟦<ImplicitTag<IntegerTag, 1> as TagMarker>⟧.TAG ⟦<Implicit<IntRef<'a>, 1> as FormValue>⟧.value.contents ⟦<Implicit<IntRef<'a>, 1> as FormValue>⟧.value.comparable ⟦<Implicit<IntRef<'a>, 1> as PartialEq>⟧.eq (λ v w. (intref_contents_eq.contents_eq-law v.value w.value)))
-        no_equality))).equal v.fields.list w.fields.list };
+    ghost contents_eq = { ⟦<Mixed<'a> as Member>⟧.member.equal };
 }
 
 impl<'a> CopyIsDuplicate for Mixed<'a> {}

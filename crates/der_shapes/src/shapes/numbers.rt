@@ -2,17 +2,18 @@
 //!
 //! Made by tools/asn1 from shapes.asn1.
 
-ghost use Rattle.std.specs.Cmp.Lexicographic.{bytes_decides};
 ghost use Rattle.std.specs.Prelude.{◌≡◌, false, refl};
 ghost use Rattle.der_elem.specs.FormatMakers.{mapped_format};
 ghost use Rattle.der_modules.specs.Asn1.{parse_of};
+ghost use Rattle.der_modules.specs.Members.{seen_member};
 ghost use Rattle.der_shapes.specs.Shapes.Grammar.{numbers};
 
 use der_elem::{
     ContentsEq, CopyIsDuplicate, DecodeValue, EncodeValue, Form, FormValue, OneTag, Sequence,
-    SequenceTag, ValueOrd,
+    SequenceTag, TagMarker, ValueOrd,
 };
 use der_lists::ListRef;
+use der_modules::Member;
 use der_tlv::{BackWriter, Error, Header, Length, Source, Writer};
 use std::alloc::Global;
 use std::cmp::Ordering;
@@ -63,10 +64,8 @@ impl<'a, R: Source<'a>> DecodeValue<'a, R> for Numbers<'a> {
     const TAKES_MEMORY: bool = false;
 
     fn decode_value(alloc: Global, reader: &mut R, header: Header) -> Result<Numbers<'a>, Error> {
-        match ListRef::<'a, u8>::decode_value(alloc, reader, header) {
-            Ok(items) => Ok(Numbers { items }),
-            Err(e) => Err(e),
-        }
+        let items = ListRef::<'a, u8>::decode_value(alloc, reader, header)?;
+        Ok(Numbers { items })
     }
 
     ghost takes_memory_is = { refl };
@@ -92,8 +91,12 @@ impl<'a> ValueOrd for Numbers<'a> {
     }
 }
 
+impl<'a> Member for Numbers<'a> {
+    ghost member = { seen_member ⟦<SequenceTag as TagMarker>⟧.TAG (λ v. v.items) ⟦<ListRef<'a, u8> as Member>⟧.member };
+}
+
 impl<'a> ContentsEq for Numbers<'a> {
-    ghost contents_eq = { λ v w. (λ one. bytes_decides v.items.octets.octets.now w.items.octets.octets.now) };
+    ghost contents_eq = { ⟦<Numbers<'a> as Member>⟧.member.equal };
 }
 
 impl<'a> CopyIsDuplicate for Numbers<'a> {}

@@ -2,18 +2,19 @@
 //!
 //! Made by tools/asn1 from shapes.asn1.
 
-ghost use Rattle.std.specs.Cmp.Lexicographic.{bytes_decides};
 ghost use Rattle.std.specs.Prelude.{◌≡◌, false, refl};
 ghost use Rattle.der_elem.specs.FormatMakers.{mapped_format};
 ghost use Rattle.der_modules.specs.Asn1.{parse_of};
+ghost use Rattle.der_modules.specs.Members.{seen_member};
 ghost use Rattle.der_shapes.specs.Shapes.Grammar.{ordered};
 
 use crate::shapes::pair::Pair;
 use der_elem::{
     ContentsEq, CopyIsDuplicate, DecodeValue, EncodeValue, Form, FormValue, OneTag, SetTag,
-    ValueOrd,
+    TagMarker, ValueOrd,
 };
 use der_lists::SetRef;
+use der_modules::Member;
 use der_tlv::{BackWriter, Error, Header, Length, Source, Writer};
 use std::alloc::Global;
 use std::cmp::Ordering;
@@ -63,10 +64,8 @@ impl<'a, R: Source<'a>> DecodeValue<'a, R> for Ordered<'a> {
     const TAKES_MEMORY: bool = false;
 
     fn decode_value(alloc: Global, reader: &mut R, header: Header) -> Result<Ordered<'a>, Error> {
-        match SetRef::<'a, Pair<'a>>::decode_value(alloc, reader, header) {
-            Ok(items) => Ok(Ordered { items }),
-            Err(e) => Err(e),
-        }
+        let items = SetRef::<'a, Pair<'a>>::decode_value(alloc, reader, header)?;
+        Ok(Ordered { items })
     }
 
     ghost takes_memory_is = { refl };
@@ -92,8 +91,12 @@ impl<'a> ValueOrd for Ordered<'a> {
     }
 }
 
+impl<'a> Member for Ordered<'a> {
+    ghost member = { seen_member ⟦<SetTag as TagMarker>⟧.TAG (λ v. v.items) ⟦<SetRef<'a, Pair<'a>> as Member>⟧.member };
+}
+
 impl<'a> ContentsEq for Ordered<'a> {
-    ghost contents_eq = { λ v w. (λ one. bytes_decides v.items.octets.octets.now w.items.octets.octets.now) };
+    ghost contents_eq = { ⟦<Ordered<'a> as Member>⟧.member.equal };
 }
 
 impl<'a> CopyIsDuplicate for Ordered<'a> {}

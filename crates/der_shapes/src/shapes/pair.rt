@@ -2,23 +2,20 @@
 //!
 //! Made by tools/asn1 from shapes.asn1.
 
-ghost use Rattle.std.proofs.Common.{lit<};
 ghost use Rattle.std.specs.Prelude.{◌∷◌, ◌≡◌, [], false, refl};
 ghost use Rattle.der_elem.specs.FormatMakers.{mapped_format};
 ghost use Rattle.der_modules.specs.Asn1.{joined, parse_of};
-ghost use Rattle.der_modules.specs.MemberLaws.{member_equality, no_equality, one_tag, one_tag_equality, own_tags, tagged_starts};
-ghost use Rattle.der_opaque.specs.contracts.any_ref.AnyRefEncodingEq.TheImpl.Laws as anyref_encoding_eq;
-ghost use Rattle.der_opaque.specs.contracts.any_ref.AnyRefTagged.TheImpl.Laws as anyref_tagged;
-ghost use Rattle.der_opaque.specs.contracts.object_identifier.ObjectIdentifierContentsEq.TheImpl.Laws as objectidentifier_contents_eq;
+ghost use Rattle.der_modules.specs.Members.{choice_field, field, no_fields, struct_member};
 ghost use Rattle.der_shapes.specs.Shapes.Grammar.{pair};
 ghost use Rattle.der_shapes.specs.Shapes.Pair as pair_fields;
 ghost use Rattle.der_shapes.specs.declared.shapes.pair.Pair.{Pair};
 
 use der_elem::{
-    ContentsEq, CopyIsDuplicate, DecodeValue, EncodeValue, Form, FormValue, ObjectIdentifierTag,
-    OneTag, Sequence, SequenceTag, TagMarker, Tagged, ValueOrd,
+    ContentsEq, CopyIsDuplicate, DecodeValue, EncodeValue, Form, FormValue, OneTag, Sequence,
+    SequenceTag, TagMarker, ValueOrd,
 };
-use der_fields::{DecodeFields, EncodeFields, End, Field, FieldList, Fields2, FieldsOrd};
+use der_fields::{DecodeFields, EncodeFields, FieldList, Fields2, FieldsOrd};
+use der_modules::{Choosing, Member, field_list};
 use der_opaque::{AnyRef, ObjectIdentifier};
 use der_tlv::{BackWriter, Error, Header, Length, Source, Writer};
 use std::alloc::Global;
@@ -48,10 +45,7 @@ impl<'a> Pair<'a> {
         ensures type_ { pair_fields.type_ result ≡ type_ }
         ensures value { pair_fields.value result ≡ value.entry }
     {
-        let first = value;
-        let rest = Field { first, rest: End };
-        let first = type_;
-        let list = Field { first, rest };
+        let list = field_list![type_, value];
         let fields = Fields2 { list };
         Pair { fields }
     }
@@ -127,16 +121,15 @@ impl<'a> ValueOrd for Pair<'a> {
     }
 }
 
+impl<'a> Member for Pair<'a> {
+    ghost member = { struct_member ⟦<SequenceTag as TagMarker>⟧.TAG (λ v. v.fields.list)
+        (field ⟦<ObjectIdentifier<39> as Member>⟧.member
+        (choice_field ⟦<AnyRef<'a> as Choosing>⟧.choice
+        no_fields)) };
+}
+
 impl<'a> ContentsEq for Pair<'a> {
-    ghost contents_eq = { λ v w. (member_equality ⟦<ObjectIdentifier<39> as Form>⟧
-        (tagged_starts ⟦<ObjectIdentifier<39> as Form>⟧ (one_tag ⟦<ObjectIdentifierTag as TagMarker>⟧.TAG ⟦<ObjectIdentifier<39> as FormValue>⟧.value.contents))
-        ⟦<ObjectIdentifier<39> as PartialEq>⟧.eq
-        (one_tag_equality ⟦<ObjectIdentifierTag as TagMarker>⟧.TAG ⟦<ObjectIdentifier<39> as FormValue>⟧.value.contents ⟦<ObjectIdentifier<39> as FormValue>⟧.value.comparable ⟦<ObjectIdentifier<39> as PartialEq>⟧.eq (objectidentifier_contents_eq.contents_eq-law 39 (record { fits = lit< tt })))
-        (member_equality ⟦<AnyRef<'a> as Form>⟧
-        (tagged_starts ⟦<AnyRef<'a> as Form>⟧ (own_tags ⟦<AnyRef<'a> as Form>⟧.tags ⟦<AnyRef<'a> as Form>⟧.first_tag_of ⟦<AnyRef<'a> as Form>⟧.encoding ⟦<AnyRef<'a> as Tagged>⟧.tag_of ⟦<AnyRef<'a> as FormValue>⟧.value.contents anyref_tagged.encoding_is-law anyref_tagged.own_tag-law anyref_tagged.first_tag_is-law))
-        ⟦<AnyRef<'a> as PartialEq>⟧.eq
-        anyref_encoding_eq.encoding_eq-law
-        no_equality)).equal v.fields.list w.fields.list };
+    ghost contents_eq = { ⟦<Pair<'a> as Member>⟧.member.equal };
 }
 
 impl<'a> CopyIsDuplicate for Pair<'a> {}

@@ -9,20 +9,19 @@ ghost use Rattle.der_elem.specs.FormatMakers.{mapped_format};
 ghost use Rattle.der_elem.specs.KnownTagLaws.{known_either, own_is_known};
 ghost use Rattle.der_elem.specs.TaggedLaws.{tlv_tagged};
 ghost use Rattle.der_modules.specs.Asn1.{parse_of};
-ghost use Rattle.der_modules.specs.MemberLaws.{copies_of, either_equality, either_tag, one_tag, one_tag_equality, same_copies, seen_equality};
-ghost use Rattle.der_opaque.specs.contracts.null.NullContentsEq.TheImpl.Laws as null_contents_eq;
+ghost use Rattle.der_modules.specs.MemberLaws.{copies_of, same_copies};
+ghost use Rattle.der_modules.specs.Members.{seen_choice};
 ghost use Rattle.der_shapes.specs.Shapes.Grammar.{status};
 ghost use Rattle.der_shapes.specs.Shapes.Status.{tree_of};
 ghost use Rattle.der_shapes.specs.contracts.shapes.status.StatusEq.TheImpl.Laws as status_eq;
 ghost use Rattle.der_shapes.specs.declared.shapes.status.Status.TheVariants as of;
-ghost use Rattle.der_time.specs.contracts.generalized_time.GeneralizedTimeContentsEq.TheImpl.Laws as generalizedtime_contents_eq;
 
 use der_elem::{
     Choice, Decode, DecodeField, DerOrd, Duplicate, DuplicateIsEqual, EncodeValue, EncodingEq,
-    Form, FormValue, GeneralizedTimeTag, KnownTags, NullTag, TagMarker, Tagged,
+    Form, FormValue, KnownTags, Tagged,
 };
-use der_fields::{Implicit, ImplicitTag, OneOf, cmp_headers};
-use der_modules::{CopyLaws, copy_of};
+use der_fields::{Implicit, OneOf, cmp_headers};
+use der_modules::{Choosing, CopyLaws, copy_of};
 use der_opaque::Null;
 use der_time::GeneralizedTime;
 use der_tlv::{BackWriter, Error, Length, Source, Tag, Writer};
@@ -106,25 +105,13 @@ impl Tagged for Status {
         }
     }
 
-    ghost encoding_is = { λ v. (either_tag ⟦<OneOf<Implicit<Null, 0>, Implicit<GeneralizedTime, 1>> as Form>⟧ ⟦<Implicit<Null, 2> as Form>⟧
-        (either_tag ⟦<Implicit<Null, 0> as Form>⟧ ⟦<Implicit<GeneralizedTime, 1> as Form>⟧
-        (one_tag ⟦<ImplicitTag<NullTag, 0> as TagMarker>⟧.TAG ⟦<Implicit<Null, 0> as FormValue>⟧.value.contents)
-        (one_tag ⟦<ImplicitTag<GeneralizedTimeTag, 1> as TagMarker>⟧.TAG ⟦<Implicit<GeneralizedTime, 1> as FormValue>⟧.value.contents))
-        (one_tag ⟦<ImplicitTag<NullTag, 2> as TagMarker>⟧.TAG ⟦<Implicit<Null, 2> as FormValue>⟧.value.contents)).encoding_is (tree_of v) };
+    ghost encoding_is = { ⟦<Status as Choosing>⟧.choice.has_tag.encoding_is };
 
     ghost accepted_is_tlv = { λ rules v b. elim v as (λ k. ⟦<Tree as Form>⟧.accepts rules (tree_of k) b → IsTlv b) [ of.Good x ↦ λ a. tlv_tagged _ ⟦<Implicit<Null, 0> as FormValue>⟧.value.accepts rules x b a.0.0 | of.Revoked x ↦ λ a. tlv_tagged _ ⟦<Implicit<GeneralizedTime, 1> as FormValue>⟧.value.accepts rules x b a.0.0 | of.Unknown x ↦ λ a. tlv_tagged _ ⟦<Implicit<Null, 2> as FormValue>⟧.value.accepts rules x b a.0 ] };
 
-    ghost own_tag = { λ v. (either_tag ⟦<OneOf<Implicit<Null, 0>, Implicit<GeneralizedTime, 1>> as Form>⟧ ⟦<Implicit<Null, 2> as Form>⟧
-        (either_tag ⟦<Implicit<Null, 0> as Form>⟧ ⟦<Implicit<GeneralizedTime, 1> as Form>⟧
-        (one_tag ⟦<ImplicitTag<NullTag, 0> as TagMarker>⟧.TAG ⟦<Implicit<Null, 0> as FormValue>⟧.value.contents)
-        (one_tag ⟦<ImplicitTag<GeneralizedTimeTag, 1> as TagMarker>⟧.TAG ⟦<Implicit<GeneralizedTime, 1> as FormValue>⟧.value.contents))
-        (one_tag ⟦<ImplicitTag<NullTag, 2> as TagMarker>⟧.TAG ⟦<Implicit<Null, 2> as FormValue>⟧.value.contents)).own_tag (tree_of v) };
+    ghost own_tag = { ⟦<Status as Choosing>⟧.choice.has_tag.own_tag };
 
-    ghost first_tag_is = { λ v. (either_tag ⟦<OneOf<Implicit<Null, 0>, Implicit<GeneralizedTime, 1>> as Form>⟧ ⟦<Implicit<Null, 2> as Form>⟧
-        (either_tag ⟦<Implicit<Null, 0> as Form>⟧ ⟦<Implicit<GeneralizedTime, 1> as Form>⟧
-        (one_tag ⟦<ImplicitTag<NullTag, 0> as TagMarker>⟧.TAG ⟦<Implicit<Null, 0> as FormValue>⟧.value.contents)
-        (one_tag ⟦<ImplicitTag<GeneralizedTimeTag, 1> as TagMarker>⟧.TAG ⟦<Implicit<GeneralizedTime, 1> as FormValue>⟧.value.contents))
-        (one_tag ⟦<ImplicitTag<NullTag, 2> as TagMarker>⟧.TAG ⟦<Implicit<Null, 2> as FormValue>⟧.value.contents)).first_tag_is (tree_of v) };
+    ghost first_tag_is = { ⟦<Status as Choosing>⟧.choice.has_tag.first_tag_is };
 
     ghost re_reads_alike = { λ v. elim v as (λ k. ⟦<Tree as FormValue>⟧.value.re_reads (tree_of k) ≡ true → ⟦<Tree as Form>⟧.re_reads (tree_of k) ≡ true) [ of.Good x ↦ λ h. h | of.Revoked x ↦ λ h. h | of.Unknown x ↦ λ h. h ] };
 
@@ -215,22 +202,17 @@ impl DerOrd for Status {
     }
 }
 
+impl Choosing for Status {
+    ghost choice = { seen_choice tree_of ⟦<Status as PartialEq>⟧.eq ⟦<Tree as Choosing>⟧.choice
+        (λ v w. elim v as (λ k. ⟦<Status as PartialEq>⟧.eq k w ≡ ⟦<Tree as Choosing>⟧.choice.eq (tree_of k) (tree_of w)) [
+          | of.Good x ↦ elim w as (λ k. ⟦<Status as PartialEq>⟧.eq (of.Good x) k ≡ ⟦<Tree as Choosing>⟧.choice.eq (tree_of (of.Good x)) (tree_of k)) [ of.Good y ↦ refl | of.Revoked y ↦ refl | of.Unknown y ↦ refl ]
+          | of.Revoked x ↦ elim w as (λ k. ⟦<Status as PartialEq>⟧.eq (of.Revoked x) k ≡ ⟦<Tree as Choosing>⟧.choice.eq (tree_of (of.Revoked x)) (tree_of k)) [ of.Good y ↦ refl | of.Revoked y ↦ refl | of.Unknown y ↦ refl ]
+          | of.Unknown x ↦ elim w as (λ k. ⟦<Status as PartialEq>⟧.eq (of.Unknown x) k ≡ ⟦<Tree as Choosing>⟧.choice.eq (tree_of (of.Unknown x)) (tree_of k)) [ of.Good y ↦ refl | of.Revoked y ↦ refl | of.Unknown y ↦ refl ]
+        ]) };
+}
+
 impl EncodingEq for Status {
-    ghost encoding_eq = { seen_equality tree_of ⟦<Status as PartialEq>⟧.eq ⟦<Tree as PartialEq>⟧.eq (λ v w. elim v as (λ k. ⟦<Status as PartialEq>⟧.eq k w ≡ ⟦<Tree as PartialEq>⟧.eq (tree_of k) (tree_of w)) [ of.Good x ↦ elim w as (λ k. ⟦<Status as PartialEq>⟧.eq (of.Good x) k ≡ ⟦<Tree as PartialEq>⟧.eq (tree_of (of.Good x)) (tree_of k)) [ of.Good y ↦ refl | of.Revoked y ↦ refl | of.Unknown y ↦ refl ] | of.Revoked x ↦ elim w as (λ k. ⟦<Status as PartialEq>⟧.eq (of.Revoked x) k ≡ ⟦<Tree as PartialEq>⟧.eq (tree_of (of.Revoked x)) (tree_of k)) [ of.Good y ↦ refl | of.Revoked y ↦ refl | of.Unknown y ↦ refl ] | of.Unknown x ↦ elim w as (λ k. ⟦<Status as PartialEq>⟧.eq (of.Unknown x) k ≡ ⟦<Tree as PartialEq>⟧.eq (tree_of (of.Unknown x)) (tree_of k)) [ of.Good y ↦ refl | of.Revoked y ↦ refl | of.Unknown y ↦ refl ] ]) (either_equality ⟦<OneOf<Implicit<Null, 0>, Implicit<GeneralizedTime, 1>> as Form>⟧ ⟦<Implicit<Null, 2> as Form>⟧
-        (either_tag ⟦<Implicit<Null, 0> as Form>⟧ ⟦<Implicit<GeneralizedTime, 1> as Form>⟧
-        (one_tag ⟦<ImplicitTag<NullTag, 0> as TagMarker>⟧.TAG ⟦<Implicit<Null, 0> as FormValue>⟧.value.contents)
-        (one_tag ⟦<ImplicitTag<GeneralizedTimeTag, 1> as TagMarker>⟧.TAG ⟦<Implicit<GeneralizedTime, 1> as FormValue>⟧.value.contents))
-        (one_tag ⟦<ImplicitTag<NullTag, 2> as TagMarker>⟧.TAG ⟦<Implicit<Null, 2> as FormValue>⟧.value.contents)
-        ⟦<OneOf<Implicit<Null, 0>, Implicit<GeneralizedTime, 1>> as PartialEq>⟧.eq ⟦<Implicit<Null, 2> as PartialEq>⟧.eq
-        (either_equality ⟦<Implicit<Null, 0> as Form>⟧ ⟦<Implicit<GeneralizedTime, 1> as Form>⟧
-        (one_tag ⟦<ImplicitTag<NullTag, 0> as TagMarker>⟧.TAG ⟦<Implicit<Null, 0> as FormValue>⟧.value.contents)
-        (one_tag ⟦<ImplicitTag<GeneralizedTimeTag, 1> as TagMarker>⟧.TAG ⟦<Implicit<GeneralizedTime, 1> as FormValue>⟧.value.contents)
-        ⟦<Implicit<Null, 0> as PartialEq>⟧.eq ⟦<Implicit<GeneralizedTime, 1> as PartialEq>⟧.eq
-        (one_tag_equality ⟦<ImplicitTag<NullTag, 0> as TagMarker>⟧.TAG ⟦<Implicit<Null, 0> as FormValue>⟧.value.contents ⟦<Implicit<Null, 0> as FormValue>⟧.value.comparable ⟦<Implicit<Null, 0> as PartialEq>⟧.eq (λ v w. (null_contents_eq.contents_eq-law v.value w.value)))
-        (one_tag_equality ⟦<ImplicitTag<GeneralizedTimeTag, 1> as TagMarker>⟧.TAG ⟦<Implicit<GeneralizedTime, 1> as FormValue>⟧.value.contents ⟦<Implicit<GeneralizedTime, 1> as FormValue>⟧.value.comparable ⟦<Implicit<GeneralizedTime, 1> as PartialEq>⟧.eq (λ v w. (generalizedtime_contents_eq.contents_eq-law v.value w.value)))
-        ⟦<OneOf<Implicit<Null, 0>, Implicit<GeneralizedTime, 1>> as PartialEq>⟧.eq (λ v x. refl) (λ w y. refl) (λ v w. refl) (λ w v. refl))
-        (one_tag_equality ⟦<ImplicitTag<NullTag, 2> as TagMarker>⟧.TAG ⟦<Implicit<Null, 2> as FormValue>⟧.value.contents ⟦<Implicit<Null, 2> as FormValue>⟧.value.comparable ⟦<Implicit<Null, 2> as PartialEq>⟧.eq (λ v w. (null_contents_eq.contents_eq-law v.value w.value)))
-        ⟦<OneOf<OneOf<Implicit<Null, 0>, Implicit<GeneralizedTime, 1>>, Implicit<Null, 2>> as PartialEq>⟧.eq (λ v x. refl) (λ w y. refl) (λ v w. refl) (λ w v. refl)) };
+    ghost encoding_eq = { ⟦<Status as Choosing>⟧.choice.equal };
 }
 
 impl CopyLaws for Status {

@@ -2,33 +2,26 @@
 //!
 //! Made by tools/asn1 from shapes.asn1.
 
-ghost use Rattle.std.specs.Cmp.Lexicographic.{bytes_decides};
 ghost use Rattle.std.specs.Prelude.{◌∷◌, ◌≡◌, [], false, refl, true};
 ghost use Rattle.der_elem.specs.FormatMakers.{mapped_format};
-ghost use Rattle.der_elem.specs.contracts.boolean.BoolContentsEq.TheImpl.Laws as bool_contents_eq;
-ghost use Rattle.der_elem.specs.contracts.integer.unsigned.U8ContentsEq.TheImpl.Laws as u8_contents_eq;
 ghost use Rattle.der_modules.specs.Asn1.{context, explicit_encoding, implicit_encoding, joined, optional, parse_of, private, unless_default};
-ghost use Rattle.der_modules.specs.MemberLaws.{default_equality, default_starts, member_equality, no_equality, one_tag, one_tag_equality, optional_equality, optional_starts, own_tags, tagged_starts};
-ghost use Rattle.der_numbers.specs.contracts.uint_ref.UintRefContentsEq.TheImpl.Laws as uintref_contents_eq;
+ghost use Rattle.der_modules.specs.Members.{default_field, field, no_fields, optional_field, struct_member};
 ghost use Rattle.der_shapes.specs.Shapes.Grammar.{subtree};
 ghost use Rattle.der_shapes.specs.Shapes.Subtree as subtree_fields;
-ghost use Rattle.der_shapes.specs.contracts.shapes.general.GeneralEncodingEq.TheImpl.Laws as general_encoding_eq;
-ghost use Rattle.der_shapes.specs.contracts.shapes.general.GeneralTagged.TheImpl.Laws as general_tagged;
 ghost use Rattle.der_shapes.specs.declared.shapes.subtree.Subtree.{Subtree};
 
 use crate::shapes::general::General;
 use crate::shapes::status::Status;
 use der_elem::{
-    BooleanTag, ContentsEq, CopyIsDuplicate, DecodeValue, EncodeValue, Form, FormValue, IntegerTag,
-    OneTag, SequenceTag, TagMarker, Tagged, ValueOrd,
+    ContentsEq, CopyIsDuplicate, DecodeValue, EncodeValue, Form, FormValue, OneTag, SequenceTag,
+    TagMarker, ValueOrd,
 };
 use der_fields::{
-    DecodeFields, DefaultFalse, DefaultNumber, DefaultOf, EncodeFields, End, Explicit, ExplicitTag,
-    Field, FieldList, Fields5, FieldsOrd, Implicit, ImplicitApplicationTag, ImplicitPrivate,
-    ImplicitPrivateTag, ImplicitTag, WithDefault,
+    DecodeFields, DefaultFalse, DefaultNumber, DefaultOf, EncodeFields, Explicit, FieldList,
+    Fields5, FieldsOrd, Implicit, ImplicitApplicationTag, ImplicitPrivate, WithDefault,
 };
 use der_lists::ListRef;
-use der_modules::copy_of;
+use der_modules::{Member, copy_of, field_list, if_present, tagged};
 use der_numbers::UintRef;
 use der_tlv::{BackWriter, Error, Header, Length, Source, Writer};
 use std::alloc::Global;
@@ -77,29 +70,13 @@ impl<'a> Subtree<'a> {
         ensures only { subtree_fields.only result ≡ only }
         ensures statuses { subtree_fields.statuses result ≡ option_copied statuses.entry }
     {
-        let first = match statuses {
-            Some(value) => Some(Implicit {
-                value: copy_of(value),
-            }),
-            None => None,
-        };
-        let rest = Field { first, rest: End };
-        let first = WithDefault::new(ImplicitPrivate { value: only });
-        let rest = Field { first, rest };
-        let first = match maximum {
-            Some(value) => Some(Implicit { value }),
-            None => None,
-        };
-        let rest = Field { first, rest };
-        let first = WithDefault::new(Implicit { value: minimum });
-        let rest = Field { first, rest };
-        let first = Explicit {
-            fields: Field {
-                first: copy_of(base),
-                rest: End,
-            },
-        };
-        let list = Field { first, rest };
+        let list = field_list![
+            tagged!(Explicit, copy_of(base)),
+            WithDefault::new(Implicit { value: minimum }),
+            if_present!(value in maximum => Implicit { value }),
+            WithDefault::new(ImplicitPrivate { value: only }),
+            if_present!(value in statuses => Implicit { value: copy_of(value) })
+        ];
         let fields = Fields5 { list };
         Subtree { fields }
     }
@@ -122,10 +99,7 @@ impl<'a> Subtree<'a> {
     pub fn maximum(&self) -> Option<&UintRef<'a>>
         ensures { option_copied result ≡ subtree_fields.maximum self.now }
     {
-        match &self.fields.list.rest.rest.first {
-            Some(value) => Some(&value.value),
-            None => None,
-        }
+        if_present!(value in &self.fields.list.rest.rest.first => &value.value)
     }
 
     /// `only`, `[PRIVATE 2] BOOLEAN DEFAULT FALSE`.
@@ -139,10 +113,7 @@ impl<'a> Subtree<'a> {
     pub fn statuses(&self) -> Option<&ListRef<'a, Status>>
         ensures { option_copied result ≡ subtree_fields.statuses self.now }
     {
-        match &self.fields.list.rest.rest.rest.rest.first {
-            Some(value) => Some(&value.value),
-            None => None,
-        }
+        if_present!(value in &self.fields.list.rest.rest.rest.rest.first => &value.value)
     }
 }
 
@@ -201,32 +172,18 @@ impl<'a> ValueOrd for Subtree<'a> {
     }
 }
 
+impl<'a> Member for Subtree<'a> {
+    ghost member = { struct_member ⟦<ImplicitApplicationTag<SequenceTag, 3> as TagMarker>⟧.TAG (λ v. v.fields.list)
+        (field ⟦<Explicit<General<'a>, 5> as Member>⟧.member
+        (default_field ⟦<DefaultNumber<0> as DefaultOf<Implicit<u8, 0>>>⟧.octets ⟦<Implicit<u8, 0> as Member>⟧.member
+        (optional_field ⟦<Implicit<UintRef<'a>, 1> as Member>⟧.member
+        (default_field ⟦<DefaultFalse as DefaultOf<ImplicitPrivate<bool, 2>>>⟧.octets ⟦<ImplicitPrivate<bool, 2> as Member>⟧.member
+        (optional_field ⟦<Implicit<ListRef<'a, Status>, 3> as Member>⟧.member
+        no_fields))))) };
+}
+
 impl<'a> ContentsEq for Subtree<'a> {
-    ghost contents_eq = { λ v w. (member_equality ⟦<Explicit<General<'a>, 5> as Form>⟧
-        (tagged_starts ⟦<Explicit<General<'a>, 5> as Form>⟧ (one_tag ⟦<ExplicitTag<5> as TagMarker>⟧.TAG ⟦<Explicit<General<'a>, 5> as FormValue>⟧.value.contents))
-        ⟦<Explicit<General<'a>, 5> as PartialEq>⟧.eq
-        (one_tag_equality ⟦<ExplicitTag<5> as TagMarker>⟧.TAG ⟦<Explicit<General<'a>, 5> as FormValue>⟧.value.contents ⟦<Explicit<General<'a>, 5> as FormValue>⟧.value.comparable ⟦<Explicit<General<'a>, 5> as PartialEq>⟧.eq (λ v w. ((member_equality ⟦<General<'a> as Form>⟧
-        (tagged_starts ⟦<General<'a> as Form>⟧ (own_tags ⟦<General<'a> as Form>⟧.tags ⟦<General<'a> as Form>⟧.first_tag_of ⟦<General<'a> as Form>⟧.encoding ⟦<General<'a> as Tagged>⟧.tag_of ⟦<General<'a> as FormValue>⟧.value.contents general_tagged.encoding_is-law general_tagged.own_tag-law general_tagged.first_tag_is-law))
-        ⟦<General<'a> as PartialEq>⟧.eq
-        general_encoding_eq.encoding_eq-law
-        no_equality).equal v.fields w.fields)))
-        (member_equality ⟦<WithDefault<Implicit<u8, 0>, DefaultNumber<0>> as Form>⟧
-        (default_starts ⟦<Implicit<u8, 0> as Form>⟧ (one_tag ⟦<ImplicitTag<IntegerTag, 0> as TagMarker>⟧.TAG ⟦<Implicit<u8, 0> as FormValue>⟧.value.contents) (λ x. x.value) ⟦<DefaultNumber<0> as DefaultOf<Implicit<u8, 0>>>⟧.octets)
-        ⟦<WithDefault<Implicit<u8, 0>, DefaultNumber<0>> as PartialEq>⟧.eq
-        (default_equality ⟦<Implicit<u8, 0> as Form>⟧ (one_tag ⟦<ImplicitTag<IntegerTag, 0> as TagMarker>⟧.TAG ⟦<Implicit<u8, 0> as FormValue>⟧.value.contents) (λ x. x.value) ⟦<DefaultNumber<0> as DefaultOf<Implicit<u8, 0>>>⟧.octets ⟦<Implicit<u8, 0> as PartialEq>⟧.eq (one_tag_equality ⟦<ImplicitTag<IntegerTag, 0> as TagMarker>⟧.TAG ⟦<Implicit<u8, 0> as FormValue>⟧.value.contents ⟦<Implicit<u8, 0> as FormValue>⟧.value.comparable ⟦<Implicit<u8, 0> as PartialEq>⟧.eq (λ v w. (u8_contents_eq.contents_eq-law v.value w.value))))
-        (member_equality ⟦<Option<Implicit<UintRef<'a>, 1>> as Form>⟧
-        (optional_starts ⟦<Implicit<UintRef<'a>, 1> as Form>⟧ (one_tag ⟦<ImplicitTag<IntegerTag, 1> as TagMarker>⟧.TAG ⟦<Implicit<UintRef<'a>, 1> as FormValue>⟧.value.contents))
-        ⟦<Option<Implicit<UintRef<'a>, 1>> as PartialEq>⟧.eq
-        (optional_equality ⟦<Implicit<UintRef<'a>, 1> as Form>⟧ (one_tag ⟦<ImplicitTag<IntegerTag, 1> as TagMarker>⟧.TAG ⟦<Implicit<UintRef<'a>, 1> as FormValue>⟧.value.contents) ⟦<Implicit<UintRef<'a>, 1> as PartialEq>⟧.eq (one_tag_equality ⟦<ImplicitTag<IntegerTag, 1> as TagMarker>⟧.TAG ⟦<Implicit<UintRef<'a>, 1> as FormValue>⟧.value.contents ⟦<Implicit<UintRef<'a>, 1> as FormValue>⟧.value.comparable ⟦<Implicit<UintRef<'a>, 1> as PartialEq>⟧.eq (λ v w. (uintref_contents_eq.contents_eq-law v.value w.value))))
-        (member_equality ⟦<WithDefault<ImplicitPrivate<bool, 2>, DefaultFalse> as Form>⟧
-        (default_starts ⟦<ImplicitPrivate<bool, 2> as Form>⟧ (one_tag ⟦<ImplicitPrivateTag<BooleanTag, 2> as TagMarker>⟧.TAG ⟦<ImplicitPrivate<bool, 2> as FormValue>⟧.value.contents) (λ x. x.value) ⟦<DefaultFalse as DefaultOf<ImplicitPrivate<bool, 2>>>⟧.octets)
-        ⟦<WithDefault<ImplicitPrivate<bool, 2>, DefaultFalse> as PartialEq>⟧.eq
-        (default_equality ⟦<ImplicitPrivate<bool, 2> as Form>⟧ (one_tag ⟦<ImplicitPrivateTag<BooleanTag, 2> as TagMarker>⟧.TAG ⟦<ImplicitPrivate<bool, 2> as FormValue>⟧.value.contents) (λ x. x.value) ⟦<DefaultFalse as DefaultOf<ImplicitPrivate<bool, 2>>>⟧.octets ⟦<ImplicitPrivate<bool, 2> as PartialEq>⟧.eq (one_tag_equality ⟦<ImplicitPrivateTag<BooleanTag, 2> as TagMarker>⟧.TAG ⟦<ImplicitPrivate<bool, 2> as FormValue>⟧.value.contents ⟦<ImplicitPrivate<bool, 2> as FormValue>⟧.value.comparable ⟦<ImplicitPrivate<bool, 2> as PartialEq>⟧.eq (λ v w. (bool_contents_eq.contents_eq-law v.value w.value))))
-        (member_equality ⟦<Option<Implicit<ListRef<'a, Status>, 3>> as Form>⟧
-        (optional_starts ⟦<Implicit<ListRef<'a, Status>, 3> as Form>⟧ (one_tag ⟦<ImplicitTag<SequenceTag, 3> as TagMarker>⟧.TAG ⟦<Implicit<ListRef<'a, Status>, 3> as FormValue>⟧.value.contents))
-        ⟦<Option<Implicit<ListRef<'a, Status>, 3>> as PartialEq>⟧.eq
-        (optional_equality ⟦<Implicit<ListRef<'a, Status>, 3> as Form>⟧ (one_tag ⟦<ImplicitTag<SequenceTag, 3> as TagMarker>⟧.TAG ⟦<Implicit<ListRef<'a, Status>, 3> as FormValue>⟧.value.contents) ⟦<Implicit<ListRef<'a, Status>, 3> as PartialEq>⟧.eq (one_tag_equality ⟦<ImplicitTag<SequenceTag, 3> as TagMarker>⟧.TAG ⟦<Implicit<ListRef<'a, Status>, 3> as FormValue>⟧.value.contents ⟦<Implicit<ListRef<'a, Status>, 3> as FormValue>⟧.value.comparable ⟦<Implicit<ListRef<'a, Status>, 3> as PartialEq>⟧.eq (λ v w. (λ one. bytes_decides v.value.octets.octets.now w.value.octets.octets.now))))
-        no_equality))))).equal v.fields.list w.fields.list };
+    ghost contents_eq = { ⟦<Subtree<'a> as Member>⟧.member.equal };
 }
 
 impl<'a> CopyIsDuplicate for Subtree<'a> {}

@@ -2,19 +2,20 @@
 //!
 //! Made by tools/asn1 from shapes.asn1.
 
-ghost use Rattle.std.specs.Cmp.Lexicographic.{bytes_decides};
 ghost use Rattle.std.specs.Prelude.{◌≡◌, false, refl};
 ghost use Rattle.der_elem.specs.FormatMakers.{mapped_format};
 ghost use Rattle.der_lists.specs.NonEmptyRef.{list_of};
 ghost use Rattle.der_modules.specs.Asn1.{parse_of};
+ghost use Rattle.der_modules.specs.Members.{seen_member};
 ghost use Rattle.der_shapes.specs.Shapes.Grammar.{unordered};
 
 use crate::shapes::status::Status;
 use der_elem::{
     ContentsEq, CopyIsDuplicate, DecodeValue, EncodeValue, Form, FormValue, OneTag, SetTag,
-    ValueOrd,
+    TagMarker, ValueOrd,
 };
 use der_lists::{NonEmptyRef, UnorderedSetRef};
+use der_modules::Member;
 use der_tlv::{BackWriter, Error, Header, Length, Source, Writer};
 use std::alloc::Global;
 use std::cmp::Ordering;
@@ -63,10 +64,10 @@ impl<'a, R: Source<'a>> DecodeValue<'a, R> for Unordered<'a> {
     const TAKES_MEMORY: bool = false;
 
     fn decode_value(alloc: Global, reader: &mut R, header: Header) -> Result<Unordered<'a>, Error> {
-        match NonEmptyRef::<UnorderedSetRef<'a, Status>>::decode_value(alloc, reader, header) {
-            Ok(items) => Ok(Unordered { items }),
-            Err(e) => Err(e),
-        }
+        let items = NonEmptyRef::<UnorderedSetRef<'a, Status>>::decode_value(
+            alloc, reader, header,
+        )?;
+        Ok(Unordered { items })
     }
 
     ghost takes_memory_is = { refl };
@@ -92,8 +93,12 @@ impl<'a> ValueOrd for Unordered<'a> {
     }
 }
 
+impl<'a> Member for Unordered<'a> {
+    ghost member = { seen_member ⟦<SetTag as TagMarker>⟧.TAG (λ v. v.items) ⟦<NonEmptyRef<UnorderedSetRef<'a, Status>> as Member>⟧.member };
+}
+
 impl<'a> ContentsEq for Unordered<'a> {
-    ghost contents_eq = { λ v w. (λ one. bytes_decides v.items.list.octets.octets.now w.items.list.octets.octets.now) };
+    ghost contents_eq = { ⟦<Unordered<'a> as Member>⟧.member.equal };
 }
 
 impl<'a> CopyIsDuplicate for Unordered<'a> {}
