@@ -46,6 +46,7 @@ mod recipients;
 mod request;
 mod revocation;
 mod rsa;
+mod shape;
 mod signed_data;
 mod signers;
 mod site;

@@ -1,110 +1,451 @@
-//! What the parts of messages are made of, whichever crate has their types.
+//! What the octets of each type are made of: the components by their names.
+//!
+//! Made by tools/asn1.
 
-use crate::dsa::DSA_FIELDS;
-use der_cms::parts::Part as CmsPart;
-use der_enveloped::parts::Part as EnvelopedPart;
-use der_ocsp::parts::Part as OcspPart;
-use der_pkcs::parts::Part as PkcsPart;
-use der_pkix::parts::Part as PkixPart;
-use der_time_stamp::parts::Part as TimeStampPart;
+mod algorithm;
+mod authenticated;
+mod certificate;
+mod cms;
+mod crl;
+mod encryption;
+mod enveloped;
+mod ess;
+mod extension;
+mod key;
+mod name;
+mod ocsp;
+mod pkcs12;
+mod request;
+mod time_stamp;
 
 /// What stands in octets: a type with components, a list, or a value with no such parts.
-#[derive(Clone, Copy, Debug, PartialEq, Eq)]
+#[derive(Clone, Copy)]
 pub enum Part {
-    /// A type of `der_pkix`.
-    Pkix(PkixPart),
-    /// A type of `der_pkcs`.
-    Pkcs(PkcsPart),
-    /// A type of `der_ocsp`.
-    Ocsp(OcspPart),
-    /// A type of `der_cms`.
-    Cms(CmsPart),
-    /// A type of `der_enveloped`.
-    Enveloped(EnvelopedPart),
-    /// A type of `der_time_stamp`.
-    TimeStamp(TimeStampPart),
-    /// A private key of DSA, of which each field is a number.
-    DsaPrivateKey,
+    /// `Attribute`.
+    Attribute,
+    /// `AttributeTypeAndValue`.
+    AttributeTypeAndValue,
+    /// `RDNSequence`.
+    RdnSequence,
+    /// `RelativeDistinguishedName`.
+    RelativeDistinguishedName,
+    /// `Certificate`.
+    Certificate,
+    /// `TBSCertificate`.
+    TbsCertificate,
+    /// `AlgorithmIdentifier`.
+    AlgorithmIdentifier,
+    /// `Validity`.
+    Validity,
+    /// `SubjectPublicKeyInfo`.
+    SubjectPublicKeyInfo,
+    /// `Extensions` after an explicit tag.
+    ExplicitExtensions,
+    /// `Extensions`.
+    Extensions,
+    /// `Extension`.
+    Extension,
+    /// `CertificateList`.
+    CertificateList,
+    /// `TBSCertList`.
+    TbsCertList,
+    /// SEQUENCE OF `RevokedCertificate`.
+    SequenceOfRevokedCertificate,
+    /// `RevokedCertificate`.
+    RevokedCertificate,
+    /// `OneAsymmetricKey`.
+    OneAsymmetricKey,
+    /// `Attributes`.
+    Attributes,
+    /// `RSAPublicKey`.
+    RsaPublicKey,
+    /// `RSAPrivateKey`.
+    RsaPrivateKey,
+    /// `OtherPrimeInfos`.
+    OtherPrimeInfos,
+    /// `OtherPrimeInfo`.
+    OtherPrimeInfo,
+    /// `ECPrivateKey`.
+    EcPrivateKey,
+    /// `ECParameters` after an explicit tag.
+    ExplicitEcParameters,
+    /// `SpecifiedECDomain`.
+    SpecifiedEcDomain,
+    /// `FieldID`.
+    FieldId,
+    /// `Curve`.
+    Curve,
+    /// `OCSPRequest`.
+    OcspRequest,
+    /// `TBSRequest`.
+    TbsRequest,
+    /// `GeneralName` after an explicit tag.
+    ExplicitGeneralName,
+    /// `AnotherName`.
+    AnotherName,
+    /// `RDNSequence` after an explicit tag.
+    ExplicitRdnSequence,
+    /// `Requests`.
+    Requests,
+    /// `Request`.
+    Request,
+    /// `CertID`.
+    CertId,
+    /// `Signature` after an explicit tag.
+    ExplicitSignature,
+    /// `Signature`.
+    Signature,
+    /// `Certificates` after an explicit tag.
+    ExplicitCertificates,
+    /// `Certificates`.
+    Certificates,
+    /// `OCSPResponse`.
+    OcspResponse,
+    /// `ResponseBytes` after an explicit tag.
+    ExplicitResponseBytes,
+    /// `ResponseBytes`.
+    ResponseBytes,
+    /// `BasicOCSPResponse`.
+    BasicOcspResponse,
+    /// `ResponseData`.
+    ResponseData,
+    /// `SingleResponses`.
+    SingleResponses,
+    /// `SingleResponse`.
+    SingleResponse,
+    /// `RevokedInfo`.
+    RevokedInfo,
+    /// `CrlID`.
+    CrlId,
+    /// `AcceptableResponses`.
+    AcceptableResponses,
+    /// `ServiceLocator`.
+    ServiceLocator,
+    /// `AuthorityInfoAccessSyntax`.
+    AuthorityInfoAccessSyntax,
+    /// `AccessDescription`.
+    AccessDescription,
+    /// `PreferredSignatureAlgorithms`.
+    PreferredSignatureAlgorithms,
+    /// `PreferredSignatureAlgorithm`.
+    PreferredSignatureAlgorithm,
+    /// `ContentInfo`.
+    CmsContentInfo,
+    /// `SignedData`.
+    SignedData,
+    /// SET OF `AlgorithmIdentifier`.
+    SetOfAlgorithmIdentifier,
+    /// `EncapsulatedContentInfo`.
+    EncapsulatedContentInfo,
+    /// `CertificateSet`.
+    CertificateSet,
+    /// `RevocationInfoChoices`.
+    RevocationInfoChoices,
+    /// SET OF `SignerInfo`.
+    SetOfSignerInfo,
+    /// `SignerInfo`.
+    SignerInfo,
+    /// `IssuerAndSerialNumber`.
+    IssuerAndSerialNumber,
+    /// `SignedAttributes`.
+    SignedAttributes,
+    /// `UnsignedAttributes`.
+    UnsignedAttributes,
+    /// `DigestedData`.
+    DigestedData,
+    /// `EncryptedData`.
+    EncryptedData,
+    /// `EncryptedContentInfo`.
+    EncryptedContentInfo,
+    /// `SigningCertificate`.
+    SigningCertificate,
+    /// SEQUENCE OF `ESSCertID`.
+    SequenceOfEssCertId,
+    /// `ESSCertID`.
+    EssCertId,
+    /// `IssuerSerial`.
+    IssuerSerial,
+    /// `GeneralNames`.
+    GeneralNames,
+    /// SEQUENCE OF `PolicyInformation`.
+    SequenceOfPolicyInformation,
+    /// `PolicyInformation`.
+    PolicyInformation,
+    /// SEQUENCE OF `PolicyQualifierInfo`.
+    SequenceOfPolicyQualifierInfo,
+    /// `PolicyQualifierInfo`.
+    PolicyQualifierInfo,
+    /// `SigningCertificateV2`.
+    SigningCertificateV2,
+    /// SEQUENCE OF `ESSCertIDv2`.
+    SequenceOfEssCertIdv2,
+    /// `ESSCertIDv2`.
+    EssCertIdv2,
+    /// `EnvelopedData`.
+    EnvelopedData,
+    /// `OriginatorInfo`.
+    OriginatorInfo,
+    /// `RecipientInfos`.
+    RecipientInfos,
+    /// `KeyTransRecipientInfo`.
+    KeyTransRecipientInfo,
+    /// `KeyAgreeRecipientInfo`.
+    KeyAgreeRecipientInfo,
+    /// `OriginatorIdentifierOrKey` after an explicit tag.
+    ExplicitOriginatorIdentifierOrKey,
+    /// `RecipientEncryptedKeys`.
+    RecipientEncryptedKeys,
+    /// `RecipientEncryptedKey`.
+    RecipientEncryptedKey,
+    /// `RecipientKeyIdentifier`.
+    RecipientKeyIdentifier,
+    /// `KEKRecipientInfo`.
+    KekRecipientInfo,
+    /// `PasswordRecipientInfo`.
+    PasswordRecipientInfo,
+    /// `AuthenticatedData`.
+    AuthenticatedData,
+    /// `TimeStampReq`.
+    TimeStampReq,
+    /// `MessageImprint`.
+    MessageImprint,
+    /// `TimeStampResp`.
+    TimeStampResp,
+    /// `PKIStatusInfo`.
+    PkiStatusInfo,
+    /// `PKIFreeText`.
+    PkiFreeText,
+    /// `TimeStampToken`.
+    TimeStampToken,
+    /// `TSTInfo`.
+    TstInfo,
+    /// `Accuracy`.
+    Accuracy,
+    /// `CertificationRequest`.
+    CertificationRequest,
+    /// `CertificationRequestInfo`.
+    CertificationRequestInfo,
+    /// `EncryptedPrivateKeyInfo`.
+    EncryptedPrivateKeyInfo,
+    /// `PBKDF2-params`.
+    Pbkdf2Params,
+    /// `PBEParameter`.
+    PbeParameter,
+    /// `PBES2-params`.
+    Pbes2Params,
+    /// `RSASSA-PSS-params`.
+    RsassaPssParams,
+    /// `AlgorithmIdentifier` after an explicit tag.
+    ExplicitAlgorithmIdentifier,
+    /// `RSAES-OAEP-params`.
+    RsaesOaepParams,
+    /// `ECDSA-Sig-Value`.
+    EcdsaSigValue,
+    /// `Dss-Parms`.
+    DssParms,
+    /// `DomainParameters`.
+    DomainParameters,
+    /// `ValidationParms`.
+    ValidationParms,
+    /// `DHParameter`.
+    DhParameter,
+    /// `PFX`.
+    Pfx,
+    /// `ContentInfo`.
+    Pkcs12ContentInfo,
+    /// `MacData`.
+    MacData,
+    /// `DigestInfo`.
+    DigestInfo,
+    /// `AuthenticatedSafe`.
+    AuthenticatedSafe,
+    /// `SafeContents`.
+    SafeContents,
+    /// `SafeBag`.
+    SafeBag,
+    /// `CertBag`.
+    CertBag,
+    /// `CRLBag`.
+    CrlBag,
+    /// `SecretBag`.
+    SecretBag,
+    /// A value with no components that have names.
+    Value,
 }
 
-/// A component, as the crates of the types have it.
-#[derive(Clone, Copy, Debug, PartialEq, Eq)]
-pub struct Component {
-    /// Its name in the module; none of an item of a list, or of what stands after an explicit tag.
-    pub name: &'static str,
-    /// The identifier octet that tells it, where it may be absent or is one of several.
-    pub octet: Option<u8>,
-    /// What it is made of.
-    pub part: Part,
-}
+/// A component: its name in the module, or no name where it is an item of a list or stands after an explicit
+/// tag; the identifier octet that tells it, where it may be absent or is one of several; what it is made of.
+#[derive(Clone, Copy)]
+pub struct Component(pub &'static str, pub Option<u8>, pub Part);
 
 impl Part {
-    /// A value with no components that have names.
-    pub fn value() -> Part {
-        Part::Pkix(PkixPart::Value)
-    }
-
-    /// How many components it has.
-    pub fn count(self) -> usize {
+    /// The components, in their order; of a list the one that each item is.
+    ///
+    /// A CHOICE has no octets of its own: it stands here once for each alternative, each time with the
+    /// name of the component, and one of them is there.
+    pub fn components(self) -> &'static [Component] {
         match self {
-            Part::Pkix(part) => part.components().len(),
-            Part::Pkcs(part) => part.components().len(),
-            Part::Ocsp(part) => part.components().len(),
-            Part::Cms(part) => part.components().len(),
-            Part::Enveloped(part) => part.components().len(),
-            Part::TimeStamp(part) => part.components().len(),
-            Part::DsaPrivateKey => DSA_FIELDS.len(),
-        }
-    }
-
-    /// The component at this place, if there is one.
-    pub fn component(self, step: usize) -> Option<Component> {
-        match self {
-            Part::Pkix(part) => {
-                let found = part.components().get(step)?;
-                Some(component_of(found.name, found.octet, Part::Pkix(found.part)))
-            }
-            Part::Pkcs(part) => {
-                let found = part.components().get(step)?;
-                Some(component_of(found.name, found.octet, Part::Pkcs(found.part)))
-            }
-            Part::Ocsp(part) => {
-                let found = part.components().get(step)?;
-                Some(component_of(found.name, found.octet, Part::Ocsp(found.part)))
-            }
-            Part::Cms(part) => {
-                let found = part.components().get(step)?;
-                Some(component_of(found.name, found.octet, Part::Cms(found.part)))
-            }
-            Part::Enveloped(part) => {
-                let found = part.components().get(step)?;
-                Some(component_of(found.name, found.octet, Part::Enveloped(found.part)))
-            }
-            Part::TimeStamp(part) => {
-                let found = part.components().get(step)?;
-                Some(component_of(found.name, found.octet, Part::TimeStamp(found.part)))
-            }
-            Part::DsaPrivateKey => {
-                let name = DSA_FIELDS.get(step)?;
-                Some(component_of(*name, None, Part::value()))
-            }
+            Part::Attribute => &name::ATTRIBUTE,
+            Part::AttributeTypeAndValue => &name::ATTRIBUTE_TYPE_AND_VALUE,
+            Part::RdnSequence => &name::RDN_SEQUENCE,
+            Part::RelativeDistinguishedName => &name::RELATIVE_DISTINGUISHED_NAME,
+            Part::Certificate => &certificate::CERTIFICATE,
+            Part::TbsCertificate => &certificate::TBS_CERTIFICATE,
+            Part::AlgorithmIdentifier => &certificate::ALGORITHM_IDENTIFIER,
+            Part::Validity => &certificate::VALIDITY,
+            Part::SubjectPublicKeyInfo => &certificate::SUBJECT_PUBLIC_KEY_INFO,
+            Part::ExplicitExtensions => &certificate::EXPLICIT_EXTENSIONS,
+            Part::Extensions => &certificate::EXTENSIONS,
+            Part::Extension => &certificate::EXTENSION,
+            Part::CertificateList => &crl::CERTIFICATE_LIST,
+            Part::TbsCertList => &crl::TBS_CERT_LIST,
+            Part::SequenceOfRevokedCertificate => &crl::SEQUENCE_OF_REVOKED_CERTIFICATE,
+            Part::RevokedCertificate => &crl::REVOKED_CERTIFICATE,
+            Part::OneAsymmetricKey => &key::ONE_ASYMMETRIC_KEY,
+            Part::Attributes => &key::ATTRIBUTES,
+            Part::RsaPublicKey => &key::RSA_PUBLIC_KEY,
+            Part::RsaPrivateKey => &key::RSA_PRIVATE_KEY,
+            Part::OtherPrimeInfos => &key::OTHER_PRIME_INFOS,
+            Part::OtherPrimeInfo => &key::OTHER_PRIME_INFO,
+            Part::EcPrivateKey => &key::EC_PRIVATE_KEY,
+            Part::ExplicitEcParameters => &key::EXPLICIT_EC_PARAMETERS,
+            Part::SpecifiedEcDomain => &key::SPECIFIED_EC_DOMAIN,
+            Part::FieldId => &key::FIELD_ID,
+            Part::Curve => &key::CURVE,
+            Part::OcspRequest => &ocsp::OCSP_REQUEST,
+            Part::TbsRequest => &ocsp::TBS_REQUEST,
+            Part::ExplicitGeneralName => &extension::EXPLICIT_GENERAL_NAME,
+            Part::AnotherName => &extension::ANOTHER_NAME,
+            Part::ExplicitRdnSequence => &name::EXPLICIT_RDN_SEQUENCE,
+            Part::Requests => &ocsp::REQUESTS,
+            Part::Request => &ocsp::REQUEST,
+            Part::CertId => &ocsp::CERT_ID,
+            Part::ExplicitSignature => &ocsp::EXPLICIT_SIGNATURE,
+            Part::Signature => &ocsp::SIGNATURE,
+            Part::ExplicitCertificates => &ocsp::EXPLICIT_CERTIFICATES,
+            Part::Certificates => &ocsp::CERTIFICATES,
+            Part::OcspResponse => &ocsp::OCSP_RESPONSE,
+            Part::ExplicitResponseBytes => &ocsp::EXPLICIT_RESPONSE_BYTES,
+            Part::ResponseBytes => &ocsp::RESPONSE_BYTES,
+            Part::BasicOcspResponse => &ocsp::BASIC_OCSP_RESPONSE,
+            Part::ResponseData => &ocsp::RESPONSE_DATA,
+            Part::SingleResponses => &ocsp::SINGLE_RESPONSES,
+            Part::SingleResponse => &ocsp::SINGLE_RESPONSE,
+            Part::RevokedInfo => &ocsp::REVOKED_INFO,
+            Part::CrlId => &ocsp::CRL_ID,
+            Part::AcceptableResponses => &ocsp::ACCEPTABLE_RESPONSES,
+            Part::ServiceLocator => &ocsp::SERVICE_LOCATOR,
+            Part::AuthorityInfoAccessSyntax => &extension::AUTHORITY_INFO_ACCESS_SYNTAX,
+            Part::AccessDescription => &extension::ACCESS_DESCRIPTION,
+            Part::PreferredSignatureAlgorithms => &ocsp::PREFERRED_SIGNATURE_ALGORITHMS,
+            Part::PreferredSignatureAlgorithm => &ocsp::PREFERRED_SIGNATURE_ALGORITHM,
+            Part::CmsContentInfo => &cms::CMS_CONTENT_INFO,
+            Part::SignedData => &cms::SIGNED_DATA,
+            Part::SetOfAlgorithmIdentifier => &certificate::SET_OF_ALGORITHM_IDENTIFIER,
+            Part::EncapsulatedContentInfo => &cms::ENCAPSULATED_CONTENT_INFO,
+            Part::CertificateSet => &cms::CERTIFICATE_SET,
+            Part::RevocationInfoChoices => &cms::REVOCATION_INFO_CHOICES,
+            Part::SetOfSignerInfo => &cms::SET_OF_SIGNER_INFO,
+            Part::SignerInfo => &cms::SIGNER_INFO,
+            Part::IssuerAndSerialNumber => &cms::ISSUER_AND_SERIAL_NUMBER,
+            Part::SignedAttributes => &cms::SIGNED_ATTRIBUTES,
+            Part::UnsignedAttributes => &cms::UNSIGNED_ATTRIBUTES,
+            Part::DigestedData => &cms::DIGESTED_DATA,
+            Part::EncryptedData => &cms::ENCRYPTED_DATA,
+            Part::EncryptedContentInfo => &cms::ENCRYPTED_CONTENT_INFO,
+            Part::SigningCertificate => &ess::SIGNING_CERTIFICATE,
+            Part::SequenceOfEssCertId => &ess::SEQUENCE_OF_ESS_CERT_ID,
+            Part::EssCertId => &ess::ESS_CERT_ID,
+            Part::IssuerSerial => &ess::ISSUER_SERIAL,
+            Part::GeneralNames => &extension::GENERAL_NAMES,
+            Part::SequenceOfPolicyInformation => &extension::SEQUENCE_OF_POLICY_INFORMATION,
+            Part::PolicyInformation => &extension::POLICY_INFORMATION,
+            Part::SequenceOfPolicyQualifierInfo => &extension::SEQUENCE_OF_POLICY_QUALIFIER_INFO,
+            Part::PolicyQualifierInfo => &extension::POLICY_QUALIFIER_INFO,
+            Part::SigningCertificateV2 => &ess::SIGNING_CERTIFICATE_V2,
+            Part::SequenceOfEssCertIdv2 => &ess::SEQUENCE_OF_ESS_CERT_IDV2,
+            Part::EssCertIdv2 => &ess::ESS_CERT_IDV2,
+            Part::EnvelopedData => &enveloped::ENVELOPED_DATA,
+            Part::OriginatorInfo => &enveloped::ORIGINATOR_INFO,
+            Part::RecipientInfos => &enveloped::RECIPIENT_INFOS,
+            Part::KeyTransRecipientInfo => &enveloped::KEY_TRANS_RECIPIENT_INFO,
+            Part::KeyAgreeRecipientInfo => &enveloped::KEY_AGREE_RECIPIENT_INFO,
+            Part::ExplicitOriginatorIdentifierOrKey =>
+                &enveloped::EXPLICIT_ORIGINATOR_IDENTIFIER_OR_KEY,
+            Part::RecipientEncryptedKeys => &enveloped::RECIPIENT_ENCRYPTED_KEYS,
+            Part::RecipientEncryptedKey => &enveloped::RECIPIENT_ENCRYPTED_KEY,
+            Part::RecipientKeyIdentifier => &enveloped::RECIPIENT_KEY_IDENTIFIER,
+            Part::KekRecipientInfo => &enveloped::KEK_RECIPIENT_INFO,
+            Part::PasswordRecipientInfo => &enveloped::PASSWORD_RECIPIENT_INFO,
+            Part::AuthenticatedData => &authenticated::AUTHENTICATED_DATA,
+            Part::TimeStampReq => &time_stamp::TIME_STAMP_REQ,
+            Part::MessageImprint => &time_stamp::MESSAGE_IMPRINT,
+            Part::TimeStampResp => &time_stamp::TIME_STAMP_RESP,
+            Part::PkiStatusInfo => &time_stamp::PKI_STATUS_INFO,
+            Part::PkiFreeText => &time_stamp::PKI_FREE_TEXT,
+            Part::TimeStampToken => &time_stamp::TIME_STAMP_TOKEN,
+            Part::TstInfo => &time_stamp::TST_INFO,
+            Part::Accuracy => &time_stamp::ACCURACY,
+            Part::CertificationRequest => &request::CERTIFICATION_REQUEST,
+            Part::CertificationRequestInfo => &request::CERTIFICATION_REQUEST_INFO,
+            Part::EncryptedPrivateKeyInfo => &encryption::ENCRYPTED_PRIVATE_KEY_INFO,
+            Part::Pbkdf2Params => &encryption::PBKDF2_PARAMS,
+            Part::PbeParameter => &encryption::PBE_PARAMETER,
+            Part::Pbes2Params => &encryption::PBES2_PARAMS,
+            Part::RsassaPssParams => &algorithm::RSASSA_PSS_PARAMS,
+            Part::ExplicitAlgorithmIdentifier => &certificate::EXPLICIT_ALGORITHM_IDENTIFIER,
+            Part::RsaesOaepParams => &algorithm::RSAES_OAEP_PARAMS,
+            Part::EcdsaSigValue => &algorithm::ECDSA_SIG_VALUE,
+            Part::DssParms => &algorithm::DSS_PARMS,
+            Part::DomainParameters => &algorithm::DOMAIN_PARAMETERS,
+            Part::ValidationParms => &algorithm::VALIDATION_PARMS,
+            Part::DhParameter => &algorithm::DH_PARAMETER,
+            Part::Pfx => &pkcs12::PFX,
+            Part::Pkcs12ContentInfo => &pkcs12::PKCS12_CONTENT_INFO,
+            Part::MacData => &pkcs12::MAC_DATA,
+            Part::DigestInfo => &pkcs12::DIGEST_INFO,
+            Part::AuthenticatedSafe => &pkcs12::AUTHENTICATED_SAFE,
+            Part::SafeContents => &pkcs12::SAFE_CONTENTS,
+            Part::SafeBag => &pkcs12::SAFE_BAG,
+            Part::CertBag => &pkcs12::CERT_BAG,
+            Part::CrlBag => &pkcs12::CRL_BAG,
+            Part::SecretBag => &pkcs12::SECRET_BAG,
+            Part::Value => &[],
         }
     }
 
     /// Whether it is a list, of which each item is alike.
     pub fn is_list(self) -> bool {
-        match self {
-            Part::Pkix(part) => part.is_list(),
-            Part::Pkcs(part) => part.is_list(),
-            Part::Ocsp(part) => part.is_list(),
-            Part::Cms(part) => part.is_list(),
-            Part::Enveloped(part) => part.is_list(),
-            Part::TimeStamp(part) => part.is_list(),
-            Part::DsaPrivateKey => false,
-        }
+        matches!(
+            self,
+            Part::RdnSequence
+                | Part::RelativeDistinguishedName
+                | Part::Extensions
+                | Part::SequenceOfRevokedCertificate
+                | Part::Attributes
+                | Part::OtherPrimeInfos
+                | Part::Requests
+                | Part::Certificates
+                | Part::SingleResponses
+                | Part::AcceptableResponses
+                | Part::AuthorityInfoAccessSyntax
+                | Part::PreferredSignatureAlgorithms
+                | Part::SetOfAlgorithmIdentifier
+                | Part::CertificateSet
+                | Part::RevocationInfoChoices
+                | Part::SetOfSignerInfo
+                | Part::SignedAttributes
+                | Part::UnsignedAttributes
+                | Part::SequenceOfEssCertId
+                | Part::GeneralNames
+                | Part::SequenceOfPolicyInformation
+                | Part::SequenceOfPolicyQualifierInfo
+                | Part::SequenceOfEssCertIdv2
+                | Part::RecipientInfos
+                | Part::RecipientEncryptedKeys
+                | Part::PkiFreeText
+                | Part::AuthenticatedSafe
+                | Part::SafeContents
+        )
     }
-}
-
-fn component_of(name: &'static str, octet: Option<u8>, part: Part) -> Component {
-    Component { name, octet, part }
 }

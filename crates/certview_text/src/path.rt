@@ -1,7 +1,7 @@
 //! The field in which a fault was met.
 
 use crate::kind::Kind;
-use crate::whole::{part_of, whole_of};
+use crate::whole::{shape_of, whole_of};
 use certview_parts::early::is_early;
 use der_asn1_types::{Error, ErrorKind};
 use std::fmt;
@@ -72,14 +72,14 @@ impl Path {
     fn names(&self) -> [&'static str; 5] {
         let mut names = [""; 5];
         let mut count = 0;
-        let mut part = part_of(self.kind);
+        let mut shape = shape_of(self.kind);
         for step in &self.steps {
-            let Some(component) = part.component(*step) else {
+            let Some(field) = shape.field(*step) else {
                 break;
             };
-            part = component.part;
-            if !component.name.is_empty() && count < names.len() {
-                names[count] = component.name;
+            shape = field.shape;
+            if !field.name.is_empty() && count < names.len() {
+                names[count] = field.name;
                 count += 1;
             }
         }

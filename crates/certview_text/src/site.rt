@@ -1,7 +1,7 @@
 //! The fields of a message, where they stand in its octets, which may be refused: as far as their headers
 //! can be read.
 
-use crate::parts::Part;
+use crate::shape::Shape;
 use certview_parts::place::Place;
 use certview_parts::values::sizes;
 
@@ -74,12 +74,12 @@ fn extent_of_all(octets: &[u8]) -> Extent {
 }
 
 /// A part of a message, and where it stands.
-#[derive(Clone, Copy, Debug, PartialEq, Eq)]
+#[derive(Clone, Copy)]
 pub struct Site {
     /// Its place among the fields of the part that it is in.
     pub step: usize,
     /// What it is.
-    pub part: Part,
+    pub shape: Shape,
     /// Where it stands.
     pub extent: Extent,
 }
@@ -88,18 +88,18 @@ pub struct Site {
 #[derive(Drop)]
 pub struct Sites<'a> {
     octets: &'a [u8],
-    part: Part,
+    shape: Shape,
     begin: usize,
     end: usize,
     next: usize,
 }
 
 impl Site {
-    /// A message that this part is: all of the octets.
-    pub fn whole(octets: &[u8], part: Part) -> Site {
+    /// A message of this shape: all of the octets.
+    pub fn whole(octets: &[u8], shape: Shape) -> Site {
         Site {
             step: 0,
-            part,
+            shape,
             extent: extent_of_all(octets),
         }
     }
@@ -109,7 +109,7 @@ impl Site {
         let mut sites = Sites::within(octets, self);
         for _ in self.extent.contents..self.extent.end {
             match sites.next_site() {
-                Some(site) if name_of(self.part, site.step) == name => return site,
+                Some(site) if name_of(self.shape, site.step) == name => return site,
                 Some(_) => {}
                 None => return self.nothing(),
             }
@@ -134,7 +134,7 @@ impl Site {
         let end = self.extent.end;
         Site {
             step: 0,
-            part: Part::value(),
+            shape: Shape::value(),
             extent: Extent {
                 begin: end,
                 contents: end,
@@ -154,7 +154,7 @@ impl<'a> Sites<'a> {
     pub fn within(octets: &'a [u8], site: &Site) -> Sites<'a> {
         Sites {
             octets,
-            part: site.part,
+            shape: site.shape,
             begin: site.extent.contents,
             end: site.extent.end,
             next: 0,
@@ -166,48 +166,52 @@ impl<'a> Sites<'a> {
         let extent = extent_at(self.octets, self.begin, self.end)?;
         let tag = *self.octets.get(extent.begin)?;
         let step = self.step_with(tag)?;
-        let part = self.part.component(step)?.part;
+        let shape = self.shape.field(step)?.shape;
         self.begin = extent.end;
-        Some(Site { step, part, extent })
+        Some(Site {
+            step,
+            shape,
+            extent,
+        })
     }
 
     /// The next field that may begin with this octet: those that are absent are passed over. Where
     /// there is none, the next CHOICE, which has no alternative with this octet.
     fn step_with(&mut self, octet: u8) -> Option<usize> {
-        let step = match step_beginning(self.part, self.next, octet) {
+        let step = match step_beginning(self.shape, self.next, octet) {
             Some(step) => step,
-            None => step_of_choice(self.part, self.next)?,
+            None => step_of_choice(self.shape, self.next)?,
         };
-        if !self.part.is_list() {
-            self.next = step_after(self.part, step);
+        if !self.shape.is_list() {
+            self.next = step_after(self.shape, step);
         }
         Some(step)
     }
 }
 
-/// The name of a part's field at this place; none where there is no such field, or it is an item.
-fn name_of(part: Part, step: usize) -> &'static str {
-    match part.component(step) {
-        Some(component) => component.name,
+/// The name of a shape's field at this place; none where there is no such field, or it is an item.
+fn name_of(shape: Shape, step: usize) -> &'static str {
+    match shape.field(step) {
+        Some(field) => field.name,
         None => "",
     }
 }
 
-/// The first component from a place on that may begin with this octet.
-fn step_beginning(part: Part, next: usize, octet: u8) -> Option<usize> {
-    for step in next..part.count() {
-        if may_begin(part, step, octet) {
+/// The first field from a place on that may begin with this octet.
+fn step_beginning(shape: Shape, next: usize, octet: u8) -> Option<usize> {
+    for step in next..shape.count() {
+        if may_begin(shape, step, octet) {
             return Some(step);
         }
     }
     None
 }
 
-/// Whether the component at a place may begin with this octet: one that is never absent is told by its
+/// Whether the field at a place may begin with this octet: one that is never absent is told by its
 /// place alone.
-fn may_begin(part: Part, step: usize, octet: u8) -> bool {
-    match part.component(step) {
-        Some(component) => match component.octet {
+fn may_begin(shape: Shape, step: usize, octet: u8) -> bool {
+    match shape.field(step) {
+        Some(field) => match field.octet {
             Some(first) => first == octet,
             None => true,
         },
@@ -215,25 +219,25 @@ fn may_begin(part: Part, step: usize, octet: u8) -> bool {
     }
 }
 
-/// The first component from a place on that is one of several alternatives, which have one name.
-fn step_of_choice(part: Part, next: usize) -> Option<usize> {
-    for step in next..part.count() {
-        if step_after(part, step) > step.saturating_add(1) {
+/// The first field from a place on that is one of several alternatives, which have one name.
+fn step_of_choice(shape: Shape, next: usize) -> Option<usize> {
+    for step in next..shape.count() {
+        if step_after(shape, step) > step.saturating_add(1) {
             return Some(step);
         }
     }
     None
 }
 
-/// The place after a component, and after the other alternatives where it is one of several.
-fn step_after(part: Part, step: usize) -> usize {
-    let Some(component) = part.component(step) else {
-        return part.count();
+/// The place after a field, and after the other alternatives where it is one of several.
+fn step_after(shape: Shape, step: usize) -> usize {
+    let Some(field) = shape.field(step) else {
+        return shape.count();
     };
-    for after in step..part.count() {
-        if name_of(part, after) != component.name {
+    for after in step..shape.count() {
+        if name_of(shape, after) != field.name {
             return after;
         }
     }
-    part.count()
+    shape.count()
 }

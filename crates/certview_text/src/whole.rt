@@ -2,19 +2,15 @@
 
 use crate::kind::Kind;
 use crate::parts::Part;
+use crate::shape::Shape;
 use crate::site::Site;
 use certview_parts::page::{ItemKind, Page};
 use certview_parts::place::Place;
-use der_cms::parts::Part as CmsPart;
-use der_ocsp::parts::Part as OcspPart;
-use der_pkcs::parts::Part as PkcsPart;
-use der_pkix::parts::Part as PkixPart;
-use der_time_stamp::parts::Part as TimeStampPart;
 use std::alloc::AllocError;
 
 /// A message of a kind: all of the octets.
 pub fn whole_of(octets: &[u8], kind: Kind) -> Site {
-    Site::whole(octets, part_of(kind))
+    Site::whole(octets, shape_of(kind))
 }
 
 /// Begins a message: where it stands, and what a person calls it.
@@ -23,28 +19,36 @@ pub fn push_title(page: &mut Page, place: &Place, kind: Kind) -> Result<(), Allo
     page.text.push('\n')
 }
 
-/// What a message of a kind is made of; of ECParameters, a CHOICE, no part says it.
-pub fn part_of(kind: Kind) -> Part {
+/// What a message of a kind is made of.
+pub fn shape_of(kind: Kind) -> Shape {
     match kind {
-        Kind::Certificate => Part::Pkix(PkixPart::Certificate),
-        Kind::RevocationList => Part::Pkix(PkixPart::CertificateList),
-        Kind::PublicKey => Part::Pkix(PkixPart::SubjectPublicKeyInfo),
-        Kind::PrivateKey => Part::Pkix(PkixPart::OneAsymmetricKey),
-        Kind::RsaPrivateKey => Part::Pkix(PkixPart::RsaPrivateKey),
-        Kind::RsaPublicKey => Part::Pkix(PkixPart::RsaPublicKey),
-        Kind::EcPrivateKey => Part::Pkix(PkixPart::EcPrivateKey),
-        Kind::DsaPrivateKey => Part::DsaPrivateKey,
-        Kind::CertificationRequest => Part::Pkcs(PkcsPart::CertificationRequest),
-        Kind::EncryptedPrivateKey => Part::Pkcs(PkcsPart::EncryptedPrivateKeyInfo),
-        Kind::OcspRequest => Part::Ocsp(OcspPart::OcspRequest),
-        Kind::OcspResponse => Part::Ocsp(OcspPart::OcspResponse),
-        Kind::Cms => Part::Cms(CmsPart::ContentInfo),
-        Kind::TimeStampQuery => Part::TimeStamp(TimeStampPart::TimeStampReq),
-        Kind::TimeStampReply => Part::TimeStamp(TimeStampPart::TimeStampResp),
-        Kind::Pkcs12 => Part::Pkcs(PkcsPart::Pfx),
-        Kind::EcParameters => Part::value(),
-        Kind::DsaParameters => Part::Pkcs(PkcsPart::DssParms),
-        Kind::DhParameters => Part::Pkcs(PkcsPart::DhParameter),
-        Kind::X942Parameters => Part::Pkcs(PkcsPart::DomainParameters),
+        Kind::DsaPrivateKey => Shape::DsaPrivateKey,
+        _ => Shape::Part(part_of(kind)),
+    }
+}
+
+/// The part that a message of a kind is; of ECParameters, a CHOICE, and of a private key of DSA none.
+fn part_of(kind: Kind) -> Part {
+    match kind {
+        Kind::Certificate => Part::Certificate,
+        Kind::RevocationList => Part::CertificateList,
+        Kind::PublicKey => Part::SubjectPublicKeyInfo,
+        Kind::PrivateKey => Part::OneAsymmetricKey,
+        Kind::RsaPrivateKey => Part::RsaPrivateKey,
+        Kind::RsaPublicKey => Part::RsaPublicKey,
+        Kind::EcPrivateKey => Part::EcPrivateKey,
+        Kind::DsaPrivateKey => Part::Value,
+        Kind::CertificationRequest => Part::CertificationRequest,
+        Kind::EncryptedPrivateKey => Part::EncryptedPrivateKeyInfo,
+        Kind::OcspRequest => Part::OcspRequest,
+        Kind::OcspResponse => Part::OcspResponse,
+        Kind::Cms => Part::CmsContentInfo,
+        Kind::TimeStampQuery => Part::TimeStampReq,
+        Kind::TimeStampReply => Part::TimeStampResp,
+        Kind::Pkcs12 => Part::Pfx,
+        Kind::EcParameters => Part::Value,
+        Kind::DsaParameters => Part::DssParms,
+        Kind::DhParameters => Part::DhParameter,
+        Kind::X942Parameters => Part::DomainParameters,
     }
 }

@@ -16,7 +16,8 @@ use crate::placed::Placed;
 use crate::presence::{is_some, is_there};
 use crate::walk::next_place;
 use der_elem::Form;
-use der_fields::{DefaultNumber, DefaultOf, End, Explicit, Field};
+use der_fields::{DefaultNumber, DefaultOf, Explicit};
+use der_modules::tagged;
 use der_pkcs::algorithm::RsassaPssParams;
 use der_pkix::AlgorithmIdentifier;
 
@@ -54,10 +55,8 @@ impl<'a> Placed for RsassaPssParams<'a> {
             is_there(self.mask_gen_algorithm()),
         );
         let salt_length = next_place(octets, mask_gen_algorithm, is_some(self.salt_length()));
-        let first = self.trailer_field();
-        let tagged: Explicit<u8, 3> = Explicit {
-            fields: Field { first, rest: End },
-        };
+        let value = self.trailer_field();
+        let tagged: Explicit<u8, 3> = tagged!(Explicit, value);
         let is_default = <DefaultNumber<1> as DefaultOf<Explicit<u8, 3>>>::is_default(&tagged);
         let trailer_field = next_place(octets, salt_length, !is_default);
         RsassaPssParamsPlaces {

@@ -17,7 +17,8 @@ use crate::placed::Placed;
 use crate::presence::is_there;
 use crate::walk::next_place;
 use der_elem::Form;
-use der_fields::{DefaultNumber, DefaultOf, End, Explicit, Field, Implicit};
+use der_fields::{DefaultNumber, DefaultOf, Explicit, Implicit};
+use der_modules::tagged;
 use der_pkix::AlgorithmIdentifier;
 use der_pkix::certificate::{
     CertificateSerialNumber, Extensions, SubjectPublicKeyInfo, TbsCertificate, UniqueIdentifier,
@@ -70,10 +71,8 @@ impl<'a> Placed for TbsCertificate<'a> {
         no_more))))))))) };
 
     fn walk(&self, octets: &[u8], start: Place) -> TbsCertificatePlaces {
-        let first = self.version();
-        let tagged: Explicit<Version, 0> = Explicit {
-            fields: Field { first, rest: End },
-        };
+        let value = self.version();
+        let tagged: Explicit<Version, 0> = tagged!(Explicit, value);
         let is_default = <DefaultNumber<0> as DefaultOf<Explicit<Version, 0>>>::is_default(&tagged);
         let version = next_place(octets, start, !is_default);
         let serial_number = next_place(octets, version, true);

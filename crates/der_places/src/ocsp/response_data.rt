@@ -20,7 +20,8 @@ use crate::placed::Placed;
 use crate::presence::is_there;
 use crate::walk::next_place;
 use der_elem::Form;
-use der_fields::{DefaultNumber, DefaultOf, End, Explicit, Field};
+use der_fields::{DefaultNumber, DefaultOf, Explicit};
+use der_modules::tagged;
 use der_ocsp::ocsp::{ResponderId, ResponseData, SingleResponses, Version};
 use der_pkix::certificate::Extensions;
 use der_time::GeneralizedTime;
@@ -55,10 +56,8 @@ impl<'a> Placed for ResponseData<'a> {
         no_more)))) };
 
     fn walk(&self, octets: &[u8], start: Place) -> ResponseDataPlaces {
-        let first = self.version();
-        let tagged: Explicit<Version, 0> = Explicit {
-            fields: Field { first, rest: End },
-        };
+        let value = self.version();
+        let tagged: Explicit<Version, 0> = tagged!(Explicit, value);
         let is_default = <DefaultNumber<0> as DefaultOf<Explicit<Version, 0>>>::is_default(&tagged);
         let version = next_place(octets, start, !is_default);
         let responder_id = next_place(octets, version, true);

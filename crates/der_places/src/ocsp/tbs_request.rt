@@ -18,7 +18,8 @@ use crate::presence::is_there;
 use crate::walk::next_place;
 use der_elem::Form;
 use der_extensions::extension::GeneralName;
-use der_fields::{DefaultNumber, DefaultOf, End, Explicit, Field};
+use der_fields::{DefaultNumber, DefaultOf, Explicit};
+use der_modules::tagged;
 use der_ocsp::ocsp::{Requests, TbsRequest, Version};
 use der_pkix::certificate::Extensions;
 
@@ -49,10 +50,8 @@ impl<'a> Placed for TbsRequest<'a> {
         no_more))) };
 
     fn walk(&self, octets: &[u8], start: Place) -> TbsRequestPlaces {
-        let first = self.version();
-        let tagged: Explicit<Version, 0> = Explicit {
-            fields: Field { first, rest: End },
-        };
+        let value = self.version();
+        let tagged: Explicit<Version, 0> = tagged!(Explicit, value);
         let is_default = <DefaultNumber<0> as DefaultOf<Explicit<Version, 0>>>::is_default(&tagged);
         let version = next_place(octets, start, !is_default);
         let requestor_name = next_place(octets, version, is_there(self.requestor_name()));
