@@ -25,5 +25,5 @@ func (x *Items[T]) Next() bool {
 // Item gives what Next read.
 func (x *Items[T]) Item() T { return x.now }
 
-// Err says why one is refused: of a message that was read only where memory runs out (1).
+// Err says why one is refused. Of a message that was read none is.
 func (x *Items[T]) Err() error { return x.err }

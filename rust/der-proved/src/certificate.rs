@@ -15,7 +15,7 @@ impl<'a> Certificate<'a> {
     /// Reads octets as a certificate, all of them.
     ///
     /// # Errors
-    /// The first fault of the octets; 1 where memory runs out.
+    /// The first fault of the octets.
     pub fn from_der(octets: &'a [u8]) -> Result<Certificate<'a>, Error> {
         let at = read(sys::der_certificate, octets)?;
         Ok(Certificate { octets, at })

@@ -15,7 +15,7 @@ impl<'a> CertificateList<'a> {
     /// Reads octets as a list of revoked certificates, all of them.
     ///
     /// # Errors
-    /// The first fault of the octets; 1 where memory runs out.
+    /// The first fault of the octets.
     pub fn from_der(octets: &'a [u8]) -> Result<CertificateList<'a>, Error> {
         let at = read(sys::der_certificate_list, octets)?;
         Ok(CertificateList { octets, at })
@@ -70,7 +70,7 @@ pub struct RevokedCertificates<'a> {
 impl<'a> Iterator for RevokedCertificates<'a> {
     type Item = Result<RevokedCertificate<'a>, Error>;
 
-    /// The next one. After an error, of a list that was read where memory ran out (1), none follows.
+    /// The next one. Of a list that was read none is an error.
     fn next(&mut self) -> Option<Result<RevokedCertificate<'a>, Error>> {
         if self.left.is_empty() {
             return None;

@@ -40,7 +40,7 @@ impl<'a> SignedData<'a> {
     /// Reads octets as a SignedData, all of them.
     ///
     /// # Errors
-    /// The first fault of the octets; 1 where memory runs out.
+    /// The first fault of the octets.
     pub fn from_der(octets: &'a [u8]) -> Result<SignedData<'a>, Error> {
         let at = read(sys::der_signed_data, octets)?;
         Ok(SignedData { octets, at })

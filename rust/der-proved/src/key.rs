@@ -40,7 +40,7 @@ impl<'a> PrivateKeyInfo<'a> {
     /// Reads octets as a PrivateKeyInfo, all of them. The key itself is not read.
     ///
     /// # Errors
-    /// The first fault of the octets; 1 where memory runs out.
+    /// The first fault of the octets.
     pub fn from_der(octets: &'a [u8]) -> Result<PrivateKeyInfo<'a>, Error> {
         let at = read(sys::der_private_key_info, octets)?;
         Ok(PrivateKeyInfo { octets, at })

@@ -45,7 +45,7 @@ impl<'a> BasicOcspResponse<'a> {
     /// Reads octets as a BasicOCSPResponse, all of them.
     ///
     /// # Errors
-    /// The first fault of the octets; 1 where memory runs out.
+    /// The first fault of the octets.
     pub fn from_der(octets: &'a [u8]) -> Result<BasicOcspResponse<'a>, Error> {
         let at = read(sys::der_basic_ocsp_response, octets)?;
         Ok(BasicOcspResponse { octets, at })

@@ -78,7 +78,7 @@ macro_rules! items {
         impl<'a> Iterator for $items<'a> {
             type Item = Result<$item<'a>, crate::Error>;
 
-            /// The next one. After an error, of a message that was read where memory ran out (1), none follows.
+            /// The next one. Of a message that was read none is an error.
             fn next(&mut self) -> Option<Result<$item<'a>, crate::Error>> {
                 if self.left.is_empty() {
                     return None;

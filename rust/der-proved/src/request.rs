@@ -15,7 +15,7 @@ impl<'a> CertificationRequest<'a> {
     /// Reads octets as a CertificationRequest, all of them.
     ///
     /// # Errors
-    /// The first fault of the octets; 1 where memory runs out.
+    /// The first fault of the octets.
     pub fn from_der(octets: &'a [u8]) -> Result<CertificationRequest<'a>, Error> {
         let at = read(sys::der_certification_request, octets)?;
         Ok(CertificationRequest { octets, at })

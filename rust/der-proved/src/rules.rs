@@ -135,7 +135,7 @@ impl<R: Copy> Iterator for BrokenRules<R> {
 /// The rules that a certificate breaks, which all of the octets are.
 ///
 /// # Errors
-/// The first fault of the octets; 1 where memory runs out.
+/// The first fault of the octets.
 pub fn check_rfc5280(octets: &[u8]) -> Result<BrokenRules<CertificateRule>, Error> {
     let bits = read(sys::der_check_rfc5280, octets)?;
     Ok(BrokenRules { bits, left: CertificateRule::ALL })
@@ -144,7 +144,7 @@ pub fn check_rfc5280(octets: &[u8]) -> Result<BrokenRules<CertificateRule>, Erro
 /// The rules that a list of revoked certificates breaks, which all of the octets are.
 ///
 /// # Errors
-/// The first fault of the octets; 1 where memory runs out.
+/// The first fault of the octets.
 pub fn check_rfc5280_list(octets: &[u8]) -> Result<BrokenRules<ListRule>, Error> {
     let bits = read(sys::der_check_rfc5280_list, octets)?;
     Ok(BrokenRules { bits, left: ListRule::ALL })
