@@ -6,7 +6,7 @@ import difflib
 import re
 
 WIDTHS = tuple(f"{sign}{width}" for sign in "ui" for width in (8, 16, 32, 64, 128))
-NAMES = ("owned", "signed", "unsigned", *WIDTHS, "max", "any_order", "unread", "name", "type", "omit", "rust")
+NAMES = ("owned", "signed", "unsigned", *WIDTHS, "max", "any_order", "unchecked", "unread", "name", "type", "omit", "rust")
 ANNOTATION = re.compile(r"@([A-Za-z][A-Za-z0-9_-]*)(?:\(([^()]*)\))?")
 # How alike a word and an annotation are that it is taken for: '@ownd' is meant as '@owned', and '@see' as none.
 ALIKE = 0.75

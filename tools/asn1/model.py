@@ -40,15 +40,37 @@ class Whole(Enum):
     OBJECT_IDENTIFIER = "OBJECT IDENTIFIER"
     UTC_TIME = "UTCTime"
     GENERALIZED_TIME = "GeneralizedTime"
+    RELATIVE_OID = "RELATIVE-OID"
     UTF8_STRING = "UTF8String"
+    NUMERIC_STRING = "NumericString"
     PRINTABLE_STRING = "PrintableString"
     TELETEX_STRING = "TeletexString"
     VIDEOTEX_STRING = "VideotexString"
     IA5_STRING = "IA5String"
+    VISIBLE_STRING = "VisibleString"
     GENERAL_STRING = "GeneralString"
     BMP_STRING = "BMPString"
     ANY = "ANY"
     UNREAD_SEQUENCE = "a SEQUENCE that is not read"
+
+
+class Measure(Enum):
+    """What a constraint speaks of; the value is for messages."""
+
+    NUMBER = "numbers"
+    SIZE = "sizes"
+    CHARACTER = "characters"
+
+
+@dataclass(frozen=True)
+class Allowed:
+    """The values that a constraint allows: those whose number, size or characters are in runs from one number to another, or
+    those that any or all of several constraints allow."""
+
+    measure: Measure | None = None
+    runs: tuple[tuple[int, int], ...] = ()
+    any_of: tuple["Allowed", ...] = ()
+    all_of: tuple["Allowed", ...] = ()
 
 
 @dataclass(frozen=True)
@@ -59,6 +81,7 @@ class Leaf:
     is_owned: bool = False
     width: str | None = None  # of a machine integer: "u8"
     octets: int | None = None  # of an object identifier: how many contents octets it may have
+    allowed: Allowed | None = None  # the values that are read, where not all are
 
 
 @dataclass(frozen=True)

@@ -16,6 +16,7 @@ KNOWN: dict[str, tuple[str | None, str]] = {
     **{width: (None, f"an INTEGER as {width}") for width in WIDTHS},
     "max": (r"[1-9][0-9]*", "how many contents octets an OBJECT IDENTIFIER may have"),
     "any_order": (None, "the items of a SET OF stand in the order in which they came"),
+    "unchecked": (None, "the values that a constraint excludes are read"),
     "unread": (None, "it is not read, and its octets are kept"),
     "name": (r"[A-Za-z][A-Za-z0-9_]*", "its name in Rattle"),
     "type": (r"[A-Z][A-Za-z0-9]*", "the name in Rattle of the type that is written out here"),

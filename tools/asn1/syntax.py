@@ -205,6 +205,7 @@ class Simple(Enum):
     OCTET_STRING = "OCTET STRING"
     UTC_TIME = "UTCTime"
     GENERALIZED_TIME = "GeneralizedTime"
+    RELATIVE_OID = "RELATIVE-OID"
     UTF8_STRING = "UTF8String"
     NUMERIC_STRING = "NumericString"
     PRINTABLE_STRING = "PrintableString"
@@ -215,6 +216,7 @@ class Simple(Enum):
     VISIBLE_STRING = "VisibleString"
     GENERAL_STRING = "GeneralString"
     UNIVERSAL_STRING = "UniversalString"
+    OBJECT_DESCRIPTOR = "ObjectDescriptor"
     BMP_STRING = "BMPString"
 
 
@@ -461,3 +463,4 @@ class Module:
     exports: tuple[Token, ...] | None
     assignments: tuple[Assignment, ...]
     file: str = field(default="")
+    is_unchecked: bool = False  # whether constraints are read and not checked

@@ -1,12 +1,16 @@
 -- The types of Shapes.
 -- Made by tools/asn1 from shapes.asn1.
+pub mod Bounded
 pub mod General
 pub mod Grammar
 pub mod Label
 pub mod Labels
+pub mod Limited
 pub mod Lists
 pub mod Marks
 pub mod Mixed
+pub mod Note
+pub mod Notes
 pub mod Numbers
 pub mod Ordered
 pub mod Pair

@@ -1,5 +1,6 @@
 //! Values of each shape, read and written back, and octets that are refused.
 
+mod constrained;
 mod empty;
 mod fields;
 mod lists;
@@ -7,6 +8,7 @@ mod ordering;
 mod owning;
 mod reading;
 mod refusing;
+mod simple;
 
 use der_elem::{DerOrd, Duplicate, Encode, FromDer};
 use der_tlv::Error;

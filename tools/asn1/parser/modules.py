@@ -4,6 +4,7 @@ from __future__ import annotations
 
 from ..errors import AsnError
 from ..lexer import Kind, Token
+from ..notes import Notes
 from ..syntax import (
     Arc,
     Assignment,
@@ -26,6 +27,7 @@ def parse_module(file: str, text: str) -> Module:
     """The one module of a file."""
     cursor = Cursor(file, text)
     header = parse_header(cursor)
+    is_unchecked = parse_begin(cursor)
     exports = parse_exports(cursor)
     imports = parse_imports(cursor)
     assignments = []
@@ -34,7 +36,7 @@ def parse_module(file: str, text: str) -> Module:
     if cursor.peek().kind is not Kind.END:
         cursor.fail(f"{cursor.peek()} stands after the END of the module", "write each module in a file of its own")
     name, identifier, tag_default = header
-    return Module(name.place, name.text, identifier, tag_default, imports, exports, tuple(assignments), file)
+    return Module(name.place, name.text, identifier, tag_default, imports, exports, tuple(assignments), file, is_unchecked)
 
 
 def parse_header(cursor: Cursor) -> tuple[Token, tuple[Arc, ...], TagDefault]:
@@ -49,8 +51,17 @@ def parse_header(cursor: Cursor) -> tuple[Token, tuple[Arc, ...], TagDefault]:
     if cursor.sees("EXTENSIBILITY"):
         cursor.fail("EXTENSIBILITY IMPLIED is not taken", "write '...' where a type may get additions")
     cursor.expect("::=", "write '::= BEGIN' after the header")
-    cursor.expect("BEGIN", "write '::= BEGIN' after the header")
     return name, identifier, tag_default
+
+
+def parse_begin(cursor: Cursor) -> bool:
+    """`BEGIN`, and whether '@unchecked' stands after it, which is said of the whole module."""
+    with cursor.collecting() as annotations:
+        cursor.expect("BEGIN", "write '::= BEGIN' after the header")
+    notes = Notes(tuple(annotations))
+    is_unchecked = notes.has("unchecked")
+    notes.check_used("a module")
+    return is_unchecked
 
 
 def parse_identifier(cursor: Cursor) -> tuple[Arc, ...]:

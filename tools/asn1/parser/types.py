@@ -45,8 +45,6 @@ REFUSED = {
     "EMBEDDED": "write the SEQUENCE of X.680 36.5 out",
     "CHARACTER": "write the SEQUENCE of X.680 44.5 out",
     "INSTANCE": "write 'SEQUENCE { type-id OBJECT IDENTIFIER, value [0] EXPLICIT ANY }' with the tag [UNIVERSAL 8]",
-    "RELATIVE-OID": "there is no type for RELATIVE-OID: write ANY",
-    "ObjectDescriptor": "there is no type for ObjectDescriptor: write ANY",
     "MACRO": "write the types of the macro's values out (X.208 annex A is withdrawn)",
 }
 

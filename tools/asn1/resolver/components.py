@@ -92,7 +92,7 @@ def one_field(context: Context, part: Component, rust: str) -> Field:
     """One field or alternative."""
     notes = Notes(part.annotations)
     rust = notes.argument("name") or rust
-    inner = replace(context, inner=context.inner + camel(part.name), notes=notes)
+    inner = replace(context, inner=context.inner + camel(part.name), notes=notes, checks=part.default is None)
     found = types.resolve_type(inner, part.type)
     presence, default = Presence.ALWAYS, None
     if part.optional:

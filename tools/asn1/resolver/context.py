@@ -71,6 +71,7 @@ class Context:
     inner: str  # the name in Rattle of a type that is written out here
     notes: Notes
     remarks: list[str]  # what the documentation of the definition says of it
+    checks: bool = True  # whether constraints are checked here
 
     def within(self, env: Env) -> "Context":
         return replace(self, env=env)

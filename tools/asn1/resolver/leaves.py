@@ -22,16 +22,16 @@ from ..syntax import (
 )
 from ..values import numbers_of
 from .context import Context
+from .subsets import narrowed
 
 # An object identifier has 39 contents octets, as those of the crate `der`, where no annotation says another number.
 OCTETS_OF_AN_IDENTIFIER = 39
 
-# Types that the library lacks.
+# Types whose universal tags the library refuses, as the crate `der` does, and these tags.
 LACKING = {
-    Simple.NUMERIC_STRING: "NumericString",
-    Simple.GRAPHIC_STRING: "GraphicString",
-    Simple.VISIBLE_STRING: "VisibleString",
-    Simple.UNIVERSAL_STRING: "UniversalString",
+    Simple.OBJECT_DESCRIPTOR: 7,
+    Simple.GRAPHIC_STRING: 25,
+    Simple.UNIVERSAL_STRING: 28,
 }
 ALWAYS_OWNED = frozenset([Simple.BMP_STRING])
 NEVER_OWNED = frozenset(
@@ -42,6 +42,9 @@ NEVER_OWNED = frozenset(
         Simple.GENERALIZED_TIME,
         Simple.VIDEOTEX_STRING,
         Simple.GENERAL_STRING,
+        Simple.NUMERIC_STRING,
+        Simple.VISIBLE_STRING,
+        Simple.RELATIVE_OID,
     ]
 )
 
@@ -51,18 +54,24 @@ def simple(context: Context, type_: SimpleType, constraints: tuple[Constraint, .
     if type_.simple in LACKING:
         raise AsnError(
             type_.place,
-            f"there is no type for {LACKING[type_.simple]}",
-            "write ANY where it may stand, or '-- @unread' or '-- @omit' where that serves",
+            f"there is no type for {type_.simple.value}: its tag [UNIVERSAL {LACKING[type_.simple]}] is refused (5)",
+            "write '-- @omit' after the assignment that has it",
         )
-    for constraint in constraints:
-        remark_on(context, constraint)
     octets = None
     if type_.simple is Simple.OBJECT_IDENTIFIER:
         octets = int(context.notes.argument("max") or OCTETS_OF_AN_IDENTIFIER)
     is_owned = type_.simple in ALWAYS_OWNED
     if type_.simple not in NEVER_OWNED | ALWAYS_OWNED:
         is_owned = context.notes.has("owned")
-    return Leaf(WHOLES[type_.simple], is_owned, None, octets)
+    return checked(context, Leaf(WHOLES[type_.simple], is_owned, None, octets), constraints, {})
+
+
+def checked(context: Context, leaf: Leaf, constraints: tuple[Constraint, ...], named: dict[str, int]) -> Leaf:
+    """A type with the constraints that are checked, and a remark on each other one."""
+    leaf, left = narrowed(context, leaf, constraints, named)
+    for constraint in left:
+        remark_on(context, constraint)
+    return leaf
 
 
 def any_value(context: Context, type_: AnyType, constraints: tuple[Constraint, ...]) -> Leaf:
@@ -77,14 +86,13 @@ def bit_string(
     context: Context, type_: BitStringType, constraints: tuple[Constraint, ...]
 ) -> tuple[Leaf, tuple[Named, ...]]:
     """BIT STRING, with the names of its bits."""
-    for constraint in constraints:
-        remark_on(context, constraint)
     bits = numbers_of(context.state.library, context.env, type_.named)
     negative = [name for name, number in bits.items() if number < 0]
     if negative:
         raise AsnError(type_.place, f"the bit '{negative[0]}' has a negative number", "number bits from 0")
     whole = Whole.NAMED_BITS if bits else Whole.BIT_STRING
-    return Leaf(whole, not bits and context.notes.has("owned")), tuple(Named(*one) for one in bits.items())
+    leaf = checked(context, Leaf(whole, not bits and context.notes.has("owned")), constraints, {})
+    return leaf, tuple(Named(*one) for one in bits.items())
 
 
 def integer(
@@ -99,12 +107,12 @@ def integer(
     asked = context.notes.one_of([*MACHINE, "signed", "unsigned"])
     if asked in MACHINE:
         assert asked is not None
-        return asked_width(context, type_, asked, bounds, numbers), names
+        check_width(context, type_, asked, bounds, numbers)
+        return machine_integer(context, type_, asked, bounds, constraints, numbers), names
     width = None if asked else width_of(bounds, numbers)
     if width is not None:
-        remark_on_bounds(context, type_, width, bounds)
         remark_on_names(context, type_, width, bounds)
-        return Leaf(Whole.MACHINE_INTEGER, width=width), names
+        return machine_integer(context, type_, width, bounds, constraints, numbers), names
     is_natural = asked == "unsigned" or (asked is None and bounds.low is not None and bounds.low >= 0)
     if not bounds.exact or bounds not in (FREE, Bounds(0, None)):
         context.remark(type_.place, f"INTEGER of any length: {bounds_text(bounds)} is not checked")
@@ -119,10 +127,29 @@ def width_of(bounds: Bounds, numbers: dict[str, int]) -> str | None:
     return narrowest(bounds)
 
 
-def asked_width(
-    context: Context, type_: IntegerType, width: str, bounds: Bounds, numbers: dict[str, int]
+def machine_integer(
+    context: Context,
+    type_: IntegerType,
+    width: str,
+    bounds: Bounds,
+    constraints: tuple[Constraint, ...],
+    numbers: dict[str, int],
 ) -> Leaf:
-    """The machine integer that an annotation says, which has to have the names' numbers."""
+    """A machine integer, of which the constraints that are checked may exclude some numbers."""
+    leaf, left = narrowed(context, Leaf(Whole.MACHINE_INTEGER, width=width), constraints, numbers)
+    if left == constraints:
+        if bounds.low is not None and bounds.high is not None:
+            remark_on_bounds(context, type_, width, bounds)
+    else:
+        for constraint in left:
+            remark_on(context, constraint)
+    return leaf
+
+
+def check_width(
+    context: Context, type_: IntegerType, width: str, bounds: Bounds, numbers: dict[str, int]
+) -> None:
+    """The machine integer that an annotation says has to have the names' numbers, and all numbers within bounds."""
     for name, number in numbers.items():
         if not holds(width, Bounds(number, number)):
             raise AsnError(type_.place, f"'@{width}' has no {number}, which is '{name}'", "write a wider one")
@@ -132,9 +159,6 @@ def asked_width(
         )
     if bounds.low is None or bounds.high is None:
         context.remark(type_.place, f"INTEGER as {width}: other numbers are refused")
-    else:
-        remark_on_bounds(context, type_, width, bounds)
-    return Leaf(Whole.MACHINE_INTEGER, width=width)
 
 
 def remark_on_bounds(context: Context, type_: IntegerType, width: str, bounds: Bounds) -> None:

@@ -178,5 +178,5 @@ def leaf_key(leaf: Leaf) -> str:
     if leaf.whole is Whole.MACHINE_INTEGER:
         return leaf.width or "u8"
     if leaf.whole in CHARACTERS:
-        return "CharacterString" if leaf.is_owned else "CharacterStringRef"
+        return CHARACTERS[leaf.whole][0] + ("" if leaf.is_owned else "Ref")
     return WHOLES[leaf.whole][1 if leaf.is_owned else 0]

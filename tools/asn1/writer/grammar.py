@@ -7,6 +7,8 @@ the prover refuses.
 
 from __future__ import annotations
 
+from dataclasses import replace
+
 from .. import as_written
 from ..as_written import Key, Part, default_number, key_of
 from ..model import (
@@ -45,7 +47,8 @@ from ..syntax import (
 )
 from ..values import number_of
 from .alternatives import halves
-from .names import ASN1, LISTS, PARSES, WORDS
+from .constraints import allowed_term
+from .names import ASN1, CONSTRAINT_WORDS, LISTS, PARSES, WORDS
 from .plan import Plan
 from .source import Page
 from .types import CHARACTERS, closed
@@ -58,6 +61,7 @@ LIBRARY = frozenset(
     {name for _, name in WORDS.values()}
     | {name for _, _, name in PARSES.values()}
     | set(CLASSES.values())
+    | set(CONSTRAINT_WORDS)
     | set("any_of end explicit_encoding field implicit_encoding joined one optional parse_of unless_default".split())
 )
 
@@ -238,7 +242,10 @@ class GrammarPage:
         return name
 
     def leaf(self, leaf: Leaf) -> str:
-        """A type of the library."""
+        """A type of the library, of which a constraint may allow some values."""
+        if leaf.allowed is not None:
+            inner = self.leaf(replace(leaf, allowed=None))
+            return f"{self.constraint_word('ALLOWED')} {closed(allowed_term(self, leaf, leaf.allowed))} {closed(inner)}"
         if leaf.whole is Whole.MACHINE_INTEGER:
             width = leaf.width or "u8"
             parse = "signed" if width[0] == "i" else "unsigned"
@@ -249,8 +256,14 @@ class GrammarPage:
         if leaf.whole is Whole.OBJECT_IDENTIFIER:
             return self.leaf_word(f"{name}_{leaf.octets}", tag, module, f"{parse} {leaf.octets}")
         if leaf.whole in CHARACTERS:
-            parse = f"{parse} {CHARACTERS[leaf.whole]}"
+            parse = f"{parse} {CHARACTERS[leaf.whole][1]}"
         return self.leaf_word(name, tag, module, parse)
+
+    def constraint_word(self, name: str) -> str:
+        """A word of the library's constraints."""
+        if name in CONSTRAINT_WORDS:
+            return self.page.from_module(CONSTRAINT_WORDS[name], name)
+        return self.page.word(name)
 
     def leaf_word(self, name: str, tag: str, module: str, parse: str) -> str:
         """A word of the page for a type of the library."""

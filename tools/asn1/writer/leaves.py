@@ -2,8 +2,11 @@
 
 from __future__ import annotations
 
+from dataclasses import replace
+
 from ..model import Leaf, Whole
 from ..properties import properties_of
+from .constraints import constraint_type
 from .source import Source
 
 # The library's type of each type of ASN.1: borrowed, and owned.
@@ -23,20 +26,29 @@ WHOLES: dict[Whole, tuple[str, str]] = {
     Whole.VIDEOTEX_STRING: ("VideotexStringRef", "VideotexString"),
     Whole.IA5_STRING: ("Ia5StringRef", "Ia5String"),
     Whole.GENERAL_STRING: ("GeneralStringOctets", "GeneralStringOctets"),
+    Whole.NUMERIC_STRING: ("NumericStringRef", "NumericStringRef"),
+    Whole.VISIBLE_STRING: ("VisibleStringRef", "VisibleStringRef"),
+    Whole.RELATIVE_OID: ("RelativeOidRef", "RelativeOidRef"),
     Whole.BMP_STRING: ("BmpString", "BmpString"),
     Whole.ANY: ("AnyRef", "Any"),
     Whole.UNREAD_SEQUENCE: ("SequenceRef", "SequenceRef"),
 }
-# Strings that are one type of the library, by the universal number.
+# Strings that are a type of the library with a universal number, and both.
 CHARACTERS = {
-    Whole.PRINTABLE_STRING: 19,
-    Whole.TELETEX_STRING: 20,
-    Whole.VIDEOTEX_STRING: 21,
-    Whole.IA5_STRING: 22,
+    Whole.NUMERIC_STRING: ("SimpleString", 18),
+    Whole.PRINTABLE_STRING: ("CharacterString", 19),
+    Whole.TELETEX_STRING: ("CharacterString", 20),
+    Whole.VIDEOTEX_STRING: ("CharacterString", 21),
+    Whole.IA5_STRING: ("CharacterString", 22),
+    Whole.VISIBLE_STRING: ("SimpleString", 26),
 }
 
 
 def rust_leaf(source: Source, leaf: Leaf) -> str:
+    """A type of the library, of which a constraint may allow some values."""
+    if leaf.allowed is not None:
+        inner = rust_leaf(source, replace(leaf, allowed=None))
+        return f"{source.use('Constrained')}<{inner}, {constraint_type(source, leaf.allowed)}>"
     if leaf.whole is Whole.BOOLEAN:
         return "bool"
     if leaf.whole is Whole.MACHINE_INTEGER:

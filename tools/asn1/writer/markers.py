@@ -31,6 +31,7 @@ MARKERS = {
     Whole.UTC_TIME: "UtcTimeTag",
     Whole.GENERALIZED_TIME: "GeneralizedTimeTag",
     Whole.UTF8_STRING: "Utf8StringTag",
+    Whole.RELATIVE_OID: "RelativeOidTag",
     Whole.GENERAL_STRING: "GeneralStringTag",
     Whole.BMP_STRING: "BmpStringTag",
     Whole.UNREAD_SEQUENCE: "SequenceTag",
@@ -61,7 +62,8 @@ def of_type(source: Source, type_: Resolved) -> str:
     """The marker of a type with one tag."""
     if isinstance(type_, Leaf):
         if type_.whole in CHARACTERS:
-            return f"{source.use('CharacterStringTag')}<{CHARACTERS[type_.whole]}>"
+            kind, number = CHARACTERS[type_.whole]
+            return f"{source.use(kind + 'Tag')}<{number}>"
         return source.use(MARKERS[type_.whole])
     if isinstance(type_, Listed):
         return source.use("SetTag" if type_.is_set else "SequenceTag")

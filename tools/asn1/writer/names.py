@@ -7,6 +7,18 @@ from __future__ import annotations
 
 # ---- items of Rust: the crate (or module) that has them, and their names
 
+# The library's types of constraints, and the file of each.
+CONSTRAINTS = {
+    "Constrained": "constrained",
+    "AnyOf": "constraint",
+    "AllOf": "constraint",
+    "InRange": "integers",
+    "HasSize": "sizes",
+    "HasCharacters": "alphabets",
+    "CharacterRange": "alphabets",
+    "CharacterUnion": "alphabets",
+}
+
 RUST: dict[str, tuple[str, str]] = {
     # the traits of types, and the tags
     "Choice": ("der_elem", "Choice"),
@@ -71,6 +83,7 @@ RUST: dict[str, tuple[str, str]] = {
     "WithDefault": ("der_fields", "WithDefault"),
     "cmp_headers": ("der_fields", "cmp_headers"),
     "Choosing": ("der_modules", "Choosing"),
+    **{name: ("der_constrained", name) for name in CONSTRAINTS},
     "CopyLaws": ("der_modules", "CopyLaws"),
     "Member": ("der_modules", "Member"),
     "copy_of": ("der_modules", "copy_of"),
@@ -95,13 +108,17 @@ RUST: dict[str, tuple[str, str]] = {
     "Int": ("der_numbers", "Int"),
     "IntRef": ("der_numbers", "IntRef"),
     "Null": ("der_opaque", "Null"),
+    "NumericStringRef": ("der_simple", "NumericStringRef"),
     "ObjectIdentifier": ("der_opaque", "ObjectIdentifier"),
     "ObjectIdentifierRef": ("der_opaque", "ObjectIdentifierRef"),
     "OctetString": ("der_opaque", "OctetString"),
     "OctetStringRef": ("der_opaque", "OctetStringRef"),
     "PrintableString": ("der_ascii", "PrintableString"),
     "PrintableStringRef": ("der_ascii", "PrintableStringRef"),
+    "RelativeOidRef": ("der_simple", "RelativeOidRef"),
+    "RelativeOidTag": ("der_simple", "RelativeOidTag"),
     "SequenceRef": ("der_nest", "SequenceRef"),
+    "SimpleStringTag": ("der_simple", "SimpleStringTag"),
     "ListRef": ("der_lists", "ListRef"),
     "NonEmptyRef": ("der_lists", "NonEmptyRef"),
     "SetRef": ("der_lists", "SetRef"),
@@ -113,6 +130,7 @@ RUST: dict[str, tuple[str, str]] = {
     "UtcTime": ("der_time", "UtcTime"),
     "Utf8StringRef": ("der_text", "Utf8StringRef"),
     "VideotexStringRef": ("der_ascii", "VideotexStringRef"),
+    "VisibleStringRef": ("der_simple", "VisibleStringRef"),
     # readers and writers
     "BackWriter": ("der_tlv", "BackWriter"),
     "Error": ("der_tlv", "Error"),
@@ -265,10 +283,18 @@ MEMBERS: dict[str, str] = {
 ASN1 = "der_modules.specs.Asn1"
 LISTS = "der_lists.specs.Asn1"  # those of lists
 
+# The words of constraints, and the module of each.
+CONSTRAINT_WORDS = {
+    **dict.fromkeys(["ALLOWED", "union", "intersection"], "der_constrained.specs.Asn1"),
+    "range": "der_constrained.specs.Integers",
+    **dict.fromkeys(["size_in_bits", "size_in_characters", "size_in_octets"], "der_constrained.specs.Sizes"),
+    **dict.fromkeys(["characters", "either_set", "permitted"], "der_constrained.specs.Alphabets"),
+}
+
 PARSES: dict[str, tuple[str, str, str]] = {
     "ANY": ("", "der_opaque.specs.AnyForm", "parse_any"),
     "BIT_STRING": ("BitString", "der_bits.specs.BitString", "parse_bit_string"),
-    "BMP_STRING": ("BmpString", "der_text.specs.BmpString", "parse_bmp"),
+    "BMP_STRING": ("BmpString", "der_text.specs.BmpUnits", "parse_bmp"),
     "BOOLEAN": ("Boolean", "der_elem.specs.Boolean", "parse_boolean"),
     "NAMED_BITS": ("BitString", "der_bits.specs.NamedBits", "parse_named_bits"),
     "GENERALIZED_TIME": ("GeneralizedTime", "der_time.specs.TimeReading", "parse_generalized"),
@@ -277,14 +303,17 @@ PARSES: dict[str, tuple[str, str, str]] = {
     "INTEGER": ("Integer", "der_numbers.specs.AnyLength", "parse_integer"),
     "NATURAL": ("Integer", "der_numbers.specs.AnyLength", "parse_natural"),
     "NULL": ("Null", "der_elem.specs.Null", "parse_null"),
+    "NUMERIC_STRING": ("NumericString", "der_simple.specs.Characters", "parse_simple_string"),
     "OBJECT_IDENTIFIER": ("ObjectIdentifier", "der_opaque.specs.ObjectIdentifierOctets", "parse_identifier"),
     "OCTET_STRING": ("OctetString", "der_opaque.specs.Opaque", "parse_octets"),
     "PRINTABLE_STRING": ("PrintableString", "der_ascii.specs.Characters", "parse_string"),
+    "RELATIVE_OID": ("RelativeOid", "der_simple.specs.Arcs", "parse_arcs"),
     "TELETEX_STRING": ("TeletexString", "der_ascii.specs.Characters", "parse_string"),
     "UNREAD_SEQUENCE": ("Sequence", "der_opaque.specs.Opaque", "parse_octets"),
     "UTC_TIME": ("UtcTime", "der_time.specs.TimeReading", "parse_utc"),
     "UTF8_STRING": ("Utf8String", "der_elem.specs.Utf8String", "parse_utf8"),
     "VIDEOTEX_STRING": ("VideotexString", "der_ascii.specs.Characters", "parse_string"),
+    "VISIBLE_STRING": ("VisibleString", "der_simple.specs.Characters", "parse_simple_string"),
     "signed": ("Integer", "der_elem.specs.IntegerReading", "parse_signed"),
     "unsigned": ("Integer", "der_elem.specs.IntegerReading", "parse_unsigned"),
 }
@@ -309,7 +338,9 @@ LAWS: dict[str, tuple[str, str]] = {
     "ObjectIdentifierRef": ("der_opaque.specs.contracts.object_identifier_ref", "ObjectIdentifierRef"),
     "OctetString": ("der_opaque.specs.contracts.octet_string", "OctetString"),
     "OctetStringRef": ("der_opaque.specs.contracts.octet_string_ref", "OctetStringRef"),
+    "RelativeOidRef": ("der_simple.specs.contracts.relative_oid", "RelativeOidRef"),
     "SequenceRef": ("der_nest.specs.contracts.sequence_ref", "SequenceRef"),
+    "SimpleStringRef": ("der_simple.specs.contracts.string_ref", "SimpleStringRef"),
     "String": ("der_elem.specs.contracts.string", "String"),
     "Uint": ("der_numbers.specs.contracts.uint", "Uint"),
     "UintRef": ("der_numbers.specs.contracts.uint_ref", "UintRef"),
@@ -327,6 +358,7 @@ LOGIC: dict[str, tuple[str | None, str]] = {
     "unsigned": ("std.specs.Prelude", "ℕ"),
     "signed": ("std.specs.Prelude", "ℤ"),
     "Option": ("std.specs.Prelude", "Option"),
+    **{name: (f"der_constrained.specs.declared.{file}.{name}", name) for name, file in CONSTRAINTS.items()},
     "Any": ("der_opaque.specs.declared.any.Any", "Any"),
     "AnyRef": ("der_opaque.specs.declared.any_ref.AnyRef", "AnyRef"),
     "BitString": ("der_bits.specs.declared.bit_string.BitString", "BitString"),
@@ -359,7 +391,9 @@ LOGIC: dict[str, tuple[str | None, str]] = {
     "OneOf": ("der_fields.specs.declared.one_of.OneOf", "OneOf"),
     "First": ("der_fields.specs.declared.one_of.OneOf.TheVariants", "First"),
     "Other": ("der_fields.specs.declared.one_of.OneOf.TheVariants", "Other"),
+    "RelativeOidRef": ("der_simple.specs.declared.relative_oid.RelativeOidRef", "RelativeOidRef"),
     "SequenceRef": ("der_nest.specs.declared.sequence_ref.SequenceRef", "SequenceRef"),
+    "SimpleStringRef": ("der_simple.specs.declared.string_ref.SimpleStringRef", "SimpleStringRef"),
     "Uint": ("der_numbers.specs.declared.uint.Uint", "Uint"),
     "UintRef": ("der_numbers.specs.declared.uint_ref.UintRef", "UintRef"),
     "UtcTime": ("der_time.specs.declared.utc_time.UtcTime", "UtcTime"),

@@ -2,9 +2,12 @@
 
 from __future__ import annotations
 
+from dataclasses import replace
+
 from ..model import Alias, Enumeration, Field, Leaf, Listed, NameOf, Presence, Resolved, Tag, Tagged, Use, Whole
 from ..properties import properties_of, properties_of_definition
 from ..syntax import TagClass
+from .constraints import logic_constraint
 from .leaves import CHARACTERS, WHOLES, lifetime_of, rust_leaf
 from .source import Page, Source
 
@@ -151,13 +154,16 @@ def logic_tagged(page: Page, tag: Tag, is_explicit: bool, inner: str) -> str:
 
 
 def logic_leaf(page: Page, leaf: Leaf) -> str:
+    if leaf.allowed is not None:
+        inner = closed(logic_leaf(page, replace(leaf, allowed=None)))
+        return f"{page.logic('Constrained')} {inner} {closed(logic_constraint(page, leaf.allowed))}"
     if leaf.whole is Whole.BOOLEAN:
         return page.logic("bool")
     if leaf.whole is Whole.MACHINE_INTEGER:
         return page.logic("signed" if (leaf.width or "u8").startswith("i") else "unsigned")
     if leaf.whole in CHARACTERS:
-        kind = page.logic("CharacterString" if leaf.is_owned else "CharacterStringRef")
-        return f"{kind} {CHARACTERS[leaf.whole]}"
+        name, number = CHARACTERS[leaf.whole]
+        return f"{page.logic(name + ('' if leaf.is_owned else 'Ref'))} {number}"
     name = page.logic(WHOLES[leaf.whole][1 if leaf.is_owned else 0])
     return f"{name} {leaf.octets}" if leaf.whole is Whole.OBJECT_IDENTIFIER else name
 

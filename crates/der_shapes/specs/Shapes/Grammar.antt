@@ -1,12 +1,17 @@
 -- The grammar of Shapes, in the words of ASN.1.
 -- Made by tools/asn1 from shapes.asn1.
-use Rattle.std.specs.Prelude.{false, true}
+use Rattle.std.specs.Prelude.{false, negsuc, pos, true}
 use Rattle.der_ascii.specs.Characters.{parse_string}
 use Rattle.der_bits.specs.BitString.{parse_bit_string}
+use Rattle.der_constrained.specs.Alphabets.{characters, either_set, permitted}
+use Rattle.der_constrained.specs.Asn1.{ALLOWED, intersection, union}
+use Rattle.der_constrained.specs.Integers.{range}
+use Rattle.der_constrained.specs.Sizes.{size_in_bits, size_in_characters, size_in_octets}
 use Rattle.der_elem.specs.Boolean.{boolean_contents, parse_boolean}
 use Rattle.der_elem.specs.Integer.{natural_contents}
 use Rattle.der_elem.specs.IntegerReading.{parse_signed, parse_unsigned}
 use Rattle.der_elem.specs.Null.{parse_null}
+use Rattle.der_elem.specs.Utf8String.{parse_utf8}
 use Rattle.der_fields.specs.MarkerTags.{marker_tag}
 use Rattle.der_lists.specs.Asn1.{SEQUENCE_OF, SET_OF, SET_OF_ANY_ORDER}
 use Rattle.der_modules.specs.Asn1.{CHOICE, DEFAULT, EXPLICIT, Grammar, IMPLICIT, NOT_EMPTY, OPTIONAL, SEQUENCE, SET, any_of, application, context, end, field, one, private}
@@ -14,6 +19,8 @@ use Rattle.der_numbers.specs.AnyLength.{parse_integer, parse_natural}
 use Rattle.der_opaque.specs.AnyForm.{parse_any}
 use Rattle.der_opaque.specs.ObjectIdentifierOctets.{parse_identifier}
 use Rattle.der_opaque.specs.Opaque.{parse_octets}
+use Rattle.der_simple.specs.Arcs.{parse_arcs}
+use Rattle.der_simple.specs.Characters.{parse_simple_string}
 use Rattle.der_time.specs.TimeReading.{parse_generalized}
 use Rattle.der_tlv.specs.HeaderOctets.{tlv}
 use Rattle.der_tlv.specs.TagParts.{is_constructed}
@@ -49,11 +56,26 @@ NATURAL = one tags.Integer parse_natural
 abbrev pub NULL : Grammar
 NULL = one tags.Null parse_null
 
+abbrev pub NUMERIC_STRING : Grammar
+NUMERIC_STRING = one tags.NumericString (parse_simple_string 18)
+
 abbrev pub OBJECT_IDENTIFIER_39 : Grammar
 OBJECT_IDENTIFIER_39 = one tags.ObjectIdentifier (parse_identifier 39)
 
 abbrev pub OCTET_STRING : Grammar
 OCTET_STRING = one tags.OctetString parse_octets
+
+abbrev pub PRINTABLE_STRING : Grammar
+PRINTABLE_STRING = one tags.PrintableString (parse_string 19)
+
+abbrev pub RELATIVE_OID : Grammar
+RELATIVE_OID = one tags.RelativeOid parse_arcs
+
+abbrev pub UTF8_STRING : Grammar
+UTF8_STRING = one tags.Utf8String parse_utf8
+
+abbrev pub VISIBLE_STRING : Grammar
+VISIBLE_STRING = one tags.VisibleString (parse_simple_string 26)
 
 -- Pair ::= SEQUENCE {
 --     type   OBJECT IDENTIFIER,
@@ -202,3 +224,68 @@ labels =
     (OPTIONAL (EXPLICIT context 1 OCTET_STRING)
     (DEFAULT (tlv tags.Boolean (boolean_contents false)) BOOLEAN
     end))))
+
+-- Notes ::= SEQUENCE {
+--     digits  NumericString,
+--     text    [0] VisibleString OPTIONAL,
+--     arcs    [1] EXPLICIT RELATIVE-OID OPTIONAL,
+--     lines   SEQUENCE OF VisibleString }
+abbrev pub notes : Grammar
+notes =
+    SEQUENCE
+    (field NUMERIC_STRING
+    (OPTIONAL (IMPLICIT context 0 VISIBLE_STRING)
+    (OPTIONAL (EXPLICIT context 1 RELATIVE_OID)
+    (field (SEQUENCE_OF VISIBLE_STRING)
+    end))))
+
+-- Note ::= CHOICE {
+--     digits  NumericString,
+--     text    VisibleString,
+--     arcs    RELATIVE-OID }
+abbrev pub note : Grammar
+note =
+    CHOICE
+    (CHOICE
+    NUMERIC_STRING
+    VISIBLE_STRING)
+    RELATIVE_OID
+
+-- Small ::= INTEGER (-5..10)
+abbrev pub small : Grammar
+small =
+    ALLOWED (range (negsuc 4) (pos 10)) INTEGER_i8
+
+-- Code ::= PrintableString (SIZE (2..3)) (FROM ("A".."Z" | "0".."9"))
+abbrev pub code : Grammar
+code =
+    ALLOWED (intersection (size_in_octets 2 3) (permitted (either_set (characters 48 57) (characters 65 90)))) PRINTABLE_STRING
+
+-- Bounded ::= SEQUENCE {
+--     small   Small,
+--     few     [0] INTEGER (1 | 3..5) OPTIONAL,
+--     code    Code,
+--     octets  [1] EXPLICIT OCTET STRING (SIZE (2 | 4)) OPTIONAL,
+--     bits    BIT STRING (SIZE (3..9)),
+--     text    UTF8String (SIZE (1..4)),
+--     list    SEQUENCE OF INTEGER (0..9) }
+abbrev pub bounded : Grammar
+bounded =
+    SEQUENCE
+    (field small
+    (OPTIONAL (IMPLICIT context 0 (ALLOWED (union (range (pos 1) (pos 1)) (range (pos 3) (pos 5))) INTEGER_u8))
+    (field code
+    (OPTIONAL (EXPLICIT context 1 (ALLOWED (union (size_in_octets 2 2) (size_in_octets 4 4)) OCTET_STRING))
+    (field (ALLOWED (size_in_bits 3 9) BIT_STRING)
+    (field (ALLOWED (size_in_characters 1 4) UTF8_STRING)
+    (field (SEQUENCE_OF (ALLOWED (range (pos 0) (pos 9)) INTEGER_u8))
+    end)))))))
+
+-- Limited ::= CHOICE {
+--     number  INTEGER (0..99 EXCEPT 50),
+--     text    [0] VisibleString (FROM ("a".."f") ^ SIZE (1..2)) }
+abbrev pub limited : Grammar
+limited =
+    CHOICE
+    (ALLOWED (union (range (pos 0) (pos 49)) (range (pos 51) (pos 99))) INTEGER_u8)
+    (IMPLICIT context 0 (ALLOWED (intersection (permitted (characters 97 102)) (size_in_octets 1 2)) VISIBLE_STRING))

@@ -1,0 +1,6 @@
+pub mod Allowed
+pub mod Integers
+pub mod Sizes
+pub mod Alphabets
+pub mod Constrained
+pub mod Asn1

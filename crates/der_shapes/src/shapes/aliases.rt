@@ -1,0 +1,39 @@
+//! Second names of types in Shapes.
+//!
+//! Made by tools/asn1 from shapes.asn1.
+
+ghost use Rattle.std.specs.Prelude.{◌≡◌};
+ghost use Rattle.der_modules.specs.Asn1.{parse_of};
+ghost use Rattle.der_shapes.specs.Shapes.Grammar.{code, small};
+
+use der_ascii::PrintableStringRef;
+use der_constrained::{
+    AllOf, CharacterRange, CharacterUnion, Constrained, HasCharacters, HasSize, InRange,
+};
+use der_elem::Form;
+
+/// ```text
+/// Small ::= INTEGER (-5..10)
+/// ```
+pub type Small = Constrained<i8, InRange<-5, 10>>;
+
+/// What is read as `Small` is what the page of the grammar says.
+pub fn grammar_of_small()
+    ensures { ⟦<Small as Form>⟧.parse ≡ parse_of small }
+{}
+
+/// ```text
+/// Code ::= PrintableString (SIZE (2..3)) (FROM ("A".."Z" | "0".."9"))
+/// ```
+pub type Code<'a> = Constrained<
+    PrintableStringRef<'a>,
+    AllOf<
+        HasSize<2, 3>,
+        HasCharacters<CharacterUnion<CharacterRange<48, 57>, CharacterRange<65, 90>>>,
+    >,
+>;
+
+/// What is read as `Code` is what the page of the grammar says.
+pub fn grammar_of_code<'a>()
+    ensures { ⟦<Code<'a> as Form>⟧.parse ≡ parse_of code }
+{}

@@ -1,0 +1,38 @@
+-- RELATIVE-OID: its arcs, each in base 128 (X.690 8.20).
+use Rattle.std.specs.Prelude.{◌≡◌, ◌⊎◌, ℕ, ◌<◌, ◌≤◌, ◌^◌, ◌==◌, ◌&&◌, not, nat_le, nat_lt, Bool, true, false, if◌then◌else◌, List, [], ◌∷◌, length, Result, Ok, Err}
+use Rattle.std.proofs.Common.{ap, ◌∙◌, refl}
+use Rattle.der_tlv.specs.declared.error.ErrorKind.TheVariants as kinds
+use Rattle.der_tlv.specs.declared.error.Error.{Error}
+use Rattle.der_tlv.specs.declared.tag.Tag.TheVariants.{RelativeOid}
+use Rattle.der_tlv.specs.declared.encoding_rules.EncodingRules.{EncodingRules}
+use Rattle.der_tlv.specs.OctetFaults.{IsOfOctets, of_octets_either}
+use Rattle.der_elem.specs.Parsing.{ContentsParse}
+
+-- whether octets are the rest of arcs, where an arc has begun or not: bit 8 is set in all octets of an arc
+-- but the last, and no arc begins with 80, so that each has the fewest octets (X.690 8.19.2)
+unfoldable pub are_arcs_after : Bool → List ℕ → Bool
+are_arcs_after true [] = false
+are_arcs_after false [] = true
+are_arcs_after true (octet ∷ octets) = are_arcs_after (nat_le 128 octet) octets
+are_arcs_after false (octet ∷ octets) = not (octet == 128) && are_arcs_after (nat_le 128 octet) octets
+
+-- whether octets are one arc or more (X.680 32.3)
+abbrev pub are_arcs : List ℕ → Bool
+are_arcs octets = nat_lt 0 (length octets) && are_arcs_after false octets
+
+-- octets that are arcs are read as they are, and else refused (13)
+abbrev pub parse_arcs : ContentsParse
+parse_arcs rules p octets = if are_arcs octets then Ok octets else Err (kinds.Value RelativeOid)
+
+-- an identifier that keeps these octets, or (13) where they are no arcs, or more than a length can count
+abbrev pub KeepsArcs : {T : Type 0} → (T → List ℕ) → List ℕ → Result T Error → Type 0
+KeepsArcs contents octets (Ok v) = (contents v ≡ octets) × (are_arcs octets ≡ true) × (length octets < 2 ^ 32)
+KeepsArcs contents octets (Err e) = (e.kind ≡ kinds.Value RelativeOid) × ((are_arcs octets ≡ false) ⊎ (2 ^ 32 ≤ length octets))
+
+-- arcs are parsed as they are
+pub parse_of_arcs : (rules : EncodingRules) (p : ℕ) (octets c : List ℕ) → are_arcs octets ≡ true → c ≡ octets → parse_arcs rules p c ≡ Ok octets
+parse_of_arcs rules p octets c all e = ap (parse_arcs rules p) e ∙ rw all refl
+
+-- the faults are of the octets
+pub arcs_of_octets : (rules : EncodingRules) (p : ℕ) (octets : List ℕ) → IsOfOctets (parse_arcs rules p octets)
+arcs_of_octets rules p octets = of_octets_either (are_arcs octets) (Ok octets) (Err (kinds.Value RelativeOid)) tt refl
