@@ -17,11 +17,11 @@ pub trait Constraint<T: FormValue> {
 }
 
 /// `A | B`: the values that either constraint allows.
-pub struct AnyOf<A, B> {
+pub struct UnionOf<A, B> {
     constraints: PhantomData<(A, B)>,
 }
 
-impl<T: FormValue, A: Constraint<T>, B: Constraint<T>> Constraint<T> for AnyOf<A, B> {
+impl<T: FormValue, A: Constraint<T>, B: Constraint<T>> Constraint<T> for UnionOf<A, B> {
     ghost allows = { union A.allows B.allows };
 
     fn allows(value: &T) -> bool {
@@ -30,11 +30,11 @@ impl<T: FormValue, A: Constraint<T>, B: Constraint<T>> Constraint<T> for AnyOf<A
 }
 
 /// `A ^ B`: the values that both constraints allow.
-pub struct AllOf<A, B> {
+pub struct IntersectionOf<A, B> {
     constraints: PhantomData<(A, B)>,
 }
 
-impl<T: FormValue, A: Constraint<T>, B: Constraint<T>> Constraint<T> for AllOf<A, B> {
+impl<T: FormValue, A: Constraint<T>, B: Constraint<T>> Constraint<T> for IntersectionOf<A, B> {
     ghost allows = { intersection A.allows B.allows };
 
     fn allows(value: &T) -> bool {

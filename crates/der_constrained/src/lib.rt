@@ -19,6 +19,6 @@ mod sizes;
 
 pub use alphabets::{CharacterSet, CharacterRange, CharacterUnion, HasCharacters};
 pub use constrained::Constrained;
-pub use constraint::{AllExcept, Constraint, AllOf, AnyOf};
+pub use constraint::{AllExcept, Constraint, IntersectionOf, UnionOf};
 pub use integers::InRange;
 pub use sizes::HasSize;

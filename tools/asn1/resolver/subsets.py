@@ -2,9 +2,11 @@
 
 from __future__ import annotations
 
+from dataclasses import replace
+
 from ..bounds import MACHINE, bounds_of
 from ..errors import AsnError
-from ..model import Allowed, Leaf, Measure, Whole
+from ..model import Alias, Allowed, Leaf, Measure, Resolved, Tagged, Use, Whole
 from ..syntax import Alphabet, Combined, Constraint, Range, SingleValue, Size, TextValue
 from .context import Context
 
@@ -47,6 +49,33 @@ def narrowed(
         else:
             leaf = found
     return leaf, tuple(left)
+
+
+def narrowed_name(
+    context: Context, found: Use, constraints: tuple[Constraint, ...]
+) -> tuple[Resolved, tuple[Constraint, ...]]:
+    """The same of a type that has a name, which stays where nothing is checked: else it is the library's type after its tags."""
+    named: dict[str, int] = {}
+    tags: list[Tagged] = []
+    type_: Resolved | None = found
+    while isinstance(type_, (Use, Tagged)):
+        if isinstance(type_, Tagged):
+            tags.append(type_)
+            type_ = type_.of
+        elif isinstance(type_.definition, Alias):
+            named |= {one.name: one.number for one in type_.definition.numbers}
+            type_ = type_.definition.type
+        else:
+            return found, constraints
+    if not isinstance(type_, Leaf):
+        return found, constraints
+    leaf, left = narrowed(context, type_, constraints, named)
+    if leaf == type_:
+        return found, left
+    inner: Resolved = leaf
+    for tag in reversed(tags):
+        inner = replace(tag, of=inner)
+    return inner, left
 
 
 def constrained(context: Context, leaf: Leaf, constraint: Constraint, named: dict[str, int]) -> Leaf | None:

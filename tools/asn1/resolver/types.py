@@ -30,6 +30,7 @@ from ..values import number_of
 from . import definitions, leaves
 from .classes import base_of, bind, has_type_parameter, is_untagged_choice, type_of_field
 from .context import Context
+from .subsets import narrowed_name
 
 Constraints = tuple[Constraint, ...]
 
@@ -159,11 +160,19 @@ def referred(context: Context, type_: ReferenceType, constraints: Constraints) -
     inner = bind(env, scope, assignment, type_)
     if has_type_parameter(library, env, assignment, type_) and not is_written_out(context.within(inner), assignment.type):
         return resolve_type(context.within(inner), assignment.type, constraints)
-    for constraint in constraints:
-        leaves.remark_on(context, constraint)
     if has_type_parameter(library, env, assignment, type_):
-        return Use(written_out(context, type_, ()))
-    return Use(definitions.definition_of(context.state, inner, assignment, type_.place))
+        found = Use(written_out(context, type_, ()))
+    else:
+        found = Use(definitions.definition_of(context.state, inner, assignment, type_.place))
+    return constrained(context, found, constraints)
+
+
+def constrained(context: Context, found: Use, constraints: Constraints) -> Resolved:
+    """A type that has a name, with constraints after it: the library's type that it is, where they are checked."""
+    type_, left = narrowed_name(context, found, constraints)
+    for constraint in left:
+        leaves.remark_on(context, constraint)
+    return type_
 
 
 def is_written_out(context: Context, type_: Type) -> bool:

@@ -6,12 +6,14 @@ import unittest
 
 from ..model import (
     Alias,
+    Allowed,
     Choice,
     Definition,
     Enumeration,
     Leaf,
     List,
     Listed,
+    Measure,
     Presence,
     Struct,
     Tag,
@@ -92,7 +94,9 @@ class NumbersByName(unittest.TestCase):
             with self.subTest(text):
                 self.assertEqual(leaf(f"{VALUES}A ::= INTEGER {text}").width, width)
         self.assertEqual(remarks(VALUES + "A ::= INTEGER (zero..top)"), [])
-        said = remarks(VALUES + "A ::= INTEGER (three..also-seven)")
+        found = leaf(f"{VALUES}A ::= INTEGER (three..also-seven)").allowed
+        self.assertEqual(found, Allowed(Measure.NUMBER, ((3, 7),)))
+        said = remarks(VALUES + "A ::= INTEGER (three..also-seven) -- @unchecked")
         self.assertEqual([text.split(" ", 1)[1] for text in said], ["INTEGER as u8: (3..7) is not checked"])
 
     def test_of_an_enumeration(self) -> None:

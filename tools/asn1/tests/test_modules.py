@@ -5,7 +5,7 @@ from __future__ import annotations
 import unittest
 
 from ..crates import entries_of
-from ..model import Alias, Choice, Constant, Definition, Leaf, List, ResolvedModule, Struct, Tagged, Use, Whole
+from ..model import Alias, Allowed, Choice, Constant, Definition, Leaf, List, Measure, ResolvedModule, Struct, Tagged, Use, Whole
 from ..properties import Properties, properties_of_definition, tags_of
 from .helpers import MODULES, resolved, standard
 
@@ -116,7 +116,8 @@ class Others(unittest.TestCase):
         found = modules("SNMPv2-PDU")["SNMPv2-PDU"]
         self.assertEqual([part.rust for part in struct(found, "VarBind").fields], ["name", "choice"])
         request = struct(found, "Pdu").fields[0].type
-        self.assertEqual(request, Leaf(Whole.MACHINE_INTEGER, width="i32"))
+        allowed = Allowed(Measure.NUMBER, ((-214783648, 214783647),))
+        self.assertEqual(request, Leaf(Whole.MACHINE_INTEGER, width="i32", allowed=allowed))
         pdus = definition(found, "Pdus")
         assert isinstance(pdus, Choice)
         self.assertEqual([min(tags_of(part.type) or []).number for part in pdus.alternatives], [0, 1, 5, 2, 3, 6, 7, 8])

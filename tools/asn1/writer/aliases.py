@@ -2,7 +2,7 @@
 
 from __future__ import annotations
 
-from ..model import Alias, Constant, Definition, Named
+from ..model import Alias, Constant, Definition, Leaf, Named
 from ..properties import properties_of_definition
 from ..spelling import screaming
 from . import docs
@@ -26,22 +26,16 @@ def write_aliases(plan: Plan, target: Target, aliases: list[Definition], name: s
         source.add(f"{docs.of_definition(alias)}\npub type {alias.rust}{lifetime} = {type_};")
         add_laws(source, alias)
         for one in alias.numbers:
-            source.add(number(alias, one, rust_type(source, alias.type)))
+            source.add(number(alias, one))
         for one in alias.bits:
             source.add(bit(alias, one))
     return source.text([f"//! Second names of types in {name}."])
 
 
-def number(alias: Alias, one: Named, type_: str) -> str:
-    """A named number, where the type is a machine integer."""
-    if not type_[0] in "iu" or not type_[1:].isdigit():
-        return docs_only(alias, one)
-    return f"/// `{one.name}` of `{alias.name}`.\npub const {constant_name(alias, one)}: {type_} = {one.number};"
-
-
-def docs_only(alias: Alias, one: Named) -> str:
-    """A named number of an INTEGER of any length, as its only contents octets could be written."""
-    return f"/// `{one.name}` of `{alias.name}`.\npub const {constant_name(alias, one)}: i64 = {one.number};"
+def number(alias: Alias, one: Named) -> str:
+    """A named number, as the machine integer that the type is; of an INTEGER of any length as an `i64`."""
+    width = alias.type.width if isinstance(alias.type, Leaf) else None
+    return f"/// `{one.name}` of `{alias.name}`.\npub const {constant_name(alias, one)}: {width or 'i64'} = {one.number};"
 
 
 def bit(alias: Alias, one: Named) -> str:

@@ -25,16 +25,16 @@ def constraint_type(source: Source, allowed: Allowed) -> str:
     """The type that names a constraint."""
     if allowed.measure is None:
         parts = [constraint_type(source, part) for part in allowed.any_of or allowed.all_of]
-        return nested(source.use("AnyOf" if allowed.any_of else "AllOf"), parts)
+        return nested(source.use("UnionOf" if allowed.any_of else "IntersectionOf"), parts)
     marker = source.use(MARKERS[allowed.measure])
     runs = [f"{marker}<{low}, {high}>" for low, high in allowed.runs]
     if allowed.measure is Measure.CHARACTER:
         return f"{source.use('HasCharacters')}<{nested('CharacterUnion', runs, source)}>"
-    return nested("AnyOf", runs, source)
+    return nested("UnionOf", runs, source)
 
 
 def nested(outer: str, parts: list[str], source: Source | None = None) -> str:
-    """Two at a time: `AnyOf<A, AnyOf<B, C>>`."""
+    """Two at a time: `UnionOf<A, UnionOf<B, C>>`."""
     if len(parts) == 1:
         return parts[0]
     name = outer if source is None else source.use(outer)
@@ -48,14 +48,14 @@ def logic_constraint(page: Page, allowed: Allowed) -> str:
     """The same type as the logic has it."""
     if allowed.measure is None:
         parts = [logic_constraint(page, part) for part in allowed.any_of or allowed.all_of]
-        return joined(page.logic("AnyOf" if allowed.any_of else "AllOf"), parts)
+        return joined(page.logic("UnionOf" if allowed.any_of else "IntersectionOf"), parts)
     marker = page.logic(MARKERS[allowed.measure])
     is_number = allowed.measure is Measure.NUMBER
     runs = [f"{marker} {end(page, low, is_number)} {end(page, high, is_number)}" for low, high in allowed.runs]
     if allowed.measure is Measure.CHARACTER:
         found = runs[0] if len(runs) == 1 else joined(page.logic("CharacterUnion"), runs)
         return f"{page.logic('HasCharacters')} ({found})"
-    return runs[0] if len(runs) == 1 else joined(page.logic("AnyOf"), runs)
+    return runs[0] if len(runs) == 1 else joined(page.logic("UnionOf"), runs)
 
 
 def joined(outer: str, parts: list[str]) -> str:

@@ -10,8 +10,8 @@ from __future__ import annotations
 # The library's types of constraints, and the file of each.
 CONSTRAINTS = {
     "Constrained": "constrained",
-    "AnyOf": "constraint",
-    "AllOf": "constraint",
+    "UnionOf": "constraint",
+    "IntersectionOf": "constraint",
     "InRange": "integers",
     "HasSize": "sizes",
     "HasCharacters": "alphabets",

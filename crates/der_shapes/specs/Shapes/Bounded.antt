@@ -7,8 +7,8 @@ use Rattle.der_constrained.specs.declared.alphabets.CharacterRange.{CharacterRan
 use Rattle.der_constrained.specs.declared.alphabets.CharacterUnion.{CharacterUnion}
 use Rattle.der_constrained.specs.declared.alphabets.HasCharacters.{HasCharacters}
 use Rattle.der_constrained.specs.declared.constrained.Constrained.{Constrained}
-use Rattle.der_constrained.specs.declared.constraint.AllOf.{AllOf}
-use Rattle.der_constrained.specs.declared.constraint.AnyOf.{AnyOf}
+use Rattle.der_constrained.specs.declared.constraint.IntersectionOf.{IntersectionOf}
+use Rattle.der_constrained.specs.declared.constraint.UnionOf.{UnionOf}
 use Rattle.der_constrained.specs.declared.integers.InRange.{InRange}
 use Rattle.der_constrained.specs.declared.sizes.HasSize.{HasSize}
 use Rattle.der_lists.specs.declared.list_ref.ListRef.{ListRef}
@@ -21,15 +21,15 @@ abbrev pub small : Bounded → Constrained ℤ (InRange (negsuc 4) (pos 10))
 small v = v.fields.list.first
 
 -- few [0] INTEGER (1 | 3..5) OPTIONAL
-abbrev pub few : Bounded → Option (Constrained ℕ (AnyOf (InRange (pos 1) (pos 1)) (InRange (pos 3) (pos 5))))
+abbrev pub few : Bounded → Option (Constrained ℕ (UnionOf (InRange (pos 1) (pos 1)) (InRange (pos 3) (pos 5))))
 few v = option_map (λ x. x.value) v.fields.list.rest.first
 
 -- code Code
-abbrev pub code : Bounded → Constrained (CharacterStringRef 19) (AllOf (HasSize 2 3) (HasCharacters (CharacterUnion (CharacterRange 48 57) (CharacterRange 65 90))))
+abbrev pub code : Bounded → Constrained (CharacterStringRef 19) (IntersectionOf (HasSize 2 3) (HasCharacters (CharacterUnion (CharacterRange 48 57) (CharacterRange 65 90))))
 code v = v.fields.list.rest.rest.first
 
 -- octets [1] EXPLICIT OCTET STRING (SIZE (2 | 4)) OPTIONAL
-abbrev pub octets : Bounded → Option (Constrained OctetStringRef (AnyOf (HasSize 2 2) (HasSize 4 4)))
+abbrev pub octets : Bounded → Option (Constrained OctetStringRef (UnionOf (HasSize 2 2) (HasSize 4 4)))
 octets v = option_map (λ x. x.fields.first) v.fields.list.rest.rest.rest.first
 
 -- bits BIT STRING (SIZE (3..9))

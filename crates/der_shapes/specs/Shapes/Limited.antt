@@ -4,8 +4,8 @@ use Rattle.std.specs.Prelude.{pos, ℕ}
 use Rattle.der_constrained.specs.declared.alphabets.CharacterRange.{CharacterRange}
 use Rattle.der_constrained.specs.declared.alphabets.HasCharacters.{HasCharacters}
 use Rattle.der_constrained.specs.declared.constrained.Constrained.{Constrained}
-use Rattle.der_constrained.specs.declared.constraint.AllOf.{AllOf}
-use Rattle.der_constrained.specs.declared.constraint.AnyOf.{AnyOf}
+use Rattle.der_constrained.specs.declared.constraint.IntersectionOf.{IntersectionOf}
+use Rattle.der_constrained.specs.declared.constraint.UnionOf.{UnionOf}
 use Rattle.der_constrained.specs.declared.integers.InRange.{InRange}
 use Rattle.der_constrained.specs.declared.sizes.HasSize.{HasSize}
 use Rattle.der_fields.specs.declared.implicit.ImplicitIn.{ImplicitIn}
@@ -15,6 +15,6 @@ use Rattle.der_shapes.specs.declared.shapes.limited.Limited.{Limited}
 use Rattle.der_shapes.specs.declared.shapes.limited.Limited.TheVariants as of
 use Rattle.der_simple.specs.declared.string_ref.SimpleStringRef.{SimpleStringRef}
 
-abbrev pub tree_of : Limited → (OneOf (Constrained ℕ (AnyOf (InRange (pos 0) (pos 49)) (InRange (pos 51) (pos 99)))) (ImplicitIn (Constrained (SimpleStringRef 26) (AllOf (HasCharacters (CharacterRange 97 102)) (HasSize 1 2))) 2 0))
+abbrev pub tree_of : Limited → (OneOf (Constrained ℕ (UnionOf (InRange (pos 0) (pos 49)) (InRange (pos 51) (pos 99)))) (ImplicitIn (Constrained (SimpleStringRef 26) (IntersectionOf (HasCharacters (CharacterRange 97 102)) (HasSize 1 2))) 2 0))
 tree_of (of.Number v) = First v
 tree_of (of.Text v) = Other v

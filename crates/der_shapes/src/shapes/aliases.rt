@@ -8,7 +8,7 @@ ghost use Rattle.der_shapes.specs.Shapes.Grammar.{code, small};
 
 use der_ascii::PrintableStringRef;
 use der_constrained::{
-    AllOf, CharacterRange, CharacterUnion, Constrained, HasCharacters, HasSize, InRange,
+    CharacterRange, CharacterUnion, Constrained, HasCharacters, HasSize, InRange, IntersectionOf,
 };
 use der_elem::Form;
 
@@ -27,7 +27,7 @@ pub fn grammar_of_small()
 /// ```
 pub type Code<'a> = Constrained<
     PrintableStringRef<'a>,
-    AllOf<
+    IntersectionOf<
         HasSize<2, 3>,
         HasCharacters<CharacterUnion<CharacterRange<48, 57>, CharacterRange<65, 90>>>,
     >,

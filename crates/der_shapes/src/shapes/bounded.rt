@@ -12,7 +12,7 @@ ghost use Rattle.der_shapes.specs.declared.shapes.bounded.Bounded.{Bounded};
 
 use crate::shapes::aliases::{Code, Small};
 use der_bits::BitStringRef;
-use der_constrained::{AnyOf, Constrained, HasSize, InRange};
+use der_constrained::{Constrained, HasSize, InRange, UnionOf};
 use der_elem::{
     ContentsEq, CopyIsDuplicate, DecodeValue, EncodeValue, Form, FormValue, OneTag, Sequence,
     SequenceTag, TagMarker, ValueOrd,
@@ -30,9 +30,9 @@ use std::fmt;
 /// The list of the fields.
 type Fields<'a> = Fields7<
     Small,
-    Option<Implicit<Constrained<u8, AnyOf<InRange<1, 1>, InRange<3, 5>>>, 0>>,
+    Option<Implicit<Constrained<u8, UnionOf<InRange<1, 1>, InRange<3, 5>>>, 0>>,
     Code<'a>,
-    Option<Explicit<Constrained<OctetStringRef<'a>, AnyOf<HasSize<2, 2>, HasSize<4, 4>>>, 1>>,
+    Option<Explicit<Constrained<OctetStringRef<'a>, UnionOf<HasSize<2, 2>, HasSize<4, 4>>>, 1>>,
     Constrained<BitStringRef<'a>, HasSize<3, 9>>,
     Constrained<Utf8StringRef<'a>, HasSize<1, 4>>,
     ListRef<'a, Constrained<u8, InRange<0, 9>>>,
@@ -62,9 +62,9 @@ impl<'a> Bounded<'a> {
     /// A value of these fields.
     pub fn new(
         small: Small,
-        few: Option<Constrained<u8, AnyOf<InRange<1, 1>, InRange<3, 5>>>>,
+        few: Option<Constrained<u8, UnionOf<InRange<1, 1>, InRange<3, 5>>>>,
         code: Code<'a>,
-        octets: Option<Constrained<OctetStringRef<'a>, AnyOf<HasSize<2, 2>, HasSize<4, 4>>>>,
+        octets: Option<Constrained<OctetStringRef<'a>, UnionOf<HasSize<2, 2>, HasSize<4, 4>>>>,
         bits: Constrained<BitStringRef<'a>, HasSize<3, 9>>,
         text: Constrained<Utf8StringRef<'a>, HasSize<1, 4>>,
         list_: &ListRef<'a, Constrained<u8, InRange<0, 9>>>,
@@ -98,7 +98,7 @@ impl<'a> Bounded<'a> {
     }
 
     /// `few`, `[0] INTEGER (1 | 3..5) OPTIONAL`.
-    pub fn few(&self) -> Option<Constrained<u8, AnyOf<InRange<1, 1>, InRange<3, 5>>>>
+    pub fn few(&self) -> Option<Constrained<u8, UnionOf<InRange<1, 1>, InRange<3, 5>>>>
         ensures { result ≡ bounded_fields.few self.now }
     {
         if_present!(value in self.fields.list.rest.first => value.value)
@@ -114,7 +114,7 @@ impl<'a> Bounded<'a> {
     /// `octets`, `[1] EXPLICIT OCTET STRING (SIZE (2 | 4)) OPTIONAL`.
     pub fn octets(
         &self,
-    ) -> Option<&Constrained<OctetStringRef<'a>, AnyOf<HasSize<2, 2>, HasSize<4, 4>>>>
+    ) -> Option<&Constrained<OctetStringRef<'a>, UnionOf<HasSize<2, 2>, HasSize<4, 4>>>>
         ensures { option_copied result ≡ bounded_fields.octets self.now }
     {
         if_present!(value in &self.fields.list.rest.rest.rest.first => &value.fields.first)
@@ -206,9 +206,9 @@ impl<'a> ValueOrd for Bounded<'a> {
 impl<'a> Member for Bounded<'a> {
     ghost member = { struct_member ⟦<SequenceTag as TagMarker>⟧.TAG (λ v. v.fields.list)
         (field ⟦<Small as Member>⟧.member
-        (optional_field ⟦<Implicit<Constrained<u8, AnyOf<InRange<1, 1>, InRange<3, 5>>>, 0> as Member>⟧.member
+        (optional_field ⟦<Implicit<Constrained<u8, UnionOf<InRange<1, 1>, InRange<3, 5>>>, 0> as Member>⟧.member
         (field ⟦<Code<'a> as Member>⟧.member
-        (optional_field ⟦<Explicit<Constrained<OctetStringRef<'a>, AnyOf<HasSize<2, 2>, HasSize<4, 4>>>, 1> as Member>⟧.member
+        (optional_field ⟦<Explicit<Constrained<OctetStringRef<'a>, UnionOf<HasSize<2, 2>, HasSize<4, 4>>>, 1> as Member>⟧.member
         (field ⟦<Constrained<BitStringRef<'a>, HasSize<3, 9>> as Member>⟧.member
         (field ⟦<Constrained<Utf8StringRef<'a>, HasSize<1, 4>> as Member>⟧.member
         (field ⟦<ListRef<'a, Constrained<u8, InRange<0, 9>>> as Member>⟧.member
@@ -231,9 +231,9 @@ pub fn grammar_of_bounded<'a>()
 pub fn octets_of_bounded<'a>()
     ensures { (v : Bounded) → ⟦<Bounded<'a> as FormValue>⟧.value.contents v ≡ joined (
         (⟦<Small as Form>⟧.encoding (bounded_fields.small v))
-        ∷ optional (λ x. (implicit_encoding context false 0 (⟦<Constrained<u8, AnyOf<InRange<1, 1>, InRange<3, 5>>> as FormValue>⟧.value.contents x))) (bounded_fields.few v)
+        ∷ optional (λ x. (implicit_encoding context false 0 (⟦<Constrained<u8, UnionOf<InRange<1, 1>, InRange<3, 5>>> as FormValue>⟧.value.contents x))) (bounded_fields.few v)
         ∷ (⟦<Code<'a> as Form>⟧.encoding (bounded_fields.code v))
-        ∷ optional (λ x. (explicit_encoding context 1 (⟦<Constrained<OctetStringRef<'a>, AnyOf<HasSize<2, 2>, HasSize<4, 4>>> as Form>⟧.encoding x))) (bounded_fields.octets v)
+        ∷ optional (λ x. (explicit_encoding context 1 (⟦<Constrained<OctetStringRef<'a>, UnionOf<HasSize<2, 2>, HasSize<4, 4>>> as Form>⟧.encoding x))) (bounded_fields.octets v)
         ∷ (⟦<Constrained<BitStringRef<'a>, HasSize<3, 9>> as Form>⟧.encoding (bounded_fields.bits v))
         ∷ (⟦<Constrained<Utf8StringRef<'a>, HasSize<1, 4>> as Form>⟧.encoding (bounded_fields.text v))
         ∷ (⟦<ListRef<'a, Constrained<u8, InRange<0, 9>>> as Form>⟧.encoding (bounded_fields.list v))

@@ -16,7 +16,9 @@ ghost use Rattle.der_shapes.specs.Shapes.Limited.{tree_of};
 ghost use Rattle.der_shapes.specs.contracts.shapes.limited.LimitedEq.TheImpl.Laws as limited_eq;
 ghost use Rattle.der_shapes.specs.declared.shapes.limited.Limited.TheVariants as of;
 
-use der_constrained::{AllOf, AnyOf, CharacterRange, Constrained, HasCharacters, HasSize, InRange};
+use der_constrained::{
+    CharacterRange, Constrained, HasCharacters, HasSize, InRange, IntersectionOf, UnionOf,
+};
 use der_elem::{
     Choice, Decode, DecodeField, DerOrd, Duplicate, DuplicateIsEqual, EncodeValue, EncodingEq,
     Form, FormValue, KnownTags, Tagged,
@@ -30,11 +32,11 @@ use std::cmp::Ordering;
 
 /// The alternatives, as a tree.
 type Tree<'a> = OneOf<
-    Constrained<u8, AnyOf<InRange<0, 49>, InRange<51, 99>>>,
+    Constrained<u8, UnionOf<InRange<0, 49>, InRange<51, 99>>>,
     Implicit<
         Constrained<
             VisibleStringRef<'a>,
-            AllOf<HasCharacters<CharacterRange<97, 102>>, HasSize<1, 2>>,
+            IntersectionOf<HasCharacters<CharacterRange<97, 102>>, HasSize<1, 2>>,
         >,
         0,
     >,
@@ -51,13 +53,13 @@ type Tree<'a> = OneOf<
 #[derive(Clone, Copy, Debug, PartialEq, Eq)]
 pub enum Limited<'a> {
     /// `number`, `INTEGER (0..99 EXCEPT 50)`.
-    Number(Constrained<u8, AnyOf<InRange<0, 49>, InRange<51, 99>>>),
+    Number(Constrained<u8, UnionOf<InRange<0, 49>, InRange<51, 99>>>),
     /// `text`, `[0] VisibleString (FROM (a..f) ^ SIZE (1..2))`.
     Text(
         Implicit<
             Constrained<
                 VisibleStringRef<'a>,
-                AllOf<HasCharacters<CharacterRange<97, 102>>, HasSize<1, 2>>,
+                IntersectionOf<HasCharacters<CharacterRange<97, 102>>, HasSize<1, 2>>,
             >,
             0,
         >,
@@ -120,7 +122,7 @@ impl<'a> Tagged for Limited<'a> {
 
     ghost encoding_is = { ⟦<Limited<'a> as Choosing>⟧.choice.has_tag.encoding_is };
 
-    ghost accepted_is_tlv = { λ rules v b. elim v as (λ k. ⟦<Tree<'a> as Form>⟧.accepts rules (tree_of k) b → IsTlv b) [ of.Number x ↦ λ a. tlv_tagged _ ⟦<Constrained<u8, AnyOf<InRange<0, 49>, InRange<51, 99>>> as FormValue>⟧.value.accepts rules x b a.0 | of.Text x ↦ λ a. tlv_tagged _ ⟦<Implicit<Constrained<VisibleStringRef<'a>, AllOf<HasCharacters<CharacterRange<97, 102>>, HasSize<1, 2>>>, 0> as FormValue>⟧.value.accepts rules x b a.0 ] };
+    ghost accepted_is_tlv = { λ rules v b. elim v as (λ k. ⟦<Tree<'a> as Form>⟧.accepts rules (tree_of k) b → IsTlv b) [ of.Number x ↦ λ a. tlv_tagged _ ⟦<Constrained<u8, UnionOf<InRange<0, 49>, InRange<51, 99>>> as FormValue>⟧.value.accepts rules x b a.0 | of.Text x ↦ λ a. tlv_tagged _ ⟦<Implicit<Constrained<VisibleStringRef<'a>, IntersectionOf<HasCharacters<CharacterRange<97, 102>>, HasSize<1, 2>>>, 0> as FormValue>⟧.value.accepts rules x b a.0 ] };
 
     ghost own_tag = { ⟦<Limited<'a> as Choosing>⟧.choice.has_tag.own_tag };
 
@@ -146,7 +148,7 @@ impl<'a> KnownTags for Limited<'a> {
 
     ghost MAY_BE_ABSENT = { false };
 
-    ghost are_known = { (known_either ⟦<Constrained<u8, AnyOf<InRange<0, 49>, InRange<51, 99>>> as KnownTags>⟧.known_tags ⟦<Implicit<Constrained<VisibleStringRef<'a>, AllOf<HasCharacters<CharacterRange<97, 102>>, HasSize<1, 2>>>, 0> as KnownTags>⟧.known_tags ⟦<Constrained<u8, AnyOf<InRange<0, 49>, InRange<51, 99>>> as Form>⟧.tags ⟦<Implicit<Constrained<VisibleStringRef<'a>, AllOf<HasCharacters<CharacterRange<97, 102>>, HasSize<1, 2>>>, 0> as Form>⟧.tags (own_is_known _) (own_is_known _)) };
+    ghost are_known = { (known_either ⟦<Constrained<u8, UnionOf<InRange<0, 49>, InRange<51, 99>>> as KnownTags>⟧.known_tags ⟦<Implicit<Constrained<VisibleStringRef<'a>, IntersectionOf<HasCharacters<CharacterRange<97, 102>>, HasSize<1, 2>>>, 0> as KnownTags>⟧.known_tags ⟦<Constrained<u8, UnionOf<InRange<0, 49>, InRange<51, 99>>> as Form>⟧.tags ⟦<Implicit<Constrained<VisibleStringRef<'a>, IntersectionOf<HasCharacters<CharacterRange<97, 102>>, HasSize<1, 2>>>, 0> as Form>⟧.tags (own_is_known _) (own_is_known _)) };
 
     ghost is_there = { λ e v. elim v as (λ k. HasFirstTag (⟦<Tree<'a> as Form>⟧.first_tag_of (tree_of k))) [ of.Number x ↦ record { tag = _; is_tag = refl } | of.Text x ↦ record { tag = _; is_tag = refl } ] };
 }

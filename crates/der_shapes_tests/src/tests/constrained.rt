@@ -1,7 +1,7 @@
 //! Types of which a constraint allows some values: as fields, items, alternatives and by themselves.
 
 use super::{again, compared, holds, is_copied, numbered, same, same_in};
-use der_constrained::{AllExcept, AllOf, Constrained, InRange};
+use der_constrained::{AllExcept, IntersectionOf, Constrained, InRange};
 use der_elem::{Encode, FromDer};
 use der_shapes::shapes::{Bounded, Code, Limited, Small};
 use std::alloc::Global;
@@ -13,7 +13,7 @@ use std::test::Fail;
 type Row = (&'static str, u8);
 
 /// An even digit, by what it is not.
-type Even = Constrained<i64, AllOf<InRange<0, 2>, AllExcept<InRange<1, 1>>>>;
+type Even = Constrained<i64, IntersectionOf<InRange<0, 2>, AllExcept<InRange<1, 1>>>>;
 
 fn small_again(alloc: Global, octets: &[u8]) -> Result<Vec<u8>, u8> {
     again::<Small>(alloc, octets)
