@@ -8,12 +8,14 @@ from pathlib import Path
 
 from .crates import Entry, entries_of, parts_of, places_of
 from .errors import AsnError
+from .folders import check, put
 from .layout import LayoutError, laid_out
 from .parser import parse_module
 from .reading import text_of_file
 from .resolver import resolve
+from .standing import lines_to_write
 from .syntax import Module
-from .writer.crate import MARK, files_of_crate, marked
+from .writer.crate import files_of_crate, marked
 from .writer.holders import hold_tagged
 from .writer.parts import write_parts
 from .writer.places import write_places
@@ -22,7 +24,6 @@ from .writer.splitting import split_choices
 
 MOST_CALLS = 10_000  # within one another: types that stand deep within others are read and written so
 LIST = "asn1/modules.txt"
-ROOTS = ("src/lib.rt", "specs/Lib.antt")
 
 
 def main(arguments: list[str]) -> int:
@@ -37,8 +38,11 @@ def main(arguments: list[str]) -> int:
     except OSError as error:
         print(f"{error.filename}: {error.strerror}", file=sys.stderr)
         return 1
-    root = Path(options.list).resolve().parent.parent / "crates"
-    return check(root, written) if options.check else put(root, written)
+    top = Path(options.list).resolve().parent.parent
+    status = check(top / "crates", written) if options.check else put(top / "crates", written)
+    for note in lines_to_write(top / "crates.txt", written):
+        print(note)
+    return status
 
 
 def options_of(arguments: list[str]) -> argparse.Namespace:
@@ -54,8 +58,10 @@ def write_all(path: Path, with_remarks: bool) -> dict[str, str]:
     entries = entries_of(path)
     modules = [parse_module(str(entry.file), text_of_file(entry.file)) for entry in entries]
     resolved, remarks = resolve(modules)
+    given = {str(entry.file) for entry in entries if entry.is_given}
     for remark in remarks if with_remarks else ():
-        print(remark, file=sys.stderr)
+        if remark.place.file not in given:
+            print(remark, file=sys.stderr)
     for module, entry in zip(modules, entries):
         check_entry(module, entry)
     split_choices(resolved)
@@ -63,7 +69,7 @@ def write_all(path: Path, with_remarks: bool) -> dict[str, str]:
     targets = {module.name: Target(entry.crate, entry.module) for module, entry in zip(resolved, entries)}
     plan = Plan(targets)
     found: dict[str, str] = {}
-    for crate in dict.fromkeys(entry.crate for entry in entries):
+    for crate in dict.fromkeys(entry.crate for entry in entries if not entry.is_given):
         mine = [module for module, entry in zip(resolved, entries) if entry.crate == crate and entry.module]
         for name, text in files_of_crate(plan, mine).items():
             found[f"{crate}/{name}"] = text
@@ -87,57 +93,3 @@ def check_entry(module: Module, entry: Entry) -> None:
             f"the module '{module.name}' has no name in the crate '{entry.crate}'",
             f"write 'name={entry.file.name}' in the list",
         )
-
-
-def is_ours(path: Path) -> bool:
-    """Whether a file was written by this program."""
-    return path.exists() and any(MARK in line for line in path.read_text(encoding="utf-8").split("\n")[:4])
-
-
-def text_of(path: Path) -> str | None:
-    return path.read_text(encoding="utf-8") if path.exists() else None
-
-
-def stale(root: Path, written: dict[str, str]) -> list[Path]:
-    """Files that this program wrote, and would write no more."""
-    crates = sorted({name.split("/")[0] for name in written})
-    found = [path for crate in crates for kind in ("src/**/*.rt", "specs/**/*.antt", "proofs/**/*.antt") for path in (root / crate).glob(kind)]
-    return sorted(path for path in found if str(path.relative_to(root)) not in written and is_ours(path))
-
-
-def by_hand(root: Path, name: str) -> bool:
-    """Whether a root of the crate is there and not ours: then it stays."""
-    return name.split("/", 1)[1] in ROOTS and (root / name).exists() and not is_ours(root / name)
-
-
-def put(root: Path, written: dict[str, str]) -> int:
-    """Writes the files, and removes those that are no more written."""
-    for name, text in written.items():
-        if by_hand(root, name):
-            continue
-        path = root / name
-        path.parent.mkdir(parents=True, exist_ok=True)
-        if text_of(path) != text:
-            path.write_text(text, encoding="utf-8")
-    for path in stale(root, written):
-        path.unlink()
-    print(f"{len(written)} files, {sum(text.count(chr(10)) for text in written.values())} lines")
-    return 0
-
-
-def check(root: Path, written: dict[str, str]) -> int:
-    """Says which files are not as they would be written."""
-    differ = [
-        name
-        for name, text in written.items()
-        if not by_hand(root, name) and text_of(root / name) != text
-    ]
-    old = [str(path.relative_to(root)) for path in stale(root, written)]
-    for name in differ:
-        print(f"crates/{name} is not what tools/asn1 writes", file=sys.stderr)
-    for name in old:
-        print(f"crates/{name} is no more written by tools/asn1", file=sys.stderr)
-    print(f"{len(written)} files are compared, {len(differ) + len(old)} differ")
-    return 1 if differ or old else 0
-
-

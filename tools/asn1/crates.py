@@ -1,5 +1,6 @@
-"""The list of what is written where: a line a crate, as `der_ocsp: ocsp=OCSP.asn1`; as `der_places places: der_ocsp` of one that
-has where the fields of others' types stand; and as `certview_text parts: der_ocsp` of one that has what their octets are made of."""
+"""The list of what is written where: a line a crate, as `der_ocsp: ocsp=OCSP.asn1`; as `der_pkix given: name=name.asn1` of one
+that is there, and is read alone; as `der_places places: der_ocsp` of one that has where the fields of others' types stand; and
+as `certview_text parts: der_ocsp` of one that has what their octets are made of."""
 
 from __future__ import annotations
 
@@ -9,7 +10,7 @@ from pathlib import Path
 
 from .errors import AsnError, Place
 
-LINE = re.compile(r"([a-z][a-z0-9_]*):((?:\s+(?:[a-z][a-z0-9_]*=)?[^\s=]+)+)\s*")
+LINE = re.compile(r"([a-z][a-z0-9_]*)(\s+given)?:((?:\s+(?:[a-z][a-z0-9_]*=)?[^\s=]+)+)\s*")
 OF_OTHERS = re.compile(r"([a-z][a-z0-9_]*)\s+(places|parts):((?:\s+[a-z][a-z0-9_]*)+)")
 
 
@@ -18,11 +19,13 @@ class Entry:
     """A module of a crate, and the file of the module of ASN.1 that it is made from.
 
     A module of ASN.1 that assigns nothing, and hands on what it imports, has no module in the crate: its name is empty.
+    The files of a crate that is given are there: its modules are read, so that others may import from them.
     """
 
     crate: str
     module: str
     file: Path
+    is_given: bool = False
 
 
 def lines_of(path: Path) -> list[tuple[int, str]]:
@@ -58,9 +61,21 @@ def entries_of(path: Path) -> list[Entry]:
             raise AsnError(
                 Place(str(path), number, 1),
                 "this line names no crate and its modules",
-                "write 'crate: module=file.asn1 ..'",
+                "write 'crate: module=file.asn1 ..', or 'crate given: module=file.asn1 ..' of one that is there",
             )
-        for pair in parsed.group(2).split():
+        crate, is_given = parsed.group(1), parsed.group(2) is not None
+        check_kind(found, crate, is_given, Place(str(path), number, 1))
+        for pair in parsed.group(3).split():
             module, _, file = pair.rpartition("=")
-            found.append(Entry(parsed.group(1), module, path.parent / file))
+            found.append(Entry(crate, module, path.parent / file, is_given))
     return found
+
+
+def check_kind(found: list[Entry], crate: str, is_given: bool, place: Place) -> None:
+    """A crate is given or written, and not both."""
+    if any(entry.crate == crate and entry.is_given != is_given for entry in found):
+        raise AsnError(
+            place,
+            f"the crate '{crate}' is given by one line, and written by another",
+            f"write '{crate} given:' in both where its files are there, '{crate}:' where they are to be written",
+        )

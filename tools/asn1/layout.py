@@ -23,6 +23,8 @@ def formatter() -> str:
 
 def laid_out(files: dict[str, str]) -> dict[str, str]:
     """The files by their paths, as `rt fmt` has them."""
+    if not files:
+        return {}
     with tempfile.TemporaryDirectory() as folder:
         paths = {path: Path(folder) / path for path in files}
         for path, text in files.items():

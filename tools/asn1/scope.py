@@ -6,6 +6,7 @@ import difflib
 from dataclasses import dataclass, field
 
 from .errors import AsnError, Place
+from .missing import not_given
 from .syntax import (
     Actual,
     Assignment,
@@ -120,11 +121,7 @@ class Library:
         """The assignment of a name in another module, by the modules that hand it on."""
         source = self.scopes.get(module)
         if source is None:
-            raise AsnError(
-                place,
-                f"'{name}' is of the module '{module}', which is not given",
-                "give its file too",
-            )
+            raise not_given(name, module, place, [scope.module for scope in self.scopes.values()])
         if name in source.assigned:
             return source, source.assigned[name]
         if source.hands_on(name) and module not in by:

@@ -70,13 +70,16 @@ class Lines(unittest.TestCase):
             "der_b:",
             "der_b places:",
             "der_b owned places: der_a",
+            "der_b given: ",
+            "der_b given places: der_a",
+            "given: b=b.asn1 c=",
         ):
             with self.subTest(line), self.assertRaises(AsnError) as caught:
                 entries("der_a: a=a.asn1", line)
             error = caught.exception
             self.assertEqual(error.problem, "this line names no crate and its modules")
             self.assertEqual((Path(error.place.file).name, error.place.line, error.place.column), ("modules.txt", 2, 1))
-            self.assertEqual(error.instead, "write 'crate: module=file.asn1 ..'")
+            self.assertEqual(error.instead, "write 'crate: module=file.asn1 ..', or 'crate given: module=file.asn1 ..' of one that is there")
 
     def test_the_command_writes_each_crate(self) -> None:
         with tempfile.TemporaryDirectory() as folder, mock.patch.object(command, "laid_out", lambda found: found):

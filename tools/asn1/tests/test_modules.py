@@ -5,7 +5,22 @@ from __future__ import annotations
 import unittest
 
 from ..crates import entries_of
-from ..model import Alias, Allowed, Choice, Constant, Definition, Leaf, List, Measure, ResolvedModule, Struct, Tagged, Use, Whole
+from ..model import (
+    Alias,
+    Allowed,
+    Choice,
+    Constant,
+    Definition,
+    Leaf,
+    List,
+    Measure,
+    Presence,
+    ResolvedModule,
+    Struct,
+    Tagged,
+    Use,
+    Whole,
+)
 from ..properties import Properties, properties_of_definition, tags_of
 from .helpers import MODULES, resolved, standard
 
@@ -121,6 +136,24 @@ class Others(unittest.TestCase):
         pdus = definition(found, "Pdus")
         assert isinstance(pdus, Choice)
         self.assertEqual([min(tags_of(part.type) or []).number for part in pdus.alternatives], [0, 1, 5, 2, 3, 6, 7, 8])
+
+    def test_kerberos(self) -> None:
+        found = modules("KerberosV5Spec2")["KerberosV5Spec2"]
+        request = definition(found, "AsReq")
+        assert isinstance(request, Alias) and isinstance(request.type, Tagged) and isinstance(request.type.of, Use)
+        self.assertEqual((request.type.tag.number, request.type.is_explicit), (10, True))
+        self.assertEqual(request.type.of.definition, definition(found, "KdcReq"))
+        body = struct(found, "KdcReqBody")
+        self.assertEqual([min(tags_of(part.type) or []).number for part in body.fields], list(range(12)))
+        self.assertEqual([part.rust for part in body.fields if part.presence is Presence.ALWAYS], ["kdc_options", "realm", "till", "nonce", "etype"])
+        self.assertEqual(properties_of_definition(body), Properties(borrows=True, takes_memory=False, is_copy=True))
+
+    def test_addresses(self) -> None:
+        found = modules("IPAddrAndASCertExtn", *PKIX)["IPAddrAndASCertExtn"]
+        self.assertEqual(constant(found, "id-pe-ipAddrBlocks").arcs, (1, 3, 6, 1, 5, 5, 7, 1, 7))
+        choice = definition(found, "AsIdOrRange")
+        assert isinstance(choice, Choice)
+        self.assertEqual([min(tags_of(part.type) or []).number for part in choice.alternatives], [2, 16])
 
 
 class HandedOn(unittest.TestCase):
