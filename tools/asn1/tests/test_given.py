@@ -14,8 +14,8 @@ from ..errors import AsnError
 from .helpers import module_of, refusal
 from .test_lists import entries
 
-OTHER = module_of("B ::= SEQUENCE { x OCTET STRING (SIZE (2..3)) }", name="Other")
-MINE = module_of("IMPORTS B FROM Other;\nA ::= SEQUENCE { b B, c OCTET STRING (SIZE (3..4)) }", name="Mine")
+OTHER = module_of("B ::= SEQUENCE { x BMPString (SIZE (2..3)) }", name="Other")
+MINE = module_of("IMPORTS B FROM Other;\nA ::= SEQUENCE { b B, c BMPString (SIZE (3..4)) }", name="Mine")
 
 
 def ran(folder: str, lines: str, *options: str, **texts: str) -> tuple[int, str, str]:
