@@ -21,21 +21,13 @@ use std::alloc::{AllocError, Global};
 use std::cmp::Ordering;
 use std::fmt;
 use std::marker::PhantomData;
+use std::ops::Deref;
 
 /// A value that the constraint `C` allows.
 #[derive(Drop)]
 pub struct Constrained<T, C> {
     value: T,
     constraint: PhantomData<C>,
-}
-
-impl<T, C> Constrained<T, C> {
-    /// The value.
-    pub fn value(&self) -> &T
-        ensures { result.now ≡ value_of self.now }
-    {
-        &self.value
-    }
 }
 
 impl<T: FormValue + OneTag, C: Constraint<T>> Constrained<T, C> {
@@ -53,6 +45,17 @@ impl<T: FormValue + OneTag, C: Constraint<T>> Constrained<T, C> {
             value,
             constraint: PhantomData,
         })
+    }
+}
+
+impl<T, C> Deref for Constrained<T, C> {
+    type Target = T;
+
+    ghost deref_gives = { λ constrained value. value ≡ value_of constrained };
+
+    /// The value.
+    fn deref(&self) -> &T {
+        &self.value
     }
 }
 

@@ -85,7 +85,7 @@ fn constrained_values_are_made(rt: HostRuntime) -> Result<(), Fail> {
     let alloc = rt.alloc();
     let five = numbered(Small::new(5))?;
     let six = numbered(Small::new(6))?;
-    same(&rt, *five.value(), 5);
+    same(&rt, *five, 5);
     same(&rt, numbered(Small::new(11)), Err(13));
     same(&rt, numbered(Small::new(-6)), Err(13));
     same(&rt, compared(&five, &six), Ok((Ordering::Less, false)));
@@ -150,20 +150,20 @@ fn constrained_alternatives_are_read(rt: HostRuntime) -> Result<(), Fail> {
     Ok(())
 }
 
-// The fields of a value that is read: the number, and whether the one that may be absent is there.
-fn seen(alloc: Global, octets: &[u8]) -> Result<(i8, Option<u8>), u8> {
+// Fields of a value that is read: the numbers, and how long the code is.
+fn seen(alloc: Global, octets: &[u8]) -> Result<(i8, Option<u8>, u32), u8> {
     let bounded = numbered(Bounded::from_der(alloc, octets))?;
     let few = match bounded.few() {
-        Some(few) => Some(*few.value()),
+        Some(few) => Some(*few),
         None => None,
     };
-    Ok((*bounded.small().value(), few))
+    Ok((*bounded.small(), few, bounded.code().len().value()))
 }
 
 #[test]
 fn constrained_fields_are_seen(rt: HostRuntime) -> Result<(), Fail> {
     let alloc = rt.alloc();
     let octets = hex::decode(alloc, "302102010580010313024142a10404021122030205e00c03c3a9613006020109020100")?;
-    same(&rt, seen(alloc, octets.as_slice()), Ok((5, Some(3))));
+    same(&rt, seen(alloc, octets.as_slice()), Ok((5, Some(3), 2)));
     Ok(())
 }
