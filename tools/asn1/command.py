@@ -6,13 +6,11 @@ import argparse
 import sys
 from pathlib import Path
 
-from .crates import Entry, entries_of, parts_of, places_of
+from .crates import entries_of, parts_of, places_of
 from .errors import AsnError
+from .files import read
 from .layout import LayoutError, laid_out
-from .parser import parse_module
-from .reading import text_of_file
 from .resolver import resolve
-from .syntax import Module
 from .writer.crate import MARK, files_of_crate, marked
 from .writer.holders import hold_tagged
 from .writer.parts import write_parts
@@ -51,13 +49,10 @@ def options_of(arguments: list[str]) -> argparse.Namespace:
 
 def write_all(path: Path, with_remarks: bool) -> dict[str, str]:
     """The text of each file, by its path in crates/."""
-    entries = entries_of(path)
-    modules = [parse_module(str(entry.file), text_of_file(entry.file)) for entry in entries]
+    modules, entries = read(entries_of(path))
     resolved, remarks = resolve(modules)
     for remark in remarks if with_remarks else ():
         print(remark, file=sys.stderr)
-    for module, entry in zip(modules, entries):
-        check_entry(module, entry)
     split_choices(resolved)
     hold_tagged(resolved)
     targets = {module.name: Target(entry.crate, entry.module) for module, entry in zip(resolved, entries)}
@@ -77,16 +72,6 @@ def write_all(path: Path, with_remarks: bool) -> dict[str, str]:
         for name, text in write_parts(plan, theirs).items():
             found[f"{crate}/{name}"] = text
     return laid_out(found)
-
-
-def check_entry(module: Module, entry: Entry) -> None:
-    """A module that assigns something is written to a module of the crate, and so has a name there."""
-    if module.assignments and not entry.module:
-        raise AsnError(
-            module.place,
-            f"the module '{module.name}' has no name in the crate '{entry.crate}'",
-            f"write 'name={entry.file.name}' in the list",
-        )
 
 
 def is_ours(path: Path) -> bool:

@@ -22,17 +22,23 @@ from .types import parse_type
 from .values import arcs_of, parse_value
 
 
-def parse_module(file: str, text: str) -> Module:
-    """The one module of a file."""
+def parse_modules(file: str, text: str) -> list[Module]:
+    """The modules of a file, of which there may be any number (X.680 13.1)."""
     cursor = Cursor(file, text)
+    found = [parse_module(cursor, file)]
+    while cursor.peek().kind is not Kind.END:
+        found.append(parse_module(cursor, file))
+    return found
+
+
+def parse_module(cursor: Cursor, file: str) -> Module:
+    """The module that begins here."""
     header = parse_header(cursor)
     exports = parse_exports(cursor)
     imports = parse_imports(cursor)
     assignments = []
     while not cursor.take("END"):
         assignments.append(parse_assignment(cursor))
-    if cursor.peek().kind is not Kind.END:
-        cursor.fail(f"{cursor.peek()} stands after the END of the module", "write each module in a file of its own")
     name, identifier, tag_default = header
     return Module(name.place, name.text, identifier, tag_default, imports, exports, tuple(assignments), file)
 

@@ -76,8 +76,6 @@ def readings_of_file(path: Path) -> list[Reading]:
         errors.append(error)
         text = octets.decode("latin-1").replace("\r\n", "\n").replace("\r", "\n")
     found = readings_of(str(path), text)
-    for second in found[1:2]:
-        errors.append(AsnError(second.module.place, "a module stands after the END of another", "write it in a file of its own"))
     for reading in found:
         reading.errors += errors
     return found

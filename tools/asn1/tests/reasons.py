@@ -27,7 +27,6 @@ KINDS = [
     (r"does not export", "module does not export the name"),
     (r"is assigned twice", "assigned twice"),
     (r"is imported, and assigned or imported", "imported twice"),
-    (r"after the END", "several modules in a file"),
     (r"is named '|are both '", "names alike in Rattle"),
     (r"are not distinguished", "tags not distinct"),
     (r"has more than one tag", "component of a SET with more than one tag"),

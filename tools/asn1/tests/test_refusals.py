@@ -22,7 +22,7 @@ BODIES = [
     ("IMPORTS A FROM B WITH SUCCESSORS;", "", "2:18", "WITH SUCCESSORS is not taken"),
     ("IMPORTS A, FROM B;", "", "2:12", "'FROM' stands where a name is expected"),
     ("EXPORTS A", "", "3:1", "'END' stands where ';' is expected"),
-    ("END more", "", "2:5", "'more' stands after the END"),
+    ("END more", "", "2:5", "'more' stands where the name of a module is expected"),
     ("A ::= ", "", "3:1", "'END' stands where a type is expected"),
     ("a ::= 5", "", "2:3", "'::=' stands where a type is expected"),
     ("A INTEGER ::= 5", "", "2:15", "'5' stands where '{' is expected"),
