@@ -30,7 +30,7 @@ from ..syntax import (
 )
 from . import components, constraints
 from .cursor import Cursor
-from .values import parse_value, sees_value
+from .values import parse_external, parse_value, sees_value
 
 CLASSES = {"UNIVERSAL": TagClass.UNIVERSAL, "APPLICATION": TagClass.APPLICATION, "PRIVATE": TagClass.PRIVATE}
 
@@ -85,7 +85,14 @@ def parse_tag_number(cursor: Cursor) -> int | ReferenceValue:
     """The number of a tag, or the name of one (31.2)."""
     if cursor.sees_kind(Kind.NUMBER):
         return int(cursor.next().text)
-    token = cursor.expect_kind(Kind.LOWER, "the number of a tag", "write a tag as '[number]' or '[APPLICATION number]'")
+    return parse_name_of_number(cursor, "the number of a tag", "write a tag as '[number]' or '[APPLICATION number]'")
+
+
+def parse_name_of_number(cursor: Cursor, what: str, instead: str) -> ReferenceValue:
+    """`name`, or `Module.name` (14.6)."""
+    if cursor.sees_kind(Kind.UPPER) and sees_value(cursor):
+        return parse_external(cursor)
+    token = cursor.expect_kind(Kind.LOWER, what, instead)
     return ReferenceValue(token.place, None, token.text)
 
 
@@ -211,8 +218,7 @@ def parse_number(cursor: Cursor, instead: str) -> int | ReferenceValue:
     if cursor.sees_kind(Kind.NUMBER):
         number = int(cursor.next().text)
         return -number if negative else number
-    token = cursor.expect_kind(Kind.LOWER, "a number", instead)
-    return ReferenceValue(token.place, None, token.text)
+    return parse_name_of_number(cursor, "a number", instead)
 
 
 def parse_enumerated(cursor: Cursor, place: Place) -> EnumeratedType:

@@ -21,8 +21,8 @@ from asn1.errors import AsnError  # noqa: E402
 from asn1.reading import text_of  # noqa: E402
 from asn1.resolver.context import State  # noqa: E402
 from asn1.resolver.modules import define_type, is_written, resolved  # noqa: E402
-from asn1.scope import Library, Scope, scope_of  # noqa: E402
-from asn1.syntax import Import, TypeAssignment  # noqa: E402
+from asn1.scope import Library, Scope, imported_by, scope_of  # noqa: E402
+from asn1.syntax import TypeAssignment  # noqa: E402
 from asn1.tests.reasons import kind_of, name_in  # noqa: E402
 from asn1.tests.tolerant import Reading, Span, readings_of  # noqa: E402
 
@@ -105,12 +105,8 @@ def scope_with_errors(reading: Reading) -> Scope:
         return scope_of(reading.module)
     except Exception as error:
         reading.errors.append(error)
-    imported: dict[str, Import] = {}
-    for one in reading.module.imports:
-        for symbol in one.symbols:
-            imported.setdefault(symbol.text, one)
     assigned = {one.name: one for one in reversed(reading.module.assignments)}
-    return Scope(reading.module, assigned, {name: one for name, one in imported.items() if name not in assigned})
+    return Scope(reading.module, assigned, imported_by(reading.module))
 
 
 # ---- resolving

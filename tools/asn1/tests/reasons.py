@@ -26,7 +26,7 @@ KINDS = [
     (r"assigns no", "module assigns no such name"),
     (r"does not export", "module does not export the name"),
     (r"is assigned twice", "assigned twice"),
-    (r"is imported, and assigned or imported", "imported twice"),
+    (r"is imported from .* which assign it|and so hands on none", "imported from two modules"),
     (r"is named '|are both '", "names alike in Rattle"),
     (r"are not distinguished", "tags not distinct"),
     (r"has more than one tag", "component of a SET with more than one tag"),

@@ -62,8 +62,8 @@ BODIES = [
     # ---- names
     ("A ::= B", "", "2:7", "'B' is neither assigned in 'Test' nor imported"),
     ("A ::= INTEGER\nA ::= BOOLEAN", "", "3:1", "'A' is assigned twice"),
-    ("IMPORTS A FROM B;\nA ::= INTEGER", "", "2:9", "'A' is imported, and assigned"),
-    ("IMPORTS A FROM B A FROM C;", "", "2:18", "'A' is imported, and assigned or imported elsewhere"),
+    ("IMPORTS A FROM B;\nA ::= SEQUENCE { a B.A }", "", "3:20", "'A' is of the module 'B', which is not given"),
+    ("IMPORTS A FROM B A FROM C;\nD ::= A", "", "3:7", "'A' is of the module 'B', which is not given"),
     ("IMPORTS B FROM Other;\nA ::= B", "", "3:7", "'B' is of the module 'Other', which is not given"),
     ("EXPORTS B;\nA ::= INTEGER", "", "2:9", "'B' is exported, and neither"),
     ("A ::= B\nB ::= CLASS { &id INTEGER }\nC ::= SEQUENCE { a B }", "", "4:20", "'B' is a class"),
@@ -188,14 +188,14 @@ class Refusals(unittest.TestCase):
         self.assertIn("is given twice", refusal(other, other).problem)
         self.assertIn("assigns no 'C'", refusal(module_of("IMPORTS C FROM Other;"), other).problem)
         self.assertIn("assigns no 'C'", refusal(module_of("A ::= Other.C"), other).problem)
-        imports = module_of("IMPORTS C FROM Third;", name="Other")
-        third = module_of("C ::= NULL", name="Third")
-        self.assertIn("assigns no 'C'", refusal(module_of("IMPORTS C FROM Other;"), imports, third).problem)
+        third = module_of("B ::= NULL", name="Third")
         circle = module_of("EXPORTS C; IMPORTS C FROM Test;", name="Other")
         error = refusal(module_of("EXPORTS C; IMPORTS C FROM Other; A ::= C"), circle)
         self.assertIn("assigns no 'C'", error.problem)
         hidden = module_of("EXPORTS ; B ::= NULL", name="Other")
         self.assertIn("does not export 'B'", refusal(module_of("IMPORTS B FROM Other;"), hidden).problem)
+        hidden = module_of("EXPORTS D; IMPORTS B FROM Third; D ::= NULL", name="Other")
+        self.assertIn("does not export 'B'", refusal(module_of("IMPORTS B FROM Other;"), hidden, third).problem)
 
     def test_two_instances_that_differ(self) -> None:
         error = refusal(
