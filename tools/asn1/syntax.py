@@ -265,6 +265,7 @@ class Component:
     annotations: tuple[Annotation, ...]
     text: str = ""  # its type, with what stands after it
     is_addition: bool = False  # after '...' (25.1): an extension addition
+    is_later: bool = False  # an addition with neither OPTIONAL nor DEFAULT: absent where an older version made the value
 
 
 @dataclass(frozen=True)

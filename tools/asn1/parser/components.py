@@ -30,7 +30,7 @@ class Listed:
 def parse_fields(cursor: Cursor, place: Place, is_set: bool) -> FieldsType:
     """`{ name Type OPTIONAL, name Type DEFAULT value, .. }`."""
     listed = parse_braces(cursor, is_choice=False)
-    return FieldsType(place, is_set, tuple(listed.components), listed.markers > 0)
+    return FieldsType(place, is_set, tuple(listed.components), listed.markers > 0 or cursor.is_extensible)
 
 
 def parse_alternatives(cursor: Cursor) -> tuple[tuple[Component, ...], bool]:
@@ -126,11 +126,7 @@ def parse_component(cursor: Cursor, is_addition: bool, is_choice: bool) -> Compo
         if cursor.peek().text in ("OPTIONAL", "DEFAULT"):
             found = parse_presence(cursor, found, is_choice)
         if is_addition and not is_choice and not found.optional and found.default is None:
-            raise AsnError(
-                place,
-                f"'{found.name}' stands after '...' and is neither OPTIONAL nor DEFAULT",
-                "write OPTIONAL, as an older sender leaves it out, or write it before the '...'",
-            )
+            found = replace(found, optional=True, is_later=True)
         text = cursor.text_from(first)
         take_comma(cursor)
     return replace(found, annotations=tuple(annotations), text=text)

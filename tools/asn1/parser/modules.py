@@ -52,8 +52,9 @@ def parse_header(cursor: Cursor) -> tuple[Token, tuple[Arc, ...], TagDefault]:
     if cursor.peek().text in ("EXPLICIT", "IMPLICIT", "AUTOMATIC"):
         tag_default = TagDefault(cursor.next().text)
         cursor.expect("TAGS", "write 'EXPLICIT TAGS', 'IMPLICIT TAGS' or 'AUTOMATIC TAGS'")
-    if cursor.sees("EXTENSIBILITY"):
-        cursor.fail("EXTENSIBILITY IMPLIED is not taken", "write '...' where a type may get additions")
+    cursor.is_extensible = cursor.take("EXTENSIBILITY")
+    if cursor.is_extensible:
+        cursor.expect("IMPLIED", "write 'EXTENSIBILITY IMPLIED'")
     cursor.expect("::=", "write '::= BEGIN' after the header")
     cursor.expect("BEGIN", "write '::= BEGIN' after the header")
     return name, identifier, tag_default

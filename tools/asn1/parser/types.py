@@ -242,12 +242,12 @@ def parse_enumerated(cursor: Cursor, place: Place) -> EnumeratedType:
             cursor.expect(")", instead)
         named.append(NamedNumber(token.place, token.text, number, extensible))
     cursor.expect("}", instead)
-    return EnumeratedType(place, tuple(named), extensible)
+    return EnumeratedType(place, tuple(named), extensible or cursor.is_extensible)
 
 
 def parse_choice(cursor: Cursor, place: Place) -> ChoiceType:
     alternatives, extensible = components.parse_alternatives(cursor)
-    return ChoiceType(place, alternatives, extensible)
+    return ChoiceType(place, alternatives, extensible or cursor.is_extensible)
 
 
 def parse_sequence(cursor: Cursor, place: Place) -> Type:

@@ -97,10 +97,18 @@ def one_field(context: Context, part: Component, rust: str) -> Field:
     presence, default = Presence.ALWAYS, None
     if part.optional:
         presence = Presence.OPTIONAL
+    if part.is_later:
+        remark_on_addition(inner, part)
     if part.default is not None:
         presence, default = Presence.DEFAULT, default_of(inner, part.default, found)
     notes.check_used(f"'{part.name}'")
     return Field(part.place, part.name, rust, found, presence, default, part.text, part, context.env)
+
+
+def remark_on_addition(context: Context, part: Component) -> None:
+    """An addition that is always there in values of this version is read as OPTIONAL: those of older versions have it not."""
+    said = f"'{part.name}' may be absent, as in values of an older version, though it is neither OPTIONAL nor DEFAULT"
+    context.say(part.place, said, f"{said[0].upper()}{said[1:]}.")
 
 
 def check_fields(fields: tuple[Field, ...]) -> None:

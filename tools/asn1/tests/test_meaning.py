@@ -16,7 +16,6 @@ from ..model import (
     Struct,
     Tag,
     Tagged,
-    Use,
     Whole,
 )
 from ..properties import tags_of

@@ -18,7 +18,7 @@ BODIES = [
     ("A ::= SEQUENCE {\n  -- @unread\n  a INTEGER }", "", "3:6", "this annotation stands on a line of its own"),
     ("A ::= INTEGER -- @u8 as ever", "", "2:18", "a comment that begins with an annotation"),
     # ---- headers, imports, assignments
-    ("A ::= INTEGER", "EXTENSIBILITY IMPLIED", "1:18", "EXTENSIBILITY IMPLIED is not taken"),
+    ("A ::= INTEGER", "EXTENSIBILITY", "1:32", "'::=' stands where 'IMPLIED' is expected"),
     ("IMPORTS A FROM B WITH SUCCESSORS;", "", "2:18", "WITH SUCCESSORS is not taken"),
     ("IMPORTS A, FROM B;", "", "2:12", "'FROM' stands where a name is expected"),
     ("EXPORTS A", "", "3:1", "'END' stands where ';' is expected"),
@@ -53,7 +53,7 @@ BODIES = [
     ("A ::= CHOICE { a INTEGER OPTIONAL }", "", "2:26", "the alternative 'a' is OPTIONAL"),
     ("A ::= CHOICE { a INTEGER DEFAULT 5 }", "", "2:26", "the alternative 'a' is DEFAULT"),
     ("A ::= CHOICE { COMPONENTS OF B }", "", "2:16", "COMPONENTS OF stands in a CHOICE"),
-    ("A ::= SEQUENCE { a NULL, ..., b NULL }", "", "2:31", "'b' stands after '...' and is neither"),
+    ("A ::= SEQUENCE { a NULL, ..., b INTEGER, ..., c INTEGER }", "", "2:47", "'c' and 'b' are not distinguished"),
     ("A ::= SEQUENCE { COMPONENTS OF B }\nB ::= INTEGER", "", "2:18", "what is no other SEQUENCE"),
     ("A ::= SEQUENCE { COMPONENTS OF A }", "", "2:18", "what is no other SEQUENCE"),
     ("A ::= INTEGER (0..5", "", "3:1", "'END' stands where ')' is expected"),
