@@ -315,6 +315,7 @@ class FieldOfClass:
     """`CLASS.&field`: an open type, or the type of a value field (X.681 14)."""
 
     place: Place
+    module: str | None
     class_name: str
     fields: tuple[str, ...]
 

@@ -30,7 +30,7 @@ from ..syntax import (
 )
 from . import components, constraints
 from .cursor import Cursor
-from .values import parse_external, parse_value, sees_value
+from .values import parse_external, parse_fields_of_fields, parse_value, sees_value
 
 CLASSES = {"UNIVERSAL": TagClass.UNIVERSAL, "APPLICATION": TagClass.APPLICATION, "PRIVATE": TagClass.PRIVATE}
 
@@ -105,6 +105,8 @@ def parse_base(cursor: Cursor) -> Type:
         return parse_named_type(cursor)
     if token.kind is Kind.LOWER and cursor.peek(1).text == "<":
         cursor.fail("a selection type is not taken", "write the type of the alternative itself")
+    if token.kind is Kind.LOWER and cursor.peek(1).text == "." and cursor.peek(2).kind is Kind.FIELD:
+        cursor.fail(f"the type of a field of the object {token} is not taken", "write the type itself (X.681 15)")
     if token.text in SIMPLE:
         cursor.next()
         return SimpleType(token.place, SIMPLE[token.text])
@@ -118,22 +120,18 @@ def parse_base(cursor: Cursor) -> Type:
 def parse_named_type(cursor: Cursor) -> Type:
     """`Name`, `Module.Name`, `Name{..}`, or `CLASS.&field`."""
     place, name = cursor.place, cursor.next().text
-    if cursor.sees(".") and cursor.peek(1).kind is Kind.FIELD:
-        return parse_field_of_class(cursor, place, name)
     module = None
     if cursor.sees(".") and cursor.peek(1).kind is Kind.UPPER:
         cursor.next()
         module, name = name, cursor.next().text
+    if cursor.sees(".") and cursor.peek(1).kind is Kind.FIELD:
+        return parse_field_of_class(cursor, place, module, name)
     return ReferenceType(place, module, name, parse_actuals(cursor))
 
 
-def parse_field_of_class(cursor: Cursor, place: Place, name: str) -> FieldOfClass:
+def parse_field_of_class(cursor: Cursor, place: Place, module: str | None, name: str) -> FieldOfClass:
     """`CLASS.&Field`, or `CLASS.&object.&Field` (X.681 14.1)."""
-    fields = []
-    while cursor.take("."):
-        token = cursor.expect_kind(Kind.FIELD, "the name of a field", "write 'CLASS.&Field'")
-        fields.append(token.text)
-    return FieldOfClass(place, name, tuple(fields))
+    return FieldOfClass(place, module, name, parse_fields_of_fields(cursor))
 
 
 def parse_actuals(cursor: Cursor) -> tuple[Actual, ...]:

@@ -4,6 +4,7 @@ from __future__ import annotations
 
 from dataclasses import replace
 
+from ..bounds import Placed, placed
 from ..errors import AsnError, Place
 from ..model import (
     Alias,
@@ -26,7 +27,6 @@ from ..syntax import (
     BitStringType,
     ChoiceType,
     ConstrainedType,
-    Constraint,
     EnumeratedType,
     FieldsType,
     IntegerType,
@@ -43,7 +43,7 @@ from .components import alternatives_of, check_spelling, fields_of, with_tags
 from .context import DEEPEST, Context, State, too_deep
 from .signatures import signature
 
-Constraints = tuple[Constraint, ...]
+Constraints = tuple[Placed, ...]
 
 
 def definition_of(state: State, env: Env, assignment: TypeAssignment, place: Place) -> Definition:
@@ -125,6 +125,7 @@ def peel(context: Context, type_: Type) -> tuple[list[TaggedType], list[Env], Ty
                 return tags, envs, type_, constraints, env
             if followed == DEEPEST:
                 raise too_deep(type_.place)
+            constraints = placed(env, constraints)
             env, type_, followed = inner, assignment.type, followed + 1
         else:
             return tags, envs, type_, constraints, env

@@ -4,7 +4,7 @@ from __future__ import annotations
 
 from dataclasses import replace
 
-from ..bounds import Bounds, size_of
+from ..bounds import Bounds, Placed, placed, size_of
 from ..errors import AsnError
 from ..model import Alias, Definition, Leaf, Listed, Resolved, Tag, Tagged, Use, Whole
 from ..syntax import (
@@ -12,7 +12,6 @@ from ..syntax import (
     BitStringType,
     ChoiceType,
     ConstrainedType,
-    Constraint,
     EnumeratedType,
     FieldOfClass,
     FieldsType,
@@ -31,7 +30,7 @@ from . import definitions, leaves
 from .classes import base_of, bind, has_type_parameter, is_untagged_choice, type_of_field
 from .context import Context
 
-Constraints = tuple[Constraint, ...]
+Constraints = tuple[Placed, ...]
 
 
 def resolve_type(context: Context, type_: Type, constraints: Constraints = ()) -> Resolved:
@@ -45,7 +44,7 @@ def resolve_type(context: Context, type_: Type, constraints: Constraints = ()) -
     if isinstance(type_, FieldOfClass):
         env, inner = type_of_field(context.state.library, context.env, type_)
         with context.state.within(type_.place):
-            return resolve_type(context.within(env), inner, constraints)
+            return resolve_type(context.within(env), inner, placed(context.env, constraints))
     if isinstance(type_, ListType):
         return listed(context, type_, constraints)
     if isinstance(type_, SimpleType):
@@ -152,13 +151,13 @@ def referred(context: Context, type_: ReferenceType, constraints: Constraints) -
         binding = env.bindings[type_.name]
         if binding.actual.type is None:
             raise AsnError(type_.place, f"'{type_.name}' stands for no type here", "give a type as the parameter")
-        return resolve_type(context.within(binding.env), binding.actual.type, constraints)
+        return resolve_type(context.within(binding.env), binding.actual.type, placed(env, constraints))
     if context.notes.has("unread"):
         return unread(context, type_)
     scope, assignment = library.find_type(env, type_.name, type_.place, type_.module)
     inner = bind(env, scope, assignment, type_)
     if has_type_parameter(library, env, assignment, type_) and not is_written_out(context.within(inner), assignment.type):
-        return resolve_type(context.within(inner), assignment.type, constraints)
+        return resolve_type(context.within(inner), assignment.type, placed(env, constraints))
     for constraint in constraints:
         leaves.remark_on(context, constraint)
     if has_type_parameter(library, env, assignment, type_):

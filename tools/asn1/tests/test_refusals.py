@@ -143,7 +143,12 @@ BODIES = [
     # ---- classes and parameters
     ("A ::= B.&Type\nB ::= INTEGER", "", "2:7", "'B' is no class"),
     ("A ::= B.&Other\nB ::= CLASS { &Type }", "", "2:7", "the class 'B' has no field '&Other'"),
-    ("A ::= B.&c.&d\nB ::= CLASS { &c B }", "", "2:7", "a field of a field of a class"),
+    ("A ::= B.&c.&d\nB ::= CLASS { &c B }", "", "2:7", "the class 'B' has no field '&d'"),
+    ("A ::= B.&c.&d\nB ::= CLASS { &c INTEGER }", "", "2:7", "the values of the field '&c' are no objects"),
+    ("A ::= B.&c\nB ::= CLASS { &c B OPTIONAL }", "", "2:7", "the values of the field '&c' are objects"),
+    ("A ::= B.&C\nB ::= CLASS { &C B OPTIONAL }", "", "2:7", "the values of the field '&C' are objects"),
+    ("A ::= SEQUENCE { a b.&C }", "", "2:20", "the type of a field of the object 'b' is not taken"),
+    ("A ::= P{{5}}\nP{INTEGER:n} ::= INTEGER (0..n)", "", "3:30", "'n' stands for no value here"),
     ("A ::= B{NULL}\nB ::= NULL", "", "2:7", "'B' has 0 parameters, and 1 are given"),
     ("A ::= B\nB{C} ::= SEQUENCE { a C }", "", "2:7", "'B' has 1 parameters, and 0 are given"),
     ("A ::= B{5}\nB{C} ::= SEQUENCE { a C }", "", "3:23", "'C' stands for no type here"),
