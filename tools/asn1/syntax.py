@@ -284,6 +284,7 @@ class FieldsType:
     is_set: bool
     components: tuple[Union[Component, ComponentsOf], ...]
     extensible: bool
+    is_instance: bool = False  # it is INSTANCE OF (X.681 annex C), whose own tag is [UNIVERSAL 8]
 
 
 @dataclass(frozen=True)
@@ -318,6 +319,15 @@ class FieldOfClass:
     module: str | None
     class_name: str
     fields: tuple[str, ...]
+
+
+@dataclass(frozen=True)
+class SelectionType:
+    """`alternative < Type` (30)."""
+
+    place: Place
+    name: str
+    type: "Type"
 
 
 @dataclass(frozen=True)
@@ -371,6 +381,7 @@ Type = Union[
     ListType,
     AnyType,
     FieldOfClass,
+    SelectionType,
     ReferenceType,
     TaggedType,
     ConstrainedType,

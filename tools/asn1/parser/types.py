@@ -11,16 +11,19 @@ from ..syntax import (
     AnyType,
     BitStringType,
     ChoiceType,
+    Component,
     ConstrainedType,
     Constraint,
     EnumeratedType,
     FieldOfClass,
+    FieldsType,
     IntegerType,
     ListType,
     NamedNumber,
     NullValue,
     ReferenceType,
     ReferenceValue,
+    SelectionType,
     Simple,
     SimpleType,
     TagClass,
@@ -44,7 +47,6 @@ REFUSED = {
     "EXTERNAL": "write the SEQUENCE of X.690 8.18 out",
     "EMBEDDED": "write the SEQUENCE of X.680 36.5 out",
     "CHARACTER": "write the SEQUENCE of X.680 44.5 out",
-    "INSTANCE": "write 'SEQUENCE { type-id OBJECT IDENTIFIER, value [0] EXPLICIT ANY }' with the tag [UNIVERSAL 8]",
     "RELATIVE-OID": "there is no type for RELATIVE-OID: write ANY",
     "ObjectDescriptor": "there is no type for ObjectDescriptor: write ANY",
     "MACRO": "write the types of the macro's values out (X.208 annex A is withdrawn)",
@@ -104,7 +106,7 @@ def parse_base(cursor: Cursor) -> Type:
     if token.kind is Kind.UPPER or token.text == "TYPE-IDENTIFIER":
         return parse_named_type(cursor)
     if token.kind is Kind.LOWER and cursor.peek(1).text == "<":
-        cursor.fail("a selection type is not taken", "write the type of the alternative itself")
+        return parse_selection(cursor)
     if token.kind is Kind.LOWER and cursor.peek(1).text == "." and cursor.peek(2).kind is Kind.FIELD:
         cursor.fail(f"the type of a field of the object {token} is not taken", "write the type itself (X.681 15)")
     if token.text in SIMPLE:
@@ -119,19 +121,27 @@ def parse_base(cursor: Cursor) -> Type:
 
 def parse_named_type(cursor: Cursor) -> Type:
     """`Name`, `Module.Name`, `Name{..}`, or `CLASS.&field`."""
-    place, name = cursor.place, cursor.next().text
-    module = None
-    if cursor.sees(".") and cursor.peek(1).kind is Kind.UPPER:
-        cursor.next()
-        module, name = name, cursor.next().text
+    place = cursor.place
+    module, name = parse_reference(cursor)
     if cursor.sees(".") and cursor.peek(1).kind is Kind.FIELD:
-        return parse_field_of_class(cursor, place, module, name)
+        return FieldOfClass(place, module, name, parse_fields_of_fields(cursor))
     return ReferenceType(place, module, name, parse_actuals(cursor))
 
 
-def parse_field_of_class(cursor: Cursor, place: Place, module: str | None, name: str) -> FieldOfClass:
-    """`CLASS.&Field`, or `CLASS.&object.&Field` (X.681 14.1)."""
-    return FieldOfClass(place, module, name, parse_fields_of_fields(cursor))
+def parse_reference(cursor: Cursor) -> tuple[str | None, str]:
+    """`Name` or `Module.Name` (14.1)."""
+    name = cursor.next().text
+    if cursor.sees(".") and cursor.peek(1).kind is Kind.UPPER:
+        cursor.next()
+        return name, cursor.next().text
+    return None, name
+
+
+def parse_selection(cursor: Cursor) -> SelectionType:
+    """`alternative < Type` (30.1)."""
+    name = cursor.next()
+    cursor.next()
+    return SelectionType(name.place, name.text, parse_base(cursor))
 
 
 def parse_actuals(cursor: Cursor) -> tuple[Actual, ...]:
@@ -187,6 +197,22 @@ def parse_octet(cursor: Cursor, place: Place) -> SimpleType:
 def parse_object(cursor: Cursor, place: Place) -> SimpleType:
     cursor.expect("IDENTIFIER", "write 'OBJECT IDENTIFIER'")
     return SimpleType(place, Simple.OBJECT_IDENTIFIER)
+
+
+def parse_instance(cursor: Cursor, place: Place) -> FieldsType:
+    """`INSTANCE OF CLASS`, as the SEQUENCE that X.681 annex C says it is."""
+    cursor.expect("OF", "write 'INSTANCE OF CLASS'")
+    if not cursor.sees_kind(Kind.UPPER) and not cursor.sees("TYPE-IDENTIFIER"):
+        cursor.fail(f"{cursor.peek()} stands where the name of a class is expected", "write 'INSTANCE OF CLASS'")
+    first = cursor.peek()
+    module, name = parse_reference(cursor)
+    text = cursor.text_from(first)
+    value = TaggedType(place, TagClass.CONTEXT, 0, TagMode.EXPLICIT, FieldOfClass(place, module, name, ("&Type",)))
+    parts = (
+        Component(place, "type-id", FieldOfClass(place, module, name, ("&id",)), False, None, (), f"{text}.&id"),
+        Component(place, "value", value, False, None, (), f"[0] EXPLICIT {text}.&Type"),
+    )
+    return FieldsType(place, False, parts, False, is_instance=True)
 
 
 def parse_named_numbers(cursor: Cursor, what: str) -> tuple[NamedNumber, ...]:
@@ -283,6 +309,7 @@ BASES: dict[str, Callable[[Cursor, Place], Type]] = {
     "BIT": parse_bit,
     "CHOICE": parse_choice,
     "ENUMERATED": parse_enumerated,
+    "INSTANCE": parse_instance,
     "INTEGER": parse_integer,
     "OBJECT": parse_object,
     "OCTET": parse_octet,

@@ -14,12 +14,14 @@ from ..syntax import (
     FieldOfClass,
     NamedNumber,
     ReferenceType,
+    SelectionType,
     Simple,
     SimpleType,
     TaggedType,
     Type,
     TypeAssignment,
 )
+from ..tagging import alternatives
 
 MOST_STEPS = 1000  # from a type to what it is: a parameter's name may be met again, and stand for another type then
 NOWHERE = Place("X.681", 1, 1)
@@ -87,6 +89,24 @@ def field_of(class_: ClassAssignment, name: str, place: Place) -> ClassField:
     raise AsnError(place, f"the class '{class_.name}' has no field '{name}'", f"its fields are {known}")
 
 
+def selected(library: Library, env: Env, type_: SelectionType) -> tuple[Env, Type]:
+    """The type of an alternative, with the tag that the alternative has (X.680 30)."""
+    env, base = base_of(library, env, type_.type)
+    if not isinstance(base, ChoiceType):
+        raise AsnError(type_.place, f"what stands after '{type_.name} <' is no CHOICE", "write the name of a CHOICE (X.680 30.1)")
+    parts = alternatives(env, base)
+    for part in parts:
+        if part.name == type_.name:
+            return env, part.type
+    known = ", ".join(part.name for part in parts)
+    raise AsnError(type_.place, f"the CHOICE has no alternative '{type_.name}'", f"its alternatives are {known}")
+
+
+def meant(library: Library, env: Env, type_: FieldOfClass | SelectionType) -> tuple[Env, Type]:
+    """What a type stands for that is told by a class or by a CHOICE."""
+    return selected(library, env, type_) if isinstance(type_, SelectionType) else type_of_field(library, env, type_)
+
+
 def bind(env: Env, scope: Scope, assignment: TypeAssignment, reference: ReferenceType) -> Env:
     """The names within a parameterised type (X.683 9)."""
     if len(assignment.parameters) != len(reference.actuals):
@@ -128,8 +148,8 @@ def base_of(library: Library, env: Env, type_: Type) -> tuple[Env, Type]:
             type_ = type_.type
         elif isinstance(type_, ReferenceType):
             env, type_ = follow(library, env, type_)
-        elif isinstance(type_, FieldOfClass):
-            env, type_ = type_of_field(library, env, type_)
+        elif isinstance(type_, (FieldOfClass, SelectionType)):
+            env, type_ = meant(library, env, type_)
         else:
             break
     return env, type_
@@ -144,8 +164,8 @@ def is_untagged_choice(library: Library, env: Env, type_: Type) -> bool:
             type_ = type_.type
         elif isinstance(type_, ReferenceType):
             env, type_ = follow(library, env, type_)
-        elif isinstance(type_, FieldOfClass):
-            env, type_ = type_of_field(library, env, type_)
+        elif isinstance(type_, (FieldOfClass, SelectionType)):
+            env, type_ = meant(library, env, type_)
         else:
             break
     return isinstance(type_, (ChoiceType, AnyType))

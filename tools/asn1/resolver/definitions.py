@@ -36,10 +36,11 @@ from ..syntax import (
     Type,
     TypeAssignment,
 )
+from ..tagging import alternatives
 from ..values import enumeration_of
 from . import types
 from .classes import bind, has_type_parameter
-from .components import alternatives_of, check_spelling, fields_of, with_tags
+from .components import alternatives_of, check_spelling, fields_of
 from .context import DEEPEST, Context, State, too_deep
 from .signatures import signature
 
@@ -156,6 +157,9 @@ def plain(context: Context, name: str, text: str, base: Type, tag: Tag | None, c
     """A SEQUENCE, a SET, a CHOICE, a list or an ENUMERATED, with a tag in place of its own if it has one."""
     about = (base.place, context.home, name, context.inner, text, context.remarks)
     if isinstance(base, FieldsType):
+        if base.is_instance and tag is None:
+            instead = "write an implicit tag before it, where it stands, as '[0] IMPLICIT INSTANCE OF ..'"
+            raise AsnError(base.place, "INSTANCE OF with its own tag, [UNIVERSAL 8], is not taken", instead)
         if base.extensible:
             context.remark(base.place, "'...': fields that this module does not have are refused")
         fields, declared = fields_of(context, base)
@@ -194,7 +198,7 @@ def behind_tags(
 
 def choice_of_one(context: Context, name: str, text: str, base: ChoiceType) -> Alias:
     """A CHOICE of one alternative has its octets and no others (X.690 8.13): a second name of it."""
-    (only,) = with_tags(context, base)
+    (only,) = alternatives(context.env, base)
     notes = Notes(only.annotations)
     inner = replace(context, inner=context.inner + camel(only.name), notes=notes)
     found = types.resolve_type(inner, only.type)

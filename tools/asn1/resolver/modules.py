@@ -2,7 +2,10 @@
 
 from __future__ import annotations
 
-from ..errors import AsnError, Remark
+from collections.abc import Iterator
+from contextlib import contextmanager
+
+from ..errors import AsnError, Place, Remark
 from ..model import Constant, Definition, ResolvedModule
 from ..notes import Notes
 from ..scope import Env, Library, Scope
@@ -27,11 +30,18 @@ def resolve(modules: list[Module]) -> tuple[list[ResolvedModule], list[Remark]]:
 
 
 def define_type(state: State, scope: Scope, assignment: TypeAssignment) -> None:
-    """The definition of an assignment; an error where that calls itself oftener than Python allows."""
-    try:
+    """The definition of an assignment."""
+    with within_limits(assignment.place):
         definition_of(state, Env(scope), assignment, assignment.place)
+
+
+@contextmanager
+def within_limits(place: Place) -> Iterator[None]:
+    """An error where what is looked into calls itself oftener than Python allows."""
+    try:
+        yield
     except RecursionError:
-        raise too_deep(assignment.place) from None
+        raise too_deep(place) from None
 
 
 def is_written(state: State, scope: Scope, assignment: TypeAssignment) -> bool:
@@ -65,7 +75,8 @@ def is_identifier(state: State, scope: Scope, assignment: ValueAssignment) -> bo
     """Whether a value is an object identifier: an object of a class is none."""
     if class_of(state.library, Env(scope), assignment.type):
         return False
-    base = base_of(state.library, Env(scope), assignment.type)[1]
+    with within_limits(assignment.place):
+        base = base_of(state.library, Env(scope), assignment.type)[1]
     return isinstance(base, SimpleType) and base.simple is Simple.OBJECT_IDENTIFIER
 
 

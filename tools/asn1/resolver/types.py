@@ -18,6 +18,7 @@ from ..syntax import (
     IntegerType,
     ListType,
     ReferenceType,
+    SelectionType,
     SimpleType,
     TagClass,
     TagDefault,
@@ -27,7 +28,7 @@ from ..syntax import (
 )
 from ..values import number_of
 from . import definitions, leaves
-from .classes import base_of, bind, has_type_parameter, is_untagged_choice, type_of_field
+from .classes import base_of, bind, has_type_parameter, is_untagged_choice, meant
 from .context import Context
 
 Constraints = tuple[Placed, ...]
@@ -41,8 +42,8 @@ def resolve_type(context: Context, type_: Type, constraints: Constraints = ()) -
         return tagged(context, type_, constraints)
     if isinstance(type_, ReferenceType):
         return reference(context, type_, constraints)
-    if isinstance(type_, FieldOfClass):
-        env, inner = type_of_field(context.state.library, context.env, type_)
+    if isinstance(type_, (FieldOfClass, SelectionType)):
+        env, inner = meant(context.state.library, context.env, type_)
         with context.state.within(type_.place):
             return resolve_type(context.within(env), inner, placed(context.env, constraints))
     if isinstance(type_, ListType):
@@ -81,7 +82,7 @@ def written_out(context: Context, type_: Type, constraints: Constraints) -> Defi
 def tagged(context: Context, type_: TaggedType, constraints: Constraints) -> Tagged:
     """A tag before a type."""
     tag, is_explicit = tag_of(context, type_)
-    inner = resolve_type(context, type_.type, constraints)
+    inner = resolve_type(context, type_.type if is_explicit else with_no_tag(type_.type), constraints)
     if not is_explicit and isinstance(inner, Leaf) and inner.whole is Whole.ANY:
         raise AsnError(
             type_.place,
@@ -89,6 +90,13 @@ def tagged(context: Context, type_: TaggedType, constraints: Constraints) -> Tag
             "leave it out, or write OCTET STRING, whose contents octets are any",
         )
     return Tagged(tag, is_explicit, inner)
+
+
+def with_no_tag(type_: Type) -> Type:
+    """A type in which another tag stands in place of its own (X.690 8.14.3): INSTANCE OF is a SEQUENCE then."""
+    if isinstance(type_, ConstrainedType):
+        return replace(type_, type=with_no_tag(type_.type))
+    return replace(type_, is_instance=False) if isinstance(type_, FieldsType) and type_.is_instance else type_
 
 
 def tag_of(context: Context, type_: TaggedType) -> tuple[Tag, bool]:
