@@ -8,7 +8,7 @@ from ..errors import AsnError, Place
 from ..lexer import Kind
 from ..syntax import Component, ComponentsOf, FieldsType
 from .cursor import Cursor
-from . import types
+from . import constraints, types
 from .values import parse_value
 
 INSTEAD = "write components as 'name Type', with commas between them and '}' after the last"
@@ -83,15 +83,8 @@ def take_comma(cursor: Cursor) -> None:
 
 def parse_marker(cursor: Cursor, listed: Listed) -> None:
     """`...`, perhaps with an exception (53)."""
-    skip_exception(cursor)
+    constraints.take_exception(cursor)
     listed.markers += 1
-
-
-def skip_exception(cursor: Cursor) -> None:
-    """`! number`, `! Type : value`: what a program does with what it does not know, which changes no octets (53.4)."""
-    if cursor.take("!"):
-        while cursor.peek().text not in (",", "}") and cursor.peek().kind is not Kind.END:
-            cursor.next()
 
 
 def parse_group(cursor: Cursor, listed: Listed, is_choice: bool) -> None:

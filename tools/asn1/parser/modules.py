@@ -193,6 +193,8 @@ def parse_parameters(cursor: Cursor) -> tuple[Parameter, ...]:
 
 
 def parse_parameter(cursor: Cursor) -> Parameter:
+    if cursor.peek().kind in (Kind.SYMBOL, Kind.END):
+        cursor.fail(f"{cursor.peek()} is no parameter", "write parameters as '{Type, CLASS:Set}'")
     first = cursor.next()
     words = [first.text]
     while cursor.peek().text not in (":", ",", "}") and cursor.peek().kind is not Kind.END:

@@ -139,9 +139,10 @@ def parse_reference(cursor: Cursor) -> tuple[str | None, str]:
 
 def parse_selection(cursor: Cursor) -> SelectionType:
     """`alternative < Type` (30.1)."""
-    name = cursor.next()
-    cursor.next()
-    return SelectionType(name.place, name.text, parse_base(cursor))
+    with cursor.nested("types", "give one of those within a name of its own, by an assignment"):
+        name = cursor.next()
+        cursor.next()
+        return SelectionType(name.place, name.text, parse_base(cursor))
 
 
 def parse_actuals(cursor: Cursor) -> tuple[Actual, ...]:
@@ -256,7 +257,7 @@ def parse_enumerated(cursor: Cursor, place: Place) -> EnumeratedType:
             if extensible:
                 cursor.fail("'...' stands here a second time", "leave it out (X.680 20.1)")
             cursor.next()
-            components.skip_exception(cursor)
+            constraints.take_exception(cursor)
             extensible = True
             continue
         token = cursor.expect_kind(Kind.LOWER, "a name", instead)

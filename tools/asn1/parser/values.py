@@ -35,8 +35,8 @@ def parse_value(cursor: Cursor) -> Value:
     place, token = cursor.place, cursor.peek()
     if cursor.sees("{"):
         return parse_braced(cursor)
-    if token.kind in (Kind.UPPER, Kind.WORD) and cursor.peek(1).text == ":":
-        return parse_open(cursor)
+    if token.kind in (Kind.UPPER, Kind.LOWER, Kind.WORD) and cursor.peek(1).text == ":":
+        return parse_within(cursor)
     if not sees_value(cursor):
         cursor.fail(f"{token} is no value", "write a number, TRUE, FALSE, a name, or a value in braces")
     if token.kind is Kind.UPPER:
@@ -55,10 +55,6 @@ def parse_value(cursor: Cursor) -> Value:
         return BooleanValue(place, token.text == "TRUE")
     if token.text == "NULL":
         return NullValue(place)
-    if token.kind is Kind.LOWER and cursor.sees(":"):
-        cursor.next()
-        parse_value(cursor)
-        return OtherValue(place, f"{token.text} : ..")
     if token.kind is Kind.LOWER and (cursor.sees("{") or cursor.sees(".")):
         return parse_of_object(cursor, token)
     if token.kind is Kind.LOWER:
@@ -66,12 +62,13 @@ def parse_value(cursor: Cursor) -> Value:
     return OtherValue(place, token.text)
 
 
-def parse_open(cursor: Cursor) -> OtherValue:
-    """`Type : value`, of an open type (X.681 14.6)."""
-    first = cursor.next()
-    cursor.next()
-    parse_value(cursor)
-    return OtherValue(first.place, cursor.text_from(first))
+def parse_within(cursor: Cursor) -> OtherValue:
+    """`alternative : value` of a CHOICE (X.680 29.11), or `Type : value` of an open type (X.681 14.6)."""
+    with cursor.nested("values", "give one of those within a name of its own, by an assignment"):
+        first = cursor.next()
+        cursor.next()
+        parse_value(cursor)
+        return OtherValue(first.place, cursor.text_from(first))
 
 
 def parse_of_object(cursor: Cursor, name: Token) -> OtherValue:

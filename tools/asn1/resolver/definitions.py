@@ -165,8 +165,7 @@ def plain(context: Context, name: str, text: str, base: Type, tag: Tag | None, c
         fields, declared = fields_of(context, base)
         return Struct(*about, is_set=base.is_set, fields=fields, declared=declared, tag=tag)
     if isinstance(base, ChoiceType):
-        if base.extensible:
-            context.remark(base.place, "'...': alternatives that this module does not have are refused")
+        remark_on_extensions(context, base)
         return Choice(*about, alternatives=alternatives_of(context, base))
     if isinstance(base, ListType):
         never_empty = types.is_never_empty(context, constraints)
@@ -180,6 +179,12 @@ def plain(context: Context, name: str, text: str, base: Type, tag: Tag | None, c
     check_spelling([(one.place, one.name, enumeration_name(one.name, context.inner)) for one in base.named])
     named = tuple(Named(*one) for one in values.items())
     return Enumeration(*about, values=named, is_extensible=base.extensible, tag=tag)
+
+
+def remark_on_extensions(context: Context, base: ChoiceType) -> None:
+    """Says of a CHOICE with '...' that alternatives may come."""
+    if base.extensible:
+        context.remark(base.place, "'...': alternatives that this module does not have are refused")
 
 
 def behind_tags(
@@ -198,6 +203,7 @@ def behind_tags(
 
 def choice_of_one(context: Context, name: str, text: str, base: ChoiceType) -> Alias:
     """A CHOICE of one alternative has its octets and no others (X.690 8.13): a second name of it."""
+    remark_on_extensions(context, base)
     (only,) = alternatives(context.env, base)
     notes = Notes(only.annotations)
     inner = replace(context, inner=context.inner + camel(only.name), notes=notes)
