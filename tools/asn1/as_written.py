@@ -10,7 +10,7 @@ from dataclasses import dataclass, replace
 from itertools import count
 
 from .errors import Place
-from .resolver.classes import base_of, follow, type_of_field
+from .resolver.classes import base_of, follow, meant
 from .scope import Env, Library
 from .spelling import field
 from .syntax import (
@@ -26,6 +26,7 @@ from .syntax import (
     NamedNumber,
     ReferenceType,
     ReferenceValue,
+    SelectionType,
     Simple,
     SimpleType,
     TagClass,
@@ -133,8 +134,8 @@ def first_tag(library: Library, env: Env, type_: Type) -> tuple[int, int]:
         return first_tag(library, env, type_.type)
     if isinstance(type_, ReferenceType):
         return first_tag(library, *follow(library, env, type_))
-    if isinstance(type_, FieldOfClass):
-        return first_tag(library, *type_of_field(library, env, type_))
+    if isinstance(type_, (FieldOfClass, SelectionType)):
+        return first_tag(library, *meant(library, env, type_))
     if isinstance(type_, ChoiceType):
         (only,) = alternatives(env, type_)
         return tag_of(library, only)

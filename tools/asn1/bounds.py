@@ -3,6 +3,7 @@
 from __future__ import annotations
 
 from dataclasses import dataclass
+from typing import Union
 
 from .scope import Env, Library
 from .syntax import Combined, Constraint, Range, SingleValue, Size, Value
@@ -26,8 +27,26 @@ FREE = Bounds()
 UNKNOWN = Bounds(exact=False)
 
 
-def bounds_of(library: Library, env: Env, constraint: Constraint, named: dict[str, int]) -> Bounds:
+@dataclass(frozen=True)
+class Elsewhere:
+    """A constraint, and the names that it is understood by, where these are not those of the type before it."""
+
+    env: Env
+    of: Constraint
+
+
+Placed = Union[Constraint, Elsewhere]
+
+
+def placed(env: Env, constraints: tuple[Placed, ...]) -> tuple[Placed, ...]:
+    """The constraints, each with the names that it is understood by: these, or those that it has already."""
+    return tuple(one if isinstance(one, Elsewhere) else Elsewhere(env, one) for one in constraints)
+
+
+def bounds_of(library: Library, env: Env, constraint: Placed, named: dict[str, int]) -> Bounds:
     """The bounds of a constraint on an INTEGER, or on a size."""
+    if isinstance(constraint, Elsewhere):
+        return bounds_of(library, constraint.env, constraint.of, named)
     if isinstance(constraint, SingleValue):
         number = number_of(library, env, constraint.value, named)
         return Bounds(number, number)
@@ -79,8 +98,10 @@ def both(first: Bounds, second: Bounds) -> Bounds:
     )
 
 
-def size_of(library: Library, env: Env, constraint: Constraint) -> Bounds | None:
+def size_of(library: Library, env: Env, constraint: Placed) -> Bounds | None:
     """The bounds of a SIZE constraint; None where it is none."""
+    if isinstance(constraint, Elsewhere):
+        return size_of(library, constraint.env, constraint.of)
     if isinstance(constraint, Size):
         return bounds_of(library, env, constraint.of, {})
     if isinstance(constraint, Combined) and len(constraint.parts) == 1 and constraint.extensible:

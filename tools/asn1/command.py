@@ -6,15 +6,13 @@ import argparse
 import sys
 from pathlib import Path
 
-from .crates import Entry, entries_of, parts_of, places_of
+from .crates import entries_of, parts_of, places_of
 from .errors import AsnError
+from .files import read
 from .folders import check, put
 from .layout import LayoutError, laid_out
-from .parser import parse_module
-from .reading import text_of_file
 from .resolver import resolve
 from .standing import lines_to_write
-from .syntax import Module
 from .writer.crate import files_of_crate, marked
 from .writer.holders import hold_tagged
 from .writer.parts import write_parts
@@ -55,15 +53,12 @@ def options_of(arguments: list[str]) -> argparse.Namespace:
 
 def write_all(path: Path, with_remarks: bool) -> dict[str, str]:
     """The text of each file, by its path in crates/."""
-    entries = entries_of(path)
-    modules = [parse_module(str(entry.file), text_of_file(entry.file)) for entry in entries]
+    modules, entries = read(entries_of(path))
     resolved, remarks = resolve(modules)
     given = {str(entry.file) for entry in entries if entry.is_given}
     for remark in remarks if with_remarks else ():
         if remark.place.file not in given:
             print(remark, file=sys.stderr)
-    for module, entry in zip(modules, entries):
-        check_entry(module, entry)
     split_choices(resolved)
     hold_tagged(resolved)
     targets = {module.name: Target(entry.crate, entry.module) for module, entry in zip(resolved, entries)}
@@ -85,11 +80,3 @@ def write_all(path: Path, with_remarks: bool) -> dict[str, str]:
     return laid_out(found)
 
 
-def check_entry(module: Module, entry: Entry) -> None:
-    """A module that assigns something is written to a module of the crate, and so has a name there."""
-    if module.assignments and not entry.module:
-        raise AsnError(
-            module.place,
-            f"the module '{module.name}' has no name in the crate '{entry.crate}'",
-            f"write 'name={entry.file.name}' in the list",
-        )

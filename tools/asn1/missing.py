@@ -8,7 +8,7 @@ from pathlib import Path
 
 from .crates import Entry, entries_of
 from .errors import AsnError, Place
-from .parser import parse_module
+from .parser import parse_modules
 from .reading import text_of_file
 from .syntax import Module
 
@@ -55,8 +55,11 @@ def words_of(tree: object) -> Iterator[str]:
 def library_modules() -> dict[str, tuple[Module, Entry]]:
     """The modules of the library by their names, each with its file and its crate."""
     entries = entries_of(LIBRARY) if LIBRARY.exists() else []
-    read = [(parse_module(str(entry.file), text_of_file(entry.file)), entry) for entry in entries]
-    return {module.name: (module, entry) for module, entry in read}
+    return {
+        module.name: (module, entry)
+        for entry in entries
+        for module in parse_modules(str(entry.file), text_of_file(entry.file))
+    }
 
 
 def advice(lacking: list[str], known: dict[str, tuple[Module, Entry]]) -> str:

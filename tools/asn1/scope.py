@@ -11,7 +11,6 @@ from .syntax import (
     Actual,
     Assignment,
     ClassAssignment,
-    Import,
     Module,
     SetAssignment,
     TypeAssignment,
@@ -32,11 +31,13 @@ class Scope:
 
     module: Module
     assigned: dict[str, Assignment]
-    imported: dict[str, Import]
+    imported: dict[str, tuple[str, ...]]  # the modules that each name is imported from
 
     def hands_on(self, name: str) -> bool:
-        """Whether a name is imported, and exported again (13.13 ii)."""
-        return name in self.imported and name in [token.text for token in self.module.exports or ()]
+        """Whether a name is imported from one module, and exported again: by its name, or with all others (13.13, 13.16 a)."""
+        exports = self.module.exports
+        is_exported = exports is None or name in [token.text for token in exports]
+        return is_exported and len(self.imported.get(name, ())) == 1
 
 
 @dataclass(frozen=True)
@@ -78,13 +79,13 @@ class Library:
             source = self.scopes.get(imported.module)
             for symbol in imported.symbols if source else ():
                 assert source is not None
-                if symbol.text not in source.assigned and not source.hands_on(symbol.text):
+                exports = source.module.exports
+                if symbol.text not in source.assigned and symbol.text not in source.imported:
                     raise AsnError(
                         symbol.place,
                         f"the module '{imported.module}' assigns no '{symbol.text}'",
                         nearest(symbol.text, list(source.assigned)),
                     )
-                exports = source.module.exports
                 if exports is not None and symbol.text not in [token.text for token in exports]:
                     raise AsnError(
                         symbol.place,
@@ -109,13 +110,21 @@ class Library:
             return self.find_in(module, name, place)
         if name in scope.assigned:
             return scope, scope.assigned[name]
-        if name in scope.imported:
-            return self.find_in(scope.imported[name].module, name, place)
-        raise AsnError(
-            place,
-            f"'{name}' is neither assigned in '{scope.module.name}' nor imported",
-            nearest(name, [*scope.assigned, *scope.imported]),
-        )
+        if name not in scope.imported:
+            raise AsnError(
+                place,
+                f"'{name}' is neither assigned in '{scope.module.name}' nor imported",
+                nearest(name, [*scope.assigned, *scope.imported]),
+            )
+        found = [self.find_in(source, name, place) for source in scope.imported[name]]
+        if any(one[1] is not found[0][1] for one in found):
+            sources = scope.imported[name]
+            raise AsnError(
+                place,
+                f"'{name}' is imported from {' and '.join(sources)}, which assign it differently",
+                f"write '{sources[0]}.{name}', or the name with another of the modules before it (X.680 14.1)",
+            )
+        return found[0]
 
     def find_in(self, module: str, name: str, place: Place, by: tuple[str, ...] = ()) -> tuple[Scope, Assignment]:
         """The assignment of a name in another module, by the modules that hand it on."""
@@ -125,7 +134,13 @@ class Library:
         if name in source.assigned:
             return source, source.assigned[name]
         if source.hands_on(name) and module not in by:
-            return self.find_in(source.imported[name].module, name, place, (*by, module))
+            return self.find_in(source.imported[name][0], name, place, (*by, module))
+        if len(source.imported.get(name, ())) > 1:
+            raise AsnError(
+                place,
+                f"the module '{module}' imports '{name}' from {' and '.join(source.imported[name])}, and so hands on none of them",
+                "import it from the module that assigns it (X.680 13.16 a)",
+            )
         raise AsnError(place, f"the module '{module}' assigns no '{name}'", nearest(name, list(source.assigned)))
 
     def find_type(self, env: Env, name: str, place: Place, module: str | None = None) -> tuple[Scope, TypeAssignment]:
@@ -158,17 +173,17 @@ def scope_of(module: Module) -> Scope:
                 f"give one of them another name; the other is at {other.place}",
             )
         assigned[assignment.name] = assignment
-    imported: dict[str, Import] = {}
+    return Scope(module, assigned, imported_by(module))
+
+
+def imported_by(module: Module) -> dict[str, tuple[str, ...]]:
+    """The names that a module imports, each with the modules that it is imported from."""
+    found: dict[str, tuple[str, ...]] = {}
     for import_ in module.imports:
         for symbol in import_.symbols:
-            if symbol.text in assigned or symbol.text in imported:
-                raise AsnError(
-                    symbol.place,
-                    f"'{symbol.text}' is imported, and assigned or imported elsewhere too",
-                    "leave one out, and write 'Module.Name' where the other is meant",
-                )
-            imported[symbol.text] = import_
-    return Scope(module, assigned, imported)
+            before = found.get(symbol.text, ())
+            found[symbol.text] = before if import_.module in before else (*before, import_.module)
+    return found
 
 
 def check_names(names: list[tuple[Place, str]], what: str) -> None:

@@ -267,6 +267,7 @@ class Component:
     annotations: tuple[Annotation, ...]
     text: str = ""  # its type, with what stands after it
     is_addition: bool = False  # after '...' (25.1): an extension addition
+    is_later: bool = False  # an addition with neither OPTIONAL nor DEFAULT: absent where an older version made the value
 
 
 @dataclass(frozen=True)
@@ -285,6 +286,7 @@ class FieldsType:
     is_set: bool
     components: tuple[Union[Component, ComponentsOf], ...]
     extensible: bool
+    is_instance: bool = False  # it is INSTANCE OF (X.681 annex C), whose own tag is [UNIVERSAL 8]
 
 
 @dataclass(frozen=True)
@@ -316,8 +318,18 @@ class FieldOfClass:
     """`CLASS.&field`: an open type, or the type of a value field (X.681 14)."""
 
     place: Place
+    module: str | None
     class_name: str
     fields: tuple[str, ...]
+
+
+@dataclass(frozen=True)
+class SelectionType:
+    """`alternative < Type` (30)."""
+
+    place: Place
+    name: str
+    type: "Type"
 
 
 @dataclass(frozen=True)
@@ -371,6 +383,7 @@ Type = Union[
     ListType,
     AnyType,
     FieldOfClass,
+    SelectionType,
     ReferenceType,
     TaggedType,
     ConstrainedType,

@@ -7,7 +7,8 @@ from dataclasses import replace
 from .errors import AsnError
 from .model import Field, Presence, Tag
 from .properties import tags_of
-from .syntax import Component, TagClass, TaggedType, Type
+from .scope import Env
+from .syntax import ChoiceType, Component, TagClass, TagDefault, TaggedType, Type
 
 
 def automatic(components: list[Component]) -> list[Component]:
@@ -19,6 +20,13 @@ def automatic(components: list[Component]) -> list[Component]:
         replace(part, type=TaggedType(part.place, TagClass.CONTEXT, numbers[id(part)], None, untagged(part.type), True))
         for part in components
     ]
+
+
+def alternatives(env: Env, type_: ChoiceType) -> list[Component]:
+    """The alternatives with automatic tags, if the module gives them some (29.2)."""
+    parts = list(type_.alternatives)
+    is_automatic = env.scope.module.tag_default is TagDefault.AUTOMATIC and not are_tagged(parts)
+    return automatic(parts) if is_automatic else parts
 
 
 def untagged(type_: Type) -> Type:

@@ -5,7 +5,7 @@ from __future__ import annotations
 from itertools import count
 
 from .errors import AsnError, Place
-from .scope import Env, Library, check_names
+from .scope import Binding, Env, Library, check_names
 from .syntax import (
     Arc,
     BracedValue,
@@ -44,6 +44,10 @@ def assigned_value(library: Library, env: Env, value: ReferenceValue) -> tuple[E
     found: Value = value
     seen: set[tuple[str, str]] = set()
     while isinstance(found, ReferenceValue):
+        binding = env.bindings.get(found.name) if found.module is None else None
+        if binding is not None:
+            env, found = binding.env, value_of(binding, found)
+            continue
         scope, assignment = library.find(env, found.name, found.place, found.module)
         key = (scope.module.name, found.name)
         if key in seen:
@@ -53,6 +57,13 @@ def assigned_value(library: Library, env: Env, value: ReferenceValue) -> tuple[E
             break
         env, found = Env(scope), assignment.value
     return env, found
+
+
+def value_of(binding: Binding, name: ReferenceValue) -> Value:
+    """The value that is given for a parameter (X.683 9.5)."""
+    if binding.actual.value is None:
+        raise AsnError(name.place, f"'{name.name}' stands for no value here", "give a value as the parameter")
+    return binding.actual.value
 
 
 def numbers_of(library: Library, env: Env, named: tuple[NamedNumber, ...]) -> dict[str, int]:

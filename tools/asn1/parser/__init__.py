@@ -1,5 +1,5 @@
-"""The parser: from the lexical items of a module to its tree."""
+"""The parser: from the lexical items of modules to their trees."""
 
-from .modules import parse_module
+from .modules import parse_modules
 
-__all__ = ["parse_module"]
+__all__ = ["parse_modules"]

@@ -8,7 +8,7 @@ from ..errors import AsnError, Place
 from ..lexer import Kind
 from ..syntax import Component, ComponentsOf, FieldsType
 from .cursor import Cursor
-from . import types
+from . import constraints, types
 from .values import parse_value
 
 INSTEAD = "write components as 'name Type', with commas between them and '}' after the last"
@@ -30,7 +30,7 @@ class Listed:
 def parse_fields(cursor: Cursor, place: Place, is_set: bool) -> FieldsType:
     """`{ name Type OPTIONAL, name Type DEFAULT value, .. }`."""
     listed = parse_braces(cursor, is_choice=False)
-    return FieldsType(place, is_set, tuple(listed.components), listed.markers > 0)
+    return FieldsType(place, is_set, tuple(listed.components), listed.markers > 0 or cursor.is_extensible)
 
 
 def parse_alternatives(cursor: Cursor) -> tuple[tuple[Component, ...], bool]:
@@ -83,15 +83,8 @@ def take_comma(cursor: Cursor) -> None:
 
 def parse_marker(cursor: Cursor, listed: Listed) -> None:
     """`...`, perhaps with an exception (53)."""
-    skip_exception(cursor)
+    constraints.take_exception(cursor)
     listed.markers += 1
-
-
-def skip_exception(cursor: Cursor) -> None:
-    """`! number`, `! Type : value`: what a program does with what it does not know, which changes no octets (53.4)."""
-    if cursor.take("!"):
-        while cursor.peek().text not in (",", "}") and cursor.peek().kind is not Kind.END:
-            cursor.next()
 
 
 def parse_group(cursor: Cursor, listed: Listed, is_choice: bool) -> None:
@@ -126,11 +119,7 @@ def parse_component(cursor: Cursor, is_addition: bool, is_choice: bool) -> Compo
         if cursor.peek().text in ("OPTIONAL", "DEFAULT"):
             found = parse_presence(cursor, found, is_choice)
         if is_addition and not is_choice and not found.optional and found.default is None:
-            raise AsnError(
-                place,
-                f"'{found.name}' stands after '...' and is neither OPTIONAL nor DEFAULT",
-                "write OPTIONAL, as an older sender leaves it out, or write it before the '...'",
-            )
+            found = replace(found, optional=True, is_later=True)
         text = cursor.text_from(first)
         take_comma(cursor)
     return replace(found, annotations=tuple(annotations), text=text)

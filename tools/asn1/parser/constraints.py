@@ -3,7 +3,6 @@
 from __future__ import annotations
 
 from ..errors import Place
-from ..lexer import Kind
 from ..syntax import (
     Alphabet,
     Combined,
@@ -45,11 +44,19 @@ def parse_constraint_here(cursor: Cursor) -> Constraint:
         root = Combined(place, "|", (root,), True)
         if cursor.take(","):
             parse_union(cursor)
-    if cursor.take("!"):
-        while not cursor.sees(")") and not cursor.sees_kind(Kind.END):
-            cursor.next()
+    take_exception(cursor)
     cursor.expect(")", "close the constraint")
     return root
+
+
+def take_exception(cursor: Cursor) -> None:
+    """`! value`, `! Type : value`: what a program does with what it does not know, which changes no octets (53.4)."""
+    if not cursor.take("!"):
+        return
+    if not sees_value(cursor):
+        types.parse_type(cursor)
+        cursor.expect(":", "write an exception as '! number' or '! Type : value'")
+    parse_value(cursor)
 
 
 def parse_union(cursor: Cursor) -> Constraint:

@@ -23,6 +23,7 @@ class Cursor:
         self.tokens = tokens_of(file, text)
         self.at = 0
         self.depth = 0
+        self.is_extensible = False  # the module has EXTENSIBILITY IMPLIED: '...' stands in each type that has none (13.4)
         self.collected: list[list[Annotation]] = [[]]
 
     def peek(self, ahead: int = 0) -> Token:

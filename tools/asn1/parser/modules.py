@@ -22,10 +22,21 @@ from .cursor import Cursor
 from .types import parse_type
 from .values import arcs_of, parse_value
 
+# What may stand after the name of a type field (X.681 9.5); after that of a set field stands its type or its class.
+AFTER_A_TYPE_FIELD = (",", "}", "OPTIONAL", "DEFAULT")
 
-def parse_module(file: str, text: str) -> Module:
-    """The one module of a file."""
+
+def parse_modules(file: str, text: str) -> list[Module]:
+    """The modules of a file, of which there may be any number (X.680 13.1)."""
     cursor = Cursor(file, text)
+    found = [parse_module(cursor, file)]
+    while cursor.peek().kind is not Kind.END:
+        found.append(parse_module(cursor, file))
+    return found
+
+
+def parse_module(cursor: Cursor, file: str) -> Module:
+    """The module that begins here."""
     header = parse_header(cursor)
     is_unchecked = parse_begin(cursor)
     exports = parse_exports(cursor)
@@ -33,8 +44,6 @@ def parse_module(file: str, text: str) -> Module:
     assignments = []
     while not cursor.take("END"):
         assignments.append(parse_assignment(cursor))
-    if cursor.peek().kind is not Kind.END:
-        cursor.fail(f"{cursor.peek()} stands after the END of the module", "write each module in a file of its own")
     name, identifier, tag_default = header
     return Module(name.place, name.text, identifier, tag_default, imports, exports, tuple(assignments), file, is_unchecked)
 
@@ -48,8 +57,9 @@ def parse_header(cursor: Cursor) -> tuple[Token, tuple[Arc, ...], TagDefault]:
     if cursor.peek().text in ("EXPLICIT", "IMPLICIT", "AUTOMATIC"):
         tag_default = TagDefault(cursor.next().text)
         cursor.expect("TAGS", "write 'EXPLICIT TAGS', 'IMPLICIT TAGS' or 'AUTOMATIC TAGS'")
-    if cursor.sees("EXTENSIBILITY"):
-        cursor.fail("EXTENSIBILITY IMPLIED is not taken", "write '...' where a type may get additions")
+    cursor.is_extensible = cursor.take("EXTENSIBILITY")
+    if cursor.is_extensible:
+        cursor.expect("IMPLIED", "write 'EXTENSIBILITY IMPLIED'")
     cursor.expect("::=", "write '::= BEGIN' after the header")
     return name, identifier, tag_default
 
@@ -142,23 +152,22 @@ def parse_assignment(cursor: Cursor) -> Assignment:
         cursor.fail("the end of the file stands where END is expected", "end the module with 'END'")
     if first.kind is not Kind.UPPER:
         cursor.fail(f"{first} stands where an assignment is expected", "write 'Name ::= Type' or 'name Type ::= value'")
-    if cursor.peek(1).text not in ("::=", "{"):
-        return parse_set_assignment(cursor)
     return parse_type_assignment(cursor)
 
 
 def parse_value_assignment(cursor: Cursor) -> ValueAssignment:
-    """`name Type ::= value` (16.2); an object looks the same."""
+    """`name Type ::= value` (16.2), perhaps with parameters after the name (X.683 8.1); an object looks the same."""
     name = cursor.next()
+    parse_parameters(cursor)
     type_ = parse_type(cursor)
     cursor.expect("::=", "write 'name Type ::= value'")
     value = parse_value(cursor)
     return ValueAssignment(name.place, name.text, type_, value, cursor.source_from(name))
 
 
-def parse_set_assignment(cursor: Cursor) -> SetAssignment:
-    """`Name GOVERNOR ::= { .. }` (X.681 12.1, X.680 16.6)."""
-    name, governor = cursor.next(), cursor.peek()
+def parse_set_assignment(cursor: Cursor, name: Token) -> SetAssignment:
+    """`Name GOVERNOR ::= { .. }` (X.681 12.1, X.680 16.6), of which the name and its parameters are taken."""
+    governor = cursor.peek()
     parse_type(cursor)
     text = cursor.text_from(governor)
     cursor.expect("::=", "write 'Name CLASS ::= { .. }'")
@@ -168,12 +177,14 @@ def parse_set_assignment(cursor: Cursor) -> SetAssignment:
     return SetAssignment(name.place, name.text, text)
 
 
-def parse_type_assignment(cursor: Cursor) -> TypeAssignment | ClassAssignment:
-    """`Name ::= Type`, `Name{Parameters} ::= Type`, `NAME ::= CLASS { .. }`."""
+def parse_type_assignment(cursor: Cursor) -> TypeAssignment | ClassAssignment | SetAssignment:
+    """`Name ::= Type`, `Name{Parameters} ::= Type`, `NAME ::= CLASS { .. }`, `Name GOVERNOR ::= { .. }`."""
     with cursor.collecting() as annotations:
         name = cursor.next()
         parameters = parse_parameters(cursor)
-        cursor.expect("::=", "write 'Name ::= Type'")
+        if not cursor.sees("::="):
+            return parse_set_assignment(cursor, name)
+        cursor.next()
         if cursor.sees("CLASS"):
             return parse_class(cursor, name)
         type_ = parse_type(cursor)
@@ -193,6 +204,8 @@ def parse_parameters(cursor: Cursor) -> tuple[Parameter, ...]:
 
 
 def parse_parameter(cursor: Cursor) -> Parameter:
+    if cursor.peek().kind in (Kind.SYMBOL, Kind.END):
+        cursor.fail(f"{cursor.peek()} is no parameter", "write parameters as '{Type, CLASS:Set}'")
     first = cursor.next()
     words = [first.text]
     while cursor.peek().text not in (":", ",", "}") and cursor.peek().kind is not Kind.END:
@@ -225,11 +238,11 @@ def parse_class(cursor: Cursor, name: Token) -> ClassAssignment:
 
 
 def parse_class_field(cursor: Cursor) -> ClassField:
-    """`&Type OPTIONAL`, `&value Type UNIQUE`, `&Set CLASS` (X.681 9.5 to 9.13)."""
+    """`&Type OPTIONAL`, `&value Type UNIQUE`, `&value &Type`, `&Set CLASS` (X.681 9.5 to 9.13)."""
     instead = "write a field as '&Type' or '&value Type'"
     token = cursor.expect_kind(Kind.FIELD, "the name of a field", instead)
     field_type = None
-    if token.text[1].islower():
+    if not cursor.sees_kind(Kind.FIELD) and (token.text[1].islower() or cursor.peek().text not in AFTER_A_TYPE_FIELD):
         field_type = parse_type(cursor)
     while cursor.peek().text not in (",", "}"):
         if cursor.peek().kind is Kind.END:

@@ -11,16 +11,19 @@ from ..syntax import (
     AnyType,
     BitStringType,
     ChoiceType,
+    Component,
     ConstrainedType,
     Constraint,
     EnumeratedType,
     FieldOfClass,
+    FieldsType,
     IntegerType,
     ListType,
     NamedNumber,
     NullValue,
     ReferenceType,
     ReferenceValue,
+    SelectionType,
     Simple,
     SimpleType,
     TagClass,
@@ -30,7 +33,7 @@ from ..syntax import (
 )
 from . import components, constraints
 from .cursor import Cursor
-from .values import parse_value, sees_value
+from .values import parse_external, parse_fields_of_fields, parse_value, sees_value
 
 CLASSES = {"UNIVERSAL": TagClass.UNIVERSAL, "APPLICATION": TagClass.APPLICATION, "PRIVATE": TagClass.PRIVATE}
 
@@ -44,7 +47,6 @@ REFUSED = {
     "EXTERNAL": "write the SEQUENCE of X.690 8.18 out",
     "EMBEDDED": "write the SEQUENCE of X.680 36.5 out",
     "CHARACTER": "write the SEQUENCE of X.680 44.5 out",
-    "INSTANCE": "write 'SEQUENCE { type-id OBJECT IDENTIFIER, value [0] EXPLICIT ANY }' with the tag [UNIVERSAL 8]",
     "MACRO": "write the types of the macro's values out (X.208 annex A is withdrawn)",
 }
 
@@ -83,7 +85,14 @@ def parse_tag_number(cursor: Cursor) -> int | ReferenceValue:
     """The number of a tag, or the name of one (31.2)."""
     if cursor.sees_kind(Kind.NUMBER):
         return int(cursor.next().text)
-    token = cursor.expect_kind(Kind.LOWER, "the number of a tag", "write a tag as '[number]' or '[APPLICATION number]'")
+    return parse_name_of_number(cursor, "the number of a tag", "write a tag as '[number]' or '[APPLICATION number]'")
+
+
+def parse_name_of_number(cursor: Cursor, what: str, instead: str) -> ReferenceValue:
+    """`name`, or `Module.name` (14.6)."""
+    if cursor.sees_kind(Kind.UPPER) and sees_value(cursor):
+        return parse_external(cursor)
+    token = cursor.expect_kind(Kind.LOWER, what, instead)
     return ReferenceValue(token.place, None, token.text)
 
 
@@ -95,7 +104,9 @@ def parse_base(cursor: Cursor) -> Type:
     if token.kind is Kind.UPPER or token.text == "TYPE-IDENTIFIER":
         return parse_named_type(cursor)
     if token.kind is Kind.LOWER and cursor.peek(1).text == "<":
-        cursor.fail("a selection type is not taken", "write the type of the alternative itself")
+        return parse_selection(cursor)
+    if token.kind is Kind.LOWER and cursor.peek(1).text == "." and cursor.peek(2).kind is Kind.FIELD:
+        cursor.fail(f"the type of a field of the object {token} is not taken", "write the type itself (X.681 15)")
     if token.text in SIMPLE:
         cursor.next()
         return SimpleType(token.place, SIMPLE[token.text])
@@ -108,23 +119,28 @@ def parse_base(cursor: Cursor) -> Type:
 
 def parse_named_type(cursor: Cursor) -> Type:
     """`Name`, `Module.Name`, `Name{..}`, or `CLASS.&field`."""
-    place, name = cursor.place, cursor.next().text
+    place = cursor.place
+    module, name = parse_reference(cursor)
     if cursor.sees(".") and cursor.peek(1).kind is Kind.FIELD:
-        return parse_field_of_class(cursor, place, name)
-    module = None
-    if cursor.sees(".") and cursor.peek(1).kind is Kind.UPPER:
-        cursor.next()
-        module, name = name, cursor.next().text
+        return FieldOfClass(place, module, name, parse_fields_of_fields(cursor))
     return ReferenceType(place, module, name, parse_actuals(cursor))
 
 
-def parse_field_of_class(cursor: Cursor, place: Place, name: str) -> FieldOfClass:
-    """`CLASS.&Field`, or `CLASS.&object.&Field` (X.681 14.1)."""
-    fields = []
-    while cursor.take("."):
-        token = cursor.expect_kind(Kind.FIELD, "the name of a field", "write 'CLASS.&Field'")
-        fields.append(token.text)
-    return FieldOfClass(place, name, tuple(fields))
+def parse_reference(cursor: Cursor) -> tuple[str | None, str]:
+    """`Name` or `Module.Name` (14.1)."""
+    name = cursor.next().text
+    if cursor.sees(".") and cursor.peek(1).kind is Kind.UPPER:
+        cursor.next()
+        return name, cursor.next().text
+    return None, name
+
+
+def parse_selection(cursor: Cursor) -> SelectionType:
+    """`alternative < Type` (30.1)."""
+    with cursor.nested("types", "give one of those within a name of its own, by an assignment"):
+        name = cursor.next()
+        cursor.next()
+        return SelectionType(name.place, name.text, parse_base(cursor))
 
 
 def parse_actuals(cursor: Cursor) -> tuple[Actual, ...]:
@@ -182,6 +198,22 @@ def parse_object(cursor: Cursor, place: Place) -> SimpleType:
     return SimpleType(place, Simple.OBJECT_IDENTIFIER)
 
 
+def parse_instance(cursor: Cursor, place: Place) -> FieldsType:
+    """`INSTANCE OF CLASS`, as the SEQUENCE that X.681 annex C says it is."""
+    cursor.expect("OF", "write 'INSTANCE OF CLASS'")
+    if not cursor.sees_kind(Kind.UPPER) and not cursor.sees("TYPE-IDENTIFIER"):
+        cursor.fail(f"{cursor.peek()} stands where the name of a class is expected", "write 'INSTANCE OF CLASS'")
+    first = cursor.peek()
+    module, name = parse_reference(cursor)
+    text = cursor.text_from(first)
+    value = TaggedType(place, TagClass.CONTEXT, 0, TagMode.EXPLICIT, FieldOfClass(place, module, name, ("&Type",)))
+    parts = (
+        Component(place, "type-id", FieldOfClass(place, module, name, ("&id",)), False, None, (), f"{text}.&id"),
+        Component(place, "value", value, False, None, (), f"[0] EXPLICIT {text}.&Type"),
+    )
+    return FieldsType(place, False, parts, False, is_instance=True)
+
+
 def parse_named_numbers(cursor: Cursor, what: str) -> tuple[NamedNumber, ...]:
     """`{ name(number), .. }` (19.1, 22.1), of which there may be none."""
     if not cursor.take("{"):
@@ -209,8 +241,7 @@ def parse_number(cursor: Cursor, instead: str) -> int | ReferenceValue:
     if cursor.sees_kind(Kind.NUMBER):
         number = int(cursor.next().text)
         return -number if negative else number
-    token = cursor.expect_kind(Kind.LOWER, "a number", instead)
-    return ReferenceValue(token.place, None, token.text)
+    return parse_name_of_number(cursor, "a number", instead)
 
 
 def parse_enumerated(cursor: Cursor, place: Place) -> EnumeratedType:
@@ -224,7 +255,7 @@ def parse_enumerated(cursor: Cursor, place: Place) -> EnumeratedType:
             if extensible:
                 cursor.fail("'...' stands here a second time", "leave it out (X.680 20.1)")
             cursor.next()
-            components.skip_exception(cursor)
+            constraints.take_exception(cursor)
             extensible = True
             continue
         token = cursor.expect_kind(Kind.LOWER, "a name", instead)
@@ -234,12 +265,12 @@ def parse_enumerated(cursor: Cursor, place: Place) -> EnumeratedType:
             cursor.expect(")", instead)
         named.append(NamedNumber(token.place, token.text, number, extensible))
     cursor.expect("}", instead)
-    return EnumeratedType(place, tuple(named), extensible)
+    return EnumeratedType(place, tuple(named), extensible or cursor.is_extensible)
 
 
 def parse_choice(cursor: Cursor, place: Place) -> ChoiceType:
     alternatives, extensible = components.parse_alternatives(cursor)
-    return ChoiceType(place, alternatives, extensible)
+    return ChoiceType(place, alternatives, extensible or cursor.is_extensible)
 
 
 def parse_sequence(cursor: Cursor, place: Place) -> Type:
@@ -277,6 +308,7 @@ BASES: dict[str, Callable[[Cursor, Place], Type]] = {
     "BIT": parse_bit,
     "CHOICE": parse_choice,
     "ENUMERATED": parse_enumerated,
+    "INSTANCE": parse_instance,
     "INTEGER": parse_integer,
     "OBJECT": parse_object,
     "OCTET": parse_octet,

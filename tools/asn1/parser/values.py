@@ -35,6 +35,8 @@ def parse_value(cursor: Cursor) -> Value:
     place, token = cursor.place, cursor.peek()
     if cursor.sees("{"):
         return parse_braced(cursor)
+    if token.kind in (Kind.UPPER, Kind.LOWER, Kind.WORD) and cursor.peek(1).text == ":":
+        return parse_within(cursor)
     if not sees_value(cursor):
         cursor.fail(f"{token} is no value", "write a number, TRUE, FALSE, a name, or a value in braces")
     if token.kind is Kind.UPPER:
@@ -53,13 +55,36 @@ def parse_value(cursor: Cursor) -> Value:
         return BooleanValue(place, token.text == "TRUE")
     if token.text == "NULL":
         return NullValue(place)
-    if token.kind is Kind.LOWER and cursor.sees(":"):
-        cursor.next()
-        parse_value(cursor)
-        return OtherValue(place, f"{token.text} : ..")
+    if token.kind is Kind.LOWER and (cursor.sees("{") or cursor.sees(".")):
+        return parse_of_object(cursor, token)
     if token.kind is Kind.LOWER:
         return ReferenceValue(place, None, token.text)
     return OtherValue(place, token.text)
+
+
+def parse_within(cursor: Cursor) -> OtherValue:
+    """`alternative : value` of a CHOICE (X.680 29.11), or `Type : value` of an open type (X.681 14.6)."""
+    with cursor.nested("values", "give one of those within a name of its own, by an assignment"):
+        first = cursor.next()
+        cursor.next()
+        parse_value(cursor)
+        return OtherValue(first.place, cursor.text_from(first))
+
+
+def parse_of_object(cursor: Cursor, name: Token) -> OtherValue:
+    """`name{parameters}` (X.683 9.2), or `object.&field` (X.681 15), whose first name is taken."""
+    if cursor.sees("{"):
+        cursor.balanced()
+    parse_fields_of_fields(cursor)
+    return OtherValue(name.place, cursor.text_from(name))
+
+
+def parse_fields_of_fields(cursor: Cursor) -> tuple[str, ...]:
+    """`.&field.&Field` after the name of a class or of an object (X.681 8), of which there may be none."""
+    fields = []
+    while cursor.take("."):
+        fields.append(cursor.expect_kind(Kind.FIELD, "the name of a field", "write '.&field'").text)
+    return tuple(fields)
 
 
 def parse_external(cursor: Cursor) -> ReferenceValue:

@@ -20,7 +20,7 @@ from ..syntax import (
     TagDefault,
     Value,
 )
-from ..tagging import are_tagged, automatic, check_all, check_sequence, in_order_of_tags
+from ..tagging import alternatives, are_tagged, automatic, check_all, check_sequence, in_order_of_tags
 from ..values import number_of
 from . import types
 from .classes import base_of
@@ -45,19 +45,12 @@ def fields_of(context: Context, type_: FieldsType) -> tuple[tuple[Field, ...], t
 
 def alternatives_of(context: Context, type_: ChoiceType) -> tuple[Field, ...]:
     """The alternatives, distinguished by their tags."""
-    parts = with_tags(context, type_)
+    parts = alternatives(context.env, type_)
     check_names([(part.place, part.name) for part in parts], "name")
     fields = tuple(one_field(context, part, variant(part.name)) for part in parts)
     check_fields(fields)
     check_all(fields, "X.680 29.3")
     return fields
-
-
-def with_tags(context: Context, type_: ChoiceType) -> list[Component]:
-    """The alternatives with automatic tags, if the module gives them some (29.2)."""
-    parts = list(type_.alternatives)
-    is_automatic = context.env.scope.module.tag_default is TagDefault.AUTOMATIC and not are_tagged(parts)
-    return automatic(parts) if is_automatic else parts
 
 
 def components_of(context: Context, type_: FieldsType, by: tuple[FieldsType, ...] = ()) -> list[Placed]:
@@ -81,7 +74,7 @@ def included(context: Context, part: ComponentsOf, by: tuple[FieldsType, ...]) -
     """The components of a type whose components are taken (25.5), but for its additions."""
     env, base = base_of(context.state.library, context.env, part.type)
     word = "SET" if by[-1].is_set else "SEQUENCE"
-    if not isinstance(base, FieldsType) or base.is_set != by[-1].is_set or base is by[-1]:
+    if not isinstance(base, FieldsType) or base.is_instance or base.is_set != by[-1].is_set or base is by[-1]:
         raise AsnError(part.place, f"COMPONENTS OF stands before what is no other {word}", "write the components out")
     if any(base is one for one in by) or len(by) == DEEPEST:
         raise AsnError(part.place, f"this {word} has its own components by COMPONENTS OF, or those of too many", "write them out")
@@ -97,10 +90,18 @@ def one_field(context: Context, part: Component, rust: str) -> Field:
     presence, default = Presence.ALWAYS, None
     if part.optional:
         presence = Presence.OPTIONAL
+    if part.is_later:
+        remark_on_addition(inner, part)
     if part.default is not None:
         presence, default = Presence.DEFAULT, default_of(inner, part.default, found)
     notes.check_used(f"'{part.name}'")
     return Field(part.place, part.name, rust, found, presence, default, part.text, part, context.env)
+
+
+def remark_on_addition(context: Context, part: Component) -> None:
+    """An addition that is always there in values of this version is read as OPTIONAL: those of older versions have it not."""
+    said = f"'{part.name}' may be absent, as in values of an older version, though it is neither OPTIONAL nor DEFAULT"
+    context.say(part.place, said, f"{said[0].upper()}{said[1:]}.")
 
 
 def check_fields(fields: tuple[Field, ...]) -> None:

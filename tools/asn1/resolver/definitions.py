@@ -4,6 +4,7 @@ from __future__ import annotations
 
 from dataclasses import replace
 
+from ..bounds import Placed, placed
 from ..errors import AsnError, Place
 from ..model import (
     Alias,
@@ -26,7 +27,6 @@ from ..syntax import (
     BitStringType,
     ChoiceType,
     ConstrainedType,
-    Constraint,
     EnumeratedType,
     FieldsType,
     IntegerType,
@@ -36,14 +36,15 @@ from ..syntax import (
     Type,
     TypeAssignment,
 )
+from ..tagging import alternatives
 from ..values import enumeration_of
 from . import types
 from .classes import bind, has_type_parameter
-from .components import alternatives_of, check_spelling, fields_of, with_tags
+from .components import alternatives_of, check_spelling, fields_of
 from .context import DEEPEST, Context, State, too_deep
 from .signatures import signature
 
-Constraints = tuple[Constraint, ...]
+Constraints = tuple[Placed, ...]
 
 
 def definition_of(state: State, env: Env, assignment: TypeAssignment, place: Place) -> Definition:
@@ -125,6 +126,7 @@ def peel(context: Context, type_: Type) -> tuple[list[TaggedType], list[Env], Ty
                 return tags, envs, type_, constraints, env
             if followed == DEEPEST:
                 raise too_deep(type_.place)
+            constraints = placed(env, constraints)
             env, type_, followed = inner, assignment.type, followed + 1
         else:
             return tags, envs, type_, constraints, env
@@ -155,13 +157,15 @@ def plain(context: Context, name: str, text: str, base: Type, tag: Tag | None, c
     """A SEQUENCE, a SET, a CHOICE, a list or an ENUMERATED, with a tag in place of its own if it has one."""
     about = (base.place, context.home, name, context.inner, text, context.remarks)
     if isinstance(base, FieldsType):
+        if base.is_instance and tag is None:
+            instead = "write an implicit tag before it, where it stands, as '[0] IMPLICIT INSTANCE OF ..'"
+            raise AsnError(base.place, "INSTANCE OF with its own tag, [UNIVERSAL 8], is not taken", instead)
         if base.extensible:
             context.remark(base.place, "'...': fields that this module does not have are refused")
         fields, declared = fields_of(context, base)
         return Struct(*about, is_set=base.is_set, fields=fields, declared=declared, tag=tag)
     if isinstance(base, ChoiceType):
-        if base.extensible:
-            context.remark(base.place, "'...': alternatives that this module does not have are refused")
+        remark_on_extensions(context, base)
         return Choice(*about, alternatives=alternatives_of(context, base))
     if isinstance(base, ListType):
         never_empty = types.is_never_empty(context, constraints)
@@ -175,6 +179,12 @@ def plain(context: Context, name: str, text: str, base: Type, tag: Tag | None, c
     check_spelling([(one.place, one.name, enumeration_name(one.name, context.inner)) for one in base.named])
     named = tuple(Named(*one) for one in values.items())
     return Enumeration(*about, values=named, is_extensible=base.extensible, tag=tag)
+
+
+def remark_on_extensions(context: Context, base: ChoiceType) -> None:
+    """Says of a CHOICE with '...' that alternatives may come."""
+    if base.extensible:
+        context.remark(base.place, "'...': alternatives that this module does not have are refused")
 
 
 def behind_tags(
@@ -193,7 +203,8 @@ def behind_tags(
 
 def choice_of_one(context: Context, name: str, text: str, base: ChoiceType) -> Alias:
     """A CHOICE of one alternative has its octets and no others (X.690 8.13): a second name of it."""
-    (only,) = with_tags(context, base)
+    remark_on_extensions(context, base)
+    (only,) = alternatives(context.env, base)
     notes = Notes(only.annotations)
     inner = replace(context, inner=context.inner + camel(only.name), notes=notes)
     found = types.resolve_type(inner, only.type)

@@ -2,7 +2,7 @@
 
 from __future__ import annotations
 
-from ..bounds import FREE, MACHINE, Bounds, both, bounds_of, holds, narrowest, size_of
+from ..bounds import FREE, MACHINE, Bounds, Elsewhere, Placed, both, bounds_of, holds, narrowest, size_of
 from ..errors import AsnError
 from ..model import Leaf, Named, Whole
 from ..properties import WHOLES
@@ -11,7 +11,6 @@ from ..syntax import (
     AnyType,
     BitStringType,
     Combined,
-    Constraint,
     Containing,
     IntegerType,
     Simple,
@@ -49,7 +48,7 @@ NEVER_OWNED = frozenset(
 )
 
 
-def simple(context: Context, type_: SimpleType, constraints: tuple[Constraint, ...]) -> Leaf:
+def simple(context: Context, type_: SimpleType, constraints: tuple[Placed, ...]) -> Leaf:
     """A type with no parts of its own."""
     if type_.simple in LACKING:
         raise AsnError(
@@ -66,7 +65,7 @@ def simple(context: Context, type_: SimpleType, constraints: tuple[Constraint, .
     return checked(context, Leaf(WHOLES[type_.simple], is_owned, None, octets), constraints, {})
 
 
-def checked(context: Context, leaf: Leaf, constraints: tuple[Constraint, ...], named: dict[str, int]) -> Leaf:
+def checked(context: Context, leaf: Leaf, constraints: tuple[Placed, ...], named: dict[str, int]) -> Leaf:
     """A type with the constraints that are checked, and a remark on each other one."""
     leaf, left = narrowed(context, leaf, constraints, named)
     for constraint in left:
@@ -74,16 +73,16 @@ def checked(context: Context, leaf: Leaf, constraints: tuple[Constraint, ...], n
     return leaf
 
 
-def any_value(context: Context, type_: AnyType, constraints: tuple[Constraint, ...]) -> Leaf:
+def any_value(context: Context, type_: AnyType, constraints: tuple[Placed, ...]) -> Leaf:
     """ANY, or an open type."""
     for constraint in constraints:
-        if not isinstance(constraint, Table):
+        if not isinstance(constraint.of if isinstance(constraint, Elsewhere) else constraint, Table):
             remark_on(context, constraint)
     return Leaf(Whole.ANY, context.notes.has("owned"))
 
 
 def bit_string(
-    context: Context, type_: BitStringType, constraints: tuple[Constraint, ...]
+    context: Context, type_: BitStringType, constraints: tuple[Placed, ...]
 ) -> tuple[Leaf, tuple[Named, ...]]:
     """BIT STRING, with the names of its bits."""
     bits = numbers_of(context.state.library, context.env, type_.named)
@@ -96,7 +95,7 @@ def bit_string(
 
 
 def integer(
-    context: Context, type_: IntegerType, constraints: tuple[Constraint, ...]
+    context: Context, type_: IntegerType, constraints: tuple[Placed, ...]
 ) -> tuple[Leaf, tuple[Named, ...]]:
     """INTEGER: the machine integer that its bounds or its annotation say, or one of any length."""
     numbers = numbers_of(context.state.library, context.env, type_.named)
@@ -132,7 +131,7 @@ def machine_integer(
     type_: IntegerType,
     width: str,
     bounds: Bounds,
-    constraints: tuple[Constraint, ...],
+    constraints: tuple[Placed, ...],
     numbers: dict[str, int],
 ) -> Leaf:
     """A machine integer, of which the constraints that are checked may exclude some numbers."""
@@ -189,9 +188,11 @@ def bounds_text(bounds: Bounds) -> str:
     return f"({low}..{high})"
 
 
-def remark_on(context: Context, constraint: Constraint) -> None:
+def remark_on(context: Context, constraint: Placed) -> None:
     """Says that a constraint is not checked."""
-    if isinstance(constraint, Containing):
+    if isinstance(constraint, Elsewhere):
+        remark_on(context.within(constraint.env), constraint.of)
+    elif isinstance(constraint, Containing):
         context.remark(constraint.place, "the octets that CONTAINING speaks of are not read")
     elif isinstance(constraint, Alphabet):
         context.remark(constraint.place, "FROM is not checked")

@@ -2,14 +2,17 @@
 
 from __future__ import annotations
 
-from ..errors import AsnError, Remark
+from collections.abc import Iterator
+from contextlib import contextmanager
+
+from ..errors import AsnError, Place, Remark
 from ..model import Constant, Definition, ResolvedModule
 from ..notes import Notes
 from ..scope import Env, Library, Scope
 from ..spelling import screaming
-from ..syntax import Module, ReferenceType, Simple, SimpleType, TypeAssignment, ValueAssignment
+from ..syntax import Module, Simple, SimpleType, TypeAssignment, ValueAssignment
 from ..values import arcs_of
-from .classes import base_of, find_class
+from .classes import base_of, class_of
 from .context import State, too_deep
 from .definitions import definition_of
 
@@ -27,21 +30,26 @@ def resolve(modules: list[Module]) -> tuple[list[ResolvedModule], list[Remark]]:
 
 
 def define_type(state: State, scope: Scope, assignment: TypeAssignment) -> None:
-    """The definition of an assignment; an error where that calls itself oftener than Python allows."""
-    try:
+    """The definition of an assignment."""
+    with within_limits(assignment.place):
         definition_of(state, Env(scope), assignment, assignment.place)
+
+
+@contextmanager
+def within_limits(place: Place) -> Iterator[None]:
+    """An error where what is looked into calls itself oftener than Python allows."""
+    try:
+        yield
     except RecursionError:
-        raise too_deep(assignment.place) from None
+        raise too_deep(place) from None
 
 
 def is_written(state: State, scope: Scope, assignment: TypeAssignment) -> bool:
     """Whether an assignment is a type of its own: no class, no type with parameters, and not omitted."""
     if assignment.parameters:
         return False
-    if isinstance(assignment.type, ReferenceType) and not assignment.type.actuals:
-        named = assignment.type
-        if named.module is None and find_class(state.library, Env(scope), named.name, named.place):
-            return False
+    if class_of(state.library, Env(scope), assignment.type):
+        return False
     notes = Notes(assignment.annotations)
     if not notes.has("omit"):
         return True
@@ -65,10 +73,10 @@ def resolved(state: State, module: Module) -> ResolvedModule:
 
 def is_identifier(state: State, scope: Scope, assignment: ValueAssignment) -> bool:
     """Whether a value is an object identifier: an object of a class is none."""
-    named = assignment.type
-    if isinstance(named, ReferenceType) and find_class(state.library, Env(scope), named.name, named.place):
+    if class_of(state.library, Env(scope), assignment.type):
         return False
-    base = base_of(state.library, Env(scope), named)[1]
+    with within_limits(assignment.place):
+        base = base_of(state.library, Env(scope), assignment.type)[1]
     return isinstance(base, SimpleType) and base.simple is Simple.OBJECT_IDENTIFIER
 
 

@@ -4,7 +4,7 @@ from __future__ import annotations
 
 from dataclasses import replace
 
-from ..bounds import MACHINE, bounds_of
+from ..bounds import MACHINE, Elsewhere, Placed, bounds_of
 from ..errors import AsnError
 from ..model import Alias, Allowed, Leaf, Measure, Resolved, Tagged, Use, Whole
 from ..syntax import Alphabet, Combined, Constraint, Range, SingleValue, Size, TextValue
@@ -38,8 +38,8 @@ def is_checked(context: Context) -> bool:
 
 
 def narrowed(
-    context: Context, leaf: Leaf, constraints: tuple[Constraint, ...], named: dict[str, int]
-) -> tuple[Leaf, tuple[Constraint, ...]]:
+    context: Context, leaf: Leaf, constraints: tuple[Placed, ...], named: dict[str, int]
+) -> tuple[Leaf, tuple[Placed, ...]]:
     """The type with the values that constraints allow, and the constraints that are not checked."""
     left = []
     for constraint in constraints:
@@ -52,8 +52,8 @@ def narrowed(
 
 
 def narrowed_name(
-    context: Context, found: Use, constraints: tuple[Constraint, ...]
-) -> tuple[Resolved, tuple[Constraint, ...]]:
+    context: Context, found: Use, constraints: tuple[Placed, ...]
+) -> tuple[Resolved, tuple[Placed, ...]]:
     """The same of a type that has a name, which stays where nothing is checked: else it is the library's type after its tags."""
     named: dict[str, int] = {}
     tags: list[Tagged] = []
@@ -78,8 +78,10 @@ def narrowed_name(
     return inner, left
 
 
-def constrained(context: Context, leaf: Leaf, constraint: Constraint, named: dict[str, int]) -> Leaf | None:
+def constrained(context: Context, leaf: Leaf, constraint: Placed, named: dict[str, int]) -> Leaf | None:
     """The type with the values that a constraint allows, of those that it had; None where the constraint can't be checked."""
+    if isinstance(constraint, Elsewhere):
+        return constrained(context.within(constraint.env), leaf, constraint.of, named)
     if leaf.is_owned or not is_checked(context):
         return None
     found = allowed_of(context, leaf, constraint, named)

@@ -4,7 +4,7 @@ from __future__ import annotations
 
 from dataclasses import replace
 
-from ..bounds import Bounds, size_of
+from ..bounds import Bounds, Placed, placed, size_of
 from ..errors import AsnError
 from ..model import Alias, Definition, Leaf, Listed, Resolved, Tag, Tagged, Use, Whole
 from ..syntax import (
@@ -12,13 +12,13 @@ from ..syntax import (
     BitStringType,
     ChoiceType,
     ConstrainedType,
-    Constraint,
     EnumeratedType,
     FieldOfClass,
     FieldsType,
     IntegerType,
     ListType,
     ReferenceType,
+    SelectionType,
     SimpleType,
     TagClass,
     TagDefault,
@@ -28,11 +28,11 @@ from ..syntax import (
 )
 from ..values import number_of
 from . import definitions, leaves
-from .classes import base_of, bind, has_type_parameter, is_untagged_choice, type_of_field
+from .classes import base_of, bind, has_type_parameter, is_untagged_choice, meant
 from .context import Context
 from .subsets import narrowed_name
 
-Constraints = tuple[Constraint, ...]
+Constraints = tuple[Placed, ...]
 
 
 def resolve_type(context: Context, type_: Type, constraints: Constraints = ()) -> Resolved:
@@ -43,10 +43,10 @@ def resolve_type(context: Context, type_: Type, constraints: Constraints = ()) -
         return tagged(context, type_, constraints)
     if isinstance(type_, ReferenceType):
         return reference(context, type_, constraints)
-    if isinstance(type_, FieldOfClass):
-        env, inner = type_of_field(context.state.library, context.env, type_)
+    if isinstance(type_, (FieldOfClass, SelectionType)):
+        env, inner = meant(context.state.library, context.env, type_)
         with context.state.within(type_.place):
-            return resolve_type(context.within(env), inner, constraints)
+            return resolve_type(context.within(env), inner, placed(context.env, constraints))
     if isinstance(type_, ListType):
         return listed(context, type_, constraints)
     if isinstance(type_, SimpleType):
@@ -83,7 +83,7 @@ def written_out(context: Context, type_: Type, constraints: Constraints) -> Defi
 def tagged(context: Context, type_: TaggedType, constraints: Constraints) -> Tagged:
     """A tag before a type."""
     tag, is_explicit = tag_of(context, type_)
-    inner = resolve_type(context, type_.type, constraints)
+    inner = resolve_type(context, type_.type if is_explicit else with_no_tag(type_.type), constraints)
     if not is_explicit and isinstance(inner, Leaf) and inner.whole is Whole.ANY:
         raise AsnError(
             type_.place,
@@ -91,6 +91,13 @@ def tagged(context: Context, type_: TaggedType, constraints: Constraints) -> Tag
             "leave it out, or write OCTET STRING, whose contents octets are any",
         )
     return Tagged(tag, is_explicit, inner)
+
+
+def with_no_tag(type_: Type) -> Type:
+    """A type in which another tag stands in place of its own (X.690 8.14.3): INSTANCE OF is a SEQUENCE then."""
+    if isinstance(type_, ConstrainedType):
+        return replace(type_, type=with_no_tag(type_.type))
+    return replace(type_, is_instance=False) if isinstance(type_, FieldsType) and type_.is_instance else type_
 
 
 def tag_of(context: Context, type_: TaggedType) -> tuple[Tag, bool]:
@@ -153,13 +160,13 @@ def referred(context: Context, type_: ReferenceType, constraints: Constraints) -
         binding = env.bindings[type_.name]
         if binding.actual.type is None:
             raise AsnError(type_.place, f"'{type_.name}' stands for no type here", "give a type as the parameter")
-        return resolve_type(context.within(binding.env), binding.actual.type, constraints)
+        return resolve_type(context.within(binding.env), binding.actual.type, placed(env, constraints))
     if context.notes.has("unread"):
         return unread(context, type_)
     scope, assignment = library.find_type(env, type_.name, type_.place, type_.module)
     inner = bind(env, scope, assignment, type_)
     if has_type_parameter(library, env, assignment, type_) and not is_written_out(context.within(inner), assignment.type):
-        return resolve_type(context.within(inner), assignment.type, constraints)
+        return resolve_type(context.within(inner), assignment.type, placed(env, constraints))
     if has_type_parameter(library, env, assignment, type_):
         found = Use(written_out(context, type_, ()))
     else:

@@ -6,7 +6,7 @@ from pathlib import Path
 
 from ..errors import AsnError, Remark
 from ..model import Definition, ResolvedModule
-from ..parser import parse_module
+from ..parser import parse_modules
 from ..resolver import resolve
 
 MODULES = Path(__file__).parent / "modules"
@@ -18,8 +18,8 @@ def module_of(body: str, tags: str = "", name: str = "Test") -> str:
 
 
 def resolved(*texts: str) -> tuple[list[ResolvedModule], list[Remark]]:
-    """What modules come to."""
-    return resolve([parse_module("test.asn1", text) for text in texts])
+    """What the modules of some files come to."""
+    return resolve([module for text in texts for module in parse_modules("test.asn1", text)])
 
 
 def definitions(body: str, tags: str = "") -> dict[str, Definition]:

@@ -18,7 +18,6 @@ from ..model import (
     Struct,
     Tag,
     Tagged,
-    Use,
     Whole,
 )
 from ..properties import tags_of
@@ -132,40 +131,6 @@ class NumbersByName(unittest.TestCase):
         part = found[1].definitions[0]
         assert isinstance(part, Struct) and isinstance(part.fields[0].type, Tagged)
         self.assertEqual(part.fields[0].type.tag, Tag(2, 3))
-
-
-class Imports(unittest.TestCase):
-    """A name that is imported is of the module that stands after FROM (13.16), whatever others have it."""
-
-    ONE = module_of("X ::= SEQUENCE { one NULL }\n n INTEGER ::= 1\n i OBJECT IDENTIFIER ::= { 1 2 1 }", name="One")
-    TWO = module_of("X ::= SEQUENCE { two NULL }\n n INTEGER ::= 2\n i OBJECT IDENTIFIER ::= { 1 2 2 }", name="Two")
-
-    def found(self, source: str, *texts: str) -> tuple[str, int, tuple[int, ...]]:
-        """The module of X, the number of n and the arcs of i that `Test` imports."""
-        body = f"IMPORTS X, n, i FROM {source};\nA ::= SEQUENCE {{ a [n] X }}\n j OBJECT IDENTIFIER ::= {{ i 9 }}"
-        modules, _ = resolved(*[module_of(body) if text == "" else text for text in texts])
-        test = next(module for module in modules if module.name == "Test")
-        part = test.definitions[0]
-        assert isinstance(part, Struct) and isinstance(part.fields[0].type, Tagged)
-        assert isinstance(part.fields[0].type.of, Use)
-        return part.fields[0].type.of.definition.module, part.fields[0].type.tag.number, test.constants[0].arcs
-
-    def test_the_module_after_from_has_it(self) -> None:
-        for texts in ((self.ONE, self.TWO, ""), (self.TWO, self.ONE, ""), ("", self.TWO, self.ONE)):
-            self.assertEqual(self.found("One", *texts), ("One", 1, (1, 2, 1, 9)))
-            self.assertEqual(self.found("Two", *texts), ("Two", 2, (1, 2, 2, 9)))
-
-    def test_a_module_hands_on_what_it_imports(self) -> None:
-        names = "X, n, i"
-        hands = module_of(f"EXPORTS {names};\nIMPORTS {names} FROM Two;", name="Hands")
-        self.assertEqual(self.found("Hands", self.ONE, self.TWO, hands, ""), ("Two", 2, (1, 2, 2, 9)))
-
-    def test_a_name_of_the_module_itself_is_its_own(self) -> None:
-        body = "A ::= SEQUENCE { a X }\nX ::= SEQUENCE { own NULL }"
-        found, _ = resolved(self.ONE, self.TWO, module_of(body))
-        part = next(one for one in found[2].definitions if one.rust == "A")
-        assert isinstance(part, Struct) and isinstance(part.fields[0].type, Use)
-        self.assertEqual(part.fields[0].type.definition.module, "Test")
 
 
 class Arcs(unittest.TestCase):

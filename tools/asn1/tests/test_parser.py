@@ -4,7 +4,7 @@ from __future__ import annotations
 
 import unittest
 
-from ..parser import parse_module
+from ..parser import parse_modules
 from ..syntax import (
     AnyType,
     ChoiceType,
@@ -33,7 +33,7 @@ from .helpers import module_of
 
 
 def parsed(body: str, tags: str = "") -> Module:
-    return parse_module("test.asn1", module_of(body, tags))
+    return parse_modules("test.asn1", module_of(body, tags))[0]
 
 
 def type_of(text: str) -> Type:
@@ -57,7 +57,7 @@ class Headers(unittest.TestCase):
             self.assertIs(parsed("", f"{default.value} TAGS").tag_default, default)
 
     def test_identifier(self) -> None:
-        module = parse_module("test.asn1", "Test { iso(1) member-body 840 } DEFINITIONS ::= BEGIN END")
+        (module,) = parse_modules("test.asn1", "Test { iso(1) member-body 840 } DEFINITIONS ::= BEGIN END")
         self.assertEqual([(arc.name, arc.number) for arc in module.identifier], [("iso", 1), ("member-body", None), (None, 840)])
 
     def test_imports_and_exports(self) -> None:

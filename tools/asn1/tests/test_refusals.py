@@ -18,11 +18,11 @@ BODIES = [
     ("A ::= SEQUENCE {\n  -- @unread\n  a INTEGER }", "", "3:6", "this annotation stands on a line of its own"),
     ("A ::= INTEGER -- @u8 as ever", "", "2:18", "a comment that begins with an annotation"),
     # ---- headers, imports, assignments
-    ("A ::= INTEGER", "EXTENSIBILITY IMPLIED", "1:18", "EXTENSIBILITY IMPLIED is not taken"),
+    ("A ::= INTEGER", "EXTENSIBILITY", "1:32", "'::=' stands where 'IMPLIED' is expected"),
     ("IMPORTS A FROM B WITH SUCCESSORS;", "", "2:18", "WITH SUCCESSORS is not taken"),
     ("IMPORTS A, FROM B;", "", "2:12", "'FROM' stands where a name is expected"),
     ("EXPORTS A", "", "3:1", "'END' stands where ';' is expected"),
-    ("END more", "", "2:5", "'more' stands after the END"),
+    ("END more", "", "2:5", "'more' stands where the name of a module is expected"),
     ("A ::= ", "", "3:1", "'END' stands where a type is expected"),
     ("a ::= 5", "", "2:3", "'::=' stands where a type is expected"),
     ("A INTEGER ::= 5", "", "2:15", "'5' stands where '{' is expected"),
@@ -34,9 +34,18 @@ BODIES = [
     ("A ::= EXTERNAL", "", "2:7", "EXTERNAL is not taken"),
     ("A ::= EMBEDDED PDV", "", "2:7", "EMBEDDED is not taken"),
     ("A ::= CHARACTER STRING", "", "2:7", "CHARACTER is not taken"),
-    ("A ::= INSTANCE OF B", "", "2:7", "INSTANCE is not taken"),
+    ("A ::= INSTANCE OF TYPE-IDENTIFIER", "", "2:7", "INSTANCE OF with its own tag, [UNIVERSAL 8], is not taken"),
+    ("A ::= [0] EXPLICIT INSTANCE OF TYPE-IDENTIFIER", "", "2:20", "INSTANCE OF with its own tag"),
+    ("A ::= SEQUENCE { a [0] B }\nB ::= INSTANCE OF C\nC ::= TYPE-IDENTIFIER", "IMPLICIT TAGS", "3:7", "INSTANCE OF with its own tag"),
+    ("A ::= [0] IMPLICIT INSTANCE OF B\nB ::= NULL", "", "2:20", "'B' is no class"),
+    ("A ::= [0] INSTANCE 5", "", "2:20", "'5' stands where 'OF' is expected"),
+    ("A ::= [0] INSTANCE OF {}", "", "2:23", "'{' stands where the name of a class is expected"),
+    ("A ::= SEQUENCE { COMPONENTS OF [0] IMPLICIT INSTANCE OF TYPE-IDENTIFIER }", "", "2:18", "what is no other SEQUENCE"),
     ("A ::= ObjectDescriptor", "", "2:7", "there is no type for ObjectDescriptor"),
-    ("A ::= b < C", "", "2:7", "a selection type is not taken"),
+    ("A ::= b < C\nC ::= NULL", "", "2:7", "what stands after 'b <' is no CHOICE"),
+    ("A ::= b < C\nC ::= CHOICE { a NULL }", "", "2:7", "the CHOICE has no alternative 'b'"),
+    ("A ::= a < A", "", "2:1", "too many types stand within one another"),
+    ("A ::= a < C\nC ::= CHOICE { a A, b NULL }", "", "3:18", "the type 'A' reaches itself"),
     ("A ::= GraphicString", "", "2:7", "there is no type for GraphicString"),
     ("A ::= UniversalString", "", "2:7", "there is no type for UniversalString"),
     ("A ::= BIT", "", "3:1", "'END' stands where 'STRING' is expected"),
@@ -50,7 +59,7 @@ BODIES = [
     ("A ::= CHOICE { a INTEGER OPTIONAL }", "", "2:26", "the alternative 'a' is OPTIONAL"),
     ("A ::= CHOICE { a INTEGER DEFAULT 5 }", "", "2:26", "the alternative 'a' is DEFAULT"),
     ("A ::= CHOICE { COMPONENTS OF B }", "", "2:16", "COMPONENTS OF stands in a CHOICE"),
-    ("A ::= SEQUENCE { a NULL, ..., b NULL }", "", "2:31", "'b' stands after '...' and is neither"),
+    ("A ::= SEQUENCE { a NULL, ..., b INTEGER, ..., c INTEGER }", "", "2:47", "'c' and 'b' are not distinguished"),
     ("A ::= SEQUENCE { COMPONENTS OF B }\nB ::= INTEGER", "", "2:18", "what is no other SEQUENCE"),
     ("A ::= SEQUENCE { COMPONENTS OF A }", "", "2:18", "what is no other SEQUENCE"),
     ("A ::= INTEGER (0..5", "", "3:1", "'END' stands where ')' is expected"),
@@ -59,8 +68,8 @@ BODIES = [
     # ---- names
     ("A ::= B", "", "2:7", "'B' is neither assigned in 'Test' nor imported"),
     ("A ::= INTEGER\nA ::= BOOLEAN", "", "3:1", "'A' is assigned twice"),
-    ("IMPORTS A FROM B;\nA ::= INTEGER", "", "2:9", "'A' is imported, and assigned"),
-    ("IMPORTS A FROM B A FROM C;", "", "2:18", "'A' is imported, and assigned or imported elsewhere"),
+    ("IMPORTS A FROM B;\nA ::= SEQUENCE { a B.A }", "", "3:20", "'A' is of the module 'B', which is not given"),
+    ("IMPORTS A FROM B A FROM C;\nD ::= A", "", "3:7", "'A' is of the module 'B', which is not given"),
     ("IMPORTS B FROM Other;\nA ::= B", "", "3:7", "'B' is of the module 'Other', which is not given"),
     ("EXPORTS B;\nA ::= INTEGER", "", "2:9", "'B' is exported, and neither"),
     ("A ::= B\nB ::= CLASS { &id INTEGER }\nC ::= SEQUENCE { a B }", "", "4:20", "'B' is a class"),
@@ -140,7 +149,12 @@ BODIES = [
     # ---- classes and parameters
     ("A ::= B.&Type\nB ::= INTEGER", "", "2:7", "'B' is no class"),
     ("A ::= B.&Other\nB ::= CLASS { &Type }", "", "2:7", "the class 'B' has no field '&Other'"),
-    ("A ::= B.&c.&d\nB ::= CLASS { &c B }", "", "2:7", "a field of a field of a class"),
+    ("A ::= B.&c.&d\nB ::= CLASS { &c B }", "", "2:7", "the class 'B' has no field '&d'"),
+    ("A ::= B.&c.&d\nB ::= CLASS { &c INTEGER }", "", "2:7", "the values of the field '&c' are no objects"),
+    ("A ::= B.&c\nB ::= CLASS { &c B OPTIONAL }", "", "2:7", "the values of the field '&c' are objects"),
+    ("A ::= B.&C\nB ::= CLASS { &C B OPTIONAL }", "", "2:7", "the values of the field '&C' are objects"),
+    ("A ::= SEQUENCE { a b.&C }", "", "2:20", "the type of a field of the object 'b' is not taken"),
+    ("A ::= P{{5}}\nP{INTEGER:n} ::= INTEGER (0..n)", "", "3:30", "'n' stands for no value here"),
     ("A ::= B{NULL}\nB ::= NULL", "", "2:7", "'B' has 0 parameters, and 1 are given"),
     ("A ::= B\nB{C} ::= SEQUENCE { a C }", "", "2:7", "'B' has 1 parameters, and 0 are given"),
     ("A ::= B{5}\nB{C} ::= SEQUENCE { a C }", "", "3:23", "'C' stands for no type here"),
@@ -185,14 +199,14 @@ class Refusals(unittest.TestCase):
         self.assertIn("is given twice", refusal(other, other).problem)
         self.assertIn("assigns no 'C'", refusal(module_of("IMPORTS C FROM Other;"), other).problem)
         self.assertIn("assigns no 'C'", refusal(module_of("A ::= Other.C"), other).problem)
-        imports = module_of("IMPORTS C FROM Third;", name="Other")
-        third = module_of("C ::= NULL", name="Third")
-        self.assertIn("assigns no 'C'", refusal(module_of("IMPORTS C FROM Other;"), imports, third).problem)
+        third = module_of("B ::= NULL", name="Third")
         circle = module_of("EXPORTS C; IMPORTS C FROM Test;", name="Other")
         error = refusal(module_of("EXPORTS C; IMPORTS C FROM Other; A ::= C"), circle)
         self.assertIn("assigns no 'C'", error.problem)
         hidden = module_of("EXPORTS ; B ::= NULL", name="Other")
         self.assertIn("does not export 'B'", refusal(module_of("IMPORTS B FROM Other;"), hidden).problem)
+        hidden = module_of("EXPORTS D; IMPORTS B FROM Third; D ::= NULL", name="Other")
+        self.assertIn("does not export 'B'", refusal(module_of("IMPORTS B FROM Other;"), hidden, third).problem)
 
     def test_two_instances_that_differ(self) -> None:
         error = refusal(

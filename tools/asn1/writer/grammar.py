@@ -28,7 +28,7 @@ from ..model import (
     Whole,
     is_within,
 )
-from ..resolver.classes import follow, type_of_field
+from ..resolver.classes import follow, meant
 from ..scope import Env, Library
 from ..spelling import snake
 from ..syntax import (
@@ -39,6 +39,7 @@ from ..syntax import (
     FieldsType,
     ListType,
     ReferenceType,
+    SelectionType,
     TagClass,
     TagDefault,
     TaggedType,
@@ -209,8 +210,8 @@ class GrammarPage:
         if isinstance(type_, TaggedType):
             assert isinstance(resolved, Tagged)
             return self.tagged(env, type_, self.term(env, type_.type, resolved.of))
-        if isinstance(type_, FieldOfClass):
-            env, type_ = type_of_field(self.library, env, type_)
+        if isinstance(type_, (FieldOfClass, SelectionType)):
+            env, type_ = meant(self.library, env, type_)
             return self.term(env, type_, resolved)
         if isinstance(resolved, Use):
             return self.use(resolved.definition)
