@@ -172,16 +172,3 @@ def enumeration(library: Library, env: Env, type_: EnumeratedType) -> list[tuple
 def given_number(library: Library, env: Env, one: NamedNumber) -> int | None:
     """The number that stands after a name, if one does."""
     return number_of(library, env, one.number) if isinstance(one.number, ReferenceValue) else one.number
-
-
-def default_number(library: Library, part: Part) -> int:
-    """The number that a DEFAULT says, by itself or by a name of its type's."""
-    value = part.component.default
-    assert value is not None
-    env, base = base_of(library, part.env, part.component.type)
-    named = base.named if isinstance(base, IntegerType) else ()
-    for one in named if isinstance(value, ReferenceValue) else ():
-        number = given_number(library, env, one)
-        if one.name == value.name and number is not None:
-            return number
-    return number_of(library, part.env, value)

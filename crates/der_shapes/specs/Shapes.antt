@@ -1,5 +1,10 @@
 -- The types of Shapes.
 -- Made by tools/asn1 from shapes.asn1.
+pub mod Color
+pub mod Counted
+pub mod DefaultLaws
+pub mod Described
+pub mod Extent
 pub mod General
 pub mod Grammar
 pub mod Label
@@ -7,9 +12,11 @@ pub mod Labels
 pub mod Lists
 pub mod Marks
 pub mod Mixed
+pub mod Nested
 pub mod Numbers
 pub mod Ordered
 pub mod Pair
+pub mod Side
 pub mod Status
 pub mod Subtree
 pub mod Unordered

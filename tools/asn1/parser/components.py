@@ -123,6 +123,7 @@ def parse_component(cursor: Cursor, is_addition: bool, is_choice: bool) -> Compo
         place, name = cursor.place, parse_name(cursor)
         first = cursor.peek()
         found = Component(place, name, types.parse_type(cursor), False, None, (), "", is_addition)
+        presence = cursor.at
         if cursor.peek().text in ("OPTIONAL", "DEFAULT"):
             found = parse_presence(cursor, found, is_choice)
         if is_addition and not is_choice and not found.optional and found.default is None:
@@ -131,7 +132,7 @@ def parse_component(cursor: Cursor, is_addition: bool, is_choice: bool) -> Compo
                 f"'{found.name}' stands after '...' and is neither OPTIONAL nor DEFAULT",
                 "write OPTIONAL, as an older sender leaves it out, or write it before the '...'",
             )
-        text = cursor.text_from(first)
+        text = cursor.text_from(first, presence)
         take_comma(cursor)
     return replace(found, annotations=tuple(annotations), text=text)
 

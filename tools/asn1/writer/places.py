@@ -14,33 +14,13 @@ from ..spelling import snake
 from . import docs
 from .alternatives import depth
 from .fields import Member, members_of
+from .names import TAGS
 from .plan import Plan, Target, is_apart
 from .source import Source
 from .types import default_type, enumeration_of, lifetime_of, rust_type, way, wrapped
 
 # What the calls and the proofs name within them: a local of such a name has an underscore after it.
 LOCALS = frozenset(["octets", "start", "self", "first", "value", "fields", "rest", "result"])
-# The universal tags as the library names them.
-TAGS = {
-    1: "Boolean",
-    2: "Integer",
-    3: "BitString",
-    4: "OctetString",
-    5: "Null",
-    6: "ObjectIdentifier",
-    10: "Enumerated",
-    12: "Utf8String",
-    16: "Sequence",
-    17: "Set",
-    19: "PrintableString",
-    20: "TeletexString",
-    21: "VideotexString",
-    22: "Ia5String",
-    23: "UtcTime",
-    24: "GeneralizedTime",
-    27: "GeneralString",
-    30: "BmpString",
-}
 LIBRARY = "der_places"  # the crate that has the words and the calls
 FILES = {"Place": "place", "Placed": "placed", "next_place": "walk", "is_there": "presence", "is_some": "presence"}
 

@@ -7,6 +7,8 @@ from dataclasses import dataclass
 from ..model import Alias, Definition
 from ..spelling import snake
 
+DEFAULTS = "defaults"  # the file of a module that has the types which stand for its defaults
+
 
 @dataclass(frozen=True)
 class Target:

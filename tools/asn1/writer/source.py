@@ -2,9 +2,9 @@
 
 from __future__ import annotations
 
-from ..model import Definition
+from ..model import Definition, Marker
 from .names import LOGIC, MEMBERS, RUST, WORDS
-from .plan import Plan, Target
+from .plan import DEFAULTS, Plan, Target
 
 # Names that a file uses and that no type of ASN.1 may have beside them.
 PRELUDE = frozenset(["Err", "None", "Ok", "Option", "Result", "Self", "Some", "Vec", "Box", "String"])
@@ -33,20 +33,24 @@ class Source:
         """A type that is written too, which is imported from where it stands."""
         name = definition.rust
         target, file = self.plan.of(definition), self.plan.file(definition)
-        if definition.by_hand:
-            if file == self.file and target == self.target:
-                return name
-            path = self.root_of(definition.by_hand[0])
-        elif target.crate != self.target.crate:
-            path = f"{target.crate}::{target.module}"
-        elif target.module != self.target.module:
-            path = f"crate::{target.module}"
-        elif file == self.file:
+        if file == self.file and target == self.target:
             return name
-        else:
-            path = f"crate::{target.module}::{file}"
+        path = self.root_of(definition.by_hand[0]) if definition.by_hand else self.path_of(target, file)
         self.imports.setdefault(path, set()).add(name)
         return name
+
+    def use_default(self, marker: Marker) -> str:
+        """The type that stands for a default, which is imported from where it stands."""
+        target = self.plan.targets[marker.module]
+        if self.file != DEFAULTS or target != self.target:
+            self.imports.setdefault(self.path_of(target, DEFAULTS), set()).add(marker.rust)
+        return marker.rust
+
+    def path_of(self, target: Target, file: str) -> str:
+        """What a file of a module has, as this file names it: a file of another module through that."""
+        if target.crate != self.target.crate:
+            return f"{target.crate}::{target.module}"
+        return f"crate::{target.module}" + (f"::{file}" if target.module == self.target.module else "")
 
     def root_of(self, crate: str) -> str:
         """The root of a crate, as this file names it."""
