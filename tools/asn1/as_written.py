@@ -1,4 +1,4 @@
-"""What the text of a module says of a type's parts, by its tree alone: names, order, numbers, defaults.
+"""What the text of a module says of a type's parts, by its tree alone: names, order, numbers.
 
 The pages and the laws rest on it, and the code on the resolver; so an error of the resolver in any of these is one that
 the prover refuses.

@@ -198,19 +198,22 @@ class Values(unittest.TestCase):
         return " ".join(found[1].split())
 
     def test_of_each_kind(self) -> None:
-        refused = "{ Ok(value) => value, Err(_) => unreachable!(), }"
         rows = [
             ("BOOLEAN DEFAULT TRUE", "true"),
             ("INTEGER (-128..127) DEFAULT -1", "-1"),
             ("NULL DEFAULT NULL", "Null"),
             ("Color DEFAULT blue", "Enumerated { value: Color::Blue }"),
             ("[3] IMPLICIT INTEGER (0..999) DEFAULT 8", "Implicit { value: 8 }"),
-            ("INTEGER DEFAULT -1", f"match IntRef::new(&[0xff]) {refused}"),
-            ("INTEGER (0..MAX) DEFAULT 200", f"match UintRef::new(&[0xc8]) {refused}"),
-            ('IA5String DEFAULT "a"', f"match Ia5StringRef::new(&[0x61]) {refused}"),
-            ("BIT STRING DEFAULT '101'B", f"match BitStringRef::new(5, &[0xa0]) {refused}"),
-            ("Rights DEFAULT { write }", f"let bits = match BitStringRef::new(6, &[0x40]) {refused}; NamedBitsRef::new(bits)"),
-            ("OBJECT IDENTIFIER DEFAULT { 2 5 }", f"match ObjectIdentifierRef::from_bytes(&[0x55]) {refused}"),
+            ("INTEGER DEFAULT -1", "integer(&[0xff])"),
+            ("INTEGER (0..MAX) DEFAULT 200", "natural(&[0x00, 0xc8])"),
+            ('UTF8String DEFAULT "é""\\"', r'utf8_string("\u{e9}\"\\")'),
+            ('IA5String DEFAULT "a"', "character_string::<22>(&[0x61])"),
+            ('GeneralString DEFAULT "a"', "general_string(&[0x61])"),
+            ("OCTET STRING DEFAULT ''H", "octet_string(&[])"),
+            ("BIT STRING DEFAULT '101'B", "bit_string(5, &[0xa0])"),
+            ("Rights DEFAULT { write }", "named_bits(6, &[0x40])"),
+            ("OBJECT IDENTIFIER DEFAULT { 2 5 }", "identifier::<39>(&[0x55])"),
+            ("OBJECT IDENTIFIER DEFAULT { 2 5 } -- @owned\n", "owned_identifier::<39>(&[0x55])"),
             ("Side DEFAULT none : NULL", "Side::None(Null)"),
             ("Mixed DEFAULT { second NULL, first TRUE }", "Mixed::new(true, Null)"),
         ]
@@ -220,12 +223,11 @@ class Values(unittest.TestCase):
 
     def test_fields_that_are_not_written_are_absent_or_have_their_defaults(self) -> None:
         body = self.body("Extent DEFAULT { tall TRUE }")
-        self.assertTrue(body.endswith("Extent::new(None, true, name_of_value)"), body)
-        self.assertIn("let name_of_value = match Ia5StringRef::new(&[0x78])", body)
+        self.assertEqual(body, "Extent::new(None, true, character_string::<22>(&[0x78]))")
 
     def test_parts_within_parts(self) -> None:
         body = self.body("Inner DEFAULT { extent wide, color red, side extent : {} }")
-        self.assertIn("let extent_of_value = Extent::new(Some(5), true, name_of_extent_of_value);", body)
+        self.assertIn("let extent_of_value = Extent::new(Some(5), true, character_string::<22>(&[0x78]));", body)
         self.assertTrue(body.endswith("Inner::new(&extent_of_value, Color::Red, Some(&side_of_value))"), body)
 
 
@@ -265,6 +267,41 @@ class Names(unittest.TestCase):
         body = "A ::= SEQUENCE { b-c IA5String DEFAULT \"x\" }\nAB ::= SEQUENCE { c IA5String DEFAULT \"y\" } -- @name(AB)"
         with self.assertRaisesRegex(AsnError, "the default of 'c' is named 'DefaultOfABC', as that of 'b-c'"):
             written(module_of(body))
+
+
+class Laws(unittest.TestCase):
+    """The page of laws has those that the module's defaults take, and so no word of a crate that these do without."""
+
+    PAGE = "specs/Test/DefaultLaws.antt"
+
+    def laws(self, component: str) -> list[str]:
+        files = written(module_of(f"A ::= SEQUENCE {{ a {component} }}"))
+        used = re.findall(r"using\(crate::specs::Test::DefaultLaws::(\w+)\)", files["src/test/defaults.rt"])
+        found = re.findall(r"^pub (\w+) :", files.get(self.PAGE, ""), re.M)
+        self.assertEqual(sorted(used), sorted(found))
+        return found
+
+    def test_of_each_kind(self) -> None:
+        self.assertEqual(self.laws("BOOLEAN DEFAULT TRUE"), ["told_by_equality"])
+        self.assertEqual(self.laws("INTEGER DEFAULT 5"), ["told_by_equality", "integer_within"])
+        self.assertEqual(self.laws("INTEGER (0..MAX) DEFAULT 5"), ["told_by_equality", "natural_within"])
+        self.assertEqual(self.laws("SEQUENCE { b BOOLEAN } DEFAULT { b TRUE }"), [])
+
+    def test_no_crate_is_named_that_is_not_needed(self) -> None:
+        files = written(module_of("A ::= SEQUENCE { a BOOLEAN DEFAULT TRUE }"))
+        for path in ("src/test/defaults.rt", self.PAGE):
+            self.assertNotIn("der_numbers", files[path])
+
+
+class Documentation(unittest.TestCase):
+    """A default stands in the documentation as the module has it."""
+
+    def test_quotes(self) -> None:
+        body = "A ::= SEQUENCE { a IA5String DEFAULT \"say \"\"a\"\"\", b OCTET STRING DEFAULT '0A'H, c [1] BIT STRING DEFAULT ''B }"
+        text = written(module_of(body))["src/test/a.rt"]
+        self.assertIn("/// `a`, `IA5String DEFAULT \"say \"\"a\"\"\"`.", text)
+        self.assertIn("/// `b`, `OCTET STRING DEFAULT '0A'H`.", text)
+        self.assertIn("/// `c`, `[1] BIT STRING DEFAULT ''B`.", text)
 
 
 class Contradictions(unittest.TestCase):
@@ -332,6 +369,16 @@ class Refused(unittest.TestCase):
     def test_a_type_that_a_crate_has(self) -> None:
         body = "A ::= SEQUENCE { a B DEFAULT {} }\nB ::= SEQUENCE { b NULL OPTIONAL } -- @rust(other::b::B)"
         self.assertIn("a type of '@rust' has no DEFAULT here", refusal(module_of(body)).problem)
+
+
+class Instances(unittest.TestCase):
+    """Instances of a type with parameters that change no octets are alike where their defaults are."""
+
+    PARTS = "a ENUMERATED { red } DEFAULT red, b SEQUENCE { c NULL } DEFAULT { c NULL }, d CHOICE { e NULL, f BOOLEAN } DEFAULT e : NULL"
+
+    def test_defaults_with_parts(self) -> None:
+        body = f"E{{INTEGER:n}} ::= SEQUENCE {{ {self.PARTS} }}\nA ::= SEQUENCE {{ a E{{1}}, b [1] E{{2}} }}"
+        self.assertIn("Fields2<E, Explicit<E, 1>>", written(module_of(body))["src/test/a.rt"])
 
 
 class Presence(unittest.TestCase):

@@ -8,13 +8,13 @@ from ..spelling import snake
 from .aliases import constant_name, write_aliases, write_constants
 from .choices import write_choice, write_choice_page, write_order_proof
 from .enumerations import write_enumeration, write_enumeration_page
-from .defaults import LAWS, markers_of, write_default_laws, write_defaults
+from .defaults import markers_of, write_defaults
 from .grammar import GrammarPage
 from .lists import write_list
 from .module_laws import write_laws
 from .names import LOGIC, RUST, WORDS
 from .pages import write_list_page, write_struct_page
-from .plan import DEFAULTS, Plan, Target, is_apart
+from .plan import DEFAULT_LAWS, DEFAULTS, Plan, Target, is_apart
 from .source import PRELUDE
 from .structs import write_struct
 
@@ -54,7 +54,7 @@ def check_names(module: ResolvedModule) -> None:
     seen: dict[str, str] = {name: f"'{name}', a file that each module has" for name in FILES}
     if markers_of(module):
         seen[DEFAULTS] = f"'{DEFAULTS}', a file of this module"
-        seen[LAWS.lower()] = f"'{LAWS}', a page of this module"
+        seen[DEFAULT_LAWS.lower()] = f"'{DEFAULT_LAWS}', a page of this module"
     seen |= {marker.rust.lower(): f"the type '{marker.rust}' of a default" for marker in markers_of(module)}
     for definition in sorted(module.definitions, key=is_within, reverse=True):
         check_name(definition)
@@ -86,9 +86,7 @@ def write_module(plan: Plan, module: ResolvedModule) -> dict[str, str]:
         files[f"src/{target.module}/aliases.rt"] = write_aliases(plan, target, aliases, module.name)
     if module.constants:
         files[f"src/{target.module}/constants.rt"] = write_constants(plan, target, module.constants, module.name)
-    if markers_of(module):
-        files[f"src/{target.module}/{DEFAULTS}.rt"] = write_defaults(plan, module)
-        files[f"specs/{target.page}/{LAWS}.antt"] = write_default_laws(plan, module)
+    files.update(write_defaults(plan, module))
     files[f"src/{target.module}/laws.rt"] = write_laws(plan, module)
     files[f"specs/{target.page}/Grammar.antt"] = GrammarPage(plan, module).text()
     files[f"src/{target.module}.rt"] = root(plan, module)

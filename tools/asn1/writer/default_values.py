@@ -12,7 +12,6 @@ from ..model import (
     NamedValue,
     NameOf,
     Nothing,
-    Octets,
     Presence,
     Resolved,
     Struct,
@@ -22,30 +21,30 @@ from ..model import (
 )
 from ..properties import behind_tags, named_type
 from ..spelling import enumeration_name
-from .default_octets import twos_complement
+from .default_makers import BIT_STRING, OF_WHOLES, OWNED_IDENTIFIER, Made
+from .default_octets import contents_octets
 from .fields import Member, members_of
-from .leaves import WHOLES
+from .leaves import CHARACTERS
 from .source import Source
 from .types import plain, tagging
 
-# The calls that make a value of octets, where it is not 'new'.
-MAKERS = {Whole.OBJECT_IDENTIFIER: "from_bytes"}
-
 
 class Maker:
-    """The statements that stand before a value, in their order."""
+    """The statements that stand before a value, in their order, and the functions that are called."""
 
-    def __init__(self, source: Source) -> None:
+    def __init__(self, source: Source, called: dict[str, Made]) -> None:
         self.source = source
+        self.called = called
         self.lines: list[str] = []
 
     def let(self, name: str, expression: str) -> str:
         self.lines.append(f"let {name} = {expression};")
         return name
 
-    def taken(self, name: str, call: str) -> str:
-        """The value that a call answers which refuses none of what it is given here."""
-        return self.let(name, f"match {call} {{\n    Ok(value) => value,\n    Err(_) => unreachable!(),\n}}")
+    def call(self, made: Made, arguments: str, constant: int | None = None) -> str:
+        """A call of a function of the file."""
+        self.called[made.name] = made
+        return f"{made.name}{'' if constant is None else f'::<{constant}>'}({arguments})"
 
     def held(self, type_: Resolved, value: DefaultValue, name: str) -> str:
         """A value with the tags of its type, as it stands in a message."""
@@ -78,23 +77,19 @@ class Maker:
         assert isinstance(type_, Leaf)
         if isinstance(value, int) and type_.whole is Whole.MACHINE_INTEGER:
             return str(value)
-        return self.of_octets(type_, value, name)
+        return self.of_octets(type_, value)
 
-    def of_octets(self, leaf: Leaf, value: DefaultValue, name: str) -> str:
+    def of_octets(self, leaf: Leaf, value: DefaultValue) -> str:
         """A value of the library that is made of octets."""
+        made = OWNED_IDENTIFIER if leaf.is_owned else OF_WHOLES[leaf.whole]
         if isinstance(value, Bits):
-            return self.of_bits(leaf, value, name)
-        octets = value.octets if isinstance(value, Octets) else number_octets(leaf, value)
-        type_ = self.source.use(WHOLES[leaf.whole][1 if leaf.is_owned else 0])
-        return self.taken(name, f"{type_}::{MAKERS.get(leaf.whole, 'new')}({octets_literal(octets)})")
-
-    def of_bits(self, leaf: Leaf, value: Bits, name: str) -> str:
-        """A BIT STRING; of one with named bits, by the bits."""
-        call = f"{self.source.use('BitStringRef')}::new({value.unused}, {octets_literal(value.octets)})"
-        if leaf.whole is Whole.BIT_STRING:
-            return self.taken(name, call)
-        bits = self.taken("bits" if name == "value" else f"{name}_bits", call)
-        return self.let(name, f"{self.source.use('NamedBitsRef')}::new({bits})")
+            if leaf.whole is Whole.NAMED_BITS:
+                self.called[BIT_STRING.name] = BIT_STRING
+            return self.call(made, f"{value.unused}, {octets_literal(value.octets)}")
+        octets = contents_octets(leaf, value)
+        if leaf.whole is Whole.UTF8_STRING:
+            return self.call(made, text_literal(octets.decode()))
+        return self.call(made, octets_literal(octets), CHARACTERS.get(leaf.whole, leaf.octets))
 
     # ---- fields
 
@@ -102,7 +97,7 @@ class Maker:
         """A SEQUENCE or a SET, from the values of its fields."""
         members = members_of(value.definition)
         arguments = [self.argument(one, given, f"{one.name}_of_{name}") for one, given in zip(members, value.values)]
-        return self.let(name, f"{self.source.use_type(value.definition)}::new({', '.join(arguments)})")
+        return f"{self.source.use_type(value.definition)}::new({', '.join(arguments)})"
 
     def argument(self, one: Member, given: DefaultValue | None, name: str) -> str:
         """The value of a field, as `new` takes it."""
@@ -117,7 +112,7 @@ class Maker:
         else:
             found = self.held(type_, value, name)
         if one.is_lent:
-            found = f"&{found if found == name else self.let(name, found)}"
+            found = f"&{self.let(name, found)}"
         return f"Some({found})" if one.is_optional else found
 
 
@@ -126,12 +121,10 @@ def member(name: str, value: str) -> str:
     return name if value == name else f"{name}: {value}"
 
 
-def number_octets(leaf: Leaf, value: DefaultValue) -> bytes:
-    """The octets that an INTEGER of any length is made of."""
-    assert isinstance(value, int)
-    if leaf.whole is Whole.INTEGER:
-        return twos_complement(value)
-    return value.to_bytes(max(1, (value.bit_length() + 7) // 8), "big")
+def text_literal(text: str) -> str:
+    """A text as Rust writes it, with what is no letter, figure or sign of ASCII by its number."""
+    shown = {'"': '\\"', "\\": "\\\\"}
+    return '"' + "".join(shown.get(one, one if one.isascii() and one.isprintable() else f"\\u{{{ord(one):x}}}") for one in text) + '"'
 
 
 def octets_literal(octets: bytes) -> str:

@@ -8,13 +8,13 @@ from ..errors import AsnError
 from ..model import DefaultValue, Field, Marker, Resolved, ResolvedModule, Struct, Tagged
 from ..properties import behind_explicit, named_type, properties_of
 from . import docs
+from .default_laws import write_default_laws
+from .default_makers import Made
 from .default_octets import encoded, encoding_term
 from .default_values import Maker, has_parts, octets_literal
-from .plan import DEFAULTS, Plan
-from .source import Page, Source
+from .plan import DEFAULT_LAWS, DEFAULTS, Plan
+from .source import Source
 from .types import lifetime_of, rust_type
-
-LAWS = "DefaultLaws"  # the page of the law by which a default is told
 
 Owned = tuple[Struct, Field]  # a field, and the struct that has it
 
@@ -46,19 +46,33 @@ def check_alike(owned: list[Owned]) -> None:
             )
 
 
-def write_defaults(plan: Plan, module: ResolvedModule) -> str:
-    """The source file of a module's defaults."""
-    source = Source(plan, plan.targets[module.name], DEFAULTS)
+def write_defaults(plan: Plan, module: ResolvedModule) -> dict[str, str]:
+    """The source file of a module's defaults, and the page of the laws that it takes; of a module with none no file."""
     found = markers_of(module)
+    if not found:
+        return {}
+    source = Source(plan, plan.targets[module.name], DEFAULTS)
+    add_types(source, found)
+    add_tests(source, [part for owned in found.values() for _, part in owned])
+    first = [f"//! The defaults of {module.name}, each named by a type (X.680 25.9, X.690 11.5)."]
+    files = {f"src/{source.target.module}/{DEFAULTS}.rt": source.text(first)}
+    if source.laws:
+        page = f"specs/{source.target.page}/{DEFAULT_LAWS}.antt"
+        files[page] = write_default_laws(plan, module, source.laws)
+    return files
+
+
+def add_types(source: Source, found: dict[Marker, list[Owned]]) -> None:
+    """The types that stand for defaults, and the functions that make these."""
+    called: dict[str, Made] = {}
     for marker, owned in found.items():
         source.add(f"{head(marker, owned)}\npub struct {marker.rust};")
+        value = owned[0][1].default
+        assert value is not None
         for type_ in types_of(source, [part for _, part in owned]):
-            value = owned[0][1].default
-            assert value is not None
-            source.add(impl(source, marker, type_, value))
-    parts = [part for owned in found.values() for _, part in owned]
-    add_tests(source, parts)
-    return source.text([f"//! The defaults of {module.name}, each named by a type (X.680 25.9, X.690 11.5)."])
+            source.add(impl(source, called, marker, type_, value))
+    for made in called.values():
+        source.add(made.text(source))
 
 
 def head(marker: Marker, owned: list[Owned]) -> str:
@@ -94,26 +108,18 @@ def written_out(type_: Resolved) -> Resolved:
 # ---- impls
 
 
-def impl(source: Source, marker: Marker, type_: Resolved, value: DefaultValue) -> str:
+def impl(source: Source, called: dict[str, Made], marker: Marker, type_: Resolved, value: DefaultValue) -> str:
     """The default as one of a type: its encoding, its value, and whether a value is it."""
     name, lifetime = rust_type(source, type_), lifetime_of(properties_of(type_).borrows)
-    body = "\n".join(statements(source, type_, value))
+    maker = Maker(source, called)
+    made = maker.held(type_, value, "value")
+    body = "\n".join([*maker.lines, made])
     return (
         f"impl{lifetime} {source.use('DefaultOf')}<{name}> for {marker.rust} {{\n"
         f"    ghost {source.member('octets')} = {{ {encoding_term(source, type_, value)} }};\n\n"
         f"    fn default_value() -> {name} {{\n{body}\n    }}\n\n"
         f"    fn is_default(value: &{name}) -> bool {{\n{told(marker, name, type_, value)}\n    }}\n}}"
     )
-
-
-def statements(source: Source, type_: Resolved, value: DefaultValue) -> list[str]:
-    """The statements that make a value, of which the last is it."""
-    maker = Maker(source)
-    made = maker.held(type_, value, "value")
-    before, first = maker.lines[:-1], "let value = "
-    if made == "value" and maker.lines[-1].startswith(first):
-        return [*before, maker.lines[-1][len(first) :].rstrip(";")]
-    return [*maker.lines, made]
 
 
 def told(marker: Marker, name: str, type_: Resolved, value: DefaultValue) -> str:
@@ -138,10 +144,10 @@ def add_tests(source: Source, parts: list[Field]) -> None:
 
 
 def by_equality(source: Source) -> str:
-    target = source.target
+    """The test of a value by its equality with the default."""
     return (
         f"{docs.doc('Whether two values have one encoding: where they can be compared, their equality says so.')}\n"
-        f"#[tactic(auto, using(crate::specs::{target.page}::{LAWS}::told_by_equality))]\n"
+        f"{source.using('told_by_equality')}\n"
         f"fn have_one_encoding<T: {source.use('EncodingEq')}>(value: &T, default: &T) -> bool\n"
         "    requires { T.comparable value.now default.now }\n"
         "    ensures { result ≡ is_default (T.encoding default.now) (T.encoding value.now) }\n"
@@ -150,6 +156,7 @@ def by_equality(source: Source) -> str:
 
 
 def by_octets(source: Source, room: int) -> str:
+    """The test of a value by its octets, which are written where there is room for those of a default."""
     source.word("false")
     for name in ("◌≤◌", "length"):
         source.page_word("std.specs.Prelude", name)
@@ -162,24 +169,3 @@ def by_octets(source: Source, room: int) -> str:
         f"{{\n    let mut buffer = [0; {room}];\n    match value.encode_to_slice(&mut buffer) {{\n"
         "        Ok(found) => *found == *octets,\n        Err(_) => false,\n    }\n}"
     )
-
-
-# ---- the law
-
-
-def write_default_laws(plan: Plan, module: ResolvedModule) -> str:
-    """The page of the law by which a default is told."""
-    page = Page(plan, plan.targets[module.name], f"-- How the defaults of {module.name} are told from other values.")
-    for name in ("◌≡◌", "ℕ", "List", "Bool", "true", "false", "nat_eq", "refl", "sym", "IsTrue", "◌↔◌"):
-        page.from_module("std.proofs.Common", name)
-    page.from_module("std.proofs.lemmas.Bool", "false_from_ne_true")
-    page.from_module("std.specs.Cmp.Lexicographic", "pointwise")
-    page.from_module("std.specs.Cmp.Lexicographic", "bytes_decides")
-    page.from_module("der_fields.specs.Defaults", "is_default")
-    page.add(
-        "-- a test that holds exactly where an encoding is the default's says whether it is\n"
-        "pub told_by_equality : (default octets : List ℕ) (test : Bool) → (IsTrue test ↔ (octets ≡ default)) → test ≡ is_default default octets\n"
-        "told_by_equality default octets true h = sym ((bytes_decides octets default).1 (h.0 refl))\n"
-        "told_by_equality default octets false h = sym (false_from_ne_true (pointwise nat_eq octets default) (λ e. let told = h.1 ((bytes_decides octets default).0 e) in absurd (cc)))"
-    )
-    return page.text()

@@ -86,6 +86,7 @@ RUST: dict[str, tuple[str, str]] = {
     "BitStringRef": ("der_bits", "BitStringRef"),
     "NamedBitsRef": ("der_bits", "NamedBitsRef"),
     "BmpString": ("der_text", "BmpString"),
+    "CharacterStringRef": ("der_ascii", "CharacterStringRef"),
     "GeneralStringOctets": ("der_modules", "GeneralStringOctets"),
     "GeneralizedTime": ("der_time", "GeneralizedTime"),
     "Ia5String": ("der_ascii", "Ia5String"),

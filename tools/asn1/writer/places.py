@@ -229,14 +229,18 @@ class Places:
             return [], "true"
         if one.presence is Presence.OPTIONAL:
             return [], f"{self.of_library('is_some' if one.member.is_small else 'is_there')}(self.{one.name}())"
-        inner, rust = "value", self.rust(one.type)
-        value = wrapped(self.source, bare(one.type), inner)
-        lets = [f"let {inner} = self.{one.name}();"]
-        if value != inner:
+        rust, is_small = self.rust(one.type), one.member.is_small
+        lets, reference = [f"let value = self.{one.name}();"], "&value" if is_small else "value"
+        value = wrapped(self.source, bare(one.type), "value" if is_small else self.copied(one))
+        if not self.is_plain(one.type):
             lets.append(f"let tagged: {rust} = {value};")
-            inner = "tagged"
+            reference = "&tagged"
         default = f"<{default_type(self.source, one.member.field)} as {self.source.use('DefaultOf')}<{rust}>>"
-        return [*lets, f"let is_default = {default}::is_default(&{inner});"], "!is_default"
+        return [*lets, f"let is_default = {default}::is_default({reference});"], "!is_default"
+
+    def copied(self, one: Placed) -> str:
+        """A value that is lent, to stand after its tags."""
+        return f"{self.source.use('copy_of')}(value)" if one.member.is_lent else "*value"
 
     # ---- the proof
 

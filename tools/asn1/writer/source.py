@@ -4,7 +4,7 @@ from __future__ import annotations
 
 from ..model import Definition, Marker
 from .names import LOGIC, MEMBERS, RUST, WORDS
-from .plan import DEFAULTS, Plan, Target
+from .plan import DEFAULT_LAWS, DEFAULTS, Plan, Target
 
 # Names that a file uses and that no type of ASN.1 may have beside them.
 PRELUDE = frozenset(["Err", "None", "Ok", "Option", "Result", "Self", "Some", "Vec", "Box", "String"])
@@ -20,6 +20,7 @@ class Source:
         self.parts: list[str] = []
         self.imports: dict[str, set[str]] = {}
         self.words: dict[str, set[str]] = {}
+        self.laws: set[str] = set()  # of the module's defaults
 
     # ---- names
 
@@ -45,6 +46,11 @@ class Source:
         if self.file != DEFAULTS or target != self.target:
             self.imports.setdefault(self.path_of(target, DEFAULTS), set()).add(marker.rust)
         return marker.rust
+
+    def using(self, law: str) -> str:
+        """The attribute of a function whose proof takes a law of the module's defaults."""
+        self.laws.add(law)
+        return f"#[tactic(auto, using(crate::specs::{self.target.page}::{DEFAULT_LAWS}::{law}))]"
 
     def path_of(self, target: Target, file: str) -> str:
         """What a file of a module has, as this file names it: a file of another module through that."""

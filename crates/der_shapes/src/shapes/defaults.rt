@@ -2,19 +2,30 @@
 //!
 //! Made by tools/asn1 from shapes.asn1.
 
-ghost use Rattle.std.specs.Prelude.{◌∷◌, ◌≡◌, ◌≤◌, [], false, length, negsuc, pos, true};
+ghost use Rattle.std.specs.Prelude.{◌<◌, ◌^◌, ◌∷◌, ◌≡◌, ◌≤◌, [], false, length, negsuc, pos, slice_index, true};
+ghost use Rattle.der_ascii.specs.CharacterStringRef as character_string_ref;
+ghost use Rattle.der_ascii.specs.Characters.{are_characters};
+ghost use Rattle.der_bits.specs.BitString.{is_bit_string};
+ghost use Rattle.der_bits.specs.BitStringRef as bit_string_ref;
+ghost use Rattle.der_bits.specs.NamedBits.{ends_in_one};
+ghost use Rattle.der_bits.specs.NamedBitsRef as named_bits_ref;
 ghost use Rattle.der_elem.specs.Boolean.{boolean_contents};
-ghost use Rattle.der_elem.specs.Integer.{integer_contents, natural_contents};
+ghost use Rattle.der_elem.specs.Integer.{big_endian_number, integer_contents, natural_contents, twos_complement};
 ghost use Rattle.der_fields.specs.Defaults.{is_default};
 ghost use Rattle.der_fields.specs.MarkerTags.{marker_tag};
 ghost use Rattle.der_modules.specs.Asn1.{context, joined};
+ghost use Rattle.der_numbers.specs.IntRef as int_ref;
+ghost use Rattle.der_numbers.specs.UintRef as uint_ref;
+ghost use Rattle.der_opaque.specs.ObjectIdentifierRef as identifier_ref;
+ghost use Rattle.der_opaque.specs.OctetStringRef as octet_string_ref;
+ghost use Rattle.der_text.specs.Utf8StringRef as utf8_string_ref;
 ghost use Rattle.der_tlv.specs.HeaderOctets.{tlv};
 ghost use Rattle.der_tlv.specs.declared.tag.Tag.TheVariants as tags;
 
 use crate::shapes::color::Color;
 use crate::shapes::extent::Extent;
 use crate::shapes::side::Side;
-use der_ascii::{Ia5StringRef, PrintableStringRef};
+use der_ascii::{CharacterStringRef, Ia5StringRef, PrintableStringRef};
 use der_bits::{BitStringRef, NamedBitsRef};
 use der_elem::laws::equal_encodings;
 use der_elem::{Encode, EncodingEq};
@@ -94,11 +105,9 @@ impl<'a> DefaultOf<Implicit<IntRef<'a>, 2>> for DefaultMinus40000 {
     ghost octets = { tlv (marker_tag context false 2) (integer_contents (negsuc 39999)) };
 
     fn default_value() -> Implicit<IntRef<'a>, 2> {
-        let value = match IntRef::new(&[0xff, 0x63, 0xc0]) {
-            Ok(value) => value,
-            Err(_) => unreachable!(),
-        };
-        Implicit { value }
+        Implicit {
+            value: integer(&[0xff, 0x63, 0xc0]),
+        }
     }
 
     fn is_default(value: &Implicit<IntRef<'a>, 2>) -> bool {
@@ -114,11 +123,9 @@ impl<'a> DefaultOf<Implicit<UintRef<'a>, 3>> for Default200 {
     ghost octets = { tlv (marker_tag context false 3) (natural_contents 200) };
 
     fn default_value() -> Implicit<UintRef<'a>, 3> {
-        let value = match UintRef::new(&[0xc8]) {
-            Ok(value) => value,
-            Err(_) => unreachable!(),
-        };
-        Implicit { value }
+        Implicit {
+            value: natural(&[0x00, 0xc8]),
+        }
     }
 
     fn is_default(value: &Implicit<UintRef<'a>, 3>) -> bool {
@@ -168,10 +175,7 @@ impl<'a> DefaultOf<Utf8StringRef<'a>> for DefaultOfDescribedName {
     ghost octets = { tlv tags.Utf8String (110 ∷ 111 ∷ 110 ∷ 101 ∷ []) };
 
     fn default_value() -> Utf8StringRef<'a> {
-        match Utf8StringRef::new(&[0x6e, 0x6f, 0x6e, 0x65]) {
-            Ok(value) => value,
-            Err(_) => unreachable!(),
-        }
+        utf8_string("none")
     }
 
     fn is_default(value: &Utf8StringRef<'a>) -> bool {
@@ -187,10 +191,7 @@ impl<'a> DefaultOf<PrintableStringRef<'a>> for DefaultOfDescribedPlace {
     ghost octets = { tlv tags.PrintableString [] };
 
     fn default_value() -> PrintableStringRef<'a> {
-        match PrintableStringRef::new(&[]) {
-            Ok(value) => value,
-            Err(_) => unreachable!(),
-        }
+        character_string::<19>(&[])
     }
 
     fn is_default(value: &PrintableStringRef<'a>) -> bool {
@@ -208,11 +209,9 @@ impl<'a> DefaultOf<Implicit<Ia5StringRef<'a>, 0>> for DefaultOfDescribedMail {
     ghost octets = { tlv (marker_tag context false 0) (97 ∷ 64 ∷ 98 ∷ []) };
 
     fn default_value() -> Implicit<Ia5StringRef<'a>, 0> {
-        let value = match Ia5StringRef::new(&[0x61, 0x40, 0x62]) {
-            Ok(value) => value,
-            Err(_) => unreachable!(),
-        };
-        Implicit { value }
+        Implicit {
+            value: character_string::<22>(&[0x61, 0x40, 0x62]),
+        }
     }
 
     fn is_default(value: &Implicit<Ia5StringRef<'a>, 0>) -> bool {
@@ -230,10 +229,7 @@ impl<'a> DefaultOf<OctetStringRef<'a>> for DefaultOfDescribedKey {
     ghost octets = { tlv tags.OctetString (0 ∷ 255 ∷ []) };
 
     fn default_value() -> OctetStringRef<'a> {
-        match OctetStringRef::new(&[0x00, 0xff]) {
-            Ok(value) => value,
-            Err(_) => unreachable!(),
-        }
+        octet_string(&[0x00, 0xff])
     }
 
     fn is_default(value: &OctetStringRef<'a>) -> bool {
@@ -249,10 +245,7 @@ impl<'a> DefaultOf<BitStringRef<'a>> for DefaultOfDescribedBits {
     ghost octets = { tlv tags.BitString (5 ∷ 160 ∷ []) };
 
     fn default_value() -> BitStringRef<'a> {
-        match BitStringRef::new(5, &[0xa0]) {
-            Ok(value) => value,
-            Err(_) => unreachable!(),
-        }
+        bit_string(5, &[0xa0])
     }
 
     fn is_default(value: &BitStringRef<'a>) -> bool {
@@ -268,12 +261,9 @@ impl<'a> DefaultOf<Implicit<NamedBitsRef<'a>, 1>> for DefaultOfDescribedRights {
     ghost octets = { tlv (marker_tag context false 1) (6 ∷ 128 ∷ 64 ∷ []) };
 
     fn default_value() -> Implicit<NamedBitsRef<'a>, 1> {
-        let bits = match BitStringRef::new(6, &[0x80, 0x40]) {
-            Ok(value) => value,
-            Err(_) => unreachable!(),
-        };
-        let value = NamedBitsRef::new(bits);
-        Implicit { value }
+        Implicit {
+            value: named_bits(6, &[0x80, 0x40]),
+        }
     }
 
     fn is_default(value: &Implicit<NamedBitsRef<'a>, 1>) -> bool {
@@ -291,12 +281,9 @@ impl<'a> DefaultOf<Implicit<NamedBitsRef<'a>, 2>> for DefaultOfDescribedNone {
     ghost octets = { tlv (marker_tag context false 2) (0 ∷ []) };
 
     fn default_value() -> Implicit<NamedBitsRef<'a>, 2> {
-        let bits = match BitStringRef::new(0, &[]) {
-            Ok(value) => value,
-            Err(_) => unreachable!(),
-        };
-        let value = NamedBitsRef::new(bits);
-        Implicit { value }
+        Implicit {
+            value: named_bits(0, &[]),
+        }
     }
 
     fn is_default(value: &Implicit<NamedBitsRef<'a>, 2>) -> bool {
@@ -315,10 +302,7 @@ impl<'a> DefaultOf<ObjectIdentifierRef<'a, 39>> for DefaultOfDescribedType {
     ghost octets = { tlv tags.ObjectIdentifier (42 ∷ 134 ∷ 72 ∷ []) };
 
     fn default_value() -> ObjectIdentifierRef<'a, 39> {
-        match ObjectIdentifierRef::from_bytes(&[0x2a, 0x86, 0x48]) {
-            Ok(value) => value,
-            Err(_) => unreachable!(),
-        }
+        identifier::<39>(&[0x2a, 0x86, 0x48])
     }
 
     fn is_default(value: &ObjectIdentifierRef<'a, 39>) -> bool {
@@ -391,6 +375,103 @@ impl DefaultOf<Implicit<Enumerated<Color>, 1>> for DefaultOfNestedColor {
             Implicit<Enumerated<Color>, 1>,
         >>::default_value();
         have_one_encoding(value, &default)
+    }
+}
+
+/// The INTEGER of any length with these contents octets.
+#[tactic(auto, using(crate::specs::Shapes::DefaultLaws::integer_within))]
+fn integer(octets: &[u8]) -> IntRef<'_>
+    requires some { 0 < length octets.now }
+    requires short { length octets.now < 2 ^ 32 }
+    ensures { int_ref.contents_of result ≡ integer_contents (twos_complement octets.now) }
+{
+    match IntRef::new(octets) {
+        Ok(value) => value,
+        Err(_) => unreachable!(),
+    }
+}
+
+/// The INTEGER that is not negative with these contents octets.
+#[tactic(auto, using(crate::specs::Shapes::DefaultLaws::natural_within))]
+fn natural(octets: &[u8]) -> UintRef<'_>
+    requires some { 0 < length octets.now }
+    requires short { length octets.now < 2 ^ 32 }
+    requires positive { slice_index octets.now 0 < 128 }
+    ensures { uint_ref.contents_of result ≡ natural_contents (big_endian_number octets.now) }
+{
+    match UintRef::new(octets) {
+        Ok(value) => value,
+        Err(_) => unreachable!(),
+    }
+}
+
+/// The UTF8String of this text.
+fn utf8_string(text: &str) -> Utf8StringRef<'_>
+    requires short { length text.now < 2 ^ 32 }
+    ensures { utf8_string_ref.octets_of result ≡ text.now }
+{
+    match Utf8StringRef::try_from(text) {
+        Ok(value) => value,
+        Err(_) => unreachable!(),
+    }
+}
+
+/// The string of these characters, of the type with this universal number.
+fn character_string<const NUMBER: u8>(octets: &[u8]) -> CharacterStringRef<'_, NUMBER>
+    requires characters { are_characters NUMBER octets.now ≡ true }
+    requires short { length octets.now < 2 ^ 32 }
+    ensures { character_string_ref.octets_of result ≡ octets.now }
+{
+    match CharacterStringRef::new(octets) {
+        Ok(value) => value,
+        Err(_) => unreachable!(),
+    }
+}
+
+/// The OCTET STRING of these octets.
+fn octet_string(octets: &[u8]) -> OctetStringRef<'_>
+    requires short { length octets.now < 2 ^ 32 }
+    ensures { octet_string_ref.octets_of result ≡ octets.now }
+{
+    match OctetStringRef::new(octets) {
+        Ok(value) => value,
+        Err(_) => unreachable!(),
+    }
+}
+
+/// The BIT STRING of these octets, of whose last so many bits are unused.
+fn bit_string(unused: u8, octets: &[u8]) -> BitStringRef<'_>
+    requires bits { is_bit_string unused octets.now ≡ true }
+    requires short { length octets.now < 2 ^ 32 }
+    ensures { bit_string_ref.contents_of result ≡ unused ∷ octets.now }
+{
+    match BitStringRef::new(unused, octets) {
+        Ok(value) => value,
+        Err(_) => unreachable!(),
+    }
+}
+
+/// The BIT STRING with named bits of these octets, of whose last so many bits are unused, and whose
+/// last bit is 1.
+fn named_bits(unused: u8, octets: &[u8]) -> NamedBitsRef<'_>
+    requires bits { is_bit_string unused octets.now ≡ true }
+    requires trimmed { ends_in_one unused octets.now ≡ true }
+    requires short { length octets.now < 2 ^ 32 }
+    ensures { named_bits_ref.contents_of result ≡ unused ∷ octets.now }
+{
+    NamedBitsRef::new(bit_string(unused, octets))
+}
+
+/// The OBJECT IDENTIFIER with these contents octets.
+fn identifier<const MAX_SIZE: usize>(octets: &[u8]) -> ObjectIdentifierRef<'_, MAX_SIZE>
+    requires some { 0 < length octets.now }
+    requires few { length octets.now ≤ MAX_SIZE }
+    requires short { length octets.now < 2 ^ 32 }
+    ensures { identifier_ref.octets_of result ≡ octets.now }
+{
+    match ObjectIdentifierRef::from_bytes(octets) {
+        Ok(value) => value,
+        Err(_) => unreachable!(),
     }
 }
 
