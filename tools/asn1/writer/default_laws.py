@@ -28,6 +28,17 @@ told_by_equality default octets false h = sym (false_from_ne_true (pointwise nat
         "der_fields.specs.Defaults": "is_default",
     },
 )
+TOLD_BY_LENGTH = Law(
+    """-- octets that are more than the default's are not its
+pub told_by_length : (default octets : List ℕ) → length default < length octets → false ≡ is_default default octets
+told_by_length default octets more = sym (false_from_ne_true (pointwise nat_eq octets default) (λ e. let same : length octets ≡ length default = ap length ((bytes_decides octets default).0 e) in omega arith))""",
+    {
+        "std.proofs.Common": "◌≡◌ ◌<◌ ℕ List false nat_eq length sym ap arith",
+        "std.proofs.lemmas.Bool": "false_from_ne_true",
+        "std.specs.Cmp.Lexicographic": "bytes_decides pointwise",
+        "der_fields.specs.Defaults": "is_default",
+    },
+)
 INTEGER_WITHIN = Law(
     """-- the fewest contents octets of an INTEGER are no more than these
 pub integer_within : (octets : List ℕ) → AreOctets octets → 0 < length octets → length (integer_contents (twos_complement octets)) ≤ length octets
@@ -63,7 +74,12 @@ natural_within octets all some small =
         "der_numbers.specs.AnyLength": "without_sign_octet",
     },
 )
-LAWS = {"told_by_equality": TOLD_BY_EQUALITY, "integer_within": INTEGER_WITHIN, "natural_within": NATURAL_WITHIN}
+LAWS = {
+    "told_by_equality": TOLD_BY_EQUALITY,
+    "told_by_length": TOLD_BY_LENGTH,
+    "integer_within": INTEGER_WITHIN,
+    "natural_within": NATURAL_WITHIN,
+}
 
 
 def write_default_laws(plan: Plan, module: ResolvedModule, names: set[str]) -> str:

@@ -162,6 +162,7 @@ def by_octets(source: Source, room: int) -> str:
         source.page_word("std.specs.Prelude", name)
     return (
         f"{docs.doc(f'Whether these octets, of which there are {room} at most, are the encoding of a value.')}\n"
+        f"{source.using('told_by_length')}\n"
         f"fn is_encoded_as<T: {source.use('Encode')}>(value: &T, octets: &[u8]) -> bool\n"
         f"    requires memory {{ T.Form.TAKES_MEMORY ≡ false }}\n"
         f"    requires room {{ length octets.now ≤ {room} }}\n"

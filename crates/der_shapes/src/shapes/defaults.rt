@@ -486,6 +486,7 @@ fn have_one_encoding<T: EncodingEq>(value: &T, default: &T) -> bool
 }
 
 /// Whether these octets, of which there are 8 at most, are the encoding of a value.
+#[tactic(auto, using(crate::specs::Shapes::DefaultLaws::told_by_length))]
 fn is_encoded_as<T: Encode>(value: &T, octets: &[u8]) -> bool
     requires memory { T.Form.TAKES_MEMORY ≡ false }
     requires room { length octets.now ≤ 8 }
