@@ -1,4 +1,4 @@
-"""What the text of a module says of a type's parts, by its tree alone: names, order, numbers, defaults.
+"""What the text of a module says of a type's parts, by its tree alone: names, order, numbers.
 
 The pages and the laws rest on it, and the code on the resolver; so an error of the resolver in any of these is one that
 the prover refuses.
@@ -175,16 +175,3 @@ def enumeration(library: Library, env: Env, type_: EnumeratedType) -> list[tuple
 def given_number(library: Library, env: Env, one: NamedNumber) -> int | None:
     """The number that stands after a name, if one does."""
     return number_of(library, env, one.number) if isinstance(one.number, ReferenceValue) else one.number
-
-
-def default_number(library: Library, part: Part) -> int:
-    """The number that a DEFAULT says, by itself or by a name of its type's."""
-    value = part.component.default
-    assert value is not None
-    env, base = base_of(library, part.env, part.component.type)
-    named = base.named if isinstance(base, IntegerType) else ()
-    for one in named if isinstance(value, ReferenceValue) else ():
-        number = given_number(library, env, one)
-        if one.name == value.name and number is not None:
-            return number
-    return number_of(library, part.env, value)

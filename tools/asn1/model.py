@@ -127,6 +127,66 @@ class NameOf:
 Resolved = Union[Leaf, Use, Listed, Tagged, NameOf]
 
 
+# ---- default values
+
+
+@dataclass(frozen=True)
+class Nothing:
+    """The value of NULL."""
+
+
+@dataclass(frozen=True)
+class Octets:
+    """The octets of an OCTET STRING or of a string of characters, or the contents octets of an OBJECT IDENTIFIER."""
+
+    octets: bytes
+
+
+@dataclass(frozen=True)
+class Bits:
+    """The octets of a BIT STRING, and how many bits at the end of the last are unused (X.690 8.6.2)."""
+
+    unused: int
+    octets: bytes
+
+
+@dataclass(frozen=True)
+class NamedValue:
+    """A name of an ENUMERATED."""
+
+    definition: "Enumeration"
+    name: str
+
+
+@dataclass(frozen=True)
+class FieldValues:
+    """The values of a SEQUENCE's or a SET's fields, in the order of its encoding; None where one is not written."""
+
+    definition: "Struct"
+    values: tuple["DefaultValue | None", ...]
+
+
+@dataclass(frozen=True)
+class AlternativeValue:
+    """A value of an alternative of a CHOICE."""
+
+    definition: "Choice"
+    index: int
+    value: "DefaultValue"
+
+
+# a BOOLEAN's and an INTEGER's are Python's own
+DefaultValue = Union[bool, int, Nothing, Octets, Bits, NamedValue, FieldValues, AlternativeValue]
+
+
+@dataclass(frozen=True)
+class Marker:
+    """The type that stands for a default: its module, and its name in Rattle."""
+
+    module: str
+    rust: str
+
+
 # ---- definitions
 
 
@@ -147,10 +207,11 @@ class Field:
     rust: str
     type: Resolved
     presence: Presence
-    default: Union[int, bool, None]
+    default: Union[DefaultValue, None]
     text: str  # its type, in ASN.1
     component: Component  # as it is written, with no automatic tag
     env: Env
+    marker: Union[Marker, None] = None  # of its default, where the library has none for it
 
 
 @dataclass(frozen=True)

@@ -109,6 +109,33 @@ def identifier_octet(type_: Resolved) -> int | None:
     return tag.tag_class << 6 | is_constructed(type_) << 5 | min(tag.number, 31)
 
 
+# ---- names and tags before a type
+
+
+def named_type(type_: Resolved) -> Resolved:
+    """A type after second names."""
+    while isinstance(type_, Use) and isinstance(type_.definition, Alias):
+        assert type_.definition.type is not None
+        type_ = type_.definition.type
+    return type_
+
+
+def behind_explicit(type_: Resolved) -> Resolved:
+    """A type after the explicit tags before it, by whatever names."""
+    type_ = named_type(type_)
+    while isinstance(type_, Tagged) and type_.is_explicit:
+        type_ = named_type(type_.of)
+    return type_
+
+
+def behind_tags(type_: Resolved) -> Resolved:
+    """A type after all tags before it, by whatever names."""
+    type_ = named_type(type_)
+    while isinstance(type_, Tagged):
+        type_ = named_type(type_.of)
+    return type_
+
+
 # ---- properties
 
 

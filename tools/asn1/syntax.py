@@ -95,6 +95,16 @@ class BracedValue:
     place: Place
     tokens: tuple[Token, ...]
     arcs: tuple[Arc, ...] | None
+    end: Token  # the brace that closes it
+
+
+@dataclass(frozen=True)
+class ChosenValue:
+    """`alternative : value` of a CHOICE (29.11)."""
+
+    place: Place
+    name: str
+    value: "Value"
 
 
 @dataclass(frozen=True)
@@ -106,8 +116,17 @@ class OtherValue:
 
 
 Value = Union[
-    NumberValue, BooleanValue, NullValue, TextValue, BitsValue, ReferenceValue, BracedValue, OtherValue
+    NumberValue, BooleanValue, NullValue, TextValue, BitsValue, ReferenceValue, BracedValue, ChosenValue, OtherValue
 ]
+
+
+@dataclass(frozen=True)
+class ComponentValue:
+    """`name value` of a SEQUENCE or a SET (25, 27)."""
+
+    place: Place
+    name: str
+    value: Value
 
 
 # ---- constraints (51)

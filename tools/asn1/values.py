@@ -2,6 +2,7 @@
 
 from __future__ import annotations
 
+from collections.abc import Container
 from itertools import count
 
 from .errors import AsnError, Place
@@ -29,21 +30,22 @@ MOST_NAMES = 64
 
 def number_of(library: Library, env: Env, value: Value, named: dict[str, int] | None = None) -> int:
     """The number that a value comes to; `named` are the names of numbers of its type."""
-    if named and isinstance(value, ReferenceValue) and value.module is None and value.name in named:
-        return named[value.name]
     last = value
     if isinstance(value, ReferenceValue):
-        last = assigned_value(library, env, value)[1]
+        last = assigned_value(library, env, value, named or {})[1]
+    if named and isinstance(last, ReferenceValue) and last.module is None and last.name in named:
+        return named[last.name]
     if isinstance(last, NumberValue):
         return last.number
     raise AsnError(last.place, "this value is no number", "write a number, or the name of one")
 
 
-def assigned_value(library: Library, env: Env, value: ReferenceValue) -> tuple[Env, Value]:
-    """What a name of a value stands for, by the names that stand for one another, and the names within it."""
+def assigned_value(library: Library, env: Env, value: Value, own: Container[str] = ()) -> tuple[Env, Value]:
+    """What a name of a value stands for, by the names that stand for one another, and the names within it; `own` are the
+    names of the type's numbers, which come before those of values."""
     found: Value = value
     seen: set[tuple[str, str]] = set()
-    while isinstance(found, ReferenceValue):
+    while isinstance(found, ReferenceValue) and (found.module is not None or found.name not in own):
         binding = env.bindings.get(found.name) if found.module is None else None
         if binding is not None:
             env, found = binding.env, value_of(binding, found)
@@ -168,3 +170,15 @@ def check_arcs(arcs: tuple[int, ...], place: Place) -> None:
         raise AsnError(place, "an object identifier has at least two arcs", "write the second too")
     if arcs[0] > 2 or (arcs[0] < 2 and arcs[1] > 39):
         raise AsnError(place, f"no object identifier begins with {arcs[0]}.{arcs[1]}", "write 0, 1 or 2, and then below 40")
+
+
+def contents(arcs: tuple[int, ...]) -> list[int]:
+    """The contents octets of an object identifier (X.690 8.19)."""
+    found: list[int] = []
+    for number in (arcs[0] * 40 + arcs[1], *arcs[2:]):
+        octets = [number & 0x7F]
+        while number > 0x7F:
+            number >>= 7
+            octets.append(number & 0x7F | 0x80)
+        found += reversed(octets)
+    return found

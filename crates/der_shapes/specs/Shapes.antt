@@ -1,6 +1,11 @@
 -- The types of Shapes.
 -- Made by tools/asn1 from shapes.asn1.
 pub mod Bounded
+pub mod Color
+pub mod Counted
+pub mod DefaultLaws
+pub mod Described
+pub mod Extent
 pub mod General
 pub mod Grammar
 pub mod Label
@@ -9,11 +14,13 @@ pub mod Limited
 pub mod Lists
 pub mod Marks
 pub mod Mixed
+pub mod Nested
 pub mod Note
 pub mod Notes
 pub mod Numbers
 pub mod Ordered
 pub mod Pair
+pub mod Side
 pub mod Status
 pub mod Subtree
 pub mod Unordered

@@ -1,6 +1,7 @@
 //! Values of each shape, read and written back, and octets that are refused.
 
 mod constrained;
+mod defaults;
 mod empty;
 mod fields;
 mod lists;

@@ -5,7 +5,7 @@ use Rattle.std.proofs.lemmas.Str.{IsUtf8-from_ascii}
 use Rattle.std.proofs.lemmas.Bool.{and_parts}
 use Rattle.std.proofs.lemmas.Bool.Decides.{nat_tests}
 use Rattle.der_ascii.specs.Characters.{within}
-use Rattle.der_simple.specs.Characters.{is_numeric, is_visible, has_character, are_characters}
+use Rattle.der_simple.specs.Characters.{is_numeric, is_visible, has_character, are_simple_characters}
 
 numeric-small : (n : ℕ) → is_numeric n ≡ true → n < 128
 numeric-small n e = grind (arith, nat_tests)
@@ -20,10 +20,10 @@ character-small number n = at (number == 18)
     at true h = numeric-small n h
     at false h = visible-small n h
 
-characters-ascii : (number : ℕ) (octets : List ℕ) → are_characters number octets ≡ true → IsAscii octets
+characters-ascii : (number : ℕ) (octets : List ℕ) → are_simple_characters number octets ≡ true → IsAscii octets
 characters-ascii number [] e i = lit< tt
-characters-ascii number (octet ∷ octets) e zero = character-small number octet (and_parts (has_character number octet) (are_characters number octets) e).0
-characters-ascii number (octet ∷ octets) e (suc i) = characters-ascii number octets (and_parts (has_character number octet) (are_characters number octets) e).1 i
+characters-ascii number (octet ∷ octets) e zero = character-small number octet (and_parts (has_character number octet) (are_simple_characters number octets) e).0
+characters-ascii number (octet ∷ octets) e (suc i) = characters-ascii number octets (and_parts (has_character number octet) (are_simple_characters number octets) e).1 i
 
-pub characters-utf8 : (number : ℕ) (octets : List ℕ) → are_characters number octets ≡ true → IsUtf8 octets
+pub characters-utf8 : (number : ℕ) (octets : List ℕ) → are_simple_characters number octets ≡ true → IsUtf8 octets
 characters-utf8 number octets e = IsUtf8-from_ascii octets (characters-ascii number octets e)

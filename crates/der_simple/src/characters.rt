@@ -2,7 +2,7 @@
 
 ghost use Rattle.std.specs.Prelude.{◌≡◌, true, false, IfOk, IfErr};
 ghost use Rattle.der_tlv.specs.declared.error.ErrorKind.TheVariants.{Value};
-ghost use Rattle.der_simple.specs.Characters.{has_character, are_characters, string_tag};
+ghost use Rattle.der_simple.specs.Characters.{has_character, are_simple_characters, string_tag};
 
 use der_tlv::{ErrorKind, Tag};
 use std::str;
@@ -21,7 +21,7 @@ fn has_character(number: u8, octet: u8) -> bool
 
 /// Whether all octets are characters of the type with this universal number.
 pub fn are_characters(number: u8, octets: &[u8]) -> bool
-    ensures { result ≡ are_characters number octets.now }
+    ensures { result ≡ are_simple_characters number octets.now }
 {
     octets.iter().all(|octet| has_character(number, *octet))
 }
@@ -33,9 +33,9 @@ pub fn are_characters(number: u8, octets: &[u8]) -> bool
 /// number.
 pub fn text_of(number: u8, octets: &[u8]) -> Result<&str, ErrorKind>
     ensures text { IfOk result (λ text.
-        (text.now ≡ octets.now) × (are_characters number octets.now ≡ true)) }
+        (text.now ≡ octets.now) × (are_simple_characters number octets.now ≡ true)) }
     ensures refused { IfErr result (λ kind.
-        (kind ≡ Value (string_tag number)) × (are_characters number octets.now ≡ false)) }
+        (kind ≡ Value (string_tag number)) × (are_simple_characters number octets.now ≡ false)) }
 {
     if !are_characters(number, octets) {
         return Err(string_tag(number).value_error());

@@ -7,7 +7,7 @@ ghost use Rattle.std.specs.Prelude.{◌≡◌, ◌↔◌, ◌^◌, ◌<◌, [], 
 ghost use Rattle.std.specs.Cmp.Lexicographic.{bytes_decides};
 ghost use Rattle.der_elem.specs.FormatMakers.{format_of_contents};
 ghost use Rattle.der_modules.specs.Members.{value_member};
-ghost use Rattle.der_simple.specs.Characters.{are_characters, parse_simple_string, KeepsString};
+ghost use Rattle.der_simple.specs.Characters.{are_simple_characters, parse_simple_string, KeepsString};
 ghost use Rattle.der_simple.specs.CharacterLaws.{parse_of_characters, characters_of_octets};
 
 use crate::characters::{string_tag, text_of};
@@ -26,7 +26,7 @@ use std::fmt;
 pub struct SimpleStringRef<'a, const NUMBER: u8> {
     text: &'a str,
     ghost short: { length text.now < 2 ^ 32 },
-    ghost characters: { are_characters NUMBER text.now ≡ true },
+    ghost characters: { are_simple_characters NUMBER text.now ≡ true },
 }
 
 impl<'a, const NUMBER: u8> SimpleStringRef<'a, NUMBER> {

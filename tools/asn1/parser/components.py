@@ -116,11 +116,12 @@ def parse_component(cursor: Cursor, is_addition: bool, is_choice: bool) -> Compo
         place, name = cursor.place, parse_name(cursor)
         first = cursor.peek()
         found = Component(place, name, types.parse_type(cursor), False, None, (), "", is_addition)
+        presence = cursor.at
         if cursor.peek().text in ("OPTIONAL", "DEFAULT"):
             found = parse_presence(cursor, found, is_choice)
         if is_addition and not is_choice and not found.optional and found.default is None:
             found = replace(found, optional=True, is_later=True)
-        text = cursor.text_from(first)
+        text = cursor.text_from(first, presence)
         take_comma(cursor)
     return replace(found, annotations=tuple(annotations), text=text)
 

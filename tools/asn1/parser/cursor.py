@@ -12,6 +12,7 @@ from ..errors import AsnError, Place
 from ..lexer import Annotation, Kind, Token, tokens_of
 
 DEEPEST = 40  # types, or constraints, within one another: what reads and writes them calls itself
+QUOTED_AS = {Kind.BITS: "B", Kind.HEX: "H"}
 COMMENT = re.compile(r"[ \t]*--([ \t]*@[^\n]*?)(?:--|(?=\n)|\Z)")
 
 
@@ -25,6 +26,13 @@ class Cursor:
         self.depth = 0
         self.is_extensible = False  # the module has EXTENSIBILITY IMPLIED: '...' stands in each type that has none (13.4)
         self.collected: list[list[Annotation]] = [[]]
+
+    @classmethod
+    def over(cls, tokens: tuple[Token, ...], end: Token) -> "Cursor":
+        """The items of a group that was taken whole; `end` is the brace that closes it."""
+        cursor = cls(end.place.file, "")
+        cursor.tokens = [*tokens, end]
+        return cursor
 
     def peek(self, ahead: int = 0) -> Token:
         """The next item, or one further on."""
@@ -110,10 +118,12 @@ class Cursor:
                 stack.pop()
         return self.text_from(opening)
 
-    def text_from(self, first: Token) -> str:
-        """The text from an item to the last one taken, in one line and with no comments."""
+    def text_from(self, first: Token, quoted_from: int | None = None) -> str:
+        """The text from an item to the last one taken, in one line and with no comments; quotes stand from one of them on."""
         start = next(i for i in range(self.at, -1, -1) if self.tokens[i] is first)
-        taken = [" ".join(token.text.split()) for token in self.tokens[start : self.at]]
+        quoted = self.at if quoted_from is None else quoted_from
+        taken = [" ".join(token.text.split()) for token in self.tokens[start:quoted]]
+        taken += [written(token) for token in self.tokens[quoted : self.at]]
         joined = re.sub(r"(?<=[(\[@]) | (?=[)\],])", "", " ".join(taken))
         return re.sub(r" ?(\.\.?) ?(?=[^.])", r"\1", joined)
 
@@ -126,3 +136,11 @@ class Cursor:
         lines = re.sub(r"[^\S\n]", " ", text).split("\n")
         rest = [line[min(indent, len(line) - len(line.lstrip())) :].rstrip() for line in lines[1:]]
         return "\n".join([lines[0].rstrip(), *rest])
+
+
+def written(token: Token) -> str:
+    """A lexical item as a module writes it, in one line."""
+    text = " ".join(token.text.split())
+    if token.kind is Kind.TEXT:
+        return '"' + text.replace('"', '""') + '"'
+    return f"'{text}'{QUOTED_AS[token.kind]}" if token.kind in QUOTED_AS else text

@@ -1,4 +1,4 @@
-"""Values (X.680 17), and object identifier values (32)."""
+"""Values (X.680 17): object identifier values (32), and what stands in braces, once the type is known."""
 
 from __future__ import annotations
 
@@ -8,6 +8,8 @@ from ..syntax import (
     BitsValue,
     BooleanValue,
     BracedValue,
+    ChosenValue,
+    ComponentValue,
     NullValue,
     NumberValue,
     OtherValue,
@@ -62,12 +64,14 @@ def parse_value(cursor: Cursor) -> Value:
     return OtherValue(place, token.text)
 
 
-def parse_within(cursor: Cursor) -> OtherValue:
+def parse_within(cursor: Cursor) -> ChosenValue | OtherValue:
     """`alternative : value` of a CHOICE (X.680 29.11), or `Type : value` of an open type (X.681 14.6)."""
     with cursor.nested("values", "give one of those within a name of its own, by an assignment"):
         first = cursor.next()
         cursor.next()
-        parse_value(cursor)
+        value = parse_value(cursor)
+        if first.kind is Kind.LOWER:
+            return ChosenValue(first.place, first.text, value)
         return OtherValue(first.place, cursor.text_from(first))
 
 
@@ -99,7 +103,7 @@ def parse_braced(cursor: Cursor) -> BracedValue:
     place, start = cursor.place, cursor.at
     cursor.balanced()
     inner = tuple(cursor.tokens[start + 1 : cursor.at - 1])
-    return BracedValue(place, inner, arcs_of(inner))
+    return BracedValue(place, inner, arcs_of(inner), cursor.tokens[cursor.at - 1])
 
 
 def arcs_of(tokens: tuple[Token, ...]) -> tuple[Arc, ...] | None:
@@ -128,3 +132,35 @@ def arcs_of(tokens: tuple[Token, ...]) -> tuple[Arc, ...] | None:
         else:
             return None
     return tuple(arcs)
+
+
+# ---- values in braces, by their type
+
+
+def component_values(value: BracedValue) -> tuple[ComponentValue, ...]:
+    """`{ name value, .. }` of a SEQUENCE or a SET (25, 27)."""
+    cursor = Cursor.over(value.tokens, value.end)
+    found: list[ComponentValue] = []
+    while not ends(cursor, bool(found)):
+        instead = "write the components' values as '{ name value, .. }'"
+        name = cursor.expect_kind(Kind.LOWER, "the name of a component", instead)
+        found.append(ComponentValue(name.place, name.text, parse_value(cursor)))
+    return tuple(found)
+
+
+def bit_names(value: BracedValue) -> tuple[Token, ...]:
+    """`{ name, .. }` of a BIT STRING (22.9)."""
+    cursor = Cursor.over(value.tokens, value.end)
+    found: list[Token] = []
+    while not ends(cursor, bool(found)):
+        found.append(cursor.expect_kind(Kind.LOWER, "the name of a bit", "write the names of bits as '{ name, .. }'"))
+    return tuple(found)
+
+
+def ends(cursor: Cursor, is_comma_due: bool) -> bool:
+    """Whether the group ends here; the comma between two of its values is taken."""
+    if cursor.sees("}"):
+        return True
+    if is_comma_due:
+        cursor.expect(",", "write commas between the values")
+    return False

@@ -5,26 +5,17 @@ from __future__ import annotations
 from dataclasses import replace
 
 from ..errors import AsnError, Place
-from ..model import Alias, Field, Leaf, Presence, Resolved, Tagged, Use, Whole
+from ..model import Field, Presence
 from ..notes import Notes
 from ..scope import Env, check_names
 from ..spelling import camel, field, variant
-from ..syntax import (
-    BooleanValue,
-    ChoiceType,
-    Component,
-    ComponentsOf,
-    FieldsType,
-    NumberValue,
-    ReferenceValue,
-    TagDefault,
-    Value,
-)
+from ..syntax import ChoiceType, Component, ComponentsOf, FieldsType, TagDefault
 from ..tagging import alternatives, are_tagged, automatic, check_all, check_sequence, in_order_of_tags
-from ..values import number_of
 from . import types
 from .classes import base_of
 from .context import Context
+from .subsets import unconstrained
+from .defaults import default_of, marker_of
 
 Placed = tuple[Component, Env]
 DEEPEST = 40  # types whose components are taken, one in another
@@ -87,15 +78,16 @@ def one_field(context: Context, part: Component, rust: str) -> Field:
     rust = notes.argument("name") or rust
     inner = replace(context, inner=context.inner + camel(part.name), notes=notes, checks=part.default is None)
     found = types.resolve_type(inner, part.type)
-    presence, default = Presence.ALWAYS, None
-    if part.optional:
-        presence = Presence.OPTIONAL
     if part.is_later:
         remark_on_addition(inner, part)
-    if part.default is not None:
-        presence, default = Presence.DEFAULT, default_of(inner, part.default, found)
     notes.check_used(f"'{part.name}'")
-    return Field(part.place, part.name, rust, found, presence, default, part.text, part, context.env)
+    if part.default is None:
+        presence = Presence.OPTIONAL if part.optional else Presence.ALWAYS
+        return Field(part.place, part.name, rust, found, presence, None, part.text, part, context.env)
+    found = unconstrained(inner, part.place, found)
+    default = default_of(inner, part.default, found)
+    marker = marker_of(context, rust, default, found)
+    return Field(part.place, part.name, rust, found, Presence.DEFAULT, default, part.text, part, context.env, marker)
 
 
 def remark_on_addition(context: Context, part: Component) -> None:
@@ -116,50 +108,3 @@ def check_spelling(names: list[tuple[Place, str, str]], instead: str = "give one
         if rust in seen:
             raise AsnError(place, f"'{name}' and '{seen[rust]}' are both '{rust}' in Rattle", instead)
         seen[rust] = name
-
-
-# ---- DEFAULT
-
-
-def default_of(context: Context, value: Value, type_: Resolved) -> int | bool:
-    """A default that the library has: FALSE, or a number up to 255 of a u8."""
-    leaf, named = leaf_of(type_)
-    if leaf.whole is Whole.BOOLEAN and isinstance(value, BooleanValue):
-        if value.truth:
-            refuse(value.place, "DEFAULT TRUE")
-        return False
-    if leaf.whole in (Whole.INTEGER, Whole.NATURAL):
-        raise AsnError(
-            value.place,
-            "an INTEGER of any length has no DEFAULT here",
-            "write '-- @u8' after the component, or after the type's assignment",
-        )
-    if leaf.whole is Whole.MACHINE_INTEGER and isinstance(value, (NumberValue, ReferenceValue)):
-        number = number_of(context.state.library, context.env, value, named)
-        if leaf.width != "u8" or not 0 <= number <= 255:
-            refuse(value.place, f"DEFAULT {number} of an INTEGER as {leaf.width}")
-        return number
-    refuse(value.place, "this DEFAULT")
-    return False
-
-
-def refuse(place: Place, what: str) -> None:
-    raise AsnError(
-        place,
-        f"{what} is not taken: FALSE is, and numbers from 0 to 255 of an INTEGER as u8",
-        "write OPTIONAL, and let an absent value stand for the default; an encoded default is then not refused",
-    )
-
-
-def leaf_of(type_: Resolved) -> tuple[Leaf, dict[str, int]]:
-    """The type of the library after tags and names, and the names of its numbers."""
-    named: dict[str, int] = {}
-    while not isinstance(type_, Leaf):
-        if isinstance(type_, Tagged):
-            type_ = type_.of
-        elif isinstance(type_, Use) and isinstance(type_.definition, Alias) and type_.definition.type is not None:
-            named |= {one.name: one.number for one in type_.definition.numbers}
-            type_ = type_.definition.type
-        else:
-            return Leaf(Whole.ANY), named
-    return type_, named

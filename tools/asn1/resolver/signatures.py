@@ -2,7 +2,23 @@
 
 from __future__ import annotations
 
-from ..model import Alias, Choice, Definition, Enumeration, Field, Leaf, List, Listed, Resolved, Struct, Tagged
+from ..model import (
+    Alias,
+    AlternativeValue,
+    Choice,
+    DefaultValue,
+    Definition,
+    Enumeration,
+    Field,
+    FieldValues,
+    Leaf,
+    List,
+    Listed,
+    NamedValue,
+    Resolved,
+    Struct,
+    Tagged,
+)
 
 
 def signature(definition: Definition) -> str:
@@ -21,7 +37,18 @@ def signature(definition: Definition) -> str:
 
 
 def field_signature(part: Field) -> str:
-    return f"{part.name} {type_signature(part.type)} {part.presence.value} {part.default}"
+    return f"{part.name} {type_signature(part.type)} {part.presence.value} {default_signature(part.default)}"
+
+
+def default_signature(value: DefaultValue | None) -> str:
+    """A default, with the names of definitions alone."""
+    if isinstance(value, NamedValue):
+        return f"{value.definition.module}.{value.definition.rust}.{value.name}"
+    if isinstance(value, FieldValues):
+        return f"{{{', '.join(default_signature(one) for one in value.values)}}}"
+    if isinstance(value, AlternativeValue):
+        return f"{value.index} : {default_signature(value.value)}"
+    return f"{value}"
 
 
 def type_signature(type_: Resolved) -> str:

@@ -5,7 +5,7 @@ from __future__ import annotations
 from dataclasses import replace
 
 from ..bounds import MACHINE, Elsewhere, Placed, bounds_of
-from ..errors import AsnError
+from ..errors import AsnError, Place
 from ..model import Alias, Allowed, Leaf, Measure, Resolved, Tagged, Use, Whole
 from ..syntax import Alphabet, Combined, Constraint, Range, SingleValue, Size, TextValue
 from .context import Context
@@ -55,27 +55,42 @@ def narrowed_name(
     context: Context, found: Use, constraints: tuple[Placed, ...]
 ) -> tuple[Resolved, tuple[Placed, ...]]:
     """The same of a type that has a name, which stays where nothing is checked: else it is the library's type after its tags."""
-    named: dict[str, int] = {}
-    tags: list[Tagged] = []
-    type_: Resolved | None = found
-    while isinstance(type_, (Use, Tagged)):
-        if isinstance(type_, Tagged):
-            tags.append(type_)
-            type_ = type_.of
-        elif isinstance(type_.definition, Alias):
-            named |= {one.name: one.number for one in type_.definition.numbers}
-            type_ = type_.definition.type
-        else:
-            return found, constraints
+    tags, type_, named = through(found)
     if not isinstance(type_, Leaf):
         return found, constraints
     leaf, left = narrowed(context, type_, constraints, named)
-    if leaf == type_:
-        return found, left
-    inner: Resolved = leaf
+    return (found if leaf == type_ else behind(tags, leaf)), left
+
+
+def unconstrained(context: Context, place: Place, found: Resolved) -> Resolved:
+    """A type of which all values are read: that of a component with a DEFAULT, whose name may have a constraint."""
+    tags, leaf, _ = through(found)
+    if not isinstance(leaf, Leaf) or leaf.allowed is None:
+        return found
+    context.remark(place, "the constraint of a component with a DEFAULT")
+    return behind(tags, replace(leaf, allowed=None))
+
+
+def through(found: Resolved | None) -> tuple[list[Tagged], Resolved | None, dict[str, int]]:
+    """The tags of a type, what stands after them and after its names, and the names of its numbers."""
+    tags: list[Tagged] = []
+    named: dict[str, int] = {}
+    while isinstance(found, Tagged) or (isinstance(found, Use) and isinstance(found.definition, Alias)):
+        if isinstance(found, Tagged):
+            tags.append(found)
+            found = found.of
+        else:
+            assert isinstance(found.definition, Alias)
+            named |= {one.name: one.number for one in found.definition.numbers}
+            found = found.definition.type
+    return tags, found, named
+
+
+def behind(tags: list[Tagged], type_: Resolved) -> Resolved:
+    """A type after these tags."""
     for tag in reversed(tags):
-        inner = replace(tag, of=inner)
-    return inner, left
+        type_ = replace(tag, of=type_)
+    return type_
 
 
 def constrained(context: Context, leaf: Leaf, constraint: Placed, named: dict[str, int]) -> Leaf | None:

@@ -77,6 +77,38 @@ class Fields(unittest.TestCase):
         self.assertIn("; no octets where it is the default. pub flag: Place,", self.text)
 
 
+class Defaults(unittest.TestCase):
+    """A field with a default is there where its value is another, which is asked of the type that stands for the default."""
+
+    BODY = """S ::= SEQUENCE {
+            number INTEGER (0..999) DEFAULT 300, name UTF8String DEFAULT "x", mail [0] IMPLICIT IA5String DEFAULT "y",
+            color [1] IMPLICIT Color DEFAULT red, part P DEFAULT {}, held [2] IMPLICIT P DEFAULT {} }
+        Color ::= ENUMERATED { red }
+        P ::= SEQUENCE { a OCTET STRING OPTIONAL }"""
+
+    def setUp(self) -> None:
+        self.text = written(self.BODY)["src/test/s.rt"]
+
+    def test_a_value_is_given_by_reference(self) -> None:
+        for line in (
+            "let value = self.number(); let is_default = <Default300 as DefaultOf<u16>>::is_default(&value);",
+            "let value = self.name(); let is_default = <DefaultOfSName as DefaultOf<Utf8StringRef<'a>>>::is_default(value);",
+            "let value = self.part(); let is_default = <DefaultOfSPart as DefaultOf<P<'a>>>::is_default(value);",
+        ):
+            self.assertIn(line, self.text)
+
+    def test_a_value_after_a_tag_is_copied(self) -> None:
+        for line in (
+            "let tagged: Implicit<Ia5StringRef<'a>, 0> = Implicit { value: *value };",
+            "let tagged: Implicit<Enumerated<Color>, 1> = Implicit { value: Enumerated { value } };",
+            "let tagged: Implicit<P<'a>, 2> = Implicit { value: copy_of(value) };",
+        ):
+            self.assertIn(line, self.text)
+
+    def test_the_types_that_stand_for_defaults_are_those_of_the_module(self) -> None:
+        self.assertRegex(self.text, r"use der_test::test::\{[^}]*Default300, DefaultOfSColor,[^}]*\};")
+
+
 class Listed(unittest.TestCase):
     """A list stands after its tag, and in no struct that holds both."""
 

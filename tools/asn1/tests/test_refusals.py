@@ -113,13 +113,6 @@ BODIES = [
     ("A ::= SEQUENCE OF B\nB ::= CHOICE { a [0] A, b NULL }", "", "3:22", "the type 'A' reaches itself: A, B, A"),
     ("A ::= B\nB ::= A", "", "3:7", "the type 'A' reaches itself"),
     ("A ::= ENUMERATED { a(9223372036854775808) }", "", "2:7", "an ENUMERATED with numbers of 64 bits"),
-    # ---- DEFAULT
-    ("A ::= SEQUENCE { a BOOLEAN DEFAULT TRUE }", "", "2:36", "DEFAULT TRUE is not taken"),
-    ("A ::= SEQUENCE { a INTEGER DEFAULT 5 }", "", "2:36", "an INTEGER of any length has no DEFAULT"),
-    ("A ::= SEQUENCE { a INTEGER (0..999) DEFAULT 5 }", "", "2:45", "DEFAULT 5 of an INTEGER as u16"),
-    ("A ::= SEQUENCE { a OCTET STRING DEFAULT ''H }", "", "2:41", "this DEFAULT is not taken"),
-    ("A ::= SEQUENCE { a SEQUENCE OF NULL DEFAULT {} }", "", "2:45", "this DEFAULT is not taken"),
-    ("A ::= SEQUENCE { a INTEGER { b(1) } DEFAULT c }", "", "2:45", "'c' is neither assigned"),
     # ---- annotations
     ("A ::= INTEGER -- @borrow", "", "2:18", "there is no annotation '@borrow'"),
     ("A ::= SEQUENCE { a B -- @kept\n}\nB ::= SEQUENCE { x NULL }", "", "2:25", "there is no annotation '@kept'"),

@@ -5,6 +5,7 @@ from __future__ import annotations
 from ..model import Alias, Constant, Definition, Leaf, Named
 from ..properties import properties_of_definition
 from ..spelling import screaming
+from ..values import contents
 from . import docs
 from .module_laws import add_laws
 from .plan import Plan, Target
@@ -58,15 +59,3 @@ def write_constants(plan: Plan, target: Target, constants: list[Constant], name:
         head = f"{docs.asn1(one.text)}\n///\n/// It is {dotted}, as contents octets."
         source.add(f"{head}\npub const {one.rust}: [u8; {len(octets)}] = [{listed}];")
     return source.text([f"//! Object identifiers in {name}."])
-
-
-def contents(arcs: tuple[int, ...]) -> list[int]:
-    """The contents octets of an object identifier (X.690 8.19)."""
-    found: list[int] = []
-    for number in (arcs[0] * 40 + arcs[1], *arcs[2:]):
-        octets = [number & 0x7F]
-        while number > 0x7F:
-            number >>= 7
-            octets.append(number & 0x7F | 0x80)
-        found += reversed(octets)
-    return found

@@ -8,12 +8,13 @@ from ..spelling import snake
 from .aliases import constant_name, write_aliases, write_constants
 from .choices import write_choice, write_choice_page, write_order_proof
 from .enumerations import write_enumeration, write_enumeration_page
+from .defaults import markers_of, write_defaults
 from .grammar import GrammarPage
 from .lists import write_list
 from .module_laws import write_laws
 from .names import LOGIC, RUST, WORDS
 from .pages import write_list_page, write_struct_page
-from .plan import Plan, Target, is_apart
+from .plan import DEFAULT_LAWS, DEFAULTS, Plan, Target, is_apart
 from .source import PRELUDE
 from .structs import write_struct
 
@@ -51,6 +52,10 @@ def marked(path: str, text: str, file: str) -> str:
 def check_names(module: ResolvedModule) -> None:
     """Names of a module differ, and in more than their capitals: of its types, and of the files that each module has."""
     seen: dict[str, str] = {name: f"'{name}', a file that each module has" for name in FILES}
+    if markers_of(module):
+        seen[DEFAULTS] = f"'{DEFAULTS}', a file of this module"
+        seen[DEFAULT_LAWS.lower()] = f"'{DEFAULT_LAWS}', a page of this module"
+    seen |= {marker.rust.lower(): f"the type '{marker.rust}' of a default" for marker in markers_of(module)}
     for definition in sorted(module.definitions, key=is_within, reverse=True):
         check_name(definition)
         name = definition.rust
@@ -81,6 +86,7 @@ def write_module(plan: Plan, module: ResolvedModule) -> dict[str, str]:
         files[f"src/{target.module}/aliases.rt"] = write_aliases(plan, target, aliases, module.name)
     if module.constants:
         files[f"src/{target.module}/constants.rt"] = write_constants(plan, target, module.constants, module.name)
+    files.update(write_defaults(plan, module))
     files[f"src/{target.module}/laws.rt"] = write_laws(plan, module)
     files[f"specs/{target.page}/Grammar.antt"] = GrammarPage(plan, module).text()
     files[f"src/{target.module}.rt"] = root(plan, module)
@@ -132,6 +138,8 @@ def root(plan: Plan, module: ResolvedModule) -> str:
         names.append(definition.rust)
         if isinstance(definition, Alias):
             names += [constant_name(definition, one) for one in (*definition.numbers, *definition.bits)]
+    if markers_of(module):
+        by_file[DEFAULTS] = [marker.rust for marker in markers_of(module)]
     lines = [f"//! {module.name}.", ""]
     lines += [f"mod {name};" for name in sorted(by_file)]
     lines += ["pub mod constants;"] if module.constants else []

@@ -10,7 +10,7 @@ from __future__ import annotations
 from dataclasses import replace
 
 from .. import as_written
-from ..as_written import Key, Part, default_number, key_of
+from ..as_written import Key, Part, key_of
 from ..model import (
     Alias,
     Choice,
@@ -32,7 +32,6 @@ from ..resolver.classes import follow, meant
 from ..scope import Env, Library
 from ..spelling import snake
 from ..syntax import (
-    BooleanValue,
     ChoiceType,
     ConstrainedType,
     FieldOfClass,
@@ -40,7 +39,6 @@ from ..syntax import (
     ListType,
     ReferenceType,
     SelectionType,
-    TagClass,
     TagDefault,
     TaggedType,
     TagMode,
@@ -49,13 +47,11 @@ from ..syntax import (
 from ..values import number_of
 from .alternatives import halves
 from .constraints import allowed_term
+from .default_page import CLASSES, DefaultTerms
 from .names import ASN1, CONSTRAINT_WORDS, LISTS, PARSES, WORDS
 from .plan import Plan
 from .source import Page
 from .types import CHARACTERS, closed
-
-CLASSES = {TagClass.APPLICATION: "application", TagClass.CONTEXT: "context", TagClass.PRIVATE: "private"}
-
 
 # The words of pages and laws, which no grammar may be called: those that are written in small letters.
 LIBRARY = frozenset(
@@ -82,6 +78,7 @@ class GrammarPage:
         self.library: Library = module.library
         self.page = Page(plan, plan.targets[module.name], f"-- The grammar of {module.name}, in the words of ASN.1.")
         self.leaves: dict[str, str] = {}
+        self.defaults = DefaultTerms(self.page, self.library)
 
     def text(self) -> str:
         """The whole page: the library's types that it names, and each type, after those that it has."""
@@ -180,7 +177,8 @@ class GrammarPage:
             if part.component.optional:
                 lines.append(f"{self.asn1('OPTIONAL')} {closed(inner)}")
             elif part.component.default is not None:
-                lines.append(f"{self.asn1('DEFAULT')} ({self.default(part)}) {closed(inner)}")
+                default = self.defaults.default(part, types[key_of(part.component)])
+                lines.append(f"{self.asn1('DEFAULT')} ({default}) {closed(inner)}")
             else:
                 lines.append(f"{self.asn1('field')} {closed(inner)}")
         return "".join(f"\n    ({line}" for line in lines) + f"\n    {self.asn1('end')}" + ")" * len(lines)
@@ -278,44 +276,6 @@ class GrammarPage:
             term = f"{self.asn1('any_of')} (λ t. true) {argument}"
         self.leaves[name] = f"abbrev pub {name} : {self.asn1('Grammar')}\n{name} = {term}"
         return name
-
-    # ---- defaults
-
-    def default(self, part: Part) -> str:
-        """The encoding of a default value."""
-        tag, contents = self.default_of(part.env, part.component.type, part)
-        if part.number is not None:
-            tag = self.tag("context", f"({self.page.word('is_constructed')} {tag})", part.number)
-        return f"{self.page.word('tlv')} {tag} {contents}"
-
-    def default_of(self, env: Env, type_: Type, part: Part) -> tuple[str, str]:
-        """The tag and the contents octets of a default value."""
-        self.page.word("tags")
-        if isinstance(type_, ConstrainedType):
-            return self.default_of(env, type_.type, part)
-        if isinstance(type_, ReferenceType):
-            env, type_ = follow(self.library, env, type_)
-            return self.default_of(env, type_, part)
-        if isinstance(type_, TaggedType):
-            return self.default_of_tagged(env, type_, part)
-        if isinstance(part.component.default, BooleanValue):
-            return "tags.Boolean", f"({self.page.word('boolean_contents')} {self.page.word('false')})"
-        return "tags.Integer", f"({self.page.word('natural_contents')} {default_number(self.library, part)})"
-
-    def default_of_tagged(self, env: Env, type_: TaggedType, part: Part) -> tuple[str, str]:
-        """The same after a tag."""
-        tag, contents = self.default_of(env, type_.type, part)
-        number = type_.number if isinstance(type_.number, int) else number_of(self.library, env, type_.number)
-        word = self.asn1(CLASSES[type_.tag_class])
-        is_explicit = type_.mode is TagMode.EXPLICIT or (
-            type_.mode is None and env.scope.module.tag_default is TagDefault.EXPLICIT
-        )
-        if is_explicit:
-            return self.tag(word, self.page.word("true"), number), f"({self.page.word('tlv')} {tag} {contents})"
-        return self.tag(word, f"({self.page.word('is_constructed')} {tag})", number), contents
-
-    def tag(self, tag_class: str, constructed: str, number: int) -> str:
-        return f"({self.page.word('marker_tag')} {tag_class} {constructed} {number})"
 
 
 def resolved_parts(fields: tuple[Field, ...]) -> dict[Key, Resolved]:

@@ -16,7 +16,7 @@ from .equality import named
 from .names import ASN1
 from .plan import Plan
 from .source import Source
-from .types import enumeration_of, lifetime_of, rust_type
+from .types import default_type, enumeration_of, lifetime_of, rust_type
 
 CLASS_WORDS = {one.value: word for one, word in CLASSES.items()}
 
@@ -125,8 +125,7 @@ def member_octets(source: Source, member: Member, value: str) -> str:
 def default_octets(source: Source, member: Member) -> str:
     """The encoding of the default."""
     part = member.field
-    inner = "DefaultFalse" if part.default is False else f"DefaultNumber<{part.default}>"
-    source.use("DefaultFalse" if part.default is False else "DefaultNumber")
+    inner = default_type(source, part)
     return f"⟦<{inner} as {source.use('DefaultOf')}<{rust_type(source, part.type)}>>⟧.{source.member('octets')}"
 
 

@@ -82,6 +82,7 @@ RUST: dict[str, tuple[str, str]] = {
     "OneOf": ("der_fields", "OneOf"),
     "WithDefault": ("der_fields", "WithDefault"),
     "cmp_headers": ("der_fields", "cmp_headers"),
+    "equal_encodings": ("der_elem::laws", "equal_encodings"),
     "Choosing": ("der_modules", "Choosing"),
     **{name: ("der_constrained", name) for name in CONSTRAINTS},
     "CopyLaws": ("der_modules", "CopyLaws"),
@@ -98,6 +99,7 @@ RUST: dict[str, tuple[str, str]] = {
     "BitStringRef": ("der_bits", "BitStringRef"),
     "NamedBitsRef": ("der_bits", "NamedBitsRef"),
     "BmpString": ("der_text", "BmpString"),
+    "CharacterStringRef": ("der_ascii", "CharacterStringRef"),
     "GeneralStringOctets": ("der_modules", "GeneralStringOctets"),
     "GeneralizedTime": ("der_time", "GeneralizedTime"),
     "Ia5String": ("der_ascii", "Ia5String"),
@@ -118,6 +120,7 @@ RUST: dict[str, tuple[str, str]] = {
     "RelativeOidRef": ("der_simple", "RelativeOidRef"),
     "RelativeOidTag": ("der_simple", "RelativeOidTag"),
     "SequenceRef": ("der_nest", "SequenceRef"),
+    "SimpleStringRef": ("der_simple", "SimpleStringRef"),
     "SimpleStringTag": ("der_simple", "SimpleStringTag"),
     "ListRef": ("der_lists", "ListRef"),
     "NonEmptyRef": ("der_lists", "NonEmptyRef"),
@@ -198,6 +201,7 @@ WORDS: dict[str, tuple[str, str]] = {
     "is_constructed": ("der_tlv.specs.TagParts", "is_constructed"),
     "marker_tag": ("der_fields.specs.MarkerTags", "marker_tag"),
     "natural_contents": ("der_elem.specs.Integer", "natural_contents"),
+    "integer_contents": ("der_elem.specs.Integer", "integer_contents"),
     "tags": ("der_tlv.specs.declared.tag.Tag.TheVariants as tags", "tags"),
 }
 
@@ -276,6 +280,32 @@ MEMBERS: dict[str, str] = {
     "take_memory_to_copy": "take_memory_to_copy",
     "takes_memory_to_copy": "takes_memory_to_copy",
     "takes_memory_to_copy_value": "takes_memory_to_copy_value",
+}
+
+# ---- the universal tags, by their numbers
+
+TAGS = {
+    1: "Boolean",
+    2: "Integer",
+    3: "BitString",
+    4: "OctetString",
+    5: "Null",
+    6: "ObjectIdentifier",
+    10: "Enumerated",
+    12: "Utf8String",
+    13: "RelativeOid",
+    16: "Sequence",
+    17: "Set",
+    18: "NumericString",
+    19: "PrintableString",
+    20: "TeletexString",
+    21: "VideotexString",
+    22: "Ia5String",
+    23: "UtcTime",
+    24: "GeneralizedTime",
+    26: "VisibleString",
+    27: "GeneralString",
+    30: "BmpString",
 }
 
 # ---- grammars: the module of the words of ASN.1, and of each type its tag and the parse of its contents octets

@@ -14,36 +14,13 @@ from ..spelling import snake
 from . import docs
 from .alternatives import depth
 from .fields import Member, members_of
+from .names import TAGS
 from .plan import Plan, Target, is_apart
 from .source import Source
 from .types import default_type, enumeration_of, lifetime_of, rust_type, way, wrapped
 
 # What the calls and the proofs name within them: a local of such a name has an underscore after it.
 LOCALS = frozenset(["octets", "start", "self", "first", "value", "fields", "rest", "result"])
-# The universal tags as the library names them.
-TAGS = {
-    1: "Boolean",
-    2: "Integer",
-    3: "BitString",
-    4: "OctetString",
-    5: "Null",
-    6: "ObjectIdentifier",
-    10: "Enumerated",
-    12: "Utf8String",
-    13: "RelativeOid",
-    16: "Sequence",
-    17: "Set",
-    18: "NumericString",
-    19: "PrintableString",
-    20: "TeletexString",
-    21: "VideotexString",
-    22: "Ia5String",
-    23: "UtcTime",
-    24: "GeneralizedTime",
-    26: "VisibleString",
-    27: "GeneralString",
-    30: "BmpString",
-}
 LIBRARY = "der_places"  # the crate that has the words and the calls
 FILES = {"Place": "place", "Placed": "placed", "next_place": "walk", "is_there": "presence", "is_some": "presence"}
 
@@ -252,14 +229,18 @@ class Places:
             return [], "true"
         if one.presence is Presence.OPTIONAL:
             return [], f"{self.of_library('is_some' if one.member.is_small else 'is_there')}(self.{one.name}())"
-        inner, rust = "value", self.rust(one.type)
-        value = wrapped(self.source, bare(one.type), inner)
-        lets = [f"let {inner} = self.{one.name}();"]
-        if value != inner:
+        rust, is_small = self.rust(one.type), one.member.is_small
+        lets, reference = [f"let value = self.{one.name}();"], "&value" if is_small else "value"
+        value = wrapped(self.source, bare(one.type), "value" if is_small else self.copied(one))
+        if not self.is_plain(one.type):
             lets.append(f"let tagged: {rust} = {value};")
-            inner = "tagged"
+            reference = "&tagged"
         default = f"<{default_type(self.source, one.member.field)} as {self.source.use('DefaultOf')}<{rust}>>"
-        return [*lets, f"let is_default = {default}::is_default(&{inner});"], "!is_default"
+        return [*lets, f"let is_default = {default}::is_default({reference});"], "!is_default"
+
+    def copied(self, one: Placed) -> str:
+        """A value that is lent, to stand after its tags."""
+        return f"{self.source.use('copy_of')}(value)" if one.member.is_lent else "*value"
 
     # ---- the proof
 

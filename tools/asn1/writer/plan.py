@@ -7,6 +7,9 @@ from dataclasses import dataclass
 from ..model import Alias, Definition
 from ..spelling import snake
 
+DEFAULTS = "defaults"  # the file of a module that has the types which stand for its defaults
+DEFAULT_LAWS = "DefaultLaws"  # the page of the laws by which they are made and told
+
 
 @dataclass(frozen=True)
 class Target:

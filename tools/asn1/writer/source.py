@@ -2,9 +2,9 @@
 
 from __future__ import annotations
 
-from ..model import Definition
+from ..model import Definition, Marker
 from .names import LOGIC, MEMBERS, RUST, WORDS
-from .plan import Plan, Target
+from .plan import DEFAULT_LAWS, DEFAULTS, Plan, Target
 
 # Names that a file uses and that no type of ASN.1 may have beside them.
 PRELUDE = frozenset(["Err", "None", "Ok", "Option", "Result", "Self", "Some", "Vec", "Box", "String"])
@@ -20,6 +20,7 @@ class Source:
         self.parts: list[str] = []
         self.imports: dict[str, set[str]] = {}
         self.words: dict[str, set[str]] = {}
+        self.laws: set[str] = set()  # of the module's defaults
 
     # ---- names
 
@@ -33,20 +34,29 @@ class Source:
         """A type that is written too, which is imported from where it stands."""
         name = definition.rust
         target, file = self.plan.of(definition), self.plan.file(definition)
-        if definition.by_hand:
-            if file == self.file and target == self.target:
-                return name
-            path = self.root_of(definition.by_hand[0])
-        elif target.crate != self.target.crate:
-            path = f"{target.crate}::{target.module}"
-        elif target.module != self.target.module:
-            path = f"crate::{target.module}"
-        elif file == self.file:
+        if file == self.file and target == self.target:
             return name
-        else:
-            path = f"crate::{target.module}::{file}"
+        path = self.root_of(definition.by_hand[0]) if definition.by_hand else self.path_of(target, file)
         self.imports.setdefault(path, set()).add(name)
         return name
+
+    def use_default(self, marker: Marker) -> str:
+        """The type that stands for a default, which is imported from where it stands."""
+        target = self.plan.targets[marker.module]
+        if self.file != DEFAULTS or target != self.target:
+            self.imports.setdefault(self.path_of(target, DEFAULTS), set()).add(marker.rust)
+        return marker.rust
+
+    def using(self, law: str) -> str:
+        """The attribute of a function whose proof takes a law of the module's defaults."""
+        self.laws.add(law)
+        return f"#[tactic(auto, using(crate::specs::{self.target.page}::{DEFAULT_LAWS}::{law}))]"
+
+    def path_of(self, target: Target, file: str) -> str:
+        """What a file of a module has, as this file names it: a file of another module through that."""
+        if target.crate != self.target.crate:
+            return f"{target.crate}::{target.module}"
+        return f"crate::{target.module}" + (f"::{file}" if target.module == self.target.module else "")
 
     def root_of(self, crate: str) -> str:
         """The root of a crate, as this file names it."""

@@ -73,6 +73,8 @@ def field_type(source: Source, part: Field) -> str:
 
 def default_type(source: Source, part: Field) -> str:
     """The type that stands for a default."""
+    if part.marker is not None:
+        return source.use_default(part.marker)
     return source.use("DefaultFalse") if part.default is False else f"{source.use('DefaultNumber')}<{part.default}>"
 
 

@@ -1,24 +1,26 @@
 -- The grammar of Shapes, in the words of ASN.1.
 -- Made by tools/asn1 from shapes.asn1.
-use Rattle.std.specs.Prelude.{false, negsuc, pos, true}
+use Rattle.std.specs.Prelude.{◌∷◌, [], false, negsuc, pos, true}
 use Rattle.der_ascii.specs.Characters.{parse_string}
 use Rattle.der_bits.specs.BitString.{parse_bit_string}
+use Rattle.der_bits.specs.NamedBits.{parse_named_bits}
 use Rattle.der_constrained.specs.Alphabets.{characters, either_set, permitted}
 use Rattle.der_constrained.specs.Asn1.{ALLOWED, intersection, union}
 use Rattle.der_constrained.specs.Integers.{range}
 use Rattle.der_constrained.specs.Sizes.{size_in_bits, size_in_characters, size_in_octets}
 use Rattle.der_elem.specs.Boolean.{boolean_contents, parse_boolean}
-use Rattle.der_elem.specs.Integer.{natural_contents}
+use Rattle.der_elem.specs.Integer.{integer_contents, natural_contents}
 use Rattle.der_elem.specs.IntegerReading.{parse_signed, parse_unsigned}
 use Rattle.der_elem.specs.Null.{parse_null}
 use Rattle.der_elem.specs.Utf8String.{parse_utf8}
 use Rattle.der_fields.specs.MarkerTags.{marker_tag}
 use Rattle.der_lists.specs.Asn1.{SEQUENCE_OF, SET_OF, SET_OF_ANY_ORDER}
-use Rattle.der_modules.specs.Asn1.{CHOICE, DEFAULT, EXPLICIT, Grammar, IMPLICIT, NOT_EMPTY, OPTIONAL, SEQUENCE, SET, any_of, application, context, end, field, one, private}
+use Rattle.der_modules.specs.Asn1.{CHOICE, DEFAULT, EXPLICIT, Grammar, IMPLICIT, NAMED, NOT_EMPTY, OPTIONAL, SEQUENCE, SET, any_of, application, context, end, field, joined, one, private}
 use Rattle.der_numbers.specs.AnyLength.{parse_integer, parse_natural}
 use Rattle.der_opaque.specs.AnyForm.{parse_any}
 use Rattle.der_opaque.specs.ObjectIdentifierOctets.{parse_identifier}
 use Rattle.der_opaque.specs.Opaque.{parse_octets}
+use Rattle.der_shapes.specs.Shapes.Color.{all_of_color, number_of_color}
 use Rattle.der_simple.specs.Arcs.{parse_arcs}
 use Rattle.der_simple.specs.Characters.{parse_simple_string}
 use Rattle.der_time.specs.TimeReading.{parse_generalized}
@@ -44,11 +46,20 @@ IA5_STRING = one tags.Ia5String (parse_string 22)
 abbrev pub INTEGER : Grammar
 INTEGER = one tags.Integer parse_integer
 
+abbrev pub INTEGER_i16 : Grammar
+INTEGER_i16 = one tags.Integer (parse_signed 2)
+
 abbrev pub INTEGER_i8 : Grammar
 INTEGER_i8 = one tags.Integer (parse_signed 1)
 
+abbrev pub INTEGER_u16 : Grammar
+INTEGER_u16 = one tags.Integer (parse_unsigned 2)
+
 abbrev pub INTEGER_u8 : Grammar
 INTEGER_u8 = one tags.Integer (parse_unsigned 1)
+
+abbrev pub NAMED_BITS : Grammar
+NAMED_BITS = one tags.BitString parse_named_bits
 
 abbrev pub NATURAL : Grammar
 NATURAL = one tags.Integer parse_natural
@@ -289,3 +300,95 @@ limited =
     CHOICE
     (ALLOWED (union (range (pos 0) (pos 49)) (range (pos 51) (pos 99))) INTEGER_u8)
     (IMPLICIT context 0 (ALLOWED (intersection (permitted (characters 97 102)) (size_in_octets 1 2)) VISIBLE_STRING))
+
+-- Color ::= ENUMERATED { red(0), green(1), blue(2) }
+abbrev pub color : Grammar
+color =
+    NAMED number_of_color all_of_color tags.Enumerated
+
+-- Level ::= INTEGER { low(-1), high(300) }
+abbrev pub level : Grammar
+level =
+    INTEGER_i16
+
+-- Counted ::= SEQUENCE {
+--     visible  BOOLEAN DEFAULT TRUE,
+--     port     INTEGER (0..65535) DEFAULT 8080,
+--     offset   [0] INTEGER (-128..127) DEFAULT -1,
+--     level    [1] EXPLICIT Level DEFAULT high,
+--     balance  [2] INTEGER DEFAULT -40000,
+--     serial   [3] INTEGER (0..MAX) DEFAULT 200,
+--     nothing  NULL DEFAULT NULL,
+--     color    Color DEFAULT green }
+abbrev pub counted : Grammar
+counted =
+    SEQUENCE
+    (DEFAULT (tlv tags.Boolean (boolean_contents true)) BOOLEAN
+    (DEFAULT (tlv tags.Integer (natural_contents 8080)) INTEGER_u16
+    (DEFAULT (tlv (marker_tag context (is_constructed tags.Integer) 0) (integer_contents (negsuc 0))) (IMPLICIT context 0 INTEGER_i8)
+    (DEFAULT (tlv (marker_tag context true 1) (tlv tags.Integer (integer_contents (pos 300)))) (EXPLICIT context 1 level)
+    (DEFAULT (tlv (marker_tag context (is_constructed tags.Integer) 2) (integer_contents (negsuc 39999))) (IMPLICIT context 2 INTEGER)
+    (DEFAULT (tlv (marker_tag context (is_constructed tags.Integer) 3) (natural_contents 200)) (IMPLICIT context 3 NATURAL)
+    (DEFAULT (tlv tags.Null []) NULL
+    (DEFAULT (tlv tags.Enumerated (integer_contents (pos 1))) color
+    end))))))))
+
+-- Rights ::= BIT STRING { read(0), write(1), grant(9) }
+abbrev pub rights : Grammar
+rights =
+    NAMED_BITS
+
+-- Described ::= SEQUENCE {
+--     name    UTF8String DEFAULT "none",
+--     place   PrintableString DEFAULT "",
+--     mail    [0] IA5String DEFAULT "a@b",
+--     key     OCTET STRING DEFAULT '00FF'H,
+--     bits    BIT STRING DEFAULT '101'B,
+--     rights  [1] Rights DEFAULT { read, grant },
+--     none    [2] Rights DEFAULT {},
+--     type    OBJECT IDENTIFIER DEFAULT { iso(1) member-body(2) us(840) } }
+abbrev pub described : Grammar
+described =
+    SEQUENCE
+    (DEFAULT (tlv tags.Utf8String (110 ∷ 111 ∷ 110 ∷ 101 ∷ [])) UTF8_STRING
+    (DEFAULT (tlv tags.PrintableString []) PRINTABLE_STRING
+    (DEFAULT (tlv (marker_tag context (is_constructed tags.Ia5String) 0) (97 ∷ 64 ∷ 98 ∷ [])) (IMPLICIT context 0 IA5_STRING)
+    (DEFAULT (tlv tags.OctetString (0 ∷ 255 ∷ [])) OCTET_STRING
+    (DEFAULT (tlv tags.BitString (5 ∷ 160 ∷ [])) BIT_STRING
+    (DEFAULT (tlv (marker_tag context (is_constructed tags.BitString) 1) (6 ∷ 128 ∷ 64 ∷ [])) (IMPLICIT context 1 rights)
+    (DEFAULT (tlv (marker_tag context (is_constructed tags.BitString) 2) (0 ∷ [])) (IMPLICIT context 2 rights)
+    (DEFAULT (tlv tags.ObjectIdentifier (42 ∷ 134 ∷ 72 ∷ [])) OBJECT_IDENTIFIER_39
+    end))))))))
+
+-- Extent ::= SEQUENCE {
+--     width  INTEGER (0..255) OPTIONAL,
+--     tall   BOOLEAN DEFAULT FALSE }
+abbrev pub extent : Grammar
+extent =
+    SEQUENCE
+    (OPTIONAL INTEGER_u8
+    (DEFAULT (tlv tags.Boolean (boolean_contents false)) BOOLEAN
+    end))
+
+-- Side ::= CHOICE {
+--     length  [3] INTEGER (0..255),
+--     none    [4] NULL }
+abbrev pub side : Grammar
+side =
+    CHOICE
+    (IMPLICIT context 3 INTEGER_u8)
+    (IMPLICIT context 4 NULL)
+
+-- Nested ::= SEQUENCE {
+--     extent  Extent DEFAULT { width 5, tall TRUE },
+--     other   [0] EXPLICIT Extent DEFAULT {},
+--     side    Side DEFAULT length : 7,
+--     color   [1] Color DEFAULT blue }
+abbrev pub nested : Grammar
+nested =
+    SEQUENCE
+    (DEFAULT (tlv tags.Sequence (joined ((tlv tags.Integer (natural_contents 5)) ∷ (tlv tags.Boolean (boolean_contents true)) ∷ []))) extent
+    (DEFAULT (tlv (marker_tag context true 0) (tlv tags.Sequence (joined []))) (EXPLICIT context 0 extent)
+    (DEFAULT (tlv (marker_tag context (is_constructed tags.Integer) 3) (natural_contents 7)) side
+    (DEFAULT (tlv (marker_tag context (is_constructed tags.Enumerated) 1) (integer_contents (pos 2))) (IMPLICIT context 1 color)
+    end))))
