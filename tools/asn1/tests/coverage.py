@@ -121,8 +121,10 @@ class Measure:
         self.broken = broken
 
     def result_of(self, reading: Reading) -> Result:
-        """What becomes of a module."""
+        """What becomes of a module; of one whose name another in the folder has, by itself."""
         scope = tolerant_scope(reading)
+        if self.library.scopes.get(reading.module.name) is not scope:
+            self.state = State(self.library)
         self.library.scopes[reading.module.name] = scope
         result = Result(has_imports=all(one.module in self.library.scopes for one in reading.module.imports))
         assignments = {one.place: one for one in reading.module.assignments if isinstance(one, TypeAssignment)}
