@@ -53,8 +53,8 @@ def variant(name: str) -> str:
 
 
 def enumeration_name(name: str, rust: str, names: Iterable[str]) -> str:
-    """As a variant of an ENUMERATED with these names, whose own name is `rust`; where another of them is spelled alike, as `v1` and
-    `v-1`, the hyphens stay, as underscores."""
+    """As a variant of an ENUMERATED with these names, whose own name is `rust`; where another of them is spelled alike, as
+    `v1` and `v-1`, the hyphens stay, as underscores."""
     found = variant(name)
     if any(other != name and variant(other) == found for other in names):
         found = "_".join(variant(part) for part in name.split("-"))

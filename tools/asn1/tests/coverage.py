@@ -228,7 +228,8 @@ def reasons(found: dict[str, list[Result]]) -> list[str]:
     here = Counter(kind for one in results for kind, is_here in one.reasons if is_here)
     only = Counter(kinds.pop() for one in results if len(kinds := {kind for kind, _ in one.reasons} | set(one.errors)) == 1)
     errors = Counter(kind for one in results if one.types for kind in set(one.errors))
-    lines = ["| Reason | types | at the type itself | modules with it elsewhere | modules that it alone refuses |", "|---|---|---|---|---|"]
+    head = "| Reason | types | at the type itself | modules with it elsewhere | modules that it alone refuses |"
+    lines = [head, "|---|---|---|---|---|"]
     for kind, _ in sorted({**errors, **every}.items(), key=lambda item: (-every[item[0]], -errors[item[0]])):
         lines.append(f"| {kind} | {every[kind]} | {here[kind]} | {errors[kind]} | {only[kind]} |")
     return lines
