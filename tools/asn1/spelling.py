@@ -3,6 +3,8 @@
 from __future__ import annotations
 
 import re
+from collections.abc import Iterable
+from functools import lru_cache
 
 KEYWORDS = frozenset(
     """
@@ -38,6 +40,7 @@ def words(name: str) -> list[str]:
     return [part.lower() for part in parts]
 
 
+@lru_cache(maxsize=None)
 def camel(name: str) -> str:
     """As a type: `TBSCertificate` is `TbsCertificate`."""
     return "".join(word[0].upper() + word[1:] for word in words(name))
@@ -49,9 +52,12 @@ def variant(name: str) -> str:
     return f"{found}_" if found in VARIANTS else found
 
 
-def enumeration_name(name: str, rust: str) -> str:
-    """As a variant of an ENUMERATED, whose own name is `rust`."""
+def enumeration_name(name: str, rust: str, names: Iterable[str]) -> str:
+    """As a variant of an ENUMERATED with these names, whose own name is `rust`; where another of them is spelled alike, as
+    `v1` and `v-1`, the hyphens stay, as underscores."""
     found = variant(name)
+    if any(other != name and variant(other) == found for other in names):
+        found = "_".join(variant(part) for part in name.split("-"))
     return f"{found}_" if found in NAMES or found == rust else found
 
 

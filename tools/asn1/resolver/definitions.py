@@ -176,7 +176,8 @@ def plain(context: Context, name: str, text: str, base: Type, tag: Tag | None, c
     values = enumeration_of(context.state.library, context.env, base.named)
     if not all(abs(number) < 2**63 for number in values.values()):
         raise AsnError(base.place, "an ENUMERATED with numbers of 64 bits is not taken", "write INTEGER in its place")
-    check_spelling([(one.place, one.name, enumeration_name(one.name, context.inner)) for one in base.named])
+    names = [one.name for one in base.named]
+    check_spelling([(one.place, one.name, enumeration_name(one.name, context.inner, names)) for one in base.named])
     named = tuple(Named(*one) for one in values.items())
     return Enumeration(*about, values=named, is_extensible=base.extensible, tag=tag)
 

@@ -121,8 +121,10 @@ class Measure:
         self.broken = broken
 
     def result_of(self, reading: Reading) -> Result:
-        """What becomes of a module."""
+        """What becomes of a module; of one whose name another in the folder has, by itself."""
         scope = tolerant_scope(reading)
+        if self.library.scopes.get(reading.module.name) is not scope:
+            self.state = State(self.library)
         self.library.scopes[reading.module.name] = scope
         result = Result(has_imports=all(one.module in self.library.scopes for one in reading.module.imports))
         assignments = {one.place: one for one in reading.module.assignments if isinstance(one, TypeAssignment)}
@@ -226,7 +228,8 @@ def reasons(found: dict[str, list[Result]]) -> list[str]:
     here = Counter(kind for one in results for kind, is_here in one.reasons if is_here)
     only = Counter(kinds.pop() for one in results if len(kinds := {kind for kind, _ in one.reasons} | set(one.errors)) == 1)
     errors = Counter(kind for one in results if one.types for kind in set(one.errors))
-    lines = ["| Reason | types | at the type itself | modules with it elsewhere | modules that it alone refuses |", "|---|---|---|---|---|"]
+    head = "| Reason | types | at the type itself | modules with it elsewhere | modules that it alone refuses |"
+    lines = [head, "|---|---|---|---|---|"]
     for kind, _ in sorted({**errors, **every}.items(), key=lambda item: (-every[item[0]], -errors[item[0]])):
         lines.append(f"| {kind} | {every[kind]} | {here[kind]} | {errors[kind]} | {only[kind]} |")
     return lines

@@ -34,7 +34,8 @@ class Implied(unittest.TestCase):
     def test_the_next_module_of_the_file_has_it_not(self) -> None:
         first = module_of("A ::= ENUMERATED { a }", "EXTENSIBILITY IMPLIED", "First")
         found, _ = resolved(first + module_of("A ::= ENUMERATED { a }"))
-        self.assertEqual([one.is_extensible for module in found for one in module.definitions if isinstance(one, Enumeration)], [True, False])
+        kinds = [one for module in found for one in module.definitions if isinstance(one, Enumeration)]
+        self.assertEqual([one.is_extensible for one in kinds], [True, False])
 
 
 class Additions(unittest.TestCase):

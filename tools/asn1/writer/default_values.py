@@ -20,10 +20,10 @@ from ..model import (
     Whole,
 )
 from ..properties import behind_tags, named_type
-from ..spelling import enumeration_name
 from .default_makers import BIT_STRING, OF_WHOLES, OWNED_IDENTIFIER, Made
 from .default_octets import contents_octets
 from .fields import Member, members_of
+from .enumerations import variant_of
 from .leaves import CHARACTERS
 from .source import Source
 from .types import plain, tagging
@@ -61,7 +61,7 @@ class Maker:
 
     def name_of(self, value: NamedValue) -> str:
         """A name of an ENUMERATED."""
-        return f"{self.source.use_type(value.definition)}::{enumeration_name(value.name, value.definition.rust)}"
+        return f"{self.source.use_type(value.definition)}::{variant_of(value.definition, value.name)}"
 
     def untagged(self, type_: Resolved, value: DefaultValue, name: str) -> str:
         """A value of a type with no tags before it."""

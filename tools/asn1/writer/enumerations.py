@@ -22,10 +22,15 @@ def write_enumeration(plan: Plan, definition: Enumeration) -> str:
     return source.text([f"//! {definition.name}, an ENUMERATED of {len(definition.values)} names."])
 
 
+def variant_of(definition: Enumeration, name: str) -> str:
+    """The variant of a name."""
+    return enumeration_name(name, definition.rust, [one.name for one in definition.values])
+
+
 def declaration(definition: Enumeration) -> str:
     rust = definition.rust
     more = f"In a message it stands as `Enumerated<{rust}>`. A number without a name is refused (`ErrorKind::Value`, 13)."
-    rows = "\n".join(f"    /// `{one.name}` ({one.number}).\n    {enumeration_name(one.name, rust)}," for one in definition.values)
+    rows = "\n".join(f"    /// `{one.name}` ({one.number}).\n    {variant_of(definition, one.name)}," for one in definition.values)
     head = docs.of_definition(definition, more)
     return f"{head}\n#[derive(Clone, Copy, Debug, PartialEq, Eq)]\npub enum {rust} {{\n{rows}\n}}"
 
@@ -34,8 +39,8 @@ def enumeration(source: Source, definition: Enumeration) -> str:
     """The numbers of the names, and the names of the numbers."""
     rust, target = definition.rust, source.target
     names = source.page_word(f"{target.crate}.specs.{target.page}.{rust}", f"names_of_{snake(rust)}")
-    to = "\n".join(f"            {rust}::{enumeration_name(one.name, rust)} => {one.number}," for one in definition.values)
-    back = "\n".join(f"            {one.number} => Some({rust}::{enumeration_name(one.name, rust)})," for one in definition.values)
+    to = "\n".join(f"            {rust}::{variant_of(definition, one.name)} => {one.number}," for one in definition.values)
+    back = "\n".join(f"            {one.number} => Some({rust}::{variant_of(definition, one.name)})," for one in definition.values)
     return (
         f"impl {source.use('Enumeration')} for {rust} {{\n"
         f"    type Marker = {markers.of_definition(source, definition)};\n\n"
@@ -59,7 +64,7 @@ def write_enumeration_page(plan: Plan, definition: Enumeration) -> str:
     rust, name = page.logic_type(definition), snake(definition.rust)
     target = plan.of(definition)
     module = f"{target.crate}.specs.declared.{target.module}.{snake(definition.rust)}.{definition.rust}.TheVariants"
-    variants = [page.from_module(module, enumeration_name(one, definition.rust)) for one, _ in named]
+    variants = [page.from_module(module, variant_of(definition, one)) for one, _ in named]
     for key in ("≡", "refl", "[]", "∷", "Some"):
         page.word(key)
     numbers = "\n".join(
