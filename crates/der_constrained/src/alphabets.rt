@@ -54,7 +54,8 @@ fn are_permitted<S: CharacterSet>(octets: &[u8]) -> bool
     octets.iter().all(|octet| S::has(*octet))
 }
 
-impl<'a, const NUMBER: u8, S: CharacterSet> Constraint<CharacterStringRef<'a, NUMBER>> for HasCharacters<S> {
+impl<'a, const NUMBER: u8, S: CharacterSet> Constraint<CharacterStringRef<'a, NUMBER>>
+    for HasCharacters<S> {
     ghost allows = { permitted S.has };
 
     fn allows(value: &CharacterStringRef<'a, NUMBER>) -> bool {
@@ -62,7 +63,8 @@ impl<'a, const NUMBER: u8, S: CharacterSet> Constraint<CharacterStringRef<'a, NU
     }
 }
 
-impl<'a, const NUMBER: u8, S: CharacterSet> Constraint<SimpleStringRef<'a, NUMBER>> for HasCharacters<S> {
+impl<'a, const NUMBER: u8, S: CharacterSet> Constraint<SimpleStringRef<'a, NUMBER>>
+    for HasCharacters<S> {
     ghost allows = { permitted S.has };
 
     fn allows(value: &SimpleStringRef<'a, NUMBER>) -> bool {

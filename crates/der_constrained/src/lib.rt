@@ -17,7 +17,7 @@ mod constraint;
 mod integers;
 mod sizes;
 
-pub use alphabets::{CharacterSet, CharacterRange, CharacterUnion, HasCharacters};
+pub use alphabets::{CharacterRange, CharacterSet, CharacterUnion, HasCharacters};
 pub use constrained::Constrained;
 pub use constraint::{AllExcept, Constraint, IntersectionOf, UnionOf};
 pub use integers::InRange;

@@ -11,5 +11,9 @@ use der_tlv::Tag;
 pub fn universal_tags() -> [Tag; 3]
     ensures { result ≡ tags.NumericString ∷ tags.VisibleString ∷ tags.RelativeOid ∷ [] }
 {
-    [NumericStringRef::TAG, VisibleStringRef::TAG, RelativeOidRef::TAG]
+    [
+        NumericStringRef::TAG,
+        VisibleStringRef::TAG,
+        RelativeOidRef::TAG,
+    ]
 }

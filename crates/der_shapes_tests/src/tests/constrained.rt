@@ -1,7 +1,7 @@
 //! Types of which a constraint allows some values: as fields, items, alternatives and by themselves.
 
 use super::{again, compared, holds, is_copied, numbered, same, same_in};
-use der_constrained::{AllExcept, IntersectionOf, Constrained, InRange};
+use der_constrained::{AllExcept, Constrained, InRange, IntersectionOf};
 use der_elem::{Encode, FromDer};
 use der_shapes::shapes::{Bounded, Code, Limited, Small};
 use std::alloc::Global;
@@ -43,15 +43,30 @@ fn numbers_of_a_range_are_read(rt: HostRuntime) -> Result<(), Fail> {
         same_in(&rt, &digits, small_again(alloc, octets.as_slice())?, octets);
     }
     // one below and one above; the type's own faults come first: no octets, too many, another tag
-    let rows: [Row; 5] =
-        [("0201fa", 13), ("02010b", 13), ("0200", 7), ("02020100", 8), ("0a0100", 4)];
+    let rows: [Row; 5] = [
+        ("0201fa", 13),
+        ("02010b", 13),
+        ("0200", 7),
+        ("02020100", 8),
+        ("0a0100", 4),
+    ];
     for (digits, number) in rows {
         let octets = hex::decode(alloc, digits)?;
-        same_in(&rt, &digits, small_again(alloc, octets.as_slice()), Err(number));
+        same_in(
+            &rt,
+            &digits,
+            small_again(alloc, octets.as_slice()),
+            Err(number),
+        );
     }
     for (digits, number) in [("020101", 13), ("020103", 13), ("0201ff", 13)] {
         let octets = hex::decode(alloc, digits)?;
-        same_in(&rt, &digits, even_again(alloc, octets.as_slice()), Err(number));
+        same_in(
+            &rt,
+            &digits,
+            even_again(alloc, octets.as_slice()),
+            Err(number),
+        );
     }
     let octets = hex::decode(alloc, "020102")?;
     same(&rt, even_again(alloc, octets.as_slice())?, octets);
@@ -75,7 +90,12 @@ fn strings_of_a_size_and_an_alphabet_are_read(rt: HostRuntime) -> Result<(), Fai
     ];
     for (digits, number) in rows {
         let octets = hex::decode(alloc, digits)?;
-        same_in(&rt, &digits, code_again(alloc, octets.as_slice()), Err(number));
+        same_in(
+            &rt,
+            &digits,
+            code_again(alloc, octets.as_slice()),
+            Err(number),
+        );
     }
     Ok(())
 }
@@ -107,7 +127,12 @@ fn constrained_fields_and_items_are_read(rt: HostRuntime) -> Result<(), Fail> {
     ];
     for digits in rows {
         let octets = hex::decode(alloc, digits)?;
-        same_in(&rt, &digits, bounded_again(alloc, octets.as_slice())?, octets);
+        same_in(
+            &rt,
+            &digits,
+            bounded_again(alloc, octets.as_slice())?,
+            octets,
+        );
     }
     Ok(())
 }
@@ -131,7 +156,12 @@ fn constrained_fields_and_items_of_other_values_are_refused(rt: HostRuntime) -> 
     ];
     for digits in rows {
         let octets = hex::decode(alloc, digits)?;
-        same_in(&rt, &digits, bounded_again(alloc, octets.as_slice()), Err(13));
+        same_in(
+            &rt,
+            &digits,
+            bounded_again(alloc, octets.as_slice()),
+            Err(13),
+        );
     }
     Ok(())
 }
@@ -141,11 +171,21 @@ fn constrained_alternatives_are_read(rt: HostRuntime) -> Result<(), Fail> {
     let alloc = rt.alloc();
     for digits in ["020100", "020131", "020133", "020163", "800161", "80026166"] {
         let octets = hex::decode(alloc, digits)?;
-        same_in(&rt, &digits, limited_again(alloc, octets.as_slice())?, octets);
+        same_in(
+            &rt,
+            &digits,
+            limited_again(alloc, octets.as_slice())?,
+            octets,
+        );
     }
     for digits in ["020132", "020164", "8000", "8003616161", "80026167"] {
         let octets = hex::decode(alloc, digits)?;
-        same_in(&rt, &digits, limited_again(alloc, octets.as_slice()), Err(13));
+        same_in(
+            &rt,
+            &digits,
+            limited_again(alloc, octets.as_slice()),
+            Err(13),
+        );
     }
     Ok(())
 }
@@ -163,7 +203,10 @@ fn seen(alloc: Global, octets: &[u8]) -> Result<(i8, Option<u8>, u32), u8> {
 #[test]
 fn constrained_fields_are_seen(rt: HostRuntime) -> Result<(), Fail> {
     let alloc = rt.alloc();
-    let octets = hex::decode(alloc, "302102010580010313024142a10404021122030205e00c03c3a9613006020109020100")?;
+    let octets = hex::decode(
+        alloc,
+        "302102010580010313024142a10404021122030205e00c03c3a9613006020109020100",
+    )?;
     same(&rt, seen(alloc, octets.as_slice()), Ok((5, Some(3), 2)));
     Ok(())
 }

@@ -37,7 +37,12 @@ fn numeric_strings_have_digits_and_spaces(rt: HostRuntime) -> Result<(), Fail> {
     let alloc = rt.alloc();
     for digits in ["1200", "120b3031323334353637383920", "120120"] {
         let octets = hex::decode(alloc, digits)?;
-        same_in(&rt, &digits, digits_again(alloc, octets.as_slice())?, octets);
+        same_in(
+            &rt,
+            &digits,
+            digits_again(alloc, octets.as_slice())?,
+            octets,
+        );
     }
     // the characters beside digits and space, a letter, an octet past ASCII; another tag; a length
     let rows: [Row; 8] = [
@@ -52,7 +57,12 @@ fn numeric_strings_have_digits_and_spaces(rt: HostRuntime) -> Result<(), Fail> {
     ];
     for (digits, number) in rows {
         let octets = hex::decode(alloc, digits)?;
-        same_in(&rt, &digits, digits_again(alloc, octets.as_slice()), Err(number));
+        same_in(
+            &rt,
+            &digits,
+            digits_again(alloc, octets.as_slice()),
+            Err(number),
+        );
     }
     Ok(())
 }
@@ -62,13 +72,28 @@ fn visible_strings_have_the_octets_20_to_7e(rt: HostRuntime) -> Result<(), Fail>
     let alloc = rt.alloc();
     for digits in ["1a00", "1a0468692021", "1a02207e"] {
         let octets = hex::decode(alloc, digits)?;
-        same_in(&rt, &digits, visible_again(alloc, octets.as_slice())?, octets);
+        same_in(
+            &rt,
+            &digits,
+            visible_again(alloc, octets.as_slice())?,
+            octets,
+        );
     }
-    let rows: [Row; 5] =
-        [("1a011f", 13), ("1a017f", 13), ("1a0180", 13), ("1a0100", 13), ("120131", 4)];
+    let rows: [Row; 5] = [
+        ("1a011f", 13),
+        ("1a017f", 13),
+        ("1a0180", 13),
+        ("1a0100", 13),
+        ("120131", 4),
+    ];
     for (digits, number) in rows {
         let octets = hex::decode(alloc, digits)?;
-        same_in(&rt, &digits, visible_again(alloc, octets.as_slice()), Err(number));
+        same_in(
+            &rt,
+            &digits,
+            visible_again(alloc, octets.as_slice()),
+            Err(number),
+        );
     }
     Ok(())
 }
@@ -77,7 +102,13 @@ fn visible_strings_have_the_octets_20_to_7e(rt: HostRuntime) -> Result<(), Fail>
 fn relative_identifiers_are_arcs(rt: HostRuntime) -> Result<(), Fail> {
     let alloc = rt.alloc();
     // X.690 8.20.5 has 8571 3 2
-    for digits in ["0d04c27b0302", "0d0100", "0d017f", "0d028100", "0d06ffffffffff7f"] {
+    for digits in [
+        "0d04c27b0302",
+        "0d0100",
+        "0d017f",
+        "0d028100",
+        "0d06ffffffffff7f",
+    ] {
         let octets = hex::decode(alloc, digits)?;
         same_in(&rt, &digits, arcs_again(alloc, octets.as_slice())?, octets);
     }
@@ -92,7 +123,12 @@ fn relative_identifiers_are_arcs(rt: HostRuntime) -> Result<(), Fail> {
     ];
     for (digits, number) in rows {
         let octets = hex::decode(alloc, digits)?;
-        same_in(&rt, &digits, arcs_again(alloc, octets.as_slice()), Err(number));
+        same_in(
+            &rt,
+            &digits,
+            arcs_again(alloc, octets.as_slice()),
+            Err(number),
+        );
     }
     Ok(())
 }
@@ -110,8 +146,16 @@ fn strings_and_arcs_are_made(rt: HostRuntime) -> Result<(), Fail> {
     let text = numbered(VisibleStringRef::new("~ a".as_bytes()))?;
     let other = numbered(VisibleStringRef::new("~ b".as_bytes()))?;
     same(&rt, compared(&text, &other), Ok((Ordering::Less, false)));
-    same(&rt, numbered(VisibleStringRef::new("\t".as_bytes())), Err(13));
-    same(&rt, numbered(NumericStringRef::new("a".as_bytes())), Err(13));
+    same(
+        &rt,
+        numbered(VisibleStringRef::new("\t".as_bytes())),
+        Err(13),
+    );
+    same(
+        &rt,
+        numbered(NumericStringRef::new("a".as_bytes())),
+        Err(13),
+    );
     let arcs = numbered(RelativeOidRef::from_bytes(&[0xc2, 0x7b, 3]))?;
     same(&rt, arcs.as_bytes(), [0xc2, 0x7b, 3].as_slice());
     same(&rt, numbered(RelativeOidRef::from_bytes(&[])), Err(13));
@@ -124,7 +168,10 @@ fn strings_and_arcs_are_made(rt: HostRuntime) -> Result<(), Fail> {
 #[test]
 fn they_are_fields_items_and_alternatives(rt: HostRuntime) -> Result<(), Fail> {
     let alloc = rt.alloc();
-    for digits in ["301412023132800168a1030d010530061a01611a0162", "30051201303000"] {
+    for digits in [
+        "301412023132800168a1030d010530061a01611a0162",
+        "30051201303000",
+    ] {
         let octets = hex::decode(alloc, digits)?;
         same_in(&rt, &digits, notes_again(alloc, octets.as_slice())?, octets);
     }
@@ -135,8 +182,12 @@ fn they_are_fields_items_and_alternatives(rt: HostRuntime) -> Result<(), Fail> {
         same_in(&rt, &digits, note_again(alloc, octets.as_slice())?, octets);
     }
     // an item, a field behind a tag, an alternative, and a tag that is none of the three
-    let rows: [Row; 4] =
-        [("300812013030031a017f", 13), ("300812013080017f3000", 13), ("120161", 13), ("0c0161", 4)];
+    let rows: [Row; 4] = [
+        ("300812013030031a017f", 13),
+        ("300812013080017f3000", 13),
+        ("120161", 13),
+        ("0c0161", 4),
+    ];
     for (digits, number) in rows {
         let octets = hex::decode(alloc, digits)?;
         let found = if digits.starts_with("30") {
