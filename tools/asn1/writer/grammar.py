@@ -26,7 +26,7 @@ from ..model import (
     Whole,
     is_within,
 )
-from ..resolver.classes import follow, meant
+from ..resolver.classes import follow, is_parameter, meant
 from ..scope import Env, Library
 from ..spelling import snake
 from ..syntax import (
@@ -158,11 +158,8 @@ class GrammarPage:
         return self.term(env, type_, definition.type)
 
     def tagged(self, env: Env, type_: TaggedType, inner: str) -> str:
-        """A tag before a type, as the text and the module's default have it."""
-        mode = type_.mode
-        if mode is None:
-            is_explicit = env.scope.module.tag_default is TagDefault.EXPLICIT
-            mode = TagMode.EXPLICIT if is_explicit else TagMode.IMPLICIT
+        """A tag before a type."""
+        mode = TagMode.EXPLICIT if is_explicit(env, type_) else TagMode.IMPLICIT
         number = type_.number if isinstance(type_.number, int) else number_of(self.library, env, type_.number)
         return f"{self.asn1(mode.value)} {self.asn1(CLASSES[type_.tag_class])} {number} {closed(inner)}"
 
@@ -187,7 +184,8 @@ class GrammarPage:
             return self.term(part.env, part.component.type, type_)
         assert isinstance(type_, Tagged)
         inner = self.term(part.env, part.component.type, type_.of)
-        return f"{self.asn1('IMPLICIT')} {self.asn1('context')} {part.number} {closed(inner)}"
+        mode = TagMode.EXPLICIT if is_parameter(part.env, part.component.type) else TagMode.IMPLICIT
+        return f"{self.asn1(mode.value)} {self.asn1('context')} {part.number} {closed(inner)}"
 
     def choice(self, alternatives: list[str]) -> str:
         """The alternatives, as a balanced tree."""
@@ -271,7 +269,9 @@ class GrammarPage:
     def default(self, part: Part) -> str:
         """The encoding of a default value."""
         tag, contents = self.default_of(part.env, part.component.type, part)
-        if part.number is not None:
+        if part.number is not None and is_parameter(part.env, part.component.type):
+            tag, contents = self.tag("context", self.page.word("true"), part.number), f"({self.page.word('tlv')} {tag} {contents})"
+        elif part.number is not None:
             tag = self.tag("context", f"({self.page.word('is_constructed')} {tag})", part.number)
         return f"{self.page.word('tlv')} {tag} {contents}"
 
@@ -294,15 +294,19 @@ class GrammarPage:
         tag, contents = self.default_of(env, type_.type, part)
         number = type_.number if isinstance(type_.number, int) else number_of(self.library, env, type_.number)
         word = self.asn1(CLASSES[type_.tag_class])
-        is_explicit = type_.mode is TagMode.EXPLICIT or (
-            type_.mode is None and env.scope.module.tag_default is TagDefault.EXPLICIT
-        )
-        if is_explicit:
+        if is_explicit(env, type_):
             return self.tag(word, self.page.word("true"), number), f"({self.page.word('tlv')} {tag} {contents})"
         return self.tag(word, f"({self.page.word('is_constructed')} {tag})", number), contents
 
     def tag(self, tag_class: str, constructed: str, number: int) -> str:
         return f"({self.page.word('marker_tag')} {tag_class} {constructed} {number})"
+
+
+def is_explicit(env: Env, type_: TaggedType) -> bool:
+    """Whether a tag of the text is explicit, by its word or by the module's default, which is not for parameters (31.2.7 c)."""
+    if type_.mode is not None:
+        return type_.mode is TagMode.EXPLICIT
+    return env.scope.module.tag_default is TagDefault.EXPLICIT or is_parameter(env, type_.type)
 
 
 def resolved_parts(fields: tuple[Field, ...]) -> dict[Key, Resolved]:
