@@ -71,7 +71,7 @@ def numbers(
 
 def written_out(context: Context, type_: Type, constraints: Constraints) -> Definition:
     """A type that is written out where it stands, which gets a name of its own."""
-    name = context.notes.argument("type") or context.inner
+    name = context.notes.argument("type") or context.name_within(context.inner)
     remarks: list[str] = []
     inner = replace(context, inner=name, remarks=remarks)
     found = definitions.define(inner, name, "", type_, constraints)
