@@ -133,13 +133,13 @@ class Spelling(unittest.TestCase):
 
     def test_names_of_an_enumeration_that_differ_in_hyphens(self) -> None:
         files = written(module_of("E ::= ENUMERATED { v-1(3), v1(4), db-3, db3, oneTwo, one-two, one-two-three }"))
-        for name, variant in (("v-1", "V_1"), ("v1", "V1"), ("db-3", "Db_3"), ("db3", "Db3")):
+        for name, shown in (("v-1", "V_1"), ("v1", "V1"), ("db-3", "Db_3"), ("db3", "Db3")):
             self.assertIn(f"    /// `{name}` (", files["src/test/e.rt"])
-            self.assertIn(f"    {variant},\n", files["src/test/e.rt"])
+            self.assertIn(f"    {shown},\n", files["src/test/e.rt"])
         self.assertIn("E::V_1 => 3", files["src/test/e.rt"])
         self.assertIn("number_of_e V_1 = pos 3", files["specs/Test/E.antt"])
-        for variant in ("One_Two", "OneTwo", "OneTwoThree"):
-            self.assertIn(f"    {variant},\n", files["src/test/e.rt"])
+        for shown in ("One_Two", "OneTwo", "OneTwoThree"):
+            self.assertIn(f"    {shown},\n", files["src/test/e.rt"])
 
 
 if __name__ == "__main__":
