@@ -10,7 +10,7 @@ from dataclasses import dataclass, replace
 from itertools import count
 
 from .errors import Place
-from .resolver.classes import base_of, follow, meant
+from .resolver.classes import base_of, follow, is_parameter, meant
 from .scope import Env, Library
 from .spelling import field
 from .syntax import (
@@ -32,6 +32,7 @@ from .syntax import (
     TagClass,
     TagDefault,
     TaggedType,
+    TagMode,
     Type,
 )
 from .values import number_of
@@ -175,3 +176,10 @@ def enumeration(library: Library, env: Env, type_: EnumeratedType) -> list[tuple
 def given_number(library: Library, env: Env, one: NamedNumber) -> int | None:
     """The number that stands after a name, if one does."""
     return number_of(library, env, one.number) if isinstance(one.number, ReferenceValue) else one.number
+
+
+def is_explicit(env: Env, type_: TaggedType) -> bool:
+    """Whether a tag of the text is explicit, by its word or by the module's default, which is not for parameters (31.2.7 c)."""
+    if type_.mode is not None:
+        return type_.mode is TagMode.EXPLICIT
+    return env.scope.module.tag_default is TagDefault.EXPLICIT or is_parameter(env, type_.type)

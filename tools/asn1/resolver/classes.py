@@ -155,6 +155,13 @@ def base_of(library: Library, env: Env, type_: Type) -> tuple[Env, Type]:
     return env, type_
 
 
+def is_parameter(env: Env, type_: Type) -> bool:
+    """Whether a type is the name of a parameter, before which the module's default makes no tag implicit (31.2.7 c)."""
+    while isinstance(type_, ConstrainedType):
+        type_ = type_.type
+    return isinstance(type_, ReferenceType) and type_.module is None and type_.name in env.bindings
+
+
 def is_untagged_choice(library: Library, env: Env, type_: Type) -> bool:
     """Whether a type is a CHOICE or an open type with no tag before it (31.2.7)."""
     for _ in range(MOST_STEPS):

@@ -10,6 +10,8 @@ from ..errors import AsnError, Place, Remark
 from ..model import Definition
 from ..notes import Notes
 from ..scope import Env, Library
+from ..syntax import Module
+from .naming import Names
 
 Key = tuple[str, str]
 DEEPEST = 60  # names of types, each within the type before it
@@ -34,10 +36,17 @@ class State:
     spelled: dict[Key, Place] = field(default_factory=dict)
     remarks: list[Remark] = field(default_factory=list)
     depth: int = 0  # how many names of types are being looked into, each from within the one before it
+    named: dict[str, Names] = field(default_factory=dict)  # the names of the types of each module
+
+    def names_of(self, module: Module) -> Names:
+        """The names in Rattle of the types of a module."""
+        if module.name not in self.named:
+            self.named[module.name] = Names(module)
+        return self.named[module.name]
 
     def scratch(self) -> "State":
         """A copy, to try what a second instance of a type comes to."""
-        return State(self.library, dict(self.definitions), list(self.opening), dict(self.spelled), [], self.depth)
+        return State(self.library, dict(self.definitions), list(self.opening), dict(self.spelled), [], self.depth, self.named)
 
     @contextmanager
     def within(self, place: Place) -> Iterator[None]:
@@ -75,6 +84,10 @@ class Context:
 
     def within(self, env: Env) -> "Context":
         return replace(self, env=env)
+
+    def name_within(self, name: str) -> str:
+        """The name of a type that is written out, which no type of the module has."""
+        return self.state.names_of(self.state.library.scopes[self.home].module).apart(name)
 
     def item(self) -> "Context":
         return replace(self, inner=self.inner + "Item")

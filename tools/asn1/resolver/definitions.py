@@ -76,8 +76,13 @@ def definition_of(state: State, env: Env, assignment: TypeAssignment, place: Pla
 def assigned(state: State, env: Env, assignment: TypeAssignment) -> Definition:
     """What an assignment defines."""
     notes = Notes(assignment.annotations)
-    rust = notes.argument("name") or camel(assignment.name)
+    spelled = camel(assignment.name)
+    own = state.names_of(env.scope.module).of.get(assignment.name, spelled)
+    rust = notes.argument("name") or own
     context = Context(state, env, env.scope.module.name, rust, notes, [])
+    if own != spelled:
+        said = f"'{assignment.name}' is '{own}', as another type of the module is '{spelled}'"
+        context.say(assignment.place, said, f"{said}.")
     found = define(context, assignment.name, assignment.text, assignment.type)
     if not isinstance(found, Alias):
         found.by_hand = tuple((notes.argument("rust") or "").split("::")) if notes.has("rust") else ()
@@ -192,7 +197,7 @@ def behind_tags(
     context: Context, name: str, text: str, tags: list[tuple[Tag, bool]], base: Type, constraints: Constraints
 ) -> Alias:
     """A type that is written out after an explicit tag: it gets the name with `Value` after it."""
-    rust = context.notes.argument("type") or f"{context.inner}Value"
+    rust = context.notes.argument("type") or context.name_within(f"{context.inner}Value")
     inner = replace(context, inner=rust, remarks=[])
     value = define(inner, rust, "", base, constraints)
     context.state.add(value)

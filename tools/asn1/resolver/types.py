@@ -28,7 +28,7 @@ from ..syntax import (
 )
 from ..values import number_of
 from . import definitions, leaves
-from .classes import base_of, bind, has_type_parameter, is_untagged_choice, meant
+from .classes import base_of, bind, has_type_parameter, is_parameter, is_untagged_choice, meant
 from .context import Context
 from .subsets import narrowed_name
 
@@ -72,7 +72,7 @@ def numbers(
 
 def written_out(context: Context, type_: Type, constraints: Constraints) -> Definition:
     """A type that is written out where it stands, which gets a name of its own."""
-    name = context.notes.argument("type") or context.inner
+    name = context.notes.argument("type") or context.name_within(context.inner)
     remarks: list[str] = []
     inner = replace(context, inner=name, remarks=remarks)
     found = definitions.define(inner, name, "", type_, constraints)
@@ -101,7 +101,8 @@ def with_no_tag(type_: Type) -> Type:
 
 
 def tag_of(context: Context, type_: TaggedType) -> tuple[Tag, bool]:
-    """The tag, and whether it is explicit (31.2.7): an automatic one before a CHOICE alone, of whatever module the type is."""
+    """The tag, and whether it is explicit (31.2.7): an automatic one before a CHOICE or the name of a parameter alone, of whatever
+    module the type is."""
     library, env = context.state.library, context.env
     if type_.tag_class is TagClass.UNIVERSAL:
         raise AsnError(type_.place, "a tag of the class UNIVERSAL is X.680's own (31.2.4)", "write another class")
@@ -115,7 +116,8 @@ def tag_of(context: Context, type_: TaggedType) -> tuple[Tag, bool]:
             "IMPLICIT stands before a CHOICE or an open type with no tag",
             "write EXPLICIT, or leave the word out: such a tag is explicit (X.680 31.2.7, 31.2.9)",
         )
-    is_implicit = (type_.is_automatic or env.scope.module.tag_default is not TagDefault.EXPLICIT) and not is_choice
+    is_implicit = type_.is_automatic or env.scope.module.tag_default is not TagDefault.EXPLICIT
+    is_implicit = is_implicit and not is_choice and not is_parameter(env, type_.type)
     if type_.mode is not None:
         is_implicit = type_.mode is TagMode.IMPLICIT
     return Tag(type_.tag_class.value, number), not is_implicit

@@ -7,7 +7,7 @@ import unittest
 
 from ..errors import AsnError
 from ..spelling import field, snake, variant
-from .helpers import module_of, refusal
+from .helpers import definitions, module_of, refusal, remarks
 from .test_writer import written
 
 # Words that a field may be called in ASN.1, and that no name in Rattle's clauses and pages may be.
@@ -110,15 +110,36 @@ class Spelling(unittest.TestCase):
                 self.assertEqual(error.problem, f"{names} are both '{rust}' in Rattle")
                 self.assertEqual(error.place.line, 2)
 
+    def test_types_that_are_spelled_alike_have_numbers(self) -> None:
+        body = """ECGI-List ::= SEQUENCE OF ECGIList
+            ECGIList ::= SEQUENCE { item SEQUENCE { a NULL }, c ECGI-List2 }
+            ECGI-List2 ::= SET OF SEQUENCE { b NULL }
+            ECGIlist ::= [1] EXPLICIT SEQUENCE { c NULL }
+            ECGIListItem ::= NULL
+            ECGIlistValue ::= BOOLEAN"""
+        rust = {definition.name: definition.rust for definition in definitions(body).values()}
+        self.assertEqual([rust[name] for name in ("ECGI-List", "ECGIList", "ECGI-List2")], ["EcgiList", "EcgiList3", "EcgiList2"])
+        self.assertEqual([rust[name] for name in ("ECGIlist", "ECGIListItem")], ["EcgIlist4", "EcgiListItem"])
+        self.assertIn("EcgiList3Item", rust)
+        said = "'ECGIList' is 'EcgiList3', as another type of the module is 'EcgiList'"
+        self.assertIn(f"3:13 {said}", remarks(body))
+        files = written(module_of(body))
+        self.assertIn(f"/// {said}.", files["src/test/ecgi_list3.rt"])
+        self.assertEqual(len({file.lower() for file in files}), len(files))
+
+    def test_a_type_that_is_written_out_gives_way(self) -> None:
+        body = "A ::= SEQUENCE { b SEQUENCE { x NULL } }\nAB ::= NULL\nC ::= [1] EXPLICIT SEQUENCE { x NULL }\nCValue ::= NULL"
+        self.assertEqual(sorted(definitions(body)), ["A", "AB2", "Ab", "C", "CValue", "CValue2"])
+
     def test_names_of_an_enumeration_that_differ_in_hyphens(self) -> None:
         files = written(module_of("E ::= ENUMERATED { v-1(3), v1(4), db-3, db3, oneTwo, one-two, one-two-three }"))
-        for name, variant in (("v-1", "V_1"), ("v1", "V1"), ("db-3", "Db_3"), ("db3", "Db3")):
+        for name, shown in (("v-1", "V_1"), ("v1", "V1"), ("db-3", "Db_3"), ("db3", "Db3")):
             self.assertIn(f"    /// `{name}` (", files["src/test/e.rt"])
-            self.assertIn(f"    {variant},\n", files["src/test/e.rt"])
+            self.assertIn(f"    {shown},\n", files["src/test/e.rt"])
         self.assertIn("E::V_1 => 3", files["src/test/e.rt"])
         self.assertIn("number_of_e V_1 = pos 3", files["specs/Test/E.antt"])
-        for variant in ("One_Two", "OneTwo", "OneTwoThree"):
-            self.assertIn(f"    {variant},\n", files["src/test/e.rt"])
+        for shown in ("One_Two", "OneTwo", "OneTwoThree"):
+            self.assertIn(f"    {shown},\n", files["src/test/e.rt"])
 
 
 if __name__ == "__main__":

@@ -2,10 +2,11 @@
 
 from __future__ import annotations
 
+import re
 import unittest
 
 from ..model import Alias, Leaf, Struct, Tagged, Use, Whole
-from .helpers import definitions, remarks
+from .helpers import definitions, module_of, remarks, resolved
 from .test_writer import grammar
 
 
@@ -41,6 +42,34 @@ class Instances(unittest.TestCase):
         found = definitions(body, "IMPLICIT TAGS")["A"]
         assert isinstance(found, Struct) and isinstance(found.fields[0].type, Tagged)
         self.assertTrue(found.fields[0].type.is_explicit)
+
+    def test_a_tag_before_the_name_of_a_parameter_is_explicit(self) -> None:
+        """X.680 31.2.7 c: the module's default makes it implicit no more than before a CHOICE."""
+        body = "P{T} ::= SEQUENCE { a [0] T, b [1] IMPLICIT T, c [2] T (0..5), d [3] SEQUENCE OF T, e [4] E{T} }\nE{T} ::= T\nA ::= P{INTEGER}"
+        found = definitions(body, "IMPLICIT TAGS")["A"]
+        assert isinstance(found, Struct)
+        kinds = [part.type.is_explicit for part in found.fields if isinstance(part.type, Tagged)]
+        self.assertEqual(kinds, [True, False, True, False, False])
+        words = re.findall(r"(\w+) context (\d)", grammar(body, "IMPLICIT TAGS")["a"])
+        self.assertEqual(words, [("EXPLICIT" if kind else "IMPLICIT", str(i)) for i, kind in enumerate(kinds)])
+
+    def test_an_automatic_tag_is_too(self) -> None:
+        for body in ("P{T} ::= SEQUENCE { a T, b NULL }\nA ::= P{INTEGER}", "P{T} ::= CHOICE { a T, b NULL }\nA ::= P{INTEGER}"):
+            page = grammar(body, "AUTOMATIC TAGS")["a"]
+            self.assertIn("EXPLICIT context 0 INTEGER", page)
+            self.assertIn("IMPLICIT context 1 NULL", page)
+        one = module_of("P{T} ::= SEQUENCE { a T, b NULL }", name="One")
+        body = "IMPORTS P FROM One;\nA ::= SEQUENCE { x NULL, COMPONENTS OF P{INTEGER} }"
+        found = resolved(one, module_of(body, "AUTOMATIC TAGS"))[0][1].definitions[0]
+        assert isinstance(found, Struct)
+        kinds = [part.type.is_explicit for part in found.fields if isinstance(part.type, Tagged)]
+        self.assertEqual(kinds, [False, True, False])
+
+    def test_a_default_after_such_a_tag(self) -> None:
+        wanted = "DEFAULT (tlv (marker_tag context true 0) (tlv tags.Integer (natural_contents 5)))"
+        for part, tags in (("a [0] T DEFAULT 5", "IMPLICIT TAGS"), ("a T DEFAULT 5", "AUTOMATIC TAGS")):
+            body = f"P{{T}} ::= SEQUENCE {{ {part} }}\nA ::= P{{B}}\nB ::= INTEGER (0..255)"
+            self.assertIn(wanted, grammar(body, tags)["a"])
 
     def test_names_of_numbers(self) -> None:
         body = "E{T} ::= INTEGER { a(0), b(1) }\nA ::= SEQUENCE { a E{NULL} DEFAULT b }"

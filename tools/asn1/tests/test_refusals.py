@@ -81,7 +81,8 @@ BODIES = [
     ("A ::= BIT STRING { a(-1) }", "", "2:7", "the bit 'a' has a negative number"),
     ("A ::= ENUMERATED { a, a }", "", "2:23", "the name 'a' stands twice"),
     ("A ::= ENUMERATED { a(1), b(1) }", "", "2:26", "the number 1 has two names"),
-    ("A-B ::= NULL\nAB ::= NULL\nAb ::= NULL", "", "4:1", "the type 'Ab' is named 'Ab', as the one at"),
+    ("AB ::= NULL -- @name(Ab)\nAb ::= NULL", "", "3:1", "the type 'Ab' is named 'Ab', as the one at"),
+    ("A ::= SEQUENCE { b SEQUENCE {} }\nB ::= SEQUENCE { c NULL } -- @name(AB)", "", "3:1", "the type 'B' is named 'AB', as the one at"),
     ("A ::= SEQUENCE { ab-c NULL, abC NULL }", "", "2:29", "'abC' and 'ab-c' are both 'ab_c'"),
     ("ab-c OBJECT IDENTIFIER ::= { 1 2 }\nabC OBJECT IDENTIFIER ::= { 1 3 }", "", "3:1", "'abC' and 'ab-c' are both 'AB_C'"),
     # ---- values

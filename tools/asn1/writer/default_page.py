@@ -14,7 +14,7 @@ from ..as_written import Part, given_number, universal
 from ..model import Field, Leaf, Resolved, Struct, Choice, Use, Whole
 from ..parser.values import bit_names, component_values
 from ..properties import behind_tags
-from ..resolver.classes import follow, is_untagged_choice, type_of_field
+from ..resolver.classes import follow, is_parameter, is_untagged_choice, meant
 from ..scope import Env, Library
 from ..syntax import (
     BitsValue,
@@ -32,12 +32,11 @@ from ..syntax import (
     NullValue,
     ReferenceType,
     ReferenceValue,
+    SelectionType,
     Simple,
     SimpleType,
     TagClass,
-    TagDefault,
     TaggedType,
-    TagMode,
     TextValue,
     Type,
     Value,
@@ -78,7 +77,8 @@ class DefaultTerms:
         terms = self.value(part.env, part.component.type, resolved, given)
         if part.number is None:
             return terms
-        is_explicit = is_untagged_choice(self.library, part.env, part.component.type)
+        type_ = part.component.type
+        is_explicit = is_untagged_choice(self.library, part.env, type_) or is_parameter(part.env, type_)
         return self.behind_tag("context", part.number, is_explicit, terms)
 
     def value(self, env: Env, type_: Type, resolved: Resolved, given: Given) -> Terms:
@@ -87,8 +87,8 @@ class DefaultTerms:
             return self.value(env, type_.type, resolved, given)
         if isinstance(type_, ReferenceType):
             return self.value(*follow(self.library, env, type_), resolved, given)
-        if isinstance(type_, FieldOfClass):
-            return self.value(*type_of_field(self.library, env, type_), resolved, given)
+        if isinstance(type_, (FieldOfClass, SelectionType)):
+            return self.value(*meant(self.library, env, type_), resolved, given)
         if isinstance(type_, TaggedType):
             return self.tagged(env, type_, resolved, given)
         given = Given(*assigned_value(self.library, given.env, given.value, own_names(type_)))
@@ -102,10 +102,8 @@ class DefaultTerms:
     def tagged(self, env: Env, type_: TaggedType, resolved: Resolved, given: Given) -> Terms:
         """A value after a tag that is written."""
         number = type_.number if isinstance(type_.number, int) else number_of(self.library, env, type_.number)
-        is_explicit = type_.mode is TagMode.EXPLICIT or (
-            type_.mode is None
-            and (env.scope.module.tag_default is TagDefault.EXPLICIT or is_untagged_choice(self.library, env, type_.type))
-        )
+        is_before_choice = type_.mode is None and is_untagged_choice(self.library, env, type_.type)
+        is_explicit = is_before_choice or as_written.is_explicit(env, type_)
         return self.behind_tag(CLASSES[type_.tag_class], number, is_explicit, self.value(env, type_.type, resolved, given))
 
     def behind_tag(self, tag_class: str, number: int, is_explicit: bool, terms: Terms) -> Terms:

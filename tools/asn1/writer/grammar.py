@@ -28,7 +28,7 @@ from ..model import (
     Whole,
     is_within,
 )
-from ..resolver.classes import follow, meant
+from ..resolver.classes import follow, is_parameter, meant
 from ..scope import Env, Library
 from ..spelling import snake
 from ..syntax import (
@@ -39,7 +39,6 @@ from ..syntax import (
     ListType,
     ReferenceType,
     SelectionType,
-    TagDefault,
     TaggedType,
     TagMode,
     Type,
@@ -159,11 +158,8 @@ class GrammarPage:
         return self.term(env, type_, definition.type)
 
     def tagged(self, env: Env, type_: TaggedType, inner: str) -> str:
-        """A tag before a type, as the text and the module's default have it."""
-        mode = type_.mode
-        if mode is None:
-            is_explicit = env.scope.module.tag_default is TagDefault.EXPLICIT
-            mode = TagMode.EXPLICIT if is_explicit else TagMode.IMPLICIT
+        """A tag before a type."""
+        mode = TagMode.EXPLICIT if as_written.is_explicit(env, type_) else TagMode.IMPLICIT
         number = type_.number if isinstance(type_.number, int) else number_of(self.library, env, type_.number)
         return f"{self.asn1(mode.value)} {self.asn1(CLASSES[type_.tag_class])} {number} {closed(inner)}"
 
@@ -189,7 +185,8 @@ class GrammarPage:
             return self.term(part.env, part.component.type, type_)
         assert isinstance(type_, Tagged)
         inner = self.term(part.env, part.component.type, type_.of)
-        return f"{self.asn1('IMPLICIT')} {self.asn1('context')} {part.number} {closed(inner)}"
+        mode = TagMode.EXPLICIT if is_parameter(part.env, part.component.type) else TagMode.IMPLICIT
+        return f"{self.asn1(mode.value)} {self.asn1('context')} {part.number} {closed(inner)}"
 
     def choice(self, alternatives: list[str]) -> str:
         """The alternatives, as a balanced tree."""
