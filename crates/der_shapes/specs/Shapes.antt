@@ -5,7 +5,6 @@ pub mod Color
 pub mod Counted
 pub mod DefaultLaws
 pub mod Described
-pub mod Extent
 pub mod General
 pub mod Grammar
 pub mod Label
@@ -14,13 +13,11 @@ pub mod Limited
 pub mod Lists
 pub mod Marks
 pub mod Mixed
-pub mod Nested
 pub mod Note
 pub mod Notes
 pub mod Numbers
 pub mod Ordered
 pub mod Pair
-pub mod Side
 pub mod Status
 pub mod Subtree
 pub mod Unordered

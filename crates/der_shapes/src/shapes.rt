@@ -9,7 +9,6 @@ mod counted;
 mod defaults;
 mod described;
 mod empty;
-mod extent;
 mod general;
 mod label;
 mod labels;
@@ -19,34 +18,28 @@ mod lists;
 mod marks;
 mod marks_fourth;
 mod mixed;
-mod nested;
 mod note;
 mod notes;
 mod nothing;
 mod numbers;
 mod ordered;
 mod pair;
-mod side;
 mod status;
 mod subtree;
 mod unordered;
 
-pub use aliases::{
-    Code, LEVEL_HIGH, LEVEL_LOW, Level, RIGHTS_GRANT, RIGHTS_READ, RIGHTS_WRITE, Rights, Small,
-};
+pub use aliases::{Code, LEVEL_HIGH, LEVEL_LOW, Level, Small};
 pub use bounded::Bounded;
 pub use color::Color;
 pub use counted::Counted;
 pub use defaults::{
     Default200, Default300, Default8080, DefaultMinus1, DefaultMinus40000, DefaultNull,
-    DefaultOfCountedColor, DefaultOfDescribedBits, DefaultOfDescribedKey, DefaultOfDescribedMail,
-    DefaultOfDescribedName, DefaultOfDescribedNone, DefaultOfDescribedPlace,
-    DefaultOfDescribedRights, DefaultOfDescribedType, DefaultOfNestedColor, DefaultOfNestedExtent,
-    DefaultOfNestedOther, DefaultOfNestedSide, DefaultTrue,
+    DefaultOfCountedColor, DefaultOfDescribedBits, DefaultOfDescribedColor, DefaultOfDescribedKey,
+    DefaultOfDescribedMail, DefaultOfDescribedName, DefaultOfDescribedPlace,
+    DefaultOfDescribedType, DefaultTrue,
 };
 pub use described::Described;
 pub use empty::Empty;
-pub use extent::Extent;
 pub use general::General;
 pub use label::Label;
 pub use labels::Labels;
@@ -55,14 +48,12 @@ pub use lists::Lists;
 pub use marks::Marks;
 pub use marks_fourth::MarksFourth;
 pub use mixed::Mixed;
-pub use nested::Nested;
 pub use note::Note;
 pub use notes::Notes;
 pub use nothing::Nothing;
 pub use numbers::Numbers;
 pub use ordered::Ordered;
 pub use pair::Pair;
-pub use side::Side;
 pub use status::Status;
 pub use subtree::Subtree;
 pub use unordered::Unordered;

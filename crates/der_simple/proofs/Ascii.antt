@@ -1,10 +1,9 @@
 -- The characters are of ASCII, so that octets that are characters are UTF-8.
-use Rattle.std.proofs.Common.{◌≡◌, ℕ, ◌<◌, ◌==◌, ◌||◌, List, [], ◌∷◌, Bool, true, false, refl, arith, if◌then◌else◌, lit<, suc, zero}
+use Rattle.std.proofs.Common.{◌≡◌, ℕ, ◌<◌, ◌==◌, List, [], ◌∷◌, Bool, true, false, arith, if◌then◌else◌, lit<, suc, zero}
 use Rattle.std.specs.Str.{IsUtf8, IsAscii}
 use Rattle.std.proofs.lemmas.Str.{IsUtf8-from_ascii}
 use Rattle.std.proofs.lemmas.Bool.{and_parts}
 use Rattle.std.proofs.lemmas.Bool.Decides.{nat_tests}
-use Rattle.der_ascii.specs.Characters.{within}
 use Rattle.der_simple.specs.Characters.{is_numeric, is_visible, has_character, are_simple_characters}
 
 numeric-small : (n : ℕ) → is_numeric n ≡ true → n < 128

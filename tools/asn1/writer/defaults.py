@@ -11,6 +11,7 @@ from . import docs
 from .default_laws import write_default_laws
 from .default_makers import Made
 from .default_octets import encoded, encoding_term
+from .default_proofs import write_proofs
 from .default_values import Maker, has_parts, octets_literal
 from .plan import DEFAULT_LAWS, DEFAULTS, Plan
 from .source import Source
@@ -52,18 +53,18 @@ def write_defaults(plan: Plan, module: ResolvedModule) -> dict[str, str]:
     if not found:
         return {}
     source = Source(plan, plan.targets[module.name], DEFAULTS)
-    add_types(source, found)
+    called = add_types(source, found)
     add_tests(source, [part for owned in found.values() for _, part in owned])
     first = [f"//! The defaults of {module.name}, each named by a type (X.680 25.9, X.690 11.5)."]
     files = {f"src/{source.target.module}/{DEFAULTS}.rt": source.text(first)}
     if source.laws:
         page = f"specs/{source.target.page}/{DEFAULT_LAWS}.antt"
         files[page] = write_default_laws(plan, module, source.laws)
-    return files
+    return files | write_proofs(source, called)
 
 
-def add_types(source: Source, found: dict[Marker, list[Owned]]) -> None:
-    """The types that stand for defaults, and the functions that make these."""
+def add_types(source: Source, found: dict[Marker, list[Owned]]) -> dict[str, Made]:
+    """The types that stand for defaults, and the functions that make these, which it answers by their names."""
     called: dict[str, Made] = {}
     for marker, owned in found.items():
         source.add(f"{head(marker, owned)}\npub struct {marker.rust};")
@@ -73,6 +74,7 @@ def add_types(source: Source, found: dict[Marker, list[Owned]]) -> None:
             source.add(impl(source, called, marker, type_, value))
     for made in called.values():
         source.add(made.text(source))
+    return called
 
 
 def head(marker: Marker, owned: list[Owned]) -> str:

@@ -1,6 +1,6 @@
 -- How the defaults of Shapes are made, and told from other values.
 -- Made by tools/asn1 from shapes.asn1.
-use Rattle.std.proofs.Common.{◌<◌, ◌↔◌, ◌∷◌, ◌≡◌, ◌≤◌, Bool, IsTrue, List, [], ap, arith, false, if◌then◌else◌, length, nat_eq, refl, slice_index, sym, true, ℕ}
+use Rattle.std.proofs.Common.{◌<◌, ◌↔◌, ◌∷◌, ◌≡◌, ◌≤◌, Bool, IsTrue, List, [], arith, false, if◌then◌else◌, length, nat_eq, refl, slice_index, sym, true, ℕ}
 use Rattle.std.proofs.lemmas.Bool.{false_from_ne_true}
 use Rattle.std.specs.Cmp.Lexicographic.{bytes_decides, pointwise}
 use Rattle.std.specs.Prelude.{◌==◌}
@@ -13,10 +13,6 @@ use Rattle.der_numbers.specs.AnyLength.{without_sign_octet}
 pub told_by_equality : (default octets : List ℕ) (test : Bool) → (IsTrue test ↔ (octets ≡ default)) → test ≡ is_default default octets
 told_by_equality default octets true h = sym ((bytes_decides octets default).1 (h.0 refl))
 told_by_equality default octets false h = sym (false_from_ne_true (pointwise nat_eq octets default) (λ e. let told = h.1 ((bytes_decides octets default).0 e) in absurd (cc)))
-
--- octets that are more than the default's are not its
-pub told_by_length : (default octets : List ℕ) → length default < length octets → false ≡ is_default default octets
-told_by_length default octets more = sym (false_from_ne_true (pointwise nat_eq octets default) (λ e. let same : length octets ≡ length default = ap length ((bytes_decides octets default).0 e) in omega arith))
 
 -- the fewest contents octets of an INTEGER are no more than these
 pub integer_within : (octets : List ℕ) → AreOctets octets → 0 < length octets → length (integer_contents (twos_complement octets)) ≤ length octets

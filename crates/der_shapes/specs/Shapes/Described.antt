@@ -2,9 +2,9 @@
 -- Made by tools/asn1 from shapes.asn1.
 use Rattle.der_ascii.specs.declared.string_ref.CharacterStringRef.{CharacterStringRef}
 use Rattle.der_bits.specs.declared.bit_string_ref.BitStringRef.{BitStringRef}
-use Rattle.der_bits.specs.declared.named_bits.NamedBitsRef.{NamedBitsRef}
 use Rattle.der_opaque.specs.declared.object_identifier_ref.ObjectIdentifierRef.{ObjectIdentifierRef}
 use Rattle.der_opaque.specs.declared.octet_string_ref.OctetStringRef.{OctetStringRef}
+use Rattle.der_shapes.specs.declared.shapes.color.Color.{Color}
 use Rattle.der_shapes.specs.declared.shapes.described.Described.{Described}
 use Rattle.der_text.specs.declared.utf8_string.Utf8StringRef.{Utf8StringRef}
 
@@ -28,14 +28,10 @@ key v = v.fields.list.rest.rest.rest.first.value
 abbrev pub bits : Described → BitStringRef
 bits v = v.fields.list.rest.rest.rest.rest.first.value
 
--- rights [1] Rights DEFAULT { read, grant }
-abbrev pub rights : Described → NamedBitsRef
-rights v = v.fields.list.rest.rest.rest.rest.rest.first.value.value
-
--- none [2] Rights DEFAULT { }
-abbrev pub none : Described → NamedBitsRef
-none v = v.fields.list.rest.rest.rest.rest.rest.rest.first.value.value
-
 -- type OBJECT IDENTIFIER DEFAULT { iso (1) member-body (2) us (840) }
 abbrev pub type_ : Described → ObjectIdentifierRef 39
-type_ v = v.fields.list.rest.rest.rest.rest.rest.rest.rest.first.value
+type_ v = v.fields.list.rest.rest.rest.rest.rest.first.value
+
+-- color [4] Color DEFAULT blue
+abbrev pub color : Described → Color
+color v = v.fields.list.rest.rest.rest.rest.rest.rest.first.value.value.value

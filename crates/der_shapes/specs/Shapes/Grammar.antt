@@ -3,7 +3,6 @@
 use Rattle.std.specs.Prelude.{◌∷◌, [], false, negsuc, pos, true}
 use Rattle.der_ascii.specs.Characters.{parse_string}
 use Rattle.der_bits.specs.BitString.{parse_bit_string}
-use Rattle.der_bits.specs.NamedBits.{parse_named_bits}
 use Rattle.der_constrained.specs.Alphabets.{characters, either_set, permitted}
 use Rattle.der_constrained.specs.Asn1.{ALLOWED, intersection, union}
 use Rattle.der_constrained.specs.Integers.{range}
@@ -15,7 +14,7 @@ use Rattle.der_elem.specs.Null.{parse_null}
 use Rattle.der_elem.specs.Utf8String.{parse_utf8}
 use Rattle.der_fields.specs.MarkerTags.{marker_tag}
 use Rattle.der_lists.specs.Asn1.{SEQUENCE_OF, SET_OF, SET_OF_ANY_ORDER}
-use Rattle.der_modules.specs.Asn1.{CHOICE, DEFAULT, EXPLICIT, Grammar, IMPLICIT, NAMED, NOT_EMPTY, OPTIONAL, SEQUENCE, SET, any_of, application, context, end, field, joined, one, private}
+use Rattle.der_modules.specs.Asn1.{CHOICE, DEFAULT, EXPLICIT, Grammar, IMPLICIT, NAMED, NOT_EMPTY, OPTIONAL, SEQUENCE, SET, any_of, application, context, end, field, one, private}
 use Rattle.der_numbers.specs.AnyLength.{parse_integer, parse_natural}
 use Rattle.der_opaque.specs.AnyForm.{parse_any}
 use Rattle.der_opaque.specs.ObjectIdentifierOctets.{parse_identifier}
@@ -57,9 +56,6 @@ INTEGER_u16 = one tags.Integer (parse_unsigned 2)
 
 abbrev pub INTEGER_u8 : Grammar
 INTEGER_u8 = one tags.Integer (parse_unsigned 1)
-
-abbrev pub NAMED_BITS : Grammar
-NAMED_BITS = one tags.BitString parse_named_bits
 
 abbrev pub NATURAL : Grammar
 NATURAL = one tags.Integer parse_natural
@@ -333,20 +329,14 @@ counted =
     (DEFAULT (tlv tags.Enumerated (integer_contents (pos 1))) color
     end))))))))
 
--- Rights ::= BIT STRING { read(0), write(1), grant(9) }
-abbrev pub rights : Grammar
-rights =
-    NAMED_BITS
-
 -- Described ::= SEQUENCE {
 --     name    UTF8String DEFAULT "none",
 --     place   PrintableString DEFAULT "",
 --     mail    [0] IA5String DEFAULT "a@b",
 --     key     OCTET STRING DEFAULT '00FF'H,
 --     bits    BIT STRING DEFAULT '101'B,
---     rights  [1] Rights DEFAULT { read, grant },
---     none    [2] Rights DEFAULT {},
---     type    OBJECT IDENTIFIER DEFAULT { iso(1) member-body(2) us(840) } }
+--     type    OBJECT IDENTIFIER DEFAULT { iso(1) member-body(2) us(840) },
+--     color   [4] Color DEFAULT blue }
 abbrev pub described : Grammar
 described =
     SEQUENCE
@@ -355,40 +345,6 @@ described =
     (DEFAULT (tlv (marker_tag context (is_constructed tags.Ia5String) 0) (97 ∷ 64 ∷ 98 ∷ [])) (IMPLICIT context 0 IA5_STRING)
     (DEFAULT (tlv tags.OctetString (0 ∷ 255 ∷ [])) OCTET_STRING
     (DEFAULT (tlv tags.BitString (5 ∷ 160 ∷ [])) BIT_STRING
-    (DEFAULT (tlv (marker_tag context (is_constructed tags.BitString) 1) (6 ∷ 128 ∷ 64 ∷ [])) (IMPLICIT context 1 rights)
-    (DEFAULT (tlv (marker_tag context (is_constructed tags.BitString) 2) (0 ∷ [])) (IMPLICIT context 2 rights)
     (DEFAULT (tlv tags.ObjectIdentifier (42 ∷ 134 ∷ 72 ∷ [])) OBJECT_IDENTIFIER_39
-    end))))))))
-
--- Extent ::= SEQUENCE {
---     width  INTEGER (0..255) OPTIONAL,
---     tall   BOOLEAN DEFAULT FALSE }
-abbrev pub extent : Grammar
-extent =
-    SEQUENCE
-    (OPTIONAL INTEGER_u8
-    (DEFAULT (tlv tags.Boolean (boolean_contents false)) BOOLEAN
-    end))
-
--- Side ::= CHOICE {
---     length  [3] INTEGER (0..255),
---     none    [4] NULL }
-abbrev pub side : Grammar
-side =
-    CHOICE
-    (IMPLICIT context 3 INTEGER_u8)
-    (IMPLICIT context 4 NULL)
-
--- Nested ::= SEQUENCE {
---     extent  Extent DEFAULT { width 5, tall TRUE },
---     other   [0] EXPLICIT Extent DEFAULT {},
---     side    Side DEFAULT length : 7,
---     color   [1] Color DEFAULT blue }
-abbrev pub nested : Grammar
-nested =
-    SEQUENCE
-    (DEFAULT (tlv tags.Sequence (joined ((tlv tags.Integer (natural_contents 5)) ∷ (tlv tags.Boolean (boolean_contents true)) ∷ []))) extent
-    (DEFAULT (tlv (marker_tag context true 0) (tlv tags.Sequence (joined []))) (EXPLICIT context 0 extent)
-    (DEFAULT (tlv (marker_tag context (is_constructed tags.Integer) 3) (natural_contents 7)) side
-    (DEFAULT (tlv (marker_tag context (is_constructed tags.Enumerated) 1) (integer_contents (pos 2))) (IMPLICIT context 1 color)
-    end))))
+    (DEFAULT (tlv (marker_tag context (is_constructed tags.Enumerated) 4) (integer_contents (pos 2))) (IMPLICIT context 4 color)
+    end)))))))

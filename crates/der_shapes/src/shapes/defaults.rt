@@ -7,13 +7,11 @@ ghost use Rattle.der_ascii.specs.CharacterStringRef as character_string_ref;
 ghost use Rattle.der_ascii.specs.Characters.{are_characters};
 ghost use Rattle.der_bits.specs.BitString.{is_bit_string};
 ghost use Rattle.der_bits.specs.BitStringRef as bit_string_ref;
-ghost use Rattle.der_bits.specs.NamedBits.{ends_in_one};
-ghost use Rattle.der_bits.specs.NamedBitsRef as named_bits_ref;
 ghost use Rattle.der_elem.specs.Boolean.{boolean_contents};
 ghost use Rattle.der_elem.specs.Integer.{big_endian_number, integer_contents, natural_contents, twos_complement};
 ghost use Rattle.der_fields.specs.Defaults.{is_default};
 ghost use Rattle.der_fields.specs.MarkerTags.{marker_tag};
-ghost use Rattle.der_modules.specs.Asn1.{context, joined};
+ghost use Rattle.der_modules.specs.Asn1.{context};
 ghost use Rattle.der_numbers.specs.IntRef as int_ref;
 ghost use Rattle.der_numbers.specs.UintRef as uint_ref;
 ghost use Rattle.der_opaque.specs.ObjectIdentifierRef as identifier_ref;
@@ -23,12 +21,10 @@ ghost use Rattle.der_tlv.specs.HeaderOctets.{tlv};
 ghost use Rattle.der_tlv.specs.declared.tag.Tag.TheVariants as tags;
 
 use crate::shapes::color::Color;
-use crate::shapes::extent::Extent;
-use crate::shapes::side::Side;
 use der_ascii::{CharacterStringRef, Ia5StringRef, PrintableStringRef};
-use der_bits::{BitStringRef, NamedBitsRef};
+use der_bits::BitStringRef;
+use der_elem::EncodingEq;
 use der_elem::laws::equal_encodings;
-use der_elem::{Encode, EncodingEq};
 use der_fields::{DefaultOf, Implicit};
 use der_numbers::{Enumerated, IntRef, UintRef};
 use der_opaque::{Null, ObjectIdentifierRef, OctetStringRef};
@@ -254,46 +250,6 @@ impl<'a> DefaultOf<BitStringRef<'a>> for DefaultOfDescribedBits {
     }
 }
 
-/// The default of `rights` of `Described`, `[1] Rights DEFAULT { read, grant }`.
-pub struct DefaultOfDescribedRights;
-
-impl<'a> DefaultOf<Implicit<NamedBitsRef<'a>, 1>> for DefaultOfDescribedRights {
-    ghost octets = { tlv (marker_tag context false 1) (6 ∷ 128 ∷ 64 ∷ []) };
-
-    fn default_value() -> Implicit<NamedBitsRef<'a>, 1> {
-        Implicit {
-            value: named_bits(6, &[0x80, 0x40]),
-        }
-    }
-
-    fn is_default(value: &Implicit<NamedBitsRef<'a>, 1>) -> bool {
-        let default = <DefaultOfDescribedRights as DefaultOf<
-            Implicit<NamedBitsRef<'a>, 1>,
-        >>::default_value();
-        have_one_encoding(value, &default)
-    }
-}
-
-/// The default of `none` of `Described`, `[2] Rights DEFAULT { }`.
-pub struct DefaultOfDescribedNone;
-
-impl<'a> DefaultOf<Implicit<NamedBitsRef<'a>, 2>> for DefaultOfDescribedNone {
-    ghost octets = { tlv (marker_tag context false 2) (0 ∷ []) };
-
-    fn default_value() -> Implicit<NamedBitsRef<'a>, 2> {
-        Implicit {
-            value: named_bits(0, &[]),
-        }
-    }
-
-    fn is_default(value: &Implicit<NamedBitsRef<'a>, 2>) -> bool {
-        let default = <DefaultOfDescribedNone as DefaultOf<
-            Implicit<NamedBitsRef<'a>, 2>,
-        >>::default_value();
-        have_one_encoding(value, &default)
-    }
-}
-
 /// The default of `type` of `Described`, `OBJECT IDENTIFIER DEFAULT { iso (1) member-body (2) us
 /// (840) }`.
 pub struct DefaultOfDescribedType;
@@ -313,66 +269,21 @@ impl<'a> DefaultOf<ObjectIdentifierRef<'a, 39>> for DefaultOfDescribedType {
     }
 }
 
-/// The default of `extent` of `Nested`, `Extent DEFAULT { width 5, tall TRUE }`.
-pub struct DefaultOfNestedExtent;
+/// The default of `color` of `Described`, `[4] Color DEFAULT blue`.
+pub struct DefaultOfDescribedColor;
 
-impl DefaultOf<Extent> for DefaultOfNestedExtent {
-    ghost octets = { tlv tags.Sequence (joined ((tlv tags.Integer (natural_contents 5)) ∷ (tlv tags.Boolean (boolean_contents true)) ∷ [])) };
+impl DefaultOf<Implicit<Enumerated<Color>, 4>> for DefaultOfDescribedColor {
+    ghost octets = { tlv (marker_tag context false 4) (integer_contents (pos 2)) };
 
-    fn default_value() -> Extent {
-        Extent::new(Some(5), true)
-    }
-
-    fn is_default(value: &Extent) -> bool {
-        is_encoded_as(value, &[0x30, 0x06, 0x02, 0x01, 0x05, 0x01, 0x01, 0xff])
-    }
-}
-
-/// The default of `other` of `Nested`, `[0] EXPLICIT Extent DEFAULT { }`.
-pub struct DefaultOfNestedOther;
-
-impl DefaultOf<Extent> for DefaultOfNestedOther {
-    ghost octets = { tlv tags.Sequence (joined []) };
-
-    fn default_value() -> Extent {
-        Extent::new(None, false)
-    }
-
-    fn is_default(value: &Extent) -> bool {
-        is_encoded_as(value, &[0x30, 0x00])
-    }
-}
-
-/// The default of `side` of `Nested`, `Side DEFAULT length : 7`.
-pub struct DefaultOfNestedSide;
-
-impl DefaultOf<Side> for DefaultOfNestedSide {
-    ghost octets = { tlv (marker_tag context false 3) (natural_contents 7) };
-
-    fn default_value() -> Side {
-        Side::Length(Implicit { value: 7 })
-    }
-
-    fn is_default(value: &Side) -> bool {
-        is_encoded_as(value, &[0x83, 0x01, 0x07])
-    }
-}
-
-/// The default of `color` of `Nested`, `[1] Color DEFAULT blue`.
-pub struct DefaultOfNestedColor;
-
-impl DefaultOf<Implicit<Enumerated<Color>, 1>> for DefaultOfNestedColor {
-    ghost octets = { tlv (marker_tag context false 1) (integer_contents (pos 2)) };
-
-    fn default_value() -> Implicit<Enumerated<Color>, 1> {
+    fn default_value() -> Implicit<Enumerated<Color>, 4> {
         Implicit {
             value: Enumerated { value: Color::Blue },
         }
     }
 
-    fn is_default(value: &Implicit<Enumerated<Color>, 1>) -> bool {
-        let default = <DefaultOfNestedColor as DefaultOf<
-            Implicit<Enumerated<Color>, 1>,
+    fn is_default(value: &Implicit<Enumerated<Color>, 4>) -> bool {
+        let default = <DefaultOfDescribedColor as DefaultOf<
+            Implicit<Enumerated<Color>, 4>,
         >>::default_value();
         have_one_encoding(value, &default)
     }
@@ -451,17 +362,6 @@ fn bit_string(unused: u8, octets: &[u8]) -> BitStringRef<'_>
     }
 }
 
-/// The BIT STRING with named bits of these octets, of whose last so many bits are unused, and whose
-/// last bit is 1.
-fn named_bits(unused: u8, octets: &[u8]) -> NamedBitsRef<'_>
-    requires bits { is_bit_string unused octets.now ≡ true }
-    requires trimmed { ends_in_one unused octets.now ≡ true }
-    requires short { length octets.now < 2 ^ 32 }
-    ensures { named_bits_ref.contents_of result ≡ unused ∷ octets.now }
-{
-    NamedBitsRef::new(bit_string(unused, octets))
-}
-
 /// The OBJECT IDENTIFIER with these contents octets.
 fn identifier<const MAX_SIZE: usize>(octets: &[u8]) -> ObjectIdentifierRef<'_, MAX_SIZE>
     requires some { 0 < length octets.now }
@@ -483,18 +383,4 @@ fn have_one_encoding<T: EncodingEq>(value: &T, default: &T) -> bool
 {
     equal_encodings::<T>();
     *value == *default
-}
-
-/// Whether these octets, of which there are 8 at most, are the encoding of a value.
-#[tactic(auto, using(crate::specs::Shapes::DefaultLaws::told_by_length))]
-fn is_encoded_as<T: Encode>(value: &T, octets: &[u8]) -> bool
-    requires memory { T.Form.TAKES_MEMORY ≡ false }
-    requires room { length octets.now ≤ 8 }
-    ensures { result ≡ is_default octets.now (T.encoding value.now) }
-{
-    let mut buffer = [0; 8];
-    match value.encode_to_slice(&mut buffer) {
-        Ok(found) => *found == *octets,
-        Err(_) => false,
-    }
 }

@@ -1,4 +1,4 @@
-//! Described, a SEQUENCE of 8 fields.
+//! Described, a SEQUENCE of 7 fields.
 //!
 //! Made by tools/asn1 from shapes.asn1.
 
@@ -10,11 +10,10 @@ ghost use Rattle.der_shapes.specs.Shapes.Described as described_fields;
 ghost use Rattle.der_shapes.specs.Shapes.Grammar.{described};
 ghost use Rattle.der_shapes.specs.declared.shapes.described.Described.{Described};
 
-use crate::shapes::aliases::Rights;
+use crate::shapes::color::Color;
 use crate::shapes::defaults::{
-    DefaultOfDescribedBits, DefaultOfDescribedKey, DefaultOfDescribedMail, DefaultOfDescribedName,
-    DefaultOfDescribedNone, DefaultOfDescribedPlace, DefaultOfDescribedRights,
-    DefaultOfDescribedType,
+    DefaultOfDescribedBits, DefaultOfDescribedColor, DefaultOfDescribedKey, DefaultOfDescribedMail,
+    DefaultOfDescribedName, DefaultOfDescribedPlace, DefaultOfDescribedType,
 };
 use der_ascii::{Ia5StringRef, PrintableStringRef};
 use der_bits::BitStringRef;
@@ -23,9 +22,10 @@ use der_elem::{
     SequenceTag, TagMarker, ValueOrd,
 };
 use der_fields::{
-    DecodeFields, DefaultOf, EncodeFields, FieldList, Fields8, FieldsOrd, Implicit, WithDefault,
+    DecodeFields, DefaultOf, EncodeFields, FieldList, Fields7, FieldsOrd, Implicit, WithDefault,
 };
 use der_modules::{Member, field_list};
+use der_numbers::Enumerated;
 use der_opaque::{ObjectIdentifierRef, OctetStringRef};
 use der_text::Utf8StringRef;
 use der_tlv::{BackWriter, Error, Header, Length, Source, Writer};
@@ -34,15 +34,14 @@ use std::cmp::Ordering;
 use std::fmt;
 
 /// The list of the fields.
-type Fields<'a> = Fields8<
+type Fields<'a> = Fields7<
     WithDefault<Utf8StringRef<'a>, DefaultOfDescribedName>,
     WithDefault<PrintableStringRef<'a>, DefaultOfDescribedPlace>,
     WithDefault<Implicit<Ia5StringRef<'a>, 0>, DefaultOfDescribedMail>,
     WithDefault<OctetStringRef<'a>, DefaultOfDescribedKey>,
     WithDefault<BitStringRef<'a>, DefaultOfDescribedBits>,
-    WithDefault<Implicit<Rights<'a>, 1>, DefaultOfDescribedRights>,
-    WithDefault<Implicit<Rights<'a>, 2>, DefaultOfDescribedNone>,
     WithDefault<ObjectIdentifierRef<'a, 39>, DefaultOfDescribedType>,
+    WithDefault<Implicit<Enumerated<Color>, 4>, DefaultOfDescribedColor>,
 >;
 
 /// ```text
@@ -52,9 +51,8 @@ type Fields<'a> = Fields8<
 ///     mail    [0] IA5String DEFAULT "a@b",
 ///     key     OCTET STRING DEFAULT '00FF'H,
 ///     bits    BIT STRING DEFAULT '101'B,
-///     rights  [1] Rights DEFAULT { read, grant },
-///     none    [2] Rights DEFAULT {},
-///     type    OBJECT IDENTIFIER DEFAULT { iso(1) member-body(2) us(840) } }
+///     type    OBJECT IDENTIFIER DEFAULT { iso(1) member-body(2) us(840) },
+///     color   [4] Color DEFAULT blue }
 /// ```
 ///
 /// Reading refuses the first fault of the octets, in their order.
@@ -73,18 +71,16 @@ impl<'a> Described<'a> {
         mail: Ia5StringRef<'a>,
         key: OctetStringRef<'a>,
         bits: BitStringRef<'a>,
-        rights: Rights<'a>,
-        none: Rights<'a>,
         type_: ObjectIdentifierRef<'a, 39>,
+        color: Color,
     ) -> Described<'a>
         ensures name { described_fields.name result ≡ name.entry }
         ensures place { described_fields.place result ≡ place.entry }
         ensures mail { described_fields.mail result ≡ mail.entry }
         ensures key { described_fields.key result ≡ key.entry }
         ensures bits { described_fields.bits result ≡ bits.entry }
-        ensures rights { described_fields.rights result ≡ rights.entry }
-        ensures none { described_fields.none result ≡ none.entry }
         ensures type_ { described_fields.type_ result ≡ type_.entry }
+        ensures color { described_fields.color result ≡ color }
     {
         let list = field_list![
             WithDefault::new(name),
@@ -92,11 +88,12 @@ impl<'a> Described<'a> {
             WithDefault::new(Implicit { value: mail }),
             WithDefault::new(key),
             WithDefault::new(bits),
-            WithDefault::new(Implicit { value: rights }),
-            WithDefault::new(Implicit { value: none }),
-            WithDefault::new(type_)
+            WithDefault::new(type_),
+            WithDefault::new(Implicit {
+                value: Enumerated { value: color }
+            })
         ];
-        let fields = Fields8 { list };
+        let fields = Fields7 { list };
         Described { fields }
     }
 
@@ -135,37 +132,18 @@ impl<'a> Described<'a> {
         &self.fields.list.rest.rest.rest.rest.first.value
     }
 
-    /// `rights`, `[1] Rights DEFAULT { read, grant }`.
-    pub fn rights(&self) -> &Rights<'a>
-        ensures { result.now ≡ described_fields.rights self.now }
-    {
-        &self.fields.list.rest.rest.rest.rest.rest.first.value.value
-    }
-
-    /// `none`, `[2] Rights DEFAULT { }`.
-    pub fn none(&self) -> &Rights<'a>
-        ensures { result.now ≡ described_fields.none self.now }
-    {
-        &self
-            .fields
-            .list
-            .rest
-            .rest
-            .rest
-            .rest
-            .rest
-            .rest
-            .first
-            .value
-            .value
-    }
-
     /// `type`, `OBJECT IDENTIFIER DEFAULT { iso (1) member-body (2) us (840) }`.
     pub fn type_(&self) -> &ObjectIdentifierRef<'a, 39>
         ensures { result.now ≡ described_fields.type_ self.now }
     {
-        &self
-            .fields
+        &self.fields.list.rest.rest.rest.rest.rest.first.value
+    }
+
+    /// `color`, `[4] Color DEFAULT blue`.
+    pub fn color(&self) -> Color
+        ensures { result ≡ described_fields.color self.now }
+    {
+        self.fields
             .list
             .rest
             .rest
@@ -173,8 +151,9 @@ impl<'a> Described<'a> {
             .rest
             .rest
             .rest
-            .rest
             .first
+            .value
+            .value
             .value
     }
 }
@@ -187,9 +166,8 @@ impl<'a> fmt::Debug for Described<'a> {
             .field("mail", self.mail())
             .field("key", self.key())
             .field("bits", self.bits())
-            .field("rights", self.rights())
-            .field("none", self.none())
             .field("type_", self.type_())
+            .field("color", &self.color())
             .finish()
     }
 }
@@ -252,10 +230,9 @@ impl<'a> Member for Described<'a> {
         (default_field ⟦<DefaultOfDescribedMail as DefaultOf<Implicit<Ia5StringRef<'a>, 0>>>⟧.octets ⟦<Implicit<Ia5StringRef<'a>, 0> as Member>⟧.member
         (default_field ⟦<DefaultOfDescribedKey as DefaultOf<OctetStringRef<'a>>>⟧.octets ⟦<OctetStringRef<'a> as Member>⟧.member
         (default_field ⟦<DefaultOfDescribedBits as DefaultOf<BitStringRef<'a>>>⟧.octets ⟦<BitStringRef<'a> as Member>⟧.member
-        (default_field ⟦<DefaultOfDescribedRights as DefaultOf<Implicit<Rights<'a>, 1>>>⟧.octets ⟦<Implicit<Rights<'a>, 1> as Member>⟧.member
-        (default_field ⟦<DefaultOfDescribedNone as DefaultOf<Implicit<Rights<'a>, 2>>>⟧.octets ⟦<Implicit<Rights<'a>, 2> as Member>⟧.member
         (default_field ⟦<DefaultOfDescribedType as DefaultOf<ObjectIdentifierRef<'a, 39>>>⟧.octets ⟦<ObjectIdentifierRef<'a, 39> as Member>⟧.member
-        no_fields)))))))) };
+        (default_field ⟦<DefaultOfDescribedColor as DefaultOf<Implicit<Enumerated<Color>, 4>>>⟧.octets ⟦<Implicit<Enumerated<Color>, 4> as Member>⟧.member
+        no_fields))))))) };
 }
 
 impl<'a> ContentsEq for Described<'a> {
@@ -277,8 +254,7 @@ pub fn octets_of_described<'a>()
         ∷ unless_default ⟦<DefaultOfDescribedMail as DefaultOf<Implicit<Ia5StringRef<'a>, 0>>>⟧.octets (implicit_encoding context false 0 (⟦<Ia5StringRef<'a> as FormValue>⟧.value.contents (described_fields.mail v)))
         ∷ unless_default ⟦<DefaultOfDescribedKey as DefaultOf<OctetStringRef<'a>>>⟧.octets (⟦<OctetStringRef<'a> as Form>⟧.encoding (described_fields.key v))
         ∷ unless_default ⟦<DefaultOfDescribedBits as DefaultOf<BitStringRef<'a>>>⟧.octets (⟦<BitStringRef<'a> as Form>⟧.encoding (described_fields.bits v))
-        ∷ unless_default ⟦<DefaultOfDescribedRights as DefaultOf<Implicit<Rights<'a>, 1>>>⟧.octets (implicit_encoding context false 1 (⟦<Rights<'a> as FormValue>⟧.value.contents (described_fields.rights v)))
-        ∷ unless_default ⟦<DefaultOfDescribedNone as DefaultOf<Implicit<Rights<'a>, 2>>>⟧.octets (implicit_encoding context false 2 (⟦<Rights<'a> as FormValue>⟧.value.contents (described_fields.none v)))
         ∷ unless_default ⟦<DefaultOfDescribedType as DefaultOf<ObjectIdentifierRef<'a, 39>>>⟧.octets (⟦<ObjectIdentifierRef<'a, 39> as Form>⟧.encoding (described_fields.type_ v))
+        ∷ unless_default ⟦<DefaultOfDescribedColor as DefaultOf<Implicit<Enumerated<Color>, 4>>>⟧.octets (implicit_encoding context false 4 (⟦<Enumerated<Color> as FormValue>⟧.value.contents (record { value = (described_fields.color v) })))
         ∷ []) }
 {}

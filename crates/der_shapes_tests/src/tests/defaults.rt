@@ -1,11 +1,8 @@
 //! Fields with a DEFAULT of each kind: absent, present, and the default's own encoding.
 
-use super::{again, holds, numbered, same, same_in};
-use der_bits::NamedBitsRef;
-use der_elem::{Encode, FromDer};
-use der_fields::Implicit;
-use der_opaque::Null;
-use der_shapes::shapes::{Color, Counted, Described, Extent, Nested, Side};
+use super::{again, holds, same, same_in};
+use der_elem::FromDer;
+use der_shapes::shapes::{Color, Counted, Described};
 use std::alloc::Global;
 use std::process::Abort;
 use std::test::Fail;
@@ -59,52 +56,17 @@ fn has_octets(alloc: Global, octets: &[u8], key: &[u8], bits: &[u8], identifier:
     }
 }
 
-// The bits 0, 1 and 9 of bits with names.
-fn named(bits: &NamedBitsRef<'_>) -> (bool, bool, bool) {
-    (bits.has(0), bits.has(1), bits.has(9))
-}
-
-// The named bits of both fields.
-fn bits_of(alloc: Global, octets: &[u8]) -> Result<((bool, bool, bool), (bool, bool, bool)), u8> {
+// The color.
+fn color(alloc: Global, octets: &[u8]) -> Result<Color, u8> {
     match Described::from_der(alloc, octets) {
-        Ok(found) => Ok((named(found.rights()), named(found.none()))),
-        Err(e) => Err(e.kind().number()),
-    }
-}
-
-// The width and the height of an extent.
-fn sides(extent: Extent) -> (Option<u8>, bool) {
-    (extent.width(), extent.tall())
-}
-
-// The length of a side, if it has one.
-fn length(side: Side) -> Option<u8> {
-    match side {
-        Side::Length(number) => Some(number.value),
-        Side::None(_) => None,
-    }
-}
-
-type Parts = ((Option<u8>, bool), (Option<u8>, bool), Option<u8>, Color);
-
-// All fields of a Nested.
-fn nested(alloc: Global, octets: &[u8]) -> Result<Parts, u8> {
-    match Nested::from_der(alloc, octets) {
-        Ok(found) => Ok((
-            sides(found.extent()),
-            sides(found.other()),
-            length(found.side()),
-            found.color(),
-        )),
+        Ok(found) => Ok(found.color()),
         Err(e) => Err(e.kind().number()),
     }
 }
 
 const COUNTED: &str = "3017010100020150800105a1030201ff8201008301010a0100";
 
-const DESCRIBED: &str = "30190c016113016280016304000301008102064082020780060155";
-
-const NESTED: &str = "300e3000a00530030201018400810100";
+const DESCRIBED: &str = "30140c01611301628001630400030100060155840100";
 
 #[test]
 fn absent_fields_have_their_defaults(rt: HostRuntime) -> Result<(), Fail> {
@@ -125,13 +87,7 @@ fn absent_fields_have_their_defaults(rt: HostRuntime) -> Result<(), Fail> {
         &rt,
         has_octets(alloc, octets, &[0, 0xff], &[0xa0], &[0x2a, 0x86, 0x48]),
     );
-    same(
-        &rt,
-        bits_of(alloc, octets),
-        Ok(((true, false, true), (false, false, false))),
-    );
-    let parts = ((Some(5), true), (None, false), Some(7), Color::Blue);
-    same(&rt, nested(alloc, octets), Ok(parts));
+    same(&rt, color(alloc, octets), Ok(Color::Blue));
     Ok(())
 }
 
@@ -148,11 +104,7 @@ fn other_values_are_read(rt: HostRuntime) -> Result<(), Fail> {
     let second = hex::decode(alloc, DESCRIBED)?;
     holds(&rt, has_texts(alloc, second.as_slice(), "a", "b", "c"));
     holds(&rt, has_octets(alloc, second.as_slice(), &[], &[], &[0x55]));
-    let bits = ((false, true, false), (true, false, false));
-    same(&rt, bits_of(alloc, second.as_slice()), Ok(bits));
-    let third = hex::decode(alloc, NESTED)?;
-    let parts = ((None, false), (Some(1), false), None, Color::Red);
-    same(&rt, nested(alloc, third.as_slice()), Ok(parts));
+    same(&rt, color(alloc, second.as_slice()), Ok(Color::Red));
     Ok(())
 }
 
@@ -164,27 +116,18 @@ fn described_again(alloc: Global, octets: &[u8]) -> Result<Vec<u8>, u8> {
     again::<Described>(alloc, octets)
 }
 
-fn nested_again(alloc: Global, octets: &[u8]) -> Result<Vec<u8>, u8> {
-    again::<Nested>(alloc, octets)
-}
-
 #[test]
 fn values_are_written_back(rt: HostRuntime) -> Result<(), Fail> {
     let alloc = rt.alloc();
     let none = hex::decode(alloc, "3000")?;
     let first = hex::decode(alloc, COUNTED)?;
     let second = hex::decode(alloc, DESCRIBED)?;
-    let third = hex::decode(alloc, NESTED)?;
     for octets in [none.as_slice(), first.as_slice()] {
         let written = counted_again(alloc, octets)?;
         same(&rt, written.as_slice(), octets);
     }
     for octets in [none.as_slice(), second.as_slice()] {
         let written = described_again(alloc, octets)?;
-        same(&rt, written.as_slice(), octets);
-    }
-    for octets in [none.as_slice(), third.as_slice()] {
-        let written = nested_again(alloc, octets)?;
         same(&rt, written.as_slice(), octets);
     }
     Ok(())
@@ -218,15 +161,14 @@ fn an_encoded_number_that_is_the_default_is_refused(rt: HostRuntime) -> Result<(
 #[test]
 fn encoded_octets_that_are_the_default_are_refused(rt: HostRuntime) -> Result<(), Fail> {
     let alloc = rt.alloc();
-    let rows: [Row; 8] = [
+    let rows: [Row; 7] = [
         ("30060c046e6f6e65", 8),
         ("30021300", 8),
         ("30058003614062", 8),
         ("3004040200ff", 8),
         ("3004030205a0", 8),
-        ("30058103068040", 8),
-        ("3003820100", 8),
         ("300506032a8648", 8),
+        ("3003840102", 8),
     ];
     for (digits, number) in rows {
         let octets = hex::decode(alloc, digits)?;
@@ -237,41 +179,5 @@ fn encoded_octets_that_are_the_default_are_refused(rt: HostRuntime) -> Result<()
             Err(number),
         );
     }
-    Ok(())
-}
-
-#[test]
-fn encoded_parts_that_are_the_default_are_refused(rt: HostRuntime) -> Result<(), Fail> {
-    let alloc = rt.alloc();
-    let rows: [Row; 5] = [
-        ("300830060201050101ff", 8),
-        ("3004a0023000", 8),
-        ("3003830107", 8),
-        ("3003810102", 8),
-        ("30053003010100", 8),
-    ];
-    for (digits, number) in rows {
-        let octets = hex::decode(alloc, digits)?;
-        same_in(
-            &rt,
-            &digits,
-            again::<Nested>(alloc, octets.as_slice()),
-            Err(number),
-        );
-    }
-    Ok(())
-}
-
-#[test]
-fn values_that_are_made_are_written_without_their_defaults(rt: HostRuntime) -> Result<(), Fail> {
-    let alloc = rt.alloc();
-    let defaults = Nested::new(
-        Extent::new(Some(5), true),
-        Extent::new(None, false),
-        Side::None(Implicit { value: Null }),
-        Color::Blue,
-    );
-    let written = numbered(defaults.to_der(alloc))?;
-    same(&rt, written.as_slice(), &[0x30, 2, 0x84, 0]);
     Ok(())
 }
