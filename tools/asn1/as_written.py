@@ -59,6 +59,8 @@ UNIVERSAL = {
     Simple.UNIVERSAL_STRING: 28,
     Simple.BMP_STRING: 30,
 }
+# Types of these numbers are refused by the layer wherever they stand.
+UNREADABLE = frozenset([Simple.OBJECT_DESCRIPTOR, Simple.GRAPHIC_STRING, Simple.UNIVERSAL_STRING])
 
 
 @dataclass(frozen=True)
@@ -86,7 +88,7 @@ def key_of(component: Component) -> Key:
 
 def fields(library: Library, env: Env, type_: FieldsType) -> list[Part]:
     """The components in the order of their encodings: that of the text, and of a SET that of the tags (X.690 10.3)."""
-    parts = components(library, env, type_)
+    parts = [part for part in components(library, env, type_) if not is_lacking(library, part) or not may_be_absent(part)]
     return sorted(parts, key=lambda part: tag_of(library, part)) if type_.is_set else parts
 
 
@@ -103,9 +105,21 @@ def components(library: Library, env: Env, type_: FieldsType) -> list[Part]:
     return numbered(env, parts, [one for one in type_.components if isinstance(one, Component)])
 
 
-def alternatives(env: Env, type_: ChoiceType) -> list[Part]:
+def alternatives(library: Library, env: Env, type_: ChoiceType) -> list[Part]:
     """The alternatives in the order of the text."""
-    return numbered(env, [Part(one, env) for one in type_.alternatives], list(type_.alternatives))
+    parts = numbered(env, [Part(one, env) for one in type_.alternatives], list(type_.alternatives))
+    return [part for part in parts if not is_lacking(library, part)]
+
+
+def is_lacking(library: Library, part: Part) -> bool:
+    """Whether a component is of a type whose tag the layer refuses."""
+    base = base_of(library, part.env, part.component.type)[1]
+    return isinstance(base, SimpleType) and base.simple in UNREADABLE
+
+
+def may_be_absent(part: Part) -> bool:
+    """Whether a component is OPTIONAL or has a DEFAULT."""
+    return part.component.optional or part.component.default is not None
 
 
 def numbered(env: Env, parts: list[Part], own: list[Component]) -> list[Part]:
@@ -138,7 +152,7 @@ def first_tag(library: Library, env: Env, type_: Type) -> tuple[int, int]:
     if isinstance(type_, (FieldOfClass, SelectionType)):
         return first_tag(library, *meant(library, env, type_))
     if isinstance(type_, ChoiceType):
-        (only,) = alternatives(env, type_)
+        (only,) = alternatives(library, env, type_)
         return tag_of(library, only)
     return TagClass.UNIVERSAL.value, universal(type_)
 

@@ -14,6 +14,7 @@ from ..tagging import alternatives, are_tagged, automatic, check_all, check_sequ
 from . import types
 from .classes import base_of
 from .context import Context
+from .lacking import is_left_out, kept_alternatives
 from .subsets import unconstrained
 from .defaults import default_of, marker_of
 
@@ -25,6 +26,7 @@ def fields_of(context: Context, type_: FieldsType) -> tuple[tuple[Field, ...], t
     """The fields, distinguished by their tags: in the order of their encodings, and as they are written."""
     placed = components_of(context, type_)
     check_names([(part.place, part.name) for part, _ in placed], "name")
+    placed = [one for one in placed if not may_be_absent(one[0]) or not is_left_out(context.within(one[1]), one[0])]
     fields = tuple(one_field(context.within(env), part, field(part.name)) for part, env in placed)
     check_fields(fields)
     if not type_.is_set:
@@ -38,10 +40,16 @@ def alternatives_of(context: Context, type_: ChoiceType) -> tuple[Field, ...]:
     """The alternatives, distinguished by their tags."""
     parts = alternatives(context.env, type_)
     check_names([(part.place, part.name) for part in parts], "name")
+    parts = kept_alternatives(context, type_, parts)
     fields = tuple(one_field(context, part, variant(part.name)) for part in parts)
     check_fields(fields)
     check_all(fields, "X.680 29.3")
     return fields
+
+
+def may_be_absent(part: Component) -> bool:
+    """Whether a component is OPTIONAL or has a DEFAULT."""
+    return part.optional or part.default is not None
 
 
 def components_of(context: Context, type_: FieldsType, by: tuple[FieldsType, ...] = ()) -> list[Placed]:

@@ -21,17 +21,12 @@ from ..syntax import (
 )
 from ..values import numbers_of
 from .context import Context
+from .lacking import LACKING, refuse
 from .subsets import narrowed
 
 # An object identifier has 39 contents octets, as those of the crate `der`, where no annotation says another number.
 OCTETS_OF_AN_IDENTIFIER = 39
 
-# Types whose universal tags the library refuses, as the crate `der` does, and these tags.
-LACKING = {
-    Simple.OBJECT_DESCRIPTOR: 7,
-    Simple.GRAPHIC_STRING: 25,
-    Simple.UNIVERSAL_STRING: 28,
-}
 ALWAYS_OWNED = frozenset([Simple.BMP_STRING])
 NEVER_OWNED = frozenset(
     [
@@ -51,11 +46,7 @@ NEVER_OWNED = frozenset(
 def simple(context: Context, type_: SimpleType, constraints: tuple[Placed, ...]) -> Leaf:
     """A type with no parts of its own."""
     if type_.simple in LACKING:
-        raise AsnError(
-            type_.place,
-            f"there is no type for {type_.simple.value}: its tag [UNIVERSAL {LACKING[type_.simple]}] is refused (5)",
-            "write '-- @omit' after the assignment that has it",
-        )
+        refuse(type_.place, type_.simple)
     octets = None
     if type_.simple is Simple.OBJECT_IDENTIFIER:
         octets = int(context.notes.argument("max") or OCTETS_OF_AN_IDENTIFIER)

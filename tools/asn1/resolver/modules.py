@@ -15,6 +15,7 @@ from ..values import arcs_of
 from .classes import base_of, class_of
 from .context import State, too_deep
 from .definitions import definition_of
+from .lacking import lacking
 
 
 def resolve(modules: list[Module]) -> tuple[list[ResolvedModule], list[Remark]]:
@@ -52,9 +53,18 @@ def is_written(state: State, scope: Scope, assignment: TypeAssignment) -> bool:
         return False
     notes = Notes(assignment.annotations)
     if not notes.has("omit"):
-        return True
+        return not is_lacking(state, scope, assignment)
     notes.check_used(f"'{assignment.name}', which is omitted")
     return False
+
+
+def is_lacking(state: State, scope: Scope, assignment: TypeAssignment) -> bool:
+    """Whether an assignment is of a type that can't be read, and is not written; a component that needs it is an error."""
+    with within_limits(assignment.place):
+        found = lacking(state.library, Env(scope), assignment.type)
+    if found is not None:
+        state.remarks.append(Remark(assignment.place, f"'{assignment.name}' is not written: the layer has no {found.value}"))
+    return found is not None
 
 
 def resolved(state: State, module: Module) -> ResolvedModule:

@@ -203,7 +203,7 @@ class DefaultTerms:
         """A value of an alternative, which has no octets of its own (X.690 8.13)."""
         value = given.value
         assert isinstance(value, ChosenValue)
-        parts = as_written.alternatives(env, type_)
+        parts = as_written.alternatives(self.library, env, type_)
         part = next(one for one in parts if one.component.name == value.name)
         is_alone = len(parts) == 1  # then the CHOICE is a second name of it
         inner = resolved if is_alone else types_of_parts(resolved)[as_written.key_of(part.component)]

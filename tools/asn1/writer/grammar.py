@@ -137,7 +137,7 @@ class GrammarPage:
         if isinstance(definition, Choice):
             assert isinstance(type_, ChoiceType)
             types = resolved_parts(definition.alternatives)
-            parts = as_written.alternatives(env, type_)
+            parts = as_written.alternatives(self.library, env, type_)
             return self.choice([self.component(part, types[key_of(part.component)]) for part in parts])
         if isinstance(definition, List):
             assert isinstance(type_, ListType) and definition.item is not None
@@ -153,7 +153,7 @@ class GrammarPage:
         """A second name; a CHOICE of one alternative stays a CHOICE, before which a tag is explicit."""
         assert definition.type is not None
         if isinstance(type_, ChoiceType):
-            (only,) = as_written.alternatives(env, type_)
+            (only,) = as_written.alternatives(self.library, env, type_)
             return f"{self.asn1('CHOICE_OF_ONE')} {closed(self.component(only, definition.type))}"
         return self.term(env, type_, definition.type)
 
