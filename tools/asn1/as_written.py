@@ -44,6 +44,8 @@ UNIVERSAL = {
     Simple.NULL: 5,
     Simple.OBJECT_IDENTIFIER: 6,
     Simple.OBJECT_DESCRIPTOR: 7,
+    Simple.EXTERNAL: 8,
+    Simple.EMBEDDED_PDV: 11,
     Simple.UTF8_STRING: 12,
     Simple.RELATIVE_OID: 13,
     Simple.NUMERIC_STRING: 18,
@@ -57,10 +59,20 @@ UNIVERSAL = {
     Simple.VISIBLE_STRING: 26,
     Simple.GENERAL_STRING: 27,
     Simple.UNIVERSAL_STRING: 28,
+    Simple.CHARACTER_STRING: 29,
     Simple.BMP_STRING: 30,
 }
 # Types of these numbers are refused by the layer wherever they stand.
-UNREADABLE = frozenset([Simple.OBJECT_DESCRIPTOR, Simple.GRAPHIC_STRING, Simple.UNIVERSAL_STRING])
+UNREADABLE = frozenset(
+    [
+        Simple.OBJECT_DESCRIPTOR,
+        Simple.EXTERNAL,
+        Simple.EMBEDDED_PDV,
+        Simple.GRAPHIC_STRING,
+        Simple.UNIVERSAL_STRING,
+        Simple.CHARACTER_STRING,
+    ]
+)
 
 
 @dataclass(frozen=True)

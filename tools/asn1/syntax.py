@@ -236,6 +236,9 @@ class Simple(Enum):
     GENERAL_STRING = "GeneralString"
     UNIVERSAL_STRING = "UniversalString"
     OBJECT_DESCRIPTOR = "ObjectDescriptor"
+    EXTERNAL = "EXTERNAL"
+    EMBEDDED_PDV = "EMBEDDED PDV"
+    CHARACTER_STRING = "CHARACTER STRING"
     BMP_STRING = "BMPString"
 
 

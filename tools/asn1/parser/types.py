@@ -44,9 +44,6 @@ SIMPLE |= {"T61String": Simple.TELETEX_STRING, "ISO646String": Simple.VISIBLE_ST
 # Types that are not taken, and what to write instead.
 REFUSED = {
     "REAL": "there is no type for REAL: write ANY, and read its contents yourself",
-    "EXTERNAL": "write the SEQUENCE of X.690 8.18 out",
-    "EMBEDDED": "write the SEQUENCE of X.680 36.5 out",
-    "CHARACTER": "write the SEQUENCE of X.680 44.5 out",
     "MACRO": "write the types of the macro's values out (X.208 annex A is withdrawn)",
 }
 
@@ -198,6 +195,16 @@ def parse_object(cursor: Cursor, place: Place) -> SimpleType:
     return SimpleType(place, Simple.OBJECT_IDENTIFIER)
 
 
+def parse_embedded(cursor: Cursor, place: Place) -> SimpleType:
+    cursor.expect("PDV", "write 'EMBEDDED PDV'")
+    return SimpleType(place, Simple.EMBEDDED_PDV)
+
+
+def parse_character(cursor: Cursor, place: Place) -> SimpleType:
+    cursor.expect("STRING", "write 'CHARACTER STRING'")
+    return SimpleType(place, Simple.CHARACTER_STRING)
+
+
 def parse_instance(cursor: Cursor, place: Place) -> FieldsType:
     """`INSTANCE OF CLASS`, as the SEQUENCE that X.681 annex C says it is."""
     cursor.expect("OF", "write 'INSTANCE OF CLASS'")
@@ -310,6 +317,8 @@ BASES: dict[str, Callable[[Cursor, Place], Type]] = {
     "ENUMERATED": parse_enumerated,
     "INSTANCE": parse_instance,
     "INTEGER": parse_integer,
+    "CHARACTER": parse_character,
+    "EMBEDDED": parse_embedded,
     "OBJECT": parse_object,
     "OCTET": parse_octet,
     "SEQUENCE": parse_sequence,

@@ -11,8 +11,11 @@ from .context import Context
 # The types, and their universal tags.
 LACKING = {
     Simple.OBJECT_DESCRIPTOR: 7,
+    Simple.EXTERNAL: 8,
+    Simple.EMBEDDED_PDV: 11,
     Simple.GRAPHIC_STRING: 25,
     Simple.UNIVERSAL_STRING: 28,
+    Simple.CHARACTER_STRING: 29,
 }
 
 

@@ -38,6 +38,11 @@ class Lacking(unittest.TestCase):
         error = refusal(module_of("A ::= SEQUENCE { a N }\nN ::= GraphicString"))
         self.assertIn("there is no type for GraphicString: its tag [UNIVERSAL 25] is refused (5)", str(error))
 
+    def test_each_of_these_types(self) -> None:
+        for text in ("EXTERNAL", "EMBEDDED PDV", "CHARACTER STRING", "GraphicString", "UniversalString", "ObjectDescriptor"):
+            with self.subTest(text):
+                self.assertEqual(remarks(f"A ::= {text}"), [f"2:1 'A' is not written: the layer has no {text}"])
+
     def test_a_choice_keeps_two_alternatives(self) -> None:
         error = refusal(module_of("A ::= CHOICE { a GraphicString, b NULL }"))
         self.assertIn("there is no type for GraphicString", str(error))

@@ -31,9 +31,9 @@ BODIES = [
     ("A ::= CLASS { id INTEGER }", "", "2:15", "'id' stands where the name of a field is expected"),
     # ---- types
     ("A ::= REAL", "", "2:7", "REAL is not taken"),
-    ("A ::= EXTERNAL", "", "2:7", "EXTERNAL is not taken"),
-    ("A ::= EMBEDDED PDV", "", "2:7", "EMBEDDED is not taken"),
-    ("A ::= CHARACTER STRING", "", "2:7", "CHARACTER is not taken"),
+    ("A ::= SET OF EXTERNAL", "", "2:14", "there is no type for EXTERNAL: its tag [UNIVERSAL 8]"),
+    ("A ::= SET OF EMBEDDED PDV", "", "2:14", "there is no type for EMBEDDED PDV"),
+    ("A ::= SET OF CHARACTER STRING", "", "2:14", "there is no type for CHARACTER STRING"),
     ("A ::= INSTANCE OF TYPE-IDENTIFIER", "", "2:7", "INSTANCE OF with its own tag, [UNIVERSAL 8], is not taken"),
     ("A ::= [0] EXPLICIT INSTANCE OF TYPE-IDENTIFIER", "", "2:20", "INSTANCE OF with its own tag"),
     ("A ::= SEQUENCE { a [0] B }\nB ::= INSTANCE OF C\nC ::= TYPE-IDENTIFIER", "IMPLICIT TAGS", "3:7", "INSTANCE OF with its own tag"),
