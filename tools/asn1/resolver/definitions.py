@@ -42,6 +42,7 @@ from . import types
 from .classes import bind, has_type_parameter
 from .components import alternatives_of, check_spelling, fields_of
 from .context import DEEPEST, Context, State, too_deep
+from .recursion import advice
 from .signatures import signature
 
 Constraints = tuple[Placed, ...]
@@ -61,7 +62,7 @@ def definition_of(state: State, env: Env, assignment: TypeAssignment, place: Pla
         raise AsnError(
             place,
             f"the type '{assignment.name}' reaches itself: {', '.join(way)}",
-            "write '-- @unread' after a component on the way: its octets are kept, and read when they are asked for",
+            advice(state.library, env.scope, assignment),
         )
     if key in state.definitions:
         check_instance(state, env, assignment, place)
