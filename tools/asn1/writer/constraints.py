@@ -7,6 +7,7 @@ from typing import Protocol
 from ..model import Allowed, Leaf, Measure, Whole
 from .source import Page, Source
 
+CONSTANTS = 2**64  # how many numbers a constant has: the logic has a negative one as its two's complement
 MARKERS = {Measure.NUMBER: "InRange", Measure.SIZE: "HasSize", Measure.CHARACTER: "CharacterRange"}
 
 
@@ -50,8 +51,7 @@ def logic_constraint(page: Page, allowed: Allowed) -> str:
         parts = [logic_constraint(page, part) for part in allowed.any_of or allowed.all_of]
         return joined(page.logic("UnionOf" if allowed.any_of else "IntersectionOf"), parts)
     marker = page.logic(MARKERS[allowed.measure])
-    is_number = allowed.measure is Measure.NUMBER
-    runs = [f"{marker} {end(page, low, is_number)} {end(page, high, is_number)}" for low, high in allowed.runs]
+    runs = [f"{marker} {low % CONSTANTS} {high % CONSTANTS}" for low, high in allowed.runs]
     if allowed.measure is Measure.CHARACTER:
         found = runs[0] if len(runs) == 1 else joined(page.logic("CharacterUnion"), runs)
         return f"{page.logic('HasCharacters')} ({found})"
@@ -63,13 +63,6 @@ def joined(outer: str, parts: list[str]) -> str:
     if len(parts) == 1:
         return parts[0]
     return f"{outer} ({parts[0]}) ({joined(outer, parts[1:])})"
-
-
-def end(page: Page, number: int, is_integer: bool) -> str:
-    """The end of a run, as a number or as an integer of the logic."""
-    if not is_integer:
-        return str(number)
-    return f"({page.integer(number)})"
 
 
 # ---- on the page of the grammar

@@ -1,6 +1,6 @@
 -- The fields of Bounded, by their names.
 -- Made by tools/asn1 from shapes.asn1.
-use Rattle.std.specs.Prelude.{Option, negsuc, option_map, pos, ℕ, ℤ}
+use Rattle.std.specs.Prelude.{Option, option_map, ℕ, ℤ}
 use Rattle.der_ascii.specs.declared.string_ref.CharacterStringRef.{CharacterStringRef}
 use Rattle.der_bits.specs.declared.bit_string_ref.BitStringRef.{BitStringRef}
 use Rattle.der_constrained.specs.declared.alphabets.CharacterRange.{CharacterRange}
@@ -17,11 +17,11 @@ use Rattle.der_shapes.specs.declared.shapes.bounded.Bounded.{Bounded}
 use Rattle.der_text.specs.declared.utf8_string.Utf8StringRef.{Utf8StringRef}
 
 -- small Small
-abbrev pub small : Bounded → Constrained ℤ (InRange (negsuc 4) (pos 10))
+abbrev pub small : Bounded → Constrained ℤ (InRange 18446744073709551611 10)
 small v = v.fields.list.first
 
 -- few [0] INTEGER (1 | 3..5) OPTIONAL
-abbrev pub few : Bounded → Option (Constrained ℕ (UnionOf (InRange (pos 1) (pos 1)) (InRange (pos 3) (pos 5))))
+abbrev pub few : Bounded → Option (Constrained ℕ (UnionOf (InRange 1 1) (InRange 3 5)))
 few v = option_map (λ x. x.value) v.fields.list.rest.first
 
 -- code Code
@@ -41,5 +41,5 @@ abbrev pub text : Bounded → Constrained Utf8StringRef (HasSize 1 4)
 text v = v.fields.list.rest.rest.rest.rest.rest.first
 
 -- list SEQUENCE OF INTEGER (0..9)
-abbrev pub list : Bounded → ListRef (Constrained ℕ (InRange (pos 0) (pos 9)))
+abbrev pub list : Bounded → ListRef (Constrained ℕ (InRange 0 9))
 list v = v.fields.list.rest.rest.rest.rest.rest.rest.first
