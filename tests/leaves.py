@@ -49,6 +49,10 @@ ROWS = [
     (Whole.IA5_STRING, False, "IA5String", "160161"),
     (Whole.IA5_STRING, True, "IA5String", "160161"),
     (Whole.GENERAL_STRING, False, "GeneralString", "1b0161"),
+    (Whole.NUMERIC_STRING, False, "NumericString", "120131"),
+    (Whole.VISIBLE_STRING, False, "VisibleString", "1a0161"),
+    (Whole.RELATIVE_OID, False, "RELATIVE-OID", "0d0105"),
+    (Whole.OCTET_STRING, False, "OCTET STRING (SIZE (1 | 3))", "0401aa"),
     (Whole.BMP_STRING, False, "BMPString", "1e020061"),
     (Whole.ANY, False, "ANY", "0500"),
     (Whole.ANY, True, "ANY", "0500"),
@@ -171,7 +175,7 @@ def library():
     """The lines of crates.txt of what a written crate stands on."""
     with open(f"{ROOT}/crates.txt", encoding="utf-8") as it:
         lines = dict(line.rstrip("\n").split(":", 1) for line in it if ":" in line)
-    wanted, found = ["der_ascii", "der_bits", "der_lists", "der_modules", "der_text", "der_time"], {}
+    wanted, found = ["der_ascii", "der_bits", "der_constrained", "der_lists", "der_modules", "der_text", "der_time"], {}
     while wanted:
         name = wanted.pop()
         if name in lines and name not in found:
