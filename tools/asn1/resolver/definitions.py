@@ -200,7 +200,7 @@ def behind_tags(
     """A type that is written out after an explicit tag: it gets the name with `Value` after it."""
     rust = context.notes.argument("type") or context.name_within(f"{context.inner}Value")
     inner = replace(context, inner=rust, remarks=[])
-    value = define(inner, rust, "", base, constraints)
+    value = define(inner, rust, text, base, constraints)
     context.state.add(value)
     found: Resolved = Use(value)
     for tag, is_explicit in reversed(tags):

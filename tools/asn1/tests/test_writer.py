@@ -51,6 +51,10 @@ class Holders(unittest.TestCase):
     def setUp(self) -> None:
         self.files = written(module_of(f"{self.BODY} SEQUENCE {{ x BMPString }}"))
 
+    def test_the_text_of_a_type_after_a_tag_stands_at_the_type(self) -> None:
+        text = written(module_of("T ::= [APPLICATION 1] SEQUENCE { a NULL }"))["src/test/t_value.rt"]
+        self.assertIn("/// T ::= [APPLICATION 1] SEQUENCE { a NULL }", text)
+
     def test_there_is_one_for_a_tag_and_a_type(self) -> None:
         self.assertIn("Fields3<Option<Explicit3I>, Explicit<bool, 4>, Explicit5I>", self.files["src/test/s.rt"])
         self.assertIn("Fields1<Explicit3I>", self.files["src/test/t.rt"])
