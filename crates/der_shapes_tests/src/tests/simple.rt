@@ -1,10 +1,10 @@
 //! NumericString, VisibleString and RELATIVE-OID: alone, as fields, as items and as alternatives.
 
-use super::{again, compared, holds, is_copied, numbered, same, same_in};
+use super::{again, compared, numbered, same, same_in};
 use der_elem::{Encode, FromDer};
 use der_shapes::shapes::{Note, Notes};
 use der_simple::{NumericStringRef, RelativeOidRef, VisibleStringRef};
-use std::alloc::Global;
+use std::alloc::{AllocError, Global};
 use std::cmp::Ordering;
 use std::process::Abort;
 use std::test::Fail;
@@ -133,35 +133,67 @@ fn relative_identifiers_are_arcs(rt: HostRuntime) -> Result<(), Fail> {
     Ok(())
 }
 
+// How many characters a NumericString has that is made of these.
+fn digits(octets: &[u8]) -> Result<(u32, bool), u8> {
+    match NumericStringRef::new(octets) {
+        Ok(number) => Ok((number.len().value(), number.is_empty())),
+        Err(e) => Err(e.kind().number()),
+    }
+}
+
+// The same as a text, and as it is shown.
+fn shown_digits(alloc: Global, octets: &[u8]) -> Result<String, AllocError> {
+    match NumericStringRef::new(octets) {
+        Ok(number) => format!(in alloc; "{number} {number:?} {}", number.as_str()),
+        Err(_) => String::from_str(alloc, "refused"),
+    }
+}
+
+// The order of two VisibleStrings that are made of these, and whether they are equal.
+fn compared_texts(first: &[u8], second: &[u8]) -> Result<(Ordering, bool), u8> {
+    match (VisibleStringRef::new(first), VisibleStringRef::new(second)) {
+        (Ok(first), Ok(second)) => compared(&first, &second),
+        (Err(e), _) => Err(e.kind().number()),
+        (_, Err(e)) => Err(e.kind().number()),
+    }
+}
+
+// The encoding of a RELATIVE-OID that is made of these octets.
+fn encoded_arcs(alloc: Global, octets: &[u8]) -> Result<Vec<u8>, u8> {
+    match RelativeOidRef::from_bytes(octets) {
+        Ok(arcs) => numbered(arcs.to_der(alloc)),
+        Err(e) => Err(e.kind().number()),
+    }
+}
+
 #[test]
-fn strings_and_arcs_are_made(rt: HostRuntime) -> Result<(), Fail> {
+fn numeric_strings_are_made(rt: HostRuntime) -> Result<(), Fail> {
+    same(&rt, digits("12 3".as_bytes()), Ok((4, false)));
+    same(&rt, digits("".as_bytes()), Ok((0, true)));
+    same(&rt, digits("a".as_bytes()), Err(13));
+    let shown = shown_digits(rt.alloc(), "12".as_bytes())?;
+    same(&rt, shown.as_str(), "12 NumericString(\"12\") 12");
+    Ok(())
+}
+
+#[test]
+fn visible_strings_are_made(rt: HostRuntime) -> Result<(), Fail> {
+    let found = compared_texts("~ a".as_bytes(), "~ b".as_bytes());
+    same(&rt, found, Ok((Ordering::Less, false)));
+    let found = compared_texts("a".as_bytes(), "a".as_bytes());
+    same(&rt, found, Ok((Ordering::Equal, true)));
+    let found = compared_texts("a".as_bytes(), "\t".as_bytes());
+    same(&rt, found, Err(13));
+    Ok(())
+}
+
+#[test]
+fn relative_identifiers_are_made(rt: HostRuntime) -> Result<(), Fail> {
     let alloc = rt.alloc();
-    let number = numbered(NumericStringRef::new("12 3".as_bytes()))?;
-    same(&rt, number.as_str(), "12 3");
-    same(&rt, number.len().value(), 4);
-    holds(&rt, !number.is_empty() && is_copied(&number));
-    same(&rt, number.as_bytes(), "12 3".as_bytes());
-    let shown = format!(in alloc; "{number} {number:?}")?;
-    same(&rt, shown.as_str(), "12 3 NumericString(\"12 3\")");
-    let text = numbered(VisibleStringRef::new("~ a".as_bytes()))?;
-    let other = numbered(VisibleStringRef::new("~ b".as_bytes()))?;
-    same(&rt, compared(&text, &other), Ok((Ordering::Less, false)));
-    same(
-        &rt,
-        numbered(VisibleStringRef::new("\t".as_bytes())),
-        Err(13),
-    );
-    same(
-        &rt,
-        numbered(NumericStringRef::new("a".as_bytes())),
-        Err(13),
-    );
-    let arcs = numbered(RelativeOidRef::from_bytes(&[0xc2, 0x7b, 3]))?;
-    same(&rt, arcs.as_bytes(), [0xc2, 0x7b, 3].as_slice());
-    same(&rt, numbered(RelativeOidRef::from_bytes(&[])), Err(13));
-    same(&rt, numbered(RelativeOidRef::from_bytes(&[0x80])), Err(13));
-    let octets = numbered(arcs.to_der(alloc))?;
+    let octets = encoded_arcs(alloc, &[0xc2, 0x7b, 3])?;
     same(&rt, octets.as_slice(), [0x0d, 3, 0xc2, 0x7b, 3].as_slice());
+    same(&rt, encoded_arcs(alloc, &[]), Err(13));
+    same(&rt, encoded_arcs(alloc, &[0x80]), Err(13));
     Ok(())
 }
 
