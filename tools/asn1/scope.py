@@ -61,6 +61,10 @@ class Library:
 
     def __init__(self, modules: list[Module]) -> None:
         self.scopes: dict[str, Scope] = {}
+        # The components and the items at which types are cut that reach themselves, by their modules and places, with the types
+        # that they lead back to; and the types of which they are known, by their modules and places.
+        self.cuts: dict[tuple[str, Place], str] = {}
+        self.searched: set[tuple[str, Place]] = set()
         for module in modules:
             if module.name in self.scopes:
                 raise AsnError(

@@ -5,7 +5,7 @@ from __future__ import annotations
 from dataclasses import replace
 
 from ..errors import AsnError, Place
-from ..model import Field, Presence
+from ..model import Field, Presence, Resolved
 from ..notes import Notes
 from ..scope import Env, check_names
 from ..spelling import camel, field, variant
@@ -15,6 +15,7 @@ from . import types
 from .classes import base_of
 from .context import Context
 from .lacking import is_left_out, kept_alternatives
+from .recursion import cut_at
 from .subsets import unconstrained
 from .defaults import default_of, marker_of
 
@@ -85,7 +86,7 @@ def one_field(context: Context, part: Component, rust: str) -> Field:
     notes = Notes(part.annotations)
     rust = notes.argument("name") or rust
     inner = replace(context, inner=context.inner + camel(part.name), notes=notes, checks=part.default is None)
-    found = types.resolve_type(inner, part.type)
+    found = type_of(inner, part)
     if part.is_later:
         remark_on_addition(inner, part)
     notes.check_used(f"'{part.name}'")
@@ -96,6 +97,14 @@ def one_field(context: Context, part: Component, rust: str) -> Field:
     default = default_of(inner, part.default, found)
     marker = marker_of(context, rust, default, found)
     return Field(part.place, part.name, rust, found, Presence.DEFAULT, default, part.text, part, context.env, marker)
+
+
+def type_of(context: Context, part: Component) -> Resolved:
+    """The type of a component, which is not read where it leads back to a type that reaches itself."""
+    leads_to = cut_at(context.state.library, context.env, part.place)
+    if leads_to is None:
+        return types.resolve_type(context, part.type)
+    return types.cut(context, part.type, f"'{part.name}'", leads_to)
 
 
 def remark_on_addition(context: Context, part: Component) -> None:

@@ -42,7 +42,7 @@ from . import types
 from .classes import bind, has_type_parameter
 from .components import alternatives_of, check_spelling, fields_of
 from .context import DEEPEST, Context, State, too_deep
-from .recursion import advice
+from .recursion import find_cuts
 from .signatures import signature
 
 Constraints = tuple[Placed, ...]
@@ -62,11 +62,12 @@ def definition_of(state: State, env: Env, assignment: TypeAssignment, place: Pla
         raise AsnError(
             place,
             f"the type '{assignment.name}' reaches itself: {', '.join(way)}",
-            advice(state.library, env.scope, assignment),
+            "write '-- @unread' after a component on the way: its octets are kept, and read when they are asked for",
         )
     if key in state.definitions:
         check_instance(state, env, assignment, place)
         return state.definitions[key]
+    find_cuts(state.library, env.scope, assignment)
     state.opening.append(key)
     found = assigned(state, env, assignment)
     state.opening.pop()

@@ -30,6 +30,7 @@ from ..values import number_of
 from . import definitions, leaves
 from .classes import base_of, bind, has_type_parameter, is_parameter, is_untagged_choice, meant
 from .context import Context
+from .recursion import cut_at, first_tagged
 from .subsets import narrowed_name
 
 Constraints = tuple[Placed, ...]
@@ -165,6 +166,9 @@ def referred(context: Context, type_: ReferenceType, constraints: Constraints) -
         return resolve_type(context.within(binding.env), binding.actual.type, placed(env, constraints))
     if context.notes.has("unread"):
         return unread(context, type_)
+    leads_to = cut_at(library, env, type_.place)
+    if leads_to is not None:
+        return cut(context, type_, "an item", leads_to)
     scope, assignment = library.find_type(env, type_.name, type_.place, type_.module)
     inner = bind(env, scope, assignment, type_)
     if has_type_parameter(library, env, assignment, type_) and not is_written_out(context.within(inner), assignment.type):
@@ -195,3 +199,12 @@ def unread(context: Context, type_: ReferenceType) -> Leaf:
     if isinstance(base, (FieldsType, ListType)) and not base.is_set:
         return Leaf(Whole.UNREAD_SEQUENCE)
     return Leaf(Whole.ANY, context.notes.has("owned"))
+
+
+def cut(context: Context, type_: Type, what: str, leads_to: str) -> Leaf | Tagged:
+    """A type that leads back: its contents octets are kept behind its tag, and not read."""
+    said = f"{what} leads back to {leads_to}, so that its contents octets are kept, and not read"
+    context.say(type_.place, said, f"{said[0].upper()}{said[1:]}.")
+    env, base = first_tagged(context.state.library, context.env, type_)
+    kept = Leaf(Whole.UNREAD_SEQUENCE)
+    return Tagged(tag_of(context.within(env), base)[0], False, kept) if isinstance(base, TaggedType) else kept

@@ -110,8 +110,8 @@ BODIES = [
     ("A ::= SET { a INTEGER, b NULL, c INTEGER }", "", "2:32", "'c' and 'a' are not distinguished"),
     ("A ::= SET { a CHOICE { b NULL, c INTEGER }, d BOOLEAN }", "", "2:13", "the component 'a' of a SET has more than one tag"),
     # ---- types that reach themselves
-    ("A ::= SEQUENCE { a A OPTIONAL }", "", "2:20", "the type 'A' reaches itself: A, A"),
-    ("A ::= SEQUENCE OF B\nB ::= CHOICE { a [0] A, b NULL }", "", "3:22", "the type 'A' reaches itself: A, B, A"),
+    ("A ::= SET { a A OPTIONAL }", "", "2:15", "the type 'A' reaches itself: A, A"),
+    ("A ::= SET OF B\nB ::= CHOICE { a A, b NULL }", "", "3:18", "the type 'A' reaches itself: A, B, A"),
     ("A ::= B\nB ::= A", "", "3:7", "the type 'A' reaches itself"),
     ("A ::= ENUMERATED { a(9223372036854775808) }", "", "2:7", "an ENUMERATED with numbers of 64 bits"),
     # ---- annotations

@@ -29,6 +29,7 @@ from ..model import (
     is_within,
 )
 from ..resolver.classes import follow, is_parameter, meant
+from ..resolver.recursion import cut_at
 from ..scope import Env, Library
 from ..spelling import snake
 from ..syntax import (
@@ -39,6 +40,7 @@ from ..syntax import (
     ListType,
     ReferenceType,
     SelectionType,
+    TagClass,
     TaggedType,
     TagMode,
     Type,
@@ -181,12 +183,21 @@ class GrammarPage:
 
     def component(self, part: Part, type_: Resolved) -> str:
         """The type of a component, with its automatic tag if the module gives it one (25.7, 29.2)."""
+        if cut_at(self.library, part.env, part.component.place):
+            return self.kept(as_written.tag_of(self.library, part))
         if part.number is None:
             return self.term(part.env, part.component.type, type_)
         assert isinstance(type_, Tagged)
         inner = self.term(part.env, part.component.type, type_.of)
         mode = TagMode.EXPLICIT if is_parameter(part.env, part.component.type) else TagMode.IMPLICIT
         return f"{self.asn1(mode.value)} {self.asn1('context')} {part.number} {closed(inner)}"
+
+    def kept(self, tag: tuple[int, int]) -> str:
+        """The grammar of contents octets that are kept behind a tag, and not read."""
+        leaf = self.leaf(Leaf(Whole.UNREAD_SEQUENCE))
+        if tag[0] == TagClass.UNIVERSAL.value:
+            return leaf
+        return f"{self.asn1(TagMode.IMPLICIT.value)} {self.asn1(CLASSES[TagClass(tag[0])])} {tag[1]} {leaf}"
 
     def choice(self, alternatives: list[str]) -> str:
         """The alternatives, as a balanced tree."""
@@ -200,6 +211,8 @@ class GrammarPage:
 
     def term(self, env: Env, type_: Type, resolved: Resolved) -> str:
         """The grammar of a type where it stands."""
+        if isinstance(type_, ReferenceType) and cut_at(self.library, env, type_.place):
+            return self.kept(as_written.first_tag(self.library, env, type_))
         if isinstance(type_, ConstrainedType):
             return self.term(env, type_.type, resolved)
         if isinstance(type_, TaggedType):
