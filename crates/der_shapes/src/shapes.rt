@@ -4,20 +4,24 @@
 
 mod aliases;
 mod bounded;
+mod chain;
 mod color;
 mod counted;
 mod defaults;
 mod described;
 mod empty;
+mod filter;
 mod general;
 mod label;
 mod labels;
 pub mod laws;
 mod limited;
+mod link;
 mod lists;
 mod marks;
 mod marks_fourth;
 mod mixed;
+mod node;
 mod note;
 mod notes;
 mod nothing;
@@ -30,6 +34,7 @@ mod unordered;
 
 pub use aliases::{Code, LEVEL_HIGH, LEVEL_LOW, Level, Small};
 pub use bounded::Bounded;
+pub use chain::Chain;
 pub use color::Color;
 pub use counted::Counted;
 pub use defaults::{
@@ -40,14 +45,17 @@ pub use defaults::{
 };
 pub use described::Described;
 pub use empty::Empty;
+pub use filter::Filter;
 pub use general::General;
 pub use label::Label;
 pub use labels::Labels;
 pub use limited::Limited;
+pub use link::Link;
 pub use lists::Lists;
 pub use marks::Marks;
 pub use marks_fourth::MarksFourth;
 pub use mixed::Mixed;
+pub use node::Node;
 pub use note::Note;
 pub use notes::Notes;
 pub use nothing::Nothing;

@@ -203,7 +203,7 @@ def unread(context: Context, type_: ReferenceType) -> Leaf:
 
 def cut(context: Context, type_: Type, what: str, leads_to: str) -> Leaf | Tagged:
     """A type that leads back: its contents octets are kept behind its tag, and not read."""
-    said = f"{what} leads back to {leads_to}, so that its contents octets are kept, and not read"
+    said = f"{what} leads back to {leads_to}: its contents octets are kept, and not read"
     context.say(type_.place, said, f"{said[0].upper()}{said[1:]}.")
     env, base = first_tagged(context.state.library, context.env, type_)
     kept = Leaf(Whole.UNREAD_SEQUENCE)

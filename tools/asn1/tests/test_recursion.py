@@ -47,7 +47,7 @@ class Recursion(unittest.TestCase):
             ("list", "8:65", "Part"),
         ):
             with self.subTest(name):
-                kept = f"'{name}' leads back to {leads_to}, so that its contents octets are kept, and not read"
+                kept = f"'{name}' leads back to {leads_to}: its contents octets are kept, and not read"
                 self.assertTrue(any(kept in text for text in said), said)
 
     def test_the_first_way_around_a_choice_is_cut(self) -> None:

@@ -78,6 +78,9 @@ PRINTABLE_STRING = one tags.PrintableString (parse_string 19)
 abbrev pub RELATIVE_OID : Grammar
 RELATIVE_OID = one tags.RelativeOid parse_arcs
 
+abbrev pub UNREAD_SEQUENCE : Grammar
+UNREAD_SEQUENCE = one tags.Sequence parse_octets
+
 abbrev pub UTF8_STRING : Grammar
 UTF8_STRING = one tags.Utf8String parse_utf8
 
@@ -348,3 +351,44 @@ described =
     (DEFAULT (tlv tags.ObjectIdentifier (42 ∷ 134 ∷ 72 ∷ [])) OBJECT_IDENTIFIER_39
     (DEFAULT (tlv (marker_tag context (is_constructed tags.Enumerated) 4) (integer_contents (pos 2))) (IMPLICIT context 4 color)
     end)))))))
+
+-- Filter ::= CHOICE {
+--     and      [0] SET OF Filter,
+--     not      [1] Filter,
+--     present  [2] OCTET STRING }
+abbrev pub filter : Grammar
+filter =
+    CHOICE
+    (CHOICE
+    (IMPLICIT context 0 UNREAD_SEQUENCE)
+    (IMPLICIT context 1 UNREAD_SEQUENCE))
+    (IMPLICIT context 2 OCTET_STRING)
+
+-- Node ::= SEQUENCE {
+--     value     INTEGER (0..255),
+--     left      [0] Node OPTIONAL,
+--     right     [1] EXPLICIT Node OPTIONAL,
+--     children  SEQUENCE OF Node OPTIONAL }
+abbrev pub node : Grammar
+node =
+    SEQUENCE
+    (field INTEGER_u8
+    (OPTIONAL (IMPLICIT context 0 UNREAD_SEQUENCE)
+    (OPTIONAL (IMPLICIT context 1 UNREAD_SEQUENCE)
+    (OPTIONAL UNREAD_SEQUENCE
+    end))))
+
+-- Link ::= SEQUENCE {
+--     name   UTF8String,
+--     after  [APPLICATION 4] Chain OPTIONAL }
+abbrev pub link : Grammar
+link =
+    SEQUENCE
+    (field UTF8_STRING
+    (OPTIONAL (IMPLICIT application 4 UNREAD_SEQUENCE)
+    end))
+
+-- Chain ::= SEQUENCE OF Link
+abbrev pub chain : Grammar
+chain =
+    SEQUENCE_OF link
